@@ -1,0 +1,4 @@
+pub mod Lines
+pub mod Tokens
+pub mod Pieces
+pub mod Strings
