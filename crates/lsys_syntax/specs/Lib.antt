@@ -2,3 +2,12 @@ pub mod Lines
 pub mod Tokens
 pub mod Pieces
 pub mod Strings
+pub mod Expressions
+pub mod ExpressionMachine
+pub mod Completions
+pub mod Nesting
+pub mod Rules
+pub mod RuleMachine
+pub mod Checks
+pub mod Commands
+pub mod LineMachine

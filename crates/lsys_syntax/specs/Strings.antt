@@ -1,5 +1,5 @@
 -- Strings of modules, and how they are printed. A parameter is a number, a formal or an expression.
-use Rattle.std.specs.Prelude.{◌≡◌, ℕ, suc, Bool, true, false, List, [], ◌∷◌, ◌++◌, ◌<◌, ◌^◌, codes, ℤ, pos, negsuc, refl}
+use Rattle.std.specs.Prelude.{◌≡◌, ℕ, zero, suc, Bool, true, false, List, [], ◌∷◌, ◌++◌, ◌<◌, ◌≤◌, ◌==◌, ◌^◌, codes, ℤ, pos, negsuc, refl}
 use Rattle.std.specs.Fmt.{digits}
 use Rattle.lsys_syntax.specs.Tokens.{NameText, short, long, Kind, Name, Number, LeftParen, RightParen, LeftBracket, RightBracket, Comma, Plus, Minus, Slash, Backslash, Percent, Ampersand, Bar, Caret, Bang}
 use Rattle.lsys_syntax.specs.Pieces.{Piece, blank, token, note, a_symbol, a_param, text_of, IsNameText}
@@ -85,23 +85,57 @@ abbrev pub IsSymbol : {P : Type 0} → (P → Type 0) → Symbol P → Type 0
 IsSymbol G (Module n xs) = IsModuleName n × EachOf G xs
 IsSymbol G s = Unit {0}
 
--- A number prints as its decimal, with its sign.
-abbrev pub signed_pieces : ℤ → List Piece
-signed_pieces (pos n) = token (Number n) ∷ []
-signed_pieces (negsuc n) = token Minus ∷ token (Number (suc n)) ∷ []
+-- A signed number as it is written; -0 is a spelling of 0.
+pub data Signed : Type 0 where
+  plain : ℕ → Signed
+  minus_sign : ℕ → Signed
+
+abbrev pub negative : ℕ → ℤ
+negative zero = pos zero
+negative (suc n) = negsuc n
+
+abbrev pub signed_value : Signed → ℤ
+signed_value (plain n) = pos n
+signed_value (minus_sign n) = negative n
+
+-- how a value is printed: its decimal, with its sign
+abbrev pub signed_of : ℤ → Signed
+signed_of (pos n) = plain n
+signed_of (negsuc n) = minus_sign (suc n)
+
+abbrev pub signed_pieces : Signed → List Piece
+signed_pieces (plain n) = token (Number n) ∷ []
+signed_pieces (minus_sign n) = token Minus ∷ token (Number n) ∷ []
+
+abbrev pub value_pieces : ℤ → List Piece
+value_pieces z = signed_pieces (signed_of z)
+
+-- its value is an i64
+abbrev pub IsSigned : Signed → Type 0
+IsSigned (plain n) = n < 2 ^ 63
+IsSigned (minus_sign n) = n ≤ 2 ^ 63
 
 -- an i64
 abbrev pub IsParam : ℤ → Type 0
 IsParam (pos n) = n < 2 ^ 63
 IsParam (negsuc n) = n < 2 ^ 63
 
+-- as many `[` as `]`, and in every front at least as many, where n are open before
+abbrev pub balanced : {P : Type 0} → ℕ → List (Symbol P) → Bool
+balanced n [] = n == 0
+balanced n (Module m xs ∷ r) = balanced n r
+balanced n (Push ∷ r) = balanced (suc n) r
+balanced zero (Pop ∷ r) = false
+balanced (suc n) (Pop ∷ r) = balanced n r
+balanced n (Cut ∷ r) = balanced n r
+
 abbrev pub string_text : List (Symbol ℤ) → List ℕ
-string_text xs = text_of (string_pieces signed_pieces xs)
+string_text xs = text_of (string_pieces value_pieces xs)
 
 abbrev pub AreSymbols : List (Symbol ℤ) → Type 0
 AreSymbols xs = EachOf (IsSymbol IsParam) xs
 
--- F_a F_b(-1)F
+-- a blank stands where a long name would be read on
 pub blank_row : string_text (Module (named (long 70 (97 ∷ []))) [] ∷ Module (named (long 70 (98 ∷ []))) (negsuc 0 ∷ []) ∷ Module (named (short 70)) [] ∷ []) ≡ codes "F_a F_b(-1)F"
 unfolding digits
 blank_row = refl

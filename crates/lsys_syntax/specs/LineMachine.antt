@@ -1,0 +1,202 @@
+-- Reading the tokens of a line: a state holds what was read of the command, and each token is one step.
+use Rattle.std.specs.Prelude.{◌≡◌, ℕ, zero, suc, Bool, true, false, Option, Some, None, List, [], ◌∷◌, ◌+◌, ◌^◌, nat_lt, nat_le, codes, bytes_eq, option_map, if◌then◌else◌, refl}
+use Rattle.lsys_syntax.specs.Tokens.{NameText, Kind, Word, Number, LeftParen, RightParen, Comma, Colon, Minus}
+use Rattle.lsys_syntax.specs.Strings.{ModuleName, Symbol, Module, Push, Pop, Cut, Signed, plain, minus_sign}
+use Rattle.lsys_syntax.specs.RuleMachine as R
+use Rattle.lsys_syntax.specs.RuleMachine.{reversed, Sign, a_name, a_push, a_pop, a_cut, no_sign, sign_of, Form, production, homomorphism, open_in, where_closed}
+use Rattle.lsys_syntax.specs.Commands.{Lattice, square, hexagonal, cubic, Command, set_axiom, put_production, drop_rule, set_ignored, set_schedule, set_seed, set_depth, set_lattice, put_homomorphism, print_string, print_segments, print_svg, print_system, quit}
+
+-- The string of an axiom, the last symbol first; the parameters of its last module, the last one first.
+pub data AxiomState : Type 0 where
+  Symbols : List (Symbol Signed) → AxiomState
+  NumberDue : List (Symbol Signed) → ModuleName → List Signed → AxiomState
+  MinusRead : List (Symbol Signed) → ModuleName → List Signed → AxiomState
+  NumberRead : List (Symbol Signed) → ModuleName → List Signed → AxiomState
+
+pub data State : Type 0 where
+  Fresh : State
+  InAxiom : AxiomState → State
+  ProductionDue : State
+  OneWord : List ℕ → State
+  TwoWords : List ℕ → List ℕ → State
+  InProduction : Option (List ℕ) → List ℕ → R.State → State
+  LabelDue : State
+  LabelRead : List ℕ → State
+  InHomomorphism : List ℕ → R.State → State
+  DropDue : State
+  InNames : List ModuleName → State
+  ScheduleDue : State
+  InSchedule : List (List ℕ) → State
+  SeedDue : State
+  DepthDue : State
+  LatticeDue : State
+  StringRead : State
+  Whole : Command → State  -- nothing may follow
+  Stop : State
+
+-- a `]` where a branch is open
+abbrev pub popped : ℕ → State → State
+popped zero s = Stop
+popped (suc n) s = s
+
+abbrev pub axiom_sign : Sign → List (Symbol Signed) → State
+axiom_sign (a_name n) r = InAxiom (Symbols (Module n [] ∷ r))
+axiom_sign a_push r = InAxiom (Symbols (Push ∷ r))
+axiom_sign a_pop r = popped (open_in r) (InAxiom (Symbols (Pop ∷ r)))
+axiom_sign a_cut r = InAxiom (Symbols (Cut ∷ r))
+axiom_sign no_sign r = Stop
+
+abbrev pub axiom_open : List (Symbol Signed) → State
+axiom_open (Module n [] ∷ r) = InAxiom (NumberDue r n [])
+axiom_open r = Stop
+
+abbrev pub symbols_step : Kind → List (Symbol Signed) → State
+symbols_step LeftParen r = axiom_open r
+symbols_step k r = axiom_sign (sign_of k) r
+
+abbrev pub if_small : Bool → State → State
+if_small true s = s
+if_small false s = Stop
+
+abbrev pub number_due_step : Kind → List (Symbol Signed) → ModuleName → List Signed → State
+number_due_step (Number k) r n zs = if_small (nat_lt k (2 ^ 63)) (InAxiom (NumberRead r n (plain k ∷ zs)))
+number_due_step Minus r n zs = InAxiom (MinusRead r n zs)
+number_due_step k r n zs = Stop
+
+abbrev pub minus_step : Kind → List (Symbol Signed) → ModuleName → List Signed → State
+minus_step (Number k) r n zs = if_small (nat_le k (2 ^ 63)) (InAxiom (NumberRead r n (minus_sign k ∷ zs)))
+minus_step k r n zs = Stop
+
+abbrev pub number_read_step : Kind → List (Symbol Signed) → ModuleName → List Signed → State
+number_read_step Comma r n zs = InAxiom (NumberDue r n zs)
+number_read_step RightParen r n zs = InAxiom (Symbols (Module n (reversed zs) ∷ r))
+number_read_step k r n zs = Stop
+
+abbrev pub axiom_step : AxiomState → Kind → State
+axiom_step (Symbols r) t = symbols_step t r
+axiom_step (NumberDue r n zs) t = number_due_step t r n zs
+axiom_step (MinusRead r n zs) t = minus_step t r n zs
+axiom_step (NumberRead r n zs) t = number_read_step t r n zs
+
+-- what the first word of a line begins
+abbrev pub first_word : List ℕ → State
+first_word w =
+  elim (bytes_eq w (codes "axiom")) [ true ↦ InAxiom (Symbols []) | false ↦
+  elim (bytes_eq w (codes "production")) [ true ↦ ProductionDue | false ↦
+  elim (bytes_eq w (codes "drop")) [ true ↦ DropDue | false ↦
+  elim (bytes_eq w (codes "ignore")) [ true ↦ InNames [] | false ↦
+  elim (bytes_eq w (codes "schedule")) [ true ↦ ScheduleDue | false ↦
+  elim (bytes_eq w (codes "seed")) [ true ↦ SeedDue | false ↦
+  elim (bytes_eq w (codes "depth")) [ true ↦ DepthDue | false ↦
+  elim (bytes_eq w (codes "lattice")) [ true ↦ LatticeDue | false ↦
+  elim (bytes_eq w (codes "hom")) [ true ↦ LabelDue | false ↦
+  elim (bytes_eq w (codes "string")) [ true ↦ StringRead | false ↦
+  elim (bytes_eq w (codes "segments")) [ true ↦ Whole print_segments | false ↦
+  elim (bytes_eq w (codes "svg")) [ true ↦ Whole print_svg | false ↦
+  elim (bytes_eq w (codes "show")) [ true ↦ Whole print_system | false ↦
+  elim (bytes_eq w (codes "quit")) [ true ↦ Whole quit | false ↦ Stop ] ] ] ] ] ] ] ] ] ] ] ] ] ]
+
+abbrev pub lattice_named : List ℕ → State
+lattice_named w =
+  elim (bytes_eq w (codes "square")) [ true ↦ Whole (set_lattice square) | false ↦
+  elim (bytes_eq w (codes "hexagonal")) [ true ↦ Whole (set_lattice hexagonal) | false ↦
+  elim (bytes_eq w (codes "cubic")) [ true ↦ Whole (set_lattice cubic) | false ↦ Stop ] ] ]
+
+abbrev pub unless_stop : (R.State → State) → R.State → State
+unless_stop f R.Stop = Stop
+unless_stop f s = f s
+
+abbrev pub with_name : (ModuleName → State) → Sign → State
+with_name f (a_name n) = f n
+with_name f s = Stop
+
+abbrev pub word_step : (List ℕ → State) → Kind → State
+word_step f (Word w) = f w
+word_step f k = Stop
+
+abbrev pub number_step : (ℕ → State) → Kind → State
+number_step f (Number n) = f n
+number_step f k = Stop
+
+abbrev pub one_word_step : List ℕ → Kind → State
+one_word_step w (Word l) = TwoWords w l
+one_word_step w Colon = InProduction None w R.start
+one_word_step w k = Stop
+
+abbrev pub colon_step : State → Kind → State
+colon_step s Colon = s
+colon_step s k = Stop
+
+abbrev pub step : State → Kind → State
+step Fresh k = word_step first_word k
+step (InAxiom a) k = axiom_step a k
+step ProductionDue k = word_step OneWord k
+step (OneWord w) k = one_word_step w k
+step (TwoWords t l) k = colon_step (InProduction (Some t) l R.start) k
+step (InProduction t l s) k = unless_stop (InProduction t l) (R.step production s k)
+step LabelDue k = word_step LabelRead k
+step (LabelRead l) k = colon_step (InHomomorphism l R.start) k
+step (InHomomorphism l s) k = unless_stop (InHomomorphism l) (R.step homomorphism s k)
+step DropDue k = word_step (λ l. Whole (drop_rule l)) k
+step (InNames r) k = with_name (λ n. InNames (n ∷ r)) (sign_of k)
+step ScheduleDue k = word_step (λ w. InSchedule (w ∷ [])) k
+step (InSchedule r) k = word_step (λ w. InSchedule (w ∷ r)) k
+step SeedDue k = number_step (λ n. Whole (set_seed n)) k
+step DepthDue k = number_step (λ n. Whole (set_depth n)) k
+step LatticeDue k = word_step lattice_named k
+step StringRead k = number_step (λ n. Whole (print_string (Some n))) k
+step (Whole c) k = Stop
+step Stop k = Stop
+
+-- the command, where the line may end here
+abbrev pub finish : State → Option Command
+finish (InAxiom (Symbols r)) = where_closed (open_in r) (Some (set_axiom (reversed r)))
+finish (InProduction t l s) = option_map (put_production t l) (R.whole s)
+finish (InHomomorphism l s) = option_map (put_homomorphism l) (R.whole s)
+finish (InNames r) = Some (set_ignored (reversed r))
+finish (InSchedule r) = Some (set_schedule (reversed r))
+finish StringRead = Some (print_string None)
+finish (Whole c) = Some c
+finish s = None
+
+-- the nesting at the last token that was taken
+abbrev pub depth : State → ℕ
+depth (InProduction t l s) = R.depth s
+depth (InHomomorphism l s) = R.depth s
+depth s = 0
+
+-- A line's tokens are a sentence, or there is a first token with which no sentence begins: at all (stops), or but for the bound on nesting (too_deep).
+pub data Verdict : Type 0 where
+  sentence : Command → Verdict
+  stops : ℕ → Verdict
+  too_deep : ℕ → Verdict
+
+abbrev pub ended : ℕ → Option Command → Verdict
+ended n None = stops n
+ended n (Some c) = sentence c
+
+abbrev pub is_stop : State → Bool
+is_stop Stop = true
+is_stop s = false
+
+abbrev pub nesting_bound : ℕ
+nesting_bound = 32
+
+-- the tokens from number n on
+abbrev pub verdict_from : ℕ → State → List Kind → Verdict
+verdict_from n s [] = ended n (finish s)
+verdict_from n s (k ∷ ks) = elim (is_stop (step s k)) [
+    true ↦ stops n
+  | false ↦ elim (nat_lt nesting_bound (depth (step s k))) [ true ↦ too_deep n | false ↦ verdict_from (n + 1) (step s k) ks ]
+  ]
+
+abbrev pub verdict : List Kind → Verdict
+verdict ks = verdict_from 0 Fresh ks
+
+abbrev pub command_in : Verdict → Option Command
+command_in (sentence c) = Some c
+command_in v = None
+
+-- the command that a line's tokens spell
+abbrev pub parse_command : List Kind → Option Command
+parse_command ks = command_in (verdict ks)
