@@ -1,0 +1,58 @@
+-- The cut (ABOP chapter 3): `%` takes away itself and what follows it in its branch. And the order of lineages.
+use Rattle.std.specs.Prelude.{◌++◌, ◌≡◌, ◌≤◌, ◌+◌, ◌-◌, ℕ, zero, suc, Bool, true, false, Option, Some, None, List, [], ◌∷◌, ◌==◌, ◌<◌, ◌⊎◌, nat_le, take, drop}
+use Rattle.lsys_spec.specs.Levels.{Symbol, Push, Pop, Module, lineage}
+
+-- a symbol of a string in which the cuts still stand
+pub data Raw : Type 0 where
+  Plain : Symbol → Raw
+  Percent : List ℕ → Raw
+
+abbrev pub raw_lineage : Raw → List ℕ
+raw_lineage (Plain s) = lineage s
+raw_lineage (Percent l) = l
+
+abbrev pub raw_balanced : ℕ → List Raw → Bool
+raw_balanced n [] = n == 0
+raw_balanced n (Percent l ∷ x) = raw_balanced n x
+raw_balanced n (Plain (Module l m) ∷ x) = raw_balanced n x
+raw_balanced n (Plain (Push l) ∷ x) = raw_balanced (suc n) x
+raw_balanced zero (Plain (Pop l) ∷ x) = false
+raw_balanced (suc n) (Plain (Pop l) ∷ x) = raw_balanced n x
+
+-- Where a branch is being cut off, the number of branches that are open in what is cut off.
+abbrev pub cut_on : Option ℕ → List Raw → List Symbol
+cut_on cutting [] = []
+cut_on None (Percent l ∷ x) = cut_on (Some 0) x
+cut_on None (Plain s ∷ x) = s ∷ cut_on None x
+cut_on (Some n) (Percent l ∷ x) = cut_on (Some n) x
+cut_on (Some n) (Plain (Module l m) ∷ x) = cut_on (Some n) x
+cut_on (Some n) (Plain (Push l) ∷ x) = cut_on (Some (suc n)) x
+cut_on (Some zero) (Plain (Pop l) ∷ x) = Pop l ∷ cut_on None x
+cut_on (Some (suc n)) (Plain (Pop l) ∷ x) = cut_on (Some n) x
+
+abbrev pub cut : List Raw → List Symbol
+cut x = cut_on None x
+
+-- By places: every front of a part has at least as many `[` as `]`, so nothing ends the branch in which it begins.
+abbrev pub never_closes : ℕ → List Raw → Bool
+never_closes n [] = true
+never_closes n (Percent l ∷ x) = never_closes n x
+never_closes n (Plain (Module l m) ∷ x) = never_closes n x
+never_closes n (Plain (Push l) ∷ x) = never_closes (suc n) x
+never_closes zero (Plain (Pop l) ∷ x) = false
+never_closes (suc n) (Plain (Pop l) ∷ x) = never_closes n x
+
+-- a comes before b: at the first place where they differ it has the smaller number
+abbrev pub Before : List ℕ → List ℕ → Type 0
+Before [] b = ⊥
+Before (x ∷ a) [] = ⊥
+Before (x ∷ a) (y ∷ b) = (x < y) ⊎ ((x ≡ y) × Before a b)
+
+abbrev pub BeforeAll : List ℕ → List Symbol → Type 0
+BeforeAll a [] = Unit {0}
+BeforeAll a (s ∷ ss) = Before a (lineage s) × BeforeAll a ss
+
+-- the lineages rise from left to right, so each stands there once
+abbrev pub Rising : List Symbol → Type 0
+Rising [] = Unit {0}
+Rising (s ∷ ss) = BeforeAll (lineage s) ss × Rising ss

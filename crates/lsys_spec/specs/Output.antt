@@ -1,0 +1,45 @@
+-- The replies to a whole script.
+use Rattle.std.specs.Prelude.{◌≡◌, ℕ, ◌+◌, List, [], ◌∷◌, ◌++◌, ◌||◌, ◌&&◌, not, Bool, true, false, flat_map, if◌then◌else◌}
+use Rattle.lsys_syntax.specs.Lines.{lines_of}
+use Rattle.lsys_spec.specs.Systems.{System, opening}
+use Rattle.lsys_spec.specs.Refusals.{Reply, refused_memory, is_long, is_passed_over}
+
+-- want of memory may stand in place of every reply, but not of none, and not of that to a line which is too long
+abbrev pub may_lack_memory : List ℕ → Bool
+may_lack_memory line = not (is_passed_over line) && not (is_long line)
+
+abbrev pub memory_or : Bool → System → Reply → Reply
+memory_or true s r = refused_memory s
+memory_or false s r = r
+
+-- the reply to a line that may be refused for want of memory
+abbrev pub reply_or_memory : (System → List ℕ → Reply) → Bool → System → List ℕ → Reply
+reply_or_memory answer lacks s line = memory_or (lacks && may_lack_memory line) s (answer s line)
+
+-- a reply, and behind it what follows from its system, unless it ends the session
+abbrev pub followed : Reply → (System → List Reply) → List Reply
+followed r rest = r ∷ elim r.ends [ true ↦ [] | false ↦ rest r.next ]
+
+-- the replies to lines that are numbered from n on; those whose numbers are in M are refused for want of memory
+abbrev pub replies_from : (System → List ℕ → Reply) → (ℕ → Bool) → ℕ → System → List (List ℕ) → List Reply
+replies_from answer M n s [] = []
+replies_from answer M n s (line ∷ lines) =
+  followed (reply_or_memory answer (M n) s line) (λ next. replies_from answer M (n + 1) next lines)
+
+abbrev pub out : (System → List ℕ → Reply) → List ℕ → (ℕ → Bool) → List Reply
+out answer script M = replies_from answer M 1 opening (lines_of script)
+
+abbrev pub text_of : List Reply → List ℕ
+text_of rs = flat_map (λ r. r.text) rs
+
+abbrev pub any_refusal : List Reply → Bool
+any_refusal [] = false
+any_refusal (r ∷ rs) = r.is_refusal || any_refusal rs
+
+abbrev pub any_memory : List Reply → Bool
+any_memory [] = false
+any_memory (r ∷ rs) = r.is_memory || any_memory rs
+
+-- no line
+abbrev pub none : ℕ → Bool
+none n = false

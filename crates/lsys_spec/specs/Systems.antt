@@ -1,0 +1,110 @@
+-- A system, as the edits leave it, and when it is well formed.
+use Rattle.std.specs.Prelude.{◌≡◌, ℕ, Bool, true, false, not, Option, Some, None, List, [], ◌∷◌, ◌++◌, ◌==◌, ◌&&◌, ◌||◌, ◌+◌, ◌≤◌, ◌<◌, ◌^◌, length, map, codes, bytes_eq, ℤ, if◌then◌else◌}
+use Rattle.lsys_syntax.specs.Pieces.{token_text, IsWordText}
+use Rattle.lsys_syntax.specs.Strings.{Symbol, Signed, signed_of, Module, Push, Pop, Cut, ModuleName, name_kind, balanced, EachOf, IsModuleName, IsSymbol, IsParam}
+use Rattle.lsys_syntax.specs.Expressions.{Expr}
+use Rattle.lsys_syntax.specs.Rules.{Rule, Production, IsRule, IsProduction, rule_nesting}
+use Rattle.lsys_syntax.specs.Checks.{rule_unknown, rule_repeated, rule_many, axiom_many}
+use Rattle.lsys_syntax.specs.Commands.{Lattice, square, IsHomomorphism}
+
+pub record Homomorphism : Type 0 where
+  pub label : List ℕ
+  pub rule : Rule
+
+-- The axiom is kept as it was written, its cuts included; the rules stand in the order in which they are tried.
+pub record System : Type 0 where
+  pub axiom_string : List (Symbol ℤ)
+  pub rules : List Production
+  pub schedule : List (List ℕ)
+  pub ignored : List ModuleName
+  pub homomorphisms : List Homomorphism
+  pub seed : ℕ
+  pub depth : ℕ
+  pub lattice : Lattice
+
+abbrev pub main : List ℕ
+main = codes "main"
+
+abbrev pub opening : System
+opening = record { axiom_string = []; rules = []; schedule = main ∷ []; ignored = []; homomorphisms = []; seed = 0; depth = 0; lattice = square }
+
+abbrev pub any : {A : Type 0} → (A → Bool) → List A → Bool
+any p [] = false
+any p (x ∷ xs) = p x || any p xs
+
+abbrev pub name_text : ModuleName → List ℕ
+name_text n = token_text (name_kind n)
+
+abbrev pub same_name : ModuleName → ModuleName → Bool
+same_name m n = bytes_eq (name_text m) (name_text n)
+
+abbrev pub is_table : List (List ℕ) → List ℕ → Bool
+is_table ts w = any (λ t. bytes_eq t w) ts
+
+abbrev pub with_table : Bool → List (List ℕ) → List ℕ → List (List ℕ)
+with_table true ts t = ts
+with_table false ts t = ts ++ t ∷ []
+
+abbrev pub tables_onto : List (List ℕ) → List Production → List (List ℕ)
+tables_onto ts [] = ts
+tables_onto ts (p ∷ ps) = tables_onto (with_table (is_table ts p.table) ts p.table) ps
+
+-- main, and the tables that have a rule
+abbrev pub tables : List Production → List (List ℕ)
+tables ps = tables_onto (main ∷ []) ps
+
+abbrev pub is_weighted : Option Expr → Bool
+is_weighted None = false
+is_weighted (Some e) = true
+
+abbrev pub differ : Bool → Bool → Bool
+differ true b = not b
+differ false b = b
+
+-- of one table, letter and number of formals, and one has a weight where the other has none
+abbrev pub clash : Production → Production → Bool
+clash q p = bytes_eq q.table p.table && same_name q.rule.name p.rule.name && (length q.rule.formals == length p.rule.formals) && differ (is_weighted q.rule.weight) (is_weighted p.rule.weight)
+
+-- the axiom's symbols as they would be written
+abbrev pub written : List (Symbol ℤ) → List (Symbol Signed)
+written [] = []
+written (Module n zs ∷ xs) = Module n (map signed_of zs) ∷ written xs
+written (Push ∷ xs) = Push ∷ written xs
+written (Pop ∷ xs) = Pop ∷ written xs
+written (Cut ∷ xs) = Cut ∷ written xs
+
+-- The rule that stands n tokens into its line is refused for nothing of its own: no unknown name, no formal twice, no limit passed, no nesting of more than 32.
+abbrev pub IsAccepted : ℕ → Rule → Type 0
+IsAccepted n r = (rule_unknown n r ≡ None) × (rule_repeated n r ≡ None) × (rule_many n r ≡ None) × (rule_nesting r ≤ 32)
+
+abbrev pub Each : {A : Type 0} → (A → Type 0) → List A → Type 0
+Each P [] = Unit {0}
+Each P (x ∷ xs) = P x × Each P xs
+
+-- no earlier and later element pass together
+abbrev pub Apart : {A : Type 0} → (A → A → Bool) → List A → Type 0
+Apart f [] = Unit {0}
+Apart f (x ∷ xs) = Each (λ y. f x y ≡ false) xs × Apart f xs
+
+-- What every accepted edit keeps, and what makes the printed script read back as the system.
+pub record WellFormed (s : System) : Type 0 where
+  pub labels : Apart bytes_eq (map (λ p. p.label) s.rules ++ map (λ h. h.label) s.homomorphisms)
+  pub groups : Apart clash s.rules
+  pub rules : Each IsProduction s.rules
+  pub homomorphisms : Each (λ h. IsWordText h.label × IsRule h.rule × IsHomomorphism h.rule) s.homomorphisms
+  pub rules_accepted : Each (λ p. IsAccepted 4 p.rule) s.rules
+  pub homomorphisms_accepted : Each (λ h. IsAccepted 3 h.rule) s.homomorphisms
+  pub axiom_symbols : EachOf (IsSymbol IsParam) s.axiom_string
+  pub axiom_balanced : balanced 0 s.axiom_string ≡ true
+  pub axiom_accepted : axiom_many 1 (written s.axiom_string) ≡ None
+  pub ignored_names : EachOf IsModuleName s.ignored
+  pub ignored_once : Apart same_name s.ignored
+  pub words : EachOf IsWordText s.schedule
+  pub some_word : 0 < length s.schedule
+  pub scheduled : Each (λ w. is_table (tables s.rules) w ≡ true) s.schedule
+  pub small_seed : s.seed < 2 ^ 64
+  pub few_tables : length (tables s.rules) ≤ 16
+  pub few_rules : length s.rules + length s.homomorphisms ≤ 256
+  pub few_words : length s.schedule ≤ 64
+  pub few_ignored : length s.ignored ≤ 64
+  pub shallow : s.depth ≤ 64
