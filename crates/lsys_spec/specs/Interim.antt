@@ -1,10 +1,9 @@
 -- What the program does today: which lines it answers `refused form`, and what an accepted edit prints.
 -- This file says all in which the program still differs from the language; it shrinks, and is deleted in the end.
-use Rattle.std.specs.Prelude.{ℕ, Bool, true, false, Option, Some, None, Result, Ok, Err, List, [], ◌∷◌, ◌++◌, map, codes, bytes_eq, option_map}
+use Rattle.std.specs.Prelude.{ℕ, Bool, true, false, Option, Some, None, Result, Ok, Err, List, [], ◌∷◌, ◌++◌, ◌&&◌, map, codes, bytes_eq, option_map}
 use Rattle.lsys_syntax.specs.Lines.{without_cr}
 use Rattle.lsys_syntax.specs.Tokens.{NameText, short, Kind, Word, Name, Number, Arrow, Colon, Token, tokens}
 use Rattle.lsys_syntax.specs.Strings.{ModuleName, named, Symbol, Module}
-use Rattle.lsys_syntax.specs.Expressions.{Expr}
 use Rattle.lsys_syntax.specs.Rules.{Rule}
 use Rattle.lsys_syntax.specs.Commands.{Command, set_axiom, put_production, set_depth, print_string}
 use Rattle.lsys_spec.specs.Systems.{System}
@@ -17,21 +16,51 @@ use Rattle.lsys_spec.specs.Refusals.{Reply, said, refused, line_feed, is_long, i
 -- The commands that the program has are axiom { Name } | production Word ":" Name "=>" { Name } | depth Number | string,
 -- where a Name is one letter.
 
-abbrev pub with_letter : {P : Type 0} → Kind → Option (List (Symbol P)) → Option (List (Symbol P))
-with_letter (Name (short c)) (Some xs) = Some (Module (named (short c)) [] ∷ xs)
-with_letter k xs = None
+abbrev pub word_in : Kind → Option (List ℕ)
+word_in (Word w) = Some w
+word_in k = None
 
--- a string of letters
-abbrev pub letters : {P : Type 0} → List Kind → Option (List (Symbol P))
+-- a name of one letter
+abbrev pub letter : Kind → Option NameText
+letter (Name (short c)) = Some (short c)
+letter k = None
+
+abbrev pub is_colon : Kind → Bool
+is_colon Colon = true
+is_colon k = false
+
+abbrev pub is_arrow : Kind → Bool
+is_arrow Arrow = true
+is_arrow k = false
+
+abbrev pub both : Option NameText → Option (List NameText) → Option (List NameText)
+both (Some n) (Some ns) = Some (n ∷ ns)
+both (Some n) None = None
+both None ns = None
+
+abbrev pub letters : List Kind → Option (List NameText)
 letters [] = Some []
-letters (k ∷ ks) = with_letter k (letters ks)
+letters (k ∷ ks) = both (letter k) (letters ks)
+
+-- modules without parameters
+abbrev pub plain_string : {P : Type 0} → List NameText → List (Symbol P)
+plain_string ns = map (λ n. Module (named n) []) ns
 
 -- no contexts, formals, condition or weight
-abbrev pub plain_rule : ℕ → List (Symbol Expr) → Rule
-plain_rule c xs = record { left = []; name = named (short c); formals = []; right = []; condition = None; weight = None; successor = xs }
+abbrev pub plain_rule : NameText → List NameText → Rule
+plain_rule n ns = record { left = []; name = named n; formals = []; right = []; condition = None; weight = None; successor = plain_string ns }
 
+abbrev pub with_rule : Option (List ℕ) → Option NameText → Option (List NameText) → Option Command
+with_rule (Some l) (Some n) (Some ns) = Some (put_production None l (plain_rule n ns))
+with_rule l n ns = None
+
+abbrev pub only_if : Bool → Option Command → Option Command
+only_if true c = c
+only_if false c = None
+
+-- Word ":" Name "=>" { Name }
 abbrev pub plain_production : List Kind → Option Command
-plain_production (Word l ∷ Colon ∷ Name (short c) ∷ Arrow ∷ ks) = option_map (λ xs. put_production None l (plain_rule c xs)) (letters ks)
+plain_production (l ∷ colon ∷ n ∷ arrow ∷ ks) = only_if (is_colon colon && is_arrow arrow) (with_rule (word_in l) (letter n) (letters ks))
 plain_production ks = None
 
 abbrev pub plain_depth : List Kind → Option Command
@@ -42,12 +71,18 @@ abbrev pub plain_query : List Kind → Option Command
 plain_query [] = Some (print_string None)
 plain_query ks = None
 
-abbrev pub plain_command : List Kind → Option Command
-plain_command (Word w ∷ ks) =
-  elim (bytes_eq w (codes "axiom")) [ true ↦ option_map set_axiom (letters ks) | false ↦
+abbrev pub plain_axiom : Option (List NameText) → Option Command
+plain_axiom ns = option_map (λ xs. set_axiom (plain_string xs)) ns
+
+abbrev pub begun : List ℕ → List Kind → Option Command
+begun w ks =
+  elim (bytes_eq w (codes "axiom")) [ true ↦ plain_axiom (letters ks) | false ↦
   elim (bytes_eq w (codes "production")) [ true ↦ plain_production ks | false ↦
   elim (bytes_eq w (codes "depth")) [ true ↦ plain_depth ks | false ↦
   elim (bytes_eq w (codes "string")) [ true ↦ plain_query ks | false ↦ None ] ] ] ]
+
+abbrev pub plain_command : List Kind → Option Command
+plain_command (Word w ∷ ks) = begun w ks
 plain_command ks = None
 
 abbrev pub refused_form : System → Reply
