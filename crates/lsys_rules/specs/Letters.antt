@@ -1,9 +1,9 @@
 -- Names of one letter, as the program has them today.
-use Rattle.std.specs.Prelude.{ℕ, List, [], ◌∷◌}
+use Rattle.std.specs.Prelude.{ℕ, ◌<◌, List, [], ◌∷◌}
 
 abbrev pub IsLetter : List ℕ → Type 0
 IsLetter [] = ⊥
-IsLetter (c ∷ []) = Unit {0}
+IsLetter (c ∷ []) = 0 < c
 IsLetter (c ∷ d ∷ more) = ⊥
 
 abbrev pub AreLetters : List (List ℕ) → Type 0

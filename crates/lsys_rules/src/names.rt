@@ -63,7 +63,8 @@ impl NameList {
 
     /// How many names there are.
     pub fn len(&self) -> usize
-        ensures { result ≡ length self.now }
+        ensures len { result ≡ length self.now }
+        ensures letters { AreLetters self.now }
     {
         self.names.len()
     }

@@ -6,7 +6,7 @@ use Rattle.lsys_rules.proofs.Puts.{rule_accepted, rule_too_long, rules_too_many,
 use Rattle.lsys_rules.proofs.edit.with_rule.Goals as goal
 
 pub returns-then-len-gt-MOST_SUCCESSOR_SYMBOLS : goal.returns-then-len-gt-MOST_SUCCESSOR_SYMBOLS
-returns-then-len-gt-MOST_SUCCESSOR_SYMBOLS c = rule_too_long c.args.system.now c.args.rule.now (omega (arith, c.len.ensures))
+returns-then-len-gt-MOST_SUCCESSOR_SYMBOLS c = rule_too_long c.args.system.now c.args.rule.now (omega (arith, c.len.ensures.len))
 
 pub returns-then-rules-gt-MOST_RULES : goal.returns-then-rules-gt-MOST_RULES
 returns-then-rules-gt-MOST_RULES c =
@@ -25,5 +25,5 @@ returns c =
     let all : c.put.new.self ≡ with_rule c.args.rule.now c.args.system.now.rules = cc in
     let seen : length c.rules.result.now ≡ length (with_rule c.args.rule.now c.args.system.now.rules) = cc in
     let next : System = record c.in_ok-next.next { rules = c.put.new.self } in
-    (rule_accepted c.args.system.now c.args.rule.now (omega (arith, c.len.ensures)) (omega arith),
+    (rule_accepted c.args.system.now c.args.rule.now (omega (arith, c.len.ensures.len)) (omega arith),
      rule_changed c.args.system.now next c.args.rule.now (cc) all (cc))
