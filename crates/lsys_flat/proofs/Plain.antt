@@ -9,8 +9,7 @@ use Rattle.lsys_syntax.specs.Expressions.{Expr}
 use Rattle.lsys_spec.specs.Systems.{System, main, same_name, name_text}
 use Rattle.lsys_spec.specs.Values.{Arith, Tree, ◌and_then◌}
 use Rattle.lsys_spec.specs.Bodies.{Body, body_of, group, group_in, table_at, word_at, is_for, templates}
-use Rattle.lsys_spec.specs.Levels.{ModuleValue, Symbol, Push, Pop, Module}
-use Rattle.lsys_spec.specs.Walks.{modules}
+use Rattle.lsys_spec.specs.Levels.{ModuleValue, Symbol, Push, Pop, Module, plain}
 use Rattle.lsys_spec.specs.Cuts.{Raw, Plain, Percent, cut, cut_on}
 use Rattle.lsys_spec.specs.Meaning.{numbered, first_level, asked, filled, as_fault, fault_at, successor_by, successor, Refusal, children_from, next_level}
 use Rattle.lsys_spec.specs.Choice.{Fault}
@@ -21,7 +20,6 @@ use Rattle.lsys_rules.specs.Views.{system_of, production_of, rule_of, string_of}
 use Rattle.lsys_rules.specs.declared.rule.Rule.{Rule}
 use Rattle.lsys_rules.specs.declared.system.System as declared
 use Rattle.lsys_flat.specs.Letters.{replaced}
-use Rattle.lsys_flat.specs.Rows.{names_of}
 
 -- 1. strings and levels that spell names
 
@@ -68,20 +66,15 @@ spells_length (Module l m ∷ x) (n ∷ ns) h = omega (arith, spells_length x ns
 spells_length (Push l ∷ x) ns h = absurd h
 spells_length (Pop l ∷ x) ns h = absurd h
 
-letter_text : (n : List ℕ) → IsLetter n → name_text (named (name_of n)) ≡ n
-letter_text [] h = absurd h
-letter_text (c ∷ []) h = refl
-letter_text (c ∷ d ∷ more) h = absurd h
-
-pub spells_names : (x : List Symbol) (ns : List (List ℕ)) → Spells x ns → AreLetters ns → ns ≡ names_of x
-spells_names [] [] h a = refl
-spells_names [] (n ∷ ns) h a = absurd h
-spells_names (Module l m ∷ x) [] h a = absurd h
-spells_names (Module l m ∷ x) (n ∷ ns) h a =
-    ap (λ t. t ∷ ns) (sym (letter_text n a.0)) ∙ ap (λ t. name_text (named (name_of n)) ∷ t) (spells_names x ns h.1 a.1)
-    ∙ ap (λ (v : ModuleValue). name_text v.name ∷ names_of x) (sym h.0)
-spells_names (Push l ∷ x) ns h a = absurd h
-spells_names (Pop l ∷ x) ns h a = absurd h
+-- what a level is that spells names
+pub spells_string : (x : List Symbol) (ns : List (List ℕ)) → Spells x ns → map plain x ≡ string_of ns
+spells_string [] [] h = refl
+spells_string [] (n ∷ ns) h = absurd h
+spells_string (Module l m ∷ x) [] h = absurd h
+spells_string (Module l m ∷ x) (n ∷ ns) h =
+    ap (λ (v : ModuleValue). S.Module v.name v.params ∷ map plain x) h.0 ∙ ap (λ t. S.Module (named (name_of n)) [] ∷ t) (spells_string x ns h.1)
+spells_string (Push l ∷ x) ns h = absurd h
+spells_string (Pop l ∷ x) ns h = absurd h
 
 pub first_spells : (s : declared.System) → Spells (first_level (system_of s)) s.«axiom»
 first_spells s = cut_spells (numbered 0 [] (string_of s.«axiom»)) s.«axiom» (numbered_spells 0 [] s.«axiom»)

@@ -5,21 +5,21 @@ use Rattle.std.proofs.lemmas.Grind.{common_steps, elements}
 use Rattle.std.proofs.lemmas.Bool.Decides.{nat_tests}
 use Rattle.std.proofs.lemmas.List.{map-append}
 use Rattle.std.proofs.lemmas.List.Sums.{sum_by_push}
-use Rattle.lsys_spec.specs.Levels.{Symbol}
+use Rattle.lsys_spec.specs.Levels.{Symbol, plain}
 use Rattle.lsys_spec.specs.Meaning.{Refusal, OverLimit, first_level, next_level, last_level, within_limit, meaning_to, meaning}
 use Rattle.lsys_spec.specs.Values.{◌and_then◌}
 use Rattle.lsys_rules.specs.Letters.{AreLetters}
-use Rattle.lsys_rules.specs.Views.{system_of}
+use Rattle.lsys_rules.specs.Views.{system_of, string_of}
 use Rattle.lsys_rules.specs.declared.system.System as declared
 use Rattle.lsys_flat.specs.Letters.{replaced}
-use Rattle.lsys_flat.specs.Rows.{names_of}
-use Rattle.lsys_flat.proofs.Plain.{Spells, spells_length, spells_names, first_spells, next_spells}
+use Rattle.lsys_flat.specs.Rows.{AreRows}
+use Rattle.lsys_flat.proofs.Plain.{Spells, spells_length, spells_string, first_spells, next_spells}
 
 -- the levels to t are those of the rows, and the limit has room for this many symbols more
 pub record SoFar (s : declared.System) (limit t : ℕ) (rows : List (List (List ℕ))) (room : ℕ) : Type 0 where
   pub levels : List (List Symbol)
   pub within : meaning_to (system_of s) limit t ≡ Ok levels
-  pub are : rows ≡ map names_of levels
+  pub are : AreRows levels rows
   pub last : List (List ℕ)
   pub ends : slice_get rows (length rows - 1) ≡ Some last
   pub spells : Spells (last_level levels) last
@@ -51,14 +51,14 @@ start_over s limit h =
     let long : length (first_level (system_of s)) ≡ length s.«axiom» = spells_length (first_level (system_of s)) s.«axiom» (first_spells s) in
     stays s limit 0 s.depth (OverLimit 0) (omega arith) (over limit 0 (first_level (system_of s) ∷ []) (omega (arith, one_length (first_level (system_of s)))))
 
-pub start : (s : declared.System) (limit room : ℕ) → AreLetters s.«axiom» → length s.«axiom» + room ≡ limit → SoFar s limit 0 (s.«axiom» ∷ []) room
-start s limit room a h =
+pub start : (s : declared.System) (limit room : ℕ) → length s.«axiom» + room ≡ limit → SoFar s limit 0 (s.«axiom» ∷ []) room
+start s limit room h =
     let x = first_level (system_of s) in
     let long : length x ≡ length s.«axiom» = spells_length x s.«axiom» (first_spells s) in
     record {
       levels = x ∷ [];
       within = under limit 0 (x ∷ []) (omega (arith, one_length x));
-      are = ap (λ n. n ∷ []) (spells_names x s.«axiom» (first_spells s) a);
+      are = ap (λ n. n ∷ []) (spells_string x s.«axiom» (first_spells s));
       last = s.«axiom»;
       ends = refl;
       spells = first_spells s;
@@ -72,9 +72,9 @@ last_pushed (y ∷ z ∷ levels) x = last_pushed (z ∷ levels) x
 
 -- one level more
 pub more : (s : declared.System) (limit t room : ℕ) (rows : List (List (List ℕ))) (last next : List (List ℕ)) → SoFar s limit t rows room
-    → slice_get rows (length rows - 1) ≡ Some last → AreLetters last → next ≡ flat_map (replaced s.rules) last → AreLetters next → length next ≤ room
+    → slice_get rows (length rows - 1) ≡ Some last → AreLetters last → next ≡ flat_map (replaced s.rules) last → length next ≤ room
     → SoFar s limit (t + 1) (rows ++ next ∷ []) (room - length next)
-more s limit t room rows last next h l a e b fits =
+more s limit t room rows last next h l a e fits =
     let same : h.last ≡ last = cc (h.ends) in
     let P : List (List ℕ) → Type 0 = λ ns. Spells (last_level h.levels) ns in
     let n = next_spells s t (last_level h.levels) last (subst P same h.spells) a in
@@ -86,7 +86,7 @@ more s limit t room rows last next h l a e b fits =
       within = rw (add-one) (ap (λ (r : Result (List (List Symbol)) Refusal). r and_then λ levels. next_level (system_of s) t (last_level levels) and_then λ x. within_limit limit (suc t) (levels ++ x ∷ [])) h.within
         ∙ ap (λ (r : Result (List Symbol) Refusal). r and_then λ x. within_limit limit (suc t) (h.levels ++ x ∷ [])) n.is
         ∙ under limit (suc t) (h.levels ++ n.level ∷ []) (omega (arith, h.total)));
-      are = ap (λ rs. rs ++ next ∷ []) h.are ∙ ap (λ r. map names_of h.levels ++ r ∷ []) (spells_names n.level next named b) ∙ sym (map-append names_of h.levels (n.level ∷ []));
+      are = map-append (map plain) h.levels (n.level ∷ []) ∙ ap (λ xs. xs ++ map plain n.level ∷ []) h.are ∙ ap (λ y. map string_of rows ++ y ∷ []) (spells_string n.level next named) ∙ sym (map-append string_of rows (next ∷ []));
       last = next;
       ends = grind (arith, common_steps, elements);
       spells = rw (last_pushed h.levels n.level) named;

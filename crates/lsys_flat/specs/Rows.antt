@@ -1,18 +1,15 @@
 -- The levels that are kept, as those of the definitions.
-use Rattle.std.specs.Prelude.{◌≡◌, ℕ, Result, Ok, Err, List, [], ◌∷◌, map, flat_map}
-use Rattle.lsys_spec.specs.Systems.{System, name_text}
-use Rattle.lsys_spec.specs.Levels.{Symbol, ModuleValue}
-use Rattle.lsys_spec.specs.Walks.{modules}
+use Rattle.std.specs.Prelude.{◌≡◌, ℕ, ℤ, Result, Ok, Err, List, map}
+use Rattle.lsys_spec.specs.Systems.{System}
+use Rattle.lsys_spec.specs.Levels.{Symbol, plain}
+use Rattle.lsys_rules.specs.Views.{string_of}
 use Rattle.lsys_spec.specs.Meaning.{meaning, OverLimit}
 use Rattle.lsys_flat.specs.declared.refusal.DeriveRefusal.{DeriveRefusal}
 use Rattle.lsys_flat.specs.declared.refusal.DeriveRefusal.TheVariants.{Limit, Memory}
 
--- the names of a level's modules
-abbrev pub names_of : List Symbol → List (List ℕ)
-names_of x = map (λ m. name_text m.name) (flat_map modules x)
-
+-- Each level is, lineages apart, the string of its row's names.
 abbrev pub AreRows : List (List Symbol) → List (List (List ℕ)) → Type 0
-AreRows levels rows = rows ≡ map names_of levels
+AreRows levels rows = map (map plain) levels ≡ map (string_of {P = ℤ}) rows
 
 -- the names of the levels that the system means, or the refusal that it means
 abbrev pub IsMeaning : System → ℕ → Result (List (List (List ℕ))) DeriveRefusal → Type 0

@@ -1,5 +1,4 @@
-use Rattle.std.proofs.Common.{◌≡◌, ◌<◌, ◌≤◌, ◌+◌, ◌-◌, ◌∷◌, [], ◌++◌, List, ℕ, length, flat_map, arith, rules, sym, subst}
-use Rattle.lsys_rules.specs.Letters.{AreLetters}
+use Rattle.std.proofs.Common.{◌≡◌, ◌<◌, ◌≤◌, ◌+◌, ◌-◌, ◌∷◌, [], ◌++◌, List, ℕ, length, flat_map, arith, rules}
 use Rattle.lsys_flat.specs.Letters.{replaced}
 use Rattle.lsys_flat.proofs.SoFar.{SoFar, start, start_over, more, passes, done}
 use Rattle.lsys_flat.proofs.derive.Goals as goal
@@ -16,8 +15,7 @@ loop-level-init c =
     let long : length c.in_ok-first.first ≡ length c.args.system.now.«axiom» = cc in
     let pushed : c.push.new.self ≡ c.args.system.now.«axiom» ∷ [] = search rules in
     let room : length c.args.system.now.«axiom» + (c.args.limit - c.len-2.result) ≡ c.args.limit = omega (arith, c.len.ensures.len, c.len-2.ensures.len) in
-    let P : List (List ℕ) → Type 0 = AreLetters in
-    rw pushed (start c.args.system.now c.args.limit (c.args.limit - c.len-2.result) (subst P first c.len.ensures.letters) room)
+    rw pushed (start c.args.system.now c.args.limit (c.args.limit - c.len-2.result) room)
 
 pub returns-in-None : goal.returns-in-None
 returns-in-None c =
@@ -32,4 +30,4 @@ loop-level-preserved c =
     let len : c.len-room.result ≡ length c.in-Some.next = c.len-room.ensures.len in
     let pushed : c.push-in-Some.new.self ≡ c.loop-level.rows ++ c.in-Some.next ∷ [] = search rules in
     rw (len, pushed) (more c.args.system.now c.args.limit c.loop-level.level c.loop-level.room c.loop-level.rows c.last.result.now c.in-Some.next c.loop-level.invariant c.last.ensures
-      c.in_ok-next_level.ensures.letters next c.len-room.ensures.letters fits)
+      c.in_ok-next_level.ensures.letters next fits)
