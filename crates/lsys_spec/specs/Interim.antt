@@ -116,10 +116,10 @@ abbrev pub command_of : Result (List Token) ℕ → Option Command
 command_of (Err c) = None
 command_of (Ok ts) = plain_command (kinds ts)
 
+-- the reply to a line without its CR that isn't too long
+abbrev pub bare_reply : ℕ → System → List ℕ → Reply
+bare_reply limit s bare = elim (is_passed_over bare) [ true ↦ said s [] | false ↦ command_reply limit s (command_of (tokens bare)) ]
+
 -- the reply to a line, its CR still there
 abbrev pub reply : ℕ → System → List ℕ → Reply
-reply limit s line =
-  elim (is_long line) [
-    true ↦ refused_form s
-  | false ↦ elim (is_passed_over line) [ true ↦ said s [] | false ↦ command_reply limit s (command_of (tokens (without_cr line))) ]
-  ]
+reply limit s line = elim (is_long line) [ true ↦ refused_form s | false ↦ bare_reply limit s (without_cr line) ]

@@ -1,12 +1,12 @@
 -- The replies to a whole script.
 use Rattle.std.specs.Prelude.{◌≡◌, ℕ, ◌+◌, List, [], ◌∷◌, ◌++◌, ◌||◌, ◌&&◌, not, Bool, true, false, flat_map, if◌then◌else◌}
-use Rattle.lsys_syntax.specs.Lines.{lines_of}
+use Rattle.lsys_syntax.specs.Lines.{lines_of, without_cr}
 use Rattle.lsys_spec.specs.Systems.{System, opening}
 use Rattle.lsys_spec.specs.Refusals.{Reply, refused_memory, is_long, is_passed_over}
 
 -- want of memory may stand in place of every reply, but not of none, and not of that to a line which is too long
 abbrev pub may_lack_memory : List ℕ → Bool
-may_lack_memory line = not (is_passed_over line) && not (is_long line)
+may_lack_memory line = not (is_long line) && not (is_passed_over (without_cr line))
 
 abbrev pub memory_or : Bool → System → Reply → Reply
 memory_or true s r = refused_memory s

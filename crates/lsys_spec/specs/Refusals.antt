@@ -1,6 +1,6 @@
 -- A reply to one line, and the texts of refusals.
 use Rattle.std.specs.Prelude.{ℕ, zero, suc, Bool, true, false, not, Option, Some, None, Result, Ok, Err, List, [], ◌∷◌, ◌++◌, ◌==◌, ◌&&◌, ◌||◌, ◌+◌, length, map, codes, decimal, nat_lt, if◌then◌else◌}
-use Rattle.lsys_syntax.specs.Lines.{is_blank_line, is_comment, without_cr}
+use Rattle.lsys_syntax.specs.Lines.{is_blank_line, is_comment}
 use Rattle.lsys_syntax.specs.Tokens.{Token}
 use Rattle.lsys_spec.specs.Systems.{System}
 use Rattle.lsys_spec.specs.Edits.{Why, unknown_name, duplicate, mixed, wrong_label, wrong_table, wrong_level, many, Refusal}
@@ -33,13 +33,13 @@ refused_memory s = record { text = codes "refused memory" ++ line_feed; next = s
 abbrev pub session_end : System → Reply
 session_end s = record { text = []; next = s; is_refusal = false; is_memory = false; ends = true }
 
--- a line without its LF that has at most 65,536 bytes, its CR counted
+-- a line without its LF that has a 65,537th byte, its CR counted
 abbrev pub is_long : List ℕ → Bool
 is_long line = nat_lt 65536 (length line)
 
--- empty, blank or a comment: it has no reply
+-- a line without its CR that is empty, blank or a comment: it has no reply
 abbrev pub is_passed_over : List ℕ → Bool
-is_passed_over line = is_blank_line (without_cr line) || is_comment line
+is_passed_over bare = is_blank_line bare || is_comment bare
 
 -- the column of the token at a place; the end of the line where there is none
 abbrev pub column_at : ℕ → ℕ → List Token → ℕ
