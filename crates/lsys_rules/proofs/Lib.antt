@@ -1,0 +1,5 @@
+pub mod Letters
+pub mod Tables
+pub mod LetterTokens
+pub mod PlainChecks
+pub mod Puts

@@ -1,0 +1,15 @@
+-- What is answered where a command is applied.
+use Rattle.std.specs.Prelude.{◌≡◌, Option, None, Result, Ok, Err, IsSome}
+use Rattle.lsys_syntax.specs.Commands as spec
+use Rattle.lsys_spec.specs.Systems as spec_systems
+use Rattle.lsys_spec.specs.Edits.{refusal, changed}
+use Rattle.lsys_rules.specs.Views.{system_of}
+use Rattle.lsys_rules.specs.declared.system.System.{System}
+use Rattle.lsys_rules.specs.declared.refusal.Refusal.{Refusal}
+use Rattle.lsys_rules.specs.declared.refusal.Refusal.TheVariants.{Form, Memory}
+
+-- the changed system where nothing refuses the command; or it is refused
+abbrev pub IsApplied : spec_systems.System → spec.Command → Result System Refusal → Type 0
+IsApplied s c (Ok next) = (refusal s c ≡ None) × (system_of next ≡ changed s c)
+IsApplied s c (Err Form) = IsSome (refusal s c)
+IsApplied s c (Err Memory) = Unit {0}
