@@ -1,6 +1,0 @@
-pub mod Packed
-pub mod Texts
-pub mod InsideName
-pub mod InsideWord
-pub mod InsideShort
-pub mod Tokens
