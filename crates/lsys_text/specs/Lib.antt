@@ -1,0 +1,5 @@
+pub mod Packed
+pub mod Texts
+pub mod InsideName
+pub mod InsideWord
+pub mod InsideShort
