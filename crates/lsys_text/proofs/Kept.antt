@@ -1,14 +1,13 @@
 -- Texts and the numbers that keep them, step by step.
-use Rattle.std.proofs.Common.{◌≡◌, ℕ, zero, suc, ◌+◌, ◌-◌, ◌*◌, ◌/◌, ◌%◌, ◌^◌, ◌<◌, ◌≤◌, ◌==◌, ◌||◌, Bool, true, false, List, [], ◌∷◌, ◌++◌, length, drop, get_or, refl, ap, ◌∙◌, sym, arith, ne_eqb, add-one, drop-cons, append_assoc, append-nil, length-append}
+use Rattle.std.proofs.Common.{◌≡◌, ℕ, zero, suc, ◌+◌, ◌-◌, ◌*◌, ◌/◌, ◌%◌, ◌^◌, ◌<◌, ◌≤◌, ◌==◌, ◌||◌, true, false, List, [], ◌∷◌, ◌++◌, length, drop, get_or, refl, ap, ◌∙◌, sym, arith, ne_eqb, add-one, drop-cons, append_assoc}
 use Rattle.std.proofs.Math.Nat.{pow-succ', pow-le-pow_right}
 use Rattle.std.proofs.Math.Bool.{or-true}
 use Rattle.std.proofs.lemmas.Bool.Decides.{nat_tests, Decides-eqb, Decides-like}
 use Rattle.std.proofs.lemmas.Slice.Eq.{bytes_eq-Decides}
 use Rattle.std.proofs.lemmas.Bool.Decides.{same_from_decides}
-use Rattle.std.specs.Bool.{Decides}
 use Rattle.std.specs.Str.{bytes_eq}
-use Rattle.lsys_syntax.specs.Tokens.{is_letter, is_plain, is_word_byte, long}
-use Rattle.lsys_syntax.specs.Pieces.{Every, IsWordText, IsNameText}
+use Rattle.lsys_syntax.specs.Tokens.{is_letter, is_plain, is_word_byte}
+use Rattle.lsys_syntax.specs.Pieces.{Every, IsWordText}
 use Rattle.lsys_text.specs.Packed.{packed, unpacked_to, unpacked, AreTextBytes, packed-unpacked, unpacked-packed}
 use Rattle.lsys_text.specs.Texts.{is_name_mark, IsNameBytes}
 

@@ -1,5 +1,5 @@
 -- How a name is kept.
-use Rattle.std.specs.Prelude.{◌≡◌, ℕ, List, ◌<◌, ◌^◌, refl}
+use Rattle.std.specs.Prelude.{◌≡◌, ℕ, List, ◌<◌, ◌^◌}
 use Rattle.std.proofs.Common.{ap, arith}
 use Rattle.lsys_text.specs.declared.names.Name.TheInside.{Inside}
 use Rattle.lsys_text.specs.Packed.{packed, unpacked, packed-unpacked}

@@ -1,6 +1,6 @@
 -- How a word is kept.
-use Rattle.std.specs.Prelude.{◌≡◌, ℕ, List, ◌<◌, ◌^◌, refl}
-use Rattle.std.proofs.Common.{ap, arith}
+use Rattle.std.specs.Prelude.{◌≡◌, ℕ, List, ◌<◌, ◌^◌}
+use Rattle.std.proofs.Common.{ap}
 use Rattle.lsys_syntax.specs.Pieces.{IsWordText}
 use Rattle.lsys_text.specs.declared.names.Word.TheInside.{Inside}
 use Rattle.lsys_text.specs.Packed.{packed, unpacked, packed-unpacked}

@@ -3,3 +3,5 @@ pub mod Texts
 pub mod InsideName
 pub mod InsideWord
 pub mod InsideShort
+pub mod Tokens
+pub mod Scans

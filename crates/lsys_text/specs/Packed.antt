@@ -1,8 +1,7 @@
 -- A short text kept in a number: its bytes in order, the first one lowest.
 use Rattle.std.specs.Prelude.{◌≡◌, ℕ, zero, suc, Bool, true, false, List, [], ◌∷◌, ◌+◌, ◌*◌, ◌/◌, ◌%◌, ◌^◌, ◌<◌, ◌≤◌, ◌==◌, length, if◌then◌else◌, refl}
-use Rattle.std.proofs.Common.{◌∙◌, ap, ap₂, sym, arith, eqb-true, ne_eqb}
+use Rattle.std.proofs.Common.{ap, sym, arith, eqb-true, ne_eqb}
 use Rattle.std.proofs.Math.Nat.{pow-succ'}
-use Rattle.std.proofs.lemmas.Bool.Decides.{nat_tests}
 
 abbrev pub packed : List ℕ → ℕ
 packed [] = 0

@@ -1,6 +1,6 @@
 -- The texts of names, and which of them a number keeps.
-use Rattle.std.specs.Prelude.{◌≡◌, ℕ, Bool, true, false, List, [], ◌∷◌, ◌==◌, ◌||◌}
-use Rattle.lsys_syntax.specs.Tokens.{NameText, short, long, is_letter}
+use Rattle.std.specs.Prelude.{◌≡◌, ℕ, Bool, true, List, [], ◌∷◌, ◌==◌, ◌||◌}
+use Rattle.lsys_syntax.specs.Tokens.{long, is_letter}
 use Rattle.lsys_syntax.specs.Pieces.{IsNameText}
 
 -- + - & ^ \ / | !

@@ -1,4 +1,4 @@
-use Rattle.std.proofs.Common.{◌≡◌, ◌<◌, ◌-◌, ◌+◌, ◌*◌, ◌^◌, ◌≤◌, length, get_or, arith}
+use Rattle.std.proofs.Common.{◌<◌, ◌-◌, length, arith}
 use Rattle.lsys_text.proofs.Kept.{room_below, packed-step, bound-step}
 use Rattle.lsys_text.proofs.names.packed.Goals as goal
 

@@ -1,4 +1,4 @@
-use Rattle.std.proofs.Common.{◌≡◌, ◌<◌, ◌-◌, ◌+◌, ◌≤◌, ◌++◌, ◌∷◌, [], length, ap, ◌∙◌, arith, refl, length-append}
+use Rattle.std.proofs.Common.{◌≡◌, ◌<◌, ◌-◌, ◌+◌, ◌∷◌, [], length, ap, ◌∙◌, arith, refl, length-append}
 use Rattle.std.specs.Prelude.{◌%◌}
 use Rattle.lsys_text.specs.Packed.{unpacked}
 use Rattle.lsys_text.proofs.Kept.{room_left, unpacked_to-rest, unpacked-next}

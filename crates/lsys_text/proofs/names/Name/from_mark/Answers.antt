@@ -1,5 +1,4 @@
-use Rattle.std.proofs.Common.{◌≡◌, ◌<◌, ◌^◌, ◌∷◌, [], ◌∙◌, ap, sym, subst, arith}
-use Rattle.lsys_text.specs.Packed.{unpacked}
+use Rattle.std.proofs.Common.{sym, subst, arith}
 use Rattle.lsys_text.specs.Texts.{IsNameBytes}
 use Rattle.lsys_text.proofs.Kept.{mark-kept, mark_is_name}
 use Rattle.lsys_text.proofs.names.Name.from_mark.Goals as goal

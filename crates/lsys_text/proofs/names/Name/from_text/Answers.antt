@@ -1,5 +1,4 @@
-use Rattle.std.proofs.Common.{◌≡◌, ◌<◌, ◌≤◌, ◌^◌, ◌∙◌, ap, sym, subst, arith, length, List, ℕ}
-use Rattle.std.proofs.Math.Nat.{pow-le-pow_right}
+use Rattle.std.proofs.Common.{◌<◌, ◌^◌, ◌∙◌, ap, sym, subst, arith, length}
 use Rattle.lsys_text.specs.Packed.{unpacked}
 use Rattle.lsys_text.specs.Texts.{IsNameBytes}
 use Rattle.lsys_text.proofs.Kept.{name-kept, name-short, small_number}

@@ -1,4 +1,4 @@
-use Rattle.std.proofs.Common.{◌≡◌, ◌∙◌, ◌<◌, ◌^◌, ap₂, arith}
+use Rattle.std.proofs.Common.{◌∙◌, ◌<◌, ◌^◌, ap₂, arith}
 use Rattle.std.specs.Str.{bytes_eq}
 use Rattle.lsys_text.proofs.Kept.{same_number}
 use Rattle.lsys_text.proofs.names.NamePartialEq.eq.Goals as goal

@@ -1,4 +1,4 @@
-use Rattle.std.proofs.Common.{◌≡◌, ◌<◌, ◌≤◌, ◌^◌, ◌∙◌, ap, sym, subst, arith, length}
+use Rattle.std.proofs.Common.{◌∙◌, ap, sym, subst, arith}
 use Rattle.lsys_syntax.specs.Pieces.{IsWordText}
 use Rattle.lsys_text.specs.Packed.{unpacked}
 use Rattle.lsys_text.proofs.Kept.{word-kept, word-short}
