@@ -17,7 +17,7 @@ packed-drop text i h = rw (add-one, drop-cons text i 0) (omega arith)
 
 -- bytes that leave room below 2 ^ 128
 pub room_below : (n k : ℕ) → k < 16 → n < 256 ^ k → n * 256 + 255 < 2 ^ 128
-room_below n k h l = 
+room_below n k h l =
     let pos : 0 < 256 = omega arith in
     let below : k ≤ 15 = omega arith in
     let top : 256 ^ k ≤ 256 ^ 15 = pow-le-pow_right pos below in
@@ -103,8 +103,8 @@ name-short (c ∷ d ∷ more) h = omega (arith, h.1.3)
 pub same_number : (m n : ℕ) → m < 2 ^ 128 → n < 2 ^ 128 → (m == n) ≡ bytes_eq (unpacked m) (unpacked n)
 same_number m n h k =
     same_from_decides _ _
-      (Decides-like _ (λ e. ap unpacked e) (λ e. sym (packed-unpacked m h) ∙ ap packed e ∙ packed-unpacked n k) (Decides-eqb m n))
-      (bytes_eq-Decides (unpacked m) (unpacked n))
+    (Decides-like _ (λ e. ap unpacked e) (λ e. sym (packed-unpacked m h) ∙ ap packed e ∙ packed-unpacked n k) (Decides-eqb m n))
+    (bytes_eq-Decides (unpacked m) (unpacked n))
 
 pub small_number : (len n : ℕ) → len ≤ 8 → n < 256 ^ len → n < 2 ^ 64
 small_number len n h l =

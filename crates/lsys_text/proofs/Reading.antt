@@ -87,13 +87,13 @@ step-none m line place n ts e l f =
 pub step-token : (m : Mode) (line : List ℕ) (place n : ℕ) (ts : List Token) (k : Kind) (more : ℕ) → n ≡ prefix_len is_blank (drop place line)
     → first_token m (drop (place + n) line) ≡ Some (k, more)
     → after ts (tokens_from m zero place (drop place line))
-      ≡ after (ts ++ (record { kind = k; start = place + n; stop = place + n + 1 + more } ∷ [])) (tokens_from (next_mode m k) zero (place + n + 1 + more) (drop (place + n + 1 + more) line))
+    ≡ after (ts ++ (record { kind = k; start = place + n; stop = place + n + 1 + more } ∷ [])) (tokens_from (next_mode m k) zero (place + n + 1 + more) (drop (place + n + 1 + more) line))
 step-token m line place n ts k more e f =
     let t : Token = record { kind = k; start = place + n; stop = place + n + 1 + more } in
     let on : place + n + suc more ≡ place + n + 1 + more = omega arith in
     let rest : drop (suc more) (drop (place + n) line) ≡ drop (place + n + 1 + more) line = drop-drop (suc more) (place + n) line ∙ ap (λ i. drop i line) on in
     ap (after ts) (behind_blanks m line place n e ∙ read-token m (place + n) (drop (place + n) line) k more (no_blank_there line place n e) f
-      ∙ ap (λ xs. before_rest t (tokens_from (next_mode m k) zero (place + n + 1 + more) xs)) rest)
+    ∙ ap (λ xs. before_rest t (tokens_from (next_mode m k) zero (place + n + 1 + more) xs)) rest)
     ∙ after-token ts t (tokens_from (next_mode m k) zero (place + n + 1 + more) (drop (place + n + 1 + more) line))
 
 pub same-reading : (ts us : List Token) (m m' : Mode) (p q : ℕ) (line : List ℕ) → ts ≡ us → m ≡ m' → p ≡ q

@@ -17,9 +17,9 @@ name_of (c ∷ d ∷ more) = syntax.long c more
 -- the mark with this byte; any other byte counts as a long word, which no sentence has
 abbrev pub mark_kind : ℕ → syntax.Kind
 mark_kind b =
-  if b == 33 then syntax.Bang else if b == 60 then syntax.Less
-  else if b == 61 then syntax.Assign else if b == 62 then syntax.Greater
-  else unwrap_or (syntax.one_mark b) syntax.LongWord
+    if b == 33 then syntax.Bang else if b == 60 then syntax.Less
+    else if b == 61 then syntax.Assign else if b == 62 then syntax.Greater
+    else unwrap_or (syntax.one_mark b) syntax.LongWord
 
 abbrev pub is_mark : ℕ → Bool
 is_mark b = (b == 33) || (b == 60) || (b == 61) || (b == 62) || is_some (syntax.one_mark b)

@@ -7,10 +7,10 @@ use Rattle.lsys_text.proofs.tokens.Given as goal
 
 abbrev pub invariant-loop-found : goal.invariant-loop-found
 invariant-loop-found l = record {
-    within : l.cursor.place ≤ length l.line;
-    marks : All HasMarkByte l.found.items;
-    read : reading l.line l.found.items l.cursor ≡ syntax.tokens l.line;
-  }
+  within : l.cursor.place ≤ length l.line;
+  marks : All HasMarkByte l.found.items;
+  read : reading l.line l.found.items l.cursor ≡ syntax.tokens l.line;
+}
 
 abbrev pub decreases-loop-found : goal.decreases-loop-found
 decreases-loop-found l = length l.line - l.cursor.place

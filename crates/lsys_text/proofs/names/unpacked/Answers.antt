@@ -7,10 +7,10 @@ use Rattle.lsys_text.proofs.names.unpacked.Goals as goal
 pub loop-rest-init : goal.loop-rest-init
 unfolding unpacked
 loop-rest-init c = record {
-    within = rw c.new-text.ensures (omega arith);
-    bound = rw c.new-text.ensures (omega arith);
-    bytes = rw c.new-text.ensures refl;
-  }
+  within = rw c.new-text.ensures (omega arith);
+  bound = rw c.new-text.ensures (omega arith);
+  bytes = rw c.new-text.ensures refl;
+}
 
 pub loop-rest-preserved : goal.loop-rest-preserved
 loop-rest-preserved c =

@@ -20,8 +20,8 @@ returns-clause-number c =
     let is : take c.digits_len-len.result c.args.text.now ≡ text = sym (front-take is_digit c.args.text.now ∙ ap (λ n. take n c.args.text.now) (sym c.digits_len-len.ensures.len)) in
     let len : c.digits_len-len.result ≡ length text = c.digits_len-len.ensures.len ∙ sym (length-front is_digit c.args.text.now) in
     let kind : kind_of c.match-value_of.kind ≡ number_kind text =
-      elim c.match-value_of.branch [
-        in-Some w ↦
+    elim c.match-value_of.branch [
+      | in-Some w ↦
           let told : (digits_value 10 (take c.digits_len-len.result c.args.text.now) < 2 ^ 64) × (w.in-Some.value ≡ digits_value 10 (take c.digits_len-len.result c.args.text.now)) = w.in-Some.ensures in
           let fits : digits_value 10 text < 2 ^ 64 = rw is at told.0 in
           ap kind_of w.kind-is ∙ ap syntax.Number (told.1 ∙ ap (digits_value 10) is) ∙ sym (number_kind-small text fits)
@@ -29,5 +29,5 @@ returns-clause-number c =
           let told : digits_value 10 (take c.digits_len-len.result c.args.text.now) < 2 ^ 64 → ⊥ = w.in-None.ensures in
           let big : digits_value 10 text < 2 ^ 64 → ⊥ = rw is at told in
           ap kind_of w.kind-is ∙ sym (number_kind-big text big)
-      ] in
+    ] in
     ap₂ (λ (k : Kind) (n : ℕ). (k, n)) kind (ap (λ n. n - 1) len)

@@ -20,20 +20,20 @@ pub returns-in-None-clause-step : goal.returns-in-None-clause-step
 returns-in-None-clause-step c =
     let blanks : c.blanks_len.result ≡ prefix_len is_blank (drop c.args.cursor.place c.args.line.now) = c.blanks_len.ensures.len ∙ ap (prefix_len is_blank) (part-from c.args.cursor.place c.args.line.now) in
     let found : first_token (mode_of c.args.cursor.mode) (drop (c.args.cursor.place + c.blanks_len.result) c.args.line.now) ≡ None =
-      ap (first_token (mode_of c.args.cursor.mode)) (sym (part-from (c.args.cursor.place + c.blanks_len.result) c.args.line.now)) ∙ sym c.token_at.ensures.token ∙ ap (option_map lexeme_of) c.in-None.is in
+    ap (first_token (mode_of c.args.cursor.mode)) (sym (part-from (c.args.cursor.place + c.blanks_len.result) c.args.line.now)) ∙ sym c.token_at.ensures.token ∙ ap (option_map lexeme_of) c.in-None.is in
     step-none (mode_of c.args.cursor.mode) c.args.line.now c.args.cursor.place c.blanks_len.result _ blanks (omega arith) found
 
 pub returns-in_ok-push_lexeme-in-Some-clause-step : goal.returns-in_ok-push_lexeme-in-Some-clause-step
 returns-in_ok-push_lexeme-in-Some-clause-step c =
     let blanks : c.blanks_len.result ≡ prefix_len is_blank (drop c.args.cursor.place c.args.line.now) = c.blanks_len.ensures.len ∙ ap (prefix_len is_blank) (part-from c.args.cursor.place c.args.line.now) in
     let found : first_token (mode_of c.args.cursor.mode) (drop (c.args.cursor.place + c.blanks_len.result) c.args.line.now) ≡ Some (kind_of c.in-Some.lexeme.kind, c.in-Some.lexeme.more) =
-      ap (first_token (mode_of c.args.cursor.mode)) (sym (part-from (c.args.cursor.place + c.blanks_len.result) c.args.line.now)) ∙ sym c.token_at.ensures.token ∙ ap (option_map lexeme_of) c.in-Some.is in
+    ap (first_token (mode_of c.args.cursor.mode)) (sym (part-from (c.args.cursor.place + c.blanks_len.result) c.args.line.now)) ∙ sym c.token_at.ensures.token ∙ ap (option_map lexeme_of) c.in-Some.is in
     let told = c.in_ok-push_lexeme-in-Some.ensures in
     step-token (mode_of c.args.cursor.mode) c.args.line.now c.args.cursor.place c.blanks_len.result _ (kind_of c.in-Some.lexeme.kind) c.in-Some.lexeme.more blanks found
     ∙ same-reading _ _ _ _ _ _ c.args.line.now
-      (sym (ap (map token_of) told.added ∙ map-append token_of c.args.found.now.items _))
-      (sym told.mode)
-      (sym told.place)
+    (sym (ap (map token_of) told.added ∙ map-append token_of c.args.found.now.items _))
+    (sym told.mode)
+    (sym told.place)
 
 pub returns-in_ok-push_lexeme-in-Some-clause-marks : goal.returns-in_ok-push_lexeme-in-Some-clause-marks
 returns-in_ok-push_lexeme-in-Some-clause-marks c =

@@ -12,7 +12,7 @@ pub returns-in_err-value : goal.returns-in_err-value
 returns-in_err-value c =
     let over : c.loop-digit.value * 10 + (get_or c.args.digits.now c.loop-digit.digit-index 0 - 48) < 2 ^ 64 → ⊥ = c.in_err-value.ensures in
     let step : digits_value 10 (take (c.loop-digit.digit-index + 1) c.args.digits.now) ≡ c.loop-digit.value * 10 + (get_or c.args.digits.now c.loop-digit.digit-index 0 - 48) =
-      value-step c.args.digits.now c.loop-digit.digit-index c.loop-digit.value c.requires (omega arith) c.loop-digit.invariant.value in
+    value-step c.args.digits.now c.loop-digit.digit-index c.loop-digit.value c.requires (omega arith) c.loop-digit.invariant.value in
     let below : digits_value 10 (take (c.loop-digit.digit-index + 1) c.args.digits.now) ≤ digits_value 10 c.args.digits.now = digits_value-take-le 10 c.args.digits.now (c.loop-digit.digit-index + 1) (omega arith) in
     rw c.from_residual.ensures (λ fits. over (omega arith))
 

@@ -1,5 +1,5 @@
 use Rattle.std.proofs.Common.{◌≡◌, ◌≤◌, ◌-◌, ℕ, List, length, take, arith, ◌∙◌, sym, ap, ap₂, subst}
-use Rattle.lsys_syntax.specs.Tokens.{Kind, is_letter, is_word_byte, front, word_kind} 
+use Rattle.lsys_syntax.specs.Tokens.{Kind, is_letter, is_word_byte, front, word_kind}
 use Rattle.lsys_syntax.specs.Tokens as syntax
 use Rattle.lsys_syntax.specs.Pieces.{IsWordText}
 use Rattle.lsys_text.specs.Tokens.{kind_of}
@@ -20,8 +20,8 @@ returns-clause-word c =
     let is : take c.word_len-len.result c.args.text.now ≡ text = sym (front-take is_word_byte c.args.text.now ∙ ap (λ n. take n c.args.text.now) (sym c.word_len-len.ensures.len)) in
     let len : c.word_len-len.result ≡ length text = c.word_len-len.ensures.len ∙ sym (length-front is_word_byte c.args.text.now) in
     let kind : kind_of c.if-len-le16.kind ≡ word_kind text =
-      elim c.if-len-le16.branch [
-        then-len-le16 w ↦ ap kind_of w.kind-is ∙ ap syntax.Word (w.from_text.ensures ∙ is) ∙ sym (word_kind-short text (omega (arith, w.if-len-le16.true)))
+    elim c.if-len-le16.branch [
+      | then-len-le16 w ↦ ap kind_of w.kind-is ∙ ap syntax.Word (w.from_text.ensures ∙ is) ∙ sym (word_kind-short text (omega (arith, w.if-len-le16.true)))
       | else-len-le16 w ↦ ap kind_of w.kind-is ∙ sym (word_kind-long text (omega (arith, w.if-len-le16.false)))
-      ] in
+    ] in
     ap₂ (λ (k : Kind) (n : ℕ). (k, n)) kind (ap (λ n. n - 1) len)

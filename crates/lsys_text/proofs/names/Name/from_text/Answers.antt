@@ -9,9 +9,9 @@ overflow_cast-result c = let small : c.packed.result < 2 ^ 64 = small_number (le
 
 pub invariant_of-result : goal.invariant_of-result
 invariant_of-result c = record {
-    fits = small_number (length c.args.text.now) c.packed.result (name-short c.args.text.now c.requires) c.packed.ensures.bound;
-    text = subst IsNameBytes (sym (ap unpacked c.packed.ensures.number ∙ name-kept c.args.text.now c.requires)) c.requires;
-  }
+  fits = small_number (length c.args.text.now) c.packed.result (name-short c.args.text.now c.requires) c.packed.ensures.bound;
+  text = subst IsNameBytes (sym (ap unpacked c.packed.ensures.number ∙ name-kept c.args.text.now c.requires)) c.requires;
+}
 
 pub returns : goal.returns
 returns c = ap unpacked c.packed.ensures.number ∙ name-kept c.args.text.now c.requires

@@ -9,9 +9,9 @@ packed-requires c = word-short c.args.text.now c.requires
 
 pub invariant_of-result : goal.invariant_of-result
 invariant_of-result c = record {
-    fits = omega arith;
-    text = subst IsWordText (sym (ap unpacked c.packed.ensures.number ∙ word-kept c.args.text.now c.requires)) c.requires;
-  }
+  fits = omega arith;
+  text = subst IsWordText (sym (ap unpacked c.packed.ensures.number ∙ word-kept c.args.text.now c.requires)) c.requires;
+}
 
 pub returns : goal.returns
 returns c = ap unpacked c.packed.ensures.number ∙ word-kept c.args.text.now c.requires
