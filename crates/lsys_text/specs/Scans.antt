@@ -1,0 +1,56 @@
+-- What the functions that look for one token answer.
+use Rattle.std.specs.Prelude.{◌≡◌, ℕ, zero, ◌++◌, drop, map, Result, Ok, Err, Bool, false, List, [], ◌∷◌, Option, None, Some}
+use Rattle.lsys_syntax.specs.Tokens as syntax
+use Rattle.lsys_text.specs.declared.scan.Mode.{Mode}
+use Rattle.lsys_text.specs.declared.scan.Mode.TheVariants.{First, Words, UntilColon, Modules}
+use Rattle.lsys_text.specs.declared.scan.Lexeme.{Lexeme}
+use Rattle.lsys_text.specs.declared.scan.Cursor.{Cursor}
+use Rattle.lsys_text.specs.declared.token_kind.Token.{Token}
+use Rattle.lsys_text.specs.declared.refusals.TextRefusal.{TextRefusal}
+use Rattle.lsys_text.specs.declared.refusals.TextRefusal.TheVariants.{Byte, Memory}
+use Rattle.lsys_text.specs.Tokens.{kind_of, token_of}
+
+abbrev pub mode_of : Mode → syntax.Mode
+mode_of First = syntax.First
+mode_of Words = syntax.Words
+mode_of UntilColon = syntax.UntilColon
+mode_of Modules = syntax.Modules
+
+abbrev pub lexeme_of : Lexeme → syntax.Kind × ℕ
+lexeme_of x = (kind_of x.kind, x.more)
+
+-- a first byte that passes
+abbrev pub begins_with : (ℕ → Bool) → List ℕ → Bool
+begins_with p [] = false
+begins_with p (c ∷ bytes) = p c
+
+-- the longest token at the front of a text
+abbrev pub first_token : syntax.Mode → List ℕ → Option (syntax.Kind × ℕ)
+first_token m [] = None
+first_token m (c ∷ bytes) = syntax.token_at m c bytes
+
+-- the longest name at the front of a text that begins with a letter
+abbrev pub first_name : List ℕ → syntax.Kind × ℕ
+first_name [] = (syntax.LongWord, 0)
+first_name (c ∷ bytes) = syntax.name_with c (syntax.name_tail bytes)
+
+-- the longest mark at the front of a text
+abbrev pub first_mark : List ℕ → Option (syntax.Kind × ℕ)
+first_mark [] = None
+first_mark (c ∷ bytes) = syntax.mark_at c bytes
+
+-- a line's tokens, of which the first ones are given
+abbrev pub after : List syntax.Token → Result (List syntax.Token) ℕ → Result (List syntax.Token) ℕ
+after ts (Ok us) = Ok (ts ++ us)
+after ts (Err column) = Err column
+
+-- the tokens found so far, and those of the rest of the line
+abbrev pub reading : List ℕ → List Token → Cursor → Result (List syntax.Token) ℕ
+reading line found c = after (map token_of found) (syntax.tokens_from (mode_of c.mode) zero c.place (drop c.place line))
+
+-- One step from a cursor on: nothing is left, or one more token is found, or no token begins at a byte.
+abbrev pub IsStep : List ℕ → List Token → Cursor → List Token → Result (Option Cursor) TextRefusal → Type 0
+IsStep line old c new (Ok None) = reading line old c ≡ Ok (map token_of new)
+IsStep line old c new (Ok (Some next)) = reading line old c ≡ reading line new next
+IsStep line old c new (Err (Byte column)) = reading line old c ≡ Err column
+IsStep line old c new (Err Memory) = Unit {0}

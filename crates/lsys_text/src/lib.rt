@@ -1,0 +1,248 @@
+//! The tokens of a line: names and words kept in numbers, and the place of each token.
+#![tactic(auto)]
+
+ghost use Rattle.std.specs.Prelude.{◌≡◌, ◌≤◌, length, IfOk, All};
+ghost use Rattle.lsys_text.specs.Tokens.{AreTokens, HasMarkByte};
+
+mod names;
+mod refusals;
+mod scan;
+mod short_text;
+mod token_kind;
+
+pub use names::{Name, Word};
+pub use refusals::{PlaceRefusal, TextRefusal};
+use scan::{Cursor, push_token};
+pub use short_text::ShortText;
+use std::alloc::Global;
+pub use token_kind::{Token, TokenKind};
+
+/// The tokens of a line, in order.
+///
+/// The line begins in the mode of words. It is read as names behind a first word `axiom` or `ignore`,
+/// and behind the first `:` where the first word is `production` or `hom`.
+///
+/// # Errors
+///
+/// `Byte` has the column of the first byte that is in no token, and `Memory` is want of memory.
+pub fn tokens(alloc: Global, line: &[u8]) -> Result<Vec<Token>, TextRefusal>
+    requires { length line.now ≤ 65536 }
+    ensures tokens { AreTokens line.now result }
+    ensures marks { IfOk result (λ found. All HasMarkByte found.items) }
+{
+    let mut found = Vec::new(alloc);
+    let mut cursor = Cursor::new();
+    while let Some(behind) = push_token(&mut found, line, cursor)? {
+        cursor = behind;
+    }
+    Ok(found)
+}
+
+#[cfg(test)]
+mod tests {
+    use super::*;
+    use std::alloc::AllocError;
+    use std::process::Abort;
+    use std::test::Fail;
+
+    // Each token's kind and place, or the refusal. A word's, a name's and a mark's bytes are those of its place.
+    fn outline(rt: &impl Abort, alloc: Global, line: &[u8]) -> Result<String, AllocError> {
+        assert!(rt; line.len() <= 65536);
+        match tokens(alloc, line) {
+            Err(TextRefusal::Byte { column }) => format!(in alloc; "byte {column}"),
+            Err(TextRefusal::Memory) => Err(AllocError),
+            Ok(found) => {
+                let mut text = String::new(alloc);
+                for token in found.as_slice() {
+                    let start = token.start as usize;
+                    let end = token.end as usize;
+                    assert!(rt; start < end && end <= line.len());
+                    let shown = shown_kind(rt, alloc, token.kind, &line[start..end])?;
+                    text.push_str(format!(in alloc; "{shown} {start}-{end}, ")?.as_str())?;
+                }
+                Ok(text)
+            }
+        }
+    }
+
+    fn shown_kind(
+        rt: &impl Abort,
+        alloc: Global,
+        kind: TokenKind,
+        text: &[u8],
+    ) -> Result<String, AllocError> {
+        match kind {
+            TokenKind::Word(word) => {
+                assert_eq!(rt; word.text().as_bytes(), text);
+                format!(in alloc; "Word")
+            }
+            TokenKind::Name(name) => {
+                assert_eq!(rt; name.text().as_bytes(), text);
+                format!(in alloc; "Name")
+            }
+            TokenKind::Mark(byte) => {
+                assert_eq!(rt; [byte].as_slice(), text);
+                format!(in alloc; "Mark")
+            }
+            TokenKind::Number(number) => format!(in alloc; "Number({number})"),
+            TokenKind::LongWord => format!(in alloc; "LongWord"),
+            TokenKind::BigNumber => format!(in alloc; "BigNumber"),
+            TokenKind::Arrow => format!(in alloc; "Arrow"),
+            TokenKind::Equal => format!(in alloc; "Equal"),
+            TokenKind::Unequal => format!(in alloc; "Unequal"),
+            TokenKind::AtMost => format!(in alloc; "AtMost"),
+            TokenKind::AtLeast => format!(in alloc; "AtLeast"),
+        }
+    }
+
+    #[test]
+    fn names_stand_behind_axiom_ignore_and_the_first_colon_of_a_rule(
+        rt: HostRuntime,
+    ) -> Result<(), Fail> {
+        let rows: [(&[u8], &str); 13] = [
+            (
+                b"production s: F_b < F_a(x)!=>F:a_1",
+                "Word 0-10, Word 11-12, Mark 12-13, Name 14-17, Mark 18-19, Name 20-23, Mark 23-24, Name 24-25, Mark 25-26, Unequal 26-28, Mark 28-29, Name 29-30, Mark 30-31, Name 31-34, ",
+            ),
+            (
+                b"hom h:A_b:c_d => [+B]%",
+                "Word 0-3, Word 4-5, Mark 5-6, Name 6-9, Mark 9-10, Name 10-13, Arrow 14-16, Mark 17-18, Mark 18-19, Name 19-20, Mark 20-21, Mark 21-22, ",
+            ),
+            (
+                b"axiom: a_b c_def",
+                "Word 0-5, Mark 5-6, Name 7-10, Name 11-16, ",
+            ),
+            (
+                b"ignore +-&^\\/|!F_b",
+                "Word 0-6, Mark 7-8, Mark 8-9, Mark 9-10, Mark 10-11, Mark 11-12, Mark 12-13, Mark 13-14, Mark 14-15, Name 15-18, ",
+            ),
+            (b"ignored F_b", "Word 0-7, Word 8-11, "),
+            (b"say axiom F_b", "Word 0-3, Word 4-9, Word 10-13, "),
+            (b"1 axiom a_bc", "Number(1) 0-1, Word 2-7, Word 8-12, "),
+            (
+                b"axiom 12ab_34",
+                "Word 0-5, Number(12) 6-8, Name 8-9, Name 9-13, ",
+            ),
+            (b"hom", "Word 0-3, "),
+            (b"hom : a_b", "Word 0-3, Mark 4-5, Name 6-9, "),
+            (
+                b"production p q r",
+                "Word 0-10, Word 11-12, Word 13-14, Word 15-16, ",
+            ),
+            (b"axiom A_1234567", "Word 0-5, Name 6-14, Number(7) 14-15, "),
+            (
+                b"axiom\tF(-1,2)",
+                "Word 0-5, Name 6-7, Mark 7-8, Mark 8-9, Number(1) 9-10, Mark 10-11, Number(2) 11-12, Mark 12-13, ",
+            ),
+        ];
+        for (line, want) in rows {
+            let text = outline(&rt, rt.alloc(), line)?;
+            assert_eq!(rt; text.as_str(), want);
+        }
+        Ok(())
+    }
+
+    #[test]
+    fn the_longest_token_is_taken(rt: HostRuntime) -> Result<(), Fail> {
+        let rows: [(&[u8], &str); 9] = [
+            (b"", ""),
+            (b" \t ", ""),
+            (
+                b"abcdefghijklmnop abcdefghijklmnopq a_b",
+                "Word 0-16, LongWord 17-34, Word 35-38, ",
+            ),
+            (
+                b"18446744073709551615 18446744073709551616 00000000000000000000000000018446744073709551615 007 0",
+                "Number(18446744073709551615) 0-20, BigNumber 21-41, Number(18446744073709551615) 42-89, Number(7) 90-93, Number(0) 94-95, ",
+            ),
+            (
+                b"=> = > == === ==> != ! = <= < = >= !=>",
+                "Arrow 0-2, Mark 3-4, Mark 5-6, Equal 7-9, Equal 10-12, Mark 12-13, Equal 14-16, Mark 16-17, Unequal 18-20, Mark 21-22, Mark 23-24, AtMost 25-27, Mark 28-29, Mark 30-31, AtLeast 32-34, Unequal 35-37, Mark 37-38, ",
+            ),
+            (
+                b"( ) [ ] , : @ + - * / \\ % & | ^ ! < > =",
+                "Mark 0-1, Mark 2-3, Mark 4-5, Mark 6-7, Mark 8-9, Mark 10-11, Mark 12-13, Mark 14-15, Mark 16-17, Mark 18-19, Mark 20-21, Mark 22-23, Mark 24-25, Mark 26-27, Mark 28-29, Mark 30-31, Mark 32-33, Mark 34-35, Mark 36-37, Mark 38-39, ",
+            ),
+            (b"a\tb", "Word 0-1, Word 2-3, "),
+            (b"12ab34", "Number(12) 0-2, Word 2-6, "),
+            (b"&&||", "Mark 0-1, Mark 1-2, Mark 2-3, Mark 3-4, "),
+        ];
+        for (line, want) in rows {
+            let text = outline(&rt, rt.alloc(), line)?;
+            assert_eq!(rt; text.as_str(), want);
+        }
+        Ok(())
+    }
+
+    #[test]
+    fn the_first_byte_in_no_token_is_refused(rt: HostRuntime) -> Result<(), Fail> {
+        let rows: [(&[u8], &str); 12] = [
+            (b"axiom F_aF_b", "byte 11"),
+            (b"axiom A$", "byte 8"),
+            (b"axiom F_abcdefg F_ F", "byte 18"),
+            (b"F_b _", "byte 5"),
+            (b"quit\r", "byte 5"),
+            (b"axiom \xc3\xa9", "byte 7"),
+            (b"x\x00", "byte 2"),
+            (b"_a", "byte 1"),
+            (b"Ax_ 1_", "byte 6"),
+            (b"axiom A_ ", "byte 8"),
+            (b"depth 64;", "byte 9"),
+            (b"axiom a_b_c", "byte 10"),
+        ];
+        for (line, want) in rows {
+            let text = outline(&rt, rt.alloc(), line)?;
+            assert_eq!(rt; text.as_str(), want);
+        }
+        Ok(())
+    }
+
+    #[test]
+    fn the_longest_line_is_read(rt: HostRuntime) -> Result<(), Fail> {
+        let rows: [(u8, &str); 3] = [
+            (b'a', "LongWord 0-65536, "),
+            (b'9', "BigNumber 0-65536, "),
+            (b'0', "Number(0) 0-65536, "),
+        ];
+        for (byte, want) in rows {
+            let line = vec![in rt.alloc(); byte; 65536]?;
+            let text = outline(&rt, rt.alloc(), line.as_slice())?;
+            assert_eq!(rt; text.as_str(), want);
+        }
+        let line = vec![in rt.alloc(); b'='; 65536]?;
+        assert_eq!(rt; line.len(), 65536);
+        let found = tokens(rt.alloc(), line.as_slice())?;
+        assert_eq!(rt; found.len(), 32768);
+        Ok(())
+    }
+
+    #[test]
+    fn names_and_words_keep_their_texts(rt: HostRuntime) {
+        assert!(rt; Name::from_mark(b'+') == Name::from_text(b"+"));
+        assert!(rt; Name::from_text(b"F") != Name::from_text(b"F_F"));
+        assert!(rt; Name::from_text(b"F_a") != Name::from_text(b"F_b"));
+        assert_eq!(rt;
+            Name::from_text(b"A_bcdef6").text().as_bytes(),
+            b"A_bcdef6".as_slice()
+        );
+        assert!(rt; Word::from_text(b"main") == Word::from_text(b"main"));
+        assert!(rt; Word::from_text(b"main") != Word::from_text(b"mail"));
+        assert_eq!(rt;
+            Word::from_text(b"a123456789_bcdef").text().as_bytes(),
+            b"a123456789_bcdef".as_slice()
+        );
+    }
+
+    #[test]
+    fn refusals_are_told(rt: HostRuntime) -> Result<(), Fail> {
+        let byte = format!(in rt.alloc(); "{}", TextRefusal::Byte { column: 8 })?;
+        assert_eq!(rt; byte.as_str(), "column 8 is in no token");
+        let memory = format!(in rt.alloc(); "{}", TextRefusal::Memory)?;
+        assert_eq!(rt; memory.as_str(), "out of memory");
+        let token = format!(in rt.alloc(); "{}", PlaceRefusal::Token { place: 3 })?;
+        assert_eq!(rt; token.as_str(), "no sentence goes on with token 3");
+        let deep = format!(in rt.alloc(); "{}", PlaceRefusal::Deep { place: 40 })?;
+        assert_eq!(rt; deep.as_str(), "token 40 nests too deep");
+        Ok(())
+    }
+}
