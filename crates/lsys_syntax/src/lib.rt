@@ -7,7 +7,7 @@ ghost use Rattle.std.specs.Prelude.{◌≡◌, List, ℕ, ℤ, zero, Ok, [], ◌
 ghost use Rattle.lsys_syntax.specs.Lines.{lines_of};
 ghost use Rattle.lsys_syntax.specs.Tokens.{tokens, tokens_from, First, Modules};
 ghost use Rattle.lsys_syntax.specs.Pieces.{Piece, text_of, placed, Reads, anything};
-ghost use Rattle.lsys_syntax.specs.Strings.{Symbol, AreSymbols, string_text, string_pieces, signed_pieces};
+ghost use Rattle.lsys_syntax.specs.Strings.{Symbol, AreSymbols, string_text, string_pieces, value_pieces};
 
 /// A law of lines: the lines of a script that begins with LF are an empty line and the lines of the rest.
 pub fn law_of_empty_first_line()
@@ -20,6 +20,6 @@ pub fn law_of_empty_first_line()
 /// modules, wherever it stands in a line.
 pub fn law_of_printed_tokens()
     ensures pieces { (pieces : List Piece) → Reads First anything pieces → tokens (text_of pieces) ≡ Ok (placed 0 pieces) }
-    ensures strings { (symbols : List (Symbol ℤ)) (place : ℕ) → AreSymbols symbols → tokens_from Modules zero place (string_text symbols) ≡ Ok (placed place (string_pieces signed_pieces symbols)) }
+    ensures strings { (symbols : List (Symbol ℤ)) (place : ℕ) → AreSymbols symbols → tokens_from Modules zero place (string_text symbols) ≡ Ok (placed place (string_pieces value_pieces symbols)) }
 {
 }
