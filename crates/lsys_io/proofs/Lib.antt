@@ -1,1 +1,4 @@
 pub mod Known
+pub mod Feeds
+pub mod Absorbed
+pub mod SoFar

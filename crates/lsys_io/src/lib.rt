@@ -11,10 +11,16 @@ ghost use Rattle.std.specs.Io.KnownBytes.{Consumes, Appends, Keeps, IsAtEnd};
 ghost use Rattle.lsys_io.specs.Causes.{Rose};
 ghost use Rattle.lsys_io.specs.Writes.{AppendsFront};
 
+mod buffered;
+mod gathering;
+mod lines;
 mod memory;
 mod never;
+mod pieces;
 mod standard;
 
+pub use buffered::Buffered;
+pub use lines::{LineRead, LineRefusal};
 pub use memory::{MemorySink, MemorySource};
 pub use never::{NeverSink, NeverSource};
 pub use standard::{StdSink, StdSource};
