@@ -2,3 +2,4 @@ pub mod Known
 pub mod Feeds
 pub mod Absorbed
 pub mod SoFar
+pub mod Taken

@@ -3,6 +3,9 @@ use Rattle.std.specs.Prelude.{◌≡◌, ℕ, ◌+◌, ◌<◌, ◌≤◌, List,
 use Rattle.lsys_io.specs.declared.gathering.Gathered.{Gathered}
 use Rattle.lsys_io.specs.declared.lines.LineRefusal.{LineRefusal}
 use Rattle.lsys_io.specs.declared.lines.LineRefusal.TheVariants.{ReadFault, TooLong}
+use Rattle.lsys_io.specs.declared.lines.LineRead.{LineRead}
+use Rattle.lsys_io.specs.declared.lines.LineRead.TheVariants.{Line, Long, End}
+use Rattle.lsys_syntax.specs.Lines.{without_cr}
 use Rattle.lsys_io.specs.Feeds.{has_lf}
 use Rattle.lsys_io.specs.Reading.{line_limit}
 
@@ -41,3 +44,9 @@ Stops bytes room TooLong = (room < length bytes) × (has_lf (take room bytes) �
 abbrev pub IfFault : LineRefusal → Type 0 → Type 0 → Type 0
 IfFault ReadFault P Q = P
 IfFault TooLong P Q = Q
+
+-- What is told of a line of `count` bytes, which were kept where they are not too many.
+abbrev pub Finishes : LineRead → ℕ → List ℕ → List ℕ → Type 0
+Finishes Line count kept told = (count ≤ line_limit) × (told ≡ without_cr kept)
+Finishes Long count kept told = (line_limit < count) × (told ≡ [])
+Finishes End count kept told = ⊥

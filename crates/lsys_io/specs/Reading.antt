@@ -32,6 +32,11 @@ with_end Going line = line ++ 10 ∷ []
 with_end Ended line = line
 with_end (Refused refusal) line = line ++ 10 ∷ []
 
+abbrev pub IsNotRefused : Stage → Type 0
+IsNotRefused Going = Unit {0}
+IsNotRefused Ended = Unit {0}
+IsNotRefused (Refused refusal) = ⊥
+
 -- known bytes have this first line, and behind it come the others
 abbrev pub HasFirstLine : Option (List ℕ) → Option (List ℕ) → List ℕ → Type 0
 HasFirstLine None after line = Unit {0}
@@ -44,6 +49,7 @@ pub record TakesLine (old new : Reading) (left_old left_new : Option (List ℕ))
   pub bytes : Consumes (remaining old left_old) (remaining new left_new) (with_end new.stage line)
   pub first : HasFirstLine (remaining old left_old) (remaining new left_new) line
   pub counted : new.taken ≡ old.taken + length (with_end new.stage line)
+  pub goes_on : IsNotRefused new.stage
 
 -- The bytes go past the script's limit, and no line ends before it.
 pub record PassesLimit (taken : ℕ) (bytes : List ℕ) : Type 0 where

@@ -1,13 +1,14 @@
 // The bytes of one line, gathered piece after piece.
 ghost use Rattle.std.specs.Prelude.{◌≡◌, ℕ, ◌+◌, ◌-◌, ◌^◌, List, [], ◌++◌, ◌<◌, ◌≤◌, ◌≢◌, slice_index, length, take, true, false, IfOk, IfErr, OnOk, IfSome, IfNone, vec_len, vec_capacity};
 ghost use Rattle.std.specs.Io.KnownBytes.{Consumes, IsAtEnd};
+ghost use Rattle.lsys_syntax.specs.Lines.{without_cr};
 ghost use Rattle.lsys_io.specs.Causes.{Rose};
 ghost use Rattle.lsys_io.specs.Feeds.{has_lf};
 ghost use Rattle.lsys_io.specs.Reading.{line_limit};
-ghost use Rattle.lsys_io.specs.Gathering.{Absorbs, Gathers, Stops, IfFault};
+ghost use Rattle.lsys_io.specs.Gathering.{Absorbs, Gathers, Stops, IfFault, Finishes};
 
 use super::{Failed, Source};
-use crate::lines::LineRefusal;
+use crate::lines::{LineRead, LineRefusal};
 use crate::pieces::Pieces;
 
 /// The most bytes of a line without its LF. Its CR counts.
@@ -116,4 +117,33 @@ pub(crate) fn gather<S: Source>(
             Some(gathered) => count = gathered.count,
         }
     }
+}
+
+/// Drops one CR at the line's end.
+#[tactic(auto, using(crate::proofs::Taken::line_ends))]
+fn drop_cr(line: &mut Vec<u8>)
+    ensures dropped { line.new.items ≡ without_cr line.old.items }
+    ensures capacity { vec_capacity line.new ≡ vec_capacity line.old }
+{
+    let length = line.len();
+    if length == 0 {
+        return;
+    }
+    if line[length - 1] == b'\r' {
+        line.truncate(length - 1);
+    }
+}
+
+/// Ends a line of `count` bytes: drops its CR, or the line where it is too long.
+pub(crate) fn finish(line: &mut Vec<u8>, count: usize) -> LineRead
+    requires { line_limit ≤ vec_capacity line.old }
+    ensures finishes { Finishes result count line.old.items line.new.items }
+    ensures capacity { line_limit ≤ vec_capacity line.new }
+{
+    if count > LINE_LIMIT {
+        line.clear();
+        return LineRead::Long;
+    }
+    drop_cr(line);
+    LineRead::Line
 }

@@ -20,7 +20,7 @@ mod pieces;
 mod standard;
 
 pub use buffered::Buffered;
-pub use lines::{LineRead, LineRefusal};
+pub use lines::{LineRead, LineReader, LineRefusal};
 pub use memory::{MemorySink, MemorySource};
 pub use never::{NeverSink, NeverSource};
 pub use standard::{StdSink, StdSource};
