@@ -1,11 +1,13 @@
 // Ends over std's reader and writer: the trusted edge.
-ghost use Rattle.std.specs.Prelude.{◌≡◌};
+ghost use Rattle.std.specs.Prelude.{◌≡◌, ℕ, ◌<◌, ◌≤◌, length, IfOk, OnOk, OnErr};
+ghost use Rattle.lsys_io.specs.Causes.{counted};
 
 use super::{Failed, Sink, Source};
 use std::io::{Read, Write};
 use std::marker::Model;
 
-/// A source over a reader of std. Contracts see its count of faults. It doesn't tell what is left.
+/// A source over a reader of std. Contracts see its count of faults, which each error raises. It doesn't tell what is
+/// left.
 #[derive(Drop)]
 pub struct StdSource<R: Read> {
     reader: R,
@@ -36,7 +38,13 @@ impl<R: Read> Source for StdSource<R> {
 
     ghost faults = { λ count. count };
 
-    fn read(&mut self, into: &mut [u8]) -> Result<usize, Failed> {
+    fn read(&mut self, into: &mut [u8]) -> Result<usize, Failed>
+        requires { 0 < length into.old }
+        ensures bound { IfOk result (λ n. n ≤ length into.new) }
+        ensures never_falls { self.old ≤ self.new }
+        ensures fault_counted { OnErr result (self.new ≡ counted self.old) }
+        ensures ok_leaves_count { OnOk result (self.new ≡ self.old) }
+    {
         match self.reader.read(into) {
             Ok(count) => Ok(count),
             Err(_) => {
@@ -79,7 +87,14 @@ impl<W: Write> Sink for StdSink<W> {
 
     ghost faults = { λ count. count };
 
-    fn write(&mut self, piece: &[u8]) -> Result<usize, Failed> {
+    fn write(&mut self, piece: &[u8]) -> Result<usize, Failed>
+        requires { 0 < length piece.now }
+        ensures bound { IfOk result (λ n. n ≤ length piece.now) }
+        ensures some { IfOk result (λ n. 0 < n) }
+        ensures never_falls { self.old ≤ self.new }
+        ensures fault_counted { OnErr result (self.new ≡ counted self.old) }
+        ensures ok_leaves_count { OnOk result (self.new ≡ self.old) }
+    {
         match self.writer.write(piece) {
             Ok(count) if count > 0 => match self.writer.flush() {
                 Ok(()) => Ok(count),
