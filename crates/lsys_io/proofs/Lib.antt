@@ -1,0 +1,5 @@
+pub mod Known
+pub mod Feeds
+pub mod Absorbed
+pub mod SoFar
+pub mod Taken

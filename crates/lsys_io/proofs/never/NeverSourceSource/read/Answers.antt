@@ -1,0 +1,10 @@
+use Rattle.std.proofs.Common.{rules}
+use Rattle.lsys_io.proofs.Known.{reads_part}
+use Rattle.lsys_io.proofs.never.NeverSourceSource.read.Goals as goal
+
+pub returns-clause-gives : goal.returns-clause-gives
+returns-clause-gives c =
+    rw (← c.self.view_is) (
+    reads_part c.self.inside.bytes.items c.args.into.now c.copy_from_slice.new.self c.self.inside.at c.min-count.result
+    (search rules) (search rules)
+    )

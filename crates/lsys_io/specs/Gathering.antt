@@ -1,0 +1,52 @@
+-- How the bytes of one line are gathered, piece after piece.
+use Rattle.std.specs.Prelude.{◌≡◌, ℕ, ◌+◌, ◌<◌, ◌≤◌, List, [], ◌∷◌, ◌++◌, length, take, Bool, true, false}
+use Rattle.lsys_io.specs.declared.gathering.Gathered.{Gathered}
+use Rattle.lsys_io.specs.declared.lines.LineRefusal.{LineRefusal}
+use Rattle.lsys_io.specs.declared.lines.LineRefusal.TheVariants.{ReadFault, TooLong}
+use Rattle.lsys_io.specs.declared.lines.LineRead.{LineRead}
+use Rattle.lsys_io.specs.declared.lines.LineRead.TheVariants.{Line, Long, End}
+use Rattle.lsys_syntax.specs.Lines.{without_cr}
+use Rattle.lsys_io.specs.Feeds.{has_lf}
+use Rattle.lsys_io.specs.Reading.{line_limit}
+
+-- the LF of a whole line
+abbrev pub feed : Bool → List ℕ
+feed true = 10 ∷ []
+feed false = []
+
+-- Bytes were split into a part of the line, its LF if they have one, and what stands behind it.
+pub record Splits (bytes part after : List ℕ) (whole : Bool) : Type 0 where
+  pub no_lf : has_lf part ≡ false
+  pub split : bytes ≡ part ++ (feed whole ++ after)
+  pub rest : whole ≡ false → after ≡ []
+
+-- The bytes of a piece went to the line, of which `count` bytes were gathered before and `room` may be.
+pub record Absorbs (piece after kept_old kept_new : List ℕ) (count room : ℕ) (gathered : Gathered) : Type 0 where
+  pub part : List ℕ
+  pub splits : Splits piece part after gathered.whole
+  pub counted : gathered.count ≡ count + length part
+  pub fits : gathered.count + length (feed gathered.whole) ≤ room
+  pub kept : gathered.count ≤ line_limit → kept_new ≡ kept_old ++ part
+
+-- The line at the front of the bytes was gathered.
+pub record Gathers (bytes after told : List ℕ) (room : ℕ) (gathered : Gathered) : Type 0 where
+  pub line : List ℕ
+  pub splits : Splits bytes line after gathered.whole
+  pub counted : gathered.count ≡ length line
+  pub fits : gathered.count + length (feed gathered.whole) ≤ room
+  pub kept : gathered.count ≤ line_limit → told ≡ line
+
+-- The bytes have no line, and which refusal that is.
+abbrev pub Stops : List ℕ → ℕ → LineRefusal → Type 0
+Stops bytes room ReadFault = (has_lf bytes ≡ false) × (length bytes ≤ room)
+Stops bytes room TooLong = (room < length bytes) × (has_lf (take room bytes) ≡ false)
+
+abbrev pub IfFault : LineRefusal → Type 0 → Type 0 → Type 0
+IfFault ReadFault P Q = P
+IfFault TooLong P Q = Q
+
+-- What is told of a line of `count` bytes, which were kept where they are not too many.
+abbrev pub Finishes : LineRead → ℕ → List ℕ → List ℕ → Type 0
+Finishes Line count kept told = (count ≤ line_limit) × (told ≡ without_cr kept)
+Finishes Long count kept told = (line_limit < count) × (told ≡ [])
+Finishes End count kept told = ⊥

@@ -1,0 +1,136 @@
+// Lines from a source.
+ghost use Rattle.std.specs.Prelude.{◌≡◌, ℕ, List, [], ◌<◌, ◌≤◌, length, true, Some, IfOk, IfSome};
+ghost use Rattle.std.specs.Io.KnownBytes.{IsAtEnd};
+ghost use Rattle.lsys_syntax.specs.Lines.{without_cr};
+ghost use Rattle.lsys_io.specs.Causes.{Rose};
+ghost use Rattle.lsys_io.specs.Feeds.{has_lf};
+ghost use Rattle.lsys_io.specs.Reading.{remaining, TakesLine, PassesLimit, LeavesNoLine, line_limit, script_limit};
+ghost use Rattle.lsys_io.specs.LineAnswers.{last_answer, OnLine, OnLong, OnTaken, OnEnd, OnReadFault, OnTooLong, OnNoFault, OnNoLine, OnLast};
+
+use super::Source;
+use crate::gathering::{LINE_LIMIT, finish, gather};
+use crate::pieces::Pieces;
+use std::alloc::{AllocError, Global};
+use std::marker::Model;
+
+/// The most bytes that the lines of a script take, each LF counted.
+const SCRIPT_LIMIT: usize = 16_777_216;
+
+/// What a reader of lines found.
+#[derive(Clone, Copy, Debug, PartialEq, Eq)]
+pub enum LineRead {
+    /// A line of at most 65,536 bytes, which `line` tells.
+    Line,
+    /// A line with a 65,537th byte, which was read to its end and dropped.
+    Long,
+    /// The source ended, and no byte of a line is left.
+    End,
+}
+
+/// Why a reader of lines stopped.
+#[derive(Clone, Copy, Debug, PartialEq, Eq)]
+pub enum LineRefusal {
+    /// The source failed.
+    ReadFault,
+    /// The script has a 16,777,217th byte.
+    TooLong,
+}
+
+/// Where a reader stands.
+#[derive(Clone, Copy)]
+pub enum Stage {
+    Going,
+    Ended,
+    Refused(LineRefusal),
+}
+
+/// Reads a script line by line. Contracts see the bytes that were read and are in no line yet, how many bytes the lines
+/// took, the line last told, and the stage. Only `new` takes memory.
+#[derive(Drop)]
+pub struct LineReader {
+    pieces: Pieces,
+    line: Vec<u8>,
+    taken: usize,
+    stage: Stage,
+}
+
+impl Model for LineReader {
+    ghost use Rattle.std.specs.Prelude.{◌≤◌, vec_capacity};
+    ghost use Rattle.lsys_io.specs.Reading.{Reading, line_limit, script_limit};
+
+    ghost Value = { Reading };
+
+    ghost view = { λ r. record { held = r.pieces; taken = r.taken; line = r.line.items; stage = r.stage } };
+
+    ghost invariant = { λ r. (line_limit ≤ vec_capacity r.line) × (r.taken ≤ script_limit) };
+}
+
+impl LineReader {
+    /// A reader at the start of a script, with all its buffers.
+    pub fn new(alloc: Global) -> Result<LineReader, AllocError>
+        ensures { IfOk result (λ reader. reader ≡ record { held = []; taken = 0; line = []; stage = Stage.Going }) }
+    {
+        Ok(LineReader {
+            pieces: Pieces::new(alloc)?,
+            line: Vec::with_capacity(alloc, LINE_LIMIT)?,
+            taken: 0,
+            stage: Stage::Going,
+        })
+    }
+
+    /// The line of the last `Line`, without LF and CR; else empty.
+    pub fn line(&self) -> &[u8]
+        ensures { result.now ≡ self.now.line }
+    {
+        self.line.as_slice()
+    }
+
+    /// Reads the next line. After `End` or a refusal every later call answers the same and reads nothing.
+    pub fn next_line<S: Source>(&mut self, source: &mut S) -> Result<LineRead, LineRefusal>
+        ensures line { OnLine result ((line : List ℕ) × TakesLine self.old self.new (S.left source.old) (S.left source.new) line × (length line ≤ line_limit) × (self.new.line ≡ without_cr line)) }
+        ensures long { OnLong result ((line : List ℕ) × TakesLine self.old self.new (S.left source.old) (S.left source.new) line × (line_limit < length line)) }
+        ensures end_only_where_none_left { OnEnd result (IsAtEnd (remaining self.old (S.left source.old))) }
+        ensures too_long_only_past_limit { self.old.stage ≡ Stage.Going → OnTooLong result (IfSome (remaining self.old (S.left source.old)) (PassesLimit self.old.taken)) }
+        ensures read_fault_leaves_no_line { self.old.stage ≡ Stage.Going → OnReadFault result (LeavesNoLine self.old (S.left source.old) (S.left source.new)) }
+        ensures else_tells_no_line { OnNoLine result (self.new.line ≡ []) }
+
+        // Each line takes a byte, and the lines together stay within the limit.
+        ensures progress { OnTaken result (self.old.taken < self.new.taken) }
+        ensures within { self.new.taken ≤ script_limit }
+
+        // The end and a refusal stay.
+        ensures stops { OnLast result (last_answer self.new.stage ≡ Some result) }
+        ensures stays { IfSome (last_answer self.old.stage) (λ answer. (result ≡ answer) × (self.new ≡ record self.old { line = [] }) × (source.new ≡ source.old)) }
+
+        ensures no_read_while_line_held { has_lf self.old.held ≡ true → source.new ≡ source.old }
+        ensures never_falls { S.faults source.old ≤ S.faults source.new }
+        ensures read_fault_only_where_rose { self.old.stage ≡ Stage.Going → OnReadFault result (Rose (S.faults source.old) (S.faults source.new)) }
+        ensures else_leaves_count { OnNoFault result (S.faults source.new ≡ S.faults source.old) }
+    {
+        self.line.clear();
+        match self.stage {
+            Stage::Going => {}
+            Stage::Ended => return Ok(LineRead::End),
+            Stage::Refused(refusal) => return Err(refusal),
+        }
+        let room = SCRIPT_LIMIT - self.taken;
+        let gathered = match gather(&mut self.pieces, &mut self.line, source, room) {
+            Ok(gathered) => gathered,
+            Err(refusal) => {
+                self.line.clear();
+                self.stage = Stage::Refused(refusal);
+                return Err(refusal);
+            }
+        };
+        if gathered.whole {
+            self.taken += gathered.count + 1;
+            return Ok(finish(&mut self.line, gathered.count));
+        }
+        self.stage = Stage::Ended;
+        if gathered.count == 0 {
+            return Ok(LineRead::End);
+        }
+        self.taken += gathered.count;
+        Ok(finish(&mut self.line, gathered.count))
+    }
+}
