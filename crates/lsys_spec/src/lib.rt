@@ -1,0 +1,6 @@
+//! What a derivation means: the definitions that the contracts of the crates above cite.
+//!
+//! They stand in `specs/`. The functions here have empty bodies: the contract is a law about the definitions.
+#![tactic(auto)]
+
+pub mod draws;
