@@ -4,3 +4,4 @@
 #![tactic(auto)]
 
 pub mod draws;
+pub mod lattices;
