@@ -96,7 +96,7 @@ all_upright cubic = refl
 
 pub upright_among : (lattice : Lattice) (f : Frame) → Contains (frames lattice) f → IsUpright f
 upright_among lattice f found =
-  (vector_decides (cross f.heading f.left) f.up).0 (tells upright (frames lattice) f (all_upright lattice) found)
+    (vector_decides (cross f.heading f.left) f.up).0 (tells upright (frames lattice) f (all_upright lattice) found)
 
 pub frame_after-upright : (lattice : Lattice) (turns : List Turn) → IsUpright (frame_after lattice turns)
 frame_after-upright lattice turns = upright_among lattice (frame_after lattice turns) (frame_after-among lattice turns)
