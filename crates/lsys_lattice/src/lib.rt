@@ -120,23 +120,5 @@ pub fn turn_by<T: Lattice>(frame: T::Frame, kind: Turn, count: i64) -> T::Frame
     turned
 }
 
-/// A turn and its inverse: the same frame.
-pub fn turn_and_back<T: Lattice>(frame: T::Frame, kind: Turn) -> T::Frame
-    ensures { result ≡ frame }
-{
-    T::turn(T::turn(frame, kind), kind.inverse())
-}
-
-/// All left turns of a full turn: the same frame.
-pub fn turn_fully<T: Lattice>(frame: T::Frame) -> T::Frame
-    ensures { result ≡ frame }
-{
-    let mut turned = frame;
-    for _done in 0..T::full() {
-        turned = T::turn(turned, Turn::Left);
-    }
-    turned
-}
-
 #[cfg(test)]
 mod tests;

@@ -1,4 +1,24 @@
-use super::{Cubic, Hexagonal, Lattice, Place, Square, Turn, turn_and_back, turn_by, turn_fully};
+ghost use Rattle.std.specs.Prelude.{◌≡◌};
+
+use super::{Cubic, Hexagonal, Lattice, Place, Square, Turn, turn_by};
+
+// Generic code knows by the laws of the trait that a turn and its inverse give the frame back.
+fn turn_and_back<T: Lattice>(frame: T::Frame, kind: Turn) -> T::Frame
+    ensures { result ≡ frame }
+{
+    T::turn(T::turn(frame, kind), kind.inverse())
+}
+
+// Generic code knows by the laws of the trait that a full turn gives the frame back.
+fn turn_fully<T: Lattice>(frame: T::Frame) -> T::Frame
+    ensures { result ≡ frame }
+{
+    let mut turned = frame;
+    for _done in 0..T::full() {
+        turned = T::turn(turned, Turn::Left);
+    }
+    turned
+}
 
 // The heading of a turtle after these turns.
 fn heading_after<T: Lattice>(turns: &[Turn]) -> (i64, i64, i64) {
