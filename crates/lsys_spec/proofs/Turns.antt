@@ -1,11 +1,11 @@
 -- Turns that lead back to the frame from which they came.
-use Rattle.std.proofs.Common.{◌≡◌, ℕ, zero, suc, ◌+◌, ◌-◌, ◌<◌, ◌⊎◌, inl, inr, refl, ap, sym, ◌∙◌, arith, lit<, Bool, true, false, nat_lt}
+use Rattle.std.proofs.Common.{◌≡◌, ℕ, zero, suc, ◌+◌, ◌-◌, ◌*◌, ◌/◌, ◌<◌, ◌⊎◌, inl, inr, refl, ap, sym, ◌∙◌, arith, lit<, Bool, true, false, nat_lt}
 use Rattle.std.specs.Prelude.{ℤ, pos, negsuc, neg_ℤ, unsigned_abs, ◌%◌}
 use Rattle.std.specs.Int.{int_rem_euclid}
 use Rattle.std.proofs.lemmas.Int.{ints}
 use Rattle.std.proofs.lemmas.Bool.Decides.{nat_tests}
 use Rattle.std.proofs.lemmas.Nat.{mod_below}
-use Rattle.std.proofs.Math.Nat.{suc-mod, mod_self, mod-eq_of_lt}
+use Rattle.std.proofs.Math.Nat.{mod-add-div, mul-suc, suc-mod, mod_self, mod-eq_of_lt}
 use Rattle.std.proofs.Math.IntN.{neg_ℤ-neg_ℤ}
 use Rattle.lsys_spec.specs.Lattices.{Lattice, square, hexagonal, cubic, Vector, vector, opposite, Frame, frame, Turn, turn_left, turn_right, pitch_down, pitch_up, roll_left, roll_right, turn_round, full_turn, quarter_left, quarter_right, sixth_left, sixth_right, all_turned, turned, inverse, times, turn_count, turn_by}
 
@@ -117,6 +117,25 @@ times-add zero b turn f = ap (λ n. times n turn f) (omega arith)
 times-add (suc a) b turn f =
     let spelled : suc a + b ≡ suc (a + b) = omega arith in
     ap (λ n. times n turn f) spelled ∙ ap turn (times-add a b turn f)
+
+rounds : (lattice : Lattice) (turn : Turn) (q : ℕ) (f : Frame) → times (full_turn lattice * q) (turned lattice turn) f ≡ f
+rounds lattice turn zero f =
+    let none : full_turn lattice * zero ≡ zero = omega arith in
+    ap (λ n. times n (turned lattice turn) f) none
+rounds lattice turn (suc q) f =
+    let spelled : full_turn lattice * suc q ≡ full_turn lattice * q + full_turn lattice = mul-suc (full_turn lattice) q in
+    ap (λ n. times n (turned lattice turn) f) spelled
+    ∙ times-add (full_turn lattice * q) (full_turn lattice) (turned lattice turn) f
+    ∙ ap (times (full_turn lattice * q) (turned lattice turn)) (full_turn_back lattice turn f)
+    ∙ rounds lattice turn q f
+
+pub turn_by-pos : (lattice : Lattice) (turn : Turn) (n : ℕ) (f : Frame) → turn_by lattice turn (pos n) f ≡ times n (turned lattice turn) f
+turn_by-pos lattice turn n f =
+    let N = full_turn lattice in
+    sym
+    (ap (λ m. times m (turned lattice turn) f) (sym (mod-add-div n N))
+    ∙ times-add (n % N) (N * (n / N)) (turned lattice turn) f
+    ∙ ap (times (n % N) (turned lattice turn)) (rounds lattice turn (n / N) f))
 
 times-swap : (a : ℕ) (turn : Frame → Frame) (f : Frame) → times a turn (turn f) ≡ turn (times a turn f)
 times-swap zero turn f = refl

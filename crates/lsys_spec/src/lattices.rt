@@ -1,7 +1,7 @@
 //! Laws of lattices: their turns and their frames.
 
 ghost use Rattle.std.specs.Prelude.{◌≡◌, ◌≢◌, ℕ, ℤ, pos, negsuc, neg_ℤ, List, [], ◌∷◌, map, length, Contains, AllPairs};
-ghost use Rattle.lsys_spec.specs.Lattices.{Lattice, hexagonal, square, cubic, Vector, vector, Frame, first_frame, Turn, turn_left, turn_right, pitch_down, pitch_up, roll_left, roll_right, turn_round, IsUpright, full_turn, turned, inverse, times, turn_by, frame_after, frames};
+ghost use Rattle.lsys_spec.specs.Lattices.{Lattice, hexagonal, square, cubic, Vector, vector, Frame, Turn, pitch_down, pitch_up, IsUpright, full_turn, turned, inverse, times, turn_by, frame_after, ways, frames};
 
 /// A turn and its inverse give the frame back.
 pub fn law_of_inverse_turns()
@@ -13,6 +13,12 @@ pub fn law_of_inverse_turns()
 pub fn law_of_full_turns()
     ensures { (lattice : Lattice) (turn : Turn) (f : Frame)
         → times (full_turn lattice) (turned lattice turn) f ≡ f }
+{}
+
+/// A turn by a count is as many turns, one after another.
+pub fn law_of_counted_turns()
+    ensures { (lattice : Lattice) (turn : Turn) (n : ℕ) (f : Frame)
+        → turn_by lattice turn (pos n) f ≡ times n (turned lattice turn) f }
 {}
 
 /// A turn by a negative count is the inverse turn.
@@ -36,11 +42,12 @@ pub fn law_of_frames()
         → Contains (frames lattice) (frame_after lattice turns) }
 {}
 
-/// Known headings: round a hexagon, and down, left and up in the cubic lattice.
+/// Known headings: left turns go round a hexagon, and in space a turtle pitches down and up again.
 pub fn law_of_known_headings()
-    ensures hexagon { map (λ n. (times n (turned hexagonal turn_left) (first_frame hexagonal)).heading) (0 ∷ 1 ∷ 2 ∷ 3 ∷ 4 ∷ 5 ∷ [])
-        ≡ vector (pos 1) (pos 0) (pos 0) ∷ vector (pos 0) (pos 1) (pos 0) ∷ vector (negsuc 0) (pos 1) (pos 0)
-        ∷ vector (negsuc 0) (pos 0) (pos 0) ∷ vector (pos 0) (negsuc 0) (pos 0) ∷ vector (pos 1) (negsuc 0) (pos 0) ∷ [] }
-    ensures loop_in_space { map (λ turns. (frame_after cubic turns).heading) ([] ∷ (pitch_down ∷ []) ∷ (pitch_down ∷ pitch_up ∷ []) ∷ [])
-        ≡ vector (pos 0) (pos 1) (pos 0) ∷ vector (pos 0) (pos 0) (negsuc 0) ∷ vector (pos 0) (pos 1) (pos 0) ∷ [] }
+    ensures hexagon { map (λ turns. (frame_after hexagonal turns).heading) (ways hexagonal)
+        ≡ vector (pos 1) (pos 0) (pos 0) ∷ vector (pos 0) (pos 1) (pos 0)
+        ∷ vector (negsuc 0) (pos 1) (pos 0) ∷ vector (negsuc 0) (pos 0) (pos 0)
+        ∷ vector (pos 0) (negsuc 0) (pos 0) ∷ vector (pos 1) (negsuc 0) (pos 0) ∷ [] }
+    ensures down { (frame_after cubic (pitch_down ∷ [])).heading ≡ vector (pos 0) (pos 0) (negsuc 0) }
+    ensures up_again { (frame_after cubic (pitch_down ∷ pitch_up ∷ [])).heading ≡ vector (pos 0) (pos 1) (pos 0) }
 {}
