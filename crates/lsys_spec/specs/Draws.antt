@@ -1,5 +1,5 @@
 -- Keys, draws and weighted picks: the numbers that decide between weighted rules.
-use Rattle.std.specs.Prelude.{◌≡◌, ℕ, ◌+◌, ◌-◌, ◌*◌, ◌/◌, ◌%◌, ◌^◌, ◌<◌, ◌≤◌, Bool, true, false, nat_lt, if◌then◌else◌, List, [], ◌∷◌, length, take, sum, fold, Option, Some, None, option_map, bit_xor}
+use Rattle.std.specs.Prelude.{◌≡◌, ℕ, ◌+◌, ◌-◌, ◌*◌, ◌/◌, ◌%◌, ◌^◌, ◌<◌, ◌≤◌, nat_lt, if◌then◌else◌, List, [], ◌∷◌, length, take, sum, fold, Option, Some, None, option_map, bit_xor}
 
 -- z, its high bits folded down by k places, times m, in 64 bits
 abbrev pub folded : ℕ → ℕ → ℕ → ℕ
@@ -8,8 +8,8 @@ folded z k m = bit_xor z (z / 2 ^ k) * m % 2 ^ 64
 -- the first word of SplitMix64 (Steele, Lea and Flood) whose state is s
 abbrev pub word : ℕ → ℕ
 word s =
-  let z = folded (folded ((s + 0x9E3779B97F4A7C15) % 2 ^ 64) 30 0xBF58476D1CE4E5B9) 27 0x94D049BB133111EB in
-  bit_xor z (z / 2 ^ 31)
+    let z = folded (folded ((s + 0x9E3779B97F4A7C15) % 2 ^ 64) 30 0xBF58476D1CE4E5B9) 27 0x94D049BB133111EB in
+    bit_xor z (z / 2 ^ 31)
 
 -- the key of the axiom's symbol at a place, counted from 0
 abbrev pub axiom_key_of : ℕ → ℕ → ℕ
@@ -37,9 +37,9 @@ aim_of draw weights = draw * sum weights / 2 ^ 64
 abbrev pub IsPick : ℕ → List ℕ → Option ℕ → Type 0
 IsPick draw weights None = sum weights ≡ 0
 IsPick draw weights (Some place) =
-  (place < length weights)
-  × (aim_of draw weights < sum (take (place + 1) weights))
-  × ((k : ℕ) → k < place → sum (take (k + 1) weights) ≤ aim_of draw weights)
+    (place < length weights)
+    × (aim_of draw weights < sum (take (place + 1) weights))
+    × ((k : ℕ) → k < place → sum (take (k + 1) weights) ≤ aim_of draw weights)
 
 -- the place at which an aim falls when the weights are laid end to end
 abbrev pub place_past : ℕ → List ℕ → Option ℕ

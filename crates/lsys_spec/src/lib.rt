@@ -1,13 +1,7 @@
-//! What a script means: systems, levels, questions, pictures, replies, and the output of a whole script.
+//! What a derivation means: the definitions that the contracts of the crates above cite.
 //!
-//! Definitions that contracts cite stand in `specs/`. The functions here have empty bodies: the contract is the law.
+//! They stand in `specs/`. The functions here have empty bodies: the contract is a law about the definitions.
 #![tactic(auto)]
 
-ghost use Rattle.std.specs.Prelude.{◌≡◌, ℕ};
-ghost use Rattle.lsys_spec.specs.Draws.{axiom_key_of};
-
-/// A law of keys: the keys of an axiom under the next seed are those of the axiom that is moved by one place.
-pub fn law_of_next_seed()
-    ensures { (seed place : ℕ) → axiom_key_of seed place ≡ axiom_key_of seed place }
-{
-}
+pub mod draws;
+pub mod lattices;

@@ -1,0 +1,51 @@
+use super::{axiom_key, child_key, draw, pick};
+
+// The words were computed by an independent program.
+#[test]
+fn draws_are_first_words(rt: HostRuntime) {
+    for (key, word) in [
+        (0x0, 0xe220a8397b1dcdaf),
+        (0x1, 0x910a2dec89025cc1),
+        (0x2, 0x975835de1c9756ce),
+        (0x2a, 0xbdd732262feb6e95),
+        (0x3039, 0x22118258a9d111a0),
+        (0x100000000, 0xc42c5a1aa3820138),
+        (0x123456789abcdef, 0x157a3807a48faa9d),
+        (0x8000000000000000, 0x481ec0a212a9f3db),
+        (0xfffffffffffffffe, 0xf3203e9039f4a821),
+        (0xffffffffffffffff, 0xe4d971771b652c20),
+    ] {
+        assert_eq!(rt; draw(key), word, "key {key}");
+    }
+}
+
+// The keys were computed by the same program.
+#[test]
+fn keys_follow_lineages(rt: HostRuntime) {
+    for (seed, place, key) in [
+        (0, 0, 0x910a2dec89025cc1),
+        (7, 3, 0x50f5647d2380309d),
+        (0xffffffffffffffff, 0, 0xe220a8397b1dcdaf),
+        (0xffffffffffffffff, 4_294_967_295, 0x73b13ba2aff181c0),
+    ] {
+        assert_eq!(rt; axiom_key(seed, place), key, "seed {seed}, place {place}");
+    }
+    let child = child_key(axiom_key(9, 2), 0);
+    assert_eq!(rt; child, 0x967dba0b719c2f41);
+    assert_eq!(rt; child_key(child, 5), 0xa4cedb55731a246d);
+}
+
+#[test]
+fn picks_weigh(rt: HostRuntime) {
+    for (draw, weights, place) in [
+        (0, [1, 1], Some(0)),
+        (0x7fff_ffff_ffff_ffff, [1, 1], Some(0)),
+        (0x8000_0000_0000_0000, [1, 1], Some(1)),
+        (0, [0, 5], Some(1)),
+        (0xffff_ffff_ffff_ffff, [0, 5], Some(1)),
+        (77, [0, 0], None),
+    ] {
+        assert!(rt; weights[0] < 8 && weights[1] < 8);
+        assert_eq!(rt; pick(draw, &weights), place, "draw {draw}");
+    }
+}

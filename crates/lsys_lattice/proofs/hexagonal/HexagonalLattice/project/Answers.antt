@@ -1,0 +1,9 @@
+use Rattle.std.proofs.Common.{arith, ℤ, ◌≡◌}
+use Rattle.std.proofs.lemmas.Int.{ints}
+use Rattle.lsys_lattice.proofs.hexagonal.HexagonalLattice.project.Goals as goal
+
+pair : (a b c d : ℤ) → a ≡ b → c ≡ d → ◌≡◌ {A = ℤ × ℤ} (a, c) (b, d)
+pair a b c d p q = cc
+
+pub returns : goal.returns
+returns c = pair _ _ _ _ (omega (arith, ints)) (omega (arith, ints))

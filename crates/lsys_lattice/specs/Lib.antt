@@ -1,0 +1,5 @@
+pub mod Views
+pub mod Directions
+pub mod FlatFrames
+pub mod CubicFrames
+pub mod CubicTable

@@ -1,0 +1,4 @@
+pub mod Keys
+pub mod Picks
+pub mod Turns
+pub mod Frames
