@@ -2,11 +2,7 @@
 use Rattle.std.specs.Prelude.{◌≡◌, ℕ, zero, suc, ◌≤◌, ℤ, pos, negsuc, ◌+ℤ◌, ◌-ℤ◌, ◌*ℤ◌, neg_ℤ, unsigned_abs, List, [], ◌∷◌, ◌++◌, fold, map}
 use Rattle.std.specs.List.{flat_map}
 use Rattle.std.specs.Int.{int_rem_euclid}
-
-pub data Lattice : Type 0 where
-  square : Lattice
-  hexagonal : Lattice
-  cubic : Lattice
+pub use Rattle.lsys_syntax.specs.Commands.{Lattice, square, hexagonal, cubic}
 
 -- A place or a direction. On the hexagonal lattice x and y are the coordinates q and r.
 pub record Vector : Type 0 where
