@@ -25,7 +25,8 @@ use std::alloc::{AllocError, Global};
 /// `Limit` has the first level at which the lengths of the levels sum to more than `limit`, and
 /// `Memory` is want of memory.
 pub fn derive(alloc: Global, system: &System, limit: u32) -> Result<Rows, DeriveRefusal>
-    ensures { IsMeaning (system_of system.now) limit result }
+    ensures meaning { IsMeaning (system_of system.now) limit result }
+    ensures some { IfOk result (λ rows. 0 < length rows) }
 {
     let mut rows = Rows::new(alloc);
     let first = system.axiom().clone()?;

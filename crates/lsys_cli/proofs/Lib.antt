@@ -1,0 +1,4 @@
+pub mod Commands
+pub mod Appending
+pub mod Levels
+pub mod Replying

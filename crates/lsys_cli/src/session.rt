@@ -1,0 +1,244 @@
+//! One line after another: what is asked of a system, and what is answered.
+ghost use Rattle.std.specs.Prelude.{◌≡◌, ℕ, List, [], ◌∷◌, ◌++◌, ◌≤◌, length, flat_map, codes, decimal, IfOk, OnOk, OnErr, IfSome, ◌≢◌, IsTrue, true, false};
+ghost use Rattle.std.specs.Io.KnownBytes.{Appends, append_known};
+ghost use Rattle.lsys_io.specs.Causes.{Rose};
+ghost use Rattle.lsys_spec.specs.Refusals.{is_passed_over};
+ghost use Rattle.lsys_syntax.specs.Lines.{is_blank_line, is_comment};
+ghost use Rattle.lsys_rules.specs.Letters.{AreLetters};
+ghost use Rattle.lsys_rules.specs.Views.{system_of};
+ghost use Rattle.lsys_spec.specs.Systems.{opening};
+ghost use Rattle.lsys_cli.specs.Sessions.{KeepsLevels, IsCommandOf, IsResponse, IsAnswer, Replies, joined, limit_text};
+
+use lsys_flat::{DeriveRefusal, Rows, derive};
+use lsys_io::{Buffered, Failed, Sink};
+use lsys_rules::{Command, CommandKind, NameList, Refusal, System, apply, parse_command};
+use lsys_text::{TextRefusal, tokens};
+use std::alloc::Global;
+
+/// A system with its levels.
+#[derive(Drop)]
+pub struct Session {
+    pub limit: u32,
+    pub system: System,
+    pub rows: Rows,
+}
+
+/// What became of a line.
+#[derive(Clone, Copy, PartialEq, Eq, Debug)]
+pub enum Outcome {
+    /// It has no reply.
+    Skipped,
+    /// Its edit was made.
+    Accepted,
+    /// Its query was printed.
+    Printed,
+    /// It was refused, and changed nothing.
+    Refused,
+    /// It was refused for want of memory, and changed nothing.
+    Memory,
+}
+
+/// What a line is answered.
+#[derive(Drop)]
+pub enum Answer {
+    Skipped,
+    Edited { system: System, rows: Rows },
+    Printed,
+    Form,
+    Limit { level: u32 },
+    Memory,
+}
+
+impl Session {
+    /// The opening system with its one level.
+    pub fn start(alloc: Global, limit: u32) -> Option<Session>
+        ensures { IfSome result (λ s. KeepsLevels s × (s.limit ≡ limit) × (system_of s.system ≡ opening)) }
+    {
+        let system = System::opening(alloc).ok()?;
+        let rows = derive(alloc, &system, limit).ok()?;
+        Some(Session {
+            limit,
+            system,
+            rows,
+        })
+    }
+
+    /// Answers a line of at most 65,536 bytes, without its LF and CR, and puts the reply.
+    ///
+    /// # Errors
+    ///
+    /// Only where the sink failed; nothing more is promised of the session then.
+    pub fn command<K: Sink>(
+        &mut self,
+        alloc: Global,
+        line: &[u8],
+        out: &mut Buffered,
+        sink: &mut K,
+    ) -> Result<Outcome, Failed>
+        requires holds { KeepsLevels self.old }
+        requires empty { out.old ≡ [] }
+        requires short { length line.now ≤ 65536 }
+        ensures replies { IfOk result (λ o. Replies self.old.limit (system_of self.old.system) line.now (K.written sink.old) (K.written sink.new) (system_of self.new.system) o) }
+        ensures holds { OnOk result (KeepsLevels self.new) }
+        ensures limit { self.new.limit ≡ self.old.limit }
+        ensures empty { OnOk result (out.new ≡ []) }
+        ensures never_falls { K.faults sink.old ≤ K.faults sink.new }
+        ensures failed_only_where_rose { OnErr result (Rose (K.faults sink.old) (K.faults sink.new)) }
+        ensures ok_leaves_count { OnOk result (K.faults sink.new ≡ K.faults sink.old) }
+    {
+        match answer_to(alloc, self, line) {
+            Answer::Skipped => Ok(Outcome::Skipped),
+            Answer::Edited { system, rows } => {
+                say(out, sink, b"ok\n")?;
+                self.system = system;
+                self.rows = rows;
+                Ok(Outcome::Accepted)
+            }
+            Answer::Printed => {
+                say_level(out, sink, self.rows.last())?;
+                Ok(Outcome::Printed)
+            }
+            Answer::Form => {
+                say(out, sink, b"refused form\n")?;
+                Ok(Outcome::Refused)
+            }
+            Answer::Limit { level } => {
+                say_limit(out, sink, level)?;
+                Ok(Outcome::Refused)
+            }
+            Answer::Memory => {
+                say(out, sink, b"refused memory\n")?;
+                Ok(Outcome::Memory)
+            }
+        }
+    }
+}
+
+/// Whether a line is empty, blank or a comment.
+fn passes_over(line: &[u8]) -> bool
+    ensures { result ≡ is_passed_over line.now }
+{
+    is_blank(line) || line.first() == Some(&b';')
+}
+
+fn is_blank(line: &[u8]) -> bool
+    ensures { result ≡ is_blank_line line.now }
+{
+    for byte in line {
+        if *byte != b' ' && *byte != b'\t' {
+            return false;
+        }
+    }
+    true
+}
+
+/// The command of a line.
+fn command_in(alloc: Global, line: &[u8]) -> Result<Command, Refusal>
+    requires { length line.now ≤ 65536 }
+    ensures { IsCommandOf line.now result }
+{
+    match tokens(alloc, line) {
+        Ok(found) => parse_command(alloc, &found, line.len() as u32),
+        Err(TextRefusal::Byte { column: _column }) => Err(Refusal::Form),
+        Err(TextRefusal::Memory) => Err(Refusal::Memory),
+    }
+}
+
+/// What an edit is answered.
+fn edited(alloc: Global, session: &Session, command: &Command) -> Answer
+    requires { command.now ≢ Command.String }
+    ensures { IsResponse session.now command.now result }
+{
+    let system = match apply(alloc, &session.system, command) {
+        Ok(system) => system,
+        Err(Refusal::Form) => return Answer::Form,
+        Err(Refusal::Memory) => return Answer::Memory,
+    };
+    match derive(alloc, &system, session.limit) {
+        Ok(rows) => Answer::Edited { system, rows },
+        Err(DeriveRefusal::Limit { level }) => Answer::Limit { level },
+        Err(DeriveRefusal::Memory) => Answer::Memory,
+    }
+}
+
+/// What a command is answered.
+fn respond(alloc: Global, session: &Session, command: &Command) -> Answer
+    ensures { IsResponse session.now command.now result }
+{
+    match command.kind() {
+        CommandKind::Edit => edited(alloc, session, command),
+        CommandKind::String { level: _level } => Answer::Printed,
+    }
+}
+
+/// What a line is answered.
+fn answer_to(alloc: Global, session: &Session, line: &[u8]) -> Answer
+    requires { length line.now ≤ 65536 }
+    ensures { IsAnswer session.now line.now result }
+{
+    if passes_over(line) {
+        return Answer::Skipped;
+    }
+    match command_in(alloc, line) {
+        Ok(command) => respond(alloc, session, &command),
+        Err(Refusal::Form) => Answer::Form,
+        Err(Refusal::Memory) => Answer::Memory,
+    }
+}
+
+/// Puts a text, and empties the buffer.
+fn say<K: Sink>(out: &mut Buffered, sink: &mut K, text: &[u8]) -> Result<(), Failed>
+    requires { out.old ≡ [] }
+    ensures said { OnOk result (Appends (K.written sink.old) (K.written sink.new) text.now) }
+    ensures empty { OnOk result (out.new ≡ []) }
+    ensures never_falls { K.faults sink.old ≤ K.faults sink.new }
+    ensures failed_only_where_rose { OnErr result (Rose (K.faults sink.old) (K.faults sink.new)) }
+    ensures ok_leaves_count { OnOk result (K.faults sink.new ≡ K.faults sink.old) }
+{
+    out.put(sink, text)?;
+    out.flush(sink)
+}
+
+/// Puts the names of a level, one behind the other.
+fn put_names<K: Sink>(out: &mut Buffered, sink: &mut K, level: &NameList) -> Result<(), Failed>
+    ensures put { OnOk result (Appends (append_known (K.written sink.old) out.old) (append_known (K.written sink.new) out.new) (joined level.now)) }
+    ensures letters { AreLetters level.now }
+    ensures never_falls { K.faults sink.old ≤ K.faults sink.new }
+    ensures failed_only_where_rose { OnErr result (Rose (K.faults sink.old) (K.faults sink.new)) }
+    ensures ok_leaves_count { OnOk result (K.faults sink.new ≡ K.faults sink.old) }
+{
+    for name in level.names() {
+        out.put(sink, name.text().as_bytes())?;
+    }
+    Ok(())
+}
+
+/// Puts a level's line, and empties the buffer.
+fn say_level<K: Sink>(out: &mut Buffered, sink: &mut K, level: &NameList) -> Result<(), Failed>
+    requires { out.old ≡ [] }
+    ensures said { OnOk result (Appends (K.written sink.old) (K.written sink.new) (joined level.now ++ 10 ∷ [])) }
+    ensures letters { AreLetters level.now }
+    ensures empty { OnOk result (out.new ≡ []) }
+    ensures never_falls { K.faults sink.old ≤ K.faults sink.new }
+    ensures failed_only_where_rose { OnErr result (Rose (K.faults sink.old) (K.faults sink.new)) }
+    ensures ok_leaves_count { OnOk result (K.faults sink.new ≡ K.faults sink.old) }
+{
+    put_names(out, sink, level)?;
+    out.put(sink, b"\n")?;
+    out.flush(sink)
+}
+
+/// Puts the refusal of a level at which the limit is passed, and empties the buffer.
+fn say_limit<K: Sink>(out: &mut Buffered, sink: &mut K, level: u32) -> Result<(), Failed>
+    requires { out.old ≡ [] }
+    ensures said { OnOk result (Appends (K.written sink.old) (K.written sink.new) (limit_text level)) }
+    ensures empty { OnOk result (out.new ≡ []) }
+    ensures never_falls { K.faults sink.old ≤ K.faults sink.new }
+    ensures failed_only_where_rose { OnErr result (Rose (K.faults sink.old) (K.faults sink.new)) }
+    ensures ok_leaves_count { OnOk result (K.faults sink.new ≡ K.faults sink.old) }
+{
+    out.put(sink, b"refused limit level ")?;
+    out.put_number(sink, i128::from(level))?;
+    out.put(sink, b"\n")?;
+    out.flush(sink)
+}
