@@ -2,10 +2,10 @@
 use Rattle.std.specs.Prelude.{◌≡◌, ℕ, Bool, true, false, Option, Some, None, Result, Ok, Err, List, [], ◌∷◌, codes, decimal, ◌++◌, ◌&&◌, not, ◌<◌, length}
 use Rattle.std.specs.Io.KnownBytes.{Appends}
 use Rattle.lsys_spec.specs.Systems as spec
-use Rattle.lsys_spec.specs.Output.{memory_or}
+use Rattle.lsys_spec.specs.Output.{memory_or, reply_or_memory}
 use Rattle.lsys_spec.specs.Meaning.{meaning, OverLimit}
 use Rattle.lsys_spec.specs.Refusals.{Reply, said, refused, is_passed_over, derivation_text, line_feed}
-use Rattle.lsys_spec.specs.Interim.{bare_reply, command_reply, printed, refused_form}
+use Rattle.lsys_spec.specs.Interim.{bare_reply, reply, command_reply, printed, refused_form}
 use Rattle.lsys_spec.specs.Interim as interim
 use Rattle.lsys_syntax.specs.Tokens.{tokens}
 use Rattle.lsys_rules.specs.Views.{system_of}
@@ -83,3 +83,8 @@ IsOutcome r o = (r.is_refusal ≡ refuses o) × (r.is_memory ≡ lacks_memory o)
 abbrev pub Replies : ℕ → spec.System → List ℕ → Option (List ℕ) → Option (List ℕ) → spec.System → Outcome → Type 0
 Replies limit s bare written_old written_new next o =
   (r : Reply) × (r ≡ bare_or_memory limit r.is_memory s bare) × Appends written_old written_new r.text × (next ≡ r.next) × IsOutcome r o
+
+-- as Replies, for a line with its CR, which may be too long
+abbrev pub LineReplies : ℕ → spec.System → List ℕ → Option (List ℕ) → Option (List ℕ) → spec.System → Outcome → Type 0
+LineReplies limit s line written_old written_new next o =
+  (r : Reply) × (r ≡ reply_or_memory (reply limit) r.is_memory s line) × Appends written_old written_new r.text × (next ≡ r.next) × IsOutcome r o

@@ -114,6 +114,19 @@ impl Session {
     }
 }
 
+/// Refuses a line of more than 65,536 bytes, and puts the reply.
+pub fn refuse_long<K: Sink>(out: &mut Buffered, sink: &mut K) -> Result<Outcome, Failed>
+    requires { out.old ≡ [] }
+    ensures replies { IfOk result (λ o. (o ≡ Outcome.Refused) × Appends (K.written sink.old) (K.written sink.new) (codes "refused form" ++ 10 ∷ [])) }
+    ensures empty { OnOk result (out.new ≡ []) }
+    ensures never_falls { K.faults sink.old ≤ K.faults sink.new }
+    ensures failed_only_where_rose { OnErr result (Rose (K.faults sink.old) (K.faults sink.new)) }
+    ensures ok_leaves_count { OnOk result (K.faults sink.new ≡ K.faults sink.old) }
+{
+    say(out, sink, b"refused form\n")?;
+    Ok(Outcome::Refused)
+}
+
 /// Whether a line is empty, blank or a comment.
 fn passes_over(line: &[u8]) -> bool
     ensures { result ≡ is_passed_over line.now }
