@@ -1,5 +1,5 @@
 -- What the functions that look for one token answer.
-use Rattle.std.specs.Prelude.{◌≡◌, ℕ, zero, ◌++◌, drop, map, Result, Ok, Err, Bool, false, List, [], ◌∷◌, Option, None, Some}
+use Rattle.std.specs.Prelude.{◌≡◌, ℕ, zero, ◌+◌, ◌++◌, drop, map, Result, Ok, Err, Bool, false, List, [], ◌∷◌, Option, None, Some}
 use Rattle.lsys_syntax.specs.Tokens as syntax
 use Rattle.lsys_text.specs.declared.scan.Mode.{Mode}
 use Rattle.lsys_text.specs.declared.scan.Mode.TheVariants.{First, Words, UntilColon, Modules}
@@ -18,6 +18,10 @@ mode_of Modules = syntax.Modules
 
 abbrev pub lexeme_of : Lexeme → syntax.Kind × ℕ
 lexeme_of x = (kind_of x.kind, x.more)
+
+-- the token of a lexeme whose first byte stands at this place of a line
+abbrev pub placed : Lexeme → ℕ → Token
+placed x start = record { kind = x.kind; start = start; end = start + 1 + x.more }
 
 -- a first byte that passes
 abbrev pub begins_with : (ℕ → Bool) → List ℕ → Bool

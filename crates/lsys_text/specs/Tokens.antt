@@ -1,5 +1,5 @@
 -- The tokens that the code finds, as those of the definitions.
-use Rattle.std.specs.Prelude.{◌≡◌, ℕ, Bool, List, [], ◌∷◌, ◌==◌, ◌||◌, Result, Ok, Err, Vec, map, unwrap_or, is_some, IsTrue, if◌then◌else◌}
+use Rattle.std.specs.Prelude.{◌≡◌, ◌<◌, ◌≤◌, ℕ, Bool, List, [], ◌∷◌, ◌==◌, ◌||◌, Result, Ok, Err, Vec, map, unwrap_or, is_some, IsTrue, if◌then◌else◌}
 use Rattle.std.specs.declared.alloc.Global.{Global}
 use Rattle.lsys_syntax.specs.Tokens as syntax
 use Rattle.lsys_text.specs.declared.token_kind.Token.{Token}
@@ -47,6 +47,10 @@ IsMarkByte k = Unit {0}
 
 abbrev pub HasMarkByte : Token → Type 0
 HasMarkByte t = IsMarkByte t.kind
+
+-- a token's text: some bytes of a line of this length
+abbrev pub IsWithin : ℕ → Token → Type 0
+IsWithin length t = (t.start < t.end) × (t.end ≤ length)
 
 -- the line's tokens, or the column of its first byte that is in none; want of memory says nothing
 abbrev pub AreTokens : List ℕ → Result (Vec Token Global) TextRefusal → Type 0
