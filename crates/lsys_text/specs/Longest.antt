@@ -4,10 +4,12 @@ use Rattle.std.specs.Str.Parse.{digits_value}
 use Rattle.lsys_syntax.specs.Tokens.{Mode, Kind, Word, LongWord, Name, Number, BigNumber, Assign, is_letter, is_digit, is_word_byte, token_at}
 use Rattle.lsys_syntax.specs.Pieces.{Every, HasWords, HasNames, IsWordText, IsNameText, name_text, token_text}
 
+-- a letter, then letters, digits and `_`: more than 16 bytes in all
 abbrev pub IsLongWordText : List ℕ → Type 0
 IsLongWordText [] = ⊥
 IsLongWordText (c ∷ cs) = (is_letter c ≡ true) × Every is_word_byte cs × (16 < length (c ∷ cs))
 
+-- a run of digits
 abbrev pub AreDigits : List ℕ → Type 0
 AreDigits text = (0 < length text) × Every is_digit text
 

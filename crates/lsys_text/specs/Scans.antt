@@ -10,12 +10,14 @@ use Rattle.lsys_text.specs.declared.refusals.TextRefusal.{TextRefusal}
 use Rattle.lsys_text.specs.declared.refusals.TextRefusal.TheVariants.{Byte, Memory}
 use Rattle.lsys_text.specs.Tokens.{kind_of, token_of}
 
+-- the mode that the code's mode stands for
 abbrev pub mode_of : Mode → syntax.Mode
 mode_of First = syntax.First
 mode_of Words = syntax.Words
 mode_of UntilColon = syntax.UntilColon
 mode_of Modules = syntax.Modules
 
+-- a kind, and how many bytes stand behind the token's first
 abbrev pub lexeme_of : Lexeme → syntax.Kind × ℕ
 lexeme_of x = (kind_of x.kind, x.more)
 
