@@ -1,0 +1,266 @@
+-- What a contract of the region says, from what its fields are.
+use Rattle.std.proofs.Common.{◌≡◌, ◌≢◌, ℕ, ◌+◌, ◌-◌, ◌^◌, ◌<◌, ◌≤◌, List, [], ◌∷◌, ◌++◌, length, set, drop, count_by, true, false, Option, Some, None, slice_get, slice_range, refl, sym, ap, subst, ◌∙◌, arith, append_assoc, length-append, length-set, length-drop, length-take-le, IsSome}
+use Rattle.std.specs.Option.{option_and_then}
+use Rattle.std.proofs.lemmas.List.{drop_at, take_at, length_push}
+use Rattle.std.proofs.lemmas.List.Sums.{sum_by_push}
+use Rattle.std.proofs.lemmas.Option.{same_Some, none-some, slice_get_past, slice_get-get_or}
+use Rattle.std.proofs.lemmas.Nat.{pow_pos}
+use Rattle.std.proofs.lemmas.Bool.{false≢true}
+use Rattle.lsys_region.specs.Parts.{Part, AllTaken, IsTaken, TakesPart, FreesPart}
+use Rattle.lsys_region.specs.Pool.{Pool, list_at, list_of, IsLive, OthersStay, IsFresh, free_runs, OtherRoomsStay, Reuses, Grows}
+use Rattle.lsys_region.specs.Rooms.{room_of}
+use Rattle.lsys_region.specs.Layout.{slot_of, IsWritten, AreApart, IsSound}
+use Rattle.lsys_region.proofs.ListLemmas.{slice_get-set_other, slice_get-set_same, slice_get-push_new, slice_get-push_other}
+use Rattle.lsys_region.proofs.RoomLemmas.{room_fits}
+use Rattle.lsys_region.proofs.LayoutLemmas.{part_at, pool_of, slot_of-written, slot_of-grown, list_at-pool_of, list_at-here, list_at-kept, AreApart-set, AreApart-push}
+use Rattle.lsys_region.proofs.CountLemmas.{tally, is_free_part, free_runs-pool_of, count-set, free_here, free_elsewhere, count-all_taken, count-no_room}
+
+-- the number gets this list, and no other number changes
+pub record PlacedIn {T : Type 0} (old new : Pool T) (n : ℕ) (list : List T) : Type 0 where
+  pub placed : list_at new n ≡ Some list
+  pub fresh : list_at old n ≡ None
+  pub others : (k : ℕ) → k ≢ n → list_at new k ≡ list_at old k
+
+length_range : {T : Type 0} → (cells : List T) (start len : ℕ) → start + len ≤ length cells → length (slice_range cells start (start + len)) ≡ len
+length_range cells start len within =
+    let count : start + len - start ≡ len = omega arith in
+    let rest : len ≤ length (drop start cells) = omega (arith, length-drop start cells) in
+    rw count (length-take-le len (drop start cells) rest)
+
+-- where a list has no last element, its room is 0
+pub room_of-no_last : {T : Type 0} (list : List T) → slice_get list (length list - 1) ≡ None → room_of (length list) ≡ 0
+unfolding room_of
+room_of-no_last [] none = refl
+room_of-no_last (x ∷ list) none = absurd (none-some _ (sym none ∙ slice_get-get_or (x ∷ list) (length (x ∷ list) - 1) x (omega arith)))
+
+module _ {T : Type 0} where
+  pub OthersStay-numbers : (old new : Pool T) (n : ℕ) → ((k : ℕ) → k ≢ n → list_at new k ≡ list_at old k) → OthersStay old new (Some n)
+  OthersStay-numbers old new n others None other = refl
+  OthersStay-numbers old new n others (Some k) other = others k (λ same. other (ap Some same))
+
+  -- the list that is written to a part that was taken
+  pub placed_again : (parts parts' : List Part) (cells cells' : List T) (spare spare' n class start own len : ℕ) (list : List T) → AreApart parts (length cells) → TakesPart parts parts' n class (length list) → slice_get parts' n ≡ Some (part_at start own (Some len)) → room_of (length list) ≡ 2 ^ class → IsWritten cells cells' start list → PlacedIn (pool_of parts cells spare) (pool_of parts' cells' spare') n list
+  placed_again parts parts' cells cells' spare spare' n class start own len list lie taken here roomy written =
+      let now : slice_get parts' n ≡ Some (part_at taken.start class (Some (length list))) = ap (λ (ps : List Part). slice_get ps n) taken.changed ∙ slice_get-set_same parts n _ _ taken.was_free in
+      let begins : taken.start ≡ start = ap (λ (p : Part). p.start) (same_Some _ _ (sym now ∙ here)) in
+      let over : IsWritten cells cells' taken.start list = subst (λ at. IsWritten cells cells' at list) (sym begins) written in
+      record {
+        placed = list_at-here parts' cells' spare' n _ now ∙ ap Some over.written;
+        fresh = list_at-here parts cells spare n _ taken.was_free;
+        others = λ k other. list_at-kept parts parts' cells cells' spare spare' k
+            (ap (λ (ps : List Part). slice_get ps k) taken.changed ∙ slice_get-set_other parts n k _ other)
+            (λ part there. slot_of-written parts cells cells' n k taken.start class None list part lie taken.was_free (omega (arith, room_fits (length list))) over other there);
+      }
+
+  -- the list that is written to a part that was added at the end
+  pub placed_new : (parts : List Part) (cells tail : List T) (spare spare' class : ℕ) (list : List T) → AreApart parts (length cells) → PlacedIn (pool_of parts cells spare) (pool_of (parts ++ part_at (length cells) class (Some (length list)) ∷ []) (cells ++ list ++ tail) spare') (length parts) list
+  placed_new parts cells tail spare spare' class list lie =
+      let new = part_at (length cells) class (Some (length list)) in
+      let joined : cells ++ list ++ tail ≡ cells ++ (list ++ tail) = append_assoc cells list tail in
+      let counted : length cells + length list - length cells ≡ length list = omega arith in
+      let stands : slice_range (cells ++ list ++ tail) (length cells) (length cells + length list) ≡ list =
+      rw (joined, drop_at cells (list ++ tail) (length cells) refl, counted) (take_at list tail (length list) refl) in
+      record {
+        placed = list_at-here (parts ++ new ∷ []) (cells ++ list ++ tail) spare' (length parts) new (slice_get-push_new parts new) ∙ ap Some stands;
+        fresh = list_at-pool_of parts cells spare (length parts) ∙ ap (option_and_then (λ (p : Part). (slot_of cells p).list)) (slice_get_past parts (length parts) (omega arith));
+        others = λ k other. list_at-kept parts (parts ++ new ∷ []) cells (cells ++ list ++ tail) spare spare' k
+            (slice_get-push_other parts k new other)
+            (λ part there. ap (λ all. slot_of all part) joined ∙ slot_of-grown parts cells (list ++ tail) k part lie there);
+      }
+
+  -- a number whose part was freed has no list, and no other number changes
+  pub record FreedIn (old new : Pool T) (n : ℕ) : Type 0 where
+    pub gone : list_at new n ≡ None
+    pub others : (k : ℕ) → k ≢ n → list_at new k ≡ list_at old k
+
+  pub freed : (parts parts' : List Part) (cells : List T) (spare n : ℕ) → FreesPart parts parts' n → FreedIn (pool_of parts cells spare) (pool_of parts' cells spare) n
+  freed parts parts' cells spare n frees =
+      record {
+        gone = list_at-here parts' cells spare n _ (ap (λ (ps : List Part). slice_get ps n) frees.changed ∙ slice_get-set_same parts n _ _ frees.was_taken);
+        others = λ k other. list_at-kept parts parts' cells cells spare spare k
+            (ap (λ (ps : List Part). slice_get ps k) frees.changed ∙ slice_get-set_other parts n k _ other)
+            (λ part there. refl);
+      }
+
+  -- taking a part takes one free run of its room
+  pub taken_counts : (parts parts' : List Part) (cells cells' : List T) (spare spare' n class len room : ℕ) → TakesPart parts parts' n class len → room ≡ 2 ^ class → (free_runs (pool_of parts' cells' spare') room + 1 ≡ free_runs (pool_of parts cells spare) room) × OtherRoomsStay (pool_of parts cells spare) (pool_of parts' cells' spare') room
+  taken_counts parts parts' cells cells' spare spare' n class len room taken same =
+      let here = count-set (is_free_part room) parts n _ (part_at taken.start class (Some len)) true false taken.was_free (free_here room taken.start class (sym same)) refl in
+      let now : count_by (is_free_part room) parts' ≡ count_by (is_free_part room) (set parts n (part_at taken.start class (Some len))) = ap (count_by (is_free_part room)) taken.changed in (
+        omega (arith, here, now, free_runs-pool_of parts cells spare room, free_runs-pool_of parts' cells' spare' room),
+        λ other apart. (
+            let there = count-set (is_free_part other) parts n _ (part_at taken.start class (Some len)) false false taken.was_free (free_elsewhere other taken.start class (λ e. apart (sym e ∙ sym same))) refl in
+            let after : count_by (is_free_part other) parts' ≡ count_by (is_free_part other) (set parts n (part_at taken.start class (Some len))) = ap (count_by (is_free_part other)) taken.changed in
+            omega (arith, there, after, free_runs-pool_of parts cells spare other, free_runs-pool_of parts' cells' spare' other)
+            ),
+      )
+
+  -- freeing a part gives one free run of its room
+  pub freed_counts : (parts parts' : List Part) (cells : List T) (spare n room : ℕ) (frees : FreesPart parts parts' n) → room ≡ 2 ^ frees.class → (free_runs (pool_of parts' cells spare) room ≡ free_runs (pool_of parts cells spare) room + 1) × OtherRoomsStay (pool_of parts cells spare) (pool_of parts' cells spare) room
+  freed_counts parts parts' cells spare n room frees same =
+      let new = part_at frees.start frees.class None in
+      let here = count-set (is_free_part room) parts n _ new false true frees.was_taken refl (free_here room frees.start frees.class (sym same)) in
+      let now : count_by (is_free_part room) parts' ≡ count_by (is_free_part room) (set parts n new) = ap (count_by (is_free_part room)) frees.changed in (
+        omega (arith, here, now, free_runs-pool_of parts cells spare room, free_runs-pool_of parts' cells spare room),
+        λ other apart. (
+            let there = count-set (is_free_part other) parts n _ new false false frees.was_taken refl (free_elsewhere other frees.start frees.class (λ e. apart (sym e ∙ sym same))) in
+            let after : count_by (is_free_part other) parts' ≡ count_by (is_free_part other) (set parts n new) = ap (count_by (is_free_part other)) frees.changed in
+            omega (arith, there, after, free_runs-pool_of parts cells spare other, free_runs-pool_of parts' cells spare other)
+            ),
+      )
+
+  -- adding a part that holds a list leaves the free runs
+  pub grown_counts : (parts : List Part) (cells cells' : List T) (spare spare' start class len room : ℕ) → free_runs (pool_of (parts ++ part_at start class (Some len) ∷ []) cells' spare') room ≡ free_runs (pool_of parts cells spare) room
+  grown_counts parts cells cells' spare spare' start class len room =
+      omega (arith, sum_by_push (λ p. tally (is_free_part room p)) parts (part_at start class (Some len)), free_runs-pool_of parts cells spare room, free_runs-pool_of (parts ++ part_at start class (Some len) ∷ []) cells' spare' room)
+
+  pub no_free_runs : (parts : List Part) (cells : List T) (spare class room : ℕ) → AllTaken parts class → room ≡ 2 ^ class → free_runs (pool_of parts cells spare) room ≡ 0
+  no_free_runs parts cells spare class room taken same =
+      free_runs-pool_of parts cells spare room ∙ ap (λ r. count_by (is_free_part r) parts) same ∙ count-all_taken parts class taken
+
+  pub no_free_room : (parts : List Part) (cells : List T) (spare : ℕ) → free_runs (pool_of parts cells spare) 0 ≡ 0
+  no_free_room parts cells spare = free_runs-pool_of parts cells spare 0 ∙ count-no_room parts
+
+-- the places of a list lie within the vector
+pub places_within : (parts : List Part) (size n start class len : ℕ) → AreApart parts size → slice_get parts n ≡ Some (part_at start class (Some len)) → start + len ≤ size
+places_within parts size n start class len lie here =
+    let within : len ≤ 2 ^ class = subst (λ r. len ≤ r) (lie.roomy n _ len here refl) (room_fits len) in
+    omega (arith, lie.inside n _ here, within)
+
+module _ {T : Type 0} where
+  live_part : (cells : List T) (parts : List Part) (n : ℕ) (o : Option Part) → slice_get parts n ≡ o → IsSome (option_and_then (λ part. (slot_of cells part).list) o) → IsTaken parts n
+  live_part cells parts n None here live = absurd (false≢true live)
+  live_part cells parts n (Some part) here live = live_filled cells parts n part.start part.class part.filled here live
+    where
+      live_filled : (cells : List T) (parts : List Part) (n start class : ℕ) (filled : Option ℕ) → slice_get parts n ≡ Some (part_at start class filled) → IsSome (slot_of cells (part_at start class filled)).list → IsTaken parts n
+      live_filled cells parts n start class None here live = absurd (false≢true live)
+      live_filled cells parts n start class (Some len) here live = (start, class, len, here)
+
+  -- the part of a live run holds a list
+  pub live_taken : (parts : List Part) (cells : List T) (spare n : ℕ) (pool : Pool T) (run : Option ℕ) → pool_of parts cells spare ≡ pool → run ≡ Some n → IsLive pool run → IsTaken parts n
+  live_taken parts cells spare n pool run seen named live =
+      let there : IsSome (list_at (pool_of parts cells spare) n) = subst (λ (p : Pool T). IsSome (list_at p n)) (sym seen) (subst (λ (r : Option ℕ). IsLive pool r) named live) in
+      live_part cells parts n (slice_get parts n) refl (subst (λ (o : Option (List T)). IsSome o) (list_at-pool_of parts cells spare n) there)
+
+  -- the list of a run whose part holds one
+  pub list_of-taken : (parts : List Part) (cells : List T) (spare n start class len : ℕ) (pool : Pool T) (run : Option ℕ) → pool_of parts cells spare ≡ pool → run ≡ Some n → slice_get parts n ≡ Some (part_at start class (Some len)) → list_of pool run ≡ Some (slice_range cells start (start + len))
+  list_of-taken parts cells spare n start class len pool run seen named here =
+      ap (list_of pool) named ∙ ap (λ (p : Pool T). list_at p n) (sym seen) ∙ list_at-here parts cells spare n _ here
+
+  -- the room of a list that is freed is that of its part
+  pub freed_room : (parts parts' : List Part) (cells : List T) (spare n : ℕ) (pool : Pool T) (run : Option ℕ) (list : List T) (frees : FreesPart parts parts' n) → AreApart parts (length cells) → pool_of parts cells spare ≡ pool → run ≡ Some n → list_of pool run ≡ Some list → room_of (length list) ≡ 2 ^ frees.class
+  freed_room parts parts' cells spare n pool run list frees lie seen named is =
+      let same : list ≡ slice_range cells frees.start (frees.start + frees.len) = same_Some _ _ (sym is ∙ list_of-taken parts cells spare n frees.start frees.class frees.len pool run seen named frees.was_taken) in
+      let within : frees.start + frees.len ≤ length cells = places_within parts (length cells) n frees.start frees.class frees.len lie frees.was_taken in
+      let many : length list ≡ frees.len = ap length same ∙ length_range cells frees.start frees.len within in
+      ap room_of many ∙ lie.roomy n _ frees.len frees.was_taken refl
+
+-- what a contract says of a list that was placed
+pub record Places {T : Type 0} (old new : Pool T) (run : Option ℕ) (list : List T) : Type 0 where
+  pub placed : list_of new run ≡ Some list
+  pub fresh : IsFresh old run list
+  pub others : OthersStay old new run
+  pub reuses : 0 < free_runs old (room_of (length list)) → Reuses old new (room_of (length list))
+  pub grows : free_runs old (room_of (length list)) ≡ 0 → Grows old new (room_of (length list))
+  pub other_rooms : OtherRoomsStay old new (room_of (length list))
+
+module _ {T : Type 0} where
+  -- a list with room is not empty
+  filled_by_room : (list : List T) (class : ℕ) → room_of (length list) ≡ 2 ^ class → list ≢ []
+  unfolding room_of
+  filled_by_room [] class roomy empty = omega (arith, pow_pos class)
+  filled_by_room (x ∷ list) class roomy empty = cc
+
+  -- a list that was placed in a free part
+  pub Places-again : (parts parts' : List Part) (cells cells' : List T) (spare n class start own len : ℕ) (list : List T) (pool : Pool T) → pool_of parts cells spare ≡ pool → AreApart parts (length cells) → TakesPart parts parts' n class (length list) → slice_get parts' n ≡ Some (part_at start own (Some len)) → room_of (length list) ≡ 2 ^ class → IsWritten cells cells' start list → Places pool (pool_of parts' cells' spare) (Some n) list
+  Places-again parts parts' cells cells' spare n class start own len list pool seen lie taken here roomy written =
+      let in_place = placed_again parts parts' cells cells' spare spare n class start own len list lie taken here roomy written in
+      let counts = taken_counts parts parts' cells cells' spare spare n class (length list) (room_of (length list)) taken roomy in
+      subst (λ (old : Pool T). Places old (pool_of parts' cells' spare) (Some n) list) seen (record {
+        placed = in_place.placed;
+        fresh = (filled_by_room list class roomy, in_place.fresh);
+        others = OthersStay-numbers (pool_of parts cells spare) (pool_of parts' cells' spare) n in_place.others;
+        reuses = λ some. record { taken = counts.0; size = written.size; spare = refl };
+        grows = λ none. absurd (omega (arith, counts.0));
+        other_rooms = counts.1;
+      })
+
+  -- a list that was placed in a new part at the end
+  pub Places-new : (parts parts' : List Part) (cells cells' tail : List T) (spare spare' n class start : ℕ) (list : List T) (pool : Pool T) → pool_of parts cells spare ≡ pool → AreApart parts (length cells) → AllTaken parts class → n ≡ length parts → start ≡ length cells → parts' ≡ parts ++ part_at start class (Some (length list)) ∷ [] → cells' ≡ cells ++ list ++ tail → room_of (length list) ≡ 2 ^ class → length list + length tail ≡ 2 ^ class → spare' + 2 ^ class ≡ spare → Places pool (pool_of parts' cells' spare') (Some n) list
+  Places-new parts parts' cells cells' tail spare spare' n class start list pool seen lie all counted begin pushed grown roomy filled less =
+      let in_place = placed_new parts cells tail spare spare' class list lie in
+      let old = pool_of parts cells spare in
+      let part = part_at (length cells) class (Some (length list)) in
+      let new = pool_of (parts ++ part ∷ []) (cells ++ list ++ tail) spare' in
+      let room = room_of (length list) in
+      let none : free_runs old room ≡ 0 = no_free_runs parts cells spare class room all roomy in
+      let kept : (r : ℕ) → free_runs new r ≡ free_runs old r = λ r. grown_counts parts cells (cells ++ list ++ tail) spare spare' (length cells) class (length list) r in
+      let same : new ≡ pool_of parts' cells' spare' =
+      ap (λ ps. pool_of (parts ++ ps ∷ []) (cells ++ list ++ tail) spare') (ap (λ at. part_at at class (Some (length list))) (sym begin))
+      ∙ ap (λ ps. pool_of ps (cells ++ list ++ tail) spare') (sym pushed)
+      ∙ ap (λ cs. pool_of parts' cs spare') (sym grown) in
+      let size : length (cells ++ list ++ tail) ≡ length cells + room = omega (arith, length-append (cells ++ list) tail, length-append cells list) in
+      let whole : Places old new (Some (length parts)) list = record {
+        placed = in_place.placed;
+        fresh = (filled_by_room list class roomy, in_place.fresh);
+        others = OthersStay-numbers old new (length parts) in_place.others;
+        reuses = λ some. absurd (omega arith);
+        grows = λ no_free. record { none_free = kept room ∙ none; size = size; spare = ap (λ r. spare' + r) roomy ∙ less };
+        other_rooms = λ other apart. kept other;
+      } in
+      subst (λ (o : Pool T). Places o (pool_of parts' cells' spare') (Some n) list) seen
+      (subst (λ (p : Pool T). Places old p (Some n) list) same
+      (subst (λ k. Places old new (Some k) list) (sym counted) whole))
+
+pub IsSound-take : (parts parts' : List Part) (size size' spare places places' numbers numbers' n class len : ℕ) → IsSound parts size spare places numbers → TakesPart parts parts' n class len → room_of len ≡ 2 ^ class → size' ≡ size → places ≤ places' → numbers ≤ numbers' → IsSound parts' size' spare places' numbers'
+IsSound-take parts parts' size size' spare places places' numbers numbers' n class len sound taken roomy same wide many =
+    let apart = AreApart-set parts size n taken.start class None (Some len) taken.was_free (λ l is. ap room_of (sym (same_Some len l is)) ∙ roomy) sound.lie in
+    let lengths : length parts' ≡ length parts = ap length taken.changed ∙ length-set parts n _ in
+    record {
+      lie = subst (λ s. AreApart parts' s) (sym same) (subst (λ (ps : List Part). AreApart ps size) (sym taken.changed) apart);
+      places_left = omega (arith, sound.places_left);
+      numbers_left = omega (arith, sound.numbers_left);
+    }
+
+pub IsSound-free : (parts parts' : List Part) (size spare places numbers numbers' n : ℕ) → IsSound parts size spare places numbers → FreesPart parts parts' n → numbers ≤ numbers' → IsSound parts' size spare places numbers'
+IsSound-free parts parts' size spare places numbers numbers' n sound frees many =
+    let apart = AreApart-set parts size n frees.start frees.class (Some frees.len) None frees.was_taken (λ l is. absurd (none-some l is)) sound.lie in
+    let lengths : length parts' ≡ length parts = ap length frees.changed ∙ length-set parts n _ in
+    record {
+      lie = subst (λ (ps : List Part). AreApart ps size) (sym frees.changed) apart;
+      places_left = sound.places_left;
+      numbers_left = omega (arith, sound.numbers_left);
+    }
+
+pub IsSound-push : (parts parts' : List Part) (size size' spare spare' places places' numbers numbers' start class len : ℕ) → IsSound parts size spare places numbers → start ≡ size → parts' ≡ parts ++ part_at start class (Some len) ∷ [] → room_of len ≡ 2 ^ class → size' ≡ size + 2 ^ class → spare' + 2 ^ class ≡ spare → places ≤ places' → numbers ≤ numbers' → IsSound parts' size' spare' places' numbers'
+IsSound-push parts parts' size size' spare spare' places places' numbers numbers' start class len sound begin pushed roomy grown less wide many =
+    let all : parts ++ part_at size class (Some len) ∷ [] ≡ parts' = ap (λ at. parts ++ part_at at class (Some len) ∷ []) (sym begin) ∙ sym pushed in
+    let counted : length parts' ≡ length parts + 1 = ap length (sym all) ∙ length_push parts (part_at size class (Some len)) in
+    record {
+      lie = subst (λ s. AreApart parts' s) (sym grown) (subst (λ (ps : List Part). AreApart ps (size + 2 ^ class)) all (AreApart-push parts size class len roomy sound.lie));
+      places_left = omega (arith, sound.places_left);
+      numbers_left = omega (arith, sound.numbers_left, pow_pos class);
+    }
+
+-- the part that was taken
+pub taken_now : (parts parts' : List Part) (n class len : ℕ) (taken : TakesPart parts parts' n class len) → slice_get parts' n ≡ Some (part_at taken.start class (Some len))
+taken_now parts parts' n class len taken = ap (λ (ps : List Part). slice_get ps n) taken.changed ∙ slice_get-set_same parts n _ _ taken.was_free
+
+pub IsTaken-take : (parts parts' : List Part) (n class len : ℕ) → TakesPart parts parts' n class len → IsTaken parts' n
+IsTaken-take parts parts' n class len taken = (taken.start, class, len, taken_now parts parts' n class len taken)
+
+-- a list fits in the part that was taken for it
+pub taken_within : (parts parts' : List Part) (size n class len start own filled : ℕ) → AreApart parts size → TakesPart parts parts' n class len → slice_get parts' n ≡ Some (part_at start own (Some filled)) → room_of len ≡ 2 ^ class → start + len ≤ size
+taken_within parts parts' size n class len start own filled lie taken here roomy =
+    let begins : taken.start ≡ start = ap (λ (p : Part). p.start) (same_Some _ _ (sym (taken_now parts parts' n class len taken) ∙ here)) in
+    omega (arith, lie.inside n _ taken.was_free, room_fits len)
+
+module _ {T : Type 0} where
+  -- the empty list takes no room
+  pub Reuses-empty : (parts : List Part) (cells : List T) (spare room : ℕ) (pool : Pool T) → pool_of parts cells spare ≡ pool → room ≡ 0 → 0 < free_runs pool room → Reuses pool pool room
+  Reuses-empty parts cells spare room pool seen empty some =
+      let none : free_runs pool room ≡ 0 = ap (free_runs pool) empty ∙ ap (λ (p : Pool T). free_runs p 0) (sym seen) ∙ no_free_room parts cells spare in
+      absurd (omega arith)
+
+  pub Grows-empty : (room : ℕ) (pool : Pool T) → room ≡ 0 → free_runs pool room ≡ 0 → Grows pool pool room
+  Grows-empty room pool empty none = record { none_free = none; size = omega arith; spare = omega arith }

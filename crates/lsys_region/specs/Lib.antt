@@ -1,0 +1,5 @@
+pub mod Rooms
+pub mod Pool
+pub mod Parts
+pub mod Entries
+pub mod Layout
