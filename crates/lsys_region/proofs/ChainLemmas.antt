@@ -16,21 +16,21 @@ entry_at start class state = record { start = start; class = class; state = stat
 pub free_member : (entries : List Entry) (class : ℕ) (head : Option ℕ) (numbers : List ℕ) (n : ℕ) → Chain entries class head numbers → IsMember n numbers → (next : Option ℕ) × IsFreeEntry entries class n next
 free_member entries class head [] n chain member = absurd member
 free_member entries class head (m ∷ numbers) n chain (inl same) =
-    (chain.0, (chain.2.0, ap (slice_get entries) same ∙ chain.2.1))
-free_member entries class head (m ∷ numbers) n chain (inr later) = free_member entries class chain.0 numbers n chain.4 later
+    (chain.0, (chain.1.free.0, ap (slice_get entries) same ∙ chain.1.free.1))
+free_member entries class head (m ∷ numbers) n chain (inr later) = free_member entries class chain.0 numbers n chain.2 later
 
 -- a write elsewhere keeps the chain
 pub Chain-set : (entries : List Entry) (class : ℕ) (head : Option ℕ) (numbers : List ℕ) (i : ℕ) (entry : Entry) → (IsMember i numbers → ⊥) → Chain entries class head numbers → Chain (set entries i entry) class head numbers
 Chain-set entries class head [] i entry apart chain = chain
 Chain-set entries class head (m ∷ numbers) i entry apart chain =
     let other : m ≢ i = λ same. apart (inl (sym same)) in
-    (chain.0, chain.1, (chain.2.0, slice_get-set_other entries i m entry other ∙ chain.2.1), chain.3, Chain-set entries class chain.0 numbers i entry (λ later. apart (inr later)) chain.4)
+    (chain.0, record { at_head = chain.1.at_head; free = (chain.1.free.0, slice_get-set_other entries i m entry other ∙ chain.1.free.1); once = chain.1.once }, Chain-set entries class chain.0 numbers i entry (λ later. apart (inr later)) chain.2)
 
 -- a push keeps the chain
 pub Chain-push : (entries : List Entry) (class : ℕ) (head : Option ℕ) (numbers : List ℕ) (entry : Entry) → Chain entries class head numbers → Chain (entries ++ entry ∷ []) class head numbers
 Chain-push entries class head [] entry chain = chain
 Chain-push entries class head (m ∷ numbers) entry chain =
-    (chain.0, chain.1, (chain.2.0, slice_get-push_old entries m _ entry chain.2.1), chain.3, Chain-push entries class chain.0 numbers entry chain.4)
+    (chain.0, record { at_head = chain.1.at_head; free = (chain.1.free.0, slice_get-push_old entries m _ entry chain.1.free.1); once = chain.1.once }, Chain-push entries class chain.0 numbers entry chain.2)
 
 same_entry_state : (start start' class class' : ℕ) (state state' : State) → Some (entry_at start class state) ≡ Some (entry_at start' class' state') → (start ≡ start') × (class ≡ class') × (state ≡ state')
 same_entry_state start start' class class' state state' same =
@@ -73,15 +73,15 @@ linked_other_taken entries class head i start own length state here other linked
 head_taken : (entries : List Entry) (class : ℕ) (head : Option ℕ) (numbers : List ℕ) (i start own length : ℕ) (next : Option ℕ) → head ≡ Some i → slice_get entries i ≡ Some (entry_at start own (Free next)) → Chain entries class head numbers → HasAllFree entries class numbers → (class ≡ own) × IsLinked (set entries i (entry_at start own (Taken length))) class next
 head_taken entries class head [] i start own length next at here chain complete = absurd (none-some i (sym chain ∙ at))
 head_taken entries class head (m ∷ numbers) i start own length next at here chain complete =
-    let same : m ≡ i = same_Some m i (sym chain.1 ∙ at) in
-    let read : slice_get entries i ≡ Some (entry_at chain.2.0 class (Free chain.0)) = ap (slice_get entries) (sym same) ∙ chain.2.1 in
-    let parts = same_entry_state start chain.2.0 own class (Free next) (Free chain.0) (sym here ∙ read) in
+    let same : m ≡ i = same_Some m i (sym chain.1.at_head ∙ at) in
+    let read : slice_get entries i ≡ Some (entry_at chain.1.free.0 class (Free chain.0)) = ap (slice_get entries) (sym same) ∙ chain.1.free.1 in
+    let parts = same_entry_state start chain.1.free.0 own class (Free next) (Free chain.0) (sym here ∙ read) in
     let follows : chain.0 ≡ next = let states = parts.2 in cc in
-    let apart : IsMember i numbers → ⊥ = λ later. chain.3 (subst (λ k. IsMember k numbers) (sym same) later) in (
+    let apart : IsMember i numbers → ⊥ = λ later. chain.1.once (subst (λ k. IsMember k numbers) (sym same) later) in (
       sym parts.1,
       record {
         numbers = numbers;
-        chain = subst (λ h. Chain (set entries i (entry_at start own (Taken length))) class h numbers) follows (Chain-set entries class chain.0 numbers i _ apart chain.4);
+        chain = subst (λ h. Chain (set entries i (entry_at start own (Taken length))) class h numbers) follows (Chain-set entries class chain.0 numbers i _ apart chain.2);
         complete = λ n after free. (
             let before = free_before entries i class n start own length after _ here free in
             elim (complete n after before.1) [
@@ -143,7 +143,7 @@ AreLinked-release entries heads i start own len linked here =
       linked = λ k bound. elim (cases_eq k own) [
         | inl same ↦ subst (λ j. IsLinked (set entries i (entry_at start own (Free head))) j (get_or (set heads own (Some i)) j None)) (sym same) (record {
           numbers = i ∷ old.numbers;
-          chain = (head, now, (start, slice_get-set_same entries i _ _ here), apart, Chain-set entries own head old.numbers i _ apart old.chain);
+          chain = (head, record { at_head = now; free = (start, slice_get-set_same entries i _ _ here); once = apart }, Chain-set entries own head old.numbers i _ apart old.chain);
           complete = λ n next free. elim (free_after entries i own n start own head next _ here free) [
             | inl this ↦ inl this.0
             | inr before ↦ inr (old.complete n next before)
@@ -187,7 +187,7 @@ AreLinked-push entries heads start own len small linked = record {
 
 none_linked : (entries : List Entry) (class : ℕ) (head : Option ℕ) (numbers : List ℕ) → head ≡ None → Chain entries class head numbers → HasAllFree entries class numbers → (n : ℕ) (next : Option ℕ) → IsFreeEntry entries class n next → ⊥
 none_linked entries class head [] none chain complete n next free = complete n next free
-none_linked entries class head (m ∷ numbers) none chain complete n next free = none-some m (sym none ∙ chain.1)
+none_linked entries class head (m ∷ numbers) none chain complete n next free = none-some m (sym none ∙ chain.1.at_head)
 
 taken_state : (start class n : ℕ) (entries : List Entry) (state : State) → slice_get entries n ≡ Some (entry_at start class state) → ((next : Option ℕ) → IsFreeEntry entries class n next → ⊥) → IsSome (part_of (entry_at start class state)).filled
 taken_state start class n entries (Taken len) here none = refl

@@ -30,8 +30,8 @@ AreLinked-nil entries heads none empty = record {
 head_free : (entries : List Entry) (class i : ℕ) (head : Option ℕ) (numbers : List ℕ) → head ≡ Some i → Chain entries class head numbers → (next : Option ℕ) × IsFreeEntry entries class i next
 head_free entries class i head [] at chain = absurd (none-some i (sym chain ∙ at))
 head_free entries class i head (m ∷ numbers) at chain =
-    let same : m ≡ i = same_Some m i (sym chain.1 ∙ at) in
-    (chain.0, (chain.2.0, ap (slice_get entries) (sym same) ∙ chain.2.1))
+    let same : m ≡ i = same_Some m i (sym chain.1.at_head ∙ at) in
+    (chain.0, (chain.1.free.0, ap (slice_get entries) (sym same) ∙ chain.1.free.1))
 
 -- the head of a class is a free part of it
 pub AreLinked-head : (entries : List Entry) (heads : List (Option ℕ)) (class i : ℕ) → class < 64 → AreLinked entries heads → get_or heads class None ≡ Some i → (next : Option ℕ) × IsFreeEntry entries class i next
@@ -74,11 +74,11 @@ taken_state (Free next) len same = absurd (none-some len same)
 -- the entry of a part that holds a list
 pub taken_entry : (entries : List Entry) (n : ℕ) (entry : Entry) → entry ≡ get_or entries n entry → IsTaken (map part_of entries) n → (len : ℕ) × (slice_get entries n ≡ Some (record { start = entry.start; class = entry.class; state = Taken len }))
 taken_entry entries n entry read taken =
-    let found = from_option_map part_of (slice_get entries n) _ (sym (slice_get-map part_of entries n) ∙ taken.3) in
+    let found = from_option_map part_of (slice_get entries n) _ (sym (slice_get-map part_of entries n) ∙ taken.here) in
     let here : slice_get entries n ≡ Some entry = slice_get_read entries (length entries) n entry refl (slice_get_within entries n found.0 found.1) read in
     let same : entry ≡ found.0 = same_Some entry found.0 (sym here ∙ found.1) in
-    let state : entry.state ≡ Taken taken.2 = taken_state entry.state taken.2 (ap (λ (e : Entry). filled_of e.state) same ∙ ap (λ (p : Part). p.filled) found.2) in
-    (taken.2, here ∙ ap (λ (s : State). Some (record { start = entry.start; class = entry.class; state = s })) state)
+    let state : entry.state ≡ Taken taken.len = taken_state entry.state taken.len (ap (λ (e : Entry). filled_of e.state) same ∙ ap (λ (p : Part). p.filled) found.2) in
+    (taken.len, here ∙ ap (λ (s : State). Some (record { start = entry.start; class = entry.class; state = s })) state)
 
 pub none_from : (o : Option ℕ) → ((x : ℕ) → o ≡ Some x → ⊥) → o ≡ None
 none_from None never = refl

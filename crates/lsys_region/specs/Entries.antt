@@ -21,11 +21,17 @@ abbrev pub IsMember : ℕ → List ℕ → Type 0
 IsMember n [] = ⊥
 IsMember n (m ∷ ms) = (n ≡ m) ⊎ IsMember n ms
 
+-- the head is the entry with this number, which is free, of this class and not among the later ones
+pub record IsFirst (entries : List Entry) (class : ℕ) (head : Option ℕ) (number : ℕ) (next : Option ℕ) (later : List ℕ) : Type 0 where
+  pub at_head : head ≡ Some number
+  pub free : IsFreeEntry entries class number next
+  pub once : IsMember number later → ⊥
+
 -- from the head on, the free entries of this class are these, each once
 abbrev pub Chain : List Entry → ℕ → Option ℕ → List ℕ → Type 0
 Chain entries class head [] = head ≡ None
-Chain entries class head (number ∷ numbers) =
-    (next : Option ℕ) × (head ≡ Some number) × IsFreeEntry entries class number next × (IsMember number numbers → ⊥) × Chain entries class next numbers
+Chain entries class head (number ∷ later) =
+    (next : Option ℕ) × IsFirst entries class head number next later × Chain entries class next later
 
 -- every free entry of this class is among these
 abbrev pub HasAllFree : List Entry → ℕ → List ℕ → Type 0

@@ -1,5 +1,5 @@
 -- How the slots of a region lie in its vector.
-use Rattle.std.specs.Prelude.{◌≡◌, ◌<◌, ◌≤◌, ◌+◌, ◌^◌, ℕ, List, length, Some, slice_get, slice_range, take, drop, option_map}
+use Rattle.std.specs.Prelude.{◌≡◌, ◌<◌, ◌≤◌, ◌+◌, ◌^◌, ℕ, List, length, Some, slice_get, slice_range, take, drop, option_map, ◌++◌}
 use Rattle.lsys_region.specs.Parts.{Part}
 use Rattle.lsys_region.specs.Pool.{Slot}
 use Rattle.lsys_region.specs.Rooms.{room_of}
@@ -17,6 +17,12 @@ pub record IsWritten {T : Type 0} (old new : List T) (start : ℕ) (list : List 
   pub written : slice_range new start (start + length list) ≡ list
   pub before : take start new ≡ take start old
   pub after : drop (start + length list) new ≡ drop (start + length list) old
+
+-- the vector after the list was written at its end, and its room filled up
+pub record IsAppended {T : Type 0} (old new list : List T) (room : ℕ) : Type 0 where
+  pub filling : List T
+  pub items : new ≡ old ++ list ++ filling
+  pub filled : length list + length filling ≡ room
 
 -- the parts lie within so many places, in order and apart, and each list has the room of its part
 pub record AreApart (parts : List Part) (size : ℕ) : Type 0 where

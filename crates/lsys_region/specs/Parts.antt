@@ -1,5 +1,5 @@
 -- What the region sees of its table of parts.
-use Rattle.std.specs.Prelude.{◌≡◌, ℕ, List, Option, Some, None, IsSome, slice_get, slice_set}
+use Rattle.std.specs.Prelude.{◌≡◌, ℕ, List, Option, Some, None, IsSome, slice_get, slice_set, [], ◌∷◌, ◌++◌, length}
 
 -- a part of the vector: where it begins, its size class (it has 2 to this power of places), and while it is taken
 -- how many of its places a list fills
@@ -18,8 +18,21 @@ abbrev pub AllTaken : List Part → ℕ → Type 0
 AllTaken parts class = (number : ℕ) (part : Part) → slice_get parts number ≡ Some part → part.class ≡ class → IsSome part.filled
 
 -- the part with this number holds a list
-abbrev pub IsTaken : List Part → ℕ → Type 0
-IsTaken parts number = (start : ℕ) × (class : ℕ) × (len : ℕ) × (slice_get parts number ≡ Some (record { start = start; class = class; filled = Some len }))
+pub record IsTaken (parts : List Part) (number : ℕ) : Type 0 where
+  pub start : ℕ
+  pub class : ℕ
+  pub len : ℕ
+  pub here : slice_get parts number ≡ Some (record { start = start; class = class; filled = Some len })
+
+-- the part with this number holds a list of this length, from `start` on
+pub record IsSpan (parts : List Part) (number start len : ℕ) : Type 0 where
+  pub class : ℕ
+  pub here : slice_get parts number ≡ Some (record { start = start; class = class; filled = Some len })
+
+-- a part of this class, from `start` on, is added under the next number, and holds a list of this length
+pub record AddsPart (old new : List Part) (number start class len : ℕ) : Type 0 where
+  pub next : number ≡ length old
+  pub changed : new ≡ old ++ record { start = start; class = class; filled = Some len } ∷ []
 
 -- the part with this number, of this class, was free, and now holds a list of this length
 pub record TakesPart (old new : List Part) (number class len : ℕ) : Type 0 where

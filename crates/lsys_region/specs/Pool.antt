@@ -1,5 +1,6 @@
 -- What a contract sees of a region and of a run.
 use Rattle.std.specs.Prelude.{◌≡◌, ◌≢◌, ℕ, ◌+◌, List, [], Option, Some, None, IsSome, is_none, count_by, slice_get, option_and_then, Bool, ◌&&◌, ◌==◌, refl}
+use Rattle.lsys_region.specs.Rooms.{list_room}
 use Rattle.std.specs.Coded.{Coded, code_by, coded×, coded_ℕ, coded_list, coded_option}
 
 -- a part of the region's vector: its room, and the list of its run while that run is live
@@ -80,6 +81,7 @@ module _ {T : Type 0} where
     pub size : new.size ≡ old.size + room
     pub spare : new.spare + room ≡ old.spare
 
-  -- one run more of this room is free, for the next list with this room
-  abbrev pub GivesBack : Pool T → Pool T → ℕ → Type 0
-  GivesBack old new room = free_runs new room ≡ free_runs old room + 1
+  -- one run more with the room of this list is free, if the list has room, and as many of each other room
+  pub record GivesBack (old new : Pool T) (list : List T) : Type 0 where
+    pub given : list ≢ [] → free_runs new (list_room list) ≡ free_runs old (list_room list) + 1
+    pub others : OtherRoomsStay old new (list_room list)

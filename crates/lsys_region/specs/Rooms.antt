@@ -1,5 +1,5 @@
 -- How much of a region a list takes.
-use Rattle.std.specs.Prelude.{◌≡◌, ℕ, zero, suc, ◌+◌, ◌^◌, ◌≤◌, true, false, nat_le}
+use Rattle.std.specs.Prelude.{◌≡◌, ℕ, zero, suc, ◌+◌, ◌^◌, ◌≤◌, true, false, nat_le, List, length}
 
 -- the first exponent, from this one on, whose power of two is not less than the length; at most so many are passed over
 abbrev pub exponent_from : ℕ → ℕ → ℕ → ℕ
@@ -10,6 +10,10 @@ exponent_from (suc tries) from len = elim (nat_le len (2 ^ from)) [ true ↦ fro
 unfoldable pub room_of : ℕ → ℕ
 room_of zero = 0
 room_of (suc n) = 2 ^ exponent_from n 0 (suc n)
+
+-- the room of a list
+abbrev pub list_room : {T : Type 0} → List T → ℕ
+list_room list = room_of (length list)
 
 -- the room is a power of two, the list fits in it, and it fits in no smaller power of two
 pub record IsLeastPower (len room : ℕ) : Type 0 where

@@ -8,10 +8,10 @@
 mod class;
 mod table;
 
-ghost use Rattle.std.specs.Prelude.{◌≡◌, ◌≢◌, ℕ, ◌+◌, ◌-◌, ◌<◌, ◌≤◌, ◌^◌, List, [], ◌++◌, length, max, replicate, Some, IfSome, IsOk, OnOk, OnErr, vec_len, vec_capacity};
+ghost use Rattle.std.specs.Prelude.{◌≡◌, ◌≢◌, ℕ, ◌+◌, ◌<◌, ◌≤◌, List, length, max, Some, None, IfSome, IsOk, OnOk, OnErr, vec_capacity};
 ghost use Rattle.lsys_region.specs.Pool.{empty_pool, list_at, list_of, IsLive, IsFresh, OthersStay, OtherRoomsStay, free_runs, Reuses, Grows, GivesBack};
-ghost use Rattle.lsys_region.specs.Layout.{IsWritten};
-ghost use Rattle.lsys_region.specs.Rooms.{room_of};
+ghost use Rattle.lsys_region.specs.Layout.{IsAppended, IsWritten};
+ghost use Rattle.lsys_region.specs.Rooms.{list_room};
 
 use class::class_of;
 pub use class::room;
@@ -95,14 +95,14 @@ impl<T: Copy> Region<T> {
     /// A free run of the list's room is used first, and then neither the vector nor the spare changes. The run of the
     /// empty list takes no room.
     pub fn place(&mut self, list: &[T]) -> Run
-        requires { room_of (length list.now) ≤ self.old.spare }
+        requires { list_room list.now ≤ self.old.spare }
         ensures placed { list_of self.new result ≡ Some list.now }
         ensures fresh { IsFresh self.old result list.now }
         ensures others { OthersStay self.old self.new result }
-        ensures spare { self.old.spare ≤ self.new.spare + room_of (length list.now) }
-        ensures reuses { 0 < free_runs self.old (room_of (length list.now)) → Reuses self.old self.new (room_of (length list.now)) }
-        ensures grows { free_runs self.old (room_of (length list.now)) ≡ 0 → Grows self.old self.new (room_of (length list.now)) }
-        ensures other_rooms { OtherRoomsStay self.old self.new (room_of (length list.now)) }
+        ensures spare { self.old.spare ≤ self.new.spare + list_room list.now }
+        ensures reuses { 0 < free_runs self.old (list_room list.now) → Reuses self.old self.new (list_room list.now) }
+        ensures grows { free_runs self.old (list_room list.now) ≡ 0 → Grows self.old self.new (list_room list.now) }
+        ensures other_rooms { OtherRoomsStay self.old self.new (list_room list.now) }
     {
         let start = self.cells.len();
         let Some(last) = list.last() else {
@@ -110,8 +110,7 @@ impl<T: Copy> Region<T> {
         };
         let class = class_of(list.len());
         if let Some(number) = self.table.take(class.number, list.len()) {
-            let places = self.table.places(number);
-            overwrite(&mut self.cells, places.start, list);
+            overwrite(&mut self.cells, self.table.span(number).start, list);
             return Run {
                 number: Some(number),
             };
@@ -130,8 +129,8 @@ impl<T: Copy> Region<T> {
     {
         match run.number {
             Some(number) => {
-                let places = self.table.places(number);
-                &self.cells[places.start..places.start + places.len]
+                let span = self.table.span(number);
+                &self.cells[span.start..span.start + span.len]
             }
             None => &self.cells[..0],
         }
@@ -144,8 +143,7 @@ impl<T: Copy> Region<T> {
         ensures others { OthersStay self.old self.new run }
         ensures size { self.new.size ≡ self.old.size }
         ensures spare { self.new.spare ≡ self.old.spare }
-        ensures given_back { (list : List T) → list_of self.old run ≡ Some list → list ≢ [] → GivesBack self.old self.new (room_of (length list)) }
-        ensures other_rooms { (list : List T) → list_of self.old run ≡ Some list → OtherRoomsStay self.old self.new (room_of (length list)) }
+        ensures given_back { (list : List T) → list_of self.old run ≡ Some list → GivesBack self.old self.new list }
     {
         if let Some(number) = run.number {
             self.table.release(number);
@@ -166,7 +164,7 @@ fn overwrite<T: Copy>(cells: &mut Vec<T>, start: usize, list: &[T])
 fn append<T: Copy>(cells: &mut Vec<T>, list: &[T], filler: T, room: usize)
     requires fits { length list.now ≤ room }
     requires capacity { length cells.old.items + room ≤ vec_capacity cells.old }
-    ensures items { cells.new.items ≡ cells.old.items ++ list.now ++ replicate (room - length list.now) filler }
+    ensures appended { IsAppended cells.old.items cells.new.items list.now room }
     ensures capacity { vec_capacity cells.old ≤ vec_capacity cells.new }
 {
     let end = cells.len() + room;

@@ -1,6 +1,6 @@
 //! The table of the parts of a region's vector. The free parts of each size class are linked, the last freed first.
 ghost use Rattle.std.specs.Prelude.{◌≡◌, ℕ, ◌+◌, ◌<◌, ◌≤◌, [], ◌∷◌, ◌++◌, length, Some, None, IfNone, IfSome, OnOk, OnErr, slice_get, slice_set};
-ghost use Rattle.lsys_region.specs.Parts.{AllTaken, IsTaken, TakesPart, FreesPart};
+ghost use Rattle.lsys_region.specs.Parts.{AllTaken, IsTaken, IsSpan, AddsPart, TakesPart, FreesPart};
 
 use crate::class::CLASSES;
 use std::alloc::{AllocError, Global};
@@ -23,9 +23,9 @@ pub(crate) struct Entry {
     state: State,
 }
 
-/// The places of a list in the vector.
+/// Where a list stands in the vector.
 #[derive(Clone, Copy)]
-pub(crate) struct Places {
+pub(crate) struct Span {
     pub(crate) start: usize,
     pub(crate) len: usize,
 }
@@ -95,8 +95,7 @@ impl Table {
     pub(crate) fn add(&mut self, start: usize, class: usize, len: usize) -> usize
         requires class { class < 64 }
         requires room { length self.old.parts < self.old.capacity }
-        ensures number { result ≡ length self.old.parts }
-        ensures parts { self.new.parts ≡ self.old.parts ++ record { start = start; class = class; filled = Some len } ∷ [] }
+        ensures added { AddsPart self.old.parts self.new.parts result start class len }
         ensures capacity { self.old.capacity ≤ self.new.capacity }
     {
         let number = self.entries.len();
@@ -123,14 +122,14 @@ impl Table {
         self.heads[class] = Some(number);
     }
 
-    /// The places of the list that this part holds.
-    pub(crate) fn places(&self, number: usize) -> Places
+    /// Where the list stands that this part holds.
+    pub(crate) fn span(&self, number: usize) -> Span
         requires { IsTaken self.now.parts number }
-        ensures { (class : ℕ) × (slice_get self.now.parts number ≡ Some (record { start = result.start; class = class; filled = Some result.len })) }
+        ensures { IsSpan self.now.parts number result.start result.len }
     {
         let entry = &self.entries[number];
         match entry.state {
-            State::Taken(len) => Places {
+            State::Taken(len) => Span {
                 start: entry.start,
                 len,
             },
