@@ -5,3 +5,4 @@ pub mod TableLemmas
 pub mod LayoutLemmas
 pub mod CountLemmas
 pub mod PoolLemmas
+pub mod HeldLemmas

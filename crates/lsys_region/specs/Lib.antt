@@ -3,3 +3,4 @@ pub mod Pool
 pub mod Parts
 pub mod Entries
 pub mod Layout
+pub mod Held

@@ -177,3 +177,6 @@ fn append<T: Copy>(cells: &mut Vec<T>, list: &[T], filler: T, room: usize)
         Err(_) => unreachable!(),
     }
 }
+
+#[cfg(test)]
+mod tests;
