@@ -7,7 +7,7 @@ use Rattle.std.proofs.lemmas.Option.{same_Some, none-some, slice_get_past, slice
 use Rattle.std.proofs.lemmas.Nat.{pow_pos}
 use Rattle.std.proofs.lemmas.Bool.{false≢true}
 use Rattle.lsys_region.specs.Parts.{Part, AllTaken, IsTaken, IsSpan, AddsPart, TakesPart, FreesPart}
-use Rattle.lsys_region.specs.Pool.{Pool, list_at, list_of, IsLive, OthersStay, IsFresh, free_runs, OtherRoomsStay, Reuses, Grows, GivesBack}
+use Rattle.lsys_region.specs.Pool.{Pool, list_at, list_of, IsLive, OthersStay, IsFresh, free_runs, free_for, OtherRoomsStay, Reuses, Grows, GivesBack}
 use Rattle.lsys_region.specs.Rooms.{room_of, list_room}
 use Rattle.lsys_region.specs.Layout.{slot_of, IsWritten, IsAppended, AreApart, IsSound}
 use Rattle.lsys_region.proofs.ListLemmas.{slice_get-set_other, slice_get-set_same, slice_get-push_new, slice_get-push_other}
@@ -82,8 +82,12 @@ module _ {T : Type 0} where
             (λ part there. refl);
       }
 
+  -- as many free runs of each other room
+  abbrev pub SameElsewhere : Pool T → Pool T → ℕ → Type 0
+  SameElsewhere old new room = (other : ℕ) → other ≢ room → free_runs new other ≡ free_runs old other
+
   -- taking a part takes one free run of its room
-  pub taken_counts : (parts parts' : List Part) (cells cells' : List T) (spare spare' n class len room : ℕ) → TakesPart parts parts' n class len → room ≡ 2 ^ class → (free_runs (pool_of parts' cells' spare') room + 1 ≡ free_runs (pool_of parts cells spare) room) × OtherRoomsStay (pool_of parts cells spare) (pool_of parts' cells' spare') room
+  pub taken_counts : (parts parts' : List Part) (cells cells' : List T) (spare spare' n class len room : ℕ) → TakesPart parts parts' n class len → room ≡ 2 ^ class → (free_runs (pool_of parts' cells' spare') room + 1 ≡ free_runs (pool_of parts cells spare) room) × SameElsewhere (pool_of parts cells spare) (pool_of parts' cells' spare') room
   taken_counts parts parts' cells cells' spare spare' n class len room taken same =
       let here = count-set (is_free_part room) parts n _ (part_at taken.start class (Some len)) true false taken.was_free (free_here room taken.start class (sym same)) refl in
       let now : count_by (is_free_part room) parts' ≡ count_by (is_free_part room) (set parts n (part_at taken.start class (Some len))) = ap (count_by (is_free_part room)) taken.changed in (
@@ -96,7 +100,7 @@ module _ {T : Type 0} where
       )
 
   -- freeing a part gives one free run of its room
-  pub freed_counts : (parts parts' : List Part) (cells : List T) (spare n room : ℕ) (frees : FreesPart parts parts' n) → room ≡ 2 ^ frees.class → (free_runs (pool_of parts' cells spare) room ≡ free_runs (pool_of parts cells spare) room + 1) × OtherRoomsStay (pool_of parts cells spare) (pool_of parts' cells spare) room
+  pub freed_counts : (parts parts' : List Part) (cells : List T) (spare n room : ℕ) (frees : FreesPart parts parts' n) → room ≡ 2 ^ frees.class → (free_runs (pool_of parts' cells spare) room ≡ free_runs (pool_of parts cells spare) room + 1) × SameElsewhere (pool_of parts cells spare) (pool_of parts' cells spare) room
   freed_counts parts parts' cells spare n room frees same =
       let new = part_at frees.start frees.class None in
       let here = count-set (is_free_part room) parts n _ new false true frees.was_taken refl (free_here room frees.start frees.class (sym same)) in
@@ -161,9 +165,10 @@ pub record IsPlaced {T : Type 0} (old new : Pool T) (run : Option ℕ) (list : L
   pub placed : list_of new run ≡ Some list
   pub fresh : IsFresh old run list
   pub others : OthersStay old new run
-  pub reuses : 0 < free_runs old (list_room list) → Reuses old new (list_room list)
-  pub grows : free_runs old (list_room list) ≡ 0 → Grows old new (list_room list)
-  pub other_rooms : OtherRoomsStay old new (list_room list)
+  pub reuses : 0 < free_for old list → Reuses old new list
+  pub grows : free_for old list ≡ 0 → Grows old new list
+  pub other_rooms : OtherRoomsStay old new list
+  pub spare : old.spare ≤ new.spare + list_room list
 
 module _ {T : Type 0} where
   -- a list with room is not empty
@@ -184,6 +189,7 @@ module _ {T : Type 0} where
         reuses = λ some. record { taken = counts.0; size = written.size; spare = refl };
         grows = λ none. absurd (omega (arith, counts.0));
         other_rooms = counts.1;
+        spare = omega arith;
       })
 
   -- a list that was placed in a new part at the end of the vector
@@ -210,6 +216,7 @@ module _ {T : Type 0} where
         reuses = λ some. absurd (omega arith);
         grows = λ no_free. record { none_free = kept (list_room list) ∙ none; size = size; spare = omega arith };
         other_rooms = λ other apart. kept other;
+        spare = omega arith;
       } in
       subst (λ (o : Pool T). IsPlaced o (pool_of parts' cells' left) (Some n) list) seen
       (subst (λ (p : Pool T). IsPlaced old p (Some n) list) same
@@ -282,10 +289,10 @@ module _ {T : Type 0} where
 
 module _ {T : Type 0} where
   -- the empty list takes no room
-  pub Reuses-empty : (parts : List Part) (cells : List T) {spare room : ℕ} {pool : Pool T} → pool_of parts cells spare ≡ pool → room ≡ 0 → 0 < free_runs pool room → Reuses pool pool room
-  Reuses-empty parts cells {spare} {room} {pool} seen empty some =
-      let none : free_runs pool room ≡ 0 = ap (free_runs pool) empty ∙ ap (λ (p : Pool T). free_runs p 0) (sym seen) ∙ no_free_room parts cells spare in
+  pub Reuses-empty : (parts : List Part) (cells : List T) {spare : ℕ} {list : List T} {pool : Pool T} → pool_of parts cells spare ≡ pool → list_room list ≡ 0 → 0 < free_for pool list → Reuses pool pool list
+  Reuses-empty parts cells {spare} {list} {pool} seen empty some =
+      let none : free_for pool list ≡ 0 = ap (free_runs pool) empty ∙ ap (λ (p : Pool T). free_runs p 0) (sym seen) ∙ no_free_room parts cells spare in
       absurd (omega arith)
 
-  pub Grows-empty : {room : ℕ} {pool : Pool T} → room ≡ 0 → free_runs pool room ≡ 0 → Grows pool pool room
-  Grows-empty {room} {pool} empty none = record { none_free = none; size = omega arith; spare = omega arith }
+  pub Grows-empty : {list : List T} {pool : Pool T} → list_room list ≡ 0 → free_for pool list ≡ 0 → Grows pool pool list
+  Grows-empty {list} {pool} empty none = record { none_free = none; size = omega arith; spare = omega arith }

@@ -65,23 +65,27 @@ module _ {T : Type 0} where
   abbrev pub free_runs : Pool T → ℕ → ℕ
   free_runs pool room = count_by (is_free_of room) pool.slots
 
-  -- as many free runs of each other room
-  abbrev pub OtherRoomsStay : Pool T → Pool T → ℕ → Type 0
-  OtherRoomsStay old new room = (other : ℕ) → other ≢ room → free_runs new other ≡ free_runs old other
+  -- how many free runs have the room of this list
+  abbrev pub free_for : Pool T → List T → ℕ
+  free_for pool list = free_runs pool (list_room list)
 
-  -- a free run of this room was taken: the vector and the spare stay
-  pub record Reuses (old new : Pool T) (room : ℕ) : Type 0 where
-    pub taken : free_runs new room + 1 ≡ free_runs old room
+  -- as many free runs of each room that is not this list's
+  abbrev pub OtherRoomsStay : Pool T → Pool T → List T → Type 0
+  OtherRoomsStay old new list = (room : ℕ) → room ≢ list_room list → free_runs new room ≡ free_runs old room
+
+  -- a free run with the room of this list was taken: the vector and the spare stay
+  pub record Reuses (old new : Pool T) (list : List T) : Type 0 where
+    pub taken : free_for new list + 1 ≡ free_for old list
     pub size : new.size ≡ old.size
     pub spare : new.spare ≡ old.spare
 
-  -- the vector grew by this room, out of the spare
-  pub record Grows (old new : Pool T) (room : ℕ) : Type 0 where
-    pub none_free : free_runs new room ≡ 0
-    pub size : new.size ≡ old.size + room
-    pub spare : new.spare + room ≡ old.spare
+  -- the vector grew by the room of this list, out of the spare
+  pub record Grows (old new : Pool T) (list : List T) : Type 0 where
+    pub none_free : free_for new list ≡ 0
+    pub size : new.size ≡ old.size + list_room list
+    pub spare : new.spare + list_room list ≡ old.spare
 
   -- one run more with the room of this list is free, if the list has room, and as many of each other room
   pub record GivesBack (old new : Pool T) (list : List T) : Type 0 where
-    pub given : list ≢ [] → free_runs new (list_room list) ≡ free_runs old (list_room list) + 1
-    pub others : OtherRoomsStay old new (list_room list)
+    pub given : list ≢ [] → free_for new list ≡ free_for old list + 1
+    pub others : OtherRoomsStay old new list

@@ -9,7 +9,7 @@ mod class;
 mod table;
 
 ghost use Rattle.std.specs.Prelude.{◌≡◌, ◌≢◌, ℕ, ◌+◌, ◌<◌, ◌≤◌, List, length, max, Some, None, IfSome, IsOk, OnOk, OnErr, vec_capacity};
-ghost use Rattle.lsys_region.specs.Pool.{empty_pool, list_at, list_of, IsLive, IsFresh, OthersStay, OtherRoomsStay, free_runs, Reuses, Grows, GivesBack};
+ghost use Rattle.lsys_region.specs.Pool.{empty_pool, list_at, list_of, IsLive, IsFresh, OthersStay, OtherRoomsStay, free_for, Reuses, Grows, GivesBack};
 ghost use Rattle.lsys_region.specs.Layout.{IsAppended, IsWritten};
 ghost use Rattle.lsys_region.specs.Rooms.{list_room};
 
@@ -53,9 +53,15 @@ impl<T: Copy> Model for Region<T> {
 
     ghost use Rattle.lsys_region.specs.Layout.{slot_of, IsSound};
 
-    ghost view = { λ a. record { slots = map (slot_of a.cells.items) a.table.parts; size = length a.cells.items; spare = a.spare } };
+    ghost view = { λ a. record {
+        slots = map (slot_of a.cells.items) a.table.parts;
+        size = length a.cells.items;
+        spare = a.spare
+    } };
 
-    ghost invariant = { λ a. IsSound a.table.parts (length a.cells.items) a.spare (vec_capacity a.cells) a.table.capacity };
+    ghost invariant = {
+        λ a. IsSound a.table.parts (length a.cells.items) a.spare (vec_capacity a.cells) a.table.capacity
+    };
 }
 
 impl<T: Copy> Region<T> {
@@ -70,7 +76,7 @@ impl<T: Copy> Region<T> {
         }
     }
 
-    /// Makes room for lists whose rooms are together at most `n`. Runs stay.
+    /// Makes the spare at least `n`, so that lists whose rooms are together at most `n` can be placed. Runs stay.
     ///
     /// # Errors
     ///
@@ -90,19 +96,19 @@ impl<T: Copy> Region<T> {
         Ok(())
     }
 
-    /// Places the list in a new run. It takes no memory.
+    /// Places a list whose room is at most the spare in a new run. It takes no memory.
     ///
-    /// A free run of the list's room is used first, and then neither the vector nor the spare changes. The run of the
-    /// empty list takes no room.
+    /// A free run with the list's room is used first, and then neither the vector nor the spare changes. Else the
+    /// vector grows by the room, out of the spare. The run of the empty list takes no room, and is live in every region.
     pub fn place(&mut self, list: &[T]) -> Run
         requires { list_room list.now ≤ self.old.spare }
         ensures placed { list_of self.new result ≡ Some list.now }
         ensures fresh { IsFresh self.old result list.now }
         ensures others { OthersStay self.old self.new result }
         ensures spare { self.old.spare ≤ self.new.spare + list_room list.now }
-        ensures reuses { 0 < free_runs self.old (list_room list.now) → Reuses self.old self.new (list_room list.now) }
-        ensures grows { free_runs self.old (list_room list.now) ≡ 0 → Grows self.old self.new (list_room list.now) }
-        ensures other_rooms { OtherRoomsStay self.old self.new (list_room list.now) }
+        ensures reuses { 0 < free_for self.old list.now → Reuses self.old self.new list.now }
+        ensures grows { free_for self.old list.now ≡ 0 → Grows self.old self.new list.now }
+        ensures other_rooms { OtherRoomsStay self.old self.new list.now }
     {
         let start = self.cells.len();
         let Some(last) = list.last() else {
@@ -136,14 +142,16 @@ impl<T: Copy> Region<T> {
         }
     }
 
-    /// Frees a live run: it is kept for the next list with the same room. It takes no memory.
+    /// Frees a live run: its room is kept for the next list with the same room. It takes no memory.
     pub fn free(&mut self, run: Run)
         requires { IsLive self.old run }
         ensures gone { IfSome run (λ number. list_at self.new number ≡ None) }
         ensures others { OthersStay self.old self.new run }
         ensures size { self.new.size ≡ self.old.size }
         ensures spare { self.new.spare ≡ self.old.spare }
-        ensures given_back { (list : List T) → list_of self.old run ≡ Some list → GivesBack self.old self.new list }
+        ensures given_back {
+            (list : List T) → list_of self.old run ≡ Some list → GivesBack self.old self.new list
+        }
     {
         if let Some(number) = run.number {
             self.table.release(number);

@@ -28,29 +28,18 @@ pub invariant_of-self : goal.invariant_of-self
 invariant_of-self g c =
     IsSound-take c.self.invariant c.in-Some-take.ensures.taken (sym c.class_of-class.ensures ∙ c.class_of-class.result.power) c.overwrite.ensures.written.size (omega arith) c.in-Some-take.ensures.capacity
 
-pub returns-in-Some-take-clause-placed : goal.returns-in-Some-take-clause-placed
-returns-in-Some-take-clause-placed g c =
-    (IsPlaced-again c.self.view_is c.self.invariant.lie c.in-Some-take.ensures.taken c.span.ensures (sym c.class_of-class.ensures ∙ c.class_of-class.result.power) c.overwrite.ensures.written).placed
-
-pub returns-in-Some-take-clause-fresh : goal.returns-in-Some-take-clause-fresh
-returns-in-Some-take-clause-fresh g c =
-    (IsPlaced-again c.self.view_is c.self.invariant.lie c.in-Some-take.ensures.taken c.span.ensures (sym c.class_of-class.ensures ∙ c.class_of-class.result.power) c.overwrite.ensures.written).fresh
-
-pub returns-in-Some-take-clause-others : goal.returns-in-Some-take-clause-others
-returns-in-Some-take-clause-others g c =
-    (IsPlaced-again c.self.view_is c.self.invariant.lie c.in-Some-take.ensures.taken c.span.ensures (sym c.class_of-class.ensures ∙ c.class_of-class.result.power) c.overwrite.ensures.written).others
-
-pub returns-in-Some-take-clause-reuses : goal.returns-in-Some-take-clause-reuses
-returns-in-Some-take-clause-reuses g c =
-    (IsPlaced-again c.self.view_is c.self.invariant.lie c.in-Some-take.ensures.taken c.span.ensures (sym c.class_of-class.ensures ∙ c.class_of-class.result.power) c.overwrite.ensures.written).reuses
-
-pub returns-in-Some-take-clause-grows : goal.returns-in-Some-take-clause-grows
-returns-in-Some-take-clause-grows g c =
-    (IsPlaced-again c.self.view_is c.self.invariant.lie c.in-Some-take.ensures.taken c.span.ensures (sym c.class_of-class.ensures ∙ c.class_of-class.result.power) c.overwrite.ensures.written).grows
-
-pub returns-in-Some-take-clause-other_rooms : goal.returns-in-Some-take-clause-other_rooms
-returns-in-Some-take-clause-other_rooms g c =
-    (IsPlaced-again c.self.view_is c.self.invariant.lie c.in-Some-take.ensures.taken c.span.ensures (sym c.class_of-class.ensures ∙ c.class_of-class.result.power) c.overwrite.ensures.written).other_rooms
+pub returns-in-Some-take : goal.returns-in-Some-take
+returns-in-Some-take g c =
+    let done = IsPlaced-again c.self.view_is c.self.invariant.lie c.in-Some-take.ensures.taken c.span.ensures (sym c.class_of-class.ensures ∙ c.class_of-class.result.power) c.overwrite.ensures.written in
+    record {
+      placed = done.placed;
+      fresh = done.fresh;
+      others = done.others;
+      spare = done.spare;
+      reuses = done.reuses;
+      grows = done.grows;
+      other_rooms = done.other_rooms;
+    }
 
 pub append-requires-clause-fits : goal.append-requires-clause-fits
 append-requires-clause-fits g c = omega (arith, room_fits (length c.args.list.now), c.class_of-class.ensures)
@@ -61,32 +50,16 @@ invariant_of-self-2 g c =
     let capacity : c.self.inside.table.capacity ≤ c.take.new.self.capacity = c.in_default-take.ensures.capacity in
     IsSound-push _ _ _ _ c.self.view_is c.self.invariant (omega arith) added c.append.ensures.appended c.class_of-class.result.power c.class_of-class.ensures c.requires c.append.ensures.capacity (omega (arith, c.add.ensures.capacity))
 
-pub returns-clause-placed : goal.returns-clause-placed
-returns-clause-placed g c =
+pub returns : goal.returns
+returns g c =
     let added = rw c.in_default-take.ensures.same at c.add.ensures.added in
-    (IsPlaced-new c.self.view_is c.self.invariant.lie c.in_default-take.ensures.none (omega arith) added c.append.ensures.appended c.class_of-class.result.power c.class_of-class.ensures c.requires).placed
-
-pub returns-clause-fresh : goal.returns-clause-fresh
-returns-clause-fresh g c =
-    let added = rw c.in_default-take.ensures.same at c.add.ensures.added in
-    (IsPlaced-new c.self.view_is c.self.invariant.lie c.in_default-take.ensures.none (omega arith) added c.append.ensures.appended c.class_of-class.result.power c.class_of-class.ensures c.requires).fresh
-
-pub returns-clause-others : goal.returns-clause-others
-returns-clause-others g c =
-    let added = rw c.in_default-take.ensures.same at c.add.ensures.added in
-    (IsPlaced-new c.self.view_is c.self.invariant.lie c.in_default-take.ensures.none (omega arith) added c.append.ensures.appended c.class_of-class.result.power c.class_of-class.ensures c.requires).others
-
-pub returns-clause-reuses : goal.returns-clause-reuses
-returns-clause-reuses g c =
-    let added = rw c.in_default-take.ensures.same at c.add.ensures.added in
-    (IsPlaced-new c.self.view_is c.self.invariant.lie c.in_default-take.ensures.none (omega arith) added c.append.ensures.appended c.class_of-class.result.power c.class_of-class.ensures c.requires).reuses
-
-pub returns-clause-grows : goal.returns-clause-grows
-returns-clause-grows g c =
-    let added = rw c.in_default-take.ensures.same at c.add.ensures.added in
-    (IsPlaced-new c.self.view_is c.self.invariant.lie c.in_default-take.ensures.none (omega arith) added c.append.ensures.appended c.class_of-class.result.power c.class_of-class.ensures c.requires).grows
-
-pub returns-clause-other_rooms : goal.returns-clause-other_rooms
-returns-clause-other_rooms g c =
-    let added = rw c.in_default-take.ensures.same at c.add.ensures.added in
-    (IsPlaced-new c.self.view_is c.self.invariant.lie c.in_default-take.ensures.none (omega arith) added c.append.ensures.appended c.class_of-class.result.power c.class_of-class.ensures c.requires).other_rooms
+    let done = IsPlaced-new c.self.view_is c.self.invariant.lie c.in_default-take.ensures.none (omega arith) added c.append.ensures.appended c.class_of-class.result.power c.class_of-class.ensures c.requires in
+    record {
+      placed = done.placed;
+      fresh = done.fresh;
+      others = done.others;
+      spare = done.spare;
+      reuses = done.reuses;
+      grows = done.grows;
+      other_rooms = done.other_rooms;
+    }
