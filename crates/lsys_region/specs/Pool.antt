@@ -14,24 +14,6 @@ pub record Pool (T : Type 0) : Type 0 where
   pub size : ℕ
   pub spare : ℕ
 
-abbrev pub slot_code : {T : Type 0} → Coded T → Coded (Slot T)
-slot_code {T} code =
-    code_by
-    (ℕ × Option (List T))
-    (coded× coded_ℕ (coded_option (coded_list code)))
-    (λ s. (s.room, s.list))
-    (λ p. record { room = p.0; list = p.1 })
-    (λ _. refl)
-
-abbrev pub pool_code : {T : Type 0} → Coded T → Coded (Pool T)
-pool_code {T} code =
-    code_by
-    (List (Slot T) × (ℕ × ℕ))
-    (coded× (coded_list (slot_code code)) (coded× coded_ℕ coded_ℕ))
-    (λ s. (s.slots, (s.size, s.spare)))
-    (λ p. record { slots = p.0; size = p.1.0; spare = p.1.1 })
-    (λ _. refl)
-
 -- a region with no runs and no spare
 abbrev pub empty_pool : {T : Type 0} → Pool T
 empty_pool = record { slots = []; size = 0; spare = 0 }
@@ -89,3 +71,22 @@ module _ {T : Type 0} where
   pub record GivesBack (old new : Pool T) (list : List T) : Type 0 where
     pub given : list ≢ [] → free_for new list ≡ free_for old list + 1
     pub others : OtherRoomsStay old new list
+
+-- how a slot and a pool are stored
+abbrev pub slot_code : {T : Type 0} → Coded T → Coded (Slot T)
+slot_code {T} code =
+    code_by
+    (ℕ × Option (List T))
+    (coded× coded_ℕ (coded_option (coded_list code)))
+    (λ s. (s.room, s.list))
+    (λ p. record { room = p.0; list = p.1 })
+    (λ _. refl)
+
+abbrev pub pool_code : {T : Type 0} → Coded T → Coded (Pool T)
+pool_code {T} code =
+    code_by
+    (List (Slot T) × (ℕ × ℕ))
+    (coded× (coded_list (slot_code code)) (coded× coded_ℕ coded_ℕ))
+    (λ s. (s.slots, (s.size, s.spare)))
+    (λ p. record { slots = p.0; size = p.1.0; spare = p.1.1 })
+    (λ _. refl)

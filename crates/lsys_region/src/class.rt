@@ -1,5 +1,5 @@
 //! Size classes: the room of a list is a power of two.
-ghost use Rattle.std.specs.Prelude.{◌≡◌, ◌<◌, ◌≤◌, ◌^◌, length};
+ghost use Rattle.std.specs.Prelude.{◌≡◌, ◌<◌, ◌≤◌, ◌*◌, ◌^◌};
 ghost use Rattle.lsys_region.specs.Rooms.{room_of, IsLeastPower};
 
 /// How many size classes there are: one for each power of two that a `usize` can be.
@@ -34,6 +34,7 @@ pub fn room(length: usize) -> usize
     requires { length ≤ 2 ^ 63 }
     ensures value { result ≡ room_of length }
     ensures least { 0 < length → IsLeastPower length result }
+    ensures more_than_half { 0 < length → result < 2 * length }
     ensures empty { length ≡ 0 → result ≡ 0 }
 {
     if length == 0 {

@@ -54,14 +54,12 @@ impl<T: Copy> Model for Region<T> {
     ghost use Rattle.lsys_region.specs.Layout.{slot_of, IsSound};
 
     ghost view = { λ a. record {
-        slots = map (slot_of a.cells.items) a.table.parts;
-        size = length a.cells.items;
-        spare = a.spare
+      slots = map (slot_of a.cells.items) a.table.parts;
+      size = length a.cells.items;
+      spare = a.spare;
     } };
 
-    ghost invariant = {
-        λ a. IsSound a.table.parts (length a.cells.items) a.spare (vec_capacity a.cells) a.table.capacity
-    };
+    ghost invariant = { λ a. IsSound a.table.parts (length a.cells.items) a.spare (vec_capacity a.cells) a.table.capacity };
 }
 
 impl<T: Copy> Region<T> {
@@ -149,9 +147,7 @@ impl<T: Copy> Region<T> {
         ensures others { OthersStay self.old self.new run }
         ensures size { self.new.size ≡ self.old.size }
         ensures spare { self.new.spare ≡ self.old.spare }
-        ensures given_back {
-            (list : List T) → list_of self.old run ≡ Some list → GivesBack self.old self.new list
-        }
+        ensures given_back { (list : List T) → list_of self.old run ≡ Some list → GivesBack self.old self.new list }
     {
         if let Some(number) = run.number {
             self.table.release(number);
