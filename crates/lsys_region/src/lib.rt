@@ -1,8 +1,12 @@
 //! A pool of lists: each list stands in one run of one vector, whose room is a power of two, and freed runs are kept
 //! by their room and used again.
 //!
-//! After one [`Region::reserve`] lists are placed without a refusal. What contracts see of a region (its slots, its
-//! size and its spare) is in `specs/Pool.antt`, and the room of a list in `specs/Rooms.antt`.
+//! After one [`Region::reserve`] lists are placed without a refusal. What contracts see of a region (a finite map from
+//! live runs to lists, the size of the vector, and the spare) is in `specs/Pool.antt`, and the room of a list in
+//! `specs/Rooms.antt`. The spare is for any lists whose rooms are together at most so much, of whatever sizes. It is
+//! not lowered where a free run is used, so the vector is never longer than the most that was live of each room.
+//!
+//! A holder of many runs keeps `AreHeld` of `specs/Held.antt` true, by the lemmas of `proofs/HeldLemmas.antt`.
 #![tactic(auto)]
 
 mod class;
