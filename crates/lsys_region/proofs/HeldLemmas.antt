@@ -1,10 +1,12 @@
 -- Runs that are held stay live while others are placed and freed.
-use Rattle.std.proofs.Common.{◌≡◌, ◌≢◌, ℕ, zero, suc, List, [], ◌∷◌, ◌++◌, map, take, drop, Option, Some, None, slice_get, inl, inr, refl, sym, ap, subst, ◌∙◌, arith}
+use Rattle.std.proofs.Common.{◌≡◌, ◌≢◌, ℕ, zero, suc, List, [], ◌∷◌, ◌++◌, map, take, drop, Option, Some, None, slice_get, inl, inr, refl, sym, ap, subst, ◌∙◌, arith, ◌<◌, count_by, true}
 use Rattle.std.specs.List.{remove}
 use Rattle.std.specs.Option.{option_and_then, is_some}
 use Rattle.std.proofs.lemmas.List.{map-append, take-map, drop-map}
 use Rattle.std.proofs.lemmas.Option.{none-some}
-use Rattle.lsys_region.specs.Pool.{Slot, Pool, list_of, IsLive, IsFresh, OthersStay}
+use Rattle.std.proofs.lemmas.Bool.{false≢true}
+use Rattle.lsys_region.specs.Pool.{Slot, Pool, list_of, IsLive, is_free_of, free_runs, free_for, Reuses, GivesBack, IsFresh, OthersStay}
+use Rattle.lsys_region.specs.Rooms.{room_of, list_room, HaveOneRoom}
 use Rattle.lsys_region.specs.Held.{AreHeld}
 use Rattle.lsys_region.proofs.ListLemmas.{slice_get-push_cases}
 
@@ -102,3 +104,21 @@ module _ {T : Type 0} where
 
   pub AreHeld-live : (pool : Pool T) (held : List (Option ℕ × List T)) (k : ℕ) (run : Option ℕ) (list : List T) → AreHeld pool held → slice_get held k ≡ Some (run, list) → IsLive pool run
   AreHeld-live pool held k run list are here = ap (λ (o : Option (List T)). is_some o) (are.live k run list here)
+
+  filled_from_room : (list : List T) → 0 < list_room list → list ≢ []
+  unfolding room_of
+  filled_from_room [] some empty = omega arith
+  filled_from_room (x ∷ list) some empty = cc
+
+  live_list : (o : Option (List T)) → is_some o ≡ true → (list : List T) × (o ≡ Some list)
+  live_list None live = absurd (false≢true live)
+  live_list (Some list) live = (list, refl)
+
+  -- a list that is placed after one of the same room was freed does not make the vector longer
+  pub size-replaced : (old freed ready new : Pool T) (run : Option ℕ) (list : List T) → IsLive old run → ((was : List T) → list_of old run ≡ Some was → HaveOneRoom was list) → ((was : List T) → list_of old run ≡ Some was → GivesBack old freed was) → freed.size ≡ old.size → ready.slots ≡ freed.slots → ready.size ≡ freed.size → (0 < free_for ready list → Reuses ready new list) → new.size ≡ old.size
+  size-replaced old freed ready new run list live room back size slots kept reuses =
+      let was = live_list (list_of old run) live in
+      let rooms = room was.0 was.1 in
+      let given = (back was.0 was.1).given (filled_from_room was.0 rooms.0) in
+      let same : free_for ready list ≡ free_for freed was.0 = ap (λ (all : List (Slot T)). count_by (is_free_of (list_room list)) all) slots ∙ ap (free_runs freed) (sym rooms.1) in
+      (reuses (omega arith)).size ∙ kept ∙ size

@@ -1,5 +1,5 @@
 -- How much of a region a list takes.
-use Rattle.std.specs.Prelude.{◌≡◌, ℕ, zero, suc, ◌+◌, ◌^◌, ◌≤◌, true, false, nat_le, List, length}
+use Rattle.std.specs.Prelude.{◌≡◌, ◌<◌, ℕ, zero, suc, ◌+◌, ◌^◌, ◌≤◌, true, false, nat_le, List, length}
 
 -- the first exponent, from this one on, whose power of two is not less than the length; at most so many are passed over
 abbrev pub exponent_from : ℕ → ℕ → ℕ → ℕ
@@ -14,6 +14,10 @@ room_of (suc n) = 2 ^ exponent_from n 0 (suc n)
 -- the room of a list
 abbrev pub list_room : {T : Type 0} → List T → ℕ
 list_room list = room_of (length list)
+
+-- two lists with one room, which is not 0
+abbrev pub HaveOneRoom : {T : Type 0} → List T → List T → Type 0
+HaveOneRoom one two = (0 < list_room one) × (list_room one ≡ list_room two)
 
 -- the room is a power of two, the list fits in it, and it fits in no smaller power of two
 pub record IsLeastPower (len room : ℕ) : Type 0 where

@@ -1,5 +1,7 @@
 //! The worked calls of a region, and a mixed run against a plain list of lists.
-ghost use Rattle.std.specs.Prelude.{◌≡◌, ◌+◌, ◌<◌, ◌≤◌, length, vec_len, IfOk, OnOk};
+ghost use Rattle.std.specs.Prelude.{◌≡◌, ◌+◌, ◌<◌, ◌≤◌, List, ℕ, length, vec_len, IfOk, OnOk};
+ghost use Rattle.lsys_region.specs.Pool.{list_of, IsLive};
+ghost use Rattle.lsys_region.specs.Rooms.{HaveOneRoom};
 
 use crate::{Region, Run, room};
 use std::alloc::{AllocError, Global};
@@ -24,6 +26,31 @@ fn freed_room_is_placed_again(rt: HostRuntime) -> Result<(), Fail> {
     let c = region.place(&[8]);
     assert_eq!(rt; region.read(&c), [8].as_slice());
     assert_eq!(rt; region.read(&b), [4, 5, 6, 7].as_slice());
+    Ok(())
+}
+
+/// Frees a run, makes room anew, and places a list with the same room: the vector does not grow.
+fn replaced(region: &mut Region<u8>, run: Run, list: &[u8]) -> Result<Run, AllocError>
+    requires live { IsLive region.old run }
+    requires room { (was : List ℕ) → list_of region.old run ≡ Some was → HaveOneRoom was list.now }
+    requires bound { length list.now ≤ 1000 }
+    ensures placed { IfOk result (λ made. list_of region.new made ≡ Some list.now) }
+    ensures size { OnOk result (region.new.size ≡ region.old.size) }
+{
+    region.free(run);
+    region.reserve(room(list.len()))?;
+    Ok(region.place(list))
+}
+
+#[test]
+#[tactic(auto, unfolding(crate::specs::Rooms::room_of))]
+fn a_list_replaces_one_of_the_same_room(rt: HostRuntime) -> Result<(), Fail> {
+    let mut region = Region::<u8>::new(rt.alloc());
+    region.reserve(4)?;
+    let first = region.place(&[1, 2, 3]);
+    let second = replaced(&mut region, first, &[4, 5, 6, 7])?;
+    assert_eq!(rt; region.read(&second), [4, 5, 6, 7].as_slice());
+    assert_eq!(rt; region.cells.len(), 4);
     Ok(())
 }
 
