@@ -39,8 +39,11 @@ pub enum LineRefusal {
 /// Where a reader stands.
 #[derive(Clone, Copy)]
 pub enum Stage {
+    /// The end of the input was not seen.
     Going,
+    /// The end was seen, and all bytes are in lines.
     Ended,
+    /// An earlier call refused.
     Refused(LineRefusal),
 }
 
@@ -97,6 +100,7 @@ impl LineReader {
         // Each line takes a byte, and the lines together stay within the limit.
         ensures progress { OnTaken result (self.old.taken < self.new.taken) }
         ensures within { self.new.taken ≤ script_limit }
+        ensures else_takes_nothing { OnLast result (self.new.taken ≡ self.old.taken) }
 
         // The end and a refusal stay.
         ensures stops { OnLast result (last_answer self.new.stage ≡ Some result) }
