@@ -73,3 +73,10 @@ OnLast (Ok Line) P = Unit {0}
 OnLast (Ok Long) P = Unit {0}
 OnLast (Ok End) P = P
 OnLast (Err refusal) P = P
+
+-- at every answer but the end
+abbrev pub OnNoEnd : Result LineRead LineRefusal → Type 0 → Type 0
+OnNoEnd (Ok Line) P = P
+OnNoEnd (Ok Long) P = P
+OnNoEnd (Ok End) P = Unit {0}
+OnNoEnd (Err refusal) P = P

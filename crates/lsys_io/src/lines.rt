@@ -4,8 +4,8 @@ ghost use Rattle.std.specs.Io.KnownBytes.{IsAtEnd};
 ghost use Rattle.lsys_syntax.specs.Lines.{without_cr};
 ghost use Rattle.lsys_io.specs.Causes.{Rose};
 ghost use Rattle.lsys_io.specs.Feeds.{has_lf};
-ghost use Rattle.lsys_io.specs.Reading.{remaining, TakesLine, PassesLimit, LeavesNoLine, line_limit, script_limit};
-ghost use Rattle.lsys_io.specs.LineAnswers.{last_answer, OnLine, OnLong, OnTaken, OnEnd, OnReadFault, OnTooLong, OnNoFault, OnNoLine, OnLast};
+ghost use Rattle.lsys_io.specs.Reading.{remaining, IsNotRefused, TakesLine, PassesLimit, LeavesNoLine, line_limit, script_limit};
+ghost use Rattle.lsys_io.specs.LineAnswers.{last_answer, OnLine, OnLong, OnTaken, OnEnd, OnReadFault, OnTooLong, OnNoFault, OnNoLine, OnNoEnd, OnLast};
 
 use super::Source;
 use crate::gathering::{LINE_LIMIT, finish, gather};
@@ -105,6 +105,7 @@ impl LineReader {
         // The end and a refusal stay.
         ensures stops { OnLast result (last_answer self.new.stage ≡ Some result) }
         ensures stays { IfSome (last_answer self.old.stage) (λ answer. (result ≡ answer) × (self.new ≡ record self.old { line = [] }) × (source.new ≡ source.old)) }
+        ensures was_going { IsNotRefused self.old.stage → OnNoEnd result (self.old.stage ≡ Stage.Going) }
 
         ensures no_read_while_line_held { has_lf self.old.held ≡ true → source.new ≡ source.old }
         ensures never_falls { S.faults source.old ≤ S.faults source.new }
