@@ -9,6 +9,8 @@ ghost use Rattle.lsys_io.specs.Reading.{script_limit};
 mod run;
 mod session;
 mod status;
+#[cfg(test)]
+mod tests;
 
 pub use status::Status;
 

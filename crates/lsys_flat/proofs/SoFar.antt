@@ -24,7 +24,7 @@ pub record SoFar (s : declared.System) (limit t : ℕ) (rows : List (List (List 
   pub ends : slice_get rows (length rows - 1) ≡ Some last
   pub spells : Spells (last_level levels) last
   pub total : sum_by length levels + room ≡ limit
-  pub some : 0 < length rows
+  pub count : length rows ≡ t + 1
 
 -- a refusal stays
 stays_by : (s : declared.System) (limit t d : ℕ) (e : Refusal) → meaning_to (system_of s) limit t ≡ Err e → meaning_to (system_of s) limit (t + d) ≡ Err e
@@ -64,7 +64,7 @@ start s limit room h =
       ends = refl;
       spells = first_spells s;
       total = omega (arith, one_length x);
-      some = omega arith;
+      count = refl;
     }
 
 last_pushed : (levels : List (List Symbol)) (x : List Symbol) → last_level (levels ++ x ∷ []) ≡ x
@@ -93,7 +93,7 @@ more s limit t room rows last next h l a e fits =
       ends = grind (arith, common_steps, elements);
       spells = rw (last_pushed h.levels n.level) named;
       total = omega (arith, h.total);
-      some = grind (arith, common_steps);
+      count = grind (arith, common_steps, h.count);
     }
 
 -- the next level is too long

@@ -1,7 +1,7 @@
 //! The derivation of a system, level by level, each level a list.
 #![tactic(auto)]
 
-ghost use Rattle.std.specs.Prelude.{◌≡◌, ◌<◌, ◌≤◌, ◌++◌, ◌∷◌, [], length, map, flat_map, slice_get, IfOk, OnOk, OnErr, MatchOption, true, false};
+ghost use Rattle.std.specs.Prelude.{◌≡◌, ◌+◌, ◌<◌, ◌≤◌, ◌++◌, ◌∷◌, [], length, map, flat_map, slice_get, IfOk, OnOk, OnErr, MatchOption, true, false};
 ghost use Rattle.lsys_rules.specs.Letters.{IsLetter, AreLetters};
 ghost use Rattle.lsys_rules.specs.Views.{system_of};
 ghost use Rattle.lsys_flat.specs.Letters.{replaced};
@@ -9,6 +9,8 @@ ghost use Rattle.lsys_flat.specs.Rows.{IsMeaning};
 
 mod refusal;
 mod rows;
+#[cfg(test)]
+mod tests;
 
 pub use refusal::DeriveRefusal;
 pub use rows::Rows;
@@ -26,7 +28,7 @@ use std::alloc::{AllocError, Global};
 /// `Memory` is want of memory.
 pub fn derive(alloc: Global, system: &System, limit: u32) -> Result<Rows, DeriveRefusal>
     ensures meaning { IsMeaning (system_of system.now) limit result }
-    ensures some { IfOk result (λ rows. 0 < length rows) }
+    ensures levels { IfOk result (λ rows. length rows ≡ system.now.depth + 1) }
 {
     let mut rows = Rows::new(alloc);
     let first = system.axiom().clone()?;
