@@ -44,7 +44,15 @@ SoFar limit (Some script) (Some rest) old now s refused memory taken = Known lim
 pub start : (limit : ℕ) (script old : Option (List ℕ)) → SoFar limit script script old old opening false false 0
 start limit None old = tt
 start limit (Some script) old = record {
-  number = 1; answered = none; given = []; told = λ M _. refl; put = nothing old; refusals = refl; memories = refl; ample = λ _ k _. refl; length_is = omega arith
+  number = 1;
+  answered = none;
+  given = [];
+  told = λ M _. refl;
+  put = nothing old;
+  refusals = refl;
+  memories = refl;
+  ample = λ _ k _. refl;
+  length_is = omega arith;
 }
 
 with_answer : ℕ → Bool → (ℕ → Bool) → ℕ → Bool
@@ -67,10 +75,10 @@ all_false : (n : ℕ) (b : Bool) (answered : ℕ → Bool) → b ≡ false → (
 all_false n b answered e h k l = all_false_at n b answered k (eqb k n) refl e (λ q. h k (let ne : k ≢ n = eqb-false k n q in omega (arith, l, ne)))
 
 one_line : (limit : ℕ) (M : ℕ → Bool) (n : ℕ) (s : System) (line : List ℕ) (lines : List (List ℕ)) (b : Bool) (r : Reply) → M n ≡ b
-  → r ≡ reply_or_memory (reply limit) b s line → replies_from (reply limit) M n s (line ∷ lines) ≡ followed r (λ next. replies_from (reply limit) M (n + 1) next lines)
+    → r ≡ reply_or_memory (reply limit) b s line → replies_from (reply limit) M n s (line ∷ lines) ≡ followed r (λ next. replies_from (reply limit) M (n + 1) next lines)
 one_line limit M n s line lines b r m e =
-  ap (λ x. followed (reply_or_memory (reply limit) x s line) (λ next. replies_from (reply limit) M (n + 1) next lines)) m
-  ∙ ap (λ x. followed x (λ next. replies_from (reply limit) M (n + 1) next lines)) (sym e)
+    ap (λ x. followed (reply_or_memory (reply limit) x s line) (λ next. replies_from (reply limit) M (n + 1) next lines)) m
+    ∙ ap (λ x. followed x (λ next. replies_from (reply limit) M (n + 1) next lines)) (sym e)
 
 followed_on : (r : Reply) (rest : System → List Reply) → r.ends ≡ false → followed r rest ≡ r ∷ rest r.next
 followed_on r rest h = rw h refl
@@ -92,20 +100,20 @@ text_push given r = flat_map-append (λ x. x.text) given (r ∷ []) ∙ ap (λ t
 
 -- one line more
 known_more : (limit : ℕ) (script rest rest' : List ℕ) (old now now' : Option (List ℕ)) (s next : System) (refused memory : Bool) (taken taken' : ℕ) (line ended : List ℕ) (o : Outcome)
-  → Known limit script rest old now s refused memory taken → lines_of rest ≡ line ∷ lines_of rest' → rest ≡ ended ++ rest' → taken' ≡ taken + length ended
-  → LineReplies limit s line now now' next o
-  → Known limit script rest' old now' next (refused || refuses o) (memory || lacks_memory o) taken'
+    → Known limit script rest old now s refused memory taken → lines_of rest ≡ line ∷ lines_of rest' → rest ≡ ended ++ rest' → taken' ≡ taken + length ended
+    → LineReplies limit s line now now' next o
+    → Known limit script rest' old now' next (refused || refuses o) (memory || lacks_memory o) taken'
 known_more limit script rest rest' old now now' s next refused memory taken taken' line ended o k h b t (r, e, put, goes, (f, m, n)) = record {
   number = k.number + 1;
   answered = with_answer k.number r.is_memory k.answered;
   given = k.given ++ r ∷ [];
   told = λ M agree.
-    k.told M (λ i l. agree i (omega (arith, l)) ∙ before k.number r.is_memory k.answered i l)
-    ∙ ap (λ ls. k.given ++ replies_from (reply limit) M k.number s ls) h
-    ∙ ap (λ u. k.given ++ u) (one_line limit M k.number s line (lines_of rest') r.is_memory r (agree k.number (omega arith) ∙ here k.number r.is_memory k.answered) e
+      k.told M (λ i l. agree i (omega (arith, l)) ∙ before k.number r.is_memory k.answered i l)
+      ∙ ap (λ ls. k.given ++ replies_from (reply limit) M k.number s ls) h
+      ∙ ap (λ u. k.given ++ u) (one_line limit M k.number s line (lines_of rest') r.is_memory r (agree k.number (omega arith) ∙ here k.number r.is_memory k.answered) e
       ∙ followed_on r (λ c. replies_from (reply limit) M (k.number + 1) c (lines_of rest')) n)
-    ∙ sym (append_assoc k.given (r ∷ []) (replies_from (reply limit) M (k.number + 1) r.next (lines_of rest')))
-    ∙ ap (λ c. (k.given ++ r ∷ []) ++ replies_from (reply limit) M (k.number + 1) c (lines_of rest')) (sym goes);
+      ∙ sym (append_assoc k.given (r ∷ []) (replies_from (reply limit) M (k.number + 1) r.next (lines_of rest')))
+      ∙ ap (λ c. (k.given ++ r ∷ []) ++ replies_from (reply limit) M (k.number + 1) c (lines_of rest')) (sym goes);
   put = rw (text_push k.given r) (then old now now' (text_of k.given) r.text k.put put);
   refusals = ap (λ b. refused || b) (sym f) ∙ ap (λ b. b || r.is_refusal) k.refusals ∙ sym (any_refusal_push k.given r);
   memories = ap (λ b. memory || b) (sym m) ∙ ap (λ b. b || r.is_memory) k.memories ∙ sym (any_memory_push k.given r);
@@ -114,27 +122,27 @@ known_more limit script rest rest' old now now' s next refused memory taken take
 }
 
 pub more : (limit : ℕ) (script rest rest' old now now' : Option (List ℕ)) (s next : System) (refused memory : Bool) (taken taken' : ℕ) (line ended : List ℕ) (o : Outcome)
-  → SoFar limit script rest old now s refused memory taken → HasFirstLine rest rest' line → Consumes rest rest' ended → taken' ≡ taken + length ended
-  → LineReplies limit s line now now' next o
-  → SoFar limit script rest' old now' next (refused || refuses o) (memory || lacks_memory o) taken'
+    → SoFar limit script rest old now s refused memory taken → HasFirstLine rest rest' line → Consumes rest rest' ended → taken' ≡ taken + length ended
+    → LineReplies limit s line now now' next o
+    → SoFar limit script rest' old now' next (refused || refuses o) (memory || lacks_memory o) taken'
 more limit None rest rest' old now now' s next refused memory taken taken' line ended o k h b t p = tt
 more limit (Some script) None rest' old now now' s next refused memory taken taken' line ended o k h b t p = absurd k
 more limit (Some script) (Some rest) None old now now' s next refused memory taken taken' line ended o k h b t p = absurd h
 more limit (Some script) (Some rest) (Some rest') old now now' s next refused memory taken taken' line ended o k h b t p =
-  known_more limit script rest rest' old now now' s next refused memory taken taken' line ended o k h b t p
+    known_more limit script rest rest' old now now' s next refused memory taken taken' line ended o k h b t p
 
 -- the end of the script
 known_ends : (limit : ℕ) (script : List ℕ) (old now : Option (List ℕ)) (s : System) (refused memory : Bool) (taken : ℕ) → Known limit script [] old now s refused memory taken
-  → Ends limit (Some script) old now (status_of refused memory)
+    → Ends limit (Some script) old now (status_of refused memory)
 known_ends limit script old now s refused true taken k =
-  let all : out (reply limit) script k.answered ≡ k.given = k.told k.answered (λ i l. refl) ∙ append-nil k.given in
-  (k.answered, rw all k.put, ap any_memory all ∙ sym k.memories)
+    let all : out (reply limit) script k.answered ≡ k.given = k.told k.answered (λ i l. refl) ∙ append-nil k.given in
+    (k.answered, rw all k.put, ap any_memory all ∙ sym k.memories)
 known_ends limit script old now s true false taken k =
-  let all : out (reply limit) script none ≡ k.given = k.told none (λ i l. sym (k.ample refl i l)) ∙ append-nil k.given in
-  (rw all k.put, ap any_refusal all ∙ sym k.refusals, ap any_memory all ∙ sym k.memories)
+    let all : out (reply limit) script none ≡ k.given = k.told none (λ i l. sym (k.ample refl i l)) ∙ append-nil k.given in
+    (rw all k.put, ap any_refusal all ∙ sym k.refusals, ap any_memory all ∙ sym k.memories)
 known_ends limit script old now s false false taken k =
-  let all : out (reply limit) script none ≡ k.given = k.told none (λ i l. sym (k.ample refl i l)) ∙ append-nil k.given in
-  (rw all k.put, ap any_refusal all ∙ sym k.refusals, ap any_memory all ∙ sym k.memories)
+    let all : out (reply limit) script none ≡ k.given = k.told none (λ i l. sym (k.ample refl i l)) ∙ append-nil k.given in
+    (rw all k.put, ap any_refusal all ∙ sym k.refusals, ap any_memory all ∙ sym k.memories)
 
 untold_ends : (limit : ℕ) (old now : Option (List ℕ)) (refused memory : Bool) → Ends limit None old now (status_of refused memory)
 untold_ends limit old now refused true = tt
@@ -142,37 +150,37 @@ untold_ends limit old now true false = tt
 untold_ends limit old now false false = tt
 
 pub ends : (limit : ℕ) (script rest old now : Option (List ℕ)) (s : System) (refused memory : Bool) (taken : ℕ) → SoFar limit script rest old now s refused memory taken → IsAtEnd rest
-  → Ends limit script old now (status_of refused memory)
+    → Ends limit script old now (status_of refused memory)
 ends limit None rest old now s refused memory taken k e = untold_ends limit old now refused memory
 ends limit (Some script) None old now s refused memory taken k e = absurd k
 ends limit (Some script) (Some rest) old now s refused memory taken k e =
-  let P : List ℕ → Type 0 = λ r. Known limit script r old now s refused memory taken in
-  known_ends limit script old now s refused memory taken (subst P e k)
+    let P : List ℕ → Type 0 = λ r. Known limit script r old now s refused memory taken in
+    known_ends limit script old now s refused memory taken (subst P e k)
 
 -- past the limit
 pub too_long : (limit : ℕ) (script rest old now : Option (List ℕ)) (s : System) (refused memory : Bool) (taken : ℕ) → SoFar limit script rest old now s refused memory taken
-  → IfSome rest (PassesLimit taken) → OfScript script (λ t. script_limit < length t)
+    → IfSome rest (PassesLimit taken) → OfScript script (λ t. script_limit < length t)
 too_long limit None rest old now s refused memory taken k p = tt
 too_long limit (Some script) None old now s refused memory taken k p = absurd k
 too_long limit (Some script) (Some rest) old now s refused memory taken k p = omega (arith, k.length_is, p.past)
 
 -- a line's reply with its CR
 pub bare_line : (limit : ℕ) (s next : System) (line bare : List ℕ) (old now : Option (List ℕ)) (o : Outcome) → length line ≤ line_limit → bare ≡ without_cr line
-  → Replies limit s bare old now next o → LineReplies limit s line old now next o
+    → Replies limit s bare old now next o → LineReplies limit s line old now next o
 bare_line limit s next line bare old now o h b (r, e, put, goes, flags) =
-  let short : is_long line ≡ false = grind (arith, nat_tests) in
-  (r, e ∙ ap (λ t. bare_or_memory limit r.is_memory s t) b ∙ whole r.is_memory (is_long line) short, put, goes, flags)
+    let short : is_long line ≡ false = grind (arith, nat_tests) in
+    (r, e ∙ ap (λ t. bare_or_memory limit r.is_memory s t) b ∙ whole r.is_memory (is_long line) short, put, goes, flags)
   where
     whole : (lacks long : Bool) → long ≡ false
-      → bare_or_memory limit lacks s (without_cr line) ≡ memory_or (lacks && (not long && not (is_passed_over (without_cr line)))) s (elim long [ true ↦ refused_form s | false ↦ bare_reply limit s (without_cr line) ])
+        → bare_or_memory limit lacks s (without_cr line) ≡ memory_or (lacks && (not long && not (is_passed_over (without_cr line)))) s (elim long [ true ↦ refused_form s | false ↦ bare_reply limit s (without_cr line) ])
     whole lacks true q = cc
     whole lacks false q = refl
 
 pub long_line : (limit : ℕ) (s : System) (line : List ℕ) (old now : Option (List ℕ)) → line_limit < length line → Appends old now (codes "refused form" ++ line_feed)
-  → LineReplies limit s line old now s outcomes.Refused
+    → LineReplies limit s line old now s outcomes.Refused
 long_line limit s line old now h put =
-  let long : is_long line ≡ true = grind (arith, nat_tests) in
-  (refused_form s, whole (is_long line) long, put, refl, (refl, refl, refl))
+    let long : is_long line ≡ true = grind (arith, nat_tests) in
+    (refused_form s, whole (is_long line) long, put, refl, (refl, refl, refl))
   where
     whole : (long : Bool) → long ≡ true → refused_form s ≡ elim long [ true ↦ refused_form s | false ↦ bare_reply limit s (without_cr line) ]
     whole true q = refl

@@ -46,11 +46,11 @@ pub turn : (read : LineRead) (limit : ℕ) (script lo ln w now now' : Option (Li
     → SoFar limit script (remaining new ln) w now' next (refused || refuses o) (memory || lacks_memory o) new.taken
 turn Line limit script lo ln w now now' old new s next refused memory line o e k (l, t, h, q) d same answered =
     more limit script (remaining old lo) (remaining new ln) w now now' s next refused memory old.taken new.taken l (with_end new.stage l) o k t.first t.bytes t.counted
-      (bare_line limit s next l line now now' o h (same ∙ q) answered)
+    (bare_line limit s next l line now now' o h (same ∙ q) answered)
 turn Long limit script lo ln w now now' old new s next refused memory line o e k t (l, d, h) same (stays, is, put) =
     let long = long_line limit s l now now' h put in
     more limit script (remaining old lo) (remaining new ln) w now now' s next refused memory old.taken new.taken l (with_end new.stage l) o k d.first d.bytes d.counted
-      (rw (stays, is) long)
+    (rw (stays, is) long)
 turn End limit script lo ln w now now' old new s next refused memory line o e k t d same answered = absurd (e refl)
 
 pub begin : (limit : ℕ) (left w : Option (List ℕ)) → SoFar limit left (prepend_known [] left) w w opening false false 0

@@ -21,12 +21,12 @@ OfScript (Some script) P = P script
 -- the script's output was written, no line being refused for want of memory, and whether some reply is a refusal
 abbrev pub Answered : ℕ → Bool → Option (List ℕ) → Option (List ℕ) → List ℕ → Type 0
 Answered limit refused written_old written_new script =
-  Appends written_old written_new (text_of (replies limit script none)) × (any_refusal (replies limit script none) ≡ refused) × (any_memory (replies limit script none) ≡ false)
+    Appends written_old written_new (text_of (replies limit script none)) × (any_refusal (replies limit script none) ≡ refused) × (any_memory (replies limit script none) ≡ false)
 
 -- the script's output was written, and some lines were refused for want of memory
 abbrev pub LackedMemory : ℕ → Option (List ℕ) → Option (List ℕ) → List ℕ → Type 0
 LackedMemory limit written_old written_new script =
-  (M : ℕ → Bool) × Appends written_old written_new (text_of (replies limit script M)) × (any_memory (replies limit script M) ≡ true)
+    (M : ℕ → Bool) × Appends written_old written_new (text_of (replies limit script M)) × (any_memory (replies limit script M) ≡ true)
 
 -- what each end of a whole run says
 abbrev pub Ends : ℕ → Option (List ℕ) → Option (List ℕ) → Option (List ℕ) → Status → Type 0

@@ -82,9 +82,9 @@ IsOutcome r o = (r.is_refusal ≡ refuses o) × (r.is_memory ≡ lacks_memory o)
 -- a line's reply was put, and the session goes on from its system
 abbrev pub Replies : ℕ → spec.System → List ℕ → Option (List ℕ) → Option (List ℕ) → spec.System → Outcome → Type 0
 Replies limit s bare written_old written_new next o =
-  (r : Reply) × (r ≡ bare_or_memory limit r.is_memory s bare) × Appends written_old written_new r.text × (next ≡ r.next) × IsOutcome r o
+    (r : Reply) × (r ≡ bare_or_memory limit r.is_memory s bare) × Appends written_old written_new r.text × (next ≡ r.next) × IsOutcome r o
 
 -- as Replies, for a line with its CR, which may be too long
 abbrev pub LineReplies : ℕ → spec.System → List ℕ → Option (List ℕ) → Option (List ℕ) → spec.System → Outcome → Type 0
 LineReplies limit s line written_old written_new next o =
-  (r : Reply) × (r ≡ reply_or_memory (reply limit) r.is_memory s line) × Appends written_old written_new r.text × (next ≡ r.next) × IsOutcome r o
+    (r : Reply) × (r ≡ reply_or_memory (reply limit) r.is_memory s line) × Appends written_old written_new r.text × (next ≡ r.next) × IsOutcome r o

@@ -12,11 +12,10 @@ mod status;
 #[cfg(test)]
 mod tests;
 
-pub use status::Status;
-
 use lsys_io::{Buffered, LineReader, Sink, Source};
 use run::run;
 use session::Session;
+pub use status::Status;
 use std::alloc::Global;
 
 /// The most symbols of all levels together.

@@ -86,8 +86,8 @@ more s limit t room rows last next h l a e fits =
     record {
       levels = h.levels ++ n.level ∷ [];
       within = rw (add-one) (ap (λ (r : Result (List (List Symbol)) Refusal). r and_then λ levels. next_level (system_of s) t (last_level levels) and_then λ x. within_limit limit (suc t) (levels ++ x ∷ [])) h.within
-        ∙ ap (λ (r : Result (List Symbol) Refusal). r and_then λ x. within_limit limit (suc t) (h.levels ++ x ∷ [])) n.is
-        ∙ under limit (suc t) (h.levels ++ n.level ∷ []) (omega (arith, h.total)));
+          ∙ ap (λ (r : Result (List Symbol) Refusal). r and_then λ x. within_limit limit (suc t) (h.levels ++ x ∷ [])) n.is
+          ∙ under limit (suc t) (h.levels ++ n.level ∷ []) (omega (arith, h.total)));
       are = map-append (map plain) h.levels (n.level ∷ []) ∙ ap (λ xs. xs ++ map plain n.level ∷ []) h.are ∙ ap (λ y. map string_of rows ++ y ∷ []) (spells_string n.level next named) ∙ sym (map-append string_of rows (next ∷ []));
       last = next;
       ends = grind (arith, common_steps, elements);
@@ -107,9 +107,9 @@ passes s limit t room rows last h l a longer below =
     let long : length n.level ≡ length (flat_map (replaced s.rules) last) = spells_length n.level (flat_map (replaced s.rules) last) n.spells in
     let pushed : sum_by length (h.levels ++ n.level ∷ []) ≡ sum_by length h.levels + length n.level = sum_by_push length h.levels n.level in
     rw (add-one) (stays s limit (suc t) s.depth (OverLimit (suc t)) (omega arith)
-      (ap (λ (r : Result (List (List Symbol)) Refusal). r and_then λ levels. next_level (system_of s) t (last_level levels) and_then λ x. within_limit limit (suc t) (levels ++ x ∷ [])) h.within
-        ∙ ap (λ (r : Result (List Symbol) Refusal). r and_then λ x. within_limit limit (suc t) (h.levels ++ x ∷ [])) n.is
-        ∙ over limit (suc t) (h.levels ++ n.level ∷ []) (omega (arith, h.total))))
+    (ap (λ (r : Result (List (List Symbol)) Refusal). r and_then λ levels. next_level (system_of s) t (last_level levels) and_then λ x. within_limit limit (suc t) (levels ++ x ∷ [])) h.within
+    ∙ ap (λ (r : Result (List Symbol) Refusal). r and_then λ x. within_limit limit (suc t) (h.levels ++ x ∷ [])) n.is
+    ∙ over limit (suc t) (h.levels ++ n.level ∷ []) (omega (arith, h.total))))
 
 pub done : (s : declared.System) (limit t room : ℕ) (rows : List (List (List ℕ))) → (h : SoFar s limit t rows room) → t ≡ s.depth → meaning (system_of s) limit ≡ Ok h.levels
 done s limit t room rows h e = ap (meaning_to (system_of s) limit) (sym e) ∙ h.within

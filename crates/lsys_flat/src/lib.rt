@@ -12,11 +12,10 @@ mod rows;
 #[cfg(test)]
 mod tests;
 
-pub use refusal::DeriveRefusal;
-pub use rows::Rows;
-
 use lsys_rules::{NameList, Rule, System};
 use lsys_text::Name;
+pub use refusal::DeriveRefusal;
+pub use rows::Rows;
 use std::alloc::{AllocError, Global};
 
 /// The levels 0 to the depth, each made from the one before it by replacing all its letters at once

@@ -12,8 +12,9 @@ fn system_after(alloc: Global, lines: &[&str]) -> Result<System, AllocError> {
             return Err(AllocError);
         }
         let found = tokens(alloc, line.as_bytes()).map_err(|_| AllocError)?;
-        let command =
-            parse_command(alloc, found.as_slice(), line.len() as u32).map_err(|_| AllocError)?;
+        let command = parse_command(alloc, found.as_slice(), line.len() as u32).map_err(
+            |_| AllocError,
+        )?;
         system = apply(alloc, &system, &command).map_err(|_| AllocError)?;
     }
     Ok(system)

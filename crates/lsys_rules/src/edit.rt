@@ -13,8 +13,11 @@ use crate::system::System;
 use std::alloc::{AllocError, Global};
 
 const MOST_AXIOM_SYMBOLS: usize = 4096;
+
 const MOST_SUCCESSOR_SYMBOLS: usize = 128;
+
 const MOST_RULES: usize = 256;
+
 const MOST_LEVELS: u64 = 64;
 
 /// The system after an edit; for a query an equal system.

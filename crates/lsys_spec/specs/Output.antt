@@ -24,7 +24,7 @@ followed r rest = r ∷ elim r.ends [ true ↦ [] | false ↦ rest r.next ]
 abbrev pub replies_from : (System → List ℕ → Reply) → (ℕ → Bool) → ℕ → System → List (List ℕ) → List Reply
 replies_from answer M n s [] = []
 replies_from answer M n s (line ∷ lines) =
-  followed (reply_or_memory answer (M n) s line) (λ next. replies_from answer M (n + 1) next lines)
+    followed (reply_or_memory answer (M n) s line) (λ next. replies_from answer M (n + 1) next lines)
 
 abbrev pub out : (System → List ℕ → Reply) → List ℕ → (ℕ → Bool) → List Reply
 out answer script M = replies_from answer M 1 opening (lines_of script)

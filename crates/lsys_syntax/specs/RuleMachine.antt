@@ -218,7 +218,7 @@ rule_with b xs = record {
   right = b.head.right;
   condition = b.condition;
   weight = b.weight;
-  successor = xs
+  successor = xs;
 }
 
 -- the rule, where it may end here

@@ -25,10 +25,10 @@ lines-preserved g c =
     let not_end : c.in-Ok.read ≢ End = search rules in
     record {
       far = turned c.in-Ok.read c.args.session.now.limit c.lines.session.limit (g.S.Source.left c.args.source.now) (g.S.Source.left c.lines.source) (g.S.Source.left c.next_line.new.source)
-        (g.K.Sink.written c.args.sink.now) (g.K.Sink.written c.lines.sink) (g.K.Sink.written c.answer_line.new.sink) c.lines.reader c.next_line.new.self
-        (system_of c.lines.session.system) (system_of c.answer_line.new.session.system) c.lines.tally.refused c.lines.tally.memory c.with-tally.result.refused c.with-tally.result.memory
-        c.line.result.now c.in-Ok-answer_line.outcome not_end c.lines.invariant.limit c.with-tally.ensures.refused c.with-tally.ensures.memory c.lines.invariant.far
-        c.in-Ok.ensures.line c.in-Ok.ensures.long c.line.ensures c.in-Ok-answer_line.ensures.replies;
+          (g.K.Sink.written c.args.sink.now) (g.K.Sink.written c.lines.sink) (g.K.Sink.written c.answer_line.new.sink) c.lines.reader c.next_line.new.self
+          (system_of c.lines.session.system) (system_of c.answer_line.new.session.system) c.lines.tally.refused c.lines.tally.memory c.with-tally.result.refused c.with-tally.result.memory
+          c.line.result.now c.in-Ok-answer_line.outcome not_end c.lines.invariant.limit c.with-tally.ensures.refused c.with-tally.ensures.memory c.lines.invariant.far
+          c.in-Ok.ensures.line c.in-Ok.ensures.long c.line.ensures c.in-Ok-answer_line.ensures.replies;
       holds = c.in-Ok-answer_line.ensures.holds;
       limit = c.answer_line.ensures.limit ∙ c.lines.invariant.limit;
       empty = c.in-Ok-answer_line.ensures.empty;
