@@ -1,5 +1,5 @@
 -- Reading a rule: a state holds what was read of it, the last symbol first, and each token is one step.
-use Rattle.std.specs.Prelude.{ℕ, zero, suc, Bool, true, false, Option, Some, None, List, [], ◌∷◌, ◌-◌, ◌+◌, ◌==◌, ◌^◌, nat_lt, if◌then◌else◌}
+use Rattle.std.specs.Prelude.{ℕ, zero, suc, Option, Some, None, List, [], ◌∷◌, ◌-◌, ◌+◌, ◌^◌, nat_lt, if◌then◌else◌}
 use Rattle.lsys_syntax.specs.Tokens.{NameText, Kind, Name, Number, BigNumber, Arrow, LeftParen, RightParen, LeftBracket, RightBracket, Comma, Colon, At, Plus, Minus, Slash, Backslash, Percent, Ampersand, Bar, Caret, Bang, Less, Greater}
 use Rattle.lsys_syntax.specs.Strings.{ModuleName, named, plus, minus, ampersand, caret, backslash, slash, bar, bang, Symbol, Module, Push, Pop, Cut}
 use Rattle.lsys_syntax.specs.Expressions.{Expr}
@@ -218,7 +218,7 @@ rule_with b xs = record {
   right = b.head.right;
   condition = b.condition;
   weight = b.weight;
-  successor = xs
+  successor = xs;
 }
 
 -- the rule, where it may end here

@@ -1,7 +1,7 @@
 -- Rules with contexts, condition and weight (ABOP 1.7, 1.8 and 1.10), and how they are printed.
-use Rattle.std.specs.Prelude.{◌≡◌, ℕ, true, max, Option, Some, None, List, [], ◌∷◌, ◌++◌, codes}
-use Rattle.lsys_syntax.specs.Tokens.{NameText, Kind, Word, Name, Arrow, Colon, At, Less, Greater}
-use Rattle.lsys_syntax.specs.Pieces.{Piece, blank, token, note, left_begins, predecessor_begins, right_begins, successor_begins, text_of, IsNameText, IsWordText}
+use Rattle.std.specs.Prelude.{◌≡◌, ℕ, true, max, Option, Some, None, List, [], ◌∷◌, ◌++◌}
+use Rattle.lsys_syntax.specs.Tokens.{NameText, Kind, Name, Arrow, Colon, At, Less, Greater}
+use Rattle.lsys_syntax.specs.Pieces.{Piece, blank, token, note, left_begins, predecessor_begins, right_begins, successor_begins, IsNameText, IsWordText}
 use Rattle.lsys_syntax.specs.Strings.{ModuleName, Symbol, Module, Cut, symbol_pieces, string_pieces, EachOf, IsModuleName, IsSymbol, balanced}
 use Rattle.lsys_syntax.specs.Expressions.{Expr, IsExpr, expr_pieces}
 use Rattle.lsys_syntax.specs.Nesting.{expr_nesting}
@@ -45,7 +45,7 @@ successor_pieces (x ∷ xs) = blank ∷ note successor_begins ∷ string_pieces 
 
 abbrev pub rule_pieces : Rule → List Piece
 rule_pieces r =
-  left_pieces r.left ++ (predecessor_pieces r.name r.formals ++ (right_pieces r.right
+    left_pieces r.left ++ (predecessor_pieces r.name r.formals ++ (right_pieces r.right
     ++ (option_pieces Colon r.condition ++ (option_pieces At r.weight ++ blank ∷ token Arrow ∷ successor_pieces r.successor))))
 
 abbrev pub IsOption : Option Expr → Type 0
