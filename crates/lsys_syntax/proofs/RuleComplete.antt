@@ -50,7 +50,7 @@ module _ (m : Form) (b : ℕ) (p : Part) (r : List (Symbol NameText)) where
       let e : Formals p (Module n (reversed (reversed_onto fs (f ∷ []))) ∷ r) ≡ Formals p (Module n (f ∷ fs) ∷ r) = ap (λ gs. Formals p (Module n gs ∷ r)) (reversed-one f fs) in
       (tt, (tt, leads-to (step m) (Shallow b) (more_pieces formal_pieces fs ++ token RightParen ∷ []) (FormalRead p r n (f ∷ [])) (Formals p (Module n (reversed (reversed_onto fs (f ∷ []))) ∷ r)) (Formals p (Module n (f ∷ fs) ∷ r)) e (formals-more fs (f ∷ []) n)))
 
-  formals-name : (n : ModuleName) → step m (Formals p r) (name_kind n) ≡ one_more m r (Formals p (Module n [] ∷ r))
+  formals-name : (n : ModuleName) → step m (Formals p r) (name_kind n) ≡ one_more m p r (Formals p (Module n [] ∷ r))
   formals-name (named n) = refl
   formals-name plus = refl
   formals-name minus = refl
@@ -61,18 +61,26 @@ module _ (m : Form) (b : ℕ) (p : Part) (r : List (Symbol NameText)) where
   formals-name bar = refl
   formals-name bang = refl
 
-  formals-module : (n : ModuleName) (fs : List NameText) → one_more m r (Formals p (Module n [] ∷ r)) ≡ Formals p (Module n [] ∷ r) → Lead m b (Formals p r) (symbol_pieces formal_pieces (Module n fs)) (Formals p (Module n fs ∷ r))
+  formals-module : (n : ModuleName) (fs : List NameText) → one_more m p r (Formals p (Module n [] ∷ r)) ≡ Formals p (Module n [] ∷ r) → Lead m b (Formals p r) (symbol_pieces formal_pieces (Module n fs)) (Formals p (Module n fs ∷ r))
   formals-module n fs e =
       leads-token (step m) (Shallow b) (name_kind n) (params_pieces formal_pieces fs) (Formals p r) (Formals p (Module n [] ∷ r)) (Formals p (Module n fs ∷ r)) (formals-name n ∙ e) tt (formals-params fs n)
 
 -- brackets stand in right contexts alone
 abbrev Allowed : Part → Symbol NameText → Type 0
 Allowed (at_right l n fs) s = IsItem s
-Allowed p s = IsPattern s
+Allowed at_first s = IsPattern s
+Allowed (at_predecessor l) s = ⊥
+
+-- patterns stand one behind another but as a predecessor
+several : (p : Part) (r : List (Symbol NameText)) (x : Symbol NameText) (s : State) → Allowed p x → one_more production p r s ≡ s
+several p [] x s a = refl
+several at_first (y ∷ r) x s a = refl
+several (at_right l n fs) (y ∷ r) x s a = refl
+several (at_predecessor l) (y ∷ r) x s a = elim a [ ]
 
 module _ (b : ℕ) where
   formals-symbol : (x : Symbol NameText) (p : Part) (r : List (Symbol NameText)) → Allowed p x → Closes x (open_in r) → Lead production b (Formals p r) (symbol_pieces formal_pieces x) (Formals p (x ∷ r))
-  formals-symbol (Module n fs) p r a c = formals-module production b p r n fs refl
+  formals-symbol (Module n fs) p r a c = formals-module production b p r n fs (several p r (Module n fs) (Formals p (Module n [] ∷ r)) a)
   formals-symbol Push (at_right l n fs) r a c = (tt, refl)
   formals-symbol Pop (at_right l n fs) r a c =
       leads-token (step production) (Shallow b) RightBracket [] (Formals (at_right l n fs) r) (Formals (at_right l n fs) (Pop ∷ r)) (Formals (at_right l n fs) (Pop ∷ r)) (popped-open (open_in r) (Formals (at_right l n fs) (Pop ∷ r)) c) tt refl
@@ -117,10 +125,6 @@ left-leads production b (x ∷ xs) o h =
     leads-append (step production) (Shallow b) (string_pieces formal_pieces (x ∷ xs)) (blank ∷ token Less ∷ blank ∷ []) start (Formals at_first read) (Formals (at_predecessor (x ∷ xs)) [])
     (string-formals b (x ∷ xs) at_first h (patterns-balanced (x ∷ xs) h))
     (leads-token (step production) (Shallow b) Less (blank ∷ []) (Formals at_first read) (Formals (at_predecessor (x ∷ xs)) []) (Formals (at_predecessor (x ∷ xs)) []) e tt refl)
-
-first-fits : (m : Form) (s : State) → one_more m [] s ≡ s
-first-fits production s = refl
-first-fits homomorphism s = refl
 
 -- behind the right context, which there may be
 abbrev right_behind : List (Symbol NameText) → ModuleName → List NameText → List (Symbol NameText) → State
@@ -273,7 +277,7 @@ rule-leads m b r g o h =
     let one : State = Formals (part_behind r.left) (Module r.name r.formals ∷ []) in
     let two : State = right_behind r.left r.name r.formals r.right in
     leads-append (step m) (Shallow b) (left_pieces r.left) (first ++ (right_pieces r.right ++ last)) start (Formals (part_behind r.left) []) (read_rule r) (left-leads m b r.left o.left g.patterns)
-    (leads-append (step m) (Shallow b) first (right_pieces r.right ++ last) (Formals (part_behind r.left) []) one (read_rule r) (formals-module m b (part_behind r.left) [] r.name r.formals (first-fits m (Formals (part_behind r.left) (Module r.name [] ∷ []))))
+    (leads-append (step m) (Shallow b) first (right_pieces r.right ++ last) (Formals (part_behind r.left) []) one (read_rule r) (formals-module m b (part_behind r.left) [] r.name r.formals refl)
     (leads-append (step m) (Shallow b) (right_pieces r.right) last one two (read_rule r) (right-leads m b r.left r.name r.formals r.right o.right g.items g.right_balanced)
     (tail-behind m b two d.head r.condition r.weight (successor_pieces r.successor) (read_rule r) (head-behind r.left r.name r.formals r.right g.right_balanced) g.condition g.weight o.weight (omega (arith, h)) (omega (arith, h))
     (successor-leads m b d r.successor g.successor o.cuts (omega (arith, h)) g.successor_balanced))))
