@@ -2,3 +2,6 @@ pub mod Keys
 pub mod Picks
 pub mod Turns
 pub mod Frames
+pub mod Applied
+pub mod ShownBack
+pub mod Sampled

@@ -3,11 +3,13 @@
 //! Definitions that contracts cite stand in `specs/`. The functions here have empty bodies: the contract is the law.
 #![tactic(auto)]
 
-ghost use Rattle.std.specs.Prelude.{◌≡◌, List, ℕ, ℤ, zero, Ok, [], ◌∷◌};
+ghost use Rattle.std.specs.Prelude.{◌≡◌, ◌≤◌, List, ℕ, ℤ, zero, Ok, [], ◌∷◌};
 ghost use Rattle.lsys_syntax.specs.Lines.{lines_of};
 ghost use Rattle.lsys_syntax.specs.Tokens.{tokens, tokens_from, First, Modules};
-ghost use Rattle.lsys_syntax.specs.Pieces.{Piece, text_of, placed, Reads, anything};
+ghost use Rattle.lsys_syntax.specs.Pieces.{Piece, text_of, kinds_of, placed, Reads, anything};
 ghost use Rattle.lsys_syntax.specs.Strings.{Symbol, AreSymbols, string_text, string_pieces, value_pieces};
+ghost use Rattle.lsys_syntax.specs.Commands.{Command, IsCommand, command_pieces, nesting};
+ghost use Rattle.lsys_syntax.specs.LineMachine.{verdict, sentence};
 
 /// A law of lines: the lines of a script that begins with LF are an empty line and the lines of the rest.
 pub fn law_of_empty_first_line()
@@ -20,4 +22,20 @@ pub fn law_of_empty_first_line()
 pub fn law_of_printed_tokens()
     ensures pieces { (pieces : List Piece) → Reads First anything pieces → tokens (text_of pieces) ≡ Ok (placed 0 pieces) }
     ensures strings { (symbols : List (Symbol ℤ)) (place : ℕ) → AreSymbols symbols → tokens_from Modules zero place (string_text symbols) ≡ Ok (placed place (string_pieces value_pieces symbols)) }
+{}
+
+/// A law of the grammar: the spelling of each command, its nesting at most 32, is a sentence that stands for that
+/// command. No two commands have the same spelling.
+pub fn law_of_sentences()
+    ensures sentences { (command : Command) → IsCommand command → nesting command ≤ 32
+        → verdict (kinds_of (command_pieces command)) ≡ sentence command }
+    ensures distinct { (one other : Command) → IsCommand one → IsCommand other
+        → kinds_of (command_pieces one) ≡ kinds_of (command_pieces other) → one ≡ other }
+{}
+
+/// A law of printed commands: the line of each is read as the tokens that it was printed from, each at the place
+/// where it was printed.
+pub fn law_of_printed_commands()
+    ensures { (command : Command) → IsCommand command
+        → tokens (text_of (command_pieces command)) ≡ Ok (placed 0 (command_pieces command)) }
 {}
