@@ -5,3 +5,4 @@
 
 pub mod draws;
 pub mod lattices;
+pub mod levels;
