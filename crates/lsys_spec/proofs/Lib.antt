@@ -3,3 +3,7 @@ pub mod Picks
 pub mod Turns
 pub mod Frames
 pub mod Cutting
+pub mod Mates
+pub mod Balanced
+pub mod Rising
+pub mod Offspring
