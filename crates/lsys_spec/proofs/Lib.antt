@@ -7,3 +7,4 @@ pub mod Mates
 pub mod Balanced
 pub mod Rising
 pub mod Offspring
+pub mod Contexts

@@ -6,3 +6,4 @@
 pub mod draws;
 pub mod lattices;
 pub mod levels;
+pub mod questions;
