@@ -5,3 +5,9 @@ pub mod Frames
 pub mod Applied
 pub mod ShownBack
 pub mod Sampled
+pub mod Cutting
+pub mod Mates
+pub mod Balanced
+pub mod Rising
+pub mod Offspring
+pub mod Contexts

@@ -6,3 +6,5 @@
 pub mod draws;
 pub mod lattices;
 pub mod shown;
+pub mod levels;
+pub mod questions;

@@ -1,0 +1,19 @@
+use Rattle.lsys_spec.proofs.Balanced.{is_level}
+use Rattle.lsys_spec.proofs.Rising.{rising_apart}
+use Rattle.lsys_spec.proofs.Offspring.{Grown, has_balance, grown, long_at}
+use Rattle.lsys_spec.proofs.levels.law_of_levels.Goals as goal
+
+pub returns-clause-well_formed : goal.returns-clause-well_formed
+returns-clause-well_formed c s w = has_balance s w
+
+pub returns-clause-balance : goal.returns-clause-balance
+returns-clause-balance c s b limit xs h t x g = (grown s b limit xs h t x g).is_balanced
+
+pub returns-clause-rise : goal.returns-clause-rise
+returns-clause-rise c s b limit xs h t x g = (grown s b limit xs h t x g).rises
+
+pub returns-clause-mates : goal.returns-clause-mates
+returns-clause-mates c s b limit xs h t x g = let r : Grown t x = grown s b limit xs h t x g in is_level x r.is_balanced (rising_apart x r.rises)
+
+pub returns-clause-generations : goal.returns-clause-generations
+returns-clause-generations c s b limit xs h t x g p a k = long_at _ x p a (grown s b limit xs h t x g).generations k
