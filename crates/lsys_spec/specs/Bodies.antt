@@ -81,7 +81,7 @@ body_of r = record {
   right = right_patterns r.right;
   condition = option_map (expr_tree (rule_formals r)) r.condition;
   weight = option_map (expr_tree (rule_formals r)) r.weight;
-  successor = templates (rule_formals r) r.successor
+  successor = templates (rule_formals r) r.successor;
 }
 
 abbrev pub word_at : List (List ℕ) → ℕ → List ℕ

@@ -61,7 +61,7 @@ right_after ignored d b own r (Some ms) = joined (ms ++ own ∷ []) (right_walk 
 -- a rule's walks: the modules of its left context, its own, and those of its right context
 abbrev pub contexts : (ModuleName → Bool) → Mark → Body → ModuleValue → List Step → Items → Told (Option (List ModuleValue))
 contexts ignored d b own w r =
-  let t = left_walk ignored d (reverse b.left) w in followed t (right_after ignored d b own r t.answer)
+    let t = left_walk ignored d (reverse b.left) w in followed t (right_after ignored d b own r t.answer)
 
 abbrev pub fitting : Body → Option (List ModuleValue) → Outcome
 fitting b None = No
@@ -88,7 +88,7 @@ unless_over false go = go
 abbrev pub with_weight : Result ℕ Fault → ℕ → List ℤ → List Taken → (List Taken → Told Choice) → Told Choice
 with_weight (Err k) g values taken go = says (Failed k)
 with_weight (Ok weight) g values taken go =
-  let more = taken ++ record { rule = g; values = values; weight = weight } ∷ [] in unless_over (nat_lt largest_weight (sum (weights more))) (go more)
+    let more = taken ++ record { rule = g; values = values; weight = weight } ∷ [] in unless_over (nat_lt largest_weight (sum (weights more))) (go more)
 
 -- what an outcome decides, or how it goes on
 abbrev pub decided : Outcome → Bool → ℕ → Body → List Taken → (List Taken → Told Choice) → Told Choice
@@ -122,5 +122,5 @@ at_end (Some key) taken = taken_at (pick_of (draw_of key) (weights taken)) taken
 abbrev pub group_from : Asking → List Step → Items → ℕ → ℕ → List Taken → List Body → Told Choice
 group_from a w r n g taken [] = says (at_end a.key taken)
 group_from a w r n g taken (b ∷ bs) =
-  let t = contexts a.ignored (record { rule = g; depth = 0 }) b a.own w r in
-  followed t (decided (outcome a.most n b t) (is_some a.key) g b taken (λ more. group_from a w r (n + length t.entries) (g + 1) more bs))
+    let t = contexts a.ignored (record { rule = g; depth = 0 }) b a.own w r in
+    followed t (decided (outcome a.most n b t) (is_some a.key) g b taken (λ more. group_from a w r (n + length t.entries) (g + 1) more bs))

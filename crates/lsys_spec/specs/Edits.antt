@@ -84,21 +84,21 @@ stands_elsewhere s p = any (λ q. same_label q p && not (bytes_eq q.table p.tabl
 -- The label is token number n, and the rule's own tokens begin two behind it.
 abbrev pub production_refusal : System → ℕ → Production → Option Refusal
 production_refusal s n p =
-  or_else (refused_at (rule_unknown (n + 2) p.rule) unknown_name)
-  (or_else (refused_at (rule_repeated (n + 2) p.rule) duplicate)
-  (or_else (refused_if (any (λ q. not (same_label q p) && clash q p) s.rules) mixed n)
-  (or_else (refused_if (stands_elsewhere s p) wrong_label n)
-  (or_else (refused_if (nat_lt 16 (length (tables (put p s.rules)))) many 1)
-  (or_else (refused_if (nat_lt 256 (length (put p s.rules) + length s.homomorphisms)) many n)
-  (refused_at (rule_many (n + 2) p.rule) many))))))
+    or_else (refused_at (rule_unknown (n + 2) p.rule) unknown_name)
+    (or_else (refused_at (rule_repeated (n + 2) p.rule) duplicate)
+    (or_else (refused_if (any (λ q. not (same_label q p) && clash q p) s.rules) mixed n)
+    (or_else (refused_if (stands_elsewhere s p) wrong_label n)
+    (or_else (refused_if (nat_lt 16 (length (tables (put p s.rules)))) many 1)
+    (or_else (refused_if (nat_lt 256 (length (put p s.rules) + length s.homomorphisms)) many n)
+    (refused_at (rule_many (n + 2) p.rule) many))))))
 
 abbrev pub homomorphism_refusal : System → Homomorphism → Option Refusal
 homomorphism_refusal s h =
-  or_else (refused_at (rule_unknown 3 h.rule) unknown_name)
-  (or_else (refused_at (rule_repeated 3 h.rule) duplicate)
-  (or_else (refused_if (any (λ q. bytes_eq q.label h.label) s.rules) wrong_label 1)
-  (or_else (refused_if (nat_lt 256 (length s.rules + length (put_hom h s.homomorphisms))) many 1)
-  (refused_at (rule_many 3 h.rule) many))))
+    or_else (refused_at (rule_unknown 3 h.rule) unknown_name)
+    (or_else (refused_at (rule_repeated 3 h.rule) duplicate)
+    (or_else (refused_if (any (λ q. bytes_eq q.label h.label) s.rules) wrong_label 1)
+    (or_else (refused_if (nat_lt 256 (length s.rules + length (put_hom h s.homomorphisms))) many 1)
+    (refused_at (rule_many 3 h.rule) many))))
 
 -- the first word, from place 1 on, that names no table
 abbrev pub untabled : List Production → List (List ℕ) → Option ℕ
@@ -113,8 +113,8 @@ loses_table rules ws = any (λ w. not (is_table (tables rules) w)) ws
 
 abbrev pub drop_refusal : System → List ℕ → Option Refusal
 drop_refusal s l =
-  or_else (refused_if (not (any (λ q. bytes_eq q.label l) s.rules || any (λ h. bytes_eq h.label l) s.homomorphisms)) wrong_label 1)
-  (refused_if (loses_table (without_rule l s.rules) s.schedule) wrong_table 1)
+    or_else (refused_if (not (any (λ q. bytes_eq q.label l) s.rules || any (λ h. bytes_eq h.label l) s.homomorphisms)) wrong_label 1)
+    (refused_if (loses_table (without_rule l s.rules) s.schedule) wrong_table 1)
 
 abbrev pub level_refusal : System → Option ℕ → Option Refusal
 level_refusal s None = None

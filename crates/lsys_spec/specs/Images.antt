@@ -26,7 +26,7 @@ by_outcome b (Fails k) later = later
 abbrev pub image_of : List Homomorphism → ModuleValue → Result (List (S.Symbol ℤ)) Arith
 image_of [] m = Ok (S.Module m.name m.params ∷ [])
 image_of (h ∷ hs) m =
-  if for_module m h then (let b = body_of h.rule in by_outcome b (judged b.condition m.params) (image_of hs m)) else image_of hs m
+    if for_module m h then (let b = body_of h.rule in by_outcome b (judged b.condition m.params) (image_of hs m)) else image_of hs m
 
 abbrev pub image_limit : ℕ
 image_limit = 1000000
@@ -45,7 +45,7 @@ image_from hs n k [] = Ok []
 image_from hs n k (Push l ∷ rest) = fits_image k (S.Push ∷ []) and_then λ ys. image_from hs n (k + 1) rest and_then λ more. Ok (ys ++ more)
 image_from hs n k (Pop l ∷ rest) = fits_image k (S.Pop ∷ []) and_then λ ys. image_from hs n (k + 1) rest and_then λ more. Ok (ys ++ more)
 image_from hs n k (Module l m ∷ rest) =
-  image_fault (n + 1) (image_of hs m) and_then λ zs. fits_image k zs and_then λ ys. image_from hs (n + 1) (k + length ys) rest and_then λ more. Ok (ys ++ more)
+    image_fault (n + 1) (image_of hs m) and_then λ zs. fits_image k zs and_then λ ys. image_from hs (n + 1) (k + length ys) rest and_then λ more. Ok (ys ++ more)
 
 abbrev pub image : System → List Symbol → Result (List (S.Symbol ℤ)) ImageRefusal
 image s x = image_from s.homomorphisms 0 0 x

@@ -76,10 +76,19 @@ plain_axiom ns = option_map (λ xs. set_axiom (plain_string xs)) ns
 
 abbrev pub begun : List ℕ → List Kind → Option Command
 begun w ks =
-  elim (bytes_eq w (codes "axiom")) [ true ↦ plain_axiom (letters ks) | false ↦
-  elim (bytes_eq w (codes "production")) [ true ↦ plain_production ks | false ↦
-  elim (bytes_eq w (codes "depth")) [ true ↦ plain_depth ks | false ↦
-  elim (bytes_eq w (codes "string")) [ true ↦ plain_query ks | false ↦ None ] ] ] ]
+    elim (bytes_eq w (codes "axiom")) [
+      | true ↦ plain_axiom (letters ks)
+      | false ↦
+          elim (bytes_eq w (codes "production")) [
+            | true ↦ plain_production ks
+            | false ↦
+                elim (bytes_eq w (codes "depth")) [
+                  | true ↦ plain_depth ks
+                  | false ↦
+                      elim (bytes_eq w (codes "string")) [ true ↦ plain_query ks | false ↦ None ]
+                ]
+          ]
+    ]
 
 abbrev pub plain_command : List Kind → Option Command
 plain_command (Word w ∷ ks) = begun w ks

@@ -42,7 +42,7 @@ most_entries = 1024
 abbrev pub asked : System → List Body → List Symbol → ℕ → List ℕ → ModuleValue → Told Choice
 asked s [] x p l m = says Nowhere
 asked s (b ∷ bs) x p l m =
-  group_from (record { ignored = ignores s.ignored; most = most_entries; key = key_for s l (b ∷ bs); own = m }) (way x p) (items_from x (p + 1)) 0 0 [] (b ∷ bs)
+    group_from (record { ignored = ignores s.ignored; most = most_entries; key = key_for s l (b ∷ bs); own = m }) (way x p) (items_from x (p + 1)) 0 0 [] (b ∷ bs)
 
 abbrev pub filled_params : List Tree → List ℤ → Result (List ℤ) Arith
 filled_params [] bound = Ok []
@@ -73,7 +73,7 @@ successor_by bs m (Failed k) = Err k
 
 abbrev pub successor : System → ℕ → List Symbol → ℕ → List ℕ → ModuleValue → Result (List (S.Symbol ℤ)) Fault
 successor s t x p l m =
-  let bs = group s t m.name (length m.params) in successor_by bs m (asked s bs x p l m).answer
+    let bs = group s t m.name (length m.params) in successor_by bs m (asked s bs x p l m).answer
 
 -- why a system has no levels up to its depth
 pub data Refusal : Type 0 where
@@ -90,7 +90,7 @@ children_from s t x p n [] = Ok []
 children_from s t x p n (Push l ∷ rest) = children_from s t x (p + 1) n rest and_then λ more. Ok (Plain (Push (l ++ 0 ∷ [])) ∷ more)
 children_from s t x p n (Pop l ∷ rest) = children_from s t x (p + 1) n rest and_then λ more. Ok (Plain (Pop (l ++ 0 ∷ [])) ∷ more)
 children_from s t x p n (Module l m ∷ rest) =
-  fault_at t (n + 1) (successor s t x p l m) and_then λ ys. children_from s t x (p + 1) (n + 1) rest and_then λ more. Ok (numbered 0 l ys ++ more)
+    fault_at t (n + 1) (successor s t x p l m) and_then λ ys. children_from s t x (p + 1) (n + 1) rest and_then λ more. Ok (numbered 0 l ys ++ more)
 
 -- the level behind level t, or the leftmost fault of level t
 abbrev pub next_level : System → ℕ → List Symbol → Result (List Symbol) Refusal
@@ -108,7 +108,7 @@ last_level (x ∷ y ∷ xs) = last_level (y ∷ xs)
 abbrev pub meaning_to : System → ℕ → ℕ → Result (List (List Symbol)) Refusal
 meaning_to s limit zero = within_limit limit 0 (first_level s ∷ [])
 meaning_to s limit (suc t) =
-  meaning_to s limit t and_then λ levels. next_level s t (last_level levels) and_then λ x. within_limit limit (suc t) (levels ++ x ∷ [])
+    meaning_to s limit t and_then λ levels. next_level s t (last_level levels) and_then λ x. within_limit limit (suc t) (levels ++ x ∷ [])
 
 abbrev pub meaning : System → ℕ → Result (List (List Symbol)) Refusal
 meaning s limit = meaning_to s limit s.depth

@@ -24,7 +24,7 @@ followed r rest = r ∷ elim r.ends [ true ↦ [] | false ↦ rest r.next ]
 abbrev pub replies_from : (System → List ℕ → Reply) → (ℕ → Bool) → ℕ → System → List (List ℕ) → List Reply
 replies_from answer M n s [] = []
 replies_from answer M n s (line ∷ lines) =
-  followed (reply_or_memory answer (M n) s line) (λ next. replies_from answer M (n + 1) next lines)
+    followed (reply_or_memory answer (M n) s line) (λ next. replies_from answer M (n + 1) next lines)
 
 abbrev pub out : (System → List ℕ → Reply) → List ℕ → (ℕ → Bool) → List Reply
 out answer script M = replies_from answer M 1 opening (lines_of script)
@@ -43,3 +43,7 @@ any_memory (r ∷ rs) = r.is_memory || any_memory rs
 -- no line
 abbrev pub none : ℕ → Bool
 none n = false
+
+-- a script's replies as one text, with memory for each
+abbrev pub run_with : (System → List ℕ → Reply) → List ℕ → List ℕ
+run_with answer script = text_of (out answer script none)

@@ -20,7 +20,7 @@ pub record Question : Type 0 where
 
 abbrev pub question : System → ℕ → List Body → List Symbol → ℕ → List ℕ → ModuleValue → Question
 question s t bs x p l m =
-  record { level = t; own = Module l m; bodies = bs; key = key_for s l bs; trace = take (most_entries + 1) (asked s bs x p l m).entries }
+    record { level = t; own = Module l m; bodies = bs; key = key_for s l bs; trace = take (most_entries + 1) (asked s bs x p l m).entries }
 
 abbrev pub where_any : List Body → Question → List Question → List Question
 where_any [] q qs = qs
@@ -31,7 +31,7 @@ questions_from s t x p [] = []
 questions_from s t x p (Push l ∷ rest) = questions_from s t x (p + 1) rest
 questions_from s t x p (Pop l ∷ rest) = questions_from s t x (p + 1) rest
 questions_from s t x p (Module l m ∷ rest) =
-  let bs = group s t m.name (length m.params) in where_any bs (question s t bs x p l m) (questions_from s t x (p + 1) rest)
+    let bs = group s t m.name (length m.params) in where_any bs (question s t bs x p l m) (questions_from s t x (p + 1) rest)
 
 -- of each module of level t whose group isn't empty, from left to right
 abbrev pub questions_at : System → ℕ → List Symbol → List Question
@@ -128,7 +128,7 @@ same_template a b = false
 
 abbrev pub same_body : Body → Body → Bool
 same_body a b =
-  same_all same_pattern a.left b.left && (same_pattern a.own b.own && (same_patterns a.right b.right
+    same_all same_pattern a.left b.left && (same_pattern a.own b.own && (same_patterns a.right b.right
     && (same_option same_tree a.condition b.condition && (same_option same_tree a.weight b.weight && same_all same_template a.successor b.successor))))
 
 abbrev pub same_mark : Mark → Mark → Bool
@@ -143,7 +143,7 @@ same_entry e f = false
 
 abbrev pub same_question : Question → Question → Bool
 same_question a b =
-  (a.level == b.level) && (same_symbol a.own b.own && (same_all same_body a.bodies b.bodies && (same_option same_number a.key b.key && same_all same_entry a.trace b.trace)))
+    (a.level == b.level) && (same_symbol a.own b.own && (same_all same_body a.bodies b.bodies && (same_option same_number a.key b.key && same_all same_entry a.trace b.trace)))
 
 -- the question at a level and lineage
 abbrev pub question_at : ℕ → List ℕ → List Question → Option Question

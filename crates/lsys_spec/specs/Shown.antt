@@ -20,8 +20,8 @@ as_put_homomorphism h = put_homomorphism h.label h.rule
 -- the commands that make the system from the opening one
 abbrev pub show_commands : System → List Command
 show_commands s =
-  set_lattice s.lattice ∷ set_seed s.seed ∷ set_axiom (written s.axiom_string) ∷ set_ignored s.ignored
-  ∷ (map as_put s.rules ++ (map as_put_homomorphism s.homomorphisms ++ set_schedule s.schedule ∷ set_depth s.depth ∷ []))
+    set_lattice s.lattice ∷ set_seed s.seed ∷ set_axiom (written s.axiom_string) ∷ set_ignored s.ignored
+    ∷ (map as_put s.rules ++ (map as_put_homomorphism s.homomorphisms ++ set_schedule s.schedule ∷ set_depth s.depth ∷ []))
 
 -- each command's line, ended by LF
 abbrev pub script_of : List Command → List ℕ

@@ -95,8 +95,8 @@ same_ignored a b = all_among a b && all_among b a
 
 abbrev pub is_touched : System → System → List Symbol → List Symbol → Question → Question → Bool
 is_touched old new x y was q =
-  not (same_symbol was.own q.own && (same_all same_body was.bodies q.bodies && same_option same_number was.key q.key))
-  || (is_disturbed x y (lineage q.own) || (any_disturbed x y was.trace || not (free q.bodies || same_ignored old.ignored new.ignored)))
+    not (same_symbol was.own q.own && (same_all same_body was.bodies q.bodies && same_option same_number was.key q.key))
+    || (is_disturbed x y (lineage q.own) || (any_disturbed x y was.trace || not (free q.bodies || same_ignored old.ignored new.ignored)))
 
 abbrev pub touched_there : System → System → List Symbol → List Symbol → Question → Option Question → Bool
 touched_there old new x y q None = true

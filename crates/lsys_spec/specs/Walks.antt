@@ -77,7 +77,7 @@ left_walk ignored d (q ∷ qs) [] = says None
 left_walk ignored d (q ∷ qs) (Around o c ∷ w) = before (Branched d (lineage o) (lineage c)) (left_walk ignored d (q ∷ qs) w)
 left_walk ignored d (q ∷ qs) (OutOf o ∷ w) = before (Out d (lineage o)) (left_walk ignored d (q ∷ qs) w)
 left_walk ignored d (q ∷ qs) (Passed s ∷ w) =
-  met (is_ignored ignored s) (fits q s) d s (left_walk ignored d (q ∷ qs) w) (behind s (left_walk ignored d qs w))
+    met (is_ignored ignored s) (fits q s) d s (left_walk ignored d (q ∷ qs) w) (behind s (left_walk ignored d qs w))
 
 -- this module, and then those that follow
 abbrev pub ahead : Symbol → Told (Option (List ModuleValue)) → Told (Option (List ModuleValue))
@@ -96,10 +96,10 @@ right_walk ignored d Done r = says (Some [])
 right_walk ignored d (OneOf q p) Nothing = says None
 right_walk ignored d (OneOf q p) (Branch o c inner r) = before (Branched d (lineage o) (lineage c)) (right_walk ignored d (OneOf q p) r)
 right_walk ignored d (OneOf q p) (One s r) =
-  met (is_ignored ignored s) (fits q s) d s (right_walk ignored d (OneOf q p) r) (ahead s (right_walk ignored d p r))
+    met (is_ignored ignored s) (fits q s) d s (right_walk ignored d (OneOf q p) r) (ahead s (right_walk ignored d p r))
 right_walk ignored d (BranchOf qs p) Nothing = says None
 right_walk ignored d (BranchOf qs p) (One s r) = met (is_ignored ignored s) false d s (right_walk ignored d (BranchOf qs p) r) (says None)
 right_walk ignored d (BranchOf qs p) (Branch o c inner r) =
-  let inside = right_walk ignored (deeper d) qs inner in
-  before (Branched d (lineage o) (lineage c))
+    let inside = right_walk ignored (deeper d) qs inner in
+    before (Branched d (lineage o) (lineage c))
     (followed inside (or_passed inside.answer (right_walk ignored d p r) (right_walk ignored d (BranchOf qs p) r)))
