@@ -2,3 +2,8 @@ pub mod Keys
 pub mod Picks
 pub mod Turns
 pub mod Frames
+pub mod Fronts
+pub mod NextSystems
+pub mod Groups
+pub mod ContextFree
+pub mod Ignoring

@@ -47,3 +47,7 @@ none n = false
 -- a script's replies as one text, with memory for each
 abbrev pub run_with : (System → List ℕ → Reply) → List ℕ → List ℕ
 run_with answer script = text_of (out answer script none)
+
+-- the second list begins with the first
+abbrev pub IsFront : {A : Type 0} → List A → List A → Type 0
+IsFront {A = A} xs ys = (more : List A) × (ys ≡ xs ++ more)

@@ -194,6 +194,13 @@ pub end_of_session :
 unfolding digits
 end_of_session = refl
 
+-- behind `<` stands one pattern
+pub second_predecessor :
+    run (codes "production p: A < B C => D\nproduction p: A B < C => D\n")
+    ≡ codes "refused syntax token 21\nok 0/0\n"
+unfolding digits
+second_predecessor = refl
+
 -- comparisons don't chain
 pub chains :
     run (codes "production p: A(x) : 1 < x < 3 => B\n")

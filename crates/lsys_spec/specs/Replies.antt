@@ -3,7 +3,7 @@ use Rattle.std.specs.Prelude.{ℕ, Bool, true, false, Option, Some, None, Result
 use Rattle.lsys_syntax.specs.Lines.{without_cr}
 use Rattle.lsys_syntax.specs.Tokens.{Token, tokens}
 use Rattle.lsys_syntax.specs.Commands.{Command, print_string, print_segments, print_svg, print_system, quit}
-use Rattle.lsys_syntax.specs.LineMachine.{Verdict, sentence, stops, too_deep, verdict}
+use Rattle.lsys_syntax.specs.LineMachine.{Verdict, sentence, stops, too_deep, verdict, parse_command}
 use Rattle.lsys_spec.specs.Systems.{System}
 use Rattle.lsys_spec.specs.Edits.{Refusal, refusal, changed}
 use Rattle.lsys_spec.specs.Levels as L
@@ -54,6 +54,15 @@ abbrev pub edited : ℕ → System → System → Result (List (List L.Symbol)) 
 edited limit s next (Ok levels) = said next (count_line (questions_of s (levels_of limit s)) (questions next levels))
 edited limit s next (Err why) = refused s why
 
+-- a command that changes nothing
+abbrev pub is_query : Command → Bool
+is_query (print_string t) = true
+is_query print_segments = true
+is_query print_svg = true
+is_query print_system = true
+is_query quit = true
+is_query c = false
+
 -- the reply to a command that isn't refused by itself
 abbrev pub accepted : ℕ → System → Command → Reply
 accepted limit s (print_string t) = shown s (string_line t) (levels_of limit s)
@@ -88,3 +97,14 @@ bare_reply limit s bare = elim (is_passed_over bare) [ true ↦ said s [] | fals
 -- the reply to a line, its CR still there
 abbrev pub reply : ℕ → System → List ℕ → Reply
 reply limit s line = elim (is_long line) [ true ↦ refused s (codes "syntax long") | false ↦ bare_reply limit s (without_cr line) ]
+
+abbrev pub spelled_by : Result (List Token) ℕ → Option Command
+spelled_by (Err column) = None
+spelled_by (Ok ts) = parse_command (map (λ t. t.kind) ts)
+
+abbrev pub bare_spelled : List ℕ → Option Command
+bare_spelled bare = elim (is_passed_over bare) [ true ↦ None | false ↦ spelled_by (tokens bare) ]
+
+-- the command that a line spells; one that is too long or passed over spells none
+abbrev pub spelled : List ℕ → Option Command
+spelled line = elim (is_long line) [ true ↦ None | false ↦ bare_spelled (without_cr line) ]

@@ -26,14 +26,14 @@ mutual
   expr-within (only_and a) b k h = and-within a b (first_and k) h
   expr-within (or e a) b k h =
       after b (expr_kinds e) (Bar ∷ Bar ∷ and_kinds a) (start_expr k) (leave_expr e k) (bare (start_expr k) (expr_kinds e) (leave_expr e k) (read-expr e k [])) (expr-within e b k (omega (arith, h)))
-        (then b (leave_expr e k) (HalfOr e k) Bar (Bar ∷ and_kinds a) (or_step_left e k) (omega (arith, h)) (omega (arith, h), and-within a b (next_and e k) (omega (arith, h))))
+      (then b (leave_expr e k) (HalfOr e k) Bar (Bar ∷ and_kinds a) (or_step_left e k) (omega (arith, h)) (omega (arith, h), and-within a b (next_and e k) (omega (arith, h))))
 
   and-within : (a : And) (b : ℕ) (k : InExpr) → expr_depth k + and_nesting a ≤ b → StaysWithin b (Due (in_term (first_unary (first_term (first_sum (first_rel k)))))) (and_kinds a)
   and-within (only_rel r) b k h = rel-within r b (first_rel k) h
   and-within (and a r) b k h =
       let s : State = Due (in_term (first_unary (first_term (first_sum (first_rel k))))) in
       after b (and_kinds a) (Ampersand ∷ Ampersand ∷ rel_kinds r) s (leave_and a k) (bare s (and_kinds a) (leave_and a k) (read-and a k [])) (and-within a b k (omega (arith, h)))
-        (then b (leave_and a k) (HalfAnd a k) Ampersand (Ampersand ∷ rel_kinds r) (and_step_left a k) (omega (arith, h)) (omega (arith, h), rel-within r b (next_rel a k) (omega (arith, h))))
+      (then b (leave_and a k) (HalfAnd a k) Ampersand (Ampersand ∷ rel_kinds r) (and_step_left a k) (omega (arith, h)) (omega (arith, h), rel-within r b (next_rel a k) (omega (arith, h))))
 
   rel-within : (r : Rel) (b : ℕ) (k : InAnd) → and_depth k + rel_nesting r ≤ b → StaysWithin b (Due (in_term (first_unary (first_term (first_sum k))))) (rel_kinds r)
   rel-within (only_sum s) b k h = sum-within s b (first_sum k) h
@@ -41,7 +41,7 @@ mutual
       let s : State = Due (in_term (first_unary (first_term (first_sum k)))) in
       let s' : State = Due (in_term (first_unary (first_term (second_sum l op k)))) in
       after b (sum_kinds l) (rel_kind op ∷ sum_kinds r) s (leave_sum l (first_sum k)) (bare s (sum_kinds l) (leave_sum l (first_sum k)) (read-sum l (first_sum k) [])) (sum-within l b (first_sum k) (omega (arith, h)))
-        (then b (leave_sum l (first_sum k)) s' (rel_kind op) (sum_kinds r) (compare_step op l k) (omega (arith, h)) (sum-within r b (second_sum l op k) (omega (arith, h))))
+      (then b (leave_sum l (first_sum k)) s' (rel_kind op) (sum_kinds r) (compare_step op l k) (omega (arith, h)) (sum-within r b (second_sum l op k) (omega (arith, h))))
 
   sum-within : (m : Sum) (b : ℕ) (k : InRel) → rel_depth k + sum_nesting m ≤ b → StaysWithin b (Due (in_term (first_unary (first_term k)))) (sum_kinds m)
   sum-within (only_term t) b k h = term-within t b (first_term k) h
@@ -49,7 +49,7 @@ mutual
       let s : State = Due (in_term (first_unary (first_term k))) in
       let s' : State = Due (in_term (first_unary (next_term m op k))) in
       after b (sum_kinds m) (sum_kind op ∷ term_kinds t) s (leave_sum m k) (bare s (sum_kinds m) (leave_sum m k) (read-sum m k [])) (sum-within m b k (omega (arith, h)))
-        (then b (leave_sum m k) s' (sum_kind op) (term_kinds t) (total_step op m k) (omega (arith, h)) (term-within t b (next_term m op k) (omega (arith, h))))
+      (then b (leave_sum m k) s' (sum_kind op) (term_kinds t) (total_step op m k) (omega (arith, h)) (term-within t b (next_term m op k) (omega (arith, h))))
 
   term-within : (t : Term) (b : ℕ) (k : InSum) → sum_depth k + term_nesting t ≤ b → StaysWithin b (Due (in_term (first_unary k))) (term_kinds t)
   term-within (only_unary u) b k h = unary-within u b (in_term (first_unary k)) h
@@ -57,7 +57,7 @@ mutual
       let s : State = Due (in_term (first_unary k)) in
       let s' : State = Due (in_term (next_unary t op k)) in
       after b (term_kinds t) (term_kind op ∷ unary_kinds u) s (leave_term t k) (bare s (term_kinds t) (leave_term t k) (read-term t k [])) (term-within t b k (omega (arith, h)))
-        (then b (leave_term t k) s' (term_kind op) (unary_kinds u) (product_step op t k) (omega (arith, h)) (unary-within u b (in_term (next_unary t op k)) (omega (arith, h))))
+      (then b (leave_term t k) s' (term_kind op) (unary_kinds u) (product_step op t k) (omega (arith, h)) (unary-within u b (in_term (next_unary t op k)) (omega (arith, h))))
 
   unary-within : (u : Unary) (b : ℕ) (k : InUnary) → unary_depth k + unary_nesting u ≤ b → StaysWithin b (Due k) (unary_kinds u)
   unary-within (negated u) b k h = (omega (arith, h), unary-within u b (negating k) (omega (arith, h)))
@@ -65,15 +65,16 @@ mutual
   unary-within (plain a) b k h = atom-within a b k h
   unary-within (raised a u) b k h =
       after b (atom_kinds a) (Caret ∷ unary_kinds u) (Due k) (Have a k) (bare (Due k) (atom_kinds a) (Have a k) (read-atom a k [])) (atom-within a b k (omega (arith, h)))
-        (omega (arith, h), unary-within u b (raising a k) (omega (arith, h)))
+      (omega (arith, h), unary-within u b (raising a k) (omega (arith, h)))
 
   atom-within : (a : Atom) (b : ℕ) (k : InUnary) → unary_depth k + atom_nesting a ≤ b → StaysWithin b (Due k) (atom_kinds a)
   atom-within (number n) b k h = (omega (arith, h), tt)
   atom-within (name n) b k h = (omega (arith, h), tt)
-  atom-within (parens e) b k h =
-      (omega (arith, h),
-        after b (expr_kinds e) (RightParen ∷ []) (start_expr (in_parens k)) (leave_expr e (in_parens k)) (bare (start_expr (in_parens k)) (expr_kinds e) (leave_expr e (in_parens k)) (read-expr e (in_parens k) [])) (expr-within e b (in_parens k) (omega (arith, h)))
-          (then b (leave_expr e (in_parens k)) (Have (parens e) k) RightParen [] (expr_left (λ s. step s RightParen) closing (λ a j. refl) e (in_parens k)) (omega (arith, h)) tt))
+  atom-within (parens e) b k h = (
+    omega (arith, h),
+    after b (expr_kinds e) (RightParen ∷ []) (start_expr (in_parens k)) (leave_expr e (in_parens k)) (bare (start_expr (in_parens k)) (expr_kinds e) (leave_expr e (in_parens k)) (read-expr e (in_parens k) [])) (expr-within e b (in_parens k) (omega (arith, h)))
+        (then b (leave_expr e (in_parens k)) (Have (parens e) k) RightParen [] (expr_left (λ s. step s RightParen) closing (λ a j. refl) e (in_parens k)) (omega (arith, h)) tt),
+  )
 
 within-front : (b : ℕ) (ts us : List Kind) (s : State) → StaysWithin b s (ts ++ us) → StaysWithin b s ts
 within-front b [] us s h = tt

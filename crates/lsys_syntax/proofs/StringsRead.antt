@@ -84,7 +84,7 @@ module _ {P : Type 0} (print : P → List Piece) (G : P → Type 0) (reads : Par
   string-reads [] g t f ps h = h t
   string-reads (s ∷ xs) g t f ps h =
       rw (append_assoc, append_assoc) (symbol-reads s g.0 t f (gap (ends_in_name s) (begins_with_letter xs) ++ (string_pieces print xs ++ ps))
-        (gap-reads s (ends_in_name s) refl (begins_with_letter xs) (string_pieces print xs ++ ps) (λ t' f'. string-reads xs g.1 t' f' ps h)))
+      (gap-reads s (ends_in_name s) refl (begins_with_letter xs) (string_pieces print xs ++ ps) (λ t' f'. string-reads xs g.1 t' f' ps h)))
 
 pub signed-reads : (z : Signed) → IsSigned z → (ps : List Piece) → ReadsAnywhere ps → Reads Modules anything (signed_pieces z ++ ps)
 signed-reads (plain n) g ps h = (refl, omega arith, h not_digit)

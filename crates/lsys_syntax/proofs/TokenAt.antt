@@ -85,22 +85,22 @@ long_at c more rest e p l s = rw (front-append is_plain more rest e s, take_all 
 
 name_printed : (n : NameText) → IsNameText n → Printed Modules (Name n)
 name_printed (short c) h = record {
-    first = c;
-    more = [];
-    text = refl;
-    head = h;
-    dense = letter_dense c h;
-    read = λ rest s. at_letter Modules c rest h ∙ ap (λ t. Some (name_with c t)) (no_underscore rest s)
-  }
+  first = c;
+  more = [];
+  text = refl;
+  head = h;
+  dense = letter_dense c h;
+  read = λ rest s. at_letter Modules c rest h ∙ ap (λ t. Some (name_with c t)) (no_underscore rest s);
+}
 name_printed (long c []) h = absurd (omega arith)
 name_printed (long c (a ∷ more)) h = record {
-    first = c;
-    more = 95 ∷ a ∷ more;
-    text = refl;
-    head = h.0;
-    dense = letter_dense c h.0;
-    read = λ rest s. at_letter Modules c (95 ∷ a ∷ (more ++ rest)) h.0 ∙ ap (λ t. Some t) (long_at c (a ∷ more) rest h.1 h.2 h.3 (plain_stops rest s))
-  }
+  first = c;
+  more = 95 ∷ a ∷ more;
+  text = refl;
+  head = h.0;
+  dense = letter_dense c h.0;
+  read = λ rest s. at_letter Modules c (95 ∷ a ∷ (more ++ rest)) h.0 ∙ ap (λ t. Some t) (long_at c (a ∷ more) rest h.1 h.2 h.3 (plain_stops rest s));
+}
 
 number_printed : (m : Mode) (n : ℕ) (ds : List ℕ) → n < 2 ^ 64 → decimal n ≡ ds → IsNumeral 10 ds → digits_value 10 ds ≡ n → Printed m (Number n)
 number_printed m n [] h e d v = absurd (omega arith)
@@ -112,7 +112,7 @@ number_printed m n (c ∷ cs) h e d v =
       text = e;
       head = all.0;
       dense = digit_dense c all.0;
-      read = λ rest s. rw (all.0, front-append is_digit cs rest all.1 s, v, lt-ltb n (2 ^ 64) h)
+      read = λ rest s. rw (all.0, front-append is_digit cs rest all.1 s, v, lt-ltb n (2 ^ 64) h);
     }
 
 pub printed : (m : Mode) (k : Kind) → Stands m k → Printed m k

@@ -81,26 +81,71 @@ axiom_step (NumberRead r n zs) t = number_read_step t r n zs
 -- what the first word of a line begins
 abbrev pub first_word : List ℕ → State
 first_word w =
-  elim (bytes_eq w (codes "axiom")) [ true ↦ InAxiom (Symbols []) | false ↦
-  elim (bytes_eq w (codes "production")) [ true ↦ ProductionDue | false ↦
-  elim (bytes_eq w (codes "drop")) [ true ↦ DropDue | false ↦
-  elim (bytes_eq w (codes "ignore")) [ true ↦ InNames [] | false ↦
-  elim (bytes_eq w (codes "schedule")) [ true ↦ ScheduleDue | false ↦
-  elim (bytes_eq w (codes "seed")) [ true ↦ SeedDue | false ↦
-  elim (bytes_eq w (codes "depth")) [ true ↦ DepthDue | false ↦
-  elim (bytes_eq w (codes "lattice")) [ true ↦ LatticeDue | false ↦
-  elim (bytes_eq w (codes "hom")) [ true ↦ LabelDue | false ↦
-  elim (bytes_eq w (codes "string")) [ true ↦ StringRead | false ↦
-  elim (bytes_eq w (codes "segments")) [ true ↦ Whole print_segments | false ↦
-  elim (bytes_eq w (codes "svg")) [ true ↦ Whole print_svg | false ↦
-  elim (bytes_eq w (codes "show")) [ true ↦ Whole print_system | false ↦
-  elim (bytes_eq w (codes "quit")) [ true ↦ Whole quit | false ↦ Stop ] ] ] ] ] ] ] ] ] ] ] ] ] ]
+    elim (bytes_eq w (codes "axiom")) [
+      | true ↦ InAxiom (Symbols [])
+      | false ↦
+          elim (bytes_eq w (codes "production")) [
+            | true ↦ ProductionDue
+            | false ↦
+                elim (bytes_eq w (codes "drop")) [
+                  | true ↦ DropDue
+                  | false ↦
+                      elim (bytes_eq w (codes "ignore")) [
+                        | true ↦ InNames []
+                        | false ↦
+                            elim (bytes_eq w (codes "schedule")) [
+                              | true ↦ ScheduleDue
+                              | false ↦
+                                  elim (bytes_eq w (codes "seed")) [
+                                    | true ↦ SeedDue
+                                    | false ↦
+                                        elim (bytes_eq w (codes "depth")) [
+                                          | true ↦ DepthDue
+                                          | false ↦
+                                              elim (bytes_eq w (codes "lattice")) [
+                                                | true ↦ LatticeDue
+                                                | false ↦
+                                                    elim (bytes_eq w (codes "hom")) [
+                                                      | true ↦ LabelDue
+                                                      | false ↦
+                                                          elim (bytes_eq w (codes "string")) [
+                                                            | true ↦ StringRead
+                                                            | false ↦
+                                                                elim (bytes_eq w (codes "segments")) [
+                                                                  | true ↦ Whole print_segments
+                                                                  | false ↦
+                                                                      elim (bytes_eq w (codes "svg")) [
+                                                                        | true ↦ Whole print_svg
+                                                                        | false ↦
+                                                                            elim (bytes_eq w (codes "show")) [
+                                                                              | true ↦ Whole print_system
+                                                                              | false ↦
+                                                                                  elim (bytes_eq w (codes "quit")) [ true ↦ Whole quit | false ↦ Stop ]
+                                                                            ]
+                                                                      ]
+                                                                ]
+                                                          ]
+                                                    ]
+                                              ]
+                                        ]
+                                  ]
+                            ]
+                      ]
+                ]
+          ]
+    ]
 
 abbrev pub lattice_named : List ℕ → State
 lattice_named w =
-  elim (bytes_eq w (codes "square")) [ true ↦ Whole (set_lattice square) | false ↦
-  elim (bytes_eq w (codes "hexagonal")) [ true ↦ Whole (set_lattice hexagonal) | false ↦
-  elim (bytes_eq w (codes "cubic")) [ true ↦ Whole (set_lattice cubic) | false ↦ Stop ] ] ]
+    elim (bytes_eq w (codes "square")) [
+      | true ↦ Whole (set_lattice square)
+      | false ↦
+          elim (bytes_eq w (codes "hexagonal")) [
+            | true ↦ Whole (set_lattice hexagonal)
+            | false ↦
+                elim (bytes_eq w (codes "cubic")) [ true ↦ Whole (set_lattice cubic) | false ↦ Stop ]
+          ]
+    ]
 
 abbrev pub unless_stop : (R.State → State) → R.State → State
 unless_stop f R.Stop = Stop
@@ -186,9 +231,9 @@ nesting_bound = 32
 abbrev pub verdict_from : ℕ → State → List Kind → Verdict
 verdict_from n s [] = ended n (finish s)
 verdict_from n s (k ∷ ks) = elim (is_stop (step s k)) [
-    true ↦ stops n
+  | true ↦ stops n
   | false ↦ elim (nat_lt nesting_bound (depth (step s k))) [ true ↦ too_deep n | false ↦ verdict_from (n + 1) (step s k) ks ]
-  ]
+]
 
 abbrev pub verdict : List Kind → Verdict
 verdict ks = verdict_from 0 Fresh ks

@@ -90,14 +90,16 @@ abbrev pub popped : ℕ → State → State
 popped zero s = Stop
 popped (suc n) s = s
 
--- another pattern: a homomorphism rule has one alone
-abbrev pub one_more : Form → List (Symbol NameText) → State → State
-one_more production r s = s
-one_more homomorphism [] s = s
-one_more homomorphism (x ∷ r) s = Stop
+-- Another pattern, where it may stand: a homomorphism rule has one alone, and so has a production behind its `<`.
+abbrev pub one_more : Form → Part → List (Symbol NameText) → State → State
+one_more m p [] s = s
+one_more production at_first (x ∷ r) s = s
+one_more production (at_predecessor l) (x ∷ r) s = Stop
+one_more production (at_right l n fs) (x ∷ r) s = s
+one_more homomorphism p (x ∷ r) s = Stop
 
 abbrev pub formals_sign : Form → Sign → Part → List (Symbol NameText) → State
-formals_sign m (a_name n) p r = one_more m r (Formals p (Module n [] ∷ r))
+formals_sign m (a_name n) p r = one_more m p r (Formals p (Module n [] ∷ r))
 formals_sign m a_push p r = only_right p (Formals p (Push ∷ r))
 formals_sign m a_pop p r = only_right p (popped (open_in r) (Formals p (Pop ∷ r)))
 formals_sign m a_cut p r = Stop
@@ -218,7 +220,7 @@ rule_with b xs = record {
   right = b.head.right;
   condition = b.condition;
   weight = b.weight;
-  successor = xs
+  successor = xs;
 }
 
 -- the rule, where it may end here

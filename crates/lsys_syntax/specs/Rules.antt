@@ -45,7 +45,7 @@ successor_pieces (x ∷ xs) = blank ∷ note successor_begins ∷ string_pieces 
 
 abbrev pub rule_pieces : Rule → List Piece
 rule_pieces r =
-  left_pieces r.left ++ (predecessor_pieces r.name r.formals ++ (right_pieces r.right
+    left_pieces r.left ++ (predecessor_pieces r.name r.formals ++ (right_pieces r.right
     ++ (option_pieces Colon r.condition ++ (option_pieces At r.weight ++ blank ∷ token Arrow ∷ successor_pieces r.successor))))
 
 abbrev pub IsOption : Option Expr → Type 0
