@@ -11,3 +11,8 @@ pub mod Balanced
 pub mod Rising
 pub mod Offspring
 pub mod Contexts
+pub mod Fronts
+pub mod NextSystems
+pub mod Groups
+pub mod ContextFree
+pub mod Ignoring

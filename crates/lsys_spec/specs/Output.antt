@@ -1,5 +1,5 @@
 -- The replies to a whole script.
-use Rattle.std.specs.Prelude.{◌≡◌, ℕ, ◌+◌, List, [], ◌∷◌, ◌++◌, ◌||◌, ◌&&◌, not, Bool, true, false, flat_map, if◌then◌else◌}
+use Rattle.std.specs.Prelude.{◌≡◌, ℕ, ◌+◌, ◌==◌, List, [], ◌∷◌, ◌++◌, ◌||◌, ◌&&◌, not, Bool, true, false, flat_map, if◌then◌else◌}
 use Rattle.lsys_syntax.specs.Lines.{lines_of, without_cr}
 use Rattle.lsys_spec.specs.Systems.{System, opening}
 use Rattle.lsys_spec.specs.Refusals.{Reply, refused_memory, is_long, is_passed_over}
@@ -43,3 +43,28 @@ any_memory (r ∷ rs) = r.is_memory || any_memory rs
 -- no line
 abbrev pub none : ℕ → Bool
 none n = false
+
+-- a script's replies as one text, with memory for each
+abbrev pub run_with : (System → List ℕ → Reply) → List ℕ → List ℕ
+run_with answer script = text_of (out answer script none)
+
+-- the second list begins with the first
+abbrev pub IsFront : {A : Type 0} → List A → List A → Type 0
+IsFront {A = A} xs ys = (more : List A) × (ys ≡ xs ++ more)
+
+abbrev pub any_end : List Reply → Bool
+any_end [] = false
+any_end (r ∷ rs) = r.ends || any_end rs
+
+-- a `quit` of the script is heeded: it isn't refused for want of memory, and no heeded one stands before it
+abbrev pub quits : (System → List ℕ → Reply) → List ℕ → (ℕ → Bool) → Bool
+quits answer script M = any_end (out answer script M)
+
+abbrev pub with_byte : ℕ → List ℕ → List ℕ
+with_byte b [] = if b == 10 then b ∷ [] else []
+with_byte b (c ∷ bytes) = b ∷ c ∷ bytes
+
+-- the whole lines among some bytes: up to the last LF
+abbrev pub whole_lines : List ℕ → List ℕ
+whole_lines [] = []
+whole_lines (b ∷ bytes) = with_byte b (whole_lines bytes)

@@ -3,8 +3,10 @@
 //! They stand in `specs/`. The functions here have empty bodies: the contract is a law about the definitions.
 #![tactic(auto)]
 
+pub mod derivations;
 pub mod draws;
 pub mod lattices;
 pub mod shown;
 pub mod levels;
 pub mod questions;
+pub mod replies;

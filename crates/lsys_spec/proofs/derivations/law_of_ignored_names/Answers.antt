@@ -1,0 +1,5 @@
+use Rattle.lsys_spec.proofs.Ignoring.{level_same, questions_same, absent_alike}
+use Rattle.lsys_spec.proofs.derivations.law_of_ignored_names.Goals as goal
+
+pub returns : goal.returns
+returns c = record { level = level_same; questions = questions_same; absent = absent_alike }
