@@ -1,6 +1,5 @@
 -- What the loop over the lines keeps.
-use Rattle.std.proofs.Common.{◌≡◌, ◌≢◌, ℕ, List, [], ◌∷◌, ◌++◌, ◌+◌, ◌-◌, ◌<◌, ◌≤◌, length, Option, Some, None, Bool, true, false, not, ◌||◌, ◌&&◌, cond, eqb, eq-eqb, nat_lt, refl, ap, sym, subst, ◌∙◌, arith, append-nil, append_assoc, length-append, codes}
-use Rattle.std.specs.Prelude.{flat_map}
+use Rattle.std.proofs.Common.{◌≡◌, ◌≢◌, ℕ, List, [], ◌∷◌, ◌++◌, ◌+◌, ◌<◌, ◌≤◌, length, Option, Some, None, Bool, true, false, not, ◌||◌, ◌&&◌, cond, eqb, eq-eqb, refl, ap, sym, subst, ◌∙◌, arith, append-nil, append_assoc, length-append, codes}
 use Rattle.std.specs.Io.KnownBytes.{Appends, Consumes, IsAtEnd}
 use Rattle.std.proofs.lemmas.List.Concat.{flat_map-append}
 use Rattle.std.proofs.lemmas.Bool.{ne_eqb, eqb-false}
@@ -10,12 +9,12 @@ use Rattle.lsys_syntax.specs.Lines.{lines_of, without_cr}
 use Rattle.lsys_io.specs.Reading.{HasFirstLine, PassesLimit, script_limit, line_limit}
 use Rattle.std.specs.Option.{IfSome}
 use Rattle.lsys_spec.specs.Systems.{System, opening}
-use Rattle.lsys_spec.specs.Refusals.{Reply, is_long, is_passed_over, refused_memory, line_feed}
+use Rattle.lsys_spec.specs.Refusals.{Reply, is_long, is_passed_over, line_feed}
 use Rattle.lsys_spec.specs.Interim.{reply, bare_reply, refused_form}
-use Rattle.lsys_spec.specs.Output.{out, replies_from, followed, text_of, any_refusal, any_memory, none, reply_or_memory, memory_or, may_lack_memory}
-use Rattle.lsys_cli.specs.Sessions.{Replies, LineReplies, IsOutcome, refuses, lacks_memory, bare_or_memory}
+use Rattle.lsys_spec.specs.Output.{out, replies_from, followed, text_of, any_refusal, any_memory, none, reply_or_memory, memory_or}
+use Rattle.lsys_cli.specs.Sessions.{Replies, LineReplies, refuses, lacks_memory, ends_session, bare_or_memory}
 use Rattle.lsys_cli.specs.Runs.{status_of}
-use Rattle.lsys_cli.specs.Ends.{OfScript, Answered, LackedMemory, Ends}
+use Rattle.lsys_cli.specs.Ends.{OfScript, Ends}
 use Rattle.lsys_cli.specs.declared.session.Outcome.{Outcome}
 use Rattle.lsys_cli.specs.declared.session.Outcome.TheVariants as outcomes
 use Rattle.lsys_cli.proofs.Appending.{then, nothing}
@@ -23,37 +22,43 @@ use Rattle.lsys_cli.proofs.Appending.{then, nothing}
 abbrev pub Agrees : ℕ → (ℕ → Bool) → (ℕ → Bool) → Type 0
 Agrees n answered M = (k : ℕ) → k < n → M k ≡ answered k
 
--- For each M that says of the lines so far what was answered, the replies so far and those to the rest are all replies.
-pub record Known (limit : ℕ) (script rest : List ℕ) (old now : Option (List ℕ)) (s : System) (refused memory : Bool) (taken : ℕ) : Type 0 where
+-- For each M that says of the lines so far what was answered, the replies so far and those after them are all replies.
+pub record Known (limit : ℕ) (script : List ℕ) (after : (ℕ → Bool) → ℕ → List Reply) (old now : Option (List ℕ)) (refused memory : Bool) : Type 0 where
   pub number : ℕ
   pub answered : ℕ → Bool
   pub given : List Reply
-  pub told : (M : ℕ → Bool) → Agrees number answered M → out (reply limit) script M ≡ given ++ replies_from (reply limit) M number s (lines_of rest)
+  pub told : (M : ℕ → Bool) → Agrees number answered M → out (reply limit) script M ≡ given ++ after M number
   pub put : Appends old now (text_of given)
   pub refusals : refused ≡ any_refusal given
   pub memories : memory ≡ any_memory given
   pub ample : memory ≡ false → (k : ℕ) → k < number → answered k ≡ false
-  pub length_is : length script ≡ taken + length rest
 
--- the same where the source may not tell
+-- the replies to lines that are still to come, by the number of the first
+abbrev pub to_come : ℕ → System → List (List ℕ) → (ℕ → Bool) → ℕ → List Reply
+to_come limit s lines M n = replies_from (reply limit) M n s lines
+
+-- the replies so far, and those to the rest, where the source may not tell
 abbrev pub SoFar : ℕ → Option (List ℕ) → Option (List ℕ) → Option (List ℕ) → Option (List ℕ) → System → Bool → Bool → ℕ → Type 0
 SoFar limit None rest old now s refused memory taken = Unit {0}
 SoFar limit (Some script) None old now s refused memory taken = ⊥
-SoFar limit (Some script) (Some rest) old now s refused memory taken = Known limit script rest old now s refused memory taken
+SoFar limit (Some script) (Some rest) old now s refused memory taken =
+    Known limit script (to_come limit s (lines_of rest)) old now refused memory × (length script ≡ taken + length rest)
 
 pub start : (limit : ℕ) (script old : Option (List ℕ)) → SoFar limit script script old old opening false false 0
 start limit None old = tt
-start limit (Some script) old = record {
-  number = 1;
-  answered = none;
-  given = [];
-  told = λ M _. refl;
-  put = nothing old;
-  refusals = refl;
-  memories = refl;
-  ample = λ _ k _. refl;
-  length_is = omega arith;
-}
+start limit (Some script) old = (
+  record {
+    number = 1;
+    answered = none;
+    given = [];
+    told = λ M _. refl;
+    put = nothing old;
+    refusals = refl;
+    memories = refl;
+    ample = λ _ k _. refl;
+  },
+  omega arith,
+)
 
 with_answer : ℕ → Bool → (ℕ → Bool) → ℕ → Bool
 with_answer n b answered k = cond (eqb k n) b (answered k)
@@ -80,8 +85,14 @@ one_line limit M n s line lines b r m e =
     ap (λ x. followed (reply_or_memory (reply limit) x s line) (λ next. replies_from (reply limit) M (n + 1) next lines)) m
     ∙ ap (λ x. followed x (λ next. replies_from (reply limit) M (n + 1) next lines)) (sym e)
 
-followed_on : (r : Reply) (rest : System → List Reply) → r.ends ≡ false → followed r rest ≡ r ∷ rest r.next
-followed_on r rest h = rw h refl
+-- nothing, where the session ended
+abbrev pub unless_ended : Bool → List Reply → List Reply
+unless_ended true rs = []
+unless_ended false rs = rs
+
+followed_by : (r : Reply) (rest : System → List Reply) (b : Bool) → r.ends ≡ b → followed r rest ≡ r ∷ unless_ended b (rest r.next)
+followed_by r rest true h = rw h refl
+followed_by r rest false h = rw h refl
 
 any_refusal_push : (given : List Reply) (r : Reply) → any_refusal (given ++ r ∷ []) ≡ any_refusal given || r.is_refusal
 any_refusal_push [] r = or-false r.is_refusal
@@ -99,48 +110,47 @@ text_push : (given : List Reply) (r : Reply) → text_of (given ++ r ∷ []) ≡
 text_push given r = flat_map-append (λ x. x.text) given (r ∷ []) ∙ ap (λ t. text_of given ++ t) (append-nil r.text)
 
 -- one line more
-known_more : (limit : ℕ) (script rest rest' : List ℕ) (old now now' : Option (List ℕ)) (s next : System) (refused memory : Bool) (taken taken' : ℕ) (line ended : List ℕ) (o : Outcome)
-    → Known limit script rest old now s refused memory taken → lines_of rest ≡ line ∷ lines_of rest' → rest ≡ ended ++ rest' → taken' ≡ taken + length ended
-    → LineReplies limit s line now now' next o
-    → Known limit script rest' old now' next (refused || refuses o) (memory || lacks_memory o) taken'
-known_more limit script rest rest' old now now' s next refused memory taken taken' line ended o k h b t (r, e, put, goes, (f, m, n)) = record {
+known_more : (limit : ℕ) (script line : List ℕ) (lines : List (List ℕ)) (old now now' : Option (List ℕ)) (s next : System) (refused memory : Bool) (o : Outcome)
+    → Known limit script (to_come limit s (line ∷ lines)) old now refused memory → LineReplies limit s line now now' next o
+    → Known limit script (λ M n. unless_ended (ends_session o) (to_come limit next lines M n)) old now' (refused || refuses o) (memory || lacks_memory o)
+known_more limit script line lines old now now' s next refused memory o k (r, e, put, on, (f, m, n)) = record {
   number = k.number + 1;
   answered = with_answer k.number r.is_memory k.answered;
   given = k.given ++ r ∷ [];
   told = λ M agree.
       k.told M (λ i l. agree i (omega (arith, l)) ∙ before k.number r.is_memory k.answered i l)
-      ∙ ap (λ ls. k.given ++ replies_from (reply limit) M k.number s ls) h
-      ∙ ap (λ u. k.given ++ u) (one_line limit M k.number s line (lines_of rest') r.is_memory r (agree k.number (omega arith) ∙ here k.number r.is_memory k.answered) e
-      ∙ followed_on r (λ c. replies_from (reply limit) M (k.number + 1) c (lines_of rest')) n)
-      ∙ sym (append_assoc k.given (r ∷ []) (replies_from (reply limit) M (k.number + 1) r.next (lines_of rest')))
-      ∙ ap (λ c. (k.given ++ r ∷ []) ++ replies_from (reply limit) M (k.number + 1) c (lines_of rest')) (sym goes);
+      ∙ ap (λ u. k.given ++ u) (one_line limit M k.number s line lines r.is_memory r (agree k.number (omega arith) ∙ here k.number r.is_memory k.answered) e
+      ∙ followed_by r (λ c. to_come limit c lines M (k.number + 1)) (ends_session o) n)
+      ∙ sym (append_assoc k.given (r ∷ []) (unless_ended (ends_session o) (to_come limit r.next lines M (k.number + 1))))
+      ∙ ap (λ c. (k.given ++ r ∷ []) ++ unless_ended (ends_session o) (to_come limit c lines M (k.number + 1))) (sym on);
   put = rw (text_push k.given r) (then old now now' (text_of k.given) r.text k.put put);
   refusals = ap (λ b. refused || b) (sym f) ∙ ap (λ b. b || r.is_refusal) k.refusals ∙ sym (any_refusal_push k.given r);
   memories = ap (λ b. memory || b) (sym m) ∙ ap (λ b. b || r.is_memory) k.memories ∙ sym (any_memory_push k.given r);
   ample = λ z. let w = or_no memory (lacks_memory o) z in all_false k.number r.is_memory k.answered (m ∙ w.1) (k.ample w.0);
-  length_is = k.length_is ∙ omega (arith, t, ap length b, length-append ended rest');
 }
 
+-- a line that goes on, and one that ends the session
 pub more : (limit : ℕ) (script rest rest' old now now' : Option (List ℕ)) (s next : System) (refused memory : Bool) (taken taken' : ℕ) (line ended : List ℕ) (o : Outcome)
     → SoFar limit script rest old now s refused memory taken → HasFirstLine rest rest' line → Consumes rest rest' ended → taken' ≡ taken + length ended
-    → LineReplies limit s line now now' next o
+    → LineReplies limit s line now now' next o → ends_session o ≡ false
     → SoFar limit script rest' old now' next (refused || refuses o) (memory || lacks_memory o) taken'
-more limit None rest rest' old now now' s next refused memory taken taken' line ended o k h b t p = tt
-more limit (Some script) None rest' old now now' s next refused memory taken taken' line ended o k h b t p = absurd k
-more limit (Some script) (Some rest) None old now now' s next refused memory taken taken' line ended o k h b t p = absurd h
-more limit (Some script) (Some rest) (Some rest') old now now' s next refused memory taken taken' line ended o k h b t p =
-    known_more limit script rest rest' old now now' s next refused memory taken taken' line ended o k h b t p
+more limit None rest rest' old now now' s next refused memory taken taken' line ended o k h b t p z = tt
+more limit (Some script) None rest' old now now' s next refused memory taken taken' line ended o k h b t p z = absurd k
+more limit (Some script) (Some rest) None old now now' s next refused memory taken taken' line ended o k h b t p z = absurd h
+more limit (Some script) (Some rest) (Some rest') old now now' s next refused memory taken taken' line ended o k h b t p z =
+    let P : List (List ℕ) → Type 0 = λ ls. Known limit script (to_come limit s ls) old now refused memory in
+    let Q : Bool → Type 0 = λ e. Known limit script (λ M n. unless_ended e (to_come limit next (lines_of rest') M n)) old now' (refused || refuses o) (memory || lacks_memory o) in
+    (subst Q z (known_more limit script line (lines_of rest') old now now' s next refused memory o (subst P h k.0) p), k.1 ∙ omega (arith, t, ap length b, length-append ended rest'))
 
--- the end of the script
-known_ends : (limit : ℕ) (script : List ℕ) (old now : Option (List ℕ)) (s : System) (refused memory : Bool) (taken : ℕ) → Known limit script [] old now s refused memory taken
-    → Ends limit (Some script) old now (status_of refused memory)
-known_ends limit script old now s refused true taken k =
+-- all replies are given
+known_ends : (limit : ℕ) (script : List ℕ) (old now : Option (List ℕ)) (refused memory : Bool) → Known limit script (λ M n. []) old now refused memory → Ends limit (Some script) old now (status_of refused memory)
+known_ends limit script old now refused true k =
     let all : out (reply limit) script k.answered ≡ k.given = k.told k.answered (λ i l. refl) ∙ append-nil k.given in
     (k.answered, rw all k.put, ap any_memory all ∙ sym k.memories)
-known_ends limit script old now s true false taken k =
+known_ends limit script old now true false k =
     let all : out (reply limit) script none ≡ k.given = k.told none (λ i l. sym (k.ample refl i l)) ∙ append-nil k.given in
     (rw all k.put, ap any_refusal all ∙ sym k.refusals, ap any_memory all ∙ sym k.memories)
-known_ends limit script old now s false false taken k =
+known_ends limit script old now false false k =
     let all : out (reply limit) script none ≡ k.given = k.told none (λ i l. sym (k.ample refl i l)) ∙ append-nil k.given in
     (rw all k.put, ap any_refusal all ∙ sym k.refusals, ap any_memory all ∙ sym k.memories)
 
@@ -154,15 +164,26 @@ pub ends : (limit : ℕ) (script rest old now : Option (List ℕ)) (s : System) 
 ends limit None rest old now s refused memory taken k e = untold_ends limit old now refused memory
 ends limit (Some script) None old now s refused memory taken k e = absurd k
 ends limit (Some script) (Some rest) old now s refused memory taken k e =
-    let P : List ℕ → Type 0 = λ r. Known limit script r old now s refused memory taken in
-    known_ends limit script old now s refused memory taken (subst P e k)
+    let P : List ℕ → Type 0 = λ r. Known limit script (to_come limit s (lines_of r)) old now refused memory in
+    known_ends limit script old now refused memory (subst P e k.0)
+
+pub quits : (limit : ℕ) (script rest rest' old now now' : Option (List ℕ)) (s next : System) (refused memory : Bool) (taken : ℕ) (line : List ℕ) (o : Outcome)
+    → SoFar limit script rest old now s refused memory taken → HasFirstLine rest rest' line → LineReplies limit s line now now' next o → ends_session o ≡ true
+    → Ends limit script old now' (status_of (refused || refuses o) (memory || lacks_memory o))
+quits limit None rest rest' old now now' s next refused memory taken line o k h p z = untold_ends limit old now' (refused || refuses o) (memory || lacks_memory o)
+quits limit (Some script) None rest' old now now' s next refused memory taken line o k h p z = absurd k
+quits limit (Some script) (Some rest) None old now now' s next refused memory taken line o k h p z = absurd h
+quits limit (Some script) (Some rest) (Some rest') old now now' s next refused memory taken line o k h p z =
+    let P : List (List ℕ) → Type 0 = λ ls. Known limit script (to_come limit s ls) old now refused memory in
+    let Q : Bool → Type 0 = λ e. Known limit script (λ M n. unless_ended e (to_come limit next (lines_of rest') M n)) old now' (refused || refuses o) (memory || lacks_memory o) in
+    known_ends limit script old now' (refused || refuses o) (memory || lacks_memory o) (subst Q z (known_more limit script line (lines_of rest') old now now' s next refused memory o (subst P h k.0) p))
 
 -- past the limit
 pub too_long : (limit : ℕ) (script rest old now : Option (List ℕ)) (s : System) (refused memory : Bool) (taken : ℕ) → SoFar limit script rest old now s refused memory taken
     → IfSome rest (PassesLimit taken) → OfScript script (λ t. script_limit < length t)
 too_long limit None rest old now s refused memory taken k p = tt
 too_long limit (Some script) None old now s refused memory taken k p = absurd k
-too_long limit (Some script) (Some rest) old now s refused memory taken k p = omega (arith, k.length_is, p.past)
+too_long limit (Some script) (Some rest) old now s refused memory taken k p = omega (arith, k.1, p.past)
 
 -- a line's reply with its CR
 pub bare_line : (limit : ℕ) (s next : System) (line bare : List ℕ) (old now : Option (List ℕ)) (o : Outcome) → length line ≤ line_limit → bare ≡ without_cr line

@@ -1,5 +1,5 @@
 -- What a run's end says of the script and of the bytes written.
-use Rattle.std.specs.Prelude.{◌≡◌, ℕ, Bool, true, false, Some, None, List, ◌<◌, ◌+◌, length}
+use Rattle.std.specs.Prelude.{◌≡◌, ℕ, Bool, true, false, Some, None, List, ◌<◌, length}
 use Rattle.std.specs.declared.option.Option.{Option}
 use Rattle.std.specs.Io.KnownBytes.{Appends}
 use Rattle.lsys_io.specs.Reading.{script_limit}
@@ -7,7 +7,7 @@ use Rattle.lsys_spec.specs.Interim.{reply}
 use Rattle.lsys_spec.specs.Output.{out, text_of, any_refusal, any_memory, none}
 use Rattle.lsys_spec.specs.Refusals.{Reply}
 use Rattle.lsys_cli.specs.declared.status.Status.{Status}
-use Rattle.lsys_cli.specs.declared.status.Status.TheVariants.{Done, Refused, Usage, ReadFault, WriteFault, Memory, TooLong}
+use Rattle.lsys_cli.specs.declared.status.Status.TheVariants.{Done, Refused, ReadFault, WriteFault, Memory, TooLong}
 
 -- the replies to a script, of which the lines in M are refused for want of memory
 abbrev pub replies : ℕ → List ℕ → (ℕ → Bool) → List Reply

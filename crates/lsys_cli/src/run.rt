@@ -86,6 +86,9 @@ pub fn run<S: Source, K: Sink>(
             return Status::WriteFault;
         };
         tally = tally.with(outcome);
+        if outcome == Outcome::Quit {
+            return tally.status();
+        }
     }
 }
 

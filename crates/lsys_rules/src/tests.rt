@@ -20,12 +20,14 @@ fn lines_and_what_they_are_for(rt: HostRuntime) -> Result<(), Fail> {
         ("production p: A =>", Some(CommandKind::Edit)),
         ("depth 64", Some(CommandKind::Edit)),
         ("string", Some(CommandKind::String { level: None })),
-        ("string 1", None),
+        ("string 1", Some(CommandKind::String { level: Some(1) })),
+        ("string 1 2", None),
         ("axiom F_a", None),
         ("production main p: A => B", None),
         ("production p: A(x) => B", None),
         ("depth", None),
-        ("quit", None),
+        ("quit", Some(CommandKind::Quit)),
+        ("quit now", None),
         ("", None),
     ];
     for (line, kind) in rows {

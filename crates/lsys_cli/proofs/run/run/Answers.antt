@@ -1,7 +1,8 @@
-use Rattle.std.proofs.Common.{◌≡◌, ◌≢◌, rules, ◌∙◌}
+use Rattle.std.proofs.Common.{◌≢◌, rules, ◌∙◌, sym, subst}
 use Rattle.lsys_io.specs.declared.lines.LineRead.TheVariants.{End}
 use Rattle.lsys_rules.specs.Views.{system_of}
-use Rattle.lsys_cli.proofs.Steps.{begins, begins_going, begins_within, turned, goes_on, line_is_short}
+use Rattle.lsys_cli.specs.Ends.{Ends}
+use Rattle.lsys_cli.proofs.Steps.{begins, begins_going, begins_within, turned, ended, goes_on, line_is_short}
 use Rattle.lsys_cli.proofs.run.run.Goals as goal
 
 pub lines-init : goal.lines-init
@@ -28,7 +29,7 @@ lines-preserved g c =
           (g.K.Sink.written c.args.sink.now) (g.K.Sink.written c.lines.sink) (g.K.Sink.written c.answer_line.new.sink) c.lines.reader c.next_line.new.self
           (system_of c.lines.session.system) (system_of c.answer_line.new.session.system) c.lines.tally.refused c.lines.tally.memory c.with-tally.result.refused c.with-tally.result.memory
           c.line.result.now c.in-Ok-answer_line.outcome not_end c.lines.invariant.limit c.with-tally.ensures.refused c.with-tally.ensures.memory c.lines.invariant.far
-          c.in-Ok.ensures.line c.in-Ok.ensures.long c.line.ensures c.in-Ok-answer_line.ensures.replies;
+          c.in-Ok.ensures.line c.in-Ok.ensures.long c.line.ensures c.in-Ok-answer_line.ensures.replies (search rules);
       holds = c.in-Ok-answer_line.ensures.holds;
       limit = c.answer_line.ensures.limit ∙ c.lines.invariant.limit;
       empty = c.in-Ok-answer_line.ensures.empty;
@@ -37,3 +38,13 @@ lines-preserved g c =
       source = c.in-Ok.ensures.else_leaves_count ∙ c.lines.invariant.source;
       sink = c.in-Ok-answer_line.ensures.ok_leaves_count ∙ c.lines.invariant.sink;
     }
+
+pub returns-then-eq-2-clause-ends : goal.returns-then-eq-2-clause-ends
+returns-then-eq-2-clause-ends g c =
+    let not_end : c.in-Ok.read ≢ End = search rules in
+    let done = ended c.in-Ok.read c.args.session.now.limit c.lines.session.limit (g.S.Source.left c.args.source.now) (g.S.Source.left c.lines.source) (g.S.Source.left c.next_line.new.source)
+    (g.K.Sink.written c.args.sink.now) (g.K.Sink.written c.lines.sink) (g.K.Sink.written c.answer_line.new.sink) c.lines.reader c.next_line.new.self
+    (system_of c.lines.session.system) (system_of c.answer_line.new.session.system) c.lines.tally.refused c.lines.tally.memory c.with-tally.result.refused c.with-tally.result.memory
+    c.line.result.now c.in-Ok-answer_line.outcome not_end c.lines.invariant.limit c.with-tally.ensures.refused c.with-tally.ensures.memory c.lines.invariant.far
+    c.in-Ok.ensures.line c.in-Ok.ensures.long c.line.ensures c.in-Ok-answer_line.ensures.replies (search rules) in
+    subst (Ends c.args.session.now.limit (g.S.Source.left c.args.source.now) (g.K.Sink.written c.args.sink.now) (g.K.Sink.written c.answer_line.new.sink)) (sym c.status-then-eq-2.ensures) done

@@ -1,4 +1,4 @@
-use Rattle.std.proofs.Common.{◌≡◌, ◌-◌, ◌≤◌, [], List, ℕ}
+use Rattle.std.proofs.Common.{◌≡◌, ◌-◌, ◌≤◌, []}
 use Rattle.lsys_io.specs.Reading.{remaining, script_limit, IsNotRefused}
 use Rattle.lsys_rules.specs.Views.{system_of}
 use Rattle.lsys_cli.specs.Sessions.{KeepsLevels}

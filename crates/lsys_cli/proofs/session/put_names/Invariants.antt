@@ -1,4 +1,4 @@
-use Rattle.std.proofs.Common.{◌≡◌, ◌≤◌, take, length}
+use Rattle.std.proofs.Common.{◌≡◌, take}
 use Rattle.std.specs.Io.KnownBytes.{Appends, append_known}
 use Rattle.lsys_cli.specs.Sessions.{joined}
 use Rattle.lsys_cli.proofs.session.put_names.Given as goal

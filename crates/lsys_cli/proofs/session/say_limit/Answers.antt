@@ -1,5 +1,4 @@
-use Rattle.std.proofs.Common.{◌≡◌, ◌∷◌, [], ◌++◌, codes, decimal, rules}
-use Rattle.std.specs.Fmt.{signed_decimal}
+use Rattle.std.proofs.Common.{[], ◌++◌, codes, decimal, rules}
 use Rattle.std.specs.Io.KnownBytes.{Appends, append_known}
 use Rattle.lsys_spec.specs.Refusals.{line_feed}
 use Rattle.lsys_cli.proofs.Appending.{then, goes_out, on_ok}
