@@ -1,10 +1,10 @@
 -- Reading the tokens of a line: a state holds what was read of the command, and each token is one step.
-use Rattle.std.specs.Prelude.{◌≡◌, ℕ, zero, suc, Bool, true, false, Option, Some, None, List, [], ◌∷◌, ◌+◌, ◌^◌, nat_lt, nat_le, codes, bytes_eq, option_map, if◌then◌else◌, refl}
-use Rattle.lsys_syntax.specs.Tokens.{NameText, Kind, Word, Number, LeftParen, RightParen, Comma, Colon, Minus}
+use Rattle.std.specs.Prelude.{ℕ, zero, suc, Bool, true, false, Option, Some, None, List, [], ◌∷◌, ◌+◌, ◌^◌, nat_lt, nat_le, codes, bytes_eq, option_map, if◌then◌else◌}
+use Rattle.lsys_syntax.specs.Tokens.{Kind, Word, Number, LeftParen, RightParen, Comma, Colon, Minus}
 use Rattle.lsys_syntax.specs.Strings.{ModuleName, Symbol, Module, Push, Pop, Cut, Signed, plain, minus_sign}
 use Rattle.lsys_syntax.specs.RuleMachine as R
 use Rattle.lsys_syntax.specs.RuleMachine.{reversed, Sign, a_name, a_push, a_pop, a_cut, no_sign, sign_of, Form, production, homomorphism, open_in, where_closed}
-use Rattle.lsys_syntax.specs.Commands.{Lattice, square, hexagonal, cubic, Command, set_axiom, put_production, drop_rule, set_ignored, set_schedule, set_seed, set_depth, set_lattice, put_homomorphism, print_string, print_segments, print_svg, print_system, quit}
+use Rattle.lsys_syntax.specs.Commands.{square, hexagonal, cubic, Command, set_axiom, put_production, drop_rule, set_ignored, set_schedule, set_seed, set_depth, set_lattice, put_homomorphism, print_string, print_segments, print_svg, print_system, quit}
 
 -- The string of an axiom, the last symbol first; the parameters of its last module, the last one first.
 pub data AxiomState : Type 0 where
@@ -81,71 +81,28 @@ axiom_step (NumberRead r n zs) t = number_read_step t r n zs
 -- what the first word of a line begins
 abbrev pub first_word : List ℕ → State
 first_word w =
-    elim (bytes_eq w (codes "axiom")) [
-      | true ↦ InAxiom (Symbols [])
-      | false ↦
-          elim (bytes_eq w (codes "production")) [
-            | true ↦ ProductionDue
-            | false ↦
-                elim (bytes_eq w (codes "drop")) [
-                  | true ↦ DropDue
-                  | false ↦
-                      elim (bytes_eq w (codes "ignore")) [
-                        | true ↦ InNames []
-                        | false ↦
-                            elim (bytes_eq w (codes "schedule")) [
-                              | true ↦ ScheduleDue
-                              | false ↦
-                                  elim (bytes_eq w (codes "seed")) [
-                                    | true ↦ SeedDue
-                                    | false ↦
-                                        elim (bytes_eq w (codes "depth")) [
-                                          | true ↦ DepthDue
-                                          | false ↦
-                                              elim (bytes_eq w (codes "lattice")) [
-                                                | true ↦ LatticeDue
-                                                | false ↦
-                                                    elim (bytes_eq w (codes "hom")) [
-                                                      | true ↦ LabelDue
-                                                      | false ↦
-                                                          elim (bytes_eq w (codes "string")) [
-                                                            | true ↦ StringRead
-                                                            | false ↦
-                                                                elim (bytes_eq w (codes "segments")) [
-                                                                  | true ↦ Whole print_segments
-                                                                  | false ↦
-                                                                      elim (bytes_eq w (codes "svg")) [
-                                                                        | true ↦ Whole print_svg
-                                                                        | false ↦
-                                                                            elim (bytes_eq w (codes "show")) [
-                                                                              | true ↦ Whole print_system
-                                                                              | false ↦
-                                                                                  elim (bytes_eq w (codes "quit")) [ true ↦ Whole quit | false ↦ Stop ]
-                                                                            ]
-                                                                      ]
-                                                                ]
-                                                          ]
-                                                    ]
-                                              ]
-                                        ]
-                                  ]
-                            ]
-                      ]
-                ]
-          ]
-    ]
+    if bytes_eq w (codes "axiom") then InAxiom (Symbols [])
+    else if bytes_eq w (codes "production") then ProductionDue
+    else if bytes_eq w (codes "drop") then DropDue
+    else if bytes_eq w (codes "ignore") then InNames []
+    else if bytes_eq w (codes "schedule") then ScheduleDue
+    else if bytes_eq w (codes "seed") then SeedDue
+    else if bytes_eq w (codes "depth") then DepthDue
+    else if bytes_eq w (codes "lattice") then LatticeDue
+    else if bytes_eq w (codes "hom") then LabelDue
+    else if bytes_eq w (codes "string") then StringRead
+    else if bytes_eq w (codes "segments") then Whole print_segments
+    else if bytes_eq w (codes "svg") then Whole print_svg
+    else if bytes_eq w (codes "show") then Whole print_system
+    else if bytes_eq w (codes "quit") then Whole quit
+    else Stop
 
 abbrev pub lattice_named : List ℕ → State
 lattice_named w =
-    elim (bytes_eq w (codes "square")) [
-      | true ↦ Whole (set_lattice square)
-      | false ↦
-          elim (bytes_eq w (codes "hexagonal")) [
-            | true ↦ Whole (set_lattice hexagonal)
-            | false ↦
-                elim (bytes_eq w (codes "cubic")) [ true ↦ Whole (set_lattice cubic) | false ↦ Stop ]
-          ]
-    ]
+    if bytes_eq w (codes "square") then Whole (set_lattice square)
+    else if bytes_eq w (codes "hexagonal") then Whole (set_lattice hexagonal)
+    else if bytes_eq w (codes "cubic") then Whole (set_lattice cubic)
+    else Stop
 
 abbrev pub unless_stop : (R.State → State) → R.State → State
 unless_stop f R.Stop = Stop

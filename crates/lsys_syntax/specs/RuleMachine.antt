@@ -1,5 +1,5 @@
 -- Reading a rule: a state holds what was read of it, the last symbol first, and each token is one step.
-use Rattle.std.specs.Prelude.{ℕ, zero, suc, Bool, true, false, Option, Some, None, List, [], ◌∷◌, ◌-◌, ◌+◌, ◌==◌, ◌^◌, nat_lt, if◌then◌else◌}
+use Rattle.std.specs.Prelude.{ℕ, zero, suc, Option, Some, None, List, [], ◌∷◌, ◌-◌, ◌+◌, ◌^◌, nat_lt, if◌then◌else◌}
 use Rattle.lsys_syntax.specs.Tokens.{NameText, Kind, Name, Number, BigNumber, Arrow, LeftParen, RightParen, LeftBracket, RightBracket, Comma, Colon, At, Plus, Minus, Slash, Backslash, Percent, Ampersand, Bar, Caret, Bang, Less, Greater}
 use Rattle.lsys_syntax.specs.Strings.{ModuleName, named, plus, minus, ampersand, caret, backslash, slash, bar, bang, Symbol, Module, Push, Pop, Cut}
 use Rattle.lsys_syntax.specs.Expressions.{Expr}
@@ -90,13 +90,12 @@ abbrev pub popped : ℕ → State → State
 popped zero s = Stop
 popped (suc n) s = s
 
--- Another pattern, where it may stand: a homomorphism rule has one alone, and so has a production behind its `<`.
+-- another symbol with formals: a predecessor is one alone, and so is all that stands before a homomorphism rule's arrow
 abbrev pub one_more : Form → Part → List (Symbol NameText) → State → State
 one_more m p [] s = s
-one_more production at_first (x ∷ r) s = s
-one_more production (at_predecessor l) (x ∷ r) s = Stop
-one_more production (at_right l n fs) (x ∷ r) s = s
 one_more homomorphism p (x ∷ r) s = Stop
+one_more production (at_predecessor l) (x ∷ r) s = Stop
+one_more production p (x ∷ r) s = s
 
 abbrev pub formals_sign : Form → Sign → Part → List (Symbol NameText) → State
 formals_sign m (a_name n) p r = one_more m p r (Formals p (Module n [] ∷ r))

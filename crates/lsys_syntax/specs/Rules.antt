@@ -1,7 +1,7 @@
 -- Rules with contexts, condition and weight (ABOP 1.7, 1.8 and 1.10), and how they are printed.
-use Rattle.std.specs.Prelude.{◌≡◌, ℕ, true, max, Option, Some, None, List, [], ◌∷◌, ◌++◌, codes}
-use Rattle.lsys_syntax.specs.Tokens.{NameText, Kind, Word, Name, Arrow, Colon, At, Less, Greater}
-use Rattle.lsys_syntax.specs.Pieces.{Piece, blank, token, note, left_begins, predecessor_begins, right_begins, successor_begins, text_of, IsNameText, IsWordText}
+use Rattle.std.specs.Prelude.{◌≡◌, ℕ, true, max, Option, Some, None, List, [], ◌∷◌, ◌++◌}
+use Rattle.lsys_syntax.specs.Tokens.{NameText, Kind, Name, Arrow, Colon, At, Less, Greater}
+use Rattle.lsys_syntax.specs.Pieces.{Piece, blank, token, note, left_begins, predecessor_begins, right_begins, successor_begins, IsNameText, IsWordText}
 use Rattle.lsys_syntax.specs.Strings.{ModuleName, Symbol, Module, Cut, symbol_pieces, string_pieces, EachOf, IsModuleName, IsSymbol, balanced}
 use Rattle.lsys_syntax.specs.Expressions.{Expr, IsExpr, expr_pieces}
 use Rattle.lsys_syntax.specs.Nesting.{expr_nesting}

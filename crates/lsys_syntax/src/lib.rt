@@ -12,7 +12,8 @@ ghost use Rattle.lsys_syntax.specs.Strings.{Symbol, AreSymbols, string_text, str
 /// A law of lines: the lines of a script that begins with LF are an empty line and the lines of the rest.
 pub fn law_of_empty_first_line()
     ensures { (bytes : List ℕ) → lines_of (10 ∷ bytes) ≡ [] ∷ lines_of bytes }
-{}
+{
+}
 
 /// A law of tokens: a line printed from pieces, each of which may stand behind the one before, is read as
 /// the tokens that it was printed from, each at the place where it was printed. So is a printed string of
@@ -20,4 +21,5 @@ pub fn law_of_empty_first_line()
 pub fn law_of_printed_tokens()
     ensures pieces { (pieces : List Piece) → Reads First anything pieces → tokens (text_of pieces) ≡ Ok (placed 0 pieces) }
     ensures strings { (symbols : List (Symbol ℤ)) (place : ℕ) → AreSymbols symbols → tokens_from Modules zero place (string_text symbols) ≡ Ok (placed place (string_pieces value_pieces symbols)) }
-{}
+{
+}
