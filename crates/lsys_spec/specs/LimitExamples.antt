@@ -11,6 +11,8 @@ use Rattle.lsys_spec.specs.Edits.{refusal, many}
 use Rattle.lsys_spec.specs.Values.{DivideByZero}
 use Rattle.lsys_spec.specs.Levels.{Symbol, Push, Module}
 use Rattle.lsys_spec.specs.Images.{ImageFault, ImageLimit, image_from}
+use Rattle.lsys_spec.specs.Meaning.{first_level}
+use Rattle.lsys_spec.specs.Questions.{Question, questions_at}
 use Rattle.lsys_spec.specs.Replies.{reply}
 use Rattle.lsys_spec.specs.Output.{run_with, out, none, last_system}
 
@@ -114,6 +116,15 @@ pub entries_of_two_rules :
     ≡ codes "ok 0/0\nok 0/0\nok 0/0\nok 0/0\nok 1/1\nrefused fault too-far level 0 module 1\n"
 unfolding digits
 entries_of_two_rules = refl
+
+-- a question keeps the first 1,025 entries, though more were read
+abbrev far_system : System
+far_system =
+    last_system (out (reply 100000)
+    (codes "axiom A" ++ (replicate 1030 66 ++ codes "C\nignore B\nproduction p: A > C => X\n")) none)
+
+pub kept_entries : map (λ q. length q.trace) (questions_at far_system 0 (first_level far_system)) ≡ 1025 ∷ []
+kept_entries = refl
 
 -- the millionth symbol of an image and the next, a bracket or not
 pub image_symbols :
