@@ -4,7 +4,7 @@ use Rattle.std.specs.Fmt.{digits}
 use Rattle.lsys_syntax.specs.Tokens.{short}
 use Rattle.lsys_syntax.specs.Strings.{ModuleName, named, plus}
 use Rattle.lsys_syntax.specs.Strings as S
-use Rattle.lsys_spec.specs.Systems.{System, opening}
+use Rattle.lsys_spec.specs.Systems.{System}
 use Rattle.lsys_spec.specs.Bodies.{table_at}
 use Rattle.lsys_spec.specs.Levels.{Symbol, Push, Pop, Module, lineage, close_of, balanced, Step, Passed, Around, OutOf, way, Items, Nothing, One, Branch, items_from}
 use Rattle.lsys_spec.specs.Walks.{Mark, Entry, Compared, Ignored, Out, Branched}
@@ -13,14 +13,8 @@ use Rattle.lsys_spec.specs.Meaning.{first_level, last_level, meaning}
 use Rattle.lsys_spec.specs.Questions.{Question, questions, questions_at, need, least_visits}
 use Rattle.lsys_spec.specs.Standings.{is_disturbed, is_candidate, same_ignored}
 use Rattle.lsys_spec.specs.Morphisms.{occurs}
-use Rattle.lsys_spec.specs.Refusals.{Reply}
 use Rattle.lsys_spec.specs.Replies.{reply}
-use Rattle.lsys_spec.specs.Output.{out, none}
-
-abbrev last_system : List Reply → System
-last_system [] = opening
-last_system (r ∷ []) = r.next
-last_system (r ∷ q ∷ rs) = last_system (q ∷ rs)
+use Rattle.lsys_spec.specs.Output.{out, none, last_system}
 
 -- the system behind a script, and its levels
 abbrev after : List ℕ → System

@@ -44,6 +44,12 @@ any_memory (r ∷ rs) = r.is_memory || any_memory rs
 abbrev pub none : ℕ → Bool
 none n = false
 
+-- the system behind the replies
+abbrev pub last_system : List Reply → System
+last_system [] = opening
+last_system (r ∷ []) = r.next
+last_system (r ∷ q ∷ rs) = last_system (q ∷ rs)
+
 -- a script's replies as one text, with memory for each
 abbrev pub run_with : (System → List ℕ → Reply) → List ℕ → List ℕ
 run_with answer script = text_of (out answer script none)

@@ -69,6 +69,10 @@ pub lack_of_memory :
 unfolding digits
 lack_of_memory = refl
 
+pub no_lack_in_long_lines :
+    text_of (out (reply 100000) (replicate 65537 59 ++ codes "\n;\n") (λ n. true)) ≡ codes "refused syntax long\n"
+no_lack_in_long_lines = refl
+
 pub kinds_of_runs :
     map (λ script. any_refusal (out (reply 100000) script none)) (codes "string\n" ∷ codes "string\nx\n" ∷ []) ≡ false ∷ true ∷ []
 kinds_of_runs = refl

@@ -35,7 +35,7 @@ branches_and_widths = refl
 
 -- a negative count turns the other way, a move may go back, and turning round has no count
 pub turns_by_counts :
-    run (codes "axiom F+(-1)F(-2)|(5)F(0)G+(4)F\nsegments\n")
+    run (codes "axiom F+(-1)F(-2)|(2)F(0)G+(4)F\nsegments\n")
     ≡ codes "ok 0/0\nsegments 4\n0 0 0 0 1 0 1\n0 1 0 -2 1 0 1\n-2 1 0 -2 1 0 1\n-2 1 0 -3 1 0 1\n"
 unfolding digits
 turns_by_counts = refl
@@ -58,6 +58,27 @@ pub far :
     ≡ codes "ok 0/0\nsegments 1\n0 0 0 0 1000000000 0 1\nok 0/0\nrefused far 2\nok 0/0\nrefused far 3\n"
 unfolding digits
 far = refl
+
+-- each coordinate counts, to both sides
+pub far_sideways :
+    run (codes "axiom -F(1000000000)\nsegments\naxiom +F(-1000000001)\nsegments\nlattice cubic\naxiom ^F(-1000000001)\nsegments\naxiom &f(-1000000000)F\nsegments\naxiom &f(-1000000000)FF\nsegments\n")
+    ≡ codes "ok 0/0\nsegments 1\n0 0 0 1000000000 0 0 1\nok 0/0\nrefused far 2\nok 0/0\nok 0/0\nrefused far 2\nok 0/0\nsegments 1\n0 0 1000000000 0 0 999999999 1\nok 0/0\nsegments 2\n0 0 1000000000 0 0 999999999 1\n0 0 999999999 0 0 999999998 1\n"
+unfolding digits
+far_sideways = refl
+
+-- a frame rolls to the left and to the right, and turns then lead elsewhere
+pub rolls :
+    run (codes "lattice cubic\naxiom F\\+F/&F\nsegments\naxiom /-F\\(2)+F|^F\nsegments\n")
+    ≡ codes "ok 0/0\nok 0/0\nsegments 3\n0 0 0 0 1 0 1\n0 1 0 0 1 -1 1\n0 1 -1 0 0 -1 1\nok 0/0\nsegments 3\n0 0 0 0 0 -1 1\n0 0 -1 0 -1 -1 1\n0 -1 -1 -1 -1 -1 1\n"
+unfolding digits
+rolls = refl
+
+-- on flat lattices pitch and roll do nothing
+pub flat_pitches :
+    run (codes "axiom F&F^(3)F\\F/F\nsegments\nlattice hexagonal\naxiom F&F-F\nsegments\n")
+    ≡ codes "ok 0/0\nsegments 5\n0 0 0 0 1 0 1\n0 1 0 0 2 0 1\n0 2 0 0 3 0 1\n0 3 0 0 4 0 1\n0 4 0 0 5 0 1\nok 0/0\nok 0/0\nsegments 3\n0 0 0 1 0 0 1\n1 0 0 2 0 0 1\n2 0 0 3 -1 0 1\n"
+unfolding digits
+flat_pitches = refl
 
 -- the module's number is that in the level
 pub image_fault :

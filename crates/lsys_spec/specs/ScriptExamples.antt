@@ -98,6 +98,34 @@ pub tables :
 unfolding digits
 tables = refl
 
+-- every part of a system, printed as a script; a repeated name counts once, and a label keeps its place
+pub shown_whole :
+    run (codes "lattice cubic\nseed 007\naxiom A_b [ B(-1) % ] C\nignore ++-+\nproduction winter w:B(x,y)<A(z)>[C(u)[]]D:x+(y)>=007@2=>A(z ,-1)[%]F\nproduction a:A=>\nproduction b:B=>C\nhom h:F(x):x>0=>FF(x%2)\nhom i:A_b=>\nproduction a:A=>A\ndrop b\nschedule main winter main\nshow\n")
+    ≡ codes "ok 0/0\nok 0/0\nok 0/0\nok 0/0\nok 0/0\nok 0/0\nok 0/0\nok 0/0\nok 0/0\nok 0/0\nok 0/0\nok 0/0\nlattice cubic\nseed 7\naxiom A_b[B(-1)%]C\nignore +-\nproduction winter w: B(x,y) < A(z) > [C(u)[]]D : x+(y)>=7 @ 2 => A(z,-1)[%]F\nproduction main a: A => A\nhom h: F(x) : x>0 => FF(x%2)\nhom i: A_b =>\nschedule main winter main\ndepth 0\n"
+unfolding digits
+shown_whole = refl
+
+-- a letter with another number of parameters is another pattern, in contexts too
+pub arities :
+    run (codes "axiom AB(1)BC\nproduction p: A < B => X\nproduction q: B > C => Y\nproduction r: A < B(x) > B => Z\ndepth 1\nstring\n")
+    ≡ codes "ok 0/0\nok 0/0\nok 0/0\nok 0/0\nok 2/2\nAZYC\n"
+unfolding digits
+arities = refl
+
+-- a left context leaves branches and enters none
+pub no_neighbour_in_another_branch :
+    run (codes "axiom A[B[C]D]E\nproduction p: C < D => X\nproduction q: B < E => X\nproduction r: A < E => Y\nproduction s: B < D => Z\ndepth 1\nstring\n")
+    ≡ codes "ok 0/0\nok 0/0\nok 0/0\nok 0/0\nok 0/0\nok 2/2\nA[B[C]Z]Y\n"
+unfolding digits
+no_neighbour_in_another_branch = refl
+
+-- a rule that is dropped asks nothing
+pub dropped :
+    run (codes "axiom AB\nproduction a: A => A\nproduction b: B => B\ndepth 2\ndrop a\ndrop b\ndrop a\n")
+    ≡ codes "ok 0/0\nok 0/0\nok 0/0\nok 4/4\nok 0/2\nok 0/0\nrefused label 6\n"
+unfolding digits
+dropped = refl
+
 -- a body knows no label, no table, no formals' names and no parentheses
 pub same_bodies :
     run (codes "axiom A(1)\nproduction a: A(x) => A(x+1)\nproduction winter w: A(z) => A(z+1)\ndepth 2\nproduction a: A(y) => A((y)+1)\nseed 5\nschedule winter\n")
