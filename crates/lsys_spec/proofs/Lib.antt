@@ -8,3 +8,15 @@ pub mod Balanced
 pub mod Rising
 pub mod Offspring
 pub mod Contexts
+pub mod Equal
+pub mod Carries
+pub mod Alike
+pub mod Around
+pub mod Standings
+pub mod Law
+pub mod Groups
+pub mod Tells
+pub mod Ruled
+pub mod GroupTells
+pub mod Free
+pub mod Undisturbed
