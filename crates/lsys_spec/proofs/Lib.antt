@@ -6,6 +6,7 @@ pub mod Cutting
 pub mod Mates
 pub mod Balanced
 pub mod Rising
+pub mod LevelInduction
 pub mod Offspring
 pub mod Contexts
 pub mod Equal
