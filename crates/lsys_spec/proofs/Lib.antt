@@ -10,6 +10,8 @@ pub mod LevelInduction
 pub mod Offspring
 pub mod Contexts
 pub mod Equal
+pub mod Names
+pub mod WellNamed
 pub mod Carries
 pub mod Alike
 pub mod Around
