@@ -23,3 +23,4 @@ pub mod Ruled
 pub mod GroupTells
 pub mod Free
 pub mod Undisturbed
+pub mod Needs

@@ -1,17 +1,17 @@
 //! Laws of contexts and questions.
 
-ghost use Rattle.std.specs.Prelude.{◌≡◌, ◌+◌, ◌||◌, ℕ, Bool, true, Some, List, length, reverse, slice_get};
+ghost use Rattle.std.specs.Prelude.{◌≡◌, ◌+◌, ◌||◌, ◌≤◌, ℕ, Bool, true, Some, Ok, List, length, reverse, slice_get};
 ghost use Rattle.lsys_syntax.specs.Strings.{ModuleName};
-ghost use Rattle.lsys_spec.specs.Systems.{System};
+ghost use Rattle.lsys_spec.specs.Systems.{System, WellFormed};
 ghost use Rattle.lsys_spec.specs.Bodies.{Body, Pattern, Patterns, group};
 ghost use Rattle.lsys_spec.specs.Levels.{ModuleValue, Symbol, Module, lineage, Items, way, items_from, IsLevel};
 ghost use Rattle.lsys_spec.specs.Walks.{Mark, left_walk, right_walk};
 ghost use Rattle.lsys_spec.specs.Choice.{contexts};
 ghost use Rattle.lsys_spec.specs.Contexts.{path, left, right, around};
-ghost use Rattle.lsys_spec.specs.Meaning.{key_for, asked, successor};
-ghost use Rattle.lsys_spec.specs.Questions.{question};
+ghost use Rattle.lsys_spec.specs.Meaning.{key_for, asked, successor, meaning};
+ghost use Rattle.lsys_spec.specs.Questions.{question, questions, need, least_visits};
 ghost use Rattle.lsys_spec.specs.Standings.{Settled, free, same_ignored};
-ghost use Rattle.lsys_spec.specs.LevelLaws.{NoneDisturbed};
+ghost use Rattle.lsys_spec.specs.LevelLaws.{NoneDisturbed, candidates, candidate_visits};
 
 /// The left walk answers what the path gives: its last modules, where they match the patterns in order.
 pub fn law_of_left_contexts()
@@ -68,4 +68,15 @@ pub fn law_of_same_questions()
         → question old t (group old t m.name (length m.params)) x p l m
         ≡ question new t' (group new t' m'.name (length m'.params)) y q l' m'
         → successor old t x p l m ≡ successor new t' y q l' m' }
+{}
+
+/// A question that the old system didn't answer is a candidate: the need of an edit, and the entries that have to be
+/// read for it, are at most those of the candidates.
+pub fn law_of_needs()
+    ensures questions { (old new : System) (limit limit' : ℕ) (xs ys : List (List Symbol))
+        → WellFormed old → WellFormed new → meaning old limit ≡ Ok xs → meaning new limit' ≡ Ok ys
+        → need (questions old xs) (questions new ys) ≤ candidates old new xs ys }
+    ensures visits { (old new : System) (limit limit' : ℕ) (xs ys : List (List Symbol))
+        → WellFormed old → WellFormed new → meaning old limit ≡ Ok xs → meaning new limit' ≡ Ok ys
+        → least_visits (questions old xs) (questions new ys) ≤ candidate_visits old new xs ys }
 {}
