@@ -1,6 +1,6 @@
 -- Each level of a system whose axiom and successors are balanced is balanced, its lineages rise, and each has one number a generation.
-use Rattle.std.proofs.Common.{◌≡◌, ℕ, zero, suc, ◌+◌, Bool, true, false, cond, Option, Some, None, Result, Ok, Err, List, [], ◌∷◌, ◌++◌, append-nil, length, refl, sym, ap, ◌∙◌, subst, arith}
-use Rattle.std.specs.Prelude.{ℤ, slice_get, sum_by, nat_lt}
+use Rattle.std.proofs.Common.{◌≡◌, ℕ, zero, suc, ◌+◌, Bool, true, false, cond, Option, Some, None, Ok, List, [], ◌∷◌, ◌++◌, append-nil, length, refl, sym, ap, ◌∙◌, subst, arith}
+use Rattle.std.specs.Prelude.{ℤ, slice_get}
 use Rattle.std.proofs.lemmas.Bool.{eqb-true}
 use Rattle.std.proofs.lemmas.List.{length_push}
 use Rattle.lsys_syntax.specs.Tokens.{NameText}
@@ -10,13 +10,14 @@ use Rattle.lsys_syntax.specs.Expressions.{Expr}
 use Rattle.lsys_syntax.specs.Rules.{Production, IsProduction}
 use Rattle.lsys_syntax.specs.Checks.{rule_formals}
 use Rattle.lsys_spec.specs.Systems.{System, Each, WellFormed}
-use Rattle.lsys_spec.specs.Values.{Tree, Arith, ◌and_then◌}
+use Rattle.lsys_spec.specs.Values.{Tree}
 use Rattle.lsys_spec.specs.Bodies.{Body, body_of, templates, is_for, group_in, group, table_at}
 use Rattle.lsys_spec.specs.Levels.{ModuleValue, Symbol, Push, Pop, Module, lineage, balanced}
-use Rattle.lsys_spec.specs.Choice.{Fault, Choice, Nowhere, Chosen, Failed}
+use Rattle.lsys_spec.specs.Choice.{Choice, Nowhere, Chosen, Failed}
 use Rattle.lsys_spec.specs.Cuts.{Raw, Plain, Percent, raw_lineage, raw_balanced, cut_on, cut, BeforeAll, Rising}
-use Rattle.lsys_spec.specs.Meaning.{numbered, first_level, asked, filled_params, filled, as_fault, filled_at, successor_by, successor, Refusal, fault_at, children_from, next_level, within_limit, last_level, meaning_to}
+use Rattle.lsys_spec.specs.Meaning.{numbered, first_level, asked, filled_params, filled, filled_at, successor_by, successor, fault_at, children_from, next_level, meaning_to}
 use Rattle.lsys_spec.specs.LevelLaws.{HasBalance}
+use Rattle.lsys_spec.proofs.LevelInduction.{ok_parts, ok_as_fault, ok_fault_at, at_each_level}
 use Rattle.lsys_spec.proofs.Cutting.{cut_balanced}
 use Rattle.lsys_spec.proofs.Rising.{BeforeRaws, RisingRaws, before_children, before_append, before_numbered, rising_numbered, cut_rising}
 
@@ -29,21 +30,7 @@ successors_balanced (p ∷ ps) h = (h.0.rule.successor_balanced, successors_bala
 pub has_balance : (s : System) → WellFormed s → HasBalance s
 has_balance s w = record { in_axiom = w.axiom_balanced; in_successors = successors_balanced s.rules w.rules }
 
--- 2. answers that are no fault
-
-pub ok_parts : {A B E : Type 0} (r : Result A E) (f : A → Result B E) (b : B) → r and_then f ≡ Ok b → (a : A) × (r ≡ Ok a) × (f a ≡ Ok b)
-ok_parts (Ok a) f b h = (a, refl, h)
-ok_parts (Err e) f b h = cc
-
-ok_as_fault : {A : Type 0} (r : Result A Arith) (a : A) → as_fault r ≡ Ok a → r ≡ Ok a
-ok_as_fault (Ok b) a h = let e : b ≡ a = cc in ap (λ a. Ok a) e
-ok_as_fault (Err e) a h = cc
-
-ok_fault_at : {A : Type 0} (t n : ℕ) (r : Result A Fault) (a : A) → fault_at t n r ≡ Ok a → r ≡ Ok a
-ok_fault_at t n (Ok b) a h = let e : b ≡ a = cc in ap (λ a. Ok a) e
-ok_fault_at t n (Err e) a h = cc
-
--- 3. successors
+-- 2. successors
 
 templates_balanced : (fs : List NameText) (xs : List (S.Symbol Expr)) (n : ℕ) → S.balanced n (templates fs xs) ≡ S.balanced n xs
 templates_balanced fs [] n = refl
@@ -100,7 +87,7 @@ successor_balanced s b t x p l m ys h =
     let bs : List Body = group s t m.name (length m.params) in
     choice_balanced bs m (asked s bs x p l m).answer ys (group_balanced (table_at s.schedule t) m.name (length m.params) s.rules b.in_successors) h
 
--- 4. the children of a level: brackets give themselves, and modules balanced strings
+-- 3. the children of a level: brackets give themselves, and modules balanced strings
 
 abbrev Offspring : List Symbol → List Raw → Type 0
 Offspring [] raw = raw ≡ []
@@ -190,7 +177,7 @@ cut_long n (Plain (Push l) ∷ x) (Some k) h = cut_long n x (Some (suc k)) h.1
 cut_long n (Plain (Pop l) ∷ x) (Some zero) h = (h.0, cut_long n x None h.1)
 cut_long n (Plain (Pop l) ∷ x) (Some (suc k)) h = cut_long n x (Some k) h.1
 
--- 5. the levels
+-- 4. the levels
 
 pub record Grown (t : ℕ) (x : List Symbol) : Type 0 where
   pub is_balanced : balanced 0 x ≡ true
@@ -218,55 +205,8 @@ next_grown s b t x y g h =
     subst (Grown (suc t)) e
     (of_raws (suc t) r.0 (offspring_balanced x r.0 0 o g.is_balanced) (offspring_rising x r.0 o g.rises) (subst (λ n. LongRaws n r.0) n (offspring_long (t + 1) x r.0 o g.generations)))
 
-abbrev AllGrown : ℕ → List (List Symbol) → Type 0
-AllGrown t [] = Unit {0}
-AllGrown t (x ∷ xs) = Grown t x × AllGrown (suc t) xs
-
-grown_push : (t n : ℕ) (xs : List (List Symbol)) (x : List Symbol) → t + length xs ≡ n → AllGrown t xs → Grown n x → AllGrown t (xs ++ x ∷ [])
-grown_push t n [] x e h g = let i : n ≡ t = omega (arith, e) in (subst (λ n. Grown n x) i g, tt)
-grown_push t n (y ∷ xs) x e h g = (h.0, grown_push (suc t) n xs x (omega (arith, e)) h.1 g)
-
-last_push : (xs : List (List Symbol)) (x : List Symbol) → last_level (xs ++ x ∷ []) ≡ x
-last_push [] x = refl
-last_push (y ∷ []) x = refl
-last_push (y ∷ z ∷ xs) x = last_push (z ∷ xs) x
-
-ok_within : (limit t : ℕ) (xs ys : List (List Symbol)) → within_limit limit t xs ≡ Ok ys → xs ≡ ys
-ok_within limit t xs ys h = by (nat_lt limit (sum_by length xs)) h
-  where
-    by : (b : Bool) → cond b (Err (Rattle.lsys_spec.specs.Meaning.OverLimit t)) (Ok xs) ≡ Ok ys → xs ≡ ys
-    by true h = cc
-    by false h = cc
-
-pub record AllLevels (n : ℕ) (xs : List (List Symbol)) : Type 0 where
-  pub all : AllGrown 0 xs
-  pub count : length xs ≡ suc n
-  pub latest : Grown n (last_level xs)
-
-grown_to : (s : System) → HasBalance s → (limit n : ℕ) (xs : List (List Symbol)) → meaning_to s limit n ≡ Ok xs → AllLevels n xs
-grown_to s b limit zero xs h =
-    let e : first_level s ∷ [] ≡ xs = ok_within limit 0 (first_level s ∷ []) xs h in
-    let g : Grown 0 (first_level s) = first_grown s b in
-    subst (AllLevels 0) e (record { all = (g, tt); count = refl; latest = g })
-grown_to s b limit (suc n) xs h =
-    let before = ok_parts (meaning_to s limit n) _ xs h in
-    let here = ok_parts (next_level s n (last_level before.0)) _ xs before.2 in
-    let e : before.0 ++ here.0 ∷ [] ≡ xs = ok_within limit (suc n) (before.0 ++ here.0 ∷ []) xs here.2 in
-    let r : AllLevels n before.0 = grown_to s b limit n before.0 before.1 in
-    let g : Grown (suc n) here.0 = next_grown s b n (last_level before.0) here.0 r.latest here.1 in
-    subst (AllLevels (suc n)) e (record {
-      all = grown_push 0 (suc n) before.0 here.0 (omega (arith, r.count)) r.all g;
-      count = length_push before.0 here.0 ∙ ap (λ n. n + 1) r.count ∙ omega arith;
-      latest = subst (Grown (suc n)) (sym (last_push before.0 here.0)) g;
-    })
-
-grown_at : (t n : ℕ) (xs : List (List Symbol)) (i : ℕ) (x : List Symbol) → t + i ≡ n → AllGrown t xs → slice_get xs i ≡ Some x → Grown n x
-grown_at t n [] i x e h g = cc
-grown_at t n (y ∷ xs) zero x e h g = let a : y ≡ x = cc in let m : t ≡ n = omega (arith, e) in subst (Grown n) a (subst (λ n. Grown n y) m h.0)
-grown_at t n (y ∷ xs) (suc i) x e h g = grown_at (suc t) n xs i x (omega (arith, e)) h.1 g
-
 pub grown : (s : System) → HasBalance s → (limit : ℕ) (xs : List (List Symbol)) → meaning_to s limit s.depth ≡ Ok xs → (t : ℕ) (x : List Symbol) → slice_get xs t ≡ Some x → Grown t x
-grown s b limit xs h t x g = grown_at 0 t xs t x (omega arith) (grown_to s b limit s.depth xs h).all g
+grown s b = at_each_level s Grown (first_grown s b) (next_grown s b)
 
 pub long_at : (n : ℕ) (x : List Symbol) (p : ℕ) (s : Symbol) → Long n x → slice_get x p ≡ Some s → length (lineage s) ≡ n
 long_at n [] p s h g = cc

@@ -1,12 +1,17 @@
 //! Laws of contexts and questions.
 
-ghost use Rattle.std.specs.Prelude.{◌≡◌, ◌+◌, ℕ, Bool, List, reverse};
+ghost use Rattle.std.specs.Prelude.{◌≡◌, ◌+◌, ◌||◌, ◌≤◌, ℕ, Bool, true, Some, Ok, List, length, reverse, slice_get};
 ghost use Rattle.lsys_syntax.specs.Strings.{ModuleName};
-ghost use Rattle.lsys_spec.specs.Bodies.{Body, Pattern, Patterns};
-ghost use Rattle.lsys_spec.specs.Levels.{ModuleValue, Symbol, Items, way, items_from};
+ghost use Rattle.lsys_spec.specs.Systems.{System, WellFormed};
+ghost use Rattle.lsys_spec.specs.Bodies.{Body, Pattern, Patterns, group};
+ghost use Rattle.lsys_spec.specs.Levels.{ModuleValue, Symbol, Module, lineage, Items, way, items_from, IsLevel};
 ghost use Rattle.lsys_spec.specs.Walks.{Mark, left_walk, right_walk};
 ghost use Rattle.lsys_spec.specs.Choice.{contexts};
 ghost use Rattle.lsys_spec.specs.Contexts.{path, left, right, around};
+ghost use Rattle.lsys_spec.specs.Meaning.{key_for, asked, successor, meaning};
+ghost use Rattle.lsys_spec.specs.Questions.{question, questions, need, least_visits};
+ghost use Rattle.lsys_spec.specs.Standings.{Settled, free, same_ignored};
+ghost use Rattle.lsys_spec.specs.LevelLaws.{NoneDisturbed, candidates, candidate_visits};
 
 /// The left walk answers what the path gives: its last modules, where they match the patterns in order.
 pub fn law_of_left_contexts()
@@ -25,4 +30,53 @@ pub fn law_of_contexts()
     ensures { (ignored : ModuleName → Bool) (d : Mark) (b : Body) (own : ModuleValue) (x : List Symbol) (p : ℕ)
         → (contexts ignored d b own (way x p) (items_from x (p + 1))).answer
         ≡ around (left b.left (path ignored x p)) own (right ignored b.right (items_from x (p + 1))) }
+{}
+
+/// A symbol that isn't disturbed stands in the new level.
+pub fn law_of_settled_symbols()
+    ensures { (x y : List Symbol) (p : ℕ) (a : Symbol)
+        → IsLevel x → slice_get x p ≡ Some a → Settled x y (lineage a) → (q : ℕ) × (slice_get y q ≡ Some a) }
+{}
+
+/// Where a module, what was read for it, its group and its key stay, and the ignored names do so too or nothing is
+/// read, its question and its choice are the same.
+pub fn law_of_undisturbed_questions()
+    ensures question { (old new : System) (t : ℕ) (bs : List Body) (x y : List Symbol) (p q : ℕ) (l : List ℕ) (m : ModuleValue)
+        → IsLevel x → IsLevel y
+        → slice_get x p ≡ Some (Module l m) → slice_get y q ≡ Some (Module l m) → Settled x y l
+        → key_for new l bs ≡ key_for old l bs
+        → free bs || same_ignored old.ignored new.ignored ≡ true
+        → NoneDisturbed x y (question old t bs x p l m).trace
+        → question new t bs y q l m ≡ question old t bs x p l m }
+    ensures choice { (old new : System) (t : ℕ) (bs : List Body) (x y : List Symbol) (p q : ℕ) (l : List ℕ) (m : ModuleValue)
+        → IsLevel x → IsLevel y
+        → slice_get x p ≡ Some (Module l m) → slice_get y q ≡ Some (Module l m) → Settled x y l
+        → key_for new l bs ≡ key_for old l bs
+        → free bs || same_ignored old.ignored new.ignored ≡ true
+        → NoneDisturbed x y (question old t bs x p l m).trace
+        → (asked new bs y q l m).answer ≡ (asked old bs x p l m).answer }
+{}
+
+/// Two questions that are the same have the same choice: the same place of the group with the same values, or none, or
+/// the same fault; and so the same successor.
+pub fn law_of_same_questions()
+    ensures choice { (old new : System) (t t' : ℕ) (bs bs' : List Body) (x y : List Symbol) (p q : ℕ)
+        (l l' : List ℕ) (m m' : ModuleValue)
+        → question old t bs x p l m ≡ question new t' bs' y q l' m'
+        → (asked old bs x p l m).answer ≡ (asked new bs' y q l' m').answer }
+    ensures successor { (old new : System) (t t' : ℕ) (x y : List Symbol) (p q : ℕ) (l l' : List ℕ) (m m' : ModuleValue)
+        → question old t (group old t m.name (length m.params)) x p l m
+        ≡ question new t' (group new t' m'.name (length m'.params)) y q l' m'
+        → successor old t x p l m ≡ successor new t' y q l' m' }
+{}
+
+/// A question that the old system didn't answer is a candidate: the need of an edit, and the entries that have to be
+/// read for it, are at most those of the candidates.
+pub fn law_of_needs()
+    ensures questions { (old new : System) (limit limit' : ℕ) (xs ys : List (List Symbol))
+        → WellFormed old → WellFormed new → meaning old limit ≡ Ok xs → meaning new limit' ≡ Ok ys
+        → need (questions old xs) (questions new ys) ≤ candidates old new xs ys }
+    ensures visits { (old new : System) (limit limit' : ℕ) (xs ys : List (List Symbol))
+        → WellFormed old → WellFormed new → meaning old limit ≡ Ok xs → meaning new limit' ≡ Ok ys
+        → least_visits (questions old xs) (questions new ys) ≤ candidate_visits old new xs ys }
 {}
