@@ -1,15 +1,15 @@
 -- What an expression's state holds are trees of expressions; and where it is done, its tree spells the tokens that were taken.
-use Rattle.std.proofs.Common.{◌≡◌, ℕ, Bool, true, false, ◌+◌, ◌≤◌, ◌<◌, ◌^◌, List, [], ◌∷◌, ◌++◌, nat_lt, refl, ap, ◌∙◌, sym, append_assoc, arith, if◌then◌else◌}
+use Rattle.std.proofs.Common.{◌≡◌, ℕ, Bool, true, false, ◌+◌, ◌≤◌, ◌<◌, ◌^◌, List, [], ◌∷◌, ◌++◌, nat_lt, refl, ◌∙◌, sym, append_assoc, arith, if◌then◌else◌}
 use Rattle.std.proofs.lemmas.Bool.Decides.{nat_tests}
 use Rattle.lsys_syntax.specs.Tokens.{Kind, Name, Number, BigNumber, LeftParen, Minus, Ampersand, Bar, Caret, Bang}
 use Rattle.lsys_syntax.specs.Pieces.{IsNameText}
-use Rattle.lsys_syntax.specs.Expressions.{Expr, only_and, or, And, only_rel, and, Rel, only_sum, compare, Sum, only_term, total, Term, only_unary, product, Unary, negated, inverted, plain, raised, Atom, number, name, parens, term_kind, sum_kind, rel_kind, expr_kinds, and_kinds, rel_kinds, sum_kinds, term_kinds, unary_kinds, atom_kinds, IsExpr, IsAnd, IsRel, IsSum, IsTerm, IsUnary, IsAtom}
+use Rattle.lsys_syntax.specs.Expressions.{Expr, only_and, or, And, only_rel, and, Rel, only_sum, compare, Sum, only_term, total, Term, only_unary, product, Unary, negated, inverted, plain, raised, Atom, number, parens, term_kind, sum_kind, rel_kind, expr_kinds, and_kinds, rel_kinds, sum_kinds, term_kinds, unary_kinds, atom_kinds, IsExpr, IsAnd, IsRel, IsSum, IsTerm, IsUnary, IsAtom}
 use Rattle.lsys_syntax.specs.ExpressionMachine.{InUnary, negating, inverting, raising, in_term, InTerm, first_unary, next_unary, InSum, first_term, next_term, InRel, first_sum, second_sum, InAnd, first_rel, next_rel, InExpr, first_and, next_and, Around, outermost, in_parens, State, Due, Have, HalfAnd, HalfOr, Done, Stop, AfterExpr, closing, other, AfterAnd, half_or, ends_expr, AfterRel, half_and, ends_and, AfterSum, comparing, ends_rel, AfterTerm, more_sum, ends_sum, AfterUnary, more_term, ends_term, AfterAtom, powering, ends_unary, what_follows, after_expr, after_and, after_rel, after_sum, after_term, after_unary, after_operand, after_atom, step}
 use Rattle.lsys_syntax.specs.Nesting.{expr_nesting, and_nesting, rel_nesting, sum_nesting, term_nesting, unary_nesting, atom_nesting, unary_depth, term_depth, sum_depth, rel_depth, and_depth, expr_depth, around_depth, depth}
 use Rattle.lsys_syntax.specs.Completions.{before_unary, before_term, before_sum, before_rel, before_and, before_expr, before, spelled, fill_unary, fill_term, fill_sum, fill_rel, fill_and, fill_expr, fill_around, completed}
 use Rattle.lsys_syntax.specs.RuleMachine.{small}
 use Rattle.lsys_syntax.proofs.Sound.{three, three_two, IsGoing, IsOver, Keeps, step-keeps, other-over}
-use Rattle.lsys_syntax.proofs.Fits.{FitsUnary, FitsTerm, FitsSum, FitsRel, FitsAnd, FitsExpr, FitsAround, Fits, step-fits}
+use Rattle.lsys_syntax.proofs.Fits.{FitsUnary, FitsTerm, FitsSum, FitsRel, FitsAnd, FitsExpr, Fits, step-fits}
 
 -- the trees that a context holds are trees of expressions
 abbrev mutual

@@ -1,14 +1,13 @@
 -- What holds of a rule's state behind the tokens that it has taken.
-use Rattle.std.proofs.Common.{◌≡◌, ℕ, zero, suc, true, ◌≤◌, ◌<◌, Option, Some, None, List, [], ◌∷◌, ◌++◌, refl, ap, ◌∙◌, sym, append_assoc, append-nil, arith}
-use Rattle.lsys_syntax.specs.Tokens.{NameText, Kind, Word, Name, Number, Arrow, LeftParen, RightParen, LeftBracket, RightBracket, Colon, At, Plus, Minus, Slash, Backslash, Percent, Ampersand, Bar, Caret, Bang, Less, Greater}
+use Rattle.std.proofs.Common.{◌≡◌, ℕ, true, ◌≤◌, None, List, [], ◌∷◌, ◌++◌, refl}
+use Rattle.lsys_syntax.specs.Tokens.{NameText, Kind, Name, Arrow, LeftBracket, RightBracket, Colon, At, Plus, Minus, Slash, Backslash, Percent, Ampersand, Bar, Caret, Bang, Greater}
 use Rattle.lsys_syntax.specs.Pieces.{kinds_of, IsNameText}
-use Rattle.lsys_syntax.specs.Strings.{ModuleName, named, plus, minus, ampersand, caret, backslash, slash, bar, bang, Symbol, Module, Push, Pop, Cut, name_kind, EachOf, IsModuleName, IsSymbol, balanced}
+use Rattle.lsys_syntax.specs.Strings.{Symbol, Module, name_kind, EachOf, IsModuleName, IsSymbol, balanced}
 use Rattle.lsys_syntax.specs.Expressions.{Expr, expr_pieces, IsExpr}
-use Rattle.lsys_syntax.specs.ExpressionMachine as E
 use Rattle.lsys_syntax.specs.Completions as C
-use Rattle.lsys_syntax.specs.Rules.{Rule, formal_pieces, left_pieces, right_pieces, option_pieces, rule_pieces, IsOption, IsPattern, IsItem, IsRule, option_nesting, params_nesting, string_nesting, rule_nesting}
-use Rattle.lsys_syntax.specs.RuleMachine.{Form, production, homomorphism, reversed, Part, at_first, at_predecessor, at_right, Head, Body, Spot, as_condition, as_weight, as_param, State, Formals, FormalDue, FormalRead, InExpr, Successor, Stop, Sign, a_name, a_push, a_pop, a_cut, no_sign, sign_of}
-use Rattle.lsys_syntax.proofs.RuleComplete.{Absent, NoWeight, MayCut, OfForm}
+use Rattle.lsys_syntax.specs.Rules.{formal_pieces, left_pieces, right_pieces, option_pieces, IsOption, IsPattern, IsItem, option_nesting, params_nesting, string_nesting}
+use Rattle.lsys_syntax.specs.RuleMachine.{Form, production, homomorphism, Part, at_first, at_predecessor, at_right, Head, Body, Spot, as_condition, as_weight, as_param, State, Formals, FormalDue, FormalRead, InExpr, Successor, Stop, Sign, a_name, a_push, a_pop, a_cut, no_sign, sign_of}
+use Rattle.lsys_syntax.proofs.RuleComplete.{Absent, NoWeight, MayCut}
 use Rattle.lsys_syntax.proofs.Sound.{IsGoing}
 use Rattle.lsys_syntax.proofs.Fits.{Fits}
 use Rattle.lsys_syntax.proofs.ExprSound as G

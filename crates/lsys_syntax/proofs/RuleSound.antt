@@ -1,22 +1,16 @@
 -- Each step of a rule's machine takes its token, and what it reads are parts of rules.
-use Rattle.std.proofs.Common.{◌≡◌, ℕ, zero, suc, true, ◌≤◌, ◌<◌, ◌+◌, Option, Some, None, List, [], ◌∷◌, ◌++◌, max, refl, ap, ◌∙◌, sym, subst, append_assoc, append-nil, arith}
-use Rattle.lsys_syntax.specs.Tokens.{NameText, Kind, Word, LongWord, Name, Number, BigNumber, Arrow, Equal, Unequal, AtMost, AtLeast, LeftParen, RightParen, LeftBracket, RightBracket, Comma, Colon, At, Plus, Minus, Times, Slash, Backslash, Percent, Ampersand, Bar, Caret, Bang, Less, Greater, Assign}
-use Rattle.lsys_syntax.specs.Pieces.{Piece, note, expr_ends, token, kinds_of, IsNameText}
-use Rattle.lsys_syntax.specs.Strings.{ModuleName, Symbol, Module, Push, Pop, Cut, name_kind, string_pieces, EachOf, IsModuleName, IsSymbol, balanced}
-use Rattle.lsys_syntax.specs.Expressions.{Expr, expr_kinds, expr_pieces, IsExpr}
-use Rattle.lsys_syntax.specs.ExpressionMachine as E
-use Rattle.lsys_syntax.specs.Completions as C
-use Rattle.lsys_syntax.specs.Nesting as N
-use Rattle.lsys_syntax.specs.Rules.{Rule, formal_pieces, left_pieces, right_pieces, option_pieces, successor_pieces, rule_pieces, IsPattern, IsRule, option_nesting, params_nesting, string_nesting, rule_nesting}
-use Rattle.lsys_syntax.specs.RuleMachine.{Form, production, homomorphism, reversed_onto, reversed, open_in, Part, at_first, at_predecessor, at_right, Head, Body, Spot, as_condition, as_weight, as_param, State, Formals, FormalDue, FormalRead, InExpr, Successor, Stop, Sign, a_name, a_push, a_pop, a_cut, no_sign, sign_of, only_right, popped, one_more, formals_sign, formals_open, left_ends, predecessor_ends, where_closed, head_of, expr_start, with_head, only_production, formals_step, due_step, read_step, done_step, within, small, successor_open, successor_sign, successor_step, step, start, rule_with, whole}
+use Rattle.std.proofs.Common.{◌≡◌, ℕ, zero, suc, ◌<◌, Option, Some, None, List, [], ◌∷◌, ◌++◌, refl, ap, ◌∙◌, sym, subst, append_assoc, append-nil, arith}
+use Rattle.lsys_syntax.specs.Tokens.{NameText, Kind, Name, Arrow, LeftParen, RightParen, RightBracket, Comma, Colon, At, Less, Greater}
+use Rattle.lsys_syntax.specs.Pieces.{Piece, kinds_of, IsNameText}
+use Rattle.lsys_syntax.specs.Strings.{ModuleName, Symbol, Module, Push, Pop, Cut, name_kind, string_pieces, EachOf, IsModuleName, IsSymbol}
+use Rattle.lsys_syntax.specs.Expressions.{Expr}
+use Rattle.lsys_syntax.specs.Rules.{formal_pieces, left_pieces, right_pieces, IsPattern}
+use Rattle.lsys_syntax.specs.RuleMachine.{Form, production, homomorphism, reversed_onto, reversed, open_in, Part, at_first, at_predecessor, at_right, Head, Body, Spot, as_condition, as_weight, State, Formals, FormalDue, FormalRead, InExpr, Successor, Sign, a_name, a_push, a_pop, a_cut, no_sign, sign_of, popped, one_more, formals_sign, formals_open, left_ends, predecessor_ends, where_closed, head_of, expr_start, with_head, formals_step, due_step, read_step}
 use Rattle.lsys_syntax.proofs.Leads.{Closes}
-use Rattle.lsys_syntax.proofs.ExprLeads.{Shallow}
-use Rattle.lsys_syntax.proofs.RuleComplete.{Absent, NoWeight, MayCut, OfForm}
-use Rattle.lsys_syntax.proofs.Sound.{IsGoing}
-use Rattle.lsys_syntax.proofs.Fits.{Fits}
+use Rattle.lsys_syntax.proofs.RuleComplete.{Absent, NoWeight}
 use Rattle.lsys_syntax.proofs.ExprSound as G
-use Rattle.lsys_syntax.proofs.StringKinds.{kinds-append, kinds-tokens, onto-append, each-reversed, spelled_symbol, spelled_string, taken, string-one, taken-more, params_before, params-closed, Nests, nests-closed}
-use Rattle.lsys_syntax.proofs.RuleHolds.{part_kinds, head_kinds, body_kinds, spot_kinds, OnlyProduction, ArePatterns, GoodPart, StandsIn, Several, HasRoom, GoodSymbols, GoodHead, GoodBody, GoodSuccessor, GoodSpot, Holds, IsSignOf, sign-is}
+use Rattle.lsys_syntax.proofs.StringKinds.{kinds-append, each-reversed, spelled_symbol, spelled_string, taken, string-one, taken-more, params_before, params-closed, nests-closed}
+use Rattle.lsys_syntax.proofs.RuleHolds.{part_kinds, head_kinds, body_kinds, spot_kinds, OnlyProduction, StandsIn, HasRoom, GoodSymbols, GoodHead, GoodBody, GoodSpot, Holds, IsSignOf, sign-is}
 
 -- one more symbol behind a front
 pub symbol-more : {P : Type 0} → (print : P → List Piece) (front ts : List Kind) (x : Symbol P) (r : List (Symbol P)) → front ++ taken print r ≡ ts → front ++ taken print (x ∷ r) ≡ ts ++ spelled_symbol print x
@@ -124,7 +118,7 @@ sign-holds m b at_first r ts k a_pop i o h = tt
 sign-holds m b (at_predecessor l) r ts k a_pop i o h = tt
 sign-holds m b (at_right l n fs) r ts k a_pop i o h =
     subst (λ j. Holds m b (popped (open_in r) (Formals (at_right l n fs) (Pop ∷ r))) (ts ++ j ∷ [])) (sym i)
-      (popped-holds m b (open_in r) (Formals (at_right l n fs) (Pop ∷ r)) (ts ++ RightBracket ∷ []) (λ c. symbol-read m b (at_right l n fs) r ts h Pop tt tt (right-room m l n fs (Pop ∷ r) h.1.0) c))
+    (popped-holds m b (open_in r) (Formals (at_right l n fs) (Pop ∷ r)) (ts ++ RightBracket ∷ []) (λ c. symbol-read m b (at_right l n fs) r ts h Pop tt tt (right-room m l n fs (Pop ∷ r) h.1.0) c))
 sign-holds m b p r ts k a_cut i o h = tt
 sign-holds m b p r ts k no_sign i o h = tt
 
@@ -138,21 +132,25 @@ open-holds m b p (Cut ∷ r) ts h = tt
 
 left-holds : (b : ℕ) (p : Part) (r : List (Symbol NameText)) (ts : List Kind) → Holds production b (Formals p r) ts → Holds production b (left_ends p r) (ts ++ Less ∷ [])
 left-holds b at_first [] ts h = tt
-left-holds b at_first (x ∷ r) ts h =
-    (append-nil (kinds_of (left_pieces (reversed (x ∷ r)))) ∙ left-onto r [] x ∙ ap (λ ks. ks ++ Less ∷ []) h.0,
-     (tt, (each-reversed (IsSymbol IsNameText) (x ∷ r) h.2.0, each-reversed IsPattern (x ∷ r) h.2.1)), (tt, tt, tt, tt))
+left-holds b at_first (x ∷ r) ts h = (
+  append-nil (kinds_of (left_pieces (reversed (x ∷ r)))) ∙ left-onto r [] x ∙ ap (λ ks. ks ++ Less ∷ []) h.0,
+  (tt, (each-reversed (IsSymbol IsNameText) (x ∷ r) h.2.0, each-reversed IsPattern (x ∷ r) h.2.1)),
+  (tt, tt, tt, tt),
+)
 left-holds b (at_predecessor l) r ts h = tt
 left-holds b (at_right l n fs) r ts h = tt
 
 greater-holds : (b : ℕ) (p : Part) (r : List (Symbol NameText)) (ts : List Kind) → Holds production b (Formals p r) ts → Holds production b (predecessor_ends p r) (ts ++ Greater ∷ [])
 greater-holds b at_first (Module n fs ∷ []) ts h =
     (append-nil (spelled_symbol formal_pieces (Module n fs) ++ Greater ∷ []) ∙ ap (λ ks. ks ++ Greater ∷ []) (sym (string-one formal_pieces (Module n fs)) ∙ h.0), (tt, (tt, tt), h.2.0.0.0, h.2.0.0.1), (tt, tt, tt, tt))
-greater-holds b (at_predecessor l) (Module n fs ∷ []) ts h =
-    (append-nil _
+greater-holds b (at_predecessor l) (Module n fs ∷ []) ts h = (
+  append-nil _
       ∙ sym (append_assoc (kinds_of (left_pieces l)) (spelled_symbol formal_pieces (Module n fs)) (Greater ∷ []))
       ∙ ap (λ ks. (kinds_of (left_pieces l) ++ ks) ++ Greater ∷ []) (sym (string-one formal_pieces (Module n fs)))
       ∙ ap (λ ks. ks ++ Greater ∷ []) h.0,
-     (tt, h.1.1, h.2.0.0.0, h.2.0.0.1), (tt, tt, tt, tt))
+  (tt, h.1.1, h.2.0.0.0, h.2.0.0.1),
+  (tt, tt, tt, tt),
+)
 greater-holds b p r ts h = tt
 
 -- The head that stands behind the contexts.
@@ -165,17 +163,29 @@ closed-head m ts zero h f = f refl
 closed-head m ts (suc n) h f = tt
 
 head-good : (m : Form) (b : ℕ) (p : Part) (r : List (Symbol NameText)) (ts : List Kind) → Holds m b (Formals p r) ts → OnHead m ts (head_of p r)
-head-good m b at_first (Module n fs ∷ []) ts h =
-    (append-nil (spelled_symbol formal_pieces (Module n fs)) ∙ sym (string-one formal_pieces (Module n fs)) ∙ h.0,
-     record { left = (tt, tt); name = h.2.0.0.0; formals = h.2.0.0.1; right = tt; items = tt; right_balanced = refl; no_left = absent-none m; no_right = absent-none m })
-head-good m b (at_predecessor l) (Module n fs ∷ []) ts h =
-    (ap (λ ks. kinds_of (left_pieces l) ++ ks) (append-nil (spelled_symbol formal_pieces (Module n fs)) ∙ sym (string-one formal_pieces (Module n fs))) ∙ h.0,
-     record { left = h.1.1; name = h.2.0.0.0; formals = h.2.0.0.1; right = tt; items = tt; right_balanced = refl; no_left = absent m l h.1.0; no_right = absent-none m })
+head-good m b at_first (Module n fs ∷ []) ts h = (
+  append-nil (spelled_symbol formal_pieces (Module n fs)) ∙ sym (string-one formal_pieces (Module n fs)) ∙ h.0,
+  record { left = (tt, tt); name = h.2.0.0.0; formals = h.2.0.0.1; right = tt; items = tt; right_balanced = refl; no_left = absent-none m; no_right = absent-none m },
+)
+head-good m b (at_predecessor l) (Module n fs ∷ []) ts h = (
+  ap (λ ks. kinds_of (left_pieces l) ++ ks) (append-nil (spelled_symbol formal_pieces (Module n fs)) ∙ sym (string-one formal_pieces (Module n fs))) ∙ h.0,
+  record { left = h.1.1; name = h.2.0.0.0; formals = h.2.0.0.1; right = tt; items = tt; right_balanced = refl; no_left = absent m l h.1.0; no_right = absent-none m },
+)
 head-good m b (at_right l n fs) (x ∷ r) ts h =
     closed-head m ts (open_in (x ∷ r)) (record { left = l; name = n; formals = fs; right = reversed (x ∷ r) })
-      (λ e. (ap (λ ks. kinds_of (left_pieces l) ++ (spelled_symbol formal_pieces (Module n fs) ++ ks)) (right-onto r [] x) ∙ simp append_assoc refl ∙ h.0,
-        record { left = h.1.1; name = h.1.2; formals = h.1.3; right = each-reversed (IsSymbol IsNameText) (x ∷ r) h.2.0; items = each-reversed (StandsIn (at_right l n fs)) (x ∷ r) h.2.1;
-          right_balanced = nests-closed (x ∷ r) h.2.3 e; no_left = absent m l h.1.0; no_right = absent m (reversed (x ∷ r)) h.1.0 }))
+    (λ e. (
+      ap (λ ks. kinds_of (left_pieces l) ++ (spelled_symbol formal_pieces (Module n fs) ++ ks)) (right-onto r [] x) ∙ simp append_assoc refl ∙ h.0,
+      record {
+        left = h.1.1;
+        name = h.1.2;
+        formals = h.1.3;
+        right = each-reversed (IsSymbol IsNameText) (x ∷ r) h.2.0;
+        items = each-reversed (StandsIn (at_right l n fs)) (x ∷ r) h.2.1;
+        right_balanced = nests-closed (x ∷ r) h.2.3 e;
+        no_left = absent m l h.1.0;
+        no_right = absent m (reversed (x ∷ r)) h.1.0;
+      },
+    ))
 head-good m b p r ts h = tt
 
 with_head-holds : (m : Form) (b : ℕ) (f : Head → State) (o : Option Head) (ts us : List Kind) → OnHead m ts o → ((h : Head) → head_kinds h ≡ ts → GoodHead m h → Holds m b (f h) us) → Holds m b (with_head f o) us
@@ -200,14 +210,14 @@ formals-holds production b p r ts Greater o h = greater-holds b p r ts h
 formals-holds homomorphism b p r ts Greater o h = tt
 formals-holds m b p r ts Colon o h =
     with_head-holds m b (λ j. InExpr (as_condition j) expr_start) (head_of p r) ts (ts ++ Colon ∷ []) (head-good m b p r ts h)
-      (λ j e g. start-holds m b (as_condition j) (ts ++ Colon ∷ []) (ap (λ ks. ks ++ Colon ∷ []) e) g)
+    (λ j e g. start-holds m b (as_condition j) (ts ++ Colon ∷ []) (ap (λ ks. ks ++ Colon ∷ []) e) g)
 formals-holds production b p r ts At o h =
     with_head-holds production b (λ j. InExpr (as_weight j None) expr_start) (head_of p r) ts (ts ++ At ∷ []) (head-good production b p r ts h)
-      (λ j e g. start-holds production b (as_weight j None) (ts ++ At ∷ []) (ap (λ ks. ks ++ At ∷ []) e) (tt, bare-good production b j g))
+    (λ j e g. start-holds production b (as_weight j None) (ts ++ At ∷ []) (ap (λ ks. ks ++ At ∷ []) e) (tt, bare-good production b j g))
 formals-holds homomorphism b p r ts At o h = tt
 formals-holds m b p r ts Arrow o h =
     with_head-holds m b (λ j. Successor (record { head = j; condition = None; weight = None }) []) (head_of p r) ts (ts ++ Arrow ∷ []) (head-good m b p r ts h)
-      (λ j e g. arrow-holds m b (record { head = j; condition = None; weight = None }) (ts ++ Arrow ∷ []) (ap (λ ks. ks ++ Arrow ∷ []) e) (bare-good m b j g))
+    (λ j e g. arrow-holds m b (record { head = j; condition = None; weight = None }) (ts ++ Arrow ∷ []) (ap (λ ks. ks ++ Arrow ∷ []) e) (bare-good m b j g))
 formals-holds m b p r ts k o h = sign-holds m b p r ts k (sign_of k) (sign-is k) o h
 
 pub due-holds : (m : Form) (b : ℕ) (p : Part) (r : List (Symbol NameText)) (n : ModuleName) (fs : List NameText) (ts : List Kind) (k : Kind) → G.IsNamed k → Holds m b (FormalDue p r n fs) ts → Holds m b (due_step k p r n fs) (ts ++ k ∷ [])

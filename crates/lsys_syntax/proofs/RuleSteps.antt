@@ -1,20 +1,19 @@
 -- Each step of a rule's machine takes its token; and where a rule may end, it is spelled by the tokens that were taken.
-use Rattle.std.proofs.Common.{◌≡◌, ℕ, zero, suc, true, ◌≤◌, ◌<◌, ◌+◌, Option, Some, None, List, [], ◌∷◌, ◌++◌, map, max, refl, ap, ◌∙◌, sym, subst, append_assoc, append-nil, arith}
-use Rattle.lsys_syntax.specs.Tokens.{NameText, Kind, Word, LongWord, Name, Number, BigNumber, Arrow, LeftParen, RightParen, LeftBracket, RightBracket, Comma, Colon, At, Percent}
+use Rattle.std.proofs.Common.{◌≡◌, ℕ, zero, suc, ◌≤◌, ◌<◌, Option, Some, None, List, [], ◌∷◌, ◌++◌, map, refl, ap, ◌∙◌, sym, subst, append_assoc, append-nil, arith}
+use Rattle.lsys_syntax.specs.Tokens.{Kind, Arrow, LeftParen, RightParen, LeftBracket, RightBracket, Comma, Colon, At, Percent}
 use Rattle.lsys_syntax.specs.Pieces.{Piece, blank, note, expr_ends, token, kinds_of}
-use Rattle.lsys_syntax.specs.Strings.{ModuleName, Symbol, Module, Push, Pop, Cut, name_kind, string_pieces, EachOf, IsModuleName, IsSymbol, balanced}
+use Rattle.lsys_syntax.specs.Strings.{ModuleName, Symbol, Module, Push, Pop, Cut, name_kind, EachOf, IsModuleName, IsSymbol}
 use Rattle.lsys_syntax.specs.Expressions.{Expr, expr_kinds, expr_pieces, IsExpr}
 use Rattle.lsys_syntax.specs.ExpressionMachine as E
 use Rattle.lsys_syntax.specs.Completions as C
 use Rattle.lsys_syntax.specs.Nesting as N
 use Rattle.lsys_syntax.specs.Rules.{Rule, left_pieces, predecessor_pieces, right_pieces, option_pieces, successor_pieces, rule_pieces, IsRule, params_nesting, string_nesting, rule_nesting}
-use Rattle.lsys_syntax.specs.RuleMachine.{Form, production, homomorphism, reversed_onto, reversed, open_in, Head, Body, Spot, as_condition, as_weight, as_param, State, Formals, FormalDue, FormalRead, InExpr, Successor, Stop, Sign, a_name, a_push, a_pop, a_cut, no_sign, sign_of, popped, where_closed, expr_start, only_production, done_step, within, small, successor_open, successor_sign, successor_step, step, rule_with, whole}
-use Rattle.lsys_syntax.proofs.Leads.{Closes}
+use Rattle.lsys_syntax.specs.RuleMachine.{Form, production, homomorphism, reversed_onto, reversed, open_in, Head, Body, Spot, as_condition, as_weight, as_param, State, Formals, FormalDue, FormalRead, InExpr, Successor, Stop, Sign, a_name, a_push, a_pop, a_cut, no_sign, sign_of, popped, where_closed, only_production, done_step, within, small, successor_open, successor_sign, successor_step, step, rule_with, whole}
 use Rattle.lsys_syntax.proofs.ExprLeads.{Shallow}
 use Rattle.lsys_syntax.proofs.RuleComplete.{MayCut, OfForm}
 use Rattle.lsys_syntax.proofs.Sound.{IsGoing}
 use Rattle.lsys_syntax.proofs.ExprSound as G
-use Rattle.lsys_syntax.proofs.StringKinds.{kinds-append, kinds-tokens, each-reversed, spelled_symbol, spelled_string, taken, params_before, Nests, nests-closed}
+use Rattle.lsys_syntax.proofs.StringKinds.{kinds-append, kinds-tokens, each-reversed, spelled_string, taken, params_before, nests-closed}
 use Rattle.lsys_syntax.proofs.RuleHolds.{head_kinds, body_kinds, spot_kinds, OnlyProduction, GoodHead, GoodBody, GoodSuccessor, GoodSpot, Holds, IsSignOf, sign-is}
 use Rattle.lsys_syntax.proofs.RuleSound.{symbol-more, paren-opens, paren-closes, comma-goes, no_weight, no_weight-none, popped-holds, start-holds, arrow-holds, formals-holds, due-holds, read-holds}
 
@@ -120,7 +119,7 @@ within-depth m b spot k E.Stop h = omega arith
 expr-holds : (m : Form) (b : ℕ) (spot : Spot) (s : E.State) (ts : List Kind) (k : Kind) → G.IsNamed k → Holds m b (InExpr spot s) ts → Shallow b (step m (InExpr spot s) k) → Holds m b (step m (InExpr spot s) k) (ts ++ k ∷ [])
 expr-holds m b spot s ts k o h d =
     within-holds m b spot k (C.spelled s) ts h.0 h.1 (E.step s (small k))
-      (G.step-after b s (small k) (G.small-operand k o) h.4 h.3 (within-depth m b spot k (E.step s (small k)) d)) (G.small-taken s k)
+    (G.step-after b s (small k) (G.small-operand k o) h.4 h.3 (within-depth m b spot k (E.step s (small k)) d)) (G.small-taken s k)
 
 -- successors
 module _ (m : Form) (b : ℕ) (d : Body) (r : List (Symbol Expr)) (ts : List Kind) (h : Holds m b (Successor d r) ts) where
@@ -201,12 +200,24 @@ closed-rule m b ts (suc n) r f = tt
 rule-spelled : (m : Form) (b : ℕ) (d : Body) (r : List (Symbol Expr)) (ts : List Kind) → Holds m b (Successor d r) ts → open_in r ≡ 0 → IsSpelled m b ts (rule_with d (reversed r))
 rule-spelled m b d r ts h e =
     let g : GoodHead m d.head = h.1.head in
-    let near : string_nesting (reversed r) ≤ b = string-within b r [] h.2.2 (omega arith) in
-    (rule-kinds d (reversed r) ∙ h.0,
-     record { left = g.left.0; patterns = g.left.1; name = g.name; formals = g.formals; right = g.right; items = g.items; right_balanced = g.right_balanced;
-       condition = h.1.condition; weight = h.1.weight; successor = each-reversed (IsSymbol IsExpr) r h.2.0; successor_balanced = nests-closed r h.2.3 e },
-     record { left = g.no_left; right = g.no_right; weight = h.1.no_weight; cuts = each-reversed (MayCut m) r h.2.1 },
-     omega (arith, h.1.near_condition, h.1.near_weight, near))
+    let near : string_nesting (reversed r) ≤ b = string-within b r [] h.2.2 (omega arith) in (
+      rule-kinds d (reversed r) ∙ h.0,
+      record {
+        left = g.left.0;
+        patterns = g.left.1;
+        name = g.name;
+        formals = g.formals;
+        right = g.right;
+        items = g.items;
+        right_balanced = g.right_balanced;
+        condition = h.1.condition;
+        weight = h.1.weight;
+        successor = each-reversed (IsSymbol IsExpr) r h.2.0;
+        successor_balanced = nests-closed r h.2.3 e;
+      },
+      record { left = g.no_left; right = g.no_right; weight = h.1.no_weight; cuts = each-reversed (MayCut m) r h.2.1 },
+      omega (arith, h.1.near_condition, h.1.near_weight, near),
+    )
 
 -- Where a rule may end, the tokens that were taken spell it.
 pub whole-spelled : (m : Form) (b : ℕ) (s : State) (ts : List Kind) → Holds m b s ts → OnRule m b ts (whole s)

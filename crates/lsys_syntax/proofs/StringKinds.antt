@@ -2,7 +2,7 @@
 use Rattle.std.proofs.Common.{◌≡◌, ℕ, zero, suc, Bool, true, false, List, [], ◌∷◌, ◌++◌, ◌+◌, ◌-◌, ◌<◌, map, refl, ap, ◌∙◌, sym, append_assoc, append-nil, arith}
 use Rattle.lsys_syntax.specs.Tokens.{Kind, LeftParen, RightParen, Comma}
 use Rattle.lsys_syntax.specs.Pieces.{Piece, blank, token, note, kinds_of}
-use Rattle.lsys_syntax.specs.Strings.{ModuleName, Symbol, Module, Push, Pop, Cut, name_kind, more_pieces, params_pieces, symbol_pieces, string_pieces, gap, ends_in_name, begins_with_letter, EachOf, balanced}
+use Rattle.lsys_syntax.specs.Strings.{Symbol, Module, Push, Pop, Cut, more_pieces, params_pieces, symbol_pieces, string_pieces, gap, ends_in_name, begins_with_letter, EachOf, balanced}
 use Rattle.lsys_syntax.specs.RuleMachine.{reversed_onto, reversed, open_in}
 use Rattle.lsys_syntax.proofs.Leads.{Closes}
 

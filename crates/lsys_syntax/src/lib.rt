@@ -5,11 +5,12 @@
 
 ghost use Rattle.std.specs.Prelude.{◌≡◌, ◌≤◌, List, ℕ, ℤ, zero, Ok, [], ◌∷◌};
 ghost use Rattle.lsys_syntax.specs.Lines.{lines_of};
-ghost use Rattle.lsys_syntax.specs.Tokens.{tokens, tokens_from, First, Modules};
+ghost use Rattle.lsys_syntax.specs.Tokens.{Kind, tokens, tokens_from, First, Modules};
 ghost use Rattle.lsys_syntax.specs.Pieces.{Piece, text_of, kinds_of, placed, Reads, anything};
 ghost use Rattle.lsys_syntax.specs.Strings.{Symbol, AreSymbols, string_text, string_pieces, value_pieces};
 ghost use Rattle.lsys_syntax.specs.Commands.{Command, IsCommand, command_pieces, nesting};
 ghost use Rattle.lsys_syntax.specs.LineMachine.{verdict, sentence};
+ghost use Rattle.lsys_syntax.specs.Sentences.{AreTokens, IsSpelled};
 
 /// A law of lines: the lines of a script that begins with LF are an empty line and the lines of the rest.
 pub fn law_of_empty_first_line()
@@ -24,11 +25,14 @@ pub fn law_of_printed_tokens()
     ensures strings { (symbols : List (Symbol ℤ)) (place : ℕ) → AreSymbols symbols → tokens_from Modules zero place (string_text symbols) ≡ Ok (placed place (string_pieces value_pieces symbols)) }
 {}
 
-/// A law of the grammar: the spelling of each command, its nesting at most 32, is a sentence that stands for that
-/// command. No two commands have the same spelling.
+/// A law of the grammar: the spelling of each command, its expressions nested at most 32 deep, is a sentence of that
+/// command; and each sentence is the spelling of its command, which is so nested. No two commands have the same
+/// spelling.
 pub fn law_of_sentences()
     ensures sentences { (command : Command) → IsCommand command → nesting command ≤ 32
         → verdict (kinds_of (command_pieces command)) ≡ sentence command }
+    ensures spelled { (kinds : List Kind) (command : Command) → AreTokens kinds → verdict kinds ≡ sentence command
+        → IsSpelled 32 kinds command }
     ensures distinct { (one other : Command) → IsCommand one → IsCommand other
         → kinds_of (command_pieces one) ≡ kinds_of (command_pieces other) → one ≡ other }
 {}
