@@ -13,7 +13,7 @@ use Rattle.lsys_syntax.specs.Sentences.{IsToken, IsSpelled}
 use Rattle.lsys_syntax.proofs.Leads.{Closes}
 use Rattle.lsys_syntax.proofs.ExprLeads.{Shallow}
 use Rattle.lsys_syntax.proofs.ExprSound as G
-use Rattle.lsys_syntax.proofs.LineComplete.{Calm}
+use Rattle.lsys_syntax.proofs.LineComplete.{Calm, GoesOn}
 use Rattle.lsys_syntax.proofs.StringKinds.{reversed-more, spelled_symbol, taken, params_before, each-reversed, Nests}
 use Rattle.lsys_syntax.proofs.RuleHolds as H
 use Rattle.lsys_syntax.proofs.RuleHolds.{IsSignOf, sign-is}
@@ -52,10 +52,10 @@ Holds b (InAxiom a) ts = AxiomHolds a ts
 Holds b ProductionDue ts = word (codes "production") ∷ [] ≡ ts
 Holds b (OneWord w) ts = (word (codes "production") ∷ word w ∷ [] ≡ ts) × IsWordText w
 Holds b (TwoWords t l) ts = (word (codes "production") ∷ word t ∷ word l ∷ [] ≡ ts) × IsWordText t × IsWordText l
-Holds b (InProduction t l s) ts = (us : List Kind) × (production_front t l ++ us ≡ ts) × H.Holds production b s us × IsTable t × IsWordText l
+Holds b (InProduction t l s) ts = (us : List Kind) × (production_front t l ++ us ≡ ts) × H.Holds production b s us × IsTable t × IsWordText l × GoesOn s
 Holds b LabelDue ts = word (codes "hom") ∷ [] ≡ ts
 Holds b (LabelRead l) ts = (word (codes "hom") ∷ word l ∷ [] ≡ ts) × IsWordText l
-Holds b (InHomomorphism l s) ts = (us : List Kind) × (homomorphism_front l ++ us ≡ ts) × H.Holds homomorphism b s us × IsWordText l
+Holds b (InHomomorphism l s) ts = (us : List Kind) × (homomorphism_front l ++ us ≡ ts) × H.Holds homomorphism b s us × IsWordText l × GoesOn s
 Holds b DropDue ts = word (codes "drop") ∷ [] ≡ ts
 Holds b (InNames r) ts = (word (codes "ignore") ∷ map name_kind (reversed r) ≡ ts) × EachOf IsModuleName r
 Holds b ScheduleDue ts = word (codes "schedule") ∷ [] ≡ ts
@@ -108,12 +108,12 @@ lattice-holds b w =
     (if-word P w (codes "cubic") _ _ (λ e. (same (codes "cubic") e, tt, omega arith)) tt))
 
 -- a token behind those that are known
-behind : (ks ts : List Kind) (k : Kind) → ks ≡ ts → ks ++ k ∷ [] ≡ ts ++ k ∷ []
+pub behind : (ks ts : List Kind) (k : Kind) → ks ≡ ts → ks ++ k ∷ [] ≡ ts ++ k ∷ []
 behind ks ts k e = ap (λ x. x ++ k ∷ []) e
 
 -- the string of an axiom
 module _ (b : ℕ) (r : List (Symbol Signed)) (ts : List Kind) (h : AxiomHolds (Symbols r) ts) where
-  symbol-read : (x : Symbol Signed) → IsSymbol IsSigned x → Closes x (open_in r) → AxiomHolds (Symbols (x ∷ r)) (ts ++ spelled_symbol signed_pieces x)
+  pub symbol-read : (x : Symbol Signed) → IsSymbol IsSigned x → Closes x (open_in r) → AxiomHolds (Symbols (x ∷ r)) (ts ++ spelled_symbol signed_pieces x)
   symbol-read x g c = (symbol-more signed_pieces axiom_front ts x r h.0, ((g, h.1.0), (c, h.1.1)))
 
 popped-holds : (b n : ℕ) (s : State) (ts : List Kind) → (0 < n → Holds b s ts) → Holds b (popped n s) ts
@@ -157,20 +157,20 @@ one-behind a t ps n k = simp append_assoc refl
 two-behind : (a t ps : List Kind) (n j k : Kind) → a ++ (t ++ n ∷ (ps ++ j ∷ k ∷ [])) ≡ (a ++ (t ++ n ∷ (ps ++ j ∷ []))) ++ k ∷ []
 two-behind a t ps n j k = simp append_assoc refl
 
-number_due-holds : (b : ℕ) (r : List (Symbol Signed)) (n : ModuleName) (zs : List Signed) (ts : List Kind) (k : Kind) → AxiomHolds (NumberDue r n zs) ts → Holds b (number_due_step k r n zs) (ts ++ k ∷ [])
+pub number_due-holds : (b : ℕ) (r : List (Symbol Signed)) (n : ModuleName) (zs : List Signed) (ts : List Kind) (k : Kind) → AxiomHolds (NumberDue r n zs) ts → Holds b (number_due_step k r n zs) (ts ++ k ∷ [])
 number_due-holds b r n zs ts (Number i) h =
     if_small-holds b (nat_lt i (2 ^ 63)) (InAxiom (NumberRead r n (plain i ∷ zs))) (ts ++ Number i ∷ [])
     (λ e. (one-behind axiom_front (taken signed_pieces r) (params_before signed_pieces zs) (name_kind n) (Number i) ∙ behind _ ts (Number i) h.0, h.1, (below i (2 ^ 63) e, h.2)))
 number_due-holds b r n zs ts Minus h = (one-behind axiom_front (taken signed_pieces r) (params_before signed_pieces zs) (name_kind n) Minus ∙ behind _ ts Minus h.0, h.1, h.2)
 number_due-holds b r n zs ts k h = tt
 
-minus-holds : (b : ℕ) (r : List (Symbol Signed)) (n : ModuleName) (zs : List Signed) (ts : List Kind) (k : Kind) → AxiomHolds (MinusRead r n zs) ts → Holds b (minus_step k r n zs) (ts ++ k ∷ [])
+pub minus-holds : (b : ℕ) (r : List (Symbol Signed)) (n : ModuleName) (zs : List Signed) (ts : List Kind) (k : Kind) → AxiomHolds (MinusRead r n zs) ts → Holds b (minus_step k r n zs) (ts ++ k ∷ [])
 minus-holds b r n zs ts (Number i) h =
     if_small-holds b (nat_le i (2 ^ 63)) (InAxiom (NumberRead r n (minus_sign i ∷ zs))) (ts ++ Number i ∷ [])
     (λ e. (two-behind axiom_front (taken signed_pieces r) (params_before signed_pieces zs) (name_kind n) Minus (Number i) ∙ behind _ ts (Number i) h.0, h.1, (at_most i (2 ^ 63) e, h.2)))
 minus-holds b r n zs ts k h = tt
 
-number_read-holds : (b : ℕ) (r : List (Symbol Signed)) (n : ModuleName) (zs : List Signed) (ts : List Kind) (k : Kind) → AxiomHolds (NumberRead r n zs) ts → Holds b (number_read_step k r n zs) (ts ++ k ∷ [])
+pub number_read-holds : (b : ℕ) (r : List (Symbol Signed)) (n : ModuleName) (zs : List Signed) (ts : List Kind) (k : Kind) → AxiomHolds (NumberRead r n zs) ts → Holds b (number_read_step k r n zs) (ts ++ k ∷ [])
 number_read-holds b r n [] ts k h = elim h [ ]
 number_read-holds b r n (z ∷ zs) ts Comma h = (comma-goes signed_pieces axiom_front ts n r z zs h.0, h.1, h.2)
 number_read-holds b r n (z ∷ zs) ts RightParen h =
@@ -189,24 +189,24 @@ more-behind front us ts k e = sym (append_assoc front us (k ∷ [])) ∙ behind 
 
 production-goes : (b : ℕ) (t : Option (List ℕ)) (l : List ℕ) (s : R.State) (us ts : List Kind) → (Shallow b s → H.Holds production b s us) → production_front t l ++ us ≡ ts → IsTable t → IsWordText l → Calm b (unless_stop (InProduction t l) s)
     → Holds b (unless_stop (InProduction t l) s) ts
-production-goes b t l (R.Formals p r) us ts h e g i c = (us, e, h c, g, i)
-production-goes b t l (R.FormalDue p r n fs) us ts h e g i c = (us, e, h c, g, i)
-production-goes b t l (R.FormalRead p r n fs) us ts h e g i c = (us, e, h c, g, i)
-production-goes b t l (R.InExpr spot s) us ts h e g i c = (us, e, h c, g, i)
-production-goes b t l (R.Successor d r) us ts h e g i c = (us, e, h c, g, i)
+production-goes b t l (R.Formals p r) us ts h e g i c = (us, e, h c, g, i, tt)
+production-goes b t l (R.FormalDue p r n fs) us ts h e g i c = (us, e, h c, g, i, tt)
+production-goes b t l (R.FormalRead p r n fs) us ts h e g i c = (us, e, h c, g, i, tt)
+production-goes b t l (R.InExpr spot s) us ts h e g i c = (us, e, h c, g, i, tt)
+production-goes b t l (R.Successor d r) us ts h e g i c = (us, e, h c, g, i, tt)
 production-goes b t l R.Stop us ts h e g i c = tt
 
 homomorphism-goes : (b : ℕ) (l : List ℕ) (s : R.State) (us ts : List Kind) → (Shallow b s → H.Holds homomorphism b s us) → homomorphism_front l ++ us ≡ ts → IsWordText l → Calm b (unless_stop (InHomomorphism l) s)
     → Holds b (unless_stop (InHomomorphism l) s) ts
-homomorphism-goes b l (R.Formals p r) us ts h e i c = (us, e, h c, i)
-homomorphism-goes b l (R.FormalDue p r n fs) us ts h e i c = (us, e, h c, i)
-homomorphism-goes b l (R.FormalRead p r n fs) us ts h e i c = (us, e, h c, i)
-homomorphism-goes b l (R.InExpr spot s) us ts h e i c = (us, e, h c, i)
-homomorphism-goes b l (R.Successor d r) us ts h e i c = (us, e, h c, i)
+homomorphism-goes b l (R.Formals p r) us ts h e i c = (us, e, h c, i, tt)
+homomorphism-goes b l (R.FormalDue p r n fs) us ts h e i c = (us, e, h c, i, tt)
+homomorphism-goes b l (R.FormalRead p r n fs) us ts h e i c = (us, e, h c, i, tt)
+homomorphism-goes b l (R.InExpr spot s) us ts h e i c = (us, e, h c, i, tt)
+homomorphism-goes b l (R.Successor d r) us ts h e i c = (us, e, h c, i, tt)
 homomorphism-goes b l R.Stop us ts h e i c = tt
 
 -- before a rule nothing of it is taken
-rule-start : (m : R.Form) (b : ℕ) → H.Holds m b R.start []
+pub rule-start : (m : R.Form) (b : ℕ) → H.Holds m b R.start []
 rule-start m b = (refl, tt, (tt, tt, tt, tt))
 
 -- names and words
@@ -238,7 +238,7 @@ colon-holds b s ts k h = tt
 
 one_word-holds : (b : ℕ) (w : List ℕ) (ts : List Kind) (k : Kind) → IsToken k → Holds b (OneWord w) ts → Holds b (one_word_step w k) (ts ++ k ∷ [])
 one_word-holds b w ts (Word l) o h = (behind (word (codes "production") ∷ word w ∷ []) ts (word l) h.0, h.1, o)
-one_word-holds b w ts Colon o h = ([], behind (word (codes "production") ∷ word w ∷ []) ts Colon h.0, rule-start production b, tt, h.1)
+one_word-holds b w ts Colon o h = ([], behind (word (codes "production") ∷ word w ∷ []) ts Colon h.0, rule-start production b, tt, h.1, tt)
 one_word-holds b w ts k o h = tt
 
 schedule-holds : (b : ℕ) (r : List (List ℕ)) (ts : List Kind) (k : Kind) → IsToken k → Holds b (InSchedule r) ts → Holds b (word_step (λ w. InSchedule (w ∷ r)) k) (ts ++ k ∷ [])
@@ -252,11 +252,11 @@ step-holds b (InAxiom a) ts k o h c = axiom-holds b a ts k (named-token k o) h
 step-holds b ProductionDue ts k o h c = word-holds b OneWord ts k o (λ w g. (behind (word (codes "production") ∷ []) ts (word w) h, g))
 step-holds b (OneWord w) ts k o h c = one_word-holds b w ts k o h
 step-holds b (TwoWords t l) ts k o h c =
-    colon-holds b (InProduction (Some t) l R.start) ts k ([], behind (word (codes "production") ∷ word t ∷ word l ∷ []) ts Colon h.0, rule-start production b, h.1, h.2)
+    colon-holds b (InProduction (Some t) l R.start) ts k ([], behind (word (codes "production") ∷ word t ∷ word l ∷ []) ts Colon h.0, rule-start production b, h.1, h.2, tt)
 step-holds b (InProduction t l s) ts k o h c =
     production-goes b t l (R.step production s k) (h.0 ++ k ∷ []) (ts ++ k ∷ []) (S.step-holds production b s h.0 k (named-token k o) h.2) (more-behind (production_front t l) h.0 ts k h.1) h.3 h.4 c
 step-holds b LabelDue ts k o h c = word-holds b LabelRead ts k o (λ w g. (behind (word (codes "hom") ∷ []) ts (word w) h, g))
-step-holds b (LabelRead l) ts k o h c = colon-holds b (InHomomorphism l R.start) ts k ([], behind (word (codes "hom") ∷ word l ∷ []) ts Colon h.0, rule-start homomorphism b, h.1)
+step-holds b (LabelRead l) ts k o h c = colon-holds b (InHomomorphism l R.start) ts k ([], behind (word (codes "hom") ∷ word l ∷ []) ts Colon h.0, rule-start homomorphism b, h.1, tt)
 step-holds b (InHomomorphism l s) ts k o h c =
     homomorphism-goes b l (R.step homomorphism s k) (h.0 ++ k ∷ []) (ts ++ k ∷ []) (S.step-holds homomorphism b s h.0 k (named-token k o) h.2) (more-behind (homomorphism_front l) h.0 ts k h.1) h.3 c
 step-holds b DropDue ts k o h c = word-holds b (λ l. Whole (drop_rule l)) ts k o (λ w g. (behind (word (codes "drop") ∷ []) ts (word w) h, g, omega arith))

@@ -47,7 +47,7 @@ closed-axiom : (b : ℕ) (ts : List Kind) (n : ℕ) (c : Command) → (n ≡ 0 �
 closed-axiom b ts zero c f = f refl
 closed-axiom b ts (suc n) c f = tt
 
-axiom-spelled : (b : ℕ) (r : List (Symbol Signed)) (ts : List Kind) → AxiomHolds (Symbols r) ts → open_in r ≡ 0 → IsSpelled b ts (set_axiom (reversed r))
+pub axiom-spelled : (b : ℕ) (r : List (Symbol Signed)) (ts : List Kind) → AxiomHolds (Symbols r) ts → open_in r ≡ 0 → IsSpelled b ts (set_axiom (reversed r))
 axiom-spelled b r ts h e =
     (ap (λ ks. axiom_front ++ ks) (behind-string (reversed r)) ∙ h.0, (each-reversed (IsSymbol IsSigned) r h.1.0, nests-closed r h.1.1 e), omega arith)
 
@@ -57,7 +57,7 @@ axiom-finish b (NumberDue r n zs) ts h = tt
 axiom-finish b (MinusRead r n zs) ts h = tt
 axiom-finish b (NumberRead r n zs) ts h = tt
 
-production-command : (b : ℕ) (t : Option (List ℕ)) (l : List ℕ) (us ts : List Kind) (o : Option Rule) → OnRule production b us o → production_front t l ++ us ≡ ts → IsTable t → IsWordText l → OnCommand b ts (option_map (put_production t l) o)
+pub production-command : (b : ℕ) (t : Option (List ℕ)) (l : List ℕ) (us ts : List Kind) (o : Option Rule) → OnRule production b us o → production_front t l ++ us ≡ ts → IsTable t → IsWordText l → OnCommand b ts (option_map (put_production t l) o)
 production-command b t l us ts None h e g i = tt
 production-command b None l us ts (Some r) h e g i = (ap (λ ks. production_front None l ++ ks) h.0 ∙ e, (g, i, h.1), h.3)
 production-command b (Some t) l us ts (Some r) h e g i = (ap (λ ks. production_front (Some t) l ++ ks) h.0 ∙ e, (g, i, h.1), h.3)
@@ -81,7 +81,7 @@ cuts-none (Cut ∷ xs) h = elim h.0 [ ]
 is_homomorphism : (r : Rule) → OfForm homomorphism r → IsHomomorphism r
 is_homomorphism r h = (absent-empty r.left h.left, absent-empty r.right h.right, weight-none r.weight h.weight, cuts-none r.successor h.cuts)
 
-homomorphism-command : (b : ℕ) (l : List ℕ) (us ts : List Kind) (o : Option Rule) → OnRule homomorphism b us o → homomorphism_front l ++ us ≡ ts → IsWordText l → OnCommand b ts (option_map (put_homomorphism l) o)
+pub homomorphism-command : (b : ℕ) (l : List ℕ) (us ts : List Kind) (o : Option Rule) → OnRule homomorphism b us o → homomorphism_front l ++ us ≡ ts → IsWordText l → OnCommand b ts (option_map (put_homomorphism l) o)
 homomorphism-command b l us ts None h e i = tt
 homomorphism-command b l us ts (Some r) h e i = (ap (λ ks. homomorphism_front l ++ ks) h.0 ∙ e, (i, h.1, is_homomorphism r h.2), h.3)
 

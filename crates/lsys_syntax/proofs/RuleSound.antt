@@ -79,7 +79,7 @@ room-before m p [] x h = tt
 room-before m p (y ∷ []) x h = tt
 room-before m p (y ∷ z ∷ r) x h = h
 
-right-room : (m : Form) (l : List (Symbol NameText)) (n : ModuleName) (fs : List NameText) (r : List (Symbol NameText)) → OnlyProduction m → HasRoom m (at_right l n fs) r
+pub right-room : (m : Form) (l : List (Symbol NameText)) (n : ModuleName) (fs : List NameText) (r : List (Symbol NameText)) → OnlyProduction m → HasRoom m (at_right l n fs) r
 right-room m l n fs [] o = tt
 right-room m l n fs (x ∷ []) o = tt
 right-room production l n fs (x ∷ y ∷ r) o = tt
@@ -91,10 +91,10 @@ renamed m p r n fs gs g h = (((h.0.0.0, g), h.0.1), (stands-module p n gs, h.1.1
 
 -- Symbols with formals
 module _ (m : Form) (b : ℕ) (p : Part) (r : List (Symbol NameText)) (ts : List Kind) (h : Holds m b (Formals p r) ts) where
-  symbol-read : (x : Symbol NameText) → IsSymbol IsNameText x → StandsIn p x → HasRoom m p (x ∷ r) → Closes x (open_in r) → Holds m b (Formals p (x ∷ r)) (ts ++ spelled_symbol formal_pieces x)
+  pub symbol-read : (x : Symbol NameText) → IsSymbol IsNameText x → StandsIn p x → HasRoom m p (x ∷ r) → Closes x (open_in r) → Holds m b (Formals p (x ∷ r)) (ts ++ spelled_symbol formal_pieces x)
   symbol-read x g s o c = (symbol-more formal_pieces (part_kinds p) ts x r h.0, h.1, ((g, h.2.0), (s, h.2.1), o, (c, h.2.3)))
 
-  module-read : (n : ModuleName) → IsModuleName n → HasRoom m p (Module n [] ∷ r) → Holds m b (Formals p (Module n [] ∷ r)) (ts ++ name_kind n ∷ [])
+  pub module-read : (n : ModuleName) → IsModuleName n → HasRoom m p (Module n [] ∷ r) → Holds m b (Formals p (Module n [] ∷ r)) (ts ++ name_kind n ∷ [])
   module-read n g o = symbol-read (Module n []) (g, tt) (stands-module p n []) o tt
 
 name-holds : (m : Form) (b : ℕ) (p : Part) (r : List (Symbol NameText)) (ts : List Kind) (n : ModuleName) → Holds m b (Formals p r) ts → IsModuleName n → Holds m b (one_more m p r (Formals p (Module n [] ∷ r))) (ts ++ name_kind n ∷ [])
@@ -130,7 +130,7 @@ open-holds m b p (Push ∷ r) ts h = tt
 open-holds m b p (Pop ∷ r) ts h = tt
 open-holds m b p (Cut ∷ r) ts h = tt
 
-left-holds : (b : ℕ) (p : Part) (r : List (Symbol NameText)) (ts : List Kind) → Holds production b (Formals p r) ts → Holds production b (left_ends p r) (ts ++ Less ∷ [])
+pub left-holds : (b : ℕ) (p : Part) (r : List (Symbol NameText)) (ts : List Kind) → Holds production b (Formals p r) ts → Holds production b (left_ends p r) (ts ++ Less ∷ [])
 left-holds b at_first [] ts h = tt
 left-holds b at_first (x ∷ r) ts h = (
   append-nil (kinds_of (left_pieces (reversed (x ∷ r)))) ∙ left-onto r [] x ∙ ap (λ ks. ks ++ Less ∷ []) h.0,
@@ -154,7 +154,7 @@ greater-holds b (at_predecessor l) (Module n fs ∷ []) ts h = (
 greater-holds b p r ts h = tt
 
 -- The head that stands behind the contexts.
-abbrev OnHead : Form → List Kind → Option Head → Type 0
+abbrev pub OnHead : Form → List Kind → Option Head → Type 0
 OnHead m ts None = Unit {0}
 OnHead m ts (Some h) = (head_kinds h ≡ ts) × GoodHead m h
 
@@ -162,7 +162,7 @@ closed-head : (m : Form) (ts : List Kind) (n : ℕ) (h : Head) → (n ≡ 0 → 
 closed-head m ts zero h f = f refl
 closed-head m ts (suc n) h f = tt
 
-head-good : (m : Form) (b : ℕ) (p : Part) (r : List (Symbol NameText)) (ts : List Kind) → Holds m b (Formals p r) ts → OnHead m ts (head_of p r)
+pub head-good : (m : Form) (b : ℕ) (p : Part) (r : List (Symbol NameText)) (ts : List Kind) → Holds m b (Formals p r) ts → OnHead m ts (head_of p r)
 head-good m b at_first (Module n fs ∷ []) ts h = (
   append-nil (spelled_symbol formal_pieces (Module n fs)) ∙ sym (string-one formal_pieces (Module n fs)) ∙ h.0,
   record { left = (tt, tt); name = h.2.0.0.0; formals = h.2.0.0.1; right = tt; items = tt; right_balanced = refl; no_left = absent-none m; no_right = absent-none m },
@@ -192,7 +192,7 @@ with_head-holds : (m : Form) (b : ℕ) (f : Head → State) (o : Option Head) (t
 with_head-holds m b f None ts us g k = tt
 with_head-holds m b f (Some h) ts us g k = k h g.0 g.1
 
-bare-good : (m : Form) (b : ℕ) (h : Head) → GoodHead m h → GoodBody m b (record { head = h; condition = None; weight = None })
+pub bare-good : (m : Form) (b : ℕ) (h : Head) → GoodHead m h → GoodBody m b (record { head = h; condition = None; weight = None })
 bare-good m b h g = record { head = g; condition = tt; near_condition = omega arith; weight = tt; near_weight = omega arith; no_weight = no_weight-none m }
 
 -- before an expression nothing of it is taken

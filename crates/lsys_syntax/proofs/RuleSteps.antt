@@ -85,7 +85,7 @@ module _ (b : ℕ) (e : Expr) (ts : List Kind) (i : IsExpr e) (n : N.expr_nestin
       let near : params_nesting (reversed (e ∷ es)) ≤ b = params-within b (e ∷ es) [] (omega (arith, n, w)) (omega arith) in
       (((g.0.0.0, each-reversed IsExpr (e ∷ es) (i, h)), g.0.1), (may-module m k (reversed (e ∷ es)), g.1.1), omega (arith, near, g.2), (tt, g.3.1))
 
-  done-holds : (m : Form) (k : Kind) (spot : Spot) → spot_kinds spot ++ expr_kinds e ≡ ts → GoodSpot m b spot → Holds m b (done_step m k spot e) (ts ++ k ∷ [])
+  pub done-holds : (m : Form) (k : Kind) (spot : Spot) → spot_kinds spot ++ expr_kinds e ≡ ts → GoodSpot m b spot → Holds m b (done_step m k spot e) (ts ++ k ∷ [])
   done-holds production At (as_condition h) q g = start-holds production b (as_weight h (Some e)) (ts ++ At ∷ []) (condition-at h q) (tt, condition-body production h g)
   done-holds homomorphism At (as_condition h) q g = tt
   done-holds m Arrow (as_condition h) q g = arrow-holds m b (record { head = h; condition = Some e; weight = None }) (ts ++ Arrow ∷ []) (condition-arrow h q) (condition-body m h g)
@@ -129,7 +129,7 @@ module _ (m : Form) (b : ℕ) (d : Body) (r : List (Symbol Expr)) (ts : List Kin
   put-push : Holds m b (Successor d (Push ∷ r)) (ts ++ LeftBracket ∷ [])
   put-push = (symbol-more expr_pieces (body_kinds d) ts Push r h.0, h.1, ((tt, h.2.0), (may-push m, h.2.1), h.2.2, (tt, h.2.3)))
 
-  put-pop : 0 < open_in r → Holds m b (Successor d (Pop ∷ r)) (ts ++ RightBracket ∷ [])
+  pub put-pop : 0 < open_in r → Holds m b (Successor d (Pop ∷ r)) (ts ++ RightBracket ∷ [])
   put-pop c = (symbol-more expr_pieces (body_kinds d) ts Pop r h.0, h.1, ((tt, h.2.0), (may-pop m, h.2.1), h.2.2, (c, h.2.3)))
 
 put-cut : (m : Form) (b : ℕ) (d : Body) (r : List (Symbol Expr)) (ts : List Kind) → Holds m b (Successor d r) ts → Holds m b (only_production m (Successor d (Cut ∷ r))) (ts ++ Percent ∷ [])
@@ -197,7 +197,7 @@ closed-rule : (m : Form) (b : ℕ) (ts : List Kind) (n : ℕ) (r : Rule) → (n 
 closed-rule m b ts zero r f = f refl
 closed-rule m b ts (suc n) r f = tt
 
-rule-spelled : (m : Form) (b : ℕ) (d : Body) (r : List (Symbol Expr)) (ts : List Kind) → Holds m b (Successor d r) ts → open_in r ≡ 0 → IsSpelled m b ts (rule_with d (reversed r))
+pub rule-spelled : (m : Form) (b : ℕ) (d : Body) (r : List (Symbol Expr)) (ts : List Kind) → Holds m b (Successor d r) ts → open_in r ≡ 0 → IsSpelled m b ts (rule_with d (reversed r))
 rule-spelled m b d r ts h e =
     let g : GoodHead m d.head = h.1.head in
     let near : string_nesting (reversed r) ≤ b = string-within b r [] h.2.2 (omega arith) in (

@@ -26,3 +26,7 @@ Begins b ks = (c : Command) × (rest : List Kind) × IsSpelled b (ks ++ rest) c
 -- Some sentence of any nesting begins with the tokens.
 abbrev pub BeginsDeep : List Kind → Type 0
 BeginsDeep ks = (b : ℕ) × Begins b ks
+
+-- A command of any nesting is spelled by the tokens.
+abbrev pub IsSpelling : List Kind → Type 0
+IsSpelling ks = (c : Command) × IsCommand c × (kinds_of (command_pieces c) ≡ ks)
