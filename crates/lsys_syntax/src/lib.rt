@@ -3,9 +3,9 @@
 //! Definitions that contracts cite stand in `specs/`. The functions here have empty bodies: the contract is the law.
 #![tactic(auto)]
 
-ghost use Rattle.std.specs.Prelude.{◌≡◌, ◌≤◌, ◌<◌, List, ℕ, ℤ, zero, suc, Ok, [], ◌∷◌, take, length};
+ghost use Rattle.std.specs.Prelude.{◌≡◌, ◌≤◌, ◌<◌, List, ℕ, ℤ, zero, suc, Ok, [], ◌∷◌, map, take, length};
 ghost use Rattle.lsys_syntax.specs.Lines.{lines_of};
-ghost use Rattle.lsys_syntax.specs.Tokens.{Kind, tokens, tokens_from, First, Modules};
+ghost use Rattle.lsys_syntax.specs.Tokens.{Kind, Token, tokens, tokens_from, First, Modules};
 ghost use Rattle.lsys_syntax.specs.Pieces.{Piece, text_of, kinds_of, placed, Reads, anything};
 ghost use Rattle.lsys_syntax.specs.Strings.{Symbol, AreSymbols, string_text, string_pieces, value_pieces};
 ghost use Rattle.lsys_syntax.specs.Commands.{Command, IsCommand, command_pieces, nesting};
@@ -23,6 +23,12 @@ pub fn law_of_empty_first_line()
 pub fn law_of_printed_tokens()
     ensures pieces { (pieces : List Piece) → Reads First anything pieces → tokens (text_of pieces) ≡ Ok (placed 0 pieces) }
     ensures strings { (symbols : List (Symbol ℤ)) (place : ℕ) → AreSymbols symbols → tokens_from Modules zero place (string_text symbols) ≡ Ok (placed place (string_pieces value_pieces symbols)) }
+{}
+
+/// A law of tokens: in every line that is read as tokens the words and names are of their form, and the numbers are
+/// below 2^64.
+pub fn law_of_token_forms()
+    ensures { (line : List ℕ) (read : List Token) → tokens line ≡ Ok read → AreTokens (map (λ t. t.kind) read) }
 {}
 
 /// A law of the grammar: the spelling of each command, its expressions nested at most 32 deep, is a sentence of that
