@@ -1,12 +1,13 @@
 -- The script that show prints, cut into lines and read, gives the system again.
-use Rattle.std.proofs.Common.{◌≡◌, ℕ, zero, Bool, true, false, not, Some, Result, Ok, Err, List, [], ◌∷◌, ◌++◌, ◌==◌, ◌<◌, ◌≤◌, map, length, suc, refl, ap, ◌∙◌, arith, decimal, ℤ}
+use Rattle.std.proofs.Common.{◌≡◌, ℕ, zero, Bool, true, false, not, Some, Result, Ok, Err, List, [], ◌∷◌, ◌++◌, ◌==◌, ◌<◌, ◌≤◌, map, length, suc, nat_le, refl, ap, ◌∙◌, sym, subst, arith, decimal, ℤ}
+use Rattle.std.proofs.lemmas.Bool.Decides.{nat_tests}
 use Rattle.std.proofs.lemmas.Fmt.{decimal_is_IsNumeral}
-use Rattle.lsys_syntax.specs.Lines.{lines_of}
+use Rattle.lsys_syntax.specs.Lines.{lines_of, without_cr}
 use Rattle.lsys_syntax.specs.Tokens.{short, long, Kind, Word, LongWord, Name, Number, BigNumber, Arrow, Equal, Unequal, AtMost, AtLeast, LeftParen, RightParen, LeftBracket, RightBracket, Comma, Colon, At, Plus, Minus, Times, Slash, Backslash, Percent, Ampersand, Bar, Caret, Bang, Less, Greater, Assign, Mode, First, next_mode, is_letter, is_digit, is_plain, is_word_byte, tokens}
 use Rattle.lsys_syntax.specs.Pieces.{Piece, blank, token, note, text_of, token_text, Tail, anything, ending, Reads, Stands, Every, IsWordText}
 use Rattle.lsys_syntax.specs.Strings.{Symbol, Module, Push, Pop, Cut, signed_of, EachOf, IsSymbol, IsParam, IsSigned, balanced}
 use Rattle.lsys_syntax.specs.Rules.{Production, IsRule, IsProduction}
-use Rattle.lsys_syntax.specs.Commands.{Command, set_schedule, set_depth, command_pieces, IsCommand, IsHomomorphism, nesting}
+use Rattle.lsys_syntax.specs.Commands.{Command, set_axiom, put_production, drop_rule, set_ignored, set_schedule, set_seed, set_depth, set_lattice, put_homomorphism, print_string, print_segments, print_svg, print_system, quit, command_pieces, IsCommand, IsHomomorphism, nesting}
 use Rattle.lsys_syntax.specs.LineMachine.{parse_command, command_in}
 use Rattle.lsys_syntax.proofs.Bytes.{differs, AllDigits-Every}
 use Rattle.lsys_syntax.proofs.StringsRead.{value_is_signed}
@@ -14,16 +15,26 @@ use Rattle.lsys_syntax.proofs.LineReads.{command-reads, line-reads, kinds-placed
 use Rattle.lsys_syntax.proofs.LineComplete.{command-sentence}
 use Rattle.lsys_spec.specs.Systems.{System, Homomorphism, opening, written, IsAccepted, Each, WellFormed}
 use Rattle.lsys_spec.specs.Edits.{Refusal, apply}
-use Rattle.lsys_spec.specs.Shown.{as_put, as_put_homomorphism, show_commands, script_of}
-use Rattle.lsys_spec.specs.ReadBack.{spelled_by, accepted_system, then_command, read_lines, IsReadBack}
+use Rattle.lsys_spec.specs.Shown.{as_put, as_put_homomorphism, show_commands, script_of, show_text}
+use Rattle.lsys_spec.specs.Refusals.{is_passed_over}
+use Rattle.lsys_spec.specs.ReadBack.{IsPlainLine, spelled_by, accepted_system, then_command, read_lines, IsReadBack}
 use Rattle.lsys_spec.proofs.Applied.{apply_all, commands-applied}
 
--- no printed byte is an LF
-abbrev no_feed : ℕ → Bool
-no_feed c = not (c == 10)
+-- each printed byte is a blank or comes behind it: none is an LF or a CR
+abbrev printed : ℕ → Bool
+printed c = nat_le 32 c
 
-no_feed-from : (p : ℕ → Bool) → p 10 ≡ false → (c : ℕ) → p c ≡ true → no_feed c ≡ true
-no_feed-from p k c h = ap not (differs p c 10 h k)
+letter-printed : (c : ℕ) → is_letter c ≡ true → printed c ≡ true
+letter-printed c h = grind (arith, nat_tests)
+
+plain-printed : (c : ℕ) → is_plain c ≡ true → printed c ≡ true
+plain-printed c h = grind (arith, nat_tests)
+
+word-printed : (c : ℕ) → is_word_byte c ≡ true → printed c ≡ true
+word-printed c h = grind (arith, nat_tests)
+
+digit-printed : (c : ℕ) → is_digit c ≡ true → printed c ≡ true
+digit-printed c h = grind (arith, nat_tests)
 
 every-map : (p q : ℕ → Bool) → ((c : ℕ) → p c ≡ true → q c ≡ true) → (cs : List ℕ) → Every p cs → Every q cs
 every-map p q f [] h = tt
@@ -33,56 +44,55 @@ every-append : (p : ℕ → Bool) (xs ys : List ℕ) → Every p xs → Every p 
 every-append p [] ys h k = k
 every-append p (x ∷ xs) ys h k = (h.0, every-append p xs ys h.1 k)
 
-token-no_feed : (m : Mode) (k : Kind) → Stands m k → Every no_feed (token_text k)
-token-no_feed m (Word []) h = elim h.1 [ ]
-token-no_feed m (Word (c ∷ cs)) h = (no_feed-from is_letter refl c h.1.0, every-map is_word_byte no_feed (no_feed-from is_word_byte refl) cs h.1.1)
-token-no_feed m LongWord h = elim h [ ]
-token-no_feed m (Name (short c)) h = (no_feed-from is_letter refl c h.1, tt)
-token-no_feed m (Name (long c cs)) h = (no_feed-from is_letter refl c h.1.0, (refl, every-map is_plain no_feed (no_feed-from is_plain refl) cs h.1.1))
-token-no_feed m (Number n) h = every-map is_digit no_feed (no_feed-from is_digit refl) (decimal n) (AllDigits-Every (decimal n) (decimal_is_IsNumeral n h).0.1)
-token-no_feed m BigNumber h = elim h [ ]
-token-no_feed m Assign h = elim h [ ]
-token-no_feed m Arrow h = (refl, (refl, tt))
-token-no_feed m Equal h = (refl, (refl, tt))
-token-no_feed m Unequal h = (refl, (refl, tt))
-token-no_feed m AtMost h = (refl, (refl, tt))
-token-no_feed m AtLeast h = (refl, (refl, tt))
-token-no_feed m LeftParen h = (refl, tt)
-token-no_feed m RightParen h = (refl, tt)
-token-no_feed m LeftBracket h = (refl, tt)
-token-no_feed m RightBracket h = (refl, tt)
-token-no_feed m Comma h = (refl, tt)
-token-no_feed m Colon h = (refl, tt)
-token-no_feed m At h = (refl, tt)
-token-no_feed m Plus h = (refl, tt)
-token-no_feed m Minus h = (refl, tt)
-token-no_feed m Times h = (refl, tt)
-token-no_feed m Slash h = (refl, tt)
-token-no_feed m Backslash h = (refl, tt)
-token-no_feed m Percent h = (refl, tt)
-token-no_feed m Ampersand h = (refl, tt)
-token-no_feed m Bar h = (refl, tt)
-token-no_feed m Caret h = (refl, tt)
-token-no_feed m Bang h = (refl, tt)
-token-no_feed m Less h = (refl, tt)
-token-no_feed m Greater h = (refl, tt)
+token-printed : (m : Mode) (k : Kind) → Stands m k → Every printed (token_text k)
+token-printed m (Word []) h = elim h.1 [ ]
+token-printed m (Word (c ∷ cs)) h = (letter-printed c h.1.0, every-map is_word_byte printed word-printed cs h.1.1)
+token-printed m LongWord h = elim h [ ]
+token-printed m (Name (short c)) h = (letter-printed c h.1, tt)
+token-printed m (Name (long c cs)) h = (letter-printed c h.1.0, (refl, every-map is_plain printed plain-printed cs h.1.1))
+token-printed m (Number n) h = every-map is_digit printed digit-printed (decimal n) (AllDigits-Every (decimal n) (decimal_is_IsNumeral n h).0.1)
+token-printed m BigNumber h = elim h [ ]
+token-printed m Assign h = elim h [ ]
+token-printed m Arrow h = (refl, (refl, tt))
+token-printed m Equal h = (refl, (refl, tt))
+token-printed m Unequal h = (refl, (refl, tt))
+token-printed m AtMost h = (refl, (refl, tt))
+token-printed m AtLeast h = (refl, (refl, tt))
+token-printed m LeftParen h = (refl, tt)
+token-printed m RightParen h = (refl, tt)
+token-printed m LeftBracket h = (refl, tt)
+token-printed m RightBracket h = (refl, tt)
+token-printed m Comma h = (refl, tt)
+token-printed m Colon h = (refl, tt)
+token-printed m At h = (refl, tt)
+token-printed m Plus h = (refl, tt)
+token-printed m Minus h = (refl, tt)
+token-printed m Times h = (refl, tt)
+token-printed m Slash h = (refl, tt)
+token-printed m Backslash h = (refl, tt)
+token-printed m Percent h = (refl, tt)
+token-printed m Ampersand h = (refl, tt)
+token-printed m Bar h = (refl, tt)
+token-printed m Caret h = (refl, tt)
+token-printed m Bang h = (refl, tt)
+token-printed m Less h = (refl, tt)
+token-printed m Greater h = (refl, tt)
 
-text-no_feed : (ps : List Piece) (m : Mode) (t : Tail) → Reads m t ps → Every no_feed (text_of ps)
-text-no_feed [] m t h = tt
-text-no_feed (blank ∷ ps) m t h = (refl, text-no_feed ps m anything h)
-text-no_feed (note n ∷ ps) m t h = text-no_feed ps m t h
-text-no_feed (token k ∷ ps) m t h = every-append no_feed (token_text k) (text_of ps) (token-no_feed m k h.1) (text-no_feed ps (next_mode m k) (ending k) h.2)
+text-printed : (ps : List Piece) (m : Mode) (t : Tail) → Reads m t ps → Every printed (text_of ps)
+text-printed [] m t h = tt
+text-printed (blank ∷ ps) m t h = (refl, text-printed ps m anything h)
+text-printed (note n ∷ ps) m t h = text-printed ps m t h
+text-printed (token k ∷ ps) m t h = every-append printed (token_text k) (text_of ps) (token-printed m k h.1) (text-printed ps (next_mode m k) (ending k) h.2)
 
-unfed : (c : ℕ) → no_feed c ≡ true → (c == 10) ≡ false
-unfed c h = from (c == 10) h
-  where
-    from : (b : Bool) → not b ≡ true → b ≡ false
-    from true k = cc
-    from false k = refl
+no_feed : (c : ℕ) → printed c ≡ true → (c == 10) ≡ false
+no_feed c h = grind (arith, nat_tests)
 
-line-cut : (text rest : List ℕ) → Every no_feed text → lines_of (text ++ 10 ∷ rest) ≡ text ∷ lines_of rest
+no_return : (c : ℕ) → printed c ≡ true → (c == 13) ≡ false
+no_return c h = grind (arith, nat_tests)
+
+line-cut : (text rest : List ℕ) → Every printed text → lines_of (text ++ 10 ∷ rest) ≡ text ∷ lines_of rest
 line-cut [] rest h = refl
-line-cut (c ∷ cs) rest h = rw (unfed c h.0, line-cut cs rest h.1)
+line-cut (c ∷ cs) rest h = rw (no_feed c h.0, line-cut cs rest h.1)
 
 -- a command whose nesting is within the bound
 abbrev IsLine : Command → Type 0
@@ -91,10 +101,36 @@ IsLine c = IsCommand c × (nesting c ≤ 32)
 abbrev line_text : Command → List ℕ
 line_text c = text_of (command_pieces c)
 
+-- the session reads a printed line as it stands
+bare-line : (line : List ℕ) → Every printed line → without_cr line ≡ line
+bare-line [] h = refl
+bare-line (c ∷ []) h = rw (no_return c h.0) refl
+bare-line (c ∷ d ∷ line) h = ap (λ bytes. c ∷ bytes) (bare-line (d ∷ line) h.1)
+
+not_passed : (c : Command) → is_passed_over (line_text c) ≡ false
+not_passed (set_axiom xs) = refl
+not_passed (put_production t l r) = refl
+not_passed (drop_rule l) = refl
+not_passed (set_ignored ns) = refl
+not_passed (set_schedule ws) = refl
+not_passed (set_seed n) = refl
+not_passed (set_depth n) = refl
+not_passed (set_lattice l) = refl
+not_passed (put_homomorphism l r) = refl
+not_passed (print_string n) = refl
+not_passed print_segments = refl
+not_passed print_svg = refl
+not_passed print_system = refl
+not_passed quit = refl
+
+lines-plain : (cs : List Command) → Each IsLine cs → Each IsPlainLine (map line_text cs)
+lines-plain [] g = tt
+lines-plain (c ∷ cs) g = ((bare-line (line_text c) (text-printed (command_pieces c) First anything (command-reads c g.0.0)), not_passed c), lines-plain cs g.1)
+
 lines-script : (cs : List Command) → Each IsLine cs → lines_of (script_of cs) ≡ map line_text cs
 lines-script [] g = refl
 lines-script (c ∷ cs) g =
-    line-cut (line_text c) (script_of cs) (text-no_feed (command_pieces c) First anything (command-reads c g.0.0)) ∙ ap (λ ls. line_text c ∷ ls) (lines-script cs g.1)
+    line-cut (line_text c) (script_of cs) (text-printed (command_pieces c) First anything (command-reads c g.0.0)) ∙ ap (λ ls. line_text c ∷ ls) (lines-script cs g.1)
 
 line-spells : (c : Command) → IsLine c → spelled_by (tokens (line_text c)) ≡ Some c
 line-spells c g =
@@ -169,3 +205,7 @@ shown-back s w =
     ap (read_lines (Some opening)) (lines-script (show_commands s) (shown-lines s w))
     ∙ lines-applied (show_commands s) (shown-lines s w) (Ok opening)
     ∙ ap accepted_system (commands-applied s w)
+
+-- They are lines that a session reads as they stand.
+pub shown-plain : (s : System) → WellFormed s → Each IsPlainLine (lines_of (show_text s))
+shown-plain s w = subst (Each IsPlainLine) (sym (lines-script (show_commands s) (shown-lines s w))) (lines-plain (show_commands s) (shown-lines s w))

@@ -1,12 +1,13 @@
 -- A script that is read line by line, and what is proved of `show`.
-use Rattle.std.specs.Prelude.{◌≡◌, ℕ, Option, Some, None, Result, Ok, Err, List, [], ◌∷◌, map}
-use Rattle.lsys_syntax.specs.Lines.{lines_of}
+use Rattle.std.specs.Prelude.{◌≡◌, ℕ, false, Option, Some, None, Result, Ok, Err, List, [], ◌∷◌, map}
+use Rattle.lsys_syntax.specs.Lines.{lines_of, without_cr}
 use Rattle.lsys_syntax.specs.Tokens.{Token, tokens}
 use Rattle.lsys_syntax.specs.Commands.{Command}
 use Rattle.lsys_syntax.specs.LineMachine.{parse_command}
 use Rattle.lsys_spec.specs.Systems.{System, opening}
 use Rattle.lsys_spec.specs.Edits.{Refusal, apply}
 use Rattle.lsys_spec.specs.Shown.{show_text}
+use Rattle.lsys_spec.specs.Refusals.{is_passed_over}
 
 -- the command that some tokens spell
 abbrev pub spelled_by : Result (List Token) ℕ → Option Command
@@ -34,3 +35,7 @@ read_lines o (line ∷ lines) = read_lines (read_line o line) lines
 -- From the opening system each line of the printed script is accepted, and in the end they have made the system that was printed.
 abbrev pub IsReadBack : System → Type 0
 IsReadBack s = read_lines (Some opening) (lines_of (show_text s)) ≡ Some s
+
+-- A line that a session reads as it stands: no CR at its end, not blank, and no comment.
+abbrev pub IsPlainLine : List ℕ → Type 0
+IsPlainLine line = (without_cr line ≡ line) × (is_passed_over line ≡ false)

@@ -232,7 +232,7 @@ rule-calm b (R.InExpr spot s) h = h
 rule-calm b (R.Successor d r) h = omega arith
 rule-calm b R.Stop h = omega arith
 
-calm-depth : (b : ℕ) (s : State) → Calm b s → depth s ≤ b
+pub calm-depth : (b : ℕ) (s : State) → Calm b s → depth s ≤ b
 calm-depth b (InProduction t l s) h = rule-calm b s h
 calm-depth b (InHomomorphism l s) h = rule-calm b s h
 calm-depth b s h = omega arith

@@ -11,3 +11,4 @@ pub mod RuleMachine
 pub mod Checks
 pub mod Commands
 pub mod LineMachine
+pub mod Sentences

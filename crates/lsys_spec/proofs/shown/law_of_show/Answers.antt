@@ -1,4 +1,4 @@
-use Rattle.lsys_spec.proofs.ShownBack.{shown-back}
+use Rattle.lsys_spec.proofs.ShownBack.{shown-back, shown-plain}
 use Rattle.lsys_spec.proofs.Sampled.{sample-well_formed}
 use Rattle.lsys_spec.proofs.shown.law_of_show.Goals as goal
 
@@ -7,3 +7,6 @@ returns-clause-read_back c = shown-back
 
 pub returns-clause-example : goal.returns-clause-example
 returns-clause-example c = sample-well_formed
+
+pub returns-clause-plain : goal.returns-clause-plain
+returns-clause-plain c = shown-plain
