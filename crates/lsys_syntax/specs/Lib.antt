@@ -12,3 +12,4 @@ pub mod Checks
 pub mod Commands
 pub mod LineMachine
 pub mod Sentences
+pub mod Examples
