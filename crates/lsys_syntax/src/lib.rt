@@ -15,8 +15,7 @@ ghost use Rattle.lsys_syntax.specs.Sentences.{AreTokens, IsSpelled, Begins, Begi
 /// A law of lines: the lines of a script that begins with LF are an empty line and the lines of the rest.
 pub fn law_of_empty_first_line()
     ensures { (bytes : List ℕ) → lines_of (10 ∷ bytes) ≡ [] ∷ lines_of bytes }
-{
-}
+{}
 
 /// A law of tokens: a line printed from pieces, each of which may stand behind the one before, is read as
 /// the tokens that it was printed from, each at the place where it was printed. So is a printed string of
