@@ -9,6 +9,7 @@ pub mod Rising
 pub mod LevelInduction
 pub mod Offspring
 pub mod Contexts
+pub mod Eachs
 pub mod Equal
 pub mod Names
 pub mod WellNamed
@@ -20,7 +21,9 @@ pub mod Law
 pub mod Groups
 pub mod Tells
 pub mod Ruled
+pub mod Named
 pub mod GroupTells
 pub mod Free
 pub mod Undisturbed
 pub mod Needs
+pub mod Answered

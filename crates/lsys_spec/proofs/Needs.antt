@@ -1,5 +1,5 @@
 -- The need lies within the candidates.
-use Rattle.std.proofs.Common.{◌≡◌, ℕ, zero, suc, ◌+◌, ◌≤◌, Bool, true, false, ◌&&◌, ◌||◌, eqb, cond, get_or, Option, Some, None, Ok, List, [], ◌∷◌, ◌++◌, length, drop, refl, ap, sym, ◌∙◌, subst, arith}
+use Rattle.std.proofs.Common.{◌≡◌, ℕ, zero, suc, ◌+◌, ◌≤◌, Bool, true, false, ◌&&◌, ◌||◌, eqb, cond, get_or, Option, Some, None, Ok, List, [], ◌∷◌, length, drop, refl, ap, sym, ◌∙◌, subst, arith}
 use Rattle.std.specs.Prelude.{not, sum_by, slice_get, option_map}
 use Rattle.std.proofs.lemmas.Bool.{eqb-true}
 use Rattle.std.proofs.lemmas.List.Sums.{sum_by-cons}
@@ -18,8 +18,9 @@ use Rattle.lsys_spec.proofs.Rising.{rising_apart}
 use Rattle.lsys_spec.proofs.Offspring.{Grown, has_balance, grown}
 use Rattle.lsys_spec.proofs.Equal.{both, any_is, same_number_true, same_lineage_true, same_question_refl}
 use Rattle.lsys_spec.proofs.Names.{NamedSymbol, NamedBody, NamedStanding, InOption, same_option_true, same_all_true, same_plain_option, same_symbol_true, same_body_true, same_standing_true}
-use Rattle.lsys_spec.proofs.WellNamed.{NamedLevel, level_named, named_at, group_named}
+use Rattle.lsys_spec.proofs.WellNamed.{NamedLevel, level_named, group_named}
 use Rattle.lsys_spec.proofs.Undisturbed.{IsSame, same_at}
+use Rattle.lsys_spec.proofs.Eachs.{each_at, each_append}
 
 -- 1. tests that fail
 
@@ -27,7 +28,7 @@ neither : (a b : Bool) → a || b ≡ false → (a ≡ false) × (b ≡ false)
 neither true b h = cc
 neither false b h = (refl, h)
 
-not_false : (a : Bool) → not a ≡ false → a ≡ true
+pub not_false : (a : Bool) → not a ≡ false → a ≡ true
 not_false true h = refl
 not_false false h = cc
 
@@ -41,7 +42,7 @@ symbol_named x p v = by (slice_get x p) refl
   where
     by : (o : Option Symbol) → slice_get x p ≡ o → InOption NamedSymbol o
     by None e = tt
-    by (Some s) e = named_at x p s v e
+    by (Some s) e = each_at NamedSymbol x p s v e
 
 before_named : (x : List Symbol) (p : ℕ) → NamedLevel x → InOption NamedSymbol (before_place x p)
 before_named x zero v = tt
@@ -98,16 +99,12 @@ asked_from s xs t x g p (Module l m ∷ ms) h =
     any_asked s xs bs (question s t bs x p l m) (questions_from s t x (p + 1) ms)
     (record { level = x; there = g; place = p; parents = l; value = m; stands = f.0; is = refl }) (asked_from s xs t x g (p + 1) ms f.1)
 
-append_asked : (s : System) (xs : List (List Symbol)) (qs rs : List Question) → AllAsked s xs qs → AllAsked s xs rs → AllAsked s xs (qs ++ rs)
-append_asked s xs [] rs h k = k
-append_asked s xs (q ∷ qs) rs h k = (h.0, append_asked s xs qs rs h.1 k)
-
 asked_below : (s : System) (xs : List (List Symbol)) (t : ℕ) (rest : List (List Symbol)) → drop t xs ≡ rest → AllAsked s xs (questions_below s t rest)
 asked_below s xs t [] h = tt
 asked_below s xs t (x ∷ []) h = tt
 asked_below s xs t (x ∷ y ∷ rest) h =
     let f = front_of xs t x (y ∷ rest) h in
-    append_asked s xs (questions_at s t x) (questions_below s (t + 1) (y ∷ rest)) (asked_from s xs t x f.0 0 x refl) (asked_below s xs (t + 1) (y ∷ rest) f.1)
+    each_append (IsAsked s xs) (questions_at s t x) (questions_below s (t + 1) (y ∷ rest)) (asked_from s xs t x f.0 0 x refl) (asked_below s xs (t + 1) (y ∷ rest) f.1)
 
 pub all_asked : (s : System) (xs : List (List Symbol)) → AllAsked s xs (questions s xs)
 all_asked s xs = asked_below s xs 0 xs refl
@@ -147,11 +144,11 @@ derived s limit xs w h = record {
 own_parts : (l l' : List ℕ) (m m' : ModuleValue) → Module l m ≡ Module l' m' → (l' ≡ l) × (m' ≡ m)
 own_parts l l' m m' e = let a : l' ≡ l = cc in let b : m' ≡ m = cc in (a, b)
 
-bodies_named : (s : System) (xs : List (List Symbol)) (q : Question) → WellFormed s → IsAsked s xs q → Each NamedBody q.bodies
+pub bodies_named : (s : System) (xs : List (List Symbol)) (q : Question) → WellFormed s → IsAsked s xs q → Each NamedBody q.bodies
 bodies_named s xs q w a = subst (λ (r : Question). Each NamedBody r.bodies) (sym a.is) (group_named s w q.level a.value.name (length a.value.params))
 
-own_named : (s : System) (xs : List (List Symbol)) (q : Question) → Derived s xs → IsAsked s xs q → NamedSymbol q.own
-own_named s xs q d a = subst (λ (r : Question). NamedSymbol r.own) (sym a.is) (named_at a.level a.place (Module a.parents a.value) (d.names q.level a.level a.there) a.stands)
+pub own_named : (s : System) (xs : List (List Symbol)) (q : Question) → Derived s xs → IsAsked s xs q → NamedSymbol q.own
+own_named s xs q d a = subst (λ (r : Question). NamedSymbol r.own) (sym a.is) (each_at NamedSymbol a.level a.place (Module a.parents a.value) (d.names q.level a.level a.there) a.stands)
 
 untouched : (old new : System) (xs ys : List (List Symbol)) → Derived old xs → Derived new ys → (was q : Question) (a : IsAsked old xs was) (b : IsAsked new ys q) → was.level ≡ q.level
     → is_touched old new a.level b.level was q ≡ false → was ≡ q

@@ -1,6 +1,9 @@
 use Rattle.lsys_spec.proofs.Balanced.{is_level}
 use Rattle.lsys_spec.proofs.Rising.{rising_apart}
-use Rattle.lsys_spec.proofs.Offspring.{Grown, has_balance, grown, long_at}
+use Rattle.std.proofs.Common.{◌≡◌, ◌+◌, length}
+use Rattle.lsys_spec.specs.Levels.{lineage}
+use Rattle.lsys_spec.proofs.Eachs.{each_at}
+use Rattle.lsys_spec.proofs.Offspring.{Grown, has_balance, grown}
 use Rattle.lsys_spec.proofs.levels.law_of_levels.Goals as goal
 
 pub returns-clause-well_formed : goal.returns-clause-well_formed
@@ -16,4 +19,4 @@ pub returns-clause-mates : goal.returns-clause-mates
 returns-clause-mates c s b limit xs h t x g = let r : Grown t x = grown s b limit xs h t x g in is_level x r.is_balanced (rising_apart x r.rises)
 
 pub returns-clause-generations : goal.returns-clause-generations
-returns-clause-generations c s b limit xs h t x g p a k = long_at _ x p a (grown s b limit xs h t x g).generations k
+returns-clause-generations c s b limit xs h t x g p a k = each_at (λ a. length (lineage a) ≡ t + 1) x p a (grown s b limit xs h t x g).generations k
