@@ -8,10 +8,11 @@ use Rattle.lsys_spec.specs.Walks.{Mark, Entry, Compared, Ignored, Out, Branched,
 use Rattle.lsys_spec.specs.Questions.{Question, question, questions, same_number, same_option, same_all, same_lineage, same_symbol, same_body, same_mark, same_entry, same_question, question_at, differs, is_needed}
 use Rattle.lsys_spec.specs.LevelLaws.{StandsIn}
 use Rattle.lsys_spec.proofs.Eachs.{each_at, each_more}
-use Rattle.lsys_spec.proofs.Equal.{both, same_number_true, same_lineage_true, same_question_refl}
+use Rattle.lsys_spec.proofs.Equal.{same_number_true, same_lineage_true, same_question_refl}
 use Rattle.lsys_spec.proofs.Names.{NamedSymbol, NamedBody, same_all_true, same_plain_option, same_symbol_true, same_body_true}
 use Rattle.lsys_spec.proofs.Named.{Has, OfEntry, trace_of}
-use Rattle.lsys_spec.proofs.Needs.{IsAsked, all_asked, IsFound, found_asked, Derived, not_false, own_named, bodies_named}
+use Rattle.lsys_spec.proofs.Needs.{IsAsked, all_asked, IsFound, found_asked, Derived, own_named, bodies_named}
+use Rattle.lsys_spec.proofs.Tests.{both, not_false}
 
 -- the tests of equality, where names are names of the language
 

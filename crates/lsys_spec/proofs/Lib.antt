@@ -2,6 +2,7 @@ pub mod Keys
 pub mod Picks
 pub mod Turns
 pub mod Frames
+pub mod Tests
 pub mod Cutting
 pub mod Mates
 pub mod Balanced

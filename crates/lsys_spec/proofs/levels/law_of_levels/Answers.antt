@@ -1,10 +1,15 @@
 use Rattle.lsys_spec.proofs.Balanced.{is_level}
 use Rattle.lsys_spec.proofs.Rising.{rising_apart}
 use Rattle.std.proofs.Common.{◌≡◌, ◌+◌, length}
-use Rattle.lsys_spec.specs.Levels.{lineage}
+use Rattle.lsys_spec.specs.Levels.{Module, lineage}
 use Rattle.lsys_spec.proofs.Eachs.{each_at}
 use Rattle.lsys_spec.proofs.Offspring.{Grown, has_balance, grown}
+use Rattle.lsys_spec.proofs.Names.{NamedSymbol}
+use Rattle.lsys_spec.proofs.WellNamed.{level_named}
 use Rattle.lsys_spec.proofs.levels.law_of_levels.Goals as goal
+
+pub returns-clause-names : goal.returns-clause-names
+returns-clause-names c s w limit xs h t x g p l m k = each_at NamedSymbol x p (Module l m) (level_named s w limit xs h t x g) k
 
 pub returns-clause-well_formed : goal.returns-clause-well_formed
 returns-clause-well_formed c s w = has_balance s w
