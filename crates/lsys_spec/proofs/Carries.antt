@@ -4,6 +4,7 @@ use Rattle.std.proofs.lemmas.List.{take-append-le, take_all}
 use Rattle.std.proofs.lemmas.Bool.{cases_lt}
 use Rattle.lsys_spec.specs.Systems.{Each}
 use Rattle.lsys_spec.specs.Walks.{Entry, Told, before, followed}
+use Rattle.lsys_spec.proofs.Eachs.{each_front, each_back}
 
 -- Where one told at most k entries, the other is the same; where it told more, so did the other, and the first k are the same.
 pub record Same (A : Type 0) (k : ℕ) (t t' : Told A) : Type 0 where
@@ -32,14 +33,6 @@ take_past : (es fs : List Entry) (k : ℕ) → length es ≤ k → take k (es ++
 take_past [] fs k h = ap (λ k. take k fs) (omega arith)
 take_past (e ∷ es) fs zero h = absurd (omega (arith, h))
 take_past (e ∷ es) fs (suc k) h = ap (λ es. e ∷ es) (take_past es fs k (omega (arith, h)) ∙ ap (λ k. es ++ take k fs) (omega arith))
-
-all_past : (S : Entry → Type 0) (es fs : List Entry) → Each S (es ++ fs) → Each S fs
-all_past S [] fs h = h
-all_past S (e ∷ es) fs h = all_past S es fs h.1
-
-all_front : (S : Entry → Type 0) (es fs : List Entry) → Each S (es ++ fs) → Each S es
-all_front S [] fs h = tt
-all_front S (e ∷ es) fs h = (h.0, all_front S es fs h.1)
 
 -- where the first part was cut off
 cut_off : {A B : Type 0} (S : Entry → Type 0) (k : ℕ) (t t' : Told A) (n n' : Told B) → Carries S t t' → k < length t.entries
@@ -75,9 +68,9 @@ carries_followed {A} {B} S t t' n n' f g k h = by (cases_lt k (length t.entries)
     by (inr l) =
         let past : take k (t.entries ++ n.entries) ≡ t.entries ++ take (k - length t.entries) n.entries = take_past t.entries n.entries k l in
         let all : Each S (t.entries ++ take (k - length t.entries) n.entries) = subst (Each S) past h in
-        let s : Same A k t t' = f k (subst (Each S) (sym (take_all k t.entries l)) (all_front S t.entries (take (k - length t.entries) n.entries) all)) in
+        let s : Same A k t t' = f k (subst (Each S) (sym (take_all k t.entries l)) (each_front S t.entries (take (k - length t.entries) n.entries) all)) in
         let e : t' ≡ t = s.short l in
-        let m : Same B k (followed t n) (followed t n') = goes_on k t n n' l (g e (k - length t.entries) (all_past S t.entries (take (k - length t.entries) n.entries) all)) in
+        let m : Same B k (followed t n) (followed t n') = goes_on k t n n' l (g e (k - length t.entries) (each_back S t.entries (take (k - length t.entries) n.entries) all)) in
         subst (λ u. Same B k (followed t n) (followed u n')) (sym e) m
 
 -- what is made of the answer alone

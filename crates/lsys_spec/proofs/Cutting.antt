@@ -1,9 +1,10 @@
 -- What a cut leaves: it is balanced, and it is the symbols that no cut cuts off.
-use Rattle.std.proofs.Common.{◌++◌, ◌≡◌, ◌≤◌, ℕ, zero, suc, ◌+◌, ◌-◌, Bool, true, false, ◌&&◌, ◌||◌, Option, Some, None, List, [], ◌∷◌, take, drop, refl, ap, sym, ◌∙◌, subst, arith, eq-eqb}
-use Rattle.std.specs.Prelude.{slice_get, map, ◌↔◌}
+use Rattle.std.proofs.Common.{◌≡◌, ◌≤◌, ℕ, zero, suc, ◌+◌, ◌-◌, Bool, true, false, ◌&&◌, ◌||◌, Option, Some, None, List, [], ◌∷◌, take, drop, refl, ap, sym, ◌∙◌, arith, eq-eqb}
+use Rattle.std.specs.Prelude.{map}
 use Rattle.std.proofs.lemmas.Bool.{eqb-true}
 use Rattle.lsys_spec.specs.Levels.{Symbol, Push, Pop, Module, balanced}
 use Rattle.lsys_spec.specs.Cuts.{Raw, Plain, Percent, raw_balanced, cut_on, cut, never_closes, CutsOff, IsCutOff, is_percent, is_cut_off, kept}
+use Rattle.lsys_spec.proofs.Tests.{or_later}
 
 abbrev open_in : Option ℕ → ℕ
 open_in None = 0
@@ -79,10 +80,6 @@ cut_by_places (Plain (Pop l) ∷ x) (Some (suc n)) = cut_by_places x (Some n)
 by_first : (a b c : Bool) → a ≡ true → b ≡ true → (a && b) || c ≡ true
 by_first a b c e i = rw (e, i) refl
 
-by_later : (a c : Bool) → c ≡ true → a || c ≡ true
-by_later true c e = refl
-by_later false c e = e
-
 pub tested : (x : List Raw) (q p : ℕ) → CutsOff x q p → is_cut_off x p ≡ true
 tested [] q p h = let e = h.there.1 in cc
 tested (r ∷ x) zero zero h = let e : r ≡ Percent h.there.0 = let i = h.there.1 in cc in ap is_percent e
@@ -93,7 +90,7 @@ tested (r ∷ x) zero (suc p) h =
     by_first (is_percent r) (never_closes 0 (take (suc p) x)) (is_cut_off x p) (ap is_percent e) (ap (λ n. never_closes 0 (take n x)) (sym n) ∙ h.stays)
 tested (r ∷ x) (suc q) (suc p) h =
     let n : p - q ≡ suc p - suc q = omega arith in
-    by_later (is_percent r && never_closes 0 (take (suc p) x)) (is_cut_off x p)
+    or_later (is_percent r && never_closes 0 (take (suc p) x)) (is_cut_off x p)
     (tested x q p (record { there = h.there; reaches = omega (arith, h.reaches); stays = ap (λ n. never_closes 0 (take n (drop (suc q) x))) n ∙ h.stays }))
 
 behind : (r : Raw) (x : List Raw) (p : ℕ) → IsCutOff x p → IsCutOff (r ∷ x) (suc p)

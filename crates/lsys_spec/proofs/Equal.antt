@@ -1,5 +1,5 @@
 -- The tests of equality: what is equal passes them.
-use Rattle.std.proofs.Common.{◌≡◌, ℕ, Bool, true, false, ◌&&◌, ◌||◌, Option, Some, None, List, [], ◌∷◌, refl, ap, eq-eqb, arith}
+use Rattle.std.proofs.Common.{◌≡◌, ℕ, Bool, true, ◌&&◌, Option, Some, None, List, [], ◌∷◌, refl, ap, eq-eqb, arith}
 use Rattle.std.specs.Prelude.{ℤ, pos, ◌-ℤ◌}
 use Rattle.std.proofs.lemmas.Bool.{eqb-true}
 use Rattle.std.proofs.lemmas.Int.{ints}
@@ -11,26 +11,10 @@ use Rattle.lsys_spec.specs.Systems.{same_name, name_text}
 use Rattle.lsys_spec.specs.Values.{Tree, Constant, Formal, Negation, Inversion, Binary, Both, Either, Operator, sum_of, product_of, power_of, comparison, is_zero, int_same}
 use Rattle.lsys_spec.specs.Bodies.{Body, Pattern, Patterns, Done, OneOf, BranchOf}
 use Rattle.lsys_spec.specs.Levels.{ModuleValue, Symbol, Push, Pop, Module}
-use Rattle.lsys_spec.specs.Walks.{Mark, Entry, Compared, Ignored, Out, Branched, list_any}
+use Rattle.lsys_spec.specs.Walks.{Mark, Entry, Compared, Ignored, Out, Branched}
+use Rattle.lsys_spec.specs.Standings.{Standing, same_standing}
 use Rattle.lsys_spec.specs.Questions.{Question, same_number, same_option, same_all, same_lineage, same_module, same_symbol, same_term_op, same_sum_op, same_rel_op, same_operator, same_tree, same_pattern, same_patterns, same_template, same_body, same_mark, same_entry, same_question}
-
-pub both : (a b : Bool) → a && b ≡ true → (a ≡ true) × (b ≡ true)
-both true true h = (refl, refl)
-both true false h = cc
-both false b h = cc
-
-pub and_true : (a b : Bool) → a ≡ true → b ≡ true → a && b ≡ true
-and_true true true h k = refl
-and_true true false h k = k
-and_true false b h k = h
-
-either_by : (a b : Bool) → elim a [ true ↦ true | false ↦ b ] ≡ a || b
-either_by true b = refl
-either_by false b = refl
-
--- the first, or one behind it
-pub any_is : {A : Type 0} (p : A → Bool) (x : A) (xs : List A) → list_any p (x ∷ xs) ≡ p x || list_any p xs
-any_is p x xs = either_by (p x) (list_any p xs)
+use Rattle.lsys_spec.proofs.Tests.{and_true, both}
 
 pub same_option_refl : {A : Type 0} (f : A → A → Bool) → ((a : A) → f a a ≡ true) → (o : Option A) → same_option f o o ≡ true
 same_option_refl f g None = refl
@@ -155,3 +139,13 @@ same_question_refl q =
     (and_true (same_all same_body q.bodies q.bodies) _ (same_all_refl same_body same_body_refl q.bodies)
     (and_true (same_option same_number q.key q.key) (same_all same_entry q.trace q.trace) (same_option_refl same_number same_number_refl q.key)
     (same_all_refl same_entry same_entry_refl q.trace))))
+
+same_standing_refl : (s : Standing) → same_standing s s ≡ true
+same_standing_refl s =
+    and_true (same_option same_symbol s.symbol s.symbol) _ (same_option_refl same_symbol same_symbol_refl s.symbol)
+    (and_true (same_option same_symbol s.before s.before) _ (same_option_refl same_symbol same_symbol_refl s.before)
+    (and_true (same_option same_symbol s.after s.after) (same_option same_lineage s.mate s.mate) (same_option_refl same_symbol same_symbol_refl s.after)
+    (same_option_refl same_lineage same_lineage_refl s.mate)))
+
+pub same_standings_refl : (o : Option Standing) → same_option same_standing o o ≡ true
+same_standings_refl o = same_option_refl same_standing same_standing_refl o

@@ -1,5 +1,5 @@
 -- Where the same names are ignored, or nothing is read, the choice is the same.
-use Rattle.std.proofs.Common.{◌≡◌, ℕ, ◌+◌, Bool, true, false, ◌&&◌, ◌||◌, Option, Some, None, List, [], ◌∷◌, ◌++◌, length, refl, ap, sym, ◌∙◌, ◌⊎◌, inl, inr}
+use Rattle.std.proofs.Common.{◌≡◌, ℕ, ◌+◌, Bool, true, ◌&&◌, ◌||◌, Option, Some, None, List, [], ◌∷◌, ◌++◌, length, refl, ap, sym, ◌∙◌, ◌⊎◌, inl, inr}
 use Rattle.std.specs.Prelude.{reverse}
 use Rattle.lsys_syntax.specs.Strings.{ModuleName}
 use Rattle.lsys_spec.specs.Systems.{same_name}
@@ -9,7 +9,8 @@ use Rattle.lsys_spec.specs.Walks.{Mark, Told, followed, joined, left_walk, right
 use Rattle.lsys_spec.specs.Choice.{Taken, Choice, Asking, right_after, contexts, outcome, decided, is_some, group_from}
 use Rattle.lsys_spec.specs.Standings.{no_patterns, no_left, free, among, all_among, same_ignored}
 use Rattle.lsys_spec.specs.Meaning.{ignores}
-use Rattle.lsys_spec.proofs.Equal.{both, any_is, same_name_text, text_same_name}
+use Rattle.lsys_spec.proofs.Equal.{same_name_text, text_same_name}
+use Rattle.lsys_spec.proofs.Tests.{both, any_is, one_of, or_first, or_later, each_way}
 
 left_free : (f f' : ModuleName → Bool) (d : Mark) (qs : List Pattern) (w : List Step) → no_left qs ≡ true → left_walk f' d (reverse qs) w ≡ left_walk f d (reverse qs) w
 left_free f f' d [] w h = refl
@@ -44,25 +45,13 @@ group_free a f w r n g taken (b ∷ bs) h =
 
 -- the same names, in whatever order
 
-one_of : (a b : Bool) → a || b ≡ true → (a ≡ true) ⊎ (b ≡ true)
-one_of true b h = inl refl
-one_of false b h = inr h
-
-first_of_both : (a b : Bool) → a ≡ true → a || b ≡ true
-first_of_both true b h = refl
-first_of_both false b h = cc
-
-or_later : (a b : Bool) → b ≡ true → a || b ≡ true
-or_later true b h = refl
-or_later false b h = h
-
 -- a name with the text of one that is there
 among_same : (names : List ModuleName) (i n : ModuleName) → among names i ≡ true → same_name i n ≡ true → among names n ≡ true
 among_same [] i n h e = cc
 among_same (j ∷ names) i n h e = by (one_of (same_name j i) (among names i) (sym (any_is (λ j. same_name j i) j names) ∙ h)) (λ g. among_same names i n g e)
   where
     by : (same_name j i ≡ true) ⊎ (among names i ≡ true) → (among names i ≡ true → among names n ≡ true) → among (j ∷ names) n ≡ true
-    by (inl g) f = any_is (λ j. same_name j n) j names ∙ first_of_both (same_name j n) (among names n) (text_same_name j n (same_name_text j i g ∙ same_name_text i n e))
+    by (inl g) f = any_is (λ j. same_name j n) j names ∙ or_first (same_name j n) (among names n) (text_same_name j n (same_name_text j i g ∙ same_name_text i n e))
     by (inr g) f = any_is (λ j. same_name j n) j names ∙ or_later (same_name j n) (among names n) (f g)
 
 among_all : (a b : List ModuleName) (n : ModuleName) → all_among a b ≡ true → among a n ≡ true → among b n ≡ true
@@ -72,11 +61,6 @@ among_all (i ∷ a) b n h k = by (both (among b i) (all_among a b) h) (one_of (s
     by : (among b i ≡ true) × (all_among a b ≡ true) → (same_name i n ≡ true) ⊎ (among a n ≡ true) → (all_among a b ≡ true → among a n ≡ true → among b n ≡ true) → among b n ≡ true
     by e (inl g) f = among_same b i n e.0 g
     by e (inr g) f = f e.1 g
-
-each_way : (a b : Bool) → (a ≡ true → b ≡ true) → (b ≡ true → a ≡ true) → a ≡ b
-each_way true b f g = sym (f refl)
-each_way false false f g = refl
-each_way false true f g = g refl
 
 pub ignores_same : (a b : List ModuleName) (n : ModuleName) → same_ignored a b ≡ true → ignores b n ≡ ignores a n
 ignores_same a b n h =

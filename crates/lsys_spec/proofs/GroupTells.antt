@@ -9,9 +9,10 @@ use Rattle.lsys_spec.specs.Bodies.{Body}
 use Rattle.lsys_spec.specs.Levels.{ModuleValue, Step, Items}
 use Rattle.lsys_spec.specs.Walks.{Mark, Entry, Told, followed, left_walk, right_walk}
 use Rattle.lsys_spec.proofs.Tells.{mark_of, Foreign, Ends, Tells, tells_says, tells_answer, left_tells, right_tells}
-use Rattle.lsys_spec.proofs.Ruled.{append_all, Ruled, left_ruled, right_ruled}
+use Rattle.lsys_spec.proofs.Ruled.{Ruled, left_ruled, right_ruled}
 use Rattle.lsys_spec.specs.Choice.{Fault, TooFar, Outcome, No, Yes, Fails, Taken, Choice, Failed, Asking, weighed, right_after, contexts, outcome, largest_weight, weights, unless_over, with_weight, decided, is_some, group_from}
 use Rattle.lsys_spec.proofs.Groups.{group_far}
+use Rattle.lsys_spec.proofs.Eachs.{each_append}
 
 -- 1. the entries of a rule
 
@@ -22,7 +23,7 @@ after_ruled f d b own r (Some ms) = right_ruled f d b.right r
 contexts_ruled : (f : ModuleName → Bool) (d : Mark) (b : Body) (own : ModuleValue) (w : List Step) (r : Items) → Each (Ruled d.rule) (contexts f d b own w r).entries
 contexts_ruled f d b own w r =
     let t : Told (Option (List ModuleValue)) = left_walk f d (reverse b.left) w in
-    append_all (Ruled d.rule) t.entries (right_after f d b own r t.answer).entries (left_ruled f d (reverse b.left) w) (after_ruled f d b own r t.answer)
+    each_append (Ruled d.rule) t.entries (right_after f d b own r t.answer).entries (left_ruled f d (reverse b.left) w) (after_ruled f d b own r t.answer)
 
 abbrev From : ℕ → Entry → Type 0
 From g e = g ≤ (mark_of e).rule
@@ -52,7 +53,7 @@ group_ruled a w r k n g taken (b ∷ bs) l =
     let d : Mark = record { rule = g; depth = 0 } in
     let t : Told (Option (List ModuleValue)) = contexts a.ignored d b a.own w r in
     let go = λ (more : List Taken). group_from a w r (n + length t.entries) (g + 1) more bs in
-    append_all (From k) t.entries (decided (outcome a.most n b t) (is_some a.key) g b taken go).entries
+    each_append (From k) t.entries (decided (outcome a.most n b t) (is_some a.key) g b taken go).entries
     (from_ruled k g t.entries l (contexts_ruled a.ignored d b a.own w r))
     (decided_from k (outcome a.most n b t) (is_some a.key) g b taken go (λ more. group_ruled a w r k (n + length t.entries) (g + 1) more bs (omega (arith, l))))
 

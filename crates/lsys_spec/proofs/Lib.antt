@@ -5,6 +5,7 @@ pub mod Frames
 pub mod Applied
 pub mod ShownBack
 pub mod Sampled
+pub mod Tests
 pub mod Cutting
 pub mod Mates
 pub mod Balanced
@@ -18,6 +19,7 @@ pub mod Groups
 pub mod SameGroups
 pub mod ContextFree
 pub mod Ignoring
+pub mod Eachs
 pub mod Equal
 pub mod Names
 pub mod WellNamed
@@ -28,7 +30,9 @@ pub mod Standings
 pub mod Law
 pub mod Tells
 pub mod Ruled
+pub mod Named
 pub mod GroupTells
 pub mod Free
 pub mod Undisturbed
 pub mod Needs
+pub mod Answered

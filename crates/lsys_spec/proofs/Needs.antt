@@ -1,6 +1,6 @@
 -- The need lies within the candidates.
-use Rattle.std.proofs.Common.{◌≡◌, ℕ, zero, suc, ◌+◌, ◌≤◌, Bool, true, false, ◌&&◌, ◌||◌, eqb, cond, get_or, Option, Some, None, Ok, List, [], ◌∷◌, ◌++◌, length, drop, refl, ap, sym, ◌∙◌, subst, arith}
-use Rattle.std.specs.Prelude.{not, sum_by, slice_get, option_map}
+use Rattle.std.proofs.Common.{◌≡◌, ℕ, zero, suc, ◌+◌, ◌≤◌, Bool, true, false, ◌&&◌, ◌||◌, eqb, cond, get_or, Option, Some, None, Ok, List, [], ◌∷◌, length, drop, refl, ap, sym, ◌∙◌, subst, arith}
+use Rattle.std.specs.Prelude.{◌↔◌, not, sum_by, slice_get, option_map}
 use Rattle.std.proofs.lemmas.Bool.{eqb-true}
 use Rattle.std.proofs.lemmas.List.Sums.{sum_by-cons}
 use Rattle.std.proofs.lemmas.Option.{get_or_from_slice_get}
@@ -16,32 +16,21 @@ use Rattle.lsys_spec.proofs.Alike.{Settles}
 use Rattle.lsys_spec.proofs.Balanced.{is_level}
 use Rattle.lsys_spec.proofs.Rising.{rising_apart}
 use Rattle.lsys_spec.proofs.Offspring.{Grown, has_balance, grown}
-use Rattle.lsys_spec.proofs.Equal.{both, any_is, same_number_true, same_lineage_true, same_question_refl}
+use Rattle.lsys_spec.proofs.Equal.{same_number_true, same_lineage_true, same_question_refl, same_standings_refl}
 use Rattle.lsys_spec.proofs.Names.{NamedSymbol, NamedBody, NamedStanding, InOption, same_option_true, same_all_true, same_plain_option, same_symbol_true, same_body_true, same_standing_true}
-use Rattle.lsys_spec.proofs.WellNamed.{NamedLevel, level_named, named_at, group_named}
+use Rattle.lsys_spec.proofs.WellNamed.{NamedLevel, level_named, group_named}
 use Rattle.lsys_spec.proofs.Undisturbed.{IsSame, same_at}
+use Rattle.lsys_spec.proofs.Eachs.{each_at, each_append}
+use Rattle.lsys_spec.proofs.Tests.{both, neither, not_false, none_of}
 
--- 1. tests that fail
-
-neither : (a b : Bool) → a || b ≡ false → (a ≡ false) × (b ≡ false)
-neither true b h = cc
-neither false b h = (refl, h)
-
-not_false : (a : Bool) → not a ≡ false → a ≡ true
-not_false true h = refl
-not_false false h = cc
-
-none_of : {A : Type 0} (p : A → Bool) (a : A) (xs : List A) → list_any p (a ∷ xs) ≡ false → (p a ≡ false) × (list_any p xs ≡ false)
-none_of p a xs h = neither (p a) (list_any p xs) (sym (any_is p a xs) ∙ h)
-
--- 2. what isn't disturbed
+-- 1. what isn't disturbed
 
 symbol_named : (x : List Symbol) (p : ℕ) → NamedLevel x → InOption NamedSymbol (slice_get x p)
 symbol_named x p v = by (slice_get x p) refl
   where
     by : (o : Option Symbol) → slice_get x p ≡ o → InOption NamedSymbol o
     by None e = tt
-    by (Some s) e = named_at x p s v e
+    by (Some s) e = each_at NamedSymbol x p s v e
 
 before_named : (x : List Symbol) (p : ℕ) → NamedLevel x → InOption NamedSymbol (before_place x p)
 before_named x zero v = tt
@@ -55,6 +44,12 @@ settled_if : (x y : List Symbol) (l : List ℕ) → NamedLevel x → NamedLevel 
 settled_if x y l u v h =
     same_option_true same_standing NamedStanding same_standing_true (standing_of y l) (standing_of x l) (standing_named y (place_of l y) v) (standing_named x (place_of l x) u) (not_false _ h)
 
+disturbed_unless : (x y : List Symbol) (l : List ℕ) → Settled x y l → is_disturbed x y l ≡ false
+disturbed_unless x y l e = ap (λ o. not (same_option same_standing o (standing_of x l))) e ∙ ap not (same_standings_refl (standing_of x l))
+
+pub disturbed : (x y : List Symbol) (l : List ℕ) → NamedLevel x → NamedLevel y → (is_disturbed x y l ≡ false) ↔ Settled x y l
+disturbed x y l u v = (settled_if x y l u v, disturbed_unless x y l)
+
 each_settled : (x y : List Symbol) (ls : List (List ℕ)) → NamedLevel x → NamedLevel y → list_any (is_disturbed x y) ls ≡ false → Each (Settled x y) ls
 each_settled x y [] u v h = tt
 each_settled x y (l ∷ ls) u v h = let n = none_of (is_disturbed x y) l ls h in (settled_if x y l u v n.0, each_settled x y ls u v n.1)
@@ -63,7 +58,7 @@ all_settled : (x y : List Symbol) (es : List Entry) → NamedLevel x → NamedLe
 all_settled x y [] u v h = tt
 all_settled x y (e ∷ es) u v h = let n = none_of (reads_disturbed x y) e es h in (each_settled x y (named e) u v n.0, all_settled x y es u v n.1)
 
--- 3. the questions of a system
+-- 2. the questions of a system
 
 -- q is asked at one of these levels
 pub record IsAsked (s : System) (xs : List (List Symbol)) (q : Question) : Type 0 where
@@ -98,16 +93,12 @@ asked_from s xs t x g p (Module l m ∷ ms) h =
     any_asked s xs bs (question s t bs x p l m) (questions_from s t x (p + 1) ms)
     (record { level = x; there = g; place = p; parents = l; value = m; stands = f.0; is = refl }) (asked_from s xs t x g (p + 1) ms f.1)
 
-append_asked : (s : System) (xs : List (List Symbol)) (qs rs : List Question) → AllAsked s xs qs → AllAsked s xs rs → AllAsked s xs (qs ++ rs)
-append_asked s xs [] rs h k = k
-append_asked s xs (q ∷ qs) rs h k = (h.0, append_asked s xs qs rs h.1 k)
-
 asked_below : (s : System) (xs : List (List Symbol)) (t : ℕ) (rest : List (List Symbol)) → drop t xs ≡ rest → AllAsked s xs (questions_below s t rest)
 asked_below s xs t [] h = tt
 asked_below s xs t (x ∷ []) h = tt
 asked_below s xs t (x ∷ y ∷ rest) h =
     let f = front_of xs t x (y ∷ rest) h in
-    append_asked s xs (questions_at s t x) (questions_below s (t + 1) (y ∷ rest)) (asked_from s xs t x f.0 0 x refl) (asked_below s xs (t + 1) (y ∷ rest) f.1)
+    each_append (IsAsked s xs) (questions_at s t x) (questions_below s (t + 1) (y ∷ rest)) (asked_from s xs t x f.0 0 x refl) (asked_below s xs (t + 1) (y ∷ rest) f.1)
 
 pub all_asked : (s : System) (xs : List (List Symbol)) → AllAsked s xs (questions s xs)
 all_asked s xs = asked_below s xs 0 xs refl
@@ -129,7 +120,7 @@ found_asked s xs t l (r ∷ qs) q h e = at (eqb r.level t && same_lineage l (lin
         subst (IsFound s xs t l) g (record { asked = h.0; level = eqb-true r.level t b.0; lineages = same_lineage_true l (lineage r.own) b.1 })
     at false i f ih = ih f
 
--- 4. where nothing of a question is touched, it is the old one
+-- 3. where nothing of a question is touched, it is the old one
 
 -- the levels of well-formed systems
 pub record Derived (s : System) (xs : List (List Symbol)) : Type 0 where
@@ -147,11 +138,11 @@ derived s limit xs w h = record {
 own_parts : (l l' : List ℕ) (m m' : ModuleValue) → Module l m ≡ Module l' m' → (l' ≡ l) × (m' ≡ m)
 own_parts l l' m m' e = let a : l' ≡ l = cc in let b : m' ≡ m = cc in (a, b)
 
-bodies_named : (s : System) (xs : List (List Symbol)) (q : Question) → WellFormed s → IsAsked s xs q → Each NamedBody q.bodies
+pub bodies_named : (s : System) (xs : List (List Symbol)) (q : Question) → WellFormed s → IsAsked s xs q → Each NamedBody q.bodies
 bodies_named s xs q w a = subst (λ (r : Question). Each NamedBody r.bodies) (sym a.is) (group_named s w q.level a.value.name (length a.value.params))
 
-own_named : (s : System) (xs : List (List Symbol)) (q : Question) → Derived s xs → IsAsked s xs q → NamedSymbol q.own
-own_named s xs q d a = subst (λ (r : Question). NamedSymbol r.own) (sym a.is) (named_at a.level a.place (Module a.parents a.value) (d.names q.level a.level a.there) a.stands)
+pub own_named : (s : System) (xs : List (List Symbol)) (q : Question) → Derived s xs → IsAsked s xs q → NamedSymbol q.own
+own_named s xs q d a = subst (λ (r : Question). NamedSymbol r.own) (sym a.is) (each_at NamedSymbol a.level a.place (Module a.parents a.value) (d.names q.level a.level a.there) a.stands)
 
 untouched : (old new : System) (xs ys : List (List Symbol)) → Derived old xs → Derived new ys → (was q : Question) (a : IsAsked old xs was) (b : IsAsked new ys q) → was.level ≡ q.level
     → is_touched old new a.level b.level was q ≡ false → was ≡ q
@@ -191,7 +182,7 @@ untouched old new xs ys dx dy was q a b level h =
     (subst (λ (r : Question). Each (Settles (Settled x y)) r.trace) here read) in
     here ∙ sym same.same_question ∙ sym moved
 
--- 5. a needed question is a candidate
+-- 4. a needed question is a candidate
 
 level_there : (s : System) (xs : List (List Symbol)) (q : Question) (a : IsAsked s xs q) (t : ℕ) → q.level ≡ t → get_or xs t [] ≡ a.level
 level_there s xs q a t e = ap (λ t. get_or xs t []) (sym e) ∙ get_or_from_slice_get xs q.level a.level [] a.there

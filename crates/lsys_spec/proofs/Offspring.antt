@@ -207,8 +207,3 @@ next_grown s b t x y g h =
 
 pub grown : (s : System) → HasBalance s → (limit : ℕ) (xs : List (List Symbol)) → meaning_to s limit s.depth ≡ Ok xs → (t : ℕ) (x : List Symbol) → slice_get xs t ≡ Some x → Grown t x
 grown s b = at_each_level s Grown (first_grown s b) (next_grown s b)
-
-pub long_at : (n : ℕ) (x : List Symbol) (p : ℕ) (s : Symbol) → Long n x → slice_get x p ≡ Some s → length (lineage s) ≡ n
-long_at n [] p s h g = cc
-long_at n (t ∷ x) zero s h g = let e : t ≡ s = cc in ap (λ s. length (lineage s)) (sym e) ∙ h.0
-long_at n (t ∷ x) (suc p) s h g = long_at n x p s h.1 g

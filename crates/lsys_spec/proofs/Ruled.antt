@@ -1,15 +1,12 @@
 -- The entries of a walk carry the rule for which it was made.
-use Rattle.std.proofs.Common.{◌≡◌, ℕ, Bool, true, false, Option, Some, None, List, [], ◌∷◌, ◌++◌, refl}
+use Rattle.std.proofs.Common.{◌≡◌, ℕ, Bool, true, false, Option, Some, None, List, [], ◌∷◌, refl}
 use Rattle.lsys_syntax.specs.Strings.{ModuleName}
 use Rattle.lsys_spec.specs.Systems.{Each}
 use Rattle.lsys_spec.specs.Bodies.{Pattern, Patterns, Done, OneOf, BranchOf}
 use Rattle.lsys_spec.specs.Levels.{ModuleValue, Symbol, Step, Passed, Around, OutOf, Items, Nothing, One, Branch}
 use Rattle.lsys_spec.specs.Walks.{Mark, deeper, Entry, Told, says, is_ignored, fits, met, left_walk, right_walk, behind, ahead, or_passed}
 use Rattle.lsys_spec.proofs.Tells.{mark_of}
-
-pub append_all : (S : Entry → Type 0) (es fs : List Entry) → Each S es → Each S fs → Each S (es ++ fs)
-append_all S [] fs h k = k
-append_all S (e ∷ es) fs h k = (h.0, append_all S es fs h.1 k)
+use Rattle.lsys_spec.proofs.Eachs.{each_append}
 
 abbrev pub Ruled : ℕ → Entry → Type 0
 Ruled g e = (mark_of e).rule ≡ g
@@ -27,9 +24,9 @@ left_ruled f d (q ∷ qs) (Passed s ∷ w) =
 left_ruled f d (q ∷ qs) (OutOf o ∷ w) = (refl, left_ruled f d (q ∷ qs) w)
 left_ruled f d (q ∷ qs) (Around o c ∷ w) = (refl, left_ruled f d (q ∷ qs) w)
 
-passed_ruled : (g : ℕ) (o : Option (List ModuleValue)) (both passed : Told (Option (List ModuleValue))) → Each (Ruled g) both.entries → Each (Ruled g) passed.entries → Each (Ruled g) (or_passed o both passed).entries
-passed_ruled g None both passed h k = k
-passed_ruled g (Some ms) both passed h k = h
+pub passed_all : (S : Entry → Type 0) (o : Option (List ModuleValue)) (both passed : Told (Option (List ModuleValue))) → Each S both.entries → Each S passed.entries → Each S (or_passed o both passed).entries
+passed_all S None both passed h k = k
+passed_all S (Some ms) both passed h k = h
 
 pub right_ruled : (f : ModuleName → Bool) (d : Mark) (p : Patterns) (r : Items) → Each (Ruled d.rule) (right_walk f d p r).entries
 right_ruled f d Done r = tt
@@ -43,6 +40,6 @@ right_ruled f d (BranchOf qs p) (Branch o c i r) =
     let inside = right_walk f (deeper d) qs i in
     let next = or_passed inside.answer (right_walk f d p r) (right_walk f d (BranchOf qs p) r) in (
       refl,
-      append_all (Ruled d.rule) inside.entries next.entries (right_ruled f (deeper d) qs i)
-          (passed_ruled d.rule inside.answer (right_walk f d p r) (right_walk f d (BranchOf qs p) r) (right_ruled f d p r) (right_ruled f d (BranchOf qs p) r)),
+      each_append (Ruled d.rule) inside.entries next.entries (right_ruled f (deeper d) qs i)
+          (passed_all (Ruled d.rule) inside.answer (right_walk f d p r) (right_walk f d (BranchOf qs p) r) (right_ruled f d p r) (right_ruled f d (BranchOf qs p) r)),
     )

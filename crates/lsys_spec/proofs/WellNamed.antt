@@ -173,8 +173,3 @@ next_named s w t x y v h =
 
 pub level_named : (s : System) → WellFormed s → (limit : ℕ) (xs : List (List Symbol)) → meaning_to s limit s.depth ≡ Ok xs → (t : ℕ) (x : List Symbol) → slice_get xs t ≡ Some x → NamedLevel x
 level_named s w = at_each_level s (λ t x. NamedLevel x) (first_named s w) (λ t x y. next_named s w t x y)
-
-pub named_at : (x : List Symbol) (p : ℕ) (s : Symbol) → NamedLevel x → slice_get x p ≡ Some s → NamedSymbol s
-named_at [] p s v h = cc
-named_at (t ∷ x) zero s v h = let e : t ≡ s = cc in subst NamedSymbol e v.0
-named_at (t ∷ x) (suc p) s v h = named_at x p s v.1 h

@@ -2,7 +2,7 @@
 use Rattle.std.specs.Prelude.{◌≡◌, ℕ, Bool, true, Some, Ok, List, [], length, slice_get, get_or, count_by, sum_by, if◌then◌else◌}
 use Rattle.lsys_syntax.specs.Strings.{balanced}
 use Rattle.lsys_spec.specs.Systems.{System, Each}
-use Rattle.lsys_spec.specs.Levels.{Symbol}
+use Rattle.lsys_spec.specs.Levels.{Symbol, lineage}
 use Rattle.lsys_spec.specs.Walks.{Entry, named}
 use Rattle.lsys_spec.specs.Meaning.{meaning}
 use Rattle.lsys_spec.specs.Questions.{Question, questions}
@@ -16,6 +16,10 @@ pub record HasBalance (s : System) : Type 0 where
 -- where the system has a meaning, P holds of each of its levels, and of the level's number
 abbrev pub AtEachLevel : System → (ℕ → List Symbol → Type 0) → Type 0
 AtEachLevel s P = (limit : ℕ) (levels : List (List Symbol)) → meaning s limit ≡ Ok levels → (t : ℕ) (x : List Symbol) → slice_get levels t ≡ Some x → P t x
+
+-- a symbol of this lineage stands in the level
+abbrev pub StandsIn : List Symbol → List ℕ → Type 0
+StandsIn x l = (p : ℕ) × (a : Symbol) × (slice_get x p ≡ Some a) × (lineage a ≡ l)
 
 -- every symbol that these entries name stands in the new level as in the old
 abbrev pub NoneDisturbed : List Symbol → List Symbol → List Entry → Type 0
