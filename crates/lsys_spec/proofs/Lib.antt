@@ -7,3 +7,4 @@ pub mod NextSystems
 pub mod Groups
 pub mod ContextFree
 pub mod Ignoring
+pub mod IgnoringLevels

@@ -70,7 +70,7 @@ unfolding digits
 lack_of_memory = refl
 
 pub no_lack_in_long_lines :
-    text_of (out (reply 100000) (replicate 65537 59 ++ codes "\n;\n") (λ n. true)) ≡ codes "refused syntax long\n"
+    text_of (out (reply 100000) (replicate 65537 97 ++ codes "\n;\n") (λ n. true)) ≡ codes "refused syntax long\n"
 no_lack_in_long_lines = refl
 
 pub kinds_of_runs :
