@@ -1,12 +1,12 @@
 -- Names that are ignored alike on all levels make no difference to what a system means.
-use Rattle.std.proofs.Common.{◌≡◌, ℕ, zero, suc, ◌+◌, Bool, true, false, List, [], ◌∷◌, ◌++◌, refl, ap, ap₂, sym, ◌∙◌, arith, if◌then◌else◌}
-use Rattle.std.specs.Prelude.{Result, Ok, Err, nat_lt, sum_by, length}
+use Rattle.std.proofs.Common.{◌≡◌, ℕ, zero, suc, ◌+◌, Bool, true, false, List, [], ◌∷◌, ◌++◌, refl, ap, ◌∙◌, if◌then◌else◌}
+use Rattle.std.specs.Prelude.{Result, Ok, Err}
 use Rattle.lsys_syntax.specs.Strings.{ModuleName}
 use Rattle.lsys_spec.specs.Systems.{System, Each}
 use Rattle.lsys_spec.specs.Values.{◌and_then◌}
 use Rattle.lsys_spec.specs.Levels.{Symbol}
-use Rattle.lsys_spec.specs.Meaning.{Refusal, OverLimit, first_level, next_level, within_limit, last_level, meaning_to, meaning, ignores}
-use Rattle.lsys_spec.specs.Questions.{Question, questions_at, questions_below, questions}
+use Rattle.lsys_spec.specs.Meaning.{Refusal, OverLimit, next_level, within_limit, last_level, meaning_to, meaning, ignores}
+use Rattle.lsys_spec.specs.Questions.{questions_at, questions_below, questions}
 use Rattle.lsys_spec.specs.Morphisms.{AreAlike, ignoring}
 use Rattle.lsys_spec.proofs.Ignoring.{level_same, questions_same}
 

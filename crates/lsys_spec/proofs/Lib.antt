@@ -4,7 +4,7 @@ pub mod Turns
 pub mod Frames
 pub mod Fronts
 pub mod NextSystems
-pub mod Groups
+pub mod TriedAlike
 pub mod ContextFree
 pub mod Ignoring
 pub mod IgnoringLevels
