@@ -1,5 +1,5 @@
 -- The command of a line.
-use Rattle.std.proofs.Common.{◌≡◌, ℕ, Result, Ok, Err, Option, Some, None, List, [], ◌∷◌, map, refl, ap, ◌∙◌, sym}
+use Rattle.std.proofs.Common.{◌≡◌, ℕ, Result, Ok, Err, List, [], ◌∷◌, map, refl, ap, ◌∙◌}
 use Rattle.lsys_syntax.specs.Tokens as syntax
 use Rattle.lsys_spec.specs.Interim.{kinds, plain_command}
 use Rattle.lsys_spec.specs.Interim as interim

@@ -1,11 +1,11 @@
 -- The line of a level.
-use Rattle.std.proofs.Common.{◌≡◌, ℕ, ℤ, zero, suc, ◌+◌, ◌-◌, ◌<◌, Option, Some, None, Result, Ok, Err, List, [], ◌∷◌, ◌++◌, length, map, slice_get, refl, ap, sym, ◌∙◌, arith, append-nil}
+use Rattle.std.proofs.Common.{◌≡◌, ℕ, zero, suc, ◌-◌, ◌<◌, Some, List, [], ◌∷◌, length, map, slice_get, refl, ap, sym, ◌∙◌, arith}
 use Rattle.lsys_syntax.specs.Strings.{string_text}
-use Rattle.lsys_syntax.specs.Strings as S
 use Rattle.lsys_spec.specs.Levels.{Symbol, plain}
 use Rattle.lsys_spec.specs.Meaning.{last_level}
 use Rattle.lsys_spec.specs.Shown.{level_text}
-use Rattle.lsys_rules.specs.Letters.{IsLetter, AreLetters}
+use Rattle.lsys_spec.specs.Replies.{level_at}
+use Rattle.lsys_rules.specs.Letters.{AreLetters}
 use Rattle.lsys_rules.specs.Views.{string_of}
 use Rattle.lsys_flat.specs.Rows.{AreRows}
 use Rattle.lsys_cli.specs.Sessions.{joined}
@@ -32,6 +32,18 @@ last_string (x ∷ y ∷ levels) (r ∷ []) last are h e = cc
 last_string (x ∷ y ∷ levels) (r ∷ q ∷ rows) last are h e =
     let rest : AreRows (y ∷ levels) (q ∷ rows) = cc in
     last_string (y ∷ levels) (q ∷ rows) last rest (omega arith) (last_at r q rows last e)
+
+string_at : (levels : List (List Symbol)) (rows : List (List (List ℕ))) (t : ℕ) (ns : List (List ℕ)) → AreRows levels rows → slice_get rows t ≡ Some ns
+    → map plain (level_at (Some t) levels) ≡ string_of ns
+string_at levels [] t ns are e = cc
+string_at [] (r ∷ rows) t ns are e = cc
+string_at (x ∷ levels) (r ∷ rows) zero ns are e = let same : r ≡ ns = cc in let strings : map plain x ≡ string_of r = cc in strings ∙ ap string_of same
+string_at (x ∷ levels) (r ∷ rows) (suc t) ns are e = let rest : AreRows levels rows = cc in string_at levels rows t ns rest e
+
+-- a level's text is its names
+pub numbered_line : (levels : List (List Symbol)) (rows : List (List (List ℕ))) (t : ℕ) (ns : List (List ℕ)) → AreRows levels rows → slice_get rows t ≡ Some ns
+    → AreLetters ns → level_text (level_at (Some t) levels) ≡ joined ns
+numbered_line levels rows t ns are e a = ap string_text (string_at levels rows t ns are e) ∙ letters_text ns a
 
 -- the last level's text is its names, one behind the other
 pub level_line : (levels : List (List Symbol)) (rows : List (List (List ℕ))) (last : List (List ℕ)) → AreRows levels rows → 0 < length rows → slice_get rows (length rows - 1) ≡ Some last

@@ -2,3 +2,5 @@ pub mod Commands
 pub mod Appending
 pub mod Levels
 pub mod Replying
+pub mod SoFar
+pub mod Steps

@@ -1,28 +1,29 @@
 -- A session, and what it answers.
-use Rattle.std.specs.Prelude.{◌≡◌, ℕ, Bool, true, false, Option, Some, None, Result, Ok, Err, List, [], ◌∷◌, codes, decimal, ◌++◌, ◌&&◌, not, ◌<◌, length}
+use Rattle.std.specs.Prelude.{◌≡◌, ℕ, Bool, true, false, Option, Some, None, Result, Ok, Err, List, [], ◌∷◌, codes, decimal, ◌++◌, ◌&&◌, not, ◌≤◌, ◌+◌, length}
 use Rattle.std.specs.Io.KnownBytes.{Appends}
 use Rattle.lsys_spec.specs.Systems as spec
-use Rattle.lsys_spec.specs.Output.{memory_or}
+use Rattle.lsys_spec.specs.Output.{memory_or, reply_or_memory}
 use Rattle.lsys_spec.specs.Meaning.{meaning, OverLimit}
-use Rattle.lsys_spec.specs.Refusals.{Reply, said, refused, is_passed_over, derivation_text, line_feed}
-use Rattle.lsys_spec.specs.Interim.{bare_reply, command_reply, printed, refused_form}
+use Rattle.lsys_spec.specs.Refusals.{Reply, said, refused, session_end, is_passed_over, derivation_text, line_feed}
+use Rattle.lsys_spec.specs.Interim.{bare_reply, reply, command_reply, printed, refused_form}
 use Rattle.lsys_spec.specs.Interim as interim
 use Rattle.lsys_syntax.specs.Tokens.{tokens}
 use Rattle.lsys_rules.specs.Views.{system_of}
 use Rattle.lsys_rules.specs.Parsing.{command_of}
 use Rattle.lsys_rules.specs.declared.command.Command.{Command}
+use Rattle.lsys_rules.specs.declared.command.Command.TheVariants as commands
 use Rattle.lsys_rules.specs.declared.refusal.Refusal.{Refusal}
 use Rattle.lsys_rules.specs.declared.refusal.Refusal.TheVariants as refusals
 use Rattle.lsys_flat.specs.Rows.{IsMeaning}
 use Rattle.lsys_cli.specs.declared.session.Session.{Session}
 use Rattle.lsys_cli.specs.declared.session.Answer.{Answer}
-use Rattle.lsys_cli.specs.declared.session.Answer.TheVariants.{Skipped, Edited, Printed, Form, Limit, Memory}
+use Rattle.lsys_cli.specs.declared.session.Answer.TheVariants.{Skipped, Edited, Printed, Quit, Form, Limit, Memory}
 use Rattle.lsys_cli.specs.declared.session.Outcome.{Outcome}
 use Rattle.lsys_cli.specs.declared.session.Outcome.TheVariants as outcomes
 
--- the rows are the levels that the system means, of which there is one at least
+-- the rows are the levels that the system means, one more than its depth
 abbrev pub AreLevels : spec.System → ℕ → List (List (List ℕ)) → Type 0
-AreLevels s limit rows = IsMeaning s limit (Ok rows) × (0 < length rows)
+AreLevels s limit rows = IsMeaning s limit (Ok rows) × (length rows ≡ s.depth + 1)
 
 abbrev pub KeepsLevels : Session → Type 0
 KeepsLevels s = AreLevels (system_of s.system) s.limit s.rows
@@ -33,11 +34,17 @@ IsCommandOf bare (Ok c) = interim.command_of (tokens bare) ≡ Some (command_of 
 IsCommandOf bare (Err refusals.Form) = interim.command_of (tokens bare) ≡ None
 IsCommandOf bare (Err refusals.Memory) = Unit {0}
 
+-- a level that is asked for by its number is there
+abbrev pub HasLevel : ℕ → Option ℕ → Type 0
+HasLevel depth None = Unit {0}
+HasLevel depth (Some t) = t ≤ depth
+
 -- the reply that an answer stands for; want of memory has none here
 abbrev pub ReplyIs : Session → Reply → Answer → Type 0
 ReplyIs s r Skipped = r ≡ said (system_of s.system) []
 ReplyIs s r (Edited system rows) = (r ≡ said (system_of system) (codes "ok" ++ line_feed)) × AreLevels (system_of system) s.limit rows
-ReplyIs s r Printed = r ≡ printed (system_of s.system) (meaning (system_of s.system) s.limit)
+ReplyIs s r (Printed t) = HasLevel s.system.depth t × (r ≡ printed t (system_of s.system) (meaning (system_of s.system) s.limit))
+ReplyIs s r Quit = r ≡ session_end (system_of s.system)
 ReplyIs s r Form = r ≡ refused_form (system_of s.system)
 ReplyIs s r (Limit t) = r ≡ refused (system_of s.system) (derivation_text (OverLimit t))
 ReplyIs s r Memory = Unit {0}
@@ -45,6 +52,13 @@ ReplyIs s r Memory = Unit {0}
 -- what a command is answered
 abbrev pub IsResponse : Session → Command → Answer → Type 0
 IsResponse s c a = ReplyIs s (command_reply s.limit (system_of s.system) (Some (command_of c))) a
+
+abbrev pub IsEdit : Command → Type 0
+IsEdit (commands.Axiom ns) = Unit {0}
+IsEdit (commands.Production r) = Unit {0}
+IsEdit (commands.Depth n) = Unit {0}
+IsEdit (commands.String t) = ⊥
+IsEdit commands.Quit = ⊥
 
 abbrev pub OnMemory : Answer → Type 0 → Type 0
 OnMemory Memory P = P
@@ -75,11 +89,20 @@ abbrev pub lacks_memory : Outcome → Bool
 lacks_memory outcomes.Memory = true
 lacks_memory o = false
 
--- what an outcome tells of the reply; no command ends the session
+abbrev pub ends_session : Outcome → Bool
+ends_session outcomes.Quit = true
+ends_session o = false
+
+-- what an outcome tells of the reply
 abbrev pub IsOutcome : Reply → Outcome → Type 0
-IsOutcome r o = (r.is_refusal ≡ refuses o) × (r.is_memory ≡ lacks_memory o) × (r.ends ≡ false)
+IsOutcome r o = (r.is_refusal ≡ refuses o) × (r.is_memory ≡ lacks_memory o) × (r.ends ≡ ends_session o)
 
 -- a line's reply was put, and the session goes on from its system
 abbrev pub Replies : ℕ → spec.System → List ℕ → Option (List ℕ) → Option (List ℕ) → spec.System → Outcome → Type 0
 Replies limit s bare written_old written_new next o =
-  (r : Reply) × (r ≡ bare_or_memory limit r.is_memory s bare) × Appends written_old written_new r.text × (next ≡ r.next) × IsOutcome r o
+    (r : Reply) × (r ≡ bare_or_memory limit r.is_memory s bare) × Appends written_old written_new r.text × (next ≡ r.next) × IsOutcome r o
+
+-- as Replies, for a line with its CR, which may be too long
+abbrev pub LineReplies : ℕ → spec.System → List ℕ → Option (List ℕ) → Option (List ℕ) → spec.System → Outcome → Type 0
+LineReplies limit s line written_old written_new next o =
+    (r : Reply) × (r ≡ reply_or_memory (reply limit) r.is_memory s line) × Appends written_old written_new r.text × (next ≡ r.next) × IsOutcome r o

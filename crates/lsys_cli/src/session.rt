@@ -1,5 +1,5 @@
 //! One line after another: what is asked of a system, and what is answered.
-ghost use Rattle.std.specs.Prelude.{◌≡◌, ℕ, List, [], ◌∷◌, ◌++◌, ◌≤◌, length, flat_map, codes, decimal, IfOk, OnOk, OnErr, IfSome, ◌≢◌, IsTrue, true, false};
+ghost use Rattle.std.specs.Prelude.{◌≡◌, ℕ, List, [], ◌∷◌, ◌++◌, ◌≤◌, length, flat_map, codes, decimal, IfOk, OnOk, OnErr, IfSome, Some, ◌≢◌, IsTrue, true, false};
 ghost use Rattle.std.specs.Io.KnownBytes.{Appends, append_known};
 ghost use Rattle.lsys_io.specs.Causes.{Rose};
 ghost use Rattle.lsys_spec.specs.Refusals.{is_passed_over};
@@ -7,7 +7,9 @@ ghost use Rattle.lsys_syntax.specs.Lines.{is_blank_line, is_comment};
 ghost use Rattle.lsys_rules.specs.Letters.{AreLetters};
 ghost use Rattle.lsys_rules.specs.Views.{system_of};
 ghost use Rattle.lsys_spec.specs.Systems.{opening};
-ghost use Rattle.lsys_cli.specs.Sessions.{KeepsLevels, IsCommandOf, IsResponse, IsAnswer, Replies, joined, limit_text};
+ghost use Rattle.lsys_spec.specs.Interim.{command_reply};
+ghost use Rattle.lsys_syntax.specs.Commands.{print_string};
+ghost use Rattle.lsys_cli.specs.Sessions.{KeepsLevels, IsCommandOf, IsResponse, IsEdit, ReplyIs, IsAnswer, Replies, joined, limit_text};
 
 use lsys_flat::{DeriveRefusal, Rows, derive};
 use lsys_io::{Buffered, Failed, Sink};
@@ -32,6 +34,8 @@ pub enum Outcome {
     Accepted,
     /// Its query was printed.
     Printed,
+    /// It ended the session, and has no reply.
+    Quit,
     /// It was refused, and changed nothing.
     Refused,
     /// It was refused for want of memory, and changed nothing.
@@ -43,7 +47,8 @@ pub enum Outcome {
 pub enum Answer {
     Skipped,
     Edited { system: System, rows: Rows },
-    Printed,
+    Printed { level: Option<u32> },
+    Quit,
     Form,
     Limit { level: u32 },
     Memory,
@@ -94,10 +99,15 @@ impl Session {
                 self.rows = rows;
                 Ok(Outcome::Accepted)
             }
-            Answer::Printed => {
+            Answer::Printed { level: None } => {
                 say_level(out, sink, self.rows.last())?;
                 Ok(Outcome::Printed)
             }
+            Answer::Printed { level: Some(level) } => {
+                say_level(out, sink, self.rows.string(level))?;
+                Ok(Outcome::Printed)
+            }
+            Answer::Quit => Ok(Outcome::Quit),
             Answer::Form => {
                 say(out, sink, b"refused form\n")?;
                 Ok(Outcome::Refused)
@@ -112,6 +122,19 @@ impl Session {
             }
         }
     }
+}
+
+/// Refuses a line of more than 65,536 bytes, and puts the reply.
+pub fn refuse_long<K: Sink>(out: &mut Buffered, sink: &mut K) -> Result<Outcome, Failed>
+    requires { out.old ≡ [] }
+    ensures replies { IfOk result (λ o. (o ≡ Outcome.Refused) × Appends (K.written sink.old) (K.written sink.new) (codes "refused form" ++ 10 ∷ [])) }
+    ensures empty { OnOk result (out.new ≡ []) }
+    ensures never_falls { K.faults sink.old ≤ K.faults sink.new }
+    ensures failed_only_where_rose { OnErr result (Rose (K.faults sink.old) (K.faults sink.new)) }
+    ensures ok_leaves_count { OnOk result (K.faults sink.new ≡ K.faults sink.old) }
+{
+    say(out, sink, b"refused form\n")?;
+    Ok(Outcome::Refused)
 }
 
 /// Whether a line is empty, blank or a comment.
@@ -146,7 +169,7 @@ fn command_in(alloc: Global, line: &[u8]) -> Result<Command, Refusal>
 
 /// What an edit is answered.
 fn edited(alloc: Global, session: &Session, command: &Command) -> Answer
-    requires { command.now ≢ Command.String }
+    requires { IsEdit command.now }
     ensures { IsResponse session.now command.now result }
 {
     let system = match apply(alloc, &session.system, command) {
@@ -167,7 +190,21 @@ fn respond(alloc: Global, session: &Session, command: &Command) -> Answer
 {
     match command.kind() {
         CommandKind::Edit => edited(alloc, session, command),
-        CommandKind::String { level: _level } => Answer::Printed,
+        CommandKind::String { level } => printed(session, level),
+        CommandKind::Quit => Answer::Quit,
+    }
+}
+
+/// What a query for a level is answered, or for the last one without a number.
+fn printed(session: &Session, level: Option<u64>) -> Answer
+    ensures { ReplyIs session.now (command_reply session.now.limit (system_of session.now.system) (Some (print_string level))) result }
+{
+    match level {
+        None => Answer::Printed { level: None },
+        Some(level) if level > u64::from(session.system.depth()) => Answer::Form,
+        Some(level) => Answer::Printed {
+            level: Some(level as u32),
+        },
     }
 }
 

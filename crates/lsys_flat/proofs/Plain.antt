@@ -97,13 +97,13 @@ letter_test (a ∷ b ∷ more) (c ∷ []) h = grind (arith, and-true)
 chosen_at : (s : System) (x : List Symbol) (p : ℕ) (l n : List ℕ) (r : Rule) (b c : Bool) (bodies : List Body) (others : List (List ℕ)) → b ≡ c
     → successor_by bodies (module_of n) (asked s bodies x p l (module_of n)).answer ≡ Ok (string_of others)
     → (let bs = cond b (body_of (rule_of r) ∷ bodies) bodies in successor_by bs (module_of n) (asked s bs x p l (module_of n)).answer)
-      ≡ Ok (string_of (cond c r.successor others))
+    ≡ Ok (string_of (cond c r.successor others))
 chosen_at s x p l n r true c bodies others e h = rw (← e) (ap as_fault (filled_plain [] (map name_of r.successor) []))
 chosen_at s x p l n r false c bodies others e h = rw (← e) h
 
 chosen : (s : System) (x : List Symbol) (p : ℕ) (l n : List ℕ) → IsLetter n → (rs : List Rule)
     → (let bs = group_in main (named (name_of n)) 0 (map production_of rs) in successor_by bs (module_of n) (asked s bs x p l (module_of n)).answer)
-      ≡ Ok (string_of (replaced rs n))
+    ≡ Ok (string_of (replaced rs n))
 chosen s x p l n h [] = refl
 chosen s x p l n h (r ∷ rs) =
     chosen_at s x p l n r (bytes_eq (name_text (named (name_of r.pred.name))) (name_text (named (name_of n))) && true) (bytes_eq r.pred.name n)
@@ -136,12 +136,12 @@ children_spell s t x p k (Module l m ∷ rest) [] h a = absurd h
 children_spell s t x p k (Module l m ∷ rest) (n ∷ ns) h a =
     let ih = children_spell s t x (p + 1) (k + 1) rest ns h.1 a.1 in
     let made : successor (system_of s) t x p l m ≡ Ok (string_of (replaced s.rules n)) =
-        ap (λ (v : ModuleValue). successor (system_of s) t x p l v) h.0 ∙ replaced_so s t x p l n a.0 in
+    ap (λ (v : ModuleValue). successor (system_of s) t x p l v) h.0 ∙ replaced_so s t x p l n a.0 in
     record {
       raw = numbered 0 l (string_of (replaced s.rules n)) ++ ih.raw;
       is =
-        ap (λ (r : Result (List (S.Symbol ℤ)) Fault). fault_at t (k + 1) r and_then λ ys. children_from (system_of s) t x (p + 1) (k + 1) rest and_then λ more. Ok (numbered 0 l ys ++ more)) made
-        ∙ ap (λ (r : Result (List Raw) Refusal). r and_then λ more. Ok (numbered 0 l (string_of (replaced s.rules n)) ++ more)) ih.is;
+          ap (λ (r : Result (List (S.Symbol ℤ)) Fault). fault_at t (k + 1) r and_then λ ys. children_from (system_of s) t x (p + 1) (k + 1) rest and_then λ more. Ok (numbered 0 l ys ++ more)) made
+          ∙ ap (λ (r : Result (List Raw) Refusal). r and_then λ more. Ok (numbered 0 l (string_of (replaced s.rules n)) ++ more)) ih.is;
       spells = spells_append (numbered 0 l (string_of (replaced s.rules n))) ih.raw (replaced s.rules n) (flat_map (replaced s.rules) ns) (numbered_spells 0 l (replaced s.rules n)) ih.spells;
     }
 

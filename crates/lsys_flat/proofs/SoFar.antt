@@ -24,7 +24,7 @@ pub record SoFar (s : declared.System) (limit t : ℕ) (rows : List (List (List 
   pub ends : slice_get rows (length rows - 1) ≡ Some last
   pub spells : Spells (last_level levels) last
   pub total : sum_by length levels + room ≡ limit
-  pub some : 0 < length rows
+  pub count : length rows ≡ t + 1
 
 -- a refusal stays
 stays_by : (s : declared.System) (limit t d : ℕ) (e : Refusal) → meaning_to (system_of s) limit t ≡ Err e → meaning_to (system_of s) limit (t + d) ≡ Err e
@@ -64,7 +64,7 @@ start s limit room h =
       ends = refl;
       spells = first_spells s;
       total = omega (arith, one_length x);
-      some = omega arith;
+      count = refl;
     }
 
 last_pushed : (levels : List (List Symbol)) (x : List Symbol) → last_level (levels ++ x ∷ []) ≡ x
@@ -86,14 +86,14 @@ more s limit t room rows last next h l a e fits =
     record {
       levels = h.levels ++ n.level ∷ [];
       within = rw (add-one) (ap (λ (r : Result (List (List Symbol)) Refusal). r and_then λ levels. next_level (system_of s) t (last_level levels) and_then λ x. within_limit limit (suc t) (levels ++ x ∷ [])) h.within
-        ∙ ap (λ (r : Result (List Symbol) Refusal). r and_then λ x. within_limit limit (suc t) (h.levels ++ x ∷ [])) n.is
-        ∙ under limit (suc t) (h.levels ++ n.level ∷ []) (omega (arith, h.total)));
+          ∙ ap (λ (r : Result (List Symbol) Refusal). r and_then λ x. within_limit limit (suc t) (h.levels ++ x ∷ [])) n.is
+          ∙ under limit (suc t) (h.levels ++ n.level ∷ []) (omega (arith, h.total)));
       are = map-append (map plain) h.levels (n.level ∷ []) ∙ ap (λ xs. xs ++ map plain n.level ∷ []) h.are ∙ ap (λ y. map string_of rows ++ y ∷ []) (spells_string n.level next named) ∙ sym (map-append string_of rows (next ∷ []));
       last = next;
       ends = grind (arith, common_steps, elements);
       spells = rw (last_pushed h.levels n.level) named;
       total = omega (arith, h.total);
-      some = grind (arith, common_steps);
+      count = grind (arith, common_steps, h.count);
     }
 
 -- the next level is too long
@@ -107,9 +107,9 @@ passes s limit t room rows last h l a longer below =
     let long : length n.level ≡ length (flat_map (replaced s.rules) last) = spells_length n.level (flat_map (replaced s.rules) last) n.spells in
     let pushed : sum_by length (h.levels ++ n.level ∷ []) ≡ sum_by length h.levels + length n.level = sum_by_push length h.levels n.level in
     rw (add-one) (stays s limit (suc t) s.depth (OverLimit (suc t)) (omega arith)
-      (ap (λ (r : Result (List (List Symbol)) Refusal). r and_then λ levels. next_level (system_of s) t (last_level levels) and_then λ x. within_limit limit (suc t) (levels ++ x ∷ [])) h.within
-        ∙ ap (λ (r : Result (List Symbol) Refusal). r and_then λ x. within_limit limit (suc t) (h.levels ++ x ∷ [])) n.is
-        ∙ over limit (suc t) (h.levels ++ n.level ∷ []) (omega (arith, h.total))))
+    (ap (λ (r : Result (List (List Symbol)) Refusal). r and_then λ levels. next_level (system_of s) t (last_level levels) and_then λ x. within_limit limit (suc t) (levels ++ x ∷ [])) h.within
+    ∙ ap (λ (r : Result (List Symbol) Refusal). r and_then λ x. within_limit limit (suc t) (h.levels ++ x ∷ [])) n.is
+    ∙ over limit (suc t) (h.levels ++ n.level ∷ []) (omega (arith, h.total))))
 
 pub done : (s : declared.System) (limit t room : ℕ) (rows : List (List (List ℕ))) → (h : SoFar s limit t rows room) → t ≡ s.depth → meaning (system_of s) limit ≡ Ok h.levels
 done s limit t room rows h e = ap (meaning_to (system_of s) limit) (sym e) ∙ h.within

@@ -1,7 +1,7 @@
 //! The derivation of a system, level by level, each level a list.
 #![tactic(auto)]
 
-ghost use Rattle.std.specs.Prelude.{◌≡◌, ◌<◌, ◌≤◌, ◌++◌, ◌∷◌, [], length, map, flat_map, slice_get, IfOk, OnOk, OnErr, MatchOption, true, false};
+ghost use Rattle.std.specs.Prelude.{◌≡◌, ◌+◌, ◌<◌, ◌≤◌, ◌++◌, ◌∷◌, [], length, map, flat_map, slice_get, IfOk, OnOk, OnErr, MatchOption, true, false};
 ghost use Rattle.lsys_rules.specs.Letters.{IsLetter, AreLetters};
 ghost use Rattle.lsys_rules.specs.Views.{system_of};
 ghost use Rattle.lsys_flat.specs.Letters.{replaced};
@@ -9,12 +9,13 @@ ghost use Rattle.lsys_flat.specs.Rows.{IsMeaning};
 
 mod refusal;
 mod rows;
-
-pub use refusal::DeriveRefusal;
-pub use rows::Rows;
+#[cfg(test)]
+mod tests;
 
 use lsys_rules::{NameList, Rule, System};
 use lsys_text::Name;
+pub use refusal::DeriveRefusal;
+pub use rows::Rows;
 use std::alloc::{AllocError, Global};
 
 /// The levels 0 to the depth, each made from the one before it by replacing all its letters at once
@@ -26,7 +27,7 @@ use std::alloc::{AllocError, Global};
 /// `Memory` is want of memory.
 pub fn derive(alloc: Global, system: &System, limit: u32) -> Result<Rows, DeriveRefusal>
     ensures meaning { IsMeaning (system_of system.now) limit result }
-    ensures some { IfOk result (λ rows. 0 < length rows) }
+    ensures levels { IfOk result (λ rows. length rows ≡ system.now.depth + 1) }
 {
     let mut rows = Rows::new(alloc);
     let first = system.axiom().clone()?;

@@ -45,11 +45,19 @@ impl Rows {
         &self.levels[self.levels.len() - 1]
     }
 
+    /// A level as a string.
+    pub fn string(&self, level: u32) -> &NameList
+        requires { level < length self.now }
+        ensures { slice_get self.now level ≡ Some result.now }
+    {
+        &self.levels[level as usize]
+    }
+
     /// The names of a level, in order.
     pub fn level(&self, level: u32) -> &[Name]
         requires { level < length self.now }
         ensures { slice_get self.now level ≡ Some result.now }
     {
-        self.levels[level as usize].names()
+        self.string(level).names()
     }
 }

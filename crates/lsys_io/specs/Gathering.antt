@@ -36,11 +36,12 @@ pub record Gathers (bytes after told : List ℕ) (room : ℕ) (gathered : Gather
   pub fits : gathered.count + length (feed gathered.whole) ≤ room
   pub kept : gathered.count ≤ line_limit → told ≡ line
 
--- The bytes have no line, and which refusal that is.
+-- No line ends among the bytes within the room. At a read fault there are no more bytes than the room.
 abbrev pub Stops : List ℕ → ℕ → LineRefusal → Type 0
 Stops bytes room ReadFault = (has_lf bytes ≡ false) × (length bytes ≤ room)
 Stops bytes room TooLong = (room < length bytes) × (has_lf (take room bytes) ≡ false)
 
+-- P at a read fault, Q at a script that is too long
 abbrev pub IfFault : LineRefusal → Type 0 → Type 0 → Type 0
 IfFault ReadFault P Q = P
 IfFault TooLong P Q = Q

@@ -15,7 +15,7 @@ script_limit = 16777216
 abbrev pub line_limit : ℕ
 line_limit = 65536
 
--- the bytes that were read and are in no line yet, how many bytes the lines took, the line last told, and the stage
+-- the bytes that were read and are in no line yet, how many bytes the lines took, the line last told, and where the reader stands
 pub record Reading : Type 0 where
   pub held : List ℕ
   pub taken : ℕ
@@ -32,6 +32,7 @@ with_end Going line = line ++ 10 ∷ []
 with_end Ended line = line
 with_end (Refused refusal) line = line ++ 10 ∷ []
 
+-- a reader that goes on, or that came to the end
 abbrev pub IsNotRefused : Stage → Type 0
 IsNotRefused Going = Unit {0}
 IsNotRefused Ended = Unit {0}
@@ -43,7 +44,7 @@ HasFirstLine None after line = Unit {0}
 HasFirstLine (Some bytes) None line = ⊥
 HasFirstLine (Some bytes) (Some after) line = lines_of bytes ≡ line ∷ lines_of after
 
--- A call took this line, which has no LF inside, with its end.
+-- A call took this line, which has no LF inside, and its end off the front of what remained.
 pub record TakesLine (old new : Reading) (left_old left_new : Option (List ℕ)) (line : List ℕ) : Type 0 where
   pub no_lf : has_lf line ≡ false
   pub bytes : Consumes (remaining old left_old) (remaining new left_new) (with_end new.stage line)

@@ -40,6 +40,7 @@ impl Buffered {
     }
 
     /// Puts the bytes behind those held, and writes where there is no room.
+    #[tactic(auto, using(crate::proofs::Known::front_behind))]
     pub fn put<K: Sink>(&mut self, sink: &mut K, bytes: &[u8]) -> Result<(), Failed>
         ensures put { OnOk result (Appends (append_known (K.written sink.old) self.old) (append_known (K.written sink.new) self.new) bytes.now) }
         ensures failed_writes_front { OnErr result (AppendsFront (K.written sink.old) (K.written sink.new) (self.old ++ bytes.now)) }

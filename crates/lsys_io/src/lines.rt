@@ -4,8 +4,8 @@ ghost use Rattle.std.specs.Io.KnownBytes.{IsAtEnd};
 ghost use Rattle.lsys_syntax.specs.Lines.{without_cr};
 ghost use Rattle.lsys_io.specs.Causes.{Rose};
 ghost use Rattle.lsys_io.specs.Feeds.{has_lf};
-ghost use Rattle.lsys_io.specs.Reading.{remaining, TakesLine, PassesLimit, LeavesNoLine, line_limit, script_limit};
-ghost use Rattle.lsys_io.specs.LineAnswers.{last_answer, OnLine, OnLong, OnTaken, OnEnd, OnReadFault, OnTooLong, OnNoFault, OnNoLine, OnLast};
+ghost use Rattle.lsys_io.specs.Reading.{remaining, IsNotRefused, TakesLine, PassesLimit, LeavesNoLine, line_limit, script_limit};
+ghost use Rattle.lsys_io.specs.LineAnswers.{last_answer, OnLine, OnLong, OnTaken, OnEnd, OnReadFault, OnTooLong, OnNoFault, OnNoLine, OnNoEnd, OnLast};
 
 use super::Source;
 use crate::gathering::{LINE_LIMIT, finish, gather};
@@ -39,8 +39,11 @@ pub enum LineRefusal {
 /// Where a reader stands.
 #[derive(Clone, Copy)]
 pub enum Stage {
+    /// The end of the input was not seen.
     Going,
+    /// The end was seen, and all bytes are in lines.
     Ended,
+    /// An earlier call refused.
     Refused(LineRefusal),
 }
 
@@ -97,10 +100,12 @@ impl LineReader {
         // Each line takes a byte, and the lines together stay within the limit.
         ensures progress { OnTaken result (self.old.taken < self.new.taken) }
         ensures within { self.new.taken ≤ script_limit }
+        ensures else_takes_nothing { OnLast result (self.new.taken ≡ self.old.taken) }
 
         // The end and a refusal stay.
         ensures stops { OnLast result (last_answer self.new.stage ≡ Some result) }
         ensures stays { IfSome (last_answer self.old.stage) (λ answer. (result ≡ answer) × (self.new ≡ record self.old { line = [] }) × (source.new ≡ source.old)) }
+        ensures was_going { IsNotRefused self.old.stage → OnNoEnd result (self.old.stage ≡ Stage.Going) }
 
         ensures no_read_while_line_held { has_lf self.old.held ≡ true → source.new ≡ source.old }
         ensures never_falls { S.faults source.old ≤ S.faults source.new }

@@ -53,8 +53,8 @@ string_passes_by {P} print m ms c n true e h = many_here (passes_limit (one_more
 string_passes_by {P} print m ms c n false e h =
     let rest : List (Symbol P) = plain_string ms in
     let same : many_place c n (string_pieces print (plain_string {P = P} (m ∷ ms))) ≡ many_place (one_more c) (n + 1) (string_pieces print rest) =
-        many_next (passes_limit (one_more c)) n _ e
-        ∙ many_gap (ends_in_name (letter_symbol {P = P} m)) (begins_with_letter rest) (one_more c) (n + 1) (string_pieces print rest) in
+    many_next (passes_limit (one_more c)) n _ e
+    ∙ many_gap (ends_in_name (letter_symbol {P = P} m)) (begins_with_letter rest) (one_more c) (n + 1) (string_pieces print rest) in
     rw same (h refl)
 
 pub string_passes : {P : Type 0} (print : P → List Piece) (ns : List NameText) (c : Counts) (n : ℕ) → c.symbols ≤ c.most → c.most < c.symbols + length ns

@@ -81,7 +81,7 @@ above o1 o2 b1 b2 b3 r h =
     let mixed_on = or_else (refused_if b1 mixed 1) label_on in
     let twice_on = or_else (refused_at o2 duplicate) mixed_on in
     or_else_some (refused_at o1 unknown_name) twice_on (or_else_some (refused_at o2 duplicate) mixed_on (or_else_some (refused_if b1 mixed 1) label_on
-      (or_else_some (refused_if b2 wrong_label 1) tables_on (or_else_some (refused_if b3 many 1) r h))))
+    (or_else_some (refused_if b2 wrong_label 1) tables_on (or_else_some (refused_if b3 many 1) r h))))
 
 chain_last : (o1 o2 : Option ℕ) (b1 b2 b3 b4 : Bool) (o3 : Option ℕ) → IsSome o3 → IsSome (chain o1 o2 b1 b2 b3 b4 o3)
 chain_last o1 o2 b1 b2 b3 b4 o3 h =

@@ -2,13 +2,13 @@
 use Rattle.std.specs.Prelude.{◌≡◌, ℕ, Bool, Option, Some, None, Result, Ok, Err, List, [], ◌∷◌, map}
 use Rattle.lsys_syntax.specs.Tokens.{Kind}
 use Rattle.lsys_syntax.specs.Commands as spec
-use Rattle.lsys_spec.specs.Interim.{letters, plain_string, plain_production, plain_query, plain_command}
+use Rattle.lsys_spec.specs.Interim.{letters, plain_string, plain_production, plain_query, plain_quit, plain_command}
 use Rattle.lsys_text.specs.Tokens.{kind_of, name_of}
 use Rattle.lsys_text.specs.declared.token_kind.Token.{Token}
 use Rattle.lsys_rules.specs.Views.{string_of, rule_of}
 use Rattle.lsys_rules.specs.declared.rule.Rule.{Rule}
 use Rattle.lsys_rules.specs.declared.command.Command.{Command}
-use Rattle.lsys_rules.specs.declared.command.Command.TheVariants.{Axiom, Production, Depth, String}
+use Rattle.lsys_rules.specs.declared.command.Command.TheVariants.{Axiom, Production, Depth, String, Quit}
 use Rattle.lsys_rules.specs.declared.command.CommandKind.{CommandKind}
 use Rattle.lsys_rules.specs.declared.command.CommandKind.TheVariants as kinds
 use Rattle.lsys_rules.specs.declared.refusal.Refusal.{Refusal}
@@ -25,10 +25,12 @@ abbrev pub command_of : Command → spec.Command
 command_of (Axiom ns) = spec.set_axiom (string_of ns)
 command_of (Production r) = put_of r
 command_of (Depth n) = spec.set_depth n
-command_of String = spec.print_string None
+command_of (String t) = spec.print_string t
+command_of Quit = spec.quit
 
 abbrev pub kind_of_command : spec.Command → CommandKind
 kind_of_command (spec.print_string n) = kinds.String n
+kind_of_command spec.quit = kinds.Quit
 kind_of_command c = kinds.Edit
 
 -- the letters that the tokens are, in order; or the tokens aren't letters
@@ -45,6 +47,10 @@ IsProductionOf ks (Err Memory) = Unit {0}
 abbrev pub IsQueryOf : List Kind → Result Command Refusal → Type 0
 IsQueryOf ks (Ok c) = plain_query ks ≡ Some (command_of c)
 IsQueryOf ks (Err e) = (plain_query ks ≡ None) × (e ≡ Form)
+
+abbrev pub IsQuitOf : List Kind → Result Command Refusal → Type 0
+IsQuitOf ks (Ok c) = plain_quit ks ≡ Some (command_of c)
+IsQuitOf ks (Err e) = (plain_quit ks ≡ None) × (e ≡ Form)
 
 -- the command that the tokens spell; or they spell none
 abbrev pub Parsed : List Kind → Result Command Refusal → Type 0

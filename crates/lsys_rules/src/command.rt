@@ -14,8 +14,10 @@ pub enum Command {
     Production(Rule),
     /// Sets the depth.
     Depth(u64),
-    /// Prints the last level.
-    String,
+    /// Prints a level: the last one without a number.
+    String { level: Option<u64> },
+    /// Ends the session.
+    Quit,
 }
 
 /// What a command is for.
@@ -25,6 +27,8 @@ pub enum CommandKind {
     Edit,
     /// It prints a level: the last one without a number.
     String { level: Option<u64> },
+    /// It ends the session.
+    Quit,
 }
 
 impl Command {
@@ -36,7 +40,8 @@ impl Command {
             Command::Axiom(_names) => CommandKind::Edit,
             Command::Production(_rule) => CommandKind::Edit,
             Command::Depth(_depth) => CommandKind::Edit,
-            Command::String => CommandKind::String { level: None },
+            Command::String { level } => CommandKind::String { level: *level },
+            Command::Quit => CommandKind::Quit,
         }
     }
 }

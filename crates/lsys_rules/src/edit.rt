@@ -1,6 +1,6 @@
 //! What a command makes of a system.
 ghost use Rattle.std.specs.Prelude.{◌≡◌, IfOk, IfErr};
-ghost use Rattle.lsys_syntax.specs.Commands.{set_axiom, set_depth};
+ghost use Rattle.lsys_syntax.specs.Commands.{set_axiom, set_depth, print_string};
 ghost use Rattle.lsys_rules.specs.Views.{system_of, string_of};
 ghost use Rattle.lsys_rules.specs.Parsing.{command_of, put_of};
 ghost use Rattle.lsys_rules.specs.Applying.{IsApplied};
@@ -13,8 +13,11 @@ use crate::system::System;
 use std::alloc::{AllocError, Global};
 
 const MOST_AXIOM_SYMBOLS: usize = 4096;
+
 const MOST_SUCCESSOR_SYMBOLS: usize = 128;
+
 const MOST_RULES: usize = 256;
+
 const MOST_LEVELS: u64 = 64;
 
 /// The system after an edit; for a query an equal system.
@@ -30,7 +33,8 @@ pub fn apply(alloc: Global, system: &System, command: &Command) -> Result<System
         Command::Axiom(names) => with_axiom(system, names),
         Command::Production(rule) => with_rule(system, rule),
         Command::Depth(depth) => with_depth(system, *depth),
-        Command::String => copy_of(system),
+        Command::String { level } => with_query(system, *level),
+        Command::Quit => copy_of(system),
     }
 }
 
@@ -40,6 +44,16 @@ fn copy_of(system: &System) -> Result<System, Refusal>
     ensures refusal { IfErr result (λ e. e ≡ Refusal.Memory) }
 {
     system.clone().map_err(|_| Refusal::Memory)
+}
+
+// The same system, where it has the level that is asked for.
+fn with_query(system: &System, level: Option<u64>) -> Result<System, Refusal>
+    ensures { IsApplied (system_of system.now) (print_string level) result }
+{
+    match level {
+        Some(level) if level > u64::from(system.depth) => Err(Refusal::Form),
+        _ => copy_of(system),
+    }
 }
 
 fn with_axiom(system: &System, names: &NameList) -> Result<System, Refusal>

@@ -9,6 +9,8 @@ mod refusal;
 mod rule;
 mod system;
 mod table;
+#[cfg(test)]
+mod tests;
 
 pub use command::{Command, CommandKind};
 pub use edit::apply;

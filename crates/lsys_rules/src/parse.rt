@@ -4,7 +4,7 @@ ghost use Rattle.lsys_text.specs.Tokens.{kind_of, name_of};
 ghost use Rattle.lsys_spec.specs.Interim.{letter, is_colon, is_arrow, word_in, plain_depth};
 ghost use Rattle.lsys_syntax.specs.Commands.{set_depth};
 ghost use Rattle.lsys_rules.specs.Letters.{IsLetter};
-ghost use Rattle.lsys_rules.specs.Parsing.{kinds_of, AreLetterTokens, IsProductionOf, IsQueryOf, Parsed};
+ghost use Rattle.lsys_rules.specs.Parsing.{kinds_of, AreLetterTokens, IsProductionOf, IsQueryOf, IsQuitOf, Parsed};
 
 use crate::command::Command;
 use crate::names::NameList;
@@ -40,6 +40,8 @@ pub fn parse_command(alloc: Global, tokens: &[Token], length: u32) -> Result<Com
         }
     } else if reads(word, b"string") {
         query(rest)
+    } else if reads(word, b"quit") {
+        quit(rest)
     } else {
         Err(Refusal::Form)
     }
@@ -52,12 +54,25 @@ fn reads(word: Word, text: &[u8]) -> bool
     word.text().as_bytes() == text
 }
 
-// What stands behind the word `string`: nothing.
+// What stands behind the word `string`: a level's number, or nothing.
 fn query(tokens: &[Token]) -> Result<Command, Refusal>
     ensures { IsQueryOf (kinds_of tokens.now) result }
 {
     if tokens.is_empty() {
-        Ok(Command::String)
+        return Ok(Command::String { level: None });
+    }
+    match number(tokens) {
+        Some(level) => Ok(Command::String { level: Some(level) }),
+        None => Err(Refusal::Form),
+    }
+}
+
+// What stands behind the word `quit`: nothing.
+fn quit(tokens: &[Token]) -> Result<Command, Refusal>
+    ensures { IsQuitOf (kinds_of tokens.now) result }
+{
+    if tokens.is_empty() {
+        Ok(Command::Quit)
     } else {
         Err(Refusal::Form)
     }

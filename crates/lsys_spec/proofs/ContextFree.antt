@@ -12,7 +12,7 @@ use Rattle.lsys_spec.specs.Cuts.{Raw}
 use Rattle.lsys_spec.specs.Meaning.{Refusal, OverLimit, FaultAt, numbered, any_weight, key_for, most_entries, ignores, asked, successor_by, successor, fault_at, children_from}
 use Rattle.lsys_spec.specs.Standings.{no_left, no_patterns, free}
 use Rattle.lsys_spec.specs.Morphisms.{IsContextFree, IsUnweighted, alone, rewritten, raw_plain, AreMade}
-use Rattle.lsys_spec.proofs.TriedAlike.{FindSame, group_same}
+use Rattle.lsys_spec.proofs.SameGroups.{FindSame, group_same}
 
 and_is : (a b : Bool) → (a && b) ≡ true → (a ≡ true) × (b ≡ true)
 and_is true true h = (refl, refl)

@@ -12,7 +12,7 @@ use Rattle.lsys_spec.specs.Cuts.{Plain, cut}
 use Rattle.lsys_spec.specs.Meaning.{numbered, key_for, most_entries, ignores, asked, successor_by, successor, fault_at, children_from, next_level}
 use Rattle.lsys_spec.specs.Questions.{Question, question, where_any, questions_from, questions_at}
 use Rattle.lsys_spec.specs.Morphisms.{IsAlike, AreAlike, ignoring, occurs}
-use Rattle.lsys_spec.proofs.TriedAlike.{FindSame, group_same}
+use Rattle.lsys_spec.proofs.SameGroups.{FindSame, group_same}
 
 module _ (f g : ModuleName → Bool) where
   ignored_same : (s : Symbol) → IsAlike f g s → is_ignored f s ≡ is_ignored g s

@@ -1,5 +1,5 @@
 -- The cut (ABOP chapter 3): `%` takes away itself and what follows it in its branch. And the order of lineages.
-use Rattle.std.specs.Prelude.{◌++◌, ◌≡◌, ◌≤◌, ◌+◌, ◌-◌, ℕ, zero, suc, Bool, true, false, Option, Some, None, List, [], ◌∷◌, ◌==◌, ◌<◌, ◌⊎◌, nat_le, take, drop}
+use Rattle.std.specs.Prelude.{◌++◌, ◌≡◌, ◌≤◌, ◌+◌, ◌-◌, ℕ, zero, suc, Bool, true, false, Option, Some, None, List, [], ◌∷◌, ◌==◌, ◌&&◌, ◌||◌, ◌<◌, ◌⊎◌, take, drop, slice_get, if◌then◌else◌}
 use Rattle.lsys_spec.specs.Levels.{Symbol, Push, Pop, Module, lineage}
 
 -- a symbol of a string in which the cuts still stand
@@ -41,6 +41,31 @@ never_closes n (Plain (Module l m) ∷ x) = never_closes n x
 never_closes n (Plain (Push l) ∷ x) = never_closes (suc n) x
 never_closes zero (Plain (Pop l) ∷ x) = false
 never_closes (suc n) (Plain (Pop l) ∷ x) = never_closes n x
+
+-- The cut at place q cuts off the symbol at place p: q isn't behind p, and nothing from q to p ends the branch of q.
+pub record CutsOff (x : List Raw) (q p : ℕ) : Type 0 where
+  pub there : (l : List ℕ) × (slice_get x q ≡ Some (Percent l))
+  pub reaches : q ≤ p
+  pub stays : never_closes 0 (take (p - q) (drop (suc q) x)) ≡ true
+
+abbrev pub IsCutOff : List Raw → ℕ → Type 0
+IsCutOff x p = (q : ℕ) × CutsOff x q p
+
+abbrev pub is_percent : Raw → Bool
+is_percent (Percent l) = true
+is_percent (Plain s) = false
+
+-- the same as a test: by the first symbol, or by one behind it
+abbrev pub is_cut_off : List Raw → ℕ → Bool
+is_cut_off [] p = false
+is_cut_off (r ∷ x) zero = is_percent r
+is_cut_off (r ∷ x) (suc p) = (is_percent r && never_closes 0 (take (suc p) x)) || is_cut_off x p
+
+-- the brackets and modules at places that don't pass, in order
+abbrev pub kept : (ℕ → Bool) → List Raw → List Symbol
+kept off [] = []
+kept off (Percent l ∷ x) = kept (λ p. off (suc p)) x
+kept off (Plain s ∷ x) = if off 0 then kept (λ p. off (suc p)) x else s ∷ kept (λ p. off (suc p)) x
 
 -- a comes before b: at the first place where they differ it has the smaller number
 abbrev pub Before : List ℕ → List ℕ → Type 0

@@ -1,20 +1,20 @@
 -- What the program does today: which lines it answers `refused form`, and what an accepted edit prints.
 -- This file says all in which the program still differs from the language; it shrinks, and is deleted in the end.
-use Rattle.std.specs.Prelude.{ℕ, Bool, true, false, Option, Some, None, Result, Ok, Err, List, [], ◌∷◌, ◌++◌, ◌&&◌, map, codes, bytes_eq, option_map}
+use Rattle.std.specs.Prelude.{ℕ, Bool, true, false, Option, Some, None, Result, Ok, Err, List, [], ◌∷◌, ◌++◌, ◌&&◌, map, codes, bytes_eq, option_map, if◌then◌else◌}
 use Rattle.lsys_syntax.specs.Lines.{without_cr}
 use Rattle.lsys_syntax.specs.Tokens.{NameText, short, Kind, Word, Name, Number, Arrow, Colon, Token, tokens}
 use Rattle.lsys_syntax.specs.Strings.{named, Symbol, Module}
 use Rattle.lsys_syntax.specs.Rules.{Rule}
-use Rattle.lsys_syntax.specs.Commands.{Command, set_axiom, put_production, set_depth, print_string}
+use Rattle.lsys_syntax.specs.Commands.{Command, set_axiom, put_production, set_depth, print_string, quit}
 use Rattle.lsys_spec.specs.Systems.{System}
 use Rattle.lsys_spec.specs.Edits.{Refusal, refusal, changed}
 use Rattle.lsys_spec.specs.Levels as L
 use Rattle.lsys_spec.specs.Meaning as M
-use Rattle.lsys_spec.specs.Shown.{level_text}
-use Rattle.lsys_spec.specs.Refusals.{Reply, said, refused, line_feed, is_long, is_passed_over, derivation_text}
+use Rattle.lsys_spec.specs.Replies.{string_line}
+use Rattle.lsys_spec.specs.Refusals.{Reply, said, refused, session_end, line_feed, is_long, is_passed_over, derivation_text}
 
--- The commands that the program has are axiom { Name } | production Word ":" Name "=>" { Name } | depth Number | string,
--- where a Name is one letter.
+-- The commands that the program has are axiom { Name } | production Word ":" Name "=>" { Name } | depth Number
+-- | string [[ Number ]] | quit, where a Name is one letter.
 
 abbrev pub word_in : Kind → Option (List ℕ)
 word_in (Word w) = Some w
@@ -69,26 +69,24 @@ plain_depth ks = None
 
 abbrev pub plain_query : List Kind → Option Command
 plain_query [] = Some (print_string None)
+plain_query (Number n ∷ []) = Some (print_string (Some n))
 plain_query ks = None
+
+abbrev pub plain_quit : List Kind → Option Command
+plain_quit [] = Some quit
+plain_quit ks = None
 
 abbrev pub plain_axiom : Option (List NameText) → Option Command
 plain_axiom ns = option_map (λ xs. set_axiom (plain_string xs)) ns
 
 abbrev pub begun : List ℕ → List Kind → Option Command
 begun w ks =
-    elim (bytes_eq w (codes "axiom")) [
-      | true ↦ plain_axiom (letters ks)
-      | false ↦
-          elim (bytes_eq w (codes "production")) [
-            | true ↦ plain_production ks
-            | false ↦
-                elim (bytes_eq w (codes "depth")) [
-                  | true ↦ plain_depth ks
-                  | false ↦
-                      elim (bytes_eq w (codes "string")) [ true ↦ plain_query ks | false ↦ None ]
-                ]
-          ]
-    ]
+    if bytes_eq w (codes "axiom") then plain_axiom (letters ks)
+    else if bytes_eq w (codes "production") then plain_production ks
+    else if bytes_eq w (codes "depth") then plain_depth ks
+    else if bytes_eq w (codes "string") then plain_query ks
+    else if bytes_eq w (codes "quit") then plain_quit ks
+    else None
 
 abbrev pub plain_command : List Kind → Option Command
 plain_command (Word w ∷ ks) = begun w ks
@@ -102,12 +100,13 @@ abbrev pub edited : System → System → Result (List (List L.Symbol)) M.Refusa
 edited s next (Ok levels) = said next (codes "ok" ++ line_feed)
 edited s next (Err r) = refused s (derivation_text r)
 
-abbrev pub printed : System → Result (List (List L.Symbol)) M.Refusal → Reply
-printed s (Ok levels) = said s (level_text (M.last_level levels) ++ line_feed)
-printed s (Err r) = refused s (derivation_text r)
+abbrev pub printed : Option ℕ → System → Result (List (List L.Symbol)) M.Refusal → Reply
+printed t s (Ok levels) = said s (string_line t levels)
+printed t s (Err r) = refused s (derivation_text r)
 
 abbrev pub accepted : ℕ → System → Command → Reply
-accepted limit s (print_string n) = printed s (M.meaning s limit)
+accepted limit s (print_string t) = printed t s (M.meaning s limit)
+accepted limit s quit = session_end s
 accepted limit s c = edited s (changed s c) (M.meaning (changed s c) limit)
 
 abbrev pub unless_refused : ℕ → System → Command → Option Refusal → Reply

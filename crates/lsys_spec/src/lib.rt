@@ -6,4 +6,7 @@
 pub mod derivations;
 pub mod draws;
 pub mod lattices;
+pub mod levels;
+pub mod questions;
 pub mod replies;
+pub mod shown;

@@ -7,10 +7,10 @@ use Rattle.lsys_syntax.proofs.Complete.{leave_unary, leave_term, leave_sum, leav
 use Rattle.lsys_syntax.specs.Completions.{before_unary, before_term, before_sum, before_rel, before_and, before_expr, before, spelled, closing_unary, closing_term, closing_sum, closing_rel, closing_and, closing_expr, closing_around, completion, fill_unary, fill_term, fill_sum, fill_rel, fill_and, fill_expr, fill_around, completed}
 
 -- front, an operator behind its left side, and what follows
-three : (b l t : List Kind) (m : Kind) → (b ++ (l ++ m ∷ [])) ++ t ≡ b ++ (l ++ m ∷ t)
+pub three : (b l t : List Kind) (m : Kind) → (b ++ (l ++ m ∷ [])) ++ t ≡ b ++ (l ++ m ∷ t)
 three b l t m = append_assoc b (l ++ m ∷ []) t ∙ ap (λ x. b ++ x) (append_assoc l (m ∷ []) t)
 
-three_two : (b l t : List Kind) (m n : Kind) → (b ++ (l ++ m ∷ n ∷ [])) ++ t ≡ b ++ (l ++ m ∷ n ∷ t)
+pub three_two : (b l t : List Kind) (m n : Kind) → (b ++ (l ++ m ∷ n ∷ [])) ++ t ≡ b ++ (l ++ m ∷ n ∷ t)
 three_two b l t m n = append_assoc b (l ++ m ∷ n ∷ []) t ∙ ap (λ x. b ++ x) (append_assoc l (m ∷ n ∷ []) t)
 
 -- the left side of an operator together with its right side, and what follows
@@ -155,7 +155,7 @@ after_atom-keeps powering a k = sym (append_assoc (before_unary k) (atom_kinds a
 after_atom-keeps (ends_unary f) a k = subst (Keeps (after_operand f (plain a) k)) (sym (append_assoc (before_unary k) (atom_kinds a) (told_unary f))) (after_operand-keeps f (plain a) k)
 
 -- no other token goes on behind an operand
-abbrev IsOver : State → Type 0
+abbrev pub IsOver : State → Type 0
 IsOver (Done e) = Unit {0}
 IsOver Stop = Unit {0}
 IsOver s = ⊥
@@ -172,7 +172,7 @@ ended-over : (e : Expr) (k : Around) → IsOver (ended e k)
 ended-over e outermost = tt
 ended-over e (in_parens k) = tt
 
-other-over : (u : Unary) (k : InUnary) → IsOver (after_operand (ends_term (ends_sum (ends_rel (ends_and (ends_expr other))))) u k)
+pub other-over : (u : Unary) (k : InUnary) → IsOver (after_operand (ends_term (ends_sum (ends_rel (ends_and (ends_expr other))))) u k)
 other-over u (negating k) = other-over (negated u) k
 other-over u (inverting k) = other-over (inverted u) k
 other-over u (raising a k) = other-over (raised a u) k

@@ -2,10 +2,10 @@
 --   command = axiom string | production Word [[ Word ]] ":" rule | drop Word | ignore { name } | schedule Word { Word }
 --           | seed Number | depth Number | lattice square | lattice hexagonal | lattice cubic | hom Word ":" rule
 --           | string [[ Number ]] | segments | svg | show | quit
-use Rattle.std.specs.Prelude.{◌≡◌, ℕ, Bool, true, false, Option, Some, None, List, [], ◌∷◌, ◌++◌, ◌<◌, ◌≤◌, ◌^◌, ◌&&◌, ◌+◌, codes, map, max}
-use Rattle.lsys_syntax.specs.Tokens.{NameText, Kind, Word, Number, Colon}
+use Rattle.std.specs.Prelude.{◌≡◌, ℕ, true, Option, Some, None, List, [], ◌∷◌, ◌++◌, ◌<◌, ◌^◌, codes, map}
+use Rattle.lsys_syntax.specs.Tokens.{Word, Number, Colon}
 use Rattle.lsys_syntax.specs.Pieces.{Piece, blank, token, IsWordText}
-use Rattle.lsys_syntax.specs.Strings.{ModuleName, Symbol, Module, Push, Pop, Cut, Signed, string_pieces, signed_pieces, balanced, EachOf, IsModuleName, IsSymbol, IsSigned}
+use Rattle.lsys_syntax.specs.Strings.{ModuleName, Symbol, Module, Cut, Signed, string_pieces, signed_pieces, balanced, EachOf, IsModuleName, IsSymbol, IsSigned}
 use Rattle.lsys_syntax.specs.Expressions.{Expr}
 use Rattle.lsys_syntax.specs.Rules.{Rule, rule_pieces, IsRule, rule_nesting}
 

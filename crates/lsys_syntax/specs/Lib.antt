@@ -11,3 +11,5 @@ pub mod RuleMachine
 pub mod Checks
 pub mod Commands
 pub mod LineMachine
+pub mod Sentences
+pub mod Examples

@@ -3,17 +3,19 @@
 //! Definitions that contracts cite stand in `specs/`. The functions here have empty bodies: the contract is the law.
 #![tactic(auto)]
 
-ghost use Rattle.std.specs.Prelude.{◌≡◌, List, ℕ, ℤ, zero, Ok, [], ◌∷◌};
+ghost use Rattle.std.specs.Prelude.{◌≡◌, ◌≤◌, ◌<◌, List, ℕ, ℤ, zero, suc, Ok, [], ◌∷◌, map, take, length};
 ghost use Rattle.lsys_syntax.specs.Lines.{lines_of};
-ghost use Rattle.lsys_syntax.specs.Tokens.{tokens, tokens_from, First, Modules};
-ghost use Rattle.lsys_syntax.specs.Pieces.{Piece, text_of, placed, Reads, anything};
+ghost use Rattle.lsys_syntax.specs.Tokens.{Kind, Token, tokens, tokens_from, First, Modules};
+ghost use Rattle.lsys_syntax.specs.Pieces.{Piece, text_of, kinds_of, placed, Reads, anything};
 ghost use Rattle.lsys_syntax.specs.Strings.{Symbol, AreSymbols, string_text, string_pieces, value_pieces};
+ghost use Rattle.lsys_syntax.specs.Commands.{Command, IsCommand, command_pieces, nesting};
+ghost use Rattle.lsys_syntax.specs.LineMachine.{verdict, sentence, stops, too_deep};
+ghost use Rattle.lsys_syntax.specs.Sentences.{AreTokens, IsSpelled, Begins, BeginsDeep, IsSpelling};
 
 /// A law of lines: the lines of a script that begins with LF are an empty line and the lines of the rest.
 pub fn law_of_empty_first_line()
     ensures { (bytes : List ℕ) → lines_of (10 ∷ bytes) ≡ [] ∷ lines_of bytes }
-{
-}
+{}
 
 /// A law of tokens: a line printed from pieces, each of which may stand behind the one before, is read as
 /// the tokens that it was printed from, each at the place where it was printed. So is a printed string of
@@ -21,5 +23,48 @@ pub fn law_of_empty_first_line()
 pub fn law_of_printed_tokens()
     ensures pieces { (pieces : List Piece) → Reads First anything pieces → tokens (text_of pieces) ≡ Ok (placed 0 pieces) }
     ensures strings { (symbols : List (Symbol ℤ)) (place : ℕ) → AreSymbols symbols → tokens_from Modules zero place (string_text symbols) ≡ Ok (placed place (string_pieces value_pieces symbols)) }
-{
-}
+{}
+
+/// A law of tokens: in every line that is read as tokens the words and names are of their form, and the numbers are
+/// below 2^64.
+pub fn law_of_token_forms()
+    ensures { (line : List ℕ) (read : List Token) → tokens line ≡ Ok read → AreTokens (map (λ t. t.kind) read) }
+{}
+
+/// A law of the grammar: the spelling of each command, its expressions nested at most 32 deep, is a sentence of that
+/// command; and each sentence is the spelling of its command, which is so nested. No two commands have the same
+/// spelling.
+pub fn law_of_sentences()
+    ensures sentences { (command : Command) → IsCommand command → nesting command ≤ 32
+        → verdict (kinds_of (command_pieces command)) ≡ sentence command }
+    ensures spelled { (kinds : List Kind) (command : Command) → AreTokens kinds → verdict kinds ≡ sentence command
+        → IsSpelled 32 kinds command }
+    ensures distinct { (one other : Command) → IsCommand one → IsCommand other
+        → kinds_of (command_pieces one) ≡ kinds_of (command_pieces other) → one ≡ other }
+{}
+
+/// A law of places: the verdict on tokens that are no sentence names the first token with which none goes on. A
+/// sentence begins with the tokens before it. None begins with these and the token itself: none at all, or, where
+/// that is too deep, none whose expressions are nested at most 32 deep, but one of a greater nesting does. Where
+/// the verdict names the end, the tokens are the beginning of a sentence, and no command is spelled by them.
+pub fn law_of_places()
+    ensures before { (kinds : List Kind) (place : ℕ) → AreTokens kinds → verdict kinds ≡ stops place
+        → Begins 32 (take place kinds) }
+    ensures none_goes_on { (kinds : List Kind) (place : ℕ) → verdict kinds ≡ stops place → place < length kinds
+        → BeginsDeep (take (suc place) kinds) → ⊥ }
+    ensures at_the_end { (kinds : List Kind) (place : ℕ) → verdict kinds ≡ stops place → length kinds ≤ place
+        → (place ≡ length kinds) × (IsSpelling kinds → ⊥) }
+    ensures before_deep { (kinds : List Kind) (place : ℕ) → AreTokens kinds → verdict kinds ≡ too_deep place
+        → (place < length kinds) × Begins 32 (take place kinds) }
+    ensures none_within { (kinds : List Kind) (place : ℕ) → verdict kinds ≡ too_deep place
+        → Begins 32 (take (suc place) kinds) → ⊥ }
+    ensures only_deep { (kinds : List Kind) (place : ℕ) → AreTokens kinds → verdict kinds ≡ too_deep place
+        → BeginsDeep (take (suc place) kinds) }
+{}
+
+/// A law of printed commands: the line of each is read as the tokens that it was printed from, each at the place
+/// where it was printed.
+pub fn law_of_printed_commands()
+    ensures { (command : Command) → IsCommand command
+        → tokens (text_of (command_pieces command)) ≡ Ok (placed 0 (command_pieces command)) }
+{}

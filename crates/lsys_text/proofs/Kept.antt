@@ -120,3 +120,7 @@ pub mark-kept : (c n : ℕ) → is_name_mark c ≡ true → n ≡ c → unpacked
 mark-kept c n h e =
     let one : n ≡ packed (c ∷ []) = omega arith in
     ap unpacked one ∙ name-kept (c ∷ []) (mark_is_name c h)
+
+-- the number that keeps a text
+pub number-of-text : (n : ℕ) (text : List ℕ) → unpacked n ≡ text → n < 2 ^ 128 → n ≡ packed text
+number-of-text n text e h = sym (packed-unpacked n h) ∙ ap packed e

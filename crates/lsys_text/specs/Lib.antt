@@ -5,3 +5,4 @@ pub mod InsideWord
 pub mod InsideShort
 pub mod Tokens
 pub mod Scans
+pub mod Longest

@@ -3,6 +3,7 @@ use Rattle.std.specs.Prelude.{◌≡◌, ℕ, zero, suc, Bool, true, false, List
 use Rattle.std.proofs.Common.{ap, sym, arith, eqb-true, ne_eqb}
 use Rattle.std.proofs.Math.Nat.{pow-succ'}
 
+-- the number of a text
 abbrev pub packed : List ℕ → ℕ
 packed [] = 0
 packed (c ∷ text) = c + 256 * packed text

@@ -1,5 +1,5 @@
 -- What the functions that look for one token answer.
-use Rattle.std.specs.Prelude.{◌≡◌, ℕ, zero, ◌++◌, drop, map, Result, Ok, Err, Bool, false, List, [], ◌∷◌, Option, None, Some}
+use Rattle.std.specs.Prelude.{◌≡◌, ℕ, zero, ◌+◌, ◌++◌, drop, map, Result, Ok, Err, Bool, false, List, [], ◌∷◌, Option, None, Some}
 use Rattle.lsys_syntax.specs.Tokens as syntax
 use Rattle.lsys_text.specs.declared.scan.Mode.{Mode}
 use Rattle.lsys_text.specs.declared.scan.Mode.TheVariants.{First, Words, UntilColon, Modules}
@@ -10,14 +10,20 @@ use Rattle.lsys_text.specs.declared.refusals.TextRefusal.{TextRefusal}
 use Rattle.lsys_text.specs.declared.refusals.TextRefusal.TheVariants.{Byte, Memory}
 use Rattle.lsys_text.specs.Tokens.{kind_of, token_of}
 
+-- the mode that the code's mode stands for
 abbrev pub mode_of : Mode → syntax.Mode
 mode_of First = syntax.First
 mode_of Words = syntax.Words
 mode_of UntilColon = syntax.UntilColon
 mode_of Modules = syntax.Modules
 
+-- a kind, and how many bytes stand behind the token's first
 abbrev pub lexeme_of : Lexeme → syntax.Kind × ℕ
 lexeme_of x = (kind_of x.kind, x.more)
+
+-- the token of a lexeme whose first byte stands at this place of a line
+abbrev pub placed : Lexeme → ℕ → Token
+placed x start = record { kind = x.kind; start = start; end = start + 1 + x.more }
 
 -- a first byte that passes
 abbrev pub begins_with : (ℕ → Bool) → List ℕ → Bool

@@ -1,5 +1,5 @@
 -- The tokens that the code finds, as those of the definitions.
-use Rattle.std.specs.Prelude.{◌≡◌, ℕ, Bool, List, [], ◌∷◌, ◌==◌, ◌||◌, Result, Ok, Err, Vec, map, unwrap_or, is_some, IsTrue, if◌then◌else◌}
+use Rattle.std.specs.Prelude.{◌≡◌, ◌<◌, ◌≤◌, ℕ, Bool, List, [], ◌∷◌, ◌==◌, ◌||◌, Result, Ok, Err, Vec, map, unwrap_or, is_some, IsTrue, if◌then◌else◌}
 use Rattle.std.specs.declared.alloc.Global.{Global}
 use Rattle.lsys_syntax.specs.Tokens as syntax
 use Rattle.lsys_text.specs.declared.token_kind.Token.{Token}
@@ -21,9 +21,11 @@ mark_kind b =
     else if b == 61 then syntax.Assign else if b == 62 then syntax.Greater
     else unwrap_or (syntax.one_mark b) syntax.LongWord
 
+-- one of the 20 marks of one byte
 abbrev pub is_mark : ℕ → Bool
 is_mark b = (b == 33) || (b == 60) || (b == 61) || (b == 62) || is_some (syntax.one_mark b)
 
+-- the kind that the code's kind stands for
 abbrev pub kind_of : TokenKind → syntax.Kind
 kind_of (Word text) = syntax.Word text
 kind_of LongWord = syntax.LongWord
@@ -37,6 +39,7 @@ kind_of AtMost = syntax.AtMost
 kind_of AtLeast = syntax.AtLeast
 kind_of (Mark b) = mark_kind b
 
+-- the token that the code's token stands for
 abbrev pub token_of : Token → syntax.Token
 token_of t = record { kind = kind_of t.kind; start = t.start; stop = t.end }
 
@@ -45,8 +48,13 @@ abbrev pub IsMarkByte : TokenKind → Type 0
 IsMarkByte (Mark b) = IsTrue (is_mark b)
 IsMarkByte k = Unit {0}
 
+-- the same, of a token
 abbrev pub HasMarkByte : Token → Type 0
 HasMarkByte t = IsMarkByte t.kind
+
+-- a token's text: some bytes of a line of this length
+abbrev pub IsWithin : ℕ → Token → Type 0
+IsWithin length t = (t.start < t.end) × (t.end ≤ length)
 
 -- the line's tokens, or the column of its first byte that is in none; want of memory says nothing
 abbrev pub AreTokens : List ℕ → Result (Vec Token Global) TextRefusal → Type 0

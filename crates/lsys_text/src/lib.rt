@@ -1,8 +1,9 @@
 //! The tokens of a line: names and words kept in numbers, and the place of each token.
 #![tactic(auto)]
 
-ghost use Rattle.std.specs.Prelude.{◌≡◌, ◌≤◌, length, IfOk, All};
-ghost use Rattle.lsys_text.specs.Tokens.{AreTokens, HasMarkByte};
+ghost use Rattle.std.specs.Prelude.{◌≡◌, ◌≤◌, length, vec_len, IfOk, All};
+ghost use Rattle.lsys_text.specs.Longest.{TakesLongest, TakesAny};
+ghost use Rattle.lsys_text.specs.Tokens.{AreTokens, HasMarkByte, IsWithin};
 
 mod names;
 mod refusals;
@@ -29,6 +30,8 @@ pub fn tokens(alloc: Global, line: &[u8]) -> Result<Vec<Token>, TextRefusal>
     requires { length line.now ≤ 65536 }
     ensures tokens { AreTokens line.now result }
     ensures marks { IfOk result (λ found. All HasMarkByte found.items) }
+    ensures places { IfOk result (λ found. All (IsWithin (length line.now)) found.items) }
+    ensures few { IfOk result (λ found. vec_len found ≤ length line.now) }
 {
     let mut found = Vec::new(alloc);
     let mut cursor = Cursor::new();
@@ -37,6 +40,13 @@ pub fn tokens(alloc: Global, line: &[u8]) -> Result<Vec<Token>, TextRefusal>
     }
     Ok(found)
 }
+
+/// A law of tokens: where a token begins, the longest text that is a token is taken, and no token begins
+/// at a byte that is refused. What a token looks like is said of its text alone.
+pub fn law_of_longest_tokens()
+    ensures longest { TakesLongest }
+    ensures refused { TakesAny }
+{}
 
 #[cfg(test)]
 mod tests {

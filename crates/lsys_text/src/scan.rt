@@ -4,8 +4,8 @@ ghost use Rattle.std.specs.List.{prefix_len};
 ghost use Rattle.std.specs.Str.Parse.{digits_value};
 ghost use Rattle.lsys_syntax.specs.Tokens.{is_blank, is_digit, is_letter, is_plain, is_word_byte, front, number_kind, word_kind, after_word, next_mode, name_tail, name_with};
 ghost use Rattle.lsys_syntax.specs.Pieces.{Every};
-ghost use Rattle.lsys_text.specs.Tokens.{kind_of, IsMarkByte, HasMarkByte, is_mark};
-ghost use Rattle.lsys_text.specs.Scans.{mode_of, lexeme_of, begins_with, first_token, first_name, first_mark, IsStep};
+ghost use Rattle.lsys_text.specs.Tokens.{kind_of, IsMarkByte, HasMarkByte, is_mark, IsWithin};
+ghost use Rattle.lsys_text.specs.Scans.{mode_of, lexeme_of, begins_with, first_token, first_name, first_mark, placed, IsStep};
 
 use crate::names::{Name, Word};
 use crate::refusals::TextRefusal;
@@ -60,9 +60,13 @@ pub fn push_token(
     requires line { length line.now ≤ 65536 }
     requires place { cursor.place ≤ length line.now }
     requires marks { All HasMarkByte found.old.items }
+    requires places { All (IsWithin (length line.now)) found.old.items }
     ensures step { IsStep line.now found.old.items cursor found.new.items result }
     ensures within { IfOk result (λ next. IfSome next (λ c. (cursor.place < c.place) × (c.place ≤ length line.now))) }
     ensures marks { All HasMarkByte found.new.items }
+    ensures places { All (IsWithin (length line.now)) found.new.items }
+    ensures one { length found.new.items ≤ length found.old.items + 1 }
+    ensures end { result ≡ Ok None → length found.new.items ≤ length found.old.items }
 {
     let start = cursor.place + blanks_len(&line[cursor.place..]);
     if start == line.len() {
@@ -84,7 +88,7 @@ fn push_lexeme(
     lexeme: Lexeme,
 ) -> Result<Cursor, AllocError>
     requires { start + lexeme.more < 65536 }
-    ensures added { OnOk result (found.new.items ≡ found.old.items ++ record { kind = lexeme.kind; start = start; end = start + 1 + lexeme.more } ∷ []) }
+    ensures added { OnOk result (found.new.items ≡ found.old.items ++ placed lexeme start ∷ []) }
     ensures place { IfOk result (λ next. next.place ≡ start + 1 + lexeme.more) }
     ensures mode { IfOk result (λ next. mode_of next.mode ≡ next_mode (mode_of mode) (kind_of lexeme.kind)) }
     ensures refused { OnErr result (found.new.items ≡ found.old.items) }
@@ -166,7 +170,7 @@ fn mode_behind_word(word: Word) -> Mode
 // The number at the front of a text.
 fn number_at(text: &[u8]) -> Lexeme
     requires { IsTrue (begins_with is_digit text.now) }
-    ensures number { lexeme_of result ≡ (number_kind (front is_digit text.now), length (front is_digit text.now) - 1) }
+    ensures number { let digits = front is_digit text.now in lexeme_of result ≡ (number_kind digits, length digits - 1) }
     ensures within { result.more < length text.now }
     ensures mark { IsMarkByte result.kind }
 {
@@ -211,7 +215,7 @@ fn with_digit(value: u64, digit: u8) -> Option<u64>
 // The word at the front of a text.
 fn word_at(text: &[u8]) -> Lexeme
     requires { IsTrue (begins_with is_letter text.now) }
-    ensures word { lexeme_of result ≡ (word_kind (front is_word_byte text.now), length (front is_word_byte text.now) - 1) }
+    ensures word { let word = front is_word_byte text.now in lexeme_of result ≡ (word_kind word, length word - 1) }
     ensures within { result.more < length text.now }
     ensures mark { IsMarkByte result.kind }
 {

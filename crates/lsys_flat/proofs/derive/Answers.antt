@@ -30,4 +30,4 @@ loop-level-preserved c =
     let len : c.len-room.result ≡ length c.in-Some.next = c.len-room.ensures.len in
     let pushed : c.push-in-Some.new.self ≡ c.loop-level.rows ++ c.in-Some.next ∷ [] = search rules in
     rw (len, pushed) (more c.args.system.now c.args.limit c.loop-level.level c.loop-level.room c.loop-level.rows c.last.result.now c.in-Some.next c.loop-level.invariant c.last.ensures
-      c.in_ok-next_level.ensures.letters next fits)
+    c.in_ok-next_level.ensures.letters next fits)

@@ -6,5 +6,5 @@ use Rattle.lsys_flat.proofs.next_level.Given as goal
 abbrev pub invariant-loop-name : goal.invariant-loop-name
 invariant-loop-name l = record {
   told : l.next ++ flat_map (replaced l.rules) (drop l.name-index l.name-items) ≡ flat_map (replaced l.rules) l.name-items;
-  room : length l.next ≤ l.room
+  room : length l.next ≤ l.room;
 }

@@ -1,7 +1,7 @@
 use Rattle.std.proofs.Common.{◌≡◌, ◌-◌, ◌≤◌, length}
 use Rattle.std.specs.Prelude.{All}
 use Rattle.lsys_syntax.specs.Tokens as syntax
-use Rattle.lsys_text.specs.Tokens.{HasMarkByte}
+use Rattle.lsys_text.specs.Tokens.{HasMarkByte, IsWithin}
 use Rattle.lsys_text.specs.Scans.{reading}
 use Rattle.lsys_text.proofs.tokens.Given as goal
 
@@ -9,6 +9,8 @@ abbrev pub invariant-loop-found : goal.invariant-loop-found
 invariant-loop-found l = record {
   within : l.cursor.place ≤ length l.line;
   marks : All HasMarkByte l.found.items;
+  places : All (IsWithin (length l.line)) l.found.items;
+  few : length l.found.items ≤ l.cursor.place;
   read : reading l.line l.found.items l.cursor ≡ syntax.tokens l.line;
 }
 

@@ -1,4 +1,3 @@
-use Rattle.std.proofs.Common.{rules}
 use Rattle.lsys_cli.proofs.Commands.{parsed_line}
 use Rattle.lsys_cli.proofs.session.command_in.Goals as goal
 

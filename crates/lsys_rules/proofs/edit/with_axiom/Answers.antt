@@ -10,6 +10,7 @@ pub returns : goal.returns
 returns c =
     let copied : c.in_ok-next.next ≡ c.args.system.now = search rules in
     let named : c.in_ok-next-2.field-0 ≡ c.args.names.now = search rules in
-    let next : System = record c.in_ok-next.next { «axiom» = c.in_ok-next-2.field-0 } in
-    (axiom_accepted c.args.system.now c.args.names.now (omega (arith, c.len.ensures.len)),
-     axiom_changed c.args.system.now next c.args.names.now named (cc) (cc))
+    let next : System = record c.in_ok-next.next { «axiom» = c.in_ok-next-2.field-0 } in (
+      axiom_accepted c.args.system.now c.args.names.now (omega (arith, c.len.ensures.len)),
+      axiom_changed c.args.system.now next c.args.names.now named (cc) (cc),
+    )

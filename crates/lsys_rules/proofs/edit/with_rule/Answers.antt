@@ -24,6 +24,7 @@ returns c =
     let put : c.put.new.self ≡ with_rule c.in_ok-rule.rule c.in_ok-next.next.rules = search rules in
     let all : c.put.new.self ≡ with_rule c.args.rule.now c.args.system.now.rules = cc in
     let seen : length c.rules.result.now ≡ length (with_rule c.args.rule.now c.args.system.now.rules) = cc in
-    let next : System = record c.in_ok-next.next { rules = c.put.new.self } in
-    (rule_accepted c.args.system.now c.args.rule.now (omega (arith, c.len.ensures.len)) (omega arith),
-     rule_changed c.args.system.now next c.args.rule.now (cc) all (cc))
+    let next : System = record c.in_ok-next.next { rules = c.put.new.self } in (
+      rule_accepted c.args.system.now c.args.rule.now (omega (arith, c.len.ensures.len)) (omega arith),
+      rule_changed c.args.system.now next c.args.rule.now (cc) all (cc),
+    )

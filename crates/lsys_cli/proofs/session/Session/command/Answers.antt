@@ -1,9 +1,8 @@
-use Rattle.std.proofs.Common.{◌≡◌, ◌∷◌, [], ◌++◌, codes, rules}
-use Rattle.std.specs.Io.KnownBytes.{Appends}
-use Rattle.lsys_spec.specs.Refusals.{line_feed}
-use Rattle.lsys_cli.specs.Sessions.{limit_text, joined}
-use Rattle.lsys_cli.proofs.Replying.{skipped, accepted, form, over_limit, memory, level}
+use Rattle.std.proofs.Common.{◌≡◌, subst}
+use Rattle.lsys_cli.proofs.Replying.{skipped, accepted, form, over_limit, memory, level, numbered, quits}
 use Rattle.lsys_cli.proofs.Appending.{nothing}
+use Rattle.lsys_spec.specs.Interim.{bare_reply, printed}
+use Rattle.lsys_spec.specs.Meaning.{meaning}
 use Rattle.lsys_rules.specs.Views.{system_of}
 use Rattle.lsys_cli.proofs.session.Session.command.Goals as goal
 
@@ -16,10 +15,19 @@ returns-in_ok-say-in-Edited-clause-replies g c =
     accepted c.args.self.now.limit (system_of c.args.self.now.system) (system_of c.in-Edited.system) c.args.line.now (g.K.Sink.written c.args.sink.now) (g.K.Sink.written c.say.new.sink)
     c.in-Edited.ensures.0.0 c.in_ok-say-in-Edited.ensures.said
 
-pub returns-in_ok-say_level-in-Printed-clause-replies : goal.returns-in_ok-say_level-in-Printed-clause-replies
-returns-in_ok-say_level-in-Printed-clause-replies g c =
+pub returns-in_ok-say_level-in-Printed-None-clause-replies : goal.returns-in_ok-say_level-in-Printed-None-clause-replies
+returns-in_ok-say_level-in-Printed-None-clause-replies g c =
     level c.args.self.now.limit (system_of c.args.self.now.system) c.args.line.now (g.K.Sink.written c.args.sink.now) (g.K.Sink.written c.say_level.new.sink)
-    c.args.self.now.rows c.last.result.now c.requires.holds c.in-Printed.ensures.0 c.last.ensures c.in_ok-say_level-in-Printed.ensures.letters c.in_ok-say_level-in-Printed.ensures.said
+    c.args.self.now.rows c.last.result.now c.requires.holds (subst (λ t. bare_reply c.args.self.now.limit (system_of c.args.self.now.system) c.args.line.now ≡ printed t (system_of c.args.self.now.system) (meaning (system_of c.args.self.now.system) c.args.self.now.limit)) c.in-Printed-None.level-is c.in-Printed-None.ensures.0.1) c.last.ensures c.in_ok-say_level-in-Printed-None.ensures.letters c.in_ok-say_level-in-Printed-None.ensures.said
+
+pub returns-in_ok-say_level-in-Printed-Some-clause-replies : goal.returns-in_ok-say_level-in-Printed-Some-clause-replies
+returns-in_ok-say_level-in-Printed-Some-clause-replies g c =
+    numbered c.args.self.now.limit (system_of c.args.self.now.system) c.args.line.now (g.K.Sink.written c.args.sink.now) (g.K.Sink.written c.say_level-in-Printed-Some.new.sink)
+    c.args.self.now.rows c.in-Printed-Some.level c.string.result.now c.requires.holds (subst (λ t. bare_reply c.args.self.now.limit (system_of c.args.self.now.system) c.args.line.now ≡ printed t (system_of c.args.self.now.system) (meaning (system_of c.args.self.now.system) c.args.self.now.limit)) c.in-Printed-Some.level-is c.in-Printed-Some.ensures.0.1) c.string.ensures c.in_ok-say_level-in-Printed-Some.ensures.letters c.in_ok-say_level-in-Printed-Some.ensures.said
+
+pub returns-in-Quit-clause-replies : goal.returns-in-Quit-clause-replies
+returns-in-Quit-clause-replies g c =
+    quits c.args.self.now.limit (system_of c.args.self.now.system) c.args.line.now (g.K.Sink.written c.args.sink.now) c.in-Quit.ensures.0 (nothing (g.K.Sink.written c.args.sink.now))
 
 pub returns-in_ok-say-in-Form-clause-replies : goal.returns-in_ok-say-in-Form-clause-replies
 returns-in_ok-say-in-Form-clause-replies g c =

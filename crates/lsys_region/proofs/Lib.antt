@@ -1,0 +1,8 @@
+pub mod ListLemmas
+pub mod RoomLemmas
+pub mod ChainLemmas
+pub mod TableLemmas
+pub mod LayoutLemmas
+pub mod CountLemmas
+pub mod PoolLemmas
+pub mod HeldLemmas

@@ -1,0 +1,50 @@
+-- How the table of parts links the free parts of each class.
+use Rattle.std.specs.Prelude.{◌≡◌, ◌<◌, ℕ, List, [], ◌∷◌, length, Option, Some, None, slice_get, slice_index_or, ◌⊎◌}
+use Rattle.lsys_region.specs.declared.table.Entry.{Entry}
+use Rattle.lsys_region.specs.declared.table.State.{State}
+use Rattle.lsys_region.specs.declared.table.State.TheVariants.{Taken, Free}
+use Rattle.lsys_region.specs.Parts.{Part}
+
+abbrev pub filled_of : State → Option ℕ
+filled_of (Taken length) = Some length
+filled_of (Free next) = None
+
+abbrev pub part_of : Entry → Part
+part_of entry = record { start = entry.start; class = entry.class; filled = filled_of entry.state }
+
+-- the entry with this number is free, of this class, and names the next free one
+abbrev pub IsFreeEntry : List Entry → ℕ → ℕ → Option ℕ → Type 0
+IsFreeEntry entries class number next =
+    (start : ℕ) × (slice_get entries number ≡ Some (record { start = start; class = class; state = Free next }))
+
+abbrev pub IsMember : ℕ → List ℕ → Type 0
+IsMember n [] = ⊥
+IsMember n (m ∷ ms) = (n ≡ m) ⊎ IsMember n ms
+
+-- the head is the entry with this number, which is free, of this class and not among the later ones
+pub record IsFirst (entries : List Entry) (class : ℕ) (head : Option ℕ) (number : ℕ) (next : Option ℕ) (later : List ℕ) : Type 0 where
+  pub at_head : head ≡ Some number
+  pub free : IsFreeEntry entries class number next
+  pub once : IsMember number later → ⊥
+
+-- from the head on, the free entries of this class are these, each once
+abbrev pub Chain : List Entry → ℕ → Option ℕ → List ℕ → Type 0
+Chain entries class head [] = head ≡ None
+Chain entries class head (number ∷ later) =
+    (next : Option ℕ) × IsFirst entries class head number next later × Chain entries class next later
+
+-- every free entry of this class is among these
+abbrev pub HasAllFree : List Entry → ℕ → List ℕ → Type 0
+HasAllFree entries class numbers = (number : ℕ) (next : Option ℕ) → IsFreeEntry entries class number next → IsMember number numbers
+
+-- the free entries of the class are linked from this head
+pub record IsLinked (entries : List Entry) (class : ℕ) (head : Option ℕ) : Type 0 where
+  pub numbers : List ℕ
+  pub chain : Chain entries class head numbers
+  pub complete : HasAllFree entries class numbers
+
+-- each entry is of one of the 64 classes, and the free entries of each class are linked from its head
+pub record AreLinked (entries : List Entry) (heads : List (Option ℕ)) : Type 0 where
+  pub many : length heads ≡ 64
+  pub classes : (number : ℕ) (entry : Entry) → slice_get entries number ≡ Some entry → entry.class < 64
+  pub linked : (class : ℕ) → class < 64 → IsLinked entries class (slice_index_or heads class None)

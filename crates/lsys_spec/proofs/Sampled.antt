@@ -1,0 +1,77 @@
+-- The sample is well formed, so the law of show speaks of something.
+use Rattle.std.proofs.Common.{arith, refl}
+use Rattle.lsys_syntax.specs.Rules.{IsRule}
+use Rattle.lsys_spec.specs.Systems.{WellFormed}
+use Rattle.lsys_spec.specs.ShownSample.{bare, rich, image, sample}
+
+bare-rule : IsRule bare
+bare-rule = record {
+  left = tt;
+  patterns = tt;
+  name = refl;
+  formals = tt;
+  right = tt;
+  items = tt;
+  right_balanced = refl;
+  condition = tt;
+  weight = tt;
+  successor = ((refl, tt), ((refl, tt), tt));
+  successor_balanced = refl;
+}
+
+rich-rule : IsRule rich
+rich-rule = record {
+  left = (((refl, (refl, tt), omega arith, omega arith), tt), (((refl, (refl, tt), omega arith, omega arith), tt), tt));
+  patterns = (tt, (tt, tt));
+  name = refl;
+  formals = (refl, tt);
+  right = (tt, ((tt, tt), ((refl, tt), (tt, ((refl, tt), tt)))));
+  items = (tt, (tt, (tt, (tt, (tt, tt)))));
+  right_balanced = refl;
+  condition = (refl, omega arith);
+  weight = (omega arith, refl);
+  successor = (((refl, (refl, tt), omega arith, omega arith), ((refl, omega arith), tt)), (tt, ((refl, tt), (tt, (tt, tt)))));
+  successor_balanced = refl;
+}
+
+image-rule : IsRule image
+image-rule = record {
+  left = tt;
+  patterns = tt;
+  name = refl;
+  formals = (refl, tt);
+  right = tt;
+  items = tt;
+  right_balanced = refl;
+  condition = (refl, omega arith);
+  weight = tt;
+  successor = (tt, ((tt, tt), (tt, tt)));
+  successor_balanced = refl;
+}
+
+pub sample-well_formed : WellFormed sample
+sample-well_formed = record {
+  labels = ((refl, (refl, tt)), ((refl, tt), (tt, tt)));
+  groups = ((refl, tt), (tt, tt));
+  rules = (
+    record { table = (refl, (refl, (refl, (refl, tt))), omega arith); label = (refl, tt, omega arith); rule = bare-rule },
+    (record { table = (refl, (refl, (refl, (refl, (refl, (refl, tt))))), omega arith); label = (refl, tt, omega arith); rule = rich-rule }, tt),
+  );
+  homomorphisms = (((refl, tt, omega arith), image-rule, (refl, refl, refl, tt)), tt);
+  rules_accepted = ((refl, refl, refl, omega arith), ((refl, refl, refl, omega arith), tt));
+  homomorphisms_accepted = ((refl, refl, refl, omega arith), tt);
+  axiom_symbols = ((refl, (omega arith, (omega arith, tt))), (tt, (((refl, (refl, tt), omega arith, omega arith), tt), ((refl, tt), (tt, (tt, tt))))));
+  axiom_balanced = refl;
+  axiom_accepted = refl;
+  ignored_names = (tt, ((refl, (refl, tt), omega arith, omega arith), tt));
+  ignored_once = ((refl, tt), (tt, tt));
+  words = ((refl, (refl, (refl, (refl, tt))), omega arith), ((refl, (refl, (refl, (refl, (refl, (refl, tt))))), omega arith), tt));
+  some_word = omega arith;
+  scheduled = (refl, (refl, tt));
+  small_seed = omega arith;
+  few_tables = omega arith;
+  few_rules = omega arith;
+  few_words = omega arith;
+  few_ignored = omega arith;
+  shallow = omega arith;
+}

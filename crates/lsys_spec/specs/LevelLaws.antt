@@ -1,0 +1,38 @@
+-- What is said of each level of a system, and of its questions after an edit.
+use Rattle.std.specs.Prelude.{◌≡◌, ℕ, Bool, true, Some, Ok, List, [], length, slice_get, get_or, count_by, sum_by, if◌then◌else◌}
+use Rattle.lsys_syntax.specs.Strings.{balanced}
+use Rattle.lsys_spec.specs.Systems.{System, Each}
+use Rattle.lsys_spec.specs.Levels.{Symbol, lineage}
+use Rattle.lsys_spec.specs.Walks.{Entry, named}
+use Rattle.lsys_spec.specs.Meaning.{meaning}
+use Rattle.lsys_spec.specs.Questions.{Question, questions}
+use Rattle.lsys_spec.specs.Standings.{Settled, is_candidate}
+
+-- each `[` of the axiom and of a rule's successor has its `]`, and there are no others
+pub record HasBalance (s : System) : Type 0 where
+  pub in_axiom : balanced 0 s.axiom_string ≡ true
+  pub in_successors : Each (λ p. balanced 0 p.rule.successor ≡ true) s.rules
+
+-- where the system has a meaning, P holds of each of its levels, and of the level's number
+abbrev pub AtEachLevel : System → (ℕ → List Symbol → Type 0) → Type 0
+AtEachLevel s P = (limit : ℕ) (levels : List (List Symbol)) → meaning s limit ≡ Ok levels → (t : ℕ) (x : List Symbol) → slice_get levels t ≡ Some x → P t x
+
+-- a symbol of this lineage stands in the level
+abbrev pub StandsIn : List Symbol → List ℕ → Type 0
+StandsIn x l = (p : ℕ) × (a : Symbol) × (slice_get x p ≡ Some a) × (lineage a ≡ l)
+
+-- every symbol that these entries name stands in the new level as in the old
+abbrev pub NoneDisturbed : List Symbol → List Symbol → List Entry → Type 0
+NoneDisturbed old new es = Each (λ e. Each (Settled old new) (named e)) es
+
+-- the questions of a new system, of levels ys, that may be other ones than those of the old, of levels xs
+abbrev pub may_differ : System → System → List (List Symbol) → List (List Symbol) → Question → Bool
+may_differ old new xs ys q = is_candidate old new (get_or xs q.level []) (get_or ys q.level []) (questions old xs) q
+
+-- how many they are
+abbrev pub candidates : System → System → List (List Symbol) → List (List Symbol) → ℕ
+candidates old new xs ys = count_by (may_differ old new xs ys) (questions new ys)
+
+-- the entries that they read in all
+abbrev pub candidate_visits : System → System → List (List Symbol) → List (List Symbol) → ℕ
+candidate_visits old new xs ys = sum_by (λ q. if may_differ old new xs ys q then length q.trace else 0) (questions new ys)

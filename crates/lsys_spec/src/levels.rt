@@ -1,0 +1,44 @@
+//! Laws of the cut, and of levels.
+
+ghost use Rattle.std.specs.Prelude.{◌≡◌, ◌+◌, ℕ, true, Some, List, map, length, slice_get, ◌↔◌};
+ghost use Rattle.lsys_syntax.specs.Strings.{IsModuleName};
+ghost use Rattle.lsys_spec.specs.Systems.{System, WellFormed};
+ghost use Rattle.lsys_spec.specs.Levels.{ModuleValue, Symbol, Module, lineage, balanced, IsLevel};
+ghost use Rattle.lsys_spec.specs.Cuts.{Raw, Plain, raw_balanced, cut, IsCutOff, is_cut_off, kept, Rising};
+ghost use Rattle.lsys_spec.specs.LevelLaws.{HasBalance, AtEachLevel};
+
+/// What a cut leaves of a balanced string is balanced.
+pub fn law_of_balanced_cuts()
+    ensures { (x : List Raw) → raw_balanced 0 x ≡ true → balanced 0 (cut x) ≡ true }
+{}
+
+/// A string without cuts stays as it is, so cutting twice is cutting once.
+pub fn law_of_repeated_cuts()
+    ensures without_cuts { (y : List Symbol) → cut (map Plain y) ≡ y }
+    ensures twice { (x : List Raw) → cut (map Plain (cut x)) ≡ cut x }
+{}
+
+/// The one pass of the cut leaves exactly the symbols that no cut cuts off, judged place by place.
+pub fn law_of_cut_places()
+    ensures cut_off { (x : List Raw) (p : ℕ) → IsCutOff x p ↔ (is_cut_off x p ≡ true) }
+    ensures leaves { (x : List Raw) → kept (is_cut_off x) x ≡ cut x }
+{}
+
+/// In a balanced string of distinct lineages each bracket has its mate.
+pub fn law_of_mates()
+    ensures { (x : List Symbol) → balanced 0 x ≡ true → Rising x → IsLevel x }
+{}
+
+/// Where the axiom and the successors are balanced, so is each level; its lineages rise, so each stands there once, and
+/// those of level t have t + 1 numbers. In a well-formed system each module has a name of the language.
+pub fn law_of_levels()
+    ensures well_formed { (s : System) → WellFormed s → HasBalance s }
+    ensures balance { (s : System) → HasBalance s → AtEachLevel s (λ t x. balanced 0 x ≡ true) }
+    ensures rise { (s : System) → HasBalance s → AtEachLevel s (λ t x. Rising x) }
+    ensures mates { (s : System) → HasBalance s → AtEachLevel s (λ t x. IsLevel x) }
+    ensures generations { (s : System) → HasBalance s
+        → AtEachLevel s (λ t x. (p : ℕ) (a : Symbol) → slice_get x p ≡ Some a → length (lineage a) ≡ t + 1) }
+    ensures names { (s : System) → WellFormed s
+        → AtEachLevel s (λ t x. (p : ℕ) (l : List ℕ) (m : ModuleValue)
+        → slice_get x p ≡ Some (Module l m) → IsModuleName m.name) }
+{}
