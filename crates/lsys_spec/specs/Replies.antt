@@ -3,9 +3,10 @@ use Rattle.std.specs.Prelude.{ℕ, Bool, true, false, Option, Some, None, Result
 use Rattle.lsys_syntax.specs.Lines.{without_cr}
 use Rattle.lsys_syntax.specs.Tokens.{Token, tokens}
 use Rattle.lsys_syntax.specs.Commands.{Command, print_string, print_segments, print_svg, print_system, quit}
-use Rattle.lsys_syntax.specs.LineMachine.{Verdict, sentence, stops, too_deep, verdict, parse_command}
+use Rattle.lsys_syntax.specs.LineMachine.{Verdict, sentence, stops, too_deep, verdict}
 use Rattle.lsys_spec.specs.Systems.{System}
 use Rattle.lsys_spec.specs.Edits.{Refusal, refusal, changed}
+pub use Rattle.lsys_spec.specs.ReadBack.{spelled_by}
 use Rattle.lsys_spec.specs.Levels as L
 use Rattle.lsys_spec.specs.Meaning as M
 use Rattle.lsys_spec.specs.Questions.{Question, questions, need}
@@ -106,10 +107,6 @@ bare_reply limit s bare = elim (is_passed_over bare) [ true ↦ said s [] | fals
 -- the reply to a line, its CR still there
 abbrev pub reply : ℕ → System → List ℕ → Reply
 reply limit s line = elim (is_long line) [ true ↦ refused s (codes "syntax long") | false ↦ bare_reply limit s (without_cr line) ]
-
-abbrev pub spelled_by : Result (List Token) ℕ → Option Command
-spelled_by (Err column) = None
-spelled_by (Ok ts) = parse_command (map (λ t. t.kind) ts)
 
 abbrev pub bare_spelled : List ℕ → Option Command
 bare_spelled bare = elim (is_passed_over bare) [ true ↦ None | false ↦ spelled_by (tokens bare) ]
