@@ -1,15 +1,14 @@
 -- Without contexts a module's successor is the same wherever it stands.
-use Rattle.std.proofs.Common.{◌≡◌, ℕ, ◌+◌, Bool, true, false, ◌&&◌, List, [], ◌∷◌, ◌++◌, length, map, refl, ap, sym, ◌∙◌, true≢false, append_assoc, if◌then◌else◌}
-use Rattle.std.specs.Prelude.{ℤ, Option, Some, None, Result, Ok, Err}
+use Rattle.std.proofs.Common.{◌≡◌, ℕ, ◌+◌, Bool, true, false, ◌&&◌, List, [], ◌∷◌, ◌++◌, length, map, refl, ap, sym, ◌∙◌, true≢false, append_assoc}
+use Rattle.std.specs.Prelude.{ℤ, None, Result, Ok, Err}
 use Rattle.lsys_syntax.specs.Strings.{ModuleName}
 use Rattle.lsys_syntax.specs.Strings as S
 use Rattle.lsys_spec.specs.Systems.{System, Each}
 use Rattle.lsys_spec.specs.Values.{◌and_then◌}
 use Rattle.lsys_spec.specs.Bodies.{Body, Pattern, Patterns, Done, OneOf, BranchOf, group}
 use Rattle.lsys_spec.specs.Levels.{ModuleValue, Step, Items, Symbol, Push, Pop, Module, plain, way, items_from}
-use Rattle.lsys_spec.specs.Walks.{Mark, Told, says}
-use Rattle.lsys_spec.specs.Choice.{Fault, Choice, Asking, contexts, group_from}
-use Rattle.lsys_spec.specs.Cuts.{Raw, Plain, Percent}
+use Rattle.lsys_spec.specs.Choice.{Fault, group_from}
+use Rattle.lsys_spec.specs.Cuts.{Raw}
 use Rattle.lsys_spec.specs.Meaning.{Refusal, OverLimit, FaultAt, numbered, any_weight, key_for, most_entries, ignores, asked, successor_by, successor, fault_at, children_from}
 use Rattle.lsys_spec.specs.Standings.{no_left, no_patterns, free}
 use Rattle.lsys_spec.specs.Morphisms.{IsContextFree, IsUnweighted, alone, rewritten, raw_plain, AreMade}

@@ -1,18 +1,17 @@
 -- Names that are ignored alike on a level make no difference to it.
-use Rattle.std.proofs.Common.{◌≡◌, ℕ, zero, suc, ◌+◌, Bool, true, false, ◌&&◌, List, [], ◌∷◌, ◌++◌, length, take, drop, refl, ap, sym, ◌∙◌, true≢false, arith}
-use Rattle.std.specs.Prelude.{ℤ, Option, Some, None, Result, Ok, Err, fold, not}
+use Rattle.std.proofs.Common.{◌≡◌, ℕ, zero, suc, ◌+◌, Bool, true, false, List, [], ◌∷◌, ◌++◌, length, take, drop, refl, ap, ◌∙◌, true≢false}
+use Rattle.std.specs.Prelude.{Option, Some, None, Ok, fold}
 use Rattle.lsys_syntax.specs.Strings.{ModuleName}
-use Rattle.lsys_syntax.specs.Strings as S
 use Rattle.lsys_spec.specs.Systems.{System, Each, same_name}
 use Rattle.lsys_spec.specs.Values.{◌and_then◌}
 use Rattle.lsys_spec.specs.Bodies.{Body, Pattern, Patterns, Done, OneOf, BranchOf, group}
-use Rattle.lsys_spec.specs.Levels.{ModuleValue, Symbol, Push, Pop, Module, lineage, Step, Passed, Around, OutOf, Reading, restored, read, way, Items, Nothing, One, Branch, Nest, outermost, within, innermost, with_module, with_branch, opened, items_of, items_from}
-use Rattle.lsys_spec.specs.Walks.{Mark, deeper, Told, says, before, followed, is_ignored, fits, met, behind, left_walk, ahead, joined, or_passed, right_walk, list_any}
-use Rattle.lsys_spec.specs.Choice.{Fault, contexts, right_after, group_from}
-use Rattle.lsys_spec.specs.Cuts.{Raw, Plain, cut}
-use Rattle.lsys_spec.specs.Meaning.{Refusal, numbered, key_for, most_entries, ignores, asked, successor_by, successor, fault_at, children_from, next_level}
+use Rattle.lsys_spec.specs.Levels.{ModuleValue, Symbol, Push, Pop, Module, Step, Passed, Around, OutOf, Reading, restored, read, way, Items, Nothing, One, Branch, Nest, outermost, within, innermost, with_module, with_branch, opened, items_of, items_from}
+use Rattle.lsys_spec.specs.Walks.{Mark, deeper, Told, before, followed, is_ignored, fits, met, behind, left_walk, ahead, joined, or_passed, right_walk}
+use Rattle.lsys_spec.specs.Choice.{right_after}
+use Rattle.lsys_spec.specs.Cuts.{Plain, cut}
+use Rattle.lsys_spec.specs.Meaning.{numbered, key_for, most_entries, ignores, asked, successor_by, successor, fault_at, children_from, next_level}
 use Rattle.lsys_spec.specs.Questions.{Question, question, where_any, questions_from, questions_at}
-use Rattle.lsys_spec.specs.Morphisms.{IsAlike, AreAlike, ignoring, is_named, occurs}
+use Rattle.lsys_spec.specs.Morphisms.{IsAlike, AreAlike, ignoring, occurs}
 use Rattle.lsys_spec.proofs.SameGroups.{FindSame, group_same}
 
 module _ (f g : ModuleName → Bool) where

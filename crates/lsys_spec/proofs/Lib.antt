@@ -15,10 +15,11 @@ pub mod Offspring
 pub mod Contexts
 pub mod Fronts
 pub mod NextSystems
-pub mod Groups
-pub mod SameGroups
 pub mod ContextFree
 pub mod Ignoring
+pub mod IgnoringLevels
+pub mod Groups
+pub mod SameGroups
 pub mod Eachs
 pub mod Equal
 pub mod Names

@@ -1,5 +1,5 @@
 -- What a line leaves behind.
-use Rattle.std.proofs.Common.{◌≡◌, ℕ, ◌+◌, Bool, true, false, List, [], ◌∷◌, ◌++◌, refl, ap, sym, ◌∙◌, true≢false, arith}
+use Rattle.std.proofs.Common.{◌≡◌, ℕ, Bool, true, false, List, [], refl, ap, sym, ◌∙◌, true≢false, arith}
 use Rattle.std.specs.Prelude.{Option, Some, None, Result, Ok, Err, length, map, codes}
 use Rattle.lsys_syntax.specs.Lines.{without_cr}
 use Rattle.lsys_syntax.specs.Tokens.{Token, tokens}
@@ -7,10 +7,9 @@ use Rattle.lsys_syntax.specs.Commands.{Command, set_axiom, put_production, drop_
 use Rattle.lsys_syntax.specs.LineMachine.{Verdict, sentence, stops, too_deep, verdict, command_in}
 use Rattle.lsys_spec.specs.Systems.{System}
 use Rattle.lsys_spec.specs.Edits.{Refusal, refusal, changed, apply}
-use Rattle.lsys_spec.specs.Edits as E
 use Rattle.lsys_spec.specs.Levels as L
-use Rattle.lsys_spec.specs.Refusals.{Reply, said, refused, is_long, is_passed_over, column_at}
-use Rattle.lsys_spec.specs.Replies.{shown, edited, accepted, levels_of, picture_of, unless_refused, verdict_reply, tokens_reply, bare_reply, reply, is_query, spelled, spelled_by}
+use Rattle.lsys_spec.specs.Refusals.{Reply, said, refused, is_long, is_passed_over}
+use Rattle.lsys_spec.specs.Replies.{shown, edited, accepted, levels_of, picture_of, unless_refused, verdict_reply, tokens_reply, reply, is_query, spelled, spelled_by}
 
 -- what holds of a reply in the system s, where o is the command that was spelled
 record Leaves (s : System) (o : Option Command) (r : Reply) : Type 0 where

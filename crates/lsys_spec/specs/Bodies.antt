@@ -1,5 +1,5 @@
 -- The body of a rule: what is left of it without its label, its table and the names of its formals.
-use Rattle.std.specs.Prelude.{ℕ, Bool, true, false, Option, Some, None, List, [], ◌∷◌, ◌++◌, ◌==◌, ◌%◌, ◌&&◌, bytes_eq, zero, suc, length, map, if◌then◌else◌, option_map}
+use Rattle.std.specs.Prelude.{ℕ, Bool, Option, List, [], ◌∷◌, ◌==◌, ◌%◌, ◌&&◌, bytes_eq, zero, suc, length, map, if◌then◌else◌, option_map}
 use Rattle.lsys_syntax.specs.Tokens.{NameText}
 use Rattle.lsys_syntax.specs.Strings.{ModuleName}
 use Rattle.lsys_syntax.specs.Strings as S

@@ -1,5 +1,5 @@
 -- What the rules of a group read at a module, and which one is chosen (ABOP 1.7, 1.8 and 1.10).
-use Rattle.std.specs.Prelude.{ℕ, zero, suc, ℤ, pos, negsuc, Bool, true, false, Option, Some, None, Result, Ok, Err, List, [], ◌∷◌, ◌++◌, ◌+◌, ◌==◌, length, map, flat_map, reverse, sum, if◌then◌else◌, nat_lt}
+use Rattle.std.specs.Prelude.{ℕ, zero, suc, ℤ, pos, negsuc, Bool, true, false, Option, Some, None, Result, Ok, Err, List, [], ◌∷◌, ◌++◌, ◌+◌, length, map, flat_map, reverse, sum, if◌then◌else◌, nat_lt}
 use Rattle.lsys_syntax.specs.Strings.{ModuleName}
 use Rattle.lsys_spec.specs.Draws.{draw_of, pick_of}
 use Rattle.lsys_spec.specs.Values.{Tree, value, Arith, is_zero}

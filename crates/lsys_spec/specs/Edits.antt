@@ -1,5 +1,5 @@
 -- What a command makes of a system, or why it is refused. A place is a number of tokens of the command's line, from 0.
-use Rattle.std.specs.Prelude.{◌≡◌, ℕ, Bool, true, false, not, Option, Some, None, Result, Ok, Err, List, [], ◌∷◌, ◌++◌, ◌&&◌, ◌||◌, ◌+◌, nat_lt, length, map, bytes_eq, ℤ, if◌then◌else◌}
+use Rattle.std.specs.Prelude.{ℕ, Bool, true, false, not, Option, Some, None, Result, Ok, Err, List, [], ◌∷◌, ◌++◌, ◌&&◌, ◌||◌, ◌+◌, nat_lt, length, map, bytes_eq, ℤ, if◌then◌else◌}
 use Rattle.lsys_syntax.specs.Strings.{Symbol, ModuleName, Module, Push, Pop, Cut, Signed, signed_value}
 use Rattle.lsys_syntax.specs.Rules.{Rule, Production}
 use Rattle.lsys_syntax.specs.Checks.{rule_unknown, rule_repeated, rule_many, axiom_many}

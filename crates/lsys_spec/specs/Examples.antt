@@ -1,8 +1,7 @@
 -- Worked examples, which the checker computes.
-use Rattle.std.specs.Prelude.{◌≡◌, ℕ, List, [], ◌∷◌, ◌++◌, codes, refl}
+use Rattle.std.specs.Prelude.{◌≡◌, ℕ, List, codes, refl}
 use Rattle.lsys_spec.specs.Interim.{reply}
 use Rattle.lsys_spec.specs.Output.{out, text_of, none}
-use Rattle.std.specs.Fmt.{digits}
 
 abbrev run : List ℕ → List ℕ
 run script = text_of (out (reply 100000) script none)

@@ -1,12 +1,12 @@
 -- The homomorphism, applied once to the last level (HD0L systems).
-use Rattle.std.specs.Prelude.{ℕ, ℤ, Bool, true, false, Option, Some, None, Result, Ok, Err, List, [], ◌∷◌, ◌++◌, ◌+◌, ◌==◌, ◌&&◌, length, nat_lt, if◌then◌else◌}
+use Rattle.std.specs.Prelude.{ℕ, ℤ, Bool, Result, Ok, Err, List, [], ◌∷◌, ◌++◌, ◌+◌, ◌==◌, ◌&&◌, length, nat_lt, if◌then◌else◌}
 use Rattle.lsys_syntax.specs.Strings.{ModuleName}
 use Rattle.lsys_syntax.specs.Strings as S
 use Rattle.lsys_spec.specs.Systems.{System, Homomorphism, same_name}
 use Rattle.lsys_spec.specs.Values.{Arith, ◌and_then◌}
 use Rattle.lsys_spec.specs.Bodies.{Body, body_of}
 use Rattle.lsys_spec.specs.Levels.{ModuleValue, Symbol, Push, Pop, Module}
-use Rattle.lsys_spec.specs.Choice.{Outcome, No, Yes, Fails, Fault, Arithmetic, judged}
+use Rattle.lsys_spec.specs.Choice.{Outcome, No, Yes, Fails, Arithmetic, judged}
 use Rattle.lsys_spec.specs.Meaning.{filled}
 
 pub data ImageRefusal : Type 0 where

@@ -3,7 +3,7 @@
 use Rattle.std.specs.Prelude.{ℕ, Bool, true, false, Option, Some, None, Result, Ok, Err, List, [], ◌∷◌, ◌++◌, ◌&&◌, map, codes, bytes_eq, option_map, if◌then◌else◌}
 use Rattle.lsys_syntax.specs.Lines.{without_cr}
 use Rattle.lsys_syntax.specs.Tokens.{NameText, short, Kind, Word, Name, Number, Arrow, Colon, Token, tokens}
-use Rattle.lsys_syntax.specs.Strings.{ModuleName, named, Symbol, Module}
+use Rattle.lsys_syntax.specs.Strings.{named, Symbol, Module}
 use Rattle.lsys_syntax.specs.Rules.{Rule}
 use Rattle.lsys_syntax.specs.Commands.{Command, set_axiom, put_production, set_depth, print_string, quit}
 use Rattle.lsys_spec.specs.Systems.{System}

@@ -1,16 +1,14 @@
 -- Levels, what is read in them, cuts and standings: examples that the checker computes.
-use Rattle.std.specs.Prelude.{◌≡◌, ℕ, ℤ, pos, negsuc, Bool, true, false, Option, Some, None, Result, Ok, Err, List, [], ◌∷◌, ◌++◌, map, flat_map, codes, refl}
-use Rattle.std.specs.Fmt.{digits}
+use Rattle.std.specs.Prelude.{◌≡◌, ℕ, true, false, Some, None, Ok, Err, List, [], ◌∷◌, map, codes, refl}
 use Rattle.lsys_syntax.specs.Tokens.{short}
-use Rattle.lsys_syntax.specs.Strings.{ModuleName, named, plus}
-use Rattle.lsys_syntax.specs.Strings as S
+use Rattle.lsys_syntax.specs.Strings.{named, plus}
 use Rattle.lsys_spec.specs.Systems.{System}
 use Rattle.lsys_spec.specs.Bodies.{table_at}
-use Rattle.lsys_spec.specs.Levels.{Symbol, Push, Pop, Module, lineage, close_of, balanced, Step, Passed, Around, OutOf, way, Items, Nothing, One, Branch, items_from}
-use Rattle.lsys_spec.specs.Walks.{Mark, Entry, Compared, Ignored, Out, Branched}
-use Rattle.lsys_spec.specs.Cuts.{Raw, Plain, Percent, cut}
+use Rattle.lsys_spec.specs.Levels.{Symbol, Push, Pop, Module, lineage, close_of, balanced, Passed, Around, OutOf, way, Nothing, One, Branch, items_from}
+use Rattle.lsys_spec.specs.Walks.{Mark, Compared, Ignored, Out, Branched}
+use Rattle.lsys_spec.specs.Cuts.{Plain, Percent, cut}
 use Rattle.lsys_spec.specs.Meaning.{first_level, last_level, meaning}
-use Rattle.lsys_spec.specs.Questions.{Question, questions, questions_at, need, least_visits}
+use Rattle.lsys_spec.specs.Questions.{Question, questions, least_visits}
 use Rattle.lsys_spec.specs.Standings.{is_disturbed, is_candidate, same_ignored}
 use Rattle.lsys_spec.specs.Morphisms.{occurs}
 use Rattle.lsys_spec.specs.Replies.{reply}

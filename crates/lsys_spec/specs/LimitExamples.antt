@@ -1,18 +1,18 @@
 -- The limits, each at its edge: examples that the checker computes.
-use Rattle.std.specs.Prelude.{◌≡◌, ℕ, ℤ, pos, Bool, true, false, Option, Some, None, Result, Ok, Err, List, [], ◌∷◌, ◌++◌, map, flat_map, replicate, length, codes, refl}
+use Rattle.std.specs.Prelude.{◌≡◌, ℕ, pos, Some, None, Ok, Err, List, [], ◌∷◌, ◌++◌, map, flat_map, replicate, length, codes, refl}
 use Rattle.std.specs.Fmt.{digits}
 use Rattle.lsys_syntax.specs.Tokens.{short}
 use Rattle.lsys_syntax.specs.Strings.{named}
 use Rattle.lsys_syntax.specs.Strings as S
-use Rattle.lsys_syntax.specs.Rules.{Rule, Production}
+use Rattle.lsys_syntax.specs.Rules.{Rule}
 use Rattle.lsys_syntax.specs.Commands.{put_production, put_homomorphism}
-use Rattle.lsys_spec.specs.Systems.{System, Homomorphism, opening}
+use Rattle.lsys_spec.specs.Systems.{System, opening}
 use Rattle.lsys_spec.specs.Edits.{refusal, many}
 use Rattle.lsys_spec.specs.Values.{DivideByZero}
-use Rattle.lsys_spec.specs.Levels.{Symbol, Push, Module}
+use Rattle.lsys_spec.specs.Levels.{Push, Module}
 use Rattle.lsys_spec.specs.Images.{ImageFault, ImageLimit, image_from}
 use Rattle.lsys_spec.specs.Meaning.{first_level}
-use Rattle.lsys_spec.specs.Questions.{Question, questions_at}
+use Rattle.lsys_spec.specs.Questions.{questions_at}
 use Rattle.lsys_spec.specs.Replies.{reply}
 use Rattle.lsys_spec.specs.Output.{run_with, out, none, last_system}
 

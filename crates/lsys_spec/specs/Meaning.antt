@@ -1,14 +1,14 @@
 -- Parallel rewriting, level by level (ABOP 1.2), the fault of a derivation, and the limit of its size.
-use Rattle.std.specs.Prelude.{ℕ, zero, suc, ℤ, Bool, true, false, Option, Some, None, Result, Ok, Err, List, [], ◌∷◌, ◌++◌, ◌+◌, length, map, sum_by, nat_lt, if◌then◌else◌, option_map}
+use Rattle.std.specs.Prelude.{ℕ, zero, suc, ℤ, Bool, false, Option, Some, None, Result, Ok, Err, List, [], ◌∷◌, ◌++◌, ◌+◌, length, sum_by, nat_lt, if◌then◌else◌}
 use Rattle.lsys_syntax.specs.Strings.{ModuleName}
 use Rattle.lsys_syntax.specs.Strings as S
 use Rattle.lsys_spec.specs.Draws.{key_of}
 use Rattle.lsys_spec.specs.Systems.{System, same_name}
 use Rattle.lsys_spec.specs.Values.{Tree, value, Arith, ◌and_then◌}
 use Rattle.lsys_spec.specs.Bodies.{Body, group}
-use Rattle.lsys_spec.specs.Levels.{ModuleValue, Symbol, Push, Pop, Module, lineage, way, items_from}
+use Rattle.lsys_spec.specs.Levels.{ModuleValue, Symbol, Push, Pop, Module, way, items_from}
 use Rattle.lsys_spec.specs.Walks.{Told, says, list_any}
-use Rattle.lsys_spec.specs.Choice.{Fault, Arithmetic, Choice, Nowhere, Chosen, Failed, Asking, group_from, is_some}
+use Rattle.lsys_spec.specs.Choice.{Fault, Arithmetic, Choice, Nowhere, Chosen, Failed, group_from, is_some}
 use Rattle.lsys_spec.specs.Cuts.{Raw, Plain, Percent, cut}
 
 -- these symbols as the children of a lineage, numbered from n on

@@ -9,7 +9,7 @@ use Rattle.lsys_spec.specs.Levels.{ModuleValue, Symbol, Push, Pop, Module, plain
 use Rattle.lsys_spec.specs.Walks.{list_any}
 use Rattle.lsys_spec.specs.Choice.{Fault}
 use Rattle.lsys_spec.specs.Cuts.{Raw, Plain, Percent}
-use Rattle.lsys_spec.specs.Meaning.{Refusal, OverLimit, FaultAt, any_weight, successor, ignores}
+use Rattle.lsys_spec.specs.Meaning.{Refusal, OverLimit, FaultAt, any_weight, successor}
 use Rattle.lsys_spec.specs.Standings.{free}
 
 -- in the table of level t no rule has a context

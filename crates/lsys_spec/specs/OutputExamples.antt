@@ -1,10 +1,10 @@
 -- Lines, sessions, values and the sample: examples that the checker computes.
-use Rattle.std.specs.Prelude.{◌≡◌, ℕ, ℤ, pos, negsuc, Bool, true, false, ◌||◌, ◌==◌, ◌-◌, ◌^◌, Option, Some, None, Result, Ok, Err, List, [], ◌∷◌, ◌++◌, map, flat_map, replicate, length, codes, refl}
+use Rattle.std.specs.Prelude.{◌≡◌, ℕ, pos, negsuc, true, false, ◌||◌, ◌==◌, ◌-◌, ◌^◌, Ok, Err, List, [], ◌∷◌, ◌++◌, map, flat_map, replicate, codes, refl}
 use Rattle.std.specs.Fmt.{digits}
-use Rattle.lsys_spec.specs.Values.{Arith, Overflow, DivideByZero, NegativePower, power, applied, product_of, comparison, fits}
-use Rattle.lsys_syntax.specs.Expressions.{divide, remainder, at_most}
+use Rattle.lsys_spec.specs.Values.{Overflow, NegativePower, power, applied, product_of, fits}
+use Rattle.lsys_syntax.specs.Expressions.{divide, remainder}
 use Rattle.lsys_spec.specs.Lattices.{square, vector}
-use Rattle.lsys_spec.specs.Pictures.{Box, box, pen_width}
+use Rattle.lsys_spec.specs.Pictures.{box, pen_width}
 use Rattle.lsys_spec.specs.Replies.{reply}
 use Rattle.lsys_spec.specs.Output.{out, text_of, none, any_refusal, any_memory, quits, whole_lines, run_with}
 use Rattle.lsys_spec.specs.Samples.{sample}
@@ -70,7 +70,7 @@ unfolding digits
 lack_of_memory = refl
 
 pub no_lack_in_long_lines :
-    text_of (out (reply 100000) (replicate 65537 59 ++ codes "\n;\n") (λ n. true)) ≡ codes "refused syntax long\n"
+    text_of (out (reply 100000) (replicate 65537 97 ++ codes "\n;\n") (λ n. true)) ≡ codes "refused syntax long\n"
 no_lack_in_long_lines = refl
 
 pub kinds_of_runs :

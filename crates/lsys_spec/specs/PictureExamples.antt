@@ -52,6 +52,18 @@ pub empty_svg :
 unfolding digits
 empty_svg = refl
 
+pub hexagonal_svg :
+    run (codes "lattice hexagonal\naxiom F+F(2)\nsvg\n")
+    ≡ codes "ok 0/0\nok 0/0\n<svg xmlns=\"http://www.w3.org/2000/svg\" viewBox=\"-10 -44 60 54\">\n<line x1=\"0\" y1=\"0\" x2=\"20\" y2=\"0\" stroke=\"black\" stroke-width=\"1\"/>\n<line x1=\"20\" y1=\"0\" x2=\"40\" y2=\"-34\" stroke=\"black\" stroke-width=\"1\"/>\n</svg>\n"
+unfolding digits
+hexagonal_svg = refl
+
+pub cubic_svg :
+    run (codes "lattice cubic\naxiom F[+F]!(3)^F\nsvg\n")
+    ≡ codes "ok 0/0\nok 0/0\n<svg xmlns=\"http://www.w3.org/2000/svg\" viewBox=\"-44 -20 54 40\">\n<line x1=\"0\" y1=\"0\" x2=\"-17\" y2=\"10\" stroke=\"black\" stroke-width=\"1\"/>\n<line x1=\"-17\" y1=\"10\" x2=\"-34\" y2=\"0\" stroke=\"black\" stroke-width=\"1\"/>\n<line x1=\"-17\" y1=\"10\" x2=\"-17\" y2=\"-10\" stroke=\"black\" stroke-width=\"3\"/>\n</svg>\n"
+unfolding digits
+cubic_svg = refl
+
 -- the move that would lead too far, by its number in the image
 pub far :
     run (codes "axiom F(1000000000)\nsegments\naxiom +[F(-1000000001)]\nsegments\nhom h: + => A+\nsegments\n")

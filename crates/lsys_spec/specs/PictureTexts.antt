@@ -1,5 +1,5 @@
 -- What `segments` and `svg` print.
-use Rattle.std.specs.Prelude.{ℕ, ℤ, List, [], ◌∷◌, ◌++◌, length, decimal, codes, flat_map}
+use Rattle.std.specs.Prelude.{ℕ, List, [], ◌∷◌, ◌++◌, length, decimal, codes, flat_map}
 use Rattle.std.specs.Fmt.{signed_decimal}
 use Rattle.lsys_spec.specs.Lattices.{Lattice, Vector, projected}
 use Rattle.lsys_spec.specs.Pictures.{Segment, Box, box}

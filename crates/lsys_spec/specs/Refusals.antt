@@ -1,9 +1,9 @@
 -- A reply to one line, and the texts of refusals.
-use Rattle.std.specs.Prelude.{ℕ, zero, suc, Bool, true, false, not, Option, Some, None, Result, Ok, Err, List, [], ◌∷◌, ◌++◌, ◌==◌, ◌&&◌, ◌||◌, ◌+◌, length, map, codes, decimal, nat_lt, if◌then◌else◌}
+use Rattle.std.specs.Prelude.{ℕ, zero, suc, Bool, true, false, List, [], ◌∷◌, ◌++◌, ◌||◌, ◌+◌, length, codes, decimal, nat_lt}
 use Rattle.lsys_syntax.specs.Lines.{is_blank_line, is_comment}
 use Rattle.lsys_syntax.specs.Tokens.{Token}
 use Rattle.lsys_spec.specs.Systems.{System}
-use Rattle.lsys_spec.specs.Edits.{Why, unknown_name, duplicate, mixed, wrong_label, wrong_table, wrong_level, many, Refusal}
+use Rattle.lsys_spec.specs.Edits.{Why, unknown_name, duplicate, mixed, wrong_label, wrong_table, wrong_level, many}
 use Rattle.lsys_spec.specs.Values.{Arith, Overflow, DivideByZero, NegativePower}
 use Rattle.lsys_spec.specs.Choice.{Fault, Arithmetic, NegativeWeight, WeightTotal, TooFar}
 use Rattle.lsys_spec.specs.Meaning as M

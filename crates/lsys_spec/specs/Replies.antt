@@ -3,9 +3,10 @@ use Rattle.std.specs.Prelude.{ℕ, Bool, true, false, Option, Some, None, Result
 use Rattle.lsys_syntax.specs.Lines.{without_cr}
 use Rattle.lsys_syntax.specs.Tokens.{Token, tokens}
 use Rattle.lsys_syntax.specs.Commands.{Command, print_string, print_segments, print_svg, print_system, quit}
-use Rattle.lsys_syntax.specs.LineMachine.{Verdict, sentence, stops, too_deep, verdict, parse_command}
+use Rattle.lsys_syntax.specs.LineMachine.{Verdict, sentence, stops, too_deep, verdict}
 use Rattle.lsys_spec.specs.Systems.{System}
 use Rattle.lsys_spec.specs.Edits.{Refusal, refusal, changed}
+pub use Rattle.lsys_spec.specs.ReadBack.{spelled_by}
 use Rattle.lsys_spec.specs.Levels as L
 use Rattle.lsys_spec.specs.Meaning as M
 use Rattle.lsys_spec.specs.Questions.{Question, questions, need}
@@ -19,14 +20,23 @@ abbrev pub shown : {A : Type 0} → System → (A → List ℕ) → Result A (Li
 shown s text (Ok a) = said s (text a)
 shown s text (Err why) = refused s why
 
+-- a refusal by its text
+abbrev pub or_text : {A E : Type 0} → (E → List ℕ) → Result A E → Result A (List ℕ)
+or_text text (Ok a) = Ok a
+or_text text (Err e) = Err (text e)
+
 -- the levels of a system, or the text of the refusal
 abbrev pub levels_of : ℕ → System → Result (List (List L.Symbol)) (List ℕ)
-levels_of limit s = elim (M.meaning s limit) [ Ok levels ↦ Ok levels | Err r ↦ Err (derivation_text r) ]
+levels_of limit s = or_text derivation_text (M.meaning s limit)
+
+abbrev pub or_empty : Option (List L.Symbol) → List L.Symbol
+or_empty (Some x) = x
+or_empty None = []
 
 -- the level of this number; without one, the last
 abbrev pub level_at : Option ℕ → List (List L.Symbol) → List L.Symbol
 level_at None levels = M.last_level levels
-level_at (Some t) levels = elim (slice_get levels t) [ Some x ↦ x | None ↦ [] ]
+level_at (Some t) levels = or_empty (slice_get levels t)
 
 abbrev pub string_line : Option ℕ → List (List L.Symbol) → List ℕ
 string_line t levels = level_text (level_at t levels) ++ line_feed
@@ -38,7 +48,7 @@ picture_refusal_text (Far n) = with_number (codes "far") n
 -- the picture of the last level, or the text of the refusal
 abbrev pub picture_of : System → Result (List (List L.Symbol)) (List ℕ) → Result (List Segment) (List ℕ)
 picture_of s (Err why) = Err why
-picture_of s (Ok levels) = elim (picture s (M.last_level levels)) [ Ok gs ↦ Ok gs | Err r ↦ Err (picture_refusal_text r) ]
+picture_of s (Ok levels) = or_text picture_refusal_text (picture s (M.last_level levels))
 
 -- the questions of a system; where it has no levels, none
 abbrev pub questions_of : System → Result (List (List L.Symbol)) (List ℕ) → List Question
@@ -97,10 +107,6 @@ bare_reply limit s bare = elim (is_passed_over bare) [ true ↦ said s [] | fals
 -- the reply to a line, its CR still there
 abbrev pub reply : ℕ → System → List ℕ → Reply
 reply limit s line = elim (is_long line) [ true ↦ refused s (codes "syntax long") | false ↦ bare_reply limit s (without_cr line) ]
-
-abbrev pub spelled_by : Result (List Token) ℕ → Option Command
-spelled_by (Err column) = None
-spelled_by (Ok ts) = parse_command (map (λ t. t.kind) ts)
 
 abbrev pub bare_spelled : List ℕ → Option Command
 bare_spelled bare = elim (is_passed_over bare) [ true ↦ None | false ↦ spelled_by (tokens bare) ]

@@ -112,6 +112,12 @@ pub arities :
 unfolding digits
 arities = refl
 
+pub context_arities :
+    run (codes "axiom A(1)BA(2)\nproduction p: A < B => X\nproduction q: B > A => X\ndepth 1\nstring\nproduction r: A(x) < B > A(y) => X(x,y)\nstring\n")
+    ≡ codes "ok 0/0\nok 0/0\nok 0/0\nok 1/1\nA(1)BA(2)\nok 1/1\nA(1)X(1,2)A(2)\n"
+unfolding digits
+context_arities = refl
+
 -- a left context leaves branches and enters none
 pub no_neighbour_in_another_branch :
     run (codes "axiom A[B[C]D]E\nproduction p: C < D => X\nproduction q: B < E => X\nproduction r: A < E => Y\nproduction s: B < D => Z\ndepth 1\nstring\n")

@@ -1,7 +1,7 @@
 -- What `string` and `show` print.
-use Rattle.std.specs.Prelude.{ℕ, ℤ, Option, Some, List, [], ◌∷◌, ◌++◌, map}
+use Rattle.std.specs.Prelude.{ℕ, Some, List, [], ◌∷◌, ◌++◌, map}
 use Rattle.lsys_syntax.specs.Pieces.{text_of}
-use Rattle.lsys_syntax.specs.Strings.{Symbol, string_text}
+use Rattle.lsys_syntax.specs.Strings.{string_text}
 use Rattle.lsys_syntax.specs.Rules.{Production}
 use Rattle.lsys_syntax.specs.Commands.{Command, set_axiom, put_production, set_ignored, set_schedule, set_seed, set_depth, set_lattice, put_homomorphism, command_pieces}
 use Rattle.lsys_spec.specs.Systems.{System, Homomorphism, written}

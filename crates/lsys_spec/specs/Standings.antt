@@ -1,5 +1,5 @@
 -- How a symbol stands in its level, which symbols an edit disturbs, and which questions may be other ones then.
-use Rattle.std.specs.Prelude.{◌≡◌, ℕ, zero, suc, Bool, true, false, not, Option, Some, None, List, [], ◌∷◌, ◌+◌, ◌==◌, ◌&&◌, ◌||◌, option_map, slice_get, if◌then◌else◌}
+use Rattle.std.specs.Prelude.{◌≡◌, ℕ, zero, suc, Bool, true, false, not, Option, Some, None, List, [], ◌∷◌, ◌+◌, ◌&&◌, ◌||◌, option_map, slice_get}
 use Rattle.lsys_syntax.specs.Strings.{ModuleName}
 use Rattle.lsys_spec.specs.Systems.{System, same_name}
 use Rattle.lsys_spec.specs.Bodies.{Body, Pattern, Patterns, Done, OneOf, BranchOf}

@@ -1,5 +1,5 @@
 -- A system, as the edits leave it, and when it is well formed.
-use Rattle.std.specs.Prelude.{◌≡◌, ℕ, Bool, true, false, not, Option, Some, None, List, [], ◌∷◌, ◌++◌, ◌==◌, ◌&&◌, ◌||◌, ◌+◌, ◌≤◌, ◌<◌, ◌^◌, length, map, codes, bytes_eq, ℤ, if◌then◌else◌}
+use Rattle.std.specs.Prelude.{◌≡◌, ℕ, Bool, true, false, not, Option, Some, None, List, [], ◌∷◌, ◌++◌, ◌==◌, ◌&&◌, ◌||◌, ◌+◌, ◌≤◌, ◌<◌, ◌^◌, length, map, codes, bytes_eq, ℤ}
 use Rattle.lsys_syntax.specs.Pieces.{token_text, IsWordText}
 use Rattle.lsys_syntax.specs.Strings.{Symbol, Signed, signed_of, Module, Push, Pop, Cut, ModuleName, name_kind, balanced, EachOf, IsModuleName, IsSymbol, IsParam}
 use Rattle.lsys_syntax.specs.Expressions.{Expr}

@@ -3,12 +3,12 @@
 ghost use Rattle.std.specs.Prelude.{◌≡◌, ℕ, ℤ, Bool, false, Result, Ok, List, [], ◌∷◌, ◌++◌, map};
 ghost use Rattle.lsys_syntax.specs.Strings.{ModuleName};
 ghost use Rattle.lsys_syntax.specs.Strings as S;
-ghost use Rattle.lsys_spec.specs.Systems.{System};
+ghost use Rattle.lsys_spec.specs.Systems.{System, Each};
 ghost use Rattle.lsys_spec.specs.Values.{◌and_then◌};
 ghost use Rattle.lsys_spec.specs.Levels.{ModuleValue, Symbol, plain};
 ghost use Rattle.lsys_spec.specs.Choice.{Fault};
-ghost use Rattle.lsys_spec.specs.Meaning.{successor, children_from, next_level, ignores};
-ghost use Rattle.lsys_spec.specs.Questions.{questions_at};
+ghost use Rattle.lsys_spec.specs.Meaning.{successor, children_from, next_level, meaning, ignores};
+ghost use Rattle.lsys_spec.specs.Questions.{questions_at, questions};
 ghost use Rattle.lsys_spec.specs.Morphisms.{IsContextFree, IsUnweighted, alone, rewritten, AreMade, AreAlike, ignoring, occurs};
 
 /// Without contexts a module's successor doesn't depend on where it stands.
@@ -27,9 +27,13 @@ pub fn law_of_morphisms()
         → rewritten h (xs ++ ys) ≡ (rewritten h xs and_then λ u. rewritten h ys and_then λ v. Ok (u ++ v)) }
 {}
 
-/// Ignored names matter only by the modules of a level: where other names ignore the same of them, the next level, its
-/// faults and the questions are the same. So a letter that doesn't occur may be ignored or not.
+/// Ignored names matter only by the modules of the levels: where other names ignore the same of them, the next level,
+/// its faults and the questions are the same, and so is what a system means. So a letter that doesn't occur may be
+/// ignored or not.
 pub fn law_of_ignored_names()
+    ensures meaning { (s : System) (names : List ModuleName) (limit : ℕ) (levels : List (List Symbol))
+        → meaning s limit ≡ Ok levels → Each (AreAlike (ignores names) (ignores s.ignored)) levels
+        → (meaning (ignoring names s) limit ≡ Ok levels) × (questions (ignoring names s) levels ≡ questions s levels) }
     ensures level { (s : System) (names : List ModuleName) (x : List Symbol)
         → AreAlike (ignores names) (ignores s.ignored) x
         → (t : ℕ) → next_level (ignoring names s) t x ≡ next_level s t x }
