@@ -77,7 +77,7 @@ all_signed-back : (zs : List ℤ) → map signed_value (map signed_of zs) ≡ zs
 all_signed-back [] = refl
 all_signed-back (z ∷ zs) = rw (signed-back z, all_signed-back zs)
 
-written-back : (xs : List (Symbol ℤ)) → values_of (written xs) ≡ xs
+pub written-back : (xs : List (Symbol ℤ)) → values_of (written xs) ≡ xs
 written-back [] = refl
 written-back (Module n zs ∷ xs) = rw (all_signed-back zs, written-back xs)
 written-back (Push ∷ xs) = ap (λ ys. Push ∷ ys) (written-back xs)

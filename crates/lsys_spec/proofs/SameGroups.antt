@@ -1,12 +1,12 @@
 -- A group is tried alike where its rules' contexts find the same.
-use Rattle.std.proofs.Common.{◌≡◌, ℕ, ◌+◌, Bool, true, false, ◌&&◌, List, [], ◌∷◌, ◌++◌, length, refl, ap, sym, ◌∙◌, true≢false}
-use Rattle.std.specs.Prelude.{ℤ, Option, Some, None, Result, Ok, Err, nat_lt, sum}
+use Rattle.std.proofs.Common.{◌≡◌, ℕ, ◌+◌, Bool, true, false, List, [], ◌∷◌, ◌++◌, length, refl, ap, ◌∙◌}
+use Rattle.std.specs.Prelude.{ℤ, Option, Result, Ok, Err, nat_lt, sum}
 use Rattle.lsys_syntax.specs.Strings.{ModuleName}
-use Rattle.lsys_spec.specs.Systems.{System, Each}
-use Rattle.lsys_spec.specs.Bodies.{Body, Pattern, Patterns, Done, OneOf, BranchOf}
-use Rattle.lsys_spec.specs.Levels.{ModuleValue, Step, Items, Symbol}
-use Rattle.lsys_spec.specs.Walks.{Mark, Told, says, followed}
-use Rattle.lsys_spec.specs.Choice.{Fault, Outcome, No, Yes, Fails, Taken, Choice, Asking, contexts, outcome, decided, with_weight, weighed, weights, unless_over, largest_weight, is_some, group_from}
+use Rattle.lsys_spec.specs.Systems.{Each}
+use Rattle.lsys_spec.specs.Bodies.{Body}
+use Rattle.lsys_spec.specs.Levels.{ModuleValue, Step, Items}
+use Rattle.lsys_spec.specs.Walks.{Mark, Told, followed}
+use Rattle.lsys_spec.specs.Choice.{Fault, Outcome, No, Yes, Fails, Taken, Choice, Asking, contexts, outcome, decided, with_weight, weights, unless_over, largest_weight, is_some, group_from}
 
 over_same : (t u : Told Choice) (b : Bool) → t ≡ u → unless_over b t ≡ unless_over b u
 over_same t u b e = ap (unless_over b) e

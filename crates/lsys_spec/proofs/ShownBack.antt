@@ -1,5 +1,5 @@
 -- The script that show prints, cut into lines and read, gives the system again.
-use Rattle.std.proofs.Common.{◌≡◌, ℕ, zero, Bool, true, false, not, Some, Result, Ok, Err, List, [], ◌∷◌, ◌++◌, ◌==◌, ◌<◌, ◌≤◌, map, length, suc, nat_le, refl, ap, ◌∙◌, sym, subst, arith, decimal, ℤ}
+use Rattle.std.proofs.Common.{◌≡◌, ℕ, zero, Bool, true, false, Some, Result, Ok, Err, List, [], ◌∷◌, ◌++◌, ◌==◌, ◌<◌, ◌≤◌, map, length, suc, nat_le, refl, ap, ◌∙◌, sym, subst, arith, decimal, ℤ}
 use Rattle.std.proofs.lemmas.Bool.Decides.{nat_tests}
 use Rattle.std.proofs.lemmas.Fmt.{decimal_is_IsNumeral}
 use Rattle.lsys_syntax.specs.Lines.{lines_of, without_cr}
@@ -9,7 +9,7 @@ use Rattle.lsys_syntax.specs.Strings.{Symbol, Module, Push, Pop, Cut, signed_of,
 use Rattle.lsys_syntax.specs.Rules.{Production, IsRule, IsProduction}
 use Rattle.lsys_syntax.specs.Commands.{Command, set_axiom, put_production, drop_rule, set_ignored, set_schedule, set_seed, set_depth, set_lattice, put_homomorphism, print_string, print_segments, print_svg, print_system, quit, command_pieces, IsCommand, IsHomomorphism, nesting}
 use Rattle.lsys_syntax.specs.LineMachine.{parse_command, command_in}
-use Rattle.lsys_syntax.proofs.Bytes.{differs, AllDigits-Every}
+use Rattle.lsys_syntax.proofs.Bytes.{AllDigits-Every}
 use Rattle.lsys_syntax.proofs.StringsRead.{value_is_signed}
 use Rattle.lsys_syntax.proofs.LineReads.{command-reads, line-reads, kinds-placed}
 use Rattle.lsys_syntax.proofs.LineComplete.{command-sentence}
@@ -162,14 +162,14 @@ each-value : (zs : List ℤ) → EachOf IsParam zs → EachOf IsSigned (map sign
 each-value [] g = tt
 each-value (z ∷ zs) g = (value_is_signed z g.0, each-value zs g.1)
 
-written-symbols : (xs : List (Symbol ℤ)) → EachOf (IsSymbol IsParam) xs → EachOf (IsSymbol IsSigned) (written xs)
+pub written-symbols : (xs : List (Symbol ℤ)) → EachOf (IsSymbol IsParam) xs → EachOf (IsSymbol IsSigned) (written xs)
 written-symbols [] g = tt
 written-symbols (Module n zs ∷ xs) g = ((g.0.0, each-value zs g.0.1), written-symbols xs g.1)
 written-symbols (Push ∷ xs) g = (tt, written-symbols xs g.1)
 written-symbols (Pop ∷ xs) g = (tt, written-symbols xs g.1)
 written-symbols (Cut ∷ xs) g = (tt, written-symbols xs g.1)
 
-written-balanced : (n : ℕ) (xs : List (Symbol ℤ)) → balanced n xs ≡ true → balanced n (written xs) ≡ true
+pub written-balanced : (n : ℕ) (xs : List (Symbol ℤ)) → balanced n xs ≡ true → balanced n (written xs) ≡ true
 written-balanced n [] b = b
 written-balanced n (Module m zs ∷ xs) b = written-balanced n xs b
 written-balanced n (Push ∷ xs) b = written-balanced (suc n) xs b

@@ -1,5 +1,5 @@
 -- The cut (ABOP chapter 3): `%` takes away itself and what follows it in its branch. And the order of lineages.
-use Rattle.std.specs.Prelude.{◌++◌, ◌≡◌, ◌≤◌, ◌+◌, ◌-◌, ℕ, zero, suc, Bool, true, false, Option, Some, None, List, [], ◌∷◌, ◌==◌, ◌&&◌, ◌||◌, ◌<◌, ◌⊎◌, take, drop, slice_get, if◌then◌else◌}
+use Rattle.std.specs.Prelude.{◌≡◌, ◌≤◌, ◌-◌, ℕ, zero, suc, Bool, true, false, Option, Some, None, List, [], ◌∷◌, ◌==◌, ◌&&◌, ◌||◌, ◌<◌, ◌⊎◌, take, drop, slice_get, if◌then◌else◌}
 use Rattle.lsys_spec.specs.Levels.{Symbol, Push, Pop, Module, lineage}
 
 -- a symbol of a string in which the cuts still stand

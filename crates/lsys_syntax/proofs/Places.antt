@@ -138,7 +138,7 @@ ended-deep : (n i : ℕ) (o : Option Command) → ended n o ≡ too_deep i → �
 ended-deep n i None e = cc
 ended-deep n i (Some c) e = cc
 
-is_deep : (m n : ℕ) → nat_lt m n ≡ true → m < n
+pub is_deep : (m n : ℕ) → nat_lt m n ≡ true → m < n
 is_deep m n e = grind (arith, nat_tests, e)
 
 take-none : (ks : List Kind) → take 0 ks ≡ []
@@ -163,7 +163,7 @@ deep-from (k ∷ ks) n i s g e =
     tests-deep (is_stop (step s k)) (nat_lt nesting_bound (depth (step s k))) n i v (sym (verdict-tests n s k ks) ∙ e) in
     deep-next s k ks n i g t.0 t.1 (λ q. deep-from ks (n + 1) i (step s k) t.0 q)
 
-tokens-front : (n : ℕ) (ks : List Kind) → AreTokens ks → AreTokens (take n ks)
+pub tokens-front : (n : ℕ) (ks : List Kind) → AreTokens ks → AreTokens (take n ks)
 tokens-front zero ks g = subst AreTokens (sym (take-none ks)) tt
 tokens-front (suc n) [] g = tt
 tokens-front (suc n) (k ∷ ks) g = (g.0, tokens-front n ks g.1)

@@ -10,6 +10,7 @@ pub mod Rules
 pub mod RuleMachine
 pub mod Checks
 pub mod Commands
+pub mod ExpressionPlaces
 pub mod LineMachine
 pub mod Sentences
 pub mod Examples

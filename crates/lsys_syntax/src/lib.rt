@@ -3,12 +3,16 @@
 //! Definitions that contracts cite stand in `specs/`. The functions here have empty bodies: the contract is the law.
 #![tactic(auto)]
 
-ghost use Rattle.std.specs.Prelude.{◌≡◌, ◌≤◌, ◌<◌, List, ℕ, ℤ, zero, suc, Ok, [], ◌∷◌, map, take, length};
+ghost use Rattle.std.specs.Prelude.{◌≡◌, ◌≤◌, ◌<◌, List, ℕ, ℤ, zero, suc, Ok, Some, [], ◌∷◌, ◌++◌, map, take, length};
 ghost use Rattle.lsys_syntax.specs.Lines.{lines_of};
 ghost use Rattle.lsys_syntax.specs.Tokens.{Kind, Token, tokens, tokens_from, First, Modules};
 ghost use Rattle.lsys_syntax.specs.Pieces.{Piece, text_of, kinds_of, placed, Reads, anything};
 ghost use Rattle.lsys_syntax.specs.Strings.{Symbol, AreSymbols, string_text, string_pieces, value_pieces};
 ghost use Rattle.lsys_syntax.specs.Commands.{Command, IsCommand, command_pieces, nesting};
+ghost use Rattle.lsys_syntax.specs.Expressions.{Expr, expr_kinds, IsExpr};
+ghost use Rattle.lsys_syntax.specs.Nesting.{expr_nesting};
+ghost use Rattle.lsys_syntax.specs.ExpressionPlaces as places;
+ghost use Rattle.lsys_syntax.specs.ExpressionPlaces.{BeginsExpression, IsAnyExpression, BeginsAnyExpression, CantGoOn, read_expr, extent, ends};
 ghost use Rattle.lsys_syntax.specs.LineMachine.{verdict, sentence, stops, too_deep};
 ghost use Rattle.lsys_syntax.specs.Sentences.{AreTokens, IsSpelled, Begins, BeginsDeep, IsSpelling};
 
@@ -60,6 +64,34 @@ pub fn law_of_places()
         → Begins 32 (take (suc place) kinds) → ⊥ }
     ensures only_deep { (kinds : List Kind) (place : ℕ) → AreTokens kinds → verdict kinds ≡ too_deep place
         → BeginsDeep (take (suc place) kinds) }
+{}
+
+/// A law of expression places: the extent of an expression at the front of some tokens, its nesting at most 32. Where
+/// it ends, the tokens before the place are that expression, and with the token at the place none goes on, of any
+/// nesting. Where it stops, an expression begins with the tokens before the place, and none goes on with the token
+/// there; they are no whole one. Where it is too deep, only one of a greater nesting goes on. Each expression before
+/// a token that can't go on with it is found.
+pub fn law_of_expression_places()
+    ensures ends { (kinds : List Kind) (place : ℕ) (expr : Expr) → AreTokens kinds → extent kinds ≡ ends place expr
+        → (place ≤ length kinds) × (expr_kinds expr ≡ take place kinds) × IsExpr expr × (expr_nesting expr ≤ 32) }
+    ensures none_longer { (kinds : List Kind) (place : ℕ) (expr : Expr) → extent kinds ≡ ends place expr
+        → place < length kinds → BeginsAnyExpression (take (suc place) kinds) → ⊥ }
+    ensures before { (kinds : List Kind) (place : ℕ) → AreTokens kinds → extent kinds ≡ places.stops place
+        → (place ≤ length kinds) × BeginsExpression 32 (take place kinds) }
+    ensures none_goes_on { (kinds : List Kind) (place : ℕ) → extent kinds ≡ places.stops place → place < length kinds
+        → BeginsAnyExpression (take (suc place) kinds) → ⊥ }
+    ensures not_whole { (kinds : List Kind) (place : ℕ) → extent kinds ≡ places.stops place
+        → IsAnyExpression (take place kinds) → ⊥ }
+    ensures before_deep { (kinds : List Kind) (place : ℕ) → AreTokens kinds → extent kinds ≡ places.too_deep place
+        → (place < length kinds) × BeginsExpression 32 (take place kinds) }
+    ensures none_within { (kinds : List Kind) (place : ℕ) → extent kinds ≡ places.too_deep place
+        → BeginsExpression 32 (take (suc place) kinds) → ⊥ }
+    ensures only_deep { (kinds : List Kind) (place : ℕ) → AreTokens kinds → extent kinds ≡ places.too_deep place
+        → BeginsAnyExpression (take (suc place) kinds) }
+    ensures whole { (expr : Expr) (rest : List Kind) → IsExpr expr → expr_nesting expr ≤ 32 → CantGoOn rest
+        → extent (expr_kinds expr ++ rest) ≡ ends (length (expr_kinds expr)) expr }
+    ensures read { (kinds : List Kind) (place : ℕ) (expr : Expr) → extent kinds ≡ ends place expr
+        → read_expr (take place kinds) ≡ Some expr }
 {}
 
 /// A law of printed commands: the line of each is read as the tokens that it was printed from, each at the place

@@ -5,3 +5,4 @@ pub mod Reading
 pub mod Shapes
 pub mod Taken
 pub mod KindsSame
+pub mod LineTokens

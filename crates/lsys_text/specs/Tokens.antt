@@ -43,6 +43,10 @@ kind_of (Mark b) = mark_kind b
 abbrev pub token_of : Token → syntax.Token
 token_of t = record { kind = kind_of t.kind; start = t.start; stop = t.end }
 
+-- the kinds of some tokens
+abbrev pub kinds_of : List Token → List syntax.Kind
+kinds_of ts = map (λ t. kind_of t.kind) ts
+
 -- the byte of a mark is that of one of the 20
 abbrev pub IsMarkByte : TokenKind → Type 0
 IsMarkByte (Mark b) = IsTrue (is_mark b)
