@@ -1,0 +1,22 @@
+-- How an expression is kept.
+use Rattle.std.specs.Prelude.{◌≡◌, List, map, unwrap_or}
+use Rattle.lsys_syntax.specs.Expressions as syntax
+use Rattle.lsys_syntax.specs.ExpressionPlaces.{read_expr}
+use Rattle.lsys_text.specs.declared.token_kind.TokenKind.{TokenKind}
+use Rattle.lsys_text.specs.Tokens.{kind_of}
+use Rattle.lsys_expr.specs.declared.expr.Expr.TheInside.{Inside}
+use Rattle.lsys_expr.specs.Codes.{any_expr}
+use Rattle.lsys_expr.specs.Expression.{Expression}
+use Rattle.lsys_expr.specs.Trees.{tree_of}
+
+-- the expression that some kinds spell
+abbrev pub spelled_by : List TokenKind → syntax.Expr
+spelled_by kinds = unwrap_or (read_expr (map kind_of kinds)) any_expr
+
+-- what the kinds spell, and what the tree computes
+abbrev pub expression_of : Inside → Expression
+expression_of a = record { spelled = spelled_by a.kinds.items; tree = tree_of a.tree }
+
+-- the kinds are the tokens of the expression that they spell
+abbrev pub IsSpelled : Inside → Type 0
+IsSpelled a = syntax.expr_kinds (spelled_by a.kinds.items) ≡ map kind_of a.kinds.items

@@ -1,0 +1,48 @@
+-- The levels around an operand, the innermost first.
+use Rattle.std.specs.Prelude.{ℕ, ◌+◌, Bool, true, false, List, [], ◌∷◌}
+use Rattle.lsys_expr.specs.declared.levels.Level.{Level}
+
+-- nothing is open at it
+abbrev pub fresh : Level
+fresh = record { prefixes = 0; compared = false }
+
+-- how many prefixes, powers and parentheses are open around the innermost level
+abbrev pub outer_nesting : List Level → ℕ
+outer_nesting [] = 0
+outer_nesting (l ∷ ls) = outer_nesting ls + l.prefixes + 1
+
+-- how many are open at it
+abbrev pub nesting : List Level → ℕ
+nesting [] = 0
+nesting (l ∷ ls) = outer_nesting ls + l.prefixes
+
+-- with one more prefix or power
+abbrev pub deeper : List Level → List Level
+deeper [] = []
+deeper (l ∷ ls) = record { prefixes = l.prefixes + 1; compared = l.compared } ∷ ls
+
+-- with none
+abbrev pub shallow : List Level → List Level
+shallow [] = []
+shallow (l ∷ ls) = record { prefixes = 0; compared = l.compared } ∷ ls
+
+-- behind a comparison
+abbrev pub comparing : List Level → List Level
+comparing [] = []
+comparing (l ∷ ls) = record { prefixes = 0; compared = true } ∷ ls
+
+-- behind `&&` or `||`
+abbrev pub cleared : List Level → List Level
+cleared [] = []
+cleared (l ∷ ls) = fresh ∷ ls
+
+-- a comparison was read at the innermost level
+abbrev pub is_compared : List Level → Bool
+is_compared [] = false
+is_compared (l ∷ ls) = l.compared
+
+-- a parenthesis is open
+abbrev pub is_inside : List Level → Bool
+is_inside [] = false
+is_inside (l ∷ []) = false
+is_inside (l ∷ m ∷ ls) = true

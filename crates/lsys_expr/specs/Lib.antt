@@ -1,0 +1,13 @@
+pub mod Answers
+pub mod Expression
+pub mod Codes
+pub mod Trees
+pub mod InsideExpr
+pub mod Parts
+pub mod Frames
+pub mod Stacks
+pub mod Levels
+pub mod InsideLevels
+pub mod Roles
+pub mod Scanning
+pub mod Scanned

@@ -1,0 +1,87 @@
+-- What the scan keeps of the state of the definitions' reading.
+use Rattle.std.specs.Prelude.{◌≡◌, ◌<◌, ◌≤◌, ℕ, ◌+◌, Bool, true, false, List, [], ◌∷◌}
+use Rattle.lsys_syntax.specs.Expressions.{Expr}
+use Rattle.lsys_syntax.specs.ExpressionMachine as machine
+use Rattle.lsys_syntax.specs.ExpressionPlaces.{Extent, ends, stops, behind}
+use Rattle.lsys_expr.specs.declared.levels.Level.{Level}
+use Rattle.lsys_expr.specs.declared.scan.Awaited.{Awaited}
+use Rattle.lsys_expr.specs.declared.scan.Awaited.TheVariants.{Operand, Operator, SecondAnd, SecondOr}
+use Rattle.lsys_expr.specs.declared.scan.Outcome.{Outcome}
+use Rattle.lsys_expr.specs.declared.scan.Outcome.TheVariants.{Goes, Ends, Stops, TooDeep}
+use Rattle.lsys_expr.specs.Levels.{fresh, deeper, nesting}
+
+-- the prefixes and powers around an operand, and what these are part of
+abbrev pub prefixes : machine.InUnary → ℕ
+prefixes (machine.negating k) = prefixes k + 1
+prefixes (machine.inverting k) = prefixes k + 1
+prefixes (machine.raising a k) = prefixes k + 1
+prefixes (machine.in_term k) = 0
+
+abbrev pub term_around : machine.InUnary → machine.InTerm
+term_around (machine.negating k) = term_around k
+term_around (machine.inverting k) = term_around k
+term_around (machine.raising a k) = term_around k
+term_around (machine.in_term k) = k
+
+-- the operand is on the right of a comparison
+abbrev pub is_second : machine.InRel → Bool
+is_second (machine.first_sum k) = false
+is_second (machine.second_sum l op k) = true
+
+abbrev pub rel_around : machine.InUnary → machine.InRel
+rel_around k = machine.around_sum (machine.around_term (term_around k))
+
+abbrev pub expr_around : machine.InUnary → machine.InExpr
+expr_around k = machine.around_and (machine.around_rel (rel_around k))
+
+abbrev pub parens_around : machine.InUnary → machine.Around
+parens_around k = machine.around_expr (expr_around k)
+
+-- the level that an operand stands at
+abbrev pub IsLevel : Level → machine.InUnary → Type 0
+IsLevel l k = (prefixes k ≡ l.prefixes) × (is_second (rel_around k) ≡ l.compared)
+
+-- the levels around a parenthesis
+abbrev pub AreOuter : List Level → machine.Around → Type 0
+AreOuter [] machine.outermost = Unit {0}
+AreOuter [] (machine.in_parens k) = ⊥
+AreOuter (l ∷ ls) machine.outermost = ⊥
+AreOuter (l ∷ ls) (machine.in_parens k) = IsLevel l k × AreOuter ls (parens_around k)
+
+-- the state awaits this, and has these levels
+abbrev pub IsSeen : Awaited → List Level → machine.State → Type 0
+IsSeen Operand (l ∷ ls) (machine.Due k) = IsLevel l k × AreOuter ls (parens_around k)
+IsSeen Operator (l ∷ ls) (machine.Have a k) = IsLevel l k × AreOuter ls (parens_around k)
+IsSeen SecondAnd (l ∷ ls) (machine.HalfAnd a k) = (l ≡ fresh) × AreOuter ls (machine.around_expr k)
+IsSeen SecondOr (l ∷ ls) (machine.HalfOr e k) = (l ≡ fresh) × AreOuter ls k
+IsSeen a ls s = ⊥
+
+-- and no more is open than may be
+abbrev pub IsKept : Awaited → List Level → machine.State → Type 0
+IsKept a ls s = IsSeen a ls s × (nesting ls ≤ 32)
+
+-- whatever follows, an expression ends before the token that makes t of the state s
+abbrev pub EndsThere : machine.State → machine.State → Type 0
+EndsThere s t = (e : Expr) × ((n : ℕ) (rest : Extent) → behind n s t rest ≡ ends n e)
+
+-- whatever follows, none goes on with that token, and what stands before it is none
+abbrev pub StopsThere : machine.State → machine.State → Type 0
+StopsThere s t = (n : ℕ) (rest : Extent) → behind n s t rest ≡ stops n
+
+-- what a token does that makes t of the state s
+abbrev pub IsTaken : Awaited → List Level → Outcome → machine.State → machine.State → Type 0
+IsTaken a ls Goes s t = IsKept a ls t
+IsTaken a ls Ends s t = EndsThere s t
+IsTaken a ls Stops s t = StopsThere s t
+IsTaken a ls TooDeep s t = (b : Awaited) × (more : List Level) × IsSeen b more t × (32 < nesting more)
+
+-- a prefix or a power was opened, or that would be too deep
+abbrev pub IsOpened : List Level → Awaited → List Level → Outcome → Type 0
+IsOpened old a new Goes = (a ≡ Operand) × (new ≡ deeper old) × (nesting new ≤ 32)
+IsOpened old a new TooDeep = nesting old ≡ 32
+IsOpened old a new o = ⊥
+
+-- what the state behind the last token is
+abbrev pub IsEnded : Bool → machine.State → Type 0
+IsEnded true s = (e : Expr) × (s ≡ machine.Done e)
+IsEnded false s = s ≡ machine.Stop

@@ -1,0 +1,23 @@
+//! Expressions of rules: how far tokens are one, read from tokens into a tree, and evaluated.
+#![tactic(auto)]
+
+mod arith;
+mod build;
+mod evaluation;
+mod expr;
+mod frames;
+mod levels;
+mod names;
+mod operators;
+mod roles;
+mod scan;
+#[cfg(test)]
+mod tests;
+mod tree;
+
+pub use arith::Arith;
+pub use build::build_expr;
+pub use evaluation::{eval, holds};
+pub use expr::Expr;
+pub use names::{check_names, is_formal};
+pub use scan::scan_expr;

@@ -1,0 +1,356 @@
+//! How far tokens are an expression.
+ghost use Rattle.std.specs.Prelude.{◌≡◌, ◌≤◌, length, drop, true, false};
+ghost use Rattle.lsys_syntax.specs.Tokens.{Kind};
+ghost use Rattle.lsys_syntax.specs.ExpressionMachine as machine;
+ghost use Rattle.lsys_syntax.specs.ExpressionPlaces.{extent};
+ghost use Rattle.lsys_syntax.specs.RuleMachine.{small};
+ghost use Rattle.lsys_syntax.specs.Sentences.{AreTokens};
+ghost use Rattle.lsys_text.specs.Tokens.{kind_of, kinds_of};
+ghost use Rattle.lsys_expr.specs.Levels.{is_inside};
+ghost use Rattle.lsys_expr.specs.Roles.{Begins, Follows};
+ghost use Rattle.lsys_expr.specs.Scanning.{IsKept, IsTaken, IsOpened, IsEnded};
+ghost use Rattle.lsys_expr.specs.Scanned.{IsExtent, IsPlaced, place_of};
+
+use crate::levels::Levels;
+use crate::roles::{Begin, Follow, begin_of, follow_of};
+use lsys_text::{PlaceRefusal, Token, TokenKind};
+
+/// The greatest place such that an expression, nested at most 32 deep, begins with the tokens from
+/// `from` up to it, where these are a whole expression. So of `1<2<3` it is the place of the second
+/// `<`. Whether the token there may follow is for the caller to say. It takes no memory.
+///
+/// # Errors
+///
+/// `Token` with this place where these tokens are no expression. `Deep` with it where an expression
+/// of a greater nesting goes on with the token there.
+pub fn scan_expr(tokens: &[Token], from: usize) -> Result<usize, PlaceRefusal>
+    requires forms { AreTokens (kinds_of tokens.now) }
+    requires within { from ≤ length tokens.now }
+    ensures extent { IsExtent from (extent (drop from (kinds_of tokens.now))) result }
+    ensures place { IsPlaced from (drop from (kinds_of tokens.now)) result }
+    ensures from { from ≤ place_of result }
+    ensures end { place_of result ≤ length tokens.now }
+{
+    let mut scan = Scan::new();
+    for (ahead, token) in tokens[from..].iter().enumerate() {
+        let place = from + ahead;
+        match scan.take(token.kind) {
+            Outcome::Goes => {}
+            Outcome::Ends => return Ok(place),
+            Outcome::Stops => return Err(PlaceRefusal::Token { place }),
+            Outcome::TooDeep => return Err(PlaceRefusal::Deep { place }),
+        }
+    }
+    if scan.is_whole() {
+        Ok(tokens.len())
+    } else {
+        Err(PlaceRefusal::Token {
+            place: tokens.len(),
+        })
+    }
+}
+
+/// What has to come next.
+#[derive(Clone, Copy)]
+pub(crate) enum Awaited {
+    Operand,
+    /// An operator, or the end.
+    Operator,
+    /// The second `&` of two.
+    SecondAnd,
+    /// The second `|` of two.
+    SecondOr,
+}
+
+/// What a token does.
+#[derive(Clone, Copy)]
+pub(crate) enum Outcome {
+    /// The expression goes on with it.
+    Goes,
+    /// The expression is whole before it.
+    Ends,
+    /// No expression goes on with it, and there is no whole one before it.
+    Stops,
+    /// Only one that is nested too deep goes on with it.
+    TooDeep,
+}
+
+/// What is known of the tokens before a place.
+#[derive(Drop)]
+pub(crate) struct Scan {
+    awaited: Awaited,
+    levels: Levels,
+}
+
+impl Scan {
+    fn new() -> Scan
+        ensures { IsKept result.awaited result.levels (machine.start_expr machine.outermost) }
+    {
+        Scan {
+            awaited: Awaited::Operand,
+            levels: Levels::new(),
+        }
+    }
+
+    // Goes on with a token.
+    fn take(&mut self, kind: TokenKind) -> Outcome
+        ensures { (s : machine.State) → IsKept self.old.awaited self.old.levels s
+            → IsTaken self.new.awaited self.new.levels result s (machine.step s (small (kind_of kind))) }
+    {
+        match self.awaited {
+            Awaited::Operand => self.begin(begin_of(kind)),
+            Awaited::Operator => self.follow(follow_of(kind)),
+            Awaited::SecondAnd => self.second(matches!(follow_of(kind), Follow::And)),
+            Awaited::SecondOr => self.second(matches!(follow_of(kind), Follow::Or)),
+        }
+    }
+
+    // Goes on where an operand is due.
+    fn begin(&mut self, begin: Begin) -> Outcome
+        requires { self.old.awaited ≡ Awaited.Operand }
+        ensures { (s : machine.State) (t : Kind) → IsKept self.old.awaited self.old.levels s → Begins begin t
+            → IsTaken self.new.awaited self.new.levels result s (machine.step s t) }
+    {
+        match begin {
+            Begin::Whole => {
+                self.awaited = Awaited::Operator;
+                Outcome::Goes
+            }
+            Begin::Parenthesis if self.levels.is_full() => Outcome::TooDeep,
+            Begin::Parenthesis => {
+                self.levels.open_parenthesis();
+                Outcome::Goes
+            }
+            Begin::Prefix => self.open_prefix(),
+            Begin::Nothing => Outcome::Stops,
+        }
+    }
+
+    // Goes on behind an operand.
+    fn follow(&mut self, follow: Follow) -> Outcome
+        requires { self.old.awaited ≡ Awaited.Operator }
+        ensures { (s : machine.State) (t : Kind) → IsKept self.old.awaited self.old.levels s → Follows follow t
+            → IsTaken self.new.awaited self.new.levels result s (machine.step s t) }
+    {
+        match follow {
+            Follow::Power => self.open_prefix(),
+            Follow::Product | Follow::Sum => {
+                self.levels.end_prefixes();
+                self.await_next(Awaited::Operand)
+            }
+            Follow::Comparison if self.levels.is_compared() => self.end(),
+            Follow::Comparison => {
+                self.levels.compare();
+                self.await_next(Awaited::Operand)
+            }
+            Follow::And => {
+                self.levels.clear();
+                self.await_next(Awaited::SecondAnd)
+            }
+            Follow::Or => {
+                self.levels.clear();
+                self.await_next(Awaited::SecondOr)
+            }
+            Follow::Closing if self.levels.is_inside() => {
+                self.levels.close_parenthesis();
+                Outcome::Goes
+            }
+            Follow::Closing => Outcome::Ends,
+            Follow::Other => self.end(),
+        }
+    }
+
+    // Does not go on behind an operand.
+    fn end(&self) -> Outcome
+        ensures inside { is_inside self.now.levels ≡ true → result ≡ Outcome.Stops }
+        ensures outside { is_inside self.now.levels ≡ false → result ≡ Outcome.Ends }
+    {
+        if self.levels.is_inside() {
+            Outcome::Stops
+        } else {
+            Outcome::Ends
+        }
+    }
+
+    // Goes on behind the first `&` or `|` of two.
+    fn second(&mut self, is_second: bool) -> Outcome
+        ensures yes { is_second ≡ true → (result ≡ Outcome.Goes) × (self.new ≡ record { awaited = Awaited.Operand; levels = self.old.levels }) }
+        ensures none { is_second ≡ false → result ≡ Outcome.Stops }
+    {
+        if is_second {
+            self.await_next(Awaited::Operand)
+        } else {
+            Outcome::Stops
+        }
+    }
+
+    // Opens a prefix or a power, whose operand is due next.
+    fn open_prefix(&mut self) -> Outcome
+        ensures { IsOpened self.old.levels self.new.awaited self.new.levels result }
+    {
+        if self.levels.is_full() {
+            return Outcome::TooDeep;
+        }
+        self.levels.open_prefix();
+        self.await_next(Awaited::Operand)
+    }
+
+    fn await_next(&mut self, awaited: Awaited) -> Outcome
+        ensures goes { result ≡ Outcome.Goes }
+        ensures next { self.new ≡ record { awaited = awaited; levels = self.old.levels } }
+    {
+        self.awaited = awaited;
+        Outcome::Goes
+    }
+
+    // Whether the tokens are a whole expression.
+    fn is_whole(&self) -> bool
+        ensures { (s : machine.State) → IsKept self.now.awaited self.now.levels s → IsEnded result (machine.end_step s) }
+    {
+        matches!(self.awaited, Awaited::Operator) && !self.levels.is_inside()
+    }
+}
+
+#[cfg(test)]
+mod tests {
+    use super::*;
+    use lsys_text::tokens;
+    use std::alloc::Global;
+    use std::process::Abort;
+    use std::test::Fail;
+
+    // The place behind the last parenthesis of `A(x) => A(`.
+    const FROM: usize = 10;
+
+    // The answer, and the column of the token at its place, where the expression is a parameter of a rule.
+    fn outline(rt: &impl Abort, alloc: Global, expression: &str) -> Result<String, Fail> {
+        let line = format!(in alloc; "production p: A(x) => A({expression}")?;
+        let line = line.as_str().as_bytes();
+        assert!(rt; line.len() <= 1000);
+        let found = tokens(alloc, line)?;
+        let found = found.as_slice();
+        assert!(rt; found.len() >= FROM);
+        let (answer, place) = match scan_expr(found, FROM) {
+            Ok(place) => ("ends", place),
+            Err(PlaceRefusal::Token { place }) => ("token", place),
+            Err(PlaceRefusal::Deep { place }) => ("deep", place),
+        };
+        let start = match found.get(place) {
+            Some(token) => token.start as usize,
+            None => line.len(),
+        };
+        assert!(rt; start <= line.len());
+        Ok(format!(in alloc; "{answer} {}", start + 1)?)
+    }
+
+    #[test]
+    fn expressions_end_before_what_cannot_go_on(rt: HostRuntime) -> Result<(), Fail> {
+        let rows: [(&str, &str); 24] = [
+            ("x)", "ends 26"),
+            ("-x^2*3+1<2&&!x||1)", "ends 42"),
+            ("1<2&&1<2)", "ends 33"),
+            ("(1<2)<3)", "ends 32"),
+            ("1<2<3)", "ends 28"),
+            ("1<2&&1<2<3)", "ends 33"),
+            ("1==2!=3)", "ends 29"),
+            ("-x^2>1>=", "ends 31"),
+            ("9223372036854775807)", "ends 44"),
+            ("1%2/3)", "ends 30"),
+            ("1<=2)", "ends 29"),
+            ("x!=1)", "ends 29"),
+            (
+                "((((((((((((((((((((((((((((((((x)))))))))))))))))))))))))))))))))",
+                "ends 90",
+            ),
+            ("--------------------------------x)", "ends 58"),
+            ("!!!!!!!!!!!!!!!!!!!!!!!!!!!!!!!!x)", "ends 58"),
+            (
+                "x^x^x^x^x^x^x^x^x^x^x^x^x^x^x^x^x^x^x^x^x^x^x^x^x^x^x^x^x^x^x^x^x)",
+                "ends 90",
+            ),
+            (
+                "((((((((((((((((((((((((((((((((x))))))))))))))))))))))))))))))))^-------------------------------x)",
+                "ends 123",
+            ),
+            (
+                "(x^(x^(x^(x^(x^(x^(x^(x^(x^(x^(x^(x^(x^(x^(x^(x^x)))))))))))))))))",
+                "ends 90",
+            ),
+            ("1 2)", "ends 27"),
+            ("x x)", "ends 27"),
+            ("1\\2)", "ends 26"),
+            ("x!)", "ends 26"),
+            ("x(1))", "ends 26"),
+            ("1 =>", "ends 27"),
+        ];
+        for (expression, want) in rows {
+            let text = outline(&rt, rt.alloc(), expression)?;
+            assert_eq!(rt; text.as_str(), want);
+        }
+        Ok(())
+    }
+
+    #[test]
+    fn expressions_stop_at_the_first_token_with_which_none_goes_on(
+        rt: HostRuntime,
+    ) -> Result<(), Fail> {
+        let rows: [(&str, &str); 21] = [
+            ("(1<2<3))", "token 29"),
+            ("(1<2", "token 29"),
+            ("1&2)", "token 27"),
+            ("1|2)", "token 27"),
+            ("1&&&2)", "token 28"),
+            ("1|", "token 27"),
+            ("1|&2)", "token 27"),
+            ("1&&|", "token 28"),
+            ("(1", "token 27"),
+            ("^2)", "token 25"),
+            ("9223372036854775808)", "token 25"),
+            ("18446744073709551616)", "token 25"),
+            (")", "token 25"),
+            ("", "token 25"),
+            ("(1,2)", "token 27"),
+            ("()", "token 26"),
+            ("-)", "token 26"),
+            ("1^)", "token 27"),
+            ("(1==2!=3)<1)", "token 30"),
+            ("!)", "token 26"),
+            ("1&&", "token 28"),
+        ];
+        for (expression, want) in rows {
+            let text = outline(&rt, rt.alloc(), expression)?;
+            assert_eq!(rt; text.as_str(), want);
+        }
+        Ok(())
+    }
+
+    #[test]
+    fn expressions_are_nested_at_most_32_deep(rt: HostRuntime) -> Result<(), Fail> {
+        let rows: [(&str, &str); 7] = [
+            (
+                "(((((((((((((((((((((((((((((((((x))))))))))))))))))))))))))))))))))",
+                "deep 57",
+            ),
+            ("---------------------------------x)", "deep 57"),
+            ("!!!!!!!!!!!!!!!!!!!!!!!!!!!!!!!!!x)", "deep 57"),
+            (
+                "x^x^x^x^x^x^x^x^x^x^x^x^x^x^x^x^x^x^x^x^x^x^x^x^x^x^x^x^x^x^x^x^x^x)",
+                "deep 90",
+            ),
+            ("((((((((((((((((((((((((((((((((x^2", "deep 58"),
+            (
+                "((((((((((((((((((((((((((((((((x))))))))))))))))))))))))))))))))^-(((((((((((((((((((((((((((((((x",
+                "deep 122",
+            ),
+            (
+                "(x^(x^(x^(x^(x^(x^(x^(x^(x^(x^(x^(x^(x^(x^(x^(x^x^x",
+                "deep 74",
+            ),
+        ];
+        for (expression, want) in rows {
+            let text = outline(&rt, rt.alloc(), expression)?;
+            assert_eq!(rt; text.as_str(), want);
+        }
+        Ok(())
+    }
+}
