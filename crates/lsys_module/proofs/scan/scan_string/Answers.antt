@@ -1,0 +1,34 @@
+use Rattle.std.proofs.Common.{◌≡◌, ◌∙◌, ◌≤◌, ap, sym, Some, None, length, arith, if◌then◌else◌}
+use Rattle.lsys_syntax.specs.LineMachine.{stops}
+use Rattle.lsys_module.proofs.ScanSteps.{refused-turn, refused-end, found_string, found_place}
+use Rattle.lsys_module.proofs.scan.scan_string.Goals as goal
+
+pub returns-in-None : goal.returns-in-None
+returns-in-None c =
+    let step = sym c.in-None.is ∙ c.behind.ensures.step in
+    let turn = refused-turn c.args.tokens.now c.loop-place.place c.index-tokens-place.result c.loop-place.progress c.of.result None c.loop-place-test.true c.index-tokens-place.is c.of.ensures step in
+    found_place c.args.from c.args.tokens.now c.loop-place.place (c.loop-place.invariant.same ∙ turn)
+
+pub loop-place-preserved : goal.loop-place-preserved
+loop-place-preserved c =
+    let step = sym c.in-Some.is ∙ c.behind.ensures.step in
+    let turn = refused-turn c.args.tokens.now c.loop-place.place c.index-tokens-place.result c.loop-place.progress c.of.result (Some c.in-Some.next) c.loop-place-test.true c.index-tokens-place.is c.of.ensures step in
+    record {
+      few = omega (arith, c.in-Some.ensures.few);
+      same = c.loop-place.invariant.same ∙ turn;
+    }
+
+pub returns-then-not-may_end : goal.returns-then-not-may_end
+returns-then-not-may_end c =
+    let tokens = c.args.tokens.now in
+    let end : c.loop-place.place ≡ length tokens = omega arith in
+    let over : length tokens ≤ c.loop-place.place = omega arith in
+    let ended = refused-end tokens c.loop-place.place c.loop-place.progress c.may_end.result over c.may_end.ensures in
+    found_place c.args.from tokens c.loop-place.place (c.loop-place.invariant.same ∙ ended ∙ ap (λ b. if b then None else Some c.loop-place.place) c.if-not-may_end.true) ∙ ap stops end
+
+pub returns : goal.returns
+returns c =
+    let tokens = c.args.tokens.now in
+    let over : length tokens ≤ c.loop-place.place = omega arith in
+    let ended = refused-end tokens c.loop-place.place c.loop-place.progress c.may_end.result over c.may_end.ensures in
+    found_string c.args.from tokens (c.loop-place.invariant.same ∙ ended ∙ ap (λ b. if b then None else Some c.loop-place.place) c.if-not-may_end.false)

@@ -1,0 +1,135 @@
+-- Tokens that are a string, read one after another: what was read of it, and at which token a limit is passed.
+use Rattle.std.specs.Prelude.{◌≡◌, ℕ, ℤ, pos, ◌+◌, ◌^◌, ◌&&◌, Bool, true, false, nat_lt, nat_le, List, [], ◌∷◌, ◌++◌, length, All, slice_get, option_map, Option, Some, None, Result, Ok, Err, if◌then◌else◌}
+use Rattle.lsys_syntax.specs.Tokens.{Kind}
+use Rattle.lsys_syntax.specs.Strings.{Symbol, Module, Push, Pop, Cut, ModuleName, plus, Signed, negative}
+use Rattle.lsys_syntax.specs.RuleMachine.{Sign, a_name, sign_of}
+use Rattle.lsys_syntax.specs.Commands.{set_axiom}
+use Rattle.lsys_syntax.specs.LineMachine.{Verdict, sentence}
+use Rattle.lsys_syntax.specs.Checks.{axiom_many}
+use Rattle.lsys_spec.specs.Edits.{values_of}
+use Rattle.lsys_text.specs.declared.token_kind.Token.{Token}
+use Rattle.lsys_text.specs.Tokens.{IsWithin, kind_of}
+use Rattle.lsys_module.specs.declared.symbol.Symbol.{Symbol as CodeSymbol}
+use Rattle.lsys_module.specs.declared.refusal.StringRefusal.{StringRefusal}
+use Rattle.lsys_module.specs.declared.refusal.StringRefusal.TheVariants.{TooMany, Memory}
+use Rattle.lsys_module.specs.declared.build.Builder.{Builder}
+use Rattle.lsys_module.specs.declared.build.Part.{Part}
+use Rattle.lsys_module.specs.declared.build.Part.TheVariants as parts
+use Rattle.lsys_module.specs.declared.glyph.Glyph.{Glyph}
+use Rattle.lsys_module.specs.declared.glyph.Glyph.TheVariants as glyphs
+use Rattle.lsys_module.specs.Views.{module_name, string_of}
+use Rattle.lsys_module.specs.Scanning.{glyph_of}
+
+-- each token is some bytes of one line
+abbrev pub AreOfLine : List Token → Type 0
+AreOfLine tokens = (n : ℕ) × All (IsWithin n) tokens
+
+-- the column, from 1, of the token at a place
+abbrev pub column_at : List Token → ℕ → Option ℕ
+column_at tokens place = option_map (λ t. t.start + 1) (slice_get tokens place)
+
+-- the values of a string that passes no limit, or the column of the token at which it passes one; want of memory says nothing
+abbrev pub IsBuiltOf : ℕ → List Token → List (Symbol Signed) → Result (List CodeSymbol) StringRefusal → Type 0
+IsBuiltOf from tokens xs (Ok symbols) = (string_of symbols ≡ values_of xs) × (axiom_many from xs ≡ None)
+IsBuiltOf from tokens xs (Err (TooMany column)) = (place : ℕ) × (axiom_many from xs ≡ Some place) × (column_at tokens place ≡ Some column)
+IsBuiltOf from tokens xs (Err Memory) = Unit {0}
+
+-- the same of the string that a verdict tells
+abbrev pub IsBuilt : ℕ → List Token → Verdict → Result (List CodeSymbol) StringRefusal → Type 0
+IsBuilt from tokens (sentence (set_axiom xs)) result = IsBuiltOf from tokens xs result
+IsBuilt from tokens v result = ⊥
+
+-- What was read: symbols, and then, where they are not all, a name, behind which a `(` may follow, or some of a module's parameters.
+pub data Draft : Type 0 where
+  whole : List (Symbol ℤ) → Draft
+  named : List (Symbol ℤ) → ModuleName → Draft
+  number_due : List (Symbol ℤ) → ModuleName → List ℤ → Draft
+  minus_read : List (Symbol ℤ) → ModuleName → List ℤ → Draft
+  number_read : List (Symbol ℤ) → ModuleName → List ℤ → Draft
+
+-- the module's name that a token is, where it is one
+abbrev pub sign_name : Sign → ModuleName
+sign_name (a_name n) = n
+sign_name s = plus
+
+abbrev pub kind_name : Kind → ModuleName
+kind_name k = sign_name (sign_of k)
+
+-- the tokens that are a module's name
+abbrev pub is_name : Glyph → Bool
+is_name glyphs.Name = true
+is_name glyphs.Minus = true
+is_name g = false
+
+-- another symbol begins; a name is that of the token
+abbrev pub symbol_step : List (Symbol ℤ) → Glyph → ModuleName → Option Draft
+symbol_step ys glyphs.Name m = Some (named ys m)
+symbol_step ys glyphs.Minus m = Some (named ys m)
+symbol_step ys glyphs.Push m = Some (whole (ys ++ Push ∷ []))
+symbol_step ys glyphs.Pop m = Some (whole (ys ++ Pop ∷ []))
+symbol_step ys glyphs.Cut m = Some (whole (ys ++ Cut ∷ []))
+symbol_step ys g m = None
+
+abbrev pub named_step : List (Symbol ℤ) → ModuleName → Glyph → ModuleName → Option Draft
+named_step ys n glyphs.Open m = Some (number_due ys n [])
+named_step ys n g m = symbol_step (ys ++ Module n [] ∷ []) g m
+
+abbrev pub due_step : List (Symbol ℤ) → ModuleName → List ℤ → Glyph → Option Draft
+due_step ys n zs (glyphs.Number m) = if nat_lt m (2 ^ 63) then Some (number_read ys n (zs ++ pos m ∷ [])) else None
+due_step ys n zs glyphs.Minus = Some (minus_read ys n zs)
+due_step ys n zs g = None
+
+abbrev pub minus_step : List (Symbol ℤ) → ModuleName → List ℤ → Glyph → Option Draft
+minus_step ys n zs (glyphs.Number m) = if nat_lt (length zs) 8 && nat_le m (2 ^ 63) then Some (number_read ys n (zs ++ negative m ∷ [])) else None
+minus_step ys n zs g = None
+
+abbrev pub read_step : List (Symbol ℤ) → ModuleName → List ℤ → Glyph → Option Draft
+read_step ys n zs glyphs.Comma = Some (number_due ys n zs)
+read_step ys n zs glyphs.Close = Some (whole (ys ++ Module n zs ∷ []))
+read_step ys n zs g = None
+
+-- one more token, where a string goes on with it
+abbrev pub draft_step : Draft → Glyph → ModuleName → Option Draft
+draft_step (whole ys) g m = symbol_step ys g m
+draft_step (named ys n) g m = named_step ys n g m
+draft_step (number_due ys n zs) g m = due_step ys n zs g
+draft_step (minus_read ys n zs) g m = minus_step ys n zs g
+draft_step (number_read ys n zs) g m = read_step ys n zs g
+
+abbrev pub named_limit : List (Symbol ℤ) → ModuleName → Glyph → Bool
+named_limit ys n glyphs.Open = false
+named_limit ys n g = nat_lt 4096 (length (ys ++ Module n [] ∷ []) + 1)
+
+-- this token begins one symbol or one parameter too many
+abbrev pub draft_limit : Draft → Glyph → Bool
+draft_limit (whole ys) g = nat_lt 4096 (length ys + 1)
+draft_limit (named ys n) g = named_limit ys n g
+draft_limit (number_due ys n zs) g = nat_lt 8 (length zs + 1)
+draft_limit d g = false
+
+-- the symbols, where a string may end
+abbrev pub draft_end : Draft → Option (List (Symbol ℤ))
+draft_end (whole ys) = Some ys
+draft_end (named ys n) = Some (ys ++ Module n [] ∷ [])
+draft_end d = None
+
+abbrev pub part_of : Part → List (Symbol ℤ) → Draft
+part_of parts.Whole ys = whole ys
+part_of (parts.Named name) ys = named ys (module_name name)
+part_of (parts.NumberDue m) ys = number_due ys (module_name m.name) m.params
+part_of (parts.MinusRead m) ys = minus_read ys (module_name m.name) m.params
+part_of (parts.NumberRead m) ys = number_read ys (module_name m.name) m.params
+
+-- what was read, as the code keeps it
+abbrev pub draft_of : Builder → Draft
+draft_of b = part_of b.part (string_of b.symbols)
+
+-- a string goes on with the token, or the token is one too many
+abbrev pub CanTake : Draft → Kind → Type 0
+CanTake d k = draft_limit d (glyph_of k) ≡ false → (e : Draft) × (draft_step d (glyph_of k) (kind_name k) ≡ Some e)
+
+-- the token was taken, or it is one too many and this is its column; want of memory says nothing
+abbrev pub IsTaken : Draft → Token → Draft → Result (Unit {0}) StringRefusal → Type 0
+IsTaken old t new (Ok done) = (draft_limit old (glyph_of (kind_of t.kind)) ≡ false) × (draft_step old (glyph_of (kind_of t.kind)) (kind_name (kind_of t.kind)) ≡ Some new)
+IsTaken old t new (Err (TooMany column)) = (draft_limit old (glyph_of (kind_of t.kind)) ≡ true) × (column ≡ t.start + 1)
+IsTaken old t new (Err Memory) = Unit {0}

@@ -1,0 +1,6 @@
+pub mod InsideParams
+pub mod Views
+pub mod Printing
+pub mod Scanning
+pub mod Building
+pub mod ReadBack

@@ -1,0 +1,254 @@
+//! Strings from tokens.
+ghost use Rattle.std.specs.Prelude.{◌≡◌, ◌<◌, ◌≤◌, ◌+◌, ◌^◌, ℤ, List, [], ◌∷◌, ◌++◌, length, IsSome, IsTrue, OnOk, IfOk};
+ghost use Rattle.lsys_syntax.specs.Strings as S;
+ghost use Rattle.lsys_syntax.specs.Strings.{negative};
+ghost use Rattle.lsys_syntax.specs.Sentences.{IsToken, AreTokens};
+ghost use Rattle.lsys_text.specs.Tokens.{kind_of, kinds_of};
+ghost use Rattle.lsys_module.specs.Views.{module_name, symbol_of, string_of};
+ghost use Rattle.lsys_module.specs.Scanning.{string_verdict, IsString, glyph_of};
+ghost use Rattle.lsys_module.specs.Building.{AreOfLine, IsBuilt, CanTake, IsTaken, draft_of, draft_end, whole, due_step, minus_step, part_of, is_name, kind_name};
+
+use crate::glyph::Glyph;
+use crate::params::Params;
+use crate::refusal::StringRefusal;
+use crate::symbol::{Module, Symbol};
+use crate::symbol_list::SymbolList;
+use lsys_text::{Name, Token, TokenKind};
+use std::alloc::{AllocError, Global};
+
+/// A string has at most so many symbols, its brackets and cuts counted.
+const MOST_SYMBOLS: usize = 4096;
+
+/// A module has at most so many parameters.
+const MOST_PARAMS: usize = 8;
+
+/// The string that the tokens from a place on are. `scan_string` has found that they are one.
+///
+/// # Errors
+///
+/// `TooMany` has the column of the first token of the first symbol past 4,096, or of the first parameter
+/// of a module past 8, whichever stands first. `Memory` is want of memory.
+pub fn build_string(
+    alloc: Global,
+    tokens: &[Token],
+    from: usize,
+) -> Result<SymbolList, StringRefusal>
+    requires place { from ≤ length tokens.now }
+    requires few { length tokens.now ≤ 65536 }
+    requires forms { AreTokens (kinds_of tokens.now) }
+    requires line { AreOfLine tokens.now }
+    requires scanned { IsString (string_verdict from tokens.now) }
+    ensures { IsBuilt from tokens.now (string_verdict from tokens.now) result }
+{
+    let mut builder = Builder {
+        symbols: SymbolList::new(alloc),
+        part: Part::Whole,
+    };
+    for place in from..tokens.len() {
+        builder.take(tokens[place])?;
+    }
+    Ok(builder.finish()?)
+}
+
+/// What was read behind the symbols that are whole.
+#[derive(Clone, Copy)]
+pub(crate) enum Part {
+    /// Nothing.
+    Whole,
+    /// A name, behind which a `(` may follow.
+    Named(Name),
+    /// A module whose next parameter is due.
+    NumberDue(Module),
+    /// The same, and a sign.
+    MinusRead(Module),
+    /// A module whose last parameter was read.
+    NumberRead(Module),
+}
+
+/// A string while it is read.
+#[derive(Drop)]
+pub(crate) struct Builder {
+    pub(crate) symbols: SymbolList,
+    pub(crate) part: Part,
+}
+
+impl Builder {
+    // Reads one more token.
+    fn take(&mut self, token: Token) -> Result<(), StringRefusal>
+        requires form { IsToken (kind_of token.kind) }
+        requires text { token.start < token.end }
+        requires goes_on { CanTake (draft_of self.old) (kind_of token.kind) }
+        ensures { IsTaken (draft_of self.old) token (draft_of self.new) result }
+    {
+        let part = self.part;
+        match part {
+            Part::Whole => self.take_symbol(token),
+            Part::Named(name) => self.take_behind_name(name, token),
+            Part::NumberDue(module) => {
+                if module.params.values().len() >= MOST_PARAMS {
+                    return Err(too_many(token));
+                }
+                self.part = behind_due(module, Glyph::of(token.kind));
+                Ok(())
+            }
+            Part::MinusRead(module) => {
+                self.part = behind_minus(module, Glyph::of(token.kind));
+                Ok(())
+            }
+            Part::NumberRead(module) => self.take_behind_number(module, token),
+        }
+    }
+
+    // Reads a token behind a name: parameters follow, or the name is a symbol.
+    fn take_behind_name(&mut self, name: Name, token: Token) -> Result<(), StringRefusal>
+        requires form { IsToken (kind_of token.kind) }
+        requires text { token.start < token.end }
+        requires behind_name { self.old.part ≡ Part.Named name }
+        requires goes_on { CanTake (draft_of self.old) (kind_of token.kind) }
+        ensures { IsTaken (draft_of self.old) token (draft_of self.new) result }
+    {
+        if let Glyph::Open = Glyph::of(token.kind) {
+            self.part = Part::NumberDue(bare(name));
+            return Ok(());
+        }
+        self.add(bare(name))?;
+        self.take_symbol(token)
+    }
+
+    // Reads a token behind a parameter.
+    fn take_behind_number(&mut self, last: Module, token: Token) -> Result<(), StringRefusal>
+        requires behind_number { self.old.part ≡ Part.NumberRead last }
+        requires goes_on { CanTake (draft_of self.old) (kind_of token.kind) }
+        ensures { IsTaken (draft_of self.old) token (draft_of self.new) result }
+    {
+        match Glyph::of(token.kind) {
+            Glyph::Comma => self.part = Part::NumberDue(last),
+            Glyph::Close => self.add(last)?,
+            _ => unreachable!(),
+        }
+        Ok(())
+    }
+
+    // Reads a token that begins a symbol.
+    fn take_symbol(&mut self, token: Token) -> Result<(), StringRefusal>
+        requires form { IsToken (kind_of token.kind) }
+        requires text { token.start < token.end }
+        requires between { self.old.part ≡ Part.Whole }
+        requires goes_on { CanTake (draft_of self.old) (kind_of token.kind) }
+        ensures { IsTaken (draft_of self.old) token (draft_of self.new) result }
+    {
+        if self.symbols.len() >= MOST_SYMBOLS {
+            return Err(too_many(token));
+        }
+        let symbol = match Glyph::of(token.kind) {
+            Glyph::Push => Symbol::Push,
+            Glyph::Pop => Symbol::Pop,
+            Glyph::Cut => Symbol::Cut,
+            Glyph::Name | Glyph::Minus => {
+                self.part = Part::Named(name_of(token.kind));
+                return Ok(());
+            }
+            _ => unreachable!(),
+        };
+        self.symbols.push(symbol)?;
+        Ok(())
+    }
+
+    // Adds a module that is whole.
+    fn add(&mut self, last: Module) -> Result<(), AllocError>
+        ensures added { OnOk result (self.new.symbols ≡ self.old.symbols ++ Symbol.Module last ∷ []) }
+        ensures whole { OnOk result (self.new.part ≡ Part.Whole) }
+    {
+        self.symbols.push(Symbol::Module(last))?;
+        self.part = Part::Whole;
+        Ok(())
+    }
+
+    // The string.
+    fn finish(self) -> Result<SymbolList, AllocError>
+        requires { IsSome (draft_end (draft_of self)) }
+        ensures { IfOk result (λ symbols. draft_end (draft_of self) ≡ Some (string_of symbols)) }
+    {
+        let Builder { mut symbols, part } = self;
+        match part {
+            Part::Whole => Ok(symbols),
+            Part::Named(name) => {
+                symbols.push(Symbol::Module(bare(name)))?;
+                Ok(symbols)
+            }
+            _ => unreachable!(),
+        }
+    }
+}
+
+// The module with this name and no parameters.
+fn bare(name: Name) -> Module
+    ensures name { result.name ≡ name }
+    ensures params { result.params ≡ [] }
+{
+    Module {
+        name,
+        params: Params::of(&[]),
+    }
+}
+
+// Behind a number or a sign that was due.
+fn behind_due(last: Module, glyph: Glyph) -> Part
+    requires few { length last.params < 8 }
+    requires goes_on { IsSome (due_step [] (module_name last.name) last.params glyph) }
+    ensures { (ys : List (S.Symbol ℤ)) → due_step ys (module_name last.name) last.params glyph ≡ Some (part_of result ys) }
+{
+    match glyph {
+        Glyph::Number(number) => Part::NumberRead(Module {
+            params: last.params.and(number as i64),
+            ..last
+        }),
+        Glyph::Minus => Part::MinusRead(last),
+        _ => unreachable!(),
+    }
+}
+
+// Behind a number that follows a sign.
+fn behind_minus(last: Module, glyph: Glyph) -> Part
+    requires { IsSome (minus_step [] (module_name last.name) last.params glyph) }
+    ensures { (ys : List (S.Symbol ℤ)) → minus_step ys (module_name last.name) last.params glyph ≡ Some (part_of result ys) }
+{
+    match glyph {
+        Glyph::Number(number) => Part::NumberRead(Module {
+            params: last.params.and(negated(number)),
+            ..last
+        }),
+        _ => unreachable!(),
+    }
+}
+
+// A number with a sign before it.
+fn negated(number: u64) -> i64
+    requires { number ≤ 2 ^ 63 }
+    ensures { result ≡ negative number }
+{
+    -i128::from(number) as i64
+}
+
+// The module's name that a token is.
+fn name_of(kind: TokenKind) -> Name
+    requires form { IsToken (kind_of kind) }
+    requires name { IsTrue (is_name (glyph_of (kind_of kind))) }
+    ensures { module_name result ≡ kind_name (kind_of kind) }
+{
+    match kind {
+        TokenKind::Name(name) => name,
+        TokenKind::Mark(mark) => Name::from_mark(mark),
+        _ => unreachable!(),
+    }
+}
+
+// A token is one too many.
+fn too_many(token: Token) -> StringRefusal
+    requires { token.start < token.end }
+    ensures { result ≡ StringRefusal.TooMany (token.start + 1) }
+{
+    StringRefusal::TooMany {
+        column: token.start + 1,
+    }
+}

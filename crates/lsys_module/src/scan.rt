@@ -1,0 +1,112 @@
+//! Whether tokens are a string.
+ghost use Rattle.std.specs.Prelude.{◌≡◌, ◌<◌, ◌≤◌, ◌+◌, length, IfSome};
+ghost use Rattle.lsys_module.specs.Scanning.{string_verdict, IsScanned, between_step, param_step, progress_step, may_end};
+
+use crate::glyph::Glyph;
+use lsys_text::{PlaceRefusal, Token};
+
+/// Where the next token stands.
+#[derive(Clone, Copy)]
+pub(crate) enum Spot {
+    /// Between symbols. The last one is a module without parameters, behind which a `(` may stand, or not.
+    Between { bare: bool },
+    /// In parentheses, where a number is due.
+    NumberDue,
+    /// Behind a sign.
+    MinusRead,
+    /// Behind a number.
+    NumberRead,
+}
+
+/// What the next token hangs on.
+#[derive(Clone, Copy)]
+pub(crate) struct Progress {
+    pub(crate) spot: Spot,
+    /// So many branches are open.
+    pub(crate) branches: usize,
+}
+
+/// Finds whether the tokens from a place on are a string whose parameters are numbers, each with a sign or without.
+///
+/// # Errors
+///
+/// `Token` has the place of the first token with which no string goes on. `Deep` never comes.
+pub fn scan_string(tokens: &[Token], from: usize) -> Result<(), PlaceRefusal>
+    requires { from ≤ length tokens.now }
+    ensures { IsScanned (string_verdict from tokens.now) result }
+{
+    let mut progress = Progress {
+        spot: Spot::Between { bare: false },
+        branches: 0,
+    };
+    for place in from..tokens.len() {
+        match progress.behind(Glyph::of(tokens[place].kind)) {
+            Some(next) => progress = next,
+            None => return Err(PlaceRefusal::Token { place }),
+        }
+    }
+    if !progress.may_end() {
+        return Err(PlaceRefusal::Token {
+            place: tokens.len(),
+        });
+    }
+    Ok(())
+}
+
+impl Progress {
+    // One token on, where a string goes on with it.
+    fn behind(self, glyph: Glyph) -> Option<Progress>
+        requires { self.branches < usize.MAX }
+        ensures step { result ≡ progress_step self glyph }
+        ensures few { IfSome result (λ next. next.branches ≤ self.branches + 1) }
+    {
+        let branches = self.branches;
+        match self.spot {
+            Spot::Between { bare } => behind_symbol(glyph, bare, branches),
+            spot => in_parentheses(spot, glyph).map(|spot| Progress { spot, branches }),
+        }
+    }
+
+    // A string may end here.
+    fn may_end(self) -> bool
+        ensures { result ≡ may_end self.spot self.branches }
+    {
+        match self.spot {
+            Spot::Between { .. } => self.branches == 0,
+            _ => false,
+        }
+    }
+}
+
+fn behind_symbol(glyph: Glyph, bare: bool, branches: usize) -> Option<Progress>
+    requires { branches < usize.MAX }
+    ensures step { result ≡ between_step glyph bare branches }
+    ensures few { IfSome result (λ next. next.branches ≤ branches + 1) }
+{
+    let (bare, branches) = match glyph {
+        Glyph::Name | Glyph::Minus => (true, branches),
+        Glyph::Push => (false, branches + 1),
+        Glyph::Pop => (false, branches.checked_sub(1)?),
+        Glyph::Cut => (false, branches),
+        Glyph::Open if bare => {
+            let spot = Spot::NumberDue;
+            return Some(Progress { spot, branches });
+        }
+        _ => return None,
+    };
+    let spot = Spot::Between { bare };
+    Some(Progress { spot, branches })
+}
+
+fn in_parentheses(spot: Spot, glyph: Glyph) -> Option<Spot>
+    ensures { result ≡ param_step spot glyph }
+{
+    match (spot, glyph) {
+        (Spot::NumberDue, Glyph::Number(number)) if number < 1 << 63 => Some(Spot::NumberRead),
+        (Spot::NumberDue, Glyph::Minus) => Some(Spot::MinusRead),
+        (Spot::MinusRead, Glyph::Number(number)) if number <= 1 << 63 => Some(Spot::NumberRead),
+        (Spot::NumberRead, Glyph::Comma) => Some(Spot::NumberDue),
+        (Spot::NumberRead, Glyph::Close) => Some(Spot::Between { bare: false }),
+        _ => None,
+    }
+}
