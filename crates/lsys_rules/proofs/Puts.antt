@@ -1,24 +1,22 @@
--- A put, and what refuses it, where no rule has a weight and all stand in the table main.
-use Rattle.std.proofs.Common.{◌≡◌, ℕ, zero, suc, ◌+◌, ◌<◌, ◌≤◌, Bool, true, false, not, Option, Some, None, List, [], ◌∷◌, length, map, nat_lt, ◌||◌, ◌&&◌, cond, refl, ap, ap₂, sym, ◌∙◌, arith, bytes_eq}
+-- A put of a production without a weight into rules without weights, all in the table main.
+use Rattle.std.proofs.Common.{◌≡◌, ℕ, ◌+◌, ◌<◌, ◌≤◌, Bool, true, false, not, Option, Some, None, List, [], ◌∷◌, length, map, nat_lt, ◌||◌, ◌&&◌, cond, refl, ap, sym, ◌∙◌, arith, bytes_eq}
+use Rattle.std.specs.Prelude.{is_some}
 use Rattle.std.specs.Option.{IsSome}
 use Rattle.std.proofs.lemmas.Bool.Decides.{nat_tests, same_from_decides}
 use Rattle.std.proofs.lemmas.Slice.Eq.{bytes_eq-Decides}
 use Rattle.std.proofs.Math.Bool.{and-false}
-use Rattle.lsys_syntax.specs.Tokens.{NameText}
-use Rattle.lsys_syntax.specs.Rules.{Production}
-use Rattle.lsys_syntax.specs.Strings.{Module, named}
-use Rattle.lsys_syntax.specs.Commands.{set_axiom}
 use Rattle.std.proofs.lemmas.List.{length-map}
-use Rattle.lsys_spec.specs.Systems.{System, any, clash, main, is_table, tables, tables_onto, with_table, same_name}
-use Rattle.lsys_spec.specs.Edits.{Refusal, Why, or_else, refused_if, refused_at, put, same_label, refusal, changed, values_of, unknown_name, duplicate, mixed, wrong_label, many}
-use Rattle.lsys_spec.specs.Interim.{plain_string}
-use Rattle.lsys_text.specs.Tokens.{name_of}
+use Rattle.lsys_syntax.specs.Rules as R
+use Rattle.lsys_syntax.specs.Checks.{rule_unknown, rule_repeated, rule_many}
+use Rattle.lsys_syntax.specs.Commands.{put_production}
+use Rattle.lsys_spec.specs.Systems as spec
+use Rattle.lsys_spec.specs.Systems.{any, clash, main, tables, tables_onto}
+use Rattle.lsys_spec.specs.Edits.{Refusal, Why, or_else, refused_if, refused_at, put, same_label, refusal, changed, stands_elsewhere, unknown_name, duplicate, mixed, wrong_label, many}
 use Rattle.lsys_rules.specs.declared.rule.Rule.{Rule}
 use Rattle.lsys_rules.specs.Table.{with_rule}
-use Rattle.lsys_rules.specs.Views.{production_of, rule_of, system_of, string_of}
-use Rattle.lsys_rules.specs.Parsing.{put_of}
+use Rattle.lsys_rules.specs.Views.{production_of}
+use Rattle.lsys_rules.specs.Systems.{system_of}
 use Rattle.lsys_rules.specs.declared.system.System as declared
-use Rattle.lsys_rules.proofs.PlainChecks.{rule_knows, rule_once, rule_fits, rule_passes, axiom_fits, axiom_passes}
 
 bytes_eq-swap : (a b : List ℕ) → bytes_eq a b ≡ bytes_eq b a
 bytes_eq-swap a b =
@@ -37,12 +35,12 @@ put_same r [] = refl
 put_same r (q ∷ qs) = put_at r q qs (bytes_eq q.label r.label) (bytes_eq r.label q.label) (bytes_eq-swap q.label r.label) (put_same r qs)
 
 -- no rule clashes: none has a weight
-pub no_clash : (r : Rule) (qs : List Rule) → any (λ q. not (same_label q (production_of r)) && clash q (production_of r)) (map production_of qs) ≡ false
+no_clash : (r : Rule) (qs : List Rule) → any (λ q. not (same_label q (production_of r)) && clash q (production_of r)) (map production_of qs) ≡ false
 no_clash r [] = refl
 no_clash r (q ∷ qs) = grind (arith, and-false, no_clash r qs)
 
 -- no label stands in another table
-pub no_other : (r : Rule) (qs : List Rule) → any (λ q. same_label q (production_of r) && not (bytes_eq q.table main)) (map production_of qs) ≡ false
+no_other : (r : Rule) (qs : List Rule) → any (λ q. same_label q (production_of r) && not (bytes_eq q.table main)) (map production_of qs) ≡ false
 no_other r [] = refl
 no_other r (q ∷ qs) = grind (arith, and-false, no_other r qs)
 
@@ -51,12 +49,16 @@ tables_main : (qs : List Rule) → tables_onto (main ∷ []) (map production_of 
 tables_main [] = refl
 tables_main (q ∷ qs) = tables_main qs
 
-pub or_else_some : (a b : Option Refusal) → IsSome b → IsSome (or_else a b)
+or_else_some : (a b : Option Refusal) → IsSome b → IsSome (or_else a b)
 or_else_some None b h = h
 or_else_some (Some r) b h = refl
 
-pub refused_at_some : (o : Option ℕ) (w : Why) → IsSome o → IsSome (refused_at o w)
-refused_at_some None w h = h
+or_else_first : (a b : Option Refusal) → IsSome a → IsSome (or_else a b)
+or_else_first None b h = cc
+or_else_first (Some r) b h = refl
+
+pub refused_at_some : (o : Option ℕ) (w : Why) → is_some o ≡ true → IsSome (refused_at o w)
+refused_at_some None w h = cc
 refused_at_some (Some n) w h = refl
 
 -- the order of a production's refusals
@@ -83,19 +85,24 @@ above o1 o2 b1 b2 b3 r h =
     or_else_some (refused_at o1 unknown_name) twice_on (or_else_some (refused_at o2 duplicate) mixed_on (or_else_some (refused_if b1 mixed 1) label_on
     (or_else_some (refused_if b2 wrong_label 1) tables_on (or_else_some (refused_if b3 many 1) r h))))
 
-chain_last : (o1 o2 : Option ℕ) (b1 b2 b3 b4 : Bool) (o3 : Option ℕ) → IsSome o3 → IsSome (chain o1 o2 b1 b2 b3 b4 o3)
-chain_last o1 o2 b1 b2 b3 b4 o3 h =
-    let last = or_else (refused_if b4 many 1) (refused_at o3 many) in
-    above o1 o2 b1 b2 b3 last (or_else_some (refused_if b4 many 1) (refused_at o3 many) (refused_at_some o3 many h))
+-- the production of the table main with this label and this rule
+abbrev main_rule : List ℕ → R.Rule → R.Production
+main_rule l r = record { table = main; label = l; rule = r }
 
-or_else_first : (a b : Option Refusal) → IsSome a → IsSome (or_else a b)
-or_else_first None b h = cc
-or_else_first (Some r) b h = refl
+-- what refuses a rule by itself refuses its put
+pub unknown_refused : (s : spec.System) (l : List ℕ) (r : R.Rule) → is_some (rule_unknown 3 r) ≡ true → IsSome (refusal s (put_production None l r))
+unknown_refused s l r h = or_else_first (refused_at (rule_unknown 3 r) unknown_name) _ (refused_at_some (rule_unknown 3 r) unknown_name h)
 
-chain_rules : (o1 o2 : Option ℕ) (b1 b2 b3 b4 : Bool) (o3 : Option ℕ) → b4 ≡ true → IsSome (chain o1 o2 b1 b2 b3 b4 o3)
-chain_rules o1 o2 b1 b2 b3 b4 o3 e =
-    let here : IsSome (refused_if b4 many 1) = rw e refl in
-    above o1 o2 b1 b2 b3 (or_else (refused_if b4 many 1) (refused_at o3 many)) (or_else_first (refused_if b4 many 1) (refused_at o3 many) here)
+pub repeated_refused : (s : spec.System) (l : List ℕ) (r : R.Rule) → is_some (rule_repeated 3 r) ≡ true → IsSome (refusal s (put_production None l r))
+repeated_refused s l r h =
+    or_else_some (refused_at (rule_unknown 3 r) unknown_name) _ (or_else_first (refused_at (rule_repeated 3 r) duplicate) _ (refused_at_some (rule_repeated 3 r) duplicate h))
+
+pub many_refused : (s : spec.System) (l : List ℕ) (r : R.Rule) → is_some (rule_many 3 r) ≡ true → IsSome (refusal s (put_production None l r))
+many_refused s l r h =
+    let p = main_rule l r in
+    let over = refused_if (nat_lt 256 (length (put p s.rules) + length s.homomorphisms)) many 1 in
+    above (rule_unknown 3 r) (rule_repeated 3 r) (any (λ q. not (same_label q p) && clash q p) s.rules) (stands_elsewhere s p) (nat_lt 16 (length (tables (put p s.rules))))
+    (or_else over (refused_at (rule_many 3 r) many)) (or_else_some over (refused_at (rule_many 3 r) many) (refused_at_some (rule_many 3 r) many h))
 
 -- how many rules there are after the put
 rules_after : (r : Rule) (qs : List Rule) → length (put (production_of r) (map production_of qs)) + 0 ≡ length (with_rule r qs)
@@ -113,37 +120,19 @@ few n m e h = grind (arith, nat_tests)
 not_few : (n : ℕ) (m : ℕ) → m ≡ n → 256 < n → nat_lt 256 m ≡ true
 not_few n m e h = grind (arith, nat_tests)
 
-short : (ns : List (List ℕ)) (n : ℕ) → length ns ≤ n → length (map name_of ns) ≤ n
-short ns n h = omega (arith, length-map ns name_of)
+-- nothing else refuses a put but that there would be too many rules
+pub put_accepted : (s : declared.System) (r : Rule) → rule_unknown 3 (production_of r).rule ≡ None → rule_repeated 3 (production_of r).rule ≡ None → rule_many 3 (production_of r).rule ≡ None
+    → length (with_rule r s.rules) ≤ 256 → refusal (system_of s) (put_production None r.label (production_of r).rule) ≡ None
+put_accepted s r u d m k =
+    chain_none _ _ _ _ _ _ _ u d (no_clash r s.rules) (none_else _ (no_other r s.rules)) (tables_after r s.rules) (few _ _ (rules_after r s.rules) k) m
 
-pub rule_accepted : (s : declared.System) (r : Rule) → length r.successor ≤ 128 → length (with_rule r s.rules) ≤ 256
-    → refusal (system_of s) (put_of r) ≡ None
-rule_accepted s r h k =
-    chain_none _ _ _ _ _ _ _ (rule_knows (name_of r.pred.name) (map name_of r.successor) 3) (rule_once (name_of r.pred.name) (map name_of r.successor) 3)
-    (no_clash r s.rules) (none_else _ (no_other r s.rules)) (tables_after r s.rules) (few _ _ (rules_after r s.rules) k)
-    (rule_fits (name_of r.pred.name) (map name_of r.successor) 3 (short r.successor 128 h))
+pub rules_too_many : (s : declared.System) (r : Rule) → 256 < length (with_rule r s.rules) → IsSome (refusal (system_of s) (put_production None r.label (production_of r).rule))
+rules_too_many s r h =
+    let over = not_few _ _ (rules_after r s.rules) h in
+    let here : IsSome (refused_if (nat_lt 256 (length (put (production_of r) (map production_of s.rules)) + 0)) many 1) = rw over refl in
+    above _ _ _ _ _ _ (or_else_first _ (refused_at (rule_many 3 (production_of r).rule) many) here)
 
-pub rule_too_long : (s : declared.System) (r : Rule) → 128 < length r.successor → IsSome (refusal (system_of s) (put_of r))
-rule_too_long s r h = chain_last _ _ _ _ _ _ _ (rule_passes (name_of r.pred.name) (map name_of r.successor) 3 (omega (arith, length-map r.successor name_of)))
-
-pub rules_too_many : (s : declared.System) (r : Rule) → 256 < length (with_rule r s.rules) → IsSome (refusal (system_of s) (put_of r))
-rules_too_many s r h = chain_rules _ _ _ _ _ _ _ (not_few _ _ (rules_after r s.rules) h)
-
-pub axiom_accepted : (s : declared.System) (ns : List (List ℕ)) → length ns ≤ 4096 → refusal (system_of s) (set_axiom (string_of ns)) ≡ None
-axiom_accepted s ns h = ap (λ o. refused_at o many) (axiom_fits (map name_of ns) (short ns 4096 h))
-
-pub axiom_too_long : (s : declared.System) (ns : List (List ℕ)) → 4096 < length ns → IsSome (refusal (system_of s) (set_axiom (string_of ns)))
-axiom_too_long s ns h = refused_at_some _ many (axiom_passes (map name_of ns) (omega (arith, length-map ns name_of)))
-
-no_values : (ns : List NameText) → values_of (plain_string ns) ≡ plain_string ns
-no_values [] = refl
-no_values (n ∷ ns) = ap (λ xs. Module (named n) [] ∷ xs) (no_values ns)
-
--- what the changed systems are
-pub axiom_changed : (s t : declared.System) (ns : List (List ℕ)) → t.«axiom» ≡ ns → t.rules ≡ s.rules → t.depth ≡ s.depth
-    → system_of t ≡ changed (system_of s) (set_axiom (string_of ns))
-axiom_changed s t ns a r d = rw (a, r, d) (ap (λ xs. record (system_of s) { axiom_string = xs }) (sym (no_values (map name_of ns))))
-
+-- what a put makes of the system
 pub rule_changed : (s t : declared.System) (r : Rule) → t.«axiom» ≡ s.«axiom» → t.rules ≡ with_rule r s.rules → t.depth ≡ s.depth
-    → system_of t ≡ changed (system_of s) (put_of r)
+    → system_of t ≡ changed (system_of s) (put_production None r.label (production_of r).rule)
 rule_changed s t r a e d = rw (a, e, d) (ap (λ ps. record (system_of s) { rules = ps }) (sym (put_same r s.rules)))

@@ -1,9 +1,9 @@
 -- What is answered where a command is applied.
-use Rattle.std.specs.Prelude.{◌≡◌, Option, None, Result, Ok, Err, IsSome}
+use Rattle.std.specs.Prelude.{◌≡◌, None, Result, Ok, Err, IsSome}
 use Rattle.lsys_syntax.specs.Commands as spec
 use Rattle.lsys_spec.specs.Systems as spec_systems
 use Rattle.lsys_spec.specs.Edits.{refusal, changed}
-use Rattle.lsys_rules.specs.Views.{system_of}
+use Rattle.lsys_rules.specs.Systems.{system_of}
 use Rattle.lsys_rules.specs.declared.system.System.{System}
 use Rattle.lsys_rules.specs.declared.refusal.Refusal.{Refusal}
 use Rattle.lsys_rules.specs.declared.refusal.Refusal.TheVariants.{Form, Memory}

@@ -1,8 +1,9 @@
--- What stands in a table: each rule under its own label.
-use Rattle.std.specs.Prelude.{◌≡◌, ℕ, List, [], ◌∷◌, map}
+-- What stands in a table: each rule under its own label, its expressions with their trees.
+use Rattle.std.specs.Prelude.{◌≡◌, List, [], ◌∷◌}
 use Rattle.indexmap.specs.IndexMap.{IndexMap, values}
 use Rattle.lsys_rules.specs.declared.rule.Rule.{Rule}
 use Rattle.lsys_text.specs.declared.names.Word.{Word}
+use Rattle.lsys_rules.specs.Built.{AreBuilt}
 
 abbrev pub rules_in : {S : Type 0} → IndexMap Word Rule S → List Rule
 rules_in m = values m
@@ -11,5 +12,6 @@ abbrev pub OwnLabels : List (Word × Rule) → Type 0
 OwnLabels [] = Unit {0}
 OwnLabels (e ∷ es) = (e.1.label ≡ e.0) × OwnLabels es
 
-abbrev pub AreLabelled : {S : Type 0} → IndexMap Word Rule S → Type 0
-AreLabelled m = OwnLabels m.entries
+pub record IsKept {S : Type 0} (m : IndexMap Word Rule S) : Type 0 where
+  pub labels : OwnLabels m.entries
+  pub built : AreBuilt (values m)

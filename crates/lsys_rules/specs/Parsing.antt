@@ -1,59 +1,51 @@
--- Tokens as commands.
-use Rattle.std.specs.Prelude.{◌≡◌, ℕ, Bool, Option, Some, None, Result, Ok, Err, List, [], ◌∷◌, map}
-use Rattle.lsys_syntax.specs.Tokens.{Kind}
+-- What the functions that read a command answer.
+use Rattle.std.specs.Prelude.{◌≡◌, ℕ, Bool, true, false, ◌||◌, Option, Some, None, Result, Ok, Err, List, [], ◌∷◌, drop, option_map}
+use Rattle.lsys_syntax.specs.Tokens.{Kind, Word, Number, LeftBracket, RightBracket, Percent}
 use Rattle.lsys_syntax.specs.Commands as spec
-use Rattle.lsys_spec.specs.Interim.{letters, plain_string, plain_production, plain_query, plain_quit, plain_command}
-use Rattle.lsys_text.specs.Tokens.{kind_of, name_of}
+use Rattle.lsys_syntax.specs.LineMachine.{ProductionDue}
+use Rattle.lsys_syntax.specs.RuleMachine.{start}
+use Rattle.lsys_spec.specs.Interim.{had_command}
+use Rattle.lsys_text.specs.Tokens.{kinds_of}
 use Rattle.lsys_text.specs.declared.token_kind.Token.{Token}
-use Rattle.lsys_rules.specs.Views.{string_of, rule_of}
-use Rattle.lsys_rules.specs.declared.rule.Rule.{Rule}
+use Rattle.lsys_rules.specs.declared.command.Parts.{Parts}
 use Rattle.lsys_rules.specs.declared.command.Command.{Command}
-use Rattle.lsys_rules.specs.declared.command.Command.TheVariants.{Axiom, Production, Depth, String, Quit}
-use Rattle.lsys_rules.specs.declared.command.CommandKind.{CommandKind}
-use Rattle.lsys_rules.specs.declared.command.CommandKind.TheVariants as kinds
 use Rattle.lsys_rules.specs.declared.refusal.Refusal.{Refusal}
 use Rattle.lsys_rules.specs.declared.refusal.Refusal.TheVariants.{Form, Memory}
+use Rattle.lsys_rules.specs.Reading.{plain_from}
+use Rattle.lsys_rules.specs.Commands.{command_of, parts_command, AreParts, had_from}
 
-abbrev pub kinds_of : List Token → List Kind
-kinds_of ts = map (λ t. kind_of t.kind) ts
+abbrev pub word_in : Kind → Option (List ℕ)
+word_in (Word w) = Some w
+word_in k = None
 
-abbrev pub put_of : Rule → spec.Command
-put_of r = spec.put_production None r.label (rule_of r)
+-- a bracket or a cut
+abbrev pub is_branch : Kind → Bool
+is_branch LeftBracket = true
+is_branch RightBracket = true
+is_branch Percent = true
+is_branch k = false
 
--- the code's command as that of the definitions
-abbrev pub command_of : Command → spec.Command
-command_of (Axiom ns) = spec.set_axiom (string_of ns)
-command_of (Production r) = put_of r
-command_of (Depth n) = spec.set_depth n
-command_of (String t) = spec.print_string t
-command_of Quit = spec.quit
+abbrev pub has_branches : List Kind → Bool
+has_branches [] = false
+has_branches (k ∷ ks) = is_branch k || has_branches ks
 
-abbrev pub kind_of_command : spec.Command → CommandKind
-kind_of_command (spec.print_string n) = kinds.String n
-kind_of_command spec.quit = kinds.Quit
-kind_of_command c = kinds.Edit
+abbrev pub number_alone : List Kind → Option ℕ
+number_alone (Number n ∷ []) = Some n
+number_alone ks = None
 
--- the letters that the tokens are, in order; or the tokens aren't letters
-abbrev pub AreLetterTokens : List Kind → Result (List (List ℕ)) Refusal → Type 0
-AreLetterTokens ks (Ok ns) = letters ks ≡ Some (map name_of ns)
-AreLetterTokens ks (Err Form) = letters ks ≡ None
-AreLetterTokens ks (Err Memory) = Unit {0}
+-- a label and the colon behind it, after the word `production`
+abbrev pub IsLabel : List Kind → Option (List ℕ) → Type 0
+IsLabel ks None = had_from ProductionDue (drop 1 ks) ≡ None
+IsLabel ks (Some l) = had_from ProductionDue (drop 1 ks) ≡ option_map (spec.put_production None l) (plain_from start (drop 3 ks))
 
-abbrev pub IsProductionOf : List Kind → Result Rule Refusal → Type 0
-IsProductionOf ks (Ok r) = plain_production ks ≡ Some (put_of r)
-IsProductionOf ks (Err Form) = plain_production ks ≡ None
-IsProductionOf ks (Err Memory) = Unit {0}
-
-abbrev pub IsQueryOf : List Kind → Result Command Refusal → Type 0
-IsQueryOf ks (Ok c) = plain_query ks ≡ Some (command_of c)
-IsQueryOf ks (Err e) = (plain_query ks ≡ None) × (e ≡ Form)
-
-abbrev pub IsQuitOf : List Kind → Result Command Refusal → Type 0
-IsQuitOf ks (Ok c) = plain_quit ks ≡ Some (command_of c)
-IsQuitOf ks (Err e) = (plain_quit ks ≡ None) × (e ≡ Form)
+-- the parts of this command; or there is none
+abbrev pub AreRead : Option spec.Command → List Kind → Result Parts Refusal → Type 0
+AreRead o ks (Ok p) = (o ≡ Some (parts_command ks p)) × AreParts ks p
+AreRead o ks (Err Form) = o ≡ None
+AreRead o ks (Err Memory) = Unit {0}
 
 -- the command that the tokens spell; or they spell none
-abbrev pub Parsed : List Kind → Result Command Refusal → Type 0
-Parsed ks (Ok c) = plain_command ks ≡ Some (command_of c)
-Parsed ks (Err Form) = plain_command ks ≡ None
-Parsed ks (Err Memory) = Unit {0}
+abbrev pub IsParsed : List Token → Result Command Refusal → Type 0
+IsParsed ts (Ok c) = (c ≡ ts) × (had_command (kinds_of ts) ≡ Some (command_of ts))
+IsParsed ts (Err Form) = had_command (kinds_of ts) ≡ None
+IsParsed ts (Err Memory) = Unit {0}

@@ -1,5 +1,5 @@
 -- Rules in a list, each with its own label.
-use Rattle.std.specs.Prelude.{ℕ, List, [], ◌∷◌, bytes_eq, if◌then◌else◌}
+use Rattle.std.specs.Prelude.{List, [], ◌∷◌, bytes_eq, if◌then◌else◌}
 use Rattle.lsys_rules.specs.declared.rule.Rule.{Rule}
 
 -- the rules after one is put: in the place of the one with its label, or last

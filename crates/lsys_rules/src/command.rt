@@ -1,23 +1,44 @@
 //! Commands.
 ghost use Rattle.std.specs.Prelude.{◌≡◌};
-ghost use Rattle.lsys_rules.specs.Parsing.{command_of, kind_of_command};
+ghost use Rattle.lsys_rules.specs.Commands.{command_of, kind_of_command};
 
-use crate::names::NameList;
-use crate::rule::Rule;
+use crate::rule_line::RuleLine;
+use lsys_text::Token;
+use std::marker::Model;
 
-/// A line's command.
+/// A line's command: its tokens, and what they are the parts of.
 #[derive(Drop)]
-pub enum Command {
-    /// Sets the axiom.
-    Axiom(NameList),
+pub struct Command {
+    pub(crate) tokens: Vec<Token>,
+    pub(crate) parts: Parts,
+}
+
+/// What a command's tokens are the parts of.
+#[derive(Drop)]
+pub(crate) enum Parts {
+    /// Sets the axiom, whose string begins behind the first token.
+    Axiom,
     /// Puts a rule.
-    Production(Rule),
+    Production(RuleLine),
     /// Sets the depth.
     Depth(u64),
     /// Prints a level: the last one without a number.
-    String { level: Option<u64> },
+    String(Option<u64>),
     /// Ends the session.
     Quit,
+}
+
+impl Model for Command {
+    ghost use Rattle.std.specs.Prelude.{List};
+    ghost use Rattle.lsys_text.specs.declared.token_kind.Token.{Token};
+
+    ghost Value = { List Token };
+
+    ghost use Rattle.lsys_rules.specs.InsideCommand.{command_tokens, IsKept};
+
+    ghost view = { command_tokens };
+
+    ghost invariant = { IsKept };
 }
 
 /// What a command is for.
@@ -36,12 +57,12 @@ impl Command {
     pub fn kind(&self) -> CommandKind
         ensures { result ≡ kind_of_command (command_of self.now) }
     {
-        match self {
-            Command::Axiom(_names) => CommandKind::Edit,
-            Command::Production(_rule) => CommandKind::Edit,
-            Command::Depth(_depth) => CommandKind::Edit,
-            Command::String { level } => CommandKind::String { level: *level },
-            Command::Quit => CommandKind::Quit,
+        match &self.parts {
+            Parts::Axiom => CommandKind::Edit,
+            Parts::Production(_line) => CommandKind::Edit,
+            Parts::Depth(_depth) => CommandKind::Edit,
+            Parts::String(level) => CommandKind::String { level: *level },
+            Parts::Quit => CommandKind::Quit,
         }
     }
 }

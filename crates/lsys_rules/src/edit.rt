@@ -1,40 +1,50 @@
 //! What a command makes of a system.
-ghost use Rattle.std.specs.Prelude.{◌≡◌, IfOk, IfErr};
-ghost use Rattle.lsys_syntax.specs.Commands.{set_axiom, set_depth, print_string};
-ghost use Rattle.lsys_rules.specs.Views.{system_of, string_of};
-ghost use Rattle.lsys_rules.specs.Parsing.{command_of, put_of};
+ghost use Rattle.std.specs.Prelude.{◌≡◌, ◌≤◌, ◌+◌, None, true, length, IfOk, IfErr};
+ghost use Rattle.lsys_syntax.specs.Commands.{set_axiom, put_production, set_depth, print_string};
+ghost use Rattle.lsys_syntax.specs.LineMachine.{sentence};
+ghost use Rattle.lsys_syntax.specs.Pieces.{kinds_of as kinds_in};
+ghost use Rattle.lsys_syntax.specs.Rules.{rule_pieces};
+ghost use Rattle.lsys_syntax.specs.Sentences.{AreTokens};
+ghost use Rattle.lsys_spec.specs.Interim.{is_plain};
+ghost use Rattle.lsys_text.specs.Tokens.{kinds_of};
+ghost use Rattle.lsys_module.specs.Building.{AreOfLine};
+ghost use Rattle.lsys_rules.specs.Systems.{system_of};
+ghost use Rattle.lsys_rules.specs.RuleLines.{rule_at, IsRuleLine};
+ghost use Rattle.lsys_rules.specs.Commands.{command_of, string_in, axiom_verdict};
+ghost use Rattle.lsys_rules.specs.Checking.{rule_refused};
 ghost use Rattle.lsys_rules.specs.Applying.{IsApplied};
 
-use crate::command::Command;
-use crate::names::NameList;
+use crate::building::build_rule;
+use crate::checks::is_refused;
+use crate::command::{Command, Parts};
 use crate::refusal::Refusal;
-use crate::rule::Rule;
+use crate::rule_line::RuleLine;
 use crate::system::System;
-use std::alloc::{AllocError, Global};
+use lsys_module::build_string;
+use lsys_text::Token;
+use std::alloc::Global;
 
-const MOST_AXIOM_SYMBOLS: usize = 4096;
-
-const MOST_SUCCESSOR_SYMBOLS: usize = 128;
-
+/// A system has at most so many rules.
 const MOST_RULES: usize = 256;
 
+/// The greatest depth.
 const MOST_LEVELS: u64 = 64;
 
 /// The system after an edit; for a query an equal system.
 ///
 /// # Errors
 ///
-/// `Form` where a limit would be passed, and `Memory` is want of memory.
+/// `Form` where a name of a rule's expressions is no formal of it, a formal stands twice, a limit would
+/// be passed or the level isn't there, and `Memory` is want of memory.
 pub fn apply(alloc: Global, system: &System, command: &Command) -> Result<System, Refusal>
     ensures { IsApplied (system_of system.now) (command_of command.now) result }
 {
-    let _alloc = alloc;
-    match command {
-        Command::Axiom(names) => with_axiom(system, names),
-        Command::Production(rule) => with_rule(system, rule),
-        Command::Depth(depth) => with_depth(system, *depth),
-        Command::String { level } => with_query(system, *level),
-        Command::Quit => copy_of(system),
+    match &command.parts {
+        Parts::Axiom => with_axiom(alloc, system, &command.tokens),
+        Parts::Production(line) => with_rule(alloc, system, &command.tokens, line),
+        Parts::Depth(depth) => with_depth(system, *depth),
+        Parts::String(level) => with_query(system, *level),
+        Parts::Quit => copy_of(system),
     }
 }
 
@@ -43,7 +53,7 @@ fn copy_of(system: &System) -> Result<System, Refusal>
     ensures copy { IfOk result (λ s. s ≡ system.now) }
     ensures refusal { IfErr result (λ e. e ≡ Refusal.Memory) }
 {
-    system.clone().map_err(|_| Refusal::Memory)
+    Ok(system.clone()?)
 }
 
 // The same system, where it has the level that is asked for.
@@ -56,26 +66,41 @@ fn with_query(system: &System, level: Option<u64>) -> Result<System, Refusal>
     }
 }
 
-fn with_axiom(system: &System, names: &NameList) -> Result<System, Refusal>
-    ensures { IsApplied (system_of system.now) (set_axiom (string_of names.now)) result }
+// The system with the axiom that stands behind the first token.
+fn with_axiom(alloc: Global, system: &System, tokens: &[Token]) -> Result<System, Refusal>
+    requires place { 1 ≤ length tokens.now }
+    requires few { length tokens.now ≤ 65536 }
+    requires forms { AreTokens (kinds_of tokens.now) }
+    requires line { AreOfLine tokens.now }
+    requires string { axiom_verdict (kinds_of tokens.now) ≡ sentence (set_axiom (string_in (axiom_verdict (kinds_of tokens.now)))) }
+    requires plain { is_plain (string_in (axiom_verdict (kinds_of tokens.now))) ≡ true }
+    ensures { IsApplied (system_of system.now) (set_axiom (string_in (axiom_verdict (kinds_of tokens.now)))) result }
 {
-    if names.len() > MOST_AXIOM_SYMBOLS {
-        return Err(Refusal::Form);
-    }
-    let mut next = copy_of(system)?;
-    next.axiom = names.clone().map_err(|_| Refusal::Memory)?;
-    Ok(next)
+    let axiom = build_string(alloc, tokens, 1)?;
+    Ok(System {
+        axiom,
+        rules: system.rules.clone()?,
+        depth: system.depth,
+    })
 }
 
-fn with_rule(system: &System, rule: &Rule) -> Result<System, Refusal>
-    ensures { IsApplied (system_of system.now) (put_of rule.now) result }
+// The system with the rule of a line, in the place of the one with its label, or last.
+fn with_rule(
+    alloc: Global,
+    system: &System,
+    tokens: &[Token],
+    line: &RuleLine,
+) -> Result<System, Refusal>
+    requires line { IsRuleLine (kinds_of tokens.now) line.now }
+    requires spelled { 3 + length (kinds_in (rule_pieces (rule_at (kinds_of tokens.now) line.now))) ≡ length tokens.now }
+    ensures { IsApplied (system_of system.now) (put_production None line.now.label (rule_at (kinds_of tokens.now) line.now)) result }
 {
-    if rule.successor.len() > MOST_SUCCESSOR_SYMBOLS {
+    if is_refused(tokens, line) {
         return Err(Refusal::Form);
     }
+    let rule = build_rule(alloc, tokens, line)?;
     let mut next = copy_of(system)?;
-    let rule = rule.clone().map_err(|_| Refusal::Memory)?;
-    next.rules.put(rule).map_err(|_| Refusal::Memory)?;
+    next.rules.put(rule)?;
     if next.rules.rules().len() > MOST_RULES {
         return Err(Refusal::Form);
     }

@@ -1,28 +1,48 @@
 //! Tokens as commands.
-ghost use Rattle.std.specs.Prelude.{◌≡◌, ◌≤◌, ◌++◌, List, [], ◌∷◌, map, drop, length, bytes_eq, option_map, IfSome, IsTrue, ◌↔◌};
-ghost use Rattle.lsys_text.specs.Tokens.{kind_of, name_of};
-ghost use Rattle.lsys_spec.specs.Interim.{letter, is_colon, is_arrow, word_in, plain_depth};
-ghost use Rattle.lsys_syntax.specs.Commands.{set_depth};
-ghost use Rattle.lsys_rules.specs.Letters.{IsLetter};
-ghost use Rattle.lsys_rules.specs.Parsing.{kinds_of, AreLetterTokens, IsProductionOf, IsQueryOf, IsQuitOf, Parsed};
+ghost use Rattle.std.specs.Prelude.{◌≡◌, ◌≤◌, List, [], drop, length, bytes_eq, ◌<◌};
+ghost use Rattle.lsys_syntax.specs.LineMachine.{InAxiom, Symbols, ProductionDue, DepthDue, StringRead, Whole};
+ghost use Rattle.lsys_syntax.specs.Tokens.{Kind};
+ghost use Rattle.lsys_syntax.specs.Commands.{quit};
+ghost use Rattle.lsys_syntax.specs.Sentences.{AreTokens};
+ghost use Rattle.lsys_text.specs.Tokens.{kind_of, kinds_of};
+ghost use Rattle.lsys_spec.specs.Interim.{had_command};
+ghost use Rattle.lsys_module.specs.Building.{AreOfLine};
+ghost use Rattle.lsys_rules.specs.Commands.{had_from};
+ghost use Rattle.lsys_rules.specs.Parsing.{word_in, is_branch, has_branches, number_alone, IsLabel, AreRead, IsParsed};
 
-use crate::command::Command;
-use crate::names::NameList;
+use crate::command::{Command, Parts};
+use crate::reading::{PatternRead, condition, is_colon, pattern, successor, token_at};
 use crate::refusal::Refusal;
-use crate::rule::{Pattern, Rule};
-use lsys_text::{Name, Token, TokenKind, Word};
+use crate::rule_line::RuleLine;
+use lsys_module::scan_string;
+use lsys_text::{Token, TokenKind, Word};
 use std::alloc::Global;
 
-/// The command that a line's tokens spell. `length` is that of the line, without its LF and the CR
-/// before it.
+/// The command that a line's tokens spell. `line_length` is that of the line in bytes, without its LF
+/// and the CR before it.
 ///
 /// # Errors
 ///
 /// `Form` where the tokens are none of the commands, and `Memory` is want of memory.
-pub fn parse_command(alloc: Global, tokens: &[Token], length: u32) -> Result<Command, Refusal>
-    ensures { Parsed (kinds_of tokens.now) result }
+pub fn parse_command(alloc: Global, tokens: &[Token], line_length: u32) -> Result<Command, Refusal>
+    requires few { length tokens.now ≤ 65536 }
+    requires forms { AreTokens (kinds_of tokens.now) }
+    requires line { AreOfLine tokens.now }
+    ensures { IsParsed tokens.now result }
 {
-    let _length = length;
+    let _line_length = line_length;
+    let parts = parts(alloc, tokens)?;
+    Ok(Command {
+        tokens: Vec::from_slice(alloc, tokens)?,
+        parts,
+    })
+}
+
+// What the tokens are the parts of.
+fn parts(alloc: Global, tokens: &[Token]) -> Result<Parts, Refusal>
+    requires { AreTokens (kinds_of tokens.now) }
+    ensures { AreRead (had_command (kinds_of tokens.now)) (kinds_of tokens.now) result }
+{
     let Some((first, rest)) = tokens.split_first() else {
         return Err(Refusal::Form);
     };
@@ -30,49 +50,15 @@ pub fn parse_command(alloc: Global, tokens: &[Token], length: u32) -> Result<Com
         return Err(Refusal::Form);
     };
     if reads(word, b"axiom") {
-        Ok(Command::Axiom(letters(alloc, rest)?))
+        axiom(tokens)
     } else if reads(word, b"production") {
-        Ok(Command::Production(production(alloc, rest)?))
+        production(alloc, tokens)
     } else if reads(word, b"depth") {
-        match number(rest) {
-            Some(depth) => Ok(Command::Depth(depth)),
-            None => Err(Refusal::Form),
-        }
+        depth(rest)
     } else if reads(word, b"string") {
         query(rest)
     } else if reads(word, b"quit") {
         quit(rest)
-    } else {
-        Err(Refusal::Form)
-    }
-}
-
-// Whether a word has this text.
-fn reads(word: Word, text: &[u8]) -> bool
-    ensures { result ≡ bytes_eq word text.now }
-{
-    word.text().as_bytes() == text
-}
-
-// What stands behind the word `string`: a level's number, or nothing.
-fn query(tokens: &[Token]) -> Result<Command, Refusal>
-    ensures { IsQueryOf (kinds_of tokens.now) result }
-{
-    if tokens.is_empty() {
-        return Ok(Command::String { level: None });
-    }
-    match number(tokens) {
-        Some(level) => Ok(Command::String { level: Some(level) }),
-        None => Err(Refusal::Form),
-    }
-}
-
-// What stands behind the word `quit`: nothing.
-fn quit(tokens: &[Token]) -> Result<Command, Refusal>
-    ensures { IsQuitOf (kinds_of tokens.now) result }
-{
-    if tokens.is_empty() {
-        Ok(Command::Quit)
     } else {
         Err(Refusal::Form)
     }
@@ -88,67 +74,117 @@ fn word(token: &Token) -> Option<Word>
     }
 }
 
-// The name of one letter that a token is.
-fn letter(token: &Token) -> Option<Name>
-    ensures name { option_map name_of result ≡ letter (kind_of token.now.kind) }
-    ensures one { IfSome result IsLetter }
+// Whether a word has this text.
+fn reads(word: Word, text: &[u8]) -> bool
+    ensures { result ≡ bytes_eq word text.now }
 {
-    match token.kind {
-        TokenKind::Name(name) if name.text().as_bytes().len() == 1 => Some(name),
-        _ => None,
+    word.text().as_bytes() == text
+}
+
+// What stands behind the word `axiom`: a string without brackets and cuts.
+fn axiom(tokens: &[Token]) -> Result<Parts, Refusal>
+    requires { 0 < length tokens.now }
+    ensures { AreRead (had_from (InAxiom (Symbols [])) (drop 1 (kinds_of tokens.now))) (kinds_of tokens.now) result }
+{
+    if has_branches(&tokens[1..]) {
+        return Err(Refusal::Form);
+    }
+    match scan_string(tokens, 1) {
+        Ok(()) => Ok(Parts::Axiom),
+        Err(_) => Err(Refusal::Form),
     }
 }
 
-fn is_colon(token: &Token) -> bool
-    ensures { result ≡ is_colon (kind_of token.now.kind) }
+// Whether a bracket or a cut is among the tokens.
+fn has_branches(tokens: &[Token]) -> bool
+    ensures { result ≡ has_branches (kinds_of tokens.now) }
 {
-    matches!(token.kind, TokenKind::Mark(b':'))
-}
-
-fn is_arrow(token: &Token) -> bool
-    ensures { result ≡ is_arrow (kind_of token.now.kind) }
-{
-    matches!(token.kind, TokenKind::Arrow)
-}
-
-// The letters that all the tokens are.
-fn letters(alloc: Global, tokens: &[Token]) -> Result<NameList, Refusal>
-    ensures { AreLetterTokens (kinds_of tokens.now) result }
-{
-    let mut names = NameList::new(alloc);
     for token in tokens {
-        let Some(name) = letter(token) else {
-            return Err(Refusal::Form);
-        };
-        names.push(name).map_err(|_| Refusal::Memory)?;
+        if is_branch(token) {
+            return true;
+        }
     }
-    Ok(names)
+    false
+}
+
+// Whether a token is a bracket or a cut.
+fn is_branch(token: &Token) -> bool
+    ensures { result ≡ is_branch (kind_of token.now.kind) }
+{
+    matches!(token.kind, TokenKind::Mark(b'[' | b']' | b'%'))
 }
 
 // What stands behind the word `production`.
-fn production(alloc: Global, tokens: &[Token]) -> Result<Rule, Refusal>
-    ensures { IsProductionOf (kinds_of tokens.now) result }
+fn production(alloc: Global, tokens: &[Token]) -> Result<Parts, Refusal>
+    requires { AreTokens (kinds_of tokens.now) }
+    ensures { AreRead (had_from ProductionDue (drop 1 (kinds_of tokens.now))) (kinds_of tokens.now) result }
 {
-    if tokens.len() < 4 || !is_colon(&tokens[1]) || !is_arrow(&tokens[3]) {
-        return Err(Refusal::Form);
-    }
-    let Some(label) = word(&tokens[0]) else {
+    let Some(label) = label(tokens) else {
         return Err(Refusal::Form);
     };
-    let Some(name) = letter(&tokens[2]) else {
+    let PatternRead { name, formals, end } = pattern(alloc, tokens, 3)?;
+    let Some(read) = condition(tokens, end) else {
         return Err(Refusal::Form);
     };
-    let successor = letters(alloc, &tokens[4..])?;
-    Ok(Rule {
+    let successor = successor(alloc, tokens, read.end)?;
+    Ok(Parts::Production(RuleLine {
         label,
-        pred: Pattern { name },
+        name,
+        formals,
+        condition: read.condition,
         successor,
-    })
+    }))
+}
+
+// A label and the colon behind it.
+fn label(tokens: &[Token]) -> Option<Word>
+    ensures { IsLabel (kinds_of tokens.now) result }
+{
+    let label = word(token_at(tokens, 1)?)?;
+    if is_colon(token_at(tokens, 2)?) {
+        Some(label)
+    } else {
+        None
+    }
+}
+
+// What stands behind the word `depth`: a number.
+fn depth(tokens: &[Token]) -> Result<Parts, Refusal>
+    ensures { (all : List Kind) → AreRead (had_from DepthDue (kinds_of tokens.now)) all result }
+{
+    match number(tokens) {
+        Some(depth) => Ok(Parts::Depth(depth)),
+        None => Err(Refusal::Form),
+    }
+}
+
+// What stands behind the word `string`: a level's number, or nothing.
+fn query(tokens: &[Token]) -> Result<Parts, Refusal>
+    ensures { (all : List Kind) → AreRead (had_from StringRead (kinds_of tokens.now)) all result }
+{
+    if tokens.is_empty() {
+        return Ok(Parts::String(None));
+    }
+    match number(tokens) {
+        Some(level) => Ok(Parts::String(Some(level))),
+        None => Err(Refusal::Form),
+    }
+}
+
+// What stands behind the word `quit`: nothing.
+fn quit(tokens: &[Token]) -> Result<Parts, Refusal>
+    ensures { (all : List Kind) → AreRead (had_from (Whole quit) (kinds_of tokens.now)) all result }
+{
+    if tokens.is_empty() {
+        Ok(Parts::Quit)
+    } else {
+        Err(Refusal::Form)
+    }
 }
 
 // The number that the tokens are.
 fn number(tokens: &[Token]) -> Option<u64>
-    ensures { option_map set_depth result ≡ plain_depth (kinds_of tokens.now) }
+    ensures { result ≡ number_alone (kinds_of tokens.now) }
 {
     if tokens.len() != 1 {
         return None;

@@ -1,44 +1,36 @@
 //! Systems.
-ghost use Rattle.std.specs.Prelude.{◌≡◌, length, IfOk};
-ghost use Rattle.lsys_spec.specs.Systems.{opening};
-ghost use Rattle.lsys_rules.specs.Views.{system_of};
-ghost use Rattle.lsys_rules.specs.Letters.{AreLetters};
+ghost use Rattle.std.specs.Prelude.{◌≡◌, true};
+ghost use Rattle.lsys_spec.specs.Interim.{is_plain};
+ghost use Rattle.lsys_module.specs.Views.{string_of};
+ghost use Rattle.lsys_rules.specs.Built.{AreBuilt};
 
-use crate::names::NameList;
 use crate::rule::Rule;
 use crate::table::RuleTable;
-use std::alloc::{AllocError, Global};
+use lsys_module::SymbolList;
+use std::alloc::AllocError;
 
 /// What the accepted edits leave: an axiom, productions and a depth.
-#[derive(Clone, Drop)]
+#[derive(Drop)]
 pub struct System {
-    pub(crate) axiom: NameList,
+    pub(crate) axiom: SymbolList,
     pub(crate) rules: RuleTable,
     pub(crate) depth: u32,
+    ghost plain: { is_plain (string_of «axiom») ≡ true },
 }
 
 impl System {
-    /// The system before the first edit: an empty axiom, no rules, depth 0.
-    pub fn opening(alloc: Global) -> Result<System, AllocError>
-        ensures { IfOk result (λ s. system_of s ≡ opening) }
-    {
-        Ok(System {
-            axiom: NameList::new(alloc),
-            rules: RuleTable::new(alloc),
-            depth: 0,
-        })
-    }
-
-    /// The axiom's names, in order.
-    pub fn axiom(&self) -> &NameList
-        ensures { result.now ≡ self.now.axiom }
+    /// The axiom's symbols, in order.
+    pub fn axiom(&self) -> &SymbolList
+        ensures axiom { result.now ≡ self.now.axiom }
+        ensures plain { is_plain (string_of result.now) ≡ true }
     {
         &self.axiom
     }
 
     /// The rules, in the order in which they are tried.
     pub fn rules(&self) -> &[Rule]
-        ensures { result.now ≡ self.now.rules }
+        ensures rules { result.now ≡ self.now.rules }
+        ensures built { AreBuilt self.now.rules }
     {
         self.rules.rules()
     }
@@ -48,5 +40,17 @@ impl System {
         ensures { result ≡ self.now.depth }
     {
         self.depth
+    }
+}
+
+impl Clone for System {
+    ghost is_clone = { λ a b. b ≡ a };
+
+    fn clone(&self) -> Result<System, AllocError> {
+        Ok(System {
+            axiom: self.axiom.clone()?,
+            rules: self.rules.clone()?,
+            depth: self.depth,
+        })
     }
 }

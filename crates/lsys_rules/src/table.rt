@@ -1,6 +1,7 @@
 //! The rules of a system, in the order in which they are tried.
 ghost use Rattle.std.specs.Prelude.{◌≡◌, List, [], length, OnOk, OnErr};
 ghost use Rattle.lsys_rules.specs.Table.{with_rule};
+ghost use Rattle.lsys_rules.specs.Built.{IsBuilt, AreBuilt};
 
 use crate::rule::Rule;
 use indexmap::IndexMap;
@@ -16,15 +17,19 @@ pub struct RuleTable {
 
 impl Model for RuleTable {
     ghost use Rattle.std.specs.Prelude.{List};
+    ghost use Rattle.std.specs.Coded.{codes};
+    ghost use Rattle.lsys_expr.specs.Codes.{expression_code};
     ghost use Rattle.lsys_rules.specs.declared.rule.Rule.{Rule};
 
     ghost Value = { List Rule };
 
-    ghost use Rattle.lsys_rules.specs.InsideTable.{rules_in, AreLabelled};
+    ghost coded = { Prim.hlevel (codes, expression_code) };
+
+    ghost use Rattle.lsys_rules.specs.InsideTable.{rules_in, IsKept};
 
     ghost view = { λ a. rules_in a.by_label };
 
-    ghost invariant = { λ a. AreLabelled a.by_label };
+    ghost invariant = { λ a. IsKept a.by_label };
 }
 
 impl RuleTable {
@@ -39,6 +44,7 @@ impl RuleTable {
 
     /// Puts a rule: a label that stands keeps its place, and a new one goes last.
     pub fn put(&mut self, rule: Rule) -> Result<(), AllocError>
+        requires { IsBuilt rule }
         ensures put { OnOk result (self.new ≡ with_rule rule self.old) }
         ensures refused { OnErr result (self.new ≡ self.old) }
     {
@@ -48,7 +54,8 @@ impl RuleTable {
 
     /// The rules, in order.
     pub fn rules(&self) -> &[Rule]
-        ensures { result.now ≡ self.now }
+        ensures rules { result.now ≡ self.now }
+        ensures built { AreBuilt self.now }
     {
         self.by_label.values().as_slice()
     }

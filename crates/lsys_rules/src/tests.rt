@@ -1,4 +1,4 @@
-use super::{Command, CommandKind, Refusal, System, apply, parse_command};
+use super::{Command, CommandKind, Refusal, System, Template, apply, parse_command};
 use lsys_text::tokens;
 use std::alloc::{AllocError, Global};
 use std::test::Fail;
@@ -8,8 +8,25 @@ fn command_of(alloc: Global, line: &str) -> Result<Result<Command, Refusal>, All
     if line.len() > 65536 {
         return Err(AllocError);
     }
-    let found = tokens(alloc, line.as_bytes()).map_err(|_| AllocError)?;
+    let Ok(found) = tokens(alloc, line.as_bytes()) else {
+        return Err(AllocError);
+    };
     Ok(parse_command(alloc, found.as_slice(), line.len() as u32))
+}
+
+/// The system after lines that are all accepted.
+fn system_after(alloc: Global, lines: &[&str]) -> Result<System, AllocError> {
+    let mut system = System::opening(alloc)?;
+    for line in lines {
+        let Ok(command) = command_of(alloc, *line)? else {
+            return Err(AllocError);
+        };
+        match apply(alloc, &system, &command) {
+            Ok(next) => system = next,
+            Err(_) => return Err(AllocError),
+        }
+    }
+    Ok(system)
 }
 
 #[test]
@@ -17,15 +34,24 @@ fn lines_and_what_they_are_for(rt: HostRuntime) -> Result<(), Fail> {
     let rows = [
         ("axiom", Some(CommandKind::Edit)),
         ("axiom AB C", Some(CommandKind::Edit)),
+        ("axiom F(1,-2)+a_b(0)", Some(CommandKind::Edit)),
+        ("axiom F[+A]", None),
+        ("axiom F(x)", None),
         ("production p: A =>", Some(CommandKind::Edit)),
+        (
+            "production p: A(x) : x > 0 => B(x - 1) C",
+            Some(CommandKind::Edit),
+        ),
+        ("production p: A(x) : 1<2<3 => B", None),
+        ("production p: A(x)) => B", None),
+        ("production p: A => B [C]", None),
+        ("production p: A < B => C", None),
+        ("production main p: A => B", None),
         ("depth 64", Some(CommandKind::Edit)),
+        ("depth", None),
         ("string", Some(CommandKind::String { level: None })),
         ("string 1", Some(CommandKind::String { level: Some(1) })),
         ("string 1 2", None),
-        ("axiom F_a", None),
-        ("production main p: A => B", None),
-        ("production p: A(x) => B", None),
-        ("depth", None),
         ("quit", Some(CommandKind::Quit)),
         ("quit now", None),
         ("", None),
@@ -45,34 +71,45 @@ fn edits_and_the_rules_that_they_leave(rt: HostRuntime) -> Result<(), Fail> {
     let lines = [
         "production p: A => B",
         "production q: A => C",
-        "production p: X => YZ",
-        "axiom AB",
+        "production p: X(n, m) : n > m => Y(m) Z(n * n, 2)",
+        "axiom A X(2,1)",
         "depth 3",
     ];
-    let mut system = System::opening(rt.alloc())?;
-    for line in lines {
-        let Ok(command) = command_of(rt.alloc(), line)? else {
-            assert!(rt; false, "{line:?} is a command");
-            return Ok(());
-        };
-        match apply(rt.alloc(), &system, &command) {
-            Ok(next) => system = next,
-            Err(_) => assert!(rt; false, "{line:?} is accepted"),
-        }
-    }
-    assert_eq!(rt; system.rules().len(), 2);
-    assert_eq!(rt; system.rules()[0].successor.len(), 2);
+    let system = system_after(rt.alloc(), lines.as_slice())?;
     assert_eq!(rt; system.axiom().len(), 2);
     assert_eq!(rt; system.depth(), 3);
+    assert_eq!(rt; system.rules().len(), 2);
+    let first = &system.rules()[0];
+    assert!(rt; first.label.text().as_bytes() == b"p".as_slice());
+    assert_eq!(rt; first.pred.formals.names().len(), 2);
+    assert!(rt; first.body.get().condition.is_some());
+    assert_eq!(rt; first.body.get().successor.len(), 2);
+    if let Template::Module { name, params } = &first.body.get().successor[1] {
+        assert!(rt; name.text().as_bytes() == b"Z".as_slice());
+        assert_eq!(rt; params.len(), 2);
+    }
     Ok(())
 }
 
 #[test]
-fn a_depth_past_64_is_refused(rt: HostRuntime) -> Result<(), Fail> {
+fn commands_that_are_refused_by_themselves(rt: HostRuntime) -> Result<(), Fail> {
     let system = System::opening(rt.alloc())?;
-    if let Ok(command) = command_of(rt.alloc(), "depth 65")? {
-        let refused = apply(rt.alloc(), &system, &command).is_err();
-        assert!(rt; refused);
+    let rows = [
+        "depth 65",
+        "string 1",
+        "production p: A(x) => B(y)",
+        "production p: A(x) : y > 0 => B",
+        "production p: A(x, y, x) => B",
+        "production p: A(a,b,c,d,e,f,g,h,i) => B",
+        "production p: A => B(1,2,3,4,5,6,7,8,9)",
+        "axiom B(1,2,3,4,5,6,7,8,9)",
+    ];
+    for line in rows {
+        let refused = match command_of(rt.alloc(), line)? {
+            Ok(command) => apply(rt.alloc(), &system, &command).is_err(),
+            Err(_) => false,
+        };
+        assert!(rt; refused, "{line:?}");
     }
     Ok(())
 }

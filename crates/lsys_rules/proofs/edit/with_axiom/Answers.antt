@@ -1,16 +1,12 @@
-use Rattle.std.proofs.Common.{◌≡◌, ◌<◌, ◌≤◌, length, arith, rules}
-use Rattle.lsys_rules.specs.declared.system.System.{System}
-use Rattle.lsys_rules.proofs.Puts.{axiom_accepted, axiom_too_long, axiom_changed}
+use Rattle.std.proofs.Common.{ap, ◌∙◌}
+use Rattle.lsys_spec.specs.Interim.{is_plain}
+use Rattle.lsys_text.specs.Tokens.{kinds_of}
+use Rattle.lsys_module.specs.Scanning.{string_verdict}
+use Rattle.lsys_rules.specs.Commands.{string_in, axiom_verdict}
+use Rattle.lsys_rules.proofs.Applied.{plain-values, built-values}
 use Rattle.lsys_rules.proofs.edit.with_axiom.Goals as goal
 
-pub returns-then-len-gt-MOST_AXIOM_SYMBOLS : goal.returns-then-len-gt-MOST_AXIOM_SYMBOLS
-returns-then-len-gt-MOST_AXIOM_SYMBOLS c = axiom_too_long c.args.system.now c.args.names.now (omega (arith, c.len.ensures.len))
-
-pub returns : goal.returns
-returns c =
-    let copied : c.in_ok-next.next ≡ c.args.system.now = search rules in
-    let named : c.in_ok-next-2.field-0 ≡ c.args.names.now = search rules in
-    let next : System = record c.in_ok-next.next { «axiom» = c.in_ok-next-2.field-0 } in (
-      axiom_accepted c.args.system.now c.args.names.now (omega (arith, c.len.ensures.len)),
-      axiom_changed c.args.system.now next c.args.names.now named (cc) (cc),
-    )
+pub invariant_of-result : goal.invariant_of-result
+invariant_of-result c =
+    let xs = string_in (axiom_verdict (kinds_of c.args.tokens.now)) in
+    record { plain = ap is_plain (built-values c.args.tokens.now xs c.in_ok-axiom.axiom (string_verdict 1 c.args.tokens.now) c.requires.string c.in_ok-axiom.ensures) ∙ plain-values xs ∙ c.requires.plain }
