@@ -1,2 +1,4 @@
-pub mod Letters
+pub mod Faults
+pub mod Made
+pub mod Answers
 pub mod Rows

@@ -1,21 +1,21 @@
-//! Levels, each a list of names.
-ghost use Rattle.std.specs.Prelude.{◌≡◌, ◌<◌, ◌-◌, ◌++◌, ◌∷◌, [], length, slice_get, slice_index_or, OnOk, OnErr};
+//! Levels, each a string of symbols.
+ghost use Rattle.std.specs.Prelude.{◌≡◌, ◌<◌, ◌-◌, ◌++◌, ◌∷◌, [], length, slice_get, OnOk, OnErr};
 
-use lsys_rules::NameList;
-use lsys_text::Name;
+use lsys_module::{Symbol, SymbolList};
 use std::alloc::{AllocError, Global};
 use std::marker::Model;
 
 /// Levels, from the first.
 #[derive(Drop)]
 pub struct Rows {
-    levels: Vec<NameList>,
+    levels: Vec<SymbolList>,
 }
 
 impl Model for Rows {
-    ghost use Rattle.std.specs.Prelude.{List, ℕ};
+    ghost use Rattle.std.specs.Prelude.{List};
+    ghost use Rattle.lsys_module.specs.declared.symbol.Symbol.{Symbol};
 
-    ghost Value = { List (List (List ℕ)) };
+    ghost Value = { List (List Symbol) };
 
     ghost view = { λ a. a.levels.items };
 }
@@ -29,7 +29,7 @@ impl Rows {
         }
     }
 
-    pub(crate) fn push(&mut self, level: NameList) -> Result<(), AllocError>
+    pub(crate) fn push(&mut self, level: SymbolList) -> Result<(), AllocError>
         ensures added { OnOk result (self.new ≡ self.old ++ level ∷ []) }
         ensures refused { OnErr result (self.new ≡ self.old) }
     {
@@ -38,7 +38,7 @@ impl Rows {
     }
 
     /// The last level.
-    pub fn last(&self) -> &NameList
+    pub fn last(&self) -> &SymbolList
         requires { 0 < length self.now }
         ensures { slice_get self.now (length self.now - 1) ≡ Some result.now }
     {
@@ -46,18 +46,18 @@ impl Rows {
     }
 
     /// A level as a string.
-    pub fn string(&self, level: u32) -> &NameList
+    pub fn string(&self, level: u32) -> &SymbolList
         requires { level < length self.now }
         ensures { slice_get self.now level ≡ Some result.now }
     {
         &self.levels[level as usize]
     }
 
-    /// The names of a level, in order.
-    pub fn level(&self, level: u32) -> &[Name]
+    /// The symbols of a level, in order.
+    pub fn level(&self, level: u32) -> &[Symbol]
         requires { level < length self.now }
         ensures { slice_get self.now level ≡ Some result.now }
     {
-        self.string(level).names()
+        self.string(level).symbols()
     }
 }

@@ -1,75 +1,192 @@
-use super::{DeriveRefusal, derive};
-use lsys_rules::{System, apply, parse_command};
+use super::{DeriveRefusal, Rows, derive};
+use lsys_module::{Module, Symbol};
+use lsys_rules::{Command, System, apply, parse_command};
 use lsys_text::tokens;
 use std::alloc::{AllocError, Global};
 use std::test::Fail;
+
+/// The command of a line.
+fn command_of(alloc: Global, line: &str) -> Result<Command, AllocError> {
+    if line.len() > 65536 {
+        return Err(AllocError);
+    }
+    let Ok(found) = tokens(alloc, line.as_bytes()) else {
+        return Err(AllocError);
+    };
+    parse_command(alloc, found.as_slice(), line.len() as u32).map_err(|_| AllocError)
+}
 
 /// The system that these lines leave.
 fn system_after(alloc: Global, lines: &[&str]) -> Result<System, AllocError> {
     let mut system = System::opening(alloc)?;
     for line in lines {
-        if line.len() > 65536 {
-            return Err(AllocError);
-        }
-        let found = tokens(alloc, line.as_bytes()).map_err(|_| AllocError)?;
-        let command = parse_command(alloc, found.as_slice(), line.len() as u32).map_err(
-            |_| AllocError,
-        )?;
+        let command = command_of(alloc, *line)?;
         system = apply(alloc, &system, &command).map_err(|_| AllocError)?;
     }
     Ok(system)
 }
 
-/// The names of a level, one behind the other.
-fn text_of(alloc: Global, system: &System, level: u32) -> Result<Vec<u8>, AllocError> {
+/// Adds a module as it would be written.
+fn write_module(alloc: Global, text: &mut Vec<u8>, module: &Module) -> Result<(), AllocError> {
+    text.extend_from_slice(module.name.text().as_bytes())?;
+    let values = module.params.values();
+    for (place, value) in values.iter().enumerate() {
+        text.push(if place == 0 { b'(' } else { b',' })?;
+        text.extend_from_slice(format!(in alloc; "{value}")?.as_bytes())?;
+    }
+    if !values.is_empty() {
+        text.push(b')')?;
+    }
+    Ok(())
+}
+
+/// The symbols of a level, as they would be written without blanks.
+fn level_text(alloc: Global, symbols: &[Symbol]) -> Result<Vec<u8>, AllocError> {
     let mut text = Vec::new(alloc);
-    match derive(alloc, system, 1000) {
-        Ok(rows) => {
-            for name in rows.level(level.min(system.depth())) {
-                text.extend_from_slice(name.text().as_bytes())?;
-            }
+    for symbol in symbols {
+        match symbol {
+            Symbol::Push => text.push(b'[')?,
+            Symbol::Pop => text.push(b']')?,
+            Symbol::Cut => text.push(b'%')?,
+            Symbol::Module(module) => write_module(alloc, &mut text, module)?,
         }
-        Err(DeriveRefusal::Limit { level: _ }) => text.extend_from_slice(b"limit")?,
+    }
+    Ok(text)
+}
+
+/// The last level, or the refusal in the words of a reply.
+fn outcome_text(
+    alloc: Global,
+    outcome: Result<Rows, DeriveRefusal>,
+) -> Result<Vec<u8>, AllocError> {
+    let mut text = Vec::new(alloc);
+    match outcome {
+        Ok(rows) => text.extend_from_slice(b"levels")?,
+        Err(
+            DeriveRefusal::Fault {
+                kind,
+                level,
+                module,
+            },
+        ) => {
+            text.extend_from_slice(b"fault ")?;
+            text.extend_from_slice(kind.word().as_bytes())?;
+            text.extend_from_slice(format!(in alloc;
+                " level {level} module {module}"
+            )?.as_bytes())?;
+        }
+        Err(DeriveRefusal::Limit { level }) => {
+            text.extend_from_slice(format!(in alloc; "limit level {level}")?.as_bytes())?;
+        }
         Err(DeriveRefusal::Memory) => return Err(AllocError),
     }
     Ok(text)
 }
 
 #[test]
-fn algae_level_by_level(rt: HostRuntime) -> Result<(), Fail> {
+fn levels_with_parameters(rt: HostRuntime) -> Result<(), Fail> {
     let lines = [
-        "axiom A",
-        "production a: A => AB",
-        "production b: B => A",
-        "depth 5",
+        "axiom A(1,2)B(3)C",
+        "production a: A(x,y) : y > 0 => A(x+1,y-1)B(x*y)",
+        "production b: B(x) : x-3 => B(x-1)C",
+        "production c: A(x,y) : y == 0 => C",
+        "production d: C => CA(0,1)",
+        "depth 3",
+    ];
+    let levels = [
+        "A(1,2)B(3)C",
+        "A(2,1)B(2)B(3)CA(0,1)",
+        "A(3,0)B(2)B(1)CB(3)CA(0,1)A(1,0)B(0)",
+        "CB(1)CB(0)CCA(0,1)B(3)CA(0,1)A(1,0)B(0)CB(-1)C",
     ];
     let system = system_after(rt.alloc(), &lines)?;
-    let levels = ["A", "AB", "ABA", "ABAAB", "ABAABABA", "ABAABABAABAAB"];
+    let Ok(rows) = derive(rt.alloc(), &system, 1000) else {
+        return Err(Fail::from(AllocError));
+    };
     for (number, expected) in levels.iter().enumerate() {
-        let text = text_of(rt.alloc(), &system, number as u32)?;
+        let level = (number as u32).min(system.depth());
+        let text = level_text(rt.alloc(), rows.level(level))?;
         assert_eq!(rt; text.as_slice(), expected.as_bytes());
+        assert_eq!(rt; rows.string(level).len(), rows.level(level).len());
     }
+    let text = level_text(rt.alloc(), rows.last().symbols())?;
+    assert_eq!(rt; text.as_slice(), levels[3].as_bytes());
     Ok(())
 }
 
 #[test]
-fn the_limit_bounds_the_sum_of_the_lengths(rt: HostRuntime) -> Result<(), Fail> {
-    let doubling = ["axiom A", "production a: A => AA", "depth 15"];
-    let system = system_after(rt.alloc(), &doubling)?;
-    let rows = [
-        (65_535, None),
-        (65_534, Some(15)),
-        (31, Some(5)),
-        (1, Some(1)),
-        (0, Some(0)),
+fn the_first_rule_that_applies(rt: HostRuntime) -> Result<(), Fail> {
+    let lines = [
+        "axiom A(5)A(3)A(2)A(4,4)C",
+        "production p: A(x) : x-3 => B(x)",
+        "production q: A(x) => C(x)",
+        "production r: A(x,y) : x != y => B",
+        "production s: C => CC",
+        "depth 1",
     ];
-    for (limit, expected) in rows {
-        let refused = match derive(rt.alloc(), &system, limit) {
-            Ok(_) => None,
-            Err(DeriveRefusal::Limit { level }) => Some(level),
-            Err(DeriveRefusal::Memory) => Some(99),
-        };
-        assert_eq!(rt; refused, expected);
+    let system = system_after(rt.alloc(), &lines)?;
+    let Ok(rows) = derive(rt.alloc(), &system, 1000) else {
+        return Err(Fail::from(AllocError));
+    };
+    let text = level_text(rt.alloc(), rows.last().symbols())?;
+    assert_eq!(rt; text.as_slice(), b"B(5)C(3)B(2)A(4,4)CC".as_slice());
+    Ok(())
+}
+
+#[test]
+fn refusals(rt: HostRuntime) -> Result<(), Fail> {
+    let doubling = ["axiom A", "production p: A => AA", "depth 15"];
+    let third = [
+        "axiom CA(2)A(0)",
+        "production p: A(x) : 6/x => A(x-1)",
+        "depth 3",
+    ];
+    let deep = [
+        "axiom A(3)B",
+        "production p: A(x) : x > 0 => A(x-1)C",
+        "production q: A(x) : 1 / x => C",
+        "depth 4",
+    ];
+    let large = [
+        "axiom A(3)",
+        "production p: A(x) => A(x*x)A(0-9223372036854775807)",
+        "depth 2",
+    ];
+    let left = [
+        "axiom CA(2)",
+        "production p: A(x) => A(x ^ (0-1), 1/0)",
+        "depth 1",
+    ];
+    let right = [
+        "axiom CA(2)",
+        "production p: A(x) => A(1/0, x ^ (0-1))",
+        "depth 1",
+    ];
+    let both = [
+        "axiom A(1)A(0)",
+        "production p: A(x) => A(1/x)A(x)",
+        "depth 1",
+    ];
+    let rows: [(&[&str], u32, &str); 14] = [
+        (&doubling, 65_535, "levels"),
+        (&doubling, 65_534, "limit level 15"),
+        (&doubling, 31, "limit level 5"),
+        (&doubling, 1, "limit level 1"),
+        (&doubling, 0, "limit level 0"),
+        (&third, 1000, "fault divide-by-zero level 0 module 3"),
+        (&deep, 1000, "fault divide-by-zero level 3 module 1"),
+        (&large, 1000, "fault overflow level 1 module 2"),
+        (&left, 1000, "fault negative-power level 0 module 2"),
+        (&right, 1000, "fault divide-by-zero level 0 module 2"),
+        (&both, 4, "fault divide-by-zero level 0 module 2"),
+        (&both, 3, "fault divide-by-zero level 0 module 2"),
+        (&both, 2, "fault divide-by-zero level 0 module 2"),
+        (&both, 1, "limit level 0"),
+    ];
+    for (lines, limit, expected) in rows {
+        let system = system_after(rt.alloc(), lines)?;
+        let text = outcome_text(rt.alloc(), derive(rt.alloc(), &system, limit))?;
+        assert_eq!(rt; text.as_slice(), expected.as_bytes());
     }
     Ok(())
 }

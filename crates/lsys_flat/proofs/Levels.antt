@@ -1,0 +1,160 @@
+-- The level behind a level is, lineages apart, the offspring of its string.
+use Rattle.std.proofs.Common.{◌≡◌, ℕ, ◌+◌, true, None, Result, Ok, Err, List, [], ◌∷◌, ◌++◌, map, refl, ap, sym, ◌∙◌, subst}
+use Rattle.std.specs.Prelude.{ℤ}
+use Rattle.std.proofs.lemmas.List.{map-append}
+use Rattle.lsys_syntax.specs.Tokens.{NameText}
+use Rattle.lsys_syntax.specs.Strings as S
+use Rattle.lsys_spec.specs.Values as meaning
+use Rattle.lsys_spec.specs.Values.{◌and_then◌}
+use Rattle.lsys_spec.specs.Bodies.{body_of}
+use Rattle.lsys_spec.specs.Levels.{ModuleValue, Symbol, Push, Pop, Module, plain}
+use Rattle.lsys_spec.specs.Choice.{Fault, Outcome, No, Yes, Fails}
+use Rattle.lsys_spec.specs.Cuts.{Raw, Plain, Percent, cut_on}
+use Rattle.lsys_spec.specs.Morphisms.{raw_plain}
+use Rattle.lsys_spec.specs.Interim.{is_plain}
+use Rattle.lsys_spec.specs.Meaning.{Refusal, FaultAt, numbered, first_level, filled, filled_params, as_fault, fault_at, children_from, next_level}
+use Rattle.lsys_module.specs.Views.{module_name, string_of}
+use Rattle.lsys_rules.specs.Built.{AreBuilt, TemplatesHaveTrees}
+use Rattle.lsys_rules.specs.Views.{rule_of, production_of}
+use Rattle.lsys_rules.specs.Systems.{system_of}
+use Rattle.lsys_rules.specs.declared.rule.Rule.{Rule}
+use Rattle.lsys_rules.specs.declared.body.Template.{Template}
+use Rattle.lsys_rules.specs.declared.body.Template.TheVariants as T
+use Rattle.lsys_rules.specs.declared.system.System as declared
+use Rattle.lsys_flat.specs.Made.{tried, by_outcome, made, behind, Faulted, fault_in, offspring}
+use Rattle.lsys_flat.specs.Answers.{tree_of}
+use Rattle.lsys_flat.proofs.Trees.{successor_trees}
+use Rattle.lsys_flat.proofs.Successors.{made_so}
+
+-- 1. children
+
+-- without lineages
+abbrev plain_of : Result (List Raw) Refusal → Result (List (S.Symbol ℤ)) Refusal
+plain_of r = r and_then λ raw. Ok (map raw_plain raw)
+
+abbrev pub at_level : {A : Type 0} → ℕ → Result A Faulted → Result A Refusal
+at_level t (Ok a) = Ok a
+at_level t (Err f) = Err (FaultAt f.fault t f.number)
+
+plain_numbered : (n : ℕ) (l : List ℕ) (ys : List (S.Symbol ℤ)) → map raw_plain (numbered n l ys) ≡ ys
+plain_numbered n l [] = refl
+plain_numbered n l (S.Module name ps ∷ ys) = ap (λ zs. S.Module name ps ∷ zs) (plain_numbered (n + 1) l ys)
+plain_numbered n l (S.Push ∷ ys) = ap (λ zs. S.Push ∷ zs) (plain_numbered (n + 1) l ys)
+plain_numbered n l (S.Pop ∷ ys) = ap (λ zs. S.Pop ∷ zs) (plain_numbered (n + 1) l ys)
+plain_numbered n l (S.Cut ∷ ys) = ap (λ zs. S.Cut ∷ zs) (plain_numbered (n + 1) l ys)
+
+with_children : (t : ℕ) (raw : List Raw) (ys : List (S.Symbol ℤ)) (c : Result (List Raw) Refusal) (o : Result (List (S.Symbol ℤ)) Faulted) → map raw_plain raw ≡ ys
+    → plain_of c ≡ at_level t o → plain_of (c and_then λ more. Ok (raw ++ more)) ≡ at_level t (behind ys o)
+with_children t raw ys (Ok more) (Ok zs) e h =
+    let same : map raw_plain more ≡ zs = cc in ap Ok (map-append raw_plain raw more ∙ (λ i. e i ++ same i))
+with_children t raw ys (Ok more) (Err f) e h = cc
+with_children t raw ys (Err r) (Ok zs) e h = cc
+with_children t raw ys (Err r) (Err f) e h = h
+
+with_module : (t n : ℕ) (l : List ℕ) (a : Result (List (S.Symbol ℤ)) Fault) (c : Result (List Raw) Refusal) (o : Result (List (S.Symbol ℤ)) Faulted) → plain_of c ≡ at_level t o
+    → plain_of (fault_at t n a and_then λ ys. c and_then λ more. Ok (numbered 0 l ys ++ more)) ≡ at_level t (fault_in n a and_then λ ys. behind ys o)
+with_module t n l (Ok ys) c o h = with_children t (numbered 0 l ys) ys c o (plain_numbered 0 l ys) h
+with_module t n l (Err k) c o h = refl
+
+children_so : (s : declared.System) (t : ℕ) (x : List Symbol) (p n : ℕ) (rest : List Symbol)
+    → plain_of (children_from (system_of s) t x p n rest) ≡ at_level t (offspring (map production_of s.rules) n (map plain rest))
+children_so s t x p n [] = refl
+children_so s t x p n (Push l ∷ rest) = with_children t (Plain (Push (l ++ 0 ∷ [])) ∷ []) (S.Push ∷ []) _ _ refl (children_so s t x (p + 1) n rest)
+children_so s t x p n (Pop l ∷ rest) = with_children t (Plain (Pop (l ++ 0 ∷ [])) ∷ []) (S.Pop ∷ []) _ _ refl (children_so s t x (p + 1) n rest)
+children_so s t x p n (Module l m ∷ rest) =
+    ap (λ (r : Result (List (S.Symbol ℤ)) Fault). plain_of (fault_at t (n + 1) r and_then λ ys. children_from (system_of s) t x (p + 1) (n + 1) rest and_then λ more. Ok (numbered 0 l ys ++ more))) (made_so s t x p l m)
+    ∙ with_module t (n + 1) l (made (map production_of s.rules) m) _ _ (children_so s t x (p + 1) (n + 1) rest)
+
+-- 2. a plain string has no cuts
+
+cut_plain : (raw : List Raw) → is_plain (map raw_plain raw) ≡ true → map plain (cut_on None raw) ≡ map raw_plain raw
+cut_plain [] h = refl
+cut_plain (Plain (Module l m) ∷ raw) h = ap (λ t. S.Module m.name m.params ∷ t) (cut_plain raw h)
+cut_plain (Plain (Push l) ∷ raw) h = cc
+cut_plain (Plain (Pop l) ∷ raw) h = cc
+cut_plain (Percent l ∷ raw) h = cc
+
+pub first_so : (s : declared.System) → is_plain (string_of s.«axiom») ≡ true → map plain (first_level (system_of s)) ≡ string_of s.«axiom»
+first_so s h =
+    let e = plain_numbered 0 [] (string_of s.«axiom») in
+    cut_plain (numbered 0 [] (string_of s.«axiom»)) (ap is_plain e ∙ h) ∙ e
+
+-- a level with this string
+pub record Next (r : Result (List Symbol) Refusal) (ys : List (S.Symbol ℤ)) : Type 0 where
+  pub level : List Symbol
+  pub is : r ≡ Ok level
+  pub string : map plain level ≡ ys
+
+next_by : (c : Result (List Raw) Refusal) (ys : List (S.Symbol ℤ)) → is_plain ys ≡ true → plain_of c ≡ Ok ys → Next (c and_then λ raw. Ok (cut_on None raw)) ys
+next_by (Ok raw) ys h e =
+    let same : map raw_plain raw ≡ ys = cc in
+    record { level = cut_on None raw; is = refl; string = cut_plain raw (ap is_plain same ∙ h) ∙ same }
+next_by (Err r) ys h e = cc
+
+pub next_so : (s : declared.System) (t : ℕ) (x : List Symbol) (row ys : List (S.Symbol ℤ)) → map plain x ≡ row → is_plain ys ≡ true
+    → offspring (map production_of s.rules) 0 row ≡ Ok ys → Next (next_level (system_of s) t x) ys
+next_so s t x row ys e h o =
+    next_by (children_from (system_of s) t x 0 0 x) ys h
+    (children_so s t x 0 0 x ∙ ap (λ r. at_level t (offspring (map production_of s.rules) 0 r)) e ∙ ap (at_level t) o)
+
+fault_by : (c : Result (List Raw) Refusal) (r : Refusal) → plain_of c ≡ Err r → (c and_then λ raw. Ok (cut_on None raw)) ≡ Err r
+fault_by (Ok raw) r e = cc
+fault_by (Err q) r e = let same : q ≡ r = cc in ap Err same
+
+pub fault_so : (s : declared.System) (t : ℕ) (x : List Symbol) (row : List (S.Symbol ℤ)) (f : Faulted) → map plain x ≡ row
+    → offspring (map production_of s.rules) 0 row ≡ Err f → next_level (system_of s) t x ≡ Err (FaultAt f.fault t f.number)
+fault_so s t x row f e o =
+    fault_by (children_from (system_of s) t x 0 0 x) (FaultAt f.fault t f.number)
+    (children_so s t x 0 0 x ∙ ap (λ r. at_level t (offspring (map production_of s.rules) 0 r)) e ∙ ap (at_level t) o)
+
+-- 3. what is made of a plain string is plain
+
+abbrev pub IsPlain : {E : Type 0} → Result (List (S.Symbol ℤ)) E → Type 0
+IsPlain (Ok ys) = is_plain ys ≡ true
+IsPlain (Err e) = Unit {0}
+
+plain_append : (xs ys : List (S.Symbol ℤ)) → is_plain xs ≡ true → is_plain ys ≡ true → is_plain (xs ++ ys) ≡ true
+plain_append [] ys h k = k
+plain_append (S.Module n zs ∷ xs) ys h k = plain_append xs ys h k
+plain_append (S.Push ∷ xs) ys h k = cc
+plain_append (S.Pop ∷ xs) ys h k = cc
+plain_append (S.Cut ∷ xs) ys h k = cc
+
+filled_plain : (fs : List NameText) (ts : List Template) (bound : List ℤ) → TemplatesHaveTrees fs ts → IsPlain (filled (map tree_of ts) bound)
+filled_plain fs [] bound h = refl
+filled_plain fs (T.Module name params ∷ ts) bound h = at (filled_params (map (λ e. e.tree) params.items) bound) (filled (map tree_of ts) bound) (filled_plain fs ts bound h.1)
+  where
+    at : (r : Result (List ℤ) meaning.Arith) (q : Result (List (S.Symbol ℤ)) meaning.Arith) → IsPlain q → IsPlain (r and_then λ zs. q and_then λ ys. Ok (S.Module (module_name name) zs ∷ ys))
+    at (Ok zs) (Ok ys) k = k
+    at (Ok zs) (Err e) k = tt
+    at (Err e) q k = tt
+filled_plain fs (T.Push ∷ ts) bound h = absurd h.0
+filled_plain fs (T.Pop ∷ ts) bound h = absurd h.0
+filled_plain fs (T.Cut ∷ ts) bound h = absurd h.0
+
+fault_plain : (r : Result (List (S.Symbol ℤ)) meaning.Arith) → IsPlain r → IsPlain (as_fault r)
+fault_plain (Ok ys) h = h
+fault_plain (Err e) h = tt
+
+made_plain : (rs : List Rule) (m : ModuleValue) → AreBuilt rs → IsPlain (made (map production_of rs) m)
+made_plain [] m h = refl
+made_plain (r ∷ rs) m h = at (tried (production_of r) m) (made_plain rs m h.1)
+  where
+    at : (o : Outcome) → IsPlain (made (map production_of rs) m) → IsPlain (by_outcome o (body_of (rule_of r)) (made (map production_of rs) m))
+    at No others = others
+    at (Yes values) others =
+        subst (λ ts. IsPlain (as_fault (filled ts values))) (sym (successor_trees r h.0)) (fault_plain (filled (map tree_of r.body.successor.items) values) (filled_plain _ r.body.successor.items values h.0.successor))
+    at (Fails k) others = tt
+
+pub offspring_plain : (rs : List Rule) (n : ℕ) (row : List (S.Symbol ℤ)) → AreBuilt rs → is_plain row ≡ true → IsPlain (offspring (map production_of rs) n row)
+offspring_plain rs n [] h k = refl
+offspring_plain rs n (S.Module name zs ∷ row) h k =
+    at (made (map production_of rs) (record { name = name; params = zs })) (offspring (map production_of rs) (n + 1) row) (made_plain rs _ h) (offspring_plain rs (n + 1) row h k)
+  where
+    at : (r : Result (List (S.Symbol ℤ)) Fault) (q : Result (List (S.Symbol ℤ)) Faulted) → IsPlain r → IsPlain q → IsPlain (fault_in (n + 1) r and_then λ ys. behind ys q)
+    at (Ok ys) (Ok zs) a b = plain_append ys zs a b
+    at (Ok ys) (Err f) a b = tt
+    at (Err e) q a b = tt
+offspring_plain rs n (S.Push ∷ row) h k = cc
+offspring_plain rs n (S.Pop ∷ row) h k = cc
+offspring_plain rs n (S.Cut ∷ row) h k = cc

@@ -1,0 +1,11 @@
+-- The faults that the code answers, as those of the definitions.
+use Rattle.lsys_spec.specs.Values as meaning
+use Rattle.lsys_spec.specs.Choice.{Fault, Arithmetic}
+use Rattle.lsys_flat.specs.declared.refusal.FaultKind.{FaultKind}
+use Rattle.lsys_flat.specs.declared.refusal.FaultKind.TheVariants.{Overflow, DivideByZero, NegativePower}
+
+-- the fault that the code's fault stands for
+abbrev pub fault_of : FaultKind → Fault
+fault_of Overflow = Arithmetic meaning.Overflow
+fault_of DivideByZero = Arithmetic meaning.DivideByZero
+fault_of NegativePower = Arithmetic meaning.NegativePower
