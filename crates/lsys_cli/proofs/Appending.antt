@@ -1,7 +1,6 @@
--- Puts one after another, and names one behind the other.
-use Rattle.std.proofs.Common.{◌≡◌, ℕ, zero, suc, ◌+◌, ◌<◌, Option, Some, None, Result, Ok, Err, List, [], ◌∷◌, ◌++◌, length, take, get_or, ap, sym, ◌∙◌, arith, append_assoc, append-nil, add-one, OnOk}
+-- Puts one after another.
+use Rattle.std.proofs.Common.{ℕ, Option, Some, None, Result, Ok, Err, List, [], ◌++◌, ap, sym, ◌∙◌, append_assoc, append-nil, OnOk}
 use Rattle.std.specs.Io.KnownBytes.{Appends, append_known}
-use Rattle.lsys_cli.specs.Sessions.{joined}
 
 pub then : (a b c : Option (List ℕ)) (xs ys : List ℕ) → Appends a b xs → Appends b c ys → Appends a c (xs ++ ys)
 then None b c xs ys h k = tt
@@ -19,12 +18,6 @@ goes_out (Some a) (Some b) (Some c) held text h k = k ∙ h ∙ ap (λ t. t ++ t
 pub on_ok : {T E P Q : Type 0} (r : Result T E) → (P → Q) → OnOk r P → OnOk r Q
 on_ok (Ok x) f h = f h
 on_ok (Err e) f h = h
-
-pub joined_more : (ns : List (List ℕ)) (i : ℕ) (n : List ℕ) → i < length ns → n ≡ get_or ns i n → joined (take (i + 1) ns) ≡ joined (take i ns) ++ n
-joined_more [] i n l e = absurd (omega (arith, l))
-joined_more (m ∷ ns) zero n l e = rw e (append-nil m)
-joined_more (m ∷ ns) (suc i) n l e =
-    rw (add-one) (ap (λ t. m ++ t) (rw (add-one) at (joined_more ns i n (omega arith) e)) ∙ sym (append_assoc m (joined (take i ns)) n))
 
 pub nothing : (a : Option (List ℕ)) → Appends a a []
 nothing None = tt

@@ -1,28 +1,31 @@
 -- A session, and what it answers.
-use Rattle.std.specs.Prelude.{◌≡◌, ℕ, Bool, true, false, Option, Some, None, Result, Ok, Err, List, [], ◌∷◌, codes, decimal, ◌++◌, ◌&&◌, not, ◌≤◌, ◌+◌, length}
+use Rattle.std.specs.Prelude.{◌≡◌, ℕ, Bool, true, false, Option, Some, None, Result, Ok, Err, List, [], codes, ◌++◌, ◌&&◌, not, ◌≤◌, ◌+◌, length}
 use Rattle.std.specs.Io.KnownBytes.{Appends}
 use Rattle.lsys_spec.specs.Systems as spec
 use Rattle.lsys_spec.specs.Output.{memory_or, reply_or_memory}
-use Rattle.lsys_spec.specs.Meaning.{meaning, OverLimit}
+use Rattle.lsys_spec.specs.Meaning.{meaning, OverLimit, FaultAt}
+use Rattle.lsys_spec.specs.Meaning as M
 use Rattle.lsys_spec.specs.Refusals.{Reply, said, refused, session_end, is_passed_over, derivation_text, line_feed}
 use Rattle.lsys_spec.specs.Interim.{bare_reply, reply, command_reply, printed, refused_form}
 use Rattle.lsys_spec.specs.Interim as interim
 use Rattle.lsys_syntax.specs.Tokens.{tokens}
-use Rattle.lsys_rules.specs.Views.{system_of}
-use Rattle.lsys_rules.specs.Parsing.{command_of}
+use Rattle.lsys_module.specs.declared.symbol.Symbol.{Symbol}
+use Rattle.lsys_rules.specs.Systems.{system_of}
+use Rattle.lsys_rules.specs.Commands.{command_of, kind_of_command}
 use Rattle.lsys_rules.specs.declared.command.Command.{Command}
-use Rattle.lsys_rules.specs.declared.command.Command.TheVariants as commands
+use Rattle.lsys_rules.specs.declared.command.CommandKind.TheVariants as kinds
 use Rattle.lsys_rules.specs.declared.refusal.Refusal.{Refusal}
 use Rattle.lsys_rules.specs.declared.refusal.Refusal.TheVariants as refusals
+use Rattle.lsys_flat.specs.Faults.{fault_of}
 use Rattle.lsys_flat.specs.Rows.{IsMeaning}
 use Rattle.lsys_cli.specs.declared.session.Session.{Session}
 use Rattle.lsys_cli.specs.declared.session.Answer.{Answer}
-use Rattle.lsys_cli.specs.declared.session.Answer.TheVariants.{Skipped, Edited, Printed, Quit, Form, Limit, Memory}
+use Rattle.lsys_cli.specs.declared.session.Answer.TheVariants.{Skipped, Edited, Printed, Quit, Form, Fault, Limit, Memory}
 use Rattle.lsys_cli.specs.declared.session.Outcome.{Outcome}
 use Rattle.lsys_cli.specs.declared.session.Outcome.TheVariants as outcomes
 
 -- the rows are the levels that the system means, one more than its depth
-abbrev pub AreLevels : spec.System → ℕ → List (List (List ℕ)) → Type 0
+abbrev pub AreLevels : spec.System → ℕ → List (List Symbol) → Type 0
 AreLevels s limit rows = IsMeaning s limit (Ok rows) × (length rows ≡ s.depth + 1)
 
 abbrev pub KeepsLevels : Session → Type 0
@@ -46,6 +49,7 @@ ReplyIs s r (Edited system rows) = (r ≡ said (system_of system) (codes "ok" ++
 ReplyIs s r (Printed t) = HasLevel s.system.depth t × (r ≡ printed t (system_of s.system) (meaning (system_of s.system) s.limit))
 ReplyIs s r Quit = r ≡ session_end (system_of s.system)
 ReplyIs s r Form = r ≡ refused_form (system_of s.system)
+ReplyIs s r (Fault kind t n) = r ≡ refused (system_of s.system) (derivation_text (FaultAt (fault_of kind) t n))
 ReplyIs s r (Limit t) = r ≡ refused (system_of s.system) (derivation_text (OverLimit t))
 ReplyIs s r Memory = Unit {0}
 
@@ -53,12 +57,9 @@ ReplyIs s r Memory = Unit {0}
 abbrev pub IsResponse : Session → Command → Answer → Type 0
 IsResponse s c a = ReplyIs s (command_reply s.limit (system_of s.system) (Some (command_of c))) a
 
+-- the command changes the system
 abbrev pub IsEdit : Command → Type 0
-IsEdit (commands.Axiom ns) = Unit {0}
-IsEdit (commands.Production r) = Unit {0}
-IsEdit (commands.Depth n) = Unit {0}
-IsEdit (commands.String t) = ⊥
-IsEdit commands.Quit = ⊥
+IsEdit c = kind_of_command (command_of c) ≡ kinds.Edit
 
 abbrev pub OnMemory : Answer → Type 0 → Type 0
 OnMemory Memory P = P
@@ -68,13 +69,9 @@ OnMemory a P = Unit {0}
 abbrev pub IsAnswer : Session → List ℕ → Answer → Type 0
 IsAnswer s bare a = ReplyIs s (bare_reply s.limit (system_of s.system) bare) a × OnMemory a (is_passed_over bare ≡ false)
 
--- names one behind the other
-abbrev pub joined : List (List ℕ) → List ℕ
-joined [] = []
-joined (n ∷ ns) = n ++ joined ns
-
-abbrev pub limit_text : ℕ → List ℕ
-limit_text t = codes "refused limit level " ++ decimal t ++ line_feed
+-- a refusal's line
+abbrev pub refused_text : M.Refusal → List ℕ
+refused_text r = codes "refused " ++ derivation_text r ++ line_feed
 
 -- the reply to a line without its CR that isn't too long, and that may be refused for want of memory where it has one
 abbrev pub bare_or_memory : ℕ → Bool → spec.System → List ℕ → Reply

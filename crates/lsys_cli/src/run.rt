@@ -5,7 +5,7 @@ ghost use Rattle.lsys_io.specs.Causes.{Rose};
 ghost use Rattle.lsys_io.specs.declared.lines.Stage.TheVariants.{Going};
 ghost use Rattle.lsys_spec.specs.Systems.{opening};
 ghost use Rattle.lsys_spec.specs.Refusals.{Reply};
-ghost use Rattle.lsys_rules.specs.Views.{system_of};
+ghost use Rattle.lsys_rules.specs.Systems.{system_of};
 ghost use Rattle.lsys_cli.specs.Sessions.{KeepsLevels, refuses, lacks_memory};
 ghost use Rattle.lsys_cli.specs.Ends.{Ends, OnReadFault, OnWriteFault, UnlessReadFault, UnlessWriteFault};
 ghost use Rattle.lsys_cli.specs.Runs.{status_of, IsShort, AnswersRead};

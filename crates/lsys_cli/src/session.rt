@@ -2,18 +2,22 @@
 ghost use Rattle.std.specs.Prelude.{◌≡◌, ℕ, List, [], ◌∷◌, ◌++◌, ◌≤◌, length, flat_map, codes, decimal, IfOk, OnOk, OnErr, IfSome, Some, ◌≢◌, IsTrue, true, false};
 ghost use Rattle.std.specs.Io.KnownBytes.{Appends, append_known};
 ghost use Rattle.lsys_io.specs.Causes.{Rose};
-ghost use Rattle.lsys_spec.specs.Refusals.{is_passed_over};
+ghost use Rattle.lsys_spec.specs.Refusals.{is_passed_over, with_number};
 ghost use Rattle.lsys_syntax.specs.Lines.{is_blank_line, is_comment};
-ghost use Rattle.lsys_rules.specs.Letters.{AreLetters};
-ghost use Rattle.lsys_rules.specs.Views.{system_of};
+ghost use Rattle.lsys_syntax.specs.Strings.{string_text};
+ghost use Rattle.lsys_module.specs.Views.{string_of};
+ghost use Rattle.lsys_rules.specs.Systems.{system_of};
 ghost use Rattle.lsys_spec.specs.Systems.{opening};
+ghost use Rattle.lsys_spec.specs.Meaning.{OverLimit, FaultAt};
 ghost use Rattle.lsys_spec.specs.Interim.{command_reply};
-ghost use Rattle.lsys_syntax.specs.Commands.{print_string};
-ghost use Rattle.lsys_cli.specs.Sessions.{KeepsLevels, IsCommandOf, IsResponse, IsEdit, ReplyIs, IsAnswer, Replies, joined, limit_text};
+ghost use Rattle.lsys_syntax.specs.Commands as commands;
+ghost use Rattle.lsys_flat.specs.Faults.{fault_of};
+ghost use Rattle.lsys_cli.specs.Sessions.{KeepsLevels, IsCommandOf, IsResponse, IsEdit, ReplyIs, IsAnswer, Replies, refused_text};
 
-use lsys_flat::{DeriveRefusal, Rows, derive};
+use lsys_flat::{DeriveRefusal, FaultKind, Rows, derive};
 use lsys_io::{Buffered, Failed, Sink};
-use lsys_rules::{Command, CommandKind, NameList, Refusal, System, apply, parse_command};
+use lsys_module::{SymbolList, print_string};
+use lsys_rules::{Command, CommandKind, Refusal, System, apply, parse_command};
 use lsys_text::{TextRefusal, tokens};
 use std::alloc::Global;
 
@@ -46,11 +50,23 @@ pub enum Outcome {
 #[derive(Drop)]
 pub enum Answer {
     Skipped,
-    Edited { system: System, rows: Rows },
-    Printed { level: Option<u32> },
+    Edited {
+        system: System,
+        rows: Rows,
+    },
+    Printed {
+        level: Option<u32>,
+    },
     Quit,
     Form,
-    Limit { level: u32 },
+    Fault {
+        kind: FaultKind,
+        level: u32,
+        module: u32,
+    },
+    Limit {
+        level: u32,
+    },
     Memory,
 }
 
@@ -110,6 +126,14 @@ impl Session {
             Answer::Quit => Ok(Outcome::Quit),
             Answer::Form => {
                 say(out, sink, b"refused form\n")?;
+                Ok(Outcome::Refused)
+            }
+            Answer::Fault {
+                kind,
+                level,
+                module,
+            } => {
+                say_fault(out, sink, kind, level, module)?;
                 Ok(Outcome::Refused)
             }
             Answer::Limit { level } => {
@@ -179,6 +203,17 @@ fn edited(alloc: Global, session: &Session, command: &Command) -> Answer
     };
     match derive(alloc, &system, session.limit) {
         Ok(rows) => Answer::Edited { system, rows },
+        Err(
+            DeriveRefusal::Fault {
+                kind,
+                level,
+                module,
+            },
+        ) => Answer::Fault {
+            kind,
+            level,
+            module,
+        },
         Err(DeriveRefusal::Limit { level }) => Answer::Limit { level },
         Err(DeriveRefusal::Memory) => Answer::Memory,
     }
@@ -197,7 +232,7 @@ fn respond(alloc: Global, session: &Session, command: &Command) -> Answer
 
 /// What a query for a level is answered, or for the last one without a number.
 fn printed(session: &Session, level: Option<u64>) -> Answer
-    ensures { ReplyIs session.now (command_reply session.now.limit (system_of session.now.system) (Some (print_string level))) result }
+    ensures { ReplyIs session.now (command_reply session.now.limit (system_of session.now.system) (Some (commands.print_string level))) result }
 {
     match level {
         None => Answer::Printed { level: None },
@@ -236,31 +271,39 @@ fn say<K: Sink>(out: &mut Buffered, sink: &mut K, text: &[u8]) -> Result<(), Fai
     out.flush(sink)
 }
 
-/// Puts the names of a level, one behind the other.
-fn put_names<K: Sink>(out: &mut Buffered, sink: &mut K, level: &NameList) -> Result<(), Failed>
-    ensures put { OnOk result (Appends (append_known (K.written sink.old) out.old) (append_known (K.written sink.new) out.new) (joined level.now)) }
-    ensures letters { AreLetters level.now }
-    ensures never_falls { K.faults sink.old ≤ K.faults sink.new }
-    ensures failed_only_where_rose { OnErr result (Rose (K.faults sink.old) (K.faults sink.new)) }
-    ensures ok_leaves_count { OnOk result (K.faults sink.new ≡ K.faults sink.old) }
-{
-    for name in level.names() {
-        out.put(sink, name.text().as_bytes())?;
-    }
-    Ok(())
-}
-
 /// Puts a level's line, and empties the buffer.
-fn say_level<K: Sink>(out: &mut Buffered, sink: &mut K, level: &NameList) -> Result<(), Failed>
+fn say_level<K: Sink>(out: &mut Buffered, sink: &mut K, level: &SymbolList) -> Result<(), Failed>
     requires { out.old ≡ [] }
-    ensures said { OnOk result (Appends (K.written sink.old) (K.written sink.new) (joined level.now ++ 10 ∷ [])) }
-    ensures letters { AreLetters level.now }
+    ensures said { OnOk result (Appends (K.written sink.old) (K.written sink.new) (string_text (string_of level.now) ++ 10 ∷ [])) }
     ensures empty { OnOk result (out.new ≡ []) }
     ensures never_falls { K.faults sink.old ≤ K.faults sink.new }
     ensures failed_only_where_rose { OnErr result (Rose (K.faults sink.old) (K.faults sink.new)) }
     ensures ok_leaves_count { OnOk result (K.faults sink.new ≡ K.faults sink.old) }
 {
-    put_names(out, sink, level)?;
+    print_string(out, sink, level)?;
+    out.put(sink, b"\n")?;
+    out.flush(sink)
+}
+
+/// Puts the refusal of a module that can't be replaced, and empties the buffer.
+fn say_fault<K: Sink>(
+    out: &mut Buffered,
+    sink: &mut K,
+    kind: FaultKind,
+    level: u32,
+    module: u32,
+) -> Result<(), Failed>
+    requires { out.old ≡ [] }
+    ensures said { OnOk result (Appends (K.written sink.old) (K.written sink.new) (refused_text (FaultAt (fault_of kind) level «module»))) }
+    ensures empty { OnOk result (out.new ≡ []) }
+    ensures never_falls { K.faults sink.old ≤ K.faults sink.new }
+    ensures failed_only_where_rose { OnErr result (Rose (K.faults sink.old) (K.faults sink.new)) }
+    ensures ok_leaves_count { OnOk result (K.faults sink.new ≡ K.faults sink.old) }
+{
+    out.put(sink, b"refused fault ")?;
+    out.put(sink, kind.word().as_bytes())?;
+    put_numbered(out, sink, b" level", level)?;
+    put_numbered(out, sink, b" module", module)?;
     out.put(sink, b"\n")?;
     out.flush(sink)
 }
@@ -268,14 +311,31 @@ fn say_level<K: Sink>(out: &mut Buffered, sink: &mut K, level: &NameList) -> Res
 /// Puts the refusal of a level at which the limit is passed, and empties the buffer.
 fn say_limit<K: Sink>(out: &mut Buffered, sink: &mut K, level: u32) -> Result<(), Failed>
     requires { out.old ≡ [] }
-    ensures said { OnOk result (Appends (K.written sink.old) (K.written sink.new) (limit_text level)) }
+    ensures said { OnOk result (Appends (K.written sink.old) (K.written sink.new) (refused_text (OverLimit level))) }
     ensures empty { OnOk result (out.new ≡ []) }
     ensures never_falls { K.faults sink.old ≤ K.faults sink.new }
     ensures failed_only_where_rose { OnErr result (Rose (K.faults sink.old) (K.faults sink.new)) }
     ensures ok_leaves_count { OnOk result (K.faults sink.new ≡ K.faults sink.old) }
 {
-    out.put(sink, b"refused limit level ")?;
-    out.put_number(sink, i128::from(level))?;
+    out.put(sink, b"refused ")?;
+    put_numbered(out, sink, b"limit level", level)?;
     out.put(sink, b"\n")?;
     out.flush(sink)
+}
+
+/// Puts a text, a blank and a number.
+fn put_numbered<K: Sink>(
+    out: &mut Buffered,
+    sink: &mut K,
+    text: &[u8],
+    number: u32,
+) -> Result<(), Failed>
+    ensures put { OnOk result (Appends (append_known (K.written sink.old) out.old) (append_known (K.written sink.new) out.new) (with_number text.now number)) }
+    ensures never_falls { K.faults sink.old ≤ K.faults sink.new }
+    ensures failed_only_where_rose { OnErr result (Rose (K.faults sink.old) (K.faults sink.new)) }
+    ensures ok_leaves_count { OnOk result (K.faults sink.new ≡ K.faults sink.old) }
+{
+    out.put(sink, text)?;
+    out.put(sink, b" ")?;
+    out.put_number(sink, i128::from(number))
 }

@@ -23,24 +23,82 @@ fn ran(
 #[test]
 fn scripts_and_their_replies(rt: HostRuntime) -> Result<(), Fail> {
     let algae = "axiom A\nproduction a: A => AB\nproduction b: B => A\ndepth 5\nstring\n";
-    let growth = "axiom A\nproduction a: A => AA\ndepth 15\ndepth 16\n";
+    let counting =
+        "axiom A(1)\nproduction a: A(n) : n < 3 => B_x(n) A(n+1)\ndepth 3\nstring\nstring 0\n";
     let rows = [
-        ("", Status::Done, ""),
-        ("string", Status::Done, "\n"),
-        ("axiom A\r\nstring", Status::Done, "ok\nA\n"),
-        (algae, Status::Done, "ok\nok\nok\nok\nABAABABAABAAB\n"),
-        (
-            growth,
-            Status::Refused,
-            "ok\nok\nok\nrefused limit level 16\n",
-        ),
-        ("svg", Status::Refused, "refused form\n"),
-        ("; a comment\n \t\n\n", Status::Done, ""),
+        ("", ""),
+        ("string", "\n"),
+        ("axiom A\r\nstring", "ok\nA\n"),
+        (algae, "ok\nok\nok\nok\nABAABABAABAAB\n"),
+        (counting, "ok\nok\nok\nB_x(1)B_x(2)A(3)\nA(1)\n"),
+        ("; a comment\n \t\n\n", ""),
     ];
-    for (script, status, written) in rows {
+    for (script, written) in rows {
         let (ended, text) = ran(rt.alloc(), script, 0, 0)?;
-        assert_eq!(rt; ended, status, "{script:?}");
+        assert_eq!(rt; ended, Status::Done, "{script:?}");
         assert_eq!(rt; text.as_slice(), written.as_bytes(), "{script:?}");
+    }
+    Ok(())
+}
+
+#[test]
+fn refused_derivations(rt: HostRuntime) -> Result<(), Fail> {
+    let growth = "axiom A\nproduction a: A => AA\ndepth 14\ndepth 15\ndepth 16\n";
+    let shrunk =
+        "axiom A\nproduction a: A => AA\ndepth 16\nproduction a: A => A(1/0)\ndepth 2\nstring\n";
+    let division =
+        "axiom A(4)B\nproduction a: A(n) => A(12/n) B\nproduction b: B => B(0)\nproduction c: B(n) => B(1/n)\ndepth 1\ndepth 2\nstring\naxiom A(-5)\nstring\n";
+    let power = "axiom C(-1)\nproduction c: C(n) => C(2^n)\ndepth 1\nstring\n";
+    let overflow =
+        "axiom AB(9223372036854775807)\nproduction b: B(n) => B(n+1)\ndepth 1\nproduction b: B(n) => B(n/2)\ndepth 1\nstring\n";
+    let rows = [
+        (growth, "ok\nok\nok\nok\nrefused limit level 16\n"),
+        (
+            shrunk,
+            "ok\nok\nrefused limit level 16\nok\nrefused fault divide-by-zero level 0 module 1\nA\n",
+        ),
+        (
+            division,
+            "ok\nok\nok\nok\nok\nrefused fault divide-by-zero level 1 module 3\nA(3)BB(0)\nok\nA(-2)B\n",
+        ),
+        (
+            power,
+            "ok\nok\nrefused fault negative-power level 0 module 1\nC(-1)\n",
+        ),
+        (
+            overflow,
+            "ok\nok\nrefused fault overflow level 0 module 2\nok\nok\nAB(4611686018427387903)\n",
+        ),
+    ];
+    for (script, written) in rows {
+        let (ended, text) = ran(rt.alloc(), script, 0, 0)?;
+        assert_eq!(rt; ended, Status::Refused, "{script:?}");
+        assert_eq!(rt; text.as_slice(), written.as_bytes(), "{script:?}");
+    }
+    Ok(())
+}
+
+#[test]
+fn refused_forms(rt: HostRuntime) -> Result<(), Fail> {
+    let lines = [
+        "svg",
+        "axiom A(1",
+        "axiom A[B]",
+        "axiom A%",
+        "axiom A(9223372036854775808)",
+        "axiom A(1,2,3,4,5,6,7,8,9)",
+        "production a: A(n) => B(m)",
+        "production a: A(n,n) => B",
+        "production a: A < B => B",
+        "production a: A => [B]",
+        "string 1",
+        "depth 65",
+        "quit quit",
+    ];
+    for line in lines {
+        let (ended, text) = ran(rt.alloc(), line, 0, 0)?;
+        assert_eq!(rt; ended, Status::Refused, "{line:?}");
+        assert_eq!(rt; text.as_slice(), "refused form\n".as_bytes(), "{line:?}");
     }
     Ok(())
 }

@@ -1,6 +1,6 @@
 use Rattle.std.proofs.Common.{◌≢◌, rules, ◌∙◌, sym, subst}
 use Rattle.lsys_io.specs.declared.lines.LineRead.TheVariants.{End}
-use Rattle.lsys_rules.specs.Views.{system_of}
+use Rattle.lsys_rules.specs.Systems.{system_of}
 use Rattle.lsys_cli.specs.Ends.{Ends}
 use Rattle.lsys_cli.proofs.Steps.{begins, begins_going, begins_within, turned, ended, goes_on, line_is_short}
 use Rattle.lsys_cli.proofs.run.run.Goals as goal

@@ -1,6 +1,6 @@
 use Rattle.std.proofs.Common.{◌≡◌, ◌-◌, ◌≤◌, []}
 use Rattle.lsys_io.specs.Reading.{remaining, script_limit, IsNotRefused}
-use Rattle.lsys_rules.specs.Views.{system_of}
+use Rattle.lsys_rules.specs.Systems.{system_of}
 use Rattle.lsys_cli.specs.Sessions.{KeepsLevels}
 use Rattle.lsys_cli.proofs.SoFar.{SoFar}
 use Rattle.lsys_cli.proofs.run.run.Given as goal
