@@ -10,7 +10,7 @@ use std::marker::Model;
 /// At most so many bytes are read at once.
 const PIECE: usize = 4096;
 
-/// Bytes that were read and not yet taken. Contracts see them.
+/// Bytes that were read ahead. Contracts see those that are left.
 #[derive(Drop)]
 pub(crate) struct Pieces {
     bytes: Vec<u8>,

@@ -81,17 +81,17 @@ fn templates(
 fn template(
     alloc: Global,
     tokens: &[Token],
-    module: &ModuleLine,
+    line: &ModuleLine,
     formals: &[Name],
 ) -> Result<Template, AllocError>
-    requires known { CanBuildModule (map name_of formals.now) (kinds_of tokens.now) module.now }
+    requires known { CanBuildModule (map name_of formals.now) (kinds_of tokens.now) line.now }
     requires few { length formals.now ≤ 8 }
-    ensures spelled { IfOk result (λ t. template_of t ≡ module_at (kinds_of tokens.now) module.now) }
+    ensures spelled { IfOk result (λ t. template_of t ≡ module_at (kinds_of tokens.now) line.now) }
     ensures trees { IfOk result (λ t. TemplateHasTrees (map name_of formals.now) t) }
 {
     Ok(Template::Module {
-        name: module.name,
-        params: params(alloc, tokens, &module.params, formals)?,
+        name: line.name,
+        params: params(alloc, tokens, &line.params, formals)?,
     })
 }
 
