@@ -45,7 +45,8 @@ pub fn build_string(
         part: Part::Whole,
     };
     for place in from..tokens.len() {
-        builder.take(tokens[place])?;
+        let token = tokens[place];
+        builder.take(token)?;
     }
     Ok(builder.finish()?)
 }
