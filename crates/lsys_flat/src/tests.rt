@@ -133,11 +133,33 @@ fn the_first_rule_that_applies(rt: HostRuntime) -> Result<(), Fail> {
     Ok(())
 }
 
+/// What comes of these lines at this limit.
+fn outcome(alloc: Global, lines: &[&str], limit: u32) -> Result<Vec<u8>, AllocError> {
+    let system = system_after(alloc, lines)?;
+    outcome_text(alloc, derive(alloc, &system, limit))
+}
+
 #[test]
-fn refusals(rt: HostRuntime) -> Result<(), Fail> {
-    let doubling = ["axiom A", "production p: A => AA", "depth 15"];
-    let third = [
-        "axiom CA(2)A(0)",
+fn the_lengths_of_the_levels_sum_to_the_limit(rt: HostRuntime) -> Result<(), Fail> {
+    let lines = ["axiom A", "production p: A => AA", "depth 15"];
+    let rows = [
+        (65_535, "levels"),
+        (65_534, "limit level 15"),
+        (31, "limit level 5"),
+        (1, "limit level 1"),
+        (0, "limit level 0"),
+    ];
+    for (limit, expected) in rows {
+        let text = outcome(rt.alloc(), &lines, limit)?;
+        assert_eq!(rt; text.as_slice(), expected.as_bytes());
+    }
+    Ok(())
+}
+
+#[test]
+fn the_leftmost_fault_of_the_least_level(rt: HostRuntime) -> Result<(), Fail> {
+    let first = [
+        "axiom CA(2)A(0)A(1)A(0)",
         "production p: A(x) : 6/x => A(x-1)",
         "depth 3",
     ];
@@ -152,6 +174,20 @@ fn refusals(rt: HostRuntime) -> Result<(), Fail> {
         "production p: A(x) => A(x*x)A(0-9223372036854775807)",
         "depth 2",
     ];
+    let rows: [(&[&str], &str); 3] = [
+        (&first, "fault divide-by-zero level 0 module 3"),
+        (&deep, "fault divide-by-zero level 3 module 1"),
+        (&large, "fault overflow level 1 module 2"),
+    ];
+    for (lines, expected) in rows {
+        let text = outcome(rt.alloc(), lines, 1000)?;
+        assert_eq!(rt; text.as_slice(), expected.as_bytes());
+    }
+    Ok(())
+}
+
+#[test]
+fn the_first_fault_of_a_module(rt: HostRuntime) -> Result<(), Fail> {
     let left = [
         "axiom CA(2)",
         "production p: A(x) => A(x ^ (0-1), 1/0)",
@@ -162,30 +198,34 @@ fn refusals(rt: HostRuntime) -> Result<(), Fail> {
         "production p: A(x) => A(1/0, x ^ (0-1))",
         "depth 1",
     ];
-    let both = [
+    let text = outcome(rt.alloc(), &left, 1000)?;
+    assert_eq!(rt;
+        text.as_slice(),
+        b"fault negative-power level 0 module 2".as_slice()
+    );
+    let text = outcome(rt.alloc(), &right, 1000)?;
+    assert_eq!(rt;
+        text.as_slice(),
+        b"fault divide-by-zero level 0 module 2".as_slice()
+    );
+    Ok(())
+}
+
+#[test]
+fn a_fault_comes_before_the_limit_of_the_level_behind_it(rt: HostRuntime) -> Result<(), Fail> {
+    let lines = [
         "axiom A(1)A(0)",
         "production p: A(x) => A(1/x)A(x)",
         "depth 1",
     ];
-    let rows: [(&[&str], u32, &str); 14] = [
-        (&doubling, 65_535, "levels"),
-        (&doubling, 65_534, "limit level 15"),
-        (&doubling, 31, "limit level 5"),
-        (&doubling, 1, "limit level 1"),
-        (&doubling, 0, "limit level 0"),
-        (&third, 1000, "fault divide-by-zero level 0 module 3"),
-        (&deep, 1000, "fault divide-by-zero level 3 module 1"),
-        (&large, 1000, "fault overflow level 1 module 2"),
-        (&left, 1000, "fault negative-power level 0 module 2"),
-        (&right, 1000, "fault divide-by-zero level 0 module 2"),
-        (&both, 4, "fault divide-by-zero level 0 module 2"),
-        (&both, 3, "fault divide-by-zero level 0 module 2"),
-        (&both, 2, "fault divide-by-zero level 0 module 2"),
-        (&both, 1, "limit level 0"),
+    let rows = [
+        (4, "fault divide-by-zero level 0 module 2"),
+        (3, "fault divide-by-zero level 0 module 2"),
+        (2, "fault divide-by-zero level 0 module 2"),
+        (1, "limit level 0"),
     ];
-    for (lines, limit, expected) in rows {
-        let system = system_after(rt.alloc(), lines)?;
-        let text = outcome_text(rt.alloc(), derive(rt.alloc(), &system, limit))?;
+    for (limit, expected) in rows {
+        let text = outcome(rt.alloc(), &lines, limit)?;
         assert_eq!(rt; text.as_slice(), expected.as_bytes());
     }
     Ok(())
