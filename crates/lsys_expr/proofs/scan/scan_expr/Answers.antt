@@ -17,22 +17,10 @@ returns-in-Ends-clause-extent c =
     let q : drop i ks ≡ kind_of c.token-item.result.kind ∷ drop (i + 1) ks = token-next c.args.tokens.now _ from i c.token-item.result c.loop-ahead.invariant.items c.loop-ahead-test.true c.token-item.is in
     let scan = c.loop-ahead.scan in
     let next = c.take.new.self in
-    let told : IsExtent from (extent ks) (Ok (from + i)) =
-    later-extent from (extent ks) (Ok i) (reached-ends ks i (kind_of c.token-item.result.kind) scan.awaited scan.levels r q next.awaited next.levels (c.in-Ends.ensures r.state r.kept)) in
-    told
+    later-extent from (extent ks) (Ok i) (reached-ends ks i (kind_of c.token-item.result.kind) scan.awaited scan.levels r q next.awaited next.levels (c.in-Ends.ensures r.state r.kept))
 
 pub returns-in-Ends-clause-place : goal.returns-in-Ends-clause-place
-returns-in-Ends-clause-place c =
-    let from : ℕ = c.args.from in
-    let ks : List Kind = drop from (kinds_of c.args.tokens.now) in
-    let i : ℕ = c.loop-ahead.ahead in
-    let r = c.loop-ahead.invariant.reached in
-    let q : drop i ks ≡ kind_of c.token-item.result.kind ∷ drop (i + 1) ks = token-next c.args.tokens.now _ from i c.token-item.result c.loop-ahead.invariant.items c.loop-ahead-test.true c.token-item.is in
-    let scan = c.loop-ahead.scan in
-    let next = c.take.new.self in
-    let told : IsExtent from (extent ks) (Ok (from + i)) =
-    later-extent from (extent ks) (Ok i) (reached-ends ks i (kind_of c.token-item.result.kind) scan.awaited scan.levels r q next.awaited next.levels (c.in-Ends.ensures r.state r.kept)) in
-    placed-so from ks (Ok (from + i)) (tokens-rest from (kinds_of c.args.tokens.now) c.requires.forms) told
+returns-in-Ends-clause-place c = placed-so c.args.from (drop c.args.from (kinds_of c.args.tokens.now)) (Ok (c.args.from + c.loop-ahead.ahead)) (tokens-rest c.args.from (kinds_of c.args.tokens.now) c.requires.forms) (returns-in-Ends-clause-extent c)
 
 pub returns-in-Stops-clause-extent : goal.returns-in-Stops-clause-extent
 returns-in-Stops-clause-extent c =
@@ -43,22 +31,10 @@ returns-in-Stops-clause-extent c =
     let q : drop i ks ≡ kind_of c.token-item.result.kind ∷ drop (i + 1) ks = token-next c.args.tokens.now _ from i c.token-item.result c.loop-ahead.invariant.items c.loop-ahead-test.true c.token-item.is in
     let scan = c.loop-ahead.scan in
     let next = c.take.new.self in
-    let told : IsExtent from (extent ks) (Err (Token (from + i))) =
-    later-extent from (extent ks) (Err (Token i)) (reached-stops ks i (kind_of c.token-item.result.kind) scan.awaited scan.levels r q next.awaited next.levels (c.in-Stops.ensures r.state r.kept)) in
-    told
+    later-extent from (extent ks) (Err (Token i)) (reached-stops ks i (kind_of c.token-item.result.kind) scan.awaited scan.levels r q next.awaited next.levels (c.in-Stops.ensures r.state r.kept))
 
 pub returns-in-Stops-clause-place : goal.returns-in-Stops-clause-place
-returns-in-Stops-clause-place c =
-    let from : ℕ = c.args.from in
-    let ks : List Kind = drop from (kinds_of c.args.tokens.now) in
-    let i : ℕ = c.loop-ahead.ahead in
-    let r = c.loop-ahead.invariant.reached in
-    let q : drop i ks ≡ kind_of c.token-item.result.kind ∷ drop (i + 1) ks = token-next c.args.tokens.now _ from i c.token-item.result c.loop-ahead.invariant.items c.loop-ahead-test.true c.token-item.is in
-    let scan = c.loop-ahead.scan in
-    let next = c.take.new.self in
-    let told : IsExtent from (extent ks) (Err (Token (from + i))) =
-    later-extent from (extent ks) (Err (Token i)) (reached-stops ks i (kind_of c.token-item.result.kind) scan.awaited scan.levels r q next.awaited next.levels (c.in-Stops.ensures r.state r.kept)) in
-    placed-so from ks (Err (Token (from + i))) (tokens-rest from (kinds_of c.args.tokens.now) c.requires.forms) told
+returns-in-Stops-clause-place c = placed-so c.args.from (drop c.args.from (kinds_of c.args.tokens.now)) (Err (Token (c.args.from + c.loop-ahead.ahead))) (tokens-rest c.args.from (kinds_of c.args.tokens.now) c.requires.forms) (returns-in-Stops-clause-extent c)
 
 pub returns-in-TooDeep-clause-extent : goal.returns-in-TooDeep-clause-extent
 returns-in-TooDeep-clause-extent c =
@@ -69,22 +45,10 @@ returns-in-TooDeep-clause-extent c =
     let q : drop i ks ≡ kind_of c.token-item.result.kind ∷ drop (i + 1) ks = token-next c.args.tokens.now _ from i c.token-item.result c.loop-ahead.invariant.items c.loop-ahead-test.true c.token-item.is in
     let scan = c.loop-ahead.scan in
     let next = c.take.new.self in
-    let told : IsExtent from (extent ks) (Err (Deep (from + i))) =
-    later-extent from (extent ks) (Err (Deep i)) (reached-deep ks i (kind_of c.token-item.result.kind) scan.awaited scan.levels r q next.awaited next.levels (c.in-TooDeep.ensures r.state r.kept)) in
-    told
+    later-extent from (extent ks) (Err (Deep i)) (reached-deep ks i (kind_of c.token-item.result.kind) scan.awaited scan.levels r q next.awaited next.levels (c.in-TooDeep.ensures r.state r.kept))
 
 pub returns-in-TooDeep-clause-place : goal.returns-in-TooDeep-clause-place
-returns-in-TooDeep-clause-place c =
-    let from : ℕ = c.args.from in
-    let ks : List Kind = drop from (kinds_of c.args.tokens.now) in
-    let i : ℕ = c.loop-ahead.ahead in
-    let r = c.loop-ahead.invariant.reached in
-    let q : drop i ks ≡ kind_of c.token-item.result.kind ∷ drop (i + 1) ks = token-next c.args.tokens.now _ from i c.token-item.result c.loop-ahead.invariant.items c.loop-ahead-test.true c.token-item.is in
-    let scan = c.loop-ahead.scan in
-    let next = c.take.new.self in
-    let told : IsExtent from (extent ks) (Err (Deep (from + i))) =
-    later-extent from (extent ks) (Err (Deep i)) (reached-deep ks i (kind_of c.token-item.result.kind) scan.awaited scan.levels r q next.awaited next.levels (c.in-TooDeep.ensures r.state r.kept)) in
-    placed-so from ks (Err (Deep (from + i))) (tokens-rest from (kinds_of c.args.tokens.now) c.requires.forms) told
+returns-in-TooDeep-clause-place c = placed-so c.args.from (drop c.args.from (kinds_of c.args.tokens.now)) (Err (Deep (c.args.from + c.loop-ahead.ahead))) (tokens-rest c.args.from (kinds_of c.args.tokens.now) c.requires.forms) (returns-in-TooDeep-clause-extent c)
 
 pub loop-ahead-preserved : goal.loop-ahead-preserved
 loop-ahead-preserved c =
