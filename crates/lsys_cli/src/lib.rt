@@ -57,7 +57,7 @@ pub fn lsys<S: Source, K: Sink>(
     let Ok(mut out) = Buffered::new(alloc) else {
         return Status::Memory;
     };
-    let Some(mut session) = Session::start(alloc, LIMIT) else {
+    let Ok(mut session) = Session::start(alloc, LIMIT) else {
         return Status::Memory;
     };
     run(alloc, &mut session, &mut reader, &mut out, source, sink)

@@ -1,5 +1,5 @@
 //! One line after another: what is asked of a system, and what is answered.
-ghost use Rattle.std.specs.Prelude.{◌≡◌, ℕ, List, [], ◌∷◌, ◌++◌, ◌≤◌, length, flat_map, codes, decimal, IfOk, OnOk, OnErr, IfSome, Some, ◌≢◌, IsTrue, true, false};
+ghost use Rattle.std.specs.Prelude.{◌≡◌, ℕ, List, [], ◌∷◌, ◌++◌, ◌≤◌, length, flat_map, codes, decimal, IfOk, OnOk, OnErr, Some, ◌≢◌, IsTrue, true, false};
 ghost use Rattle.std.specs.Io.KnownBytes.{Appends, append_known};
 ghost use Rattle.lsys_io.specs.Causes.{Rose};
 ghost use Rattle.lsys_spec.specs.Refusals.{is_passed_over, with_number};
@@ -19,7 +19,7 @@ use lsys_io::{Buffered, Failed, Sink};
 use lsys_module::{SymbolList, print_string};
 use lsys_rules::{Command, CommandKind, Refusal, System, apply, parse_command};
 use lsys_text::{TextRefusal, tokens};
-use std::alloc::Global;
+use std::alloc::{AllocError, Global};
 
 /// A system with its levels.
 #[derive(Drop)]
@@ -72,16 +72,25 @@ pub enum Answer {
 
 impl Session {
     /// The opening system with its one level.
-    pub fn start(alloc: Global, limit: u32) -> Option<Session>
-        ensures { IfSome result (λ s. KeepsLevels s × (s.limit ≡ limit) × (system_of s.system ≡ opening)) }
+    ///
+    /// # Errors
+    ///
+    /// Only want of memory.
+    pub fn start(alloc: Global, limit: u32) -> Result<Session, AllocError>
+        ensures levels { IfOk result KeepsLevels }
+        ensures limit { IfOk result (λ s. s.limit ≡ limit) }
+        ensures system { IfOk result (λ s. system_of s.system ≡ opening) }
     {
-        let system = System::opening(alloc).ok()?;
-        let rows = derive(alloc, &system, limit).ok()?;
-        Some(Session {
-            limit,
-            system,
-            rows,
-        })
+        let system = System::opening(alloc)?;
+        match derive(alloc, &system, limit) {
+            Ok(rows) => Ok(Session {
+                limit,
+                system,
+                rows,
+            }),
+            Err(DeriveRefusal::Memory) => Err(AllocError),
+            Err(_) => unreachable!(),
+        }
     }
 
     /// Answers a line of at most 65,536 bytes, without its LF and CR, and puts the reply.
