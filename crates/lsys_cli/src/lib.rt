@@ -36,7 +36,7 @@ pub fn lsys<S: Source, K: Sink>(
     ensures usage { (0 < length words.now) ↔ (result ≡ Status.Usage) }
     ensures usage_touches_nothing { result ≡ Status.Usage → (source.new ≡ source.old) × (sink.new ≡ sink.old) }
 
-    // The script was read to its end, and its output was written.
+    // The script was read to its end or to `quit`, and its output was written.
     ensures done { OnDone result (OfScript (S.left source.old) (Answered LIMIT false (K.written sink.old) (K.written sink.new))) }
     ensures refused { OnRefused result (OfScript (S.left source.old) (Answered LIMIT true (K.written sink.old) (K.written sink.new))) }
     ensures memory { OnMemory result (((source.new ≡ source.old) × (sink.new ≡ sink.old)) ⊎ OfScript (S.left source.old) (LackedMemory LIMIT (K.written sink.old) (K.written sink.new))) }

@@ -49,7 +49,7 @@ impl Tally {
     }
 }
 
-/// Answers the lines of the source to its end.
+/// Answers the lines of the source to its end or to `quit`.
 pub fn run<S: Source, K: Sink>(
     alloc: Global,
     session: &mut Session,

@@ -5,9 +5,9 @@ ghost use Rattle.lsys_cli.specs.Statuses.{code_of};
 /// How a run of the program ended.
 #[derive(Clone, Copy, PartialEq, Eq, Debug)]
 pub enum Status {
-    /// The script was read to its end, and every command was accepted or printed.
+    /// The script was read to its end or to `quit`, and every command was accepted or printed.
     Done,
-    /// The script was read to its end, and some reply is a refusal, but none for want of memory.
+    /// The same, but some reply is a refusal, and none is for want of memory.
     Refused,
     /// The words on the command line are wrong.
     Usage,
