@@ -69,6 +69,3 @@ fn total(weights: &[u64]) -> u64
 {
     weights.iter().sum()
 }
-
-#[cfg(test)]
-mod tests;

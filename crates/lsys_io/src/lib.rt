@@ -18,8 +18,6 @@ mod memory;
 mod never;
 mod pieces;
 mod standard;
-#[cfg(test)]
-mod tests;
 
 pub use buffered::Buffered;
 pub use lines::{LineRead, LineReader, LineRefusal};

@@ -119,6 +119,3 @@ pub fn turn_by<T: Lattice>(frame: T::Frame, kind: Turn, count: i64) -> T::Frame
     }
     turned
 }
-
-#[cfg(test)]
-mod tests;

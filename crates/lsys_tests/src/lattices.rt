@@ -1,6 +1,6 @@
 ghost use Rattle.std.specs.Prelude.{◌≡◌};
 
-use super::{Cubic, Hexagonal, Lattice, Place, Square, Turn, turn_by};
+use lsys_lattice::{Cubic, Hexagonal, Lattice, Place, Square, Turn, turn_by};
 
 // Generic code knows by the laws of the trait that a turn and its inverse give the frame back.
 fn turn_and_back<T: Lattice>(frame: T::Frame, kind: Turn) -> T::Frame

@@ -1,6 +1,6 @@
 use Rattle.std.proofs.Common.{◌≡◌}
 use Rattle.lsys_spec.specs.Lattices.{times, turned, turn_left}
-use Rattle.lsys_lattice.proofs.tests.turn_fully.Given as goal
+use Rattle.lsys_tests.proofs.lattices.turn_fully.Given as goal
 
 abbrev pub invariant-loop-done : goal.invariant-loop-done
 invariant-loop-done g l =

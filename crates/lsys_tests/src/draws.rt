@@ -1,4 +1,4 @@
-use super::{axiom_key, child_key, draw, pick};
+use lsys_draw::{axiom_key, child_key, draw, pick};
 
 // The words were computed by an independent program.
 #[test]

@@ -1,4 +1,4 @@
-use super::{
+use lsys_io::{
     Buffered, Failed, LineRead, LineReader, LineRefusal, MemorySink, MemorySource, NeverSink,
     NeverSource, Source, StdSink, StdSource, send_all,
 };

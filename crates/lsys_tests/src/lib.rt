@@ -1,0 +1,11 @@
+//! Tests of what the crates below offer: values from outside, printed texts, and each call once on its happy path.
+//!
+//! They stand in a crate of their own, so that no crate below is proved a second time with its tests.
+#![tactic(auto)]
+
+#[cfg(test)]
+mod draws;
+#[cfg(test)]
+mod ends;
+#[cfg(test)]
+mod lattices;
