@@ -5,7 +5,7 @@ use Rattle.lsys_syntax.specs.Strings.{ModuleName}
 use Rattle.lsys_spec.specs.Systems.{same_name}
 use Rattle.lsys_spec.specs.Bodies.{Body, Pattern, Patterns, Done, OneOf, BranchOf}
 use Rattle.lsys_spec.specs.Levels.{ModuleValue, Step, Items}
-use Rattle.lsys_spec.specs.Walks.{Mark, Told, followed, joined, left_walk, right_walk}
+use Rattle.lsys_spec.specs.Walks.{Mark, Told, followed, joined, left_walk, right_walk, Found}
 use Rattle.lsys_spec.specs.Choice.{Taken, Choice, Asking, right_after, contexts, outcome, decided, is_some, group_from}
 use Rattle.lsys_spec.specs.Standings.{no_patterns, no_left, free, among, all_among, same_ignored}
 use Rattle.lsys_spec.specs.Meaning.{ignores}
@@ -21,15 +21,15 @@ right_free f f' d Done r h = refl
 right_free f f' d (OneOf q p) r h = cc
 right_free f f' d (BranchOf q p) r h = cc
 
-after_free : (f f' : ModuleName → Bool) (d : Mark) (b : Body) (own : ModuleValue) (r : Items) (o : Option (List ModuleValue)) → no_patterns b.right ≡ true → right_after f' d b own r o ≡ right_after f d b own r o
+after_free : (f f' : ModuleName → Bool) (d : Mark) (b : Body) (own : ModuleValue) (r : Items) (o : Found) → no_patterns b.right ≡ true → right_after f' d b own r o ≡ right_after f d b own r o
 after_free f f' d b own r None h = refl
 after_free f f' d b own r (Some ms) h = ap (joined (ms ++ own ∷ [])) (right_free f f' d b.right r h)
 
 contexts_free : (f f' : ModuleName → Bool) (d : Mark) (b : Body) (own : ModuleValue) (w : List Step) (r : Items) → no_left b.left && no_patterns b.right ≡ true → contexts f' d b own w r ≡ contexts f d b own w r
 contexts_free f f' d b own w r h =
     let e = both (no_left b.left) (no_patterns b.right) h in
-    let t : Told (Option (List ModuleValue)) = left_walk f d (reverse b.left) w in
-    ap (λ (t : Told (Option (List ModuleValue))). followed t (right_after f' d b own r t.answer)) (left_free f f' d b.left w e.0)
+    let t : Told Found = left_walk f d (reverse b.left) w in
+    ap (λ (t : Told Found). followed t (right_after f' d b own r t.answer)) (left_free f f' d b.left w e.0)
     ∙ ap (followed t) (after_free f f' d b own r t.answer e.1)
 
 pub group_free : (a : Asking) (f : ModuleName → Bool) (w : List Step) (r : Items) (n g : ℕ) (taken : List Taken) (bs : List Body) → free bs ≡ true
@@ -38,8 +38,8 @@ group_free a f w r n g taken [] h = refl
 group_free a f w r n g taken (b ∷ bs) h =
     let e = both (no_left b.left && no_patterns b.right) (free bs) h in
     let d : Mark = record { rule = g; depth = 0 } in
-    let t : Told (Option (List ModuleValue)) = contexts a.ignored d b a.own w r in
-    ap (λ (t : Told (Option (List ModuleValue))). followed t (decided (outcome a.most n b t) (is_some a.key) g b taken (λ more. group_from (record a { ignored = f }) w r (n + length t.entries) (g + 1) more bs)))
+    let t : Told Found = contexts a.ignored d b a.own w r in
+    ap (λ (t : Told Found). followed t (decided (outcome a.most n b t) (is_some a.key) g b taken (λ more. group_from (record a { ignored = f }) w r (n + length t.entries) (g + 1) more bs)))
     (contexts_free a.ignored f d b a.own w r e.0)
     ∙ ap (λ (go : List Taken → Told Choice). followed t (decided (outcome a.most n b t) (is_some a.key) g b taken go)) (λ i. λ more. group_free a f w r (n + length t.entries) (g + 1) more bs e.1 i)
 

@@ -7,7 +7,7 @@ use Rattle.lsys_syntax.specs.Strings.{ModuleName}
 use Rattle.lsys_spec.specs.Systems.{Each}
 use Rattle.lsys_spec.specs.Bodies.{Body}
 use Rattle.lsys_spec.specs.Levels.{ModuleValue, Step, Items}
-use Rattle.lsys_spec.specs.Walks.{Mark, Entry, Told, followed, left_walk, right_walk}
+use Rattle.lsys_spec.specs.Walks.{Mark, Entry, Told, followed, left_walk, right_walk, Found}
 use Rattle.lsys_spec.proofs.Tells.{mark_of, Foreign, Ends, Tells, tells_says, tells_answer, left_tells, right_tells}
 use Rattle.lsys_spec.proofs.Ruled.{Ruled, left_ruled, right_ruled}
 use Rattle.lsys_spec.specs.Choice.{Fault, TooFar, Outcome, No, Yes, Fails, Taken, Choice, Failed, Asking, weighed, right_after, contexts, outcome, largest_weight, weights, unless_over, with_weight, decided, is_some, group_from}
@@ -16,13 +16,13 @@ use Rattle.lsys_spec.proofs.Eachs.{each_append}
 
 -- 1. the entries of a rule
 
-after_ruled : (f : ModuleName → Bool) (d : Mark) (b : Body) (own : ModuleValue) (r : Items) (o : Option (List ModuleValue)) → Each (Ruled d.rule) (right_after f d b own r o).entries
+after_ruled : (f : ModuleName → Bool) (d : Mark) (b : Body) (own : ModuleValue) (r : Items) (o : Found) → Each (Ruled d.rule) (right_after f d b own r o).entries
 after_ruled f d b own r None = tt
 after_ruled f d b own r (Some ms) = right_ruled f d b.right r
 
 contexts_ruled : (f : ModuleName → Bool) (d : Mark) (b : Body) (own : ModuleValue) (w : List Step) (r : Items) → Each (Ruled d.rule) (contexts f d b own w r).entries
 contexts_ruled f d b own w r =
-    let t : Told (Option (List ModuleValue)) = left_walk f d (reverse b.left) w in
+    let t : Told Found = left_walk f d (reverse b.left) w in
     each_append (Ruled d.rule) t.entries (right_after f d b own r t.answer).entries (left_ruled f d (reverse b.left) w) (after_ruled f d b own r t.answer)
 
 abbrev From : ℕ → Entry → Type 0
@@ -51,7 +51,7 @@ group_ruled : (a : Asking) (w : List Step) (r : Items) (k n g : ℕ) (taken : Li
 group_ruled a w r k n g taken [] l = tt
 group_ruled a w r k n g taken (b ∷ bs) l =
     let d : Mark = record { rule = g; depth = 0 } in
-    let t : Told (Option (List ModuleValue)) = contexts a.ignored d b a.own w r in
+    let t : Told Found = contexts a.ignored d b a.own w r in
     let go = λ (more : List Taken). group_from a w r (n + length t.entries) (g + 1) more bs in
     each_append (From k) t.entries (decided (outcome a.most n b t) (is_some a.key) g b taken go).entries
     (from_ruled k g t.entries l (contexts_ruled a.ignored d b a.own w r))
@@ -63,25 +63,25 @@ from_foreign g (e ∷ es) h = λ i. let l : g + 1 ≤ (mark_of e).rule = h.0 in 
 
 -- 2. a rule
 
-after_tells : (f f' : ModuleName → Bool) (d : Mark) (b : Body) (own : ModuleValue) (r r' : Items) (o : Option (List ModuleValue)) → Tells d (right_after f d b own r o) (right_after f' d b own r' o)
+after_tells : (f f' : ModuleName → Bool) (d : Mark) (b : Body) (own : ModuleValue) (r r' : Items) (o : Found) → Tells d (right_after f d b own r o) (right_after f' d b own r' o)
 after_tells f f' d b own r r' None = tells_says d None
 after_tells f f' d b own r r' (Some ms) = tells_answer d (λ more. (ms ++ own ∷ []) ++ more) (right_walk f d b.right r) (right_walk f' d b.right r') (right_tells f f' d b.right r r')
 
-left_ends : (f : ModuleName → Bool) (d : Mark) (b : Body) (own : ModuleValue) (r : Items) (t : Told (Option (List ModuleValue))) (m : List Entry) → Ends d (right_after f d b own r t.answer) m → Ends d t ((right_after f d b own r t.answer).entries ++ m)
-left_ends f d b own r t m h e = subst (λ (o : Option (List ModuleValue)). Foreign d ((right_after f d b own r o).entries ++ m)) (sym e) (h (ap (λ (o : Option (List ModuleValue)). (right_after f d b own r o).answer) e))
+left_ends : (f : ModuleName → Bool) (d : Mark) (b : Body) (own : ModuleValue) (r : Items) (t : Told Found) (m : List Entry) → Ends d (right_after f d b own r t.answer) m → Ends d t ((right_after f d b own r t.answer).entries ++ m)
+left_ends f d b own r t m h e = subst (λ (o : Found). Foreign d ((right_after f d b own r o).entries ++ m)) (sym e) (h (ap (λ (o : Found). (right_after f d b own r o).answer) e))
 
 contexts_tells : (f f' : ModuleName → Bool) (d : Mark) (b : Body) (own : ModuleValue) (w w' : List Step) (r r' : Items) → Tells d (contexts f d b own w r) (contexts f' d b own w' r')
 contexts_tells f f' d b own w w' r r' m m' j k e =
-    let t : Told (Option (List ModuleValue)) = left_walk f d (reverse b.left) w in
-    let t' : Told (Option (List ModuleValue)) = left_walk f' d (reverse b.left) w' in
-    let n : Told (Option (List ModuleValue)) = right_after f d b own r t.answer in
-    let n' : Told (Option (List ModuleValue)) = right_after f' d b own r' t'.answer in
+    let t : Told Found = left_walk f d (reverse b.left) w in
+    let t' : Told Found = left_walk f' d (reverse b.left) w' in
+    let n : Told Found = right_after f d b own r t.answer in
+    let n' : Told Found = right_after f' d b own r' t'.answer in
     let split : t.entries ++ (n.entries ++ m) ≡ t'.entries ++ (n'.entries ++ m') = sym (append_assoc t.entries n.entries m) ∙ e ∙ append_assoc t'.entries n'.entries m' in
     let c : (t' ≡ t) × (n'.entries ++ m' ≡ n.entries ++ m) = left_tells f f' d (reverse b.left) w w' (n.entries ++ m) (n'.entries ++ m') (left_ends f d b own r t m j) (left_ends f' d b own r' t' m' k) split in
-    let a : n' ≡ right_after f' d b own r' t.answer = ap (λ (u : Told (Option (List ModuleValue))). right_after f' d b own r' u.answer) c.0 in
+    let a : n' ≡ right_after f' d b own r' t.answer = ap (λ (u : Told Found). right_after f' d b own r' u.answer) c.0 in
     let s : (right_after f' d b own r' t.answer ≡ n) × (m' ≡ m) =
-    after_tells f f' d b own r r' t.answer m m' j (subst (λ (u : Told (Option (List ModuleValue))). Ends d u m') a k) (sym c.1 ∙ ap (λ (u : Told (Option (List ModuleValue))). u.entries ++ m') a) in
-    (ap (λ (u : Told (Option (List ModuleValue))). followed u n') c.0 ∙ ap (followed t) (a ∙ s.0), s.1)
+    after_tells f f' d b own r r' t.answer m m' j (subst (λ (u : Told Found). Ends d u m') a k) (sym c.1 ∙ ap (λ (u : Told Found). u.entries ++ m') a) in
+    (ap (λ (u : Told Found). followed u n') c.0 ∙ ap (followed t) (a ∙ s.0), s.1)
 
 -- 3. the group
 
@@ -109,20 +109,20 @@ group_told a f w w' r r' n g taken [] e = refl
 group_told a f w w' r r' n g taken (b ∷ bs) e =
     let a' : Asking = record a { ignored = f } in
     let d : Mark = record { rule = g; depth = 0 } in
-    let t : Told (Option (List ModuleValue)) = contexts a.ignored d b a.own w r in
-    let t' : Told (Option (List ModuleValue)) = contexts f d b a.own w' r' in
-    let go = λ (u : Told (Option (List ModuleValue))) (more : List Taken). group_from a w r (n + length u.entries) (g + 1) more bs in
-    let go' = λ (u : Told (Option (List ModuleValue))) (more : List Taken). group_from a' w' r' (n + length u.entries) (g + 1) more bs in
+    let t : Told Found = contexts a.ignored d b a.own w r in
+    let t' : Told Found = contexts f d b a.own w' r' in
+    let go = λ (u : Told Found) (more : List Taken). group_from a w r (n + length u.entries) (g + 1) more bs in
+    let go' = λ (u : Told Found) (more : List Taken). group_from a' w' r' (n + length u.entries) (g + 1) more bs in
     let next : Told Choice = decided (outcome a.most n b t) (is_some a.key) g b taken (go t) in
     let next' : Told Choice = decided (outcome a.most n b t') (is_some a.key) g b taken (go' t') in
     let m : Foreign d next.entries = from_foreign g next.entries (decided_from (g + 1) (outcome a.most n b t) (is_some a.key) g b taken (go t) (λ more. group_ruled a w r (g + 1) (n + length t.entries) (g + 1) more bs (omega arith))) in
     let m' : Foreign d next'.entries = from_foreign g next'.entries (decided_from (g + 1) (outcome a.most n b t') (is_some a.key) g b taken (go' t') (λ more. group_ruled a' w' r' (g + 1) (n + length t'.entries) (g + 1) more bs (omega arith))) in
     let c : (t' ≡ t) × (next'.entries ≡ next.entries) = contexts_tells a.ignored f d b a.own w w' r r' next.entries next'.entries (λ i. m) (λ i. m') e in
-    let moved : next' ≡ decided (outcome a.most n b t) (is_some a.key) g b taken (go' t) = ap (λ (u : Told (Option (List ModuleValue))). decided (outcome a.most n b u) (is_some a.key) g b taken (go' u)) c.0 in
+    let moved : next' ≡ decided (outcome a.most n b t) (is_some a.key) g b taken (go' t) = ap (λ (u : Told Found). decided (outcome a.most n b u) (is_some a.key) g b taken (go' u)) c.0 in
     let same : decided (outcome a.most n b t) (is_some a.key) g b taken (go' t) ≡ next =
     decided_told (outcome a.most n b t) (is_some a.key) g b taken (go t) (go' t) (λ more. group_told a f w w' r r' (n + length t.entries) (g + 1) more bs)
     (sym c.1 ∙ ap (λ (u : Told Choice). u.entries) moved) in
-    ap (λ (u : Told (Option (List ModuleValue))). followed u next') c.0 ∙ ap (followed t) (moved ∙ same)
+    ap (λ (u : Told Found). followed u next') c.0 ∙ ap (followed t) (moved ∙ same)
 
 -- 4. the whole
 

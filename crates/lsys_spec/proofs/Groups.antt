@@ -5,12 +5,12 @@ use Rattle.std.proofs.lemmas.Bool.{ltb-false}
 use Rattle.lsys_syntax.specs.Strings.{ModuleName}
 use Rattle.lsys_spec.specs.Bodies.{Body}
 use Rattle.lsys_spec.specs.Levels.{ModuleValue, Step, Items}
-use Rattle.lsys_spec.specs.Walks.{Mark, Entry, Told, says, followed, left_walk, right_walk}
+use Rattle.lsys_spec.specs.Walks.{Mark, Entry, Told, says, followed, left_walk, right_walk, Found}
 use Rattle.lsys_spec.proofs.Carries.{Carries, carries_self, carries_followed, carries_answer}
 use Rattle.lsys_spec.proofs.Alike.{Settles, AlikeItems, AlikeWays, left_carries, right_carries}
 use Rattle.lsys_spec.specs.Choice.{Fault, TooFar, Outcome, No, Yes, Fails, Taken, Choice, Chosen, Failed, WeightTotal, Asking, weighed, right_after, contexts, fitting, unless_far, outcome, largest_weight, weights, unless_over, with_weight, decided, is_some, at_end, group_from}
 
-right_after_carries : (S : List ℕ → Type 0) (f : ModuleName → Bool) (d : Mark) (b : Body) (own : ModuleValue) (r r' : Items) → AlikeItems S r r' → (o : Option (List ModuleValue))
+right_after_carries : (S : List ℕ → Type 0) (f : ModuleName → Bool) (d : Mark) (b : Body) (own : ModuleValue) (r r' : Items) → AlikeItems S r r' → (o : Found)
     → Carries (Settles S) (right_after f d b own r o) (right_after f d b own r' o)
 right_after_carries S f d b own r r' a None = carries_self (Settles S) (says None)
 right_after_carries S f d b own r r' a (Some ms) =
@@ -49,8 +49,8 @@ group_carries S a w w' r r' l i n g taken (b ∷ bs) =
     let d : Mark = record { rule = g; depth = 0 } in
     let t = contexts a.ignored d b a.own w r in
     let t' = contexts a.ignored d b a.own w' r' in
-    let next = λ (u : Told (Option (List ModuleValue))). decided (outcome a.most n b u) (is_some a.key) g b taken (λ more. group_from a w r (n + length u.entries) (g + 1) more bs) in
-    let next' = λ (u : Told (Option (List ModuleValue))). decided (outcome a.most n b u) (is_some a.key) g b taken (λ more. group_from a w' r' (n + length u.entries) (g + 1) more bs) in
+    let next = λ (u : Told Found). decided (outcome a.most n b u) (is_some a.key) g b taken (λ more. group_from a w r (n + length u.entries) (g + 1) more bs) in
+    let next' = λ (u : Told Found). decided (outcome a.most n b u) (is_some a.key) g b taken (λ more. group_from a w' r' (n + length u.entries) (g + 1) more bs) in
     carries_followed (Settles S) t t' (next t) (next' t') (contexts_carries S a.ignored d b a.own w w' r r' l i)
     (λ e. subst (λ u. Carries (Settles S) (next t) (next' u)) (sym e)
     (decided_carries (Settles S) (outcome a.most n b t) (is_some a.key) g b taken (λ more. group_from a w r (n + length t.entries) (g + 1) more bs) (λ more. group_from a w' r' (n + length t.entries) (g + 1) more bs)
@@ -77,7 +77,7 @@ decided_far most m (Fails k) weighted g b taken go h f = says_near most m (Faile
 decided_far most m (Yes values) false g b taken go h f = says_near most m (Chosen g values) h
 decided_far most m (Yes values) true g b taken go h f = weight_far most m (weighed b.weight values) g values taken go h f
 
-far_after : (most n m : ℕ) (t : Told (Option (List ModuleValue))) (far : Bool) (o : Outcome) (weighted : Bool) (g : ℕ) (b : Body) (taken : List Taken) (go : List Taken → Told Choice)
+far_after : (most n m : ℕ) (t : Told Found) (far : Bool) (o : Outcome) (weighted : Bool) (g : ℕ) (b : Body) (taken : List Taken) (go : List Taken → Told Choice)
     → n + length t.entries ≡ m → ltb most m ≡ far → ((more : List Taken) → m ≤ most → Far most m (go more))
     → Far most n (followed t (decided (unless_far far o) weighted g b taken go))
 far_after most n m t true o weighted g b taken go e f i l = refl
@@ -92,6 +92,6 @@ pub group_far : (a : Asking) (w : List Step) (r : Items) (n g : ℕ) (taken : Li
     → a.most < n + length (group_from a w r n g taken bs).entries → (group_from a w r n g taken bs).answer ≡ Failed TooFar
 group_far a w r n g taken [] h l = absurd (omega (arith, h, l))
 group_far a w r n g taken (b ∷ bs) h l =
-    let t : Told (Option (List ModuleValue)) = contexts a.ignored (record { rule = g; depth = 0 }) b a.own w r in
+    let t : Told Found = contexts a.ignored (record { rule = g; depth = 0 }) b a.own w r in
     far_after a.most n (n + length t.entries) t (ltb a.most (n + length t.entries)) (fitting b t.answer) (is_some a.key) g b taken (λ more. group_from a w r (n + length t.entries) (g + 1) more bs)
     refl refl (λ more near. group_far a w r (n + length t.entries) (g + 1) more bs near) l

@@ -6,7 +6,8 @@ use Rattle.lsys_spec.specs.Systems.{System, Each, same_name}
 use Rattle.lsys_spec.specs.Values.{◌and_then◌}
 use Rattle.lsys_spec.specs.Bodies.{Body, Pattern, Patterns, Done, OneOf, BranchOf, group}
 use Rattle.lsys_spec.specs.Levels.{ModuleValue, Symbol, Push, Pop, Module, Step, Passed, Around, OutOf, Reading, restored, read, way, Items, Nothing, One, Branch, Nest, outermost, within, innermost, with_module, with_branch, opened, items_of, items_from}
-use Rattle.lsys_spec.specs.Walks.{Mark, deeper, Told, before, followed, is_ignored, fits, met, behind, left_walk, ahead, joined, or_passed, right_walk}
+use Rattle.lsys_spec.specs.Walks.{Mark, deeper, Told, Found, says, before, followed, is_ignored, fits, behind, left_walk, ahead, joined, or_passed, right_walk}
+use Rattle.lsys_spec.proofs.Meetings.{met}
 use Rattle.lsys_spec.specs.Choice.{right_after}
 use Rattle.lsys_spec.specs.Cuts.{Plain, cut}
 use Rattle.lsys_spec.specs.Meaning.{numbered, key_for, most_entries, ignores, asked, successor_by, successor, fault_at, children_from, next_level}
@@ -30,7 +31,7 @@ module _ (f g : ModuleName → Bool) where
   ItemsAlike (One s r) = IsAlike f g s × ItemsAlike r
   ItemsAlike (Branch o c inner r) = ItemsAlike inner × ItemsAlike r
 
-  met_same : (i j b : Bool) (d : Mark) (s : Symbol) (on go next then : Told (Option (List ModuleValue)))
+  met_same : (i j b : Bool) (d : Mark) (s : Symbol) (on go next then : Told Found)
       → i ≡ j → on ≡ go → next ≡ then → met i b d s on next ≡ met j b d s go then
   met_same i j b d s on go next then e h k = cc
 
@@ -42,7 +43,7 @@ module _ (f g : ModuleName → Bool) where
   left_same d (q ∷ qs) (Passed s ∷ w) h =
       met_same _ _ (fits q s) d s _ _ _ _ (ignored_same s h.0) (left_same d (q ∷ qs) w h.1) (ap (behind s) (left_same d qs w h.1))
 
-  branch_same : (inside outside both all passed past : Told (Option (List ModuleValue)))
+  branch_same : (inside outside both all passed past : Told Found)
       → inside ≡ outside → both ≡ all → passed ≡ past
       → followed inside (or_passed inside.answer both passed) ≡ followed outside (or_passed outside.answer all past)
   branch_same inside outside both all passed past e h k =
@@ -58,17 +59,17 @@ module _ (f g : ModuleName → Bool) where
       met_same _ _ (fits q s) d s _ _ _ _ (ignored_same s h.0) (right_same d (OneOf q p) r h.1) (ap (ahead s) (right_same d p r h.1))
   right_same d (BranchOf qs p) Nothing h = refl
   right_same d (BranchOf qs p) (One s r) h =
-      met_same _ _ false d s _ _ _ _ (ignored_same s h.0) (right_same d (BranchOf qs p) r h.1) refl
+      met_same _ _ false d s _ _ (says None) (says None) (ignored_same s h.0) (right_same d (BranchOf qs p) r h.1) refl
   right_same d (BranchOf qs p) (Branch o c inner r) h =
       ap (before _) (branch_same _ _ _ _ _ _ (right_same (deeper d) qs inner h.0) (right_same d p r h.1) (right_same d (BranchOf qs p) r h.1))
 
-  after_same : (d : Mark) (b : Body) (own : ModuleValue) (r : Items) (o : Option (List ModuleValue))
+  after_same : (d : Mark) (b : Body) (own : ModuleValue) (r : Items) (o : Found)
       → ItemsAlike r → right_after f d b own r o ≡ right_after g d b own r o
   after_same d b own r None h = refl
   after_same d b own r (Some ms) h = ap (joined (ms ++ own ∷ [])) (right_same d b.right r h)
 
-  told_same : (t u : Told (Option (List ModuleValue))) (go on : Option (List ModuleValue) → Told (Option (List ModuleValue)))
-      → t ≡ u → ((o : Option (List ModuleValue)) → go o ≡ on o) → followed t (go t.answer) ≡ followed u (on u.answer)
+  told_same : (t u : Told Found) (go on : Found → Told Found)
+      → t ≡ u → ((o : Found) → go o ≡ on o) → followed t (go t.answer) ≡ followed u (on u.answer)
   told_same t u go on e h = ap (λ v. followed v (go v.answer)) e ∙ ap (followed u) (h u.answer)
 
   contexts_same : (own : ModuleValue) (w : List Step) (r : Items) (b : Body) → Each StepAlike w → ItemsAlike r → FindSame f g own w w r r b

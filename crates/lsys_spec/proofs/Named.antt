@@ -5,7 +5,8 @@ use Rattle.lsys_syntax.specs.Strings.{ModuleName}
 use Rattle.lsys_spec.specs.Systems.{System, Each}
 use Rattle.lsys_spec.specs.Bodies.{Body, Pattern, Patterns, Done, OneOf, BranchOf}
 use Rattle.lsys_spec.specs.Levels.{ModuleValue, Symbol, Push, Pop, Module, lineage, Step, Passed, Around, OutOf, Reading, restored, read, way, Items, Nothing, One, Branch, Nest, outermost, within, innermost, with_module, opened, items_of, items_from}
-use Rattle.lsys_spec.specs.Walks.{Mark, deeper, Entry, Compared, Ignored, Out, Branched, Told, says, is_ignored, fits, met, left_walk, right_walk, behind, ahead, or_passed}
+use Rattle.lsys_spec.specs.Walks.{Mark, deeper, Entry, Compared, Ignored, Out, Branched, Told, Found, says, is_ignored, fits, left_walk, right_walk, behind, ahead, or_passed}
+use Rattle.lsys_spec.proofs.Meetings.{met}
 use Rattle.lsys_spec.specs.Choice.{Fault, Outcome, No, Yes, Fails, Taken, Choice, Asking, weighed, right_after, contexts, outcome, largest_weight, weights, unless_over, with_weight, decided, is_some, group_from}
 use Rattle.lsys_spec.specs.Meaning.{ignores, key_for, most_entries, asked}
 use Rattle.lsys_spec.specs.Questions.{question}
@@ -33,7 +34,7 @@ InItems V Nothing = Unit {0}
 InItems V (One s r) = V s × InItems V r
 InItems V (Branch o c i r) = V o × V c × InItems V i × InItems V r
 
-met_all : (V : Symbol → Type 0) (b e : Bool) (d : Mark) (s : Symbol) (on next : Told (Option (List ModuleValue))) → V s → Each (OfEntry V) on.entries → Each (OfEntry V) next.entries → Each (OfEntry V) (met b e d s on next).entries
+met_all : (V : Symbol → Type 0) (b e : Bool) (d : Mark) (s : Symbol) (on next : Told Found) → V s → Each (OfEntry V) on.entries → Each (OfEntry V) next.entries → Each (OfEntry V) (met b e d s on next).entries
 met_all V true e d s on next h k l = (h, k)
 met_all V false true d s on next h k l = (h, l)
 met_all V false false d s on next h k l = (h, tt)
@@ -112,7 +113,7 @@ level_items V x p h = innermost_in V (items_of (drop p x)) (items_in V (drop p x
 
 -- the rules of a group
 
-after_named : (V : Symbol → Type 0) (f : ModuleName → Bool) (d : Mark) (b : Body) (own : ModuleValue) (r : Items) (o : Option (List ModuleValue)) → InItems V r → Each (OfEntry V) (right_after f d b own r o).entries
+after_named : (V : Symbol → Type 0) (f : ModuleName → Bool) (d : Mark) (b : Body) (own : ModuleValue) (r : Items) (o : Found) → InItems V r → Each (OfEntry V) (right_after f d b own r o).entries
 after_named V f d b own r None h = tt
 after_named V f d b own r (Some ms) h = right_named V f d b.right r h
 
@@ -135,8 +136,8 @@ group_named : (V : Symbol → Type 0) (a : Asking) (w : List Step) (r : Items) (
 group_named V a w r n g taken [] h k = tt
 group_named V a w r n g taken (b ∷ bs) h k =
     let d : Mark = record { rule = g; depth = 0 } in
-    let l : Told (Option (List ModuleValue)) = left_walk a.ignored d (reverse b.left) w in
-    let t : Told (Option (List ModuleValue)) = contexts a.ignored d b a.own w r in
+    let l : Told Found = left_walk a.ignored d (reverse b.left) w in
+    let t : Told Found = contexts a.ignored d b a.own w r in
     let go = λ (more : List Taken). group_from a w r (n + length t.entries) (g + 1) more bs in
     each_append (OfEntry V) t.entries (decided (outcome a.most n b t) (is_some a.key) g b taken go).entries
     (each_append (OfEntry V) l.entries (right_after a.ignored d b a.own r l.answer).entries (left_named V a.ignored d (reverse b.left) w h) (after_named V a.ignored d b a.own r l.answer k))
