@@ -10,10 +10,10 @@ use Rattle.lsys_spec.specs.Walks.{Mark, deeper, Told, Found, says, before, follo
 use Rattle.lsys_spec.proofs.Meetings.{met}
 use Rattle.lsys_spec.specs.Choice.{right_after}
 use Rattle.lsys_spec.specs.Cuts.{Plain, cut}
-use Rattle.lsys_spec.specs.Meaning.{numbered, key_for, most_entries, ignores, asked, successor_by, successor, fault_at, children_from, next_level}
+use Rattle.lsys_spec.specs.Meaning.{numbered, key_for, most_entries, ignores, asking, asked, successor_by, successor, fault_at, children_from, next_level}
 use Rattle.lsys_spec.specs.Questions.{Question, question, where_any, questions_from, questions_at}
 use Rattle.lsys_spec.specs.Morphisms.{IsAlike, AreAlike, ignoring, occurs}
-use Rattle.lsys_spec.proofs.SameGroups.{FindSame, group_same}
+use Rattle.lsys_spec.proofs.SameGroups.{FindSame, choice_same}
 
 module _ (f g : ModuleName → Bool) where
   ignored_same : (s : Symbol) → IsAlike f g s → is_ignored f s ≡ is_ignored g s
@@ -144,10 +144,9 @@ module _ (f g : ModuleName → Bool) where
 
 module _ (s : System) (names : List ModuleName) (x : List Symbol) (h : AreAlike (ignores names) (ignores s.ignored) x) where
   asked_same : (bs : List Body) (p : ℕ) (l : List ℕ) (m : ModuleValue) → asked (ignoring names s) bs x p l m ≡ asked s bs x p l m
-  asked_same [] p l m = refl
-  asked_same (b ∷ bs) p l m =
-      group_same (ignores names) (ignores s.ignored) most_entries (key_for s l (b ∷ bs)) m (way x p) (way x p) (items_from x (p + 1)) (items_from x (p + 1)) 0 0 [] (b ∷ bs)
-      (all_same _ _ m (way x p) (items_from x (p + 1)) (b ∷ bs) (way_alike _ _ x p h) (items_alike _ _ x (p + 1) h))
+  asked_same bs p l m =
+      choice_same (asking (ignoring names s) m) (ignores s.ignored) (way x p) (way x p) (items_from x (p + 1)) (items_from x (p + 1)) (key_for s l bs) bs
+      (all_same _ _ m (way x p) (items_from x (p + 1)) bs (way_alike _ _ x p h) (items_alike _ _ x (p + 1) h))
 
   successor_same : (t p : ℕ) (l : List ℕ) (m : ModuleValue) → successor (ignoring names s) t x p l m ≡ successor s t x p l m
   successor_same t p l m =

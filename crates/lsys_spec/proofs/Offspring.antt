@@ -13,7 +13,7 @@ use Rattle.lsys_spec.specs.Systems.{System, Each, WellFormed}
 use Rattle.lsys_spec.specs.Values.{Tree}
 use Rattle.lsys_spec.specs.Bodies.{Body, body_of, templates, is_for, group_in, group, table_at}
 use Rattle.lsys_spec.specs.Levels.{ModuleValue, Symbol, Push, Pop, Module, lineage, balanced}
-use Rattle.lsys_spec.specs.Choice.{Choice, Nowhere, Chosen, Failed}
+use Rattle.lsys_spec.specs.Choice.{Choice, NoRule, Chosen, Failed}
 use Rattle.lsys_spec.specs.Cuts.{Raw, Plain, Percent, raw_lineage, raw_balanced, cut_on, cut, BeforeAll, Rising}
 use Rattle.lsys_spec.specs.Meaning.{numbered, first_level, asked, filled_params, filled, filled_at, successor_by, successor, fault_at, children_from, next_level, meaning_to}
 use Rattle.lsys_spec.specs.LevelLaws.{HasBalance}
@@ -78,7 +78,7 @@ chosen_balanced (b ∷ bs) zero values ys h k = filled_balanced b.successor valu
 chosen_balanced (b ∷ bs) (suc g) values ys h k = chosen_balanced bs g values ys h.1 k
 
 choice_balanced : (bs : List Body) (m : ModuleValue) (c : Choice) (ys : List (S.Symbol ℤ)) → Bodies bs → successor_by bs m c ≡ Ok ys → S.balanced 0 ys ≡ true
-choice_balanced bs m Nowhere ys h k = let e : S.Module m.name m.params ∷ [] ≡ ys = cc in ap (S.balanced 0) (sym e)
+choice_balanced bs m NoRule ys h k = let e : S.Module m.name m.params ∷ [] ≡ ys = cc in ap (S.balanced 0) (sym e)
 choice_balanced bs m (Chosen g values) ys h k = chosen_balanced bs g values ys h k
 choice_balanced bs m (Failed f) ys h k = cc
 

@@ -1,5 +1,5 @@
 -- Values of expressions: exact whole numbers that fit 64 bits, or the first fault.
-use Rattle.std.specs.Prelude.{ℕ, ℤ, pos, negsuc, ◌+◌, ◌+ℤ◌, ◌-ℤ◌, ◌*ℤ◌, neg_ℤ, int_div, int_rem, int_lt, ◌^◌, ◌==◌, ◌%◌, ◌||◌, Bool, true, false, not, List, [], ◌∷◌, Result, Ok, Err, nat_lt, bytes_eq, if◌then◌else◌, get_or}
+use Rattle.std.specs.Prelude.{ℕ, ℤ, pos, negsuc, ◌+◌, ◌+ℤ◌, ◌-ℤ◌, ◌*ℤ◌, neg_ℤ, int_div, int_rem, int_lt, ◌^◌, ◌==◌, ◌%◌, ◌||◌, Bool, true, false, not, Option, Some, None, List, [], ◌∷◌, Result, Ok, Err, nat_lt, bytes_eq, if◌then◌else◌, get_or}
 use Rattle.std.specs.Int.{int_pow}
 use Rattle.lsys_syntax.specs.Tokens.{NameText}
 use Rattle.lsys_syntax.specs.Pieces as P
@@ -135,3 +135,8 @@ value (Inversion t) b = value t b and_then λ x. Ok (truth (is_zero x))
 value (Binary op t u) b = value t b and_then λ x. value u b and_then λ y. applied op x y
 value (Both t u) b = value t b and_then λ x. unless_zero (is_zero x) (value u b)
 value (Either t u) b = value t b and_then λ x. unless_true (is_zero x) (value u b)
+
+-- whether a condition holds; a missing one does
+abbrev pub judged : Option Tree → List ℤ → Result Bool Arith
+judged None b = Ok true
+judged (Some t) b = value t b and_then λ x. Ok (not (is_zero x))
