@@ -5,7 +5,8 @@ use Rattle.lsys_spec.specs.Systems.{System, Each}
 use Rattle.lsys_spec.specs.Bodies.{Body, group}
 use Rattle.lsys_spec.specs.Levels.{ModuleValue, Symbol, lineage}
 use Rattle.lsys_spec.specs.Walks.{Mark, Entry, Compared, Ignored, Out, Branched, named}
-use Rattle.lsys_spec.specs.Questions.{Question, question, questions, same_number, same_option, same_all, same_lineage, same_symbol, same_body, same_mark, same_entry, same_question, question_at, differs, is_needed}
+use Rattle.lsys_spec.specs.Equalities.{same_number, same_option, same_all, same_lineage, same_symbol, same_body, same_mark, same_entry}
+use Rattle.lsys_spec.specs.Questions.{Question, question, questions, same_question, question_at, differs, is_needed}
 use Rattle.lsys_spec.specs.LevelLaws.{StandsIn}
 use Rattle.lsys_spec.proofs.Eachs.{each_at, each_more}
 use Rattle.lsys_spec.proofs.Equal.{same_number_true, same_lineage_true, same_question_refl}

@@ -9,7 +9,8 @@ use Rattle.lsys_spec.specs.Bodies.{Body, group}
 use Rattle.lsys_spec.specs.Levels.{ModuleValue, Symbol, Push, Pop, Module, lineage, IsLevel}
 use Rattle.lsys_spec.specs.Walks.{Entry, named, list_any}
 use Rattle.lsys_spec.specs.Meaning.{key_for, meaning}
-use Rattle.lsys_spec.specs.Questions.{Question, question, where_any, questions_from, questions_at, questions_below, questions, same_number, same_option, same_all, same_lineage, same_symbol, same_body, same_question, question_at, differs, is_needed}
+use Rattle.lsys_spec.specs.Equalities.{same_number, same_option, same_all, same_lineage, same_symbol, same_body}
+use Rattle.lsys_spec.specs.Questions.{Question, question, where_any, questions_from, questions_at, questions_below, questions, same_question, question_at, differs, is_needed}
 use Rattle.lsys_spec.specs.Standings.{standing, place_of, standing_of, before_place, Settled, same_standing, is_disturbed, reads_disturbed, any_disturbed, free, same_ignored, is_touched, touched_there}
 use Rattle.lsys_spec.specs.LevelLaws.{may_differ}
 use Rattle.lsys_spec.proofs.Alike.{Settles}

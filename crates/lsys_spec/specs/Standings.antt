@@ -5,7 +5,8 @@ use Rattle.lsys_spec.specs.Systems.{System, same_name}
 use Rattle.lsys_spec.specs.Bodies.{Body, Pattern, Patterns, Done, OneOf, BranchOf}
 use Rattle.lsys_spec.specs.Levels.{Symbol, Push, Pop, Module, lineage, Step, Passed, Around, OutOf, Items, Nothing, One, Branch, way, items_from}
 use Rattle.lsys_spec.specs.Walks.{Entry, named, list_any}
-use Rattle.lsys_spec.specs.Questions.{Question, same_option, same_symbol, same_lineage, same_all, same_body, same_number, question_at}
+use Rattle.lsys_spec.specs.Equalities.{same_option, same_symbol, same_lineage, same_all, same_body, same_number}
+use Rattle.lsys_spec.specs.Questions.{Question, question_at}
 
 pub record Standing : Type 0 where
   pub symbol : Option Symbol
