@@ -2,7 +2,7 @@
 ghost use Rattle.std.specs.Prelude.{◌≡◌, ℤ, pos, negsuc, Ok, ◌≤ℤ◌, unsigned_abs};
 ghost use Rattle.std.specs.Int.{int_pow};
 ghost use Rattle.lsys_syntax.specs.Expressions.{add, subtract, multiply, divide, remainder, equal, unequal, less, at_most, greater, at_least};
-ghost use Rattle.lsys_spec.specs.Values.{applied, exact, large_power, power, power_of, product_of, sum_of, comparison, compared, truth, is_zero, int_same};
+ghost use Rattle.lsys_spec.specs.Values.{applied, exact, large_power, power, power_of, product_of, sum_of, comparison, relates, truth, is_zero, int_same};
 ghost use Rattle.lsys_expr.specs.Answers.{answer_of};
 ghost use Rattle.lsys_expr.specs.Trees.{operator_of};
 

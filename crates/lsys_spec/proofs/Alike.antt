@@ -5,13 +5,13 @@ use Rattle.lsys_syntax.specs.Strings.{ModuleName}
 use Rattle.lsys_spec.specs.Systems.{Each}
 use Rattle.lsys_spec.specs.Bodies.{Pattern, Patterns, Done, OneOf, BranchOf}
 use Rattle.lsys_spec.specs.Levels.{ModuleValue, Symbol, lineage, Step, Passed, Around, OutOf, Items, Nothing, One, Branch}
-use Rattle.lsys_spec.specs.Walks.{Mark, deeper, named, Entry, Compared, Ignored, Out, Branched, Told, Found, says, before, followed, modules, is_ignored, fits, left_walk, right_walk, behind, ahead, or_passed}
+use Rattle.lsys_spec.specs.Walks.{Mark, deeper, lineages_named, Entry, Compared, Ignored, Out, Branched, Told, Found, says, before, followed, modules, is_ignored, fits, left_walk, right_walk, behind, ahead, or_passed}
 use Rattle.lsys_spec.proofs.Meetings.{met}
 use Rattle.lsys_spec.proofs.Carries.{Carries, carries_self, carries_before, carries_followed, carries_answer}
 
 -- each symbol that an entry names is settled
 abbrev pub Settles : (List ℕ → Type 0) → Entry → Type 0
-Settles S e = Each S (named e)
+Settles S e = Each S (lineages_named e)
 
 abbrev pub AlikeWays : (List ℕ → Type 0) → List Step → List Step → Type 0
 AlikeWays S [] [] = Unit {0}

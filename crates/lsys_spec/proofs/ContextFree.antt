@@ -11,7 +11,7 @@ use Rattle.lsys_spec.specs.Choice.{Fault, choice}
 use Rattle.lsys_spec.specs.Cuts.{Raw}
 use Rattle.lsys_spec.specs.Meaning.{Refusal, OverLimit, FaultAt, numbered, any_weight, key_for, ignores, asking, asked, successor_by, successor, fault_at, children_from}
 use Rattle.lsys_spec.specs.Standings.{no_left, no_patterns, free}
-use Rattle.lsys_spec.specs.Morphisms.{IsContextFree, IsUnweighted, alone, rewritten, raw_plain, AreMade}
+use Rattle.lsys_spec.specs.Morphisms.{IsContextFree, IsUnweighted, given_alone, rewritten, raw_plain, AreMade}
 use Rattle.lsys_spec.proofs.SameGroups.{FindSame, choice_same}
 
 and_is : (a b : Bool) → (a && b) ≡ true → (a ≡ true) × (b ≡ true)
@@ -60,7 +60,7 @@ asked_unweighted s bs x p l k m h =
     ap (λ key. choice (asking s m) key (way x p) (items_from x (p + 1)) bs) (no_key s l bs h ∙ sym (no_key s k bs h))
 
 successor_alone : (s : System) (t : ℕ) → IsContextFree s t → IsUnweighted s t
-    → (x : List Symbol) (p : ℕ) (l : List ℕ) (m : ModuleValue) → successor s t x p l m ≡ alone s t m
+    → (x : List Symbol) (p : ℕ) (l : List ℕ) (m : ModuleValue) → successor s t x p l m ≡ given_alone s t m
 successor_alone s t h u x p l m =
     let bs = group s t m.name (length m.params) in
     ap (λ o. successor_by bs m o.answer) (asked_unweighted s bs x p l [] m (u m.name (length m.params)))
@@ -96,12 +96,12 @@ with_module t n l (Ok ys) c d h = with_children l ys c d h
 with_module t n l (Err k) c d h = refl
 
 pub children_made : (s : System) (t : ℕ) → IsContextFree s t → IsUnweighted s t
-    → (x : List Symbol) (p n : ℕ) (rest : List Symbol) → AreMade (children_from s t x p n rest) (rewritten (alone s t) (map plain rest))
+    → (x : List Symbol) (p n : ℕ) (rest : List Symbol) → AreMade (children_from s t x p n rest) (rewritten (given_alone s t) (map plain rest))
 children_made s t h u x p n [] = refl
 children_made s t h u x p n (Push l ∷ rest) = with_bracket _ _ _ (children_made s t h u x (p + 1) n rest)
 children_made s t h u x p n (Pop l ∷ rest) = with_bracket _ _ _ (children_made s t h u x (p + 1) n rest)
 children_made s t h u x p n (Module l m ∷ rest) =
-    rw (successor_alone s t h u x p l m) (with_module t (n + 1) l (alone s t m) _ _ (children_made s t h u x (p + 1) (n + 1) rest))
+    rw (successor_alone s t h u x p l m) (with_module t (n + 1) l (given_alone s t m) _ _ (children_made s t h u x (p + 1) (n + 1) rest))
 
 front_then : (x : S.Symbol ℤ) (a b : Result (List (S.Symbol ℤ)) Fault)
     → ((a and_then λ u. b and_then λ v. Ok (u ++ v)) and_then λ more. Ok (x ∷ more)) ≡ ((a and_then λ more. Ok (x ∷ more)) and_then λ u. b and_then λ v. Ok (u ++ v))

@@ -5,7 +5,7 @@ use Rattle.lsys_syntax.specs.Strings.{ModuleName}
 use Rattle.lsys_spec.specs.Systems.{System, Each, same_name}
 use Rattle.lsys_spec.specs.Values.{◌and_then◌}
 use Rattle.lsys_spec.specs.Bodies.{Body, Pattern, Patterns, Done, OneOf, BranchOf, group}
-use Rattle.lsys_spec.specs.Levels.{ModuleValue, Symbol, Push, Pop, Module, Step, Passed, Around, OutOf, Reading, restored, read, way, Items, Nothing, One, Branch, Nest, outermost, within, innermost, with_module, with_branch, opened, items_of, items_from}
+use Rattle.lsys_spec.specs.Levels.{ModuleValue, Symbol, Push, Pop, Module, Step, Passed, Around, OutOf, Reading, restored, read, way, Items, Nothing, One, Branch, Nest, at_root, in_branch, items_here, with_module, with_whole_branch, with_open_bracket, items_of, items_from}
 use Rattle.lsys_spec.specs.Walks.{Mark, deeper, Told, Found, says, before, followed, is_ignored, fits, behind, left_walk, ahead, joined, or_passed, right_walk}
 use Rattle.lsys_spec.proofs.Meetings.{met}
 use Rattle.lsys_spec.specs.Choice.{right_after}
@@ -114,20 +114,20 @@ module _ (f g : ModuleName → Bool) where
   way_alike x p h = (fold_alike (take p x) _ (tt, tt) (take_alike x p h)).0
 
   abbrev NestAlike : Nest → Type 0
-  NestAlike (outermost r) = ItemsAlike r
-  NestAlike (within r c n) = ItemsAlike r × NestAlike n
+  NestAlike (at_root r) = ItemsAlike r
+  NestAlike (in_branch r c n) = ItemsAlike r × NestAlike n
 
   module_alike : (s : Symbol) (n : Nest) → IsAlike f g s → NestAlike n → NestAlike (with_module s n)
-  module_alike s (outermost r) h k = (h, k)
-  module_alike s (within r c n) h k = ((h, k.0), k.1)
+  module_alike s (at_root r) h k = (h, k)
+  module_alike s (in_branch r c n) h k = ((h, k.0), k.1)
 
-  branch_alike : (o c : Symbol) (inner : Items) (n : Nest) → ItemsAlike inner → NestAlike n → NestAlike (with_branch o c inner n)
-  branch_alike o c inner (outermost r) h k = (h, k)
-  branch_alike o c inner (within r d n) h k = ((h, k.0), k.1)
+  branch_alike : (o c : Symbol) (inner : Items) (n : Nest) → ItemsAlike inner → NestAlike n → NestAlike (with_whole_branch o c inner n)
+  branch_alike o c inner (at_root r) h k = (h, k)
+  branch_alike o c inner (in_branch r d n) h k = ((h, k.0), k.1)
 
-  opened_alike : (o : Symbol) (n : Nest) → NestAlike n → NestAlike (opened o n)
-  opened_alike o (outermost inner) h = (h, tt)
-  opened_alike o (within inner c n) h = branch_alike o c inner n h.0 h.1
+  opened_alike : (o : Symbol) (n : Nest) → NestAlike n → NestAlike (with_open_bracket o n)
+  opened_alike o (at_root inner) h = (h, tt)
+  opened_alike o (in_branch inner c n) h = branch_alike o c inner n h.0 h.1
 
   nest_alike : (x : List Symbol) → AreAlike f g x → NestAlike (items_of x)
   nest_alike [] h = tt
@@ -135,9 +135,9 @@ module _ (f g : ModuleName → Bool) where
   nest_alike (Push l ∷ x) h = opened_alike (Push l) (items_of x) (nest_alike x h.1)
   nest_alike (Pop l ∷ x) h = (tt, nest_alike x h.1)
 
-  innermost_alike : (n : Nest) → NestAlike n → ItemsAlike (innermost n)
-  innermost_alike (outermost r) h = h
-  innermost_alike (within r c n) h = h.0
+  innermost_alike : (n : Nest) → NestAlike n → ItemsAlike (items_here n)
+  innermost_alike (at_root r) h = h
+  innermost_alike (in_branch r c n) h = h.0
 
   items_alike : (x : List Symbol) (p : ℕ) → AreAlike f g x → ItemsAlike (items_from x p)
   items_alike x p h = innermost_alike (items_of (drop p x)) (nest_alike (drop p x) (drop_alike x p h))

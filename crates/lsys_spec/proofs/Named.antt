@@ -4,7 +4,7 @@ use Rattle.std.specs.Prelude.{ℤ, fold, reverse, sum}
 use Rattle.lsys_syntax.specs.Strings.{ModuleName}
 use Rattle.lsys_spec.specs.Systems.{System, Each}
 use Rattle.lsys_spec.specs.Bodies.{Body, Pattern, Patterns, Done, OneOf, BranchOf}
-use Rattle.lsys_spec.specs.Levels.{ModuleValue, Symbol, Push, Pop, Module, lineage, Step, Passed, Around, OutOf, Reading, restored, read, way, Items, Nothing, One, Branch, Nest, outermost, within, innermost, with_module, opened, items_of, items_from}
+use Rattle.lsys_spec.specs.Levels.{ModuleValue, Symbol, Push, Pop, Module, lineage, Step, Passed, Around, OutOf, Reading, restored, read, way, Items, Nothing, One, Branch, Nest, at_root, in_branch, items_here, with_module, with_open_bracket, items_of, items_from}
 use Rattle.lsys_spec.specs.Walks.{Mark, deeper, Entry, Compared, Ignored, Out, Branched, Told, Found, says, is_ignored, fits, left_walk, right_walk, behind, ahead, or_passed}
 use Rattle.lsys_spec.proofs.Meetings.{met}
 use Rattle.lsys_spec.specs.Choice.{Fault, Outcome, No, Yes, Fails, Choice, Asking, Tried, none_tried, one_more, right_after, next_contexts, outcome, decided, first_applying, Applying, found_with, all_applying, choice}
@@ -83,17 +83,17 @@ way_in V (Push m ∷ x) (suc p) r h k l = way_in V x p (read r (Push m)) h.1 (h.
 way_in V (Pop m ∷ x) (suc p) r h k l = let g = restored_in V (Pop m) r.saved h.0 l in way_in V x p (read r (Pop m)) h.1 g.0 g.1
 
 abbrev InNest : (Symbol → Type 0) → Nest → Type 0
-InNest V (outermost r) = InItems V r
-InNest V (within r c n) = InItems V r × V c × InNest V n
+InNest V (at_root r) = InItems V r
+InNest V (in_branch r c n) = InItems V r × V c × InNest V n
 
 module_in : (V : Symbol → Type 0) (s : Symbol) (n : Nest) → V s → InNest V n → InNest V (with_module s n)
-module_in V s (outermost r) h k = (h, k)
-module_in V s (within r c n) h k = ((h, k.0), k.1, k.2)
+module_in V s (at_root r) h k = (h, k)
+module_in V s (in_branch r c n) h k = ((h, k.0), k.1, k.2)
 
-opened_in : (V : Symbol → Type 0) (o : Symbol) (n : Nest) → V o → InNest V n → InNest V (opened o n)
-opened_in V o (outermost r) h k = (h, h, k, tt)
-opened_in V o (within r c (outermost r')) h k = (h, k.1, k.0, k.2)
-opened_in V o (within r c (within r' c' n)) h k = ((h, k.1, k.0, k.2.0), k.2.1, k.2.2)
+opened_in : (V : Symbol → Type 0) (o : Symbol) (n : Nest) → V o → InNest V n → InNest V (with_open_bracket o n)
+opened_in V o (at_root r) h k = (h, h, k, tt)
+opened_in V o (in_branch r c (at_root r')) h k = (h, k.1, k.0, k.2)
+opened_in V o (in_branch r c (in_branch r' c' n)) h k = ((h, k.1, k.0, k.2.0), k.2.1, k.2.2)
 
 items_in : (V : Symbol → Type 0) (x : List Symbol) → Each V x → InNest V (items_of x)
 items_in V [] h = tt
@@ -101,9 +101,9 @@ items_in V (Module l m ∷ x) h = module_in V (Module l m) (items_of x) h.0 (ite
 items_in V (Push l ∷ x) h = opened_in V (Push l) (items_of x) h.0 (items_in V x h.1)
 items_in V (Pop l ∷ x) h = (tt, h.0, items_in V x h.1)
 
-innermost_in : (V : Symbol → Type 0) (n : Nest) → InNest V n → InItems V (innermost n)
-innermost_in V (outermost r) h = h
-innermost_in V (within r c n) h = h.0
+innermost_in : (V : Symbol → Type 0) (n : Nest) → InNest V n → InItems V (items_here n)
+innermost_in V (at_root r) h = h
+innermost_in V (in_branch r c n) h = h.0
 
 pub level_way : (V : Symbol → Type 0) (x : List Symbol) (p : ℕ) → Each V x → InWay V (way x p)
 level_way V x p h = way_in V x p (record { way = []; saved = [] }) h tt tt

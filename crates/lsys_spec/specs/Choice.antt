@@ -105,15 +105,15 @@ largest_weight = 9223372036854775807
 abbrev pub within_total : List Applying → Result (List Applying) Fault
 within_total found = if nat_lt largest_weight (sum (weights found)) then Err WeightTotal else Ok found
 
-abbrev pub as_weight : Result ℤ Arith → Result ℕ Fault
-as_weight (Ok (pos n)) = Ok n
-as_weight (Ok (negsuc n)) = Err NegativeWeight
-as_weight (Err e) = Err (Arithmetic e)
+abbrev pub not_negative : Result ℤ Arith → Result ℕ Fault
+not_negative (Ok (pos n)) = Ok n
+not_negative (Ok (negsuc n)) = Err NegativeWeight
+not_negative (Err e) = Err (Arithmetic e)
 
 -- (In a well-formed system the rules of a group with weights all have one, so 0 doesn't come.)
 abbrev pub weighed : Option Tree → List ℤ → Result ℕ Fault
 weighed None values = Ok 0
-weighed (Some t) values = as_weight (value t values)
+weighed (Some t) values = not_negative (value t values)
 
 -- those that were found before, and this rule where it applies; its weight is evaluated at once
 abbrev pub found_with : List Applying → ℕ → Body → Outcome → Result (List Applying) Fault

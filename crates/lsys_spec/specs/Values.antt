@@ -64,13 +64,13 @@ pub data Arith : Type 0 where
   NegativePower : Arith
 
 -- an i64
-abbrev pub fits : ℤ → Bool
-fits (pos n) = nat_lt n (2 ^ 63)
-fits (negsuc n) = nat_lt n (2 ^ 63)
+abbrev pub in_range : ℤ → Bool
+in_range (pos n) = nat_lt n (2 ^ 63)
+in_range (negsuc n) = nat_lt n (2 ^ 63)
 
 -- an exact result, where it fits
 abbrev pub exact : ℤ → Result ℤ Arith
-exact z = if fits z then Ok z else Err Overflow
+exact z = if in_range z then Ok z else Err Overflow
 
 abbrev pub is_zero : ℤ → Bool
 is_zero (pos n) = n == 0
@@ -94,13 +94,13 @@ abbrev pub power : ℤ → ℤ → Result ℤ Arith
 power x (pos n) = whole_power x n
 power x (negsuc n) = Err NegativePower
 
-abbrev pub compared : RelOp → ℤ → ℤ → Bool
-compared equal x y = int_same x y
-compared unequal x y = not (int_same x y)
-compared less x y = int_lt x y
-compared at_most x y = not (int_lt y x)
-compared greater x y = int_lt y x
-compared at_least x y = not (int_lt x y)
+abbrev pub relates : RelOp → ℤ → ℤ → Bool
+relates equal x y = int_same x y
+relates unequal x y = not (int_same x y)
+relates less x y = int_lt x y
+relates at_most x y = not (int_lt y x)
+relates greater x y = int_lt y x
+relates at_least x y = not (int_lt x y)
 
 -- Division truncates toward zero; the remainder has the dividend's sign, and faults where the quotient does.
 abbrev pub applied : Operator → ℤ → ℤ → Result ℤ Arith
@@ -108,9 +108,9 @@ applied (sum_of add) x y = exact (x +ℤ y)
 applied (sum_of subtract) x y = exact (x -ℤ y)
 applied (product_of multiply) x y = exact (x *ℤ y)
 applied (product_of divide) x y = if is_zero y then Err DivideByZero else exact (int_div x y)
-applied (product_of remainder) x y = if is_zero y then Err DivideByZero else if fits (int_div x y) then Ok (int_rem x y) else Err Overflow
+applied (product_of remainder) x y = if is_zero y then Err DivideByZero else if in_range (int_div x y) then Ok (int_rem x y) else Err Overflow
 applied power_of x y = power x y
-applied (comparison op) x y = Ok (truth (compared op x y))
+applied (comparison op) x y = Ok (truth (relates op x y))
 
 infixl 10 ◌and_then◌
 abbrev pub ◌and_then◌ : {A B E : Type 0} → Result A E → (A → Result B E) → Result B E

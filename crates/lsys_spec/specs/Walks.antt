@@ -20,11 +20,11 @@ pub data Entry : Type 0 where
   Branched : Mark → List ℕ → List ℕ → Entry  -- a branch was passed or entered, by its two brackets
 
 -- the lineages that an entry names
-abbrev pub named : Entry → List (List ℕ)
-named (Compared d s) = lineage s ∷ []
-named (Ignored d s) = lineage s ∷ []
-named (Out d l) = l ∷ []
-named (Branched d o c) = o ∷ c ∷ []
+abbrev pub lineages_named : Entry → List (List ℕ)
+lineages_named (Compared d s) = lineage s ∷ []
+lineages_named (Ignored d s) = lineage s ∷ []
+lineages_named (Out d l) = l ∷ []
+lineages_named (Branched d o c) = o ∷ c ∷ []
 
 -- what was read, and what was answered
 pub record Told (A : Type 0) : Type 0 where
