@@ -33,7 +33,7 @@ pub powers :
     map (λ n. power (negsuc 1) (pos n)) (63 ∷ 64 ∷ []) ≡ Ok (negsuc (2 ^ 63 - 1)) ∷ Err Overflow ∷ []
 powers = refl
 
-pub large_powers : power (negsuc 0) (pos 1000001) ≡ Ok (negsuc 0)
+pub large_powers : map (λ x. power x (pos 1001)) (pos 0 ∷ pos 1 ∷ negsuc 0 ∷ pos 2 ∷ []) ≡ Ok (pos 0) ∷ Ok (pos 1) ∷ Ok (negsuc 0) ∷ Err Overflow ∷ []
 large_powers = refl
 
 pub negative_power : power (pos 1) (negsuc 0) ≡ Err NegativePower

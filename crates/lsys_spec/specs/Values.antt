@@ -1,6 +1,5 @@
 -- Values of expressions: exact whole numbers that fit 64 bits, or the first fault.
-use Rattle.std.specs.Prelude.{ℕ, ℤ, pos, negsuc, ◌+◌, ◌+ℤ◌, ◌-ℤ◌, ◌*ℤ◌, neg_ℤ, int_div, int_rem, int_lt, ◌^◌, ◌==◌, ◌%◌, ◌||◌, Bool, true, false, not, Option, Some, None, List, [], ◌∷◌, Result, Ok, Err, nat_lt, bytes_eq, if◌then◌else◌, get_or}
-use Rattle.std.specs.Int.{int_pow}
+use Rattle.std.specs.Prelude.{ℕ, zero, suc, ℤ, pos, negsuc, ◌+◌, ◌+ℤ◌, ◌-ℤ◌, ◌*ℤ◌, neg_ℤ, int_div, int_rem, int_lt, ◌^◌, ◌==◌, Bool, true, false, not, Option, Some, None, List, [], ◌∷◌, Result, Ok, Err, nat_lt, bytes_eq, if◌then◌else◌, get_or}
 use Rattle.lsys_syntax.specs.Tokens.{NameText}
 use Rattle.lsys_syntax.specs.Pieces as P
 use Rattle.lsys_syntax.specs.Expressions.{TermOp, multiply, divide, remainder, SumOp, add, subtract, RelOp, equal, unequal, less, at_most, greater, at_least, Expr, only_and, or, And, only_rel, and, Rel, only_sum, compare, Sum, only_term, total, Term, only_unary, product, Unary, negated, inverted, plain, raised, Atom, number, name, parens}
@@ -83,15 +82,13 @@ truth false = pos 0
 abbrev pub int_same : ℤ → ℤ → Bool
 int_same x y = is_zero (x -ℤ y)
 
--- Powers from 64 on: of 0, 1 and -1 they are told by whether the exponent is odd, and of every other number they don't fit.
-abbrev pub large_power : ℤ → ℕ → Result ℤ Arith
-large_power x n = if is_zero x || int_same x (pos 1) then Ok x else if int_same x (negsuc 0) then Ok (int_pow x (n % 2)) else Err Overflow
-
-abbrev pub whole_power : ℤ → ℕ → Result ℤ Arith
-whole_power x n = elim (nat_lt n 64) [ true ↦ exact (int_pow x n) | false ↦ large_power x n ]
+-- a product of n factors
+abbrev pub nth_power : ℤ → ℕ → ℤ
+nth_power x zero = pos 1
+nth_power x (suc n) = x *ℤ nth_power x n
 
 abbrev pub power : ℤ → ℤ → Result ℤ Arith
-power x (pos n) = whole_power x n
+power x (pos n) = exact (nth_power x n)
 power x (negsuc n) = Err NegativePower
 
 abbrev pub relates : RelOp → ℤ → ℤ → Bool
