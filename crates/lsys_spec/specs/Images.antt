@@ -3,10 +3,9 @@ use Rattle.std.specs.Prelude.{ℕ, ℤ, Bool, Result, Ok, Err, List, [], ◌∷�
 use Rattle.lsys_syntax.specs.Strings.{ModuleName}
 use Rattle.lsys_syntax.specs.Strings as S
 use Rattle.lsys_spec.specs.Systems.{System, Homomorphism, same_name}
-use Rattle.lsys_spec.specs.Values.{Arith, ◌and_then◌}
-use Rattle.lsys_spec.specs.Bodies.{Body, body_of}
+use Rattle.lsys_spec.specs.Values.{Arith, judged, ◌and_then◌}
+use Rattle.lsys_spec.specs.Bodies.{body_of}
 use Rattle.lsys_spec.specs.Levels.{ModuleValue, Symbol, Push, Pop, Module}
-use Rattle.lsys_spec.specs.Choice.{Outcome, No, Yes, Fails, Arithmetic, judged}
 use Rattle.lsys_spec.specs.Meaning.{filled}
 
 pub data ImageRefusal : Type 0 where
@@ -16,17 +15,12 @@ pub data ImageRefusal : Type 0 where
 abbrev pub for_module : ModuleValue → Homomorphism → Bool
 for_module m h = same_name h.rule.name m.name && (length h.rule.formals == length m.params)
 
-abbrev pub by_outcome : Body → Outcome → Result (List (S.Symbol ℤ)) Arith → Result (List (S.Symbol ℤ)) Arith
-by_outcome b No later = later
-by_outcome b (Yes values) later = filled b.successor values
-by_outcome b (Fails (Arithmetic e)) later = Err e
-by_outcome b (Fails k) later = later
-
 -- the successor of the first rule of its letter and number of parameters whose condition holds; without one, the module
 abbrev pub image_of : List Homomorphism → ModuleValue → Result (List (S.Symbol ℤ)) Arith
 image_of [] m = Ok (S.Module m.name m.params ∷ [])
 image_of (h ∷ hs) m =
-    if for_module m h then (let b = body_of h.rule in by_outcome b (judged b.condition m.params) (image_of hs m)) else image_of hs m
+    if for_module m h then (let b = body_of h.rule in judged b.condition m.params and_then λ holds. if holds then filled b.successor m.params else image_of hs m)
+    else image_of hs m
 
 abbrev pub image_limit : ℕ
 image_limit = 1000000

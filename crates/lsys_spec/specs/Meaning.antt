@@ -1,5 +1,5 @@
 -- Parallel rewriting, level by level (ABOP 1.2), the fault of a derivation, and the limit of its size.
-use Rattle.std.specs.Prelude.{ℕ, zero, suc, ℤ, Bool, false, Option, Some, None, Result, Ok, Err, List, [], ◌∷◌, ◌++◌, ◌+◌, length, sum_by, nat_lt, if◌then◌else◌}
+use Rattle.std.specs.Prelude.{ℕ, zero, suc, ℤ, Bool, false, Option, Some, None, Result, Ok, Err, List, [], ◌∷◌, ◌++◌, ◌+◌, length, sum_by, nat_lt, is_some, if◌then◌else◌}
 use Rattle.lsys_syntax.specs.Strings.{ModuleName}
 use Rattle.lsys_syntax.specs.Strings as S
 use Rattle.lsys_spec.specs.Draws.{key_of}
@@ -7,8 +7,8 @@ use Rattle.lsys_spec.specs.Systems.{System, same_name}
 use Rattle.lsys_spec.specs.Values.{Tree, value, Arith, ◌and_then◌}
 use Rattle.lsys_spec.specs.Bodies.{Body, group}
 use Rattle.lsys_spec.specs.Levels.{ModuleValue, Symbol, Push, Pop, Module, way, items_from}
-use Rattle.lsys_spec.specs.Walks.{Told, says, list_any}
-use Rattle.lsys_spec.specs.Choice.{Fault, Arithmetic, Choice, Nowhere, Chosen, Failed, group_from, is_some}
+use Rattle.lsys_spec.specs.Walks.{Told, list_any}
+use Rattle.lsys_spec.specs.Choice.{Fault, Arithmetic, Choice, NoRule, Chosen, Failed, Asking, choice}
 use Rattle.lsys_spec.specs.Cuts.{Raw, Plain, Percent, cut}
 
 -- these symbols as the children of a lineage, numbered from n on
@@ -26,9 +26,9 @@ first_level s = cut (numbered 0 [] s.axiom_string)
 abbrev pub ignores : List ModuleName → ModuleName → Bool
 ignores names n = list_any (λ i. same_name i n) names
 
+-- a rule of the group has a weight
 abbrev pub any_weight : List Body → Bool
-any_weight [] = false
-any_weight (b ∷ bs) = is_some b.weight
+any_weight bs = list_any (λ b. is_some b.weight) bs
 
 -- the key, where the group has weights: all its rules have one, or none has
 abbrev pub key_for : System → List ℕ → List Body → Option ℕ
@@ -38,11 +38,12 @@ key_for s l bs = if any_weight bs then Some (key_of s.seed l) else None
 abbrev pub most_entries : ℕ
 most_entries = 1024
 
--- what is asked of the module m at place p of the level x, and which rule of these bodies is chosen
+abbrev pub asking : System → ModuleValue → Asking
+asking s m = record { ignored = ignores s.ignored; most = most_entries; own = m }
+
+-- what is read for the module m at place p of the level x, and which rule of these bodies is chosen
 abbrev pub asked : System → List Body → List Symbol → ℕ → List ℕ → ModuleValue → Told Choice
-asked s [] x p l m = says Nowhere
-asked s (b ∷ bs) x p l m =
-    group_from (record { ignored = ignores s.ignored; most = most_entries; key = key_for s l (b ∷ bs); own = m }) (way x p) (items_from x (p + 1)) 0 0 [] (b ∷ bs)
+asked s bs x p l m = choice (asking s m) (key_for s l bs) (way x p) (items_from x (p + 1)) bs
 
 abbrev pub filled_params : List Tree → List ℤ → Result (List ℤ) Arith
 filled_params [] bound = Ok []
@@ -67,7 +68,7 @@ filled_at (b ∷ bs) (suc g) values = filled_at bs g values
 
 -- the successor of a module: of the chosen rule, or the module itself
 abbrev pub successor_by : List Body → ModuleValue → Choice → Result (List (S.Symbol ℤ)) Fault
-successor_by bs m Nowhere = Ok (S.Module m.name m.params ∷ [])
+successor_by bs m NoRule = Ok (S.Module m.name m.params ∷ [])
 successor_by bs m (Chosen g values) = filled_at bs g values
 successor_by bs m (Failed k) = Err k
 

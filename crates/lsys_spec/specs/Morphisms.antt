@@ -21,8 +21,8 @@ abbrev pub IsUnweighted : System → ℕ → Type 0
 IsUnweighted s t = (n : ModuleName) (arity : ℕ) → any_weight (group s t n arity) ≡ false
 
 -- the successor of a module that stands alone in its level
-abbrev pub alone : System → ℕ → ModuleValue → Result (List (S.Symbol ℤ)) Fault
-alone s t m = successor s t (Module [] m ∷ []) 0 [] m
+abbrev pub given_alone : System → ℕ → ModuleValue → Result (List (S.Symbol ℤ)) Fault
+given_alone s t m = successor s t (Module [] m ∷ []) 0 [] m
 
 -- each module's string in its place, or the first fault; brackets and cuts stay
 abbrev pub rewritten : (ModuleValue → Result (List (S.Symbol ℤ)) Fault) → List (S.Symbol ℤ) → Result (List (S.Symbol ℤ)) Fault
