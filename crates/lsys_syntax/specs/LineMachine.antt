@@ -1,5 +1,6 @@
 -- Reading the tokens of a line: a state holds what was read of the command, and each token is one step.
 use Rattle.std.specs.Prelude.{ℕ, zero, suc, Bool, true, false, Option, Some, None, List, [], ◌∷◌, ◌+◌, ◌^◌, nat_lt, nat_le, codes, bytes_eq, option_map, if◌then◌else◌}
+pub use Rattle.lsys_syntax.specs.Limits.{nesting_bound}
 use Rattle.lsys_syntax.specs.Tokens.{Kind, Word, Number, LeftParen, RightParen, Comma, Colon, Minus}
 use Rattle.lsys_syntax.specs.Strings.{ModuleName, Symbol, Module, Push, Pop, Cut, Signed, plain, minus_sign}
 use Rattle.lsys_syntax.specs.RuleMachine as R
@@ -180,9 +181,6 @@ ended n (Some c) = sentence c
 abbrev pub is_stop : State → Bool
 is_stop Stop = true
 is_stop s = false
-
-abbrev pub nesting_bound : ℕ
-nesting_bound = 32
 
 -- the tokens from number n on
 abbrev pub verdict_from : ℕ → State → List Kind → Verdict
