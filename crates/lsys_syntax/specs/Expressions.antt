@@ -4,7 +4,8 @@
 --   term  = unary { * unary | / unary | % unary }
 --   unary = - unary | ! unary | power  power = atom [[ ^ unary ]]
 --   atom  = Number | Name | ( expr )
-use Rattle.std.specs.Prelude.{ℕ, List, [], ◌∷◌, ◌++◌, ◌<◌, ◌^◌, map}
+use Rattle.std.specs.Prelude.{ℕ, List, [], ◌∷◌, ◌++◌, ◌<◌, map}
+use Rattle.lsys_syntax.specs.Limits.{value_bound}
 use Rattle.lsys_syntax.specs.Tokens.{NameText, Kind, Name, Number, Equal, Unequal, AtMost, AtLeast, LeftParen, RightParen, Plus, Minus, Times, Slash, Percent, Ampersand, Bar, Caret, Bang, Less, Greater}
 use Rattle.lsys_syntax.specs.Pieces.{Piece, token, note, expr_begins, expr_ends, IsNameText}
 
@@ -135,7 +136,7 @@ abbrev mutual
   IsUnary (raised a u) = IsAtom a × IsUnary u
 
   pub IsAtom : Atom → Type 0
-  IsAtom (number n) = n < 2 ^ 63
+  IsAtom (number n) = n < value_bound
   IsAtom (name n) = IsNameText n
   IsAtom (parens e) = IsExpr e
 
