@@ -3,7 +3,7 @@ use Rattle.std.proofs.Common.{◌≡◌, ℕ, ℤ, pos, ◌+◌, ◌≤◌, ◌^
 use Rattle.std.proofs.lemmas.Bool.Decides.{nat_tests}
 use Rattle.lsys_syntax.specs.Tokens.{Kind, LeftParen, RightParen, LeftBracket, RightBracket, Percent, Comma, Minus, Number}
 use Rattle.lsys_syntax.specs.Pieces.{Piece, token, note, a_symbol, a_param, kinds_of}
-use Rattle.lsys_syntax.specs.Strings.{ModuleName, named, plus, minus, ampersand, caret, backslash, slash, bar, bang, name_kind, Symbol, Module, Push, Pop, Cut, Signed, plain, minus_sign, negative, signed_value, signed_pieces, more_pieces, symbol_pieces, gap, ends_in_name, begins_with_letter, string_pieces, EachOf, IsSymbol, IsSigned}
+use Rattle.lsys_syntax.specs.Strings.{ModuleName, named, plus, minus, ampersand, caret, backslash, slash, bar, bang, name_kind, Symbol, Module, Push, Pop, Cut, Signed, unsigned, minus_sign, negative, signed_value, signed_pieces, more_pieces, symbol_pieces, gap, ends_in_name, begins_with_letter, string_pieces, EachOf, IsSymbol, IsSigned}
 use Rattle.lsys_syntax.specs.Checks.{Counts, passes_limit, many_place}
 use Rattle.lsys_spec.specs.Edits.{values_of}
 use Rattle.lsys_module.specs.declared.glyph.Glyph.TheVariants as glyphs
@@ -166,7 +166,7 @@ small_minus ys n us m h k = rw (h, k) refl
 number-run : (t place : ℕ) (ys : List (Symbol ℤ)) (n : ModuleName) (us : List ℤ) (z : Signed) (ps : List Piece) (out : List (Symbol ℤ)) → IsSigned z → t + length (kinds_of (signed_pieces z ++ ps)) ≤ 65536 → length ys + 1 ≤ 4096
     → ((u place : ℕ) → u + length (kinds_of ps) ≤ 65536 → length us + 1 ≤ 8 → run place (number_read ys n (us ++ signed_value z ∷ [])) (kinds_of ps) ≡ outcome (many_place (counted u (length ys + 1) (length us + 1)) place ps) out)
     → run place (number_due ys n us) (kinds_of (signed_pieces z ++ ps)) ≡ outcome (many_place (counted t (length ys + 1) (length us + 1)) place (signed_pieces z ++ ps)) out
-number-run t place ys n us (plain m) ps out g few small rest =
+number-run t place ys n us (unsigned m) ps out g few small rest =
     let fits : nat_lt m (2 ^ 63) ≡ true = grind (arith, nat_tests, g) in
     goes_on t (length ys + 1) (length us + 1) place (number_due ys n us) (Number m) ps (number_read ys n (us ++ pos m ∷ [])) out few small refl (small_plain true ys n us m fits) (λ h. rest (t + 1) (place + 1) (omega arith) h)
 number-run t place ys n us (minus_sign m) ps out g few small rest =

@@ -3,7 +3,7 @@ use Rattle.std.proofs.Common.{◌≡◌, ℕ, zero, Bool, true, false, Some, Res
 use Rattle.std.proofs.lemmas.Bool.Decides.{nat_tests}
 use Rattle.std.proofs.lemmas.Fmt.{decimal_is_IsNumeral}
 use Rattle.lsys_syntax.specs.Lines.{lines_of, without_cr}
-use Rattle.lsys_syntax.specs.Tokens.{short, long, Kind, Word, LongWord, Name, Number, BigNumber, Arrow, Equal, Unequal, AtMost, AtLeast, LeftParen, RightParen, LeftBracket, RightBracket, Comma, Colon, At, Plus, Minus, Times, Slash, Backslash, Percent, Ampersand, Bar, Caret, Bang, Less, Greater, Assign, Mode, First, next_mode, is_letter, is_digit, is_plain, is_word_byte, tokens}
+use Rattle.lsys_syntax.specs.Tokens.{short, long, Kind, Word, LongWord, Name, Number, BigNumber, Arrow, Equal, Unequal, AtMost, AtLeast, LeftParen, RightParen, LeftBracket, RightBracket, Comma, Colon, At, Plus, Minus, Times, Slash, Backslash, Percent, Ampersand, Bar, Caret, Bang, Less, Greater, Assign, Mode, First, next_mode, is_letter, is_digit, is_alphanumeric, is_word_byte, tokens}
 use Rattle.lsys_syntax.specs.Pieces.{Piece, blank, token, note, text_of, token_text, Tail, anything, ending, Reads, Stands, Every, IsWordText}
 use Rattle.lsys_syntax.specs.Strings.{Symbol, Module, Push, Pop, Cut, signed_of, EachOf, IsSymbol, IsParam, IsSigned, balanced}
 use Rattle.lsys_syntax.specs.Rules.{Production, IsRule, IsProduction}
@@ -27,7 +27,7 @@ printed c = nat_le 32 c
 letter-printed : (c : ℕ) → is_letter c ≡ true → printed c ≡ true
 letter-printed c h = grind (arith, nat_tests)
 
-plain-printed : (c : ℕ) → is_plain c ≡ true → printed c ≡ true
+plain-printed : (c : ℕ) → is_alphanumeric c ≡ true → printed c ≡ true
 plain-printed c h = grind (arith, nat_tests)
 
 word-printed : (c : ℕ) → is_word_byte c ≡ true → printed c ≡ true
@@ -49,7 +49,7 @@ token-printed m (Word []) h = elim h.1 [ ]
 token-printed m (Word (c ∷ cs)) h = (letter-printed c h.1.0, every-map is_word_byte printed word-printed cs h.1.1)
 token-printed m LongWord h = elim h [ ]
 token-printed m (Name (short c)) h = (letter-printed c h.1, tt)
-token-printed m (Name (long c cs)) h = (letter-printed c h.1.0, (refl, every-map is_plain printed plain-printed cs h.1.1))
+token-printed m (Name (long c cs)) h = (letter-printed c h.1.0, (refl, every-map is_alphanumeric printed plain-printed cs h.1.1))
 token-printed m (Number n) h = every-map is_digit printed digit-printed (decimal n) (AllDigits-Every (decimal n) (decimal_is_IsNumeral n h).0.1)
 token-printed m BigNumber h = elim h [ ]
 token-printed m Assign h = elim h [ ]

@@ -3,7 +3,7 @@ use Rattle.std.specs.Prelude.{◌≡◌, ℕ, Option, List, [], ◌∷◌, ◌++
 use Rattle.lsys_syntax.specs.Limits.{nesting_bound}
 use Rattle.lsys_syntax.specs.Tokens.{Kind, RightParen}
 use Rattle.lsys_syntax.specs.Expressions.{Expr, expr_kinds, IsExpr}
-use Rattle.lsys_syntax.specs.ExpressionMachine.{State, Done, Stop, other, expr_step, what_follows, outermost, start_expr, step, end_step, parse_expr}
+use Rattle.lsys_syntax.specs.ExpressionMachine.{State, Done, Stop, other, expr_step, what_follows, no_parens, start_expr, step, end_step, parse_expr}
 use Rattle.lsys_syntax.specs.Nesting.{expr_nesting, depth}
 use Rattle.lsys_syntax.specs.RuleMachine.{small}
 
@@ -61,4 +61,4 @@ extent_from n s (k ∷ ks) = behind n s (step s (small k)) (extent_from (n + 1) 
 
 -- how far the tokens, counted from 0, are an expression that is nested within the bound
 abbrev pub extent : List Kind → Extent
-extent ks = extent_from 0 (start_expr outermost) ks
+extent ks = extent_from 0 (start_expr no_parens) ks

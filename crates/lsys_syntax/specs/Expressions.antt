@@ -50,7 +50,7 @@ mutual
   pub data Unary : Type 0 where
     negated : Unary → Unary
     inverted : Unary → Unary
-    plain : Atom → Unary
+    only_atom : Atom → Unary
     raised : Atom → Unary → Unary
 
   pub data Atom : Type 0 where
@@ -99,7 +99,7 @@ abbrev mutual
   pub unary_kinds : Unary → List Kind
   unary_kinds (negated u) = Minus ∷ unary_kinds u
   unary_kinds (inverted u) = Bang ∷ unary_kinds u
-  unary_kinds (plain a) = atom_kinds a
+  unary_kinds (only_atom a) = atom_kinds a
   unary_kinds (raised a u) = atom_kinds a ++ Caret ∷ unary_kinds u
 
   pub atom_kinds : Atom → List Kind
@@ -132,7 +132,7 @@ abbrev mutual
   pub IsUnary : Unary → Type 0
   IsUnary (negated u) = IsUnary u
   IsUnary (inverted u) = IsUnary u
-  IsUnary (plain a) = IsAtom a
+  IsUnary (only_atom a) = IsAtom a
   IsUnary (raised a u) = IsAtom a × IsUnary u
 
   pub IsAtom : Atom → Type 0

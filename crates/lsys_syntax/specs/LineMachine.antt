@@ -3,7 +3,7 @@ use Rattle.std.specs.Prelude.{ℕ, zero, suc, Bool, true, false, Option, Some, N
 use Rattle.lsys_syntax.specs.Limits.{value_bound}
 pub use Rattle.lsys_syntax.specs.Limits.{nesting_bound}
 use Rattle.lsys_syntax.specs.Tokens.{Kind, Word, Number, LeftParen, RightParen, Comma, Colon, Minus}
-use Rattle.lsys_syntax.specs.Strings.{ModuleName, Symbol, Module, Push, Pop, Cut, Signed, plain, minus_sign}
+use Rattle.lsys_syntax.specs.Strings.{ModuleName, Symbol, Module, Push, Pop, Cut, Signed, unsigned, minus_sign}
 use Rattle.lsys_syntax.specs.RuleMachine as R
 use Rattle.lsys_syntax.specs.RuleMachine.{reversed, Sign, a_name, a_push, a_pop, a_cut, no_sign, sign_of, Form, production, homomorphism, open_in, where_closed}
 use Rattle.lsys_syntax.specs.Commands.{square, hexagonal, cubic, Command, set_axiom, put_production, drop_rule, set_ignored, set_schedule, set_seed, set_depth, set_lattice, put_homomorphism, print_string, print_segments, print_svg, print_system, quit}
@@ -61,7 +61,7 @@ if_small true s = s
 if_small false s = Stop
 
 abbrev pub number_due_step : Kind → List (Symbol Signed) → ModuleName → List Signed → State
-number_due_step (Number k) r n zs = if_small (nat_lt k value_bound) (InAxiom (NumberRead r n (plain k ∷ zs)))
+number_due_step (Number k) r n zs = if_small (nat_lt k value_bound) (InAxiom (NumberRead r n (unsigned k ∷ zs)))
 number_due_step Minus r n zs = InAxiom (MinusRead r n zs)
 number_due_step k r n zs = Stop
 

@@ -1,7 +1,7 @@
 -- A printed text as tokens and blanks, and where its tokens can't be read as others.
 use Rattle.std.specs.Prelude.{◌≡◌, ℕ, Bool, true, false, List, [], ◌∷◌, ◌++◌, ◌+◌, ◌≤◌, ◌<◌, decimal, length}
 use Rattle.lsys_syntax.specs.Limits.{most_word_bytes, number_bound}
-use Rattle.lsys_syntax.specs.Tokens.{NameText, short, long, Kind, Word, LongWord, Name, Number, BigNumber, Arrow, Equal, Unequal, AtMost, AtLeast, LeftParen, RightParen, LeftBracket, RightBracket, Comma, Colon, At, Plus, Minus, Times, Slash, Backslash, Percent, Ampersand, Bar, Caret, Bang, Less, Greater, Assign, Token, Mode, Modules, is_letter, is_plain, is_word_byte, next_mode}
+use Rattle.lsys_syntax.specs.Tokens.{NameText, short, long, Kind, Word, LongWord, Name, Number, BigNumber, Arrow, Equal, Unequal, AtMost, AtLeast, LeftParen, RightParen, LeftBracket, RightBracket, Comma, Colon, At, Plus, Minus, Times, Slash, Backslash, Percent, Ampersand, Bar, Caret, Bang, Less, Greater, Assign, Token, Mode, Modules, is_letter, is_alphanumeric, is_word_byte, next_mode}
 
 abbrev pub name_text : NameText → List ℕ
 name_text (short c) = c ∷ []
@@ -125,7 +125,7 @@ Every p (c ∷ cs) = (p c ≡ true) × Every p cs
 
 abbrev pub IsNameText : NameText → Type 0
 IsNameText (short c) = is_letter c ≡ true
-IsNameText (long c more) = (is_letter c ≡ true) × Every is_plain more × (0 < length more) × (length more ≤ 6)
+IsNameText (long c more) = (is_letter c ≡ true) × Every is_alphanumeric more × (0 < length more) × (length more ≤ 6)
 
 abbrev pub IsWordText : List ℕ → Type 0
 IsWordText [] = ⊥

@@ -130,7 +130,7 @@ head_of (at_right l n fs) (x ∷ r) = where_closed (open_in (x ∷ r)) (Some (re
 head_of p r = None
 
 abbrev pub expr_start : E.State
-expr_start = E.start_expr E.outermost
+expr_start = E.start_expr E.no_parens
 
 abbrev pub with_head : (Head → State) → Option Head → State
 with_head f None = Stop

@@ -88,7 +88,7 @@ IsSymbol G s = Unit {0}
 
 -- A signed number as it is written; -0 is a spelling of 0.
 pub data Signed : Type 0 where
-  plain : ℕ → Signed
+  unsigned : ℕ → Signed
   minus_sign : ℕ → Signed
 
 abbrev pub negative : ℕ → ℤ
@@ -96,16 +96,16 @@ negative zero = pos zero
 negative (suc n) = negsuc n
 
 abbrev pub signed_value : Signed → ℤ
-signed_value (plain n) = pos n
+signed_value (unsigned n) = pos n
 signed_value (minus_sign n) = negative n
 
 -- how a value is printed: its decimal, with its sign
 abbrev pub signed_of : ℤ → Signed
-signed_of (pos n) = plain n
+signed_of (pos n) = unsigned n
 signed_of (negsuc n) = minus_sign (suc n)
 
 abbrev pub signed_pieces : Signed → List Piece
-signed_pieces (plain n) = token (Number n) ∷ []
+signed_pieces (unsigned n) = token (Number n) ∷ []
 signed_pieces (minus_sign n) = token Minus ∷ token (Number n) ∷ []
 
 abbrev pub value_pieces : ℤ → List Piece
@@ -113,7 +113,7 @@ value_pieces z = signed_pieces (signed_of z)
 
 -- its value is an i64
 abbrev pub IsSigned : Signed → Type 0
-IsSigned (plain n) = n < value_bound
+IsSigned (unsigned n) = n < value_bound
 IsSigned (minus_sign n) = n ≤ value_bound
 
 -- an i64
