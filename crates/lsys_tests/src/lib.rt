@@ -9,3 +9,5 @@ mod draws;
 mod ends;
 #[cfg(test)]
 mod lattices;
+#[cfg(test)]
+mod turtles;
