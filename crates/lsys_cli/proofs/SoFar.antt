@@ -16,7 +16,6 @@ use Rattle.lsys_spec.specs.Output.{out, replies_from, followed, text_of, any_ref
 use Rattle.lsys_cli.specs.Sessions.{Replies, LineReplies, refuses, lacks_memory, ends_session, bare_or_memory}
 use Rattle.lsys_cli.specs.Runs.{status_of}
 use Rattle.lsys_cli.specs.Ends.{OfScript, Answered, LackedMemory, Ends}
-use Rattle.lsys_cli.specs.declared.status.Status.TheVariants as statuses
 use Rattle.lsys_cli.specs.declared.session.Outcome.{Outcome}
 use Rattle.lsys_cli.specs.declared.session.Outcome.TheVariants as outcomes
 use Rattle.lsys_cli.proofs.Appending.{then, nothing}
@@ -190,16 +189,6 @@ pub too_long : (limit : ℕ) (script rest old now : Option (List ℕ)) (s : Syst
 too_long limit None rest old now s refused memory taken k p = tt
 too_long limit (Some script) None old now s refused memory taken k p = absurd k
 too_long limit (Some script) (Some rest) old now s refused memory taken k p = omega (arith, k.1, p.past)
-
--- at the other statuses little is said
-pub too_long_ends : (limit : ℕ) (script old now : Option (List ℕ)) → OfScript script (λ t. most_script_bytes < length t) → Ends limit script old now statuses.TooLong
-too_long_ends limit script old now h = record { done = λ e. cc; refused = λ e. cc; memory = λ e. cc; too_long = λ e. h }
-
-pub read_fault_ends : (limit : ℕ) (script old now : Option (List ℕ)) → Ends limit script old now statuses.ReadFault
-read_fault_ends limit script old now = record { done = λ e. cc; refused = λ e. cc; memory = λ e. cc; too_long = λ e. cc }
-
-pub write_fault_ends : (limit : ℕ) (script old now : Option (List ℕ)) → Ends limit script old now statuses.WriteFault
-write_fault_ends limit script old now = record { done = λ e. cc; refused = λ e. cc; memory = λ e. cc; too_long = λ e. cc }
 
 -- a line's reply with its CR
 pub bare_line : (limit : ℕ) (s next : System) (line bare : List ℕ) (old now : Option (List ℕ)) (o : Outcome) → length line ≤ most_line_bytes → bare ≡ without_cr line
