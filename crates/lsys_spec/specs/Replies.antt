@@ -113,5 +113,5 @@ abbrev pub bare_spelled : List ℕ → Option Command
 bare_spelled bare = elim (is_passed_over bare) [ true ↦ None | false ↦ spelled_by (tokens bare) ]
 
 -- the command that a line spells; one that is too long or passed over spells none
-abbrev pub spelled : List ℕ → Option Command
-spelled line = elim (is_long line) [ true ↦ None | false ↦ bare_spelled (without_cr line) ]
+abbrev pub spelled_command : List ℕ → Option Command
+spelled_command line = elim (is_long line) [ true ↦ None | false ↦ bare_spelled (without_cr line) ]
