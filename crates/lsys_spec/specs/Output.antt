@@ -44,7 +44,7 @@ any_memory (r ∷ rs) = r.is_memory || any_memory rs
 abbrev pub none : ℕ → Bool
 none n = false
 
--- the system behind the replies
+-- the system behind the replies; where there are none, the opening one
 abbrev pub last_system : List Reply → System
 last_system [] = opening
 last_system (r ∷ []) = r.next
