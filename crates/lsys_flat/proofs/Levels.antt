@@ -1,5 +1,5 @@
 -- The level behind a level is, lineages apart, the offspring of its string.
-use Rattle.std.proofs.Common.{◌≡◌, ℕ, ◌+◌, true, None, Result, Ok, Err, List, [], ◌∷◌, ◌++◌, map, refl, ap, sym, ◌∙◌, subst}
+use Rattle.std.proofs.Common.{◌≡◌, Bool, ℕ, ◌+◌, true, false, cond, None, Result, Ok, Err, List, [], ◌∷◌, ◌++◌, map, refl, ap, sym, ◌∙◌, subst}
 use Rattle.std.specs.Prelude.{ℤ}
 use Rattle.std.proofs.lemmas.List.{map-append}
 use Rattle.lsys_syntax.specs.Tokens.{NameText}
@@ -8,7 +8,7 @@ use Rattle.lsys_spec.specs.Values as meaning
 use Rattle.lsys_spec.specs.Values.{◌and_then◌}
 use Rattle.lsys_spec.specs.Bodies.{body_of}
 use Rattle.lsys_spec.specs.Levels.{ModuleValue, Symbol, Push, Pop, Module, plain}
-use Rattle.lsys_spec.specs.Choice.{Fault, Outcome, No, Yes, Fails}
+use Rattle.lsys_spec.specs.Choice.{Fault}
 use Rattle.lsys_spec.specs.Cuts.{Raw, Plain, Percent, cut_on}
 use Rattle.lsys_spec.specs.Morphisms.{raw_plain}
 use Rattle.lsys_spec.specs.Interim.{is_plain}
@@ -21,7 +21,7 @@ use Rattle.lsys_rules.specs.declared.rule.Rule.{Rule}
 use Rattle.lsys_rules.specs.declared.body.Template.{Template}
 use Rattle.lsys_rules.specs.declared.body.Template.TheVariants as T
 use Rattle.lsys_rules.specs.declared.system.System as declared
-use Rattle.lsys_flat.specs.Made.{tried, by_outcome, made, behind, Faulted, fault_in, offspring}
+use Rattle.lsys_flat.specs.Made.{tried, made, behind, Faulted, fault_in, offspring}
 use Rattle.lsys_flat.specs.Answers.{tree_of}
 use Rattle.lsys_flat.proofs.Trees.{successor_trees}
 use Rattle.lsys_flat.proofs.Successors.{made_so}
@@ -140,11 +140,12 @@ made_plain : (rs : List Rule) (m : ModuleValue) → AreBuilt rs → IsPlain (mad
 made_plain [] m h = refl
 made_plain (r ∷ rs) m h = at (tried (production_of r) m) (made_plain rs m h.1)
   where
-    at : (o : Outcome) → IsPlain (made (map production_of rs) m) → IsPlain (by_outcome o (body_of (rule_of r)) (made (map production_of rs) m))
-    at No others = others
-    at (Yes values) others =
-        subst (λ ts. IsPlain (as_fault (filled ts values))) (sym (successor_trees r h.0)) (fault_plain (filled (map tree_of r.body.successor.items) values) (filled_plain _ r.body.successor.items values h.0.successor))
-    at (Fails k) others = tt
+    at : (o : Result Bool meaning.Arith) → IsPlain (made (map production_of rs) m)
+        → IsPlain (as_fault o and_then λ applies. cond applies (as_fault (filled (body_of (rule_of r)).successor m.params)) (made (map production_of rs) m))
+    at (Ok false) others = others
+    at (Ok true) others =
+        subst (λ ts. IsPlain (as_fault (filled ts m.params))) (sym (successor_trees r h.0)) (fault_plain (filled (map tree_of r.body.successor.items) m.params) (filled_plain _ r.body.successor.items m.params h.0.successor))
+    at (Err e) others = tt
 
 pub offspring_plain : (rs : List Rule) (n : ℕ) (row : List (S.Symbol ℤ)) → AreBuilt rs → is_plain row ≡ true → IsPlain (offspring (map production_of rs) n row)
 offspring_plain rs n [] h k = refl
