@@ -13,6 +13,7 @@ pub record Paths : Type 0 where
   pub path : List ModuleValue
   pub saved : List (List ModuleValue)
 
+-- (A level is balanced, so there is one.)
 abbrev pub given_back : List (List ModuleValue) → Paths
 given_back [] = record { path = []; saved = [] }
 given_back (path ∷ saved) = record { path = path; saved = saved }

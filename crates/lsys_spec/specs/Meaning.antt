@@ -61,6 +61,7 @@ abbrev pub as_fault : {A : Type 0} → Result A Arith → Result A Fault
 as_fault (Ok a) = Ok a
 as_fault (Err e) = Err (Arithmetic e)
 
+-- the successor of the rule at a place (A chosen rule is one of them, so none is missed.)
 abbrev pub filled_at : List Body → ℕ → List ℤ → Result (List (S.Symbol ℤ)) Fault
 filled_at [] g values = Ok []
 filled_at (b ∷ bs) zero values = as_fault (filled b.successor values)
@@ -100,6 +101,7 @@ next_level s t x = children_from s t x 0 0 x and_then λ raw. Ok (cut raw)
 abbrev pub within_limit : ℕ → ℕ → List (List Symbol) → Result (List (List Symbol)) Refusal
 within_limit limit t levels = if nat_lt limit (sum_by length levels) then Err (OverLimit t) else Ok levels
 
+-- (There is always level 0.)
 abbrev pub last_level : List (List Symbol) → List Symbol
 last_level [] = []
 last_level (x ∷ []) = x

@@ -107,6 +107,7 @@ acted l (turns turn n) t = quietly (with_pose t (record t.pose { frame = turn_by
 acted l (widens w) t = quietly (with_pose t (record t.pose { width = w }))
 acted l rests t = quietly t
 
+-- (An image is balanced, so there is a pose.)
 abbrev pub pose_restored : Turtle → List Pose → Turtle
 pose_restored t [] = t
 pose_restored t (p ∷ ps) = record { pose = p; saved = ps }

@@ -20,7 +20,7 @@ pub data Tree : Type 0 where
   Both : Tree → Tree → Tree
   Either : Tree → Tree → Tree
 
--- the place of a name among the formals
+-- The place of a name among the formals. (A rule of a well-formed system names its formals alone, so no place past the end comes.)
 abbrev pub formal_place : List NameText → NameText → ℕ
 formal_place [] x = 0
 formal_place (f ∷ fs) x = if bytes_eq (P.name_text f) (P.name_text x) then 0 else formal_place fs x + 1
@@ -123,7 +123,7 @@ abbrev pub unless_true : Bool → Result ℤ Arith → Result ℤ Arith
 unless_true true right = right and_then λ y. Ok (truth (not (is_zero y)))
 unless_true false right = Ok (pos 1)
 
--- operands from left to right; the first fault is the answer
+-- Operands from left to right; the first fault is the answer. (In a well-formed system each formal has a value, so the 0 that stands in for one doesn't come.)
 abbrev pub value : Tree → List ℤ → Result ℤ Arith
 value (Constant n) b = Ok (pos n)
 value (Formal i) b = Ok (get_or b i (pos 0))
