@@ -2,7 +2,7 @@
 use Rattle.std.specs.Prelude.{ℕ, zero, suc, ℤ, pos, negsuc, ◌+◌, ◌+ℤ◌, ◌-ℤ◌, ◌*ℤ◌, neg_ℤ, int_div, int_rem, int_lt, ◌^◌, ◌==◌, Bool, true, false, not, Option, Some, None, List, [], ◌∷◌, Result, Ok, Err, nat_lt, bytes_eq, if◌then◌else◌, get_or}
 use Rattle.lsys_syntax.specs.Tokens.{NameText}
 use Rattle.lsys_syntax.specs.Pieces as P
-use Rattle.lsys_syntax.specs.Expressions.{TermOp, multiply, divide, remainder, SumOp, add, subtract, RelOp, equal, unequal, less, at_most, greater, at_least, Expr, only_and, or, And, only_rel, and, Rel, only_sum, compare, Sum, only_term, total, Term, only_unary, product, Unary, negated, inverted, plain, raised, Atom, number, name, parens}
+use Rattle.lsys_syntax.specs.Expressions.{TermOp, multiply, divide, remainder, SumOp, add, subtract, RelOp, equal, unequal, less, at_most, greater, at_least, Expr, only_and, or, And, only_rel, and, Rel, only_sum, compare, Sum, only_term, total, Term, only_unary, product, Unary, negated, inverted, only_atom, raised, Atom, number, name, parens}
 
 pub data Operator : Type 0 where
   sum_of : SumOp → Operator
@@ -49,7 +49,7 @@ abbrev mutual
   pub unary_tree : List NameText → Unary → Tree
   unary_tree fs (negated u) = Negation (unary_tree fs u)
   unary_tree fs (inverted u) = Inversion (unary_tree fs u)
-  unary_tree fs (plain a) = atom_tree fs a
+  unary_tree fs (only_atom a) = atom_tree fs a
   unary_tree fs (raised a u) = Binary power_of (atom_tree fs a) (unary_tree fs u)
 
   pub atom_tree : List NameText → Atom → Tree
