@@ -1,5 +1,6 @@
 -- What the rules of a group read at a module, and which one is chosen (ABOP 1.7, 1.8 and 1.10).
 use Rattle.std.specs.Prelude.{ℕ, zero, suc, ℤ, pos, negsuc, Bool, true, false, Option, Some, None, Result, Ok, Err, List, [], ◌∷◌, ◌++◌, ◌+◌, length, map, flat_map, reverse, sum, if◌then◌else◌, nat_lt}
+use Rattle.lsys_syntax.specs.Limits.{greatest_weight}
 use Rattle.lsys_syntax.specs.Strings.{ModuleName}
 use Rattle.lsys_spec.specs.Draws.{draw_of, pick_of}
 use Rattle.lsys_spec.specs.Values.{Tree, value, judged, Arith, ◌and_then◌}
@@ -99,11 +100,8 @@ pub record Applying : Type 0 where
 abbrev pub weights : List Applying → List ℕ
 weights found = map (λ f. f.weight) found
 
-abbrev pub largest_weight : ℕ
-largest_weight = 9223372036854775807
-
 abbrev pub within_total : List Applying → Result (List Applying) Fault
-within_total found = if nat_lt largest_weight (sum (weights found)) then Err WeightTotal else Ok found
+within_total found = if nat_lt greatest_weight (sum (weights found)) then Err WeightTotal else Ok found
 
 abbrev pub not_negative : Result ℤ Arith → Result ℕ Fault
 not_negative (Ok (pos n)) = Ok n

@@ -1,5 +1,6 @@
 -- Parallel rewriting, level by level (ABOP 1.2), the fault of a derivation, and the limit of its size.
 use Rattle.std.specs.Prelude.{ℕ, zero, suc, ℤ, Bool, false, Option, Some, None, Result, Ok, Err, List, [], ◌∷◌, ◌++◌, ◌+◌, length, sum_by, nat_lt, is_some, if◌then◌else◌}
+pub use Rattle.lsys_syntax.specs.Limits.{most_entries}
 use Rattle.lsys_syntax.specs.Strings.{ModuleName}
 use Rattle.lsys_syntax.specs.Strings as S
 use Rattle.lsys_spec.specs.Draws.{key_of}
@@ -33,10 +34,6 @@ any_weight bs = list_any (λ b. is_some b.weight) bs
 -- the key, where the group has weights: all its rules have one, or none has
 abbrev pub key_for : System → List ℕ → List Body → Option ℕ
 key_for s l bs = if any_weight bs then Some (key_of s.seed l) else None
-
--- the most entries of a question's trace
-abbrev pub most_entries : ℕ
-most_entries = 1024
 
 abbrev pub asking : System → ModuleValue → Asking
 asking s m = record { ignored = ignores s.ignored; most = most_entries; own = m }
