@@ -8,8 +8,8 @@ use Rattle.lsys_spec.specs.Bodies.{Body, Done, body_of, group_in, is_for, table_
 use Rattle.lsys_spec.specs.Levels.{ModuleValue, Symbol, Step, Items, way, items_from}
 use Rattle.lsys_spec.specs.Values.{Arith, judged, ◌and_then◌}
 use Rattle.lsys_spec.specs.Walks.{Told}
-use Rattle.lsys_spec.specs.Choice.{Fault, TooFar, Fails, Choice, Asking, Tried, outcome_of, decided, first_applying, choice}
-use Rattle.lsys_spec.specs.Meaning.{filled, as_fault, filled_at, successor_by, asked, asking, successor, most_entries, any_weight, key_for}
+use Rattle.lsys_spec.specs.Choice.{Fault, TooFar, Fails, Choice, Asking, Tried, outcome_of, decided, first_applying, choice, as_fault}
+use Rattle.lsys_spec.specs.Meaning.{filled, filled_at, successor_by, asked, asking, successor, most_entries, any_weight, key_for}
 use Rattle.lsys_rules.specs.Views.{rule_of, production_of}
 use Rattle.lsys_rules.specs.Systems.{system_of}
 use Rattle.lsys_rules.specs.declared.rule.Rule.{Rule}

@@ -6,8 +6,8 @@ use Rattle.lsys_spec.specs.Systems.{main}
 use Rattle.lsys_spec.specs.Values.{Arith, judged, ◌and_then◌}
 use Rattle.lsys_spec.specs.Bodies.{body_of, is_for}
 use Rattle.lsys_spec.specs.Levels.{ModuleValue}
-use Rattle.lsys_spec.specs.Choice.{Fault}
-use Rattle.lsys_spec.specs.Meaning.{filled, as_fault}
+use Rattle.lsys_spec.specs.Choice.{Fault, as_fault}
+use Rattle.lsys_spec.specs.Meaning.{filled}
 
 -- whether a rule applies to a module
 abbrev pub tried : Production → ModuleValue → Result Bool Arith

@@ -3,8 +3,8 @@ ghost use Rattle.std.specs.Prelude.{◌≡◌, ◌∷◌, [], Ok, Err, IfOk, IfE
 ghost use Rattle.lsys_syntax.specs.Strings as strings;
 ghost use Rattle.lsys_spec.specs.Systems.{same_name};
 ghost use Rattle.lsys_spec.specs.Bodies.{body_of};
-ghost use Rattle.lsys_spec.specs.Choice.{Arithmetic};
-ghost use Rattle.lsys_spec.specs.Meaning.{filled, as_fault};
+ghost use Rattle.lsys_spec.specs.Choice.{Arithmetic, as_fault};
+ghost use Rattle.lsys_spec.specs.Meaning.{filled};
 ghost use Rattle.lsys_expr.specs.Answers.{arith_of, answer_of};
 ghost use Rattle.lsys_module.specs.Views.{module_name};
 ghost use Rattle.lsys_rules.specs.Built.{IsBuilt, AreBuilt};

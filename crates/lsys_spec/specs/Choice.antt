@@ -15,6 +15,10 @@ pub data Fault : Type 0 where
   WeightTotal : Fault
   TooFar : Fault
 
+abbrev pub as_fault : {A : Type 0} → Result A Arith → Result A Fault
+as_fault (Ok a) = Ok a
+as_fault (Err e) = Err (Arithmetic e)
+
 -- of a rule at a module: it doesn't apply; it applies with these values of its formals; or a fault
 pub data Outcome : Type 0 where
   No : Outcome
@@ -103,15 +107,14 @@ weights found = map (λ f. f.weight) found
 abbrev pub within_total : List Applying → Result (List Applying) Fault
 within_total found = if nat_lt greatest_weight (sum (weights found)) then Err WeightTotal else Ok found
 
-abbrev pub not_negative : Result ℤ Arith → Result ℕ Fault
-not_negative (Ok (pos n)) = Ok n
-not_negative (Ok (negsuc n)) = Err NegativeWeight
-not_negative (Err e) = Err (Arithmetic e)
+abbrev pub not_negative : ℤ → Result ℕ Fault
+not_negative (pos n) = Ok n
+not_negative (negsuc n) = Err NegativeWeight
 
 -- (In a well-formed system the rules of a group with weights all have one, so 0 doesn't come.)
 abbrev pub weighed : Option Tree → List ℤ → Result ℕ Fault
 weighed None values = Ok 0
-weighed (Some t) values = not_negative (value t values)
+weighed (Some t) values = as_fault (value t values) and_then not_negative
 
 -- those that were found before, and this rule where it applies; its weight is evaluated at once
 abbrev pub found_with : List Applying → ℕ → Body → Outcome → Result (List Applying) Fault
