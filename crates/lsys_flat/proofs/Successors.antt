@@ -55,7 +55,7 @@ filled_there (c ∷ all) (suc g) b bs values e = filled_there all g b bs values 
 
 -- so many rules were tried, and nothing was read for them
 abbrev behind_rules : ℕ → Tried
-behind_rules g = record { rules = g; entries = 0 }
+behind_rules g = record { place = g; read = 0 }
 
 by_group : (a : Asking) (w : List Step) (r : Items) (all : List Body) (g : ℕ) (bs : List Body) → a.most ≡ most_entries → AllBare bs → drop g all ≡ bs
     → successor_by all a.own (first_applying a w r (behind_rules g) bs).answer ≡ made_by bs a.own
