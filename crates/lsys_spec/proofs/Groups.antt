@@ -1,6 +1,6 @@
 -- What the rules of a group read and choose is carried over.
 use Rattle.std.proofs.Common.{◌≡◌, ℕ, ◌+◌, ◌<◌, ◌≤◌, Bool, true, false, Option, Some, None, Result, Ok, Err, List, [], ◌∷◌, ◌++◌, length, ltb, refl, sym, subst, ap, arith, cond, length-append}
-use Rattle.std.specs.Prelude.{ℤ, option_map, reverse, sum}
+use Rattle.std.specs.Prelude.{option_map, reverse}
 use Rattle.std.proofs.lemmas.Bool.{ltb-false}
 use Rattle.lsys_syntax.specs.Strings.{ModuleName}
 use Rattle.lsys_spec.specs.Bodies.{Body}

@@ -1,5 +1,5 @@
 -- Parallel rewriting, level by level (ABOP 1.2), the fault of a derivation, and the limit of its size.
-use Rattle.std.specs.Prelude.{ℕ, zero, suc, ℤ, Bool, false, Option, Some, None, Result, Ok, Err, List, [], ◌∷◌, ◌++◌, ◌+◌, length, sum_by, nat_lt, is_some, if◌then◌else◌}
+use Rattle.std.specs.Prelude.{ℕ, zero, suc, ℤ, Bool, Option, Some, None, Result, Ok, Err, List, [], ◌∷◌, ◌++◌, ◌+◌, length, sum_by, nat_lt, is_some, if◌then◌else◌}
 pub use Rattle.lsys_syntax.specs.Limits.{most_entries}
 use Rattle.lsys_syntax.specs.Strings.{ModuleName}
 use Rattle.lsys_syntax.specs.Strings as S
