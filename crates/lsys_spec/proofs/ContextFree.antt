@@ -9,7 +9,7 @@ use Rattle.lsys_spec.specs.Bodies.{Body, Pattern, Patterns, Done, OneOf, BranchO
 use Rattle.lsys_spec.specs.Levels.{ModuleValue, Step, Items, Symbol, Push, Pop, Module, plain, way, items_from}
 use Rattle.lsys_spec.specs.Choice.{Fault, choice}
 use Rattle.lsys_spec.specs.Cuts.{Raw}
-use Rattle.lsys_spec.specs.Meaning.{Refusal, OverLimit, FaultAt, numbered, any_weight, key_for, ignores, asking, asked, successor_by, successor, fault_at, children_from}
+use Rattle.lsys_spec.specs.Meaning.{LevelRefusal, OverLimit, FaultAt, numbered, any_weight, key_for, ignores, asking, asked, successor_by, successor, fault_at, children_from}
 use Rattle.lsys_spec.specs.Standings.{no_left, no_patterns, free}
 use Rattle.lsys_spec.specs.Morphisms.{IsContextFree, IsUnweighted, given_alone, rewritten, raw_plain, AreMade}
 use Rattle.lsys_spec.proofs.SameGroups.{FindSame, choice_same}
@@ -73,7 +73,7 @@ plain_numbered n l (S.Push ∷ ys) more = ap (λ zs. S.Push ∷ zs) (plain_numbe
 plain_numbered n l (S.Pop ∷ ys) more = ap (λ zs. S.Pop ∷ zs) (plain_numbered (n + 1) l ys more)
 plain_numbered n l (S.Cut ∷ ys) more = ap (λ zs. S.Cut ∷ zs) (plain_numbered (n + 1) l ys more)
 
-with_bracket : (r : Raw) (c : Result (List Raw) Refusal) (d : Result (List (S.Symbol ℤ)) Fault)
+with_bracket : (r : Raw) (c : Result (List Raw) LevelRefusal) (d : Result (List (S.Symbol ℤ)) Fault)
     → AreMade c d → AreMade (c and_then λ more. Ok (r ∷ more)) (d and_then λ more. Ok (raw_plain r ∷ more))
 with_bracket r (Ok raw) (Ok ys) h = ap (λ zs. raw_plain r ∷ zs) h
 with_bracket r (Ok raw) (Err k) h = absurd h
@@ -81,7 +81,7 @@ with_bracket r (Err (FaultAt k t n)) (Ok ys) h = absurd h
 with_bracket r (Err (FaultAt k t n)) (Err j) h = h
 with_bracket r (Err (OverLimit t)) d h = absurd h
 
-with_children : (l : List ℕ) (ys : List (S.Symbol ℤ)) (c : Result (List Raw) Refusal) (d : Result (List (S.Symbol ℤ)) Fault)
+with_children : (l : List ℕ) (ys : List (S.Symbol ℤ)) (c : Result (List Raw) LevelRefusal) (d : Result (List (S.Symbol ℤ)) Fault)
     → AreMade c d → AreMade (c and_then λ more. Ok (numbered 0 l ys ++ more)) (d and_then λ more. Ok (ys ++ more))
 with_children l ys (Ok raw) (Ok zs) h = plain_numbered 0 l ys raw ∙ ap (λ us. ys ++ us) h
 with_children l ys (Ok raw) (Err k) h = absurd h
@@ -89,7 +89,7 @@ with_children l ys (Err (FaultAt k t n)) (Ok zs) h = absurd h
 with_children l ys (Err (FaultAt k t n)) (Err j) h = h
 with_children l ys (Err (OverLimit t)) d h = absurd h
 
-with_module : (t n : ℕ) (l : List ℕ) (a : Result (List (S.Symbol ℤ)) Fault) (c : Result (List Raw) Refusal) (d : Result (List (S.Symbol ℤ)) Fault)
+with_module : (t n : ℕ) (l : List ℕ) (a : Result (List (S.Symbol ℤ)) Fault) (c : Result (List Raw) LevelRefusal) (d : Result (List (S.Symbol ℤ)) Fault)
     → AreMade c d
     → AreMade (fault_at t n a and_then λ ys. c and_then λ more. Ok (numbered 0 l ys ++ more)) (a and_then λ ys. d and_then λ more. Ok (ys ++ more))
 with_module t n l (Ok ys) c d h = with_children l ys c d h

@@ -1,6 +1,6 @@
 -- A question tells what is chosen.
-use Rattle.std.proofs.Common.{◌≡◌, ℕ, ◌+◌, ◌<◌, ◌≤◌, Bool, true, false, Option, Some, None, Result, Ok, Err, List, [], ◌∷◌, ◌++◌, append_assoc, length, take, min, ltb, refl, ap, sym, ◌∙◌, subst, arith, ◌⊎◌, inl, inr}
-use Rattle.std.specs.Prelude.{ℤ, reverse, sum}
+use Rattle.std.proofs.Common.{◌≡◌, ℕ, ◌+◌, ◌<◌, ◌≤◌, Bool, Option, Some, None, Result, Ok, Err, List, [], ◌∷◌, ◌++◌, append_assoc, length, take, min, refl, ap, sym, ◌∙◌, subst, arith, ◌⊎◌, inl, inr}
+use Rattle.std.specs.Prelude.{reverse}
 use Rattle.std.proofs.lemmas.Bool.{cases_lt}
 use Rattle.std.proofs.lemmas.List.{take_all, length-take}
 use Rattle.lsys_syntax.specs.Strings.{ModuleName}
@@ -32,28 +32,28 @@ from_ruled : (g k : ℕ) (es : List Entry) → g ≤ k → Each (Ruled k) es →
 from_ruled g k [] l h = tt
 from_ruled g k (e ∷ es) l h = (let i : (mark_of e).rule ≡ k = h.0 in omega (arith, i, l), from_ruled g k es l h.1)
 
-next_from : (a : Asking) (w : List Step) (r : Items) (k : ℕ) (d : Tried) (b : Body) → k ≤ d.rules → Each (From k) (next_contexts a w r d b).entries
-next_from a w r k d b l = from_ruled k d.rules (next_contexts a w r d b).entries l (contexts_ruled a.ignored (record { rule = d.rules; depth = 0 }) b a.own w r)
+next_from : (a : Asking) (w : List Step) (r : Items) (k : ℕ) (d : Tried) (b : Body) → k ≤ d.place → Each (From k) (next_contexts a w r d b).entries
+next_from a w r k d b l = from_ruled k d.place (next_contexts a w r d b).entries l (contexts_ruled a.ignored (record { rule = d.place; depth = 0 }) b a.own w r)
 
 decided_from : (k : ℕ) (o : Outcome) (place : ℕ) (others : Told Choice) → Each (From k) others.entries → Each (From k) (decided o place others).entries
 decided_from k No place others h = h
 decided_from k (Yes values) place others h = tt
 decided_from k (Fails e) place others h = tt
 
-first_from : (a : Asking) (w : List Step) (r : Items) (k : ℕ) (d : Tried) (bs : List Body) → k ≤ d.rules → Each (From k) (first_applying a w r d bs).entries
+first_from : (a : Asking) (w : List Step) (r : Items) (k : ℕ) (d : Tried) (bs : List Body) → k ≤ d.place → Each (From k) (first_applying a w r d bs).entries
 first_from a w r k d [] l = tt
 first_from a w r k d (b ∷ bs) l =
     let t : Told Found = next_contexts a w r d b in
     let others : Told Choice = first_applying a w r (one_more d t) bs in
-    each_append (From k) t.entries (decided (outcome a.most d b t) d.rules others).entries (next_from a w r k d b l)
-    (decided_from k (outcome a.most d b t) d.rules others (first_from a w r k (one_more d t) bs (omega (arith, l))))
+    each_append (From k) t.entries (decided (outcome a.most d b t) d.place others).entries (next_from a w r k d b l)
+    (decided_from k (outcome a.most d b t) d.place others (first_from a w r k (one_more d t) bs (omega (arith, l))))
 
-all_from : (a : Asking) (w : List Step) (r : Items) (k : ℕ) (d : Tried) (found : Result (List Applying) Fault) (bs : List Body) → k ≤ d.rules → Each (From k) (all_applying a w r d found bs).entries
+all_from : (a : Asking) (w : List Step) (r : Items) (k : ℕ) (d : Tried) (found : Result (List Applying) Fault) (bs : List Body) → k ≤ d.place → Each (From k) (all_applying a w r d found bs).entries
 all_from a w r k d (Err e) bs l = tt
 all_from a w r k d (Ok found) [] l = tt
 all_from a w r k d (Ok found) (b ∷ bs) l =
     let t : Told Found = next_contexts a w r d b in
-    let more : Result (List Applying) Fault = found_with found d.rules b (outcome a.most d b t) in
+    let more : Result (List Applying) Fault = found_with found d.place b (outcome a.most d b t) in
     each_append (From k) t.entries (all_applying a w r (one_more d t) more bs).entries (next_from a w r k d b l)
     (all_from a w r k (one_more d t) more bs (omega (arith, l)))
 
@@ -90,17 +90,17 @@ ToldBy t t' = t.entries ≡ t'.entries → t' ≡ t
 
 -- a rule, and what follows its walks, which was read for later rules
 next_told : {A : Type 0} (a : Asking) (f : ModuleName → Bool) (w w' : List Step) (r r' : Items) (d : Tried) (b : Body) (next next' : Told Found → Told A)
-    → Each (From (d.rules + 1)) (next (next_contexts a w r d b)).entries
-    → Each (From (d.rules + 1)) (next' (next_contexts (record a { ignored = f }) w' r' d b)).entries
+    → Each (From (d.place + 1)) (next (next_contexts a w r d b)).entries
+    → Each (From (d.place + 1)) (next' (next_contexts (record a { ignored = f }) w' r' d b)).entries
     → ToldBy (next (next_contexts a w r d b)) (next' (next_contexts a w r d b))
     → ToldBy (followed (next_contexts a w r d b) (next (next_contexts a w r d b)))
     (followed (next_contexts (record a { ignored = f }) w' r' d b) (next' (next_contexts (record a { ignored = f }) w' r' d b)))
 next_told {A} a f w w' r r' d b next next' h h' g e =
-    let m : Mark = record { rule = d.rules; depth = 0 } in
+    let m : Mark = record { rule = d.place; depth = 0 } in
     let t : Told Found = next_contexts a w r d b in
     let t' : Told Found = next_contexts (record a { ignored = f }) w' r' d b in
     let c : (t' ≡ t) × ((next' t').entries ≡ (next t).entries) =
-    contexts_tells a.ignored f m b a.own w w' r r' (next t).entries (next' t').entries (λ i. from_foreign d.rules (next t).entries h) (λ i. from_foreign d.rules (next' t').entries h') e in
+    contexts_tells a.ignored f m b a.own w w' r r' (next t).entries (next' t').entries (λ i. from_foreign d.place (next t).entries h) (λ i. from_foreign d.place (next' t').entries h') e in
     let moved : next' t' ≡ next' t = ap next' c.0 in
     let same : next' t ≡ next t = g (sym c.1 ∙ ap (λ (u : Told A). u.entries) moved) in
     ap (λ (u : Told Found). followed u (next' t')) c.0 ∙ ap (followed t) (moved ∙ same)
@@ -119,10 +119,10 @@ first_told a f w w' r r' d (b ∷ bs) e =
     let t' : Told Found = next_contexts a' w' r' d b in
     let others = λ (u : Told Found). first_applying a w r (one_more d u) bs in
     let others' = λ (u : Told Found). first_applying a' w' r' (one_more d u) bs in
-    next_told a f w w' r r' d b (λ u. decided (outcome a.most d b u) d.rules (others u)) (λ u. decided (outcome a.most d b u) d.rules (others' u))
-    (decided_from (d.rules + 1) (outcome a.most d b t) d.rules (others t) (first_from a w r (d.rules + 1) (one_more d t) bs (omega arith)))
-    (decided_from (d.rules + 1) (outcome a.most d b t') d.rules (others' t') (first_from a' w' r' (d.rules + 1) (one_more d t') bs (omega arith)))
-    (decided_told (outcome a.most d b t) d.rules (others t) (others' t) (first_told a f w w' r r' (one_more d t) bs)) e
+    next_told a f w w' r r' d b (λ u. decided (outcome a.most d b u) d.place (others u)) (λ u. decided (outcome a.most d b u) d.place (others' u))
+    (decided_from (d.place + 1) (outcome a.most d b t) d.place (others t) (first_from a w r (d.place + 1) (one_more d t) bs (omega arith)))
+    (decided_from (d.place + 1) (outcome a.most d b t') d.place (others' t') (first_from a' w' r' (d.place + 1) (one_more d t') bs (omega arith)))
+    (decided_told (outcome a.most d b t) d.place (others t) (others' t) (first_told a f w w' r r' (one_more d t) bs)) e
 
 all_told : (a : Asking) (f : ModuleName → Bool) (w w' : List Step) (r r' : Items) (d : Tried) (found : Result (List Applying) Fault) (bs : List Body)
     → ToldBy (all_applying a w r d found bs) (all_applying (record a { ignored = f }) w' r' d found bs)
@@ -132,10 +132,10 @@ all_told a f w w' r r' d (Ok found) (b ∷ bs) e =
     let a' : Asking = record a { ignored = f } in
     let t : Told Found = next_contexts a w r d b in
     let t' : Told Found = next_contexts a' w' r' d b in
-    let more = λ (u : Told Found). found_with found d.rules b (outcome a.most d b u) in
+    let more = λ (u : Told Found). found_with found d.place b (outcome a.most d b u) in
     next_told a f w w' r r' d b (λ u. all_applying a w r (one_more d u) (more u) bs) (λ u. all_applying a' w' r' (one_more d u) (more u) bs)
-    (all_from a w r (d.rules + 1) (one_more d t) (more t) bs (omega arith))
-    (all_from a' w' r' (d.rules + 1) (one_more d t') (more t') bs (omega arith))
+    (all_from a w r (d.place + 1) (one_more d t) (more t) bs (omega arith))
+    (all_from a' w' r' (d.place + 1) (one_more d t') (more t') bs (omega arith))
     (all_told a f w w' r r' (one_more d t) (more t) bs) e
 
 choice_told : (a : Asking) (f : ModuleName → Bool) (key : Option ℕ) (w w' : List Step) (r r' : Items) (bs : List Body)

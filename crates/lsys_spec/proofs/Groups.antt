@@ -1,6 +1,6 @@
 -- What the rules of a group read and choose is carried over.
 use Rattle.std.proofs.Common.{◌≡◌, ℕ, ◌+◌, ◌<◌, ◌≤◌, Bool, true, false, Option, Some, None, Result, Ok, Err, List, [], ◌∷◌, ◌++◌, length, ltb, refl, sym, subst, ap, arith, cond, length-append}
-use Rattle.std.specs.Prelude.{ℤ, option_map, reverse, sum}
+use Rattle.std.specs.Prelude.{option_map, reverse}
 use Rattle.std.proofs.lemmas.Bool.{ltb-false}
 use Rattle.lsys_syntax.specs.Strings.{ModuleName}
 use Rattle.lsys_spec.specs.Bodies.{Body}
@@ -26,7 +26,7 @@ contexts_carries S f d b own w w' r r' l a =
 
 pub next_carries : (S : List ℕ → Type 0) (a : Asking) (w w' : List Step) (r r' : Items) → AlikeWays S w w' → AlikeItems S r r' → (d : Tried) (b : Body)
     → Carries (Settles S) (next_contexts a w r d b) (next_contexts a w' r' d b)
-next_carries S a w w' r r' l i d b = contexts_carries S a.ignored (record { rule = d.rules; depth = 0 }) b a.own w w' r r' l i
+next_carries S a w w' r r' l i d b = contexts_carries S a.ignored (record { rule = d.place; depth = 0 }) b a.own w w' r r' l i
 
 decided_carries : (S : Entry → Type 0) (o : Outcome) (place : ℕ) (others others' : Told Choice) → Carries S others others' → Carries S (decided o place others) (decided o place others')
 decided_carries S No place others others' c = c
@@ -39,11 +39,11 @@ first_carries S a w w' r r' l i d [] = carries_self (Settles S) (says NoRule)
 first_carries S a w w' r r' l i d (b ∷ bs) =
     let t : Told Found = next_contexts a w r d b in
     let t' : Told Found = next_contexts a w' r' d b in
-    let next = λ (u : Told Found). decided (outcome a.most d b u) d.rules (first_applying a w r (one_more d u) bs) in
-    let next' = λ (u : Told Found). decided (outcome a.most d b u) d.rules (first_applying a w' r' (one_more d u) bs) in
+    let next = λ (u : Told Found). decided (outcome a.most d b u) d.place (first_applying a w r (one_more d u) bs) in
+    let next' = λ (u : Told Found). decided (outcome a.most d b u) d.place (first_applying a w' r' (one_more d u) bs) in
     carries_followed (Settles S) t t' (next t) (next' t') (next_carries S a w w' r r' l i d b)
     (λ e. subst (λ u. Carries (Settles S) (next t) (next' u)) (sym e)
-    (decided_carries (Settles S) (outcome a.most d b t) d.rules (first_applying a w r (one_more d t) bs) (first_applying a w' r' (one_more d t) bs)
+    (decided_carries (Settles S) (outcome a.most d b t) d.place (first_applying a w r (one_more d t) bs) (first_applying a w' r' (one_more d t) bs)
     (first_carries S a w w' r r' l i (one_more d t) bs)))
 
 all_carries : (S : List ℕ → Type 0) (a : Asking) (w w' : List Step) (r r' : Items) → AlikeWays S w w' → AlikeItems S r r' → (d : Tried) (found : Result (List Applying) Fault) (bs : List Body)
@@ -53,11 +53,11 @@ all_carries S a w w' r r' l i d (Ok found) [] = carries_self (Settles S) (says (
 all_carries S a w w' r r' l i d (Ok found) (b ∷ bs) =
     let t : Told Found = next_contexts a w r d b in
     let t' : Told Found = next_contexts a w' r' d b in
-    let next = λ (u : Told Found). all_applying a w r (one_more d u) (found_with found d.rules b (outcome a.most d b u)) bs in
-    let next' = λ (u : Told Found). all_applying a w' r' (one_more d u) (found_with found d.rules b (outcome a.most d b u)) bs in
+    let next = λ (u : Told Found). all_applying a w r (one_more d u) (found_with found d.place b (outcome a.most d b u)) bs in
+    let next' = λ (u : Told Found). all_applying a w' r' (one_more d u) (found_with found d.place b (outcome a.most d b u)) bs in
     carries_followed (Settles S) t t' (next t) (next' t') (next_carries S a w w' r r' l i d b)
     (λ e. subst (λ u. Carries (Settles S) (next t) (next' u)) (sym e)
-    (all_carries S a w w' r r' l i (one_more d t) (found_with found d.rules b (outcome a.most d b t)) bs))
+    (all_carries S a w w' r r' l i (one_more d t) (found_with found d.place b (outcome a.most d b t)) bs))
 
 pub choice_carries : (S : List ℕ → Type 0) (a : Asking) (key : Option ℕ) (w w' : List Step) (r r' : Items) → AlikeWays S w w' → AlikeItems S r r' → (bs : List Body)
     → Carries (Settles S) (choice a key w r bs) (choice a key w' r' bs)
@@ -91,20 +91,20 @@ far_behind {A} most n far t b next e f = at (ltb most (n + length t.entries)) re
         let whole : length (t.entries ++ u.entries) ≡ length t.entries + length u.entries = length-append t.entries u.entries in
         f (ltb-false most (n + length t.entries) h) (fitting b t.answer) (omega (arith, l, whole))
 
-first_far : (a : Asking) (w : List Step) (r : Items) (d : Tried) (bs : List Body) → d.entries ≤ a.most → IsFar a.most d.entries (Failed TooFar) (first_applying a w r d bs)
-first_far a w r d [] h = says_near a.most d.entries (Failed TooFar) NoRule h
+first_far : (a : Asking) (w : List Step) (r : Items) (d : Tried) (bs : List Body) → d.read ≤ a.most → IsFar a.most d.read (Failed TooFar) (first_applying a w r d bs)
+first_far a w r d [] h = says_near a.most d.read (Failed TooFar) NoRule h
 first_far a w r d (b ∷ bs) h =
     let t : Told Found = next_contexts a w r d b in
-    far_behind a.most d.entries (Failed TooFar) t b (λ o. decided o d.rules (first_applying a w r (one_more d t) bs)) refl
-    (λ near o. decided_far a.most (d.entries + length t.entries) o d.rules (first_applying a w r (one_more d t) bs) near (first_far a w r (one_more d t) bs near))
+    far_behind a.most d.read (Failed TooFar) t b (λ o. decided o d.place (first_applying a w r (one_more d t) bs)) refl
+    (λ near o. decided_far a.most (d.read + length t.entries) o d.place (first_applying a w r (one_more d t) bs) near (first_far a w r (one_more d t) bs near))
 
-all_far : (a : Asking) (w : List Step) (r : Items) (d : Tried) (found : Result (List Applying) Fault) (bs : List Body) → d.entries ≤ a.most → IsFar a.most d.entries (Err TooFar) (all_applying a w r d found bs)
-all_far a w r d (Err k) bs h = says_near a.most d.entries (Err TooFar) (Err k) h
-all_far a w r d (Ok found) [] h = says_near a.most d.entries (Err TooFar) (Ok found) h
+all_far : (a : Asking) (w : List Step) (r : Items) (d : Tried) (found : Result (List Applying) Fault) (bs : List Body) → d.read ≤ a.most → IsFar a.most d.read (Err TooFar) (all_applying a w r d found bs)
+all_far a w r d (Err k) bs h = says_near a.most d.read (Err TooFar) (Err k) h
+all_far a w r d (Ok found) [] h = says_near a.most d.read (Err TooFar) (Ok found) h
 all_far a w r d (Ok found) (b ∷ bs) h =
     let t : Told Found = next_contexts a w r d b in
-    far_behind a.most d.entries (Err TooFar) t b (λ o. all_applying a w r (one_more d t) (found_with found d.rules b o) bs) refl
-    (λ near o. all_far a w r (one_more d t) (found_with found d.rules b o) bs near)
+    far_behind a.most d.read (Err TooFar) t b (λ o. all_applying a w r (one_more d t) (found_with found d.place b o) bs) refl
+    (λ near o. all_far a w r (one_more d t) (found_with found d.place b o) bs near)
 
 pub choice_far : (a : Asking) (key : Option ℕ) (w : List Step) (r : Items) (bs : List Body) → a.most < length (choice a key w r bs).entries → (choice a key w r bs).answer ≡ Failed TooFar
 choice_far a None w r bs l = first_far a w r none_tried bs (omega arith) (omega (arith, l))

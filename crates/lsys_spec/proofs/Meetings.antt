@@ -1,5 +1,5 @@
 -- A module that a walk meets.
-use Rattle.std.specs.Prelude.{Bool, true, false, None, if◌then◌else◌}
+use Rattle.std.specs.Prelude.{Bool, None, if◌then◌else◌}
 use Rattle.lsys_spec.specs.Levels.{Symbol}
 use Rattle.lsys_spec.specs.Walks.{Mark, Compared, Ignored, Told, Found, says, before}
 

@@ -1,6 +1,6 @@
 -- What holds of each symbol of a level holds of what the entries of a walk tell of.
-use Rattle.std.proofs.Common.{◌≡◌, ℕ, zero, suc, Bool, true, false, Option, Some, None, Result, Ok, Err, List, [], ◌∷◌, ◌++◌, ◌+◌, length, take, drop, ltb, refl}
-use Rattle.std.specs.Prelude.{ℤ, fold, reverse, sum}
+use Rattle.std.proofs.Common.{◌≡◌, ℕ, zero, suc, Bool, true, false, Option, Some, None, Result, Ok, Err, List, [], ◌∷◌, ◌+◌, take, drop, refl}
+use Rattle.std.specs.Prelude.{fold, reverse}
 use Rattle.lsys_syntax.specs.Strings.{ModuleName}
 use Rattle.lsys_spec.specs.Systems.{System, Each}
 use Rattle.lsys_spec.specs.Bodies.{Body, Pattern, Patterns, Done, OneOf, BranchOf}
@@ -119,7 +119,7 @@ after_named V f d b own r (Some ms) h = right_named V f d b.right r h
 
 next_named : (V : Symbol → Type 0) (a : Asking) (w : List Step) (r : Items) (d : Tried) (b : Body) → InWay V w → InItems V r → Each (OfEntry V) (next_contexts a w r d b).entries
 next_named V a w r d b h k =
-    let m : Mark = record { rule = d.rules; depth = 0 } in
+    let m : Mark = record { rule = d.place; depth = 0 } in
     let l : Told Found = left_walk a.ignored m (reverse b.left) w in
     each_append (OfEntry V) l.entries (right_after a.ignored m b a.own r l.answer).entries (left_named V a.ignored m (reverse b.left) w h) (after_named V a.ignored m b a.own r l.answer k)
 
@@ -133,8 +133,8 @@ first_named V a w r d [] h k = tt
 first_named V a w r d (b ∷ bs) h k =
     let t : Told Found = next_contexts a w r d b in
     let others : Told Choice = first_applying a w r (one_more d t) bs in
-    each_append (OfEntry V) t.entries (decided (outcome a.most d b t) d.rules others).entries (next_named V a w r d b h k)
-    (decided_named V (outcome a.most d b t) d.rules others (first_named V a w r (one_more d t) bs h k))
+    each_append (OfEntry V) t.entries (decided (outcome a.most d b t) d.place others).entries (next_named V a w r d b h k)
+    (decided_named V (outcome a.most d b t) d.place others (first_named V a w r (one_more d t) bs h k))
 
 all_named : (V : Symbol → Type 0) (a : Asking) (w : List Step) (r : Items) (d : Tried) (found : Result (List Applying) Fault) (bs : List Body) → InWay V w → InItems V r
     → Each (OfEntry V) (all_applying a w r d found bs).entries
@@ -142,7 +142,7 @@ all_named V a w r d (Err e) bs h k = tt
 all_named V a w r d (Ok found) [] h k = tt
 all_named V a w r d (Ok found) (b ∷ bs) h k =
     let t : Told Found = next_contexts a w r d b in
-    let more : Result (List Applying) Fault = found_with found d.rules b (outcome a.most d b t) in
+    let more : Result (List Applying) Fault = found_with found d.place b (outcome a.most d b t) in
     each_append (OfEntry V) t.entries (all_applying a w r (one_more d t) more bs).entries (next_named V a w r d b h k) (all_named V a w r (one_more d t) more bs h k)
 
 choice_named : (V : Symbol → Type 0) (a : Asking) (key : Option ℕ) (w : List Step) (r : Items) (bs : List Body) → InWay V w → InItems V r → Each (OfEntry V) (choice a key w r bs).entries

@@ -1,9 +1,9 @@
 -- The entries of a walk carry the rule for which it was made.
-use Rattle.std.proofs.Common.{◌≡◌, ℕ, Bool, true, false, Option, Some, None, List, [], ◌∷◌, refl}
+use Rattle.std.proofs.Common.{◌≡◌, ℕ, Bool, true, false, Some, None, List, [], ◌∷◌, refl}
 use Rattle.lsys_syntax.specs.Strings.{ModuleName}
 use Rattle.lsys_spec.specs.Systems.{Each}
 use Rattle.lsys_spec.specs.Bodies.{Pattern, Patterns, Done, OneOf, BranchOf}
-use Rattle.lsys_spec.specs.Levels.{ModuleValue, Symbol, Step, Passed, Around, OutOf, Items, Nothing, One, Branch}
+use Rattle.lsys_spec.specs.Levels.{Symbol, Step, Passed, Around, OutOf, Items, Nothing, One, Branch}
 use Rattle.lsys_spec.specs.Walks.{Mark, deeper, Entry, Told, Found, says, is_ignored, fits, left_walk, right_walk, behind, ahead, or_passed}
 use Rattle.lsys_spec.proofs.Meetings.{met}
 use Rattle.lsys_spec.proofs.Tells.{mark_of}

@@ -1,5 +1,6 @@
 -- What the rules of a group read at a module, and which one is chosen (ABOP 1.7, 1.8 and 1.10).
 use Rattle.std.specs.Prelude.{ℕ, zero, suc, ℤ, pos, negsuc, Bool, true, false, Option, Some, None, Result, Ok, Err, List, [], ◌∷◌, ◌++◌, ◌+◌, length, map, flat_map, reverse, sum, if◌then◌else◌, nat_lt}
+use Rattle.lsys_syntax.specs.Limits.{greatest_weight}
 use Rattle.lsys_syntax.specs.Strings.{ModuleName}
 use Rattle.lsys_spec.specs.Draws.{draw_of, pick_of}
 use Rattle.lsys_spec.specs.Values.{Tree, value, judged, Arith, ◌and_then◌}
@@ -13,6 +14,10 @@ pub data Fault : Type 0 where
   NegativeWeight : Fault
   WeightTotal : Fault
   TooFar : Fault
+
+abbrev pub as_fault : {A : Type 0} → Result A Arith → Result A Fault
+as_fault (Ok a) = Ok a
+as_fault (Err e) = Err (Arithmetic e)
 
 -- of a rule at a module: it doesn't apply; it applies with these values of its formals; or a fault
 pub data Outcome : Type 0 where
@@ -34,16 +39,16 @@ pub record Asking : Type 0 where
 
 -- 1. a rule
 
--- so many rules of the group were tried before, so it is also the place of the next one; and so many entries were read for them
+-- before a rule is tried: its place in the group, and how many entries were read for the rules before it
 pub record Tried : Type 0 where
-  pub rules : ℕ
-  pub entries : ℕ
+  pub place : ℕ
+  pub read : ℕ
 
 abbrev pub none_tried : Tried
-none_tried = record { rules = 0; entries = 0 }
+none_tried = record { place = 0; read = 0 }
 
 abbrev pub one_more : Tried → Told Found → Tried
-one_more d t = record { rules = d.rules + 1; entries = d.entries + length t.entries }
+one_more d t = record { place = d.place + 1; read = d.read + length t.entries }
 
 -- the right walk is made where the left context matched
 abbrev pub right_after : (ModuleName → Bool) → Mark → Body → ModuleValue → Items → Found → Told Found
@@ -57,7 +62,7 @@ contexts ignored d b own w r =
 
 -- of the next rule of the group
 abbrev pub next_contexts : Asking → List Step → Items → Tried → Body → Told Found
-next_contexts a w r d b = contexts a.ignored (record { rule = d.rules; depth = 0 }) b a.own w r
+next_contexts a w r d b = contexts a.ignored (record { rule = d.place; depth = 0 }) b a.own w r
 
 abbrev pub params_of : List ModuleValue → List ℤ
 params_of ms = flat_map (λ m. m.params) ms
@@ -74,7 +79,7 @@ fitting b (Some ms) = outcome_of (judged b.condition (params_of ms)) (params_of 
 
 -- before all else: with more than `most` entries in all the module is too far from what it asks about
 abbrev pub outcome : ℕ → Tried → Body → Told Found → Outcome
-outcome most d b t = if nat_lt most (d.entries + length t.entries) then Fails TooFar else fitting b t.answer
+outcome most d b t = if nat_lt most (d.read + length t.entries) then Fails TooFar else fitting b t.answer
 
 -- 2. without weights: the first rule that applies, or the first fault
 
@@ -86,7 +91,7 @@ decided (Fails k) place others = says (Failed k)
 abbrev pub first_applying : Asking → List Step → Items → Tried → List Body → Told Choice
 first_applying a w r d [] = says NoRule
 first_applying a w r d (b ∷ bs) =
-    let t = next_contexts a w r d b in followed t (decided (outcome a.most d b t) d.rules (first_applying a w r (one_more d t) bs))
+    let t = next_contexts a w r d b in followed t (decided (outcome a.most d b t) d.place (first_applying a w r (one_more d t) bs))
 
 -- 3. with weights: all rules that apply, or the first fault
 
@@ -99,21 +104,17 @@ pub record Applying : Type 0 where
 abbrev pub weights : List Applying → List ℕ
 weights found = map (λ f. f.weight) found
 
-abbrev pub largest_weight : ℕ
-largest_weight = 9223372036854775807
-
 abbrev pub within_total : List Applying → Result (List Applying) Fault
-within_total found = if nat_lt largest_weight (sum (weights found)) then Err WeightTotal else Ok found
+within_total found = if nat_lt greatest_weight (sum (weights found)) then Err WeightTotal else Ok found
 
-abbrev pub not_negative : Result ℤ Arith → Result ℕ Fault
-not_negative (Ok (pos n)) = Ok n
-not_negative (Ok (negsuc n)) = Err NegativeWeight
-not_negative (Err e) = Err (Arithmetic e)
+abbrev pub not_negative : ℤ → Result ℕ Fault
+not_negative (pos n) = Ok n
+not_negative (negsuc n) = Err NegativeWeight
 
 -- (In a well-formed system the rules of a group with weights all have one, so 0 doesn't come.)
 abbrev pub weighed : Option Tree → List ℤ → Result ℕ Fault
 weighed None values = Ok 0
-weighed (Some t) values = not_negative (value t values)
+weighed (Some t) values = as_fault (value t values) and_then not_negative
 
 -- those that were found before, and this rule where it applies; its weight is evaluated at once
 abbrev pub found_with : List Applying → ℕ → Body → Outcome → Result (List Applying) Fault
@@ -128,7 +129,7 @@ all_applying a w r d (Err k) bs = says (Err k)
 all_applying a w r d (Ok found) [] = says (Ok found)
 all_applying a w r d (Ok found) (b ∷ bs) =
     let t = next_contexts a w r d b in
-    followed t (all_applying a w r (one_more d t) (found_with found d.rules b (outcome a.most d b t)) bs)
+    followed t (all_applying a w r (one_more d t) (found_with found d.place b (outcome a.most d b t)) bs)
 
 -- the one at a place (a pick is the place of one of them, so none is missed)
 abbrev pub applying_at : Option ℕ → List Applying → Choice

@@ -1,5 +1,5 @@
 -- Left and right contexts, without what was read to find them (ABOP 1.8 and 1.10.2).
-use Rattle.std.specs.Prelude.{ℕ, Bool, true, false, Option, Some, None, List, [], ◌∷◌, ◌++◌, ◌==◌, ◌&&◌, ◌-◌, drop, take, length, option_map, fold, if◌then◌else◌}
+use Rattle.std.specs.Prelude.{ℕ, Bool, true, false, Some, None, List, [], ◌∷◌, ◌++◌, ◌==◌, ◌&&◌, ◌-◌, drop, take, length, option_map, fold, if◌then◌else◌}
 use Rattle.lsys_syntax.specs.Strings.{ModuleName}
 use Rattle.lsys_spec.specs.Systems.{same_name}
 use Rattle.lsys_spec.specs.Bodies.{Pattern, Patterns, Done, OneOf, BranchOf}
@@ -13,6 +13,7 @@ pub record Paths : Type 0 where
   pub path : List ModuleValue
   pub saved : List (List ModuleValue)
 
+-- (A level is balanced, so there is one.)
 abbrev pub given_back : List (List ModuleValue) → Paths
 given_back [] = record { path = []; saved = [] }
 given_back (path ∷ saved) = record { path = path; saved = saved }

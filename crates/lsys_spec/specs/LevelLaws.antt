@@ -25,7 +25,7 @@ StandsIn x l = (p : ℕ) × (a : Symbol) × (slice_get x p ≡ Some a) × (linea
 abbrev pub NoneDisturbed : List Symbol → List Symbol → List Entry → Type 0
 NoneDisturbed old new es = Each (λ e. Each (Settled old new) (lineages_named e)) es
 
--- the questions of a new system, of levels ys, that may be other ones than those of the old, of levels xs
+-- the questions of a new system, of levels ys, that may be other ones than those of the old, of levels xs (Where the old system has no such level, it has no such question either, and any level will do.)
 abbrev pub may_differ : System → System → List (List Symbol) → List (List Symbol) → Question → Bool
 may_differ old new xs ys q = is_candidate old new (get_or xs q.level []) (get_or ys q.level []) (questions old xs) q
 

@@ -60,6 +60,7 @@ pub record Reading : Type 0 where
   pub way : List Step
   pub saved : List (Symbol × List Step)
 
+-- (A level is balanced, so a bracket that ends a branch finds the one that began it.)
 abbrev pub restored : Symbol → List (Symbol × List Step) → Reading
 restored close [] = record { way = []; saved = [] }
 restored close (s ∷ saved) = record { way = Around s.0 close ∷ s.1; saved = saved }
@@ -100,7 +101,7 @@ abbrev pub with_whole_branch : Symbol → Symbol → Items → Nest → Nest
 with_whole_branch o close inner (at_root r) = at_root (Branch o close inner r)
 with_whole_branch o close inner (in_branch r c n) = in_branch (Branch o close inner r) c n
 
--- an open bracket makes the innermost items a branch among those around it
+-- an open bracket makes the innermost items a branch among those around it (A level is balanced, so there are some.)
 abbrev pub with_open_bracket : Symbol → Nest → Nest
 with_open_bracket o (at_root inner) = at_root (Branch o o inner Nothing)
 with_open_bracket o (in_branch inner close n) = with_whole_branch o close inner n

@@ -9,7 +9,7 @@ use Rattle.lsys_spec.specs.Levels.{ModuleValue, Symbol, Push, Pop, Module, plain
 use Rattle.lsys_spec.specs.Walks.{list_any}
 use Rattle.lsys_spec.specs.Choice.{Fault}
 use Rattle.lsys_spec.specs.Cuts.{Raw, Plain, Percent}
-use Rattle.lsys_spec.specs.Meaning.{Refusal, OverLimit, FaultAt, any_weight, successor}
+use Rattle.lsys_spec.specs.Meaning.{LevelRefusal, OverLimit, FaultAt, any_weight, successor}
 use Rattle.lsys_spec.specs.Standings.{free}
 
 -- in the table of level t no rule has a context
@@ -38,7 +38,7 @@ raw_plain (Plain s) = plain s
 raw_plain (Percent l) = S.Cut
 
 -- children without their lineages, or a fault without its place
-abbrev pub AreMade : Result (List Raw) Refusal → Result (List (S.Symbol ℤ)) Fault → Type 0
+abbrev pub AreMade : Result (List Raw) LevelRefusal → Result (List (S.Symbol ℤ)) Fault → Type 0
 AreMade (Ok raw) (Ok ys) = map raw_plain raw ≡ ys
 AreMade (Ok raw) (Err k) = ⊥
 AreMade (Err (FaultAt k t n)) (Ok ys) = ⊥

@@ -1,6 +1,7 @@
 -- The picture (ABOP 1.3, 1.5 and 1.6): the segments that a turtle draws on its way over the image, and the box around them.
 use Rattle.std.specs.Prelude.{ℕ, ℤ, pos, negsuc, ◌+◌, ◌+ℤ◌, ◌-ℤ◌, ◌*ℤ◌, ◌==◌, ◌||◌, Bool, true, false, Option, Some, None, Result, Ok, Err, List, [], ◌∷◌, nat_lt, min, max, unsigned_abs, fold, map, flat_map, if◌then◌else◌}
 use Rattle.std.specs.Int.{int_min, int_max}
+use Rattle.lsys_syntax.specs.Limits.{greatest_coordinate}
 use Rattle.lsys_syntax.specs.Tokens.{NameText, short, long}
 use Rattle.lsys_syntax.specs.Strings.{ModuleName, named, plus, minus, ampersand, caret, backslash, slash, bar, bang}
 use Rattle.lsys_syntax.specs.Strings as S
@@ -65,12 +66,9 @@ act bang ps = widens (pen_width (first_or_one ps))
 abbrev pub place_ahead : ℤ → Pose → Vector
 place_ahead n p = vector (p.place.x +ℤ n *ℤ p.frame.heading.x) (p.place.y +ℤ n *ℤ p.frame.heading.y) (p.place.z +ℤ n *ℤ p.frame.heading.z)
 
-abbrev pub farthest : ℕ
-farthest = 1000000000
-
--- a coordinate is past the farthest in magnitude
+-- a coordinate is past the greatest in magnitude
 abbrev pub is_far : Vector → Bool
-is_far v = nat_lt farthest (unsigned_abs v.x) || (nat_lt farthest (unsigned_abs v.y) || nat_lt farthest (unsigned_abs v.z))
+is_far v = nat_lt greatest_coordinate (unsigned_abs v.x) || (nat_lt greatest_coordinate (unsigned_abs v.y) || nat_lt greatest_coordinate (unsigned_abs v.z))
 
 -- a turtle after a symbol, and the segment that it drew
 pub record Stepped : Type 0 where
@@ -107,6 +105,7 @@ acted l (turns turn n) t = quietly (with_pose t (record t.pose { frame = turn_by
 acted l (widens w) t = quietly (with_pose t (record t.pose { width = w }))
 acted l rests t = quietly t
 
+-- (An image is balanced, so there is a pose.)
 abbrev pub pose_restored : Turtle → List Pose → Turtle
 pose_restored t [] = t
 pose_restored t (p ∷ ps) = record { pose = p; saved = ps }

@@ -7,7 +7,7 @@ use Rattle.lsys_spec.specs.Walks.{Entry}
 use Rattle.lsys_spec.specs.Meaning.{asked, key_for, most_entries}
 use Rattle.lsys_spec.specs.Equalities.{same_number, same_option, same_all, same_lineage, same_symbol, same_body, same_entry}
 
--- A trace is the entries that the tried rules' walks read, in order; of a longer one the first 1,025, and then TooFar is among the outcomes.
+-- A trace is the entries that the tried rules' walks read, in order; of one that is too long the front that shows it, and then TooFar is among the outcomes.
 pub record Question : Type 0 where
   pub level : ℕ
   pub own : Symbol

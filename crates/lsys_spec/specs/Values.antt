@@ -1,5 +1,6 @@
 -- Values of expressions: exact whole numbers that fit 64 bits, or the first fault.
-use Rattle.std.specs.Prelude.{ℕ, zero, suc, ℤ, pos, negsuc, ◌+◌, ◌+ℤ◌, ◌-ℤ◌, ◌*ℤ◌, neg_ℤ, int_div, int_rem, int_lt, ◌^◌, ◌==◌, Bool, true, false, not, Option, Some, None, List, [], ◌∷◌, Result, Ok, Err, nat_lt, bytes_eq, if◌then◌else◌, get_or}
+use Rattle.std.specs.Prelude.{ℕ, zero, suc, ℤ, pos, negsuc, ◌+◌, ◌+ℤ◌, ◌-ℤ◌, ◌*ℤ◌, neg_ℤ, int_div, int_rem, int_lt, ◌==◌, Bool, true, false, not, Option, Some, None, List, [], ◌∷◌, Result, Ok, Err, nat_lt, bytes_eq, if◌then◌else◌, get_or}
+use Rattle.lsys_syntax.specs.Limits.{value_bound}
 use Rattle.lsys_syntax.specs.Tokens.{NameText}
 use Rattle.lsys_syntax.specs.Pieces as P
 use Rattle.lsys_syntax.specs.Expressions.{TermOp, multiply, divide, remainder, SumOp, add, subtract, RelOp, equal, unequal, less, at_most, greater, at_least, Expr, only_and, or, And, only_rel, and, Rel, only_sum, compare, Sum, only_term, total, Term, only_unary, product, Unary, negated, inverted, only_atom, raised, Atom, number, name, parens}
@@ -20,7 +21,7 @@ pub data Tree : Type 0 where
   Both : Tree → Tree → Tree
   Either : Tree → Tree → Tree
 
--- the place of a name among the formals
+-- The place of a name among the formals. (A rule of a well-spelled system names its formals alone, so no place past the end comes.)
 abbrev pub formal_place : List NameText → NameText → ℕ
 formal_place [] x = 0
 formal_place (f ∷ fs) x = if bytes_eq (P.name_text f) (P.name_text x) then 0 else formal_place fs x + 1
@@ -62,10 +63,10 @@ pub data Arith : Type 0 where
   DivideByZero : Arith
   NegativePower : Arith
 
--- an i64
+-- from the least value to the greatest: an i64
 abbrev pub in_range : ℤ → Bool
-in_range (pos n) = nat_lt n (2 ^ 63)
-in_range (negsuc n) = nat_lt n (2 ^ 63)
+in_range (pos n) = nat_lt n value_bound
+in_range (negsuc n) = nat_lt n value_bound
 
 -- an exact result, where it fits
 abbrev pub exact : ℤ → Result ℤ Arith
@@ -123,7 +124,7 @@ abbrev pub unless_true : Bool → Result ℤ Arith → Result ℤ Arith
 unless_true true right = right and_then λ y. Ok (truth (not (is_zero y)))
 unless_true false right = Ok (pos 1)
 
--- operands from left to right; the first fault is the answer
+-- Operands from left to right; the first fault is the answer. (Each formal of a rule that is tried has a value, so the 0 that stands in for one doesn't come.)
 abbrev pub value : Tree → List ℤ → Result ℤ Arith
 value (Constant n) b = Ok (pos n)
 value (Formal i) b = Ok (get_or b i (pos 0))
