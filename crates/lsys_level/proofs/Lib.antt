@@ -6,3 +6,4 @@ pub mod Rows
 pub mod Copies
 pub mod Lineages
 pub mod Owning
+pub mod Walked

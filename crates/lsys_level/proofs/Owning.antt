@@ -1,7 +1,10 @@
 -- Levels that are pushed with tags that run on have their own tags.
-use Rattle.std.proofs.Common.{◌≡◌, ◌⊎◌, inl, inr, ℕ, zero, suc, List, [], ◌∷◌, ◌++◌, ◌+◌, ◌<◌, length, Some, refl, ap, sym, ◌∙◌, arith}
+use Rattle.std.proofs.Common.{◌≡◌, ◌⊎◌, inl, inr, ℕ, zero, suc, List, [], ◌∷◌, ◌++◌, ◌+◌, ◌<◌, ◌≤◌, length, Some, refl, ap, sym, ◌∙◌, arith}
 use Rattle.std.specs.Prelude.{slice_get}
+use Rattle.std.proofs.lemmas.Option.{same_Some, slice_get_within}
 use Rattle.lsys_level.specs.Spots.{Spotted, spotted_at}
+use Rattle.lsys_module.specs.declared.symbol.Symbol.{Symbol}
+use Rattle.lsys_level.specs.Places.{spots_of}
 use Rattle.lsys_level.specs.Tags.{HasOwnTags, AreBelow}
 
 pub own_none : HasOwnTags []
@@ -37,3 +40,27 @@ own_running levels x first own below run = record {
     ])
   ];
 }
+
+pub below_running : (levels : List (List Spotted)) (x : List Spotted) (first n : ℕ) → AreBelow first levels → AreRunning first x → length x ≤ n → AreBelow (first + n) (levels ++ x ∷ [])
+below_running levels x first n below run few = record {
+  below = λ t p a here. elim (pushed_at levels x t p a here) [
+    | inl old ↦ (let k = below.below t p a old.1 in omega (arith, k))
+    | inr new ↦ (let k = run.each p a new.1 in let inside = slice_get_within x p a new.1 in omega (arith, k, inside, few))
+  ];
+}
+
+tag_at : (ss : List Symbol) (ts ks : List ℕ) (p : ℕ) (a : Spotted) → slice_get (spots_of ss ts ks) p ≡ Some a → slice_get ts p ≡ Some a.tag
+tag_at [] ts ks p a h = cc
+tag_at (s ∷ ss) [] ks p a h = cc
+tag_at (s ∷ ss) (t ∷ ts) [] p a h = cc
+tag_at (s ∷ ss) (t ∷ ts) (k ∷ ks) zero a h = ap (λ (a : Spotted). Some a.tag) (same_Some _ _ h)
+tag_at (s ∷ ss) (t ∷ ts) (k ∷ ks) (suc p) a h = tag_at ss ts ks p a h
+
+pub running : (ss : List Symbol) (ts ks : List ℕ) (first : ℕ) → ((p t : ℕ) → slice_get ts p ≡ Some t → t ≡ first + p) → AreRunning first (spots_of ss ts ks)
+running ss ts ks first run = record { each = λ p a h. run p a.tag (tag_at ss ts ks p a h) }
+
+pub no_longer : (ss : List Symbol) (ts ks : List ℕ) → length (spots_of ss ts ks) ≤ length ss
+no_longer [] ts ks = omega arith
+no_longer (s ∷ ss) [] ks = omega arith
+no_longer (s ∷ ss) (t ∷ ts) [] = omega arith
+no_longer (s ∷ ss) (t ∷ ts) (k ∷ ks) = let k = no_longer ss ts ks in omega (arith, k)
