@@ -6,6 +6,7 @@ ghost use Rattle.lsys_level.specs.Places.{params_in, place_of};
 use crate::tag::Tag;
 use lsys_module::Symbol;
 use lsys_text::Name;
+use std::mem::size_of;
 
 /// What a kept symbol is.
 #[derive(Clone, Copy)]
@@ -30,6 +31,8 @@ pub(crate) struct Place {
     pub(crate) arity: u8,
     pub(crate) kind: Kind,
 }
+
+const _: () = prove!(size_of::<Place>() == 32);
 
 impl Place {
     /// The symbol with its tag and its key; its mate's place if it is a bracket, and where its parameters begin if it
