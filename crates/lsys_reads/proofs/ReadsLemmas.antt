@@ -1,6 +1,8 @@
 -- What each step of the relations keeps.
-use Rattle.std.proofs.Common.{◌≡◌, ◌≢◌, ℕ, zero, suc, ◌+◌, ◌<◌, List, [], ◌∷◌, ◌++◌, length, map, reverse, take, get_or, Bool, true, false, not, ◌||◌, ◌&&◌, cond, ◌==◌, refl, sym, ap, subst, ◌∙◌, inl, inr, arith}
-use mathlib.Core.List.{reverse-cons}
+use Rattle.std.proofs.Common.{◌≡◌, ◌≢◌, ℕ, zero, suc, ◌+◌, ◌<◌, List, [], ◌∷◌, ◌++◌, map, get_or, Bool, true, false, not, ◌||◌, ◌&&◌, cond, ◌==◌, refl, sym, ap, subst, ◌∙◌, inl, inr, arith, rules}
+use Rattle.std.specs.Prelude.{sum_by, nat_lt, IsPermutation}
+use Rattle.std.proofs.lemmas.List.Sorted.{sum_by-IsPermutation}
+use Rattle.std.proofs.lemmas.List.Sums.{sum_by-cons}
 use Rattle.std.proofs.lemmas.Bool.Decides.{eqb_tells}
 use Rattle.std.proofs.lemmas.Bool.{eq-eqb, ne_eqb}
 use Rattle.lsys_reads.specs.declared.Pair.{Pair}
@@ -216,16 +218,10 @@ pub settles_all : (was now : Relations) → Settles was now → now.pending ≡ 
 settles_all was now so_far empty reader seen =
     sym (or_false _) ∙ ap (λ (l : List Pair). is_settled now reader seen || pairs_have l reader seen) (sym empty) ∙ so_far.either reader seen
 
-pub has_take : (xs : List ℕ) (i q d : ℕ) → i < length xs → has (take (suc i) xs) q ≡ (has (take i xs) q || has (get_or xs i d ∷ []) q)
-has_take [] i q d within = absurd (omega (arith, within))
-has_take (x ∷ xs) zero q d within = refl
-has_take (x ∷ xs) (suc i) q d within =
-    ap (λ (b : Bool). (x == q) || b) (has_take xs i q d (omega (arith, within))) ∙ sym (or_assoc (x == q) _ _)
-
--- the pairs of the first readers of a list are taken out
-pub record ForgetsFirst (was now : Relations) (gone : List ℕ) (count : ℕ) : Type 0 where
+-- with the pairs of the rest of a list taken out, the pairs of all of it are
+pub record ForgetsDownTo (was now : Relations) (gone rest : List ℕ) : Type 0 where
   pub pending : now.pending ≡ was.pending
-  pub settled : (reader seen : ℕ) → is_settled now reader seen ≡ (not (has (take count gone) reader) && is_settled was reader seen)
+  pub settled : (reader seen : ℕ) → (not (has rest reader) && is_settled now reader seen) ≡ (not (has gone reader) && is_settled was reader seen)
 
 not_or : (a b c : Bool) → (not b && (not a && c)) ≡ (not (a || b) && c)
 not_or true true c = refl
@@ -233,44 +229,56 @@ not_or true false c = refl
 not_or false true c = refl
 not_or false false c = refl
 
-forgets_suc : (was old new : Relations) (gone : List ℕ) (i reader d : ℕ) → i < length gone → get_or gone i d ≡ reader → ForgetsFirst was old gone i → new.pending ≡ old.pending → ((other seen : ℕ) → is_settled new other seen ≡ (not (has (reader ∷ []) other) && is_settled old other seen)) → ForgetsFirst was new gone (suc i)
-forgets_suc was old new gone i reader d within at so_far same step = record {
+has_push : (xs : List ℕ) (x q : ℕ) → has (xs ++ x ∷ []) q ≡ (has xs q || has (x ∷ []) q)
+has_push [] x q = refl
+has_push (y ∷ xs) x q = ap (λ (b : Bool). (y == q) || b) (has_push xs x q) ∙ sym (or_assoc (y == q) (has xs q) _)
+
+or_turned : (a b : Bool) → (a || b) ≡ (b || a)
+or_turned true true = refl
+or_turned true false = refl
+or_turned false true = refl
+or_turned false false = refl
+
+pub forgets_last : (was old new : Relations) (gone rest before : List ℕ) (reader : ℕ) → rest ≡ before ++ reader ∷ [] → ForgetsDownTo was old gone rest → new.pending ≡ old.pending
+    → ((other seen : ℕ) → is_settled new other seen ≡ (not (has (reader ∷ []) other) && is_settled old other seen)) → ForgetsDownTo was new gone before
+forgets_last was old new gone rest before reader split so_far same step = record {
   pending = same ∙ so_far.pending;
-  settled = λ other seen. step other seen
-      ∙ ap (λ (b : Bool). not (has (reader ∷ []) other) && b) (so_far.settled other seen)
-      ∙ not_or (has (take i gone) other) (has (reader ∷ []) other) (is_settled was other seen)
-      ∙ ap (λ (x : ℕ). not (has (take i gone) other || has (x ∷ []) other) && is_settled was other seen) (sym at)
-      ∙ sym (ap (λ (b : Bool). not b && is_settled was other seen) (has_take gone i other d within));
+  settled = λ other seen.
+      ap (λ (b : Bool). not (has before other) && b) (step other seen)
+      ∙ not_or (has (reader ∷ []) other) (has before other) (is_settled old other seen)
+      ∙ ap (λ (b : Bool). not b && is_settled old other seen) (or_turned (has (reader ∷ []) other) (has before other) ∙ sym (has_push before reader other) ∙ ap (λ (l : List ℕ). has l other) (sym split))
+      ∙ so_far.settled other seen;
 }
 
-pub forgets_next : (was old new : Relations) (gone : List ℕ) (i reader d : ℕ) → i < length gone → get_or gone i d ≡ reader → ForgetsFirst was old gone i → new.pending ≡ old.pending → ((other seen : ℕ) → is_settled new other seen ≡ (not (has (reader ∷ []) other) && is_settled old other seen)) → ForgetsFirst was new gone (i + 1)
-forgets_next was old new gone i reader d within at so_far same step = subst (ForgetsFirst was new gone) (omega arith) (forgets_suc was old new gone i reader d within at so_far same step)
+-- in another order the pending pairs are the same ones
+times_sum : (f : Pair → ℕ) (pairs : List Pair) (tag : ℕ) → times (map f pairs) tag ≡ sum_by (λ p. cond (f p == tag) 1 0) pairs
+times_sum f [] tag = refl
+times_sum f (p ∷ pairs) tag = ap (λ n. cond (f p == tag) 1 0 + n) (times_sum f pairs tag) ∙ sym (sum_by-cons (λ p. cond (f p == tag) 1 0) p pairs)
 
--- turned round, the pending pairs are the same ones
-pub times_reverse : (f : Pair → ℕ) (pairs : List Pair) (tag : ℕ) → times (map f (reverse pairs)) tag ≡ times (map f pairs) tag
-times_reverse f [] tag = refl
-times_reverse f (x ∷ pairs) tag =
-    let turned = ap (λ (l : List Pair). times (map f l) tag) (reverse-cons x pairs) ∙ times_push f (reverse pairs) x tag in
-    let rest = times_reverse f pairs tag in
-    omega (arith, turned, rest)
+times_in_order : (f : Pair → ℕ) (pairs pairs' : List Pair) (tag : ℕ) → IsPermutation pairs pairs' → times (map f pairs') tag ≡ times (map f pairs) tag
+times_in_order f pairs pairs' tag p = times_sum f pairs' tag ∙ sum_by-IsPermutation (λ p. cond (f p == tag) 1 0) pairs pairs' p ∙ sym (times_sum f pairs tag)
 
-or_comm : (a b : Bool) → (a || b) ≡ (b || a)
-or_comm true true = refl
-or_comm true false = refl
-or_comm false true = refl
-or_comm false false = refl
+either : (b : Bool) (n : ℕ) → nat_lt 0 (cond b 1 0 + n) ≡ (b || nat_lt 0 n)
+either true n = lt_tells n
+  where
+    lt_tells : (n : ℕ) → nat_lt 0 (1 + n) ≡ true
+    lt_tells n = search rules
+either false n = ap (nat_lt 0) (omega arith)
 
-pub pairs_have_reverse : (pairs : List Pair) (reader seen : ℕ) → pairs_have (reverse pairs) reader seen ≡ pairs_have pairs reader seen
-pairs_have_reverse [] reader seen = refl
-pairs_have_reverse (x ∷ pairs) reader seen =
-    ap (λ (l : List Pair). pairs_have l reader seen) (reverse-cons x pairs) ∙ pairs_have_push (reverse pairs) x reader seen
-    ∙ ap (λ (b : Bool). b || pairs_have (x ∷ []) reader seen) (pairs_have_reverse pairs reader seen)
-    ∙ ap (λ (b : Bool). pairs_have pairs reader seen || b) (or_false _)
-    ∙ or_comm (pairs_have pairs reader seen) _
+pairs_have_sum : (pairs : List Pair) (reader seen : ℕ) → pairs_have pairs reader seen ≡ nat_lt 0 (sum_by (λ p. cond ((p.reader == reader) && (p.seen == seen)) 1 0) pairs)
+pairs_have_sum [] reader seen = refl
+pairs_have_sum (p ∷ pairs) reader seen =
+    ap (λ (b : Bool). ((p.reader == reader) && (p.seen == seen)) || b) (pairs_have_sum pairs reader seen)
+    ∙ sym (either ((p.reader == reader) && (p.seen == seen)) (sum_by (λ p. cond ((p.reader == reader) && (p.seen == seen)) 1 0) pairs))
+    ∙ ap (nat_lt 0) (sym (sum_by-cons (λ p. cond ((p.reader == reader) && (p.seen == seen)) 1 0) p pairs))
 
-pub sound_reverse : (s r : List Row) (pairs pairs' : List Pair) → pairs' ≡ reverse pairs → IsSound s r pairs → IsSound s r pairs'
-sound_reverse s r pairs pairs' turned sound = subst (IsSound s r) (sym turned) (record {
+pub pairs_have_in_order : (pairs pairs' : List Pair) (reader seen : ℕ) → IsPermutation pairs pairs' → pairs_have pairs' reader seen ≡ pairs_have pairs reader seen
+pairs_have_in_order pairs pairs' reader seen p =
+    pairs_have_sum pairs' reader seen ∙ ap (nat_lt 0) (sum_by-IsPermutation (λ p. cond ((p.reader == reader) && (p.seen == seen)) 1 0) pairs pairs' p) ∙ sym (pairs_have_sum pairs reader seen)
+
+pub sound_in_order : (s r : List Row) (pairs pairs' : List Pair) → IsPermutation pairs pairs' → IsSound s r pairs → IsSound s r pairs'
+sound_in_order s r pairs pairs' p sound = record {
   agree = sound.agree;
-  owed_seen = λ tag. sound.owed_seen tag ∙ sym (times_reverse seen_of pairs tag);
-  owed_reader = λ tag. sound.owed_reader tag ∙ sym (times_reverse reader_of pairs tag);
-})
+  owed_seen = λ tag. sound.owed_seen tag ∙ sym (times_in_order seen_of pairs pairs' tag p);
+  owed_reader = λ tag. sound.owed_reader tag ∙ sym (times_in_order reader_of pairs pairs' tag p);
+}

@@ -14,6 +14,7 @@ ghost use Rattle.lsys_reads.specs.Relations.{is_settled, is_pending, SettledStay
 
 use lsys_level::Tag;
 use std::alloc::{AllocError, Global};
+use std::cmp::Reverse;
 use std::marker::Model;
 use table::Table;
 
@@ -64,7 +65,8 @@ impl Reads {
     /// Want of memory. Then both relations stay.
     pub fn add(&mut self, reader: Tag, seen: Tag) -> Result<(), AllocError>
         ensures settled { SettledStay self.old self.new }
-        ensures ok { OnOk result (self.new.pending ≡ self.old.pending ++ record { reader = reader; seen = seen } ∷ []) }
+        ensures ok { OnOk result
+            (self.new.pending ≡ self.old.pending ++ record { reader = reader; seen = seen } ∷ []) }
         ensures err { OnErr result (self.new.pending ≡ self.old.pending) }
     {
         self.pending.reserve(1)?;
@@ -82,7 +84,7 @@ impl Reads {
         }
     }
 
-    /// The settled readers of a tag.
+    /// The settled readers of a tag, each once and rising.
     pub fn readers_of(&self, seen: Tag) -> &[Tag]
         ensures readers { (reader : ℕ) → has result.now reader ≡ is_settled self.now reader seen }
         ensures rising { IsRising result.now }
@@ -115,20 +117,28 @@ impl Reads {
         }
     }
 
-    /// Takes the reader's pairs out of the settled ones, and then adds the pending pairs to them. It takes no memory.
+    /// Takes the pairs of the readers in `gone` out of the settled ones, and then adds the pending pairs to them. It
+    /// takes no memory.
+    ///
+    /// It costs steps by the pairs that come and go, and by how many readers stand behind them in their rows: least
+    /// where the readers in `gone` rise.
     pub fn settle(&mut self, gone: &[Tag])
-        ensures settled { (reader seen : ℕ) → is_settled self.new reader seen ≡ ((not (has gone.now reader) && is_settled self.old reader seen) || is_pending self.old reader seen) }
+        ensures settled { (reader seen : ℕ) → is_settled self.new reader seen
+            ≡ ((not (has gone.now reader) && is_settled self.old reader seen) || is_pending self.old reader seen) }
         ensures pending { self.new.pending ≡ [] }
     {
-        for reader in gone {
+        let mut rest = gone;
+        while let Some((reader, before)) = rest.split_last() {
             self.forget(*reader);
+            rest = before;
         }
         self.settle_pending();
     }
 
     /// Takes all pairs of a reader out of the settled ones.
     fn forget(&mut self, reader: Tag)
-        ensures settled { (other seen : ℕ) → is_settled self.new other seen ≡ (not (has (reader ∷ []) other) && is_settled self.old other seen) }
+        ensures settled { (other seen : ℕ) → is_settled self.new other seen
+            ≡ (not (has (reader ∷ []) other) && is_settled self.old other seen) }
         ensures pending { self.new.pending ≡ self.old.pending }
     {
         while let Some(seen) = self.by_reader.pop(reader) {
@@ -136,27 +146,30 @@ impl Reads {
         }
     }
 
-    /// Settles all pending pairs, in the order in which they came: rising readers then come to the end of their rows.
+    /// Settles all pending pairs, those of the lowest reader first: so each comes to the end of what its row got.
     fn settle_pending(&mut self)
-        ensures settled { (reader seen : ℕ) → is_settled self.new reader seen ≡ (is_settled self.old reader seen || is_pending self.old reader seen) }
+        ensures settled { (reader seen : ℕ) → is_settled self.new reader seen
+            ≡ (is_settled self.old reader seen || is_pending self.old reader seen) }
         ensures pending { self.new.pending ≡ [] }
     {
-        self.turn();
+        self.sort_falling();
         while let Some(_) = self.settle_one() {}
     }
 
-    /// Turns the pending pairs round.
-    fn turn(&mut self)
+    /// Sorts the pending pairs by their readers, the highest first.
+    fn sort_falling(&mut self)
         ensures settled { SettledStay self.old self.new }
         ensures pending { (reader seen : ℕ) → is_pending self.new reader seen ≡ is_pending self.old reader seen }
     {
-        self.pending.reverse();
+        self.pending
+            .sort_unstable_by_key(|pair| Reverse(pair.reader));
     }
 
     /// Settles one pending pair, if there is one.
     fn settle_one(&mut self) -> Option<Pair>
         ensures some { IfSome result (λ pair. self.old.pending ≡ self.new.pending ++ pair ∷ []) }
-        ensures settled { IfSome result (λ pair. (reader seen : ℕ) → is_settled self.new reader seen ≡ (pairs_have (pair ∷ []) reader seen || is_settled self.old reader seen)) }
+        ensures settled { IfSome result (λ pair. (reader seen : ℕ) → is_settled self.new reader seen
+            ≡ (pairs_have (pair ∷ []) reader seen || is_settled self.old reader seen)) }
         ensures none { IfNone result (self.old.pending ≡ []) }
         ensures same { IfNone result (self.new ≡ self.old) }
     {

@@ -1,7 +1,8 @@
-use Rattle.std.proofs.Common.{sym}
-use Rattle.lsys_reads.proofs.ReadsLemmas.{forgets_next}
+use Rattle.std.proofs.Common.{◌≡◌, ◌++◌, ◌∷◌, [], rules}
+use Rattle.lsys_reads.proofs.ReadsLemmas.{forgets_last}
 use Rattle.lsys_reads.proofs.Reads.settle.Goals as goal
 
 pub loop-reader-preserved : goal.loop-reader-preserved
 loop-reader-preserved c =
-    forgets_next c.args.self.now c.loop-reader.self c.forget.new.self c.args.gone.now c.loop-reader.reader-index c.reader-item.result c.reader-item.result c.loop-reader-test.true (sym c.reader-item.is) c.loop-reader.invariant c.forget.ensures.pending c.forget.ensures.settled
+    let split : c.loop-reader.rest.now ≡ c.in-Some.before.now ++ c.in-Some.reader.now ∷ [] = search rules in
+    forgets_last c.args.self.now c.loop-reader.self c.forget.new.self c.args.gone.now c.loop-reader.rest.now c.in-Some.before.now c.in-Some.reader.now split c.loop-reader.invariant c.forget.ensures.pending c.forget.ensures.settled
