@@ -13,7 +13,8 @@ use Rattle.lsys_spec.specs.Bodies.{Body, Pattern, Patterns, Done, OneOf, BranchO
 use Rattle.lsys_spec.specs.Levels.{ModuleValue, Symbol, Push, Pop, Module}
 use Rattle.lsys_spec.specs.Walks.{Mark, Entry, Compared, Ignored, Out, Branched}
 use Rattle.lsys_spec.specs.Standings.{Standing, same_standing}
-use Rattle.lsys_spec.specs.Questions.{Question, same_number, same_option, same_all, same_lineage, same_module, same_symbol, same_term_op, same_sum_op, same_rel_op, same_operator, same_tree, same_pattern, same_patterns, same_template, same_body, same_mark, same_entry, same_question}
+use Rattle.lsys_spec.specs.Equalities.{same_number, same_option, same_all, same_lineage, same_module, same_symbol, same_term_op, same_sum_op, same_rel_op, same_operator, same_tree, same_pattern, same_patterns, same_template, same_body, same_mark, same_entry}
+use Rattle.lsys_spec.specs.Questions.{Question, same_question}
 use Rattle.lsys_spec.proofs.Tests.{and_true, both}
 
 pub same_option_refl : {A : Type 0} (f : A → A → Bool) → ((a : A) → f a a ≡ true) → (o : Option A) → same_option f o o ≡ true

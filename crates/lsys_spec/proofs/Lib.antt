@@ -2,6 +2,7 @@ pub mod Keys
 pub mod Picks
 pub mod Turns
 pub mod Frames
+pub mod Unplaced
 pub mod Applied
 pub mod ShownBack
 pub mod Sampled
@@ -31,6 +32,7 @@ pub mod Standings
 pub mod Law
 pub mod Tells
 pub mod Ruled
+pub mod Meetings
 pub mod Named
 pub mod GroupTells
 pub mod Free

@@ -11,7 +11,7 @@ use Rattle.lsys_spec.specs.Systems.{Each, same_name, name_text}
 use Rattle.lsys_spec.specs.Values.{Tree, Constant, Formal, Negation, Inversion, Binary, Both, Either, Operator, sum_of, product_of, power_of, comparison, is_zero, int_same}
 use Rattle.lsys_spec.specs.Bodies.{Body, Pattern, Patterns, Done, OneOf, BranchOf}
 use Rattle.lsys_spec.specs.Levels.{ModuleValue, Symbol, Push, Pop, Module}
-use Rattle.lsys_spec.specs.Questions.{same_number, same_option, same_all, same_lineage, same_module, same_symbol, same_term_op, same_sum_op, same_rel_op, same_operator, same_tree, same_pattern, same_patterns, same_template, same_body}
+use Rattle.lsys_spec.specs.Equalities.{same_number, same_option, same_all, same_lineage, same_module, same_symbol, same_term_op, same_sum_op, same_rel_op, same_operator, same_tree, same_pattern, same_patterns, same_template, same_body}
 use Rattle.lsys_spec.specs.Standings.{Standing, same_standing}
 use Rattle.lsys_spec.proofs.Equal.{same_number_true, same_lineage_true, same_name_text}
 use Rattle.lsys_spec.proofs.Tests.{both}

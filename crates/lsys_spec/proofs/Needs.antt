@@ -4,12 +4,13 @@ use Rattle.std.specs.Prelude.{◌↔◌, not, sum_by, slice_get, option_map}
 use Rattle.std.proofs.lemmas.Bool.{eqb-true}
 use Rattle.std.proofs.lemmas.List.Sums.{sum_by-cons}
 use Rattle.std.proofs.lemmas.Option.{get_or_from_slice_get}
-use Rattle.lsys_spec.specs.Systems.{System, Each, WellFormed}
+use Rattle.lsys_spec.specs.Systems.{System, Each, WellSpelled}
 use Rattle.lsys_spec.specs.Bodies.{Body, group}
 use Rattle.lsys_spec.specs.Levels.{ModuleValue, Symbol, Push, Pop, Module, lineage, IsLevel}
-use Rattle.lsys_spec.specs.Walks.{Entry, named, list_any}
+use Rattle.lsys_spec.specs.Walks.{Entry, lineages_named, list_any}
 use Rattle.lsys_spec.specs.Meaning.{key_for, meaning}
-use Rattle.lsys_spec.specs.Questions.{Question, question, where_any, questions_from, questions_at, questions_below, questions, same_number, same_option, same_all, same_lineage, same_symbol, same_body, same_question, question_at, differs, is_needed}
+use Rattle.lsys_spec.specs.Equalities.{same_number, same_option, same_all, same_lineage, same_symbol, same_body}
+use Rattle.lsys_spec.specs.Questions.{Question, question, where_any, questions_from, questions_at, questions_below, questions, same_question, question_at, differs, is_needed}
 use Rattle.lsys_spec.specs.Standings.{standing, place_of, standing_of, before_place, Settled, same_standing, is_disturbed, reads_disturbed, any_disturbed, free, same_ignored, is_touched, touched_there}
 use Rattle.lsys_spec.specs.LevelLaws.{may_differ}
 use Rattle.lsys_spec.proofs.Alike.{Settles}
@@ -56,7 +57,7 @@ each_settled x y (l ∷ ls) u v h = let n = none_of (is_disturbed x y) l ls h in
 
 all_settled : (x y : List Symbol) (es : List Entry) → NamedLevel x → NamedLevel y → any_disturbed x y es ≡ false → Each (Settles (Settled x y)) es
 all_settled x y [] u v h = tt
-all_settled x y (e ∷ es) u v h = let n = none_of (reads_disturbed x y) e es h in (each_settled x y (named e) u v n.0, all_settled x y es u v n.1)
+all_settled x y (e ∷ es) u v h = let n = none_of (reads_disturbed x y) e es h in (each_settled x y (lineages_named e) u v n.0, all_settled x y es u v n.1)
 
 -- 2. the questions of a system
 
@@ -122,13 +123,13 @@ found_asked s xs t l (r ∷ qs) q h e = at (eqb r.level t && same_lineage l (lin
 
 -- 3. where nothing of a question is touched, it is the old one
 
--- the levels of well-formed systems
+-- the levels of well-spelled systems
 pub record Derived (s : System) (xs : List (List Symbol)) : Type 0 where
-  pub formed : WellFormed s
+  pub formed : WellSpelled s
   pub levels : (t : ℕ) (x : List Symbol) → slice_get xs t ≡ Some x → IsLevel x
   pub names : (t : ℕ) (x : List Symbol) → slice_get xs t ≡ Some x → NamedLevel x
 
-pub derived : (s : System) (limit : ℕ) (xs : List (List Symbol)) → WellFormed s → meaning s limit ≡ Ok xs → Derived s xs
+pub derived : (s : System) (limit : ℕ) (xs : List (List Symbol)) → WellSpelled s → meaning s limit ≡ Ok xs → Derived s xs
 derived s limit xs w h = record {
   formed = w;
   levels = λ t x g. let r : Grown t x = grown s (has_balance s w) limit xs h t x g in is_level x r.is_balanced (rising_apart x r.rises);
@@ -138,7 +139,7 @@ derived s limit xs w h = record {
 own_parts : (l l' : List ℕ) (m m' : ModuleValue) → Module l m ≡ Module l' m' → (l' ≡ l) × (m' ≡ m)
 own_parts l l' m m' e = let a : l' ≡ l = cc in let b : m' ≡ m = cc in (a, b)
 
-pub bodies_named : (s : System) (xs : List (List Symbol)) (q : Question) → WellFormed s → IsAsked s xs q → Each NamedBody q.bodies
+pub bodies_named : (s : System) (xs : List (List Symbol)) (q : Question) → WellSpelled s → IsAsked s xs q → Each NamedBody q.bodies
 bodies_named s xs q w a = subst (λ (r : Question). Each NamedBody r.bodies) (sym a.is) (group_named s w q.level a.value.name (length a.value.params))
 
 pub own_named : (s : System) (xs : List (List Symbol)) (q : Question) → Derived s xs → IsAsked s xs q → NamedSymbol q.own

@@ -1,7 +1,7 @@
 -- Lines, sessions, values and the sample: examples that the checker computes.
 use Rattle.std.specs.Prelude.{◌≡◌, ℕ, pos, negsuc, true, false, ◌||◌, ◌==◌, ◌-◌, ◌^◌, Ok, Err, List, [], ◌∷◌, ◌++◌, map, flat_map, replicate, codes, refl}
 use Rattle.std.specs.Fmt.{digits}
-use Rattle.lsys_spec.specs.Values.{Overflow, NegativePower, power, applied, product_of, fits}
+use Rattle.lsys_spec.specs.Values.{Overflow, NegativePower, power, applied, product_of, in_range}
 use Rattle.lsys_syntax.specs.Expressions.{divide, remainder}
 use Rattle.lsys_spec.specs.Lattices.{square, vector}
 use Rattle.lsys_spec.specs.Pictures.{box, pen_width}
@@ -26,14 +26,14 @@ unfolding digits
 comparisons = refl
 
 -- the least number and the greatest are in, and their neighbours out
-pub bounds : map fits (negsuc (2 ^ 63 - 1) ∷ negsuc (2 ^ 63) ∷ pos (2 ^ 63 - 1) ∷ pos (2 ^ 63) ∷ []) ≡ true ∷ false ∷ true ∷ false ∷ []
+pub bounds : map in_range (negsuc (2 ^ 63 - 1) ∷ negsuc (2 ^ 63) ∷ pos (2 ^ 63 - 1) ∷ pos (2 ^ 63) ∷ []) ≡ true ∷ false ∷ true ∷ false ∷ []
 bounds = refl
 
 pub powers :
     map (λ n. power (negsuc 1) (pos n)) (63 ∷ 64 ∷ []) ≡ Ok (negsuc (2 ^ 63 - 1)) ∷ Err Overflow ∷ []
 powers = refl
 
-pub large_powers : power (negsuc 0) (pos 1000001) ≡ Ok (negsuc 0)
+pub large_powers : map (λ x. power x (pos 1001)) (pos 0 ∷ pos 1 ∷ negsuc 0 ∷ pos 2 ∷ []) ≡ Ok (pos 0) ∷ Ok (pos 1) ∷ Ok (negsuc 0) ∷ Err Overflow ∷ []
 large_powers = refl
 
 pub negative_power : power (pos 1) (negsuc 0) ≡ Err NegativePower

@@ -2,10 +2,10 @@
 
 ghost use Rattle.std.specs.Prelude.{◌≡◌, ◌+◌, ◌||◌, ◌≤◌, ◌↔◌, ℕ, Bool, true, false, Some, Ok, List, length, reverse, slice_get};
 ghost use Rattle.lsys_syntax.specs.Strings.{ModuleName};
-ghost use Rattle.lsys_spec.specs.Systems.{System, WellFormed, Each};
+ghost use Rattle.lsys_spec.specs.Systems.{System, WellSpelled, Each};
 ghost use Rattle.lsys_spec.specs.Bodies.{Body, Pattern, Patterns, group};
 ghost use Rattle.lsys_spec.specs.Levels.{ModuleValue, Symbol, Module, lineage, Items, way, items_from, IsLevel};
-ghost use Rattle.lsys_spec.specs.Walks.{Mark, named, left_walk, right_walk};
+ghost use Rattle.lsys_spec.specs.Walks.{Mark, lineages_named, left_walk, right_walk};
 ghost use Rattle.lsys_spec.specs.Choice.{contexts};
 ghost use Rattle.lsys_spec.specs.Contexts.{path, left, right, around};
 ghost use Rattle.lsys_spec.specs.Meaning.{key_for, asked, successor, meaning};
@@ -38,10 +38,10 @@ pub fn law_of_settled_symbols()
         → IsLevel x → slice_get x p ≡ Some a → Settled x y (lineage a) → (q : ℕ) × (slice_get y q ≡ Some a) }
 {}
 
-/// In the levels of well-formed systems the test of disturbed symbols tells which are settled.
+/// In the levels of well-spelled systems the test of disturbed symbols tells which are settled.
 pub fn law_of_disturbed_symbols()
     ensures { (old new : System) (limit limit' : ℕ) (xs ys : List (List Symbol))
-        → WellFormed old → WellFormed new → meaning old limit ≡ Ok xs → meaning new limit' ≡ Ok ys
+        → WellSpelled old → WellSpelled new → meaning old limit ≡ Ok xs → meaning new limit' ≡ Ok ys
         → (t : ℕ) (x y : List Symbol) → slice_get xs t ≡ Some x → slice_get ys t ≡ Some y
         → (l : List ℕ) → (is_disturbed x y l ≡ false) ↔ Settled x y l }
 {}
@@ -82,24 +82,24 @@ pub fn law_of_same_questions()
 /// read for it, are at most those of the candidates.
 pub fn law_of_needs()
     ensures questions { (old new : System) (limit limit' : ℕ) (xs ys : List (List Symbol))
-        → WellFormed old → WellFormed new → meaning old limit ≡ Ok xs → meaning new limit' ≡ Ok ys
+        → WellSpelled old → WellSpelled new → meaning old limit ≡ Ok xs → meaning new limit' ≡ Ok ys
         → need (questions old xs) (questions new ys) ≤ candidates old new xs ys }
     ensures visits { (old new : System) (limit limit' : ℕ) (xs ys : List (List Symbol))
-        → WellFormed old → WellFormed new → meaning old limit ≡ Ok xs → meaning new limit' ≡ Ok ys
+        → WellSpelled old → WellSpelled new → meaning old limit ≡ Ok xs → meaning new limit' ≡ Ok ys
         → least_visits (questions old xs) (questions new ys) ≤ candidate_visits old new xs ys }
 {}
 
 /// What an entry of a trace names stands in the level.
 pub fn law_of_traces()
     ensures { (s : System) (t : ℕ) (bs : List Body) (x : List Symbol) (p : ℕ) (l : List ℕ) (m : ModuleValue)
-        → Each (λ e. Each (StandsIn x) (named e)) (question s t bs x p l m).trace }
+        → Each (λ e. Each (StandsIn x) (lineages_named e)) (question s t bs x p l m).trace }
 {}
 
 /// A question isn't needed exactly where the old system has that very question; by `law_of_same_questions` its choice is
 /// then the same.
 pub fn law_of_answered_questions()
     ensures { (old new : System) (limit limit' : ℕ) (xs ys : List (List Symbol))
-        → WellFormed old → WellFormed new → meaning old limit ≡ Ok xs → meaning new limit' ≡ Ok ys
+        → WellSpelled old → WellSpelled new → meaning old limit ≡ Ok xs → meaning new limit' ≡ Ok ys
         → (i : ℕ) (q : Question) → slice_get (questions new ys) i ≡ Some q
         → (is_needed (questions old xs) q ≡ false)
         ↔ (question_at q.level (lineage q.own) (questions old xs) ≡ Some q) }
