@@ -1,0 +1,9 @@
+pub mod Lists
+pub mod Mating
+pub mod Bare
+pub mod Naming
+pub mod Rows
+pub mod Copies
+pub mod Lineages
+pub mod Owning
+pub mod Walked

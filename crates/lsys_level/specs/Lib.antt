@@ -1,0 +1,4 @@
+pub mod Spots
+pub mod Tags
+pub mod Views
+pub mod Places

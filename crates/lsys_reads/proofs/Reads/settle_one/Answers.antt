@@ -1,0 +1,25 @@
+use Rattle.std.proofs.Common.{ℕ, ◌<◌, List, map, sym, ap, subst, ◌∙◌}
+use Rattle.lsys_reads.specs.declared.Pair.{Pair}
+use Rattle.lsys_reads.specs.Relations.{seen_of, reader_of, times, IsSound}
+use Rattle.lsys_reads.proofs.ReadsLemmas.{times_pushed, sound_put, settled_put}
+use Rattle.lsys_reads.proofs.Reads.settle_one.Goals as goal
+
+pub put-requires : goal.put-requires
+put-requires c =
+    let owed = c.self.invariant.owed_seen c.in-Some.pair.seen ∙ ap (λ (l : List Pair). times (map seen_of l) c.in-Some.pair.seen) c.in-Some.ensures.items in
+    subst (λ (n : ℕ). 0 < n) (sym owed) (times_pushed seen_of c.pop.new.self.items c.in-Some.pair)
+
+pub put-requires-in-Some : goal.put-requires-in-Some
+put-requires-in-Some c =
+    let owed = c.self.invariant.owed_reader c.in-Some.pair.reader ∙ ap (λ (l : List Pair). times (map reader_of l) c.in-Some.pair.reader) c.in-Some.ensures.items in
+    subst (λ (n : ℕ). 0 < n) (sym owed) (times_pushed reader_of c.pop.new.self.items c.in-Some.pair)
+
+pub invariant_of-self : goal.invariant_of-self
+invariant_of-self c =
+    sound_put c.self.inside.by_seen c.put.new.self c.self.inside.by_reader c.put-in-Some.new.self c.pop.new.self.items c.in-Some.pair
+    c.put.ensures c.put-in-Some.ensures
+    (subst (IsSound c.self.inside.by_seen c.self.inside.by_reader) c.in-Some.ensures.items c.self.invariant)
+
+pub returns-in-Some-clause-settled : goal.returns-in-Some-clause-settled
+returns-in-Some-clause-settled c =
+    settled_put c.self.inside.by_seen c.put.new.self c.self.inside.pending.items c.pop.new.self.items c.in-Some.pair c.args.self.now c.self.view_is c.put.ensures

@@ -1,0 +1,55 @@
+-- What a contract sees of two relations between readers and what they saw.
+use Rattle.std.specs.Prelude.{◌≡◌, ℕ, ◌+◌, List, [], ◌∷◌, map, slice_index_or, Bool, ◌||◌, ◌&&◌, ◌==◌, cond, false, refl}
+use Rattle.std.specs.Coded.{Coded, code_by, coded×, coded_ℕ, coded_list}
+use Rattle.lsys_reads.specs.declared.Pair.{Pair}
+use Rattle.lsys_reads.specs.Rows.{Row, row_at, has}
+
+-- the settled readers of each tag, and the pending pairs
+pub record Relations : Type 0 where
+  pub settled : List (List ℕ)
+  pub pending : List Pair
+
+abbrev pub pair_code : Coded Pair
+pair_code = code_by (ℕ × ℕ) (coded× coded_ℕ coded_ℕ) (λ p. (p.reader, p.seen)) (λ p. record { reader = p.0; seen = p.1 }) (λ _. refl)
+
+abbrev pub relations_code : Coded Relations
+relations_code = code_by (List (List ℕ) × List Pair) (coded× (coded_list (coded_list coded_ℕ)) (coded_list pair_code)) (λ r. (r.settled, r.pending)) (λ p. record { settled = p.0; pending = p.1 }) (λ _. refl)
+
+-- whether the reader's answer, as settled, read the tag
+abbrev pub is_settled : Relations → ℕ → ℕ → Bool
+is_settled relations reader seen = has (slice_index_or relations.settled seen []) reader
+
+-- whether the pair is among these
+abbrev pub pairs_have : List Pair → ℕ → ℕ → Bool
+pairs_have [] reader seen = false
+pairs_have (p ∷ pairs) reader seen = ((p.reader == reader) && (p.seen == seen)) || pairs_have pairs reader seen
+
+abbrev pub is_pending : Relations → ℕ → ℕ → Bool
+is_pending relations reader seen = pairs_have relations.pending reader seen
+
+-- the settled relation stays
+abbrev pub SettledStay : Relations → Relations → Type 0
+SettledStay old new = (reader seen : ℕ) → is_settled new reader seen ≡ is_settled old reader seen
+
+abbrev pub tags_of : Row → List ℕ
+tags_of row = row.tags
+
+abbrev pub view_of : List Row → List Pair → Relations
+view_of by_seen pending = record { settled = map tags_of by_seen; pending = pending }
+
+-- how often a tag is among these
+abbrev pub times : List ℕ → ℕ → ℕ
+times [] tag = 0
+times (x ∷ tags) tag = cond (x == tag) 1 0 + times tags tag
+
+abbrev pub seen_of : Pair → ℕ
+seen_of p = p.seen
+
+abbrev pub reader_of : Pair → ℕ
+reader_of p = p.reader
+
+-- both directions say the same, and each row keeps room for what is pending there
+pub record IsSound (by_seen by_reader : List Row) (pending : List Pair) : Type 0 where
+  pub agree : (reader seen : ℕ) → has (row_at by_seen seen).tags reader ≡ has (row_at by_reader reader).tags seen
+  pub owed_seen : (tag : ℕ) → (row_at by_seen tag).owed ≡ times (map seen_of pending) tag
+  pub owed_reader : (tag : ℕ) → (row_at by_reader tag).owed ≡ times (map reader_of pending) tag

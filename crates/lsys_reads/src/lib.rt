@@ -1,0 +1,188 @@
+//! Two finite relations on tags, settled and pending: which reader's answer read which symbol.
+//!
+//! Each direction has a row of rising tags for each tag, so that a change costs by the rows that it touches. Room for
+//! what is pending is kept in both rows by [`Reads::add`], so that [`Reads::settle`] and [`Reads::retract`] take no
+//! memory.
+#![tactic(auto)]
+
+mod row;
+mod table;
+
+ghost use Rattle.std.specs.Prelude.{◌≡◌, ℕ, ◌+◌, ◌<◌, ◌++◌, ◌∷◌, List, [], ◌||◌, ◌&&◌, not, Bool, true, false, OnOk, OnErr, IfNone, IfSome};
+ghost use Rattle.lsys_reads.specs.Rows.{has, IsRising};
+ghost use Rattle.lsys_reads.specs.Relations.{is_settled, is_pending, SettledStay, pairs_have};
+
+use lsys_level::Tag;
+use std::alloc::{AllocError, Global};
+use std::cmp::Reverse;
+use std::marker::Model;
+use table::Table;
+
+/// A reader, and what its answer read.
+#[derive(Clone, Copy, Drop)]
+pub struct Pair {
+    pub reader: Tag,
+    pub seen: Tag,
+}
+
+/// Which readers read which tags.
+#[derive(Drop)]
+pub struct Reads {
+    by_seen: Table,
+    by_reader: Table,
+    pending: Vec<Pair>,
+}
+
+impl Model for Reads {
+    ghost use Rattle.lsys_reads.specs.Relations.{Relations, relations_code, view_of, IsSound};
+
+    ghost Value = { Relations };
+
+    ghost coded = { relations_code };
+
+    ghost view = { λ r. view_of r.by_seen r.pending.items };
+
+    ghost invariant = { λ r. IsSound r.by_seen r.by_reader r.pending.items };
+}
+
+impl Reads {
+    /// The empty relations. It takes no memory.
+    pub fn new(alloc: Global) -> Reads
+        ensures settled { result.settled ≡ [] }
+        ensures pending { result.pending ≡ [] }
+    {
+        Reads {
+            by_seen: Table::new(alloc),
+            by_reader: Table::new(alloc),
+            pending: Vec::new(alloc),
+        }
+    }
+
+    /// Adds the pair to the pending ones, and keeps the room for it.
+    ///
+    /// # Errors
+    ///
+    /// Want of memory. Then both relations stay.
+    pub fn add(&mut self, reader: Tag, seen: Tag) -> Result<(), AllocError>
+        ensures settled { SettledStay self.old self.new }
+        ensures ok { OnOk result
+            (self.new.pending ≡ self.old.pending ++ record { reader = reader; seen = seen } ∷ []) }
+        ensures err { OnErr result (self.new.pending ≡ self.old.pending) }
+    {
+        self.pending.reserve(1)?;
+        self.by_seen.reserve(seen)?;
+        match self.by_reader.reserve(reader) {
+            Ok(()) => {}
+            Err(error) => {
+                self.by_seen.release(seen);
+                return Err(error);
+            }
+        }
+        match self.pending.push(Pair { reader, seen }) {
+            Ok(()) => Ok(()),
+            Err(_) => unreachable!(),
+        }
+    }
+
+    /// The settled readers of a tag, each once and rising.
+    pub fn readers_of(&self, seen: Tag) -> &[Tag]
+        ensures readers { (reader : ℕ) → has result.now reader ≡ is_settled self.now reader seen }
+        ensures rising { IsRising result.now }
+    {
+        self.by_seen.tags(seen)
+    }
+
+    /// Drops the pending pairs. It takes no memory.
+    pub fn retract(&mut self)
+        ensures settled { SettledStay self.old self.new }
+        ensures pending { self.new.pending ≡ [] }
+    {
+        while let Some(_) = self.retract_one() {}
+    }
+
+    /// Drops one pending pair, if there is one.
+    fn retract_one(&mut self) -> Option<Pair>
+        ensures settled { SettledStay self.old self.new }
+        ensures some { IfSome result (λ pair. self.old.pending ≡ self.new.pending ++ pair ∷ []) }
+        ensures none { IfNone result (self.old.pending ≡ []) }
+        ensures same { IfNone result (self.new.pending ≡ self.old.pending) }
+    {
+        match self.pending.pop() {
+            Some(pair) => {
+                self.by_seen.release(pair.seen);
+                self.by_reader.release(pair.reader);
+                Some(pair)
+            }
+            None => None,
+        }
+    }
+
+    /// Takes the pairs of the readers in `gone` out of the settled ones, and then adds the pending pairs to them. It
+    /// takes no memory.
+    ///
+    /// It costs steps by the pairs that come and go, and by how many readers stand behind them in their rows: least
+    /// where the readers in `gone` rise.
+    pub fn settle(&mut self, gone: &[Tag])
+        ensures settled { (reader seen : ℕ) → is_settled self.new reader seen
+            ≡ ((not (has gone.now reader) && is_settled self.old reader seen) || is_pending self.old reader seen) }
+        ensures pending { self.new.pending ≡ [] }
+    {
+        let mut rest = gone;
+        while let Some((reader, before)) = rest.split_last() {
+            self.forget(*reader);
+            rest = before;
+        }
+        self.settle_pending();
+    }
+
+    /// Takes all pairs of a reader out of the settled ones.
+    fn forget(&mut self, reader: Tag)
+        ensures settled { (other seen : ℕ) → is_settled self.new other seen
+            ≡ (not (has (reader ∷ []) other) && is_settled self.old other seen) }
+        ensures pending { self.new.pending ≡ self.old.pending }
+    {
+        while let Some(seen) = self.by_reader.pop(reader) {
+            self.by_seen.cut(seen, reader);
+        }
+    }
+
+    /// Settles all pending pairs, those of the lowest reader first: so each comes to the end of what its row got.
+    fn settle_pending(&mut self)
+        ensures settled { (reader seen : ℕ) → is_settled self.new reader seen
+            ≡ (is_settled self.old reader seen || is_pending self.old reader seen) }
+        ensures pending { self.new.pending ≡ [] }
+    {
+        self.sort_falling();
+        while let Some(_) = self.settle_one() {}
+    }
+
+    /// Sorts the pending pairs by their readers, the highest first.
+    fn sort_falling(&mut self)
+        ensures settled { SettledStay self.old self.new }
+        ensures pending { (reader seen : ℕ) → is_pending self.new reader seen ≡ is_pending self.old reader seen }
+    {
+        self.pending
+            .sort_unstable_by_key(|pair| Reverse(pair.reader));
+    }
+
+    /// Settles one pending pair, if there is one.
+    fn settle_one(&mut self) -> Option<Pair>
+        ensures some { IfSome result (λ pair. self.old.pending ≡ self.new.pending ++ pair ∷ []) }
+        ensures settled { IfSome result (λ pair. (reader seen : ℕ) → is_settled self.new reader seen
+            ≡ (pairs_have (pair ∷ []) reader seen || is_settled self.old reader seen)) }
+        ensures none { IfNone result (self.old.pending ≡ []) }
+        ensures same { IfNone result (self.new ≡ self.old) }
+    {
+        match self.pending.pop() {
+            Some(pair) => {
+                self.by_seen.put(pair.seen, pair.reader);
+                self.by_reader.put(pair.reader, pair.seen);
+                Some(pair)
+            }
+            None => None,
+        }
+    }
+}
+
+#[cfg(test)]
+mod tests;
