@@ -1,0 +1,144 @@
+//! A rule up to its right context.
+ghost use Rattle.std.specs.Prelude.{◌≡◌, ◌≤◌, length, map, IfOk};
+ghost use Rattle.lsys_syntax.specs.Sentences.{AreTokens};
+ghost use Rattle.lsys_text.specs.Tokens.{kinds_of};
+ghost use Rattle.lsys_reading.specs.Heads.{only_of, IsSingle, IsContext, IsPredecessorRead, IsRightRead, IsHeadRead};
+
+use crate::form::Form;
+use crate::glyph::peek;
+use crate::patterns::{Pattern, PatternModule, PatternsRead, Section, patterns};
+use crate::refusal::LineRefusal;
+use lsys_text::Token;
+use std::alloc::Global;
+
+/// A left context and a predecessor, up to the token behind them.
+#[derive(Drop)]
+pub(crate) struct PredecessorRead {
+    pub left: Vec<Pattern>,
+    pub predecessor: PatternModule,
+    pub end: usize,
+}
+
+/// A right context, where there is one, up to the token behind it.
+#[derive(Drop)]
+pub(crate) struct RightRead {
+    pub right: Vec<Pattern>,
+    pub end: usize,
+}
+
+/// Contexts and predecessor, up to the token behind them.
+#[derive(Drop)]
+pub(crate) struct HeadRead {
+    pub left: Vec<Pattern>,
+    pub predecessor: PatternModule,
+    pub right: Vec<Pattern>,
+    pub end: usize,
+}
+
+// The module that alone the symbols are.
+fn only(symbols: Vec<Pattern>) -> Option<PatternModule>
+    ensures { result ≡ only_of symbols.items }
+{
+    let mut symbols = symbols;
+    if symbols.len() > 1 {
+        return None;
+    }
+    match symbols.pop() {
+        Some(Pattern::Module(pattern)) => Some(pattern),
+        _ => None,
+    }
+}
+
+// A predecessor alone, behind a left context.
+fn single(
+    left: Vec<Pattern>,
+    symbols: Vec<Pattern>,
+    end: usize,
+) -> Result<PredecessorRead, LineRefusal>
+    ensures { IsSingle left.items symbols.items end result }
+{
+    match only(symbols) {
+        Some(predecessor) => Ok(PredecessorRead {
+            left,
+            predecessor,
+            end,
+        }),
+        None => Err(LineRefusal::Token { place: end }),
+    }
+}
+
+// A predecessor, with its left context where there is one.
+fn predecessor(
+    alloc: Global,
+    tokens: &[Token],
+    at: usize,
+    form: Form,
+) -> Result<PredecessorRead, LineRefusal>
+    requires forms { AreTokens (kinds_of tokens.now) }
+    requires within { at ≤ length tokens.now }
+    ensures read { IsPredecessorRead form (kinds_of tokens.now) at result }
+    ensures place { IfOk result (λ x. x.end ≤ length tokens.now) }
+{
+    let first = patterns(alloc, tokens, at, form.first_section())?;
+    if !form.takes_left(first.symbols.is_empty(), peek(tokens, first.end)) {
+        return single(Vec::new(alloc), first.symbols, first.end);
+    }
+    let second = patterns(alloc, tokens, first.end + 1, Section::Alone)?;
+    single(first.symbols, second.symbols, second.end)
+}
+
+// Whether symbols are a right context: there is one at least, and no branch is open.
+fn is_context(read: &PatternsRead) -> bool
+    ensures { IsContext result read.now.symbols.items read.now.branches }
+{
+    !read.symbols.is_empty() && read.branches == 0
+}
+
+// A right context, where there is one.
+fn right(alloc: Global, tokens: &[Token], at: usize, form: Form) -> Result<RightRead, LineRefusal>
+    requires forms { AreTokens (kinds_of tokens.now) }
+    requires within { at ≤ length tokens.now }
+    ensures read { IsRightRead form (kinds_of tokens.now) at result }
+    ensures place { IfOk result (λ x. x.end ≤ length tokens.now) }
+{
+    if !form.takes_right(peek(tokens, at)) {
+        return Ok(RightRead {
+            right: Vec::new(alloc),
+            end: at,
+        });
+    }
+    let read = patterns(alloc, tokens, at + 1, Section::Right)?;
+    if !is_context(&read) {
+        return Err(LineRefusal::Token { place: read.end });
+    }
+    Ok(RightRead {
+        right: read.symbols,
+        end: read.end,
+    })
+}
+
+// Contexts and predecessor.
+pub(crate) fn head(
+    alloc: Global,
+    tokens: &[Token],
+    at: usize,
+    form: Form,
+) -> Result<HeadRead, LineRefusal>
+    requires forms { AreTokens (kinds_of tokens.now) }
+    requires within { at ≤ length tokens.now }
+    ensures read { IsHeadRead form (kinds_of tokens.now) at result }
+    ensures place { IfOk result (λ x. x.end ≤ length tokens.now) }
+{
+    let PredecessorRead {
+        left,
+        predecessor,
+        end,
+    } = predecessor(alloc, tokens, at, form)?;
+    let RightRead { right, end } = right(alloc, tokens, end, form)?;
+    Ok(HeadRead {
+        left,
+        predecessor,
+        right,
+        end,
+    })
+}

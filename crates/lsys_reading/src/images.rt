@@ -1,0 +1,216 @@
+//! The successor of a rule: symbols with expressions.
+ghost use Rattle.std.specs.Prelude.{◌≡◌, ◌≤◌, ◌<◌, ◌+◌, length, IfOk};
+ghost use Rattle.lsys_syntax.specs.Sentences.{AreTokens};
+ghost use Rattle.lsys_text.specs.Tokens.{kinds_of};
+ghost use Rattle.lsys_reading.specs.Spans.{IsSpan, AreSpans};
+ghost use Rattle.lsys_reading.specs.Images.{image_opening_of, image_branches, ImageIsAt, ImagesAreAt, IsParamRead, AreParamsRead, IsImageModuleRead, IsImageRead, IsSuccessorRead};
+
+use crate::form::Form;
+use crate::glyph::{Glyph, Separator, peek};
+use crate::refusal::LineRefusal;
+use crate::span::{Span, expression};
+use lsys_text::{Name, Token};
+use std::alloc::Global;
+
+/// A module of a successor, and its parameters.
+#[derive(Drop)]
+pub struct ImageModule {
+    pub name: Name,
+    pub params: Vec<Span>,
+}
+
+/// A symbol of a successor.
+#[derive(Drop)]
+pub enum Image {
+    Module(ImageModule),
+    Push,
+    Pop,
+    Cut,
+}
+
+/// What begins with a token.
+#[derive(Clone, Copy)]
+pub(crate) enum ImageOpening {
+    Name(Name),
+    Push,
+    Pop,
+    Cut,
+}
+
+/// A parameter, and what stands behind it.
+#[derive(Clone, Copy)]
+pub(crate) struct ParamRead {
+    pub span: Span,
+    pub separator: Separator,
+}
+
+/// Parameters, up to the token behind their parenthesis.
+#[derive(Drop)]
+pub(crate) struct ParamsRead {
+    pub params: Vec<Span>,
+    pub end: usize,
+}
+
+/// A module, up to the token behind it.
+#[derive(Drop)]
+pub(crate) struct ImageModuleRead {
+    pub image: ImageModule,
+    pub end: usize,
+}
+
+/// A symbol, up to the token behind it.
+#[derive(Drop)]
+pub(crate) struct ImageRead {
+    pub symbol: Image,
+    pub end: usize,
+}
+
+// The symbol that begins with a token, where so many branches are open.
+fn image_opening(form: Form, branches: usize, glyph: Glyph) -> Option<ImageOpening>
+    ensures { result ≡ image_opening_of form branches glyph }
+{
+    match glyph {
+        Glyph::Letters(name) | Glyph::Sign(name) => Some(ImageOpening::Name(name)),
+        Glyph::Push => Some(ImageOpening::Push),
+        Glyph::Pop if branches > 0 => Some(ImageOpening::Pop),
+        Glyph::Cut if form == Form::Production => Some(ImageOpening::Cut),
+        _ => None,
+    }
+}
+
+// How many branches are open behind a symbol.
+fn image_branches(symbol: &Image, branches: usize) -> usize
+    requires { branches < usize.MAX }
+    ensures { result ≡ image_branches symbol.now branches }
+{
+    match symbol {
+        Image::Push => branches + 1,
+        Image::Pop => branches.saturating_sub(1),
+        _ => branches,
+    }
+}
+
+// A parameter, and what stands behind it.
+fn param(tokens: &[Token], at: usize) -> Result<ParamRead, LineRefusal>
+    requires forms { AreTokens (kinds_of tokens.now) }
+    requires within { at ≤ length tokens.now }
+    ensures read { IsParamRead (kinds_of tokens.now) at result }
+    ensures span { IfOk result (λ x. IsSpan (kinds_of tokens.now) x.span) }
+    ensures place { IfOk result (λ x. (at < x.span.to) × (x.span.to + 1 ≤ length tokens.now)) }
+{
+    let span = expression(tokens, at)?;
+    match peek(tokens, span.to).separator() {
+        Some(separator) => Ok(ParamRead { span, separator }),
+        None => Err(LineRefusal::Token { place: span.to }),
+    }
+}
+
+// The parameters behind a parenthesis.
+fn params(alloc: Global, tokens: &[Token], at: usize) -> Result<ParamsRead, LineRefusal>
+    requires forms { AreTokens (kinds_of tokens.now) }
+    requires within { at ≤ length tokens.now }
+    ensures read { AreParamsRead (kinds_of tokens.now) at result }
+    ensures some { IfOk result (λ x. 0 < length x.params.items) }
+    ensures spans { IfOk result (λ x. AreSpans (kinds_of tokens.now) x.params.items) }
+    ensures place { IfOk result (λ x. (at < x.end) × (x.end ≤ length tokens.now)) }
+{
+    let mut params = Vec::new(alloc);
+    let mut end = at;
+    'params: loop {
+        let read = param(tokens, end)?;
+        params.push(read.span).map_err(|_| LineRefusal::Memory)?;
+        end = read.span.to + 1;
+        if read.separator == Separator::Close {
+            return Ok(ParamsRead { params, end });
+        }
+    }
+}
+
+// A module behind its name.
+fn image_module(
+    alloc: Global,
+    tokens: &[Token],
+    at: usize,
+    name: Name,
+) -> Result<ImageModuleRead, LineRefusal>
+    requires forms { AreTokens (kinds_of tokens.now) }
+    requires within { at ≤ length tokens.now }
+    ensures read { IsImageModuleRead name (kinds_of tokens.now) at result }
+    ensures spans { IfOk result (λ x. AreSpans (kinds_of tokens.now) x.image.params.items) }
+    ensures place { IfOk result (λ x. (at ≤ x.end) × (x.end ≤ length tokens.now)) }
+{
+    if !peek(tokens, at).is_open() {
+        return Ok(ImageModuleRead {
+            image: ImageModule {
+                name,
+                params: Vec::new(alloc),
+            },
+            end: at,
+        });
+    }
+    let ParamsRead { params, end } = params(alloc, tokens, at + 1)?;
+    Ok(ImageModuleRead {
+        image: ImageModule { name, params },
+        end,
+    })
+}
+
+// A symbol.
+fn image_symbol(
+    alloc: Global,
+    tokens: &[Token],
+    at: usize,
+    form: Form,
+    branches: usize,
+) -> Result<ImageRead, LineRefusal>
+    requires forms { AreTokens (kinds_of tokens.now) }
+    requires within { at < length tokens.now }
+    ensures read { IsImageRead form branches (kinds_of tokens.now) at result }
+    ensures spans { IfOk result (λ x. ImageIsAt (kinds_of tokens.now) x.symbol) }
+    ensures place { IfOk result (λ x. (at < x.end) × (x.end ≤ length tokens.now)) }
+{
+    let Some(opening) = image_opening(form, branches, peek(tokens, at)) else {
+        return Err(LineRefusal::Token { place: at });
+    };
+    let end = at + 1;
+    let symbol = match opening {
+        ImageOpening::Name(name) => {
+            let ImageModuleRead { image, end } = image_module(alloc, tokens, end, name)?;
+            return Ok(ImageRead {
+                symbol: Image::Module(image),
+                end,
+            });
+        }
+        ImageOpening::Push => Image::Push,
+        ImageOpening::Pop => Image::Pop,
+        ImageOpening::Cut => Image::Cut,
+    };
+    Ok(ImageRead { symbol, end })
+}
+
+// The symbols up to the line's end.
+pub(crate) fn successor(
+    alloc: Global,
+    tokens: &[Token],
+    at: usize,
+    form: Form,
+) -> Result<Vec<Image>, LineRefusal>
+    requires forms { AreTokens (kinds_of tokens.now) }
+    requires within { at ≤ length tokens.now }
+    ensures read { IsSuccessorRead form (kinds_of tokens.now) at result }
+    ensures spans { IfOk result (λ x. ImagesAreAt (kinds_of tokens.now) x.items) }
+{
+    let mut symbols = Vec::new(alloc);
+    let mut branches = 0;
+    let mut end = at;
+    'symbols: while end < tokens.len() {
+        let read = image_symbol(alloc, tokens, end, form, branches)?;
+        branches = image_branches(&read.symbol, branches);
+        symbols.push(read.symbol).map_err(|_| LineRefusal::Memory)?;
+        end = read.end;
+    }
+    if branches > 0 {
+        return Err(LineRefusal::Token { place: end });
+    }
+    Ok(symbols)
+}

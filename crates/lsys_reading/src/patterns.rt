@@ -1,0 +1,205 @@
+//! Symbols with formals: the contexts of a rule, and its predecessor.
+ghost use Rattle.std.specs.Prelude.{◌≡◌, ◌≤◌, ◌<◌, length, map, IfOk, IfSome};
+ghost use Rattle.lsys_syntax.specs.RuleMachine.{reversed, open_in};
+ghost use Rattle.lsys_syntax.specs.Sentences.{AreTokens};
+ghost use Rattle.lsys_text.specs.Tokens.{kinds_of};
+ghost use Rattle.lsys_reading.specs.Patterns.{pattern_of, takes_name, opening_of, branches_behind, IsModuleRead, IsSymbolRead, ArePatternsRead};
+
+use crate::formals::{FormalsRead, formals};
+use crate::glyph::{Glyph, peek};
+use crate::refusal::LineRefusal;
+use lsys_text::{Name, Token};
+use std::alloc::Global;
+
+/// A module of a context, or a predecessor.
+#[derive(Drop)]
+pub struct PatternModule {
+    pub name: Name,
+    pub formals: Vec<Name>,
+}
+
+/// A symbol of a context.
+#[derive(Drop)]
+pub enum Pattern {
+    Module(PatternModule),
+    Push,
+    Pop,
+}
+
+/// Which symbols may stand in a list of them.
+#[derive(Clone, Copy, PartialEq, Eq, Debug)]
+pub(crate) enum Section {
+    /// Any number of modules: a left context, or a predecessor.
+    First,
+    /// One module: a predecessor.
+    Alone,
+    /// Any number of modules, and branches: a right context.
+    Right,
+}
+
+/// Where the next symbol stands.
+#[derive(Clone, Copy)]
+pub(crate) struct Standing {
+    pub section: Section,
+    pub is_first: bool,
+    /// So many branches are open.
+    pub branches: usize,
+}
+
+/// What begins with a token.
+#[derive(Clone, Copy)]
+pub(crate) enum Opening {
+    Name(Name),
+    Push,
+    Pop,
+}
+
+/// A module, up to the token behind it.
+#[derive(Drop)]
+pub(crate) struct ModuleRead {
+    pub pattern: PatternModule,
+    pub end: usize,
+}
+
+/// A symbol, up to the token behind it.
+#[derive(Drop)]
+pub(crate) struct SymbolRead {
+    pub symbol: Pattern,
+    pub end: usize,
+}
+
+/// Symbols, up to the first token that is none.
+#[derive(Drop)]
+pub(crate) struct PatternsRead {
+    pub symbols: Vec<Pattern>,
+    /// So many branches are open.
+    pub branches: usize,
+    pub end: usize,
+}
+
+impl Standing {
+    // The symbol that begins with a token.
+    fn opening(self, glyph: Glyph) -> Option<Opening>
+        ensures { result ≡ opening_of self glyph }
+    {
+        match glyph {
+            Glyph::Letters(name) | Glyph::Sign(name) if self.takes_name() => {
+                Some(Opening::Name(name))
+            }
+            Glyph::Push if self.section == Section::Right => Some(Opening::Push),
+            Glyph::Pop if self.section == Section::Right && self.branches > 0 => Some(Opening::Pop),
+            _ => None,
+        }
+    }
+
+    fn takes_name(self) -> bool
+        ensures { result ≡ takes_name self.section self.is_first }
+    {
+        self.section != Section::Alone || self.is_first
+    }
+}
+
+// A module behind its name.
+fn module(alloc: Global, tokens: &[Token], at: usize, name: Name) -> Result<ModuleRead, LineRefusal>
+    requires forms { AreTokens (kinds_of tokens.now) }
+    requires within { at ≤ length tokens.now }
+    ensures read { IsModuleRead name (kinds_of tokens.now) at result }
+    ensures name { IfOk result (λ x. x.pattern.name ≡ name) }
+    ensures place { IfOk result (λ x. (at ≤ x.end) × (x.end ≤ length tokens.now)) }
+{
+    if !peek(tokens, at).is_open() {
+        return Ok(ModuleRead {
+            pattern: PatternModule {
+                name,
+                formals: Vec::new(alloc),
+            },
+            end: at,
+        });
+    }
+    let FormalsRead { formals, end } = formals(alloc, tokens, at + 1)?;
+    Ok(ModuleRead {
+        pattern: PatternModule { name, formals },
+        end,
+    })
+}
+
+// A symbol, where one stands.
+fn symbol(
+    alloc: Global,
+    tokens: &[Token],
+    at: usize,
+    standing: Standing,
+) -> Result<Option<SymbolRead>, LineRefusal>
+    requires forms { AreTokens (kinds_of tokens.now) }
+    requires within { at ≤ length tokens.now }
+    ensures read { IsSymbolRead standing (kinds_of tokens.now) at result }
+    ensures place { IfOk result (λ o. IfSome o (λ x. (at < x.end) × (x.end ≤ length tokens.now))) }
+{
+    let Some(opening) = standing.opening(peek(tokens, at)) else {
+        return Ok(None);
+    };
+    match opening {
+        Opening::Name(name) => {
+            let ModuleRead { pattern, end } = module(alloc, tokens, at + 1, name)?;
+            Ok(Some(SymbolRead {
+                symbol: Pattern::Module(pattern),
+                end,
+            }))
+        }
+        Opening::Push => Ok(Some(SymbolRead {
+            symbol: Pattern::Push,
+            end: at + 1,
+        })),
+        Opening::Pop => Ok(Some(SymbolRead {
+            symbol: Pattern::Pop,
+            end: at + 1,
+        })),
+    }
+}
+
+// How many branches are open behind a symbol.
+fn branches_behind(symbol: &Pattern, branches: usize) -> usize
+    requires { branches < usize.MAX }
+    ensures { result ≡ branches_behind (pattern_of symbol.now) branches }
+{
+    match symbol {
+        Pattern::Module(_) => branches,
+        Pattern::Push => branches + 1,
+        Pattern::Pop => branches.saturating_sub(1),
+    }
+}
+
+// The symbols from a place on.
+pub(crate) fn patterns(
+    alloc: Global,
+    tokens: &[Token],
+    at: usize,
+    section: Section,
+) -> Result<PatternsRead, LineRefusal>
+    requires forms { AreTokens (kinds_of tokens.now) }
+    requires within { at ≤ length tokens.now }
+    ensures read { ArePatternsRead section (kinds_of tokens.now) at result }
+    ensures branches { IfOk result (λ x. x.branches ≡ open_in (reversed (map pattern_of x.symbols.items))) }
+    ensures place { IfOk result (λ x. (at ≤ x.end) × (x.end ≤ length tokens.now)) }
+{
+    let mut symbols = Vec::new(alloc);
+    let mut branches = 0;
+    let mut end = at;
+    'symbols: loop {
+        let standing = Standing {
+            section,
+            is_first: symbols.is_empty(),
+            branches,
+        };
+        let Some(read) = symbol(alloc, tokens, end, standing)? else {
+            return Ok(PatternsRead {
+                symbols,
+                branches,
+                end,
+            });
+        };
+        branches = branches_behind(&read.symbol, branches);
+        symbols.push(read.symbol).map_err(|_| LineRefusal::Memory)?;
+        end = read.end;
+    }
+}

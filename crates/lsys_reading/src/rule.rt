@@ -1,0 +1,72 @@
+//! A whole rule.
+ghost use Rattle.std.specs.Prelude.{◌≡◌, ◌≤◌, length, IfOk};
+ghost use Rattle.lsys_syntax.specs.Sentences.{AreTokens};
+ghost use Rattle.lsys_text.specs.Tokens.{kinds_of};
+ghost use Rattle.lsys_reading.specs.RuleLines.{IsRuleLine, IsRuleRead, IsLineRead};
+
+use crate::form::Form;
+use crate::head::head;
+use crate::images::{Image, successor};
+use crate::patterns::{Pattern, PatternModule};
+use crate::refusal::LineRefusal;
+use crate::span::{Span, arrow, condition, weight};
+use lsys_text::Token;
+use std::alloc::Global;
+
+/// A rule, as its line's tokens spell it. A context that is not there has no symbols.
+#[derive(Drop)]
+pub struct RuleLine {
+    pub left: Vec<Pattern>,
+    pub predecessor: PatternModule,
+    pub right: Vec<Pattern>,
+    pub condition: Option<Span>,
+    pub weight: Option<Span>,
+    pub successor: Vec<Image>,
+}
+
+/// The rule that the tokens from a place on are, up to the line's end: behind the colon of a line that begins with
+/// `production` or `hom`.
+///
+/// # Errors
+///
+/// `Token` and `Deep` have the place of the first token with which no such line goes on, and `Memory` is want of memory.
+pub fn rule_line(
+    alloc: Global,
+    tokens: &[Token],
+    at: usize,
+    form: Form,
+) -> Result<RuleLine, LineRefusal>
+    requires forms { AreTokens (kinds_of tokens.now) }
+    requires within { at ≤ length tokens.now }
+    ensures read { IsLineRead form (kinds_of tokens.now) at result }
+    ensures spans { IfOk result (λ r. IsRuleLine (kinds_of tokens.now) r) }
+{
+    rule_parts(alloc, tokens, at, form)
+}
+
+// The same, by the machine of rules alone.
+fn rule_parts(
+    alloc: Global,
+    tokens: &[Token],
+    at: usize,
+    form: Form,
+) -> Result<RuleLine, LineRefusal>
+    requires forms { AreTokens (kinds_of tokens.now) }
+    requires within { at ≤ length tokens.now }
+    ensures read { IsRuleRead form (kinds_of tokens.now) at result }
+    ensures spans { IfOk result (λ r. IsRuleLine (kinds_of tokens.now) r) }
+{
+    let head = head(alloc, tokens, at, form)?;
+    let condition = condition(tokens, head.end)?;
+    let weight = weight(tokens, condition.end, form)?;
+    let end = arrow(tokens, weight.end)?;
+    let successor = successor(alloc, tokens, end, form)?;
+    Ok(RuleLine {
+        left: head.left,
+        predecessor: head.predecessor,
+        right: head.right,
+        condition: condition.span,
+        weight: weight.span,
+        successor,
+    })
+}
