@@ -1,12 +1,12 @@
 //! The formals of a module.
 ghost use Rattle.std.specs.Prelude.{◌≡◌, ◌≤◌, ◌<◌, length, IfOk};
-ghost use Rattle.lsys_syntax.specs.Sentences.{AreTokens};
-ghost use Rattle.lsys_text.specs.Tokens.{kinds_of};
+ghost use Rattle.lsys_reading.specs.Tokens.{kinds_in, size};
 ghost use Rattle.lsys_reading.specs.Reads.{IsFormalRead, AreFormalsRead};
 
 use crate::glyph::{Separator, peek};
 use crate::refusal::LineRefusal;
-use lsys_text::{Name, Token};
+use crate::line_tokens::LineTokens;
+use lsys_text::Name;
 use std::alloc::Global;
 
 /// A formal, and what stands behind it.
@@ -24,15 +24,14 @@ pub(crate) struct FormalsRead {
 }
 
 // A formal at a place, and what stands behind it.
-fn formal(tokens: &[Token], at: usize) -> Result<FormalRead, LineRefusal>
-    requires forms { AreTokens (kinds_of tokens.now) }
-    requires within { at ≤ length tokens.now }
-    ensures { IsFormalRead (kinds_of tokens.now) at result }
+fn formal(line: &LineTokens, at: usize) -> Result<FormalRead, LineRefusal>
+    requires within { at ≤ size line.now }
+    ensures { IsFormalRead (kinds_in line.now) at result }
 {
-    let Some(name) = peek(tokens, at).formal() else {
+    let Some(name) = peek(line, at).formal() else {
         return Err(LineRefusal::Token { place: at });
     };
-    let Some(separator) = peek(tokens, at + 1).separator() else {
+    let Some(separator) = peek(line, at + 1).separator() else {
         return Err(LineRefusal::Token { place: at + 1 });
     };
     Ok(FormalRead { name, separator })
@@ -41,19 +40,18 @@ fn formal(tokens: &[Token], at: usize) -> Result<FormalRead, LineRefusal>
 // The formals behind a parenthesis.
 pub(crate) fn formals(
     alloc: Global,
-    tokens: &[Token],
+    line: &LineTokens,
     at: usize,
 ) -> Result<FormalsRead, LineRefusal>
-    requires forms { AreTokens (kinds_of tokens.now) }
-    requires within { at ≤ length tokens.now }
-    ensures read { AreFormalsRead (kinds_of tokens.now) at result }
+    requires within { at ≤ size line.now }
+    ensures read { AreFormalsRead (kinds_in line.now) at result }
     ensures some { IfOk result (λ f. 0 < length f.formals.items) }
-    ensures place { IfOk result (λ f. (at < f.end) × (f.end ≤ length tokens.now)) }
+    ensures place { IfOk result (λ f. (at < f.end) × (f.end ≤ size line.now)) }
 {
     let mut formals = Vec::new(alloc);
     let mut end = at;
     'formals: loop {
-        let read = formal(tokens, end)?;
+        let read = formal(line, end)?;
         formals.push(read.name).map_err(|_| LineRefusal::Memory)?;
         end += 2;
         if read.separator == Separator::Close {

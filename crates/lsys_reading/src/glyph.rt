@@ -1,11 +1,12 @@
 //! What a token is to a rule.
-ghost use Rattle.std.specs.Prelude.{◌≡◌, [], drop, MatchOption};
-ghost use Rattle.lsys_reading.specs.Points.{Here};
-ghost use Rattle.lsys_syntax.specs.Sentences.{AreTokens, IsToken};
-ghost use Rattle.lsys_text.specs.Tokens.{kind_of, kinds_of, mark_kind};
+ghost use Rattle.std.specs.Prelude.{◌≡◌};
+ghost use Rattle.lsys_syntax.specs.Sentences.{IsToken};
+ghost use Rattle.lsys_text.specs.Tokens.{kind_of, mark_kind};
+ghost use Rattle.lsys_reading.specs.Tokens.{kinds_in};
 ghost use Rattle.lsys_reading.specs.Glyphs.{IsGlyph, IsPeeked, formal_of, separator_of, is_open, is_colon, is_arrow};
 
-use lsys_text::{Name, Token, TokenKind};
+use crate::line_tokens::LineTokens;
+use lsys_text::{Name, TokenKind};
 
 /// What stands between formals or parameters, or behind the last one.
 #[derive(Clone, Copy, PartialEq, Eq, Debug)]
@@ -49,19 +50,11 @@ pub(crate) enum Glyph {
     End,
 }
 
-// The token at a place.
-fn token_at(tokens: &[Token], at: usize) -> Option<&Token>
-    ensures { MatchOption result (drop at (kinds_of tokens.now) ≡ []) (λ t. Here (kinds_of tokens.now) at (kind_of t.now.kind)) }
-{
-    tokens.get(at)
-}
-
 // What stands at a place.
-pub(crate) fn peek(tokens: &[Token], at: usize) -> Glyph
-    requires forms { AreTokens (kinds_of tokens.now) }
-    ensures { IsPeeked (kinds_of tokens.now) at result }
+pub(crate) fn peek(line: &LineTokens, at: usize) -> Glyph
+    ensures { IsPeeked (kinds_in line.now) at result }
 {
-    match token_at(tokens, at) {
+    match line.at(at) {
         Some(token) => Glyph::of(token.kind),
         None => Glyph::End,
     }

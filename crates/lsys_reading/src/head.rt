@@ -1,14 +1,13 @@
 //! A rule up to its right context.
 ghost use Rattle.std.specs.Prelude.{◌≡◌, ◌≤◌, length, map, IfOk};
-ghost use Rattle.lsys_syntax.specs.Sentences.{AreTokens};
-ghost use Rattle.lsys_text.specs.Tokens.{kinds_of};
+ghost use Rattle.lsys_reading.specs.Tokens.{kinds_in, size};
 ghost use Rattle.lsys_reading.specs.Heads.{only_of, IsSingle, IsContext, IsPredecessorRead, IsRightRead, IsHeadRead};
 
 use crate::form::Form;
 use crate::glyph::peek;
 use crate::patterns::{Pattern, PatternModule, PatternsRead, Section, patterns};
 use crate::refusal::LineRefusal;
-use lsys_text::Token;
+use crate::line_tokens::LineTokens;
 use std::alloc::Global;
 
 /// A left context and a predecessor, up to the token behind them.
@@ -70,20 +69,19 @@ fn single(
 // A predecessor, with its left context where there is one.
 fn predecessor(
     alloc: Global,
-    tokens: &[Token],
+    line: &LineTokens,
     at: usize,
     form: Form,
 ) -> Result<PredecessorRead, LineRefusal>
-    requires forms { AreTokens (kinds_of tokens.now) }
-    requires within { at ≤ length tokens.now }
-    ensures read { IsPredecessorRead form (kinds_of tokens.now) at result }
-    ensures place { IfOk result (λ x. x.end ≤ length tokens.now) }
+    requires within { at ≤ size line.now }
+    ensures read { IsPredecessorRead form (kinds_in line.now) at result }
+    ensures place { IfOk result (λ x. x.end ≤ size line.now) }
 {
-    let first = patterns(alloc, tokens, at, form.first_section())?;
-    if !form.takes_left(first.symbols.is_empty(), peek(tokens, first.end)) {
+    let first = patterns(alloc, line, at, form.first_section())?;
+    if !form.takes_left(first.symbols.is_empty(), peek(line, first.end)) {
         return single(Vec::new(alloc), first.symbols, first.end);
     }
-    let second = patterns(alloc, tokens, first.end + 1, Section::Alone)?;
+    let second = patterns(alloc, line, first.end + 1, Section::Alone)?;
     single(first.symbols, second.symbols, second.end)
 }
 
@@ -95,19 +93,18 @@ fn is_context(read: &PatternsRead) -> bool
 }
 
 // A right context, where there is one.
-fn right(alloc: Global, tokens: &[Token], at: usize, form: Form) -> Result<RightRead, LineRefusal>
-    requires forms { AreTokens (kinds_of tokens.now) }
-    requires within { at ≤ length tokens.now }
-    ensures read { IsRightRead form (kinds_of tokens.now) at result }
-    ensures place { IfOk result (λ x. x.end ≤ length tokens.now) }
+fn right(alloc: Global, line: &LineTokens, at: usize, form: Form) -> Result<RightRead, LineRefusal>
+    requires within { at ≤ size line.now }
+    ensures read { IsRightRead form (kinds_in line.now) at result }
+    ensures place { IfOk result (λ x. x.end ≤ size line.now) }
 {
-    if !form.takes_right(peek(tokens, at)) {
+    if !form.takes_right(peek(line, at)) {
         return Ok(RightRead {
             right: Vec::new(alloc),
             end: at,
         });
     }
-    let read = patterns(alloc, tokens, at + 1, Section::Right)?;
+    let read = patterns(alloc, line, at + 1, Section::Right)?;
     if !is_context(&read) {
         return Err(LineRefusal::Token { place: read.end });
     }
@@ -120,21 +117,20 @@ fn right(alloc: Global, tokens: &[Token], at: usize, form: Form) -> Result<Right
 // Contexts and predecessor.
 pub(crate) fn head(
     alloc: Global,
-    tokens: &[Token],
+    line: &LineTokens,
     at: usize,
     form: Form,
 ) -> Result<HeadRead, LineRefusal>
-    requires forms { AreTokens (kinds_of tokens.now) }
-    requires within { at ≤ length tokens.now }
-    ensures read { IsHeadRead form (kinds_of tokens.now) at result }
-    ensures place { IfOk result (λ x. x.end ≤ length tokens.now) }
+    requires within { at ≤ size line.now }
+    ensures read { IsHeadRead form (kinds_in line.now) at result }
+    ensures place { IfOk result (λ x. x.end ≤ size line.now) }
 {
     let PredecessorRead {
         left,
         predecessor,
         end,
-    } = predecessor(alloc, tokens, at, form)?;
-    let RightRead { right, end } = right(alloc, tokens, end, form)?;
+    } = predecessor(alloc, line, at, form)?;
+    let RightRead { right, end } = right(alloc, line, end, form)?;
     Ok(HeadRead {
         left,
         predecessor,

@@ -1,15 +1,15 @@
 //! The successor of a rule: symbols with expressions.
 ghost use Rattle.std.specs.Prelude.{◌≡◌, ◌≤◌, ◌<◌, ◌+◌, length, IfOk};
-ghost use Rattle.lsys_syntax.specs.Sentences.{AreTokens};
-ghost use Rattle.lsys_text.specs.Tokens.{kinds_of};
+ghost use Rattle.lsys_reading.specs.Tokens.{kinds_in, size};
 ghost use Rattle.lsys_reading.specs.Spans.{IsSpan, AreSpans};
 ghost use Rattle.lsys_reading.specs.Images.{image_opening_of, image_branches, ImageIsAt, ImagesAreAt, IsParamRead, AreParamsRead, IsImageModuleRead, IsImageRead, IsSuccessorRead};
 
 use crate::form::Form;
 use crate::glyph::{Glyph, Separator, peek};
 use crate::refusal::LineRefusal;
+use crate::line_tokens::LineTokens;
 use crate::span::{Span, expression};
-use lsys_text::{Name, Token};
+use lsys_text::Name;
 use std::alloc::Global;
 
 /// A module of a successor, and its parameters.
@@ -91,33 +91,31 @@ fn image_branches(symbol: &Image, branches: usize) -> usize
 }
 
 // A parameter, and what stands behind it.
-fn param(tokens: &[Token], at: usize) -> Result<ParamRead, LineRefusal>
-    requires forms { AreTokens (kinds_of tokens.now) }
-    requires within { at ≤ length tokens.now }
-    ensures read { IsParamRead (kinds_of tokens.now) at result }
-    ensures span { IfOk result (λ x. IsSpan (kinds_of tokens.now) x.span) }
-    ensures place { IfOk result (λ x. (at < x.span.to) × (x.span.to + 1 ≤ length tokens.now)) }
+fn param(line: &LineTokens, at: usize) -> Result<ParamRead, LineRefusal>
+    requires within { at ≤ size line.now }
+    ensures read { IsParamRead (kinds_in line.now) at result }
+    ensures span { IfOk result (λ x. IsSpan (kinds_in line.now) x.span) }
+    ensures place { IfOk result (λ x. (at < x.span.to) × (x.span.to + 1 ≤ size line.now)) }
 {
-    let span = expression(tokens, at)?;
-    match peek(tokens, span.to).separator() {
+    let span = expression(line, at)?;
+    match peek(line, span.to).separator() {
         Some(separator) => Ok(ParamRead { span, separator }),
         None => Err(LineRefusal::Token { place: span.to }),
     }
 }
 
 // The parameters behind a parenthesis.
-fn params(alloc: Global, tokens: &[Token], at: usize) -> Result<ParamsRead, LineRefusal>
-    requires forms { AreTokens (kinds_of tokens.now) }
-    requires within { at ≤ length tokens.now }
-    ensures read { AreParamsRead (kinds_of tokens.now) at result }
+fn params(alloc: Global, line: &LineTokens, at: usize) -> Result<ParamsRead, LineRefusal>
+    requires within { at ≤ size line.now }
+    ensures read { AreParamsRead (kinds_in line.now) at result }
     ensures some { IfOk result (λ x. 0 < length x.params.items) }
-    ensures spans { IfOk result (λ x. AreSpans (kinds_of tokens.now) x.params.items) }
-    ensures place { IfOk result (λ x. (at < x.end) × (x.end ≤ length tokens.now)) }
+    ensures spans { IfOk result (λ x. AreSpans (kinds_in line.now) x.params.items) }
+    ensures place { IfOk result (λ x. (at < x.end) × (x.end ≤ size line.now)) }
 {
     let mut params = Vec::new(alloc);
     let mut end = at;
     'params: loop {
-        let read = param(tokens, end)?;
+        let read = param(line, end)?;
         params.push(read.span).map_err(|_| LineRefusal::Memory)?;
         end = read.span.to + 1;
         if read.separator == Separator::Close {
@@ -129,17 +127,16 @@ fn params(alloc: Global, tokens: &[Token], at: usize) -> Result<ParamsRead, Line
 // A module behind its name.
 fn image_module(
     alloc: Global,
-    tokens: &[Token],
+    line: &LineTokens,
     at: usize,
     name: Name,
 ) -> Result<ImageModuleRead, LineRefusal>
-    requires forms { AreTokens (kinds_of tokens.now) }
-    requires within { at ≤ length tokens.now }
-    ensures read { IsImageModuleRead name (kinds_of tokens.now) at result }
-    ensures spans { IfOk result (λ x. AreSpans (kinds_of tokens.now) x.image.params.items) }
-    ensures place { IfOk result (λ x. (at ≤ x.end) × (x.end ≤ length tokens.now)) }
+    requires within { at ≤ size line.now }
+    ensures read { IsImageModuleRead name (kinds_in line.now) at result }
+    ensures spans { IfOk result (λ x. AreSpans (kinds_in line.now) x.image.params.items) }
+    ensures place { IfOk result (λ x. (at ≤ x.end) × (x.end ≤ size line.now)) }
 {
-    if !peek(tokens, at).is_open() {
+    if !peek(line, at).is_open() {
         return Ok(ImageModuleRead {
             image: ImageModule {
                 name,
@@ -148,7 +145,7 @@ fn image_module(
             end: at,
         });
     }
-    let ParamsRead { params, end } = params(alloc, tokens, at + 1)?;
+    let ParamsRead { params, end } = params(alloc, line, at + 1)?;
     Ok(ImageModuleRead {
         image: ImageModule { name, params },
         end,
@@ -158,24 +155,23 @@ fn image_module(
 // A symbol.
 fn image_symbol(
     alloc: Global,
-    tokens: &[Token],
+    line: &LineTokens,
     at: usize,
     form: Form,
     branches: usize,
 ) -> Result<ImageRead, LineRefusal>
-    requires forms { AreTokens (kinds_of tokens.now) }
-    requires within { at < length tokens.now }
-    ensures read { IsImageRead form branches (kinds_of tokens.now) at result }
-    ensures spans { IfOk result (λ x. ImageIsAt (kinds_of tokens.now) x.symbol) }
-    ensures place { IfOk result (λ x. (at < x.end) × (x.end ≤ length tokens.now)) }
+    requires within { at < size line.now }
+    ensures read { IsImageRead form branches (kinds_in line.now) at result }
+    ensures spans { IfOk result (λ x. ImageIsAt (kinds_in line.now) x.symbol) }
+    ensures place { IfOk result (λ x. (at < x.end) × (x.end ≤ size line.now)) }
 {
-    let Some(opening) = image_opening(form, branches, peek(tokens, at)) else {
+    let Some(opening) = image_opening(form, branches, peek(line, at)) else {
         return Err(LineRefusal::Token { place: at });
     };
     let end = at + 1;
     let symbol = match opening {
         ImageOpening::Name(name) => {
-            let ImageModuleRead { image, end } = image_module(alloc, tokens, end, name)?;
+            let ImageModuleRead { image, end } = image_module(alloc, line, end, name)?;
             return Ok(ImageRead {
                 symbol: Image::Module(image),
                 end,
@@ -191,20 +187,19 @@ fn image_symbol(
 // The symbols up to the line's end.
 pub(crate) fn successor(
     alloc: Global,
-    tokens: &[Token],
+    line: &LineTokens,
     at: usize,
     form: Form,
 ) -> Result<Vec<Image>, LineRefusal>
-    requires forms { AreTokens (kinds_of tokens.now) }
-    requires within { at ≤ length tokens.now }
-    ensures read { IsSuccessorRead form (kinds_of tokens.now) at result }
-    ensures spans { IfOk result (λ x. ImagesAreAt (kinds_of tokens.now) x.items) }
+    requires within { at ≤ size line.now }
+    ensures read { IsSuccessorRead form (kinds_in line.now) at result }
+    ensures spans { IfOk result (λ x. ImagesAreAt (kinds_in line.now) x.items) }
 {
     let mut symbols = Vec::new(alloc);
     let mut branches = 0;
     let mut end = at;
-    'symbols: while end < tokens.len() {
-        let read = image_symbol(alloc, tokens, end, form, branches)?;
+    'symbols: while end < line.len() {
+        let read = image_symbol(alloc, line, end, form, branches)?;
         branches = image_branches(&read.symbol, branches);
         symbols.push(read.symbol).map_err(|_| LineRefusal::Memory)?;
         end = read.end;

@@ -1,14 +1,14 @@
 //! Symbols with formals: the contexts of a rule, and its predecessor.
 ghost use Rattle.std.specs.Prelude.{◌≡◌, ◌≤◌, ◌<◌, length, map, IfOk, IfSome};
 ghost use Rattle.lsys_syntax.specs.RuleMachine.{reversed, open_in};
-ghost use Rattle.lsys_syntax.specs.Sentences.{AreTokens};
-ghost use Rattle.lsys_text.specs.Tokens.{kinds_of};
+ghost use Rattle.lsys_reading.specs.Tokens.{kinds_in, size};
 ghost use Rattle.lsys_reading.specs.Patterns.{pattern_of, takes_name, opening_of, branches_behind, IsModuleRead, IsSymbolRead, ArePatternsRead};
 
 use crate::formals::{FormalsRead, formals};
 use crate::glyph::{Glyph, peek};
 use crate::refusal::LineRefusal;
-use lsys_text::{Name, Token};
+use crate::line_tokens::LineTokens;
+use lsys_text::Name;
 use std::alloc::Global;
 
 /// A module of a context, or a predecessor.
@@ -100,14 +100,13 @@ impl Standing {
 }
 
 // A module behind its name.
-fn module(alloc: Global, tokens: &[Token], at: usize, name: Name) -> Result<ModuleRead, LineRefusal>
-    requires forms { AreTokens (kinds_of tokens.now) }
-    requires within { at ≤ length tokens.now }
-    ensures read { IsModuleRead name (kinds_of tokens.now) at result }
+fn module(alloc: Global, line: &LineTokens, at: usize, name: Name) -> Result<ModuleRead, LineRefusal>
+    requires within { at ≤ size line.now }
+    ensures read { IsModuleRead name (kinds_in line.now) at result }
     ensures name { IfOk result (λ x. x.pattern.name ≡ name) }
-    ensures place { IfOk result (λ x. (at ≤ x.end) × (x.end ≤ length tokens.now)) }
+    ensures place { IfOk result (λ x. (at ≤ x.end) × (x.end ≤ size line.now)) }
 {
-    if !peek(tokens, at).is_open() {
+    if !peek(line, at).is_open() {
         return Ok(ModuleRead {
             pattern: PatternModule {
                 name,
@@ -116,7 +115,7 @@ fn module(alloc: Global, tokens: &[Token], at: usize, name: Name) -> Result<Modu
             end: at,
         });
     }
-    let FormalsRead { formals, end } = formals(alloc, tokens, at + 1)?;
+    let FormalsRead { formals, end } = formals(alloc, line, at + 1)?;
     Ok(ModuleRead {
         pattern: PatternModule { name, formals },
         end,
@@ -126,21 +125,20 @@ fn module(alloc: Global, tokens: &[Token], at: usize, name: Name) -> Result<Modu
 // A symbol, where one stands.
 fn symbol(
     alloc: Global,
-    tokens: &[Token],
+    line: &LineTokens,
     at: usize,
     standing: Standing,
 ) -> Result<Option<SymbolRead>, LineRefusal>
-    requires forms { AreTokens (kinds_of tokens.now) }
-    requires within { at ≤ length tokens.now }
-    ensures read { IsSymbolRead standing (kinds_of tokens.now) at result }
-    ensures place { IfOk result (λ o. IfSome o (λ x. (at < x.end) × (x.end ≤ length tokens.now))) }
+    requires within { at ≤ size line.now }
+    ensures read { IsSymbolRead standing (kinds_in line.now) at result }
+    ensures place { IfOk result (λ o. IfSome o (λ x. (at < x.end) × (x.end ≤ size line.now))) }
 {
-    let Some(opening) = standing.opening(peek(tokens, at)) else {
+    let Some(opening) = standing.opening(peek(line, at)) else {
         return Ok(None);
     };
     match opening {
         Opening::Name(name) => {
-            let ModuleRead { pattern, end } = module(alloc, tokens, at + 1, name)?;
+            let ModuleRead { pattern, end } = module(alloc, line, at + 1, name)?;
             Ok(Some(SymbolRead {
                 symbol: Pattern::Module(pattern),
                 end,
@@ -172,15 +170,14 @@ fn branches_behind(symbol: &Pattern, branches: usize) -> usize
 // The symbols from a place on.
 pub(crate) fn patterns(
     alloc: Global,
-    tokens: &[Token],
+    line: &LineTokens,
     at: usize,
     section: Section,
 ) -> Result<PatternsRead, LineRefusal>
-    requires forms { AreTokens (kinds_of tokens.now) }
-    requires within { at ≤ length tokens.now }
-    ensures read { ArePatternsRead section (kinds_of tokens.now) at result }
+    requires within { at ≤ size line.now }
+    ensures read { ArePatternsRead section (kinds_in line.now) at result }
     ensures branches { IfOk result (λ x. x.branches ≡ open_in (reversed (map pattern_of x.symbols.items))) }
-    ensures place { IfOk result (λ x. (at ≤ x.end) × (x.end ≤ length tokens.now)) }
+    ensures place { IfOk result (λ x. (at ≤ x.end) × (x.end ≤ size line.now)) }
 {
     let mut symbols = Vec::new(alloc);
     let mut branches = 0;
@@ -191,7 +188,7 @@ pub(crate) fn patterns(
             is_first: symbols.is_empty(),
             branches,
         };
-        let Some(read) = symbol(alloc, tokens, end, standing)? else {
+        let Some(read) = symbol(alloc, line, end, standing)? else {
             return Ok(PatternsRead {
                 symbols,
                 branches,

@@ -1,7 +1,6 @@
 //! A whole rule.
 ghost use Rattle.std.specs.Prelude.{◌≡◌, ◌≤◌, length, IfOk};
-ghost use Rattle.lsys_syntax.specs.Sentences.{AreTokens};
-ghost use Rattle.lsys_text.specs.Tokens.{kinds_of};
+ghost use Rattle.lsys_reading.specs.Tokens.{kinds_in, size};
 ghost use Rattle.lsys_reading.specs.RuleLines.{IsRuleLine, IsRuleRead, IsLineRead};
 
 use crate::form::Form;
@@ -9,8 +8,8 @@ use crate::head::head;
 use crate::images::{Image, successor};
 use crate::patterns::{Pattern, PatternModule};
 use crate::refusal::LineRefusal;
+use crate::line_tokens::LineTokens;
 use crate::span::{Span, arrow, condition, weight};
-use lsys_text::Token;
 use std::alloc::Global;
 
 /// A rule, as its line's tokens spell it. A context that is not there has no symbols.
@@ -32,35 +31,33 @@ pub struct RuleLine {
 /// `Token` and `Deep` have the place of the first token with which no such line goes on, and `Memory` is want of memory.
 pub fn rule_line(
     alloc: Global,
-    tokens: &[Token],
+    line: &LineTokens,
     at: usize,
     form: Form,
 ) -> Result<RuleLine, LineRefusal>
-    requires forms { AreTokens (kinds_of tokens.now) }
-    requires within { at ≤ length tokens.now }
-    ensures read { IsLineRead form (kinds_of tokens.now) at result }
-    ensures spans { IfOk result (λ r. IsRuleLine (kinds_of tokens.now) r) }
+    requires within { at ≤ size line.now }
+    ensures read { IsLineRead form (kinds_in line.now) at result }
+    ensures spans { IfOk result (λ r. IsRuleLine (kinds_in line.now) r) }
 {
-    rule_parts(alloc, tokens, at, form)
+    rule_parts(alloc, line, at, form)
 }
 
 // The same, by the machine of rules alone.
 fn rule_parts(
     alloc: Global,
-    tokens: &[Token],
+    line: &LineTokens,
     at: usize,
     form: Form,
 ) -> Result<RuleLine, LineRefusal>
-    requires forms { AreTokens (kinds_of tokens.now) }
-    requires within { at ≤ length tokens.now }
-    ensures read { IsRuleRead form (kinds_of tokens.now) at result }
-    ensures spans { IfOk result (λ r. IsRuleLine (kinds_of tokens.now) r) }
+    requires within { at ≤ size line.now }
+    ensures read { IsRuleRead form (kinds_in line.now) at result }
+    ensures spans { IfOk result (λ r. IsRuleLine (kinds_in line.now) r) }
 {
-    let head = head(alloc, tokens, at, form)?;
-    let condition = condition(tokens, head.end)?;
-    let weight = weight(tokens, condition.end, form)?;
-    let end = arrow(tokens, weight.end)?;
-    let successor = successor(alloc, tokens, end, form)?;
+    let head = head(alloc, line, at, form)?;
+    let condition = condition(line, head.end)?;
+    let weight = weight(line, condition.end, form)?;
+    let end = arrow(line, weight.end)?;
+    let successor = successor(alloc, line, end, form)?;
     Ok(RuleLine {
         left: head.left,
         predecessor: head.predecessor,

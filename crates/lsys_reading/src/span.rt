@@ -1,14 +1,14 @@
 //! The expressions of a rule, and what stands between them.
 ghost use Rattle.std.specs.Prelude.{◌≡◌, ◌≤◌, ◌<◌, length, IfOk};
-ghost use Rattle.lsys_syntax.specs.Sentences.{AreTokens};
-ghost use Rattle.lsys_text.specs.Tokens.{kinds_of};
+ghost use Rattle.lsys_reading.specs.Tokens.{kinds_in, size};
 ghost use Rattle.lsys_reading.specs.Spans.{refusal_of, IsSpan, ConditionIsSpan, IsExpressionRead, IsConditionRead, IsWeightRead, IsArrowRead};
 
 use crate::form::Form;
 use crate::glyph::peek;
 use crate::refusal::LineRefusal;
+use crate::line_tokens::LineTokens;
 use lsys_expr::scan_expr;
-use lsys_text::{PlaceRefusal, Token};
+use lsys_text::PlaceRefusal;
 
 /// The tokens of an expression: from number `from` up to number `to`, that one left out.
 #[derive(Clone, Copy, PartialEq, Eq, Debug)]
@@ -34,34 +34,32 @@ fn refusal_of(refusal: PlaceRefusal) -> LineRefusal
 }
 
 // An expression.
-pub(crate) fn expression(tokens: &[Token], at: usize) -> Result<Span, LineRefusal>
-    requires forms { AreTokens (kinds_of tokens.now) }
-    requires within { at ≤ length tokens.now }
-    ensures read { IsExpressionRead (kinds_of tokens.now) at result }
-    ensures span { IfOk result (λ s. IsSpan (kinds_of tokens.now) s) }
-    ensures place { IfOk result (λ s. (at < s.to) × (s.to ≤ length tokens.now)) }
+pub(crate) fn expression(line: &LineTokens, at: usize) -> Result<Span, LineRefusal>
+    requires within { at ≤ size line.now }
+    ensures read { IsExpressionRead (kinds_in line.now) at result }
+    ensures span { IfOk result (λ s. IsSpan (kinds_in line.now) s) }
+    ensures place { IfOk result (λ s. (at < s.to) × (s.to ≤ size line.now)) }
 {
-    match scan_expr(tokens, at) {
+    match scan_expr(&line.tokens, at) {
         Ok(to) => Ok(Span { from: at, to }),
         Err(refusal) => Err(refusal_of(refusal)),
     }
 }
 
 // A condition behind its colon, where there is one.
-pub(crate) fn condition(tokens: &[Token], at: usize) -> Result<OptionRead, LineRefusal>
-    requires forms { AreTokens (kinds_of tokens.now) }
-    requires within { at ≤ length tokens.now }
-    ensures read { IsConditionRead (kinds_of tokens.now) at result }
-    ensures span { IfOk result (λ x. ConditionIsSpan (kinds_of tokens.now) x.span) }
-    ensures place { IfOk result (λ x. x.end ≤ length tokens.now) }
+pub(crate) fn condition(line: &LineTokens, at: usize) -> Result<OptionRead, LineRefusal>
+    requires within { at ≤ size line.now }
+    ensures read { IsConditionRead (kinds_in line.now) at result }
+    ensures span { IfOk result (λ x. ConditionIsSpan (kinds_in line.now) x.span) }
+    ensures place { IfOk result (λ x. x.end ≤ size line.now) }
 {
-    if !peek(tokens, at).is_colon() {
+    if !peek(line, at).is_colon() {
         return Ok(OptionRead {
             span: None,
             end: at,
         });
     }
-    let span = expression(tokens, at + 1)?;
+    let span = expression(line, at + 1)?;
     Ok(OptionRead {
         span: Some(span),
         end: span.to,
@@ -69,20 +67,19 @@ pub(crate) fn condition(tokens: &[Token], at: usize) -> Result<OptionRead, LineR
 }
 
 // A weight behind its `@`, where there is one.
-pub(crate) fn weight(tokens: &[Token], at: usize, form: Form) -> Result<OptionRead, LineRefusal>
-    requires forms { AreTokens (kinds_of tokens.now) }
-    requires within { at ≤ length tokens.now }
-    ensures read { IsWeightRead form (kinds_of tokens.now) at result }
-    ensures span { IfOk result (λ x. ConditionIsSpan (kinds_of tokens.now) x.span) }
-    ensures place { IfOk result (λ x. x.end ≤ length tokens.now) }
+pub(crate) fn weight(line: &LineTokens, at: usize, form: Form) -> Result<OptionRead, LineRefusal>
+    requires within { at ≤ size line.now }
+    ensures read { IsWeightRead form (kinds_in line.now) at result }
+    ensures span { IfOk result (λ x. ConditionIsSpan (kinds_in line.now) x.span) }
+    ensures place { IfOk result (λ x. x.end ≤ size line.now) }
 {
-    if !form.takes_weight(peek(tokens, at)) {
+    if !form.takes_weight(peek(line, at)) {
         return Ok(OptionRead {
             span: None,
             end: at,
         });
     }
-    let span = expression(tokens, at + 1)?;
+    let span = expression(line, at + 1)?;
     Ok(OptionRead {
         span: Some(span),
         end: span.to,
@@ -90,13 +87,12 @@ pub(crate) fn weight(tokens: &[Token], at: usize, form: Form) -> Result<OptionRe
 }
 
 // The arrow; the place behind it.
-pub(crate) fn arrow(tokens: &[Token], at: usize) -> Result<usize, LineRefusal>
-    requires forms { AreTokens (kinds_of tokens.now) }
-    requires within { at ≤ length tokens.now }
-    ensures read { IsArrowRead (kinds_of tokens.now) at result }
-    ensures place { IfOk result (λ end. end ≤ length tokens.now) }
+pub(crate) fn arrow(line: &LineTokens, at: usize) -> Result<usize, LineRefusal>
+    requires within { at ≤ size line.now }
+    ensures read { IsArrowRead (kinds_in line.now) at result }
+    ensures place { IfOk result (λ end. end ≤ size line.now) }
 {
-    if peek(tokens, at).is_arrow() {
+    if peek(line, at).is_arrow() {
         Ok(at + 1)
     } else {
         Err(LineRefusal::Token { place: at })

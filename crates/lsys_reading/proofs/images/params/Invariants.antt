@@ -1,10 +1,10 @@
 use Rattle.std.proofs.Common.{◌-◌, length}
-use Rattle.lsys_text.specs.Tokens.{kinds_of}
+use Rattle.lsys_reading.specs.Tokens.{kinds_in, size}
 use Rattle.lsys_reading.proofs.ImageLaws.{ParamsSoFar}
 use Rattle.lsys_reading.proofs.images.params.Given as goal
 
 abbrev pub invariant-params : goal.invariant-params
-invariant-params l = ParamsSoFar (kinds_of l.tokens) l.at l.end l.params.items
+invariant-params l = ParamsSoFar (kinds_in l.line) l.at l.end l.params.items
 
 abbrev pub decreases-params : goal.decreases-params
-decreases-params l = length l.tokens - l.end
+decreases-params l = size l.line - l.end
