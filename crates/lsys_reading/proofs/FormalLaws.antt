@@ -13,8 +13,8 @@ use Rattle.lsys_reading.specs.Points.{at_state, stops, verdict_at, Leads}
 use Rattle.lsys_reading.specs.Glyphs.{IsMark, is_other, IsPeeked, formal_of, separator_of}
 use Rattle.lsys_reading.specs.Reads.{after_formal, IsFormalRead, AreFormalsRead}
 use Rattle.lsys_reading.proofs.ReadLaws.{refuses-on}
-use Rattle.lsys_reading.specs.declared.refusal.LineRefusal.{LineRefusal}
-use Rattle.lsys_reading.specs.declared.refusal.LineRefusal.TheVariants.{Token}
+use Rattle.lsys_reading.specs.declared.refusal.PartRefusal.{PartRefusal}
+use Rattle.lsys_reading.specs.declared.refusal.PartRefusal.TheVariants.{Token}
 use Rattle.lsys_reading.specs.declared.formals.FormalsRead.{FormalsRead}
 use Rattle.lsys_reading.proofs.PointLaws.{IsGone, leads-on, leads-stay, leads-token, stops-token, stops-end}
 use Rattle.lsys_reading.proofs.Reversals.{mapped-push, mapped-whole}
@@ -48,7 +48,7 @@ module _ (ks : List Kind) (at end : ℕ) (fs : List (List ℕ)) (f : Formal) (so
       (subst (λ s. Leads m ks at (at_state (FormalDue p r n [])) (end + 2) (at_state (after_formal s p r n (name_of f.name ∷ reversed (map name_of fs))))) e (further m p r n)))
 
 -- the next one is refused
-pub formals-refused : (ks : List Kind) (at end : ℕ) (fs : List (List ℕ)) (e : LineRefusal) → FormalsSoFar ks at end fs → IsFormalRead ks end (Err e) → AreFormalsRead ks at (Err e)
+pub formals-refused : (ks : List Kind) (at end : ℕ) (fs : List (List ℕ)) (e : PartRefusal) → FormalsSoFar ks at end fs → IsFormalRead ks end (Err e) → AreFormalsRead ks at (Err e)
 formals-refused ks at end fs e so one = λ m p r n.
     refuses-on m ks at end (at_state (FormalDue p r n [])) (at_state (FormalDue p r n (reversed (map name_of fs)))) e (so.read m p r n) (one m p r n (reversed (map name_of fs)))
 

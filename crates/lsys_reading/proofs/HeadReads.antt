@@ -5,8 +5,8 @@ use Rattle.lsys_syntax.specs.Tokens.{NameText, Kind}
 use Rattle.lsys_syntax.specs.Strings.{ModuleName, Symbol}
 use Rattle.lsys_syntax.specs.RuleMachine.{Part, at_first, at_predecessor, at_right, Formals, open_in, start}
 use Rattle.lsys_module.specs.Views.{module_name}
-use Rattle.lsys_reading.specs.declared.refusal.LineRefusal.{LineRefusal}
-use Rattle.lsys_reading.specs.declared.refusal.LineRefusal.TheVariants.{Token, Deep, Memory}
+use Rattle.lsys_reading.specs.declared.refusal.PartRefusal.{PartRefusal}
+use Rattle.lsys_reading.specs.declared.refusal.PartRefusal.TheVariants.{Token, Deep, Memory}
 use Rattle.lsys_reading.specs.declared.glyph.Glyph.{Glyph}
 use Rattle.lsys_reading.specs.declared.form.Form.{Form}
 use Rattle.lsys_reading.specs.declared.patterns.Pattern.{Pattern}
@@ -27,7 +27,7 @@ use Rattle.lsys_reading.proofs.HeadLaws.{NoLess, no-less, IsBefore, predecessor-
 
 module _ (f : Form) (ks : List Kind) (at : ℕ) (p : Part) (left xs : List Pattern) (end : ℕ) (before : IsBefore p (patterns_of left))
     (read : Leads (form_in f) ks at (at_state start) end (after_symbols p (so_far xs))) (none : NoLess (form_in f) ks end p (so_far xs)) where
-  pub single-read : (result : Result PredecessorRead LineRefusal) → IsSingle left xs end result → IsPredecessorRead f ks at result
+  pub single-read : (result : Result PredecessorRead PartRefusal) → IsSingle left xs end result → IsPredecessorRead f ks at result
   single-read (Ok x) h =
       let n = module_name x.predecessor.name in
       let fs = formals_of x.predecessor in
@@ -46,7 +46,7 @@ module _ (f : Form) (ks : List Kind) (at : ℕ) (p : Part) (left xs : List Patte
 module _ (f : Form) (ks : List Kind) (at : ℕ) (s : Section) (first : IsSection s (form_in f) at_first) (a : PatternsRead) (read : ArePatternsRead s ks at (Ok a)) (b : Bool) (g : Glyph)
     (h : IsPeeked ks a.end g) (e : b ≡ is_empty a.symbols.items) where
   -- no left context
-  pub first-read : (left : List Pattern) → left ≡ [] → (result : Result PredecessorRead LineRefusal) → takes_left f b g ≡ false → IsSingle left a.symbols.items a.end result → IsPredecessorRead f ks at result
+  pub first-read : (left : List Pattern) → left ≡ [] → (result : Result PredecessorRead PartRefusal) → takes_left f b g ≡ false → IsSingle left a.symbols.items a.end result → IsPredecessorRead f ks at result
   first-read left none result t i =
       single-read f ks at at_first left a.symbols.items a.end (ap patterns_of none) (read (form_in f) at_first first) (left-not f ks a.end a.symbols.items b g h e t) result i
 
@@ -59,14 +59,14 @@ module _ (f : Form) (ks : List Kind) (at : ℕ) (s : Section) (first : IsSection
     alone : IsSection Alone (form_in f) (at_predecessor (patterns_of a.symbols.items))
     alone = subst (λ m. IsSection Alone m (at_predecessor (patterns_of a.symbols.items))) (sym (left-goes f ks a.end a.symbols.items b g h e t).0) tt
 
-    pub second-read : (c : PatternsRead) → ArePatternsRead Alone ks (a.end + 1) (Ok c) → (result : Result PredecessorRead LineRefusal) → IsSingle a.symbols.items c.symbols.items c.end result → IsPredecessorRead f ks at result
+    pub second-read : (c : PatternsRead) → ArePatternsRead Alone ks (a.end + 1) (Ok c) → (result : Result PredecessorRead PartRefusal) → IsSingle a.symbols.items c.symbols.items c.end result → IsPredecessorRead f ks at result
     second-read c j result i =
         single-read f ks at (at_predecessor (patterns_of a.symbols.items)) a.symbols.items c.symbols.items c.end refl
         (leads-on (form_in f) ks at (a.end + 1) c.end (at_state start) (at_state (Formals (at_predecessor (patterns_of a.symbols.items)) [])) (after_symbols (at_predecessor (patterns_of a.symbols.items)) (so_far c.symbols.items))
         to-second (j (form_in f) (at_predecessor (patterns_of a.symbols.items)) alone))
         (no-less (form_in f) ks c.end (at_predecessor (patterns_of a.symbols.items)) (so_far c.symbols.items) refl) result i
 
-    pub second-err : (q : LineRefusal) → ArePatternsRead Alone ks (a.end + 1) (Err q) → IsPredecessorRead f ks at (Err q)
+    pub second-err : (q : PartRefusal) → ArePatternsRead Alone ks (a.end + 1) (Err q) → IsPredecessorRead f ks at (Err q)
     second-err q j =
         refuses-on (form_in f) ks at (a.end + 1) (at_state start) (at_state (Formals (at_predecessor (patterns_of a.symbols.items)) [])) q to-second (j (form_in f) (at_predecessor (patterns_of a.symbols.items)) alone)
 
@@ -76,7 +76,7 @@ module _ (f : Form) (ks : List Kind) (at : ℕ) (g : Glyph) (h : IsPeeked ks at 
   right-section : (l : List (Symbol NameText)) (n : ModuleName) (fs : List NameText) → IsSection Right (form_in f) (at_right l n fs)
   right-section l n fs = subst (λ m. IsSection Right m (at_right l n fs)) (sym (right-goes f ks at l n fs g h t).0) tt
 
-  pub right-err : (q : LineRefusal) → ArePatternsRead Right ks (at + 1) (Err q) → IsRightRead f ks at (Err q)
+  pub right-err : (q : PartRefusal) → ArePatternsRead Right ks (at + 1) (Err q) → IsRightRead f ks at (Err q)
   right-err q j = λ l n fs.
       refuses-on (form_in f) ks at (at + 1) (after_predecessor l n fs) (at_state (Formals (at_right l n fs) [])) q (right-goes f ks at l n fs g h t).1 (j (form_in f) (at_right l n fs) (right-section l n fs))
 
@@ -104,7 +104,7 @@ module _ (f : Form) (ks : List Kind) (at : ℕ) (g : Glyph) (h : IsPeeked ks at 
 
 -- 3. both
 
-pub head-err : (f : Form) (ks : List Kind) (at : ℕ) (x : PredecessorRead) (q : LineRefusal) → IsPredecessorRead f ks at (Ok x) → IsRightRead f ks x.end (Err q) → IsHeadRead f ks at (Err q)
+pub head-err : (f : Form) (ks : List Kind) (at : ℕ) (x : PredecessorRead) (q : PartRefusal) → IsPredecessorRead f ks at (Ok x) → IsRightRead f ks x.end (Err q) → IsHeadRead f ks at (Err q)
 head-err f ks at x q h i =
     let l = patterns_of x.left.items in
     let n = module_name x.predecessor.name in

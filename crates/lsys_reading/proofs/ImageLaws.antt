@@ -6,8 +6,8 @@ use Rattle.lsys_syntax.specs.Expressions.{Expr}
 use Rattle.lsys_syntax.specs.RuleMachine as machine
 use Rattle.lsys_syntax.specs.RuleMachine.{production, homomorphism, Body, State, InExpr, as_param, Successor, Stop, expr_start, done_step, reversed, open_in, popped, where_closed, rule_with, successor_open, successor_step, only_production}
 use Rattle.lsys_module.specs.Views.{module_name}
-use Rattle.lsys_reading.specs.declared.refusal.LineRefusal.{LineRefusal}
-use Rattle.lsys_reading.specs.declared.refusal.LineRefusal.TheVariants.{Token}
+use Rattle.lsys_reading.specs.declared.refusal.PartRefusal.{PartRefusal}
+use Rattle.lsys_reading.specs.declared.refusal.PartRefusal.TheVariants.{Token}
 use Rattle.lsys_reading.specs.declared.glyph.Glyph.{Glyph}
 use Rattle.lsys_reading.specs.declared.glyph.Glyph.TheVariants as glyphs
 use Rattle.lsys_reading.specs.declared.glyph.Separator.{Separator}
@@ -25,7 +25,7 @@ use Rattle.lsys_reading.proofs.ReadLaws.{refuses-on}
 use Rattle.lsys_reading.proofs.Reversals.{mapped-push, mapped-whole}
 use Rattle.lsys_reading.proofs.PatternLaws.{is_paren, no-paren}
 
-pub param-err : (ks : List Kind) (at : ℕ) (q : LineRefusal) → IsExpressionRead ks at (Err q) → IsParamRead ks at (Err q)
+pub param-err : (ks : List Kind) (at : ℕ) (q : PartRefusal) → IsExpressionRead ks at (Err q) → IsParamRead ks at (Err q)
 param-err ks at q h = λ m b r n es. h m (as_param b r n es)
 
 -- 2. the loop over parameters
@@ -63,7 +63,7 @@ module _ (ks : List Kind) (at end : ℕ) (ss : List Span) (x : ParamRead) (so : 
       (subst (λ es. Leads m ks at (at_state (param_due b r n [])) (x.span.to + 1) (at_state (Successor b (Module n es ∷ r)))) (mapped-whole (expr_at ks) ss x.span ∙ ap (params_at ks) (sym i))
       (subst (λ s. Leads m ks at (at_state (param_due b r n [])) (x.span.to + 1) (at_state (after_param s b r n (expr_at ks x.span ∷ reversed (params_at ks ss))))) e (further m b r n)))
 
-pub params-refused : (ks : List Kind) (at end : ℕ) (ss : List Span) (q : LineRefusal) → ParamsSoFar ks at end ss → IsParamRead ks end (Err q) → AreParamsRead ks at (Err q)
+pub params-refused : (ks : List Kind) (at end : ℕ) (ss : List Span) (q : PartRefusal) → ParamsSoFar ks at end ss → IsParamRead ks end (Err q) → AreParamsRead ks at (Err q)
 params-refused ks at end ss q so one = λ m b r n.
     refuses-on m ks at end (at_state (param_due b r n [])) (at_state (param_due b r n (reversed (params_at ks ss)))) q (so.read m b r n) (one m b r n (reversed (params_at ks ss)))
 
@@ -98,6 +98,6 @@ module _ (x : List ℕ) (ks : List Kind) (at : ℕ) (g : Glyph) (h : IsPeeked ks
         (leads-on m ks (at + 1) y.end y.end (at_state (param_due b r n [])) (at_state (Successor b (Module n es ∷ r))) (after_image b (Module n es ∷ r)) read
         (leads-stay m ks y.end (at_state (Successor b (Module n es ∷ r))) (after_image b (Module n es ∷ r)) read.within (image-shut m ks y.end b (Module n es ∷ r) (with-params ks b n y.params.items r some))))
 
-    pub image-module-err : (q : LineRefusal) → AreParamsRead ks (at + 1) (Err q) → IsImageModuleRead x ks at (Err q)
+    pub image-module-err : (q : PartRefusal) → AreParamsRead ks (at + 1) (Err q) → IsImageModuleRead x ks at (Err q)
     image-module-err q i = λ m b r.
         refuses-on m ks at (at + 1) (at_state (Successor b (Module (module_name x) [] ∷ r))) (at_state (param_due b r (module_name x) [])) q (image-opens m ks at b r (module_name x) g h o) (i m b r (module_name x))

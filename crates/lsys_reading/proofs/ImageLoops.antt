@@ -8,8 +8,8 @@ use Rattle.lsys_syntax.specs.Expressions.{Expr}
 use Rattle.lsys_syntax.specs.RuleMachine as machine
 use Rattle.lsys_syntax.specs.RuleMachine.{production, homomorphism, Body, State, Successor, Stop, reversed, open_in, popped, where_closed, rule_with}
 use Rattle.lsys_module.specs.Views.{module_name}
-use Rattle.lsys_reading.specs.declared.refusal.LineRefusal.{LineRefusal}
-use Rattle.lsys_reading.specs.declared.refusal.LineRefusal.TheVariants.{Token}
+use Rattle.lsys_reading.specs.declared.refusal.PartRefusal.{PartRefusal}
+use Rattle.lsys_reading.specs.declared.refusal.PartRefusal.TheVariants.{Token}
 use Rattle.lsys_reading.specs.declared.glyph.Glyph.{Glyph}
 use Rattle.lsys_reading.specs.declared.glyph.Glyph.TheVariants as glyphs
 use Rattle.lsys_reading.specs.declared.form.Form.{Form}
@@ -117,7 +117,7 @@ module _ (f : Form) (n : ℕ) (ks : List Kind) (at : ℕ) (g : Glyph) (h : IsPee
   symbol-ok x y e i = λ b r c.
       leads-on (form_in f) ks at (at + 1) y.end (after_image b r) (at_state (Successor b (Module (module_name x) [] ∷ r))) (after_image b (module_at ks y.image ∷ r)) (image-name f n ks at b r c g x h e) (i (form_in f) b r)
 
-  pub symbol-err : (x : List ℕ) (q : LineRefusal) → Some (openings.Name x) ≡ image_opening_of f n g → IsImageModuleRead x ks (at + 1) (Err q) → IsImageRead f n ks at (Err q)
+  pub symbol-err : (x : List ℕ) (q : PartRefusal) → Some (openings.Name x) ≡ image_opening_of f n g → IsImageModuleRead x ks (at + 1) (Err q) → IsImageRead f n ks at (Err q)
   symbol-err x q e i = λ b r c.
       refuses-on (form_in f) ks at (at + 1) (after_image b r) (at_state (Successor b (Module (module_name x) [] ∷ r))) q (image-name f n ks at b r c g x h e) (i (form_in f) b r)
 
@@ -163,5 +163,5 @@ module _ (f : Form) (ks : List Kind) (at end : ℕ) (xs : List Image) (branches 
             (leads-on (form_in f) ks at end x.end (at_state (Successor b [])) (after_image b (images_so_far ks xs)) (after_image b (image_at ks x.symbol ∷ images_so_far ks xs)) (so.read b) (i b (images_so_far ks xs) so.counted));
       }
 
-  pub images-refused : (q : LineRefusal) → IsImageRead f branches ks end (Err q) → (b : Body) → Refuses (form_in f) ks at (at_state (Successor b [])) q
+  pub images-refused : (q : PartRefusal) → IsImageRead f branches ks end (Err q) → (b : Body) → Refuses (form_in f) ks at (at_state (Successor b [])) q
   images-refused q i b = refuses-on (form_in f) ks at end (at_state (Successor b [])) (after_image b (images_so_far ks xs)) q (so.read b) (i b (images_so_far ks xs) so.counted)

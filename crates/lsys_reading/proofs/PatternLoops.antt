@@ -7,7 +7,7 @@ use Rattle.lsys_syntax.specs.Strings.{ModuleName, Symbol, Module, Push, Pop, Cut
 use Rattle.lsys_syntax.specs.RuleMachine.{Form, Part, Formals, FormalDue, Stop, open_in, formals_open, reversed_onto}
 use Rattle.lsys_text.specs.Tokens.{name_of}
 use Rattle.lsys_module.specs.Views.{module_name}
-use Rattle.lsys_reading.specs.declared.refusal.LineRefusal.{LineRefusal}
+use Rattle.lsys_reading.specs.declared.refusal.PartRefusal.{PartRefusal}
 use Rattle.lsys_reading.specs.declared.glyph.Glyph.{Glyph}
 use Rattle.lsys_reading.specs.declared.formals.FormalsRead.{FormalsRead}
 use Rattle.lsys_reading.specs.declared.patterns.Pattern.{Pattern}
@@ -43,7 +43,7 @@ module _ (x : List ℕ) (ks : List Kind) (at : ℕ) (g : Glyph) (h : IsPeeked ks
       (leads-on m ks (at + 1) f.end f.end (at_state (FormalDue p r n [])) (at_state (Formals p (Module n fs ∷ r))) (after_symbol p (Module n fs ∷ r)) read
       (leads-stay m ks f.end (at_state (Formals p (Module n fs ∷ r))) (after_symbol p (Module n fs ∷ r)) read.within (shut m ks f.end p (Module n fs ∷ r) (with-formals p n f.formals.items r some))))
 
-  pub module-err : (e : LineRefusal) → AreFormalsRead ks (at + 1) (Err e) → IsModuleRead x ks at (Err e)
+  pub module-err : (e : PartRefusal) → AreFormalsRead ks (at + 1) (Err e) → IsModuleRead x ks at (Err e)
   module-err e i = λ m p r.
       refuses-on m ks at (at + 1) (at_state (Formals p (Module (module_name x) [] ∷ r))) (at_state (FormalDue p r (module_name x) [])) e (opens m ks at p r (module_name x) g h o) (i m p r (module_name x))
 
@@ -57,7 +57,7 @@ module _ (st : Standing) (ks : List Kind) (at : ℕ) (g : Glyph) (h : IsPeeked k
   symbol-ok x y e i = λ m p r s.
       leads-on m ks at (at + 1) y.end (after_symbol p r) (at_state (Formals p (Module (module_name x) [] ∷ r))) (after_symbol p (module_of y.pattern ∷ r)) (opening-name m ks at p r st s g x h e) (i m p r)
 
-  pub symbol-err : (x : List ℕ) (q : LineRefusal) → Some (openings.Name x) ≡ opening_of st g → IsModuleRead x ks (at + 1) (Err q) → IsSymbolRead st ks at (Err q)
+  pub symbol-err : (x : List ℕ) (q : PartRefusal) → Some (openings.Name x) ≡ opening_of st g → IsModuleRead x ks (at + 1) (Err q) → IsSymbolRead st ks at (Err q)
   symbol-err x q e i = λ m p r s.
       refuses-on m ks at (at + 1) (after_symbol p r) (at_state (Formals p (Module (module_name x) [] ∷ r))) q (opening-name m ks at p r st s g x h e) (i m p r)
 
@@ -108,7 +108,7 @@ module _ (s : Section) (ks : List Kind) (at end : ℕ) (xs : List Pattern) (bran
             (leads-on m ks at end x.end (at_state (Formals p [])) (after_symbol p (so_far xs)) (after_symbol p (pattern_of x.symbol ∷ so_far xs)) (so.read m p j) (i m p (so_far xs) (stands m p j)));
       }
 
-  pub patterns-refused : (e : LineRefusal) → IsSymbolRead (record { section = s; is_first = first; branches = branches }) ks end (Err e) → ArePatternsRead s ks at (Err e)
+  pub patterns-refused : (e : PartRefusal) → IsSymbolRead (record { section = s; is_first = first; branches = branches }) ks end (Err e) → ArePatternsRead s ks at (Err e)
   patterns-refused e i = λ m p j. refuses-on m ks at end (at_state (Formals p [])) (after_symbol p (so_far xs)) e (so.read m p j) (i m p (so_far xs) (stands m p j))
 
 pub first-symbol : (b : Bool) (xs : List Pattern) → b ≡ (length xs == 0) → b ≡ is_empty xs

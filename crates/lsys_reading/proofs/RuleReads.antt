@@ -6,8 +6,8 @@ use Rattle.lsys_syntax.specs.Tokens.{Kind}
 use Rattle.lsys_syntax.specs.RuleMachine as machine
 use Rattle.lsys_syntax.specs.RuleMachine.{Successor, start, rule_with}
 use Rattle.lsys_syntax.specs.LineMachine as L
-use Rattle.lsys_reading.specs.declared.refusal.LineRefusal.{LineRefusal}
-use Rattle.lsys_reading.specs.declared.refusal.LineRefusal.TheVariants.{Token, Deep, Memory}
+use Rattle.lsys_reading.specs.declared.refusal.PartRefusal.{PartRefusal}
+use Rattle.lsys_reading.specs.declared.refusal.PartRefusal.TheVariants.{Token, Deep, Memory}
 use Rattle.lsys_reading.specs.declared.form.Form.{Form}
 use Rattle.lsys_reading.specs.declared.head.HeadRead.{HeadRead}
 use Rattle.lsys_reading.specs.declared.span.OptionRead.{OptionRead}
@@ -25,14 +25,14 @@ use Rattle.lsys_reading.proofs.ReadLaws.{refuses-on}
 -- 1. each part behind those before it
 
 module _ (f : Form) (ks : List Kind) (at : ℕ) (h : HeadRead) (i : IsHeadRead f ks at (Ok h)) where
-  pub refused-condition : (q : LineRefusal) → IsConditionRead ks h.end (Err q) → Refuses (form_in f) ks at (at_state start) q
+  pub refused-condition : (q : PartRefusal) → IsConditionRead ks h.end (Err q) → Refuses (form_in f) ks at (at_state start) q
   refused-condition q j = refuses-on (form_in f) ks at h.end (at_state start) (after_head (head_of h)) q i (j (form_in f) (head_of h))
 
   module _ (c : OptionRead) (j : IsConditionRead ks h.end (Ok c)) where
     to-weight : Leads (form_in f) ks at (at_state start) c.end (after_condition (head_of h) (option_at ks c.span))
     to-weight = leads-on (form_in f) ks at h.end c.end (at_state start) (after_head (head_of h)) (after_condition (head_of h) (option_at ks c.span)) i (j (form_in f) (head_of h))
 
-    pub refused-weight : (q : LineRefusal) → IsWeightRead f ks c.end (Err q) → Refuses (form_in f) ks at (at_state start) q
+    pub refused-weight : (q : PartRefusal) → IsWeightRead f ks c.end (Err q) → Refuses (form_in f) ks at (at_state start) q
     refused-weight q k = refuses-on (form_in f) ks at c.end (at_state start) (after_condition (head_of h) (option_at ks c.span)) q to-weight (k (head_of h) (option_at ks c.span))
 
     module _ (w : OptionRead) (k : IsWeightRead f ks c.end (Ok w)) where
@@ -42,14 +42,14 @@ module _ (f : Form) (ks : List Kind) (at : ℕ) (h : HeadRead) (i : IsHeadRead f
       to-arrow : Leads (form_in f) ks at (at_state start) w.end (after_weight body)
       to-arrow = leads-on (form_in f) ks at c.end w.end (at_state start) (after_condition (head_of h) (option_at ks c.span)) (after_weight body) to-weight (k (head_of h) (option_at ks c.span))
 
-      pub refused-arrow : (q : LineRefusal) → IsArrowRead ks w.end (Err q) → Refuses (form_in f) ks at (at_state start) q
+      pub refused-arrow : (q : PartRefusal) → IsArrowRead ks w.end (Err q) → Refuses (form_in f) ks at (at_state start) q
       refused-arrow q l = refuses-on (form_in f) ks at w.end (at_state start) (after_weight body) q to-arrow (l (form_in f) body)
 
       module _ (end : ℕ) (l : IsArrowRead ks w.end (Ok end)) where
         to-successor : Leads (form_in f) ks at (at_state start) end (at_state (Successor body []))
         to-successor = leads-on (form_in f) ks at w.end end (at_state start) (after_weight body) (at_state (Successor body [])) to-arrow (l (form_in f) body)
 
-        pub refused-successor : (q : LineRefusal) → IsSuccessorRead f ks end (Err q) → Refuses (form_in f) ks at (at_state start) q
+        pub refused-successor : (q : PartRefusal) → IsSuccessorRead f ks end (Err q) → Refuses (form_in f) ks at (at_state start) q
         refused-successor q o = refuses-on (form_in f) ks at end (at_state start) (at_state (Successor body [])) q to-successor (o body)
 
 -- 2. the line
@@ -60,16 +60,8 @@ module _ (f : Form) (ks : List Kind) (at : ℕ) where
       line-rule g (drop at ks) at start ∙ ap (λ m. line_verdict g (rule_from m at start (drop at ks))) e
       ∙ ap (line_verdict g) (sym (state-point (form_in f) at start (drop at ks)) ∙ h)
 
-  pub line-read : (result : Result RuleLine LineRefusal) → IsRuleRead f ks at result → IsLineRead f ks at result
+  pub line-read : (result : Result RuleLine PartRefusal) → IsRuleRead f ks at result → IsLineRead f ks at result
   line-read (Ok r) h = λ g e. on-line g e (whole (rule_at ks r)) h
-  line-read (Err (Token place)) h = λ g e. on-line g e (stops place) h ∙ told-stops g place
-    where
-      told-stops : (g : Line) (n : ℕ) → line_verdict g (stops n) ≡ L.stops n
-      told-stops (production_of t l) n = refl
-      told-stops (homomorphism_of l) n = refl
-  line-read (Err (Deep place)) h = λ g e. on-line g e (too_deep place) h ∙ told-deep g place
-    where
-      told-deep : (g : Line) (n : ℕ) → line_verdict g (too_deep n) ≡ L.too_deep n
-      told-deep (production_of t l) n = refl
-      told-deep (homomorphism_of l) n = refl
+  line-read (Err (Token place)) h = λ g e. on-line g e (stops place) h
+  line-read (Err (Deep place)) h = λ g e. on-line g e (too_deep place) h
   line-read (Err Memory) h = λ g e. tt

@@ -15,8 +15,8 @@ use Rattle.lsys_expr.specs.Codes.{any_expr}
 use Rattle.lsys_expr.specs.Scanned.{IsExtent}
 use Rattle.lsys_text.specs.declared.refusals.PlaceRefusal.{PlaceRefusal}
 use Rattle.lsys_text.specs.declared.refusals.PlaceRefusal.TheVariants as places
-use Rattle.lsys_reading.specs.declared.refusal.LineRefusal.{LineRefusal}
-use Rattle.lsys_reading.specs.declared.refusal.LineRefusal.TheVariants.{Token}
+use Rattle.lsys_reading.specs.declared.refusal.PartRefusal.{PartRefusal}
+use Rattle.lsys_reading.specs.declared.refusal.PartRefusal.TheVariants.{Token}
 use Rattle.lsys_reading.specs.declared.glyph.Glyph.{Glyph}
 use Rattle.lsys_reading.specs.declared.glyph.Glyph.TheVariants as glyphs
 use Rattle.lsys_reading.specs.declared.form.Form.{Form}
@@ -26,7 +26,8 @@ use Rattle.lsys_reading.specs.Points.{at_state, after_head, after_condition, aft
 use Rattle.lsys_reading.specs.Glyphs.{IsGlyph, IsPeeked, is_colon, is_arrow}
 use Rattle.lsys_reading.specs.Reads.{Refuses}
 use Rattle.lsys_reading.specs.Heads.{form_in, takes_weight}
-use Rattle.lsys_reading.specs.Spans.{refusal_of, part, expr_at, IsSpan, IsExpressionRead, IsConditionRead, IsWeightRead, IsArrowRead}
+use Rattle.lsys_reading.specs.Refusals.{refusal_at}
+use Rattle.lsys_reading.specs.Spans.{part, expr_at, IsSpan, IsExpressionRead, IsConditionRead, IsWeightRead, IsArrowRead}
 use Rattle.lsys_reading.proofs.PointLaws.{leads-on, leads-stay, leads-token, by_extent, rule-expr}
 use Rattle.lsys_reading.proofs.ReadLaws.{refuses-on}
 use Rattle.lsys_reading.proofs.HeadLaws.{seen}
@@ -87,10 +88,10 @@ expression-ok ks at to g w i = by (extent (drop at ks)) refl i
     by (X.stops d) q i = elim i [ ]
     by (X.too_deep d) q i = elim i [ ]
 
-pub expression-err : (ks : List Kind) (at : ℕ) (r : PlaceRefusal) → IsExtent at (extent (drop at ks)) (Err r) → IsExpressionRead ks at (Err (refusal_of r))
+pub expression-err : (ks : List Kind) (at : ℕ) (r : PlaceRefusal) → IsExtent at (extent (drop at ks)) (Err r) → IsExpressionRead ks at (Err (refusal_at r))
 expression-err ks at r i = λ m spot. by m spot r (extent (drop at ks)) refl i
   where
-    by : (m : machine.Form) (spot : Spot) (r : PlaceRefusal) (x : Extent) → extent (drop at ks) ≡ x → IsExtent at x (Err r) → Refuses m ks at (at_state (InExpr spot expr_start)) (refusal_of r)
+    by : (m : machine.Form) (spot : Spot) (r : PlaceRefusal) (x : Extent) → extent (drop at ks) ≡ x → IsExtent at x (Err r) → Refuses m ks at (at_state (InExpr spot expr_start)) (refusal_at r)
     by m spot (places.Token p) (X.stops d) q i = rule-expr m spot at (drop at ks) ∙ ap (by_extent m spot at (drop at ks)) q ∙ ap stops (sym i)
     by m spot (places.Deep p) (X.too_deep d) q i = rule-expr m spot at (drop at ks) ∙ ap (by_extent m spot at (drop at ks)) q ∙ ap too_deep (sym i)
     by m spot (places.Token p) (X.ends d e) q i = elim i [ ]
@@ -125,7 +126,7 @@ module _ (ks : List Kind) (at : ℕ) (g : Glyph) (h : IsPeeked ks at g) (t : is_
       (leads-on m ks (at + 1) s.to s.to (at_state (InExpr (as_condition x) expr_start)) (after_expr (as_condition x) e) (after_condition x (Some e)) read
       (leads-stay m ks s.to (after_expr (as_condition x) e) (after_condition x (Some e)) read.within (condition-done m ks s.to x e)))
 
-  pub condition-err : (q : LineRefusal) → IsExpressionRead ks (at + 1) (Err q) → IsConditionRead ks at (Err q)
+  pub condition-err : (q : PartRefusal) → IsExpressionRead ks (at + 1) (Err q) → IsConditionRead ks at (Err q)
   condition-err q i = λ m x. refuses-on m ks at (at + 1) (after_head x) (at_state (InExpr (as_condition x) expr_start)) q (colon-goes ks at g h t m x) (i m (as_condition x))
 
 -- 3. the weight
@@ -155,5 +156,5 @@ module _ (f : Form) (ks : List Kind) (at : ℕ) (g : Glyph) (h : IsPeeked ks at 
       (leads-on (form_in f) ks (at + 1) s.to s.to (at_state (InExpr (as_weight x c) expr_start)) (after_expr (as_weight x c) e) (after_weight (body_with x c (Some e))) read
       (leads-stay (form_in f) ks s.to (after_expr (as_weight x c) e) (after_weight (body_with x c (Some e))) read.within (weight-done (form_in f) ks s.to x c e)))
 
-  pub weight-err : (q : LineRefusal) → IsExpressionRead ks (at + 1) (Err q) → IsWeightRead f ks at (Err q)
+  pub weight-err : (q : PartRefusal) → IsExpressionRead ks (at + 1) (Err q) → IsWeightRead f ks at (Err q)
   weight-err q i = λ x c. refuses-on (form_in f) ks at (at + 1) (after_condition x c) (at_state (InExpr (as_weight x c) expr_start)) q (at-goes f ks at g h t x c) (i (form_in f) (as_weight x c))

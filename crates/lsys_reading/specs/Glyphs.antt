@@ -54,6 +54,11 @@ abbrev pub formal_of : Glyph → Option (List ℕ)
 formal_of (glyphs.Letters x) = Some x
 formal_of g = None
 
+abbrev pub glyph_name : Glyph → Option (List ℕ)
+glyph_name (glyphs.Letters x) = Some x
+glyph_name (glyphs.Sign x) = Some x
+glyph_name g = None
+
 abbrev pub separator_of : Glyph → Option Separator
 separator_of glyphs.Comma = Some separators.Comma
 separator_of glyphs.Close = Some separators.Close

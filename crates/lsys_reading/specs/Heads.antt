@@ -8,8 +8,8 @@ use Rattle.lsys_module.specs.Views.{module_name}
 use Rattle.lsys_reading.specs.Points.{at_state, after_predecessor, after_head, head_with}
 use Rattle.lsys_reading.specs.Reads.{IsRead}
 use Rattle.lsys_reading.specs.Patterns.{pattern_of, is_empty}
-use Rattle.lsys_reading.specs.declared.refusal.LineRefusal.{LineRefusal}
-use Rattle.lsys_reading.specs.declared.refusal.LineRefusal.TheVariants.{Token}
+use Rattle.lsys_reading.specs.declared.refusal.PartRefusal.{PartRefusal}
+use Rattle.lsys_reading.specs.declared.refusal.PartRefusal.TheVariants.{Token}
 use Rattle.lsys_reading.specs.declared.glyph.Glyph.{Glyph}
 use Rattle.lsys_reading.specs.declared.glyph.Glyph.TheVariants.{Less, Greater, At}
 use Rattle.lsys_reading.specs.declared.form.Form.{Form}
@@ -43,7 +43,7 @@ only_of (patterns.Module x ∷ []) = Some x
 only_of xs = None
 
 -- a predecessor that is the only one of some symbols; or there is none
-abbrev pub IsSingle : List Pattern → List Pattern → ℕ → Result PredecessorRead LineRefusal → Type 0
+abbrev pub IsSingle : List Pattern → List Pattern → ℕ → Result PredecessorRead PartRefusal → Type 0
 IsSingle left xs end (Ok x) = (x.left.items ≡ left) × (x.end ≡ end) × (only_of xs ≡ Some x.predecessor)
 IsSingle left xs end (Err (Token place)) = (place ≡ end) × (only_of xs ≡ None)
 IsSingle left xs end (Err e) = ⊥
@@ -59,16 +59,16 @@ patterns_of xs = map pattern_of xs
 abbrev pub formals_of : PatternModule → List NameText
 formals_of x = map name_of x.formals.items
 
-abbrev pub IsPredecessorRead : Form → List Kind → ℕ → Result PredecessorRead LineRefusal → Type 0
+abbrev pub IsPredecessorRead : Form → List Kind → ℕ → Result PredecessorRead PartRefusal → Type 0
 IsPredecessorRead f ks at result =
     IsRead (form_in f) ks at (at_state machine.start) (λ x. x.end) (λ x. after_predecessor (patterns_of x.left.items) (module_name x.predecessor.name) (formals_of x.predecessor)) result
 
-abbrev pub IsRightRead : Form → List Kind → ℕ → Result RightRead LineRefusal → Type 0
+abbrev pub IsRightRead : Form → List Kind → ℕ → Result RightRead PartRefusal → Type 0
 IsRightRead f ks at result = (l : List (S.Symbol NameText)) (n : S.ModuleName) (fs : List NameText)
     → IsRead (form_in f) ks at (after_predecessor l n fs) (λ x. x.end) (λ x. after_head (head_with l n fs (patterns_of x.right.items))) result
 
 abbrev pub head_of : HeadRead → machine.Head
 head_of x = head_with (patterns_of x.left.items) (module_name x.predecessor.name) (formals_of x.predecessor) (patterns_of x.right.items)
 
-abbrev pub IsHeadRead : Form → List Kind → ℕ → Result HeadRead LineRefusal → Type 0
+abbrev pub IsHeadRead : Form → List Kind → ℕ → Result HeadRead PartRefusal → Type 0
 IsHeadRead f ks at result = IsRead (form_in f) ks at (at_state machine.start) (λ x. x.end) (λ x. after_head (head_of x)) result

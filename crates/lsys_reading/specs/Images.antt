@@ -11,7 +11,7 @@ use Rattle.lsys_reading.specs.Points.{whole, at_state, after_image, verdict_at}
 use Rattle.lsys_reading.specs.Reads.{Refuses, IsRead}
 use Rattle.lsys_reading.specs.Heads.{form_in}
 use Rattle.lsys_reading.specs.Spans.{expr_at, AreSpans}
-use Rattle.lsys_reading.specs.declared.refusal.LineRefusal.{LineRefusal}
+use Rattle.lsys_reading.specs.declared.refusal.PartRefusal.{PartRefusal}
 use Rattle.lsys_reading.specs.declared.glyph.Glyph.{Glyph}
 use Rattle.lsys_reading.specs.declared.glyph.Glyph.TheVariants as glyphs
 use Rattle.lsys_reading.specs.declared.glyph.Separator.{Separator}
@@ -85,23 +85,23 @@ abbrev pub after_param : Separator → Body → List (S.Symbol Expr) → S.Modul
 after_param separators.Comma b r n es = param_due b r n es
 after_param separators.Close b r n es = Successor b (S.Module n (reversed es) ∷ r)
 
-abbrev pub IsParamRead : List Kind → ℕ → Result ParamRead LineRefusal → Type 0
+abbrev pub IsParamRead : List Kind → ℕ → Result ParamRead PartRefusal → Type 0
 IsParamRead ks at result = (m : machine.Form) (b : Body) (r : List (S.Symbol Expr)) (n : S.ModuleName) (es : List Expr)
     → IsRead m ks at (at_state (param_due b r n es)) (λ x. x.span.to + 1) (λ x. at_state (after_param x.separator b r n (expr_at ks x.span ∷ es))) result
 
-abbrev pub AreParamsRead : List Kind → ℕ → Result ParamsRead LineRefusal → Type 0
+abbrev pub AreParamsRead : List Kind → ℕ → Result ParamsRead PartRefusal → Type 0
 AreParamsRead ks at result = (m : machine.Form) (b : Body) (r : List (S.Symbol Expr)) (n : S.ModuleName)
     → IsRead m ks at (at_state (param_due b r n [])) (λ x. x.end) (λ x. at_state (Successor b (S.Module n (params_at ks x.params.items) ∷ r))) result
 
-abbrev pub IsImageModuleRead : List ℕ → List Kind → ℕ → Result ImageModuleRead LineRefusal → Type 0
+abbrev pub IsImageModuleRead : List ℕ → List Kind → ℕ → Result ImageModuleRead PartRefusal → Type 0
 IsImageModuleRead x ks at result = (m : machine.Form) (b : Body) (r : List (S.Symbol Expr))
     → IsRead m ks at (at_state (Successor b (S.Module (module_name x) [] ∷ r))) (λ y. y.end) (λ y. after_image b (module_at ks y.image ∷ r)) result
 
-abbrev pub IsImageRead : Form → ℕ → List Kind → ℕ → Result ImageRead LineRefusal → Type 0
+abbrev pub IsImageRead : Form → ℕ → List Kind → ℕ → Result ImageRead PartRefusal → Type 0
 IsImageRead f branches ks at result = (b : Body) (r : List (S.Symbol Expr)) → branches ≡ open_in r
     → IsRead (form_in f) ks at (after_image b r) (λ x. x.end) (λ x. after_image b (image_at ks x.symbol ∷ r)) result
 
 -- the rule is whole behind the symbols, which reach to the line's end; or it is refused
-abbrev pub IsSuccessorRead : Form → List Kind → ℕ → Result (Vec Image Global) LineRefusal → Type 0
+abbrev pub IsSuccessorRead : Form → List Kind → ℕ → Result (Vec Image Global) PartRefusal → Type 0
 IsSuccessorRead f ks at (Ok xs) = (b : Body) → verdict_at (form_in f) ks at (at_state (Successor b [])) ≡ whole (rule_with b (images_at ks xs.items))
 IsSuccessorRead f ks at (Err e) = (b : Body) → Refuses (form_in f) ks at (at_state (Successor b [])) e

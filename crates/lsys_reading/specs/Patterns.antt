@@ -7,7 +7,7 @@ use Rattle.lsys_text.specs.Tokens.{name_of}
 use Rattle.lsys_module.specs.Views.{module_name}
 use Rattle.lsys_reading.specs.Points.{Point, at_state, after_symbol, after_symbols}
 use Rattle.lsys_reading.specs.Reads.{IsRead}
-use Rattle.lsys_reading.specs.declared.refusal.LineRefusal.{LineRefusal}
+use Rattle.lsys_reading.specs.declared.refusal.PartRefusal.{PartRefusal}
 use Rattle.lsys_reading.specs.declared.glyph.Glyph.{Glyph}
 use Rattle.lsys_reading.specs.declared.glyph.Glyph.TheVariants as glyphs
 use Rattle.lsys_reading.specs.declared.patterns.PatternModule.{PatternModule}
@@ -79,7 +79,7 @@ IsStanding st m p r = IsSection st.section m p × (st.is_first ≡ is_empty r) �
 
 -- 2. what is read
 
-abbrev pub IsModuleRead : List ℕ → List Kind → ℕ → Result ModuleRead LineRefusal → Type 0
+abbrev pub IsModuleRead : List ℕ → List Kind → ℕ → Result ModuleRead PartRefusal → Type 0
 IsModuleRead x ks at result = (m : Form) (p : Part) (r : List (S.Symbol NameText))
     → IsRead m ks at (at_state (Formals p (S.Module (module_name x) [] ∷ r))) (λ y. y.end) (λ y. after_symbol p (module_of y.pattern ∷ r)) result
 
@@ -91,10 +91,10 @@ abbrev pub point_behind : Part → List (S.Symbol NameText) → Option SymbolRea
 point_behind p r None = after_symbols p r
 point_behind p r (Some x) = after_symbol p (pattern_of x.symbol ∷ r)
 
-abbrev pub IsSymbolRead : Standing → List Kind → ℕ → Result (Option SymbolRead) LineRefusal → Type 0
+abbrev pub IsSymbolRead : Standing → List Kind → ℕ → Result (Option SymbolRead) PartRefusal → Type 0
 IsSymbolRead st ks at result = (m : Form) (p : Part) (r : List (S.Symbol NameText)) → IsStanding st m p r
     → IsRead m ks at (after_symbol p r) (end_of at) (point_behind p r) result
 
-abbrev pub ArePatternsRead : Section → List Kind → ℕ → Result PatternsRead LineRefusal → Type 0
+abbrev pub ArePatternsRead : Section → List Kind → ℕ → Result PatternsRead PartRefusal → Type 0
 ArePatternsRead s ks at result = (m : Form) (p : Part) → IsSection s m p
     → IsRead m ks at (at_state (Formals p [])) (λ x. x.end) (λ x. after_symbols p (so_far x.symbols.items)) result

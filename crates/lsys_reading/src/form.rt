@@ -9,7 +9,7 @@ use crate::patterns::Section;
 
 /// The form of a rule. A homomorphism rule has no contexts, no weight and no cut.
 #[derive(Clone, Copy, PartialEq, Eq, Debug)]
-pub enum Form {
+pub(crate) enum Form {
     Production,
     Homomorphism,
 }

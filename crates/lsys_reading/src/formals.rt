@@ -4,7 +4,7 @@ ghost use Rattle.lsys_reading.specs.Tokens.{kinds_in, size};
 ghost use Rattle.lsys_reading.specs.Reads.{IsFormalRead, AreFormalsRead};
 
 use crate::glyph::{Separator, peek};
-use crate::refusal::LineRefusal;
+use crate::refusal::PartRefusal;
 use crate::line_tokens::LineTokens;
 use lsys_text::Name;
 use std::alloc::Global;
@@ -24,15 +24,15 @@ pub(crate) struct FormalsRead {
 }
 
 // A formal at a place, and what stands behind it.
-fn formal(line: &LineTokens, at: usize) -> Result<FormalRead, LineRefusal>
+fn formal(line: &LineTokens, at: usize) -> Result<FormalRead, PartRefusal>
     requires within { at ≤ size line.now }
     ensures { IsFormalRead (kinds_in line.now) at result }
 {
     let Some(name) = peek(line, at).formal() else {
-        return Err(LineRefusal::Token { place: at });
+        return Err(PartRefusal::Token { place: at });
     };
     let Some(separator) = peek(line, at + 1).separator() else {
-        return Err(LineRefusal::Token { place: at + 1 });
+        return Err(PartRefusal::Token { place: at + 1 });
     };
     Ok(FormalRead { name, separator })
 }
@@ -42,7 +42,7 @@ pub(crate) fn formals(
     alloc: Global,
     line: &LineTokens,
     at: usize,
-) -> Result<FormalsRead, LineRefusal>
+) -> Result<FormalsRead, PartRefusal>
     requires within { at ≤ size line.now }
     ensures read { AreFormalsRead (kinds_in line.now) at result }
     ensures some { IfOk result (λ f. 0 < length f.formals.items) }
@@ -52,7 +52,7 @@ pub(crate) fn formals(
     let mut end = at;
     'formals: loop {
         let read = formal(line, end)?;
-        formals.push(read.name).map_err(|_| LineRefusal::Memory)?;
+        formals.push(read.name).map_err(|_| PartRefusal::Memory)?;
         end += 2;
         if read.separator == Separator::Close {
             return Ok(FormalsRead { formals, end });

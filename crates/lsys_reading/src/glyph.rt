@@ -3,7 +3,7 @@ ghost use Rattle.std.specs.Prelude.{◌≡◌};
 ghost use Rattle.lsys_syntax.specs.Sentences.{IsToken};
 ghost use Rattle.lsys_text.specs.Tokens.{kind_of, mark_kind};
 ghost use Rattle.lsys_reading.specs.Tokens.{kinds_in};
-ghost use Rattle.lsys_reading.specs.Glyphs.{IsGlyph, IsPeeked, formal_of, separator_of, is_open, is_colon, is_arrow};
+ghost use Rattle.lsys_reading.specs.Glyphs.{IsGlyph, IsPeeked, formal_of, glyph_name, separator_of, is_open, is_colon, is_arrow};
 
 use crate::line_tokens::LineTokens;
 use lsys_text::{Name, TokenKind};
@@ -100,6 +100,16 @@ impl Glyph {
     {
         match self {
             Glyph::Letters(name) => Some(name),
+            _ => None,
+        }
+    }
+
+    // The name of a module that it is.
+    pub(crate) fn name(self) -> Option<Name>
+        ensures { result ≡ glyph_name self }
+    {
+        match self {
+            Glyph::Letters(name) | Glyph::Sign(name) => Some(name),
             _ => None,
         }
     }

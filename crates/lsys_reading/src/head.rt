@@ -6,7 +6,7 @@ ghost use Rattle.lsys_reading.specs.Heads.{only_of, IsSingle, IsContext, IsPrede
 use crate::form::Form;
 use crate::glyph::peek;
 use crate::patterns::{Pattern, PatternModule, PatternsRead, Section, patterns};
-use crate::refusal::LineRefusal;
+use crate::refusal::PartRefusal;
 use crate::line_tokens::LineTokens;
 use std::alloc::Global;
 
@@ -53,7 +53,7 @@ fn single(
     left: Vec<Pattern>,
     symbols: Vec<Pattern>,
     end: usize,
-) -> Result<PredecessorRead, LineRefusal>
+) -> Result<PredecessorRead, PartRefusal>
     ensures { IsSingle left.items symbols.items end result }
 {
     match only(symbols) {
@@ -62,7 +62,7 @@ fn single(
             predecessor,
             end,
         }),
-        None => Err(LineRefusal::Token { place: end }),
+        None => Err(PartRefusal::Token { place: end }),
     }
 }
 
@@ -72,7 +72,7 @@ fn predecessor(
     line: &LineTokens,
     at: usize,
     form: Form,
-) -> Result<PredecessorRead, LineRefusal>
+) -> Result<PredecessorRead, PartRefusal>
     requires within { at ≤ size line.now }
     ensures read { IsPredecessorRead form (kinds_in line.now) at result }
     ensures place { IfOk result (λ x. x.end ≤ size line.now) }
@@ -93,7 +93,7 @@ fn is_context(read: &PatternsRead) -> bool
 }
 
 // A right context, where there is one.
-fn right(alloc: Global, line: &LineTokens, at: usize, form: Form) -> Result<RightRead, LineRefusal>
+fn right(alloc: Global, line: &LineTokens, at: usize, form: Form) -> Result<RightRead, PartRefusal>
     requires within { at ≤ size line.now }
     ensures read { IsRightRead form (kinds_in line.now) at result }
     ensures place { IfOk result (λ x. x.end ≤ size line.now) }
@@ -106,7 +106,7 @@ fn right(alloc: Global, line: &LineTokens, at: usize, form: Form) -> Result<Righ
     }
     let read = patterns(alloc, line, at + 1, Section::Right)?;
     if !is_context(&read) {
-        return Err(LineRefusal::Token { place: read.end });
+        return Err(PartRefusal::Token { place: read.end });
     }
     Ok(RightRead {
         right: read.symbols,
@@ -120,7 +120,7 @@ pub(crate) fn head(
     line: &LineTokens,
     at: usize,
     form: Form,
-) -> Result<HeadRead, LineRefusal>
+) -> Result<HeadRead, PartRefusal>
     requires within { at ≤ size line.now }
     ensures read { IsHeadRead form (kinds_in line.now) at result }
     ensures place { IfOk result (λ x. x.end ≤ size line.now) }

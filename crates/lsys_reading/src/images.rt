@@ -6,7 +6,7 @@ ghost use Rattle.lsys_reading.specs.Images.{image_opening_of, image_branches, Im
 
 use crate::form::Form;
 use crate::glyph::{Glyph, Separator, peek};
-use crate::refusal::LineRefusal;
+use crate::refusal::PartRefusal;
 use crate::line_tokens::LineTokens;
 use crate::span::{Span, expression};
 use lsys_text::Name;
@@ -91,7 +91,7 @@ fn image_branches(symbol: &Image, branches: usize) -> usize
 }
 
 // A parameter, and what stands behind it.
-fn param(line: &LineTokens, at: usize) -> Result<ParamRead, LineRefusal>
+fn param(line: &LineTokens, at: usize) -> Result<ParamRead, PartRefusal>
     requires within { at ≤ size line.now }
     ensures read { IsParamRead (kinds_in line.now) at result }
     ensures span { IfOk result (λ x. IsSpan (kinds_in line.now) x.span) }
@@ -100,12 +100,12 @@ fn param(line: &LineTokens, at: usize) -> Result<ParamRead, LineRefusal>
     let span = expression(line, at)?;
     match peek(line, span.to).separator() {
         Some(separator) => Ok(ParamRead { span, separator }),
-        None => Err(LineRefusal::Token { place: span.to }),
+        None => Err(PartRefusal::Token { place: span.to }),
     }
 }
 
 // The parameters behind a parenthesis.
-fn params(alloc: Global, line: &LineTokens, at: usize) -> Result<ParamsRead, LineRefusal>
+fn params(alloc: Global, line: &LineTokens, at: usize) -> Result<ParamsRead, PartRefusal>
     requires within { at ≤ size line.now }
     ensures read { AreParamsRead (kinds_in line.now) at result }
     ensures some { IfOk result (λ x. 0 < length x.params.items) }
@@ -116,7 +116,7 @@ fn params(alloc: Global, line: &LineTokens, at: usize) -> Result<ParamsRead, Lin
     let mut end = at;
     'params: loop {
         let read = param(line, end)?;
-        params.push(read.span).map_err(|_| LineRefusal::Memory)?;
+        params.push(read.span).map_err(|_| PartRefusal::Memory)?;
         end = read.span.to + 1;
         if read.separator == Separator::Close {
             return Ok(ParamsRead { params, end });
@@ -130,7 +130,7 @@ fn image_module(
     line: &LineTokens,
     at: usize,
     name: Name,
-) -> Result<ImageModuleRead, LineRefusal>
+) -> Result<ImageModuleRead, PartRefusal>
     requires within { at ≤ size line.now }
     ensures read { IsImageModuleRead name (kinds_in line.now) at result }
     ensures spans { IfOk result (λ x. AreSpans (kinds_in line.now) x.image.params.items) }
@@ -159,14 +159,14 @@ fn image_symbol(
     at: usize,
     form: Form,
     branches: usize,
-) -> Result<ImageRead, LineRefusal>
+) -> Result<ImageRead, PartRefusal>
     requires within { at < size line.now }
     ensures read { IsImageRead form branches (kinds_in line.now) at result }
     ensures spans { IfOk result (λ x. ImageIsAt (kinds_in line.now) x.symbol) }
     ensures place { IfOk result (λ x. (at < x.end) × (x.end ≤ size line.now)) }
 {
     let Some(opening) = image_opening(form, branches, peek(line, at)) else {
-        return Err(LineRefusal::Token { place: at });
+        return Err(PartRefusal::Token { place: at });
     };
     let end = at + 1;
     let symbol = match opening {
@@ -190,7 +190,7 @@ pub(crate) fn successor(
     line: &LineTokens,
     at: usize,
     form: Form,
-) -> Result<Vec<Image>, LineRefusal>
+) -> Result<Vec<Image>, PartRefusal>
     requires within { at ≤ size line.now }
     ensures read { IsSuccessorRead form (kinds_in line.now) at result }
     ensures spans { IfOk result (λ x. ImagesAreAt (kinds_in line.now) x.items) }
@@ -201,11 +201,11 @@ pub(crate) fn successor(
     'symbols: while end < line.len() {
         let read = image_symbol(alloc, line, end, form, branches)?;
         branches = image_branches(&read.symbol, branches);
-        symbols.push(read.symbol).map_err(|_| LineRefusal::Memory)?;
+        symbols.push(read.symbol).map_err(|_| PartRefusal::Memory)?;
         end = read.end;
     }
     if branches > 0 {
-        return Err(LineRefusal::Token { place: end });
+        return Err(PartRefusal::Token { place: end });
     }
     Ok(symbols)
 }

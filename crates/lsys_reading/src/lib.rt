@@ -7,26 +7,29 @@ ghost use Rattle.lsys_syntax.specs.RuleMachine as machine;
 ghost use Rattle.lsys_syntax.specs.LineMachine.{verdict_from};
 ghost use Rattle.lsys_reading.specs.Points.{Line, form_of, line_state, line_verdict, rule_from};
 
+mod commands;
 mod form;
 mod formals;
 mod glyph;
 mod head;
 mod images;
 mod line_tokens;
+mod parts;
 mod patterns;
 mod places;
 mod refusal;
 mod rule;
 mod span;
+mod heading;
 mod word;
+mod words;
 
-pub use form::Form;
 pub use images::{Image, ImageModule};
 pub use patterns::{Pattern, PatternModule};
-pub use refusal::LineRefusal;
-pub use rule::{RuleLine, rule_line};
+
+pub use parts::{LabeledRule, LatticeName, Parts};
+pub use rule::RuleLine;
 pub use span::Span;
-pub use word::{CommandWord, command_word};
 
 /// A law of lines: the verdict on a line behind its label is that on its rule.
 pub fn law_of_rule_lines()

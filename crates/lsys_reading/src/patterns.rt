@@ -6,7 +6,7 @@ ghost use Rattle.lsys_reading.specs.Patterns.{pattern_of, takes_name, opening_of
 
 use crate::formals::{FormalsRead, formals};
 use crate::glyph::{Glyph, peek};
-use crate::refusal::LineRefusal;
+use crate::refusal::PartRefusal;
 use crate::line_tokens::LineTokens;
 use lsys_text::Name;
 use std::alloc::Global;
@@ -100,7 +100,7 @@ impl Standing {
 }
 
 // A module behind its name.
-fn module(alloc: Global, line: &LineTokens, at: usize, name: Name) -> Result<ModuleRead, LineRefusal>
+fn module(alloc: Global, line: &LineTokens, at: usize, name: Name) -> Result<ModuleRead, PartRefusal>
     requires within { at ≤ size line.now }
     ensures read { IsModuleRead name (kinds_in line.now) at result }
     ensures name { IfOk result (λ x. x.pattern.name ≡ name) }
@@ -128,7 +128,7 @@ fn symbol(
     line: &LineTokens,
     at: usize,
     standing: Standing,
-) -> Result<Option<SymbolRead>, LineRefusal>
+) -> Result<Option<SymbolRead>, PartRefusal>
     requires within { at ≤ size line.now }
     ensures read { IsSymbolRead standing (kinds_in line.now) at result }
     ensures place { IfOk result (λ o. IfSome o (λ x. (at < x.end) × (x.end ≤ size line.now))) }
@@ -173,7 +173,7 @@ pub(crate) fn patterns(
     line: &LineTokens,
     at: usize,
     section: Section,
-) -> Result<PatternsRead, LineRefusal>
+) -> Result<PatternsRead, PartRefusal>
     requires within { at ≤ size line.now }
     ensures read { ArePatternsRead section (kinds_in line.now) at result }
     ensures branches { IfOk result (λ x. x.branches ≡ open_in (reversed (map pattern_of x.symbols.items))) }
@@ -196,7 +196,7 @@ pub(crate) fn patterns(
             });
         };
         branches = branches_behind(&read.symbol, branches);
-        symbols.push(read.symbol).map_err(|_| LineRefusal::Memory)?;
+        symbols.push(read.symbol).map_err(|_| PartRefusal::Memory)?;
         end = read.end;
     }
 }

@@ -1,11 +1,14 @@
 //! Why a line is refused, and at which token.
+ghost use Rattle.std.specs.Prelude.{◌≡◌};
+ghost use Rattle.lsys_reading.specs.Refusals.{refusal_at};
 
+use lsys_text::PlaceRefusal;
 use std::alloc::AllocError;
 use thiserror::Error;
 
-/// Why a line is no command. Places are numbers of tokens from 0, and the number of tokens stands for the end of the line.
+/// Why a part of a line can't be read. Places are numbers of tokens from 0, and the number of tokens stands for the end of the line.
 #[derive(Clone, Copy, PartialEq, Eq, Debug, Error)]
-pub enum LineRefusal {
+pub(crate) enum PartRefusal {
     /// No command begins with the tokens up to this one.
     #[error("no command goes on with token {place}")]
     Token { place: usize },
@@ -17,13 +20,25 @@ pub enum LineRefusal {
     Memory,
 }
 
-impl From<AllocError> for LineRefusal {
+impl From<AllocError> for PartRefusal {
     ghost use Rattle.std.specs.Prelude.{◌≡◌};
-    ghost use Rattle.lsys_reading.specs.declared.refusal.LineRefusal.TheVariants.{Memory};
+    ghost use Rattle.lsys_reading.specs.declared.refusal.PartRefusal.TheVariants.{Memory};
 
     ghost from_gives = { λ _ e. e ≡ Memory };
 
-    fn from(_: AllocError) -> LineRefusal {
-        LineRefusal::Memory
+    fn from(_: AllocError) -> PartRefusal {
+        PartRefusal::Memory
+    }
+}
+
+impl PartRefusal {
+    // The same, of a part that takes no memory.
+    pub(crate) fn from_place(refusal: PlaceRefusal) -> PartRefusal
+        ensures { result ≡ refusal_at refusal }
+    {
+        match refusal {
+            PlaceRefusal::Token { place } => PartRefusal::Token { place },
+            PlaceRefusal::Deep { place } => PartRefusal::Deep { place },
+        }
     }
 }

@@ -7,7 +7,7 @@ use crate::form::Form;
 use crate::head::head;
 use crate::images::{Image, successor};
 use crate::patterns::{Pattern, PatternModule};
-use crate::refusal::LineRefusal;
+use crate::refusal::PartRefusal;
 use crate::line_tokens::LineTokens;
 use crate::span::{Span, arrow, condition, weight};
 use std::alloc::Global;
@@ -29,12 +29,12 @@ pub struct RuleLine {
 /// # Errors
 ///
 /// `Token` and `Deep` have the place of the first token with which no such line goes on, and `Memory` is want of memory.
-pub fn rule_line(
+pub(crate) fn rule_line(
     alloc: Global,
     line: &LineTokens,
     at: usize,
     form: Form,
-) -> Result<RuleLine, LineRefusal>
+) -> Result<RuleLine, PartRefusal>
     requires within { at ≤ size line.now }
     ensures read { IsLineRead form (kinds_in line.now) at result }
     ensures spans { IfOk result (λ r. IsRuleLine (kinds_in line.now) r) }
@@ -48,7 +48,7 @@ fn rule_parts(
     line: &LineTokens,
     at: usize,
     form: Form,
-) -> Result<RuleLine, LineRefusal>
+) -> Result<RuleLine, PartRefusal>
     requires within { at ≤ size line.now }
     ensures read { IsRuleRead form (kinds_in line.now) at result }
     ensures spans { IfOk result (λ r. IsRuleLine (kinds_in line.now) r) }

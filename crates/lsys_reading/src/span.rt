@@ -1,14 +1,13 @@
 //! The expressions of a rule, and what stands between them.
 ghost use Rattle.std.specs.Prelude.{◌≡◌, ◌≤◌, ◌<◌, length, IfOk};
 ghost use Rattle.lsys_reading.specs.Tokens.{kinds_in, size};
-ghost use Rattle.lsys_reading.specs.Spans.{refusal_of, IsSpan, ConditionIsSpan, IsExpressionRead, IsConditionRead, IsWeightRead, IsArrowRead};
+ghost use Rattle.lsys_reading.specs.Spans.{IsSpan, ConditionIsSpan, IsExpressionRead, IsConditionRead, IsWeightRead, IsArrowRead};
 
 use crate::form::Form;
 use crate::glyph::peek;
-use crate::refusal::LineRefusal;
+use crate::refusal::PartRefusal;
 use crate::line_tokens::LineTokens;
 use lsys_expr::scan_expr;
-use lsys_text::PlaceRefusal;
 
 /// The tokens of an expression: from number `from` up to number `to`, that one left out.
 #[derive(Clone, Copy, PartialEq, Eq, Debug)]
@@ -24,17 +23,8 @@ pub(crate) struct OptionRead {
     pub end: usize,
 }
 
-fn refusal_of(refusal: PlaceRefusal) -> LineRefusal
-    ensures { result ≡ refusal_of refusal }
-{
-    match refusal {
-        PlaceRefusal::Token { place } => LineRefusal::Token { place },
-        PlaceRefusal::Deep { place } => LineRefusal::Deep { place },
-    }
-}
-
 // An expression.
-pub(crate) fn expression(line: &LineTokens, at: usize) -> Result<Span, LineRefusal>
+pub(crate) fn expression(line: &LineTokens, at: usize) -> Result<Span, PartRefusal>
     requires within { at ≤ size line.now }
     ensures read { IsExpressionRead (kinds_in line.now) at result }
     ensures span { IfOk result (λ s. IsSpan (kinds_in line.now) s) }
@@ -42,12 +32,12 @@ pub(crate) fn expression(line: &LineTokens, at: usize) -> Result<Span, LineRefus
 {
     match scan_expr(&line.tokens, at) {
         Ok(to) => Ok(Span { from: at, to }),
-        Err(refusal) => Err(refusal_of(refusal)),
+        Err(refusal) => Err(PartRefusal::from_place(refusal)),
     }
 }
 
 // A condition behind its colon, where there is one.
-pub(crate) fn condition(line: &LineTokens, at: usize) -> Result<OptionRead, LineRefusal>
+pub(crate) fn condition(line: &LineTokens, at: usize) -> Result<OptionRead, PartRefusal>
     requires within { at ≤ size line.now }
     ensures read { IsConditionRead (kinds_in line.now) at result }
     ensures span { IfOk result (λ x. ConditionIsSpan (kinds_in line.now) x.span) }
@@ -67,7 +57,7 @@ pub(crate) fn condition(line: &LineTokens, at: usize) -> Result<OptionRead, Line
 }
 
 // A weight behind its `@`, where there is one.
-pub(crate) fn weight(line: &LineTokens, at: usize, form: Form) -> Result<OptionRead, LineRefusal>
+pub(crate) fn weight(line: &LineTokens, at: usize, form: Form) -> Result<OptionRead, PartRefusal>
     requires within { at ≤ size line.now }
     ensures read { IsWeightRead form (kinds_in line.now) at result }
     ensures span { IfOk result (λ x. ConditionIsSpan (kinds_in line.now) x.span) }
@@ -87,7 +77,7 @@ pub(crate) fn weight(line: &LineTokens, at: usize, form: Form) -> Result<OptionR
 }
 
 // The arrow; the place behind it.
-pub(crate) fn arrow(line: &LineTokens, at: usize) -> Result<usize, LineRefusal>
+pub(crate) fn arrow(line: &LineTokens, at: usize) -> Result<usize, PartRefusal>
     requires within { at ≤ size line.now }
     ensures read { IsArrowRead (kinds_in line.now) at result }
     ensures place { IfOk result (λ end. end ≤ size line.now) }
@@ -95,6 +85,6 @@ pub(crate) fn arrow(line: &LineTokens, at: usize) -> Result<usize, LineRefusal>
     if peek(line, at).is_arrow() {
         Ok(at + 1)
     } else {
-        Err(LineRefusal::Token { place: at })
+        Err(PartRefusal::Token { place: at })
     }
 }

@@ -1,13 +1,14 @@
-//! The first word of a line.
+//! The words of commands and of lattices.
 ghost use Rattle.std.specs.Prelude.{◌≡◌, bytes_eq};
-ghost use Rattle.lsys_syntax.specs.LineMachine.{first_word};
-ghost use Rattle.lsys_reading.specs.Words.{word_state};
+ghost use Rattle.lsys_syntax.specs.LineMachine.{first_word, lattice_named};
+ghost use Rattle.lsys_reading.specs.Words.{word_state_in, lattice_state_in};
 
+use crate::parts::LatticeName;
 use lsys_text::Word;
 
 /// The first word of a line, which tells the command.
 #[derive(Clone, Copy, PartialEq, Eq, Debug)]
-pub enum CommandWord {
+pub(crate) enum CommandWord {
     Axiom,
     Production,
     Drop,
@@ -25,8 +26,8 @@ pub enum CommandWord {
 }
 
 /// The command that a word begins, where it begins one.
-pub fn command_word(word: Word) -> Option<CommandWord>
-    ensures { first_word word ≡ word_state result }
+pub(crate) fn command_word(word: Word) -> Option<CommandWord>
+    ensures { first_word word ≡ word_state_in result }
 {
     if reads(word, b"axiom") {
         Some(CommandWord::Axiom)
@@ -56,6 +57,21 @@ pub fn command_word(word: Word) -> Option<CommandWord>
         Some(CommandWord::Show)
     } else if reads(word, b"quit") {
         Some(CommandWord::Quit)
+    } else {
+        None
+    }
+}
+
+/// The lattice that a word names, where it names one.
+pub(crate) fn lattice_name(word: Word) -> Option<LatticeName>
+    ensures { lattice_named word ≡ lattice_state_in result }
+{
+    if reads(word, b"square") {
+        Some(LatticeName::Square)
+    } else if reads(word, b"hexagonal") {
+        Some(LatticeName::Hexagonal)
+    } else if reads(word, b"cubic") {
+        Some(LatticeName::Cubic)
     } else {
         None
     }

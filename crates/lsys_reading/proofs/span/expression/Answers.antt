@@ -36,4 +36,4 @@ returns-in-Err-clause-read c =
     let ks = kinds_in c.args.line.now in
     let same : c.args.line.now.tokens.items ≡ c.deref.result.now = search rules in
     let scanned : IsExtent c.args.at (extent (drop c.args.at ks)) (Err c.in-Err.refusal) = rw same c.in-Err.ensures.extent in
-    rw c.refusal_of.ensures (expression-err ks c.args.at c.in-Err.refusal scanned)
+    rw c.from_place.ensures (expression-err ks c.args.at c.in-Err.refusal scanned)
