@@ -1,11 +1,12 @@
 -- The kinds of tokens, from a place on.
 use Rattle.lsys_reading.specs.declared.glyph.Glyph.{Glyph}
 use Rattle.lsys_reading.specs.declared.glyph.Glyph.TheVariants.{End}
-use Rattle.std.proofs.Common.{subst, ◌≡◌, ◌+◌, ℕ, zero, suc, ◌<◌, ◌≤◌, Option, Some, None, List, [], ◌∷◌, take, drop, length, get_or, Bor, ◌-◌, refl, ap, sym, ◌∙◌, add-one, arith}
+use Rattle.std.proofs.Common.{subst, ◌≡◌, ◌+◌, ℕ, zero, suc, ◌<◌, ◌≤◌, Option, Some, None, List, [], ◌∷◌, take, drop, length, map, get_or, Bor, ◌-◌, refl, ap, sym, ◌∙◌, add-one, arith}
 use Rattle.std.specs.Prelude.{IfSome, MatchOption}
 use Rattle.std.specs.List.{HoldsAt}
 use Rattle.std.proofs.lemmas.List.{drop_all, length-drop, take_all}
-use Rattle.lsys_text.specs.Tokens.{kind_of, kinds_of}
+use Rattle.lsys_spec.specs.Refusals.{column_at}
+use Rattle.lsys_text.specs.Tokens.{kind_of, kinds_of, token_of}
 use Rattle.lsys_text.specs.declared.token_kind.Token.{Token}
 use Rattle.lsys_syntax.specs.Tokens.{Kind}
 use Rattle.lsys_syntax.specs.Sentences.{AreTokens, IsToken}
@@ -55,3 +56,14 @@ token-form ks at k h g = form-at ks at k (drop (at + 1) ks) h.1 g
 pub peeked : (ks : List Kind) (at : ℕ) (k : Kind) (g : Glyph) → Here ks at k → IsGlyph g k → IsPeeked ks at g
 peeked ks at k End h i = elim i [ ]
 peeked ks at k g h i = (k, h, i)
+
+-- the column of a token, and that of the line's end
+pub column-here : (bytes : ℕ) (ts : List Token) (at : ℕ) (t : Token) → at < length ts → t ≡ get_or ts at t → t.start + 1 ≡ column_at bytes at (map token_of ts)
+column-here bytes [] at t h e = absurd (omega arith)
+column-here bytes (x ∷ ts) zero t h e = ap (λ (y : Token). y.start + 1) e
+column-here bytes (x ∷ ts) (suc at) t h e = column-here bytes ts at t (omega arith) e
+
+pub column-end : (bytes : ℕ) (ts : List Token) (at : ℕ) → length ts ≤ at → bytes + 1 ≡ column_at bytes at (map token_of ts)
+column-end bytes [] at h = refl
+column-end bytes (x ∷ ts) zero h = absurd (omega arith)
+column-end bytes (x ∷ ts) (suc at) h = column-end bytes ts at (omega arith)

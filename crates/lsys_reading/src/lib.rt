@@ -7,6 +7,7 @@ ghost use Rattle.lsys_syntax.specs.RuleMachine as machine;
 ghost use Rattle.lsys_syntax.specs.LineMachine.{verdict_from};
 ghost use Rattle.lsys_reading.specs.Points.{Line, form_of, line_state, line_verdict, rule_from};
 
+mod command;
 mod commands;
 mod form;
 mod formals;
@@ -14,6 +15,7 @@ mod glyph;
 mod head;
 mod images;
 mod line_tokens;
+mod parse;
 mod parts;
 mod patterns;
 mod places;
@@ -27,7 +29,10 @@ mod words;
 pub use images::{Image, ImageModule};
 pub use patterns::{Pattern, PatternModule};
 
+pub use command::{Command, CommandKind};
+pub use parse::parse_command;
 pub use parts::{LabeledRule, LatticeName, Parts};
+pub use refusal::Refusal;
 pub use rule::RuleLine;
 pub use span::Span;
 

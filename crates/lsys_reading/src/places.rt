@@ -2,9 +2,11 @@
 ghost use Rattle.std.specs.Prelude.{◌≡◌, [], drop, MatchOption};
 ghost use Rattle.lsys_text.specs.Tokens.{kind_of};
 ghost use Rattle.lsys_reading.specs.Points.{Here};
-ghost use Rattle.lsys_reading.specs.Tokens.{kinds_in, size};
+ghost use Rattle.lsys_reading.specs.Tokens.{kinds_in, size, column_in};
+ghost use Rattle.lsys_reading.specs.Refusals.{refusal_in};
 
 use crate::line_tokens::LineTokens;
+use crate::refusal::{PartRefusal, Refusal};
 use lsys_text::Token;
 
 impl LineTokens {
@@ -20,5 +22,30 @@ impl LineTokens {
         ensures { result ≡ size self.now }
     {
         self.tokens.len()
+    }
+
+    // The column of the token at a place, from 1, or of the line's end.
+    fn column(&self, place: usize) -> u32
+        ensures { result ≡ column_in self.now place }
+    {
+        match self.tokens.get(place) {
+            Some(token) => token.start + 1,
+            None => self.bytes + 1,
+        }
+    }
+
+    // The same refusal by its column.
+    pub(crate) fn refusal(&self, refusal: PartRefusal) -> Refusal
+        ensures { result ≡ refusal_in (column_in self.now) refusal }
+    {
+        match refusal {
+            PartRefusal::Token { place } => Refusal::Token {
+                column: self.column(place),
+            },
+            PartRefusal::Deep { place } => Refusal::Deep {
+                column: self.column(place),
+            },
+            PartRefusal::Memory => Refusal::Memory,
+        }
     }
 }

@@ -42,3 +42,32 @@ impl PartRefusal {
         }
     }
 }
+
+/// Why a line is no command, or a command is refused. Columns count bytes from 1.
+#[derive(Clone, Copy, PartialEq, Eq, Debug, Error)]
+pub enum Refusal {
+    /// No command begins with the tokens up to the one at this column; where the line ends too early it is the
+    /// column behind its end.
+    #[error("no command goes on at column {column}")]
+    Token { column: u32 },
+    /// As `Token`, but without the bound on nesting one does.
+    #[error("column {column} nests too deep")]
+    Deep { column: u32 },
+    /// The command is refused by itself. No line is refused so when it is read.
+    #[error("form")]
+    Form,
+    /// Want of memory.
+    #[error("out of memory")]
+    Memory,
+}
+
+impl From<AllocError> for Refusal {
+    ghost use Rattle.std.specs.Prelude.{◌≡◌};
+    ghost use Rattle.lsys_reading.specs.declared.refusal.Refusal.TheVariants.{Memory};
+
+    ghost from_gives = { λ _ e. e ≡ Memory };
+
+    fn from(_: AllocError) -> Refusal {
+        Refusal::Memory
+    }
+}
