@@ -2,8 +2,8 @@
 use Rattle.std.proofs.Common.{◌≡◌, ℕ, ◌<◌, ◌≤◌, true, false, nat_le, List, [], ◌∷◌, Some, None, refl, ◌∙◌, arith}
 use Rattle.std.proofs.lemmas.Bool.Decides.{nat_tests}
 use Rattle.lsys_syntax.specs.Tokens.{NameText}
-use Rattle.lsys_syntax.specs.Expressions.{Expr, And, Rel, Sum, Term, Unary, negated, inverted, plain, raised, Atom}
-use Rattle.lsys_syntax.specs.ExpressionMachine.{InUnary, negating, inverting, raising, in_term, InTerm, first_unary, next_unary, InSum, first_term, next_term, InRel, first_sum, second_sum, InAnd, first_rel, next_rel, InExpr, first_and, next_and, Around, outermost, in_parens, State, Due, Have, HalfAnd, HalfOr, Done, Stop, AfterUnary, term_with, around_term, sum_with, around_sum, rel_with, around_rel, and_with, around_and, expr_with, around_expr, after_unary, after_operand}
+use Rattle.lsys_syntax.specs.Expressions.{Expr, And, Rel, Sum, Term, Unary, negated, inverted, only_atom, raised, Atom}
+use Rattle.lsys_syntax.specs.ExpressionMachine.{InUnary, negating, inverting, raising, in_term, InTerm, first_unary, next_unary, InSum, first_term, next_term, InRel, first_sum, second_sum, InAnd, first_rel, next_rel, InExpr, first_and, next_and, Around, no_parens, in_parens, State, Due, Have, HalfAnd, HalfOr, Done, Stop, AfterUnary, term_with, around_term, sum_with, around_sum, rel_with, around_rel, and_with, around_and, expr_with, around_expr, after_unary, after_operand}
 use Rattle.lsys_spec.specs.Values.{Tree, sum_of, product_of, power_of, comparison, expr_tree, and_tree, rel_tree, sum_tree, term_tree, unary_tree, atom_tree}
 use Rattle.lsys_expr.specs.Frames as F
 use Rattle.lsys_expr.specs.Frames.{Frame, Reading, strength, whole, reduced, next_reading}
@@ -39,7 +39,7 @@ module _ (fs : List NameText) where
     expr_frames (next_and e k) = F.either (expr_tree fs e) ∷ around_frames k
 
     pub around_frames : Around → List Frame
-    around_frames outermost = []
+    around_frames no_parens = []
     around_frames (in_parens k) = F.parentheses ∷ unary_frames k
 
   -- what a state holds
@@ -58,7 +58,7 @@ module _ (fs : List NameText) where
 
   -- rule by rule, from the outermost: frames that are weaker than l
   around-left : (l : ℕ) (t : Tree) (k : Around) → 0 < l → reduced l t (around_frames k) ≡ (t, around_frames k)
-  around-left l t outermost h = refl
+  around-left l t no_parens h = refl
   around-left l t (in_parens k) h = left l t F.parentheses (unary_frames k) h
 
   expr-left : (l : ℕ) (t : Tree) (k : InExpr) → 1 < l → reduced l t (expr_frames k) ≡ (t, expr_frames k)
@@ -148,7 +148,7 @@ module _ (fs : List NameText) where
   -- 4. the whole of each rule that an atom ends
 
   abbrev pub term_of : Atom → InUnary → Term
-  term_of a k = term_with (unary_with (plain a) k) (around_unary k)
+  term_of a k = term_with (unary_with (only_atom a) k) (around_unary k)
 
   abbrev pub in_sum : InUnary → InSum
   in_sum k = around_term (around_unary k)
@@ -173,7 +173,7 @@ module _ (fs : List NameText) where
 
   -- as far as each rule
   to_term : (l : ℕ) (a : Atom) (k : InUnary) → l ≤ 5 → reduced l (atom_tree fs a) (unary_frames k) ≡ reduced l (term_tree fs (term_of a k)) (sum_frames (in_sum k))
-  to_term l a k h = unary-taken l (plain a) k (omega arith) ∙ term-taken l (unary_with (plain a) k) (around_unary k) h
+  to_term l a k h = unary-taken l (only_atom a) k (omega arith) ∙ term-taken l (unary_with (only_atom a) k) (around_unary k) h
 
   pub to_sum : (l : ℕ) (a : Atom) (k : InUnary) → l ≤ 4 → reduced l (atom_tree fs a) (unary_frames k) ≡ reduced l (sum_tree fs (sum_to a k)) (rel_frames (in_rel k))
   to_sum l a k h = to_term l a k (omega arith) ∙ sum-taken l (term_of a k) (in_sum k) h

@@ -1,8 +1,8 @@
 -- Each token moves the operand and the frames as it moves the machine.
 use Rattle.std.proofs.Common.{◌≡◌, List, [], ◌∷◌, Option, Some, None, refl, ap, sym, subst, ◌∙◌, arith}
 use Rattle.lsys_syntax.specs.Tokens.{NameText, Kind, Name, Number, Equal, Unequal, AtMost, AtLeast, LeftParen, RightParen, Plus, Minus, Times, Slash, Percent, Ampersand, Bar, Caret, Bang, Less, Greater}
-use Rattle.lsys_syntax.specs.Expressions.{TermOp, multiply, divide, remainder, SumOp, add, subtract, RelOp, equal, unequal, less, at_most, greater, at_least, Expr, Sum, Atom, plain}
-use Rattle.lsys_syntax.specs.ExpressionMachine.{InUnary, InRel, first_sum, second_sum, Around, outermost, in_parens, State, Due, Have, HalfAnd, HalfOr, Done, Stop, closing, other, half_or, ends_expr, half_and, ends_and, comparing, ends_rel, more_sum, ends_sum, AfterUnary, more_term, ends_term, after_operand, after_unary, closed, ended, compared, step, end_step, finished}
+use Rattle.lsys_syntax.specs.Expressions.{TermOp, multiply, divide, remainder, SumOp, add, subtract, RelOp, equal, unequal, less, at_most, greater, at_least, Expr, Sum, Atom, only_atom}
+use Rattle.lsys_syntax.specs.ExpressionMachine.{InUnary, InRel, first_sum, second_sum, Around, no_parens, in_parens, State, Due, Have, HalfAnd, HalfOr, Done, Stop, closing, other, half_or, ends_expr, half_and, ends_and, comparing, ends_rel, more_sum, ends_sum, AfterUnary, more_term, ends_term, after_operand, after_unary, closed, ended, compared, step, end_step, finished}
 use Rattle.lsys_syntax.proofs.Sound.{IsGoing, IsOver, other-over}
 use Rattle.lsys_spec.specs.Values.{Tree, sum_of, product_of, power_of, comparison, expr_tree, sum_tree, atom_tree}
 use Rattle.lsys_expr.specs.Frames as F
@@ -24,9 +24,9 @@ module _ (fs : List NameText) where
   pushed wrap r q e = ap (λ (x : Tree × List Frame). Some (None, wrap x.0 ∷ x.1)) e
 
   -- the state behind an operand, with its prefixes and powers
-  behind : (f : AfterUnary) (a : Atom) (k : InUnary) (r : Option Reading) → r ≡ Some (reading_of fs (after_unary f (unary_with fs (plain a) k) (around_unary fs k)))
-      → r ≡ Some (reading_of fs (after_operand f (plain a) k))
-  behind f a k r e = e ∙ sym (ap (λ s. Some (reading_of fs s)) (after_operand-is fs f (plain a) k))
+  behind : (f : AfterUnary) (a : Atom) (k : InUnary) (r : Option Reading) → r ≡ Some (reading_of fs (after_unary f (unary_with fs (only_atom a) k) (around_unary fs k)))
+      → r ≡ Some (reading_of fs (after_operand f (only_atom a) k))
+  behind f a k r e = e ∙ sym (ap (λ s. Some (reading_of fs s)) (after_operand-is fs f (only_atom a) k))
 
   -- a comparison stands beside no other
   compare-reads : (op : RelOp) (s : Sum) (j : InRel) → IsGoing (compared op s j)
@@ -34,31 +34,31 @@ module _ (fs : List NameText) where
   compare-reads op s (first_sum k) g = pushed (F.binary (comparison op)) _ _ (and-left fs 3 (sum_tree fs s) k (omega arith))
   compare-reads op s (second_sum l o k) g = elim g [ ]
 
-  comparison-moves : (op : RelOp) (a : Atom) (k : InUnary) → IsGoing (after_operand (ends_term (ends_sum (comparing op))) (plain a) k)
-      → F.behind_operand (Some (F.operator (comparison op))) (atom_tree fs a) (unary_frames fs k) ≡ Some (reading_of fs (after_operand (ends_term (ends_sum (comparing op))) (plain a) k))
+  comparison-moves : (op : RelOp) (a : Atom) (k : InUnary) → IsGoing (after_operand (ends_term (ends_sum (comparing op))) (only_atom a) k)
+      → F.behind_operand (Some (F.operator (comparison op))) (atom_tree fs a) (unary_frames fs k) ≡ Some (reading_of fs (after_operand (ends_term (ends_sum (comparing op))) (only_atom a) k))
   comparison-moves op a k g =
       let f : AfterUnary = ends_term (ends_sum (comparing op)) in
-      let going : IsGoing (compared op (sum_to fs a k) (in_rel fs k)) = subst IsGoing (after_operand-is fs f (plain a) k) g in
+      let going : IsGoing (compared op (sum_to fs a k) (in_rel fs k)) = subst IsGoing (after_operand-is fs f (only_atom a) k) g in
       behind f a k _ (pushed (F.binary (comparison op)) _ _ (to_sum fs 3 a k (omega arith)) ∙ compare-reads op (sum_to fs a k) (in_rel fs k) going)
 
   -- parentheses close around an expression, where some are open
   close-reads : (e : Expr) (j : Around) → IsGoing (closed e j) → F.closed (expr_tree fs e) (around_frames fs j) ≡ Some (reading_of fs (closed e j))
-  close-reads e outermost g = elim g [ ]
+  close-reads e no_parens g = elim g [ ]
   close-reads e (in_parens k) g = refl
 
-  close-moves : (a : Atom) (k : InUnary) → IsGoing (after_operand (ends_term (ends_sum (ends_rel (ends_and (ends_expr closing))))) (plain a) k)
-      → F.behind_operand (Some F.closing) (atom_tree fs a) (unary_frames fs k) ≡ Some (reading_of fs (after_operand (ends_term (ends_sum (ends_rel (ends_and (ends_expr closing))))) (plain a) k))
+  close-moves : (a : Atom) (k : InUnary) → IsGoing (after_operand (ends_term (ends_sum (ends_rel (ends_and (ends_expr closing))))) (only_atom a) k)
+      → F.behind_operand (Some F.closing) (atom_tree fs a) (unary_frames fs k) ≡ Some (reading_of fs (after_operand (ends_term (ends_sum (ends_rel (ends_and (ends_expr closing))))) (only_atom a) k))
   close-moves a k g =
       let f : AfterUnary = ends_term (ends_sum (ends_rel (ends_and (ends_expr closing)))) in
-      let going : IsGoing (closed (expr_to fs a k) (surrounding fs k)) = subst IsGoing (after_operand-is fs f (plain a) k) g in
+      let going : IsGoing (closed (expr_to fs a k) (surrounding fs k)) = subst IsGoing (after_operand-is fs f (only_atom a) k) g in
       behind f a k _ (ap (λ (r : Tree × List Frame). F.closed r.0 r.1) (expr-read fs a k) ∙ close-reads (expr_to fs a k) (surrounding fs k) going)
 
   product-moves : (op : TermOp) (a : Atom) (k : InUnary)
-      → F.behind_operand (Some (F.operator (product_of op))) (atom_tree fs a) (unary_frames fs k) ≡ Some (reading_of fs (after_operand (more_term op) (plain a) k))
+      → F.behind_operand (Some (F.operator (product_of op))) (atom_tree fs a) (unary_frames fs k) ≡ Some (reading_of fs (after_operand (more_term op) (only_atom a) k))
   product-moves op a k = behind (more_term op) a k _ (pushed (F.binary (product_of op)) _ _ (term-read fs a k))
 
   sum-moves : (op : SumOp) (a : Atom) (k : InUnary)
-      → F.behind_operand (Some (F.operator (sum_of op))) (atom_tree fs a) (unary_frames fs k) ≡ Some (reading_of fs (after_operand (ends_term (more_sum op)) (plain a) k))
+      → F.behind_operand (Some (F.operator (sum_of op))) (atom_tree fs a) (unary_frames fs k) ≡ Some (reading_of fs (after_operand (ends_term (more_sum op)) (only_atom a) k))
   sum-moves op a k = behind (ends_term (more_sum op)) a k _ (pushed (F.binary (sum_of op)) _ _ (sum-read fs a k))
 
   -- where the machine goes on, so does the reading
@@ -84,7 +84,7 @@ module _ (fs : List NameText) where
   moves (Have a k) Ampersand g = behind (ends_term (ends_sum (ends_rel half_and))) a k _ (pushed F.both _ _ (and-read fs a k))
   moves (Have a k) Bar g = behind (ends_term (ends_sum (ends_rel (ends_and half_or)))) a k _ (pushed F.either _ _ (expr-read fs a k))
   moves (Have a k) RightParen g = close-moves a k g
-  moves (Have a k) t g = absurd (not_both _ (other-over (plain a) k) g)
+  moves (Have a k) t g = absurd (not_both _ (other-over (only_atom a) k) g)
   moves (HalfAnd a k) Ampersand g = refl
   moves (HalfAnd a k) t g = elim g [ ]
   moves (HalfOr e k) Bar g = refl
@@ -94,12 +94,12 @@ module _ (fs : List NameText) where
 
   -- the whole that the last operand ends
   whole-done : (e d : Expr) (j : Around) → finished (ended e j) ≡ Some d → ◌≡◌ {A = Tree × List Frame} (expr_tree fs e, around_frames fs j) (expr_tree fs d, [])
-  whole-done e d outermost h = let same : e ≡ d = cc h in ap (λ x. (expr_tree fs x, [])) same
+  whole-done e d no_parens h = let same : e ≡ d = cc h in ap (λ x. (expr_tree fs x, [])) same
   whole-done e d (in_parens k) h = cc h
 
   -- the last operand, reduced, is the whole
   pub end-reads : (a : Atom) (k : InUnary) (d : Expr) → finished (end_step (Have a k)) ≡ Some d → reduced 1 (atom_tree fs a) (unary_frames fs k) ≡ (expr_tree fs d, [])
   end-reads a k d h =
       let f : AfterUnary = ends_term (ends_sum (ends_rel (ends_and (ends_expr other)))) in
-      let last : finished (ended (expr_to fs a k) (surrounding fs k)) ≡ Some d = ap finished (sym (after_operand-is fs f (plain a) k)) ∙ h in
+      let last : finished (ended (expr_to fs a k) (surrounding fs k)) ≡ Some d = ap finished (sym (after_operand-is fs f (only_atom a) k)) ∙ h in
       expr-read fs a k ∙ whole-done (expr_to fs a k) d (surrounding fs k) last

@@ -2,8 +2,8 @@
 use Rattle.std.proofs.Common.{◌≡◌, List, [], ◌∷◌, ◌++◌, Option, Some, None, map, refl, ap, ap₂, sym, subst, ◌∙◌, append-nil}
 use Rattle.std.specs.Option.{IsSome}
 use Rattle.lsys_syntax.specs.Tokens.{NameText, Kind}
-use Rattle.lsys_syntax.specs.Expressions.{Expr, Unary, negated, inverted, plain, raised, expr_kinds}
-use Rattle.lsys_syntax.specs.ExpressionMachine.{InUnary, negating, inverting, raising, in_term, InTerm, first_unary, next_unary, InSum, first_term, next_term, InRel, first_sum, second_sum, InAnd, first_rel, next_rel, InExpr, first_and, next_and, Around, outermost, in_parens, State, Due, Have, HalfAnd, HalfOr, Done, Stop, other, ends_expr, ends_and, ends_rel, ends_sum, ends_term, around_term, around_sum, around_rel, around_and, around_expr, after_operand, ended, start_expr, step, run, end_step, finished, parse_expr}
+use Rattle.lsys_syntax.specs.Expressions.{Expr, Unary, negated, inverted, only_atom, raised, expr_kinds}
+use Rattle.lsys_syntax.specs.ExpressionMachine.{InUnary, negating, inverting, raising, in_term, InTerm, first_unary, next_unary, InSum, first_term, next_term, InRel, first_sum, second_sum, InAnd, first_rel, next_rel, InExpr, first_and, next_and, Around, no_parens, in_parens, State, Due, Have, HalfAnd, HalfOr, Done, Stop, other, ends_expr, ends_and, ends_rel, ends_sum, ends_term, around_term, around_sum, around_rel, around_and, around_expr, after_operand, ended, start_expr, step, run, end_step, finished, parse_expr}
 use Rattle.lsys_syntax.specs.ExpressionPlaces.{read_expr}
 use Rattle.lsys_syntax.specs.RuleMachine.{small}
 use Rattle.lsys_syntax.specs.Completions.{completion, closing_unary, closing_term, closing_sum, closing_rel, closing_and, closing_expr, closing_around}
@@ -66,7 +66,7 @@ closing-same k = by_term k
     by_term (next_unary t op k) = by_sum k
 
 ended-closed : (d e : Expr) (k : Around) → finished (ended d k) ≡ Some e → closing_around k ≡ []
-ended-closed d e outermost h = refl
+ended-closed d e no_parens h = refl
 ended-closed d e (in_parens k) h = cc h
 
 operand-closed : (u : Unary) (k : InUnary) (e : Expr) → finished (after_operand (ends_term (ends_sum (ends_rel (ends_and (ends_expr other))))) u k) ≡ Some e
@@ -79,7 +79,7 @@ operand-closed u (in_term k) e h = closing-same k ∙ ended-closed _ e _ h
 -- at the end nothing is open
 end-closed : (s : State) (e : Expr) → finished (end_step s) ≡ Some e → completion s ≡ []
 end-closed (Due k) e h = cc h
-end-closed (Have a k) e h = operand-closed (plain a) k e h
+end-closed (Have a k) e h = operand-closed (only_atom a) k e h
 end-closed (HalfAnd a k) e h = cc h
 end-closed (HalfOr d k) e h = cc h
 end-closed (Done d) e h = refl
@@ -88,7 +88,7 @@ end-closed Stop e h = refl
 -- tokens that are parsed are those of the expression
 parsed-kinds : (ts : List Kind) (e : Expr) → parse_expr ts ≡ Some e → expr_kinds e ≡ ts
 parsed-kinds ts e h =
-    let s : State = run (start_expr outermost) ts in
+    let s : State = run (start_expr no_parens) ts in
     let found = begins ts (goes-on s [] e h) in
     let whole : expr_kinds found.0 ≡ ts = found.1 ∙ ap (λ x. ts ++ x) (end-closed s e h) ∙ append-nil ts in
     let again : parse_expr ts ≡ Some found.0 = ap parse_expr (sym whole) ∙ parse-kinds found.0 in
@@ -97,7 +97,7 @@ parsed-kinds ts e h =
 
 -- The tokens that are read as an expression are its tokens.
 pub read-kinds : (ts : List Kind) (e : Expr) → read_expr ts ≡ Some e → expr_kinds e ≡ ts
-read-kinds ts e h = parsed-kinds (map small ts) e h ∙ small-run (start_expr outermost) ts e h
+read-kinds ts e h = parsed-kinds (map small ts) e h ∙ small-run (start_expr no_parens) ts e h
 
 -- 3. the operand and the frames
 
@@ -110,7 +110,7 @@ pub record Reads (fs : List NameText) (e : Expr) (rest : List Kind) (operand : O
 
 -- before the first token, at each token, and behind it
 pub reads-start : (fs : List NameText) (ts : List Kind) (e : Expr) → read_expr ts ≡ Some e → Reads fs e ts None []
-reads-start fs ts e h = record { state = start_expr outermost; operand_is = refl; frames_are = refl; leads = h }
+reads-start fs ts e h = record { state = start_expr no_parens; operand_is = refl; frames_are = refl; leads = h }
 
 next-reading : (fs : List NameText) (e : Expr) (k : Kind) (ks : List Kind) (o : Option Tree) (fr : List Frame) (r : Reads fs e (k ∷ ks) o fr)
     → next_reading fs (small k) o fr ≡ Some (reading_of fs (step r.state (small k)))

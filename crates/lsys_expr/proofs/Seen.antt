@@ -1,7 +1,7 @@
 -- What the scan keeps, token by token.
 use Rattle.std.proofs.Common.{◌≡◌, inl, inr, ◌+◌, true, false, List, [], ◌∷◌, drop, arith, sym, ap, ◌∙◌, subst, refl}
 use Rattle.lsys_syntax.specs.Tokens.{Kind, Ampersand, Bar}
-use Rattle.lsys_syntax.specs.Expressions.{RelOp, Expr, Sum, Unary, negated, inverted, plain, raised, Atom}
+use Rattle.lsys_syntax.specs.Expressions.{RelOp, Expr, Sum, Unary, negated, inverted, only_atom, raised, Atom}
 use Rattle.lsys_syntax.specs.ExpressionMachine as m
 use Rattle.lsys_syntax.specs.ExpressionPlaces as places
 use Rattle.lsys_syntax.specs.Nesting.{unary_depth, term_depth, sum_depth, rel_depth, and_depth, expr_depth, around_depth, depth}
@@ -65,7 +65,7 @@ operand-wrapped f u (m.raising a k) = operand-wrapped f (raised a u) k
 operand-wrapped f u (m.in_term k) = (u, refl)
 
 behind : (t : Kind) (f : m.AfterUnary) (a : Atom) (k : m.InUnary) → m.what_follows t ≡ m.ends_unary f → (w : Unary) × (m.step (m.Have a k) t ≡ m.after_unary f w (term_around k))
-behind t f a k e = let w : (w : Unary) × (m.after_operand f (plain a) k ≡ m.after_unary f w (term_around k)) = operand-wrapped f (plain a) k in (w.0, ap (λ g. m.after_atom g a k) e ∙ w.1)
+behind t f a k e = let w : (w : Unary) × (m.after_operand f (only_atom a) k ≡ m.after_unary f w (term_around k)) = operand-wrapped f (only_atom a) k in (w.0, ap (λ g. m.after_atom g a k) e ∙ w.1)
 
 pub power-seen : (ls : List Level) (s : m.State) (t : Kind) → IsSeen Operator ls s → Follows follow.Power t → IsSeen Operand (deeper ls) (m.step s t)
 power-seen [] s t h e = elim h [ ]
@@ -114,19 +114,19 @@ or-seen (l ∷ ls) (m.Have a k) t h e = subst (IsSeen SecondOr (cleared (l ∷ l
 or-seen (l ∷ ls) s t h e = elim h [ ]
 
 closed-inside : (e : Expr) (k : m.Around) (l : Level) (ls : List Level) → AreOuter (l ∷ ls) k → IsSeen Operator (l ∷ ls) (m.closed e k)
-closed-inside e m.outermost l ls h = elim h [ ]
+closed-inside e m.no_parens l ls h = elim h [ ]
 closed-inside e (m.in_parens k) l ls h = h
 
 closed-outside : (e : Expr) (k : m.Around) → AreOuter [] k → m.closed e k ≡ m.Done e
-closed-outside e m.outermost h = refl
+closed-outside e m.no_parens h = refl
 closed-outside e (m.in_parens k) h = elim h [ ]
 
 ended-inside : (e : Expr) (k : m.Around) (l : Level) (ls : List Level) → AreOuter (l ∷ ls) k → m.ended e k ≡ m.Stop
-ended-inside e m.outermost l ls h = elim h [ ]
+ended-inside e m.no_parens l ls h = elim h [ ]
 ended-inside e (m.in_parens k) l ls h = refl
 
 ended-outside : (e : Expr) (k : m.Around) → AreOuter [] k → m.ended e k ≡ m.Done e
-ended-outside e m.outermost h = refl
+ended-outside e m.no_parens h = refl
 ended-outside e (m.in_parens k) h = elim h [ ]
 
 abbrev over : m.AfterExpr → m.AfterUnary
@@ -136,7 +136,7 @@ over f = m.ends_term (m.ends_sum (m.ends_rel (m.ends_and (m.ends_expr f))))
 pub end-whole : (ls : List Level) (s : m.State) → IsSeen Operator ls s → is_inside ls ≡ false → IsDone (m.end_step s)
 end-whole [] s h i = elim h [ ]
 end-whole (l ∷ []) (m.Have a k) h i =
-    let w : (w : Unary) × (m.after_operand (over m.other) (plain a) k ≡ m.after_unary (over m.other) w (term_around k)) = operand-wrapped (over m.other) (plain a) k in
+    let w : (w : Unary) × (m.after_operand (over m.other) (only_atom a) k ≡ m.after_unary (over m.other) w (term_around k)) = operand-wrapped (over m.other) (only_atom a) k in
     (_, w.1 ∙ ended-outside _ (parens_around k) h.1)
 end-whole (l ∷ []) s h i = elim h [ ]
 end-whole (l ∷ n ∷ ls) s h i = cc
@@ -145,7 +145,7 @@ pub end-inside : (ls : List Level) (s : m.State) → IsSeen Operator ls s → is
 end-inside [] s h i = elim h [ ]
 end-inside (l ∷ []) s h i = cc
 end-inside (l ∷ n ∷ ls) (m.Have a k) h i =
-    let w : (w : Unary) × (m.after_operand (over m.other) (plain a) k ≡ m.after_unary (over m.other) w (term_around k)) = operand-wrapped (over m.other) (plain a) k in
+    let w : (w : Unary) × (m.after_operand (over m.other) (only_atom a) k ≡ m.after_unary (over m.other) w (term_around k)) = operand-wrapped (over m.other) (only_atom a) k in
     w.1 ∙ ended-inside _ (parens_around k) n ls h.1
 end-inside (l ∷ n ∷ ls) s h i = elim h [ ]
 
@@ -294,9 +294,9 @@ operand-depth (m.raising a k) = let h : unary_depth k ≡ around_depth (parens_a
 operand-depth (m.in_term k) = let h : term_depth k ≡ around_depth (m.around_expr (m.around_and (m.around_rel (m.around_sum (m.around_term k))))) = around-depth k in omega (arith, h)
 
 outer-depth : (ls : List Level) (k : m.Around) → AreOuter ls k → around_depth k ≡ outer_nesting ls
-outer-depth [] m.outermost h = refl
+outer-depth [] m.no_parens h = refl
 outer-depth [] (m.in_parens k) h = elim h [ ]
-outer-depth (l ∷ ls) m.outermost h = elim h [ ]
+outer-depth (l ∷ ls) m.no_parens h = elim h [ ]
 outer-depth (l ∷ ls) (m.in_parens k) h =
     let o : around_depth (parens_around k) ≡ outer_nesting ls = outer-depth ls (parens_around k) h.1 in
     omega (arith, o, operand-depth k, h.0.0)

@@ -5,7 +5,7 @@ use Rattle.std.specs.Coded.{Coded, code_by}
 use base.Stored.{Gv, gnil, gnum, gcons}
 use denote.Struct.Codes.{itself}
 use Rattle.lsys_syntax.specs.Tokens.{NameText, short, long}
-use Rattle.lsys_syntax.specs.Expressions.{TermOp, multiply, divide, remainder, SumOp, add, subtract, RelOp, equal, unequal, less, at_most, greater, at_least, Expr, only_and, or, And, only_rel, and, Rel, only_sum, compare, Sum, only_term, total, Term, only_unary, product, Unary, negated, inverted, plain, raised, Atom, number, name, parens}
+use Rattle.lsys_syntax.specs.Expressions.{TermOp, multiply, divide, remainder, SumOp, add, subtract, RelOp, equal, unequal, less, at_most, greater, at_least, Expr, only_and, or, And, only_rel, and, Rel, only_sum, compare, Sum, only_term, total, Term, only_unary, product, Unary, negated, inverted, only_atom, raised, Atom, number, name, parens}
 use Rattle.lsys_spec.specs.Values.{Operator, sum_of, product_of, power_of, comparison, Tree, Constant, Formal, Negation, Inversion, Binary, Both, Either}
 use Rattle.lsys_expr.specs.Expression.{Expression}
 
@@ -117,7 +117,7 @@ abbrev mutual
   unary_code : Unary → Gv
   unary_code (negated u) = gcons (gnum 0) (unary_code u)
   unary_code (inverted u) = gcons (gnum 1) (unary_code u)
-  unary_code (plain a) = gcons gnil (atom_code a)
+  unary_code (only_atom a) = gcons gnil (atom_code a)
   unary_code (raised a u) = gcons (gcons gnil (atom_code a)) (unary_code u)
 
   atom_code : Atom → Gv
@@ -127,22 +127,22 @@ abbrev mutual
 
 -- what a tree of numbers that is no code stands for, by the rule that is asked for
 abbrev pub any_expr : Expr
-any_expr = only_and (only_rel (only_sum (only_term (only_unary (plain (number 0))))))
+any_expr = only_and (only_rel (only_sum (only_term (only_unary (only_atom (number 0))))))
 
 abbrev any_and : And
-any_and = only_rel (only_sum (only_term (only_unary (plain (number 0)))))
+any_and = only_rel (only_sum (only_term (only_unary (only_atom (number 0)))))
 
 abbrev any_rel : Rel
-any_rel = only_sum (only_term (only_unary (plain (number 0))))
+any_rel = only_sum (only_term (only_unary (only_atom (number 0))))
 
 abbrev any_sum : Sum
-any_sum = only_term (only_unary (plain (number 0)))
+any_sum = only_term (only_unary (only_atom (number 0)))
 
 abbrev any_term : Term
-any_term = only_unary (plain (number 0))
+any_term = only_unary (only_atom (number 0))
 
 abbrev any_unary : Unary
-any_unary = plain (number 0)
+any_unary = only_atom (number 0)
 
 abbrev mutual
   expr_from : Gv → Expr
@@ -189,7 +189,7 @@ abbrev mutual
   unary_from : Gv → Unary
   unary_from gnil = any_unary
   unary_from (gnum n) = any_unary
-  unary_from (gcons gnil a) = plain (atom_from a)
+  unary_from (gcons gnil a) = only_atom (atom_from a)
   unary_from (gcons (gnum zero) u) = negated (unary_from u)
   unary_from (gcons (gnum (suc n)) u) = inverted (unary_from u)
   unary_from (gcons (gcons x a) u) = raised (atom_from a) (unary_from u)
@@ -227,7 +227,7 @@ mutual
   unary_back : (u : Unary) → unary_from (unary_code u) ≡ u
   unary_back (negated u) = ap negated (unary_back u)
   unary_back (inverted u) = ap inverted (unary_back u)
-  unary_back (plain a) = ap plain (atom_back a)
+  unary_back (only_atom a) = ap only_atom (atom_back a)
   unary_back (raised a u) = ap₂ raised (atom_back a) (unary_back u)
 
   atom_back : (a : Atom) → atom_from (atom_code a) ≡ a

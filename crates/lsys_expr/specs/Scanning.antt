@@ -43,9 +43,9 @@ IsLevel l k = (prefixes k ≡ l.prefixes) × (is_second (rel_around k) ≡ l.com
 
 -- the levels around a parenthesis
 abbrev pub AreOuter : List Level → machine.Around → Type 0
-AreOuter [] machine.outermost = Unit {0}
+AreOuter [] machine.no_parens = Unit {0}
 AreOuter [] (machine.in_parens k) = ⊥
-AreOuter (l ∷ ls) machine.outermost = ⊥
+AreOuter (l ∷ ls) machine.no_parens = ⊥
 AreOuter (l ∷ ls) (machine.in_parens k) = IsLevel l k × AreOuter ls (parens_around k)
 
 -- the state awaits this, and has these levels

@@ -84,7 +84,7 @@ pub(crate) struct Scan {
 
 impl Scan {
     fn new() -> Scan
-        ensures { IsKept result.awaited result.levels (machine.start_expr machine.outermost) }
+        ensures { IsKept result.awaited result.levels (machine.start_expr machine.no_parens) }
     {
         Scan {
             awaited: Awaited::Operand,

@@ -1,6 +1,6 @@
 -- One turn of building a string.
 use Rattle.std.proofs.Common.{◌≡◌, ℕ, ℤ, zero, suc, ◌+◌, ◌<◌, ◌≤◌, true, false, Option, Some, None, Result, Ok, Err, List, [], ◌∷◌, length, map, drop, get_or, option_map, refl, ap, ◌∙◌, sym, subst, arith}
-use Rattle.std.proofs.lemmas.List.{drop-map, drop_all, length-drop, length-map}
+use Rattle.std.proofs.lemmas.List.{drop-map, drop_all}
 use Rattle.lsys_syntax.specs.Tokens.{Kind}
 use Rattle.lsys_syntax.specs.Strings.{Symbol, Signed}
 use Rattle.lsys_syntax.specs.Commands.{set_axiom}
@@ -24,13 +24,10 @@ abbrev pub whole_run : ℕ → List Token → Outcome
 whole_run from tokens = run from (whole []) (drop from (kinds_of tokens))
 
 -- they are read as the string's values, or refused where it passes a limit
-pub whole-run : (from : ℕ) (tokens : List Token) (xs : List (Symbol Signed)) → length tokens ≤ 65536 → AreTokens (kinds_of tokens) → string_verdict from tokens ≡ sentence (set_axiom xs) → whole_run from tokens ≡ outcome (axiom_many from xs) (values_of xs)
-whole-run from tokens xs few forms e =
+pub whole-run : (from : ℕ) (tokens : List Token) (xs : List (Symbol Signed)) → AreTokens (kinds_of tokens) → string_verdict from tokens ≡ sentence (set_axiom xs) → whole_run from tokens ≡ outcome (axiom_many from xs) (values_of xs)
+whole-run from tokens xs forms e =
     let is : IsStringOf (drop from (kinds_of tokens)) xs = string-spelled (drop from (kinds_of tokens)) from xs (tokens-behind from (kinds_of tokens) forms) e in
-    let kind : Token → Kind = λ t. kind_of t.kind in
-    let short : length (drop from (kinds_of tokens)) ≤ length tokens = omega (arith, length-drop from (kinds_of tokens), length-map tokens kind) in
-    let within : 0 + length (drop from (kinds_of tokens)) ≤ 65536 = omega arith in
-    sym (ap (run from (whole [])) is.spelled) ∙ string-runs xs is.symbols 0 0 from [] (rw is.spelled within) (omega arith)
+    sym (ap (run from (whole [])) is.spelled) ∙ string-runs xs is.symbols 0 0 from [] (omega arith)
 
 -- the form of the token at a place
 pub form-at : (tokens : List Token) (i : ℕ) (d : Token) → i < length tokens → AreTokens (kinds_of tokens) → IsToken (kind_of (get_or tokens i d).kind)

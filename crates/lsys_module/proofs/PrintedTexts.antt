@@ -5,7 +5,7 @@ use Rattle.std.proofs.lemmas.List.{take_more, map-append}
 use Rattle.lsys_module.specs.declared.symbol.Symbol.{Symbol as Code}
 use Rattle.lsys_syntax.specs.Tokens.{RightParen}
 use Rattle.lsys_syntax.specs.Pieces.{Piece, blank, token, note, token_text, text_of}
-use Rattle.lsys_syntax.specs.Strings.{Symbol, Module, is_letters, gap, ends_in_name, starts_with_letter, begins_with_letter, symbol_pieces, more_pieces, string_pieces, value_pieces, string_text}
+use Rattle.lsys_syntax.specs.Strings.{Symbol, Module, is_letters, gap, ends_in_name, starts_with_letter, begins_with_letter, symbol_pieces, more_pieces, string_pieces, value_pieces, string_text, AreSymbols, IsSymbol, IsParam}
 use Rattle.lsys_spec.specs.Systems.{name_text}
 use Rattle.lsys_module.specs.Views.{module_name, symbol_of, string_of}
 use Rattle.lsys_module.specs.Printing.{gap_text, name_behind, symbol_behind, params_text}
@@ -99,3 +99,8 @@ module_behind runs_on name values = sym (append_assoc (gap_text runs_on (is_lett
 pub string_of-more : (symbols : List Code) (i : ℕ) (d : Code) → i < length symbols → d ≡ get_or symbols i d → string_of (take (i + 1) symbols) ≡ string_of (take i symbols) ++ symbol_of d ∷ []
 string_of-more symbols i d h e =
     ap string_of (take_more symbols i d h ∙ ap (λ x. take i symbols ++ x ∷ []) (sym e)) ∙ map-append symbol_of (take i symbols) (d ∷ [])
+
+-- one more symbol of its form
+pub forms-append : (xs : List (Symbol ℤ)) (x : Symbol ℤ) → AreSymbols xs → IsSymbol IsParam x → AreSymbols (xs ++ x ∷ [])
+forms-append [] x g h = (h, tt)
+forms-append (y ∷ ys) x g h = (g.0, forms-append ys x g.1 h)

@@ -1,9 +1,10 @@
 -- A string's tokens, read one after another: its values, or the token at which it passes a limit.
 use Rattle.std.proofs.Common.{◌≡◌, ℕ, ℤ, pos, ◌+◌, ◌≤◌, ◌^◌, ◌||◌, Bool, true, false, nat_lt, nat_le, Option, Some, None, Result, Ok, Err, List, [], ◌∷◌, ◌++◌, length, map, option_map, refl, ap, ◌∙◌, sym, arith, append_assoc, append-nil, length-append, if◌then◌else◌}
 use Rattle.std.proofs.lemmas.Bool.Decides.{nat_tests}
+use Rattle.lsys_syntax.specs.Limits.{most_params, most_axiom_symbols}
 use Rattle.lsys_syntax.specs.Tokens.{Kind, LeftParen, RightParen, LeftBracket, RightBracket, Percent, Comma, Minus, Number}
 use Rattle.lsys_syntax.specs.Pieces.{Piece, token, note, a_symbol, a_param, kinds_of}
-use Rattle.lsys_syntax.specs.Strings.{ModuleName, named, plus, minus, ampersand, caret, backslash, slash, bar, bang, name_kind, Symbol, Module, Push, Pop, Cut, Signed, plain, minus_sign, negative, signed_value, signed_pieces, more_pieces, symbol_pieces, gap, ends_in_name, begins_with_letter, string_pieces, EachOf, IsSymbol, IsSigned}
+use Rattle.lsys_syntax.specs.Strings.{ModuleName, named, plus, minus, ampersand, caret, backslash, slash, bar, bang, name_kind, Symbol, Module, Push, Pop, Cut, Signed, unsigned, minus_sign, negative, signed_value, signed_pieces, more_pieces, symbol_pieces, gap, ends_in_name, begins_with_letter, string_pieces, EachOf, IsSymbol, IsSigned}
 use Rattle.lsys_syntax.specs.Checks.{Counts, passes_limit, many_place}
 use Rattle.lsys_spec.specs.Edits.{values_of}
 use Rattle.lsys_module.specs.declared.glyph.Glyph.TheVariants as glyphs
@@ -43,7 +44,7 @@ outcome (Some place) xs = Some (Err place)
 
 -- counts of an axiom
 abbrev counted : ℕ → ℕ → ℕ → Counts
-counted t n p = record { tokens = t; most_tokens = 65536; expr_tokens = 0; inside = false; symbols = n; most = 4096; params = p }
+counted t n p = record { tokens = t; most_tokens = None; expr_tokens = 0; inside = false; symbols = n; most = most_axiom_symbols; params = p }
 
 only_first : (a : Bool) → (((a || false) || false) || false) ≡ a
 only_first true = refl
@@ -56,11 +57,11 @@ only_second false = refl
 within : (m n : ℕ) → n ≤ m → nat_lt m n ≡ false
 within m n h = grind (arith, nat_tests)
 
-begins-passes : (t n : ℕ) → t ≤ 65536 → passes_limit (counted t n 0) ≡ nat_lt 4096 n
-begins-passes t n h = rw (within 65536 t h) (only_first (nat_lt 4096 n))
+begins-passes : (t n : ℕ) → passes_limit (counted t n 0) ≡ nat_lt most_axiom_symbols n
+begins-passes t n = only_first (nat_lt most_axiom_symbols n)
 
-goes_on-passes : (t n p : ℕ) → t ≤ 65536 → n ≤ 4096 → passes_limit (counted t n p) ≡ nat_lt 8 p
-goes_on-passes t n p h k = rw (within 65536 t h, within 4096 n k) (only_second (nat_lt 8 p))
+goes_on-passes : (t n p : ℕ) → n ≤ most_axiom_symbols → passes_limit (counted t n p) ≡ nat_lt most_params p
+goes_on-passes t n p k = rw (within most_axiom_symbols n k) (only_second (nat_lt most_params p))
 
 joined : (b : Bool) (place : ℕ) (ks : List Kind) (e : Draft) (o : Option ℕ) (out : List (Symbol ℤ)) → (b ≡ false → run (place + 1) e ks ≡ outcome o out) → after_turn place ks b (Some e) ≡ outcome (if b then Some place else o) out
 joined true place ks e o out h = refl
@@ -70,47 +71,47 @@ below : (m n : ℕ) → nat_lt m n ≡ false → n ≤ m
 below m n h = grind (arith, nat_tests)
 
 -- a token that begins a symbol
-begins : (t p place : ℕ) (ys : List (Symbol ℤ)) (k : Kind) (ps : List Piece) (e : Draft) (out : List (Symbol ℤ)) → t + length (kinds_of (token k ∷ ps)) ≤ 65536 → draft_step (whole ys) (glyph_of k) (kind_name k) ≡ Some e
-    → (length ys + 1 ≤ 4096 → run (place + 1) e (kinds_of ps) ≡ outcome (many_place (counted (t + 1) (length ys + 1) 0) (place + 1) ps) out)
+begins : (t p place : ℕ) (ys : List (Symbol ℤ)) (k : Kind) (ps : List Piece) (e : Draft) (out : List (Symbol ℤ)) → draft_step (whole ys) (glyph_of k) (kind_name k) ≡ Some e
+    → (length ys + 1 ≤ most_axiom_symbols → run (place + 1) e (kinds_of ps) ≡ outcome (many_place (counted (t + 1) (length ys + 1) 0) (place + 1) ps) out)
     → run place (whole ys) (k ∷ kinds_of ps) ≡ outcome (many_place (counted t (length ys) p) place (note a_symbol ∷ token k ∷ ps)) out
-begins t p place ys k ps e out few step rest =
+begins t p place ys k ps e out step rest =
     let more : Option ℕ = many_place (counted (t + 1) (length ys + 1) 0) (place + 1) ps in
-    let limit : passes_limit (counted (t + 1) (length ys + 1) 0) ≡ nat_lt 4096 (length ys + 1) = begins-passes (t + 1) (length ys + 1) (omega arith) in
+    let limit : passes_limit (counted (t + 1) (length ys + 1) 0) ≡ nat_lt most_axiom_symbols (length ys + 1) = begins-passes (t + 1) (length ys + 1) in
     run-turn place (whole ys) k (kinds_of ps)
-    ∙ ap (after_turn place (kinds_of ps) (nat_lt 4096 (length ys + 1))) step
-    ∙ joined (nat_lt 4096 (length ys + 1)) place (kinds_of ps) e more out (λ b. rest (below 4096 (length ys + 1) b))
+    ∙ ap (after_turn place (kinds_of ps) (nat_lt most_axiom_symbols (length ys + 1))) step
+    ∙ joined (nat_lt most_axiom_symbols (length ys + 1)) place (kinds_of ps) e more out (λ b. rest (below most_axiom_symbols (length ys + 1) b))
     ∙ ap (λ b. outcome (if b then Some place else more) out) (sym limit)
 
 -- any other token
-goes_on : (t n p place : ℕ) (d : Draft) (k : Kind) (ps : List Piece) (e : Draft) (out : List (Symbol ℤ)) → t + length (kinds_of (token k ∷ ps)) ≤ 65536 → n ≤ 4096 → draft_limit d (glyph_of k) ≡ nat_lt 8 p → draft_step d (glyph_of k) (kind_name k) ≡ Some e
-    → (p ≤ 8 → run (place + 1) e (kinds_of ps) ≡ outcome (many_place (counted (t + 1) n p) (place + 1) ps) out)
+goes_on : (t n p place : ℕ) (d : Draft) (k : Kind) (ps : List Piece) (e : Draft) (out : List (Symbol ℤ)) → n ≤ most_axiom_symbols → draft_limit d (glyph_of k) ≡ nat_lt most_params p → draft_step d (glyph_of k) (kind_name k) ≡ Some e
+    → (p ≤ most_params → run (place + 1) e (kinds_of ps) ≡ outcome (many_place (counted (t + 1) n p) (place + 1) ps) out)
     → run place d (k ∷ kinds_of ps) ≡ outcome (many_place (counted t n p) place (token k ∷ ps)) out
-goes_on t n p place d k ps e out few small limit step rest =
+goes_on t n p place d k ps e out small limit step rest =
     let more : Option ℕ = many_place (counted (t + 1) n p) (place + 1) ps in
-    let passed : passes_limit (counted (t + 1) n p) ≡ nat_lt 8 p = goes_on-passes (t + 1) n p (omega arith) small in
+    let passed : passes_limit (counted (t + 1) n p) ≡ nat_lt most_params p = goes_on-passes (t + 1) n p small in
     run-turn place d k (kinds_of ps)
     ∙ ap (λ b. after_turn place (kinds_of ps) b (draft_step d (glyph_of k) (kind_name k))) limit
-    ∙ ap (after_turn place (kinds_of ps) (nat_lt 8 p)) step
-    ∙ joined (nat_lt 8 p) place (kinds_of ps) e more out (λ b. rest (below 8 p b))
+    ∙ ap (after_turn place (kinds_of ps) (nat_lt most_params p)) step
+    ∙ joined (nat_lt most_params p) place (kinds_of ps) e more out (λ b. rest (below most_params p b))
     ∙ ap (λ b. outcome (if b then Some place else more) out) (sym passed)
 
 -- behind whole symbols the pieces add these
 abbrev Runs : List Piece → List (Symbol ℤ) → Type 0
-Runs ps more = (t p place : ℕ) (ys : List (Symbol ℤ)) → t + length (kinds_of ps) ≤ 65536 → length ys ≤ 4096 → run place (whole ys) (kinds_of ps) ≡ outcome (many_place (counted t (length ys) p) place ps) (ys ++ more)
+Runs ps more = (t p place : ℕ) (ys : List (Symbol ℤ)) → length ys ≤ most_axiom_symbols → run place (whole ys) (kinds_of ps) ≡ outcome (many_place (counted t (length ys) p) place ps) (ys ++ more)
 
 -- one symbol more
-added : (t p place : ℕ) (ys : List (Symbol ℤ)) (x : Symbol ℤ) (ps : List Piece) (more : List (Symbol ℤ)) → t + length (kinds_of ps) ≤ 65536 → length ys + 1 ≤ 4096 → Runs ps more
+added : (t p place : ℕ) (ys : List (Symbol ℤ)) (x : Symbol ℤ) (ps : List Piece) (more : List (Symbol ℤ)) → length ys + 1 ≤ most_axiom_symbols → Runs ps more
     → run place (whole (ys ++ x ∷ [])) (kinds_of ps) ≡ outcome (many_place (counted t (length ys + 1) p) place ps) (ys ++ x ∷ more)
-added t p place ys x ps more few small runs =
+added t p place ys x ps more small runs =
     let long : length (ys ++ x ∷ []) ≡ length ys + 1 = length-append ys (x ∷ []) in
-    runs t p place (ys ++ x ∷ []) few (omega (arith, long))
+    runs t p place (ys ++ x ∷ []) (omega (arith, long))
     ∙ ap (λ n. outcome (many_place (counted t n p) place ps) ((ys ++ x ∷ []) ++ more)) long
     ∙ ap (outcome (many_place (counted t (length ys + 1) p) place ps)) (append_assoc ys (x ∷ []) more)
 
 -- a symbol of one token
 single : (x : Symbol ℤ) (k : Kind) → ((ys : List (Symbol ℤ)) → draft_step (whole ys) (glyph_of k) (kind_name k) ≡ Some (whole (ys ++ x ∷ []))) → (ps : List Piece) (more : List (Symbol ℤ)) → Runs ps more → Runs (note a_symbol ∷ token k ∷ ps) (x ∷ more)
-single x k step ps more runs t p place ys few small =
-    begins t p place ys k ps (whole (ys ++ x ∷ [])) (ys ++ x ∷ more) few (step ys) (λ h. added (t + 1) 0 (place + 1) ys x ps more (omega arith) h runs)
+single x k step ps more runs t p place ys small =
+    begins t p place ys k ps (whole (ys ++ x ∷ [])) (ys ++ x ∷ more) (step ys) (λ h. added (t + 1) 0 (place + 1) ys x ps more h runs)
 
 name-step : (ys : List (Symbol ℤ)) (n : ModuleName) → draft_step (whole ys) (glyph_of (name_kind n)) (kind_name (name_kind n)) ≡ Some (B.named ys n)
 name-step ys (named n) = refl
@@ -159,53 +160,53 @@ closing-pieces (z ∷ zs) rest =
 small_plain : (b : Bool) (ys : List (Symbol ℤ)) (n : ModuleName) (us : List ℤ) (m : ℕ) → nat_lt m (2 ^ 63) ≡ true → B.due_step ys n us (glyphs.Number m) ≡ Some (number_read ys n (us ++ pos m ∷ []))
 small_plain b ys n us m h = rw h refl
 
-small_minus : (ys : List (Symbol ℤ)) (n : ModuleName) (us : List ℤ) (m : ℕ) → nat_lt (length us) 8 ≡ true → nat_le m (2 ^ 63) ≡ true → B.minus_step ys n us (glyphs.Number m) ≡ Some (number_read ys n (us ++ negative m ∷ []))
+small_minus : (ys : List (Symbol ℤ)) (n : ModuleName) (us : List ℤ) (m : ℕ) → nat_lt (length us) most_params ≡ true → nat_le m (2 ^ 63) ≡ true → B.minus_step ys n us (glyphs.Number m) ≡ Some (number_read ys n (us ++ negative m ∷ []))
 small_minus ys n us m h k = rw (h, k) refl
 
 -- a parameter that is due
-number-run : (t place : ℕ) (ys : List (Symbol ℤ)) (n : ModuleName) (us : List ℤ) (z : Signed) (ps : List Piece) (out : List (Symbol ℤ)) → IsSigned z → t + length (kinds_of (signed_pieces z ++ ps)) ≤ 65536 → length ys + 1 ≤ 4096
-    → ((u place : ℕ) → u + length (kinds_of ps) ≤ 65536 → length us + 1 ≤ 8 → run place (number_read ys n (us ++ signed_value z ∷ [])) (kinds_of ps) ≡ outcome (many_place (counted u (length ys + 1) (length us + 1)) place ps) out)
+number-run : (t place : ℕ) (ys : List (Symbol ℤ)) (n : ModuleName) (us : List ℤ) (z : Signed) (ps : List Piece) (out : List (Symbol ℤ)) → IsSigned z → length ys + 1 ≤ most_axiom_symbols
+    → ((u place : ℕ) → length us + 1 ≤ most_params → run place (number_read ys n (us ++ signed_value z ∷ [])) (kinds_of ps) ≡ outcome (many_place (counted u (length ys + 1) (length us + 1)) place ps) out)
     → run place (number_due ys n us) (kinds_of (signed_pieces z ++ ps)) ≡ outcome (many_place (counted t (length ys + 1) (length us + 1)) place (signed_pieces z ++ ps)) out
-number-run t place ys n us (plain m) ps out g few small rest =
+number-run t place ys n us (unsigned m) ps out g small rest =
     let fits : nat_lt m (2 ^ 63) ≡ true = grind (arith, nat_tests, g) in
-    goes_on t (length ys + 1) (length us + 1) place (number_due ys n us) (Number m) ps (number_read ys n (us ++ pos m ∷ [])) out few small refl (small_plain true ys n us m fits) (λ h. rest (t + 1) (place + 1) (omega arith) h)
-number-run t place ys n us (minus_sign m) ps out g few small rest =
+    goes_on t (length ys + 1) (length us + 1) place (number_due ys n us) (Number m) ps (number_read ys n (us ++ pos m ∷ [])) out small refl (small_plain true ys n us m fits) (λ h. rest (t + 1) (place + 1) h)
+number-run t place ys n us (minus_sign m) ps out g small rest =
     let fits : nat_le m (2 ^ 63) ≡ true = grind (arith, nat_tests, g) in
-    goes_on t (length ys + 1) (length us + 1) place (number_due ys n us) Minus (token (Number m) ∷ ps) (minus_read ys n us) out few small refl refl (λ h.
-    let room : nat_lt (length us) 8 ≡ true = grind (arith, nat_tests, h) in
-    goes_on (t + 1) (length ys + 1) (length us + 1) (place + 1) (minus_read ys n us) (Number m) ps (number_read ys n (us ++ negative m ∷ [])) out (omega arith) small (sym (within 8 (length us + 1) h)) (small_minus ys n us m room fits) (λ i. rest (t + 1 + 1) (place + 1 + 1) (omega arith) h))
+    goes_on t (length ys + 1) (length us + 1) place (number_due ys n us) Minus (token (Number m) ∷ ps) (minus_read ys n us) out small refl refl (λ h.
+    let room : nat_lt (length us) most_params ≡ true = grind (arith, nat_tests, h) in
+    goes_on (t + 1) (length ys + 1) (length us + 1) (place + 1) (minus_read ys n us) (Number m) ps (number_read ys n (us ++ negative m ∷ [])) out small (sym (within most_params (length us + 1) h)) (small_minus ys n us m room fits) (λ i. rest (t + 1 + 1) (place + 1 + 1) h))
 
 -- behind a parameter
-read-run : (zs : List Signed) (ps : List Piece) (more : List (Symbol ℤ)) → Runs ps more → EachOf IsSigned zs → (ys : List (Symbol ℤ)) (n : ModuleName) → length ys + 1 ≤ 4096 → (t place : ℕ) (us : List ℤ) → t + length (kinds_of (closing zs ps)) ≤ 65536 → length us ≤ 8
+read-run : (zs : List Signed) (ps : List Piece) (more : List (Symbol ℤ)) → Runs ps more → EachOf IsSigned zs → (ys : List (Symbol ℤ)) (n : ModuleName) → length ys + 1 ≤ most_axiom_symbols → (t place : ℕ) (us : List ℤ) → length us ≤ most_params
     → run place (number_read ys n us) (kinds_of (closing zs ps)) ≡ outcome (many_place (counted t (length ys + 1) (length us)) place (closing zs ps)) (ys ++ Module n (us ++ map signed_value zs) ∷ more)
-read-run [] ps more runs g ys n small t place us few room =
-    goes_on t (length ys + 1) (length us) place (number_read ys n us) RightParen ps (whole (ys ++ Module n us ∷ [])) (ys ++ Module n (us ++ []) ∷ more) few small (sym (within 8 (length us) room)) refl
-    (λ h. added (t + 1) (length us) (place + 1) ys (Module n us) ps more (omega arith) small runs ∙ ap (λ zs. outcome (many_place (counted (t + 1) (length ys + 1) (length us)) (place + 1) ps) (ys ++ Module n zs ∷ more)) (sym (append-nil us)))
-read-run (z ∷ zs) ps more runs g ys n small t place us few room =
+read-run [] ps more runs g ys n small t place us room =
+    goes_on t (length ys + 1) (length us) place (number_read ys n us) RightParen ps (whole (ys ++ Module n us ∷ [])) (ys ++ Module n (us ++ []) ∷ more) small (sym (within most_params (length us) room)) refl
+    (λ h. added (t + 1) (length us) (place + 1) ys (Module n us) ps more small runs ∙ ap (λ zs. outcome (many_place (counted (t + 1) (length ys + 1) (length us)) (place + 1) ps) (ys ++ Module n zs ∷ more)) (sym (append-nil us)))
+read-run (z ∷ zs) ps more runs g ys n small t place us room =
     let v = signed_value z in
     let longer : length (us ++ v ∷ []) ≡ length us + 1 = length-append us (v ∷ []) in
-    goes_on t (length ys + 1) (length us) place (number_read ys n us) Comma (note a_param ∷ (signed_pieces z ++ closing zs ps)) (number_due ys n us) (ys ++ Module n (us ++ v ∷ map signed_value zs) ∷ more) few small (sym (within 8 (length us) room)) refl
-    (λ h. number-run (t + 1) (place + 1) ys n us z (closing zs ps) (ys ++ Module n (us ++ v ∷ map signed_value zs) ∷ more) g.0 (omega arith) small
-    (λ u q enough some.
-    read-run zs ps more runs g.1 ys n small u q (us ++ v ∷ []) enough (omega (arith, longer))
+    goes_on t (length ys + 1) (length us) place (number_read ys n us) Comma (note a_param ∷ (signed_pieces z ++ closing zs ps)) (number_due ys n us) (ys ++ Module n (us ++ v ∷ map signed_value zs) ∷ more) small (sym (within most_params (length us) room)) refl
+    (λ h. number-run (t + 1) (place + 1) ys n us z (closing zs ps) (ys ++ Module n (us ++ v ∷ map signed_value zs) ∷ more) g.0 small
+    (λ u q some.
+    read-run zs ps more runs g.1 ys n small u q (us ++ v ∷ []) (omega (arith, longer))
     ∙ ap (λ m. outcome (many_place (counted u (length ys + 1) m) q (closing zs ps)) (ys ++ Module n ((us ++ v ∷ []) ++ map signed_value zs) ∷ more)) longer
     ∙ ap (λ vs. outcome (many_place (counted u (length ys + 1) (length us + 1)) q (closing zs ps)) (ys ++ Module n vs ∷ more)) (append_assoc us (v ∷ []) (map signed_value zs))))
 
 -- a module without parameters
 bare-runs : (n : ModuleName) (ps : List Piece) (more : List (Symbol ℤ)) → NoParen (kinds_of ps) → Runs ps more → Runs (note a_symbol ∷ token (name_kind n) ∷ ps) (Module n [] ∷ more)
-bare-runs n ps more free runs t p place ys few small =
-    begins t p place ys (name_kind n) ps (B.named ys n) (ys ++ Module n [] ∷ more) few (name-step ys n)
-    (λ h. bare-run (place + 1) ys n (kinds_of ps) free ∙ added (t + 1) 0 (place + 1) ys (Module n []) ps more (omega arith) h runs)
+bare-runs n ps more free runs t p place ys small =
+    begins t p place ys (name_kind n) ps (B.named ys n) (ys ++ Module n [] ∷ more) (name-step ys n)
+    (λ h. bare-run (place + 1) ys n (kinds_of ps) free ∙ added (t + 1) 0 (place + 1) ys (Module n []) ps more h runs)
 
 -- a module with parameters
 module-runs : (n : ModuleName) (z : Signed) (zs : List Signed) → EachOf IsSigned (z ∷ zs) → (ps : List Piece) (more : List (Symbol ℤ)) → Runs ps more → Runs (note a_symbol ∷ token (name_kind n) ∷ token LeftParen ∷ note a_param ∷ (signed_pieces z ++ closing zs ps)) (Module n (map signed_value (z ∷ zs)) ∷ more)
-module-runs n z zs g ps more runs t p place ys few small =
+module-runs n z zs g ps more runs t p place ys small =
     let out = ys ++ Module n (map signed_value (z ∷ zs)) ∷ more in
     let params = signed_pieces z ++ closing zs ps in
-    begins t p place ys (name_kind n) (token LeftParen ∷ note a_param ∷ params) (B.named ys n) out few (name-step ys n)
-    (λ h. goes_on (t + 1) (length ys + 1) 0 (place + 1) (B.named ys n) LeftParen (note a_param ∷ params) (number_due ys n []) out (omega arith) h refl refl
-    (λ i. number-run (t + 1 + 1) (place + 1 + 1) ys n [] z (closing zs ps) out g.0 (omega arith) h
-    (λ u q enough some. read-run zs ps more runs g.1 ys n h u q (signed_value z ∷ []) enough some)))
+    begins t p place ys (name_kind n) (token LeftParen ∷ note a_param ∷ params) (B.named ys n) out (name-step ys n)
+    (λ h. goes_on (t + 1) (length ys + 1) 0 (place + 1) (B.named ys n) LeftParen (note a_param ∷ params) (number_due ys n []) out h refl refl
+    (λ i. number-run (t + 1 + 1) (place + 1 + 1) ys n [] z (closing zs ps) out g.0 h
+    (λ u q some. read-run zs ps more runs g.1 ys n h u q (signed_value z ∷ []) some)))
 
 symbol-runs : (x : Symbol Signed) (xs : List (Symbol Signed)) (ps : List Piece) → IsSymbol IsSigned x → NoParen (kinds_of ps) → Runs ps (values_of xs) → Runs (symbol_pieces signed_pieces x ++ ps) (values_of (x ∷ xs))
 symbol-runs (Module n []) xs ps g free runs = bare-runs n ps (values_of xs) free runs
@@ -248,7 +249,7 @@ gap-free false b ps h = h
 
 -- a string is read as its values, or refused at the token at which it passes a limit
 pub string-runs : (xs : List (Symbol Signed)) → EachOf (IsSymbol IsSigned) xs → Runs (string_pieces signed_pieces xs) (values_of xs)
-string-runs [] g = λ t p place ys few small. ap (λ zs. Some (Ok zs)) (sym (append-nil ys))
+string-runs [] g = λ t p place ys small. ap (λ zs. Some (Ok zs)) (sym (append-nil ys))
 string-runs (x ∷ xs) g =
     let a = ends_in_name x in
     let b = begins_with_letter xs in

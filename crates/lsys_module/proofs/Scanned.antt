@@ -1,7 +1,7 @@
 -- The facts that a scan keeps tell the verdict.
 use Rattle.std.proofs.Common.{◌≡◌, ℕ, zero, suc, ◌+◌, ◌-◌, ◌^◌, Bool, true, false, nat_lt, nat_le, Option, Some, None, List, [], ◌∷◌, refl, ap, arith, option_map, if◌then◌else◌}
 use Rattle.lsys_syntax.specs.Tokens as syntax
-use Rattle.lsys_syntax.specs.Strings.{ModuleName, named, plus, minus, ampersand, caret, backslash, slash, bar, bang, Symbol, Module, Push, Pop, Cut, Signed, plain, minus_sign}
+use Rattle.lsys_syntax.specs.Strings.{ModuleName, named, plus, minus, ampersand, caret, backslash, slash, bar, bang, Symbol, Module, Push, Pop, Cut, Signed, unsigned, minus_sign}
 use Rattle.lsys_syntax.specs.RuleMachine.{reversed, reversed_onto, open_in, where_closed}
 use Rattle.lsys_syntax.specs.Commands.{set_axiom}
 use Rattle.lsys_syntax.specs.LineMachine.{AxiomState, Symbols, NumberDue, MinusRead, NumberRead, State, InAxiom, Stop, popped, if_small, axiom_step, symbols_step, number_due_step, minus_step, number_read_step, Verdict, stops, ended, is_stop, depth, nesting_bound, verdict_from}
@@ -73,7 +73,7 @@ small-number r n z zs true = (NumberRead r n (z ∷ zs), refl, refl, tt)
 small-number r n z zs false = refl
 
 number_due-step : (r : List (Symbol Signed)) (n : ModuleName) (zs : List Signed) (k : syntax.Kind) → StepsTo (within (open_in r) (param_step spots.NumberDue (glyph_of k))) (number_due_step k r n zs)
-number_due-step r n zs (syntax.Number m) = small-number r n (plain m) zs (nat_lt m (2 ^ 63))
+number_due-step r n zs (syntax.Number m) = small-number r n (unsigned m) zs (nat_lt m (2 ^ 63))
 number_due-step r n zs syntax.Minus = (MinusRead r n zs, refl, refl, tt)
 number_due-step r n zs k = refl
 

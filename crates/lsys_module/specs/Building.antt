@@ -1,5 +1,6 @@
 -- Tokens that are a string, read one after another: what was read of it, and at which token a limit is passed.
-use Rattle.std.specs.Prelude.{◌≡◌, ℕ, ℤ, pos, ◌+◌, ◌^◌, ◌&&◌, Bool, true, false, nat_lt, nat_le, List, [], ◌∷◌, ◌++◌, length, All, slice_get, option_map, Option, Some, None, Result, Ok, Err, if◌then◌else◌}
+use Rattle.std.specs.Prelude.{◌≡◌, ℕ, ℤ, pos, ◌+◌, ◌&&◌, Bool, true, false, nat_lt, nat_le, List, [], ◌∷◌, ◌++◌, length, All, slice_get, option_map, Option, Some, None, Result, Ok, Err, if◌then◌else◌}
+use Rattle.lsys_syntax.specs.Limits.{most_params, most_axiom_symbols, value_bound}
 use Rattle.lsys_syntax.specs.Tokens.{Kind}
 use Rattle.lsys_syntax.specs.Strings.{Symbol, Module, Push, Pop, Cut, ModuleName, plus, Signed, negative}
 use Rattle.lsys_syntax.specs.RuleMachine.{Sign, a_name, sign_of}
@@ -75,12 +76,12 @@ named_step ys n glyphs.Open m = Some (number_due ys n [])
 named_step ys n g m = symbol_step (ys ++ Module n [] ∷ []) g m
 
 abbrev pub due_step : List (Symbol ℤ) → ModuleName → List ℤ → Glyph → Option Draft
-due_step ys n zs (glyphs.Number m) = if nat_lt m (2 ^ 63) then Some (number_read ys n (zs ++ pos m ∷ [])) else None
+due_step ys n zs (glyphs.Number m) = if nat_lt m value_bound then Some (number_read ys n (zs ++ pos m ∷ [])) else None
 due_step ys n zs glyphs.Minus = Some (minus_read ys n zs)
 due_step ys n zs g = None
 
 abbrev pub minus_step : List (Symbol ℤ) → ModuleName → List ℤ → Glyph → Option Draft
-minus_step ys n zs (glyphs.Number m) = if nat_lt (length zs) 8 && nat_le m (2 ^ 63) then Some (number_read ys n (zs ++ negative m ∷ [])) else None
+minus_step ys n zs (glyphs.Number m) = if nat_lt (length zs) most_params && nat_le m value_bound then Some (number_read ys n (zs ++ negative m ∷ [])) else None
 minus_step ys n zs g = None
 
 abbrev pub read_step : List (Symbol ℤ) → ModuleName → List ℤ → Glyph → Option Draft
@@ -98,13 +99,13 @@ draft_step (number_read ys n zs) g m = read_step ys n zs g
 
 abbrev pub named_limit : List (Symbol ℤ) → ModuleName → Glyph → Bool
 named_limit ys n glyphs.Open = false
-named_limit ys n g = nat_lt 4096 (length (ys ++ Module n [] ∷ []) + 1)
+named_limit ys n g = nat_lt most_axiom_symbols (length (ys ++ Module n [] ∷ []) + 1)
 
 -- this token begins one symbol or one parameter too many
 abbrev pub draft_limit : Draft → Glyph → Bool
-draft_limit (whole ys) g = nat_lt 4096 (length ys + 1)
+draft_limit (whole ys) g = nat_lt most_axiom_symbols (length ys + 1)
 draft_limit (named ys n) g = named_limit ys n g
-draft_limit (number_due ys n zs) g = nat_lt 8 (length zs + 1)
+draft_limit (number_due ys n zs) g = nat_lt most_params (length zs + 1)
 draft_limit d g = false
 
 -- the symbols, where a string may end

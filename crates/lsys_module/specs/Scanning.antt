@@ -1,5 +1,6 @@
 -- Tokens that are read as a string: the verdict on them, and the few facts about what was read that the verdict hangs on.
-use Rattle.std.specs.Prelude.{◌≡◌, ℕ, zero, suc, ◌+◌, ◌^◌, Bool, true, false, nat_lt, nat_le, List, [], ◌∷◌, drop, option_map, Option, Some, None, Result, Ok, Err, if◌then◌else◌}
+use Rattle.std.specs.Prelude.{◌≡◌, ℕ, zero, suc, ◌+◌, Bool, true, false, nat_lt, nat_le, List, [], ◌∷◌, drop, option_map, Option, Some, None, Result, Ok, Err, if◌then◌else◌}
+use Rattle.lsys_syntax.specs.Limits.{value_bound}
 use Rattle.lsys_syntax.specs.Tokens as syntax
 use Rattle.lsys_syntax.specs.Strings.{Symbol, Signed}
 use Rattle.lsys_syntax.specs.Commands.{set_axiom}
@@ -69,9 +70,9 @@ between_step g bare branches = None
 
 -- in parentheses
 abbrev pub param_step : Spot → Glyph → Option Spot
-param_step NumberDue (Number n) = if nat_lt n (2 ^ 63) then Some NumberRead else None
+param_step NumberDue (Number n) = if nat_lt n value_bound then Some NumberRead else None
 param_step NumberDue Minus = Some MinusRead
-param_step MinusRead (Number n) = if nat_le n (2 ^ 63) then Some NumberRead else None
+param_step MinusRead (Number n) = if nat_le n value_bound then Some NumberRead else None
 param_step NumberRead Comma = Some NumberDue
 param_step NumberRead Close = Some (Between false)
 param_step s g = None

@@ -34,7 +34,6 @@ pub fn build_string(
     from: usize,
 ) -> Result<SymbolList, StringRefusal>
     requires place { from ≤ length tokens.now }
-    requires few { length tokens.now ≤ 65536 }
     requires forms { AreTokens (kinds_of tokens.now) }
     requires line { AreOfLine tokens.now }
     requires scanned { IsString (string_verdict from tokens.now) }

@@ -51,13 +51,6 @@ impl Params {
     {
         &self.values[..self.len as usize]
     }
-    /// What every value is: a fact for proofs, which costs nothing.
-    #[inline(always)]
-    pub fn have_form(&self)
-        ensures { EachOf IsParam self.now }
-    {
-        let _ = &self.values;
-    }
 
     /// One more value, of which there are at most seven.
     pub(crate) fn and(mut self, value: i64) -> Params

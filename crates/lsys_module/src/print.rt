@@ -1,9 +1,9 @@
 //! Strings as they are printed.
 ghost use Rattle.std.specs.Prelude.{◌≡◌, ◌≤◌, Bool, IfOk, OnOk, OnErr};
 ghost use Rattle.std.specs.Io.KnownBytes.{Appends, append_known};
-ghost use Rattle.lsys_syntax.specs.Strings.{string_text, ends_in_name};
+ghost use Rattle.lsys_syntax.specs.Strings.{AreSymbols, IsModuleName, IsParam, IsSymbol, string_text, ends_in_name};
 ghost use Rattle.lsys_io.specs.Causes.{Rose};
-ghost use Rattle.lsys_module.specs.Views.{symbol_of, string_of};
+ghost use Rattle.lsys_module.specs.Views.{module_name, symbol_of, string_of};
 ghost use Rattle.lsys_module.specs.Printing.{name_behind, params_text, runs_on_after, symbol_behind};
 
 use crate::symbol::Symbol;
@@ -14,7 +14,8 @@ use lsys_text::Name;
 /// Puts a string of symbols, without an end of line.
 ///
 /// A blank stands between a module without parameters whose name has a `_` and a symbol that begins with
-/// a letter, and nowhere else.
+/// a letter, and nowhere else. What was put are symbols of the language, so the text is read as the same string
+/// (`law_of_printed_strings`).
 ///
 /// # Errors
 ///
@@ -25,6 +26,7 @@ pub fn print_string<K: Sink>(
     symbols: &SymbolList,
 ) -> Result<(), Failed>
     ensures put { OnOk result (Appends (append_known (K.written sink.old) out.old) (append_known (K.written sink.new) out.new) (string_text (string_of symbols.now))) }
+    ensures forms { OnOk result (AreSymbols (string_of symbols.now)) }
     ensures never_falls { K.faults sink.old ≤ K.faults sink.new }
     ensures failed_only_where_rose { OnErr result (Rose (K.faults sink.old) (K.faults sink.new)) }
     ensures ok_leaves_count { OnOk result (K.faults sink.new ≡ K.faults sink.old) }
@@ -45,6 +47,7 @@ fn put_symbol<K: Sink>(
     runs_on: bool,
 ) -> Result<bool, Failed>
     ensures put { OnOk result (Appends (append_known (K.written sink.old) out.old) (append_known (K.written sink.new) out.new) (symbol_behind runs_on (symbol_of symbol.now))) }
+    ensures form { OnOk result (IsSymbol IsParam (symbol_of symbol.now)) }
     ensures runs_on { IfOk result (λ more. more ≡ ends_in_name (symbol_of symbol.now)) }
     ensures never_falls { K.faults sink.old ≤ K.faults sink.new }
     ensures failed_only_where_rose { OnErr result (Rose (K.faults sink.old) (K.faults sink.new)) }
@@ -74,6 +77,7 @@ fn put_name<K: Sink>(
     runs_on: bool,
 ) -> Result<bool, Failed>
     ensures put { OnOk result (Appends (append_known (K.written sink.old) out.old) (append_known (K.written sink.new) out.new) (name_behind runs_on name)) }
+    ensures form { IsModuleName (module_name name) }
     ensures runs_on { IfOk result (λ more. more ≡ runs_on_after name) }
     ensures never_falls { K.faults sink.old ≤ K.faults sink.new }
     ensures failed_only_where_rose { OnErr result (Rose (K.faults sink.old) (K.faults sink.new)) }

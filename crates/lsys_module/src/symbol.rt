@@ -22,19 +22,3 @@ pub enum Symbol {
     /// A module.
     Module(Module),
 }
-
-impl Symbol {
-    ghost use Rattle.lsys_syntax.specs.Strings.{IsSymbol, IsParam};
-    ghost use Rattle.lsys_module.specs.Views.{symbol_of};
-
-    /// What every symbol is: a fact for proofs, which costs nothing.
-    #[inline(always)]
-    pub fn has_form(&self)
-        ensures { IsSymbol IsParam (symbol_of self.now) }
-    {
-        if let Symbol::Module(module) = self {
-            module.name.has_form();
-            module.params.have_form();
-        }
-    }
-}

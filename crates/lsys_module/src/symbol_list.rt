@@ -1,7 +1,5 @@
 //! Strings of symbols.
 ghost use Rattle.std.specs.Prelude.{◌≡◌, ◌++◌, ◌∷◌, [], length, OnOk, OnErr, IsTrue, ◌↔◌};
-ghost use Rattle.lsys_syntax.specs.Strings.{AreSymbols};
-ghost use Rattle.lsys_module.specs.Views.{string_of};
 
 use crate::symbol::Symbol;
 use std::alloc::{AllocError, Global};
@@ -19,12 +17,7 @@ impl Model for SymbolList {
 
     ghost Value = { List Symbol };
 
-    ghost use Rattle.lsys_syntax.specs.Strings.{AreSymbols};
-    ghost use Rattle.lsys_module.specs.Views.{string_of};
-
     ghost view = { λ a. a.symbols.items };
-
-    ghost invariant = { λ a. AreSymbols (string_of a.symbols.items) };
 }
 
 impl SymbolList {
@@ -46,15 +39,13 @@ impl SymbolList {
         ensures added { OnOk result (self.new ≡ self.old ++ symbol ∷ []) }
         ensures refused { OnErr result (self.new ≡ self.old) }
     {
-        symbol.has_form();
         self.symbols.push(symbol)?;
         Ok(())
     }
 
     /// The symbols, in order.
     pub fn symbols(&self) -> &[Symbol]
-        ensures symbols { result.now ≡ self.now }
-        ensures forms { AreSymbols (string_of self.now) }
+        ensures { result.now ≡ self.now }
     {
         self.symbols.as_slice()
     }

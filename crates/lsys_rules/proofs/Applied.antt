@@ -3,6 +3,7 @@ use Rattle.std.proofs.Common.{◌≡◌, ℕ, suc, ◌+◌, ◌<◌, ◌≤◌, 
 use Rattle.std.specs.Prelude.{is_some, unwrap_or}
 use Rattle.std.proofs.lemmas.List.{length-map}
 use Rattle.std.specs.Option.{IsSome}
+use Rattle.lsys_syntax.specs.Limits.{most_params, most_successor_symbols, most_rule_tokens}
 use Rattle.lsys_syntax.specs.Tokens.{NameText, Kind}
 use Rattle.lsys_syntax.specs.Strings.{ModuleName, Symbol, Module, Push, Pop, Cut, Signed}
 use Rattle.lsys_syntax.specs.Expressions.{Expr}
@@ -78,13 +79,13 @@ module _ (n : ModuleName) (fs : List NameText) (c : Option Expr) (xs : List (Sym
   fits h = is-none (rule_many 3 (plain_rule n fs c xs)) (rule-many n fs c xs 3 ∙ passes-none h)
 
 -- the parts of a rule that passes no limit
-pub passes-parts : (r : R.Rule) → rule_passes r ≡ false → (length r.formals ≤ 8) × (params_many r.successor ≡ false)
+pub passes-parts : (r : R.Rule) → rule_passes r ≡ false → (length r.formals ≤ most_params) × (params_many r.successor ≡ false)
 passes-parts r h =
-    let a = neither-of (is_many 8 (length r.formals) || condition_many r.condition || is_many 128 (length r.successor) || params_many r.successor) (is_many 2048 (length (kinds_in (rule_pieces r)))) h in
-    let b = neither-of (is_many 8 (length r.formals) || condition_many r.condition || is_many 128 (length r.successor)) (params_many r.successor) a.0 in
-    let d = neither-of (is_many 8 (length r.formals) || condition_many r.condition) (is_many 128 (length r.successor)) b.0 in
-    let e = neither-of (is_many 8 (length r.formals)) (condition_many r.condition) d.0 in
-    (at-most 8 (length r.formals) e.0, b.1)
+    let a = neither-of (is_many most_params (length r.formals) || condition_many r.condition || is_many most_successor_symbols (length r.successor) || params_many r.successor) (is_many most_rule_tokens (length (kinds_in (rule_pieces r)))) h in
+    let b = neither-of (is_many most_params (length r.formals) || condition_many r.condition || is_many most_successor_symbols (length r.successor)) (params_many r.successor) a.0 in
+    let d = neither-of (is_many most_params (length r.formals) || condition_many r.condition) (is_many most_successor_symbols (length r.successor)) b.0 in
+    let e = neither-of (is_many most_params (length r.formals)) (condition_many r.condition) d.0 in
+    (at-most most_params (length r.formals) e.0, b.1)
 
 -- the values of a string without brackets and cuts have none
 pub plain-values : (xs : List (Symbol Signed)) → is_plain (values_of xs) ≡ is_plain xs

@@ -2,7 +2,7 @@
 use Rattle.std.proofs.Common.{◌≡◌, ℕ, zero, suc, ◌+◌, Bool, true, false, ◌&&◌, Option, Some, None, List, [], ◌∷◌, nat_lt, cond, codes, bytes_eq, refl, ap, ◌∙◌}
 use Rattle.std.specs.Prelude.{not, option_map}
 use Rattle.lsys_syntax.specs.Tokens.{Kind, Word, Number, LeftParen, RightParen, Comma, Colon, Minus}
-use Rattle.lsys_syntax.specs.Strings.{ModuleName, Symbol, Module, Pop, Signed, plain, minus_sign}
+use Rattle.lsys_syntax.specs.Strings.{ModuleName, Symbol, Module, Pop, Signed, unsigned, minus_sign}
 use Rattle.lsys_syntax.specs.Rules.{Rule}
 use Rattle.lsys_syntax.specs.RuleMachine as R
 use Rattle.lsys_syntax.specs.RuleMachine.{reversed, Sign, a_name, a_push, a_pop, a_cut, no_sign, sign_of, production, homomorphism, open_in, where_closed}
@@ -47,7 +47,7 @@ small-foreign true s h = h
 small-foreign false s h = refl
 
 due-foreign : (k : Kind) (r : List (Symbol Signed)) (n : ModuleName) (zs : List Signed) → not (is_plain r) ≡ true → is_foreign (number_due_step k r n zs) ≡ true
-due-foreign (Number m) r n zs h = small-foreign (nat_lt m 9223372036854775808) (InAxiom (NumberRead r n (plain m ∷ zs))) h
+due-foreign (Number m) r n zs h = small-foreign (nat_lt m 9223372036854775808) (InAxiom (NumberRead r n (unsigned m ∷ zs))) h
 due-foreign Minus r n zs h = h
 due-foreign k r n zs h = refl
 

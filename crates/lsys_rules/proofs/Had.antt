@@ -3,7 +3,7 @@ use Rattle.std.proofs.Common.{◌≡◌, ℕ, zero, suc, ◌+◌, ◌<◌, Bool,
 use Rattle.std.specs.Prelude.{option_map}
 use Rattle.std.proofs.lemmas.Slice.Eq.{bytes_eq-Decides}
 use Rattle.lsys_syntax.specs.Tokens.{NameText, Kind, Word, Number, LeftParen, RightParen, LeftBracket, RightBracket, Percent, Comma, Colon, Minus}
-use Rattle.lsys_syntax.specs.Strings.{ModuleName, Symbol, Module, Pop, Signed, plain, minus_sign}
+use Rattle.lsys_syntax.specs.Strings.{ModuleName, Symbol, Module, Pop, Signed, unsigned, minus_sign}
 use Rattle.lsys_syntax.specs.Expressions.{Expr}
 use Rattle.lsys_syntax.specs.RuleMachine as R
 use Rattle.lsys_syntax.specs.RuleMachine.{reversed_onto, reversed, Sign, a_name, a_push, a_pop, a_cut, no_sign, sign_of, open_in, where_closed}
@@ -67,7 +67,7 @@ small-axiom true s h = h
 small-axiom false s h = tt
 
 due-axiom : (k : Kind) (r : List (Symbol Signed)) (n : ModuleName) (zs : List Signed) → IsAxiom (number_due_step k r n zs)
-due-axiom (Number m) r n zs = small-axiom _ (InAxiom (NumberRead r n (plain m ∷ zs))) tt
+due-axiom (Number m) r n zs = small-axiom _ (InAxiom (NumberRead r n (unsigned m ∷ zs))) tt
 due-axiom Minus r n zs = tt
 due-axiom k r n zs = tt
 
@@ -169,7 +169,7 @@ small-plain true s h = h
 small-plain false s h = tt
 
 due-plain : (k : Kind) (r : List (Symbol Signed)) (n : ModuleName) (zs : List Signed) → is_plain r ≡ true → IsPlainAxiom (number_due_step k r n zs)
-due-plain (Number m) r n zs h = small-plain _ (InAxiom (NumberRead r n (plain m ∷ zs))) h
+due-plain (Number m) r n zs h = small-plain _ (InAxiom (NumberRead r n (unsigned m ∷ zs))) h
 due-plain Minus r n zs h = h
 due-plain k r n zs h = tt
 

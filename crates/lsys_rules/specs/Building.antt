@@ -1,5 +1,6 @@
 -- Which parts of a rule's line can be built.
 use Rattle.std.specs.Prelude.{◌≡◌, ◌≤◌, false, Option, Some, None, List, [], ◌∷◌, length}
+use Rattle.lsys_syntax.specs.Limits.{most_params}
 use Rattle.lsys_syntax.specs.Tokens.{NameText, Kind}
 use Rattle.lsys_rules.specs.declared.rule_line.Span.{Span}
 use Rattle.lsys_rules.specs.declared.rule_line.ModuleLine.{ModuleLine}
@@ -14,9 +15,9 @@ abbrev pub CanBuildAll : List NameText → List Kind → List Span → Type 0
 CanBuildAll fs ks [] = Unit {0}
 CanBuildAll fs ks (s ∷ ss) = CanBuild fs ks s × CanBuildAll fs ks ss
 
--- a module of at most eight parameters
+-- a module of few enough parameters
 abbrev pub CanBuildModule : List NameText → List Kind → ModuleLine → Type 0
-CanBuildModule fs ks m = CanBuildAll fs ks m.params.items × (length m.params.items ≤ 8)
+CanBuildModule fs ks m = CanBuildAll fs ks m.params.items × (length m.params.items ≤ most_params)
 
 abbrev pub CanBuildModules : List NameText → List Kind → List ModuleLine → Type 0
 CanBuildModules fs ks [] = Unit {0}

@@ -1,6 +1,7 @@
 -- What a production is refused for by itself, part by part.
 use Rattle.std.specs.Prelude.{ℕ, Bool, false, ◌||◌, Option, Some, None, List, [], ◌∷◌, ◌++◌, nat_lt, length}
 use Rattle.std.specs.List.{list_any}
+use Rattle.lsys_syntax.specs.Limits.{most_params, most_successor_symbols, most_expression_tokens, most_rule_tokens}
 use Rattle.lsys_syntax.specs.Tokens.{NameText}
 use Rattle.lsys_syntax.specs.Strings.{Symbol, Module}
 use Rattle.lsys_syntax.specs.Expressions.{Expr, expr_kinds}
@@ -35,7 +36,7 @@ abbrev pub is_many : ℕ → ℕ → Bool
 is_many most n = nat_lt most n
 
 abbrev pub expr_many : Expr → Bool
-expr_many e = is_many 256 (length (expr_kinds e))
+expr_many e = is_many most_expression_tokens (length (expr_kinds e))
 
 abbrev pub any_many : List Expr → Bool
 any_many [] = false
@@ -45,16 +46,17 @@ abbrev pub condition_many : Option Expr → Bool
 condition_many None = false
 condition_many (Some e) = expr_many e
 
--- a module has more than eight parameters, or one of more than 256 tokens
+-- a module has too many parameters, or one of them has too many tokens
 abbrev pub params_many : List (Symbol Expr) → Bool
 params_many [] = false
-params_many (Module n es ∷ xs) = (is_many 8 (length es) || any_many es) || params_many xs
+params_many (Module n es ∷ xs) = (is_many most_params (length es) || any_many es) || params_many xs
 params_many (x ∷ xs) = params_many xs
 
--- more formals than eight, tokens of an expression than 256, symbols than 128, or tokens than 2,048
+-- more formals or parameters than a module may have, tokens than an expression may, symbols than a successor may, or
+-- tokens than a rule may
 abbrev pub rule_passes : Rule → Bool
 rule_passes r =
-    is_many 8 (length r.formals) || condition_many r.condition || is_many 128 (length r.successor) || params_many r.successor || is_many 2048 (length (kinds_of (rule_pieces r)))
+    is_many most_params (length r.formals) || condition_many r.condition || is_many most_successor_symbols (length r.successor) || params_many r.successor || is_many most_rule_tokens (length (kinds_of (rule_pieces r)))
 
 -- a name of its expressions is no formal, a formal stands twice, or a limit is passed
 abbrev pub rule_refused : Rule → Bool

@@ -1,5 +1,5 @@
 -- How a command is kept.
-use Rattle.std.specs.Prelude.{List, ◌≤◌, length}
+use Rattle.std.specs.Prelude.{List}
 use Rattle.lsys_text.specs.Tokens.{kinds_of}
 use Rattle.lsys_module.specs.Building.{AreOfLine}
 use Rattle.lsys_text.specs.declared.token_kind.Token.{Token}
@@ -12,7 +12,6 @@ command_tokens a = a.tokens.items
 
 -- the tokens are some of a line, of their forms, and spell the command that has the parts
 pub record IsKept (a : Inside) : Type 0 where
-  pub few : length a.tokens.items ≤ 65536
   pub forms : AreTokens (kinds_of a.tokens.items)
   pub line : AreOfLine a.tokens.items
   pub parted : IsParted (kinds_of a.tokens.items) a.parts

@@ -1,6 +1,7 @@
 //! Rules built from the places of their parts.
 ghost use Rattle.std.specs.Prelude.{◌≡◌, ◌≤◌, length, map, IfOk};
 ghost use Rattle.std.specs.Option.{option_map};
+ghost use Rattle.lsys_syntax.specs.Limits.{most_params};
 ghost use Rattle.lsys_text.specs.Tokens.{kinds_of, name_of};
 ghost use Rattle.lsys_rules.specs.Views.{spelled, template_of, rule_of};
 ghost use Rattle.lsys_rules.specs.Built.{HasTree, HaveTrees, ConditionHasTree, TemplateHasTrees, TemplatesHaveTrees, IsBuilt};
@@ -23,7 +24,7 @@ pub(crate) fn build_rule(
 ) -> Result<Rule, AllocError>
     requires condition { CanBuildCondition (map name_of line.now.formals.items) (kinds_of tokens.now) line.now.condition }
     requires successor { CanBuildModules (map name_of line.now.formals.items) (kinds_of tokens.now) line.now.successor.items }
-    requires few { length line.now.formals.items ≤ 8 }
+    requires few { length line.now.formals.items ≤ most_params }
     ensures label { IfOk result (λ r. r.label ≡ line.now.label) }
     ensures rule { IfOk result (λ r. rule_of r ≡ rule_at (kinds_of tokens.now) line.now) }
     ensures built { IfOk result IsBuilt }
@@ -50,7 +51,7 @@ fn condition(
     formals: &[Name],
 ) -> Result<Option<Expr>, AllocError>
     requires known { CanBuildCondition (map name_of formals.now) (kinds_of tokens.now) condition }
-    requires few { length formals.now ≤ 8 }
+    requires few { length formals.now ≤ most_params }
     ensures spelled { IfOk result (λ c. option_map spelled c ≡ condition_at (kinds_of tokens.now) condition) }
     ensures tree { IfOk result (λ c. ConditionHasTree (map name_of formals.now) c) }
 {
@@ -67,7 +68,7 @@ fn templates(
     formals: &[Name],
 ) -> Result<Vec<Template>, AllocError>
     requires known { CanBuildModules (map name_of formals.now) (kinds_of tokens.now) modules.now }
-    requires few { length formals.now ≤ 8 }
+    requires few { length formals.now ≤ most_params }
     ensures spelled { IfOk result (λ v. map template_of v.items ≡ modules_at (kinds_of tokens.now) modules.now) }
     ensures trees { IfOk result (λ v. TemplatesHaveTrees (map name_of formals.now) v.items) }
 {
@@ -85,7 +86,7 @@ fn template(
     formals: &[Name],
 ) -> Result<Template, AllocError>
     requires known { CanBuildModule (map name_of formals.now) (kinds_of tokens.now) line.now }
-    requires few { length formals.now ≤ 8 }
+    requires few { length formals.now ≤ most_params }
     ensures spelled { IfOk result (λ t. template_of t ≡ module_at (kinds_of tokens.now) line.now) }
     ensures trees { IfOk result (λ t. TemplateHasTrees (map name_of formals.now) t) }
 {
@@ -102,7 +103,7 @@ fn params(
     formals: &[Name],
 ) -> Result<Vec<Expr>, AllocError>
     requires known { CanBuildAll (map name_of formals.now) (kinds_of tokens.now) spans.now }
-    requires few { length formals.now ≤ 8 }
+    requires few { length formals.now ≤ most_params }
     ensures spelled { IfOk result (λ v. map spelled v.items ≡ params_at (kinds_of tokens.now) spans.now) }
     ensures trees { IfOk result (λ v. HaveTrees (map name_of formals.now) v.items) }
 {
@@ -120,7 +121,7 @@ fn expression(
     formals: &[Name],
 ) -> Result<Expr, AllocError>
     requires known { CanBuild (map name_of formals.now) (kinds_of tokens.now) span }
-    requires few { length formals.now ≤ 8 }
+    requires few { length formals.now ≤ most_params }
     ensures spelled { IfOk result (λ x. x.spelled ≡ expr_at (kinds_of tokens.now) span) }
     ensures tree { IfOk result (λ x. HasTree (map name_of formals.now) x) }
 {

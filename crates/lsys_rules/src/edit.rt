@@ -69,7 +69,6 @@ fn with_query(system: &System, level: Option<u64>) -> Result<System, Refusal>
 // The system with the axiom that stands behind the first token.
 fn with_axiom(alloc: Global, system: &System, tokens: &[Token]) -> Result<System, Refusal>
     requires place { 1 ≤ length tokens.now }
-    requires few { length tokens.now ≤ 65536 }
     requires forms { AreTokens (kinds_of tokens.now) }
     requires line { AreOfLine tokens.now }
     requires string { axiom_verdict (kinds_of tokens.now) ≡ sentence (set_axiom (string_in (axiom_verdict (kinds_of tokens.now)))) }

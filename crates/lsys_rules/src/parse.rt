@@ -25,7 +25,6 @@ use std::alloc::Global;
 ///
 /// `Form` where the tokens are none of the commands, and `Memory` is want of memory.
 pub fn parse_command(alloc: Global, tokens: &[Token], line_length: u32) -> Result<Command, Refusal>
-    requires few { length tokens.now ≤ 65536 }
     requires forms { AreTokens (kinds_of tokens.now) }
     requires line { AreOfLine tokens.now }
     ensures { IsParsed tokens.now result }

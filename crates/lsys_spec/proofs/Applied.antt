@@ -1,10 +1,13 @@
 -- The edits that show prints are all accepted, and give the system again.
 use Rattle.std.proofs.Common.{◌≡◌, ℕ, Bool, true, false, not, None, Result, Ok, Err, List, [], ◌∷◌, ◌++◌, ◌&&◌, ◌+◌, ◌≤◌, nat_lt, length, map, refl, ap, ◌∙◌, sym, subst, append_assoc, append-nil, arith, length-append, le_trans, bytes_eq, ℤ, pos, negsuc}
 use Rattle.std.proofs.lemmas.Bool.Decides.{nat_tests}
+use Rattle.lsys_syntax.specs.Limits.{most_rules, most_tables, most_ignored, most_schedule_words, most_depth}
+use Rattle.lsys_syntax.specs.Checks.{rule_many}
 use Rattle.lsys_syntax.specs.Strings.{ModuleName, Symbol, Module, Push, Pop, Cut, signed_of, signed_value}
 use Rattle.lsys_syntax.specs.Rules.{Production}
 use Rattle.lsys_syntax.specs.Commands.{Command, set_lattice, set_seed, set_axiom, set_ignored, set_schedule, set_depth}
-use Rattle.lsys_spec.specs.Systems.{System, Homomorphism, main, any, same_name, is_table, with_table, tables_onto, tables, clash, written, IsAccepted, Each, Apart, WellFormed, opening}
+use Rattle.lsys_spec.specs.Systems.{System, Homomorphism, main, any, same_name, is_table, with_table, tables_onto, tables, clash, written, IsSound, Each, Apart, WellFormed, WellSpelled, opening}
+use Rattle.lsys_spec.proofs.Unplaced.{IsUnrefused, unrefused_at, axiom_short_anywhere}
 use Rattle.lsys_spec.specs.Edits.{Refusal, first_place, unless_seen, once, same_label, put, put_hom, production_refusal, homomorphism_refusal, refusal, values_of, changed, unless_refused, apply}
 use Rattle.lsys_spec.specs.Shown.{as_put, as_put_homomorphism, show_commands}
 
@@ -104,14 +107,14 @@ tables-front xs ys = rw (onto-append xs ys (main ∷ [])) (onto-longer ys (table
 pub record Rules (rs : List Production) : Type 0 where
   pub labels : Apart same_label rs
   pub groups : Apart clash rs
-  pub each : Each (λ p. IsAccepted 4 p.rule) rs
-  pub few_tables : length (tables rs) ≤ 16
-  pub few : length rs ≤ 256
+  pub each : Each (λ p. IsUnrefused 4 p.rule) rs
+  pub few_tables : length (tables rs) ≤ most_tables
+  pub few : length rs ≤ most_rules
 
-rules-one_more : (done rest : List Production) (p : Production) → Rules (done ++ p ∷ rest) → (length (tables (done ++ p ∷ [])) ≤ 16) × (length (done ++ p ∷ []) ≤ 256)
+rules-one_more : (done rest : List Production) (p : Production) → Rules (done ++ p ∷ rest) → (length (tables (done ++ p ∷ [])) ≤ most_tables) × (length (done ++ p ∷ []) ≤ most_rules)
 rules-one_more done rest p r =
     let e : done ++ p ∷ rest ≡ (done ++ p ∷ []) ++ rest = sym (append_assoc done (p ∷ []) rest) in (
-      le_trans (tables-front (done ++ p ∷ []) rest) (subst (λ rs. length (tables rs) ≤ 16) e r.few_tables),
+      le_trans (tables-front (done ++ p ∷ []) rest) (subst (λ rs. length (tables rs) ≤ most_tables) e r.few_tables),
       omega (arith, length-append done (p ∷ []), length-append done (p ∷ rest), r.few),
     )
 
@@ -120,14 +123,14 @@ module _ (s : System) (none : s.homomorphisms ≡ []) where
   new_rule p done rest r =
       let new : Each (λ q. same_label q p ≡ false) done = apart-before same_label done rest p r.labels in
       let calm : Each (λ q. clash q p ≡ false) done = apart-before clash done rest p r.groups in
-      let own : Each (λ q. IsAccepted 4 q.rule) (p ∷ rest) = each-back (λ q. IsAccepted 4 q.rule) done (p ∷ rest) r.each in
-      let more : (length (tables (done ++ p ∷ [])) ≤ 16) × (length (done ++ p ∷ []) ≤ 256) = rules-one_more done rest p r in
+      let own : Each (λ q. IsUnrefused 4 q.rule) (p ∷ rest) = each-back (λ q. IsUnrefused 4 q.rule) done (p ∷ rest) r.each in
+      let more : (length (tables (done ++ p ∷ [])) ≤ most_tables) × (length (done ++ p ∷ []) ≤ most_rules) = rules-one_more done rest p r in
       let mixes : any (λ q. not (same_label q p) && clash q p) done ≡ false =
       any-none _ done (each-map (λ q. clash q p ≡ false) (λ q. (not (same_label q p) && clash q p) ≡ false) (λ q h. and-false (not (same_label q p)) (clash q p) h) done calm) in
       let stands : any (λ q. same_label q p && not (bytes_eq q.table p.table)) done ≡ false =
       any-none _ done (each-map (λ q. same_label q p ≡ false) (λ q. (same_label q p && not (bytes_eq q.table p.table)) ≡ false) (λ q h. false-and (same_label q p) (not (bytes_eq q.table p.table)) h) done new) in
-      let few : nat_lt 16 (length (tables (put p done))) ≡ false = rw (put-new p done new) (not_over 16 (length (tables (done ++ p ∷ []))) more.0) in
-      let fits : nat_lt 256 (length (put p done) + length s.homomorphisms) ≡ false = rw (put-new p done new, none) (not_over 256 (length (done ++ p ∷ []) + 0) (omega (arith, more.1))) in
+      let few : nat_lt most_tables (length (tables (put p done))) ≡ false = rw (put-new p done new) (not_over most_tables (length (tables (done ++ p ∷ []))) more.0) in
+      let fits : nat_lt most_rules (length (put p done) + length s.homomorphisms) ≡ false = rw (put-new p done new, none) (not_over most_rules (length (done ++ p ∷ []) + 0) (omega (arith, more.1))) in
       rw (own.0.0, own.0.1) (rw (mixes, stands, few, fits, none, own.0.2))
 
   rules-applied : (rest done : List Production) (cs : List Command) → Rules (done ++ rest)
@@ -144,8 +147,8 @@ module _ (s : System) (none : s.homomorphisms ≡ []) where
 -- what holds of the rules and all homomorphism rules
 pub record Images (rules : List Production) (hs : List Homomorphism) : Type 0 where
   pub labels : Apart bytes_eq (map (λ p. p.label) rules ++ map (λ h. h.label) hs)
-  pub each : Each (λ h. IsAccepted 3 h.rule) hs
-  pub few : length rules + length hs ≤ 256
+  pub each : Each (λ h. IsUnrefused 3 h.rule) hs
+  pub few : length rules + length hs ≤ most_rules
 
 labels-before : (hs rest : List Homomorphism) (h : Homomorphism) → Apart bytes_eq (map (λ q. q.label) (hs ++ h ∷ rest)) → Each (λ q. bytes_eq q.label h.label ≡ false) hs
 labels-before [] rest h a = tt
@@ -175,10 +178,10 @@ module _ (s : System) where
   new_image : (h : Homomorphism) (done rest : List Homomorphism) → Images s.rules (done ++ h ∷ rest) → homomorphism_refusal (record s { homomorphisms = done }) h ≡ None
   new_image h done rest r =
       let new : Each (λ q. bytes_eq q.label h.label ≡ false) done = labels-before done rest h (apart-back bytes_eq (map (λ p. p.label) s.rules) (map (λ q. q.label) (done ++ h ∷ rest)) r.labels) in
-      let own : Each (λ q. IsAccepted 3 q.rule) (h ∷ rest) = each-back (λ q. IsAccepted 3 q.rule) done (h ∷ rest) r.each in
+      let own : Each (λ q. IsUnrefused 3 q.rule) (h ∷ rest) = each-back (λ q. IsUnrefused 3 q.rule) done (h ∷ rest) r.each in
       let stands : any (λ q. bytes_eq q.label h.label) s.rules ≡ false = any-none (λ q. bytes_eq q.label h.label) s.rules (rules-before s.rules done rest h r.labels) in
-      let fits : nat_lt 256 (length s.rules + length (put_hom h done)) ≡ false =
-      rw (put_hom-new h done new) (not_over 256 (length s.rules + length (done ++ h ∷ [])) (omega (arith, length-append done (h ∷ []), length-append done (h ∷ rest), r.few))) in
+      let fits : nat_lt most_rules (length s.rules + length (put_hom h done)) ≡ false =
+      rw (put_hom-new h done new) (not_over most_rules (length s.rules + length (done ++ h ∷ [])) (omega (arith, length-append done (h ∷ []), length-append done (h ∷ rest), r.few))) in
       rw (own.0.0, own.0.1) (rw (stands, fits, own.0.2))
 
   images-applied : (rest done : List Homomorphism) (cs : List Command) → Images s.rules (done ++ rest)
@@ -201,38 +204,46 @@ ends s w =
     let known : first_place (λ x. not (is_table (tables s.rules) x)) 1 s.schedule ≡ None =
     first_place-none (λ x. not (is_table (tables s.rules) x)) 1 s.schedule
     (each-map (λ x. is_table (tables s.rules) x ≡ true) (λ x. not (is_table (tables s.rules) x) ≡ false) (λ x h. ap not h) s.schedule w.scheduled) in
-    let words : nat_lt 64 (length s.schedule) ≡ false = not_over 64 (length s.schedule) w.few_words in
-    let steps : nat_lt 64 s.depth ≡ false = not_over 64 s.depth w.shallow in
+    let words : nat_lt most_schedule_words (length s.schedule) ≡ false = not_over most_schedule_words (length s.schedule) w.few_words in
+    let steps : nat_lt most_depth s.depth ≡ false = not_over most_depth s.depth w.shallow in
     let t : System = record s { schedule = main ∷ []; depth = 0 } in
     accepted t (set_schedule s.schedule) (set_depth s.depth ∷ []) (rw (known, words))
     ∙ accepted (record s { depth = 0 }) (set_depth s.depth) [] (rw steps)
 
 -- the first four lines
-begins : (s : System) (cs : List Command) → WellFormed s
+begins : (s : System) (cs : List Command) → WellFormed s → WellSpelled s
     → apply_all (Ok opening) (set_lattice s.lattice ∷ set_seed s.seed ∷ set_axiom (written s.axiom_string) ∷ set_ignored s.ignored ∷ cs)
     ≡ apply_all (Ok (record s { rules = []; homomorphisms = []; schedule = main ∷ []; depth = 0 })) cs
-begins s cs w =
-    let names : nat_lt 64 (length s.ignored) ≡ false = not_over 64 (length s.ignored) w.few_ignored in
+begins s cs w v =
+    let names : nat_lt most_ignored (length s.ignored) ≡ false = not_over most_ignored (length s.ignored) w.few_ignored in
     let t : System = record s { axiom_string = []; ignored = []; rules = []; homomorphisms = []; schedule = main ∷ []; depth = 0 } in
     let u : System = record s { ignored = []; rules = []; homomorphisms = []; schedule = main ∷ []; depth = 0 } in
-    accepted t (set_axiom (written s.axiom_string)) (set_ignored s.ignored ∷ cs) (rw w.axiom_accepted)
+    accepted t (set_axiom (written s.axiom_string)) (set_ignored s.ignored ∷ cs) (rw (axiom_short_anywhere 0 1 (written s.axiom_string) w.axiom_short))
     ∙ ap (λ xs. apply_all (Ok (record t { axiom_string = xs })) (set_ignored s.ignored ∷ cs)) (written-back s.axiom_string)
     ∙ accepted u (set_ignored s.ignored) cs (rw names)
-    ∙ ap (λ ns. apply_all (Ok (record u { ignored = ns })) cs) (once-all s.ignored [] w.ignored_once)
+    ∙ ap (λ ns. apply_all (Ok (record u { ignored = ns })) cs) (once-all s.ignored [] v.ignored_once)
+
+each-rule-unrefused : (ps : List Production) → Each (λ p. rule_many 0 p.rule ≡ None) ps → Each (λ p. IsSound p.rule) ps → Each (λ p. IsUnrefused 4 p.rule) ps
+each-rule-unrefused [] h g = tt
+each-rule-unrefused (p ∷ ps) h g = (unrefused_at 4 p.rule h.0 g.0, each-rule-unrefused ps h.1 g.1)
+
+each-image-unrefused : (hs : List Homomorphism) → Each (λ h. rule_many 0 h.rule ≡ None) hs → Each (λ h. IsSound h.rule) hs → Each (λ h. IsUnrefused 3 h.rule) hs
+each-image-unrefused [] h g = tt
+each-image-unrefused (x ∷ xs) h g = (unrefused_at 3 x.rule h.0 g.0, each-image-unrefused xs h.1 g.1)
 
 -- The edits that show prints are all accepted, and give the same system.
-pub commands-applied : (s : System) → WellFormed s → apply_all (Ok opening) (show_commands s) ≡ Ok s
-commands-applied s w =
+pub commands-applied : (s : System) → WellFormed s → WellSpelled s → apply_all (Ok opening) (show_commands s) ≡ Ok s
+commands-applied s w v =
     let last : List Command = set_schedule s.schedule ∷ set_depth s.depth ∷ [] in
     let rs : Rules s.rules = record {
       labels = rules-labels s.rules (map (λ h. h.label) s.homomorphisms) w.labels;
       groups = w.groups;
-      each = w.rules_accepted;
+      each = each-rule-unrefused s.rules w.rules_short v.rules_sound;
       few_tables = w.few_tables;
       few = omega (arith, w.few_rules);
     } in
-    let hs : Images s.rules s.homomorphisms = record { labels = w.labels; each = w.homomorphisms_accepted; few = w.few_rules } in
-    begins s (map as_put s.rules ++ (map as_put_homomorphism s.homomorphisms ++ last)) w
+    let hs : Images s.rules s.homomorphisms = record { labels = w.labels; each = each-image-unrefused s.homomorphisms w.homomorphisms_short v.homomorphisms_sound; few = w.few_rules } in
+    begins s (map as_put s.rules ++ (map as_put_homomorphism s.homomorphisms ++ last)) w v
     ∙ rules-applied (record s { rules = []; homomorphisms = []; schedule = main ∷ []; depth = 0 }) refl s.rules [] (map as_put_homomorphism s.homomorphisms ++ last) rs
     ∙ images-applied (record s { homomorphisms = []; schedule = main ∷ []; depth = 0 }) s.homomorphisms [] last hs
     ∙ ends s w

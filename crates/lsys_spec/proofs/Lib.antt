@@ -2,6 +2,7 @@ pub mod Keys
 pub mod Picks
 pub mod Turns
 pub mod Frames
+pub mod Unplaced
 pub mod Applied
 pub mod ShownBack
 pub mod Sampled

@@ -4,7 +4,7 @@ use Rattle.std.specs.Prelude.{◌↔◌, not, sum_by, slice_get, option_map}
 use Rattle.std.proofs.lemmas.Bool.{eqb-true}
 use Rattle.std.proofs.lemmas.List.Sums.{sum_by-cons}
 use Rattle.std.proofs.lemmas.Option.{get_or_from_slice_get}
-use Rattle.lsys_spec.specs.Systems.{System, Each, WellFormed}
+use Rattle.lsys_spec.specs.Systems.{System, Each, WellSpelled}
 use Rattle.lsys_spec.specs.Bodies.{Body, group}
 use Rattle.lsys_spec.specs.Levels.{ModuleValue, Symbol, Push, Pop, Module, lineage, IsLevel}
 use Rattle.lsys_spec.specs.Walks.{Entry, named, list_any}
@@ -122,13 +122,13 @@ found_asked s xs t l (r ∷ qs) q h e = at (eqb r.level t && same_lineage l (lin
 
 -- 3. where nothing of a question is touched, it is the old one
 
--- the levels of well-formed systems
+-- the levels of well-spelled systems
 pub record Derived (s : System) (xs : List (List Symbol)) : Type 0 where
-  pub formed : WellFormed s
+  pub formed : WellSpelled s
   pub levels : (t : ℕ) (x : List Symbol) → slice_get xs t ≡ Some x → IsLevel x
   pub names : (t : ℕ) (x : List Symbol) → slice_get xs t ≡ Some x → NamedLevel x
 
-pub derived : (s : System) (limit : ℕ) (xs : List (List Symbol)) → WellFormed s → meaning s limit ≡ Ok xs → Derived s xs
+pub derived : (s : System) (limit : ℕ) (xs : List (List Symbol)) → WellSpelled s → meaning s limit ≡ Ok xs → Derived s xs
 derived s limit xs w h = record {
   formed = w;
   levels = λ t x g. let r : Grown t x = grown s (has_balance s w) limit xs h t x g in is_level x r.is_balanced (rising_apart x r.rises);
@@ -138,7 +138,7 @@ derived s limit xs w h = record {
 own_parts : (l l' : List ℕ) (m m' : ModuleValue) → Module l m ≡ Module l' m' → (l' ≡ l) × (m' ≡ m)
 own_parts l l' m m' e = let a : l' ≡ l = cc in let b : m' ≡ m = cc in (a, b)
 
-pub bodies_named : (s : System) (xs : List (List Symbol)) (q : Question) → WellFormed s → IsAsked s xs q → Each NamedBody q.bodies
+pub bodies_named : (s : System) (xs : List (List Symbol)) (q : Question) → WellSpelled s → IsAsked s xs q → Each NamedBody q.bodies
 bodies_named s xs q w a = subst (λ (r : Question). Each NamedBody r.bodies) (sym a.is) (group_named s w q.level a.value.name (length a.value.params))
 
 pub own_named : (s : System) (xs : List (List Symbol)) (q : Question) → Derived s xs → IsAsked s xs q → NamedSymbol q.own

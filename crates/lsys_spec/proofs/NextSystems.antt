@@ -9,7 +9,7 @@ use Rattle.lsys_spec.specs.Systems.{System}
 use Rattle.lsys_spec.specs.Edits.{Refusal, refusal, changed, apply}
 use Rattle.lsys_spec.specs.Levels as L
 use Rattle.lsys_spec.specs.Refusals.{Reply, said, refused, is_long, is_passed_over}
-use Rattle.lsys_spec.specs.Replies.{shown, edited, accepted, levels_of, picture_of, unless_refused, verdict_reply, tokens_reply, reply, is_query, spelled, spelled_by}
+use Rattle.lsys_spec.specs.Replies.{shown, edited, accepted, levels_of, picture_of, command_reply, verdict_reply, tokens_reply, reply, is_query, spelled, spelled_by}
 
 -- what holds of a reply in the system s, where o is the command that was spelled
 record Leaves (s : System) (o : Option Command) (r : Reply) : Type 0 where
@@ -84,7 +84,7 @@ accepted_leaves limit s (set_lattice l) e = edited_leaves limit s (set_lattice l
 accepted_leaves limit s (put_homomorphism l r) e = edited_leaves limit s (put_homomorphism l r) e refl
 
 command_leaves : (limit : ℕ) (s : System) (column : ℕ → ℕ) (c : Command) (o : Option Refusal)
-    → refusal s c ≡ o → Leaves s (Some c) (unless_refused limit s column c o)
+    → refusal s c ≡ o → Leaves s (Some c) (command_reply limit s column c o)
 command_leaves limit s column c None e = accepted_leaves limit s c e
 command_leaves limit s column c (Some r) e = refusal_leaves s (Some c) _ refl refl
 

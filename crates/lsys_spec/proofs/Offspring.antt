@@ -9,7 +9,7 @@ use Rattle.lsys_syntax.specs.Strings as S
 use Rattle.lsys_syntax.specs.Expressions.{Expr}
 use Rattle.lsys_syntax.specs.Rules.{Production, IsProduction}
 use Rattle.lsys_syntax.specs.Checks.{rule_formals}
-use Rattle.lsys_spec.specs.Systems.{System, Each, WellFormed}
+use Rattle.lsys_spec.specs.Systems.{System, Each, WellSpelled}
 use Rattle.lsys_spec.specs.Values.{Tree}
 use Rattle.lsys_spec.specs.Bodies.{Body, body_of, templates, is_for, group_in, group, table_at}
 use Rattle.lsys_spec.specs.Levels.{ModuleValue, Symbol, Push, Pop, Module, lineage, balanced}
@@ -21,13 +21,13 @@ use Rattle.lsys_spec.proofs.LevelInduction.{ok_parts, ok_as_fault, ok_fault_at, 
 use Rattle.lsys_spec.proofs.Cutting.{cut_balanced}
 use Rattle.lsys_spec.proofs.Rising.{BeforeRaws, RisingRaws, before_children, before_append, before_numbered, rising_numbered, cut_rising}
 
--- 1. what a well-formed system has
+-- 1. what a well-spelled system has
 
 successors_balanced : (ps : List Production) → Each IsProduction ps → Each (λ p. S.balanced 0 p.rule.successor ≡ true) ps
 successors_balanced [] h = tt
 successors_balanced (p ∷ ps) h = (h.0.rule.successor_balanced, successors_balanced ps h.1)
 
-pub has_balance : (s : System) → WellFormed s → HasBalance s
+pub has_balance : (s : System) → WellSpelled s → HasBalance s
 has_balance s w = record { in_axiom = w.axiom_balanced; in_successors = successors_balanced s.rules w.rules }
 
 -- 2. successors

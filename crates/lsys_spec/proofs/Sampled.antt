@@ -1,7 +1,7 @@
--- The sample is well formed, so the law of show speaks of something.
+-- The sample is well formed and well spelled, so the law of show speaks of something.
 use Rattle.std.proofs.Common.{arith, refl}
 use Rattle.lsys_syntax.specs.Rules.{IsRule}
-use Rattle.lsys_spec.specs.Systems.{WellFormed}
+use Rattle.lsys_spec.specs.Systems.{IsSound, WellFormed, WellSpelled}
 use Rattle.lsys_spec.specs.ShownSample.{bare, rich, image, sample}
 
 bare-rule : IsRule bare
@@ -49,29 +49,44 @@ image-rule = record {
   successor_balanced = refl;
 }
 
+bare-sound : IsSound bare
+bare-sound = record { known = refl; once = refl; nested = omega arith }
+
+rich-sound : IsSound rich
+rich-sound = record { known = refl; once = refl; nested = omega arith }
+
+image-sound : IsSound image
+image-sound = record { known = refl; once = refl; nested = omega arith }
+
 pub sample-well_formed : WellFormed sample
 sample-well_formed = record {
   labels = ((refl, (refl, tt)), ((refl, tt), (tt, tt)));
   groups = ((refl, tt), (tt, tt));
-  rules = (
-    record { table = (refl, (refl, (refl, (refl, tt))), omega arith); label = (refl, tt, omega arith); rule = bare-rule },
-    (record { table = (refl, (refl, (refl, (refl, (refl, (refl, tt))))), omega arith); label = (refl, tt, omega arith); rule = rich-rule }, tt),
-  );
-  homomorphisms = (((refl, tt, omega arith), image-rule, (refl, refl, refl, tt)), tt);
-  rules_accepted = ((refl, refl, refl, omega arith), ((refl, refl, refl, omega arith), tt));
-  homomorphisms_accepted = ((refl, refl, refl, omega arith), tt);
-  axiom_symbols = ((refl, (omega arith, (omega arith, tt))), (tt, (((refl, (refl, tt), omega arith, omega arith), tt), ((refl, tt), (tt, (tt, tt))))));
-  axiom_balanced = refl;
-  axiom_accepted = refl;
-  ignored_names = (tt, ((refl, (refl, tt), omega arith, omega arith), tt));
-  ignored_once = ((refl, tt), (tt, tt));
-  words = ((refl, (refl, (refl, (refl, tt))), omega arith), ((refl, (refl, (refl, (refl, (refl, (refl, tt))))), omega arith), tt));
   some_word = omega arith;
   scheduled = (refl, (refl, tt));
-  small_seed = omega arith;
+  rules_short = (refl, (refl, tt));
+  homomorphisms_short = (refl, tt);
+  axiom_short = refl;
   few_tables = omega arith;
   few_rules = omega arith;
   few_words = omega arith;
   few_ignored = omega arith;
   shallow = omega arith;
+}
+
+pub sample-well_spelled : WellSpelled sample
+sample-well_spelled = record {
+  rules = (
+    record { table = (refl, (refl, (refl, (refl, tt))), omega arith); label = (refl, tt, omega arith); rule = bare-rule },
+    (record { table = (refl, (refl, (refl, (refl, (refl, (refl, tt))))), omega arith); label = (refl, tt, omega arith); rule = rich-rule }, tt),
+  );
+  homomorphisms = (((refl, tt, omega arith), image-rule, (refl, refl, refl, tt)), tt);
+  rules_sound = (bare-sound, (rich-sound, tt));
+  homomorphisms_sound = (image-sound, tt);
+  axiom_symbols = ((refl, (omega arith, (omega arith, tt))), (tt, (((refl, (refl, tt), omega arith, omega arith), tt), ((refl, tt), (tt, (tt, tt))))));
+  axiom_balanced = refl;
+  ignored_names = (tt, ((refl, (refl, tt), omega arith, omega arith), tt));
+  ignored_once = ((refl, tt), (tt, tt));
+  words = ((refl, (refl, (refl, (refl, tt))), omega arith), ((refl, (refl, (refl, (refl, (refl, (refl, tt))))), omega arith), tt));
+  small_seed = omega arith;
 }

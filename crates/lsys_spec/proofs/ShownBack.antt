@@ -2,8 +2,9 @@
 use Rattle.std.proofs.Common.{◌≡◌, ℕ, zero, Bool, true, false, Some, Result, Ok, Err, List, [], ◌∷◌, ◌++◌, ◌==◌, ◌<◌, ◌≤◌, map, length, suc, nat_le, refl, ap, ◌∙◌, sym, subst, arith, decimal, ℤ}
 use Rattle.std.proofs.lemmas.Bool.Decides.{nat_tests}
 use Rattle.std.proofs.lemmas.Fmt.{decimal_is_IsNumeral}
+use Rattle.lsys_syntax.specs.Limits.{nesting_bound}
 use Rattle.lsys_syntax.specs.Lines.{lines_of, without_cr}
-use Rattle.lsys_syntax.specs.Tokens.{short, long, Kind, Word, LongWord, Name, Number, BigNumber, Arrow, Equal, Unequal, AtMost, AtLeast, LeftParen, RightParen, LeftBracket, RightBracket, Comma, Colon, At, Plus, Minus, Times, Slash, Backslash, Percent, Ampersand, Bar, Caret, Bang, Less, Greater, Assign, Mode, First, next_mode, is_letter, is_digit, is_plain, is_word_byte, tokens}
+use Rattle.lsys_syntax.specs.Tokens.{short, long, Kind, Word, LongWord, Name, Number, BigNumber, Arrow, Equal, Unequal, AtMost, AtLeast, LeftParen, RightParen, LeftBracket, RightBracket, Comma, Colon, At, Plus, Minus, Times, Slash, Backslash, Percent, Ampersand, Bar, Caret, Bang, Less, Greater, Assign, Mode, First, next_mode, is_letter, is_digit, is_alphanumeric, is_word_byte, tokens}
 use Rattle.lsys_syntax.specs.Pieces.{Piece, blank, token, note, text_of, token_text, Tail, anything, ending, Reads, Stands, Every, IsWordText}
 use Rattle.lsys_syntax.specs.Strings.{Symbol, Module, Push, Pop, Cut, signed_of, EachOf, IsSymbol, IsParam, IsSigned, balanced}
 use Rattle.lsys_syntax.specs.Rules.{Production, IsRule, IsProduction}
@@ -13,7 +14,7 @@ use Rattle.lsys_syntax.proofs.Bytes.{AllDigits-Every}
 use Rattle.lsys_syntax.proofs.StringsRead.{value_is_signed}
 use Rattle.lsys_syntax.proofs.LineReads.{command-reads, line-reads, kinds-placed}
 use Rattle.lsys_syntax.proofs.LineComplete.{command-sentence}
-use Rattle.lsys_spec.specs.Systems.{System, Homomorphism, opening, written, IsAccepted, Each, WellFormed}
+use Rattle.lsys_spec.specs.Systems.{System, Homomorphism, opening, written, IsSound, Each, WellFormed, WellSpelled}
 use Rattle.lsys_spec.specs.Edits.{Refusal, apply}
 use Rattle.lsys_spec.specs.Shown.{as_put, as_put_homomorphism, show_commands, script_of, show_text}
 use Rattle.lsys_spec.specs.Refusals.{is_passed_over}
@@ -27,7 +28,7 @@ printed c = nat_le 32 c
 letter-printed : (c : ℕ) → is_letter c ≡ true → printed c ≡ true
 letter-printed c h = grind (arith, nat_tests)
 
-plain-printed : (c : ℕ) → is_plain c ≡ true → printed c ≡ true
+plain-printed : (c : ℕ) → is_alphanumeric c ≡ true → printed c ≡ true
 plain-printed c h = grind (arith, nat_tests)
 
 word-printed : (c : ℕ) → is_word_byte c ≡ true → printed c ≡ true
@@ -49,7 +50,7 @@ token-printed m (Word []) h = elim h.1 [ ]
 token-printed m (Word (c ∷ cs)) h = (letter-printed c h.1.0, every-map is_word_byte printed word-printed cs h.1.1)
 token-printed m LongWord h = elim h [ ]
 token-printed m (Name (short c)) h = (letter-printed c h.1, tt)
-token-printed m (Name (long c cs)) h = (letter-printed c h.1.0, (refl, every-map is_plain printed plain-printed cs h.1.1))
+token-printed m (Name (long c cs)) h = (letter-printed c h.1.0, (refl, every-map is_alphanumeric printed plain-printed cs h.1.1))
 token-printed m (Number n) h = every-map is_digit printed digit-printed (decimal n) (AllDigits-Every (decimal n) (decimal_is_IsNumeral n h).0.1)
 token-printed m BigNumber h = elim h [ ]
 token-printed m Assign h = elim h [ ]
@@ -96,7 +97,7 @@ line-cut (c ∷ cs) rest h = rw (no_feed c h.0, line-cut cs rest h.1)
 
 -- a command whose nesting is within the bound
 abbrev IsLine : Command → Type 0
-IsLine c = IsCommand c × (nesting c ≤ 32)
+IsLine c = IsCommand c × (nesting c ≤ nesting_bound)
 
 abbrev line_text : Command → List ℕ
 line_text c = text_of (command_pieces c)
@@ -150,13 +151,13 @@ each-append : {A : Type 0} (P : A → Type 0) (xs ys : List A) → Each P xs →
 each-append P [] ys h k = k
 each-append P (x ∷ xs) ys h k = (h.0, each-append P xs ys h.1 k)
 
-each-rule : (ps : List Production) → Each IsProduction ps → Each (λ p. IsAccepted 4 p.rule) ps → Each IsLine (map as_put ps)
+each-rule : (ps : List Production) → Each IsProduction ps → Each (λ p. IsSound p.rule) ps → Each IsLine (map as_put ps)
 each-rule [] h a = tt
-each-rule (p ∷ ps) h a = (((h.0.table, h.0.label, h.0.rule), a.0.3), each-rule ps h.1 a.1)
+each-rule (p ∷ ps) h a = (((h.0.table, h.0.label, h.0.rule), a.0.nested), each-rule ps h.1 a.1)
 
-each-image : (hs : List Homomorphism) → Each (λ h. IsWordText h.label × IsRule h.rule × IsHomomorphism h.rule) hs → Each (λ h. IsAccepted 3 h.rule) hs → Each IsLine (map as_put_homomorphism hs)
+each-image : (hs : List Homomorphism) → Each (λ h. IsWordText h.label × IsRule h.rule × IsHomomorphism h.rule) hs → Each (λ h. IsSound h.rule) hs → Each IsLine (map as_put_homomorphism hs)
 each-image [] h a = tt
-each-image (x ∷ xs) h a = ((h.0, a.0.3), each-image xs h.1 a.1)
+each-image (x ∷ xs) h a = ((h.0, a.0.nested), each-image xs h.1 a.1)
 
 each-value : (zs : List ℤ) → EachOf IsParam zs → EachOf IsSigned (map signed_of zs)
 each-value [] g = tt
@@ -181,31 +182,31 @@ schedule-line : (ws : List (List ℕ)) → EachOf IsWordText ws → 0 < length w
 schedule-line [] g h = absurd (omega arith)
 schedule-line (w ∷ ws) g h = g
 
-shown-lines : (s : System) → WellFormed s → Each IsLine (show_commands s)
-shown-lines s w =
-    let none : 0 ≤ 32 = omega arith in
-    let last : Each IsLine (set_schedule s.schedule ∷ set_depth s.depth ∷ []) = ((schedule-line s.schedule w.words w.some_word, none), ((omega (arith, w.shallow), none), tt)) in (
+shown-lines : (s : System) → WellFormed s → WellSpelled s → Each IsLine (show_commands s)
+shown-lines s w v =
+    let none : 0 ≤ nesting_bound = omega arith in
+    let last : Each IsLine (set_schedule s.schedule ∷ set_depth s.depth ∷ []) = ((schedule-line s.schedule v.words w.some_word, none), ((omega (arith, w.shallow), none), tt)) in (
       (tt, none),
       (
-        (w.small_seed, none),
+        (v.small_seed, none),
         (
-          ((written-symbols s.axiom_string w.axiom_symbols, written-balanced 0 s.axiom_string w.axiom_balanced), none),
+          ((written-symbols s.axiom_string v.axiom_symbols, written-balanced 0 s.axiom_string v.axiom_balanced), none),
           (
-            (w.ignored_names, none),
-            each-append IsLine (map as_put s.rules) (map as_put_homomorphism s.homomorphisms ++ set_schedule s.schedule ∷ set_depth s.depth ∷ []) (each-rule s.rules w.rules w.rules_accepted)
-                (each-append IsLine (map as_put_homomorphism s.homomorphisms) (set_schedule s.schedule ∷ set_depth s.depth ∷ []) (each-image s.homomorphisms w.homomorphisms w.homomorphisms_accepted) last),
+            (v.ignored_names, none),
+            each-append IsLine (map as_put s.rules) (map as_put_homomorphism s.homomorphisms ++ set_schedule s.schedule ∷ set_depth s.depth ∷ []) (each-rule s.rules v.rules v.rules_sound)
+                (each-append IsLine (map as_put_homomorphism s.homomorphisms) (set_schedule s.schedule ∷ set_depth s.depth ∷ []) (each-image s.homomorphisms v.homomorphisms v.homomorphisms_sound) last),
           ),
         ),
       ),
     )
 
 -- The lines of the printed script are all accepted in order from the opening system, and give the system that was printed.
-pub shown-back : (s : System) → WellFormed s → IsReadBack s
-shown-back s w =
-    ap (read_lines (Some opening)) (lines-script (show_commands s) (shown-lines s w))
-    ∙ lines-applied (show_commands s) (shown-lines s w) (Ok opening)
-    ∙ ap accepted_system (commands-applied s w)
+pub shown-back : (s : System) → WellFormed s → WellSpelled s → IsReadBack s
+shown-back s w v =
+    ap (read_lines (Some opening)) (lines-script (show_commands s) (shown-lines s w v))
+    ∙ lines-applied (show_commands s) (shown-lines s w v) (Ok opening)
+    ∙ ap accepted_system (commands-applied s w v)
 
 -- They are lines that a session reads as they stand.
-pub shown-plain : (s : System) → WellFormed s → Each IsPlainLine (lines_of (show_text s))
-shown-plain s w = subst (Each IsPlainLine) (sym (lines-script (show_commands s) (shown-lines s w))) (lines-plain (show_commands s) (shown-lines s w))
+pub shown-plain : (s : System) → WellFormed s → WellSpelled s → Each IsPlainLine (lines_of (show_text s))
+shown-plain s w v = subst (Each IsPlainLine) (sym (lines-script (show_commands s) (shown-lines s w v))) (lines-plain (show_commands s) (shown-lines s w v))

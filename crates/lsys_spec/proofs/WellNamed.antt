@@ -1,4 +1,4 @@
--- In a well-formed system, and so in each of its levels, names are names of the language.
+-- In a well-spelled system, and so in each of its levels, names are names of the language.
 use Rattle.std.proofs.Common.{◌≡◌, ℕ, zero, suc, ◌+◌, Bool, true, false, cond, Option, Some, None, Ok, List, [], ◌∷◌, ◌++◌, append-nil, length, subst}
 use Rattle.std.specs.Prelude.{ℤ, slice_get}
 use Rattle.lsys_syntax.specs.Tokens.{NameText}
@@ -7,7 +7,7 @@ use Rattle.lsys_syntax.specs.Strings as S
 use Rattle.lsys_syntax.specs.Expressions.{Expr}
 use Rattle.lsys_syntax.specs.Rules.{Rule, IsRule, Production, IsProduction}
 use Rattle.lsys_syntax.specs.Checks.{rule_formals}
-use Rattle.lsys_spec.specs.Systems.{System, Each, WellFormed}
+use Rattle.lsys_spec.specs.Systems.{System, Each, WellSpelled}
 use Rattle.lsys_spec.specs.Values.{Tree}
 use Rattle.lsys_spec.specs.Bodies.{Body, body_of, Patterns, PatternNest, outermost, within, with_pattern, with_branch, opened, nest_of, innermost, left_patterns, pattern_of, templates, is_for, group_in, group, table_at}
 use Rattle.lsys_spec.specs.Levels.{ModuleValue, Symbol, Push, Pop, Module}
@@ -76,7 +76,7 @@ group_in_named table m arity (p ∷ ps) h = by (is_for table m arity p) (body_na
     by true g k = (g, k)
     by false g k = k
 
-pub group_named : (s : System) → WellFormed s → (t : ℕ) (m : ModuleName) (arity : ℕ) → Each NamedBody (group s t m arity)
+pub group_named : (s : System) → WellSpelled s → (t : ℕ) (m : ModuleName) (arity : ℕ) → Each NamedBody (group s t m arity)
 group_named s w t m arity = group_in_named (table_at s.schedule t) m arity s.rules w.rules
 
 -- 2. successors
@@ -126,7 +126,7 @@ numbered_named i l (S.Push ∷ xs) y v h = (tt, numbered_named (i + 1) l xs y v.
 numbered_named i l (S.Pop ∷ xs) y v h = (tt, numbered_named (i + 1) l xs y v.1 h)
 numbered_named i l (S.Cut ∷ xs) y v h = (tt, numbered_named (i + 1) l xs y v.1 h)
 
-children_named : (s : System) → WellFormed s → (t : ℕ) (x : List Symbol) (p n : ℕ) (rest : List Symbol) (raw : List Raw) → children_from s t x p n rest ≡ Ok raw → NamedLevel rest → NamedRaws raw
+children_named : (s : System) → WellSpelled s → (t : ℕ) (x : List Symbol) (p n : ℕ) (rest : List Symbol) (raw : List Raw) → children_from s t x p n rest ≡ Ok raw → NamedLevel rest → NamedRaws raw
 children_named s w t x p n [] raw h v = let e : [] ≡ raw = cc in subst NamedRaws e tt
 children_named s w t x p n (Push l ∷ rest) raw h v =
     let r = ok_parts (children_from s t x (p + 1) n rest) _ raw h in
@@ -160,16 +160,16 @@ string_named G (S.Push ∷ xs) h = (tt, string_named G xs h.1)
 string_named G (S.Pop ∷ xs) h = (tt, string_named G xs h.1)
 string_named G (S.Cut ∷ xs) h = (tt, string_named G xs h.1)
 
-first_named : (s : System) → WellFormed s → NamedLevel (first_level s)
+first_named : (s : System) → WellSpelled s → NamedLevel (first_level s)
 first_named s w =
     let xs : List (S.Symbol ℤ) = s.axiom_string in
     cut_named (numbered 0 [] xs) None (subst NamedRaws (append-nil (numbered 0 [] xs)) (numbered_named 0 [] xs [] (string_named _ xs w.axiom_symbols) tt))
 
-next_named : (s : System) → WellFormed s → (t : ℕ) (x y : List Symbol) → NamedLevel x → next_level s t x ≡ Ok y → NamedLevel y
+next_named : (s : System) → WellSpelled s → (t : ℕ) (x y : List Symbol) → NamedLevel x → next_level s t x ≡ Ok y → NamedLevel y
 next_named s w t x y v h =
     let r = ok_parts (children_from s t x 0 0 x) _ y h in
     let e : cut r.0 ≡ y = let i = r.2 in cc in
     subst NamedLevel e (cut_named r.0 None (children_named s w t x 0 0 x r.0 r.1 v))
 
-pub level_named : (s : System) → WellFormed s → (limit : ℕ) (xs : List (List Symbol)) → meaning_to s limit s.depth ≡ Ok xs → (t : ℕ) (x : List Symbol) → slice_get xs t ≡ Some x → NamedLevel x
+pub level_named : (s : System) → WellSpelled s → (limit : ℕ) (xs : List (List Symbol)) → meaning_to s limit s.depth ≡ Ok xs → (t : ℕ) (x : List Symbol) → slice_get xs t ≡ Some x → NamedLevel x
 level_named s w = at_each_level s (λ t x. NamedLevel x) (first_named s w) (λ t x y. next_named s w t x y)

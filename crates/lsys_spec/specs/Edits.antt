@@ -1,5 +1,6 @@
 -- What a command makes of a system, or why it is refused. A place is a number of tokens of the command's line, from 0.
 use Rattle.std.specs.Prelude.{ℕ, Bool, true, false, not, Option, Some, None, Result, Ok, Err, List, [], ◌∷◌, ◌++◌, ◌&&◌, ◌||◌, ◌+◌, nat_lt, length, map, bytes_eq, ℤ, if◌then◌else◌}
+use Rattle.lsys_syntax.specs.Limits.{most_rules, most_tables, most_ignored, most_schedule_words, most_depth}
 use Rattle.lsys_syntax.specs.Strings.{Symbol, ModuleName, Module, Push, Pop, Cut, Signed, signed_value}
 use Rattle.lsys_syntax.specs.Rules.{Rule, Production}
 use Rattle.lsys_syntax.specs.Checks.{rule_unknown, rule_repeated, rule_many, axiom_many}
@@ -88,8 +89,8 @@ production_refusal s n p =
     (or_else (refused_at (rule_repeated (n + 2) p.rule) duplicate)
     (or_else (refused_if (any (λ q. not (same_label q p) && clash q p) s.rules) mixed n)
     (or_else (refused_if (stands_elsewhere s p) wrong_label n)
-    (or_else (refused_if (nat_lt 16 (length (tables (put p s.rules)))) many 1)
-    (or_else (refused_if (nat_lt 256 (length (put p s.rules) + length s.homomorphisms)) many n)
+    (or_else (refused_if (nat_lt most_tables (length (tables (put p s.rules)))) many 1)
+    (or_else (refused_if (nat_lt most_rules (length (put p s.rules) + length s.homomorphisms)) many n)
     (refused_at (rule_many (n + 2) p.rule) many))))))
 
 abbrev pub homomorphism_refusal : System → Homomorphism → Option Refusal
@@ -97,7 +98,7 @@ homomorphism_refusal s h =
     or_else (refused_at (rule_unknown 3 h.rule) unknown_name)
     (or_else (refused_at (rule_repeated 3 h.rule) duplicate)
     (or_else (refused_if (any (λ q. bytes_eq q.label h.label) s.rules) wrong_label 1)
-    (or_else (refused_if (nat_lt 256 (length s.rules + length (put_hom h s.homomorphisms))) many 1)
+    (or_else (refused_if (nat_lt most_rules (length s.rules + length (put_hom h s.homomorphisms))) many 1)
     (refused_at (rule_many 3 h.rule) many))))
 
 -- the first word, from place 1 on, that names no table
@@ -105,7 +106,7 @@ abbrev pub untabled : List Production → List (List ℕ) → Option ℕ
 untabled rules ws = first_place (λ w. not (is_table (tables rules) w)) 1 ws
 
 abbrev pub schedule_refusal : System → List (List ℕ) → Option Refusal
-schedule_refusal s ws = or_else (refused_at (untabled s.rules ws) wrong_table) (refused_if (nat_lt 64 (length ws)) many 65)
+schedule_refusal s ws = or_else (refused_at (untabled s.rules ws) wrong_table) (refused_if (nat_lt most_schedule_words (length ws)) many (most_schedule_words + 1))
 
 -- a word of the schedule names no table
 abbrev pub loses_table : List Production → List (List ℕ) → Bool
@@ -125,9 +126,9 @@ abbrev pub refusal : System → Command → Option Refusal
 refusal s (set_axiom xs) = refused_at (axiom_many 1 xs) many
 refusal s (put_production t l r) = production_refusal s (label_place t) (production_of t l r)
 refusal s (drop_rule l) = drop_refusal s l
-refusal s (set_ignored ns) = refused_if (nat_lt 64 (length ns)) many 65
+refusal s (set_ignored ns) = refused_if (nat_lt most_ignored (length ns)) many (most_ignored + 1)
 refusal s (set_schedule ws) = schedule_refusal s ws
-refusal s (set_depth n) = refused_if (nat_lt 64 n) many 1
+refusal s (set_depth n) = refused_if (nat_lt most_depth n) many 1
 refusal s (put_homomorphism l r) = homomorphism_refusal s (record { label = l; rule = r })
 refusal s (print_string n) = level_refusal s n
 refusal s c = None

@@ -1,18 +1,19 @@
--- What the program does today: which lines it answers `refused form`, and what an accepted edit prints.
+-- What the program answers today: the replies of the language, filtered. The commands that it has are answered as in the
+-- language, but an accepted edit prints `ok` alone; all else is `refused form`.
 -- This file says all in which the program still differs from the language; it shrinks, and is deleted in the end.
-use Rattle.std.specs.Prelude.{ℕ, Bool, true, false, Option, Some, None, Result, Ok, Err, List, [], ◌∷◌, ◌++◌, ◌&&◌, map, codes, is_none}
+use Rattle.std.specs.Prelude.{ℕ, Bool, true, false, Option, Some, None, List, [], ◌∷◌, ◌++◌, ◌&&◌, ◌||◌, codes, is_none, if◌then◌else◌}
 use Rattle.lsys_syntax.specs.Lines.{without_cr}
-use Rattle.lsys_syntax.specs.Tokens.{Kind, Token, tokens}
+use Rattle.lsys_syntax.specs.Tokens.{Kind, tokens}
 use Rattle.lsys_syntax.specs.Strings.{Symbol, Module}
 use Rattle.lsys_syntax.specs.Rules.{Rule}
 use Rattle.lsys_syntax.specs.Commands.{Command, set_axiom, put_production, set_depth, print_string, quit}
 use Rattle.lsys_syntax.specs.LineMachine.{parse_command}
 use Rattle.lsys_spec.specs.Systems.{System}
-use Rattle.lsys_spec.specs.Edits.{Refusal, refusal, changed}
-use Rattle.lsys_spec.specs.Levels as L
-use Rattle.lsys_spec.specs.Meaning as M
-use Rattle.lsys_spec.specs.Replies.{string_line}
-use Rattle.lsys_spec.specs.Refusals.{Reply, said, refused, session_end, line_feed, is_long, is_passed_over, derivation_text}
+use Rattle.lsys_spec.specs.Edits.{refusal}
+use Rattle.lsys_spec.specs.ReadBack.{spelled_by}
+use Rattle.lsys_spec.specs.Replies as language
+use Rattle.lsys_spec.specs.Replies.{is_query}
+use Rattle.lsys_spec.specs.Refusals.{Reply, refused, line_feed, is_long, is_passed_over}
 
 -- The commands that the program has are axiom plain | production Word ":" pattern [[ ":" expr ]] "=>" plain
 -- | depth Number | string [[ Number ]] | quit, where a plain string has neither brackets nor cuts.
@@ -58,38 +59,22 @@ had_command ks = where_had (parse_command ks)
 abbrev pub refused_form : System → Reply
 refused_form s = refused s (codes "form")
 
--- an edit prints `ok` alone
-abbrev pub edited : System → System → Result (List (List L.Symbol)) M.Refusal → Reply
-edited s next (Ok levels) = said next (codes "ok" ++ line_feed)
-edited s next (Err r) = refused s (derivation_text r)
+-- an accepted edit prints `ok` alone
+abbrev pub without_counts : Command → Reply → Reply
+without_counts c r = if is_query c || r.is_refusal then r else record r { text = codes "ok" ++ line_feed }
 
-abbrev pub printed : Option ℕ → System → Result (List (List L.Symbol)) M.Refusal → Reply
-printed t s (Ok levels) = said s (string_line t levels)
-printed t s (Err r) = refused s (derivation_text r)
-
-abbrev pub accepted : ℕ → System → Command → Reply
-accepted limit s (print_string t) = printed t s (M.meaning s limit)
-accepted limit s quit = session_end s
-accepted limit s c = edited s (changed s c) (M.meaning (changed s c) limit)
-
-abbrev pub unless_refused : ℕ → System → Command → Option Refusal → Reply
-unless_refused limit s c None = accepted limit s c
-unless_refused limit s c (Some r) = refused_form s
-
-abbrev pub command_reply : ℕ → System → Option Command → Reply
-command_reply limit s None = refused_form s
-command_reply limit s (Some c) = unless_refused limit s c (refusal s c)
-
-abbrev pub kinds : List Token → List Kind
-kinds ts = map (λ t. t.kind) ts
-
-abbrev pub command_of : Result (List Token) ℕ → Option Command
-command_of (Err c) = None
-command_of (Ok ts) = had_command (kinds ts)
+-- Of the language's reply r to a line that spells the command, or none: it stands where the program has the command and
+-- the system doesn't refuse it.
+abbrev pub filtered : System → Option Command → Reply → Reply
+filtered s None r = refused_form s
+filtered s (Some c) r = elim (is_had c && is_none (refusal s c)) [ true ↦ without_counts c r | false ↦ refused_form s ]
 
 -- the reply to a line without its CR that isn't too long
 abbrev pub bare_reply : ℕ → System → List ℕ → Reply
-bare_reply limit s bare = elim (is_passed_over bare) [ true ↦ said s [] | false ↦ command_reply limit s (command_of (tokens bare)) ]
+bare_reply limit s bare = elim (is_passed_over bare) [
+  | true ↦ language.bare_reply limit s bare
+  | false ↦ filtered s (spelled_by (tokens bare)) (language.bare_reply limit s bare)
+]
 
 -- the reply to a line, its CR still there
 abbrev pub reply : ℕ → System → List ℕ → Reply

@@ -1,5 +1,6 @@
 -- A reply to one line, and the texts of refusals.
 use Rattle.std.specs.Prelude.{ℕ, zero, suc, Bool, true, false, List, [], ◌∷◌, ◌++◌, ◌||◌, ◌+◌, length, codes, decimal, nat_lt}
+use Rattle.lsys_syntax.specs.Limits.{most_line_bytes}
 use Rattle.lsys_syntax.specs.Lines.{is_blank_line, is_comment}
 use Rattle.lsys_syntax.specs.Tokens.{Token}
 use Rattle.lsys_spec.specs.Systems.{System}
@@ -33,9 +34,9 @@ refused_memory s = record { text = codes "refused memory" ++ line_feed; next = s
 abbrev pub session_end : System → Reply
 session_end s = record { text = []; next = s; is_refusal = false; is_memory = false; ends = true }
 
--- a line without its LF that has a 65,537th byte, its CR counted
+-- a line without its LF, but with its CR, that has more bytes than a line may
 abbrev pub is_long : List ℕ → Bool
-is_long line = nat_lt 65536 (length line)
+is_long line = nat_lt most_line_bytes (length line)
 
 -- a line without its CR that is empty, blank or a comment: it has no reply
 abbrev pub is_passed_over : List ℕ → Bool

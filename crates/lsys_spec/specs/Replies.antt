@@ -83,18 +83,19 @@ accepted limit s quit = session_end s
 accepted limit s c = edited limit s (changed s c) (levels_of limit (changed s c))
 
 -- a refusal at the token of this number
-abbrev pub refused_at : List ℕ → (ℕ → ℕ) → System → ℕ → Reply
-refused_at why column s place = refused s (with_number why (column place))
+abbrev pub refused_token : List ℕ → (ℕ → ℕ) → System → ℕ → Reply
+refused_token why column s place = refused s (with_number why (column place))
 
-abbrev pub unless_refused : ℕ → System → (ℕ → ℕ) → Command → Option Refusal → Reply
-unless_refused limit s column c None = accepted limit s c
-unless_refused limit s column c (Some r) = refused_at (why_word r.why) column s r.place
+-- the reply to a command that is refused by itself for this, or for nothing
+abbrev pub command_reply : ℕ → System → (ℕ → ℕ) → Command → Option Refusal → Reply
+command_reply limit s column c None = accepted limit s c
+command_reply limit s column c (Some r) = refused_token (why_word r.why) column s r.place
 
 -- what the tokens of a line are answered, where `column` gives the column of a token's number
 abbrev pub verdict_reply : ℕ → System → (ℕ → ℕ) → Verdict → Reply
-verdict_reply limit s column (stops n) = refused_at (codes "syntax token") column s n
-verdict_reply limit s column (too_deep n) = refused_at (codes "syntax deep") column s n
-verdict_reply limit s column (sentence c) = unless_refused limit s column c (refusal s c)
+verdict_reply limit s column (stops n) = refused_token (codes "syntax token") column s n
+verdict_reply limit s column (too_deep n) = refused_token (codes "syntax deep") column s n
+verdict_reply limit s column (sentence c) = command_reply limit s column c (refusal s c)
 
 abbrev pub tokens_reply : ℕ → System → ℕ → Result (List Token) ℕ → Reply
 tokens_reply limit s end (Err column) = refused s (with_number (codes "syntax byte") column)

@@ -3,7 +3,7 @@ use Rattle.std.specs.Prelude.{◌≡◌, Some, None, [], ◌∷◌, codes, pos, 
 use Rattle.std.specs.Fmt.{digits}
 use Rattle.lsys_syntax.specs.Tokens.{NameText, short, long}
 use Rattle.lsys_syntax.specs.Strings.{ModuleName, named, plus, Module, Push, Pop, Cut}
-use Rattle.lsys_syntax.specs.Expressions.{only_and, only_rel, only_sum, compare, less, greater, Sum, only_term, only_unary, product, multiply, Unary, negated, inverted, plain, raised, number, name}
+use Rattle.lsys_syntax.specs.Expressions.{only_and, only_rel, only_sum, compare, less, greater, Sum, only_term, only_unary, product, multiply, Unary, negated, inverted, only_atom, raised, number, name}
 use Rattle.lsys_syntax.specs.Rules.{Rule}
 use Rattle.lsys_syntax.specs.Commands.{hexagonal}
 use Rattle.lsys_spec.specs.Systems.{System, main}
@@ -46,9 +46,9 @@ rich = record {
   name = a;
   formals = letter_x ∷ [];
   right = Push ∷ Module plus [] ∷ Module b [] ∷ Pop ∷ Module b [] ∷ [];
-  condition = Some (only_and (only_rel (compare (of_unary (inverted (plain (name letter_x)))) less (of_unary (negated (plain (number 1)))))));
-  weight = Some (only_and (only_rel (only_sum (only_term (product (only_unary (plain (number 2))) multiply (plain (name letter_x)))))));
-  successor = Module f_a (only_and (only_rel (only_sum (of_unary (raised (name letter_x) (plain (number 2)))))) ∷ []) ∷ Push ∷ Module b [] ∷ Pop ∷ Cut ∷ [];
+  condition = Some (only_and (only_rel (compare (of_unary (inverted (only_atom (name letter_x)))) less (of_unary (negated (only_atom (number 1)))))));
+  weight = Some (only_and (only_rel (only_sum (only_term (product (only_unary (only_atom (number 2))) multiply (only_atom (name letter_x)))))));
+  successor = Module f_a (only_and (only_rel (only_sum (of_unary (raised (name letter_x) (only_atom (number 2)))))) ∷ []) ∷ Push ∷ Module b [] ∷ Pop ∷ Cut ∷ [];
 }
 
 -- B(x) : x>0 => [+]
@@ -58,7 +58,7 @@ image = record {
   name = b;
   formals = letter_x ∷ [];
   right = [];
-  condition = Some (only_and (only_rel (compare (of_unary (plain (name letter_x))) greater (of_unary (plain (number 0))))));
+  condition = Some (only_and (only_rel (compare (of_unary (only_atom (name letter_x))) greater (of_unary (only_atom (number 0))))));
   weight = None;
   successor = Push ∷ Module plus [] ∷ Pop ∷ [];
 }

@@ -1,5 +1,6 @@
 -- A system, as the edits leave it, and when it is well formed.
-use Rattle.std.specs.Prelude.{◌≡◌, ℕ, Bool, true, false, not, Option, Some, None, List, [], ◌∷◌, ◌++◌, ◌==◌, ◌&&◌, ◌||◌, ◌+◌, ◌≤◌, ◌<◌, ◌^◌, length, map, codes, bytes_eq, ℤ}
+use Rattle.std.specs.Prelude.{◌≡◌, ℕ, Bool, true, false, not, Option, Some, None, List, [], ◌∷◌, ◌++◌, ◌==◌, ◌&&◌, ◌||◌, ◌+◌, ◌≤◌, ◌<◌, length, map, codes, bytes_eq, ℤ}
+use Rattle.lsys_syntax.specs.Limits.{number_bound, nesting_bound, most_rules, most_tables, most_ignored, most_schedule_words, most_depth}
 use Rattle.lsys_syntax.specs.Pieces.{token_text, IsWordText}
 use Rattle.lsys_syntax.specs.Strings.{Symbol, Signed, signed_of, Module, Push, Pop, Cut, ModuleName, name_kind, balanced, EachOf, IsModuleName, IsSymbol, IsParam}
 use Rattle.lsys_syntax.specs.Expressions.{Expr}
@@ -73,10 +74,6 @@ written (Push ∷ xs) = Push ∷ written xs
 written (Pop ∷ xs) = Pop ∷ written xs
 written (Cut ∷ xs) = Cut ∷ written xs
 
--- The rule that stands n tokens into its line is refused for nothing of its own: no unknown name, no formal twice, no limit passed, no nesting of more than 32.
-abbrev pub IsAccepted : ℕ → Rule → Type 0
-IsAccepted n r = (rule_unknown n r ≡ None) × (rule_repeated n r ≡ None) × (rule_many n r ≡ None) × (rule_nesting r ≤ 32)
-
 abbrev pub Each : {A : Type 0} → (A → Type 0) → List A → Type 0
 Each P [] = Unit {0}
 Each P (x ∷ xs) = P x × Each P xs
@@ -86,25 +83,38 @@ abbrev pub Apart : {A : Type 0} → (A → A → Bool) → List A → Type 0
 Apart f [] = Unit {0}
 Apart f (x ∷ xs) = Each (λ y. f x y ≡ false) xs × Apart f xs
 
--- What every accepted edit keeps, and what makes the printed script read back as the system.
+-- What the language says of a system, and every accepted edit keeps: no label stands twice, no group is mixed, the
+-- schedule has some word and names tables alone, and no limit is passed.
 pub record WellFormed (s : System) : Type 0 where
   pub labels : Apart bytes_eq (map (λ p. p.label) s.rules ++ map (λ h. h.label) s.homomorphisms)
   pub groups : Apart clash s.rules
+  pub some_word : 0 < length s.schedule
+  pub scheduled : Each (λ w. is_table (tables s.rules) w ≡ true) s.schedule
+  pub rules_short : Each (λ p. rule_many 0 p.rule ≡ None) s.rules
+  pub homomorphisms_short : Each (λ h. rule_many 0 h.rule ≡ None) s.homomorphisms
+  pub axiom_short : axiom_many 0 (written s.axiom_string) ≡ None
+  pub few_tables : length (tables s.rules) ≤ most_tables
+  pub few_rules : length s.rules + length s.homomorphisms ≤ most_rules
+  pub few_words : length s.schedule ≤ most_schedule_words
+  pub few_ignored : length s.ignored ≤ most_ignored
+  pub shallow : s.depth ≤ most_depth
+
+-- The names in the rule's expressions are its formals, none of these stands twice, and its expressions are nested within the bound.
+pub record IsSound (r : Rule) : Type 0 where
+  pub known : rule_unknown 0 r ≡ None
+  pub once : rule_repeated 0 r ≡ None
+  pub nested : rule_nesting r ≤ nesting_bound
+
+-- What else holds of a system that was made by lines: its names, words and numbers have the forms of the language,
+-- brackets are balanced, and its rules are sound. So it can be printed and read back.
+pub record WellSpelled (s : System) : Type 0 where
   pub rules : Each IsProduction s.rules
   pub homomorphisms : Each (λ h. IsWordText h.label × IsRule h.rule × IsHomomorphism h.rule) s.homomorphisms
-  pub rules_accepted : Each (λ p. IsAccepted 4 p.rule) s.rules
-  pub homomorphisms_accepted : Each (λ h. IsAccepted 3 h.rule) s.homomorphisms
+  pub rules_sound : Each (λ p. IsSound p.rule) s.rules
+  pub homomorphisms_sound : Each (λ h. IsSound h.rule) s.homomorphisms
   pub axiom_symbols : EachOf (IsSymbol IsParam) s.axiom_string
   pub axiom_balanced : balanced 0 s.axiom_string ≡ true
-  pub axiom_accepted : axiom_many 1 (written s.axiom_string) ≡ None
   pub ignored_names : EachOf IsModuleName s.ignored
   pub ignored_once : Apart same_name s.ignored
   pub words : EachOf IsWordText s.schedule
-  pub some_word : 0 < length s.schedule
-  pub scheduled : Each (λ w. is_table (tables s.rules) w ≡ true) s.schedule
-  pub small_seed : s.seed < 2 ^ 64
-  pub few_tables : length (tables s.rules) ≤ 16
-  pub few_rules : length s.rules + length s.homomorphisms ≤ 256
-  pub few_words : length s.schedule ≤ 64
-  pub few_ignored : length s.ignored ≤ 64
-  pub shallow : s.depth ≤ 64
+  pub small_seed : s.seed < number_bound

@@ -3,7 +3,7 @@ use Rattle.std.specs.Prelude.{ℕ, ℤ, pos, negsuc, ◌+◌, ◌+ℤ◌, ◌-�
 use Rattle.std.specs.Int.{int_pow}
 use Rattle.lsys_syntax.specs.Tokens.{NameText}
 use Rattle.lsys_syntax.specs.Pieces as P
-use Rattle.lsys_syntax.specs.Expressions.{TermOp, multiply, divide, remainder, SumOp, add, subtract, RelOp, equal, unequal, less, at_most, greater, at_least, Expr, only_and, or, And, only_rel, and, Rel, only_sum, compare, Sum, only_term, total, Term, only_unary, product, Unary, negated, inverted, plain, raised, Atom, number, name, parens}
+use Rattle.lsys_syntax.specs.Expressions.{TermOp, multiply, divide, remainder, SumOp, add, subtract, RelOp, equal, unequal, less, at_most, greater, at_least, Expr, only_and, or, And, only_rel, and, Rel, only_sum, compare, Sum, only_term, total, Term, only_unary, product, Unary, negated, inverted, only_atom, raised, Atom, number, name, parens}
 
 pub data Operator : Type 0 where
   sum_of : SumOp → Operator
@@ -50,7 +50,7 @@ abbrev mutual
   pub unary_tree : List NameText → Unary → Tree
   unary_tree fs (negated u) = Negation (unary_tree fs u)
   unary_tree fs (inverted u) = Inversion (unary_tree fs u)
-  unary_tree fs (plain a) = atom_tree fs a
+  unary_tree fs (only_atom a) = atom_tree fs a
   unary_tree fs (raised a u) = Binary power_of (atom_tree fs a) (unary_tree fs u)
 
   pub atom_tree : List NameText → Atom → Tree

@@ -2,7 +2,7 @@
 
 ghost use Rattle.std.specs.Prelude.{◌≡◌, ◌+◌, ℕ, true, Some, List, map, length, slice_get, ◌↔◌};
 ghost use Rattle.lsys_syntax.specs.Strings.{IsModuleName};
-ghost use Rattle.lsys_spec.specs.Systems.{System, WellFormed};
+ghost use Rattle.lsys_spec.specs.Systems.{System, WellSpelled};
 ghost use Rattle.lsys_spec.specs.Levels.{ModuleValue, Symbol, Module, lineage, balanced, IsLevel};
 ghost use Rattle.lsys_spec.specs.Cuts.{Raw, Plain, raw_balanced, cut, IsCutOff, is_cut_off, kept, Rising};
 ghost use Rattle.lsys_spec.specs.LevelLaws.{HasBalance, AtEachLevel};
@@ -30,15 +30,15 @@ pub fn law_of_mates()
 {}
 
 /// Where the axiom and the successors are balanced, so is each level; its lineages rise, so each stands there once, and
-/// those of level t have t + 1 numbers. In a well-formed system each module has a name of the language.
+/// those of level t have t + 1 numbers. In a well-spelled system each module has a name of the language.
 pub fn law_of_levels()
-    ensures well_formed { (s : System) → WellFormed s → HasBalance s }
+    ensures spelled { (s : System) → WellSpelled s → HasBalance s }
     ensures balance { (s : System) → HasBalance s → AtEachLevel s (λ t x. balanced 0 x ≡ true) }
     ensures rise { (s : System) → HasBalance s → AtEachLevel s (λ t x. Rising x) }
     ensures mates { (s : System) → HasBalance s → AtEachLevel s (λ t x. IsLevel x) }
     ensures generations { (s : System) → HasBalance s
         → AtEachLevel s (λ t x. (p : ℕ) (a : Symbol) → slice_get x p ≡ Some a → length (lineage a) ≡ t + 1) }
-    ensures names { (s : System) → WellFormed s
+    ensures names { (s : System) → WellSpelled s
         → AtEachLevel s (λ t x. (p : ℕ) (l : List ℕ) (m : ModuleValue)
         → slice_get x p ≡ Some (Module l m) → IsModuleName m.name) }
 {}

@@ -2,7 +2,7 @@
 
 ghost use Rattle.std.specs.Prelude.{◌≡◌, ◌+◌, ◌||◌, ◌≤◌, ◌↔◌, ℕ, Bool, true, false, Some, Ok, List, length, reverse, slice_get};
 ghost use Rattle.lsys_syntax.specs.Strings.{ModuleName};
-ghost use Rattle.lsys_spec.specs.Systems.{System, WellFormed, Each};
+ghost use Rattle.lsys_spec.specs.Systems.{System, WellSpelled, Each};
 ghost use Rattle.lsys_spec.specs.Bodies.{Body, Pattern, Patterns, group};
 ghost use Rattle.lsys_spec.specs.Levels.{ModuleValue, Symbol, Module, lineage, Items, way, items_from, IsLevel};
 ghost use Rattle.lsys_spec.specs.Walks.{Mark, named, left_walk, right_walk};
@@ -38,10 +38,10 @@ pub fn law_of_settled_symbols()
         → IsLevel x → slice_get x p ≡ Some a → Settled x y (lineage a) → (q : ℕ) × (slice_get y q ≡ Some a) }
 {}
 
-/// In the levels of well-formed systems the test of disturbed symbols tells which are settled.
+/// In the levels of well-spelled systems the test of disturbed symbols tells which are settled.
 pub fn law_of_disturbed_symbols()
     ensures { (old new : System) (limit limit' : ℕ) (xs ys : List (List Symbol))
-        → WellFormed old → WellFormed new → meaning old limit ≡ Ok xs → meaning new limit' ≡ Ok ys
+        → WellSpelled old → WellSpelled new → meaning old limit ≡ Ok xs → meaning new limit' ≡ Ok ys
         → (t : ℕ) (x y : List Symbol) → slice_get xs t ≡ Some x → slice_get ys t ≡ Some y
         → (l : List ℕ) → (is_disturbed x y l ≡ false) ↔ Settled x y l }
 {}
@@ -82,10 +82,10 @@ pub fn law_of_same_questions()
 /// read for it, are at most those of the candidates.
 pub fn law_of_needs()
     ensures questions { (old new : System) (limit limit' : ℕ) (xs ys : List (List Symbol))
-        → WellFormed old → WellFormed new → meaning old limit ≡ Ok xs → meaning new limit' ≡ Ok ys
+        → WellSpelled old → WellSpelled new → meaning old limit ≡ Ok xs → meaning new limit' ≡ Ok ys
         → need (questions old xs) (questions new ys) ≤ candidates old new xs ys }
     ensures visits { (old new : System) (limit limit' : ℕ) (xs ys : List (List Symbol))
-        → WellFormed old → WellFormed new → meaning old limit ≡ Ok xs → meaning new limit' ≡ Ok ys
+        → WellSpelled old → WellSpelled new → meaning old limit ≡ Ok xs → meaning new limit' ≡ Ok ys
         → least_visits (questions old xs) (questions new ys) ≤ candidate_visits old new xs ys }
 {}
 
@@ -99,7 +99,7 @@ pub fn law_of_traces()
 /// then the same.
 pub fn law_of_answered_questions()
     ensures { (old new : System) (limit limit' : ℕ) (xs ys : List (List Symbol))
-        → WellFormed old → WellFormed new → meaning old limit ≡ Ok xs → meaning new limit' ≡ Ok ys
+        → WellSpelled old → WellSpelled new → meaning old limit ≡ Ok xs → meaning new limit' ≡ Ok ys
         → (i : ℕ) (q : Question) → slice_get (questions new ys) i ≡ Some q
         → (is_needed (questions old xs) q ≡ false)
         ↔ (question_at q.level (lineage q.own) (questions old xs) ≡ Some q) }

@@ -1,14 +1,14 @@
 -- The tokens of a tree are read as that tree.
 use Rattle.std.proofs.Common.{◌≡◌, List, [], ◌∷◌, ◌++◌, Some, refl, ap, ◌∙◌, sym, append_assoc, append-nil}
 use Rattle.lsys_syntax.specs.Tokens.{Kind, RightParen, Times, Slash, Percent, Ampersand, Bar, Caret}
-use Rattle.lsys_syntax.specs.Expressions.{TermOp, multiply, divide, remainder, SumOp, add, subtract, RelOp, equal, unequal, less, at_most, greater, at_least, Expr, only_and, or, And, only_rel, and, Rel, only_sum, compare, Sum, only_term, total, Term, only_unary, product, Unary, negated, inverted, plain, raised, Atom, number, name, parens, term_kind, sum_kind, rel_kind, expr_kinds, and_kinds, rel_kinds, sum_kinds, term_kinds, unary_kinds, atom_kinds}
-use Rattle.lsys_syntax.specs.ExpressionMachine.{InUnary, negating, inverting, raising, in_term, first_unary, next_unary, InSum, first_term, next_term, InRel, first_sum, second_sum, InAnd, first_rel, next_rel, InExpr, first_and, next_and, Around, outermost, in_parens, State, Due, Have, HalfAnd, HalfOr, Done, AfterExpr, closing, other, AfterAnd, half_or, ends_expr, AfterRel, half_and, ends_and, AfterSum, comparing, ends_rel, AfterTerm, more_sum, ends_sum, AfterUnary, more_term, ends_term, AfterAtom, ends_unary, sum_step, rel_step, and_step, or_step, expr_step, what_follows, after_expr, after_and, after_rel, after_sum, after_term, after_operand, after_atom, start_expr, step, run, end_step, finished, parse_expr}
+use Rattle.lsys_syntax.specs.Expressions.{TermOp, multiply, divide, remainder, SumOp, add, subtract, RelOp, equal, unequal, less, at_most, greater, at_least, Expr, only_and, or, And, only_rel, and, Rel, only_sum, compare, Sum, only_term, total, Term, only_unary, product, Unary, negated, inverted, only_atom, raised, Atom, number, name, parens, term_kind, sum_kind, rel_kind, expr_kinds, and_kinds, rel_kinds, sum_kinds, term_kinds, unary_kinds, atom_kinds}
+use Rattle.lsys_syntax.specs.ExpressionMachine.{InUnary, negating, inverting, raising, in_term, first_unary, next_unary, InSum, first_term, next_term, InRel, first_sum, second_sum, InAnd, first_rel, next_rel, InExpr, first_and, next_and, Around, no_parens, in_parens, State, Due, Have, HalfAnd, HalfOr, Done, AfterExpr, closing, other, AfterAnd, half_or, ends_expr, AfterRel, half_and, ends_and, AfterSum, comparing, ends_rel, AfterTerm, more_sum, ends_sum, AfterUnary, more_term, ends_term, AfterAtom, ends_unary, sum_step, rel_step, and_step, or_step, expr_step, what_follows, after_expr, after_and, after_rel, after_sum, after_term, after_operand, after_atom, start_expr, step, run, end_step, finished, parse_expr}
 
 -- where a part's last atom stands
 abbrev pub leave_unary : Unary → InUnary → State
 leave_unary (negated u) k = leave_unary u (negating k)
 leave_unary (inverted u) k = leave_unary u (inverting k)
-leave_unary (plain a) k = Have a k
+leave_unary (only_atom a) k = Have a k
 leave_unary (raised a u) k = leave_unary u (raising a k)
 
 abbrev pub leave_term : Term → InSum → State
@@ -38,7 +38,7 @@ Does g f = (a : Atom) (k : InUnary) → g (Have a k) ≡ after_atom f a k
 unary_left : (g : State → State) (f : AfterUnary) → Does g (ends_unary f) → (u : Unary) (k : InUnary) → g (leave_unary u k) ≡ after_operand f u k
 unary_left g f d (negated u) k = unary_left g f d u (negating k)
 unary_left g f d (inverted u) k = unary_left g f d u (inverting k)
-unary_left g f d (plain a) k = d a k
+unary_left g f d (only_atom a) k = d a k
 unary_left g f d (raised a u) k = unary_left g f d u (raising a k)
 
 term_left : (g : State → State) (f : AfterTerm) → Does g (sum_step f) → (t : Term) (k : InSum) → g (leave_term t k) ≡ after_term f t k
@@ -136,7 +136,7 @@ mutual
   pub read-unary : (u : Unary) (k : InUnary) (ts : List Kind) → run (Due k) (unary_kinds u ++ ts) ≡ run (leave_unary u k) ts
   read-unary (negated u) k ts = read-unary u (negating k) ts
   read-unary (inverted u) k ts = read-unary u (inverting k) ts
-  read-unary (plain a) k ts = read-atom a k ts
+  read-unary (only_atom a) k ts = read-atom a k ts
   read-unary (raised a u) k ts =
       rw append_assoc (read-atom a k (Caret ∷ (unary_kinds u ++ ts)) ∙ read-unary u (raising a k) ts)
 
@@ -150,13 +150,13 @@ mutual
 
 pub parse-kinds : (e : Expr) → parse_expr (expr_kinds e) ≡ Some e
 parse-kinds e =
-    let whole : run (start_expr outermost) (expr_kinds e) ≡ leave_expr e outermost =
-    ap (run (start_expr outermost)) (sym (append-nil (expr_kinds e))) ∙ read-expr e outermost [] in
-    ap (λ s. finished (end_step s)) whole ∙ ap finished (expr_left end_step other (λ a j. refl) e outermost)
+    let whole : run (start_expr no_parens) (expr_kinds e) ≡ leave_expr e no_parens =
+    ap (run (start_expr no_parens)) (sym (append-nil (expr_kinds e))) ∙ read-expr e no_parens [] in
+    ap (λ s. finished (end_step s)) whole ∙ ap finished (expr_left end_step other (λ a j. refl) e no_parens)
 
 -- behind a whole expression, a token that can't go on with it ends it
-pub other-ends : (t : Kind) → what_follows t ≡ expr_step other → (e : Expr) → step (leave_expr e outermost) t ≡ Done e
-other-ends t h e = expr_left (λ s. step s t) other (λ a k. ap (λ f. after_atom f a k) h) e outermost
+pub other-ends : (t : Kind) → what_follows t ≡ expr_step other → (e : Expr) → step (leave_expr e no_parens) t ≡ Done e
+other-ends t h e = expr_left (λ s. step s t) other (λ a k. ap (λ f. after_atom f a k) h) e no_parens
 
-pub paren-ends : (e : Expr) → step (leave_expr e outermost) RightParen ≡ Done e
-paren-ends e = expr_left (λ s. step s RightParen) closing (λ a k. refl) e outermost
+pub paren-ends : (e : Expr) → step (leave_expr e no_parens) RightParen ≡ Done e
+paren-ends e = expr_left (λ s. step s RightParen) closing (λ a k. refl) e no_parens

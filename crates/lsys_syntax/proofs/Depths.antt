@@ -1,8 +1,8 @@
 -- A tree of a nesting keeps the depth within it.
 use Rattle.std.proofs.Common.{◌≡◌, ℕ, ◌+◌, ◌≤◌, List, [], ◌∷◌, ◌++◌, refl, ap, ◌∙◌, sym, subst, append-nil, arith}
 use Rattle.lsys_syntax.specs.Tokens.{Kind, RightParen, Ampersand, Bar, Caret}
-use Rattle.lsys_syntax.specs.Expressions.{Expr, only_and, or, And, only_rel, and, Rel, only_sum, compare, Sum, only_term, total, Term, only_unary, product, Unary, negated, inverted, plain, raised, Atom, number, name, parens, term_kind, sum_kind, rel_kind, expr_kinds, and_kinds, rel_kinds, sum_kinds, term_kinds, unary_kinds, atom_kinds}
-use Rattle.lsys_syntax.specs.ExpressionMachine.{InUnary, negating, inverting, raising, in_term, first_unary, next_unary, InSum, first_term, next_term, InRel, first_sum, second_sum, InAnd, first_rel, next_rel, InExpr, first_and, next_and, Around, outermost, in_parens, State, Due, Have, HalfAnd, HalfOr, closing, start_expr, step, run}
+use Rattle.lsys_syntax.specs.Expressions.{Expr, only_and, or, And, only_rel, and, Rel, only_sum, compare, Sum, only_term, total, Term, only_unary, product, Unary, negated, inverted, only_atom, raised, Atom, number, name, parens, term_kind, sum_kind, rel_kind, expr_kinds, and_kinds, rel_kinds, sum_kinds, term_kinds, unary_kinds, atom_kinds}
+use Rattle.lsys_syntax.specs.ExpressionMachine.{InUnary, negating, inverting, raising, in_term, first_unary, next_unary, InSum, first_term, next_term, InRel, first_sum, second_sum, InAnd, first_rel, next_rel, InExpr, first_and, next_and, Around, no_parens, in_parens, State, Due, Have, HalfAnd, HalfOr, closing, start_expr, step, run}
 use Rattle.lsys_syntax.specs.Nesting.{expr_nesting, and_nesting, rel_nesting, sum_nesting, term_nesting, unary_nesting, atom_nesting, unary_depth, sum_depth, rel_depth, and_depth, expr_depth, around_depth, depth, StaysWithin}
 use Rattle.lsys_syntax.proofs.Complete.{leave_term, leave_sum, leave_and, leave_expr, read-expr, read-and, read-sum, read-term, read-atom, product_step, total_step, compare_step, and_step_left, or_step_left, expr_left}
 
@@ -62,7 +62,7 @@ mutual
   unary-within : (u : Unary) (b : ℕ) (k : InUnary) → unary_depth k + unary_nesting u ≤ b → StaysWithin b (Due k) (unary_kinds u)
   unary-within (negated u) b k h = (omega (arith, h), unary-within u b (negating k) (omega (arith, h)))
   unary-within (inverted u) b k h = (omega (arith, h), unary-within u b (inverting k) (omega (arith, h)))
-  unary-within (plain a) b k h = atom-within a b k h
+  unary-within (only_atom a) b k h = atom-within a b k h
   unary-within (raised a u) b k h =
       after b (atom_kinds a) (Caret ∷ unary_kinds u) (Due k) (Have a k) (bare (Due k) (atom_kinds a) (Have a k) (read-atom a k [])) (atom-within a b k (omega (arith, h)))
       (omega (arith, h), unary-within u b (raising a k) (omega (arith, h)))
@@ -81,5 +81,5 @@ within-front b [] us s h = tt
 within-front b (t ∷ ts) us s h = (h.0, within-front b ts us (step s t) h.1)
 
 -- The tokens that an expression of at most this nesting begins with keep the depth within it.
-pub begins-within : (b : ℕ) (ts rest : List Kind) (e : Expr) → expr_nesting e ≤ b → expr_kinds e ≡ ts ++ rest → StaysWithin b (start_expr outermost) ts
-begins-within b ts rest e h d = within-front b ts rest (start_expr outermost) (subst (StaysWithin b (start_expr outermost)) d (expr-within e b outermost (omega (arith, h))))
+pub begins-within : (b : ℕ) (ts rest : List Kind) (e : Expr) → expr_nesting e ≤ b → expr_kinds e ≡ ts ++ rest → StaysWithin b (start_expr no_parens) ts
+begins-within b ts rest e h d = within-front b ts rest (start_expr no_parens) (subst (StaysWithin b (start_expr no_parens)) d (expr-within e b no_parens (omega (arith, h))))

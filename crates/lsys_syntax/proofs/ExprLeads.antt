@@ -3,7 +3,7 @@ use Rattle.std.proofs.Common.{◌≡◌, ℕ, ◌≤◌, ◌^◌, List, [], ◌�
 use Rattle.lsys_syntax.specs.Tokens.{Kind, RightParen, Ampersand, Bar, Caret}
 use Rattle.lsys_syntax.specs.Pieces.{token, note, expr_ends}
 use Rattle.lsys_syntax.specs.Strings.{EachOf}
-use Rattle.lsys_syntax.specs.Expressions.{TermOp, multiply, divide, remainder, SumOp, add, subtract, RelOp, equal, unequal, less, at_most, greater, at_least, Expr, only_and, or, And, only_rel, and, Rel, only_sum, compare, Sum, only_term, total, Term, only_unary, product, Unary, negated, inverted, plain, raised, Atom, number, name, parens, term_kind, sum_kind, rel_kind, expr_kinds, and_kinds, rel_kinds, sum_kinds, term_kinds, unary_kinds, atom_kinds, expr_pieces, IsExpr, IsAnd, IsRel, IsSum, IsTerm, IsUnary, IsAtom}
+use Rattle.lsys_syntax.specs.Expressions.{TermOp, multiply, divide, remainder, SumOp, add, subtract, RelOp, equal, unequal, less, at_most, greater, at_least, Expr, only_and, or, And, only_rel, and, Rel, only_sum, compare, Sum, only_term, total, Term, only_unary, product, Unary, negated, inverted, only_atom, raised, Atom, number, name, parens, term_kind, sum_kind, rel_kind, expr_kinds, and_kinds, rel_kinds, sum_kinds, term_kinds, unary_kinds, atom_kinds, expr_pieces, IsExpr, IsAnd, IsRel, IsSum, IsTerm, IsUnary, IsAtom}
 use Rattle.lsys_syntax.specs.ExpressionMachine as E
 use Rattle.lsys_syntax.specs.Nesting as N
 use Rattle.lsys_syntax.specs.RuleMachine.{Form, Spot, State, InExpr, small, step, within, expr_start}
@@ -68,7 +68,7 @@ mutual
   unary-small : (u : Unary) → IsUnary u → AreSmall (unary_kinds u)
   unary-small (negated u) g = (refl, unary-small u g)
   unary-small (inverted u) g = (refl, unary-small u g)
-  unary-small (plain a) g = atom-small a g
+  unary-small (only_atom a) g = atom-small a g
   unary-small (raised a u) g = small-append (atom_kinds a) (Caret ∷ unary_kinds u) (atom-small a g.0) (refl, unary-small u g.1)
 
   atom-small : (a : Atom) → IsAtom a → AreSmall (atom_kinds a)
@@ -108,7 +108,7 @@ live-before (t ∷ ts) E.Stop h = subst IsLive (stopped ts) h
 live-unary : (u : Unary) (k : E.InUnary) → IsLive (leave_unary u k)
 live-unary (negated u) k = live-unary u (E.negating k)
 live-unary (inverted u) k = live-unary u (E.inverting k)
-live-unary (plain a) k = tt
+live-unary (only_atom a) k = tt
 live-unary (raised a u) k = live-unary u (E.raising a k)
 
 live-term : (t : Term) (k : E.InSum) → IsLive (leave_term t k)
@@ -139,10 +139,10 @@ module _ (m : Form) (b : ℕ) (spot : Spot) where
       ap (λ k. within m spot t (E.step s k)) h.0 ∙ within-live m spot t (E.step s t) (live-before ts (E.step s t) l) in
       subst (λ x. Shallow b x × Leads (step m) (Shallow b) x (map token ts) (InExpr spot (E.run s (t ∷ ts)))) (sym same) (w.0, tokens-lead ts (E.step s t) l w.1 h.1)
 
-  pub expr-leads : (e : Expr) → IsExpr e → N.expr_nesting e ≤ b → Leads (step m) (Shallow b) (InExpr spot expr_start) (expr_pieces e) (InExpr spot (leave_expr e E.outermost))
+  pub expr-leads : (e : Expr) → IsExpr e → N.expr_nesting e ≤ b → Leads (step m) (Shallow b) (InExpr spot expr_start) (expr_pieces e) (InExpr spot (leave_expr e E.no_parens))
   expr-leads e g n =
-      let all : E.run expr_start (expr_kinds e) ≡ leave_expr e E.outermost =
-      ap (E.run expr_start) (sym (append-nil (expr_kinds e))) ∙ read-expr e E.outermost [] in
-      leads-append (step m) (Shallow b) (map token (expr_kinds e)) (note expr_ends ∷ []) (InExpr spot expr_start) (InExpr spot (E.run expr_start (expr_kinds e))) (InExpr spot (leave_expr e E.outermost))
-      (tokens-lead (expr_kinds e) expr_start (subst IsLive (sym all) (live-expr e E.outermost)) (expr-within e b E.outermost (omega (arith, n))) (expr-small e g))
+      let all : E.run expr_start (expr_kinds e) ≡ leave_expr e E.no_parens =
+      ap (E.run expr_start) (sym (append-nil (expr_kinds e))) ∙ read-expr e E.no_parens [] in
+      leads-append (step m) (Shallow b) (map token (expr_kinds e)) (note expr_ends ∷ []) (InExpr spot expr_start) (InExpr spot (E.run expr_start (expr_kinds e))) (InExpr spot (leave_expr e E.no_parens))
+      (tokens-lead (expr_kinds e) expr_start (subst IsLive (sym all) (live-expr e E.no_parens)) (expr-within e b E.no_parens (omega (arith, n))) (expr-small e g))
       (ap (λ s. InExpr spot s) all)

@@ -4,7 +4,7 @@ use Rattle.lsys_syntax.specs.Tokens.{Kind, NameText, short, long, Modules, Unequ
 use Rattle.lsys_syntax.specs.Pieces.{Piece, token, note, expr_ends, text_of, placed, Tail, anything, not_digit, not_equals, letter, digit, equals, may_follow, Reads, name_ending}
 use Rattle.lsys_syntax.proofs.ReadBack.{reads-from}
 use Rattle.lsys_syntax.proofs.StringsRead.{mark-reads}
-use Rattle.lsys_syntax.specs.Expressions.{TermOp, multiply, divide, remainder, SumOp, add, subtract, RelOp, equal, unequal, less, at_most, greater, at_least, Expr, only_and, or, And, only_rel, and, Rel, only_sum, compare, Sum, only_term, total, Term, only_unary, product, Unary, negated, inverted, plain, raised, Atom, number, name, parens, term_kind, sum_kind, rel_kind, expr_kinds, and_kinds, rel_kinds, sum_kinds, term_kinds, unary_kinds, atom_kinds, IsExpr, IsAnd, IsRel, IsSum, IsTerm, IsUnary, IsAtom, expr_pieces}
+use Rattle.lsys_syntax.specs.Expressions.{TermOp, multiply, divide, remainder, SumOp, add, subtract, RelOp, equal, unequal, less, at_most, greater, at_least, Expr, only_and, or, And, only_rel, and, Rel, only_sum, compare, Sum, only_term, total, Term, only_unary, product, Unary, negated, inverted, only_atom, raised, Atom, number, name, parens, term_kind, sum_kind, rel_kind, expr_kinds, and_kinds, rel_kinds, sum_kinds, term_kinds, unary_kinds, atom_kinds, IsExpr, IsAnd, IsRel, IsSum, IsTerm, IsUnary, IsAtom, expr_pieces}
 
 -- behind such a token an operand may stand
 abbrev pub Opens : Tail → Type 0
@@ -73,7 +73,7 @@ mutual
   unary-reads : (u : Unary) → IsUnary u → (t : Tail) → Opens t → (ps : List Piece) → AfterOperand ps → Reads Modules t (map token (unary_kinds u) ++ ps)
   unary-reads (negated u) g t o ps h = mark-reads Minus refl tt t (map token (unary_kinds u) ++ ps) (unary-reads u g anything (refl, refl) ps h)
   unary-reads (inverted u) g t o ps h = mark-reads Bang refl tt t (map token (unary_kinds u) ++ ps) (unary-reads u g not_equals (refl, refl) ps h)
-  unary-reads (plain a) g t o ps h = atom-reads a g t o ps h
+  unary-reads (only_atom a) g t o ps h = atom-reads a g t o ps h
   unary-reads (raised a u) g t o ps h = rw (seam (atom_kinds a) (Caret ∷ unary_kinds u) ps)
       (atom-reads a g.0 t o (token Caret ∷ (map token (unary_kinds u) ++ ps))
       (λ t' o'. mark-reads Caret refl tt t' (map token (unary_kinds u) ++ ps) (unary-reads u g.1 anything (refl, refl) ps h)))

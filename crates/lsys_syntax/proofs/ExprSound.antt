@@ -3,8 +3,8 @@ use Rattle.std.proofs.Common.{◌≡◌, ℕ, Bool, true, false, ◌+◌, ◌≤
 use Rattle.std.proofs.lemmas.Bool.Decides.{nat_tests}
 use Rattle.lsys_syntax.specs.Tokens.{Kind, Name, Number, BigNumber, LeftParen, Minus, Ampersand, Bar, Caret, Bang}
 use Rattle.lsys_syntax.specs.Pieces.{IsNameText}
-use Rattle.lsys_syntax.specs.Expressions.{Expr, only_and, or, And, only_rel, and, Rel, only_sum, compare, Sum, only_term, total, Term, only_unary, product, Unary, negated, inverted, plain, raised, Atom, number, parens, term_kind, sum_kind, rel_kind, expr_kinds, and_kinds, rel_kinds, sum_kinds, term_kinds, unary_kinds, atom_kinds, IsExpr, IsAnd, IsRel, IsSum, IsTerm, IsUnary, IsAtom}
-use Rattle.lsys_syntax.specs.ExpressionMachine.{InUnary, negating, inverting, raising, in_term, InTerm, first_unary, next_unary, InSum, first_term, next_term, InRel, first_sum, second_sum, InAnd, first_rel, next_rel, InExpr, first_and, next_and, Around, outermost, in_parens, State, Due, Have, HalfAnd, HalfOr, Done, Stop, AfterExpr, closing, other, AfterAnd, half_or, ends_expr, AfterRel, half_and, ends_and, AfterSum, comparing, ends_rel, AfterTerm, more_sum, ends_sum, AfterUnary, more_term, ends_term, AfterAtom, powering, ends_unary, what_follows, after_expr, after_and, after_rel, after_sum, after_term, after_unary, after_operand, after_atom, step}
+use Rattle.lsys_syntax.specs.Expressions.{Expr, only_and, or, And, only_rel, and, Rel, only_sum, compare, Sum, only_term, total, Term, only_unary, product, Unary, negated, inverted, only_atom, raised, Atom, number, parens, term_kind, sum_kind, rel_kind, expr_kinds, and_kinds, rel_kinds, sum_kinds, term_kinds, unary_kinds, atom_kinds, IsExpr, IsAnd, IsRel, IsSum, IsTerm, IsUnary, IsAtom}
+use Rattle.lsys_syntax.specs.ExpressionMachine.{InUnary, negating, inverting, raising, in_term, InTerm, first_unary, next_unary, InSum, first_term, next_term, InRel, first_sum, second_sum, InAnd, first_rel, next_rel, InExpr, first_and, next_and, Around, no_parens, in_parens, State, Due, Have, HalfAnd, HalfOr, Done, Stop, AfterExpr, closing, other, AfterAnd, half_or, ends_expr, AfterRel, half_and, ends_and, AfterSum, comparing, ends_rel, AfterTerm, more_sum, ends_sum, AfterUnary, more_term, ends_term, AfterAtom, powering, ends_unary, what_follows, after_expr, after_and, after_rel, after_sum, after_term, after_unary, after_operand, after_atom, step}
 use Rattle.lsys_syntax.specs.Nesting.{expr_nesting, and_nesting, rel_nesting, sum_nesting, term_nesting, unary_nesting, atom_nesting, unary_depth, term_depth, sum_depth, rel_depth, and_depth, expr_depth, around_depth, depth}
 use Rattle.lsys_syntax.specs.Completions.{before_unary, before_term, before_sum, before_rel, before_and, before_expr, before, spelled, fill_unary, fill_term, fill_sum, fill_rel, fill_and, fill_expr, fill_around, completed}
 use Rattle.lsys_syntax.specs.RuleMachine.{small}
@@ -40,7 +40,7 @@ abbrev mutual
   GoodExpr (next_and e k) = IsExpr e × GoodAround k
 
   pub GoodAround : Around → Type 0
-  GoodAround outermost = Unit {0}
+  GoodAround no_parens = Unit {0}
   GoodAround (in_parens k) = GoodUnary k
 
 abbrev pub Good : State → Type 0
@@ -58,9 +58,9 @@ Ends b s ts = Good s
 
 module _ (b : ℕ) (ts : List Kind) where
   expr-ends : (f : AfterExpr) (e : Expr) (k : Around) → around_depth k + expr_nesting e ≤ b → IsExpr e → GoodAround k → before k ++ expr_kinds e ≡ ts → Ends b (after_expr f e k) ts
-  expr-ends closing e outermost h i j q = (q, i, omega (arith, h))
+  expr-ends closing e no_parens h i j q = (q, i, omega (arith, h))
   expr-ends closing e (in_parens k) h i j q = (i, j)
-  expr-ends other e outermost h i j q = (q, i, omega (arith, h))
+  expr-ends other e no_parens h i j q = (q, i, omega (arith, h))
   expr-ends other e (in_parens k) h i j q = tt
 
   and-ends : (f : AfterAnd) (a : And) (k : InExpr) → expr_depth k + and_nesting a ≤ b → FitsExpr b k → IsAnd a → GoodExpr k → before_expr k ++ and_kinds a ≡ ts → Ends b (after_and f a k) ts
@@ -101,7 +101,7 @@ module _ (b : ℕ) (ts : List Kind) where
 
   atom-ends : (f : AfterAtom) (a : Atom) (k : InUnary) → unary_depth k + atom_nesting a ≤ b → FitsUnary b k → IsAtom a → GoodUnary k → before_unary k ++ atom_kinds a ≡ ts → Ends b (after_atom f a k) ts
   atom-ends powering a k h g i j q = (i, j)
-  atom-ends (ends_unary f) a k h g i j q = operand-ends f (plain a) k h g i j q
+  atom-ends (ends_unary f) a k h g i j q = operand-ends f (only_atom a) k h g i j q
 
 -- a token of an expression that is well formed
 abbrev pub IsOperand : Kind → Type 0
@@ -152,7 +152,7 @@ over_going Stop h g = g
 
 big-ends : (s : State) → IsGoing (step s BigNumber) → ⊥
 big-ends (Due k) g = g
-big-ends (Have a k) g = over_going _ (other-over (plain a) k) g
+big-ends (Have a k) g = over_going _ (other-over (only_atom a) k) g
 big-ends (HalfAnd a k) g = g
 big-ends (HalfOr e k) g = g
 big-ends (Done e) g = g
@@ -209,13 +209,13 @@ mutual
   fill_expr-good a (next_and e k) i j = fill_around-good (or e a) k (j.0, i) j.1
 
   fill_around-good : (e : Expr) (k : Around) → IsExpr e → GoodAround k → IsExpr (fill_around e k)
-  fill_around-good e outermost i j = i
-  fill_around-good e (in_parens k) i j = fill_unary-good (plain (parens e)) k i j
+  fill_around-good e no_parens i j = i
+  fill_around-good e (in_parens k) i j = fill_unary-good (only_atom (parens e)) k i j
 
 pub completed-good : (s : State) → IsGoing s → Good s → IsExpr (completed s)
-completed-good (Due k) g j = fill_unary-good (plain (number 0)) k (omega arith) j
-completed-good (Have a k) g j = fill_unary-good (plain a) k j.0 j.1
-completed-good (HalfAnd a k) g j = fill_expr-good (and a (only_sum (only_term (only_unary (plain (number 0)))))) k (j.0, omega arith) j.1
-completed-good (HalfOr e k) g j = fill_around-good (or e (only_rel (only_sum (only_term (only_unary (plain (number 0))))))) k (j.0, omega arith) j.1
+completed-good (Due k) g j = fill_unary-good (only_atom (number 0)) k (omega arith) j
+completed-good (Have a k) g j = fill_unary-good (only_atom a) k j.0 j.1
+completed-good (HalfAnd a k) g j = fill_expr-good (and a (only_sum (only_term (only_unary (only_atom (number 0)))))) k (j.0, omega arith) j.1
+completed-good (HalfOr e k) g j = fill_around-good (or e (only_rel (only_sum (only_term (only_unary (only_atom (number 0))))))) k (j.0, omega arith) j.1
 completed-good (Done e) g j = elim g [ ]
 completed-good Stop g j = elim g [ ]

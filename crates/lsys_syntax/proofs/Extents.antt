@@ -2,8 +2,8 @@
 use Rattle.std.proofs.Common.{◌≡◌, ◌⊎◌, inl, inr, ℕ, zero, suc, Bool, true, false, ◌≤◌, ◌<◌, ◌+◌, ◌^◌, max, Some, List, [], ◌∷◌, ◌++◌, map, take, drop, length, nat_lt, refl, ap, ◌∙◌, sym, subst, append_assoc, append-nil, arith, lt-ltb, if◌then◌else◌}
 use Rattle.lsys_syntax.specs.Tokens.{Kind, Number, Name, BigNumber, Arrow, LeftParen, Bang, Equal, Unequal, AtMost, AtLeast, RightParen, Plus, Minus, Times, Slash, Percent, Ampersand, Bar, Caret, Less, Greater}
 use Rattle.lsys_syntax.specs.Strings.{EachOf}
-use Rattle.lsys_syntax.specs.Expressions.{multiply, divide, remainder, add, subtract, RelOp, equal, unequal, less, at_most, greater, at_least, Expr, only_and, or, And, only_rel, and, Rel, only_sum, compare, Sum, only_term, total, Term, only_unary, product, Unary, negated, inverted, plain, raised, Atom, expr_kinds, IsExpr}
-use Rattle.lsys_syntax.specs.ExpressionMachine.{InUnary, negating, inverting, raising, in_term, InTerm, first_unary, next_unary, InSum, first_term, next_term, InRel, first_sum, second_sum, InAnd, first_rel, next_rel, InExpr, first_and, next_and, Around, outermost, in_parens, State, Due, Have, HalfAnd, HalfOr, Done, Stop, closing, other, half_or, ends_expr, half_and, ends_and, comparing, rel_step, ends_rel, more_sum, ends_sum, AfterUnary, more_term, ends_term, expr_step, what_follows, compared, closed, ended, AfterAtom, powering, ends_unary, after_unary, after_operand, after_atom, due_step, half_and_step, half_or_step, start_expr, step, run, end_step, finished}
+use Rattle.lsys_syntax.specs.Expressions.{multiply, divide, remainder, add, subtract, RelOp, equal, unequal, less, at_most, greater, at_least, Expr, only_and, or, And, only_rel, and, Rel, only_sum, compare, Sum, only_term, total, Term, only_unary, product, Unary, negated, inverted, only_atom, raised, Atom, expr_kinds, IsExpr}
+use Rattle.lsys_syntax.specs.ExpressionMachine.{InUnary, negating, inverting, raising, in_term, InTerm, first_unary, next_unary, InSum, first_term, next_term, InRel, first_sum, second_sum, InAnd, first_rel, next_rel, InExpr, first_and, next_and, Around, no_parens, in_parens, State, Due, Have, HalfAnd, HalfOr, Done, Stop, closing, other, half_or, ends_expr, half_and, ends_and, comparing, rel_step, ends_rel, more_sum, ends_sum, AfterUnary, more_term, ends_term, expr_step, what_follows, compared, closed, ended, AfterAtom, powering, ends_unary, after_unary, after_operand, after_atom, due_step, half_and_step, half_or_step, start_expr, step, run, end_step, finished}
 use Rattle.lsys_syntax.specs.ExpressionPlaces.{BeginsExpression, IsAnyExpression, BeginsAnyExpression, CantGoOn, read_expr, Extent, ends, stops, too_deep, at_end, behind, extent_from, extent}
 use Rattle.lsys_syntax.specs.Completions.{spelled, completion, completed}
 use Rattle.lsys_syntax.specs.Nesting.{expr_nesting, depth, StaysWithin}
@@ -61,7 +61,7 @@ compared-done op s (first_sum k) e q = cc
 compared-done op s (second_sum l o k) e q = cc
 
 closed-done : (x : Expr) (k : Around) (e : Expr) → closed x k ≡ Done e → ended x k ≡ Done e
-closed-done x outermost e q = q
+closed-done x no_parens e q = q
 closed-done x (in_parens k) e q = cc
 
 unary-done : (f : AfterUnary) (u : Unary) (k : InTerm) (e : Expr) → after_unary f u k ≡ Done e → after_unary over_operand u k ≡ Done e
@@ -79,9 +79,9 @@ operand-done f u (inverting k) e q = operand-done f (inverted u) k e q
 operand-done f u (raising a k) e q = operand-done f (raised a u) k e q
 operand-done f u (in_term k) e q = unary-done f u k e q
 
-atom-done : (f : AfterAtom) (a : Atom) (k : InUnary) (e : Expr) → after_atom f a k ≡ Done e → after_operand over_operand (plain a) k ≡ Done e
+atom-done : (f : AfterAtom) (a : Atom) (k : InUnary) (e : Expr) → after_atom f a k ≡ Done e → after_operand over_operand (only_atom a) k ≡ Done e
 atom-done powering a k e q = cc
-atom-done (ends_unary f) a k e q = operand-done f (plain a) k e q
+atom-done (ends_unary f) a k e q = operand-done f (only_atom a) k e q
 
 due-done : (t : Kind) (k : InUnary) (e : Expr) → due_step t k ≡ Done e → ⊥
 due-done (Number n) k e q = cc
@@ -118,7 +118,7 @@ reached-end ks n s Stop g h q o = (0, n, omega arith, omega arith, (tt, g), (ref
 reached-end ks n s s' g h q o = elim h [ ]
 
 end-over : (s : State) → IsOver (end_step s)
-end-over (Have a k) = other-over (plain a) k
+end-over (Have a k) = other-over (only_atom a) k
 end-over s = tt
 
 reached-later : (k : Kind) (ks : List Kind) (n : ℕ) (s : State) (x : Extent) → depth (step s (small k)) ≤ 32 → Reached x (step s (small k)) ks (n + 1) → Reached x s (k ∷ ks) n
@@ -164,15 +164,15 @@ reached-from (k ∷ ks) n s g = reached-next k ks n s (extent_from (n + 1) (step
 
 -- The place of an extent, in the tokens from 0.
 abbrev At : Extent → List Kind → ℕ → Type 0
-At x ks d = (d ≤ length ks) × Goes 32 (start_expr outermost) (take d ks) × Here x d (runs (start_expr outermost) (take d ks)) (drop d ks)
+At x ks d = (d ≤ length ks) × Goes 32 (start_expr no_parens) (take d ks) × Here x d (runs (start_expr no_parens) (take d ks)) (drop d ks)
 
 here-same : (x : Extent) (ks : List Kind) (m j : ℕ) (r : State) → m ≡ 0 + j → Here x m r ks → Here x j r ks
 here-same x ks m j r e h = let same : m ≡ j = omega (arith, e) in subst (λ i. Here x i r ks) same h
 
 found : (ks : List Kind) (x : Extent) → extent ks ≡ x → (j : ℕ) × At x ks j
 found ks x e =
-    let r : Reached x (start_expr outermost) ks 0 = subst (λ y. Reached y (start_expr outermost) ks 0) e (reached-from ks 0 (start_expr outermost) tt) in
-    (r.0, (r.3, r.4, here-same x (drop r.0 ks) r.1 r.0 (runs (start_expr outermost) (take r.0 ks)) r.2 r.5))
+    let r : Reached x (start_expr no_parens) ks 0 = subst (λ y. Reached y (start_expr no_parens) ks 0) e (reached-from ks 0 (start_expr no_parens) tt) in
+    (r.0, (r.3, r.4, here-same x (drop r.0 ks) r.1 r.0 (runs (start_expr no_parens) (take r.0 ks)) r.2 r.5))
 
 -- what the tokens have made of a state
 abbrev Taken : ℕ → State → List Kind → Type 0
@@ -200,13 +200,13 @@ taken b (k ∷ ks) s ts i f e g h =
     subst (Taken b (runs (step s (small k)) ks)) (append_assoc ts (k ∷ []) ks)
     (taken b ks (step s (small k)) (ts ++ k ∷ []) a.1 a.2 one g.1 (h.0.1, h.1))
 
-taken-all : (b : ℕ) (ks : List Kind) → AreTokens ks → Goes b (start_expr outermost) ks → Taken b (runs (start_expr outermost) ks) ks
-taken-all b ks g h = taken b ks (start_expr outermost) [] tt (omega arith, tt) refl g h
+taken-all : (b : ℕ) (ks : List Kind) → AreTokens ks → Goes b (start_expr no_parens) ks → Taken b (runs (start_expr no_parens) ks) ks
+taken-all b ks g h = taken b ks (start_expr no_parens) [] tt (omega arith, tt) refl g h
 
 -- Some expression begins with tokens that are taken.
-taken-begins : (b : ℕ) (ks : List Kind) → AreTokens ks → Goes b (start_expr outermost) ks → BeginsExpression b ks
+taken-begins : (b : ℕ) (ks : List Kind) → AreTokens ks → Goes b (start_expr no_parens) ks → BeginsExpression b ks
 taken-begins b ks g h =
-    let r : State = runs (start_expr outermost) ks in
+    let r : State = runs (start_expr no_parens) ks in
     let t : Taken b r ks = taken-all b ks g h in
     (completion r, (completed r, completes r h.1 ∙ ap (λ us. us ++ completion r) t.0, completed-good r h.1 t.1, completed-nesting b r h.1 t.2))
 
@@ -219,10 +219,10 @@ deepest-within : (b : ℕ) (ts : List Kind) (s : State) → deepest s ts ≤ b �
 deepest-within b [] s h = tt
 deepest-within b (t ∷ ts) s h = (omega (arith, h), deepest-within b ts (step s t) (omega (arith, h)))
 
-taken-begins-any : (ks : List Kind) → AreTokens ks → IsGoing (runs (start_expr outermost) ks) → BeginsAnyExpression ks
+taken-begins-any : (ks : List Kind) → AreTokens ks → IsGoing (runs (start_expr no_parens) ks) → BeginsAnyExpression ks
 taken-begins-any ks g h =
-    let b : ℕ = deepest (start_expr outermost) (map small ks) in
-    (b, taken-begins b ks g (deepest-within b (map small ks) (start_expr outermost) (omega arith), h))
+    let b : ℕ = deepest (start_expr no_parens) (map small ks) in
+    (b, taken-begins b ks g (deepest-within b (map small ks) (start_expr no_parens) (omega arith), h))
 
 -- Tokens of an expression stand in it as they are.
 smalls : (ks : List Kind) → EachOf IsSmall ks → map small ks ≡ ks
@@ -237,10 +237,10 @@ front-small : (ks rest : List Kind) (e : Expr) → IsExpr e → expr_kinds e ≡
 front-small ks rest e g q = smalls ks (smalls-front ks rest (subst (EachOf IsSmall) q (expr-small e g)))
 
 -- No expression begins with tokens behind which it is over.
-over-none : (ks : List Kind) → IsOver (runs (start_expr outermost) ks) → BeginsAnyExpression ks → ⊥
+over-none : (ks : List Kind) → IsOver (runs (start_expr no_parens) ks) → BeginsAnyExpression ks → ⊥
 over-none ks h g =
     let e : Expr = g.1.1.0 in
-    begins_not ks g.1.0 e (subst (λ ts. IsOver (run (start_expr outermost) ts)) (front-small ks g.1.0 e g.1.1.2 g.1.1.1) h) g.1.1.1
+    begins_not ks g.1.0 e (subst (λ ts. IsOver (run (start_expr no_parens) ts)) (front-small ks g.1.0 e g.1.1.2 g.1.1.1) h) g.1.1.1
 
 next-run : (ks : List Kind) (j : ℕ) (s : State) (k : Kind) (js : List Kind) → drop j ks ≡ k ∷ js → runs s (take (suc j) ks) ≡ step (runs s (take j ks)) (small k)
 next-run [] zero s k js e = cc
@@ -299,20 +299,20 @@ here-is (too_deep d) j r (k ∷ ks) h = h.0
 at : (ks : List Kind) (x : Extent) → extent ks ≡ x → At x ks (here-place x)
 at ks x e =
     let f : (j : ℕ) × At x ks j = found ks x e in
-    subst (At x ks) (sym (here-is x f.0 (runs (start_expr outermost) (take f.0 ks)) (drop f.0 ks) f.1.2)) f.1
+    subst (At x ks) (sym (here-is x f.0 (runs (start_expr no_parens) (take f.0 ks)) (drop f.0 ks) f.1.2)) f.1
 
 at-over : (ks : List Kind) (x : Extent) (d : ℕ) → At x ks d → ((i : ℕ) → x ≡ too_deep i → ⊥) → d < length ks → BeginsAnyExpression (take (suc d) ks) → ⊥
 at-over ks x d a never h g =
     let m : (k : Kind) × (js : List Kind) × (drop d ks ≡ k ∷ js) = drop-short ks d h in
-    let r : State = runs (start_expr outermost) (take d ks) in
+    let r : State = runs (start_expr no_parens) (take d ks) in
     let over : IsOver (step r (small m.0)) = here-over x d r m.0 m.1 (subst (Here x d r) m.2 a.2) never in
-    over-none (take (suc d) ks) (subst IsOver (sym (next-run ks d (start_expr outermost) m.0 m.1 m.2)) over) g
+    over-none (take (suc d) ks) (subst IsOver (sym (next-run ks d (start_expr no_parens) m.0 m.1 m.2)) over) g
 
 -- Where it ends, the tokens before the place are the expression,
 pub ends-whole : (ks : List Kind) (d : ℕ) (e : Expr) → AreTokens ks → extent ks ≡ ends d e → (d ≤ length ks) × (expr_kinds e ≡ take d ks) × IsExpr e × (expr_nesting e ≤ 32)
 ends-whole ks d e g q =
     let a : At (ends d e) ks d = at ks (ends d e) q in
-    let r : State = runs (start_expr outermost) (take d ks) in
+    let r : State = runs (start_expr no_parens) (take d ks) in
     let t : Taken 32 r (take d ks) = taken-all 32 (take d ks) (tokens-front d ks g) a.1 in
     let n : Ending r e = ending r e a.2.1 in
     let w : After 32 (Done e) (spelled r) n.0 = subst (λ s. After 32 s (spelled r) n.0) n.2 (step-after 32 r n.0 n.1 t.2 t.1 (subst (λ s. depth s ≤ 32) (sym n.2) (omega arith))) in
@@ -342,14 +342,14 @@ deep-so (k ∷ rest) j d r h = (k, rest, refl, h.1, h.2)
 
 -- what the token at the place makes of the state, where it is too deep
 abbrev Deeper : List Kind → ℕ → Type 0
-Deeper ks d = (d < length ks) × IsGoing (runs (start_expr outermost) (take (suc d) ks)) × (32 < depth (runs (start_expr outermost) (take (suc d) ks)))
+Deeper ks d = (d < length ks) × IsGoing (runs (start_expr no_parens) (take (suc d) ks)) × (32 < depth (runs (start_expr no_parens) (take (suc d) ks)))
 
 deeper : (ks : List Kind) (d : ℕ) → extent ks ≡ too_deep d → Deeper ks d
 deeper ks d q =
     let a : At (too_deep d) ks d = at ks (too_deep d) q in
-    let r : State = runs (start_expr outermost) (take d ks) in
+    let r : State = runs (start_expr no_parens) (take d ks) in
     let m : (k : Kind) × (js : List Kind) × (drop d ks ≡ k ∷ js) × IsGoing (step r (small k)) × (32 < depth (step r (small k))) = deep-so (drop d ks) d d r a.2 in
-    let same : runs (start_expr outermost) (take (suc d) ks) ≡ step r (small m.0) = next-run ks d (start_expr outermost) m.0 m.1 m.2 in
+    let same : runs (start_expr no_parens) (take (suc d) ks) ≡ step r (small m.0) = next-run ks d (start_expr no_parens) m.0 m.1 m.2 in
     (drop-long ks d m.0 m.1 m.2, subst IsGoing (sym same) m.3, subst (λ s. 32 < depth s) (sym same) m.4)
 
 -- Where it is too deep, an expression begins with the tokens before the place,
@@ -365,9 +365,9 @@ pub deep-none : (ks : List Kind) (d : ℕ) → extent ks ≡ too_deep d → Begi
 deep-none ks d q g =
     let ts : List Kind = take (suc d) ks in
     let same : map small ts ≡ ts = front-small ts g.0 g.1.0 g.1.2 g.1.1 in
-    let w : StaysWithin 32 (start_expr outermost) ts = begins-within 32 ts g.0 g.1.0 g.1.3 g.1.1 in
-    let last : depth (run (start_expr outermost) (map small ts)) ≤ 32 = subst (λ us. depth (run (start_expr outermost) us) ≤ 32) (sym same) (within-last 32 ts (start_expr outermost) (omega arith) w) in
-    let more : 32 < depth (run (start_expr outermost) (map small ts)) = (deeper ks d q).2 in
+    let w : StaysWithin 32 (start_expr no_parens) ts = begins-within 32 ts g.0 g.1.0 g.1.3 g.1.1 in
+    let last : depth (run (start_expr no_parens) (map small ts)) ≤ 32 = subst (λ us. depth (run (start_expr no_parens) us) ≤ 32) (sym same) (within-last 32 ts (start_expr no_parens) (omega arith) w) in
+    let more : 32 < depth (run (start_expr no_parens) (map small ts)) = (deeper ks d q).2 in
     absurd (omega (arith, last, more))
 
 -- and one of a greater nesting does.
@@ -385,7 +385,7 @@ Has s = (a : Atom) × (k : InUnary) × (s ≡ Have a k)
 has-unary : (u : Unary) (k : InUnary) → Has (leave_unary u k)
 has-unary (negated u) k = has-unary u (negating k)
 has-unary (inverted u) k = has-unary u (inverting k)
-has-unary (plain a) k = (a, k, refl)
+has-unary (only_atom a) k = (a, k, refl)
 has-unary (raised a u) k = has-unary u (raising a k)
 
 has-term : (t : Term) (k : InSum) → Has (leave_term t k)
@@ -408,11 +408,11 @@ has-expr : (e : Expr) (k : Around) → Has (leave_expr e k)
 has-expr (only_and a) k = has-and a (first_and k)
 has-expr (or e a) k = has-and a (next_and e k)
 
-run-whole : (e : Expr) → run (start_expr outermost) (expr_kinds e) ≡ leave_expr e outermost
-run-whole e = ap (run (start_expr outermost)) (sym (append-nil (expr_kinds e))) ∙ read-expr e outermost []
+run-whole : (e : Expr) → run (start_expr no_parens) (expr_kinds e) ≡ leave_expr e no_parens
+run-whole e = ap (run (start_expr no_parens)) (sym (append-nil (expr_kinds e))) ∙ read-expr e no_parens []
 
-end-whole : (e : Expr) → end_step (leave_expr e outermost) ≡ Done e
-end-whole e = expr_left end_step other (λ a j. refl) e outermost
+end-whole : (e : Expr) → end_step (leave_expr e no_parens) ≡ Done e
+end-whole e = expr_left end_step other (λ a j. refl) e no_parens
 
 pub within-rest : (n : ℕ) (x : Extent) (s t : State) → depth t ≤ 32 → IsGoing t → behind n s t x ≡ x
 within-rest n x s t d g = behind-going n s t x g ∙ ap (λ c. if c then too_deep n else x) (shallow (depth t) (nat_lt 32 (depth t)) refl d)
@@ -442,21 +442,21 @@ small-follows k h = h
 ends-here : (n : ℕ) (e : Expr) (s : State) (k : Kind) (ks : List Kind) → step s (small k) ≡ Done e → extent_from n s (k ∷ ks) ≡ ends n e
 ends-here n e s k ks q = ap (λ t. behind n s t (extent_from (n + 1) (step s (small k)) ks)) q
 
-whole-ends : (e : Expr) (n : ℕ) (rest : List Kind) → CantGoOn rest → extent_from n (leave_expr e outermost) rest ≡ ends n e
+whole-ends : (e : Expr) (n : ℕ) (rest : List Kind) → CantGoOn rest → extent_from n (leave_expr e no_parens) rest ≡ ends n e
 whole-ends e n [] h = ap (at_end n) (end-whole e)
-whole-ends e n (RightParen ∷ ks) h = ends-here n e (leave_expr e outermost) RightParen ks (paren-ends e)
-whole-ends e n (k ∷ ks) h = ends-here n e (leave_expr e outermost) k ks (other-ends (small k) (small-follows k h) e)
+whole-ends e n (RightParen ∷ ks) h = ends-here n e (leave_expr e no_parens) RightParen ks (paren-ends e)
+whole-ends e n (k ∷ ks) h = ends-here n e (leave_expr e no_parens) k ks (other-ends (small k) (small-follows k h) e)
 
 -- Each expression before a token that can't go on with it is found.
 pub whole-found : (e : Expr) (rest : List Kind) → IsExpr e → expr_nesting e ≤ 32 → CantGoOn rest → extent (expr_kinds e ++ rest) ≡ ends (length (expr_kinds e)) e
 whole-found e rest g n h =
     let ks : List Kind = expr_kinds e in
     let same : map small ks ≡ ks = smalls ks (expr-small e g) in
-    let last : runs (start_expr outermost) ks ≡ leave_expr e outermost = ap (run (start_expr outermost)) same ∙ run-whole e in
-    let a : Has (leave_expr e outermost) = has-expr e outermost in
-    let goes : Goes 32 (start_expr outermost) ks =
-    (subst (StaysWithin 32 (start_expr outermost)) (sym same) (expr-within e 32 outermost (omega (arith, n))), subst IsGoing (sym (last ∙ a.2)) tt) in
-    through ks rest 0 (length ks) (start_expr outermost) goes (omega arith)
+    let last : runs (start_expr no_parens) ks ≡ leave_expr e no_parens = ap (run (start_expr no_parens)) same ∙ run-whole e in
+    let a : Has (leave_expr e no_parens) = has-expr e no_parens in
+    let goes : Goes 32 (start_expr no_parens) ks =
+    (subst (StaysWithin 32 (start_expr no_parens)) (sym same) (expr-within e 32 no_parens (omega (arith, n))), subst IsGoing (sym (last ∙ a.2)) tt) in
+    through ks rest 0 (length ks) (start_expr no_parens) goes (omega arith)
     ∙ ap (λ s. extent_from (length ks) s rest) last
     ∙ whole-ends e (length ks) rest h
 
@@ -467,7 +467,7 @@ MayStop (ends_term (ends_sum (ends_rel (ends_and (ends_expr other))))) = Unit {0
 MayStop f = ⊥
 
 closed-stops : (x : Expr) (k : Around) → closed x k ≡ Stop → ⊥
-closed-stops x outermost q = cc
+closed-stops x no_parens q = cc
 closed-stops x (in_parens k) q = cc
 
 unary-stops : (f : AfterUnary) (u : Unary) (k : InTerm) → after_unary f u k ≡ Stop → MayStop f
@@ -503,14 +503,14 @@ have-compares AtMost a u e q h = (at_most, refl)
 have-compares Greater a u e q h = (greater, refl)
 have-compares AtLeast a u e q h = (at_least, refl)
 have-compares Caret a u e q h = cc
-have-compares Times a u e q h = absurd (operand-stops (more_term multiply) (plain a) u q)
-have-compares Slash a u e q h = absurd (operand-stops (more_term divide) (plain a) u q)
-have-compares Percent a u e q h = absurd (operand-stops (more_term remainder) (plain a) u q)
-have-compares Plus a u e q h = absurd (operand-stops (ends_term (more_sum add)) (plain a) u q)
-have-compares Minus a u e q h = absurd (operand-stops (ends_term (more_sum subtract)) (plain a) u q)
-have-compares Ampersand a u e q h = absurd (operand-stops (ends_term (ends_sum (ends_rel half_and))) (plain a) u q)
-have-compares Bar a u e q h = absurd (operand-stops (ends_term (ends_sum (ends_rel (ends_and half_or)))) (plain a) u q)
-have-compares RightParen a u e q h = absurd (operand-stops (ends_term (ends_sum (ends_rel (ends_and (ends_expr closing))))) (plain a) u q)
+have-compares Times a u e q h = absurd (operand-stops (more_term multiply) (only_atom a) u q)
+have-compares Slash a u e q h = absurd (operand-stops (more_term divide) (only_atom a) u q)
+have-compares Percent a u e q h = absurd (operand-stops (more_term remainder) (only_atom a) u q)
+have-compares Plus a u e q h = absurd (operand-stops (ends_term (more_sum add)) (only_atom a) u q)
+have-compares Minus a u e q h = absurd (operand-stops (ends_term (more_sum subtract)) (only_atom a) u q)
+have-compares Ampersand a u e q h = absurd (operand-stops (ends_term (ends_sum (ends_rel half_and))) (only_atom a) u q)
+have-compares Bar a u e q h = absurd (operand-stops (ends_term (ends_sum (ends_rel (ends_and half_or)))) (only_atom a) u q)
+have-compares RightParen a u e q h = absurd (operand-stops (ends_term (ends_sum (ends_rel (ends_and (ends_expr closing))))) (only_atom a) u q)
 have-compares k a u e q h = absurd (other-stops k a u e (small-follows k refl) q h)
 
 -- A token at which the machine stops behind a whole expression is a comparison.
@@ -527,5 +527,5 @@ pub stop-whole : (ks : List Kind) (d : ℕ) → extent ks ≡ stops d → IsAnyE
 stop-whole ks d q g =
     let e : Expr = g.1.0 in
     let same : map small (take d ks) ≡ take d ks = front-small (take d ks) [] e g.1.2 (g.1.1 ∙ sym (append-nil (take d ks))) in
-    let last : runs (start_expr outermost) (take d ks) ≡ leave_expr e outermost = ap (run (start_expr outermost)) (same ∙ sym g.1.1) ∙ run-whole e in
-    done-or-stop (end_step (leave_expr e outermost)) e (end-whole e) (ap end_step (sym last) ∙ (at ks (stops d) q).2.1)
+    let last : runs (start_expr no_parens) (take d ks) ≡ leave_expr e no_parens = ap (run (start_expr no_parens)) (same ∙ sym g.1.1) ∙ run-whole e in
+    done-or-stop (end_step (leave_expr e no_parens)) e (end-whole e) (ap end_step (sym last) ∙ (at ks (stops d) q).2.1)

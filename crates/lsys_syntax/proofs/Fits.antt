@@ -1,8 +1,8 @@
 -- While the depth stays within a bound, the stated completion has at most this nesting.
 use Rattle.std.proofs.Common.{ℕ, ◌+◌, ◌≤◌, List, [], ◌∷◌, arith}
 use Rattle.lsys_syntax.specs.Tokens.{Kind, Name, Number, LeftParen, Minus, Ampersand, Bar, Bang}
-use Rattle.lsys_syntax.specs.Expressions.{Expr, only_and, or, And, only_rel, and, Rel, only_sum, compare, Sum, only_term, total, Term, only_unary, product, Unary, negated, inverted, plain, raised, Atom, number, parens}
-use Rattle.lsys_syntax.specs.ExpressionMachine.{InUnary, negating, inverting, raising, in_term, InTerm, first_unary, next_unary, InSum, first_term, next_term, InRel, first_sum, second_sum, InAnd, first_rel, next_rel, InExpr, first_and, next_and, Around, outermost, in_parens, State, Due, Have, HalfAnd, HalfOr, Done, Stop, AfterExpr, closing, other, AfterAnd, half_or, ends_expr, AfterRel, half_and, ends_and, AfterSum, comparing, ends_rel, AfterTerm, more_sum, ends_sum, AfterUnary, more_term, ends_term, AfterAtom, powering, ends_unary, what_follows, after_expr, after_and, after_rel, after_sum, after_term, after_unary, after_operand, after_atom, start_expr, step, run}
+use Rattle.lsys_syntax.specs.Expressions.{Expr, only_and, or, And, only_rel, and, Rel, only_sum, compare, Sum, only_term, total, Term, only_unary, product, Unary, negated, inverted, only_atom, raised, Atom, number, parens}
+use Rattle.lsys_syntax.specs.ExpressionMachine.{InUnary, negating, inverting, raising, in_term, InTerm, first_unary, next_unary, InSum, first_term, next_term, InRel, first_sum, second_sum, InAnd, first_rel, next_rel, InExpr, first_and, next_and, Around, no_parens, in_parens, State, Due, Have, HalfAnd, HalfOr, Done, Stop, AfterExpr, closing, other, AfterAnd, half_or, ends_expr, AfterRel, half_and, ends_and, AfterSum, comparing, ends_rel, AfterTerm, more_sum, ends_sum, AfterUnary, more_term, ends_term, AfterAtom, powering, ends_unary, what_follows, after_expr, after_and, after_rel, after_sum, after_term, after_unary, after_operand, after_atom, start_expr, step, run}
 use Rattle.lsys_syntax.specs.Completions.{fill_unary, fill_term, fill_sum, fill_rel, fill_and, fill_expr, fill_around, completed}
 use Rattle.lsys_syntax.specs.Nesting.{expr_nesting, and_nesting, rel_nesting, sum_nesting, term_nesting, unary_nesting, atom_nesting, unary_depth, term_depth, sum_depth, rel_depth, and_depth, expr_depth, around_depth, depth, StaysWithin}
 use Rattle.lsys_syntax.proofs.Sound.{IsGoing}
@@ -36,7 +36,7 @@ abbrev mutual
   FitsExpr b (next_and e k) = (around_depth k + expr_nesting e ≤ b) × FitsAround b k
 
   pub FitsAround : ℕ → Around → Type 0
-  FitsAround b outermost = Unit {0}
+  FitsAround b no_parens = Unit {0}
   FitsAround b (in_parens k) = FitsUnary b k
 
 abbrev pub Fits : ℕ → State → Type 0
@@ -75,22 +75,22 @@ mutual
   fill_expr-nesting b a (next_and e k) h f = fill_around-nesting b (or e a) k (omega (arith, h, f.0)) f.1
 
   fill_around-nesting : (b : ℕ) (e : Expr) (k : Around) → around_depth k + expr_nesting e ≤ b → FitsAround b k → expr_nesting (fill_around e k) ≤ b
-  fill_around-nesting b e outermost h f = omega (arith, h)
-  fill_around-nesting b e (in_parens k) h f = fill_unary-nesting b (plain (parens e)) k (omega (arith, h)) f
+  fill_around-nesting b e no_parens h f = omega (arith, h)
+  fill_around-nesting b e (in_parens k) h f = fill_unary-nesting b (only_atom (parens e)) k (omega (arith, h)) f
 
 pub completed-nesting : (b : ℕ) (s : State) → IsGoing s → Fits b s → expr_nesting (completed s) ≤ b
-completed-nesting b (Due k) g f = fill_unary-nesting b (plain (number 0)) k (omega (arith, f.0)) f.1
-completed-nesting b (Have a k) g f = fill_unary-nesting b (plain a) k f.0 f.1
-completed-nesting b (HalfAnd a k) g f = fill_expr-nesting b (and a (only_sum (only_term (only_unary (plain (number 0)))))) k (omega (arith, f.0)) f.1
-completed-nesting b (HalfOr e k) g f = fill_around-nesting b (or e (only_rel (only_sum (only_term (only_unary (plain (number 0))))))) k (omega (arith, f.0)) f.1
+completed-nesting b (Due k) g f = fill_unary-nesting b (only_atom (number 0)) k (omega (arith, f.0)) f.1
+completed-nesting b (Have a k) g f = fill_unary-nesting b (only_atom a) k f.0 f.1
+completed-nesting b (HalfAnd a k) g f = fill_expr-nesting b (and a (only_sum (only_term (only_unary (only_atom (number 0)))))) k (omega (arith, f.0)) f.1
+completed-nesting b (HalfOr e k) g f = fill_around-nesting b (or e (only_rel (only_sum (only_term (only_unary (only_atom (number 0))))))) k (omega (arith, f.0)) f.1
 completed-nesting b (Done e) g f = elim g [ ]
 completed-nesting b Stop g f = elim g [ ]
 
 -- behind an operand only ^ goes deeper
 after_expr-fits : (b : ℕ) (f : AfterExpr) (e : Expr) (k : Around) → around_depth k + expr_nesting e ≤ b → FitsAround b k → Fits b (after_expr f e k)
-after_expr-fits b closing e outermost h g = tt
+after_expr-fits b closing e no_parens h g = tt
 after_expr-fits b closing e (in_parens k) h g = (omega (arith, h), g)
-after_expr-fits b other e outermost h g = tt
+after_expr-fits b other e no_parens h g = tt
 after_expr-fits b other e (in_parens k) h g = tt
 
 after_and-fits : (b : ℕ) (f : AfterAnd) (a : And) (k : InExpr) → expr_depth k + and_nesting a ≤ b → FitsExpr b k → Fits b (after_and f a k)
@@ -131,7 +131,7 @@ after_operand-fits b f u (in_term k) h g = after_unary-fits b f u k h g
 
 after_atom-fits : (b : ℕ) (f : AfterAtom) (a : Atom) (k : InUnary) → unary_depth k + atom_nesting a ≤ b → FitsUnary b k → depth (after_atom f a k) ≤ b → Fits b (after_atom f a k)
 after_atom-fits b powering a k h g d = (d, (h, g))
-after_atom-fits b (ends_unary f) a k h g d = after_operand-fits b f (plain a) k h g
+after_atom-fits b (ends_unary f) a k h g d = after_operand-fits b f (only_atom a) k h g
 
 pub step-fits : (b : ℕ) (s : State) (t : Kind) → Fits b s → depth (step s t) ≤ b → Fits b (step s t)
 step-fits b (Due k) (Number n) f d = (omega (arith, f.0), f.1)
@@ -153,5 +153,5 @@ run-fits b [] s f w = f
 run-fits b (t ∷ ts) s f w = run-fits b ts (step s t) (step-fits b s t f w.0) w.1
 
 -- Where the depth stayed within b, the completed expression has at most this nesting.
-pub begins_within : (b : ℕ) (ts : List Kind) → StaysWithin b (start_expr outermost) ts → IsGoing (run (start_expr outermost) ts) → expr_nesting (completed (run (start_expr outermost) ts)) ≤ b
-begins_within b ts w g = completed-nesting b (run (start_expr outermost) ts) g (run-fits b ts (start_expr outermost) (omega arith, tt) w)
+pub begins_within : (b : ℕ) (ts : List Kind) → StaysWithin b (start_expr no_parens) ts → IsGoing (run (start_expr no_parens) ts) → expr_nesting (completed (run (start_expr no_parens) ts)) ≤ b
+begins_within b ts w g = completed-nesting b (run (start_expr no_parens) ts) g (run-fits b ts (start_expr no_parens) (omega arith, tt) w)

@@ -2,7 +2,7 @@
 use Rattle.std.proofs.Common.{◌≡◌, ℕ, zero, suc, false, Option, Some, None, List, [], ◌∷◌, ◌++◌, codes, refl, ap, ◌∙◌, sym, subst, append_assoc, append-nil, arith}
 use Rattle.lsys_syntax.specs.Tokens.{Kind, Number, Colon, RightParen, RightBracket}
 use Rattle.lsys_syntax.specs.Pieces.{IsWordText}
-use Rattle.lsys_syntax.specs.Strings.{ModuleName, Symbol, Module, Pop, Signed, plain, minus_sign}
+use Rattle.lsys_syntax.specs.Strings.{ModuleName, Symbol, Module, Pop, Signed, unsigned, minus_sign}
 use Rattle.lsys_syntax.specs.RuleMachine as R
 use Rattle.lsys_syntax.specs.RuleMachine.{production, homomorphism, reversed, open_in}
 use Rattle.lsys_syntax.specs.Commands.{square, Command, set_axiom, put_production, drop_rule, set_ignored, set_schedule, set_seed, set_depth, set_lattice, put_homomorphism, print_string, print_system}
@@ -37,7 +37,7 @@ module _ (b : ℕ) where
 
   begins-axiom : (a : AxiomState) (ts : List Kind) → AxiomHolds a ts → Begins b ts
   begins-axiom (Symbols r) ts h = begins-symbols (open_in r) r ts refl h
-  begins-axiom (NumberDue r n zs) ts h = begins-before ts (Number 0 ∷ []) (begins-read r n (plain 0 ∷ zs) (ts ++ Number 0 ∷ []) (number_due-holds b r n zs ts (Number 0) h))
+  begins-axiom (NumberDue r n zs) ts h = begins-before ts (Number 0 ∷ []) (begins-read r n (unsigned 0 ∷ zs) (ts ++ Number 0 ∷ []) (number_due-holds b r n zs ts (Number 0) h))
   begins-axiom (MinusRead r n zs) ts h = begins-before ts (Number 0 ∷ []) (begins-read r n (minus_sign 0 ∷ zs) (ts ++ Number 0 ∷ []) (minus-holds b r n zs ts (Number 0) h))
   begins-axiom (NumberRead r n zs) ts h = begins-read r n zs ts h
 

@@ -3,7 +3,7 @@ use Rattle.std.proofs.Common.{◌≡◌, ℕ, zero, suc, Bool, true, false, Opti
 use Rattle.std.proofs.lemmas.Bool.Decides.{nat_tests}
 use Rattle.lsys_syntax.specs.Tokens.{Kind, Number, RightParen, RightBracket}
 use Rattle.lsys_syntax.specs.Pieces.{Piece, blank, token, note, kinds_of}
-use Rattle.lsys_syntax.specs.Strings.{ModuleName, named, plus, minus, ampersand, caret, backslash, slash, bar, bang, Symbol, Module, Push, Pop, Cut, Signed, plain, minus_sign, name_kind, more_pieces, params_pieces, string_pieces, signed_pieces, gap, ends_in_name, begins_with_letter, EachOf, IsSymbol, IsSigned, balanced}
+use Rattle.lsys_syntax.specs.Strings.{ModuleName, named, plus, minus, ampersand, caret, backslash, slash, bar, bang, Symbol, Module, Push, Pop, Cut, Signed, unsigned, minus_sign, name_kind, more_pieces, params_pieces, string_pieces, signed_pieces, gap, ends_in_name, begins_with_letter, EachOf, IsSymbol, IsSigned, balanced}
 use Rattle.lsys_syntax.specs.Expressions.{Expr}
 use Rattle.lsys_syntax.specs.Rules.{Rule, rule_pieces, IsRule, rule_nesting}
 use Rattle.lsys_syntax.specs.RuleMachine as R
@@ -88,8 +88,8 @@ popped-open (suc n) s h = refl
 
 module _ (b : ℕ) where
   signed-leads : (z : Signed) (r : List (Symbol Signed)) (n : ModuleName) (zs : List Signed) → IsSigned z → Leads step (Calm b) (InAxiom (NumberDue r n zs)) (signed_pieces z) (InAxiom (NumberRead r n (z ∷ zs)))
-  signed-leads (plain k) r n zs g =
-      let t : State = InAxiom (NumberRead r n (plain k ∷ zs)) in
+  signed-leads (unsigned k) r n zs g =
+      let t : State = InAxiom (NumberRead r n (unsigned k ∷ zs)) in
       leads-token step (Calm b) (Number k) [] (InAxiom (NumberDue r n zs)) t t (ap (λ c. if_small c t) (lt-ltb k (2 ^ 63) g)) tt refl
   signed-leads (minus_sign k) r n zs g =
       let t : State = InAxiom (NumberRead r n (minus_sign k ∷ zs)) in

@@ -4,7 +4,7 @@ use Rattle.std.proofs.lemmas.Bool.Decides.{nat_tests}
 use Rattle.std.proofs.lemmas.Slice.Eq.{bytes_eq-Decides}
 use Rattle.lsys_syntax.specs.Tokens.{Kind, Word, Name, Number, LeftParen, RightParen, RightBracket, Comma, Colon, Minus}
 use Rattle.lsys_syntax.specs.Pieces.{kinds_of, IsWordText}
-use Rattle.lsys_syntax.specs.Strings.{ModuleName, Symbol, Module, Push, Pop, Cut, Signed, plain, minus_sign, name_kind, signed_pieces, EachOf, IsModuleName, IsSymbol, IsSigned}
+use Rattle.lsys_syntax.specs.Strings.{ModuleName, Symbol, Module, Push, Pop, Cut, Signed, unsigned, minus_sign, name_kind, signed_pieces, EachOf, IsModuleName, IsSymbol, IsSigned}
 use Rattle.lsys_syntax.specs.RuleMachine as R
 use Rattle.lsys_syntax.specs.RuleMachine.{production, homomorphism, reversed, open_in, Sign, a_name, a_push, a_pop, a_cut, no_sign, sign_of}
 use Rattle.lsys_syntax.specs.Commands.{drop_rule, set_seed, set_depth, print_string, IsTable}
@@ -159,7 +159,7 @@ two-behind a t ps n j k = simp append_assoc refl
 
 pub number_due-holds : (b : ℕ) (r : List (Symbol Signed)) (n : ModuleName) (zs : List Signed) (ts : List Kind) (k : Kind) → AxiomHolds (NumberDue r n zs) ts → Holds b (number_due_step k r n zs) (ts ++ k ∷ [])
 number_due-holds b r n zs ts (Number i) h =
-    if_small-holds b (nat_lt i (2 ^ 63)) (InAxiom (NumberRead r n (plain i ∷ zs))) (ts ++ Number i ∷ [])
+    if_small-holds b (nat_lt i (2 ^ 63)) (InAxiom (NumberRead r n (unsigned i ∷ zs))) (ts ++ Number i ∷ [])
     (λ e. (one-behind axiom_front (taken signed_pieces r) (params_before signed_pieces zs) (name_kind n) (Number i) ∙ behind _ ts (Number i) h.0, h.1, (below i (2 ^ 63) e, h.2)))
 number_due-holds b r n zs ts Minus h = (one-behind axiom_front (taken signed_pieces r) (params_before signed_pieces zs) (name_kind n) Minus ∙ behind _ ts Minus h.0, h.1, h.2)
 number_due-holds b r n zs ts k h = tt

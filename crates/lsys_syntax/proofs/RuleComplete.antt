@@ -162,8 +162,8 @@ module _ (m : Form) (b : ℕ) where
   expr-to : (e : Expr) (spot : Spot) (t : Kind) (ps : List Piece) (s u : State) → IsExpr e → expr_nesting e ≤ b → small t ≡ t → E.what_follows t ≡ E.expr_step E.other → done_step m t spot e ≡ s → Shallow b s → Lead m b s ps u
       → Lead m b (InExpr spot expr_start) (expr_pieces e ++ blank ∷ token t ∷ ps) u
   expr-to e spot t ps s u g n k o d f l =
-      let last : State = InExpr spot (leave_expr e E.outermost) in
-      let ends : step m last t ≡ s = ap (λ x. within m spot t (E.step (leave_expr e E.outermost) x)) k ∙ ap (within m spot t) (other-ends t o e) ∙ d in
+      let last : State = InExpr spot (leave_expr e E.no_parens) in
+      let ends : step m last t ≡ s = ap (λ x. within m spot t (E.step (leave_expr e E.no_parens) x)) k ∙ ap (within m spot t) (other-ends t o e) ∙ d in
       leads-append (step m) (Shallow b) (expr_pieces e) (blank ∷ token t ∷ ps) (InExpr spot expr_start) last u (expr-leads m b spot e g n) (leads-token (step m) (Shallow b) t ps last s u ends f l)
 
   at-start : (spot : Spot) → Shallow b (InExpr spot expr_start)
@@ -207,18 +207,18 @@ tail-behind m b Stop h c w ps u e gc gw o nc nw l = cc
 -- successors
 module _ (m : Form) (b : ℕ) (d : Body) where
   params-more : (es acc : List Expr) (e : Expr) (r : List (Symbol Expr)) (n : ModuleName) → EachOf IsExpr es → params_nesting es ≤ b
-      → Lead m b (InExpr (as_param d r n acc) (leave_expr e E.outermost)) (more_pieces expr_pieces es ++ token RightParen ∷ []) (Successor d (Module n (reversed (reversed_onto es (e ∷ acc))) ∷ r))
+      → Lead m b (InExpr (as_param d r n acc) (leave_expr e E.no_parens)) (more_pieces expr_pieces es ++ token RightParen ∷ []) (Successor d (Module n (reversed (reversed_onto es (e ∷ acc))) ∷ r))
   params-more [] acc e r n g h =
       let last : State = Successor d (Module n (reversed (e ∷ acc)) ∷ r) in
-      leads-token (step m) (Shallow b) RightParen [] (InExpr (as_param d r n acc) (leave_expr e E.outermost)) last last (ap (within m (as_param d r n acc) RightParen) (paren-ends e)) tt refl
+      leads-token (step m) (Shallow b) RightParen [] (InExpr (as_param d r n acc) (leave_expr e E.no_parens)) last last (ap (within m (as_param d r n acc) RightParen) (paren-ends e)) tt refl
   params-more (f ∷ fs) acc e r n g h =
       let spot : Spot = as_param d r n (e ∷ acc) in
       let more : List Piece = more_pieces expr_pieces fs ++ token RightParen ∷ [] in
       let last : State = Successor d (Module n (reversed (reversed_onto fs (f ∷ e ∷ acc))) ∷ r) in
-      leads-token (step m) (Shallow b) Comma (note a_param ∷ ((expr_pieces f ++ more_pieces expr_pieces fs) ++ token RightParen ∷ [])) (InExpr (as_param d r n acc) (leave_expr e E.outermost)) (InExpr spot expr_start) last
+      leads-token (step m) (Shallow b) Comma (note a_param ∷ ((expr_pieces f ++ more_pieces expr_pieces fs) ++ token RightParen ∷ [])) (InExpr (as_param d r n acc) (leave_expr e E.no_parens)) (InExpr spot expr_start) last
       (ap (within m (as_param d r n acc) Comma) (other-ends Comma refl e)) (at-start m b spot)
       (subst (λ ps. Lead m b (InExpr spot expr_start) ps last) (sym (append_assoc (expr_pieces f) (more_pieces expr_pieces fs) (token RightParen ∷ [])))
-      (leads-append (step m) (Shallow b) (expr_pieces f) more (InExpr spot expr_start) (InExpr spot (leave_expr f E.outermost)) last (expr-leads m b spot f g.0 (omega (arith, h))) (params-more fs (e ∷ acc) f r n g.1 (omega (arith, h)))))
+      (leads-append (step m) (Shallow b) (expr_pieces f) more (InExpr spot expr_start) (InExpr spot (leave_expr f E.no_parens)) last (expr-leads m b spot f g.0 (omega (arith, h))) (params-more fs (e ∷ acc) f r n g.1 (omega (arith, h)))))
 
   params-put : (es : List Expr) (r : List (Symbol Expr)) (n : ModuleName) → EachOf IsExpr es → params_nesting es ≤ b → Lead m b (Successor d (Module n [] ∷ r)) (params_pieces expr_pieces es) (Successor d (Module n es ∷ r))
   params-put [] r n g h = refl
@@ -228,7 +228,7 @@ module _ (m : Form) (b : ℕ) (d : Body) where
       let read : State = Successor d (Module n (reversed (reversed_onto es (e ∷ []))) ∷ r) in (
         at-start m b spot,
         leads-to (step m) (Shallow b) (expr_pieces e ++ more) (InExpr spot expr_start) read (Successor d (Module n (e ∷ es) ∷ r)) (ap (λ fs. Successor d (Module n fs ∷ r)) (reversed-one e es))
-            (leads-append (step m) (Shallow b) (expr_pieces e) more (InExpr spot expr_start) (InExpr spot (leave_expr e E.outermost)) read (expr-leads m b spot e g.0 (omega (arith, h))) (params-more es [] e r n g.1 (omega (arith, h)))),
+            (leads-append (step m) (Shallow b) (expr_pieces e) more (InExpr spot expr_start) (InExpr spot (leave_expr e E.no_parens)) read (expr-leads m b spot e g.0 (omega (arith, h))) (params-more es [] e r n g.1 (omega (arith, h)))),
       )
 
   successor-name : (n : ModuleName) (r : List (Symbol Expr)) → step m (Successor d r) (name_kind n) ≡ Successor d (Module n [] ∷ r)

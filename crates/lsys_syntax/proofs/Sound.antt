@@ -1,8 +1,8 @@
 -- What a state has taken, with its completion, is an expression; and each step takes its token.
 use Rattle.std.proofs.Common.{◌≡◌, List, [], ◌∷◌, ◌++◌, refl, ap, ◌∙◌, sym, subst, append_assoc, append-nil}
 use Rattle.lsys_syntax.specs.Tokens.{Kind, Name, Number, Equal, Unequal, AtMost, AtLeast, LeftParen, RightParen, Plus, Minus, Times, Slash, Percent, Ampersand, Bar, Caret, Bang, Less, Greater}
-use Rattle.lsys_syntax.specs.Expressions.{Expr, only_and, or, And, only_rel, and, Rel, only_sum, compare, Sum, only_term, total, Term, only_unary, product, Unary, negated, inverted, plain, raised, Atom, number, parens, term_kind, sum_kind, rel_kind, expr_kinds, and_kinds, rel_kinds, sum_kinds, term_kinds, unary_kinds, atom_kinds}
-use Rattle.lsys_syntax.specs.ExpressionMachine.{InUnary, negating, inverting, raising, in_term, InTerm, first_unary, next_unary, InSum, first_term, next_term, InRel, first_sum, second_sum, InAnd, first_rel, next_rel, InExpr, first_and, next_and, Around, outermost, in_parens, State, Due, Have, HalfAnd, HalfOr, Done, Stop, AfterExpr, closing, other, AfterAnd, half_or, ends_expr, AfterRel, half_and, ends_and, AfterSum, comparing, ends_rel, AfterTerm, more_sum, ends_sum, AfterUnary, more_term, ends_term, AfterAtom, powering, ends_unary, what_follows, after_expr, after_and, after_rel, after_sum, after_term, after_unary, after_operand, after_atom, start_expr, step, run, ended}
+use Rattle.lsys_syntax.specs.Expressions.{Expr, only_and, or, And, only_rel, and, Rel, only_sum, compare, Sum, only_term, total, Term, only_unary, product, Unary, negated, inverted, only_atom, raised, Atom, number, parens, term_kind, sum_kind, rel_kind, expr_kinds, and_kinds, rel_kinds, sum_kinds, term_kinds, unary_kinds, atom_kinds}
+use Rattle.lsys_syntax.specs.ExpressionMachine.{InUnary, negating, inverting, raising, in_term, InTerm, first_unary, next_unary, InSum, first_term, next_term, InRel, first_sum, second_sum, InAnd, first_rel, next_rel, InExpr, first_and, next_and, Around, no_parens, in_parens, State, Due, Have, HalfAnd, HalfOr, Done, Stop, AfterExpr, closing, other, AfterAnd, half_or, ends_expr, AfterRel, half_and, ends_and, AfterSum, comparing, ends_rel, AfterTerm, more_sum, ends_sum, AfterUnary, more_term, ends_term, AfterAtom, powering, ends_unary, what_follows, after_expr, after_and, after_rel, after_sum, after_term, after_unary, after_operand, after_atom, start_expr, step, run, ended}
 use Rattle.lsys_syntax.proofs.Complete.{leave_unary, leave_term, leave_sum, leave_rel, leave_and, leave_expr, read-expr}
 use Rattle.lsys_syntax.specs.Completions.{before_unary, before_term, before_sum, before_rel, before_and, before_expr, before, spelled, closing_unary, closing_term, closing_sum, closing_rel, closing_and, closing_expr, closing_around, completion, fill_unary, fill_term, fill_sum, fill_rel, fill_and, fill_expr, fill_around, completed}
 
@@ -48,9 +48,9 @@ mutual
   fill_expr-kinds a (next_and e k) = fill_around-kinds (or e a) k ∙ joined_two (before k) (expr_kinds e) (and_kinds a) (closing_around k) Bar Bar
 
   fill_around-kinds : (e : Expr) (k : Around) → expr_kinds (fill_around e k) ≡ before k ++ (expr_kinds e ++ closing_around k)
-  fill_around-kinds e outermost = sym (append-nil (expr_kinds e))
+  fill_around-kinds e no_parens = sym (append-nil (expr_kinds e))
   fill_around-kinds e (in_parens k) =
-      fill_unary-kinds (plain (parens e)) k
+      fill_unary-kinds (only_atom (parens e)) k
       ∙ ap (λ x. before_unary k ++ LeftParen ∷ x) (append_assoc (expr_kinds e) (RightParen ∷ []) (closing_unary k))
       ∙ sym (append_assoc (before_unary k) (LeftParen ∷ []) (expr_kinds e ++ RightParen ∷ closing_unary k))
 
@@ -61,14 +61,14 @@ IsGoing Stop = ⊥
 IsGoing s = Unit {0}
 
 pub completes : (s : State) → IsGoing s → expr_kinds (completed s) ≡ spelled s ++ completion s
-completes (Due k) g = fill_unary-kinds (plain (number 0)) k
-completes (Have a k) g = fill_unary-kinds (plain a) k ∙ sym (append_assoc (before_unary k) (atom_kinds a) (closing_unary k))
+completes (Due k) g = fill_unary-kinds (only_atom (number 0)) k
+completes (Have a k) g = fill_unary-kinds (only_atom a) k ∙ sym (append_assoc (before_unary k) (atom_kinds a) (closing_unary k))
 completes (HalfAnd a k) g =
-    fill_expr-kinds (and a (only_sum (only_term (only_unary (plain (number 0)))))) k
+    fill_expr-kinds (and a (only_sum (only_term (only_unary (only_atom (number 0)))))) k
     ∙ ap (λ x. before_expr k ++ x) (append_assoc (and_kinds a) (Ampersand ∷ Ampersand ∷ Number 0 ∷ []) (closing_expr k))
     ∙ sym (three (before_expr k) (and_kinds a) (Ampersand ∷ Number 0 ∷ closing_expr k) Ampersand)
 completes (HalfOr e k) g =
-    fill_around-kinds (or e (only_rel (only_sum (only_term (only_unary (plain (number 0))))))) k
+    fill_around-kinds (or e (only_rel (only_sum (only_term (only_unary (only_atom (number 0))))))) k
     ∙ ap (λ x. before k ++ x) (append_assoc (expr_kinds e) (Bar ∷ Bar ∷ Number 0 ∷ []) (closing_around k))
     ∙ sym (three (before k) (expr_kinds e) (Bar ∷ Number 0 ∷ closing_around k) Bar)
 completes (Done e) g = elim g [ ]
@@ -109,9 +109,9 @@ told powering = Caret ∷ []
 told (ends_unary f) = told_unary f
 
 after_expr-keeps : (f : AfterExpr) (e : Expr) (k : Around) → Keeps (after_expr f e k) (before k ++ (expr_kinds e ++ told_expr f))
-after_expr-keeps closing e outermost = tt
+after_expr-keeps closing e no_parens = tt
 after_expr-keeps closing e (in_parens k) = sym (append_assoc (before_unary k) (LeftParen ∷ []) (expr_kinds e ++ RightParen ∷ []))
-after_expr-keeps other e outermost = tt
+after_expr-keeps other e no_parens = tt
 after_expr-keeps other e (in_parens k) = tt
 
 after_and-keeps : (f : AfterAnd) (a : And) (k : InExpr) → Keeps (after_and f a k) (before_expr k ++ (and_kinds a ++ told_and f))
@@ -152,7 +152,7 @@ after_operand-keeps f u (in_term k) = after_unary-keeps f u k
 
 after_atom-keeps : (f : AfterAtom) (a : Atom) (k : InUnary) → Keeps (after_atom f a k) ((before_unary k ++ atom_kinds a) ++ told f)
 after_atom-keeps powering a k = sym (append_assoc (before_unary k) (atom_kinds a) (Caret ∷ []))
-after_atom-keeps (ends_unary f) a k = subst (Keeps (after_operand f (plain a) k)) (sym (append_assoc (before_unary k) (atom_kinds a) (told_unary f))) (after_operand-keeps f (plain a) k)
+after_atom-keeps (ends_unary f) a k = subst (Keeps (after_operand f (only_atom a) k)) (sym (append_assoc (before_unary k) (atom_kinds a) (told_unary f))) (after_operand-keeps f (only_atom a) k)
 
 -- no other token goes on behind an operand
 abbrev pub IsOver : State → Type 0
@@ -169,7 +169,7 @@ over-keeps (Done e) ts h = tt
 over-keeps Stop ts h = tt
 
 ended-over : (e : Expr) (k : Around) → IsOver (ended e k)
-ended-over e outermost = tt
+ended-over e no_parens = tt
 ended-over e (in_parens k) = tt
 
 pub other-over : (u : Unary) (k : InUnary) → IsOver (after_operand (ends_term (ends_sum (ends_rel (ends_and (ends_expr other))))) u k)
@@ -200,7 +200,7 @@ step-keeps (Have a k) AtLeast = after_atom-keeps (what_follows AtLeast) a k
 step-keeps (Have a k) Ampersand = after_atom-keeps (what_follows Ampersand) a k
 step-keeps (Have a k) Bar = after_atom-keeps (what_follows Bar) a k
 step-keeps (Have a k) RightParen = after_atom-keeps (what_follows RightParen) a k
-step-keeps (Have a k) t = over-keeps _ _ (other-over (plain a) k)
+step-keeps (Have a k) t = over-keeps _ _ (other-over (only_atom a) k)
 step-keeps (HalfAnd a k) Ampersand = sym (three (before_expr k) (and_kinds a) (Ampersand ∷ []) Ampersand)
 step-keeps (HalfAnd a k) t = tt
 step-keeps (HalfOr e k) Bar = sym (three (before k) (expr_kinds e) (Bar ∷ []) Bar)
@@ -245,16 +245,16 @@ going_spelled (Done e) ts g h = elim g [ ]
 going_spelled Stop ts g h = elim g [ ]
 
 -- Where the reading goes on, some expression begins with the tokens: these and the stated completion.
-pub begins : (ts : List Kind) → IsGoing (run (start_expr outermost) ts) → (e : Expr) × (expr_kinds e ≡ ts ++ completion (run (start_expr outermost) ts))
+pub begins : (ts : List Kind) → IsGoing (run (start_expr no_parens) ts) → (e : Expr) × (expr_kinds e ≡ ts ++ completion (run (start_expr no_parens) ts))
 begins ts g =
-    let s : State = run (start_expr outermost) ts in
-    let taken : spelled s ≡ ts = going_spelled s ts g (run-keeps ts (start_expr outermost) [] tt refl) in
+    let s : State = run (start_expr no_parens) ts in
+    let taken : spelled s ≡ ts = going_spelled s ts g (run-keeps ts (start_expr no_parens) [] tt refl) in
     (completed s, completes s g ∙ ap (λ x. x ++ completion s) taken)
 
 going_unary : (u : Unary) (k : InUnary) → IsOver (leave_unary u k) → ⊥
 going_unary (negated u) k h = going_unary u (negating k) h
 going_unary (inverted u) k h = going_unary u (inverting k) h
-going_unary (plain a) k h = h
+going_unary (only_atom a) k h = h
 going_unary (raised a u) k h = going_unary u (raising a k) h
 
 going_term : (t : Term) (k : InSum) → IsOver (leave_term t k) → ⊥
@@ -282,8 +282,8 @@ run-append [] us s = refl
 run-append (t ∷ ts) us s = run-append ts us (step s t)
 
 -- Where it is over, no expression begins with them.
-pub begins_not : (ts rest : List Kind) (e : Expr) → IsOver (run (start_expr outermost) ts) → expr_kinds e ≡ ts ++ rest → ⊥
+pub begins_not : (ts rest : List Kind) (e : Expr) → IsOver (run (start_expr no_parens) ts) → expr_kinds e ≡ ts ++ rest → ⊥
 begins_not ts rest e h d =
-    let whole : run (start_expr outermost) (ts ++ rest) ≡ leave_expr e outermost =
-    ap (run (start_expr outermost)) (sym d ∙ sym (append-nil (expr_kinds e))) ∙ read-expr e outermost [] in
-    going_expr e outermost (subst IsOver (sym (run-append ts rest (start_expr outermost)) ∙ whole) (over_run rest (run (start_expr outermost) ts) h))
+    let whole : run (start_expr no_parens) (ts ++ rest) ≡ leave_expr e no_parens =
+    ap (run (start_expr no_parens)) (sym d ∙ sym (append-nil (expr_kinds e))) ∙ read-expr e no_parens [] in
+    going_expr e no_parens (subst IsOver (sym (run-append ts rest (start_expr no_parens)) ∙ whole) (over_run rest (run (start_expr no_parens) ts) h))

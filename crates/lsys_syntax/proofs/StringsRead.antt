@@ -2,7 +2,7 @@
 use Rattle.std.proofs.Common.{◌≡◌, ℕ, zero, Bool, true, false, List, [], ◌∷◌, ◌++◌, refl, arith, append_assoc, append-nil, ℤ, pos, negsuc, Ok}
 use Rattle.lsys_syntax.specs.Tokens.{Kind, Modules, short, long, LeftParen, RightParen, Comma, tokens_from}
 use Rattle.lsys_syntax.specs.Pieces.{Piece, token, placed, Tail, anything, not_underscore, not_plain, not_digit, not_equals, letter, mark, ending, beginning, may_follow, Stands, Reads}
-use Rattle.lsys_syntax.specs.Strings.{ModuleName, named, plus, minus, ampersand, caret, backslash, slash, bar, bang, Symbol, Module, Push, Pop, Cut, name_kind, more_pieces, params_pieces, symbol_pieces, ends_in_name, begins_with_letter, starts_with_letter, is_letters, gap, string_pieces, EachOf, IsModuleName, IsSymbol, Signed, plain, minus_sign, signed_of, signed_pieces, value_pieces, IsSigned, IsParam, string_text, AreSymbols}
+use Rattle.lsys_syntax.specs.Strings.{ModuleName, named, plus, minus, ampersand, caret, backslash, slash, bar, bang, Symbol, Module, Push, Pop, Cut, name_kind, more_pieces, params_pieces, symbol_pieces, ends_in_name, begins_with_letter, starts_with_letter, is_letters, gap, string_pieces, EachOf, IsModuleName, IsSymbol, Signed, unsigned, minus_sign, signed_of, signed_pieces, value_pieces, IsSigned, IsParam, string_text, AreSymbols}
 use Rattle.lsys_syntax.proofs.ReadBack.{reads-from}
 
 -- whatever stands before
@@ -87,7 +87,7 @@ module _ {P : Type 0} (print : P → List Piece) (G : P → Type 0) (reads : Par
       (gap-reads s (ends_in_name s) refl (begins_with_letter xs) (string_pieces print xs ++ ps) (λ t' f'. string-reads xs g.1 t' f' ps h)))
 
 pub signed-reads : (z : Signed) → IsSigned z → (ps : List Piece) → ReadsAnywhere ps → Reads Modules anything (signed_pieces z ++ ps)
-signed-reads (plain n) g ps h = (refl, omega arith, h not_digit)
+signed-reads (unsigned n) g ps h = (refl, omega arith, h not_digit)
 signed-reads (minus_sign n) g ps h = (refl, tt, (refl, omega arith, h not_digit))
 
 pub value_is_signed : (z : ℤ) → IsParam z → IsSigned (signed_of z)

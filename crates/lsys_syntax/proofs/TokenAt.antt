@@ -3,7 +3,7 @@ use Rattle.std.proofs.Common.{◌≡◌, ℕ, Bool, true, false, ◌==◌, ◌�
 use Rattle.std.proofs.lemmas.Bool.Decides.{nat_tests}
 use Rattle.std.proofs.lemmas.Fmt.{decimal_is_IsNumeral}
 use Rattle.std.specs.Str.Parse.{IsNumeral, digits_value}
-use Rattle.lsys_syntax.specs.Tokens.{NameText, short, long, Kind, Word, LongWord, Name, Number, BigNumber, Arrow, Equal, Unequal, AtMost, AtLeast, LeftParen, RightParen, LeftBracket, RightBracket, Comma, Colon, At, Plus, Minus, Times, Slash, Backslash, Percent, Ampersand, Bar, Caret, Bang, Less, Greater, Assign, Mode, First, Words, UntilColon, Modules, is_blank, is_digit, is_letter, is_plain, is_word_byte, front, token_at, begins, letter_at, name_tail, name_with, word_kind}
+use Rattle.lsys_syntax.specs.Tokens.{NameText, short, long, Kind, Word, LongWord, Name, Number, BigNumber, Arrow, Equal, Unequal, AtMost, AtLeast, LeftParen, RightParen, LeftBracket, RightBracket, Comma, Colon, At, Plus, Minus, Times, Slash, Backslash, Percent, Ampersand, Bar, Caret, Bang, Less, Greater, Assign, Mode, First, Words, UntilColon, Modules, is_blank, is_digit, is_letter, is_alphanumeric, is_word_byte, front, token_at, begins, letter_at, name_tail, name_with, word_kind}
 use Rattle.lsys_syntax.specs.Pieces.{token_text, Tail, anything, not_underscore, not_plain, not_digit, not_equals, Head, letter, digit, equals, mark, ending, beginning, may_follow, Stands, Every, IsNameText, IsWordText, HasWords}
 use Rattle.lsys_syntax.proofs.Bytes.{differs, letter_no_digit, AllDigits-Every, Stops, front-append}
 
@@ -71,7 +71,7 @@ word_read Words c cs w h rest s = at_letter Words c (cs ++ rest) h.0 ∙ word_at
 word_read UntilColon c cs w h rest s = at_letter UntilColon c (cs ++ rest) h.0 ∙ word_at c cs rest h.1 h.2 s
 word_read Modules c cs w h rest s = elim w [ ]
 
-plain_stops : (rest : List ℕ) → Stops is_word_byte rest → Stops is_plain rest
+plain_stops : (rest : List ℕ) → Stops is_word_byte rest → Stops is_alphanumeric rest
 plain_stops [] h = tt
 plain_stops (c ∷ cs) h = grind (arith, nat_tests)
 
@@ -79,9 +79,9 @@ no_underscore : (rest : List ℕ) → Stops (λ c. c == 95) rest → name_tail r
 no_underscore [] h = refl
 no_underscore (c ∷ cs) h = rw h
 
-long_at : (c : ℕ) (more rest : List ℕ) → Every is_plain more → 0 < length more → length more ≤ 6 → Stops is_plain rest
+long_at : (c : ℕ) (more rest : List ℕ) → Every is_alphanumeric more → 0 < length more → length more ≤ 6 → Stops is_alphanumeric rest
     → name_with c (name_tail (95 ∷ (more ++ rest))) ≡ name_with c more
-long_at c more rest e p l s = rw (front-append is_plain more rest e s, take_all 6 more l)
+long_at c more rest e p l s = rw (front-append is_alphanumeric more rest e s, take_all 6 more l)
 
 name_printed : (n : NameText) → IsNameText n → Printed Modules (Name n)
 name_printed (short c) h = record {

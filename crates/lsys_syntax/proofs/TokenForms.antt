@@ -2,7 +2,7 @@
 use Rattle.std.proofs.Common.{◌≡◌, ℕ, zero, suc, Bool, true, false, ◌≤◌, ◌<◌, ◌^◌, ◌+◌, Option, Some, None, Result, Ok, Err, List, [], ◌∷◌, map, length, take, nat_lt, nat_le, ◌==◌, refl, subst, arith, if◌then◌else◌}
 use Rattle.std.proofs.lemmas.Bool.Decides.{nat_tests}
 use Rattle.std.specs.Str.Parse.{digits_value}
-use Rattle.lsys_syntax.specs.Tokens.{Kind, Word, LongWord, Number, BigNumber, LeftParen, RightParen, LeftBracket, RightBracket, Comma, Colon, At, Plus, Minus, Times, Slash, Backslash, Percent, Ampersand, Bar, Caret, Token, Mode, First, Words, UntilColon, Modules, is_blank, is_digit, is_letter, is_plain, is_word_byte, front, number_kind, word_kind, name_tail, name_with, letter_at, begins, one_mark, alone, mark_at, token_at, next_mode, before_rest, tokens_from, tokens}
+use Rattle.lsys_syntax.specs.Tokens.{Kind, Word, LongWord, Number, BigNumber, LeftParen, RightParen, LeftBracket, RightBracket, Comma, Colon, At, Plus, Minus, Times, Slash, Backslash, Percent, Ampersand, Bar, Caret, Token, Mode, First, Words, UntilColon, Modules, is_blank, is_digit, is_letter, is_alphanumeric, is_word_byte, front, number_kind, word_kind, name_tail, name_with, letter_at, begins, one_mark, alone, mark_at, token_at, next_mode, before_rest, tokens_from, tokens}
 use Rattle.lsys_syntax.specs.Pieces.{Every}
 use Rattle.lsys_syntax.specs.Sentences.{IsToken, AreTokens}
 
@@ -41,12 +41,12 @@ word-form c cs l h = either IsToken (nat_le (length (c ∷ cs)) 16) (Word (c ∷
 
 -- what stands behind a name's letter
 abbrev IsNameTail : List ℕ → Type 0
-IsNameTail more = Every is_plain more × (length more ≤ 6)
+IsNameTail more = Every is_alphanumeric more × (length more ≤ 6)
 
 tail-form : (bytes : List ℕ) → IsNameTail (name_tail bytes)
 tail-form [] = (tt, omega arith)
 tail-form (c ∷ bytes) =
-    either IsNameTail (c == 95) (take 6 (front is_plain bytes)) [] (λ e. (take-every is_plain 6 (front is_plain bytes) (front-every is_plain bytes), take-short 6 (front is_plain bytes))) (λ e. (tt, omega arith))
+    either IsNameTail (c == 95) (take 6 (front is_alphanumeric bytes)) [] (λ e. (take-every is_alphanumeric 6 (front is_alphanumeric bytes) (front-every is_alphanumeric bytes), take-short 6 (front is_alphanumeric bytes))) (λ e. (tt, omega arith))
 
 name-form : (c : ℕ) (more : List ℕ) → is_letter c ≡ true → IsNameTail more → IsToken (name_with c more).0
 name-form c [] l h = l

@@ -2,7 +2,8 @@
 --   command = axiom string | production Word [[ Word ]] ":" rule | drop Word | ignore { name } | schedule Word { Word }
 --           | seed Number | depth Number | lattice square | lattice hexagonal | lattice cubic | hom Word ":" rule
 --           | string [[ Number ]] | segments | svg | show | quit
-use Rattle.std.specs.Prelude.{◌≡◌, ℕ, true, Option, Some, None, List, [], ◌∷◌, ◌++◌, ◌<◌, ◌^◌, codes, map}
+use Rattle.std.specs.Prelude.{◌≡◌, ℕ, true, Option, Some, None, List, [], ◌∷◌, ◌++◌, ◌<◌, codes, map}
+use Rattle.lsys_syntax.specs.Limits.{number_bound}
 use Rattle.lsys_syntax.specs.Tokens.{Word, Number, Colon}
 use Rattle.lsys_syntax.specs.Pieces.{Piece, blank, token, IsWordText}
 use Rattle.lsys_syntax.specs.Strings.{ModuleName, Symbol, Module, Cut, Signed, string_pieces, signed_pieces, balanced, EachOf, IsModuleName, IsSymbol, IsSigned}
@@ -89,7 +90,7 @@ IsTable (Some t) = IsWordText t
 
 abbrev pub IsLevelNumber : Option ℕ → Type 0
 IsLevelNumber None = Unit {0}
-IsLevelNumber (Some n) = n < 2 ^ 64
+IsLevelNumber (Some n) = n < number_bound
 
 -- the tree of a sentence, nesting apart
 abbrev pub IsCommand : Command → Type 0
@@ -99,8 +100,8 @@ IsCommand (drop_rule l) = IsWordText l
 IsCommand (set_ignored ns) = EachOf IsModuleName ns
 IsCommand (set_schedule []) = ⊥
 IsCommand (set_schedule (w ∷ ws)) = EachOf IsWordText (w ∷ ws)
-IsCommand (set_seed n) = n < 2 ^ 64
-IsCommand (set_depth n) = n < 2 ^ 64
+IsCommand (set_seed n) = n < number_bound
+IsCommand (set_depth n) = n < number_bound
 IsCommand (put_homomorphism l r) = IsWordText l × IsRule r × IsHomomorphism r
 IsCommand (print_string n) = IsLevelNumber n
 IsCommand c = Unit {0}

@@ -1,8 +1,8 @@
 -- The tokens that a state has taken, and a stated completion of them.
 use Rattle.std.specs.Prelude.{List, [], ◌∷◌, ◌++◌}
 use Rattle.lsys_syntax.specs.Tokens.{Kind, Number, LeftParen, RightParen, Minus, Ampersand, Bar, Caret, Bang}
-use Rattle.lsys_syntax.specs.Expressions.{Expr, only_and, or, And, only_rel, and, Rel, only_sum, compare, Sum, only_term, total, Term, only_unary, product, Unary, negated, inverted, plain, raised, number, parens, term_kind, sum_kind, rel_kind, expr_kinds, and_kinds, sum_kinds, term_kinds, atom_kinds}
-use Rattle.lsys_syntax.specs.ExpressionMachine.{InUnary, negating, inverting, raising, in_term, InTerm, first_unary, next_unary, InSum, first_term, next_term, InRel, first_sum, second_sum, InAnd, first_rel, next_rel, InExpr, first_and, next_and, Around, outermost, in_parens, State, Due, Have, HalfAnd, HalfOr, Done, Stop}
+use Rattle.lsys_syntax.specs.Expressions.{Expr, only_and, or, And, only_rel, and, Rel, only_sum, compare, Sum, only_term, total, Term, only_unary, product, Unary, negated, inverted, only_atom, raised, number, parens, term_kind, sum_kind, rel_kind, expr_kinds, and_kinds, sum_kinds, term_kinds, atom_kinds}
+use Rattle.lsys_syntax.specs.ExpressionMachine.{InUnary, negating, inverting, raising, in_term, InTerm, first_unary, next_unary, InSum, first_term, next_term, InRel, first_sum, second_sum, InAnd, first_rel, next_rel, InExpr, first_and, next_and, Around, no_parens, in_parens, State, Due, Have, HalfAnd, HalfOr, Done, Stop}
 
 -- the tokens before an operand
 abbrev mutual
@@ -33,7 +33,7 @@ abbrev mutual
   before_expr (next_and e k) = before k ++ (expr_kinds e ++ Bar ∷ Bar ∷ [])
 
   pub before : Around → List Kind
-  before outermost = []
+  before no_parens = []
   before (in_parens k) = before_unary k ++ LeftParen ∷ []
 
 abbrev pub spelled : State → List Kind
@@ -73,7 +73,7 @@ abbrev mutual
   closing_expr (next_and e k) = closing_around k
 
   pub closing_around : Around → List Kind
-  closing_around outermost = []
+  closing_around no_parens = []
   closing_around (in_parens k) = RightParen ∷ closing_unary k
 
 -- An operand that is due is 0, and half of && or || gets its other half.
@@ -114,13 +114,13 @@ abbrev mutual
   fill_expr a (next_and e k) = fill_around (or e a) k
 
   pub fill_around : Expr → Around → Expr
-  fill_around e outermost = e
-  fill_around e (in_parens k) = fill_unary (plain (parens e)) k
+  fill_around e no_parens = e
+  fill_around e (in_parens k) = fill_unary (only_atom (parens e)) k
 
 abbrev pub completed : State → Expr
-completed (Due k) = fill_unary (plain (number 0)) k
-completed (Have a k) = fill_unary (plain a) k
-completed (HalfAnd a k) = fill_expr (and a (only_sum (only_term (only_unary (plain (number 0)))))) k
-completed (HalfOr e k) = fill_around (or e (only_rel (only_sum (only_term (only_unary (plain (number 0))))))) k
+completed (Due k) = fill_unary (only_atom (number 0)) k
+completed (Have a k) = fill_unary (only_atom a) k
+completed (HalfAnd a k) = fill_expr (and a (only_sum (only_term (only_unary (only_atom (number 0)))))) k
+completed (HalfOr e k) = fill_around (or e (only_rel (only_sum (only_term (only_unary (only_atom (number 0))))))) k
 completed (Done e) = e
-completed Stop = only_and (only_rel (only_sum (only_term (only_unary (plain (number 0))))))
+completed Stop = only_and (only_rel (only_sum (only_term (only_unary (only_atom (number 0))))))

@@ -1,7 +1,7 @@
 -- Reading an expression: a state holds the trees that were read so far, and each token is one step.
 use Rattle.std.specs.Prelude.{◌≡◌, List, [], ◌∷◌, Option, Some, None, refl}
 use Rattle.lsys_syntax.specs.Tokens.{short, Kind, Name, Number, Equal, Unequal, AtMost, AtLeast, LeftParen, RightParen, Plus, Minus, Times, Slash, Percent, Ampersand, Bar, Caret, Bang, Less, Greater}
-use Rattle.lsys_syntax.specs.Expressions.{TermOp, multiply, divide, remainder, SumOp, add, subtract, RelOp, equal, unequal, less, at_most, greater, at_least, Expr, only_and, or, And, only_rel, and, Rel, only_sum, compare, Sum, only_term, total, Term, only_unary, product, Unary, negated, inverted, plain, raised, Atom, number, name, parens}
+use Rattle.lsys_syntax.specs.Expressions.{TermOp, multiply, divide, remainder, SumOp, add, subtract, RelOp, equal, unequal, less, at_most, greater, at_least, Expr, only_and, or, And, only_rel, and, Rel, only_sum, compare, Sum, only_term, total, Term, only_unary, product, Unary, negated, inverted, only_atom, raised, Atom, number, name, parens}
 
 -- What an operand is part of. Each names what stands before the operand in it.
 mutual
@@ -32,7 +32,7 @@ mutual
     next_and : Expr → Around → InExpr
 
   pub data Around : Type 0 where
-    outermost : Around
+    no_parens : Around
     in_parens : InUnary → Around
 
 pub data State : Type 0 where
@@ -148,11 +148,11 @@ around_expr (next_and e k) = k
 
 -- The steps behind an operand of each rule. Outside of all parentheses an expression is done before a token that can't go on with it.
 abbrev pub closed : Expr → Around → State
-closed e outermost = Done e
+closed e no_parens = Done e
 closed e (in_parens k) = Have (parens e) k
 
 abbrev pub ended : Expr → Around → State
-ended e outermost = Done e
+ended e no_parens = Done e
 ended e (in_parens k) = Stop
 
 abbrev pub after_expr : AfterExpr → Expr → Around → State
@@ -192,7 +192,7 @@ after_operand f u (in_term k) = after_unary f u k
 
 abbrev pub after_atom : AfterAtom → Atom → InUnary → State
 after_atom powering a k = Due (raising a k)
-after_atom (ends_unary f) a k = after_operand f (plain a) k
+after_atom (ends_unary f) a k = after_operand f (only_atom a) k
 
 abbrev pub start_expr : Around → State
 start_expr k = Due (in_term (first_unary (first_term (first_sum (first_rel (first_and k))))))
@@ -235,10 +235,10 @@ finished (Done e) = Some e
 finished s = None
 
 abbrev pub parse_expr : List Kind → Option Expr
-parse_expr ts = finished (end_step (run (start_expr outermost) ts))
+parse_expr ts = finished (end_step (run (start_expr no_parens) ts))
 
 -- -a^2*b<3 is compare, and a<b<c is nothing
-pub prefix_row : parse_expr (Minus ∷ Name (short 97) ∷ Caret ∷ Number 2 ∷ []) ≡ Some (only_and (only_rel (only_sum (only_term (only_unary (negated (raised (name (short 97)) (plain (number 2)))))))))
+pub prefix_row : parse_expr (Minus ∷ Name (short 97) ∷ Caret ∷ Number 2 ∷ []) ≡ Some (only_and (only_rel (only_sum (only_term (only_unary (negated (raised (name (short 97)) (only_atom (number 2)))))))))
 prefix_row = refl
 
 pub chain_row : parse_expr (Number 1 ∷ Less ∷ Number 2 ∷ Less ∷ Number 3 ∷ []) ≡ None

@@ -1,8 +1,9 @@
 -- How far some tokens are an expression: where one ends, or the first token with which none goes on.
 use Rattle.std.specs.Prelude.{◌≡◌, ℕ, Option, List, [], ◌∷◌, ◌++◌, ◌+◌, ◌≤◌, nat_lt, map, if◌then◌else◌}
+use Rattle.lsys_syntax.specs.Limits.{nesting_bound}
 use Rattle.lsys_syntax.specs.Tokens.{Kind, RightParen}
 use Rattle.lsys_syntax.specs.Expressions.{Expr, expr_kinds, IsExpr}
-use Rattle.lsys_syntax.specs.ExpressionMachine.{State, Done, Stop, other, expr_step, what_follows, outermost, start_expr, step, end_step, parse_expr}
+use Rattle.lsys_syntax.specs.ExpressionMachine.{State, Done, Stop, other, expr_step, what_follows, no_parens, start_expr, step, end_step, parse_expr}
 use Rattle.lsys_syntax.specs.Nesting.{expr_nesting, depth}
 use Rattle.lsys_syntax.specs.RuleMachine.{small}
 
@@ -51,13 +52,13 @@ at_end n s = stops n
 abbrev pub behind : ℕ → State → State → Extent → Extent
 behind n s (Done e) rest = ends n e
 behind n s Stop rest = at_end n (end_step s)
-behind n s t rest = if nat_lt 32 (depth t) then too_deep n else rest
+behind n s t rest = if nat_lt nesting_bound (depth t) then too_deep n else rest
 
 -- the tokens from number n on
 abbrev pub extent_from : ℕ → State → List Kind → Extent
 extent_from n s [] = at_end n (end_step s)
 extent_from n s (k ∷ ks) = behind n s (step s (small k)) (extent_from (n + 1) (step s (small k)) ks)
 
--- how far the tokens, counted from 0, are an expression that is nested at most 32 deep
+-- how far the tokens, counted from 0, are an expression that is nested within the bound
 abbrev pub extent : List Kind → Extent
-extent ks = extent_from 0 (start_expr outermost) ks
+extent ks = extent_from 0 (start_expr no_parens) ks

@@ -4,7 +4,8 @@
 --   term  = unary { * unary | / unary | % unary }
 --   unary = - unary | ! unary | power  power = atom [[ ^ unary ]]
 --   atom  = Number | Name | ( expr )
-use Rattle.std.specs.Prelude.{ℕ, List, [], ◌∷◌, ◌++◌, ◌<◌, ◌^◌, map}
+use Rattle.std.specs.Prelude.{ℕ, List, [], ◌∷◌, ◌++◌, ◌<◌, map}
+use Rattle.lsys_syntax.specs.Limits.{value_bound}
 use Rattle.lsys_syntax.specs.Tokens.{NameText, Kind, Name, Number, Equal, Unequal, AtMost, AtLeast, LeftParen, RightParen, Plus, Minus, Times, Slash, Percent, Ampersand, Bar, Caret, Bang, Less, Greater}
 use Rattle.lsys_syntax.specs.Pieces.{Piece, token, note, expr_begins, expr_ends, IsNameText}
 
@@ -49,7 +50,7 @@ mutual
   pub data Unary : Type 0 where
     negated : Unary → Unary
     inverted : Unary → Unary
-    plain : Atom → Unary
+    only_atom : Atom → Unary
     raised : Atom → Unary → Unary
 
   pub data Atom : Type 0 where
@@ -98,7 +99,7 @@ abbrev mutual
   pub unary_kinds : Unary → List Kind
   unary_kinds (negated u) = Minus ∷ unary_kinds u
   unary_kinds (inverted u) = Bang ∷ unary_kinds u
-  unary_kinds (plain a) = atom_kinds a
+  unary_kinds (only_atom a) = atom_kinds a
   unary_kinds (raised a u) = atom_kinds a ++ Caret ∷ unary_kinds u
 
   pub atom_kinds : Atom → List Kind
@@ -131,11 +132,11 @@ abbrev mutual
   pub IsUnary : Unary → Type 0
   IsUnary (negated u) = IsUnary u
   IsUnary (inverted u) = IsUnary u
-  IsUnary (plain a) = IsAtom a
+  IsUnary (only_atom a) = IsAtom a
   IsUnary (raised a u) = IsAtom a × IsUnary u
 
   pub IsAtom : Atom → Type 0
-  IsAtom (number n) = n < 2 ^ 63
+  IsAtom (number n) = n < value_bound
   IsAtom (name n) = IsNameText n
   IsAtom (parens e) = IsExpr e
 

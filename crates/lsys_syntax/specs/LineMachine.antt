@@ -1,7 +1,9 @@
 -- Reading the tokens of a line: a state holds what was read of the command, and each token is one step.
-use Rattle.std.specs.Prelude.{ℕ, zero, suc, Bool, true, false, Option, Some, None, List, [], ◌∷◌, ◌+◌, ◌^◌, nat_lt, nat_le, codes, bytes_eq, option_map, if◌then◌else◌}
+use Rattle.std.specs.Prelude.{ℕ, zero, suc, Bool, true, false, Option, Some, None, List, [], ◌∷◌, ◌+◌, nat_lt, nat_le, codes, bytes_eq, option_map, if◌then◌else◌}
+use Rattle.lsys_syntax.specs.Limits.{value_bound}
+pub use Rattle.lsys_syntax.specs.Limits.{nesting_bound}
 use Rattle.lsys_syntax.specs.Tokens.{Kind, Word, Number, LeftParen, RightParen, Comma, Colon, Minus}
-use Rattle.lsys_syntax.specs.Strings.{ModuleName, Symbol, Module, Push, Pop, Cut, Signed, plain, minus_sign}
+use Rattle.lsys_syntax.specs.Strings.{ModuleName, Symbol, Module, Push, Pop, Cut, Signed, unsigned, minus_sign}
 use Rattle.lsys_syntax.specs.RuleMachine as R
 use Rattle.lsys_syntax.specs.RuleMachine.{reversed, Sign, a_name, a_push, a_pop, a_cut, no_sign, sign_of, Form, production, homomorphism, open_in, where_closed}
 use Rattle.lsys_syntax.specs.Commands.{square, hexagonal, cubic, Command, set_axiom, put_production, drop_rule, set_ignored, set_schedule, set_seed, set_depth, set_lattice, put_homomorphism, print_string, print_segments, print_svg, print_system, quit}
@@ -59,12 +61,12 @@ if_small true s = s
 if_small false s = Stop
 
 abbrev pub number_due_step : Kind → List (Symbol Signed) → ModuleName → List Signed → State
-number_due_step (Number k) r n zs = if_small (nat_lt k (2 ^ 63)) (InAxiom (NumberRead r n (plain k ∷ zs)))
+number_due_step (Number k) r n zs = if_small (nat_lt k value_bound) (InAxiom (NumberRead r n (unsigned k ∷ zs)))
 number_due_step Minus r n zs = InAxiom (MinusRead r n zs)
 number_due_step k r n zs = Stop
 
 abbrev pub minus_step : Kind → List (Symbol Signed) → ModuleName → List Signed → State
-minus_step (Number k) r n zs = if_small (nat_le k (2 ^ 63)) (InAxiom (NumberRead r n (minus_sign k ∷ zs)))
+minus_step (Number k) r n zs = if_small (nat_le k value_bound) (InAxiom (NumberRead r n (minus_sign k ∷ zs)))
 minus_step k r n zs = Stop
 
 abbrev pub number_read_step : Kind → List (Symbol Signed) → ModuleName → List Signed → State
@@ -180,9 +182,6 @@ ended n (Some c) = sentence c
 abbrev pub is_stop : State → Bool
 is_stop Stop = true
 is_stop s = false
-
-abbrev pub nesting_bound : ℕ
-nesting_bound = 32
 
 -- the tokens from number n on
 abbrev pub verdict_from : ℕ → State → List Kind → Verdict

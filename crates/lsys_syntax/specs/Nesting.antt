@@ -1,8 +1,8 @@
 -- How many of ( , prefix -, prefix ! and ^ are open: at most at one token of a tree, and around an operand.
 use Rattle.std.specs.Prelude.{ℕ, List, [], ◌∷◌, ◌+◌, ◌≤◌, max}
 use Rattle.lsys_syntax.specs.Tokens.{Kind}
-use Rattle.lsys_syntax.specs.Expressions.{Expr, only_and, or, And, only_rel, and, Rel, only_sum, compare, Sum, only_term, total, Term, only_unary, product, Unary, negated, inverted, plain, raised, Atom, number, name, parens}
-use Rattle.lsys_syntax.specs.ExpressionMachine.{InUnary, negating, inverting, raising, in_term, InTerm, first_unary, next_unary, InSum, first_term, next_term, InRel, first_sum, second_sum, InAnd, first_rel, next_rel, InExpr, first_and, next_and, Around, outermost, in_parens, State, Due, Have, HalfAnd, HalfOr, Done, Stop, step}
+use Rattle.lsys_syntax.specs.Expressions.{Expr, only_and, or, And, only_rel, and, Rel, only_sum, compare, Sum, only_term, total, Term, only_unary, product, Unary, negated, inverted, only_atom, raised, Atom, number, name, parens}
+use Rattle.lsys_syntax.specs.ExpressionMachine.{InUnary, negating, inverting, raising, in_term, InTerm, first_unary, next_unary, InSum, first_term, next_term, InRel, first_sum, second_sum, InAnd, first_rel, next_rel, InExpr, first_and, next_and, Around, no_parens, in_parens, State, Due, Have, HalfAnd, HalfOr, Done, Stop, step}
 
 abbrev mutual
   pub expr_nesting : Expr → ℕ
@@ -28,7 +28,7 @@ abbrev mutual
   pub unary_nesting : Unary → ℕ
   unary_nesting (negated u) = unary_nesting u + 1
   unary_nesting (inverted u) = unary_nesting u + 1
-  unary_nesting (plain a) = atom_nesting a
+  unary_nesting (only_atom a) = atom_nesting a
   unary_nesting (raised a u) = max (atom_nesting a) (unary_nesting u + 1)
 
   pub atom_nesting : Atom → ℕ
@@ -65,7 +65,7 @@ abbrev mutual
   expr_depth (next_and e k) = around_depth k
 
   pub around_depth : Around → ℕ
-  around_depth outermost = 0
+  around_depth no_parens = 0
   around_depth (in_parens k) = unary_depth k + 1
 
 -- at the last token that was taken (a power's operand counts once its ^ was taken)

@@ -1,6 +1,7 @@
 -- A printed text as tokens and blanks, and where its tokens can't be read as others.
-use Rattle.std.specs.Prelude.{◌≡◌, ℕ, Bool, true, false, List, [], ◌∷◌, ◌++◌, ◌+◌, ◌≤◌, ◌<◌, ◌^◌, decimal, length}
-use Rattle.lsys_syntax.specs.Tokens.{NameText, short, long, Kind, Word, LongWord, Name, Number, BigNumber, Arrow, Equal, Unequal, AtMost, AtLeast, LeftParen, RightParen, LeftBracket, RightBracket, Comma, Colon, At, Plus, Minus, Times, Slash, Backslash, Percent, Ampersand, Bar, Caret, Bang, Less, Greater, Assign, Token, Mode, Modules, is_letter, is_plain, is_word_byte, next_mode}
+use Rattle.std.specs.Prelude.{◌≡◌, ℕ, Bool, true, false, List, [], ◌∷◌, ◌++◌, ◌+◌, ◌≤◌, ◌<◌, decimal, length}
+use Rattle.lsys_syntax.specs.Limits.{most_word_bytes, number_bound}
+use Rattle.lsys_syntax.specs.Tokens.{NameText, short, long, Kind, Word, LongWord, Name, Number, BigNumber, Arrow, Equal, Unequal, AtMost, AtLeast, LeftParen, RightParen, LeftBracket, RightBracket, Comma, Colon, At, Plus, Minus, Times, Slash, Backslash, Percent, Ampersand, Bar, Caret, Bang, Less, Greater, Assign, Token, Mode, Modules, is_letter, is_alphanumeric, is_word_byte, next_mode}
 
 abbrev pub name_text : NameText → List ℕ
 name_text (short c) = c ∷ []
@@ -124,11 +125,11 @@ Every p (c ∷ cs) = (p c ≡ true) × Every p cs
 
 abbrev pub IsNameText : NameText → Type 0
 IsNameText (short c) = is_letter c ≡ true
-IsNameText (long c more) = (is_letter c ≡ true) × Every is_plain more × (0 < length more) × (length more ≤ 6)
+IsNameText (long c more) = (is_letter c ≡ true) × Every is_alphanumeric more × (0 < length more) × (length more ≤ 6)
 
 abbrev pub IsWordText : List ℕ → Type 0
 IsWordText [] = ⊥
-IsWordText (c ∷ cs) = (is_letter c ≡ true) × Every is_word_byte cs × (length (c ∷ cs) ≤ 16)
+IsWordText (c ∷ cs) = (is_letter c ≡ true) × Every is_word_byte cs × (length (c ∷ cs) ≤ most_word_bytes)
 
 abbrev pub HasWords : Mode → Type 0
 HasWords Modules = ⊥
@@ -143,7 +144,7 @@ abbrev pub Stands : Mode → Kind → Type 0
 Stands m (Word w) = HasWords m × IsWordText w
 Stands m LongWord = ⊥
 Stands m (Name n) = HasNames m × IsNameText n
-Stands m (Number n) = n < 2 ^ 64
+Stands m (Number n) = n < number_bound
 Stands m BigNumber = ⊥
 Stands m Assign = ⊥
 Stands m k = Unit {0}

@@ -1,5 +1,6 @@
 -- Reading a rule: a state holds what was read of it, the last symbol first, and each token is one step.
-use Rattle.std.specs.Prelude.{ℕ, zero, suc, Option, Some, None, List, [], ◌∷◌, ◌-◌, ◌+◌, ◌^◌, nat_lt, if◌then◌else◌}
+use Rattle.std.specs.Prelude.{ℕ, zero, suc, Option, Some, None, List, [], ◌∷◌, ◌-◌, ◌+◌, nat_lt, if◌then◌else◌}
+use Rattle.lsys_syntax.specs.Limits.{value_bound}
 use Rattle.lsys_syntax.specs.Tokens.{NameText, Kind, Name, Number, BigNumber, Arrow, LeftParen, RightParen, LeftBracket, RightBracket, Comma, Colon, At, Plus, Minus, Slash, Backslash, Percent, Ampersand, Bar, Caret, Bang, Less, Greater}
 use Rattle.lsys_syntax.specs.Strings.{ModuleName, named, plus, minus, ampersand, caret, backslash, slash, bar, bang, Symbol, Module, Push, Pop, Cut}
 use Rattle.lsys_syntax.specs.Expressions.{Expr}
@@ -129,7 +130,7 @@ head_of (at_right l n fs) (x ∷ r) = where_closed (open_in (x ∷ r)) (Some (re
 head_of p r = None
 
 abbrev pub expr_start : E.State
-expr_start = E.start_expr E.outermost
+expr_start = E.start_expr E.no_parens
 
 abbrev pub with_head : (Head → State) → Option Head → State
 with_head f None = Stop
@@ -174,7 +175,7 @@ within m spot t s = InExpr spot s
 
 -- a Number of an expression is at most 2^63 - 1
 abbrev pub small_number : ℕ → Kind
-small_number n = if nat_lt n (2 ^ 63) then Number n else BigNumber
+small_number n = if nat_lt n value_bound then Number n else BigNumber
 
 abbrev pub small : Kind → Kind
 small (Number n) = small_number n

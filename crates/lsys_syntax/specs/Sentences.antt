@@ -1,5 +1,6 @@
 -- Which tokens are sentences, and which are the beginning of one.
-use Rattle.std.specs.Prelude.{◌≡◌, ℕ, List, ◌++◌, ◌<◌, ◌≤◌, ◌^◌}
+use Rattle.std.specs.Prelude.{◌≡◌, ℕ, List, ◌++◌, ◌<◌, ◌≤◌}
+use Rattle.lsys_syntax.specs.Limits.{number_bound}
 use Rattle.lsys_syntax.specs.Tokens.{Kind, Word, Name, Number}
 use Rattle.lsys_syntax.specs.Pieces.{kinds_of, IsNameText, IsWordText}
 use Rattle.lsys_syntax.specs.Strings.{EachOf}
@@ -9,7 +10,7 @@ use Rattle.lsys_syntax.specs.Commands.{Command, command_pieces, IsCommand, nesti
 abbrev pub IsToken : Kind → Type 0
 IsToken (Word w) = IsWordText w
 IsToken (Name n) = IsNameText n
-IsToken (Number n) = n < 2 ^ 64
+IsToken (Number n) = n < number_bound
 IsToken k = Unit {0}
 
 abbrev pub AreTokens : List Kind → Type 0

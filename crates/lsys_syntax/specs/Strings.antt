@@ -1,6 +1,7 @@
 -- Strings of modules, and how they are printed. A parameter is a number, a formal or an expression.
-use Rattle.std.specs.Prelude.{◌≡◌, ℕ, zero, suc, Bool, true, false, List, [], ◌∷◌, ◌++◌, ◌<◌, ◌≤◌, ◌==◌, ◌^◌, codes, ℤ, pos, negsuc, refl}
+use Rattle.std.specs.Prelude.{◌≡◌, ℕ, zero, suc, Bool, true, false, List, [], ◌∷◌, ◌++◌, ◌<◌, ◌≤◌, ◌==◌, codes, ℤ, pos, negsuc, refl}
 use Rattle.std.specs.Fmt.{digits}
+use Rattle.lsys_syntax.specs.Limits.{value_bound}
 use Rattle.lsys_syntax.specs.Tokens.{NameText, short, long, Kind, Name, Number, LeftParen, RightParen, LeftBracket, RightBracket, Comma, Plus, Minus, Slash, Backslash, Percent, Ampersand, Bar, Caret, Bang}
 use Rattle.lsys_syntax.specs.Pieces.{Piece, blank, token, note, a_symbol, a_param, text_of, IsNameText}
 
@@ -87,7 +88,7 @@ IsSymbol G s = Unit {0}
 
 -- A signed number as it is written; -0 is a spelling of 0.
 pub data Signed : Type 0 where
-  plain : ℕ → Signed
+  unsigned : ℕ → Signed
   minus_sign : ℕ → Signed
 
 abbrev pub negative : ℕ → ℤ
@@ -95,16 +96,16 @@ negative zero = pos zero
 negative (suc n) = negsuc n
 
 abbrev pub signed_value : Signed → ℤ
-signed_value (plain n) = pos n
+signed_value (unsigned n) = pos n
 signed_value (minus_sign n) = negative n
 
 -- how a value is printed: its decimal, with its sign
 abbrev pub signed_of : ℤ → Signed
-signed_of (pos n) = plain n
+signed_of (pos n) = unsigned n
 signed_of (negsuc n) = minus_sign (suc n)
 
 abbrev pub signed_pieces : Signed → List Piece
-signed_pieces (plain n) = token (Number n) ∷ []
+signed_pieces (unsigned n) = token (Number n) ∷ []
 signed_pieces (minus_sign n) = token Minus ∷ token (Number n) ∷ []
 
 abbrev pub value_pieces : ℤ → List Piece
@@ -112,13 +113,13 @@ value_pieces z = signed_pieces (signed_of z)
 
 -- its value is an i64
 abbrev pub IsSigned : Signed → Type 0
-IsSigned (plain n) = n < 2 ^ 63
-IsSigned (minus_sign n) = n ≤ 2 ^ 63
+IsSigned (unsigned n) = n < value_bound
+IsSigned (minus_sign n) = n ≤ value_bound
 
 -- an i64
 abbrev pub IsParam : ℤ → Type 0
-IsParam (pos n) = n < 2 ^ 63
-IsParam (negsuc n) = n < 2 ^ 63
+IsParam (pos n) = n < value_bound
+IsParam (negsuc n) = n < value_bound
 
 -- as many `[` as `]`, and in every front at least as many, where n are open before
 abbrev pub balanced : {P : Type 0} → ℕ → List (Symbol P) → Bool

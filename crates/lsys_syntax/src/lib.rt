@@ -4,6 +4,7 @@
 #![tactic(auto)]
 
 ghost use Rattle.std.specs.Prelude.{◌≡◌, ◌≤◌, ◌<◌, List, ℕ, ℤ, zero, suc, Ok, Some, [], ◌∷◌, ◌++◌, map, take, length};
+ghost use Rattle.lsys_syntax.specs.Limits.{nesting_bound};
 ghost use Rattle.lsys_syntax.specs.Lines.{lines_of};
 ghost use Rattle.lsys_syntax.specs.Tokens.{Kind, Token, tokens, tokens_from, First, Modules};
 ghost use Rattle.lsys_syntax.specs.Pieces.{Piece, text_of, kinds_of, placed, Reads, anything};
@@ -39,10 +40,10 @@ pub fn law_of_token_forms()
 /// command; and each sentence is the spelling of its command, which is so nested. No two commands have the same
 /// spelling.
 pub fn law_of_sentences()
-    ensures sentences { (command : Command) → IsCommand command → nesting command ≤ 32
+    ensures sentences { (command : Command) → IsCommand command → nesting command ≤ nesting_bound
         → verdict (kinds_of (command_pieces command)) ≡ sentence command }
     ensures spelled { (kinds : List Kind) (command : Command) → AreTokens kinds → verdict kinds ≡ sentence command
-        → IsSpelled 32 kinds command }
+        → IsSpelled nesting_bound kinds command }
     ensures distinct { (one other : Command) → IsCommand one → IsCommand other
         → kinds_of (command_pieces one) ≡ kinds_of (command_pieces other) → one ≡ other }
 {}
@@ -53,15 +54,15 @@ pub fn law_of_sentences()
 /// the verdict names the end, the tokens are the beginning of a sentence, and no command is spelled by them.
 pub fn law_of_places()
     ensures before { (kinds : List Kind) (place : ℕ) → AreTokens kinds → verdict kinds ≡ stops place
-        → Begins 32 (take place kinds) }
+        → Begins nesting_bound (take place kinds) }
     ensures none_goes_on { (kinds : List Kind) (place : ℕ) → verdict kinds ≡ stops place → place < length kinds
         → BeginsDeep (take (suc place) kinds) → ⊥ }
     ensures at_the_end { (kinds : List Kind) (place : ℕ) → verdict kinds ≡ stops place → length kinds ≤ place
         → (place ≡ length kinds) × (IsSpelling kinds → ⊥) }
     ensures before_deep { (kinds : List Kind) (place : ℕ) → AreTokens kinds → verdict kinds ≡ too_deep place
-        → (place < length kinds) × Begins 32 (take place kinds) }
+        → (place < length kinds) × Begins nesting_bound (take place kinds) }
     ensures none_within { (kinds : List Kind) (place : ℕ) → verdict kinds ≡ too_deep place
-        → Begins 32 (take (suc place) kinds) → ⊥ }
+        → Begins nesting_bound (take (suc place) kinds) → ⊥ }
     ensures only_deep { (kinds : List Kind) (place : ℕ) → AreTokens kinds → verdict kinds ≡ too_deep place
         → BeginsDeep (take (suc place) kinds) }
 {}
@@ -73,22 +74,22 @@ pub fn law_of_places()
 /// a token that can't go on with it is found.
 pub fn law_of_expression_places()
     ensures ends { (kinds : List Kind) (place : ℕ) (expr : Expr) → AreTokens kinds → extent kinds ≡ ends place expr
-        → (place ≤ length kinds) × (expr_kinds expr ≡ take place kinds) × IsExpr expr × (expr_nesting expr ≤ 32) }
+        → (place ≤ length kinds) × (expr_kinds expr ≡ take place kinds) × IsExpr expr × (expr_nesting expr ≤ nesting_bound) }
     ensures none_longer { (kinds : List Kind) (place : ℕ) (expr : Expr) → extent kinds ≡ ends place expr
         → place < length kinds → BeginsAnyExpression (take (suc place) kinds) → ⊥ }
     ensures before { (kinds : List Kind) (place : ℕ) → AreTokens kinds → extent kinds ≡ places.stops place
-        → (place ≤ length kinds) × BeginsExpression 32 (take place kinds) }
+        → (place ≤ length kinds) × BeginsExpression nesting_bound (take place kinds) }
     ensures none_goes_on { (kinds : List Kind) (place : ℕ) → extent kinds ≡ places.stops place → place < length kinds
         → BeginsAnyExpression (take (suc place) kinds) → ⊥ }
     ensures not_whole { (kinds : List Kind) (place : ℕ) → extent kinds ≡ places.stops place
         → IsAnyExpression (take place kinds) → ⊥ }
     ensures before_deep { (kinds : List Kind) (place : ℕ) → AreTokens kinds → extent kinds ≡ places.too_deep place
-        → (place < length kinds) × BeginsExpression 32 (take place kinds) }
+        → (place < length kinds) × BeginsExpression nesting_bound (take place kinds) }
     ensures none_within { (kinds : List Kind) (place : ℕ) → extent kinds ≡ places.too_deep place
-        → BeginsExpression 32 (take (suc place) kinds) → ⊥ }
+        → BeginsExpression nesting_bound (take (suc place) kinds) → ⊥ }
     ensures only_deep { (kinds : List Kind) (place : ℕ) → AreTokens kinds → extent kinds ≡ places.too_deep place
         → BeginsAnyExpression (take (suc place) kinds) }
-    ensures whole { (expr : Expr) (rest : List Kind) → IsExpr expr → expr_nesting expr ≤ 32 → CantGoOn rest
+    ensures whole { (expr : Expr) (rest : List Kind) → IsExpr expr → expr_nesting expr ≤ nesting_bound → CantGoOn rest
         → extent (expr_kinds expr ++ rest) ≡ ends (length (expr_kinds expr)) expr }
     ensures read { (kinds : List Kind) (place : ℕ) (expr : Expr) → extent kinds ≡ ends place expr
         → read_expr (take place kinds) ≡ Some expr }

@@ -6,7 +6,7 @@ use Rattle.std.specs.Str.Parse.{digits_value}
 use Rattle.std.proofs.lemmas.Int.Digits.{digits_value_more}
 use Rattle.std.proofs.Common.{length-take, take_all, length-drop}
 use Rattle.std.proofs.lemmas.Bool.Decides.{nat_tests}
-use Rattle.lsys_syntax.specs.Tokens.{is_digit, is_letter, is_plain, is_word_byte, front, name_tail}
+use Rattle.lsys_syntax.specs.Tokens.{is_digit, is_letter, is_alphanumeric, is_word_byte, front, name_tail}
 use Rattle.lsys_syntax.specs.Pieces.{Every, IsWordText}
 use Rattle.lsys_text.specs.Scans.{begins_with}
 
@@ -84,7 +84,7 @@ word-front (c ∷ bytes) h l =
 -- what stands behind the letter of a name with a `_`
 pub record IsTail (behind tail : List ℕ) : Type 0 where
   pub cut : take (length tail + 1) behind ≡ 95 ∷ tail
-  pub plain : Every is_plain tail
+  pub plain : Every is_alphanumeric tail
   pub few : length tail ≤ 6
   pub within : length tail + 1 ≤ length behind
 
@@ -98,16 +98,16 @@ take-front p zero xs = refl
 take-front p (suc n) [] = refl
 take-front p (suc n) (c ∷ xs) = take-front_by p n c xs (p c) refl (take-front p n xs)
 
-underscore_tail : (c : ℕ) (xs : List ℕ) → c ≡ 95 → IsTail (c ∷ xs) (take 6 (front is_plain xs))
+underscore_tail : (c : ℕ) (xs : List ℕ) → c ≡ 95 → IsTail (c ∷ xs) (take 6 (front is_alphanumeric xs))
 underscore_tail c xs e =
-    let tail : List ℕ = take 6 (front is_plain xs) in
+    let tail : List ℕ = take 6 (front is_alphanumeric xs) in
     let one : length tail + 1 ≡ suc (length tail) = omega arith in
-    let cut : take (length tail) xs ≡ tail = take-front is_plain 6 xs in
+    let cut : take (length tail) xs ≡ tail = take-front is_alphanumeric 6 xs in
     record {
       cut = rw one (cc);
-      plain = Every-take is_plain 6 (front is_plain xs) (Every-front is_plain xs);
-      few = omega (arith, length-take 6 (front is_plain xs));
-      within = omega (arith, length-take 6 (front is_plain xs), length-front-le is_plain xs);
+      plain = Every-take is_alphanumeric 6 (front is_alphanumeric xs) (Every-front is_alphanumeric xs);
+      few = omega (arith, length-take 6 (front is_alphanumeric xs));
+      within = omega (arith, length-take 6 (front is_alphanumeric xs), length-front-le is_alphanumeric xs);
     }
 
 tail_by : (c : ℕ) (xs : List ℕ) (b : Bool) → (c == 95) ≡ b → 0 < length (name_tail (c ∷ xs)) → IsTail (c ∷ xs) (name_tail (c ∷ xs))

@@ -6,7 +6,7 @@ use Rattle.std.proofs.lemmas.Bool.Decides.{nat_tests, Decides-eqb, Decides-like}
 use Rattle.std.proofs.lemmas.Slice.Eq.{bytes_eq-Decides}
 use Rattle.std.proofs.lemmas.Bool.Decides.{same_from_decides}
 use Rattle.std.specs.Str.{bytes_eq}
-use Rattle.lsys_syntax.specs.Tokens.{is_letter, is_plain, is_word_byte}
+use Rattle.lsys_syntax.specs.Tokens.{is_letter, is_alphanumeric, is_word_byte}
 use Rattle.lsys_syntax.specs.Pieces.{Every, IsWordText}
 use Rattle.lsys_text.specs.Packed.{packed, unpacked_to, unpacked, AreTextBytes, packed-unpacked, unpacked-packed}
 use Rattle.lsys_text.specs.Texts.{is_name_mark, IsNameBytes}
@@ -66,10 +66,10 @@ word_bytes : (text : List ℕ) → Every is_word_byte text → AreTextBytes text
 word_bytes [] h = tt
 word_bytes (c ∷ text) h = ((word_byte c h.0).0, (word_byte c h.0).1, word_bytes text h.1)
 
-plain_byte : (c : ℕ) → is_plain c ≡ true → (0 < c) × (c < 256)
+plain_byte : (c : ℕ) → is_alphanumeric c ≡ true → (0 < c) × (c < 256)
 plain_byte c h = grind (arith, nat_tests)
 
-plain_bytes : (text : List ℕ) → Every is_plain text → AreTextBytes text
+plain_bytes : (text : List ℕ) → Every is_alphanumeric text → AreTextBytes text
 plain_bytes [] h = tt
 plain_bytes (c ∷ text) h = let b : (0 < c) × (c < 256) = plain_byte c h.0 in (b.0, b.1, plain_bytes text h.1)
 

@@ -1,6 +1,6 @@
 -- The kind of a token, by its text.
 use Rattle.std.proofs.Common.{◌≡◌, ℕ, suc, ◌+◌, ◌<◌, ◌≤◌, true, false, List, [], ◌∷◌, length, take, drop, get_or, refl, ◌∙◌, sym, arith}
-use Rattle.lsys_syntax.specs.Tokens.{Kind, Mode, First, Words, UntilColon, Modules, is_digit, is_letter, is_word_byte, is_plain, front, number_kind, word_kind, letter_at}
+use Rattle.lsys_syntax.specs.Tokens.{Kind, Mode, First, Words, UntilColon, Modules, is_digit, is_letter, is_word_byte, is_alphanumeric, front, number_kind, word_kind, letter_at}
 use Rattle.lsys_text.specs.Scans.{begins_with, first_name}
 use Rattle.lsys_syntax.specs.Tokens as syntax
 use Rattle.lsys_syntax.specs.Tokens.{name_tail, name_with}
@@ -53,9 +53,9 @@ name-front (c ∷ bytes) more h e =
     record { name = found.0; is = found.1 }
 
 -- how many bytes of a name stand behind its letter
-pub name_more-tail : (behind : List ℕ) (n : ℕ) → 0 < length behind → get_or behind 0 0 ≡ 95 → n ≡ min (length (front is_plain (drop 1 behind))) 6 → 0 < n
+pub name_more-tail : (behind : List ℕ) (n : ℕ) → 0 < length behind → get_or behind 0 0 ≡ 95 → n ≡ min (length (front is_alphanumeric (drop 1 behind))) 6 → 0 < n
     → n + 1 ≡ (name_with 0 (name_tail behind)).1
 name_more-tail [] n s u e p = absurd (omega arith)
 name_more-tail (c ∷ xs) n s u e p =
-    let long : length (take 6 (front is_plain xs)) ≡ n = length-take 6 (front is_plain xs) ∙ omega arith in
-    rw u (more-of (take 6 (front is_plain xs)) n (sym long) p)
+    let long : length (take 6 (front is_alphanumeric xs)) ≡ n = length-take 6 (front is_alphanumeric xs) ∙ omega arith in
+    rw u (more-of (take 6 (front is_alphanumeric xs)) n (sym long) p)

@@ -2,7 +2,7 @@
 use Rattle.std.proofs.Common.{◌≡◌, ℕ, zero, suc, ◌<◌, ◌≤◌, ◌==◌, ◌&&◌, ◌||◌, Bool, true, false, List, [], ◌∷◌, length, take, refl, ◌∙◌, sym, subst, arith}
 use Rattle.std.specs.Prelude.{is_some}
 use Rattle.lsys_syntax.specs.Tokens as syntax
-use Rattle.lsys_syntax.specs.Tokens.{Mode, First, Words, UntilColon, Modules, Kind, NameText, short, long, is_letter, is_digit, is_plain, is_word_byte, front, begins, one_mark, mark_at, name_tail, name_with, token_at, letter_at}
+use Rattle.lsys_syntax.specs.Tokens.{Mode, First, Words, UntilColon, Modules, Kind, NameText, short, long, is_letter, is_digit, is_alphanumeric, is_word_byte, front, begins, one_mark, mark_at, name_tail, name_with, token_at, letter_at}
 use Rattle.lsys_syntax.specs.Pieces.{Every, HasWords, HasNames, IsWordText, IsNameText, name_text}
 use Rattle.lsys_text.specs.Scans.{begins_with}
 use Rattle.lsys_text.specs.Longest.{IsTokenText}

@@ -5,7 +5,7 @@ use Rattle.std.specs.List.{prefix_len}
 use Rattle.std.specs.Str.Parse.{digits_value}
 use Rattle.std.proofs.lemmas.Bool.Decides.{nat_tests}
 use Rattle.lsys_syntax.specs.Tokens as syntax
-use Rattle.lsys_syntax.specs.Tokens.{Mode, First, Words, UntilColon, Modules, Kind, NameText, short, long, is_letter, is_digit, is_plain, is_word_byte, front, begins, one_mark, alone, mark_at, name_tail, name_with, token_at, letter_at, number_kind, word_kind}
+use Rattle.lsys_syntax.specs.Tokens.{Mode, First, Words, UntilColon, Modules, Kind, NameText, short, long, is_letter, is_digit, is_alphanumeric, is_word_byte, front, begins, one_mark, alone, mark_at, name_tail, name_with, token_at, letter_at, number_kind, word_kind}
 use Rattle.lsys_syntax.specs.Pieces.{Every, HasWords, HasNames, IsNameText, name_text}
 use Rattle.lsys_syntax.proofs.Bytes.{letter_no_digit}
 use Rattle.lsys_text.specs.Scans.{begins_with}
@@ -127,7 +127,7 @@ word_right m c bytes w words l = record {
 }
 
 -- a part that is a name with a `_`
-long_top : (i c : ℕ) (bytes : List ℕ) (d : ℕ) (more : List ℕ) → i ≤ length (c ∷ bytes) → take i (c ∷ bytes) ≡ d ∷ 95 ∷ more → Every is_plain more → length more ≤ 6
+long_top : (i c : ℕ) (bytes : List ℕ) (d : ℕ) (more : List ℕ) → i ≤ length (c ∷ bytes) → take i (c ∷ bytes) ≡ d ∷ 95 ∷ more → Every is_alphanumeric more → length more ≤ 6
     → (i ≡ length more + 2) × (length more ≤ length (name_tail bytes))
 long_top zero c bytes d more l e h s = cc
 long_top (suc zero) c bytes d more l e h s = cc
@@ -136,9 +136,9 @@ long_top (suc (suc i)) c (x ∷ rest) d more l e h s =
     let under : x ≡ 95 = cc in
     let part : take i rest ≡ more = cc in
     let len : length more ≡ i = sym (ap length part) ∙ length-take-le i rest (omega arith) in
-    let top : i ≤ length (front is_plain rest) = front-top is_plain i rest (omega arith) (subst (Every is_plain) (sym part) h) in
-    let tail : name_tail (x ∷ rest) ≡ take 6 (front is_plain rest) = rw (eq-eqb x 95 under) refl in
-    (omega arith, rw tail (omega (arith, length-take 6 (front is_plain rest))))
+    let top : i ≤ length (front is_alphanumeric rest) = front-top is_alphanumeric i rest (omega arith) (subst (Every is_alphanumeric) (sym part) h) in
+    let tail : name_tail (x ∷ rest) ≡ take 6 (front is_alphanumeric rest) = rw (eq-eqb x 95 under) refl in
+    (omega arith, rw tail (omega (arith, length-take 6 (front is_alphanumeric rest))))
 
 -- the longest name part
 name_top : (i c : ℕ) (bytes : List ℕ) → is_letter c ≡ true → i ≤ length (c ∷ bytes) → Shape Modules (take i (c ∷ bytes))

@@ -69,14 +69,6 @@ impl Name {
         Name(u64::from(mark))
     }
 
-    /// What the text of every name is: a fact for proofs, which costs nothing.
-    #[inline(always)]
-    pub fn has_form(&self)
-        ensures { IsNameBytes self.now }
-    {
-        let _ = &self.0;
-    }
-
     /// The text, of one to eight bytes.
     pub fn text(self) -> ShortText
         ensures text { result ≡ self }

@@ -2,7 +2,7 @@
 ghost use Rattle.std.specs.Prelude.{◌≡◌, ℕ, ◌+◌, ◌-◌, ◌*◌, ◌^◌, ◌<◌, ◌≤◌, ◌++◌, ◌∷◌, [], length, All, option_map, OnOk, OnErr, IfOk, IfSome, IsTrue, SomeIff};
 ghost use Rattle.std.specs.List.{prefix_len};
 ghost use Rattle.std.specs.Str.Parse.{digits_value};
-ghost use Rattle.lsys_syntax.specs.Tokens.{is_blank, is_digit, is_letter, is_plain, is_word_byte, front, number_kind, word_kind, after_word, next_mode, name_tail, name_with};
+ghost use Rattle.lsys_syntax.specs.Tokens.{is_blank, is_digit, is_letter, is_alphanumeric, is_word_byte, front, number_kind, word_kind, after_word, next_mode, name_tail, name_with};
 ghost use Rattle.lsys_syntax.specs.Pieces.{Every};
 ghost use Rattle.lsys_text.specs.Tokens.{kind_of, IsMarkByte, HasMarkByte, is_mark, IsWithin};
 ghost use Rattle.lsys_text.specs.Scans.{mode_of, lexeme_of, begins_with, first_token, first_name, first_mark, placed, IsStep};
@@ -269,7 +269,7 @@ fn name_more(behind: &[u8]) -> usize
 
 // How many letters and digits stand at the front of a text.
 fn plain_len(text: &[u8]) -> usize
-    ensures len { result ≡ prefix_len is_plain text.now }
+    ensures len { result ≡ prefix_len is_alphanumeric text.now }
     ensures within { result ≤ length text.now }
 {
     text.iter()

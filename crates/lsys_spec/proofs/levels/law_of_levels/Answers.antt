@@ -11,8 +11,8 @@ use Rattle.lsys_spec.proofs.levels.law_of_levels.Goals as goal
 pub returns-clause-names : goal.returns-clause-names
 returns-clause-names c s w limit xs h t x g p l m k = each_at NamedSymbol x p (Module l m) (level_named s w limit xs h t x g) k
 
-pub returns-clause-well_formed : goal.returns-clause-well_formed
-returns-clause-well_formed c s w = has_balance s w
+pub returns-clause-spelled : goal.returns-clause-spelled
+returns-clause-spelled c s w = has_balance s w
 
 pub returns-clause-balance : goal.returns-clause-balance
 returns-clause-balance c s b limit xs h t x g = (grown s b limit xs h t x g).is_balanced
