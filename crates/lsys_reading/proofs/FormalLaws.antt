@@ -9,14 +9,14 @@ use Rattle.lsys_reading.specs.declared.glyph.Glyph.TheVariants as glyphs
 use Rattle.lsys_reading.specs.declared.glyph.Separator.{Separator}
 use Rattle.lsys_reading.specs.declared.glyph.Separator.TheVariants as separators
 use Rattle.lsys_reading.specs.declared.formals.FormalRead.{FormalRead as Formal}
-use Rattle.lsys_reading.specs.Points.{at_state, stops, verdict_at, Leads}
+use Rattle.lsys_syntax.specs.RulePoints.{at_state, stops, verdict_at, Leads}
 use Rattle.lsys_reading.specs.Glyphs.{IsMark, is_other, IsPeeked, formal_of, separator_of}
 use Rattle.lsys_reading.specs.Reads.{after_formal, IsFormalRead, AreFormalsRead}
 use Rattle.lsys_reading.proofs.ReadLaws.{refuses-on}
 use Rattle.lsys_reading.specs.declared.refusal.PartRefusal.{PartRefusal}
 use Rattle.lsys_reading.specs.declared.refusal.PartRefusal.TheVariants.{Token}
 use Rattle.lsys_reading.specs.declared.formals.FormalsRead.{FormalsRead}
-use Rattle.lsys_reading.proofs.PointLaws.{IsGone, leads-on, leads-stay, leads-token, stops-token, stops-end}
+use Rattle.lsys_syntax.proofs.RulePoints.{IsGone, leads-on, leads-stay, leads-token, stops-token, stops-end}
 use Rattle.lsys_reading.proofs.Reversals.{mapped-push, mapped-whole}
 
 -- what the loop over formals keeps

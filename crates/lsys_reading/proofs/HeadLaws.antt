@@ -12,11 +12,11 @@ use Rattle.lsys_reading.specs.declared.form.Form.TheVariants.{Production, Homomo
 use Rattle.lsys_reading.specs.declared.patterns.PatternModule.{PatternModule}
 use Rattle.lsys_reading.specs.declared.patterns.Pattern.{Pattern}
 use Rattle.lsys_reading.specs.declared.patterns.Pattern.TheVariants as patterns
-use Rattle.lsys_reading.specs.Points.{at_state, after_symbols, after_predecessor, after_head, head_with, symbols_step, predecessor_step, stops, taken, rule_from, point_from, verdict_at, Leads}
+use Rattle.lsys_syntax.specs.RulePoints.{at_state, after_symbols, after_predecessor, after_head, head_with, symbols_step, predecessor_step, stops, taken, rule_from, point_from, verdict_at, Leads}
 use Rattle.lsys_reading.specs.Glyphs.{IsGlyph, IsPeeked}
 use Rattle.lsys_reading.specs.Patterns.{module_of, pattern_of, so_far, is_empty}
 use Rattle.lsys_reading.specs.Heads.{form_in, takes_left, takes_right, only_of, patterns_of}
-use Rattle.lsys_reading.proofs.PointLaws.{leads-token}
+use Rattle.lsys_syntax.proofs.RulePoints.{leads-token}
 use Rattle.lsys_reading.proofs.PatternLoops.{first-is}
 use Rattle.lsys_reading.proofs.Reversals.{reversed-twice, nil-append}
 

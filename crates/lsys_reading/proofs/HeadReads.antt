@@ -15,11 +15,11 @@ use Rattle.lsys_reading.specs.declared.patterns.Section.TheVariants.{Alone, Righ
 use Rattle.lsys_reading.specs.declared.patterns.PatternsRead.{PatternsRead}
 use Rattle.lsys_reading.specs.declared.head.PredecessorRead.{PredecessorRead}
 use Rattle.lsys_reading.specs.declared.head.RightRead.{RightRead}
-use Rattle.lsys_reading.specs.Points.{at_state, after_symbols, after_predecessor, after_head, head_with, stops, verdict_at, Leads}
+use Rattle.lsys_syntax.specs.RulePoints.{at_state, after_symbols, after_predecessor, after_head, head_with, stops, verdict_at, Leads}
 use Rattle.lsys_reading.specs.Glyphs.{IsPeeked}
 use Rattle.lsys_reading.specs.Patterns.{module_of, so_far, IsSection, is_empty, ArePatternsRead}
 use Rattle.lsys_reading.specs.Heads.{form_in, takes_left, takes_right, IsSingle, IsContext, patterns_of, formals_of, IsPredecessorRead, IsRightRead, IsHeadRead}
-use Rattle.lsys_reading.proofs.PointLaws.{leads-on, leads-stay}
+use Rattle.lsys_syntax.proofs.RulePoints.{leads-on, leads-stay}
 use Rattle.lsys_reading.proofs.ReadLaws.{refuses-on}
 use Rattle.lsys_reading.proofs.HeadLaws.{NoLess, no-less, IsBefore, predecessor-is, only-none, only-some, predecessor-none, left-goes, left-not, right-goes, right-not, right-is, right-none}
 

@@ -16,11 +16,11 @@ use Rattle.lsys_reading.specs.declared.span.Span.{Span}
 use Rattle.lsys_reading.specs.declared.images.ParamRead.{ParamRead}
 use Rattle.lsys_reading.specs.declared.images.ParamsRead.{ParamsRead}
 use Rattle.lsys_reading.specs.declared.images.ImageModuleRead.{ImageModuleRead}
-use Rattle.lsys_reading.specs.Points.{at_state, after_expr, after_image, image_step, stops, taken, rule_from, point_from, verdict_at, Leads}
+use Rattle.lsys_syntax.specs.RulePoints.{at_state, after_expr, after_image, image_step, stops, taken, rule_from, point_from, verdict_at, Leads}
 use Rattle.lsys_reading.specs.Glyphs.{is_other, IsPeeked, is_open, separator_of}
 use Rattle.lsys_reading.specs.Spans.{expr_at, IsSpan, AreSpans, IsExpressionRead}
 use Rattle.lsys_reading.specs.Images.{params_at, module_at, param_due, after_param, IsParamRead, AreParamsRead, IsImageModuleRead}
-use Rattle.lsys_reading.proofs.PointLaws.{leads-on, leads-stay, leads-token, stops-token, stops-end, same-token, same-end}
+use Rattle.lsys_syntax.proofs.RulePoints.{leads-on, leads-stay, leads-token, stops-token, stops-end, same-token, same-end}
 use Rattle.lsys_reading.proofs.ReadLaws.{refuses-on}
 use Rattle.lsys_reading.proofs.Reversals.{mapped-push, mapped-whole}
 use Rattle.lsys_reading.proofs.PatternLaws.{is_paren, no-paren}
@@ -87,7 +87,6 @@ with-params ks b n [] r h = absurd (omega arith)
 with-params ks b n (s ∷ ss) r h = refl
 
 module _ (x : List ℕ) (ks : List Kind) (at : ℕ) (g : Glyph) (h : IsPeeked ks at g) where
-
   module _ (o : is_open g ≡ true) where
     pub image-module-ok : (y : ParamsRead) → AreParamsRead ks (at + 1) (Ok y) → 0 < length y.params.items → IsImageModuleRead x ks at (Ok (record { image = record { name = x; params = y.params }; end = y.end }))
     image-module-ok y i some = λ m b r.

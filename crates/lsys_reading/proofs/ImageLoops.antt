@@ -20,12 +20,12 @@ use Rattle.lsys_reading.specs.declared.images.ImageOpening.{ImageOpening}
 use Rattle.lsys_reading.specs.declared.images.ImageOpening.TheVariants as openings
 use Rattle.lsys_reading.specs.declared.images.ImageModuleRead.{ImageModuleRead}
 use Rattle.lsys_reading.specs.declared.images.ImageRead.{ImageRead}
-use Rattle.lsys_reading.specs.Points.{at_state, after_image, image_step, stops, whole, ended, point_from, verdict_at, Leads}
+use Rattle.lsys_syntax.specs.RulePoints.{at_state, after_image, image_step, stops, whole, ended, point_from, verdict_at, Leads}
 use Rattle.lsys_reading.specs.Glyphs.{is_other, IsPeeked}
 use Rattle.lsys_reading.specs.Reads.{Refuses}
 use Rattle.lsys_reading.specs.Heads.{form_in}
 use Rattle.lsys_reading.specs.Images.{module_at, image_at, images_at, ImageIsAt, ImagesAreAt, image_branches, where_true, has_cuts, image_opening_of, IsImageModuleRead, IsImageRead}
-use Rattle.lsys_reading.proofs.PointLaws.{leads-on, leads-stay, leads-token, stops-token}
+use Rattle.lsys_syntax.proofs.RulePoints.{leads-on, leads-stay, leads-token, stops-token}
 use Rattle.lsys_reading.proofs.ReadLaws.{refuses-on}
 use Rattle.lsys_reading.proofs.Reversals.{mapped-push, reversed-twice, nil-append}
 use Rattle.lsys_reading.proofs.ImageLaws.{image-shut}

@@ -8,7 +8,7 @@ use Rattle.lsys_syntax.specs.Commands.{Command, set_ignored, set_schedule, print
 use Rattle.lsys_syntax.specs.RuleMachine.{Sign, a_name, sign_of, reversed}
 use Rattle.lsys_syntax.specs.LineMachine.{State, InNames, ScheduleDue, InSchedule, StringRead, Stop, Verdict, sentence, stops, too_deep, ended, verdict_from, finish, step, is_stop, depth, nesting_bound, word_step, with_name}
 use Rattle.lsys_module.specs.Views.{module_name}
-use Rattle.lsys_reading.specs.Points.{Here}
+use Rattle.lsys_syntax.specs.RulePoints.{Here}
 use Rattle.lsys_reading.specs.Lines.{line_at, IsRefused, word_in, name_of_sign, name_in, at_front, IsWord, IsName, LastNumberDue}
 use Rattle.lsys_reading.specs.declared.refusal.PartRefusal.{PartRefusal}
 use Rattle.lsys_reading.specs.declared.refusal.PartRefusal.TheVariants.{Token, Deep, Memory}
@@ -43,6 +43,7 @@ module _ (ks : List Kind) (at : ℕ) (s : State) where
       none-left ℕ.zero (x ∷ xs) e = cc
       none-left (ℕ.suc n) [] e = omega arith
       none-left (ℕ.suc n) (x ∷ xs) e = omega (arith, none-left n xs e)
+
       by : (rest : List Kind) → drop at ks ≡ rest → at_front f rest ≡ None → verdict_from at s rest ≡ stops at
       by [] d j = absurd (omega (arith, w, none-left at ks d))
       by (k ∷ rest) d j = ap (tested at rest) (g k j)
@@ -84,9 +85,9 @@ module _ (ks : List Kind) (at : ℕ) (xs : List (List ℕ)) (so : NamesSoFar ks 
   names-more x h = record {
     within = h.1.0;
     read = so.read
-    ∙ token-goes ks at (InNames (reversed (map module_name xs))) h.0 (InNames (module_name x ∷ reversed (map module_name xs))) h.1
-    (sign-goes (λ n. InNames (n ∷ reversed (map module_name xs))) (sign_of h.0) (module_name x) h.2) (record { goes = refl; flat = refl })
-    ∙ ap (λ r. line_at ks (at + 1) (InNames r)) (sym (mapped-push module_name xs x));
+        ∙ token-goes ks at (InNames (reversed (map module_name xs))) h.0 (InNames (module_name x ∷ reversed (map module_name xs))) h.1
+        (sign-goes (λ n. InNames (n ∷ reversed (map module_name xs))) (sign_of h.0) (module_name x) h.2) (record { goes = refl; flat = refl })
+        ∙ ap (λ r. line_at ks (at + 1) (InNames r)) (sym (mapped-push module_name xs x));
   }
 
   pub names-refused : at < length ks → (e : PartRefusal) → IsName ks at (Err e) → IsRefused ks 1 (InNames []) e
@@ -119,7 +120,7 @@ module _ (ks : List Kind) (at : ℕ) (ws : List (List ℕ)) (so : TablesSoFar ks
   tables-more w h = record {
     within = h.0;
     read = so.read ∙ token-goes ks at (InSchedule (reversed ws)) (Word w) (InSchedule (w ∷ reversed ws)) h refl (record { goes = refl; flat = refl })
-    ∙ ap (λ r. line_at ks (at + 1) (InSchedule r)) (sym (reversed-push ws w));
+        ∙ ap (λ r. line_at ks (at + 1) (InSchedule r)) (sym (reversed-push ws w));
   }
 
   pub tables-refused : at < length ks → (e : PartRefusal) → IsWord ks at (Err e) → IsRefused ks 1 ScheduleDue e

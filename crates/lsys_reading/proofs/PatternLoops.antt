@@ -18,11 +18,11 @@ use Rattle.lsys_reading.specs.declared.patterns.Opening.TheVariants as openings
 use Rattle.lsys_reading.specs.declared.patterns.ModuleRead.{ModuleRead}
 use Rattle.lsys_reading.specs.declared.patterns.SymbolRead.{SymbolRead}
 use Rattle.lsys_reading.specs.declared.patterns.PatternsRead.{PatternsRead}
-use Rattle.lsys_reading.specs.Points.{at_state, after_symbol, after_symbols, Leads}
+use Rattle.lsys_syntax.specs.RulePoints.{at_state, after_symbol, after_symbols, Leads}
 use Rattle.lsys_reading.specs.Glyphs.{IsPeeked, is_open}
 use Rattle.lsys_reading.specs.Reads.{AreFormalsRead}
 use Rattle.lsys_reading.specs.Patterns.{module_of, pattern_of, so_far, branches_behind, opening_of, IsSection, is_empty, IsStanding, IsModuleRead, IsSymbolRead, ArePatternsRead}
-use Rattle.lsys_reading.proofs.PointLaws.{leads-on, leads-stay}
+use Rattle.lsys_syntax.proofs.RulePoints.{leads-on, leads-stay}
 use Rattle.lsys_reading.proofs.ReadLaws.{refuses-on}
 use Rattle.lsys_reading.proofs.Reversals.{mapped-push}
 use Rattle.lsys_reading.proofs.PatternLaws.{shut, opens, opening-none, opening-name}

@@ -4,7 +4,7 @@ use Rattle.lsys_syntax.specs.Tokens.{Kind}
 use Rattle.lsys_syntax.specs.RuleMachine.{Form}
 use Rattle.lsys_reading.specs.declared.refusal.PartRefusal.{PartRefusal}
 use Rattle.lsys_reading.specs.declared.refusal.PartRefusal.TheVariants.{Token, Deep, Memory}
-use Rattle.lsys_reading.specs.Points.{Point, Leads}
+use Rattle.lsys_syntax.specs.RulePoints.{Point, Leads}
 use Rattle.lsys_reading.specs.Reads.{Refuses}
 
 -- what is refused behind a part

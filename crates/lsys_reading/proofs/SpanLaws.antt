@@ -22,13 +22,13 @@ use Rattle.lsys_reading.specs.declared.glyph.Glyph.TheVariants as glyphs
 use Rattle.lsys_reading.specs.declared.form.Form.{Form}
 use Rattle.lsys_reading.specs.declared.form.Form.TheVariants.{Production, Homomorphism}
 use Rattle.lsys_reading.specs.declared.span.Span.{Span}
-use Rattle.lsys_reading.specs.Points.{at_state, after_head, after_condition, after_weight, after_expr, body_with, stops, too_deep, taken, rule_from, point_from, verdict_at, Leads, head_step, condition_step, weight_step}
+use Rattle.lsys_syntax.specs.RulePoints.{by_extent, at_state, after_head, after_condition, after_weight, after_expr, body_with, stops, too_deep, taken, rule_from, point_from, verdict_at, Leads, head_step, condition_step, weight_step}
 use Rattle.lsys_reading.specs.Glyphs.{IsGlyph, IsPeeked, is_colon, is_arrow}
 use Rattle.lsys_reading.specs.Reads.{Refuses}
 use Rattle.lsys_reading.specs.Heads.{form_in, takes_weight}
 use Rattle.lsys_reading.specs.Refusals.{refusal_at}
 use Rattle.lsys_reading.specs.Spans.{part, expr_at, IsSpan, IsExpressionRead, IsConditionRead, IsWeightRead, IsArrowRead}
-use Rattle.lsys_reading.proofs.PointLaws.{leads-on, leads-stay, leads-token, by_extent, rule-expr}
+use Rattle.lsys_syntax.proofs.RulePoints.{leads-on, leads-stay, leads-token, rule-expr}
 use Rattle.lsys_reading.proofs.ReadLaws.{refuses-on}
 use Rattle.lsys_reading.proofs.HeadLaws.{seen}
 

@@ -10,7 +10,7 @@ use Rattle.lsys_text.specs.Tokens.{kind_of, kinds_of, token_of}
 use Rattle.lsys_text.specs.declared.token_kind.Token.{Token}
 use Rattle.lsys_syntax.specs.Tokens.{Kind}
 use Rattle.lsys_syntax.specs.Sentences.{AreTokens, IsToken}
-use Rattle.lsys_reading.specs.Points.{Here}
+use Rattle.lsys_syntax.specs.RulePoints.{Here}
 use Rattle.lsys_reading.specs.Glyphs.{IsGlyph, IsPeeked}
 
 drop-kind : (ts : List Token) (at : ℕ) (t : Token) → at < length ts → t ≡ get_or ts at t → drop at (kinds_of ts) ≡ kind_of t.kind ∷ drop (suc at) (kinds_of ts)

@@ -4,7 +4,7 @@ use Rattle.lsys_syntax.specs.Tokens.{Kind, Name, Number, Word, LongWord, BigNumb
 use Rattle.lsys_syntax.specs.Strings.{ModuleName, named, name_kind}
 use Rattle.lsys_text.specs.Tokens.{name_of}
 use Rattle.lsys_module.specs.Views.{module_name}
-use Rattle.lsys_reading.specs.Points.{Here}
+use Rattle.lsys_syntax.specs.RulePoints.{Here}
 use Rattle.lsys_reading.specs.declared.glyph.Glyph.{Glyph}
 use Rattle.lsys_reading.specs.declared.glyph.Glyph.TheVariants as glyphs
 use Rattle.lsys_reading.specs.declared.glyph.Separator.{Separator}

@@ -3,7 +3,7 @@ use Rattle.std.specs.Prelude.{◌≡◌, ◌+◌, ℕ, Result, Ok, Err, List, dr
 use Rattle.lsys_syntax.specs.Tokens.{Kind, Colon}
 use Rattle.lsys_syntax.specs.RuleMachine.{start}
 use Rattle.lsys_syntax.specs.LineMachine.{State, InProduction, InHomomorphism}
-use Rattle.lsys_reading.specs.Points.{Here}
+use Rattle.lsys_syntax.specs.RulePoints.{Here}
 use Rattle.lsys_reading.specs.Lines.{at_front}
 use Rattle.lsys_reading.specs.declared.refusal.PartRefusal.{PartRefusal}
 use Rattle.lsys_reading.specs.declared.refusal.PartRefusal.TheVariants.{Token}

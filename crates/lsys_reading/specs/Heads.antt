@@ -5,7 +5,7 @@ use Rattle.lsys_syntax.specs.Strings as S
 use Rattle.lsys_syntax.specs.RuleMachine as machine
 use Rattle.lsys_text.specs.Tokens.{name_of}
 use Rattle.lsys_module.specs.Views.{module_name}
-use Rattle.lsys_reading.specs.Points.{at_state, after_predecessor, after_head, head_with}
+use Rattle.lsys_syntax.specs.RulePoints.{at_state, after_predecessor, after_head, head_with}
 use Rattle.lsys_reading.specs.Reads.{IsRead}
 use Rattle.lsys_reading.specs.Patterns.{pattern_of, is_empty}
 use Rattle.lsys_reading.specs.declared.refusal.PartRefusal.{PartRefusal}

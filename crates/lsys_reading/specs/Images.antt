@@ -7,7 +7,7 @@ use Rattle.lsys_syntax.specs.Expressions.{Expr}
 use Rattle.lsys_syntax.specs.RuleMachine as machine
 use Rattle.lsys_syntax.specs.RuleMachine.{Body, State, InExpr, as_param, Successor, expr_start, reversed, open_in, rule_with}
 use Rattle.lsys_module.specs.Views.{module_name}
-use Rattle.lsys_reading.specs.Points.{whole, at_state, after_image, verdict_at}
+use Rattle.lsys_syntax.specs.RulePoints.{whole, at_state, after_image, verdict_at}
 use Rattle.lsys_reading.specs.Reads.{Refuses, IsRead}
 use Rattle.lsys_reading.specs.Heads.{form_in}
 use Rattle.lsys_reading.specs.Spans.{expr_at, AreSpans}

@@ -6,7 +6,7 @@ use Rattle.lsys_syntax.specs.Commands.{Command}
 use Rattle.lsys_syntax.specs.RuleMachine as rules
 use Rattle.lsys_syntax.specs.LineMachine.{State, Whole, Verdict, sentence, stops, too_deep, verdict_from, finish, step, word_step, number_step}
 use Rattle.lsys_module.specs.Views.{module_name}
-use Rattle.lsys_reading.specs.Points.{Here}
+use Rattle.lsys_syntax.specs.RulePoints.{Here}
 use Rattle.lsys_reading.specs.declared.refusal.PartRefusal.{PartRefusal}
 use Rattle.lsys_reading.specs.declared.refusal.PartRefusal.TheVariants.{Token, Deep, Memory}
 

@@ -5,7 +5,7 @@ use Rattle.lsys_syntax.specs.Strings as S
 use Rattle.lsys_syntax.specs.RuleMachine.{Form, production, homomorphism, Part, at_first, at_predecessor, at_right, Formals, open_in, reversed}
 use Rattle.lsys_text.specs.Tokens.{name_of}
 use Rattle.lsys_module.specs.Views.{module_name}
-use Rattle.lsys_reading.specs.Points.{Point, at_state, after_symbol, after_symbols}
+use Rattle.lsys_syntax.specs.RulePoints.{Point, at_state, after_symbol, after_symbols}
 use Rattle.lsys_reading.specs.Reads.{IsRead}
 use Rattle.lsys_reading.specs.declared.refusal.PartRefusal.{PartRefusal}
 use Rattle.lsys_reading.specs.declared.glyph.Glyph.{Glyph}

@@ -4,7 +4,7 @@ use Rattle.lsys_syntax.specs.Tokens.{NameText, Kind}
 use Rattle.lsys_syntax.specs.Strings.{ModuleName, Symbol, Module}
 use Rattle.lsys_syntax.specs.RuleMachine.{Form, Part, State, Formals, FormalDue, reversed}
 use Rattle.lsys_text.specs.Tokens.{name_of}
-use Rattle.lsys_reading.specs.Points.{stops, too_deep, Point, at_state, verdict_at, Leads}
+use Rattle.lsys_syntax.specs.RulePoints.{stops, too_deep, Point, at_state, verdict_at, Leads}
 use Rattle.lsys_reading.specs.declared.refusal.PartRefusal.{PartRefusal}
 use Rattle.lsys_reading.specs.declared.refusal.PartRefusal.TheVariants.{Token, Deep, Memory}
 use Rattle.lsys_reading.specs.declared.glyph.Separator.{Separator}

@@ -4,7 +4,7 @@ use Rattle.lsys_syntax.specs.Tokens.{Kind}
 use Rattle.lsys_syntax.specs.Rules.{Rule}
 use Rattle.lsys_syntax.specs.RuleMachine.{start, rule_with}
 use Rattle.lsys_module.specs.Views.{module_name}
-use Rattle.lsys_reading.specs.Points.{Line, form_of, line_state, line_command, whole, at_state, verdict_at, head_with, body_with}
+use Rattle.lsys_syntax.specs.RulePoints.{Line, form_of, line_state, line_command, whole, at_state, verdict_at, head_with, body_with}
 use Rattle.lsys_reading.specs.Lines.{IsRest}
 use Rattle.lsys_reading.specs.Reads.{Refuses}
 use Rattle.lsys_reading.specs.Heads.{form_in, patterns_of, formals_of}

@@ -6,7 +6,7 @@ use Rattle.lsys_syntax.specs.ExpressionPlaces.{read_expr}
 use Rattle.lsys_syntax.specs.RuleMachine as machine
 use Rattle.lsys_syntax.specs.RuleMachine.{Head, Body, Spot, InExpr, Successor, expr_start}
 use Rattle.lsys_expr.specs.Codes.{any_expr}
-use Rattle.lsys_reading.specs.Points.{at_state, after_head, after_condition, after_weight, after_expr, body_with}
+use Rattle.lsys_syntax.specs.RulePoints.{at_state, after_head, after_condition, after_weight, after_expr, body_with}
 use Rattle.lsys_reading.specs.Reads.{IsRead}
 use Rattle.lsys_reading.specs.Heads.{form_in}
 use Rattle.lsys_reading.specs.declared.refusal.PartRefusal.{PartRefusal}

@@ -1,5 +1,5 @@
 //! Commands.
-ghost use Rattle.std.specs.Prelude.{◌≡◌, ◌≤◌, length, All};
+ghost use Rattle.std.specs.Prelude.{◌≡◌};
 ghost use Rattle.lsys_syntax.specs.Sentences.{AreTokens};
 ghost use Rattle.lsys_text.specs.Tokens.{kinds_of};
 ghost use Rattle.lsys_module.specs.Building.{AreOfLine};
@@ -66,7 +66,6 @@ impl Command {
     /// The tokens of its line.
     pub fn tokens(&self) -> &[Token]
         ensures tokens { result.now ≡ self.now }
-        ensures few { length self.now ≤ 65536 }
         ensures forms { AreTokens (kinds_of self.now) }
         ensures line { AreOfLine self.now }
     {

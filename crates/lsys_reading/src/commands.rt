@@ -38,11 +38,7 @@ fn command(line: &LineTokens) -> Result<CommandWord, PartRefusal>
 }
 
 // What stands behind this word.
-fn parts_behind(
-    alloc: Global,
-    line: &LineTokens,
-    word: CommandWord,
-) -> Result<Parts, PartRefusal>
+fn parts_behind(alloc: Global, line: &LineTokens, word: CommandWord) -> Result<Parts, PartRefusal>
     requires { 1 ≤ size line.now }
     ensures rest { IsRest (kinds_in line.now) 1 (word_state word) (parts_command (kinds_in line.now)) result }
     ensures parts { IfOk result (AreParts (kinds_in line.now)) }
@@ -138,7 +134,9 @@ fn ignore(alloc: Global, line: &LineTokens) -> Result<Parts, PartRefusal>
     let mut names = Vec::new(alloc);
     let mut at = 1;
     'names: while at < line.len() {
-        names.push(name(line, at)?).map_err(|_| PartRefusal::Memory)?;
+        names
+            .push(name(line, at)?)
+            .map_err(|_| PartRefusal::Memory)?;
         at += 1;
     }
     Ok(Parts::Ignore(names))
@@ -154,7 +152,9 @@ fn schedule(alloc: Global, line: &LineTokens) -> Result<Parts, PartRefusal>
     tables.push(first).map_err(|_| PartRefusal::Memory)?;
     let mut at = 2;
     'tables: while at < line.len() {
-        tables.push(word(line, at)?).map_err(|_| PartRefusal::Memory)?;
+        tables
+            .push(word(line, at)?)
+            .map_err(|_| PartRefusal::Memory)?;
         at += 1;
     }
     Ok(Parts::Schedule(tables))

@@ -4,8 +4,8 @@ ghost use Rattle.lsys_reading.specs.Tokens.{kinds_in, size};
 ghost use Rattle.lsys_reading.specs.Reads.{IsFormalRead, AreFormalsRead};
 
 use crate::glyph::{Separator, peek};
-use crate::refusal::PartRefusal;
 use crate::line_tokens::LineTokens;
+use crate::refusal::PartRefusal;
 use lsys_text::Name;
 use std::alloc::Global;
 

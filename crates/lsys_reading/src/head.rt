@@ -5,9 +5,9 @@ ghost use Rattle.lsys_reading.specs.Heads.{only_of, IsSingle, IsContext, IsPrede
 
 use crate::form::Form;
 use crate::glyph::peek;
+use crate::line_tokens::LineTokens;
 use crate::patterns::{Pattern, PatternModule, PatternsRead, Section, patterns};
 use crate::refusal::PartRefusal;
-use crate::line_tokens::LineTokens;
 use std::alloc::Global;
 
 /// A left context and a predecessor, up to the token behind them.

@@ -6,8 +6,8 @@ ghost use Rattle.lsys_reading.specs.Images.{image_opening_of, image_branches, Im
 
 use crate::form::Form;
 use crate::glyph::{Glyph, Separator, peek};
-use crate::refusal::PartRefusal;
 use crate::line_tokens::LineTokens;
+use crate::refusal::PartRefusal;
 use crate::span::{Span, expression};
 use lsys_text::Name;
 use std::alloc::Global;

@@ -1,5 +1,6 @@
 //! The tokens of a line.
-ghost use Rattle.std.specs.Prelude.{◌≤◌, length, All};
+ghost use Rattle.std.specs.Prelude.{◌≤◌, All};
+ghost use Rattle.lsys_syntax.specs.Limits.{most_line_bytes};
 ghost use Rattle.lsys_syntax.specs.Sentences.{AreTokens};
 ghost use Rattle.lsys_text.specs.Tokens.{kinds_of, IsWithin};
 ghost use Rattle.lsys_reading.specs.Forms.{tokens-prop};
@@ -13,7 +14,6 @@ pub struct LineTokens {
     /// How many bytes the line has, without its LF and the CR before it.
     pub(crate) bytes: u32,
     ghost forms: { AreTokens (kinds_of tokens.items) } by { tokens-prop (kinds_of tokens.items) },
-    ghost few: { length tokens.items ≤ 65536 },
     ghost placed: { All (IsWithin bytes) tokens.items },
-    ghost short: { bytes ≤ 65536 },
+    ghost short: { bytes ≤ most_line_bytes },
 }

@@ -1,5 +1,6 @@
 //! Tokens as commands.
-ghost use Rattle.std.specs.Prelude.{◌≤◌, length, All};
+ghost use Rattle.std.specs.Prelude.{◌≤◌, All};
+ghost use Rattle.lsys_syntax.specs.Limits.{most_line_bytes};
 ghost use Rattle.lsys_syntax.specs.Sentences.{AreTokens};
 ghost use Rattle.lsys_text.specs.Tokens.{kinds_of, IsWithin};
 ghost use Rattle.lsys_reading.specs.Parsing.{IsParsed};
@@ -19,8 +20,7 @@ use std::alloc::Global;
 /// `Token` and `Deep` have the column of the first token with which no command goes on, or the one behind the line's
 /// end, and `Memory` is want of memory. `Form` never comes.
 pub fn parse_command(alloc: Global, tokens: &[Token], line_length: u32) -> Result<Command, Refusal>
-    requires few { length tokens.now ≤ 65536 }
-    requires short { line_length ≤ 65536 }
+    requires short { line_length ≤ most_line_bytes }
     requires forms { AreTokens (kinds_of tokens.now) }
     requires line { All (IsWithin line_length) tokens.now }
     ensures { IsParsed tokens.now line_length result }

@@ -6,8 +6,8 @@ ghost use Rattle.lsys_reading.specs.Patterns.{pattern_of, takes_name, opening_of
 
 use crate::formals::{FormalsRead, formals};
 use crate::glyph::{Glyph, peek};
-use crate::refusal::PartRefusal;
 use crate::line_tokens::LineTokens;
+use crate::refusal::PartRefusal;
 use lsys_text::Name;
 use std::alloc::Global;
 
@@ -100,7 +100,12 @@ impl Standing {
 }
 
 // A module behind its name.
-fn module(alloc: Global, line: &LineTokens, at: usize, name: Name) -> Result<ModuleRead, PartRefusal>
+fn module(
+    alloc: Global,
+    line: &LineTokens,
+    at: usize,
+    name: Name,
+) -> Result<ModuleRead, PartRefusal>
     requires within { at ≤ size line.now }
     ensures read { IsModuleRead name (kinds_in line.now) at result }
     ensures name { IfOk result (λ x. x.pattern.name ≡ name) }

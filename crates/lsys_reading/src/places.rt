@@ -1,7 +1,7 @@
 //! The places of a line's tokens.
 ghost use Rattle.std.specs.Prelude.{◌≡◌, [], drop, MatchOption};
 ghost use Rattle.lsys_text.specs.Tokens.{kind_of};
-ghost use Rattle.lsys_reading.specs.Points.{Here};
+ghost use Rattle.lsys_syntax.specs.RulePoints.{Here};
 ghost use Rattle.lsys_reading.specs.Tokens.{kinds_in, size, column_in};
 ghost use Rattle.lsys_reading.specs.Refusals.{refusal_in};
 

@@ -6,9 +6,9 @@ ghost use Rattle.lsys_reading.specs.RuleLines.{IsRuleLine, IsRuleRead, IsLineRea
 use crate::form::Form;
 use crate::head::head;
 use crate::images::{Image, successor};
+use crate::line_tokens::LineTokens;
 use crate::patterns::{Pattern, PatternModule};
 use crate::refusal::PartRefusal;
-use crate::line_tokens::LineTokens;
 use crate::span::{Span, arrow, condition, weight};
 use std::alloc::Global;
 

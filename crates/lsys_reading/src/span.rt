@@ -5,8 +5,8 @@ ghost use Rattle.lsys_reading.specs.Spans.{IsSpan, ConditionIsSpan, IsExpression
 
 use crate::form::Form;
 use crate::glyph::peek;
-use crate::refusal::PartRefusal;
 use crate::line_tokens::LineTokens;
+use crate::refusal::PartRefusal;
 use lsys_expr::scan_expr;
 
 /// The tokens of an expression: from number `from` up to number `to`, that one left out.

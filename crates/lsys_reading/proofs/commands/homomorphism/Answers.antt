@@ -1,7 +1,7 @@
 use Rattle.std.proofs.Common.{refl, ◌∙◌}
 use Rattle.std.proofs.lemmas.Result.{err_from_is_err_and}
 use Rattle.lsys_syntax.specs.LineMachine.{LabelDue}
-use Rattle.lsys_reading.specs.Points.{homomorphism_of}
+use Rattle.lsys_syntax.specs.RulePoints.{homomorphism_of}
 use Rattle.lsys_reading.specs.Tokens.{kinds_in}
 use Rattle.lsys_reading.specs.Headings.{homomorphism_behind}
 use Rattle.lsys_reading.proofs.LineParts.{refused-on}

@@ -2,6 +2,7 @@
 use Rattle.std.proofs.Common.{◌≡◌, ◌≤◌, ◌+◌, ℕ, zero, suc, Bool, true, false, Option, Some, None, List, [], ◌∷◌, drop, length, nat_lt, cond, refl, ap, sym, ◌∙◌, add-one, arith}
 use Rattle.std.specs.Prelude.{option_map}
 use Rattle.lsys_syntax.specs.Commands.{put_production, put_homomorphism}
+use Rattle.lsys_syntax.specs.Limits.{nesting_bound}
 use Rattle.lsys_syntax.specs.Tokens.{Kind, Equal, Unequal, AtMost, AtLeast, Less, Greater}
 use Rattle.lsys_syntax.specs.Expressions.{Expr}
 use Rattle.lsys_syntax.specs.ExpressionMachine as E
@@ -12,7 +13,7 @@ use Rattle.lsys_syntax.specs.Rules.{Rule}
 use Rattle.lsys_syntax.specs.LineMachine as L
 use Rattle.lsys_syntax.specs.RuleMachine.{Form, production, homomorphism, Spot, State, Formals, FormalDue, FormalRead, InExpr, Successor, Stop, small, done_step, within, expr_start, step, whole}
 use Rattle.lsys_syntax.proofs.Extents.{IsComparison, stop-compares}
-use Rattle.lsys_reading.specs.Points.{RuleVerdict, stops, too_deep, ended, taken, rule_from, Line, production_of, homomorphism_of, form_of, line_state, line_verdict, Point, at_state, after_expr, point_step, point_end, point_from, verdict_at, Leads, Here}
+use Rattle.lsys_syntax.specs.RulePoints.{RuleVerdict, stops, too_deep, ended, taken, rule_from, Line, production_of, homomorphism_of, form_of, line_state, line_verdict, Point, at_state, after_expr, point_step, point_end, point_from, by_extent, verdict_at, Leads, Here}
 
 -- 1. a state is a point
 
@@ -30,7 +31,7 @@ tested-production : (t : Option (List ℕ)) (l : List ℕ) (n : ℕ) (ks : List 
       | false ↦ elim (nat_lt L.nesting_bound (L.depth (L.unless_stop (L.InProduction t l) s))) [ true ↦ L.too_deep n | false ↦ L.verdict_from (n + 1) (L.unless_stop (L.InProduction t l) s) ks ]
     ] ≡ line_verdict (production_of t l) (taken n s v)
 tested-production t l n ks Stop v h = refl
-tested-production t l n ks (InExpr spot s) v h = by (nat_lt 32 (N.depth s)) h
+tested-production t l n ks (InExpr spot s) v h = by (nat_lt nesting_bound (N.depth s)) h
   where
     by : (b : Bool) → L.verdict_from (n + 1) (L.InProduction t l (InExpr spot s)) ks ≡ line_verdict (production_of t l) v
         → elim b [ true ↦ L.too_deep n | false ↦ L.verdict_from (n + 1) (L.InProduction t l (InExpr spot s)) ks ] ≡ line_verdict (production_of t l) (cond b (too_deep n) v)
@@ -48,7 +49,7 @@ tested-homomorphism : (l : List ℕ) (n : ℕ) (ks : List Kind) (s : State) (v :
       | false ↦ elim (nat_lt L.nesting_bound (L.depth (L.unless_stop (L.InHomomorphism l) s))) [ true ↦ L.too_deep n | false ↦ L.verdict_from (n + 1) (L.unless_stop (L.InHomomorphism l) s) ks ]
     ] ≡ line_verdict (homomorphism_of l) (taken n s v)
 tested-homomorphism l n ks Stop v h = refl
-tested-homomorphism l n ks (InExpr spot s) v h = by (nat_lt 32 (N.depth s)) h
+tested-homomorphism l n ks (InExpr spot s) v h = by (nat_lt nesting_bound (N.depth s)) h
   where
     by : (b : Bool) → L.verdict_from (n + 1) (L.InHomomorphism l (InExpr spot s)) ks ≡ line_verdict (homomorphism_of l) v
         → elim b [ true ↦ L.too_deep n | false ↦ L.verdict_from (n + 1) (L.InHomomorphism l (InExpr spot s)) ks ] ≡ line_verdict (homomorphism_of l) (cond b (too_deep n) v)
@@ -119,12 +120,6 @@ same-end m ks at p q h e = ap (point_from m at p) h ∙ ap (ended at) e ∙ sym 
 
 -- 5. an expression inside of a rule
 
--- what its extent, counted from number b on, makes of the rule; all are the tokens from there on
-abbrev pub by_extent : Form → Spot → ℕ → List Kind → Extent → RuleVerdict
-by_extent m spot b all (X.ends d e) = point_from m (b + d) (after_expr spot e) (drop d all)
-by_extent m spot b all (X.stops d) = stops (b + d)
-by_extent m spot b all (X.too_deep d) = too_deep (b + d)
-
 -- a state that goes on inside of an expression
 abbrev IsInside : E.State → Type 0
 IsInside (E.Done e) = ⊥
@@ -165,22 +160,22 @@ module _ (m : Form) (spot : Spot) (b : ℕ) (all : List Kind) where
       → taken (b + n) (within m spot k x) (rule_from m (b + n + 1) (within m spot k x) ks) ≡ by_extent m spot b all (behind n s x rest)
   inside-step s (E.Done e) k ks n rest q d h = sym (ap (point_from m (b + n) (after_expr spot e)) d)
   inside-step s E.Stop k ks n rest q d h = inside-stop s k ks n q d
-  inside-step s (E.Due j) k ks n rest q d h = by (nat_lt 32 (N.depth (E.Due j)))
+  inside-step s (E.Due j) k ks n rest q d h = by (nat_lt nesting_bound (N.depth (E.Due j)))
     where
       by : (t : Bool) → cond t (too_deep (b + n)) (rule_from m (b + n + 1) (InExpr spot (E.Due j)) ks) ≡ by_extent m spot b all (cond t (X.too_deep n) rest)
       by true = refl
       by false = h tt
-  inside-step s (E.Have a j) k ks n rest q d h = by (nat_lt 32 (N.depth (E.Have a j)))
+  inside-step s (E.Have a j) k ks n rest q d h = by (nat_lt nesting_bound (N.depth (E.Have a j)))
     where
       by : (t : Bool) → cond t (too_deep (b + n)) (rule_from m (b + n + 1) (InExpr spot (E.Have a j)) ks) ≡ by_extent m spot b all (cond t (X.too_deep n) rest)
       by true = refl
       by false = h tt
-  inside-step s (E.HalfAnd a j) k ks n rest q d h = by (nat_lt 32 (N.depth (E.HalfAnd a j)))
+  inside-step s (E.HalfAnd a j) k ks n rest q d h = by (nat_lt nesting_bound (N.depth (E.HalfAnd a j)))
     where
       by : (t : Bool) → cond t (too_deep (b + n)) (rule_from m (b + n + 1) (InExpr spot (E.HalfAnd a j)) ks) ≡ by_extent m spot b all (cond t (X.too_deep n) rest)
       by true = refl
       by false = h tt
-  inside-step s (E.HalfOr a j) k ks n rest q d h = by (nat_lt 32 (N.depth (E.HalfOr a j)))
+  inside-step s (E.HalfOr a j) k ks n rest q d h = by (nat_lt nesting_bound (N.depth (E.HalfOr a j)))
     where
       by : (t : Bool) → cond t (too_deep (b + n)) (rule_from m (b + n + 1) (InExpr spot (E.HalfOr a j)) ks) ≡ by_extent m spot b all (cond t (X.too_deep n) rest)
       by true = refl
