@@ -17,6 +17,8 @@ mod places;
 mod refusal;
 mod rule;
 mod span;
+#[cfg(test)]
+mod tests;
 mod word;
 mod words;
 
