@@ -1,3 +1,4 @@
+pub mod Filtering
 pub mod Commands
 pub mod Appending
 pub mod Levels

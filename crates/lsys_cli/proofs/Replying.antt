@@ -6,14 +6,14 @@ use Rattle.lsys_spec.specs.Meaning.{meaning}
 use Rattle.lsys_spec.specs.Meaning as M
 use Rattle.lsys_spec.specs.Shown.{level_text}
 use Rattle.lsys_spec.specs.Levels.{Symbol}
-use Rattle.lsys_spec.specs.Replies.{level_at, string_line}
+use Rattle.lsys_spec.specs.Replies.{level_at, string_line, or_text, shown}
 use Rattle.lsys_spec.specs.Refusals.{Reply, said, refused, session_end, refused_memory, is_passed_over, derivation_text, line_feed}
-use Rattle.lsys_spec.specs.Interim.{bare_reply, printed, refused_form}
+use Rattle.lsys_spec.specs.Interim.{bare_reply, refused_form}
 use Rattle.lsys_spec.specs.Output.{memory_or}
 use Rattle.lsys_syntax.specs.Strings.{string_text}
 use Rattle.lsys_module.specs.Views.{string_of}
 use Rattle.lsys_module.specs.declared.symbol.Symbol as code
-use Rattle.lsys_cli.specs.Sessions.{AreLevels, Replies, bare_or_memory, refused_text}
+use Rattle.lsys_cli.specs.Sessions.{AreLevels, printed, Replies, bare_or_memory, refused_text}
 use Rattle.lsys_cli.specs.declared.session.Outcome.TheVariants.{Skipped, Accepted, Printed, Quit, Refused, Memory}
 use Rattle.lsys_cli.proofs.Levels.{level_line, numbered_line}
 
@@ -21,10 +21,10 @@ plainly : (limit : ℕ) (s : spec.System) (bare : List ℕ) (r : Reply) → bare
 plainly limit s bare r e m = sym e ∙ ap (λ b. memory_or (b && not (is_passed_over bare)) s (bare_reply limit s bare)) (sym m)
 
 put_level : (limit : ℕ) (s : spec.System) (bare : List ℕ) (w v : Option (List ℕ)) (t : Option ℕ) (levels : List (List Symbol)) (text : List ℕ) → meaning s limit ≡ Ok levels
-    → bare_reply limit s bare ≡ printed t s (meaning s limit) → text ≡ level_text (level_at t levels) → Appends w v (text ++ 10 ∷ []) → Replies limit s bare w v s Printed
+    → bare_reply limit s bare ≡ printed t s limit → text ≡ level_text (level_at t levels) → Appends w v (text ++ 10 ∷ []) → Replies limit s bare w v s Printed
 put_level limit s bare w v t levels text m e is_text put =
     let r = said s (string_line t levels) in
-    let is : bare_reply limit s bare ≡ r = e ∙ ap (printed t s) m in
+    let is : bare_reply limit s bare ≡ r = e ∙ ap (λ x. shown s (string_line t) (or_text derivation_text x)) m in
     (r, plainly limit s bare r is refl, rw is_text at put, refl, (refl, refl, refl))
 
 pub skipped : (limit : ℕ) (s : spec.System) (bare : List ℕ) (w : Option (List ℕ)) → bare_reply limit s bare ≡ said s [] → Appends w w [] → Replies limit s bare w w s Skipped
@@ -48,7 +48,7 @@ memory limit s bare w v e a =
     (refused_memory s, ap (λ b. memory_or (true && not b) s (bare_reply limit s bare)) (sym e), a, refl, (refl, refl, refl))
 
 pub level : (limit : ℕ) (s : spec.System) (bare : List ℕ) (w v : Option (List ℕ)) (rows : List (List code.Symbol)) (last : List code.Symbol) → AreLevels s limit rows
-    → bare_reply limit s bare ≡ printed None s (meaning s limit) → slice_get rows (length rows - 1) ≡ Some last
+    → bare_reply limit s bare ≡ printed None s limit → slice_get rows (length rows - 1) ≡ Some last
     → Appends w v (string_text (string_of last) ++ 10 ∷ []) → Replies limit s bare w v s Printed
 level limit s bare w v rows last k e l put =
     let levels = k.0.0 in
@@ -57,7 +57,7 @@ level limit s bare w v rows last k e l put =
     put_level limit s bare w v None levels (string_text (string_of last)) k.0.1 e text put
 
 pub numbered : (limit : ℕ) (s : spec.System) (bare : List ℕ) (w v : Option (List ℕ)) (rows : List (List code.Symbol)) (t : ℕ) (row : List code.Symbol) → AreLevels s limit rows
-    → bare_reply limit s bare ≡ printed (Some t) s (meaning s limit) → slice_get rows t ≡ Some row
+    → bare_reply limit s bare ≡ printed (Some t) s limit → slice_get rows t ≡ Some row
     → Appends w v (string_text (string_of row) ++ 10 ∷ []) → Replies limit s bare w v s Printed
 numbered limit s bare w v rows t row k e l put =
     let levels = k.0.0 in

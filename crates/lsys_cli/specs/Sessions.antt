@@ -3,12 +3,14 @@ use Rattle.std.specs.Prelude.{◌≡◌, ℕ, Bool, true, false, Option, Some, N
 use Rattle.std.specs.Io.KnownBytes.{Appends}
 use Rattle.lsys_spec.specs.Systems as spec
 use Rattle.lsys_spec.specs.Output.{memory_or, reply_or_memory}
-use Rattle.lsys_spec.specs.Meaning.{meaning, OverLimit, FaultAt}
+use Rattle.lsys_spec.specs.Meaning.{OverLimit, FaultAt}
 use Rattle.lsys_spec.specs.Meaning as M
 use Rattle.lsys_spec.specs.Refusals.{Reply, said, refused, session_end, is_passed_over, derivation_text, line_feed}
-use Rattle.lsys_spec.specs.Interim.{bare_reply, reply, command_reply, printed, refused_form}
-use Rattle.lsys_spec.specs.Interim as interim
+use Rattle.lsys_spec.specs.ReadBack.{spelled_by}
+use Rattle.lsys_spec.specs.Replies as language
+use Rattle.lsys_spec.specs.Interim.{where_had, filtered, bare_reply, reply, refused_form}
 use Rattle.lsys_syntax.specs.Tokens.{tokens}
+use Rattle.lsys_syntax.specs.Commands as spec_commands
 use Rattle.lsys_module.specs.declared.symbol.Symbol.{Symbol}
 use Rattle.lsys_rules.specs.Systems.{system_of}
 use Rattle.lsys_rules.specs.Commands.{command_of, kind_of_command}
@@ -31,10 +33,10 @@ AreLevels s limit rows = IsMeaning s limit (Ok rows) × (length rows ≡ s.depth
 abbrev pub KeepsLevels : Session → Type 0
 KeepsLevels s = AreLevels (system_of s.system) s.limit s.rows
 
--- the command that a line spells, or it spells none
+-- the command of the program that a line spells, or it spells none
 abbrev pub IsCommandOf : List ℕ → Result Command Refusal → Type 0
-IsCommandOf bare (Ok c) = interim.command_of (tokens bare) ≡ Some (command_of c)
-IsCommandOf bare (Err refusals.Form) = interim.command_of (tokens bare) ≡ None
+IsCommandOf bare (Ok c) = where_had (spelled_by (tokens bare)) ≡ Some (command_of c)
+IsCommandOf bare (Err refusals.Form) = where_had (spelled_by (tokens bare)) ≡ None
 IsCommandOf bare (Err refusals.Memory) = Unit {0}
 
 -- a level that is asked for by its number is there
@@ -42,20 +44,28 @@ abbrev pub HasLevel : ℕ → Option ℕ → Type 0
 HasLevel depth None = Unit {0}
 HasLevel depth (Some t) = t ≤ depth
 
+-- a level's line, or why the system has no levels
+abbrev pub printed : Option ℕ → spec.System → ℕ → Reply
+printed t s limit = language.shown s (language.string_line t) (language.levels_of limit s)
+
 -- the reply that an answer stands for; want of memory has none here
 abbrev pub ReplyIs : Session → Reply → Answer → Type 0
 ReplyIs s r Skipped = r ≡ said (system_of s.system) []
 ReplyIs s r (Edited system rows) = (r ≡ said (system_of system) (codes "ok" ++ line_feed)) × AreLevels (system_of system) s.limit rows
-ReplyIs s r (Printed t) = HasLevel s.system.depth t × (r ≡ printed t (system_of s.system) (meaning (system_of s.system) s.limit))
+ReplyIs s r (Printed t) = HasLevel s.system.depth t × (r ≡ printed t (system_of s.system) s.limit)
 ReplyIs s r Quit = r ≡ session_end (system_of s.system)
 ReplyIs s r Form = r ≡ refused_form (system_of s.system)
 ReplyIs s r (Fault kind t n) = r ≡ refused (system_of s.system) (derivation_text (FaultAt (fault_of kind) t n))
 ReplyIs s r (Limit t) = r ≡ refused (system_of s.system) (derivation_text (OverLimit t))
 ReplyIs s r Memory = Unit {0}
 
+-- the reply to a line that spells the command
+abbrev pub command_reply : ℕ → spec.System → spec_commands.Command → Reply
+command_reply limit s c = filtered s (Some c) (language.accepted limit s c)
+
 -- what a command is answered
 abbrev pub IsResponse : Session → Command → Answer → Type 0
-IsResponse s c a = ReplyIs s (command_reply s.limit (system_of s.system) (Some (command_of c))) a
+IsResponse s c a = ReplyIs s (command_reply s.limit (system_of s.system) (command_of c)) a
 
 -- the command changes the system
 abbrev pub IsEdit : Command → Type 0

@@ -3,16 +3,16 @@ ghost use Rattle.std.specs.Prelude.{◌≡◌, ℕ, List, [], ◌∷◌, ◌++�
 ghost use Rattle.std.specs.Io.KnownBytes.{Appends, append_known};
 ghost use Rattle.lsys_io.specs.Causes.{Rose};
 ghost use Rattle.lsys_spec.specs.Refusals.{is_passed_over, with_number};
+ghost use Rattle.lsys_syntax.specs.Limits.{most_line_bytes};
 ghost use Rattle.lsys_syntax.specs.Lines.{is_blank_line, is_comment};
 ghost use Rattle.lsys_syntax.specs.Strings.{string_text};
 ghost use Rattle.lsys_module.specs.Views.{string_of};
 ghost use Rattle.lsys_rules.specs.Systems.{system_of};
 ghost use Rattle.lsys_spec.specs.Systems.{opening};
 ghost use Rattle.lsys_spec.specs.Meaning.{OverLimit, FaultAt};
-ghost use Rattle.lsys_spec.specs.Interim.{command_reply};
 ghost use Rattle.lsys_syntax.specs.Commands as commands;
 ghost use Rattle.lsys_flat.specs.Faults.{fault_of};
-ghost use Rattle.lsys_cli.specs.Sessions.{KeepsLevels, IsCommandOf, IsResponse, IsEdit, ReplyIs, IsAnswer, Replies, refused_text};
+ghost use Rattle.lsys_cli.specs.Sessions.{KeepsLevels, IsCommandOf, command_reply, IsResponse, IsEdit, ReplyIs, IsAnswer, Replies, refused_text};
 
 use lsys_flat::{DeriveRefusal, FaultKind, Rows, derive};
 use lsys_io::{Buffered, Failed, Sink};
@@ -107,7 +107,7 @@ impl Session {
     ) -> Result<Outcome, Failed>
         requires holds { KeepsLevels self.old }
         requires empty { out.old ≡ [] }
-        requires short { length line.now ≤ 65536 }
+        requires short { length line.now ≤ most_line_bytes }
         ensures replies { IfOk result (λ o. Replies self.old.limit (system_of self.old.system) line.now (K.written sink.old) (K.written sink.new) (system_of self.new.system) o) }
         ensures holds { OnOk result (KeepsLevels self.new) }
         ensures limit { self.new.limit ≡ self.old.limit }
@@ -190,7 +190,7 @@ fn is_blank(line: &[u8]) -> bool
 
 /// The command of a line.
 fn command_in(alloc: Global, line: &[u8]) -> Result<Command, Refusal>
-    requires { length line.now ≤ 65536 }
+    requires { length line.now ≤ most_line_bytes }
     ensures { IsCommandOf line.now result }
 {
     match tokens(alloc, line) {
@@ -241,7 +241,7 @@ fn respond(alloc: Global, session: &Session, command: &Command) -> Answer
 
 /// What a query for a level is answered, or for the last one without a number.
 fn printed(session: &Session, level: Option<u64>) -> Answer
-    ensures { ReplyIs session.now (command_reply session.now.limit (system_of session.now.system) (Some (commands.print_string level))) result }
+    ensures { ReplyIs session.now (command_reply session.now.limit (system_of session.now.system) (commands.print_string level)) result }
 {
     match level {
         None => Answer::Printed { level: None },
@@ -254,7 +254,7 @@ fn printed(session: &Session, level: Option<u64>) -> Answer
 
 /// What a line is answered.
 fn answer_to(alloc: Global, session: &Session, line: &[u8]) -> Answer
-    requires { length line.now ≤ 65536 }
+    requires { length line.now ≤ most_line_bytes }
     ensures { IsAnswer session.now line.now result }
 {
     if passes_over(line) {

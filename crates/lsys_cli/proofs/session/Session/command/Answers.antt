@@ -1,8 +1,9 @@
 use Rattle.std.proofs.Common.{◌≡◌, subst}
 use Rattle.lsys_cli.proofs.Replying.{skipped, accepted, form, refusal, memory, level, numbered, quits}
 use Rattle.lsys_cli.proofs.Appending.{nothing}
-use Rattle.lsys_spec.specs.Interim.{bare_reply, printed}
-use Rattle.lsys_spec.specs.Meaning.{meaning, OverLimit, FaultAt}
+use Rattle.lsys_spec.specs.Interim.{bare_reply}
+use Rattle.lsys_cli.specs.Sessions.{printed}
+use Rattle.lsys_spec.specs.Meaning.{OverLimit, FaultAt}
 use Rattle.lsys_flat.specs.Faults.{fault_of}
 use Rattle.lsys_rules.specs.Systems.{system_of}
 use Rattle.lsys_cli.proofs.session.Session.command.Goals as goal
@@ -19,12 +20,12 @@ returns-in_ok-say-in-Edited-clause-replies g c =
 pub returns-in_ok-say_level-in-Printed-None-clause-replies : goal.returns-in_ok-say_level-in-Printed-None-clause-replies
 returns-in_ok-say_level-in-Printed-None-clause-replies g c =
     level c.args.self.now.limit (system_of c.args.self.now.system) c.args.line.now (g.K.Sink.written c.args.sink.now) (g.K.Sink.written c.say_level.new.sink)
-    c.args.self.now.rows c.last.result.now c.requires.holds (subst (λ t. bare_reply c.args.self.now.limit (system_of c.args.self.now.system) c.args.line.now ≡ printed t (system_of c.args.self.now.system) (meaning (system_of c.args.self.now.system) c.args.self.now.limit)) c.in-Printed-None.level-is c.in-Printed-None.ensures.0.1) c.last.ensures c.in_ok-say_level-in-Printed-None.ensures.said
+    c.args.self.now.rows c.last.result.now c.requires.holds (subst (λ t. bare_reply c.args.self.now.limit (system_of c.args.self.now.system) c.args.line.now ≡ printed t (system_of c.args.self.now.system) c.args.self.now.limit) c.in-Printed-None.level-is c.in-Printed-None.ensures.0.1) c.last.ensures c.in_ok-say_level-in-Printed-None.ensures.said
 
 pub returns-in_ok-say_level-in-Printed-Some-clause-replies : goal.returns-in_ok-say_level-in-Printed-Some-clause-replies
 returns-in_ok-say_level-in-Printed-Some-clause-replies g c =
     numbered c.args.self.now.limit (system_of c.args.self.now.system) c.args.line.now (g.K.Sink.written c.args.sink.now) (g.K.Sink.written c.say_level-in-Printed-Some.new.sink)
-    c.args.self.now.rows c.in-Printed-Some.level c.string.result.now c.requires.holds (subst (λ t. bare_reply c.args.self.now.limit (system_of c.args.self.now.system) c.args.line.now ≡ printed t (system_of c.args.self.now.system) (meaning (system_of c.args.self.now.system) c.args.self.now.limit)) c.in-Printed-Some.level-is c.in-Printed-Some.ensures.0.1) c.string.ensures c.in_ok-say_level-in-Printed-Some.ensures.said
+    c.args.self.now.rows c.in-Printed-Some.level c.string.result.now c.requires.holds (subst (λ t. bare_reply c.args.self.now.limit (system_of c.args.self.now.system) c.args.line.now ≡ printed t (system_of c.args.self.now.system) c.args.self.now.limit) c.in-Printed-Some.level-is c.in-Printed-Some.ensures.0.1) c.string.ensures c.in_ok-say_level-in-Printed-Some.ensures.said
 
 pub returns-in-Quit-clause-replies : goal.returns-in-Quit-clause-replies
 returns-in-Quit-clause-replies g c =
