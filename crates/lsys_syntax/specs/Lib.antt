@@ -15,3 +15,4 @@ pub mod ExpressionPlaces
 pub mod LineMachine
 pub mod Sentences
 pub mod Examples
+pub mod RulePoints

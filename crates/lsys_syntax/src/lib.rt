@@ -14,7 +14,9 @@ ghost use Rattle.lsys_syntax.specs.Expressions.{Expr, expr_kinds, IsExpr};
 ghost use Rattle.lsys_syntax.specs.Nesting.{expr_nesting};
 ghost use Rattle.lsys_syntax.specs.ExpressionPlaces as places;
 ghost use Rattle.lsys_syntax.specs.ExpressionPlaces.{BeginsExpression, IsAnyExpression, BeginsAnyExpression, CantGoOn, read_expr, extent, ends};
-ghost use Rattle.lsys_syntax.specs.LineMachine.{verdict, sentence, stops, too_deep};
+ghost use Rattle.lsys_syntax.specs.LineMachine.{verdict, verdict_from, sentence, stops, too_deep};
+ghost use Rattle.lsys_syntax.specs.RuleMachine as rules;
+ghost use Rattle.lsys_syntax.specs.RulePoints.{Line, form_of, line_state, line_verdict, rule_from, by_extent};
 ghost use Rattle.lsys_syntax.specs.Sentences.{AreTokens, IsSpelled, Begins, BeginsDeep, IsSpelling};
 
 /// A law of lines: the lines of a script that begins with LF are an empty line and the lines of the rest.
@@ -93,6 +95,15 @@ pub fn law_of_expression_places()
         → extent (expr_kinds expr ++ rest) ≡ ends (length (expr_kinds expr)) expr }
     ensures read { (kinds : List Kind) (place : ℕ) (expr : Expr) → extent kinds ≡ ends place expr
         → read_expr (take place kinds) ≡ Some expr }
+{}
+
+/// A law of rules: the verdict on a line behind the colon of its label is that on its rule. Where an expression stands
+/// next, a rule stops or nests too deep where that expression does, or goes on behind it.
+pub fn law_of_rule_parts()
+    ensures lines { (line : Line) (kinds : List Kind) (place : ℕ) (state : rules.State)
+        → verdict_from place (line_state line state) kinds ≡ line_verdict line (rule_from (form_of line) place state kinds) }
+    ensures expressions { (form : rules.Form) (spot : rules.Spot) (place : ℕ) (kinds : List Kind)
+        → rule_from form place (rules.InExpr spot rules.expr_start) kinds ≡ by_extent form spot place kinds (extent kinds) }
 {}
 
 /// A law of printed commands: the line of each is read as the tokens that it was printed from, each at the place

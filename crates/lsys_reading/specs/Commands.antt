@@ -1,0 +1,50 @@
+-- The command that tokens spell, by the parts that they are.
+use Rattle.std.specs.Prelude.{◌≡◌, Option, Some, None, List, [], map, drop}
+use Rattle.lsys_syntax.specs.Tokens.{Kind}
+use Rattle.lsys_syntax.specs.Strings.{Symbol, Signed}
+use Rattle.lsys_syntax.specs.Commands as spec
+use Rattle.lsys_syntax.specs.LineMachine.{InAxiom, Symbols, Verdict, sentence}
+use Rattle.lsys_module.specs.Views.{module_name}
+use Rattle.lsys_reading.specs.declared.parts.LatticeName.{LatticeName}
+use Rattle.lsys_reading.specs.declared.parts.LatticeName.TheVariants as lattices
+use Rattle.lsys_reading.specs.declared.parts.Parts.{Parts}
+use Rattle.lsys_reading.specs.declared.parts.Parts.TheVariants.{Axiom, Production, Drop, Ignore, Schedule, Seed, Depth, Lattice, Homomorphism, String, Segments, Svg, Show, Quit}
+use Rattle.lsys_reading.specs.RuleLines.{rule_at, IsRuleLine}
+use Rattle.lsys_reading.specs.Lines.{line_at}
+
+abbrev pub lattice_of : LatticeName → spec.Lattice
+lattice_of lattices.Square = spec.square
+lattice_of lattices.Hexagonal = spec.hexagonal
+lattice_of lattices.Cubic = spec.cubic
+
+-- the string of an axiom
+abbrev pub string_in : Verdict → List (Symbol Signed)
+string_in (sentence (spec.set_axiom xs)) = xs
+string_in v = []
+
+-- how an axiom's tokens behind the first read
+abbrev pub axiom_verdict : List Kind → Verdict
+axiom_verdict ks = line_at ks 1 (InAxiom (Symbols []))
+
+-- the command that has these parts
+abbrev pub parts_command : List Kind → Parts → spec.Command
+parts_command ks Axiom = spec.set_axiom (string_in (axiom_verdict ks))
+parts_command ks (Production p) = spec.put_production p.table p.label (rule_at ks p.rule)
+parts_command ks (Drop l) = spec.drop_rule l
+parts_command ks (Ignore xs) = spec.set_ignored (map module_name xs.items)
+parts_command ks (Schedule ws) = spec.set_schedule ws.items
+parts_command ks (Seed n) = spec.set_seed n
+parts_command ks (Depth n) = spec.set_depth n
+parts_command ks (Lattice l) = spec.set_lattice (lattice_of l)
+parts_command ks (Homomorphism p) = spec.put_homomorphism p.label (rule_at ks p.rule)
+parts_command ks (String t) = spec.print_string t
+parts_command ks Segments = spec.print_segments
+parts_command ks Svg = spec.print_svg
+parts_command ks Show = spec.print_system
+parts_command ks Quit = spec.quit
+
+-- Every expression of a rule stands at its span.
+abbrev pub AreParts : List Kind → Parts → Type 0
+AreParts ks (Production p) = IsRuleLine ks p.rule
+AreParts ks (Homomorphism p) = IsRuleLine ks p.rule
+AreParts ks p = Unit {0}

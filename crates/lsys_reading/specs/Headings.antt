@@ -1,0 +1,26 @@
+-- What stands before a rule.
+use Rattle.std.specs.Prelude.{◌≡◌, ◌+◌, ℕ, Result, Ok, Err, List, drop, Option, Some, None}
+use Rattle.lsys_syntax.specs.Tokens.{Kind, Colon}
+use Rattle.lsys_syntax.specs.RuleMachine.{start}
+use Rattle.lsys_syntax.specs.LineMachine.{State, InProduction, InHomomorphism}
+use Rattle.lsys_syntax.specs.RulePoints.{Here}
+use Rattle.lsys_reading.specs.Lines.{at_front}
+use Rattle.lsys_reading.specs.declared.refusal.PartRefusal.{PartRefusal}
+use Rattle.lsys_reading.specs.declared.refusal.PartRefusal.TheVariants.{Token}
+use Rattle.lsys_reading.specs.declared.heading.Heading.{Heading}
+
+abbrev pub colon_in : Kind → Option (Unit {0})
+colon_in Colon = Some tt
+colon_in k = None
+
+-- a colon stands there, and the place is the one behind it; or none does
+abbrev pub IsColon : List Kind → ℕ → Result ℕ PartRefusal → Type 0
+IsColon ks at (Ok end) = Here ks at Colon × (end ≡ at + 1)
+IsColon ks at (Err (Token place)) = (place ≡ at) × (at_front colon_in (drop at ks) ≡ None)
+IsColon ks at (Err e) = ⊥
+
+abbrev pub production_behind : Heading → State
+production_behind h = InProduction h.table h.label start
+
+abbrev pub homomorphism_behind : Heading → State
+homomorphism_behind h = InHomomorphism h.label start

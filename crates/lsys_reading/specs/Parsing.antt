@@ -1,0 +1,34 @@
+-- The command that a line's tokens spell, and what reading it answers.
+use Rattle.std.specs.Prelude.{◌≡◌, ℕ, Result, Ok, Err, List, map, unwrap_or}
+use Rattle.lsys_syntax.specs.Tokens.{Kind}
+use Rattle.lsys_syntax.specs.Commands as spec
+use Rattle.lsys_syntax.specs.LineMachine.{sentence, stops, too_deep, verdict, parse_command}
+use Rattle.lsys_spec.specs.Refusals.{column_at}
+use Rattle.lsys_text.specs.Tokens.{kinds_of, token_of}
+use Rattle.lsys_text.specs.declared.token_kind.Token.{Token}
+use Rattle.lsys_reading.specs.declared.command.Command.{Command}
+use Rattle.lsys_reading.specs.declared.command.CommandKind.{CommandKind}
+use Rattle.lsys_reading.specs.declared.command.CommandKind.TheVariants as kinds
+use Rattle.lsys_reading.specs.declared.refusal.Refusal.{Refusal}
+use Rattle.lsys_reading.specs.declared.refusal.Refusal.TheVariants as refusals
+use Rattle.lsys_reading.specs.Parted.{command_of}
+
+abbrev pub kind_of_command : spec.Command → CommandKind
+kind_of_command (spec.print_string n) = kinds.String n
+kind_of_command spec.print_segments = kinds.Segments
+kind_of_command spec.print_svg = kinds.Svg
+kind_of_command spec.print_system = kinds.Show
+kind_of_command spec.quit = kinds.Quit
+kind_of_command c = kinds.Edit
+
+-- the column of the token at a place of a line of so many bytes, or of the line's end
+abbrev pub column_of : ℕ → List Token → ℕ → ℕ
+column_of bytes ts place = column_at bytes place (map token_of ts)
+
+-- The command that the tokens spell, or the column of the first token with which none goes on; want of memory says nothing.
+abbrev pub IsParsed : List Token → ℕ → Result Command Refusal → Type 0
+IsParsed ts bytes (Ok c) = (c ≡ ts) × (verdict (kinds_of ts) ≡ sentence (command_of ts))
+IsParsed ts bytes (Err (refusals.Token column)) = (place : ℕ) × (verdict (kinds_of ts) ≡ stops place) × (column ≡ column_of bytes ts place)
+IsParsed ts bytes (Err (refusals.Deep column)) = (place : ℕ) × (verdict (kinds_of ts) ≡ too_deep place) × (column ≡ column_of bytes ts place)
+IsParsed ts bytes (Err refusals.Form) = ⊥
+IsParsed ts bytes (Err refusals.Memory) = Unit {0}

@@ -1,0 +1,16 @@
+-- The tokens of a line.
+use Rattle.std.specs.Prelude.{ℕ, List, length, map}
+use Rattle.lsys_syntax.specs.Tokens.{Kind}
+use Rattle.lsys_spec.specs.Refusals.{column_at}
+use Rattle.lsys_text.specs.Tokens.{kinds_of, token_of}
+use Rattle.lsys_reading.specs.declared.line_tokens.LineTokens.{LineTokens}
+
+abbrev pub kinds_in : LineTokens → List Kind
+kinds_in line = kinds_of line.tokens.items
+
+abbrev pub size : LineTokens → ℕ
+size line = length line.tokens.items
+
+-- the column of the token at a place, or of the line's end
+abbrev pub column_in : LineTokens → ℕ → ℕ
+column_in line place = column_at line.bytes place (map token_of line.tokens.items)

@@ -1,0 +1,33 @@
+-- The states that the words of commands and of lattices lead to.
+use Rattle.std.specs.Prelude.{Option, Some, None, []}
+use Rattle.lsys_syntax.specs.Commands.{set_lattice, print_segments, print_svg, print_system, quit}
+use Rattle.lsys_syntax.specs.LineMachine.{Symbols, State, InAxiom, ProductionDue, DropDue, InNames, ScheduleDue, SeedDue, DepthDue, LatticeDue, LabelDue, StringRead, Whole, Stop}
+use Rattle.lsys_reading.specs.declared.word.CommandWord.{CommandWord}
+use Rattle.lsys_reading.specs.declared.word.CommandWord.TheVariants as words
+use Rattle.lsys_reading.specs.declared.parts.LatticeName.{LatticeName}
+use Rattle.lsys_reading.specs.Commands.{lattice_of}
+
+abbrev pub word_state : CommandWord → State
+word_state words.Axiom = InAxiom (Symbols [])
+word_state words.Production = ProductionDue
+word_state words.Drop = DropDue
+word_state words.Ignore = InNames []
+word_state words.Schedule = ScheduleDue
+word_state words.Seed = SeedDue
+word_state words.Depth = DepthDue
+word_state words.Lattice = LatticeDue
+word_state words.Homomorphism = LabelDue
+word_state words.String = StringRead
+word_state words.Segments = Whole print_segments
+word_state words.Svg = Whole print_svg
+word_state words.Show = Whole print_system
+word_state words.Quit = Whole quit
+
+-- no command begins with any other word
+abbrev pub word_state_in : Option CommandWord → State
+word_state_in (Some w) = word_state w
+word_state_in None = Stop
+
+abbrev pub lattice_state_in : Option LatticeName → State
+lattice_state_in (Some l) = Whole (set_lattice (lattice_of l))
+lattice_state_in None = Stop

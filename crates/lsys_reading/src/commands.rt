@@ -1,0 +1,195 @@
+//! The rest of each command behind its word.
+ghost use Rattle.std.specs.Prelude.{◌≡◌, ◌≤◌, [], IfOk};
+ghost use Rattle.lsys_syntax.specs.LineMachine.{InAxiom, Symbols, ProductionDue, DropDue, SeedDue, DepthDue, InNames, ScheduleDue, LatticeDue, LabelDue, StringRead, Whole, Fresh};
+ghost use Rattle.lsys_reading.specs.Tokens.{kinds_in, size};
+ghost use Rattle.lsys_reading.specs.Lines.{IsPart, IsRest};
+ghost use Rattle.lsys_reading.specs.Words.{word_state};
+ghost use Rattle.lsys_reading.specs.Commands.{parts_command, AreParts};
+
+use crate::form::Form;
+use crate::heading::{homomorphism_heading, production_heading};
+use crate::line_tokens::LineTokens;
+use crate::parts::{LabeledRule, LatticeName, Parts};
+use crate::refusal::PartRefusal;
+use crate::rule::rule_line;
+use crate::word::{CommandWord, command_word, lattice_name};
+use crate::words::{end, last_number, last_word, name, word};
+use lsys_module::scan_string;
+use std::alloc::Global;
+
+// What the tokens of a line are the parts of.
+pub(crate) fn parts(alloc: Global, line: &LineTokens) -> Result<Parts, PartRefusal>
+    ensures rest { IsRest (kinds_in line.now) 0 Fresh (parts_command (kinds_in line.now)) result }
+    ensures parts { IfOk result (AreParts (kinds_in line.now)) }
+{
+    let word = command(line)?;
+    parts_behind(alloc, line, word)
+}
+
+// The word that a line begins with.
+fn command(line: &LineTokens) -> Result<CommandWord, PartRefusal>
+    ensures word { IsPart (kinds_in line.now) 0 Fresh (λ w. 1) word_state result }
+    ensures some { IfOk result (λ w. 1 ≤ size line.now) }
+{
+    match command_word(word(line, 0)?) {
+        Some(word) => Ok(word),
+        None => Err(PartRefusal::Token { place: 0 }),
+    }
+}
+
+// What stands behind this word.
+fn parts_behind(alloc: Global, line: &LineTokens, word: CommandWord) -> Result<Parts, PartRefusal>
+    requires { 1 ≤ size line.now }
+    ensures rest { IsRest (kinds_in line.now) 1 (word_state word) (parts_command (kinds_in line.now)) result }
+    ensures parts { IfOk result (AreParts (kinds_in line.now)) }
+{
+    match word {
+        CommandWord::Axiom => axiom(line),
+        CommandWord::Production => production(alloc, line),
+        CommandWord::Drop => drop(line),
+        CommandWord::Ignore => ignore(alloc, line),
+        CommandWord::Schedule => schedule(alloc, line),
+        CommandWord::Seed => seed(line),
+        CommandWord::Depth => depth(line),
+        CommandWord::Lattice => lattice(line),
+        CommandWord::Homomorphism => homomorphism(alloc, line),
+        CommandWord::String => string(line),
+        CommandWord::Segments => alone(line, Parts::Segments),
+        CommandWord::Svg => alone(line, Parts::Svg),
+        CommandWord::Show => alone(line, Parts::Show),
+        CommandWord::Quit => alone(line, Parts::Quit),
+    }
+}
+
+// Behind `axiom`: a string, whose parameters are numbers.
+fn axiom(line: &LineTokens) -> Result<Parts, PartRefusal>
+    requires { 1 ≤ size line.now }
+    ensures rest { IsRest (kinds_in line.now) 1 (InAxiom (Symbols [])) (parts_command (kinds_in line.now)) result }
+    ensures parts { IfOk result (AreParts (kinds_in line.now)) }
+{
+    match scan_string(&line.tokens, 1) {
+        Ok(()) => Ok(Parts::Axiom),
+        Err(refusal) => Err(PartRefusal::from_place(refusal)),
+    }
+}
+
+// Behind `production`: a table, where it is written, a label, a colon and a rule.
+fn production(alloc: Global, line: &LineTokens) -> Result<Parts, PartRefusal>
+    ensures rest { IsRest (kinds_in line.now) 1 ProductionDue (parts_command (kinds_in line.now)) result }
+    ensures parts { IfOk result (AreParts (kinds_in line.now)) }
+{
+    let heading = production_heading(line)?;
+    let rule = rule_line(alloc, line, heading.end, Form::Production)?;
+    Ok(Parts::Production(LabeledRule {
+        table: heading.table,
+        label: heading.label,
+        rule,
+    }))
+}
+
+// Behind `hom`: a label, a colon and a rule.
+fn homomorphism(alloc: Global, line: &LineTokens) -> Result<Parts, PartRefusal>
+    ensures rest { IsRest (kinds_in line.now) 1 LabelDue (parts_command (kinds_in line.now)) result }
+    ensures parts { IfOk result (AreParts (kinds_in line.now)) }
+{
+    let heading = homomorphism_heading(line)?;
+    let rule = rule_line(alloc, line, heading.end, Form::Homomorphism)?;
+    Ok(Parts::Homomorphism(LabeledRule {
+        table: heading.table,
+        label: heading.label,
+        rule,
+    }))
+}
+
+// Behind `drop`: a label.
+fn drop(line: &LineTokens) -> Result<Parts, PartRefusal>
+    ensures rest { IsRest (kinds_in line.now) 1 DropDue (parts_command (kinds_in line.now)) result }
+    ensures parts { IfOk result (AreParts (kinds_in line.now)) }
+{
+    Ok(Parts::Drop(last_word(line)?))
+}
+
+// Behind `seed`: a number.
+fn seed(line: &LineTokens) -> Result<Parts, PartRefusal>
+    ensures rest { IsRest (kinds_in line.now) 1 SeedDue (parts_command (kinds_in line.now)) result }
+    ensures parts { IfOk result (AreParts (kinds_in line.now)) }
+{
+    Ok(Parts::Seed(last_number(line)?))
+}
+
+// Behind `depth`: a number.
+fn depth(line: &LineTokens) -> Result<Parts, PartRefusal>
+    ensures rest { IsRest (kinds_in line.now) 1 DepthDue (parts_command (kinds_in line.now)) result }
+    ensures parts { IfOk result (AreParts (kinds_in line.now)) }
+{
+    Ok(Parts::Depth(last_number(line)?))
+}
+
+// Behind `ignore`: names.
+fn ignore(alloc: Global, line: &LineTokens) -> Result<Parts, PartRefusal>
+    requires { 1 ≤ size line.now }
+    ensures rest { IsRest (kinds_in line.now) 1 (InNames []) (parts_command (kinds_in line.now)) result }
+    ensures parts { IfOk result (AreParts (kinds_in line.now)) }
+{
+    let mut names = Vec::new(alloc);
+    let mut at = 1;
+    'names: while at < line.len() {
+        names
+            .push(name(line, at)?)
+            .map_err(|_| PartRefusal::Memory)?;
+        at += 1;
+    }
+    Ok(Parts::Ignore(names))
+}
+
+// Behind `schedule`: words, one at least.
+fn schedule(alloc: Global, line: &LineTokens) -> Result<Parts, PartRefusal>
+    ensures rest { IsRest (kinds_in line.now) 1 ScheduleDue (parts_command (kinds_in line.now)) result }
+    ensures parts { IfOk result (AreParts (kinds_in line.now)) }
+{
+    let first = word(line, 1)?;
+    let mut tables = Vec::new(alloc);
+    tables.push(first).map_err(|_| PartRefusal::Memory)?;
+    let mut at = 2;
+    'tables: while at < line.len() {
+        tables
+            .push(word(line, at)?)
+            .map_err(|_| PartRefusal::Memory)?;
+        at += 1;
+    }
+    Ok(Parts::Schedule(tables))
+}
+
+// Behind `lattice`: the name of one.
+fn lattice(line: &LineTokens) -> Result<Parts, PartRefusal>
+    ensures rest { IsRest (kinds_in line.now) 1 LatticeDue (parts_command (kinds_in line.now)) result }
+    ensures parts { IfOk result (AreParts (kinds_in line.now)) }
+{
+    match lattice_name(word(line, 1)?) {
+        Some(name) => {
+            end(line, 2)?;
+            Ok(Parts::Lattice(name))
+        }
+        None => Err(PartRefusal::Token { place: 1 }),
+    }
+}
+
+// Behind `string`: a level's number, or nothing.
+fn string(line: &LineTokens) -> Result<Parts, PartRefusal>
+    ensures rest { IsRest (kinds_in line.now) 1 StringRead (parts_command (kinds_in line.now)) result }
+    ensures parts { IfOk result (AreParts (kinds_in line.now)) }
+{
+    if line.len() <= 1 {
+        return Ok(Parts::String(None));
+    }
+    Ok(Parts::String(Some(last_number(line)?)))
+}
+
+// Behind the word of a command that is this word alone: nothing.
+fn alone(line: &LineTokens, parts: Parts) -> Result<Parts, PartRefusal>
+    ensures end { IsRest (kinds_in line.now) 1 (Whole (parts_command (kinds_in line.now) parts)) (parts_command (kinds_in line.now)) result }
+    ensures parts { IfOk result (λ p. p ≡ parts) }
+{
+    end(line, 1)?;
+    Ok(parts)
+}

@@ -1,0 +1,53 @@
+//! What a command's tokens are the parts of.
+
+use crate::rule::RuleLine;
+use lsys_text::{Name, Word};
+
+/// A lattice that a picture may lie on.
+#[derive(Clone, Copy, PartialEq, Eq, Debug)]
+pub enum LatticeName {
+    Square,
+    Hexagonal,
+    Cubic,
+}
+
+/// A rule and its label; for a production also its table, where its word is written.
+#[derive(Drop)]
+pub struct LabeledRule {
+    pub table: Option<Word>,
+    pub label: Word,
+    pub rule: RuleLine,
+}
+
+/// What a command's tokens are the parts of.
+#[derive(Drop)]
+pub enum Parts {
+    /// Sets the axiom, whose string begins behind the first token.
+    Axiom,
+    /// Puts a production.
+    Production(LabeledRule),
+    /// Takes out the rule with this label.
+    Drop(Word),
+    /// Sets the names that contexts pass over.
+    Ignore(Vec<Name>),
+    /// Sets the tables of the schedule, of which there is one at least.
+    Schedule(Vec<Word>),
+    /// Sets the seed.
+    Seed(u64),
+    /// Sets the depth.
+    Depth(u64),
+    /// Sets the lattice.
+    Lattice(LatticeName),
+    /// Puts a homomorphism rule.
+    Homomorphism(LabeledRule),
+    /// Prints a level: the last one without a number.
+    String(Option<u64>),
+    /// Prints the segments of the picture.
+    Segments,
+    /// Prints the picture.
+    Svg,
+    /// Prints the system as a script.
+    Show,
+    /// Ends the session.
+    Quit,
+}

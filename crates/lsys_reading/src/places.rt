@@ -1,0 +1,51 @@
+//! The places of a line's tokens.
+ghost use Rattle.std.specs.Prelude.{◌≡◌, [], drop, MatchOption};
+ghost use Rattle.lsys_text.specs.Tokens.{kind_of};
+ghost use Rattle.lsys_syntax.specs.RulePoints.{Here};
+ghost use Rattle.lsys_reading.specs.Tokens.{kinds_in, size, column_in};
+ghost use Rattle.lsys_reading.specs.Refusals.{refusal_in};
+
+use crate::line_tokens::LineTokens;
+use crate::refusal::{PartRefusal, Refusal};
+use lsys_text::Token;
+
+impl LineTokens {
+    // The token at a place.
+    pub(crate) fn at(&self, place: usize) -> Option<&Token>
+        ensures { MatchOption result (drop place (kinds_in self.now) ≡ []) (λ t. Here (kinds_in self.now) place (kind_of t.now.kind)) }
+    {
+        self.tokens.get(place)
+    }
+
+    // How many there are.
+    pub(crate) fn len(&self) -> usize
+        ensures { result ≡ size self.now }
+    {
+        self.tokens.len()
+    }
+
+    // The column of the token at a place, from 1, or of the line's end.
+    fn column(&self, place: usize) -> u32
+        ensures { result ≡ column_in self.now place }
+    {
+        match self.tokens.get(place) {
+            Some(token) => token.start + 1,
+            None => self.bytes + 1,
+        }
+    }
+
+    // The same refusal by its column.
+    pub(crate) fn refusal(&self, refusal: PartRefusal) -> Refusal
+        ensures { result ≡ refusal_in (column_in self.now) refusal }
+    {
+        match refusal {
+            PartRefusal::Token { place } => Refusal::Token {
+                column: self.column(place),
+            },
+            PartRefusal::Deep { place } => Refusal::Deep {
+                column: self.column(place),
+            },
+            PartRefusal::Memory => Refusal::Memory,
+        }
+    }
+}

@@ -1,0 +1,88 @@
+//! Why a line is refused, and at which token.
+ghost use Rattle.std.specs.Prelude.{◌≡◌};
+ghost use Rattle.lsys_reading.specs.Refusals.{refusal_at};
+
+use lsys_module::StringRefusal;
+use lsys_text::PlaceRefusal;
+use std::alloc::AllocError;
+use thiserror::Error;
+
+/// Why a part of a line can't be read. Places are numbers of tokens from 0, and the number of tokens stands for the end of the line.
+#[derive(Clone, Copy, PartialEq, Eq, Debug, Error)]
+pub(crate) enum PartRefusal {
+    /// No command begins with the tokens up to this one.
+    #[error("no command goes on with token {place}")]
+    Token { place: usize },
+    /// As `Token`, but without the bound on nesting one does.
+    #[error("token {place} nests too deep")]
+    Deep { place: usize },
+    /// Want of memory.
+    #[error("out of memory")]
+    Memory,
+}
+
+impl From<AllocError> for PartRefusal {
+    ghost use Rattle.std.specs.Prelude.{◌≡◌};
+    ghost use Rattle.lsys_reading.specs.declared.refusal.PartRefusal.TheVariants.{Memory};
+
+    ghost from_gives = { λ _ e. e ≡ Memory };
+
+    fn from(_: AllocError) -> PartRefusal {
+        PartRefusal::Memory
+    }
+}
+
+impl PartRefusal {
+    // The same, of a part that takes no memory.
+    pub(crate) fn from_place(refusal: PlaceRefusal) -> PartRefusal
+        ensures { result ≡ refusal_at refusal }
+    {
+        match refusal {
+            PlaceRefusal::Token { place } => PartRefusal::Token { place },
+            PlaceRefusal::Deep { place } => PartRefusal::Deep { place },
+        }
+    }
+}
+
+/// Why a line is no command, or a command is refused. Columns count bytes from 1.
+#[derive(Clone, Copy, PartialEq, Eq, Debug, Error)]
+pub enum Refusal {
+    /// No command begins with the tokens up to the one at this column; where the line ends too early it is the
+    /// column behind its end.
+    #[error("no command goes on at column {column}")]
+    Token { column: u32 },
+    /// As `Token`, but without the bound on nesting one does.
+    #[error("column {column} nests too deep")]
+    Deep { column: u32 },
+    /// The command is refused by itself. No line is refused so when it is read.
+    #[error("form")]
+    Form,
+    /// Want of memory.
+    #[error("out of memory")]
+    Memory,
+}
+
+impl From<AllocError> for Refusal {
+    ghost use Rattle.std.specs.Prelude.{◌≡◌};
+    ghost use Rattle.lsys_reading.specs.declared.refusal.Refusal.TheVariants.{Memory};
+
+    ghost from_gives = { λ _ e. e ≡ Memory };
+
+    fn from(_: AllocError) -> Refusal {
+        Refusal::Memory
+    }
+}
+
+impl From<StringRefusal> for Refusal {
+    ghost use Rattle.std.specs.Prelude.{◌≡◌};
+    ghost use Rattle.lsys_reading.specs.Refusals.{of_string};
+
+    ghost from_gives = { λ e r. r ≡ of_string e };
+
+    fn from(refusal: StringRefusal) -> Refusal {
+        match refusal {
+            StringRefusal::TooMany { column: _column } => Refusal::Form,
+            StringRefusal::Memory => Refusal::Memory,
+        }
+    }
+}
