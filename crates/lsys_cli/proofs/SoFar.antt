@@ -6,15 +6,16 @@ use Rattle.std.proofs.lemmas.Bool.{ne_eqb, eqb-false}
 use Rattle.std.proofs.lemmas.Bool.Decides.{nat_tests}
 use Rattle.std.proofs.Math.Bool.{or_assoc, or-false}
 use Rattle.lsys_syntax.specs.Lines.{lines_of, without_cr}
-use Rattle.lsys_io.specs.Reading.{HasFirstLine, PassesLimit, script_limit, line_limit}
+use Rattle.lsys_syntax.specs.Limits.{most_script_bytes, most_line_bytes}
+use Rattle.lsys_io.specs.Reading.{HasFirstLine, PassesLimit}
 use Rattle.std.specs.Option.{IfSome}
 use Rattle.lsys_spec.specs.Systems.{System, opening}
 use Rattle.lsys_spec.specs.Refusals.{Reply, is_long, is_passed_over, line_feed}
 use Rattle.lsys_spec.specs.Interim.{reply, bare_reply, refused_form}
-use Rattle.lsys_spec.specs.Output.{out, replies_from, followed, text_of, any_refusal, any_memory, none, reply_or_memory, memory_or}
+use Rattle.lsys_spec.specs.Output.{out, replies_from, followed, output_text, any_refusal, any_memory, none, reply_or_memory, memory_or}
 use Rattle.lsys_cli.specs.Sessions.{Replies, LineReplies, refuses, lacks_memory, ends_session, bare_or_memory}
 use Rattle.lsys_cli.specs.Runs.{status_of}
-use Rattle.lsys_cli.specs.Ends.{OfScript, Ends}
+use Rattle.lsys_cli.specs.Ends.{OfScript, Answered, LackedMemory, Ends}
 use Rattle.lsys_cli.specs.declared.session.Outcome.{Outcome}
 use Rattle.lsys_cli.specs.declared.session.Outcome.TheVariants as outcomes
 use Rattle.lsys_cli.proofs.Appending.{then, nothing}
@@ -28,7 +29,7 @@ pub record Known (limit : ℕ) (script : List ℕ) (after : (ℕ → Bool) → �
   pub answered : ℕ → Bool
   pub given : List Reply
   pub told : (M : ℕ → Bool) → Agrees number answered M → out (reply limit) script M ≡ given ++ after M number
-  pub put : Appends old now (text_of given)
+  pub put : Appends old now (output_text given)
   pub refusals : refused ≡ any_refusal given
   pub memories : memory ≡ any_memory given
   pub ample : memory ≡ false → (k : ℕ) → k < number → answered k ≡ false
@@ -106,8 +107,8 @@ or_no : (a b : Bool) → (a || b) ≡ false → (a ≡ false) × (b ≡ false)
 or_no true b h = cc
 or_no false b h = (refl, h)
 
-text_push : (given : List Reply) (r : Reply) → text_of (given ++ r ∷ []) ≡ text_of given ++ r.text
-text_push given r = flat_map-append (λ x. x.text) given (r ∷ []) ∙ ap (λ t. text_of given ++ t) (append-nil r.text)
+text_push : (given : List Reply) (r : Reply) → output_text (given ++ r ∷ []) ≡ output_text given ++ r.text
+text_push given r = flat_map-append (λ x. x.text) given (r ∷ []) ∙ ap (λ t. output_text given ++ t) (append-nil r.text)
 
 -- one line more
 known_more : (limit : ℕ) (script line : List ℕ) (lines : List (List ℕ)) (old now now' : Option (List ℕ)) (s next : System) (refused memory : Bool) (o : Outcome)
@@ -123,7 +124,7 @@ known_more limit script line lines old now now' s next refused memory o k (r, e,
       ∙ followed_by r (λ c. to_come limit c lines M (k.number + 1)) (ends_session o) n)
       ∙ sym (append_assoc k.given (r ∷ []) (unless_ended (ends_session o) (to_come limit r.next lines M (k.number + 1))))
       ∙ ap (λ c. (k.given ++ r ∷ []) ++ unless_ended (ends_session o) (to_come limit c lines M (k.number + 1))) (sym on);
-  put = rw (text_push k.given r) (then old now now' (text_of k.given) r.text k.put put);
+  put = rw (text_push k.given r) (then old now now' (output_text k.given) r.text k.put put);
   refusals = ap (λ b. refused || b) (sym f) ∙ ap (λ b. b || r.is_refusal) k.refusals ∙ sym (any_refusal_push k.given r);
   memories = ap (λ b. memory || b) (sym m) ∙ ap (λ b. b || r.is_memory) k.memories ∙ sym (any_memory_push k.given r);
   ample = λ z. let w = or_no memory (lacks_memory o) z in all_false k.number r.is_memory k.answered (m ∙ w.1) (k.ample w.0);
@@ -142,22 +143,26 @@ more limit (Some script) (Some rest) (Some rest') old now now' s next refused me
     let Q : Bool → Type 0 = λ e. Known limit script (λ M n. unless_ended e (to_come limit next (lines_of rest') M n)) old now' (refused || refuses o) (memory || lacks_memory o) in
     (subst Q z (known_more limit script line (lines_of rest') old now now' s next refused memory o (subst P h k.0) p), k.1 ∙ omega (arith, t, ap length b, length-append ended rest'))
 
+-- a run that is told whole
+whole_run : (limit : ℕ) (script old now : Option (List ℕ)) → (refused : Bool) → OfScript script (Answered limit refused old now) → Ends limit script old now (status_of refused false)
+whole_run limit script old now true h = record { done = λ e. cc; refused = λ e. h; memory = λ e. cc; too_long = λ e. cc }
+whole_run limit script old now false h = record { done = λ e. h; refused = λ e. cc; memory = λ e. cc; too_long = λ e. cc }
+
+lacking_run : (limit : ℕ) (script old now : Option (List ℕ)) (refused : Bool) → OfScript script (LackedMemory limit old now) → Ends limit script old now (status_of refused true)
+lacking_run limit script old now refused h = record { done = λ e. cc; refused = λ e. cc; memory = λ e. h; too_long = λ e. cc }
+
 -- all replies are given
 known_ends : (limit : ℕ) (script : List ℕ) (old now : Option (List ℕ)) (refused memory : Bool) → Known limit script (λ M n. []) old now refused memory → Ends limit (Some script) old now (status_of refused memory)
 known_ends limit script old now refused true k =
     let all : out (reply limit) script k.answered ≡ k.given = k.told k.answered (λ i l. refl) ∙ append-nil k.given in
-    (k.answered, rw all k.put, ap any_memory all ∙ sym k.memories)
-known_ends limit script old now true false k =
+    lacking_run limit (Some script) old now refused (k.answered, rw all k.put, ap any_memory all ∙ sym k.memories)
+known_ends limit script old now refused false k =
     let all : out (reply limit) script none ≡ k.given = k.told none (λ i l. sym (k.ample refl i l)) ∙ append-nil k.given in
-    (rw all k.put, ap any_refusal all ∙ sym k.refusals, ap any_memory all ∙ sym k.memories)
-known_ends limit script old now false false k =
-    let all : out (reply limit) script none ≡ k.given = k.told none (λ i l. sym (k.ample refl i l)) ∙ append-nil k.given in
-    (rw all k.put, ap any_refusal all ∙ sym k.refusals, ap any_memory all ∙ sym k.memories)
+    whole_run limit (Some script) old now refused (rw all k.put, ap any_refusal all ∙ sym k.refusals, ap any_memory all ∙ sym k.memories)
 
 untold_ends : (limit : ℕ) (old now : Option (List ℕ)) (refused memory : Bool) → Ends limit None old now (status_of refused memory)
-untold_ends limit old now refused true = tt
-untold_ends limit old now true false = tt
-untold_ends limit old now false false = tt
+untold_ends limit old now refused true = lacking_run limit None old now refused tt
+untold_ends limit old now refused false = whole_run limit None old now refused tt
 
 pub ends : (limit : ℕ) (script rest old now : Option (List ℕ)) (s : System) (refused memory : Bool) (taken : ℕ) → SoFar limit script rest old now s refused memory taken → IsAtEnd rest
     → Ends limit script old now (status_of refused memory)
@@ -180,13 +185,13 @@ quits limit (Some script) (Some rest) (Some rest') old now now' s next refused m
 
 -- past the limit
 pub too_long : (limit : ℕ) (script rest old now : Option (List ℕ)) (s : System) (refused memory : Bool) (taken : ℕ) → SoFar limit script rest old now s refused memory taken
-    → IfSome rest (PassesLimit taken) → OfScript script (λ t. script_limit < length t)
+    → IfSome rest (PassesLimit taken) → OfScript script (λ t. most_script_bytes < length t)
 too_long limit None rest old now s refused memory taken k p = tt
 too_long limit (Some script) None old now s refused memory taken k p = absurd k
 too_long limit (Some script) (Some rest) old now s refused memory taken k p = omega (arith, k.1, p.past)
 
 -- a line's reply with its CR
-pub bare_line : (limit : ℕ) (s next : System) (line bare : List ℕ) (old now : Option (List ℕ)) (o : Outcome) → length line ≤ line_limit → bare ≡ without_cr line
+pub bare_line : (limit : ℕ) (s next : System) (line bare : List ℕ) (old now : Option (List ℕ)) (o : Outcome) → length line ≤ most_line_bytes → bare ≡ without_cr line
     → Replies limit s bare old now next o → LineReplies limit s line old now next o
 bare_line limit s next line bare old now o h b (r, e, put, goes, flags) =
     let short : is_long line ≡ false = grind (arith, nat_tests) in
@@ -197,7 +202,7 @@ bare_line limit s next line bare old now o h b (r, e, put, goes, flags) =
     whole lacks true q = cc
     whole lacks false q = refl
 
-pub long_line : (limit : ℕ) (s : System) (line : List ℕ) (old now : Option (List ℕ)) → line_limit < length line → Appends old now (codes "refused form" ++ line_feed)
+pub long_line : (limit : ℕ) (s : System) (line : List ℕ) (old now : Option (List ℕ)) → most_line_bytes < length line → Appends old now (codes "refused form" ++ line_feed)
     → LineReplies limit s line old now s outcomes.Refused
 long_line limit s line old now h put =
     let long : is_long line ≡ true = grind (arith, nat_tests) in

@@ -2,7 +2,8 @@
 use Rattle.std.proofs.Common.{◌≡◌, ◌≢◌, ◌==◌, if◌then◌else◌, ℕ, List, [], ◌∷◌, ◌<◌, ◌≤◌, length, Option, Some, None, Ok, Bool, true, false, ◌||◌, refl, ap, sym, subst, ◌∙◌, arith}
 use Rattle.std.specs.Io.KnownBytes.{prepend_known}
 use Rattle.lsys_syntax.specs.Lines.{without_cr}
-use Rattle.lsys_io.specs.Reading.{Reading, TakesLine, remaining, with_end, line_limit, script_limit, IsNotRefused}
+use Rattle.lsys_syntax.specs.Limits.{most_line_bytes, most_script_bytes}
+use Rattle.lsys_io.specs.Reading.{Reading, TakesLine, remaining, with_end, IsNotRefused}
 use Rattle.lsys_io.specs.declared.lines.Stage.TheVariants.{Going}
 use Rattle.lsys_io.specs.declared.lines.LineRead.{LineRead}
 use Rattle.lsys_io.specs.declared.lines.LineRead.TheVariants.{Line, Long, End}
@@ -17,10 +18,10 @@ use Rattle.lsys_cli.proofs.SoFar.{SoFar, start, more, quits, bare_line, long_lin
 
 -- what next_line says of a line that is told, and of one that is too long
 abbrev pub Told : Reading → Reading → Option (List ℕ) → Option (List ℕ) → Type 0
-Told old new left_old left_new = (line : List ℕ) × TakesLine old new left_old left_new line × (length line ≤ line_limit) × (new.line ≡ without_cr line)
+Told old new left_old left_new = (line : List ℕ) × TakesLine old new left_old left_new line × (length line ≤ most_line_bytes) × (new.line ≡ without_cr line)
 
 abbrev pub Dropped : Reading → Reading → Option (List ℕ) → Option (List ℕ) → Type 0
-Dropped old new left_old left_new = (line : List ℕ) × TakesLine old new left_old left_new line × (line_limit < length line)
+Dropped old new left_old left_new = (line : List ℕ) × TakesLine old new left_old left_new line × (most_line_bytes < length line)
 
 without_cr_short : (line : List ℕ) → length (without_cr line) ≤ length line
 without_cr_short [] = omega arith
@@ -70,8 +71,8 @@ begins limit reader s left w e q =
 pub begins_going : (reader : Reading) → reader ≡ fresh → IsNotRefused reader.stage
 begins_going reader e = let P : Reading → Type 0 = λ r. IsNotRefused r.stage in subst P (sym e) tt
 
-pub begins_within : (reader : Reading) → reader ≡ fresh → reader.taken ≤ script_limit
-begins_within reader e = let P : Reading → Type 0 = λ r. r.taken ≤ script_limit in subst P (sym e) (omega arith)
+pub begins_within : (reader : Reading) → reader ≡ fresh → reader.taken ≤ most_script_bytes
+begins_within reader e = let P : Reading → Type 0 = λ r. r.taken ≤ most_script_bytes in subst P (sym e) (omega arith)
 
 goes_on_from : (o : Outcome) → o ≢ Quit → ends_session o ≡ false
 goes_on_from Skipped q = refl

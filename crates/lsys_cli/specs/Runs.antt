@@ -4,7 +4,7 @@ use Rattle.std.specs.declared.option.Option.{Option}
 use Rattle.std.specs.Io.KnownBytes.{Appends}
 use Rattle.lsys_io.specs.declared.lines.LineRead.{LineRead}
 use Rattle.lsys_io.specs.declared.lines.LineRead.TheVariants as reads
-use Rattle.lsys_io.specs.Reading.{line_limit}
+use Rattle.lsys_syntax.specs.Limits.{most_line_bytes}
 use Rattle.lsys_spec.specs.Systems.{System}
 use Rattle.lsys_spec.specs.Refusals.{line_feed}
 use Rattle.lsys_cli.specs.Sessions.{Replies}
@@ -20,7 +20,7 @@ status_of false false = Done
 
 -- a line that is told has at most 65,536 bytes
 abbrev pub IsShort : LineRead → List ℕ → Type 0
-IsShort reads.Line line = length line ≤ line_limit
+IsShort reads.Line line = length line ≤ most_line_bytes
 IsShort reads.Long line = Unit {0}
 IsShort reads.End line = Unit {0}
 

@@ -1,10 +1,10 @@
 //! The program as a library: a run over a source and a sink.
 #![tactic(auto)]
 
-ghost use Rattle.std.specs.Prelude.{◌≡◌, true, false, ◌<◌, ◌↔◌, ◌⊎◌, length};
+ghost use Rattle.std.specs.Prelude.{◌≡◌, ◌≢◌, true, false, ◌<◌, ◌↔◌, ◌⊎◌, length};
 ghost use Rattle.lsys_io.specs.Causes.{Rose};
-ghost use Rattle.lsys_cli.specs.Ends.{OfScript, Answered, LackedMemory, OnDone, OnRefused, OnMemory, OnTooLong, OnReadFault, OnWriteFault, UnlessReadFault, UnlessWriteFault};
-ghost use Rattle.lsys_io.specs.Reading.{script_limit};
+ghost use Rattle.lsys_syntax.specs.Limits.{most_script_bytes, usual_module_limit};
+ghost use Rattle.lsys_cli.specs.Ends.{OfScript, Answered, LackedMemory};
 
 mod run;
 mod session;
@@ -18,7 +18,7 @@ use session::Session;
 pub use status::Status;
 use std::alloc::Global;
 
-/// The most symbols of all levels together.
+/// The most symbols of all levels together, where no word names another limit.
 const LIMIT: u32 = 100_000;
 
 /// Reads a script from the source, and puts the reply to each of its lines into the sink. `words` are the words
@@ -37,16 +37,16 @@ pub fn lsys<S: Source, K: Sink>(
     ensures usage_touches_nothing { result ≡ Status.Usage → (source.new ≡ source.old) × (sink.new ≡ sink.old) }
 
     // The script was read to its end or to `quit`, and its output was written.
-    ensures done { OnDone result (OfScript (S.left source.old) (Answered LIMIT false (K.written sink.old) (K.written sink.new))) }
-    ensures refused { OnRefused result (OfScript (S.left source.old) (Answered LIMIT true (K.written sink.old) (K.written sink.new))) }
-    ensures memory { OnMemory result (((source.new ≡ source.old) × (sink.new ≡ sink.old)) ⊎ OfScript (S.left source.old) (LackedMemory LIMIT (K.written sink.old) (K.written sink.new))) }
+    ensures done { result ≡ Status.Done → OfScript (S.left source.old) (Answered usual_module_limit false (K.written sink.old) (K.written sink.new)) }
+    ensures refused { result ≡ Status.Refused → OfScript (S.left source.old) (Answered usual_module_limit true (K.written sink.old) (K.written sink.new)) }
+    ensures memory { result ≡ Status.Memory → ((source.new ≡ source.old) × (sink.new ≡ sink.old)) ⊎ OfScript (S.left source.old) (LackedMemory usual_module_limit (K.written sink.old) (K.written sink.new)) }
 
     // The causes of the other ends.
-    ensures read_fault_only_where_rose { OnReadFault result (Rose (S.faults source.old) (S.faults source.new)) }
-    ensures write_fault_only_where_rose { OnWriteFault result (Rose (K.faults sink.old) (K.faults sink.new)) }
-    ensures too_long_only_past_limit { OnTooLong result (OfScript (S.left source.old) (λ script. script_limit < length script)) }
-    ensures no_read_fault_passed_over { UnlessReadFault result (S.faults source.new ≡ S.faults source.old) }
-    ensures no_write_fault_passed_over { UnlessWriteFault result (K.faults sink.new ≡ K.faults sink.old) }
+    ensures read_fault_only_where_rose { result ≡ Status.ReadFault → Rose (S.faults source.old) (S.faults source.new) }
+    ensures write_fault_only_where_rose { result ≡ Status.WriteFault → Rose (K.faults sink.old) (K.faults sink.new) }
+    ensures too_long_only_past_limit { result ≡ Status.TooLong → OfScript (S.left source.old) (λ script. most_script_bytes < length script) }
+    ensures no_read_fault_passed_over { result ≢ Status.ReadFault → S.faults source.new ≡ S.faults source.old }
+    ensures no_write_fault_passed_over { result ≢ Status.WriteFault → K.faults sink.new ≡ K.faults sink.old }
 {
     if !words.is_empty() {
         return Status::Usage;

@@ -7,7 +7,7 @@ ghost use Rattle.lsys_spec.specs.Systems.{opening};
 ghost use Rattle.lsys_spec.specs.Refusals.{Reply};
 ghost use Rattle.lsys_rules.specs.Systems.{system_of};
 ghost use Rattle.lsys_cli.specs.Sessions.{KeepsLevels, refuses, lacks_memory};
-ghost use Rattle.lsys_cli.specs.Ends.{Ends, OnReadFault, OnWriteFault, UnlessReadFault, UnlessWriteFault};
+ghost use Rattle.lsys_cli.specs.Ends.{Ends};
 ghost use Rattle.lsys_cli.specs.Runs.{status_of, IsShort, AnswersRead};
 
 use crate::session::{Outcome, Session, refuse_long};
@@ -63,10 +63,10 @@ pub fn run<S: Source, K: Sink>(
     requires empty { out.old ≡ [] }
     requires fresh { reader.old ≡ record { held = []; taken = 0; line = []; stage = Going } }
     ensures ends { Ends session.old.limit (S.left source.old) (K.written sink.old) (K.written sink.new) result }
-    ensures read_fault_only_where_rose { OnReadFault result (Rose (S.faults source.old) (S.faults source.new)) }
-    ensures write_fault_only_where_rose { OnWriteFault result (Rose (K.faults sink.old) (K.faults sink.new)) }
-    ensures no_read_fault_passed_over { UnlessReadFault result (S.faults source.new ≡ S.faults source.old) }
-    ensures no_write_fault_passed_over { UnlessWriteFault result (K.faults sink.new ≡ K.faults sink.old) }
+    ensures read_fault_only_where_rose { result ≡ Status.ReadFault → Rose (S.faults source.old) (S.faults source.new) }
+    ensures write_fault_only_where_rose { result ≡ Status.WriteFault → Rose (K.faults sink.old) (K.faults sink.new) }
+    ensures no_read_fault_passed_over { result ≢ Status.ReadFault → S.faults source.new ≡ S.faults source.old }
+    ensures no_write_fault_passed_over { result ≢ Status.WriteFault → K.faults sink.new ≡ K.faults sink.old }
     ensures not_usage { result ≢ Status.Usage }
 {
     let mut tally = Tally {

@@ -1,12 +1,12 @@
 -- Powers: as std counts them, and those with large exponents.
-use Rattle.std.proofs.Common.{◌≡◌, ℕ, w64, of_z, zero, suc, ◌+◌, ◌-◌, ◌*◌, ◌^◌, ◌%◌, ◌<◌, ◌≤◌, Bool, true, false, cond, eqb, ltb, refl, ap, sym, ◌∙◌, arith}
-use Rattle.std.specs.Prelude.{ℤ, pos, negsuc, ◌*ℤ◌, ◌≤ℤ◌, neg_ℤ, not, unsigned_abs, int_rem, Result, Ok, Err}
+use Rattle.std.proofs.Common.{◌≡◌, ℕ, w64, of_z, zero, suc, ◌*◌, ◌^◌, ◌%◌, ◌≤◌, Bool, true, false, cond, eqb, ltb, refl, ap, sym, ◌∙◌, arith}
+use Rattle.std.specs.Prelude.{ℤ, pos, negsuc, ◌*ℤ◌, ◌≤ℤ◌, neg_ℤ, not, unsigned_abs, int_rem, Ok, Err}
 use Rattle.std.specs.Int.{int_pow}
 use Rattle.std.proofs.Math.Dec.{eqb-suc-zero}
 use Rattle.std.proofs.Math.Nat.{pow-zero, pow-suc, pow-le-pow_left, pow-le-pow_right, mul_comm}
 use Rattle.std.proofs.lemmas.Int.{unsigned_abs-mul}
 use Rattle.std.proofs.Math.IntN.{zero-*ℤ, *ℤ-zero, negsuc-*ℤ-pos}
-use Rattle.lsys_spec.specs.Values.{Arith, Overflow, exact, in_range, nth_power, power}
+use Rattle.lsys_spec.specs.Values.{Overflow, exact, nth_power, power}
 
 -- in magnitude a power is the power of the magnitude
 abs_power : (x : ℤ) (n : ℕ) → unsigned_abs (nth_power x n) ≡ unsigned_abs x ^ n

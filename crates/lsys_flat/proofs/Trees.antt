@@ -1,6 +1,6 @@
 -- A built rule's body has the trees that its expressions keep.
-use Rattle.std.proofs.Common.{◌≡◌, ◌==◌, Bool, true, false, Option, Some, None, Result, Ok, Err, List, [], ◌∷◌, ◌++◌, length, map, cond, refl, ap, sym, ◌∙◌, subst, append-nil, arith}
-use Rattle.std.specs.Prelude.{option_map, ℤ, not}
+use Rattle.std.proofs.Common.{◌≡◌, ◌==◌, true, false, Option, Some, None, Result, Ok, Err, List, [], ◌∷◌, ◌++◌, length, map, refl, ap, sym, ◌∙◌, subst, append-nil, arith}
+use Rattle.std.specs.Prelude.{option_map, ℤ}
 use Rattle.std.proofs.lemmas.Bool.Decides.{nat_tests}
 use Rattle.std.proofs.lemmas.List.{length-map}
 use Rattle.lsys_syntax.specs.Tokens.{NameText}
@@ -12,8 +12,6 @@ use Rattle.lsys_spec.specs.Bodies.{body_of, templates}
 use Rattle.lsys_spec.specs.Meaning.{filled, filled_params}
 use Rattle.lsys_text.specs.Tokens.{name_of}
 use Rattle.lsys_expr.specs.Expression.{Expression}
-use Rattle.lsys_expr.specs.Answers.{arith_of}
-use Rattle.lsys_expr.specs.declared.arith.Arith as code
 use Rattle.lsys_module.specs.Views.{module_name}
 use Rattle.lsys_module.specs.declared.symbol.Module.{Module}
 use Rattle.lsys_rules.specs.Views.{spelled, template_of, rule_of, production_of}

@@ -1,5 +1,5 @@
 -- What the code answers, as the definitions say it.
-use Rattle.std.specs.Prelude.{◌≡◌, ◌<◌, ◌≤◌, ℕ, ℤ, Bool, true, false, Result, Ok, Err, List, [], ◌∷◌, length, map}
+use Rattle.std.specs.Prelude.{◌≡◌, ◌<◌, ◌≤◌, ℕ, ℤ, Result, Ok, Err, List, [], ◌∷◌, length, map}
 use Rattle.lsys_syntax.specs.Strings as S
 use Rattle.lsys_spec.specs.Values as meaning
 use Rattle.lsys_spec.specs.Levels.{ModuleValue}

@@ -3,7 +3,7 @@ use Rattle.std.proofs.Common.{◌≡◌, ℕ, Bool, true, false, ◌+◌, ◌-�
 use Rattle.std.proofs.lemmas.List.{length-take-le}
 use Rattle.lsys_io.specs.declared.gathering.Gathered.{Gathered}
 use Rattle.lsys_io.specs.Feeds.{has_lf}
-use Rattle.lsys_io.specs.Reading.{line_limit}
+use Rattle.lsys_syntax.specs.Limits.{most_line_bytes}
 use Rattle.lsys_io.specs.Gathering.{Absorbs}
 use Rattle.lsys_io.proofs.Feeds.{no_lf_before, splits_whole, splits_all}
 
@@ -12,7 +12,7 @@ gathered_at n whole = record { count = n; whole = whole }
 
 pub absorbs_whole : (piece kept_old kept_new : List ℕ) (place count room : ℕ) → place < length piece
     → ((k : ℕ) → k < place → get_or piece k 0 ≡ 10 → ⊥) → get_or piece place 0 ≡ 10 → place + 1 ≤ room - count
-    → (count + length (take place piece) ≤ line_limit → kept_new ≡ kept_old ++ take place piece)
+    → (count + length (take place piece) ≤ most_line_bytes → kept_new ≡ kept_old ++ take place piece)
     → Absorbs piece (drop (place + 1) piece) kept_old kept_new count room (gathered_at (count + place) true)
 absorbs_whole piece kept_old kept_new place count room h before found fits kept =
     let long : length (take place piece) ≡ place = length-take-le place piece (omega arith) in record {
@@ -25,7 +25,7 @@ absorbs_whole piece kept_old kept_new place count room h before found fits kept 
 
 pub absorbs_all : (piece kept_old kept_new : List ℕ) (place count room : ℕ) → place ≡ length piece
     → ((k : ℕ) → k < place → get_or piece k 0 ≡ 10 → ⊥) → count ≤ room → place ≤ room - count
-    → (count + length (take place piece) ≤ line_limit → kept_new ≡ kept_old ++ take place piece)
+    → (count + length (take place piece) ≤ most_line_bytes → kept_new ≡ kept_old ++ take place piece)
     → Absorbs piece (drop place piece) kept_old kept_new count room (gathered_at (count + place) false)
 absorbs_all piece kept_old kept_new place count room h before within fits kept =
     let long : length (take place piece) ≡ place = length-take-le place piece (omega (arith, h)) in record {

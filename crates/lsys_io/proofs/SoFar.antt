@@ -6,7 +6,7 @@ use Rattle.std.proofs.KnownBytes.{Consumes-nil, Consumes-trans}
 use Rattle.lsys_io.specs.declared.gathering.Gathered.{Gathered}
 use Rattle.lsys_io.specs.declared.lines.LineRefusal.TheVariants.{ReadFault, TooLong}
 use Rattle.lsys_io.specs.Feeds.{has_lf}
-use Rattle.lsys_io.specs.Reading.{line_limit}
+use Rattle.lsys_syntax.specs.Limits.{most_line_bytes}
 use Rattle.lsys_io.specs.Gathering.{Absorbs, Gathers, Stops, feed}
 use Rattle.lsys_io.proofs.Feeds.{has_lf-append}
 
@@ -18,7 +18,7 @@ pub record SoFar (old now : List ℕ) (left_old left_now : Option (List ℕ)) (t
   pub no_lf : has_lf gathered ≡ false
   pub counted : count ≡ length gathered
   pub fits : count ≤ room
-  pub kept : count ≤ line_limit → told ≡ gathered
+  pub kept : count ≤ most_line_bytes → told ≡ gathered
 
 pub so_far_nothing : (pieces : List ℕ) (left : Option (List ℕ)) (room : ℕ) → SoFar pieces pieces left left [] 0 room
 so_far_nothing pieces left room = record {

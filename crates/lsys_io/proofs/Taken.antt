@@ -7,7 +7,8 @@ use Rattle.lsys_io.specs.declared.lines.Stage.TheVariants.{Going, Ended}
 use Rattle.lsys_io.specs.declared.lines.LineRead.{LineRead}
 use Rattle.lsys_io.specs.declared.lines.LineRead.TheVariants.{Line, Long, End}
 use Rattle.lsys_io.specs.Feeds.{has_lf}
-use Rattle.lsys_io.specs.Reading.{Reading, TakesLine, HasFirstLine, line_limit}
+use Rattle.lsys_syntax.specs.Limits.{most_line_bytes}
+use Rattle.lsys_io.specs.Reading.{Reading, TakesLine, HasFirstLine}
 use Rattle.lsys_io.specs.LineAnswers.{OnLine, OnLong}
 use Rattle.lsys_io.specs.Gathering.{Gathers, Finishes, feed}
 use Rattle.lsys_io.proofs.Feeds.{first_line, last_line}
@@ -39,7 +40,7 @@ whole_first held given line after (Some xs) (Some ys) split no_lf h =
 
 -- a line was taken that has so many bytes, and they were kept where they are not too many
 abbrev pub Took : (List ℕ → Type 0) → ℕ → List ℕ → Type 0
-Took P count kept = (line : List ℕ) × P line × (count ≡ length line) × (count ≤ line_limit → kept ≡ line)
+Took P count kept = (line : List ℕ) × P line × (count ≡ length line) × (count ≤ most_line_bytes → kept ≡ line)
 
 pub took_whole : (held after given : List ℕ) (taken : ℕ) (before told kept : List ℕ) (a b : Option (List ℕ)) (room : ℕ) (g : Gathered)
     → Consumes a b given → Gathers (held ++ given) after kept room g → g.whole ≡ true
@@ -91,13 +92,13 @@ took_last held after given taken before told kept a b room g h k e some end =
     )
 
 pub line_told : (read : LineRead) (count : ℕ) (kept told : List ℕ) (P : List ℕ → Type 0) → Finishes read count kept told → Took P count kept
-    → OnLine (Ok read) ((line : List ℕ) × P line × (length line ≤ line_limit) × (told ≡ without_cr line))
+    → OnLine (Ok read) ((line : List ℕ) × P line × (length line ≤ most_line_bytes) × (told ≡ without_cr line))
 line_told Line count kept told P f t = (t.0, t.1, omega (arith, f.0, t.2), f.1 ∙ ap without_cr (t.3 f.0))
 line_told Long count kept told P f t = tt
 line_told End count kept told P f t = tt
 
 pub long_told : (read : LineRead) (count : ℕ) (kept told : List ℕ) (P : List ℕ → Type 0) → Finishes read count kept told → Took P count kept
-    → OnLong (Ok read) ((line : List ℕ) × P line × (line_limit < length line))
+    → OnLong (Ok read) ((line : List ℕ) × P line × (most_line_bytes < length line))
 long_told Line count kept told P f t = tt
 long_told Long count kept told P f t = (t.0, t.1, omega (arith, f.0, t.2))
 long_told End count kept told P f t = tt

@@ -7,7 +7,7 @@ use Rattle.lsys_io.specs.declared.lines.LineRead.{LineRead}
 use Rattle.lsys_io.specs.declared.lines.LineRead.TheVariants.{Line, Long, End}
 use Rattle.lsys_syntax.specs.Lines.{without_cr}
 use Rattle.lsys_io.specs.Feeds.{has_lf}
-use Rattle.lsys_io.specs.Reading.{line_limit}
+use Rattle.lsys_syntax.specs.Limits.{most_line_bytes}
 
 -- the LF of a whole line
 abbrev pub feed : Bool → List ℕ
@@ -26,7 +26,7 @@ pub record Absorbs (piece after kept_old kept_new : List ℕ) (count room : ℕ)
   pub splits : Splits piece part after gathered.whole
   pub counted : gathered.count ≡ count + length part
   pub fits : gathered.count + length (feed gathered.whole) ≤ room
-  pub kept : gathered.count ≤ line_limit → kept_new ≡ kept_old ++ part
+  pub kept : gathered.count ≤ most_line_bytes → kept_new ≡ kept_old ++ part
 
 -- The line at the front of the bytes was gathered.
 pub record Gathers (bytes after told : List ℕ) (room : ℕ) (gathered : Gathered) : Type 0 where
@@ -34,7 +34,7 @@ pub record Gathers (bytes after told : List ℕ) (room : ℕ) (gathered : Gather
   pub splits : Splits bytes line after gathered.whole
   pub counted : gathered.count ≡ length line
   pub fits : gathered.count + length (feed gathered.whole) ≤ room
-  pub kept : gathered.count ≤ line_limit → told ≡ line
+  pub kept : gathered.count ≤ most_line_bytes → told ≡ line
 
 -- No line ends among the bytes within the room. At a read fault there are no more bytes than the room.
 abbrev pub Stops : List ℕ → ℕ → LineRefusal → Type 0
@@ -48,6 +48,6 @@ IfFault TooLong P Q = Q
 
 -- What is told of a line of `count` bytes, which were kept where they are not too many.
 abbrev pub Finishes : LineRead → ℕ → List ℕ → List ℕ → Type 0
-Finishes Line count kept told = (count ≤ line_limit) × (told ≡ without_cr kept)
-Finishes Long count kept told = (line_limit < count) × (told ≡ [])
+Finishes Line count kept told = (count ≤ most_line_bytes) × (told ≡ without_cr kept)
+Finishes Long count kept told = (most_line_bytes < count) × (told ≡ [])
 Finishes End count kept told = ⊥

@@ -2,18 +2,11 @@
 use Rattle.std.specs.Prelude.{◌≡◌, ℕ, ◌+◌, ◌-◌, ◌<◌, ◌≤◌, List, [], ◌∷◌, ◌++◌, length, take, false, Some, None}
 use Rattle.std.specs.declared.option.Option.{Option}
 use Rattle.std.specs.Io.KnownBytes.{Consumes, prepend_known}
+use Rattle.lsys_syntax.specs.Limits.{most_script_bytes, most_line_bytes}
 use Rattle.lsys_syntax.specs.Lines.{lines_of}
 use Rattle.lsys_io.specs.declared.lines.Stage.{Stage}
 use Rattle.lsys_io.specs.declared.lines.Stage.TheVariants.{Going, Ended, Refused}
 use Rattle.lsys_io.specs.Feeds.{has_lf}
-
--- the most bytes that the lines of a script take, each LF counted
-abbrev pub script_limit : ℕ
-script_limit = 16777216
-
--- the most bytes of a line, its CR counted and its LF not
-abbrev pub line_limit : ℕ
-line_limit = 65536
 
 -- the bytes that were read and are in no line yet, how many bytes the lines took, the line last told, and where the reader stands
 pub record Reading : Type 0 where
@@ -54,12 +47,12 @@ pub record TakesLine (old new : Reading) (left_old left_new : Option (List ℕ))
 
 -- The bytes go past the script's limit, and no line ends before it.
 pub record PassesLimit (taken : ℕ) (bytes : List ℕ) : Type 0 where
-  pub past : script_limit < taken + length bytes
-  pub no_end : has_lf (take (script_limit - taken) bytes) ≡ false
+  pub past : most_script_bytes < taken + length bytes
+  pub no_end : has_lf (take (most_script_bytes - taken) bytes) ≡ false
 
 -- The bytes held before and those that the source gave in this call make no whole line, and stay within the limit.
 pub record LeavesNoLine (old : Reading) (left_old left_new : Option (List ℕ)) : Type 0 where
   pub given : List ℕ
   pub taken : Consumes left_old left_new given
   pub no_lf : has_lf (old.held ++ given) ≡ false
-  pub within : old.taken + length (old.held ++ given) ≤ script_limit
+  pub within : old.taken + length (old.held ++ given) ≤ most_script_bytes

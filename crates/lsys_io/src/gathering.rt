@@ -4,7 +4,7 @@ ghost use Rattle.std.specs.Io.KnownBytes.{Consumes, IsAtEnd};
 ghost use Rattle.lsys_syntax.specs.Lines.{without_cr};
 ghost use Rattle.lsys_io.specs.Causes.{Rose};
 ghost use Rattle.lsys_io.specs.Feeds.{has_lf};
-ghost use Rattle.lsys_io.specs.Reading.{line_limit};
+ghost use Rattle.lsys_syntax.specs.Limits.{most_line_bytes};
 ghost use Rattle.lsys_io.specs.Gathering.{Absorbs, Gathers, Stops, IfFault, Finishes};
 
 use super::{Failed, Source};
@@ -37,12 +37,12 @@ fn feed_place(bytes: &[u8]) -> usize
 
 /// Keeps a part of a line that is not too long yet; `count` bytes stand before it.
 fn keep(line: &mut Vec<u8>, count: usize, part: &[u8])
-    requires capacity { line_limit ≤ vec_capacity line.old }
+    requires capacity { most_line_bytes ≤ vec_capacity line.old }
     requires before { vec_len line.old ≤ count }
     requires fits { count + length part.now < 2 ^ 64 }
-    ensures kept { count + length part.now ≤ line_limit → line.new.items ≡ line.old.items ++ part.now }
+    ensures kept { count + length part.now ≤ most_line_bytes → line.new.items ≡ line.old.items ++ part.now }
     ensures before { vec_len line.new ≤ count + length part.now }
-    ensures capacity { line_limit ≤ vec_capacity line.new }
+    ensures capacity { most_line_bytes ≤ vec_capacity line.new }
 {
     if count + part.len() <= LINE_LIMIT {
         match line.extend_from_slice(part) {
@@ -54,14 +54,14 @@ fn keep(line: &mut Vec<u8>, count: usize, part: &[u8])
 
 /// Takes what is held to its first LF, or all of it. None where that passes the room.
 fn absorb(pieces: &mut Pieces, line: &mut Vec<u8>, count: usize, room: usize) -> Option<Gathered>
-    requires capacity { line_limit ≤ vec_capacity line.old }
+    requires capacity { most_line_bytes ≤ vec_capacity line.old }
     requires before { vec_len line.old ≤ count }
     requires within { count ≤ room }
     requires fits { room < 2 ^ 63 }
     ensures absorbs { IfSome result (Absorbs pieces.old pieces.new line.old.items line.new.items count room) }
     ensures past { IfNone result ((room - count < length pieces.old) × (has_lf (take (room - count) pieces.old) ≡ false)) }
     ensures before { IfSome result (λ gathered. vec_len line.new ≤ gathered.count) }
-    ensures capacity { line_limit ≤ vec_capacity line.new }
+    ensures capacity { most_line_bytes ≤ vec_capacity line.new }
 {
     let held = pieces.held();
     let place = feed_place(held);
@@ -87,13 +87,13 @@ pub(crate) fn gather<S: Source>(
     room: usize,
 ) -> Result<Gathered, LineRefusal>
     requires empty { line.old.items ≡ [] }
-    requires capacity { line_limit ≤ vec_capacity line.old }
+    requires capacity { most_line_bytes ≤ vec_capacity line.old }
     requires fits { room < 2 ^ 63 }
     ensures gathers { IfOk result (λ gathered. (given : List ℕ) × Consumes (S.left source.old) (S.left source.new) given × Gathers (pieces.old ++ given) pieces.new line.new.items room gathered) }
     ensures ended { IfOk result (λ gathered. gathered.whole ≡ false → IsAtEnd (S.left source.new)) }
     ensures stops { IfErr result (λ refusal. (given : List ℕ) × Consumes (S.left source.old) (S.left source.new) given × Stops (pieces.old ++ given) room refusal) }
     ensures no_read_while_held { has_lf pieces.old ≡ true → source.new ≡ source.old }
-    ensures capacity { line_limit ≤ vec_capacity line.new }
+    ensures capacity { most_line_bytes ≤ vec_capacity line.new }
 
     ensures never_falls { S.faults source.old ≤ S.faults source.new }
     ensures ok_leaves_count { OnOk result (S.faults source.new ≡ S.faults source.old) }
@@ -136,9 +136,9 @@ fn drop_cr(line: &mut Vec<u8>)
 
 /// Ends a line of `count` bytes: drops its CR, or the line where it is too long.
 pub(crate) fn finish(line: &mut Vec<u8>, count: usize) -> LineRead
-    requires { line_limit ≤ vec_capacity line.old }
+    requires { most_line_bytes ≤ vec_capacity line.old }
     ensures finishes { Finishes result count line.old.items line.new.items }
-    ensures capacity { line_limit ≤ vec_capacity line.new }
+    ensures capacity { most_line_bytes ≤ vec_capacity line.new }
 {
     if count > LINE_LIMIT {
         line.clear();

@@ -4,7 +4,8 @@ ghost use Rattle.std.specs.Io.KnownBytes.{IsAtEnd};
 ghost use Rattle.lsys_syntax.specs.Lines.{without_cr};
 ghost use Rattle.lsys_io.specs.Causes.{Rose};
 ghost use Rattle.lsys_io.specs.Feeds.{has_lf};
-ghost use Rattle.lsys_io.specs.Reading.{remaining, IsNotRefused, TakesLine, PassesLimit, LeavesNoLine, line_limit, script_limit};
+ghost use Rattle.lsys_syntax.specs.Limits.{most_line_bytes, most_script_bytes};
+ghost use Rattle.lsys_io.specs.Reading.{remaining, IsNotRefused, TakesLine, PassesLimit, LeavesNoLine};
 ghost use Rattle.lsys_io.specs.LineAnswers.{last_answer, OnLine, OnLong, OnTaken, OnEnd, OnReadFault, OnTooLong, OnNoFault, OnNoLine, OnNoEnd, OnLast};
 
 use super::Source;
@@ -59,13 +60,14 @@ pub struct LineReader {
 
 impl Model for LineReader {
     ghost use Rattle.std.specs.Prelude.{◌≤◌, vec_capacity};
-    ghost use Rattle.lsys_io.specs.Reading.{Reading, line_limit, script_limit};
+    ghost use Rattle.lsys_syntax.specs.Limits.{most_line_bytes, most_script_bytes};
+    ghost use Rattle.lsys_io.specs.Reading.{Reading};
 
     ghost Value = { Reading };
 
     ghost view = { λ r. record { held = r.pieces; taken = r.taken; line = r.line.items; stage = r.stage } };
 
-    ghost invariant = { λ r. (line_limit ≤ vec_capacity r.line) × (r.taken ≤ script_limit) };
+    ghost invariant = { λ r. (most_line_bytes ≤ vec_capacity r.line) × (r.taken ≤ most_script_bytes) };
 }
 
 impl LineReader {
@@ -90,8 +92,8 @@ impl LineReader {
 
     /// Reads the next line. After `End` or a refusal every later call answers the same and reads nothing.
     pub fn next_line<S: Source>(&mut self, source: &mut S) -> Result<LineRead, LineRefusal>
-        ensures line { OnLine result ((line : List ℕ) × TakesLine self.old self.new (S.left source.old) (S.left source.new) line × (length line ≤ line_limit) × (self.new.line ≡ without_cr line)) }
-        ensures long { OnLong result ((line : List ℕ) × TakesLine self.old self.new (S.left source.old) (S.left source.new) line × (line_limit < length line)) }
+        ensures line { OnLine result ((line : List ℕ) × TakesLine self.old self.new (S.left source.old) (S.left source.new) line × (length line ≤ most_line_bytes) × (self.new.line ≡ without_cr line)) }
+        ensures long { OnLong result ((line : List ℕ) × TakesLine self.old self.new (S.left source.old) (S.left source.new) line × (most_line_bytes < length line)) }
         ensures end_only_where_none_left { OnEnd result (IsAtEnd (remaining self.old (S.left source.old))) }
         ensures too_long_only_past_limit { self.old.stage ≡ Stage.Going → OnTooLong result (IfSome (remaining self.old (S.left source.old)) (PassesLimit self.old.taken)) }
         ensures read_fault_leaves_no_line { self.old.stage ≡ Stage.Going → OnReadFault result (LeavesNoLine self.old (S.left source.old) (S.left source.new)) }
@@ -99,7 +101,7 @@ impl LineReader {
 
         // Each line takes a byte, and the lines together stay within the limit.
         ensures progress { OnTaken result (self.old.taken < self.new.taken) }
-        ensures within { self.new.taken ≤ script_limit }
+        ensures within { self.new.taken ≤ most_script_bytes }
         ensures else_takes_nothing { OnLast result (self.new.taken ≡ self.old.taken) }
 
         // The end and a refusal stay.

@@ -1,6 +1,7 @@
 -- The parts of a production: what is read where one stands, and that nothing is where none does.
 use Rattle.std.proofs.Common.{◌≡◌, ℕ, zero, suc, ◌+◌, ◌-◌, ◌<◌, ◌≤◌, true, false, Some, None, Ok, Err, List, [], ◌∷◌, drop, take, length, refl, ap, sym, subst, ◌∙◌, arith}
 use Rattle.std.specs.Prelude.{unwrap_or}
+use Rattle.lsys_syntax.specs.Limits.{nesting_bound}
 use Rattle.lsys_syntax.specs.Tokens.{NameText, Kind, Arrow, LeftParen, Colon, At, Less, Greater}
 use Rattle.lsys_syntax.specs.Strings.{ModuleName, Module}
 use Rattle.lsys_syntax.specs.Expressions.{Expr, expr_kinds, IsExpr}
@@ -35,7 +36,7 @@ some-read (suc d) ks e h = omega arith
 
 -- an expression of d tokens stands there
 module _ (ks : List Kind) (at d : ℕ) (e : Expr) (g : AreTokens ks) (w : at ≤ length ks) (x : extent (drop at ks) ≡ ends d e) where
-  whole : (d ≤ length (drop at ks)) × (expr_kinds e ≡ take d (drop at ks)) × IsExpr e × (expr_nesting e ≤ 32)
+  whole : (d ≤ length (drop at ks)) × (expr_kinds e ≡ take d (drop at ks)) × IsExpr e × (expr_nesting e ≤ nesting_bound)
   whole = ends-whole (drop at ks) d e (tokens-drop at ks g) x
 
   reads : read_expr (take d (drop at ks)) ≡ Some e

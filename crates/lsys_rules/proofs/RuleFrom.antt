@@ -28,7 +28,7 @@ verdict-step t l n ks R.Stop r h = refl
 verdict-step t l n ks (R.Formals p x) r h = h
 verdict-step t l n ks (R.FormalDue p x m fs) r h = h
 verdict-step t l n ks (R.FormalRead p x m fs) r h = h
-verdict-step t l n ks (R.InExpr spot s) r h = by (nat_lt 32 (N.depth s)) h
+verdict-step t l n ks (R.InExpr spot s) r h = by (nat_lt nesting_bound (N.depth s)) h
   where
     by : (b : Bool) → command_in (verdict_from (n + 1) (InProduction t l (R.InExpr spot s)) ks) ≡ option_map (put_production t l) r
         → command_in (elim b [ true ↦ L.too_deep n | false ↦ verdict_from (n + 1) (InProduction t l (R.InExpr spot s)) ks ]) ≡ option_map (put_production t l) (cond b None r)
@@ -92,22 +92,22 @@ inside-step : (spot : Spot) (s x : E.State) (k : Kind) (ks all : List Kind) (n :
     → taken (within production spot k x) (rule_from (within production spot k x) ks) ≡ by_extent spot all (behind n s x rest)
 inside-step spot s (E.Done e) k ks all n rest q d h = sym (ap (behind_expr spot e) d)
 inside-step spot s E.Stop k ks all n rest q d h = inside-stop spot s k ks all n q d
-inside-step spot s (E.Due j) k ks all n rest q d h = by (nat_lt 32 (N.depth (E.Due j)))
+inside-step spot s (E.Due j) k ks all n rest q d h = by (nat_lt nesting_bound (N.depth (E.Due j)))
   where
     by : (b : Bool) → cond b None (rule_from (R.InExpr spot (E.Due j)) ks) ≡ by_extent spot all (cond b (too_deep n) rest)
     by true = refl
     by false = h tt
-inside-step spot s (E.Have a j) k ks all n rest q d h = by (nat_lt 32 (N.depth (E.Have a j)))
+inside-step spot s (E.Have a j) k ks all n rest q d h = by (nat_lt nesting_bound (N.depth (E.Have a j)))
   where
     by : (b : Bool) → cond b None (rule_from (R.InExpr spot (E.Have a j)) ks) ≡ by_extent spot all (cond b (too_deep n) rest)
     by true = refl
     by false = h tt
-inside-step spot s (E.HalfAnd a j) k ks all n rest q d h = by (nat_lt 32 (N.depth (E.HalfAnd a j)))
+inside-step spot s (E.HalfAnd a j) k ks all n rest q d h = by (nat_lt nesting_bound (N.depth (E.HalfAnd a j)))
   where
     by : (b : Bool) → cond b None (rule_from (R.InExpr spot (E.HalfAnd a j)) ks) ≡ by_extent spot all (cond b (too_deep n) rest)
     by true = refl
     by false = h tt
-inside-step spot s (E.HalfOr a j) k ks all n rest q d h = by (nat_lt 32 (N.depth (E.HalfOr a j)))
+inside-step spot s (E.HalfOr a j) k ks all n rest q d h = by (nat_lt nesting_bound (N.depth (E.HalfOr a j)))
   where
     by : (b : Bool) → cond b None (rule_from (R.InExpr spot (E.HalfOr a j)) ks) ≡ by_extent spot all (cond b (too_deep n) rest)
     by true = refl

@@ -1,6 +1,7 @@
 -- No rule of the program comes of a reading that has met a part which the program doesn't have.
 use Rattle.std.proofs.Common.{◌≡◌, ℕ, zero, suc, Bool, true, false, ◌&&◌, ◌||◌, Option, Some, None, List, [], ◌∷◌, nat_lt, cond, refl, ap, ◌∙◌}
 use Rattle.std.specs.Prelude.{not, is_some, is_none}
+use Rattle.lsys_syntax.specs.Limits.{nesting_bound}
 use Rattle.lsys_syntax.specs.Tokens.{NameText, Kind, Name, Arrow, LeftParen, RightParen, Comma, Colon, At, Less, Greater}
 use Rattle.lsys_syntax.specs.Strings.{ModuleName, Symbol, Module, Push, Pop, Cut}
 use Rattle.lsys_syntax.specs.Expressions.{Expr}
@@ -200,7 +201,7 @@ taken-none Stop r h = refl
 taken-none (Formals p x) r h = h
 taken-none (FormalDue p x n fs) r h = h
 taken-none (FormalRead p x n fs) r h = h
-taken-none (InExpr spot s) r h = by (nat_lt 32 (N.depth s))
+taken-none (InExpr spot s) r h = by (nat_lt nesting_bound (N.depth s))
   where
     by : (b : Bool) → where_plain (cond b None r) ≡ None
     by true = refl

@@ -1,5 +1,6 @@
 -- A rule read from tokens, within the bound on nesting, and whether the program has it.
 use Rattle.std.specs.Prelude.{Option, Some, None, List, [], ◌∷◌, nat_lt, if◌then◌else◌, drop}
+use Rattle.lsys_syntax.specs.Limits.{nesting_bound}
 use Rattle.lsys_syntax.specs.Tokens.{Kind}
 use Rattle.lsys_syntax.specs.Expressions.{Expr}
 use Rattle.lsys_syntax.specs.ExpressionPlaces.{Extent, ends, stops, too_deep}
@@ -10,7 +11,7 @@ use Rattle.lsys_spec.specs.Interim.{is_plain_rule}
 -- what is read behind a state, unless it is none or too deep
 abbrev pub taken : State → Option Rule → Option Rule
 taken Stop r = None
-taken s r = if nat_lt 32 (depth s) then None else r
+taken s r = if nat_lt nesting_bound (depth s) then None else r
 
 -- the rule that the tokens complete from a state on
 abbrev pub rule_from : State → List Kind → Option Rule

@@ -111,8 +111,8 @@ pub record Rules (rs : List Production) : Type 0 where
   pub few_tables : length (tables rs) ≤ most_tables
   pub few : length rs ≤ most_rules
 
-rules-one_more : (done rest : List Production) (p : Production) → Rules (done ++ p ∷ rest) → (length (tables (done ++ p ∷ [])) ≤ most_tables) × (length (done ++ p ∷ []) ≤ most_rules)
-rules-one_more done rest p r =
+rules-after_rule : (done rest : List Production) (p : Production) → Rules (done ++ p ∷ rest) → (length (tables (done ++ p ∷ [])) ≤ most_tables) × (length (done ++ p ∷ []) ≤ most_rules)
+rules-after_rule done rest p r =
     let e : done ++ p ∷ rest ≡ (done ++ p ∷ []) ++ rest = sym (append_assoc done (p ∷ []) rest) in (
       le_trans (tables-front (done ++ p ∷ []) rest) (subst (λ rs. length (tables rs) ≤ most_tables) e r.few_tables),
       omega (arith, length-append done (p ∷ []), length-append done (p ∷ rest), r.few),
@@ -124,7 +124,7 @@ module _ (s : System) (none : s.homomorphisms ≡ []) where
       let new : Each (λ q. same_label q p ≡ false) done = apart-before same_label done rest p r.labels in
       let calm : Each (λ q. clash q p ≡ false) done = apart-before clash done rest p r.groups in
       let own : Each (λ q. IsUnrefused 4 q.rule) (p ∷ rest) = each-back (λ q. IsUnrefused 4 q.rule) done (p ∷ rest) r.each in
-      let more : (length (tables (done ++ p ∷ [])) ≤ most_tables) × (length (done ++ p ∷ []) ≤ most_rules) = rules-one_more done rest p r in
+      let more : (length (tables (done ++ p ∷ [])) ≤ most_tables) × (length (done ++ p ∷ []) ≤ most_rules) = rules-after_rule done rest p r in
       let mixes : any (λ q. not (same_label q p) && clash q p) done ≡ false =
       any-none _ done (each-map (λ q. clash q p ≡ false) (λ q. (not (same_label q p) && clash q p) ≡ false) (λ q h. and-false (not (same_label q p)) (clash q p) h) done calm) in
       let stands : any (λ q. same_label q p && not (bytes_eq q.table p.table)) done ≡ false =

@@ -28,8 +28,8 @@ pub data Ends (x : List Symbol) (n q : ℕ) : Type 0 where
   inside : (p d : ℕ) → (l : List ℕ) → slice_get x p ≡ Some (Push l) → close_of 0 (drop (suc p) x) ≡ Some d → suc p + d ≡ q → Ends x n q
   outside : (k : ℕ) → k < n → close_of k x ≡ Some q → Ends x n q
 
-one_more : (o : Option ℕ) (q : ℕ) → o ≡ Some q → option_map (λ q. q + 1) o ≡ Some (suc q)
-one_more o q h = let e : q + 1 ≡ suc q = omega arith in ap (option_map (λ q. q + 1)) h ∙ ap (λ q. Some q) e
+after_rule : (o : Option ℕ) (q : ℕ) → o ≡ Some q → option_map (λ q. q + 1) o ≡ Some (suc q)
+after_rule o q h = let e : q + 1 ≡ suc q = omega arith in ap (option_map (λ q. q + 1)) h ∙ ap (λ q. Some q) e
 
 behind : (s : Symbol) (x : List Symbol) (n m q : ℕ) → ((k : ℕ) → k < n → close_of k x ≡ Some q → Ends (s ∷ x) m (suc q)) → Ends x n q → Ends (s ∷ x) m (suc q)
 behind s x n m q f (inside p d l h c e) = inside (suc p) d l h c (omega (arith, e))
@@ -41,13 +41,13 @@ ends (Push k ∷ x) n zero l b h = cc
 ends (Module k m ∷ x) n zero l b h = cc
 ends (Pop k ∷ x) zero q l b h = cc
 ends (Pop k ∷ x) (suc n) zero l b h = outside 0 (omega arith) refl
-ends (Module k m ∷ x) n (suc q) l b h = behind (Module k m) x n n q (λ i j c. outside i j (one_more (close_of i x) q c)) (ends x n q l b h)
-ends (Pop k ∷ x) (suc n) (suc q) l b h = behind (Pop k) x n (suc n) q (λ i j c. outside (suc i) (omega (arith, j)) (one_more (close_of i x) q c)) (ends x n q l b h)
+ends (Module k m ∷ x) n (suc q) l b h = behind (Module k m) x n n q (λ i j c. outside i j (after_rule (close_of i x) q c)) (ends x n q l b h)
+ends (Pop k ∷ x) (suc n) (suc q) l b h = behind (Pop k) x n (suc n) q (λ i j c. outside (suc i) (omega (arith, j)) (after_rule (close_of i x) q c)) (ends x n q l b h)
 ends (Push k ∷ x) n (suc q) l b h = behind (Push k) x (suc n) n q (λ i j c. to i j c) (ends x (suc n) q l b h)
   where
     to : (i : ℕ) → i < suc n → close_of i x ≡ Some q → Ends (Push k ∷ x) n (suc q)
     to zero j c = inside 0 q k refl c (omega arith)
-    to (suc i) j c = outside i (omega (arith, j)) (one_more (close_of (suc i) x) q c)
+    to (suc i) j c = outside i (omega (arith, j)) (after_rule (close_of (suc i) x) q c)
 
 mates : (x : List Symbol) (p d q : ℕ) (l : List ℕ) → slice_get x p ≡ Some (Push l) → close_of 0 (drop (suc p) x) ≡ Some d → suc p + d ≡ q → AreMates x p q
 mates x p d q l h c e =

@@ -10,7 +10,7 @@ use Rattle.lsys_spec.specs.Levels.{ModuleValue, Step, Items}
 use Rattle.lsys_spec.specs.Walks.{Mark, Entry, Told, followed, left_walk, right_walk, Found}
 use Rattle.lsys_spec.proofs.Tells.{mark_of, Foreign, Ends, Tells, tells_says, tells_answer, left_tells, right_tells}
 use Rattle.lsys_spec.proofs.Ruled.{Ruled, left_ruled, right_ruled}
-use Rattle.lsys_spec.specs.Choice.{Fault, TooFar, Outcome, No, Yes, Fails, Choice, Failed, Asking, Tried, none_tried, one_more, right_after, contexts, next_contexts, outcome, decided, first_applying, Applying, found_with, all_applying, picked, choice}
+use Rattle.lsys_spec.specs.Choice.{Fault, TooFar, Outcome, No, Yes, Fails, Choice, Failed, Asking, Tried, none_tried, after_rule, right_after, contexts, next_contexts, outcome, decided, first_applying, Applying, found_with, all_applying, picked, choice}
 use Rattle.lsys_spec.proofs.Groups.{choice_far}
 use Rattle.lsys_spec.proofs.Eachs.{each_append}
 
@@ -44,9 +44,9 @@ first_from : (a : Asking) (w : List Step) (r : Items) (k : ℕ) (d : Tried) (bs 
 first_from a w r k d [] l = tt
 first_from a w r k d (b ∷ bs) l =
     let t : Told Found = next_contexts a w r d b in
-    let others : Told Choice = first_applying a w r (one_more d t) bs in
+    let others : Told Choice = first_applying a w r (after_rule d t) bs in
     each_append (From k) t.entries (decided (outcome a.most d b t) d.place others).entries (next_from a w r k d b l)
-    (decided_from k (outcome a.most d b t) d.place others (first_from a w r k (one_more d t) bs (omega (arith, l))))
+    (decided_from k (outcome a.most d b t) d.place others (first_from a w r k (after_rule d t) bs (omega (arith, l))))
 
 all_from : (a : Asking) (w : List Step) (r : Items) (k : ℕ) (d : Tried) (found : Result (List Applying) Fault) (bs : List Body) → k ≤ d.place → Each (From k) (all_applying a w r d found bs).entries
 all_from a w r k d (Err e) bs l = tt
@@ -54,8 +54,8 @@ all_from a w r k d (Ok found) [] l = tt
 all_from a w r k d (Ok found) (b ∷ bs) l =
     let t : Told Found = next_contexts a w r d b in
     let more : Result (List Applying) Fault = found_with found d.place b (outcome a.most d b t) in
-    each_append (From k) t.entries (all_applying a w r (one_more d t) more bs).entries (next_from a w r k d b l)
-    (all_from a w r k (one_more d t) more bs (omega (arith, l)))
+    each_append (From k) t.entries (all_applying a w r (after_rule d t) more bs).entries (next_from a w r k d b l)
+    (all_from a w r k (after_rule d t) more bs (omega (arith, l)))
 
 from_foreign : (g : ℕ) (es : List Entry) → Each (From (g + 1)) es → Foreign (record { rule = g; depth = 0 }) es
 from_foreign g [] h = tt
@@ -117,12 +117,12 @@ first_told a f w w' r r' d (b ∷ bs) e =
     let a' : Asking = record a { ignored = f } in
     let t : Told Found = next_contexts a w r d b in
     let t' : Told Found = next_contexts a' w' r' d b in
-    let others = λ (u : Told Found). first_applying a w r (one_more d u) bs in
-    let others' = λ (u : Told Found). first_applying a' w' r' (one_more d u) bs in
+    let others = λ (u : Told Found). first_applying a w r (after_rule d u) bs in
+    let others' = λ (u : Told Found). first_applying a' w' r' (after_rule d u) bs in
     next_told a f w w' r r' d b (λ u. decided (outcome a.most d b u) d.place (others u)) (λ u. decided (outcome a.most d b u) d.place (others' u))
-    (decided_from (d.place + 1) (outcome a.most d b t) d.place (others t) (first_from a w r (d.place + 1) (one_more d t) bs (omega arith)))
-    (decided_from (d.place + 1) (outcome a.most d b t') d.place (others' t') (first_from a' w' r' (d.place + 1) (one_more d t') bs (omega arith)))
-    (decided_told (outcome a.most d b t) d.place (others t) (others' t) (first_told a f w w' r r' (one_more d t) bs)) e
+    (decided_from (d.place + 1) (outcome a.most d b t) d.place (others t) (first_from a w r (d.place + 1) (after_rule d t) bs (omega arith)))
+    (decided_from (d.place + 1) (outcome a.most d b t') d.place (others' t') (first_from a' w' r' (d.place + 1) (after_rule d t') bs (omega arith)))
+    (decided_told (outcome a.most d b t) d.place (others t) (others' t) (first_told a f w w' r r' (after_rule d t) bs)) e
 
 all_told : (a : Asking) (f : ModuleName → Bool) (w w' : List Step) (r r' : Items) (d : Tried) (found : Result (List Applying) Fault) (bs : List Body)
     → ToldBy (all_applying a w r d found bs) (all_applying (record a { ignored = f }) w' r' d found bs)
@@ -133,10 +133,10 @@ all_told a f w w' r r' d (Ok found) (b ∷ bs) e =
     let t : Told Found = next_contexts a w r d b in
     let t' : Told Found = next_contexts a' w' r' d b in
     let more = λ (u : Told Found). found_with found d.place b (outcome a.most d b u) in
-    next_told a f w w' r r' d b (λ u. all_applying a w r (one_more d u) (more u) bs) (λ u. all_applying a' w' r' (one_more d u) (more u) bs)
-    (all_from a w r (d.place + 1) (one_more d t) (more t) bs (omega arith))
-    (all_from a' w' r' (d.place + 1) (one_more d t') (more t') bs (omega arith))
-    (all_told a f w w' r r' (one_more d t) (more t) bs) e
+    next_told a f w w' r r' d b (λ u. all_applying a w r (after_rule d u) (more u) bs) (λ u. all_applying a' w' r' (after_rule d u) (more u) bs)
+    (all_from a w r (d.place + 1) (after_rule d t) (more t) bs (omega arith))
+    (all_from a' w' r' (d.place + 1) (after_rule d t') (more t') bs (omega arith))
+    (all_told a f w w' r r' (after_rule d t) (more t) bs) e
 
 choice_told : (a : Asking) (f : ModuleName → Bool) (key : Option ℕ) (w w' : List Step) (r r' : Items) (bs : List Body)
     → ToldBy (choice a key w r bs) (choice (record a { ignored = f }) key w' r' bs)

@@ -8,7 +8,7 @@ use Rattle.lsys_spec.specs.Levels.{ModuleValue, Step, Items}
 use Rattle.lsys_spec.specs.Walks.{Mark, Entry, Told, says, followed, left_walk, right_walk, Found}
 use Rattle.lsys_spec.proofs.Carries.{Carries, carries_self, carries_followed, carries_answer}
 use Rattle.lsys_spec.proofs.Alike.{Settles, AlikeItems, AlikeWays, left_carries, right_carries}
-use Rattle.lsys_spec.specs.Choice.{Fault, TooFar, Outcome, No, Yes, Fails, Choice, NoRule, Chosen, Failed, Asking, Tried, none_tried, one_more, right_after, contexts, next_contexts, fitting, outcome, decided, first_applying, Applying, found_with, all_applying, picked, choice}
+use Rattle.lsys_spec.specs.Choice.{Fault, TooFar, Outcome, No, Yes, Fails, Choice, NoRule, Chosen, Failed, Asking, Tried, none_tried, after_rule, right_after, contexts, next_contexts, fitting, outcome, decided, first_applying, Applying, found_with, all_applying, picked, choice}
 
 right_after_carries : (S : List ℕ → Type 0) (f : ModuleName → Bool) (d : Mark) (b : Body) (own : ModuleValue) (r r' : Items) → AlikeItems S r r' → (o : Found)
     → Carries (Settles S) (right_after f d b own r o) (right_after f d b own r' o)
@@ -39,12 +39,12 @@ first_carries S a w w' r r' l i d [] = carries_self (Settles S) (says NoRule)
 first_carries S a w w' r r' l i d (b ∷ bs) =
     let t : Told Found = next_contexts a w r d b in
     let t' : Told Found = next_contexts a w' r' d b in
-    let next = λ (u : Told Found). decided (outcome a.most d b u) d.place (first_applying a w r (one_more d u) bs) in
-    let next' = λ (u : Told Found). decided (outcome a.most d b u) d.place (first_applying a w' r' (one_more d u) bs) in
+    let next = λ (u : Told Found). decided (outcome a.most d b u) d.place (first_applying a w r (after_rule d u) bs) in
+    let next' = λ (u : Told Found). decided (outcome a.most d b u) d.place (first_applying a w' r' (after_rule d u) bs) in
     carries_followed (Settles S) t t' (next t) (next' t') (next_carries S a w w' r r' l i d b)
     (λ e. subst (λ u. Carries (Settles S) (next t) (next' u)) (sym e)
-    (decided_carries (Settles S) (outcome a.most d b t) d.place (first_applying a w r (one_more d t) bs) (first_applying a w' r' (one_more d t) bs)
-    (first_carries S a w w' r r' l i (one_more d t) bs)))
+    (decided_carries (Settles S) (outcome a.most d b t) d.place (first_applying a w r (after_rule d t) bs) (first_applying a w' r' (after_rule d t) bs)
+    (first_carries S a w w' r r' l i (after_rule d t) bs)))
 
 all_carries : (S : List ℕ → Type 0) (a : Asking) (w w' : List Step) (r r' : Items) → AlikeWays S w w' → AlikeItems S r r' → (d : Tried) (found : Result (List Applying) Fault) (bs : List Body)
     → Carries (Settles S) (all_applying a w r d found bs) (all_applying a w' r' d found bs)
@@ -53,11 +53,11 @@ all_carries S a w w' r r' l i d (Ok found) [] = carries_self (Settles S) (says (
 all_carries S a w w' r r' l i d (Ok found) (b ∷ bs) =
     let t : Told Found = next_contexts a w r d b in
     let t' : Told Found = next_contexts a w' r' d b in
-    let next = λ (u : Told Found). all_applying a w r (one_more d u) (found_with found d.place b (outcome a.most d b u)) bs in
-    let next' = λ (u : Told Found). all_applying a w' r' (one_more d u) (found_with found d.place b (outcome a.most d b u)) bs in
+    let next = λ (u : Told Found). all_applying a w r (after_rule d u) (found_with found d.place b (outcome a.most d b u)) bs in
+    let next' = λ (u : Told Found). all_applying a w' r' (after_rule d u) (found_with found d.place b (outcome a.most d b u)) bs in
     carries_followed (Settles S) t t' (next t) (next' t') (next_carries S a w w' r r' l i d b)
     (λ e. subst (λ u. Carries (Settles S) (next t) (next' u)) (sym e)
-    (all_carries S a w w' r r' l i (one_more d t) (found_with found d.place b (outcome a.most d b t)) bs))
+    (all_carries S a w w' r r' l i (after_rule d t) (found_with found d.place b (outcome a.most d b t)) bs))
 
 pub choice_carries : (S : List ℕ → Type 0) (a : Asking) (key : Option ℕ) (w w' : List Step) (r r' : Items) → AlikeWays S w w' → AlikeItems S r r' → (bs : List Body)
     → Carries (Settles S) (choice a key w r bs) (choice a key w' r' bs)
@@ -95,16 +95,16 @@ first_far : (a : Asking) (w : List Step) (r : Items) (d : Tried) (bs : List Body
 first_far a w r d [] h = says_near a.most d.read (Failed TooFar) NoRule h
 first_far a w r d (b ∷ bs) h =
     let t : Told Found = next_contexts a w r d b in
-    far_behind a.most d.read (Failed TooFar) t b (λ o. decided o d.place (first_applying a w r (one_more d t) bs)) refl
-    (λ near o. decided_far a.most (d.read + length t.entries) o d.place (first_applying a w r (one_more d t) bs) near (first_far a w r (one_more d t) bs near))
+    far_behind a.most d.read (Failed TooFar) t b (λ o. decided o d.place (first_applying a w r (after_rule d t) bs)) refl
+    (λ near o. decided_far a.most (d.read + length t.entries) o d.place (first_applying a w r (after_rule d t) bs) near (first_far a w r (after_rule d t) bs near))
 
 all_far : (a : Asking) (w : List Step) (r : Items) (d : Tried) (found : Result (List Applying) Fault) (bs : List Body) → d.read ≤ a.most → IsFar a.most d.read (Err TooFar) (all_applying a w r d found bs)
 all_far a w r d (Err k) bs h = says_near a.most d.read (Err TooFar) (Err k) h
 all_far a w r d (Ok found) [] h = says_near a.most d.read (Err TooFar) (Ok found) h
 all_far a w r d (Ok found) (b ∷ bs) h =
     let t : Told Found = next_contexts a w r d b in
-    far_behind a.most d.read (Err TooFar) t b (λ o. all_applying a w r (one_more d t) (found_with found d.place b o) bs) refl
-    (λ near o. all_far a w r (one_more d t) (found_with found d.place b o) bs near)
+    far_behind a.most d.read (Err TooFar) t b (λ o. all_applying a w r (after_rule d t) (found_with found d.place b o) bs) refl
+    (λ near o. all_far a w r (after_rule d t) (found_with found d.place b o) bs near)
 
 pub choice_far : (a : Asking) (key : Option ℕ) (w : List Step) (r : Items) (bs : List Body) → a.most < length (choice a key w r bs).entries → (choice a key w r bs).answer ≡ Failed TooFar
 choice_far a None w r bs l = first_far a w r none_tried bs (omega arith) (omega (arith, l))

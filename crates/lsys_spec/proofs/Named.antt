@@ -7,7 +7,7 @@ use Rattle.lsys_spec.specs.Bodies.{Body, Pattern, Patterns, Done, OneOf, BranchO
 use Rattle.lsys_spec.specs.Levels.{ModuleValue, Symbol, Push, Pop, Module, lineage, Step, Passed, Around, OutOf, Reading, restored, read, way, Items, Nothing, One, Branch, Nest, at_root, in_branch, items_here, with_module, with_open_bracket, items_of, items_from}
 use Rattle.lsys_spec.specs.Walks.{Mark, deeper, Entry, Compared, Ignored, Out, Branched, Told, Found, says, is_ignored, fits, left_walk, right_walk, behind, ahead, or_passed}
 use Rattle.lsys_spec.proofs.Meetings.{met}
-use Rattle.lsys_spec.specs.Choice.{Fault, Outcome, No, Yes, Fails, Choice, Asking, Tried, none_tried, one_more, right_after, next_contexts, outcome, decided, first_applying, Applying, found_with, all_applying, choice}
+use Rattle.lsys_spec.specs.Choice.{Fault, Outcome, No, Yes, Fails, Choice, Asking, Tried, none_tried, after_rule, right_after, next_contexts, outcome, decided, first_applying, Applying, found_with, all_applying, choice}
 use Rattle.lsys_spec.specs.Meaning.{key_for, most_entries, asking, asked}
 use Rattle.lsys_spec.specs.Questions.{question}
 use Rattle.lsys_spec.proofs.Ruled.{passed_all}
@@ -132,9 +132,9 @@ first_named : (V : Symbol → Type 0) (a : Asking) (w : List Step) (r : Items) (
 first_named V a w r d [] h k = tt
 first_named V a w r d (b ∷ bs) h k =
     let t : Told Found = next_contexts a w r d b in
-    let others : Told Choice = first_applying a w r (one_more d t) bs in
+    let others : Told Choice = first_applying a w r (after_rule d t) bs in
     each_append (OfEntry V) t.entries (decided (outcome a.most d b t) d.place others).entries (next_named V a w r d b h k)
-    (decided_named V (outcome a.most d b t) d.place others (first_named V a w r (one_more d t) bs h k))
+    (decided_named V (outcome a.most d b t) d.place others (first_named V a w r (after_rule d t) bs h k))
 
 all_named : (V : Symbol → Type 0) (a : Asking) (w : List Step) (r : Items) (d : Tried) (found : Result (List Applying) Fault) (bs : List Body) → InWay V w → InItems V r
     → Each (OfEntry V) (all_applying a w r d found bs).entries
@@ -143,7 +143,7 @@ all_named V a w r d (Ok found) [] h k = tt
 all_named V a w r d (Ok found) (b ∷ bs) h k =
     let t : Told Found = next_contexts a w r d b in
     let more : Result (List Applying) Fault = found_with found d.place b (outcome a.most d b t) in
-    each_append (OfEntry V) t.entries (all_applying a w r (one_more d t) more bs).entries (next_named V a w r d b h k) (all_named V a w r (one_more d t) more bs h k)
+    each_append (OfEntry V) t.entries (all_applying a w r (after_rule d t) more bs).entries (next_named V a w r d b h k) (all_named V a w r (after_rule d t) more bs h k)
 
 choice_named : (V : Symbol → Type 0) (a : Asking) (key : Option ℕ) (w : List Step) (r : Items) (bs : List Body) → InWay V w → InItems V r → Each (OfEntry V) (choice a key w r bs).entries
 choice_named V a None w r bs h k = first_named V a w r none_tried bs h k

@@ -47,8 +47,8 @@ pub record Tried : Type 0 where
 abbrev pub none_tried : Tried
 none_tried = record { place = 0; read = 0 }
 
-abbrev pub one_more : Tried → Told Found → Tried
-one_more d t = record { place = d.place + 1; read = d.read + length t.entries }
+abbrev pub after_rule : Tried → Told Found → Tried
+after_rule d t = record { place = d.place + 1; read = d.read + length t.entries }
 
 -- the right walk is made where the left context matched
 abbrev pub right_after : (ModuleName → Bool) → Mark → Body → ModuleValue → Items → Found → Told Found
@@ -91,7 +91,7 @@ decided (Fails k) place others = says (Failed k)
 abbrev pub first_applying : Asking → List Step → Items → Tried → List Body → Told Choice
 first_applying a w r d [] = says NoRule
 first_applying a w r d (b ∷ bs) =
-    let t = next_contexts a w r d b in followed t (decided (outcome a.most d b t) d.place (first_applying a w r (one_more d t) bs))
+    let t = next_contexts a w r d b in followed t (decided (outcome a.most d b t) d.place (first_applying a w r (after_rule d t) bs))
 
 -- 3. with weights: all rules that apply, or the first fault
 
@@ -129,7 +129,7 @@ all_applying a w r d (Err k) bs = says (Err k)
 all_applying a w r d (Ok found) [] = says (Ok found)
 all_applying a w r d (Ok found) (b ∷ bs) =
     let t = next_contexts a w r d b in
-    followed t (all_applying a w r (one_more d t) (found_with found d.place b (outcome a.most d b t)) bs)
+    followed t (all_applying a w r (after_rule d t) (found_with found d.place b (outcome a.most d b t)) bs)
 
 -- the one at a place (a pick is the place of one of them, so none is missed)
 abbrev pub applying_at : Option ℕ → List Applying → Choice

@@ -3,11 +3,13 @@ use Rattle.std.specs.Prelude.{◌≡◌, ℕ, true, false, Some, None, Ok, Err, 
 use Rattle.lsys_syntax.specs.Tokens.{short}
 use Rattle.lsys_syntax.specs.Strings.{named, plus}
 use Rattle.lsys_spec.specs.Systems.{System}
+use Rattle.lsys_spec.specs.Values.{DivideByZero, Overflow}
 use Rattle.lsys_spec.specs.Bodies.{table_at}
 use Rattle.lsys_spec.specs.Levels.{Symbol, Push, Pop, Module, lineage, close_of, level_balanced, Passed, Around, OutOf, way, Nothing, One, Branch, items_from}
 use Rattle.lsys_spec.specs.Walks.{Mark, Compared, Ignored, Out, Branched}
 use Rattle.lsys_spec.specs.Cuts.{Plain, Percent, cut}
-use Rattle.lsys_spec.specs.Meaning.{first_level, last_level, meaning}
+use Rattle.lsys_spec.specs.Choice.{Arithmetic}
+use Rattle.lsys_spec.specs.Meaning.{FaultAt, first_level, last_level, meaning_to, meaning}
 use Rattle.lsys_spec.specs.Questions.{Question, questions, least_visits}
 use Rattle.lsys_spec.specs.Standings.{is_disturbed, is_candidate, same_ignored}
 use Rattle.lsys_spec.specs.Morphisms.{occurs}
@@ -86,6 +88,18 @@ pub right_trace :
     ∷ Compared (in_rule 0 0) (module_at (5 ∷ []) 68) ∷ []) ∷ []
 right_trace = refl
 
+-- a module pattern passes ignored modules and branches, and the first module that isn't ignored decides; so for a branch pattern
+pub passed_trace :
+    map (λ q. q.trace) (questions_after (codes "axiom AB[C]D\nignore B\nproduction p: A > D => X\nproduction q: D => D\ndepth 1"))
+    ≡ (Ignored (in_rule 0 0) (module_at (1 ∷ []) 66) ∷ Branched (in_rule 0 0) (2 ∷ []) (4 ∷ []) ∷ Compared (in_rule 0 0) (module_at (5 ∷ []) 68) ∷ [])
+    ∷ [] ∷ []
+passed_trace = refl
+
+pub deciding_trace :
+    map (λ q. q.trace) (questions_after (codes "axiom AD[C]\nproduction p: A > [C] => X\nproduction q: A > C => Y\ndepth 1"))
+    ≡ (Compared (in_rule 0 0) (module_at (1 ∷ []) 68) ∷ Compared (in_rule 1 0) (module_at (1 ∷ []) 68) ∷ []) ∷ []
+deciding_trace = refl
+
 -- a branch that doesn't fit is passed over for the next one
 pub second_branch_trace :
     map (λ q. q.trace) (questions_after (codes "axiom A[B][C]\nproduction p: A > [C] => X\ndepth 1"))
@@ -105,6 +119,14 @@ left_trace = refl
 pub keys_of_groups : map (λ q. q.key) (questions_after (codes "axiom AB\nproduction a: A => A\nproduction b: B @ 1 => B\nseed 6\ndepth 1"))
     ≡ None ∷ Some 11409396526365357622 ∷ []
 keys_of_groups = refl
+
+-- with weights the first fault goes before a rule that applies, earlier or later
+pub faults_among_weighted :
+    map (λ script. meaning_to (after script) 100000 1)
+    (codes "axiom A\nproduction p: A @ 1 => B\nproduction q: A : 1/0 @ 1 => C\nproduction r: A : 2^64 @ 1 => C"
+    ∷ codes "axiom A\nproduction p: A : 2^64 @ 1 => B\nproduction q: A @ 1/0 => C" ∷ [])
+    ≡ Err (FaultAt (Arithmetic DivideByZero) 0 1) ∷ Err (FaultAt (Arithmetic Overflow) 0 1) ∷ []
+faults_among_weighted = refl
 
 -- three tables in turn
 pub schedule_turns :

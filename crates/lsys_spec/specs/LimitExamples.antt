@@ -109,13 +109,13 @@ unfolding digits
 trace_entries = refl
 
 -- the entries of all rules that are tried
-pub entries_of_two_rules :
+pub entries_of_three_rules :
     run
-    (codes "axiom A" ++ (replicate 511 66 ++ (codes "C\nignore B\nproduction p: A > D => X\nproduction q: A > C => Y\ndepth 1\naxiom A"
-    ++ (replicate 512 66 ++ codes "C\n"))))
-    ≡ codes "ok 0/0\nok 0/0\nok 0/0\nok 0/0\nok 1/1\nrefused fault too-far level 0 module 1\n"
+    (codes "axiom A" ++ (replicate 340 66 ++ (codes "C\nignore B\nproduction p: A > D => X\nproduction q: A > E => Y\nproduction r: A > C => Z\ndepth 1\naxiom A"
+    ++ (replicate 341 66 ++ codes "C\n"))))
+    ≡ codes "ok 0/0\nok 0/0\nok 0/0\nok 0/0\nok 0/0\nok 1/1\nrefused fault too-far level 0 module 1\n"
 unfolding digits
-entries_of_two_rules = refl
+entries_of_three_rules = refl
 
 -- a question keeps the first 1,025 entries, though more were read
 abbrev far_system : System

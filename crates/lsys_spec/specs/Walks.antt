@@ -41,7 +41,7 @@ before e t = record { entries = e ∷ t.entries; answer = t.answer }
 abbrev pub followed : {A B : Type 0} → Told A → Told B → Told B
 followed t next = record { entries = t.entries ++ next.entries; answer = next.answer }
 
--- the module of a symbol; a bracket has none
+-- the module of a symbol (A walk meets modules alone, so what is said of a bracket here and below doesn't come.)
 abbrev pub modules : Symbol → List ModuleValue
 modules (Push l) = []
 modules (Pop l) = []

@@ -1,5 +1,6 @@
 use Rattle.std.proofs.Common.{◌≡◌, ◌-◌, ◌≤◌, []}
-use Rattle.lsys_io.specs.Reading.{remaining, script_limit, IsNotRefused}
+use Rattle.lsys_syntax.specs.Limits.{most_script_bytes}
+use Rattle.lsys_io.specs.Reading.{remaining, IsNotRefused}
 use Rattle.lsys_rules.specs.Systems.{system_of}
 use Rattle.lsys_cli.specs.Sessions.{KeepsLevels}
 use Rattle.lsys_cli.proofs.SoFar.{SoFar}
@@ -13,11 +14,11 @@ invariant-lines g l = record {
   limit : l.session.limit ≡ l.initial.session.limit;
   empty : l.out ≡ [];
   going : IsNotRefused l.reader.stage;
-  within : l.reader.taken ≤ script_limit;
+  within : l.reader.taken ≤ most_script_bytes;
   source : g.S.Source.faults l.source ≡ g.S.Source.faults l.initial.source;
   sink : g.K.Sink.faults l.sink ≡ g.K.Sink.faults l.initial.sink;
 }
 
 -- how many bytes the lines may still take
 abbrev pub decreases-lines : goal.decreases-lines
-decreases-lines g l = script_limit - l.reader.taken
+decreases-lines g l = most_script_bytes - l.reader.taken

@@ -1,4 +1,4 @@
-use Rattle.std.proofs.Common.{rules, ◌≡◌, ℤ, pos, ◌≤ℤ◌, sym, ◌∙◌}
+use Rattle.std.proofs.Common.{rules, pos, ◌≤ℤ◌}
 use Rattle.lsys_expr.proofs.Powers.{counted}
 use Rattle.lsys_expr.proofs.operators.raised.Goals as goal
 

@@ -1,7 +1,6 @@
-use Rattle.std.proofs.Common.{rules, ◌≡◌, ℤ, pos, negsuc, Ok, ◌≤ℤ◌, unsigned_abs, ◌≤◌, ◌%◌, eqb, true, false, w64, to_z, of_z, sym, ◌∙◌, ap}
+use Rattle.std.proofs.Common.{rules, ◌≡◌, pos, negsuc, Ok, unsigned_abs, ◌≤◌, ◌%◌, eqb, true, false, w64, to_z, of_z, sym, ◌∙◌, ap}
 use Rattle.std.specs.Prelude.{int_rem}
 use Rattle.std.proofs.Math.Facts.{to_z-of_z}
-use Rattle.lsys_spec.specs.Values.{power}
 use Rattle.lsys_expr.proofs.Powers.{large_of_zero, large_of_one, large_of_minus_one, large_of_others, parity, not_zero}
 use Rattle.lsys_expr.proofs.operators.raised_high.Goals as goal
 use Rattle.lsys_expr.proofs.operators.raised_high.Goals.{then-x-eq0-via-then-x-eq0, then-x-eq0-via-else-x-eq0+then-x-eq1}
