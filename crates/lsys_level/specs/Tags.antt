@@ -1,16 +1,12 @@
 -- What tags tell: a tag stands for a level and a lineage.
-use Rattle.std.specs.Prelude.{◌≡◌, ℕ, ◌<◌, Some, List, slice_get}
-use Rattle.lsys_spec.specs.Levels.{IsLevel}
+use Rattle.std.specs.Prelude.{◌≡◌, ℕ, ◌<◌, Some, List, [], map, slice_index_or}
+use Rattle.lsys_spec.specs.Levels.{IsLevel, plain}
 use Rattle.lsys_spec.specs.Levels as L
 use Rattle.lsys_level.specs.Spots.{Spotted, level_at, level_by, spotted_at}
 
 -- a tag stands at one place of one level alone
 pub record HasOwnTags (levels : List (List Spotted)) : Type 0 where
   pub apart : (t u p q : ℕ) (a b : Spotted) → spotted_at levels t p ≡ Some a → spotted_at levels u q ≡ Some b → a.tag ≡ b.tag → (t ≡ u) × (p ≡ q)
-
--- no tag stands twice in the list
-pub record IsApart (tags : List ℕ) : Type 0 where
-  pub apart : (p q tag : ℕ) → slice_get tags p ≡ Some tag → slice_get tags q ≡ Some tag → p ≡ q
 
 -- every tag is below this number
 pub record AreBelow (bound : ℕ) (levels : List (List Spotted)) : Type 0 where
@@ -25,6 +21,11 @@ pub record TagsTell (naming : ℕ → List ℕ) (levels : List (List Spotted)) :
   pub of_tags : (t u p q : ℕ) (a b : Spotted) → spotted_at levels t p ≡ Some a → spotted_at levels u q ≡ Some b → a.tag ≡ b.tag → (t ≡ u) × (naming a.tag ≡ naming b.tag)
   pub of_lineages : (t p q : ℕ) (a b : Spotted) → spotted_at levels t p ≡ Some a → spotted_at levels t q ≡ Some b → naming a.tag ≡ naming b.tag → a.tag ≡ b.tag
 
--- some naming makes this level of the symbols
-abbrev pub IsNamed : List L.Symbol → List Spotted → Type 0
-IsNamed x spots = (naming : ℕ → List ℕ) × (level_by naming spots ≡ x)
+-- the strings that are seen are those of these levels
+pub record ShowsLevels (x : List (List L.Symbol)) (levels : List (List Spotted)) : Type 0 where
+  pub string : (t : ℕ) → map plain (level_by (λ tag. []) (level_at levels t)) ≡ map plain (slice_index_or x t [])
+
+-- one naming makes them these levels
+pub record IsNamed (x : List (List L.Symbol)) (levels : List (List Spotted)) : Type 0 where
+  pub naming : ℕ → List ℕ
+  pub level : (t : ℕ) → level_by naming (level_at levels t) ≡ slice_index_or x t []
