@@ -11,8 +11,6 @@ mod names;
 mod operators;
 mod roles;
 mod scan;
-#[cfg(test)]
-mod tests;
 mod tree;
 
 pub use arith::Arith;

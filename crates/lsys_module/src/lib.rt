@@ -18,8 +18,6 @@ mod refusal;
 mod scan;
 mod symbol;
 mod symbol_list;
-#[cfg(test)]
-mod tests;
 
 pub use build::build_string;
 pub use params::Params;

@@ -8,6 +8,12 @@ mod draws;
 #[cfg(test)]
 mod ends;
 #[cfg(test)]
+mod expressions;
+#[cfg(test)]
+mod extents;
+#[cfg(test)]
 mod lattices;
+#[cfg(test)]
+mod strings;
 #[cfg(test)]
 mod turtles;

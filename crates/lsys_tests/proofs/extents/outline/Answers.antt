@@ -2,7 +2,7 @@ use Rattle.std.proofs.Common.{sym, subst}
 use Rattle.lsys_syntax.specs.Sentences.{AreTokens}
 use Rattle.lsys_text.specs.Tokens.{kinds_of}
 use Rattle.lsys_text.proofs.LineTokens.{line-forms}
-use Rattle.lsys_expr.proofs.scan.tests.outline.Goals as goal
+use Rattle.lsys_tests.proofs.extents.outline.Goals as goal
 
 pub scan_expr-requires-clause-forms : goal.scan_expr-requires-clause-forms
 scan_expr-requires-clause-forms g c =

@@ -1,6 +1,6 @@
 use Rattle.std.proofs.Common.{length}
 use Rattle.lsys_text.proofs.LineTokens.{line-forms}
-use Rattle.lsys_module.proofs.tests.answer.Goals as goal
+use Rattle.lsys_tests.proofs.strings.answer.Goals as goal
 
 pub build_string-requires-clause-forms : goal.build_string-requires-clause-forms
 build_string-requires-clause-forms c =

@@ -5,7 +5,7 @@ use Rattle.lsys_text.specs.Tokens.{kinds_of}
 use Rattle.lsys_text.specs.declared.token_kind.Token.{Token}
 use Rattle.lsys_expr.specs.Parts.{part_of}
 use Rattle.lsys_expr.proofs.Found.{spelled-to}
-use Rattle.lsys_expr.proofs.tests.read.Goals as goal
+use Rattle.lsys_tests.proofs.expressions.read.Goals as goal
 
 pub build_expr-requires-clause-spelled : goal.build_expr-requires-clause-spelled
 build_expr-requires-clause-spelled c =

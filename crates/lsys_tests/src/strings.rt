@@ -1,7 +1,7 @@
-use super::{
+use lsys_io::{Buffered, MemorySink};
+use lsys_module::{
     Module, Params, StringRefusal, Symbol, SymbolList, build_string, print_string, scan_string,
 };
-use lsys_io::{Buffered, MemorySink};
 use lsys_text::{Name, PlaceRefusal, Token, tokens};
 use std::alloc::{AllocError, Global};
 use std::test::Fail;
@@ -160,7 +160,7 @@ fn a_string_has_at_most_4096_symbols(rt: HostRuntime) -> Result<(), Fail> {
 fn lists_keep_their_symbols(rt: HostRuntime) -> Result<(), Fail> {
     let mut symbols = SymbolList::new(rt.alloc());
     assert!(rt; symbols.is_empty());
-    let params = Params::of(&[1, -2]).and(3);
+    let params = Params::of(&[1, -2, 3]);
     assert_eq!(rt; params.values(), [1, -2, 3].as_slice());
     let name = Name::from_mark(b'+');
     symbols.push(Symbol::Module(Module { name, params }))?;

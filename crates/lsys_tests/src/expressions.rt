@@ -2,7 +2,7 @@ ghost use Rattle.std.specs.Prelude.{IfOk};
 ghost use Rattle.lsys_syntax.specs.Sentences.{AreTokens};
 ghost use Rattle.lsys_text.specs.Tokens.{kinds_of};
 
-use super::{Arith, Expr, build_expr, check_names, eval, holds, scan_expr};
+use lsys_expr::{Arith, Expr, build_expr, check_names, eval, holds, scan_expr};
 use lsys_text::{Name, Token, tokens};
 use std::alloc::{AllocError, Global};
 use std::test::Fail;
