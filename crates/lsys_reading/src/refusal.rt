@@ -2,6 +2,7 @@
 ghost use Rattle.std.specs.Prelude.{◌≡◌};
 ghost use Rattle.lsys_reading.specs.Refusals.{refusal_at};
 
+use lsys_module::StringRefusal;
 use lsys_text::PlaceRefusal;
 use std::alloc::AllocError;
 use thiserror::Error;
@@ -69,5 +70,19 @@ impl From<AllocError> for Refusal {
 
     fn from(_: AllocError) -> Refusal {
         Refusal::Memory
+    }
+}
+
+impl From<StringRefusal> for Refusal {
+    ghost use Rattle.std.specs.Prelude.{◌≡◌};
+    ghost use Rattle.lsys_reading.specs.Refusals.{of_string};
+
+    ghost from_gives = { λ e r. r ≡ of_string e };
+
+    fn from(refusal: StringRefusal) -> Refusal {
+        match refusal {
+            StringRefusal::TooMany { column: _column } => Refusal::Form,
+            StringRefusal::Memory => Refusal::Memory,
+        }
     }
 }
