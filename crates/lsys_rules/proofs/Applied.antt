@@ -30,11 +30,11 @@ use Rattle.lsys_module.specs.Building.{IsBuilt}
 use Rattle.lsys_rules.specs.declared.rule.Rule.{Rule}
 use Rattle.lsys_rules.specs.declared.system.System.{System}
 use Rattle.lsys_text.specs.Tokens.{kind_of, kinds_of}
-use Rattle.lsys_rules.specs.declared.rule_line.RuleLine.{RuleLine}
-use Rattle.lsys_rules.specs.declared.command.Parts.{Parts}
-use Rattle.lsys_rules.specs.declared.command.Parts.TheVariants.{Production}
-use Rattle.lsys_rules.specs.RuleLines.{rule_at}
-use Rattle.lsys_rules.specs.Commands.{command_of, parts_command, IsParted}
+use Rattle.lsys_reading.specs.declared.rule.RuleLine.{RuleLine}
+use Rattle.lsys_reading.specs.declared.parts.Parts.{Parts}
+use Rattle.lsys_reading.specs.declared.parts.Parts.TheVariants.{Production}
+use Rattle.lsys_reading.specs.RuleLines.{rule_at}
+use Rattle.lsys_reading.specs.Commands.{command_of, parts_command, IsParted}
 use Rattle.lsys_rules.specs.Views.{rule_of}
 use Rattle.lsys_rules.specs.Systems.{system_of}
 use Rattle.lsys_rules.specs.Table.{with_rule}

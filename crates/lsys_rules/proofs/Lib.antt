@@ -1,15 +1,4 @@
 pub mod Tables
-pub mod RuleFrom
-pub mod Tainted
-pub mod TokenPlaces
-pub mod Parts
-pub mod Reversals
-pub mod Lists
-pub mod Foreign
-pub mod Had
-pub mod Labels
-pub mod Branches
-pub mod Words
 pub mod Unknown
 pub mod Many
 pub mod Searches

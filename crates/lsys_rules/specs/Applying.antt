@@ -5,8 +5,8 @@ use Rattle.lsys_spec.specs.Systems as spec_systems
 use Rattle.lsys_spec.specs.Edits.{refusal, changed}
 use Rattle.lsys_rules.specs.Systems.{system_of}
 use Rattle.lsys_rules.specs.declared.system.System.{System}
-use Rattle.lsys_rules.specs.declared.refusal.Refusal.{Refusal}
-use Rattle.lsys_rules.specs.declared.refusal.Refusal.TheVariants.{Form, Memory}
+use Rattle.lsys_reading.specs.declared.refusal.Refusal.{Refusal}
+use Rattle.lsys_reading.specs.declared.refusal.Refusal.TheVariants.{Form, Memory}
 
 -- the changed system where nothing refuses the command; or it is refused
 abbrev pub IsApplied : spec_systems.System → spec.Command → Result System Refusal → Type 0

@@ -1,6 +1,6 @@
 use Rattle.std.proofs.Common.{sym, subst}
 use Rattle.lsys_text.specs.Tokens.{kinds_of}
-use Rattle.lsys_rules.specs.RuleLines.{AreSpans}
+use Rattle.lsys_reading.specs.Spans.{AreSpans}
 use Rattle.lsys_rules.proofs.LineItems.{module-item}
 use Rattle.lsys_rules.proofs.checks.params_many.Goals as goal
 

@@ -4,8 +4,8 @@ use Rattle.lsys_syntax.specs.Rules.{rule_pieces}
 use Rattle.lsys_syntax.specs.Commands.{put_production}
 use Rattle.lsys_text.specs.Tokens.{kinds_of}
 use Rattle.lsys_rules.specs.Systems.{system_of}
-use Rattle.lsys_rules.specs.RuleLines.{rule_at}
-use Rattle.lsys_rules.specs.Commands.{command_of}
+use Rattle.lsys_reading.specs.RuleLines.{rule_at}
+use Rattle.lsys_reading.specs.Commands.{command_of}
 use Rattle.lsys_rules.specs.Applying.{IsApplied}
 use Rattle.lsys_rules.proofs.Applied.{line-tokens, line-command}
 use Rattle.lsys_rules.proofs.edit.apply.Goals as goal

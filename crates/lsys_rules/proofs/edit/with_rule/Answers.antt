@@ -5,7 +5,9 @@ use Rattle.lsys_module.specs.Views.{module_name}
 use Rattle.lsys_rules.specs.declared.system.System.{System}
 use Rattle.lsys_rules.specs.Table.{with_rule}
 use Rattle.lsys_rules.specs.Systems.{system_of}
-use Rattle.lsys_rules.specs.RuleLines.{rule_at, condition_at, modules_at}
+use Rattle.lsys_reading.specs.Spans.{option_at}
+use Rattle.lsys_reading.specs.Images.{images_at}
+use Rattle.lsys_reading.specs.RuleLines.{rule_at}
 use Rattle.lsys_rules.specs.Checking.{condition_unknown, successor_unknown}
 use Rattle.lsys_rules.proofs.Builds.{neither-of, can-modules}
 use Rattle.lsys_rules.proofs.Applied.{refused-put, unknown-none, passes-none, passes-parts, known, once, fits, put-over, put-done}
@@ -15,7 +17,7 @@ pub returns-then-is_refused : goal.returns-then-is_refused
 returns-then-is_refused c =
     let ks = kinds_of c.args.tokens.now in
     let line = c.args.line.now in
-    refused-put (module_name line.name) (map name_of line.formals.items) (condition_at ks line.condition) (modules_at ks line.successor.items) (system_of c.args.system.now) line.label (sym c.is_refused.ensures ∙ c.if-is_refused.true)
+    refused-put (module_name line.name) (map name_of line.formals.items) (option_at ks line.condition) (images_at ks line.successor.items) (system_of c.args.system.now) line.label (sym c.is_refused.ensures ∙ c.if-is_refused.true)
 
 pub build_rule-requires-clause-successor : goal.build_rule-requires-clause-successor
 build_rule-requires-clause-successor c =
@@ -23,17 +25,17 @@ build_rule-requires-clause-successor c =
     let line = c.args.line.now in
     let fs = map name_of line.formals.items in
     let free = sym c.is_refused.ensures ∙ c.if-is_refused.false in
-    let names = unknown-none (module_name line.name) fs (condition_at ks line.condition) (modules_at ks line.successor.items) free in
-    let fit = passes-none (module_name line.name) fs (condition_at ks line.condition) (modules_at ks line.successor.items) free in
+    let names = unknown-none (module_name line.name) fs (option_at ks line.condition) (images_at ks line.successor.items) free in
+    let fit = passes-none (module_name line.name) fs (option_at ks line.condition) (images_at ks line.successor.items) free in
     can-modules fs ks line.successor.items c.requires.line.successor
-    (neither-of (condition_unknown fs (condition_at ks line.condition)) (successor_unknown fs (modules_at ks line.successor.items)) names).1
+    (neither-of (condition_unknown fs (option_at ks line.condition)) (successor_unknown fs (images_at ks line.successor.items)) names).1
     (passes-parts (rule_at ks line) fit).1
 
 pub build_rule-requires-clause-few : goal.build_rule-requires-clause-few
 build_rule-requires-clause-few c =
     let ks = kinds_of c.args.tokens.now in
     let line = c.args.line.now in
-    let fit = passes-none (module_name line.name) (map name_of line.formals.items) (condition_at ks line.condition) (modules_at ks line.successor.items) (sym c.is_refused.ensures ∙ c.if-is_refused.false) in
+    let fit = passes-none (module_name line.name) (map name_of line.formals.items) (option_at ks line.condition) (images_at ks line.successor.items) (sym c.is_refused.ensures ∙ c.if-is_refused.false) in
     let short : length (map name_of line.formals.items) ≤ 8 = (passes-parts (rule_at ks line) fit).0 in
     omega (arith, short, length-map line.formals.items name_of)
 
@@ -57,7 +59,7 @@ returns c =
     let seen : length c.rules.result.now ≡ length (with_rule c.in_ok-rule.rule c.args.system.now.rules) = cc in
     let next : System = record c.in_ok-next.next { rules = c.put.new.self } in
     put-done c.args.system.now c.in_ok-rule.rule line.label (rule_at ks line) c.in_ok-rule.ensures.rule c.in_ok-rule.ensures.label next
-    (known (module_name line.name) fs (condition_at ks line.condition) (modules_at ks line.successor.items) free)
-    (once (module_name line.name) fs (condition_at ks line.condition) (modules_at ks line.successor.items) free)
-    (fits (module_name line.name) fs (condition_at ks line.condition) (modules_at ks line.successor.items) free)
+    (known (module_name line.name) fs (option_at ks line.condition) (images_at ks line.successor.items) free)
+    (once (module_name line.name) fs (option_at ks line.condition) (images_at ks line.successor.items) free)
+    (fits (module_name line.name) fs (option_at ks line.condition) (images_at ks line.successor.items) free)
     (omega arith) (cc) all (cc)
