@@ -8,7 +8,10 @@ use Rattle.lsys_syntax.specs.Tokens.{NameText, Kind}
 use Rattle.lsys_syntax.specs.Checks.{is_unknown}
 use Rattle.lsys_expr.specs.Expression.{Expression}
 use Rattle.lsys_reading.specs.declared.span.Span.{Span}
+use Rattle.lsys_spec.specs.Interim.{is_plain}
+use Rattle.lsys_syntax.specs.Limits.{most_params}
 use Rattle.lsys_reading.specs.declared.images.Image.{Image}
+use Rattle.lsys_reading.specs.declared.images.Image.TheVariants as images
 use Rattle.lsys_rules.specs.declared.body.Template.{Template}
 use Rattle.lsys_rules.specs.Built.{HasTree, HaveTrees, TemplateHasTrees, TemplatesHaveTrees}
 use Rattle.lsys_reading.specs.Spans.{part, expr_at, option_at, AreSpans, ConditionIsSpan}
@@ -76,11 +79,14 @@ pub can-condition : (fs : List NameText) (ks : List Kind) (c : Option Span) → 
 can-condition fs ks None h u = tt
 can-condition fs ks (Some s) h u = (h, u)
 
-pub can-modules : (fs : List NameText) (ks : List Kind) (ms : List Image) → ImagesAreAt ks ms → successor_unknown fs (images_at ks ms) ≡ false → params_many (images_at ks ms) ≡ false
+pub can-modules : (fs : List NameText) (ks : List Kind) (ms : List Image) → ImagesAreAt ks ms → is_plain (images_at ks ms) ≡ true → successor_unknown fs (images_at ks ms) ≡ false → params_many (images_at ks ms) ≡ false
     → CanBuildModules fs ks ms
-can-modules fs ks [] h u l = tt
-can-modules fs ks (m ∷ ms) h u l =
+can-modules fs ks [] h p u l = tt
+can-modules fs ks (images.Module m ∷ ms) h p u l =
     let v = neither-of (any_unknown fs (params_at ks m.params.items)) (successor_unknown fs (images_at ks ms)) u in
-    let w = neither-of (is_many 8 (length (params_at ks m.params.items)) || any_many (params_at ks m.params.items)) (params_many (images_at ks ms)) l in
-    let x = neither-of (is_many 8 (length (params_at ks m.params.items))) (any_many (params_at ks m.params.items)) w.0 in
-    ((can-all fs ks m.params.items h.0 v.0, at-most 8 (length m.params.items) (ap (λ n. is_many 8 n) (sym (length-map m.params.items (expr_at ks))) ∙ x.0)), can-modules fs ks ms h.1 v.1 w.1)
+    let w = neither-of (is_many most_params (length (params_at ks m.params.items)) || any_many (params_at ks m.params.items)) (params_many (images_at ks ms)) l in
+    let x = neither-of (is_many most_params (length (params_at ks m.params.items))) (any_many (params_at ks m.params.items)) w.0 in
+    ((can-all fs ks m.params.items h.0 v.0, at-most most_params (length m.params.items) (ap (λ n. is_many most_params n) (sym (length-map m.params.items (expr_at ks))) ∙ x.0)), can-modules fs ks ms h.1 p v.1 w.1)
+can-modules fs ks (images.Push ∷ ms) h p u l = cc
+can-modules fs ks (images.Pop ∷ ms) h p u l = cc
+can-modules fs ks (images.Cut ∷ ms) h p u l = cc

@@ -2,6 +2,7 @@ pub mod Tables
 pub mod Unknown
 pub mod Many
 pub mod Searches
+pub mod Plain
 pub mod LineItems
 pub mod Builds
 pub mod Puts

@@ -8,8 +8,9 @@ use Rattle.lsys_rules.specs.declared.system.System.{System}
 use Rattle.lsys_reading.specs.declared.refusal.Refusal.{Refusal}
 use Rattle.lsys_reading.specs.declared.refusal.Refusal.TheVariants.{Form, Memory}
 
--- the changed system where nothing refuses the command; or it is refused
+-- the changed system where nothing refuses the command; or it is refused by itself; want of memory says nothing
 abbrev pub IsApplied : spec_systems.System → spec.Command → Result System Refusal → Type 0
 IsApplied s c (Ok next) = (refusal s c ≡ None) × (system_of next ≡ changed s c)
 IsApplied s c (Err Form) = IsSome (refusal s c)
 IsApplied s c (Err Memory) = Unit {0}
+IsApplied s c (Err e) = ⊥

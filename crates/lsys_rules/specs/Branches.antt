@@ -1,5 +1,7 @@
--- Brackets and cuts among tokens.
-use Rattle.std.specs.Prelude.{Bool, true, false, ◌||◌, List, [], ◌∷◌}
+-- What the program doesn't have yet: brackets and cuts among tokens, and a rule's contexts and weight.
+use Rattle.std.specs.Prelude.{Bool, true, false, ◌||◌, ◌&&◌, is_none, List, [], ◌∷◌}
+use Rattle.lsys_spec.specs.Interim.{is_empty}
+use Rattle.lsys_reading.specs.declared.rule.RuleLine.{RuleLine}
 use Rattle.lsys_syntax.specs.Tokens.{Kind, LeftBracket, RightBracket, Percent}
 
 -- a bracket or a cut
@@ -12,3 +14,6 @@ is_branch k = false
 abbrev pub has_branches : List Kind → Bool
 has_branches [] = false
 has_branches (k ∷ ks) = is_branch k || has_branches ks
+
+abbrev pub is_bare : RuleLine → Bool
+is_bare r = is_empty r.left.items && (is_empty r.right.items && is_none r.weight)

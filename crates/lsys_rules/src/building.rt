@@ -15,7 +15,6 @@ ghost use Rattle.lsys_rules.specs.Building.{CanBuild, CanBuildAll, CanBuildModul
 use crate::body::{Body, SharedBody, Template};
 use crate::names::NameList;
 use crate::rule::{Pattern, Rule};
-
 use lsys_expr::{Expr, build_expr};
 use lsys_reading::{Image, LabeledRule, Span};
 use lsys_text::{Name, Token};

@@ -6,7 +6,7 @@ ghost use Rattle.lsys_text.specs.Tokens.{kind_of, kinds_of};
 ghost use Rattle.lsys_reading.specs.Parted.{command_of};
 ghost use Rattle.lsys_reading.specs.Images.{image_at, images_at};
 ghost use Rattle.lsys_reading.specs.RuleLines.{rule_at};
-ghost use Rattle.lsys_rules.specs.Branches.{is_branch, has_branches};
+ghost use Rattle.lsys_rules.specs.Branches.{is_branch, has_branches, is_bare};
 
 use lsys_reading::{Command, Image, Parts, RuleLine};
 use lsys_text::{Token, TokenKind};
@@ -49,10 +49,14 @@ fn is_branch(token: &Token) -> bool
 fn is_plain_rule(rule: &RuleLine) -> bool
     ensures { (ks : List Kind) → result ≡ is_plain_rule (rule_at ks rule.now) }
 {
-    rule.left.is_empty()
-        && rule.right.is_empty()
-        && rule.weight.is_none()
-        && is_plain(&rule.successor)
+    is_bare(rule) && is_plain(&rule.successor)
+}
+
+// Whether a rule has neither contexts nor a weight.
+fn is_bare(rule: &RuleLine) -> bool
+    ensures { result ≡ is_bare rule.now }
+{
+    rule.left.is_empty() && rule.right.is_empty() && rule.weight.is_none()
 }
 
 // Whether there are modules alone.
