@@ -5,7 +5,7 @@ ghost use Rattle.lsys_syntax.specs.LineMachine.{sentence};
 ghost use Rattle.lsys_syntax.specs.Pieces.{kinds_of as kinds_in};
 ghost use Rattle.lsys_syntax.specs.Rules.{rule_pieces};
 ghost use Rattle.lsys_syntax.specs.Sentences.{AreTokens};
-ghost use Rattle.lsys_spec.specs.Interim.{is_had, is_plain, is_plain_rule};
+ghost use Rattle.lsys_spec.specs.Interim.{is_plain, is_plain_rule};
 ghost use Rattle.lsys_text.specs.Tokens.{kinds_of};
 ghost use Rattle.lsys_module.specs.Building.{AreOfLine};
 ghost use Rattle.lsys_rules.specs.Systems.{system_of};
@@ -13,7 +13,7 @@ ghost use Rattle.lsys_reading.specs.RuleLines.{rule_at, IsRuleLine};
 ghost use Rattle.lsys_reading.specs.Parted.{command_of};
 ghost use Rattle.lsys_reading.specs.Commands.{string_in, axiom_verdict};
 ghost use Rattle.lsys_rules.specs.Checking.{rule_refused};
-ghost use Rattle.lsys_rules.specs.Applying.{IsApplied};
+ghost use Rattle.lsys_rules.specs.Applying.{IsApplied, IsOffered};
 
 use crate::building::build_rule;
 use crate::checks::is_refused;
@@ -36,7 +36,7 @@ const MOST_LEVELS: u64 = 64;
 /// `Form` where a name of a rule's expressions is no formal of it, a formal stands twice, a limit would
 /// be passed or the level isn't there, and `Memory` is want of memory.
 pub fn apply(alloc: Global, system: &System, command: &Command) -> Result<System, Refusal>
-    requires offered { is_had (command_of command.now) ≡ true }
+    requires offered { IsOffered command.now }
     ensures { IsApplied (system_of system.now) (command_of command.now) result }
 {
     let tokens = command.tokens();
