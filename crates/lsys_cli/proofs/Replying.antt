@@ -38,7 +38,7 @@ pub form : (limit : ℕ) (s : spec.System) (bare : List ℕ) (w v : Option (List
     → Replies limit s bare w v s Refused
 form limit s bare w v e a = (refused_form s, plainly limit s bare (refused_form s) e refl, a, refl, (refl, refl, refl))
 
-pub refusal : (limit : ℕ) (why : M.Refusal) (s : spec.System) (bare : List ℕ) (w v : Option (List ℕ)) → bare_reply limit s bare ≡ refused s (derivation_text why) → Appends w v (refused_text why)
+pub refusal : (limit : ℕ) (why : M.LevelRefusal) (s : spec.System) (bare : List ℕ) (w v : Option (List ℕ)) → bare_reply limit s bare ≡ refused s (derivation_text why) → Appends w v (refused_text why)
     → Replies limit s bare w v s Refused
 refusal limit why s bare w v e a = let r = refused s (derivation_text why) in (r, plainly limit s bare r e refl, a, refl, (refl, refl, refl))
 

@@ -12,7 +12,7 @@ use Rattle.std.specs.Option.{IfSome}
 use Rattle.lsys_spec.specs.Systems.{System, opening}
 use Rattle.lsys_spec.specs.Refusals.{Reply, is_long, is_passed_over, line_feed}
 use Rattle.lsys_spec.specs.Interim.{reply, bare_reply, refused_form}
-use Rattle.lsys_spec.specs.Output.{out, replies_from, followed, text_of, any_refusal, any_memory, none, reply_or_memory, memory_or}
+use Rattle.lsys_spec.specs.Output.{out, replies_from, followed, output_text, any_refusal, any_memory, none, reply_or_memory, memory_or}
 use Rattle.lsys_cli.specs.Sessions.{Replies, LineReplies, refuses, lacks_memory, ends_session, bare_or_memory}
 use Rattle.lsys_cli.specs.Runs.{status_of}
 use Rattle.lsys_cli.specs.Ends.{OfScript, Answered, LackedMemory, Ends}
@@ -29,7 +29,7 @@ pub record Known (limit : ℕ) (script : List ℕ) (after : (ℕ → Bool) → �
   pub answered : ℕ → Bool
   pub given : List Reply
   pub told : (M : ℕ → Bool) → Agrees number answered M → out (reply limit) script M ≡ given ++ after M number
-  pub put : Appends old now (text_of given)
+  pub put : Appends old now (output_text given)
   pub refusals : refused ≡ any_refusal given
   pub memories : memory ≡ any_memory given
   pub ample : memory ≡ false → (k : ℕ) → k < number → answered k ≡ false
@@ -107,8 +107,8 @@ or_no : (a b : Bool) → (a || b) ≡ false → (a ≡ false) × (b ≡ false)
 or_no true b h = cc
 or_no false b h = (refl, h)
 
-text_push : (given : List Reply) (r : Reply) → text_of (given ++ r ∷ []) ≡ text_of given ++ r.text
-text_push given r = flat_map-append (λ x. x.text) given (r ∷ []) ∙ ap (λ t. text_of given ++ t) (append-nil r.text)
+text_push : (given : List Reply) (r : Reply) → output_text (given ++ r ∷ []) ≡ output_text given ++ r.text
+text_push given r = flat_map-append (λ x. x.text) given (r ∷ []) ∙ ap (λ t. output_text given ++ t) (append-nil r.text)
 
 -- one line more
 known_more : (limit : ℕ) (script line : List ℕ) (lines : List (List ℕ)) (old now now' : Option (List ℕ)) (s next : System) (refused memory : Bool) (o : Outcome)
@@ -124,7 +124,7 @@ known_more limit script line lines old now now' s next refused memory o k (r, e,
       ∙ followed_by r (λ c. to_come limit c lines M (k.number + 1)) (ends_session o) n)
       ∙ sym (append_assoc k.given (r ∷ []) (unless_ended (ends_session o) (to_come limit r.next lines M (k.number + 1))))
       ∙ ap (λ c. (k.given ++ r ∷ []) ++ unless_ended (ends_session o) (to_come limit c lines M (k.number + 1))) (sym on);
-  put = rw (text_push k.given r) (then old now now' (text_of k.given) r.text k.put put);
+  put = rw (text_push k.given r) (then old now now' (output_text k.given) r.text k.put put);
   refusals = ap (λ b. refused || b) (sym f) ∙ ap (λ b. b || r.is_refusal) k.refusals ∙ sym (any_refusal_push k.given r);
   memories = ap (λ b. memory || b) (sym m) ∙ ap (λ b. b || r.is_memory) k.memories ∙ sym (any_memory_push k.given r);
   ample = λ z. let w = or_no memory (lacks_memory o) z in all_false k.number r.is_memory k.answered (m ∙ w.1) (k.ample w.0);

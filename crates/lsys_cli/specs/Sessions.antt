@@ -88,7 +88,7 @@ abbrev pub IsAnswer : Session → List ℕ → Answer → Type 0
 IsAnswer s bare a = ReplyIs s (bare_reply s.limit (system_of s.system) bare) a × OnMemory a (is_passed_over bare ≡ false)
 
 -- a refusal's line
-abbrev pub refused_text : M.Refusal → List ℕ
+abbrev pub refused_text : M.LevelRefusal → List ℕ
 refused_text r = codes "refused " ++ derivation_text r ++ line_feed
 
 -- the reply to a line without its CR that isn't too long, and that may be refused for want of memory where it has one

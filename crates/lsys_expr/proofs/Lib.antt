@@ -8,3 +8,4 @@ pub mod Seen
 pub mod Taken
 pub mod Walk
 pub mod Found
+mod Powers

@@ -1,7 +1,7 @@
 //! Values of expressions.
-ghost use Rattle.std.specs.Prelude.{◌≡◌};
-ghost use Rattle.lsys_spec.specs.Values.{value};
-ghost use Rattle.lsys_expr.specs.Answers.{answer_of, truth_of};
+ghost use Rattle.std.specs.Prelude.{◌≡◌, Some};
+ghost use Rattle.lsys_spec.specs.Values.{value, judged};
+ghost use Rattle.lsys_expr.specs.Answers.{answer_of};
 ghost use Rattle.lsys_expr.specs.Trees.{tree_of};
 
 use crate::arith::Arith;
@@ -28,7 +28,7 @@ pub fn eval(expr: &Expr, bound: &[i64]) -> Result<i64, Arith>
 ///
 /// As `eval`.
 pub fn holds(expr: &Expr, bound: &[i64]) -> Result<bool, Arith>
-    ensures { answer_of result ≡ truth_of (value expr.now.tree bound.now) }
+    ensures { answer_of result ≡ judged (Some expr.now.tree) bound.now }
 {
     Ok(eval(expr, bound)? != 0)
 }

@@ -2,7 +2,7 @@
 ghost use Rattle.std.specs.Prelude.{◌≡◌, ℤ, pos, negsuc, Ok, ◌≤ℤ◌, unsigned_abs};
 ghost use Rattle.std.specs.Int.{int_pow};
 ghost use Rattle.lsys_syntax.specs.Expressions.{add, subtract, multiply, divide, remainder, equal, unequal, less, at_most, greater, at_least};
-ghost use Rattle.lsys_spec.specs.Values.{applied, exact, large_power, power, power_of, product_of, sum_of, comparison, compared, truth, is_zero, int_same};
+ghost use Rattle.lsys_spec.specs.Values.{applied, exact, power, power_of, product_of, sum_of, comparison, relates, truth, is_zero, int_same};
 ghost use Rattle.lsys_expr.specs.Answers.{answer_of};
 ghost use Rattle.lsys_expr.specs.Trees.{operator_of};
 
@@ -90,10 +90,10 @@ fn raised(x: i64, y: i64) -> Result<i64, Arith>
     raised_high(x, y)
 }
 
-// A power from 64 on fits for 0, 1 and -1 alone.
+// From 64 on, the powers of 0, 1 and -1 alone fit.
 fn raised_high(x: i64, y: i64) -> Result<i64, Arith>
     requires { pos 64 ≤ℤ y }
-    ensures { answer_of result ≡ large_power x (unsigned_abs y) }
+    ensures { answer_of result ≡ power x y }
 {
     if x == 0 || x == 1 {
         return Ok(x);

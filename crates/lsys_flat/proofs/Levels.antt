@@ -1,5 +1,5 @@
 -- The level behind a level is, lineages apart, the offspring of its string.
-use Rattle.std.proofs.Common.{◌≡◌, ℕ, ◌+◌, true, None, Result, Ok, Err, List, [], ◌∷◌, ◌++◌, map, refl, ap, sym, ◌∙◌, subst}
+use Rattle.std.proofs.Common.{◌≡◌, Bool, ℕ, ◌+◌, true, false, cond, None, Result, Ok, Err, List, [], ◌∷◌, ◌++◌, map, refl, ap, sym, ◌∙◌, subst}
 use Rattle.std.specs.Prelude.{ℤ}
 use Rattle.std.proofs.lemmas.List.{map-append}
 use Rattle.lsys_syntax.specs.Tokens.{NameText}
@@ -8,11 +8,11 @@ use Rattle.lsys_spec.specs.Values as meaning
 use Rattle.lsys_spec.specs.Values.{◌and_then◌}
 use Rattle.lsys_spec.specs.Bodies.{body_of}
 use Rattle.lsys_spec.specs.Levels.{ModuleValue, Symbol, Push, Pop, Module, plain}
-use Rattle.lsys_spec.specs.Choice.{Fault, Outcome, No, Yes, Fails}
+use Rattle.lsys_spec.specs.Choice.{Fault, as_fault}
 use Rattle.lsys_spec.specs.Cuts.{Raw, Plain, Percent, cut_on}
 use Rattle.lsys_spec.specs.Morphisms.{raw_plain}
 use Rattle.lsys_spec.specs.Interim.{is_plain}
-use Rattle.lsys_spec.specs.Meaning.{Refusal, FaultAt, numbered, first_level, filled, filled_params, as_fault, fault_at, children_from, next_level}
+use Rattle.lsys_spec.specs.Meaning.{LevelRefusal, FaultAt, numbered, first_level, filled, filled_params, fault_at, children_from, next_level}
 use Rattle.lsys_module.specs.Views.{module_name, string_of}
 use Rattle.lsys_rules.specs.Built.{AreBuilt, TemplatesHaveTrees}
 use Rattle.lsys_rules.specs.Views.{rule_of, production_of}
@@ -21,7 +21,7 @@ use Rattle.lsys_rules.specs.declared.rule.Rule.{Rule}
 use Rattle.lsys_rules.specs.declared.body.Template.{Template}
 use Rattle.lsys_rules.specs.declared.body.Template.TheVariants as T
 use Rattle.lsys_rules.specs.declared.system.System as declared
-use Rattle.lsys_flat.specs.Made.{tried, by_outcome, made, behind, Faulted, fault_in, offspring}
+use Rattle.lsys_flat.specs.Made.{tried, made, behind, Faulted, fault_in, offspring}
 use Rattle.lsys_flat.specs.Answers.{tree_of}
 use Rattle.lsys_flat.proofs.Trees.{successor_trees}
 use Rattle.lsys_flat.proofs.Successors.{made_so}
@@ -29,10 +29,10 @@ use Rattle.lsys_flat.proofs.Successors.{made_so}
 -- 1. children
 
 -- without lineages
-abbrev plain_of : Result (List Raw) Refusal → Result (List (S.Symbol ℤ)) Refusal
+abbrev plain_of : Result (List Raw) LevelRefusal → Result (List (S.Symbol ℤ)) LevelRefusal
 plain_of r = r and_then λ raw. Ok (map raw_plain raw)
 
-abbrev pub at_level : {A : Type 0} → ℕ → Result A Faulted → Result A Refusal
+abbrev pub at_level : {A : Type 0} → ℕ → Result A Faulted → Result A LevelRefusal
 at_level t (Ok a) = Ok a
 at_level t (Err f) = Err (FaultAt f.fault t f.number)
 
@@ -43,7 +43,7 @@ plain_numbered n l (S.Push ∷ ys) = ap (λ zs. S.Push ∷ zs) (plain_numbered (
 plain_numbered n l (S.Pop ∷ ys) = ap (λ zs. S.Pop ∷ zs) (plain_numbered (n + 1) l ys)
 plain_numbered n l (S.Cut ∷ ys) = ap (λ zs. S.Cut ∷ zs) (plain_numbered (n + 1) l ys)
 
-with_children : (t : ℕ) (raw : List Raw) (ys : List (S.Symbol ℤ)) (c : Result (List Raw) Refusal) (o : Result (List (S.Symbol ℤ)) Faulted) → map raw_plain raw ≡ ys
+with_children : (t : ℕ) (raw : List Raw) (ys : List (S.Symbol ℤ)) (c : Result (List Raw) LevelRefusal) (o : Result (List (S.Symbol ℤ)) Faulted) → map raw_plain raw ≡ ys
     → plain_of c ≡ at_level t o → plain_of (c and_then λ more. Ok (raw ++ more)) ≡ at_level t (behind ys o)
 with_children t raw ys (Ok more) (Ok zs) e h =
     let same : map raw_plain more ≡ zs = cc in ap Ok (map-append raw_plain raw more ∙ (λ i. e i ++ same i))
@@ -51,7 +51,7 @@ with_children t raw ys (Ok more) (Err f) e h = cc
 with_children t raw ys (Err r) (Ok zs) e h = cc
 with_children t raw ys (Err r) (Err f) e h = h
 
-with_module : (t n : ℕ) (l : List ℕ) (a : Result (List (S.Symbol ℤ)) Fault) (c : Result (List Raw) Refusal) (o : Result (List (S.Symbol ℤ)) Faulted) → plain_of c ≡ at_level t o
+with_module : (t n : ℕ) (l : List ℕ) (a : Result (List (S.Symbol ℤ)) Fault) (c : Result (List Raw) LevelRefusal) (o : Result (List (S.Symbol ℤ)) Faulted) → plain_of c ≡ at_level t o
     → plain_of (fault_at t n a and_then λ ys. c and_then λ more. Ok (numbered 0 l ys ++ more)) ≡ at_level t (fault_in n a and_then λ ys. behind ys o)
 with_module t n l (Ok ys) c o h = with_children t (numbered 0 l ys) ys c o (plain_numbered 0 l ys) h
 with_module t n l (Err k) c o h = refl
@@ -80,12 +80,12 @@ first_so s h =
     cut_plain (numbered 0 [] (string_of s.«axiom»)) (ap is_plain e ∙ h) ∙ e
 
 -- a level with this string
-pub record Next (r : Result (List Symbol) Refusal) (ys : List (S.Symbol ℤ)) : Type 0 where
+pub record Next (r : Result (List Symbol) LevelRefusal) (ys : List (S.Symbol ℤ)) : Type 0 where
   pub level : List Symbol
   pub is : r ≡ Ok level
   pub string : map plain level ≡ ys
 
-next_by : (c : Result (List Raw) Refusal) (ys : List (S.Symbol ℤ)) → is_plain ys ≡ true → plain_of c ≡ Ok ys → Next (c and_then λ raw. Ok (cut_on None raw)) ys
+next_by : (c : Result (List Raw) LevelRefusal) (ys : List (S.Symbol ℤ)) → is_plain ys ≡ true → plain_of c ≡ Ok ys → Next (c and_then λ raw. Ok (cut_on None raw)) ys
 next_by (Ok raw) ys h e =
     let same : map raw_plain raw ≡ ys = cc in
     record { level = cut_on None raw; is = refl; string = cut_plain raw (ap is_plain same ∙ h) ∙ same }
@@ -97,7 +97,7 @@ next_so s t x row ys e h o =
     next_by (children_from (system_of s) t x 0 0 x) ys h
     (children_so s t x 0 0 x ∙ ap (λ r. at_level t (offspring (map production_of s.rules) 0 r)) e ∙ ap (at_level t) o)
 
-fault_by : (c : Result (List Raw) Refusal) (r : Refusal) → plain_of c ≡ Err r → (c and_then λ raw. Ok (cut_on None raw)) ≡ Err r
+fault_by : (c : Result (List Raw) LevelRefusal) (r : LevelRefusal) → plain_of c ≡ Err r → (c and_then λ raw. Ok (cut_on None raw)) ≡ Err r
 fault_by (Ok raw) r e = cc
 fault_by (Err q) r e = let same : q ≡ r = cc in ap Err same
 
@@ -140,11 +140,12 @@ made_plain : (rs : List Rule) (m : ModuleValue) → AreBuilt rs → IsPlain (mad
 made_plain [] m h = refl
 made_plain (r ∷ rs) m h = at (tried (production_of r) m) (made_plain rs m h.1)
   where
-    at : (o : Outcome) → IsPlain (made (map production_of rs) m) → IsPlain (by_outcome o (body_of (rule_of r)) (made (map production_of rs) m))
-    at No others = others
-    at (Yes values) others =
-        subst (λ ts. IsPlain (as_fault (filled ts values))) (sym (successor_trees r h.0)) (fault_plain (filled (map tree_of r.body.successor.items) values) (filled_plain _ r.body.successor.items values h.0.successor))
-    at (Fails k) others = tt
+    at : (o : Result Bool meaning.Arith) → IsPlain (made (map production_of rs) m)
+        → IsPlain (as_fault o and_then λ applies. cond applies (as_fault (filled (body_of (rule_of r)).successor m.params)) (made (map production_of rs) m))
+    at (Ok false) others = others
+    at (Ok true) others =
+        subst (λ ts. IsPlain (as_fault (filled ts m.params))) (sym (successor_trees r h.0)) (fault_plain (filled (map tree_of r.body.successor.items) m.params) (filled_plain _ r.body.successor.items m.params h.0.successor))
+    at (Err e) others = tt
 
 pub offspring_plain : (rs : List Rule) (n : ℕ) (row : List (S.Symbol ℤ)) → AreBuilt rs → is_plain row ≡ true → IsPlain (offspring (map production_of rs) n row)
 offspring_plain rs n [] h k = refl

@@ -9,7 +9,7 @@ use Rattle.std.proofs.lemmas.List.Sums.{sum_by_push}
 use Rattle.lsys_syntax.specs.Strings as S
 use Rattle.lsys_spec.specs.Interim.{is_plain}
 use Rattle.lsys_spec.specs.Levels.{Symbol, plain}
-use Rattle.lsys_spec.specs.Meaning.{Refusal, OverLimit, FaultAt, first_level, next_level, last_level, within_limit, meaning_to, meaning}
+use Rattle.lsys_spec.specs.Meaning.{LevelRefusal, OverLimit, FaultAt, first_level, next_level, last_level, within_limit, meaning_to, meaning}
 use Rattle.lsys_spec.specs.Values.{◌and_then◌}
 use Rattle.lsys_module.specs.Views.{symbol_of, string_of}
 use Rattle.lsys_module.specs.declared.symbol.Symbol as declared_symbol
@@ -35,13 +35,13 @@ pub record SoFar (s : declared.System) (limit t : ℕ) (rows : List (List declar
   pub count : length rows ≡ t + 1
 
 -- a refusal stays
-stays_by : (s : declared.System) (limit t d : ℕ) (e : Refusal) → meaning_to (system_of s) limit t ≡ Err e → meaning_to (system_of s) limit (t + d) ≡ Err e
+stays_by : (s : declared.System) (limit t d : ℕ) (e : LevelRefusal) → meaning_to (system_of s) limit t ≡ Err e → meaning_to (system_of s) limit (t + d) ≡ Err e
 stays_by s limit t zero e h = grind (arith, common_steps)
 stays_by s limit t (suc d) e h =
     let ih = stays_by s limit t d e h in
     rw (add-suc) (rw ih refl)
 
-pub stays : (s : declared.System) (limit t n : ℕ) (e : Refusal) → t ≤ n → meaning_to (system_of s) limit t ≡ Err e → meaning_to (system_of s) limit n ≡ Err e
+pub stays : (s : declared.System) (limit t n : ℕ) (e : LevelRefusal) → t ≤ n → meaning_to (system_of s) limit t ≡ Err e → meaning_to (system_of s) limit n ≡ Err e
 stays s limit t n e h m =
     let at : t + (n - t) ≡ n = omega arith in
     ap (meaning_to (system_of s) limit) (sym at) ∙ stays_by s limit t (n - t) e m
@@ -89,12 +89,12 @@ last_pushed (y ∷ []) x = refl
 last_pushed (y ∷ z ∷ levels) x = last_pushed (z ∷ levels) x
 
 -- the step to the next level, by what that level is
-step_to : (s : declared.System) (limit t : ℕ) (levels : List (List Symbol)) (r : Result (List Symbol) Refusal)
+step_to : (s : declared.System) (limit t : ℕ) (levels : List (List Symbol)) (r : Result (List Symbol) LevelRefusal)
     → meaning_to (system_of s) limit t ≡ Ok levels → next_level (system_of s) t (last_level levels) ≡ r
     → meaning_to (system_of s) limit (suc t) ≡ (r and_then λ x. within_limit limit (suc t) (levels ++ x ∷ []))
 step_to s limit t levels r m n =
-    ap (λ (r : Result (List (List Symbol)) Refusal). r and_then λ levels. next_level (system_of s) t (last_level levels) and_then λ x. within_limit limit (suc t) (levels ++ x ∷ [])) m
-    ∙ ap (λ (r : Result (List Symbol) Refusal). r and_then λ x. within_limit limit (suc t) (levels ++ x ∷ [])) n
+    ap (λ (r : Result (List (List Symbol)) LevelRefusal). r and_then λ levels. next_level (system_of s) t (last_level levels) and_then λ x. within_limit limit (suc t) (levels ++ x ∷ [])) m
+    ∙ ap (λ (r : Result (List Symbol) LevelRefusal). r and_then λ x. within_limit limit (suc t) (levels ++ x ∷ [])) n
 
 -- the last level has this string
 last_string : (s : declared.System) (limit t room : ℕ) (rows : List (List declared_symbol.Symbol)) (last : List declared_symbol.Symbol) → (h : SoFar s limit t rows room)

@@ -7,13 +7,12 @@ use Rattle.lsys_syntax.specs.Tokens.{NameText}
 use Rattle.lsys_syntax.specs.Strings as S
 use Rattle.lsys_spec.specs.Systems.{same_name}
 use Rattle.lsys_spec.specs.Values as meaning
-use Rattle.lsys_spec.specs.Values.{◌and_then◌, expr_tree, value, is_zero}
+use Rattle.lsys_spec.specs.Values.{◌and_then◌, expr_tree, value, judged}
 use Rattle.lsys_spec.specs.Bodies.{body_of, templates}
-use Rattle.lsys_spec.specs.Choice.{No, Yes, Fails, Arithmetic, judged, holds}
 use Rattle.lsys_spec.specs.Meaning.{filled, filled_params}
 use Rattle.lsys_text.specs.Tokens.{name_of}
 use Rattle.lsys_expr.specs.Expression.{Expression}
-use Rattle.lsys_expr.specs.Answers.{arith_of, answer_of, truth_of}
+use Rattle.lsys_expr.specs.Answers.{arith_of}
 use Rattle.lsys_expr.specs.declared.arith.Arith as code
 use Rattle.lsys_module.specs.Views.{module_name}
 use Rattle.lsys_module.specs.declared.symbol.Module.{Module}
@@ -23,7 +22,7 @@ use Rattle.lsys_rules.specs.declared.rule.Rule.{Rule}
 use Rattle.lsys_rules.specs.declared.body.Template.{Template}
 use Rattle.lsys_rules.specs.declared.body.Template.TheVariants as T
 use Rattle.lsys_flat.specs.Made.{tried, behind}
-use Rattle.lsys_flat.specs.Answers.{tree_of, module_of, IsTried, HasFewParams}
+use Rattle.lsys_flat.specs.Answers.{tree_of, module_of, HasFewParams}
 use Rattle.lsys_flat.proofs.Behind.{behind_twice}
 
 params_trees : (fs : List NameText) (es : List Expression) → HaveTrees fs es → map (expr_tree fs) (map spelled es) ≡ map (λ e. e.tree) es
@@ -60,46 +59,26 @@ few_at fs (T.Pop ∷ ts) h t rest e = absurd h.0
 few_at fs (T.Cut ∷ ts) h t rest e = absurd h.0
 
 -- the rule is for the module
-pub fits_so : (r : Rule) (m : Module) → same_name (module_name r.pred.name) (module_name m.name) ≡ true → length r.pred.formals ≡ length m.params
+fits_so : (r : Rule) (m : Module) → same_name (module_name r.pred.name) (module_name m.name) ≡ true → length r.pred.formals ≡ length m.params
     → tried (production_of r) (module_of m) ≡ judged (body_of (rule_of r)).condition m.params
 fits_so r m a b =
     let c : (length (map name_of r.pred.formals) == length m.params) ≡ true = grind (arith, nat_tests, length-map r.pred.formals name_of) in
     rw (a, c) refl
 
 -- the rule is for modules of other names, or of another number of parameters
-pub other_name : (r : Rule) (m : Module) → same_name (module_name r.pred.name) (module_name m.name) ≡ false → tried (production_of r) (module_of m) ≡ No
+pub other_name : (r : Rule) (m : Module) → same_name (module_name r.pred.name) (module_name m.name) ≡ false → tried (production_of r) (module_of m) ≡ Ok false
 other_name r m a = rw a refl
 
 pub other_number : (r : Rule) (m : Module) → same_name (module_name r.pred.name) (module_name m.name) ≡ true → (length r.pred.formals ≡ length m.params → ⊥)
-    → tried (production_of r) (module_of m) ≡ No
+    → tried (production_of r) (module_of m) ≡ Ok false
 other_number r m a b =
     let c : (length (map name_of r.pred.formals) == length m.params) ≡ false = grind (arith, nat_tests, length-map r.pred.formals name_of) in
     rw (a, c) refl
 
-holds_so : (v : Result ℤ meaning.Arith) (values : List ℤ) (res : Result Bool code.Arith) → answer_of res ≡ truth_of v → IsTried (holds v values) values res
-holds_so (Ok z) values (Ok b) h = let same : b ≡ not (is_zero z) = cc in at (is_zero z) b same
-  where
-    at : (a b : Bool) → b ≡ not a → IsTried (cond a No (Yes values)) values (Ok b)
-    at true true e = cc
-    at true false e = refl
-    at false true e = refl
-    at false false e = cc
-holds_so (Ok z) values (Err e) h = cc
-holds_so (Err k) values (Ok b) h = cc
-holds_so (Err k) values (Err e) h = let a : k ≡ arith_of e = cc in ap (λ k. Fails (Arithmetic k)) a
-
-pub tried_some : (r : Rule) (m : Module) (e : Expression) (res : Result Bool code.Arith) → IsBuilt r → r.body.condition ≡ Some e
+pub tried_if : (r : Rule) (m : Module) (o : Option Expression) → IsBuilt r → r.body.condition ≡ o
     → same_name (module_name r.pred.name) (module_name m.name) ≡ true → length r.pred.formals ≡ length m.params
-    → answer_of res ≡ truth_of (value e.tree m.params) → IsTried (tried (production_of r) (module_of m)) m.params res
-tried_some r m e res h c a b v =
-    let told : tried (production_of r) (module_of m) ≡ holds (value e.tree m.params) m.params =
-    fits_so r m a b ∙ ap (λ o. judged o m.params) (condition_tree r h ∙ ap (option_map (λ e. e.tree)) c) in
-    subst (λ o. IsTried o m.params res) (sym told) (holds_so (value e.tree m.params) m.params res v)
-
-pub tried_none : (r : Rule) (m : Module) → IsBuilt r → r.body.condition ≡ None
-    → same_name (module_name r.pred.name) (module_name m.name) ≡ true → length r.pred.formals ≡ length m.params
-    → tried (production_of r) (module_of m) ≡ Yes m.params
-tried_none r m h c a b = fits_so r m a b ∙ ap (λ o. judged o m.params) (condition_tree r h ∙ ap (option_map (λ e. e.tree)) c)
+    → tried (production_of r) (module_of m) ≡ judged (option_map (λ e. e.tree) o) m.params
+tried_if r m o h c a b = fits_so r m a b ∙ ap (λ o. judged o m.params) (condition_tree r h ∙ ap (option_map (λ e. e.tree)) c)
 
 -- one parameter more
 pub params_more : (front : List ℤ) (t : meaning.Tree) (ts : List meaning.Tree) (bound : List ℤ) (z : ℤ) → Ok z ≡ value t bound

@@ -3,7 +3,7 @@ use Rattle.std.specs.Prelude.{◌≡◌, ◌<◌, ◌≤◌, ℕ, ℤ, Bool, tru
 use Rattle.lsys_syntax.specs.Strings as S
 use Rattle.lsys_spec.specs.Values as meaning
 use Rattle.lsys_spec.specs.Levels.{ModuleValue}
-use Rattle.lsys_spec.specs.Choice.{Fault, Arithmetic, Outcome, No, Yes, Fails}
+use Rattle.lsys_spec.specs.Choice.{Fault, Arithmetic}
 use Rattle.lsys_expr.specs.Answers.{arith_of}
 use Rattle.lsys_expr.specs.declared.arith.Arith as code
 use Rattle.lsys_module.specs.Views.{module_name, symbol_of, string_of}
@@ -50,12 +50,6 @@ abbrev pub IsMade : Result (List (S.Symbol ℤ)) Fault → Result (List Symbol) 
 IsMade r (Ok list) = r ≡ Ok (string_of list)
 IsMade r (Err (Arith e)) = r ≡ Err (Arithmetic (arith_of e))
 IsMade r (Err Memory) = Unit {0}
-
--- whether a rule applies with these values, or its fault
-abbrev pub IsTried : Outcome → List ℤ → Result Bool code.Arith → Type 0
-IsTried o values (Ok true) = o ≡ Yes values
-IsTried o values (Ok false) = o ≡ No
-IsTried o values (Err e) = o ≡ Fails (Arithmetic (arith_of e))
 
 -- a level that has room, or one that has none, or the leftmost fault
 abbrev pub IsStep : ℕ → Result (List (S.Symbol ℤ)) Faulted → Step → Type 0

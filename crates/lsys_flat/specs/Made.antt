@@ -1,28 +1,22 @@
 -- What a symbol is replaced by, and what a string becomes, where no rule asks what stands around a module.
-use Rattle.std.specs.Prelude.{ℕ, ℤ, Result, Ok, Err, List, [], ◌∷◌, ◌++◌, ◌+◌, length, if◌then◌else◌}
+use Rattle.std.specs.Prelude.{ℕ, ℤ, Bool, false, Result, Ok, Err, List, [], ◌∷◌, ◌++◌, ◌+◌, length, if◌then◌else◌}
 use Rattle.lsys_syntax.specs.Strings as S
 use Rattle.lsys_syntax.specs.Rules.{Production}
 use Rattle.lsys_spec.specs.Systems.{main}
-use Rattle.lsys_spec.specs.Values.{◌and_then◌}
-use Rattle.lsys_spec.specs.Bodies.{Body, body_of, is_for}
+use Rattle.lsys_spec.specs.Values.{Arith, judged, ◌and_then◌}
+use Rattle.lsys_spec.specs.Bodies.{body_of, is_for}
 use Rattle.lsys_spec.specs.Levels.{ModuleValue}
-use Rattle.lsys_spec.specs.Choice.{Fault, Outcome, No, Yes, Fails, judged}
-use Rattle.lsys_spec.specs.Meaning.{filled, as_fault}
+use Rattle.lsys_spec.specs.Choice.{Fault, as_fault}
+use Rattle.lsys_spec.specs.Meaning.{filled}
 
 -- whether a rule applies to a module
-abbrev pub tried : Production → ModuleValue → Outcome
-tried p m = if is_for main m.name (length m.params) p then judged (body_of p.rule).condition m.params else No
-
--- what a rule with this outcome makes, where the others make this
-abbrev pub by_outcome : Outcome → Body → Result (List (S.Symbol ℤ)) Fault → Result (List (S.Symbol ℤ)) Fault
-by_outcome No b others = others
-by_outcome (Yes values) b others = as_fault (filled b.successor values)
-by_outcome (Fails k) b others = Err k
+abbrev pub tried : Production → ModuleValue → Result Bool Arith
+tried p m = if is_for main m.name (length m.params) p then judged (body_of p.rule).condition m.params else Ok false
 
 -- the successor of the first rule that applies; where none does, the module itself
 abbrev pub made : List Production → ModuleValue → Result (List (S.Symbol ℤ)) Fault
 made [] m = Ok (S.Module m.name m.params ∷ [])
-made (p ∷ ps) m = by_outcome (tried p m) (body_of p.rule) (made ps m)
+made (p ∷ ps) m = as_fault (tried p m) and_then λ applies. if applies then as_fault (filled (body_of p.rule).successor m.params) else made ps m
 
 -- the children of a symbol; a bracket gives itself
 abbrev pub children : List Production → S.Symbol ℤ → Result (List (S.Symbol ℤ)) Fault

@@ -3,14 +3,14 @@ ghost use Rattle.std.specs.Prelude.{◌≡◌, ◌∷◌, [], Ok, Err, IfOk, IfE
 ghost use Rattle.lsys_syntax.specs.Strings as strings;
 ghost use Rattle.lsys_spec.specs.Systems.{same_name};
 ghost use Rattle.lsys_spec.specs.Bodies.{body_of};
-ghost use Rattle.lsys_spec.specs.Choice.{Arithmetic};
-ghost use Rattle.lsys_spec.specs.Meaning.{filled, as_fault};
-ghost use Rattle.lsys_expr.specs.Answers.{arith_of};
+ghost use Rattle.lsys_spec.specs.Choice.{Arithmetic, as_fault};
+ghost use Rattle.lsys_spec.specs.Meaning.{filled};
+ghost use Rattle.lsys_expr.specs.Answers.{arith_of, answer_of};
 ghost use Rattle.lsys_module.specs.Views.{module_name};
 ghost use Rattle.lsys_rules.specs.Built.{IsBuilt, AreBuilt};
 ghost use Rattle.lsys_rules.specs.Views.{production_of, rule_of};
 ghost use Rattle.lsys_flat.specs.Made.{made, tried};
-ghost use Rattle.lsys_flat.specs.Answers.{module_of, IsTried};
+ghost use Rattle.lsys_flat.specs.Answers.{module_of};
 
 use lsys_expr::{Arith, holds};
 use lsys_module::Module;
@@ -41,7 +41,7 @@ pub(crate) fn choose<'a>(rules: &'a [Rule], target: &Module) -> Result<Option<&'
 // The rule is for modules of this name and number of parameters, and its condition holds.
 fn applies(rule: &Rule, target: &Module) -> Result<bool, Arith>
     requires { IsBuilt rule.now }
-    ensures { IsTried (tried (production_of rule.now) (module_of target.now)) target.now.params result }
+    ensures { answer_of result ≡ tried (production_of rule.now) (module_of target.now) }
 {
     let values = target.params.values();
     if !same_name(rule.pred.name, target.name) || rule.pred.formals.len() != values.len() {

@@ -2,7 +2,7 @@
 use Rattle.std.specs.Prelude.{◌≡◌, ℕ, ◌+◌, ◌-◌, ◌<◌, ◌≤◌, List, [], ◌∷◌, ◌++◌, length, take, false, Some, None}
 use Rattle.std.specs.declared.option.Option.{Option}
 use Rattle.std.specs.Io.KnownBytes.{Consumes, prepend_known}
-use Rattle.lsys_syntax.specs.Limits.{most_script_bytes, most_line_bytes}
+use Rattle.lsys_syntax.specs.Limits.{most_script_bytes}
 use Rattle.lsys_syntax.specs.Lines.{lines_of}
 use Rattle.lsys_io.specs.declared.lines.Stage.{Stage}
 use Rattle.lsys_io.specs.declared.lines.Stage.TheVariants.{Going, Ended, Refused}

@@ -4,7 +4,7 @@ use Rattle.std.proofs.lemmas.Bool.Decides.{nat_tests}
 use Rattle.std.specs.Prelude.{bytes_eq}
 use Rattle.lsys_syntax.specs.Tokens.{is_letter, short}
 use Rattle.lsys_syntax.specs.Strings.{ModuleName, named, plus, minus, ampersand, caret, backslash, slash, bar, bang, is_letters, ends_in_name, Module}
-use Rattle.lsys_spec.specs.Systems.{name_text, same_name}
+use Rattle.lsys_spec.specs.Systems.{module_name_text, same_name}
 use Rattle.lsys_text.specs.Texts.{IsNameBytes, is_name_mark}
 use Rattle.lsys_module.specs.Views.{short_name, module_name}
 
@@ -32,12 +32,12 @@ byte : (c k : ℕ) → c ≡ k → k ∷ [] ≡ c ∷ []
 byte c k e = ap (λ x. x ∷ []) (sym e)
 
 -- a byte's name is printed as the byte
-short_name-text : (c : ℕ) → name_text (short_name c) ≡ c ∷ []
+short_name-text : (c : ℕ) → module_name_text (short_name c) ≡ c ∷ []
 short_name-text c =
-    short_name-cases (λ m. name_text m ≡ c ∷ []) c (byte c 43) (byte c 45) (byte c 38) (byte c 94) (byte c 92) (byte c 47) (byte c 124) (byte c 33) (λ e. refl)
+    short_name-cases (λ m. module_name_text m ≡ c ∷ []) c (byte c 43) (byte c 45) (byte c 38) (byte c 94) (byte c 92) (byte c 47) (byte c 124) (byte c 33) (λ e. refl)
 
 -- the name of a text that can name a module is printed as the text
-pub module_name-text : (text : List ℕ) → IsNameBytes text → name_text (module_name text) ≡ text
+pub module_name-text : (text : List ℕ) → IsNameBytes text → module_name_text (module_name text) ≡ text
 module_name-text [] h = elim h [ ]
 module_name-text (c ∷ []) h = short_name-text c
 module_name-text (c ∷ d ∷ more) h = ap (λ x. c ∷ x ∷ more) (sym h.0)

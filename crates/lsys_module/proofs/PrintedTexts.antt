@@ -6,7 +6,7 @@ use Rattle.lsys_module.specs.declared.symbol.Symbol.{Symbol as Code}
 use Rattle.lsys_syntax.specs.Tokens.{RightParen}
 use Rattle.lsys_syntax.specs.Pieces.{Piece, blank, token, note, token_text, text_of}
 use Rattle.lsys_syntax.specs.Strings.{Symbol, Module, is_letters, gap, ends_in_name, starts_with_letter, begins_with_letter, symbol_pieces, more_pieces, string_pieces, value_pieces, string_text, AreSymbols, IsSymbol, IsParam}
-use Rattle.lsys_spec.specs.Systems.{name_text}
+use Rattle.lsys_spec.specs.Systems.{module_name_text}
 use Rattle.lsys_module.specs.Views.{module_name, symbol_of, string_of}
 use Rattle.lsys_module.specs.Printing.{gap_text, name_behind, symbol_behind, params_text}
 
@@ -93,7 +93,7 @@ last_runs_on-append runs_on (x ∷ xs) y = last_runs_on-append (ends_in_name x) 
 
 -- a module is its name and its parameters
 pub module_behind : (runs_on : Bool) (name : List ℕ) (values : List ℤ) → symbol_behind runs_on (Module (module_name name) values) ≡ name_behind runs_on name ++ params_text values
-module_behind runs_on name values = sym (append_assoc (gap_text runs_on (is_letters (module_name name))) (name_text (module_name name)) (params_text values))
+module_behind runs_on name values = sym (append_assoc (gap_text runs_on (is_letters (module_name name))) (module_name_text (module_name name)) (params_text values))
 
 -- one more symbol of the list
 pub string_of-more : (symbols : List Code) (i : ℕ) (d : Code) → i < length symbols → d ≡ get_or symbols i d → string_of (take (i + 1) symbols) ≡ string_of (take i symbols) ++ symbol_of d ∷ []

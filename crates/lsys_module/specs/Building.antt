@@ -48,7 +48,7 @@ pub data Draft : Type 0 where
   minus_read : List (Symbol ℤ) → ModuleName → List ℤ → Draft
   number_read : List (Symbol ℤ) → ModuleName → List ℤ → Draft
 
--- the module's name that a token is, where it is one
+-- the module's name that a token is; of other tokens, which are asked for no name, `+`
 abbrev pub sign_name : Sign → ModuleName
 sign_name (a_name n) = n
 sign_name s = plus

@@ -2,7 +2,7 @@
 use Rattle.std.specs.Prelude.{ℕ, ℤ, Bool, List, [], ◌++◌}
 use Rattle.lsys_syntax.specs.Pieces.{text_of}
 use Rattle.lsys_syntax.specs.Strings.{Symbol, Module, gap, is_letters, ends_in_name, starts_with_letter, symbol_pieces, params_pieces, value_pieces}
-use Rattle.lsys_spec.specs.Systems.{name_text}
+use Rattle.lsys_spec.specs.Systems.{module_name_text}
 use Rattle.lsys_module.specs.Views.{module_name}
 
 -- a blank, where a name runs on and what follows begins with a letter
@@ -11,7 +11,7 @@ gap_text runs_on letter = text_of (gap runs_on letter)
 
 -- a name, behind a blank where it needs one
 abbrev pub name_behind : Bool → List ℕ → List ℕ
-name_behind runs_on name = gap_text runs_on (is_letters (module_name name)) ++ name_text (module_name name)
+name_behind runs_on name = gap_text runs_on (is_letters (module_name name)) ++ module_name_text (module_name name)
 
 -- a symbol, behind a blank where it needs one
 abbrev pub symbol_behind : Bool → Symbol ℤ → List ℕ

@@ -1,16 +1,17 @@
 -- Ways and items that are alike as far as settled symbols reach, and the walks over them.
-use Rattle.std.proofs.Common.{◌≡◌, ℕ, Bool, true, false, Option, Some, None, List, [], ◌∷◌, ◌++◌, refl, ap, sym, ◌∙◌, subst}
+use Rattle.std.proofs.Common.{◌≡◌, ℕ, Bool, true, false, Some, None, List, [], ◌∷◌, ◌++◌, refl, ap, sym, ◌∙◌, subst}
 use Rattle.std.specs.Prelude.{option_map}
 use Rattle.lsys_syntax.specs.Strings.{ModuleName}
 use Rattle.lsys_spec.specs.Systems.{Each}
 use Rattle.lsys_spec.specs.Bodies.{Pattern, Patterns, Done, OneOf, BranchOf}
-use Rattle.lsys_spec.specs.Levels.{ModuleValue, Symbol, lineage, Step, Passed, Around, OutOf, Items, Nothing, One, Branch}
-use Rattle.lsys_spec.specs.Walks.{Mark, deeper, named, Entry, Compared, Ignored, Out, Branched, Told, says, before, followed, modules, is_ignored, fits, met, left_walk, right_walk, behind, ahead, or_passed}
+use Rattle.lsys_spec.specs.Levels.{Symbol, lineage, Step, Passed, Around, OutOf, Items, Nothing, One, Branch}
+use Rattle.lsys_spec.specs.Walks.{Mark, deeper, lineages_named, Entry, Compared, Ignored, Out, Branched, Told, Found, says, before, followed, modules, is_ignored, fits, left_walk, right_walk, behind, ahead, or_passed}
+use Rattle.lsys_spec.proofs.Meetings.{met}
 use Rattle.lsys_spec.proofs.Carries.{Carries, carries_self, carries_before, carries_followed, carries_answer}
 
 -- each symbol that an entry names is settled
 abbrev pub Settles : (List ℕ → Type 0) → Entry → Type 0
-Settles S e = Each S (named e)
+Settles S e = Each S (lineages_named e)
 
 abbrev pub AlikeWays : (List ℕ → Type 0) → List Step → List Step → Type 0
 AlikeWays S [] [] = Unit {0}
@@ -28,7 +29,7 @@ AlikeItems S r r' = ⊥
 same_branch : (d : Mark) (o o' c c' : Symbol) → o' ≡ o → c' ≡ c → Branched d (lineage o') (lineage c') ≡ Branched d (lineage o) (lineage c)
 same_branch d o o' c c' e g = ap (λ o. Branched d (lineage o) (lineage c')) e ∙ ap (λ c. Branched d (lineage o) (lineage c)) g
 
-carries_met : (S : List ℕ → Type 0) (b e : Bool) (d : Mark) (s : Symbol) (on on' next next' : Told (Option (List ModuleValue)))
+carries_met : (S : List ℕ → Type 0) (b e : Bool) (d : Mark) (s : Symbol) (on on' next next' : Told Found)
     → (S (lineage s) → Carries (Settles S) on on') → (S (lineage s) → Carries (Settles S) next next') → Carries (Settles S) (met b e d s on next) (met b e d s on' next')
 carries_met S true e d s on on' next next' g h = carries_before (Settles S) (Ignored d s) (Ignored d s) on on' (λ k. (refl, g k.0))
 carries_met S false true d s on on' next next' g h = carries_before (Settles S) (Compared d s) (Compared d s) next next' (λ k. (refl, h k.0))
@@ -50,7 +51,7 @@ left_carries S f d (q ∷ qs) (Around o c ∷ w) (Around o' c' ∷ w') a =
     (λ s. let b = a s.0 s.1.0 in (same_branch d o o' c c' b.0 b.1, left_carries S f d (q ∷ qs) w w' b.2))
 left_carries S f d (q ∷ qs) w w' a = absurd a
 
-passes : (S : List ℕ → Type 0) (inside : Option (List ModuleValue)) (both both' passed passed' : Told (Option (List ModuleValue)))
+passes : (S : List ℕ → Type 0) (inside : Found) (both both' passed passed' : Told Found)
     → Carries (Settles S) both both' → Carries (Settles S) passed passed' → Carries (Settles S) (or_passed inside both passed) (or_passed inside both' passed')
 passes S None both both' passed passed' g h = h
 passes S (Some ms) both both' passed passed' g h = carries_answer (Settles S) (option_map (λ more. ms ++ more)) both both' g
@@ -75,8 +76,8 @@ right_carries S f d (BranchOf qs p) (One s r) (One s' r') a =
 right_carries S f d (BranchOf qs p) (Branch o c i r) (Branch o' c' i' r') a =
     let inside = right_walk f (deeper d) qs i in
     let inside' = right_walk f (deeper d) qs i' in
-    let next = λ (t : Told (Option (List ModuleValue))). or_passed t.answer (right_walk f d p r) (right_walk f d (BranchOf qs p) r) in
-    let next' = λ (t : Told (Option (List ModuleValue))). or_passed t.answer (right_walk f d p r') (right_walk f d (BranchOf qs p) r') in
+    let next = λ (t : Told Found). or_passed t.answer (right_walk f d p r) (right_walk f d (BranchOf qs p) r) in
+    let next' = λ (t : Told Found). or_passed t.answer (right_walk f d p r') (right_walk f d (BranchOf qs p) r') in
     carries_before (Settles S) (Branched d (lineage o) (lineage c)) (Branched d (lineage o') (lineage c')) (followed inside (next inside)) (followed inside' (next' inside'))
     (λ s. let b = a s.0 s.1.0 in (
       same_branch d o o' c c' b.0 b.1,

@@ -4,8 +4,9 @@ use Rattle.std.specs.Prelude.{not, slice_get, ◌↔◌}
 use Rattle.lsys_spec.specs.Systems.{System, Each}
 use Rattle.lsys_spec.specs.Bodies.{Body, group}
 use Rattle.lsys_spec.specs.Levels.{ModuleValue, Symbol, lineage}
-use Rattle.lsys_spec.specs.Walks.{Mark, Entry, Compared, Ignored, Out, Branched, named}
-use Rattle.lsys_spec.specs.Questions.{Question, question, questions, same_number, same_option, same_all, same_lineage, same_symbol, same_body, same_mark, same_entry, same_question, question_at, differs, is_needed}
+use Rattle.lsys_spec.specs.Walks.{Mark, Entry, Compared, Ignored, Out, Branched, lineages_named}
+use Rattle.lsys_spec.specs.Equalities.{same_number, same_option, same_all, same_lineage, same_symbol, same_body, same_mark, same_entry}
+use Rattle.lsys_spec.specs.Questions.{Question, question, questions, same_question, question_at, differs, is_needed}
 use Rattle.lsys_spec.specs.LevelLaws.{StandsIn}
 use Rattle.lsys_spec.proofs.Eachs.{each_at, each_more}
 use Rattle.lsys_spec.proofs.Equal.{same_number_true, same_lineage_true, same_question_refl}
@@ -77,12 +78,12 @@ all_in (s ∷ x) = ((0, s, refl, refl), each_more (λ a. StandsIn x (lineage a))
 of_symbol : (x : List Symbol) (l : List ℕ) → Has (λ a. StandsIn x (lineage a)) l → StandsIn x l
 of_symbol x l h = subst (StandsIn x) h.2 h.1
 
-entry_in : (x : List Symbol) (e : Entry) → OfEntry (λ a. StandsIn x (lineage a)) e → Each (StandsIn x) (named e)
+entry_in : (x : List Symbol) (e : Entry) → OfEntry (λ a. StandsIn x (lineage a)) e → Each (StandsIn x) (lineages_named e)
 entry_in x (Compared d s) h = (h, tt)
 entry_in x (Ignored d s) h = (h, tt)
 entry_in x (Out d l) h = (of_symbol x l h, tt)
 entry_in x (Branched d o c) h = (of_symbol x o h.0, (of_symbol x c h.1, tt))
 
-pub trace_present : (s : System) (t : ℕ) (bs : List Body) (x : List Symbol) (p : ℕ) (l : List ℕ) (m : ModuleValue) → Each (λ e. Each (StandsIn x) (named e)) (question s t bs x p l m).trace
+pub trace_present : (s : System) (t : ℕ) (bs : List Body) (x : List Symbol) (p : ℕ) (l : List ℕ) (m : ModuleValue) → Each (λ e. Each (StandsIn x) (lineages_named e)) (question s t bs x p l m).trace
 trace_present s t bs x p l m =
-    each_more (OfEntry (λ a. StandsIn x (lineage a))) (λ e. Each (StandsIn x) (named e)) (question s t bs x p l m).trace (entry_in x) (trace_of (λ a. StandsIn x (lineage a)) s t bs x p l m (all_in x))
+    each_more (OfEntry (λ a. StandsIn x (lineage a))) (λ e. Each (StandsIn x) (lineages_named e)) (question s t bs x p l m).trace (entry_in x) (trace_of (λ a. StandsIn x (lineage a)) s t bs x p l m (all_in x))

@@ -5,7 +5,7 @@ use Rattle.std.proofs.lemmas.Grind.{fold-append}
 use Rattle.std.proofs.lemmas.List.{take_more, drop_more, drop-drop}
 use Rattle.std.proofs.Math.Seq.{take-add}
 use Rattle.std.proofs.lemmas.Option.{slice_get_within, get_or_from_slice_get}
-use Rattle.lsys_spec.specs.Levels.{ModuleValue, Symbol, Push, Pop, Module, close_of, AreMates, Passed, Around, OutOf, Reading, read, reading, way, Items, Nothing, One, Branch, Nest, outermost, within, innermost, with_module, with_branch, opened, items_of, items_from}
+use Rattle.lsys_spec.specs.Levels.{ModuleValue, Symbol, Push, Pop, Module, close_of, AreMates, Passed, Around, OutOf, Reading, read, reading, way, Items, Nothing, One, Branch, Nest, at_root, in_branch, items_here, with_module, with_whole_branch, with_open_bracket, items_of, items_from}
 use Rattle.lsys_spec.proofs.Mates.{close_there, close_items, close_reading, Peels}
 
 abbrev start : Reading
@@ -56,7 +56,7 @@ way_pop x p q o l m i h =
     ap (λ r. r.way) (ap (reading x) at ∙ whole)
 
 pub items_none : (x : List Symbol) (p : ℕ) → slice_get x p ≡ None → items_from x p ≡ Nothing
-items_none x p h = ap (λ t. innermost (items_of t)) (nothing_left x p h)
+items_none x p h = ap (λ t. items_here (items_of t)) (nothing_left x p h)
   where
     nothing_left : (x : List Symbol) (p : ℕ) → slice_get x p ≡ None → drop p x ≡ []
     nothing_left [] zero h = refl
@@ -64,26 +64,26 @@ items_none x p h = ap (λ t. innermost (items_of t)) (nothing_left x p h)
     nothing_left (s ∷ x) zero h = cc
     nothing_left (s ∷ x) (suc p) h = nothing_left x p h
 
-at_symbol : (x : List Symbol) (p : ℕ) (s : Symbol) → slice_get x p ≡ Some s → items_from x p ≡ innermost (items_of (s ∷ drop (p + 1) x))
-at_symbol x p s h = ap (λ t. innermost (items_of t)) (from_symbol x p s h)
+at_symbol : (x : List Symbol) (p : ℕ) (s : Symbol) → slice_get x p ≡ Some s → items_from x p ≡ items_here (items_of (s ∷ drop (p + 1) x))
+at_symbol x p s h = ap (λ t. items_here (items_of t)) (from_symbol x p s h)
 
 pub items_pop : (x : List Symbol) (p : ℕ) (l : List ℕ) → slice_get x p ≡ Some (Pop l) → items_from x p ≡ Nothing
 items_pop x p l h = at_symbol x p (Pop l) h
 
-of_module : (s : Symbol) (k : Nest) → innermost (with_module s k) ≡ One s (innermost k)
-of_module s (outermost r) = refl
-of_module s (within r c k) = refl
+of_module : (s : Symbol) (k : Nest) → items_here (with_module s k) ≡ One s (items_here k)
+of_module s (at_root r) = refl
+of_module s (in_branch r c k) = refl
 
 pub items_module : (x : List Symbol) (p : ℕ) (m : ModuleValue) (l : List ℕ) → slice_get x p ≡ Some (Module l m) → items_from x p ≡ One (Module l m) (items_from x (p + 1))
 items_module x p m l h = at_symbol x p (Module l m) h ∙ of_module (Module l m) (items_of (drop (p + 1) x))
 
-of_branch : (o c : Symbol) (inner : Items) (k : Nest) → innermost (with_branch o c inner k) ≡ Branch o c inner (innermost k)
-of_branch o c inner (outermost r) = refl
-of_branch o c inner (within r d k) = refl
+of_branch : (o c : Symbol) (inner : Items) (k : Nest) → items_here (with_whole_branch o c inner k) ≡ Branch o c inner (items_here k)
+of_branch o c inner (at_root r) = refl
+of_branch o c inner (in_branch r d k) = refl
 
-of_opened : (o c : Symbol) (n m : Nest) → Peels 0 n c m → innermost (opened o n) ≡ Branch o c (innermost n) (innermost m)
-of_opened o c (outermost r) m h = elim h [ ]
-of_opened o c (within r close k) m h = of_branch o close r k ∙ ap (λ c. Branch o c r (innermost k)) h.0 ∙ ap (λ t. Branch o c r (innermost t)) h.1
+of_opened : (o c : Symbol) (n m : Nest) → Peels 0 n c m → items_here (with_open_bracket o n) ≡ Branch o c (items_here n) (items_here m)
+of_opened o c (at_root r) m h = elim h [ ]
+of_opened o c (in_branch r close k) m h = of_branch o close r k ∙ ap (λ c. Branch o c r (items_here k)) h.0 ∙ ap (λ t. Branch o c r (items_here t)) h.1
 
 -- a bracket ends the branch that begins at p
 pub ends_at : (x : List Symbol) (p q : ℕ) → AreMates x p q → (l : List ℕ) × (slice_get x q ≡ Some (Pop l))
@@ -100,4 +100,4 @@ items_push x p q o l m h i =
     let at : p + 1 + suc n.0 ≡ q + 1 = omega (arith, n.2) in
     at_symbol x p (Push o) h
     ∙ of_opened (Push o) (Pop l) (items_of (drop (p + 1) x)) (items_of (drop (suc n.0) (drop (p + 1) x))) (close_items (drop (p + 1) x) 0 n.0 (Pop l) n.1 there)
-    ∙ ap (λ t. Branch (Push o) (Pop l) (items_from x (p + 1)) (innermost (items_of t))) (drop-drop (suc n.0) (p + 1) x ∙ ap (λ t. drop t x) at)
+    ∙ ap (λ t. Branch (Push o) (Pop l) (items_from x (p + 1)) (items_here (items_of t))) (drop-drop (suc n.0) (p + 1) x ∙ ap (λ t. drop t x) at)

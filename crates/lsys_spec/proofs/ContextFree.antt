@@ -7,12 +7,12 @@ use Rattle.lsys_spec.specs.Systems.{System, Each}
 use Rattle.lsys_spec.specs.Values.{◌and_then◌}
 use Rattle.lsys_spec.specs.Bodies.{Body, Pattern, Patterns, Done, OneOf, BranchOf, group}
 use Rattle.lsys_spec.specs.Levels.{ModuleValue, Step, Items, Symbol, Push, Pop, Module, plain, way, items_from}
-use Rattle.lsys_spec.specs.Choice.{Fault, group_from}
+use Rattle.lsys_spec.specs.Choice.{Fault, choice}
 use Rattle.lsys_spec.specs.Cuts.{Raw}
-use Rattle.lsys_spec.specs.Meaning.{Refusal, OverLimit, FaultAt, numbered, any_weight, key_for, most_entries, ignores, asked, successor_by, successor, fault_at, children_from}
+use Rattle.lsys_spec.specs.Meaning.{LevelRefusal, OverLimit, FaultAt, numbered, any_weight, key_for, ignores, asking, asked, successor_by, successor, fault_at, children_from}
 use Rattle.lsys_spec.specs.Standings.{no_left, no_patterns, free}
-use Rattle.lsys_spec.specs.Morphisms.{IsContextFree, IsUnweighted, alone, rewritten, raw_plain, AreMade}
-use Rattle.lsys_spec.proofs.SameGroups.{FindSame, group_same}
+use Rattle.lsys_spec.specs.Morphisms.{IsContextFree, IsUnweighted, given_alone, rewritten, raw_plain, AreMade}
+use Rattle.lsys_spec.proofs.SameGroups.{FindSame, choice_same}
 
 and_is : (a b : Bool) → (a && b) ≡ true → (a ≡ true) × (b ≡ true)
 and_is true true h = (refl, refl)
@@ -42,10 +42,8 @@ all_find f own w v r q (b ∷ bs) h =
 
 asked_free : (s : System) (bs : List Body) (x y : List Symbol) (p q : ℕ) (l : List ℕ) (m : ModuleValue)
     → free bs ≡ true → asked s bs x p l m ≡ asked s bs y q l m
-asked_free s [] x y p q l m h = refl
-asked_free s (b ∷ bs) x y p q l m h =
-    group_same (ignores s.ignored) (ignores s.ignored) most_entries (key_for s l (b ∷ bs)) m (way x p) (way y q) (items_from x (p + 1)) (items_from y (q + 1)) 0 0 [] (b ∷ bs)
-    (all_find _ m _ _ _ _ (b ∷ bs) h)
+asked_free s bs x y p q l m h =
+    choice_same (asking s m) (ignores s.ignored) (way x p) (way y q) (items_from x (p + 1)) (items_from y (q + 1)) (key_for s l bs) bs (all_find _ m _ _ _ _ bs h)
 
 pub successor_free : (s : System) (t : ℕ) → IsContextFree s t
     → (x y : List Symbol) (p q : ℕ) (l : List ℕ) (m : ModuleValue) → successor s t x p l m ≡ successor s t y q l m
@@ -58,13 +56,11 @@ no_key s l bs h = rw h refl
 
 asked_unweighted : (s : System) (bs : List Body) (x : List Symbol) (p : ℕ) (l k : List ℕ) (m : ModuleValue)
     → any_weight bs ≡ false → asked s bs x p l m ≡ asked s bs x p k m
-asked_unweighted s [] x p l k m h = refl
-asked_unweighted s (b ∷ bs) x p l k m h =
-    ap (λ o. group_from (record { ignored = ignores s.ignored; most = most_entries; key = o; own = m }) (way x p) (items_from x (p + 1)) 0 0 [] (b ∷ bs))
-    (no_key s l (b ∷ bs) h ∙ sym (no_key s k (b ∷ bs) h))
+asked_unweighted s bs x p l k m h =
+    ap (λ key. choice (asking s m) key (way x p) (items_from x (p + 1)) bs) (no_key s l bs h ∙ sym (no_key s k bs h))
 
 successor_alone : (s : System) (t : ℕ) → IsContextFree s t → IsUnweighted s t
-    → (x : List Symbol) (p : ℕ) (l : List ℕ) (m : ModuleValue) → successor s t x p l m ≡ alone s t m
+    → (x : List Symbol) (p : ℕ) (l : List ℕ) (m : ModuleValue) → successor s t x p l m ≡ given_alone s t m
 successor_alone s t h u x p l m =
     let bs = group s t m.name (length m.params) in
     ap (λ o. successor_by bs m o.answer) (asked_unweighted s bs x p l [] m (u m.name (length m.params)))
@@ -77,7 +73,7 @@ plain_numbered n l (S.Push ∷ ys) more = ap (λ zs. S.Push ∷ zs) (plain_numbe
 plain_numbered n l (S.Pop ∷ ys) more = ap (λ zs. S.Pop ∷ zs) (plain_numbered (n + 1) l ys more)
 plain_numbered n l (S.Cut ∷ ys) more = ap (λ zs. S.Cut ∷ zs) (plain_numbered (n + 1) l ys more)
 
-with_bracket : (r : Raw) (c : Result (List Raw) Refusal) (d : Result (List (S.Symbol ℤ)) Fault)
+with_bracket : (r : Raw) (c : Result (List Raw) LevelRefusal) (d : Result (List (S.Symbol ℤ)) Fault)
     → AreMade c d → AreMade (c and_then λ more. Ok (r ∷ more)) (d and_then λ more. Ok (raw_plain r ∷ more))
 with_bracket r (Ok raw) (Ok ys) h = ap (λ zs. raw_plain r ∷ zs) h
 with_bracket r (Ok raw) (Err k) h = absurd h
@@ -85,7 +81,7 @@ with_bracket r (Err (FaultAt k t n)) (Ok ys) h = absurd h
 with_bracket r (Err (FaultAt k t n)) (Err j) h = h
 with_bracket r (Err (OverLimit t)) d h = absurd h
 
-with_children : (l : List ℕ) (ys : List (S.Symbol ℤ)) (c : Result (List Raw) Refusal) (d : Result (List (S.Symbol ℤ)) Fault)
+with_children : (l : List ℕ) (ys : List (S.Symbol ℤ)) (c : Result (List Raw) LevelRefusal) (d : Result (List (S.Symbol ℤ)) Fault)
     → AreMade c d → AreMade (c and_then λ more. Ok (numbered 0 l ys ++ more)) (d and_then λ more. Ok (ys ++ more))
 with_children l ys (Ok raw) (Ok zs) h = plain_numbered 0 l ys raw ∙ ap (λ us. ys ++ us) h
 with_children l ys (Ok raw) (Err k) h = absurd h
@@ -93,19 +89,19 @@ with_children l ys (Err (FaultAt k t n)) (Ok zs) h = absurd h
 with_children l ys (Err (FaultAt k t n)) (Err j) h = h
 with_children l ys (Err (OverLimit t)) d h = absurd h
 
-with_module : (t n : ℕ) (l : List ℕ) (a : Result (List (S.Symbol ℤ)) Fault) (c : Result (List Raw) Refusal) (d : Result (List (S.Symbol ℤ)) Fault)
+with_module : (t n : ℕ) (l : List ℕ) (a : Result (List (S.Symbol ℤ)) Fault) (c : Result (List Raw) LevelRefusal) (d : Result (List (S.Symbol ℤ)) Fault)
     → AreMade c d
     → AreMade (fault_at t n a and_then λ ys. c and_then λ more. Ok (numbered 0 l ys ++ more)) (a and_then λ ys. d and_then λ more. Ok (ys ++ more))
 with_module t n l (Ok ys) c d h = with_children l ys c d h
 with_module t n l (Err k) c d h = refl
 
 pub children_made : (s : System) (t : ℕ) → IsContextFree s t → IsUnweighted s t
-    → (x : List Symbol) (p n : ℕ) (rest : List Symbol) → AreMade (children_from s t x p n rest) (rewritten (alone s t) (map plain rest))
+    → (x : List Symbol) (p n : ℕ) (rest : List Symbol) → AreMade (children_from s t x p n rest) (rewritten (given_alone s t) (map plain rest))
 children_made s t h u x p n [] = refl
 children_made s t h u x p n (Push l ∷ rest) = with_bracket _ _ _ (children_made s t h u x (p + 1) n rest)
 children_made s t h u x p n (Pop l ∷ rest) = with_bracket _ _ _ (children_made s t h u x (p + 1) n rest)
 children_made s t h u x p n (Module l m ∷ rest) =
-    rw (successor_alone s t h u x p l m) (with_module t (n + 1) l (alone s t m) _ _ (children_made s t h u x (p + 1) (n + 1) rest))
+    rw (successor_alone s t h u x p l m) (with_module t (n + 1) l (given_alone s t m) _ _ (children_made s t h u x (p + 1) (n + 1) rest))
 
 front_then : (x : S.Symbol ℤ) (a b : Result (List (S.Symbol ℤ)) Fault)
     → ((a and_then λ u. b and_then λ v. Ok (u ++ v)) and_then λ more. Ok (x ∷ more)) ≡ ((a and_then λ more. Ok (x ∷ more)) and_then λ u. b and_then λ v. Ok (u ++ v))

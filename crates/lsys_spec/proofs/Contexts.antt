@@ -1,17 +1,15 @@
 -- The walks answer what the contexts find.
-use Rattle.std.proofs.Common.{◌≡◌, ℕ, zero, suc, List, [], ◌∷◌, ◌++◌, ◌+◌, ◌-◌, length, take, drop, Bool, true, false, cond, ◌&&◌, Option, Some, None, refl, ap, sym, ◌∙◌, arith}
+use Rattle.std.proofs.Common.{◌≡◌, ℕ, zero, suc, List, [], ◌∷◌, ◌++◌, ◌+◌, ◌-◌, length, take, drop, Bool, true, false, cond, ◌&&◌, Some, None, refl, ap, sym, ◌∙◌, arith}
 use Rattle.std.specs.Prelude.{option_map, fold, reverse}
 use Rattle.std.proofs.lemmas.List.{drop-append-le, drop_all, length_push, reverse-append, reverse-reverse}
 use Rattle.std.proofs.Math.Bool.{and_assoc, and-false, and-true}
 use Rattle.lsys_syntax.specs.Strings.{ModuleName}
 use Rattle.lsys_spec.specs.Bodies.{Body, Pattern, Patterns, Done, OneOf, BranchOf}
 use Rattle.lsys_spec.specs.Levels.{ModuleValue, Symbol, Push, Pop, Module, Step, Passed, Around, OutOf, Reading, restored, read, way, items_from, Items, Nothing, One, Branch}
-use Rattle.lsys_spec.specs.Walks.{Mark, deeper, Told, modules, is_ignored, fits, met, says, behind, ahead, or_passed, left_walk, right_walk}
+use Rattle.lsys_spec.specs.Walks.{Mark, deeper, Told, Found, modules, is_ignored, fits, says, behind, ahead, or_passed, left_walk, right_walk}
+use Rattle.lsys_spec.proofs.Meetings.{met}
 use Rattle.lsys_spec.specs.Choice.{right_after, contexts}
 use Rattle.lsys_spec.specs.Contexts.{Paths, given_back, unless_ignored, read_path, path, suits, all_suit, last, where_true, left, inner_or, right, around}
-
-abbrev Found : Type 0
-Found = Option (List ModuleValue)
 
 met_answer : (b e : Bool) (d : Mark) (s : Symbol) (on next : Told Found) → (met b e d s on next).answer ≡ cond b on.answer (cond e next.answer None)
 met_answer true e d s on next = refl

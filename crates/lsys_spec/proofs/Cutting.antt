@@ -2,7 +2,7 @@
 use Rattle.std.proofs.Common.{◌≡◌, ◌≤◌, ℕ, zero, suc, ◌+◌, ◌-◌, Bool, true, false, ◌&&◌, ◌||◌, Option, Some, None, List, [], ◌∷◌, take, drop, refl, ap, sym, ◌∙◌, arith, eq-eqb}
 use Rattle.std.specs.Prelude.{map}
 use Rattle.std.proofs.lemmas.Bool.{eqb-true}
-use Rattle.lsys_spec.specs.Levels.{Symbol, Push, Pop, Module, balanced}
+use Rattle.lsys_spec.specs.Levels.{Symbol, Push, Pop, Module, level_balanced}
 use Rattle.lsys_spec.specs.Cuts.{Raw, Plain, Percent, raw_balanced, cut_on, cut, never_closes, CutsOff, IsCutOff, is_percent, is_cut_off, kept}
 use Rattle.lsys_spec.proofs.Tests.{or_later}
 
@@ -11,7 +11,7 @@ open_in None = 0
 open_in (Some n) = n
 
 -- b brackets are open: some of them in what is cut off
-pub cut_balanced : (x : List Raw) (o : Option ℕ) (m b : ℕ) → m + open_in o ≡ b → raw_balanced b x ≡ true → balanced m (cut_on o x) ≡ true
+pub cut_balanced : (x : List Raw) (o : Option ℕ) (m b : ℕ) → m + open_in o ≡ b → raw_balanced b x ≡ true → level_balanced m (cut_on o x) ≡ true
 cut_balanced [] None m b e h = let z : b ≡ 0 = eqb-true b 0 h in eq-eqb m 0 (omega (arith, z, e))
 cut_balanced [] (Some n) m b e h = let z : b ≡ 0 = eqb-true b 0 h in eq-eqb m 0 (omega (arith, z, e))
 cut_balanced (Percent l ∷ x) None m b e h = cut_balanced x (Some 0) m b e h

@@ -7,13 +7,14 @@ use Rattle.std.proofs.lemmas.Slice.Eq.{bytes_eq-Decides}
 use Rattle.lsys_syntax.specs.Strings.{ModuleName}
 use Rattle.lsys_syntax.specs.Strings as S
 use Rattle.lsys_syntax.specs.Expressions.{TermOp, multiply, divide, remainder, SumOp, add, subtract, RelOp, equal, unequal, less, at_most, greater, at_least}
-use Rattle.lsys_spec.specs.Systems.{same_name, name_text}
+use Rattle.lsys_spec.specs.Systems.{same_name, module_name_text}
 use Rattle.lsys_spec.specs.Values.{Tree, Constant, Formal, Negation, Inversion, Binary, Both, Either, Operator, sum_of, product_of, power_of, comparison, is_zero, int_same}
 use Rattle.lsys_spec.specs.Bodies.{Body, Pattern, Patterns, Done, OneOf, BranchOf}
 use Rattle.lsys_spec.specs.Levels.{ModuleValue, Symbol, Push, Pop, Module}
 use Rattle.lsys_spec.specs.Walks.{Mark, Entry, Compared, Ignored, Out, Branched}
 use Rattle.lsys_spec.specs.Standings.{Standing, same_standing}
-use Rattle.lsys_spec.specs.Questions.{Question, same_number, same_option, same_all, same_lineage, same_module, same_symbol, same_term_op, same_sum_op, same_rel_op, same_operator, same_tree, same_pattern, same_patterns, same_template, same_body, same_mark, same_entry, same_question}
+use Rattle.lsys_spec.specs.Equalities.{same_number, same_option, same_all, same_lineage, same_module, same_symbol, same_term_op, same_sum_op, same_rel_op, same_operator, same_tree, same_pattern, same_patterns, same_template, same_body, same_mark, same_entry}
+use Rattle.lsys_spec.specs.Questions.{Question, same_question}
 use Rattle.lsys_spec.proofs.Tests.{and_true, both}
 
 pub same_option_refl : {A : Type 0} (f : A → A → Bool) → ((a : A) → f a a ≡ true) → (o : Option A) → same_option f o o ≡ true
@@ -44,11 +45,11 @@ same_lineage_true (n ∷ a) (m ∷ b) h =
 
 -- names are the same where their texts are
 
-pub same_name_text : (m n : ModuleName) → same_name m n ≡ true → name_text m ≡ name_text n
-same_name_text m n h = (bytes_eq-Decides (name_text m) (name_text n)).0 h
+pub same_name_text : (m n : ModuleName) → same_name m n ≡ true → module_name_text m ≡ module_name_text n
+same_name_text m n h = (bytes_eq-Decides (module_name_text m) (module_name_text n)).0 h
 
-pub text_same_name : (m n : ModuleName) → name_text m ≡ name_text n → same_name m n ≡ true
-text_same_name m n h = (bytes_eq-Decides (name_text m) (name_text n)).1 h
+pub text_same_name : (m n : ModuleName) → module_name_text m ≡ module_name_text n → same_name m n ≡ true
+text_same_name m n h = (bytes_eq-Decides (module_name_text m) (module_name_text n)).1 h
 
 pub same_name_refl : (n : ModuleName) → same_name n n ≡ true
 same_name_refl n = text_same_name n n refl

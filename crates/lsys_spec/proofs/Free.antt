@@ -1,15 +1,17 @@
 -- Where the same names are ignored, or nothing is read, the choice is the same.
-use Rattle.std.proofs.Common.{◌≡◌, ℕ, ◌+◌, Bool, true, ◌&&◌, ◌||◌, Option, Some, None, List, [], ◌∷◌, ◌++◌, length, refl, ap, sym, ◌∙◌, ◌⊎◌, inl, inr}
+use Rattle.std.proofs.Common.{◌≡◌, ℕ, Bool, true, ◌&&◌, ◌||◌, Option, Some, None, List, [], ◌∷◌, ◌++◌, refl, ap, sym, ◌∙◌, ◌⊎◌, inl, inr}
 use Rattle.std.specs.Prelude.{reverse}
 use Rattle.lsys_syntax.specs.Strings.{ModuleName}
-use Rattle.lsys_spec.specs.Systems.{same_name}
+use Rattle.lsys_spec.specs.Systems.{Each, same_name}
 use Rattle.lsys_spec.specs.Bodies.{Body, Pattern, Patterns, Done, OneOf, BranchOf}
 use Rattle.lsys_spec.specs.Levels.{ModuleValue, Step, Items}
-use Rattle.lsys_spec.specs.Walks.{Mark, Told, followed, joined, left_walk, right_walk}
-use Rattle.lsys_spec.specs.Choice.{Taken, Choice, Asking, right_after, contexts, outcome, decided, is_some, group_from}
+use Rattle.lsys_spec.specs.Walks.{Mark, Told, followed, joined, left_walk, right_walk, Found}
+use Rattle.lsys_spec.specs.Choice.{Asking, right_after, contexts, choice}
 use Rattle.lsys_spec.specs.Standings.{no_patterns, no_left, free, among, all_among, same_ignored}
 use Rattle.lsys_spec.specs.Meaning.{ignores}
 use Rattle.lsys_spec.proofs.Equal.{same_name_text, text_same_name}
+use Rattle.lsys_spec.proofs.SameGroups as groups
+use Rattle.lsys_spec.proofs.SameGroups.{FindSame}
 use Rattle.lsys_spec.proofs.Tests.{both, any_is, one_of, or_first, or_later, each_way}
 
 left_free : (f f' : ModuleName → Bool) (d : Mark) (qs : List Pattern) (w : List Step) → no_left qs ≡ true → left_walk f' d (reverse qs) w ≡ left_walk f d (reverse qs) w
@@ -21,27 +23,21 @@ right_free f f' d Done r h = refl
 right_free f f' d (OneOf q p) r h = cc
 right_free f f' d (BranchOf q p) r h = cc
 
-after_free : (f f' : ModuleName → Bool) (d : Mark) (b : Body) (own : ModuleValue) (r : Items) (o : Option (List ModuleValue)) → no_patterns b.right ≡ true → right_after f' d b own r o ≡ right_after f d b own r o
+after_free : (f f' : ModuleName → Bool) (d : Mark) (b : Body) (own : ModuleValue) (r : Items) (o : Found) → no_patterns b.right ≡ true → right_after f' d b own r o ≡ right_after f d b own r o
 after_free f f' d b own r None h = refl
 after_free f f' d b own r (Some ms) h = ap (joined (ms ++ own ∷ [])) (right_free f f' d b.right r h)
 
 contexts_free : (f f' : ModuleName → Bool) (d : Mark) (b : Body) (own : ModuleValue) (w : List Step) (r : Items) → no_left b.left && no_patterns b.right ≡ true → contexts f' d b own w r ≡ contexts f d b own w r
 contexts_free f f' d b own w r h =
     let e = both (no_left b.left) (no_patterns b.right) h in
-    let t : Told (Option (List ModuleValue)) = left_walk f d (reverse b.left) w in
-    ap (λ (t : Told (Option (List ModuleValue))). followed t (right_after f' d b own r t.answer)) (left_free f f' d b.left w e.0)
+    let t : Told Found = left_walk f d (reverse b.left) w in
+    ap (λ (t : Told Found). followed t (right_after f' d b own r t.answer)) (left_free f f' d b.left w e.0)
     ∙ ap (followed t) (after_free f f' d b own r t.answer e.1)
 
-pub group_free : (a : Asking) (f : ModuleName → Bool) (w : List Step) (r : Items) (n g : ℕ) (taken : List Taken) (bs : List Body) → free bs ≡ true
-    → group_from (record a { ignored = f }) w r n g taken bs ≡ group_from a w r n g taken bs
-group_free a f w r n g taken [] h = refl
-group_free a f w r n g taken (b ∷ bs) h =
-    let e = both (no_left b.left && no_patterns b.right) (free bs) h in
-    let d : Mark = record { rule = g; depth = 0 } in
-    let t : Told (Option (List ModuleValue)) = contexts a.ignored d b a.own w r in
-    ap (λ (t : Told (Option (List ModuleValue))). followed t (decided (outcome a.most n b t) (is_some a.key) g b taken (λ more. group_from (record a { ignored = f }) w r (n + length t.entries) (g + 1) more bs)))
-    (contexts_free a.ignored f d b a.own w r e.0)
-    ∙ ap (λ (go : List Taken → Told Choice). followed t (decided (outcome a.most n b t) (is_some a.key) g b taken go)) (λ i. λ more. group_free a f w r (n + length t.entries) (g + 1) more bs e.1 i)
+all_free : (f f' : ModuleName → Bool) (own : ModuleValue) (w : List Step) (r : Items) (bs : List Body) → free bs ≡ true → Each (FindSame f f' own w w r r) bs
+all_free f f' own w r [] h = tt
+all_free f f' own w r (b ∷ bs) h =
+    let e = both (no_left b.left && no_patterns b.right) (free bs) h in (λ d. sym (contexts_free f f' d b own w r e.0), all_free f f' own w r bs e.1)
 
 -- the same names, in whatever order
 
@@ -67,12 +63,12 @@ ignores_same a b n h =
     let e = both (all_among a b) (all_among b a) h in each_way (ignores b n) (ignores a n) (among_all b a n e.1) (among_all a b n e.0)
 
 -- nothing that a group depends on is another
-pub group_same : (a : Asking) (before after : List ModuleName) (w : List Step) (r : Items) (bs : List Body) → a.ignored ≡ ignores before → free bs || same_ignored before after ≡ true
-    → group_from (record a { ignored = ignores after }) w r 0 0 [] bs ≡ group_from a w r 0 0 [] bs
-group_same a before after w r bs i h = by (one_of (free bs) (same_ignored before after) h)
+pub choice_same : (a : Asking) (key : Option ℕ) (before after : List ModuleName) (w : List Step) (r : Items) (bs : List Body) → a.ignored ≡ ignores before → free bs || same_ignored before after ≡ true
+    → choice (record a { ignored = ignores after }) key w r bs ≡ choice a key w r bs
+choice_same a key before after w r bs i h = by (one_of (free bs) (same_ignored before after) h)
   where
-    by : (free bs ≡ true) ⊎ (same_ignored before after ≡ true) → group_from (record a { ignored = ignores after }) w r 0 0 [] bs ≡ group_from a w r 0 0 [] bs
-    by (inl g) = group_free a (ignores after) w r 0 0 [] bs g
+    by : (free bs ≡ true) ⊎ (same_ignored before after ≡ true) → choice (record a { ignored = ignores after }) key w r bs ≡ choice a key w r bs
+    by (inl g) = sym (groups.choice_same a (ignores after) w w r r key bs (all_free a.ignored (ignores after) a.own w r bs g))
     by (inr g) =
         let e : ignores after ≡ a.ignored = (λ j. λ n. ignores_same before after n g j) ∙ sym i in
-        ap (λ (f : ModuleName → Bool). group_from (record a { ignored = f }) w r 0 0 [] bs) e
+        ap (λ (f : ModuleName → Bool). choice (record a { ignored = f }) key w r bs) e

@@ -1,16 +1,16 @@
 -- What the rules of a group read and choose is carried over.
-use Rattle.std.proofs.Common.{◌≡◌, ℕ, ◌+◌, ◌<◌, ◌≤◌, Bool, true, false, Option, Some, None, Result, Ok, Err, List, [], ◌∷◌, ◌++◌, length, ltb, refl, sym, subst, arith, length-append}
-use Rattle.std.specs.Prelude.{ℤ, option_map, reverse, sum}
+use Rattle.std.proofs.Common.{◌≡◌, ℕ, ◌+◌, ◌<◌, ◌≤◌, Bool, true, false, Option, Some, None, Result, Ok, Err, List, [], ◌∷◌, ◌++◌, length, ltb, refl, sym, subst, ap, arith, cond, length-append}
+use Rattle.std.specs.Prelude.{option_map, reverse}
 use Rattle.std.proofs.lemmas.Bool.{ltb-false}
 use Rattle.lsys_syntax.specs.Strings.{ModuleName}
 use Rattle.lsys_spec.specs.Bodies.{Body}
 use Rattle.lsys_spec.specs.Levels.{ModuleValue, Step, Items}
-use Rattle.lsys_spec.specs.Walks.{Mark, Entry, Told, says, followed, left_walk, right_walk}
+use Rattle.lsys_spec.specs.Walks.{Mark, Entry, Told, says, followed, left_walk, right_walk, Found}
 use Rattle.lsys_spec.proofs.Carries.{Carries, carries_self, carries_followed, carries_answer}
 use Rattle.lsys_spec.proofs.Alike.{Settles, AlikeItems, AlikeWays, left_carries, right_carries}
-use Rattle.lsys_spec.specs.Choice.{Fault, TooFar, Outcome, No, Yes, Fails, Taken, Choice, Chosen, Failed, WeightTotal, Asking, weighed, right_after, contexts, fitting, unless_far, outcome, largest_weight, weights, unless_over, with_weight, decided, is_some, at_end, group_from}
+use Rattle.lsys_spec.specs.Choice.{Fault, TooFar, Outcome, No, Yes, Fails, Choice, NoRule, Chosen, Failed, Asking, Tried, none_tried, one_more, right_after, contexts, next_contexts, fitting, outcome, decided, first_applying, Applying, found_with, all_applying, picked, choice}
 
-right_after_carries : (S : List ℕ → Type 0) (f : ModuleName → Bool) (d : Mark) (b : Body) (own : ModuleValue) (r r' : Items) → AlikeItems S r r' → (o : Option (List ModuleValue))
+right_after_carries : (S : List ℕ → Type 0) (f : ModuleName → Bool) (d : Mark) (b : Body) (own : ModuleValue) (r r' : Items) → AlikeItems S r r' → (o : Found)
     → Carries (Settles S) (right_after f d b own r o) (right_after f d b own r' o)
 right_after_carries S f d b own r r' a None = carries_self (Settles S) (says None)
 right_after_carries S f d b own r r' a (Some ms) =
@@ -24,74 +24,88 @@ contexts_carries S f d b own w w' r r' l a =
     carries_followed (Settles S) t t' (right_after f d b own r t.answer) (right_after f d b own r' t'.answer) (left_carries S f d (reverse b.left) w w' l)
     (λ e. subst (λ u. Carries (Settles S) (right_after f d b own r t.answer) (right_after f d b own r' u.answer)) (sym e) (right_after_carries S f d b own r r' a t.answer))
 
-over_carries : (S : Entry → Type 0) (over : Bool) (go go' : Told Choice) → Carries S go go' → Carries S (unless_over over go) (unless_over over go')
-over_carries S true go go' c = carries_self S (says (Failed WeightTotal))
-over_carries S false go go' c = c
+pub next_carries : (S : List ℕ → Type 0) (a : Asking) (w w' : List Step) (r r' : Items) → AlikeWays S w w' → AlikeItems S r r' → (d : Tried) (b : Body)
+    → Carries (Settles S) (next_contexts a w r d b) (next_contexts a w' r' d b)
+next_carries S a w w' r r' l i d b = contexts_carries S a.ignored (record { rule = d.place; depth = 0 }) b a.own w w' r r' l i
 
-weight_carries : (S : Entry → Type 0) (w : Result ℕ Fault) (g : ℕ) (values : List ℤ) (taken : List Taken) (go go' : List Taken → Told Choice)
-    → ((more : List Taken) → Carries S (go more) (go' more)) → Carries S (with_weight w g values taken go) (with_weight w g values taken go')
-weight_carries S (Err k) g values taken go go' c = carries_self S (says (Failed k))
-weight_carries S (Ok w) g values taken go go' c =
-    let more : List Taken = taken ++ record { rule = g; values = values; weight = w } ∷ [] in
-    over_carries S (ltb largest_weight (sum (weights more))) (go more) (go' more) (c more)
+decided_carries : (S : Entry → Type 0) (o : Outcome) (place : ℕ) (others others' : Told Choice) → Carries S others others' → Carries S (decided o place others) (decided o place others')
+decided_carries S No place others others' c = c
+decided_carries S (Yes values) place others others' c = carries_self S (says (Chosen place values))
+decided_carries S (Fails k) place others others' c = carries_self S (says (Failed k))
 
-decided_carries : (S : Entry → Type 0) (o : Outcome) (weighted : Bool) (g : ℕ) (b : Body) (taken : List Taken) (go go' : List Taken → Told Choice)
-    → ((more : List Taken) → Carries S (go more) (go' more)) → Carries S (decided o weighted g b taken go) (decided o weighted g b taken go')
-decided_carries S No weighted g b taken go go' c = c taken
-decided_carries S (Fails k) weighted g b taken go go' c = carries_self S (says (Failed k))
-decided_carries S (Yes values) false g b taken go go' c = carries_self S (says (Chosen g values))
-decided_carries S (Yes values) true g b taken go go' c = weight_carries S (weighed b.weight values) g values taken go go' c
-
-pub group_carries : (S : List ℕ → Type 0) (a : Asking) (w w' : List Step) (r r' : Items) → AlikeWays S w w' → AlikeItems S r r' → (n g : ℕ) (taken : List Taken) (bs : List Body)
-    → Carries (Settles S) (group_from a w r n g taken bs) (group_from a w' r' n g taken bs)
-group_carries S a w w' r r' l i n g taken [] = carries_self (Settles S) (says (at_end a.key taken))
-group_carries S a w w' r r' l i n g taken (b ∷ bs) =
-    let d : Mark = record { rule = g; depth = 0 } in
-    let t = contexts a.ignored d b a.own w r in
-    let t' = contexts a.ignored d b a.own w' r' in
-    let next = λ (u : Told (Option (List ModuleValue))). decided (outcome a.most n b u) (is_some a.key) g b taken (λ more. group_from a w r (n + length u.entries) (g + 1) more bs) in
-    let next' = λ (u : Told (Option (List ModuleValue))). decided (outcome a.most n b u) (is_some a.key) g b taken (λ more. group_from a w' r' (n + length u.entries) (g + 1) more bs) in
-    carries_followed (Settles S) t t' (next t) (next' t') (contexts_carries S a.ignored d b a.own w w' r r' l i)
+first_carries : (S : List ℕ → Type 0) (a : Asking) (w w' : List Step) (r r' : Items) → AlikeWays S w w' → AlikeItems S r r' → (d : Tried) (bs : List Body)
+    → Carries (Settles S) (first_applying a w r d bs) (first_applying a w' r' d bs)
+first_carries S a w w' r r' l i d [] = carries_self (Settles S) (says NoRule)
+first_carries S a w w' r r' l i d (b ∷ bs) =
+    let t : Told Found = next_contexts a w r d b in
+    let t' : Told Found = next_contexts a w' r' d b in
+    let next = λ (u : Told Found). decided (outcome a.most d b u) d.place (first_applying a w r (one_more d u) bs) in
+    let next' = λ (u : Told Found). decided (outcome a.most d b u) d.place (first_applying a w' r' (one_more d u) bs) in
+    carries_followed (Settles S) t t' (next t) (next' t') (next_carries S a w w' r r' l i d b)
     (λ e. subst (λ u. Carries (Settles S) (next t) (next' u)) (sym e)
-    (decided_carries (Settles S) (outcome a.most n b t) (is_some a.key) g b taken (λ more. group_from a w r (n + length t.entries) (g + 1) more bs) (λ more. group_from a w' r' (n + length t.entries) (g + 1) more bs)
-    (λ more. group_carries S a w w' r r' l i (n + length t.entries) (g + 1) more bs)))
+    (decided_carries (Settles S) (outcome a.most d b t) d.place (first_applying a w r (one_more d t) bs) (first_applying a w' r' (one_more d t) bs)
+    (first_carries S a w w' r r' l i (one_more d t) bs)))
 
-abbrev Far : ℕ → ℕ → Told Choice → Type 0
-Far most m t = most < m + length t.entries → t.answer ≡ Failed TooFar
+all_carries : (S : List ℕ → Type 0) (a : Asking) (w w' : List Step) (r r' : Items) → AlikeWays S w w' → AlikeItems S r r' → (d : Tried) (found : Result (List Applying) Fault) (bs : List Body)
+    → Carries (Settles S) (all_applying a w r d found bs) (all_applying a w' r' d found bs)
+all_carries S a w w' r r' l i d (Err k) bs = carries_self (Settles S) (says (Err k))
+all_carries S a w w' r r' l i d (Ok found) [] = carries_self (Settles S) (says (Ok found))
+all_carries S a w w' r r' l i d (Ok found) (b ∷ bs) =
+    let t : Told Found = next_contexts a w r d b in
+    let t' : Told Found = next_contexts a w' r' d b in
+    let next = λ (u : Told Found). all_applying a w r (one_more d u) (found_with found d.place b (outcome a.most d b u)) bs in
+    let next' = λ (u : Told Found). all_applying a w' r' (one_more d u) (found_with found d.place b (outcome a.most d b u)) bs in
+    carries_followed (Settles S) t t' (next t) (next' t') (next_carries S a w w' r r' l i d b)
+    (λ e. subst (λ u. Carries (Settles S) (next t) (next' u)) (sym e)
+    (all_carries S a w w' r r' l i (one_more d t) (found_with found d.place b (outcome a.most d b t)) bs))
 
-says_near : (most m : ℕ) (c : Choice) → m ≤ most → Far most m (says c)
-says_near most m c h l = absurd (omega (arith, h, l))
-
-over_far : (most m : ℕ) (over : Bool) (go : Told Choice) → m ≤ most → Far most m go → Far most m (unless_over over go)
-over_far most m true go h f = says_near most m (Failed WeightTotal) h
-over_far most m false go h f = f
-
-weight_far : (most m : ℕ) (w : Result ℕ Fault) (g : ℕ) (values : List ℤ) (taken : List Taken) (go : List Taken → Told Choice) → m ≤ most → ((more : List Taken) → Far most m (go more)) → Far most m (with_weight w g values taken go)
-weight_far most m (Err k) g values taken go h f = says_near most m (Failed k) h
-weight_far most m (Ok w) g values taken go h f =
-    let more : List Taken = taken ++ record { rule = g; values = values; weight = w } ∷ [] in over_far most m (ltb largest_weight (sum (weights more))) (go more) h (f more)
-
-decided_far : (most m : ℕ) (o : Outcome) (weighted : Bool) (g : ℕ) (b : Body) (taken : List Taken) (go : List Taken → Told Choice) → m ≤ most → ((more : List Taken) → Far most m (go more)) → Far most m (decided o weighted g b taken go)
-decided_far most m No weighted g b taken go h f = f taken
-decided_far most m (Fails k) weighted g b taken go h f = says_near most m (Failed k) h
-decided_far most m (Yes values) false g b taken go h f = says_near most m (Chosen g values) h
-decided_far most m (Yes values) true g b taken go h f = weight_far most m (weighed b.weight values) g values taken go h f
-
-far_after : (most n m : ℕ) (t : Told (Option (List ModuleValue))) (far : Bool) (o : Outcome) (weighted : Bool) (g : ℕ) (b : Body) (taken : List Taken) (go : List Taken → Told Choice)
-    → n + length t.entries ≡ m → ltb most m ≡ far → ((more : List Taken) → m ≤ most → Far most m (go more))
-    → Far most n (followed t (decided (unless_far far o) weighted g b taken go))
-far_after most n m t true o weighted g b taken go e f i l = refl
-far_after most n m t false o weighted g b taken go e f i l =
-    let near : m ≤ most = ltb-false most m f in
-    let next : Told Choice = decided o weighted g b taken go in
-    let whole : length (t.entries ++ next.entries) ≡ length t.entries + length next.entries = length-append t.entries next.entries in
-    decided_far most m o weighted g b taken go near (λ more. i more near) (omega (arith, e, l, whole))
+pub choice_carries : (S : List ℕ → Type 0) (a : Asking) (key : Option ℕ) (w w' : List Step) (r r' : Items) → AlikeWays S w w' → AlikeItems S r r' → (bs : List Body)
+    → Carries (Settles S) (choice a key w r bs) (choice a key w' r' bs)
+choice_carries S a None w w' r r' l i bs = first_carries S a w w' r r' l i none_tried bs
+choice_carries S a (Some key) w w' r r' l i bs =
+    carries_answer (Settles S) (picked key) (all_applying a w r none_tried (Ok []) bs) (all_applying a w' r' none_tried (Ok []) bs) (all_carries S a w w' r r' l i none_tried (Ok []) bs)
 
 -- a longer list of entries comes with the fault TooFar
-pub group_far : (a : Asking) (w : List Step) (r : Items) (n g : ℕ) (taken : List Taken) (bs : List Body) → n ≤ a.most
-    → a.most < n + length (group_from a w r n g taken bs).entries → (group_from a w r n g taken bs).answer ≡ Failed TooFar
-group_far a w r n g taken [] h l = absurd (omega (arith, h, l))
-group_far a w r n g taken (b ∷ bs) h l =
-    let t : Told (Option (List ModuleValue)) = contexts a.ignored (record { rule = g; depth = 0 }) b a.own w r in
-    far_after a.most n (n + length t.entries) t (ltb a.most (n + length t.entries)) (fitting b t.answer) (is_some a.key) g b taken (λ more. group_from a w r (n + length t.entries) (g + 1) more bs)
-    refl refl (λ more near. group_far a w r (n + length t.entries) (g + 1) more bs near) l
+
+abbrev IsFar : {A : Type 0} → ℕ → ℕ → A → Told A → Type 0
+IsFar most n far t = most < n + length t.entries → t.answer ≡ far
+
+says_near : {A : Type 0} (most n : ℕ) (far c : A) → n ≤ most → IsFar most n far (says c)
+says_near most n far c h l = absurd (omega (arith, h, l))
+
+decided_far : (most n : ℕ) (o : Outcome) (place : ℕ) (others : Told Choice) → n ≤ most → IsFar most n (Failed TooFar) others → IsFar most n (Failed TooFar) (decided o place others)
+decided_far most n No place others h f = f
+decided_far most n (Yes values) place others h f = says_near most n (Failed TooFar) (Chosen place values) h
+decided_far most n (Fails k) place others h f = says_near most n (Failed TooFar) (Failed k) h
+
+-- what follows a rule's walks: where these are too long, the fault at once
+far_behind : {A : Type 0} (most n : ℕ) (far : A) (t : Told Found) (b : Body) (next : Outcome → Told A) → next (Fails TooFar) ≡ says far
+    → (n + length t.entries ≤ most → (o : Outcome) → IsFar most (n + length t.entries) far (next o))
+    → IsFar most n far (followed t (next (cond (ltb most (n + length t.entries)) (Fails TooFar) (fitting b t.answer))))
+far_behind {A} most n far t b next e f = at (ltb most (n + length t.entries)) refl
+  where
+    at : (over : Bool) → ltb most (n + length t.entries) ≡ over → IsFar most n far (followed t (next (cond over (Fails TooFar) (fitting b t.answer))))
+    at true h l = ap (λ (u : Told A). u.answer) e
+    at false h l =
+        let u : Told A = next (fitting b t.answer) in
+        let whole : length (t.entries ++ u.entries) ≡ length t.entries + length u.entries = length-append t.entries u.entries in
+        f (ltb-false most (n + length t.entries) h) (fitting b t.answer) (omega (arith, l, whole))
+
+first_far : (a : Asking) (w : List Step) (r : Items) (d : Tried) (bs : List Body) → d.read ≤ a.most → IsFar a.most d.read (Failed TooFar) (first_applying a w r d bs)
+first_far a w r d [] h = says_near a.most d.read (Failed TooFar) NoRule h
+first_far a w r d (b ∷ bs) h =
+    let t : Told Found = next_contexts a w r d b in
+    far_behind a.most d.read (Failed TooFar) t b (λ o. decided o d.place (first_applying a w r (one_more d t) bs)) refl
+    (λ near o. decided_far a.most (d.read + length t.entries) o d.place (first_applying a w r (one_more d t) bs) near (first_far a w r (one_more d t) bs near))
+
+all_far : (a : Asking) (w : List Step) (r : Items) (d : Tried) (found : Result (List Applying) Fault) (bs : List Body) → d.read ≤ a.most → IsFar a.most d.read (Err TooFar) (all_applying a w r d found bs)
+all_far a w r d (Err k) bs h = says_near a.most d.read (Err TooFar) (Err k) h
+all_far a w r d (Ok found) [] h = says_near a.most d.read (Err TooFar) (Ok found) h
+all_far a w r d (Ok found) (b ∷ bs) h =
+    let t : Told Found = next_contexts a w r d b in
+    far_behind a.most d.read (Err TooFar) t b (λ o. all_applying a w r (one_more d t) (found_with found d.place b o) bs) refl
+    (λ near o. all_far a w r (one_more d t) (found_with found d.place b o) bs near)
+
+pub choice_far : (a : Asking) (key : Option ℕ) (w : List Step) (r : Items) (bs : List Body) → a.most < length (choice a key w r bs).entries → (choice a key w r bs).answer ≡ Failed TooFar
+choice_far a None w r bs l = first_far a w r none_tried bs (omega arith) (omega (arith, l))
+choice_far a (Some key) w r bs l = ap (picked key) (all_far a w r none_tried (Ok []) bs (omega arith) (omega (arith, l)))

@@ -1,18 +1,19 @@
 -- Names that are ignored alike on a level make no difference to it.
 use Rattle.std.proofs.Common.{◌≡◌, ℕ, zero, suc, ◌+◌, Bool, true, false, List, [], ◌∷◌, ◌++◌, length, take, drop, refl, ap, ◌∙◌, true≢false}
-use Rattle.std.specs.Prelude.{Option, Some, None, Ok, fold}
+use Rattle.std.specs.Prelude.{Some, None, Ok, fold}
 use Rattle.lsys_syntax.specs.Strings.{ModuleName}
 use Rattle.lsys_spec.specs.Systems.{System, Each, same_name}
 use Rattle.lsys_spec.specs.Values.{◌and_then◌}
 use Rattle.lsys_spec.specs.Bodies.{Body, Pattern, Patterns, Done, OneOf, BranchOf, group}
-use Rattle.lsys_spec.specs.Levels.{ModuleValue, Symbol, Push, Pop, Module, Step, Passed, Around, OutOf, Reading, restored, read, way, Items, Nothing, One, Branch, Nest, outermost, within, innermost, with_module, with_branch, opened, items_of, items_from}
-use Rattle.lsys_spec.specs.Walks.{Mark, deeper, Told, before, followed, is_ignored, fits, met, behind, left_walk, ahead, joined, or_passed, right_walk}
+use Rattle.lsys_spec.specs.Levels.{ModuleValue, Symbol, Push, Pop, Module, Step, Passed, Around, OutOf, Reading, restored, read, way, Items, Nothing, One, Branch, Nest, at_root, in_branch, items_here, with_module, with_whole_branch, with_open_bracket, items_of, items_from}
+use Rattle.lsys_spec.specs.Walks.{Mark, deeper, Told, Found, says, before, followed, is_ignored, fits, behind, left_walk, ahead, joined, or_passed, right_walk}
+use Rattle.lsys_spec.proofs.Meetings.{met}
 use Rattle.lsys_spec.specs.Choice.{right_after}
 use Rattle.lsys_spec.specs.Cuts.{Plain, cut}
-use Rattle.lsys_spec.specs.Meaning.{numbered, key_for, most_entries, ignores, asked, successor_by, successor, fault_at, children_from, next_level}
+use Rattle.lsys_spec.specs.Meaning.{numbered, key_for, most_entries, ignores, asking, asked, successor_by, successor, fault_at, children_from, next_level}
 use Rattle.lsys_spec.specs.Questions.{Question, question, where_any, questions_from, questions_at}
 use Rattle.lsys_spec.specs.Morphisms.{IsAlike, AreAlike, ignoring, occurs}
-use Rattle.lsys_spec.proofs.SameGroups.{FindSame, group_same}
+use Rattle.lsys_spec.proofs.SameGroups.{FindSame, choice_same}
 
 module _ (f g : ModuleName → Bool) where
   ignored_same : (s : Symbol) → IsAlike f g s → is_ignored f s ≡ is_ignored g s
@@ -30,7 +31,7 @@ module _ (f g : ModuleName → Bool) where
   ItemsAlike (One s r) = IsAlike f g s × ItemsAlike r
   ItemsAlike (Branch o c inner r) = ItemsAlike inner × ItemsAlike r
 
-  met_same : (i j b : Bool) (d : Mark) (s : Symbol) (on go next then : Told (Option (List ModuleValue)))
+  met_same : (i j b : Bool) (d : Mark) (s : Symbol) (on go next then : Told Found)
       → i ≡ j → on ≡ go → next ≡ then → met i b d s on next ≡ met j b d s go then
   met_same i j b d s on go next then e h k = cc
 
@@ -42,7 +43,7 @@ module _ (f g : ModuleName → Bool) where
   left_same d (q ∷ qs) (Passed s ∷ w) h =
       met_same _ _ (fits q s) d s _ _ _ _ (ignored_same s h.0) (left_same d (q ∷ qs) w h.1) (ap (behind s) (left_same d qs w h.1))
 
-  branch_same : (inside outside both all passed past : Told (Option (List ModuleValue)))
+  branch_same : (inside outside both all passed past : Told Found)
       → inside ≡ outside → both ≡ all → passed ≡ past
       → followed inside (or_passed inside.answer both passed) ≡ followed outside (or_passed outside.answer all past)
   branch_same inside outside both all passed past e h k =
@@ -58,17 +59,17 @@ module _ (f g : ModuleName → Bool) where
       met_same _ _ (fits q s) d s _ _ _ _ (ignored_same s h.0) (right_same d (OneOf q p) r h.1) (ap (ahead s) (right_same d p r h.1))
   right_same d (BranchOf qs p) Nothing h = refl
   right_same d (BranchOf qs p) (One s r) h =
-      met_same _ _ false d s _ _ _ _ (ignored_same s h.0) (right_same d (BranchOf qs p) r h.1) refl
+      met_same _ _ false d s _ _ (says None) (says None) (ignored_same s h.0) (right_same d (BranchOf qs p) r h.1) refl
   right_same d (BranchOf qs p) (Branch o c inner r) h =
       ap (before _) (branch_same _ _ _ _ _ _ (right_same (deeper d) qs inner h.0) (right_same d p r h.1) (right_same d (BranchOf qs p) r h.1))
 
-  after_same : (d : Mark) (b : Body) (own : ModuleValue) (r : Items) (o : Option (List ModuleValue))
+  after_same : (d : Mark) (b : Body) (own : ModuleValue) (r : Items) (o : Found)
       → ItemsAlike r → right_after f d b own r o ≡ right_after g d b own r o
   after_same d b own r None h = refl
   after_same d b own r (Some ms) h = ap (joined (ms ++ own ∷ [])) (right_same d b.right r h)
 
-  told_same : (t u : Told (Option (List ModuleValue))) (go on : Option (List ModuleValue) → Told (Option (List ModuleValue)))
-      → t ≡ u → ((o : Option (List ModuleValue)) → go o ≡ on o) → followed t (go t.answer) ≡ followed u (on u.answer)
+  told_same : (t u : Told Found) (go on : Found → Told Found)
+      → t ≡ u → ((o : Found) → go o ≡ on o) → followed t (go t.answer) ≡ followed u (on u.answer)
   told_same t u go on e h = ap (λ v. followed v (go v.answer)) e ∙ ap (followed u) (h u.answer)
 
   contexts_same : (own : ModuleValue) (w : List Step) (r : Items) (b : Body) → Each StepAlike w → ItemsAlike r → FindSame f g own w w r r b
@@ -113,20 +114,20 @@ module _ (f g : ModuleName → Bool) where
   way_alike x p h = (fold_alike (take p x) _ (tt, tt) (take_alike x p h)).0
 
   abbrev NestAlike : Nest → Type 0
-  NestAlike (outermost r) = ItemsAlike r
-  NestAlike (within r c n) = ItemsAlike r × NestAlike n
+  NestAlike (at_root r) = ItemsAlike r
+  NestAlike (in_branch r c n) = ItemsAlike r × NestAlike n
 
   module_alike : (s : Symbol) (n : Nest) → IsAlike f g s → NestAlike n → NestAlike (with_module s n)
-  module_alike s (outermost r) h k = (h, k)
-  module_alike s (within r c n) h k = ((h, k.0), k.1)
+  module_alike s (at_root r) h k = (h, k)
+  module_alike s (in_branch r c n) h k = ((h, k.0), k.1)
 
-  branch_alike : (o c : Symbol) (inner : Items) (n : Nest) → ItemsAlike inner → NestAlike n → NestAlike (with_branch o c inner n)
-  branch_alike o c inner (outermost r) h k = (h, k)
-  branch_alike o c inner (within r d n) h k = ((h, k.0), k.1)
+  branch_alike : (o c : Symbol) (inner : Items) (n : Nest) → ItemsAlike inner → NestAlike n → NestAlike (with_whole_branch o c inner n)
+  branch_alike o c inner (at_root r) h k = (h, k)
+  branch_alike o c inner (in_branch r d n) h k = ((h, k.0), k.1)
 
-  opened_alike : (o : Symbol) (n : Nest) → NestAlike n → NestAlike (opened o n)
-  opened_alike o (outermost inner) h = (h, tt)
-  opened_alike o (within inner c n) h = branch_alike o c inner n h.0 h.1
+  opened_alike : (o : Symbol) (n : Nest) → NestAlike n → NestAlike (with_open_bracket o n)
+  opened_alike o (at_root inner) h = (h, tt)
+  opened_alike o (in_branch inner c n) h = branch_alike o c inner n h.0 h.1
 
   nest_alike : (x : List Symbol) → AreAlike f g x → NestAlike (items_of x)
   nest_alike [] h = tt
@@ -134,19 +135,18 @@ module _ (f g : ModuleName → Bool) where
   nest_alike (Push l ∷ x) h = opened_alike (Push l) (items_of x) (nest_alike x h.1)
   nest_alike (Pop l ∷ x) h = (tt, nest_alike x h.1)
 
-  innermost_alike : (n : Nest) → NestAlike n → ItemsAlike (innermost n)
-  innermost_alike (outermost r) h = h
-  innermost_alike (within r c n) h = h.0
+  innermost_alike : (n : Nest) → NestAlike n → ItemsAlike (items_here n)
+  innermost_alike (at_root r) h = h
+  innermost_alike (in_branch r c n) h = h.0
 
   items_alike : (x : List Symbol) (p : ℕ) → AreAlike f g x → ItemsAlike (items_from x p)
   items_alike x p h = innermost_alike (items_of (drop p x)) (nest_alike (drop p x) (drop_alike x p h))
 
 module _ (s : System) (names : List ModuleName) (x : List Symbol) (h : AreAlike (ignores names) (ignores s.ignored) x) where
   asked_same : (bs : List Body) (p : ℕ) (l : List ℕ) (m : ModuleValue) → asked (ignoring names s) bs x p l m ≡ asked s bs x p l m
-  asked_same [] p l m = refl
-  asked_same (b ∷ bs) p l m =
-      group_same (ignores names) (ignores s.ignored) most_entries (key_for s l (b ∷ bs)) m (way x p) (way x p) (items_from x (p + 1)) (items_from x (p + 1)) 0 0 [] (b ∷ bs)
-      (all_same _ _ m (way x p) (items_from x (p + 1)) (b ∷ bs) (way_alike _ _ x p h) (items_alike _ _ x (p + 1) h))
+  asked_same bs p l m =
+      choice_same (asking (ignoring names s) m) (ignores s.ignored) (way x p) (way x p) (items_from x (p + 1)) (items_from x (p + 1)) (key_for s l bs) bs
+      (all_same _ _ m (way x p) (items_from x (p + 1)) bs (way_alike _ _ x p h) (items_alike _ _ x (p + 1) h))
 
   successor_same : (t p : ℕ) (l : List ℕ) (m : ModuleValue) → successor (ignoring names s) t x p l m ≡ successor s t x p l m
   successor_same t p l m =

@@ -5,13 +5,13 @@ use Rattle.lsys_syntax.specs.Strings.{ModuleName}
 use Rattle.lsys_spec.specs.Systems.{System, Each}
 use Rattle.lsys_spec.specs.Values.{◌and_then◌}
 use Rattle.lsys_spec.specs.Levels.{Symbol}
-use Rattle.lsys_spec.specs.Meaning.{Refusal, OverLimit, next_level, within_limit, last_level, meaning_to, meaning, ignores}
+use Rattle.lsys_spec.specs.Meaning.{LevelRefusal, OverLimit, next_level, within_limit, last_level, meaning_to, meaning, ignores}
 use Rattle.lsys_spec.specs.Questions.{questions_at, questions_below, questions}
 use Rattle.lsys_spec.specs.Morphisms.{AreAlike, ignoring}
 use Rattle.lsys_spec.proofs.Ignoring.{level_same, questions_same}
 
 -- levels, and the next one behind them
-record Longer (r : Result (List (List Symbol)) Refusal) (next : List (List Symbol) → Result (List Symbol) Refusal) (limit t : ℕ) (levels : List (List Symbol)) : Type 0 where
+record Longer (r : Result (List (List Symbol)) LevelRefusal) (next : List (List Symbol) → Result (List Symbol) LevelRefusal) (limit t : ℕ) (levels : List (List Symbol)) : Type 0 where
   before : List (List Symbol)
   last : List Symbol
   were : r ≡ Ok before
@@ -19,24 +19,24 @@ record Longer (r : Result (List (List Symbol)) Refusal) (next : List (List Symbo
   fits : within_limit limit t (before ++ last ∷ []) ≡ Ok levels
   are : before ++ last ∷ [] ≡ levels
 
-abbrev Gives : Result (List (List Symbol)) Refusal → List (List Symbol) → Type 0
+abbrev Gives : Result (List (List Symbol)) LevelRefusal → List (List Symbol) → Type 0
 Gives (Ok found) levels = found ≡ levels
 Gives (Err r) levels = ⊥
 
-gives : (r : Result (List (List Symbol)) Refusal) (levels : List (List Symbol)) → r ≡ Ok levels → Gives r levels
+gives : (r : Result (List (List Symbol)) LevelRefusal) (levels : List (List Symbol)) → r ≡ Ok levels → Gives r levels
 gives r levels h = rw h refl
 
 fits_by : (over : Bool) (t : ℕ) (found levels : List (List Symbol)) → Gives (if over then Err (OverLimit t) else Ok found) levels → found ≡ levels
 fits_by true t found levels h = absurd h
 fits_by false t found levels h = h
 
-with_last : (limit t : ℕ) (levels before : List (List Symbol)) (next : List (List Symbol) → Result (List Symbol) Refusal) (n : Result (List Symbol) Refusal)
+with_last : (limit t : ℕ) (levels before : List (List Symbol)) (next : List (List Symbol) → Result (List Symbol) LevelRefusal) (n : Result (List Symbol) LevelRefusal)
     → next before ≡ n → (n and_then λ x. within_limit limit t (before ++ x ∷ [])) ≡ Ok levels → Longer (Ok before) next limit t levels
 with_last limit t levels before next (Err r) e h = absurd (gives (Err r) levels h)
 with_last limit t levels before next (Ok x) e h =
     record { before = before; last = x; were = refl; came = e; fits = h; are = fits_by _ t _ levels (gives _ levels h) }
 
-longer : (limit t : ℕ) (levels : List (List Symbol)) (r : Result (List (List Symbol)) Refusal) (next : List (List Symbol) → Result (List Symbol) Refusal)
+longer : (limit t : ℕ) (levels : List (List Symbol)) (r : Result (List (List Symbol)) LevelRefusal) (next : List (List Symbol) → Result (List Symbol) LevelRefusal)
     → (r and_then λ ls. next ls and_then λ x. within_limit limit t (ls ++ x ∷ [])) ≡ Ok levels → Longer r next limit t levels
 longer limit t levels (Err r) next h = absurd (gives (Err r) levels h)
 longer limit t levels (Ok before) next h = with_last limit t levels before next (next before) refl h

@@ -3,7 +3,7 @@ use Rattle.std.proofs.Common.{◌≡◌, ℕ, zero, suc, List, [], ◌∷◌, �
 use Rattle.std.specs.Prelude.{slice_get}
 use Rattle.std.proofs.lemmas.Option.{slice_get_past, slice_get_within}
 use Rattle.lsys_spec.specs.Levels.{Symbol, Push, Pop, Module, lineage, IsLevel, way, items_from, Branch, Around}
-use Rattle.lsys_spec.specs.Standings.{standing, Settled, before_place, mate_at, closing, opening}
+use Rattle.lsys_spec.specs.Standings.{standing, Settled, before_place, mate_at, mate_ahead, mate_behind}
 use Rattle.lsys_spec.proofs.Alike.{AlikeItems, AlikeWays}
 use Rattle.lsys_spec.proofs.Around.{way_module, way_push, way_pop, items_none, items_pop, items_module, items_push, ends_at}
 use Rattle.lsys_spec.proofs.Standings.{stands}
@@ -28,8 +28,8 @@ alike_items_step x y lx ly p q (Some (Push o)) h g ih =
     let there : items_from y q ≡ Branch (Push o) (Pop c'.0) (items_from y (q + 1)) (items_from y (m'.0 + 1)) = items_push y q m'.0 o c'.0 m'.2 g c'.1 in
     rw (here, there) (λ so sc.
     let st : standing y q ≡ standing x p = stands x y p q (Push o) lx ly h g so in
-    let a : mate_at x p (slice_get x p) ≡ Some c.0 = ap (mate_at x p) h ∙ ap closing here in
-    let b : mate_at y q (slice_get y q) ≡ Some c'.0 = ap (mate_at y q) g ∙ ap closing there in
+    let a : mate_at x p (slice_get x p) ≡ Some c.0 = ap (mate_at x p) h ∙ ap mate_ahead here in
+    let b : mate_at y q (slice_get y q) ≡ Some c'.0 = ap (mate_at y q) g ∙ ap mate_ahead there in
     let d : Some c'.0 ≡ Some c.0 = sym b ∙ ap (λ s. s.mate) st ∙ a in
     let e : c'.0 ≡ c.0 = cc in
     let close : slice_get y m'.0 ≡ Some (Pop c.0) = c'.1 ∙ ap (λ c. Some (Pop c)) e in (
@@ -68,8 +68,8 @@ alike_ways_step x y lx ly p q (Pop c) h g ih =
     let there : way y (q + 1) ≡ Around (Push o'.0) (Pop c) ∷ way y m'.0 = way_pop y q m'.0 o'.0 c m'.2 o'.1 g in
     rw (here, there) (λ so sc.
     let st : standing y q ≡ standing x p = stands x y p q (Pop c) lx ly h g sc in
-    let a : mate_at x p (slice_get x p) ≡ Some o.0 = ap (mate_at x p) h ∙ ap opening here in
-    let b : mate_at y q (slice_get y q) ≡ Some o'.0 = ap (mate_at y q) g ∙ ap opening there in
+    let a : mate_at x p (slice_get x p) ≡ Some o.0 = ap (mate_at x p) h ∙ ap mate_behind here in
+    let b : mate_at y q (slice_get y q) ≡ Some o'.0 = ap (mate_at y q) g ∙ ap mate_behind there in
     let d : Some o'.0 ≡ Some o.0 = sym b ∙ ap (λ s. s.mate) st ∙ a in
     let e : o'.0 ≡ o.0 = cc in
     let open' : slice_get y m'.0 ≡ Some (Push o.0) = o'.1 ∙ ap (λ o. Some (Push o)) e in (

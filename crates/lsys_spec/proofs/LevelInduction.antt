@@ -5,8 +5,8 @@ use Rattle.std.proofs.lemmas.List.{length_push}
 use Rattle.lsys_spec.specs.Systems.{System}
 use Rattle.lsys_spec.specs.Values.{Arith, ◌and_then◌}
 use Rattle.lsys_spec.specs.Levels.{Symbol}
-use Rattle.lsys_spec.specs.Choice.{Fault}
-use Rattle.lsys_spec.specs.Meaning.{first_level, as_fault, OverLimit, fault_at, next_level, within_limit, last_level, meaning_to}
+use Rattle.lsys_spec.specs.Choice.{Fault, as_fault}
+use Rattle.lsys_spec.specs.Meaning.{first_level, OverLimit, fault_at, next_level, within_limit, last_level, meaning_to}
 
 -- 1. answers that are no fault
 

@@ -32,6 +32,7 @@ pub mod Standings
 pub mod Law
 pub mod Tells
 pub mod Ruled
+pub mod Meetings
 pub mod Named
 pub mod GroupTells
 pub mod Free

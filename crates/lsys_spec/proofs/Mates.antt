@@ -1,7 +1,7 @@
 -- What lies between a bracket and its mate.
 use Rattle.std.proofs.Common.{◌≡◌, ℕ, zero, suc, List, [], ◌∷◌, ◌++◌, ◌+◌, length, take, drop, Option, Some, None, refl, ap, sym, ◌∙◌, arith}
 use Rattle.std.specs.Prelude.{option_map, fold, slice_get}
-use Rattle.lsys_spec.specs.Levels.{Symbol, Push, Pop, Module, close_of, Step, Around, Reading, read, Items, Nest, outermost, within, with_module, with_branch, opened, items_of}
+use Rattle.lsys_spec.specs.Levels.{Symbol, Push, Pop, Module, close_of, Step, Around, Reading, read, Items, Nest, at_root, in_branch, with_module, with_whole_branch, with_open_bracket, items_of}
 
 one_more : (o : Option ℕ) (q : ℕ) → option_map (λ q. q + 1) o ≡ Some q → (p : ℕ) × (o ≡ Some p) × (q ≡ suc p)
 one_more None q h = cc
@@ -17,23 +17,23 @@ close_there (Pop l ∷ x) (suc n) q h = let s = one_more (close_of n x) q h in r
 
 -- c ends the branch with n around it, and m is what stands behind
 abbrev pub Peels : ℕ → Nest → Symbol → Nest → Type 0
-Peels n (outermost r) c m = ⊥
-Peels zero (within r close k) c m = (close ≡ c) × (k ≡ m)
-Peels (suc n) (within r close k) c m = Peels n k c m
+Peels n (at_root r) c m = ⊥
+Peels zero (in_branch r close k) c m = (close ≡ c) × (k ≡ m)
+Peels (suc n) (in_branch r close k) c m = Peels n k c m
 
 peels_module : (n : ℕ) (k m : Nest) (c s : Symbol) → Peels n k c m → Peels n (with_module s k) c m
-peels_module n (outermost r) m c s h = elim h [ ]
-peels_module zero (within r close k) m c s h = h
-peels_module (suc n) (within r close k) m c s h = h
+peels_module n (at_root r) m c s h = elim h [ ]
+peels_module zero (in_branch r close k) m c s h = h
+peels_module (suc n) (in_branch r close k) m c s h = h
 
-peels_branch : (n : ℕ) (k m : Nest) (c o close : Symbol) (inner : Items) → Peels n k c m → Peels n (with_branch o close inner k) c m
-peels_branch n (outermost r) m c o close inner h = elim h [ ]
-peels_branch zero (within r d k) m c o close inner h = h
-peels_branch (suc n) (within r d k) m c o close inner h = h
+peels_branch : (n : ℕ) (k m : Nest) (c o close : Symbol) (inner : Items) → Peels n k c m → Peels n (with_whole_branch o close inner k) c m
+peels_branch n (at_root r) m c o close inner h = elim h [ ]
+peels_branch zero (in_branch r d k) m c o close inner h = h
+peels_branch (suc n) (in_branch r d k) m c o close inner h = h
 
-peels_opened : (n : ℕ) (k m : Nest) (c o : Symbol) → Peels (suc n) k c m → Peels n (opened o k) c m
-peels_opened n (outermost r) m c o h = elim h [ ]
-peels_opened n (within r close k) m c o h = peels_branch n k m c o close r h
+peels_opened : (n : ℕ) (k m : Nest) (c o : Symbol) → Peels (suc n) k c m → Peels n (with_open_bracket o k) c m
+peels_opened n (at_root r) m c o h = elim h [ ]
+peels_opened n (in_branch r close k) m c o h = peels_branch n k m c o close r h
 
 pub close_items : (x : List Symbol) (n q : ℕ) (c : Symbol) → close_of n x ≡ Some q → slice_get x q ≡ Some c → Peels n (items_of x) c (items_of (drop (suc q) x))
 close_items [] n q c h g = cc

@@ -1,13 +1,14 @@
 -- What holds of each symbol of a level holds of what the entries of a walk tell of.
-use Rattle.std.proofs.Common.{◌≡◌, ℕ, zero, suc, Bool, true, false, Option, Some, None, Result, Ok, Err, List, [], ◌∷◌, ◌++◌, ◌+◌, length, take, drop, ltb, refl}
-use Rattle.std.specs.Prelude.{ℤ, fold, reverse, sum}
+use Rattle.std.proofs.Common.{◌≡◌, ℕ, zero, suc, Bool, true, false, Option, Some, None, Result, Ok, Err, List, [], ◌∷◌, ◌+◌, take, drop, refl}
+use Rattle.std.specs.Prelude.{fold, reverse}
 use Rattle.lsys_syntax.specs.Strings.{ModuleName}
 use Rattle.lsys_spec.specs.Systems.{System, Each}
 use Rattle.lsys_spec.specs.Bodies.{Body, Pattern, Patterns, Done, OneOf, BranchOf}
-use Rattle.lsys_spec.specs.Levels.{ModuleValue, Symbol, Push, Pop, Module, lineage, Step, Passed, Around, OutOf, Reading, restored, read, way, Items, Nothing, One, Branch, Nest, outermost, within, innermost, with_module, opened, items_of, items_from}
-use Rattle.lsys_spec.specs.Walks.{Mark, deeper, Entry, Compared, Ignored, Out, Branched, Told, says, is_ignored, fits, met, left_walk, right_walk, behind, ahead, or_passed}
-use Rattle.lsys_spec.specs.Choice.{Fault, Outcome, No, Yes, Fails, Taken, Choice, Asking, weighed, right_after, contexts, outcome, largest_weight, weights, unless_over, with_weight, decided, is_some, group_from}
-use Rattle.lsys_spec.specs.Meaning.{ignores, key_for, most_entries, asked}
+use Rattle.lsys_spec.specs.Levels.{ModuleValue, Symbol, Push, Pop, Module, lineage, Step, Passed, Around, OutOf, Reading, restored, read, way, Items, Nothing, One, Branch, Nest, at_root, in_branch, items_here, with_module, with_open_bracket, items_of, items_from}
+use Rattle.lsys_spec.specs.Walks.{Mark, deeper, Entry, Compared, Ignored, Out, Branched, Told, Found, says, is_ignored, fits, left_walk, right_walk, behind, ahead, or_passed}
+use Rattle.lsys_spec.proofs.Meetings.{met}
+use Rattle.lsys_spec.specs.Choice.{Fault, Outcome, No, Yes, Fails, Choice, Asking, Tried, none_tried, one_more, right_after, next_contexts, outcome, decided, first_applying, Applying, found_with, all_applying, choice}
+use Rattle.lsys_spec.specs.Meaning.{key_for, most_entries, asking, asked}
 use Rattle.lsys_spec.specs.Questions.{question}
 use Rattle.lsys_spec.proofs.Ruled.{passed_all}
 use Rattle.lsys_spec.proofs.Eachs.{each_append, each_take, each_drop}
@@ -33,7 +34,7 @@ InItems V Nothing = Unit {0}
 InItems V (One s r) = V s × InItems V r
 InItems V (Branch o c i r) = V o × V c × InItems V i × InItems V r
 
-met_all : (V : Symbol → Type 0) (b e : Bool) (d : Mark) (s : Symbol) (on next : Told (Option (List ModuleValue))) → V s → Each (OfEntry V) on.entries → Each (OfEntry V) next.entries → Each (OfEntry V) (met b e d s on next).entries
+met_all : (V : Symbol → Type 0) (b e : Bool) (d : Mark) (s : Symbol) (on next : Told Found) → V s → Each (OfEntry V) on.entries → Each (OfEntry V) next.entries → Each (OfEntry V) (met b e d s on next).entries
 met_all V true e d s on next h k l = (h, k)
 met_all V false true d s on next h k l = (h, l)
 met_all V false false d s on next h k l = (h, tt)
@@ -82,17 +83,17 @@ way_in V (Push m ∷ x) (suc p) r h k l = way_in V x p (read r (Push m)) h.1 (h.
 way_in V (Pop m ∷ x) (suc p) r h k l = let g = restored_in V (Pop m) r.saved h.0 l in way_in V x p (read r (Pop m)) h.1 g.0 g.1
 
 abbrev InNest : (Symbol → Type 0) → Nest → Type 0
-InNest V (outermost r) = InItems V r
-InNest V (within r c n) = InItems V r × V c × InNest V n
+InNest V (at_root r) = InItems V r
+InNest V (in_branch r c n) = InItems V r × V c × InNest V n
 
 module_in : (V : Symbol → Type 0) (s : Symbol) (n : Nest) → V s → InNest V n → InNest V (with_module s n)
-module_in V s (outermost r) h k = (h, k)
-module_in V s (within r c n) h k = ((h, k.0), k.1, k.2)
+module_in V s (at_root r) h k = (h, k)
+module_in V s (in_branch r c n) h k = ((h, k.0), k.1, k.2)
 
-opened_in : (V : Symbol → Type 0) (o : Symbol) (n : Nest) → V o → InNest V n → InNest V (opened o n)
-opened_in V o (outermost r) h k = (h, h, k, tt)
-opened_in V o (within r c (outermost r')) h k = (h, k.1, k.0, k.2)
-opened_in V o (within r c (within r' c' n)) h k = ((h, k.1, k.0, k.2.0), k.2.1, k.2.2)
+opened_in : (V : Symbol → Type 0) (o : Symbol) (n : Nest) → V o → InNest V n → InNest V (with_open_bracket o n)
+opened_in V o (at_root r) h k = (h, h, k, tt)
+opened_in V o (in_branch r c (at_root r')) h k = (h, k.1, k.0, k.2)
+opened_in V o (in_branch r c (in_branch r' c' n)) h k = ((h, k.1, k.0, k.2.0), k.2.1, k.2.2)
 
 items_in : (V : Symbol → Type 0) (x : List Symbol) → Each V x → InNest V (items_of x)
 items_in V [] h = tt
@@ -100,9 +101,9 @@ items_in V (Module l m ∷ x) h = module_in V (Module l m) (items_of x) h.0 (ite
 items_in V (Push l ∷ x) h = opened_in V (Push l) (items_of x) h.0 (items_in V x h.1)
 items_in V (Pop l ∷ x) h = (tt, h.0, items_in V x h.1)
 
-innermost_in : (V : Symbol → Type 0) (n : Nest) → InNest V n → InItems V (innermost n)
-innermost_in V (outermost r) h = h
-innermost_in V (within r c n) h = h.0
+innermost_in : (V : Symbol → Type 0) (n : Nest) → InNest V n → InItems V (items_here n)
+innermost_in V (at_root r) h = h
+innermost_in V (in_branch r c n) h = h.0
 
 pub level_way : (V : Symbol → Type 0) (x : List Symbol) (p : ℕ) → Each V x → InWay V (way x p)
 level_way V x p h = way_in V x p (record { way = []; saved = [] }) h tt tt
@@ -112,39 +113,43 @@ level_items V x p h = innermost_in V (items_of (drop p x)) (items_in V (drop p x
 
 -- the rules of a group
 
-after_named : (V : Symbol → Type 0) (f : ModuleName → Bool) (d : Mark) (b : Body) (own : ModuleValue) (r : Items) (o : Option (List ModuleValue)) → InItems V r → Each (OfEntry V) (right_after f d b own r o).entries
+after_named : (V : Symbol → Type 0) (f : ModuleName → Bool) (d : Mark) (b : Body) (own : ModuleValue) (r : Items) (o : Found) → InItems V r → Each (OfEntry V) (right_after f d b own r o).entries
 after_named V f d b own r None h = tt
 after_named V f d b own r (Some ms) h = right_named V f d b.right r h
 
-over_named : (V : Symbol → Type 0) (over : Bool) (go : Told Choice) → Each (OfEntry V) go.entries → Each (OfEntry V) (unless_over over go).entries
-over_named V true go h = tt
-over_named V false go h = h
+next_named : (V : Symbol → Type 0) (a : Asking) (w : List Step) (r : Items) (d : Tried) (b : Body) → InWay V w → InItems V r → Each (OfEntry V) (next_contexts a w r d b).entries
+next_named V a w r d b h k =
+    let m : Mark = record { rule = d.place; depth = 0 } in
+    let l : Told Found = left_walk a.ignored m (reverse b.left) w in
+    each_append (OfEntry V) l.entries (right_after a.ignored m b a.own r l.answer).entries (left_named V a.ignored m (reverse b.left) w h) (after_named V a.ignored m b a.own r l.answer k)
 
-weight_named : (V : Symbol → Type 0) (w : Result ℕ Fault) (g : ℕ) (values : List ℤ) (taken : List Taken) (go : List Taken → Told Choice) → ((more : List Taken) → Each (OfEntry V) (go more).entries) → Each (OfEntry V) (with_weight w g values taken go).entries
-weight_named V (Err e) g values taken go h = tt
-weight_named V (Ok w) g values taken go h =
-    let more : List Taken = taken ++ record { rule = g; values = values; weight = w } ∷ [] in over_named V (ltb largest_weight (sum (weights more))) (go more) (h more)
+decided_named : (V : Symbol → Type 0) (o : Outcome) (place : ℕ) (others : Told Choice) → Each (OfEntry V) others.entries → Each (OfEntry V) (decided o place others).entries
+decided_named V No place others h = h
+decided_named V (Yes values) place others h = tt
+decided_named V (Fails k) place others h = tt
 
-decided_named : (V : Symbol → Type 0) (o : Outcome) (weighted : Bool) (g : ℕ) (b : Body) (taken : List Taken) (go : List Taken → Told Choice) → ((more : List Taken) → Each (OfEntry V) (go more).entries) → Each (OfEntry V) (decided o weighted g b taken go).entries
-decided_named V No weighted g b taken go h = h taken
-decided_named V (Fails e) weighted g b taken go h = tt
-decided_named V (Yes values) false g b taken go h = tt
-decided_named V (Yes values) true g b taken go h = weight_named V (weighed b.weight values) g values taken go h
+first_named : (V : Symbol → Type 0) (a : Asking) (w : List Step) (r : Items) (d : Tried) (bs : List Body) → InWay V w → InItems V r → Each (OfEntry V) (first_applying a w r d bs).entries
+first_named V a w r d [] h k = tt
+first_named V a w r d (b ∷ bs) h k =
+    let t : Told Found = next_contexts a w r d b in
+    let others : Told Choice = first_applying a w r (one_more d t) bs in
+    each_append (OfEntry V) t.entries (decided (outcome a.most d b t) d.place others).entries (next_named V a w r d b h k)
+    (decided_named V (outcome a.most d b t) d.place others (first_named V a w r (one_more d t) bs h k))
 
-group_named : (V : Symbol → Type 0) (a : Asking) (w : List Step) (r : Items) (n g : ℕ) (taken : List Taken) (bs : List Body) → InWay V w → InItems V r → Each (OfEntry V) (group_from a w r n g taken bs).entries
-group_named V a w r n g taken [] h k = tt
-group_named V a w r n g taken (b ∷ bs) h k =
-    let d : Mark = record { rule = g; depth = 0 } in
-    let l : Told (Option (List ModuleValue)) = left_walk a.ignored d (reverse b.left) w in
-    let t : Told (Option (List ModuleValue)) = contexts a.ignored d b a.own w r in
-    let go = λ (more : List Taken). group_from a w r (n + length t.entries) (g + 1) more bs in
-    each_append (OfEntry V) t.entries (decided (outcome a.most n b t) (is_some a.key) g b taken go).entries
-    (each_append (OfEntry V) l.entries (right_after a.ignored d b a.own r l.answer).entries (left_named V a.ignored d (reverse b.left) w h) (after_named V a.ignored d b a.own r l.answer k))
-    (decided_named V (outcome a.most n b t) (is_some a.key) g b taken go (λ more. group_named V a w r (n + length t.entries) (g + 1) more bs h k))
+all_named : (V : Symbol → Type 0) (a : Asking) (w : List Step) (r : Items) (d : Tried) (found : Result (List Applying) Fault) (bs : List Body) → InWay V w → InItems V r
+    → Each (OfEntry V) (all_applying a w r d found bs).entries
+all_named V a w r d (Err e) bs h k = tt
+all_named V a w r d (Ok found) [] h k = tt
+all_named V a w r d (Ok found) (b ∷ bs) h k =
+    let t : Told Found = next_contexts a w r d b in
+    let more : Result (List Applying) Fault = found_with found d.place b (outcome a.most d b t) in
+    each_append (OfEntry V) t.entries (all_applying a w r (one_more d t) more bs).entries (next_named V a w r d b h k) (all_named V a w r (one_more d t) more bs h k)
+
+choice_named : (V : Symbol → Type 0) (a : Asking) (key : Option ℕ) (w : List Step) (r : Items) (bs : List Body) → InWay V w → InItems V r → Each (OfEntry V) (choice a key w r bs).entries
+choice_named V a None w r bs h k = first_named V a w r none_tried bs h k
+choice_named V a (Some key) w r bs h k = all_named V a w r none_tried (Ok []) bs h k
 
 pub trace_of : (V : Symbol → Type 0) (s : System) (t : ℕ) (bs : List Body) (x : List Symbol) (p : ℕ) (l : List ℕ) (m : ModuleValue) → Each V x → Each (OfEntry V) (question s t bs x p l m).trace
-trace_of V s t [] x p l m h = tt
-trace_of V s t (b ∷ bs) x p l m h =
-    let a : Asking = record { ignored = ignores s.ignored; most = most_entries; key = key_for s l (b ∷ bs); own = m } in
-    each_take (OfEntry V) (most_entries + 1) (asked s (b ∷ bs) x p l m).entries
-    (group_named V a (way x p) (items_from x (p + 1)) 0 0 [] (b ∷ bs) (level_way V x p h) (level_items V x (p + 1) h))
+trace_of V s t bs x p l m h =
+    each_take (OfEntry V) (most_entries + 1) (asked s bs x p l m).entries
+    (choice_named V (asking s m) (key_for s l bs) (way x p) (items_from x (p + 1)) bs (level_way V x p h) (level_items V x (p + 1) h))

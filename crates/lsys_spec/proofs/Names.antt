@@ -7,11 +7,11 @@ use Rattle.lsys_syntax.specs.Tokens.{short, long, is_letter}
 use Rattle.lsys_syntax.specs.Strings.{ModuleName, named, plus, minus, ampersand, caret, backslash, slash, bar, bang, IsModuleName}
 use Rattle.lsys_syntax.specs.Strings as S
 use Rattle.lsys_syntax.specs.Expressions.{TermOp, multiply, divide, remainder, SumOp, add, subtract, RelOp, equal, unequal, less, at_most, greater, at_least}
-use Rattle.lsys_spec.specs.Systems.{Each, same_name, name_text}
+use Rattle.lsys_spec.specs.Systems.{Each, same_name, module_name_text}
 use Rattle.lsys_spec.specs.Values.{Tree, Constant, Formal, Negation, Inversion, Binary, Both, Either, Operator, sum_of, product_of, power_of, comparison, is_zero, int_same}
 use Rattle.lsys_spec.specs.Bodies.{Body, Pattern, Patterns, Done, OneOf, BranchOf}
 use Rattle.lsys_spec.specs.Levels.{ModuleValue, Symbol, Push, Pop, Module}
-use Rattle.lsys_spec.specs.Questions.{same_number, same_option, same_all, same_lineage, same_module, same_symbol, same_term_op, same_sum_op, same_rel_op, same_operator, same_tree, same_pattern, same_patterns, same_template, same_body}
+use Rattle.lsys_spec.specs.Equalities.{same_number, same_option, same_all, same_lineage, same_module, same_symbol, same_term_op, same_sum_op, same_rel_op, same_operator, same_tree, same_pattern, same_patterns, same_template, same_body}
 use Rattle.lsys_spec.specs.Standings.{Standing, same_standing}
 use Rattle.lsys_spec.proofs.Equal.{same_number_true, same_lineage_true, same_name_text}
 use Rattle.lsys_spec.proofs.Tests.{both}
@@ -28,7 +28,7 @@ name_at [] = plus
 name_at (c ∷ []) = cond (is_letter c) (named (short c)) (mark_at c)
 name_at (c ∷ d ∷ more) = named (long c more)
 
-name_again : (m : ModuleName) → IsModuleName m → name_at (name_text m) ≡ m
+name_again : (m : ModuleName) → IsModuleName m → name_at (module_name_text m) ≡ m
 unfolding name_at mark_at
 name_again (named (short c)) h = ap (λ b. cond b (named (short c)) (mark_at c)) h
 name_again (named (long c more)) h = refl

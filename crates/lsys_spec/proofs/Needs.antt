@@ -7,9 +7,10 @@ use Rattle.std.proofs.lemmas.Option.{get_or_from_slice_get}
 use Rattle.lsys_spec.specs.Systems.{System, Each, WellSpelled}
 use Rattle.lsys_spec.specs.Bodies.{Body, group}
 use Rattle.lsys_spec.specs.Levels.{ModuleValue, Symbol, Push, Pop, Module, lineage, IsLevel}
-use Rattle.lsys_spec.specs.Walks.{Entry, named, list_any}
+use Rattle.lsys_spec.specs.Walks.{Entry, lineages_named, list_any}
 use Rattle.lsys_spec.specs.Meaning.{key_for, meaning}
-use Rattle.lsys_spec.specs.Questions.{Question, question, where_any, questions_from, questions_at, questions_below, questions, same_number, same_option, same_all, same_lineage, same_symbol, same_body, same_question, question_at, differs, is_needed}
+use Rattle.lsys_spec.specs.Equalities.{same_number, same_option, same_all, same_lineage, same_symbol, same_body}
+use Rattle.lsys_spec.specs.Questions.{Question, question, where_any, questions_from, questions_at, questions_below, questions, same_question, question_at, differs, is_needed}
 use Rattle.lsys_spec.specs.Standings.{standing, place_of, standing_of, before_place, Settled, same_standing, is_disturbed, reads_disturbed, any_disturbed, free, same_ignored, is_touched, touched_there}
 use Rattle.lsys_spec.specs.LevelLaws.{may_differ}
 use Rattle.lsys_spec.proofs.Alike.{Settles}
@@ -56,7 +57,7 @@ each_settled x y (l ∷ ls) u v h = let n = none_of (is_disturbed x y) l ls h in
 
 all_settled : (x y : List Symbol) (es : List Entry) → NamedLevel x → NamedLevel y → any_disturbed x y es ≡ false → Each (Settles (Settled x y)) es
 all_settled x y [] u v h = tt
-all_settled x y (e ∷ es) u v h = let n = none_of (reads_disturbed x y) e es h in (each_settled x y (named e) u v n.0, all_settled x y es u v n.1)
+all_settled x y (e ∷ es) u v h = let n = none_of (reads_disturbed x y) e es h in (each_settled x y (lineages_named e) u v n.0, all_settled x y es u v n.1)
 
 -- 2. the questions of a system
 

@@ -9,7 +9,7 @@ use Rattle.lsys_spec.specs.Systems.{System}
 use Rattle.lsys_spec.specs.Edits.{Refusal, refusal, changed, apply}
 use Rattle.lsys_spec.specs.Levels as L
 use Rattle.lsys_spec.specs.Refusals.{Reply, said, refused, is_long, is_passed_over}
-use Rattle.lsys_spec.specs.Replies.{shown, edited, accepted, levels_of, picture_of, command_reply, verdict_reply, tokens_reply, reply, is_query, spelled, spelled_by}
+use Rattle.lsys_spec.specs.Replies.{shown, edited, accepted, levels_of, picture_of, command_reply, verdict_reply, tokens_reply, reply, is_query, spelled_command, spelled_by}
 
 -- what holds of a reply in the system s, where o is the command that was spelled
 record Leaves (s : System) (o : Option Command) (r : Reply) : Type 0 where
@@ -113,7 +113,7 @@ long_or : (long : Bool) (s : System) (o : Option Command) (r : Reply)
 long_or true s o r h = refusal_leaves s None _ refl refl
 long_or false s o r h = h
 
-reply_leaves : (limit : ℕ) (s : System) (line : List ℕ) → Leaves s (spelled line) (reply limit s line)
+reply_leaves : (limit : ℕ) (s : System) (line : List ℕ) → Leaves s (spelled_command line) (reply limit s line)
 reply_leaves limit s line =
     let bare = without_cr line in
     long_or (is_long line) s _ _ (passed_or (is_passed_over bare) s _ _ (tokens_leaves limit s (length bare) (tokens bare)))
@@ -121,9 +121,9 @@ reply_leaves limit s line =
 pub refusal_keeps : (limit : ℕ) (s : System) (line : List ℕ) → (reply limit s line).is_refusal ≡ true → (reply limit s line).next ≡ s
 refusal_keeps limit s line = (reply_leaves limit s line).refusal_keeps
 
-pub query_keeps : (limit : ℕ) (s : System) (line : List ℕ) (c : Command) → spelled line ≡ Some c → is_query c ≡ true → (reply limit s line).next ≡ s
+pub query_keeps : (limit : ℕ) (s : System) (line : List ℕ) (c : Command) → spelled_command line ≡ Some c → is_query c ≡ true → (reply limit s line).next ≡ s
 query_keeps limit s line = (reply_leaves limit s line).query_keeps
 
 pub edit_applies : (limit : ℕ) (s : System) (line : List ℕ) (c : Command)
-    → spelled line ≡ Some c → is_query c ≡ false → (reply limit s line).is_refusal ≡ false → apply s c ≡ Ok (reply limit s line).next
+    → spelled_command line ≡ Some c → is_query c ≡ false → (reply limit s line).is_refusal ≡ false → apply s c ≡ Ok (reply limit s line).next
 edit_applies limit s line = (reply_leaves limit s line).edit_applies

@@ -12,8 +12,8 @@ use Rattle.lsys_syntax.specs.Checks.{rule_formals}
 use Rattle.lsys_spec.specs.Systems.{System, Each, WellSpelled}
 use Rattle.lsys_spec.specs.Values.{Tree}
 use Rattle.lsys_spec.specs.Bodies.{Body, body_of, templates, is_for, group_in, group, table_at}
-use Rattle.lsys_spec.specs.Levels.{ModuleValue, Symbol, Push, Pop, Module, lineage, balanced}
-use Rattle.lsys_spec.specs.Choice.{Choice, Nowhere, Chosen, Failed}
+use Rattle.lsys_spec.specs.Levels.{ModuleValue, Symbol, Push, Pop, Module, lineage, level_balanced}
+use Rattle.lsys_spec.specs.Choice.{Choice, NoRule, Chosen, Failed}
 use Rattle.lsys_spec.specs.Cuts.{Raw, Plain, Percent, raw_lineage, raw_balanced, cut_on, cut, BeforeAll, Rising}
 use Rattle.lsys_spec.specs.Meaning.{numbered, first_level, asked, filled_params, filled, filled_at, successor_by, successor, fault_at, children_from, next_level, meaning_to}
 use Rattle.lsys_spec.specs.LevelLaws.{HasBalance}
@@ -78,7 +78,7 @@ chosen_balanced (b ∷ bs) zero values ys h k = filled_balanced b.successor valu
 chosen_balanced (b ∷ bs) (suc g) values ys h k = chosen_balanced bs g values ys h.1 k
 
 choice_balanced : (bs : List Body) (m : ModuleValue) (c : Choice) (ys : List (S.Symbol ℤ)) → Bodies bs → successor_by bs m c ≡ Ok ys → S.balanced 0 ys ≡ true
-choice_balanced bs m Nowhere ys h k = let e : S.Module m.name m.params ∷ [] ≡ ys = cc in ap (S.balanced 0) (sym e)
+choice_balanced bs m NoRule ys h k = let e : S.Module m.name m.params ∷ [] ≡ ys = cc in ap (S.balanced 0) (sym e)
 choice_balanced bs m (Chosen g values) ys h k = chosen_balanced bs g values ys h k
 choice_balanced bs m (Failed f) ys h k = cc
 
@@ -120,7 +120,7 @@ numbered_balanced i l (S.Pop ∷ s) y zero n b e h = cc
 numbered_balanced i l (S.Pop ∷ s) y (suc k) n zero e h = absurd (omega (arith, e))
 numbered_balanced i l (S.Pop ∷ s) y (suc k) n (suc b) e h = numbered_balanced (i + 1) l s y k n b (omega (arith, e)) h
 
-offspring_balanced : (x : List Symbol) (raw : List Raw) (n : ℕ) → Offspring x raw → balanced n x ≡ true → raw_balanced n raw ≡ true
+offspring_balanced : (x : List Symbol) (raw : List Raw) (n : ℕ) → Offspring x raw → level_balanced n x ≡ true → raw_balanced n raw ≡ true
 offspring_balanced [] raw n o h = ap (raw_balanced n) o ∙ h
 offspring_balanced (Push l ∷ x) raw n o h = ap (raw_balanced n) o.1 ∙ offspring_balanced x o.0 (suc n) o.2 h
 offspring_balanced (Pop l ∷ x) raw zero o h = cc
@@ -180,7 +180,7 @@ cut_long n (Plain (Pop l) ∷ x) (Some (suc k)) h = cut_long n x (Some k) h.1
 -- 4. the levels
 
 pub record Grown (t : ℕ) (x : List Symbol) : Type 0 where
-  pub is_balanced : balanced 0 x ≡ true
+  pub is_balanced : level_balanced 0 x ≡ true
   pub rises : Rising x
   pub generations : Long (t + 1) x
 

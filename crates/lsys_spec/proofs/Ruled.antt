@@ -1,17 +1,18 @@
 -- The entries of a walk carry the rule for which it was made.
-use Rattle.std.proofs.Common.{◌≡◌, ℕ, Bool, true, false, Option, Some, None, List, [], ◌∷◌, refl}
+use Rattle.std.proofs.Common.{◌≡◌, ℕ, Bool, true, false, Some, None, List, [], ◌∷◌, refl}
 use Rattle.lsys_syntax.specs.Strings.{ModuleName}
 use Rattle.lsys_spec.specs.Systems.{Each}
 use Rattle.lsys_spec.specs.Bodies.{Pattern, Patterns, Done, OneOf, BranchOf}
-use Rattle.lsys_spec.specs.Levels.{ModuleValue, Symbol, Step, Passed, Around, OutOf, Items, Nothing, One, Branch}
-use Rattle.lsys_spec.specs.Walks.{Mark, deeper, Entry, Told, says, is_ignored, fits, met, left_walk, right_walk, behind, ahead, or_passed}
+use Rattle.lsys_spec.specs.Levels.{Symbol, Step, Passed, Around, OutOf, Items, Nothing, One, Branch}
+use Rattle.lsys_spec.specs.Walks.{Mark, deeper, Entry, Told, Found, says, is_ignored, fits, left_walk, right_walk, behind, ahead, or_passed}
+use Rattle.lsys_spec.proofs.Meetings.{met}
 use Rattle.lsys_spec.proofs.Tells.{mark_of}
 use Rattle.lsys_spec.proofs.Eachs.{each_append}
 
 abbrev pub Ruled : ℕ → Entry → Type 0
 Ruled g e = (mark_of e).rule ≡ g
 
-met_ruled : (b e : Bool) (d : Mark) (s : Symbol) (on next : Told (Option (List ModuleValue))) → Each (Ruled d.rule) on.entries → Each (Ruled d.rule) next.entries → Each (Ruled d.rule) (met b e d s on next).entries
+met_ruled : (b e : Bool) (d : Mark) (s : Symbol) (on next : Told Found) → Each (Ruled d.rule) on.entries → Each (Ruled d.rule) next.entries → Each (Ruled d.rule) (met b e d s on next).entries
 met_ruled true e d s on next k l = (refl, k)
 met_ruled false true d s on next k l = (refl, l)
 met_ruled false false d s on next k l = (refl, tt)
@@ -24,7 +25,7 @@ left_ruled f d (q ∷ qs) (Passed s ∷ w) =
 left_ruled f d (q ∷ qs) (OutOf o ∷ w) = (refl, left_ruled f d (q ∷ qs) w)
 left_ruled f d (q ∷ qs) (Around o c ∷ w) = (refl, left_ruled f d (q ∷ qs) w)
 
-pub passed_all : (S : Entry → Type 0) (o : Option (List ModuleValue)) (both passed : Told (Option (List ModuleValue))) → Each S both.entries → Each S passed.entries → Each S (or_passed o both passed).entries
+pub passed_all : (S : Entry → Type 0) (o : Found) (both passed : Told Found) → Each S both.entries → Each S passed.entries → Each S (or_passed o both passed).entries
 passed_all S None both passed h k = k
 passed_all S (Some ms) both passed h k = h
 

@@ -2,7 +2,7 @@
 use Rattle.std.proofs.Common.{arith, refl}
 use Rattle.lsys_syntax.specs.Rules.{IsRule}
 use Rattle.lsys_spec.specs.Systems.{IsSound, WellFormed, WellSpelled}
-use Rattle.lsys_spec.specs.ShownSample.{bare, rich, image, sample}
+use Rattle.lsys_spec.specs.ShownSample.{bare, rich, image, full_system}
 
 bare-rule : IsRule bare
 bare-rule = record {
@@ -58,7 +58,7 @@ rich-sound = record { known = refl; once = refl; nested = omega arith }
 image-sound : IsSound image
 image-sound = record { known = refl; once = refl; nested = omega arith }
 
-pub sample-well_formed : WellFormed sample
+pub sample-well_formed : WellFormed full_system
 sample-well_formed = record {
   labels = ((refl, (refl, tt)), ((refl, tt), (tt, tt)));
   groups = ((refl, tt), (tt, tt));
@@ -74,7 +74,7 @@ sample-well_formed = record {
   shallow = omega arith;
 }
 
-pub sample-well_spelled : WellSpelled sample
+pub sample-well_spelled : WellSpelled full_system
 sample-well_spelled = record {
   rules = (
     record { table = (refl, (refl, (refl, (refl, tt))), omega arith); label = (refl, tt, omega arith); rule = bare-rule },

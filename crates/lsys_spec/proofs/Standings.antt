@@ -3,7 +3,7 @@ use Rattle.std.proofs.Common.{◌≡◌, ℕ, zero, suc, List, [], ◌∷◌, �
 use Rattle.std.specs.Prelude.{option_map, slice_get}
 use Rattle.lsys_spec.specs.Levels.{Symbol, lineage, IsLevel}
 use Rattle.lsys_spec.specs.Standings.{standing, first_or, place_of, standing_of, Settled}
-use Rattle.lsys_spec.specs.Questions.{same_lineage}
+use Rattle.lsys_spec.specs.Equalities.{same_lineage}
 use Rattle.lsys_spec.proofs.Equal.{same_lineage_refl, same_lineage_true}
 
 pub place_told : (l : List ℕ) (x : List Symbol) (q : ℕ) → place_of l x ≡ Some q → (t : Symbol) × (slice_get x q ≡ Some t) × (lineage t ≡ l)

@@ -1,10 +1,11 @@
 -- What a walk read tells where it ended and what it answered.
-use Rattle.std.proofs.Common.{◌≡◌, ◌<◌, Bool, true, false, Option, Some, None, List, [], ◌∷◌, ◌++◌, append_assoc, refl, ap, sym, ◌∙◌, subst, arith}
+use Rattle.std.proofs.Common.{◌≡◌, ◌<◌, Bool, true, false, Some, None, List, [], ◌∷◌, ◌++◌, append_assoc, refl, ap, sym, ◌∙◌, subst, arith}
 use Rattle.std.specs.Prelude.{option_map}
 use Rattle.lsys_syntax.specs.Strings.{ModuleName}
 use Rattle.lsys_spec.specs.Bodies.{Pattern, Patterns, Done, OneOf, BranchOf}
 use Rattle.lsys_spec.specs.Levels.{ModuleValue, Symbol, lineage, Step, Passed, Around, OutOf, Items, Nothing, One, Branch}
-use Rattle.lsys_spec.specs.Walks.{Mark, deeper, Entry, Compared, Ignored, Out, Branched, Told, says, before, followed, modules, is_ignored, fits, met, left_walk, right_walk, behind, ahead, or_passed}
+use Rattle.lsys_spec.specs.Walks.{Mark, deeper, Entry, Compared, Ignored, Out, Branched, Told, Found, says, before, followed, modules, is_ignored, fits, left_walk, right_walk, behind, ahead, or_passed}
+use Rattle.lsys_spec.proofs.Meetings.{met}
 
 abbrev pub mark_of : Entry → Mark
 mark_of (Compared d s) = d
@@ -16,9 +17,6 @@ mark_of (Branched d o c) = d
 abbrev pub Foreign : Mark → List Entry → Type 0
 Foreign d [] = Unit {0}
 Foreign d (e ∷ m) = (mark_of e).rule ≡ d.rule → (mark_of e).depth < d.depth
-
-abbrev Found : Type 0
-Found = Option (List ModuleValue)
 
 -- a walk that found nothing may have ended with what it walked over
 abbrev pub Ends : Mark → Told Found → List Entry → Type 0

@@ -1,69 +1,67 @@
 -- Where a module and what was read for it aren't disturbed, its question and its choice are the same; and a question tells its choice.
-use Rattle.std.proofs.Common.{◌≡◌, ℕ, ◌+◌, ◌<◌, ◌≤◌, true, ◌||◌, Option, Some, List, [], ◌∷◌, length, take, refl, ap, sym, ◌∙◌, subst, arith, ◌⊎◌, inl, inr}
+use Rattle.std.proofs.Common.{◌≡◌, ℕ, ◌+◌, ◌<◌, ◌≤◌, true, ◌||◌, Option, Some, List, length, take, refl, ap, sym, ◌∙◌, subst, arith, ◌⊎◌, inl, inr}
 use Rattle.std.specs.Prelude.{slice_get}
 use Rattle.std.proofs.lemmas.Bool.{cases_lt}
 use Rattle.lsys_spec.specs.Systems.{System, Each}
 use Rattle.lsys_spec.specs.Bodies.{Body, group}
 use Rattle.lsys_spec.specs.Levels.{ModuleValue, Symbol, Module, lineage, IsLevel, way, items_from}
 use Rattle.lsys_spec.specs.Walks.{Entry, Told}
-use Rattle.lsys_spec.specs.Choice.{TooFar, Choice, Failed, Asking, group_from}
-use Rattle.lsys_spec.specs.Meaning.{ignores, key_for, most_entries, asked, successor, successor_by}
+use Rattle.lsys_spec.specs.Choice.{TooFar, Choice, Failed, Asking, choice}
+use Rattle.lsys_spec.specs.Meaning.{key_for, most_entries, asking, asked, successor, successor_by}
 use Rattle.lsys_spec.specs.Questions.{Question, question}
 use Rattle.lsys_spec.specs.Standings.{Settled, free, same_ignored}
 use Rattle.lsys_spec.proofs.Carries.{Same}
 use Rattle.lsys_spec.proofs.Alike.{Settles}
 use Rattle.lsys_spec.proofs.Law.{alike_around}
-use Rattle.lsys_spec.proofs.Groups.{group_carries, group_far}
+use Rattle.lsys_spec.proofs.Groups.{choice_carries, choice_far}
 use Rattle.lsys_spec.proofs.GroupTells.{told_choice}
-use Rattle.lsys_spec.proofs.Free.{group_same}
+use Rattle.lsys_spec.proofs.Free.{choice_same}
 
 -- what is told at a place
-abbrev told_at : Asking → List Symbol → ℕ → List Body → Told Choice
-told_at a x p bs = group_from a (way x p) (items_from x (p + 1)) 0 0 [] bs
+abbrev told_at : Asking → Option ℕ → List Symbol → ℕ → List Body → Told Choice
+told_at a key x p bs = choice a key (way x p) (items_from x (p + 1)) bs
 
 record SameTold (most : ℕ) (t t' : Told Choice) : Type 0 where
   pub trace : take (most + 1) t'.entries ≡ take (most + 1) t.entries
   pub choice : t'.answer ≡ t.answer
 
 same_told : (x y : List Symbol) → IsLevel x → IsLevel y → (p q : ℕ) (s : Symbol) → slice_get x p ≡ Some s → slice_get y q ≡ Some s → Settled x y (lineage s)
-    → (a : Asking) (bs : List Body) → Each (Settles (Settled x y)) (take (a.most + 1) (told_at a x p bs).entries) → SameTold a.most (told_at a x p bs) (told_at a y q bs)
-same_told x y lx ly p q s h g e a bs all = by (cases_lt (a.most + 1) (length t.entries))
+    → (a : Asking) (key : Option ℕ) (bs : List Body) → Each (Settles (Settled x y)) (take (a.most + 1) (told_at a key x p bs).entries)
+    → SameTold a.most (told_at a key x p bs) (told_at a key y q bs)
+same_told x y lx ly p q s h g e a key bs all = by (cases_lt (a.most + 1) (length t.entries))
   where
     t : Told Choice
-    t = told_at a x p bs
+    t = told_at a key x p bs
 
     t' : Told Choice
-    t' = told_at a y q bs
+    t' = told_at a key y q bs
 
     same : Same Choice (a.most + 1) t t'
     same =
         let around = alike_around x y lx ly p q s h g e in
-        group_carries (Settled x y) a (way x p) (way y q) (items_from x (p + 1)) (items_from y (q + 1)) around.0 around.1 0 0 [] bs (a.most + 1) all
+        choice_carries (Settled x y) a key (way x p) (way y q) (items_from x (p + 1)) (items_from y (q + 1)) around.0 around.1 bs (a.most + 1) all
 
     by : (a.most + 1 < length t.entries) ⊎ (length t.entries ≤ a.most + 1) → SameTold a.most t t'
     by (inl l) =
         let m = same.long l in
-        let far : t.answer ≡ Failed TooFar = group_far a (way x p) (items_from x (p + 1)) 0 0 [] bs (omega arith) (omega (arith, l)) in
-        let far' : t'.answer ≡ Failed TooFar = group_far a (way y q) (items_from y (q + 1)) 0 0 [] bs (omega arith) (omega (arith, m.1)) in
+        let far : t.answer ≡ Failed TooFar = choice_far a key (way x p) (items_from x (p + 1)) bs (omega (arith, l)) in
+        let far' : t'.answer ≡ Failed TooFar = choice_far a key (way y q) (items_from y (q + 1)) bs (omega (arith, m.1)) in
         record { trace = m.0; choice = far' ∙ sym far }
     by (inr l) =
         let e : t' ≡ t = same.short l in
         record { trace = ap (λ (u : Told Choice). take (a.most + 1) u.entries) e; choice = ap (λ (u : Told Choice). u.answer) e }
 
-abbrev asking : System → Option ℕ → ModuleValue → Asking
-asking s key m = record { ignored = ignores s.ignored; most = most_entries; key = key; own = m }
-
 same_asked : (old new : System) (bs : List Body) (x y : List Symbol) (p q : ℕ) (l : List ℕ) (m : ModuleValue)
     → IsLevel x → IsLevel y → slice_get x p ≡ Some (Module l m) → slice_get y q ≡ Some (Module l m) → Settled x y l
     → key_for new l bs ≡ key_for old l bs → free bs || same_ignored old.ignored new.ignored ≡ true
     → Each (Settles (Settled x y)) (take (most_entries + 1) (asked old bs x p l m).entries) → SameTold most_entries (asked old bs x p l m) (asked new bs y q l m)
-same_asked old new [] x y p q l m lx ly h g e k i all = record { trace = refl; choice = refl }
-same_asked old new (b ∷ bs) x y p q l m lx ly h g e k i all =
-    let a : Asking = asking old (key_for old l (b ∷ bs)) m in
-    let same : SameTold most_entries (told_at a x p (b ∷ bs)) (told_at a y q (b ∷ bs)) = same_told x y lx ly p q (Module l m) h g e a (b ∷ bs) all in
-    let moved : told_at (asking new (key_for new l (b ∷ bs)) m) y q (b ∷ bs) ≡ told_at a y q (b ∷ bs)
-    = ap (λ k. told_at (asking new k m) y q (b ∷ bs)) k ∙ group_same a old.ignored new.ignored (way y q) (items_from y (q + 1)) (b ∷ bs) refl i in
-    subst (SameTold most_entries (told_at a x p (b ∷ bs))) (sym moved) same
+same_asked old new bs x y p q l m lx ly h g e k i all =
+    let a : Asking = asking old m in
+    let key : Option ℕ = key_for old l bs in
+    let same : SameTold most_entries (told_at a key x p bs) (told_at a key y q bs) = same_told x y lx ly p q (Module l m) h g e a key bs all in
+    let moved : told_at (asking new m) (key_for new l bs) y q bs ≡ told_at a key y q bs
+    = ap (λ k. told_at (asking new m) k y q bs) k ∙ choice_same a key old.ignored new.ignored (way y q) (items_from y (q + 1)) bs refl i in
+    subst (SameTold most_entries (told_at a key x p bs)) (sym moved) same
 
 pub record IsSame (old new : System) (t : ℕ) (bs : List Body) (x y : List Symbol) (p q : ℕ) (l : List ℕ) (m : ModuleValue) : Type 0 where
   pub same_question : question new t bs y q l m ≡ question old t bs x p l m
@@ -83,13 +81,10 @@ same_at old new t bs x y p q l m lx ly h g e k i all =
 
 same_parts : (old new : System) (bs : List Body) (x y : List Symbol) (p q : ℕ) (l l' : List ℕ) (m : ModuleValue) → key_for old l bs ≡ key_for new l' bs
     → take (most_entries + 1) (asked old bs x p l m).entries ≡ take (most_entries + 1) (asked new bs y q l' m).entries → (asked old bs x p l m).answer ≡ (asked new bs y q l' m).answer
-same_parts old new [] x y p q l l' m k e = refl
-same_parts old new (b ∷ bs) x y p q l l' m k e =
-    told_choice (asking old (key_for old l (b ∷ bs)) m) (asking new (key_for new l' (b ∷ bs)) m) (way x p) (way y q) (items_from x (p + 1)) (items_from y (q + 1)) (b ∷ bs)
-    (ap (asking' new) (sym k)) e
-  where
-    asking' : System → Option ℕ → Asking
-    asking' s key = asking s key m
+same_parts old new bs x y p q l l' m k e =
+    told_choice (asking old m) (asking new m) (key_for old l bs) (way x p) (way y q) (items_from x (p + 1)) (items_from y (q + 1)) bs refl
+    (e ∙ ap (λ key. take (most_entries + 1) (told_at (asking new m) key y q bs).entries) (sym k))
+    ∙ ap (λ key. (told_at (asking new m) key y q bs).answer) k
 
 own_module : (l l' : List ℕ) (m m' : ModuleValue) → Module l m ≡ Module l' m' → m ≡ m'
 own_module l l' m m' e = cc

@@ -1,5 +1,5 @@
 -- Whether a rule is refused by itself doesn't depend on where it stands in its line.
-use Rattle.std.proofs.Common.{◌≡◌, ℕ, ◌+◌, ◌++◌, Bool, true, false, not, ◌&&◌, Option, Some, None, List, [], ◌∷◌, if◌then◌else◌, refl}
+use Rattle.std.proofs.Common.{◌≡◌, ℕ, ◌+◌, ◌++◌, Bool, true, false, ◌&&◌, Option, Some, None, List, [], ◌∷◌, if◌then◌else◌, refl}
 use Rattle.lsys_syntax.specs.Tokens.{NameText}
 use Rattle.lsys_syntax.specs.Pieces.{Piece, blank, token, note}
 use Rattle.lsys_syntax.specs.Strings.{Symbol, Signed, string_pieces, signed_pieces}

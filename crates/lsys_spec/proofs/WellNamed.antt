@@ -11,7 +11,7 @@ use Rattle.lsys_spec.specs.Systems.{System, Each, WellSpelled}
 use Rattle.lsys_spec.specs.Values.{Tree}
 use Rattle.lsys_spec.specs.Bodies.{Body, body_of, Patterns, PatternNest, outermost, within, with_pattern, with_branch, opened, nest_of, innermost, left_patterns, pattern_of, templates, is_for, group_in, group, table_at}
 use Rattle.lsys_spec.specs.Levels.{ModuleValue, Symbol, Push, Pop, Module}
-use Rattle.lsys_spec.specs.Choice.{Choice, Nowhere, Chosen, Failed}
+use Rattle.lsys_spec.specs.Choice.{Choice, NoRule, Chosen, Failed}
 use Rattle.lsys_spec.specs.Cuts.{Raw, Plain, Percent, cut_on, cut}
 use Rattle.lsys_spec.specs.Meaning.{numbered, first_level, asked, filled_params, filled, filled_at, successor_by, successor, fault_at, children_from, next_level, meaning_to}
 use Rattle.lsys_spec.proofs.LevelInduction.{ok_parts, ok_as_fault, ok_fault_at, at_each_level}
@@ -103,7 +103,7 @@ chosen_named (b ∷ bs) zero values ys v h = filled_named b.successor values ys 
 chosen_named (b ∷ bs) (suc g) values ys v h = chosen_named bs g values ys v.1 h
 
 choice_named : (bs : List Body) (m : ModuleValue) (c : Choice) (ys : List (S.Symbol ℤ)) → Each NamedBody bs → IsModuleName m.name → successor_by bs m c ≡ Ok ys → Each NamedTemplate ys
-choice_named bs m Nowhere ys v n h = let e : S.Module m.name m.params ∷ [] ≡ ys = cc in subst (Each NamedTemplate) e (n, tt)
+choice_named bs m NoRule ys v n h = let e : S.Module m.name m.params ∷ [] ≡ ys = cc in subst (Each NamedTemplate) e (n, tt)
 choice_named bs m (Chosen g values) ys v n h = chosen_named bs g values ys v h
 choice_named bs m (Failed f) ys v n h = cc
 

@@ -31,6 +31,7 @@ pub record Body : Type 0 where
 abbrev pub pattern_of : ModuleName → List NameText → Pattern
 pattern_of n fs = record { name = n; arity = length fs }
 
+-- (In a well-spelled system a left context has modules alone, so no bracket is passed over.)
 abbrev pub left_patterns : List (S.Symbol NameText) → List Pattern
 left_patterns [] = []
 left_patterns (S.Module n fs ∷ xs) = pattern_of n fs ∷ left_patterns xs
@@ -49,10 +50,12 @@ abbrev pub with_branch : Patterns → PatternNest → PatternNest
 with_branch inner (outermost p) = outermost (BranchOf inner p)
 with_branch inner (within p n) = within (BranchOf inner p) n
 
+-- a branch is behind its `[` (In a well-spelled system a right context is balanced, so there is always one around it.)
 abbrev pub opened : PatternNest → PatternNest
 opened (outermost inner) = outermost (BranchOf inner Done)
 opened (within inner n) = with_branch inner n
 
+-- (In a well-spelled system a right context has no cuts.)
 abbrev pub nest_of : List (S.Symbol NameText) → PatternNest
 nest_of [] = outermost Done
 nest_of (S.Module n fs ∷ xs) = with_pattern (pattern_of n fs) (nest_of xs)
@@ -84,6 +87,7 @@ body_of r = record {
   successor = templates (rule_formals r) r.successor;
 }
 
+-- (The schedule of a well-formed system isn't empty, and the place is a remainder by its length, so `main` doesn't stand in for a word.)
 abbrev pub word_at : List (List ℕ) → ℕ → List ℕ
 word_at [] i = main
 word_at (w ∷ ws) zero = w

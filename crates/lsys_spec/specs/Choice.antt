@@ -1,11 +1,12 @@
 -- What the rules of a group read at a module, and which one is chosen (ABOP 1.7, 1.8 and 1.10).
 use Rattle.std.specs.Prelude.{ℕ, zero, suc, ℤ, pos, negsuc, Bool, true, false, Option, Some, None, Result, Ok, Err, List, [], ◌∷◌, ◌++◌, ◌+◌, length, map, flat_map, reverse, sum, if◌then◌else◌, nat_lt}
+use Rattle.lsys_syntax.specs.Limits.{greatest_weight}
 use Rattle.lsys_syntax.specs.Strings.{ModuleName}
 use Rattle.lsys_spec.specs.Draws.{draw_of, pick_of}
-use Rattle.lsys_spec.specs.Values.{Tree, value, Arith, is_zero}
+use Rattle.lsys_spec.specs.Values.{Tree, value, judged, Arith, ◌and_then◌}
 use Rattle.lsys_spec.specs.Bodies.{Body}
 use Rattle.lsys_spec.specs.Levels.{ModuleValue, Step, Items}
-use Rattle.lsys_spec.specs.Walks.{Mark, Told, says, followed, joined, left_walk, right_walk}
+use Rattle.lsys_spec.specs.Walks.{Mark, Told, Found, says, followed, joined, left_walk, right_walk}
 
 -- why a module can't be replaced
 pub data Fault : Type 0 where
@@ -14,113 +15,139 @@ pub data Fault : Type 0 where
   WeightTotal : Fault
   TooFar : Fault
 
+abbrev pub as_fault : {A : Type 0} → Result A Arith → Result A Fault
+as_fault (Ok a) = Ok a
+as_fault (Err e) = Err (Arithmetic e)
+
 -- of a rule at a module: it doesn't apply; it applies with these values of its formals; or a fault
 pub data Outcome : Type 0 where
   No : Outcome
   Yes : List ℤ → Outcome
   Fails : Fault → Outcome
 
--- a rule that applies, with its values and its weight
-pub record Taken : Type 0 where
-  pub rule : ℕ
-  pub values : List ℤ
-  pub weight : ℕ
-
--- the place of the chosen rule in its group, with its values; or none; or a fault
+-- no rule; or the chosen one, by its place in the group, with its values; or a fault
 pub data Choice : Type 0 where
-  Nowhere : Choice
+  NoRule : Choice
   Chosen : ℕ → List ℤ → Choice
   Failed : Fault → Choice
 
-abbrev pub params_of : List ModuleValue → List ℤ
-params_of ms = flat_map (λ m. m.params) ms
+-- what is asked: whether a letter is ignored, how many entries may be read at most, and for which module
+pub record Asking : Type 0 where
+  pub ignored : ModuleName → Bool
+  pub most : ℕ
+  pub own : ModuleValue
 
-abbrev pub holds : Result ℤ Arith → List ℤ → Outcome
-holds (Err e) values = Fails (Arithmetic e)
-holds (Ok z) values = if is_zero z then No else Yes values
+-- 1. a rule
 
--- A missing condition holds.
-abbrev pub judged : Option Tree → List ℤ → Outcome
-judged None values = Yes values
-judged (Some t) values = holds (value t values) values
+-- before a rule is tried: its place in the group, and how many entries were read for the rules before it
+pub record Tried : Type 0 where
+  pub place : ℕ
+  pub read : ℕ
 
-abbrev pub as_weight : Result ℤ Arith → Result ℕ Fault
-as_weight (Err e) = Err (Arithmetic e)
-as_weight (Ok (pos n)) = Ok n
-as_weight (Ok (negsuc n)) = Err NegativeWeight
+abbrev pub none_tried : Tried
+none_tried = record { place = 0; read = 0 }
 
-abbrev pub weighed : Option Tree → List ℤ → Result ℕ Fault
-weighed None values = Ok 0
-weighed (Some t) values = as_weight (value t values)
+abbrev pub one_more : Tried → Told Found → Tried
+one_more d t = record { place = d.place + 1; read = d.read + length t.entries }
 
 -- the right walk is made where the left context matched
-abbrev pub right_after : (ModuleName → Bool) → Mark → Body → ModuleValue → Items → Option (List ModuleValue) → Told (Option (List ModuleValue))
+abbrev pub right_after : (ModuleName → Bool) → Mark → Body → ModuleValue → Items → Found → Told Found
 right_after ignored d b own r None = says None
 right_after ignored d b own r (Some ms) = joined (ms ++ own ∷ []) (right_walk ignored d b.right r)
 
 -- a rule's walks: the modules of its left context, its own, and those of its right context
-abbrev pub contexts : (ModuleName → Bool) → Mark → Body → ModuleValue → List Step → Items → Told (Option (List ModuleValue))
+abbrev pub contexts : (ModuleName → Bool) → Mark → Body → ModuleValue → List Step → Items → Told Found
 contexts ignored d b own w r =
     let t = left_walk ignored d (reverse b.left) w in followed t (right_after ignored d b own r t.answer)
 
-abbrev pub fitting : Body → Option (List ModuleValue) → Outcome
+-- of the next rule of the group
+abbrev pub next_contexts : Asking → List Step → Items → Tried → Body → Told Found
+next_contexts a w r d b = contexts a.ignored (record { rule = d.place; depth = 0 }) b a.own w r
+
+abbrev pub params_of : List ModuleValue → List ℤ
+params_of ms = flat_map (λ m. m.params) ms
+
+abbrev pub outcome_of : Result Bool Arith → List ℤ → Outcome
+outcome_of (Ok true) values = Yes values
+outcome_of (Ok false) values = No
+outcome_of (Err e) values = Fails (Arithmetic e)
+
+-- where the contexts match, the condition decides
+abbrev pub fitting : Body → Found → Outcome
 fitting b None = No
-fitting b (Some ms) = judged b.condition (params_of ms)
+fitting b (Some ms) = outcome_of (judged b.condition (params_of ms)) (params_of ms)
 
-abbrev pub unless_far : Bool → Outcome → Outcome
-unless_far true o = Fails TooFar
-unless_far false o = o
+-- before all else: with more than `most` entries in all the module is too far from what it asks about
+abbrev pub outcome : ℕ → Tried → Body → Told Found → Outcome
+outcome most d b t = if nat_lt most (d.read + length t.entries) then Fails TooFar else fitting b t.answer
 
--- n entries were read before; with more than `most` in all, the module is too far from what it asks about
-abbrev pub outcome : ℕ → ℕ → Body → Told (Option (List ModuleValue)) → Outcome
-outcome most n b t = unless_far (nat_lt most (n + length t.entries)) (fitting b t.answer)
+-- 2. without weights: the first rule that applies, or the first fault
 
-abbrev pub largest_weight : ℕ
-largest_weight = 9223372036854775807
+abbrev pub decided : Outcome → ℕ → Told Choice → Told Choice
+decided No place others = others
+decided (Yes values) place others = says (Chosen place values)
+decided (Fails k) place others = says (Failed k)
 
-abbrev pub weights : List Taken → List ℕ
-weights ts = map (λ t. t.weight) ts
+abbrev pub first_applying : Asking → List Step → Items → Tried → List Body → Told Choice
+first_applying a w r d [] = says NoRule
+first_applying a w r d (b ∷ bs) =
+    let t = next_contexts a w r d b in followed t (decided (outcome a.most d b t) d.place (first_applying a w r (one_more d t) bs))
 
-abbrev pub unless_over : Bool → Told Choice → Told Choice
-unless_over true go = says (Failed WeightTotal)
-unless_over false go = go
+-- 3. with weights: all rules that apply, or the first fault
 
-abbrev pub with_weight : Result ℕ Fault → ℕ → List ℤ → List Taken → (List Taken → Told Choice) → Told Choice
-with_weight (Err k) g values taken go = says (Failed k)
-with_weight (Ok weight) g values taken go =
-    let more = taken ++ record { rule = g; values = values; weight = weight } ∷ [] in unless_over (nat_lt largest_weight (sum (weights more))) (go more)
+-- a rule that applies, by its place in the group, with its values and its weight
+pub record Applying : Type 0 where
+  pub place : ℕ
+  pub values : List ℤ
+  pub weight : ℕ
 
--- what an outcome decides, or how it goes on
-abbrev pub decided : Outcome → Bool → ℕ → Body → List Taken → (List Taken → Told Choice) → Told Choice
-decided No weighted g b taken go = go taken
-decided (Fails k) weighted g b taken go = says (Failed k)
-decided (Yes values) false g b taken go = says (Chosen g values)
-decided (Yes values) true g b taken go = with_weight (weighed b.weight values) g values taken go
+abbrev pub weights : List Applying → List ℕ
+weights found = map (λ f. f.weight) found
 
--- the taken rule at a place
-abbrev pub taken_at : Option ℕ → List Taken → Choice
-taken_at None ts = Nowhere
-taken_at (Some i) [] = Nowhere
-taken_at (Some zero) (t ∷ ts) = Chosen t.rule t.values
-taken_at (Some (suc i)) (t ∷ ts) = taken_at (Some i) ts
+abbrev pub within_total : List Applying → Result (List Applying) Fault
+within_total found = if nat_lt greatest_weight (sum (weights found)) then Err WeightTotal else Ok found
 
-pub record Asking : Type 0 where
-  pub ignored : ModuleName → Bool
-  pub most : ℕ
-  pub key : Option ℕ  -- where the group has weights
-  pub own : ModuleValue
+abbrev pub not_negative : ℤ → Result ℕ Fault
+not_negative (pos n) = Ok n
+not_negative (negsuc n) = Err NegativeWeight
 
-abbrev pub is_some : {A : Type 0} → Option A → Bool
-is_some None = false
-is_some (Some a) = true
+-- (In a well-formed system the rules of a group with weights all have one, so 0 doesn't come.)
+abbrev pub weighed : Option Tree → List ℤ → Result ℕ Fault
+weighed None values = Ok 0
+weighed (Some t) values = as_fault (value t values) and_then not_negative
 
-abbrev pub at_end : Option ℕ → List Taken → Choice
-at_end None taken = Nowhere
-at_end (Some key) taken = taken_at (pick_of (draw_of key) (weights taken)) taken
+-- those that were found before, and this rule where it applies; its weight is evaluated at once
+abbrev pub found_with : List Applying → ℕ → Body → Outcome → Result (List Applying) Fault
+found_with found place b No = Ok found
+found_with found place b (Yes values) =
+    weighed b.weight values and_then λ weight. within_total (found ++ record { place = place; values = values; weight = weight } ∷ [])
+found_with found place b (Fails k) = Err k
 
--- the rules from the g-th on, where n entries were read before
-abbrev pub group_from : Asking → List Step → Items → ℕ → ℕ → List Taken → List Body → Told Choice
-group_from a w r n g taken [] = says (at_end a.key taken)
-group_from a w r n g taken (b ∷ bs) =
-    let t = contexts a.ignored (record { rule = g; depth = 0 }) b a.own w r in
-    followed t (decided (outcome a.most n b t) (is_some a.key) g b taken (λ more. group_from a w r (n + length t.entries) (g + 1) more bs))
+-- behind those that were found before; after a fault no rule is tried
+abbrev pub all_applying : Asking → List Step → Items → Tried → Result (List Applying) Fault → List Body → Told (Result (List Applying) Fault)
+all_applying a w r d (Err k) bs = says (Err k)
+all_applying a w r d (Ok found) [] = says (Ok found)
+all_applying a w r d (Ok found) (b ∷ bs) =
+    let t = next_contexts a w r d b in
+    followed t (all_applying a w r (one_more d t) (found_with found d.place b (outcome a.most d b t)) bs)
+
+-- the one at a place (a pick is the place of one of them, so none is missed)
+abbrev pub applying_at : Option ℕ → List Applying → Choice
+applying_at None found = NoRule
+applying_at (Some i) [] = NoRule
+applying_at (Some zero) (f ∷ fs) = Chosen f.place f.values
+applying_at (Some (suc i)) (f ∷ fs) = applying_at (Some i) fs
+
+-- the pick of them by the draw of this key; none where the weights sum to 0
+abbrev pub picked : ℕ → Result (List Applying) Fault → Choice
+picked key (Ok found) = applying_at (pick_of (draw_of key) (weights found)) found
+picked key (Err k) = Failed k
+
+abbrev pub pick_among : ℕ → Told (Result (List Applying) Fault) → Told Choice
+pick_among key t = record { entries = t.entries; answer = picked key t.answer }
+
+-- 4. the choice; a group with weights has a key
+
+abbrev pub choice : Asking → Option ℕ → List Step → Items → List Body → Told Choice
+choice a None w r bs = first_applying a w r none_tried bs
+choice a (Some key) w r bs = pick_among key (all_applying a w r none_tried (Ok []) bs)

@@ -1,10 +1,10 @@
 -- Left and right contexts, without what was read to find them (ABOP 1.8 and 1.10.2).
-use Rattle.std.specs.Prelude.{ℕ, Bool, true, false, Option, Some, None, List, [], ◌∷◌, ◌++◌, ◌==◌, ◌&&◌, ◌-◌, drop, take, length, option_map, fold, if◌then◌else◌}
+use Rattle.std.specs.Prelude.{ℕ, Bool, true, false, Some, None, List, [], ◌∷◌, ◌++◌, ◌==◌, ◌&&◌, ◌-◌, drop, take, length, option_map, fold, if◌then◌else◌}
 use Rattle.lsys_syntax.specs.Strings.{ModuleName}
 use Rattle.lsys_spec.specs.Systems.{same_name}
 use Rattle.lsys_spec.specs.Bodies.{Pattern, Patterns, Done, OneOf, BranchOf}
 use Rattle.lsys_spec.specs.Levels.{ModuleValue, Symbol, Push, Pop, Module, Items, Nothing, One, Branch}
-use Rattle.lsys_spec.specs.Walks.{modules, is_ignored, fits}
+use Rattle.lsys_spec.specs.Walks.{modules, is_ignored, fits, Found}
 
 -- 1. The path to a place: reading forward, `[` saves the path and its `]` restores it; a module that isn't ignored is appended.
 
@@ -13,6 +13,7 @@ pub record Paths : Type 0 where
   pub path : List ModuleValue
   pub saved : List (List ModuleValue)
 
+-- (A level is balanced, so there is one.)
 abbrev pub given_back : List (List ModuleValue) → Paths
 given_back [] = record { path = []; saved = [] }
 given_back (path ∷ saved) = record { path = path; saved = saved }
@@ -44,21 +45,21 @@ all_suit (q ∷ qs) [] = false
 abbrev pub last : ℕ → List ModuleValue → List ModuleValue
 last k ms = drop (length ms - k) ms
 
-abbrev pub where_true : Bool → List ModuleValue → Option (List ModuleValue)
+abbrev pub where_true : Bool → List ModuleValue → Found
 where_true true ms = Some ms
 where_true false ms = None
 
-abbrev pub left : List Pattern → List ModuleValue → Option (List ModuleValue)
+abbrev pub left : List Pattern → List ModuleValue → Found
 left qs ms = where_true (all_suit qs (last (length qs) ms)) (last (length qs) ms)
 
 -- 3. A right context, by the first pattern and the first item.
 
 -- where the inner patterns match, their modules and then the match of both remainders; else the branch is passed over
-abbrev pub inner_or : Option (List ModuleValue) → Option (List ModuleValue) → Option (List ModuleValue) → Option (List ModuleValue)
+abbrev pub inner_or : Found → Found → Found → Found
 inner_or (Some ms) after passed = option_map (λ more. ms ++ more) after
 inner_or None after passed = passed
 
-abbrev pub right : (ModuleName → Bool) → Patterns → Items → Option (List ModuleValue)
+abbrev pub right : (ModuleName → Bool) → Patterns → Items → Found
 right ignored Done r = Some []
 right ignored (OneOf q p) Nothing = None
 right ignored (OneOf q p) (Branch o c inner r) = right ignored (OneOf q p) r
@@ -70,6 +71,6 @@ right ignored (BranchOf qs p) (One s r) = if is_ignored ignored s then right ign
 right ignored (BranchOf qs p) (Branch o c inner r) = inner_or (right ignored qs inner) (right ignored p r) (right ignored (BranchOf qs p) r)
 
 -- 4. both contexts: the modules of the left one, the module itself, and those of the right one
-abbrev pub around : Option (List ModuleValue) → ModuleValue → Option (List ModuleValue) → Option (List ModuleValue)
+abbrev pub around : Found → ModuleValue → Found → Found
 around None own after = None
 around (Some ms) own after = option_map (λ more. (ms ++ own ∷ []) ++ more) after

@@ -141,7 +141,7 @@ values_of (Push ∷ xs) = Push ∷ values_of xs
 values_of (Pop ∷ xs) = Pop ∷ values_of xs
 values_of (Cut ∷ xs) = Cut ∷ values_of xs
 
--- what an edit changes; a query changes nothing
+-- What an edit changes; a query changes nothing. It is asked of commands alone that nothing refuses, so `drop` finds its label.
 abbrev pub changed : System → Command → System
 changed s (set_axiom xs) = record s { axiom_string = values_of xs }
 changed s (put_production t l r) = record s { rules = put (production_of t l r) s.rules }

@@ -1,11 +1,12 @@
 -- Worked examples, which the checker computes.
 use Rattle.std.specs.Prelude.{◌≡◌, ℕ, List, codes, refl}
 use Rattle.std.specs.Fmt.{digits}
+use Rattle.lsys_syntax.specs.Limits.{usual_module_limit}
 use Rattle.lsys_spec.specs.Interim.{reply}
-use Rattle.lsys_spec.specs.Output.{out, text_of, none}
+use Rattle.lsys_spec.specs.Output.{out, output_text, none}
 
 abbrev run : List ℕ → List ℕ
-run script = text_of (out (reply 100000) script none)
+run script = output_text (out (reply usual_module_limit) script none)
 
 -- the algae of ABOP 1.2
 pub algae : run (codes "axiom A\nproduction a: A => AB\nproduction b: B => A\ndepth 5\nstring\n") ≡ codes "ok\nok\nok\nok\nABAABABAABAAB\n"

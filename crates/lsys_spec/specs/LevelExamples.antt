@@ -4,7 +4,7 @@ use Rattle.lsys_syntax.specs.Tokens.{short}
 use Rattle.lsys_syntax.specs.Strings.{named, plus}
 use Rattle.lsys_spec.specs.Systems.{System}
 use Rattle.lsys_spec.specs.Bodies.{table_at}
-use Rattle.lsys_spec.specs.Levels.{Symbol, Push, Pop, Module, lineage, close_of, balanced, Passed, Around, OutOf, way, Nothing, One, Branch, items_from}
+use Rattle.lsys_spec.specs.Levels.{Symbol, Push, Pop, Module, lineage, close_of, level_balanced, Passed, Around, OutOf, way, Nothing, One, Branch, items_from}
 use Rattle.lsys_spec.specs.Walks.{Mark, Compared, Ignored, Out, Branched}
 use Rattle.lsys_spec.specs.Cuts.{Plain, Percent, cut}
 use Rattle.lsys_spec.specs.Meaning.{first_level, last_level, meaning}
@@ -43,7 +43,7 @@ axiom_lineages = refl
 pub branch_ends : close_of 0 (module_at (2 ∷ []) 66 ∷ Pop (3 ∷ []) ∷ []) ≡ Some 1
 branch_ends = refl
 
-pub branch_is_balanced : balanced 0 branched ≡ true
+pub branch_is_balanced : level_balanced 0 branched ≡ true
 branch_is_balanced = refl
 
 -- the way from C goes round the branch, and the way from B out of it

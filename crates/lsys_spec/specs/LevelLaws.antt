@@ -3,7 +3,7 @@ use Rattle.std.specs.Prelude.{◌≡◌, ℕ, Bool, true, Some, Ok, List, [], le
 use Rattle.lsys_syntax.specs.Strings.{balanced}
 use Rattle.lsys_spec.specs.Systems.{System, Each}
 use Rattle.lsys_spec.specs.Levels.{Symbol, lineage}
-use Rattle.lsys_spec.specs.Walks.{Entry, named}
+use Rattle.lsys_spec.specs.Walks.{Entry, lineages_named}
 use Rattle.lsys_spec.specs.Meaning.{meaning}
 use Rattle.lsys_spec.specs.Questions.{Question, questions}
 use Rattle.lsys_spec.specs.Standings.{Settled, is_candidate}
@@ -23,9 +23,9 @@ StandsIn x l = (p : ℕ) × (a : Symbol) × (slice_get x p ≡ Some a) × (linea
 
 -- every symbol that these entries name stands in the new level as in the old
 abbrev pub NoneDisturbed : List Symbol → List Symbol → List Entry → Type 0
-NoneDisturbed old new es = Each (λ e. Each (Settled old new) (named e)) es
+NoneDisturbed old new es = Each (λ e. Each (Settled old new) (lineages_named e)) es
 
--- the questions of a new system, of levels ys, that may be other ones than those of the old, of levels xs
+-- the questions of a new system, of levels ys, that may be other ones than those of the old, of levels xs (Where the old system has no such level, it has no such question either, and any level will do.)
 abbrev pub may_differ : System → System → List (List Symbol) → List (List Symbol) → Question → Bool
 may_differ old new xs ys q = is_candidate old new (get_or xs q.level []) (get_or ys q.level []) (questions old xs) q
 

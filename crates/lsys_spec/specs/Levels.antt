@@ -41,12 +41,12 @@ pub record AreMates (x : List Symbol) (p q : ℕ) : Type 0 where
   pub closes : option_map (λ n. p + 1 + n) (close_of 0 (drop (p + 1) x)) ≡ Some q
 
 -- every front has at least as many open brackets as closed ones, where n are open before, and the whole equally many
-abbrev pub balanced : ℕ → List Symbol → Bool
-balanced n [] = n == 0
-balanced n (Module l m ∷ x) = balanced n x
-balanced n (Push l ∷ x) = balanced (suc n) x
-balanced zero (Pop l ∷ x) = false
-balanced (suc n) (Pop l ∷ x) = balanced n x
+abbrev pub level_balanced : ℕ → List Symbol → Bool
+level_balanced n [] = n == 0
+level_balanced n (Module l m ∷ x) = level_balanced n x
+level_balanced n (Push l ∷ x) = level_balanced (suc n) x
+level_balanced zero (Pop l ∷ x) = false
+level_balanced (suc n) (Pop l ∷ x) = level_balanced n x
 
 -- 2. the way from a symbol to the root, nearest first
 
@@ -60,6 +60,7 @@ pub record Reading : Type 0 where
   pub way : List Step
   pub saved : List (Symbol × List Step)
 
+-- (A level is balanced, so a bracket that ends a branch finds the one that began it.)
 abbrev pub restored : Symbol → List (Symbol × List Step) → Reading
 restored close [] = record { way = []; saved = [] }
 restored close (s ∷ saved) = record { way = Around s.0 close ∷ s.1; saved = saved }
@@ -85,35 +86,35 @@ pub data Items : Type 0 where
 
 -- items, and behind each bracket that ends their branch the items around it
 pub data Nest : Type 0 where
-  outermost : Items → Nest
-  within : Items → Symbol → Nest → Nest
+  at_root : Items → Nest
+  in_branch : Items → Symbol → Nest → Nest
 
-abbrev pub innermost : Nest → Items
-innermost (outermost r) = r
-innermost (within r close n) = r
+abbrev pub items_here : Nest → Items
+items_here (at_root r) = r
+items_here (in_branch r close n) = r
 
 abbrev pub with_module : Symbol → Nest → Nest
-with_module m (outermost r) = outermost (One m r)
-with_module m (within r close n) = within (One m r) close n
+with_module m (at_root r) = at_root (One m r)
+with_module m (in_branch r close n) = in_branch (One m r) close n
 
-abbrev pub with_branch : Symbol → Symbol → Items → Nest → Nest
-with_branch o close inner (outermost r) = outermost (Branch o close inner r)
-with_branch o close inner (within r c n) = within (Branch o close inner r) c n
+abbrev pub with_whole_branch : Symbol → Symbol → Items → Nest → Nest
+with_whole_branch o close inner (at_root r) = at_root (Branch o close inner r)
+with_whole_branch o close inner (in_branch r c n) = in_branch (Branch o close inner r) c n
 
--- an open bracket makes the innermost items a branch among those around it
-abbrev pub opened : Symbol → Nest → Nest
-opened o (outermost inner) = outermost (Branch o o inner Nothing)
-opened o (within inner close n) = with_branch o close inner n
+-- an open bracket makes the innermost items a branch among those around it (A level is balanced, so there are some.)
+abbrev pub with_open_bracket : Symbol → Nest → Nest
+with_open_bracket o (at_root inner) = at_root (Branch o o inner Nothing)
+with_open_bracket o (in_branch inner close n) = with_whole_branch o close inner n
 
 abbrev pub items_of : List Symbol → Nest
-items_of [] = outermost Nothing
+items_of [] = at_root Nothing
 items_of (Module l m ∷ x) = with_module (Module l m) (items_of x)
-items_of (Push l ∷ x) = opened (Push l) (items_of x)
-items_of (Pop l ∷ x) = within Nothing (Pop l) (items_of x)
+items_of (Push l ∷ x) = with_open_bracket (Push l) (items_of x)
+items_of (Pop l ∷ x) = in_branch Nothing (Pop l) (items_of x)
 
 -- the items from place p on, up to the bracket that ends the branch of p; the rest of p is items_from x (p + 1)
 abbrev pub items_from : List Symbol → ℕ → Items
-items_from x p = innermost (items_of (drop p x))
+items_from x p = items_here (items_of (drop p x))
 
 -- 4. what holds of each level: a lineage stands at one place alone, and each bracket has its mate
 

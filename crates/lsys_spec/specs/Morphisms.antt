@@ -9,7 +9,7 @@ use Rattle.lsys_spec.specs.Levels.{ModuleValue, Symbol, Push, Pop, Module, plain
 use Rattle.lsys_spec.specs.Walks.{list_any}
 use Rattle.lsys_spec.specs.Choice.{Fault}
 use Rattle.lsys_spec.specs.Cuts.{Raw, Plain, Percent}
-use Rattle.lsys_spec.specs.Meaning.{Refusal, OverLimit, FaultAt, any_weight, successor}
+use Rattle.lsys_spec.specs.Meaning.{LevelRefusal, OverLimit, FaultAt, any_weight, successor}
 use Rattle.lsys_spec.specs.Standings.{free}
 
 -- in the table of level t no rule has a context
@@ -21,8 +21,8 @@ abbrev pub IsUnweighted : System → ℕ → Type 0
 IsUnweighted s t = (n : ModuleName) (arity : ℕ) → any_weight (group s t n arity) ≡ false
 
 -- the successor of a module that stands alone in its level
-abbrev pub alone : System → ℕ → ModuleValue → Result (List (S.Symbol ℤ)) Fault
-alone s t m = successor s t (Module [] m ∷ []) 0 [] m
+abbrev pub given_alone : System → ℕ → ModuleValue → Result (List (S.Symbol ℤ)) Fault
+given_alone s t m = successor s t (Module [] m ∷ []) 0 [] m
 
 -- each module's string in its place, or the first fault; brackets and cuts stay
 abbrev pub rewritten : (ModuleValue → Result (List (S.Symbol ℤ)) Fault) → List (S.Symbol ℤ) → Result (List (S.Symbol ℤ)) Fault
@@ -38,7 +38,7 @@ raw_plain (Plain s) = plain s
 raw_plain (Percent l) = S.Cut
 
 -- children without their lineages, or a fault without its place
-abbrev pub AreMade : Result (List Raw) Refusal → Result (List (S.Symbol ℤ)) Fault → Type 0
+abbrev pub AreMade : Result (List Raw) LevelRefusal → Result (List (S.Symbol ℤ)) Fault → Type 0
 AreMade (Ok raw) (Ok ys) = map raw_plain raw ≡ ys
 AreMade (Ok raw) (Err k) = ⊥
 AreMade (Err (FaultAt k t n)) (Ok ys) = ⊥

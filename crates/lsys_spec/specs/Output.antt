@@ -29,8 +29,8 @@ replies_from answer M n s (line ∷ lines) =
 abbrev pub out : (System → List ℕ → Reply) → List ℕ → (ℕ → Bool) → List Reply
 out answer script M = replies_from answer M 1 opening (lines_of script)
 
-abbrev pub text_of : List Reply → List ℕ
-text_of rs = flat_map (λ r. r.text) rs
+abbrev pub output_text : List Reply → List ℕ
+output_text rs = flat_map (λ r. r.text) rs
 
 abbrev pub any_refusal : List Reply → Bool
 any_refusal [] = false
@@ -44,7 +44,7 @@ any_memory (r ∷ rs) = r.is_memory || any_memory rs
 abbrev pub none : ℕ → Bool
 none n = false
 
--- the system behind the replies
+-- the system behind the replies; where there are none, the opening one
 abbrev pub last_system : List Reply → System
 last_system [] = opening
 last_system (r ∷ []) = r.next
@@ -52,7 +52,7 @@ last_system (r ∷ q ∷ rs) = last_system (q ∷ rs)
 
 -- a script's replies as one text, with memory for each
 abbrev pub run_with : (System → List ℕ → Reply) → List ℕ → List ℕ
-run_with answer script = text_of (out answer script none)
+run_with answer script = output_text (out answer script none)
 
 -- the second list begins with the first
 abbrev pub IsFront : {A : Type 0} → List A → List A → Type 0

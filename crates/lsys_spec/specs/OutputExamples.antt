@@ -1,16 +1,17 @@
 -- Lines, sessions, values and the sample: examples that the checker computes.
 use Rattle.std.specs.Prelude.{◌≡◌, ℕ, pos, negsuc, true, false, ◌||◌, ◌==◌, ◌-◌, ◌^◌, Ok, Err, List, [], ◌∷◌, ◌++◌, map, flat_map, replicate, codes, refl}
 use Rattle.std.specs.Fmt.{digits}
-use Rattle.lsys_spec.specs.Values.{Overflow, NegativePower, power, applied, product_of, fits}
+use Rattle.lsys_syntax.specs.Limits.{usual_module_limit}
+use Rattle.lsys_spec.specs.Values.{Overflow, NegativePower, power, applied, product_of, in_range}
 use Rattle.lsys_syntax.specs.Expressions.{divide, remainder}
 use Rattle.lsys_spec.specs.Lattices.{square, vector}
 use Rattle.lsys_spec.specs.Pictures.{box, pen_width}
 use Rattle.lsys_spec.specs.Replies.{reply}
-use Rattle.lsys_spec.specs.Output.{out, text_of, none, any_refusal, any_memory, quits, whole_lines, run_with}
+use Rattle.lsys_spec.specs.Output.{out, output_text, none, any_refusal, any_memory, quits, whole_lines, run_with}
 use Rattle.lsys_spec.specs.Samples.{sample}
 
 abbrev run : List ℕ → List ℕ
-run = run_with (reply 100000)
+run = run_with (reply usual_module_limit)
 
 -- the prefix stands outside the power, powers group to the right, quotients are truncated, and what the left decides isn't computed further
 pub values :
@@ -26,14 +27,14 @@ unfolding digits
 comparisons = refl
 
 -- the least number and the greatest are in, and their neighbours out
-pub bounds : map fits (negsuc (2 ^ 63 - 1) ∷ negsuc (2 ^ 63) ∷ pos (2 ^ 63 - 1) ∷ pos (2 ^ 63) ∷ []) ≡ true ∷ false ∷ true ∷ false ∷ []
+pub bounds : map in_range (negsuc (2 ^ 63 - 1) ∷ negsuc (2 ^ 63) ∷ pos (2 ^ 63 - 1) ∷ pos (2 ^ 63) ∷ []) ≡ true ∷ false ∷ true ∷ false ∷ []
 bounds = refl
 
 pub powers :
     map (λ n. power (negsuc 1) (pos n)) (63 ∷ 64 ∷ []) ≡ Ok (negsuc (2 ^ 63 - 1)) ∷ Err Overflow ∷ []
 powers = refl
 
-pub large_powers : power (negsuc 0) (pos 1000001) ≡ Ok (negsuc 0)
+pub large_powers : map (λ x. power x (pos 1001)) (pos 0 ∷ pos 1 ∷ negsuc 0 ∷ pos 2 ∷ []) ≡ Ok (pos 0) ∷ Ok (pos 1) ∷ Ok (negsuc 0) ∷ Err Overflow ∷ []
 large_powers = refl
 
 pub negative_power : power (pos 1) (negsuc 0) ≡ Err NegativePower
@@ -64,27 +65,27 @@ long_lines = refl
 
 -- want of memory changes nothing, and stands in for every reply but that to a long line and none
 pub lack_of_memory :
-    text_of (out (reply 100000) (codes "axiom A\naxiom B\n;\n \nstring\nquit\nx\n") (λ n. (n == 2) || ((n == 3) || (n == 4 || n == 6))))
+    output_text (out (reply usual_module_limit) (codes "axiom A\naxiom B\n;\n \nstring\nquit\nx\n") (λ n. (n == 2) || ((n == 3) || (n == 4 || n == 6))))
     ≡ codes "ok 0/0\nrefused memory\nA\nrefused memory\nrefused syntax token 1\n"
 unfolding digits
 lack_of_memory = refl
 
 pub no_lack_in_long_lines :
-    text_of (out (reply 100000) (replicate 65537 97 ++ codes "\n;\n") (λ n. true)) ≡ codes "refused syntax long\n"
+    output_text (out (reply usual_module_limit) (replicate 65537 97 ++ codes "\n;\n") (λ n. true)) ≡ codes "refused syntax long\n"
 no_lack_in_long_lines = refl
 
 pub kinds_of_runs :
-    map (λ script. any_refusal (out (reply 100000) script none)) (codes "string\n" ∷ codes "string\nx\n" ∷ []) ≡ false ∷ true ∷ []
+    map (λ script. any_refusal (out (reply usual_module_limit) script none)) (codes "string\n" ∷ codes "string\nx\n" ∷ []) ≡ false ∷ true ∷ []
 kinds_of_runs = refl
 
-pub memory_is_refused : any_memory (out (reply 100000) (codes "string\n") (λ n. true)) ≡ true
+pub memory_is_refused : any_memory (out (reply usual_module_limit) (codes "string\n") (λ n. true)) ≡ true
 memory_is_refused = refl
 
 -- a `quit` is heeded unless it was refused
-pub heeded : quits (reply 100000) (codes "string\nquit\n") none ≡ true
+pub heeded : quits (reply usual_module_limit) (codes "string\nquit\n") none ≡ true
 heeded = refl
 
-pub unheeded : quits (reply 100000) (codes "string\nquit\n") (λ n. n == 2) ≡ false
+pub unheeded : quits (reply usual_module_limit) (codes "string\nquit\n") (λ n. n == 2) ≡ false
 unheeded = refl
 
 pub whole : whole_lines (codes "axiom A\n\nstring") ≡ codes "axiom A\n\n"

@@ -1,6 +1,7 @@
 -- The picture (ABOP 1.3, 1.5 and 1.6): the segments that a turtle draws on its way over the image, and the box around them.
 use Rattle.std.specs.Prelude.{ℕ, ℤ, pos, negsuc, ◌+◌, ◌+ℤ◌, ◌-ℤ◌, ◌*ℤ◌, ◌==◌, ◌||◌, Bool, true, false, Option, Some, None, Result, Ok, Err, List, [], ◌∷◌, nat_lt, min, max, unsigned_abs, fold, map, flat_map, if◌then◌else◌}
 use Rattle.std.specs.Int.{int_min, int_max}
+use Rattle.lsys_syntax.specs.Limits.{greatest_coordinate}
 use Rattle.lsys_syntax.specs.Tokens.{NameText, short, long}
 use Rattle.lsys_syntax.specs.Strings.{ModuleName, named, plus, minus, ampersand, caret, backslash, slash, bar, bang}
 use Rattle.lsys_syntax.specs.Strings as S
@@ -62,15 +63,12 @@ act bar ps = turns turn_round (pos 1)
 act bang ps = widens (pen_width (first_or_one ps))
 
 -- the place n steps ahead
-abbrev pub ahead : ℤ → Pose → Vector
-ahead n p = vector (p.place.x +ℤ n *ℤ p.frame.heading.x) (p.place.y +ℤ n *ℤ p.frame.heading.y) (p.place.z +ℤ n *ℤ p.frame.heading.z)
+abbrev pub place_ahead : ℤ → Pose → Vector
+place_ahead n p = vector (p.place.x +ℤ n *ℤ p.frame.heading.x) (p.place.y +ℤ n *ℤ p.frame.heading.y) (p.place.z +ℤ n *ℤ p.frame.heading.z)
 
-abbrev pub farthest : ℕ
-farthest = 1000000000
-
--- a coordinate is past the farthest in magnitude
+-- a coordinate is past the greatest in magnitude
 abbrev pub is_far : Vector → Bool
-is_far v = nat_lt farthest (unsigned_abs v.x) || (nat_lt farthest (unsigned_abs v.y) || nat_lt farthest (unsigned_abs v.z))
+is_far v = nat_lt greatest_coordinate (unsigned_abs v.x) || (nat_lt greatest_coordinate (unsigned_abs v.y) || nat_lt greatest_coordinate (unsigned_abs v.z))
 
 -- a turtle after a symbol, and the segment that it drew
 pub record Stepped : Type 0 where
@@ -101,22 +99,23 @@ abbrev pub moved_to : Turtle → Vector → Option Stepped
 moved_to t v = unless_far (is_far v) (record { turtle = at_place t v; segment = None })
 
 abbrev pub acted : Lattice → Act → Turtle → Option Stepped
-acted l (draws n) t = drawn_to t (ahead n t.pose)
-acted l (moves n) t = moved_to t (ahead n t.pose)
+acted l (draws n) t = drawn_to t (place_ahead n t.pose)
+acted l (moves n) t = moved_to t (place_ahead n t.pose)
 acted l (turns turn n) t = quietly (with_pose t (record t.pose { frame = turn_by l turn n t.pose.frame }))
 acted l (widens w) t = quietly (with_pose t (record t.pose { width = w }))
 acted l rests t = quietly t
 
-abbrev pub restored : Turtle → List Pose → Turtle
-restored t [] = t
-restored t (p ∷ ps) = record { pose = p; saved = ps }
+-- (An image is balanced, so there is a pose.)
+abbrev pub pose_restored : Turtle → List Pose → Turtle
+pose_restored t [] = t
+pose_restored t (p ∷ ps) = record { pose = p; saved = ps }
 
 -- `[` saves the pose and `]` restores it; None where a module would lead too far
-abbrev pub step : Lattice → S.Symbol ℤ → Turtle → Option Stepped
-step l S.Push t = quietly (record t { saved = t.pose ∷ t.saved })
-step l S.Pop t = quietly (restored t t.saved)
-step l S.Cut t = quietly t
-step l (S.Module n ps) t = acted l (act n ps) t
+abbrev pub turtle_step : Lattice → S.Symbol ℤ → Turtle → Option Stepped
+turtle_step l S.Push t = quietly (record t { saved = t.pose ∷ t.saved })
+turtle_step l S.Pop t = quietly (pose_restored t t.saved)
+turtle_step l S.Cut t = quietly t
+turtle_step l (S.Module n ps) t = acted l (act n ps) t
 
 abbrev pub origin : Vector
 origin = vector (pos 0) (pos 0) (pos 0)
@@ -141,7 +140,7 @@ and_on n (Some s) rest = with_segment s.segment (rest s.turtle)
 -- The segments of a turtle's way over symbols before which n modules stand, or the number of the first module that would lead too far.
 abbrev pub segments_from : Lattice → ℕ → Turtle → List (S.Symbol ℤ) → Result (List Segment) ℕ
 segments_from l n t [] = Ok []
-segments_from l n t (x ∷ xs) = and_on (modules_to n x) (step l x t) (λ u. segments_from l (modules_to n x) u xs)
+segments_from l n t (x ∷ xs) = and_on (modules_to n x) (turtle_step l x t) (λ u. segments_from l (modules_to n x) u xs)
 
 abbrev pub segments_of : Lattice → List (S.Symbol ℤ) → Result (List Segment) ℕ
 segments_of l xs = segments_from l 0 (at_start l) xs
@@ -163,8 +162,8 @@ abbrev pub picture : System → List L.Symbol → Result (List Segment) PictureR
 picture s x = or_no_image (image s x) and_then λ ys. or_far (segments_of s.lattice ys)
 
 -- both projected ends of every segment
-abbrev pub ends : Lattice → List Segment → List (ℤ × ℤ)
-ends l gs = flat_map (λ g. projected l g.from ∷ projected l g.to ∷ []) gs
+abbrev pub segment_ends : Lattice → List Segment → List (ℤ × ℤ)
+segment_ends l gs = flat_map (λ g. projected l g.from ∷ projected l g.to ∷ []) gs
 
 -- by its least corner and its sides
 pub record Box : Type 0 where
@@ -184,4 +183,4 @@ framed p ps =
 
 -- the box of a picture, which holds the projected origin too
 abbrev pub box : Lattice → List Segment → Box
-box l gs = framed (projected l origin) (ends l gs)
+box l gs = framed (projected l origin) (segment_ends l gs)

@@ -71,7 +71,7 @@ fault_word TooFar = codes "too-far"
 abbrev pub with_number : List ℕ → ℕ → List ℕ
 with_number word n = word ++ 32 ∷ decimal n
 
-abbrev pub derivation_text : M.Refusal → List ℕ
+abbrev pub derivation_text : M.LevelRefusal → List ℕ
 derivation_text (M.OverLimit t) = with_number (codes "limit level") t
 derivation_text (M.FaultAt k t n) = codes "fault " ++ fault_word k ++ with_number (codes " level") t ++ with_number (codes " module") n
 

@@ -29,6 +29,7 @@ or_text text (Err e) = Err (text e)
 abbrev pub levels_of : ℕ → System → Result (List (List L.Symbol)) (List ℕ)
 levels_of limit s = or_text derivation_text (M.meaning s limit)
 
+-- A level that isn't there doesn't come: a number past the depth is refused, and there is one more level than the depth.
 abbrev pub or_empty : Option (List L.Symbol) → List L.Symbol
 or_empty (Some x) = x
 or_empty None = []
@@ -50,7 +51,8 @@ abbrev pub picture_of : System → Result (List (List L.Symbol)) (List ℕ) → 
 picture_of s (Err why) = Err why
 picture_of s (Ok levels) = or_text picture_refusal_text (picture s (M.last_level levels))
 
--- the questions of a system; where it has no levels, none
+-- The questions of a system; where it has no levels, none. That doesn't come in a session: the opening system has its
+-- level, and an edit whose system has none is refused.
 abbrev pub questions_of : System → Result (List (List L.Symbol)) (List ℕ) → List Question
 questions_of s (Ok levels) = questions s levels
 questions_of s (Err why) = []
@@ -113,5 +115,5 @@ abbrev pub bare_spelled : List ℕ → Option Command
 bare_spelled bare = elim (is_passed_over bare) [ true ↦ None | false ↦ spelled_by (tokens bare) ]
 
 -- the command that a line spells; one that is too long or passed over spells none
-abbrev pub spelled : List ℕ → Option Command
-spelled line = elim (is_long line) [ true ↦ None | false ↦ bare_spelled (without_cr line) ]
+abbrev pub spelled_command : List ℕ → Option Command
+spelled_command line = elim (is_long line) [ true ↦ None | false ↦ bare_spelled (without_cr line) ]

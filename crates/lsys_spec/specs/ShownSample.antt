@@ -63,8 +63,8 @@ image = record {
   successor = Push ∷ Module plus [] ∷ Pop ∷ [];
 }
 
-abbrev pub sample : System
-sample = record {
+abbrev pub full_system : System
+full_system = record {
   axiom_string = Module a (negsuc 2 ∷ pos 4 ∷ []) ∷ Push ∷ Module f_a [] ∷ Module b [] ∷ Pop ∷ Cut ∷ [];
   rules = record { table = main; label = codes "a"; rule = bare } ∷ record { table = codes "winter"; label = codes "w"; rule = rich } ∷ [];
   schedule = main ∷ codes "winter" ∷ [];
@@ -75,6 +75,6 @@ sample = record {
   lattice = hexagonal;
 }
 
-pub sample_row : show_text sample ≡ codes "lattice hexagonal\nseed 7\naxiom A(-3,4)[F_a B]%\nignore +F_a\nproduction main a: A => AB\nproduction winter w: F_a F_b < A(x) > [+B]B : !x<-1 @ 2*x => F_a(x^2)[B]%\nhom h: B(x) : x>0 => [+]\nschedule main winter\ndepth 2\n"
+pub sample_row : show_text full_system ≡ codes "lattice hexagonal\nseed 7\naxiom A(-3,4)[F_a B]%\nignore +F_a\nproduction main a: A => AB\nproduction winter w: F_a F_b < A(x) > [+B]B : !x<-1 @ 2*x => F_a(x^2)[B]%\nhom h: B(x) : x>0 => [+]\nschedule main winter\ndepth 2\n"
 unfolding digits
 sample_row = refl

@@ -4,8 +4,9 @@ use Rattle.lsys_syntax.specs.Strings.{ModuleName}
 use Rattle.lsys_spec.specs.Systems.{System, same_name}
 use Rattle.lsys_spec.specs.Bodies.{Body, Pattern, Patterns, Done, OneOf, BranchOf}
 use Rattle.lsys_spec.specs.Levels.{Symbol, Push, Pop, Module, lineage, Step, Passed, Around, OutOf, Items, Nothing, One, Branch, way, items_from}
-use Rattle.lsys_spec.specs.Walks.{Entry, named, list_any}
-use Rattle.lsys_spec.specs.Questions.{Question, same_option, same_symbol, same_lineage, same_all, same_body, same_number, question_at}
+use Rattle.lsys_spec.specs.Walks.{Entry, lineages_named, list_any}
+use Rattle.lsys_spec.specs.Equalities.{same_option, same_symbol, same_lineage, same_all, same_body, same_number}
+use Rattle.lsys_spec.specs.Questions.{Question, question_at}
 
 pub record Standing : Type 0 where
   pub symbol : Option Symbol
@@ -17,23 +18,23 @@ abbrev pub before_place : List Symbol → ℕ → Option Symbol
 before_place x zero = None
 before_place x (suc p) = slice_get x p
 
--- the bracket with which the items that begin at an open bracket end
-abbrev pub closing : Items → Option (List ℕ)
-closing Nothing = None
-closing (One s r) = None
-closing (Branch o c inner r) = Some (lineage c)
+-- the mate of an open bracket, by the items from it on; that of a bracket that ends a branch, by the way behind it (A level is balanced, so each has one.)
+abbrev pub mate_ahead : Items → Option (List ℕ)
+mate_ahead Nothing = None
+mate_ahead (One s r) = None
+mate_ahead (Branch o c inner r) = Some (lineage c)
 
-abbrev pub opening : List Step → Option (List ℕ)
-opening [] = None
-opening (Passed s ∷ w) = None
-opening (OutOf o ∷ w) = None
-opening (Around o c ∷ w) = Some (lineage o)
+abbrev pub mate_behind : List Step → Option (List ℕ)
+mate_behind [] = None
+mate_behind (Passed s ∷ w) = None
+mate_behind (OutOf o ∷ w) = None
+mate_behind (Around o c ∷ w) = Some (lineage o)
 
 abbrev pub mate_at : List Symbol → ℕ → Option Symbol → Option (List ℕ)
 mate_at x p None = None
 mate_at x p (Some (Module l m)) = None
-mate_at x p (Some (Push l)) = closing (items_from x p)
-mate_at x p (Some (Pop l)) = opening (way x (p + 1))
+mate_at x p (Some (Push l)) = mate_ahead (items_from x p)
+mate_at x p (Some (Pop l)) = mate_behind (way x (p + 1))
 
 abbrev pub standing : List Symbol → ℕ → Standing
 standing x p = record { symbol = slice_get x p; before = before_place x p; after = slice_get x (p + 1); mate = mate_at x p (slice_get x p) }
@@ -63,7 +64,7 @@ is_disturbed x y l = not (same_option same_standing (standing_of y l) (standing_
 
 -- a symbol that an entry names is disturbed
 abbrev pub reads_disturbed : List Symbol → List Symbol → Entry → Bool
-reads_disturbed x y e = list_any (is_disturbed x y) (named e)
+reads_disturbed x y e = list_any (is_disturbed x y) (lineages_named e)
 
 abbrev pub any_disturbed : List Symbol → List Symbol → List Entry → Bool
 any_disturbed x y es = list_any (reads_disturbed x y) es

@@ -33,11 +33,11 @@ abbrev pub any : {A : Type 0} → (A → Bool) → List A → Bool
 any p [] = false
 any p (x ∷ xs) = p x || any p xs
 
-abbrev pub name_text : ModuleName → List ℕ
-name_text n = token_text (name_kind n)
+abbrev pub module_name_text : ModuleName → List ℕ
+module_name_text n = token_text (name_kind n)
 
 abbrev pub same_name : ModuleName → ModuleName → Bool
-same_name m n = bytes_eq (name_text m) (name_text n)
+same_name m n = bytes_eq (module_name_text m) (module_name_text n)
 
 abbrev pub is_table : List (List ℕ) → List ℕ → Bool
 is_table ts w = any (λ t. bytes_eq t w) ts

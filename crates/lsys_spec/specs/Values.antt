@@ -1,6 +1,6 @@
 -- Values of expressions: exact whole numbers that fit 64 bits, or the first fault.
-use Rattle.std.specs.Prelude.{ℕ, ℤ, pos, negsuc, ◌+◌, ◌+ℤ◌, ◌-ℤ◌, ◌*ℤ◌, neg_ℤ, int_div, int_rem, int_lt, ◌^◌, ◌==◌, ◌%◌, ◌||◌, Bool, true, false, not, List, [], ◌∷◌, Result, Ok, Err, nat_lt, bytes_eq, if◌then◌else◌, get_or}
-use Rattle.std.specs.Int.{int_pow}
+use Rattle.std.specs.Prelude.{ℕ, zero, suc, ℤ, pos, negsuc, ◌+◌, ◌+ℤ◌, ◌-ℤ◌, ◌*ℤ◌, neg_ℤ, int_div, int_rem, int_lt, ◌==◌, Bool, true, false, not, Option, Some, None, List, [], ◌∷◌, Result, Ok, Err, nat_lt, bytes_eq, if◌then◌else◌, get_or}
+use Rattle.lsys_syntax.specs.Limits.{value_bound}
 use Rattle.lsys_syntax.specs.Tokens.{NameText}
 use Rattle.lsys_syntax.specs.Pieces as P
 use Rattle.lsys_syntax.specs.Expressions.{TermOp, multiply, divide, remainder, SumOp, add, subtract, RelOp, equal, unequal, less, at_most, greater, at_least, Expr, only_and, or, And, only_rel, and, Rel, only_sum, compare, Sum, only_term, total, Term, only_unary, product, Unary, negated, inverted, only_atom, raised, Atom, number, name, parens}
@@ -21,7 +21,7 @@ pub data Tree : Type 0 where
   Both : Tree → Tree → Tree
   Either : Tree → Tree → Tree
 
--- the place of a name among the formals
+-- The place of a name among the formals. (A rule of a well-spelled system names its formals alone, so no place past the end comes.)
 abbrev pub formal_place : List NameText → NameText → ℕ
 formal_place [] x = 0
 formal_place (f ∷ fs) x = if bytes_eq (P.name_text f) (P.name_text x) then 0 else formal_place fs x + 1
@@ -63,14 +63,14 @@ pub data Arith : Type 0 where
   DivideByZero : Arith
   NegativePower : Arith
 
--- an i64
-abbrev pub fits : ℤ → Bool
-fits (pos n) = nat_lt n (2 ^ 63)
-fits (negsuc n) = nat_lt n (2 ^ 63)
+-- from the least value to the greatest: an i64
+abbrev pub in_range : ℤ → Bool
+in_range (pos n) = nat_lt n value_bound
+in_range (negsuc n) = nat_lt n value_bound
 
 -- an exact result, where it fits
 abbrev pub exact : ℤ → Result ℤ Arith
-exact z = if fits z then Ok z else Err Overflow
+exact z = if in_range z then Ok z else Err Overflow
 
 abbrev pub is_zero : ℤ → Bool
 is_zero (pos n) = n == 0
@@ -83,24 +83,22 @@ truth false = pos 0
 abbrev pub int_same : ℤ → ℤ → Bool
 int_same x y = is_zero (x -ℤ y)
 
--- Powers from 64 on: of 0, 1 and -1 they are told by whether the exponent is odd, and of every other number they don't fit.
-abbrev pub large_power : ℤ → ℕ → Result ℤ Arith
-large_power x n = if is_zero x || int_same x (pos 1) then Ok x else if int_same x (negsuc 0) then Ok (int_pow x (n % 2)) else Err Overflow
-
-abbrev pub whole_power : ℤ → ℕ → Result ℤ Arith
-whole_power x n = elim (nat_lt n 64) [ true ↦ exact (int_pow x n) | false ↦ large_power x n ]
+-- a product of n factors
+abbrev pub nth_power : ℤ → ℕ → ℤ
+nth_power x zero = pos 1
+nth_power x (suc n) = x *ℤ nth_power x n
 
 abbrev pub power : ℤ → ℤ → Result ℤ Arith
-power x (pos n) = whole_power x n
+power x (pos n) = exact (nth_power x n)
 power x (negsuc n) = Err NegativePower
 
-abbrev pub compared : RelOp → ℤ → ℤ → Bool
-compared equal x y = int_same x y
-compared unequal x y = not (int_same x y)
-compared less x y = int_lt x y
-compared at_most x y = not (int_lt y x)
-compared greater x y = int_lt y x
-compared at_least x y = not (int_lt x y)
+abbrev pub relates : RelOp → ℤ → ℤ → Bool
+relates equal x y = int_same x y
+relates unequal x y = not (int_same x y)
+relates less x y = int_lt x y
+relates at_most x y = not (int_lt y x)
+relates greater x y = int_lt y x
+relates at_least x y = not (int_lt x y)
 
 -- Division truncates toward zero; the remainder has the dividend's sign, and faults where the quotient does.
 abbrev pub applied : Operator → ℤ → ℤ → Result ℤ Arith
@@ -108,9 +106,9 @@ applied (sum_of add) x y = exact (x +ℤ y)
 applied (sum_of subtract) x y = exact (x -ℤ y)
 applied (product_of multiply) x y = exact (x *ℤ y)
 applied (product_of divide) x y = if is_zero y then Err DivideByZero else exact (int_div x y)
-applied (product_of remainder) x y = if is_zero y then Err DivideByZero else if fits (int_div x y) then Ok (int_rem x y) else Err Overflow
+applied (product_of remainder) x y = if is_zero y then Err DivideByZero else if in_range (int_div x y) then Ok (int_rem x y) else Err Overflow
 applied power_of x y = power x y
-applied (comparison op) x y = Ok (truth (compared op x y))
+applied (comparison op) x y = Ok (truth (relates op x y))
 
 infixl 10 ◌and_then◌
 abbrev pub ◌and_then◌ : {A B E : Type 0} → Result A E → (A → Result B E) → Result B E
@@ -126,7 +124,7 @@ abbrev pub unless_true : Bool → Result ℤ Arith → Result ℤ Arith
 unless_true true right = right and_then λ y. Ok (truth (not (is_zero y)))
 unless_true false right = Ok (pos 1)
 
--- operands from left to right; the first fault is the answer
+-- Operands from left to right; the first fault is the answer. (Each formal of a rule that is tried has a value, so the 0 that stands in for one doesn't come.)
 abbrev pub value : Tree → List ℤ → Result ℤ Arith
 value (Constant n) b = Ok (pos n)
 value (Formal i) b = Ok (get_or b i (pos 0))
@@ -135,3 +133,8 @@ value (Inversion t) b = value t b and_then λ x. Ok (truth (is_zero x))
 value (Binary op t u) b = value t b and_then λ x. value u b and_then λ y. applied op x y
 value (Both t u) b = value t b and_then λ x. unless_zero (is_zero x) (value u b)
 value (Either t u) b = value t b and_then λ x. unless_true (is_zero x) (value u b)
+
+-- whether a condition holds; a missing one does
+abbrev pub judged : Option Tree → List ℤ → Result Bool Arith
+judged None b = Ok true
+judged (Some t) b = value t b and_then λ x. Ok (not (is_zero x))

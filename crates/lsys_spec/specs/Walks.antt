@@ -1,5 +1,5 @@
 -- What a rule's contexts read, and what they find (ABOP 1.8 and 1.10.2).
-use Rattle.std.specs.Prelude.{ℕ, Bool, true, false, Option, Some, None, List, [], ◌∷◌, ◌++◌, ◌+◌, ◌==◌, ◌&&◌, length, option_map}
+use Rattle.std.specs.Prelude.{ℕ, Bool, true, false, Option, Some, None, List, [], ◌∷◌, ◌++◌, ◌+◌, ◌==◌, ◌&&◌, length, option_map, if◌then◌else◌}
 use Rattle.lsys_syntax.specs.Strings.{ModuleName}
 use Rattle.lsys_spec.specs.Systems.{same_name}
 use Rattle.lsys_spec.specs.Bodies.{Pattern, Patterns, Done, OneOf, BranchOf}
@@ -20,11 +20,11 @@ pub data Entry : Type 0 where
   Branched : Mark → List ℕ → List ℕ → Entry  -- a branch was passed or entered, by its two brackets
 
 -- the lineages that an entry names
-abbrev pub named : Entry → List (List ℕ)
-named (Compared d s) = lineage s ∷ []
-named (Ignored d s) = lineage s ∷ []
-named (Out d l) = l ∷ []
-named (Branched d o c) = o ∷ c ∷ []
+abbrev pub lineages_named : Entry → List (List ℕ)
+lineages_named (Compared d s) = lineage s ∷ []
+lineages_named (Ignored d s) = lineage s ∷ []
+lineages_named (Out d l) = l ∷ []
+lineages_named (Branched d o c) = o ∷ c ∷ []
 
 -- what was read, and what was answered
 pub record Told (A : Type 0) : Type 0 where
@@ -60,45 +60,47 @@ abbrev pub fits : Pattern → Symbol → Bool
 fits q (Module l m) = same_name q.name m.name && (q.arity == length m.params)
 fits q s = false
 
--- A module was met: ignored, the walk goes on; else it was compared, and where it fits the next follows.
-abbrev pub met : Bool → Bool → Mark → Symbol → Told (Option (List ModuleValue)) → Told (Option (List ModuleValue)) → Told (Option (List ModuleValue))
-met true fits d s on next = before (Ignored d s) on
-met false true d s on next = before (Compared d s) next
-met false false d s on next = before (Compared d s) (says None)
+-- what a walk finds: the modules that match, or none where the context doesn't
+abbrev pub Found : Type 0
+Found = Option (List ModuleValue)
 
--- the modules that follow, and behind them this one
-abbrev pub behind : Symbol → Told (Option (List ModuleValue)) → Told (Option (List ModuleValue))
+-- the modules that were found, and behind them this one
+abbrev pub behind : Symbol → Told Found → Told Found
 behind s t = record t { answer = option_map (λ ms. ms ++ modules s) t.answer }
 
--- Patterns, the nearest first: the modules that match, the nearest last
-abbrev pub left_walk : (ModuleName → Bool) → Mark → List Pattern → List Step → Told (Option (List ModuleValue))
+-- Patterns, the nearest first: the modules that match, the nearest last. An ignored module is passed; any other is compared.
+abbrev pub left_walk : (ModuleName → Bool) → Mark → List Pattern → List Step → Told Found
 left_walk ignored d [] w = says (Some [])
 left_walk ignored d (q ∷ qs) [] = says None
 left_walk ignored d (q ∷ qs) (Around o c ∷ w) = before (Branched d (lineage o) (lineage c)) (left_walk ignored d (q ∷ qs) w)
 left_walk ignored d (q ∷ qs) (OutOf o ∷ w) = before (Out d (lineage o)) (left_walk ignored d (q ∷ qs) w)
 left_walk ignored d (q ∷ qs) (Passed s ∷ w) =
-    met (is_ignored ignored s) (fits q s) d s (left_walk ignored d (q ∷ qs) w) (behind s (left_walk ignored d qs w))
+    if is_ignored ignored s then before (Ignored d s) (left_walk ignored d (q ∷ qs) w)
+    else before (Compared d s) (if fits q s then behind s (left_walk ignored d qs w) else says None)
 
--- this module, and then those that follow
-abbrev pub ahead : Symbol → Told (Option (List ModuleValue)) → Told (Option (List ModuleValue))
+-- this module, and then those that were found
+abbrev pub ahead : Symbol → Told Found → Told Found
 ahead s t = record t { answer = option_map (λ ms. modules s ++ ms) t.answer }
 
-abbrev pub joined : List ModuleValue → Told (Option (List ModuleValue)) → Told (Option (List ModuleValue))
+-- these modules, and then those that were found
+abbrev pub joined : List ModuleValue → Told Found → Told Found
 joined ms t = record t { answer = option_map (λ more. ms ++ more) t.answer }
 
 -- where the inner patterns matched, their modules and then both remainders; else the branch is passed over
-abbrev pub or_passed : Option (List ModuleValue) → Told (Option (List ModuleValue)) → Told (Option (List ModuleValue)) → Told (Option (List ModuleValue))
+abbrev pub or_passed : Found → Told Found → Told Found → Told Found
 or_passed (Some ms) both passed = joined ms both
 or_passed None both passed = passed
 
-abbrev pub right_walk : (ModuleName → Bool) → Mark → Patterns → Items → Told (Option (List ModuleValue))
+abbrev pub right_walk : (ModuleName → Bool) → Mark → Patterns → Items → Told Found
 right_walk ignored d Done r = says (Some [])
 right_walk ignored d (OneOf q p) Nothing = says None
 right_walk ignored d (OneOf q p) (Branch o c inner r) = before (Branched d (lineage o) (lineage c)) (right_walk ignored d (OneOf q p) r)
 right_walk ignored d (OneOf q p) (One s r) =
-    met (is_ignored ignored s) (fits q s) d s (right_walk ignored d (OneOf q p) r) (ahead s (right_walk ignored d p r))
+    if is_ignored ignored s then before (Ignored d s) (right_walk ignored d (OneOf q p) r)
+    else before (Compared d s) (if fits q s then ahead s (right_walk ignored d p r) else says None)
 right_walk ignored d (BranchOf qs p) Nothing = says None
-right_walk ignored d (BranchOf qs p) (One s r) = met (is_ignored ignored s) false d s (right_walk ignored d (BranchOf qs p) r) (says None)
+right_walk ignored d (BranchOf qs p) (One s r) =
+    if is_ignored ignored s then before (Ignored d s) (right_walk ignored d (BranchOf qs p) r) else before (Compared d s) (says None)
 right_walk ignored d (BranchOf qs p) (Branch o c inner r) =
     let inside = right_walk ignored (deeper d) qs inner in
     before (Branched d (lineage o) (lineage c))

@@ -9,7 +9,7 @@ ghost use Rattle.lsys_spec.specs.Levels.{ModuleValue, Symbol, plain};
 ghost use Rattle.lsys_spec.specs.Choice.{Fault};
 ghost use Rattle.lsys_spec.specs.Meaning.{successor, children_from, next_level, meaning, ignores};
 ghost use Rattle.lsys_spec.specs.Questions.{questions_at, questions};
-ghost use Rattle.lsys_spec.specs.Morphisms.{IsContextFree, IsUnweighted, alone, rewritten, AreMade, AreAlike, ignoring, occurs};
+ghost use Rattle.lsys_spec.specs.Morphisms.{IsContextFree, IsUnweighted, given_alone, rewritten, AreMade, AreAlike, ignoring, occurs};
 
 /// Without contexts a module's successor doesn't depend on where it stands.
 pub fn law_of_context_free_successors()
@@ -22,7 +22,7 @@ pub fn law_of_context_free_successors()
 /// the string that it would give alone, and the strings stand one behind the other. A fault of one is the other's.
 pub fn law_of_morphisms()
     ensures level { (s : System) (t : ℕ) → IsContextFree s t → IsUnweighted s t
-        → (x : List Symbol) → AreMade (children_from s t x 0 0 x) (rewritten (alone s t) (map plain x)) }
+        → (x : List Symbol) → AreMade (children_from s t x 0 0 x) (rewritten (given_alone s t) (map plain x)) }
     ensures letter_by_letter { (h : ModuleValue → Result (List (S.Symbol ℤ)) Fault) (xs ys : List (S.Symbol ℤ))
         → rewritten h (xs ++ ys) ≡ (rewritten h xs and_then λ u. rewritten h ys and_then λ v. Ok (u ++ v)) }
 {}

@@ -3,13 +3,13 @@
 ghost use Rattle.std.specs.Prelude.{◌≡◌, ◌+◌, ℕ, true, Some, List, map, length, slice_get, ◌↔◌};
 ghost use Rattle.lsys_syntax.specs.Strings.{IsModuleName};
 ghost use Rattle.lsys_spec.specs.Systems.{System, WellSpelled};
-ghost use Rattle.lsys_spec.specs.Levels.{ModuleValue, Symbol, Module, lineage, balanced, IsLevel};
+ghost use Rattle.lsys_spec.specs.Levels.{ModuleValue, Symbol, Module, lineage, level_balanced, IsLevel};
 ghost use Rattle.lsys_spec.specs.Cuts.{Raw, Plain, raw_balanced, cut, IsCutOff, is_cut_off, kept, Rising};
 ghost use Rattle.lsys_spec.specs.LevelLaws.{HasBalance, AtEachLevel};
 
 /// What a cut leaves of a balanced string is balanced.
 pub fn law_of_balanced_cuts()
-    ensures { (x : List Raw) → raw_balanced 0 x ≡ true → balanced 0 (cut x) ≡ true }
+    ensures { (x : List Raw) → raw_balanced 0 x ≡ true → level_balanced 0 (cut x) ≡ true }
 {}
 
 /// A string without cuts stays as it is, so cutting twice is cutting once.
@@ -26,14 +26,14 @@ pub fn law_of_cut_places()
 
 /// In a balanced string of distinct lineages each bracket has its mate.
 pub fn law_of_mates()
-    ensures { (x : List Symbol) → balanced 0 x ≡ true → Rising x → IsLevel x }
+    ensures { (x : List Symbol) → level_balanced 0 x ≡ true → Rising x → IsLevel x }
 {}
 
 /// Where the axiom and the successors are balanced, so is each level; its lineages rise, so each stands there once, and
 /// those of level t have t + 1 numbers. In a well-spelled system each module has a name of the language.
 pub fn law_of_levels()
     ensures spelled { (s : System) → WellSpelled s → HasBalance s }
-    ensures balance { (s : System) → HasBalance s → AtEachLevel s (λ t x. balanced 0 x ≡ true) }
+    ensures balance { (s : System) → HasBalance s → AtEachLevel s (λ t x. level_balanced 0 x ≡ true) }
     ensures rise { (s : System) → HasBalance s → AtEachLevel s (λ t x. Rising x) }
     ensures mates { (s : System) → HasBalance s → AtEachLevel s (λ t x. IsLevel x) }
     ensures generations { (s : System) → HasBalance s

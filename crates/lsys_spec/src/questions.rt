@@ -5,7 +5,7 @@ ghost use Rattle.lsys_syntax.specs.Strings.{ModuleName};
 ghost use Rattle.lsys_spec.specs.Systems.{System, WellSpelled, Each};
 ghost use Rattle.lsys_spec.specs.Bodies.{Body, Pattern, Patterns, group};
 ghost use Rattle.lsys_spec.specs.Levels.{ModuleValue, Symbol, Module, lineage, Items, way, items_from, IsLevel};
-ghost use Rattle.lsys_spec.specs.Walks.{Mark, named, left_walk, right_walk};
+ghost use Rattle.lsys_spec.specs.Walks.{Mark, lineages_named, left_walk, right_walk};
 ghost use Rattle.lsys_spec.specs.Choice.{contexts};
 ghost use Rattle.lsys_spec.specs.Contexts.{path, left, right, around};
 ghost use Rattle.lsys_spec.specs.Meaning.{key_for, asked, successor, meaning};
@@ -92,7 +92,7 @@ pub fn law_of_needs()
 /// What an entry of a trace names stands in the level.
 pub fn law_of_traces()
     ensures { (s : System) (t : ℕ) (bs : List Body) (x : List Symbol) (p : ℕ) (l : List ℕ) (m : ModuleValue)
-        → Each (λ e. Each (StandsIn x) (named e)) (question s t bs x p l m).trace }
+        → Each (λ e. Each (StandsIn x) (lineages_named e)) (question s t bs x p l m).trace }
 {}
 
 /// A question isn't needed exactly where the old system has that very question; by `law_of_same_questions` its choice is

@@ -5,7 +5,7 @@ ghost use Rattle.lsys_syntax.specs.Commands.{Command};
 ghost use Rattle.lsys_spec.specs.Systems.{System};
 ghost use Rattle.lsys_spec.specs.Edits.{apply};
 ghost use Rattle.lsys_spec.specs.Refusals.{Reply};
-ghost use Rattle.lsys_spec.specs.Replies.{reply, spelled, is_query};
+ghost use Rattle.lsys_spec.specs.Replies.{reply, spelled_command, is_query};
 ghost use Rattle.lsys_spec.specs.Output.{out, quits, IsFront};
 
 /// What stands behind a whole line changes none of the replies up to it: the replies to a front of whole lines are a
@@ -24,8 +24,8 @@ pub fn law_of_next_systems()
     ensures refused { (limit : ℕ) (s : System) (line : List ℕ)
         → (reply limit s line).is_refusal ≡ true → (reply limit s line).next ≡ s }
     ensures query { (limit : ℕ) (s : System) (line : List ℕ) (c : Command)
-        → spelled line ≡ Some c → is_query c ≡ true → (reply limit s line).next ≡ s }
+        → spelled_command line ≡ Some c → is_query c ≡ true → (reply limit s line).next ≡ s }
     ensures edit { (limit : ℕ) (s : System) (line : List ℕ) (c : Command)
-        → spelled line ≡ Some c → is_query c ≡ false → (reply limit s line).is_refusal ≡ false
+        → spelled_command line ≡ Some c → is_query c ≡ false → (reply limit s line).is_refusal ≡ false
         → apply s c ≡ Ok (reply limit s line).next }
 {}

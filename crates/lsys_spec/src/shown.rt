@@ -4,7 +4,7 @@ ghost use Rattle.lsys_syntax.specs.Lines.{lines_of};
 ghost use Rattle.lsys_spec.specs.Systems.{System, Each, WellFormed, WellSpelled};
 ghost use Rattle.lsys_spec.specs.Shown.{show_text};
 ghost use Rattle.lsys_spec.specs.ReadBack.{IsReadBack, IsPlainLine};
-ghost use Rattle.lsys_spec.specs.ShownSample.{sample};
+ghost use Rattle.lsys_spec.specs.ShownSample.{full_system};
 
 /// The law of `show`: for each well-formed and well-spelled system, the lines that `show` prints, read as tokens, parsed and applied
 /// in order from the opening system, are all accepted, and give the same system. A session reads them as they stand:
@@ -16,5 +16,5 @@ ghost use Rattle.lsys_spec.specs.ShownSample.{sample};
 pub fn law_of_show()
     ensures read_back { (system : System) → WellFormed system → WellSpelled system → IsReadBack system }
     ensures plain { (system : System) → WellFormed system → WellSpelled system → Each IsPlainLine (lines_of (show_text system)) }
-    ensures example { WellFormed sample × WellSpelled sample }
+    ensures example { WellFormed full_system × WellSpelled full_system }
 {}

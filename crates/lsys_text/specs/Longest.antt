@@ -1,13 +1,14 @@
 -- What each kind of token looks like by itself, and the rule that the longest one is taken.
-use Rattle.std.specs.Prelude.{◌≡◌, ℕ, ◌+◌, ◌<◌, ◌≤◌, ◌^◌, true, List, [], ◌∷◌, length, take, Some, None}
+use Rattle.std.specs.Prelude.{◌≡◌, ℕ, ◌+◌, ◌<◌, ◌≤◌, true, List, [], ◌∷◌, length, take, Some, None}
 use Rattle.std.specs.Str.Parse.{digits_value}
+use Rattle.lsys_syntax.specs.Limits.{most_word_bytes, number_bound}
 use Rattle.lsys_syntax.specs.Tokens.{Mode, Kind, Word, LongWord, Name, Number, BigNumber, Assign, is_letter, is_digit, is_word_byte, token_at}
 use Rattle.lsys_syntax.specs.Pieces.{Every, HasWords, HasNames, IsWordText, IsNameText, name_text, token_text}
 
--- a letter, then letters, digits and `_`: more than 16 bytes in all
+-- a letter, then letters, digits and `_`: more bytes in all than a word has
 abbrev pub IsLongWordText : List ℕ → Type 0
 IsLongWordText [] = ⊥
-IsLongWordText (c ∷ cs) = (is_letter c ≡ true) × Every is_word_byte cs × (16 < length (c ∷ cs))
+IsLongWordText (c ∷ cs) = (is_letter c ≡ true) × Every is_word_byte cs × (most_word_bytes < length (c ∷ cs))
 
 -- a run of digits
 abbrev pub AreDigits : List ℕ → Type 0
@@ -18,8 +19,8 @@ abbrev pub IsTokenText : Mode → Kind → List ℕ → Type 0
 IsTokenText m (Word w) text = HasWords m × (text ≡ w) × IsWordText w
 IsTokenText m LongWord text = HasWords m × IsLongWordText text
 IsTokenText m (Name n) text = HasNames m × (text ≡ name_text n) × IsNameText n
-IsTokenText m (Number n) text = AreDigits text × (digits_value 10 text ≡ n) × (n < 2 ^ 64)
-IsTokenText m BigNumber text = AreDigits text × (2 ^ 64 ≤ digits_value 10 text)
+IsTokenText m (Number n) text = AreDigits text × (digits_value 10 text ≡ n) × (n < number_bound)
+IsTokenText m BigNumber text = AreDigits text × (number_bound ≤ digits_value 10 text)
 IsTokenText m Assign text = text ≡ 61 ∷ []
 IsTokenText m k text = text ≡ token_text k
 

@@ -2,6 +2,7 @@
 #![tactic(auto)]
 
 ghost use Rattle.std.specs.Prelude.{◌≡◌, ◌≤◌, length, vec_len, IfOk, All};
+ghost use Rattle.lsys_syntax.specs.Limits.{most_line_bytes};
 ghost use Rattle.lsys_text.specs.Longest.{TakesLongest, TakesAny};
 ghost use Rattle.lsys_text.specs.Tokens.{AreTokens, HasMarkByte, IsWithin};
 
@@ -27,7 +28,7 @@ pub use token_kind::{Token, TokenKind};
 ///
 /// `Byte` has the column of the first byte that is in no token, and `Memory` is want of memory.
 pub fn tokens(alloc: Global, line: &[u8]) -> Result<Vec<Token>, TextRefusal>
-    requires { length line.now ≤ 65536 }
+    requires { length line.now ≤ most_line_bytes }
     ensures tokens { AreTokens line.now result }
     ensures marks { IfOk result (λ found. All HasMarkByte found.items) }
     ensures places { IfOk result (λ found. All (IsWithin (length line.now)) found.items) }

@@ -2,6 +2,7 @@
 ghost use Rattle.std.specs.Prelude.{◌≡◌, ℕ, ◌+◌, ◌-◌, ◌*◌, ◌^◌, ◌<◌, ◌≤◌, ◌++◌, ◌∷◌, [], length, All, option_map, OnOk, OnErr, IfOk, IfSome, IsTrue, SomeIff};
 ghost use Rattle.std.specs.List.{prefix_len};
 ghost use Rattle.std.specs.Str.Parse.{digits_value};
+ghost use Rattle.lsys_syntax.specs.Limits.{most_line_bytes};
 ghost use Rattle.lsys_syntax.specs.Tokens.{is_blank, is_digit, is_letter, is_alphanumeric, is_word_byte, front, number_kind, word_kind, after_word, next_mode, name_tail, name_with};
 ghost use Rattle.lsys_syntax.specs.Pieces.{Every};
 ghost use Rattle.lsys_text.specs.Tokens.{kind_of, IsMarkByte, HasMarkByte, is_mark, IsWithin};
@@ -57,7 +58,7 @@ pub fn push_token(
     line: &[u8],
     cursor: Cursor,
 ) -> Result<Option<Cursor>, TextRefusal>
-    requires line { length line.now ≤ 65536 }
+    requires line { length line.now ≤ most_line_bytes }
     requires place { cursor.place ≤ length line.now }
     requires marks { All HasMarkByte found.old.items }
     requires places { All (IsWithin (length line.now)) found.old.items }
@@ -87,7 +88,7 @@ fn push_lexeme(
     mode: Mode,
     lexeme: Lexeme,
 ) -> Result<Cursor, AllocError>
-    requires { start + lexeme.more < 65536 }
+    requires { start + lexeme.more < most_line_bytes }
     ensures added { OnOk result (found.new.items ≡ found.old.items ++ placed lexeme start ∷ []) }
     ensures place { IfOk result (λ next. next.place ≡ start + 1 + lexeme.more) }
     ensures mode { IfOk result (λ next. mode_of next.mode ≡ next_mode (mode_of mode) (kind_of lexeme.kind)) }
