@@ -8,16 +8,18 @@ use Rattle.lsys_spec.specs.Meaning as M
 use Rattle.lsys_spec.specs.Refusals.{Reply, said, refused, session_end, is_passed_over, derivation_text, line_feed}
 use Rattle.lsys_spec.specs.ReadBack.{spelled_by}
 use Rattle.lsys_spec.specs.Replies as language
-use Rattle.lsys_spec.specs.Interim.{where_had, filtered, bare_reply, reply, refused_form}
+use Rattle.lsys_spec.specs.Interim.{is_had, where_had, filtered, bare_reply, reply, refused_form}
 use Rattle.lsys_syntax.specs.Tokens.{tokens}
 use Rattle.lsys_syntax.specs.Commands as spec_commands
 use Rattle.lsys_module.specs.declared.symbol.Symbol.{Symbol}
 use Rattle.lsys_rules.specs.Systems.{system_of}
-use Rattle.lsys_rules.specs.Commands.{command_of, kind_of_command}
-use Rattle.lsys_rules.specs.declared.command.Command.{Command}
-use Rattle.lsys_rules.specs.declared.command.CommandKind.TheVariants as kinds
-use Rattle.lsys_rules.specs.declared.refusal.Refusal.{Refusal}
-use Rattle.lsys_rules.specs.declared.refusal.Refusal.TheVariants as refusals
+use Rattle.lsys_reading.specs.Parted.{command_of}
+use Rattle.lsys_reading.specs.Parsing.{kind_of_command}
+use Rattle.lsys_rules.specs.Applying.{IsOffered}
+use Rattle.lsys_reading.specs.declared.command.Command.{Command}
+use Rattle.lsys_reading.specs.declared.command.CommandKind.TheVariants as kinds
+use Rattle.lsys_reading.specs.declared.refusal.Refusal.{Refusal}
+use Rattle.lsys_reading.specs.declared.refusal.Refusal.TheVariants as refusals
 use Rattle.lsys_flat.specs.Faults.{fault_of}
 use Rattle.lsys_flat.specs.Rows.{IsMeaning}
 use Rattle.lsys_cli.specs.declared.session.Session.{Session}
@@ -35,9 +37,15 @@ KeepsLevels s = AreLevels (system_of s.system) s.limit s.rows
 
 -- the command of the program that a line spells, or it spells none
 abbrev pub IsCommandOf : List ℕ → Result Command Refusal → Type 0
-IsCommandOf bare (Ok c) = where_had (spelled_by (tokens bare)) ≡ Some (command_of c)
-IsCommandOf bare (Err refusals.Form) = where_had (spelled_by (tokens bare)) ≡ None
+IsCommandOf bare (Ok c) = (where_had (spelled_by (tokens bare)) ≡ Some (command_of c)) × IsOffered c
 IsCommandOf bare (Err refusals.Memory) = Unit {0}
+IsCommandOf bare (Err e) = where_had (spelled_by (tokens bare)) ≡ None
+
+-- the same command, where the program has it
+abbrev pub IsOfferedOf : Command → Result Command Refusal → Type 0
+IsOfferedOf c (Ok d) = (d ≡ c) × IsOffered c
+IsOfferedOf c (Err refusals.Form) = is_had (command_of c) ≡ false
+IsOfferedOf c (Err e) = ⊥
 
 -- a level that is asked for by its number is there
 abbrev pub HasLevel : ℕ → Option ℕ → Type 0

@@ -8,16 +8,17 @@ ghost use Rattle.lsys_syntax.specs.Lines.{is_blank_line, is_comment};
 ghost use Rattle.lsys_syntax.specs.Strings.{string_text};
 ghost use Rattle.lsys_module.specs.Views.{string_of};
 ghost use Rattle.lsys_rules.specs.Systems.{system_of};
+ghost use Rattle.lsys_rules.specs.Applying.{IsOffered};
 ghost use Rattle.lsys_spec.specs.Systems.{opening};
 ghost use Rattle.lsys_spec.specs.Meaning.{OverLimit, FaultAt};
 ghost use Rattle.lsys_syntax.specs.Commands as commands;
 ghost use Rattle.lsys_flat.specs.Faults.{fault_of};
-ghost use Rattle.lsys_cli.specs.Sessions.{KeepsLevels, IsCommandOf, command_reply, IsResponse, IsEdit, ReplyIs, IsAnswer, Replies, refused_text};
+ghost use Rattle.lsys_cli.specs.Sessions.{KeepsLevels, IsCommandOf, IsOfferedOf, command_reply, IsResponse, IsEdit, ReplyIs, IsAnswer, Replies, refused_text};
 
 use lsys_flat::{DeriveRefusal, FaultKind, Rows, derive};
 use lsys_io::{Buffered, Failed, Sink};
 use lsys_module::{SymbolList, print_string};
-use lsys_rules::{Command, CommandKind, Refusal, System, apply, parse_command};
+use lsys_rules::{Command, CommandKind, Refusal, System, apply, is_offered, parse_command};
 use lsys_text::{TextRefusal, tokens};
 use std::alloc::{AllocError, Global};
 
@@ -188,27 +189,39 @@ fn is_blank(line: &[u8]) -> bool
     true
 }
 
-/// The command of a line.
+/// The command of a line, where the program has it.
 fn command_in(alloc: Global, line: &[u8]) -> Result<Command, Refusal>
     requires { length line.now ≤ most_line_bytes }
     ensures { IsCommandOf line.now result }
 {
     match tokens(alloc, line) {
-        Ok(found) => parse_command(alloc, &found, line.len() as u32),
+        Ok(found) => offered(parse_command(alloc, &found, line.len() as u32)?),
         Err(TextRefusal::Byte { column: _column }) => Err(Refusal::Form),
         Err(TextRefusal::Memory) => Err(Refusal::Memory),
     }
 }
 
+/// The command, where the program has it.
+fn offered(command: Command) -> Result<Command, Refusal>
+    ensures { IsOfferedOf command result }
+{
+    if is_offered(&command) {
+        Ok(command)
+    } else {
+        Err(Refusal::Form)
+    }
+}
+
 /// What an edit is answered.
 fn edited(alloc: Global, session: &Session, command: &Command) -> Answer
-    requires { IsEdit command.now }
+    requires edit { IsEdit command.now }
+    requires offered { IsOffered command.now }
     ensures { IsResponse session.now command.now result }
 {
     let system = match apply(alloc, &session.system, command) {
         Ok(system) => system,
-        Err(Refusal::Form) => return Answer::Form,
         Err(Refusal::Memory) => return Answer::Memory,
+        Err(_) => return Answer::Form,
     };
     match derive(alloc, &system, session.limit) {
         Ok(rows) => Answer::Edited { system, rows },
@@ -230,12 +243,14 @@ fn edited(alloc: Global, session: &Session, command: &Command) -> Answer
 
 /// What a command is answered.
 fn respond(alloc: Global, session: &Session, command: &Command) -> Answer
+    requires { IsOffered command.now }
     ensures { IsResponse session.now command.now result }
 {
     match command.kind() {
         CommandKind::Edit => edited(alloc, session, command),
         CommandKind::String { level } => printed(session, level),
         CommandKind::Quit => Answer::Quit,
+        CommandKind::Segments | CommandKind::Svg | CommandKind::Show => Answer::Form,
     }
 }
 
@@ -262,8 +277,8 @@ fn answer_to(alloc: Global, session: &Session, line: &[u8]) -> Answer
     }
     match command_in(alloc, line) {
         Ok(command) => respond(alloc, session, &command),
-        Err(Refusal::Form) => Answer::Form,
         Err(Refusal::Memory) => Answer::Memory,
+        Err(_) => Answer::Form,
     }
 }
 

@@ -1,19 +1,31 @@
+ghost use Rattle.std.specs.Prelude.{IfOk};
+ghost use Rattle.lsys_rules.specs.Applying.{IsOffered};
+
 use super::{DeriveRefusal, Rows, derive};
 use lsys_module::{Module, Symbol};
-use lsys_rules::{Command, System, apply, parse_command};
+use lsys_rules::{Command, System, apply, is_offered, parse_command};
 use lsys_text::tokens;
 use std::alloc::{AllocError, Global};
 use std::test::Fail;
 
 /// The command of a line.
-fn command_of(alloc: Global, line: &str) -> Result<Command, AllocError> {
+fn command_of(alloc: Global, line: &str) -> Result<Command, AllocError>
+    ensures { IfOk result IsOffered }
+{
     if line.len() > 65536 {
         return Err(AllocError);
     }
     let Ok(found) = tokens(alloc, line.as_bytes()) else {
         return Err(AllocError);
     };
-    parse_command(alloc, found.as_slice(), line.len() as u32).map_err(|_| AllocError)
+    let Ok(command) = parse_command(alloc, found.as_slice(), line.len() as u32) else {
+        return Err(AllocError);
+    };
+    if is_offered(&command) {
+        Ok(command)
+    } else {
+        Err(AllocError)
+    }
 }
 
 /// The system that these lines leave.

@@ -43,8 +43,9 @@ parts_command ks Svg = spec.print_svg
 parts_command ks Show = spec.print_system
 parts_command ks Quit = spec.quit
 
--- Every expression of a rule stands at its span.
+-- An axiom's string is one, and every expression of a rule stands at its span.
 abbrev pub AreParts : List Kind → Parts → Type 0
+AreParts ks Axiom = axiom_verdict ks ≡ sentence (spec.set_axiom (string_in (axiom_verdict ks)))
 AreParts ks (Production p) = IsRuleLine ks p.rule
 AreParts ks (Homomorphism p) = IsRuleLine ks p.rule
 AreParts ks p = Unit {0}

@@ -1,6 +1,6 @@
 -- What an edit does, from what was read and built.
-use Rattle.std.proofs.Common.{◌≡◌, ℕ, suc, ◌+◌, ◌<◌, ◌≤◌, Bool, true, false, ◌||◌, Option, Some, None, List, [], ◌∷◌, length, Ok, refl, ap, ap₂, sym, subst, ◌∙◌, arith}
-use Rattle.std.specs.Prelude.{is_some, unwrap_or}
+use Rattle.std.proofs.Common.{◌≡◌, ℕ, suc, ◌+◌, ◌<◌, ◌≤◌, Bool, true, false, ◌||◌, Option, Some, None, List, [], ◌∷◌, length, Ok, Err, refl, ap, ap₂, sym, subst, ◌∙◌, arith}
+use Rattle.std.specs.Prelude.{is_some, Result, IfOk, IfErr}
 use Rattle.std.proofs.lemmas.List.{length-map}
 use Rattle.std.specs.Option.{IsSome}
 use Rattle.lsys_syntax.specs.Limits.{most_params, most_successor_symbols, most_rule_tokens}
@@ -12,10 +12,10 @@ use Rattle.lsys_syntax.specs.Rules.{rule_pieces}
 use Rattle.lsys_syntax.specs.Rules as R
 use Rattle.lsys_syntax.specs.Checks.{rule_unknown, rule_repeated, rule_many}
 use Rattle.lsys_syntax.specs.Commands as spec
-use Rattle.lsys_syntax.specs.LineMachine.{Verdict, sentence, verdict, command_in, parse_command}
+use Rattle.lsys_syntax.specs.LineMachine.{Verdict, sentence, verdict}
 use Rattle.lsys_syntax.specs.Sentences.{AreTokens}
 use Rattle.lsys_syntax.proofs.LineSound.{sentence-spelled}
-use Rattle.lsys_spec.specs.Interim.{is_plain, is_had, only_if, where_had, had_command}
+use Rattle.lsys_spec.specs.Interim.{is_plain, is_plain_rule, is_had}
 use Rattle.lsys_spec.specs.Edits.{values_of, refusal, changed}
 use Rattle.lsys_spec.specs.Systems as spec_systems
 use Rattle.lsys_rules.specs.Checking.{is_many, condition_unknown, successor_unknown, repeats_after, condition_many, params_many, rule_passes, rule_refused}
@@ -30,11 +30,15 @@ use Rattle.lsys_module.specs.Building.{IsBuilt}
 use Rattle.lsys_rules.specs.declared.rule.Rule.{Rule}
 use Rattle.lsys_rules.specs.declared.system.System.{System}
 use Rattle.lsys_text.specs.Tokens.{kind_of, kinds_of}
-use Rattle.lsys_rules.specs.declared.rule_line.RuleLine.{RuleLine}
-use Rattle.lsys_rules.specs.declared.command.Parts.{Parts}
-use Rattle.lsys_rules.specs.declared.command.Parts.TheVariants.{Production}
-use Rattle.lsys_rules.specs.RuleLines.{rule_at}
-use Rattle.lsys_rules.specs.Commands.{command_of, parts_command, IsParted}
+use Rattle.lsys_reading.specs.declared.parts.LabeledRule.{LabeledRule}
+use Rattle.lsys_reading.specs.declared.parts.Parts.{Parts}
+use Rattle.lsys_reading.specs.declared.parts.Parts.TheVariants.{Axiom, Production, Depth, String, Quit}
+use Rattle.lsys_reading.specs.declared.refusal.Refusal.{Refusal}
+use Rattle.lsys_reading.specs.declared.refusal.Refusal.TheVariants.{Memory}
+use Rattle.lsys_reading.specs.RuleLines.{rule_at}
+use Rattle.lsys_reading.specs.Commands.{string_in, axiom_verdict, parts_command}
+use Rattle.lsys_reading.specs.Parted.{command_of, IsParted}
+use Rattle.lsys_rules.proofs.Plain.{plain-is, parted-command, had-production}
 use Rattle.lsys_rules.specs.Views.{rule_of}
 use Rattle.lsys_rules.specs.Systems.{system_of}
 use Rattle.lsys_rules.specs.Table.{with_rule}
@@ -78,6 +82,35 @@ module _ (n : ModuleName) (fs : List NameText) (c : Option Expr) (xs : List (Sym
   pub fits : rule_refused (plain_rule n fs c xs) ≡ false → rule_many 3 (plain_rule n fs c xs) ≡ None
   fits h = is-none (rule_many 3 (plain_rule n fs c xs)) (rule-many n fs c xs 3 ∙ passes-none h)
 
+-- the same, of a rule that is one
+module _ (r : R.Rule) (plain : is_plain_rule r ≡ true) where
+  abbrev bare : R.Rule
+  bare = plain_rule r.name r.formals r.condition r.successor
+
+  same-rule : bare ≡ r
+  same-rule = plain-is r plain
+
+  free-too : rule_refused r ≡ false → rule_refused bare ≡ false
+  free-too h = ap rule_refused same-rule ∙ h
+
+  pub plain-refused : (s : spec_systems.System) (l : List ℕ) → rule_refused r ≡ true → IsSome (refusal s (spec.put_production None l r))
+  plain-refused s l h = subst (λ q. IsSome (refusal s (spec.put_production None l q))) same-rule (refused-put r.name r.formals r.condition r.successor s l (ap rule_refused same-rule ∙ h))
+
+  pub plain-unknown-none : rule_refused r ≡ false → (condition_unknown r.formals r.condition || successor_unknown r.formals r.successor) ≡ false
+  plain-unknown-none h = unknown-none r.name r.formals r.condition r.successor (free-too h)
+
+  pub plain-known : rule_refused r ≡ false → rule_unknown 3 r ≡ None
+  plain-known h = ap (rule_unknown 3) (sym same-rule) ∙ known r.name r.formals r.condition r.successor (free-too h)
+
+  pub plain-once : rule_refused r ≡ false → rule_repeated 3 r ≡ None
+  plain-once h = ap (rule_repeated 3) (sym same-rule) ∙ once r.name r.formals r.condition r.successor (free-too h)
+
+  pub plain-passes-none : rule_refused r ≡ false → rule_passes r ≡ false
+  plain-passes-none h = ap rule_passes (sym same-rule) ∙ passes-none r.name r.formals r.condition r.successor (free-too h)
+
+  pub plain-fits : rule_refused r ≡ false → rule_many 3 r ≡ None
+  plain-fits h = ap (rule_many 3) (sym same-rule) ∙ fits r.name r.formals r.condition r.successor (free-too h)
+
 -- the parts of a rule that passes no limit
 pub passes-parts : (r : R.Rule) → rule_passes r ≡ false → (length r.formals ≤ most_params) × (params_many r.successor ≡ false)
 passes-parts r h =
@@ -95,37 +128,12 @@ plain-values (Push ∷ xs) = refl
 plain-values (Pop ∷ xs) = refl
 plain-values (Cut ∷ xs) = refl
 
-had-only : (b : Bool) (c d : spec.Command) → only_if b c ≡ Some d → (c ≡ d) × (b ≡ true)
-had-only true c d h = (cc, refl)
-had-only false c d h = cc
-
-had-command : (o : Option spec.Command) (c : spec.Command) → where_had o ≡ Some c → (o ≡ Some c) × (is_had c ≡ true)
-had-command None c h = cc
-had-command (Some d) c h =
-    let g = had-only (is_had d) d c h in
-    (ap Some g.0, ap is_had (sym g.0) ∙ g.1)
-
-is-sentence : (v : Verdict) (c : spec.Command) → command_in v ≡ Some c → v ≡ sentence c
-is-sentence (sentence d) c h = let same : d ≡ c = cc in ap sentence same
-is-sentence v c h = cc
-
--- an axiom that the program has is a plain string
-pub axiom-plain : (ks : List Kind) (xs : List (Symbol Signed)) → had_command ks ≡ Some (spec.set_axiom xs) → is_plain xs ≡ true
-axiom-plain ks xs h = (had-command (parse_command ks) (spec.set_axiom xs) h).1
-
 three : (ks : List Kind) → 3 + length ks ≡ suc (suc (suc (length ks)))
 three ks = omega arith
 
--- three tokens stand before a production's rule
-pub rule-tokens : (ks : List Kind) (l : List ℕ) (r : R.Rule) → AreTokens ks → had_command ks ≡ Some (spec.put_production None l r) → 3 + length (kinds_in (rule_pieces r)) ≡ length ks
-rule-tokens ks l r g h =
-    let c = spec.put_production None l r in
-    let s = sentence-spelled ks c g (is-sentence (verdict ks) c (had-command (parse_command ks) c h).0) in
-    three (kinds_in (rule_pieces r)) ∙ ap length s.0
-
-pub some-token : (ks : List Kind) (c : spec.Command) → had_command ks ≡ Some c → 0 < length ks
-some-token [] c h = cc
-some-token (k ∷ ks) c h = omega arith
+-- three tokens stand before the rule of a production of the main table
+rule-tokens : (ks : List Kind) (l : List ℕ) (r : R.Rule) → AreTokens ks → verdict ks ≡ sentence (spec.put_production None l r) → 3 + length (kinds_in (rule_pieces r)) ≡ length ks
+rule-tokens ks l r g e = three (kinds_in (rule_pieces r)) ∙ ap length (sentence-spelled ks (spec.put_production None l r) g e).0
 
 -- the axiom that was built has the values of the string that was read
 pub built-values : (ts : List Token) (xs : List (Symbol Signed)) (a : List CodeSymbol) (v : Verdict) → v ≡ sentence (spec.set_axiom xs) → IsBuilt 1 ts v (Ok a) → string_of a ≡ values_of xs
@@ -147,13 +155,42 @@ module _ (s : System) (q : Rule) (l : List ℕ) (r : R.Rule) (same : rule_of q �
       let over = subst (λ o. rule_many 3 o ≡ None) (sym same) m in
       (subst (λ c. refusal (system_of s) c ≡ None) put-is (put_accepted s q here twice over h), subst (λ c. system_of t ≡ changed (system_of s) c) put-is (rule_changed s t q a e p))
 
--- a production's parts
-module _ (ts : List Token) (p : Parts) (line : RuleLine) (parted : IsParted (kinds_of ts) p) (is : p ≡ Production line) where
-  spelled : had_command (kinds_of ts) ≡ Some (spec.put_production None line.label (rule_at (kinds_of ts) line))
-  spelled = parted.spelled ∙ ap (λ q. Some (parts_command (kinds_of ts) q)) is
+-- a production of the main table
+module _ (ts : List Token) (p : Parts) (line : LabeledRule) (parted : IsParted (kinds_of ts) p) (is : p ≡ Production line) (had : is_had (command_of ts) ≡ true) where
+  abbrev rule : R.Rule
+  rule = rule_at (kinds_of ts) line.rule
 
-  pub line-tokens : AreTokens (kinds_of ts) → 3 + length (kinds_in (rule_pieces (rule_at (kinds_of ts) line))) ≡ length ts
-  line-tokens g = rule-tokens (kinds_of ts) line.label (rule_at (kinds_of ts) line) g spelled ∙ length-map ts (λ t. kind_of t.kind)
+  told : (line.table ≡ None) × (is_plain_rule rule ≡ true)
+  told = had-production line.table line.label rule (sym (ap is_had (parted-command ts p (Production line) parted is)) ∙ had)
 
-  pub line-command : command_of ts ≡ spec.put_production None line.label (rule_at (kinds_of ts) line)
-  line-command = ap (λ o. unwrap_or o spec.quit) spelled
+  pub line-plain : is_plain_rule rule ≡ true
+  line-plain = told.1
+
+  pub line-tokens : AreTokens (kinds_of ts) → 3 + length (kinds_in (rule_pieces rule)) ≡ length ts
+  line-tokens g =
+      rule-tokens (kinds_of ts) line.label rule g (parted.spelled ∙ ap (λ q. sentence (parts_command (kinds_of ts) q)) is ∙ ap (λ t. sentence (spec.put_production t line.label rule)) told.0)
+      ∙ length-map ts (λ t. kind_of t.kind)
+
+  pub line-command : command_of ts ≡ spec.put_production None line.label rule
+  line-command = parted-command ts p (Production line) parted is ∙ ap (λ t. spec.put_production t line.label rule) told.0
+
+-- an axiom of the program
+module _ (ts : List Token) (p : Parts) (parted : IsParted (kinds_of ts) p) (is : p ≡ Axiom) (had : is_had (command_of ts) ≡ true) where
+  pub axiom-command : command_of ts ≡ spec.set_axiom (string_in (axiom_verdict (kinds_of ts)))
+  axiom-command = parted-command ts p Axiom parted is
+
+  pub axiom-is-plain : is_plain (string_in (axiom_verdict (kinds_of ts))) ≡ true
+  axiom-is-plain = sym (ap is_had axiom-command) ∙ had
+
+-- of the other parts the program has the end of a session alone
+pub others-quit : (ks : List Kind) (p : Parts) → is_had (parts_command ks p) ≡ true → (p ≡ Axiom → ⊥) → ((l : LabeledRule) → p ≡ Production l → ⊥) → ((n : ℕ) → p ≡ Depth n → ⊥) → ((t : Option ℕ) → p ≡ String t → ⊥) → parts_command ks p ≡ spec.quit
+others-quit ks Axiom h a b c d = absurd (a refl)
+others-quit ks (Production l) h a b c d = absurd (b l refl)
+others-quit ks (Depth n) h a b c d = absurd (c n refl)
+others-quit ks (String t) h a b c d = absurd (d t refl)
+others-quit ks Quit h a b c d = refl
+others-quit ks p h a b c d = cc
+
+pub copied-quit : (s : System) (r : Result System Refusal) → IfOk r (λ t. t ≡ s) → IfErr r (λ e. e ≡ Memory) → IsApplied (system_of s) spec.quit r
+copied-quit s (Ok t) h g = (refl, ap system_of h)
+copied-quit s (Err e) h g = subst (λ x. IsApplied (system_of s) spec.quit (Err x)) (sym g) tt

@@ -7,15 +7,19 @@ use Rattle.std.proofs.lemmas.List.{get_or_default, length-map}
 use Rattle.lsys_syntax.specs.Tokens.{NameText, Kind}
 use Rattle.lsys_syntax.specs.Checks.{is_unknown}
 use Rattle.lsys_expr.specs.Expression.{Expression}
-use Rattle.lsys_rules.specs.declared.rule_line.Span.{Span}
-use Rattle.lsys_rules.specs.declared.rule_line.ModuleLine.{ModuleLine}
+use Rattle.lsys_reading.specs.declared.span.Span.{Span}
+use Rattle.lsys_spec.specs.Interim.{is_plain}
+use Rattle.lsys_syntax.specs.Limits.{most_params}
+use Rattle.lsys_reading.specs.declared.images.Image.{Image}
+use Rattle.lsys_reading.specs.declared.images.Image.TheVariants as images
 use Rattle.lsys_rules.specs.declared.body.Template.{Template}
 use Rattle.lsys_rules.specs.Built.{HasTree, HaveTrees, TemplateHasTrees, TemplatesHaveTrees}
-use Rattle.lsys_rules.specs.RuleLines.{part, expr_at, params_at, modules_at, condition_at, AreSpans, AreModules, ConditionIsSpan}
+use Rattle.lsys_reading.specs.Spans.{part, expr_at, option_at, AreSpans, ConditionIsSpan}
+use Rattle.lsys_reading.specs.Images.{params_at, images_at, ImagesAreAt}
 use Rattle.lsys_rules.specs.Checking.{names_unknown, any_unknown, condition_unknown, successor_unknown, is_many, any_many, params_many}
 use Rattle.lsys_rules.specs.Building.{CanBuild, CanBuildAll, CanBuildModule, CanBuildModules, CanBuildCondition}
 use Rattle.lsys_rules.proofs.LineItems.{position-any}
-use Rattle.lsys_rules.proofs.Reversals.{map-push}
+use Rattle.lsys_reading.proofs.Reversals.{map-push}
 use Rattle.lsys_rules.proofs.Searches.{drop-here}
 
 pub neither-of : (a b : Bool) → (a || b) ≡ false → (a ≡ false) × (b ≡ false)
@@ -39,7 +43,7 @@ can-get fs ks [] i d a h = absurd (omega arith)
 can-get fs ks (s ∷ ss) zero d a h = a.0
 can-get fs ks (s ∷ ss) (suc i) d a h = can-get fs ks ss i d a.1 (omega arith)
 
-pub can-item : (fs : List NameText) (ks : List Kind) (ms : List ModuleLine) (i : ℕ) (m : ModuleLine) → CanBuildModules fs ks ms → i < length ms → m ≡ get_or ms i m → CanBuildModule fs ks m
+pub can-item : (fs : List NameText) (ks : List Kind) (ms : List Image) (i : ℕ) (m : Image) → CanBuildModules fs ks ms → i < length ms → m ≡ get_or ms i m → CanBuildModule fs ks m
 can-item fs ks [] i m a h e = absurd (omega arith)
 can-item fs ks (x ∷ ms) zero m a h e = subst (CanBuildModule fs ks) (sym e) a.0
 can-item fs ks (x ∷ ms) (suc i) m a h e = can-item fs ks ms i m a.1 (omega arith) e
@@ -71,15 +75,18 @@ can-all fs ks (s ∷ ss) h u =
     let v = neither-of (names_unknown fs (expr_at ks s)) (any_unknown fs (params_at ks ss)) u in
     ((h.0, v.0), can-all fs ks ss h.1 v.1)
 
-pub can-condition : (fs : List NameText) (ks : List Kind) (c : Option Span) → ConditionIsSpan ks c → condition_unknown fs (condition_at ks c) ≡ false → CanBuildCondition fs ks c
+pub can-condition : (fs : List NameText) (ks : List Kind) (c : Option Span) → ConditionIsSpan ks c → condition_unknown fs (option_at ks c) ≡ false → CanBuildCondition fs ks c
 can-condition fs ks None h u = tt
 can-condition fs ks (Some s) h u = (h, u)
 
-pub can-modules : (fs : List NameText) (ks : List Kind) (ms : List ModuleLine) → AreModules ks ms → successor_unknown fs (modules_at ks ms) ≡ false → params_many (modules_at ks ms) ≡ false
+pub can-modules : (fs : List NameText) (ks : List Kind) (ms : List Image) → ImagesAreAt ks ms → is_plain (images_at ks ms) ≡ true → successor_unknown fs (images_at ks ms) ≡ false → params_many (images_at ks ms) ≡ false
     → CanBuildModules fs ks ms
-can-modules fs ks [] h u l = tt
-can-modules fs ks (m ∷ ms) h u l =
-    let v = neither-of (any_unknown fs (params_at ks m.params.items)) (successor_unknown fs (modules_at ks ms)) u in
-    let w = neither-of (is_many 8 (length (params_at ks m.params.items)) || any_many (params_at ks m.params.items)) (params_many (modules_at ks ms)) l in
-    let x = neither-of (is_many 8 (length (params_at ks m.params.items))) (any_many (params_at ks m.params.items)) w.0 in
-    ((can-all fs ks m.params.items h.0 v.0, at-most 8 (length m.params.items) (ap (λ n. is_many 8 n) (sym (length-map m.params.items (expr_at ks))) ∙ x.0)), can-modules fs ks ms h.1 v.1 w.1)
+can-modules fs ks [] h p u l = tt
+can-modules fs ks (images.Module m ∷ ms) h p u l =
+    let v = neither-of (any_unknown fs (params_at ks m.params.items)) (successor_unknown fs (images_at ks ms)) u in
+    let w = neither-of (is_many most_params (length (params_at ks m.params.items)) || any_many (params_at ks m.params.items)) (params_many (images_at ks ms)) l in
+    let x = neither-of (is_many most_params (length (params_at ks m.params.items))) (any_many (params_at ks m.params.items)) w.0 in
+    ((can-all fs ks m.params.items h.0 v.0, at-most most_params (length m.params.items) (ap (λ n. is_many most_params n) (sym (length-map m.params.items (expr_at ks))) ∙ x.0)), can-modules fs ks ms h.1 p v.1 w.1)
+can-modules fs ks (images.Push ∷ ms) h p u l = cc
+can-modules fs ks (images.Pop ∷ ms) h p u l = cc
+can-modules fs ks (images.Cut ∷ ms) h p u l = cc

@@ -1,13 +1,14 @@
--- The spans and modules of a rule's line, one by one.
+-- The spans and symbols of a rule's line, one by one.
 use Rattle.std.proofs.Common.{◌≡◌, ℕ, zero, suc, ◌+◌, ◌<◌, Bool, true, false, ◌||◌, Option, Some, None, List, [], ◌∷◌, length, get_or, refl, ap, sym, subst, ◌∙◌, arith, cond}
 use Rattle.std.proofs.lemmas.Iterator.Adapters.{position_from-zero}
 use Rattle.std.specs.Prelude.{is_some, position, option_map}
 use Rattle.std.specs.List.{list_any, position_from}
 use Rattle.lsys_syntax.specs.Tokens.{NameText, Kind}
 use Rattle.lsys_syntax.specs.Checks.{is_unknown}
-use Rattle.lsys_rules.specs.declared.rule_line.Span.{Span}
-use Rattle.lsys_rules.specs.declared.rule_line.ModuleLine.{ModuleLine}
-use Rattle.lsys_rules.specs.RuleLines.{part, expr_at, IsSpan, AreSpans, AreModules}
+use Rattle.lsys_reading.specs.declared.span.Span.{Span}
+use Rattle.lsys_reading.specs.declared.images.Image.{Image}
+use Rattle.lsys_reading.specs.Spans.{part, expr_at, IsSpan, AreSpans}
+use Rattle.lsys_reading.specs.Images.{ImageIsAt, ImagesAreAt}
 use Rattle.lsys_rules.specs.Checking.{names_unknown}
 
 pub span-item : (ks : List Kind) (ss : List Span) (i : ℕ) (s : Span) → AreSpans ks ss → i < length ss → s ≡ get_or ss i s → IsSpan ks s
@@ -15,10 +16,10 @@ span-item ks [] i s a h e = absurd (omega arith)
 span-item ks (t ∷ ss) zero s a h e = subst (IsSpan ks) (sym e) a.0
 span-item ks (t ∷ ss) (suc i) s a h e = span-item ks ss i s a.1 (omega arith) e
 
-pub module-item : (ks : List Kind) (ms : List ModuleLine) (i : ℕ) (m : ModuleLine) → AreModules ks ms → i < length ms → m ≡ get_or ms i m → AreSpans ks m.params.items
-module-item ks [] i m a h e = absurd (omega arith)
-module-item ks (x ∷ ms) zero m a h e = subst (λ (y : ModuleLine). AreSpans ks y.params.items) (sym e) a.0
-module-item ks (x ∷ ms) (suc i) m a h e = module-item ks ms i m a.1 (omega arith) e
+pub image-item : (ks : List Kind) (ms : List Image) (i : ℕ) (m : Image) → ImagesAreAt ks ms → i < length ms → m ≡ get_or ms i m → ImageIsAt ks m
+image-item ks [] i m a h e = absurd (omega arith)
+image-item ks (x ∷ ms) zero m a h e = subst (ImageIsAt ks) (sym e) a.0
+image-item ks (x ∷ ms) (suc i) m a h e = image-item ks ms i m a.1 (omega arith) e
 
 pub span-get : (ks : List Kind) (ss : List Span) (i : ℕ) (d : Span) → AreSpans ks ss → i < length ss → IsSpan ks (get_or ss i d)
 span-get ks [] i d a h = absurd (omega arith)

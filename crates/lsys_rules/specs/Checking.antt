@@ -22,10 +22,13 @@ abbrev pub condition_unknown : List NameText → Option Expr → Bool
 condition_unknown fs None = false
 condition_unknown fs (Some e) = names_unknown fs e
 
+abbrev pub image_unknown : List NameText → Symbol Expr → Bool
+image_unknown fs (Module n es) = any_unknown fs es
+image_unknown fs x = false
+
 abbrev pub successor_unknown : List NameText → List (Symbol Expr) → Bool
 successor_unknown fs [] = false
-successor_unknown fs (Module n es ∷ xs) = any_unknown fs es || successor_unknown fs xs
-successor_unknown fs (x ∷ xs) = successor_unknown fs xs
+successor_unknown fs (x ∷ xs) = image_unknown fs x || successor_unknown fs xs
 
 -- a formal stands among those before it
 abbrev pub repeats_after : List NameText → List NameText → Bool
@@ -47,10 +50,13 @@ condition_many None = false
 condition_many (Some e) = expr_many e
 
 -- a module has too many parameters, or one of them has too many tokens
+abbrev pub image_many : Symbol Expr → Bool
+image_many (Module n es) = is_many most_params (length es) || any_many es
+image_many x = false
+
 abbrev pub params_many : List (Symbol Expr) → Bool
 params_many [] = false
-params_many (Module n es ∷ xs) = (is_many most_params (length es) || any_many es) || params_many xs
-params_many (x ∷ xs) = params_many xs
+params_many (x ∷ xs) = image_many x || params_many xs
 
 -- more formals or parameters than a module may have, tokens than an expression may, symbols than a successor may, or
 -- tokens than a rule may

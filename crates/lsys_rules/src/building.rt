@@ -1,18 +1,22 @@
 //! Rules built from the places of their parts.
-ghost use Rattle.std.specs.Prelude.{◌≡◌, ◌≤◌, length, map, IfOk};
+ghost use Rattle.std.specs.Prelude.{◌≡◌, true, ◌≤◌, length, map, IfOk};
 ghost use Rattle.std.specs.Option.{option_map};
 ghost use Rattle.lsys_syntax.specs.Limits.{most_params};
+ghost use Rattle.lsys_spec.specs.Interim.{is_plain_rule};
 ghost use Rattle.lsys_text.specs.Tokens.{kinds_of, name_of};
+ghost use Rattle.lsys_reading.specs.Heads.{formals_of};
 ghost use Rattle.lsys_rules.specs.Views.{spelled, template_of, rule_of};
 ghost use Rattle.lsys_rules.specs.Built.{HasTree, HaveTrees, ConditionHasTree, TemplateHasTrees, TemplatesHaveTrees, IsBuilt};
-ghost use Rattle.lsys_rules.specs.RuleLines.{expr_at, params_at, module_at, modules_at, condition_at, rule_at};
+ghost use Rattle.lsys_reading.specs.Spans.{expr_at, option_at};
+ghost use Rattle.lsys_reading.specs.Images.{params_at, image_at, images_at};
+ghost use Rattle.lsys_reading.specs.RuleLines.{rule_at};
 ghost use Rattle.lsys_rules.specs.Building.{CanBuild, CanBuildAll, CanBuildModule, CanBuildModules, CanBuildCondition};
 
 use crate::body::{Body, SharedBody, Template};
 use crate::names::NameList;
 use crate::rule::{Pattern, Rule};
-use crate::rule_line::{ModuleLine, RuleLine, Span};
 use lsys_expr::{Expr, build_expr};
+use lsys_reading::{Image, LabeledRule, Span};
 use lsys_text::{Name, Token};
 use std::alloc::{AllocError, Global};
 
@@ -20,25 +24,27 @@ use std::alloc::{AllocError, Global};
 pub(crate) fn build_rule(
     alloc: Global,
     tokens: &[Token],
-    line: &RuleLine,
+    labeled: &LabeledRule,
 ) -> Result<Rule, AllocError>
-    requires condition { CanBuildCondition (map name_of line.now.formals.items) (kinds_of tokens.now) line.now.condition }
-    requires successor { CanBuildModules (map name_of line.now.formals.items) (kinds_of tokens.now) line.now.successor.items }
-    requires few { length line.now.formals.items ≤ most_params }
-    ensures label { IfOk result (λ r. r.label ≡ line.now.label) }
-    ensures rule { IfOk result (λ r. rule_of r ≡ rule_at (kinds_of tokens.now) line.now) }
+    requires condition { CanBuildCondition (formals_of labeled.now.rule.predecessor) (kinds_of tokens.now) labeled.now.rule.condition }
+    requires successor { CanBuildModules (formals_of labeled.now.rule.predecessor) (kinds_of tokens.now) labeled.now.rule.successor.items }
+    requires few { length labeled.now.rule.predecessor.formals.items ≤ most_params }
+    requires plain { is_plain_rule (rule_at (kinds_of tokens.now) labeled.now.rule) ≡ true }
+    ensures label { IfOk result (λ r. r.label ≡ labeled.now.label) }
+    ensures rule { IfOk result (λ r. rule_of r ≡ rule_at (kinds_of tokens.now) labeled.now.rule) }
     ensures built { IfOk result IsBuilt }
 {
-    let formals = NameList::of(alloc, &line.formals)?;
+    let rule = &labeled.rule;
+    let formals = &rule.predecessor.formals;
     let body = Body {
-        condition: condition(alloc, tokens, line.condition, &line.formals)?,
-        successor: templates(alloc, tokens, &line.successor, &line.formals)?,
+        condition: condition(alloc, tokens, rule.condition, formals)?,
+        successor: templates(alloc, tokens, &rule.successor, formals)?,
     };
     Ok(Rule {
-        label: line.label,
+        label: labeled.label,
         pred: Pattern {
-            name: line.name,
-            formals,
+            name: rule.predecessor.name,
+            formals: NameList::of(alloc, formals)?,
         },
         body: SharedBody::new(alloc, body)?,
     })
@@ -52,7 +58,7 @@ fn condition(
 ) -> Result<Option<Expr>, AllocError>
     requires known { CanBuildCondition (map name_of formals.now) (kinds_of tokens.now) condition }
     requires few { length formals.now ≤ most_params }
-    ensures spelled { IfOk result (λ c. option_map spelled c ≡ condition_at (kinds_of tokens.now) condition) }
+    ensures spelled { IfOk result (λ c. option_map spelled c ≡ option_at (kinds_of tokens.now) condition) }
     ensures tree { IfOk result (λ c. ConditionHasTree (map name_of formals.now) c) }
 {
     match condition {
@@ -64,17 +70,17 @@ fn condition(
 fn templates(
     alloc: Global,
     tokens: &[Token],
-    modules: &[ModuleLine],
+    images: &[Image],
     formals: &[Name],
 ) -> Result<Vec<Template>, AllocError>
-    requires known { CanBuildModules (map name_of formals.now) (kinds_of tokens.now) modules.now }
+    requires known { CanBuildModules (map name_of formals.now) (kinds_of tokens.now) images.now }
     requires few { length formals.now ≤ most_params }
-    ensures spelled { IfOk result (λ v. map template_of v.items ≡ modules_at (kinds_of tokens.now) modules.now) }
+    ensures spelled { IfOk result (λ v. map template_of v.items ≡ images_at (kinds_of tokens.now) images.now) }
     ensures trees { IfOk result (λ v. TemplatesHaveTrees (map name_of formals.now) v.items) }
 {
     let mut templates = Vec::new(alloc);
-    for module in modules {
-        templates.push(template(alloc, tokens, module, formals)?)?;
+    for image in images {
+        templates.push(template(alloc, tokens, image, formals)?)?;
     }
     Ok(templates)
 }
@@ -82,18 +88,23 @@ fn templates(
 fn template(
     alloc: Global,
     tokens: &[Token],
-    line: &ModuleLine,
+    image: &Image,
     formals: &[Name],
 ) -> Result<Template, AllocError>
-    requires known { CanBuildModule (map name_of formals.now) (kinds_of tokens.now) line.now }
+    requires known { CanBuildModule (map name_of formals.now) (kinds_of tokens.now) image.now }
     requires few { length formals.now ≤ most_params }
-    ensures spelled { IfOk result (λ t. template_of t ≡ module_at (kinds_of tokens.now) line.now) }
+    ensures spelled { IfOk result (λ t. template_of t ≡ image_at (kinds_of tokens.now) image.now) }
     ensures trees { IfOk result (λ t. TemplateHasTrees (map name_of formals.now) t) }
 {
-    Ok(Template::Module {
-        name: line.name,
-        params: params(alloc, tokens, &line.params, formals)?,
-    })
+    match image {
+        Image::Module(module) => Ok(Template::Module {
+            name: module.name,
+            params: params(alloc, tokens, &module.params, formals)?,
+        }),
+        Image::Push => Ok(Template::Push),
+        Image::Pop => Ok(Template::Pop),
+        Image::Cut => Ok(Template::Cut),
+    }
 }
 
 fn params(

@@ -3,11 +3,13 @@ ghost use Rattle.std.specs.Prelude.{◌≡◌, ◌||◌, ◌+◌, ◌≤◌, len
 ghost use Rattle.lsys_syntax.specs.Pieces.{kinds_of as kinds_in};
 ghost use Rattle.lsys_syntax.specs.Rules.{rule_pieces};
 ghost use Rattle.lsys_text.specs.Tokens.{kinds_of, name_of};
-ghost use Rattle.lsys_rules.specs.Checking.{names_unknown, any_unknown, condition_unknown, successor_unknown, repeats_after, expr_many, any_many, condition_many, params_many, rule_passes, rule_refused};
-ghost use Rattle.lsys_rules.specs.RuleLines.{expr_at, IsSpan, AreSpans, AreModules, ConditionIsSpan, params_at, modules_at, condition_at, rule_at, IsRuleLine};
+ghost use Rattle.lsys_rules.specs.Checking.{names_unknown, any_unknown, image_unknown, condition_unknown, successor_unknown, repeats_after, expr_many, any_many, image_many, condition_many, params_many, rule_passes, rule_refused};
+ghost use Rattle.lsys_reading.specs.Spans.{expr_at, IsSpan, AreSpans, ConditionIsSpan, option_at};
+ghost use Rattle.lsys_reading.specs.Images.{ImageIsAt, ImagesAreAt, params_at, image_at, images_at};
+ghost use Rattle.lsys_reading.specs.RuleLines.{rule_at, IsRuleLine};
 
-use crate::rule_line::{ModuleLine, RuleLine, Span};
 use lsys_expr::{check_names, is_formal};
+use lsys_reading::{Image, RuleLine, Span};
 use lsys_text::{Name, Token};
 
 /// The most tokens of an expression.
@@ -29,22 +31,24 @@ pub(crate) fn is_refused(tokens: &[Token], line: &RuleLine) -> bool
     requires spelled { 3 + length (kinds_in (rule_pieces (rule_at (kinds_of tokens.now) line.now))) ≡ length tokens.now }
     ensures { result ≡ rule_refused (rule_at (kinds_of tokens.now) line.now) }
 {
-    has_unknown(tokens, line) || has_repeated(&line.formals) || passes_limit(tokens, line)
+    has_unknown(tokens, line)
+        || has_repeated(&line.predecessor.formals)
+        || passes_limit(tokens, line)
 }
 
 // Whether a name in the rule's expressions is no formal of it.
 fn has_unknown(tokens: &[Token], line: &RuleLine) -> bool
     requires { IsRuleLine (kinds_of tokens.now) line.now }
-    ensures { result ≡ condition_unknown (map name_of line.now.formals.items) (condition_at (kinds_of tokens.now) line.now.condition)
-        || successor_unknown (map name_of line.now.formals.items) (modules_at (kinds_of tokens.now) line.now.successor.items) }
+    ensures { result ≡ condition_unknown (map name_of line.now.predecessor.formals.items) (option_at (kinds_of tokens.now) line.now.condition)
+        || successor_unknown (map name_of line.now.predecessor.formals.items) (images_at (kinds_of tokens.now) line.now.successor.items) }
 {
-    condition_unknown(tokens, line.condition, &line.formals)
-        || successor_unknown(tokens, &line.successor, &line.formals)
+    condition_unknown(tokens, line.condition, &line.predecessor.formals)
+        || successor_unknown(tokens, &line.successor, &line.predecessor.formals)
 }
 
 fn condition_unknown(tokens: &[Token], condition: Option<Span>, formals: &[Name]) -> bool
     requires { ConditionIsSpan (kinds_of tokens.now) condition }
-    ensures { result ≡ condition_unknown (map name_of formals.now) (condition_at (kinds_of tokens.now) condition) }
+    ensures { result ≡ condition_unknown (map name_of formals.now) (option_at (kinds_of tokens.now) condition) }
 {
     match condition {
         Some(span) => names_unknown(tokens, span, formals),
@@ -52,16 +56,26 @@ fn condition_unknown(tokens: &[Token], condition: Option<Span>, formals: &[Name]
     }
 }
 
-fn successor_unknown(tokens: &[Token], modules: &[ModuleLine], formals: &[Name]) -> bool
-    requires { AreModules (kinds_of tokens.now) modules.now }
-    ensures { result ≡ successor_unknown (map name_of formals.now) (modules_at (kinds_of tokens.now) modules.now) }
+fn successor_unknown(tokens: &[Token], images: &[Image], formals: &[Name]) -> bool
+    requires { ImagesAreAt (kinds_of tokens.now) images.now }
+    ensures { result ≡ successor_unknown (map name_of formals.now) (images_at (kinds_of tokens.now) images.now) }
 {
-    for module in modules {
-        if any_unknown(tokens, &module.params, formals) {
+    for image in images {
+        if image_unknown(tokens, image, formals) {
             return true;
         }
     }
     false
+}
+
+fn image_unknown(tokens: &[Token], image: &Image, formals: &[Name]) -> bool
+    requires { ImageIsAt (kinds_of tokens.now) image.now }
+    ensures { result ≡ image_unknown (map name_of formals.now) (image_at (kinds_of tokens.now) image.now) }
+{
+    match image {
+        Image::Module(module) => any_unknown(tokens, &module.params, formals),
+        _ => false,
+    }
 }
 
 fn any_unknown(tokens: &[Token], spans: &[Span], formals: &[Name]) -> bool
@@ -101,7 +115,7 @@ fn passes_limit(tokens: &[Token], line: &RuleLine) -> bool
     requires spelled { 3 + length (kinds_in (rule_pieces (rule_at (kinds_of tokens.now) line.now))) ≡ length tokens.now }
     ensures { result ≡ rule_passes (rule_at (kinds_of tokens.now) line.now) }
 {
-    line.formals.len() > MOST_PARAMS
+    line.predecessor.formals.len() > MOST_PARAMS
         || condition_many(tokens, line.condition)
         || line.successor.len() > MOST_SUCCESSOR_SYMBOLS
         || params_many(tokens, &line.successor)
@@ -110,7 +124,7 @@ fn passes_limit(tokens: &[Token], line: &RuleLine) -> bool
 
 fn condition_many(tokens: &[Token], condition: Option<Span>) -> bool
     requires { ConditionIsSpan (kinds_of tokens.now) condition }
-    ensures { result ≡ condition_many (condition_at (kinds_of tokens.now) condition) }
+    ensures { result ≡ condition_many (option_at (kinds_of tokens.now) condition) }
 {
     match condition {
         Some(span) => is_long(tokens, span),
@@ -118,16 +132,29 @@ fn condition_many(tokens: &[Token], condition: Option<Span>) -> bool
     }
 }
 
-fn params_many(tokens: &[Token], modules: &[ModuleLine]) -> bool
-    requires { AreModules (kinds_of tokens.now) modules.now }
-    ensures { result ≡ params_many (modules_at (kinds_of tokens.now) modules.now) }
+fn params_many(tokens: &[Token], images: &[Image]) -> bool
+    requires { ImagesAreAt (kinds_of tokens.now) images.now }
+    ensures { result ≡ params_many (images_at (kinds_of tokens.now) images.now) }
 {
-    for module in modules {
-        if module.params.len() > MOST_PARAMS || any_many(tokens, &module.params) {
+    for image in images {
+        if image_many(tokens, image) {
             return true;
         }
     }
     false
+}
+
+// Whether a symbol has too many parameters, or one that is too long.
+fn image_many(tokens: &[Token], image: &Image) -> bool
+    requires { ImageIsAt (kinds_of tokens.now) image.now }
+    ensures { result ≡ image_many (image_at (kinds_of tokens.now) image.now) }
+{
+    match image {
+        Image::Module(module) => {
+            module.params.len() > MOST_PARAMS || any_many(tokens, &module.params)
+        }
+        _ => false,
+    }
 }
 
 fn any_many(tokens: &[Token], spans: &[Span]) -> bool

@@ -5,22 +5,21 @@ ghost use Rattle.lsys_syntax.specs.LineMachine.{sentence};
 ghost use Rattle.lsys_syntax.specs.Pieces.{kinds_of as kinds_in};
 ghost use Rattle.lsys_syntax.specs.Rules.{rule_pieces};
 ghost use Rattle.lsys_syntax.specs.Sentences.{AreTokens};
-ghost use Rattle.lsys_spec.specs.Interim.{is_plain};
+ghost use Rattle.lsys_spec.specs.Interim.{is_plain, is_plain_rule};
 ghost use Rattle.lsys_text.specs.Tokens.{kinds_of};
 ghost use Rattle.lsys_module.specs.Building.{AreOfLine};
 ghost use Rattle.lsys_rules.specs.Systems.{system_of};
-ghost use Rattle.lsys_rules.specs.RuleLines.{rule_at, IsRuleLine};
-ghost use Rattle.lsys_rules.specs.Commands.{command_of, string_in, axiom_verdict};
+ghost use Rattle.lsys_reading.specs.RuleLines.{rule_at, IsRuleLine};
+ghost use Rattle.lsys_reading.specs.Parted.{command_of};
+ghost use Rattle.lsys_reading.specs.Commands.{string_in, axiom_verdict};
 ghost use Rattle.lsys_rules.specs.Checking.{rule_refused};
-ghost use Rattle.lsys_rules.specs.Applying.{IsApplied};
+ghost use Rattle.lsys_rules.specs.Applying.{IsApplied, IsOffered};
 
 use crate::building::build_rule;
 use crate::checks::is_refused;
-use crate::command::{Command, Parts};
-use crate::refusal::Refusal;
-use crate::rule_line::RuleLine;
 use crate::system::System;
 use lsys_module::build_string;
+use lsys_reading::{Command, LabeledRule, Parts, Refusal};
 use lsys_text::Token;
 use std::alloc::Global;
 
@@ -37,14 +36,16 @@ const MOST_LEVELS: u64 = 64;
 /// `Form` where a name of a rule's expressions is no formal of it, a formal stands twice, a limit would
 /// be passed or the level isn't there, and `Memory` is want of memory.
 pub fn apply(alloc: Global, system: &System, command: &Command) -> Result<System, Refusal>
+    requires offered { IsOffered command.now }
     ensures { IsApplied (system_of system.now) (command_of command.now) result }
 {
-    match &command.parts {
-        Parts::Axiom => with_axiom(alloc, system, &command.tokens),
-        Parts::Production(line) => with_rule(alloc, system, &command.tokens, line),
+    let tokens = command.tokens();
+    match command.parts() {
+        Parts::Axiom => with_axiom(alloc, system, tokens),
+        Parts::Production(labeled) => with_rule(alloc, system, tokens, labeled),
         Parts::Depth(depth) => with_depth(system, *depth),
         Parts::String(level) => with_query(system, *level),
-        Parts::Quit => copy_of(system),
+        _ => copy_of(system),
     }
 }
 
@@ -88,16 +89,17 @@ fn with_rule(
     alloc: Global,
     system: &System,
     tokens: &[Token],
-    line: &RuleLine,
+    labeled: &LabeledRule,
 ) -> Result<System, Refusal>
-    requires line { IsRuleLine (kinds_of tokens.now) line.now }
-    requires spelled { 3 + length (kinds_in (rule_pieces (rule_at (kinds_of tokens.now) line.now))) ≡ length tokens.now }
-    ensures { IsApplied (system_of system.now) (put_production None line.now.label (rule_at (kinds_of tokens.now) line.now)) result }
+    requires line { IsRuleLine (kinds_of tokens.now) labeled.now.rule }
+    requires plain { is_plain_rule (rule_at (kinds_of tokens.now) labeled.now.rule) ≡ true }
+    requires spelled { 3 + length (kinds_in (rule_pieces (rule_at (kinds_of tokens.now) labeled.now.rule))) ≡ length tokens.now }
+    ensures { IsApplied (system_of system.now) (put_production None labeled.now.label (rule_at (kinds_of tokens.now) labeled.now.rule)) result }
 {
-    if is_refused(tokens, line) {
+    if is_refused(tokens, &labeled.rule) {
         return Err(Refusal::Form);
     }
-    let rule = build_rule(alloc, tokens, line)?;
+    let rule = build_rule(alloc, tokens, labeled)?;
     let mut next = copy_of(system)?;
     next.rules.put(rule)?;
     if next.rules.rules().len() > MOST_RULES {

@@ -1,24 +1,33 @@
-use super::{Command, CommandKind, Refusal, System, Template, apply, parse_command};
+ghost use Rattle.std.specs.Prelude.{IfOk, IfSome};
+ghost use Rattle.lsys_rules.specs.Applying.{IsOffered};
+
+use super::{Command, CommandKind, Refusal, System, Template, apply, is_offered, parse_command};
 use lsys_text::tokens;
 use std::alloc::{AllocError, Global};
 use std::test::Fail;
 
-/// The command of a line, where its bytes are tokens.
-fn command_of(alloc: Global, line: &str) -> Result<Result<Command, Refusal>, AllocError> {
+/// The command of a line, where the program has it.
+fn command_of(alloc: Global, line: &str) -> Result<Option<Command>, AllocError>
+    ensures { IfOk result (λ o. IfSome o IsOffered) }
+{
     if line.len() > 65536 {
         return Err(AllocError);
     }
     let Ok(found) = tokens(alloc, line.as_bytes()) else {
         return Err(AllocError);
     };
-    Ok(parse_command(alloc, found.as_slice(), line.len() as u32))
+    match parse_command(alloc, found.as_slice(), line.len() as u32) {
+        Ok(command) if is_offered(&command) => Ok(Some(command)),
+        Err(Refusal::Memory) => Err(AllocError),
+        _ => Ok(None),
+    }
 }
 
 /// The system after lines that are all accepted.
 fn system_after(alloc: Global, lines: &[&str]) -> Result<System, AllocError> {
     let mut system = System::opening(alloc)?;
     for line in lines {
-        let Ok(command) = command_of(alloc, *line)? else {
+        let Some(command) = command_of(alloc, *line)? else {
             return Err(AllocError);
         };
         match apply(alloc, &system, &command) {
@@ -47,6 +56,9 @@ fn lines_and_what_they_are_for(rt: HostRuntime) -> Result<(), Fail> {
         ("production p: A => B [C]", None),
         ("production p: A < B => C", None),
         ("production main p: A => B", None),
+        ("hom h: A => B", None),
+        ("seed 1", None),
+        ("show", None),
         ("depth 64", Some(CommandKind::Edit)),
         ("depth", None),
         ("string", Some(CommandKind::String { level: None })),
@@ -58,8 +70,8 @@ fn lines_and_what_they_are_for(rt: HostRuntime) -> Result<(), Fail> {
     ];
     for (line, kind) in rows {
         let answered = match command_of(rt.alloc(), line)? {
-            Ok(command) => Some(command.kind()),
-            Err(_) => None,
+            Some(command) => Some(command.kind()),
+            None => None,
         };
         assert_eq!(rt; answered, kind, "{line:?}");
     }
@@ -106,8 +118,8 @@ fn commands_that_are_refused_by_themselves(rt: HostRuntime) -> Result<(), Fail> 
     ];
     for line in rows {
         let refused = match command_of(rt.alloc(), line)? {
-            Ok(command) => apply(rt.alloc(), &system, &command).is_err(),
-            Err(_) => false,
+            Some(command) => apply(rt.alloc(), &system, &command).is_err(),
+            None => false,
         };
         assert!(rt; refused, "{line:?}");
     }

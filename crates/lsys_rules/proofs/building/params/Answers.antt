@@ -1,7 +1,7 @@
 use Rattle.std.proofs.Common.{◌≡◌, ◌++◌, ◌∷◌, [], map, rules}
 use Rattle.lsys_text.specs.Tokens.{kinds_of, name_of}
 use Rattle.lsys_rules.specs.Views.{spelled}
-use Rattle.lsys_rules.specs.RuleLines.{expr_at}
+use Rattle.lsys_reading.specs.Spans.{expr_at}
 use Rattle.lsys_rules.proofs.Builds.{can-get, trees-push, built-get}
 use Rattle.lsys_rules.proofs.building.params.Goals as goal
 

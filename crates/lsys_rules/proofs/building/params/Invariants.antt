@@ -2,7 +2,7 @@ use Rattle.std.proofs.Common.{◌≡◌, ◌++◌, drop, map}
 use Rattle.lsys_text.specs.Tokens.{kinds_of, name_of}
 use Rattle.lsys_rules.specs.Views.{spelled}
 use Rattle.lsys_rules.specs.Built.{HaveTrees}
-use Rattle.lsys_rules.specs.RuleLines.{expr_at}
+use Rattle.lsys_reading.specs.Spans.{expr_at}
 use Rattle.lsys_rules.proofs.building.params.Given as goal
 
 abbrev pub invariant-loop-span : goal.invariant-loop-span

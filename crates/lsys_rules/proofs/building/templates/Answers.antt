@@ -1,17 +1,17 @@
 use Rattle.std.proofs.Common.{◌≡◌, ◌++◌, ◌∷◌, [], map, rules}
 use Rattle.lsys_text.specs.Tokens.{kinds_of, name_of}
 use Rattle.lsys_rules.specs.Views.{template_of}
-use Rattle.lsys_rules.specs.RuleLines.{module_at}
+use Rattle.lsys_reading.specs.Images.{image_at}
 use Rattle.lsys_rules.proofs.Builds.{can-item, templates-push, built-more}
 use Rattle.lsys_rules.proofs.building.templates.Goals as goal
 
 pub template-requires-clause-known : goal.template-requires-clause-known
-template-requires-clause-known c = can-item (map name_of c.args.formals.now) (kinds_of c.args.tokens.now) c.args.modules.now c.loop-module.module-index c.module-item.result c.requires.known c.loop-module-test.true c.module-item.is
+template-requires-clause-known c = can-item (map name_of c.args.formals.now) (kinds_of c.args.tokens.now) c.args.images.now c.loop-image.image-index c.image-item.result c.requires.known c.loop-image-test.true c.image-item.is
 
-pub loop-module-preserved : goal.loop-module-preserved
-loop-module-preserved c =
-    let pushed : c.push.new.self.items ≡ c.loop-module.templates.items ++ c.in_ok-template.field-0 ∷ [] = search rules in
+pub loop-image-preserved : goal.loop-image-preserved
+loop-image-preserved c =
+    let pushed : c.push.new.self.items ≡ c.loop-image.templates.items ++ c.in_ok-template.field-0 ∷ [] = search rules in
     rw pushed (record {
-      all = built-more template_of (module_at (kinds_of c.args.tokens.now)) c.loop-module.templates.items c.in_ok-template.field-0 c.args.modules.now c.loop-module.module-index c.module-item.result c.loop-module-test.true c.module-item.is c.in_ok-template.ensures.spelled c.loop-module.invariant.all;
-      trees = templates-push (map name_of c.args.formals.now) c.loop-module.templates.items c.in_ok-template.field-0 c.loop-module.invariant.trees c.in_ok-template.ensures.trees;
+      all = built-more template_of (image_at (kinds_of c.args.tokens.now)) c.loop-image.templates.items c.in_ok-template.field-0 c.args.images.now c.loop-image.image-index c.image-item.result c.loop-image-test.true c.image-item.is c.in_ok-template.ensures.spelled c.loop-image.invariant.all;
+      trees = templates-push (map name_of c.args.formals.now) c.loop-image.templates.items c.in_ok-template.field-0 c.loop-image.invariant.trees c.in_ok-template.ensures.trees;
     })

@@ -1,6 +1,6 @@
 use Rattle.std.proofs.Common.{◌≡◌, drop, map}
 use Rattle.lsys_text.specs.Tokens.{kinds_of, name_of}
-use Rattle.lsys_rules.specs.RuleLines.{params_at}
+use Rattle.lsys_reading.specs.Images.{params_at}
 use Rattle.lsys_rules.specs.Checking.{any_unknown}
 use Rattle.lsys_rules.proofs.checks.any_unknown.Given as goal
 

@@ -1,8 +1,6 @@
-use Rattle.std.proofs.Common.{sym, subst}
 use Rattle.lsys_text.specs.Tokens.{kinds_of}
-use Rattle.lsys_rules.specs.RuleLines.{AreSpans}
-use Rattle.lsys_rules.proofs.LineItems.{module-item}
+use Rattle.lsys_rules.proofs.LineItems.{image-item}
 use Rattle.lsys_rules.proofs.checks.params_many.Goals as goal
 
-pub any_many-requires : goal.any_many-requires
-any_many-requires c = subst (AreSpans (kinds_of c.args.tokens.now)) (sym c.deref.ensures.value) (module-item (kinds_of c.args.tokens.now) c.args.modules.now c.loop-module.module-index c.module-item.result c.requires c.loop-module-test.true c.module-item.is)
+pub image_many-requires : goal.image_many-requires
+image_many-requires c = image-item (kinds_of c.args.tokens.now) c.args.images.now c.loop-image.image-index c.image-item.result c.requires c.loop-image-test.true c.image-item.is

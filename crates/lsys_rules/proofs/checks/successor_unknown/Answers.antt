@@ -1,8 +1,6 @@
-use Rattle.std.proofs.Common.{sym, subst}
 use Rattle.lsys_text.specs.Tokens.{kinds_of}
-use Rattle.lsys_rules.specs.RuleLines.{AreSpans}
-use Rattle.lsys_rules.proofs.LineItems.{module-item}
+use Rattle.lsys_rules.proofs.LineItems.{image-item}
 use Rattle.lsys_rules.proofs.checks.successor_unknown.Goals as goal
 
-pub any_unknown-requires : goal.any_unknown-requires
-any_unknown-requires c = subst (AreSpans (kinds_of c.args.tokens.now)) (sym c.deref.ensures.value) (module-item (kinds_of c.args.tokens.now) c.args.modules.now c.loop-module.module-index c.module-item.result c.requires c.loop-module-test.true c.module-item.is)
+pub image_unknown-requires : goal.image_unknown-requires
+image_unknown-requires c = image-item (kinds_of c.args.tokens.now) c.args.images.now c.loop-image.image-index c.image-item.result c.requires c.loop-image-test.true c.image-item.is

@@ -2,7 +2,7 @@ use Rattle.std.proofs.Common.{ap, ◌∙◌}
 use Rattle.lsys_spec.specs.Interim.{is_plain}
 use Rattle.lsys_text.specs.Tokens.{kinds_of}
 use Rattle.lsys_module.specs.Scanning.{string_verdict}
-use Rattle.lsys_rules.specs.Commands.{string_in, axiom_verdict}
+use Rattle.lsys_reading.specs.Commands.{string_in, axiom_verdict}
 use Rattle.lsys_rules.proofs.Applied.{plain-values, built-values}
 use Rattle.lsys_rules.proofs.edit.with_axiom.Goals as goal
 

@@ -1,10 +1,6 @@
-use Rattle.std.proofs.Common.{length}
 use Rattle.lsys_text.proofs.LineTokens.{line-forms}
 use Rattle.lsys_rules.proofs.tests.command_of.Goals as goal
 
 pub parse_command-requires-clause-forms : goal.parse_command-requires-clause-forms
 parse_command-requires-clause-forms c =
     rw c.as_slice.ensures.value (line-forms c.as_bytes.result.now c.in-Ok.found.items c.in-Ok.ensures.tokens)
-
-pub parse_command-requires-clause-line : goal.parse_command-requires-clause-line
-parse_command-requires-clause-line c = rw c.as_slice.ensures.value (length c.as_bytes.result.now, c.in-Ok.ensures.places)

@@ -1,6 +1,6 @@
 use Rattle.std.proofs.Common.{sym, ◌∙◌}
-use Rattle.lsys_rules.proofs.Branches.{branch-found, branch-next}
-use Rattle.lsys_rules.proofs.parse.has_branches.Goals as goal
+use Rattle.lsys_rules.proofs.Plain.{branch-found, branch-next}
+use Rattle.lsys_rules.proofs.offered.has_branches.Goals as goal
 
 pub returns-then-is_branch : goal.returns-then-is_branch
 returns-then-is_branch c =

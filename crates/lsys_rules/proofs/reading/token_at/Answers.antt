@@ -1,5 +1,0 @@
-use Rattle.lsys_rules.proofs.TokenPlaces.{found}
-use Rattle.lsys_rules.proofs.reading.token_at.Goals as goal
-
-pub returns : goal.returns
-returns c = found c.args.tokens.now c.args.at c.get.result c.get.ensures.lookup.1 c.get.ensures.lookup.3
