@@ -9,8 +9,6 @@ ghost use Rattle.lsys_cli.specs.Ends.{OfScript, Answered, LackedMemory};
 mod run;
 mod session;
 mod status;
-#[cfg(test)]
-mod tests;
 
 use lsys_io::{Buffered, LineReader, Sink, Source};
 use run::run;

@@ -10,8 +10,6 @@ mod filling;
 mod refusal;
 mod rows;
 mod stepping;
-#[cfg(test)]
-mod tests;
 
 pub use filling::fill;
 use lsys_rules::System;

@@ -10,8 +10,6 @@ mod row;
 mod sight;
 mod spot;
 mod tag;
-#[cfg(test)]
-mod tests;
 mod view;
 
 pub use copy::copy_level;

@@ -17,8 +17,6 @@ mod places;
 mod refusal;
 mod rule;
 mod span;
-#[cfg(test)]
-mod tests;
 mod word;
 mod words;
 

@@ -183,6 +183,3 @@ impl Reads {
         }
     }
 }
-
-#[cfg(test)]
-mod tests;

@@ -11,8 +11,6 @@ mod opening;
 mod rule;
 mod system;
 mod table;
-#[cfg(test)]
-mod tests;
 
 pub use body::{Body, SharedBody, Template};
 pub use edit::apply;

@@ -4,6 +4,8 @@
 #![tactic(auto)]
 
 #[cfg(test)]
+mod derivations;
+#[cfg(test)]
 mod draws;
 #[cfg(test)]
 mod ends;
@@ -13,6 +15,16 @@ mod expressions;
 mod extents;
 #[cfg(test)]
 mod lattices;
+#[cfg(test)]
+mod levels;
+#[cfg(test)]
+mod lines;
+#[cfg(test)]
+mod program;
+#[cfg(test)]
+mod readers;
+#[cfg(test)]
+mod rules;
 #[cfg(test)]
 mod strings;
 #[cfg(test)]

@@ -1,7 +1,9 @@
 ghost use Rattle.std.specs.Prelude.{IfOk, IfSome};
 ghost use Rattle.lsys_rules.specs.Applying.{IsOffered};
 
-use super::{Command, CommandKind, Refusal, System, Template, apply, is_offered, parse_command};
+use lsys_rules::{
+    Command, CommandKind, Refusal, System, Template, apply, is_offered, parse_command,
+};
 use lsys_text::tokens;
 use std::alloc::{AllocError, Global};
 use std::test::Fail;

@@ -1,6 +1,6 @@
 use Rattle.std.proofs.Common.{◌≡◌, ℕ, ◌+◌, length, Some}
 use Rattle.std.specs.Prelude.{slice_get}
-use Rattle.lsys_level.proofs.tests.push.Given as goal
+use Rattle.lsys_tests.proofs.levels.push.Given as goal
 
 abbrev pub invariant-loop-at : goal.invariant-loop-at
 invariant-loop-at l = record {

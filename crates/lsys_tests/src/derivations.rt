@@ -1,7 +1,7 @@
 ghost use Rattle.std.specs.Prelude.{IfOk};
 ghost use Rattle.lsys_rules.specs.Applying.{IsOffered};
 
-use super::{DeriveRefusal, Rows, derive};
+use lsys_flat::{DeriveRefusal, Rows, derive};
 use lsys_module::{Module, Symbol};
 use lsys_rules::{Command, System, apply, is_offered, parse_command};
 use lsys_text::tokens;

@@ -1,6 +1,6 @@
 //! The relations through their public calls.
-use crate::Reads;
 use lsys_level::Tag;
+use lsys_reads::Reads;
 use std::test::Fail;
 
 #[test]

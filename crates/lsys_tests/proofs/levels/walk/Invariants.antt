@@ -1,7 +1,7 @@
 use Rattle.std.proofs.Common.{length}
 use Rattle.lsys_level.specs.Spots.{level_at}
 use Rattle.lsys_level.proofs.Walked.{IsAt, to_right, to_left}
-use Rattle.lsys_level.proofs.tests.walk.Given as goal
+use Rattle.lsys_tests.proofs.levels.walk.Given as goal
 
 abbrev pub invariant-loop-at : goal.invariant-loop-at
 invariant-loop-at g l =

@@ -7,7 +7,7 @@ ghost use Rattle.lsys_level.specs.Spots.{IsSpot};
 ghost use Rattle.lsys_level.specs.Tags.{HasOwnTags, AreBelow};
 ghost use Rattle.lsys_level.specs.Places.{has_cut};
 
-use super::{FlatLevels, LevelView, Sight, Tag, copy_level};
+use lsys_level::{FlatLevels, LevelView, Sight, Tag, copy_level};
 use lsys_module::{Module, Params, Symbol, SymbolList};
 use lsys_text::Name;
 use std::alloc::{AllocError, Global};

@@ -2,7 +2,7 @@ use Rattle.std.proofs.Common.{◌≡◌, ◌+◌, length, ap, sym, subst, arith}
 use Rattle.lsys_level.specs.Tags.{HasOwnTags, AreBelow}
 use Rattle.lsys_level.specs.Places.{spots_of}
 use Rattle.lsys_level.proofs.Owning.{own_running, below_running, running, no_longer}
-use Rattle.lsys_level.proofs.tests.push.Goals as goal
+use Rattle.lsys_tests.proofs.levels.push.Goals as goal
 
 pub push_level-requires-clause-own : goal.push_level-requires-clause-own
 push_level-requires-clause-own c =

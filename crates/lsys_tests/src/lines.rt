@@ -1,6 +1,6 @@
 //! Lines, and what they are for or where they are refused.
 
-use crate::{CommandKind, Refusal, parse_command};
+use lsys_reading::{CommandKind, Refusal, parse_command};
 use lsys_text::tokens;
 use std::alloc::Global;
 use std::process::Abort;

@@ -1,4 +1,4 @@
-use super::{Status, lsys};
+use lsys_cli::{Status, lsys};
 use lsys_io::{MemorySink, MemorySource};
 use std::alloc::{AllocError, Global};
 use std::test::Fail;

@@ -1,5 +1,5 @@
 use Rattle.lsys_text.proofs.LineTokens.{line-forms}
-use Rattle.lsys_flat.proofs.tests.command_of.Goals as goal
+use Rattle.lsys_tests.proofs.rules.command_of.Goals as goal
 
 pub parse_command-requires-clause-forms : goal.parse_command-requires-clause-forms
 parse_command-requires-clause-forms c =
