@@ -31,7 +31,7 @@ fn main(rt: HostRuntime) -> ExitCode {
         Err(status) => status,
     };
     if status == Status::Usage {
-        let _ = eprintln!(rt; "lsys: usage: lsys (a script on standard input; no words)");
+        let _ = eprintln!(rt; "lsys: usage: lsys [--limit N] [--sample N]");
     }
     ExitCode::from(status.code())
 }
