@@ -1,22 +1,17 @@
 -- Formals: one, and what stands behind it; and the loop over them.
-use Rattle.std.proofs.Common.{◌≡◌, ◌≤◌, ◌+◌, ℕ, true, Some, None, Ok, Err, List, [], ◌∷◌, ◌++◌, length, map, refl, ap, sym, subst, ◌∙◌, arith}
-use Rattle.lsys_syntax.specs.Tokens.{NameText, Kind, Name, Comma, RightParen}
-use Rattle.lsys_syntax.specs.Strings.{ModuleName, named, plus, minus, ampersand, caret, backslash, slash, bar, bang, name_kind, Symbol, Module}
-use Rattle.lsys_syntax.specs.RuleMachine.{Form, production, Part, at_first, Formals, FormalDue, FormalRead, Stop, due_step, read_step, reversed}
+use Rattle.std.proofs.Common.{◌≡◌, ◌≤◌, ◌+◌, ℕ, Ok, Err, List, [], ◌∷◌, ◌++◌, length, map, ap, sym, subst, ◌∙◌}
+use Rattle.lsys_syntax.specs.Tokens.{NameText, Kind}
+use Rattle.lsys_syntax.specs.Strings.{ModuleName, plus, Symbol, Module}
+use Rattle.lsys_syntax.specs.RuleMachine.{Form, production, Part, at_first, Formals, FormalDue, reversed}
 use Rattle.lsys_text.specs.Tokens.{name_of}
-use Rattle.lsys_reading.specs.declared.glyph.Glyph.{Glyph}
-use Rattle.lsys_reading.specs.declared.glyph.Glyph.TheVariants as glyphs
-use Rattle.lsys_reading.specs.declared.glyph.Separator.{Separator}
 use Rattle.lsys_reading.specs.declared.glyph.Separator.TheVariants as separators
 use Rattle.lsys_reading.specs.declared.formals.FormalRead.{FormalRead as Formal}
-use Rattle.lsys_syntax.specs.RulePoints.{at_state, stops, verdict_at, Leads}
-use Rattle.lsys_reading.specs.Glyphs.{IsMark, is_other, IsPeeked, formal_of, separator_of}
+use Rattle.lsys_syntax.specs.RulePoints.{at_state, Leads}
 use Rattle.lsys_reading.specs.Reads.{after_formal, IsFormalRead, AreFormalsRead}
 use Rattle.lsys_reading.proofs.ReadLaws.{refuses-on}
 use Rattle.lsys_reading.specs.declared.refusal.PartRefusal.{PartRefusal}
-use Rattle.lsys_reading.specs.declared.refusal.PartRefusal.TheVariants.{Token}
 use Rattle.lsys_reading.specs.declared.formals.FormalsRead.{FormalsRead}
-use Rattle.lsys_syntax.proofs.RulePoints.{IsGone, leads-on, leads-stay, leads-token, stops-token, stops-end}
+use Rattle.lsys_syntax.proofs.RulePoints.{leads-on}
 use Rattle.lsys_reading.proofs.Reversals.{mapped-push, mapped-whole}
 
 -- what the loop over formals keeps

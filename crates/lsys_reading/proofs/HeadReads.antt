@@ -1,5 +1,5 @@
 -- A predecessor with its left context, and a right context, by what was read of them.
-use Rattle.std.proofs.Common.{◌≡◌, ◌⊎◌, inl, inr, ◌≤◌, ◌<◌, ◌+◌, ℕ, Bool, true, false, Ok, Err, List, [], ◌∷◌, length, refl, ap, sym, subst, ◌∙◌}
+use Rattle.std.proofs.Common.{◌≡◌, ◌⊎◌, inl, inr, ◌<◌, ◌+◌, ℕ, Bool, true, false, Ok, Err, List, [], ◌∷◌, refl, ap, sym, subst, ◌∙◌}
 use Rattle.std.specs.Prelude.{Result}
 use Rattle.lsys_syntax.specs.Tokens.{NameText, Kind}
 use Rattle.lsys_syntax.specs.Strings.{ModuleName, Symbol}
@@ -21,7 +21,7 @@ use Rattle.lsys_reading.specs.Patterns.{module_of, so_far, IsSection, is_empty, 
 use Rattle.lsys_reading.specs.Heads.{form_in, takes_left, takes_right, IsSingle, IsContext, patterns_of, formals_of, IsPredecessorRead, IsRightRead, IsHeadRead}
 use Rattle.lsys_syntax.proofs.RulePoints.{leads-on, leads-stay}
 use Rattle.lsys_reading.proofs.ReadLaws.{refuses-on}
-use Rattle.lsys_reading.proofs.HeadLaws.{NoLess, no-less, IsBefore, predecessor-is, only-none, only-some, predecessor-none, left-goes, left-not, right-goes, right-not, right-is, right-none}
+use Rattle.lsys_reading.proofs.HeadLaws.{NoLess, no-less, IsBefore, predecessor-is, only-none, only-some, predecessor-none, left-goes, left-not, right-goes, right-is, right-none}
 
 -- 1. a predecessor alone
 

@@ -1,29 +1,25 @@
 -- The successor of a rule: parameters, symbols, and the loops over them.
-use Rattle.std.proofs.Common.{◌≡◌, ◌≤◌, ◌<◌, ◌+◌, ℕ, true, false, Some, None, Ok, Err, List, [], ◌∷◌, ◌++◌, drop, length, refl, ap, sym, subst, ◌∙◌, arith}
-use Rattle.lsys_syntax.specs.Tokens.{Kind, LeftParen, RightParen, Comma}
-use Rattle.lsys_syntax.specs.Strings.{ModuleName, named, plus, minus, ampersand, caret, backslash, slash, bar, bang, name_kind, Symbol, Module}
+use Rattle.std.proofs.Common.{◌≡◌, ◌≤◌, ◌<◌, ◌+◌, ℕ, true, Ok, Err, List, [], ◌∷◌, ◌++◌, drop, length, refl, ap, sym, subst, ◌∙◌, arith}
+use Rattle.lsys_syntax.specs.Tokens.{Kind, LeftParen}
+use Rattle.lsys_syntax.specs.Strings.{ModuleName, Symbol, Module}
 use Rattle.lsys_syntax.specs.Expressions.{Expr}
 use Rattle.lsys_syntax.specs.RuleMachine as machine
 use Rattle.lsys_syntax.specs.RuleMachine.{production, homomorphism, Body, State, InExpr, as_param, Successor, Stop, expr_start, done_step, reversed, open_in, popped, where_closed, rule_with, successor_open, successor_step, only_production}
 use Rattle.lsys_module.specs.Views.{module_name}
 use Rattle.lsys_reading.specs.declared.refusal.PartRefusal.{PartRefusal}
-use Rattle.lsys_reading.specs.declared.refusal.PartRefusal.TheVariants.{Token}
 use Rattle.lsys_reading.specs.declared.glyph.Glyph.{Glyph}
 use Rattle.lsys_reading.specs.declared.glyph.Glyph.TheVariants as glyphs
-use Rattle.lsys_reading.specs.declared.glyph.Separator.{Separator}
 use Rattle.lsys_reading.specs.declared.glyph.Separator.TheVariants as separators
 use Rattle.lsys_reading.specs.declared.span.Span.{Span}
 use Rattle.lsys_reading.specs.declared.images.ParamRead.{ParamRead}
 use Rattle.lsys_reading.specs.declared.images.ParamsRead.{ParamsRead}
-use Rattle.lsys_reading.specs.declared.images.ImageModuleRead.{ImageModuleRead}
-use Rattle.lsys_syntax.specs.RulePoints.{at_state, after_expr, after_image, image_step, stops, taken, rule_from, point_from, verdict_at, Leads}
-use Rattle.lsys_reading.specs.Glyphs.{is_other, IsPeeked, is_open, separator_of}
+use Rattle.lsys_syntax.specs.RulePoints.{at_state, after_image, taken, rule_from, point_from, verdict_at, Leads}
+use Rattle.lsys_reading.specs.Glyphs.{IsPeeked, is_open}
 use Rattle.lsys_reading.specs.Spans.{expr_at, IsSpan, AreSpans, IsExpressionRead}
-use Rattle.lsys_reading.specs.Images.{params_at, module_at, param_due, after_param, IsParamRead, AreParamsRead, IsImageModuleRead}
-use Rattle.lsys_syntax.proofs.RulePoints.{leads-on, leads-stay, leads-token, stops-token, stops-end, same-token, same-end}
+use Rattle.lsys_reading.specs.Images.{params_at, param_due, after_param, IsParamRead, AreParamsRead, IsImageModuleRead}
+use Rattle.lsys_syntax.proofs.RulePoints.{leads-on, leads-stay, leads-token}
 use Rattle.lsys_reading.proofs.ReadLaws.{refuses-on}
 use Rattle.lsys_reading.proofs.Reversals.{mapped-push, mapped-whole}
-use Rattle.lsys_reading.proofs.PatternLaws.{is_paren, no-paren}
 
 pub param-err : (ks : List Kind) (at : ℕ) (q : PartRefusal) → IsExpressionRead ks at (Err q) → IsParamRead ks at (Err q)
 param-err ks at q h = λ m b r n es. h m (as_param b r n es)

@@ -1,9 +1,9 @@
 -- A symbol of a successor, and the loop over symbols up to the line's end.
-use Rattle.std.proofs.Common.{◌≡◌, ◌≤◌, ◌<◌, ◌+◌, ℕ, zero, suc, Bool, true, false, nat_lt, Some, None, Ok, Err, List, [], ◌∷◌, ◌++◌, drop, length, refl, ap, sym, subst, ◌∙◌, arith}
+use Rattle.std.proofs.Common.{◌≡◌, ◌≤◌, ◌<◌, ◌+◌, ℕ, zero, suc, Bool, true, false, nat_lt, Some, None, Ok, Err, List, [], ◌∷◌, ◌++◌, length, refl, ap, sym, subst, ◌∙◌, arith}
 use Rattle.std.proofs.lemmas.Bool.Decides.{nat_tests}
-use Rattle.std.proofs.lemmas.List.{length-drop, drop_all}
+use Rattle.std.proofs.lemmas.List.{length-drop}
 use Rattle.lsys_syntax.specs.Tokens.{Kind, Word, LongWord, Number, BigNumber, Equal, Unequal, AtMost, AtLeast, Times, Assign}
-use Rattle.lsys_syntax.specs.Strings.{ModuleName, named, plus, minus, ampersand, caret, backslash, slash, bar, bang, name_kind, Symbol, Module, Push, Pop, Cut}
+use Rattle.lsys_syntax.specs.Strings.{ModuleName, named, plus, minus, ampersand, caret, backslash, slash, bar, bang, name_kind, Symbol, Module, Pop, Cut}
 use Rattle.lsys_syntax.specs.Expressions.{Expr}
 use Rattle.lsys_syntax.specs.RuleMachine as machine
 use Rattle.lsys_syntax.specs.RuleMachine.{production, homomorphism, Body, State, Successor, Stop, reversed, open_in, popped, where_closed, rule_with}
@@ -20,15 +20,14 @@ use Rattle.lsys_reading.specs.declared.images.ImageOpening.{ImageOpening}
 use Rattle.lsys_reading.specs.declared.images.ImageOpening.TheVariants as openings
 use Rattle.lsys_reading.specs.declared.images.ImageModuleRead.{ImageModuleRead}
 use Rattle.lsys_reading.specs.declared.images.ImageRead.{ImageRead}
-use Rattle.lsys_syntax.specs.RulePoints.{at_state, after_image, image_step, stops, whole, ended, point_from, verdict_at, Leads}
+use Rattle.lsys_syntax.specs.RulePoints.{at_state, after_image, image_step, stops, verdict_at, Leads}
 use Rattle.lsys_reading.specs.Glyphs.{is_other, IsPeeked}
 use Rattle.lsys_reading.specs.Reads.{Refuses}
 use Rattle.lsys_reading.specs.Heads.{form_in}
 use Rattle.lsys_reading.specs.Images.{module_at, image_at, images_at, ImageIsAt, ImagesAreAt, image_branches, where_true, has_cuts, image_opening_of, IsImageModuleRead, IsImageRead}
-use Rattle.lsys_syntax.proofs.RulePoints.{leads-on, leads-stay, leads-token, stops-token}
+use Rattle.lsys_syntax.proofs.RulePoints.{leads-on, leads-token, stops-token}
 use Rattle.lsys_reading.proofs.ReadLaws.{refuses-on}
-use Rattle.lsys_reading.proofs.Reversals.{mapped-push, reversed-twice, nil-append}
-use Rattle.lsys_reading.proofs.ImageLaws.{image-shut}
+use Rattle.lsys_reading.proofs.Reversals.{mapped-push}
 
 -- 1. the token that a symbol begins with
 

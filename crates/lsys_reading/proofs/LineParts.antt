@@ -1,12 +1,11 @@
 -- How the tokens of a line lead from state to state, and the loops over names and words.
-use Rattle.std.proofs.Common.{◌≡◌, ◌≤◌, ◌<◌, ◌+◌, ℕ, Bool, true, false, Option, Some, None, Ok, Err, List, [], ◌∷◌, ◌++◌, drop, length, map, nat_lt, refl, ap, sym, ◌∙◌, arith}
+use Rattle.std.proofs.Common.{◌≡◌, ◌≤◌, ◌<◌, ◌+◌, ℕ, true, false, Option, Some, None, Ok, Err, List, [], ◌∷◌, ◌++◌, drop, length, map, nat_lt, refl, ap, sym, ◌∙◌, arith}
 use Rattle.std.proofs.lemmas.List.{drop_all}
-use Rattle.std.specs.Prelude.{Result}
 use Rattle.lsys_syntax.specs.Tokens.{Kind, Word}
 use Rattle.lsys_syntax.specs.Strings.{ModuleName}
-use Rattle.lsys_syntax.specs.Commands.{Command, set_ignored, set_schedule, print_string}
+use Rattle.lsys_syntax.specs.Commands.{set_ignored, set_schedule, print_string}
 use Rattle.lsys_syntax.specs.RuleMachine.{Sign, a_name, sign_of, reversed}
-use Rattle.lsys_syntax.specs.LineMachine.{State, InNames, ScheduleDue, InSchedule, StringRead, Stop, Verdict, sentence, stops, too_deep, ended, verdict_from, finish, step, is_stop, depth, nesting_bound, word_step, with_name}
+use Rattle.lsys_syntax.specs.LineMachine.{State, InNames, ScheduleDue, InSchedule, StringRead, Stop, Verdict, sentence, stops, too_deep, verdict_from, step, is_stop, depth, nesting_bound, word_step, with_name}
 use Rattle.lsys_module.specs.Views.{module_name}
 use Rattle.lsys_syntax.specs.RulePoints.{Here}
 use Rattle.lsys_reading.specs.Lines.{line_at, IsRefused, word_in, name_of_sign, name_in, at_front, IsWord, IsName, LastNumberDue}

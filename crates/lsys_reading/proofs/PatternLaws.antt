@@ -15,7 +15,7 @@ use Rattle.lsys_reading.specs.declared.patterns.Opening.TheVariants as openings
 use Rattle.lsys_syntax.specs.RulePoints.{at_state, after_symbol, after_symbols, symbol_step, symbols_step, taken, rule_from, point_from, verdict_at, Leads}
 use Rattle.lsys_reading.specs.Glyphs.{is_other, IsGlyph, IsPeeked, is_open}
 use Rattle.lsys_reading.specs.Patterns.{is_right, takes_name, opening_where, opening_of, IsSection, is_empty, IsStanding}
-use Rattle.lsys_syntax.proofs.RulePoints.{leads-on, leads-stay, leads-token, same-token, same-end}
+use Rattle.lsys_syntax.proofs.RulePoints.{leads-token, same-token, same-end}
 
 -- 1. a parenthesis
 

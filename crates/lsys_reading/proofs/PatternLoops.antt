@@ -17,7 +17,6 @@ use Rattle.lsys_reading.specs.declared.patterns.Standing.{Standing}
 use Rattle.lsys_reading.specs.declared.patterns.Opening.TheVariants as openings
 use Rattle.lsys_reading.specs.declared.patterns.ModuleRead.{ModuleRead}
 use Rattle.lsys_reading.specs.declared.patterns.SymbolRead.{SymbolRead}
-use Rattle.lsys_reading.specs.declared.patterns.PatternsRead.{PatternsRead}
 use Rattle.lsys_syntax.specs.RulePoints.{at_state, after_symbol, after_symbols, Leads}
 use Rattle.lsys_reading.specs.Glyphs.{IsPeeked, is_open}
 use Rattle.lsys_reading.specs.Reads.{AreFormalsRead}

@@ -1,7 +1,6 @@
 -- A rule by its parts.
-use Rattle.std.proofs.Common.{◌≡◌, ℕ, Ok, Err, List, [], drop, refl, ap, sym, ◌∙◌}
-use Rattle.std.specs.Prelude.{Result, Vec}
-use Rattle.std.specs.declared.alloc.Global.{Global}
+use Rattle.std.proofs.Common.{◌≡◌, ℕ, Ok, Err, List, [], drop, ap, sym, ◌∙◌}
+use Rattle.std.specs.Prelude.{Result}
 use Rattle.lsys_syntax.specs.Tokens.{Kind}
 use Rattle.lsys_syntax.specs.RuleMachine as machine
 use Rattle.lsys_syntax.specs.RuleMachine.{Successor, start, rule_with}
@@ -11,13 +10,12 @@ use Rattle.lsys_reading.specs.declared.refusal.PartRefusal.TheVariants.{Token, D
 use Rattle.lsys_reading.specs.declared.form.Form.{Form}
 use Rattle.lsys_reading.specs.declared.head.HeadRead.{HeadRead}
 use Rattle.lsys_reading.specs.declared.span.OptionRead.{OptionRead}
-use Rattle.lsys_reading.specs.declared.images.Image.{Image}
 use Rattle.lsys_reading.specs.declared.rule.RuleLine.{RuleLine}
-use Rattle.lsys_syntax.specs.RulePoints.{RuleVerdict, whole, stops, too_deep, rule_from, Line, production_of, homomorphism_of, form_of, line_state, line_verdict, at_state, after_head, after_condition, after_weight, body_with, verdict_at, Leads}
+use Rattle.lsys_syntax.specs.RulePoints.{RuleVerdict, whole, stops, too_deep, rule_from, Line, form_of, line_state, line_verdict, at_state, after_head, after_condition, after_weight, body_with, verdict_at, Leads}
 use Rattle.lsys_reading.specs.Reads.{Refuses}
 use Rattle.lsys_reading.specs.Heads.{form_in, head_of, IsHeadRead}
 use Rattle.lsys_reading.specs.Spans.{option_at, IsConditionRead, IsWeightRead, IsArrowRead}
-use Rattle.lsys_reading.specs.Images.{images_at, IsSuccessorRead}
+use Rattle.lsys_reading.specs.Images.{IsSuccessorRead}
 use Rattle.lsys_reading.specs.RuleLines.{rule_at, IsRuleRead, IsLineRead}
 use Rattle.lsys_syntax.proofs.RulePoints.{state-point, line-rule, leads-on}
 use Rattle.lsys_reading.proofs.ReadLaws.{refuses-on}

@@ -1,8 +1,8 @@
 -- The expressions of a rule, and what stands between them.
-use Rattle.std.proofs.Common.{◌≡◌, ◌≤◌, ◌<◌, ◌+◌, ◌-◌, ℕ, zero, suc, true, false, Option, Some, None, Ok, Err, List, [], ◌∷◌, take, drop, length, refl, ap, sym, ◌∙◌, arith}
+use Rattle.std.proofs.Common.{◌≡◌, ◌≤◌, ◌<◌, ◌+◌, ◌-◌, ℕ, zero, suc, true, Option, Some, Ok, Err, List, [], ◌∷◌, take, drop, length, refl, ap, sym, ◌∙◌, arith}
 use Rattle.std.specs.Prelude.{unwrap_or}
 use Rattle.std.proofs.lemmas.List.{length-drop, drop-drop}
-use Rattle.lsys_syntax.specs.Tokens.{Kind, Colon, At, Arrow}
+use Rattle.lsys_syntax.specs.Tokens.{Kind, At, Arrow}
 use Rattle.lsys_syntax.specs.Expressions.{Expr, expr_kinds, IsExpr}
 use Rattle.lsys_syntax.specs.ExpressionPlaces as X
 use Rattle.lsys_syntax.specs.ExpressionPlaces.{Extent, extent, read_expr}
@@ -16,21 +16,19 @@ use Rattle.lsys_expr.specs.Scanned.{IsExtent}
 use Rattle.lsys_text.specs.declared.refusals.PlaceRefusal.{PlaceRefusal}
 use Rattle.lsys_text.specs.declared.refusals.PlaceRefusal.TheVariants as places
 use Rattle.lsys_reading.specs.declared.refusal.PartRefusal.{PartRefusal}
-use Rattle.lsys_reading.specs.declared.refusal.PartRefusal.TheVariants.{Token}
 use Rattle.lsys_reading.specs.declared.glyph.Glyph.{Glyph}
 use Rattle.lsys_reading.specs.declared.glyph.Glyph.TheVariants as glyphs
 use Rattle.lsys_reading.specs.declared.form.Form.{Form}
 use Rattle.lsys_reading.specs.declared.form.Form.TheVariants.{Production, Homomorphism}
 use Rattle.lsys_reading.specs.declared.span.Span.{Span}
 use Rattle.lsys_syntax.specs.RulePoints.{by_extent, at_state, after_head, after_condition, after_weight, after_expr, body_with, stops, too_deep, taken, rule_from, point_from, verdict_at, Leads, head_step, condition_step, weight_step}
-use Rattle.lsys_reading.specs.Glyphs.{IsGlyph, IsPeeked, is_colon, is_arrow}
+use Rattle.lsys_reading.specs.Glyphs.{IsPeeked, is_colon}
 use Rattle.lsys_reading.specs.Reads.{Refuses}
 use Rattle.lsys_reading.specs.Heads.{form_in, takes_weight}
 use Rattle.lsys_reading.specs.Refusals.{refusal_at}
-use Rattle.lsys_reading.specs.Spans.{part, expr_at, IsSpan, IsExpressionRead, IsConditionRead, IsWeightRead, IsArrowRead}
+use Rattle.lsys_reading.specs.Spans.{part, expr_at, IsSpan, IsExpressionRead, IsConditionRead, IsWeightRead}
 use Rattle.lsys_syntax.proofs.RulePoints.{leads-on, leads-stay, leads-token, rule-expr}
 use Rattle.lsys_reading.proofs.ReadLaws.{refuses-on}
-use Rattle.lsys_reading.proofs.HeadLaws.{seen}
 
 -- 1. expressions
 

@@ -1,5 +1,5 @@
 -- The command that tokens spell, by the parts that they are.
-use Rattle.std.specs.Prelude.{◌≡◌, Option, Some, None, List, [], map, drop}
+use Rattle.std.specs.Prelude.{◌≡◌, List, [], map}
 use Rattle.lsys_syntax.specs.Tokens.{Kind}
 use Rattle.lsys_syntax.specs.Strings.{Symbol, Signed}
 use Rattle.lsys_syntax.specs.Commands as spec

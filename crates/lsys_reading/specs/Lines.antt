@@ -1,5 +1,5 @@
 -- A line by its parts: what the functions that read a command answer.
-use Rattle.std.specs.Prelude.{◌≡◌, ◌+◌, ◌≤◌, ℕ, Option, Some, None, Result, Ok, Err, List, [], ◌∷◌, drop, length}
+use Rattle.std.specs.Prelude.{◌≡◌, ℕ, Option, Some, None, Result, Ok, Err, List, [], ◌∷◌, drop}
 use Rattle.lsys_syntax.specs.Tokens.{Kind, Word, Number}
 use Rattle.lsys_syntax.specs.Strings.{ModuleName}
 use Rattle.lsys_syntax.specs.Commands.{Command}

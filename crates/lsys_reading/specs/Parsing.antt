@@ -1,8 +1,7 @@
 -- The command that a line's tokens spell, and what reading it answers.
-use Rattle.std.specs.Prelude.{◌≡◌, ℕ, Result, Ok, Err, List, map, unwrap_or}
-use Rattle.lsys_syntax.specs.Tokens.{Kind}
+use Rattle.std.specs.Prelude.{◌≡◌, ℕ, Result, Ok, Err, List, map}
 use Rattle.lsys_syntax.specs.Commands as spec
-use Rattle.lsys_syntax.specs.LineMachine.{sentence, stops, too_deep, verdict, parse_command}
+use Rattle.lsys_syntax.specs.LineMachine.{sentence, stops, too_deep, verdict}
 use Rattle.lsys_spec.specs.Refusals.{column_at}
 use Rattle.lsys_text.specs.Tokens.{kinds_of, token_of}
 use Rattle.lsys_text.specs.declared.token_kind.Token.{Token}

@@ -1,5 +1,4 @@
 use Rattle.std.proofs.Common.{◌<◌, length, Some, arith}
-use Rattle.std.proofs.lemmas.Bool.Decides.{nat_tests}
 use Rattle.std.proofs.lemmas.Result.{err_from_is_err_and}
 use Rattle.lsys_syntax.specs.Commands.{print_string}
 use Rattle.lsys_syntax.specs.LineMachine.{StringRead}

@@ -1,7 +1,7 @@
 use Rattle.std.proofs.Common.{◌≡◌, ◌==◌, length, sym, ◌∙◌}
 use Rattle.std.proofs.lemmas.Result.{err_from_is_err_and}
 use Rattle.std.proofs.Common.{rules}
-use Rattle.lsys_reading.specs.Tokens.{kinds_in, size}
+use Rattle.lsys_reading.specs.Tokens.{kinds_in}
 use Rattle.lsys_reading.proofs.PatternLoops.{first-symbol}
 use Rattle.lsys_reading.proofs.HeadReads.{first-read, second-read, second-err}
 use Rattle.lsys_reading.proofs.head.predecessor.Goals as goal

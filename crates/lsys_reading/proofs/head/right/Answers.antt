@@ -1,6 +1,6 @@
 use Rattle.std.proofs.Common.{sym, ◌∙◌, refl, subst}
 use Rattle.std.proofs.lemmas.Result.{err_from_is_err_and}
-use Rattle.lsys_reading.specs.Tokens.{kinds_in, size}
+use Rattle.lsys_reading.specs.Tokens.{kinds_in}
 use Rattle.lsys_reading.specs.Heads.{IsContext}
 use Rattle.lsys_reading.proofs.HeadReads.{right-err, right-read, right-refused}
 use Rattle.lsys_reading.proofs.head.right.Goals as goal

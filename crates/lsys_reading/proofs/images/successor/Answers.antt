@@ -1,6 +1,6 @@
 use Rattle.std.proofs.Common.{◌≡◌, ◌++◌, ◌∷◌, [], rules, arith}
 use Rattle.std.proofs.lemmas.Result.{err_from_is_err_and}
-use Rattle.lsys_reading.specs.Tokens.{kinds_in, size}
+use Rattle.lsys_reading.specs.Tokens.{kinds_in}
 use Rattle.lsys_reading.proofs.TokenPlaces.{length-kinds}
 use Rattle.lsys_reading.proofs.ImageLoops.{images-more, images-refused}
 use Rattle.lsys_reading.proofs.images.successor.Goals as goal

@@ -1,4 +1,4 @@
-use Rattle.std.proofs.Common.{◌-◌, length}
+use Rattle.std.proofs.Common.{◌-◌}
 use Rattle.lsys_reading.specs.Tokens.{kinds_in, size}
 use Rattle.lsys_reading.proofs.ImageLoops.{ImagesSoFar}
 use Rattle.lsys_reading.proofs.images.successor.Given as goal

@@ -1,6 +1,6 @@
 use Rattle.std.proofs.Common.{sym, ◌∙◌, arith}
 use Rattle.std.proofs.lemmas.Result.{err_from_is_err_and}
-use Rattle.lsys_reading.specs.Tokens.{kinds_in, size}
+use Rattle.lsys_reading.specs.Tokens.{kinds_in}
 use Rattle.lsys_reading.proofs.PatternLoops.{module-ok, module-err}
 use Rattle.lsys_reading.proofs.patterns.module.Goals as goal
 

@@ -1,4 +1,4 @@
-use Rattle.std.proofs.Common.{◌-◌, length}
+use Rattle.std.proofs.Common.{◌-◌}
 use Rattle.lsys_reading.specs.Tokens.{kinds_in, size}
 use Rattle.lsys_reading.proofs.PatternLoops.{PatternsSoFar}
 use Rattle.lsys_reading.proofs.patterns.patterns.Given as goal

@@ -1,4 +1,4 @@
-use Rattle.lsys_reading.specs.Tokens.{kinds_in, size}
+use Rattle.lsys_reading.specs.Tokens.{kinds_in}
 use Rattle.lsys_reading.proofs.RuleReads.{line-read}
 use Rattle.lsys_reading.proofs.rule.rule_line.Goals as goal
 

@@ -1,5 +1,5 @@
 use Rattle.std.proofs.lemmas.Result.{err_from_is_err_and}
-use Rattle.lsys_reading.specs.Tokens.{kinds_in, size}
+use Rattle.lsys_reading.specs.Tokens.{kinds_in}
 use Rattle.lsys_reading.proofs.RuleReads.{refused-condition, refused-weight, refused-arrow, refused-successor}
 use Rattle.lsys_reading.proofs.rule.rule_parts.Goals as goal
 

@@ -1,6 +1,6 @@
 use Rattle.std.proofs.Common.{sym, ◌∙◌}
 use Rattle.std.proofs.lemmas.Result.{err_from_is_err_and}
-use Rattle.lsys_reading.specs.Tokens.{kinds_in, size}
+use Rattle.lsys_reading.specs.Tokens.{kinds_in}
 use Rattle.lsys_reading.proofs.SpanLaws.{condition-ok, condition-err}
 use Rattle.lsys_reading.proofs.span.condition.Goals as goal
 

@@ -1,4 +1,4 @@
-use Rattle.std.proofs.Common.{◌≡◌, rules, sym}
+use Rattle.std.proofs.Common.{◌≡◌, rules}
 use Rattle.lsys_reading.proofs.TokenPlaces.{found}
 use Rattle.lsys_reading.proofs.line_tokens.LineTokens.at.Goals as goal
 
