@@ -1,0 +1,9 @@
+pub mod Unrefused
+pub mod Parts
+pub mod KeptPlain
+pub mod KeptAxiom
+pub mod Aparts
+pub mod Tabled
+pub mod KeptRules
+pub mod KeptOthers
+pub mod KeptWhole
