@@ -7,3 +7,6 @@ pub mod Tabled
 pub mod KeptRules
 pub mod KeptOthers
 pub mod KeptWhole
+pub mod ShownLines
+pub mod ShownReplies
+pub mod Unspelled

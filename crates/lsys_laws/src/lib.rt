@@ -5,3 +5,4 @@
 #![tactic(auto)]
 
 pub mod edits;
+pub mod sessions;
