@@ -10,3 +10,7 @@ pub mod KeptWhole
 pub mod ShownLines
 pub mod ShownReplies
 pub mod Unspelled
+pub mod Members
+pub mod LinesOf
+pub mod Boxed
+pub mod Shifted

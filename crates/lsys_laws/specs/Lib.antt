@@ -1,4 +1,7 @@
 pub mod Sessions
+pub mod Scripts
+pub mod Boxes
+pub mod Shifts
 pub mod ValueExamples
 pub mod HomomorphismExamples
 pub mod TurtleExamples

@@ -5,4 +5,7 @@
 #![tactic(auto)]
 
 pub mod edits;
+pub mod needs;
+pub mod pictures;
+pub mod scripts;
 pub mod sessions;
