@@ -14,3 +14,6 @@ pub mod Members
 pub mod LinesOf
 pub mod Boxed
 pub mod Shifted
+pub mod Prefixes
+pub mod Texts
+pub mod MemoryTold

@@ -7,5 +7,6 @@
 pub mod edits;
 pub mod needs;
 pub mod pictures;
+pub mod replies;
 pub mod scripts;
 pub mod sessions;
