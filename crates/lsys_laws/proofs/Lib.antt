@@ -17,3 +17,5 @@ pub mod Shifted
 pub mod Prefixes
 pub mod Texts
 pub mod MemoryTold
+pub mod FirstFaults
+pub mod LeastMany

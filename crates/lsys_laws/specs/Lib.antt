@@ -2,6 +2,8 @@ pub mod Sessions
 pub mod Scripts
 pub mod Boxes
 pub mod Shifts
+pub mod Faults
+pub mod FirstMany
 pub mod ValueExamples
 pub mod HomomorphismExamples
 pub mod TurtleExamples

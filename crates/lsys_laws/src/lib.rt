@@ -5,6 +5,7 @@
 #![tactic(auto)]
 
 pub mod edits;
+pub mod faults;
 pub mod needs;
 pub mod pictures;
 pub mod replies;
