@@ -1,5 +1,5 @@
 -- The box of a picture is the least around its points.
-use Rattle.std.proofs.Common.{◌≡◌, ℕ, zero, suc, List, [], ◌∷◌, ◌<◌, length, map, fold, refl, ap, sym, ◌∙◌, subst, arith, ◌⊎◌, inl, inr, ℤ}
+use Rattle.std.proofs.Common.{◌≡◌, suc, List, [], ◌∷◌, map, fold, refl, sym, subst, arith, ◌⊎◌, inl, inr, ℤ}
 use Rattle.std.specs.Prelude.{pos, ◌+ℤ◌, ◌-ℤ◌}
 use Rattle.std.specs.Int.{int_min, int_max}
 use Rattle.std.specs.Int.Signed.{◌≤ℤ◌}
@@ -7,7 +7,7 @@ use Rattle.std.specs.List.{All, Contains}
 use Rattle.std.proofs.lemmas.Int.{ints, fold-int_min_bounds, fold-int_min_reached, fold-int_max_bounds, fold-int_max_reached}
 use Rattle.lsys_spec.specs.Systems.{Each}
 use Rattle.lsys_spec.specs.Lattices.{Lattice, projected}
-use Rattle.lsys_spec.specs.Pictures.{Segment, segment_ends, Box, framed, origin, box}
+use Rattle.lsys_spec.specs.Pictures.{Segment, segment_ends, framed, origin, box}
 use Rattle.lsys_laws.specs.Boxes.{left_side, right_side, top_side, bottom_side, IsInside, IsLeastBox}
 
 each_of : {A : Type 0} (P : A → Type 0) (xs : List A) → All P xs → Each P xs

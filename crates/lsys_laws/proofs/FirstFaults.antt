@@ -1,5 +1,5 @@
 -- The first fault from the left: of parameters, of a successor, and of a value.
-use Rattle.std.proofs.Common.{◌≡◌, Bool, true, false, Result, Ok, Err, List, [], ◌∷◌, ◌++◌, refl, ap, ◌∙◌, sym, subst, append_assoc, ℤ, ◌⊎◌, inl, inr, cond}
+use Rattle.std.proofs.Common.{◌≡◌, Bool, true, false, Result, Ok, Err, List, [], ◌∷◌, ◌++◌, refl, ap, ◌∙◌, sym, append_assoc, ℤ, ◌⊎◌, inl, inr}
 use Rattle.std.specs.Prelude.{◌↔◌, neg_ℤ, not}
 use Rattle.lsys_syntax.specs.Strings as S
 use Rattle.lsys_spec.specs.Systems.{Each}
@@ -80,6 +80,7 @@ params_done (t ∷ ts) bound zs h = by (value t bound) refl h (params_done ts bo
         → ((vs : List ℤ) → filled_params ts bound ≡ Ok vs → Each (HasValue bound) ts) → Each (HasValue bound) ts
     rest z (Ok vs) e k ih = ih vs e
     rest z (Err m) e k ih = cc
+
     by : (r : Result ℤ Arith) → value t bound ≡ r → (r and_then λ z. filled_params ts bound and_then λ vs. made (z ∷ vs)) ≡ Ok zs
         → ((vs : List ℤ) → filled_params ts bound ≡ Ok vs → Each (HasValue bound) ts) → Each (HasValue bound) (t ∷ ts)
     by (Ok z) e k ih = ((z, e), rest z (filled_params ts bound) refl k ih)
@@ -189,6 +190,7 @@ binary_fault op t u bound e h = by (step_fault (value t bound) (λ x. value u bo
     second : (x : ℤ) → value t bound ≡ Ok x → (value u bound ≡ Err e) ⊎ ((y : ℤ) × (value u bound ≡ Ok y) × (applied op x y ≡ Err e)) → IsFirstFault bound (t ∷ u ∷ []) e ⊎ Applied op t u bound e
     second x k (inl m) = inl (later bound t (u ∷ []) e (x, k) (at_first bound u [] e m))
     second x k (inr m) = inr (x, m.0, k, m.1, m.2)
+
     by : (value t bound ≡ Err e) ⊎ ((x : ℤ) × (value t bound ≡ Ok x) × ((value u bound and_then λ y. applied op x y) ≡ Err e)) → IsFirstFault bound (t ∷ u ∷ []) e ⊎ Applied op t u bound e
     by (inl k) = inl (at_first bound t (u ∷ []) e k)
     by (inr k) = second k.0 k.1 (step_fault (value u bound) (λ y. applied op k.0 y) e k.2)
@@ -221,9 +223,11 @@ both_first t u bound e = (λ h. by (step_fault (value t bound) (λ x. unless_zer
     at_zero : (x : ℤ) (b : Bool) → is_zero x ≡ b → value t bound ≡ Ok x → unless_zero b (value u bound) ≡ Err e → Right false t u bound e
     at_zero x true z k h = absurd (never (truth false) e h)
     at_zero x false z k h = (x, k, z, inner_fault (value u bound) (λ y. truth (not (is_zero y))) e h)
+
     by : (value t bound ≡ Err e) ⊎ ((x : ℤ) × (value t bound ≡ Ok x) × (unless_zero (is_zero x) (value u bound) ≡ Err e)) → (value t bound ≡ Err e) ⊎ Right false t u bound e
     by (inl k) = inl k
     by (inr k) = inr (at_zero k.0 (is_zero k.0) refl k.1 k.2)
+
     back : (value t bound ≡ Err e) ⊎ Right false t u bound e → value (Both t u) bound ≡ Err e
     back (inl k) = fault_first (value t bound) (λ x. unless_zero (is_zero x) (value u bound)) e k
     back (inr k) =
@@ -236,9 +240,11 @@ either_first t u bound e = (λ h. by (step_fault (value t bound) (λ x. unless_t
     at_zero : (x : ℤ) (b : Bool) → is_zero x ≡ b → value t bound ≡ Ok x → unless_true b (value u bound) ≡ Err e → Right true t u bound e
     at_zero x false z k h = absurd (never (truth true) e h)
     at_zero x true z k h = (x, k, z, inner_fault (value u bound) (λ y. truth (not (is_zero y))) e h)
+
     by : (value t bound ≡ Err e) ⊎ ((x : ℤ) × (value t bound ≡ Ok x) × (unless_true (is_zero x) (value u bound) ≡ Err e)) → (value t bound ≡ Err e) ⊎ Right true t u bound e
     by (inl k) = inl k
     by (inr k) = inr (at_zero k.0 (is_zero k.0) refl k.1 k.2)
+
     back : (value t bound ≡ Err e) ⊎ Right true t u bound e → value (Either t u) bound ≡ Err e
     back (inl k) = fault_first (value t bound) (λ x. unless_true (is_zero x) (value u bound)) e k
     back (inr k) =

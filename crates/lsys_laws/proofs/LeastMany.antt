@@ -1,5 +1,5 @@
 -- The place of a `many` is the least at which any limit is passed.
-use Rattle.std.proofs.Common.{◌≡◌, ℕ, zero, suc, Bool, true, false, Option, Some, None, List, [], ◌∷◌, ◌+◌, ◌<◌, ◌≤◌, ◌&&◌, nat_lt, length, refl, ap, ◌∙◌, sym, subst, arith, if◌then◌else◌, true≢false, ◌⊎◌, inl, inr}
+use Rattle.std.proofs.Common.{◌≡◌, ℕ, zero, suc, Bool, true, false, Option, Some, None, List, [], ◌∷◌, ◌+◌, ◌<◌, ◌≤◌, ◌&&◌, nat_lt, length, refl, ap, ◌∙◌, sym, subst, arith, if◌then◌else◌, true≢false}
 use Rattle.std.specs.Prelude.{◌↔◌, not}
 use Rattle.std.proofs.lemmas.Bool.Decides.{nat_tests}
 use Rattle.lsys_syntax.specs.Limits.{most_tables, most_rules}
@@ -8,7 +8,7 @@ use Rattle.lsys_syntax.specs.Rules.{Production, rule_pieces}
 use Rattle.lsys_syntax.specs.Checks.{Counts, count_note, count_token, passes_limit, many_place, rule_counts, rule_unknown, rule_repeated, rule_many}
 use Rattle.lsys_spec.specs.Systems.{System, any, tables, clash}
 use Rattle.lsys_spec.specs.Edits.{Why, unknown_name, duplicate, mixed, wrong_label, many, Refusal, or_else, refused_if, refused_at, same_label, put, stands_elsewhere, production_refusal}
-use Rattle.lsys_laws.specs.FirstMany.{counts_at, PassesAt, IsLeast, Passes, by_tables, by_rules, by_itself}
+use Rattle.lsys_laws.specs.FirstMany.{PassesAt, IsLeast, Passes, by_tables, by_rules, by_itself}
 
 -- 1. one rule or string
 
@@ -111,17 +111,18 @@ by_own : (s : System) (n : ℕ) (p : Production) (r : Refusal) → 1 ≤ n → (
     → refused_at (rule_many (n + 2) p.rule) many ≡ Some r → IsLeast (Passes s n p) r.place
 by_own s n p r low t u h = by (rule_many (n + 2) p.rule) refl h
   where
-    before : (q : ℕ) (k : ℕ) (l : IsLeast (PassesAt rule_counts (rule_pieces p.rule)) k) (j : ℕ) → j < n + 2 + k → Passes s n p j → ⊥
-    before q k l j i (by_tables e g) = t g
-    before q k l j i (by_rules e g) = u g
-    before q k l j i (by_itself m e g) = l.1 m (omega (arith, i, e)) g
+    before : (k : ℕ) → IsLeast (PassesAt rule_counts (rule_pieces p.rule)) k → (j : ℕ) → j < n + 2 + k → Passes s n p j → ⊥
+    before k l j i (by_tables e g) = t g
+    before k l j i (by_rules e g) = u g
+    before k l j i (by_itself m e g) = l.1 m (omega (arith, i, e)) g
+
     by : (o : Option ℕ) → rule_many (n + 2) p.rule ≡ o → refused_at o many ≡ Some r → IsLeast (Passes s n p) r.place
     by None e g = cc
     by (Some q) e g =
         let place : q ≡ r.place = ap (λ (x : Refusal). x.place) (some_refusal (refused_for many q) r g) in
         let told = place_told rule_counts (n + 2) (rule_pieces p.rule) q e in
         subst (IsLeast (Passes s n p)) place
-        (by_itself told.0 told.1 told.2.0, λ j i. before q told.0 told.2 j (subst (λ m. j < m) told.1 i))
+        (by_itself told.0 told.1 told.2.0, λ j i. before told.0 told.2 j (subst (λ m. j < m) told.1 i))
 
 by_label : (s : System) (n : ℕ) (p : Production) (r : Refusal) → 1 ≤ n → (most_tables < length (tables (put p s.rules)) → ⊥)
     → or_else (refused_if (nat_lt most_rules (length (put p s.rules) + length s.homomorphisms)) many n) (refused_at (rule_many (n + 2) p.rule) many) ≡ Some r → IsLeast (Passes s n p) r.place
@@ -131,6 +132,7 @@ by_label s n p r low t h = by (nat_lt most_rules (length (put p s.rules) + lengt
     before j i (by_tables e g) = t g
     before j i (by_rules e g) = omega (arith, i, e)
     before j i (by_itself m e g) = omega (arith, i, e)
+
     by : (b : Bool) → nat_lt most_rules (length (put p s.rules) + length s.homomorphisms) ≡ b → or_else (refused_if b many n) (refused_at (rule_many (n + 2) p.rule) many) ≡ Some r → IsLeast (Passes s n p) r.place
     by true e g =
         let place : n ≡ r.place = ap (λ (x : Refusal). x.place) (some_refusal (refused_for many n) r g) in
@@ -146,6 +148,7 @@ by_table s n p r low h = by (nat_lt most_tables (length (tables (put p s.rules))
     before j i (by_tables e g) = omega (arith, i, e)
     before j i (by_rules e g) = omega (arith, i, e, low)
     before j i (by_itself m e g) = omega (arith, i, e)
+
     by : (b : Bool) → nat_lt most_tables (length (tables (put p s.rules))) ≡ b
         → or_else (refused_if b many 1) (or_else (refused_if (nat_lt most_rules (length (put p s.rules) + length s.homomorphisms)) many n) (refused_at (rule_many (n + 2) p.rule) many)) ≡ Some r
         → IsLeast (Passes s n p) r.place

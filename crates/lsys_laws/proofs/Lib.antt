@@ -19,3 +19,5 @@ pub mod Texts
 pub mod MemoryTold
 pub mod FirstFaults
 pub mod LeastMany
+pub mod Untouched
+pub mod KeptLevels

@@ -1,11 +1,11 @@
 -- A question isn't needed exactly where it is one of the old system's questions.
-use Rattle.std.proofs.Common.{◌≡◌, ℕ, zero, suc, Bool, true, false, ◌&&◌, eqb, cond, Option, Some, None, Ok, List, [], ◌∷◌, length, refl, ap, sym, ◌∙◌, subst}
+use Rattle.std.proofs.Common.{◌≡◌, ℕ, zero, suc, Bool, true, false, ◌&&◌, eqb, cond, Some, Ok, List, [], ◌∷◌, length, refl, ap, sym, ◌∙◌}
 use Rattle.std.specs.Prelude.{slice_get, ◌↔◌}
-use Rattle.lsys_spec.specs.Systems.{System, Each, WellSpelled}
+use Rattle.lsys_spec.specs.Systems.{System, WellSpelled}
 use Rattle.lsys_spec.specs.Bodies.{group}
-use Rattle.lsys_spec.specs.Levels.{ModuleValue, Symbol, Module, lineage, IsLevel}
+use Rattle.lsys_spec.specs.Levels.{ModuleValue, Symbol, Module, lineage}
 use Rattle.lsys_spec.specs.Equalities.{same_lineage}
-use Rattle.lsys_spec.specs.Questions.{Question, question, questions, question_at, is_needed, same_question}
+use Rattle.lsys_spec.specs.Questions.{Question, question, questions, question_at, is_needed}
 use Rattle.lsys_spec.specs.Meaning.{meaning}
 use Rattle.lsys_spec.proofs.Eachs.{each_at}
 use Rattle.lsys_spec.proofs.Equal.{same_lineage_refl, same_number_refl}

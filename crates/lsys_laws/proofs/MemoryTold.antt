@@ -7,7 +7,7 @@ use Rattle.lsys_syntax.specs.Lines.{lines_of}
 use Rattle.lsys_spec.specs.Systems.{System, WellSpelled, opening}
 use Rattle.lsys_spec.specs.Refusals.{Reply, refused_memory, line_feed}
 use Rattle.lsys_spec.specs.Replies.{reply}
-use Rattle.lsys_spec.specs.Output.{out, replies_from, followed, reply_or_memory, memory_or, may_lack_memory, output_text, IsFront}
+use Rattle.lsys_spec.specs.Output.{out, replies_from, followed, memory_or, may_lack_memory, output_text, IsFront}
 use Rattle.lsys_laws.specs.Sessions.{IsWell}
 use Rattle.lsys_laws.proofs.KeptPlain.{opening_well}
 use Rattle.lsys_laws.proofs.KeptWhole.{reply_kept}

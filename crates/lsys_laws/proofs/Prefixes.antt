@@ -1,12 +1,12 @@
 -- Which texts begin with a word and a blank.
-use Rattle.std.proofs.Common.{◌≡◌, ℕ, Bool, true, false, ◌&&◌, ◌==◌, List, [], ◌∷◌, ◌++◌, map, refl, ap, ◌∙◌, arith, ℤ, true≢false, sym}
+use Rattle.std.proofs.Common.{◌≡◌, ℕ, Bool, true, false, ◌&&◌, ◌==◌, List, [], ◌∷◌, ◌++◌, refl, ap, ◌∙◌, arith, ℤ, true≢false, sym}
 use Rattle.std.proofs.lemmas.Bool.Decides.{nat_tests}
 use Rattle.lsys_syntax.specs.Tokens.{short, long, is_letter}
-use Rattle.lsys_syntax.specs.Pieces.{Every, text_of, IsNameText}
-use Rattle.lsys_syntax.specs.Strings.{ModuleName, named, plus, minus, ampersand, caret, backslash, slash, bar, bang, IsModuleName, string_text}
+use Rattle.lsys_syntax.specs.Pieces.{Every}
+use Rattle.lsys_syntax.specs.Strings.{ModuleName, named, plus, minus, ampersand, caret, backslash, slash, bar, bang, IsModuleName}
 use Rattle.lsys_syntax.proofs.Bytes.{differs}
 use Rattle.lsys_spec.specs.Systems.{Each}
-use Rattle.lsys_spec.specs.Levels.{Symbol, Push, Pop, Module, plain}
+use Rattle.lsys_spec.specs.Levels.{Symbol, Push, Pop, Module}
 use Rattle.lsys_spec.specs.Output.{IsFront}
 use Rattle.lsys_spec.specs.Shown.{level_text}
 use Rattle.lsys_spec.proofs.Names.{NamedSymbol}

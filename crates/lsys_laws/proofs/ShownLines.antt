@@ -1,12 +1,12 @@
 -- The lines of the printed script: each is a command's, and is answered as this command.
-use Rattle.std.proofs.Common.{◌≡◌, ℕ, zero, Bool, true, false, Result, Ok, Err, List, [], ◌∷◌, ◌++◌, ◌==◌, ◌<◌, ◌≤◌, ◌+◌, map, length, suc, nat_le, refl, ap, ◌∙◌, sym, subst, arith, decimal, ℤ}
+use Rattle.std.proofs.Common.{◌≡◌, ℕ, Bool, true, false, List, [], ◌∷◌, ◌++◌, ◌==◌, ◌<◌, ◌≤◌, map, length, nat_le, refl, ap, ◌∙◌, arith, decimal}
 use Rattle.std.proofs.lemmas.Bool.Decides.{nat_tests}
 use Rattle.std.proofs.lemmas.Fmt.{decimal_is_IsNumeral}
 use Rattle.lsys_syntax.specs.Limits.{nesting_bound}
-use Rattle.lsys_syntax.specs.Lines.{lines_of, without_cr}
+use Rattle.lsys_syntax.specs.Lines.{lines_of}
 use Rattle.lsys_syntax.specs.Tokens.{short, long, Kind, Word, LongWord, Name, Number, BigNumber, Arrow, Equal, Unequal, AtMost, AtLeast, LeftParen, RightParen, LeftBracket, RightBracket, Comma, Colon, At, Plus, Minus, Times, Slash, Backslash, Percent, Ampersand, Bar, Caret, Bang, Less, Greater, Assign, Mode, First, next_mode, is_letter, is_digit, is_alphanumeric, is_word_byte}
 use Rattle.lsys_syntax.specs.Pieces.{Piece, blank, token, note, text_of, token_text, Tail, anything, ending, Reads, Stands, Every, IsWordText}
-use Rattle.lsys_syntax.specs.Strings.{signed_of, EachOf, IsParam, IsSigned}
+use Rattle.lsys_syntax.specs.Strings.{EachOf}
 use Rattle.lsys_syntax.specs.Rules.{Production, IsRule, IsProduction}
 use Rattle.lsys_syntax.specs.Commands.{Command, set_schedule, set_depth, command_pieces, IsCommand, IsHomomorphism, nesting}
 use Rattle.lsys_syntax.proofs.Bytes.{AllDigits-Every}

@@ -1,27 +1,26 @@
 -- The replies to the printed script: none is a refusal, and the last system is the one that was printed.
-use Rattle.std.proofs.Common.{◌≡◌, ℕ, zero, suc, Bool, true, false, None, Some, Result, Ok, Err, List, [], ◌∷◌, ◌++◌, ◌+◌, ◌≤◌, nat_lt, length, map, refl, ap, ◌∙◌, sym, subst, arith, append_assoc, if◌then◌else◌, true≢false}
+use Rattle.std.proofs.Common.{◌≡◌, ℕ, zero, suc, Bool, true, false, Result, Ok, Err, List, [], ◌∷◌, ◌++◌, ◌+◌, ◌≤◌, nat_lt, length, map, refl, ap, ◌∙◌, sym, subst, arith, append_assoc, true≢false}
 use Rattle.std.specs.Prelude.{codes, sum_by}
 use Rattle.std.proofs.lemmas.Bool.Decides.{nat_tests}
 use Rattle.std.proofs.lemmas.List.Sums.{sum_by-cons}
 use Rattle.lsys_syntax.specs.Lines.{lines_of, without_cr}
-use Rattle.lsys_syntax.specs.Tokens.{Token, tokens}
+use Rattle.lsys_syntax.specs.Tokens.{tokens}
 use Rattle.lsys_syntax.specs.Pieces.{placed}
-use Rattle.lsys_syntax.specs.Strings as S
 use Rattle.lsys_syntax.specs.Commands.{Command, set_axiom, put_production, drop_rule, set_ignored, set_schedule, set_seed, set_depth, set_lattice, put_homomorphism, print_string, print_segments, print_svg, print_system, quit, command_pieces}
 use Rattle.lsys_syntax.specs.LineMachine.{verdict}
 use Rattle.lsys_syntax.proofs.LineReads.{line-reads, kinds-placed}
 use Rattle.lsys_syntax.proofs.LineComplete.{command-sentence}
 use Rattle.lsys_syntax.specs.Rules.{Production}
 use Rattle.lsys_spec.specs.Systems.{System, Homomorphism, opening, written, Each, WellFormed, WellSpelled}
-use Rattle.lsys_spec.specs.Edits.{Refusal, refusal, changed, apply, values_of}
+use Rattle.lsys_spec.specs.Edits.{Refusal, refusal, changed, apply}
 use Rattle.lsys_spec.specs.Levels as L
 use Rattle.lsys_spec.specs.Meaning.{LevelRefusal, first_level, next_level, last_level, within_limit, meaning_to, meaning}
 use Rattle.lsys_spec.specs.Values.{◌and_then◌}
-use Rattle.lsys_spec.specs.Refusals.{Reply, said, refused, is_long, is_passed_over, column_at}
+use Rattle.lsys_spec.specs.Refusals.{Reply, said, refused, is_long, column_at}
 use Rattle.lsys_spec.specs.ReadBack.{IsPlainLine}
 use Rattle.lsys_spec.specs.Replies.{accepted, edited, levels_of, command_reply, verdict_reply, tokens_reply, bare_reply, reply, is_query, count_line, questions_of}
 use Rattle.lsys_spec.specs.Questions.{questions}
-use Rattle.lsys_spec.specs.Shown.{as_put, as_put_homomorphism, show_commands, script_of, show_text}
+use Rattle.lsys_spec.specs.Shown.{as_put, as_put_homomorphism, show_commands, show_text}
 use Rattle.lsys_spec.specs.Output.{out, replies_from, followed, any_refusal, last_system, none}
 use Rattle.lsys_spec.proofs.Applied.{apply_all, commands-applied, written-back}
 use Rattle.lsys_spec.proofs.ShownBack.{shown-plain}
@@ -81,7 +80,7 @@ edit_reply limit s t c g p h q e k =
     let column : ℕ → ℕ = λ n. column_at (length (line_text c)) n (placed 0 (command_pieces c)) in (
       count_line (questions_of s (levels_of limit s)) (questions t k.0),
       line_reply limit s c g p h ∙ ap (command_reply limit s column c) a.0 ∙ query_no_edit limit s c q
-      ∙ ap (λ u. edited limit s u (levels_of limit u)) a.1 ∙ ap (edited limit s t) k.1,
+          ∙ ap (λ u. edited limit s u (levels_of limit u)) a.1 ∙ ap (edited limit s t) k.1,
     )
 
 -- 2. systems on the way

@@ -1,22 +1,19 @@
 -- What the text of a reply tells.
-use Rattle.std.proofs.Common.{◌≡◌, ℕ, zero, suc, Bool, true, false, ◌&&◌, not, Option, Some, None, Result, Ok, Err, List, [], ◌∷◌, ◌++◌, ◌+◌, length, map, refl, ap, ◌∙◌, sym, subst, append_assoc, true≢false}
+use Rattle.std.proofs.Common.{◌≡◌, ℕ, suc, Bool, true, false, ◌&&◌, not, Option, Some, None, Result, Ok, Err, List, [], ◌∷◌, ◌++◌, length, map, refl, append_assoc}
 use Rattle.std.specs.Prelude.{codes, slice_get}
 use Rattle.lsys_syntax.specs.Lines.{without_cr}
-use Rattle.lsys_syntax.specs.Tokens.{Kind, Token, tokens}
+use Rattle.lsys_syntax.specs.Tokens.{Token, tokens}
 use Rattle.lsys_syntax.specs.Commands.{Command, set_axiom, put_production, drop_rule, set_ignored, set_schedule, set_seed, set_depth, set_lattice, put_homomorphism, print_string, print_segments, print_svg, print_system, quit}
 use Rattle.lsys_syntax.specs.LineMachine.{Verdict, sentence, stops, too_deep, verdict}
-use Rattle.lsys_spec.specs.Systems.{System, Each, WellSpelled}
+use Rattle.lsys_spec.specs.Systems.{System, WellSpelled}
 use Rattle.lsys_spec.specs.Edits.{Why, unknown_name, duplicate, mixed, wrong_label, wrong_table, wrong_level, many, Refusal, refusal, changed}
-use Rattle.lsys_spec.specs.Values.{Overflow, DivideByZero, NegativePower}
 use Rattle.lsys_spec.specs.Levels as L
 use Rattle.lsys_spec.specs.Meaning as M
 use Rattle.lsys_spec.specs.Images.{ImageFault, ImageLimit}
 use Rattle.lsys_spec.specs.Pictures.{Segment, PictureRefusal, NoImage, Far, picture}
 use Rattle.lsys_spec.specs.Refusals.{Reply, said, refused, line_feed, is_long, is_passed_over, why_word, with_number, derivation_text}
-use Rattle.lsys_spec.specs.Replies.{shown, or_text, levels_of, or_empty, level_at, string_line, picture_refusal_text, picture_of, edited, accepted, refused_token, command_reply, verdict_reply, tokens_reply, bare_reply, reply}
+use Rattle.lsys_spec.specs.Replies.{shown, or_text, levels_of, or_empty, level_at, string_line, picture_refusal_text, picture_of, edited, accepted, command_reply, verdict_reply, tokens_reply, reply}
 use Rattle.lsys_spec.specs.Output.{may_lack_memory}
-use Rattle.lsys_spec.proofs.Eachs.{each_at}
-use Rattle.lsys_spec.proofs.Names.{NamedSymbol}
 use Rattle.lsys_spec.proofs.WellNamed.{NamedLevel, level_named}
 use Rattle.lsys_laws.proofs.Prefixes.{begins, no_word}
 

@@ -1,5 +1,5 @@
 -- Examples of the definitions of lsys_spec, which the checker computes: a system that is full of tables and of rules.
-use Rattle.std.specs.Prelude.{◌≡◌, ℕ, Some, None, List, [], ◌∷◌, ◌++◌, map, replicate, codes, refl}
+use Rattle.std.specs.Prelude.{◌≡◌, ℕ, Some, None, [], ◌∷◌, ◌++◌, map, replicate, codes, refl}
 use Rattle.lsys_syntax.specs.Tokens.{short}
 use Rattle.lsys_syntax.specs.Strings.{named}
 use Rattle.lsys_syntax.specs.Rules.{Rule, Production}

@@ -4,6 +4,7 @@ pub mod Boxes
 pub mod Shifts
 pub mod Faults
 pub mod FirstMany
+pub mod Candidates
 pub mod ValueExamples
 pub mod HomomorphismExamples
 pub mod TurtleExamples
@@ -11,3 +12,4 @@ pub mod LevelNumberExamples
 pub mod ContextExamples
 pub mod LineExamples
 pub mod FullExamples
+pub mod CandidateExamples

@@ -8,7 +8,7 @@ ghost use Rattle.lsys_spec.specs.Edits.{apply};
 ghost use Rattle.lsys_spec.specs.Replies.{reply};
 ghost use Rattle.lsys_spec.specs.ReadBack.{IsReadBack};
 ghost use Rattle.lsys_spec.specs.Output.{out, last_system};
-ghost use Rattle.lsys_laws.specs.Sessions.{IsWell};
+ghost use Rattle.lsys_laws.specs.Sessions.{IsWell, HasLevels};
 
 /// The opening system is well formed and well spelled, and so is what a sentence's command makes of such a system,
 /// where it isn't refused. So each system of a session is, whatever its script and whichever lines find no memory; and
@@ -24,4 +24,14 @@ pub fn law_of_edits()
         → IsWell (last_system (out (reply limit) script lacks)) }
     ensures shown { (limit : ℕ) (script : List ℕ) (lacks : ℕ → Bool)
         → Each (λ r. IsReadBack r.next) (out (reply limit) script lacks) }
+{}
+
+/// The opening system has its levels under every limit, and a line leaves a system that has them under the session's.
+/// So every system of a session has its levels, and what is said of the levels and the questions of systems is said of
+/// all that come.
+pub fn law_of_session_levels()
+    ensures opening { (limit : ℕ) → HasLevels limit opening }
+    ensures line { (limit : ℕ) (s : System) (line : List ℕ) → HasLevels limit s → HasLevels limit (reply limit s line).next }
+    ensures sessions { (limit : ℕ) (script : List ℕ) (lacks : ℕ → Bool)
+        → Each (λ r. HasLevels limit r.next) (out (reply limit) script lacks) }
 {}
