@@ -21,3 +21,4 @@ pub mod FirstFaults
 pub mod LeastMany
 pub mod Untouched
 pub mod KeptLevels
+pub mod StringsTold

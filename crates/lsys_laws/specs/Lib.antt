@@ -1,5 +1,6 @@
 pub mod Sessions
 pub mod Scripts
+pub mod StringPlaces
 pub mod Boxes
 pub mod Shifts
 pub mod Faults

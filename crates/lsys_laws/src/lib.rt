@@ -11,3 +11,4 @@ pub mod pictures;
 pub mod replies;
 pub mod scripts;
 pub mod sessions;
+pub mod strings;
