@@ -6,6 +6,7 @@ pub mod Aparts
 pub mod Tabled
 pub mod KeptRules
 pub mod KeptOthers
+pub mod Along
 pub mod KeptWhole
 pub mod ShownLines
 pub mod ShownReplies

@@ -25,7 +25,10 @@ use Rattle.lsys_spec.specs.Output.{out, replies_from, followed, any_refusal, las
 use Rattle.lsys_spec.proofs.Applied.{apply_all, commands-applied, written-back}
 use Rattle.lsys_spec.proofs.ShownBack.{shown-plain}
 use Rattle.lsys_spec.proofs.Eachs.{each_append}
+use Rattle.lsys_laws.specs.Sessions.{IsWell, HasLevels, HasShortLines, IsTakenBack}
 use Rattle.lsys_laws.proofs.Unrefused as edit
+use Rattle.lsys_laws.proofs.KeptWhole.{out_kept}
+use Rattle.lsys_laws.proofs.KeptLevels.{out_levels}
 use Rattle.lsys_laws.proofs.ShownLines.{IsLine, line_text, lines_script, shown_lines}
 
 -- 1. the reply to a printed line
@@ -66,15 +69,15 @@ query_no_edit limit s print_system h = absurd (true≢false h)
 query_no_edit limit s quit h = absurd (true≢false h)
 
 -- the system has its levels under the limit
-abbrev HasLevels : ℕ → System → Type 0
-HasLevels limit s = (levels : List (List L.Symbol)) × (levels_of limit s ≡ Ok levels)
+abbrev IsLeveled : ℕ → System → Type 0
+IsLeveled limit s = (levels : List (List L.Symbol)) × (levels_of limit s ≡ Ok levels)
 
 -- it is an edit that leaves t
 abbrev Leads : ℕ → System → System → List ℕ → Type 0
 Leads limit s t line = (text : List ℕ) × (reply limit s line ≡ said t text)
 
 edit_reply : (limit : ℕ) (s t : System) (c : Command) → IsLine c → IsPlainLine (line_text c) → IsShortLine (line_text c)
-    → is_query c ≡ false → apply s c ≡ Ok t → HasLevels limit t → Leads limit s t (line_text c)
+    → is_query c ≡ false → apply s c ≡ Ok t → IsLeveled limit t → Leads limit s t (line_text c)
 edit_reply limit s t c g p h q e k =
     let a = edit.accepted s c t e in
     let column : ℕ → ℕ = λ n. column_at (length (line_text c)) n (placed 0 (command_pieces c)) in (
@@ -102,7 +105,7 @@ one_length x = sum_by-cons length x [] ∙ omega arith
 one_level : (limit t : ℕ) (x : List L.Symbol) → length x ≤ limit → within_limit limit t (x ∷ []) ≡ Ok (x ∷ [])
 one_level limit t x h = rw (one_length x) (rw (not_over limit (length x) h))
 
-light_levels : (limit : ℕ) (s : System) → IsLight limit s → HasLevels limit s
+light_levels : (limit : ℕ) (s : System) → IsLight limit s → IsLeveled limit s
 light_levels limit s h = (first_level s ∷ [], rw h.depth (rw (one_level limit 0 (first_level s) h.small) refl))
 
 -- a level is there only where the first one is
@@ -211,7 +214,7 @@ goes_on (Err e) s [] d h = cc
 goes_on (Err e) s (c ∷ cs) d h = cc
 
 replies_end : (limit n : ℕ) (r s : System) (cs : List Command) (d : Command) → Lines (cs ++ d ∷ []) → Each (Keeps limit) cs → is_query d ≡ false
-    → IsLight limit r → apply_all (Ok r) (cs ++ d ∷ []) ≡ Ok s → HasLevels limit s → Ends (replies_from (reply limit) none n r (map line_text (cs ++ d ∷ []))) s
+    → IsLight limit r → apply_all (Ok r) (cs ++ d ∷ []) ≡ Ok s → IsLeveled limit s → Ends (replies_from (reply limit) none n r (map line_text (cs ++ d ∷ []))) s
 replies_end limit n r s [] d g k q light h levels =
     last_on limit n r s d (edit_reply limit r s d g.0.0 g.0.1 g.0.2 q h levels)
 replies_end limit n r s (c ∷ cs) d g k q light h levels =
@@ -243,8 +246,15 @@ shown_replies limit s levels w v m h =
     (ap (apply_all (Ok opening)) (sym split) ∙ commands-applied s w v) (levels, levels_text limit s levels m) in
     subst (λ ls. Ends (replies_from (reply limit) none 1 opening ls) s) (sym (cut ∙ ap (map line_text) split)) ended
 
-pub shown_unrefused : (limit : ℕ) (s : System) (levels : List (List L.Symbol)) → WellFormed s → WellSpelled s → meaning s limit ≡ Ok levels
-    → Each (λ line. is_long line ≡ false) (lines_of (show_text s))
-    → (any_refusal (out (reply limit) (show_text s) none) ≡ false) × (last_system (out (reply limit) (show_text s) none) ≡ s)
-shown_unrefused limit s levels w v m h =
-    let e = shown_replies limit s levels w v m h in (ap any_refusal e.is ∙ e.calm, ap last_system e.is ∙ e.last)
+pub taken_back : (limit : ℕ) (s : System) → IsWell s → HasLevels limit s → HasShortLines s → IsTakenBack limit s
+taken_back limit s w k h =
+    let e = shown_replies limit s k.0 w.0 w.1 k.1 h in record { accepted = ap any_refusal e.is ∙ e.calm; same = ap last_system e.is ∙ e.last }
+
+both_hold : (P Q R : Reply → Type 0) (rs : List Reply) → ((r : Reply) → P r → Q r → R r) → Each P rs → Each Q rs → Each R rs
+both_hold P Q R [] f h k = tt
+both_hold P Q R (r ∷ rs) f h k = (f r h.0 k.0, both_hold P Q R rs f h.1 k.1)
+
+pub all_taken_back : (limit : ℕ) (script : List ℕ) (lacks : ℕ → Bool) → Each (λ r. HasShortLines r.next → IsTakenBack limit r.next) (out (reply limit) script lacks)
+all_taken_back limit script lacks =
+    both_hold (λ r. IsWell r.next) (λ r. HasLevels limit r.next) (λ r. HasShortLines r.next → IsTakenBack limit r.next) (out (reply limit) script lacks) (λ r w k h. taken_back limit r.next w k h)
+    (out_kept limit script lacks) (out_levels limit script lacks)
