@@ -3,6 +3,8 @@ use Rattle.std.proofs.Common.{◌≡◌, ℕ, Bool, None, Ok, List, [], ◌∷�
 use Rattle.lsys_syntax.specs.Limits.{nesting_bound, most_depth}
 use Rattle.lsys_syntax.specs.Commands.{Command, set_axiom, put_production, drop_rule, set_ignored, set_schedule, set_seed, set_depth, set_lattice, put_homomorphism, print_string, print_segments, print_svg, print_system, quit, IsCommand, nesting}
 use Rattle.lsys_syntax.specs.Checks.{axiom_many}
+use Rattle.lsys_syntax.specs.Lines.{lines_of}
+use Rattle.lsys_spec.specs.Shown.{show_text}
 use Rattle.lsys_spec.specs.Systems.{System, Each}
 use Rattle.lsys_laws.specs.Sessions.{IsWell}
 use Rattle.lsys_spec.specs.Edits.{many, refusal, changed, apply}
@@ -12,8 +14,8 @@ use Rattle.lsys_spec.specs.Output.{out, last_system}
 use Rattle.lsys_laws.proofs.Unrefused as edit
 use Rattle.lsys_laws.proofs.Unrefused.{at_none, few}
 use Rattle.lsys_spec.proofs.Eachs.{each_more}
-use Rattle.lsys_spec.proofs.ShownBack.{shown-back}
-use Rattle.lsys_spec.specs.ReadBack.{IsReadBack}
+use Rattle.lsys_spec.proofs.ShownBack.{shown-back, shown-plain}
+use Rattle.lsys_spec.specs.ReadBack.{IsReadBack, IsPlainLine}
 use Rattle.lsys_laws.proofs.Along.{Keeps, reply_keeps, out_keeps}
 use Rattle.lsys_laws.proofs.Parts.{parts, whole}
 use Rattle.lsys_laws.proofs.KeptPlain.{opening_well, schedule_kept, ignored_kept}
@@ -69,3 +71,8 @@ session_kept limit script M = last_kept (out (reply limit) script M) (out_kept l
 pub session_shown : (limit : ℕ) (script : List ℕ) (M : ℕ → Bool) → Each (λ r. IsReadBack r.next) (out (reply limit) script M)
 session_shown limit script M =
     each_more (λ r. IsWell r.next) (λ r. IsReadBack r.next) (out (reply limit) script M) (λ r w. shown-back r.next w.0 w.1) (out_kept limit script M)
+
+-- and its lines stand as they are read
+pub session_plain : (limit : ℕ) (script : List ℕ) (M : ℕ → Bool) → Each (λ r. Each IsPlainLine (lines_of (show_text r.next))) (out (reply limit) script M)
+session_plain limit script M =
+    each_more (λ r. IsWell r.next) (λ r. Each IsPlainLine (lines_of (show_text r.next))) (out (reply limit) script M) (λ r w. shown-plain r.next w.0 w.1) (out_kept limit script M)
