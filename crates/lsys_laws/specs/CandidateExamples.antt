@@ -1,0 +1,41 @@
+-- Examples of the definitions of lsys_spec, which the checker computes: questions that an edit touches, and one that it doesn't.
+use Rattle.std.specs.Prelude.{◌≡◌, ℕ, Bool, true, false, Ok, Err, List, [], ◌∷◌, ◌++◌, map, length, codes, refl}
+use Rattle.lsys_spec.specs.Systems.{System}
+use Rattle.lsys_spec.specs.Levels.{Symbol}
+use Rattle.lsys_spec.specs.Meaning.{meaning}
+use Rattle.lsys_spec.specs.Questions.{Question, questions, is_needed}
+use Rattle.lsys_spec.specs.LevelLaws.{may_differ}
+use Rattle.lsys_spec.specs.Replies.{reply}
+use Rattle.lsys_spec.specs.Output.{out, none, last_system}
+
+-- the system behind a script, and its levels
+abbrev after : List ℕ → System
+after script = last_system (out (reply 100000) script none)
+
+abbrev levels_after : List ℕ → List (List Symbol)
+levels_after script = elim (meaning (after script) 100000) [ Ok levels ↦ levels | Err r ↦ [] ]
+
+abbrev questions_after : List ℕ → List Question
+questions_after script = questions (after script) (levels_after script)
+
+abbrev start : List ℕ
+start = codes "axiom ABCDAE\nproduction p: A > B => X\ndepth 1\n"
+
+-- of each question behind the edit, whether it is a candidate
+abbrev candidates_behind : List ℕ → List Bool
+candidates_behind edit = map (may_differ (after start) (after (start ++ edit)) (levels_after start) (levels_after (start ++ edit))) (questions_after (start ++ edit))
+
+-- two letters A ask, and each reads what is on its right
+pub two_questions : map (λ q. length q.trace) (questions_after start) ≡ 1 ∷ 1 ∷ []
+two_questions = refl
+
+-- the first A reads B, and both stand as before, so it is no candidate; what the second one reads does not
+pub untouched_reader : candidates_behind (codes "axiom ABCDAF\n") ≡ false ∷ true ∷ []
+untouched_reader = refl
+
+-- a name that is ignored touches each question of a rule with a context, and needs none of them
+pub ignored_touches : candidates_behind (codes "ignore Z\n") ≡ true ∷ true ∷ []
+ignored_touches = refl
+
+pub ignored_needs_none : map (is_needed (questions_after start)) (questions_after (start ++ codes "ignore Z\n")) ≡ false ∷ false ∷ []
+ignored_needs_none = refl

@@ -1,0 +1,16 @@
+pub mod Sessions
+pub mod Scripts
+pub mod StringPlaces
+pub mod Boxes
+pub mod Shifts
+pub mod Faults
+pub mod FirstMany
+pub mod Candidates
+pub mod ValueExamples
+pub mod HomomorphismExamples
+pub mod TurtleExamples
+pub mod LevelNumberExamples
+pub mod ContextExamples
+pub mod LineExamples
+pub mod FullExamples
+pub mod CandidateExamples
