@@ -35,11 +35,11 @@ pub same-name : (x y : List ℕ) → IsNameBytes x → IsNameBytes y → is_eq (
 same-name x y h k =
     number-eq (packed x) (packed y)
     ∙ same_from_decides _ _
-      (Decides-like _ (λ e. sym (name-kept x h) ∙ ap unpacked e ∙ name-kept y k) (λ e. ap packed e) (Decides-eqb (packed x) (packed y)))
-      (bytes_eq-Decides x y)
+    (Decides-like _ (λ e. sym (name-kept x h) ∙ ap unpacked e ∙ name-kept y k) (λ e. ap packed e) (Decides-eqb (packed x) (packed y)))
+    (bytes_eq-Decides x y)
     ∙ (ap (λ t. bytes_eq t y) (sym (name-text x h)) ∙ ap (λ t. bytes_eq (name_text (name_of x)) t) (sym (name-text y k)))
 
-names-append : (xs ys : List (List ℕ)) → map name_of (xs ++ ys) ≡ map name_of xs ++ map name_of ys
+pub names-append : (xs ys : List (List ℕ)) → map name_of (xs ++ ys) ≡ map name_of xs ++ map name_of ys
 names-append [] ys = refl
 names-append (x ∷ xs) ys = ap (λ fs. name_of x ∷ fs) (names-append xs ys)
 
@@ -76,23 +76,23 @@ adds-formal a b f k is_new form new updates repeated place = record {
         ∙ ap (λ t. cond t true (contains nat_cmp a.numbers (packed x))) (same-name f x form form-x)
         ∙ ap (cond (bytes_eq (name_text (name_of f)) (name_text (name_of x))) true) (h.known x form-x)
         ∙ sym (ap (λ fs. is_formal fs (name_of x)) (names-append before (f ∷ []))
-               ∙ formal-more (map name_of before) (name_of f) (name_of x)
-               ∙ formal-last (bytes_eq (name_text (name_of f)) (name_text (name_of x))) (is_formal (map name_of before) (name_of x)))
+        ∙ formal-more (map name_of before) (name_of f) (name_of x)
+        ∙ formal-last (bytes_eq (name_text (name_of f)) (name_text (name_of x))) (is_formal (map name_of before) (name_of x)));
   };
   same = λ before h qs.
-    let seen = map name_of before in
-    let rest : Option ℕ = repeated_place (map name_of (before ++ f ∷ [])) false b.end qs in
-    let here : a.end + 1 + 1 ≡ b.end = omega (arith, place) in
-    let later : repeated_place ((seen ++ []) ++ name_of f ∷ []) false (a.end + 1 + 1) qs ≡ rest =
-        ap (λ fs. repeated_place (fs ++ name_of f ∷ []) false (a.end + 1 + 1) qs) (append-nil seen)
-        ∙ ap (λ fs. repeated_place fs false (a.end + 1 + 1) qs) (sym (names-append before (f ∷ [])))
-        ∙ ap (λ n. repeated_place (map name_of (before ++ f ∷ [])) false n qs) here in
-    let known : is_formal (seen ++ []) (name_of f) ≡ contains nat_cmp a.numbers (packed f) = ap (λ fs. is_formal fs (name_of f)) (append-nil seen) ∙ sym (h.known f form) in
-    ap (λ r. first_of a.repeated (cond (is_formal (seen ++ []) (name_of f)) (Some (a.end + 1)) r)) later
-    ∙ ap (λ t. first_of a.repeated (cond t (Some (a.end + 1)) rest)) known
-    ∙ first-found a.repeated (contains nat_cmp a.numbers (packed f)) (a.end + 1) rest
-    ∙ ap (λ t. first_of (first_of a.repeated (cond t None (Some (a.end + 1)))) rest) (sym new)
-    ∙ ap (λ o. first_of o rest) (sym repeated);
+      let seen = map name_of before in
+      let rest : Option ℕ = repeated_place (map name_of (before ++ f ∷ [])) false b.end qs in
+      let here : a.end + 1 + 1 ≡ b.end = omega (arith, place) in
+      let later : repeated_place ((seen ++ []) ++ name_of f ∷ []) false (a.end + 1 + 1) qs ≡ rest =
+      ap (λ fs. repeated_place (fs ++ name_of f ∷ []) false (a.end + 1 + 1) qs) (append-nil seen)
+      ∙ ap (λ fs. repeated_place fs false (a.end + 1 + 1) qs) (sym (names-append before (f ∷ [])))
+      ∙ ap (λ n. repeated_place (map name_of (before ++ f ∷ [])) false n qs) here in
+      let known : is_formal (seen ++ []) (name_of f) ≡ contains nat_cmp a.numbers (packed f) = ap (λ fs. is_formal fs (name_of f)) (append-nil seen) ∙ sym (h.known f form) in
+      ap (λ r. first_of a.repeated (cond (is_formal (seen ++ []) (name_of f)) (Some (a.end + 1)) r)) later
+      ∙ ap (λ t. first_of a.repeated (cond t (Some (a.end + 1)) rest)) known
+      ∙ first-found a.repeated (contains nat_cmp a.numbers (packed f)) (a.end + 1) rest
+      ∙ ap (λ t. first_of (first_of a.repeated (cond t None (Some (a.end + 1)))) rest) (sym new)
+      ∙ ap (λ o. first_of o rest) (sym repeated);
 }
 
 -- 3. pieces behind one another
@@ -112,9 +112,9 @@ module _ {a : FormalNames} where
     place = omega (arith, h.place, k.place, count-append ps qs);
     kept = λ before n. subst (λ all. Numbered all c.numbers) (append_assoc before fs gs) (k.kept (before ++ fs) (h.kept before n));
     same = λ before n rest.
-      ap (repeated_with a before) (append_assoc ps qs rest)
-      ∙ h.same before n (qs ++ rest) ∙ k.same (before ++ fs) (h.kept before n) rest
-      ∙ ap (λ all. repeated_with c all rest) (append_assoc before fs gs);
+        ap (repeated_with a before) (append_assoc ps qs rest)
+        ∙ h.same before n (qs ++ rest) ∙ k.same (before ++ fs) (h.kept before n) rest
+        ∙ ap (λ all. repeated_with c all rest) (append_assoc before fs gs);
   }
 
   -- pieces without formals
@@ -124,9 +124,9 @@ module _ {a : FormalNames} where
     place = place;
     kept = λ before n. subst (Numbered (before ++ [])) (sym numbers) (subst (λ all. Numbered all a.numbers) (sym (append-nil before)) n);
     same = λ before n qs.
-      ap (first_of a.repeated) (same (map name_of before) qs)
-      ∙ ap (λ o. first_of o (repeated_place (map name_of before) false b.end qs)) (sym repeated)
-      ∙ ap (λ all. repeated_with b all qs) (sym (append-nil before));
+        ap (first_of a.repeated) (same (map name_of before) qs)
+        ∙ ap (λ o. first_of o (repeated_place (map name_of before) false b.end qs)) (sym repeated)
+        ∙ ap (λ all. repeated_with b all qs) (sym (append-nil before));
   }
 
   pub adds-nothing : Adds a [] [] a
@@ -196,7 +196,7 @@ pattern-step {a} {m} fs ps xs i x l e h k =
     let between = gap (ends_in_name (pattern_of x)) (begins_with_letter (patterns_of rest)) in
     goes-more fs [] (formals_in rest) ps between (pieces rest)
     (goes-more fs (symbol_formals x) (formals_in rest) ps (symbol_pieces formal_pieces (pattern_of x)) (between ++ pieces rest)
-      (subst (λ ys. Goes a fs ps m (formals_in ys) (pieces ys)) (drop-item xs i x l e) h) k)
+    (subst (λ ys. Goes a fs ps m (formals_in ys) (pieces ys)) (drop-item xs i x l e) h) k)
     (adds-gap (ends_in_name (pattern_of x)) (begins_with_letter (patterns_of rest)))
 
 pub pattern-end : {a m : FormalNames} (fs : List (List ℕ)) (ps : List Piece) (xs : List Pattern) (i : ℕ) → length xs ≤ i
@@ -231,7 +231,7 @@ module _ {a : FormalNames} where
   adds-module k [] l h i j = absurd (omega arith)
   adds-module {s} {t} {u} k (x ∷ fs) l h i j =
       let inner : Adds s (x ∷ fs) (more (x ∷ fs) ++ token RightParen ∷ []) u =
-          subst (λ gs. Adds s gs (more (x ∷ fs) ++ token RightParen ∷ []) u) (append-nil (x ∷ fs)) (adds-trans (x ∷ fs) [] (more (x ∷ fs)) (token RightParen ∷ []) i j) in
+      subst (λ gs. Adds s gs (more (x ∷ fs) ++ token RightParen ∷ []) u) (append-nil (x ∷ fs)) (adds-trans (x ∷ fs) [] (more (x ∷ fs)) (token RightParen ∷ []) i j) in
       adds-trans [] (x ∷ fs) (note a_symbol ∷ token k ∷ []) (params_pieces formal_pieces (map name_of (x ∷ fs))) h
       (opened (x ∷ fs) (note a_param ∷ token (Name (name_of x)) ∷ (more fs ++ token RightParen ∷ [])) inner)
 
@@ -240,7 +240,7 @@ module _ {a : FormalNames} where
   adds-left {b} {c} (x ∷ xs) l h k =
       let fs = formals_in (x ∷ xs) in
       let ending : Adds b [] (blank ∷ token Less ∷ blank ∷ []) c =
-          adds-trans [] [] (blank ∷ []) (token Less ∷ blank ∷ []) adds-blank (adds-trans [] [] (token Less ∷ []) (blank ∷ []) k adds-blank) in
+      adds-trans [] [] (blank ∷ []) (token Less ∷ blank ∷ []) adds-blank (adds-trans [] [] (token Less ∷ []) (blank ∷ []) k adds-blank) in
       adds-trans [] fs (note left_begins ∷ []) (pieces (x ∷ xs) ++ blank ∷ token Less ∷ blank ∷ []) (adds-note left_begins refl)
       (subst (λ gs. Adds a gs (pieces (x ∷ xs) ++ blank ∷ token Less ∷ blank ∷ []) c) (append-nil fs) (adds-trans fs [] (pieces (x ∷ xs)) (blank ∷ token Less ∷ blank ∷ []) h ending))
 
@@ -249,8 +249,8 @@ module _ {a : FormalNames} where
   adds-right {b} {c} (x ∷ xs) l h k =
       let fs = formals_in (x ∷ xs) in
       let beginning : Adds a [] (blank ∷ token Greater ∷ blank ∷ note right_begins ∷ []) b =
-          adds-trans [] [] (blank ∷ []) (token Greater ∷ blank ∷ note right_begins ∷ []) adds-blank
-          (adds-trans [] [] (token Greater ∷ []) (blank ∷ note right_begins ∷ []) h (adds-trans [] [] (blank ∷ []) (note right_begins ∷ []) adds-blank (adds-note right_begins refl))) in
+      adds-trans [] [] (blank ∷ []) (token Greater ∷ blank ∷ note right_begins ∷ []) adds-blank
+      (adds-trans [] [] (token Greater ∷ []) (blank ∷ note right_begins ∷ []) h (adds-trans [] [] (blank ∷ []) (note right_begins ∷ []) adds-blank (adds-note right_begins refl))) in
       adds-trans [] fs (blank ∷ token Greater ∷ blank ∷ note right_begins ∷ []) (pieces (x ∷ xs)) beginning k
 
 -- their tokens

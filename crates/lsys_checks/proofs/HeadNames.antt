@@ -45,8 +45,8 @@ quiet-params : (es : List Expr) (ps : List Piece) → IsQuiet false ps → IsQui
 quiet-params [] ps h = h
 quiet-params (e ∷ es) ps h = λ seen n.
     ap (repeated_place (seen ++ []) true (n + 1))
-      (append_assoc (expr_pieces e) (more_pieces expr_pieces es ++ token RightParen ∷ []) ps
-       ∙ ap (λ qs. expr_pieces e ++ qs) (append_assoc (more_pieces expr_pieces es) (token RightParen ∷ []) ps))
+    (append_assoc (expr_pieces e) (more_pieces expr_pieces es ++ token RightParen ∷ []) ps
+    ∙ ap (λ qs. expr_pieces e ++ qs) (append_assoc (more_pieces expr_pieces es) (token RightParen ∷ []) ps))
     ∙ quiet-expr true e (more_pieces expr_pieces es ++ token RightParen ∷ ps) (quiet-more es (token RightParen ∷ ps) (quiet-token RightParen ps h)) (seen ++ []) (n + 1)
 
 quiet-gap : (a b : Bool) (ps : List Piece) → IsQuiet false ps → IsQuiet false (gap a b ++ ps)
@@ -111,19 +111,19 @@ formal-names from r a b c d empty none place h i j =
     let predecessor = predecessor_pieces (module_name r.predecessor.name) (formals_of r.predecessor) in
     let right = right_pieces (patterns_of r.right.items) in
     let middle : Adds b r.predecessor.formals.items predecessor c =
-        adds-trans [] r.predecessor.formals.items (note predecessor_begins ∷ []) (note a_symbol ∷ token (name_kind (module_name r.predecessor.name)) ∷ params_pieces formal_pieces (formals_of r.predecessor)) (adds-note predecessor_begins refl) i in
+    adds-trans [] r.predecessor.formals.items (note predecessor_begins ∷ []) (note a_symbol ∷ token (name_kind (module_name r.predecessor.name)) ∷ params_pieces formal_pieces (formals_of r.predecessor)) (adds-note predecessor_begins refl) i in
     let all : Adds a (formals_at r) (head_pieces r) d =
-        adds-trans (formals_in r.left.items) (r.predecessor.formals.items ++ formals_in r.right.items) left (predecessor ++ right) h
-        (adds-trans r.predecessor.formals.items (formals_in r.right.items) predecessor right middle j) in
+    adds-trans (formals_in r.left.items) (r.predecessor.formals.items ++ formals_in r.right.items) left (predecessor ++ right) h
+    (adds-trans r.predecessor.formals.items (formals_in r.right.items) predecessor right middle j) in
     let before : Numbered [] a.numbers = record { known = λ x form. rw empty refl } in
     record {
       numbered = all.kept [] before;
       repeated = λ ks.
-        sym (ap (repeated_place [] false from) (head-rest ks r)
-             ∙ ap (λ n. repeated_place [] false n (head_pieces r ++ rest_pieces ks r)) (sym place)
-             ∙ ap (λ o. first_of o (repeated_place [] false a.end (head_pieces r ++ rest_pieces ks r))) (sym none)
-             ∙ all.same [] before (rest_pieces ks r)
-             ∙ ap (first_of d.repeated) (quiet-rest ks r (map name_of (formals_at r)) d.end)
-             ∙ first-none d.repeated);
+          sym (ap (repeated_place [] false from) (head-rest ks r)
+          ∙ ap (λ n. repeated_place [] false n (head_pieces r ++ rest_pieces ks r)) (sym place)
+          ∙ ap (λ o. first_of o (repeated_place [] false a.end (head_pieces r ++ rest_pieces ks r))) (sym none)
+          ∙ all.same [] before (rest_pieces ks r)
+          ∙ ap (first_of d.repeated) (quiet-rest ks r (map name_of (formals_at r)) d.end)
+          ∙ first-none d.repeated);
       place = all.place ∙ ap (λ n. n + length (kinds_of (head_pieces r))) place;
     }

@@ -1,2 +1,4 @@
 pub mod Adding
 pub mod HeadNames
+pub mod Searches
+pub mod WholeSearch

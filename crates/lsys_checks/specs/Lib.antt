@@ -1,2 +1,2 @@
 pub mod Formals
-
+pub mod Searching

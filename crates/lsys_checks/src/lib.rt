@@ -1,7 +1,10 @@
+//! What refuses a rule by itself: an unknown name, a formal that repeats, a limit that is passed; each with the token at
 //! which it does.
 #![tactic(auto)]
 
 mod formals;
 mod number;
+mod unknown;
 
 pub use formals::FormalNames;
+pub use unknown::unknown_name;

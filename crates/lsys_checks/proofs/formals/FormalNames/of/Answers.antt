@@ -16,8 +16,13 @@ add_module-requires c = rw c.deref-2.ensures.value (omega (arith, head-count c.a
 pub add_right-requires : goal.add_right-requires
 add_right-requires c =
     rw c.deref-3.ensures.value
-    (omega (arith, head-count c.args.rule.now, c.requires.room, rw c.deref.ensures.value at c.in_ok-add_left.ensures.place,
-     rw c.deref-2.ensures.value at (c.in_ok-add_module.ensures (name_kind (module_name c.args.rule.now.predecessor.name))).place))
+    (omega (
+      arith,
+      head-count c.args.rule.now,
+      c.requires.room,
+      rw c.deref.ensures.value at c.in_ok-add_left.ensures.place,
+      rw c.deref-2.ensures.value at (c.in_ok-add_module.ensures (name_kind (module_name c.args.rule.now.predecessor.name))).place,
+    ))
 
 pub returns : goal.returns
 returns c =
