@@ -1,2 +1,3 @@
 pub mod Formals
 pub mod Searching
+pub mod Counting

@@ -2,9 +2,13 @@
 //! which it does.
 #![tactic(auto)]
 
+mod counter;
+mod counting;
 mod formals;
+mod many;
 mod number;
 mod unknown;
 
 pub use formals::FormalNames;
+pub use many::first_many;
 pub use unknown::unknown_name;
