@@ -4,9 +4,9 @@ use Rattle.std.proofs.lemmas.Bool.Decides.{nat_tests, Decides-eqb, Decides-like,
 use Rattle.std.proofs.lemmas.Slice.Eq.{bytes_eq-Decides}
 use Rattle.std.proofs.lemmas.List.{at_drop_more, drop_all}
 use Rattle.std.specs.Ordering.{nat_cmp, is_eq}
-use Rattle.std.specs.BTreeSet.{BTreeSet, contains}
+use Rattle.std.specs.BTreeSet.{contains}
 use Rattle.lsys_syntax.specs.Tokens.{NameText, Kind, Name, Less, Greater, LeftParen, RightParen, Comma}
-use Rattle.lsys_syntax.specs.Pieces.{Piece, Note, blank, token, note, a_symbol, a_param, left_begins, predecessor_begins, right_begins, kinds_of, name_text}
+use Rattle.lsys_syntax.specs.Pieces.{Piece, Note, blank, token, note, a_symbol, a_param, left_begins, right_begins, kinds_of, name_text}
 use Rattle.lsys_syntax.specs.Strings.{params_pieces, more_pieces, symbol_pieces, string_pieces, gap, ends_in_name, begins_with_letter}
 use Rattle.lsys_syntax.specs.Rules.{formal_pieces, left_pieces, right_pieces}
 use Rattle.lsys_syntax.specs.Checks.{is_formal, is_param, repeated_place}

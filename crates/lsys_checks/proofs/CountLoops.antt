@@ -1,15 +1,15 @@
 -- Counts of lists of symbols, formals and parameters.
-use Rattle.std.proofs.Common.{◌≡◌, ℕ, ◌+◌, ◌-◌, ◌≤◌, ◌<◌, Bool, false, Some, Result, Ok, Err, List, [], ◌∷◌, ◌++◌, length, map, take, drop, get_or, refl, ap, sym, subst, ◌∙◌, append_assoc, length-drop, arith}
+use Rattle.std.proofs.Common.{◌≡◌, ℕ, ◌+◌, ◌-◌, ◌≤◌, ◌<◌, false, Some, Result, Ok, Err, List, [], ◌∷◌, ◌++◌, length, map, drop, get_or, refl, ap, sym, subst, ◌∙◌, append_assoc, length-drop, arith}
 use Rattle.std.proofs.lemmas.List.{drop_all, length-take-le}
-use Rattle.lsys_syntax.specs.Tokens.{NameText, Kind, Name, Comma, LeftParen, RightParen, Less, Greater, Arrow}
-use Rattle.lsys_syntax.specs.Pieces.{Piece, Note, blank, token, note, a_symbol, a_param, left_begins, predecessor_begins, right_begins, successor_begins}
+use Rattle.lsys_syntax.specs.Tokens.{NameText, Kind, Comma, LeftParen, RightParen, Less, Greater}
+use Rattle.lsys_syntax.specs.Pieces.{Piece, Note, blank, token, note, a_symbol, a_param, left_begins, right_begins, successor_begins}
 use Rattle.lsys_syntax.specs.Strings as S
 use Rattle.lsys_syntax.specs.Strings.{more_pieces, params_pieces, symbol_pieces, string_pieces, gap, ends_in_name, begins_with_letter}
 use Rattle.lsys_syntax.specs.Expressions.{Expr, expr_kinds, expr_pieces}
 use Rattle.lsys_syntax.specs.Checks.{Counts, count_note, many_place}
 use Rattle.lsys_syntax.specs.Limits.{most_left, most_right, most_successor_symbols, most_rule_tokens}
 use Rattle.lsys_syntax.specs.Rules.{formal_pieces, left_pieces, right_pieces, successor_pieces}
-use Rattle.lsys_reading.specs.Spans.{IsSpan, expr_at, part}
+use Rattle.lsys_reading.specs.Spans.{IsSpan, expr_at}
 use Rattle.lsys_reading.specs.declared.span.Span.{Span}
 use Rattle.lsys_checks.specs.Counting.{counts_of, CountsOn, Counting}
 use Rattle.lsys_checks.specs.declared.counter.Counter.{Counter}
@@ -122,9 +122,9 @@ pub counts-section : {result : Result Counter ℕ} (c d : Counter) (m : Note) (p
 counts-section c d m ps t e h = record {
   few = h.few;
   same = λ from qs.
-    ap (λ b. many_place b (from + c.tokens) (ps ++ qs)) e
-    ∙ ap (λ n. many_place (counts_of d) (from + n) (ps ++ qs)) (sym t)
-    ∙ h.same from qs;
+      ap (λ b. many_place b (from + c.tokens) (ps ++ qs)) e
+      ∙ ap (λ n. many_place (counts_of d) (from + n) (ps ++ qs)) (sym t)
+      ∙ h.same from qs;
 }
 
 pub section-is : (c d : Counter) (m : ℕ) → d.tokens ≡ c.tokens → d.symbols ≡ 0 → d.most ≡ m → d.params ≡ c.params
@@ -144,7 +144,7 @@ module _ (c d : Counter) (xs : List (S.Symbol NameText)) (l : 0 < length xs) whe
       by (y ∷ ys) l h =
           counts-section c d left_begins (string_pieces formal_pieces (y ∷ ys) ++ blank ∷ token Less ∷ blank ∷ []) t s
           (counts-on (string_pieces formal_pieces (y ∷ ys)) (blank ∷ token Less ∷ blank ∷ []) h
-            (counts-on (blank ∷ []) (token Less ∷ blank ∷ []) (counts-blank e) (counts-then_blank e (token Less ∷ []) k)))
+          (counts-on (blank ∷ []) (token Less ∷ blank ∷ []) (counts-blank e) (counts-then_blank e (token Less ∷ []) k)))
 
   pub left-passed : {p : ℕ} → d.tokens ≡ c.tokens → counts_section c most_left ≡ counts_of d → Counting d (string_pieces formal_pieces xs) (Err p) → Counting c (left_pieces xs) (Err p)
   left-passed {p = p} t s h = by xs l h

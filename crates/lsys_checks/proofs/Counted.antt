@@ -1,14 +1,14 @@
 -- Counts of pieces behind one another.
-use Rattle.std.proofs.Common.{◌≡◌, ℕ, zero, suc, ◌+◌, ◌≤◌, ◌<◌, Bool, true, false, ◌||◌, Option, Some, None, Result, Ok, Err, List, [], ◌∷◌, ◌++◌, length, map, drop, get_or, nat_lt, cond, refl, ap, sym, subst, ◌∙◌, append_assoc, arith}
-use Rattle.std.specs.Prelude.{IfErr, IfOk}
+use Rattle.std.proofs.Common.{◌≡◌, ℕ, ◌+◌, ◌≤◌, ◌<◌, Bool, true, false, ◌||◌, Some, Result, Ok, Err, List, [], ◌∷◌, ◌++◌, length, map, drop, get_or, nat_lt, cond, refl, ap, sym, ◌∙◌, append_assoc, arith}
+use Rattle.std.specs.Prelude.{IfOk}
 use Rattle.std.proofs.lemmas.List.{drop_all, at_drop_more}
 use Rattle.std.proofs.lemmas.Bool.Decides.{nat_tests}
 use Rattle.lsys_syntax.specs.Limits.{most_params, most_rule_tokens, most_expression_tokens}
 use Rattle.lsys_syntax.specs.Tokens.{Kind, Colon}
-use Rattle.lsys_syntax.specs.Pieces.{Piece, Note, blank, token, note, a_symbol, a_param, expr_begins, expr_ends}
+use Rattle.lsys_syntax.specs.Pieces.{Piece, blank, token, note, a_symbol, a_param, expr_begins, expr_ends}
 use Rattle.lsys_syntax.specs.Strings.{gap}
-use Rattle.lsys_syntax.specs.Checks.{Counts, count_note, count_token, passes_limit, many_place}
-use Rattle.lsys_checks.specs.Counting.{counts_with, counts_of, next_passes, inside_passes, IsOneMore, passed_or, CountsOn, Counting}
+use Rattle.lsys_syntax.specs.Checks.{Counts, count_token, passes_limit, many_place}
+use Rattle.lsys_checks.specs.Counting.{counts_with, counts_of, next_passes, inside_passes, IsOneMore, CountsOn, Counting}
 use Rattle.lsys_checks.specs.declared.counter.Counter.{Counter}
 
 module _ {b : Counts} where
@@ -61,15 +61,15 @@ pub counts-one : (c : Counter) (s p : ℕ) (k : Kind) (result : Result Counter �
 counts-one c s p k (Ok d) h = record {
   few = tt;
   same = λ from qs.
-    ap (λ b. cond b (Some (from + c.tokens)) (many_place (count_token (counts_with c s p)) (from + c.tokens + 1) qs)) h.0
-    ∙ ap (λ n. many_place (count_token (counts_with c s p)) n qs) (omega (arith, ap (λ (b : Counts). b.tokens) h.1))
-    ∙ ap (λ b. many_place b (from + d.tokens) qs) (sym h.1);
+      ap (λ b. cond b (Some (from + c.tokens)) (many_place (count_token (counts_with c s p)) (from + c.tokens + 1) qs)) h.0
+      ∙ ap (λ n. many_place (count_token (counts_with c s p)) n qs) (omega (arith, ap (λ (b : Counts). b.tokens) h.1))
+      ∙ ap (λ b. many_place b (from + d.tokens) qs) (sym h.1);
 }
 counts-one c s p k (Err t) h = record {
   few = omega (arith, h.1, c.few_tokens);
   same = λ from qs.
-    ap (λ b. cond b (Some (from + c.tokens)) (many_place (count_token (counts_with c s p)) (from + c.tokens + 1) qs)) h.0
-    ∙ ap (λ n. Some (from + n)) (sym h.1);
+      ap (λ b. cond b (Some (from + c.tokens)) (many_place (count_token (counts_with c s p)) (from + c.tokens + 1) qs)) h.0
+      ∙ ap (λ n. Some (from + n)) (sym h.1);
 }
 
 -- a token behind the note of a symbol or a parameter
@@ -99,7 +99,7 @@ drop-next ks i l = at_drop_more (λ js. js) ks i Colon l
 
 inside-step : (c : Counter) (p n tokens done : ℕ) → done < n → InsideOf c p n tokens done → (ks : List Kind) → length ks ≡ n → (from : ℕ) (qs : List Piece)
     → many_place (inside_counts c c.tokens p 0) (from + c.tokens) (map token ks ++ qs)
-      ≡ cond (ends_inside c tokens p done) (Some (from + tokens)) (many_place (inside_counts c (tokens + 1) p (done + 1)) (from + (tokens + 1)) (map token (drop (done + 1) ks) ++ qs))
+    ≡ cond (ends_inside c tokens p done) (Some (from + tokens)) (many_place (inside_counts c (tokens + 1) p (done + 1)) (from + (tokens + 1)) (map token (drop (done + 1) ks) ++ qs))
 inside-step c p n tokens done l h ks e from qs =
     let k = drop-next ks done (omega (arith, e, l)) in
     h.same ks e from qs
@@ -110,8 +110,8 @@ pub inside-more : (c : Counter) (p n tokens done : ℕ) → done < n → tokens 
 inside-more c p n tokens done l m f h = record {
   few = m;
   same = λ ks e from qs.
-    inside-step c p n tokens done l h ks e from qs
-    ∙ ap (λ t. cond t (Some (from + tokens)) (many_place (inside_counts c (tokens + 1) p (done + 1)) (from + (tokens + 1)) (map token (drop (done + 1) ks) ++ qs))) f;
+      inside-step c p n tokens done l h ks e from qs
+      ∙ ap (λ t. cond t (Some (from + tokens)) (many_place (inside_counts c (tokens + 1) p (done + 1)) (from + (tokens + 1)) (map token (drop (done + 1) ks) ++ qs))) f;
 }
 
 pub inside-passed : (c : Counter) (p n tokens done : ℕ) → done < n → ends_inside c tokens p done ≡ true → InsideOf c p n tokens done
@@ -119,9 +119,9 @@ pub inside-passed : (c : Counter) (p n tokens done : ℕ) → done < n → ends_
 inside-passed c p n tokens done l t h ks e = record {
   few = h.few;
   same = λ from qs.
-    ap (many_place (inside_counts c c.tokens p 0) (from + c.tokens)) (append_assoc (map token ks) (note expr_ends ∷ []) qs)
-    ∙ inside-step c p n tokens done l h ks e from (note expr_ends ∷ qs)
-    ∙ ap (λ b. cond b (Some (from + tokens)) (many_place (inside_counts c (tokens + 1) p (done + 1)) (from + (tokens + 1)) (map token (drop (done + 1) ks) ++ note expr_ends ∷ qs))) t;
+      ap (many_place (inside_counts c c.tokens p 0) (from + c.tokens)) (append_assoc (map token ks) (note expr_ends ∷ []) qs)
+      ∙ inside-step c p n tokens done l h ks e from (note expr_ends ∷ qs)
+      ∙ ap (λ b. cond b (Some (from + tokens)) (many_place (inside_counts c (tokens + 1) p (done + 1)) (from + (tokens + 1)) (map token (drop (done + 1) ks) ++ note expr_ends ∷ qs))) t;
 }
 
 pub inside-done : (c d : Counter) (p n tokens done : ℕ) → n ≤ done → counts_of d ≡ record { tokens = tokens; most_tokens = Some most_rule_tokens; expr_tokens = 0; inside = false; symbols = c.symbols; most = c.most; params = p } → InsideOf c p n tokens done
@@ -129,8 +129,8 @@ pub inside-done : (c d : Counter) (p n tokens done : ℕ) → n ≤ done → cou
 inside-done c d p n tokens done l is h ks e = record {
   few = tt;
   same = λ from qs.
-    ap (many_place (inside_counts c c.tokens p 0) (from + c.tokens)) (append_assoc (map token ks) (note expr_ends ∷ []) qs)
-    ∙ h.same ks e from (note expr_ends ∷ qs)
-    ∙ ap (λ js. many_place (inside_counts c tokens p done) (from + tokens) (map token js ++ note expr_ends ∷ qs)) (drop_all done ks (omega (arith, e, l)))
-    ∙ ap (λ (b : Counts). many_place b (from + b.tokens) qs) (sym is);
+      ap (many_place (inside_counts c c.tokens p 0) (from + c.tokens)) (append_assoc (map token ks) (note expr_ends ∷ []) qs)
+      ∙ h.same ks e from (note expr_ends ∷ qs)
+      ∙ ap (λ js. many_place (inside_counts c tokens p done) (from + tokens) (map token js ++ note expr_ends ∷ qs)) (drop_all done ks (omega (arith, e, l)))
+      ∙ ap (λ (b : Counts). many_place b (from + b.tokens) qs) (sym is);
 }

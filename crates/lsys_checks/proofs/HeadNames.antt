@@ -1,13 +1,12 @@
 -- The formals of a whole rule; behind its contexts and its predecessor stand none.
-use Rattle.std.proofs.Common.{◌≡◌, ℕ, ◌+◌, Bool, true, false, Option, Some, None, List, [], ◌∷◌, ◌++◌, length, map, refl, ap, sym, ◌∙◌, append_assoc, append-nil, arith}
-use Rattle.std.specs.BTreeSet.{BTreeSet, contains}
-use Rattle.lsys_syntax.specs.Tokens.{NameText, Kind, Colon, At, Arrow, Comma, LeftParen, RightParen}
-use Rattle.lsys_syntax.specs.Pieces.{Piece, blank, token, note, a_symbol, a_param, expr_ends, predecessor_begins, kinds_of}
+use Rattle.std.proofs.Common.{◌≡◌, ℕ, ◌+◌, Bool, true, false, Option, Some, None, List, [], ◌∷◌, ◌++◌, length, map, refl, ap, sym, ◌∙◌, append_assoc, arith}
+use Rattle.lsys_syntax.specs.Tokens.{NameText, Kind, Colon, At, Arrow, RightParen}
+use Rattle.lsys_syntax.specs.Pieces.{Piece, blank, token, note, a_symbol, expr_ends, predecessor_begins, kinds_of}
 use Rattle.lsys_syntax.specs.Strings as S
 use Rattle.lsys_syntax.specs.Strings.{more_pieces, params_pieces, symbol_pieces, string_pieces, gap, ends_in_name, begins_with_letter, name_kind}
 use Rattle.lsys_syntax.specs.Expressions.{Expr, expr_kinds, expr_pieces}
 use Rattle.lsys_syntax.specs.Rules.{formal_pieces, left_pieces, predecessor_pieces, right_pieces, option_pieces, successor_pieces, rule_pieces}
-use Rattle.lsys_syntax.specs.Checks.{repeated_place, rule_repeated}
+use Rattle.lsys_syntax.specs.Checks.{repeated_place}
 use Rattle.lsys_text.specs.Tokens.{name_of}
 use Rattle.lsys_module.specs.Views.{module_name}
 use Rattle.lsys_reading.specs.Heads.{patterns_of, formals_of}
@@ -15,7 +14,7 @@ use Rattle.lsys_reading.specs.Spans.{option_at}
 use Rattle.lsys_reading.specs.Images.{images_at}
 use Rattle.lsys_reading.specs.RuleLines.{rule_at}
 use Rattle.lsys_reading.specs.declared.rule.RuleLine.{RuleLine}
-use Rattle.lsys_checks.specs.Formals.{Numbered, first_of, repeated_with, Adds, AreFormalNames, formals_in, formals_at, head_pieces, rest_pieces}
+use Rattle.lsys_checks.specs.Formals.{Numbered, first_of, Adds, AreFormalNames, formals_in, formals_at, head_pieces, rest_pieces}
 use Rattle.lsys_checks.specs.declared.formals.FormalNames.{FormalNames}
 use Rattle.lsys_checks.proofs.Adding.{count-append, adds-trans, adds-note}
 

@@ -1,9 +1,8 @@
 -- Searches of pieces behind one another.
-use Rattle.std.proofs.Common.{◌≡◌, ℕ, zero, suc, ◌+◌, ◌-◌, ◌<◌, ◌≤◌, Bool, true, false, ◌&&◌, Option, Some, None, Result, Ok, Err, List, [], ◌∷◌, ◌++◌, length, map, get_or, take, drop, cond, refl, ap, sym, subst, ◌∙◌, append_assoc, append-nil, length-append, arith}
-use Rattle.std.specs.Prelude.{IfOk}
+use Rattle.std.proofs.Common.{◌≡◌, ℕ, zero, suc, ◌+◌, ◌-◌, ◌<◌, ◌≤◌, Bool, true, false, Option, Some, None, Result, Ok, Err, List, [], ◌∷◌, ◌++◌, length, map, get_or, take, drop, cond, refl, ap, sym, subst, ◌∙◌, append_assoc, arith}
 use Rattle.std.proofs.lemmas.List.{take-map, drop-map, drop_all}
 use Rattle.lsys_syntax.specs.Tokens.{NameText, Kind, Colon, At, Arrow, Comma, LeftParen, RightParen}
-use Rattle.lsys_syntax.specs.Pieces.{Piece, Note, blank, token, note, a_symbol, a_param, successor_begins, expr_begins, expr_ends, kinds_of}
+use Rattle.lsys_syntax.specs.Pieces.{Piece, Note, blank, token, note, a_symbol, a_param, successor_begins, expr_ends, kinds_of}
 use Rattle.lsys_syntax.specs.Strings as S
 use Rattle.lsys_syntax.specs.Strings.{more_pieces, params_pieces, symbol_pieces, string_pieces, gap, ends_in_name, begins_with_letter, name_kind}
 use Rattle.lsys_syntax.specs.Expressions.{Expr, expr_kinds, expr_pieces}
@@ -12,7 +11,7 @@ use Rattle.lsys_syntax.specs.Checks.{is_unknown, inside_after, unknown_place}
 use Rattle.lsys_text.specs.Tokens.{kind_of, name_of}
 use Rattle.lsys_text.specs.Tokens as text
 use Rattle.lsys_text.specs.declared.token_kind.Token.{Token}
-use Rattle.lsys_reading.specs.Spans.{IsSpan, AreSpans, part, expr_at, option_at}
+use Rattle.lsys_reading.specs.Spans.{IsSpan, AreSpans, expr_at, option_at}
 use Rattle.lsys_reading.specs.Images.{ImageIsAt, ImagesAreAt, module_at, image_at, images_at, params_at}
 use Rattle.lsys_reading.specs.declared.span.Span.{Span}
 use Rattle.lsys_module.specs.Views.{module_name}
@@ -20,7 +19,7 @@ use Rattle.lsys_reading.specs.declared.rule.RuleLine.{RuleLine}
 use Rattle.lsys_reading.specs.declared.images.ImageModule.{ImageModule}
 use Rattle.lsys_reading.specs.declared.images.Image.{Image}
 use Rattle.lsys_checks.specs.Formals.{Numbered, rest_pieces}
-use Rattle.lsys_checks.specs.Searching.{count, found_or, Searches}
+use Rattle.lsys_checks.specs.Searching.{count, Searches}
 use Rattle.lsys_checks.specs.declared.formals.FormalNames.{FormalNames}
 use Rattle.lsys_checks.proofs.Adding.{count-append, drop-item}
 

@@ -1,9 +1,9 @@
 -- Counts of a whole rule, by its parts.
-use Rattle.std.proofs.Common.{◌≡◌, ℕ, ◌+◌, None, Option, Result, Ok, Err, List, [], ◌∷◌, ◌++◌, refl, ap, sym, ◌∙◌, append-nil, arith}
+use Rattle.std.proofs.Common.{◌≡◌, ℕ, None, Result, Ok, Err, List, [], ◌∷◌, ◌++◌, ap, sym, ◌∙◌, append-nil, arith}
 use Rattle.lsys_syntax.specs.Tokens.{Arrow}
 use Rattle.lsys_syntax.specs.Pieces.{Piece, blank, token}
 use Rattle.lsys_syntax.specs.Checks.{Counts, rule_counts, many_place}
-use Rattle.lsys_checks.specs.Counting.{counts_of, passed_or, CountsOn, Counting}
+use Rattle.lsys_checks.specs.Counting.{passed_or, CountsOn, Counting}
 use Rattle.lsys_checks.specs.declared.counter.Counter.{Counter}
 use Rattle.lsys_checks.proofs.Counted.{counts-on, counts-passed, counts-blank}
 

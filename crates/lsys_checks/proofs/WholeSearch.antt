@@ -1,6 +1,6 @@
 -- The first unknown name of a whole rule: none stands before its condition.
-use Rattle.std.proofs.Common.{◌≡◌, ℕ, ◌+◌, Bool, true, false, not, ◌&&◌, Option, None, Result, Ok, Err, List, [], ◌∷◌, ◌++◌, length, map, refl, ap, sym, ◌∙◌, append_assoc, append-nil, arith}
-use Rattle.lsys_syntax.specs.Tokens.{NameText, Kind, Name, LeftParen, RightParen, Less, Greater}
+use Rattle.std.proofs.Common.{◌≡◌, ℕ, ◌+◌, Bool, true, false, not, ◌&&◌, None, Result, List, [], ◌∷◌, ◌++◌, map, refl, ap, sym, ◌∙◌, append-nil, arith}
+use Rattle.lsys_syntax.specs.Tokens.{NameText, Kind, RightParen, Less}
 use Rattle.lsys_syntax.specs.Pieces.{Piece, blank, token, note, a_symbol, a_param, left_begins, predecessor_begins, right_begins, successor_begins, expr_begins, expr_ends}
 use Rattle.lsys_syntax.specs.Strings as S
 use Rattle.lsys_syntax.specs.Strings.{more_pieces, params_pieces, symbol_pieces, string_pieces, gap, ends_in_name, begins_with_letter}

@@ -1,10 +1,8 @@
 -- A search for the first unknown name, piece by piece.
-use Rattle.std.specs.Prelude.{◌≡◌, ℕ, ◌+◌, ◌≤◌, false, Option, Some, Result, Ok, Err, List, ◌++◌, length, map, IfOk}
-use Rattle.lsys_syntax.specs.Tokens.{Kind}
+use Rattle.std.specs.Prelude.{◌≡◌, ℕ, ◌+◌, false, Option, Some, Result, Ok, Err, List, ◌++◌, length, map, IfOk}
 use Rattle.lsys_syntax.specs.Pieces.{Piece, kinds_of}
 use Rattle.lsys_syntax.specs.Checks.{unknown_place}
 use Rattle.lsys_text.specs.Tokens.{name_of}
-use Rattle.lsys_reading.specs.declared.rule.RuleLine.{RuleLine}
 use Rattle.lsys_checks.specs.Formals.{Numbered}
 use Rattle.lsys_checks.specs.declared.formals.FormalNames.{FormalNames}
 

@@ -1,7 +1,5 @@
-use Rattle.std.proofs.Common.{◌≡◌}
 use Rattle.lsys_syntax.specs.Strings.{name_kind}
 use Rattle.lsys_syntax.specs.Tokens.{LeftBracket, RightBracket, Percent}
-use Rattle.lsys_reading.specs.Spans.{AreSpans}
 use Rattle.lsys_module.specs.Views.{module_name}
 use Rattle.lsys_checks.proofs.many.count_image.Goals as goal
 

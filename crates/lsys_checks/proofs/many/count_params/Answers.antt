@@ -19,7 +19,7 @@ returns-in_err-counted c ks h =
     let item = copied-item xs i none c.loop-param-test.true in
     let p = err_from_is_err_and c.from_residual.result c.from_residual.ensures.1 in
     rw (p.1, p.2) (marked-passed expr_pieces (expr_at ks) (marked expr_pieces (expr_at ks) xs) xs i s c.loop-param-test.true item (c.loop-param.invariant ks h)
-      (c.in_err-counted.ensures Comma (expr_kinds (expr_at ks s)) (span-size ks s (spans-item ks xs i s c.loop-param-test.true item h) ∙ sym c.size.ensures)))
+    (c.in_err-counted.ensures Comma (expr_kinds (expr_at ks s)) (span-size ks s (spans-item ks xs i s c.loop-param-test.true item h) ∙ sym c.size.ensures)))
 
 pub loop-param-preserved : goal.loop-param-preserved
 loop-param-preserved c ks h =
@@ -28,7 +28,7 @@ loop-param-preserved c ks h =
     let s = get_or xs i none in
     let item = copied-item xs i none c.loop-param-test.true in
     marked-more expr_pieces (expr_at ks) (marked expr_pieces (expr_at ks) xs) xs i s c.loop-param-test.true item (c.loop-param.invariant ks h)
-      (c.in_ok-counted.ensures Comma (expr_kinds (expr_at ks s)) (span-size ks s (spans-item ks xs i s c.loop-param-test.true item h) ∙ sym c.size.ensures))
+    (c.in_ok-counted.ensures Comma (expr_kinds (expr_at ks s)) (span-size ks s (spans-item ks xs i s c.loop-param-test.true item h) ∙ sym c.size.ensures))
 
 pub returns : goal.returns
 returns c ks h =

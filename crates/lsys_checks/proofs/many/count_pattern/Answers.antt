@@ -1,4 +1,3 @@
-use Rattle.std.proofs.Common.{◌≡◌}
 use Rattle.lsys_syntax.specs.Strings.{name_kind}
 use Rattle.lsys_syntax.specs.Tokens.{LeftBracket, RightBracket}
 use Rattle.lsys_module.specs.Views.{module_name}

@@ -1,9 +1,9 @@
-use Rattle.std.proofs.Common.{◌∷◌, [], List}
+use Rattle.std.proofs.Common.{◌∷◌}
 use Rattle.std.proofs.lemmas.Result.{err_from_is_err_and}
-use Rattle.lsys_syntax.specs.Tokens.{Kind, Colon, At, Arrow}
-use Rattle.lsys_syntax.specs.Pieces.{Piece, note, token, a_symbol, predecessor_begins}
+use Rattle.lsys_syntax.specs.Tokens.{Colon, At, Arrow}
+use Rattle.lsys_syntax.specs.Pieces.{note, token, a_symbol, predecessor_begins}
 use Rattle.lsys_syntax.specs.Strings.{params_pieces, name_kind}
-use Rattle.lsys_syntax.specs.Rules.{formal_pieces, left_pieces, predecessor_pieces, right_pieces, option_pieces, successor_pieces}
+use Rattle.lsys_syntax.specs.Rules.{formal_pieces, left_pieces, right_pieces, option_pieces, successor_pieces}
 use Rattle.lsys_module.specs.Views.{module_name}
 use Rattle.lsys_reading.specs.Heads.{patterns_of, formals_of}
 use Rattle.lsys_reading.specs.Spans.{option_at}

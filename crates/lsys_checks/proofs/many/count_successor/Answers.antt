@@ -1,4 +1,4 @@
-use Rattle.std.proofs.Common.{◌<◌, length, map, arith}
+use Rattle.std.proofs.Common.{◌<◌, length, arith}
 use Rattle.std.proofs.lemmas.List.{length-map}
 use Rattle.lsys_reading.specs.Images.{image_at, images_at}
 use Rattle.lsys_checks.proofs.CountLoops.{successor-whole, section-is}

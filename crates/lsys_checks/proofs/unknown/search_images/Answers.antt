@@ -1,4 +1,3 @@
-use Rattle.std.proofs.Common.{arith}
 use Rattle.std.proofs.lemmas.Result.{err_from_is_err_and}
 use Rattle.lsys_text.specs.Tokens.{kinds_of}
 use Rattle.lsys_checks.proofs.Searches.{images-item, image-room, image-more, image-found, images-done, pieces}

@@ -1,4 +1,4 @@
-use Rattle.std.proofs.Common.{◌≡◌, get_or, arith}
+use Rattle.std.proofs.Common.{arith}
 use Rattle.std.proofs.lemmas.Result.{err_from_is_err_and}
 use Rattle.lsys_text.specs.Tokens.{kinds_of}
 use Rattle.lsys_reading.specs.declared.span.Span.{Span}

@@ -1,10 +1,7 @@
-use Rattle.std.proofs.Common.{◌≤◌, ◌+◌, drop, length, map}
-use Rattle.lsys_syntax.specs.Pieces.{kinds_of}
+use Rattle.std.proofs.Common.{drop, map}
 use Rattle.lsys_syntax.specs.Strings.{more_pieces}
 use Rattle.lsys_syntax.specs.Rules.{formal_pieces}
 use Rattle.lsys_text.specs.Tokens.{name_of}
-use Rattle.lsys_checks.specs.Formals.{Adds}
-use Rattle.lsys_checks.specs.declared.formals.FormalNames.{FormalNames}
 use Rattle.lsys_checks.proofs.Adding.{Goes}
 use Rattle.lsys_checks.proofs.formals.FormalNames.add_formals.Given as goal
 

@@ -1,9 +1,6 @@
-use Rattle.std.proofs.Common.{◌≡◌, ap, sym, subst, arith, refl}
-use Rattle.lsys_syntax.specs.Strings.{params_pieces, name_kind}
-use Rattle.lsys_syntax.specs.Rules.{left_pieces, right_pieces, predecessor_pieces, formal_pieces}
+use Rattle.std.proofs.Common.{arith, refl}
+use Rattle.lsys_syntax.specs.Strings.{name_kind}
 use Rattle.lsys_module.specs.Views.{module_name}
-use Rattle.lsys_reading.specs.Heads.{patterns_of, formals_of}
-use Rattle.lsys_checks.specs.Formals.{Adds, formals_in}
 use Rattle.lsys_checks.proofs.HeadNames.{head-count, formal-names}
 use Rattle.lsys_checks.proofs.formals.FormalNames.of.Goals as goal
 
