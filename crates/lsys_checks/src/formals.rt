@@ -18,7 +18,7 @@ use lsys_text::{Name, TokenKind};
 use std::alloc::{AllocError, Global};
 use std::collections::BTreeSet;
 
-/// The formals of a rule.
+/// The formals of a rule: made once, when the rule is read, so that what refuses it is found without memory.
 #[derive(Drop)]
 pub struct FormalNames {
     /// The numbers that their names are kept in.
@@ -50,7 +50,7 @@ impl FormalNames {
         Ok(names)
     }
 
-    /// The token of the first formal that stands earlier.
+    /// The token of the first formal of the rule's contexts and predecessor that stands earlier among them.
     pub fn repeated(&self) -> Option<usize>
         ensures { (from : ℕ) (rule : RuleLine) (kinds : List Kind) → AreFormalNames from rule self.now
             → result ≡ rule_repeated from (rule_at kinds rule) }
