@@ -1,0 +1,3 @@
+pub mod Formals
+pub mod Searching
+pub mod Counting

@@ -1,0 +1,163 @@
+//! The formals of a rule, and the first one that stands earlier.
+ghost use Rattle.std.specs.Prelude.{◌≡◌, ◌≤◌, ℕ, List, ◌+◌, [], ◌∷◌, length, map, not, IfOk, OnOk, Some, None, if◌then◌else◌};
+ghost use Rattle.lsys_syntax.specs.Tokens.{Kind};
+ghost use Rattle.lsys_syntax.specs.Pieces.{kinds_of, token, note, a_symbol};
+ghost use Rattle.lsys_syntax.specs.Strings.{params_pieces, more_pieces, symbol_pieces, string_pieces};
+ghost use Rattle.lsys_syntax.specs.Rules.{formal_pieces, left_pieces, right_pieces};
+ghost use Rattle.lsys_syntax.specs.Checks.{is_unknown, rule_repeated};
+ghost use Rattle.lsys_text.specs.Tokens.{kind_of, name_of};
+ghost use Rattle.lsys_reading.specs.Patterns.{pattern_of};
+ghost use Rattle.lsys_reading.specs.Heads.{patterns_of};
+ghost use Rattle.lsys_reading.specs.RuleLines.{rule_at};
+ghost use Rattle.lsys_reading.specs.declared.rule.RuleLine.{RuleLine};
+ghost use Rattle.lsys_checks.specs.Formals.{Adds, AreFormalNames, first_of, formals_in, head_pieces, marked_formal, symbol_formals, Numbered};
+
+use crate::number::number;
+use lsys_reading::{Pattern, RuleLine};
+use lsys_text::{Name, TokenKind};
+use std::alloc::{AllocError, Global};
+use std::collections::BTreeSet;
+
+/// The formals of a rule: made once, when the rule is read, so that what refuses it is found without memory.
+#[derive(Drop)]
+pub struct FormalNames {
+    /// The numbers that their names are kept in.
+    pub(crate) numbers: BTreeSet<u64>,
+    /// The token of the first formal that stands earlier.
+    pub(crate) repeated: Option<usize>,
+    /// The token behind the rule's contexts and its predecessor.
+    pub(crate) end: usize,
+}
+
+impl FormalNames {
+    /// The formals of a rule, whose first token has number `from`.
+    ///
+    /// # Errors
+    ///
+    /// Want of memory.
+    pub fn of(alloc: Global, from: usize, rule: &RuleLine) -> Result<FormalNames, AllocError>
+        requires room { from + length (kinds_of (head_pieces rule.now)) ≤ usize.MAX }
+        ensures { IfOk result (λ names. AreFormalNames from rule.now names) }
+    {
+        let mut names = FormalNames {
+            numbers: BTreeSet::new(alloc),
+            repeated: None,
+            end: from,
+        };
+        names.add_left(&rule.left)?;
+        names.add_module(&rule.predecessor.formals)?;
+        names.add_right(&rule.right)?;
+        Ok(names)
+    }
+
+    /// The token of the first formal of the rule's contexts and predecessor that stands earlier among them.
+    pub fn repeated(&self) -> Option<usize>
+        ensures { (from : ℕ) (rule : RuleLine) (kinds : List Kind) → AreFormalNames from rule self.now
+            → result ≡ rule_repeated from (rule_at kinds rule) }
+    {
+        self.repeated
+    }
+
+    // Whether a token is a name and no formal.
+    pub(crate) fn is_unknown(&self, kind: TokenKind) -> bool
+        ensures { (fs : List (List ℕ)) → Numbered fs self.now.numbers → result ≡ is_unknown (map name_of fs) (kind_of kind) }
+    {
+        match kind {
+            TokenKind::Name(name) => !self.numbers.contains(&number(name)),
+            _ => false,
+        }
+    }
+
+    // Those of a left context.
+    fn add_left(&mut self, symbols: &[Pattern]) -> Result<(), AllocError>
+        requires room { self.old.end + length (kinds_of (left_pieces (patterns_of symbols.now))) ≤ usize.MAX }
+        ensures { OnOk result (Adds self.old (formals_in symbols.now) (left_pieces (patterns_of symbols.now)) self.new) }
+    {
+        if symbols.is_empty() {
+            return Ok(());
+        }
+        self.add_patterns(symbols)?;
+        self.end += 1;
+        Ok(())
+    }
+
+    // Those of a right context.
+    fn add_right(&mut self, symbols: &[Pattern]) -> Result<(), AllocError>
+        requires room { self.old.end + length (kinds_of (right_pieces (patterns_of symbols.now))) ≤ usize.MAX }
+        ensures { OnOk result (Adds self.old (formals_in symbols.now) (right_pieces (patterns_of symbols.now)) self.new) }
+    {
+        if symbols.is_empty() {
+            return Ok(());
+        }
+        self.end += 1;
+        self.add_patterns(symbols)
+    }
+
+    fn add_patterns(&mut self, symbols: &[Pattern]) -> Result<(), AllocError>
+        requires room { self.old.end + length (kinds_of (string_pieces formal_pieces (patterns_of symbols.now))) ≤ usize.MAX }
+        ensures { OnOk result (Adds self.old (formals_in symbols.now) (string_pieces formal_pieces (patterns_of symbols.now)) self.new) }
+    {
+        for symbol in symbols {
+            self.add_pattern(symbol)?;
+        }
+        Ok(())
+    }
+
+    fn add_pattern(&mut self, symbol: &Pattern) -> Result<(), AllocError>
+        requires room { self.old.end + length (kinds_of (symbol_pieces formal_pieces (pattern_of symbol.now))) ≤ usize.MAX }
+        ensures { OnOk result (Adds self.old (symbol_formals symbol.now) (symbol_pieces formal_pieces (pattern_of symbol.now)) self.new) }
+    {
+        if let Pattern::Module(module) = symbol {
+            return self.add_module(&module.formals);
+        }
+        self.end += 1;
+        Ok(())
+    }
+
+    // A name, and the formals behind it.
+    fn add_module(&mut self, formals: &[Name]) -> Result<(), AllocError>
+        requires room { self.old.end + 1 + length (kinds_of (params_pieces formal_pieces (map name_of formals.now))) ≤ usize.MAX }
+        ensures { (k : Kind) → OnOk result (Adds self.old formals.now (note a_symbol ∷ token k ∷ params_pieces formal_pieces (map name_of formals.now)) self.new) }
+    {
+        self.end += 1;
+        if formals.is_empty() {
+            return Ok(());
+        }
+        self.add_formals(formals)?;
+        self.end += 1;
+        Ok(())
+    }
+
+    // Formals, each behind a mark.
+    fn add_formals(&mut self, formals: &[Name]) -> Result<(), AllocError>
+        requires room { self.old.end + length (kinds_of (more_pieces formal_pieces (map name_of formals.now))) ≤ usize.MAX }
+        ensures { OnOk result (Adds self.old formals.now (more_pieces formal_pieces (map name_of formals.now)) self.new) }
+    {
+        for formal in formals {
+            self.add_formal(*formal)?;
+        }
+        Ok(())
+    }
+
+    // A formal behind a mark.
+    fn add_formal(&mut self, name: Name) -> Result<(), AllocError>
+        requires room { self.old.end + 2 ≤ usize.MAX }
+        ensures { (k : Kind) → OnOk result (Adds self.old (name ∷ []) (marked_formal k name) self.new) }
+    {
+        let is_new = self.numbers.insert(number(name))?;
+        self.repeated = first_repeated(self.repeated, is_new, self.end + 1);
+        self.end += 2;
+        Ok(())
+    }
+}
+
+// The first token of a formal that stands earlier, where one may stand at a place.
+fn first_repeated(found: Option<usize>, is_new: bool, place: usize) -> Option<usize>
+    ensures { result ≡ first_of found (if is_new then None else Some place) }
+{
+    match found {
+        Some(earlier) => Some(earlier),
+        None if is_new => None,
+        None => Some(place),
+    }
+}

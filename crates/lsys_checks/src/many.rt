@@ -1,0 +1,200 @@
+//! The limits of a rule.
+ghost use Rattle.std.specs.Prelude.{◌≡◌, ◌≤◌, ◌+◌, ◌-◌, ◌∷◌, ℕ, List, map};
+ghost use Rattle.lsys_syntax.specs.Limits.{most_rule_tokens};
+ghost use Rattle.lsys_syntax.specs.Tokens.{Kind};
+ghost use Rattle.lsys_syntax.specs.Pieces.{a_symbol, note, token};
+ghost use Rattle.lsys_syntax.specs.Expressions.{expr_pieces};
+ghost use Rattle.lsys_syntax.specs.Strings.{more_pieces, params_pieces, string_pieces, symbol_pieces};
+ghost use Rattle.lsys_syntax.specs.Rules.{formal_pieces, left_pieces, option_pieces, right_pieces, rule_pieces, successor_pieces};
+ghost use Rattle.lsys_syntax.specs.Checks.{rule_counts, rule_many};
+ghost use Rattle.lsys_text.specs.Tokens.{name_of};
+ghost use Rattle.lsys_reading.specs.Patterns.{pattern_of};
+ghost use Rattle.lsys_reading.specs.Heads.{patterns_of};
+ghost use Rattle.lsys_reading.specs.Spans.{AreSpans, ConditionIsSpan, option_at};
+ghost use Rattle.lsys_reading.specs.Images.{ImageIsAt, ImagesAreAt, image_at, images_at, params_at};
+ghost use Rattle.lsys_reading.specs.RuleLines.{IsRuleLine, rule_at};
+ghost use Rattle.lsys_checks.specs.Counting.{Counting, CountsOn};
+
+use crate::counter::Counter;
+use lsys_reading::{Image, Pattern, RuleLine, Span};
+use lsys_text::Name;
+
+/// The most modules of a left context.
+const MOST_LEFT: usize = 8;
+
+/// The most symbols of a right context, brackets counted.
+const MOST_RIGHT: usize = 16;
+
+/// The most symbols of a successor, brackets and cuts counted.
+const MOST_SUCCESSOR_SYMBOLS: usize = 128;
+
+/// The first token of the rule at which one of its limits is passed, where its first one has number `from`.
+pub fn first_many(from: usize, rule: &RuleLine) -> Option<usize>
+    requires room { from + most_rule_tokens ≤ usize.MAX }
+    ensures { (kinds : List Kind) → IsRuleLine kinds rule.now → result ≡ rule_many from (rule_at kinds rule.now) }
+{
+    match count_rule(rule) {
+        Ok(_) => None,
+        Err(tokens) => Some(from.saturating_add(tokens)),
+    }
+}
+
+// Each answers what is counted behind what it counts, or the tokens before the one at which a limit is passed.
+
+// All of a rule.
+fn count_rule(rule: &RuleLine) -> Result<Counter, usize>
+    ensures { (ks : List Kind) → IsRuleLine ks rule.now → CountsOn rule_counts (rule_pieces (rule_at ks rule.now)) result }
+{
+    let start = Counter {
+        tokens: 0,
+        symbols: 0,
+        most: 0,
+        params: 0,
+    };
+    let left = count_left(start, &rule.left)?;
+    let predecessor = count_module(left.section(1), &rule.predecessor.formals)?;
+    let right = count_right(predecessor, &rule.right)?;
+    let condition = count_option(right, rule.condition)?;
+    let weight = count_option(condition, rule.weight)?;
+    let arrow = weight.mark()?;
+    count_successor(arrow, &rule.successor)
+}
+
+// Formals, each behind a mark.
+fn count_formals(counter: Counter, formals: &[Name]) -> Result<Counter, usize>
+    ensures { Counting counter (more_pieces formal_pieces (map name_of formals.now)) result }
+{
+    let mut counted = counter;
+    for _formal in formals {
+        counted = counted.formal()?;
+    }
+    Ok(counted)
+}
+
+// A name, and the formals behind it.
+fn count_module(counter: Counter, formals: &[Name]) -> Result<Counter, usize>
+    ensures { (k : Kind) → Counting counter (note a_symbol ∷ token k ∷ params_pieces formal_pieces (map name_of formals.now)) result }
+{
+    let named = counter.symbol()?;
+    if formals.is_empty() {
+        return Ok(named);
+    }
+    let counted = count_formals(named, formals)?;
+    counted.mark()
+}
+
+fn count_pattern(counter: Counter, symbol: &Pattern) -> Result<Counter, usize>
+    ensures { Counting counter (symbol_pieces formal_pieces (pattern_of symbol.now)) result }
+{
+    match symbol {
+        Pattern::Module(module) => count_module(counter, &module.formals),
+        Pattern::Push => counter.symbol(),
+        Pattern::Pop => counter.symbol(),
+    }
+}
+
+fn count_patterns(counter: Counter, symbols: &[Pattern]) -> Result<Counter, usize>
+    ensures { Counting counter (string_pieces formal_pieces (patterns_of symbols.now)) result }
+{
+    let mut counted = counter;
+    for symbol in symbols {
+        counted = count_pattern(counted, symbol)?;
+    }
+    Ok(counted)
+}
+
+// How many tokens an expression has.
+fn size(span: Span) -> usize
+    ensures { result ≡ span.to - span.from }
+{
+    span.to.saturating_sub(span.from)
+}
+
+// An expression behind a mark, where there is one.
+fn count_option(counter: Counter, span: Option<Span>) -> Result<Counter, usize>
+    ensures { (k : Kind) (ks : List Kind) → ConditionIsSpan ks span → Counting counter (option_pieces k (option_at ks span)) result }
+{
+    match span {
+        Some(span) => {
+            let marked = counter.mark()?;
+            marked.expression(size(span))
+        }
+        None => Ok(counter),
+    }
+}
+
+// Parameters, each behind a mark.
+fn count_params(counter: Counter, params: &[Span]) -> Result<Counter, usize>
+    ensures { (ks : List Kind) → AreSpans ks params.now → Counting counter (more_pieces expr_pieces (params_at ks params.now)) result }
+{
+    let mut counted = counter;
+    for param in params {
+        counted = counted.param(size(*param))?;
+    }
+    Ok(counted)
+}
+
+fn count_image(counter: Counter, image: &Image) -> Result<Counter, usize>
+    ensures { (ks : List Kind) → ImageIsAt ks image.now → Counting counter (symbol_pieces expr_pieces (image_at ks image.now)) result }
+{
+    match image {
+        Image::Module(module) => count_image_module(counter, &module.params),
+        Image::Push => counter.symbol(),
+        Image::Pop => counter.symbol(),
+        Image::Cut => counter.symbol(),
+    }
+}
+
+// A name, and the parameters behind it.
+fn count_image_module(counter: Counter, params: &[Span]) -> Result<Counter, usize>
+    ensures { (k : Kind) (ks : List Kind) → AreSpans ks params.now
+        → Counting counter (note a_symbol ∷ token k ∷ params_pieces expr_pieces (params_at ks params.now)) result }
+{
+    let named = counter.symbol()?;
+    if params.is_empty() {
+        return Ok(named);
+    }
+    let counted = count_params(named, params)?;
+    counted.mark()
+}
+
+fn count_images(counter: Counter, images: &[Image]) -> Result<Counter, usize>
+    ensures { (ks : List Kind) → ImagesAreAt ks images.now → Counting counter (string_pieces expr_pieces (images_at ks images.now)) result }
+{
+    let mut counted = counter;
+    for image in images {
+        counted = count_image(counted, image)?;
+    }
+    Ok(counted)
+}
+
+// A left context, and the mark behind it.
+fn count_left(counter: Counter, symbols: &[Pattern]) -> Result<Counter, usize>
+    ensures { Counting counter (left_pieces (patterns_of symbols.now)) result }
+{
+    if symbols.is_empty() {
+        return Ok(counter);
+    }
+    let counted = count_patterns(counter.section(MOST_LEFT), symbols)?;
+    counted.mark()
+}
+
+// A right context, and the mark before it.
+fn count_right(counter: Counter, symbols: &[Pattern]) -> Result<Counter, usize>
+    ensures { Counting counter (right_pieces (patterns_of symbols.now)) result }
+{
+    if symbols.is_empty() {
+        return Ok(counter);
+    }
+    let marked = counter.mark()?;
+    count_patterns(marked.section(MOST_RIGHT), symbols)
+}
+
+fn count_successor(counter: Counter, images: &[Image]) -> Result<Counter, usize>
+    ensures { (ks : List Kind) → ImagesAreAt ks images.now → Counting counter (successor_pieces (images_at ks images.now)) result }
+{
+    if images.is_empty() {
+        return Ok(counter);
+    }
+    count_images(counter.section(MOST_SUCCESSOR_SYMBOLS), images)
+}

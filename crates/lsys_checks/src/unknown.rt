@@ -1,0 +1,131 @@
+//! Names in the expressions of a rule that are no formals of it.
+ghost use Rattle.std.specs.Prelude.{◌≡◌, ◌≤◌, ◌+◌, ℕ, map};
+ghost use Rattle.lsys_syntax.specs.Tokens.{Colon, Kind};
+ghost use Rattle.lsys_syntax.specs.Pieces.{Piece};
+ghost use Rattle.lsys_syntax.specs.Expressions.{expr_pieces};
+ghost use Rattle.lsys_syntax.specs.Strings.{more_pieces, string_pieces, symbol_pieces};
+ghost use Rattle.lsys_syntax.specs.Rules.{option_pieces};
+ghost use Rattle.lsys_syntax.specs.Checks.{rule_unknown};
+ghost use Rattle.lsys_text.specs.Tokens.{kinds_of};
+ghost use Rattle.lsys_reading.specs.Spans.{AreSpans, ConditionIsSpan, IsSpan, expr_at, option_at};
+ghost use Rattle.lsys_reading.specs.Images.{ImageIsAt, ImagesAreAt, image_at, images_at, params_at};
+ghost use Rattle.lsys_reading.specs.RuleLines.{IsRuleLine, rule_at};
+ghost use Rattle.lsys_checks.specs.Formals.{AreFormalNames, rest_pieces};
+ghost use Rattle.lsys_checks.specs.Searching.{Searches, count};
+
+use crate::formals::FormalNames;
+use lsys_reading::{Image, RuleLine, Span};
+use lsys_text::Token;
+
+/// The first name of the rule's expressions that is no formal of it, by the number of its token.
+pub fn unknown_name(tokens: &[Token], rule: &RuleLine, formals: &FormalNames) -> Option<usize>
+    requires expressions { IsRuleLine (kinds_of tokens.now) rule.now }
+    requires room { formals.now.end + count (rest_pieces (kinds_of tokens.now) rule.now) ≤ usize.MAX }
+    ensures { (from : ℕ) → AreFormalNames from rule.now formals.now
+        → result ≡ rule_unknown from (rule_at (kinds_of tokens.now) rule.now) }
+{
+    search_rest(tokens, rule, formals).err()
+}
+
+// Each search answers the place behind what it searched, or the first unknown name.
+
+fn search_rest(tokens: &[Token], rule: &RuleLine, formals: &FormalNames) -> Result<usize, usize>
+    requires expressions { IsRuleLine (kinds_of tokens.now) rule.now }
+    requires room { formals.now.end + count (rest_pieces (kinds_of tokens.now) rule.now) ≤ usize.MAX }
+    ensures { Searches formals.now formals.now.end (rest_pieces (kinds_of tokens.now) rule.now) result }
+{
+    let place = search_option(tokens, formals, formals.end, rule.condition)?;
+    let place = search_option(tokens, formals, place, rule.weight)?;
+    search_images(tokens, formals, place + 1, &rule.successor)
+}
+
+// An expression behind a mark, where there is one.
+fn search_option(
+    tokens: &[Token],
+    formals: &FormalNames,
+    place: usize,
+    span: Option<Span>,
+) -> Result<usize, usize>
+    requires span { ConditionIsSpan (kinds_of tokens.now) span }
+    requires room { place + count (option_pieces Colon (option_at (kinds_of tokens.now) span)) ≤ usize.MAX }
+    ensures { (k : Kind) → Searches formals.now place (option_pieces k (option_at (kinds_of tokens.now) span)) result }
+{
+    match span {
+        Some(span) => search_expression(tokens, formals, place + 1, span),
+        None => Ok(place),
+    }
+}
+
+fn search_expression(
+    tokens: &[Token],
+    formals: &FormalNames,
+    place: usize,
+    span: Span,
+) -> Result<usize, usize>
+    requires span { IsSpan (kinds_of tokens.now) span }
+    requires room { place + count (expr_pieces (expr_at (kinds_of tokens.now) span)) ≤ usize.MAX }
+    ensures { Searches formals.now place (expr_pieces (expr_at (kinds_of tokens.now) span)) result }
+{
+    let mut end = place;
+    for token in &tokens[span.from..span.to] {
+        if formals.is_unknown(token.kind) {
+            return Err(end);
+        }
+        end += 1;
+    }
+    Ok(end)
+}
+
+// Parameters, each behind a mark.
+fn search_params(
+    tokens: &[Token],
+    formals: &FormalNames,
+    place: usize,
+    params: &[Span],
+) -> Result<usize, usize>
+    requires spans { AreSpans (kinds_of tokens.now) params.now }
+    requires room { place + count (more_pieces expr_pieces (params_at (kinds_of tokens.now) params.now)) ≤ usize.MAX }
+    ensures { Searches formals.now place (more_pieces expr_pieces (params_at (kinds_of tokens.now) params.now)) result }
+{
+    let mut end = place;
+    for param in params {
+        end = search_expression(tokens, formals, end + 1, *param)?;
+    }
+    Ok(end)
+}
+
+fn search_image(
+    tokens: &[Token],
+    formals: &FormalNames,
+    place: usize,
+    image: &Image,
+) -> Result<usize, usize>
+    requires expressions { ImageIsAt (kinds_of tokens.now) image.now }
+    requires room { place + count (symbol_pieces expr_pieces (image_at (kinds_of tokens.now) image.now)) ≤ usize.MAX }
+    ensures { Searches formals.now place (symbol_pieces expr_pieces (image_at (kinds_of tokens.now) image.now)) result }
+{
+    match image {
+        Image::Module(module) if !module.params.is_empty() => {
+            let end = search_params(tokens, formals, place + 1, &module.params)?;
+            Ok(end + 1)
+        }
+        _ => Ok(place + 1),
+    }
+}
+
+fn search_images(
+    tokens: &[Token],
+    formals: &FormalNames,
+    place: usize,
+    images: &[Image],
+) -> Result<usize, usize>
+    requires expressions { ImagesAreAt (kinds_of tokens.now) images.now }
+    requires room { place + count (string_pieces expr_pieces (images_at (kinds_of tokens.now) images.now)) ≤ usize.MAX }
+    ensures { Searches formals.now place (string_pieces expr_pieces (images_at (kinds_of tokens.now) images.now)) result }
+{
+    let mut end = place;
+    for image in images {
+        end = search_image(tokens, formals, end, image)?;
+    }
+    Ok(end)
+}
