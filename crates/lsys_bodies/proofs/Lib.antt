@@ -1,0 +1,4 @@
+pub mod Loops
+pub mod Known
+pub mod Formals
+pub mod Means

@@ -2,7 +2,10 @@
 #![tactic(auto)]
 
 mod body;
+mod building;
+mod patterns;
 mod rule;
 
 pub use body::{Body, Item, Pattern, SharedBody, Template};
+pub use building::{build_hom_rule, build_rule};
 pub use rule::{HomRule, Rule};
