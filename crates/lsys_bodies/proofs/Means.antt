@@ -6,6 +6,7 @@ use Rattle.lsys_syntax.specs.Tokens.{NameText}
 use Rattle.lsys_syntax.specs.Strings as S
 use Rattle.lsys_syntax.specs.Expressions.{Expr}
 use Rattle.lsys_syntax.specs.Rules as R
+use Rattle.lsys_syntax.specs.Rules.{IsRule}
 use Rattle.lsys_syntax.specs.Checks.{rule_formals}
 use Rattle.lsys_spec.specs.Values.{expr_tree}
 use Rattle.lsys_spec.specs.Bodies as spec
@@ -19,7 +20,7 @@ use Rattle.lsys_bodies.specs.declared.body.Body.{Body}
 use Rattle.lsys_bodies.specs.Limits.{IsSmall}
 use Rattle.lsys_bodies.specs.Built.{IsBuilt}
 use Rattle.lsys_bodies.specs.Views.{pattern_symbol, pattern_of, item_symbol, nest, tree_of, template_of, written, body_value}
-use Rattle.lsys_bodies.specs.Building.{symbol_tree}
+use Rattle.lsys_bodies.specs.Building.{CanBuild, symbol_tree}
 
 pub pattern-means : (p : Pattern) → spec.pattern_of (module_name p.name) (map name_of p.formals.items) ≡ pattern_of p
 pattern-means p = ap (λ n. record { name = module_name p.name; arity = n }) (length-map p.formals.items name_of)
@@ -66,6 +67,6 @@ means b r h =
       successor = successor i;
     }
 
--- the parts of a rule that passes no limit are a body
-pub made-built : (b : Body) (r : R.Rule) → IsMade b r → IsSmall r → IsBuilt b
-made-built b r h small = record { means = means b r h; small = subst IsSmall (sym h.rule) small }
+-- the parts of a rule that can be built are a body
+pub made-built : (b : Body) (r : R.Rule) → IsMade b r → CanBuild r → IsBuilt b
+made-built b r h can = record { sentence = subst IsRule (sym h.rule) can.sentence; small = subst IsSmall (sym h.rule) can.small; means = means b r h }

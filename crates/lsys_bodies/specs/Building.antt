@@ -3,11 +3,11 @@ use Rattle.std.specs.Prelude.{◌≡◌, false, Option, Some, None, List, [], �
 use Rattle.std.specs.List.{list_any}
 use Rattle.lsys_syntax.specs.Tokens.{NameText, Kind}
 use Rattle.lsys_syntax.specs.Strings as S
-use Rattle.lsys_syntax.specs.Strings.{Symbol, EachOf}
+use Rattle.lsys_syntax.specs.Strings.{Symbol}
 use Rattle.lsys_syntax.specs.Expressions.{Expr, expr_kinds}
 use Rattle.lsys_syntax.specs.Checks.{is_unknown, rule_formals}
 use Rattle.lsys_syntax.specs.Rules as R
-use Rattle.lsys_syntax.specs.Rules.{IsPattern}
+use Rattle.lsys_syntax.specs.Rules.{IsRule}
 use Rattle.lsys_spec.specs.Values.{Tree, expr_tree}
 use Rattle.lsys_spec.specs.Systems.{Homomorphism, main}
 use Rattle.lsys_reading.specs.declared.parts.LabeledRule.{LabeledRule}
@@ -38,10 +38,10 @@ abbrev pub StringIsKnown : List NameText → List (Symbol Expr) → Type 0
 StringIsKnown fs [] = Unit {0}
 StringIsKnown fs (x ∷ xs) = SymbolIsKnown fs x × StringIsKnown fs xs
 
--- What an edit has checked of a rule before it is built: its left context has modules alone, its expressions name formals
--- of it alone, and it passes no limit.
+-- What is known of a rule before it is built: it is one of the language, as each line's is, and an edit has checked that its
+-- expressions name formals of it alone, and that it passes no limit.
 pub record CanBuild (r : R.Rule) : Type 0 where
-  pub left : EachOf IsPattern r.left
+  pub sentence : IsRule r
   pub condition : OptionIsKnown (rule_formals r) r.condition
   pub weight : OptionIsKnown (rule_formals r) r.weight
   pub successor : StringIsKnown (rule_formals r) r.successor

@@ -81,4 +81,4 @@ new-requires c =
     let successor : map template_of b.successor.items ≡ map (symbol_tree (rule_formals r)) r.successor =
     c.in_ok-templates.ensures.trees ∙ ap (λ fs. map (image_tree fs ks) c.deref-5.result.now) (ap (map name_of) c.deref-6.ensures.value ∙ c.in_ok-formals.ensures ks)
     ∙ ap (map (image_tree (rule_formals r) ks)) c.deref-5.ensures.value ∙ sym (map-map (symbol_tree (rule_formals r)) (image_at ks) line.successor.items) in
-    made-built b r (record { rule = rule; condition = condition; weight = weight; successor = successor }) c.requires.checked.small
+    made-built b r (record { rule = rule; condition = condition; weight = weight; successor = successor }) c.requires.checked
