@@ -1,6 +1,7 @@
 //! Rules whole: what they are spelled as, and their bodies, shared and compared.
 #![tactic(auto)]
 
+mod access;
 mod body;
 mod building;
 mod patterns;
