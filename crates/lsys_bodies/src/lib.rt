@@ -1,4 +1,4 @@
-//! Rules whole: what they are spelled as, and their bodies, shared and compared.
+//! Rules whole: how they are written, and their bodies, which copies of a system share.
 #![tactic(auto)]
 
 mod access;
