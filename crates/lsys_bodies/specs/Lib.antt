@@ -1,0 +1,4 @@
+pub mod Views
+pub mod Limits
+pub mod Built
+pub mod Building

@@ -1,0 +1,171 @@
+//! Rules built from the places of their parts.
+ghost use Rattle.std.specs.Prelude.{◌≡◌, ◌≤◌, length, map, IfOk};
+ghost use Rattle.std.specs.Option.{option_map};
+ghost use Rattle.lsys_text.specs.Tokens.{kinds_of, name_of};
+ghost use Rattle.lsys_reading.specs.Spans.{expr_at, option_at, IsSpan, AreSpans, ConditionIsSpan};
+ghost use Rattle.lsys_reading.specs.Images.{params_at, image_at, images_at, ImageIsAt, ImagesAreAt};
+ghost use Rattle.lsys_reading.specs.RuleLines.{rule_at, IsRuleLine};
+ghost use Rattle.lsys_bodies.specs.Views.{spelled, tree_of, template_symbol, template_of, written, production_of, homomorphism_of};
+ghost use Rattle.lsys_bodies.specs.Building.{IsKnown, AreKnown, OptionIsKnown, SymbolIsKnown, StringIsKnown, CanBuild, tree_at, image_tree, production_at, homomorphism_at};
+
+use crate::body::{Body, SharedBody, Template};
+use crate::patterns::{all_formals, left_context, pattern, right_context};
+use crate::rule::{HomRule, Rule};
+use lsys_expr::{Expr, build_expr};
+use lsys_reading::{Image, LabeledRule, RuleLine, Span};
+use lsys_text::{Name, Token, Word};
+use std::alloc::{AllocError, Global};
+
+/// The production that a line spells, which an edit has checked. It is of the table `main` where none is written.
+///
+/// # Errors
+///
+/// Want of memory alone.
+pub fn build_rule(
+    alloc: Global,
+    tokens: &[Token],
+    labeled: &LabeledRule,
+) -> Result<Rule, AllocError>
+    requires line { IsRuleLine (kinds_of tokens.now) labeled.now.rule }
+    requires checked { CanBuild (rule_at (kinds_of tokens.now) labeled.now.rule) }
+    ensures { IfOk result (λ r. production_of r ≡ production_at (kinds_of tokens.now) labeled.now) }
+{
+    Ok(Rule {
+        table: labeled.table.unwrap_or(Word::from_text(b"main")),
+        label: labeled.label,
+        body: build_body(alloc, tokens, &labeled.rule)?,
+    })
+}
+
+/// The rule of the homomorphism that a line spells, which an edit has checked.
+///
+/// # Errors
+///
+/// Want of memory alone.
+pub fn build_hom_rule(
+    alloc: Global,
+    tokens: &[Token],
+    labeled: &LabeledRule,
+) -> Result<HomRule, AllocError>
+    requires line { IsRuleLine (kinds_of tokens.now) labeled.now.rule }
+    requires checked { CanBuild (rule_at (kinds_of tokens.now) labeled.now.rule) }
+    ensures { IfOk result (λ r. homomorphism_of r ≡ homomorphism_at (kinds_of tokens.now) labeled.now) }
+{
+    Ok(HomRule {
+        label: labeled.label,
+        body: build_body(alloc, tokens, &labeled.rule)?,
+    })
+}
+
+// The body of the rule of a line.
+fn build_body(alloc: Global, tokens: &[Token], line: &RuleLine) -> Result<SharedBody, AllocError>
+    requires line { IsRuleLine (kinds_of tokens.now) line.now }
+    requires checked { CanBuild (rule_at (kinds_of tokens.now) line.now) }
+    ensures { IfOk result (λ b. written b ≡ rule_at (kinds_of tokens.now) line.now) }
+{
+    let formals = all_formals(alloc, line)?;
+    let body = Body {
+        left: left_context(alloc, &line.left)?,
+        predecessor: pattern(alloc, &line.predecessor)?,
+        right: right_context(alloc, &line.right)?,
+        condition: optional(alloc, tokens, line.condition, &formals)?,
+        weight: optional(alloc, tokens, line.weight, &formals)?,
+        successor: templates(alloc, tokens, &line.successor, &formals)?,
+    };
+    SharedBody::new(alloc, body)
+}
+
+// A condition or a weight, where there is one.
+fn optional(
+    alloc: Global,
+    tokens: &[Token],
+    span: Option<Span>,
+    formals: &[Name],
+) -> Result<Option<Expr>, AllocError>
+    requires span { ConditionIsSpan (kinds_of tokens.now) span }
+    requires known { OptionIsKnown (map name_of formals.now) (option_at (kinds_of tokens.now) span) }
+    requires few { length formals.now ≤ 256 }
+    ensures spelled { IfOk result (λ o. option_map spelled o ≡ option_at (kinds_of tokens.now) span) }
+    ensures tree { IfOk result (λ o. option_map tree_of o ≡ option_map (tree_at (map name_of formals.now) (kinds_of tokens.now)) span) }
+{
+    match span {
+        Some(span) => Ok(Some(expression(alloc, tokens, span, formals)?)),
+        None => Ok(None),
+    }
+}
+
+fn templates(
+    alloc: Global,
+    tokens: &[Token],
+    images: &[Image],
+    formals: &[Name],
+) -> Result<Vec<Template>, AllocError>
+    requires spans { ImagesAreAt (kinds_of tokens.now) images.now }
+    requires known { StringIsKnown (map name_of formals.now) (images_at (kinds_of tokens.now) images.now) }
+    requires few { length formals.now ≤ 256 }
+    ensures spelled { IfOk result (λ v. map template_symbol v.items ≡ images_at (kinds_of tokens.now) images.now) }
+    ensures trees { IfOk result (λ v. map template_of v.items ≡ map (image_tree (map name_of formals.now) (kinds_of tokens.now)) images.now) }
+{
+    let mut templates = Vec::with_capacity(alloc, images.len())?;
+    for image in images {
+        templates.push(template(alloc, tokens, image, formals)?)?;
+    }
+    Ok(templates)
+}
+
+fn template(
+    alloc: Global,
+    tokens: &[Token],
+    image: &Image,
+    formals: &[Name],
+) -> Result<Template, AllocError>
+    requires spans { ImageIsAt (kinds_of tokens.now) image.now }
+    requires known { SymbolIsKnown (map name_of formals.now) (image_at (kinds_of tokens.now) image.now) }
+    requires few { length formals.now ≤ 256 }
+    ensures spelled { IfOk result (λ t. template_symbol t ≡ image_at (kinds_of tokens.now) image.now) }
+    ensures trees { IfOk result (λ t. template_of t ≡ image_tree (map name_of formals.now) (kinds_of tokens.now) image.now) }
+{
+    match image {
+        Image::Module(module) => Ok(Template::Module {
+            name: module.name,
+            params: params(alloc, tokens, &module.params, formals)?,
+        }),
+        Image::Push => Ok(Template::Push),
+        Image::Pop => Ok(Template::Pop),
+        Image::Cut => Ok(Template::Cut),
+    }
+}
+
+fn params(
+    alloc: Global,
+    tokens: &[Token],
+    spans: &[Span],
+    formals: &[Name],
+) -> Result<Vec<Expr>, AllocError>
+    requires spans { AreSpans (kinds_of tokens.now) spans.now }
+    requires known { AreKnown (map name_of formals.now) (params_at (kinds_of tokens.now) spans.now) }
+    requires few { length formals.now ≤ 256 }
+    ensures spelled { IfOk result (λ v. map spelled v.items ≡ params_at (kinds_of tokens.now) spans.now) }
+    ensures trees { IfOk result (λ v. map tree_of v.items ≡ map (tree_at (map name_of formals.now) (kinds_of tokens.now)) spans.now) }
+{
+    let mut params = Vec::with_capacity(alloc, spans.len())?;
+    for span in spans {
+        params.push(expression(alloc, tokens, *span, formals)?)?;
+    }
+    Ok(params)
+}
+
+fn expression(
+    alloc: Global,
+    tokens: &[Token],
+    span: Span,
+    formals: &[Name],
+) -> Result<Expr, AllocError>
+    requires span { IsSpan (kinds_of tokens.now) span }
+    requires known { IsKnown (map name_of formals.now) (expr_at (kinds_of tokens.now) span) }
+    requires few { length formals.now ≤ 256 }
+    ensures spelled { IfOk result (λ x. x.spelled ≡ expr_at (kinds_of tokens.now) span) }
+    ensures tree { IfOk result (λ x. x.tree ≡ tree_at (map name_of formals.now) (kinds_of tokens.now) span) }
+{
+    build_expr(alloc, tokens, span.from, span.to, formals)
+}
