@@ -1,0 +1,29 @@
+//! What stands around a module, against what a rule asks for.
+#![tactic(auto)]
+
+mod alike;
+mod contexts;
+mod entry;
+mod item;
+mod law;
+mod left;
+mod mark;
+mod pattern;
+mod reading;
+mod right;
+mod same;
+mod steps;
+mod trace;
+mod walked;
+
+pub use contexts::context_reads;
+pub use entry::{Entry, EntryKind};
+pub use law::law_of_tagged_traces;
+pub use left::left_reads;
+pub use mark::Mark;
+pub use reading::Reading;
+pub use right::right_reads;
+pub use same::same_trace;
+pub use steps::Steps;
+pub use trace::Trace;
+pub use walked::Walked;
