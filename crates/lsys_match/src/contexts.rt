@@ -1,15 +1,10 @@
 //! The reads of a rule.
-ghost use Rattle.std.specs.Prelude.{◌≡◌, ℕ, ◌+◌, ◌<◌, ◌≤◌, List, length, map, IfOk, OnErr};
-ghost use Rattle.lsys_spec.specs.Bodies.{Body};
-ghost use Rattle.lsys_spec.specs.Levels.{ModuleValue, way, items_from};
-ghost use Rattle.lsys_spec.specs.Choice.{contexts, params_of};
-ghost use Rattle.lsys_spec.specs.Meaning.{ignores, most_entries};
-ghost use Rattle.lsys_module.specs.Views.{module_name};
-ghost use Rattle.lsys_level.specs.Spots.{IsSpot, level_at, level_by};
-ghost use Rattle.lsys_match.specs.Noted.{entry_by};
-ghost use Rattle.lsys_bodies.specs.Views.{pattern_of};
-ghost use Rattle.lsys_match.specs.Items.{patterns_from};
-ghost use Rattle.lsys_match.specs.Walked.{Walks, ReadsFront};
+ghost use Rattle.std.specs.Prelude.{◌≡◌, ◌+◌, ◌≤◌, length};
+ghost use Rattle.lsys_spec.specs.Levels.{ModuleValue};
+ghost use Rattle.lsys_spec.specs.Meaning.{most_entries};
+ghost use Rattle.lsys_level.specs.Spots.{IsSpot, level_at};
+ghost use Rattle.lsys_bodies.specs.Built.{IsBuilt};
+ghost use Rattle.lsys_match.specs.Walked.{rule_told, IsWalk, IsFrontOfWalk, AreKept};
 
 use crate::left::left_reads;
 use crate::mark::Mark;
@@ -17,41 +12,54 @@ use crate::reading::Reading;
 use crate::right::right_reads;
 use crate::steps::Steps;
 use crate::walked::Walked;
-use lsys_bodies::{Item, Pattern};
+use lsys_bodies::Body;
 use lsys_level::LevelView;
 use lsys_text::Name;
 use std::alloc::AllocError;
 use std::sync::ledger::Ledger;
 
-/// The reads of a rule at a module with these parameters. Where its contexts match, `bound` has the
-/// values of its formals.
+/// Reads what a rule asks for at a module: its left context, and where that matches its right one.
+///
+/// `own` are the module's parameters, `rule` is the rule's place in its group. Where both contexts match, `bound` holds the
+/// values of all formals of the rule, those of the left context first, then the module's own, then those of the right
+/// context. Each entry is added to `trace`, compared there with the old one, and counted by `visited`. With the 1,025th
+/// entry of the trace it answers [`Walked::TooFar`].
+///
+/// # Errors
+///
+/// Want of memory, for an entry that differs from the old trace or for the parameters. What was read by then is kept.
 pub fn context_reads<'a, W: LevelView, V: Ledger>(
     view: &W,
     spot: W::Spot,
     own: &[i64],
     ignored: &[Name],
-    left: &[Pattern],
-    right: &[Item],
+    body: &Body,
     rule: u8,
     trace: &mut Reading<'a>,
     bound: &mut Vec<i64>,
     visited: &mut Steps<V>,
 ) -> Result<Walked, AllocError>
     requires spot { IsSpot (W.levels view.now) (W.level_of view.now spot) (W.place_of view.now spot) }
-    requires few { length right.now < 256 }
+    requires built { IsBuilt body.now }
     requires room { length trace.old.now ≤ most_entries }
-    ensures told { (naming : ℕ → List ℕ) (b : Body) (m : ModuleValue) → b.left ≡ map pattern_of left.now → b.right ≡ patterns_from right.now 0 → m.params ≡ own.now → IfOk result (λ w. Walks most_entries
-        (contexts (ignores (map module_name ignored.now)) (record { rule = rule; depth = 0 }) b m (way (level_by naming (level_at (W.levels view.now) (W.level_of view.now spot))) (W.place_of view.now spot)) (items_from (level_by naming (level_at (W.levels view.now) (W.level_of view.now spot))) (W.place_of view.now spot + 1)))
-        (map (entry_by naming) trace.old.now) (map (entry_by naming) trace.new.now) (λ ms. bound.new.items ≡ params_of ms) w) }
+    ensures told { let x = level_at (W.levels view.now) (W.level_of view.now spot) in
+        (m : ModuleValue) → m.params ≡ own.now
+        → IsWalk (rule_told ignored.now rule body.now m (W.place_of view.now spot)) x
+        trace.old.now trace.new.now (AreKept bound.new.items) result }
+    ensures refused { let x = level_at (W.levels view.now) (W.level_of view.now spot) in
+        (m : ModuleValue) → m.params ≡ own.now
+        → IsFrontOfWalk (rule_told ignored.now rule body.now m (W.place_of view.now spot)) x
+        trace.old.now trace.new.now result }
     ensures same { trace.new.old ≡ trace.old.old }
     ensures counted { visited.new + length trace.old.now ≡ visited.old + length trace.new.now }
 {
     bound.truncate(0);
     let mark = Mark { rule, depth: 0 };
-    match left_reads(view, spot, ignored, left, mark, trace, bound, visited)? {
+    match left_reads(view, spot, ignored, &body.left, mark, trace, bound, visited)? {
         Walked::Found => {
             bound.reverse();
             bound.extend_from_slice(own)?;
+            let right = &body.right;
             let walked = right_reads(view, spot, ignored, right, 0, mark, trace, bound, visited)?;
             Ok(walked)
         }

@@ -7,26 +7,41 @@ ghost use Rattle.lsys_match.specs.Views.{noted_of, mark_of};
 use crate::mark::Mark;
 use lsys_level::Tag;
 use lsys_text::Name;
+use std::mem::size_of;
 
+/// What a walk did at an entry.
 #[derive(Clone, Copy, PartialEq, Eq)]
 pub enum EntryKind {
+    /// A module that isn't ignored was met.
     Compared,
+    /// An ignored module was passed.
     Ignored,
+    /// The left walk left a branch, by its `[`.
     Out,
+    /// A branch was passed or entered, by its two brackets.
     Branch,
 }
 
-/// What was read at one step of a walk. What its kind doesn't carry is 0, or the name `+`.
+/// What was read at one step of a walk, in at most 32 bytes. What its kind doesn't carry is 0, or the name `+`, and is
+/// never read.
 #[derive(Clone, Copy, PartialEq, Eq)]
 pub struct Entry {
     pub kind: EntryKind,
+    /// The place in its group, from 0 on, of the rule for which it was read.
     pub rule: u8,
+    /// The number of branches that the right walk has entered and not left.
     pub depth: u8,
+    /// Of the module, or of the branch's `[`.
     pub tag: Tag,
+    /// Of a branch's `]`.
     pub mate: Tag,
+    /// Of the module.
     pub name: Name,
+    /// How many parameters the module has; they stand in the trace's list of them.
     pub arity: u8,
 }
+
+const _: () = prove!(size_of::<Entry>() <= 32);
 
 impl Entry {
     /// The walk left a branch by this bracket.

@@ -1,14 +1,8 @@
 //! The walk to the left.
-ghost use Rattle.std.specs.Prelude.{◌≡◌, ℕ, ◌+◌, ◌≤◌, List, ◌++◌, length, map, reverse, IfOk, OnOk, OnErr};
-ghost use Rattle.lsys_spec.specs.Levels.{way};
-ghost use Rattle.lsys_spec.specs.Walks.{left_walk};
-ghost use Rattle.lsys_spec.specs.Meaning.{ignores, most_entries};
-ghost use Rattle.lsys_module.specs.Views.{module_name};
-ghost use Rattle.lsys_level.specs.Spots.{IsSpot, level_at, level_by};
-ghost use Rattle.lsys_match.specs.Noted.{entry_by};
-ghost use Rattle.lsys_bodies.specs.Views.{pattern_of};
-ghost use Rattle.lsys_match.specs.Views.{mark_of};
-ghost use Rattle.lsys_match.specs.Walked.{Walks, ReadsFront, KeptReversed};
+ghost use Rattle.std.specs.Prelude.{◌≡◌, ◌+◌, ◌≤◌, ◌++◌, length, reverse, OnOk};
+ghost use Rattle.lsys_spec.specs.Meaning.{most_entries};
+ghost use Rattle.lsys_level.specs.Spots.{IsSpot, level_at};
+ghost use Rattle.lsys_match.specs.Walked.{left_told, IsWalk, IsFrontOfWalk, KeptReversed};
 
 use crate::entry::Entry;
 use crate::mark::Mark;
@@ -22,7 +16,20 @@ use lsys_text::Name;
 use std::alloc::AllocError;
 use std::sync::ledger::Ledger;
 
-/// The left reads of a rule at a spot, and whether its left context matches.
+/// Reads outward from a spot to the left, for the patterns of a rule's left context, of which the last one is the nearest
+/// (ABOP 1.8 and 1.10.2).
+///
+/// A branch that ends to the left is passed in one step, by its mate; out of its own branch the walk goes by that branch's
+/// `[`. An ignored module is passed; any other one is compared with the pattern that is due, and the walk stops at the
+/// entry that decides it. Each entry is added to `trace`, compared there with the old one, and counted by `visited`. Where
+/// the patterns match, the parameters of the modules that they match stand behind those of `bound`, the last one first.
+///
+/// The level has no cuts, so it takes at most as many steps as symbols stand to the left. With the 1,025th entry of the
+/// trace it answers [`Walked::TooFar`].
+///
+/// # Errors
+///
+/// Want of memory, for an entry that differs from the old trace or for the parameters. What was read by then is kept.
 pub fn left_reads<'a, W: LevelView, V: Ledger>(
     view: &W,
     spot: W::Spot,
@@ -35,12 +42,12 @@ pub fn left_reads<'a, W: LevelView, V: Ledger>(
 ) -> Result<Walked, AllocError>
     requires spot { IsSpot (W.levels view.now) (W.level_of view.now spot) (W.place_of view.now spot) }
     requires room { length trace.old.now ≤ most_entries }
-    ensures told { (naming : ℕ → List ℕ) → IfOk result (λ w. Walks most_entries
-        (left_walk (ignores (map module_name ignored.now)) (mark_of mark) (reverse (map pattern_of patterns.now)) (way (level_by naming (level_at (W.levels view.now) (W.level_of view.now spot))) (W.place_of view.now spot)))
-        (map (entry_by naming) trace.old.now) (map (entry_by naming) trace.new.now) (KeptReversed bound.old.items bound.new.items) w) }
-    ensures refused { (naming : ℕ → List ℕ) → OnErr result (ReadsFront
-        (left_walk (ignores (map module_name ignored.now)) (mark_of mark) (reverse (map pattern_of patterns.now)) (way (level_by naming (level_at (W.levels view.now) (W.level_of view.now spot))) (W.place_of view.now spot)))
-        (map (entry_by naming) trace.old.now) (map (entry_by naming) trace.new.now)) }
+    ensures told { let x = level_at (W.levels view.now) (W.level_of view.now spot) in
+        let walk = left_told ignored.now mark patterns.now (W.place_of view.now spot) in
+        IsWalk walk x trace.old.now trace.new.now (KeptReversed bound.old.items bound.new.items) result }
+    ensures refused { let x = level_at (W.levels view.now) (W.level_of view.now spot) in
+        let walk = left_told ignored.now mark patterns.now (W.place_of view.now spot) in
+        IsFrontOfWalk walk x trace.old.now trace.new.now result }
     ensures same { trace.new.old ≡ trace.old.old }
     ensures counted { visited.new + length trace.old.now ≡ visited.old + length trace.new.now }
 {

@@ -1,4 +1,8 @@
-//! What stands around a module, against what a rule asks for.
+//! What stands around a module, against what a rule asks for: the walks of contexts over any view of levels.
+//!
+//! A walk reads entries, and each one is compared with the old trace as it is read: while they agree nothing is written,
+//! and at the first difference the front that agreed is taken over. What a walk answers and reads is, by every naming of
+//! the tags, what the definitions' walk tells at that place of that level.
 #![tactic(auto)]
 
 mod alike;

@@ -1,14 +1,8 @@
 //! The walk to the right.
-ghost use Rattle.std.specs.Prelude.{◌≡◌, ℕ, ◌+◌, ◌-◌, ◌<◌, ◌≤◌, List, ◌++◌, length, map, take, IfOk, OnOk, OnErr};
-ghost use Rattle.lsys_spec.specs.Levels.{items_from};
-ghost use Rattle.lsys_spec.specs.Walks.{right_walk};
-ghost use Rattle.lsys_spec.specs.Meaning.{ignores, most_entries};
-ghost use Rattle.lsys_module.specs.Views.{module_name};
-ghost use Rattle.lsys_level.specs.Spots.{IsSpot, level_at, level_by};
-ghost use Rattle.lsys_match.specs.Noted.{entry_by};
-ghost use Rattle.lsys_match.specs.Items.{patterns_from};
-ghost use Rattle.lsys_match.specs.Views.{mark_of};
-ghost use Rattle.lsys_match.specs.Walked.{Walks, ReadsFront, KeptInOrder};
+ghost use Rattle.std.specs.Prelude.{◌≡◌, ◌+◌, ◌-◌, ◌<◌, ◌≤◌, length, take};
+ghost use Rattle.lsys_spec.specs.Meaning.{most_entries};
+ghost use Rattle.lsys_level.specs.Spots.{IsSpot, level_at};
+ghost use Rattle.lsys_match.specs.Walked.{right_told, IsWalk, IsFrontOfWalk, KeptInOrder};
 
 use crate::entry::Entry;
 use crate::item::behind;
@@ -23,7 +17,22 @@ use lsys_text::Name;
 use std::alloc::AllocError;
 use std::sync::ledger::Ledger;
 
-/// The right reads of the items from a place on, behind a spot, and whether they match.
+/// Reads from behind a spot to the right, for the items of a rule's right context from one on, up to the `]` that ends
+/// their branch or to the last one (ABOP 1.8 and 1.10.2).
+///
+/// The walk reads no further than the spot's own branch. A branch costs one entry, with its two brackets. A module pattern
+/// passes it over; a branch pattern is tried in it, one deeper, and is wanted again behind it where it didn't match there:
+/// it need not reach the branch's end, and any of the branches that stand here may match. An ignored module is passed; any
+/// other one is compared, and the walk stops at the entry that decides it. Each entry is added to `trace`, compared there
+/// with the old one, and counted by `visited`. Where the items match, the parameters of the modules that they match stand
+/// behind those of `bound`, in order.
+///
+/// It calls itself once for each branch pattern that is open, so at most eight deep, however deep the level is. With the
+/// 1,025th entry of the trace it answers [`Walked::TooFar`].
+///
+/// # Errors
+///
+/// Want of memory, for an entry that differs from the old trace or for the parameters. What was read by then is kept.
 pub fn right_reads<'a, W: LevelView, V: Ledger>(
     view: &W,
     spot: W::Spot,
@@ -39,12 +48,12 @@ pub fn right_reads<'a, W: LevelView, V: Ledger>(
     requires first { first ≤ length items.now }
     requires depth { mark.depth + (length items.now - first) < 256 }
     requires room { length trace.old.now ≤ most_entries }
-    ensures told { (naming : ℕ → List ℕ) → IfOk result (λ w. Walks most_entries
-        (right_walk (ignores (map module_name ignored.now)) (mark_of mark) (patterns_from items.now first) (items_from (level_by naming (level_at (W.levels view.now) (W.level_of view.now spot))) (W.place_of view.now spot + 1)))
-        (map (entry_by naming) trace.old.now) (map (entry_by naming) trace.new.now) (KeptInOrder bound.old.items bound.new.items) w) }
-    ensures refused { (naming : ℕ → List ℕ) → OnErr result (ReadsFront
-        (right_walk (ignores (map module_name ignored.now)) (mark_of mark) (patterns_from items.now first) (items_from (level_by naming (level_at (W.levels view.now) (W.level_of view.now spot))) (W.place_of view.now spot + 1)))
-        (map (entry_by naming) trace.old.now) (map (entry_by naming) trace.new.now)) }
+    ensures told { let x = level_at (W.levels view.now) (W.level_of view.now spot) in
+        let walk = right_told ignored.now mark items.now first (W.place_of view.now spot) in
+        IsWalk walk x trace.old.now trace.new.now (KeptInOrder bound.old.items bound.new.items) result }
+    ensures refused { let x = level_at (W.levels view.now) (W.level_of view.now spot) in
+        let walk = right_told ignored.now mark items.now first (W.place_of view.now spot) in
+        IsFrontOfWalk walk x trace.old.now trace.new.now result }
     ensures front { take (length bound.old.items) bound.new.items ≡ bound.old.items }
     ensures same { trace.new.old ≡ trace.old.old }
     ensures counted { visited.new + length trace.old.now ≡ visited.old + length trace.new.now }
