@@ -17,6 +17,7 @@ mod reading;
 mod right;
 mod same;
 mod steps;
+mod store;
 mod trace;
 mod walked;
 
@@ -29,5 +30,6 @@ pub use reading::Reading;
 pub use right::right_reads;
 pub use same::same_trace;
 pub use steps::Steps;
+pub use store::AnswerStore;
 pub use trace::Trace;
 pub use walked::Walked;
