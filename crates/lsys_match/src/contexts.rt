@@ -41,17 +41,17 @@ pub fn context_reads<'a, W: LevelView, V: Ledger>(
 ) -> Result<Walked, AllocError>
     requires spot { IsSpot (W.levels view.now) (W.level_of view.now spot) (W.place_of view.now spot) }
     requires built { IsBuilt body.now }
-    requires room { length trace.old.now ≤ most_entries }
+    requires room { length trace.old.read ≤ most_entries }
     ensures told { let x = level_at (W.levels view.now) (W.level_of view.now spot) in
         (m : ModuleValue) → m.params ≡ own.now
         → IsWalk (rule_told ignored.now rule body.now m (W.place_of view.now spot)) x
-        trace.old.now trace.new.now (AreKept bound.new.items) result }
+        trace.old.read trace.new.read (AreKept bound.new.items) result }
     ensures refused { let x = level_at (W.levels view.now) (W.level_of view.now spot) in
         (m : ModuleValue) → m.params ≡ own.now
         → IsFrontOfWalk (rule_told ignored.now rule body.now m (W.place_of view.now spot)) x
-        trace.old.now trace.new.now result }
+        trace.old.read trace.new.read result }
     ensures same { trace.new.old ≡ trace.old.old }
-    ensures counted { visited.new + length trace.old.now ≡ visited.old + length trace.new.now }
+    ensures counted { visited.new + length trace.old.read ≡ visited.old + length trace.new.read }
 {
     bound.truncate(0);
     let mark = Mark { rule, depth: 0 };

@@ -41,15 +41,15 @@ pub fn left_reads<'a, W: LevelView, V: Ledger>(
     visited: &mut Steps<V>,
 ) -> Result<Walked, AllocError>
     requires spot { IsSpot (W.levels view.now) (W.level_of view.now spot) (W.place_of view.now spot) }
-    requires room { length trace.old.now ≤ most_entries }
+    requires room { length trace.old.read ≤ most_entries }
     ensures told { let x = level_at (W.levels view.now) (W.level_of view.now spot) in
         let walk = left_told ignored.now mark patterns.now (W.place_of view.now spot) in
-        IsWalk walk x trace.old.now trace.new.now (KeptReversed bound.old.items bound.new.items) result }
+        IsWalk walk x trace.old.read trace.new.read (KeptReversed bound.old.items bound.new.items) result }
     ensures refused { let x = level_at (W.levels view.now) (W.level_of view.now spot) in
         let walk = left_told ignored.now mark patterns.now (W.place_of view.now spot) in
-        IsFrontOfWalk walk x trace.old.now trace.new.now result }
+        IsFrontOfWalk walk x trace.old.read trace.new.read result }
     ensures same { trace.new.old ≡ trace.old.old }
-    ensures counted { visited.new + length trace.old.now ≡ visited.old + length trace.new.now }
+    ensures counted { visited.new + length trace.old.read ≡ visited.old + length trace.new.read }
 {
     let mut at = spot;
     let mut due = patterns.len();

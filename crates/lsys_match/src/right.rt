@@ -47,16 +47,16 @@ pub fn right_reads<'a, W: LevelView, V: Ledger>(
     requires spot { IsSpot (W.levels view.now) (W.level_of view.now spot) (W.place_of view.now spot) }
     requires first { first ≤ length items.now }
     requires depth { mark.depth + (length items.now - first) < 256 }
-    requires room { length trace.old.now ≤ most_entries }
+    requires room { length trace.old.read ≤ most_entries }
     ensures told { let x = level_at (W.levels view.now) (W.level_of view.now spot) in
         let walk = right_told ignored.now mark items.now first (W.place_of view.now spot) in
-        IsWalk walk x trace.old.now trace.new.now (KeptInOrder bound.old.items bound.new.items) result }
+        IsWalk walk x trace.old.read trace.new.read (KeptInOrder bound.old.items bound.new.items) result }
     ensures refused { let x = level_at (W.levels view.now) (W.level_of view.now spot) in
         let walk = right_told ignored.now mark items.now first (W.place_of view.now spot) in
-        IsFrontOfWalk walk x trace.old.now trace.new.now result }
+        IsFrontOfWalk walk x trace.old.read trace.new.read result }
     ensures front { take (length bound.old.items) bound.new.items ≡ bound.old.items }
     ensures same { trace.new.old ≡ trace.old.old }
-    ensures counted { visited.new + length trace.old.now ≡ visited.old + length trace.new.now }
+    ensures counted { visited.new + length trace.old.read ≡ visited.old + length trace.new.read }
 {
     let mut at = view.right(spot);
     let mut next = first;

@@ -13,8 +13,8 @@ invariant-loop-due g l =
     (g.W.LevelView.level_of l.view l.at ≡ g.W.LevelView.level_of l.view l.fn.spot)
     × IsSpot (g.W.LevelView.levels l.view) (g.W.LevelView.level_of l.view l.at) (g.W.LevelView.place_of l.view l.at)
     × Walk (ignores (map module_name l.ignored)) (mark_of l.mark) (map pattern_of l.patterns) (level_at (g.W.LevelView.levels l.view) (g.W.LevelView.level_of l.view l.fn.spot))
-    (g.W.LevelView.place_of l.view l.fn.spot) (g.W.LevelView.place_of l.view l.at) l.due most_entries l.fn.trace.now l.trace.now l.fn.bound.items l.bound.items
-    × (l.visited + length l.fn.trace.now ≡ l.fn.visited + length l.trace.now)
+    (g.W.LevelView.place_of l.view l.fn.spot) (g.W.LevelView.place_of l.view l.at) l.due most_entries l.fn.trace.read l.trace.read l.fn.bound.items l.bound.items
+    × (l.visited + length l.fn.trace.read ≡ l.fn.visited + length l.trace.read)
     × (l.trace.old ≡ l.fn.trace.old)
 
 abbrev pub decreases-loop-due : goal.decreases-loop-due
