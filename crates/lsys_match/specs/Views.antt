@@ -12,6 +12,10 @@ use Rattle.lsys_match.specs.Noted.{Noted, Compared, Ignored, Out, Branched}
 abbrev pub mark_of : Mark → W.Mark
 mark_of d = record { rule = d.rule; depth = d.depth }
 
+abbrev pub module_of : List ℕ → List ℤ → ModuleValue
+module_of name params = record { name = module_name name; params = params }
+
+-- what was read at an entry of this kind, with this mark, the tags of two brackets and a module
 abbrev pub by_kind : EntryKind → W.Mark → ℕ → ℕ → ModuleValue → Noted
 by_kind kinds.Compared d t u m = Compared d t m
 by_kind kinds.Ignored d t u m = Ignored d t m
@@ -20,7 +24,7 @@ by_kind kinds.Branch d t u m = Branched d t u
 
 -- an entry with these parameters
 abbrev pub noted_of : Entry → List ℤ → Noted
-noted_of e params = by_kind e.kind (record { rule = e.rule; depth = e.depth }) e.tag e.mate (record { name = module_name e.name; params = params })
+noted_of e params = by_kind e.kind (record { rule = e.rule; depth = e.depth }) e.tag e.mate (module_of e.name params)
 
 abbrev pub arities : List Entry → ℕ
 arities [] = 0

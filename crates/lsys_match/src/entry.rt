@@ -1,8 +1,7 @@
 //! Entries of a trace.
 ghost use Rattle.std.specs.Prelude.{◌≡◌, ◌≤◌, [], length};
-ghost use Rattle.lsys_module.specs.Views.{module_name};
 ghost use Rattle.lsys_match.specs.Noted as noted;
-ghost use Rattle.lsys_match.specs.Views.{noted_of, mark_of};
+ghost use Rattle.lsys_match.specs.Views.{module_of, noted_of, mark_of};
 
 use crate::mark::Mark;
 use lsys_level::Tag;
@@ -80,7 +79,7 @@ impl Entry {
     pub(crate) fn compared(mark: Mark, tag: Tag, name: Name, params: &[i64]) -> Entry
         requires { length params.now ≤ 8 }
         ensures arity { result.arity ≡ length params.now }
-        ensures noted { noted_of result params.now ≡ noted.Compared (mark_of mark) tag (record { name = module_name name; params = params.now }) }
+        ensures noted { noted_of result params.now ≡ noted.Compared (mark_of mark) tag (module_of name params.now) }
     {
         Entry {
             kind: EntryKind::Compared,
@@ -97,7 +96,7 @@ impl Entry {
     pub(crate) fn ignored(mark: Mark, tag: Tag, name: Name, params: &[i64]) -> Entry
         requires { length params.now ≤ 8 }
         ensures arity { result.arity ≡ length params.now }
-        ensures noted { noted_of result params.now ≡ noted.Ignored (mark_of mark) tag (record { name = module_name name; params = params.now }) }
+        ensures noted { noted_of result params.now ≡ noted.Ignored (mark_of mark) tag (module_of name params.now) }
     {
         Entry {
             kind: EntryKind::Ignored,

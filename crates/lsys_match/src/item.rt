@@ -10,7 +10,8 @@ pub(crate) fn behind(items: &[Item], at: usize) -> usize
     requires { slice_get items.now at ≡ Some Item.Push }
     ensures later { at < result }
     ensures within { result ≤ length items.now }
-    ensures branch { patterns_from items.now at ≡ BranchOf (patterns_from items.now (at + 1)) (patterns_from items.now result) }
+    ensures branch { let from = patterns_from items.now in
+        from at ≡ BranchOf (from (at + 1)) (from result) }
 {
     let mut place = at + 1;
     let mut inside = 0usize;
