@@ -1,0 +1,117 @@
+-- What a view tells of a place, as the definitions have it.
+use Rattle.std.proofs.Common.{◌≡◌, ℕ, List, [], ◌+◌, ◌<◌, length, get_or, map, Option, Some, None, refl, ap, sym, ◌∙◌, subst, arith}
+use Rattle.std.specs.Prelude.{slice_get, option_map, MatchOption}
+use Rattle.std.proofs.lemmas.Option.{slice_get-map, slice_get-get_or, get_or_from_slice_get}
+use Rattle.lsys_spec.specs.Levels as L
+use Rattle.lsys_spec.specs.Levels.{AreMates}
+use Rattle.lsys_spec.proofs.Around.{ends_at}
+use Rattle.lsys_level.specs.Spots.{Seen, Push, Pop, Module, Spotted, named, with_lineage, level_by, level_at, IsSpot, IsMate}
+use Rattle.lsys_bodies.specs.declared.body.Pattern as code
+use Rattle.lsys_bodies.specs.Views.{pattern_of}
+
+-- what a view tells of a place
+pub record Shows (row : List Spotted) (p : ℕ) (e : Seen) (t : ℕ) : Type 0 where
+  pub seen : option_map (λ s. s.seen) (slice_get row p) ≡ Some e
+  pub tag : option_map (λ s. s.tag) (slice_get row p) ≡ Some t
+
+pub shown : (row : List Spotted) (p : ℕ) (e : Seen) (t : ℕ) (naming : ℕ → List ℕ) → Shows row p e t → slice_get (level_by naming row) p ≡ Some (with_lineage (naming t) e)
+shown row p e t naming h = slice_get-map (named naming) row p ∙ by (slice_get row p) h.seen h.tag
+  where
+    by : (o : Option Spotted) → option_map (λ s. s.seen) o ≡ Some e → option_map (λ s. s.tag) o ≡ Some t → option_map (named naming) o ≡ Some (with_lineage (naming t) e)
+    by None a b = cc
+    by (Some s) a b = let u : s.seen ≡ e = cc in let v : s.tag ≡ t = cc in rw (u, v) refl
+
+-- the same, where the level of the spot is another's
+pub shows : (levels : List (List Spotted)) (n t p : ℕ) (e : Seen) (k : ℕ) → n ≡ t → option_map (λ s. s.seen) (slice_get (level_at levels n) p) ≡ Some e
+    → option_map (λ s. s.tag) (slice_get (level_at levels n) p) ≡ Some k → Shows (level_at levels t) p e k
+shows levels n t p e k h a b = subst (λ i. Shows (level_at levels i) p e k) h (record { seen = a; tag = b })
+
+pub before_spot : (levels : List (List Spotted)) (n m p q : ℕ) → n ≡ m → q + 1 ≡ p → IsSpot levels m p → IsSpot levels n q
+before_spot levels n m p q h k s = rw h (omega (arith, k, s))
+
+-- the mate of a bracket that ends a branch
+pub record Mated (row : List Spotted) (p q o : ℕ) : Type 0 where
+  pub within : q < length row
+  pub behind : q < p
+  pub are : (naming : ℕ → List ℕ) → AreMates (level_by naming row) q p
+  pub begins : Shows row q Push o
+
+push_seen : (row : List Spotted) (p : ℕ) (l : List ℕ) (naming : ℕ → List ℕ) → slice_get (level_by naming row) p ≡ Some (L.Push l) → option_map (λ s. s.seen) (slice_get row p) ≡ Some Push
+push_seen row p l naming h = by (slice_get row p) (sym (slice_get-map (named naming) row p) ∙ h)
+  where
+    of : (s : Spotted) (e : Seen) → s.seen ≡ e → with_lineage (naming s.tag) e ≡ L.Push l → option_map (λ s. s.seen) (Some s) ≡ Some Push
+    of s Push u v = ap (λ e. Some e) u
+    of s Pop u v = cc
+    of s (Module m) u v = cc
+
+    by : (o : Option Spotted) → option_map (named naming) o ≡ Some (L.Push l) → option_map (λ s. s.seen) o ≡ Some Push
+    by None k = cc
+    by (Some s) k = of s s.seen refl (let e : named naming s ≡ L.Push l = cc in e)
+
+pub mated : (levels : List (List Spotted)) (n m t p q k : ℕ) → n ≡ t → m ≡ n → IsMate (level_at levels n) p q → option_map (λ s. s.seen) (slice_get (level_at levels n) p) ≡ Some Pop
+    → option_map (λ s. s.tag) (slice_get (level_at levels m) q) ≡ Some k → Mated (level_at levels t) p q k
+mated levels n m t p q k h i a b d =
+    let row : List Spotted = level_at levels t in
+    let a' : IsMate row p q = subst (λ i. IsMate (level_at levels i) p q) h a in
+    let b' : option_map (λ s. s.seen) (slice_get row p) ≡ Some Pop = subst (λ i. option_map (λ (s : Spotted). s.seen) (slice_get (level_at levels i) p) ≡ Some Pop) h b in
+    let d' : option_map (λ s. s.tag) (slice_get row q) ≡ Some k = subst (λ i. option_map (λ (s : Spotted). s.tag) (slice_get (level_at levels i) q) ≡ Some k) (i ∙ h) d in
+    let c = a'.closes b' in
+    let bare : ℕ → List ℕ = λ t. [] in
+    record { within = a'.within; behind = c.0; are = c.1; begins = record { seen = push_seen row q (c.1 bare).opens.0 bare (c.1 bare).opens.1; tag = d' } }
+
+-- the pattern that is read
+pub same_pattern : (patterns : List code.Pattern) (i : ℕ) (q : code.Pattern) → i < length patterns → q ≡ get_or patterns i q → pattern_of q ≡ get_or (map pattern_of patterns) i (pattern_of q)
+same_pattern patterns i q h e = ap pattern_of e ∙ sym (get_or_from_slice_get (map pattern_of patterns) i (pattern_of (get_or patterns i q)) (pattern_of q) (slice_get-map pattern_of patterns i ∙ ap (option_map pattern_of) (slice_get-get_or patterns i q h)))
+
+-- the mate of a bracket that begins a branch
+pub record Ended (row : List Spotted) (p q c : ℕ) : Type 0 where
+  pub within : q < length row
+  pub behind : p < q
+  pub are : (naming : ℕ → List ℕ) → AreMates (level_by naming row) p q
+  pub ends : Shows row q Pop c
+
+pop_seen : (row : List Spotted) (p : ℕ) (l : List ℕ) (naming : ℕ → List ℕ) → slice_get (level_by naming row) p ≡ Some (L.Pop l) → option_map (λ s. s.seen) (slice_get row p) ≡ Some Pop
+pop_seen row p l naming h = by (slice_get row p) (sym (slice_get-map (named naming) row p) ∙ h)
+  where
+    of : (s : Spotted) (e : Seen) → s.seen ≡ e → with_lineage (naming s.tag) e ≡ L.Pop l → option_map (λ s. s.seen) (Some s) ≡ Some Pop
+    of s Push u v = cc
+    of s Pop u v = ap (λ e. Some e) u
+    of s (Module m) u v = cc
+
+    by : (o : Option Spotted) → option_map (named naming) o ≡ Some (L.Pop l) → option_map (λ s. s.seen) o ≡ Some Pop
+    by None k = cc
+    by (Some s) k = of s s.seen refl (let e : named naming s ≡ L.Pop l = cc in e)
+
+pub ended : (levels : List (List Spotted)) (n m t p q k : ℕ) → n ≡ t → m ≡ n → IsMate (level_at levels n) p q → option_map (λ s. s.seen) (slice_get (level_at levels n) p) ≡ Some Push
+    → option_map (λ s. s.tag) (slice_get (level_at levels m) q) ≡ Some k → Ended (level_at levels t) p q k
+ended levels n m t p q k h i a b d =
+    let row : List Spotted = level_at levels t in
+    let a' : IsMate row p q = subst (λ i. IsMate (level_at levels i) p q) h a in
+    let b' : option_map (λ s. s.seen) (slice_get row p) ≡ Some Push = subst (λ i. option_map (λ (s : Spotted). s.seen) (slice_get (level_at levels i) p) ≡ Some Push) h b in
+    let d' : option_map (λ s. s.tag) (slice_get row q) ≡ Some k = subst (λ i. option_map (λ (s : Spotted). s.tag) (slice_get (level_at levels i) q) ≡ Some k) (i ∙ h) d in
+    let c = a'.opens b' in
+    let bare : ℕ → List ℕ = λ t. [] in
+    let l = ends_at (level_by bare row) p q (c.1 bare) in
+    record { within = a'.within; behind = c.0; are = c.1; ends = record { seen = pop_seen row q l.0 bare l.1; tag = d' } }
+
+-- where a walk to the right has come, none past the last place
+module _ {Spot : Type 0} (levels : List (List Spotted)) (level place : Spot → ℕ) (t : ℕ) where
+  abbrev pub place_at : Option Spot → ℕ
+  place_at None = length (level_at levels t)
+  place_at (Some s) = place s
+
+  abbrev pub IsAt : Option Spot → Type 0
+  IsAt None = Unit {0}
+  IsAt (Some s) = (level s ≡ t) × (place s < length (level_at levels t))
+
+  pub moved : (from : Spot) (o : Option Spot) → level from ≡ t
+      → MatchOption o (place from + 1 ≡ length (level_at levels (level from))) (λ s. (level s ≡ level from) × (place s ≡ place from + 1) × (place s < length (level_at levels (level from))))
+      → IsAt o × (place_at o ≡ place from + 1)
+  moved from None e h = (tt, sym (h ∙ ap (λ i. length (level_at levels i)) e))
+  moved from (Some s) e h = ((h.0 ∙ e, subst (λ i. place s < length (level_at levels i)) e h.2), h.1)
+
+  pub stands : (o : Option Spot) (s : Spot) → o ≡ Some s → IsAt o → (level s ≡ t) × (place s < length (level_at levels t)) × (place_at o ≡ place s)
+  stands o s e h = let k : IsAt (Some s) = subst IsAt e h in (k.0, k.1, ap place_at e)
+
+pub item_at : {A : Type 0} (xs : List A) (i : ℕ) (a : A) → i < length xs → a ≡ get_or xs i a → slice_get xs i ≡ Some a
+item_at xs i a h e = slice_get-get_or xs i a h ∙ ap (λ a. Some a) (sym e)
