@@ -4,7 +4,7 @@ use Rattle.lsys_spec.specs.Systems.{System}
 use Rattle.lsys_spec.specs.Levels.{Symbol}
 use Rattle.lsys_spec.specs.Meaning.{meaning}
 use Rattle.lsys_spec.specs.Questions.{Question, questions, is_needed}
-use Rattle.lsys_spec.specs.LevelLaws.{may_differ}
+use Rattle.lsys_spec.specs.LevelLaws.{may_differ, candidate_visits}
 use Rattle.lsys_spec.specs.Replies.{reply}
 use Rattle.lsys_spec.specs.Output.{out, none, last_system}
 
@@ -39,3 +39,37 @@ ignored_touches = refl
 
 pub ignored_needs_none : map (is_needed (questions_after start)) (questions_after (start ++ codes "ignore Z\n")) ≡ false ∷ false ∷ []
 ignored_needs_none = refl
+
+-- of each question behind the second script, whether it is a candidate where the first one was behind it
+abbrev candidates_from : List ℕ → List ℕ → List Bool
+candidates_from old new = map (may_differ (after old) (after new) (levels_after old) (levels_after new)) (questions_after new)
+
+-- a rule put anew, another key, and a module that wasn't there
+pub touched_itself :
+    map (λ (p : List ℕ × List ℕ). candidates_from p.0 p.1)
+    ((codes "axiom AB\nproduction p: A => X\ndepth 1", codes "axiom AB\nproduction p: A => Y\ndepth 1")
+    ∷ (codes "axiom AB\nproduction p: A @ 1 => X\ndepth 1", codes "axiom AB\nproduction p: A @ 1 => X\nseed 1\ndepth 1")
+    ∷ (codes "axiom AB\nproduction p: A => X\ndepth 1", codes "axiom ABCA\nproduction p: A => X\ndepth 1") ∷ [])
+    ≡ (true ∷ []) ∷ (true ∷ []) ∷ (false ∷ true ∷ []) ∷ []
+touched_itself = refl
+
+-- what is read at a distance; a branch by both its brackets
+pub touched_by_reading :
+    map (λ edited. candidates_from (codes "axiom A[BCD]E\nproduction p: A > [B] => X\ndepth 1") (edited ++ codes "\nproduction p: A > [B] => X\ndepth 1"))
+    (codes "axiom A[BCD]F" ∷ codes "axiom A[BCF]E" ∷ codes "axiom A[BCDEF]" ∷ codes "axiom A[BCD]EF" ∷ [])
+    ≡ (true ∷ []) ∷ (true ∷ []) ∷ (true ∷ []) ∷ (false ∷ []) ∷ []
+touched_by_reading = refl
+
+-- other ignored names: a branch pattern, and one rule of two, is a context; fewer names are others
+pub touched_by_ignoring :
+    map (λ (p : List ℕ × List ℕ). candidates_from p.0 p.1)
+    ((codes "axiom A[B]\nproduction p: A > [B] => X\ndepth 1", codes "axiom A[B]\nproduction p: A > [B] => X\ndepth 1\nignore Z")
+    ∷ (codes "axiom AB\nproduction p: A => X\nproduction q: A > B => X\ndepth 1", codes "axiom AB\nproduction p: A => X\nproduction q: A > B => X\ndepth 1\nignore Z")
+    ∷ (codes "axiom AB\nproduction q: A > B => X\ndepth 1\nignore Z", codes "axiom AB\nproduction q: A > B => X\ndepth 1\nignore") ∷ [])
+    ≡ (true ∷ []) ∷ (true ∷ []) ∷ (true ∷ []) ∷ []
+touched_by_ignoring = refl
+
+-- the entries of the candidates alone
+pub visits_of_candidates :
+    candidate_visits (after start) (after (start ++ codes "axiom ABCDAF\n")) (levels_after start) (levels_after (start ++ codes "axiom ABCDAF\n")) ≡ 1
+visits_of_candidates = refl

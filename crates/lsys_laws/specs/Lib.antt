@@ -14,3 +14,6 @@ pub mod ContextExamples
 pub mod LineExamples
 pub mod FullExamples
 pub mod CandidateExamples
+pub mod BodyExamples
+pub mod WordExamples
+pub mod DirectExamples

@@ -33,3 +33,10 @@ pub string_behind_word :
     run (codes "axiom+(1)\nshow\n") ≡ codes "ok 0/0\nlattice square\nseed 0\naxiom +(1)\nignore\nschedule main\ndepth 0\n"
 unfolding digits
 string_behind_word = refl
+
+-- a name goes before a mixed group, and so does a repeated formal
+pub duplicate_before_mixed :
+    run (codes "production p: A(x,y) @ 1 => B\nproduction q: A(x,x) => B\nproduction q: A(x,y) => B(z)\nproduction q: A(x,y) => B\nproduction winter p: A(x,x) => B\n")
+    ≡ codes "ok 0/0\nrefused duplicate 19\nrefused name 27\nrefused mixed 12\nrefused duplicate 26\n"
+unfolding digits
+duplicate_before_mixed = refl
