@@ -41,3 +41,10 @@ pub entries :
     ≡ codes "ok 0/0\nok 0/0\nok 0/0\nok 1/1\nok 1/1\nok 1/1\nok 1/1\nok 1/1\nok 1/1\nok 1/1\nok 1/1\nok 1/1\nok 0/1\n"
 unfolding digits
 entries = refl
+
+-- what has every part, put again, asks nothing anew
+pub same_again :
+    run (codes "axiom A(1,1)\ndepth 1\nproduction p: A(x,y) => B(-x+y-x*y/x%(y^x),!x&&y||x,x==y,x!=y,x<y,x<=y,x>y,x>=y)[+%]\nproduction p: A(x,y) => B(-x+y-x*y/x%(y^x),!x&&y||x,x==y,x!=y,x<y,x<=y,x>y,x>=y)[+%]\naxiom CEB(1)[[D]A[E]E[D]EF(2)]\nignore E\nproduction q: CB(x) < A > [D]F(y) : y => X\nproduction q: CB(x) < A > [D]F(y) : y => X\ndepth 1\nseed 3\n")
+    ≡ codes "ok 0/0\nok 0/0\nok 1/1\nok 0/1\nok 0/0\nok 0/0\nok 1/1\nok 0/1\nok 0/1\nok 0/1\n"
+unfolding digits
+same_again = refl
