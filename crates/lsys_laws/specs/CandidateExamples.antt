@@ -82,3 +82,12 @@ pub visits_of_long_readers :
     ∷ least_visits (questions_after long_reader) (questions_after long_reader) ∷ []
     ≡ 3 ∷ 3 ∷ 0 ∷ []
 visits_of_long_readers = refl
+
+-- the last symbol that was read has another neighbour: a module that was compared, one that was ignored, a bracket on the way out
+pub touched_behind :
+    map (λ (p : List ℕ × List ℕ). candidates_from p.0 p.1)
+    ((codes "axiom ABC\nproduction p: A > B => X\ndepth 1", codes "axiom ABD\nproduction p: A > B => X\ndepth 1")
+    ∷ (codes "axiom AZ\nproduction p: A > B => X\nignore Z\ndepth 1", codes "axiom AZQ\nproduction p: A > B => X\nignore Z\ndepth 1")
+    ∷ (codes "axiom E[A]\nproduction e: E =>\nproduction p: B < A => A\ndepth 2", codes "axiom E[A]\nproduction e: E => Q\nproduction p: B < A => A\ndepth 2") ∷ [])
+    ≡ (true ∷ []) ∷ (true ∷ []) ∷ (true ∷ false ∷ true ∷ []) ∷ []
+touched_behind = refl

@@ -1,10 +1,14 @@
 -- Examples of the definitions of lsys_syntax and lsys_spec, which the checker computes: words of which laws speak.
 use Rattle.std.specs.Prelude.{◌≡◌, ℕ, pos, negsuc, true, false, Some, None, Result, Ok, Err, List, [], ◌∷◌, ◌==◌, map, option_map, is_some, codes, refl}
-use Rattle.lsys_syntax.specs.Tokens.{Kind, Token, Modules, tokens_from, short}
-use Rattle.lsys_syntax.specs.Pieces.{anything, not_underscore, not_plain, not_digit, not_equals, letter, digit, equals, mark, may_follow}
+use Rattle.std.specs.Fmt.{digits}
+use Rattle.lsys_syntax.specs.Tokens.{Kind, Token, Word, Name, Bang, Less, Greater, Equal, Unequal, AtMost, Arrow, Plus, Number, Modules, tokens_from, is_blank, is_digit, is_letter, is_word_byte, short, long}
+use Rattle.lsys_syntax.specs.Pieces.{anything, not_underscore, not_plain, not_digit, not_equals, letter, digit, equals, mark, may_follow, ending, beginning, text_of, placed}
 use Rattle.lsys_syntax.specs.Strings.{named}
 use Rattle.lsys_syntax.specs.ExpressionMachine.{parse_expr}
 use Rattle.lsys_syntax.specs.ExpressionPlaces.{Extent, ends, stops, too_deep, extent}
+use Rattle.lsys_syntax.specs.Strings as S
+use Rattle.lsys_syntax.specs.Commands.{nesting, command_pieces}
+use Rattle.lsys_spec.specs.Morphisms.{rewritten, raw_plain}
 use Rattle.lsys_syntax.specs.Nesting.{expr_nesting}
 use Rattle.lsys_spec.specs.Draws.{unsplit}
 use Rattle.lsys_spec.specs.Lattices.{turn_left, turn_right, pitch_down, pitch_up, roll_left, roll_right, turn_round, inverse, vector, cross}
@@ -13,7 +17,7 @@ use Rattle.lsys_spec.specs.Cuts.{Raw, Plain, Percent, raw_balanced, is_cut_off, 
 use Rattle.lsys_spec.specs.Walks.{Mark, Compared, Ignored, Out, Branched}
 use Rattle.lsys_spec.specs.Equalities.{same_entry}
 use Rattle.lsys_spec.specs.Replies.{reply, spelled_command}
-use Rattle.lsys_spec.specs.Output.{out, none, any_refusal, any_memory, last_system}
+use Rattle.lsys_spec.specs.Output.{out, none, any_refusal, any_memory, last_system, output_text}
 
 -- a rule at place 1 that was split in two
 pub unsplit_places : map (unsplit 1) (None ∷ Some 0 ∷ Some 1 ∷ Some 2 ∷ Some 3 ∷ []) ≡ None ∷ Some 0 ∷ Some 1 ∷ Some 1 ∷ Some 2 ∷ []
@@ -153,3 +157,63 @@ pub spelling_lines :
     map (λ line. is_some (spelled_command line)) (codes "axiom A" ∷ codes "axiom A\r" ∷ codes "string 5" ∷ codes " " ∷ codes ";" ∷ codes "axiom $" ∷ codes "axiom A\r\r" ∷ codes "x" ∷ [])
     ≡ true ∷ true ∷ true ∷ false ∷ false ∷ false ∷ false ∷ false ∷ []
 spelling_lines = refl
+
+-- the deepest nesting of a command's expressions
+pub nestings_of_commands :
+    map (λ line. option_map nesting (spelled_command line))
+    (codes "hom h: A(x) => F(1,(x))" ∷ codes "hom h: A(x) : ((x)) => F((x))" ∷ codes "production p: A : ((1)) @ (1) => B(1,(((1))))F(1)"
+    ∷ codes "production p: A : ((1)) @ ((((1)))) => B(1)" ∷ codes "production p: A : ((1)) => B[(1)]" ∷ codes "production p: A => B((1),1)F" ∷ codes "production p: A => B[C((1))]F(((1)))" ∷ codes "axiom A(1)" ∷ [])
+    ≡ Some 1 ∷ Some 2 ∷ Some 3 ∷ Some 4 ∷ None ∷ Some 1 ∷ Some 2 ∷ Some 0 ∷ []
+nestings_of_commands = refl
+
+-- letter by letter; brackets and cuts stay
+pub rewritten_letters :
+    rewritten (λ m. Ok (S.Module m.name m.params ∷ S.Module (named (short 66)) [] ∷ [])) (S.Push ∷ S.Module (named (short 65)) [] ∷ S.Cut ∷ S.Pop ∷ [])
+    ≡ Ok (S.Push ∷ S.Module (named (short 65)) [] ∷ S.Module (named (short 66)) [] ∷ S.Cut ∷ S.Pop ∷ [])
+rewritten_letters = refl
+
+pub plain_symbols :
+    map raw_plain (open_bracket ∷ letter_a ∷ a_cut ∷ closing_bracket ∷ []) ≡ S.Push ∷ S.Module (named (short 65)) [] ∷ S.Cut ∷ S.Pop ∷ []
+plain_symbols = refl
+
+-- bytes at the edges of their kinds
+pub kinds_of_bytes :
+    map is_blank (8 ∷ 9 ∷ 10 ∷ 11 ∷ 12 ∷ 13 ∷ 31 ∷ 32 ∷ 33 ∷ 160 ∷ []) ∷ map is_digit (47 ∷ 48 ∷ 57 ∷ 58 ∷ 65 ∷ []) ∷ map is_letter (48 ∷ 64 ∷ 65 ∷ 90 ∷ 91 ∷ 96 ∷ 97 ∷ 122 ∷ 123 ∷ [])
+    ∷ map is_word_byte (45 ∷ 47 ∷ 48 ∷ 57 ∷ 58 ∷ 64 ∷ 65 ∷ 90 ∷ 94 ∷ 95 ∷ 96 ∷ 97 ∷ 122 ∷ 123 ∷ []) ∷ []
+    ≡ (false ∷ true ∷ false ∷ false ∷ false ∷ false ∷ false ∷ true ∷ false ∷ false ∷ []) ∷ (false ∷ true ∷ true ∷ false ∷ false ∷ [])
+    ∷ (false ∷ false ∷ true ∷ true ∷ false ∷ false ∷ true ∷ true ∷ false ∷ [])
+    ∷ (false ∷ false ∷ true ∷ true ∷ false ∷ false ∷ true ∷ true ∷ false ∷ true ∷ false ∷ true ∷ true ∷ false ∷ []) ∷ []
+kinds_of_bytes = refl
+
+-- a line that has no reply without its CR has none for want of memory
+pub no_want_of_memory : output_text (out (reply 100000) (codes "\r\n \t\r\n;\r\nquit\r\n") (λ n. true)) ≡ codes "refused memory\n"
+no_want_of_memory = refl
+
+-- each command as it is printed
+pub texts_of_commands :
+    map (λ line. option_map (λ c. text_of (command_pieces c)) (spelled_command line))
+    (codes "axiom  F_a F_b[ + ]" ∷ codes "production p:A=>" ∷ codes "production t p :A<B>C=>D" ∷ codes "drop  p" ∷ codes "ignore A  B_c D" ∷ codes "schedule  a b"
+    ∷ codes "seed 007" ∷ codes "depth  1" ∷ codes "lattice  cubic" ∷ codes "hom h:A=>B" ∷ codes "string" ∷ codes "string  03" ∷ codes " segments" ∷ codes "svg " ∷ codes "show" ∷ codes "quit" ∷ [])
+    ≡ Some (codes "axiom F_a F_b[+]") ∷ Some (codes "production p: A =>") ∷ Some (codes "production t p: A < B > C => D") ∷ Some (codes "drop p")
+    ∷ Some (codes "ignore AB_c D") ∷ Some (codes "schedule a b") ∷ Some (codes "seed 7") ∷ Some (codes "depth 1") ∷ Some (codes "lattice cubic") ∷ Some (codes "hom h: A => B")
+    ∷ Some (codes "string") ∷ Some (codes "string 3") ∷ Some (codes "segments") ∷ Some (codes "svg") ∷ Some (codes "show") ∷ Some (codes "quit") ∷ []
+unfolding digits
+texts_of_commands = refl
+
+-- the places of printed tokens
+pub places_of_tokens :
+    map (λ line. option_map (λ c. map (λ t. t.start) (placed 5 (command_pieces c))) (spelled_command line)) (codes "string 12" ∷ codes "production p: A => B(1,x_1)" ∷ codes "production p: A(x) : x<=10 => F_a B" ∷ [])
+    ≡ Some (5 ∷ 12 ∷ []) ∷ Some (5 ∷ 16 ∷ 17 ∷ 19 ∷ 21 ∷ 24 ∷ 25 ∷ 26 ∷ 27 ∷ 28 ∷ 31 ∷ []) ∷ Some (5 ∷ 16 ∷ 17 ∷ 19 ∷ 20 ∷ 21 ∷ 22 ∷ 24 ∷ 26 ∷ 27 ∷ 29 ∷ 32 ∷ 35 ∷ 39 ∷ []) ∷ []
+unfolding digits
+places_of_tokens = refl
+
+-- what a token leaves behind it, and what it begins with
+pub ends_of_tokens :
+    map ending (Bang ∷ Less ∷ Greater ∷ Number 1 ∷ Equal ∷ Plus ∷ Name (short 65) ∷ Name (long 65 (66 ∷ [])) ∷ Word (codes "a") ∷ AtMost ∷ [])
+    ≡ not_equals ∷ not_equals ∷ not_equals ∷ not_digit ∷ anything ∷ anything ∷ not_underscore ∷ not_plain ∷ not_plain ∷ anything ∷ []
+ends_of_tokens = refl
+
+pub beginnings_of_tokens :
+    map beginning (Equal ∷ Arrow ∷ Number 1 ∷ Name (short 65) ∷ Word (codes "a") ∷ Unequal ∷ Less ∷ AtMost ∷ Bang ∷ [])
+    ≡ equals ∷ equals ∷ digit ∷ letter ∷ letter ∷ mark ∷ mark ∷ mark ∷ mark ∷ []
+beginnings_of_tokens = refl
