@@ -65,9 +65,14 @@ pub nested_ends :
 nested_ends = refl
 
 pub level_balances :
-    map (level_balanced 0) ((Pop [] ∷ Push [] ∷ []) ∷ (Push [] ∷ []) ∷ (Push [] ∷ Push [] ∷ Pop [] ∷ Pop [] ∷ []) ∷ (Push [] ∷ Push [] ∷ Pop [] ∷ []) ∷ [])
-    ≡ false ∷ false ∷ true ∷ false ∷ []
+    map (level_balanced 0) ((Pop [] ∷ []) ∷ (Pop [] ∷ Push [] ∷ []) ∷ (Push [] ∷ []) ∷ (Push [] ∷ Push [] ∷ Pop [] ∷ Pop [] ∷ []) ∷ (Push [] ∷ Push [] ∷ Pop [] ∷ []) ∷ [])
+    ≡ false ∷ false ∷ false ∷ true ∷ false ∷ []
 level_balances = refl
+
+pub string_balances :
+    map (S.balanced {P = ℕ} 0) ((S.Pop ∷ []) ∷ (S.Pop ∷ S.Push ∷ []) ∷ (S.Push ∷ []) ∷ (S.Push ∷ S.Cut ∷ S.Push ∷ S.Pop ∷ S.Module S.plus [] ∷ S.Pop ∷ []) ∷ (S.Push ∷ S.Push ∷ S.Pop ∷ []) ∷ [])
+    ≡ false ∷ false ∷ false ∷ true ∷ false ∷ []
+string_balances = refl
 
 pub products :
     map (λ v. cross v (vector (pos 2) (pos 3) (pos 5)))
