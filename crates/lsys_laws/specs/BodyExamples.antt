@@ -9,7 +9,7 @@ run = run_with (reply 100000)
 
 -- a rule put anew with another left context, right context, condition or weight is another question, and the same one is not
 pub contexts_and_conditions :
-    run (codes "axiom BAB\ndepth 1\nproduction p: B < A => X\nproduction p: C < A => X\nproduction p: B(x) < A => X\nproduction p: CB < A => X\nproduction p: A > B => X\nproduction p: A > C => X\nproduction p: A > B(x) => X\nproduction p: A > BC => X\nproduction p: A > BC => X\nproduction p: A : 1 => X\nproduction p: A : 2 => X\nproduction p: A => X\nproduction p: A @ 1 => X\nproduction p: A @ 2 => X\nproduction p: A @ 2 => X\n")
+    run (codes "axiom BAB\ndepth 1\nproduction p: B < A => X\nproduction p: B(x) < A => X\nproduction p: C(x) < A => X\nproduction p: CC(x) < A => X\nproduction p: A > B => X\nproduction p: A > B(x) => X\nproduction p: A > C(x) => X\nproduction p: A > BC => X\nproduction p: A > BC => X\nproduction p: A : 1 => X\nproduction p: A : 2 => X\nproduction p: A => X\nproduction p: A @ 1 => X\nproduction p: A @ 2 => X\nproduction p: A @ 2 => X\n")
     ≡ codes "ok 0/0\nok 0/0\nok 1/1\nok 1/1\nok 1/1\nok 1/1\nok 1/1\nok 1/1\nok 1/1\nok 1/1\nok 0/1\nok 1/1\nok 1/1\nok 1/1\nok 1/1\nok 1/1\nok 0/1\n"
 unfolding digits
 contexts_and_conditions = refl
@@ -41,3 +41,10 @@ pub entries :
     ≡ codes "ok 0/0\nok 0/0\nok 0/0\nok 1/1\nok 1/1\nok 1/1\nok 1/1\nok 1/1\nok 1/1\nok 1/1\nok 1/1\nok 1/1\nok 0/1\n"
 unfolding digits
 entries = refl
+
+-- what has every part, put again, asks nothing anew
+pub same_again :
+    run (codes "axiom A(1,1)\ndepth 1\nproduction p: A(x,y) => B(-x+y-x*y/x%(y^x),!x&&y||x,x==y,x!=y,x<y,x<=y,x>y,x>=y)[+%]\nproduction p: A(x,y) => B(-x+y-x*y/x%(y^x),!x&&y||x,x==y,x!=y,x<y,x<=y,x>y,x>=y)[+%]\naxiom CEB(1)[[D]A[E]E[D]EF(2)]\nignore E\nproduction q: CB(x) < A > [D]F(y) : y => X\nproduction q: CB(x) < A > [D]F(y) : y => X\ndepth 1\nseed 3\n")
+    ≡ codes "ok 0/0\nok 0/0\nok 1/1\nok 0/1\nok 0/0\nok 0/0\nok 1/1\nok 0/1\nok 0/1\nok 0/1\n"
+unfolding digits
+same_again = refl

@@ -3,7 +3,7 @@ use Rattle.std.specs.Prelude.{◌≡◌, ℕ, Bool, true, false, Ok, Err, List, 
 use Rattle.lsys_spec.specs.Systems.{System}
 use Rattle.lsys_spec.specs.Levels.{Symbol}
 use Rattle.lsys_spec.specs.Meaning.{meaning}
-use Rattle.lsys_spec.specs.Questions.{Question, questions, is_needed}
+use Rattle.lsys_spec.specs.Questions.{Question, questions, is_needed, least_visits}
 use Rattle.lsys_spec.specs.LevelLaws.{may_differ, candidate_visits}
 use Rattle.lsys_spec.specs.Replies.{reply}
 use Rattle.lsys_spec.specs.Output.{out, none, last_system}
@@ -69,7 +69,25 @@ pub touched_by_ignoring :
     ≡ (true ∷ []) ∷ (true ∷ []) ∷ (true ∷ []) ∷ []
 touched_by_ignoring = refl
 
--- the entries of the candidates alone
+-- the entries of the candidates alone, of which there may be several
 pub visits_of_candidates :
     candidate_visits (after start) (after (start ++ codes "axiom ABCDAF\n")) (levels_after start) (levels_after (start ++ codes "axiom ABCDAF\n")) ≡ 1
 visits_of_candidates = refl
+
+abbrev long_reader : List ℕ
+long_reader = codes "axiom AEEBA\nignore E\nproduction p: A > B => X\ndepth 1"
+
+pub visits_of_long_readers :
+    candidate_visits (after []) (after long_reader) (levels_after []) (levels_after long_reader) ∷ least_visits (questions_after []) (questions_after long_reader)
+    ∷ least_visits (questions_after long_reader) (questions_after long_reader) ∷ []
+    ≡ 3 ∷ 3 ∷ 0 ∷ []
+visits_of_long_readers = refl
+
+-- the last symbol that was read has another neighbour: a module that was compared, one that was ignored, a bracket on the way out
+pub touched_behind :
+    map (λ (p : List ℕ × List ℕ). candidates_from p.0 p.1)
+    ((codes "axiom ABC\nproduction p: A > B => X\ndepth 1", codes "axiom ABD\nproduction p: A > B => X\ndepth 1")
+    ∷ (codes "axiom AZ\nproduction p: A > B => X\nignore Z\ndepth 1", codes "axiom AZQ\nproduction p: A > B => X\nignore Z\ndepth 1")
+    ∷ (codes "axiom E[A]\nproduction e: E =>\nproduction p: B < A => A\ndepth 2", codes "axiom E[A]\nproduction e: E => Q\nproduction p: B < A => A\ndepth 2") ∷ [])
+    ≡ (true ∷ []) ∷ (true ∷ []) ∷ (true ∷ false ∷ true ∷ []) ∷ []
+touched_behind = refl

@@ -37,7 +37,7 @@ passed_branches = refl
 
 -- formals of more than one module in each context, in the order of the text
 pub order_of_formals :
-    run (codes "axiom A(1)B(2)C[D(3)]E(4)F(5)\nproduction p: A(u)B(v) < C > [D(w)]E(x)F(y) => G(u,v,w,x,y)\ndepth 1\nstring\n")
-    ≡ codes "ok 0/0\nok 0/0\nok 1/1\nA(1)B(2)G(1,2,3,4,5)[D(3)]E(4)F(5)\n"
+    run (codes "axiom A(1)B(2)C(6)[D(3)]E(4)F(5)\nproduction p: A(u)B(v) < C(c) > [D(w)]E(x)F(y) => G(u,v,c,w,x,y)\ndepth 1\nstring\n")
+    ≡ codes "ok 0/0\nok 0/0\nok 1/1\nA(1)B(2)G(1,2,6,3,4,5)[D(3)]E(4)F(5)\n"
 unfolding digits
 order_of_formals = refl

@@ -27,3 +27,17 @@ pub great_seeds :
     ≡ codes "ok 0/0\nok 0/0\nok 0/0\nok 0/0\nok 8/8\nBBCCCBCC\nok 8/8\nCBBCCCCC\nok 8/8\nBBCCCCCB\n"
 unfolding digits
 great_seeds = refl
+
+-- each level asks the rules of its own table
+pub tables_in_turn :
+    run (codes "axiom AB\nproduction a: A => AA\nproduction winter v: B => BB\nschedule main winter main\ndepth 1\ndepth 2\ndepth 3\nproduction winter w: A => A\nschedule winter main\nstring\n")
+    ≡ codes "ok 0/0\nok 0/0\nok 0/0\nok 0/0\nok 1/1\nok 1/2\nok 2/4\nok 2/6\nok 7/7\nAABBBB\n"
+unfolding digits
+tables_in_turn = refl
+
+-- a fault is told by its module, brackets before it not counted
+pub modules_behind_branches :
+    run (codes "axiom [B][]A(0)\nproduction p: A(x) => A(1/x)\ndepth 1\n")
+    ≡ codes "ok 0/0\nok 0/0\nrefused fault divide-by-zero level 0 module 2\n"
+unfolding digits
+modules_behind_branches = refl

@@ -16,4 +16,6 @@ pub mod FullExamples
 pub mod CandidateExamples
 pub mod BodyExamples
 pub mod WordExamples
-pub mod DirectExamples
+pub mod DefinitionExamples
+pub mod LawExamples
+pub mod InterimExamples

@@ -40,3 +40,17 @@ pub duplicate_before_mixed :
     ≡ codes "ok 0/0\nrefused duplicate 19\nrefused name 27\nrefused mixed 12\nrefused duplicate 26\n"
 unfolding digits
 duplicate_before_mixed = refl
+
+-- each mark is shown as it was written
+pub every_mark :
+    run (codes "axiom +-&^\\/|!(1)F\nstring\nproduction p: +(x) < -(y) > &^\\/|! : x==1&&y!=2||!x<=y @ x<y => A(x>y,x>=y,-x^2*y/(x-y)%3,x+1)\nshow\n")
+    ≡ codes "ok 0/0\n+-&^\\/|!(1)F\nok 0/0\nlattice square\nseed 0\naxiom +-&^\\/|!(1)F\nignore\nproduction main p: +(x) < -(y) > &^\\/|! : x==1&&y!=2||!x<=y @ x<y => A(x>y,x>=y,-x^2*y/(x-y)%3,x+1)\nschedule main\ndepth 0\n"
+unfolding digits
+every_mark = refl
+
+-- values and nesting past their edges
+pub edges :
+    run (codes "axiom A(-9223372036854775809)\nhom h: A(x) => F((((((((((((((((((((((((((((((((((x))))))))))))))))))))))))))))))))))\nproduction p: A : ---------------------------------1 => B\nproduction p: A @ !!!!!!!!!!!!!!!!!!!!!!!!!!!!!!!!!1 => B\nproduction p: A => B(9223372036854775807,9223372036854775808)\n")
+    ≡ codes "refused syntax token 10\nrefused syntax deep 50\nrefused syntax deep 51\nrefused syntax deep 51\nrefused syntax token 42\n"
+unfolding digits
+edges = refl

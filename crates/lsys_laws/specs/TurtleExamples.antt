@@ -27,3 +27,10 @@ pub rounds :
     ≡ codes "ok 0/0\nok 0/0\nsegments 4\n0 0 0 1 0 0 1\n1 0 0 0 0 0 1\n0 0 0 0 -1 0 1\n0 -1 0 -1 0 0 1\nok 0/0\nok 0/0\nsegments 4\n0 0 0 -1 0 0 1\n-1 0 0 0 0 0 1\n0 0 0 0 0 -1 1\n0 0 -1 0 1 -1 1\nok 0/0\nsegments 4\n0 0 0 -1 0 0 1\n-1 0 0 -2 0 0 1\n-2 0 0 -2 -1 0 1\n-2 -1 0 -2 -2 0 1\n"
 unfolding digits
 rounds = refl
+
+-- the last level is drawn, and no other
+pub last_level_drawn :
+    run (codes "axiom A\nproduction a: A => F+A\nhom h: A => F(5)\ndepth 2\nsegments\ndepth 1\nsegments\n")
+    ≡ codes "ok 0/0\nok 0/0\nok 0/0\nok 2/2\nsegments 3\n0 0 0 0 1 0 1\n0 1 0 -1 1 0 1\n-1 1 0 -1 -4 0 1\nok 0/1\nsegments 2\n0 0 0 0 1 0 1\n0 1 0 -5 1 0 1\n"
+unfolding digits
+last_level_drawn = refl

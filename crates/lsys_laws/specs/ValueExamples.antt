@@ -48,3 +48,10 @@ pub weight_at_once :
     ≡ codes "ok 0/0\nok 0/0\nok 0/0\nrefused fault divide-by-zero level 0 module 1\n"
 unfolding digits
 weight_at_once = refl
+
+-- 0 to a negative power is a negative power; a fault of the left side goes first; a condition may fault, and where it does not hold the successor is not made
+pub powers_of_nothing :
+    run (codes "axiom A(0)\ndepth 1\nproduction p: A(x) => B(x^-1)\nproduction p: A(x) => B(1/x^(2^64))\nproduction p: A(x) => B(2^64/x)\nproduction p: A(x) : x => B(1/x)\nproduction p: A(x) : !(1/x) => B\nproduction p: A(x) : 1/x && 1 => B\nproduction p: A(x) => B(9223372036854775807*2)\nproduction p: A(x) => B(4611686018427387904*-2,-1*-1,0-3*-2,(0-7)/2,1-2-3)\nstring\n")
+    ≡ codes "ok 0/0\nok 0/0\nrefused fault negative-power level 0 module 1\nrefused fault overflow level 0 module 1\nrefused fault overflow level 0 module 1\nok 1/1\nrefused fault divide-by-zero level 0 module 1\nrefused fault divide-by-zero level 0 module 1\nrefused fault overflow level 0 module 1\nok 1/1\nB(-9223372036854775808,1,6,-3,-4)\n"
+unfolding digits
+powers_of_nothing = refl

@@ -30,8 +30,8 @@ homomorphism_rules_by_places = refl
 
 -- letters end at Z and z and begin at A and a; a word may have `_`; a line that begins with no word has words; an `=` alone is a token
 pub bytes :
-    run (codes "axiom A`\naxiom A{\naxiom A~\ndrop a_b\ndrop A_\ndrop _a\n(A_\n=\naxiom A=\naxiom Zz_09azAZ\n1a\nAxiom A\nproduction p : A\t=>B\nlattice cubic\nlattice square\nignore\nignore A_b A_b\nshow\n")
-    ≡ codes "refused syntax byte 8\nrefused syntax byte 8\nrefused syntax byte 8\nrefused label 6\nrefused label 6\nrefused syntax byte 6\nrefused syntax token 1\nrefused syntax token 1\nrefused syntax token 8\nok 0/0\nrefused syntax token 1\nrefused syntax token 1\nok 0/0\nok 0/0\nok 0/0\nok 0/0\nok 0/0\nlattice square\nseed 0\naxiom Zz_09azAZ\nignore A_b\nproduction main p: A => B\nschedule main\ndepth 0\n"
+    run (codes "# A\naxiom A`\naxiom A{\naxiom A~\ndrop a_b\ndrop A_\ndrop _a\n(A_\n=\naxiom A=\naxiom Zz_09azAZ\n1a\nAxiom A\nproduction p : A\t=>B\nlattice cubic\nlattice square\nignore\nignore A_b A_b\nshow\n")
+    ≡ codes "refused syntax byte 1\nrefused syntax byte 8\nrefused syntax byte 8\nrefused syntax byte 8\nrefused label 6\nrefused label 6\nrefused syntax byte 6\nrefused syntax token 1\nrefused syntax token 1\nrefused syntax token 8\nok 0/0\nrefused syntax token 1\nrefused syntax token 1\nok 0/0\nok 0/0\nok 0/0\nok 0/0\nok 0/0\nlattice square\nseed 0\naxiom Zz_09azAZ\nignore A_b\nproduction main p: A => B\nschedule main\ndepth 0\n"
 unfolding digits
 bytes = refl
 

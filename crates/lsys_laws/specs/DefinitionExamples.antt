@@ -83,3 +83,12 @@ rights = refl
 
 pub around_own : around (Some (values (codes "A"))) (value_of 66) (Some (values (codes "C"))) ≡ Some (values (codes "ABC"))
 around_own = refl
+
+-- another number of parameters is another pattern
+pub arities_of_contexts :
+    map (λ n. left (record { name = named (short 65); arity = n } ∷ []) (values (codes "A"))) (0 ∷ 1 ∷ []) ≡ Some (values (codes "A")) ∷ None ∷ []
+arities_of_contexts = refl
+
+pub arities_ahead :
+    map (λ n. right is_e (OneOf (record { name = named (short 67); arity = n }) Done) (items_from line 17)) (0 ∷ 1 ∷ []) ≡ Some (values (codes "C")) ∷ None ∷ []
+arities_ahead = refl
