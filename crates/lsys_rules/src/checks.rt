@@ -31,9 +31,10 @@ pub(crate) fn is_refused(tokens: &[Token], line: &RuleLine) -> bool
     requires spelled { 3 + length (kinds_in (rule_pieces (rule_at (kinds_of tokens.now) line.now))) ≡ length tokens.now }
     ensures { result ≡ rule_refused (rule_at (kinds_of tokens.now) line.now) }
 {
-    has_unknown(tokens, line)
+    // The limits first: what follows them compares each formal with those before it.
+    passes_limit(tokens, line)
+        || has_unknown(tokens, line)
         || has_repeated(&line.predecessor.formals)
-        || passes_limit(tokens, line)
 }
 
 // Whether a name in the rule's expressions is no formal of it.
