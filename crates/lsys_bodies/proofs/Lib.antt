@@ -4,3 +4,4 @@ pub mod Formals
 pub mod Means
 pub mod Wide
 pub mod Named
+pub mod Nests

@@ -6,6 +6,7 @@ mod body;
 mod building;
 mod patterns;
 mod rule;
+mod same;
 
 pub use body::{Body, Item, Pattern, SharedBody, Template};
 pub use building::{build_hom_rule, build_rule};

@@ -72,7 +72,7 @@ quiet-option : (k : Kind) (o : Option Expr) (ps : List Piece) → IsQuiet false 
 quiet-option k None ps h = h
 quiet-option k (Some e) ps h = quiet-token k (blank ∷ (expr_pieces e ++ ps)) (quiet-expr false e ps h)
 
-quiet-rest : (ks : List Kind) (r : RuleLine) → IsQuiet false (rest_pieces ks r)
+pub quiet-rest : (ks : List Kind) (r : RuleLine) → IsQuiet false (rest_pieces ks r)
 quiet-rest ks r =
     let weight = option_pieces At (option_at ks r.weight) in
     let behind = blank ∷ token Arrow ∷ successor_pieces (images_at ks r.successor.items) in

@@ -12,7 +12,6 @@ ghost use Rattle.lsys_reading.specs.RuleLines.{rule_at};
 ghost use Rattle.lsys_reading.specs.declared.rule.RuleLine.{RuleLine};
 ghost use Rattle.lsys_checks.specs.Formals.{Adds, AreFormalNames, first_of, formals_in, head_pieces, marked_formal, symbol_formals, Numbered};
 
-use crate::number::number;
 use lsys_reading::{Pattern, RuleLine};
 use lsys_text::{Name, TokenKind};
 use std::alloc::{AllocError, Global};
@@ -63,7 +62,7 @@ impl FormalNames {
         ensures { (fs : List (List ℕ)) → Numbered fs self.now.numbers → result ≡ is_unknown (map name_of fs) (kind_of kind) }
     {
         match kind {
-            TokenKind::Name(name) => !self.numbers.contains(&number(name)),
+            TokenKind::Name(name) => !self.numbers.contains(&name.number()),
             _ => false,
         }
     }
@@ -144,7 +143,7 @@ impl FormalNames {
         requires room { self.old.end + 2 ≤ usize.MAX }
         ensures { (k : Kind) → OnOk result (Adds self.old (name ∷ []) (marked_formal k name) self.new) }
     {
-        let is_new = self.numbers.insert(number(name))?;
+        let is_new = self.numbers.insert(name.number())?;
         self.repeated = first_repeated(self.repeated, is_new, self.end + 1);
         self.end += 2;
         Ok(())

@@ -9,7 +9,6 @@ mod counter;
 mod counting;
 mod formals;
 mod many;
-mod number;
 mod unknown;
 
 pub use formals::FormalNames;

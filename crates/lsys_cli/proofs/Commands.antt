@@ -1,5 +1,5 @@
 -- The command of a line.
-use Rattle.std.proofs.Common.{◌≡◌, ℕ, Bool, true, false, Some, None, Result, Ok, Err, List, map, refl, ap, sym, subst, ◌∙◌}
+use Rattle.std.proofs.Common.{◌≡◌, ℕ, Bool, true, false, Option, Some, None, Result, Ok, Err, List, map, refl, ap, sym, subst, ◌∙◌}
 use Rattle.std.proofs.lemmas.Simd.{map-map}
 use Rattle.lsys_syntax.specs.Tokens as syntax
 use Rattle.lsys_spec.specs.ReadBack.{spelled_by}
@@ -7,14 +7,13 @@ use Rattle.lsys_spec.specs.Interim.{is_had, only_if, where_had}
 use Rattle.lsys_text.specs.Tokens.{kinds_of, token_of}
 use Rattle.lsys_text.specs.declared.token_kind.Token.{Token}
 use Rattle.lsys_reading.specs.Parted.{command_of}
-use Rattle.lsys_reading.specs.Parsing.{IsParsed}
-use Rattle.lsys_reading.specs.declared.command.Command.{Command as Line}
+use Rattle.lsys_rules.specs.Lines.{CommandLine}
+use Rattle.lsys_rules.specs.Parsing.{IsParsed}
 use Rattle.lsys_syntax.specs.Commands.{Command}
 use Rattle.lsys_syntax.specs.LineMachine.{command_in, parse_command}
-use Rattle.lsys_rules.specs.Applying.{IsOffered}
-use Rattle.lsys_reading.specs.declared.refusal.Refusal.{Refusal}
-use Rattle.lsys_reading.specs.declared.refusal.Refusal.TheVariants as refusals
-use Rattle.lsys_cli.specs.Sessions.{IsCommandOf, IsOfferedOf}
+use Rattle.lsys_rules.specs.declared.refusal.Refusal.{Refusal}
+use Rattle.lsys_rules.specs.declared.refusal.Refusal.TheVariants as refusals
+use Rattle.lsys_cli.specs.Sessions.{IsOffered, IsCommandOf, IsOfferedOf}
 
 spelled : (bare : List ℕ) (found : List Token) → syntax.tokens bare ≡ Ok (map token_of found) → spelled_by (syntax.tokens bare) ≡ parse_command (kinds_of found)
 spelled bare found e = ap spelled_by e ∙ ap parse_command (map-map (λ t. t.kind) token_of found)
@@ -29,20 +28,17 @@ only-not false c h = refl
 
 -- the command that the tokens spell
 module _ (bare : List ℕ) (found : List Token) (bytes : ℕ) (e : syntax.tokens bare ≡ Ok (map token_of found)) where
-  module _ (c : Line) (p : IsParsed found bytes (Ok c)) where
-    one : where_had (spelled_by (syntax.tokens bare)) ≡ only_if (is_had (command_of c)) (command_of c)
-    one = ap where_had (spelled bare found e ∙ ap command_in p.1) ∙ ap (λ ts. only_if (is_had (command_of ts)) (command_of ts)) (sym p.0)
+  module _ (c : CommandLine) (p : IsParsed found bytes (Ok c)) where
+    one : where_had (spelled_by (syntax.tokens bare)) ≡ only_if (is_had (command_of c.tokens)) (command_of c.tokens)
+    one = ap where_had (spelled bare found e ∙ ap command_in p.1) ∙ ap (λ (l : CommandLine). only_if (is_had (command_of l.tokens)) (command_of l.tokens)) (sym p.0)
 
-    pub offered_line : (r : Result Line Refusal) → IsOfferedOf c r → IsCommandOf bare r
-    offered_line (Ok d) h =
-        (one ∙ only-had (is_had (command_of c)) (command_of c) h.1 ∙ ap (λ ts. Some (command_of ts)) (sym h.0), subst IsOffered (sym h.0) h.1)
-    offered_line (Err refusals.Form) h = one ∙ only-not (is_had (command_of c)) (command_of c) h
-    offered_line (Err (refusals.Token n)) h = elim h [ ]
-    offered_line (Err (refusals.Deep n)) h = elim h [ ]
-    offered_line (Err refusals.Memory) h = tt
+    pub offered_line : (o : Option CommandLine) → IsOfferedOf c o → IsCommandOf bare (Ok o)
+    offered_line (Some d) h =
+        (one ∙ only-had (is_had (command_of c.tokens)) (command_of c.tokens) h.1 ∙ ap (λ (l : CommandLine). Some (command_of l.tokens)) (sym h.0), subst (λ (l : CommandLine). IsOffered l.tokens) (sym h.0) h.1)
+    offered_line None h = one ∙ only-not (is_had (command_of c.tokens)) (command_of c.tokens) h
 
-  pub unparsed_line : (r : Refusal) → IsParsed found bytes (Err r) → IsCommandOf bare (Err r)
-  unparsed_line (refusals.Token n) h = ap where_had (spelled bare found e ∙ ap command_in h.1)
-  unparsed_line (refusals.Deep n) h = ap where_had (spelled bare found e ∙ ap command_in h.1)
-  unparsed_line refusals.Form h = elim h [ ]
-  unparsed_line refusals.Memory h = tt
+  pub unparsed_line : (r : Refusal) → (r ≡ refusals.Memory → ⊥) → IsParsed found bytes (Err r) → IsCommandOf bare (Ok None)
+  unparsed_line (refusals.Token n) m h = ap where_had (spelled bare found e ∙ ap command_in h.1)
+  unparsed_line (refusals.Deep n) m h = ap where_had (spelled bare found e ∙ ap command_in h.1)
+  unparsed_line refusals.Memory m h = absurd (m refl)
+  unparsed_line r m h = absurd h

@@ -5,3 +5,4 @@ pub mod Levels
 pub mod Replying
 pub mod SoFar
 pub mod Steps
+pub mod Offering

@@ -12,15 +12,14 @@ use Rattle.lsys_spec.specs.Interim.{is_had, where_had, filtered, bare_reply, rep
 use Rattle.lsys_syntax.specs.Tokens.{tokens}
 use Rattle.lsys_syntax.specs.Commands as spec_commands
 use Rattle.lsys_module.specs.declared.symbol.Symbol.{Symbol}
-use Rattle.lsys_rules.specs.Systems.{system_of}
 use Rattle.lsys_reading.specs.Parted.{command_of}
 use Rattle.lsys_reading.specs.Parsing.{kind_of_command}
-use Rattle.lsys_rules.specs.Applying.{IsOffered}
-use Rattle.lsys_reading.specs.declared.command.Command.{Command}
+use Rattle.std.specs.declared.alloc.AllocError.{AllocError}
+use Rattle.lsys_text.specs.declared.token_kind.Token.{Token}
 use Rattle.lsys_reading.specs.declared.command.CommandKind.TheVariants as kinds
-use Rattle.lsys_reading.specs.declared.refusal.Refusal.{Refusal}
-use Rattle.lsys_reading.specs.declared.refusal.Refusal.TheVariants as refusals
+use Rattle.lsys_rules.specs.Lines.{CommandLine}
 use Rattle.lsys_flat.specs.Faults.{fault_of}
+use Rattle.lsys_flat.specs.Offered.{IsOfferedSystem}
 use Rattle.lsys_flat.specs.Rows.{IsMeaning}
 use Rattle.lsys_cli.specs.declared.session.Session.{Session}
 use Rattle.lsys_cli.specs.declared.session.Answer.{Answer}
@@ -28,24 +27,27 @@ use Rattle.lsys_cli.specs.declared.session.Answer.TheVariants.{Skipped, Edited, 
 use Rattle.lsys_cli.specs.declared.session.Outcome.{Outcome}
 use Rattle.lsys_cli.specs.declared.session.Outcome.TheVariants as outcomes
 
--- the rows are the levels that the system means, one more than its depth
+-- the rows are the levels that the system means, one more than its depth, and the system is one of the program
 abbrev pub AreLevels : spec.System → ℕ → List (List Symbol) → Type 0
-AreLevels s limit rows = IsMeaning s limit (Ok rows) × (length rows ≡ s.depth + 1)
+AreLevels s limit rows = IsMeaning s limit (Ok rows) × (length rows ≡ s.depth + 1) × IsOfferedSystem s
 
 abbrev pub KeepsLevels : Session → Type 0
-KeepsLevels s = AreLevels (system_of s.system) s.limit s.rows
+KeepsLevels s = AreLevels s.system s.limit s.rows
 
--- the command of the program that a line spells, or it spells none
-abbrev pub IsCommandOf : List ℕ → Result Command Refusal → Type 0
-IsCommandOf bare (Ok c) = (where_had (spelled_by (tokens bare)) ≡ Some (command_of c)) × IsOffered c
-IsCommandOf bare (Err refusals.Memory) = Unit {0}
-IsCommandOf bare (Err e) = where_had (spelled_by (tokens bare)) ≡ None
+-- the program has the command that the tokens spell
+abbrev pub IsOffered : List Token → Type 0
+IsOffered ts = is_had (command_of ts) ≡ true
+
+-- the command of the program that a line spells, or it spells none; want of memory says nothing
+abbrev pub IsCommandOf : List ℕ → Result (Option CommandLine) AllocError → Type 0
+IsCommandOf bare (Ok (Some c)) = (where_had (spelled_by (tokens bare)) ≡ Some (command_of c.tokens)) × IsOffered c.tokens
+IsCommandOf bare (Ok None) = where_had (spelled_by (tokens bare)) ≡ None
+IsCommandOf bare (Err e) = Unit {0}
 
 -- the same command, where the program has it
-abbrev pub IsOfferedOf : Command → Result Command Refusal → Type 0
-IsOfferedOf c (Ok d) = (d ≡ c) × IsOffered c
-IsOfferedOf c (Err refusals.Form) = is_had (command_of c) ≡ false
-IsOfferedOf c (Err e) = ⊥
+abbrev pub IsOfferedOf : CommandLine → Option CommandLine → Type 0
+IsOfferedOf c (Some d) = (d ≡ c) × IsOffered c.tokens
+IsOfferedOf c None = is_had (command_of c.tokens) ≡ false
 
 -- a level that is asked for by its number is there
 abbrev pub HasLevel : ℕ → Option ℕ → Type 0
@@ -58,13 +60,13 @@ printed t s limit = language.shown s (language.string_line t) (language.levels_o
 
 -- the reply that an answer stands for; want of memory has none here
 abbrev pub ReplyIs : Session → Reply → Answer → Type 0
-ReplyIs s r Skipped = r ≡ said (system_of s.system) []
-ReplyIs s r (Edited system rows) = (r ≡ said (system_of system) (codes "ok" ++ line_feed)) × AreLevels (system_of system) s.limit rows
-ReplyIs s r (Printed t) = HasLevel s.system.depth t × (r ≡ printed t (system_of s.system) s.limit)
-ReplyIs s r Quit = r ≡ session_end (system_of s.system)
-ReplyIs s r Form = r ≡ refused_form (system_of s.system)
-ReplyIs s r (Fault kind t n) = r ≡ refused (system_of s.system) (derivation_text (FaultAt (fault_of kind) t n))
-ReplyIs s r (Limit t) = r ≡ refused (system_of s.system) (derivation_text (OverLimit t))
+ReplyIs s r Skipped = r ≡ said s.system []
+ReplyIs s r (Edited system rows) = (r ≡ said system (codes "ok" ++ line_feed)) × AreLevels system s.limit rows
+ReplyIs s r (Printed t) = HasLevel s.system.depth t × (r ≡ printed t s.system s.limit)
+ReplyIs s r Quit = r ≡ session_end s.system
+ReplyIs s r Form = r ≡ refused_form s.system
+ReplyIs s r (Fault kind t n) = r ≡ refused s.system (derivation_text (FaultAt (fault_of kind) t n))
+ReplyIs s r (Limit t) = r ≡ refused s.system (derivation_text (OverLimit t))
 ReplyIs s r Memory = Unit {0}
 
 -- the reply to a line that spells the command
@@ -72,12 +74,12 @@ abbrev pub command_reply : ℕ → spec.System → spec_commands.Command → Rep
 command_reply limit s c = filtered s (Some c) (language.accepted limit s c)
 
 -- what a command is answered
-abbrev pub IsResponse : Session → Command → Answer → Type 0
-IsResponse s c a = ReplyIs s (command_reply s.limit (system_of s.system) (command_of c)) a
+abbrev pub IsResponse : Session → CommandLine → Answer → Type 0
+IsResponse s c a = ReplyIs s (command_reply s.limit s.system (command_of c.tokens)) a
 
 -- the command changes the system
-abbrev pub IsEdit : Command → Type 0
-IsEdit c = kind_of_command (command_of c) ≡ kinds.Edit
+abbrev pub IsEdit : CommandLine → Type 0
+IsEdit c = kind_of_command (command_of c.tokens) ≡ kinds.Edit
 
 abbrev pub OnMemory : Answer → Type 0 → Type 0
 OnMemory Memory P = P
@@ -85,7 +87,7 @@ OnMemory a P = Unit {0}
 
 -- what a line is answered; want of memory is no answer to a line that is passed over
 abbrev pub IsAnswer : Session → List ℕ → Answer → Type 0
-IsAnswer s bare a = ReplyIs s (bare_reply s.limit (system_of s.system) bare) a × OnMemory a (is_passed_over bare ≡ false)
+IsAnswer s bare a = ReplyIs s (bare_reply s.limit s.system bare) a × OnMemory a (is_passed_over bare ≡ false)
 
 -- a refusal's line
 abbrev pub refused_text : M.LevelRefusal → List ℕ

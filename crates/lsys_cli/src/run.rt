@@ -5,7 +5,6 @@ ghost use Rattle.lsys_io.specs.Causes.{Rose};
 ghost use Rattle.lsys_io.specs.declared.lines.Stage.TheVariants.{Going};
 ghost use Rattle.lsys_spec.specs.Systems.{opening};
 ghost use Rattle.lsys_spec.specs.Refusals.{Reply};
-ghost use Rattle.lsys_rules.specs.Systems.{system_of};
 ghost use Rattle.lsys_cli.specs.Sessions.{KeepsLevels, refuses, lacks_memory};
 ghost use Rattle.lsys_cli.specs.Ends.{Ends};
 ghost use Rattle.lsys_cli.specs.Runs.{status_of, IsShort, AnswersRead};
@@ -59,7 +58,7 @@ pub fn run<S: Source, K: Sink>(
     sink: &mut K,
 ) -> Status
     requires holds { KeepsLevels session.old }
-    requires opening { system_of session.old.system ≡ opening }
+    requires opening { session.old.system ≡ opening }
     requires empty { out.old ≡ [] }
     requires fresh { reader.old ≡ record { held = []; taken = 0; line = []; stage = Going } }
     ensures ends { Ends session.old.limit (S.left source.old) (K.written sink.old) (K.written sink.new) result }
@@ -104,7 +103,7 @@ fn answer_line<K: Sink>(
     requires holds { KeepsLevels session.old }
     requires empty { out.old ≡ [] }
     requires short { IsShort read line.now }
-    ensures replies { IfOk result (λ o. AnswersRead read session.old.limit (system_of session.old.system) line.now (K.written sink.old) (K.written sink.new) (system_of session.new.system) o) }
+    ensures replies { IfOk result (λ o. AnswersRead read session.old.limit session.old.system line.now (K.written sink.old) (K.written sink.new) session.new.system o) }
     ensures holds { OnOk result (KeepsLevels session.new) }
     ensures limit { session.new.limit ≡ session.old.limit }
     ensures empty { OnOk result (out.new ≡ []) }

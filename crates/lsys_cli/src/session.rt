@@ -7,13 +7,12 @@ ghost use Rattle.lsys_syntax.specs.Limits.{most_line_bytes};
 ghost use Rattle.lsys_syntax.specs.Lines.{is_blank_line, is_comment};
 ghost use Rattle.lsys_syntax.specs.Strings.{string_text};
 ghost use Rattle.lsys_module.specs.Views.{string_of};
-ghost use Rattle.lsys_rules.specs.Systems.{system_of};
-ghost use Rattle.lsys_rules.specs.Applying.{IsOffered};
 ghost use Rattle.lsys_spec.specs.Systems.{opening};
 ghost use Rattle.lsys_spec.specs.Meaning.{OverLimit, FaultAt};
 ghost use Rattle.lsys_syntax.specs.Commands as commands;
 ghost use Rattle.lsys_flat.specs.Faults.{fault_of};
-ghost use Rattle.lsys_cli.specs.Sessions.{KeepsLevels, IsCommandOf, IsOfferedOf, command_reply, IsResponse, IsEdit, ReplyIs, IsAnswer, Replies, refused_text};
+ghost use Rattle.lsys_flat.specs.Offered.{IsOfferedSystem};
+ghost use Rattle.lsys_cli.specs.Sessions.{KeepsLevels, IsCommandOf, IsOffered, IsOfferedOf, command_reply, IsResponse, IsEdit, ReplyIs, IsAnswer, Replies, refused_text};
 
 use lsys_flat::{DeriveRefusal, FaultKind, Rows, derive};
 use lsys_io::{Buffered, Failed, Sink};
@@ -80,7 +79,7 @@ impl Session {
     pub fn start(alloc: Global, limit: u32) -> Result<Session, AllocError>
         ensures levels { IfOk result KeepsLevels }
         ensures limit { IfOk result (λ s. s.limit ≡ limit) }
-        ensures system { IfOk result (λ s. system_of s.system ≡ opening) }
+        ensures system { IfOk result (λ s. s.system ≡ opening) }
     {
         let system = System::opening(alloc)?;
         match derive(alloc, &system, limit) {
@@ -109,7 +108,7 @@ impl Session {
         requires holds { KeepsLevels self.old }
         requires empty { out.old ≡ [] }
         requires short { length line.now ≤ most_line_bytes }
-        ensures replies { IfOk result (λ o. Replies self.old.limit (system_of self.old.system) line.now (K.written sink.old) (K.written sink.new) (system_of self.new.system) o) }
+        ensures replies { IfOk result (λ o. Replies self.old.limit self.old.system line.now (K.written sink.old) (K.written sink.new) self.new.system o) }
         ensures holds { OnOk result (KeepsLevels self.new) }
         ensures limit { self.new.limit ≡ self.old.limit }
         ensures empty { OnOk result (out.new ≡ []) }
@@ -190,32 +189,38 @@ fn is_blank(line: &[u8]) -> bool
 }
 
 /// The command of a line, where the program has it.
-fn command_in(alloc: Global, line: &[u8]) -> Result<Command, Refusal>
+fn command_in(alloc: Global, line: &[u8]) -> Result<Option<Command>, AllocError>
     requires { length line.now ≤ most_line_bytes }
     ensures { IsCommandOf line.now result }
 {
-    match tokens(alloc, line) {
-        Ok(found) => offered(parse_command(alloc, &found, line.len() as u32)?),
-        Err(TextRefusal::Byte { column: _column }) => Err(Refusal::Form),
-        Err(TextRefusal::Memory) => Err(Refusal::Memory),
+    let found = match tokens(alloc, line) {
+        Ok(found) => found,
+        Err(TextRefusal::Byte { column: _column }) => return Ok(None),
+        Err(TextRefusal::Memory) => return Err(AllocError),
+    };
+    match parse_command(alloc, &found, line.len() as u32) {
+        Ok(command) => Ok(offered(command)),
+        Err(Refusal::Memory) => Err(AllocError),
+        Err(_) => Ok(None),
     }
 }
 
 /// The command, where the program has it.
-fn offered(command: Command) -> Result<Command, Refusal>
+fn offered(command: Command) -> Option<Command>
     ensures { IsOfferedOf command result }
 {
     if is_offered(&command) {
-        Ok(command)
+        Some(command)
     } else {
-        Err(Refusal::Form)
+        None
     }
 }
 
 /// What an edit is answered.
 fn edited(alloc: Global, session: &Session, command: &Command) -> Answer
+    requires session { IsOfferedSystem session.now.system }
     requires edit { IsEdit command.now }
-    requires offered { IsOffered command.now }
+    requires offered { IsOffered command.now.tokens }
     ensures { IsResponse session.now command.now result }
 {
     let system = match apply(alloc, &session.system, command) {
@@ -243,7 +248,8 @@ fn edited(alloc: Global, session: &Session, command: &Command) -> Answer
 
 /// What a command is answered.
 fn respond(alloc: Global, session: &Session, command: &Command) -> Answer
-    requires { IsOffered command.now }
+    requires session { IsOfferedSystem session.now.system }
+    requires offered { IsOffered command.now.tokens }
     ensures { IsResponse session.now command.now result }
 {
     match command.kind() {
@@ -256,7 +262,7 @@ fn respond(alloc: Global, session: &Session, command: &Command) -> Answer
 
 /// What a query for a level is answered, or for the last one without a number.
 fn printed(session: &Session, level: Option<u64>) -> Answer
-    ensures { ReplyIs session.now (command_reply session.now.limit (system_of session.now.system) (commands.print_string level)) result }
+    ensures { ReplyIs session.now (command_reply session.now.limit session.now.system (commands.print_string level)) result }
 {
     match level {
         None => Answer::Printed { level: None },
@@ -269,16 +275,17 @@ fn printed(session: &Session, level: Option<u64>) -> Answer
 
 /// What a line is answered.
 fn answer_to(alloc: Global, session: &Session, line: &[u8]) -> Answer
-    requires { length line.now ≤ most_line_bytes }
+    requires session { IsOfferedSystem session.now.system }
+    requires short { length line.now ≤ most_line_bytes }
     ensures { IsAnswer session.now line.now result }
 {
     if passes_over(line) {
         return Answer::Skipped;
     }
     match command_in(alloc, line) {
-        Ok(command) => respond(alloc, session, &command),
-        Err(Refusal::Memory) => Answer::Memory,
-        Err(_) => Answer::Form,
+        Ok(Some(command)) => respond(alloc, session, &command),
+        Ok(None) => Answer::Form,
+        Err(_) => Answer::Memory,
     }
 }
 

@@ -1,5 +1,4 @@
 -- The trees that the code evaluates, as those of the definitions.
-use Rattle.std.specs.Prelude.{ℤ, pos, negsuc, ◌+◌}
 use Rattle.lsys_syntax.specs.Expressions as syntax
 use Rattle.lsys_spec.specs.Values as meaning
 use Rattle.lsys_expr.specs.declared.operators.Operator.{Operator}
@@ -21,14 +20,9 @@ operator_of AtMost = meaning.comparison syntax.at_most
 operator_of Greater = meaning.comparison syntax.greater
 operator_of AtLeast = meaning.comparison syntax.at_least
 
--- a constant; a negative one is the negation of its amount
-abbrev pub constant_of : ℤ → meaning.Tree
-constant_of (pos n) = meaning.Constant n
-constant_of (negsuc n) = meaning.Negation (meaning.Constant (n + 1))
-
 -- the tree that the code's tree stands for
 abbrev pub tree_of : Tree → meaning.Tree
-tree_of (Constant z) = constant_of z
+tree_of (Constant n) = meaning.Constant n
 tree_of (Formal i) = meaning.Formal i
 tree_of (Negation' p t) = meaning.Negation (tree_of t)
 tree_of (Inversion' p t) = meaning.Inversion (tree_of t)

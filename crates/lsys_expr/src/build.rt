@@ -13,6 +13,7 @@ ghost use Rattle.lsys_expr.specs.Parts.{names_of, part_of, unknown_in};
 ghost use Rattle.lsys_expr.specs.Stacks.{frames_of};
 ghost use Rattle.lsys_expr.specs.Trees.{tree_of};
 
+use crate::constant::Constant;
 use crate::expr::Expr;
 use crate::frames::{
     AND_STRENGTH, Follower, Frame, OR_STRENGTH, left_strength, pop, push, reduce, what_follows,
@@ -51,7 +52,11 @@ pub fn build_expr(
 fn kinds_in(alloc: Global, tokens: &[Token]) -> Result<Vec<TokenKind>, AllocError>
     ensures { IfOk result (λ kinds. kinds.items ≡ map (λ t. t.kind) tokens.now) }
 {
-    tokens.iter().map(|token| token.kind).collect(alloc)
+    let mut kinds = Vec::with_capacity(alloc, tokens.len())?;
+    for token in tokens {
+        kinds.push(token.kind)?;
+    }
+    Ok(kinds)
 }
 
 // The tree of an expression: each token moves the operand that was read last, and the frames that it
@@ -104,7 +109,7 @@ fn read_operand(
     ensures { IfOk result (λ operand. with_operand (names_of formals.now) (small (kind_of kind)) (frames_of frames.old.items) ≡ Some (option_map tree_of operand, frames_of frames.new.items)) }
 {
     match kind {
-        TokenKind::Number(number) => Ok(Some(Tree::Constant(number as i64))),
+        TokenKind::Number(number) => Ok(Some(Tree::Constant(Constant::new(number)))),
         TokenKind::Name(name) => Ok(Some(Tree::Formal(formal_place(formals, name)))),
         TokenKind::Mark(byte) => {
             begin_frame(byte, frames)?;

@@ -37,7 +37,7 @@ fn tree_value(tree: &Tree, bound: &[i64]) -> Result<i64, Arith>
     ensures { answer_of result ≡ value (tree_of tree.now) bound.now }
 {
     match tree {
-        Tree::Constant(number) => Ok(*number),
+        Tree::Constant(number) => Ok(number.value()),
         Tree::Formal(place) => Ok(bound.get(usize::from(*place)).copied().unwrap_or(0)),
         Tree::Negation(operand) => tree_value(operand, bound)?
             .checked_neg()

@@ -1,6 +1,7 @@
 //! Expressions.
 ghost use Rattle.std.specs.Prelude.{◌≡◌, map};
 ghost use Rattle.lsys_syntax.specs.Expressions.{expr_kinds};
+ghost use Rattle.lsys_spec.specs.Equalities.{same_tree};
 ghost use Rattle.lsys_text.specs.Tokens.{kind_of};
 ghost use Rattle.lsys_expr.specs.InsideExpr.{spelled_by};
 ghost use Rattle.lsys_expr.specs.Trees.{tree_of};
@@ -52,4 +53,12 @@ impl Expr {
     {
         &self.tree
     }
+}
+
+/// Whether both expressions compute the same tree: parentheses and the names of formals don't matter. It stops at the first
+/// difference.
+pub fn same_expr(one: &Expr, other: &Expr) -> bool
+    ensures { result ≡ same_tree one.now.tree other.now.tree }
+{
+    one.tree().same(other.tree())
 }

@@ -3,6 +3,7 @@
 
 mod arith;
 mod build;
+mod constant;
 mod evaluation;
 mod expr;
 mod frames;
@@ -16,6 +17,6 @@ mod tree;
 pub use arith::Arith;
 pub use build::build_expr;
 pub use evaluation::{eval, holds};
-pub use expr::Expr;
+pub use expr::{Expr, same_expr};
 pub use names::{check_names, is_formal};
 pub use scan::scan_expr;

@@ -48,10 +48,8 @@ pub fn is_formal(formals: &[Name], name: Name) -> bool
     formals.iter().any(|formal| same_name(*formal, name))
 }
 
-// The texts are read for the proof alone: they tell that both are of a name's form.
 fn same_name(one: Name, other: Name) -> bool
     ensures { result ≡ bytes_eq (name_text (name_of one)) (name_text (name_of other)) }
 {
-    let _ = (one.text(), other.text());
     one == other
 }

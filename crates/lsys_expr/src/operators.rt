@@ -3,6 +3,7 @@ ghost use Rattle.std.specs.Prelude.{◌≡◌, ℤ, pos, negsuc, Ok, ◌≤ℤ�
 ghost use Rattle.std.specs.Int.{int_pow};
 ghost use Rattle.lsys_syntax.specs.Expressions.{add, subtract, multiply, divide, remainder, equal, unequal, less, at_most, greater, at_least};
 ghost use Rattle.lsys_spec.specs.Values.{applied, exact, power, power_of, product_of, sum_of, comparison, relates, truth, is_zero, int_same};
+ghost use Rattle.lsys_spec.specs.Equalities.{same_operator};
 ghost use Rattle.lsys_expr.specs.Answers.{answer_of};
 ghost use Rattle.lsys_expr.specs.Trees.{operator_of};
 
@@ -26,6 +27,13 @@ pub(crate) enum Operator {
 }
 
 impl Operator {
+    /// Whether both are the same operator.
+    pub(crate) fn same(self, other: Operator) -> bool
+        ensures { result ≡ same_operator (operator_of self) (operator_of other) }
+    {
+        self == other
+    }
+
     /// The operator's result on two values, or its fault.
     pub(crate) fn apply(self, x: i64, y: i64) -> Result<i64, Arith>
         ensures { answer_of result ≡ applied (operator_of self) x y }

@@ -1,5 +1,5 @@
 -- What the code answers, as the definitions say it.
-use Rattle.std.specs.Prelude.{◌≡◌, ◌<◌, ◌≤◌, ℕ, ℤ, Result, Ok, Err, List, [], ◌∷◌, length, map}
+use Rattle.std.specs.Prelude.{◌≡◌, ◌<◌, ◌≤◌, ℕ, ℤ, Result, Ok, Err, List, [], ◌∷◌, length}
 use Rattle.lsys_syntax.specs.Strings as S
 use Rattle.lsys_spec.specs.Values as meaning
 use Rattle.lsys_spec.specs.Levels.{ModuleValue}
@@ -9,8 +9,8 @@ use Rattle.lsys_expr.specs.declared.arith.Arith as code
 use Rattle.lsys_module.specs.Views.{module_name, symbol_of, string_of}
 use Rattle.lsys_module.specs.declared.symbol.Module.{Module}
 use Rattle.lsys_module.specs.declared.symbol.Symbol.{Symbol}
-use Rattle.lsys_rules.specs.declared.body.Template.{Template}
-use Rattle.lsys_rules.specs.declared.body.Template.TheVariants as templates
+use Rattle.lsys_bodies.specs.declared.body.Template.{Template}
+use Rattle.lsys_bodies.specs.declared.body.Template.TheVariants as templates
 use Rattle.lsys_flat.specs.declared.refusal.FillRefusal.{FillRefusal}
 use Rattle.lsys_flat.specs.declared.refusal.FillRefusal.TheVariants.{Arith, Memory}
 use Rattle.lsys_flat.specs.declared.stepping.Step.{Step}
@@ -21,13 +21,6 @@ use Rattle.lsys_flat.specs.Made.{Faulted}
 -- the module of the definitions that a module stands for
 abbrev pub module_of : Module → ModuleValue
 module_of m = record { name = module_name m.name; params = m.params }
-
--- a symbol of a successor, its expressions as trees
-abbrev pub tree_of : Template → S.Symbol meaning.Tree
-tree_of templates.Push = S.Push
-tree_of templates.Pop = S.Pop
-tree_of templates.Cut = S.Cut
-tree_of (templates.Module name params) = S.Module (module_name name) (map (λ e. e.tree) params.items)
 
 -- a module of a successor has at most eight parameters
 abbrev pub HasFewParams : Template → Type 0

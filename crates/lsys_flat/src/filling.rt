@@ -1,19 +1,17 @@
 //! Successors, their parameters evaluated.
 ghost use Rattle.std.specs.Prelude.{◌≡◌, ◌≤◌, ◌∷◌, [], length, map};
-ghost use Rattle.lsys_syntax.specs.Checks.{rule_formals};
 ghost use Rattle.lsys_syntax.specs.Strings as syntax;
-ghost use Rattle.lsys_spec.specs.Bodies.{templates};
+ghost use Rattle.lsys_spec.specs.Bodies.{body_of};
 ghost use Rattle.lsys_spec.specs.Meaning.{filled, filled_params};
 ghost use Rattle.lsys_expr.specs.Answers.{answer_of};
 ghost use Rattle.lsys_module.specs.Views.{symbol_of};
-ghost use Rattle.lsys_rules.specs.Built.{IsBuilt};
-ghost use Rattle.lsys_rules.specs.Views.{rule_of};
-ghost use Rattle.lsys_flat.specs.Answers.{tree_of, IsFilled, IsSymbol, HasFewParams};
+ghost use Rattle.lsys_bodies.specs.Views.{rule_of, template_of};
+ghost use Rattle.lsys_flat.specs.Answers.{IsFilled, IsSymbol, HasFewParams};
 
 use crate::refusal::FillRefusal;
+use lsys_bodies::{Rule, Template};
 use lsys_expr::{Arith, Expr, eval};
 use lsys_module::{Module, Params, Symbol, SymbolList};
-use lsys_rules::{Rule, Template};
 use std::alloc::Global;
 
 /// A rule's successor, where its formals have the values `bound`, by place.
@@ -22,11 +20,10 @@ use std::alloc::Global;
 ///
 /// `Arith` has the first fault of a parameter, from left to right, and `Memory` is want of memory.
 pub fn fill(alloc: Global, rule: &Rule, bound: &[i64]) -> Result<SymbolList, FillRefusal>
-    requires { IsBuilt rule.now }
-    ensures { IsFilled (filled (templates (rule_formals (rule_of rule.now)) (rule_of rule.now).successor) bound.now) result }
+    ensures { IsFilled (filled (body_of (rule_of rule.now)).successor bound.now) result }
 {
     let mut filled = SymbolList::new(alloc);
-    for template in &rule.body.get().successor {
+    for template in rule.body.successor() {
         filled.push(fill_template(template, bound)?)?;
     }
     Ok(filled)
@@ -35,7 +32,7 @@ pub fn fill(alloc: Global, rule: &Rule, bound: &[i64]) -> Result<SymbolList, Fil
 // One symbol of a successor.
 fn fill_template(template: &Template, bound: &[i64]) -> Result<Symbol, Arith>
     requires { HasFewParams template.now }
-    ensures { IsSymbol (filled (tree_of template.now ∷ []) bound.now) result }
+    ensures { IsSymbol (filled (template_of template.now ∷ []) bound.now) result }
 {
     Ok(match template {
         Template::Push => Symbol::Push,

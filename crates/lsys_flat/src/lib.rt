@@ -2,7 +2,7 @@
 #![tactic(auto)]
 
 ghost use Rattle.std.specs.Prelude.{◌≡◌, ◌+◌, length, IfOk};
-ghost use Rattle.lsys_rules.specs.Systems.{system_of};
+ghost use Rattle.lsys_flat.specs.Offered.{IsOfferedSystem};
 ghost use Rattle.lsys_flat.specs.Rows.{IsMeaning};
 
 mod choice;
@@ -27,7 +27,8 @@ use stepping::{Step, next_level};
 /// the first level that has a module with a fault; it comes before a `Limit` of the level behind it.
 /// `Memory` is want of memory.
 pub fn derive(alloc: Global, system: &System, limit: u32) -> Result<Rows, DeriveRefusal>
-    ensures meaning { IsMeaning (system_of system.now) limit result }
+    requires { IsOfferedSystem system.now }
+    ensures meaning { IsMeaning system.now limit result }
     ensures levels { IfOk result (λ rows. length rows ≡ system.now.depth + 1) }
 {
     let mut rows = Rows::new(alloc);

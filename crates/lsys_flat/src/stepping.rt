@@ -1,16 +1,16 @@
 //! The level behind a level.
 ghost use Rattle.std.specs.Prelude.{◌≡◌, ◌+◌, ◌<◌, ◌≤◌, ◌++◌, ◌^◌, ◌∷◌, [], length, map, IfOk, true, false};
 ghost use Rattle.lsys_module.specs.Views.{symbol_of, string_of};
-ghost use Rattle.lsys_rules.specs.Built.{AreBuilt};
-ghost use Rattle.lsys_rules.specs.Views.{production_of};
+ghost use Rattle.lsys_bodies.specs.Views.{production_of};
 ghost use Rattle.lsys_flat.specs.Made.{children, counted, offspring};
 ghost use Rattle.lsys_flat.specs.Answers.{IsMade, IsStep};
+ghost use Rattle.lsys_flat.specs.Offered.{ArePlain};
 
 use crate::choice::choose;
 use crate::filling::fill;
 use crate::refusal::{FaultKind, FillRefusal};
+use lsys_bodies::Rule;
 use lsys_module::{Symbol, SymbolList};
-use lsys_rules::Rule;
 use std::alloc::{AllocError, Global};
 
 /// What is behind a level.
@@ -31,7 +31,7 @@ pub(crate) fn next_level(
     level: &SymbolList,
     room: usize,
 ) -> Result<Step, AllocError>
-    requires built { AreBuilt rules.now }
+    requires plain { ArePlain (map production_of rules.now) }
     requires few { length level.now < 2 ^ 32 }
     ensures { IfOk result (λ step. IsStep room (offspring (map production_of rules.now) 0 (string_of level.now)) step) }
 {
@@ -71,7 +71,7 @@ fn counted(symbol: &Symbol, modules: u32) -> u32
 
 // What a symbol becomes; a bracket stays.
 fn children(alloc: Global, rules: &[Rule], symbol: &Symbol) -> Result<SymbolList, FillRefusal>
-    requires { AreBuilt rules.now }
+    requires { ArePlain (map production_of rules.now) }
     ensures { IsMade (children (map production_of rules.now) (symbol_of symbol.now)) result }
 {
     match symbol {

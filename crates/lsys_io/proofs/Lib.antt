@@ -3,3 +3,4 @@ pub mod Feeds
 pub mod Absorbed
 pub mod SoFar
 pub mod Taken
+pub mod Puts

@@ -3,7 +3,7 @@ ghost use Rattle.std.specs.Prelude.{◌≡◌, ℕ, List, [], ◌++◌, ◌≤�
 ghost use Rattle.std.specs.Fmt.{signed_decimal};
 ghost use Rattle.std.specs.Io.KnownBytes.{Appends, append_known};
 ghost use Rattle.lsys_io.specs.Causes.{Rose};
-ghost use Rattle.lsys_io.specs.Writes.{AppendsFront};
+ghost use Rattle.lsys_io.specs.Writes.{AppendsFront, Puts};
 
 use super::{Failed, Sink, send_all};
 use itoa::Buffer;
@@ -42,13 +42,7 @@ impl Buffered {
     /// Puts the bytes behind those held, and writes where there is no room.
     #[tactic(auto, using(crate::proofs::Known::front_behind))]
     pub fn put<K: Sink>(&mut self, sink: &mut K, bytes: &[u8]) -> Result<(), Failed>
-        ensures put { OnOk result (Appends (append_known (K.written sink.old) self.old) (append_known (K.written sink.new) self.new) bytes.now) }
-        ensures failed_writes_front { OnErr result (AppendsFront (K.written sink.old) (K.written sink.new) (self.old ++ bytes.now)) }
-        ensures failed_holds_nothing { OnErr result (self.new ≡ []) }
-
-        ensures never_falls { K.faults sink.old ≤ K.faults sink.new }
-        ensures failed_only_where_rose { OnErr result (Rose (K.faults sink.old) (K.faults sink.new)) }
-        ensures ok_leaves_count { OnOk result (K.faults sink.new ≡ K.faults sink.old) }
+        ensures { Puts K.written K.faults sink.old sink.new self.old self.new bytes.now result }
     {
         if bytes.len() > ROOM - self.held.len() {
             self.flush(sink)?;
@@ -64,13 +58,7 @@ impl Buffered {
 
     /// Puts the number in decimal, with `-` before a negative one.
     pub fn put_number<K: Sink>(&mut self, sink: &mut K, n: i128) -> Result<(), Failed>
-        ensures put { OnOk result (Appends (append_known (K.written sink.old) self.old) (append_known (K.written sink.new) self.new) (signed_decimal n)) }
-        ensures failed_writes_front { OnErr result (AppendsFront (K.written sink.old) (K.written sink.new) (self.old ++ signed_decimal n)) }
-        ensures failed_holds_nothing { OnErr result (self.new ≡ []) }
-
-        ensures never_falls { K.faults sink.old ≤ K.faults sink.new }
-        ensures failed_only_where_rose { OnErr result (Rose (K.faults sink.old) (K.faults sink.new)) }
-        ensures ok_leaves_count { OnOk result (K.faults sink.new ≡ K.faults sink.old) }
+        ensures { Puts K.written K.faults sink.old sink.new self.old self.new (signed_decimal n) result }
     {
         let mut digits = Buffer::new();
         self.put(sink, digits.format(n).as_bytes())

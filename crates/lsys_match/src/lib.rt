@@ -30,6 +30,6 @@ pub use reading::Reading;
 pub use right::right_reads;
 pub use same::same_trace;
 pub use steps::Steps;
-pub use store::AnswerStore;
+pub use store::{AnswerStore, TraceRuns};
 pub use trace::Trace;
 pub use walked::Walked;

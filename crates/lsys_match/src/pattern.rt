@@ -12,7 +12,6 @@ use lsys_text::Name;
 pub(crate) fn same_name(one: Name, other: Name) -> bool
     ensures { result ≡ same_name (module_name one) (module_name other) }
 {
-    let _ = (one.text(), other.text());
     one == other
 }
 

@@ -1,12 +1,20 @@
 //! Where answers are kept.
-ghost use Rattle.std.specs.Prelude.{◌≡◌, ◌≤◌, OnOk};
-ghost use Rattle.lsys_region.specs.Pool.{empty_pool};
-ghost use Rattle.lsys_match.specs.Stores.{StaysWithRoom};
+ghost use Rattle.std.specs.Prelude.{◌≡◌, ◌≤◌, OnOk, Some};
+ghost use Rattle.lsys_region.specs.Pool.{empty_pool, list_of, IsLive};
+ghost use Rattle.lsys_region.specs.Rooms.{list_room};
+ghost use Rattle.lsys_match.specs.Stores.{StaysWithRoom, Holds, AreLive, AreFresh, OtherTracesStay, TakesRoom, AreGone, StaysAsLarge, GivesBackRoom};
 
 use crate::entry::Entry;
-use lsys_region::Region;
+use lsys_region::{Region, Run};
 use std::alloc::{AllocError, Global};
 use std::marker::Model;
+
+/// A trace that is kept: the run of its entries, and that of their parameters.
+#[derive(Drop)]
+pub struct TraceRuns {
+    pub entries: Run,
+    pub values: Run,
+}
 
 /// Where answers are kept: the entries of traces in one region, the parameters of the modules that were read in another.
 #[derive(Drop)]
@@ -49,5 +57,50 @@ impl AnswerStore {
     {
         self.traces.reserve(entries)?;
         self.values.reserve(values)
+    }
+
+    /// Keeps a trace with its parameters in two new runs, for which there is room. Takes no memory.
+    pub fn place(&mut self, entries: &[Entry], values: &[i64]) -> TraceRuns
+        requires entries { list_room entries.now ≤ self.old.traces.spare }
+        requires params { list_room values.now ≤ self.old.values.spare }
+        ensures placed { Holds self.new result entries.now values.now }
+        ensures fresh { AreFresh self.old result entries.now values.now }
+        ensures others { OtherTracesStay self.old self.new result }
+        ensures traces { TakesRoom self.old.traces self.new.traces entries.now }
+        ensures values { TakesRoom self.old.values self.new.values values.now }
+    {
+        TraceRuns {
+            entries: self.traces.place(entries),
+            values: self.values.place(values),
+        }
+    }
+
+    /// The entries of a trace that is kept.
+    pub fn entries(&self, runs: &TraceRuns) -> &[Entry]
+        requires { IsLive self.now.traces runs.now.entries }
+        ensures { list_of self.now.traces runs.now.entries ≡ Some result.now }
+    {
+        self.traces.read(&runs.entries)
+    }
+
+    /// The parameters of the modules of a trace that is kept, in order.
+    pub fn values(&self, runs: &TraceRuns) -> &[i64]
+        requires { IsLive self.now.values runs.now.values }
+        ensures { list_of self.now.values runs.now.values ≡ Some result.now }
+    {
+        self.values.read(&runs.values)
+    }
+
+    /// Lets a trace go. Its room is kept for the next lists with the same rooms. Takes no memory.
+    pub fn free(&mut self, runs: TraceRuns)
+        requires { AreLive self.old runs }
+        ensures gone { AreGone self.new runs }
+        ensures others { OtherTracesStay self.old self.new runs }
+        ensures traces { StaysAsLarge self.old.traces self.new.traces }
+        ensures values { StaysAsLarge self.old.values self.new.values }
+        ensures given_back { GivesBackRoom self.old self.new runs }
+    {
+        self.traces.free(runs.entries);
+        self.values.free(runs.values);
     }
 }

@@ -1,7 +1,6 @@
 mod Padding
 pub mod Names
 pub mod Drafts
-pub mod Putting
 pub mod Runs
 pub mod Spelled
 pub mod BuildSteps
@@ -9,3 +8,7 @@ pub mod WrittenStrings
 pub mod Scanned
 pub mod ScanSteps
 pub mod PrintedTexts
+pub mod Forms
+pub mod StringPlaces
+pub mod CountSteps
+pub mod Counted

@@ -1,5 +1,5 @@
 -- The name of a text: it is printed as the text, and a letter tells it from a mark.
-use Rattle.std.proofs.Common.{◌≡◌, ℕ, Bool, true, false, List, [], ◌∷◌, ◌==◌, ◌||◌, nat_lt, length, if◌then◌else◌, refl, ap, ◌∙◌, sym, eqb-true, ℤ, arith}
+use Rattle.std.proofs.Common.{get_or, ◌≡◌, ℕ, Bool, true, false, List, [], ◌∷◌, ◌==◌, ◌||◌, nat_lt, length, if◌then◌else◌, refl, ap, ◌∙◌, sym, eqb-true, ℤ, arith}
 use Rattle.std.proofs.lemmas.Bool.Decides.{nat_tests}
 use Rattle.std.specs.Prelude.{bytes_eq}
 use Rattle.lsys_syntax.specs.Tokens.{is_letter, short}
@@ -61,6 +61,10 @@ first_letter c [] h =
     (not_letter c 92 refl) (not_letter c 47 refl) (not_letter c 124 refl) (not_letter c 33 refl)
     (letter_or_mark (is_letter c) (is_name_mark c) h)
 first_letter c (d ∷ more) h = sym h.1.0
+
+pub first_is_letter : (text : List ℕ) → IsNameBytes text → is_letters (module_name text) ≡ is_letter (get_or text 0 0)
+first_is_letter [] h = elim h [ ]
+first_is_letter (c ∷ more) h = first_letter c more h
 
 -- a name with a `_` is one of more than one byte
 pub long_name : (text : List ℕ) → IsNameBytes text → ends_in_name {P = ℤ} (Module (module_name text) []) ≡ nat_lt 1 (length text)

@@ -4,3 +4,5 @@ pub mod Printing
 pub mod Scanning
 pub mod Building
 pub mod ReadBack
+pub mod Places
+pub mod Counting

@@ -1,26 +1,35 @@
--- What the parts of a printed string are printed as.
-use Rattle.std.specs.Prelude.{ℕ, ℤ, Bool, List, [], ◌++◌}
-use Rattle.lsys_syntax.specs.Pieces.{text_of}
-use Rattle.lsys_syntax.specs.Strings.{Symbol, Module, gap, is_letters, ends_in_name, starts_with_letter, symbol_pieces, params_pieces, value_pieces}
+-- What the parts of a printed string are printed as, whatever its parameters are.
+use Rattle.std.specs.Prelude.{ℕ, Bool, List, [], ◌∷◌, ◌++◌}
+use Rattle.lsys_syntax.specs.Pieces.{Piece, text_of}
+use Rattle.lsys_syntax.specs.Strings.{Symbol, Module, ModuleName, gap, is_letters, ends_in_name, starts_with_letter, symbol_pieces, params_pieces}
 use Rattle.lsys_spec.specs.Systems.{module_name_text}
-use Rattle.lsys_module.specs.Views.{module_name}
 
 -- a blank, where a name runs on and what follows begins with a letter
 abbrev pub gap_text : Bool → Bool → List ℕ
 gap_text runs_on letter = text_of (gap runs_on letter)
 
 -- a name, behind a blank where it needs one
-abbrev pub name_behind : Bool → List ℕ → List ℕ
-name_behind runs_on name = gap_text runs_on (is_letters (module_name name)) ++ module_name_text (module_name name)
+abbrev pub name_behind : Bool → ModuleName → List ℕ
+name_behind runs_on name = gap_text runs_on (is_letters name) ++ module_name_text name
 
 -- a symbol, behind a blank where it needs one
-abbrev pub symbol_behind : Bool → Symbol ℤ → List ℕ
-symbol_behind runs_on s = gap_text runs_on (starts_with_letter s) ++ text_of (symbol_pieces value_pieces s)
+abbrev pub symbol_behind : {P : Type 0} → (P → List Piece) → Bool → Symbol P → List ℕ
+symbol_behind print runs_on s = gap_text runs_on (starts_with_letter s) ++ text_of (symbol_pieces print s)
+
+-- symbols, each behind a blank where it needs one
+abbrev pub symbols_behind : {P : Type 0} → (P → List Piece) → Bool → List (Symbol P) → List ℕ
+symbols_behind print runs_on [] = []
+symbols_behind print runs_on (x ∷ xs) = symbol_behind print runs_on x ++ symbols_behind print (ends_in_name x) xs
 
 -- the parameters of a module, in parentheses where there are any
-abbrev pub params_text : List ℤ → List ℕ
-params_text values = text_of (params_pieces value_pieces values)
+abbrev pub params_text : {P : Type 0} → (P → List Piece) → List P → List ℕ
+params_text print params = text_of (params_pieces print params)
+
+-- a `,` before each
+abbrev pub more_text : {P : Type 0} → (P → List Piece) → List P → List ℕ
+more_text print [] = []
+more_text print (x ∷ xs) = 44 ∷ text_of (print x) ++ more_text print xs
 
 -- a letter directly behind a module with this name and no parameters is read as part of the name
-abbrev pub runs_on_after : List ℕ → Bool
-runs_on_after name = ends_in_name {P = ℤ} (Module (module_name name) [])
+abbrev pub runs_on_after : ModuleName → Bool
+runs_on_after name = ends_in_name {P = ℕ} (Module name [])

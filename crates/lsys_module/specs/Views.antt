@@ -3,6 +3,7 @@ use Rattle.std.specs.Prelude.{ℕ, ℤ, List, [], ◌∷◌, ◌==◌, map, if�
 use Rattle.lsys_syntax.specs.Tokens as syntax
 use Rattle.lsys_syntax.specs.Strings as strings
 use Rattle.lsys_text.specs.Tokens.{name_of}
+use Rattle.lsys_module.specs.declared.symbol.Module.{Module as CodeModule}
 use Rattle.lsys_module.specs.declared.symbol.Symbol.{Symbol}
 use Rattle.lsys_module.specs.declared.symbol.Symbol.TheVariants.{Push, Pop, Cut, Module}
 
@@ -19,6 +20,10 @@ short_name c =
 abbrev pub module_name : List ℕ → strings.ModuleName
 module_name (c ∷ []) = short_name c
 module_name text = strings.named (name_of text)
+
+-- the module of the definitions that a module stands for
+abbrev pub module_of : CodeModule → strings.Symbol ℤ
+module_of m = strings.Module (module_name m.name) m.params
 
 -- the symbol of the definitions that a symbol stands for
 abbrev pub symbol_of : Symbol → strings.Symbol ℤ

@@ -17,10 +17,10 @@ use lsys_text::{Name, Token, TokenKind};
 use std::alloc::{AllocError, Global};
 
 /// A string has at most so many symbols, its brackets and cuts counted.
-const MOST_SYMBOLS: usize = 4096;
+pub(crate) const MOST_SYMBOLS: usize = 4096;
 
 /// A module has at most so many parameters.
-const MOST_PARAMS: usize = 8;
+pub(crate) const MOST_PARAMS: usize = 8;
 
 /// The string that the tokens from a place on are. `scan_string` has found that they are one.
 ///

@@ -12,6 +12,7 @@ ghost use Rattle.lsys_module.specs.ReadBack.{text_verdict};
 
 mod build;
 mod glyph;
+mod limits;
 mod params;
 mod print;
 mod refusal;
@@ -20,8 +21,9 @@ mod symbol;
 mod symbol_list;
 
 pub use build::build_string;
+pub use limits::first_many;
 pub use params::Params;
-pub use print::print_string;
+pub use print::{print_string, put_name};
 pub use refusal::StringRefusal;
 pub use scan::scan_string;
 pub use symbol::{Module, Symbol};

@@ -1,5 +1,9 @@
 //! Whether tokens are a string.
-ghost use Rattle.std.specs.Prelude.{◌≡◌, ◌<◌, ◌≤◌, ◌+◌, length, IfSome};
+ghost use Rattle.std.specs.Prelude.{◌≡◌, ◌<◌, ◌≤◌, ◌+◌, length, IfErr, IfSome, OnErr, OnOk};
+ghost use Rattle.lsys_syntax.specs.Sentences.{AreTokens};
+ghost use Rattle.lsys_text.specs.Tokens.{kinds_of};
+ghost use Rattle.lsys_laws.specs.StringPlaces.{IsString};
+ghost use Rattle.lsys_module.specs.Places.{BeginsBefore, kinds_from, NoneGoesOn, refused_place};
 ghost use Rattle.lsys_module.specs.Scanning.{string_verdict, IsScanned, between_step, param_step, progress_step, may_end};
 
 use crate::glyph::Glyph;
@@ -30,10 +34,17 @@ pub(crate) struct Progress {
 ///
 /// # Errors
 ///
-/// `Token` has the place of the first token with which no string goes on. `Deep` never comes.
+/// `Token` has the place of the first token with which no string goes on: some string begins with the tokens before it,
+/// and none goes on with it; or, behind the last token, they are no whole string. `Deep` never comes.
 pub fn scan_string(tokens: &[Token], from: usize) -> Result<(), PlaceRefusal>
     requires { from ≤ length tokens.now }
-    ensures { IsScanned (string_verdict from tokens.now) result }
+    ensures verdict { IsScanned (string_verdict from tokens.now) result }
+    ensures string { AreTokens (kinds_of tokens.now) → OnOk result (IsString (kinds_from from tokens.now)) }
+    ensures no_string { OnErr result (IsString (kinds_from from tokens.now) → ⊥) }
+    ensures behind { IfErr result (λ refusal. from ≤ refused_place refusal) }
+    ensures within { IfErr result (λ refusal. refused_place refusal ≤ length tokens.now) }
+    ensures before { AreTokens (kinds_of tokens.now) → IfErr result (BeginsBefore from tokens.now) }
+    ensures none_goes_on { IfErr result (NoneGoesOn from tokens.now) }
 {
     let mut progress = Progress {
         spot: Spot::Between { bare: false },

@@ -1,7 +1,9 @@
 //! Strings of symbols.
-ghost use Rattle.std.specs.Prelude.{◌≡◌, ◌++◌, ◌∷◌, [], length, OnOk, OnErr, IsTrue, ◌↔◌};
+ghost use Rattle.std.specs.Prelude.{◌≡◌, ◌<◌, ◌≤◌, ◌++◌, ◌∷◌, [], length, set, take, OnOk, OnErr, IsTrue, ◌↔◌};
+ghost use Rattle.lsys_syntax.specs.Strings.{AreSymbols};
+ghost use Rattle.lsys_module.specs.Views.{string_of};
 
-use crate::symbol::Symbol;
+use crate::symbol::{Symbol, law_of_symbols};
 use std::alloc::{AllocError, Global};
 use std::marker::Model;
 
@@ -17,7 +19,12 @@ impl Model for SymbolList {
 
     ghost Value = { List Symbol };
 
+    ghost use Rattle.lsys_syntax.specs.Strings.{AreSymbols};
+    ghost use Rattle.lsys_module.specs.Views.{string_of};
+
     ghost view = { λ a. a.symbols.items };
+
+    ghost invariant = { λ a. AreSymbols (string_of a.symbols.items) };
 }
 
 impl SymbolList {
@@ -39,13 +46,31 @@ impl SymbolList {
         ensures added { OnOk result (self.new ≡ self.old ++ symbol ∷ []) }
         ensures refused { OnErr result (self.new ≡ self.old) }
     {
+        law_of_symbols(&symbol);
         self.symbols.push(symbol)?;
         Ok(())
     }
 
+    /// Puts a symbol in the place of another.
+    pub fn set(&mut self, place: usize, symbol: Symbol)
+        requires { place < length self.old }
+        ensures { self.new ≡ set self.old place symbol }
+    {
+        law_of_symbols(&symbol);
+        self.symbols[place] = symbol;
+    }
+
+    /// Keeps the first `len` symbols.
+    pub fn truncate(&mut self, len: usize)
+        ensures { self.new ≡ take len self.old }
+    {
+        self.symbols.truncate(len);
+    }
+
     /// The symbols, in order.
     pub fn symbols(&self) -> &[Symbol]
-        ensures { result.now ≡ self.now }
+        ensures symbols { result.now ≡ self.now }
+        ensures forms { AreSymbols (string_of self.now) }
     {
         self.symbols.as_slice()
     }

@@ -29,5 +29,4 @@ abbrev pub IsParsed : List Token → ℕ → Result Command Refusal → Type 0
 IsParsed ts bytes (Ok c) = (c ≡ ts) × (verdict (kinds_of ts) ≡ sentence (command_of ts))
 IsParsed ts bytes (Err (refusals.Token column)) = (place : ℕ) × (verdict (kinds_of ts) ≡ stops place) × (column ≡ column_of bytes ts place)
 IsParsed ts bytes (Err (refusals.Deep column)) = (place : ℕ) × (verdict (kinds_of ts) ≡ too_deep place) × (column ≡ column_of bytes ts place)
-IsParsed ts bytes (Err refusals.Form) = ⊥
 IsParsed ts bytes (Err refusals.Memory) = Unit {0}

@@ -1,7 +1,5 @@
 -- Why a part of a line can't be read.
 use Rattle.std.specs.Prelude.{ℕ}
-use Rattle.lsys_module.specs.declared.refusal.StringRefusal.{StringRefusal}
-use Rattle.lsys_module.specs.declared.refusal.StringRefusal.TheVariants as strings
 use Rattle.lsys_text.specs.declared.refusals.PlaceRefusal.{PlaceRefusal}
 use Rattle.lsys_text.specs.declared.refusals.PlaceRefusal.TheVariants as places
 use Rattle.lsys_reading.specs.declared.refusal.PartRefusal.{PartRefusal}
@@ -18,8 +16,3 @@ abbrev pub refusal_in : (ℕ → ℕ) → PartRefusal → Refusal
 refusal_in column (Token place) = refusals.Token (column place)
 refusal_in column (Deep place) = refusals.Deep (column place)
 refusal_in column Memory = refusals.Memory
-
--- why an axiom is refused when it is built
-abbrev pub of_string : StringRefusal → Refusal
-of_string (strings.TooMany column) = refusals.Form
-of_string strings.Memory = refusals.Memory

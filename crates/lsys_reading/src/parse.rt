@@ -18,7 +18,7 @@ use std::alloc::Global;
 /// # Errors
 ///
 /// `Token` and `Deep` have the column of the first token with which no command goes on, or the one behind the line's
-/// end, and `Memory` is want of memory. `Form` never comes.
+/// end, and `Memory` is want of memory.
 pub fn parse_command(alloc: Global, tokens: &[Token], line_length: u32) -> Result<Command, Refusal>
     requires short { line_length ≤ most_line_bytes }
     requires forms { AreTokens (kinds_of tokens.now) }

@@ -2,7 +2,6 @@
 ghost use Rattle.std.specs.Prelude.{◌≡◌};
 ghost use Rattle.lsys_reading.specs.Refusals.{refusal_at};
 
-use lsys_module::StringRefusal;
 use lsys_text::PlaceRefusal;
 use std::alloc::AllocError;
 use thiserror::Error;
@@ -44,7 +43,7 @@ impl PartRefusal {
     }
 }
 
-/// Why a line is no command, or a command is refused. Columns count bytes from 1.
+/// Why a line is no command. Columns count bytes from 1.
 #[derive(Clone, Copy, PartialEq, Eq, Debug, Error)]
 pub enum Refusal {
     /// No command begins with the tokens up to the one at this column; where the line ends too early it is the
@@ -54,9 +53,6 @@ pub enum Refusal {
     /// As `Token`, but without the bound on nesting one does.
     #[error("column {column} nests too deep")]
     Deep { column: u32 },
-    /// The command is refused by itself. No line is refused so when it is read.
-    #[error("form")]
-    Form,
     /// Want of memory.
     #[error("out of memory")]
     Memory,
@@ -70,19 +66,5 @@ impl From<AllocError> for Refusal {
 
     fn from(_: AllocError) -> Refusal {
         Refusal::Memory
-    }
-}
-
-impl From<StringRefusal> for Refusal {
-    ghost use Rattle.std.specs.Prelude.{◌≡◌};
-    ghost use Rattle.lsys_reading.specs.Refusals.{of_string};
-
-    ghost from_gives = { λ e r. r ≡ of_string e };
-
-    fn from(refusal: StringRefusal) -> Refusal {
-        match refusal {
-            StringRefusal::TooMany { column: _column } => Refusal::Form,
-            StringRefusal::Memory => Refusal::Memory,
-        }
     }
 }

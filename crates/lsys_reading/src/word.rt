@@ -1,5 +1,5 @@
 //! The words of commands and of lattices.
-ghost use Rattle.std.specs.Prelude.{◌≡◌, bytes_eq};
+ghost use Rattle.std.specs.Prelude.{◌≡◌};
 ghost use Rattle.lsys_syntax.specs.LineMachine.{first_word, lattice_named};
 ghost use Rattle.lsys_reading.specs.Words.{word_state_in, lattice_state_in};
 
@@ -29,57 +29,45 @@ pub(crate) enum CommandWord {
 pub(crate) fn command_word(word: Word) -> Option<CommandWord>
     ensures { first_word word ≡ word_state_in result }
 {
-    if reads(word, b"axiom") {
-        Some(CommandWord::Axiom)
-    } else if reads(word, b"production") {
-        Some(CommandWord::Production)
-    } else if reads(word, b"drop") {
-        Some(CommandWord::Drop)
-    } else if reads(word, b"ignore") {
-        Some(CommandWord::Ignore)
-    } else if reads(word, b"schedule") {
-        Some(CommandWord::Schedule)
-    } else if reads(word, b"seed") {
-        Some(CommandWord::Seed)
-    } else if reads(word, b"depth") {
-        Some(CommandWord::Depth)
-    } else if reads(word, b"lattice") {
-        Some(CommandWord::Lattice)
-    } else if reads(word, b"hom") {
-        Some(CommandWord::Homomorphism)
-    } else if reads(word, b"string") {
-        Some(CommandWord::String)
-    } else if reads(word, b"segments") {
-        Some(CommandWord::Segments)
-    } else if reads(word, b"svg") {
-        Some(CommandWord::Svg)
-    } else if reads(word, b"show") {
-        Some(CommandWord::Show)
-    } else if reads(word, b"quit") {
-        Some(CommandWord::Quit)
-    } else {
-        None
-    }
+    command_named(word.text().as_bytes())
 }
 
 /// The lattice that a word names, where it names one.
 pub(crate) fn lattice_name(word: Word) -> Option<LatticeName>
     ensures { lattice_named word ≡ lattice_state_in result }
 {
-    if reads(word, b"square") {
-        Some(LatticeName::Square)
-    } else if reads(word, b"hexagonal") {
-        Some(LatticeName::Hexagonal)
-    } else if reads(word, b"cubic") {
-        Some(LatticeName::Cubic)
-    } else {
-        None
+    lattice_with(word.text().as_bytes())
+}
+
+fn command_named(text: &[u8]) -> Option<CommandWord>
+    ensures { first_word text.now ≡ word_state_in result }
+{
+    match text {
+        b"axiom" => Some(CommandWord::Axiom),
+        b"production" => Some(CommandWord::Production),
+        b"drop" => Some(CommandWord::Drop),
+        b"ignore" => Some(CommandWord::Ignore),
+        b"schedule" => Some(CommandWord::Schedule),
+        b"seed" => Some(CommandWord::Seed),
+        b"depth" => Some(CommandWord::Depth),
+        b"lattice" => Some(CommandWord::Lattice),
+        b"hom" => Some(CommandWord::Homomorphism),
+        b"string" => Some(CommandWord::String),
+        b"segments" => Some(CommandWord::Segments),
+        b"svg" => Some(CommandWord::Svg),
+        b"show" => Some(CommandWord::Show),
+        b"quit" => Some(CommandWord::Quit),
+        _ => None,
     }
 }
 
-// Whether a word has this text.
-fn reads(word: Word, text: &[u8]) -> bool
-    ensures { result ≡ bytes_eq word text.now }
+fn lattice_with(text: &[u8]) -> Option<LatticeName>
+    ensures { lattice_named text.now ≡ lattice_state_in result }
 {
-    word.text().as_bytes() == text
+    match text {
+        b"square" => Some(LatticeName::Square),
+        b"hexagonal" => Some(LatticeName::Hexagonal),
+        b"cubic" => Some(LatticeName::Cubic),
+        _ => None,
+    }
 }

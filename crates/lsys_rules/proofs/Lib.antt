@@ -1,9 +1,11 @@
+pub mod Labels
+pub mod Grouping
 pub mod Tables
-pub mod Unknown
-pub mod Many
 pub mod Searches
+pub mod Chains
+pub mod Kept
+pub mod RuleNames
+pub mod OnceNames
+pub mod Accepted
 pub mod Plain
-pub mod LineItems
-pub mod Builds
-pub mod Puts
-pub mod Applied
+pub mod ShownTexts

@@ -1,22 +1,19 @@
 -- What the program has of the language: strings without brackets and cuts, and rules without contexts and weights.
-use Rattle.std.proofs.Common.{◌≡◌, ℕ, ◌+◌, ◌<◌, ◌≤◌, Bool, true, false, not, ◌||◌, ◌&&◌, Option, Some, None, List, [], ◌∷◌, ◌++◌, drop, length, map, get_or, refl, ap, ap₂, sym, ◌∙◌}
+use Rattle.std.proofs.Common.{◌≡◌, ℕ, ◌+◌, ◌<◌, ◌≤◌, Bool, true, false, not, ◌||◌, ◌&&◌, Option, Some, None, List, [], ◌∷◌, ◌++◌, drop, length, get_or, refl, ap, ap₂, sym, ◌∙◌}
 use Rattle.std.proofs.lemmas.List.{drop_all}
-use Rattle.std.specs.Prelude.{is_none, unwrap_or}
-use Rattle.lsys_syntax.specs.Tokens.{NameText, Kind}
+use Rattle.std.specs.Prelude.{is_none}
+use Rattle.lsys_syntax.specs.Tokens.{Kind}
 use Rattle.lsys_syntax.specs.Pieces.{Piece, kinds_of as kinds_in}
 use Rattle.lsys_syntax.specs.Strings.{ModuleName, named, plus, minus, ampersand, caret, backslash, slash, bar, bang, name_kind, Symbol, Module, Push, Pop, Cut, Signed, unsigned, minus_sign, signed_pieces, more_pieces, params_pieces, symbol_pieces, string_pieces, gap, ends_in_name, begins_with_letter}
-use Rattle.lsys_syntax.specs.Expressions.{Expr}
-use Rattle.lsys_syntax.specs.Rules.{Rule}
-use Rattle.lsys_syntax.specs.Commands.{Command, set_axiom, put_production, quit, string_behind}
-use Rattle.lsys_syntax.specs.LineMachine.{sentence, verdict, command_in}
+use Rattle.lsys_syntax.specs.Commands.{set_axiom, string_behind}
+use Rattle.lsys_syntax.specs.LineMachine.{sentence, verdict}
 use Rattle.lsys_syntax.specs.Sentences.{AreTokens}
 use Rattle.lsys_syntax.proofs.StringKinds.{kinds-append}
 use Rattle.lsys_syntax.proofs.LineSound.{sentence-spelled}
-use Rattle.lsys_spec.specs.Interim.{is_module, is_plain, is_empty, is_plain_rule, is_had}
+use Rattle.lsys_spec.specs.Interim.{is_module, is_plain, is_empty, is_plain_rule}
 use Rattle.lsys_text.specs.Tokens.{kind_of, kinds_of}
 use Rattle.lsys_text.specs.declared.token_kind.Token.{Token}
 use Rattle.lsys_reading.specs.declared.images.Image.{Image}
-use Rattle.lsys_reading.specs.declared.parts.Parts.{Parts}
 use Rattle.lsys_reading.specs.declared.patterns.Pattern.{Pattern}
 use Rattle.lsys_reading.specs.declared.span.Span.{Span}
 use Rattle.lsys_reading.specs.declared.rule.RuleLine.{RuleLine}
@@ -24,12 +21,9 @@ use Rattle.lsys_reading.specs.Heads.{patterns_of}
 use Rattle.lsys_reading.specs.Spans.{option_at}
 use Rattle.lsys_reading.specs.RuleLines.{rule_at}
 use Rattle.lsys_reading.specs.Images.{image_at, images_at}
-use Rattle.lsys_reading.specs.Commands.{parts_command}
-use Rattle.lsys_reading.specs.Parted.{command_of, IsParted}
 use Rattle.lsys_reading.proofs.TokenPlaces.{token-here}
 use Rattle.lsys_rules.specs.Branches.{is_branch, has_branches, is_bare}
-use Rattle.lsys_rules.proofs.Unknown.{plain_rule}
-use Rattle.lsys_rules.proofs.Searches.{drop-here}
+use Rattle.lsys_bodies.proofs.Loops.{drop-here}
 
 -- 1. a bracket or a cut among tokens
 
@@ -159,44 +153,3 @@ bare-plain ks r =
     sym (and-all (is_empty r.left.items) (is_empty r.right.items) (is_none r.weight) (is_plain (images_at ks r.successor.items)))
     ∙ ap₂ (λ a b. a && (b && (is_none r.weight && is_plain (images_at ks r.successor.items)))) (sym (same-empty r.left.items)) (sym (same-empty r.right.items))
     ∙ ap (λ c. is_empty (patterns_of r.left.items) && (is_empty (patterns_of r.right.items) && (c && is_plain (images_at ks r.successor.items)))) (sym (same-none ks r.weight))
-
-both : (a b : Bool) → (a && b) ≡ true → (a ≡ true) × (b ≡ true)
-both true b h = (refl, h)
-both false b h = cc
-
-nil-is : {A : Type 0} → (xs : List A) → is_empty xs ≡ true → xs ≡ []
-nil-is [] h = refl
-nil-is (x ∷ xs) h = cc
-
-none-is : {A : Type 0} → (o : Option A) → is_none o ≡ true → o ≡ None
-none-is None h = refl
-none-is (Some x) h = cc
-
-pub plain-successor : (r : Rule) → is_plain_rule r ≡ true → is_plain r.successor ≡ true
-plain-successor r h =
-    let a = both (is_empty r.left) (is_empty r.right && (is_none r.weight && is_plain r.successor)) h in
-    let b = both (is_empty r.right) (is_none r.weight && is_plain r.successor) a.1 in
-    (both (is_none r.weight) (is_plain r.successor) b.1).1
-
--- it has no contexts and no weight
-pub plain-is : (r : Rule) → is_plain_rule r ≡ true → plain_rule r.name r.formals r.condition r.successor ≡ r
-plain-is r h =
-    let a = both (is_empty r.left) (is_empty r.right && (is_none r.weight && is_plain r.successor)) h in
-    let b = both (is_empty r.right) (is_none r.weight && is_plain r.successor) a.1 in
-    let c = both (is_none r.weight) (is_plain r.successor) b.1 in
-    let left : [] ≡ r.left = sym (nil-is r.left a.0) in
-    let right : [] ≡ r.right = sym (nil-is r.right b.0) in
-    let weight : None ≡ r.weight = sym (none-is r.weight c.0) in
-    ap (λ l. record { left = l; name = r.name; formals = r.formals; right = []; condition = r.condition; weight = None; successor = r.successor }) left
-    ∙ ap (λ t. record { left = r.left; name = r.name; formals = r.formals; right = t; condition = r.condition; weight = None; successor = r.successor }) right
-    ∙ ap (λ w. record { left = r.left; name = r.name; formals = r.formals; right = r.right; condition = r.condition; weight = w; successor = r.successor }) weight
-
--- 4. the command of some parts
-
-pub parted-command : (ts : List Token) (p q : Parts) → IsParted (kinds_of ts) p → p ≡ q → command_of ts ≡ parts_command (kinds_of ts) q
-parted-command ts p q h e = ap (λ v. unwrap_or (command_in v) quit) h.spelled ∙ ap (parts_command (kinds_of ts)) e
-
--- a production of the program is one of the main table, and plain
-pub had-production : (t : Option (List ℕ)) (l : List ℕ) (r : Rule) → is_had (put_production t l r) ≡ true → (t ≡ None) × (is_plain_rule r ≡ true)
-had-production None l r h = (refl, h)
-had-production (Some t) l r h = cc

@@ -1,42 +1,34 @@
--- What a put is to the list of rules.
-use Rattle.std.proofs.Common.{◌≡◌, Bool, true, false, List, [], ◌∷◌, refl, ap, sym, ◌∙◌, cond, map, bytes_eq}
-use Rattle.std.proofs.lemmas.Slice.Eq.{bytes_eq-Decides}
-use Rattle.indexmap.specs.IndexMap.{insert_entry}
-use Rattle.lsys_text.specs.declared.names.Word.{Word}
-use Rattle.lsys_rules.specs.declared.rule.Rule.{Rule}
-use Rattle.lsys_rules.specs.Table.{with_rule}
-use Rattle.lsys_rules.specs.InsideTable.{OwnLabels}
-use Rattle.lsys_rules.specs.Built.{IsBuilt, AreBuilt}
+-- The tables of rules, one after another.
+use Rattle.std.proofs.Common.{◌≡◌, ℕ, ◌+◌, ◌<◌, Bool, true, false, ◌||◌, List, [], ◌∷◌, drop, length, get_or, map, refl, ap, sym, ◌∙◌}
+use Rattle.std.specs.List.{list_any}
+use Rattle.lsys_syntax.specs.Strings.{ModuleName}
+use Rattle.lsys_spec.specs.Meaning.{ignores}
+use Rattle.lsys_spec.specs.Walks as W
+use Rattle.lsys_spec.specs.Systems.{any, is_table, same_name, with_table, tables_onto}
+use Rattle.lsys_bodies.specs.declared.rule.Rule.{Rule}
+use Rattle.lsys_bodies.specs.Views.{production_of}
+use Rattle.lsys_bodies.proofs.Loops.{drop-here}
 
-abbrev pub rules_of : List (Word × Rule) → List Rule
-rules_of es = map (λ e. e.1) es
+pub any_same : {A : Type 0} (p : A → Bool) (xs : List A) → any p xs ≡ list_any p xs
+any_same p [] = refl
+any_same p (x ∷ xs) = ap (λ b. p x || b) (any_same p xs)
 
--- a put keeps each rule under its own label
-pub own_put : (es : List (Word × Rule)) (r : Rule) → OwnLabels es → OwnLabels (insert_entry bytes_eq es r.label r)
-own_put [] r own = (refl, tt)
-own_put (e ∷ es) r own =
-    let at : (b : Bool) → bytes_eq r.label e.0 ≡ b → OwnLabels (cond b ((e.0, r) ∷ es) (e ∷ insert_entry bytes_eq es r.label r)) =
-    λ b. elim b as (λ b. bytes_eq r.label e.0 ≡ b → OwnLabels (cond b ((e.0, r) ∷ es) (e ∷ insert_entry bytes_eq es r.label r))) [
-      | true ↦ λ is. ((bytes_eq-Decides r.label e.0).0 is, own.1)
-      | false ↦ λ is. (own.0, own_put es r own.1)
-    ] in
-    at (bytes_eq r.label e.0) refl
+-- the tables with those of the rules from one on
+pub tables_step : (rs : List Rule) (i : ℕ) (r : Rule) (ts us : List (List ℕ)) (all : List (List ℕ)) → i < length rs → r ≡ get_or rs i r
+    → tables_onto ts (map production_of (drop i rs)) ≡ all → us ≡ with_table (is_table ts r.table) ts r.table → tables_onto us (map production_of (drop (i + 1) rs)) ≡ all
+tables_step rs i r ts us all h e g f = ap (λ vs. tables_onto vs (map production_of (drop (i + 1) rs))) f ∙ ap (λ qs. tables_onto ts (map production_of qs)) (sym (drop-here rs i r h e)) ∙ g
 
-pub rules_put : (es : List (Word × Rule)) (r : Rule) → OwnLabels es → rules_of (insert_entry bytes_eq es r.label r) ≡ with_rule r (rules_of es)
-rules_put [] r own = refl
-rules_put (e ∷ es) r own =
-    let at : (b : Bool) → rules_of (cond b ((e.0, r) ∷ es) (e ∷ insert_entry bytes_eq es r.label r)) ≡ cond b (r ∷ rules_of es) (e.1 ∷ with_rule r (rules_of es)) =
-    λ b. elim b as (λ b. rules_of (cond b ((e.0, r) ∷ es) (e ∷ insert_entry bytes_eq es r.label r)) ≡ cond b (r ∷ rules_of es) (e.1 ∷ with_rule r (rules_of es))) [
-      | true ↦ refl
-      | false ↦ ap (λ t. e.1 ∷ t) (rules_put es r own.1)
-    ] in
-    at (bytes_eq r.label e.0) ∙ ap (λ (k : Word). cond (bytes_eq r.label k) (r ∷ rules_of es) (e.1 ∷ with_rule r (rules_of es))) (sym own.0)
+pub any_map : {A B : Type 0} (p : B → Bool) (f : A → B) (xs : List A) → list_any (λ x. p (f x)) xs ≡ list_any p (map f xs)
+any_map p f [] = refl
+any_map p f (x ∷ xs) = ap (λ b. p (f x) || b) (any_map p f xs)
 
-built_at : (q : Rule) (qs more : List Rule) (r : Rule) → IsBuilt r → AreBuilt (q ∷ qs) → (b : Bool) → AreBuilt more → AreBuilt (cond b (r ∷ qs) (q ∷ more))
-built_at q qs more r h built true ih = (h, built.1)
-built_at q qs more r h built false ih = (built.0, ih)
+walks_any : {A : Type 0} (p : A → Bool) (xs : List A) → list_any p xs ≡ W.list_any p xs
+walks_any p [] = refl
+walks_any p (x ∷ xs) = by (p x) (list_any p xs) (W.list_any p xs) (walks_any p xs)
+  where
+    by : (a b c : Bool) → b ≡ c → (a || b) ≡ (elim a [ true ↦ true | false ↦ c ])
+    by true b c h = refl
+    by false b c h = h
 
--- a put keeps the trees
-pub built_put : (rs : List Rule) (r : Rule) → IsBuilt r → AreBuilt rs → AreBuilt (with_rule r rs)
-built_put [] r h built = (h, tt)
-built_put (q ∷ qs) r h built = built_at q qs (with_rule r qs) r h built (bytes_eq r.label q.label) (built_put qs r h built.1)
+pub ignores_same : (names : List ModuleName) (n : ModuleName) → list_any (λ y. same_name y n) names ≡ ignores names n
+ignores_same names n = walks_any (λ y. same_name y n) names

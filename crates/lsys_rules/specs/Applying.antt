@@ -1,23 +1,30 @@
 -- What is answered where a command is applied.
-use Rattle.std.specs.Prelude.{◌≡◌, true, None, Result, Ok, Err, List, IsSome}
-use Rattle.lsys_syntax.specs.Commands as spec
-use Rattle.lsys_spec.specs.Systems as spec_systems
-use Rattle.lsys_spec.specs.Edits.{refusal, changed}
-use Rattle.lsys_spec.specs.Interim.{is_had}
-use Rattle.lsys_text.specs.declared.token_kind.Token.{Token}
+use Rattle.std.specs.Prelude.{◌≡◌, ℕ, Option, Some, None, Result, Ok, Err}
+use Rattle.lsys_spec.specs.Systems as spec
+use Rattle.lsys_spec.specs.Edits as edits
 use Rattle.lsys_reading.specs.Parted.{command_of}
-use Rattle.lsys_rules.specs.Systems.{system_of}
-use Rattle.lsys_rules.specs.declared.system.System.{System}
-use Rattle.lsys_reading.specs.declared.refusal.Refusal.{Refusal}
-use Rattle.lsys_reading.specs.declared.refusal.Refusal.TheVariants.{Form, Memory}
+use Rattle.lsys_reading.specs.Parsing.{column_of}
+use Rattle.lsys_rules.specs.Lines.{CommandLine}
+use Rattle.lsys_rules.specs.declared.refusal.Refusal.{Refusal}
+use Rattle.lsys_rules.specs.declared.refusal.Refusal.TheVariants.{Name, Duplicate, Mixed, Label, Table, Level, TooMany, Memory}
 
--- the program has the command that the tokens spell
-abbrev pub IsOffered : List Token → Type 0
-IsOffered ts = is_had (command_of ts) ≡ true
+-- it is refused so, at the token with this column
+abbrev pub IsToldAt : CommandLine → edits.Why → ℕ → Option edits.Refusal → Type 0
+IsToldAt line why column told = (place : ℕ) × (told ≡ Some (record { why = why; place = place })) × (column ≡ column_of line.bytes line.tokens place)
 
--- the changed system where nothing refuses the command; or it is refused by itself; want of memory says nothing
-abbrev pub IsApplied : spec_systems.System → spec.Command → Result System Refusal → Type 0
-IsApplied s c (Ok next) = (refusal s c ≡ None) × (system_of next ≡ changed s c)
-IsApplied s c (Err Form) = IsSome (refusal s c)
-IsApplied s c (Err Memory) = Unit {0}
-IsApplied s c (Err e) = ⊥
+-- the refusal that the definitions tell; for want of memory only where they tell none
+abbrev pub IsRefused : CommandLine → Option edits.Refusal → Refusal → Type 0
+IsRefused line told (Name column) = IsToldAt line edits.unknown_name column told
+IsRefused line told (Duplicate column) = IsToldAt line edits.duplicate column told
+IsRefused line told (Mixed column) = IsToldAt line edits.mixed column told
+IsRefused line told (Label column) = IsToldAt line edits.wrong_label column told
+IsRefused line told (Table column) = IsToldAt line edits.wrong_table column told
+IsRefused line told (Level column) = IsToldAt line edits.wrong_level column told
+IsRefused line told (TooMany column) = IsToldAt line edits.many column told
+IsRefused line told Memory = told ≡ None
+IsRefused line told e = ⊥
+
+-- the changed system where nothing refuses the command, or the first refusal
+abbrev pub IsApplied : spec.System → CommandLine → Result spec.System Refusal → Type 0
+IsApplied s line (Ok next) = (edits.refusal s (command_of line.tokens) ≡ None) × (next ≡ edits.changed s (command_of line.tokens))
+IsApplied s line (Err e) = IsRefused line (edits.refusal s (command_of line.tokens)) e

@@ -1,10 +1,18 @@
--- The code's system as that of the definitions.
+-- The parts of a system, as the system of the definitions.
 use Rattle.std.specs.Prelude.{map}
 use Rattle.lsys_spec.specs.Systems as spec
-use Rattle.lsys_module.specs.Views.{string_of}
-use Rattle.lsys_rules.specs.declared.system.System.{System}
-use Rattle.lsys_rules.specs.Views.{production_of}
+use Rattle.lsys_module.specs.Views.{module_name, string_of}
+use Rattle.lsys_reading.specs.Commands.{lattice_of}
+use Rattle.lsys_rules.specs.declared.parts.SystemParts.{SystemParts}
 
--- what the program doesn't have yet is as in the opening system
-abbrev pub system_of : System → spec.System
-system_of s = record spec.opening { axiom_string = string_of s.«axiom»; rules = map production_of s.rules; depth = s.depth }
+abbrev pub system_of : SystemParts → spec.System
+system_of s = record {
+  axiom_string = string_of s.«axiom»;
+  rules = s.rules;
+  schedule = s.schedule.items;
+  ignored = map module_name s.ignored.items;
+  homomorphisms = s.homs;
+  seed = s.seed;
+  depth = s.depth;
+  lattice = lattice_of s.lattice;
+}

@@ -1,22 +1,33 @@
 //! Systems, the commands that edit them, and what an edit makes of a system.
 #![tactic(auto)]
 
-mod body;
-mod building;
-mod checks;
+mod changes;
+mod command;
+mod command_faults;
 mod edit;
+mod edit_faults;
+mod faults;
+mod groups;
+mod hom_table;
+mod labelled;
+mod limits;
 mod names;
 mod offered;
-mod opening;
-mod rule;
+mod parts;
+mod refusal;
+mod rule_faults;
+mod rule_table;
+mod script;
+mod show_rules;
 mod system;
-mod table;
 
-pub use body::{Body, SharedBody, Template};
+pub use command::{Command, parse_command};
 pub use edit::apply;
-pub use lsys_reading::{Command, CommandKind, Refusal, parse_command};
-pub use names::NameList;
+pub use hom_table::HomTable;
+pub use lsys_bodies::{Body, HomRule, Item, Pattern, Rule, SharedBody, Template};
+pub use lsys_reading::{CommandKind, LatticeName as LatticeKind};
 pub use offered::is_offered;
-pub use rule::{Pattern, Rule};
+pub use refusal::Refusal;
+pub use rule_table::RuleTable;
+pub use script::show;
 pub use system::System;
-pub use table::RuleTable;

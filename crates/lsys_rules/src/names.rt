@@ -1,73 +1,21 @@
-//! Lists of names.
-ghost use Rattle.std.specs.Prelude.{◌≡◌, List, ℕ, ◌++◌, ◌∷◌, [], length, IfOk, OnOk, OnErr};
+//! Names among names.
+ghost use Rattle.std.specs.Prelude.{◌≡◌, map};
+ghost use Rattle.lsys_spec.specs.Meaning.{ignores};
+ghost use Rattle.lsys_spec.specs.Systems.{same_name};
+ghost use Rattle.lsys_module.specs.Views.{module_name};
 
 use lsys_text::Name;
-use std::alloc::{AllocError, Global};
-use std::marker::Model;
 
-/// Names, in order.
-#[derive(Drop)]
-pub struct NameList {
-    names: Vec<Name>,
+// Whether a name is among these.
+pub(crate) fn is_among(names: &[Name], name: Name) -> bool
+    ensures { result ≡ ignores (map module_name names.now) (module_name name) }
+{
+    names.iter().any(|other| same_name(*other, name))
 }
 
-impl Model for NameList {
-    ghost use Rattle.std.specs.Prelude.{List, ℕ};
-
-    ghost Value = { List (List ℕ) };
-
-    ghost view = { λ a. a.names.items };
-}
-
-impl NameList {
-    /// No names.
-    pub fn new(alloc: Global) -> NameList
-        ensures { result ≡ [] }
-    {
-        NameList {
-            names: Vec::new(alloc),
-        }
-    }
-
-    /// These names.
-    pub fn of(alloc: Global, names: &[Name]) -> Result<NameList, AllocError>
-        ensures { IfOk result (λ l. l ≡ names.now) }
-    {
-        Ok(NameList {
-            names: Vec::from_slice(alloc, names)?,
-        })
-    }
-
-    /// Adds a name at the end.
-    pub fn push(&mut self, name: Name) -> Result<(), AllocError>
-        ensures added { OnOk result (self.new ≡ self.old ++ name ∷ []) }
-        ensures refused { OnErr result (self.new ≡ self.old) }
-    {
-        self.names.push(name)?;
-        Ok(())
-    }
-
-    /// The names, in order.
-    pub fn names(&self) -> &[Name]
-        ensures { result.now ≡ self.now }
-    {
-        self.names.as_slice()
-    }
-
-    /// How many names there are.
-    pub fn len(&self) -> usize
-        ensures { result ≡ length self.now }
-    {
-        self.names.len()
-    }
-}
-
-impl Clone for NameList {
-    ghost is_clone = { λ a b. b ≡ a };
-
-    fn clone(&self) -> Result<NameList, AllocError> {
-        Ok(NameList {
-            names: self.names.clone()?,
-        })
-    }
+// Whether two names are the same.
+pub(crate) fn same_name(one: Name, other: Name) -> bool
+    ensures { result ≡ same_name (module_name one) (module_name other) }
+{
+    one == other
 }

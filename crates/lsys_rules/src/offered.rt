@@ -8,13 +8,14 @@ ghost use Rattle.lsys_reading.specs.Images.{image_at, images_at};
 ghost use Rattle.lsys_reading.specs.RuleLines.{rule_at};
 ghost use Rattle.lsys_rules.specs.Branches.{is_branch, has_branches, is_bare};
 
-use lsys_reading::{Command, Image, Parts, RuleLine};
+use crate::command::Command;
+use lsys_reading::{Image, Parts, RuleLine};
 use lsys_text::{Token, TokenKind};
 
 /// Whether the program has the command: an axiom or a production of the main table without brackets and cuts, contexts
 /// and weight; a depth; a level; the end.
 pub fn is_offered(command: &Command) -> bool
-    ensures { result ≡ is_had (command_of command.now) }
+    ensures { result ≡ is_had (command_of command.now.tokens) }
 {
     match command.parts() {
         Parts::Axiom => !has_branches(command.tokens()),

@@ -1,45 +1,180 @@
 //! Systems.
-ghost use Rattle.std.specs.Prelude.{◌≡◌, true};
-ghost use Rattle.lsys_spec.specs.Interim.{is_plain};
-ghost use Rattle.lsys_module.specs.Views.{string_of};
-ghost use Rattle.lsys_rules.specs.Built.{AreBuilt};
+ghost use Rattle.std.specs.Prelude.{◌≡◌, ◌≤◌, ◌<◌, IfOk, filter, map, slice_get};
+ghost use Rattle.std.specs.Option.{option_map};
+ghost use Rattle.lsys_syntax.specs.Limits.{most_depth};
+ghost use Rattle.lsys_spec.specs.Systems.{opening, tables};
+ghost use Rattle.lsys_spec.specs.Bodies.{body_of, group, is_for, table_at};
+ghost use Rattle.lsys_spec.specs.Meaning.{ignores};
+ghost use Rattle.lsys_laws.specs.Sessions.{IsWell};
+ghost use Rattle.lsys_module.specs.Views.{module_name, string_of};
+ghost use Rattle.lsys_reading.specs.Commands.{lattice_of};
+ghost use Rattle.lsys_bodies.specs.Views.{homomorphism_of, production_of, rule_of};
+ghost use Rattle.lsys_rules.specs.Systems.{system_of};
 
-use crate::rule::Rule;
-use crate::table::RuleTable;
+use crate::hom_table::HomTable;
+use crate::names::is_among;
+use crate::parts::SystemParts;
+use crate::rule_table::RuleTable;
+use lsys_bodies::{HomRule, Rule};
 use lsys_module::SymbolList;
-use std::alloc::AllocError;
+use lsys_reading::LatticeName;
+use lsys_text::{Name, Word};
+use std::alloc::{AllocError, Global};
+use std::marker::Model;
 
-/// What the accepted edits leave: an axiom, productions and a depth.
+/// What the accepted edits leave. Contracts see it as the system of the definitions, and it is well formed and well spelled
+/// always: no label stands twice, no group is mixed, the schedule has some word and names tables alone, no limit is
+/// passed, brackets are balanced, and each expression's names are formals of its rule.
 #[derive(Drop)]
 pub struct System {
-    pub(crate) axiom: SymbolList,
-    pub(crate) rules: RuleTable,
-    pub(crate) depth: u32,
-    ghost plain: { is_plain (string_of «axiom») ≡ true },
+    parts: SystemParts,
+}
+
+impl Model for System {
+    ghost use Rattle.std.specs.Coded.{codes};
+    ghost use Rattle.lsys_spec.specs.Systems.{System as Spec};
+    ghost use Rattle.lsys_rules.specs.Codes.{expr_code};
+
+    ghost Value = { Spec };
+
+    ghost coded = { Prim.hlevel (codes, expr_code) };
+
+    ghost use Rattle.lsys_laws.specs.Sessions.{IsWell};
+    ghost use Rattle.lsys_rules.specs.Systems.{system_of};
+
+    ghost view = { λ a. system_of a.parts };
+
+    ghost invariant = { λ a. IsWell (system_of a.parts) };
 }
 
 impl System {
-    /// The axiom's symbols, in order.
+    /// The system before the first edit: an empty axiom, no rules, `main` as the schedule, nothing ignored, seed and depth 0,
+    /// the square lattice.
+    ///
+    /// # Errors
+    ///
+    /// Want of memory.
+    pub fn opening(alloc: Global) -> Result<System, AllocError>
+        ensures { IfOk result (λ s. s ≡ opening) }
+    {
+        let mut schedule = Vec::new(alloc);
+        schedule.push(Word::from_text(b"main"))?;
+        let parts = SystemParts {
+            axiom: SymbolList::new(alloc),
+            rules: RuleTable::new(alloc)?,
+            homs: HomTable::new(alloc)?,
+            schedule,
+            ignored: Vec::new(alloc),
+            seed: 0,
+            depth: 0,
+            lattice: LatticeName::Square,
+        };
+        Ok(System { parts })
+    }
+
+    // The system with these parts.
+    pub(crate) fn of(parts: SystemParts) -> System
+        requires { IsWell (system_of parts) }
+        ensures { result ≡ system_of parts }
+    {
+        System { parts }
+    }
+
+    // Its parts.
+    pub(crate) fn parts(&self) -> &SystemParts
+        ensures parts { system_of result.now ≡ self.now }
+        ensures well { IsWell self.now }
+    {
+        &self.parts
+    }
+
+    /// The axiom's symbols, in order, balanced, its cuts as they were written.
     pub fn axiom(&self) -> &SymbolList
-        ensures axiom { result.now ≡ self.now.axiom }
-        ensures plain { is_plain (string_of result.now) ≡ true }
+        ensures symbols { string_of result.now ≡ self.now.axiom_string }
+        ensures well { IsWell self.now }
     {
-        &self.axiom
+        &self.parts.axiom
     }
 
-    /// The rules, in the order in which they are tried.
+    /// The productions, in the order in which they are tried.
     pub fn rules(&self) -> &[Rule]
-        ensures rules { result.now ≡ self.now.rules }
-        ensures built { AreBuilt self.now.rules }
+        ensures rules { map production_of result.now ≡ self.now.rules }
+        ensures well { IsWell self.now }
     {
-        self.rules.rules()
+        self.parts.rules.rules()
     }
 
-    /// The last level's number.
-    pub fn depth(&self) -> u32
-        ensures { result ≡ self.now.depth }
+    /// The tables, in order: `main`, and those that have a rule.
+    pub fn tables(&self) -> &[Word]
+        ensures { result.now ≡ tables self.now.rules }
     {
-        self.depth
+        self.parts.rules.tables()
+    }
+
+    /// The rules of the homomorphism, in the order in which they are tried.
+    pub fn hom_rules(&self) -> &[HomRule]
+        ensures rules { map homomorphism_of result.now ≡ self.now.homomorphisms }
+        ensures well { IsWell self.now }
+    {
+        self.parts.homs.rules()
+    }
+
+    /// The tables by which the levels are derived, in turn; one at least.
+    pub fn schedule(&self) -> &[Word]
+        ensures words { result.now ≡ self.now.schedule }
+        ensures well { IsWell self.now }
+    {
+        &self.parts.schedule
+    }
+
+    /// The names that contexts pass over, each once.
+    pub fn ignored(&self) -> &[Name]
+        ensures { map module_name result.now ≡ self.now.ignored }
+    {
+        &self.parts.ignored
+    }
+
+    /// Whether contexts pass over modules of this name.
+    pub fn is_ignored(&self, name: Name) -> bool
+        ensures { result ≡ ignores self.now.ignored (module_name name) }
+    {
+        is_among(&self.parts.ignored, name)
+    }
+
+    /// What the draws depend on.
+    pub fn seed(&self) -> u64
+        ensures { result ≡ self.now.seed }
+    {
+        self.parts.seed
+    }
+
+    /// The number of the last level, at most 64.
+    pub fn depth(&self) -> u32
+        ensures depth { result ≡ self.now.depth }
+        ensures bound { result ≤ most_depth }
+    {
+        self.parts.depth
+    }
+
+    /// The lattice on which pictures lie.
+    pub fn lattice(&self) -> LatticeName
+        ensures { lattice_of result ≡ self.now.lattice }
+    {
+        self.parts.lattice
+    }
+
+    /// The rule at a place, from 0, of the group of a level for modules with this name and number of parameters: of those of
+    /// the level's table that are for such modules, in order. None past the group's end. A look-up costs the same however
+    /// many rules there are.
+    pub fn group_rule(&self, level: u32, name: Name, arity: usize, place: usize) -> Option<&Rule>
+        ensures rule { option_map (λ r. production_of r.now) result
+            ≡ slice_get (filter (is_for (table_at self.now.schedule level) (module_name name) arity) self.now.rules) place }
+        ensures body { option_map (λ r. body_of (rule_of r.now)) result
+            ≡ slice_get (group self.now level (module_name name) arity) place }
+    {
+        let schedule = &self.parts.schedule;
+        let table = schedule[level as usize % schedule.len()];
+        self.parts.rules.group_rule(table, name, arity, place)
     }
 }
 
@@ -48,9 +183,7 @@ impl Clone for System {
 
     fn clone(&self) -> Result<System, AllocError> {
         Ok(System {
-            axiom: self.axiom.clone()?,
-            rules: self.rules.clone()?,
-            depth: self.depth,
+            parts: self.parts.clone()?,
         })
     }
 }

@@ -1,5 +1,7 @@
-ghost use Rattle.std.specs.Prelude.{IfOk};
-ghost use Rattle.lsys_rules.specs.Applying.{IsOffered};
+ghost use Rattle.std.specs.Prelude.{◌≡◌, true, IfOk};
+ghost use Rattle.lsys_spec.specs.Interim.{is_had};
+ghost use Rattle.lsys_reading.specs.Parted.{command_of};
+ghost use Rattle.lsys_flat.specs.Offered.{IsOfferedSystem};
 
 use lsys_flat::{DeriveRefusal, Rows, derive};
 use lsys_module::{Module, Symbol};
@@ -8,9 +10,9 @@ use lsys_text::tokens;
 use std::alloc::{AllocError, Global};
 use std::test::Fail;
 
-/// The command of a line.
+/// The command of a line, where the program has it.
 fn command_of(alloc: Global, line: &str) -> Result<Command, AllocError>
-    ensures { IfOk result IsOffered }
+    ensures { IfOk result (λ c. is_had (command_of c.tokens) ≡ true) }
 {
     if line.len() > 65536 {
         return Err(AllocError);
@@ -29,13 +31,27 @@ fn command_of(alloc: Global, line: &str) -> Result<Command, AllocError>
 }
 
 /// The system that these lines leave.
-fn system_after(alloc: Global, lines: &[&str]) -> Result<System, AllocError> {
+fn system_after(alloc: Global, lines: &[&str]) -> Result<System, AllocError>
+    ensures { IfOk result IsOfferedSystem }
+{
     let mut system = System::opening(alloc)?;
     for line in lines {
         let command = command_of(alloc, *line)?;
-        system = apply(alloc, &system, &command).map_err(|_| AllocError)?;
+        system = edited(alloc, &system, &command)?;
     }
     Ok(system)
+}
+
+/// The system after a command that isn't refused.
+fn edited(alloc: Global, system: &System, command: &Command) -> Result<System, AllocError>
+    requires system { IsOfferedSystem system.now }
+    requires command { is_had (command_of command.now.tokens) ≡ true }
+    ensures { IfOk result IsOfferedSystem }
+{
+    match apply(alloc, system, command) {
+        Ok(next) => Ok(next),
+        Err(_) => Err(AllocError),
+    }
 }
 
 /// Adds a module as it would be written.

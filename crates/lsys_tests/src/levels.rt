@@ -14,7 +14,7 @@ use std::alloc::{AllocError, Global};
 use std::test::Fail;
 
 /// A module without parameters.
-fn letter(text: &[u8]) -> Module
+pub(crate) fn letter(text: &[u8]) -> Module
     requires { IsNameBytes text.now }
 {
     Module {
@@ -24,7 +24,7 @@ fn letter(text: &[u8]) -> Module
 }
 
 /// `ABC[DE][SG[HI[JK]L]MNO]`
-fn contexts_that_skip() -> [Symbol; 23]
+pub(crate) fn contexts_that_skip() -> [Symbol; 23]
     ensures balance { balanced 0 (string_of result) ≡ true }
     ensures whole { has_cut result ≡ false }
 {
@@ -56,7 +56,7 @@ fn contexts_that_skip() -> [Symbol; 23]
 }
 
 /// Pushes a level of these symbols. Tags run on from the first, and keys from 100.
-fn push(
+pub(crate) fn push(
     levels: &mut FlatLevels,
     alloc: Global,
     symbols: &[Symbol],
@@ -64,7 +64,7 @@ fn push(
 ) -> Result<(), AllocError>
     requires balance { balanced 0 (string_of symbols.now) ≡ true }
     requires whole { has_cut symbols.now ≡ false }
-    requires few { first + length symbols.now ≤ 1000 }
+    requires few { first + length symbols.now ≤ 2000 }
     requires own { HasOwnTags levels.old }
     requires below { AreBelow first levels.old }
     ensures one { OnOk result (length levels.new ≡ length levels.old + 1) }

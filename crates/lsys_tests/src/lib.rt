@@ -14,6 +14,8 @@ mod expressions;
 #[cfg(test)]
 mod extents;
 #[cfg(test)]
+mod forests;
+#[cfg(test)]
 mod lattices;
 #[cfg(test)]
 mod levels;
@@ -26,6 +28,12 @@ mod readers;
 #[cfg(test)]
 mod rules;
 #[cfg(test)]
+mod shows;
+#[cfg(test)]
 mod strings;
 #[cfg(test)]
+mod successors;
+#[cfg(test)]
 mod turtles;
+#[cfg(test)]
+mod walks;

@@ -52,7 +52,7 @@ fn said(alloc: Global, word: &[u8], number: u64) -> Result<Vec<u8>, AllocError> 
 }
 
 /// The text of a string.
-fn printed(alloc: Global, symbols: &SymbolList) -> Result<Vec<u8>, AllocError> {
+pub(crate) fn printed(alloc: Global, symbols: &SymbolList) -> Result<Vec<u8>, AllocError> {
     let mut sink = MemorySink::new(alloc, 65536, 7, Vec::new(alloc))?;
     let mut out = Buffered::new(alloc)?;
     print_string(&mut out, &mut sink, symbols).map_err(|_| AllocError)?;

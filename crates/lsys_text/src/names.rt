@@ -1,5 +1,5 @@
 //! Names and words: short texts, each kept in a number.
-ghost use Rattle.std.specs.Prelude.{◌≡◌, ℕ, ◌<◌, ◌≤◌, ◌^◌, ◌∷◌, [], length, IsTrue};
+ghost use Rattle.std.specs.Prelude.{◌≡◌, ℕ, List, ◌<◌, ◌≤◌, ◌^◌, ◌∷◌, [], length, IsTrue};
 ghost use Rattle.lsys_syntax.specs.Pieces.{IsWordText};
 ghost use Rattle.lsys_text.specs.Packed.{packed, unpacked};
 ghost use Rattle.lsys_text.specs.Texts.{is_name_mark, IsNameBytes};
@@ -40,7 +40,12 @@ impl PartialEq for Name {
 
     ghost laws = { Prim.search (comparing, rules) };
 
-    fn eq(&self, other: &Name) -> bool {
+    /// The numbers are equal, and so are the texts, both of which have the form of a name.
+    fn eq(&self, other: &Name) -> bool
+        ensures same { result ≡ bytes_eq self.now other.now }
+        ensures name { IsNameBytes self.now }
+        ensures other_name { IsNameBytes other.now }
+    {
         self.0 == other.0
     }
 }
@@ -67,6 +72,15 @@ impl Name {
         ensures { result ≡ mark ∷ [] }
     {
         Name(u64::from(mark))
+    }
+
+    /// The number that the name is kept in. Other names have other numbers.
+    pub fn number(self) -> u64
+        ensures number { result ≡ packed self }
+        ensures name { IsNameBytes self }
+        ensures no_other { (text : List ℕ) → IsNameBytes text → packed text ≡ result → text ≡ self }
+    {
+        self.0
     }
 
     /// The text, of one to eight bytes.

@@ -1,13 +1,12 @@
 use Rattle.std.proofs.Common.{◌≢◌, rules, ◌∙◌, sym, subst}
 use Rattle.lsys_io.specs.declared.lines.LineRead.TheVariants.{End}
-use Rattle.lsys_rules.specs.Systems.{system_of}
 use Rattle.lsys_cli.specs.Ends.{Ends}
 use Rattle.lsys_cli.proofs.Steps.{begins, begins_going, begins_within, turned, ended, goes_on, line_is_short}
 use Rattle.lsys_cli.proofs.run.run.Goals as goal
 
 pub lines-init : goal.lines-init
 lines-init g c = record {
-  far = begins c.args.session.now.limit c.args.reader.now (system_of c.args.session.now.system) (g.S.Source.left c.args.source.now) (g.K.Sink.written c.args.sink.now) c.requires.fresh c.requires.opening;
+  far = begins c.args.session.now.limit c.args.reader.now c.args.session.now.system (g.S.Source.left c.args.source.now) (g.K.Sink.written c.args.sink.now) c.requires.fresh c.requires.opening;
   holds = c.requires.holds;
   limit = search rules;
   empty = c.requires.empty;
@@ -27,7 +26,7 @@ lines-preserved g c =
     record {
       far = turned c.in-Ok.read c.args.session.now.limit c.lines.session.limit (g.S.Source.left c.args.source.now) (g.S.Source.left c.lines.source) (g.S.Source.left c.next_line.new.source)
           (g.K.Sink.written c.args.sink.now) (g.K.Sink.written c.lines.sink) (g.K.Sink.written c.answer_line.new.sink) c.lines.reader c.next_line.new.self
-          (system_of c.lines.session.system) (system_of c.answer_line.new.session.system) c.lines.tally.refused c.lines.tally.memory c.with-tally.result.refused c.with-tally.result.memory
+          c.lines.session.system c.answer_line.new.session.system c.lines.tally.refused c.lines.tally.memory c.with-tally.result.refused c.with-tally.result.memory
           c.line.result.now c.in-Ok-answer_line.outcome not_end c.lines.invariant.limit c.with-tally.ensures.refused c.with-tally.ensures.memory c.lines.invariant.far
           c.in-Ok.ensures.line c.in-Ok.ensures.long c.line.ensures c.in-Ok-answer_line.ensures.replies (search rules);
       holds = c.in-Ok-answer_line.ensures.holds;
@@ -44,7 +43,7 @@ returns-then-eq-2-clause-ends g c =
     let not_end : c.in-Ok.read ≢ End = search rules in
     let done = ended c.in-Ok.read c.args.session.now.limit c.lines.session.limit (g.S.Source.left c.args.source.now) (g.S.Source.left c.lines.source) (g.S.Source.left c.next_line.new.source)
     (g.K.Sink.written c.args.sink.now) (g.K.Sink.written c.lines.sink) (g.K.Sink.written c.answer_line.new.sink) c.lines.reader c.next_line.new.self
-    (system_of c.lines.session.system) (system_of c.answer_line.new.session.system) c.lines.tally.refused c.lines.tally.memory c.with-tally.result.refused c.with-tally.result.memory
+    c.lines.session.system c.answer_line.new.session.system c.lines.tally.refused c.lines.tally.memory c.with-tally.result.refused c.with-tally.result.memory
     c.line.result.now c.in-Ok-answer_line.outcome not_end c.lines.invariant.limit c.with-tally.ensures.refused c.with-tally.ensures.memory c.lines.invariant.far
     c.in-Ok.ensures.line c.in-Ok.ensures.long c.line.ensures c.in-Ok-answer_line.ensures.replies (search rules) in
     subst (Ends c.args.session.now.limit (g.S.Source.left c.args.source.now) (g.K.Sink.written c.args.sink.now) (g.K.Sink.written c.answer_line.new.sink)) (sym c.status-then-eq-2.ensures) done

@@ -1,6 +1,6 @@
 use Rattle.std.proofs.Common.{◌+◌, ◌∷◌, map, drop, arith, sym, subst}
 use Rattle.lsys_module.specs.Views.{symbol_of, string_of}
-use Rattle.lsys_rules.specs.Views.{production_of}
+use Rattle.lsys_bodies.specs.Views.{production_of}
 use Rattle.lsys_flat.specs.Made.{counted, offspring}
 use Rattle.lsys_flat.proofs.Behind.{drop_item}
 use Rattle.lsys_flat.proofs.Growing.{Grown, goes_on}

@@ -1,6 +1,6 @@
 use Rattle.std.proofs.Common.{◌≤◌, map, drop}
 use Rattle.lsys_module.specs.Views.{symbol_of, string_of}
-use Rattle.lsys_rules.specs.Views.{production_of}
+use Rattle.lsys_bodies.specs.Views.{production_of}
 use Rattle.lsys_flat.specs.Made.{offspring}
 use Rattle.lsys_flat.proofs.Growing.{Grown}
 use Rattle.lsys_flat.proofs.stepping.next_level.Given as goal

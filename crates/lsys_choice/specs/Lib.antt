@@ -1,0 +1,4 @@
+pub mod Sites
+pub mod Tries
+pub mod Choices
+pub mod Groups

@@ -1,0 +1,349 @@
+-- What undoing a change and taking one up do to the nodes and to the other changes.
+use Rattle.std.proofs.Common.{◌≡◌, ◌≤◌, ◌<◌, ◌+◌, ℕ, ℤ, zero, suc, List, [], ◌∷◌, ◌++◌, length, set, Option, Some, None, refl, sym, ap, ◌∙◌, arith, subst}
+use Rattle.std.specs.Prelude.{option_map}
+use Rattle.std.specs.Option.{option_and_then}
+use Rattle.std.proofs.lemmas.List.{length-set}
+use Rattle.lsys_region.proofs.ListLemmas.{slice_get-push_old, slice_get-push_new}
+use Rattle.lsys_forest.specs.declared.node.Stored.{Stored}
+use Rattle.lsys_forest.specs.declared.note.Note.{Note}
+use Rattle.lsys_forest.specs.declared.note.Was.{Was}
+use Rattle.lsys_forest.specs.declared.note.Was.TheVariants as was
+use Rattle.lsys_forest.specs.Shelves.{Shelf}
+use Rattle.lsys_forest.specs.Slots.{slot_at, live_slots, change_slot, kind_set, key_set, answer_set, answer_before}
+use Rattle.lsys_forest.specs.Nodes.{Node, Nodes, change, seen_as, with_seen, with_key, with_kids, with_answer}
+use Rattle.lsys_forest.specs.Changes.{Before, Missing, OldSeen, OldKey, OldKids, OldAnswer, Change, undo}
+use Rattle.lsys_forest.specs.Answers.{answer_of, old_answer}
+use Rattle.lsys_forest.specs.Stocks.{row_at, node_of, told, param_lists, kid_lists, param_count, kid_count, IsStock, UndoesParams, UndoesKids, undone_slots, slot_answer, dropped_slot, dropped, looked, DropsParams, TakesKids, noted_answer, named}
+use Rattle.lsys_forest.proofs.SlotLemmas.{live_change, live_gone, slot_some}
+use Rattle.lsys_forest.proofs.StockLemmas.{get_same, get_other, change_other, change_long, shown_nodes, AgreeBut, nodes_put, told_plain, told_param, told_kid, param_count_push, kid_count_push}
+
+-- a list that is not empty ends with something
+pub last_of : {X : Type 0} (xs : List X) (n : ℕ) → length xs ≡ n + 1 → (ys : List X) × (y : X) × (xs ≡ ys ++ y ∷ []) × (length ys ≡ n)
+last_of [] n e = absurd (omega (arith, e))
+last_of (x ∷ []) n e = ([], x, refl, omega (arith, e))
+last_of {X} (x ∷ y ∷ xs) n e =
+    let rest = last_of (y ∷ xs) (length xs) (omega arith) in
+    (x ∷ rest.0, rest.1, ap (λ (l : List X). x ∷ l) rest.2, omega (arith, e, rest.3))
+
+option_twice : {X Y Z W : Type 0} (f : X → Y) (g : Y → Z) (f' : X → W) (g' : W → Z) → ((x : X) → g (f x) ≡ g' (f' x)) → (o : Option X) → option_map g (option_map f o) ≡ option_map g' (option_map f' o)
+option_twice f g f' g' same None = refl
+option_twice f g f' g' same (Some x) = ap Some (same x)
+
+module _ {A : Type 0} where
+  -- one node changed, in its slot or in its lists
+  pub nodes_change : (f : Stored A → Stored A) (g : Node A → Node A) (k : ℕ) (slots slots' : List (Option (Stored A))) (params params' : List (List ℤ)) (kids kids' : List (List ℕ)) → AgreeBut k slots slots' params params' kids kids' → slot_at slots' k ≡ option_map f (slot_at slots k) → ((s : Stored A) → node_of (row_at params' k) (row_at kids' k) (f s) ≡ g (node_of (row_at params k) (row_at kids k) s)) → shown_nodes slots' params' kids' ≡ change g (shown_nodes slots params kids) k
+  nodes_change f g k slots slots' params params' kids kids' agree here same =
+      nodes_put k slots slots' params params' kids kids' (option_map g (shown_nodes slots params kids k)) agree (
+      ap (option_map (node_of (row_at params' k) (row_at kids' k))) here
+      ∙ option_twice f (node_of (row_at params' k) (row_at kids' k)) (node_of (row_at params k) (row_at kids k)) g same (slot_at slots k))
+
+  pub change_there : (f : Stored A → Stored A) (slots : List (Option (Stored A))) (k : ℕ) → k < length slots → slot_at (change_slot f slots k) k ≡ option_map f (slot_at slots k)
+  change_there f slots k within = get_same slots k (option_map f (slot_at slots k)) None within
+
+  pub numbered_last : (slots : List (Option (Stored A))) (params : List (List ℤ)) (kids : List (List ℕ)) (notes : List (Note A)) (n : Note A) (past_params : List (List ℤ)) (past_kids : List (List ℕ)) → IsStock slots params kids (notes ++ n ∷ []) past_params past_kids → n.node < length slots
+  numbered_last slots params kids notes n pp pk is = is.numbered (length notes) n (slice_get-push_new notes n)
+
+  -- a note less
+  pub IsStock-pop : (slots slots' : List (Option (Stored A))) (params params' : List (List ℤ)) (kids kids' : List (List ℕ)) (notes : List (Note A)) (n : Note A) (past_params past_params' : List (List ℤ)) (past_kids past_kids' : List (List ℕ)) → length slots' ≡ length slots → length params' ≡ length params → length kids' ≡ length kids → length past_params ≡ length past_params' + param_lists n.was → length past_kids ≡ length past_kids' + kid_lists n.was → IsStock slots params kids (notes ++ n ∷ []) past_params past_kids → IsStock slots' params' kids' notes past_params' past_kids'
+  IsStock-pop slots slots' params params' kids kids' notes n pp pp' pk pk' sl pl kl ppl pkl is = record {
+    params_long = pl ∙ is.params_long ∙ sym sl;
+    kids_long = kl ∙ is.kids_long ∙ sym sl;
+    past_params_long = omega (arith, ppl, is.past_params_long, param_count_push notes n);
+    past_kids_long = omega (arith, pkl, is.past_kids_long, kid_count_push notes n);
+    numbered = λ i m e. let before = is.numbered i m (slice_get-push_old notes i m n e) in omega (arith, before, sl);
+  }
+
+  -- the last change was undone
+  pub record Undone (slots slots' : List (Option (Stored A))) (p p' : Shelf ℤ) (q q' : Shelf ℕ) (notes : List (Note A)) (k : ℕ) (w : Was A) : Type 0 where
+    pub last : Change A
+    pub sound : IsStock slots' p'.current q'.current notes p'.past q'.past
+    pub told_is : told (notes ++ record { node = k; was = w } ∷ []) p.past q.past ≡ told notes p'.past q'.past ++ last ∷ []
+    pub nodes : shown_nodes slots' p'.current q'.current ≡ undo last (shown_nodes slots p.current q.current)
+    pub live : live_slots slots' ≤ live_slots slots
+    pub answer : dropped last (shown_nodes slots p.current q.current) ≡ dropped_slot w (slot_at slots k)
+    pub param_room : p.spare ≤ p'.spare
+    pub kid_room : q.spare ≤ q'.spare
+    pub param_places : (p'.places ≡ p.places) × (p'.past_places ≡ p.past_places)
+    pub kid_places : (q'.places ≡ q.places) × (q'.past_places ≡ q.past_places)
+
+  live_none : (slots : List (Option (Stored A))) (k : ℕ) → live_slots (set slots k None) ≤ live_slots slots
+  live_none slots k = go (slot_at slots k) refl
+    where
+      vacant : (xs : List (Option (Stored A))) (j : ℕ) → slot_at xs j ≡ None → set xs j None ≡ xs
+      vacant [] j e = refl
+      vacant (x ∷ xs) zero e = ap (λ (y : Option (Stored A)). y ∷ xs) (sym e)
+      vacant (x ∷ xs) (suc j) e = ap (λ (ys : List (Option (Stored A))). x ∷ ys) (vacant xs j e)
+
+      go : (o : Option (Stored A)) → slot_at slots k ≡ o → live_slots (set slots k None) ≤ live_slots slots
+      go None e = let same = ap live_slots (vacant slots k e) in omega (arith, same)
+      go (Some s) e = omega (arith, live_gone slots k s (slot_some slots k s e))
+
+  answer_same : (p : List ℤ) (q : List ℕ) (o : Option (Stored A)) → option_and_then answer_of (option_map (node_of p q) o) ≡ option_and_then slot_answer o
+  answer_same p q None = refl
+  answer_same p q (Some s) = refl
+
+  dropped_same : (x : Option A) (p : List ℤ) (q : List ℕ) (k : ℕ) (m : Nodes A) (o : Option (Stored A)) → m k ≡ option_map (node_of p q) o → dropped (record { node = k; before = OldAnswer x }) m ≡ answer_before o x
+  dropped_same x p q k m None e = grind (arith, e)
+  dropped_same x p q k m (Some s) e = grind (arith, e)
+
+  pub undo_done : (slots slots' : List (Option (Stored A))) (p p' : Shelf ℤ) (q q' : Shelf ℕ) (notes : List (Note A)) (k : ℕ) (w : Was A) → IsStock slots p.current q.current (notes ++ record { node = k; was = w } ∷ []) p.past q.past → slots' ≡ undone_slots w k slots → UndoesParams w k p p' → UndoesKids w k q q' → Undone slots slots' p p' q q' notes k w
+  undo_done slots slots' p p' q q' notes k was.Missing is sl pu qu =
+      let n : Note A = record { node = k; was = was.Missing } in
+      let pl : length p.past ≡ param_count notes = omega (arith, is.past_params_long, param_count_push notes n) in
+      let ql : length q.past ≡ kid_count notes = omega (arith, is.past_kids_long, kid_count_push notes n) in
+      let pc = ap (λ (x : Shelf ℤ). x.current) pu.0 in
+      let qc = ap (λ (x : Shelf ℕ). x.current) qu.0 in
+      let pp = ap (λ (x : Shelf ℤ). x.past) pu.0 in
+      let qp = ap (λ (x : Shelf ℕ). x.past) qu.0 in
+      let within = numbered_last slots p.current q.current notes n p.past q.past is in
+      let cleared : slot_at slots' k ≡ None = ap (λ (x : List (Option (Stored A))). slot_at x k) sl ∙ get_same slots k None None within in
+      record {
+        last = record { node = k; before = Missing };
+        sound = IsStock-pop slots slots' p.current p'.current q.current q'.current notes n p.past p'.past q.past q'.past (ap length sl ∙ length-set slots k None) (ap length pc ∙ length-set p.current k []) (ap length qc ∙ length-set q.current k []) (let e = ap length pp in omega (arith, e)) (let e = ap length qp in omega (arith, e)) is;
+        told_is = told_plain notes n p.past q.past pl ql ∙ ap (λ (x : List (List ℤ)). told notes x q.past ++ record { node = k; before = Missing } ∷ []) (sym pp) ∙ ap (λ (x : List (List ℕ)). told notes p'.past x ++ record { node = k; before = Missing } ∷ []) (sym qp);
+        nodes = nodes_put k slots slots' p.current p'.current q.current q'.current None (record {
+          slots_same = λ j ne. ap (λ (x : List (Option (Stored A))). slot_at x j) sl ∙ get_other slots k j None None ne;
+          params_same = λ j ne. ap (λ (x : List (List ℤ)). row_at x j) pc ∙ get_other p.current k j [] [] ne;
+          kids_same = λ j ne. ap (λ (x : List (List ℕ)). row_at x j) qc ∙ get_other q.current k j [] [] ne;
+        }) (ap (option_map (node_of (row_at p'.current k) (row_at q'.current k))) cleared);
+        live = let e = ap live_slots sl in omega (arith, e, live_none slots k);
+        answer = answer_same (row_at p.current k) (row_at q.current k) (slot_at slots k);
+        param_room = pu.1;
+        kid_room = qu.1;
+        param_places = (ap (λ (x : Shelf ℤ). x.places) pu.0, ap (λ (x : Shelf ℤ). x.past_places) pu.0);
+        kid_places = (ap (λ (x : Shelf ℕ). x.places) qu.0, ap (λ (x : Shelf ℕ). x.past_places) qu.0);
+      }
+  undo_done slots slots' p p' q q' notes k (was.Kind x) is sl pu qu =
+      let n : Note A = record { node = k; was = was.Kind x } in
+      let pl : length p.past ≡ param_count notes + 1 = omega (arith, is.past_params_long, param_count_push notes n) in
+      let ql : length q.past ≡ kid_count notes = omega (arith, is.past_kids_long, kid_count_push notes n) in
+      let end = last_of p.past (param_count notes) pl in
+      let pr = pu end.0 end.1 end.2 in
+      let pc = ap (λ (x : Shelf ℤ). x.current) pr in
+      let pp = ap (λ (x : Shelf ℤ). x.past) pr in
+      let within = numbered_last slots p.current q.current notes n p.past q.past is in
+      let row : row_at p'.current k ≡ end.1 = ap (λ (x : List (List ℤ)). row_at x k) pc ∙ get_same p.current k end.1 [] (subst (λ m. k < m) (sym is.params_long) within) in
+      subst (λ (r : Shelf ℕ). Undone slots slots' p p' q r notes k (was.Kind x)) (sym qu) (record {
+        last = record { node = k; before = OldSeen (seen_as x end.1) };
+        sound = IsStock-pop slots slots' p.current p'.current q.current q.current notes n p.past p'.past q.past q.past (ap length sl ∙ change_long (kind_set x) slots k) (ap length pc ∙ length-set p.current k end.1) refl (let e = ap length pp in omega (arith, e, pl, end.3)) (omega arith) is;
+        told_is = ap (λ (y : List (List ℤ)). told (notes ++ n ∷ []) y q.past) end.2 ∙ told_param notes n end.0 end.1 q.past end.3 ql ∙ ap (λ (y : List (List ℤ)). told notes y q.past ++ record { node = k; before = OldSeen (seen_as x end.1) } ∷ []) (sym pp);
+        nodes = nodes_change (kind_set x) (with_seen (seen_as x end.1)) k slots slots' p.current p'.current q.current q.current (record {
+          slots_same = λ j ne. ap (λ (y : List (Option (Stored A))). slot_at y j) sl ∙ change_other (kind_set x) slots k j ne;
+          params_same = λ j ne. ap (λ (y : List (List ℤ)). row_at y j) pc ∙ get_other p.current k j end.1 [] ne;
+          kids_same = λ j ne. refl;
+        }) (ap (λ (y : List (Option (Stored A))). slot_at y k) sl ∙ change_there (kind_set x) slots k within) (λ s. ap (λ (y : List ℤ). node_of y (row_at q.current k) (kind_set x s)) row);
+        live = let e = ap live_slots sl in omega (arith, e, live_change (kind_set x) slots k);
+        answer = refl;
+        param_room = let e = ap (λ (y : Shelf ℤ). y.spare) pr in omega (arith, e);
+        kid_room = omega arith;
+        param_places = (ap (λ (y : Shelf ℤ). y.places) pr, ap (λ (y : Shelf ℤ). y.past_places) pr);
+        kid_places = (refl, refl);
+      })
+  undo_done slots slots' p p' q q' notes k (was.Key x) is sl pu qu =
+      let n : Note A = record { node = k; was = was.Key x } in
+      let pl : length p.past ≡ param_count notes = omega (arith, is.past_params_long, param_count_push notes n) in
+      let ql : length q.past ≡ kid_count notes = omega (arith, is.past_kids_long, kid_count_push notes n) in
+      let within = numbered_last slots p.current q.current notes n p.past q.past is in
+      subst (λ (r : Shelf ℕ). Undone slots slots' p p' q r notes k (was.Key x)) (sym qu) (subst (λ (r : Shelf ℤ). Undone slots slots' p r q q notes k (was.Key x)) (sym pu) (record {
+        last = record { node = k; before = OldKey x };
+        sound = IsStock-pop slots slots' p.current p.current q.current q.current notes n p.past p.past q.past q.past (ap length sl ∙ change_long (key_set x) slots k) refl refl (omega arith) (omega arith) is;
+        told_is = told_plain notes n p.past q.past pl ql;
+        nodes = nodes_change (key_set x) (with_key x) k slots slots' p.current p.current q.current q.current (record {
+          slots_same = λ j ne. ap (λ (y : List (Option (Stored A))). slot_at y j) sl ∙ change_other (key_set x) slots k j ne;
+          params_same = λ j ne. refl;
+          kids_same = λ j ne. refl;
+        }) (ap (λ (y : List (Option (Stored A))). slot_at y k) sl ∙ change_there (key_set x) slots k within) (λ s. refl);
+        live = let e = ap live_slots sl in omega (arith, e, live_change (key_set x) slots k);
+        answer = refl;
+        param_room = omega arith;
+        kid_room = omega arith;
+        param_places = (refl, refl);
+        kid_places = (refl, refl);
+      }))
+  undo_done slots slots' p p' q q' notes k was.Kids is sl pu qu =
+      let n : Note A = record { node = k; was = was.Kids } in
+      let pl : length p.past ≡ param_count notes = omega (arith, is.past_params_long, param_count_push notes n) in
+      let ql : length q.past ≡ kid_count notes + 1 = omega (arith, is.past_kids_long, kid_count_push notes n) in
+      let end = last_of q.past (kid_count notes) ql in
+      let qr = qu end.0 end.1 end.2 in
+      let qc = ap (λ (x : Shelf ℕ). x.current) qr in
+      let qp = ap (λ (x : Shelf ℕ). x.past) qr in
+      let within = numbered_last slots p.current q.current notes n p.past q.past is in
+      let row : row_at q'.current k ≡ end.1 = ap (λ (x : List (List ℕ)). row_at x k) qc ∙ get_same q.current k end.1 [] (subst (λ m. k < m) (sym is.kids_long) within) in
+      subst (λ (r : Shelf ℤ). Undone slots slots' p r q q' notes k was.Kids) (sym pu) (record {
+        last = record { node = k; before = OldKids end.1 };
+        sound = IsStock-pop slots slots' p.current p.current q.current q'.current notes n p.past p.past q.past q'.past (ap length sl) refl (ap length qc ∙ length-set q.current k end.1) (omega arith) (let e = ap length qp in omega (arith, e, ql, end.3)) is;
+        told_is = ap (told (notes ++ n ∷ []) p.past) end.2 ∙ told_kid notes n p.past end.0 end.1 pl end.3 ∙ ap (λ (y : List (List ℕ)). told notes p.past y ++ record { node = k; before = OldKids end.1 } ∷ []) (sym qp);
+        nodes = nodes_change (λ s. s) (with_kids end.1) k slots slots' p.current p.current q.current q'.current (record {
+          slots_same = λ j ne. ap (λ (y : List (Option (Stored A))). slot_at y j) sl;
+          params_same = λ j ne. refl;
+          kids_same = λ j ne. ap (λ (y : List (List ℕ)). row_at y j) qc ∙ get_other q.current k j end.1 [] ne;
+        }) (ap (λ (y : List (Option (Stored A))). slot_at y k) sl ∙ itself (slot_at slots k)) (λ s. ap (λ (y : List ℕ). node_of (row_at p.current k) y s) row);
+        live = let e = ap live_slots sl in omega (arith, e);
+        answer = refl;
+        param_room = omega arith;
+        kid_room = let e = ap (λ (y : Shelf ℕ). y.spare) qr in omega (arith, e);
+        param_places = (refl, refl);
+        kid_places = (ap (λ (y : Shelf ℕ). y.places) qr, ap (λ (y : Shelf ℕ). y.past_places) qr);
+      })
+    where
+      itself : (o : Option (Stored A)) → o ≡ option_map (λ (s : Stored A). s) o
+      itself None = refl
+      itself (Some s) = refl
+  undo_done slots slots' p p' q q' notes k (was.Answer x) is sl pu qu =
+      let n : Note A = record { node = k; was = was.Answer x } in
+      let pl : length p.past ≡ param_count notes = omega (arith, is.past_params_long, param_count_push notes n) in
+      let ql : length q.past ≡ kid_count notes = omega (arith, is.past_kids_long, kid_count_push notes n) in
+      let within = numbered_last slots p.current q.current notes n p.past q.past is in
+      subst (λ (r : Shelf ℕ). Undone slots slots' p p' q r notes k (was.Answer x)) (sym qu) (subst (λ (r : Shelf ℤ). Undone slots slots' p r q q notes k (was.Answer x)) (sym pu) (record {
+        last = record { node = k; before = OldAnswer x };
+        sound = IsStock-pop slots slots' p.current p.current q.current q.current notes n p.past p.past q.past q.past (ap length sl ∙ change_long (answer_set x) slots k) refl refl (omega arith) (omega arith) is;
+        told_is = told_plain notes n p.past q.past pl ql;
+        nodes = nodes_change (answer_set x) (with_answer x) k slots slots' p.current p.current q.current q.current (record {
+          slots_same = λ j ne. ap (λ (y : List (Option (Stored A))). slot_at y j) sl ∙ change_other (answer_set x) slots k j ne;
+          params_same = λ j ne. refl;
+          kids_same = λ j ne. refl;
+        }) (ap (λ (y : List (Option (Stored A))). slot_at y k) sl ∙ change_there (answer_set x) slots k within) (λ s. refl);
+        live = let e = ap live_slots sl in omega (arith, e, live_change (answer_set x) slots k);
+        answer = dropped_same x (row_at p.current k) (row_at q.current k) k (shown_nodes slots p.current q.current) (slot_at slots k) refl;
+        param_room = omega arith;
+        kid_room = omega arith;
+        param_places = (refl, refl);
+        kid_places = (refl, refl);
+      }))
+
+  -- the last change was taken up
+  pub record Taken (slots : List (Option (Stored A))) (p p' : Shelf ℤ) (q q' : Shelf ℕ) (notes : List (Note A)) (k : ℕ) (w : Was A) : Type 0 where
+    pub last : Change A
+    pub sound : IsStock slots p'.current q'.current notes p'.past q'.past
+    pub told_is : told (notes ++ record { node = k; was = w } ∷ []) p.past q.past ≡ told notes p'.past q'.past ++ last ∷ []
+    pub params : p'.current ≡ p.current
+    pub kids : q'.current ≡ q.current
+    pub looks : named w k q'.hand ≡ looked last
+    pub answer : old_answer last ≡ noted_answer w
+    pub rooms : (p'.spare ≡ p.spare) × (q'.spare ≡ q.spare)
+    pub param_places : (p'.places ≡ p.places) × (p'.past_places ≡ p.past_places)
+    pub kid_places : (q'.places ≡ q.places) × (q'.past_places ≡ q.past_places)
+
+  -- a note without a list
+  take_plain : (slots : List (Option (Stored A))) (p p' : Shelf ℤ) (q q' : Shelf ℕ) (notes : List (Note A)) (k : ℕ) (w : Was A) (b : Before A) → param_lists w ≡ 0 → kid_lists w ≡ 0 → ((p : List (List ℤ)) (q : List (List ℕ)) → length p ≡ param_count notes → length q ≡ kid_count notes → told (notes ++ record { node = k; was = w } ∷ []) p q ≡ told notes p q ++ record { node = k; before = b } ∷ []) → named w k q'.hand ≡ looked (record { node = k; before = b }) → old_answer (record { node = k; before = b }) ≡ noted_answer w → IsStock slots p.current q.current (notes ++ record { node = k; was = w } ∷ []) p.past q.past → p' ≡ p → q' ≡ q → Taken slots p p' q q' notes k w
+  take_plain slots p p' q q' notes k w b p0 q0 plain looks answer is pu qu =
+      let n : Note A = record { node = k; was = w } in
+      let pl : length p.past ≡ param_count notes = omega (arith, is.past_params_long, param_count_push notes n, p0) in
+      let ql : length q.past ≡ kid_count notes = omega (arith, is.past_kids_long, kid_count_push notes n, q0) in
+      let pp = ap (λ (x : Shelf ℤ). x.past) pu in
+      let qp = ap (λ (x : Shelf ℕ). x.past) qu in
+      record {
+        last = record { node = k; before = b };
+        sound = IsStock-pop slots slots p.current p'.current q.current q'.current notes n p.past p'.past q.past q'.past refl (ap (λ (x : Shelf ℤ). length x.current) pu) (ap (λ (x : Shelf ℕ). length x.current) qu) (let e = ap length pp in omega (arith, e, p0)) (let e = ap length qp in omega (arith, e, q0)) is;
+        told_is = plain p.past q.past pl ql ∙ ap (λ (x : List (List ℤ)). told notes x q.past ++ record { node = k; before = b } ∷ []) (sym pp) ∙ ap (λ (x : List (List ℕ)). told notes p'.past x ++ record { node = k; before = b } ∷ []) (sym qp);
+        params = ap (λ (x : Shelf ℤ). x.current) pu;
+        kids = ap (λ (x : Shelf ℕ). x.current) qu;
+        looks = looks;
+        answer = answer;
+        rooms = (ap (λ (x : Shelf ℤ). x.spare) pu, ap (λ (x : Shelf ℕ). x.spare) qu);
+        param_places = (ap (λ (x : Shelf ℤ). x.places) pu, ap (λ (x : Shelf ℤ). x.past_places) pu);
+        kid_places = (ap (λ (x : Shelf ℕ). x.places) qu, ap (λ (x : Shelf ℕ). x.past_places) qu);
+      }
+
+  pub take_done : (slots : List (Option (Stored A))) (p p' : Shelf ℤ) (q q' : Shelf ℕ) (notes : List (Note A)) (k : ℕ) (w : Was A) → IsStock slots p.current q.current (notes ++ record { node = k; was = w } ∷ []) p.past q.past → DropsParams w p p' → TakesKids w q q' → Taken slots p p' q q' notes k w
+  take_done slots p p' q q' notes k was.Missing is pu qu = take_plain slots p p' q q' notes k was.Missing Missing refl refl (told_plain notes (record { node = k; was = was.Missing })) refl refl is pu qu
+  take_done slots p p' q q' notes k (was.Key x) is pu qu = take_plain slots p p' q q' notes k (was.Key x) (OldKey x) refl refl (told_plain notes (record { node = k; was = was.Key x })) refl refl is pu qu
+  take_done slots p p' q q' notes k (was.Answer x) is pu qu = take_plain slots p p' q q' notes k (was.Answer x) (OldAnswer x) refl refl (told_plain notes (record { node = k; was = was.Answer x })) refl refl is pu qu
+  take_done slots p p' q q' notes k (was.Kind x) is pu qu =
+      let n : Note A = record { node = k; was = was.Kind x } in
+      let pl : length p.past ≡ param_count notes + 1 = omega (arith, is.past_params_long, param_count_push notes n) in
+      let ql : length q.past ≡ kid_count notes = omega (arith, is.past_kids_long, kid_count_push notes n) in
+      let end = last_of p.past (param_count notes) pl in
+      let pr = pu end.0 end.1 end.2 in
+      let pp = ap (λ (x : Shelf ℤ). x.past) pr in
+      let qp = ap (λ (x : Shelf ℕ). x.past) qu in
+      record {
+        last = record { node = k; before = OldSeen (seen_as x end.1) };
+        sound = IsStock-pop slots slots p.current p'.current q.current q'.current notes n p.past p'.past q.past q'.past refl (ap (λ (x : Shelf ℤ). length x.current) pr) (ap (λ (x : Shelf ℕ). length x.current) qu) (let e = ap length pp in omega (arith, e, pl, end.3)) (let e = ap length qp in omega (arith, e)) is;
+        told_is = ap (λ (y : List (List ℤ)). told (notes ++ n ∷ []) y q.past) end.2 ∙ told_param notes n end.0 end.1 q.past end.3 ql ∙ ap (λ (y : List (List ℤ)). told notes y q.past ++ record { node = k; before = OldSeen (seen_as x end.1) } ∷ []) (sym pp) ∙ ap (λ (y : List (List ℕ)). told notes p'.past y ++ record { node = k; before = OldSeen (seen_as x end.1) } ∷ []) (sym qp);
+        params = ap (λ (x : Shelf ℤ). x.current) pr;
+        kids = ap (λ (x : Shelf ℕ). x.current) qu;
+        looks = refl;
+        answer = refl;
+        rooms = (ap (λ (x : Shelf ℤ). x.spare) pr, ap (λ (x : Shelf ℕ). x.spare) qu);
+        param_places = (ap (λ (x : Shelf ℤ). x.places) pr, ap (λ (x : Shelf ℤ). x.past_places) pr);
+        kid_places = (ap (λ (x : Shelf ℕ). x.places) qu, ap (λ (x : Shelf ℕ). x.past_places) qu);
+      }
+  take_done slots p p' q q' notes k was.Kids is pu qu =
+      let n : Note A = record { node = k; was = was.Kids } in
+      let pl : length p.past ≡ param_count notes = omega (arith, is.past_params_long, param_count_push notes n) in
+      let ql : length q.past ≡ kid_count notes + 1 = omega (arith, is.past_kids_long, kid_count_push notes n) in
+      let end = last_of q.past (kid_count notes) ql in
+      let qr = qu end.0 end.1 end.2 in
+      let pp = ap (λ (x : Shelf ℤ). x.past) pu in
+      let qp = ap (λ (x : Shelf ℕ). x.past) qr in
+      record {
+        last = record { node = k; before = OldKids end.1 };
+        sound = IsStock-pop slots slots p.current p'.current q.current q'.current notes n p.past p'.past q.past q'.past refl (ap (λ (x : Shelf ℤ). length x.current) pu) (ap (λ (x : Shelf ℕ). length x.current) qr) (let e = ap length pp in omega (arith, e)) (let e = ap length qp in omega (arith, e, ql, end.3)) is;
+        told_is = ap (told (notes ++ n ∷ []) p.past) end.2 ∙ told_kid notes n p.past end.0 end.1 pl end.3 ∙ ap (λ (y : List (List ℤ)). told notes y end.0 ++ record { node = k; before = OldKids end.1 } ∷ []) (sym pp) ∙ ap (λ (y : List (List ℕ)). told notes p'.past y ++ record { node = k; before = OldKids end.1 } ∷ []) (sym qp);
+        params = ap (λ (x : Shelf ℤ). x.current) pu;
+        kids = ap (λ (x : Shelf ℕ). x.current) qr;
+        looks = ap (λ (x : Shelf ℕ). x.hand) qr;
+        answer = refl;
+        rooms = (ap (λ (x : Shelf ℤ). x.spare) pu, ap (λ (x : Shelf ℕ). x.spare) qr);
+        param_places = (ap (λ (x : Shelf ℤ). x.places) pu, ap (λ (x : Shelf ℤ). x.past_places) pu);
+        kid_places = (ap (λ (x : Shelf ℕ). x.places) qr, ap (λ (x : Shelf ℕ). x.past_places) qr);
+      }
+
+  -- the last change, before it is undone or taken up
+  pub record Last (slots : List (Option (Stored A))) (p : Shelf ℤ) (q : Shelf ℕ) (notes : List (Note A)) (k : ℕ) (w : Was A) : Type 0 where
+    pub last : Change A
+    pub earlier : List (Change A)
+    pub were : told (notes ++ record { node = k; was = w } ∷ []) p.past q.past ≡ earlier ++ last ∷ []
+    pub answer : dropped last (shown_nodes slots p.current q.current) ≡ dropped_slot w (slot_at slots k)
+    pub noted : old_answer last ≡ noted_answer w
+
+  pub last_undone : (slots : List (Option (Stored A))) (p : Shelf ℤ) (q : Shelf ℕ) (notes : List (Note A)) (k : ℕ) (w : Was A) → IsStock slots p.current q.current (notes ++ record { node = k; was = w } ∷ []) p.past q.past → Last slots p q notes k w
+  last_undone slots p q notes k was.Missing is =
+      let n : Note A = record { node = k; was = was.Missing } in
+      record {
+        last = record { node = k; before = Missing };
+        earlier = told notes p.past q.past;
+        were = told_plain notes n p.past q.past (omega (arith, is.past_params_long, param_count_push notes n)) (omega (arith, is.past_kids_long, kid_count_push notes n));
+        answer = answer_same (row_at p.current k) (row_at q.current k) (slot_at slots k);
+        noted = refl;
+      }
+  last_undone slots p q notes k (was.Key x) is =
+      let n : Note A = record { node = k; was = was.Key x } in
+      record {
+        last = record { node = k; before = OldKey x };
+        earlier = told notes p.past q.past;
+        were = told_plain notes n p.past q.past (omega (arith, is.past_params_long, param_count_push notes n)) (omega (arith, is.past_kids_long, kid_count_push notes n));
+        answer = refl;
+        noted = refl;
+      }
+  last_undone slots p q notes k (was.Answer x) is =
+      let n : Note A = record { node = k; was = was.Answer x } in
+      record {
+        last = record { node = k; before = OldAnswer x };
+        earlier = told notes p.past q.past;
+        were = told_plain notes n p.past q.past (omega (arith, is.past_params_long, param_count_push notes n)) (omega (arith, is.past_kids_long, kid_count_push notes n));
+        answer = dropped_same x (row_at p.current k) (row_at q.current k) k (shown_nodes slots p.current q.current) (slot_at slots k) refl;
+        noted = refl;
+      }
+  last_undone slots p q notes k (was.Kind x) is =
+      let n : Note A = record { node = k; was = was.Kind x } in
+      let end = last_of p.past (param_count notes) (omega (arith, is.past_params_long, param_count_push notes n)) in
+      record {
+        last = record { node = k; before = OldSeen (seen_as x end.1) };
+        earlier = told notes end.0 q.past;
+        were = ap (λ (y : List (List ℤ)). told (notes ++ n ∷ []) y q.past) end.2 ∙ told_param notes n end.0 end.1 q.past end.3 (omega (arith, is.past_kids_long, kid_count_push notes n));
+        answer = refl;
+        noted = refl;
+      }
+  last_undone slots p q notes k was.Kids is =
+      let n : Note A = record { node = k; was = was.Kids } in
+      let end = last_of q.past (kid_count notes) (omega (arith, is.past_kids_long, kid_count_push notes n)) in
+      record {
+        last = record { node = k; before = OldKids end.1 };
+        earlier = told notes p.past end.0;
+        were = ap (told (notes ++ n ∷ []) p.past) end.2 ∙ told_kid notes n p.past end.0 end.1 (omega (arith, is.past_params_long, param_count_push notes n)) end.3;
+        answer = refl;
+        noted = refl;
+      }

@@ -1,0 +1,79 @@
+-- The calls keep the invariant of a forest.
+use Rattle.std.proofs.Common.{◌≡◌, ◌+◌, ◌<◌, ◌≤◌, ◌^◌, ℕ, List, [], length, Some, None, refl, sym, ap, ◌∙◌, arith, inl, inr, subst}
+use Rattle.std.proofs.lemmas.Bool.{cases_eq}
+use Rattle.lsys_forest.proofs.StockLemmas.{put_same, put_other}
+use Rattle.std.proofs.lemmas.Option.{none-some, same_Some}
+use Rattle.lsys_forest.specs.Nodes.{Node, Nodes, put, root_node}
+use Rattle.lsys_forest.specs.Changes.{Before, Missing, Change, undone}
+use Rattle.lsys_forest.specs.Stocks.{Stock, nodes_of, changes_of, Journals, KeepsRoom}
+use Rattle.lsys_forest.specs.Slots.{live_slots}
+use Rattle.lsys_forest.specs.Groves.{HasFew, AreKids, IsSound, IsGrove}
+use Rattle.lsys_forest.proofs.SoundLemmas.{IsSet, set_sound, set_rest, IsSound-add, put_back, rest_kept}
+
+module _ {A : Type 0} where
+  pub IsGrove-set : (old new : Stock A) (root nodes notes left k : ℕ) (was n : Node A) (before : Before A) (params kids : ℕ) → IsSet root (changes_of old) (record { node = k; before = before }) (nodes_of old) k was n → Journals old new k (Some n) before 0 params kids → left + 1 ≡ notes → IsGrove old root nodes notes → IsGrove new root nodes left
+  IsGrove-set old new root nodes notes left k was n before params kids set j fewer grove =
+      let c : Change A = record { node = k; before = before } in
+      let rest = ap (undone (changes_of new)) j.nodes ∙ set_rest root (changes_of old) (changes_of new) c (nodes_of old) k was n set j.noted in
+      record {
+        now = subst (λ (m : Nodes A). IsSound root (changes_of new) m) (sym j.nodes) (subst (λ (cs : List (Change A)). IsSound root cs (put (nodes_of old) k (Some n))) (sym j.noted) (set_sound root (changes_of old) c (nodes_of old) k was n set grove.now));
+        rest = subst (IsSound root []) (sym rest) grove.rest;
+        nodes_left = omega (arith, j.live, j.capacity, grove.nodes_left);
+        numbers = omega (arith, j.live, grove.numbers);
+        places_left = omega (arith, j.live, j.notes, j.places, fewer, grove.places_left);
+      }
+
+  pub set_rested : (old new : Stock A) (root k : ℕ) (was n : Node A) (before : Before A) (params kids : ℕ) → IsSet root (changes_of old) (record { node = k; before = before }) (nodes_of old) k was n → Journals old new k (Some n) before 0 params kids → undone (changes_of new) (nodes_of new) ≡ undone (changes_of old) (nodes_of old)
+  set_rested old new root k was n before params kids set j =
+      ap (undone (changes_of new)) j.nodes ∙ set_rest root (changes_of old) (changes_of new) (record { node = k; before = before }) (nodes_of old) k was n set j.noted
+
+  pub add_rested : (old new : Stock A) (k : ℕ) (n : Node A) (params kids : ℕ) → nodes_of old k ≡ None → Journals old new k (Some n) Missing 1 params kids → undone (changes_of new) (nodes_of new) ≡ undone (changes_of old) (nodes_of old)
+  add_rested old new k n params kids vacant j =
+      rest_kept (changes_of old) (changes_of new) (record { node = k; before = Missing }) (nodes_of old) (nodes_of new) j.noted (ap (λ (m : Nodes A). put m k None) j.nodes ∙ put_back (nodes_of old) k None (Some n) vacant)
+
+  pub IsGrove-add : (old new : Stock A) (root nodes less notes left k : ℕ) (n parent : Node A) (params kids : ℕ) → nodes_of old k ≡ None → nodes_of old n.parent ≡ Some parent → n.depth ≡ parent.depth + 1 → n.kids ≡ [] → HasFew n.seen → Journals old new k (Some n) Missing 1 params kids → less + 1 ≡ nodes → left + 1 ≡ notes → IsGrove old root nodes notes → IsGrove new root less left
+  IsGrove-add old new root nodes less notes left k n parent params kids vacant is depth none few j fewer lower grove =
+      let c : Change A = record { node = k; before = Missing } in
+      record {
+        now = subst (λ (m : Nodes A). IsSound root (changes_of new) m) (sym j.nodes) (subst (λ (cs : List (Change A)). IsSound root cs (put (nodes_of old) k (Some n))) (sym j.noted) (IsSound-add root (changes_of old) c (nodes_of old) k n parent vacant is depth none few (inl refl) grove.now));
+        rest = subst (IsSound root []) (sym (add_rested old new k n params kids vacant j)) grove.rest;
+        nodes_left = omega (arith, j.live, j.capacity, fewer, grove.nodes_left);
+        numbers = omega (arith, j.live, fewer, grove.numbers);
+        places_left = omega (arith, j.live, j.notes, j.places, fewer, lower, grove.places_left);
+      }
+
+  pub IsGrove-room : (old new : Stock A) (root nodes notes more more' : ℕ) → nodes_of new ≡ nodes_of old → changes_of new ≡ changes_of old → length new.notes ≡ length old.notes → live_slots new.slots ≡ live_slots old.slots → live_slots new.slots + more ≤ new.capacity → live_slots new.slots + more < 2 ^ 32 → length new.notes + live_slots new.slots + more + more' ≤ new.places → IsGrove old root nodes notes → IsGrove new root more more'
+  IsGrove-room old new root nodes notes more more' same kept long live cap numbers places grove = record {
+    now = subst (λ (m : Nodes A). IsSound root (changes_of new) m) (sym same) (subst (λ (cs : List (Change A)). IsSound root cs (nodes_of old)) (sym kept) grove.now);
+    rest = subst (IsSound root []) (sym (ap (undone (changes_of new)) same ∙ ap (λ (cs : List (Change A)). undone cs (nodes_of old)) kept)) grove.rest;
+    nodes_left = cap;
+    numbers = numbers;
+    places_left = places;
+  }
+
+  -- after all changes were undone, or taken up
+  pub IsGrove-rest : (old new : Stock A) (root nodes notes : ℕ) → IsSound root [] (nodes_of new) → changes_of new ≡ [] → length new.notes ≡ 0 → live_slots new.slots ≤ live_slots old.slots → KeepsRoom old new → IsGrove old root nodes notes → IsGrove new root nodes notes
+  IsGrove-rest old new root nodes notes sound none short live room grove = record {
+    now = subst (λ (cs : List (Change A)). IsSound root cs (nodes_of new)) (sym none) sound;
+    rest = subst (IsSound root []) (sym (ap (λ (cs : List (Change A)). undone cs (nodes_of new)) none)) sound;
+    nodes_left = omega (arith, live, room.capacity, grove.nodes_left);
+    numbers = omega (arith, live, grove.numbers);
+    places_left = omega (arith, live, short, room.places, grove.places_left);
+  }
+
+  -- the root alone
+  pub IsSound-root : (m : Nodes A) → m ≡ put (λ k. None) 0 (Some (root_node 0)) → IsSound 0 [] m
+  IsSound-root m is =
+      let there : m 0 ≡ Some (root_node 0) = ap (λ (f : Nodes A). f 0) is ∙ put_same (λ k. None) 0 0 (Some (root_node 0)) refl in
+      record {
+        root_lives = (root_node 0, there, refl);
+        few = λ k n found. elim (cases_eq k 0) [
+          | inl e ↦ subst (λ (o : Node A). HasFew o.seen) (same_Some (root_node 0) n (sym there ∙ sym (ap m e) ∙ found)) tt
+          | inr ne ↦ absurd (none-some n (sym (ap (λ (f : Nodes A). f k) is ∙ put_other (λ i. None) 0 k (Some (root_node 0)) ne) ∙ found))
+        ];
+        held = λ x n found other. absurd (none-some n (sym (ap (λ (f : Nodes A). f x) is ∙ put_other (λ k. None) 0 x (Some (root_node 0)) other) ∙ found));
+        own = λ p n found. elim (cases_eq p 0) [
+          | inl e ↦ subst (λ (l : List ℕ). AreKids m 0 p l) (ap (λ (o : Node A). o.kids) (same_Some (root_node 0) n (sym there ∙ sym (ap m e) ∙ found))) (record { under = λ x h. absurd h; rising = tt })
+          | inr ne ↦ absurd (none-some n (sym (ap (λ (f : Nodes A). f p) is ∙ put_other (λ k. None) 0 p (Some (root_node 0)) ne) ∙ found))
+        ];
+      }

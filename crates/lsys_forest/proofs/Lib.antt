@@ -1,0 +1,13 @@
+pub mod ShelfLemmas
+pub mod SlotLemmas
+pub mod StockLemmas
+pub mod BackLemmas
+pub mod SoundLemmas
+pub mod GroveLemmas
+pub mod AnswerLemmas
+pub mod DepthLemmas
+pub mod SweepLemmas
+pub mod RowLemmas
+pub mod WalkLemmas
+pub mod ViewLemmas
+pub mod MateLemmas

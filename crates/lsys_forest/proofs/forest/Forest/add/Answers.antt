@@ -1,0 +1,53 @@
+use Rattle.std.proofs.Common.{◌≡◌, ◌<◌, ◌+◌, ◌-◌, [], Some, None, refl, sym, ap, ◌∙◌, subst, arith}
+use Rattle.std.specs.Prelude.{IsSome}
+use Rattle.lsys_level.specs.Places.{seen_in, params_in}
+use Rattle.lsys_region.specs.Rooms.{list_room}
+use Rattle.lsys_forest.specs.Nodes.{Node}
+use Rattle.lsys_forest.specs.Stocks.{nodes_of, changes_of}
+use Rattle.lsys_forest.specs.Groves.{Grove, now_of, Sets}
+use Rattle.lsys_forest.proofs.SoundLemmas.{some_of}
+use Rattle.std.proofs.lemmas.Option.{same_Some}
+use Rattle.lsys_forest.specs.declared.node.Stored.{Stored}
+use Rattle.lsys_forest.proofs.StockLemmas.{stored_of}
+use Rattle.lsys_forest.proofs.DepthLemmas.{depth_fits}
+use Rattle.lsys_forest.proofs.GroveLemmas.{IsGrove-add, add_rested}
+use Rattle.lsys_forest.proofs.forest.Forest.add.Goals as goal
+
+pub overflow_add-depth : goal.overflow_add-depth
+overflow_add-depth g c =
+    let i = c.self.inside in
+    let asked = subst (λ (f : Grove g.row.A.Denot). IsSome (now_of f c.args.parent) × (0 < f.spare_nodes) × (0 < f.spare_notes)) (sym c.self.view_is) (c.requires.parent, c.requires.nodes, c.requires.notes) in
+    let s = some_of (nodes_of i.parts c.args.parent) asked.0 in
+    let t = stored_of i.parts.slots i.parts.params i.parts.kids c.args.parent s.0 s.1 in
+    let above : c.in-Some.above.now ≡ t.0 = same_Some c.in-Some.above.now t.0 (c.in-Some.ensures ∙ t.1) in
+    let depth : c.in-Some.above.now.depth + 1 ≡ s.0.depth + 1 = ap (λ (x : Stored g.row.A.Denot). x.depth + 1) above ∙ ap (λ (x : Node g.row.A.Denot). x.depth + 1) t.2 in
+    let fits = depth_fits i.root (changes_of i.parts) (nodes_of i.parts) i.parts.slots c.self.invariant.now (λ k n is. let x = stored_of i.parts.slots i.parts.params i.parts.kids k n is in subst IsSome (sym x.1) refl) c.args.parent s.0 s.1 in
+    omega (arith, fits, depth, asked.1, c.self.invariant.numbers)
+
+pub invariant_of-self : goal.invariant_of-self
+invariant_of-self g c =
+    let i = c.self.inside in
+    let asked = subst (λ (f : Grove g.row.A.Denot). IsSome (now_of f c.args.parent) × (0 < f.spare_nodes) × (0 < f.spare_notes)) (sym c.self.view_is) (c.requires.parent, c.requires.nodes, c.requires.notes) in
+    let s = some_of (nodes_of i.parts c.args.parent) asked.0 in
+    let t = stored_of i.parts.slots i.parts.params i.parts.kids c.args.parent s.0 s.1 in
+    let above : c.in-Some.above.now ≡ t.0 = same_Some c.in-Some.above.now t.0 (c.in-Some.ensures ∙ t.1) in
+    let depth : c.in-Some.above.now.depth + 1 ≡ s.0.depth + 1 = ap (λ (x : Stored g.row.A.Denot). x.depth + 1) above ∙ ap (λ (x : Node g.row.A.Denot). x.depth + 1) t.2 in
+    let n : Node g.row.A.Denot = record { parent = c.args.parent; place = c.args.place; depth = c.in-Some.above.now.depth + 1; seen = seen_in c.args.symbol.now; key = c.args.key; kids = []; answer = None } in
+    IsGrove-add i.parts c.insert.new.self i.root i.spare_nodes (i.spare_nodes - 1) i.spare_notes (i.spare_notes - 1) c.insert.result n s.0 (list_room (params_in c.args.symbol.now)) 0 c.insert.ensures.vacant s.1 depth refl c.insert.ensures.few c.insert.ensures.added (omega (arith, asked.1)) (omega (arith, asked.2)) c.self.invariant
+
+pub returns-clause-added : goal.returns-clause-added
+returns-clause-added g c =
+    let i = c.self.inside in
+    let new : Grove g.row.A.Denot = record { stock = c.insert.new.self; root = i.root; spare_nodes = i.spare_nodes - 1; spare_notes = i.spare_notes - 1 } in
+    let n : Node g.row.A.Denot = record { parent = c.args.parent; place = c.args.place; depth = c.in-Some.above.now.depth + 1; seen = seen_in c.args.symbol.now; key = c.args.key; kids = []; answer = None } in
+    subst (λ (f : Grove g.row.A.Denot). (p : Node g.row.A.Denot) → now_of f c.args.parent ≡ Some p → Sets f new c.insert.result (record n { depth = p.depth + 1 })) c.self.view_is
+    (λ p is. (
+    let t = stored_of i.parts.slots i.parts.params i.parts.kids c.args.parent p is in
+    let above : c.in-Some.above.now ≡ t.0 = same_Some c.in-Some.above.now t.0 (c.in-Some.ensures ∙ t.1) in
+    let depth : c.in-Some.above.now.depth + 1 ≡ p.depth + 1 = ap (λ (x : Stored g.row.A.Denot). x.depth + 1) above ∙ ap (λ (x : Node g.row.A.Denot). x.depth + 1) t.2 in
+    subst (λ d. Sets (record { stock = i.parts; root = i.root; spare_nodes = i.spare_nodes; spare_notes = i.spare_notes }) new c.insert.result (record n { depth = d })) depth (record {
+      now = c.insert.ensures.added.nodes;
+      rest = add_rested i.parts c.insert.new.self c.insert.result n (list_room (params_in c.args.symbol.now)) 0 c.insert.ensures.vacant c.insert.ensures.added;
+      root = refl;
+    })
+    ))

@@ -1,0 +1,27 @@
+use Rattle.std.proofs.Common.{[], Some, None, refl, sym, ap, ◌∙◌, subst, arith}
+use Rattle.lsys_forest.specs.Nodes.{root_node}
+use Rattle.lsys_forest.specs.Changes.{undone}
+use Rattle.lsys_forest.specs.Stocks.{nodes_of}
+use Rattle.lsys_forest.specs.Groves.{IsSound}
+use Rattle.lsys_forest.proofs.StockLemmas.{put_same, put_other}
+use Rattle.lsys_forest.proofs.GroveLemmas.{IsSound-root}
+use Rattle.lsys_forest.proofs.forest.Forest.new.Goals as goal
+
+pub invariant_of-result : goal.invariant_of-result
+invariant_of-result g c =
+    let p = c.in_ok-parts.parts in
+    let e = c.in_ok-parts.ensures in
+    let sound = IsSound-root (nodes_of p) e.nodes in
+    record {
+      now = subst (λ cs. IsSound 0 cs (nodes_of p)) (sym e.changes) sound;
+      rest = subst (λ cs. IsSound 0 [] (undone cs (nodes_of p))) (sym e.changes) sound;
+      nodes_left = omega (arith, e.live, e.capacity);
+      numbers = omega (arith, e.live);
+      places_left = omega (arith, e.live, e.places, e.notes);
+    }
+
+pub returns-clause-root : goal.returns-clause-root
+returns-clause-root g c = λ k ne. ap (λ m. m k) c.in_ok-parts.ensures.nodes ∙ put_other (λ j. None) 0 k (Some (root_node 0)) ne
+
+pub returns-clause-alone : goal.returns-clause-alone
+returns-clause-alone g c = ap (λ m. m 0) c.in_ok-parts.ensures.nodes ∙ put_same (λ j. None) 0 0 (Some (root_node 0)) refl

@@ -1,0 +1,43 @@
+use Rattle.std.proofs.Common.{◌≡◌, ◌<◌, ◌-◌, Some, refl, sym, subst, arith}
+use Rattle.std.specs.Prelude.{IsSome}
+use Rattle.lsys_level.specs.Places.{seen_in, params_in}
+use Rattle.lsys_region.specs.Rooms.{list_room}
+use Rattle.lsys_forest.specs.Nodes.{Node, with_seen}
+use Rattle.lsys_forest.specs.Stocks.{nodes_of, changes_of}
+use Rattle.lsys_forest.specs.Groves.{Grove, now_of, Sets, Spends}
+use Rattle.lsys_forest.proofs.SoundLemmas.{some_of, set_seen}
+use Rattle.lsys_forest.proofs.GroveLemmas.{IsGrove-set, set_rested}
+use Rattle.lsys_forest.proofs.forest.Forest.set_symbol.Goals as goal
+
+pub invariant_of-self : goal.invariant_of-self
+invariant_of-self g c =
+    let i = c.self.inside in
+    let asked = subst (λ (f : Grove g.row.A.Denot). IsSome (now_of f c.args.node) × (0 < f.spare_notes)) (sym c.self.view_is) (c.requires.lives, c.requires.notes) in
+    let s = some_of (nodes_of i.parts c.args.node) asked.0 in
+    IsGrove-set i.parts c.set_symbol.new.self i.root i.spare_nodes i.spare_notes (i.spare_notes - 1) c.args.node s.0 (with_seen (seen_in c.args.symbol.now) s.0) _ (list_room (params_in c.args.symbol.now)) 0 (set_seen i.root (changes_of i.parts) (nodes_of i.parts) c.args.node s.0 (seen_in c.args.symbol.now) c.set_symbol.ensures.few c.self.invariant.now s.1) (c.set_symbol.ensures.set s.0 s.1) (omega (arith, asked.1)) c.self.invariant
+
+pub returns-clause-set : goal.returns-clause-set
+returns-clause-set g c =
+    let i = c.self.inside in
+    let new : Grove g.row.A.Denot = record { stock = c.set_symbol.new.self; root = i.root; spare_nodes = i.spare_nodes; spare_notes = i.spare_notes - 1 } in
+    subst (λ (f : Grove g.row.A.Denot). (n : Node g.row.A.Denot) → now_of f c.args.node ≡ Some n → Sets f new c.args.node (with_seen (seen_in c.args.symbol.now) n)) c.self.view_is
+    (λ n is. record {
+      now = (c.set_symbol.ensures.set n is).nodes;
+      rest = set_rested i.parts c.set_symbol.new.self i.root c.args.node n (with_seen (seen_in c.args.symbol.now) n) _ (list_room (params_in c.args.symbol.now)) 0 (set_seen i.root (changes_of i.parts) (nodes_of i.parts) c.args.node n (seen_in c.args.symbol.now) c.set_symbol.ensures.few c.self.invariant.now is) (c.set_symbol.ensures.set n is);
+      root = refl;
+    })
+
+pub returns-clause-spends : goal.returns-clause-spends
+returns-clause-spends g c =
+    let i = c.self.inside in
+    let asked = subst (λ (f : Grove g.row.A.Denot). IsSome (now_of f c.args.node) × (0 < f.spare_notes)) (sym c.self.view_is) (c.requires.lives, c.requires.notes) in
+    let s = some_of (nodes_of i.parts c.args.node) asked.0 in
+    let new : Grove g.row.A.Denot = record { stock = c.set_symbol.new.self; root = i.root; spare_nodes = i.spare_nodes; spare_notes = i.spare_notes - 1 } in
+    let j = c.set_symbol.ensures.set s.0 s.1 in
+    subst (λ (f : Grove g.row.A.Denot). Spends f new 0 ((list_room (params_in c.args.symbol.now))) (0) 1) c.self.view_is (record {
+      live = omega (arith, j.live);
+      nodes_left = omega arith;
+      params_left = j.param_room;
+      kids_left = j.kid_room;
+      notes_left = omega (arith, asked.1);
+    })

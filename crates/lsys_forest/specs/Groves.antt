@@ -1,0 +1,135 @@
+-- What a contract sees of a forest.
+use Rattle.std.specs.Prelude.{◌≡◌, ◌≢◌, ◌⊎◌, ◌+◌, ◌<◌, ◌≤◌, ◌^◌, ℕ, zero, suc, List, [], ◌∷◌, length, Option, Some, None, IsSome}
+use Rattle.lsys_level.specs.Spots.{Seen, Push, Pop, Module}
+use Rattle.lsys_forest.specs.Slots.{live_slots}
+use Rattle.lsys_forest.specs.Nodes.{Node, Nodes, put}
+use Rattle.lsys_forest.specs.Changes.{Change, undone}
+use Rattle.lsys_forest.specs.Answers.{Keeper, answers}
+use Rattle.lsys_forest.specs.Stocks.{Stock, nodes_of, changes_of, looked}
+
+-- A forest: its nodes, and what they were before each change since the last rest; its root; and how many nodes and changes
+-- more need no memory.
+pub record Grove (A : Type 0) : Type 0 where
+  pub stock : Stock A
+  pub root : ℕ
+  pub spare_nodes : ℕ
+  pub spare_notes : ℕ
+
+-- the number is among these
+abbrev pub In : ℕ → List ℕ → Type 0
+In k [] = ⊥
+In k (x ∷ xs) = (k ≡ x) ⊎ In k xs
+
+-- no number stands twice
+abbrev pub AreApart : List ℕ → Type 0
+AreApart [] = Unit {0}
+AreApart (x ∷ xs) = (In x xs → ⊥) × AreApart xs
+
+abbrev pub place_in : {A : Type 0} → Option (Node A) → ℕ
+place_in None = 0
+place_in (Some n) = n.place
+
+-- a module has at most eight parameters
+abbrev pub HasFew : Seen → Type 0
+HasFew Push = Unit {0}
+HasFew Pop = Unit {0}
+HasFew (Module v) = length v.params ≤ 8
+
+module _ {A : Type 0} where
+  -- the nodes as they are, and as they were at the last rest
+  abbrev pub now_of : Grove A → Nodes A
+  now_of f = nodes_of f.stock
+
+  abbrev pub changes_in : Grove A → List (Change A)
+  changes_in f = changes_of f.stock
+
+  abbrev pub rest_of : Grove A → Nodes A
+  rest_of f = undone (changes_in f) (now_of f)
+
+  -- no node has changed since the last rest
+  abbrev pub IsAtRest : Grove A → Type 0
+  IsAtRest f = changes_in f ≡ []
+
+  abbrev pub IsLive : Grove A → ℕ → Type 0
+  IsLive f k = IsSome (now_of f k)
+
+  -- how many nodes live
+  abbrev pub live_nodes : Grove A → ℕ
+  live_nodes f = live_slots f.stock.slots
+
+  -- how much room there is for the parameters of symbols, and for lists of children, with no memory taken
+  abbrev pub spare_params : Grove A → ℕ
+  spare_params f = f.stock.param_room
+
+  abbrev pub spare_kids : Grove A → ℕ
+  spare_kids f = f.stock.kid_room
+
+  -- the answers that nodes keep, or kept at any time since the last rest
+  abbrev pub kept_in : Grove A → Keeper → Option A
+  kept_in f = answers (now_of f) (changes_in f)
+
+  -- a live node with this parent, which is not the root
+  pub record IsUnder (m : Nodes A) (root parent kid : ℕ) : Type 0 where
+    pub node : Node A
+    pub is : m kid ≡ Some node
+    pub parent_is : node.parent ≡ parent
+    pub other : kid ≢ root
+
+  -- the places of these nodes rise
+  abbrev pub AreRising : Nodes A → List ℕ → Type 0
+  AreRising m [] = Unit {0}
+  AreRising m (x ∷ xs) = ((y : ℕ) → In y xs → place_in (m x) < place_in (m y)) × AreRising m xs
+
+  -- nodes of this parent, whose places rise
+  pub record AreKids (m : Nodes A) (root parent : ℕ) (kids : List ℕ) : Type 0 where
+    pub under : (x : ℕ) → In x kids → IsUnder m root parent x
+    pub rising : AreRising m kids
+
+  -- by so many steps down from the root
+  abbrev pub ReachedIn : Nodes A → ℕ → ℕ → ℕ → Type 0
+  ReachedIn m root zero k = k ≡ root
+  ReachedIn m root (suc d) k = (p : ℕ) × (n : Node A) × ReachedIn m root d p × (m p ≡ Some n) × In k n.kids
+
+  -- the root, or a node that is reached from it by children
+  abbrev pub Reached : Nodes A → ℕ → ℕ → Type 0
+  Reached m root k = (d : ℕ) × ReachedIn m root d k
+
+  -- only a node that a commit looks at may be unreached
+  abbrev pub Named : List (Change A) → ℕ → Type 0
+  Named [] x = ⊥
+  Named (c ∷ changes) x = In x (looked c) ⊎ Named changes x
+
+  -- the parent lives, one level above; and the node is among its children, or a commit looks at it
+  pub record IsHeld (m : Nodes A) (changes : List (Change A)) (x : ℕ) (node : Node A) : Type 0 where
+    pub parent : Node A
+    pub is : m node.parent ≡ Some parent
+    pub depth : node.depth ≡ parent.depth + 1
+    pub linked : In x parent.kids ⊎ Named changes x
+
+  pub record IsSound (root : ℕ) (changes : List (Change A)) (m : Nodes A) : Type 0 where
+    pub root_lives : (r : Node A) × (m root ≡ Some r) × (r.depth ≡ 0)
+    pub held : (x : ℕ) (n : Node A) → m x ≡ Some n → x ≢ root → IsHeld m changes x n
+    pub own : (p : ℕ) (n : Node A) → m p ≡ Some n → AreKids m root p n.kids
+    pub few : (k : ℕ) (n : Node A) → m k ≡ Some n → HasFew n.seen
+
+  -- the nodes hang together, as they are and as they were, and there is room
+  pub record IsGrove (stock : Stock A) (root spare_nodes spare_notes : ℕ) : Type 0 where
+    pub now : IsSound root (changes_of stock) (nodes_of stock)
+    pub rest : IsSound root [] (undone (changes_of stock) (nodes_of stock))
+    pub nodes_left : live_slots stock.slots + spare_nodes ≤ stock.capacity
+    pub numbers : live_slots stock.slots + spare_nodes < 2 ^ 32
+    pub places_left : length stock.notes + live_slots stock.slots + spare_nodes + spare_notes ≤ stock.places
+
+  -- one node became this one, and nothing else changed; the last rest stays
+  pub record Sets (old new : Grove A) (k : ℕ) (node : Node A) : Type 0 where
+    pub now : now_of new ≡ put (now_of old) k (Some node)
+    pub rest : rest_of new ≡ rest_of old
+    pub root : new.root ≡ old.root
+
+  -- the spares fell by at most so much, and no more than so many nodes came to live
+  pub record Spends (old new : Grove A) (nodes params kids notes : ℕ) : Type 0 where
+    pub live : live_nodes new ≤ live_nodes old + nodes
+    pub nodes_left : old.spare_nodes ≤ new.spare_nodes + nodes
+    pub params_left : spare_params old ≤ spare_params new + params
+    pub kids_left : spare_kids old ≤ spare_kids new + kids
+    pub notes_left : old.spare_notes ≤ new.spare_notes + notes

@@ -1,0 +1,10 @@
+pub mod Shelves
+pub mod Slots
+pub mod Nodes
+pub mod Changes
+pub mod Answers
+pub mod Stocks
+pub mod Groves
+pub mod Sweeps
+pub mod Rows
+pub mod Mates

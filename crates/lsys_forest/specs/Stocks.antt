@@ -1,0 +1,232 @@
+-- How the nodes and the changes stand in their parts.
+use Rattle.std.specs.Prelude.{◌≡◌, ℕ, ℤ, ◌+◌, ◌<◌, ◌≤◌, List, [], ◌∷◌, ◌++◌, length, Option, Some, None, slice_get, slice_index_or, slice_set, option_map}
+use Rattle.lsys_forest.specs.declared.node.Stored.{Stored}
+use Rattle.lsys_forest.specs.declared.note.Note.{Note}
+use Rattle.lsys_forest.specs.declared.note.Was.{Was}
+use Rattle.lsys_forest.specs.declared.note.Was.TheVariants as was
+use Rattle.lsys_forest.specs.Shelves.{Shelf}
+use Rattle.lsys_forest.specs.declared.note.Look.{Look}
+use Rattle.lsys_forest.specs.declared.note.Look.TheVariants as look
+use Rattle.lsys_forest.specs.Slots.{slot_at, live_slots, change_slot, kind_set, key_set, answer_set, answer_before}
+use Rattle.lsys_forest.specs.Nodes.{Node, Nodes, put, seen_as}
+use Rattle.lsys_forest.specs.Answers.{answer_of}
+use Rattle.std.specs.Option.{option_and_then}
+use Rattle.lsys_forest.specs.Changes.{Before, Missing, OldSeen, OldKey, OldKids, OldAnswer, Change, undo}
+
+-- Nodes without parameters and children, these beside them by number; notes without lists, these in turn; the list in hand;
+-- and how much room there is for nodes, for notes, and for lists.
+pub record Stock (A : Type 0) : Type 0 where
+  pub slots : List (Option (Stored A))
+  pub params : List (List ℤ)
+  pub kids : List (List ℕ)
+  pub notes : List (Note A)
+  pub past_params : List (List ℤ)
+  pub past_kids : List (List ℕ)
+  pub hand : List ℕ
+  pub capacity : ℕ
+  pub places : ℕ
+  pub param_room : ℕ
+  pub kid_room : ℕ
+
+abbrev pub row_at : {T : Type 0} → List (List T) → ℕ → List T
+row_at rows k = slice_index_or rows k []
+
+abbrev pub first_of : {T : Type 0} → List (List T) → List T
+first_of [] = []
+first_of (x ∷ xs) = x
+
+abbrev pub behind_first : {T : Type 0} → List (List T) → List (List T)
+behind_first [] = []
+behind_first (x ∷ xs) = xs
+
+-- the list at this number was cleared
+abbrev pub Clears : {T : Type 0} → ℕ → Shelf T → Shelf T → Type 0
+Clears {T} k old new = (new ≡ record old { current = slice_set old.current k []; spare = new.spare }) × (old.spare ≤ new.spare)
+
+-- the last of the past lists went back to this number
+abbrev pub Restores : {T : Type 0} → ℕ → Shelf T → Shelf T → Type 0
+Restores {T} k old new = (before : List (List T)) (list : List T) → old.past ≡ before ++ list ∷ [] → new ≡ record old { current = slice_set old.current k list; past = before }
+
+abbrev pub named_by : Look → List ℕ → List ℕ
+named_by (look.Node k) hand = k ∷ []
+named_by look.Hand hand = hand
+named_by look.Nothing hand = []
+
+module _ {A : Type 0} where
+  abbrev pub node_of : List ℤ → List ℕ → Stored A → Node A
+  node_of params kids s = record { parent = s.parent; place = s.place; depth = s.depth; seen = seen_as s.kind params; key = s.key; kids = kids; answer = s.answer }
+
+  -- the nodes
+  abbrev pub nodes_of : Stock A → Nodes A
+  nodes_of t = λ k. option_map (node_of (row_at t.params k) (row_at t.kids k)) (slot_at t.slots k)
+
+  abbrev pub before_of : Was A → List ℤ → List ℕ → Before A
+  before_of was.Missing params kids = Missing
+  before_of (was.Kind x) params kids = OldSeen (seen_as x params)
+  before_of (was.Key x) params kids = OldKey x
+  before_of was.Kids params kids = OldKids kids
+  before_of (was.Answer x) params kids = OldAnswer x
+
+  -- the lists that are left behind a note
+  abbrev pub params_left : Was A → List (List ℤ) → List (List ℤ)
+  params_left (was.Kind x) params = behind_first params
+  params_left w params = params
+
+  abbrev pub kids_left : Was A → List (List ℕ) → List (List ℕ)
+  kids_left was.Kids kids = behind_first kids
+  kids_left w kids = kids
+
+  -- the changes that the notes tell, which take the lists in turn
+  abbrev pub told : List (Note A) → List (List ℤ) → List (List ℕ) → List (Change A)
+  told [] params kids = []
+  told (n ∷ notes) params kids = record { node = n.node; before = before_of n.was (first_of params) (first_of kids) } ∷ told notes (params_left n.was params) (kids_left n.was kids)
+
+  -- the changes
+  abbrev pub changes_of : Stock A → List (Change A)
+  changes_of t = told t.notes t.past_params t.past_kids
+
+  abbrev pub param_lists : Was A → ℕ
+  param_lists (was.Kind x) = 1
+  param_lists w = 0
+
+  abbrev pub kid_lists : Was A → ℕ
+  kid_lists was.Kids = 1
+  kid_lists w = 0
+
+  -- how many lists the notes take
+  abbrev pub param_count : List (Note A) → ℕ
+  param_count [] = 0
+  param_count (n ∷ notes) = param_lists n.was + param_count notes
+
+  abbrev pub kid_count : List (Note A) → ℕ
+  kid_count [] = 0
+  kid_count (n ∷ notes) = kid_lists n.was + kid_count notes
+
+  -- each number has its lists, each note its list, and each note's node a number that was given out
+  pub record IsStock (slots : List (Option (Stored A))) (params : List (List ℤ)) (kids : List (List ℕ)) (notes : List (Note A)) (past_params : List (List ℤ)) (past_kids : List (List ℕ)) : Type 0 where
+    pub params_long : length params ≡ length slots
+    pub kids_long : length kids ≡ length slots
+    pub past_params_long : length past_params ≡ param_count notes
+    pub past_kids_long : length past_kids ≡ kid_count notes
+    pub numbered : (i : ℕ) (n : Note A) → slice_get notes i ≡ Some n → n.node < length slots
+
+  -- The node at a number became this one, or is no more, and a note tells what it was before; so many nodes more live, and
+  -- the rooms for lists fell by no more than this.
+  pub record Journals (old new : Stock A) (k : ℕ) (v : Option (Node A)) (before : Before A) (born params kids : ℕ) : Type 0 where
+    pub nodes : nodes_of new ≡ put (nodes_of old) k v
+    pub noted : changes_of new ≡ changes_of old ++ record { node = k; before = before } ∷ []
+    pub notes : length new.notes ≡ length old.notes + 1
+    pub live : live_slots new.slots ≡ live_slots old.slots + born
+    pub capacity : old.capacity ≤ new.capacity
+    pub places : old.places ≤ new.places
+    pub param_room : old.param_room ≤ new.param_room + params
+    pub kid_room : old.kid_room ≤ new.kid_room + kids
+    pub hand : new.hand ≡ old.hand
+
+  -- there is room as before
+  pub record KeepsRoom (old new : Stock A) : Type 0 where
+    pub capacity : old.capacity ≤ new.capacity
+    pub places : old.places ≤ new.places
+    pub param_room : old.param_room ≤ new.param_room
+    pub kid_room : old.kid_room ≤ new.kid_room
+
+  -- the answer that is kept no more when the change is undone
+  abbrev pub dropped_before : Before A → Option (Node A) → Option A
+  dropped_before Missing n = option_and_then answer_of n
+  dropped_before (OldSeen x) n = None
+  dropped_before (OldKey x) n = None
+  dropped_before (OldKids x) n = None
+  dropped_before (OldAnswer x) None = x
+  dropped_before (OldAnswer x) (Some n) = n.answer
+
+  abbrev pub dropped : Change A → Nodes A → Option A
+  dropped c m = dropped_before c.before (m c.node)
+
+  -- the children that a commit has to look at, since they may be reached no more
+  abbrev pub looked_before : Before A → ℕ → List ℕ
+  looked_before Missing k = k ∷ []
+  looked_before (OldSeen x) k = []
+  looked_before (OldKey x) k = []
+  looked_before (OldKids x) k = x
+  looked_before (OldAnswer x) k = []
+
+  abbrev pub looked : Change A → List ℕ
+  looked c = looked_before c.before c.node
+
+  -- the last change was taken from the others
+  pub record TakesLast (old new : Stock A) (last : Change A) : Type 0 where
+    pub earlier : List (Change A)
+    pub were : changes_of old ≡ earlier ++ last ∷ []
+    pub are : changes_of new ≡ earlier
+    pub notes : length new.notes + 1 ≡ length old.notes
+    pub room : KeepsRoom old new
+
+  -- what undoing a change does to the slots, and to the lists by number and the past ones
+  abbrev pub undone_slots : Was A → ℕ → List (Option (Stored A)) → List (Option (Stored A))
+  undone_slots was.Missing k slots = slice_set slots k None
+  undone_slots (was.Kind x) k slots = change_slot (kind_set x) slots k
+  undone_slots (was.Key x) k slots = change_slot (key_set x) slots k
+  undone_slots was.Kids k slots = slots
+  undone_slots (was.Answer x) k slots = change_slot (answer_set x) slots k
+
+  abbrev pub UndoesParams : Was A → ℕ → Shelf ℤ → Shelf ℤ → Type 0
+  UndoesParams was.Missing k old new = Clears k old new
+  UndoesParams (was.Kind x) k old new = Restores k old new
+  UndoesParams w k old new = new ≡ old
+
+  abbrev pub UndoesKids : Was A → ℕ → Shelf ℕ → Shelf ℕ → Type 0
+  UndoesKids was.Missing k old new = Clears k old new
+  UndoesKids was.Kids k old new = Restores k old new
+  UndoesKids w k old new = new ≡ old
+
+  -- the answer that is kept no more when this is undone, where such a slot is
+  abbrev pub slot_answer : Stored A → Option A
+  slot_answer s = s.answer
+
+  abbrev pub dropped_slot : Was A → Option (Stored A) → Option A
+  dropped_slot was.Missing s = option_and_then slot_answer s
+  dropped_slot (was.Answer x) s = answer_before s x
+  dropped_slot w s = None
+
+  -- the last of the past parameters goes with a note
+  abbrev pub DropsParams : Was A → Shelf ℤ → Shelf ℤ → Type 0
+  DropsParams (was.Kind x) old new = (before : List (List ℤ)) (list : List ℤ) → old.past ≡ before ++ list ∷ [] → new ≡ record old { past = before }
+  DropsParams w old new = new ≡ old
+
+  -- the last of the past lists of children comes in hand with a note
+  abbrev pub TakesKids : Was A → Shelf ℕ → Shelf ℕ → Type 0
+  TakesKids was.Kids old new = (before : List (List ℕ)) (list : List ℕ) → old.past ≡ before ++ list ∷ [] → new ≡ record old { past = before; hand = list }
+  TakesKids w old new = new ≡ old
+
+  -- the answer that a note keeps
+  abbrev pub noted_answer : Was A → Option A
+  noted_answer (was.Answer x) = x
+  noted_answer w = None
+
+  -- the nodes that a note names, where these are in hand
+  abbrev pub named : Was A → ℕ → List ℕ → List ℕ
+  named was.Missing k hand = k ∷ []
+  named was.Kids k hand = hand
+  named w k hand = []
+
+  -- after the last change was undone
+  pub record Undoes (old new : Stock A) (last : Change A) : Type 0 where
+    pub takes : TakesLast old new last
+    pub nodes : nodes_of new ≡ undo last (nodes_of old)
+    pub live : live_slots new.slots ≤ live_slots old.slots
+
+  -- after the last change was taken up by a commit, which looks at these nodes
+  pub record TakesUp (old new : Stock A) (last : Change A) (look : Look) : Type 0 where
+    pub takes : TakesLast old new last
+    pub nodes : nodes_of new ≡ nodes_of old
+    pub live : live_slots new.slots ≡ live_slots old.slots
+    pub looks : named_by look new.hand ≡ looked last
+
+  -- after a node was removed, whose children a commit has to look at
+  pub record Removes (old new : Stock A) (k : ℕ) (n : Node A) : Type 0 where
+    pub nodes : nodes_of new ≡ put (nodes_of old) k None
+    pub noted : changes_of new ≡ changes_of old ++ record { node = k; before = OldKids n.kids } ∷ []
+    pub notes : length new.notes ≡ length old.notes + 1
+    pub live : live_slots new.slots + 1 ≡ live_slots old.slots
+    pub room : KeepsRoom old new
+    pub hand : new.hand ≡ old.hand

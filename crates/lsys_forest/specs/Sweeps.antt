@@ -1,0 +1,37 @@
+-- How the nodes that are reached no more are removed.
+use Rattle.std.specs.Prelude.{◌≡◌, ◌≢◌, ◌⊎◌, ◌+◌, ◌≤◌, ℕ, List, [], length, Some, None}
+use Rattle.lsys_forest.specs.Slots.{live_slots}
+use Rattle.lsys_forest.specs.Nodes.{Node, Nodes}
+use Rattle.lsys_forest.specs.Changes.{Change}
+use Rattle.lsys_forest.specs.Stocks.{Stock, nodes_of, changes_of, KeepsRoom}
+use Rattle.lsys_forest.specs.Groves.{In, Reached, Named, IsSound}
+
+module _ {A : Type 0} where
+  -- the parent lives and has the node among its children
+  pub record IsLinked (m : Nodes A) (k : ℕ) (n : Node A) : Type 0 where
+    pub parent : Node A
+    pub is : m n.parent ≡ Some parent
+    pub among : In k parent.kids
+
+  -- the node lives, and is not linked
+  pub record IsLoose (m : Nodes A) (k : ℕ) : Type 0 where
+    pub node : Node A
+    pub is : m k ≡ Some node
+    pub apart : IsLinked m k node → ⊥
+
+  -- What a commit keeps true while it removes nodes from `first`: none that is reached was removed, and each other that is
+  -- left and not linked is among `left`, or a change names it.
+  pub record IsSwept (first : Nodes A) (root : ℕ) (m : Nodes A) (changes : List (Change A)) (left : List ℕ) : Type 0 where
+    pub same : (k : ℕ) → (m k ≡ first k) ⊎ ((m k ≡ None) × (Reached first root k → ⊥))
+    pub cover : (k : ℕ) (n : Node A) → m k ≡ Some n → k ≢ root → IsLinked m k n ⊎ In k left ⊎ Named changes k
+
+  -- the nodes in `left` were looked at, whatever the forest was first
+  abbrev pub SweepsLeft : ℕ → Stock A → Stock A → List ℕ → Type 0
+  SweepsLeft root old new left = (first : Nodes A) (before : List (Change A)) → IsSound root before first → IsSwept first root (nodes_of old) (changes_of old) left → IsSwept first root (nodes_of new) (changes_of new) []
+
+  -- a node that is removed makes place for the change that tells its children
+  pub record KeepsPlaces (old new : Stock A) : Type 0 where
+    pub places : length new.notes + live_slots new.slots ≡ length old.notes + live_slots old.slots
+    pub live : live_slots new.slots ≤ live_slots old.slots
+    pub room : KeepsRoom old new
+    pub hand : new.hand ≡ old.hand

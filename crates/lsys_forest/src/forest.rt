@@ -1,0 +1,344 @@
+//! The forest.
+ghost use Rattle.std.specs.Prelude.{List, ◌∷◌, ◌++◌, ◌≡◌, ◌≢◌, ◌+◌, ◌<◌, ◌≤◌, ◌^◌, ℕ, [], None, Some, IsSome, IfOk, OnOk, option_copied, length};
+ghost use Rattle.lsys_module.specs.declared.symbol.Symbol.TheVariants.{Cut};
+ghost use Rattle.lsys_level.specs.Places.{seen_in, params_in};
+ghost use Rattle.lsys_level.specs.Spots.{IsSpot};
+ghost use Rattle.lsys_region.specs.Rooms.{list_room};
+ghost use Rattle.lsys_forest.specs.Nodes.{Node, root_node, with_seen, with_key, with_kids, with_answer};
+ghost use Rattle.lsys_forest.specs.Slots.{live_slots};
+ghost use Rattle.lsys_forest.specs.Changes.{undone};
+ghost use Rattle.lsys_forest.specs.Stocks.{nodes_of, changes_of, KeepsRoom};
+ghost use Rattle.lsys_forest.specs.Answers.{answers, kept_by, AreMade, Follows, FreesAllBut};
+ghost use Rattle.lsys_forest.specs.Rows.{first_in, oriented, level_nodes, complete_levels, level_of_node, place_of_node};
+ghost use Rattle.lsys_forest.specs.Mates.{mate_way};
+ghost use Rattle.lsys_forest.specs.Groves.{now_of, rest_of, IsAtRest, IsLive, live_nodes, spare_params, spare_kids, kept_in, changes_in, IsSound, Reached, AreKids, Sets, Spends};
+
+use crate::kept::Kept;
+use crate::node::{Kind, NodeId};
+use crate::stock::Parts;
+use crate::sweep::sweep_all;
+use crate::walk::{Way, beside, first_at, mate_of};
+use lsys_level::{LevelView, Sight, Tag};
+use lsys_module::Symbol;
+use std::alloc::{AllocError, Global};
+use std::marker::Model;
+
+/// Nodes under one root, each with its children, and a journal of what they were at the last rest.
+#[derive(Drop)]
+pub struct Forest<A> {
+    parts: Parts<A>,
+    root: NodeId,
+    spare_nodes: usize,
+    spare_notes: usize,
+}
+
+impl<A> Model for Forest<A> {
+    ghost use Rattle.lsys_forest.specs.Groves.{Grove, IsGrove};
+
+    ghost Value = { Grove A };
+
+    ghost view = { λ a. record { stock = a.parts; root = a.root; spare_nodes = a.spare_nodes; spare_notes = a.spare_notes } };
+
+    ghost invariant = { λ a. IsGrove a.parts a.root a.spare_nodes a.spare_notes };
+}
+
+impl<A: Kept> Forest<A> {
+    /// A forest of the root alone, at rest.
+    ///
+    /// # Errors
+    ///
+    /// Want of memory.
+    pub fn new(alloc: Global) -> Result<Forest<A>, AllocError>
+        ensures root { IfOk result (λ f. (k : ℕ) → k ≢ f.root → now_of f k ≡ None) }
+        ensures alone { IfOk result (λ f. now_of f f.root ≡ Some (root_node f.root)) }
+        ensures rest { IfOk result (λ f. IsAtRest f) }
+        ensures live { IfOk result (λ f. live_nodes f ≡ 1) }
+    {
+        let parts = Parts::of_root(alloc)?;
+        Ok(Forest {
+            parts,
+            root: NodeId(0),
+            spare_nodes: 0,
+            spare_notes: 0,
+        })
+    }
+
+    /// Makes room for so many nodes, parameters in their rooms, children in their rooms, and changes more: after it the
+    /// spares are at least so much. The forest stays.
+    ///
+    /// # Errors
+    ///
+    /// Want of memory. The spares are then no less than they were.
+    pub fn reserve(
+        &mut self,
+        nodes: usize,
+        params: usize,
+        kids: usize,
+        notes: usize,
+    ) -> Result<(), AllocError>
+        requires numbers { live_nodes self.old + nodes < 2 ^ 32 }
+        ensures now { now_of self.new ≡ now_of self.old }
+        ensures rest { rest_of self.new ≡ rest_of self.old }
+        ensures root { self.new.root ≡ self.old.root }
+        ensures spares { Spends self.old self.new 0 0 0 0 }
+        ensures nodes { OnOk result (nodes ≤ self.new.spare_nodes) }
+        ensures params { OnOk result (params ≤ spare_params self.new) }
+        ensures kids { OnOk result (kids ≤ spare_kids self.new) }
+        ensures notes { OnOk result (notes ≤ self.new.spare_notes) }
+    {
+        let spare_nodes = nodes.max(self.spare_nodes);
+        let spare_notes = notes.max(self.spare_notes);
+        let places = spare_notes.saturating_add(self.parts.live() + spare_nodes);
+        self.parts.reserve(spare_nodes, params, kids, places)?;
+        self.spare_nodes = spare_nodes;
+        self.spare_notes = spare_notes;
+        Ok(())
+    }
+
+    /// Adds a node under a parent, with no children and no answer. No other node changes. It takes no memory.
+    pub fn add(&mut self, parent: NodeId, place: u32, symbol: &Symbol, key: u64) -> NodeId
+        requires parent { IsLive self.old parent }
+        requires whole { symbol.now ≢ Cut }
+        requires nodes { 0 < self.old.spare_nodes }
+        requires notes { 0 < self.old.spare_notes }
+        requires params { list_room (params_in symbol.now) ≤ spare_params self.old }
+        ensures new { now_of self.old result ≡ None }
+        ensures added { (p : Node A) → now_of self.old parent ≡ Some p → Sets self.old self.new result (record {
+          parent = parent;
+          place = place;
+          depth = p.depth + 1;
+          seen = seen_in symbol.now;
+          key = key;
+          kids = [];
+          answer = None;
+        }) }
+        ensures spends { Spends self.old self.new 1 (list_room (params_in symbol.now)) 0 1 }
+    {
+        let depth = match self.parts.get(parent) {
+            Some(above) => above.depth + 1,
+            None => unreachable!(),
+        };
+        self.spare_nodes -= 1;
+        self.spare_notes -= 1;
+        self.parts.insert(parent, place, depth, symbol, key)
+    }
+
+    /// Sets the children of a node: nodes of this parent, whose places rise. Nothing else changes. It takes no memory.
+    pub fn set_children(&mut self, node: NodeId, kids: &[NodeId])
+        requires lives { IsLive self.old node }
+        requires kids { AreKids (now_of self.old) self.old.root node kids.now }
+        requires notes { 0 < self.old.spare_notes }
+        requires room { list_room kids.now ≤ spare_kids self.old }
+        ensures set { (n : Node A) → now_of self.old node ≡ Some n → Sets self.old self.new node (with_kids kids.now n) }
+        ensures spends { Spends self.old self.new 0 0 (list_room kids.now) 1 }
+    {
+        self.spare_notes -= 1;
+        self.parts.set_kids(node, kids);
+    }
+
+    /// Sets the symbol of a node that is not the root. Nothing else changes. It takes no memory.
+    pub fn set_symbol(&mut self, node: NodeId, symbol: &Symbol)
+        requires lives { IsLive self.old node }
+        requires other { node ≢ self.old.root }
+        requires whole { symbol.now ≢ Cut }
+        requires notes { 0 < self.old.spare_notes }
+        requires room { list_room (params_in symbol.now) ≤ spare_params self.old }
+        ensures set { (n : Node A) → now_of self.old node ≡ Some n
+            → Sets self.old self.new node (with_seen (seen_in symbol.now) n) }
+        ensures spends { Spends self.old self.new 0 (list_room (params_in symbol.now)) 0 1 }
+    {
+        self.spare_notes -= 1;
+        self.parts.set_symbol(node, symbol);
+    }
+
+    /// Sets the key of a node that is not the root. Nothing else changes. It takes no memory.
+    pub fn set_key(&mut self, node: NodeId, key: u64)
+        requires lives { IsLive self.old node }
+        requires other { node ≢ self.old.root }
+        requires notes { 0 < self.old.spare_notes }
+        ensures set { (n : Node A) → now_of self.old node ≡ Some n → Sets self.old self.new node (with_key key n) }
+        ensures spends { Spends self.old self.new 0 0 0 1 }
+    {
+        self.spare_notes -= 1;
+        self.parts.set_key(node, key);
+    }
+
+    /// Sets the answer that a node keeps, or that it keeps none. Nothing else changes. It takes no memory.
+    pub fn set_answer(&mut self, node: NodeId, answer: Option<A>)
+        requires lives { IsLive self.old node }
+        requires notes { 0 < self.old.spare_notes }
+        ensures set { (n : Node A) → now_of self.old node ≡ Some n
+            → Sets self.old self.new node (with_answer answer n) }
+        ensures spends { Spends self.old self.new 0 0 0 1 }
+    {
+        self.spare_notes -= 1;
+        self.parts.set_answer(node, answer);
+    }
+
+    /// The root.
+    pub fn root(&self) -> NodeId
+        ensures { result ≡ self.now.root }
+    {
+        self.root
+    }
+
+    /// The answer that a node keeps, if it keeps one.
+    pub fn answer(&self, node: NodeId) -> Option<&A>
+        requires { IsLive self.now node }
+        ensures { (n : Node A) → now_of self.now node ≡ Some n → option_copied result ≡ n.answer }
+    {
+        match self.parts.get(node) {
+            Some(found) => found.answer.as_ref(),
+            None => None,
+        }
+    }
+
+    /// The children of a node, as they were last set, in order.
+    pub fn children(&self, node: NodeId) -> &[NodeId]
+        requires { IsLive self.now node }
+        ensures { (n : Node A) → now_of self.now node ≡ Some n → result.now ≡ n.kids }
+    {
+        self.parts.kids(node)
+    }
+
+    /// The place of a node under its parent. The node is not the root.
+    pub fn place(&self, node: NodeId) -> u32
+        requires lives { IsLive self.now node }
+        requires other { node ≢ self.now.root }
+        ensures { (n : Node A) → now_of self.now node ≡ Some n → result ≡ n.place }
+    {
+        match self.parts.get(node) {
+            Some(found) => found.place,
+            None => unreachable!(),
+        }
+    }
+
+    /// Gives back the forest of the last rest, node for node, and gives back the runs of the answers that were set since.
+    /// It takes no memory.
+    pub fn rollback(&mut self, store: &mut A::Store)
+        requires made { AreMade A.run_at A.Holds store.old (kept_in self.old) }
+        ensures now { now_of self.new ≡ rest_of self.old }
+        ensures rest { IsAtRest self.new }
+        ensures root { self.new.root ≡ self.old.root }
+        ensures spares { Spends self.old self.new 0 0 0 0 }
+        ensures store { FreesAllBut A.run_at A.Holds (kept_in self.old) (kept_by (rest_of self.old)) store.old store.new }
+        ensures still { AreMade A.run_at A.Holds store.new (kept_in self.new) }
+    {
+        undo_all(&mut self.parts, store);
+    }
+
+    /// Keeps the forest as it is, as a rest: the nodes that are reached from the root stay node for node, and all others
+    /// are given back, with the runs of all answers that are kept no more. It takes no memory.
+    pub fn commit(&mut self, store: &mut A::Store)
+        requires made { AreMade A.run_at A.Holds store.old (kept_in self.old) }
+        ensures stay { (k : ℕ) → Reached (now_of self.old) self.old.root k → now_of self.new k ≡ now_of self.old k }
+        ensures only { (k : ℕ) → IsLive self.new k → Reached (now_of self.old) self.old.root k }
+        ensures rest { IsAtRest self.new }
+        ensures root { self.new.root ≡ self.old.root }
+        ensures spares { Spends self.old self.new 0 0 0 0 }
+        ensures store { FreesAllBut A.run_at A.Holds (kept_in self.old) (kept_by (now_of self.new)) store.old store.new }
+        ensures still { AreMade A.run_at A.Holds store.new (kept_in self.new) }
+    {
+        sweep_all(&mut self.parts, self.root, store);
+    }
+}
+
+impl<A: Kept> Forest<A> {
+    /// The node next to one of a complete level, that way.
+    fn beside(&self, spot: NodeId, way: Way) -> Option<NodeId>
+        requires { IsSpot (complete_levels self.now) (level_of_node self.now spot) (place_of_node self.now spot) }
+        ensures beside { (before after : List ℕ) → oriented way (level_nodes (now_of self.now) self.now.root (level_of_node self.now spot))
+            ≡ before ++ spot ∷ after → result ≡ first_in after }
+        ensures sound { IsSound self.now.root (changes_in self.now) (now_of self.now) }
+    {
+        beside(&self.parts, self.root, spot, self.depth(spot), way)
+    }
+
+    /// How many steps a node of a complete level is below the root.
+    fn depth(&self, spot: NodeId) -> u32
+        requires { IsSpot (complete_levels self.now) (level_of_node self.now spot) (place_of_node self.now spot) }
+        ensures { result ≡ level_of_node self.now spot + 1 }
+    {
+        match self.parts.get(spot) {
+            Some(found) => found.depth,
+            None => unreachable!(),
+        }
+    }
+}
+
+/// The complete levels of a forest: level 0 are the children of the root, and each further level the children of the nodes
+/// of the one before it, in order, up to the first level whose brackets are not balanced. A node's tag is its number.
+impl<A: Kept> LevelView for Forest<A> {
+    type Spot = NodeId;
+
+    ghost levels = { complete_levels };
+
+    ghost level_of = { level_of_node };
+
+    ghost place_of = { place_of_node };
+
+    fn first(&self, level: u32) -> Option<NodeId> {
+        first_at(&self.parts, self.root, level)
+    }
+
+    fn left(&self, spot: NodeId) -> Option<NodeId> {
+        self.beside(spot, Way::Left)
+    }
+
+    fn right(&self, spot: NodeId) -> Option<NodeId> {
+        self.beside(spot, Way::Right)
+    }
+
+    fn mate(&self, spot: NodeId) -> NodeId {
+        let way = way_to_mate(self.parts.kind(spot));
+        mate_of(&self.parts, self.root, spot, self.depth(spot), way)
+    }
+
+    fn sight(&self, spot: NodeId) -> Sight<'_> {
+        match self.parts.kind(spot) {
+            Kind::Push => Sight::Push,
+            Kind::Pop => Sight::Pop,
+            Kind::Module(name) => Sight::Module {
+                name,
+                params: self.parts.params(spot),
+            },
+        }
+    }
+
+    fn tag(&self, spot: NodeId) -> Tag {
+        let _root = self.root;
+        Tag(spot.0)
+    }
+
+    fn key(&self, spot: NodeId) -> u64 {
+        match self.parts.get(spot) {
+            Some(found) => found.key,
+            None => unreachable!(),
+        }
+    }
+}
+
+/// Which way the mate of a bracket is; of a module, which has none, to the right.
+fn way_to_mate(kind: Kind) -> Way
+    ensures { result ≡ mate_way kind }
+{
+    match kind {
+        Kind::Pop => Way::Left,
+        _ => Way::Right,
+    }
+}
+
+/// Undoes each change, the last first.
+fn undo_all<A: Kept>(parts: &mut Parts<A>, store: &mut A::Store)
+    requires made { AreMade A.run_at A.Holds store.old (answers (nodes_of parts.old) (changes_of parts.old)) }
+    ensures nodes { nodes_of parts.new ≡ undone (changes_of parts.old) (nodes_of parts.old) }
+    ensures empty { changes_of parts.new ≡ [] }
+    ensures short { length parts.new.notes ≡ 0 }
+    ensures live { live_slots parts.new.slots ≤ live_slots parts.old.slots }
+    ensures room { KeepsRoom parts.old parts.new }
+    ensures made { AreMade A.run_at A.Holds store.new (answers (nodes_of parts.new) (changes_of parts.new)) }
+    ensures freed { Follows A.run_at A.Holds (answers (nodes_of parts.old) (changes_of parts.old)) store.old
+        (answers (nodes_of parts.new) (changes_of parts.new)) store.new }
+{
+    while parts.undo_last(store) {}
+}

@@ -1,0 +1,50 @@
+//! What a forest keeps at its nodes.
+ghost use Rattle.std.specs.Prelude.{◌≡◌, Option, IsSome, None};
+ghost use Rattle.std.specs.Option.{option_and_then};
+ghost use Rattle.lsys_forest.specs.Answers.{IsMade, Releases};
+ghost use Rattle.lsys_forest.specs.Stocks.{slot_answer};
+
+use crate::node::Stored;
+
+/// An answer that a node keeps. It holds runs of a store, and gives them back when it is kept no more.
+pub trait Kept: Drop {
+    /// Where the runs are.
+    type Store;
+
+    // what names a run, and what a run has in it
+    ghost Name: { Type 0 };
+
+    ghost Run: { Type 0 };
+
+    // the run of this name, while it is live
+    ghost run_at: { Self.Store → Name → Option Run };
+
+    // the answer holds the run of this name
+    ghost Holds: { Self → Name → Type 0 };
+
+    /// Gives back the runs that the answer holds, which was made with this store. It takes no memory.
+    fn release(self, store: &mut Self::Store)
+        requires made { (r : Name) → Holds self r → IsSome (run_at store.old r) }
+        ensures gone { (r : Name) → Holds self r → run_at store.new r ≡ None }
+        ensures others { (r : Name) → (Holds self r → ⊥) → run_at store.new r ≡ run_at store.old r };
+}
+
+/// Releases an answer, if there is one.
+pub(crate) fn release_one<A: Kept>(answer: Option<A>, store: &mut A::Store)
+    requires { IsMade A.run_at A.Holds store.old answer }
+    ensures { Releases A.run_at A.Holds answer store.old store.new }
+{
+    if let Some(kept) = answer {
+        kept.release(store);
+    }
+}
+
+/// Releases the answer of a node, if there are both.
+pub(crate) fn release_slot<A: Kept>(node: Option<Stored<A>>, store: &mut A::Store)
+    requires { IsMade A.run_at A.Holds store.old (option_and_then slot_answer node) }
+    ensures { Releases A.run_at A.Holds (option_and_then slot_answer node) store.old store.new }
+{
+    if let Some(kept) = node {
+        release_one(kept.answer, store);
+    }
+}

@@ -1,0 +1,20 @@
+//! A forest: nodes under one root, each with its children, its symbol, its key and the answer that it keeps.
+//!
+//! Changes are journaled, so that [`Forest::rollback`] gives back the forest of the last rest and [`Forest::commit`] gives
+//! back what is reached no more, both at the cost of what changed. What contracts see of a forest stands in
+//! `specs/Groves.antt`, and its levels in `specs/Rows.antt`.
+#![tactic(auto)]
+
+mod forest;
+mod kept;
+mod lists;
+mod node;
+mod note;
+mod stock;
+mod sweep;
+mod table;
+mod walk;
+
+pub use forest::Forest;
+pub use kept::Kept;
+pub use node::NodeId;

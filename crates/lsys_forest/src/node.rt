@@ -1,0 +1,108 @@
+//! Nodes as they are kept.
+ghost use Rattle.std.specs.Prelude.{◌≡◌, ◌≢◌, option_map};
+ghost use Rattle.lsys_module.specs.declared.symbol.Symbol.TheVariants.{Cut};
+ghost use Rattle.lsys_level.specs.Places.{seen_in, params_in};
+ghost use Rattle.lsys_forest.specs.Nodes.{seen_as};
+ghost use Rattle.lsys_forest.specs.Groves.{HasFew};
+ghost use Rattle.lsys_forest.specs.Slots.{kind_set, key_set, answer_set, answer_before};
+
+use lsys_module::Symbol;
+use lsys_text::Name;
+use std::marker::Model;
+use std::mem;
+
+/// The number that names a node of a forest, which is also its tag's.
+#[derive(Clone, Copy, Debug, Drop, PartialEq, Eq)]
+pub struct NodeId(pub u32);
+
+impl Model for NodeId {
+    ghost use Rattle.std.specs.Prelude.{ℕ};
+    ghost use Rattle.std.specs.Coded.{coded_ℕ};
+
+    ghost Value = { ℕ };
+
+    ghost coded = { coded_ℕ };
+
+    ghost view = { λ n. n.0 };
+
+    ghost inverse = { λ n. record { 0 = n } };
+}
+
+/// A symbol without its parameters.
+#[derive(Clone, Copy, Drop)]
+pub(crate) enum Kind {
+    /// `[`
+    Push,
+    /// `]`
+    Pop,
+    Module(Name),
+}
+
+/// A node without its parameters and its children.
+#[derive(Drop)]
+pub(crate) struct Stored<A> {
+    pub(crate) parent: NodeId,
+    pub(crate) place: u32,
+    /// How many steps it is below the root.
+    pub(crate) depth: u32,
+    pub(crate) kind: Kind,
+    pub(crate) key: u64,
+    pub(crate) answer: Option<A>,
+}
+
+/// The kind of a symbol.
+pub(crate) fn kind_of(symbol: &Symbol) -> Kind
+    requires { symbol.now ≢ Cut }
+    ensures { seen_as result (params_in symbol.now) ≡ seen_in symbol.now }
+{
+    match symbol {
+        Symbol::Push => Kind::Push,
+        Symbol::Pop => Kind::Pop,
+        Symbol::Module(module) => Kind::Module(module.name),
+        Symbol::Cut => unreachable!(),
+    }
+}
+
+/// The parameters of a symbol; a bracket has none.
+pub(crate) fn params_of(symbol: &Symbol) -> &[i64]
+    ensures params { result.now ≡ params_in symbol.now }
+    ensures few { HasFew (seen_in symbol.now) }
+{
+    match symbol {
+        Symbol::Module(module) => module.params.values(),
+        _ => &[],
+    }
+}
+
+/// Sets the symbol without its parameters, and answers the one before.
+pub(crate) fn swap_kind<A>(slot: &mut Option<Stored<A>>, kind: Kind) -> Option<Kind>
+    ensures before { result ≡ option_map (λ s. s.kind) slot.old }
+    ensures changed { slot.new ≡ option_map (kind_set kind) slot.old }
+{
+    match slot {
+        Some(node) => Some(mem::replace(&mut node.kind, kind)),
+        None => None,
+    }
+}
+
+/// Sets the key, and answers the one before.
+pub(crate) fn swap_key<A>(slot: &mut Option<Stored<A>>, key: u64) -> Option<u64>
+    ensures before { result ≡ option_map (λ s. s.key) slot.old }
+    ensures changed { slot.new ≡ option_map (key_set key) slot.old }
+{
+    match slot {
+        Some(node) => Some(mem::replace(&mut node.key, key)),
+        None => None,
+    }
+}
+
+/// Sets the answer, and answers the one before; where no node is, the answer comes back.
+pub(crate) fn swap_answer<A: Drop>(slot: &mut Option<Stored<A>>, answer: Option<A>) -> Option<A>
+    ensures before { result ≡ answer_before slot.old answer }
+    ensures changed { slot.new ≡ option_map (answer_set answer) slot.old }
+{
+    match slot {
+        Some(node) => mem::replace(&mut node.answer, answer),
+        None => answer,
+    }
+}

@@ -1,0 +1,473 @@
+//! The parts of a forest: its nodes, their lists, and the journal.
+ghost use Rattle.std.specs.Prelude.{◌≡◌, ◌≢◌, ℕ, ◌+◌, ◌<◌, ◌≤◌, ◌^◌, ◌++◌, ◌∷◌, [], length, List, Some, None, IsSome, IfOk, IfSome, IfNone, IsTrue, OnOk, option_copied, false, vec_len, vec_capacity};
+ghost use Rattle.lsys_module.specs.declared.symbol.Symbol.TheVariants.{Cut};
+ghost use Rattle.lsys_level.specs.Places.{seen_in, params_in};
+ghost use Rattle.lsys_region.specs.Rooms.{list_room};
+ghost use Rattle.lsys_forest.specs.declared.node.Stored.{Stored};
+ghost use Rattle.lsys_forest.specs.Slots.{slot_at, live_slots};
+ghost use Rattle.lsys_forest.specs.Answers.{old_answer, IsMade, Releases};
+ghost use Rattle.lsys_forest.specs.Groves.{HasFew};
+ghost use Rattle.lsys_forest.specs.Nodes.{Node, root_node, put, with_seen, with_key, with_kids, with_answer};
+ghost use Rattle.lsys_forest.specs.Changes.{Change, Missing, OldSeen, OldKey, OldKids, OldAnswer};
+ghost use Rattle.lsys_forest.specs.Stocks.{nodes_of, changes_of, row_at, Journals, KeepsRoom, dropped, Undoes, TakesUp, Removes, undone_slots, UndoesParams, UndoesKids, dropped_slot, DropsParams, TakesKids, noted_answer, named, named_by};
+
+use crate::kept::{Kept, release_one, release_slot};
+use crate::lists::Lists;
+use crate::node::{Kind, NodeId, Stored, kind_of, params_of};
+use crate::note::{Look, Note, Was};
+use crate::table::Table;
+use lsys_module::Symbol;
+use std::alloc::{AllocError, Global};
+use std::marker::Model;
+
+/// Nodes, their parameters and children, and the notes of what they were before each change since the last rest.
+#[derive(Drop)]
+pub(crate) struct Parts<A> {
+    table: Table<A>,
+    params: Lists<i64>,
+    kids: Lists<NodeId>,
+    notes: Vec<Note<A>>,
+}
+
+impl<A> Model for Parts<A> {
+    ghost use Rattle.std.specs.Prelude.{min, vec_capacity};
+    ghost use Rattle.lsys_forest.specs.Stocks.{Stock, IsStock};
+
+    ghost Value = { Stock A };
+
+    ghost view = { λ a. record {
+      slots = a.table.slots;
+      params = a.params.current;
+      kids = a.kids.current;
+      notes = a.notes.items;
+      past_params = a.params.past;
+      past_kids = a.kids.past;
+      hand = a.kids.hand;
+      capacity = min a.table.capacity (min a.params.places a.kids.places);
+      places = min (vec_capacity a.notes) (min a.params.past_places a.kids.past_places);
+      param_room = a.params.spare;
+      kid_room = a.kids.spare;
+    } };
+
+    ghost invariant = { λ a. IsStock a.table.slots a.params.current a.kids.current a.notes.items a.params.past a.kids.past };
+}
+
+impl<A: Drop> Parts<A> {
+    /// No nodes and no changes. It takes no memory.
+    pub(crate) fn new(alloc: Global) -> Parts<A>
+        ensures slots { result.slots ≡ [] }
+        ensures notes { result.notes ≡ [] }
+    {
+        Parts {
+            table: Table::new(alloc),
+            params: Lists::new(alloc),
+            kids: Lists::new(alloc),
+            notes: Vec::new(alloc),
+        }
+    }
+
+    /// The root alone, with number 0, and no changes.
+    ///
+    /// # Errors
+    ///
+    /// Want of memory.
+    pub(crate) fn of_root(alloc: Global) -> Result<Parts<A>, AllocError>
+        ensures nodes { IfOk result (λ p. nodes_of p ≡ put (λ k. None) 0 (Some (root_node 0))) }
+        ensures changes { IfOk result (λ p. changes_of p ≡ []) }
+        ensures notes { IfOk result (λ p. length p.notes ≡ 0) }
+        ensures live { IfOk result (λ p. live_slots p.slots ≡ 1) }
+        ensures capacity { IfOk result (λ p. 1 ≤ p.capacity) }
+        ensures places { IfOk result (λ p. 1 ≤ p.places) }
+    {
+        let mut parts = Parts::new(alloc);
+        parts.reserve(1, 0, 0, 1)?;
+        parts.plant();
+        Ok(parts)
+    }
+
+    /// Adds the root, and notes nothing.
+    fn plant(&mut self)
+        requires slots { self.old.slots ≡ [] }
+        requires notes { self.old.notes ≡ [] }
+        requires capacity { 1 ≤ self.old.capacity }
+        ensures nodes { nodes_of self.new ≡ put (λ k. None) 0 (Some (root_node 0)) }
+        ensures changes { self.new.notes ≡ [] }
+        ensures live { live_slots self.new.slots ≡ 1 }
+        ensures room { KeepsRoom self.old self.new }
+    {
+        let number = self.table.insert(Stored {
+            parent: NodeId(0),
+            place: 0,
+            depth: 0,
+            kind: Kind::Push,
+            key: 0,
+            answer: None,
+        });
+        let row = number.0 as usize;
+        self.params.reach(row);
+        self.kids.reach(row);
+    }
+
+    /// Makes room for so many nodes, cells of parameters, cells of children, and notes more.
+    ///
+    /// # Errors
+    ///
+    /// Want of memory. The nodes and the changes stay.
+    pub(crate) fn reserve(
+        &mut self,
+        nodes: usize,
+        params: usize,
+        kids: usize,
+        notes: usize,
+    ) -> Result<(), AllocError>
+        ensures nodes { nodes_of self.new ≡ nodes_of self.old }
+        ensures changes { changes_of self.new ≡ changes_of self.old }
+        ensures notes { length self.new.notes ≡ length self.old.notes }
+        ensures live { live_slots self.new.slots ≡ live_slots self.old.slots }
+        ensures keeps { KeepsRoom self.old self.new }
+        ensures capacity { OnOk result (live_slots self.new.slots + nodes ≤ self.new.capacity) }
+        ensures places { OnOk result (length self.new.notes + notes ≤ self.new.places) }
+        ensures param_room { OnOk result (params ≤ self.new.param_room) }
+        ensures kid_room { OnOk result (kids ≤ self.new.kid_room) }
+        ensures fits { OnOk result (length self.new.notes + notes < 2 ^ 63) }
+        ensures slots { self.new.slots ≡ self.old.slots }
+        ensures same_notes { self.new.notes ≡ self.old.notes }
+    {
+        self.table.reserve(nodes)?;
+        self.notes.reserve(notes)?;
+        let places = self.notes.len() + notes;
+        self.params.reserve(nodes, places, params)?;
+        self.kids.reserve(nodes, places, kids)
+    }
+
+    /// How many nodes live.
+    pub(crate) fn live(&self) -> usize
+        ensures { result ≡ live_slots self.now.slots }
+    {
+        self.table.live()
+    }
+
+    /// A node without its lists, if it lives.
+    pub(crate) fn get(&self, node: NodeId) -> Option<&Stored<A>>
+        ensures { option_copied result ≡ slot_at self.now.slots node }
+    {
+        self.table.get(node)
+    }
+
+    /// The parameters of a node that lives.
+    pub(crate) fn params(&self, node: NodeId) -> &[i64]
+        requires { IsSome (nodes_of self.now node) }
+        ensures { result.now ≡ row_at self.now.params node }
+    {
+        self.params.at(node.0 as usize)
+    }
+
+    /// The children of a node that lives.
+    pub(crate) fn kids(&self, node: NodeId) -> &[NodeId]
+        requires { IsSome (nodes_of self.now node) }
+        ensures { result.now ≡ row_at self.now.kids node }
+    {
+        self.kids.at(node.0 as usize)
+    }
+
+    /// The kind of the symbol of a node that lives.
+    pub(crate) fn kind(&self, node: NodeId) -> Kind
+        requires { IsSome (nodes_of self.now node) }
+        ensures { (s : Stored A) → slot_at self.now.slots node ≡ Some s → result ≡ s.kind }
+    {
+        match self.table.get(node) {
+            Some(found) => found.kind,
+            None => unreachable!(),
+        }
+    }
+
+    /// The children in hand.
+    pub(crate) fn in_hand(&self) -> &[NodeId]
+        ensures { result.now ≡ self.now.hand }
+    {
+        self.kids.in_hand()
+    }
+
+    /// Adds a node, and notes it. It takes no memory.
+    pub(crate) fn insert(
+        &mut self,
+        parent: NodeId,
+        place: u32,
+        depth: u32,
+        symbol: &Symbol,
+        key: u64,
+    ) -> NodeId
+        requires whole { symbol.now ≢ Cut }
+        requires capacity { live_slots self.old.slots < self.old.capacity }
+        requires numbers { live_slots self.old.slots < 2 ^ 32 }
+        requires place { length self.old.notes < self.old.places }
+        requires room { list_room (params_in symbol.now) ≤ self.old.param_room }
+        ensures vacant { nodes_of self.old result ≡ None }
+        ensures few { HasFew (seen_in symbol.now) }
+        ensures added { Journals self.old self.new result (Some (record {
+          parent = parent;
+          place = place;
+          depth = depth;
+          seen = seen_in symbol.now;
+          key = key;
+          kids = [];
+          answer = None;
+        }))
+            Missing 1 (list_room (params_in symbol.now)) 0 }
+    {
+        let number = self.table.insert(Stored {
+            parent,
+            place,
+            depth,
+            kind: kind_of(symbol),
+            key,
+            answer: None,
+        });
+        let row = number.0 as usize;
+        self.params.reach(row);
+        self.kids.reach(row);
+        self.params.set(row, params_of(symbol));
+        self.kids.set(row, &[]);
+        push_note(
+            &mut self.notes,
+            Note {
+                node: number,
+                was: Was::Missing,
+            },
+        );
+        number
+    }
+
+    /// Sets a symbol, and notes the one before. It takes no memory.
+    pub(crate) fn set_symbol(&mut self, node: NodeId, symbol: &Symbol)
+        requires lives { IsSome (nodes_of self.old node) }
+        requires whole { symbol.now ≢ Cut }
+        requires place { length self.old.notes < self.old.places }
+        requires room { list_room (params_in symbol.now) ≤ self.old.param_room }
+        ensures few { HasFew (seen_in symbol.now) }
+        ensures set { (n : Node A) → nodes_of self.old node ≡ Some n → Journals self.old self.new node
+            (Some (with_seen (seen_in symbol.now) n)) (OldSeen n.seen) 0 (list_room (params_in symbol.now)) 0 }
+    {
+        let Some(kind) = self.table.swap_kind(node, kind_of(symbol)) else {
+            unreachable!()
+        };
+        self.params.swap(node.0 as usize, params_of(symbol));
+        push_note(
+            &mut self.notes,
+            Note {
+                node,
+                was: Was::Kind(kind),
+            },
+        );
+    }
+
+    /// Sets a key, and notes the one before. It takes no memory.
+    pub(crate) fn set_key(&mut self, node: NodeId, key: u64)
+        requires lives { IsSome (nodes_of self.old node) }
+        requires place { length self.old.notes < self.old.places }
+        ensures { (n : Node A) → nodes_of self.old node ≡ Some n → Journals self.old self.new node
+            (Some (with_key key n)) (OldKey n.key) 0 0 0 }
+    {
+        let Some(before) = self.table.swap_key(node, key) else {
+            unreachable!()
+        };
+        push_note(
+            &mut self.notes,
+            Note {
+                node,
+                was: Was::Key(before),
+            },
+        );
+    }
+
+    /// Sets an answer, and notes the one before. It takes no memory.
+    pub(crate) fn set_answer(&mut self, node: NodeId, answer: Option<A>)
+        requires lives { IsSome (nodes_of self.old node) }
+        requires place { length self.old.notes < self.old.places }
+        ensures { (n : Node A) → nodes_of self.old node ≡ Some n → Journals self.old self.new node
+            (Some (with_answer answer n)) (OldAnswer n.answer) 0 0 0 }
+    {
+        let before = self.table.swap_answer(node, answer);
+        push_note(
+            &mut self.notes,
+            Note {
+                node,
+                was: Was::Answer(before),
+            },
+        );
+    }
+
+    /// Sets the children, and notes those before. It takes no memory.
+    pub(crate) fn set_kids(&mut self, node: NodeId, kids: &[NodeId])
+        requires lives { IsSome (nodes_of self.old node) }
+        requires place { length self.old.notes < self.old.places }
+        requires room { list_room kids.now ≤ self.old.kid_room }
+        ensures { (n : Node A) → nodes_of self.old node ≡ Some n → Journals self.old self.new node
+            (Some (with_kids kids.now n)) (OldKids n.kids) 0 0 (list_room kids.now) }
+    {
+        self.kids.swap(node.0 as usize, kids);
+        push_note(
+            &mut self.notes,
+            Note {
+                node,
+                was: Was::Kids,
+            },
+        );
+    }
+}
+
+impl<A: Kept> Parts<A> {
+    /// Undoes the last change, and tells whether there was one. An answer that is kept no more is released. It takes no
+    /// memory.
+    pub(crate) fn undo_last(&mut self, store: &mut A::Store) -> bool
+        requires made { (c : Change A) (earlier : List (Change A)) → changes_of self.old ≡ earlier ++ c ∷ []
+            → IsMade A.run_at A.Holds store.old (dropped c (nodes_of self.old)) }
+        ensures undone { IsTrue result → (c : Change A) × Undoes self.old self.new c
+            × Releases A.run_at A.Holds (dropped c (nodes_of self.old)) store.old store.new }
+        ensures none { result ≡ false → (changes_of self.old ≡ []) × (self.new ≡ self.old) × (store.new ≡ store.old) }
+    {
+        match self.notes.pop() {
+            Some(note) => {
+                undo_note(
+                    &mut self.table,
+                    &mut self.params,
+                    &mut self.kids,
+                    note,
+                    store,
+                );
+                true
+            }
+            None => false,
+        }
+    }
+
+    /// Takes up the last change, if there is one, and answers which nodes it names. An answer that it kept is released.
+    /// It takes no memory.
+    pub(crate) fn take_last(&mut self, store: &mut A::Store) -> Option<Look>
+        requires made { (c : Change A) (earlier : List (Change A)) → changes_of self.old ≡ earlier ++ c ∷ []
+            → IsMade A.run_at A.Holds store.old (old_answer c) }
+        ensures taken { IfSome result (λ look. (c : Change A) × TakesUp self.old self.new c look
+            × Releases A.run_at A.Holds (old_answer c) store.old store.new) }
+        ensures none { IfNone result ((changes_of self.old ≡ []) × (self.new ≡ self.old) × (store.new ≡ store.old)) }
+    {
+        match self.notes.pop() {
+            Some(note) => Some(take_note(&mut self.params, &mut self.kids, note, store)),
+            None => None,
+        }
+    }
+
+    /// Removes a node, releases its answer, and notes its children. It takes no memory.
+    pub(crate) fn remove(&mut self, node: NodeId, store: &mut A::Store)
+        requires lives { IsSome (nodes_of self.old node) }
+        requires place { length self.old.notes < self.old.places }
+        requires made { (n : Node A) → nodes_of self.old node ≡ Some n → IsMade A.run_at A.Holds store.old n.answer }
+        ensures { (n : Node A) → nodes_of self.old node ≡ Some n → Removes self.old self.new node n
+            × Releases A.run_at A.Holds n.answer store.old store.new }
+    {
+        let Some(removed) = self.table.remove(node) else {
+            unreachable!()
+        };
+        self.params.set(node.0 as usize, &[]);
+        self.kids.swap(node.0 as usize, &[]);
+        push_note(
+            &mut self.notes,
+            Note {
+                node,
+                was: Was::Kids,
+            },
+        );
+        release_one(removed.answer, store);
+    }
+
+    /// Frees the children in hand. It takes no memory.
+    pub(crate) fn put_down(&mut self)
+        ensures nodes { nodes_of self.new ≡ nodes_of self.old }
+        ensures changes { changes_of self.new ≡ changes_of self.old }
+        ensures notes { length self.new.notes ≡ length self.old.notes }
+        ensures live { live_slots self.new.slots ≡ live_slots self.old.slots }
+        ensures keeps { KeepsRoom self.old self.new }
+    {
+        self.kids.put_down();
+    }
+}
+
+/// Undoes the change of this note, which was the last.
+fn undo_note<A: Kept>(
+    table: &mut Table<A>,
+    params: &mut Lists<i64>,
+    kids: &mut Lists<NodeId>,
+    note: Note<A>,
+    store: &mut A::Store,
+)
+    requires params { note.node < length params.old.current }
+    requires kids { note.node < length kids.old.current }
+    requires made { IsMade A.run_at A.Holds store.old (dropped_slot note.was (slot_at table.old.slots note.node)) }
+    ensures slots { table.new.slots ≡ undone_slots note.was note.node table.old.slots }
+    ensures capacity { table.old.capacity ≤ table.new.capacity }
+    ensures params { UndoesParams note.was note.node params.old params.new }
+    ensures kids { UndoesKids note.was note.node kids.old kids.new }
+    ensures released { Releases A.run_at A.Holds (dropped_slot note.was (slot_at table.old.slots note.node))
+        store.old store.new }
+{
+    let Note { node, was } = note;
+    match was {
+        Was::Missing => {
+            params.set(node.0 as usize, &[]);
+            kids.set(node.0 as usize, &[]);
+            release_slot(table.remove(node), store);
+        }
+        Was::Kind(kind) => {
+            let _ = table.swap_kind(node, kind);
+            params.restore(node.0 as usize);
+        }
+        Was::Key(key) => {
+            let _ = table.swap_key(node, key);
+        }
+        Was::Kids => kids.restore(node.0 as usize),
+        Was::Answer(answer) => release_one(table.swap_answer(node, answer), store),
+    }
+}
+
+/// Takes up this note, which was the last: an answer that it kept is released, children come in hand.
+fn take_note<A: Kept>(
+    params: &mut Lists<i64>,
+    kids: &mut Lists<NodeId>,
+    note: Note<A>,
+    store: &mut A::Store,
+) -> Look
+    requires made { IsMade A.run_at A.Holds store.old (noted_answer note.was) }
+    ensures params { DropsParams note.was params.old params.new }
+    ensures kids { TakesKids note.was kids.old kids.new }
+    ensures released { Releases A.run_at A.Holds (noted_answer note.was) store.old store.new }
+    ensures named { (hand : List ℕ) → named_by result hand ≡ named note.was note.node hand }
+{
+    let Note { node, was } = note;
+    match was {
+        Was::Missing => Look::Node(node),
+        Was::Kind(_) => {
+            params.drop_past();
+            Look::Nothing
+        }
+        Was::Key(_) => Look::Nothing,
+        Was::Kids => {
+            kids.take_up();
+            Look::Hand
+        }
+        Was::Answer(answer) => {
+            release_one(answer, store);
+            Look::Nothing
+        }
+    }
+}
+
+/// Writes a note at the end of the journal, which has room for it.
+fn push_note<A: Drop>(notes: &mut Vec<Note<A>>, note: Note<A>)
+    requires { vec_len notes.old < vec_capacity notes.old }
+    ensures pushed { notes.new.items ≡ notes.old.items ++ note ∷ [] }
+    ensures capacity { vec_capacity notes.old ≤ vec_capacity notes.new }
+{
+    match notes.push(note) {
+        Ok(()) => {}
+        Err(_) => unreachable!(),
+    }
+}

@@ -1,0 +1,114 @@
+//! The removal of nodes that are reached no more.
+ghost use Rattle.std.specs.Prelude.{◌≡◌, ◌+◌, ◌≤◌, ℕ, ◌∷◌, [], length, List, false, Some, IsTrue, ◌↔◌, Contains};
+ghost use Rattle.lsys_forest.specs.Slots.{live_slots};
+ghost use Rattle.lsys_forest.specs.Nodes.{Node, Nodes};
+ghost use Rattle.lsys_forest.specs.Changes.{Change};
+ghost use Rattle.lsys_forest.specs.Answers.{answers, AreMade, Follows};
+ghost use Rattle.lsys_forest.specs.Stocks.{nodes_of, changes_of, named_by, KeepsRoom};
+ghost use Rattle.lsys_forest.specs.Groves.{In, IsSound};
+ghost use Rattle.lsys_forest.specs.Sweeps.{IsLinked, IsLoose, IsSwept, SweepsLeft, KeepsPlaces};
+
+use crate::kept::Kept;
+use crate::node::NodeId;
+use crate::note::Look;
+use crate::stock::Parts;
+
+/// Whether the node lives, and is not among the children of its parent.
+fn is_loose<A: Kept>(parts: &Parts<A>, node: NodeId) -> bool
+    ensures loose { IsTrue result → IsLoose (nodes_of parts.now) node }
+    ensures linked { (n : Node A) → result ≡ false → nodes_of parts.now node ≡ Some n
+        → IsLinked (nodes_of parts.now) node n }
+{
+    match parts.get(node) {
+        Some(found) => !has_kid(parts, found.parent, node),
+        None => false,
+    }
+}
+
+/// Whether the first node lives, and has the second among its children.
+fn has_kid<A: Kept>(parts: &Parts<A>, parent: NodeId, node: NodeId) -> bool
+    ensures has { IsTrue result → (p : Node A) × (nodes_of parts.now parent ≡ Some p) × In node p.kids }
+    ensures lacks { result ≡ false → (p : Node A) → nodes_of parts.now parent ≡ Some p → In node p.kids → ⊥ }
+{
+    match parts.get(parent) {
+        Some(_) => is_among(parts.kids(parent), node),
+        None => false,
+    }
+}
+
+/// Whether the node is among these.
+fn is_among(kids: &[NodeId], node: NodeId) -> bool
+    ensures { IsTrue result ↔ Contains kids.now node }
+{
+    kids.contains(&node)
+}
+
+/// Removes the node if it is loose, and notes its children.
+fn sweep<A: Kept>(parts: &mut Parts<A>, root: NodeId, node: NodeId, store: &mut A::Store)
+    requires places { length parts.old.notes + live_slots parts.old.slots ≤ parts.old.places }
+    requires made { AreMade A.run_at A.Holds store.old (answers (nodes_of parts.old) (changes_of parts.old)) }
+    ensures swept { (left : List ℕ) (first : Nodes A) (before : List (Change A)) → IsSound root before first
+        → IsSwept first root (nodes_of parts.old) (changes_of parts.old) (node ∷ left)
+        → IsSwept first root (nodes_of parts.new) (changes_of parts.new) left }
+    ensures keeps { KeepsPlaces parts.old parts.new }
+    ensures made { AreMade A.run_at A.Holds store.new (answers (nodes_of parts.new) (changes_of parts.new)) }
+    ensures freed { Follows A.run_at A.Holds (answers (nodes_of parts.old) (changes_of parts.old)) store.old
+        (answers (nodes_of parts.new) (changes_of parts.new)) store.new }
+{
+    if node != root && is_loose(parts, node) {
+        parts.remove(node, store);
+    }
+}
+
+/// Sweeps the children in hand.
+fn sweep_hand<A: Kept>(parts: &mut Parts<A>, root: NodeId, store: &mut A::Store)
+    requires places { length parts.old.notes + live_slots parts.old.slots ≤ parts.old.places }
+    requires made { AreMade A.run_at A.Holds store.old (answers (nodes_of parts.old) (changes_of parts.old)) }
+    ensures swept { SweepsLeft root parts.old parts.new parts.old.hand }
+    ensures keeps { KeepsPlaces parts.old parts.new }
+    ensures made { AreMade A.run_at A.Holds store.new (answers (nodes_of parts.new) (changes_of parts.new)) }
+    ensures freed { Follows A.run_at A.Holds (answers (nodes_of parts.old) (changes_of parts.old)) store.old
+        (answers (nodes_of parts.new) (changes_of parts.new)) store.new }
+{
+    for place in 0..parts.in_hand().len() {
+        let kid = parts.in_hand()[place];
+        sweep(parts, root, kid, store);
+    }
+}
+
+/// Sweeps the nodes that a change names.
+fn sweep_looked<A: Kept>(parts: &mut Parts<A>, root: NodeId, look: Look, store: &mut A::Store)
+    requires places { length parts.old.notes + live_slots parts.old.slots ≤ parts.old.places }
+    requires made { AreMade A.run_at A.Holds store.old (answers (nodes_of parts.old) (changes_of parts.old)) }
+    ensures swept { SweepsLeft root parts.old parts.new (named_by look parts.old.hand) }
+    ensures keeps { KeepsPlaces parts.old parts.new }
+    ensures made { AreMade A.run_at A.Holds store.new (answers (nodes_of parts.new) (changes_of parts.new)) }
+    ensures freed { Follows A.run_at A.Holds (answers (nodes_of parts.old) (changes_of parts.old)) store.old
+        (answers (nodes_of parts.new) (changes_of parts.new)) store.new }
+{
+    match look {
+        Look::Node(node) => sweep(parts, root, node, store),
+        Look::Hand => sweep_hand(parts, root, store),
+        Look::Nothing => {}
+    }
+}
+
+/// Removes each node that is not reached from the root.
+pub(crate) fn sweep_all<A: Kept>(parts: &mut Parts<A>, root: NodeId, store: &mut A::Store)
+    requires places { length parts.old.notes + live_slots parts.old.slots ≤ parts.old.places }
+    requires sound { IsSound root (changes_of parts.old) (nodes_of parts.old) }
+    requires made { AreMade A.run_at A.Holds store.old (answers (nodes_of parts.old) (changes_of parts.old)) }
+    ensures swept { IsSwept (nodes_of parts.old) root (nodes_of parts.new) [] [] }
+    ensures empty { changes_of parts.new ≡ [] }
+    ensures short { length parts.new.notes ≡ 0 }
+    ensures live { live_slots parts.new.slots ≤ live_slots parts.old.slots }
+    ensures room { KeepsRoom parts.old parts.new }
+    ensures made { AreMade A.run_at A.Holds store.new (answers (nodes_of parts.new) (changes_of parts.new)) }
+    ensures freed { Follows A.run_at A.Holds (answers (nodes_of parts.old) (changes_of parts.old)) store.old
+        (answers (nodes_of parts.new) (changes_of parts.new)) store.new }
+{
+    while let Some(look) = parts.take_last(store) {
+        sweep_looked(parts, root, look, store);
+    }
+    parts.put_down();
+}

@@ -1,0 +1,5 @@
+pub mod Coming
+pub mod Refusals
+pub mod Parts
+pub mod Calls
+pub mod Ways

@@ -1,0 +1,78 @@
+-- The image of one symbol of the level, as it is kept until its symbols are asked for.
+use Rattle.std.specs.Prelude.{◌≡◌, ℕ, ℤ, Bool, false, Option, Some, None, List, [], ◌∷◌, Result, Ok, Err, map, if◌then◌else◌}
+use denote.Ref.{Bor}
+use Rattle.lsys_syntax.specs.Strings as S
+use Rattle.lsys_spec.specs.Systems.{Homomorphism}
+use Rattle.lsys_spec.specs.Values as V
+use Rattle.lsys_spec.specs.Values.{Arith, judged}
+use Rattle.lsys_spec.specs.Bodies.{body_of}
+use Rattle.lsys_spec.specs.Levels.{ModuleValue}
+use Rattle.lsys_spec.specs.Meaning.{filled}
+use Rattle.lsys_spec.specs.Images as meaning
+use Rattle.lsys_spec.specs.Images.{for_module}
+use Rattle.lsys_expr.specs.Answers.{arith_of}
+use Rattle.lsys_expr.specs.declared.arith.Arith as code
+use Rattle.lsys_module.specs.Views.{module_name, symbol_of}
+use Rattle.lsys_module.specs.declared.symbol.Symbol.{Symbol}
+use Rattle.lsys_bodies.specs.Limits.{HaveFewParams}
+use Rattle.lsys_bodies.specs.Views.{template_of, template_symbol, written}
+use Rattle.lsys_bodies.specs.declared.body.Body.{Body}
+use Rattle.lsys_hom.specs.Refusals.{refusal_of}
+use Rattle.lsys_hom.specs.declared.refusal.ImageRefusal.{ImageRefusal}
+use Rattle.lsys_hom.specs.declared.part.Part.{Part}
+use Rattle.lsys_hom.specs.declared.part.Part.TheVariants.{Nothing, Single, Successor}
+
+-- 1. the rule of a module
+
+abbrev pub module_with : List ℕ → List ℤ → ModuleValue
+module_with name params = record { name = module_name name; params = params }
+
+-- the rule is for the module, and its condition holds
+abbrev pub applies : ModuleValue → Homomorphism → Result Bool Arith
+applies m h = if for_module m h then judged (body_of h.rule).condition m.params else Ok false
+
+-- what the module becomes by the rule that was found for it, or without one
+abbrev pub image_by : ModuleValue → Result (Option (Bor Body)) code.Arith → Result (List (S.Symbol ℤ)) Arith
+image_by m (Ok None) = Ok (S.Module m.name m.params ∷ [])
+image_by m (Ok (Some b)) = filled (body_of (written b.now)).successor m.params
+image_by m (Err e) = Err (arith_of e)
+
+-- the fault alone
+abbrev pub fault_in : {A : Type 0} → Result A Arith → Result (Unit {0}) Arith
+fault_in (Ok a) = Ok tt
+fault_in (Err e) = Err e
+
+-- 2. what is left of the image of one symbol
+
+abbrev pub or_none : {A E : Type 0} → Result (List A) E → List A
+or_none (Ok xs) = xs
+or_none (Err e) = []
+
+abbrev pub symbols_of : Part → List (S.Symbol ℤ)
+symbols_of Nothing = []
+symbols_of (Single s) = symbol_of s ∷ []
+symbols_of (Successor templates params) = or_none (filled (map template_of templates.now) params.now)
+
+-- no template has a fault
+pub record AreFilled (templates : List (S.Symbol V.Tree)) (params : List ℤ) : Type 0 where
+  pub is : filled templates params ≡ Ok (or_none (filled templates params))
+
+abbrev pub IsSound : Part → Type 0
+IsSound Nothing = Unit {0}
+IsSound (Single s) = Unit {0}
+IsSound (Successor templates params) = AreFilled (map template_of templates.now) params.now × HaveFewParams (map template_symbol templates.now)
+
+-- the image of a module, kept
+abbrev pub IsImage : Result (List (S.Symbol ℤ)) Arith → Result Part code.Arith → Type 0
+IsImage r (Ok part) = (r ≡ Ok (symbols_of part)) × IsSound part
+IsImage r (Err e) = r ≡ Err (arith_of e)
+
+-- the image of a symbol, kept
+abbrev pub IsPart : Result (List (S.Symbol ℤ)) meaning.ImageRefusal → Result Part ImageRefusal → Type 0
+IsPart r (Ok part) = (r ≡ Ok (symbols_of part)) × IsSound part
+IsPart r (Err e) = r ≡ Err (refusal_of e)
+
+-- the first of the symbols is taken, where there is one
+abbrev pub IsTaken : List (S.Symbol ℤ) → List (S.Symbol ℤ) → Option Symbol → Type 0
+IsTaken old new (Some s) = old ≡ symbol_of s ∷ new
+IsTaken old new None = (old ≡ []) × (new ≡ [])

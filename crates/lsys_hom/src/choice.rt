@@ -1,0 +1,50 @@
+//! Which rule a module's image is made by.
+ghost use Rattle.std.specs.Prelude.{◌≡◌, map};
+ghost use Rattle.lsys_spec.specs.Images.{image_of};
+ghost use Rattle.lsys_spec.specs.Systems.{same_name};
+ghost use Rattle.lsys_expr.specs.Answers.{answer_of};
+ghost use Rattle.lsys_module.specs.Views.{module_name};
+ghost use Rattle.lsys_bodies.specs.Views.{homomorphism_of};
+ghost use Rattle.lsys_hom.specs.Parts.{applies, image_by, module_with};
+
+use lsys_bodies::{HomRule, SharedBody};
+use lsys_expr::{Arith, holds};
+use lsys_text::Name;
+
+/// The body of the first rule that is for the module and whose condition holds. The conditions of later ones aren't tried.
+pub(crate) fn body_for<'a>(
+    rules: &'a [HomRule],
+    name: Name,
+    params: &[i64],
+) -> Result<Option<&'a SharedBody>, Arith>
+    ensures { let m = module_with name params.now in
+        image_of (map homomorphism_of rules.now) m ≡ image_by m result }
+{
+    for rule in rules {
+        if applies(rule, name, params)? {
+            return Ok(Some(&rule.body));
+        }
+    }
+    Ok(None)
+}
+
+/// Whether the rule is for the module and its condition holds.
+fn applies(rule: &HomRule, name: Name, params: &[i64]) -> Result<bool, Arith>
+    ensures { answer_of result ≡ applies (module_with name params.now) (homomorphism_of rule.now) }
+{
+    let predecessor = rule.body.predecessor();
+    if !is_named(predecessor.name, name) || predecessor.arity() != params.len() {
+        return Ok(false);
+    }
+    match rule.body.condition() {
+        None => Ok(true),
+        Some(condition) => holds(condition, params),
+    }
+}
+
+/// The two names are the same.
+fn is_named(one: Name, other: Name) -> bool
+    ensures { result ≡ same_name (module_name one) (module_name other) }
+{
+    one == other
+}

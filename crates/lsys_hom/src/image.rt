@@ -1,0 +1,73 @@
+//! The image of a level.
+ghost use Rattle.std.specs.Prelude.{◌≡◌, ◌<◌, ◌≤◌, ℕ, List, length};
+ghost use Rattle.lsys_level.specs.Spots.{level_at, level_by};
+ghost use Rattle.lsys_hom.specs.Calls.{IsNext};
+ghost use Rattle.lsys_hom.specs.Coming.{coming};
+
+use crate::part::Part;
+use crate::refusal::ImageRefusal;
+use crate::walk::Walk;
+use lsys_level::LevelView;
+use lsys_module::Symbol;
+use lsys_rules::System;
+use std::marker::Model;
+
+/// The image of a level, told one symbol at a time: each module is replaced once by the successor of the first rule of the
+/// homomorphism that is for it and whose condition holds, and stays where there is none; brackets stay. It takes no memory,
+/// and keeps its place in the level and the rest of one successor. Contracts see what is still to come.
+#[derive(Drop)]
+pub struct Image<'a, W: LevelView> {
+    walk: Walk<'a, W>,
+    part: Part<'a>,
+}
+
+impl<'a, W: LevelView> Model for Image<'a, W> {
+    ghost use Rattle.lsys_hom.specs.Coming.{Coming};
+    ghost use Rattle.lsys_hom.specs.Parts.{IsSound};
+    ghost use Rattle.lsys_hom.specs.Ways.{with_part};
+
+    ghost Value = { Coming };
+
+    ghost view = { λ a. with_part a.part a.walk.coming };
+
+    ghost invariant = { λ a. IsSound a.part };
+}
+
+impl<'a, W: LevelView> Image<'a, W> {
+    /// The image of a level at its start. A level has at most `u32::MAX` symbols, as each level within a limit has.
+    pub fn new(view: &'a W, system: &'a System, level: u32) -> Image<'a, W>
+        requires level { level < length (W.levels view.now) }
+        requires few { length (level_at (W.levels view.now) level) ≤ u32.MAX }
+        ensures { (naming : ℕ → List ℕ) →
+            result ≡ coming system.now (level_by naming (level_at (W.levels view.now) level)) }
+    {
+        Image {
+            walk: Walk::new(view, system.hom_rules(), level),
+            part: Part::Nothing,
+        }
+    }
+
+    /// The next symbol; None at the end and from then on.
+    ///
+    /// A step takes a time that depends neither on the level's length nor on the image's, but for modules whose image is
+    /// empty, which are passed on the way.
+    ///
+    /// # Errors
+    ///
+    /// The image's refusal, in place of the first symbol of the module or of the bracket that refuses it, and from then on.
+    pub fn next(&mut self) -> Result<Option<Symbol>, ImageRefusal>
+        ensures { IsNext self.old self.new result }
+    {
+        if let Some(symbol) = self.part.next() {
+            return Ok(Some(symbol));
+        }
+        match self.walk.next_part() {
+            Err(refusal) => Err(refusal),
+            Ok(None) => Ok(None),
+            Ok(Some(part)) => {
+                self.part = part;
+                Ok(self.part.next())
+            }
+        }
+    }
+}

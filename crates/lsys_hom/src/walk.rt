@@ -1,0 +1,159 @@
+//! The way along a level.
+ghost use Rattle.std.specs.Prelude.{◌≡◌, ◌<◌, ◌≤◌, ◌+◌, [], map, length};
+ghost use Rattle.lsys_syntax.specs.Limits.{most_image_symbols};
+ghost use Rattle.lsys_bodies.specs.Views.{homomorphism_of};
+ghost use Rattle.lsys_level.specs.Views.{HasFewParams, seen_of};
+ghost use Rattle.lsys_level.specs.Spots.{level_at, with_lineage};
+ghost use Rattle.lsys_hom.specs.Coming.{coming_from, modules_behind, symbol_image};
+ghost use Rattle.lsys_hom.specs.Parts.{IsPart};
+ghost use Rattle.lsys_hom.specs.Ways.{AreSound, IsFound, IsPassed, bare, is_empty};
+
+use crate::part::Part;
+use crate::refusal::ImageRefusal;
+use lsys_bodies::HomRule;
+use lsys_level::{LevelView, Sight};
+use lsys_module::Symbol;
+use std::marker::Model;
+
+/// The greatest number of symbols that an image may have.
+const MOST_SYMBOLS: u32 = 1_000_000;
+
+/// The way along a level, from left to right.
+#[derive(Drop)]
+pub(crate) struct Walk<'a, W: LevelView> {
+    view: &'a W,
+    rules: &'a [HomRule],
+    /// Where the next symbol stands.
+    spot: Option<W::Spot>,
+    /// How many modules of the level stand before it.
+    modules: u32,
+    /// How many symbols their images and those of the brackets have.
+    symbols: u32,
+}
+
+impl<'a, W: LevelView> Model for Walk<'a, W> {
+    ghost use Rattle.std.specs.Prelude.{map};
+    ghost use Rattle.lsys_bodies.specs.Views.{homomorphism_of};
+    ghost use Rattle.lsys_hom.specs.Ways.{Way, IsWithin, at, way_from};
+
+    ghost Value = { Way };
+
+    ghost view = { λ a. way_from (map homomorphism_of a.rules.now) a.modules a.symbols (W.levels a.view.now)
+        (at (W.level_of a.view.now) (W.place_of a.view.now) a.spot) };
+
+    ghost invariant = { λ a. IsWithin a.modules a.symbols (W.levels a.view.now)
+        (at (W.level_of a.view.now) (W.place_of a.view.now) a.spot) };
+}
+
+impl<'a, W: LevelView> Walk<'a, W> {
+    /// At the left end of a level.
+    pub(crate) fn new(view: &'a W, rules: &'a [HomRule], level: u32) -> Walk<'a, W>
+        requires level { level < length (W.levels view.now) }
+        requires few { length (level_at (W.levels view.now) level) ≤ u32.MAX }
+        ensures { result.coming ≡ coming_from (map homomorphism_of rules.now) 0 0
+            (bare (level_at (W.levels view.now) level)) }
+    {
+        Walk {
+            view,
+            rules,
+            spot: view.first(level),
+            modules: 0,
+            symbols: 0,
+        }
+    }
+
+    /// Passes symbols of the level up to one whose image isn't empty, and tells it; None at the level's end.
+    ///
+    /// # Errors
+    ///
+    /// The refusal of the symbol that is next. It isn't passed.
+    pub(crate) fn next_part(&mut self) -> Result<Option<Part<'a>>, ImageRefusal>
+        ensures { IsFound self.old.coming self.new.coming result }
+    {
+        loop {
+            let passed = self.pass();
+            if !is_empty(&passed) {
+                return passed;
+            }
+        }
+    }
+
+    /// Passes one symbol of the level, and tells its image; None at the level's end.
+    fn pass(&mut self) -> Result<Option<Part<'a>>, ImageRefusal>
+        ensures { IsPassed self.old self.new result }
+    {
+        let Some(spot) = self.spot else {
+            return Ok(None);
+        };
+        let view = self.view;
+        let sight = view.sight(spot);
+        let modules = modules_behind(self.modules, &sight);
+        match part_of(self.rules, sight, self.modules, self.symbols) {
+            Err(refusal) => Err(refusal),
+            Ok(part) => {
+                self.spot = view.right(spot);
+                self.modules = modules;
+                self.symbols += part.len() as u32;
+                Ok(Some(part))
+            }
+        }
+    }
+}
+
+/// A symbol of the level was passed whose image is empty.
+fn is_empty(passed: &Result<Option<Part<'_>>, ImageRefusal>) -> bool
+    requires { AreSound passed.now }
+    ensures { result ≡ is_empty passed.now }
+{
+    match passed {
+        Ok(Some(part)) => part.len() == 0,
+        _ => false,
+    }
+}
+
+/// How many modules there are up to a symbol, where so many stand before it.
+fn modules_behind(modules: u32, sight: &Sight<'_>) -> u32
+    requires { modules < u32.MAX }
+    ensures { result ≡ modules_behind modules (with_lineage [] (seen_of sight.now)) }
+{
+    match sight {
+        Sight::Module { .. } => modules + 1,
+        _ => modules,
+    }
+}
+
+/// The image of a symbol of the level, where so many modules of the level and so many symbols of the image stand before.
+///
+/// # Errors
+///
+/// The module's fault, or the limit, which comes behind it.
+pub(crate) fn part_of<'a>(
+    rules: &'a [HomRule],
+    sight: Sight<'a>,
+    modules: u32,
+    symbols: u32,
+) -> Result<Part<'a>, ImageRefusal>
+    requires few { HasFewParams sight }
+    requires modules { modules < u32.MAX }
+    requires symbols { symbols ≤ most_image_symbols }
+    ensures { let s = with_lineage [] (seen_of sight.entry) in
+        IsPart (symbol_image (map homomorphism_of rules.now) modules symbols s) result }
+{
+    let part = match sight {
+        Sight::Push => Part::Single(Symbol::Push),
+        Sight::Pop => Part::Single(Symbol::Pop),
+        Sight::Module { name, params } => match Part::of_module(rules, name, params) {
+            Ok(part) => part,
+            Err(kind) => {
+                return Err(ImageRefusal::Arith {
+                    kind,
+                    module: modules + 1,
+                });
+            }
+        },
+    };
+    if part.len() > (MOST_SYMBOLS - symbols) as usize {
+        return Err(ImageRefusal::Limit);
+    }
+    Ok(part)
+}

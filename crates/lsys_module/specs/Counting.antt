@@ -1,0 +1,53 @@
+-- Tokens that are a string, counted one after another.
+use Rattle.std.specs.Prelude.{◌≡◌, ℕ, ◌+◌, nat_le, length, Option, Some, None, if◌then◌else◌}
+use Rattle.lsys_syntax.specs.Limits.{most_params, most_axiom_symbols}
+use Rattle.lsys_syntax.specs.Commands.{set_axiom}
+use Rattle.lsys_syntax.specs.LineMachine.{Verdict, sentence}
+use Rattle.lsys_syntax.specs.Checks.{axiom_many}
+use Rattle.lsys_module.specs.declared.glyph.Glyph.{Glyph}
+use Rattle.lsys_module.specs.declared.glyph.Glyph.TheVariants as glyphs
+use Rattle.lsys_module.specs.declared.limits.Counter.{Counter}
+use Rattle.lsys_module.specs.declared.limits.Spot.{Spot}
+use Rattle.lsys_module.specs.declared.limits.Spot.TheVariants.{Outside, BehindName, ParamDue, InParam}
+use Rattle.lsys_module.specs.Building.{Draft, whole, named, number_due, minus_read, number_read}
+
+-- the token at which the string that a verdict tells passes a limit
+abbrev pub IsPlaced : ℕ → Verdict → Option ℕ → Type 0
+IsPlaced from (sentence (set_axiom xs)) place = place ≡ axiom_many from xs
+IsPlaced from v place = ⊥
+
+abbrev pub with_spot : Spot → Counter → Counter
+with_spot spot c = record c { spot = spot }
+
+-- behind a symbol's first token
+abbrev pub spot_behind : Glyph → Spot
+spot_behind glyphs.Name = BehindName
+spot_behind glyphs.Minus = BehindName
+spot_behind g = Outside
+
+abbrev pub with_symbol : Spot → Counter → Option Counter
+with_symbol spot c = if nat_le most_axiom_symbols c.symbols then None else Some (record { spot = spot; symbols = c.symbols + 1; params = 0 })
+
+abbrev pub with_param : Counter → Option Counter
+with_param c = if nat_le most_params c.params then None else Some (record { spot = InParam; symbols = c.symbols; params = c.params + 1 })
+
+abbrev pub spot_counted : Spot → Counter → Glyph → Option Counter
+spot_counted Outside c g = with_symbol (spot_behind g) c
+spot_counted BehindName c glyphs.Open = Some (with_spot ParamDue c)
+spot_counted BehindName c g = with_symbol (spot_behind g) c
+spot_counted ParamDue c g = with_param c
+spot_counted InParam c glyphs.Comma = Some (with_spot ParamDue c)
+spot_counted InParam c glyphs.Close = Some (with_spot Outside c)
+spot_counted InParam c g = Some c
+
+-- one more token, or None where it is one too many
+abbrev pub counter_step : Counter → Glyph → Option Counter
+counter_step c g = spot_counted c.spot c g
+
+-- the count of what was read
+abbrev pub Counts : Draft → Counter → Type 0
+Counts (whole ys) c = (c.spot ≡ Outside) × (c.symbols ≡ length ys)
+Counts (named ys n) c = (c.spot ≡ BehindName) × (c.symbols ≡ length ys + 1) × (c.params ≡ 0)
+Counts (number_due ys n zs) c = (c.spot ≡ ParamDue) × (c.symbols ≡ length ys + 1) × (c.params ≡ length zs)
+Counts (minus_read ys n zs) c = (c.spot ≡ InParam) × (c.symbols ≡ length ys + 1) × (c.params ≡ length zs + 1)
+Counts (number_read ys n zs) c = (c.spot ≡ InParam) × (c.symbols ≡ length ys + 1) × (c.params ≡ length zs)

@@ -1,0 +1,113 @@
+//! At which token a string passes a limit.
+ghost use Rattle.std.specs.Prelude.{◌≡◌, ◌≤◌, length};
+ghost use Rattle.lsys_syntax.specs.Sentences.{AreTokens};
+ghost use Rattle.lsys_text.specs.Tokens.{kinds_of};
+ghost use Rattle.lsys_module.specs.Scanning.{string_verdict, IsString};
+ghost use Rattle.lsys_module.specs.Counting.{IsPlaced, counter_step, with_spot, with_symbol, with_param, spot_behind};
+
+use crate::build::{MOST_PARAMS, MOST_SYMBOLS};
+use crate::glyph::Glyph;
+use lsys_text::Token;
+
+/// The token at which a string passes a limit: the first one of the first symbol past 4,096, or of the first parameter of
+/// a module past 8, whichever stands first. `scan_string` has found that the tokens from a place on are a string. It takes
+/// no memory.
+pub fn first_many(tokens: &[Token], from: usize) -> Option<usize>
+    requires place { from ≤ length tokens.now }
+    requires forms { AreTokens (kinds_of tokens.now) }
+    requires scanned { IsString (string_verdict from tokens.now) }
+    ensures { IsPlaced from (string_verdict from tokens.now) result }
+{
+    let mut counter = Counter {
+        spot: Spot::Outside,
+        symbols: 0,
+        params: 0,
+    };
+    for place in from..tokens.len() {
+        let token = tokens[place];
+        match counter.behind(Glyph::of(token.kind)) {
+            Some(next) => counter = next,
+            None => return Some(place),
+        }
+    }
+    None
+}
+
+/// Where the next token stands.
+#[derive(Clone, Copy)]
+pub(crate) enum Spot {
+    /// Outside of parentheses, where none begin.
+    Outside,
+    /// Behind a name, where they may begin.
+    BehindName,
+    /// In parentheses, where a parameter begins.
+    ParamDue,
+    /// In parentheses, behind the first token of a parameter.
+    InParam,
+}
+
+/// What was counted of a string: its symbols, and the parameters of the last one.
+#[derive(Clone, Copy)]
+pub(crate) struct Counter {
+    pub(crate) spot: Spot,
+    pub(crate) symbols: usize,
+    pub(crate) params: usize,
+}
+
+impl Counter {
+    // The count behind one more token, or None where that token is one too many.
+    fn behind(self, glyph: Glyph) -> Option<Counter>
+        ensures { result ≡ counter_step self glyph }
+    {
+        match (self.spot, glyph) {
+            (Spot::BehindName, Glyph::Open) => Some(self.with_spot(Spot::ParamDue)),
+            (Spot::BehindName | Spot::Outside, _) => self.with_symbol(spot_behind(glyph)),
+            (Spot::ParamDue, _) => self.with_param(),
+            (Spot::InParam, Glyph::Comma) => Some(self.with_spot(Spot::ParamDue)),
+            (Spot::InParam, Glyph::Close) => Some(self.with_spot(Spot::Outside)),
+            (Spot::InParam, _) => Some(self),
+        }
+    }
+
+    fn with_spot(self, spot: Spot) -> Counter
+        ensures { result ≡ with_spot spot self }
+    {
+        Counter { spot, ..self }
+    }
+
+    fn with_symbol(self, spot: Spot) -> Option<Counter>
+        ensures { result ≡ with_symbol spot self }
+    {
+        if self.symbols >= MOST_SYMBOLS {
+            return None;
+        }
+        Some(Counter {
+            spot,
+            symbols: self.symbols + 1,
+            params: 0,
+        })
+    }
+
+    fn with_param(self) -> Option<Counter>
+        ensures { result ≡ with_param self }
+    {
+        if self.params >= MOST_PARAMS {
+            return None;
+        }
+        Some(Counter {
+            spot: Spot::InParam,
+            symbols: self.symbols,
+            params: self.params + 1,
+        })
+    }
+}
+
+// Behind a symbol's first token outside of parentheses.
+fn spot_behind(glyph: Glyph) -> Spot
+    ensures { result ≡ spot_behind glyph }
+{
+    match glyph {
+        Glyph::Name | Glyph::Minus => Spot::BehindName,
+        _ => Spot::Outside,
+    }
+}

@@ -1,0 +1,46 @@
+-- Cuts of strings whose symbols have no lineages.
+use Rattle.std.specs.Prelude.{◌≡◌, ℕ, zero, suc, ℤ, Bool, true, false, Option, Some, None, List, [], ◌∷◌, map}
+use Rattle.lsys_syntax.specs.Strings as S
+use Rattle.lsys_spec.specs.Levels.{plain}
+use Rattle.lsys_spec.specs.Cuts.{Raw, Plain, Percent}
+use Rattle.lsys_module.specs.declared.symbol.Symbol.{Symbol}
+use Rattle.lsys_module.specs.Views.{string_of}
+
+-- a symbol, without its lineage
+abbrev pub raw_plain : Raw → S.Symbol ℤ
+raw_plain (Plain s) = plain s
+raw_plain (Percent l) = S.Cut
+
+-- symbols with lineages are these symbols
+abbrev pub AreOf : List Raw → List Symbol → Type 0
+AreOf x symbols = map raw_plain x ≡ string_of symbols
+
+-- the items whose places are marked, in order
+abbrev pub marked : {A : Type 0} → List Bool → List A → List A
+marked (true ∷ bs) (x ∷ xs) = x ∷ marked bs xs
+marked (false ∷ bs) (x ∷ xs) = marked bs xs
+marked [] xs = []
+marked (b ∷ bs) [] = []
+
+-- Symbol by symbol: where a branch is being cut off, the number of branches that are open in what is cut off.
+
+-- whether the next symbol stays
+abbrev pub stays : Option ℕ → S.Symbol ℤ → Bool
+stays None S.Cut = false
+stays None s = true
+stays (Some zero) S.Pop = true
+stays (Some n) s = false
+
+-- behind it
+abbrev pub cutting_behind : Option ℕ → S.Symbol ℤ → Option ℕ
+cutting_behind None S.Cut = Some 0
+cutting_behind None s = None
+cutting_behind (Some n) S.Push = Some (suc n)
+cutting_behind (Some zero) S.Pop = None
+cutting_behind (Some (suc n)) S.Pop = Some n
+cutting_behind (Some n) s = Some n
+
+-- the marks of the symbols that stay
+abbrev pub marks_from : Option ℕ → List (S.Symbol ℤ) → List Bool
+marks_from cutting [] = []
+marks_from cutting (s ∷ xs) = stays cutting s ∷ marks_from (cutting_behind cutting s) xs

@@ -1,0 +1,60 @@
+//! Cuts.
+ghost use Rattle.std.specs.Prelude.{◌≡◌, ◌<◌, ℕ, List, false, not, length, map, IfSome, slice_index_or};
+ghost use Rattle.lsys_spec.specs.Levels.{plain};
+ghost use Rattle.lsys_spec.specs.Cuts as meaning;
+ghost use Rattle.lsys_spec.specs.Cuts.{Raw, is_cut_off};
+ghost use Rattle.lsys_module.specs.Views.{string_of, symbol_of};
+ghost use Rattle.lsys_rewrite.specs.Cutting.{AreOf, cutting_behind, marked, stays};
+
+use lsys_module::{Symbol, SymbolList};
+
+/// Takes each `%` out of a string, and all that follows it in its branch (ABOP chapter 3). The bracket that ends the
+/// branch stays.
+///
+/// `kept` has a place for each symbol, which becomes true where the symbol stays. The string is read once, and no memory
+/// is taken.
+pub fn cut(symbols: &mut SymbolList, kept: &mut [bool])
+    requires places { length kept.old ≡ length symbols.old }
+    ensures kept { (x : List Raw) → AreOf x symbols.old → (p : ℕ) → p < length symbols.old
+        → slice_index_or kept.new p false ≡ not (is_cut_off x p) }
+    ensures left { symbols.new ≡ marked kept.new symbols.old }
+    ensures cut { (x : List Raw) → AreOf x symbols.old → map plain (meaning.cut x) ≡ string_of symbols.new }
+{
+    let mut len = 0;
+    let mut cutting = None;
+    for place in 0..symbols.len() {
+        let symbol = symbols.symbols()[place];
+        let is_kept = stays(cutting, &symbol);
+        cutting = cutting_behind(cutting, &symbol);
+        kept[place] = is_kept;
+        if is_kept {
+            symbols.set(len, symbol);
+            len += 1;
+        }
+    }
+    symbols.truncate(len);
+}
+
+// Whether a symbol stays, where a branch is being cut off in which so many others are open, or none is.
+fn stays(cutting: Option<usize>, symbol: &Symbol) -> bool
+    ensures { result ≡ stays cutting (symbol_of symbol.now) }
+{
+    match (cutting, symbol) {
+        (None, symbol) => !matches!(symbol, Symbol::Cut),
+        (Some(0), Symbol::Pop) => true,
+        _ => false,
+    }
+}
+
+// The same, behind the symbol.
+fn cutting_behind(cutting: Option<usize>, symbol: &Symbol) -> Option<usize>
+    requires { IfSome cutting (λ branches. branches < usize.MAX) }
+    ensures { result ≡ cutting_behind cutting (symbol_of symbol.now) }
+{
+    match (cutting, symbol) {
+        (None, Symbol::Cut) => Some(0),
+        (Some(branches), Symbol::Push) => Some(branches + 1),
+        (Some(branches), Symbol::Pop) => branches.checked_sub(1),
+        (cutting, _) => cutting,
+    }
+}

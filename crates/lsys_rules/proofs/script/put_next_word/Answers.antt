@@ -1,0 +1,5 @@
+use Rattle.lsys_io.proofs.Puts.{puts_then}
+use Rattle.lsys_rules.proofs.script.put_next_word.Goals as goal
+
+pub returns : goal.returns
+returns g c = puts_then c.in_ok-put.ensures (c.put_word.ensures)

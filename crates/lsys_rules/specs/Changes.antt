@@ -1,0 +1,19 @@
+-- What the edits of a system change.
+use Rattle.std.specs.Prelude.{Bool, List, [], ◌∷◌, ◌++◌, if◌then◌else◌}
+use Rattle.lsys_syntax.specs.Strings.{ModuleName}
+use Rattle.lsys_reading.specs.declared.parts.Parts.{Parts}
+use Rattle.lsys_reading.specs.declared.parts.Parts.TheVariants.{Axiom, Production, Drop, Ignore, Schedule, Homomorphism}
+
+-- an edit of a number or of the lattice, or a query
+abbrev pub IsPlainEdit : Parts → Type 0
+IsPlainEdit Axiom = ⊥
+IsPlainEdit (Production l) = ⊥
+IsPlainEdit (Drop l) = ⊥
+IsPlainEdit (Ignore ns) = ⊥
+IsPlainEdit (Schedule ws) = ⊥
+IsPlainEdit (Homomorphism l) = ⊥
+IsPlainEdit p = Unit {0}
+
+-- a name more, unless it stands there
+abbrev pub with_name : Bool → List ModuleName → ModuleName → List ModuleName
+with_name b names n = if b then names else names ++ n ∷ []

@@ -1,0 +1,196 @@
+//! What an edit that nothing refuses makes of a system.
+ghost use Rattle.std.specs.Prelude.{◌≡◌, ◌≤◌, ℕ, None, [], List, IfOk, OnOk, length, map};
+ghost use Rattle.lsys_syntax.specs.Limits.{most_depth};
+ghost use Rattle.lsys_syntax.specs.Checks.{axiom_many};
+ghost use Rattle.lsys_syntax.specs.Commands.{drop_rule, put_homomorphism, put_production, set_axiom, set_ignored, set_schedule};
+ghost use Rattle.lsys_syntax.specs.LineMachine.{sentence};
+ghost use Rattle.lsys_syntax.specs.Tokens.{Kind};
+ghost use Rattle.lsys_syntax.specs.Sentences.{AreTokens};
+ghost use Rattle.lsys_spec.specs.Edits.{changed, once, refusal, values_of};
+ghost use Rattle.lsys_spec.specs.Meaning.{ignores};
+ghost use Rattle.lsys_text.specs.Tokens.{kinds_of};
+ghost use Rattle.lsys_module.specs.Building.{AreOfLine};
+ghost use Rattle.lsys_module.specs.Views.{module_name, string_of};
+ghost use Rattle.lsys_reading.specs.Commands.{axiom_verdict, parts_command, string_in};
+ghost use Rattle.lsys_reading.specs.Parted.{command_of, IsParted};
+ghost use Rattle.lsys_reading.specs.RuleLines.{IsRuleLine, rule_at};
+ghost use Rattle.lsys_bodies.specs.Building.{CanBuild};
+ghost use Rattle.lsys_rules.specs.Changes.{IsPlainEdit, with_name};
+ghost use Rattle.lsys_rules.specs.Systems.{system_of};
+
+use crate::names::is_among;
+use crate::parts::SystemParts;
+use lsys_bodies::{build_hom_rule, build_rule};
+use lsys_module::{StringRefusal, SymbolList, build_string};
+use lsys_reading::{LabeledRule, Parts};
+use lsys_text::{Name, Token, Word};
+use std::alloc::{AllocError, Global};
+
+// The parts after the command that a line's tokens spell; those after a query are equal to the old ones.
+pub(crate) fn changed(
+    alloc: Global,
+    parts: &SystemParts,
+    tokens: &[Token],
+    edit: &Parts,
+) -> Result<SystemParts, AllocError>
+    requires forms { AreTokens (kinds_of tokens.now) }
+    requires line { AreOfLine tokens.now }
+    requires parted { IsParted (kinds_of tokens.now) edit.now }
+    requires accepted { refusal (system_of parts.now) (command_of tokens.now) ≡ None }
+    ensures { IfOk result (λ next. system_of next ≡ changed (system_of parts.now) (command_of tokens.now)) }
+{
+    match edit {
+        Parts::Axiom => with_axiom(alloc, parts, tokens),
+        Parts::Production(labeled) => with_production(alloc, parts, tokens, labeled),
+        Parts::Drop(label) => without_rule(alloc, parts, *label),
+        Parts::Ignore(names) => with_ignored(alloc, parts, names),
+        Parts::Schedule(words) => with_schedule(alloc, parts, words),
+        Parts::Homomorphism(labeled) => with_hom_rule(alloc, parts, tokens, labeled),
+        other => with_plain(parts, other),
+    }
+}
+
+// Those after an edit of a number or of the lattice, or after a query.
+fn with_plain(parts: &SystemParts, edit: &Parts) -> Result<SystemParts, AllocError>
+    requires plain { IsPlainEdit edit.now }
+    requires depth { (n : ℕ) → edit.now ≡ Parts.Depth n → n ≤ most_depth }
+    ensures { (ks : List Kind) → IfOk result (λ next. system_of next ≡ changed (system_of parts.now) (parts_command ks edit.now)) }
+{
+    let mut next = parts.clone()?;
+    match edit {
+        Parts::Seed(seed) => next.seed = *seed,
+        Parts::Depth(depth) => next.depth = *depth as u32,
+        Parts::Lattice(lattice) => next.lattice = *lattice,
+        _ => (),
+    }
+    Ok(next)
+}
+
+fn with_axiom(
+    alloc: Global,
+    parts: &SystemParts,
+    tokens: &[Token],
+) -> Result<SystemParts, AllocError>
+    requires place { 1 ≤ length tokens.now }
+    requires forms { AreTokens (kinds_of tokens.now) }
+    requires line { AreOfLine tokens.now }
+    requires string { axiom_verdict (kinds_of tokens.now) ≡ sentence (set_axiom (string_in (axiom_verdict (kinds_of tokens.now)))) }
+    requires few { axiom_many 1 (string_in (axiom_verdict (kinds_of tokens.now))) ≡ None }
+    ensures { IfOk result (λ next. system_of next ≡ changed (system_of parts.now) (set_axiom (string_in (axiom_verdict (kinds_of tokens.now))))) }
+{
+    let axiom = built_string(alloc, tokens)?;
+    let mut next = parts.clone()?;
+    next.axiom = axiom;
+    Ok(next)
+}
+
+// The string behind an axiom's word.
+fn built_string(alloc: Global, tokens: &[Token]) -> Result<SymbolList, AllocError>
+    requires place { 1 ≤ length tokens.now }
+    requires forms { AreTokens (kinds_of tokens.now) }
+    requires line { AreOfLine tokens.now }
+    requires string { axiom_verdict (kinds_of tokens.now) ≡ sentence (set_axiom (string_in (axiom_verdict (kinds_of tokens.now)))) }
+    requires few { axiom_many 1 (string_in (axiom_verdict (kinds_of tokens.now))) ≡ None }
+    ensures { IfOk result (λ symbols. string_of symbols ≡ values_of (string_in (axiom_verdict (kinds_of tokens.now)))) }
+{
+    match build_string(alloc, tokens, 1) {
+        Ok(symbols) => Ok(symbols),
+        Err(StringRefusal::TooMany { column: _column }) => unreachable!(),
+        Err(StringRefusal::Memory) => Err(AllocError),
+    }
+}
+
+fn with_production(
+    alloc: Global,
+    parts: &SystemParts,
+    tokens: &[Token],
+    labeled: &LabeledRule,
+) -> Result<SystemParts, AllocError>
+    requires line { IsRuleLine (kinds_of tokens.now) labeled.now.rule }
+    requires checked { CanBuild (rule_at (kinds_of tokens.now) labeled.now.rule) }
+    ensures { IfOk result (λ next. system_of next
+        ≡ changed (system_of parts.now) (put_production labeled.now.table labeled.now.label (rule_at (kinds_of tokens.now) labeled.now.rule))) }
+{
+    let rule = build_rule(alloc, tokens, labeled)?;
+    let rules = parts.rules.with(alloc, rule)?;
+    let mut next = parts.clone()?;
+    next.rules = rules;
+    Ok(next)
+}
+
+fn with_hom_rule(
+    alloc: Global,
+    parts: &SystemParts,
+    tokens: &[Token],
+    labeled: &LabeledRule,
+) -> Result<SystemParts, AllocError>
+    requires line { IsRuleLine (kinds_of tokens.now) labeled.now.rule }
+    requires checked { CanBuild (rule_at (kinds_of tokens.now) labeled.now.rule) }
+    ensures { IfOk result (λ next. system_of next
+        ≡ changed (system_of parts.now) (put_homomorphism labeled.now.label (rule_at (kinds_of tokens.now) labeled.now.rule))) }
+{
+    let rule = build_hom_rule(alloc, tokens, labeled)?;
+    let homs = parts.homs.with(alloc, rule)?;
+    let mut next = parts.clone()?;
+    next.homs = homs;
+    Ok(next)
+}
+
+fn without_rule(alloc: Global, parts: &SystemParts, label: Word) -> Result<SystemParts, AllocError>
+    ensures { IfOk result (λ next. system_of next ≡ changed (system_of parts.now) (drop_rule label)) }
+{
+    let rules = parts.rules.without(alloc, label)?;
+    let homs = parts.homs.without(alloc, label)?;
+    let mut next = parts.clone()?;
+    next.rules = rules;
+    next.homs = homs;
+    Ok(next)
+}
+
+fn with_schedule(
+    alloc: Global,
+    parts: &SystemParts,
+    words: &[Word],
+) -> Result<SystemParts, AllocError>
+    ensures { IfOk result (λ next. system_of next ≡ changed (system_of parts.now) (set_schedule words.now)) }
+{
+    let schedule = Vec::from_slice(alloc, words)?;
+    let mut next = parts.clone()?;
+    next.schedule = schedule;
+    Ok(next)
+}
+
+fn with_ignored(
+    alloc: Global,
+    parts: &SystemParts,
+    names: &[Name],
+) -> Result<SystemParts, AllocError>
+    ensures { IfOk result (λ next. system_of next ≡ changed (system_of parts.now) (set_ignored (map module_name names.now))) }
+{
+    let ignored = once(alloc, names)?;
+    let mut next = parts.clone()?;
+    next.ignored = ignored;
+    Ok(next)
+}
+
+// Each name once, at its first place.
+fn once(alloc: Global, names: &[Name]) -> Result<Vec<Name>, AllocError>
+    ensures { IfOk result (λ kept. map module_name kept.items ≡ once [] (map module_name names.now)) }
+{
+    let mut kept = Vec::new(alloc);
+    for name in names {
+        add_once(&mut kept, *name)?;
+    }
+    Ok(kept)
+}
+
+// Adds a name, unless it stands there.
+fn add_once(kept: &mut Vec<Name>, name: Name) -> Result<(), AllocError>
+    ensures { OnOk result (map module_name kept.new.items
+        ≡ with_name (ignores (map module_name kept.old.items) (module_name name)) (map module_name kept.old.items) (module_name name)) }
+{
+    if !is_among(kept, name) {
+        kept.push(name)?;
+    }
+    Ok(())
+}

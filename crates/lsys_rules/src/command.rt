@@ -1,0 +1,131 @@
+//! Commands.
+ghost use Rattle.std.specs.Prelude.{◌≡◌, ◌≤◌, ◌+◌, All, IfOk};
+ghost use Rattle.lsys_syntax.specs.Limits.{most_line_bytes};
+ghost use Rattle.lsys_syntax.specs.Sentences.{AreTokens};
+ghost use Rattle.lsys_text.specs.Tokens.{kinds_of, IsWithin};
+ghost use Rattle.lsys_module.specs.Building.{AreOfLine};
+ghost use Rattle.lsys_reading.specs.Parted.{command_of, IsParted};
+ghost use Rattle.lsys_reading.specs.Parsing.{column_of, kind_of_command};
+ghost use Rattle.lsys_rules.specs.Formals.{HasFormals};
+ghost use Rattle.lsys_rules.specs.Parsing.{IsParsed};
+ghost use Rattle.lsys_spec.specs.Edits.{label_place};
+ghost use Rattle.lsys_reading.specs.declared.parts.Parts.{Parts};
+
+use crate::refusal::Refusal;
+use lsys_checks::FormalNames;
+use lsys_reading::{CommandKind, LabeledRule, Parts};
+use lsys_text::Token;
+use std::alloc::{AllocError, Global};
+use std::marker::Model;
+
+/// A line's command. Contracts see the tokens of the line, which spell the command, and how many bytes it has.
+#[derive(Drop)]
+pub struct Command {
+    line: lsys_reading::Command,
+    bytes: u32,
+    /// The formals of its rule, where it has one.
+    formals: Option<FormalNames>,
+}
+
+impl Model for Command {
+    ghost use Rattle.lsys_rules.specs.Lines.{CommandLine};
+
+    ghost Value = { CommandLine };
+
+    ghost use Rattle.lsys_rules.specs.InsideCommand.{line_in, IsKept};
+
+    ghost view = { line_in };
+
+    ghost invariant = { IsKept };
+}
+
+/// The command that a line's tokens spell. `length` is that of the line in bytes, without its LF and the CR before it.
+///
+/// # Errors
+///
+/// `Token` and `Deep` have the column of the first token with which no command goes on, or the one behind the line's end,
+/// and `Memory` is want of memory. No other refusal comes.
+pub fn parse_command(alloc: Global, tokens: &[Token], length: u32) -> Result<Command, Refusal>
+    requires short { length ≤ most_line_bytes }
+    requires forms { AreTokens (kinds_of tokens.now) }
+    requires line { All (IsWithin length) tokens.now }
+    ensures { IsParsed tokens.now length result }
+{
+    let line = lsys_reading::parse_command(alloc, tokens, length)?;
+    let formals = formals(alloc, line.tokens(), line.parts())?;
+    Ok(Command {
+        line,
+        bytes: length,
+        formals,
+    })
+}
+
+// The formals of a line's rule, where it has one.
+fn formals(
+    alloc: Global,
+    tokens: &[Token],
+    parts: &Parts,
+) -> Result<Option<FormalNames>, AllocError>
+    requires forms { AreTokens (kinds_of tokens.now) }
+    requires parts { IsParted (kinds_of tokens.now) parts.now }
+    ensures { IfOk result (λ names. (p : Parts) → IsParted (kinds_of tokens.now) p → HasFormals p names) }
+{
+    let _count = tokens.len();
+    match parts {
+        Parts::Production(labeled) => {
+            let from = production_place(labeled);
+            Ok(Some(FormalNames::of(alloc, from, &labeled.rule)?))
+        }
+        Parts::Homomorphism(labeled) => Ok(Some(FormalNames::of(alloc, 3, &labeled.rule)?)),
+        _ => Ok(None),
+    }
+}
+
+// The number of the first token of a production's rule.
+pub(crate) fn production_place(labeled: &LabeledRule) -> usize
+    ensures { result ≡ label_place labeled.now.table + 2 }
+{
+    if labeled.table.is_some() { 4 } else { 3 }
+}
+
+impl Command {
+    /// What the command is for.
+    pub fn kind(&self) -> CommandKind
+        ensures { result ≡ kind_of_command (command_of self.now.tokens) }
+    {
+        self.line.kind()
+    }
+
+    /// The tokens of its line.
+    pub fn tokens(&self) -> &[Token]
+        ensures tokens { result.now ≡ self.now.tokens }
+        ensures forms { AreTokens (kinds_of self.now.tokens) }
+        ensures line { AreOfLine self.now.tokens }
+    {
+        self.line.tokens()
+    }
+
+    // What the tokens are the parts of.
+    pub(crate) fn parts(&self) -> &Parts
+        ensures { IsParted (kinds_of self.now.tokens) result.now }
+    {
+        self.line.parts()
+    }
+
+    // The formals of its rule, where it has one.
+    pub(crate) fn formals(&self) -> &Option<FormalNames>
+        ensures { (p : Parts) → IsParted (kinds_of self.now.tokens) p → HasFormals p result.now }
+    {
+        &self.formals
+    }
+
+    // The column of the token at a place, from 1, or of the line's end.
+    pub(crate) fn column(&self, place: usize) -> u32
+        ensures { result ≡ column_of self.now.bytes self.now.tokens place }
+    {
+        match self.line.tokens().get(place) {
+            Some(token) => token.start + 1,
+            None => self.bytes + 1,
+        }
+    }
+}

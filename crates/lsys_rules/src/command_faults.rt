@@ -1,0 +1,72 @@
+//! What refuses a command.
+ghost use Rattle.std.specs.Prelude.{◌≡◌, ◌≤◌, length};
+ghost use Rattle.lsys_syntax.specs.Checks.{axiom_many};
+ghost use Rattle.lsys_syntax.specs.Commands.{set_axiom};
+ghost use Rattle.lsys_syntax.specs.LineMachine.{sentence};
+ghost use Rattle.lsys_syntax.specs.Sentences.{AreTokens};
+ghost use Rattle.lsys_spec.specs.Edits.{many, refusal, refused_at};
+ghost use Rattle.lsys_text.specs.Tokens.{kinds_of};
+ghost use Rattle.lsys_reading.specs.Commands.{axiom_verdict, parts_command, string_in};
+ghost use Rattle.lsys_reading.specs.Parted.{command_of, IsParted};
+ghost use Rattle.lsys_rules.specs.Faults.{Tells};
+ghost use Rattle.lsys_rules.specs.Formals.{HasFormals};
+
+use crate::command::Command;
+use crate::edit_faults::{depth_fault, drop_fault, ignore_fault, level_fault, schedule_fault};
+use crate::faults::{Cause, Fault};
+use crate::rule_faults::{homomorphism_fault, production_fault};
+use crate::system::System;
+use lsys_checks::FormalNames;
+use lsys_module::first_many;
+use lsys_reading::Parts;
+use lsys_text::Token;
+
+/// What refuses a command: the first refusal in the order name, duplicate, mixed, label, table, level, many.
+pub(crate) fn fault_of(system: &System, command: &Command) -> Option<Fault>
+    ensures { Tells result (refusal system.now (command_of command.now.tokens)) }
+{
+    parts_fault(system, command.tokens(), command.parts(), command.formals())
+}
+
+fn parts_fault(
+    system: &System,
+    tokens: &[Token],
+    parts: &Parts,
+    formals: &Option<FormalNames>,
+) -> Option<Fault>
+    requires forms { AreTokens (kinds_of tokens.now) }
+    requires parted { IsParted (kinds_of tokens.now) parts.now }
+    requires formals { HasFormals parts.now formals.now }
+    ensures { Tells result (refusal system.now (parts_command (kinds_of tokens.now) parts.now)) }
+{
+    let _count = tokens.len();
+    match (parts, formals) {
+        (Parts::Axiom, _) => axiom_fault(tokens),
+        (Parts::Production(labeled), Some(names)) => {
+            production_fault(system, tokens, labeled, names)
+        }
+        (Parts::Homomorphism(labeled), Some(names)) => {
+            homomorphism_fault(system, tokens, labeled, names)
+        }
+        (Parts::Drop(label), _) => drop_fault(system, *label),
+        (Parts::Ignore(names), _) => ignore_fault(names),
+        (Parts::Schedule(words), _) => schedule_fault(system, words),
+        (Parts::Depth(depth), _) => depth_fault(*depth),
+        (Parts::String(level), _) => level_fault(system, *level),
+        _ => None,
+    }
+}
+
+// The limit that an axiom passes.
+fn axiom_fault(tokens: &[Token]) -> Option<Fault>
+    requires place { 1 ≤ length tokens.now }
+    requires forms { AreTokens (kinds_of tokens.now) }
+    requires string { axiom_verdict (kinds_of tokens.now) ≡ sentence (set_axiom (string_in (axiom_verdict (kinds_of tokens.now)))) }
+    ensures { Tells result (refused_at (axiom_many 1 (string_in (axiom_verdict (kinds_of tokens.now)))) many) }
+{
+    let place = first_many(tokens, 1)?;
+    Some(Fault {
+        cause: Cause::TooMany,
+        place,
+    })
+}

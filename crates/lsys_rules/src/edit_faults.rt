@@ -1,0 +1,121 @@
+//! What refuses the edits and queries that are no rules.
+ghost use Rattle.std.specs.Prelude.{◌≡◌, ◌+◌, ◌||◌, not, length, map, nat_lt, bytes_eq};
+ghost use Rattle.lsys_syntax.specs.Limits.{most_ignored, most_schedule_words, most_depth};
+ghost use Rattle.lsys_spec.specs.Edits.{first_place, refused_if, many, schedule_refusal, level_refusal, drop_refusal, loses_table, without_rule};
+ghost use Rattle.lsys_spec.specs.Systems.{Apart, any, is_table, main};
+ghost use Rattle.lsys_bodies.specs.Views.{production_of};
+ghost use Rattle.lsys_rules.specs.Faults.{Tells, labelled_else};
+
+use crate::faults::{Cause, Fault};
+use crate::labelled::{has_hom_rule, has_rule};
+use crate::limits::{MOST_DEPTH, MOST_IGNORED, MOST_SCHEDULE_WORDS};
+use crate::rule_table::is_table;
+use crate::system::System;
+use lsys_bodies::Rule;
+use lsys_text::{Name, Word};
+
+/// What refuses these names, behind a line's first token.
+pub(crate) fn ignore_fault(names: &[Name]) -> Option<Fault>
+    ensures { Tells result (refused_if (nat_lt most_ignored (length names.now)) many (most_ignored + 1)) }
+{
+    too_many_if(names.len() > MOST_IGNORED, MOST_IGNORED + 1)
+}
+
+/// What refuses a depth.
+pub(crate) fn depth_fault(depth: u64) -> Option<Fault>
+    ensures { Tells result (refused_if (nat_lt most_depth depth) many 1) }
+{
+    too_many_if(depth > MOST_DEPTH, 1)
+}
+
+fn too_many_if(passed: bool, place: usize) -> Option<Fault>
+    ensures { Tells result (refused_if passed many place) }
+{
+    passed.then_some(Fault {
+        cause: Cause::TooMany,
+        place,
+    })
+}
+
+/// What refuses a query for a level; the last one without a number.
+pub(crate) fn level_fault(system: &System, level: Option<u64>) -> Option<Fault>
+    ensures { Tells result (level_refusal system.now level) }
+{
+    if level? <= u64::from(system.depth()) {
+        return None;
+    }
+    Some(Fault {
+        cause: Cause::Level,
+        place: 1,
+    })
+}
+
+/// What refuses these words as the schedule: one that names no table, or their number.
+pub(crate) fn schedule_fault(system: &System, words: &[Word]) -> Option<Fault>
+    ensures { Tells result (schedule_refusal system.now words.now) }
+{
+    if let Some(place) = untabled(system.tables(), words) {
+        return Some(Fault {
+            cause: Cause::Table,
+            place,
+        });
+    }
+    too_many_if(words.len() > MOST_SCHEDULE_WORDS, MOST_SCHEDULE_WORDS + 1)
+}
+
+// The place, from 1 on, of the first word that is none of the tables.
+fn untabled(tables: &[Word], words: &[Word]) -> Option<usize>
+    ensures { result ≡ first_place (λ w. not (is_table tables.now w)) 1 words.now }
+{
+    let place = words.iter().position(|word| !is_table(tables, *word))?;
+    Some(place + 1)
+}
+
+/// What refuses that the rule under a label is dropped: there is none, or its table is scheduled and has no other rule.
+pub(crate) fn drop_fault(system: &System, label: Word) -> Option<Fault>
+    ensures { Tells result (drop_refusal system.now label) }
+{
+    let rules = system.rules();
+    if !has_rule(rules, label) && !has_hom_rule(system.hom_rules(), label) {
+        return Some(Fault {
+            cause: Cause::Label,
+            place: 1,
+        });
+    }
+    if loses_table(rules, label, system.schedule()) {
+        return Some(Fault {
+            cause: Cause::Table,
+            place: 1,
+        });
+    }
+    None
+}
+
+// Whether some word of the schedule names no table without the rule under this label.
+fn loses_table(rules: &[Rule], label: Word, schedule: &[Word]) -> bool
+    requires { Apart bytes_eq (map (λ p. p.label) (map production_of rules.now)) }
+    ensures { result ≡ loses_table (without_rule label (map production_of rules.now)) schedule.now }
+{
+    for word in schedule {
+        if is_lost(rules, label, *word) {
+            return true;
+        }
+    }
+    false
+}
+
+// Whether a word is neither `main` nor the table of a rule under another label.
+fn is_lost(rules: &[Rule], label: Word, word: Word) -> bool
+    ensures { result ≡ not (bytes_eq word main || any (labelled_else label word) (map production_of rules.now)) }
+{
+    !(word == Word::from_text(b"main") || has_other(rules, label, word))
+}
+
+// Whether a table has a rule under another label.
+fn has_other(rules: &[Rule], label: Word, table: Word) -> bool
+    ensures { result ≡ any (labelled_else label table) (map production_of rules.now) }
+{
+    rules
+        .iter()
+        .any(|rule| rule.label != label && rule.table == table)
+}

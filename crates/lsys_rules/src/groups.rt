@@ -1,0 +1,85 @@
+//! The groups of rules: which rules of a table are for a letter with a number of parameters.
+ghost use Rattle.std.specs.Prelude.{◌≡◌, IfOk, OnOk, map, length};
+ghost use Rattle.lsys_text.specs.Packed.{packed};
+ghost use Rattle.lsys_text.specs.Texts.{IsNameBytes};
+ghost use Rattle.lsys_bodies.specs.Views.{production_of};
+ghost use Rattle.lsys_rules.specs.Groups.{AreGroups, HasPlace, places_at};
+
+use lsys_bodies::Rule;
+use lsys_text::{Name, Word};
+use std::alloc::{AllocError, Global};
+use std::collections::HashMap;
+
+/// What the rules of a group have in common: the table, the number of the letter's name, and the number of parameters.
+#[derive(Clone, Copy, PartialEq, Eq, Hash)]
+pub(crate) struct GroupKey {
+    pub table: Word,
+    pub name: u64,
+    pub arity: usize,
+}
+
+/// The places of the rules of each group, in order.
+pub(crate) type Groups = HashMap<GroupKey, Vec<usize>>;
+
+impl GroupKey {
+    // That of the rules of a table for a letter with so many parameters.
+    pub(crate) fn new(table: Word, name: Name, arity: usize) -> GroupKey
+        ensures table { result.table ≡ table }
+        ensures name { result.name ≡ packed name }
+        ensures arity { result.arity ≡ arity }
+        ensures form { IsNameBytes name }
+    {
+        GroupKey {
+            table,
+            name: name.number(),
+            arity,
+        }
+    }
+
+    // That of a rule.
+    pub(crate) fn of(rule: &Rule) -> GroupKey
+        ensures table { result.table ≡ rule.now.table }
+        ensures name { result.name ≡ packed rule.now.body.predecessor.name }
+        ensures arity { result.arity ≡ length rule.now.body.predecessor.formals.items }
+        ensures form { IsNameBytes rule.now.body.predecessor.name }
+    {
+        let predecessor = &rule.body.get().predecessor;
+        GroupKey::new(rule.table, predecessor.name, predecessor.formals.len())
+    }
+}
+
+// The groups of some rules.
+pub(crate) fn groups_of(alloc: Global, rules: &[Rule]) -> Result<Groups, AllocError>
+    ensures { IfOk result (λ groups. AreGroups groups (map production_of rules.now)) }
+{
+    let mut groups = HashMap::new(alloc);
+    for (place, rule) in rules.iter().enumerate() {
+        add_place(alloc, &mut groups, GroupKey::of(rule), place)?;
+    }
+    Ok(groups)
+}
+
+// Adds a place behind those of its group.
+fn add_place(
+    alloc: Global,
+    groups: &mut Groups,
+    key: GroupKey,
+    place: usize,
+) -> Result<(), AllocError>
+    ensures { OnOk result (HasPlace groups.old groups.new key place) }
+{
+    let mut places = groups.remove(&key).unwrap_or(Vec::new(alloc));
+    places.push(place)?;
+    groups.insert(key, places)?;
+    Ok(())
+}
+
+// The places of a group.
+pub(crate) fn places_at(groups: &Groups, key: GroupKey) -> &[usize]
+    ensures { result.now ≡ places_at groups.now key }
+{
+    match groups.get(&key) {
+        Some(places) => places,
+        None => &[],
+    }
+}

@@ -1,0 +1,40 @@
+//! The parts of a system.
+ghost use Rattle.std.specs.Prelude.{◌≡◌};
+ghost use Rattle.lsys_rules.specs.Systems.{system_of};
+
+use crate::hom_table::HomTable;
+use crate::rule_table::RuleTable;
+use lsys_module::SymbolList;
+use lsys_reading::LatticeName;
+use lsys_text::{Name, Word};
+use std::alloc::AllocError;
+
+/// What the edits change.
+#[derive(Drop)]
+pub(crate) struct SystemParts {
+    pub axiom: SymbolList,
+    pub rules: RuleTable,
+    pub homs: HomTable,
+    pub schedule: Vec<Word>,
+    pub ignored: Vec<Name>,
+    pub seed: u64,
+    pub depth: u32,
+    pub lattice: LatticeName,
+}
+
+impl Clone for SystemParts {
+    ghost is_clone = { λ a b. system_of b ≡ system_of a };
+
+    fn clone(&self) -> Result<SystemParts, AllocError> {
+        Ok(SystemParts {
+            axiom: self.axiom.clone()?,
+            rules: self.rules.clone()?,
+            homs: self.homs.clone()?,
+            schedule: self.schedule.clone()?,
+            ignored: self.ignored.clone()?,
+            seed: self.seed,
+            depth: self.depth,
+            lattice: self.lattice,
+        })
+    }
+}

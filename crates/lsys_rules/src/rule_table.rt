@@ -1,0 +1,177 @@
+//! The productions of a system, in the order in which they are tried.
+ghost use Rattle.std.specs.Prelude.{◌≡◌, [], IfOk, OnOk, map, filter, slice_get};
+ghost use Rattle.std.specs.Option.{option_map};
+ghost use Rattle.lsys_spec.specs.Systems.{is_table, tables, with_table};
+ghost use Rattle.lsys_spec.specs.Bodies.{is_for};
+ghost use Rattle.lsys_spec.specs.Edits.{put, without_rule};
+ghost use Rattle.lsys_module.specs.Views.{module_name};
+ghost use Rattle.lsys_bodies.specs.Views.{production_of};
+ghost use Rattle.lsys_rules.specs.InsideRules.{Own, productions_in};
+
+use crate::groups::{GroupKey, Groups, groups_of, places_at};
+use indexmap::IndexMap;
+use lsys_bodies::Rule;
+use lsys_text::{Name, Word};
+use std::alloc::{AllocError, Global};
+use std::marker::Model;
+use std::rc::Rc;
+
+/// Productions by label, in order, with what finds a group and a table quickly.
+#[derive(Drop)]
+pub(crate) struct Rules {
+    pub by_label: IndexMap<Word, Rule>,
+    pub groups: Groups,
+    /// `main`, and the tables that have a rule, each once.
+    pub tables: Vec<Word>,
+}
+
+/// Productions under their labels, in order, shared by the copies of a system. Contracts see them as those of the definitions.
+#[derive(Drop)]
+pub struct RuleTable {
+    rules: Rc<Rules>,
+}
+
+impl Model for RuleTable {
+    ghost use Rattle.std.specs.Prelude.{List};
+    ghost use Rattle.std.specs.Coded.{codes};
+    ghost use Rattle.lsys_syntax.specs.Rules.{Production};
+    ghost use Rattle.lsys_rules.specs.Codes.{expr_code};
+
+    ghost Value = { List Production };
+
+    ghost coded = { Prim.hlevel (codes, expr_code) };
+
+    ghost use Rattle.lsys_rules.specs.InsideRules.{productions_in, IsKept};
+
+    ghost view = { λ a. productions_in a.rules.value.by_label };
+
+    ghost invariant = { λ a. IsKept a.rules.value };
+}
+
+impl RuleTable {
+    /// No rules.
+    ///
+    /// # Errors
+    ///
+    /// Want of memory.
+    pub fn new(alloc: Global) -> Result<RuleTable, AllocError>
+        ensures { IfOk result (λ t. t ≡ []) }
+    {
+        RuleTable::of(alloc, IndexMap::new(alloc))
+    }
+
+    // These rules, each of which stands under its own label.
+    fn of(alloc: Global, by_label: IndexMap<Word, Rule>) -> Result<RuleTable, AllocError>
+        requires { Own (λ r. r.label) by_label.entries }
+        ensures { IfOk result (λ t. t ≡ productions_in by_label) }
+    {
+        let groups = groups_of(alloc, by_label.values().as_slice())?;
+        let tables = tables_of(alloc, by_label.values().as_slice())?;
+        let rules = Rules {
+            by_label,
+            groups,
+            tables,
+        };
+        Ok(RuleTable {
+            rules: Rc::new(alloc, rules)?,
+        })
+    }
+
+    /// The rules with one more: a label that stands keeps its place, and a new one goes last.
+    ///
+    /// # Errors
+    ///
+    /// Want of memory.
+    pub fn with(&self, alloc: Global, rule: Rule) -> Result<RuleTable, AllocError>
+        ensures { IfOk result (λ t. t ≡ put (production_of rule) self.now) }
+    {
+        let mut by_label = copy_of(&self.rules)?;
+        by_label.insert(rule.label, rule)?;
+        RuleTable::of(alloc, by_label)
+    }
+
+    /// The rules without the one under a label.
+    ///
+    /// # Errors
+    ///
+    /// Want of memory.
+    pub fn without(&self, alloc: Global, label: Word) -> Result<RuleTable, AllocError>
+        ensures { IfOk result (λ t. t ≡ without_rule label self.now) }
+    {
+        let mut by_label = copy_of(&self.rules)?;
+        by_label.shift_remove(&label);
+        RuleTable::of(alloc, by_label)
+    }
+
+    /// The rules, in the order in which they are tried.
+    pub fn rules(&self) -> &[Rule]
+        ensures { map production_of result.now ≡ self.now }
+    {
+        self.rules.by_label.values().as_slice()
+    }
+
+    /// The tables: `main`, and those that have a rule.
+    pub fn tables(&self) -> &[Word]
+        ensures { result.now ≡ tables self.now }
+    {
+        &self.rules.tables
+    }
+
+    /// The rule at a place of the group of a table for modules of this name and number of parameters; none past its end.
+    /// A look-up costs the same however many rules there are.
+    pub fn group_rule(&self, table: Word, name: Name, arity: usize, place: usize) -> Option<&Rule>
+        ensures { option_map (λ r. production_of r.now) result ≡ slice_get (filter (is_for table (module_name name) arity) self.now) place }
+    {
+        let places = places_at(&self.rules.groups, GroupKey::new(table, name, arity));
+        match places.get(place) {
+            Some(number) => self.rules.by_label.values().as_slice().get(*number),
+            None => None,
+        }
+    }
+}
+
+impl Clone for RuleTable {
+    ghost is_clone = { λ a b. b ≡ a };
+
+    fn clone(&self) -> Result<RuleTable, AllocError> {
+        Ok(RuleTable {
+            rules: self.rules.clone()?,
+        })
+    }
+}
+
+// A copy of the rules by label.
+fn copy_of(rules: &Rules) -> Result<IndexMap<Word, Rule>, AllocError>
+    ensures { IfOk result (λ m. m.entries ≡ rules.now.by_label.entries) }
+{
+    rules.by_label.clone()
+}
+
+// The tables of some rules, in order: `main`, and each where it first stands.
+fn tables_of(alloc: Global, rules: &[Rule]) -> Result<Vec<Word>, AllocError>
+    ensures { IfOk result (λ ts. ts.items ≡ tables (map production_of rules.now)) }
+{
+    let mut tables = Vec::new(alloc);
+    tables.push(Word::from_text(b"main"))?;
+    for rule in rules {
+        add_table(&mut tables, rule.table)?;
+    }
+    Ok(tables)
+}
+
+// Adds a table, unless it stands there.
+fn add_table(tables: &mut Vec<Word>, table: Word) -> Result<(), AllocError>
+    ensures { OnOk result (tables.new.items ≡ with_table (is_table tables.old.items table) tables.old.items table) }
+{
+    if !is_table(tables, table) {
+        tables.push(table)?;
+    }
+    Ok(())
+}
+
+// Whether a word is among these tables.
+pub(crate) fn is_table(tables: &[Word], word: Word) -> bool
+    ensures { result ≡ is_table tables.now word }
+{
+    tables.iter().any(|table| *table == word)
+}

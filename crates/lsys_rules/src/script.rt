@@ -1,0 +1,153 @@
+//! A system as a script.
+ghost use Rattle.std.specs.Prelude.{◌++◌, ◌∷◌, [], map, decimal};
+ghost use Rattle.lsys_syntax.specs.Commands.{set_axiom, set_depth, set_ignored, set_lattice, set_schedule, set_seed, words_pieces};
+ghost use Rattle.lsys_syntax.specs.Pieces.{text_of};
+ghost use Rattle.lsys_spec.specs.Shown.{as_put, as_put_homomorphism, script_of, show_text};
+ghost use Rattle.lsys_spec.specs.Systems.{written};
+ghost use Rattle.lsys_io.specs.Writes.{Puts};
+ghost use Rattle.lsys_module.specs.Views.{module_name, string_of};
+ghost use Rattle.lsys_reading.specs.Commands.{lattice_of};
+ghost use Rattle.lsys_bodies.specs.Views.{homomorphism_of, production_of};
+ghost use Rattle.lsys_rules.specs.Showing.{line_of, names_text};
+
+use crate::show_rules::{put_decimal, put_hom_rule, put_rule, put_word};
+use crate::system::System;
+use lsys_bodies::{HomRule, Rule};
+use lsys_io::{Buffered, Failed, Sink};
+use lsys_module::{SymbolList, print_string, put_name};
+use lsys_reading::LatticeName;
+use lsys_text::{Name, Word};
+
+/// Puts the system as the script of the commands that make it from the opening one, each on its line. It takes no memory.
+///
+/// # Errors
+///
+/// The sink failed; a front of what was held and of the script was written then.
+pub fn show<K: Sink>(system: &System, out: &mut Buffered, sink: &mut K) -> Result<(), Failed>
+    ensures { Puts K.written K.faults sink.old sink.new out.old out.new (show_text system.now) result }
+{
+    put_lattice(out, sink, system.lattice())?;
+    put_seed(out, sink, system.seed())?;
+    put_axiom(out, sink, system.axiom())?;
+    put_ignored(out, sink, system.ignored())?;
+    put_rules(out, sink, system.rules())?;
+    put_hom_rules(out, sink, system.hom_rules())?;
+    put_schedule(out, sink, system.schedule())?;
+    put_depth(out, sink, system.depth())
+}
+
+fn put_lattice<K: Sink>(
+    out: &mut Buffered,
+    sink: &mut K,
+    lattice: LatticeName,
+) -> Result<(), Failed>
+    ensures { Puts K.written K.faults sink.old sink.new out.old out.new (line_of (set_lattice (lattice_of lattice))) result }
+{
+    match lattice {
+        LatticeName::Square => out.put(sink, b"lattice square\n"),
+        LatticeName::Hexagonal => out.put(sink, b"lattice hexagonal\n"),
+        LatticeName::Cubic => out.put(sink, b"lattice cubic\n"),
+    }
+}
+
+fn put_seed<K: Sink>(out: &mut Buffered, sink: &mut K, seed: u64) -> Result<(), Failed>
+    ensures { Puts K.written K.faults sink.old sink.new out.old out.new (line_of (set_seed seed)) result }
+{
+    put_number_line(out, sink, b"seed ", seed)
+}
+
+fn put_depth<K: Sink>(out: &mut Buffered, sink: &mut K, depth: u32) -> Result<(), Failed>
+    ensures { Puts K.written K.faults sink.old sink.new out.old out.new (line_of (set_depth depth)) result }
+{
+    put_number_line(out, sink, b"depth ", u64::from(depth))
+}
+
+// Puts a word and a number on a line.
+fn put_number_line<K: Sink>(
+    out: &mut Buffered,
+    sink: &mut K,
+    word: &[u8],
+    number: u64,
+) -> Result<(), Failed>
+    ensures { Puts K.written K.faults sink.old sink.new out.old out.new (word.now ++ (decimal number ++ 10 ∷ [])) result }
+{
+    out.put(sink, word)?;
+    put_decimal(out, sink, number)?;
+    out.put(sink, b"\n")
+}
+
+fn put_axiom<K: Sink>(out: &mut Buffered, sink: &mut K, symbols: &SymbolList) -> Result<(), Failed>
+    ensures { Puts K.written K.faults sink.old sink.new out.old out.new (line_of (set_axiom (written (string_of symbols.now)))) result }
+{
+    if symbols.is_empty() {
+        return out.put(sink, b"axiom\n");
+    }
+    out.put(sink, b"axiom ")?;
+    print_string(out, sink, symbols)?;
+    out.put(sink, b"\n")
+}
+
+fn put_ignored<K: Sink>(out: &mut Buffered, sink: &mut K, names: &[Name]) -> Result<(), Failed>
+    ensures { Puts K.written K.faults sink.old sink.new out.old out.new (line_of (set_ignored (map module_name names.now))) result }
+{
+    if names.is_empty() {
+        return out.put(sink, b"ignore\n");
+    }
+    out.put(sink, b"ignore ")?;
+    put_names(out, sink, names)?;
+    out.put(sink, b"\n")
+}
+
+// Puts names, each behind a blank where it needs one.
+fn put_names<K: Sink>(out: &mut Buffered, sink: &mut K, names: &[Name]) -> Result<(), Failed>
+    ensures { Puts K.written K.faults sink.old sink.new out.old out.new (names_text (map module_name names.now)) result }
+{
+    let mut runs_on = false;
+    for name in names {
+        runs_on = put_name(out, sink, *name, runs_on)?;
+    }
+    Ok(())
+}
+
+fn put_rules<K: Sink>(out: &mut Buffered, sink: &mut K, rules: &[Rule]) -> Result<(), Failed>
+    ensures { Puts K.written K.faults sink.old sink.new out.old out.new (script_of (map as_put (map production_of rules.now))) result }
+{
+    for rule in rules {
+        put_rule(out, sink, rule)?;
+    }
+    Ok(())
+}
+
+fn put_hom_rules<K: Sink>(out: &mut Buffered, sink: &mut K, rules: &[HomRule]) -> Result<(), Failed>
+    ensures { Puts K.written K.faults sink.old sink.new out.old out.new (script_of (map as_put_homomorphism (map homomorphism_of rules.now))) result }
+{
+    for rule in rules {
+        put_hom_rule(out, sink, rule)?;
+    }
+    Ok(())
+}
+
+fn put_schedule<K: Sink>(out: &mut Buffered, sink: &mut K, words: &[Word]) -> Result<(), Failed>
+    ensures { Puts K.written K.faults sink.old sink.new out.old out.new (line_of (set_schedule words.now)) result }
+{
+    out.put(sink, b"schedule")?;
+    put_words(out, sink, words)?;
+    out.put(sink, b"\n")
+}
+
+// Puts words, each behind a blank.
+fn put_words<K: Sink>(out: &mut Buffered, sink: &mut K, words: &[Word]) -> Result<(), Failed>
+    ensures { Puts K.written K.faults sink.old sink.new out.old out.new (text_of (words_pieces words.now)) result }
+{
+    for word in words {
+        put_next_word(out, sink, *word)?;
+    }
+    Ok(())
+}
+
+fn put_next_word<K: Sink>(out: &mut Buffered, sink: &mut K, word: Word) -> Result<(), Failed>
+    ensures { Puts K.written K.faults sink.old sink.new out.old out.new (32 ∷ word) result }
+{
+    out.put(sink, b" ")?;
+    put_word(out, sink, word)
+}

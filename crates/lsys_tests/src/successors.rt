@@ -1,0 +1,176 @@
+ghost use Rattle.std.specs.Prelude.{List, IsTrue, ◌∷◌, []};
+ghost use Rattle.lsys_syntax.specs.Tokens.{Kind, NameText};
+ghost use Rattle.lsys_syntax.specs.Rules.{IsRule};
+ghost use Rattle.lsys_reading.specs.Images.{images_at};
+ghost use Rattle.lsys_reading.specs.RuleLines.{rule_at};
+ghost use Rattle.lsys_bodies.specs.Building.{CanBuild, StringIsKnown};
+ghost use Rattle.lsys_bodies.specs.Limits.{HaveFewParams};
+
+use crate::strings::printed;
+use lsys_bodies::{Rule, build_rule};
+use lsys_module::{SymbolList, build_string, scan_string};
+use lsys_reading::{Image, Parts, RuleLine, parse_command};
+use lsys_rewrite::{FaultKind, cut, fill, fill_into};
+use lsys_text::tokens;
+use std::alloc::{AllocError, Global};
+use std::test::Fail;
+
+/// The string of an axiom's line.
+fn string_of(alloc: Global, line: &str) -> Result<SymbolList, AllocError> {
+    if line.len() > 65536 {
+        return Err(AllocError);
+    }
+    let Ok(found) = tokens(alloc, line.as_bytes()) else {
+        return Err(AllocError);
+    };
+    let read = found.as_slice();
+    if read.is_empty() || scan_string(read, 1).is_err() {
+        return Err(AllocError);
+    }
+    build_string(alloc, read, 1).map_err(|_| AllocError)
+}
+
+/// The rule of a production's line that has neither contexts, condition, weight nor parameters.
+fn bare_rule(alloc: Global, line: &str) -> Result<Rule, AllocError> {
+    if line.len() > 65536 {
+        return Err(AllocError);
+    }
+    let Ok(found) = tokens(alloc, line.as_bytes()) else {
+        return Err(AllocError);
+    };
+    let Ok(command) = parse_command(alloc, found.as_slice(), line.len() as u32) else {
+        return Err(AllocError);
+    };
+    let Parts::Production(labeled) = command.parts() else {
+        return Err(AllocError);
+    };
+    if !is_bare(&labeled.rule) {
+        return Err(AllocError);
+    }
+    build_rule(alloc, command.tokens(), labeled)
+}
+
+/// The rule has neither contexts, condition, weight nor parameters.
+fn is_bare(rule: &RuleLine) -> bool
+    ensures { (ks : List Kind) → IsRule (rule_at ks rule.now) → IsTrue result → CanBuild (rule_at ks rule.now) }
+{
+    if !rule.left.is_empty() {
+        return false;
+    }
+    if !rule.right.is_empty() {
+        return false;
+    }
+    if !rule.predecessor.formals.is_empty() {
+        return false;
+    }
+    if rule.condition.is_some() {
+        return false;
+    }
+    if rule.weight.is_some() {
+        return false;
+    }
+    rule.successor.len() <= 128 && are_bare(&rule.successor)
+}
+
+/// No module of a successor has parameters.
+fn are_bare(images: &[Image]) -> bool
+    ensures known { (ks : List Kind) (fs : List NameText) → IsTrue result → StringIsKnown fs (images_at ks images.now) }
+    ensures few { (ks : List Kind) → IsTrue result → HaveFewParams (images_at ks images.now) }
+{
+    for image in images {
+        if !is_bare_image(image) {
+            return false;
+        }
+    }
+    true
+}
+
+fn is_bare_image(image: &Image) -> bool
+    ensures known { (ks : List Kind) (fs : List NameText) → IsTrue result → StringIsKnown fs (images_at ks (image.now ∷ [])) }
+    ensures few { (ks : List Kind) → IsTrue result → HaveFewParams (images_at ks (image.now ∷ [])) }
+{
+    match image {
+        Image::Module(module) => module.params.is_empty(),
+        _ => true,
+    }
+}
+
+/// `x` for each place that is kept, `.` for each other.
+fn shown(alloc: Global, kept: &[bool]) -> Result<Vec<u8>, AllocError> {
+    let mut text = Vec::new(alloc);
+    for is_kept in kept {
+        text.push(if *is_kept { b'x' } else { b'.' })?;
+    }
+    Ok(text)
+}
+
+#[test]
+fn a_cut_takes_the_rest_of_its_branch(rt: HostRuntime) -> Result<(), Fail> {
+    let rows = [
+        ("axiom A[B%C[D]]E", "A[B]E", "xxx.....xx"),
+        ("axiom %B", "", ".."),
+        ("axiom [A%B]C", "[A]C", "xx..xx"),
+        ("axiom [AB]C", "[AB]C", "xxxxx"),
+        ("axiom A%", "A", "x."),
+        ("axiom", "", ""),
+        ("axiom A[B[%C]D]E", "A[B[]D]E", "xxxx..xxxx"),
+        ("axiom A%[B]%C", "A", "x......"),
+        ("axiom [%[A]%[B]]%[C]", "[]", "x........x...."),
+        ("axiom A[%]B[%C]D", "A[]B[]D", "xx.xxx..xx"),
+    ];
+    for (line, want, places) in rows {
+        let mut symbols = string_of(rt.alloc(), line)?;
+        let mut kept = vec![in rt.alloc(); false; symbols.len()]?;
+        cut(&mut symbols, kept.as_mut_slice());
+        let text = printed(rt.alloc(), &symbols)?;
+        assert_eq!(rt; text.as_slice(), want.as_bytes(), "{line:?}");
+        let marks = shown(rt.alloc(), kept.as_slice())?;
+        assert_eq!(rt; marks.as_slice(), places.as_bytes(), "{line:?}");
+    }
+    Ok(())
+}
+
+#[test]
+fn a_cut_in_a_successor_takes_the_rest_of_the_branch(rt: HostRuntime) -> Result<(), Fail> {
+    let rows = [
+        ("axiom [AB]C", "production a: A => A%", 1, "[A]C"),
+        ("axiom AB", "production p: A => %", 0, ""),
+        ("axiom A[BC]", "production b: B => [D%E]F", 2, "A[[D]FC]"),
+    ];
+    for (line, production, place, want) in rows {
+        let axiom = string_of(rt.alloc(), line)?;
+        let rule = bare_rule(rt.alloc(), production)?;
+        let mut level = SymbolList::new(rt.alloc());
+        for (at, symbol) in axiom.symbols().iter().enumerate() {
+            if at == place {
+                fill_into(&mut level, &rule.body, &[]).map_err(|_| AllocError)?;
+            } else {
+                level.push(*symbol)?;
+            }
+        }
+        let mut kept = vec![in rt.alloc(); false; level.len()]?;
+        cut(&mut level, kept.as_mut_slice());
+        let text = printed(rt.alloc(), &level)?;
+        assert_eq!(rt; text.as_slice(), want.as_bytes(), "{line:?}");
+    }
+    let rule = bare_rule(rt.alloc(), "production a: A => A%[+B]")?;
+    let filled = fill(rt.alloc(), &rule, &[]).map_err(|_| AllocError)?;
+    let text = printed(rt.alloc(), &filled)?;
+    assert_eq!(rt; text.as_slice(), b"A%[+B]".as_slice());
+    Ok(())
+}
+
+#[test]
+fn each_fault_has_its_word(rt: HostRuntime) {
+    let rows = [
+        (FaultKind::Overflow, "overflow"),
+        (FaultKind::DivideByZero, "divide-by-zero"),
+        (FaultKind::NegativePower, "negative-power"),
+        (FaultKind::NegativeWeight, "negative-weight"),
+        (FaultKind::WeightTotal, "weight-total"),
+        (FaultKind::TooFar, "too-far"),
+    ];
+    for (kind, word) in rows {
+        assert_eq!(rt; kind.word(), word);
+    }
+}
