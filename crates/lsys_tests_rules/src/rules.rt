@@ -1,0 +1,355 @@
+//! Commands, and what they make of a system: which lines are refused and at which column, and what stays.
+use lsys_rules::{
+    Command, CommandKind, LatticeKind, Refusal, System, Template, apply, parse_command,
+};
+use lsys_text::{Name, TextRefusal, tokens};
+use std::alloc::{AllocError, Global};
+use std::test::Fail;
+
+/// The command of a line.
+fn command_of(alloc: Global, line: &str) -> Result<Command, Refusal> {
+    if line.len() > 65536 {
+        return Err(Refusal::LongLine);
+    }
+    let found = match tokens(alloc, line.as_bytes()) {
+        Ok(found) => found,
+        Err(TextRefusal::Byte { column }) => return Err(Refusal::Byte { column }),
+        Err(TextRefusal::Memory) => return Err(Refusal::Memory),
+    };
+    parse_command(alloc, found.as_slice(), line.len() as u32)
+}
+
+/// What a line makes of a system.
+fn answer(alloc: Global, system: &System, line: &str) -> Result<System, Refusal> {
+    let command = command_of(alloc, line)?;
+    apply(alloc, system, &command)
+}
+
+/// The system after lines, none of which is refused.
+pub(crate) fn system_after(alloc: Global, lines: &[&str]) -> Result<System, AllocError> {
+    let mut system = System::opening(alloc)?;
+    for line in lines {
+        system = answer(alloc, &system, *line).map_err(|_| AllocError)?;
+    }
+    Ok(system)
+}
+
+#[test]
+fn lines_and_what_they_are_for(rt: HostRuntime) -> Result<(), Fail> {
+    let edit = CommandKind::Edit;
+    let rows = [
+        ("axiom F[+A(1,-2)]%", edit),
+        (
+            "production main p: A < B(x) > [C]D : x > 0 @ 2 => B(x - 1)[C]",
+            edit,
+        ),
+        ("drop p", edit),
+        ("ignore", edit),
+        ("ignore +-F_a", edit),
+        ("schedule main winter", edit),
+        ("seed 18446744073709551615", edit),
+        ("depth 64", edit),
+        ("lattice cubic", edit),
+        ("hom h: A(x) : x > 0 => F[+]", edit),
+        ("string", CommandKind::String { level: None }),
+        ("string 1", CommandKind::String { level: Some(1) }),
+        ("segments", CommandKind::Segments),
+        ("svg", CommandKind::Svg),
+        ("show", CommandKind::Show),
+        ("quit", CommandKind::Quit),
+    ];
+    for (line, kind) in rows {
+        let answered = command_of(rt.alloc(), line).map(|command| command.kind());
+        assert_eq!(rt; answered, Ok(kind), "{line:?}");
+    }
+    Ok(())
+}
+
+#[test]
+fn refused_lines(rt: HostRuntime) -> Result<(), Fail> {
+    let rows = [
+        ("production p: A => [B", Refusal::Token { column: 22 }),
+        ("axiom A(1", Refusal::Token { column: 10 }),
+        ("axiom A$", Refusal::Byte { column: 8 }),
+        ("axiom F_aF_b", Refusal::Byte { column: 11 }),
+        ("seed 18446744073709551616", Refusal::Token { column: 6 }),
+        ("production p: A(x) => B(y)", Refusal::Name { column: 25 }),
+        ("production w p: A(x) => B(y)", Refusal::Name { column: 27 }),
+        (
+            "production p: A(x) : y > 0 => B",
+            Refusal::Name { column: 22 },
+        ),
+        ("hom h: A(x) => B(y)", Refusal::Name { column: 18 }),
+        (
+            "production p: A(x) < B(x) => C",
+            Refusal::Duplicate { column: 24 },
+        ),
+        ("hom h: A(x,x) => B", Refusal::Duplicate { column: 12 }),
+        ("drop q", Refusal::Label { column: 6 }),
+        ("schedule summer", Refusal::Table { column: 10 }),
+        (
+            "schedule main main winter main",
+            Refusal::Table { column: 20 },
+        ),
+        ("string 1", Refusal::Level { column: 8 }),
+        ("depth 65", Refusal::TooMany { column: 7 }),
+        (
+            "production p: A(a,b,c,d,e,f,g,h) => B(i)",
+            Refusal::Name { column: 39 },
+        ),
+        (
+            "production p: A(a,b,c,d,e,f,g,h,i) => B(z)",
+            Refusal::Name { column: 41 },
+        ),
+        (
+            "production p: A(a,b,c,d,e,f,g,h,i) => B",
+            Refusal::TooMany { column: 33 },
+        ),
+        (
+            "production p: A > B(a,b,c,d,e,f,g,h,i) => B",
+            Refusal::TooMany { column: 37 },
+        ),
+    ];
+    let system = System::opening(rt.alloc())?;
+    for (line, refusal) in rows {
+        let answered = answer(rt.alloc(), &system, line).err();
+        assert_eq!(rt; answered, Some(refusal), "{line:?}");
+    }
+    Ok(())
+}
+
+/// A line that is refused behind another one.
+fn refusal_behind(alloc: Global, before: &str, line: &str) -> Result<Option<Refusal>, AllocError> {
+    let system = system_after(alloc, &[before])?;
+    Ok(answer(alloc, &system, line).err())
+}
+
+#[test]
+fn lines_that_are_refused_for_what_stands(rt: HostRuntime) -> Result<(), Fail> {
+    let weighted = "production p: A @ 1 => B";
+    let rows = [
+        (
+            weighted,
+            "production q: A => C",
+            Some(Refusal::Mixed { column: 12 }),
+        ),
+        (weighted, "production w q: A => C", None),
+        (weighted, "production q: A(x) => C", None),
+        (weighted, "production p: A => B", None),
+        (
+            weighted,
+            "production q: A => C(y)",
+            Some(Refusal::Name { column: 22 }),
+        ),
+        (
+            weighted,
+            "production w p: A => C",
+            Some(Refusal::Label { column: 14 }),
+        ),
+        (
+            weighted,
+            "hom p: A => B",
+            Some(Refusal::Label { column: 5 }),
+        ),
+        (
+            "hom p: A => B",
+            "production p: A => B",
+            Some(Refusal::Label { column: 12 }),
+        ),
+        (
+            "production w a: A @ 1 => B",
+            "production w b: A => C",
+            Some(Refusal::Mixed { column: 14 }),
+        ),
+        ("production w a: A => B", "schedule main w", None),
+    ];
+    for (before, line, refusal) in rows {
+        assert_eq!(rt;
+            refusal_behind(rt.alloc(), before, line)?,
+            refusal,
+            "{line:?}"
+        );
+    }
+    Ok(())
+}
+
+#[test]
+fn tables_and_the_last_rule_of_one(rt: HostRuntime) -> Result<(), Fail> {
+    let lines = [
+        "axiom A",
+        "production a: A => AB",
+        "production winter w: A => C",
+        "schedule main winter",
+        "depth 2",
+    ];
+    let system = system_after(rt.alloc(), &lines)?;
+    assert_eq!(rt; system.tables().len(), 2);
+    assert_eq!(rt; system.schedule().len(), 2);
+    let name = Name::from_text(b"A");
+    for (level, label) in [(0, b"a"), (1, b"w"), (2, b"a")] {
+        let Some(rule) = system.group_rule(level, name, 0, 0) else {
+            return Err(Fail::from(AllocError));
+        };
+        assert_eq!(rt; rule.label.text().as_bytes(), label.as_slice());
+        assert!(rt; system.group_rule(level, name, 0, 1).is_none());
+        assert!(rt; system.group_rule(level, name, 1, 0).is_none());
+    }
+    assert_eq!(rt;
+        answer(rt.alloc(), &system, "drop w").err(),
+        Some(Refusal::Table { column: 6 })
+    );
+    let Ok(other) = answer(rt.alloc(), &system, "drop a") else {
+        return Err(Fail::from(AllocError));
+    };
+    assert_eq!(rt; other.rules().len(), 1);
+    assert!(rt; other.group_rule(0, name, 0, 0).is_none());
+    Ok(())
+}
+
+#[test]
+fn edits_and_what_they_leave(rt: HostRuntime) -> Result<(), Fail> {
+    let lines = [
+        "hom h: A => F",
+        "axiom A[X(2,1)]%",
+        "ignore +-+F_a-",
+        "seed 7",
+        "lattice cubic",
+        "depth 3",
+    ];
+    let system = system_after(rt.alloc(), &lines)?;
+    assert_eq!(rt; system.axiom().len(), 5);
+    assert_eq!(rt; system.depth(), 3);
+    assert_eq!(rt; system.seed(), 7);
+    assert!(rt; system.lattice() == LatticeKind::Cubic);
+    assert_eq!(rt; system.ignored().len(), 3);
+    assert!(rt; system.is_ignored(Name::from_text(b"F_a")));
+    assert!(rt; !system.is_ignored(Name::from_text(b"F")));
+    assert_eq!(rt; system.hom_rules().len(), 1);
+    Ok(())
+}
+
+#[test]
+fn a_rule_is_put_in_the_place_of_its_label(rt: HostRuntime) -> Result<(), Fail> {
+    let lines = [
+        "production p: A => B",
+        "production q: A => C",
+        "production p: X(n, m) : n > m => Y(m) Z(n * n, 2)",
+    ];
+    let system = system_after(rt.alloc(), &lines)?;
+    assert_eq!(rt; system.rules().len(), 2);
+    let Some(first) = system.rules().first() else {
+        return Err(Fail::from(AllocError));
+    };
+    assert!(rt; first.label.text().as_bytes() == b"p".as_slice());
+    assert_eq!(rt; first.body.predecessor().arity(), 2);
+    assert!(rt; first.body.condition().is_some());
+    let Some(Template::Module { name, params }) = first.body.successor().get(1) else {
+        return Err(Fail::from(AllocError));
+    };
+    assert!(rt; name.text().as_bytes() == b"Z".as_slice());
+    assert_eq!(rt; params.len(), 2);
+    Ok(())
+}
+
+/// A line with so many of a piece behind its front.
+fn repeated(
+    alloc: Global,
+    front: &str,
+    piece: &str,
+    count: u32,
+    back: &str,
+) -> Result<String, AllocError> {
+    let mut line = String::new(alloc);
+    line.push_str(front)?;
+    for _ in 0..count {
+        line.push_str(piece)?;
+    }
+    line.push_str(back)?;
+    Ok(line)
+}
+
+#[test]
+fn limits_of_one_line(rt: HostRuntime) -> Result<(), Fail> {
+    let full = repeated(rt.alloc(), "", "B(1,1,1,1,1,1,1,1)", 113, "B(1,1,1,1)")?;
+    let rule = repeated(rt.alloc(), "production p: A => ", full.as_str(), 1, "")?;
+    let image = repeated(rt.alloc(), "hom h: A => ", full.as_str(), 1, "")?;
+    let rows: [(&str, &str, u16, &str, u32); 17] = [
+        ("production p: A => B(-1", "+1", 127, ")", 278),
+        ("production p: A : 1", "+1", 127, " => B", 275),
+        ("production p: A @ -1", "+1", 127, " => B", 275),
+        ("axiom ", "A", 4096, "", 4103),
+        ("axiom ", "[]", 2048, "", 4103),
+        ("axiom A(1", ",-1", 7, ")", 32),
+        ("axiom A(0)A(1", ",1", 7, ")B", 29),
+        ("production p: A => B(1", ",1", 7, ")", 38),
+        ("hom h: A => B(1", ",1", 7, ")", 31),
+        ("production p: ", "A", 8, " < B => C", 23),
+        ("production p: B > []", "A", 14, " => C", 35),
+        ("production p: A => []", "B", 126, "", 148),
+        ("production p: A => %", "B", 127, "", 148),
+        ("ignore ", "A", 64, "", 72),
+        ("schedule", " main", 64, "", 330),
+        (rule.as_str(), "B", 2, "", 2066),
+        (image.as_str(), "B", 2, "", 2059),
+    ];
+    let system = System::opening(rt.alloc())?;
+    for (front, piece, count, back, column) in rows {
+        let count = u32::from(count);
+        let line = repeated(rt.alloc(), front, piece, count, back)?;
+        assert!(rt;
+            answer(rt.alloc(), &system, line.as_str()).is_ok(),
+            "{piece:?} {count}"
+        );
+        let longer = repeated(rt.alloc(), front, piece, count + 1, back)?;
+        let answered = answer(rt.alloc(), &system, longer.as_str()).err();
+        assert_eq!(rt;
+            answered,
+            Some(Refusal::TooMany { column }),
+            "{piece:?} {count}"
+        );
+    }
+    Ok(())
+}
+
+/// A system with so many productions, each in a table of its own or all in `main`.
+fn system_with_rules(alloc: Global, count: u32, are_in_tables: bool) -> Result<System, AllocError> {
+    let mut system = System::opening(alloc)?;
+    for number in 0..count {
+        let line = if are_in_tables {
+            format!(in alloc; "production t{number} p{number}: A => B")?
+        } else {
+            format!(in alloc; "production p{number}: A => B")?
+        };
+        system = answer(alloc, &system, line.as_str()).map_err(|_| AllocError)?;
+    }
+    Ok(system)
+}
+
+#[test]
+fn a_system_has_at_most_256_rules(rt: HostRuntime) -> Result<(), Fail> {
+    let most = system_with_rules(rt.alloc(), 255, false)?;
+    let system = answer(rt.alloc(), &most, "hom h: A => B").map_err(|_| AllocError)?;
+    let rows = [
+        ("production p7: A => C", None),
+        ("hom h: A => C", None),
+        (
+            "production q: A => B",
+            Some(Refusal::TooMany { column: 12 }),
+        ),
+        ("hom i: A => B", Some(Refusal::TooMany { column: 5 })),
+    ];
+    for (line, refusal) in rows {
+        let answered = answer(rt.alloc(), &system, line).err();
+        assert_eq!(rt; answered, refusal, "{line:?}");
+    }
+    Ok(())
+}
+
+#[test]
+fn a_system_has_at_most_16_tables(rt: HostRuntime) -> Result<(), Fail> {
+    let system = system_with_rules(rt.alloc(), 15, true)?;
+    assert!(rt; answer(rt.alloc(), &system, "production t14 q: A => B").is_ok());
+    let refused = answer(rt.alloc(), &system, "production t15 q: A => B").err();
+    assert_eq!(rt; refused, Some(Refusal::TooMany { column: 12 }));
+    Ok(())
+}
