@@ -1,0 +1,162 @@
+-- The reply to a line, step by step.
+use Rattle.std.proofs.Common.{◌≡◌, ◌≤◌, ℕ, Bool, true, false, Option, Some, None, Result, Ok, Err, List, [], map, length, codes, refl, ap, sym, subst, ◌∙◌, arith}
+use Rattle.std.proofs.lemmas.Simd.{map-map}
+use Rattle.std.proofs.lemmas.Bool.Decides.{nat_tests}
+use Rattle.std.specs.Prelude.{nat_lt}
+use Rattle.lsys_syntax.specs.Tokens as syntax
+use Rattle.lsys_syntax.specs.Commands.{Command, set_axiom, put_production, drop_rule, set_ignored, set_schedule, set_seed, set_depth, set_lattice, put_homomorphism, print_string, print_segments, print_svg, print_system, quit}
+use Rattle.lsys_syntax.specs.LineMachine.{Verdict, verdict, sentence, stops, too_deep}
+use Rattle.lsys_spec.specs.Systems as spec
+use Rattle.lsys_spec.specs.Edits as edits
+use Rattle.lsys_spec.specs.Refusals.{Reply, said, refused, is_passed_over, column_at, why_word, with_number}
+use Rattle.lsys_spec.specs.Replies.{accepted, edited, levels_of, command_reply, verdict_reply, tokens_reply, bare_reply}
+use Rattle.lsys_text.specs.Tokens.{kind_of, kinds_of, token_of}
+use Rattle.lsys_text.specs.declared.token_kind.Token.{Token}
+use Rattle.lsys_reading.specs.Parted.{command_of}
+use Rattle.lsys_reading.specs.Parsing.{column_of, kind_of_command}
+use Rattle.lsys_reading.specs.declared.command.CommandKind.TheVariants as kinds
+use Rattle.lsys_rules.specs.Lines.{CommandLine}
+use Rattle.lsys_rules.specs.Parsing.{IsParsed}
+use Rattle.lsys_rules.specs.Applying.{IsToldAt}
+use Rattle.lsys_rules.specs.declared.refusal.Refusal.{Refusal}
+use Rattle.lsys_rules.specs.declared.refusal.Refusal.TheVariants as refusals
+use Rattle.lsys_session.specs.Requests.{refusal_text, reply_to, IsCommandIn, IsRequested, IsRequest, HasLevel}
+use Rattle.lsys_session.specs.declared.request.Request.{Request}
+use Rattle.lsys_session.specs.declared.request.Request.TheVariants.{Nothing, String}
+
+-- 1. a line's tokens
+
+same_kinds : (ts : List Token) → map (λ (t : syntax.Token). t.kind) (map token_of ts) ≡ kinds_of ts
+same_kinds ts = map-map (λ (t : syntax.Token). t.kind) token_of ts
+
+-- of tokens with this verdict
+told_by : (limit : ℕ) (s : spec.System) (bare : List ℕ) (ts : List Token) (v : Verdict) → syntax.tokens bare ≡ Ok (map token_of ts) → verdict (kinds_of ts) ≡ v
+    → tokens_reply limit s (length bare) (syntax.tokens bare) ≡ verdict_reply limit s (λ n. column_at (length bare) n (map token_of ts)) v
+told_by limit s bare ts v e h =
+    ap (tokens_reply limit s (length bare)) e
+    ∙ ap (λ ks. verdict_reply limit s (λ n. column_at (length bare) n (map token_of ts)) (verdict ks)) (same_kinds ts)
+    ∙ ap (verdict_reply limit s (λ n. column_at (length bare) n (map token_of ts))) h
+
+pub byte_refused : (bare : List ℕ) (n : ℕ) → syntax.tokens bare ≡ Err n → IsCommandIn bare (Err (refusals.Byte n))
+byte_refused bare n e = λ limit s. ap (tokens_reply limit s (length bare)) e
+
+pub parsed_line : (bare : List ℕ) (ts : List Token) → syntax.tokens bare ≡ Ok (map token_of ts) → (r : Result CommandLine Refusal) → IsParsed ts (length bare) r → IsCommandIn bare r
+parsed_line bare ts e (Ok c) p = subst (λ (l : CommandLine). IsCommandIn bare (Ok l)) (sym p.0) (e, p.1, refl)
+parsed_line bare ts e (Err (refusals.Token n)) p = λ limit s.
+    told_by limit s bare ts (stops p.0) e p.1 ∙ ap (λ k. refused s (with_number (codes "syntax token") k)) (sym p.2)
+parsed_line bare ts e (Err (refusals.Deep n)) p = λ limit s.
+    told_by limit s bare ts (too_deep p.0) e p.1 ∙ ap (λ k. refused s (with_number (codes "syntax deep") k)) (sym p.2)
+parsed_line bare ts e (Err refusals.Memory) p = tt
+parsed_line bare ts e (Err (refusals.Byte n)) p = absurd p
+parsed_line bare ts e (Err refusals.LongLine) p = absurd p
+parsed_line bare ts e (Err (refusals.Name n)) p = absurd p
+parsed_line bare ts e (Err (refusals.Duplicate n)) p = absurd p
+parsed_line bare ts e (Err (refusals.Mixed n)) p = absurd p
+parsed_line bare ts e (Err (refusals.Label n)) p = absurd p
+parsed_line bare ts e (Err (refusals.Table n)) p = absurd p
+parsed_line bare ts e (Err (refusals.Level n)) p = absurd p
+parsed_line bare ts e (Err (refusals.TooMany n)) p = absurd p
+
+-- 2. a command that nothing refuses
+
+pub edit_asked : (limit : ℕ) (s : spec.System) (c : Command) → kind_of_command c ≡ kinds.Edit → accepted limit s c ≡ edited limit s (edits.changed s c) (levels_of limit (edits.changed s c))
+edit_asked limit s (print_string n) e = cc
+edit_asked limit s print_segments e = cc
+edit_asked limit s print_svg e = cc
+edit_asked limit s print_system e = cc
+edit_asked limit s quit e = cc
+edit_asked limit s (set_axiom xs) e = refl
+edit_asked limit s (put_production t l r) e = refl
+edit_asked limit s (drop_rule l) e = refl
+edit_asked limit s (set_ignored ns) e = refl
+edit_asked limit s (set_schedule ws) e = refl
+edit_asked limit s (set_seed n) e = refl
+edit_asked limit s (set_depth n) e = refl
+edit_asked limit s (set_lattice k) e = refl
+edit_asked limit s (put_homomorphism l r) e = refl
+
+pub string_asked : (c : Command) (t : Option ℕ) → kind_of_command c ≡ kinds.String t → c ≡ print_string t
+string_asked (print_string n) t e = cc
+string_asked print_segments t e = cc
+string_asked print_svg t e = cc
+string_asked print_system t e = cc
+string_asked quit t e = cc
+string_asked (set_axiom xs) t e = cc
+string_asked (put_production u l r) t e = cc
+string_asked (drop_rule l) t e = cc
+string_asked (set_ignored ns) t e = cc
+string_asked (set_schedule ws) t e = cc
+string_asked (set_seed n) t e = cc
+string_asked (set_depth n) t e = cc
+string_asked (set_lattice k) t e = cc
+string_asked (put_homomorphism l r) t e = cc
+
+below : (b : Bool) (why : edits.Why) (n : ℕ) → edits.refused_if b why n ≡ None → b ≡ false
+below true why n e = cc
+below false why n e = refl
+
+pub level_there : (s : spec.System) (c : Command) (t : Option ℕ) → c ≡ print_string t → edits.refusal s c ≡ None → HasLevel s (String t)
+level_there s c None e h = tt
+level_there s c (Some n) e h =
+    let passed : nat_lt s.depth n ≡ false = below (nat_lt s.depth n) edits.wrong_level 1 (subst (λ d. edits.refusal s d ≡ None) e h) in
+    grind (arith, nat_tests, passed)
+
+-- 3. the whole line
+
+abbrev either : Bool → Reply → Reply → Reply
+either b r q = elim b [ true ↦ r | false ↦ q ]
+
+taken : (b : Bool) (r q : Reply) → b ≡ true → either b r q ≡ r
+taken true r q e = refl
+taken false r q e = cc
+
+left : (b : Bool) (r q : Reply) → b ≡ false → either b r q ≡ q
+left true r q e = cc
+left false r q e = refl
+
+pub passed_over : (s : spec.System) (bare : List ℕ) → is_passed_over bare ≡ true → IsRequest s bare (Ok Nothing)
+passed_over s bare e = (λ limit. taken (is_passed_over bare) (said s []) (tokens_reply limit s (length bare) (syntax.tokens bare)) e, tt)
+
+not_passed : (limit : ℕ) (s : spec.System) (bare : List ℕ) → is_passed_over bare ≡ false → bare_reply limit s bare ≡ tokens_reply limit s (length bare) (syntax.tokens bare)
+not_passed limit s bare e = left (is_passed_over bare) (said s []) (tokens_reply limit s (length bare) (syntax.tokens bare)) e
+
+pub no_command : (s : spec.System) (bare : List ℕ) (r : Refusal) → is_passed_over bare ≡ false → IsCommandIn bare (Err r) → IsRequest s bare (Err r)
+no_command s bare refusals.Memory p h = p
+no_command s bare (refusals.Byte n) p h = λ limit. not_passed limit s bare p ∙ h limit s
+no_command s bare refusals.LongLine p h = λ limit. not_passed limit s bare p ∙ h limit s
+no_command s bare (refusals.Token n) p h = λ limit. not_passed limit s bare p ∙ h limit s
+no_command s bare (refusals.Deep n) p h = λ limit. not_passed limit s bare p ∙ h limit s
+no_command s bare (refusals.Name n) p h = λ limit. not_passed limit s bare p ∙ h limit s
+no_command s bare (refusals.Duplicate n) p h = λ limit. not_passed limit s bare p ∙ h limit s
+no_command s bare (refusals.Mixed n) p h = λ limit. not_passed limit s bare p ∙ h limit s
+no_command s bare (refusals.Label n) p h = λ limit. not_passed limit s bare p ∙ h limit s
+no_command s bare (refusals.Table n) p h = λ limit. not_passed limit s bare p ∙ h limit s
+no_command s bare (refusals.Level n) p h = λ limit. not_passed limit s bare p ∙ h limit s
+no_command s bare (refusals.TooMany n) p h = λ limit. not_passed limit s bare p ∙ h limit s
+
+module _ (s : spec.System) (bare : List ℕ) (c : CommandLine) (p : is_passed_over bare ≡ false) (h : IsCommandIn bare (Ok c)) where
+  abbrev column : ℕ → ℕ
+  column n = column_at (length bare) n (map token_of c.tokens)
+
+  replied : (limit : ℕ) → bare_reply limit s bare ≡ command_reply limit s column (command_of c.tokens) (edits.refusal s (command_of c.tokens))
+  replied limit = not_passed limit s bare p ∙ told_by limit s bare c.tokens (sentence (command_of c.tokens)) h.0 h.1
+
+  refused_so : (why : edits.Why) (n : ℕ) → IsToldAt c why n (edits.refusal s (command_of c.tokens)) → (limit : ℕ) → bare_reply limit s bare ≡ refused s (with_number (why_word why) n)
+  refused_so why n told limit =
+      let at : n ≡ column told.0 = told.2 ∙ ap (λ bytes. column_of bytes c.tokens told.0) h.2 in
+      replied limit ∙ ap (command_reply limit s column (command_of c.tokens)) told.1 ∙ ap (λ k. refused s (with_number (why_word why) k)) (sym at)
+
+  pub asked : (r : Result Request Refusal) → IsRequested s c r → IsRequest s bare r
+  asked (Ok r) q = (λ limit. replied limit ∙ ap (command_reply limit s column (command_of c.tokens)) q.0 ∙ q.1 limit, q.2)
+  asked (Err (refusals.Name n)) q = refused_so edits.unknown_name n q
+  asked (Err (refusals.Duplicate n)) q = refused_so edits.duplicate n q
+  asked (Err (refusals.Mixed n)) q = refused_so edits.mixed n q
+  asked (Err (refusals.Label n)) q = refused_so edits.wrong_label n q
+  asked (Err (refusals.Table n)) q = refused_so edits.wrong_table n q
+  asked (Err (refusals.Level n)) q = refused_so edits.wrong_level n q
+  asked (Err (refusals.TooMany n)) q = refused_so edits.many n q
+  asked (Err refusals.Memory) q = p
+  asked (Err (refusals.Byte n)) q = absurd q
+  asked (Err refusals.LongLine) q = absurd q
+  asked (Err (refusals.Token n)) q = absurd q
+  asked (Err (refusals.Deep n)) q = absurd q

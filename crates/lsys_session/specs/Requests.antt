@@ -1,0 +1,94 @@
+-- What a line asks of a system, and what it is answered.
+use Rattle.std.specs.Prelude.{◌≡◌, ◌≤◌, ◌++◌, ◌∷◌, decimal, ℕ, Option, Some, None, Result, Ok, Err, List, [], codes, length, map, false}
+use Rattle.lsys_syntax.specs.Tokens.{tokens}
+use Rattle.lsys_syntax.specs.LineMachine.{sentence, verdict}
+use Rattle.lsys_spec.specs.Systems as spec
+use Rattle.lsys_spec.specs.Edits as edits
+use Rattle.lsys_spec.specs.Refusals.{Reply, said, refused, session_end, is_passed_over, line_feed}
+use Rattle.lsys_spec.specs.PictureTexts.{segments_text, svg_text}
+use Rattle.lsys_spec.specs.Shown.{show_text}
+use Rattle.lsys_spec.specs.Replies.{shown, string_line, levels_of, picture_of, edited, accepted, tokens_reply, bare_reply}
+use Rattle.lsys_text.specs.Tokens.{kinds_of, token_of}
+use Rattle.lsys_reading.specs.Parted.{command_of}
+use Rattle.lsys_rules.specs.Lines.{CommandLine}
+use Rattle.lsys_rules.specs.Applying.{IsRefused}
+use Rattle.lsys_rules.specs.declared.refusal.Refusal.{Refusal}
+use Rattle.lsys_rules.specs.declared.refusal.Refusal.TheVariants as refusals
+use Rattle.lsys_session.specs.declared.request.Request.{Request}
+use Rattle.lsys_session.specs.declared.request.Request.TheVariants.{Nothing, Edit, String, Segments, Svg, Show, Quit}
+
+-- 1. refusals
+
+-- why a command is refused by itself, but for the column
+abbrev pub refusal_words : Refusal → List ℕ
+refusal_words (refusals.Byte n) = codes "syntax byte"
+refusal_words refusals.LongLine = codes "syntax long"
+refusal_words (refusals.Token n) = codes "syntax token"
+refusal_words (refusals.Deep n) = codes "syntax deep"
+refusal_words (refusals.Name n) = codes "name"
+refusal_words (refusals.Duplicate n) = codes "duplicate"
+refusal_words (refusals.Mixed n) = codes "mixed"
+refusal_words (refusals.Label n) = codes "label"
+refusal_words (refusals.Table n) = codes "table"
+refusal_words (refusals.Level n) = codes "level"
+refusal_words (refusals.TooMany n) = codes "many"
+refusal_words refusals.Memory = codes "memory"
+
+abbrev pub refusal_column : Refusal → Option ℕ
+refusal_column (refusals.Byte n) = Some n
+refusal_column (refusals.Token n) = Some n
+refusal_column (refusals.Deep n) = Some n
+refusal_column (refusals.Name n) = Some n
+refusal_column (refusals.Duplicate n) = Some n
+refusal_column (refusals.Mixed n) = Some n
+refusal_column (refusals.Label n) = Some n
+refusal_column (refusals.Table n) = Some n
+refusal_column (refusals.Level n) = Some n
+refusal_column (refusals.TooMany n) = Some n
+refusal_column r = None
+
+abbrev pub column_text : Option ℕ → List ℕ
+column_text (Some n) = 32 ∷ decimal n
+column_text None = []
+
+abbrev pub refusal_text : Refusal → List ℕ
+refusal_text r = refusal_words r ++ column_text (refusal_column r)
+
+abbrev pub refusal_line : Refusal → List ℕ
+refusal_line r = codes "refused " ++ refusal_text r ++ line_feed
+
+-- 2. requests
+
+-- the reply to what a line asks, where it isn't refused for want of memory
+abbrev pub reply_to : ℕ → spec.System → Request → Reply
+reply_to limit s Nothing = said s []
+reply_to limit s (Edit next) = edited limit s next (levels_of limit next)
+reply_to limit s (String t) = shown s (string_line t) (levels_of limit s)
+reply_to limit s Segments = shown s segments_text (picture_of s (levels_of limit s))
+reply_to limit s Svg = shown s (svg_text s.lattice) (picture_of s (levels_of limit s))
+reply_to limit s Show = said s (show_text s)
+reply_to limit s Quit = session_end s
+
+-- a level that is asked for by its number is there
+abbrev pub HasLevel : spec.System → Request → Type 0
+HasLevel s (String (Some t)) = t ≤ s.depth
+HasLevel s r = Unit {0}
+
+-- for any limit of the session, this is the reply to the line; want of memory is no answer to a line that is passed over
+abbrev pub IsRequest : spec.System → List ℕ → Result Request Refusal → Type 0
+IsRequest s bare (Ok r) = ((limit : ℕ) → bare_reply limit s bare ≡ reply_to limit s r) × HasLevel s r
+IsRequest s bare (Err refusals.Memory) = is_passed_over bare ≡ false
+IsRequest s bare (Err e) = (limit : ℕ) → bare_reply limit s bare ≡ refused s (refusal_text e)
+
+-- 3. its steps
+
+-- the command that the line's tokens spell, or why they spell none
+abbrev pub IsCommandIn : List ℕ → Result CommandLine Refusal → Type 0
+IsCommandIn bare (Ok c) = (tokens bare ≡ Ok (map token_of c.tokens)) × (verdict (kinds_of c.tokens) ≡ sentence (command_of c.tokens)) × (c.bytes ≡ length bare)
+IsCommandIn bare (Err refusals.Memory) = Unit {0}
+IsCommandIn bare (Err e) = (limit : ℕ) (s : spec.System) → tokens_reply limit s (length bare) (tokens bare) ≡ refused s (refusal_text e)
+
+-- what a command asks that nothing refuses, or the first refusal
+abbrev pub IsRequested : spec.System → CommandLine → Result Request Refusal → Type 0
+IsRequested s c (Ok r) = (edits.refusal s (command_of c.tokens) ≡ None) × ((limit : ℕ) → accepted limit s (command_of c.tokens) ≡ reply_to limit s r) × HasLevel s r
+IsRequested s c (Err e) = IsRefused c (edits.refusal s (command_of c.tokens)) e
