@@ -1,5 +1,5 @@
 //! The rules of a group with weights that apply.
-ghost use Rattle.std.specs.Prelude.{◌≡◌, ◌++◌, ◌∷◌, [], IfOk, Ok, map};
+ghost use Rattle.std.specs.Prelude.{◌≡◌, ◌++◌, ◌∷◌, [], IfOk, OnErr, Ok, map};
 ghost use Rattle.lsys_spec.specs.Choice.{found_with, not_negative, picked, weighed, weights, within_total};
 ghost use Rattle.lsys_match.specs.Choices.{applying, applying_of, choice_by, found_or, weight_by};
 ghost use Rattle.lsys_match.specs.Groups.{meant};
@@ -66,7 +66,8 @@ impl Found {
         outcome: Outcome,
         bound: &[i64],
     ) -> Result<Option<FaultKind>, AllocError>
-        ensures { IfOk result (λ k. found_with self.old place (meant body.now) (outcome_by outcome bound.now) ≡ found_or self.new k) }
+        ensures found { IfOk result (λ k. found_with self.old place (meant body.now) (outcome_by outcome bound.now) ≡ found_or self.new k) }
+        ensures refused { OnErr result (outcome ≡ Outcome.Yes) }
     {
         match outcome {
             Outcome::No => Ok(None),

@@ -1,12 +1,26 @@
-//! Which rule of its group replaces a module: the first one that applies, or the one that is drawn among those that do.
+//! The questions of modules and their answers (ABOP 1.7, 1.8 and 1.10): which rule replaces a module, by what stands around
+//! it, and with what.
+//!
+//! An answer is kept with its question, and asking again tells whether the question is the same. Tags stand for levels and
+//! lineages; what is answered is, by every naming of the tags, what the definitions say of the module at that place.
 #![tactic(auto)]
 
+mod answer;
+mod ask;
+mod asked;
 mod choice;
 mod found;
 mod group;
 mod outcome;
+mod posed;
+mod refusal;
 mod site;
+mod steps;
+mod told;
 
-pub use choice::Choice;
-pub use group::Group;
-pub use site::Site;
+pub use answer::Answer;
+pub use ask::ask;
+pub use asked::Asked;
+pub use lsys_walks::{AnswerStore, Entry, EntryKind};
+pub use refusal::AskRefusal;
+pub use steps::Steps;

@@ -1,5 +1,5 @@
 //! A module, with what stands around it.
-ghost use Rattle.std.specs.Prelude.{◌≡◌, ◌+◌, ◌≤◌, [], length, map, Some, Ok};
+ghost use Rattle.std.specs.Prelude.{◌≡◌, ◌+◌, ◌≤◌, [], length, map, Some, None, Ok, IfOk, OnErr};
 ghost use Rattle.lsys_module.specs.Views.{module_name};
 ghost use Rattle.lsys_level.specs.Spots.{IsSpot, level_at};
 ghost use Rattle.lsys_walks.specs.Views.{module_of};
@@ -19,7 +19,7 @@ use lsys_bodies::{Body, SharedBody};
 use lsys_level::LevelView;
 use lsys_rewrite::FaultKind;
 use lsys_text::Name;
-use lsys_walks::{Reading, Steps, Walked, context_reads};
+use lsys_walks::{Counter, Reading, Walked, context_reads};
 use std::alloc::{AllocError, Global};
 use std::marker::Model;
 use std::sync::ledger::Ledger;
@@ -83,11 +83,12 @@ impl<'a, W: LevelView> Site<'a, W> {
         body: &SharedBody,
         trace: &mut Reading<'t>,
         bound: &mut Vec<i64>,
-        visited: &mut Steps<V>,
+        visited: &mut Counter<V>,
     ) -> Result<Outcome, AllocError>
         requires room { length trace.old.read ≤ most_entries }
         ensures tried { Tries self.now place (meant body.now) trace.old.read trace.new.read bound.new.items result }
         ensures refused { TriesFront self.now place (meant body.now) trace.old.read trace.new.read result }
+        ensures few { OnErr result (length trace.new.read ≤ most_entries) }
         ensures same { trace.new.old ≡ trace.old.old }
         ensures counted { visited.new + length trace.old.read ≡ visited.old + length trace.new.read }
     {
@@ -112,11 +113,12 @@ impl<'a, W: LevelView> Site<'a, W> {
         group: &Group<'a>,
         trace: &mut Reading<'t>,
         bound: &mut Vec<i64>,
-        visited: &mut Steps<V>,
+        visited: &mut Counter<V>,
     ) -> Result<Choice, AllocError>
         requires unread { trace.old.read ≡ [] }
         ensures chosen { Chooses (λ naming. first_told naming self.now none_tried (rules_of group.now)) trace.new.read bound.new.items result }
         ensures refused { ChoosesFront (λ naming. first_told naming self.now none_tried (rules_of group.now)) trace.new.read result }
+        ensures few { OnErr result (length trace.new.read ≤ most_entries) }
         ensures same { trace.new.old ≡ trace.old.old }
         ensures counted { visited.new ≡ visited.old + length trace.new.read }
     {
@@ -139,12 +141,14 @@ impl<'a, W: LevelView> Site<'a, W> {
         found: &mut Found,
         trace: &mut Reading<'t>,
         bound: &mut Vec<i64>,
-        visited: &mut Steps<V>,
+        visited: &mut Counter<V>,
     ) -> Result<Option<FaultKind>, AllocError>
         requires unread { trace.old.read ≡ [] }
         requires none { found.old ≡ [] }
         ensures found { Finds (λ naming. all_told naming self.now none_tried (Ok []) (rules_of group.now)) trace.new.read found.new result }
         ensures refused { FindsFront (λ naming. all_told naming self.now none_tried (Ok []) (rules_of group.now)) trace.new.read result }
+        ensures few { OnErr result (length trace.new.read ≤ most_entries) }
+        ensures whole { IfOk result (λ k. k ≡ None → length trace.new.read ≤ most_entries) }
         ensures same { trace.new.old ≡ trace.old.old }
         ensures counted { visited.new ≡ visited.old + length trace.new.read }
     {
@@ -169,11 +173,12 @@ impl<'a, W: LevelView> Site<'a, W> {
         key: u64,
         trace: &mut Reading<'t>,
         bound: &mut Vec<i64>,
-        visited: &mut Steps<V>,
+        visited: &mut Counter<V>,
     ) -> Result<Choice, AllocError>
         requires unread { trace.old.read ≡ [] }
         ensures chosen { Chooses (λ naming. choice_told naming self.now (Some key) (rules_of group.now)) trace.new.read bound.new.items result }
         ensures refused { ChoosesFront (λ naming. choice_told naming self.now (Some key) (rules_of group.now)) trace.new.read result }
+        ensures few { OnErr result (length trace.new.read ≤ most_entries) }
         ensures same { trace.new.old ≡ trace.old.old }
         ensures counted { visited.new ≡ visited.old + length trace.new.read }
     {
@@ -193,11 +198,12 @@ impl<'a, W: LevelView> Site<'a, W> {
         key: Option<u64>,
         trace: &mut Reading<'t>,
         bound: &mut Vec<i64>,
-        visited: &mut Steps<V>,
+        visited: &mut Counter<V>,
     ) -> Result<Choice, AllocError>
         requires unread { trace.old.read ≡ [] }
         ensures chosen { Chooses (λ naming. choice_told naming self.now key (rules_of group.now)) trace.new.read bound.new.items result }
         ensures refused { ChoosesFront (λ naming. choice_told naming self.now key (rules_of group.now)) trace.new.read result }
+        ensures few { OnErr result (length trace.new.read ≤ most_entries) }
         ensures same { trace.new.old ≡ trace.old.old }
         ensures counted { visited.new ≡ visited.old + length trace.new.read }
     {

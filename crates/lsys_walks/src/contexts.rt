@@ -1,16 +1,16 @@
 //! The reads of a rule.
-ghost use Rattle.std.specs.Prelude.{◌≡◌, ◌+◌, ◌≤◌, length};
+ghost use Rattle.std.specs.Prelude.{◌≡◌, ◌+◌, ◌≤◌, length, OnErr};
 ghost use Rattle.lsys_spec.specs.Levels.{ModuleValue};
 ghost use Rattle.lsys_spec.specs.Meaning.{most_entries};
 ghost use Rattle.lsys_level.specs.Spots.{IsSpot, level_at};
 ghost use Rattle.lsys_bodies.specs.Built.{IsBuilt};
 ghost use Rattle.lsys_walks.specs.Walked.{rule_told, IsWalk, IsFrontOfWalk, AreKept};
 
+use crate::counter::Counter;
 use crate::left::left_reads;
 use crate::mark::Mark;
 use crate::reading::Reading;
 use crate::right::right_reads;
-use crate::steps::Steps;
 use crate::walked::Walked;
 use lsys_bodies::Body;
 use lsys_level::LevelView;
@@ -27,7 +27,8 @@ use std::sync::ledger::Ledger;
 ///
 /// # Errors
 ///
-/// Want of memory, for an entry that differs from the old trace or for the parameters. What was read by then is kept.
+/// Want of memory, for an entry that differs from the old trace or for the parameters. What was read by then is kept: of
+/// the whole trace at most 1,024 entries.
 pub fn context_reads<'a, W: LevelView, V: Ledger>(
     view: &W,
     spot: W::Spot,
@@ -37,7 +38,7 @@ pub fn context_reads<'a, W: LevelView, V: Ledger>(
     rule: u8,
     trace: &mut Reading<'a>,
     bound: &mut Vec<i64>,
-    visited: &mut Steps<V>,
+    visited: &mut Counter<V>,
 ) -> Result<Walked, AllocError>
     requires spot { IsSpot (W.levels view.now) (W.level_of view.now spot) (W.place_of view.now spot) }
     requires built { IsBuilt body.now }
@@ -50,6 +51,7 @@ pub fn context_reads<'a, W: LevelView, V: Ledger>(
         (m : ModuleValue) → m.params ≡ own.now
         → IsFrontOfWalk (rule_told ignored.now rule body.now m (W.place_of view.now spot)) x
         trace.old.read trace.new.read result }
+    ensures few { OnErr result (length trace.new.read ≤ most_entries) }
     ensures same { trace.new.old ≡ trace.old.old }
     ensures counted { visited.new + length trace.old.read ≡ visited.old + length trace.new.read }
 {

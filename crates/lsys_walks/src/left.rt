@@ -1,14 +1,14 @@
 //! The walk to the left.
-ghost use Rattle.std.specs.Prelude.{◌≡◌, ◌+◌, ◌≤◌, ◌++◌, length, reverse, OnOk};
+ghost use Rattle.std.specs.Prelude.{◌≡◌, ◌+◌, ◌≤◌, ◌++◌, length, reverse, OnOk, OnErr};
 ghost use Rattle.lsys_spec.specs.Meaning.{most_entries};
 ghost use Rattle.lsys_level.specs.Spots.{IsSpot, level_at};
 ghost use Rattle.lsys_walks.specs.Walked.{left_told, IsWalk, IsFrontOfWalk, KeptReversed};
 
+use crate::counter::Counter;
 use crate::entry::Entry;
 use crate::mark::Mark;
 use crate::pattern::{fits, is_ignored};
 use crate::reading::Reading;
-use crate::steps::Steps;
 use crate::walked::Walked;
 use lsys_bodies::Pattern;
 use lsys_level::{LevelView, Sight};
@@ -29,7 +29,8 @@ use std::sync::ledger::Ledger;
 ///
 /// # Errors
 ///
-/// Want of memory, for an entry that differs from the old trace or for the parameters. What was read by then is kept.
+/// Want of memory, for an entry that differs from the old trace or for the parameters. What was read by then is kept: of
+/// the whole trace at most 1,024 entries.
 pub fn left_reads<'a, W: LevelView, V: Ledger>(
     view: &W,
     spot: W::Spot,
@@ -38,7 +39,7 @@ pub fn left_reads<'a, W: LevelView, V: Ledger>(
     mark: Mark,
     trace: &mut Reading<'a>,
     bound: &mut Vec<i64>,
-    visited: &mut Steps<V>,
+    visited: &mut Counter<V>,
 ) -> Result<Walked, AllocError>
     requires spot { IsSpot (W.levels view.now) (W.level_of view.now spot) (W.place_of view.now spot) }
     requires room { length trace.old.read ≤ most_entries }
@@ -48,6 +49,7 @@ pub fn left_reads<'a, W: LevelView, V: Ledger>(
     ensures refused { let x = level_at (W.levels view.now) (W.level_of view.now spot) in
         let walk = left_told ignored.now mark patterns.now (W.place_of view.now spot) in
         IsFrontOfWalk walk x trace.old.read trace.new.read result }
+    ensures few { OnErr result (length trace.new.read ≤ most_entries) }
     ensures same { trace.new.old ≡ trace.old.old }
     ensures counted { visited.new + length trace.old.read ≡ visited.old + length trace.new.read }
 {

@@ -7,6 +7,7 @@
 
 mod alike;
 mod contexts;
+mod counter;
 mod entry;
 mod item;
 mod law;
@@ -16,12 +17,12 @@ mod pattern;
 mod reading;
 mod right;
 mod same;
-mod steps;
 mod store;
 mod trace;
 mod walked;
 
 pub use contexts::context_reads;
+pub use counter::Counter;
 pub use entry::{Entry, EntryKind};
 pub use law::law_of_tagged_traces;
 pub use left::left_reads;
@@ -29,7 +30,6 @@ pub use mark::Mark;
 pub use reading::Reading;
 pub use right::right_reads;
 pub use same::same_trace;
-pub use steps::Steps;
 pub use store::{AnswerStore, TraceRuns};
 pub use trace::Trace;
 pub use walked::Walked;

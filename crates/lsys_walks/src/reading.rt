@@ -5,8 +5,8 @@ ghost use Rattle.lsys_walks.specs.Views.{noted_of, decoded, arities};
 ghost use Rattle.lsys_walks.specs.Readings.{IsFront};
 
 use crate::alike::is_alike;
+use crate::counter::Counter;
 use crate::entry::Entry;
-use crate::steps::Steps;
 use crate::trace::{MOST_ENTRIES, Trace};
 use std::alloc::{AllocError, Global};
 use std::marker::Model;
@@ -165,7 +165,7 @@ impl<'a> Reading<'a> {
         &mut self,
         entry: Entry,
         params: &[i64],
-        visited: &mut Steps<V>,
+        visited: &mut Counter<V>,
     ) -> Result<bool, AllocError>
         requires { length params.now ≡ entry.arity }
         ensures old { self.new.old ≡ self.old.old }

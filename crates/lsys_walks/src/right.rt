@@ -1,15 +1,15 @@
 //! The walk to the right.
-ghost use Rattle.std.specs.Prelude.{◌≡◌, ◌+◌, ◌-◌, ◌<◌, ◌≤◌, length, take};
+ghost use Rattle.std.specs.Prelude.{◌≡◌, ◌+◌, ◌-◌, ◌<◌, ◌≤◌, length, take, OnErr};
 ghost use Rattle.lsys_spec.specs.Meaning.{most_entries};
 ghost use Rattle.lsys_level.specs.Spots.{IsSpot, level_at};
 ghost use Rattle.lsys_walks.specs.Walked.{right_told, IsWalk, IsFrontOfWalk, KeptInOrder};
 
+use crate::counter::Counter;
 use crate::entry::Entry;
 use crate::item::behind;
 use crate::mark::Mark;
 use crate::pattern::{fits, is_ignored};
 use crate::reading::Reading;
-use crate::steps::Steps;
 use crate::walked::Walked;
 use lsys_bodies::Item;
 use lsys_level::{LevelView, Sight};
@@ -32,7 +32,8 @@ use std::sync::ledger::Ledger;
 ///
 /// # Errors
 ///
-/// Want of memory, for an entry that differs from the old trace or for the parameters. What was read by then is kept.
+/// Want of memory, for an entry that differs from the old trace or for the parameters. What was read by then is kept: of
+/// the whole trace at most 1,024 entries.
 pub fn right_reads<'a, W: LevelView, V: Ledger>(
     view: &W,
     spot: W::Spot,
@@ -42,7 +43,7 @@ pub fn right_reads<'a, W: LevelView, V: Ledger>(
     mark: Mark,
     trace: &mut Reading<'a>,
     bound: &mut Vec<i64>,
-    visited: &mut Steps<V>,
+    visited: &mut Counter<V>,
 ) -> Result<Walked, AllocError>
     requires spot { IsSpot (W.levels view.now) (W.level_of view.now spot) (W.place_of view.now spot) }
     requires first { first ≤ length items.now }
@@ -54,6 +55,7 @@ pub fn right_reads<'a, W: LevelView, V: Ledger>(
     ensures refused { let x = level_at (W.levels view.now) (W.level_of view.now spot) in
         let walk = right_told ignored.now mark items.now first (W.place_of view.now spot) in
         IsFrontOfWalk walk x trace.old.read trace.new.read result }
+    ensures few { OnErr result (length trace.new.read ≤ most_entries) }
     ensures front { take (length bound.old.items) bound.new.items ≡ bound.old.items }
     ensures same { trace.new.old ≡ trace.old.old }
     ensures counted { visited.new + length trace.old.read ≡ visited.old + length trace.new.read }

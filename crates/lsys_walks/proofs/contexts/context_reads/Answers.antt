@@ -1,4 +1,4 @@
-use Rattle.std.proofs.Common.{◌≡◌, ℕ, List, [], ◌++◌, ◌+◌, map, reverse, Ok, IfOk, ap, ◌∙◌, arith, rules, subst, refl, sym, Err, OnErr}
+use Rattle.std.proofs.Common.{◌≡◌, ℕ, List, [], ◌++◌, ◌+◌, ◌≤◌, length, map, reverse, Ok, IfOk, ap, ◌∙◌, arith, rules, subst, refl, sym, Err, OnErr}
 use Rattle.std.proofs.lemmas.List.{length-map}
 use Rattle.lsys_spec.specs.Levels.{way, items_from}
 use Rattle.lsys_spec.specs.Walks.{left_walk, right_walk}
@@ -54,6 +54,13 @@ returns-in_err-left_reads-clause-refused g c =
     let bad : c.left_reads.result ≡ Err _ = c.in_err-left_reads.was in
     λ m i naming. on_err _ _ (left_front (ignores (map module_name c.args.ignored.now)) (record { rule = c.args.rule; depth = 0 }) (body_value c.args.body.now) m (way (level_by naming (level_at (g.W.LevelView.levels c.args.view.now) (g.W.LevelView.level_of c.args.view.now c.args.spot))) (g.W.LevelView.place_of c.args.view.now c.args.spot)) (items_from (level_by naming (level_at (g.W.LevelView.levels c.args.view.now) (g.W.LevelView.level_of c.args.view.now c.args.spot))) ((g.W.LevelView.place_of c.args.view.now c.args.spot) + 1)) most_entries (map pattern_of c.deref.result.now) (patterns_from c.args.body.now.right.items 0) (ap (map pattern_of) (sym c.deref.ensures.value)) refl (es_of naming c.args.trace.now.read) (es_of naming c.left_reads.new.trace.read) (es_of naming c.left_reads.new.trace.read)
     (subst (λ r. OnErr r (ReadsFront (left_walk (ignores (map module_name c.args.ignored.now)) (record { rule = c.args.rule; depth = 0 }) (reverse (map pattern_of c.deref.result.now)) (way (level_by naming (level_at (g.W.LevelView.levels c.args.view.now) (g.W.LevelView.level_of c.args.view.now c.args.spot))) (g.W.LevelView.place_of c.args.view.now c.args.spot))) (es_of naming c.args.trace.now.read) (es_of naming c.left_reads.new.trace.read))) bad (c.left_reads.ensures.refused naming)))
+
+pub returns-in_err-extend_from_slice-in-Found-clause-few : goal.returns-in_err-extend_from_slice-in-Found-clause-few
+returns-in_err-extend_from_slice-in-Found-clause-few g c =
+    let ok : c.left_reads.result ≡ Ok Found = c.in_ok-left_reads.was ∙ ap (λ v. Ok v) c.in-Found.is in
+    let h : (naming : ℕ → List ℕ) → Walks most_entries (left_walk (ignores (map module_name c.args.ignored.now)) (record { rule = c.args.rule; depth = 0 }) (reverse (map pattern_of c.deref.result.now)) (way (level_by naming (level_at (g.W.LevelView.levels c.args.view.now) (g.W.LevelView.level_of c.args.view.now c.args.spot))) (g.W.LevelView.place_of c.args.view.now c.args.spot))) (es_of naming c.args.trace.now.read) (es_of naming c.left_reads.new.trace.read) (KeptReversed c.truncate.new.self.items c.left_reads.new.bound.items) Found =
+    λ naming. subst (λ r. IfOk r (λ v. Walks most_entries (left_walk (ignores (map module_name c.args.ignored.now)) (record { rule = c.args.rule; depth = 0 }) (reverse (map pattern_of c.deref.result.now)) (way (level_by naming (level_at (g.W.LevelView.levels c.args.view.now) (g.W.LevelView.level_of c.args.view.now c.args.spot))) (g.W.LevelView.place_of c.args.view.now c.args.spot))) (es_of naming c.args.trace.now.read) (es_of naming c.left_reads.new.trace.read) (KeptReversed c.truncate.new.self.items c.left_reads.new.bound.items) v)) ok (c.left_reads.ensures.told naming) in
+    let l : length c.left_reads.new.trace.read ≤ most_entries = omega (arith, (h (λ t. [])).1, length-map c.left_reads.new.trace.read (entry_by (λ t. []))) in on_err _ _ l
 
 pub returns-in_err-extend_from_slice-in-Found-clause-refused : goal.returns-in_err-extend_from_slice-in-Found-clause-refused
 returns-in_err-extend_from_slice-in-Found-clause-refused g c =

@@ -1,0 +1,93 @@
+//! What is read and chosen for a question.
+ghost use Rattle.std.specs.Prelude.{◌≡◌, ◌≤◌, ℕ, List, length};
+ghost use Rattle.lsys_match.specs.Asking.{posed_by, told_for};
+ghost use Rattle.lsys_match.specs.Answered.{Counts, trace_told};
+ghost use Rattle.lsys_match.specs.Telling.{HasFittingParams, IsPlaceOf, IsTold, old_trace};
+
+use crate::choice::Choice;
+use crate::posed::Posed;
+use crate::refusal::AskRefusal;
+use crate::site::Site;
+use lsys_level::LevelView;
+use lsys_module::SymbolList;
+use lsys_rewrite::FaultKind;
+use lsys_walks::{Counter, Entry, Reading, Trace};
+use std::alloc::Global;
+use std::sync::ledger::Ledger;
+
+/// The trace of an old answer, with the parameters of its modules.
+#[derive(Clone, Copy)]
+pub(crate) struct OldTrace<'a> {
+    pub(crate) entries: &'a [Entry],
+    pub(crate) values: &'a [i64],
+}
+
+/// What is read and chosen for a question.
+#[derive(Drop)]
+pub(crate) enum Told {
+    /// The old trace was read.
+    Same,
+    /// Another one was read, or there is no old one.
+    Other(Reply),
+}
+
+/// A trace, the rule that is chosen, by its place, and the successor.
+#[derive(Drop)]
+pub(crate) struct Reply {
+    pub(crate) trace: Trace,
+    pub(crate) chosen: Option<u8>,
+    pub(crate) successor: SymbolList,
+}
+
+impl<'a> Posed<'a> {
+    /// Reads and chooses. The old trace is that of an answer to a question that is the same but for the trace.
+    pub(crate) fn tell<W: LevelView, V: Ledger>(
+        &self,
+        alloc: Global,
+        site: &Site<'a, W>,
+        old: Option<OldTrace<'_>>,
+        visited: &mut Counter<V>,
+    ) -> Result<Told, AskRefusal>
+        requires site { site.now.own ≡ (posed_by self.now).own }
+        requires few { length self.now.params.now ≤ 8 }
+        requires old { HasFittingParams old.entry }
+        ensures told { IsTold (λ naming. told_for naming site.now (posed_by self.now)) (posed_by self.now) (old_trace old.entry) result }
+        ensures visited { (naming : ℕ → List ℕ)
+            → Counts (length (trace_told (told_for naming site.now (posed_by self.now)))) visited.old visited.new result }
+    {
+        let mut trace = match old {
+            Some(kept) => Reading::beside_parts(kept.entries, kept.values, alloc),
+            None => Reading::beside_parts(&[], &[], alloc),
+        };
+        let mut bound = Vec::new(alloc);
+        let choice = site.choose(
+            alloc,
+            &self.group,
+            self.key,
+            &mut trace,
+            &mut bound,
+            visited,
+        )?;
+        let chosen = place_of(choice)?;
+        if old.is_some() && trace.is_same() {
+            return Ok(Told::Same);
+        }
+        let successor = self.successor(alloc, chosen, &bound)?;
+        Ok(Told::Other(Reply {
+            trace: trace.finish()?,
+            chosen,
+            successor,
+        }))
+    }
+}
+
+// The place of the rule that is chosen.
+fn place_of(choice: Choice) -> Result<Option<u8>, FaultKind>
+    ensures { IsPlaceOf choice result }
+{
+    match choice {
+        Choice::NoRule => Ok(None),
+        Choice::Chosen(place) => Ok(Some(place)),
+        Choice::Failed(kind) => Err(kind),
+    }
+}
