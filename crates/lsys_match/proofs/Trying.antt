@@ -19,7 +19,9 @@ use Rattle.lsys_walks.specs.Noted.{Noted, entry_by}
 use Rattle.lsys_walks.specs.Views.{module_of}
 use Rattle.lsys_walks.specs.Walked.{ReadsFront}
 use Rattle.lsys_match.specs.Sites.{Site, rule_told}
-use Rattle.lsys_match.specs.Tries.{IsTried, MayGoOn, decided_by, entries_by, tried_so_far}
+use Rattle.lsys_match.specs.declared.outcome.Outcome.{Outcome as CodeOutcome}
+use Rattle.lsys_match.specs.declared.outcome.Outcome.TheVariants as code
+use Rattle.lsys_match.specs.Tries.{IsTried, MayGoOn, outcome_by, decided_by, entries_by, tried_so_far}
 
 goes_on : (o : Outcome) (t : Told Found) (old new : List Entry) → new ≡ old ++ t.entries → length new ≤ most_entries → MayGoOn o t old new
 goes_on No t old new e n = (e, n)
@@ -49,6 +51,10 @@ module _ (t : Told Found) (d : Tried) (b : Body) (old new : List Entry) (bound :
     read = h.0;
     all = tt;
   }
+
+-- a rule that applies doesn't read too many
+pub yes_few : (t : Told Found) (d : Tried) (b : Body) (old new : List Entry) (values : List ℤ) (o : CodeOutcome) → o ≡ code.Yes → IsTried t d b old new (outcome_by o values) → length new ≤ most_entries
+yes_few t d b old new values o e h = (subst (λ o. MayGoOn (outcome_by o values) t old new) e h.all).1
 
 -- at a site with these parts
 module _ (s : Site) (row : List Spotted) (p : ℕ) (name : List ℕ) (params : List ℤ) (ignored : List (List ℕ)) (place : ℕ) (b : Body) (old new : List Noted) (naming : ℕ → List ℕ)

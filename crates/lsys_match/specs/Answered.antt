@@ -1,22 +1,14 @@
 -- What is answered to a question.
-use Rattle.std.specs.Prelude.{◌≡◌, ◌+◌, ◌≤◌, ℕ, ℤ, List, length, take, Option, Some, None, Result, Ok, Err, option_map}
-use Rattle.lsys_syntax.specs.Strings as S
+use Rattle.std.specs.Prelude.{◌≡◌, ◌+◌, ◌≤◌, ℕ, List, take, Option, Some, None, Result, Ok, Err}
 use Rattle.lsys_spec.specs.Systems.{System, WellSpelled}
-use Rattle.lsys_spec.specs.Bodies.{Body}
-use Rattle.lsys_spec.specs.Levels.{ModuleValue}
 use Rattle.lsys_spec.specs.Walks.{Told, Entry}
 use Rattle.lsys_spec.specs.Choice as choice
 use Rattle.lsys_spec.specs.Meaning.{most_entries, successor_by}
 use Rattle.lsys_level.specs.Spots.{Spotted}
-use Rattle.lsys_module.specs.Views.{string_of}
-use Rattle.lsys_module.specs.declared.symbol.Symbol.{Symbol}
-use Rattle.lsys_rewrite.specs.Faults.{fault_of}
-use Rattle.lsys_rewrite.specs.declared.refusal.FaultKind.{FaultKind}
-use Rattle.lsys_walks.specs.Noted.{Noted}
 use Rattle.lsys_match.specs.declared.refusal.AskRefusal.{AskRefusal}
 use Rattle.lsys_match.specs.declared.refusal.AskRefusal.TheVariants.{Fault, Memory}
 use Rattle.lsys_match.specs.Tries.{entries_by}
-use Rattle.lsys_match.specs.TagQuestions.{Posed, TagAnswer}
+use Rattle.lsys_match.specs.TagQuestions.{TagAnswer}
 use Rattle.lsys_match.specs.Asking.{IsPosedAt, site_at, told_for}
 
 -- the place of the rule that is chosen

@@ -36,6 +36,9 @@ posed_by q = record { tag = q.tag; own = module_of q.group.name q.params.now; bo
 abbrev pub site_at : System → List Spotted → ℕ → ModuleValue → Site
 site_at s row p m = record { row = row; place = p; own = m; ignored = s.ignored }
 
+abbrev pub site_of : CodePosed → List Spotted → ℕ → Site
+site_of q row p = site_at q.group.system.now row p (posed_by q).own
+
 -- where a naming tells the lineages: what is read for it, and which rule is chosen
 abbrev pub told_for : (ℕ → List ℕ) → Site → Posed → Told Choice
 told_for naming s d = choice_told naming s d.key d.bodies

@@ -1,5 +1,6 @@
 -- What asking answers, by the definitions.
-use Rattle.std.specs.Prelude.{◌≡◌, ◌+◌, ℕ, ℤ, List, length, Option, Some, None, Result, Ok, Err, slice_get}
+use Rattle.std.specs.Prelude.{◌≡◌, ℕ, ℤ, List, length, Option, Some, None, Result, Ok, Err, slice_get}
+use Rattle.std.specs.Option.{IsSomeAnd}
 use Rattle.lsys_syntax.specs.Strings as S
 use Rattle.lsys_spec.specs.Draws.{key_of}
 use Rattle.lsys_spec.specs.Systems.{System}
@@ -12,13 +13,14 @@ use Rattle.lsys_spec.specs.Questions.{Question, question}
 use Rattle.lsys_level.specs.Spots.{Spotted, Module}
 use Rattle.lsys_rewrite.specs.Faults.{fault_of}
 use Rattle.lsys_walks.specs.Stores.{Store, StaysWithRoom, AreFresh, AreLive, OtherTracesStay}
+use Rattle.lsys_walks.specs.Noted.{Noted}
 use Rattle.lsys_match.specs.declared.asked.Asked.{Asked}
 use Rattle.lsys_match.specs.declared.asked.Asked.TheVariants.{Same, New}
 use Rattle.lsys_match.specs.declared.refusal.AskRefusal.{AskRefusal}
 use Rattle.lsys_match.specs.declared.refusal.AskRefusal.TheVariants as refusals
 use Rattle.lsys_match.specs.Kept.{Kept}
-use Rattle.lsys_match.specs.TagQuestions.{TagAnswer, question_by}
-use Rattle.lsys_match.specs.Stored.{runs_of, entries_in, values_in, question_in, answer_in, HasParams}
+use Rattle.lsys_match.specs.TagQuestions.{IsSamePosed, Posed, TagAnswer, question_by}
+use Rattle.lsys_match.specs.Stored.{runs_of, entries_in, values_in, posed_in, trace_in, question_in, answer_in, HasParams}
 use Rattle.lsys_match.specs.Answered.{IsSound, place_chosen}
 
 -- 1. by the definitions
@@ -47,8 +49,7 @@ pub record IsAnswer (naming : ℕ → List ℕ) (d : ByDefinition) (a : TagAnswe
 
 -- the old answer is this one, where the store holds this, or the new one is; or the fault is this
 abbrev pub IsAnswered : {L : Type 0} → (ℕ → List ℕ) → ByDefinition → Store → Option Kept → Result (Asked L) AskRefusal → Type 0
-IsAnswered naming d s None (Ok Same) = ⊥
-IsAnswered naming d s (Some old) (Ok Same) = IsAnswer naming d (answer_in s old)
+IsAnswered naming d s old (Ok Same) = IsSomeAnd old (λ a. IsAnswer naming d (answer_in s a))
 IsAnswered naming d s old (Ok (New a)) = IsAnswer naming d (answer_in s a)
 IsAnswered naming d s old (Err (refusals.Fault k)) = Err (fault_of k) ≡ d.successor
 IsAnswered naming d s old (Err refusals.Memory) = Unit {0}
@@ -64,6 +65,13 @@ pub record IsMade (s : Store) (a : Kept) : Type 0 where
 abbrev pub IsMadeIfAny : Store → Option Kept → Type 0
 IsMadeIfAny s None = Unit {0}
 IsMadeIfAny s (Some a) = IsMade s a
+
+-- the trace of the old answer, where its question is this one but for the trace
+abbrev pub IsTraceFor : Store → Option Kept → Posed → Option (List Noted) → Type 0
+IsTraceFor s None d None = Unit {0}
+IsTraceFor s None d (Some was) = ⊥
+IsTraceFor s (Some a) d None = IsSamePosed (posed_in s a) d → ⊥
+IsTraceFor s (Some a) d (Some was) = (trace_in s a ≡ was) × IsSamePosed (posed_in s a) d
 
 -- A new answer was made with the new store, and answers another question than the old one.
 pub record IsNew (before after : Store) (old : Option Kept) (a : Kept) : Type 0 where

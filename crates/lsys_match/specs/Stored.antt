@@ -1,5 +1,5 @@
 -- Answers beside the store with which they were made.
-use Rattle.std.specs.Prelude.{◌≡◌, ◌+◌, ℕ, ℤ, List, [], Option, Some, None, length, map, take, drop}
+use Rattle.std.specs.Prelude.{◌≡◌, ◌+◌, ℤ, List, [], Option, Some, None, length, map, take, drop}
 use Rattle.lsys_spec.specs.Levels.{ModuleValue}
 use Rattle.lsys_module.specs.Views.{string_of}
 use Rattle.lsys_region.specs.Pool.{list_of}

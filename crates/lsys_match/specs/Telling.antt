@@ -45,6 +45,11 @@ IsSuccessor bs m chosen values (Err Memory) = Unit {0}
 abbrev pub old_trace : Option OldTrace → Option (List Noted)
 old_trace o = option_map (λ t. decoded t.entries.now t.values.now) o
 
+-- it is the old trace, where there is one
+abbrev pub IsBeside : Option (List Noted) → List Noted → Type 0
+IsBeside None now = Unit {0}
+IsBeside (Some was) now = now ≡ was
+
 -- its parameters are as many as its entries have
 abbrev pub HasFittingParams : Option OldTrace → Type 0
 HasFittingParams None = Unit {0}
@@ -54,8 +59,8 @@ abbrev pub answer_of : Posed → Reply → TagAnswer
 answer_of d r = record { question = record { posed = d; trace = r.trace }; chosen = r.chosen; successor = string_of r.successor }
 
 -- the old trace was read; or another one, and this is the answer; or the fault
-abbrev pub IsTold : ((ℕ → List ℕ) → Told choice.Choice) → Posed → Option (List Noted) → Result CodeTold AskRefusal → Type 0
-IsTold told d old (Ok Same) = (was : List Noted) × (old ≡ Some was) × ((naming : ℕ → List ℕ) → entries_by naming was ≡ trace_told (told naming))
-IsTold told d old (Ok (Other r)) = (old ≡ Some r.trace → ⊥) × IsAnswerTo told (answer_of d r)
-IsTold told d old (Err (Fault k)) = (naming : ℕ → List ℕ) → successor_by d.bodies d.own (told naming).answer ≡ Err (fault_of k)
-IsTold told d old (Err Memory) = Unit {0}
+abbrev pub IsTelling : ((ℕ → List ℕ) → Told choice.Choice) → Posed → Option (List Noted) → Result CodeTold AskRefusal → Type 0
+IsTelling told d old (Ok Same) = (was : List Noted) × (old ≡ Some was) × ((naming : ℕ → List ℕ) → entries_by naming was ≡ trace_told (told naming))
+IsTelling told d old (Ok (Other r)) = (old ≡ Some r.trace → ⊥) × IsAnswerTo told (answer_of d r)
+IsTelling told d old (Err (Fault k)) = (naming : ℕ → List ℕ) → successor_by d.bodies d.own (told naming).answer ≡ Err (fault_of k)
+IsTelling told d old (Err Memory) = Unit {0}

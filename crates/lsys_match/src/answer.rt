@@ -100,11 +100,11 @@ impl<L: Ledger> Answer<L> {
     }
 
     /// The trace, where the question is this one but for the trace.
-    pub(crate) fn trace_for<'a>(
-        &'a self,
-        store: &'a AnswerStore,
+    pub(crate) fn trace_for<'s>(
+        &self,
+        store: &'s AnswerStore,
         posed: &Posed<'_>,
-    ) -> Option<OldTrace<'a>>
+    ) -> Option<OldTrace<'s>>
         requires live { AreLive store.now (runs_of self.now) }
         requires params { HasParams store.now self.now }
         ensures posed { MatchOption result (IsSamePosed (posed_in store.now self.now) (posed_by posed.now) → ⊥)

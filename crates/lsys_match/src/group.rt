@@ -78,10 +78,13 @@ impl<'a> Group<'a> {
     {
         let mut place = 0;
         while let Some(body) = self.get(place) {
-            match bodies.get(place) {
-                Some(other) if other.same(body) => place += 1,
-                _ => return false,
+            let Some(other) = bodies.get(place) else {
+                return false;
+            };
+            if !other.same(body) {
+                return false;
             }
+            place += 1;
         }
         place == bodies.len()
     }

@@ -6,21 +6,21 @@
 #![tactic(auto)]
 
 mod answer;
-mod ask;
 mod asked;
 mod choice;
 mod found;
 mod group;
 mod outcome;
 mod posed;
+mod question;
 mod refusal;
 mod site;
 mod steps;
 mod told;
 
 pub use answer::Answer;
-pub use ask::ask;
 pub use asked::Asked;
 pub use lsys_walks::{AnswerStore, Entry, EntryKind};
+pub use question::ask;
 pub use refusal::AskRefusal;
 pub use steps::Steps;

@@ -16,6 +16,7 @@ use lsys_rules::System;
 use std::alloc::Global;
 
 /// A question but for its trace: the module with its tag, its group, and its key where the group has weights.
+#[derive(Drop)]
 pub(crate) struct Posed<'a> {
     pub(crate) tag: Tag,
     pub(crate) params: &'a [i64],
@@ -34,6 +35,7 @@ impl<'a> Posed<'a> {
         requires spot { IsSpot (W.levels view.now) (W.level_of view.now spot) (W.place_of view.now spot) }
         requires module { IsModuleAt (level_at (W.levels view.now) (W.level_of view.now spot)) (W.place_of view.now spot) }
         ensures posed { IsPosedAt system.now level (level_at (W.levels view.now) (W.level_of view.now spot)) (W.place_of view.now spot) (posed_by result) }
+        ensures system { result.group.system.now ≡ system.now }
         ensures well { IsWell system.now }
         ensures few { length result.params.now ≤ 8 }
     {
@@ -70,18 +72,31 @@ impl<'a> Posed<'a> {
         requires { length self.now.params.now ≤ 8 }
         ensures { IsSuccessor (rules_of self.now.group) (module_of self.now.group.name self.now.params.now) chosen bound.now result }
     {
+        let symbols = self.replacement(alloc, chosen, bound)?;
+        Ok(symbols.clone()?)
+    }
+
+    fn replacement(
+        &self,
+        alloc: Global,
+        chosen: Option<u8>,
+        bound: &[i64],
+    ) -> Result<SymbolList, AskRefusal>
+        requires { length self.now.params.now ≤ 8 }
+        ensures { IsSuccessor (rules_of self.now.group) (module_of self.now.group.name self.now.params.now) chosen bound.now result }
+    {
         let mut symbols = SymbolList::new(alloc);
-        match chosen {
-            None => symbols.push(Symbol::Module(Module {
+        let Some(place) = chosen else {
+            symbols.push(Symbol::Module(Module {
                 name: self.group.name,
                 params: Params::of(self.params),
-            }))?,
-            Some(place) => {
-                if let Some(body) = self.group.get(place as usize) {
-                    fill_into(&mut symbols, body, bound)?;
-                }
-            }
-        }
-        Ok(symbols.clone()?)
+            }))?;
+            return Ok(symbols);
+        };
+        let Some(body) = self.group.get(place as usize) else {
+            return Ok(symbols);
+        };
+        fill_into(&mut symbols, body, bound)?;
+        Ok(symbols)
     }
 }

@@ -29,7 +29,7 @@ impl From<FaultKind> for AskRefusal {
 
 impl From<FillRefusal> for AskRefusal {
     ghost use Rattle.std.specs.Prelude.{◌≡◌};
-    ghost use Rattle.lsys_match.specs.Refusals.{refusal_by};
+    ghost use Rattle.lsys_match.specs.Refusals.{fill_refusal_by, refusal_by};
 
     ghost from_gives = { λ e r. refusal_by r ≡ fill_refusal_by e };
 

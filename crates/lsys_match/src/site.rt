@@ -25,6 +25,7 @@ use std::marker::Model;
 use std::sync::ledger::Ledger;
 
 /// A module of a level, and the names that contexts pass over.
+#[derive(Drop)]
 pub struct Site<'a, W: LevelView> {
     view: &'a W,
     spot: W::Spot,

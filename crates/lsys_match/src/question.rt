@@ -5,14 +5,13 @@ ghost use Rattle.lsys_spec.specs.Meaning.{most_entries};
 ghost use Rattle.lsys_level.specs.Spots.{IsSpot, level_at, level_by};
 ghost use Rattle.lsys_match.specs.Answered.{Counts};
 ghost use Rattle.lsys_match.specs.Asking.{HasQuestion, posed_by};
-ghost use Rattle.lsys_match.specs.Asks.{IsAnswered, IsKept, IsMadeIfAny, IsNamedAt, KeepsStore, StaysAsKept, by_definition, news};
-ghost use Rattle.lsys_match.specs.Telling.{answer_of};
+ghost use Rattle.lsys_match.specs.Asks.{IsAnswered, IsKept, IsMadeIfAny, IsNamedAt, IsTraceFor, KeepsStore, StaysAsKept, by_definition, news};
+ghost use Rattle.lsys_match.specs.Telling.{HasFittingParams, answer_of, old_trace};
 
 use crate::answer::Answer;
 use crate::asked::Asked;
 use crate::posed::Posed;
 use crate::refusal::AskRefusal;
-use crate::site::Site;
 use crate::steps::Steps;
 use crate::told::{OldTrace, Reply, Told};
 use lsys_level::LevelView;
@@ -24,12 +23,12 @@ use std::marker::PhantomData;
 use std::sync::ledger::Ledger;
 
 /// Asks what replaces a module.
-pub fn ask<W: LevelView, L: Ledger, V: Ledger>(
+pub fn ask<'a, W: LevelView, L: Ledger, V: Ledger>(
     alloc: Global,
     store: &mut AnswerStore,
-    view: &W,
+    view: &'a W,
     spot: W::Spot,
-    system: &System,
+    system: &'a System,
     level: u32,
     old: Option<&Answer<L>>,
     asked: &mut Steps<L>,
@@ -38,7 +37,7 @@ pub fn ask<W: LevelView, L: Ledger, V: Ledger>(
     requires spot { IsSpot (W.levels view.now) (W.level_of view.now spot) (W.place_of view.now spot) }
     requires level { W.level_of view.now spot ≡ level }
     requires module { HasQuestion system.now level (level_at (W.levels view.now) level) (W.place_of view.now spot) }
-    requires made { IsMadeIfAny store.old (option_map (λ a. a.now) old.entry) }
+    requires made { IsMadeIfAny store.old (option_map (λ a. a.now) old) }
     ensures answered { let x = level_at (W.levels view.now) level in let p = W.place_of view.now spot in
         (naming : ℕ → List ℕ) (tag : ℕ) (m : ModuleValue) → IsNamedAt naming system.now.seed x p tag m
         → IsAnswered naming (by_definition system.now level (level_by naming x) p (naming tag) m)
@@ -51,18 +50,28 @@ pub fn ask<W: LevelView, L: Ledger, V: Ledger>(
     ensures store { KeepsStore store.old store.new (option_map (λ a. a.now) old.entry) result }
 {
     let posed = Posed::at(view, spot, system, level);
-    let site = Site::new(view, spot, posed.group.name, posed.params, system.ignored());
-    let kept = match old {
-        Some(answer) => answer.trace_for(store, &posed),
-        None => None,
+    let kept = trace_for(old, store, &posed);
+    let Told::Other(reply) = posed.tell_at(alloc, view, spot, kept, &mut visited.count)? else {
+        return Ok(Asked::Same);
     };
-    match posed.tell(alloc, &site, kept, &mut visited.count)? {
-        Told::Same => Ok(Asked::Same),
-        Told::Other(reply) => {
-            let answer = keep(alloc, store, &posed, reply)?;
-            asked.count.tick();
-            Ok(Asked::New(answer))
-        }
+    let answer = keep(alloc, store, &posed, reply)?;
+    asked.count.tick();
+    Ok(Asked::New(answer))
+}
+
+// The trace of the old answer, where its question is this one but for the trace.
+fn trace_for<'s, L: Ledger>(
+    old: Option<&Answer<L>>,
+    store: &'s AnswerStore,
+    posed: &Posed<'_>,
+) -> Option<OldTrace<'s>>
+    requires { IsMadeIfAny store.now (option_map (λ a. a.now) old) }
+    ensures trace { IsTraceFor store.now (option_map (λ a. a.now) old.entry) (posed_by posed.now) (old_trace result) }
+    ensures fitting { HasFittingParams result }
+{
+    match old {
+        Some(answer) => answer.trace_for(store, posed),
+        None => None,
     }
 }
 
