@@ -8,8 +8,10 @@
 mod answer;
 mod asked;
 mod choice;
+mod derivation;
 mod found;
 mod group;
+mod law;
 mod outcome;
 mod posed;
 mod question;
@@ -20,6 +22,8 @@ mod told;
 
 pub use answer::Answer;
 pub use asked::Asked;
+pub use derivation::Derivation;
+pub use law::{law_of_kept_answers, law_of_tagged_questions};
 pub use lsys_walks::{AnswerStore, Entry, EntryKind};
 pub use question::ask;
 pub use refusal::AskRefusal;

@@ -22,7 +22,21 @@ use std::alloc::{AllocError, Global};
 use std::marker::PhantomData;
 use std::sync::ledger::Ledger;
 
-/// Asks what replaces a module.
+/// Asks what replaces the module at a spot of a level: which rule of its group is chosen, and its successor.
+///
+/// What stands around the module is read as the rules ask for it, entry by entry, beside the trace of the old answer where
+/// its other parts (module, tag, bodies and key) are the same, and else beside an empty one. Each entry is counted by
+/// `visited`, whatever is answered. The answer is [`Asked::Same`] exactly where there is an old answer and its question is
+/// the same; all that the old answer says holds here then. Else it is a new answer, which `asked` counts, and which holds
+/// runs of `store` that were not live before. Tags in `old` are named as the view names them; it was made with `store`.
+///
+/// By every naming of the tags under which the module has the key of its lineage, question, choice, successor and fault are
+/// those of the definitions.
+///
+/// # Errors
+///
+/// `Fault` has the module's first fault, and `Memory` is want of memory; what is kept in the store then stays, and at most
+/// the entries of the trace were read.
 pub fn ask<'a, W: LevelView, L: Ledger, V: Ledger>(
     alloc: Global,
     store: &mut AnswerStore,
