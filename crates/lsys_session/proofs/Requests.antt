@@ -1,5 +1,5 @@
 -- The reply to a line, step by step.
-use Rattle.std.proofs.Common.{◌≡◌, ◌≤◌, ℕ, Bool, true, false, Option, Some, None, Result, Ok, Err, List, [], map, length, codes, refl, ap, sym, subst, ◌∙◌, arith}
+use Rattle.std.proofs.Common.{◌≡◌, ℕ, Bool, true, false, Option, Some, None, Result, Ok, Err, List, [], map, length, codes, refl, ap, sym, subst, ◌∙◌, arith}
 use Rattle.std.proofs.lemmas.Simd.{map-map}
 use Rattle.std.proofs.lemmas.Bool.Decides.{nat_tests}
 use Rattle.std.specs.Prelude.{nat_lt}
@@ -10,7 +10,7 @@ use Rattle.lsys_spec.specs.Systems as spec
 use Rattle.lsys_spec.specs.Edits as edits
 use Rattle.lsys_spec.specs.Refusals.{Reply, said, refused, is_passed_over, column_at, why_word, with_number}
 use Rattle.lsys_spec.specs.Replies.{accepted, edited, levels_of, command_reply, verdict_reply, tokens_reply, bare_reply}
-use Rattle.lsys_text.specs.Tokens.{kind_of, kinds_of, token_of}
+use Rattle.lsys_text.specs.Tokens.{kinds_of, token_of}
 use Rattle.lsys_text.specs.declared.token_kind.Token.{Token}
 use Rattle.lsys_reading.specs.Parted.{command_of}
 use Rattle.lsys_reading.specs.Parsing.{column_of, kind_of_command}
@@ -20,7 +20,7 @@ use Rattle.lsys_rules.specs.Parsing.{IsParsed}
 use Rattle.lsys_rules.specs.Applying.{IsToldAt}
 use Rattle.lsys_rules.specs.declared.refusal.Refusal.{Refusal}
 use Rattle.lsys_rules.specs.declared.refusal.Refusal.TheVariants as refusals
-use Rattle.lsys_session.specs.Requests.{refusal_text, reply_to, IsCommandIn, IsRequested, IsRequest, HasLevel}
+use Rattle.lsys_session.specs.Requests.{IsCommandIn, IsRequested, IsRequest, HasLevel}
 use Rattle.lsys_session.specs.declared.request.Request.{Request}
 use Rattle.lsys_session.specs.declared.request.Request.TheVariants.{Nothing, String}
 

@@ -4,7 +4,12 @@ use Rattle.lsys_syntax.specs.Tokens.{tokens}
 use Rattle.lsys_syntax.specs.LineMachine.{sentence, verdict}
 use Rattle.lsys_spec.specs.Systems as spec
 use Rattle.lsys_spec.specs.Edits as edits
-use Rattle.lsys_spec.specs.Refusals.{Reply, said, refused, session_end, is_passed_over, line_feed}
+use Rattle.lsys_spec.specs.Refusals.{Reply, said, refused, session_end, is_passed_over, line_feed, derivation_text}
+use Rattle.lsys_spec.specs.Meaning.{FaultAt, OverLimit}
+use Rattle.lsys_rewrite.specs.Faults.{fault_of}
+use Rattle.lsys_rewrite.specs.declared.count.EditCount.{EditCount}
+use Rattle.lsys_rewrite.specs.declared.refusal.DeriveRefusal.{DeriveRefusal}
+use Rattle.lsys_rewrite.specs.declared.refusal.DeriveRefusal.TheVariants as derive
 use Rattle.lsys_spec.specs.PictureTexts.{segments_text, svg_text}
 use Rattle.lsys_spec.specs.Shown.{show_text}
 use Rattle.lsys_spec.specs.Replies.{shown, string_line, levels_of, picture_of, edited, accepted, tokens_reply, bare_reply}
@@ -56,6 +61,19 @@ refusal_text r = refusal_words r ++ column_text (refusal_column r)
 
 abbrev pub refusal_line : Refusal → List ℕ
 refusal_line r = codes "refused " ++ refusal_text r ++ line_feed
+
+-- why a system has no levels
+abbrev pub cause_text : DeriveRefusal → List ℕ
+cause_text (derive.Fault kind t n) = derivation_text (FaultAt (fault_of kind) t n)
+cause_text (derive.Limit t) = derivation_text (OverLimit t)
+cause_text derive.Memory = codes "memory"
+
+abbrev pub derivation_line : DeriveRefusal → List ℕ
+derivation_line r = codes "refused " ++ cause_text r ++ line_feed
+
+-- of an accepted edit: how many questions were asked, and how many there are
+abbrev pub count_text : EditCount → List ℕ
+count_text c = codes "ok " ++ (decimal c.asked ++ 47 ∷ (decimal c.questions ++ line_feed))
 
 -- 2. requests
 

@@ -1,9 +1,9 @@
-//! Sessions: what a line asks, and what it is answered.
+//! What a line asks of a session, and the texts that answer it.
 #![tactic(auto)]
 
 mod line;
-mod refusals;
+mod replies;
 mod request;
 
-pub use refusals::put_refusal;
+pub use replies::{finish, put_count, put_no_levels, put_refusal};
 pub use request::{Request, request_of};

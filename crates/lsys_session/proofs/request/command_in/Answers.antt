@@ -1,7 +1,7 @@
-use Rattle.std.proofs.Common.{◌≡◌, Ok, Err, length, subst, rules}
+use Rattle.std.proofs.Common.{length, subst}
 use Rattle.lsys_text.proofs.LineTokens.{line-forms}
 use Rattle.lsys_rules.specs.Parsing.{IsParsed}
-use Rattle.lsys_session.proofs.Requests.{parsed_line, byte_refused}
+use Rattle.lsys_session.proofs.Requests.{parsed_line}
 use Rattle.lsys_session.proofs.request.command_in.Goals as goal
 
 pub parse_command-requires-clause-forms : goal.parse_command-requires-clause-forms

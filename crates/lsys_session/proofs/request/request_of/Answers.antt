@@ -1,4 +1,4 @@
-use Rattle.std.proofs.Common.{◌≡◌, ◌∙◌, sym, false, rules}
+use Rattle.std.proofs.Common.{◌∙◌, sym}
 use Rattle.lsys_session.proofs.Requests.{asked}
 use Rattle.lsys_session.proofs.request.request_of.Goals as goal
 

@@ -1,4 +1,4 @@
-use Rattle.std.proofs.Common.{◌≡◌, ◌∙◌, ap, sym, subst, refl, rules}
+use Rattle.std.proofs.Common.{◌∙◌, ap, sym}
 use Rattle.lsys_spec.specs.Replies.{accepted, edited, levels_of}
 use Rattle.lsys_reading.specs.Parted.{command_of}
 use Rattle.lsys_session.proofs.Requests.{edit_asked, string_asked, level_there}

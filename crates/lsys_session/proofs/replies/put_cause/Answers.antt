@@ -1,7 +1,7 @@
-use Rattle.std.proofs.Common.{sym, ap}
+use Rattle.std.proofs.Common.{sym}
 use Rattle.lsys_io.proofs.Puts.{puts_then, puts_failed}
-use Rattle.lsys_session.specs.Requests.{refusal_words, refusal_column, column_text}
-use Rattle.lsys_session.proofs.refusals.put_cause.Goals as goal
+use Rattle.lsys_session.specs.Requests.{refusal_column, column_text}
+use Rattle.lsys_session.proofs.replies.put_cause.Goals as goal
 
 pub returns-in_err-put : goal.returns-in_err-put
 returns-in_err-put g c =

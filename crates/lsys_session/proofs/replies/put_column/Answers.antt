@@ -1,5 +1,5 @@
 use Rattle.lsys_io.proofs.Puts.{puts_nothing}
-use Rattle.lsys_session.proofs.refusals.put_column.Goals as goal
+use Rattle.lsys_session.proofs.replies.put_column.Goals as goal
 
 pub returns-in-None : goal.returns-in-None
 returns-in-None g c = rw c.in-None.is puts_nothing

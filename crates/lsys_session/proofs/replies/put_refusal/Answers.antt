@@ -2,7 +2,7 @@ use Rattle.std.proofs.Common.{◌++◌}
 use Rattle.lsys_spec.specs.Refusals.{line_feed}
 use Rattle.lsys_io.proofs.Puts.{puts_then, puts_failed}
 use Rattle.lsys_session.specs.Requests.{refusal_text}
-use Rattle.lsys_session.proofs.refusals.put_refusal.Goals as goal
+use Rattle.lsys_session.proofs.replies.put_refusal.Goals as goal
 
 pub returns-in_err-put : goal.returns-in_err-put
 returns-in_err-put g c = puts_failed (refusal_text c.args.refusal ++ line_feed) c.from_residual.ensures.0 c.in_err-put.ensures

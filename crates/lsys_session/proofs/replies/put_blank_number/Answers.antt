@@ -1,5 +1,5 @@
 use Rattle.lsys_io.proofs.Puts.{puts_then}
-use Rattle.lsys_session.proofs.refusals.put_blank_number.Goals as goal
+use Rattle.lsys_session.proofs.replies.put_blank_number.Goals as goal
 
 pub returns : goal.returns
 returns g c = puts_then c.in_ok-put.ensures c.put_number.ensures

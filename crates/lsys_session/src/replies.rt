@@ -1,0 +1,200 @@
+//! The texts of replies.
+ghost use Rattle.std.specs.Prelude.{◌≡◌, ◌++◌, ◌∷◌, [], decimal};
+ghost use Rattle.lsys_io.specs.Writes.{Puts};
+ghost use Rattle.lsys_spec.specs.Refusals.{with_number};
+ghost use Rattle.lsys_session.specs.Requests.{cause_text, column_text, count_text, derivation_line, refusal_column, refusal_line, refusal_text, refusal_words};
+ghost use Rattle.lsys_rewrite.specs.Faults.{fault_of};
+ghost use Rattle.lsys_spec.specs.Meaning.{FaultAt};
+ghost use Rattle.lsys_spec.specs.Refusals.{derivation_text, fault_word};
+
+use lsys_io::{Buffered, Failed, Sink};
+use lsys_rewrite::{DeriveRefusal, EditCount, FaultKind};
+use lsys_rules::Refusal;
+
+/// Puts the reply of a command that is refused by itself.
+///
+/// # Errors
+///
+/// The sink failed; a front of what was held and of the reply was written then.
+pub fn put_refusal<K: Sink>(
+    out: &mut Buffered,
+    sink: &mut K,
+    refusal: Refusal,
+) -> Result<(), Failed>
+    ensures { Puts K.written K.faults sink.old sink.new out.old out.new (refusal_line refusal) result }
+{
+    out.put(sink, b"refused ")?;
+    put_cause(out, sink, refusal)?;
+    out.put(sink, b"\n")
+}
+
+// Puts why a command is refused.
+fn put_cause<K: Sink>(out: &mut Buffered, sink: &mut K, refusal: Refusal) -> Result<(), Failed>
+    ensures { Puts K.written K.faults sink.old sink.new out.old out.new (refusal_text refusal) result }
+{
+    out.put(sink, words_of(refusal))?;
+    put_column(out, sink, column_of(refusal))
+}
+
+// Puts a blank and the column, where there is one.
+fn put_column<K: Sink>(out: &mut Buffered, sink: &mut K, column: Option<u32>) -> Result<(), Failed>
+    ensures { Puts K.written K.faults sink.old sink.new out.old out.new (column_text column) result }
+{
+    match column {
+        None => Ok(()),
+        Some(column) => put_blank_number(out, sink, column),
+    }
+}
+
+// Puts a blank and a number.
+fn put_blank_number<K: Sink>(out: &mut Buffered, sink: &mut K, number: u32) -> Result<(), Failed>
+    ensures { Puts K.written K.faults sink.old sink.new out.old out.new (32 ∷ decimal number) result }
+{
+    out.put(sink, b" ")?;
+    put_number(out, sink, number)
+}
+
+fn put_number<K: Sink>(out: &mut Buffered, sink: &mut K, number: u32) -> Result<(), Failed>
+    ensures { Puts K.written K.faults sink.old sink.new out.old out.new (decimal number) result }
+{
+    out.put_number(sink, i128::from(number))
+}
+
+fn put_large_number<K: Sink>(out: &mut Buffered, sink: &mut K, number: u64) -> Result<(), Failed>
+    ensures { Puts K.written K.faults sink.old sink.new out.old out.new (decimal number) result }
+{
+    out.put_number(sink, i128::from(number))
+}
+
+// Why a command is refused, but for the column.
+fn words_of(refusal: Refusal) -> &'static [u8]
+    ensures { result.now ≡ refusal_words refusal }
+{
+    match refusal {
+        Refusal::Byte { column: _column } => b"syntax byte",
+        Refusal::LongLine => b"syntax long",
+        Refusal::Token { column: _column } => b"syntax token",
+        Refusal::Deep { column: _column } => b"syntax deep",
+        Refusal::Name { column: _column } => b"name",
+        Refusal::Duplicate { column: _column } => b"duplicate",
+        Refusal::Mixed { column: _column } => b"mixed",
+        Refusal::Label { column: _column } => b"label",
+        Refusal::Table { column: _column } => b"table",
+        Refusal::Level { column: _column } => b"level",
+        Refusal::TooMany { column: _column } => b"many",
+        Refusal::Memory => b"memory",
+    }
+}
+
+// At which column a command is refused.
+fn column_of(refusal: Refusal) -> Option<u32>
+    ensures { result ≡ refusal_column refusal }
+{
+    match refusal {
+        Refusal::LongLine | Refusal::Memory => None,
+        Refusal::Byte { column }
+        | Refusal::Token { column }
+        | Refusal::Deep { column }
+        | Refusal::Name { column }
+        | Refusal::Duplicate { column }
+        | Refusal::Mixed { column }
+        | Refusal::Label { column }
+        | Refusal::Table { column }
+        | Refusal::Level { column }
+        | Refusal::TooMany { column } => Some(column),
+    }
+}
+
+/// Puts the reply of an edit whose system has no levels.
+///
+/// # Errors
+///
+/// The sink failed; a front of what was held and of the reply was written then.
+pub fn put_no_levels<K: Sink>(
+    out: &mut Buffered,
+    sink: &mut K,
+    refusal: DeriveRefusal,
+) -> Result<(), Failed>
+    ensures { Puts K.written K.faults sink.old sink.new out.old out.new (derivation_line refusal) result }
+{
+    out.put(sink, b"refused ")?;
+    put_why(out, sink, refusal)?;
+    out.put(sink, b"\n")
+}
+
+// Puts why a system has no levels.
+fn put_why<K: Sink>(out: &mut Buffered, sink: &mut K, refusal: DeriveRefusal) -> Result<(), Failed>
+    ensures { Puts K.written K.faults sink.old sink.new out.old out.new (cause_text refusal) result }
+{
+    match refusal {
+        DeriveRefusal::Fault {
+            kind,
+            level,
+            module,
+        } => put_fault(out, sink, kind, level, module),
+        DeriveRefusal::Limit { level } => put_numbered(out, sink, b"limit level", level),
+        DeriveRefusal::Memory => out.put(sink, b"memory"),
+    }
+}
+
+// Puts a fault of a module.
+fn put_fault<K: Sink>(
+    out: &mut Buffered,
+    sink: &mut K,
+    kind: FaultKind,
+    level: u32,
+    place: u32,
+) -> Result<(), Failed>
+    ensures { Puts K.written K.faults sink.old sink.new out.old out.new (derivation_text (FaultAt (fault_of kind) level place)) result }
+{
+    out.put(sink, b"fault ")?;
+    put_kind(out, sink, kind)?;
+    put_numbered(out, sink, b" level", level)?;
+    put_numbered(out, sink, b" module", place)
+}
+
+fn put_kind<K: Sink>(out: &mut Buffered, sink: &mut K, kind: FaultKind) -> Result<(), Failed>
+    ensures { Puts K.written K.faults sink.old sink.new out.old out.new (fault_word (fault_of kind)) result }
+{
+    out.put(sink, kind.word().as_bytes())
+}
+
+// Puts words, a blank and a number.
+fn put_numbered<K: Sink>(
+    out: &mut Buffered,
+    sink: &mut K,
+    words: &[u8],
+    number: u32,
+) -> Result<(), Failed>
+    ensures { Puts K.written K.faults sink.old sink.new out.old out.new (with_number words.now number) result }
+{
+    out.put(sink, words)?;
+    put_blank_number(out, sink, number)
+}
+
+/// Puts the reply of an accepted edit.
+///
+/// # Errors
+///
+/// The sink failed; a front of what was held and of the reply was written then.
+pub fn put_count<K: Sink>(out: &mut Buffered, sink: &mut K, count: EditCount) -> Result<(), Failed>
+    ensures { Puts K.written K.faults sink.old sink.new out.old out.new (count_text count) result }
+{
+    out.put(sink, b"ok ")?;
+    put_large_number(out, sink, count.asked)?;
+    out.put(sink, b"/")?;
+    put_large_number(out, sink, count.questions)?;
+    out.put(sink, b"\n")
+}
+
+/// Writes what is held.
+///
+/// # Errors
+///
+/// The sink failed; a front of what was held was written then.
+pub fn finish<K: Sink>(out: &mut Buffered, sink: &mut K) -> Result<(), Failed>
+    ensures put { Puts K.written K.faults sink.old sink.new out.old out.new [] result }
+    ensures empty { out.new ≡ [] }
+{
+    out.flush(sink)
+}
