@@ -1,5 +1,5 @@
 -- Answers that stay.
-use Rattle.std.proofs.Common.{◌≡◌, ◌≢◌, ℕ, ℤ, ◌+◌, List, length, map, take, drop, Option, Some, None, refl, sym, ap, subst}
+use Rattle.std.proofs.Common.{◌≡◌, ℕ, ℤ, ◌+◌, List, length, map, take, drop, Option, Some, None, refl, sym, subst}
 use Rattle.std.specs.Prelude.{IsSome}
 use Rattle.lsys_module.specs.Views.{string_of}
 use Rattle.lsys_region.specs.Pool.{Pool, list_at, list_of, IsFresh, IsLive, OthersStay}
@@ -11,7 +11,7 @@ use Rattle.lsys_match.specs.Asks.{IsMade, IsNew, StaysAsKept}
 use Rattle.lsys_match.specs.Groups.{meant}
 use Rattle.lsys_match.specs.Kept.{Kept}
 use Rattle.lsys_match.specs.KeptAnswers.{HoldOwnRuns, StaysMade}
-use Rattle.lsys_match.specs.Stored.{answer_in, listed, runs_of}
+use Rattle.lsys_match.specs.Stored.{listed, runs_of}
 use Rattle.lsys_match.specs.TagQuestions.{TagAnswer}
 
 -- an answer by what its runs have

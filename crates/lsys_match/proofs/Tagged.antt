@@ -1,8 +1,8 @@
 -- Questions by tags and by lineages.
-use Rattle.std.proofs.Common.{◌≡◌, ◌↔◌, ℕ, List, map, refl, ap}
-use Rattle.lsys_spec.specs.Levels.{ModuleValue, Symbol, Module, lineage}
+use Rattle.std.proofs.Common.{◌≡◌, ◌↔◌, ℕ, List, map, ap}
+use Rattle.lsys_spec.specs.Levels.{ModuleValue, Module, lineage}
 use Rattle.lsys_spec.specs.Questions.{Question}
-use Rattle.lsys_walks.specs.Noted.{Noted, entry_by}
+use Rattle.lsys_walks.specs.Noted.{entry_by}
 use Rattle.lsys_match.specs.KeptAnswers.{AgreeQuestions}
 use Rattle.lsys_match.specs.TagQuestions.{TagQuestion, question_by}
 

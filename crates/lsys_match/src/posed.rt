@@ -33,8 +33,10 @@ impl<'a> Posed<'a> {
         level: u32,
     ) -> Posed<'a>
         requires spot { IsSpot (W.levels view.now) (W.level_of view.now spot) (W.place_of view.now spot) }
-        requires module { IsModuleAt (level_at (W.levels view.now) (W.level_of view.now spot)) (W.place_of view.now spot) }
-        ensures posed { IsPosedAt system.now level (level_at (W.levels view.now) (W.level_of view.now spot)) (W.place_of view.now spot) (posed_by result) }
+        requires module { let x = level_at (W.levels view.now) (W.level_of view.now spot) in
+            IsModuleAt x (W.place_of view.now spot) }
+        ensures posed { let x = level_at (W.levels view.now) (W.level_of view.now spot) in
+            IsPosedAt system.now level x (W.place_of view.now spot) (posed_by result) }
         ensures system { result.group.system.now ≡ system.now }
         ensures well { IsWell system.now }
         ensures few { length result.params.now ≤ 8 }
@@ -70,7 +72,8 @@ impl<'a> Posed<'a> {
         bound: &[i64],
     ) -> Result<SymbolList, AskRefusal>
         requires { length self.now.params.now ≤ 8 }
-        ensures { IsSuccessor (rules_of self.now.group) (module_of self.now.group.name self.now.params.now) chosen bound.now result }
+        ensures { let own = module_of self.now.group.name self.now.params.now in
+            IsSuccessor (rules_of self.now.group) own chosen bound.now result }
     {
         let symbols = self.replacement(alloc, chosen, bound)?;
         Ok(symbols.clone()?)
@@ -83,7 +86,8 @@ impl<'a> Posed<'a> {
         bound: &[i64],
     ) -> Result<SymbolList, AskRefusal>
         requires { length self.now.params.now ≤ 8 }
-        ensures { IsSuccessor (rules_of self.now.group) (module_of self.now.group.name self.now.params.now) chosen bound.now result }
+        ensures { let own = module_of self.now.group.name self.now.params.now in
+            IsSuccessor (rules_of self.now.group) own chosen bound.now result }
     {
         let mut symbols = SymbolList::new(alloc);
         let Some(place) = chosen else {

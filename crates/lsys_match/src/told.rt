@@ -53,9 +53,12 @@ impl<'a> Posed<'a> {
         requires spot { IsSpot (W.levels view.now) (W.level_of view.now spot) (W.place_of view.now spot) }
         requires few { length self.now.params.now ≤ 8 }
         requires old { HasFittingParams old }
-        ensures told { let site = site_of self.now (level_at (W.levels view.now) (W.level_of view.now spot)) (W.place_of view.now spot) in
-            IsTelling (λ naming. told_for naming site (posed_by self.now)) (posed_by self.now) (old_trace old.entry) result }
-        ensures visited { let site = site_of self.now (level_at (W.levels view.now) (W.level_of view.now spot)) (W.place_of view.now spot) in
+        ensures told { let x = level_at (W.levels view.now) (W.level_of view.now spot) in
+            let site = site_of self.now x (W.place_of view.now spot) in
+            let posed = posed_by self.now in
+            IsTelling (λ naming. told_for naming site posed) posed (old_trace old.entry) result }
+        ensures visited { let x = level_at (W.levels view.now) (W.level_of view.now spot) in
+            let site = site_of self.now x (W.place_of view.now spot) in
             (naming : ℕ → List ℕ)
             → Counts (length (trace_told (told_for naming site (posed_by self.now)))) visited.old visited.new result }
     {
@@ -75,7 +78,8 @@ impl<'a> Posed<'a> {
         requires site { site.now.own ≡ (posed_by self.now).own }
         requires few { length self.now.params.now ≤ 8 }
         requires old { HasFittingParams old }
-        ensures told { IsTelling (λ naming. told_for naming site.now (posed_by self.now)) (posed_by self.now) (old_trace old.entry) result }
+        ensures told { let posed = posed_by self.now in
+            IsTelling (λ naming. told_for naming site.now posed) posed (old_trace old.entry) result }
         ensures visited { (naming : ℕ → List ℕ)
             → Counts (length (trace_told (told_for naming site.now (posed_by self.now)))) visited.old visited.new result }
     {
