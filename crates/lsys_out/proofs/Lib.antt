@@ -6,3 +6,4 @@ pub mod Extents
 pub mod Surveying
 pub mod Resting
 pub mod Texts
+pub mod Showing

@@ -1,5 +1,5 @@
 -- The rest of a text that is still to be put.
-use Rattle.std.proofs.Common.{◌≡◌, ℕ, Option, Result, Ok, Err, List, [], ◌++◌, refl}
+use Rattle.std.proofs.Common.{◌≡◌, ℕ, Option, Result, Ok, Err, List, [], ◌++◌, subst, sym}
 use Rattle.std.specs.Result.{IsErr}
 use Rattle.lsys_io.specs.declared.Failed.{Failed}
 use Rattle.lsys_io.specs.Writes.{Puts}
@@ -13,6 +13,14 @@ pub record Rests {K : Type 0} (written : K → Option (List ℕ)) (faults : K �
 module _ {K : Type 0} {written : K → Option (List ℕ)} {faults : K → ℕ} {sink_old : K} {held_old whole : List ℕ} where
   pub rests_all : Rests written faults sink_old sink_old held_old held_old whole whole
   rests_all = record { put = λ s h r p. p }
+
+  -- the whole text in other words
+  pub rests_whole : {rest : List ℕ} → whole ≡ rest → Rests written faults sink_old sink_old held_old held_old whole rest
+  rests_whole e = record { put = λ s h r p. subst (λ t. Puts written faults sink_old s held_old h t r) (sym e) p }
+
+  -- the rest in other words
+  pub rests_same : {sink : K} {held rest other : List ℕ} → rest ≡ other → Rests written faults sink_old sink held_old held whole rest → Rests written faults sink_old sink held_old held whole other
+  rests_same {sink = sink} {held = held} e r = record { put = λ s h q p. r.put s h q (subst (λ t. Puts written faults sink s held h t q) (sym e) p) }
 
   -- a text was put, which stands before the rest
   pub rests_then : {A : Type 0} {sink sink_mid : K} {held held_mid text rest : List ℕ} {answer : A} → Rests written faults sink_old sink held_old held whole (text ++ rest)

@@ -2,6 +2,7 @@
 use Rattle.std.proofs.Common.{◌≡◌, ℕ, ◌+◌, Option, Some, None, Ok, Err, List, [], ◌∷◌, length, fold, refl, ap, sym, ◌∙◌, subst, arith}
 use Rattle.lsys_spec.specs.Lattices.{Lattice, projected}
 use Rattle.lsys_spec.specs.Pictures.{Segment, origin}
+use Rattle.lsys_spec.specs.Pictures as P
 use Rattle.lsys_out.specs.Boxes.{IsSurveyed, box_of, extended_by, extent_at, extent_of, surveyed_with}
 use Rattle.lsys_out.specs.Drawings.{Drawing, IsStopped, finished, with_first}
 use Rattle.lsys_out.specs.declared.refusal.PictureRefusal.{PictureRefusal}
@@ -37,3 +38,10 @@ surveying_all l whole rest s h e = (
 
 pub surveying_stopped : (l : Lattice) (whole rest : Drawing) (s : Survey) (r : PictureRefusal) → Surveying l whole rest s → IsStopped rest r → IsSurveyed l whole (Err r)
 surveying_stopped l whole rest s r h e = (e.0, e.1, sym h.refusal ∙ ap (λ (d : Drawing). d.refusal) e.2)
+
+-- a picture that isn't refused doesn't stop
+pub never_stopped : (d : Drawing) (r : PictureRefusal) → d.refusal ≡ None → IsStopped d r → ⊥
+never_stopped d r h e = none_some e.0 (sym h ∙ ap (λ (d : Drawing). d.refusal) e.2)
+  where
+    none_some : (q : P.PictureRefusal) → None ≡ Some q → ⊥
+    none_some q e = cc

@@ -5,6 +5,7 @@ use Rattle.std.specs.Fmt.{signed_decimal}
 use Rattle.lsys_spec.specs.Lattices.{Lattice}
 use Rattle.lsys_spec.specs.Pictures.{Segment, Box, box}
 use Rattle.lsys_spec.specs.PictureTexts.{segment_line, segments_text, svg_head, svg_line, svg_text}
+use Rattle.lsys_out.specs.Drawings.{Drawing, with_first}
 use Rattle.lsys_out.specs.Lines.{count_line, drawn_line, head_line}
 
 pub segments-text : (gs : List Segment) (n : ℕ) → n ≡ length gs → segments_text gs ≡ count_line n ++ flat_map segment_line gs
@@ -35,3 +36,10 @@ svg-text l gs b e =
     ap (λ c. svg_head c ++ (flat_map (svg_line l) gs ++ codes "</svg>\n")) (sym e)
     ∙ ap (λ t. svg_head b ++ (t ++ codes "</svg>\n")) (svg-lines l gs)
     ∙ ap (λ t. t ++ (flat_map (drawn_line l) gs ++ codes "</svg>\n")) (svg-head b)
+
+-- the lines of the segments that are still to come, the first one apart
+pub lines-behind : (l : Lattice) (now : Drawing) (g : Segment) (next : Drawing) → now ≡ with_first g next
+    → flat_map (drawn_line l) now.segments ++ codes "</svg>\n" ≡ drawn_line l g ++ (flat_map (drawn_line l) next.segments ++ codes "</svg>\n")
+lines-behind l now g next e =
+    ap (λ (d : Drawing). flat_map (drawn_line l) d.segments ++ codes "</svg>\n") e
+    ∙ append_assoc (drawn_line l g) (flat_map (drawn_line l) next.segments) (codes "</svg>\n")

@@ -69,10 +69,13 @@ fn put_segments<T: Lattice, W: LevelView, K: Sink>(
 {
     put_count(out, sink, count)?;
     let mut way = Way::new(view, system, turtle);
-    while let Ok(Some(segment)) = way.next(turtle) {
-        put_segment(out, sink, &segment)?;
+    'segments: loop {
+        match way.next(turtle) {
+            Ok(Some(segment)) => put_segment(out, sink, &segment)?,
+            Ok(None) => return Ok(()),
+            Err(_) => unreachable!(),
+        }
     }
-    Ok(())
 }
 
 // Puts the first line.

@@ -70,10 +70,13 @@ fn put_svg<T: Lattice, W: LevelView, K: Sink>(
 {
     put_head(out, sink, &extent)?;
     let mut way = Way::new(view, system, turtle);
-    while let Ok(Some(segment)) = way.next(turtle) {
-        put_line::<T, K>(out, sink, &segment)?;
+    'segments: loop {
+        match way.next(turtle) {
+            Ok(Some(segment)) => put_line::<T, K>(out, sink, &segment)?,
+            Ok(None) => return out.put(sink, b"</svg>\n"),
+            Err(_) => unreachable!(),
+        }
     }
-    out.put(sink, b"</svg>\n")
 }
 
 // Puts the first line.

@@ -6,13 +6,13 @@ use Rattle.lsys_out.specs.Nesting.{CanGo}
 use Rattle.lsys_out.proofs.Resting.{Rests}
 use Rattle.lsys_out.proofs.segments.put_segments.Given as goal
 
-abbrev pub invariant-loop-segment : goal.invariant-loop-segment
-invariant-loop-segment g l = record {
+abbrev pub invariant-segments : goal.invariant-segments
+invariant-segments g l = record {
   rests : Rests g.K.Sink.written g.K.Sink.faults l.fn.sink l.sink l.fn.out l.out (segments_text (last_drawing g.T.Lattice.shape l.system (g.W.LevelView.levels l.view)).segments) (flat_map segment_line (drawing g.T.Lattice.shape l.way l.turtle.turtle).segments);
   drawn : (drawing g.T.Lattice.shape l.way l.turtle.turtle).refusal ≡ None;
   can_go : CanGo l.way.image.symbols l.turtle;
   room : l.turtle.room ≡ l.fn.turtle.room;
 }
 
-abbrev pub decreases-loop-segment : goal.decreases-loop-segment
-decreases-loop-segment g l = length l.way.image.symbols
+abbrev pub decreases-segments : goal.decreases-segments
+decreases-segments g l = length l.way.image.symbols

@@ -7,13 +7,13 @@ use Rattle.lsys_out.specs.Nesting.{CanGo}
 use Rattle.lsys_out.proofs.Resting.{Rests}
 use Rattle.lsys_out.proofs.svg.put_svg.Given as goal
 
-abbrev pub invariant-loop-segment : goal.invariant-loop-segment
-invariant-loop-segment g l = record {
+abbrev pub invariant-segments : goal.invariant-segments
+invariant-segments g l = record {
   rests : Rests g.K.Sink.written g.K.Sink.faults l.fn.sink l.sink l.fn.out l.out (svg_text g.T.Lattice.shape (last_drawing g.T.Lattice.shape l.system (g.W.LevelView.levels l.view)).segments) (flat_map (drawn_line g.T.Lattice.shape) (drawing g.T.Lattice.shape l.way l.turtle.turtle).segments ++ codes "</svg>\n");
   drawn : (drawing g.T.Lattice.shape l.way l.turtle.turtle).refusal ≡ None;
   can_go : CanGo l.way.image.symbols l.turtle;
   room : l.turtle.room ≡ l.fn.turtle.room;
 }
 
-abbrev pub decreases-loop-segment : goal.decreases-loop-segment
-decreases-loop-segment g l = length l.way.image.symbols
+abbrev pub decreases-segments : goal.decreases-segments
+decreases-segments g l = length l.way.image.symbols
