@@ -1,5 +1,5 @@
 -- A turtle that goes over symbols.
-use Rattle.std.proofs.Common.{◌≡◌, ◌≤◌, ◌<◌, ℕ, ℤ, ◌+◌, List, [], ◌∷◌, length, max, refl, subst, sym, ap, arith}
+use Rattle.std.proofs.Common.{◌≡◌, ◌≤◌, ◌<◌, ℕ, ℤ, ◌+◌, List, [], ◌∷◌, length, max, refl, subst, sym, ap, ◌∙◌, arith}
 use Rattle.std.proofs.Math.Nat.{le-max_left, le-max_right}
 use Rattle.lsys_syntax.specs.Strings as S
 use Rattle.lsys_turtle.specs.Ways.{Walker, CanStep, saved_after}
@@ -50,3 +50,11 @@ can_begin l s levels room i w h deep is start same =
 -- no more symbols come than an image may have
 pub few_begin : (s : System) (levels : List (List Spotted)) (i : Coming) → i ≡ last_image s levels → 0 + length i.symbols ≤ most_image_symbols
 few_begin s levels i is = subst (λ (c : Coming). 0 + length c.symbols ≤ most_image_symbols) (sym is) (few_from s.homomorphisms 0 0 (last_level (λ tag. []) s levels) (omega arith))
+
+one_deeper : (m o x n : ℕ) → max m (max o x) ≡ n → o ≤ m → o + 1 ≤ x → max (max m (o + 1)) x ≡ n
+one_deeper m o x n e h k = omega arith
+
+-- the nesting behind `[`, where so many branches are open before it, and so many were at most so far
+pub nested_push : (most here n : ℕ) (old new : List (S.Symbol ℤ)) → old ≡ S.Push ∷ new → max most (nesting_from here old) ≡ n → here ≤ most → max (max most (here + 1)) (nesting_from (here + 1) new) ≡ n
+nested_push most here n old new is e h =
+    one_deeper most here (nesting_from (here + 1) new) n (ap (λ xs. max most (nesting_from here xs)) (sym is) ∙ e) h (nested_here (here + 1) new)

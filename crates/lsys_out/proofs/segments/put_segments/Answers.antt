@@ -2,7 +2,7 @@ use Rattle.std.proofs.Common.{◌≡◌, None, Ok, Some, ap, subst, sym, ◌∙�
 use Rattle.std.specs.Prelude.{flat_map}
 use Rattle.lsys_spec.specs.PictureTexts.{segment_line}
 use Rattle.lsys_turtle.specs.Ways.{segment_of}
-use Rattle.lsys_out.specs.Drawings.{Drawing, IsNext, drawing, last_drawing, with_first}
+use Rattle.lsys_out.specs.Drawings.{Drawing, IsNext, drawing, finished, last_drawing, with_first}
 use Rattle.lsys_out.proofs.Resting.{rests_failed, rests_none, rests_same, rests_then, rests_whole}
 use Rattle.lsys_out.proofs.Texts.{segments-text}
 use Rattle.lsys_out.proofs.Surveying.{never_stopped}
@@ -44,3 +44,11 @@ segments-preserved g c =
       can_go = search rules;
       room = search rules;
     }
+
+pub returns-in-Ok-None-clause-put : goal.returns-in-Ok-None-clause-put
+returns-in-Ok-None-clause-put g c =
+    let l = g.T.Lattice.shape in
+    let now = drawing l c.segments.way c.segments.turtle.turtle in
+    let next = drawing l c.next.new.self c.next.new.turtle.turtle in
+    let none : now ≡ finished = subst (λ o. IsNext now next (Ok o)) c.in-Ok-None.field-0-is c.in-Ok-None.ensures.next in
+    rests_none (rests_same (ap (λ (d : Drawing). flat_map segment_line d.segments) none) c.segments.invariant.rests)
