@@ -1,5 +1,5 @@
 -- In what comes of the image of a balanced level each `]` ends a branch.
-use Rattle.std.proofs.Common.{map, ◌≡◌, ◌<◌, ℕ, zero, suc, ℤ, ◌+◌, ◌-◌, Bool, true, false, cond, Result, Ok, Err, List, [], ◌∷◌, ◌++◌, length, refl, ap, sym, ◌∙◌, subst, arith, nat_lt, if◌then◌else◌}
+use Rattle.std.proofs.Common.{map, ◌≡◌, ℕ, zero, suc, ℤ, ◌+◌, ◌-◌, Bool, true, false, Result, Ok, Err, List, [], ◌∷◌, ◌++◌, length, refl, ap, sym, ◌∙◌, subst, arith, nat_lt, if◌then◌else◌}
 use Rattle.std.proofs.lemmas.Bool.{eqb-true}
 use Rattle.lsys_syntax.specs.Limits.{most_image_symbols}
 use Rattle.lsys_syntax.specs.Tokens.{NameText}
@@ -16,7 +16,7 @@ use Rattle.lsys_spec.specs.Levels.{ModuleValue, Symbol, Push, Pop, Module, level
 use Rattle.lsys_spec.specs.Meaning.{filled, filled_params}
 use Rattle.lsys_spec.specs.Images.{ImageRefusal, ImageLimit, for_module, image_of, image_fault, within_image}
 use Rattle.lsys_spec.proofs.LevelInduction.{ok_parts}
-use Rattle.lsys_hom.specs.Coming.{Coming, coming_from, modules_behind, symbol_image, told}
+use Rattle.lsys_hom.specs.Coming.{Coming, coming_from, symbol_image, told}
 use Rattle.lsys_turtle.specs.Ways.{saved_after}
 use Rattle.lsys_out.specs.Nesting.{CanEnd, Closes}
 

@@ -1,10 +1,9 @@
 -- The extent of segments one by one is that of the box around all their ends.
-use Rattle.std.proofs.Common.{◌≡◌, ℤ, List, [], ◌∷◌, map, fold, refl, ap, ◌∙◌}
-use Rattle.std.specs.Prelude.{pos, ◌+ℤ◌, ◌-ℤ◌}
+use Rattle.std.proofs.Common.{◌≡◌, ℤ, List, [], ◌∷◌, map, fold, refl, ap}
 use Rattle.std.specs.Int.{int_min, int_max}
 use Rattle.lsys_spec.specs.Lattices.{Lattice, projected}
-use Rattle.lsys_spec.specs.Pictures.{Segment, Box, box, framed, origin, segment_ends}
-use Rattle.lsys_out.specs.Boxes.{box_of, extended, extended_by, extent_of}
+use Rattle.lsys_spec.specs.Pictures.{Segment, box, origin, segment_ends}
+use Rattle.lsys_out.specs.Boxes.{box_of, extended_by, extent_of}
 use Rattle.lsys_out.specs.declared.extent.Extent.{Extent}
 
 -- an extent with these points, side by side

@@ -1,5 +1,5 @@
 -- A survey of the segments so far.
-use Rattle.std.proofs.Common.{◌≡◌, ℕ, ◌+◌, Option, Some, None, Ok, Err, List, [], ◌∷◌, length, fold, refl, ap, sym, ◌∙◌, subst, arith}
+use Rattle.std.proofs.Common.{◌≡◌, ◌+◌, Some, None, Ok, Err, length, fold, ap, sym, ◌∙◌, arith}
 use Rattle.lsys_spec.specs.Lattices.{Lattice, projected}
 use Rattle.lsys_spec.specs.Pictures.{Segment, origin}
 use Rattle.lsys_spec.specs.Pictures as P

@@ -1,5 +1,5 @@
 -- The texts of pictures are their parts.
-use Rattle.std.proofs.Common.{◌≡◌, ℕ, ℤ, List, [], ◌∷◌, ◌++◌, length, refl, ap, sym, ◌∙◌, append_assoc, codes, decimal}
+use Rattle.std.proofs.Common.{◌≡◌, ℕ, List, [], ◌∷◌, ◌++◌, length, refl, ap, sym, ◌∙◌, append_assoc, codes, decimal}
 use Rattle.std.specs.Prelude.{flat_map}
 use Rattle.std.specs.Fmt.{signed_decimal}
 use Rattle.lsys_spec.specs.Lattices.{Lattice}

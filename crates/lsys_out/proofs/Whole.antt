@@ -1,17 +1,17 @@
 -- What comes of a picture is the picture.
-use Rattle.std.proofs.Common.{◌≡◌, ℕ, ℤ, Option, Some, None, Result, Ok, Err, List, [], ◌∷◌, refl, ap, sym, ◌∙◌, option_map}
+use Rattle.std.proofs.Common.{◌≡◌, ℕ, ℤ, Option, Some, None, Result, Ok, Err, List, [], ◌∷◌, refl, ap, sym, ◌∙◌}
 use Rattle.lsys_syntax.specs.Strings as S
 use Rattle.lsys_spec.specs.Systems.{System}
 use Rattle.lsys_spec.specs.Values.{◌and_then◌}
 use Rattle.lsys_spec.specs.Lattices.{Lattice}
 use Rattle.lsys_spec.specs.Levels as L
-use Rattle.lsys_spec.specs.Images.{ImageRefusal, image}
-use Rattle.lsys_spec.specs.Pictures.{Turtle, Stepped, Segment, PictureRefusal, NoImage, Far, and_on, at_start, modules_to, or_far, or_no_image, picture, segments_from, segments_of, turtle_step, with_segment}
+use Rattle.lsys_spec.specs.Images.{ImageRefusal}
+use Rattle.lsys_spec.specs.Pictures.{Turtle, Stepped, Segment, PictureRefusal, NoImage, and_on, at_start, modules_to, or_far, or_no_image, picture, segments_from, segments_of, turtle_step, with_segment}
 use Rattle.lsys_level.specs.Spots.{Spotted, level_at}
 use Rattle.lsys_hom.specs.Coming.{coming, whole}
 use Rattle.lsys_hom.proofs.Named.{coming_named}
 use Rattle.lsys_hom.proofs.Runs.{law_whole}
-use Rattle.lsys_out.specs.Drawings.{Drawing, drawing_from, drawn_on, far_or, last_drawing, last_level, with_drawn}
+use Rattle.lsys_out.specs.Drawings.{Drawing, drawing_from, drawn_on, last_drawing, last_level, with_drawn}
 use Rattle.lsys_out.specs.Shown.{on_lattice}
 
 -- segments up to an end or a refusal, as a picture

@@ -1,5 +1,5 @@
 -- The box of a picture, point by point.
-use Rattle.std.specs.Prelude.{◌≡◌, ℤ, pos, ◌+ℤ◌, ◌-ℤ◌, ℕ, ◌+◌, Some, None, Option, Result, Ok, Err, List, [], ◌∷◌, length, fold}
+use Rattle.std.specs.Prelude.{◌≡◌, ℤ, pos, ◌+ℤ◌, ◌-ℤ◌, ◌+◌, Some, None, Result, Ok, Err, List, length, fold}
 use Rattle.std.specs.Int.{int_min, int_max}
 use Rattle.lsys_spec.specs.Lattices.{Lattice, projected}
 use Rattle.lsys_spec.specs.Pictures.{Segment, Box, box, origin}

@@ -1,6 +1,5 @@
 -- How deep branches are nested, and what a turtle needs to go over them.
 use Rattle.std.specs.Prelude.{◌≡◌, ℕ, ℤ, ◌<◌, ◌≤◌, ◌^◌, true, List, [], ◌∷◌, length, max}
-use Rattle.lsys_syntax.specs.Limits.{most_image_symbols}
 use Rattle.lsys_syntax.specs.Strings as S
 use Rattle.lsys_spec.specs.Systems.{System, WellSpelled}
 use Rattle.lsys_spec.specs.Levels.{level_balanced}

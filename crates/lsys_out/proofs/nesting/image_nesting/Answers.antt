@@ -1,4 +1,4 @@
-use Rattle.std.proofs.Common.{◌≡◌, [], ◌∷◌, ◌∙◌, ◌+◌, ◌≤◌, Ok, Some, ap, length, max, subst, sym, arith}
+use Rattle.std.proofs.Common.{◌≡◌, [], ◌∷◌, ◌∙◌, ◌+◌, Ok, Some, ap, length, max, subst, sym, arith}
 use Rattle.std.proofs.Math.Nat.{zero-max}
 use Rattle.lsys_syntax.specs.Strings as S
 use Rattle.lsys_module.specs.Views.{symbol_of}

@@ -1,11 +1,10 @@
-use Rattle.std.proofs.Common.{◌≡◌, None, Ok, Some, ap, subst, sym, ◌∙◌, rules}
+use Rattle.std.proofs.Common.{◌≡◌, Ok, ap, subst, sym, ◌∙◌, rules}
 use Rattle.std.specs.Prelude.{flat_map}
 use Rattle.lsys_spec.specs.PictureTexts.{segment_line}
 use Rattle.lsys_turtle.specs.Ways.{segment_of}
 use Rattle.lsys_out.specs.Drawings.{Drawing, IsNext, drawing, finished, last_drawing, with_first}
 use Rattle.lsys_out.proofs.Resting.{rests_failed, rests_none, rests_same, rests_then, rests_whole}
 use Rattle.lsys_out.proofs.Texts.{segments-text}
-use Rattle.lsys_out.proofs.Surveying.{never_stopped}
 use Rattle.lsys_out.proofs.segments.put_segments.Goals as goal
 
 pub returns-in_err-put_count-clause-put : goal.returns-in_err-put_count-clause-put

@@ -1,8 +1,8 @@
-use Rattle.std.proofs.Common.{◌≡◌, ◌++◌, None, Ok, Some, ap, codes, subst, sym, ◌∙◌, rules}
+use Rattle.std.proofs.Common.{◌≡◌, ◌++◌, Ok, ap, codes, subst, sym, ◌∙◌, rules}
 use Rattle.std.specs.Prelude.{flat_map}
 use Rattle.lsys_turtle.specs.Ways.{segment_of}
 use Rattle.lsys_out.specs.Boxes.{box_of}
-use Rattle.lsys_out.specs.Drawings.{Drawing, IsNext, drawing, finished, last_drawing, with_first}
+use Rattle.lsys_out.specs.Drawings.{Drawing, IsNext, drawing, last_drawing, with_first}
 use Rattle.lsys_out.specs.Lines.{drawn_line}
 use Rattle.lsys_out.proofs.Resting.{rests_failed, rests_same, rests_then, rests_whole}
 use Rattle.lsys_out.proofs.Texts.{lines-behind, svg-text}
