@@ -12,6 +12,8 @@ use Rattle.lsys_level.specs.Tags.{HasOwnTags}
 use Rattle.lsys_level.proofs.Lineages.{strings}
 use Rattle.lsys_level.proofs.Lists.{slice_get-push_cases}
 use Rattle.lsys_level.proofs.Owning.{below_none, no_longer, own_none, own_running, running}
+use Rattle.lsys_spec.specs.Systems.{System, WellSpelled}
+use Rattle.lsys_out.specs.Nesting.{HasLast}
 use Rattle.lsys_tests_pictures.specs.Levels.{IsOneLevel}
 
 plain-balanced : (n : ℕ) (x : List L.Symbol) → level_balanced n x ≡ balanced n (map plain x)
@@ -39,3 +41,12 @@ run_more tags n e run p t h = elim (slice_get-push_cases tags p n t h) [
   | inl new ↦ (let k = new.0 in let m = new.1 in omega (arith, k, m, e))
   | inr old ↦ run p t old.1
 ]
+
+-- the level is the last one of any system of depth 0
+pub has_last : (s : System) (levels : List (List Spotted)) → IsOneLevel levels → WellSpelled s → s.depth ≡ 0 → HasLast s levels
+has_last s levels h w z = record {
+  spelled = w;
+  level = rw z (omega (arith, h.one));
+  few = rw z (omega (arith, h.few));
+  balance = rw z h.balance;
+}

@@ -1,0 +1,14 @@
+use Rattle.std.proofs.Common.{◌≡◌, ◌≤◌, ◌+◌, length, max}
+use Rattle.lsys_syntax.specs.Limits.{most_image_symbols}
+use Rattle.lsys_out.specs.Nesting.{image_nesting, nesting_from}
+use Rattle.lsys_out.proofs.nesting.image_nesting.Given as goal
+
+abbrev pub invariant-loop-symbol : goal.invariant-loop-symbol
+invariant-loop-symbol g l = record {
+  most : max l.most (nesting_from l.open l.image.symbols) ≡ image_nesting l.system (g.W.LevelView.levels l.view);
+  below : l.open ≤ l.most;
+  few : l.open + length l.image.symbols ≤ most_image_symbols;
+}
+
+abbrev pub decreases-loop-symbol : goal.decreases-loop-symbol
+decreases-loop-symbol g l = length l.image.symbols

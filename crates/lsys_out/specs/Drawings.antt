@@ -1,0 +1,105 @@
+-- What is still to come of a picture: its segments one by one, and the refusal behind them, if one comes.
+use Rattle.std.specs.Prelude.{◌≡◌, ℕ, ℤ, Option, Some, None, Result, Ok, Err, List, [], ◌∷◌, option_map}
+use Rattle.lsys_syntax.specs.Strings as S
+use Rattle.lsys_spec.specs.Systems.{System}
+use Rattle.lsys_spec.specs.Lattices.{Lattice}
+use Rattle.lsys_spec.specs.Images as I
+use Rattle.lsys_spec.specs.Levels as L
+use Rattle.lsys_spec.specs.Pictures.{Turtle, Stepped, Segment, PictureRefusal, NoImage, Far, at_start, modules_to, turtle_step}
+use Rattle.lsys_level.specs.Spots.{Spotted, level_at, level_by}
+use Rattle.lsys_hom.specs.Coming.{Coming, coming}
+use Rattle.lsys_hom.specs.Refusals.{refusal_of}
+use Rattle.lsys_turtle.specs.Ways.{IsReached, segment_of}
+use Rattle.lsys_turtle.specs.declared.segment.Segment.{Segment as CodeSegment}
+use Rattle.lsys_out.specs.declared.refusal.PictureRefusal.{PictureRefusal as Refusal}
+use Rattle.lsys_out.specs.declared.refusal.PictureRefusal.TheVariants as refusals
+use Rattle.lsys_out.specs.declared.way.Step.{Step}
+use Rattle.lsys_out.specs.declared.way.Step.TheVariants as steps
+
+pub record Drawing : Type 0 where
+  pub segments : List Segment
+  pub refusal : Option PictureRefusal
+
+-- Nothing is to come.
+abbrev pub finished : Drawing
+finished = record { segments = []; refusal = None }
+
+-- nothing but a refusal comes
+abbrev pub stopped : PictureRefusal → Drawing
+stopped r = record { segments = []; refusal = Some r }
+
+-- a segment comes first
+abbrev pub with_first : Segment → Drawing → Drawing
+with_first g d = record { segments = g ∷ d.segments; refusal = d.refusal }
+
+abbrev pub with_drawn : Option Segment → Drawing → Drawing
+with_drawn None d = d
+with_drawn (Some g) d = with_first g d
+
+-- The image's refusal comes before that of module n, which is too far.
+abbrev pub far_or : Option I.ImageRefusal → ℕ → PictureRefusal
+far_or None n = Far n
+far_or (Some r) n = NoImage r
+
+-- a step at module n, and what follows from the turtle behind it
+abbrev pub drawn_on : Option I.ImageRefusal → ℕ → Option Stepped → (Turtle → Drawing) → Drawing
+drawn_on r n None rest = stopped (far_or r n)
+drawn_on r n (Some s) rest = with_drawn s.segment (rest s.turtle)
+
+-- the segments of a turtle's way over symbols, before which n modules stand, and behind which the image may be refused
+abbrev pub drawing_from : Lattice → ℕ → Turtle → List (S.Symbol ℤ) → Option I.ImageRefusal → Drawing
+drawing_from l n t [] r = record { segments = []; refusal = option_map NoImage r }
+drawing_from l n t (x ∷ xs) r = drawn_on r (modules_to n x) (turtle_step l x t) (λ u. drawing_from l (modules_to n x) u xs r)
+
+-- a way over what is still to come of an image, before which so many modules stand
+pub record Way : Type 0 where
+  pub image : Coming
+  pub modules : ℕ
+
+abbrev pub drawing : Lattice → Way → Turtle → Drawing
+drawing l w t = drawing_from l w.modules t w.image.symbols w.image.refusal
+
+-- the last level's symbols, where a naming tells the lineage of each tag
+abbrev pub last_level : (ℕ → List ℕ) → System → List (List Spotted) → List L.Symbol
+last_level naming s levels = level_by naming (level_at levels s.depth)
+
+-- what comes of the image of the last level
+abbrev pub last_image : System → List (List Spotted) → Coming
+last_image s levels = coming s (last_level (λ tag. []) s levels)
+
+-- what comes of its picture on a lattice
+abbrev pub last_drawing : Lattice → System → List (List Spotted) → Drawing
+last_drawing l s levels = drawing l (record { image = last_image s levels; modules = 0 }) (at_start l)
+
+-- the refusal that the code answers
+abbrev pub IsRefusal : PictureRefusal → Refusal → Type 0
+IsRefusal r (refusals.Image e) = r ≡ NoImage (refusal_of e)
+IsRefusal r (refusals.Far n) = r ≡ Far n
+IsRefusal r refusals.Failed = ⊥
+
+-- nothing comes but the refusal that the code answers
+abbrev pub IsStopped : Drawing → Refusal → Type 0
+IsStopped d e = (r : PictureRefusal) × IsRefusal r e × (d ≡ stopped r)
+
+-- one symbol of the image is passed, or its end is reached, or its refusal
+abbrev pub IsStepped : Drawing → Drawing → Result Step Refusal → Type 0
+IsStepped old new (Ok steps.Quiet) = old ≡ new
+IsStepped old new (Ok (steps.Drawn g)) = old ≡ with_first (segment_of g) new
+IsStepped old new (Ok steps.End) = old ≡ finished
+IsStepped old new (Err e) = IsStopped old e
+
+-- symbols are passed up to one that gives a segment
+abbrev pub IsNext : Drawing → Drawing → Result (Option CodeSegment) Refusal → Type 0
+IsNext old new (Ok (Some g)) = old ≡ with_first (segment_of g) new
+IsNext old new (Ok None) = old ≡ finished
+IsNext old new (Err e) = IsStopped old e
+
+-- what holds where the way goes on
+abbrev pub OnStep : Result Step Refusal → Type 0 → Type 0
+OnStep (Ok steps.Quiet) P = P
+OnStep (Ok (steps.Drawn g)) P = P × IsReached g
+OnStep r P = Unit {0}
+
+abbrev pub OnNext : Result (Option CodeSegment) Refusal → Type 0 → Type 0
+OnNext (Ok (Some g)) P = P × IsReached g
+OnNext r P = Unit {0}

@@ -1,0 +1,5 @@
+pub mod Drawings
+pub mod Nesting
+pub mod Boxes
+pub mod Shown
+pub mod Lines

@@ -1,0 +1,39 @@
+-- How deep branches are nested, and what a turtle needs to go over them.
+use Rattle.std.specs.Prelude.{◌≡◌, ℕ, ℤ, ◌<◌, ◌≤◌, ◌^◌, true, List, [], ◌∷◌, length, max}
+use Rattle.lsys_syntax.specs.Strings as S
+use Rattle.lsys_spec.specs.Systems.{System, WellSpelled}
+use Rattle.lsys_spec.specs.Levels.{level_balanced}
+use Rattle.lsys_level.specs.Spots.{Spotted, level_at}
+use Rattle.lsys_turtle.specs.Ways.{Walker, saved_after}
+use Rattle.lsys_out.specs.Drawings.{last_image, last_level}
+
+-- the most branches that are open at once, where n are open before
+abbrev pub nesting_from : ℕ → List (S.Symbol ℤ) → ℕ
+nesting_from n [] = n
+nesting_from n (x ∷ xs) = max n (nesting_from (saved_after x n) xs)
+
+-- the most branches of the last level's image that are open at once; where the image is refused, of what comes before
+abbrev pub image_nesting : System → List (List Spotted) → ℕ
+image_nesting s levels = nesting_from 0 (last_image s levels).symbols
+
+-- a branch is open where one is ended
+abbrev pub CanEnd : S.Symbol ℤ → ℕ → Type 0
+CanEnd S.Pop n = 0 < n
+CanEnd x n = Unit {0}
+
+-- each `]` ends a branch, where n are open before
+abbrev pub Closes : ℕ → List (S.Symbol ℤ) → Type 0
+Closes n [] = Unit {0}
+Closes n (x ∷ xs) = CanEnd x n × Closes (saved_after x n) xs
+
+-- a turtle can go over all these symbols
+pub record CanGo (xs : List (S.Symbol ℤ)) (w : Walker) : Type 0 where
+  pub closes : Closes (length w.turtle.saved) xs
+  pub room : nesting_from (length w.turtle.saved) xs ≤ w.room
+
+-- the view tells the last level of a well-spelled system, which is balanced and has fewer symbols than there are numbers of 32 bits
+pub record HasLast (s : System) (levels : List (List Spotted)) : Type 0 where
+  pub spelled : WellSpelled s
+  pub level : s.depth < length levels
+  pub few : length (level_at levels s.depth) < 2 ^ 32
+  pub balance : level_balanced 0 (last_level (λ tag. []) s levels) ≡ true

@@ -1,0 +1,153 @@
+//! A picture as SVG.
+ghost use Rattle.std.specs.Prelude.{◌≡◌, ◌≤◌, ℕ, ℤ, List, None};
+ghost use Rattle.std.specs.Fmt.{signed_decimal};
+ghost use Rattle.lsys_spec.specs.Pictures.{box, picture};
+ghost use Rattle.lsys_spec.specs.PictureTexts as texts;
+ghost use Rattle.lsys_io.specs.Writes.{Puts};
+ghost use Rattle.lsys_turtle.specs.Ways.{IsReached, segment_of};
+ghost use Rattle.lsys_out.specs.Boxes.{box_of};
+ghost use Rattle.lsys_out.specs.Drawings.{last_drawing, last_level};
+ghost use Rattle.lsys_out.specs.Lines.{coordinate_behind, drawn_line, head_line, line_between, stroke_text};
+ghost use Rattle.lsys_out.specs.Nesting.{HasLast, image_nesting};
+ghost use Rattle.lsys_out.specs.Shown.{Shows, on_lattice};
+
+use crate::extent::Extent;
+use crate::numbers::{put_corner, put_side, put_signed, put_unsigned};
+use crate::refusal::PictureRefusal;
+use crate::survey::survey_picture;
+use crate::way::Way;
+use lsys_io::{Buffered, Failed, Sink};
+use lsys_lattice::Lattice;
+use lsys_level::LevelView;
+use lsys_rules::System;
+use lsys_turtle::{Segment, Turtle};
+
+/// Puts the last level's picture on the lattice `T` as SVG: a line for each segment, in the least box that holds the
+/// projected origin and all projected ends, with a margin of 10.
+///
+/// The turtle has room for the image's nesting, which `image_nesting` tells; where it stands doesn't matter. The image is
+/// walked twice, and no memory is taken.
+///
+/// # Errors
+///
+/// `Image` and `Far`, before anything was put; `Failed` where the sink failed, and then a front of the text was put.
+pub fn svg_text<T: Lattice, W: LevelView, K: Sink>(
+    view: &W,
+    system: &System,
+    turtle: &mut Turtle<T>,
+    out: &mut Buffered,
+    sink: &mut K,
+) -> Result<(), PictureRefusal>
+    requires last { HasLast system.now (W.levels view.now) }
+    requires room { image_nesting system.now (W.levels view.now) ≤ turtle.old.room }
+    ensures shows { (naming : ℕ → List ℕ) → Shows K.written K.faults sink.old sink.new out.old out.new
+        (picture (on_lattice T.shape system.now) (last_level naming system.now (W.levels view.now))) (texts.svg_text T.shape) result }
+    ensures room { turtle.new.room ≡ turtle.old.room }
+{
+    let extent = survey_picture(view, system, turtle)?.extent;
+    match put_svg(view, system, turtle, extent, out, sink) {
+        Ok(()) => Ok(()),
+        Err(Failed) => Err(PictureRefusal::Failed),
+    }
+}
+
+// Puts a picture that isn't refused, and has this extent.
+fn put_svg<T: Lattice, W: LevelView, K: Sink>(
+    view: &W,
+    system: &System,
+    turtle: &mut Turtle<T>,
+    extent: Extent,
+    out: &mut Buffered,
+    sink: &mut K,
+) -> Result<(), Failed>
+    requires last { HasLast system.now (W.levels view.now) }
+    requires room { image_nesting system.now (W.levels view.now) ≤ turtle.old.room }
+    requires drawn { (last_drawing T.shape system.now (W.levels view.now)).refusal ≡ None }
+    requires framed { box_of extent ≡ box T.shape (last_drawing T.shape system.now (W.levels view.now)).segments }
+    ensures put { Puts K.written K.faults sink.old sink.new out.old out.new
+        (texts.svg_text T.shape (last_drawing T.shape system.now (W.levels view.now)).segments) result }
+    ensures room { turtle.new.room ≡ turtle.old.room }
+{
+    put_head(out, sink, &extent)?;
+    let mut way = Way::new(view, system, turtle);
+    'segments: loop {
+        match way.next(turtle) {
+            Ok(Some(segment)) => put_line::<T, K>(out, sink, &segment)?,
+            Ok(None) => return out.put(sink, b"</svg>\n"),
+            Err(_) => unreachable!(),
+        }
+    }
+}
+
+// Puts the first line.
+fn put_head<K: Sink>(out: &mut Buffered, sink: &mut K, extent: &Extent) -> Result<(), Failed>
+    ensures { Puts K.written K.faults sink.old sink.new out.old out.new (head_line (box_of extent.now)) result }
+{
+    out.put(
+        sink,
+        b"<svg xmlns=\"http://www.w3.org/2000/svg\" viewBox=\"",
+    )?;
+    put_corner(out, sink, &extent.left)?;
+    out.put(sink, b" ")?;
+    put_corner(out, sink, &extent.top)?;
+    out.put(sink, b" ")?;
+    put_side(out, sink, &extent.left, &extent.right)?;
+    out.put(sink, b" ")?;
+    put_side(out, sink, &extent.top, &extent.bottom)?;
+    out.put(sink, b"\">\n")
+}
+
+// Puts the line of a segment.
+fn put_line<T: Lattice, K: Sink>(
+    out: &mut Buffered,
+    sink: &mut K,
+    segment: &Segment,
+) -> Result<(), Failed>
+    requires { IsReached segment.now }
+    ensures { Puts K.written K.faults sink.old sink.new out.old out.new (drawn_line T.shape (segment_of segment.now)) result }
+{
+    let from = T::project(segment.from);
+    let to = T::project(segment.to);
+    put_ends(out, sink, &from, &to, segment.width)
+}
+
+// Puts the line between two points.
+fn put_ends<K: Sink>(
+    out: &mut Buffered,
+    sink: &mut K,
+    from: &(i64, i64),
+    to: &(i64, i64),
+    width: u32,
+) -> Result<(), Failed>
+    ensures { Puts K.written K.faults sink.old sink.new out.old out.new (line_between from.now to.now width) result }
+{
+    put_coordinate(out, sink, b"<line x1=\"", &from.0)?;
+    put_coordinate(out, sink, b" y1=\"", &from.1)?;
+    put_coordinate(out, sink, b" x2=\"", &to.0)?;
+    put_coordinate(out, sink, b" y2=\"", &to.1)?;
+    put_stroke(out, sink, width)?;
+    out.put(sink, b"/>\n")
+}
+
+// Puts a coordinate as an attribute, behind what stands before its number.
+fn put_coordinate<K: Sink>(
+    out: &mut Buffered,
+    sink: &mut K,
+    before: &[u8],
+    value: &i64,
+) -> Result<(), Failed>
+    ensures { Puts K.written K.faults sink.old sink.new out.old out.new (coordinate_behind before.now value.now) result }
+{
+    out.put(sink, before)?;
+    put_signed(out, sink, value)?;
+    out.put(sink, b"\"")
+}
+
+// Puts the colour and the width as attributes.
+fn put_stroke<K: Sink>(out: &mut Buffered, sink: &mut K, width: u32) -> Result<(), Failed>
+    ensures { Puts K.written K.faults sink.old sink.new out.old out.new (stroke_text width) result }
+{
+    out.put(sink, b" stroke=\"black\" stroke-width=\"")?;
+    put_unsigned(out, sink, width)?;
+    out.put(sink, b"\"")
+}

@@ -1,0 +1,137 @@
+//! A turtle's way over an image.
+ghost use Rattle.std.specs.Prelude.{◌≡◌, ◌<◌, ◌≤◌, length, Option};
+ghost use Rattle.lsys_spec.specs.Pictures.{modules_to};
+ghost use Rattle.lsys_module.specs.Views.{symbol_of};
+ghost use Rattle.lsys_out.specs.Drawings.{IsNext, IsStepped, IsStopped, OnNext, OnStep, drawing, far_or, last_drawing, stopped};
+ghost use Rattle.lsys_out.specs.Nesting.{CanGo, HasLast, image_nesting};
+
+use crate::refusal::PictureRefusal;
+use lsys_hom::Image;
+use lsys_lattice::Lattice;
+use lsys_level::LevelView;
+use lsys_module::Symbol;
+use lsys_rules::System;
+use lsys_turtle::{Far, Segment, Turtle};
+use std::marker::Model;
+
+/// What one symbol of the image gives.
+pub(crate) enum Step {
+    /// No segment.
+    Quiet,
+    Drawn(Segment),
+    /// There is no symbol.
+    End,
+}
+
+/// A way over an image. Contracts see what is still to come of the image, and how many of its modules were passed.
+#[derive(Drop)]
+pub(crate) struct Way<'a, W: LevelView> {
+    image: Image<'a, W>,
+    modules: u32,
+}
+
+impl<'a, W: LevelView> Model for Way<'a, W> {
+    ghost use Rattle.std.specs.Prelude.{◌+◌, ◌≤◌, length};
+    ghost use Rattle.lsys_syntax.specs.Limits.{most_image_symbols};
+    ghost use Rattle.lsys_out.specs.Drawings.{Way};
+
+    ghost Value = { Way };
+
+    ghost view = { λ w. record { image = w.image; modules = w.modules } };
+
+    ghost invariant = { λ w. w.modules + length w.image.symbols ≤ most_image_symbols };
+}
+
+impl<'a, W: LevelView> Way<'a, W> {
+    /// At the start of the last level's image, and the turtle at its start.
+    pub(crate) fn new<T: Lattice>(
+        view: &'a W,
+        system: &'a System,
+        turtle: &mut Turtle<T>,
+    ) -> Way<'a, W>
+        requires last { HasLast system.now (W.levels view.now) }
+        requires room { image_nesting system.now (W.levels view.now) ≤ turtle.old.room }
+        ensures drawing { drawing T.shape result turtle.new.turtle ≡ last_drawing T.shape system.now (W.levels view.now) }
+        ensures can_go { CanGo result.image.symbols turtle.new }
+        ensures room { turtle.new.room ≡ turtle.old.room }
+    {
+        turtle.reset();
+        Way {
+            image: Image::new(view, system, system.depth()),
+            modules: 0,
+        }
+    }
+
+    /// The next segment; None at the end.
+    ///
+    /// # Errors
+    ///
+    /// The image's refusal, and else the first module that would lead too far. Never `Failed`.
+    pub(crate) fn next<T: Lattice>(
+        &mut self,
+        turtle: &mut Turtle<T>,
+    ) -> Result<Option<Segment>, PictureRefusal>
+        requires can_go { CanGo self.old.image.symbols turtle.old }
+        ensures next { IsNext (drawing T.shape self.old turtle.old.turtle) (drawing T.shape self.new turtle.new.turtle) result }
+        ensures can_go { OnNext result (CanGo self.new.image.symbols turtle.new) }
+        ensures fewer { OnNext result (length self.new.image.symbols < length self.old.image.symbols) }
+        ensures room { turtle.new.room ≡ turtle.old.room }
+    {
+        'symbols: loop {
+            match self.step(turtle)? {
+                Step::Quiet => {}
+                Step::Drawn(segment) => return Ok(Some(segment)),
+                Step::End => return Ok(None),
+            }
+        }
+    }
+
+    /// Passes one symbol of the image.
+    fn step<T: Lattice>(&mut self, turtle: &mut Turtle<T>) -> Result<Step, PictureRefusal>
+        requires can_go { CanGo self.old.image.symbols turtle.old }
+        ensures stepped { IsStepped (drawing T.shape self.old turtle.old.turtle) (drawing T.shape self.new turtle.new.turtle) result }
+        ensures can_go { OnStep result (CanGo self.new.image.symbols turtle.new) }
+        ensures fewer { OnStep result (length self.new.image.symbols < length self.old.image.symbols) }
+        ensures room { turtle.new.room ≡ turtle.old.room }
+    {
+        let symbol = match self.image.next() {
+            Ok(Some(symbol)) => symbol,
+            Ok(None) => return Ok(Step::End),
+            Err(refusal) => return Err(PictureRefusal::Image(refusal)),
+        };
+        self.modules = modules_to(self.modules, &symbol);
+        match turtle.step(&symbol) {
+            Ok(Some(segment)) => Ok(Step::Drawn(segment)),
+            Ok(None) => Ok(Step::Quiet),
+            Err(Far) => Err(self.refusal()),
+        }
+    }
+
+    /// The refusal of the image, if it comes later, and else of the module that was passed last, which is too far.
+    fn refusal(&mut self) -> PictureRefusal
+        ensures { IsStopped (stopped (far_or self.old.image.refusal self.old.modules)) result }
+    {
+        'symbols: loop {
+            match self.image.next() {
+                Ok(Some(_)) => {}
+                Ok(None) => {
+                    return PictureRefusal::Far {
+                        module: self.modules,
+                    };
+                }
+                Err(refusal) => return PictureRefusal::Image(refusal),
+            }
+        }
+    }
+}
+
+/// How many modules there are up to a symbol, where so many stand before it.
+fn modules_to(modules: u32, symbol: &Symbol) -> u32
+    requires { modules < u32.MAX }
+    ensures { result ≡ modules_to modules (symbol_of symbol.now) }
+{
+    match symbol {
+        Symbol::Module(_) => modules + 1,
+        _ => modules,
+    }
+}
