@@ -1,46 +1,43 @@
 //! The removal of nodes that are reached no more.
-ghost use Rattle.std.specs.Prelude.{◌≡◌, ◌+◌, ◌≤◌, ℕ, ◌∷◌, [], length, List, false, Some, IsTrue, ◌↔◌, Contains};
+ghost use Rattle.std.specs.Prelude.{◌≡◌, ◌+◌, ◌≤◌, ℕ, ◌∷◌, [], length, List, false, Some, IsSome, IsTrue};
 ghost use Rattle.lsys_forest.specs.Slots.{live_slots};
 ghost use Rattle.lsys_forest.specs.Nodes.{Node, Nodes};
 ghost use Rattle.lsys_forest.specs.Changes.{Change};
 ghost use Rattle.lsys_forest.specs.Answers.{answers, AreMade, Follows};
 ghost use Rattle.lsys_forest.specs.Stocks.{nodes_of, changes_of, named_by, KeepsRoom};
-ghost use Rattle.lsys_forest.specs.Groves.{In, IsSound};
-ghost use Rattle.lsys_forest.specs.Sweeps.{IsLinked, IsLoose, IsSwept, SweepsLeft, KeepsPlaces};
+ghost use Rattle.lsys_forest.specs.Groves.{In, IsSound, place_in};
+ghost use Rattle.lsys_forest.specs.Sweeps.{IsLinked, AreRisingUnder, IsSwept, SweepsLeft, KeepsPlaces};
 
 use crate::kept::Kept;
 use crate::node::NodeId;
 use crate::note::Look;
 use crate::stock::Parts;
+use crate::walk::position;
 
 /// Whether the node lives, and is not among the children of its parent.
 fn is_loose<A: Kept>(parts: &Parts<A>, node: NodeId) -> bool
-    ensures loose { IsTrue result → IsLoose (nodes_of parts.now) node }
+    ensures lives { IsTrue result → IsSome (nodes_of parts.now node) }
+    ensures apart { (n : Node A) → IsTrue result → nodes_of parts.now node ≡ Some n → AreRisingUnder (nodes_of parts.now) n.parent
+        → IsLinked (nodes_of parts.now) node n → ⊥ }
     ensures linked { (n : Node A) → result ≡ false → nodes_of parts.now node ≡ Some n
         → IsLinked (nodes_of parts.now) node n }
 {
     match parts.get(node) {
-        Some(found) => !has_kid(parts, found.parent, node),
+        Some(found) => !has_kid(parts, found.parent, node, found.place),
         None => false,
     }
 }
 
-/// Whether the first node lives, and has the second among its children.
-fn has_kid<A: Kept>(parts: &Parts<A>, parent: NodeId, node: NodeId) -> bool
+/// Whether the first node lives, and has the second, which has this place under its parent, among its children.
+fn has_kid<A: Kept>(parts: &Parts<A>, parent: NodeId, node: NodeId, place: u32) -> bool
     ensures has { IsTrue result → (p : Node A) × (nodes_of parts.now parent ≡ Some p) × In node p.kids }
-    ensures lacks { result ≡ false → (p : Node A) → nodes_of parts.now parent ≡ Some p → In node p.kids → ⊥ }
+    ensures lacks { (p : Node A) → result ≡ false → place ≡ place_in (nodes_of parts.now node)
+        → nodes_of parts.now parent ≡ Some p → AreRisingUnder (nodes_of parts.now) parent → In node p.kids → ⊥ }
 {
     match parts.get(parent) {
-        Some(_) => is_among(parts.kids(parent), node),
+        Some(_) => position(parts, parts.kids(parent), node, place).is_some(),
         None => false,
     }
-}
-
-/// Whether the node is among these.
-fn is_among(kids: &[NodeId], node: NodeId) -> bool
-    ensures { IsTrue result ↔ Contains kids.now node }
-{
-    kids.contains(&node)
 }
 
 /// Removes the node if it is loose, and notes its children.

@@ -1,12 +1,12 @@
 //! Walks along a level.
-ghost use Rattle.std.specs.Prelude.{◌≡◌, ◌+◌, ◌-◌, ◌<◌, ◌≤◌, ℕ, ◌∷◌, ◌++◌, [], ◌^◌, List, length, Some, slice_get, true};
+ghost use Rattle.std.specs.Prelude.{◌≡◌, ◌+◌, ◌-◌, ◌<◌, ◌≤◌, ℕ, ◌∷◌, ◌++◌, [], ◌^◌, List, length, Some, None, IfSome, slice_get, true};
 ghost use Rattle.lsys_forest.specs.Stocks.{nodes_of, changes_of};
-ghost use Rattle.lsys_forest.specs.Groves.{In, AreApart, IsSound};
+ghost use Rattle.lsys_forest.specs.Groves.{In, AreApart, AreRising, IsSound, place_in};
 ghost use Rattle.lsys_spec.specs.Levels.{level_balanced};
 ghost use Rattle.lsys_level.specs.Spots.{level_by};
 ghost use Rattle.lsys_forest.specs.Slots.{live_slots};
 ghost use Rattle.lsys_forest.specs.Mates.{nested, IsBracketThat, IsMateThat};
-ghost use Rattle.lsys_forest.specs.Rows.{HasAtMost, first_in, oriented, level_nodes, level_spots};
+ghost use Rattle.lsys_forest.specs.Rows.{first_in, oriented, level_nodes, level_spots};
 
 use crate::kept::Kept;
 use crate::node::{Kind, NodeId};
@@ -20,12 +20,22 @@ pub(crate) enum Way {
 }
 
 /// The node that comes next to a node among these, that way, where the node has this place under its parent.
-fn next_to(kids: &[NodeId], node: NodeId, place: u32, way: Way) -> Option<NodeId>
-    requires among { HasAtMost node place kids.now }
+fn next_to<A: Kept>(
+    parts: &Parts<A>,
+    kids: &[NodeId],
+    node: NodeId,
+    place: u32,
+    way: Way,
+) -> Option<NodeId>
+    requires among { In node kids.now }
+    requires place { place ≡ place_in (nodes_of parts.now node) }
+    requires rising { AreRising (nodes_of parts.now) kids.now }
     requires apart { AreApart kids.now }
     ensures { (before after : List ℕ) → oriented way kids.now ≡ before ++ node ∷ after → result ≡ first_in after }
 {
-    let at = index_of(kids, node, place);
+    let Some(at) = position(parts, kids, node, place) else {
+        unreachable!()
+    };
     match way {
         Way::Left => {
             if at == 0 {
@@ -44,17 +54,47 @@ fn kid_at(kids: &[NodeId], place: usize) -> Option<NodeId>
     kids.get(place).copied()
 }
 
-/// Where the node stands among these: at its place under its parent, or before it.
-fn index_of(kids: &[NodeId], node: NodeId, place: u32) -> usize
-    requires { HasAtMost node place kids.now }
-    ensures is { slice_get kids.now result ≡ Some node }
-    ensures within { result < length kids.now }
+/// The place of a node under its parent; 0 where it does not live.
+fn place_of<A: Kept>(parts: &Parts<A>, node: NodeId) -> u32
+    ensures { result ≡ place_in (nodes_of parts.now node) }
 {
-    let mut at = (place as usize).min(kids.len() - 1);
-    while kids[at] != node {
-        at -= 1;
+    match parts.get(node) {
+        Some(found) => found.place,
+        None => 0,
     }
-    at
+}
+
+/// Where the node, which has this place under its parent, stands among these; none where it is not among them. As long as
+/// none was taken out before it, it stands at its place. Else it is found by halves, since the places of children rise.
+pub(crate) fn position<A: Kept>(
+    parts: &Parts<A>,
+    kids: &[NodeId],
+    node: NodeId,
+    place: u32,
+) -> Option<usize>
+    ensures stands { IfSome result (λ i. slice_get kids.now i ≡ Some node) }
+    ensures lacks { result ≡ None → place ≡ place_in (nodes_of parts.now node)
+        → AreRising (nodes_of parts.now) kids.now → In node kids.now → ⊥ }
+{
+    let first = place as usize;
+    if first < kids.len() && kids[first] == node {
+        return Some(first);
+    }
+    let mut low = 0;
+    let mut high = kids.len();
+    while low < high {
+        let middle = low + (high - low) / 2;
+        let kid = kids[middle];
+        if kid == node {
+            return Some(middle);
+        }
+        if place_of(parts, kid) < place {
+            low = middle + 1;
+        } else {
+            high = middle;
+        }
+    }
+    None
 }
 
 /// The first of these nodes, that way.
@@ -85,7 +125,7 @@ pub(crate) fn beside<A: Kept>(
         unreachable!()
     };
     let parent = found.parent;
-    if let Some(next) = next_to(parts.kids(parent), node, found.place, way) {
+    if let Some(next) = next_to(parts, parts.kids(parent), node, found.place, way) {
         return Some(next);
     }
     if depth == 1 {

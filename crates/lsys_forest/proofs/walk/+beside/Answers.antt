@@ -1,12 +1,13 @@
-use Rattle.std.proofs.Common.{◌≡◌, ◌++◌, ◌∷◌, ◌-◌, ◌<◌, ℕ, suc, List, Some, sym, ap, ◌∙◌, subst, arith, rules}
+use Rattle.std.proofs.Common.{◌≡◌, ◌++◌, ◌∷◌, ◌-◌, ◌<◌, ℕ, suc, List, Option, Some, sym, ap, ◌∙◌, subst, arith, rules}
 use Rattle.std.specs.Prelude.{option_map}
 use Rattle.std.proofs.lemmas.Option.{none-some}
 use Rattle.lsys_forest.specs.Stocks.{nodes_of, changes_of, row_at, node_of}
-use Rattle.lsys_forest.specs.Groves.{In, AreApart}
-use Rattle.lsys_forest.specs.Rows.{HasAtMost, first_in, oriented, level_nodes, kids_in}
+use Rattle.lsys_forest.specs.declared.node.Stored.{Stored}
+use Rattle.lsys_forest.specs.Groves.{In, AreApart, AreRising, place_in}
+use Rattle.lsys_forest.specs.Rows.{first_in, oriented, level_nodes, kids_in}
 use Rattle.lsys_forest.proofs.StockLemmas.{stored_of}
-use Rattle.lsys_forest.proofs.RowLemmas.{level_depth, kids_apart, parent_level, parent_root}
-use Rattle.lsys_forest.proofs.WalkLemmas.{amid, behind_start, there, found_kid, behind_step, left_less, stands_at_most, rows_are, level_parent, level_live, kids_live, left_from, next_on}
+use Rattle.lsys_forest.proofs.RowLemmas.{level_depth, kids_apart, kids_rising, parent_level, parent_root}
+use Rattle.lsys_forest.proofs.WalkLemmas.{amid, behind_start, there, found_kid, behind_step, left_less, rows_are, level_parent, level_live, kids_live, left_from, next_on}
 use Rattle.lsys_forest.proofs.walk.+beside.Goals as goal
 
 pub unreachable-requires : goal.unreachable-requires
@@ -30,7 +31,21 @@ next_to-requires-clause-among g t c =
     let is : nodes_of p c.args.node ≡ Some n = ap (option_map (node_of (row_at p.params c.args.node) (row_at p.kids c.args.node))) (sym c.in-Some.ensures) in
     let among = level_parent c.args.root (changes_of p) (nodes_of p) c.requires.sound (c.args.depth - 1) c.args.node n c.requires.among is in
     let live = kids_live c.args.root (changes_of p) (nodes_of p) c.requires.sound n.parent c.args.node among in
-    subst (HasAtMost c.args.node n.place) (sym (c.kids.ensures ∙ rows_are p.slots p.params p.kids n.parent live)) (stands_at_most c.args.root (changes_of p) (nodes_of p) c.requires.sound n.parent c.args.node n is among)
+    subst (In c.args.node) (sym (c.kids.ensures ∙ rows_are p.slots p.params p.kids n.parent live)) among
+
+pub next_to-requires-clause-place : goal.next_to-requires-clause-place
+next_to-requires-clause-place g t c =
+    let p = c.args.parts.now in
+    ap (λ (o : Option (Stored g.row.A.Denot)). place_in (option_map (node_of (row_at p.params c.args.node) (row_at p.kids c.args.node)) o)) c.in-Some.ensures
+
+pub next_to-requires-clause-rising : goal.next_to-requires-clause-rising
+next_to-requires-clause-rising g t c =
+    let p = c.args.parts.now in
+    let n = node_of (row_at p.params c.args.node) (row_at p.kids c.args.node) c.in-Some.found.now in
+    let is : nodes_of p c.args.node ≡ Some n = ap (option_map (node_of (row_at p.params c.args.node) (row_at p.kids c.args.node))) (sym c.in-Some.ensures) in
+    let among = level_parent c.args.root (changes_of p) (nodes_of p) c.requires.sound (c.args.depth - 1) c.args.node n c.requires.among is in
+    let live = kids_live c.args.root (changes_of p) (nodes_of p) c.requires.sound n.parent c.args.node among in
+    subst (AreRising (nodes_of p)) (sym (c.kids.ensures ∙ rows_are p.slots p.params p.kids n.parent live)) (kids_rising c.args.root (changes_of p) (nodes_of p) c.requires.sound n.parent)
 
 pub next_to-requires-clause-apart : goal.next_to-requires-clause-apart
 next_to-requires-clause-apart g t c =
