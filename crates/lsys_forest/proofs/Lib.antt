@@ -11,3 +11,5 @@ pub mod RowLemmas
 pub mod WalkLemmas
 pub mod ViewLemmas
 pub mod MateLemmas
+pub mod RingLemmas
+pub mod OrderLemmas

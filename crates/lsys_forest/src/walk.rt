@@ -55,7 +55,7 @@ fn kid_at(kids: &[NodeId], place: usize) -> Option<NodeId>
 }
 
 /// The place of a node under its parent; 0 where it does not live.
-fn place_of<A: Kept>(parts: &Parts<A>, node: NodeId) -> u32
+pub(crate) fn place_of<A: Kept>(parts: &Parts<A>, node: NodeId) -> u32
     ensures { result ≡ place_in (nodes_of parts.now node) }
 {
     match parts.get(node) {
