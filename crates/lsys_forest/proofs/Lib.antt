@@ -13,3 +13,7 @@ pub mod ViewLemmas
 pub mod MateLemmas
 pub mod RingLemmas
 pub mod OrderLemmas
+pub mod HopLemmas
+pub mod GapLemmas
+pub mod TurnLemmas
+pub mod ThreadLemmas

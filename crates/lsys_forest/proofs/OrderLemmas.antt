@@ -7,7 +7,7 @@ use Rattle.lsys_forest.specs.Nodes.{Node, Nodes}
 use Rattle.lsys_forest.specs.Changes.{Change}
 use Rattle.lsys_forest.specs.Groves.{In, AreApart, place_in, AreRising, IsSound}
 use Rattle.lsys_forest.specs.Rows.{flat, kids_in, depth_in, level_nodes}
-use Rattle.lsys_forest.specs.Threads.{AreSorted, parent_in, IsFull, IsEarlier, Precedes}
+use Rattle.lsys_forest.specs.Threads.{AreSorted, Extends, parent_in, IsFull, IsEarlier, Precedes}
 use Rattle.lsys_forest.proofs.RowLemmas.{In_append, In_left, In_right, child, flat_In, kids_rising}
 
 -- 1. sorted lists, by any order
@@ -96,18 +96,18 @@ module _ {A : Type 0} where
 
   -- 3. a live node that is not the root has a live parent, one step higher
 
-  record IsUp (m : Nodes A) (x d : ℕ) : Type 0 where
+  pub record IsUp (m : Nodes A) (x d : ℕ) : Type 0 where
     pub parent : Node A
     pub is : m (parent_in (m x)) ≡ Some parent
     pub depth : parent.depth ≡ d
 
-  deep_up : (root : ℕ) (changes : List (Change A)) (m : Nodes A) → IsSound root changes m → (d x : ℕ) (n : Node A) → m x ≡ Some n → n.depth ≡ suc d → IsUp m x d
+  pub deep_up : (root : ℕ) (changes : List (Change A)) (m : Nodes A) → IsSound root changes m → (d x : ℕ) (n : Node A) → m x ≡ Some n → n.depth ≡ suc d → IsUp m x d
   deep_up root changes m sound d x n is depth =
       let other : x ≢ root = λ e. (let same = ap (λ (o : Node A). o.depth) (same_Some sound.root_lives.0 n (sym sound.root_lives.1 ∙ ap m (sym e) ∙ is)) in omega (arith, same, sound.root_lives.2, depth)) in
       let h = sound.held x n is other in
       record { parent = h.parent; is = ap (λ (o : Option (Node A)). m (parent_in o)) is ∙ h.is; depth = omega (arith, h.depth, depth) }
 
-  top_root : (root : ℕ) (changes : List (Change A)) (m : Nodes A) → IsSound root changes m → (x : ℕ) (n : Node A) → m x ≡ Some n → n.depth ≡ 0 → x ≡ root
+  pub top_root : (root : ℕ) (changes : List (Change A)) (m : Nodes A) → IsSound root changes m → (x : ℕ) (n : Node A) → m x ≡ Some n → n.depth ≡ 0 → x ≡ root
   top_root root changes m sound x n is depth = elim (cases_eq x root) [
     | inl e ↦ e
     | inr ne ↦ let h = sound.held x n is ne in absurd (omega (arith, h.depth, depth))
@@ -151,10 +151,6 @@ module _ {A : Type 0} where
   ]
 
   -- 4. it is the same as long as the nodes stand
-
-  -- what lives in the first map lives in the second, with the same parent, place and depth
-  abbrev pub Extends : Nodes A → Nodes A → Type 0
-  Extends m m' = (k : ℕ) (n : Node A) → m k ≡ Some n → (n' : Node A) × (m' k ≡ Some n') × (n'.parent ≡ n.parent) × (n'.place ≡ n.place) × (n'.depth ≡ n.depth)
 
   record Stands (m m' : Nodes A) (k : ℕ) : Type 0 where
     pub parent : parent_in (m' k) ≡ parent_in (m k)

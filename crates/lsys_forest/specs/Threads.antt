@@ -1,10 +1,10 @@
 -- The ring of the nodes that have children: from the root on by depth, and on each depth from the left to the right.
-use Rattle.std.specs.Prelude.{◌≡◌, ◌≢◌, ◌⊎◌, ◌<◌, ℕ, zero, suc, List, [], ◌∷◌, ◌++◌, length, slice_index_or, slice_set, Option, Some, None, IsSome}
+use Rattle.std.specs.Prelude.{◌≡◌, ◌≢◌, ◌⊎◌, ◌<◌, ◌≤◌, ℕ, zero, suc, List, [], ◌∷◌, ◌++◌, length, slice_index_or, slice_set, Option, Some, None, IsSome, ◌↔◌}
 use Rattle.lsys_forest.specs.declared.walk.Way.{Way}
 use Rattle.lsys_forest.specs.declared.walk.Way.TheVariants.{Left, Right}
 use Rattle.lsys_forest.specs.Nodes.{Node, Nodes}
 use Rattle.lsys_forest.specs.Groves.{In, AreApart, place_in}
-use Rattle.lsys_forest.specs.Rows.{kids_in, depth_in}
+use Rattle.lsys_forest.specs.Rows.{kids_in, depth_in, oriented, level_nodes}
 
 -- the numbers that come next, by number, to the right and to the left
 pub record Ring : Type 0 where
@@ -77,3 +77,67 @@ module _ {A : Type 0} where
     pub behind_is : behind ≡ last_or root before
     pub all_before : (j : ℕ) → In j before → Precedes order j k
     pub all_after : (j : ℕ) → In j after → Precedes order k j
+
+  -- the node is reached, so many steps below the root
+  abbrev pub IsOnLevel : Nodes A → ℕ → ℕ → ℕ → Type 0
+  IsOnLevel m root zero k = k ≡ root
+  IsOnLevel m root (suc t) k = In k (level_nodes m root t)
+
+  -- one node comes before the other, that way
+  abbrev pub PrecedesThat : Way → Nodes A → ℕ → ℕ → Type 0
+  PrecedesThat Right m x z = Precedes m x z
+  PrecedesThat Left m x z = Precedes m z x
+
+  -- the first of these that has children
+  abbrev pub IsFirstFull : Nodes A → Option ℕ → List ℕ → Type 0
+  IsFirstFull m None xs = (k : ℕ) → In k xs → IsFull m k → ⊥
+  IsFirstFull m (Some q) xs = (passed : List ℕ) × (rest : List ℕ) × (xs ≡ passed ++ q ∷ rest) × IsFull m q × ((k : ℕ) → In k passed → IsFull m k → ⊥)
+
+  -- What a walk along the ring keeps true: the nodes from `at` on come behind the node, and each that has children and stands
+  -- behind the node on its level is among them.
+  pub record IsHop (way : Way) (m : Nodes A) (root node : ℕ) (full after : List ℕ) (at most : ℕ) : Type 0 where
+    pub passed : List ℕ
+    pub ahead : List ℕ
+    pub whole : oriented way full ≡ passed ++ ahead
+    pub at_is : at ≡ first_or ahead root
+    pub behind : (k : ℕ) → In k ahead → PrecedesThat way m node k
+    pub all : (k : ℕ) → In k after → IsFull m k → In k ahead
+    pub left : length ahead ≤ most
+
+  -- The ring of these, into which the node is still to be put; there are no more than so many.
+  pub record IsOpen (m : Nodes A) (r : Ring) (root : ℕ) (full : List ℕ) (k most : ℕ) : Type 0 where
+    pub chain : Chain r root full root
+    pub sorted : AreSorted (Precedes m) full
+    pub others : In root full → ⊥
+    pub comparable : (j : ℕ) → In j full → Precedes m j k ⊎ Precedes m k j
+    pub short : length full ≤ most
+
+  -- the root, or one of the ring that comes before the node
+  abbrev pub IsStart : Nodes A → ℕ → List ℕ → ℕ → ℕ → Type 0
+  IsStart m root full k start = (start ≡ root) ⊎ (In start full × Precedes m start k)
+
+  -- What the search for a node's place keeps true: it comes behind all up to `behind`.
+  pub record IsGap (m : Nodes A) (root : ℕ) (full : List ℕ) (k behind most : ℕ) : Type 0 where
+    pub before : List ℕ
+    pub after : List ℕ
+    pub whole : full ≡ before ++ after
+    pub behind_is : behind ≡ last_or root before
+    pub all_before : (j : ℕ) → In j before → Precedes m j k
+    pub left : length after ≤ most
+
+  -- what lives in the first map lives in the second, with the same parent, place and depth
+  abbrev pub Extends : Nodes A → Nodes A → Type 0
+  Extends m m' = (k : ℕ) (n : Node A) → m k ≡ Some n → (n' : Node A) × (m' k ≡ Some n') × (n'.parent ≡ n.parent) × (n'.place ≡ n.place) × (n'.depth ≡ n.depth)
+
+  -- all nodes stand, and of none but this one it may have changed whether it has children
+  pub record Turns (old new : Nodes A) (k : ℕ) : Type 0 where
+    pub stand : Extends new old
+    pub live : (j : ℕ) → IsSome (old j) → IsSome (new j)
+    pub others : (j : ℕ) → j ≢ k → IsFull old j ↔ IsFull new j
+
+  -- the ring is that of the nodes that have children, in this order, and each live node has links
+  pub record IsThreaded (order m : Nodes A) (r : Ring) (root : ℕ) : Type 0 where
+    pub full : List ℕ
+    pub chain : Chain r root full root
+    pub are : AreFull order m root full
+    pub long : (k : ℕ) → IsSome (m k) → (k < length r.ahead) × (k < length r.back)

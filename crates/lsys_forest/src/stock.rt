@@ -147,6 +147,13 @@ impl<A: Drop> Parts<A> {
         self.table.live()
     }
 
+    /// Whether nothing was changed since the last rest.
+    pub(crate) fn is_at_rest(&self) -> bool
+        ensures { IsTrue result → changes_of self.now ≡ [] }
+    {
+        self.notes.is_empty()
+    }
+
     /// A node without its lists, if it lives.
     pub(crate) fn get(&self, node: NodeId) -> Option<&Stored<A>>
         ensures { option_copied result ≡ slot_at self.now.slots node }

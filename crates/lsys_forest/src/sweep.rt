@@ -15,7 +15,7 @@ use crate::stock::Parts;
 use crate::walk::position;
 
 /// Whether the node lives, and is not among the children of its parent.
-fn is_loose<A: Kept>(parts: &Parts<A>, node: NodeId) -> bool
+pub(crate) fn is_loose<A: Kept>(parts: &Parts<A>, node: NodeId) -> bool
     ensures lives { IsTrue result → IsSome (nodes_of parts.now node) }
     ensures apart { (n : Node A) → IsTrue result → nodes_of parts.now node ≡ Some n → AreRisingUnder (nodes_of parts.now) n.parent
         → IsLinked (nodes_of parts.now) node n → ⊥ }

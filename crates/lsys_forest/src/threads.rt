@@ -2,18 +2,19 @@
 //!
 //! All nodes that have children are in it, whether they are reached or not, behind the root: by depth, and on each depth
 //! from the left to the right. This order rests on parents and places alone, which a node keeps as long as it lives.
-ghost use Rattle.std.specs.Prelude.{◌≡◌, ◌≢◌, ◌⊎◌, ◌+◌, ◌<◌, ◌≤◌, ℕ, List, length, IsTrue, ◌↔◌, OnOk, slice_set, vec_len, vec_capacity, ◌++◌, ◌∷◌, []};
+ghost use Rattle.std.specs.Prelude.{◌≡◌, ◌≢◌, ◌⊎◌, ◌+◌, ◌<◌, ◌≤◌, ℕ, List, length, Option, IsSome, IsTrue, ◌↔◌, ◌-◌, OnOk, slice_set, vec_len, vec_capacity, ◌++◌, ◌∷◌, []};
 ghost use Rattle.lsys_forest.specs.Nodes.{Nodes};
 ghost use Rattle.lsys_forest.specs.Stocks.{nodes_of, changes_of};
 ghost use Rattle.lsys_forest.specs.Slots.{live_slots};
 ghost use Rattle.lsys_forest.specs.Groves.{In, IsSound};
-ghost use Rattle.lsys_forest.specs.Rows.{kids_in, depth_in};
-ghost use Rattle.lsys_forest.specs.Threads.{Ring, next_that, link_at, tied, Chain, last_or, parent_in, IsFull, IsEarlier, Precedes, AreFull, IsPlace};
+ghost use Rattle.lsys_forest.specs.Rows.{kids_in, depth_in, oriented, level_nodes};
+ghost use Rattle.lsys_forest.specs.Threads.{Ring, next_that, link_at, tied, Chain, last_or, parent_in, IsFull, IsEarlier, Precedes, AreFull, IsPlace, IsOnLevel, IsFirstFull, IsOpen, IsStart, Turns, IsThreaded};
 
 use crate::kept::Kept;
 use crate::node::NodeId;
 use crate::stock::Parts;
-use crate::walk::{Way, place_of};
+use crate::sweep::is_loose;
+use crate::walk::{Way, place_of, position};
 use std::alloc::{AllocError, Global};
 use std::marker::Model;
 
@@ -153,4 +154,178 @@ pub(crate) fn precedes<A: Kept>(parts: &Parts<A>, one: NodeId, two: NodeId) -> b
         return depth < other;
     }
     is_earlier(parts, one, two, depth)
+}
+
+/// Whether a node that lives is reached from the root, so many steps below it.
+fn is_reached<A: Kept>(parts: &Parts<A>, root: NodeId, node: NodeId, depth: u32) -> bool
+    requires sound { IsSound root (changes_of parts.now) (nodes_of parts.now) }
+    requires lives { IsSome (nodes_of parts.now node) }
+    requires deep { depth_in (nodes_of parts.now node) ≡ depth }
+    ensures { IsTrue result ↔ IsOnLevel (nodes_of parts.now) root depth node }
+{
+    let mut at = node;
+    let mut left = depth;
+    while left > 0 {
+        if is_loose(parts, at) {
+            return false;
+        }
+        at = parent_of(parts, at);
+        left -= 1;
+    }
+    true
+}
+
+/// The next node of a level that has children, that way, from one that has some.
+pub(crate) fn next_full<A: Kept>(
+    parts: &Parts<A>,
+    threads: &Threads,
+    root: NodeId,
+    node: NodeId,
+    depth: u32,
+    way: Way,
+) -> Option<NodeId>
+    requires sound { IsSound root (changes_of parts.now) (nodes_of parts.now) }
+    requires below { 0 < depth }
+    requires among { In node (level_nodes (nodes_of parts.now) root (depth - 1)) }
+    requires full { IsFull (nodes_of parts.now) node }
+    ensures { (full before after : List ℕ) → Chain threads.now root full root
+        → AreFull (nodes_of parts.now) (nodes_of parts.now) root full
+        → oriented way (level_nodes (nodes_of parts.now) root (depth - 1)) ≡ before ++ node ∷ after
+        → IsFirstFull (nodes_of parts.now) result after }
+{
+    let mut at = threads.next(node, way);
+    for _step in 0..parts.live() {
+        if at == root || depth_of(parts, at) != depth {
+            return None;
+        }
+        if parts.is_at_rest() || is_reached(parts, root, at, depth) {
+            return Some(at);
+        }
+        at = threads.next(at, way);
+    }
+    None
+}
+
+/// The one of the ring behind which a node belongs, where the search goes on from one that comes before it.
+fn place_behind<A: Kept>(
+    parts: &Parts<A>,
+    threads: &Threads,
+    root: NodeId,
+    node: NodeId,
+    start: NodeId,
+) -> NodeId
+    ensures { (full : List ℕ) → IsOpen (nodes_of parts.now) threads.now root full node (live_slots parts.now.slots)
+        → IsStart (nodes_of parts.now) root full node start → IsPlace (nodes_of parts.now) root full node result }
+{
+    let mut behind = start;
+    for _step in 0..parts.live() {
+        let next = threads.next(behind, Way::Right);
+        if next == root || !precedes(parts, next, node) {
+            return behind;
+        }
+        behind = next;
+    }
+    behind
+}
+
+/// Whether the first node is in the ring, and comes before the second.
+fn is_start<A: Kept>(parts: &Parts<A>, root: NodeId, one: NodeId, node: NodeId) -> bool
+    ensures { IsTrue result → IsFull (nodes_of parts.now) one × (one ≢ root) × Precedes (nodes_of parts.now) one node }
+{
+    one != root && is_full(parts, one) && precedes(parts, one, node)
+}
+
+/// The last of these nodes that has children.
+fn last_full<A: Kept>(parts: &Parts<A>, nodes: &[NodeId]) -> Option<NodeId> {
+    let mut left = nodes.len();
+    while left > 0 {
+        left -= 1;
+        if is_full(parts, nodes[left]) {
+            return Some(nodes[left]);
+        }
+    }
+    None
+}
+
+/// The children of a node, none where it does not live.
+fn kids_of<A: Kept>(parts: &Parts<A>, node: NodeId) -> &[NodeId] {
+    match parts.get(node) {
+        Some(_) => parts.kids(node),
+        None => &[],
+    }
+}
+
+/// The last node that has children before a node on its level, as far as the ring tells; the root where there is none.
+fn full_before<A: Kept>(
+    parts: &Parts<A>,
+    threads: &Threads,
+    root: NodeId,
+    node: NodeId,
+) -> NodeId {
+    let mut parent = parent_of(parts, node);
+    let depth = depth_of(parts, parent);
+    let mut kids = kids_of(parts, parent);
+    if let Some(at) = position(parts, kids, node, place_of(parts, node)) {
+        if at < kids.len() {
+            kids = &kids[..at];
+        }
+    }
+    for _step in 0..parts.live() {
+        if let Some(found) = last_full(parts, kids) {
+            return found;
+        }
+        parent = threads.next(parent, Way::Left);
+        if parent == root || depth_of(parts, parent) != depth {
+            return root;
+        }
+        kids = kids_of(parts, parent);
+    }
+    root
+}
+
+/// One of the ring that comes before a node, or the root: that behind which it stood when it had children last, or else the
+/// last before it on its level, or else its parent.
+fn near_by<A: Kept>(parts: &Parts<A>, threads: &Threads, root: NodeId, node: NodeId) -> NodeId
+    ensures { (result ≡ root)
+        ⊎ (IsFull (nodes_of parts.now) result × (result ≢ root) × Precedes (nodes_of parts.now) result node) }
+{
+    let last = threads.next(node, Way::Left);
+    if is_start(parts, root, last, node) {
+        return last;
+    }
+    let before = full_before(parts, threads, root, node);
+    if is_start(parts, root, before, node) {
+        return before;
+    }
+    let parent = parent_of(parts, node);
+    if is_start(parts, root, parent, node) {
+        return parent;
+    }
+    root
+}
+
+/// Puts a node into the ring that has got children, or takes it out where it has lost them; `was` tells whether it had some.
+pub(crate) fn refit<A: Kept>(
+    threads: &mut Threads,
+    parts: &Parts<A>,
+    root: NodeId,
+    node: NodeId,
+    was: bool,
+)
+    requires { IsSound root (changes_of parts.now) (nodes_of parts.now) }
+    ensures { (before : Nodes A) → Turns before (nodes_of parts.now) node → (IsTrue was ↔ IsFull before node)
+        → IsThreaded before before threads.old root
+        → IsThreaded (nodes_of parts.now) (nodes_of parts.now) threads.new root }
+{
+    let is = is_full(parts, node);
+    if node == root || is == was {
+        return;
+    }
+    if is {
+        let start = near_by(parts, threads, root, node);
+        let behind = place_behind(parts, threads, root, node, start);
+        threads.put_in(node, behind);
+    } else {
+        threads.take_out(node);
+    }
 }
