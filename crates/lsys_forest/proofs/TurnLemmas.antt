@@ -42,6 +42,9 @@ module _ {A : Type 0} where
   still_live : (old new : Nodes A) → ((j : ℕ) → IsSome (old j) → IsSome (new j)) → (j : ℕ) → IsFull old j → IsSome (new j)
   still_live old new live j h = let s = full_live old j h in live j (subst IsSome (sym s.1) refl)
 
+  pub old_lives : (old new : Nodes A) → Extends new old → (j : ℕ) → IsSome (new j) → IsSome (old j)
+  old_lives old new ext j h = let s = some_of (new j) h in let e = ext j s.0 s.1 in subst IsSome (sym e.1) refl
+
   -- 1. nothing has turned
   pub kept_threaded : (root : ℕ) (changes : List (Change A)) (old new : Nodes A) (r : Ring) → IsSound root changes new → Extends new old → ((j : ℕ) → IsSome (old j) → IsSome (new j)) → ((j : ℕ) → j ≢ root → IsFull old j ↔ IsFull new j) → (long : (j : ℕ) → IsSome (new j) → (j < length r.ahead) × (j < length r.back)) → IsThreaded old old r root → IsThreaded new new r root
   kept_threaded root changes old new r sound ext live same long t = record {
