@@ -30,6 +30,13 @@ option_twice f g f' g' same None = refl
 option_twice f g f' g' same (Some x) = ap Some (same x)
 
 module _ {A : Type 0} where
+  pub undone_long : (w : Was A) (k : ℕ) (slots : List (Option (Stored A))) → length (undone_slots w k slots) ≡ length slots
+  undone_long was.Missing k slots = length-set slots k None
+  undone_long (was.Kind x) k slots = change_long (kind_set x) slots k
+  undone_long (was.Key x) k slots = change_long (key_set x) slots k
+  undone_long was.Kids k slots = refl
+  undone_long (was.Answer x) k slots = change_long (answer_set x) slots k
+
   -- one node changed, in its slot or in its lists
   pub nodes_change : (f : Stored A → Stored A) (g : Node A → Node A) (k : ℕ) (slots slots' : List (Option (Stored A))) (params params' : List (List ℤ)) (kids kids' : List (List ℕ)) → AgreeBut k slots slots' params params' kids kids' → slot_at slots' k ≡ option_map f (slot_at slots k) → ((s : Stored A) → node_of (row_at params' k) (row_at kids' k) (f s) ≡ g (node_of (row_at params k) (row_at kids k) s)) → shown_nodes slots' params' kids' ≡ change g (shown_nodes slots params kids) k
   nodes_change f g k slots slots' params params' kids kids' agree here same =

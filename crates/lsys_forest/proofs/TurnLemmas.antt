@@ -39,29 +39,27 @@ module _ {A : Type 0} where
     (precedes_same root changes new old sound ext x y a.0 b.0 a.1 b.1).1 e
     )) s
 
-  still_live : (old new : Nodes A) → ((j : ℕ) → IsSome (old j) → IsSome (new j)) → (j : ℕ) → IsFull old j → IsSome (new j)
-  still_live old new live j h = let s = full_live old j h in live j (subst IsSome (sym s.1) refl)
-
   pub old_lives : (old new : Nodes A) → Extends new old → (j : ℕ) → IsSome (new j) → IsSome (old j)
   old_lives old new ext j h = let s = some_of (new j) h in let e = ext j s.0 s.1 in subst IsSome (sym e.1) refl
 
   -- 1. nothing has turned
-  pub kept_threaded : (root : ℕ) (changes : List (Change A)) (old new : Nodes A) (r : Ring) → IsSound root changes new → Extends new old → ((j : ℕ) → IsSome (old j) → IsSome (new j)) → ((j : ℕ) → j ≢ root → IsFull old j ↔ IsFull new j) → (long : (j : ℕ) → IsSome (new j) → (j < length r.ahead) × (j < length r.back)) → IsThreaded old old r root → IsThreaded new new r root
+  pub kept_threaded : (root : ℕ) (changes : List (Change A)) (old new : Nodes A) (r : Ring) → IsSound root changes new → Extends new old → ((j : ℕ) → IsFull old j → IsSome (new j)) → ((j : ℕ) → j ≢ root → IsFull old j ↔ IsFull new j) → (long : (j : ℕ) → IsSome (new j) → (j < length r.ahead) × (j < length r.back)) → IsThreaded old old r root → IsThreaded new new r root
   kept_threaded root changes old new r sound ext live same long t = record {
     full = t.full;
     chain = t.chain;
     are = record {
-      sorted = sorted_now root changes old new sound ext t.full (λ j h. still_live old new live j (t.are.each j h).0) t.are.sorted;
+      sorted = sorted_now root changes old new sound ext t.full (λ j h. live j (t.are.each j h).0) t.are.sorted;
       each = λ j h. let e = t.are.each j h in ((same j e.1).0 e.0, e.1);
       all = λ j h ne. t.are.all j ((same j ne).1 h) ne;
     };
     long = long;
+    root_long = t.root_long;
   }
 
   -- the ring, as it is before the node is put in
   pub open_ring : (root : ℕ) (changes : List (Change A)) (old new : Nodes A) (r : Ring) (k : ℕ) (slots : List (Option (Stored A))) → IsSound root changes new → ((j : ℕ) (n : Node A) → new j ≡ Some n → IsSome (slot_at slots j)) → Turns old new k → (IsFull old k → ⊥) → IsFull new k → (t : IsThreaded old old r root) → IsOpen new r root t.full k (live_slots slots)
   open_ring root changes old new r k slots sound shown turns was is t =
-      let lives : (j : ℕ) → In j t.full → IsSome (new j) = λ j h. still_live old new turns.live j (t.are.each j h).0 in
+      let lives : (j : ℕ) → In j t.full → IsSome (new j) = λ j h. turns.live j (t.are.each j h).0 in
       let sorted = sorted_now root changes old new sound turns.stand t.full lives t.are.sorted in
       let here = full_live new k is in
       record {
@@ -92,10 +90,10 @@ module _ {A : Type 0} where
       let lives : (j : ℕ) → In j (root ∷ (u ++ k ∷ w)) → IsSome (new j) = λ j h. elim h [
         | inl e ↦ subst IsSome (sym (ap new e ∙ root_is.1)) refl
         | inr i ↦ elim (In_append u (k ∷ w) j i) [
-          | inl a ↦ still_live old new turns.live j (t.are.each j (subst (In j) (sym place.whole) (In_left j u w a))).0
+          | inl a ↦ turns.live j (t.are.each j (subst (In j) (sym place.whole) (In_left j u w a))).0
           | inr b ↦ elim b [
             | inl e ↦ (let s = full_live new k is in subst IsSome (sym (ap new e ∙ s.1)) refl)
-            | inr c ↦ still_live old new turns.live j (t.are.each j (subst (In j) (sym place.whole) (In_right j u w c))).0
+            | inr c ↦ turns.live j (t.are.each j (subst (In j) (sym place.whole) (In_right j u w c))).0
           ]
         ]
       ] in
@@ -120,6 +118,7 @@ module _ {A : Type 0} where
           all = λ j h ne. new_one j h ne (cases_eq j k);
         };
         long = λ j h. (let l = long j h in (omega (arith, l.0, size1.0, size2.0), omega (arith, l.1, size1.1, size2.1)));
+        root_long = (let l = t.root_long in (omega (arith, l.0, size1.0, size2.0), omega (arith, l.1, size1.1, size2.1)));
       }
     where
       old_one : (j : ℕ) → In j t.full → IsFull new j × (j ≢ root)
@@ -135,7 +134,7 @@ module _ {A : Type 0} where
       let s = In_split k t.full (t.are.all k was other) in
       let u = s.0 in
       let w = s.1 in
-      let lives : (j : ℕ) → In j t.full → IsSome (new j) = λ j h. still_live old new turns.live j (t.are.each j h).0 in
+      let lives : (j : ℕ) → In j t.full → IsSome (new j) = λ j h. turns.live j (t.are.each j h).0 in
       let sorted = subst (AreSorted (Precedes new)) s.2 (sorted_now root changes old new sound turns.stand t.full lives t.are.sorted) in
       let apart = sorted_apart (Precedes new) (never_precedes new) (u ++ k ∷ w) sorted in
       let none : In root (u ++ k ∷ w) → ⊥ = λ h. (t.are.each root (subst (In root) (sym s.2) h)).1 refl in
@@ -166,4 +165,5 @@ module _ {A : Type 0} where
               );
         };
         long = λ j h. (let l = long j h in (omega (arith, l.0, size.0), omega (arith, l.1, size.1)));
+        root_long = (let l = t.root_long in (omega (arith, l.0, size.0), omega (arith, l.1, size.1)));
       }

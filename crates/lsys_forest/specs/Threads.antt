@@ -1,15 +1,20 @@
 -- The ring of the nodes that have children: from the root on by depth, and on each depth from the left to the right.
-use Rattle.std.specs.Prelude.{◌≡◌, ◌≢◌, ◌⊎◌, ◌<◌, ◌≤◌, ℕ, zero, suc, List, [], ◌∷◌, ◌++◌, length, slice_index_or, slice_set, Option, Some, None, IsSome, ◌↔◌}
+use Rattle.std.specs.Prelude.{◌≡◌, ◌≢◌, ◌⊎◌, ◌<◌, ◌≤◌, ℕ, zero, suc, List, [], ◌∷◌, ◌++◌, length, slice_index_or, slice_set, cond, nat_eq, Option, Some, None, IsSome, ◌↔◌}
 use Rattle.lsys_forest.specs.declared.walk.Way.{Way}
 use Rattle.lsys_forest.specs.declared.walk.Way.TheVariants.{Left, Right}
 use Rattle.lsys_forest.specs.Nodes.{Node, Nodes}
 use Rattle.lsys_forest.specs.Groves.{In, AreApart, place_in}
 use Rattle.lsys_forest.specs.Rows.{kids_in, depth_in, oriented, level_nodes}
 
--- the numbers that come next, by number, to the right and to the left
+-- the numbers that come next, by number, to the right and to the left; and how many numbers find a place
 pub record Ring : Type 0 where
   pub ahead : List ℕ
   pub back : List ℕ
+  pub places : ℕ
+
+-- with a link more, where the number is the next one
+abbrev pub reached_links : List ℕ → ℕ → List ℕ
+reached_links links k = cond (nat_eq k (length links)) (links ++ 0 ∷ []) links
 
 abbrev pub link_at : List ℕ → ℕ → ℕ
 link_at links k = slice_index_or links k 0
@@ -21,7 +26,7 @@ next_that Left r k = link_at r.back k
 
 -- one number comes next to the other
 abbrev pub tied : Ring → ℕ → ℕ → Ring
-tied r left right = record { ahead = slice_set r.ahead left right; back = slice_set r.back right left }
+tied r left right = record r { ahead = slice_set r.ahead left right; back = slice_set r.back right left }
 
 -- from one number on through these, in order, to another
 abbrev pub Chain : Ring → ℕ → List ℕ → ℕ → Type 0
@@ -129,10 +134,11 @@ module _ {A : Type 0} where
   abbrev pub Extends : Nodes A → Nodes A → Type 0
   Extends m m' = (k : ℕ) (n : Node A) → m k ≡ Some n → (n' : Node A) × (m' k ≡ Some n') × (n'.parent ≡ n.parent) × (n'.place ≡ n.place) × (n'.depth ≡ n.depth)
 
-  -- all nodes stand, and of none but this one it may have changed whether it has children
+  -- All that live now stand as they stood, those with children live, and of none but this one it may have changed whether it
+  -- has children.
   pub record Turns (old new : Nodes A) (k : ℕ) : Type 0 where
     pub stand : Extends new old
-    pub live : (j : ℕ) → IsSome (old j) → IsSome (new j)
+    pub live : (j : ℕ) → IsFull old j → IsSome (new j)
     pub others : (j : ℕ) → j ≢ k → IsFull old j ↔ IsFull new j
 
   -- the ring is that of the nodes that have children, in this order, and each live node has links
@@ -141,3 +147,4 @@ module _ {A : Type 0} where
     pub chain : Chain r root full root
     pub are : AreFull order m root full
     pub long : (k : ℕ) → IsSome (m k) → (k < length r.ahead) × (k < length r.back)
+    pub root_long : (root < length r.ahead) × (root < length r.back)

@@ -1,5 +1,5 @@
 //! The parts of a forest: its nodes, their lists, and the journal.
-ghost use Rattle.std.specs.Prelude.{◌≡◌, ◌≢◌, ℕ, ◌+◌, ◌<◌, ◌≤◌, ◌^◌, ◌++◌, ◌∷◌, [], length, List, Some, None, IsSome, IfOk, IfSome, IfNone, IsTrue, OnOk, option_copied, false, vec_len, vec_capacity};
+ghost use Rattle.std.specs.Prelude.{◌≡◌, ◌≢◌, ◌⊎◌, ℕ, ◌+◌, ◌<◌, ◌≤◌, ◌^◌, ◌++◌, ◌∷◌, [], length, List, Some, None, IsSome, IfOk, IfSome, IfNone, IsTrue, OnOk, option_copied, false, vec_len, vec_capacity};
 ghost use Rattle.lsys_module.specs.declared.symbol.Symbol.TheVariants.{Cut};
 ghost use Rattle.lsys_level.specs.Places.{seen_in, params_in};
 ghost use Rattle.lsys_region.specs.Rooms.{list_room};
@@ -76,6 +76,7 @@ impl<A: Drop> Parts<A> {
         ensures changes { IfOk result (λ p. changes_of p ≡ []) }
         ensures notes { IfOk result (λ p. length p.notes ≡ 0) }
         ensures live { IfOk result (λ p. live_slots p.slots ≡ 1) }
+        ensures one { IfOk result (λ p. length p.slots ≡ 1) }
         ensures capacity { IfOk result (λ p. 1 ≤ p.capacity) }
         ensures places { IfOk result (λ p. 1 ≤ p.places) }
     {
@@ -93,7 +94,9 @@ impl<A: Drop> Parts<A> {
         ensures nodes { nodes_of self.new ≡ put (λ k. None) 0 (Some (root_node 0)) }
         ensures changes { self.new.notes ≡ [] }
         ensures live { live_slots self.new.slots ≡ 1 }
-        ensures room { KeepsRoom self.old self.new }
+        ensures capacity { self.old.capacity ≤ self.new.capacity }
+        ensures places { self.old.places ≤ self.new.places }
+        ensures one { length self.new.slots ≡ 1 }
     {
         let number = self.table.insert(Stored {
             parent: NodeId(0),
@@ -210,6 +213,9 @@ impl<A: Drop> Parts<A> {
         requires place { length self.old.notes < self.old.places }
         requires room { list_room (params_in symbol.now) ≤ self.old.param_room }
         ensures vacant { nodes_of self.old result ≡ None }
+        ensures within { result ≤ length self.old.slots }
+        ensures next { result ≡ length self.old.slots → live_slots self.old.slots ≡ length self.old.slots }
+        ensures grown { (length self.new.slots ≤ length self.old.slots) ⊎ (length self.new.slots ≡ result + 1) }
         ensures few { HasFew (seen_in symbol.now) }
         ensures added { Journals self.old self.new result (Some (record {
           parent = parent;

@@ -2,13 +2,13 @@
 //!
 //! All nodes that have children are in it, whether they are reached or not, behind the root: by depth, and on each depth
 //! from the left to the right. This order rests on parents and places alone, which a node keeps as long as it lives.
-ghost use Rattle.std.specs.Prelude.{◌≡◌, ◌≢◌, ◌⊎◌, ◌+◌, ◌<◌, ◌≤◌, ℕ, List, length, Option, IsSome, IsTrue, ◌↔◌, ◌-◌, OnOk, slice_set, vec_len, vec_capacity, ◌++◌, ◌∷◌, []};
+ghost use Rattle.std.specs.Prelude.{◌≡◌, ◌≢◌, ◌⊎◌, ◌+◌, ◌<◌, ◌≤◌, ℕ, List, length, Option, IsSome, IsTrue, ◌↔◌, ◌-◌, OnOk, IfOk, slice_set, vec_len, vec_capacity, ◌++◌, ◌∷◌, []};
 ghost use Rattle.lsys_forest.specs.Nodes.{Nodes};
 ghost use Rattle.lsys_forest.specs.Stocks.{nodes_of, changes_of};
 ghost use Rattle.lsys_forest.specs.Slots.{live_slots};
 ghost use Rattle.lsys_forest.specs.Groves.{In, IsSound};
 ghost use Rattle.lsys_forest.specs.Rows.{kids_in, depth_in, oriented, level_nodes};
-ghost use Rattle.lsys_forest.specs.Threads.{Ring, next_that, link_at, tied, Chain, last_or, parent_in, IsFull, IsEarlier, Precedes, AreFull, IsPlace, IsOnLevel, IsFirstFull, IsOpen, IsStart, Turns, IsThreaded};
+ghost use Rattle.lsys_forest.specs.Threads.{Ring, reached_links, next_that, link_at, tied, Chain, last_or, parent_in, IsFull, IsEarlier, Precedes, AreFull, IsPlace, IsOnLevel, IsFirstFull, IsOpen, IsStart, Turns, IsThreaded};
 
 use crate::kept::Kept;
 use crate::node::NodeId;
@@ -30,10 +30,64 @@ impl Model for Threads {
 
     ghost Value = { Ring };
 
-    ghost view = { λ a. record { ahead = a.ahead.items; back = a.back.items } };
+    ghost use Rattle.std.specs.Prelude.{min, vec_capacity};
+
+    ghost view = { λ a. record {
+      ahead = a.ahead.items;
+      back = a.back.items;
+      places = min (vec_capacity a.ahead) (vec_capacity a.back);
+    } };
 }
 
 impl Threads {
+    /// The ring of the root alone, and no links of other nodes.
+    ///
+    /// # Errors
+    ///
+    /// Want of memory.
+    pub(crate) fn of_root(alloc: Global) -> Result<Threads, AllocError>
+        ensures ahead { IfOk result (λ t. t.ahead ≡ 0 ∷ []) }
+        ensures back { IfOk result (λ t. t.back ≡ 0 ∷ []) }
+        ensures places { IfOk result (λ t. 1 ≤ t.places) }
+    {
+        let mut ahead = Vec::new(alloc);
+        ahead.push(NodeId(0))?;
+        let mut back = Vec::new(alloc);
+        back.push(NodeId(0))?;
+        Ok(Threads { ahead, back })
+    }
+
+    /// Makes room for the links of so many nodes in all. The ring stays.
+    ///
+    /// # Errors
+    ///
+    /// Want of memory.
+    pub(crate) fn reserve(&mut self, nodes: usize) -> Result<(), AllocError>
+        ensures ring { self.new ≡ record self.old { places = self.new.places } }
+        ensures places { OnOk result (nodes ≤ self.new.places) }
+        ensures more { self.old.places ≤ self.new.places }
+    {
+        let ahead = nodes.saturating_sub(self.ahead.len());
+        self.ahead.reserve(ahead)?;
+        let back = nodes.saturating_sub(self.back.len());
+        self.back.reserve(back)
+    }
+
+    /// Adds links for a node that has the next number. It takes no memory.
+    pub(crate) fn reach(&mut self, node: NodeId)
+        requires both { length self.old.ahead ≡ length self.old.back }
+        requires next { node ≤ length self.old.ahead }
+        requires place { node ≡ length self.old.ahead → node < self.old.places }
+        ensures ahead { self.new.ahead ≡ reached_links self.old.ahead node }
+        ensures back { self.new.back ≡ reached_links self.old.back node }
+        ensures places { self.old.places ≤ self.new.places }
+    {
+        if self.ahead.len() == node.0 as usize {
+            push_link(&mut self.ahead);
+            push_link(&mut self.back);
+        }
+    }
+
     /// The next node of the ring, that way.
     pub(crate) fn next(&self, node: NodeId, way: Way) -> NodeId
         ensures { result ≡ next_that way self.now node }
@@ -75,6 +129,18 @@ fn link(links: &Vec<NodeId>, node: NodeId) -> NodeId
     match links.get(node.0 as usize) {
         Some(next) => *next,
         None => NodeId(0),
+    }
+}
+
+/// Adds a link at the end of a vector that has room for it.
+fn push_link(links: &mut Vec<NodeId>)
+    requires { vec_len links.old < vec_capacity links.old }
+    ensures pushed { links.new.items ≡ links.old.items ++ 0 ∷ [] }
+    ensures capacity { vec_capacity links.old ≤ vec_capacity links.new }
+{
+    match links.push(NodeId(0)) {
+        Ok(()) => {}
+        Err(_) => unreachable!(),
     }
 }
 

@@ -44,6 +44,7 @@ loop-preserved g c =
         places = omega (arith, takes.room.places, was.room.places);
         param_room = omega (arith, takes.room.param_room, was.room.param_room);
         kid_room = omega (arith, takes.room.kid_room, was.room.kid_room);
+        numbers = omega (arith, takes.room.numbers, was.room.numbers);
       };
       made = made';
       freed = follows_on g.A.Kept.run_at g.A.Kept.Holds (answers (nodes_of c.args.parts.now) (changes_of c.args.parts.now)) (answers m (changes_of c.loop.parts)) (answers m' (changes_of c.undo_last.new.self)) c.args.store.now c.loop.store c.undo_last.new.store was.made was.freed

@@ -16,7 +16,7 @@ loop-look-init g c =
       swept = IsSwept-start (nodes_of t) c.args.root (changes_of t) c.requires.sound;
       places = c.requires.places;
       live = omega arith;
-      room = record { capacity = omega arith; places = omega arith; param_room = omega arith; kid_room = omega arith };
+      room = record { capacity = omega arith; places = omega arith; param_room = omega arith; kid_room = omega arith; numbers = omega arith };
       made = c.requires.made;
       freed = follows_start g.A.Kept.run_at g.A.Kept.Holds (answers (nodes_of t) (changes_of t)) c.args.store.now;
     }
@@ -74,6 +74,7 @@ loop-look-preserved g c =
         places = omega (arith, e.keeps.room.places, takes.room.places, was.room.places);
         param_room = omega (arith, e.keeps.room.param_room, takes.room.param_room, was.room.param_room);
         kid_room = omega (arith, e.keeps.room.kid_room, takes.room.kid_room, was.room.kid_room);
+        numbers = omega (arith, e.keeps.room.numbers, takes.room.numbers, was.room.numbers);
       };
       made = e.made;
       freed = follows_on g.A.Kept.run_at g.A.Kept.Holds (answers first (changes_of c.args.parts.now)) (answers (nodes_of u) (changes_of u)) (answers (nodes_of v) (changes_of v)) c.args.store.now c.take_last.new.store c.sweep_looked.new.store made' freed e.freed;

@@ -31,6 +31,7 @@ loop-place-preserved g c =
           places = omega (arith, e.keeps.room.places, was.keeps.room.places);
           param_room = omega (arith, e.keeps.room.param_room, was.keeps.room.param_room);
           kid_room = omega (arith, e.keeps.room.kid_room, was.keeps.room.kid_room);
+          numbers = omega (arith, e.keeps.room.numbers, was.keeps.room.numbers);
         };
         hand = e.keeps.hand ∙ was.keeps.hand;
       };
