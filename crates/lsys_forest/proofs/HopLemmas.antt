@@ -13,8 +13,8 @@ use Rattle.lsys_forest.specs.Groves.{In, AreApart, IsSound}
 use Rattle.lsys_forest.specs.Sweeps.{IsLinked}
 use Rattle.lsys_forest.specs.Rows.{kids_in, depth_in, first_in, flat, mirrored, oriented, level_nodes}
 use Rattle.lsys_forest.specs.Threads.{Ring, Chain, next_that, first_or, last_or, AreSorted, parent_in, IsFull, IsEarlier, Precedes, AreFull, IsOnLevel, PrecedesThat, IsFirstFull, IsHop}
-use Rattle.lsys_forest.proofs.RowLemmas.{In_append, In_left, In_right, In_split, oriented_In, oriented_In_back, level_depth, parent_level, parent_root, child}
-use Rattle.lsys_forest.proofs.WalkLemmas.{mirrored_push, mirrored_twice, mirrored_around}
+use Rattle.lsys_forest.proofs.RowLemmas.{In_append, In_left, In_right, In_split, flat_append, oriented_In, oriented_In_back, level_depth, parent_level, parent_root, child}
+use Rattle.lsys_forest.proofs.WalkLemmas.{mirrored_push, mirrored_twice, mirrored_around, kids_that_way, IsAmid, first_append, no_first}
 use Rattle.lsys_forest.proofs.RingLemmas.{chain_split, chain_last, chain_first}
 use Rattle.lsys_forest.proofs.OrderLemmas.{sorted_append, sorted_across, sorted_same, sorted_behind, never_precedes, precedes_trans, level_sorted, top_root}
 
@@ -43,6 +43,27 @@ mirrored_sorted before [] s = tt
 mirrored_sorted before (x ∷ xs) s =
     sorted_append (λ a b. before b a) (mirrored xs) (x ∷ []) (mirrored_sorted before xs s.1) ((λ y h. absurd h), tt)
     (λ a b h i. elim i [ inl e ↦ subst (λ z. before z a) (sym e) (s.0 a (oriented_In_back Left a xs h)) | inr none ↦ absurd none ])
+
+none_of : (xs : List ℕ) → (0 < length xs → ⊥) → xs ≡ []
+none_of [] none = refl
+none_of (x ∷ xs) none = absurd (none (omega arith))
+
+oriented_none : (way : Way) (xs : List ℕ) → xs ≡ [] → oriented way xs ≡ []
+oriented_none Right xs e = e
+oriented_none Left xs e = ap mirrored e
+
+oriented_some : (way : Way) (xs : List ℕ) → 0 < length xs → (x : ℕ) × (first_in (oriented way xs) ≡ Some x)
+oriented_some way [] some = absurd (omega (arith, some))
+oriented_some Right (x ∷ xs) some = (x, refl)
+oriented_some Left (x ∷ xs) some = first_push (mirrored xs) x
+  where
+    first_push : (ys : List ℕ) (y : ℕ) → (z : ℕ) × (first_in (ys ++ y ∷ []) ≡ Some z)
+    first_push [] y = (y, refl)
+    first_push (z ∷ ys) y = (z, refl)
+
+pub in_some : (xs : List ℕ) (k : ℕ) → In k xs → 0 < length xs
+in_some [] k h = absurd h
+in_some (x ∷ xs) k h = omega arith
 
 module _ {A : Type 0} where
   pub oriented_sorted : (way : Way) (m : Nodes A) (xs : List ℕ) → AreSorted (Precedes m) xs → AreSorted (PrecedesThat way m) (oriented way xs)
@@ -263,3 +284,27 @@ module _ {A : Type 0} where
     ];
     left = (let l = hop.left in omega (arith, l, fewer));
   }
+
+  -- 4. from the children of a node to those of the next one that has some
+
+  flat_none : (way : Way) (m : Nodes A) (xs : List ℕ) → ((k : ℕ) → In k xs → IsFull m k → ⊥) → flat (kids_that_way way m) xs ≡ []
+  flat_none way m [] none = refl
+  flat_none way m (x ∷ xs) none =
+      ap (λ (l : List ℕ). l ++ flat (kids_that_way way m) xs) (oriented_none way (kids_in (m x)) (none_of (kids_in (m x)) (none x (inl refl))))
+      ∙ flat_none way m xs (λ k h. none k (inr h))
+
+  pub beside_none : (way : Way) (m : Nodes A) (root t p node : ℕ) → (am : IsAmid way m root t p node) → first_in am.right ≡ None → IsFirstFull m None am.after → (b a : List ℕ) → oriented way (level_nodes m root (suc t)) ≡ b ++ node ∷ a → None ≡ first_in a
+  beside_none way m root t p node am none next b a whole =
+      sym (ap first_in (am.behind b a whole ∙ ap (λ (l : List ℕ). l ++ flat (kids_that_way way m) am.after) (no_first am.right none) ∙ flat_none way m am.after next))
+
+  pub beside_some : (way : Way) (m : Nodes A) (root t p node q : ℕ) → (am : IsAmid way m root t p node) → first_in am.right ≡ None → IsFirstFull m (Some q) am.after → (b a : List ℕ) → oriented way (level_nodes m root (suc t)) ≡ b ++ node ∷ a → first_in (kids_that_way way m q) ≡ first_in a
+  beside_some way m root t p node q am none next b a whole =
+      let K = kids_that_way way m in
+      let some = oriented_some way (kids_in (m q)) next.3 in
+      let behind : a ≡ K q ++ flat K next.1 =
+      am.behind b a whole
+      ∙ ap (λ (l : List ℕ). l ++ flat K am.after) (no_first am.right none)
+      ∙ ap (flat K) next.2
+      ∙ flat_append K next.0 (q ∷ next.1)
+      ∙ ap (λ (l : List ℕ). l ++ (K q ++ flat K next.1)) (flat_none way m next.0 next.4) in
+      some.1 ∙ sym (ap first_in behind ∙ first_append (K q) (flat K next.1) some.0 some.1)

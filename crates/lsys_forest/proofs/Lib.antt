@@ -17,3 +17,4 @@ pub mod HopLemmas
 pub mod GapLemmas
 pub mod TurnLemmas
 pub mod ThreadLemmas
+pub mod CallLemmas

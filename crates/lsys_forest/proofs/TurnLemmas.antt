@@ -9,7 +9,7 @@ use Rattle.lsys_forest.specs.Slots.{slot_at, live_slots}
 use Rattle.lsys_forest.specs.Nodes.{Node, Nodes}
 use Rattle.lsys_forest.specs.Changes.{Change}
 use Rattle.lsys_forest.specs.Groves.{In, AreApart, IsSound}
-use Rattle.lsys_forest.specs.Threads.{Ring, Chain, link_at, tied, first_or, last_or, AreSorted, Extends, IsFull, Precedes, AreFull, IsPlace, IsOpen, IsStart, Turns, IsThreaded}
+use Rattle.lsys_forest.specs.Threads.{Ring, Chain, link_at, tied, first_or, last_or, AreSorted, Extends, IsFull, Precedes, AreFull, IsPlace, IsOpen, IsStart, Turns, KeepsLinks, IsThreaded}
 use Rattle.lsys_forest.proofs.SoundLemmas.{some_of}
 use Rattle.lsys_forest.proofs.RowLemmas.{In_append, In_left, In_right, In_split, apart_parts}
 use Rattle.lsys_forest.proofs.DepthLemmas.{fits}
@@ -21,14 +21,23 @@ use Rattle.lsys_forest.proofs.HopLemmas.{full_live}
 pub tied_long : (r : Ring) (a b : ℕ) → (length (tied r a b).ahead ≡ length r.ahead) × (length (tied r a b).back ≡ length r.back)
 tied_long r a b = (length-set r.ahead a b, length-set r.back b a)
 
-among_more : (j k : ℕ) (u w : List ℕ) → In j (u ++ w) → In j (u ++ k ∷ w)
+pub among_more : (j k : ℕ) (u w : List ℕ) → In j (u ++ w) → In j (u ++ k ∷ w)
 among_more j k u w h = elim (In_append u w j h) [ inl a ↦ In_left j u (k ∷ w) a | inr b ↦ In_right j u (k ∷ w) (inr b) ]
 
-among_less : (j k : ℕ) (u w : List ℕ) → j ≢ k → In j (u ++ k ∷ w) → In j (u ++ w)
+pub among_less : (j k : ℕ) (u w : List ℕ) → j ≢ k → In j (u ++ k ∷ w) → In j (u ++ w)
 among_less j k u w ne h = elim (In_append u (k ∷ w) j h) [
   | inl a ↦ In_left j u w a
   | inr b ↦ elim b [ inl e ↦ absurd (ne e) | inr c ↦ In_right j u w c ]
 ]
+
+pub links_in : (r : Ring) (k behind : ℕ) → KeepsLinks r (tied (tied r behind k) k (link_at r.ahead behind))
+links_in r k behind =
+    let one = tied_long r behind k in
+    let two = tied_long (tied r behind k) k (link_at r.ahead behind) in
+    (two.0 ∙ one.0, two.1 ∙ one.1, omega arith)
+
+pub links_out : (r : Ring) (k : ℕ) → KeepsLinks r (tied r (link_at r.back k) (link_at r.ahead k))
+links_out r k = let one = tied_long r (link_at r.back k) (link_at r.ahead k) in (one.0, one.1, omega arith)
 
 module _ {A : Type 0} where
   -- the order of these before is their order now

@@ -1,8 +1,10 @@
 -- The ring of the nodes that have children: from the root on by depth, and on each depth from the left to the right.
-use Rattle.std.specs.Prelude.{◌≡◌, ◌≢◌, ◌⊎◌, ◌<◌, ◌≤◌, ℕ, zero, suc, List, [], ◌∷◌, ◌++◌, length, slice_index_or, slice_set, cond, nat_eq, Option, Some, None, IsSome, ◌↔◌}
+use Rattle.std.specs.Prelude.{◌≡◌, ◌≢◌, ◌⊎◌, ◌<◌, ◌≤◌, ℕ, zero, suc, List, [], ◌∷◌, ◌++◌, length, ◌+◌, slice_index_or, slice_set, cond, nat_eq, Option, Some, None, IsSome, ◌↔◌}
 use Rattle.lsys_forest.specs.declared.walk.Way.{Way}
 use Rattle.lsys_forest.specs.declared.walk.Way.TheVariants.{Left, Right}
+use Rattle.lsys_forest.specs.Slots.{live_slots}
 use Rattle.lsys_forest.specs.Nodes.{Node, Nodes}
+use Rattle.lsys_forest.specs.Stocks.{Stock, nodes_of}
 use Rattle.lsys_forest.specs.Groves.{In, AreApart, place_in}
 use Rattle.lsys_forest.specs.Rows.{kids_in, depth_in, oriented, level_nodes}
 
@@ -47,6 +49,10 @@ last_or x (y ∷ ys) = last_or y ys
 abbrev pub AreSorted : (ℕ → ℕ → Type 0) → List ℕ → Type 0
 AreSorted before [] = Unit {0}
 AreSorted before (x ∷ xs) = ((y : ℕ) → In y xs → before x y) × AreSorted before xs
+
+-- the links of the ring are no fewer, and find place as before
+abbrev pub KeepsLinks : Ring → Ring → Type 0
+KeepsLinks old new = (length new.ahead ≡ length old.ahead) × (length new.back ≡ length old.back) × (old.places ≤ new.places)
 
 module _ {A : Type 0} where
   abbrev pub parent_in : Option (Node A) → ℕ
@@ -148,3 +154,15 @@ module _ {A : Type 0} where
     pub are : AreFull order m root full
     pub long : (k : ℕ) → IsSome (m k) → (k < length r.ahead) × (k < length r.back)
     pub root_long : (root < length r.ahead) × (root < length r.back)
+
+  -- while nodes are removed, the ring stays that of those that have children, in whatever order it was
+  pub record SweepsRing (root : ℕ) (old : Stock A) (r : Ring) (new : Stock A) (s : Ring) : Type 0 where
+    pub ring : (order : Nodes A) → IsThreaded order (nodes_of old) r root → IsThreaded order (nodes_of new) s root
+    pub links : KeepsLinks r s
+
+  -- the ring of a forest, with links for each number and room for those of nodes that need no memory
+  pub record AreThreads (r : Ring) (stock : Stock A) (root spare : ℕ) : Type 0 where
+    pub ring : IsThreaded (nodes_of stock) (nodes_of stock) r root
+    pub same : length r.ahead ≡ length r.back
+    pub numbers : length stock.slots ≤ length r.ahead
+    pub room : live_slots stock.slots + spare ≤ r.places

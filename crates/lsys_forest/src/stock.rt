@@ -157,6 +157,18 @@ impl<A: Drop> Parts<A> {
         self.notes.is_empty()
     }
 
+    /// The node that the last change was of, if there is one.
+    pub(crate) fn last_changed(&self) -> Option<NodeId>
+        ensures some { IfSome result (λ k. (c : Change A) (earlier : List (Change A))
+            → changes_of self.now ≡ earlier ++ c ∷ [] → c.node ≡ k) }
+        ensures none { IfNone result (changes_of self.now ≡ []) }
+    {
+        match self.notes.last() {
+            Some(note) => Some(note.node),
+            None => None,
+        }
+    }
+
     /// A node without its lists, if it lives.
     pub(crate) fn get(&self, node: NodeId) -> Option<&Stored<A>>
         ensures { option_copied result ≡ slot_at self.now.slots node }

@@ -8,7 +8,7 @@ ghost use Rattle.lsys_forest.specs.Stocks.{nodes_of, changes_of};
 ghost use Rattle.lsys_forest.specs.Slots.{live_slots};
 ghost use Rattle.lsys_forest.specs.Groves.{In, IsSound};
 ghost use Rattle.lsys_forest.specs.Rows.{kids_in, depth_in, oriented, level_nodes};
-ghost use Rattle.lsys_forest.specs.Threads.{Ring, reached_links, next_that, link_at, tied, Chain, last_or, parent_in, IsFull, IsEarlier, Precedes, AreFull, IsPlace, IsOnLevel, IsFirstFull, IsOpen, IsStart, Turns, IsThreaded};
+ghost use Rattle.lsys_forest.specs.Threads.{Ring, reached_links, next_that, link_at, tied, Chain, last_or, parent_in, IsFull, IsEarlier, Precedes, AreFull, IsPlace, IsOnLevel, IsFirstFull, IsOpen, IsStart, Turns, KeepsLinks, IsThreaded};
 
 use crate::kept::Kept;
 use crate::node::NodeId;
@@ -379,7 +379,8 @@ pub(crate) fn refit<A: Kept>(
     was: bool,
 )
     requires { IsSound root (changes_of parts.now) (nodes_of parts.now) }
-    ensures { (before : Nodes A) → Turns before (nodes_of parts.now) node → (IsTrue was ↔ IsFull before node)
+    ensures links { KeepsLinks threads.old threads.new }
+    ensures ring { (before : Nodes A) → Turns before (nodes_of parts.now) node → (IsTrue was ↔ IsFull before node)
         → IsThreaded before before threads.old root
         → IsThreaded (nodes_of parts.now) (nodes_of parts.now) threads.new root }
 {

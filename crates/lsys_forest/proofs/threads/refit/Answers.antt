@@ -4,9 +4,9 @@ use Rattle.std.proofs.Common.{◌≡◌, ◌≢◌, ◌⊎◌, ◌<◌, ℕ, tru
 use Rattle.std.proofs.lemmas.Bool.{cases_eq}
 use Rattle.lsys_forest.specs.Stocks.{nodes_of, changes_of}
 use Rattle.lsys_forest.specs.Slots.{live_slots}
-use Rattle.lsys_forest.specs.Threads.{IsFull, IsThreaded}
+use Rattle.lsys_forest.specs.Threads.{IsFull, KeepsLinks, IsThreaded}
 use Rattle.lsys_forest.proofs.ThreadLemmas.{shown_live}
-use Rattle.lsys_forest.proofs.TurnLemmas.{kept_threaded, open_ring, started, put_threaded, out_threaded, old_lives}
+use Rattle.lsys_forest.proofs.TurnLemmas.{kept_threaded, open_ring, started, put_threaded, out_threaded, old_lives, links_in, links_out}
 use Rattle.lsys_forest.proofs.threads.refit.Goals as goal
 use Rattle.lsys_forest.proofs.threads.refit.Goals.{then-eq-via-then-eq, then-eq-via-else-eq+then-is-was}
 
@@ -26,8 +26,8 @@ its_bool false true h e = refl
 its_bool false false h e = absurd (grind (arith, h))
 its_bool true b h e = absurd (grind (arith, e))
 
-pub returns-then-eq : goal.returns-then-eq
-returns-then-eq g c = λ before turns was t.
+pub returns-then-eq-clause-ring : goal.returns-then-eq-clause-ring
+returns-then-eq-clause-ring g c = λ before turns was t.
     let m = nodes_of c.args.parts.now in
     let r = c.args.threads.now in
     kept_threaded c.args.root (changes_of c.args.parts.now) before m r c.requires turns.stand turns.live (λ j ne. elim c.then-eq.branch [
@@ -44,8 +44,8 @@ returns-then-eq g c = λ before turns was t.
       ]
     ]) (λ j h. t.long j (old_lives before m turns.stand j h)) t
 
-pub returns-then-is : goal.returns-then-is
-returns-then-is g c = λ before turns was t.
+pub returns-then-is-clause-ring : goal.returns-then-is-clause-ring
+returns-then-is-clause-ring g c = λ before turns was t.
     let p = c.args.parts.now in
     let m = nodes_of p in
     let r = c.args.threads.now in
@@ -59,8 +59,8 @@ returns-then-is g c = λ before turns was t.
     let place = c.place_behind-behind.ensures t.full ring (started root before m r k c.near_by-start.result turns t c.near_by-start.ensures) in
     subst (λ x. IsThreaded m m x root) (sym c.put_in.ensures) (put_threaded root cs before m r k c.place_behind-behind.result (live_slots p.slots) c.requires turns other none is t ring place)
 
-pub returns-else-is : goal.returns-else-is
-returns-else-is g c = λ before turns was t.
+pub returns-else-is-clause-ring : goal.returns-else-is-clause-ring
+returns-else-is-clause-ring g c = λ before turns was t.
     let p = c.args.parts.now in
     let m = nodes_of p in
     let r = c.args.threads.now in
@@ -70,3 +70,9 @@ returns-else-is g c = λ before turns was t.
     let is : IsFull before k = was.0 (its_bool c.is_full-is.result c.args.was c.if-is-was.false c.if-is.false) in
     let other : k ≢ root = λ same. grind (arith, same, c.eq.ensures, c.if-eq.false) in
     subst (λ x. IsThreaded m m x root) (sym c.take_out.ensures) (out_threaded root (changes_of p) before m r k c.requires turns other is none t)
+
+pub returns-then-is-clause-links : goal.returns-then-is-clause-links
+returns-then-is-clause-links g c = subst (KeepsLinks c.args.threads.now) (sym c.put_in.ensures) (links_in c.args.threads.now c.args.node c.place_behind-behind.result)
+
+pub returns-else-is-clause-links : goal.returns-else-is-clause-links
+returns-else-is-clause-links g c = subst (KeepsLinks c.args.threads.now) (sym c.take_out.ensures) (links_out c.args.threads.now c.args.node)

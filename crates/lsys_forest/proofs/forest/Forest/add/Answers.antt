@@ -10,7 +10,7 @@ use Rattle.std.proofs.lemmas.Option.{same_Some}
 use Rattle.lsys_forest.specs.declared.node.Stored.{Stored}
 use Rattle.lsys_forest.proofs.StockLemmas.{stored_of}
 use Rattle.lsys_forest.proofs.DepthLemmas.{depth_fits}
-use Rattle.lsys_forest.proofs.GroveLemmas.{IsGrove-add, add_rested}
+use Rattle.lsys_forest.proofs.GroveLemmas.{sound_now, IsGrove-add, add_rested}
 use Rattle.lsys_forest.proofs.forest.Forest.add.Goals as goal
 
 pub overflow_add-depth : goal.overflow_add-depth
@@ -21,8 +21,8 @@ overflow_add-depth g c =
     let t = stored_of i.parts.slots i.parts.params i.parts.kids c.args.parent s.0 s.1 in
     let above : c.in-Some.above.now ≡ t.0 = same_Some c.in-Some.above.now t.0 (c.in-Some.ensures ∙ t.1) in
     let depth : c.in-Some.above.now.depth + 1 ≡ s.0.depth + 1 = ap (λ (x : Stored g.row.A.Denot). x.depth + 1) above ∙ ap (λ (x : Node g.row.A.Denot). x.depth + 1) t.2 in
-    let fits = depth_fits i.root (changes_of i.parts) (nodes_of i.parts) i.parts.slots c.self.invariant.now (λ k n is. let x = stored_of i.parts.slots i.parts.params i.parts.kids k n is in subst IsSome (sym x.1) refl) c.args.parent s.0 s.1 in
-    omega (arith, fits, depth, asked.1, c.self.invariant.numbers)
+    let fits = depth_fits i.root (changes_of i.parts) (nodes_of i.parts) i.parts.slots (sound_now c.self.invariant.grove) (λ k n is. let x = stored_of i.parts.slots i.parts.params i.parts.kids k n is in subst IsSome (sym x.1) refl) c.args.parent s.0 s.1 in
+    omega (arith, fits, depth, asked.1, c.self.invariant.grove.numbers)
 
 pub invariant_of-self : goal.invariant_of-self
 invariant_of-self g c =
@@ -33,7 +33,7 @@ invariant_of-self g c =
     let above : c.in-Some.above.now ≡ t.0 = same_Some c.in-Some.above.now t.0 (c.in-Some.ensures ∙ t.1) in
     let depth : c.in-Some.above.now.depth + 1 ≡ s.0.depth + 1 = ap (λ (x : Stored g.row.A.Denot). x.depth + 1) above ∙ ap (λ (x : Node g.row.A.Denot). x.depth + 1) t.2 in
     let n : Node g.row.A.Denot = record { parent = c.args.parent; place = c.args.place; depth = c.in-Some.above.now.depth + 1; seen = seen_in c.args.symbol.now; key = c.args.key; kids = []; answer = None } in
-    IsGrove-add i.parts c.insert.new.self i.root i.spare_nodes (i.spare_nodes - 1) i.spare_notes (i.spare_notes - 1) c.insert.result n s.0 (list_room (params_in c.args.symbol.now)) 0 c.insert.ensures.vacant s.1 depth refl c.insert.ensures.few c.insert.ensures.added (omega (arith, asked.1)) (omega (arith, asked.2)) c.self.invariant
+    IsGrove-add i.parts c.insert.new.self i.root i.spare_nodes (i.spare_nodes - 1) i.spare_notes (i.spare_notes - 1) c.insert.result n s.0 (list_room (params_in c.args.symbol.now)) 0 c.insert.ensures.vacant s.1 depth refl c.insert.ensures.few c.insert.ensures.added (omega (arith, asked.1)) (omega (arith, asked.2)) c.self.invariant.grove
 
 pub returns-clause-added : goal.returns-clause-added
 returns-clause-added g c =
