@@ -1,6 +1,6 @@
 -- The calls keep the ring.
-use Rattle.std.specs.Prelude.{◌↔◌, IsSome, option_map}
-use Rattle.std.proofs.Common.{◌≡◌, ◌≢◌, ◌⊎◌, ◌+◌, ◌<◌, ◌≤◌, ℕ, List, [], ◌∷◌, ◌++◌, length, Option, Some, None, refl, sym, ap, ◌∙◌, arith, inl, inr, subst}
+use Rattle.std.specs.Prelude.{◌↔◌, IsSome, IsTrue, Bool, option_map}
+use Rattle.std.proofs.Common.{◌≡◌, ◌≢◌, ◌⊎◌, ◌+◌, ◌<◌, ◌≤◌, ℕ, true, false, List, [], ◌∷◌, ◌++◌, length, Option, Some, None, refl, sym, ap, ◌∙◌, arith, inl, inr, subst}
 use Rattle.std.proofs.lemmas.Bool.{cases_eq}
 use Rattle.std.proofs.lemmas.Grind.{common_steps}
 use Rattle.std.proofs.lemmas.List.{length_push}
@@ -8,12 +8,12 @@ use Rattle.std.proofs.lemmas.Option.{none-some, same_Some}
 use Rattle.lsys_forest.specs.Slots.{live_slots}
 use Rattle.lsys_forest.specs.Nodes.{Node, Nodes, put, change, root_node, with_seen, with_key, with_kids, with_answer}
 use Rattle.lsys_forest.specs.Changes.{Missing, OldSeen, OldKey, OldKids, OldAnswer, Change, Before, undo, undo_before}
-use Rattle.lsys_forest.specs.Stocks.{Stock, nodes_of}
-use Rattle.lsys_forest.specs.Groves.{In, IsSound}
+use Rattle.lsys_forest.specs.Stocks.{Stock, nodes_of, changes_of, Undoes, Journals, KeepsRoom}
+use Rattle.lsys_forest.specs.Groves.{In, IsSound, AreSound}
 use Rattle.lsys_forest.specs.Rows.{kids_in}
-use Rattle.lsys_forest.specs.Threads.{Ring, reached_links, Chain, link_at, tied, AreSorted, Extends, IsFull, Precedes, AreFull, Turns, KeepsLinks, IsThreaded, AreThreads}
+use Rattle.lsys_forest.specs.Threads.{Ring, reached_links, Chain, link_at, tied, AreSorted, Extends, IsFull, Precedes, AreFull, Turns, KeepsLinks, IsThreaded, SweepsRing, AreThreads}
 use Rattle.lsys_forest.proofs.StockLemmas.{put_same, put_other, get_more}
-use Rattle.lsys_forest.proofs.SoundLemmas.{some_of}
+use Rattle.lsys_forest.proofs.SoundLemmas.{some_of, AreSound-pop, AreSound-now}
 use Rattle.lsys_forest.proofs.RowLemmas.{In_append, In_left, In_right, In_split, apart_parts}
 use Rattle.lsys_forest.proofs.RingLemmas.{taken_out}
 use Rattle.lsys_forest.proofs.OrderLemmas.{sorted_same, sorted_less, sorted_apart, never_precedes, precedes_same}
@@ -277,3 +277,90 @@ module _ {A : Type 0} where
     long = t.long;
     root_long = t.root_long;
   }
+
+  pub ring_same : (root : ℕ) (old new : Stock A) (r : Ring) → nodes_of new ≡ nodes_of old → SweepsRing root old r new r
+  ring_same root old new r same = record {
+    ring = λ order t. subst (λ (f : Nodes A). IsThreaded order f r root) (sym same) t;
+    links = (refl, refl, omega arith);
+  }
+
+  pub ring_then : (root : ℕ) (one : Stock A) (r : Ring) (two : Stock A) (s : Ring) (three : Stock A) (t : Ring) → SweepsRing root one r two s → SweepsRing root two s three t → SweepsRing root one r three t
+  ring_then root one r two s three t a b = record {
+    ring = λ order h. b.ring order (a.ring order h);
+    links = (b.links.0 ∙ a.links.0, b.links.1 ∙ a.links.1, omega (arith, a.links.2, b.links.2));
+  }
+
+  -- 3. the last change was undone, if there was one
+
+  same_turns : (m : Nodes A) (k : ℕ) → Turns m m k
+  same_turns m k = record {
+    stand = λ j n is. (n, is, refl, refl, refl);
+    live = λ j h. (let s = full_live m j h in subst IsSome (sym s.1) refl);
+    others = λ j ne. (λ h. h, λ h. h);
+  }
+
+  pub undone_sound : (root : ℕ) (old new : Stock A) (c : Change A) → Undoes old new c → AreSound root (changes_of old) (nodes_of old) → AreSound root (changes_of new) (nodes_of new)
+  undone_sound root old new c undoes sound =
+      let t = undoes.takes in
+      subst (λ (f : Nodes A). AreSound root (changes_of new) f) (sym undoes.nodes) (subst (λ (cs : List (Change A)). AreSound root cs (undo c (nodes_of old))) (sym t.are)
+      (AreSound-pop root t.earlier c (nodes_of old) (subst (λ (cs : List (Change A)). AreSound root cs (nodes_of old)) t.were sound)))
+
+  pub undone_turns : (root : ℕ) (old new : Stock A) (c : Change A) → Undoes old new c → AreSound root (changes_of old) (nodes_of old) → Turns (nodes_of old) (nodes_of new) c.node
+  undone_turns root old new c undoes sound =
+      let then = AreSound-now root (changes_of new) (nodes_of new) (undone_sound root old new c undoes sound) in
+      subst (λ (f : Nodes A). Turns (nodes_of old) f c.node) (sym undoes.nodes)
+      (undo_turns root (changes_of old) (changes_of new) c (nodes_of old) (AreSound-now root (changes_of old) (nodes_of old) sound) (subst (λ (f : Nodes A). IsSound root (changes_of new) f) undoes.nodes then))
+
+  module _ (root : ℕ) (old new : Stock A) (node : ℕ) where
+    pub undone_or_not : (b : Bool) → (IsTrue b → (c : Change A) × Undoes old new c) → (b ≡ false → new ≡ old) → AreSound root (changes_of old) (nodes_of old) → ((c : Change A) (earlier : List (Change A)) → changes_of old ≡ earlier ++ c ∷ [] → c.node ≡ node) → IsSound root (changes_of new) (nodes_of new) × Turns (nodes_of old) (nodes_of new) node
+    undone_or_not true did none sound last =
+        let d = did refl in
+        (AreSound-now root (changes_of new) (nodes_of new) (undone_sound root old new d.0 d.1 sound), subst (Turns (nodes_of old) (nodes_of new)) (last d.0 d.1.takes.earlier d.1.takes.were) (undone_turns root old new d.0 d.1 sound))
+    undone_or_not false did none sound last =
+        let e = none refl in (
+          subst (λ (t : Stock A). IsSound root (changes_of t) (nodes_of t)) (sym e) (AreSound-now root (changes_of old) (nodes_of old) sound),
+          subst (λ (t : Stock A). Turns (nodes_of old) (nodes_of t) node) (sym e) (same_turns (nodes_of old) node),
+        )
+
+  -- 4. the ring of a forest
+
+  pub set_threads : (old new : Stock A) (r : Ring) (root spare k : ℕ) (n n' : Node A) → IsSound root (changes_of new) (nodes_of new) → nodes_of old k ≡ Some n → n'.parent ≡ n.parent → n'.place ≡ n.place → n'.depth ≡ n.depth → n'.kids ≡ n.kids → nodes_of new ≡ put (nodes_of old) k (Some n') → live_slots new.slots ≡ live_slots old.slots + 0 → length new.slots ≤ length old.slots + 0 → AreThreads r old root spare → AreThreads r new root spare
+  set_threads old new r root spare k n n' sound is parent place depth same nodes live numbers t = record {
+    ring = subst (λ (f : Nodes A). IsThreaded f f r root) (sym nodes) (set_threaded root (changes_of new) (nodes_of old) k n n' r (subst (λ (f : Nodes A). IsSound root (changes_of new) f) nodes sound) is parent place depth same t.ring);
+    same = t.same;
+    numbers = omega (arith, numbers, t.numbers);
+    room = omega (arith, live, t.room);
+  }
+
+  pub add_threads : (old new : Stock A) (r s : Ring) (root spare less k : ℕ) (n : Node A) (params kids : ℕ) (changes : List (Change A)) → IsSound root changes (nodes_of old) → nodes_of old k ≡ None → n.kids ≡ [] → Journals old new k (Some n) Missing 1 params kids → k ≤ length old.slots → (length new.slots ≤ length old.slots) ⊎ (length new.slots ≡ k + 1) → s.ahead ≡ reached_links r.ahead k → s.back ≡ reached_links r.back k → r.places ≤ s.places → less + 1 ≡ spare → AreThreads r old root spare → AreThreads s new root less
+  add_threads old new r s root spare less k n params kids changes sound vacant none j within grown a b places fewer t =
+      let inside : k ≤ length r.ahead = omega (arith, within, t.numbers) in
+      let la = ap length a in
+      let lb = ap length b in
+      let lx = links_long r.ahead k inside in
+      record {
+        ring = subst (λ (f : Nodes A). IsThreaded f f s root) (sym j.nodes) (add_threaded root changes (nodes_of old) k n r s sound vacant none a b inside t.same t.ring);
+        same = la ∙ links_alike r.ahead r.back k t.same ∙ sym lb;
+        numbers = elim grown [ inl e ↦ omega (arith, e, la, lx.0, t.numbers) | inr e ↦ omega (arith, e, la, lx.1) ];
+        room = omega (arith, j.live, places, fewer, t.room);
+      }
+
+  pub left_threads : (old new : Stock A) (r s : Ring) (root spare : ℕ) → IsThreaded (nodes_of new) (nodes_of new) s root → KeepsLinks r s → live_slots new.slots ≤ live_slots old.slots → KeepsRoom old new → AreThreads r old root spare → AreThreads s new root spare
+  left_threads old new r s root spare ring links live room t = record {
+    ring = ring;
+    same = links.0 ∙ t.same ∙ sym links.1;
+    numbers = omega (arith, links.0, room.numbers, t.numbers);
+    room = omega (arith, links.2, live, t.room);
+  }
+
+  pub room_threads : (old new : Stock A) (r s : Ring) (root spare more : ℕ) → nodes_of new ≡ nodes_of old → new.slots ≡ old.slots → s ≡ record r { places = s.places } → live_slots new.slots + more ≤ s.places → AreThreads r old root spare → AreThreads s new root more
+  room_threads old new r s root spare more nodes slots ring room t =
+      let a = ap (λ (x : Ring). length x.ahead) ring in
+      let b = ap (λ (x : Ring). length x.back) ring in
+      let n = ap length slots in
+      record {
+        ring = subst (λ (f : Nodes A). IsThreaded f f s root) (sym nodes) (subst (λ (x : Ring). IsThreaded (nodes_of old) (nodes_of old) x root) (sym ring) (threaded_room (nodes_of old) (nodes_of old) r root s.places t.ring));
+        same = a ∙ t.same ∙ sym b;
+        numbers = omega (arith, a, n, t.numbers);
+        room = room;
+      }

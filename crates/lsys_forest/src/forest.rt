@@ -1,14 +1,14 @@
 //! The forest.
-ghost use Rattle.std.specs.Prelude.{List, ◌∷◌, ◌++◌, ◌≡◌, ◌≢◌, ◌+◌, ◌<◌, ◌≤◌, ◌^◌, ℕ, [], None, Some, IsSome, IfOk, OnOk, option_copied, length};
+ghost use Rattle.std.specs.Prelude.{List, ◌∷◌, ◌++◌, ◌≡◌, ◌≢◌, ◌+◌, ◌<◌, ◌≤◌, ◌^◌, ℕ, [], None, Some, IsSome, IfOk, OnOk, IsTrue, false, option_copied, length};
 ghost use Rattle.lsys_module.specs.declared.symbol.Symbol.TheVariants.{Cut};
 ghost use Rattle.lsys_level.specs.Places.{seen_in, params_in};
 ghost use Rattle.lsys_level.specs.Spots.{IsSpot};
 ghost use Rattle.lsys_region.specs.Rooms.{list_room};
 ghost use Rattle.lsys_forest.specs.Nodes.{Node, root_node, with_seen, with_key, with_kids, with_answer};
 ghost use Rattle.lsys_forest.specs.Slots.{live_slots};
-ghost use Rattle.lsys_forest.specs.Changes.{undone};
-ghost use Rattle.lsys_forest.specs.Stocks.{nodes_of, changes_of, KeepsRoom};
-ghost use Rattle.lsys_forest.specs.Answers.{answers, kept_by, AreMade, Follows, FreesAllBut};
+ghost use Rattle.lsys_forest.specs.Changes.{Change, undone};
+ghost use Rattle.lsys_forest.specs.Stocks.{nodes_of, changes_of, KeepsRoom, Undoes, dropped};
+ghost use Rattle.lsys_forest.specs.Answers.{answers, kept_by, IsMade, Releases, AreMade, Follows, FreesAllBut};
 ghost use Rattle.lsys_forest.specs.Rows.{first_in, oriented, level_nodes, complete_levels, level_of_node, place_of_node};
 ghost use Rattle.lsys_forest.specs.Mates.{mate_way};
 ghost use Rattle.lsys_forest.specs.Threads.{IsThreaded, KeepsLinks};
@@ -363,10 +363,31 @@ fn undo_all<A: Kept>(
     ensures freed { Follows A.run_at A.Holds (answers (nodes_of parts.old) (changes_of parts.old)) store.old
         (answers (nodes_of parts.new) (changes_of parts.new)) store.new }
 {
-    while let Some(node) = parts.last_changed() {
-        let had_some = is_full(parts, node);
-        if parts.undo_last(store) {
-            refit(threads, parts, root, node, had_some);
-        }
-    }
+    while undo_one(parts, threads, root, store) {}
+}
+
+/// Undoes the last change, and tells whether there was one.
+fn undo_one<A: Kept>(
+    parts: &mut Parts<A>,
+    threads: &mut Threads,
+    root: NodeId,
+    store: &mut A::Store,
+) -> bool
+    requires sound { AreSound root (changes_of parts.old) (nodes_of parts.old) }
+    requires ring { IsThreaded (nodes_of parts.old) (nodes_of parts.old) threads.old root }
+    requires made { (c : Change A) (earlier : List (Change A)) → changes_of parts.old ≡ earlier ++ c ∷ []
+        → IsMade A.run_at A.Holds store.old (dropped c (nodes_of parts.old)) }
+    ensures undone { IsTrue result → (c : Change A) × Undoes parts.old parts.new c
+        × Releases A.run_at A.Holds (dropped c (nodes_of parts.old)) store.old store.new }
+    ensures none { result ≡ false → (changes_of parts.old ≡ []) × (parts.new ≡ parts.old) × (store.new ≡ store.old) }
+    ensures ring { IsThreaded (nodes_of parts.new) (nodes_of parts.new) threads.new root }
+    ensures links { KeepsLinks threads.old threads.new }
+{
+    let Some(node) = parts.last_changed() else {
+        return false;
+    };
+    let had_some = is_full(parts, node);
+    let undone = parts.undo_last(store);
+    refit(threads, parts, root, node, had_some);
+    undone
 }

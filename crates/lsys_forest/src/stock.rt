@@ -164,7 +164,7 @@ impl<A: Drop> Parts<A> {
         ensures none { IfNone result (changes_of self.now ≡ []) }
     {
         match self.notes.last() {
-            Some(note) => Some(note.node),
+            Some(note) => Some(node_changed(note)),
             None => None,
         }
     }
@@ -414,6 +414,13 @@ impl<A: Kept> Parts<A> {
     {
         self.kids.put_down();
     }
+}
+
+/// The node that a note is of.
+fn node_changed<A>(note: &Note<A>) -> NodeId
+    ensures { result ≡ note.now.node }
+{
+    note.node
 }
 
 /// Undoes the change of this note, which was the last.

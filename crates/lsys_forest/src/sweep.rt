@@ -13,7 +13,7 @@ use crate::kept::Kept;
 use crate::node::NodeId;
 use crate::note::Look;
 use crate::stock::Parts;
-use crate::threads::{Threads, is_full};
+use crate::threads::{Threads, forget};
 use crate::walk::position;
 
 /// Whether the node lives, and is not among the children of its parent.
@@ -62,9 +62,7 @@ fn sweep<A: Kept>(
         (answers (nodes_of parts.new) (changes_of parts.new)) store.new }
 {
     if node != root && is_loose(parts, node) {
-        if is_full(parts, node) {
-            threads.take_out(node);
-        }
+        forget(threads, parts, root, node);
         parts.remove(node, store);
     }
 }

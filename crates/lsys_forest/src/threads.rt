@@ -2,8 +2,8 @@
 //!
 //! All nodes that have children are in it, whether they are reached or not, behind the root: by depth, and on each depth
 //! from the left to the right. This order rests on parents and places alone, which a node keeps as long as it lives.
-ghost use Rattle.std.specs.Prelude.{◌≡◌, ◌≢◌, ◌⊎◌, ◌+◌, ◌<◌, ◌≤◌, ℕ, List, length, Option, IsSome, IsTrue, ◌↔◌, ◌-◌, OnOk, IfOk, slice_set, vec_len, vec_capacity, ◌++◌, ◌∷◌, []};
-ghost use Rattle.lsys_forest.specs.Nodes.{Nodes};
+ghost use Rattle.std.specs.Prelude.{◌≡◌, ◌≢◌, ◌⊎◌, ◌+◌, ◌<◌, ◌≤◌, ℕ, List, length, Option, None, IsSome, IsTrue, ◌↔◌, ◌-◌, OnOk, IfOk, slice_set, vec_len, vec_capacity, ◌++◌, ◌∷◌, []};
+ghost use Rattle.lsys_forest.specs.Nodes.{Nodes, put};
 ghost use Rattle.lsys_forest.specs.Stocks.{nodes_of, changes_of};
 ghost use Rattle.lsys_forest.specs.Slots.{live_slots};
 ghost use Rattle.lsys_forest.specs.Groves.{In, IsSound};
@@ -393,6 +393,18 @@ pub(crate) fn refit<A: Kept>(
         let behind = place_behind(parts, threads, root, node, start);
         threads.put_in(node, behind);
     } else {
+        threads.take_out(node);
+    }
+}
+
+/// Takes a node, which is to be removed, out of the ring if it has children.
+pub(crate) fn forget<A: Kept>(threads: &mut Threads, parts: &Parts<A>, root: NodeId, node: NodeId)
+    requires { node ≢ root }
+    ensures links { KeepsLinks threads.old threads.new }
+    ensures ring { (order : Nodes A) → IsThreaded order (nodes_of parts.now) threads.old root
+        → IsThreaded order (put (nodes_of parts.now) node None) threads.new root }
+{
+    if is_full(parts, node) {
         threads.take_out(node);
     }
 }

@@ -8,6 +8,9 @@ use Rattle.lsys_forest.proofs.ViewLemmas.{node_at}
 use Rattle.lsys_forest.proofs.GroveLemmas.{sound_now}
 use Rattle.lsys_forest.proofs.forest.Forest.beside.Goals as goal
 
+pub beside-requires-clause-sound : goal.beside-requires-clause-sound
+beside-requires-clause-sound g c = sound_now c.self.invariant.grove
+
 pub beside-requires-clause-among : goal.beside-requires-clause-among
 beside-requires-clause-among g c =
     let i = c.self.inside in

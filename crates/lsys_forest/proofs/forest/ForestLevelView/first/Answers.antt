@@ -8,6 +8,9 @@ use Rattle.lsys_forest.proofs.ViewLemmas.{first_match}
 use Rattle.lsys_forest.proofs.GroveLemmas.{sound_now}
 use Rattle.lsys_forest.proofs.forest.ForestLevelView.first.Goals as goal
 
+pub first_at-requires-clause-sound : goal.first_at-requires-clause-sound
+first_at-requires-clause-sound g c = sound_now c.self.invariant.grove
+
 pub returns : goal.returns
 returns g c =
     let i = c.self.inside in

@@ -22,6 +22,9 @@ kind-requires g c =
     let at = node_at F (changes_of i.parts) c.args.spot (sound_now c.self.invariant.grove) spot in
     subst IsSome (sym at.is) refl
 
+pub mate_of-requires-clause-sound : goal.mate_of-requires-clause-sound
+mate_of-requires-clause-sound g c = sound_now c.self.invariant.grove
+
 pub mate_of-requires-clause-numbers : goal.mate_of-requires-clause-numbers
 mate_of-requires-clause-numbers g c = omega (arith, c.self.invariant.grove.numbers)
 
