@@ -89,7 +89,7 @@ last_first [] = refl
 last_first (x ∷ []) = refl
 last_first (x ∷ y ∷ xs) = (let e : length (x ∷ y ∷ xs) - 1 ≡ suc (length (y ∷ xs) - 1) = omega arith in ap (slice_get (x ∷ y ∷ xs)) e) ∙ last_first (y ∷ xs) ∙ sym (first_more (mirrored (y ∷ xs)) x (omega (arith, mirrored_long (y ∷ xs))))
 
-no_first : (xs : List ℕ) → first_in xs ≡ None → xs ≡ []
+pub no_first : (xs : List ℕ) → first_in xs ≡ None → xs ≡ []
 no_first [] e = refl
 no_first (x ∷ xs) e = absurd (none-some x (sym e))
 
@@ -97,7 +97,7 @@ first_split : (xs : List ℕ) (x : ℕ) → first_in xs ≡ Some x → (rest : L
 first_split [] x e = absurd (none-some x e)
 first_split (y ∷ xs) x e = (xs, ap (λ z. z ∷ xs) (same_Some y x e))
 
-first_append : (xs ys : List ℕ) (x : ℕ) → first_in xs ≡ Some x → first_in (xs ++ ys) ≡ Some x
+pub first_append : (xs ys : List ℕ) (x : ℕ) → first_in xs ≡ Some x → first_in (xs ++ ys) ≡ Some x
 first_append [] ys x e = absurd (none-some x e)
 first_append (y ∷ xs) ys x e = e
 

@@ -6,16 +6,18 @@ ghost use Rattle.lsys_forest.specs.Changes.{Change};
 ghost use Rattle.lsys_forest.specs.Answers.{answers, AreMade, Follows};
 ghost use Rattle.lsys_forest.specs.Stocks.{nodes_of, changes_of, named_by, KeepsRoom};
 ghost use Rattle.lsys_forest.specs.Groves.{In, IsSound, place_in};
+ghost use Rattle.lsys_forest.specs.Threads.{SweepsRing};
 ghost use Rattle.lsys_forest.specs.Sweeps.{IsLinked, AreRisingUnder, IsSwept, SweepsLeft, KeepsPlaces};
 
 use crate::kept::Kept;
 use crate::node::NodeId;
 use crate::note::Look;
 use crate::stock::Parts;
+use crate::threads::{Threads, forget};
 use crate::walk::position;
 
 /// Whether the node lives, and is not among the children of its parent.
-fn is_loose<A: Kept>(parts: &Parts<A>, node: NodeId) -> bool
+pub(crate) fn is_loose<A: Kept>(parts: &Parts<A>, node: NodeId) -> bool
     ensures lives { IsTrue result → IsSome (nodes_of parts.now node) }
     ensures apart { (n : Node A) → IsTrue result → nodes_of parts.now node ≡ Some n → AreRisingUnder (nodes_of parts.now) n.parent
         → IsLinked (nodes_of parts.now) node n → ⊥ }
@@ -41,27 +43,41 @@ fn has_kid<A: Kept>(parts: &Parts<A>, parent: NodeId, node: NodeId, place: u32) 
 }
 
 /// Removes the node if it is loose, and notes its children.
-fn sweep<A: Kept>(parts: &mut Parts<A>, root: NodeId, node: NodeId, store: &mut A::Store)
+fn sweep<A: Kept>(
+    parts: &mut Parts<A>,
+    threads: &mut Threads,
+    root: NodeId,
+    node: NodeId,
+    store: &mut A::Store,
+)
     requires places { length parts.old.notes + live_slots parts.old.slots ≤ parts.old.places }
     requires made { AreMade A.run_at A.Holds store.old (answers (nodes_of parts.old) (changes_of parts.old)) }
     ensures swept { (left : List ℕ) (first : Nodes A) (before : List (Change A)) → IsSound root before first
         → IsSwept first root (nodes_of parts.old) (changes_of parts.old) (node ∷ left)
         → IsSwept first root (nodes_of parts.new) (changes_of parts.new) left }
+    ensures ring { SweepsRing root parts.old threads.old parts.new threads.new }
     ensures keeps { KeepsPlaces parts.old parts.new }
     ensures made { AreMade A.run_at A.Holds store.new (answers (nodes_of parts.new) (changes_of parts.new)) }
     ensures freed { Follows A.run_at A.Holds (answers (nodes_of parts.old) (changes_of parts.old)) store.old
         (answers (nodes_of parts.new) (changes_of parts.new)) store.new }
 {
     if node != root && is_loose(parts, node) {
+        forget(threads, parts, root, node);
         parts.remove(node, store);
     }
 }
 
 /// Sweeps the children in hand.
-fn sweep_hand<A: Kept>(parts: &mut Parts<A>, root: NodeId, store: &mut A::Store)
+fn sweep_hand<A: Kept>(
+    parts: &mut Parts<A>,
+    threads: &mut Threads,
+    root: NodeId,
+    store: &mut A::Store,
+)
     requires places { length parts.old.notes + live_slots parts.old.slots ≤ parts.old.places }
     requires made { AreMade A.run_at A.Holds store.old (answers (nodes_of parts.old) (changes_of parts.old)) }
     ensures swept { SweepsLeft root parts.old parts.new parts.old.hand }
+    ensures ring { SweepsRing root parts.old threads.old parts.new threads.new }
     ensures keeps { KeepsPlaces parts.old parts.new }
     ensures made { AreMade A.run_at A.Holds store.new (answers (nodes_of parts.new) (changes_of parts.new)) }
     ensures freed { Follows A.run_at A.Holds (answers (nodes_of parts.old) (changes_of parts.old)) store.old
@@ -69,33 +85,46 @@ fn sweep_hand<A: Kept>(parts: &mut Parts<A>, root: NodeId, store: &mut A::Store)
 {
     for place in 0..parts.in_hand().len() {
         let kid = parts.in_hand()[place];
-        sweep(parts, root, kid, store);
+        sweep(parts, threads, root, kid, store);
     }
 }
 
 /// Sweeps the nodes that a change names.
-fn sweep_looked<A: Kept>(parts: &mut Parts<A>, root: NodeId, look: Look, store: &mut A::Store)
+fn sweep_looked<A: Kept>(
+    parts: &mut Parts<A>,
+    threads: &mut Threads,
+    root: NodeId,
+    look: Look,
+    store: &mut A::Store,
+)
     requires places { length parts.old.notes + live_slots parts.old.slots ≤ parts.old.places }
     requires made { AreMade A.run_at A.Holds store.old (answers (nodes_of parts.old) (changes_of parts.old)) }
     ensures swept { SweepsLeft root parts.old parts.new (named_by look parts.old.hand) }
+    ensures ring { SweepsRing root parts.old threads.old parts.new threads.new }
     ensures keeps { KeepsPlaces parts.old parts.new }
     ensures made { AreMade A.run_at A.Holds store.new (answers (nodes_of parts.new) (changes_of parts.new)) }
     ensures freed { Follows A.run_at A.Holds (answers (nodes_of parts.old) (changes_of parts.old)) store.old
         (answers (nodes_of parts.new) (changes_of parts.new)) store.new }
 {
     match look {
-        Look::Node(node) => sweep(parts, root, node, store),
-        Look::Hand => sweep_hand(parts, root, store),
+        Look::Node(node) => sweep(parts, threads, root, node, store),
+        Look::Hand => sweep_hand(parts, threads, root, store),
         Look::Nothing => {}
     }
 }
 
 /// Removes each node that is not reached from the root.
-pub(crate) fn sweep_all<A: Kept>(parts: &mut Parts<A>, root: NodeId, store: &mut A::Store)
+pub(crate) fn sweep_all<A: Kept>(
+    parts: &mut Parts<A>,
+    threads: &mut Threads,
+    root: NodeId,
+    store: &mut A::Store,
+)
     requires places { length parts.old.notes + live_slots parts.old.slots ≤ parts.old.places }
     requires sound { IsSound root (changes_of parts.old) (nodes_of parts.old) }
     requires made { AreMade A.run_at A.Holds store.old (answers (nodes_of parts.old) (changes_of parts.old)) }
     ensures swept { IsSwept (nodes_of parts.old) root (nodes_of parts.new) [] [] }
+    ensures ring { SweepsRing root parts.old threads.old parts.new threads.new }
     ensures empty { changes_of parts.new ≡ [] }
     ensures short { length parts.new.notes ≡ 0 }
     ensures live { live_slots parts.new.slots ≤ live_slots parts.old.slots }
@@ -105,7 +134,7 @@ pub(crate) fn sweep_all<A: Kept>(parts: &mut Parts<A>, root: NodeId, store: &mut
         (answers (nodes_of parts.new) (changes_of parts.new)) store.new }
 {
     while let Some(look) = parts.take_last(store) {
-        sweep_looked(parts, root, look, store);
+        sweep_looked(parts, threads, root, look, store);
     }
     parts.put_down();
 }

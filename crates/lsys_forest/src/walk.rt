@@ -5,12 +5,14 @@ ghost use Rattle.lsys_forest.specs.Groves.{In, AreApart, AreRising, IsSound, pla
 ghost use Rattle.lsys_spec.specs.Levels.{level_balanced};
 ghost use Rattle.lsys_level.specs.Spots.{level_by};
 ghost use Rattle.lsys_forest.specs.Slots.{live_slots};
+ghost use Rattle.lsys_forest.specs.Threads.{IsThreaded};
 ghost use Rattle.lsys_forest.specs.Mates.{nested, IsBracketThat, IsMateThat};
 ghost use Rattle.lsys_forest.specs.Rows.{first_in, oriented, level_nodes, level_spots};
 
 use crate::kept::Kept;
 use crate::node::{Kind, NodeId};
 use crate::stock::Parts;
+use crate::threads::{Threads, next_full};
 
 /// Which way to go along a level.
 #[derive(Clone, Copy, Drop)]
@@ -55,7 +57,7 @@ fn kid_at(kids: &[NodeId], place: usize) -> Option<NodeId>
 }
 
 /// The place of a node under its parent; 0 where it does not live.
-fn place_of<A: Kept>(parts: &Parts<A>, node: NodeId) -> u32
+pub(crate) fn place_of<A: Kept>(parts: &Parts<A>, node: NodeId) -> u32
     ensures { result ≡ place_in (nodes_of parts.now node) }
 {
     match parts.get(node) {
@@ -110,12 +112,14 @@ fn first_of(kids: &[NodeId], way: Way) -> Option<NodeId>
 /// The node that comes next to a node of the level this many steps below the root, that way; none at the end.
 pub(crate) fn beside<A: Kept>(
     parts: &Parts<A>,
+    threads: &Threads,
     root: NodeId,
     node: NodeId,
     depth: u32,
     way: Way,
 ) -> Option<NodeId>
     requires sound { IsSound root (changes_of parts.now) (nodes_of parts.now) }
+    requires ring { IsThreaded (nodes_of parts.now) (nodes_of parts.now) threads.now root }
     requires below { 0 < depth }
     requires among { In node (level_nodes (nodes_of parts.now) root (depth - 1)) }
     ensures { (before after : List ℕ) → oriented way (level_nodes (nodes_of parts.now) root (depth - 1)) ≡ before ++ node ∷ after
@@ -131,24 +135,22 @@ pub(crate) fn beside<A: Kept>(
     if depth == 1 {
         return None;
     }
-    let mut at = beside(parts, root, parent, depth - 1, way);
-    while let Some(above) = at {
-        if let Some(kid) = first_of(parts.kids(above), way) {
-            return Some(kid);
-        }
-        at = beside(parts, root, above, depth - 1, way);
+    match next_full(parts, threads, root, parent, depth - 1, way) {
+        Some(above) => first_of(parts.kids(above), way),
+        None => None,
     }
-    None
 }
 
 /// The leftmost child of the nodes of a level, from one of its nodes on; none where they have no children.
 fn first_below<A: Kept>(
     parts: &Parts<A>,
+    threads: &Threads,
     root: NodeId,
     start: Option<NodeId>,
     depth: u32,
 ) -> Option<NodeId>
     requires sound { IsSound root (changes_of parts.now) (nodes_of parts.now) }
+    requires ring { IsThreaded (nodes_of parts.now) (nodes_of parts.now) threads.now root }
     requires below { 0 < depth }
     requires first { start ≡ first_in (level_nodes (nodes_of parts.now) root (depth - 1)) }
     ensures { result ≡ first_in (level_nodes (nodes_of parts.now) root depth) }
@@ -158,19 +160,25 @@ fn first_below<A: Kept>(
         if let Some(kid) = first_of(parts.kids(above), Way::Right) {
             return Some(kid);
         }
-        at = beside(parts, root, above, depth, Way::Right);
+        at = beside(parts, threads, root, above, depth, Way::Right);
     }
     None
 }
 
 /// The leftmost node of a level.
-pub(crate) fn first_at<A: Kept>(parts: &Parts<A>, root: NodeId, level: u32) -> Option<NodeId>
-    requires { IsSound root (changes_of parts.now) (nodes_of parts.now) }
+pub(crate) fn first_at<A: Kept>(
+    parts: &Parts<A>,
+    threads: &Threads,
+    root: NodeId,
+    level: u32,
+) -> Option<NodeId>
+    requires sound { IsSound root (changes_of parts.now) (nodes_of parts.now) }
+    requires ring { IsThreaded (nodes_of parts.now) (nodes_of parts.now) threads.now root }
     ensures { result ≡ first_in (level_nodes (nodes_of parts.now) root level) }
 {
     let mut at = first_of(parts.kids(root), Way::Right);
     for depth in 0..level {
-        at = first_below(parts, root, at, depth + 1);
+        at = first_below(parts, threads, root, at, depth + 1);
     }
     at
 }
@@ -190,12 +198,14 @@ fn nest(way: Way, kind: Kind, inside: u32) -> Option<u32>
 /// The mate of a bracket, that way.
 pub(crate) fn mate_of<A: Kept>(
     parts: &Parts<A>,
+    threads: &Threads,
     root: NodeId,
     node: NodeId,
     depth: u32,
     way: Way,
 ) -> NodeId
     requires sound { IsSound root (changes_of parts.now) (nodes_of parts.now) }
+    requires ring { IsThreaded (nodes_of parts.now) (nodes_of parts.now) threads.now root }
     requires numbers { live_slots parts.now.slots < 2 ^ 32 }
     requires below { 0 < depth }
     requires among { In node (level_nodes (nodes_of parts.now) root (depth - 1)) }
@@ -204,13 +214,13 @@ pub(crate) fn mate_of<A: Kept>(
     ensures { IsMateThat way (nodes_of parts.now) (level_nodes (nodes_of parts.now) root (depth - 1)) node result }
 {
     let mut inside = 0;
-    let mut at = beside(parts, root, node, depth, way);
+    let mut at = beside(parts, threads, root, node, depth, way);
     while let Some(found) = at {
         let Some(branches) = nest(way, parts.kind(found), inside) else {
             return found;
         };
         inside = branches;
-        at = beside(parts, root, found, depth, way);
+        at = beside(parts, threads, root, found, depth, way);
     }
     unreachable!()
 }
