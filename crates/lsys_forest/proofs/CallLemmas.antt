@@ -11,10 +11,10 @@ use Rattle.lsys_forest.specs.Changes.{Missing, OldSeen, OldKey, OldKids, OldAnsw
 use Rattle.lsys_forest.specs.Stocks.{Stock, nodes_of, changes_of, Undoes, Journals, KeepsRoom}
 use Rattle.lsys_forest.specs.Groves.{In, IsSound, AreSound}
 use Rattle.lsys_forest.specs.Rows.{kids_in}
-use Rattle.lsys_forest.specs.Threads.{Ring, reached_links, Chain, link_at, tied, AreSorted, Extends, IsFull, Precedes, AreFull, Turns, KeepsLinks, IsThreaded, SweepsRing, AreThreads}
+use Rattle.lsys_forest.specs.Threads.{Ring, reached_links, Chain, link_at, tied, AreSorted, Extends, IsFull, Precedes, Turns, KeepsLinks, IsThreaded, SweepsRing, AreThreads}
 use Rattle.lsys_forest.proofs.StockLemmas.{put_same, put_other, get_more}
 use Rattle.lsys_forest.proofs.SoundLemmas.{some_of, AreSound-pop, AreSound-now}
-use Rattle.lsys_forest.proofs.RowLemmas.{In_append, In_left, In_right, In_split, apart_parts}
+use Rattle.lsys_forest.proofs.RowLemmas.{In_append, In_split, apart_parts}
 use Rattle.lsys_forest.proofs.RingLemmas.{taken_out}
 use Rattle.lsys_forest.proofs.OrderLemmas.{sorted_same, sorted_less, sorted_apart, never_precedes, precedes_same}
 use Rattle.lsys_forest.proofs.HopLemmas.{full_live}
@@ -173,7 +173,7 @@ module _ {A : Type 0} where
               let q = full_live m y (t.are.each y i).0 in
               (precedes_same root changes m m' sound ext x y p.0 q.0 p.1 q.1).0 e
               )) t.are.sorted;
-          each = λ j h. (let e = t.are.each j h in let p = full_live m j e.0 in (subst (λ (o : Option (Node A)). 0 < length (kids_in o)) (sym ((ext j p.0 p.1).1) ) (subst (λ (o : Option (Node A)). 0 < length (kids_in o)) p.1 e.0), e.1));
+          each = λ j h. (let e = t.are.each j h in let p = full_live m j e.0 in (subst (λ (o : Option (Node A)). 0 < length (kids_in o)) (sym ((ext j p.0 p.1).1)) (subst (λ (o : Option (Node A)). 0 < length (kids_in o)) p.1 e.0), e.1));
           all = λ j h ne. t.are.all j (subst (λ (o : Option (Node A)). 0 < length (kids_in o)) (put_other m k j (Some n) (far j h)) h) ne;
         };
         long = λ j h. elim (cases_eq j k) [
@@ -223,42 +223,42 @@ module _ {A : Type 0} where
 
   pub sweep_out : (order m m' : Nodes A) (r : Ring) (root k : ℕ) → k ≢ root → m' ≡ put m k None → IsFull m k → IsThreaded order m r root → IsThreaded order m' (tied r (link_at r.back k) (link_at r.ahead k)) root
   sweep_out order m m' r root k other removed is t = subst (λ (f : Nodes A). IsThreaded order f (tied r (link_at r.back k) (link_at r.ahead k)) root) (sym removed) (
-    let s = In_split k t.full (t.are.all k is other) in
-    let u = s.0 in
-    let w = s.1 in
-    let sorted = subst (AreSorted (Precedes order)) s.2 t.are.sorted in
-    let apart = sorted_apart (Precedes order) (never_precedes order) (u ++ k ∷ w) sorted in
-    let parts = apart_parts u (k ∷ w) apart in
-    let none : In root (u ++ k ∷ w) → ⊥ = λ h. (t.are.each root (subst (In root) (sym s.2) h)).1 refl in
-    let size = tied_long r (link_at r.back k) (link_at r.ahead k) in
-    record {
-      full = u ++ w;
-      chain = taken_out r root u k w (none, apart) (λ j h. elim h [
-        | inl e ↦ (let l = t.root_long in (omega (arith, e, l.0), omega (arith, e, l.1)))
-        | inr i ↦ t.long j (let q = full_live m j (t.are.each j (subst (In j) (sym s.2) i)).0 in subst IsSome (sym q.1) refl)
-      ]) (subst (λ l. Chain r root l root) s.2 t.chain);
-      are = record {
-        sorted = sorted_less (Precedes order) u k w sorted;
-        each = λ j h. (
-            let e = t.are.each j (subst (In j) (sym s.2) (among_more j k u w h)) in
-            let far : j ≢ k = λ same. elim (In_append u w j h) [
-              | inl a ↦ parts.2 j a (inl same)
-              | inr b ↦ parts.1.0 (subst (λ x. In x w) same b)
-            ] in
-            ((full_same m (put m k None) j (put_other m k j None far)).0 e.0, e.1)
+      let s = In_split k t.full (t.are.all k is other) in
+      let u = s.0 in
+      let w = s.1 in
+      let sorted = subst (AreSorted (Precedes order)) s.2 t.are.sorted in
+      let apart = sorted_apart (Precedes order) (never_precedes order) (u ++ k ∷ w) sorted in
+      let parts = apart_parts u (k ∷ w) apart in
+      let none : In root (u ++ k ∷ w) → ⊥ = λ h. (t.are.each root (subst (In root) (sym s.2) h)).1 refl in
+      let size = tied_long r (link_at r.back k) (link_at r.ahead k) in
+      record {
+        full = u ++ w;
+        chain = taken_out r root u k w (none, apart) (λ j h. elim h [
+          | inl e ↦ (let l = t.root_long in (omega (arith, e, l.0), omega (arith, e, l.1)))
+          | inr i ↦ t.long j (let q = full_live m j (t.are.each j (subst (In j) (sym s.2) i)).0 in subst IsSome (sym q.1) refl)
+        ]) (subst (λ l. Chain r root l root) s.2 t.chain);
+        are = record {
+          sorted = sorted_less (Precedes order) u k w sorted;
+          each = λ j h. (
+              let e = t.are.each j (subst (In j) (sym s.2) (among_more j k u w h)) in
+              let far : j ≢ k = λ same. elim (In_append u w j h) [
+                | inl a ↦ parts.2 j a (inl same)
+                | inr b ↦ parts.1.0 (subst (λ x. In x w) same b)
+              ] in
+              ((full_same m (put m k None) j (put_other m k j None far)).0 e.0, e.1)
+              );
+          all = λ j h ne. (
+              let far : j ≢ k = λ same. (let q = full_live (put m k None) j h in none-some q.0 (sym (put_same m k j None same) ∙ q.1)) in
+              among_less j k u w far (subst (In j) s.2 (t.are.all j ((full_same m (put m k None) j (put_other m k j None far)).1 h) ne))
+              );
+        };
+        long = λ j h. (
+            let far : j ≢ k = λ same. (let q = some_of (put m k None j) h in none-some q.0 (sym (put_same m k j None same) ∙ q.1)) in
+            let l = t.long j (subst IsSome (put_other m k j None far) h) in
+            (omega (arith, l.0, size.0), omega (arith, l.1, size.1))
             );
-        all = λ j h ne. (
-            let far : j ≢ k = λ same. (let q = full_live (put m k None) j h in none-some q.0 (sym (put_same m k j None same) ∙ q.1)) in
-            among_less j k u w far (subst (In j) s.2 (t.are.all j ((full_same m (put m k None) j (put_other m k j None far)).1 h) ne))
-            );
-      };
-      long = λ j h. (
-          let far : j ≢ k = λ same. (let q = some_of (put m k None j) h in none-some q.0 (sym (put_same m k j None same) ∙ q.1)) in
-          let l = t.long j (subst IsSome (put_other m k j None far) h) in
-          (omega (arith, l.0, size.0), omega (arith, l.1, size.1))
-          );
-      root_long = (let l = t.root_long in (omega (arith, l.0, size.0), omega (arith, l.1, size.1)));
-    })
+        root_long = (let l = t.root_long in (omega (arith, l.0, size.0), omega (arith, l.1, size.1)));
+      })
 
   -- the order of what is left is that of its own
   pub swept_threaded : (root : ℕ) (first m : Nodes A) (r : Ring) → IsSound root [] m → ((k : ℕ) (n : Node A) → m k ≡ Some n → first k ≡ Some n) → IsThreaded first m r root → IsThreaded m m r root

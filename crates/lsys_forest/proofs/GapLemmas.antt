@@ -1,11 +1,11 @@
 -- The search for a node's place in the ring.
-use Rattle.std.proofs.Common.{◌≡◌, ◌≢◌, ◌⊎◌, ◌+◌, ◌<◌, ◌≤◌, ℕ, List, [], ◌∷◌, ◌++◌, length, refl, sym, ap, ◌∙◌, arith, inl, inr, subst, append_assoc}
+use Rattle.std.proofs.Common.{◌≡◌, ◌≢◌, ◌+◌, ◌≤◌, ℕ, List, [], ◌∷◌, ◌++◌, length, refl, sym, ap, ◌∙◌, arith, inl, inr, subst, append_assoc}
 use Rattle.std.proofs.lemmas.List.{append-nil}
 use Rattle.lsys_forest.specs.Nodes.{Nodes}
 use Rattle.lsys_forest.specs.Groves.{In}
 use Rattle.lsys_forest.specs.Threads.{Ring, Chain, link_at, first_or, last_or, AreSorted, Precedes, IsPlace, IsOpen, IsStart, IsGap}
 use Rattle.lsys_forest.proofs.RowLemmas.{In_append, In_right, In_split}
-use Rattle.lsys_forest.proofs.RingLemmas.{chain_split, chain_last, chain_first}
+use Rattle.lsys_forest.proofs.RingLemmas.{chain_split, chain_last}
 use Rattle.lsys_forest.proofs.OrderLemmas.{sorted_across, sorted_behind, precedes_trans}
 
 last_push : (x : ℕ) (xs : List ℕ) (y : ℕ) → last_or x (xs ++ y ∷ []) ≡ y

@@ -1,20 +1,18 @@
 -- Along the ring to the next node of a level that has children.
 use Rattle.std.specs.Prelude.{◌↔◌}
-use Rattle.std.proofs.Common.{◌≡◌, ◌≢◌, ◌⊎◌, ◌+◌, ◌-◌, ◌<◌, ◌≤◌, ℕ, zero, suc, List, [], ◌∷◌, ◌++◌, length, Option, Some, None, refl, sym, ap, ◌∙◌, arith, inl, inr, subst, append_assoc}
-use Rattle.std.specs.Prelude.{IsSome}
-use Rattle.std.proofs.lemmas.Bool.{cases_eq}
+use Rattle.std.proofs.Common.{◌≡◌, ◌≢◌, ◌+◌, ◌<◌, ◌≤◌, ℕ, zero, suc, List, [], ◌∷◌, ◌++◌, length, Option, Some, None, refl, sym, ap, ◌∙◌, arith, inl, inr, subst, append_assoc}
 use Rattle.std.proofs.lemmas.List.{length_push}
-use Rattle.std.proofs.lemmas.Option.{none-some, same_Some}
+use Rattle.std.proofs.lemmas.Option.{same_Some}
 use Rattle.lsys_forest.specs.declared.walk.Way.{Way}
 use Rattle.lsys_forest.specs.declared.walk.Way.TheVariants.{Left, Right}
 use Rattle.lsys_forest.specs.Nodes.{Node, Nodes}
 use Rattle.lsys_forest.specs.Changes.{Change}
-use Rattle.lsys_forest.specs.Groves.{In, AreApart, IsSound}
+use Rattle.lsys_forest.specs.Groves.{In, IsSound}
 use Rattle.lsys_forest.specs.Sweeps.{IsLinked}
 use Rattle.lsys_forest.specs.Rows.{kids_in, depth_in, first_in, flat, mirrored, oriented, level_nodes}
-use Rattle.lsys_forest.specs.Threads.{Ring, Chain, next_that, first_or, last_or, AreSorted, parent_in, IsFull, IsEarlier, Precedes, AreFull, IsOnLevel, PrecedesThat, IsFirstFull, IsHop}
+use Rattle.lsys_forest.specs.Threads.{Ring, Chain, next_that, first_or, last_or, AreSorted, IsFull, IsEarlier, Precedes, AreFull, IsOnLevel, PrecedesThat, IsFirstFull, IsHop}
 use Rattle.lsys_forest.proofs.RowLemmas.{In_append, In_left, In_right, In_split, flat_append, oriented_In, oriented_In_back, level_depth, parent_level, parent_root, child}
-use Rattle.lsys_forest.proofs.WalkLemmas.{mirrored_push, mirrored_twice, mirrored_around, kids_that_way, IsAmid, first_append, no_first}
+use Rattle.lsys_forest.proofs.WalkLemmas.{mirrored_twice, mirrored_around, kids_that_way, IsAmid, first_append, no_first}
 use Rattle.lsys_forest.proofs.RingLemmas.{chain_split, chain_last, chain_first}
 use Rattle.lsys_forest.proofs.OrderLemmas.{sorted_append, sorted_across, sorted_same, sorted_behind, never_precedes, precedes_trans, level_sorted, top_root}
 
@@ -261,14 +259,19 @@ module _ {A : Type 0} where
         ]
       ] in
       let s = In_split at after in_after in
-      let tail = subst (AreSorted (PrecedesThat way m)) s.2 (sorted_behind (PrecedesThat way m) before (node ∷ after) sorted).1 in
-      (s.0, s.1, s.2, hop.full_at, λ k h has. (
-      let first : PrecedesThat way m k at = sorted_across (PrecedesThat way m) s.0 (at ∷ s.1) tail k at h (inl refl) in
-      elim (hop.all k (subst (In k) (sym s.2) (In_left k s.0 (at ∷ s.1) h)) has) [
-        | inl e ↦ never_that way m at (subst (λ i. PrecedesThat way m i at) e first)
-        | inr later ↦ never_that way m k (trans_that way m k at k first (hop.sorted k later))
-      ]
-      ))
+      let tail = subst (AreSorted (PrecedesThat way m)) s.2 (sorted_behind (PrecedesThat way m) before (node ∷ after) sorted).1 in (
+        s.0,
+        s.1,
+        s.2,
+        hop.full_at,
+        λ k h has. (
+            let first : PrecedesThat way m k at = sorted_across (PrecedesThat way m) s.0 (at ∷ s.1) tail k at h (inl refl) in
+            elim (hop.all k (subst (In k) (sym s.2) (In_left k s.0 (at ∷ s.1) h)) has) [
+              | inl e ↦ never_that way m at (subst (λ i. PrecedesThat way m i at) e first)
+              | inr later ↦ never_that way m k (trans_that way m k at k first (hop.sorted k later))
+            ]
+            ),
+      )
 
   -- it has come to a node that is not reached, and goes on
   pub hop_on : (way : Way) (root : ℕ) (changes : List (Change A)) (m : Nodes A) → IsSound root changes m → (t node : ℕ) (r : Ring) (full before after : List ℕ) (at most next less : ℕ) → oriented way (level_nodes m root t) ≡ before ++ node ∷ after → Chain r root full root → IsHopAt way m node full after at most → (In at (level_nodes m root t) → ⊥) → next ≡ next_that way r at → less + 1 ≡ most → IsHop way m root node full after next less

@@ -1,13 +1,13 @@
 -- The order of the ring: any two live nodes have one, and no change of a node's content turns it.
 use Rattle.std.specs.Prelude.{◌↔◌}
-use Rattle.std.proofs.Common.{◌≡◌, ◌≢◌, ◌⊎◌, ◌+◌, ◌<◌, ◌≤◌, ℕ, zero, suc, List, [], ◌∷◌, ◌++◌, length, Option, Some, None, refl, sym, ap, ◌∙◌, arith, inl, inr, subst}
+use Rattle.std.proofs.Common.{◌≡◌, ◌≢◌, ◌⊎◌, ◌<◌, ℕ, zero, suc, List, [], ◌∷◌, ◌++◌, Option, Some, refl, sym, ap, ◌∙◌, arith, inl, inr, subst}
 use Rattle.std.proofs.lemmas.Bool.{cases_eq, cases_lt}
-use Rattle.std.proofs.lemmas.Option.{none-some, same_Some}
+use Rattle.std.proofs.lemmas.Option.{same_Some}
 use Rattle.lsys_forest.specs.Nodes.{Node, Nodes}
 use Rattle.lsys_forest.specs.Changes.{Change}
 use Rattle.lsys_forest.specs.Groves.{In, AreApart, place_in, AreRising, IsSound}
 use Rattle.lsys_forest.specs.Rows.{flat, kids_in, depth_in, level_nodes}
-use Rattle.lsys_forest.specs.Threads.{AreSorted, Extends, parent_in, IsFull, IsEarlier, Precedes}
+use Rattle.lsys_forest.specs.Threads.{AreSorted, Extends, parent_in, IsEarlier, Precedes}
 use Rattle.lsys_forest.proofs.RowLemmas.{In_append, In_left, In_right, child, flat_In, kids_rising}
 
 -- 1. sorted lists, by any order
@@ -63,10 +63,13 @@ module _ {A : Type 0} where
   earlier_trans m (suc d) x y z (inl a) (inl b) = inl (earlier_trans m d (parent_in (m x)) (parent_in (m y)) (parent_in (m z)) a b)
   earlier_trans m (suc d) x y z (inl a) (inr b) = inl (subst (IsEarlier m d (parent_in (m x))) b.0 a)
   earlier_trans m (suc d) x y z (inr a) (inl b) = inl (subst (λ p. IsEarlier m d p (parent_in (m z))) (sym a.0) b)
-  earlier_trans m (suc d) x y z (inr a) (inr b) = inr (a.0 ∙ b.0, elim a.1 [
-    | inl l ↦ elim b.1 [ inl k ↦ inl (omega (arith, l, k)) | inr k ↦ inl (omega (arith, l, k.0)) ]
-    | inr l ↦ elim b.1 [ inl k ↦ inl (omega (arith, l.0, k)) | inr k ↦ inr (l.0 ∙ k.0, omega (arith, l.1, k.1)) ]
-  ])
+  earlier_trans m (suc d) x y z (inr a) (inr b) = inr (
+    a.0 ∙ b.0,
+    elim a.1 [
+      | inl l ↦ elim b.1 [ inl k ↦ inl (omega (arith, l, k)) | inr k ↦ inl (omega (arith, l, k.0)) ]
+      | inr l ↦ elim b.1 [ inl k ↦ inl (omega (arith, l.0, k)) | inr k ↦ inr (l.0 ∙ k.0, omega (arith, l.1, k.1)) ]
+    ],
+  )
 
   -- one step of the comparison
 

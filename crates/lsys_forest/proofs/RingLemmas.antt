@@ -1,10 +1,10 @@
 -- A number is put into a ring, or taken out.
-use Rattle.std.proofs.Common.{◌≡◌, ◌≢◌, ◌<◌, ℕ, List, [], ◌∷◌, ◌++◌, length, refl, sym, ap, ◌∙◌, inl, inr, subst}
+use Rattle.std.proofs.Common.{◌≡◌, ◌≢◌, ◌<◌, ℕ, List, [], ◌∷◌, ◌++◌, length, refl, sym, ◌∙◌, inl, inr, subst}
 use Rattle.std.proofs.lemmas.List.{append-nil}
 use Rattle.lsys_forest.specs.Groves.{In, AreApart}
 use Rattle.lsys_forest.specs.Threads.{Ring, link_at, tied, Chain, first_or, last_or}
 use Rattle.lsys_forest.proofs.StockLemmas.{get_same, get_other}
-use Rattle.lsys_forest.proofs.RowLemmas.{In_append, In_left, In_right, apart_parts}
+use Rattle.lsys_forest.proofs.RowLemmas.{In_left, In_right, apart_parts}
 
 pub ahead_tied : (r : Ring) (a b : ℕ) → a < length r.ahead → link_at (tied r a b).ahead a ≡ b
 ahead_tied r a b within = get_same r.ahead a b 0 within

@@ -1,15 +1,14 @@
 -- The ring after a change: as it was, with a node more, or with a node less.
 use Rattle.std.specs.Prelude.{◌↔◌, IsSome}
-use Rattle.std.proofs.Common.{◌≡◌, ◌≢◌, ◌⊎◌, ◌+◌, ◌<◌, ◌≤◌, ℕ, List, [], ◌∷◌, ◌++◌, length, Option, Some, None, refl, sym, ap, ◌∙◌, arith, inl, inr, subst, append_assoc}
+use Rattle.std.proofs.Common.{◌≡◌, ◌≢◌, ◌⊎◌, ◌<◌, ℕ, List, ◌∷◌, ◌++◌, length, Option, Some, refl, sym, ap, ◌∙◌, arith, inl, inr, subst}
 use Rattle.std.proofs.lemmas.Bool.{cases_eq}
 use Rattle.std.proofs.lemmas.List.{length-set}
-use Rattle.std.proofs.lemmas.Option.{none-some, same_Some}
 use Rattle.lsys_forest.specs.declared.node.Stored.{Stored}
 use Rattle.lsys_forest.specs.Slots.{slot_at, live_slots}
 use Rattle.lsys_forest.specs.Nodes.{Node, Nodes}
 use Rattle.lsys_forest.specs.Changes.{Change}
-use Rattle.lsys_forest.specs.Groves.{In, AreApart, IsSound}
-use Rattle.lsys_forest.specs.Threads.{Ring, Chain, link_at, tied, first_or, last_or, AreSorted, Extends, IsFull, Precedes, AreFull, IsPlace, IsOpen, IsStart, Turns, KeepsLinks, IsThreaded}
+use Rattle.lsys_forest.specs.Groves.{In, IsSound}
+use Rattle.lsys_forest.specs.Threads.{Ring, Chain, link_at, tied, last_or, AreSorted, Extends, IsFull, Precedes, IsPlace, IsOpen, IsStart, Turns, KeepsLinks, IsThreaded}
 use Rattle.lsys_forest.proofs.SoundLemmas.{some_of}
 use Rattle.lsys_forest.proofs.RowLemmas.{In_append, In_left, In_right, In_split, apart_parts}
 use Rattle.lsys_forest.proofs.DepthLemmas.{fits}
@@ -43,10 +42,10 @@ module _ {A : Type 0} where
   -- the order of these before is their order now
   sorted_now : (root : ℕ) (changes : List (Change A)) (old new : Nodes A) → IsSound root changes new → Extends new old → (xs : List ℕ) → ((j : ℕ) → In j xs → IsSome (new j)) → AreSorted (Precedes old) xs → AreSorted (Precedes new) xs
   sorted_now root changes old new sound ext xs live s = sorted_same (Precedes old) (Precedes new) xs (λ x y h i e. (
-    let a = some_of (new x) (live x h) in
-    let b = some_of (new y) (live y i) in
-    (precedes_same root changes new old sound ext x y a.0 b.0 a.1 b.1).1 e
-    )) s
+      let a = some_of (new x) (live x h) in
+      let b = some_of (new y) (live y i) in
+      (precedes_same root changes new old sound ext x y a.0 b.0 a.1 b.1).1 e
+      )) s
 
   pub old_lives : (old new : Nodes A) → Extends new old → (j : ℕ) → IsSome (new j) → IsSome (old j)
   old_lives old new ext j h = let s = some_of (new j) h in let e = ext j s.0 s.1 in subst IsSome (sym e.1) refl

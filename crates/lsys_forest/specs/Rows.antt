@@ -1,5 +1,5 @@
 -- The levels of a forest.
-use Rattle.std.specs.Prelude.{◌≡◌, ℕ, zero, suc, ◌-◌, ◌^◌, cond, nat_eq, List, [], ◌∷◌, ◌++◌, map, Option, Some, None}
+use Rattle.std.specs.Prelude.{ℕ, zero, suc, ◌-◌, ◌^◌, cond, nat_eq, List, [], ◌∷◌, ◌++◌, map, Option, Some, None}
 use Rattle.lsys_spec.specs.Levels.{level_balanced}
 use Rattle.lsys_level.specs.Spots.{Push, Spotted, level_by}
 use Rattle.lsys_forest.specs.declared.walk.Way.{Way}

@@ -5,7 +5,7 @@ use Rattle.lsys_forest.specs.declared.walk.Way.TheVariants.{Left, Right}
 use Rattle.lsys_forest.specs.Slots.{live_slots}
 use Rattle.lsys_forest.specs.Nodes.{Node, Nodes}
 use Rattle.lsys_forest.specs.Stocks.{Stock, nodes_of}
-use Rattle.lsys_forest.specs.Groves.{In, AreApart, place_in}
+use Rattle.lsys_forest.specs.Groves.{In, place_in}
 use Rattle.lsys_forest.specs.Rows.{kids_in, depth_in, oriented, level_nodes}
 
 -- the numbers that come next, by number, to the right and to the left; and how many numbers find a place

@@ -265,7 +265,14 @@ impl<A: Kept> Forest<A> {
             ≡ before ++ spot ∷ after → result ≡ first_in after }
         ensures sound { IsSound self.now.root (changes_in self.now) (now_of self.now) }
     {
-        beside(&self.parts, &self.threads, self.root, spot, self.depth(spot), way)
+        beside(
+            &self.parts,
+            &self.threads,
+            self.root,
+            spot,
+            self.depth(spot),
+            way,
+        )
     }
 
     /// How many steps a node of a complete level is below the root.
@@ -305,7 +312,14 @@ impl<A: Kept> LevelView for Forest<A> {
 
     fn mate(&self, spot: NodeId) -> NodeId {
         let way = way_to_mate(self.parts.kind(spot));
-        mate_of(&self.parts, &self.threads, self.root, spot, self.depth(spot), way)
+        mate_of(
+            &self.parts,
+            &self.threads,
+            self.root,
+            spot,
+            self.depth(spot),
+            way,
+        )
     }
 
     fn sight(&self, spot: NodeId) -> Sight<'_> {

@@ -322,12 +322,7 @@ fn kids_of<A: Kept>(parts: &Parts<A>, node: NodeId) -> &[NodeId] {
 }
 
 /// The last node that has children before a node on its level, as far as the ring tells; the root where there is none.
-fn full_before<A: Kept>(
-    parts: &Parts<A>,
-    threads: &Threads,
-    root: NodeId,
-    node: NodeId,
-) -> NodeId {
+fn full_before<A: Kept>(parts: &Parts<A>, threads: &Threads, root: NodeId, node: NodeId) -> NodeId {
     let mut parent = parent_of(parts, node);
     let depth = depth_of(parts, parent);
     let mut kids = kids_of(parts, parent);

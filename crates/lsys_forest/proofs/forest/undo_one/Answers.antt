@@ -1,4 +1,4 @@
-use Rattle.lsys_forest.specs.Stocks.{nodes_of, changes_of}
+use Rattle.lsys_forest.specs.Stocks.{nodes_of}
 use Rattle.lsys_forest.proofs.CallLemmas.{undone_or_not}
 use Rattle.lsys_forest.proofs.forest.undo_one.Goals as goal
 

@@ -1,4 +1,4 @@
-use Rattle.std.proofs.Common.{◌≡◌, ℕ, List, Option, Some, None, sym, ap, ◌∙◌, refl, subst, true, false, arith}
+use Rattle.std.proofs.Common.{◌≡◌, ℕ, List, Option, Some, None, sym, ap, ◌∙◌, refl, subst, false, arith}
 use Rattle.std.specs.Prelude.{IsTrue, IfSome, is_some, option_map, slice_get}
 use Rattle.lsys_forest.specs.Stocks.{nodes_of, row_at, node_of}
 use Rattle.lsys_forest.specs.Groves.{In, AreRising}

@@ -6,7 +6,7 @@ use Rattle.lsys_forest.specs.Stocks.{nodes_of, changes_of}
 use Rattle.lsys_forest.specs.Answers.{answers}
 use Rattle.lsys_forest.specs.Sweeps.{IsSwept}
 use Rattle.lsys_forest.proofs.AnswerLemmas.{follows_on}
-use Rattle.lsys_forest.proofs.CallLemmas.{ring_same, ring_then}
+use Rattle.lsys_forest.proofs.CallLemmas.{ring_then}
 use Rattle.lsys_forest.proofs.sweep.sweep_hand.Goals as goal
 
 pub loop-place-preserved : goal.loop-place-preserved

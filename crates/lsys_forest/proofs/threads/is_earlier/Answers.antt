@@ -1,7 +1,5 @@
-use Rattle.std.proofs.Common.{◌≡◌, ◌≢◌, ◌-◌, ◌<◌, ◌⊎◌, ℕ, suc, sym, ap, ◌∙◌, subst, arith, inl, inr}
-use Rattle.std.specs.Prelude.{IsTrue}
+use Rattle.std.proofs.Common.{◌≡◌, ◌≢◌, ◌-◌, suc, sym, ◌∙◌, subst, arith, inl, inr}
 use Rattle.lsys_forest.specs.Stocks.{nodes_of}
-use Rattle.lsys_forest.specs.Groves.{place_in}
 use Rattle.lsys_forest.specs.Threads.{parent_in, IsEarlier}
 use Rattle.lsys_forest.proofs.OrderLemmas.{earlier_up, earlier_here}
 use Rattle.lsys_forest.proofs.threads.is_earlier.Goals as goal

@@ -1,9 +1,7 @@
-use Rattle.std.specs.Prelude.{◌↔◌, IsSome, IsTrue}
-use Rattle.std.proofs.Common.{◌≡◌, ◌-◌, ℕ, suc, false, refl, sym, ap, ◌∙◌, subst, arith}
-use Rattle.lsys_forest.specs.Nodes.{Node}
+use Rattle.std.specs.Prelude.{IsSome}
+use Rattle.std.proofs.Common.{◌≡◌, ◌-◌, suc, refl, sym, ap, ◌∙◌, subst, arith}
 use Rattle.lsys_forest.specs.Stocks.{nodes_of, changes_of}
 use Rattle.lsys_forest.specs.Rows.{depth_in}
-use Rattle.lsys_forest.specs.Sweeps.{IsLinked}
 use Rattle.lsys_forest.specs.Threads.{parent_in, IsOnLevel}
 use Rattle.lsys_forest.proofs.SoundLemmas.{some_of}
 use Rattle.lsys_forest.proofs.OrderLemmas.{deep_up, top_root}
@@ -18,10 +16,10 @@ returns-then-is_loose g c =
     let size : was.left ≡ suc (was.left - 1) = omega (arith, c.loop-left-test.true) in (
       λ h. absurd (grind (arith, h)),
       λ h. (
-      let on = subst (λ d. IsOnLevel m c.args.root d was.at) size (was.invariant.same.1 h) in
-      let linked = level_linked c.args.root (changes_of c.args.parts.now) m c.requires.sound (was.left - 1) was.at s.0 s.1 on in
-      absurd (c.is_loose.ensures.apart s.0 c.if-is_loose.true s.1 (λ n is. (c.requires.sound.own s.0.parent n is).rising) linked)
-      ),
+          let on = subst (λ d. IsOnLevel m c.args.root d was.at) size (was.invariant.same.1 h) in
+          let linked = level_linked c.args.root (changes_of c.args.parts.now) m c.requires.sound (was.left - 1) was.at s.0 s.1 on in
+          absurd (c.is_loose.ensures.apart s.0 c.if-is_loose.true s.1 (λ n is. (c.requires.sound.own s.0.parent n is).rising) linked)
+          ),
     )
 
 pub loop-left-preserved : goal.loop-left-preserved

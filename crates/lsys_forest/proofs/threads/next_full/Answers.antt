@@ -1,10 +1,9 @@
-use Rattle.std.proofs.Common.{◌≡◌, ◌≢◌, ◌+◌, ◌-◌, ℕ, suc, List, sym, ap, ◌∙◌, subst, arith}
-use Rattle.std.specs.Prelude.{IsTrue, IsSome}
+use Rattle.std.proofs.Common.{◌≡◌, ◌≢◌, ◌+◌, ◌-◌, suc, sym, ap, ◌∙◌, subst, arith}
 use Rattle.lsys_forest.specs.Stocks.{nodes_of, changes_of}
 use Rattle.lsys_forest.specs.Slots.{live_slots}
-use Rattle.lsys_forest.specs.Groves.{In, IsSound}
-use Rattle.lsys_forest.specs.Rows.{depth_in, level_nodes}
-use Rattle.lsys_forest.specs.Threads.{IsOnLevel, IsHop, IsFull}
+use Rattle.lsys_forest.specs.Groves.{IsSound}
+use Rattle.lsys_forest.specs.Rows.{depth_in}
+use Rattle.lsys_forest.specs.Threads.{IsOnLevel, IsHop}
 use Rattle.lsys_forest.proofs.ThreadLemmas.{full_fits, level_other}
 use Rattle.lsys_forest.proofs.HopLemmas.{full_live, rest_reached, hop_start, hop_end, hop_out, hop_at, hop_off, hop_found, hop_on}
 use Rattle.lsys_forest.proofs.threads.next_full.Goals as goal

@@ -1,8 +1,7 @@
-use Rattle.std.proofs.Common.{◌≡◌, ◌≢◌, ◌+◌, ◌-◌, ◌/◌, ◌<◌, ◌≤◌, ℕ, Some, length, slice_get, refl, sym, ap, ◌∙◌, arith, inl, inr}
+use Rattle.std.proofs.Common.{◌≡◌, ◌+◌, ◌-◌, ◌/◌, ◌<◌, Some, length, slice_get, refl, sym, ap, ◌∙◌, arith, inl, inr}
 use Rattle.std.proofs.lemmas.Option.{slice_get_read, same_Some}
 use Rattle.std.proofs.lemmas.Bool.{cases_lt}
 use Rattle.lsys_forest.specs.Stocks.{nodes_of}
-use Rattle.lsys_forest.specs.Groves.{place_in}
 use Rattle.lsys_forest.proofs.WalkLemmas.{In_at, rising_at}
 use Rattle.lsys_forest.proofs.walk.position.Goals as goal
 

@@ -1,4 +1,4 @@
-use Rattle.std.proofs.Common.{[], length, Some, None, refl, sym, ap, ◌∙◌, subst, arith}
+use Rattle.std.proofs.Common.{length, Some, None, refl, sym, ap, ◌∙◌, subst, arith}
 use Rattle.lsys_forest.specs.Nodes.{root_node}
 use Rattle.lsys_forest.specs.Stocks.{nodes_of}
 use Rattle.lsys_forest.specs.Groves.{AreSound}

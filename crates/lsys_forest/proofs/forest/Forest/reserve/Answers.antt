@@ -1,5 +1,4 @@
-use Rattle.std.proofs.Common.{◌+◌, ◌<◌, ◌^◌, sym, ap, subst, arith}
-use Rattle.lsys_forest.specs.Slots.{live_slots}
+use Rattle.std.proofs.Common.{◌+◌, ◌<◌, ◌^◌, sym, subst, arith}
 use Rattle.lsys_forest.specs.Groves.{Grove, live_nodes}
 use Rattle.lsys_forest.proofs.CallLemmas.{room_threads}
 use Rattle.lsys_forest.proofs.GroveLemmas.{IsGrove-room}
