@@ -149,9 +149,11 @@ module _ {A : Type 0} where
   pub first_step : (m m' : Nodes A) (root : ℕ) (ks : List ℕ) (xs : List Symbol) (i k : ℕ) (x : Symbol) (top born : Node A) → AreGrown m root 0 ks (take i xs) → i < length xs → x ≡ get_or xs i x → m root ≡ Some top → m k ≡ None → born.parent ≡ root → born.place ≡ i → born.seen ≡ seen_in x → born.kids ≡ [] → m' ≡ put m k (Some born) → AreGrown m' root 0 (ks ++ k ∷ []) (take (i + 1) xs) × (m' root ≡ Some top)
   first_step m m' root ks xs i k x top born grown within is there vacant parent place seen kids e =
       let far : (j : ℕ) (n : Node A) → m j ≡ Some n → m' j ≡ Some n = λ j n live. ap (λ (f : Nodes A). f j) e ∙ put_other m k j (Some born) (λ same. none-some n (sym vacant ∙ sym (ap m same) ∙ live)) ∙ live in
-      let other : k ≢ root = λ same. none-some top (sym vacant ∙ ap m same ∙ there) in
-      (subst (AreGrown m' root 0 (ks ++ k ∷ [])) (sym (take_next xs i x within is)) (grown_push m' root 0 ks (take i xs) k i x (grown_kept m m' root 0 ks (take i xs) (λ j n ne live. far j n live) grown) (let l = take_long xs i (omega (arith, within)) in omega (arith, l))
-      (record { node = born; is = ap (λ (f : Nodes A). f k) e ∙ put_same m k k (Some born) refl; parent = parent; place_is = place; seen = seen; kids = kids; other = other })), far root top there)
+      let other : k ≢ root = λ same. none-some top (sym vacant ∙ ap m same ∙ there) in (
+        subst (AreGrown m' root 0 (ks ++ k ∷ [])) (sym (take_next xs i x within is)) (grown_push m' root 0 ks (take i xs) k i x (grown_kept m m' root 0 ks (take i xs) (λ j n ne live. far j n live) grown) (let l = take_long xs i (omega (arith, within)) in omega (arith, l))
+            (record { node = born; is = ap (λ (f : Nodes A). f k) e ∙ put_same m k k (Some born) refl; parent = parent; place_is = place; seen = seen; kids = kids; other = other })),
+        far root top there,
+      )
 
   -- 2. the second level
 
@@ -257,7 +259,7 @@ module _ {A : Type 0} where
         whole = whole ∙ sym (append_assoc h.done (k ∷ []) left);
         reached = omega (arith, length_last h.done k, h.reached);
         second = subst (AreSeen m2 (flat (λ j. kids_in (m2 j)) (h.done ++ k ∷ []))) (sym symbols) (subst (λ l. AreSeen m2 l (drop 1 (take at xs) ++ x ∷ [])) (sym flat_is)
-        (seen_push m2 (flat (λ j. kids_in (m j)) h.done) (drop 1 (take at xs)) c x (seen_kept m m2 (flat (λ j. kids_in (m j)) h.done) (drop 1 (take at xs)) keeps h.second) (record { node = born; is = at_c; seen = seen })));
+            (seen_push m2 (flat (λ j. kids_in (m j)) h.done) (drop 1 (take at xs)) c x (seen_kept m m2 (flat (λ j. kids_in (m j)) h.done) (drop 1 (take at xs)) keeps h.second) (record { node = born; is = at_c; seen = seen })));
         none = λ j i. kids_far j (back j i) (λ same. parts.1.0 (subst (λ u. In u left) same i)) ∙ h.none j (subst (In j) (sym here) (inr i));
       }
     where

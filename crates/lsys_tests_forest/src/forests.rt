@@ -48,13 +48,13 @@ fn grow(
     ensures fresh { IfOk result (λ k. now_of forest.old k ≡ None) }
     ensures added { IfOk result (λ k. (p : Node Mark) → now_of forest.old parent ≡ Some p
         → now_of forest.new ≡ put (now_of forest.old) k (Some (record {
-            parent = parent;
-            place = place;
-            depth = p.depth + 1;
-            seen = seen_in symbol.now;
-            key = 0;
-            kids = [];
-            answer = None;
+          parent = parent;
+          place = place;
+          depth = p.depth + 1;
+          seen = seen_in symbol.now;
+          key = 0;
+          kids = [];
+          answer = None;
         }))) }
 {
     let params = match symbol {

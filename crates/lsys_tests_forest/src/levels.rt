@@ -56,7 +56,11 @@ pub(crate) fn contexts_that_skip() -> [Symbol; 23]
 
 /// The tags of a level from the left to the right, each behind it that of its mate (a module has its own); and then the
 /// tags from the right to the left.
-pub(crate) fn walk<W: LevelView>(alloc: Global, view: &W, level: u32) -> Result<Vec<u32>, AllocError>
+pub(crate) fn walk<W: LevelView>(
+    alloc: Global,
+    view: &W,
+    level: u32,
+) -> Result<Vec<u32>, AllocError>
     requires { level < length (W.levels view.now) }
 {
     let mut read = Vec::new(alloc);
@@ -85,4 +89,3 @@ fn mate_of<W: LevelView>(view: &W, spot: W::Spot) -> W::Spot
         _ => view.mate(spot),
     }
 }
-
