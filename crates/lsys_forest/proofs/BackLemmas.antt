@@ -1,6 +1,6 @@
 -- What undoing a change and taking one up do to the nodes and to the other changes.
 use Rattle.std.proofs.Common.{◌≡◌, ◌≤◌, ◌<◌, ◌+◌, ℕ, ℤ, zero, suc, List, [], ◌∷◌, ◌++◌, length, set, Option, Some, None, refl, sym, ap, ◌∙◌, arith, subst}
-use Rattle.std.specs.Prelude.{option_map}
+use Rattle.std.specs.Prelude.{option_map, slice_get}
 use Rattle.std.specs.Option.{option_and_then}
 use Rattle.std.proofs.lemmas.List.{length-set}
 use Rattle.lsys_region.proofs.ListLemmas.{slice_get-push_old, slice_get-push_new}
@@ -13,7 +13,7 @@ use Rattle.lsys_forest.specs.Slots.{slot_at, live_slots, change_slot, kind_set, 
 use Rattle.lsys_forest.specs.Nodes.{Node, Nodes, change, seen_as, with_seen, with_key, with_kids, with_answer}
 use Rattle.lsys_forest.specs.Changes.{Before, Missing, OldSeen, OldKey, OldKids, OldAnswer, Change, undo}
 use Rattle.lsys_forest.specs.Answers.{answer_of, old_answer}
-use Rattle.lsys_forest.specs.Stocks.{row_at, node_of, told, param_lists, kid_lists, param_count, kid_count, IsStock, UndoesParams, UndoesKids, undone_slots, slot_answer, dropped_slot, dropped, looked, DropsParams, TakesKids, noted_answer, named}
+use Rattle.lsys_forest.specs.Stocks.{row_at, first_of, before_of, params_left, kids_left, node_of, told, param_lists, kid_lists, param_count, kid_count, IsStock, UndoesParams, UndoesKids, undone_slots, slot_answer, dropped_slot, dropped, looked, DropsParams, TakesKids, noted_answer, named}
 use Rattle.lsys_forest.proofs.SlotLemmas.{live_change, live_gone, slot_some}
 use Rattle.lsys_forest.proofs.StockLemmas.{get_same, get_other, change_other, change_long, shown_nodes, AgreeBut, nodes_put, told_plain, told_param, told_kid, param_count_push, kid_count_push}
 
@@ -30,6 +30,33 @@ option_twice f g f' g' same None = refl
 option_twice f g f' g' same (Some x) = ap Some (same x)
 
 module _ {A : Type 0} where
+  -- the last change is of the node that the last note is of
+  pub told_last : (notes : List (Note A)) (ps : List (List ℤ)) (ks : List (List ℕ)) (i : ℕ) (n : Note A) (earlier : List (Change A)) (c : Change A) → i + 1 ≡ length notes → slice_get notes i ≡ Some n → told notes ps ks ≡ earlier ++ c ∷ [] → c.node ≡ n.node
+  told_last [] ps ks i n earlier c long here e = absurd (omega (arith, long))
+  told_last (m ∷ []) ps ks zero n [] c long here e =
+      let change : Change A = record { node = m.node; before = before_of m.was (first_of ps) (first_of ks) } in
+      let f : change ≡ c = cc in
+      let g : m ≡ n = cc in
+      ap (λ (x : Change A). x.node) (sym f) ∙ ap (λ (x : Note A). x.node) g
+  told_last (m ∷ []) ps ks zero n (d ∷ earlier) c long here e = absurd (some_behind earlier c cc)
+    where
+      some_behind : (xs : List (Change A)) (x : Change A) → [] ≡ xs ++ x ∷ [] → ⊥
+      some_behind [] x f = cc
+      some_behind (y ∷ xs) x f = cc
+  told_last (m ∷ []) ps ks (suc i) n earlier c long here e = absurd (omega (arith, long))
+  told_last (m ∷ o ∷ notes) ps ks zero n earlier c long here e = absurd (omega (arith, long))
+  told_last (m ∷ o ∷ notes) ps ks (suc i) n [] c long here e = cc
+  told_last (m ∷ o ∷ notes) ps ks (suc i) n (d ∷ earlier) c long here e =
+      let f : told (o ∷ notes) (params_left m.was ps) (kids_left m.was ks) ≡ earlier ++ c ∷ [] = cc in
+      told_last (o ∷ notes) (params_left m.was ps) (kids_left m.was ks) i n earlier c (omega (arith, long)) here f
+
+  pub undone_long : (w : Was A) (k : ℕ) (slots : List (Option (Stored A))) → length (undone_slots w k slots) ≡ length slots
+  undone_long was.Missing k slots = length-set slots k None
+  undone_long (was.Kind x) k slots = change_long (kind_set x) slots k
+  undone_long (was.Key x) k slots = change_long (key_set x) slots k
+  undone_long was.Kids k slots = refl
+  undone_long (was.Answer x) k slots = change_long (answer_set x) slots k
+
   -- one node changed, in its slot or in its lists
   pub nodes_change : (f : Stored A → Stored A) (g : Node A → Node A) (k : ℕ) (slots slots' : List (Option (Stored A))) (params params' : List (List ℤ)) (kids kids' : List (List ℕ)) → AgreeBut k slots slots' params params' kids kids' → slot_at slots' k ≡ option_map f (slot_at slots k) → ((s : Stored A) → node_of (row_at params' k) (row_at kids' k) (f s) ≡ g (node_of (row_at params k) (row_at kids k) s)) → shown_nodes slots' params' kids' ≡ change g (shown_nodes slots params kids) k
   nodes_change f g k slots slots' params params' kids kids' agree here same =

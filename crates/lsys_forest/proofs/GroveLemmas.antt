@@ -4,20 +4,26 @@ use Rattle.std.proofs.lemmas.Bool.{cases_eq}
 use Rattle.lsys_forest.proofs.StockLemmas.{put_same, put_other}
 use Rattle.std.proofs.lemmas.Option.{none-some, same_Some}
 use Rattle.lsys_forest.specs.Nodes.{Node, Nodes, put, root_node}
-use Rattle.lsys_forest.specs.Changes.{Before, Missing, Change, undone}
+use Rattle.lsys_forest.specs.Changes.{Before, Missing, Change, undo, undone}
 use Rattle.lsys_forest.specs.Stocks.{Stock, nodes_of, changes_of, Journals, KeepsRoom}
 use Rattle.lsys_forest.specs.Slots.{live_slots}
-use Rattle.lsys_forest.specs.Groves.{HasFew, AreKids, IsSound, IsGrove}
-use Rattle.lsys_forest.proofs.SoundLemmas.{IsSet, set_sound, set_rest, IsSound-add, put_back, rest_kept}
+use Rattle.lsys_forest.specs.Groves.{HasFew, AreKids, IsSound, AreSound, IsGrove}
+use Rattle.lsys_forest.proofs.SoundLemmas.{IsSet, set_sound, set_rest, set_back, IsSound-add, put_back, rest_kept, AreSound-push, AreSound-rest, AreSound-now, AreSound-then}
 
 module _ {A : Type 0} where
+  pub sound_now : {stock : Stock A} {root nodes notes : ℕ} → IsGrove stock root nodes notes → IsSound root (changes_of stock) (nodes_of stock)
+  sound_now {stock = stock} {root = root} grove = AreSound-now root (changes_of stock) (nodes_of stock) grove.sound
+
+  pub sound_rest : {stock : Stock A} {root nodes notes : ℕ} → IsGrove stock root nodes notes → IsSound root [] (undone (changes_of stock) (nodes_of stock))
+  sound_rest {stock = stock} {root = root} grove = AreSound-then root (changes_of stock) (nodes_of stock) grove.sound
+
   pub IsGrove-set : (old new : Stock A) (root nodes notes left k : ℕ) (was n : Node A) (before : Before A) (params kids : ℕ) → IsSet root (changes_of old) (record { node = k; before = before }) (nodes_of old) k was n → Journals old new k (Some n) before 0 params kids → left + 1 ≡ notes → IsGrove old root nodes notes → IsGrove new root nodes left
   IsGrove-set old new root nodes notes left k was n before params kids set j fewer grove =
       let c : Change A = record { node = k; before = before } in
-      let rest = ap (undone (changes_of new)) j.nodes ∙ set_rest root (changes_of old) (changes_of new) c (nodes_of old) k was n set j.noted in
       record {
-        now = subst (λ (m : Nodes A). IsSound root (changes_of new) m) (sym j.nodes) (subst (λ (cs : List (Change A)). IsSound root cs (put (nodes_of old) k (Some n))) (sym j.noted) (set_sound root (changes_of old) c (nodes_of old) k was n set grove.now));
-        rest = subst (IsSound root []) (sym rest) grove.rest;
+        sound =
+            AreSound-push root (changes_of old) (changes_of new) c (nodes_of old) (nodes_of new) j.noted (ap (undo c) j.nodes ∙ set_back root (changes_of old) c (nodes_of old) k was n set)
+            (subst (λ (m : Nodes A). IsSound root (changes_of new) m) (sym j.nodes) (subst (λ (cs : List (Change A)). IsSound root cs (put (nodes_of old) k (Some n))) (sym j.noted) (set_sound root (changes_of old) c (nodes_of old) k was n set (sound_now grove)))) grove.sound;
         nodes_left = omega (arith, j.live, j.capacity, grove.nodes_left);
         numbers = omega (arith, j.live, grove.numbers);
         places_left = omega (arith, j.live, j.notes, j.places, fewer, grove.places_left);
@@ -35,8 +41,9 @@ module _ {A : Type 0} where
   IsGrove-add old new root nodes less notes left k n parent params kids vacant is depth none few j fewer lower grove =
       let c : Change A = record { node = k; before = Missing } in
       record {
-        now = subst (λ (m : Nodes A). IsSound root (changes_of new) m) (sym j.nodes) (subst (λ (cs : List (Change A)). IsSound root cs (put (nodes_of old) k (Some n))) (sym j.noted) (IsSound-add root (changes_of old) c (nodes_of old) k n parent vacant is depth none few (inl refl) grove.now));
-        rest = subst (IsSound root []) (sym (add_rested old new k n params kids vacant j)) grove.rest;
+        sound =
+            AreSound-push root (changes_of old) (changes_of new) c (nodes_of old) (nodes_of new) j.noted (ap (λ (m : Nodes A). put m k None) j.nodes ∙ put_back (nodes_of old) k None (Some n) vacant)
+            (subst (λ (m : Nodes A). IsSound root (changes_of new) m) (sym j.nodes) (subst (λ (cs : List (Change A)). IsSound root cs (put (nodes_of old) k (Some n))) (sym j.noted) (IsSound-add root (changes_of old) c (nodes_of old) k n parent vacant is depth none few (inl refl) (sound_now grove)))) grove.sound;
         nodes_left = omega (arith, j.live, j.capacity, fewer, grove.nodes_left);
         numbers = omega (arith, j.live, fewer, grove.numbers);
         places_left = omega (arith, j.live, j.notes, j.places, fewer, lower, grove.places_left);
@@ -44,8 +51,7 @@ module _ {A : Type 0} where
 
   pub IsGrove-room : (old new : Stock A) (root nodes notes more more' : ℕ) → nodes_of new ≡ nodes_of old → changes_of new ≡ changes_of old → length new.notes ≡ length old.notes → live_slots new.slots ≡ live_slots old.slots → live_slots new.slots + more ≤ new.capacity → live_slots new.slots + more < 2 ^ 32 → length new.notes + live_slots new.slots + more + more' ≤ new.places → IsGrove old root nodes notes → IsGrove new root more more'
   IsGrove-room old new root nodes notes more more' same kept long live cap numbers places grove = record {
-    now = subst (λ (m : Nodes A). IsSound root (changes_of new) m) (sym same) (subst (λ (cs : List (Change A)). IsSound root cs (nodes_of old)) (sym kept) grove.now);
-    rest = subst (IsSound root []) (sym (ap (undone (changes_of new)) same ∙ ap (λ (cs : List (Change A)). undone cs (nodes_of old)) kept)) grove.rest;
+    sound = subst (λ (m : Nodes A). AreSound root (changes_of new) m) (sym same) (subst (λ (cs : List (Change A)). AreSound root cs (nodes_of old)) (sym kept) grove.sound);
     nodes_left = cap;
     numbers = numbers;
     places_left = places;
@@ -54,8 +60,7 @@ module _ {A : Type 0} where
   -- after all changes were undone, or taken up
   pub IsGrove-rest : (old new : Stock A) (root nodes notes : ℕ) → IsSound root [] (nodes_of new) → changes_of new ≡ [] → length new.notes ≡ 0 → live_slots new.slots ≤ live_slots old.slots → KeepsRoom old new → IsGrove old root nodes notes → IsGrove new root nodes notes
   IsGrove-rest old new root nodes notes sound none short live room grove = record {
-    now = subst (λ (cs : List (Change A)). IsSound root cs (nodes_of new)) (sym none) sound;
-    rest = subst (IsSound root []) (sym (ap (λ (cs : List (Change A)). undone cs (nodes_of new)) none)) sound;
+    sound = subst (λ (cs : List (Change A)). AreSound root cs (nodes_of new)) (sym none) (AreSound-rest root (nodes_of new) sound);
     nodes_left = omega (arith, live, room.capacity, grove.nodes_left);
     numbers = omega (arith, live, grove.numbers);
     places_left = omega (arith, live, short, room.places, grove.places_left);

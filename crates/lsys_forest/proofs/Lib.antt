@@ -11,3 +11,10 @@ pub mod RowLemmas
 pub mod WalkLemmas
 pub mod ViewLemmas
 pub mod MateLemmas
+pub mod RingLemmas
+pub mod OrderLemmas
+pub mod HopLemmas
+pub mod GapLemmas
+pub mod TurnLemmas
+pub mod ThreadLemmas
+pub mod CallLemmas

@@ -165,6 +165,13 @@ module _ {A : Type 0} where
       go None e = tt
       go (Some n) e = rising_apart m n.kids (sound.own p n e).rising
 
+  pub kids_rising : (root : ℕ) (changes : List (Change A)) (m : Nodes A) → IsSound root changes m → (p : ℕ) → AreRising m (kids_in (m p))
+  kids_rising root changes m sound p = go (m p) refl
+    where
+      go : (o : Option (Node A)) → m p ≡ o → AreRising m (kids_in o)
+      go None e = tt
+      go (Some n) e = (sound.own p n e).rising
+
   -- a node of a level, with its parent
   pub record IsChild (m : Nodes A) (p k : ℕ) : Type 0 where
     pub above : Node A

@@ -1,19 +1,46 @@
 -- Changes of one node keep a forest sound, and its last rest.
-use Rattle.std.proofs.Common.{◌≡◌, ◌≢◌, ◌⊎◌, ◌+◌, ℕ, List, [], ◌∷◌, ◌++◌, Option, Some, None, refl, sym, ap, ◌∙◌, arith, inl, inr, subst}
+use Rattle.std.proofs.Common.{◌≡◌, ◌≢◌, ◌⊎◌, ◌+◌, ℕ, List, [], ◌∷◌, ◌++◌, Option, Some, None, refl, sym, ap, ◌∙◌, arith, inl, inr, subst, append_assoc}
 use Rattle.std.specs.Prelude.{IsSome, option_map}
 use Rattle.std.proofs.Math.Path.{fun_ext}
 use Rattle.std.proofs.lemmas.Bool.{cases_eq}
+use Rattle.std.proofs.lemmas.List.{append-nil}
 use Rattle.std.proofs.lemmas.Option.{none-some, same_Some}
 use Rattle.lsys_level.specs.Spots.{Seen}
 use Rattle.lsys_forest.specs.Nodes.{Node, Nodes, put, change, with_seen, with_key, with_kids, with_answer}
 use Rattle.lsys_forest.specs.Changes.{OldSeen, OldKey, OldKids, OldAnswer, Change, undo, undone}
 use Rattle.lsys_forest.specs.Stocks.{looked}
-use Rattle.lsys_forest.specs.Groves.{In, place_in, HasFew, IsUnder, AreRising, AreKids, Named, IsHeld, IsSound}
+use Rattle.lsys_forest.specs.Groves.{In, place_in, HasFew, IsUnder, AreRising, AreKids, Named, IsHeld, IsSound, AreSound}
 use Rattle.lsys_forest.proofs.StockLemmas.{put_same, put_other}
 
 pub some_of : {X : Type 0} (o : Option X) → IsSome o → (x : X) × (o ≡ Some x)
 some_of (Some x) h = (x, refl)
 some_of None h = absurd (grind (arith, h))
+
+tails_same : {X : Type 0} (x y : X) (xs ys : List X) → x ∷ xs ≡ y ∷ ys → xs ≡ ys
+tails_same x y xs ys e = cc
+
+heads_same : {X : Type 0} (x y : X) (xs ys : List X) → x ∷ xs ≡ y ∷ ys → x ≡ y
+heads_same x y xs ys e = cc
+
+never_empty : {X : Type 0} (x : X) (xs : List X) → [] ≡ x ∷ xs → ⊥
+never_empty x xs e = cc
+
+-- how a list that ends with one is split: behind it, or before it
+both_empty : {X : Type 0} (xs ys : List X) → [] ≡ xs ++ ys → (xs ≡ []) × (ys ≡ [])
+both_empty [] ys e = (refl, sym e)
+both_empty (x ∷ xs) ys e = absurd (never_empty x (xs ++ ys) e)
+
+split_push : {X : Type 0} (xs ys cs : List X) (c : X) → cs ++ c ∷ [] ≡ xs ++ ys → ((ys ≡ []) × (xs ≡ cs ++ c ∷ [])) ⊎ ((zs : List X) × (ys ≡ zs ++ c ∷ []) × (cs ≡ xs ++ zs))
+split_push [] ys cs c e = inr (cs, sym e, refl)
+split_push {X = X} (x ∷ xs) ys [] c e =
+    let none = both_empty xs ys (tails_same c x [] (xs ++ ys) e) in
+    inl (none.1, ap (λ (l : List X). x ∷ l) none.0 ∙ ap (λ (z : X). z ∷ []) (sym (heads_same c x [] (xs ++ ys) e)))
+split_push {X = X} (x ∷ xs) ys (d ∷ cs) c e =
+    let same = heads_same d x (cs ++ c ∷ []) (xs ++ ys) e in
+    elim (split_push xs ys cs c (tails_same d x (cs ++ c ∷ []) (xs ++ ys) e)) [
+      | inl r ↦ inl (r.0, ap (λ (l : List X). x ∷ l) r.1 ∙ ap (λ (z : X). z ∷ (cs ++ c ∷ [])) (sym same))
+      | inr r ↦ inr (r.0, r.1, ap (λ (l : List X). d ∷ l) r.2 ∙ ap (λ (z : X). z ∷ (xs ++ r.0)) same)
+    ]
 
 module _ {A : Type 0} where
   -- 1. the last rest
@@ -204,3 +231,30 @@ module _ {A : Type 0} where
   pub set_rest : (root : ℕ) (changes later : List (Change A)) (c : Change A) (m : Nodes A) (k : ℕ) (old new : Node A) → IsSet root changes c m k old new → later ≡ changes ++ c ∷ [] → undone later (put m k (Some new)) ≡ undone changes m
   unfolding IsSet
   set_rest root changes later c m k old new set pushed = rest_kept changes later c m (put m k (Some new)) pushed set.3
+
+  pub set_back : (root : ℕ) (changes : List (Change A)) (c : Change A) (m : Nodes A) (k : ℕ) (old new : Node A) → IsSet root changes c m k old new → undo c (put m k (Some new)) ≡ m
+  unfolding IsSet
+  set_back root changes c m k old new set = set.3
+
+  -- 4. before each of the changes
+
+  pub AreSound-push : (root : ℕ) (changes later : List (Change A)) (c : Change A) (old new : Nodes A) → later ≡ changes ++ c ∷ [] → undo c new ≡ old → IsSound root later new → AreSound root changes old → AreSound root later new
+  AreSound-push root changes later c old new pushed back sound were = λ earlier rest whole. elim (split_push earlier rest changes c (sym pushed ∙ whole)) [
+    | inl r ↦ subst (λ cs. IsSound root earlier (undone cs new)) (sym r.0) (subst (λ cs. IsSound root cs new) (pushed ∙ sym r.1) sound)
+    | inr r ↦ subst (IsSound root earlier) (sym (ap (λ cs. undone cs new) r.1 ∙ undone_last r.0 c new ∙ ap (undone r.0) back)) (were earlier r.0 r.2)
+  ]
+
+  pub AreSound-pop : (root : ℕ) (earlier : List (Change A)) (c : Change A) (m : Nodes A) → AreSound root (earlier ++ c ∷ []) m → AreSound root earlier (undo c m)
+  AreSound-pop root earlier c m sound = λ first rest whole.
+      subst (IsSound root first) (undone_last rest c m) (sound first (rest ++ c ∷ []) (ap (λ cs. cs ++ c ∷ []) whole ∙ append_assoc first rest (c ∷ [])))
+
+  pub AreSound-rest : (root : ℕ) (m : Nodes A) → IsSound root [] m → AreSound root [] m
+  AreSound-rest root m sound = λ earlier later whole.
+      let none = both_empty earlier later whole in
+      subst (λ cs. IsSound root cs (undone later m)) (sym none.0) (subst (λ cs. IsSound root [] (undone cs m)) (sym none.1) sound)
+
+  pub AreSound-now : (root : ℕ) (changes : List (Change A)) (m : Nodes A) → AreSound root changes m → IsSound root changes m
+  AreSound-now root changes m sound = sound changes [] (sym (append-nil changes))
+
+  pub AreSound-then : (root : ℕ) (changes : List (Change A)) (m : Nodes A) → AreSound root changes m → IsSound root [] (undone changes m)
+  AreSound-then root changes m sound = sound [] changes refl

@@ -88,6 +88,19 @@ module _ {A : Type 0} where
     | inr e ↦ ap (λ (x : List (Option (Stored A))). slot_at x j) e.1 ∙ get_other slots k j (Some s) None ne
   ]
 
+  pub put_slot_least : (slots : List (Option (Stored A))) (k : ℕ) (s : Stored A) → length (put_slot slots k s) ≤ length slots + 1
+  put_slot_least slots k s = elim (put_cases slots k s) [
+    | inl e ↦ let l = ap length e.1 in omega (arith, l, length_push slots (Some s))
+    | inr e ↦ let l = ap length e.1 in omega (arith, l, length-set slots k (Some s))
+  ]
+
+  -- no number more was given out, or this one, which was the next
+  pub put_slot_grown : (slots : List (Option (Stored A))) (k : ℕ) (s : Stored A) → (length (put_slot slots k s) ≤ length slots) ⊎ (length (put_slot slots k s) ≡ k + 1)
+  put_slot_grown slots k s = elim (put_cases slots k s) [
+    | inl e ↦ inr (let l = ap length e.1 in omega (arith, l, e.0, length_push slots (Some s)))
+    | inr e ↦ inl (let l = ap length e.1 in omega (arith, l, length-set slots k (Some s)))
+  ]
+
   -- the three lists grow alike
   pub put_slot_long : {X : Type 0} (slots : List (Option (Stored A))) (rows : List (List X)) (k : ℕ) (s : Stored A) → length rows ≡ length slots → length (reached rows k) ≡ length (put_slot slots k s)
   put_slot_long slots rows k s same = elim (put_cases slots k s) [

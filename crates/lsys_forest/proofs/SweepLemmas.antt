@@ -1,14 +1,15 @@
 -- A commit leaves exactly the nodes that are reached.
-use Rattle.std.proofs.Common.{◌≡◌, ◌≢◌, ◌⊎◌, ◌+◌, ◌<◌, get_or, Contains, ℕ, zero, suc, List, [], ◌∷◌, ◌++◌, length, Some, None, refl, sym, ap, ◌∙◌, arith, inl, inr, subst}
+use Rattle.std.proofs.Common.{◌≡◌, ◌≢◌, ◌⊎◌, ◌+◌, ℕ, zero, suc, List, [], ◌∷◌, ◌++◌, Some, None, refl, sym, ap, ◌∙◌, arith, inl, inr, subst}
+use Rattle.std.specs.Prelude.{IsSome}
 use Rattle.std.proofs.lemmas.Bool.{cases_eq}
 use Rattle.std.proofs.lemmas.Option.{none-some, same_Some}
 use Rattle.lsys_forest.specs.Nodes.{Node, Nodes, put}
 use Rattle.lsys_forest.specs.Changes.{OldKids, Change}
 use Rattle.lsys_forest.specs.Stocks.{looked}
 use Rattle.lsys_forest.specs.Groves.{In, place_in, ReachedIn, Reached, Named, IsSound}
-use Rattle.lsys_forest.specs.Sweeps.{IsLinked, IsSwept}
+use Rattle.lsys_forest.specs.Sweeps.{IsLinked, AreRisingUnder, IsSwept}
 use Rattle.lsys_forest.proofs.StockLemmas.{put_same, put_other}
-use Rattle.lsys_forest.proofs.SoundLemmas.{Named_more, Named_last, rising_same}
+use Rattle.lsys_forest.proofs.SoundLemmas.{some_of, Named_more, Named_last, rising_same}
 
 later_left : (k y : ℕ) (left : List ℕ) → y ≢ k → In y (k ∷ left) → In y left
 later_left k y left ne h = elim h [
@@ -74,6 +75,19 @@ module _ {A : Type 0} where
             ]
           ]
         ];
+        kids = λ p y o there among. elim (cases_eq p k) [
+          | inl e ↦ absurd (none-some o (sym (put_same m k p None e) ∙ there))
+          | inr ne ↦
+              let was : m p ≡ Some o = sym (put_other m k p None ne) ∙ there in
+              elim (cases_eq y k) [
+                | inl e ↦
+                    let under = (sound.own p o (kept first root m changes (k ∷ left) swept p o was)).under y among in
+                    let same : under.node ≡ n = same_Some under.node n (sym under.is ∙ ap first e ∙ kept first root m changes (k ∷ left) swept k n is) in
+                    let parent_is : n.parent ≡ p = ap (λ (u : Node A). u.parent) (sym same) ∙ under.parent_is in
+                    absurd (apart (record { parent = o; is = ap m parent_is ∙ was; among = subst (λ z. In z o.kids) e among }))
+                | inr far ↦ subst IsSome (sym (put_other m k y None far)) (swept.kids p y o was among)
+              ]
+        ];
       } in
       subst (λ (cs : List (Change A)). IsSwept first root m' cs left) (sym noted) (subst (λ (x : Nodes A). IsSwept first root x (changes ++ c ∷ []) left) (sym removed) done)
 
@@ -91,6 +105,7 @@ module _ {A : Type 0} where
         | inr named ↦ inr (inr named)
       ]
     ];
+    kids = swept.kids;
   }
 
   -- at the start
@@ -101,6 +116,7 @@ module _ {A : Type 0} where
       | inl among ↦ inl (record { parent = h.parent; is = h.is; among = among })
       | inr named ↦ inr (inr named)
     ];
+    kids = λ p k n is among. let u = (sound.own p n is).under k among in subst IsSome (sym u.is) refl;
   }
 
   Named_cases : (changes : List (Change A)) (c : Change A) (x : ℕ) → Named (changes ++ c ∷ []) x → In x (looked c) ⊎ Named changes x
@@ -120,7 +136,20 @@ module _ {A : Type 0} where
         | inr named ↦ inr (Named_cases changes c k named)
       ]
     ];
+    kids = swept.kids;
   }
+
+  -- the places of the children of a node that is left rise
+  pub swept_rising : (first : Nodes A) (root : ℕ) (before : List (Change A)) → IsSound root before first → (m : Nodes A) (changes : List (Change A)) (left : List ℕ) → IsSwept first root m changes left → (p : ℕ) → AreRisingUnder m p
+  swept_rising first root before sound m changes left swept p = λ n is.
+      let was = kept first root m changes left swept p n is in
+      rising_same first m n.kids (λ x among. ap place_in (same x (swept.kids p x n is among))) (sound.own p n was).rising
+    where
+      same : (x : ℕ) → IsSome (m x) → m x ≡ first x
+      same x lives = elim (swept.same x) [
+        | inl e ↦ e
+        | inr gone ↦ absurd (let s = some_of (m x) lives in none-some s.0 (sym gone.0 ∙ s.1))
+      ]
 
   linked_at_end : (first : Nodes A) (root : ℕ) (m : Nodes A) → IsSwept first root m [] [] → (k : ℕ) (n : Node A) → m k ≡ Some n → k ≢ root → IsLinked m k n
   linked_at_end first root m swept k n is other = elim (swept.cover k n is other) [
@@ -187,16 +216,3 @@ module _ {A : Type 0} where
           rising = rising_same first m n.kids (λ x among. ap place_in (same x among)) are.rising;
         };
   }
-
-pub In-Contains : (x : ℕ) (xs : List ℕ) → In x xs → Contains xs x
-In-Contains x [] h = absurd h
-In-Contains x (y ∷ xs) (inl e) = (0, omega arith, sym e)
-In-Contains x (y ∷ xs) (inr h) = let c = In-Contains x xs h in (suc c.0, omega (arith, c.1), c.2)
-
-pub Contains-In : (x : ℕ) (xs : List ℕ) → Contains xs x → In x xs
-Contains-In x [] c = absurd (omega (arith, c.1))
-Contains-In x (y ∷ xs) c = go c.0 c.1 c.2 (λ d. Contains-In x xs d)
-  where
-    go : (k : ℕ) → k < suc (length xs) → get_or (y ∷ xs) k x ≡ x → (Contains xs x → In x xs) → In x (y ∷ xs)
-    go zero within found rec = inl (sym found)
-    go (suc k) within found rec = inr (rec (k, omega arith, found))

@@ -1,12 +1,12 @@
 -- Walks along a level: from child to child, and where a parent has no more from its level's next node that has some.
-use Rattle.std.proofs.Common.{◌≡◌, ◌+◌, ◌-◌, ◌<◌, ◌≤◌, ℕ, zero, suc, List, [], ◌∷◌, ◌++◌, length, slice_get, Option, Some, None, refl, sym, ap, ◌∙◌, arith, inl, inr, subst, append_assoc}
+use Rattle.std.proofs.Common.{◌≡◌, ◌+◌, ◌-◌, ◌<◌, ℕ, zero, suc, List, [], ◌∷◌, ◌++◌, length, slice_get, Option, Some, None, refl, sym, ap, ◌∙◌, arith, inl, inr, subst, append_assoc}
 use Rattle.std.proofs.lemmas.List.{length_push}
 use Rattle.std.proofs.lemmas.Option.{none-some, same_Some}
 use Rattle.lsys_forest.specs.declared.walk.Way.{Way}
 use Rattle.lsys_forest.specs.Nodes.{Node, Nodes}
 use Rattle.lsys_forest.specs.Changes.{Change}
 use Rattle.lsys_forest.specs.Groves.{In, AreApart, place_in, AreRising, IsSound}
-use Rattle.lsys_forest.specs.Rows.{HasAtMost, first_in, index_in, oriented, mirrored, flat, kids_in, level_nodes}
+use Rattle.lsys_forest.specs.Rows.{first_in, index_in, oriented, mirrored, flat, kids_in, level_nodes}
 use Rattle.lsys_forest.proofs.RowLemmas.{In_right, In_split, same_sides, index_of, oriented_In, oriented_In_back, oriented_apart, oriented_flat, flat_around, child, level_apart, level_depth, parent_level, parent_root}
 use Rattle.std.specs.Prelude.{IsSome, option_map}
 use Rattle.std.proofs.Common.{ℤ}
@@ -16,7 +16,7 @@ use Rattle.lsys_forest.proofs.StockLemmas.{shown_nodes, lives_stored}
 
 -- 1. among children
 
-get_In : (xs : List ℕ) (i k : ℕ) → slice_get xs i ≡ Some k → In k xs
+pub get_In : (xs : List ℕ) (i k : ℕ) → slice_get xs i ≡ Some k → In k xs
 get_In [] i k e = absurd (none-some k e)
 get_In (x ∷ xs) zero k e = inl (sym (same_Some x k e))
 get_In (x ∷ xs) (suc i) k e = inr (get_In xs i k e)
@@ -89,7 +89,7 @@ last_first [] = refl
 last_first (x ∷ []) = refl
 last_first (x ∷ y ∷ xs) = (let e : length (x ∷ y ∷ xs) - 1 ≡ suc (length (y ∷ xs) - 1) = omega arith in ap (slice_get (x ∷ y ∷ xs)) e) ∙ last_first (y ∷ xs) ∙ sym (first_more (mirrored (y ∷ xs)) x (omega (arith, mirrored_long (y ∷ xs))))
 
-no_first : (xs : List ℕ) → first_in xs ≡ None → xs ≡ []
+pub no_first : (xs : List ℕ) → first_in xs ≡ None → xs ≡ []
 no_first [] e = refl
 no_first (x ∷ xs) e = absurd (none-some x (sym e))
 
@@ -97,11 +97,11 @@ first_split : (xs : List ℕ) (x : ℕ) → first_in xs ≡ Some x → (rest : L
 first_split [] x e = absurd (none-some x e)
 first_split (y ∷ xs) x e = (xs, ap (λ z. z ∷ xs) (same_Some y x e))
 
-first_append : (xs ys : List ℕ) (x : ℕ) → first_in xs ≡ Some x → first_in (xs ++ ys) ≡ Some x
+pub first_append : (xs ys : List ℕ) (x : ℕ) → first_in xs ≡ Some x → first_in (xs ++ ys) ≡ Some x
 first_append [] ys x e = absurd (none-some x e)
 first_append (y ∷ xs) ys x e = e
 
-In_at : (k : ℕ) (xs : List ℕ) → In k xs → (i : ℕ) × (slice_get xs i ≡ Some k)
+pub In_at : (k : ℕ) (xs : List ℕ) → In k xs → (i : ℕ) × (slice_get xs i ≡ Some k)
 In_at k [] h = absurd h
 In_at k (x ∷ xs) (inl e) = (0, ap Some (sym e))
 In_at k (x ∷ xs) (inr h) = let r = In_at k xs h in (suc r.0, r.1)
@@ -135,24 +135,13 @@ module _ {A : Type 0} where
   abbrev pub kids_that_way : Way → Nodes A → ℕ → List ℕ
   kids_that_way way m k = oriented way (kids_in (m k))
 
-  rising_place : (m : Nodes A) (xs : List ℕ) (low i k : ℕ) → ((y : ℕ) → In y xs → low ≤ place_in (m y)) → AreRising m xs → slice_get xs i ≡ Some k → low + i ≤ place_in (m k)
-  rising_place m [] low i k least rising e = absurd (none-some k e)
-  rising_place m (x ∷ xs) low zero k least rising e = let l = least x (inl refl) in let f = ap (λ (j : ℕ). place_in (m j)) (same_Some x k e) in omega (arith, l, f)
-  rising_place m (x ∷ xs) low (suc i) k least rising e =
-      let rest = rising_place m xs (low + 1) i k (λ y h. let l = least x (inl refl) in let r = rising.0 y h in omega (arith, l, r)) rising.1 e in
-      omega (arith, rest)
-
-  -- a child stands at its place under its parent, or before it
-  pub stands_at_most : (root : ℕ) (changes : List (Change A)) (m : Nodes A) → IsSound root changes m → (p k : ℕ) (n : Node A) → m k ≡ Some n → In k (kids_in (m p)) → HasAtMost k n.place (kids_in (m p))
-  stands_at_most root changes m sound p k n is h = go (m p) refl h
-    where
-      go : (o : Option (Node A)) → m p ≡ o → In k (kids_in o) → HasAtMost k n.place (kids_in o)
-      go None e i = absurd i
-      go (Some above) e i =
-          let at = In_at k above.kids i in
-          let low = rising_place m above.kids 0 at.0 k (λ y j. omega arith) (sound.own p above e).rising at.1 in
-          let f = ap place_in is in
-          (at.0, omega (arith, low, f), at.1)
+  -- of two children the one with the lesser place stands first
+  pub rising_at : (m : Nodes A) (xs : List ℕ) (i j x y : ℕ) → AreRising m xs → i < j → slice_get xs i ≡ Some x → slice_get xs j ≡ Some y → place_in (m x) < place_in (m y)
+  rising_at m [] i j x y rising less e f = absurd (none-some x e)
+  rising_at m (z ∷ xs) zero zero x y rising less e f = absurd (omega (arith, less))
+  rising_at m (z ∷ xs) zero (suc j) x y rising less e f = subst (λ k. place_in (m k) < place_in (m y)) (same_Some z x e) (rising.0 y (get_In xs j y f))
+  rising_at m (z ∷ xs) (suc i) zero x y rising less e f = absurd (omega (arith, less))
+  rising_at m (z ∷ xs) (suc i) (suc j) x y rising less e f = rising_at m xs i j x y rising.1 (omega (arith, less)) e f
 
   -- 2. along a level
 

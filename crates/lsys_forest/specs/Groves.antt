@@ -1,5 +1,5 @@
 -- What a contract sees of a forest.
-use Rattle.std.specs.Prelude.{◌≡◌, ◌≢◌, ◌⊎◌, ◌+◌, ◌<◌, ◌≤◌, ◌^◌, ℕ, zero, suc, List, [], ◌∷◌, length, Option, Some, None, IsSome}
+use Rattle.std.specs.Prelude.{◌≡◌, ◌≢◌, ◌⊎◌, ◌+◌, ◌<◌, ◌≤◌, ◌^◌, ℕ, zero, suc, List, [], ◌∷◌, ◌++◌, length, Option, Some, None, IsSome}
 use Rattle.lsys_level.specs.Spots.{Seen, Push, Pop, Module}
 use Rattle.lsys_forest.specs.Slots.{live_slots}
 use Rattle.lsys_forest.specs.Nodes.{Node, Nodes, put}
@@ -112,10 +112,13 @@ module _ {A : Type 0} where
     pub own : (p : ℕ) (n : Node A) → m p ≡ Some n → AreKids m root p n.kids
     pub few : (k : ℕ) (n : Node A) → m k ≡ Some n → HasFew n.seen
 
+  -- the nodes hang together, as they are and as they were before each of the changes
+  abbrev pub AreSound : ℕ → List (Change A) → Nodes A → Type 0
+  AreSound root changes m = (earlier later : List (Change A)) → changes ≡ earlier ++ later → IsSound root earlier (undone later m)
+
   -- the nodes hang together, as they are and as they were, and there is room
   pub record IsGrove (stock : Stock A) (root spare_nodes spare_notes : ℕ) : Type 0 where
-    pub now : IsSound root (changes_of stock) (nodes_of stock)
-    pub rest : IsSound root [] (undone (changes_of stock) (nodes_of stock))
+    pub sound : AreSound root (changes_of stock) (nodes_of stock)
     pub nodes_left : live_slots stock.slots + spare_nodes ≤ stock.capacity
     pub numbers : live_slots stock.slots + spare_nodes < 2 ^ 32
     pub places_left : length stock.notes + live_slots stock.slots + spare_nodes + spare_notes ≤ stock.places

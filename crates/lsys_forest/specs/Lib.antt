@@ -8,3 +8,4 @@ pub mod Groves
 pub mod Sweeps
 pub mod Rows
 pub mod Mates
+pub mod Threads

@@ -1,5 +1,5 @@
 -- The levels of a forest.
-use Rattle.std.specs.Prelude.{◌≡◌, ℕ, zero, suc, ◌-◌, ◌^◌, cond, nat_eq, List, [], ◌∷◌, ◌++◌, map, slice_get, ◌≤◌, Option, Some, None}
+use Rattle.std.specs.Prelude.{ℕ, zero, suc, ◌-◌, ◌^◌, cond, nat_eq, List, [], ◌∷◌, ◌++◌, map, Option, Some, None}
 use Rattle.lsys_spec.specs.Levels.{level_balanced}
 use Rattle.lsys_level.specs.Spots.{Push, Spotted, level_by}
 use Rattle.lsys_forest.specs.declared.walk.Way.{Way}
@@ -16,10 +16,6 @@ first_in (x ∷ xs) = Some x
 abbrev pub index_in : ℕ → List ℕ → ℕ
 index_in k [] = 0
 index_in k (x ∷ xs) = cond (nat_eq k x) 0 (suc (index_in k xs))
-
--- the number stands among these, at this place or before it
-abbrev pub HasAtMost : ℕ → ℕ → List ℕ → Type 0
-HasAtMost k place xs = (i : ℕ) × (i ≤ place) × (slice_get xs i ≡ Some k)
 
 -- these from the last to the first
 abbrev pub mirrored : List ℕ → List ℕ

@@ -122,13 +122,15 @@ module _ {A : Type 0} where
     pub param_room : old.param_room ≤ new.param_room + params
     pub kid_room : old.kid_room ≤ new.kid_room + kids
     pub hand : new.hand ≡ old.hand
+    pub numbers : length new.slots ≤ length old.slots + born
 
-  -- there is room as before
+  -- there is room as before, and no number more was given out
   pub record KeepsRoom (old new : Stock A) : Type 0 where
     pub capacity : old.capacity ≤ new.capacity
     pub places : old.places ≤ new.places
     pub param_room : old.param_room ≤ new.param_room
     pub kid_room : old.kid_room ≤ new.kid_room
+    pub numbers : length new.slots ≤ length old.slots
 
   -- the answer that is kept no more when the change is undone
   abbrev pub dropped_before : Before A → Option (Node A) → Option A

@@ -1,10 +1,10 @@
 -- How the nodes that are reached no more are removed.
-use Rattle.std.specs.Prelude.{◌≡◌, ◌≢◌, ◌⊎◌, ◌+◌, ◌≤◌, ℕ, List, [], length, Some, None}
+use Rattle.std.specs.Prelude.{◌≡◌, ◌≢◌, ◌⊎◌, ◌+◌, ◌≤◌, ℕ, List, [], length, Some, None, IsSome}
 use Rattle.lsys_forest.specs.Slots.{live_slots}
 use Rattle.lsys_forest.specs.Nodes.{Node, Nodes}
 use Rattle.lsys_forest.specs.Changes.{Change}
 use Rattle.lsys_forest.specs.Stocks.{Stock, nodes_of, changes_of, KeepsRoom}
-use Rattle.lsys_forest.specs.Groves.{In, Reached, Named, IsSound}
+use Rattle.lsys_forest.specs.Groves.{In, AreRising, Reached, Named, IsSound}
 
 module _ {A : Type 0} where
   -- the parent lives and has the node among its children
@@ -13,17 +13,16 @@ module _ {A : Type 0} where
     pub is : m n.parent ≡ Some parent
     pub among : In k parent.kids
 
-  -- the node lives, and is not linked
-  pub record IsLoose (m : Nodes A) (k : ℕ) : Type 0 where
-    pub node : Node A
-    pub is : m k ≡ Some node
-    pub apart : IsLinked m k node → ⊥
+  -- the places of the children of this node rise, if it lives
+  abbrev pub AreRisingUnder : Nodes A → ℕ → Type 0
+  AreRisingUnder m p = (n : Node A) → m p ≡ Some n → AreRising m n.kids
 
   -- What a commit keeps true while it removes nodes from `first`: none that is reached was removed, and each other that is
-  -- left and not linked is among `left`, or a change names it.
+  -- left and not linked is among `left`, or a change names it. The children of a node that is left are left.
   pub record IsSwept (first : Nodes A) (root : ℕ) (m : Nodes A) (changes : List (Change A)) (left : List ℕ) : Type 0 where
     pub same : (k : ℕ) → (m k ≡ first k) ⊎ ((m k ≡ None) × (Reached first root k → ⊥))
     pub cover : (k : ℕ) (n : Node A) → m k ≡ Some n → k ≢ root → IsLinked m k n ⊎ In k left ⊎ Named changes k
+    pub kids : (p k : ℕ) (n : Node A) → m p ≡ Some n → In k n.kids → IsSome (m k)
 
   -- the nodes in `left` were looked at, whatever the forest was first
   abbrev pub SweepsLeft : ℕ → Stock A → Stock A → List ℕ → Type 0

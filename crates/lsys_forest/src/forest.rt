@@ -1,22 +1,24 @@
 //! The forest.
-ghost use Rattle.std.specs.Prelude.{List, ◌∷◌, ◌++◌, ◌≡◌, ◌≢◌, ◌+◌, ◌<◌, ◌≤◌, ◌^◌, ℕ, [], None, Some, IsSome, IfOk, OnOk, option_copied, length};
+ghost use Rattle.std.specs.Prelude.{List, ◌∷◌, ◌++◌, ◌≡◌, ◌≢◌, ◌+◌, ◌<◌, ◌≤◌, ◌^◌, ℕ, [], None, Some, IsSome, IfOk, OnOk, IsTrue, false, option_copied, length};
 ghost use Rattle.lsys_module.specs.declared.symbol.Symbol.TheVariants.{Cut};
 ghost use Rattle.lsys_level.specs.Places.{seen_in, params_in};
 ghost use Rattle.lsys_level.specs.Spots.{IsSpot};
 ghost use Rattle.lsys_region.specs.Rooms.{list_room};
 ghost use Rattle.lsys_forest.specs.Nodes.{Node, root_node, with_seen, with_key, with_kids, with_answer};
 ghost use Rattle.lsys_forest.specs.Slots.{live_slots};
-ghost use Rattle.lsys_forest.specs.Changes.{undone};
-ghost use Rattle.lsys_forest.specs.Stocks.{nodes_of, changes_of, KeepsRoom};
-ghost use Rattle.lsys_forest.specs.Answers.{answers, kept_by, AreMade, Follows, FreesAllBut};
+ghost use Rattle.lsys_forest.specs.Changes.{Change, undone};
+ghost use Rattle.lsys_forest.specs.Stocks.{nodes_of, changes_of, KeepsRoom, Undoes, dropped};
+ghost use Rattle.lsys_forest.specs.Answers.{answers, kept_by, IsMade, Releases, AreMade, Follows, FreesAllBut};
 ghost use Rattle.lsys_forest.specs.Rows.{first_in, oriented, level_nodes, complete_levels, level_of_node, place_of_node};
 ghost use Rattle.lsys_forest.specs.Mates.{mate_way};
-ghost use Rattle.lsys_forest.specs.Groves.{now_of, rest_of, IsAtRest, IsLive, live_nodes, spare_params, spare_kids, kept_in, changes_in, IsSound, Reached, AreKids, Sets, Spends};
+ghost use Rattle.lsys_forest.specs.Threads.{IsThreaded, KeepsLinks};
+ghost use Rattle.lsys_forest.specs.Groves.{now_of, rest_of, IsAtRest, IsLive, live_nodes, spare_params, spare_kids, kept_in, changes_in, IsSound, AreSound, Reached, AreKids, Sets, Spends};
 
 use crate::kept::Kept;
 use crate::node::{Kind, NodeId};
 use crate::stock::Parts;
 use crate::sweep::sweep_all;
+use crate::threads::{Threads, is_full, refit};
 use crate::walk::{Way, beside, first_at, mate_of};
 use lsys_level::{LevelView, Sight, Tag};
 use lsys_module::Symbol;
@@ -27,6 +29,7 @@ use std::marker::Model;
 #[derive(Drop)]
 pub struct Forest<A> {
     parts: Parts<A>,
+    threads: Threads,
     root: NodeId,
     spare_nodes: usize,
     spare_notes: usize,
@@ -34,12 +37,16 @@ pub struct Forest<A> {
 
 impl<A> Model for Forest<A> {
     ghost use Rattle.lsys_forest.specs.Groves.{Grove, IsGrove};
+    ghost use Rattle.lsys_forest.specs.Threads.{AreThreads};
 
     ghost Value = { Grove A };
 
     ghost view = { λ a. record { stock = a.parts; root = a.root; spare_nodes = a.spare_nodes; spare_notes = a.spare_notes } };
 
-    ghost invariant = { λ a. IsGrove a.parts a.root a.spare_nodes a.spare_notes };
+    ghost invariant = { λ a. record {
+      grove : IsGrove a.parts a.root a.spare_nodes a.spare_notes;
+      threads : AreThreads a.threads a.parts a.root a.spare_nodes;
+    } };
 }
 
 impl<A: Kept> Forest<A> {
@@ -55,8 +62,10 @@ impl<A: Kept> Forest<A> {
         ensures live { IfOk result (λ f. live_nodes f ≡ 1) }
     {
         let parts = Parts::of_root(alloc)?;
+        let threads = Threads::of_root(alloc)?;
         Ok(Forest {
             parts,
+            threads,
             root: NodeId(0),
             spare_nodes: 0,
             spare_notes: 0,
@@ -90,6 +99,7 @@ impl<A: Kept> Forest<A> {
         let spare_notes = notes.max(self.spare_notes);
         let places = spare_notes.saturating_add(self.parts.live() + spare_nodes);
         self.parts.reserve(spare_nodes, params, kids, places)?;
+        self.threads.reserve(self.parts.live() + spare_nodes)?;
         self.spare_nodes = spare_nodes;
         self.spare_notes = spare_notes;
         Ok(())
@@ -120,7 +130,9 @@ impl<A: Kept> Forest<A> {
         };
         self.spare_nodes -= 1;
         self.spare_notes -= 1;
-        self.parts.insert(parent, place, depth, symbol, key)
+        let node = self.parts.insert(parent, place, depth, symbol, key);
+        self.threads.reach(node);
+        node
     }
 
     /// Sets the children of a node: nodes of this parent, whose places rise. Nothing else changes. It takes no memory.
@@ -133,7 +145,9 @@ impl<A: Kept> Forest<A> {
         ensures spends { Spends self.old self.new 0 0 (list_room kids.now) 1 }
     {
         self.spare_notes -= 1;
+        let had_some = is_full(&self.parts, node);
         self.parts.set_kids(node, kids);
+        refit(&mut self.threads, &self.parts, self.root, node, had_some);
     }
 
     /// Sets the symbol of a node that is not the root. Nothing else changes. It takes no memory.
@@ -224,7 +238,7 @@ impl<A: Kept> Forest<A> {
         ensures store { FreesAllBut A.run_at A.Holds (kept_in self.old) (kept_by (rest_of self.old)) store.old store.new }
         ensures still { AreMade A.run_at A.Holds store.new (kept_in self.new) }
     {
-        undo_all(&mut self.parts, store);
+        undo_all(&mut self.parts, &mut self.threads, self.root, store);
     }
 
     /// Keeps the forest as it is, as a rest: the nodes that are reached from the root stay node for node, and all others
@@ -239,7 +253,7 @@ impl<A: Kept> Forest<A> {
         ensures store { FreesAllBut A.run_at A.Holds (kept_in self.old) (kept_by (now_of self.new)) store.old store.new }
         ensures still { AreMade A.run_at A.Holds store.new (kept_in self.new) }
     {
-        sweep_all(&mut self.parts, self.root, store);
+        sweep_all(&mut self.parts, &mut self.threads, self.root, store);
     }
 }
 
@@ -251,7 +265,14 @@ impl<A: Kept> Forest<A> {
             ≡ before ++ spot ∷ after → result ≡ first_in after }
         ensures sound { IsSound self.now.root (changes_in self.now) (now_of self.now) }
     {
-        beside(&self.parts, self.root, spot, self.depth(spot), way)
+        beside(
+            &self.parts,
+            &self.threads,
+            self.root,
+            spot,
+            self.depth(spot),
+            way,
+        )
     }
 
     /// How many steps a node of a complete level is below the root.
@@ -278,7 +299,7 @@ impl<A: Kept> LevelView for Forest<A> {
     ghost place_of = { place_of_node };
 
     fn first(&self, level: u32) -> Option<NodeId> {
-        first_at(&self.parts, self.root, level)
+        first_at(&self.parts, &self.threads, self.root, level)
     }
 
     fn left(&self, spot: NodeId) -> Option<NodeId> {
@@ -291,7 +312,14 @@ impl<A: Kept> LevelView for Forest<A> {
 
     fn mate(&self, spot: NodeId) -> NodeId {
         let way = way_to_mate(self.parts.kind(spot));
-        mate_of(&self.parts, self.root, spot, self.depth(spot), way)
+        mate_of(
+            &self.parts,
+            &self.threads,
+            self.root,
+            spot,
+            self.depth(spot),
+            way,
+        )
     }
 
     fn sight(&self, spot: NodeId) -> Sight<'_> {
@@ -329,16 +357,51 @@ fn way_to_mate(kind: Kind) -> Way
 }
 
 /// Undoes each change, the last first.
-fn undo_all<A: Kept>(parts: &mut Parts<A>, store: &mut A::Store)
+fn undo_all<A: Kept>(
+    parts: &mut Parts<A>,
+    threads: &mut Threads,
+    root: NodeId,
+    store: &mut A::Store,
+)
+    requires sound { AreSound root (changes_of parts.old) (nodes_of parts.old) }
+    requires ring { IsThreaded (nodes_of parts.old) (nodes_of parts.old) threads.old root }
     requires made { AreMade A.run_at A.Holds store.old (answers (nodes_of parts.old) (changes_of parts.old)) }
     ensures nodes { nodes_of parts.new ≡ undone (changes_of parts.old) (nodes_of parts.old) }
     ensures empty { changes_of parts.new ≡ [] }
     ensures short { length parts.new.notes ≡ 0 }
     ensures live { live_slots parts.new.slots ≤ live_slots parts.old.slots }
     ensures room { KeepsRoom parts.old parts.new }
+    ensures ring { IsThreaded (nodes_of parts.new) (nodes_of parts.new) threads.new root }
+    ensures links { KeepsLinks threads.old threads.new }
     ensures made { AreMade A.run_at A.Holds store.new (answers (nodes_of parts.new) (changes_of parts.new)) }
     ensures freed { Follows A.run_at A.Holds (answers (nodes_of parts.old) (changes_of parts.old)) store.old
         (answers (nodes_of parts.new) (changes_of parts.new)) store.new }
 {
-    while parts.undo_last(store) {}
+    while undo_one(parts, threads, root, store) {}
+}
+
+/// Undoes the last change, and tells whether there was one.
+fn undo_one<A: Kept>(
+    parts: &mut Parts<A>,
+    threads: &mut Threads,
+    root: NodeId,
+    store: &mut A::Store,
+) -> bool
+    requires sound { AreSound root (changes_of parts.old) (nodes_of parts.old) }
+    requires ring { IsThreaded (nodes_of parts.old) (nodes_of parts.old) threads.old root }
+    requires made { (c : Change A) (earlier : List (Change A)) → changes_of parts.old ≡ earlier ++ c ∷ []
+        → IsMade A.run_at A.Holds store.old (dropped c (nodes_of parts.old)) }
+    ensures undone { IsTrue result → (c : Change A) × Undoes parts.old parts.new c
+        × Releases A.run_at A.Holds (dropped c (nodes_of parts.old)) store.old store.new }
+    ensures none { result ≡ false → (changes_of parts.old ≡ []) × (parts.new ≡ parts.old) × (store.new ≡ store.old) }
+    ensures ring { IsThreaded (nodes_of parts.new) (nodes_of parts.new) threads.new root }
+    ensures links { KeepsLinks threads.old threads.new }
+{
+    let Some(node) = parts.last_changed() else {
+        return false;
+    };
+    let had_some = is_full(parts, node);
+    let undone = parts.undo_last(store);
+    refit(threads, parts, root, node, had_some);
+    undone
 }

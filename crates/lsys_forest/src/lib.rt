@@ -13,6 +13,7 @@ mod note;
 mod stock;
 mod sweep;
 mod table;
+mod threads;
 mod walk;
 
 pub use forest::Forest;

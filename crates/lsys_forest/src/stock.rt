@@ -1,5 +1,5 @@
 //! The parts of a forest: its nodes, their lists, and the journal.
-ghost use Rattle.std.specs.Prelude.{◌≡◌, ◌≢◌, ℕ, ◌+◌, ◌<◌, ◌≤◌, ◌^◌, ◌++◌, ◌∷◌, [], length, List, Some, None, IsSome, IfOk, IfSome, IfNone, IsTrue, OnOk, option_copied, false, vec_len, vec_capacity};
+ghost use Rattle.std.specs.Prelude.{◌≡◌, ◌≢◌, ◌⊎◌, ℕ, ◌+◌, ◌<◌, ◌≤◌, ◌^◌, ◌++◌, ◌∷◌, [], length, List, Some, None, IsSome, IfOk, IfSome, IfNone, IsTrue, OnOk, option_copied, false, vec_len, vec_capacity};
 ghost use Rattle.lsys_module.specs.declared.symbol.Symbol.TheVariants.{Cut};
 ghost use Rattle.lsys_level.specs.Places.{seen_in, params_in};
 ghost use Rattle.lsys_region.specs.Rooms.{list_room};
@@ -76,6 +76,7 @@ impl<A: Drop> Parts<A> {
         ensures changes { IfOk result (λ p. changes_of p ≡ []) }
         ensures notes { IfOk result (λ p. length p.notes ≡ 0) }
         ensures live { IfOk result (λ p. live_slots p.slots ≡ 1) }
+        ensures one { IfOk result (λ p. length p.slots ≡ 1) }
         ensures capacity { IfOk result (λ p. 1 ≤ p.capacity) }
         ensures places { IfOk result (λ p. 1 ≤ p.places) }
     {
@@ -93,7 +94,9 @@ impl<A: Drop> Parts<A> {
         ensures nodes { nodes_of self.new ≡ put (λ k. None) 0 (Some (root_node 0)) }
         ensures changes { self.new.notes ≡ [] }
         ensures live { live_slots self.new.slots ≡ 1 }
-        ensures room { KeepsRoom self.old self.new }
+        ensures capacity { self.old.capacity ≤ self.new.capacity }
+        ensures places { self.old.places ≤ self.new.places }
+        ensures one { length self.new.slots ≡ 1 }
     {
         let number = self.table.insert(Stored {
             parent: NodeId(0),
@@ -145,6 +148,25 @@ impl<A: Drop> Parts<A> {
         ensures { result ≡ live_slots self.now.slots }
     {
         self.table.live()
+    }
+
+    /// Whether nothing was changed since the last rest.
+    pub(crate) fn is_at_rest(&self) -> bool
+        ensures { IsTrue result → changes_of self.now ≡ [] }
+    {
+        self.notes.is_empty()
+    }
+
+    /// The node that the last change was of, if there is one.
+    pub(crate) fn last_changed(&self) -> Option<NodeId>
+        ensures some { IfSome result (λ k. (c : Change A) (earlier : List (Change A))
+            → changes_of self.now ≡ earlier ++ c ∷ [] → c.node ≡ k) }
+        ensures none { IfNone result (changes_of self.now ≡ []) }
+    {
+        match self.notes.last() {
+            Some(note) => Some(node_changed(note)),
+            None => None,
+        }
     }
 
     /// A node without its lists, if it lives.
@@ -203,6 +225,9 @@ impl<A: Drop> Parts<A> {
         requires place { length self.old.notes < self.old.places }
         requires room { list_room (params_in symbol.now) ≤ self.old.param_room }
         ensures vacant { nodes_of self.old result ≡ None }
+        ensures within { result ≤ length self.old.slots }
+        ensures next { result ≡ length self.old.slots → live_slots self.old.slots ≡ length self.old.slots }
+        ensures grown { (length self.new.slots ≤ length self.old.slots) ⊎ (length self.new.slots ≡ result + 1) }
         ensures few { HasFew (seen_in symbol.now) }
         ensures added { Journals self.old self.new result (Some (record {
           parent = parent;
@@ -389,6 +414,13 @@ impl<A: Kept> Parts<A> {
     {
         self.kids.put_down();
     }
+}
+
+/// The node that a note is of.
+fn node_changed<A>(note: &Note<A>) -> NodeId
+    ensures { result ≡ note.now.node }
+{
+    note.node
 }
 
 /// Undoes the change of this note, which was the last.

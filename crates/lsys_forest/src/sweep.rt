@@ -1,70 +1,83 @@
 //! The removal of nodes that are reached no more.
-ghost use Rattle.std.specs.Prelude.{◌≡◌, ◌+◌, ◌≤◌, ℕ, ◌∷◌, [], length, List, false, Some, IsTrue, ◌↔◌, Contains};
+ghost use Rattle.std.specs.Prelude.{◌≡◌, ◌+◌, ◌≤◌, ℕ, ◌∷◌, [], length, List, false, Some, IsSome, IsTrue};
 ghost use Rattle.lsys_forest.specs.Slots.{live_slots};
 ghost use Rattle.lsys_forest.specs.Nodes.{Node, Nodes};
 ghost use Rattle.lsys_forest.specs.Changes.{Change};
 ghost use Rattle.lsys_forest.specs.Answers.{answers, AreMade, Follows};
 ghost use Rattle.lsys_forest.specs.Stocks.{nodes_of, changes_of, named_by, KeepsRoom};
-ghost use Rattle.lsys_forest.specs.Groves.{In, IsSound};
-ghost use Rattle.lsys_forest.specs.Sweeps.{IsLinked, IsLoose, IsSwept, SweepsLeft, KeepsPlaces};
+ghost use Rattle.lsys_forest.specs.Groves.{In, IsSound, place_in};
+ghost use Rattle.lsys_forest.specs.Threads.{SweepsRing};
+ghost use Rattle.lsys_forest.specs.Sweeps.{IsLinked, AreRisingUnder, IsSwept, SweepsLeft, KeepsPlaces};
 
 use crate::kept::Kept;
 use crate::node::NodeId;
 use crate::note::Look;
 use crate::stock::Parts;
+use crate::threads::{Threads, forget};
+use crate::walk::position;
 
 /// Whether the node lives, and is not among the children of its parent.
-fn is_loose<A: Kept>(parts: &Parts<A>, node: NodeId) -> bool
-    ensures loose { IsTrue result → IsLoose (nodes_of parts.now) node }
+pub(crate) fn is_loose<A: Kept>(parts: &Parts<A>, node: NodeId) -> bool
+    ensures lives { IsTrue result → IsSome (nodes_of parts.now node) }
+    ensures apart { (n : Node A) → IsTrue result → nodes_of parts.now node ≡ Some n → AreRisingUnder (nodes_of parts.now) n.parent
+        → IsLinked (nodes_of parts.now) node n → ⊥ }
     ensures linked { (n : Node A) → result ≡ false → nodes_of parts.now node ≡ Some n
         → IsLinked (nodes_of parts.now) node n }
 {
     match parts.get(node) {
-        Some(found) => !has_kid(parts, found.parent, node),
+        Some(found) => !has_kid(parts, found.parent, node, found.place),
         None => false,
     }
 }
 
-/// Whether the first node lives, and has the second among its children.
-fn has_kid<A: Kept>(parts: &Parts<A>, parent: NodeId, node: NodeId) -> bool
+/// Whether the first node lives, and has the second, which has this place under its parent, among its children.
+fn has_kid<A: Kept>(parts: &Parts<A>, parent: NodeId, node: NodeId, place: u32) -> bool
     ensures has { IsTrue result → (p : Node A) × (nodes_of parts.now parent ≡ Some p) × In node p.kids }
-    ensures lacks { result ≡ false → (p : Node A) → nodes_of parts.now parent ≡ Some p → In node p.kids → ⊥ }
+    ensures lacks { (p : Node A) → result ≡ false → place ≡ place_in (nodes_of parts.now node)
+        → nodes_of parts.now parent ≡ Some p → AreRisingUnder (nodes_of parts.now) parent → In node p.kids → ⊥ }
 {
     match parts.get(parent) {
-        Some(_) => is_among(parts.kids(parent), node),
+        Some(_) => position(parts, parts.kids(parent), node, place).is_some(),
         None => false,
     }
-}
-
-/// Whether the node is among these.
-fn is_among(kids: &[NodeId], node: NodeId) -> bool
-    ensures { IsTrue result ↔ Contains kids.now node }
-{
-    kids.contains(&node)
 }
 
 /// Removes the node if it is loose, and notes its children.
-fn sweep<A: Kept>(parts: &mut Parts<A>, root: NodeId, node: NodeId, store: &mut A::Store)
+fn sweep<A: Kept>(
+    parts: &mut Parts<A>,
+    threads: &mut Threads,
+    root: NodeId,
+    node: NodeId,
+    store: &mut A::Store,
+)
     requires places { length parts.old.notes + live_slots parts.old.slots ≤ parts.old.places }
     requires made { AreMade A.run_at A.Holds store.old (answers (nodes_of parts.old) (changes_of parts.old)) }
     ensures swept { (left : List ℕ) (first : Nodes A) (before : List (Change A)) → IsSound root before first
         → IsSwept first root (nodes_of parts.old) (changes_of parts.old) (node ∷ left)
         → IsSwept first root (nodes_of parts.new) (changes_of parts.new) left }
+    ensures ring { SweepsRing root parts.old threads.old parts.new threads.new }
     ensures keeps { KeepsPlaces parts.old parts.new }
     ensures made { AreMade A.run_at A.Holds store.new (answers (nodes_of parts.new) (changes_of parts.new)) }
     ensures freed { Follows A.run_at A.Holds (answers (nodes_of parts.old) (changes_of parts.old)) store.old
         (answers (nodes_of parts.new) (changes_of parts.new)) store.new }
 {
     if node != root && is_loose(parts, node) {
+        forget(threads, parts, root, node);
         parts.remove(node, store);
     }
 }
 
 /// Sweeps the children in hand.
-fn sweep_hand<A: Kept>(parts: &mut Parts<A>, root: NodeId, store: &mut A::Store)
+fn sweep_hand<A: Kept>(
+    parts: &mut Parts<A>,
+    threads: &mut Threads,
+    root: NodeId,
+    store: &mut A::Store,
+)
     requires places { length parts.old.notes + live_slots parts.old.slots ≤ parts.old.places }
     requires made { AreMade A.run_at A.Holds store.old (answers (nodes_of parts.old) (changes_of parts.old)) }
     ensures swept { SweepsLeft root parts.old parts.new parts.old.hand }
+    ensures ring { SweepsRing root parts.old threads.old parts.new threads.new }
     ensures keeps { KeepsPlaces parts.old parts.new }
     ensures made { AreMade A.run_at A.Holds store.new (answers (nodes_of parts.new) (changes_of parts.new)) }
     ensures freed { Follows A.run_at A.Holds (answers (nodes_of parts.old) (changes_of parts.old)) store.old
@@ -72,33 +85,46 @@ fn sweep_hand<A: Kept>(parts: &mut Parts<A>, root: NodeId, store: &mut A::Store)
 {
     for place in 0..parts.in_hand().len() {
         let kid = parts.in_hand()[place];
-        sweep(parts, root, kid, store);
+        sweep(parts, threads, root, kid, store);
     }
 }
 
 /// Sweeps the nodes that a change names.
-fn sweep_looked<A: Kept>(parts: &mut Parts<A>, root: NodeId, look: Look, store: &mut A::Store)
+fn sweep_looked<A: Kept>(
+    parts: &mut Parts<A>,
+    threads: &mut Threads,
+    root: NodeId,
+    look: Look,
+    store: &mut A::Store,
+)
     requires places { length parts.old.notes + live_slots parts.old.slots ≤ parts.old.places }
     requires made { AreMade A.run_at A.Holds store.old (answers (nodes_of parts.old) (changes_of parts.old)) }
     ensures swept { SweepsLeft root parts.old parts.new (named_by look parts.old.hand) }
+    ensures ring { SweepsRing root parts.old threads.old parts.new threads.new }
     ensures keeps { KeepsPlaces parts.old parts.new }
     ensures made { AreMade A.run_at A.Holds store.new (answers (nodes_of parts.new) (changes_of parts.new)) }
     ensures freed { Follows A.run_at A.Holds (answers (nodes_of parts.old) (changes_of parts.old)) store.old
         (answers (nodes_of parts.new) (changes_of parts.new)) store.new }
 {
     match look {
-        Look::Node(node) => sweep(parts, root, node, store),
-        Look::Hand => sweep_hand(parts, root, store),
+        Look::Node(node) => sweep(parts, threads, root, node, store),
+        Look::Hand => sweep_hand(parts, threads, root, store),
         Look::Nothing => {}
     }
 }
 
 /// Removes each node that is not reached from the root.
-pub(crate) fn sweep_all<A: Kept>(parts: &mut Parts<A>, root: NodeId, store: &mut A::Store)
+pub(crate) fn sweep_all<A: Kept>(
+    parts: &mut Parts<A>,
+    threads: &mut Threads,
+    root: NodeId,
+    store: &mut A::Store,
+)
     requires places { length parts.old.notes + live_slots parts.old.slots ≤ parts.old.places }
     requires sound { IsSound root (changes_of parts.old) (nodes_of parts.old) }
     requires made { AreMade A.run_at A.Holds store.old (answers (nodes_of parts.old) (changes_of parts.old)) }
     ensures swept { IsSwept (nodes_of parts.old) root (nodes_of parts.new) [] [] }
+    ensures ring { SweepsRing root parts.old threads.old parts.new threads.new }
     ensures empty { changes_of parts.new ≡ [] }
     ensures short { length parts.new.notes ≡ 0 }
     ensures live { live_slots parts.new.slots ≤ live_slots parts.old.slots }
@@ -108,7 +134,7 @@ pub(crate) fn sweep_all<A: Kept>(parts: &mut Parts<A>, root: NodeId, store: &mut
         (answers (nodes_of parts.new) (changes_of parts.new)) store.new }
 {
     while let Some(look) = parts.take_last(store) {
-        sweep_looked(parts, root, look, store);
+        sweep_looked(parts, threads, root, look, store);
     }
     parts.put_down();
 }

@@ -6,34 +6,40 @@ use Rattle.lsys_forest.specs.Answers.{answers, AreMade, Follows}
 use Rattle.lsys_forest.proofs.StockLemmas.{told_none}
 use Rattle.lsys_forest.proofs.SoundLemmas.{undone_last}
 use Rattle.lsys_forest.proofs.AnswerLemmas.{IsStep, undo_step, lost_made, step_made, step_follows, follows_on}
+use Rattle.lsys_forest.proofs.CallLemmas.{undone_sound}
 use Rattle.lsys_forest.proofs.forest.undo_all.Goals as goal
 
-pub undo_last-requires : goal.undo_last-requires
-undo_last-requires g c = record {
+pub undo_one-requires : goal.undo_one-requires
+undo_one-requires g c = record {
+  sound = c.loop-root.invariant.sound;
+  ring = c.loop-root.invariant.ring;
   made = λ x earlier were.
-      let m = nodes_of c.loop.parts in
+      let m = nodes_of c.loop-root.parts in
       let step = undo_step m earlier x.node x.before in
-      lost_made g.A.Kept.run_at g.A.Kept.Holds (answers m (earlier ++ x ∷ [])) (answers (undo x m) earlier) (dropped x m) c.loop.store step
-      (subst (λ cs. AreMade g.A.Kept.run_at g.A.Kept.Holds c.loop.store (answers m cs)) were c.loop.invariant.made);
+      lost_made g.A.Kept.run_at g.A.Kept.Holds (answers m (earlier ++ x ∷ [])) (answers (undo x m) earlier) (dropped x m) c.loop-root.store step
+      (subst (λ cs. AreMade g.A.Kept.run_at g.A.Kept.Holds c.loop-root.store (answers m cs)) were c.loop-root.invariant.made);
 }
 
-pub loop-preserved : goal.loop-preserved
-loop-preserved g c =
-    let done = c.loop-test.ensures.undone refl in
+pub loop-root-preserved : goal.loop-root-preserved
+loop-root-preserved g c =
+    let done = c.loop-root-test.ensures.undone refl in
     let x = done.0 in
     let takes = done.1.takes in
-    let m = nodes_of c.loop.parts in
-    let m' = nodes_of c.undo_last.new.self in
-    let was = c.loop.invariant in
-    let made = subst (λ cs. AreMade g.A.Kept.run_at g.A.Kept.Holds c.loop.store (answers m cs)) takes.were was.made in
-    let step : IsStep (answers m (takes.earlier ++ x ∷ [])) (answers m' (changes_of c.undo_last.new.self)) (dropped x m) =
-    subst (λ (f : Nodes g.row.A.Denot). IsStep (answers m (takes.earlier ++ x ∷ [])) (answers f (changes_of c.undo_last.new.self)) (dropped x m)) (sym done.1.nodes)
+    let m = nodes_of c.loop-root.parts in
+    let m' = nodes_of c.undo_one.new.parts in
+    let was = c.loop-root.invariant in
+    let made = subst (λ cs. AreMade g.A.Kept.run_at g.A.Kept.Holds c.loop-root.store (answers m cs)) takes.were was.made in
+    let step : IsStep (answers m (takes.earlier ++ x ∷ [])) (answers m' (changes_of c.undo_one.new.parts)) (dropped x m) =
+    subst (λ (f : Nodes g.row.A.Denot). IsStep (answers m (takes.earlier ++ x ∷ [])) (answers f (changes_of c.undo_one.new.parts)) (dropped x m)) (sym done.1.nodes)
     (subst (λ (cs : List (Change g.row.A.Denot)). IsStep (answers m (takes.earlier ++ x ∷ [])) (answers (undo x m) cs) (dropped x m)) (sym takes.are) (undo_step m takes.earlier x.node x.before)) in
-    let made' = step_made g.A.Kept.run_at g.A.Kept.Holds (answers m (takes.earlier ++ x ∷ [])) (answers m' (changes_of c.undo_last.new.self)) (dropped x m) c.loop.store c.undo_last.new.store step made done.2 in
-    let follows = step_follows g.A.Kept.run_at g.A.Kept.Holds (answers m (takes.earlier ++ x ∷ [])) (answers m' (changes_of c.undo_last.new.self)) (dropped x m) c.loop.store c.undo_last.new.store step made done.2 in
+    let made' = step_made g.A.Kept.run_at g.A.Kept.Holds (answers m (takes.earlier ++ x ∷ [])) (answers m' (changes_of c.undo_one.new.parts)) (dropped x m) c.loop-root.store c.undo_one.new.store step made done.2 in
+    let follows = step_follows g.A.Kept.run_at g.A.Kept.Holds (answers m (takes.earlier ++ x ∷ [])) (answers m' (changes_of c.undo_one.new.parts)) (dropped x m) c.loop-root.store c.undo_one.new.store step made done.2 in
     record {
+      sound = undone_sound c.args.root c.loop-root.parts c.undo_one.new.parts x done.1 was.sound;
+      ring = c.undo_one.ensures.ring;
+      links = (let a = was.links in let b = c.undo_one.ensures.links in (b.0 ∙ a.0, b.1 ∙ a.1, omega (arith, a.2, b.2)));
       told =
-          ap (undone (changes_of c.undo_last.new.self)) done.1.nodes
+          ap (undone (changes_of c.undo_one.new.parts)) done.1.nodes
           ∙ ap (λ cs. undone cs (undo x m)) takes.are
           ∙ sym (undone_last takes.earlier x m)
           ∙ sym (ap (λ cs. undone cs m) takes.were)
@@ -44,19 +50,20 @@ loop-preserved g c =
         places = omega (arith, takes.room.places, was.room.places);
         param_room = omega (arith, takes.room.param_room, was.room.param_room);
         kid_room = omega (arith, takes.room.kid_room, was.room.kid_room);
+        numbers = omega (arith, takes.room.numbers, was.room.numbers);
       };
       made = made';
-      freed = follows_on g.A.Kept.run_at g.A.Kept.Holds (answers (nodes_of c.args.parts.now) (changes_of c.args.parts.now)) (answers m (changes_of c.loop.parts)) (answers m' (changes_of c.undo_last.new.self)) c.args.store.now c.loop.store c.undo_last.new.store was.made was.freed
-          (subst (λ cs. Follows g.A.Kept.run_at g.A.Kept.Holds (answers m cs) c.loop.store (answers m' (changes_of c.undo_last.new.self)) c.undo_last.new.store) (sym takes.were) follows);
+      freed = follows_on g.A.Kept.run_at g.A.Kept.Holds (answers (nodes_of c.args.parts.now) (changes_of c.args.parts.now)) (answers m (changes_of c.loop-root.parts)) (answers m' (changes_of c.undo_one.new.parts)) c.args.store.now c.loop-root.store c.undo_one.new.store was.made was.freed
+          (subst (λ cs. Follows g.A.Kept.run_at g.A.Kept.Holds (answers m cs) c.loop-root.store (answers m' (changes_of c.undo_one.new.parts)) c.undo_one.new.store) (sym takes.were) follows);
     }
 
 pub returns-clause-short : goal.returns-clause-short
 returns-clause-short g c =
-    let none = c.loop-test.ensures.none refl in
-    told_none c.undo_last.new.self.notes c.undo_last.new.self.past_params c.undo_last.new.self.past_kids (ap changes_of none.1 ∙ none.0)
+    let none = c.loop-root-test.ensures.none refl in
+    told_none c.undo_one.new.parts.notes c.undo_one.new.parts.past_params c.undo_one.new.parts.past_kids (ap changes_of none.1 ∙ none.0)
 
 pub returns-clause-made : goal.returns-clause-made
 returns-clause-made g c =
-    let none = c.loop-test.ensures.none refl in
-    subst (λ s. AreMade g.A.Kept.run_at g.A.Kept.Holds s (answers (nodes_of c.undo_last.new.self) (changes_of c.undo_last.new.self))) (sym none.2)
-    (subst (λ (t : Stock g.row.A.Denot). AreMade g.A.Kept.run_at g.A.Kept.Holds c.loop.store (answers (nodes_of t) (changes_of t))) (sym none.1) c.loop.invariant.made)
+    let none = c.loop-root-test.ensures.none refl in
+    subst (λ s. AreMade g.A.Kept.run_at g.A.Kept.Holds s (answers (nodes_of c.undo_one.new.parts) (changes_of c.undo_one.new.parts))) (sym none.2)
+    (subst (λ (t : Stock g.row.A.Denot). AreMade g.A.Kept.run_at g.A.Kept.Holds c.loop-root.store (answers (nodes_of t) (changes_of t))) (sym none.1) c.loop-root.invariant.made)

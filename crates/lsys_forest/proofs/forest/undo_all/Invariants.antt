@@ -3,10 +3,15 @@ use Rattle.lsys_forest.specs.Slots.{live_slots}
 use Rattle.lsys_forest.specs.Changes.{undone}
 use Rattle.lsys_forest.specs.Stocks.{nodes_of, changes_of, KeepsRoom}
 use Rattle.lsys_forest.specs.Answers.{answers, AreMade, Follows}
+use Rattle.lsys_forest.specs.Groves.{AreSound}
+use Rattle.lsys_forest.specs.Threads.{IsThreaded, KeepsLinks}
 use Rattle.lsys_forest.proofs.forest.undo_all.Given as goal
 
-abbrev pub invariant-loop : goal.invariant-loop
-invariant-loop g l = record {
+abbrev pub invariant-loop-root : goal.invariant-loop-root
+invariant-loop-root g l = record {
+  sound : AreSound l.root (changes_of l.parts) (nodes_of l.parts);
+  ring : IsThreaded (nodes_of l.parts) (nodes_of l.parts) l.threads l.root;
+  links : KeepsLinks l.fn.threads l.threads;
   told : undone (changes_of l.parts) (nodes_of l.parts) ≡ undone (changes_of l.fn.parts) (nodes_of l.fn.parts);
   live : live_slots l.parts.slots ≤ live_slots l.fn.parts.slots;
   room : KeepsRoom l.fn.parts l.parts;
@@ -14,5 +19,5 @@ invariant-loop g l = record {
   freed : Follows g.A.Kept.run_at g.A.Kept.Holds (answers (nodes_of l.fn.parts) (changes_of l.fn.parts)) l.fn.store (answers (nodes_of l.parts) (changes_of l.parts)) l.store;
 }
 
-abbrev pub decreases-loop : goal.decreases-loop
-decreases-loop g l = length l.parts.notes
+abbrev pub decreases-loop-root : goal.decreases-loop-root
+decreases-loop-root g l = length l.parts.notes

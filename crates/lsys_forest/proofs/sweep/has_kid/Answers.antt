@@ -1,9 +1,9 @@
-use Rattle.std.proofs.Common.{◌≡◌, ℕ, List, sym, ap, ◌∙◌, subst, true, false}
-use Rattle.std.specs.Prelude.{option_map, Contains}
-use Rattle.std.proofs.Common.{arith}
-use Rattle.lsys_forest.specs.Stocks.{row_at, node_of}
+use Rattle.std.proofs.Common.{◌≡◌, ℕ, List, Option, Some, None, sym, ap, ◌∙◌, refl, subst, false, arith}
+use Rattle.std.specs.Prelude.{IsTrue, IfSome, is_some, option_map, slice_get}
+use Rattle.lsys_forest.specs.Stocks.{nodes_of, row_at, node_of}
+use Rattle.lsys_forest.specs.Groves.{In, AreRising}
 use Rattle.lsys_forest.proofs.StockLemmas.{kids_were}
-use Rattle.lsys_forest.proofs.SweepLemmas.{In-Contains, Contains-In}
+use Rattle.lsys_forest.proofs.WalkLemmas.{get_In}
 use Rattle.lsys_forest.proofs.sweep.has_kid.Goals as goal
 
 pub returns-in-Some-clause-has : goal.returns-in-Some-clause-has
@@ -11,14 +11,20 @@ returns-in-Some-clause-has g c = λ yes.
     let t = c.args.parts.now in
     let k = c.args.parent in
     let p = node_of (row_at t.params k) (row_at t.kids k) c.in-Some.field-0.now in
-    (p, ap (option_map (node_of (row_at t.params k) (row_at t.kids k))) (sym c.in-Some.ensures), Contains-In c.args.node (row_at t.kids k) (subst (λ (l : List ℕ). Contains l c.args.node) c.kids.ensures (c.is_among.ensures.0 yes)))
+    let among = stands_among c.kids.result.now c.args.node c.position.result c.position.ensures.stands (subst IsTrue c.is_some.ensures yes) in
+    (p, ap (option_map (node_of (row_at t.params k) (row_at t.kids k))) (sym c.in-Some.ensures), subst (In c.args.node) c.kids.ensures among)
+  where
+    stands_among : (xs : List ℕ) (x : ℕ) (o : Option ℕ) → IfSome o (λ i. slice_get xs i ≡ Some x) → IsTrue (is_some o) → In x xs
+    stands_among xs x (Some i) stands h = get_In xs i x stands
+    stands_among xs x None stands h = absurd (grind (arith, h))
 
 pub returns-in-Some-clause-lacks : goal.returns-in-Some-clause-lacks
-returns-in-Some-clause-lacks g c = λ no p is among.
+returns-in-Some-clause-lacks g c = λ p no place is rising among.
     let t = c.args.parts.now in
     let k = c.args.parent in
-    let there = subst (λ (l : List ℕ). Contains l c.args.node) (sym (c.kids.ensures ∙ kids_were t.slots t.params t.kids k p is)) (In-Contains c.args.node p.kids among) in
-    true_false (sym (c.is_among.ensures.1 there) ∙ no)
+    let kids : c.kids.result.now ≡ p.kids = c.kids.ensures ∙ kids_were t.slots t.params t.kids k p is in
+    c.position.ensures.lacks (none_there c.position.result (sym c.is_some.ensures ∙ no)) place (subst (AreRising (nodes_of t)) (sym kids) (rising p is)) (subst (In c.args.node) (sym kids) among)
   where
-    true_false : true ≡ false → ⊥
-    true_false e = grind (arith, e)
+    none_there : (o : Option ℕ) → is_some o ≡ false → o ≡ None
+    none_there (Some i) h = absurd (grind (arith, h))
+    none_there None h = refl

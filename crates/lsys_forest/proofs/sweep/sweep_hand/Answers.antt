@@ -6,6 +6,7 @@ use Rattle.lsys_forest.specs.Stocks.{nodes_of, changes_of}
 use Rattle.lsys_forest.specs.Answers.{answers}
 use Rattle.lsys_forest.specs.Sweeps.{IsSwept}
 use Rattle.lsys_forest.proofs.AnswerLemmas.{follows_on}
+use Rattle.lsys_forest.proofs.CallLemmas.{ring_then}
 use Rattle.lsys_forest.proofs.sweep.sweep_hand.Goals as goal
 
 pub loop-place-preserved : goal.loop-place-preserved
@@ -23,6 +24,7 @@ loop-place-preserved g c =
     let left : drop i hand ≡ kid ∷ drop (i + 1) hand = drop-cons hand i 0 within ∙ ap (λ n. get_or hand i 0 ∷ drop n hand) next ∙ ap (λ x. x ∷ drop (i + 1) hand) here in
     record {
       swept = λ first before sound start. e.swept (drop (i + 1) hand) first before sound (subst (IsSwept first c.args.root (nodes_of t) (changes_of t)) left (was.swept first before sound start));
+      ring = ring_then c.args.root c.args.parts.now c.args.threads.now t c.loop-place.threads c.sweep.new.parts c.sweep.new.threads was.ring e.ring;
       keeps = record {
         places = omega (arith, e.keeps.places, was.keeps.places);
         live = omega (arith, e.keeps.live, was.keeps.live);
@@ -31,6 +33,7 @@ loop-place-preserved g c =
           places = omega (arith, e.keeps.room.places, was.keeps.room.places);
           param_room = omega (arith, e.keeps.room.param_room, was.keeps.room.param_room);
           kid_room = omega (arith, e.keeps.room.kid_room, was.keeps.room.kid_room);
+          numbers = omega (arith, e.keeps.room.numbers, was.keeps.room.numbers);
         };
         hand = e.keeps.hand ∙ was.keeps.hand;
       };

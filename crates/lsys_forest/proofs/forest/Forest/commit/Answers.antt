@@ -4,19 +4,29 @@ use Rattle.lsys_forest.specs.Stocks.{nodes_of, changes_of}
 use Rattle.lsys_forest.specs.Answers.{answers, kept_by, AreMade, FreesAllBut}
 use Rattle.lsys_forest.specs.Groves.{Grove, now_of, kept_in, Reached, Spends}
 use Rattle.lsys_forest.proofs.SoundLemmas.{some_of}
-use Rattle.lsys_forest.proofs.SweepLemmas.{IsSound-swept, all_reached, reached_stays}
-use Rattle.lsys_forest.proofs.GroveLemmas.{IsGrove-rest}
+use Rattle.lsys_forest.proofs.SweepLemmas.{left_stood, IsSound-swept, all_reached, reached_stays}
+use Rattle.lsys_forest.proofs.CallLemmas.{left_threads, swept_threaded}
+use Rattle.lsys_forest.proofs.GroveLemmas.{sound_now, IsGrove-rest}
 use Rattle.lsys_forest.proofs.AnswerLemmas.{frees_by}
 use Rattle.lsys_forest.proofs.forest.Forest.commit.Goals as goal
 
 pub sweep_all-requires-clause-made : goal.sweep_all-requires-clause-made
 sweep_all-requires-clause-made g c = subst (λ (f : Grove g.row.A.Denot). AreMade g.A.Kept.run_at g.A.Kept.Holds c.args.store.now (kept_in f)) (sym c.self.view_is) c.requires.made
 
+pub sweep_all-requires-clause-sound : goal.sweep_all-requires-clause-sound
+sweep_all-requires-clause-sound g c = sound_now c.self.invariant.grove
+
 pub invariant_of-self : goal.invariant_of-self
 invariant_of-self g c =
     let i = c.self.inside in
     let e = c.sweep_all.ensures in
-    IsGrove-rest i.parts c.sweep_all.new.parts i.root i.spare_nodes i.spare_notes (IsSound-swept (nodes_of i.parts) i.root (changes_of i.parts) c.self.invariant.now (nodes_of c.sweep_all.new.parts) e.swept) e.empty e.short e.live e.room c.self.invariant
+    let sound = (IsSound-swept (nodes_of i.parts) i.root (changes_of i.parts) (sound_now c.self.invariant.grove) (nodes_of c.sweep_all.new.parts) e.swept) in
+    let m = nodes_of c.sweep_all.new.parts in
+    let ring = swept_threaded i.root (nodes_of i.parts) m c.sweep_all.new.threads sound (left_stood (nodes_of i.parts) i.root m e.swept) (e.ring.ring (nodes_of i.parts) c.self.invariant.threads.ring) in
+    record {
+      grove = IsGrove-rest i.parts c.sweep_all.new.parts i.root i.spare_nodes i.spare_notes sound e.empty e.short e.live e.room c.self.invariant.grove;
+      threads = left_threads i.parts c.sweep_all.new.parts i.threads c.sweep_all.new.threads i.root i.spare_nodes ring e.ring.links e.live e.room c.self.invariant.threads;
+    }
 
 pub returns-clause-stay : goal.returns-clause-stay
 returns-clause-stay g c =
@@ -30,7 +40,7 @@ returns-clause-only g c =
     let i = c.self.inside in
     let m = nodes_of c.sweep_all.new.parts in
     subst (λ (f : Grove g.row.A.Denot). (k : ℕ) → IsSome (m k) → Reached (now_of f) f.root k) c.self.view_is
-    (λ k lives. let s = some_of (m k) lives in all_reached (nodes_of i.parts) i.root (changes_of i.parts) c.self.invariant.now m c.sweep_all.ensures.swept s.0.depth k s.0 s.1 refl)
+    (λ k lives. let s = some_of (m k) lives in all_reached (nodes_of i.parts) i.root (changes_of i.parts) (sound_now c.self.invariant.grove) m c.sweep_all.ensures.swept s.0.depth k s.0 s.1 refl)
 
 pub returns-clause-spares : goal.returns-clause-spares
 returns-clause-spares g c =

@@ -8,6 +8,7 @@ use Rattle.lsys_forest.specs.Groves.{Grove}
 use Rattle.lsys_forest.specs.Rows.{complete_levels, level_of_node, place_of_node}
 use Rattle.lsys_forest.proofs.StockLemmas.{stored_of}
 use Rattle.lsys_forest.proofs.ViewLemmas.{node_at}
+use Rattle.lsys_forest.proofs.GroveLemmas.{sound_now}
 use Rattle.lsys_forest.proofs.forest.Forest.depth.Goals as goal
 
 pub unreachable-requires : goal.unreachable-requires
@@ -15,7 +16,7 @@ unreachable-requires g c =
     let i = c.self.inside in
     let F : Grove g.row.A.Denot = record { stock = i.parts; root = i.root; spare_nodes = i.spare_nodes; spare_notes = i.spare_notes } in
     let spot = subst (λ (f : Grove g.row.A.Denot). IsSpot (complete_levels f) (level_of_node f c.args.spot) (place_of_node f c.args.spot)) (sym c.self.view_is) c.requires in
-    let at = node_at F (changes_of i.parts) c.args.spot c.self.invariant.now spot in
+    let at = node_at F (changes_of i.parts) c.args.spot (sound_now c.self.invariant.grove) spot in
     let s = stored_of i.parts.slots i.parts.params i.parts.kids c.args.spot at.node at.is in
     none-some s.0 (c.in-None.ensures ∙ s.1)
 
@@ -24,7 +25,7 @@ returns g c =
     let i = c.self.inside in
     let F : Grove g.row.A.Denot = record { stock = i.parts; root = i.root; spare_nodes = i.spare_nodes; spare_notes = i.spare_notes } in
     let spot = subst (λ (f : Grove g.row.A.Denot). IsSpot (complete_levels f) (level_of_node f c.args.spot) (place_of_node f c.args.spot)) (sym c.self.view_is) c.requires in
-    let at = node_at F (changes_of i.parts) c.args.spot c.self.invariant.now spot in
+    let at = node_at F (changes_of i.parts) c.args.spot (sound_now c.self.invariant.grove) spot in
     let s = stored_of i.parts.slots i.parts.params i.parts.kids c.args.spot at.node at.is in
     let same = same_Some c.in-Some.found.now s.0 (c.in-Some.ensures ∙ s.1) in
     subst (λ (f : Grove g.row.A.Denot). c.in-Some.found.now.depth ≡ level_of_node f c.args.spot + 1) c.self.view_is

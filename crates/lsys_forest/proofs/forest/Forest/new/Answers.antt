@@ -1,10 +1,11 @@
-use Rattle.std.proofs.Common.{[], Some, None, refl, sym, ap, ◌∙◌, subst, arith}
+use Rattle.std.proofs.Common.{length, Some, None, refl, sym, ap, ◌∙◌, subst, arith}
 use Rattle.lsys_forest.specs.Nodes.{root_node}
-use Rattle.lsys_forest.specs.Changes.{undone}
 use Rattle.lsys_forest.specs.Stocks.{nodes_of}
-use Rattle.lsys_forest.specs.Groves.{IsSound}
+use Rattle.lsys_forest.specs.Groves.{AreSound}
 use Rattle.lsys_forest.proofs.StockLemmas.{put_same, put_other}
 use Rattle.lsys_forest.proofs.GroveLemmas.{IsSound-root}
+use Rattle.lsys_forest.proofs.SoundLemmas.{AreSound-rest}
+use Rattle.lsys_forest.proofs.CallLemmas.{threads_root}
 use Rattle.lsys_forest.proofs.forest.Forest.new.Goals as goal
 
 pub invariant_of-result : goal.invariant_of-result
@@ -12,12 +13,23 @@ invariant_of-result g c =
     let p = c.in_ok-parts.parts in
     let e = c.in_ok-parts.ensures in
     let sound = IsSound-root (nodes_of p) e.nodes in
+    let t = c.in_ok-threads.threads in
+    let f = c.in_ok-threads.ensures in
+    let la = ap length f.ahead in
+    let lb = ap length f.back in
     record {
-      now = subst (λ cs. IsSound 0 cs (nodes_of p)) (sym e.changes) sound;
-      rest = subst (λ cs. IsSound 0 [] (undone cs (nodes_of p))) (sym e.changes) sound;
-      nodes_left = omega (arith, e.live, e.capacity);
-      numbers = omega (arith, e.live);
-      places_left = omega (arith, e.live, e.places, e.notes);
+      grove = record {
+        sound = subst (λ cs. AreSound 0 cs (nodes_of p)) (sym e.changes) (AreSound-rest 0 (nodes_of p) sound);
+        nodes_left = omega (arith, e.live, e.capacity);
+        numbers = omega (arith, e.live);
+        places_left = omega (arith, e.live, e.places, e.notes);
+      };
+      threads = record {
+        ring = threads_root (nodes_of p) t e.nodes f.ahead f.back;
+        same = omega (arith, la, lb);
+        numbers = omega (arith, la, e.one);
+        room = omega (arith, e.live, f.places);
+      };
     }
 
 pub returns-clause-root : goal.returns-clause-root

@@ -4,7 +4,8 @@ use Rattle.lsys_forest.specs.Nodes.{Node, with_answer}
 use Rattle.lsys_forest.specs.Stocks.{nodes_of, changes_of}
 use Rattle.lsys_forest.specs.Groves.{Grove, now_of, Sets, Spends}
 use Rattle.lsys_forest.proofs.SoundLemmas.{some_of, set_answer}
-use Rattle.lsys_forest.proofs.GroveLemmas.{IsGrove-set, set_rested}
+use Rattle.lsys_forest.proofs.CallLemmas.{set_threads}
+use Rattle.lsys_forest.proofs.GroveLemmas.{sound_now, IsGrove-set, set_rested}
 use Rattle.lsys_forest.proofs.forest.Forest.set_answer.Goals as goal
 
 pub invariant_of-self : goal.invariant_of-self
@@ -12,7 +13,12 @@ invariant_of-self g c =
     let i = c.self.inside in
     let asked = subst (λ (f : Grove g.row.A.Denot). IsSome (now_of f c.args.node) × (0 < f.spare_notes)) (sym c.self.view_is) (c.requires.lives, c.requires.notes) in
     let s = some_of (nodes_of i.parts c.args.node) asked.0 in
-    IsGrove-set i.parts c.set_answer.new.self i.root i.spare_nodes i.spare_notes (i.spare_notes - 1) c.args.node s.0 (with_answer c.args.answer s.0) _ 0 0 (set_answer i.root (changes_of i.parts) (nodes_of i.parts) c.args.node s.0 c.args.answer c.self.invariant.now s.1) (c.set_answer.ensures s.0 s.1) (omega (arith, asked.1)) c.self.invariant
+    let j = c.set_answer.ensures s.0 s.1 in
+    let grove = IsGrove-set i.parts c.set_answer.new.self i.root i.spare_nodes i.spare_notes (i.spare_notes - 1) c.args.node s.0 (with_answer c.args.answer s.0) _ 0 0 (set_answer i.root (changes_of i.parts) (nodes_of i.parts) c.args.node s.0 c.args.answer (sound_now c.self.invariant.grove) s.1) (c.set_answer.ensures s.0 s.1) (omega (arith, asked.1)) c.self.invariant.grove in
+    record {
+      grove = grove;
+      threads = set_threads i.parts c.set_answer.new.self i.threads i.root i.spare_nodes c.args.node s.0 (with_answer c.args.answer s.0) (sound_now grove) s.1 refl refl refl refl j.nodes j.live j.numbers c.self.invariant.threads;
+    }
 
 pub returns-clause-set : goal.returns-clause-set
 returns-clause-set g c =
@@ -21,7 +27,7 @@ returns-clause-set g c =
     subst (λ (f : Grove g.row.A.Denot). (n : Node g.row.A.Denot) → now_of f c.args.node ≡ Some n → Sets f new c.args.node (with_answer c.args.answer n)) c.self.view_is
     (λ n is. record {
       now = (c.set_answer.ensures n is).nodes;
-      rest = set_rested i.parts c.set_answer.new.self i.root c.args.node n (with_answer c.args.answer n) _ 0 0 (set_answer i.root (changes_of i.parts) (nodes_of i.parts) c.args.node n c.args.answer c.self.invariant.now is) (c.set_answer.ensures n is);
+      rest = set_rested i.parts c.set_answer.new.self i.root c.args.node n (with_answer c.args.answer n) _ 0 0 (set_answer i.root (changes_of i.parts) (nodes_of i.parts) c.args.node n c.args.answer (sound_now c.self.invariant.grove) is) (c.set_answer.ensures n is);
       root = refl;
     })
 

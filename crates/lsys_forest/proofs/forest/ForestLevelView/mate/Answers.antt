@@ -10,6 +10,7 @@ use Rattle.lsys_forest.specs.Rows.{level_spots, level_nodes, complete_levels, le
 use Rattle.lsys_forest.proofs.StockLemmas.{stored_of}
 use Rattle.lsys_forest.proofs.RowLemmas.{In_right}
 use Rattle.lsys_forest.proofs.ViewLemmas.{bracket_way, mate_told, mate_level, node_at}
+use Rattle.lsys_forest.proofs.GroveLemmas.{sound_now}
 use Rattle.lsys_forest.proofs.forest.ForestLevelView.mate.Goals as goal
 
 pub kind-requires : goal.kind-requires
@@ -18,11 +19,14 @@ kind-requires g c =
     let F : Grove g.row.A.Denot = record { stock = i.parts; root = i.root; spare_nodes = i.spare_nodes; spare_notes = i.spare_notes } in
     let k = c.args.spot in
     let spot = subst (λ (f : Grove g.row.A.Denot). IsSpot (complete_levels f) (level_of_node f c.args.spot) (place_of_node f c.args.spot)) (sym c.self.view_is) c.requires.spot in
-    let at = node_at F (changes_of i.parts) c.args.spot c.self.invariant.now spot in
+    let at = node_at F (changes_of i.parts) c.args.spot (sound_now c.self.invariant.grove) spot in
     subst IsSome (sym at.is) refl
 
+pub mate_of-requires-clause-sound : goal.mate_of-requires-clause-sound
+mate_of-requires-clause-sound g c = sound_now c.self.invariant.grove
+
 pub mate_of-requires-clause-numbers : goal.mate_of-requires-clause-numbers
-mate_of-requires-clause-numbers g c = omega (arith, c.self.invariant.numbers)
+mate_of-requires-clause-numbers g c = omega (arith, c.self.invariant.grove.numbers)
 
 pub mate_of-requires-clause-among : goal.mate_of-requires-clause-among
 mate_of-requires-clause-among g c =
@@ -30,7 +34,7 @@ mate_of-requires-clause-among g c =
     let F : Grove g.row.A.Denot = record { stock = i.parts; root = i.root; spare_nodes = i.spare_nodes; spare_notes = i.spare_notes } in
     let k = c.args.spot in
     let spot = subst (λ (f : Grove g.row.A.Denot). IsSpot (complete_levels f) (level_of_node f c.args.spot) (place_of_node f c.args.spot)) (sym c.self.view_is) c.requires.spot in
-    let at = node_at F (changes_of i.parts) c.args.spot c.self.invariant.now spot in
+    let at = node_at F (changes_of i.parts) c.args.spot (sound_now c.self.invariant.grove) spot in
     let depth : c.depth.result ≡ level_of_node F k + 1 = subst (λ (f : Grove g.row.A.Denot). c.depth.result ≡ level_of_node f k + 1) (sym c.self.view_is) c.depth.ensures in
     let t : level_of_node F k ≡ c.depth.result - 1 = omega (arith, depth) in
     subst (λ d. In k (level_nodes (nodes_of i.parts) i.root d)) t (subst (In k) (sym at.level) (In_right k at.before (k ∷ at.after) (inl refl)))
@@ -41,7 +45,7 @@ mate_of-requires-clause-balanced g c =
     let F : Grove g.row.A.Denot = record { stock = i.parts; root = i.root; spare_nodes = i.spare_nodes; spare_notes = i.spare_notes } in
     let k = c.args.spot in
     let spot = subst (λ (f : Grove g.row.A.Denot). IsSpot (complete_levels f) (level_of_node f c.args.spot) (place_of_node f c.args.spot)) (sym c.self.view_is) c.requires.spot in
-    let at = node_at F (changes_of i.parts) c.args.spot c.self.invariant.now spot in
+    let at = node_at F (changes_of i.parts) c.args.spot (sound_now c.self.invariant.grove) spot in
     let depth : c.depth.result ≡ level_of_node F k + 1 = subst (λ (f : Grove g.row.A.Denot). c.depth.result ≡ level_of_node f k + 1) (sym c.self.view_is) c.depth.ensures in
     let t : level_of_node F k ≡ c.depth.result - 1 = omega (arith, depth) in
     subst (λ d. level_balanced 0 (level_by (λ tag. []) (level_spots (nodes_of i.parts) i.root d)) ≡ true) t at.told_is.balanced
@@ -52,7 +56,7 @@ mate_of-requires-clause-bracket g c =
     let F : Grove g.row.A.Denot = record { stock = i.parts; root = i.root; spare_nodes = i.spare_nodes; spare_notes = i.spare_notes } in
     let k = c.args.spot in
     let spot = subst (λ (f : Grove g.row.A.Denot). IsSpot (complete_levels f) (level_of_node f c.args.spot) (place_of_node f c.args.spot)) (sym c.self.view_is) c.requires.spot in
-    let at = node_at F (changes_of i.parts) c.args.spot c.self.invariant.now spot in
+    let at = node_at F (changes_of i.parts) c.args.spot (sound_now c.self.invariant.grove) spot in
     let s = stored_of i.parts.slots i.parts.params i.parts.kids k at.node at.is in
     let kind = c.kind.ensures s.0 s.1 in
     let seen : at.node.seen ≡ seen_as c.kind.result (row_at i.parts.params k) = sym (ap (λ (x : Node g.row.A.Denot). x.seen) s.2) ∙ ap (λ y. seen_as y (row_at i.parts.params k)) (sym kind) in
@@ -65,11 +69,11 @@ returns-clause-level g c =
     let F : Grove g.row.A.Denot = record { stock = i.parts; root = i.root; spare_nodes = i.spare_nodes; spare_notes = i.spare_notes } in
     let k = c.args.spot in
     let spot = subst (λ (f : Grove g.row.A.Denot). IsSpot (complete_levels f) (level_of_node f c.args.spot) (place_of_node f c.args.spot)) (sym c.self.view_is) c.requires.spot in
-    let at = node_at F (changes_of i.parts) c.args.spot c.self.invariant.now spot in
+    let at = node_at F (changes_of i.parts) c.args.spot (sound_now c.self.invariant.grove) spot in
     let depth : c.depth.result ≡ level_of_node F k + 1 = subst (λ (f : Grove g.row.A.Denot). c.depth.result ≡ level_of_node f k + 1) (sym c.self.view_is) c.depth.ensures in
     let t : c.depth.result - 1 ≡ level_of_node F k = omega (arith, depth) in
     let mates = subst (λ d. IsMateThat c.way_to_mate-way.result (nodes_of i.parts) (level_nodes (nodes_of i.parts) i.root d) k c.mate_of.result) t c.mate_of.ensures in
-    subst (λ (f : Grove g.row.A.Denot). level_of_node f c.mate_of.result ≡ level_of_node f k) c.self.view_is (mate_level F (changes_of i.parts) c.way_to_mate-way.result k c.mate_of.result c.self.invariant.now mates)
+    subst (λ (f : Grove g.row.A.Denot). level_of_node f c.mate_of.result ≡ level_of_node f k) c.self.view_is (mate_level F (changes_of i.parts) c.way_to_mate-way.result k c.mate_of.result (sound_now c.self.invariant.grove) mates)
 
 pub returns-clause-mate : goal.returns-clause-mate
 returns-clause-mate g c =
@@ -77,7 +81,7 @@ returns-clause-mate g c =
     let F : Grove g.row.A.Denot = record { stock = i.parts; root = i.root; spare_nodes = i.spare_nodes; spare_notes = i.spare_notes } in
     let k = c.args.spot in
     let spot = subst (λ (f : Grove g.row.A.Denot). IsSpot (complete_levels f) (level_of_node f c.args.spot) (place_of_node f c.args.spot)) (sym c.self.view_is) c.requires.spot in
-    let at = node_at F (changes_of i.parts) c.args.spot c.self.invariant.now spot in
+    let at = node_at F (changes_of i.parts) c.args.spot (sound_now c.self.invariant.grove) spot in
     let depth : c.depth.result ≡ level_of_node F k + 1 = subst (λ (f : Grove g.row.A.Denot). c.depth.result ≡ level_of_node f k + 1) (sym c.self.view_is) c.depth.ensures in
     let t : c.depth.result - 1 ≡ level_of_node F k = omega (arith, depth) in
     let mates = subst (λ d. IsMateThat c.way_to_mate-way.result (nodes_of i.parts) (level_nodes (nodes_of i.parts) i.root d) k c.mate_of.result) t c.mate_of.ensures in
@@ -86,4 +90,4 @@ returns-clause-mate g c =
     let seen : at.node.seen ≡ seen_as c.kind.result (row_at i.parts.params k) = sym (ap (λ (x : Node g.row.A.Denot). x.seen) s.2) ∙ ap (λ y. seen_as y (row_at i.parts.params k)) (sym kind) in
     let asked = subst (λ (f : Grove g.row.A.Denot). IsBracketAt (level_at (complete_levels f) (level_of_node f k)) (place_of_node f k)) (sym c.self.view_is) c.requires.bracket in
     let bracket = subst (λ w. IsBracketThat w (Some at.node)) (sym c.way_to_mate-way.ensures) (bracket_way F k at c.kind.result (row_at i.parts.params k) seen asked) in
-    subst (λ (f : Grove g.row.A.Denot). IsMate (level_at (complete_levels f) (level_of_node f k)) (place_of_node f k) (place_of_node f c.mate_of.result)) c.self.view_is (mate_told F (changes_of i.parts) c.way_to_mate-way.result k c.mate_of.result c.self.invariant.now at bracket mates)
+    subst (λ (f : Grove g.row.A.Denot). IsMate (level_at (complete_levels f) (level_of_node f k)) (place_of_node f k) (place_of_node f c.mate_of.result)) c.self.view_is (mate_told F (changes_of i.parts) c.way_to_mate-way.result k c.mate_of.result (sound_now c.self.invariant.grove) at bracket mates)

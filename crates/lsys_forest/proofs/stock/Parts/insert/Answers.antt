@@ -1,9 +1,9 @@
-use Rattle.std.proofs.Common.{set, ℤ, ◌≡◌, ◌+◌, ◌≤◌, ◌++◌, ◌∷◌, [], ℕ, length, min, Some, None, sym, ap, ◌∙◌, subst, arith}
+use Rattle.std.proofs.Common.{set, ℤ, ◌≡◌, ◌⊎◌, inl, inr, ◌+◌, ◌≤◌, ◌++◌, ◌∷◌, [], ℕ, length, min, Some, None, sym, ap, ◌∙◌, subst, arith}
 use Rattle.std.specs.Prelude.{vec_capacity}
 use Rattle.std.proofs.lemmas.List.{length_push, length-set}
 use Rattle.lsys_level.specs.Places.{seen_in, params_in}
 use Rattle.lsys_region.specs.Rooms.{list_room}
-use Rattle.lsys_forest.specs.Slots.{put_slot}
+use Rattle.lsys_forest.specs.Slots.{put_slot, live_slots}
 use Rattle.lsys_forest.specs.declared.node.Stored.{Stored}
 use Rattle.lsys_forest.specs.declared.note.Was.TheVariants as was
 use Rattle.lsys_forest.specs.Shelves.{Shelf, reached}
@@ -11,7 +11,7 @@ use Rattle.lsys_forest.proofs.ShelfLemmas.{room_nil}
 use Rattle.lsys_forest.specs.Nodes.{Node, put}
 use Rattle.lsys_forest.specs.Changes.{Missing}
 use Rattle.lsys_forest.specs.Stocks.{Stock, told, IsStock, Journals}
-use Rattle.lsys_forest.proofs.StockLemmas.{IsStock-note, shown_nodes, live_within_slot, told_plain, put_slot_at, put_slot_long, node_put, put_slot_more}
+use Rattle.lsys_forest.proofs.StockLemmas.{IsStock-note, shown_nodes, live_within_slot, told_plain, put_slot_at, put_slot_long, node_put, put_slot_more, put_slot_least, put_slot_grown}
 use Rattle.lsys_forest.proofs.stock.Parts.insert.Goals as goal
 
 pub set-requires-2-clause-room : goal.set-requires-2-clause-room
@@ -79,5 +79,21 @@ returns-clause-added g c =
           let e = subst (λ m. c.reach.new.self.spare ≤ c.set.new.self.spare + list_room m) c.params_of.ensures.params c.set.ensures.spare in
           omega (arith, e, c.reach.ensures.spare);
       kid_room = omega (arith, c.set-2.ensures.spare, c.reach-2.ensures.spare, room_nil 0);
+      numbers = (let e = ap length c.insert-number.ensures.put in omega (arith, e, put_slot_least i.table.slots k s));
       hand = ap (λ (r : Shelf ℕ). r.hand) kids;
     })
+
+pub returns-clause-within : goal.returns-clause-within
+returns-clause-within g c = subst (λ (t : Stock g.row.A.Denot). c.insert-number.result ≤ length t.slots) c.self.view_is c.insert-number.ensures.within
+
+pub returns-clause-next : goal.returns-clause-next
+returns-clause-next g c = subst (λ (t : Stock g.row.A.Denot). c.insert-number.result ≡ length t.slots → live_slots t.slots ≡ length t.slots) c.self.view_is c.insert-number.ensures.next
+
+pub returns-clause-grown : goal.returns-clause-grown
+returns-clause-grown g c =
+    let i = c.self.inside in
+    let k = c.insert-number.result in
+    let s : Stored g.row.A.Denot = record { parent = c.args.parent; place = c.args.place; depth = c.args.depth; kind = c.kind_of.result; key = c.args.key; answer = None } in
+    let same : length c.insert-number.new.self.slots ≡ length (put_slot i.table.slots k s) = ap length c.insert-number.ensures.put in
+    subst (λ (t : Stock g.row.A.Denot). (length c.insert-number.new.self.slots ≤ length t.slots) ⊎ (length c.insert-number.new.self.slots ≡ k + 1)) c.self.view_is
+    (elim (put_slot_grown i.table.slots k s) [ inl e ↦ inl (omega (arith, e, same)) | inr e ↦ inr (omega (arith, e, same)) ])

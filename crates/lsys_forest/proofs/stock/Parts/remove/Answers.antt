@@ -94,6 +94,7 @@ returns g c =
           places = let e = ap (λ (x : Shelf ℤ). x.past_places) pr in omega (arith, e, c.push_note.ensures.capacity, c.swap.ensures.places);
           param_room = omega (arith, c.set.ensures.spare, room_nil 0);
           kid_room = omega (arith, c.swap.ensures.spare, room_nil 0);
+          numbers = (let e = ap length c.in-Some.ensures.gone in omega (arith, e, length-set i.table.slots k None));
         };
         hand = ap (λ (x : Shelf ℕ). x.hand) qr;
       },

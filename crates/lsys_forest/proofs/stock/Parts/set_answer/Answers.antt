@@ -6,7 +6,7 @@ use Rattle.lsys_forest.specs.Nodes.{Node, with_answer}
 use Rattle.lsys_forest.specs.Changes.{OldAnswer}
 use Rattle.lsys_forest.specs.Stocks.{Stock, nodes_of, told, Journals}
 use Rattle.lsys_forest.proofs.SlotLemmas.{live_change}
-use Rattle.lsys_forest.proofs.StockLemmas.{IsStock-changed, nodes_changed, told_plain, answer_was}
+use Rattle.lsys_forest.proofs.StockLemmas.{change_long, IsStock-changed, nodes_changed, told_plain, answer_was}
 use Rattle.lsys_forest.proofs.stock.Parts.set_answer.Goals as goal
 
 pub invariant_of-self : goal.invariant_of-self
@@ -33,5 +33,6 @@ returns g c =
       places = omega (arith, c.push_note.ensures.capacity);
       param_room = omega arith;
       kid_room = omega arith;
+      numbers = (let e = ap length c.swap_answer-before.ensures.changed ∙ change_long _ _ _ in omega (arith, e));
       hand = refl;
     })

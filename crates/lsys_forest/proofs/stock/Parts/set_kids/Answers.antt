@@ -58,5 +58,6 @@ returns g c =
       places = omega (arith, c.push_note.ensures.capacity, c.swap.ensures.places);
       param_room = omega arith;
       kid_room = c.swap.ensures.spare;
+      numbers = omega arith;
       hand = ap (λ (s : Shelf ℕ). s.hand) c.swap.ensures.swapped;
     })

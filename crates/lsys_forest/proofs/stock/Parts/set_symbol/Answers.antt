@@ -10,7 +10,7 @@ use Rattle.lsys_forest.specs.Nodes.{Node, put, with_seen}
 use Rattle.lsys_forest.specs.Changes.{OldSeen}
 use Rattle.lsys_forest.specs.Stocks.{Stock, row_at, nodes_of, told, IsStock, Journals}
 use Rattle.lsys_forest.proofs.SlotLemmas.{live_change}
-use Rattle.lsys_forest.proofs.StockLemmas.{IsStock-note, shown_nodes, told_param, change_long, param_count_le, lives_within, seen_was, seen_changed}
+use Rattle.lsys_forest.proofs.StockLemmas.{change_long, IsStock-note, shown_nodes, told_param, change_long, param_count_le, lives_within, seen_was, seen_changed}
 use Rattle.lsys_forest.proofs.stock.Parts.set_symbol.Goals as goal
 
 pub swap-requires-clause-within : goal.swap-requires-clause-within
@@ -65,5 +65,6 @@ returns-clause-set g c =
       places = omega (arith, c.push_note.ensures.capacity, c.swap.ensures.places);
       param_room = subst (λ m. i.params.spare ≤ c.swap.new.self.spare + list_room m) c.params_of.ensures.params c.swap.ensures.spare;
       kid_room = omega arith;
+      numbers = (let e = ap length c.swap_kind.ensures.changed ∙ change_long _ _ _ in omega (arith, e));
       hand = refl;
     })

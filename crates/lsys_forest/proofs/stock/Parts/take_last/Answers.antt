@@ -48,6 +48,7 @@ returns-in-Some-clause-taken g c =
             places = omega (arith, c.in-Some.ensures.capacity, done.param_places.1, done.kid_places.1);
             param_room = omega (arith, done.rooms.0);
             kid_room = omega (arith, done.rooms.1);
+            numbers = omega arith;
           };
         };
         nodes = ap (λ p. shown_nodes i.table.slots p c.take_note.new.kids.current) done.params ∙ ap (shown_nodes i.table.slots i.params.current) done.kids;

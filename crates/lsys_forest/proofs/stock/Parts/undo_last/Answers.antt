@@ -4,7 +4,7 @@ use Rattle.std.proofs.lemmas.List.{length_push}
 use Rattle.lsys_forest.specs.Changes.{Change}
 use Rattle.lsys_forest.specs.Answers.{IsMade, Releases}
 use Rattle.lsys_forest.specs.Stocks.{Stock, nodes_of, changes_of, told, dropped, IsStock, Undoes}
-use Rattle.lsys_forest.proofs.BackLemmas.{numbered_last, last_undone, undo_done}
+use Rattle.lsys_forest.proofs.BackLemmas.{numbered_last, last_undone, undo_done, undone_long}
 use Rattle.lsys_forest.proofs.stock.Parts.undo_last.Goals as goal
 
 pub undo_note-requires-clause-params : goal.undo_note-requires-clause-params
@@ -66,6 +66,7 @@ returns-in-Some-clause-undone g c = λ yes.
             places = omega (arith, c.in-Some.ensures.capacity, done.param_places.1, done.kid_places.1);
             param_room = done.param_room;
             kid_room = done.kid_room;
+            numbers = (let e = ap length c.undo_note.ensures.slots in omega (arith, e, undone_long w k i.table.slots));
           };
         };
         nodes = done.nodes;

@@ -1,0 +1,80 @@
+"""Builds a program of this folder over the crates of this checkout, without proofs."""
+import os
+import shutil
+import subprocess
+import sys
+import threading
+import time
+
+HERE = os.path.dirname(os.path.abspath(__file__))
+TOP = os.path.dirname(os.path.dirname(HERE))
+USED = ["lsys_syntax", "lsys_spec", "lsys_text", "lsys_module", "lsys_region", "lsys_level", "lsys_forest"]
+
+
+def needed(needs, names):
+    """These crates and those that they stand on, where the list of crates has them."""
+    found = []
+
+    def visit(name):
+        if name in needs and name not in found:
+            found.append(name)
+            for below in needs[name]:
+                visit(below)
+
+    for name in names:
+        visit(name)
+    return found
+
+
+def lay_out(name, folder):
+    """Makes a repository of the program and the sources of the crates that it needs."""
+    needs = {}
+    with open(os.path.join(TOP, "crates.txt")) as file:
+        for line in file:
+            crate, colon, below = line.partition("#")[0].partition(":")
+            if colon:
+                needs[crate.split()[0]] = below.split()
+    lines = ["forest_%s: %s" % (name, " ".join(USED))]
+    for crate in needed(needs, USED):
+        lines.append("%s: %s" % (crate, " ".join(needs[crate])))
+        for part in ("src", "specs"):
+            source = os.path.join(TOP, "crates", crate, part)
+            if os.path.isdir(source):
+                shutil.copytree(source, os.path.join(folder, "crates", crate, part))
+    with open(os.path.join(folder, "crates.txt"), "w") as file:
+        file.write("\n".join(lines) + "\n")
+    program = os.path.join(folder, "crates", "forest_" + name)
+    os.makedirs(os.path.join(program, "src"))
+    shutil.copy(os.path.join(HERE, name + ".rt"), os.path.join(program, "src", "main.rt"))
+    return program
+
+
+def keep_what_is_linked(folder, kept, done):
+    """While `rt try` works in the folder, keeps the program that it links there and would remove after its run."""
+    while not done.is_set():
+        for at, _, files in os.walk(folder):
+            if "program" in files:
+                try:
+                    os.link(os.path.join(at, "program"), kept)
+                    return
+                except OSError:
+                    pass  # it is not whole yet, or already gone
+        time.sleep(0.005)
+
+
+def build(name, folder):
+    """The path of the program, which is built in this folder."""
+    crate = lay_out(name, folder)
+    work, kept = os.path.join(folder, "work"), os.path.join(folder, name)
+    os.mkdir(work)
+    done = threading.Event()
+    keeper = threading.Thread(target=keep_what_is_linked, args=(work, kept, done))
+    keeper.start()
+    ran = subprocess.run(["rt", "try"], cwd=crate, env={**os.environ, "TMPDIR": work}, stdin=subprocess.DEVNULL,
+                         stdout=subprocess.PIPE, stderr=subprocess.STDOUT, errors="replace")
+    done.set()
+    keeper.join()
+    if not os.path.exists(kept):
+        sys.stderr.write(ran.stdout)
+        sys.exit("no program was built")
+    return kept

@@ -1,0 +1,405 @@
+//! The ring of the nodes that have children, so that the next one of a level that has some is found at once.
+//!
+//! All nodes that have children are in it, whether they are reached or not, behind the root: by depth, and on each depth
+//! from the left to the right. This order rests on parents and places alone, which a node keeps as long as it lives.
+ghost use Rattle.std.specs.Prelude.{◌≡◌, ◌≢◌, ◌⊎◌, ◌+◌, ◌<◌, ◌≤◌, ℕ, List, length, Option, None, IsSome, IsTrue, ◌↔◌, ◌-◌, OnOk, IfOk, slice_set, vec_len, vec_capacity, ◌++◌, ◌∷◌, []};
+ghost use Rattle.lsys_forest.specs.Nodes.{Nodes, put};
+ghost use Rattle.lsys_forest.specs.Stocks.{nodes_of, changes_of};
+ghost use Rattle.lsys_forest.specs.Slots.{live_slots};
+ghost use Rattle.lsys_forest.specs.Groves.{In, IsSound};
+ghost use Rattle.lsys_forest.specs.Rows.{kids_in, depth_in, oriented, level_nodes};
+ghost use Rattle.lsys_forest.specs.Threads.{Ring, reached_links, next_that, link_at, tied, Chain, last_or, parent_in, IsFull, IsEarlier, Precedes, AreFull, IsPlace, IsOnLevel, IsFirstFull, IsOpen, IsStart, Turns, KeepsLinks, IsThreaded};
+
+use crate::kept::Kept;
+use crate::node::NodeId;
+use crate::stock::Parts;
+use crate::sweep::is_loose;
+use crate::walk::{Way, place_of, position};
+use std::alloc::{AllocError, Global};
+use std::marker::Model;
+
+/// The next node of the ring, by number, to either side.
+#[derive(Drop)]
+pub(crate) struct Threads {
+    ahead: Vec<NodeId>,
+    back: Vec<NodeId>,
+}
+
+impl Model for Threads {
+    ghost use Rattle.lsys_forest.specs.Threads.{Ring};
+
+    ghost Value = { Ring };
+
+    ghost use Rattle.std.specs.Prelude.{min, vec_capacity};
+
+    ghost view = { λ a. record {
+      ahead = a.ahead.items;
+      back = a.back.items;
+      places = min (vec_capacity a.ahead) (vec_capacity a.back);
+    } };
+}
+
+impl Threads {
+    /// The ring of the root alone, and no links of other nodes.
+    ///
+    /// # Errors
+    ///
+    /// Want of memory.
+    pub(crate) fn of_root(alloc: Global) -> Result<Threads, AllocError>
+        ensures ahead { IfOk result (λ t. t.ahead ≡ 0 ∷ []) }
+        ensures back { IfOk result (λ t. t.back ≡ 0 ∷ []) }
+        ensures places { IfOk result (λ t. 1 ≤ t.places) }
+    {
+        let mut ahead = Vec::new(alloc);
+        ahead.push(NodeId(0))?;
+        let mut back = Vec::new(alloc);
+        back.push(NodeId(0))?;
+        Ok(Threads { ahead, back })
+    }
+
+    /// Makes room for the links of so many nodes in all. The ring stays.
+    ///
+    /// # Errors
+    ///
+    /// Want of memory.
+    pub(crate) fn reserve(&mut self, nodes: usize) -> Result<(), AllocError>
+        ensures ring { self.new ≡ record self.old { places = self.new.places } }
+        ensures places { OnOk result (nodes ≤ self.new.places) }
+        ensures more { self.old.places ≤ self.new.places }
+    {
+        let ahead = nodes.saturating_sub(self.ahead.len());
+        self.ahead.reserve(ahead)?;
+        let back = nodes.saturating_sub(self.back.len());
+        self.back.reserve(back)
+    }
+
+    /// Adds links for a node that has the next number. It takes no memory.
+    pub(crate) fn reach(&mut self, node: NodeId)
+        requires both { length self.old.ahead ≡ length self.old.back }
+        requires next { node ≤ length self.old.ahead }
+        requires place { node ≡ length self.old.ahead → node < self.old.places }
+        ensures ahead { self.new.ahead ≡ reached_links self.old.ahead node }
+        ensures back { self.new.back ≡ reached_links self.old.back node }
+        ensures places { self.old.places ≤ self.new.places }
+    {
+        if self.ahead.len() == node.0 as usize {
+            push_link(&mut self.ahead);
+            push_link(&mut self.back);
+        }
+    }
+
+    /// The next node of the ring, that way.
+    pub(crate) fn next(&self, node: NodeId, way: Way) -> NodeId
+        ensures { result ≡ next_that way self.now node }
+    {
+        match way {
+            Way::Left => link(&self.back, node),
+            Way::Right => link(&self.ahead, node),
+        }
+    }
+
+    /// Makes the second node the next one to the right of the first.
+    fn tie(&mut self, left: NodeId, right: NodeId)
+        ensures { self.new ≡ tied self.old left right }
+    {
+        set_link(&mut self.ahead, left, right);
+        set_link(&mut self.back, right, left);
+    }
+
+    /// Takes a node out of the ring.
+    pub(crate) fn take_out(&mut self, node: NodeId)
+        ensures { self.new ≡ tied self.old (link_at self.old.back node) (link_at self.old.ahead node) }
+    {
+        self.tie(self.next(node, Way::Left), self.next(node, Way::Right));
+    }
+
+    /// Puts a node into the ring, behind another.
+    pub(crate) fn put_in(&mut self, node: NodeId, behind: NodeId)
+        ensures { self.new ≡ tied (tied self.old behind node) node (link_at self.old.ahead behind) }
+    {
+        let ahead = self.next(behind, Way::Right);
+        self.tie(behind, node);
+        self.tie(node, ahead);
+    }
+}
+
+fn link(links: &Vec<NodeId>, node: NodeId) -> NodeId
+    ensures { result ≡ link_at links.now.items node }
+{
+    match links.get(node.0 as usize) {
+        Some(next) => *next,
+        None => NodeId(0),
+    }
+}
+
+/// Adds a link at the end of a vector that has room for it.
+fn push_link(links: &mut Vec<NodeId>)
+    requires { vec_len links.old < vec_capacity links.old }
+    ensures pushed { links.new.items ≡ links.old.items ++ 0 ∷ [] }
+    ensures capacity { vec_capacity links.old ≤ vec_capacity links.new }
+{
+    match links.push(NodeId(0)) {
+        Ok(()) => {}
+        Err(_) => unreachable!(),
+    }
+}
+
+fn set_link(links: &mut Vec<NodeId>, node: NodeId, next: NodeId)
+    ensures set { links.new.items ≡ slice_set links.old.items node next }
+    ensures capacity { vec_capacity links.new ≡ vec_capacity links.old }
+{
+    let place = node.0 as usize;
+    if place < links.len() {
+        links[place] = next;
+    }
+}
+
+/// The parent of a node; 0 where it does not live.
+fn parent_of<A: Kept>(parts: &Parts<A>, node: NodeId) -> NodeId
+    ensures { result ≡ parent_in (nodes_of parts.now node) }
+{
+    match parts.get(node) {
+        Some(found) => found.parent,
+        None => NodeId(0),
+    }
+}
+
+/// How many steps a node is below the root; 0 where it does not live.
+fn depth_of<A: Kept>(parts: &Parts<A>, node: NodeId) -> u32
+    ensures { result ≡ depth_in (nodes_of parts.now node) }
+{
+    match parts.get(node) {
+        Some(found) => found.depth,
+        None => 0,
+    }
+}
+
+/// Whether the node has children.
+pub(crate) fn is_full<A: Kept>(parts: &Parts<A>, node: NodeId) -> bool
+    ensures { IsTrue result ↔ IsFull (nodes_of parts.now) node }
+{
+    match parts.get(node) {
+        Some(_) => !parts.kids(node).is_empty(),
+        None => false,
+    }
+}
+
+/// Whether the first of two nodes that are so many steps below the root comes first.
+fn is_earlier<A: Kept>(parts: &Parts<A>, mut one: NodeId, mut two: NodeId, depth: u32) -> bool
+    ensures { IsTrue result ↔ IsEarlier (nodes_of parts.now) depth one two }
+{
+    let mut left = depth;
+    while left > 0 {
+        let parent = parent_of(parts, one);
+        let other = parent_of(parts, two);
+        if parent == other {
+            return lies_first(place_of(parts, one), one, place_of(parts, two), two);
+        }
+        one = parent;
+        two = other;
+        left -= 1;
+    }
+    false
+}
+
+/// Whether the first of two nodes of one parent comes first: that with the lesser place, or of two with one place that with
+/// the lesser number.
+fn lies_first(place: u32, one: NodeId, other: u32, two: NodeId) -> bool
+    ensures { IsTrue result ↔ ((place < other) ⊎ ((place ≡ other) × (one < two))) }
+{
+    place < other || (place == other && one.0 < two.0)
+}
+
+/// Whether the first of two nodes comes first in the ring.
+pub(crate) fn precedes<A: Kept>(parts: &Parts<A>, one: NodeId, two: NodeId) -> bool
+    ensures { IsTrue result ↔ Precedes (nodes_of parts.now) one two }
+{
+    let depth = depth_of(parts, one);
+    let other = depth_of(parts, two);
+    if depth != other {
+        return depth < other;
+    }
+    is_earlier(parts, one, two, depth)
+}
+
+/// Whether a node that lives is reached from the root, so many steps below it.
+fn is_reached<A: Kept>(parts: &Parts<A>, root: NodeId, node: NodeId, depth: u32) -> bool
+    requires sound { IsSound root (changes_of parts.now) (nodes_of parts.now) }
+    requires lives { IsSome (nodes_of parts.now node) }
+    requires deep { depth_in (nodes_of parts.now node) ≡ depth }
+    ensures { IsTrue result ↔ IsOnLevel (nodes_of parts.now) root depth node }
+{
+    let mut at = node;
+    let mut left = depth;
+    while left > 0 {
+        if is_loose(parts, at) {
+            return false;
+        }
+        at = parent_of(parts, at);
+        left -= 1;
+    }
+    true
+}
+
+/// The next node of a level that has children, that way, from one that has some.
+pub(crate) fn next_full<A: Kept>(
+    parts: &Parts<A>,
+    threads: &Threads,
+    root: NodeId,
+    node: NodeId,
+    depth: u32,
+    way: Way,
+) -> Option<NodeId>
+    requires sound { IsSound root (changes_of parts.now) (nodes_of parts.now) }
+    requires below { 0 < depth }
+    requires among { In node (level_nodes (nodes_of parts.now) root (depth - 1)) }
+    requires full { IsFull (nodes_of parts.now) node }
+    ensures { (full before after : List ℕ) → Chain threads.now root full root
+        → AreFull (nodes_of parts.now) (nodes_of parts.now) root full
+        → oriented way (level_nodes (nodes_of parts.now) root (depth - 1)) ≡ before ++ node ∷ after
+        → IsFirstFull (nodes_of parts.now) result after }
+{
+    let mut at = threads.next(node, way);
+    for _step in 0..parts.live() {
+        if at == root || depth_of(parts, at) != depth {
+            return None;
+        }
+        if parts.is_at_rest() || is_reached(parts, root, at, depth) {
+            return Some(at);
+        }
+        at = threads.next(at, way);
+    }
+    None
+}
+
+/// The one of the ring behind which a node belongs, where the search goes on from one that comes before it.
+fn place_behind<A: Kept>(
+    parts: &Parts<A>,
+    threads: &Threads,
+    root: NodeId,
+    node: NodeId,
+    start: NodeId,
+) -> NodeId
+    ensures { (full : List ℕ) → IsOpen (nodes_of parts.now) threads.now root full node (live_slots parts.now.slots)
+        → IsStart (nodes_of parts.now) root full node start → IsPlace (nodes_of parts.now) root full node result }
+{
+    let mut behind = start;
+    for _step in 0..parts.live() {
+        let next = threads.next(behind, Way::Right);
+        if next == root || !precedes(parts, next, node) {
+            return behind;
+        }
+        behind = next;
+    }
+    behind
+}
+
+/// Whether the first node is in the ring, and comes before the second.
+fn is_start<A: Kept>(parts: &Parts<A>, root: NodeId, one: NodeId, node: NodeId) -> bool
+    ensures { IsTrue result → IsFull (nodes_of parts.now) one × (one ≢ root) × Precedes (nodes_of parts.now) one node }
+{
+    one != root && is_full(parts, one) && precedes(parts, one, node)
+}
+
+/// The last of these nodes that has children.
+fn last_full<A: Kept>(parts: &Parts<A>, nodes: &[NodeId]) -> Option<NodeId> {
+    let mut left = nodes.len();
+    while left > 0 {
+        left -= 1;
+        if is_full(parts, nodes[left]) {
+            return Some(nodes[left]);
+        }
+    }
+    None
+}
+
+/// The children of a node, none where it does not live.
+fn kids_of<A: Kept>(parts: &Parts<A>, node: NodeId) -> &[NodeId] {
+    match parts.get(node) {
+        Some(_) => parts.kids(node),
+        None => &[],
+    }
+}
+
+/// The last node that has children before a node on its level, as far as the ring tells; the root where there is none.
+fn full_before<A: Kept>(parts: &Parts<A>, threads: &Threads, root: NodeId, node: NodeId) -> NodeId {
+    let mut parent = parent_of(parts, node);
+    let depth = depth_of(parts, parent);
+    let mut kids = kids_of(parts, parent);
+    if let Some(at) = position(parts, kids, node, place_of(parts, node)) {
+        if at < kids.len() {
+            kids = &kids[..at];
+        }
+    }
+    for _step in 0..parts.live() {
+        if let Some(found) = last_full(parts, kids) {
+            return found;
+        }
+        parent = threads.next(parent, Way::Left);
+        if parent == root || depth_of(parts, parent) != depth {
+            return root;
+        }
+        kids = kids_of(parts, parent);
+    }
+    root
+}
+
+/// One of the ring that comes before a node, or the root: that behind which it stood when it had children last, or else the
+/// last before it on its level, or else its parent.
+fn near_by<A: Kept>(parts: &Parts<A>, threads: &Threads, root: NodeId, node: NodeId) -> NodeId
+    ensures { (result ≡ root)
+        ⊎ (IsFull (nodes_of parts.now) result × (result ≢ root) × Precedes (nodes_of parts.now) result node) }
+{
+    let last = threads.next(node, Way::Left);
+    if is_start(parts, root, last, node) {
+        return last;
+    }
+    let before = full_before(parts, threads, root, node);
+    if is_start(parts, root, before, node) {
+        return before;
+    }
+    let parent = parent_of(parts, node);
+    if is_start(parts, root, parent, node) {
+        return parent;
+    }
+    root
+}
+
+/// Puts a node into the ring that has got children, or takes it out where it has lost them; `was` tells whether it had some.
+pub(crate) fn refit<A: Kept>(
+    threads: &mut Threads,
+    parts: &Parts<A>,
+    root: NodeId,
+    node: NodeId,
+    was: bool,
+)
+    requires { IsSound root (changes_of parts.now) (nodes_of parts.now) }
+    ensures links { KeepsLinks threads.old threads.new }
+    ensures ring { (before : Nodes A) → Turns before (nodes_of parts.now) node → (IsTrue was ↔ IsFull before node)
+        → IsThreaded before before threads.old root
+        → IsThreaded (nodes_of parts.now) (nodes_of parts.now) threads.new root }
+{
+    let is = is_full(parts, node);
+    if node == root || is == was {
+        return;
+    }
+    if is {
+        let start = near_by(parts, threads, root, node);
+        let behind = place_behind(parts, threads, root, node, start);
+        threads.put_in(node, behind);
+    } else {
+        threads.take_out(node);
+    }
+}
+
+/// Takes a node, which is to be removed, out of the ring if it has children.
+pub(crate) fn forget<A: Kept>(threads: &mut Threads, parts: &Parts<A>, root: NodeId, node: NodeId)
+    requires { node ≢ root }
+    ensures links { KeepsLinks threads.old threads.new }
+    ensures ring { (order : Nodes A) → IsThreaded order (nodes_of parts.now) threads.old root
+        → IsThreaded order (put (nodes_of parts.now) node None) threads.new root }
+{
+    if is_full(parts, node) {
+        threads.take_out(node);
+    }
+}
