@@ -4,8 +4,14 @@
 //! and its number among that parent's children.
 #![tactic(auto)]
 
+mod law;
+mod moving;
 mod origin;
 mod pairing;
+mod tags;
 
+pub use law::{law_of_given_tags, law_of_mates};
+pub use moving::move_kept;
 pub use origin::Origin;
 pub use pairing::pair;
+pub use tags::TagSupply;
