@@ -1,0 +1,3 @@
+pub mod Stepping
+pub mod Limiting
+pub mod Growing
