@@ -1,9 +1,8 @@
 -- What is made of children, one after another, is what the cut leaves of them.
-use Rattle.std.proofs.Common.{◌≡◌, ℕ, zero, suc, ◌+◌, ◌<◌, ◌≤◌, Bool, true, false, cond, ◌==◌, Option, Some, None, List, [], ◌∷◌, ◌++◌, length, map, refl, sym, ap, ◌∙◌, subst, arith, append_assoc, append-nil, length-append, drop}
-use Rattle.std.specs.Prelude.{ℤ, slice_get, IfSome, fold}
+use Rattle.std.proofs.Common.{◌≡◌, ℕ, zero, suc, ◌+◌, ◌<◌, ◌≤◌, Bool, true, false, cond, ◌==◌, Option, Some, None, List, [], ◌∷◌, ◌++◌, length, refl, sym, ap, ◌∙◌, subst, arith, append_assoc, append-nil, length-append, drop}
+use Rattle.std.specs.Prelude.{slice_get, fold}
 use Rattle.std.proofs.lemmas.Bool.{eqb-true, eqb-false}
 use Rattle.std.proofs.lemmas.List.{map-append, length-map, drop_all}
-use Rattle.lsys_syntax.specs.Strings as S
 use Rattle.lsys_spec.specs.Draws.{axiom_key_of, child_key_of, key_of}
 use Rattle.lsys_spec.specs.Levels as L
 use Rattle.lsys_spec.specs.Levels.{Push, Pop, Module, lineage, plain}
@@ -13,7 +12,6 @@ use Rattle.lsys_module.specs.Views.{symbol_of, string_of, module_name}
 use Rattle.lsys_module.specs.declared.symbol.Symbol.{Symbol}
 use Rattle.lsys_module.specs.declared.symbol.Symbol.TheVariants as code
 use Rattle.lsys_rewrite.specs.Cutting.{raw_plain, stays, cutting_behind}
-use Rattle.lsys_rewrite.proofs.CutPlaces.{depth_behind}
 use Rattle.lsys_pairing.specs.declared.origin.Origin.{Origin}
 use Rattle.lsys_pairing.specs.Origins.{IsChild, AreChildren}
 use Rattle.lsys_offspring.specs.Grown.{Grown, with_symbol, where_room, with_child, with_children, cutting_after, HasSymbols, Holds, IsGrown}
@@ -97,7 +95,7 @@ more_symbols seed above y symbols origins keys parent a o key s h e l g k = reco
 }
 
 module _ (seed : ℕ) (above : List L.Symbol) (raw : List Raw) (g : Grown) (parent : L.Symbol) (o : Origin) (key : ℕ) (s : Symbol) (r : Raw) (h : IsGrown seed above raw g) (e : raw_plain r ≡ symbol_of s)
-        (l : raw_lineage r ≡ lineage parent ++ o.number ∷ []) (there : slice_get above o.parent ≡ Some parent) (k : key ≡ key_of seed (lineage parent)) where
+    (l : raw_lineage r ≡ lineage parent ++ o.number ∷ []) (there : slice_get above o.parent ≡ Some parent) (k : key ≡ key_of seed (lineage parent)) where
   longer : g.room < length (cut raw) → g.room < length (cut (raw ++ r ∷ []))
   longer n = omega (arith, ap length (cut_more None raw r), length-append (cut raw) (cut_on (cutting_after None raw) (r ∷ [])))
 

@@ -1,5 +1,5 @@
 -- A derivation step, symbol by symbol.
-use Rattle.std.proofs.Common.{◌≡◌, ℕ, zero, suc, ◌+◌, Some, Result, Ok, Err, List, [], ◌∷◌, ◌++◌, drop, refl, sym, ap, ◌∙◌, add-one}
+use Rattle.std.proofs.Common.{◌≡◌, ℕ, zero, suc, ◌+◌, Some, Result, Ok, Err, List, [], ◌∷◌, ◌++◌, drop, sym, ap, ◌∙◌, add-one}
 use Rattle.std.specs.Prelude.{ℤ, slice_get}
 use Rattle.lsys_syntax.specs.Strings as S
 use Rattle.lsys_spec.specs.Systems.{System}

@@ -1,7 +1,8 @@
 //! Laws of derivations, step by step.
 ghost use Rattle.std.specs.Prelude.{◌≡◌, ◌+◌, ◌++◌, ◌<◌, ◌≤◌, ◌∷◌, ℕ, ℤ, Some, Ok, Err, List, [], length, slice_get, sum_by};
+ghost use Rattle.lsys_syntax.specs.Limits.{most_axiom_symbols, most_successor_symbols};
 ghost use Rattle.lsys_syntax.specs.Strings as strings;
-ghost use Rattle.lsys_spec.specs.Systems.{System};
+ghost use Rattle.lsys_spec.specs.Systems.{System, WellFormed};
 ghost use Rattle.lsys_spec.specs.Levels.{Symbol, lineage};
 ghost use Rattle.lsys_spec.specs.Choice.{Fault};
 ghost use Rattle.lsys_spec.specs.Cuts.{Raw, cut};
@@ -36,4 +37,11 @@ pub fn law_of_meanings()
         → meaning s limit ≡ Err (OverLimit (t + 1)) }
     ensures refused { (s : System) (limit t : ℕ) (xs : List (List Symbol)) (e : LevelRefusal) → meaning_to s limit t ≡ Ok xs
         → next_level s t (last_level xs) ≡ Err e → t < s.depth → meaning s limit ≡ Err e }
+{}
+
+/// A law of lengths: the axiom of a well-formed system, and what replaces a symbol in it, are as short as its lines.
+pub fn law_of_short_strings()
+    ensures axioms { (s : System) → WellFormed s → length s.axiom_string ≤ most_axiom_symbols }
+    ensures replacements { (s : System) → WellFormed s → (t : ℕ) (x : List Symbol) (p : ℕ) (a : Symbol)
+        (ys : List (strings.Symbol ℤ)) → replacement s t x p a ≡ Ok ys → length ys ≤ most_successor_symbols }
 {}

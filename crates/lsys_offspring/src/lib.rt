@@ -8,6 +8,6 @@ mod law;
 mod level;
 mod next;
 
-pub use law::{law_of_meanings, law_of_next_levels};
+pub use law::{law_of_meanings, law_of_next_levels, law_of_short_strings};
 pub use level::Level;
 pub use next::NextLevel;
