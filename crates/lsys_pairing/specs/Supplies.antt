@@ -1,5 +1,6 @@
 -- Tags that are in use, as marks by number, and tags that are given.
-use Rattle.std.specs.Prelude.{◌≡◌, ◌≤◌, ◌-◌, ◌+◌, ◌==◌, ◌||◌, ℕ, Bool, false, Option, Some, None, List, [], ◌∷◌, count_by, take, slice_get, slice_index_or}
+use Rattle.std.specs.Prelude.{◌≡◌, ◌≤◌, ◌-◌, ◌+◌, ◌==◌, ◌||◌, ℕ, Bool, true, false, Option, Some, None, List, [], ◌∷◌, count_by, length, take, slice_get, slice_index_or}
+use Rattle.lsys_spec.specs.Systems.{Each}
 
 -- the marks, and the number from which on tags are given
 pub record Supply : Type 0 where
@@ -29,6 +30,13 @@ taken s = given s.used s.next + marked s.used
 pub record MarksTag (tag : ℕ) (old new : Supply) : Type 0 where
   pub used : (k : ℕ) → in_use new.used k ≡ (k == tag) || in_use old.used k
   pub few : marked new.used ≤ marked old.used + 1
+  pub next : new.next ≡ old.next
+
+-- all these tags are in use, and those that were
+pub record MarksAll (tags : List ℕ) (old new : Supply) : Type 0 where
+  pub used : Each (λ k. in_use new.used k ≡ true) tags
+  pub stay : (k : ℕ) → in_use old.used k ≡ true → in_use new.used k ≡ true
+  pub few : marked new.used ≤ marked old.used + length tags
   pub next : new.next ≡ old.next
 
 -- the same tags are in use

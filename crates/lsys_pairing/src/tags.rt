@@ -1,7 +1,7 @@
 //! The tags of new levels.
 ghost use Rattle.std.specs.Prelude.{◌≡◌, ◌+◌, ◌<◌, ◌≤◌, ◌^◌, [], length, false, IfOk, OnOk, OnErr};
 ghost use Rattle.lsys_pairing.specs.Moves.{AreBelow};
-ghost use Rattle.lsys_pairing.specs.Supplies.{in_use, given, marked, taken, MarksTag, KeepsMarks, AreNamed};
+ghost use Rattle.lsys_pairing.specs.Supplies.{in_use, given, marked, taken, MarksTag, MarksAll, KeepsMarks, AreNamed};
 
 use lsys_level::Tag;
 use std::alloc::{AllocError, Global};
@@ -50,6 +50,20 @@ impl TagSupply {
             self.used.push(false)?;
         }
         self.used[place] = true;
+        Ok(())
+    }
+
+    /// Marks all these tags as in use.
+    ///
+    /// # Errors
+    ///
+    /// Want of memory. Some of the tags are marked then.
+    pub fn mark_all(&mut self, tags: &[Tag]) -> Result<(), AllocError>
+        ensures { OnOk result (MarksAll tags.now self.old self.new) }
+    {
+        for tag in tags {
+            self.mark(*tag)?;
+        }
         Ok(())
     }
 

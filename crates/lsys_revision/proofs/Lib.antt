@@ -1,0 +1,4 @@
+pub mod Below
+pub mod Seeing
+pub mod Marking
+pub mod Adding
