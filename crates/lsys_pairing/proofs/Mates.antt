@@ -177,7 +177,7 @@ kept a b x y old new above h i from place k mates o mate w g j less stops some n
                 let after : Before (lineage n.0) (lineage r) = subst (λ l. Before l (lineage r)) (sym own) (subst (Before (lineage up.0 ++ o.number ∷ [])) (sym c.2) (in_order a h.above_rises k u.parent o.number u.number up.0 c.0 up.1 c.1 d)) in
                 never_before_itself (lineage n.0) (lineage s) (sym q) (before_then (lineage n.0) (lineage r) (lineage s) after first)
 
-children_length : (a : List Symbol) (os : List Origin) (x : List Symbol) → AreChildren a os x → length os ≡ length x
+pub children_length : (a : List Symbol) (os : List Origin) (x : List Symbol) → AreChildren a os x → length os ≡ length x
 children_length a [] [] h = refl
 children_length a [] (s ∷ x) h = absurd h
 children_length a (o ∷ os) [] h = absurd h

@@ -1,12 +1,11 @@
 -- Levels, one below another.
-use Rattle.std.proofs.Common.{◌≡◌, ℕ, zero, suc, ◌+◌, ◌≤◌, List, [], ◌∷◌, ◌++◌, length, map, get_or, refl, sym, ap, ◌∙◌, subst, arith}
+use Rattle.std.proofs.Common.{◌≡◌, ℕ, zero, suc, ◌≤◌, List, [], ◌∷◌, ◌++◌, length, get_or, refl, sym, ap, subst, arith}
 use Rattle.std.specs.Prelude.{sum_by}
 use Rattle.std.proofs.lemmas.List.Sums.{sum_by-cons}
 use Rattle.lsys_spec.specs.Systems.{Each}
 use Rattle.lsys_spec.specs.Levels.{Symbol}
 use Rattle.lsys_spec.specs.Cuts.{Rising}
 use Rattle.lsys_pairing.specs.Origins.{AreChildren, root}
-use Rattle.lsys_pairing.specs.declared.origin.Origin.{Origin}
 use Rattle.lsys_pairing.proofs.Agreeing.{rising_at}
 use Rattle.lsys_revision.specs.Lines.{Line, no_line, AreLines}
 use Rattle.lsys_revision.specs.Revised.{tags_of, above_level}

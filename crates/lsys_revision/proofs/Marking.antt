@@ -1,9 +1,9 @@
 -- The tags of the old levels are in use.
-use Rattle.std.proofs.Common.{◌≡◌, ℕ, ◌+◌, ◌≤◌, true, List, [], ◌∷◌, ◌++◌, Some, length, map, refl, sym, ap, ◌∙◌, subst, arith, append_assoc, append-nil, length-append}
+use Rattle.std.proofs.Common.{◌≡◌, ℕ, ◌+◌, true, List, [], ◌∷◌, ◌++◌, Some, length, refl, sym, ap, ◌∙◌, arith, append_assoc, append-nil, length-append}
 use Rattle.std.specs.Prelude.{sum_by}
 use Rattle.std.proofs.lemmas.List.Sums.{sum_by-cons}
 use Rattle.lsys_spec.specs.Systems.{Each}
-use Rattle.lsys_spec.specs.Levels.{Symbol, lineage}
+use Rattle.lsys_spec.specs.Levels.{Symbol}
 use Rattle.lsys_pairing.specs.Supplies.{Supply, in_use, MarksAll}
 use Rattle.lsys_pairing.specs.Tagged.{Tagged, tagged, all_tagged}
 use Rattle.lsys_revision.specs.Lines.{Line, AreLines}
@@ -28,9 +28,9 @@ each_parts : (P : ℕ → Type 0) (ks ms : List ℕ) → Each P (ks ++ ms) → E
 each_parts P [] ms h = (tt, h)
 each_parts P (k ∷ ks) ms h = let r = each_parts P ks ms h.1 in ((h.0, r.0), r.1)
 
-each_both : (P : Tagged → Type 0) (as bs : List Tagged) → Each P as → Each P bs → Each P (as ++ bs)
+each_both : (P : Tagged → Type 0) (cs bs : List Tagged) → Each P cs → Each P bs → Each P (cs ++ bs)
 each_both P [] bs h g = g
-each_both P (a ∷ as) bs h g = (h.0, each_both P as bs h.1 g)
+each_both P (a ∷ cs) bs h g = (h.0, each_both P cs bs h.1 g)
 
 of_level : (P : ℕ → Type 0) (t : ℕ) (x : List Symbol) (ks : List ℕ) → Each P ks → Each (λ a. P a.tag) (tagged t x ks)
 of_level P t [] ks h = tt
@@ -45,7 +45,7 @@ of_levels P t (x ∷ xs) (l ∷ ls) h =
 
 -- nothing was made yet
 pub started : (seed : ℕ) (xs : List (List Symbol)) (ls : List Line) (s : Supply) → AreOldLevels xs ls → MarksAll (all_tags ls) (record { used = []; next = 0 }) s
-    → IsRevised seed xs [] (record { old = ls; view = []; lines = []; supply = s; mates = Some 0 ∷ [] })
+    → IsRevised seed xs [] (record { old_lines = ls; view = []; lines = []; supply = s; mates = Some 0 ∷ [] })
 started seed xs ls s h m = record {
   olds = h;
   in_use = of_levels (λ k. in_use s.used k ≡ true) 0 xs ls m.used;

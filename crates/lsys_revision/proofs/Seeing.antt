@@ -1,14 +1,13 @@
 -- What is seen of a level.
-use Rattle.std.proofs.Common.{◌≡◌, ℕ, zero, suc, ◌+◌, Bool, true, false, List, [], ◌∷◌, ◌++◌, length, map, refl, sym, ap, ◌∙◌, arith}
-use Rattle.std.specs.Prelude.{ℤ}
+use Rattle.std.proofs.Common.{◌≡◌, ℕ, zero, suc, false, List, [], ◌∷◌, ◌++◌, length, map, refl, sym, ap, arith}
 use Rattle.lsys_syntax.specs.Strings as S
 use Rattle.lsys_spec.specs.Draws.{key_of}
 use Rattle.lsys_spec.specs.Levels as L
 use Rattle.lsys_spec.specs.Levels.{Symbol, lineage, plain, level_balanced}
-use Rattle.lsys_module.specs.Views.{symbol_of, string_of}
+use Rattle.lsys_module.specs.Views.{symbol_of, string_of, module_name}
 use Rattle.lsys_module.specs.declared.symbol.Symbol.{Symbol as Code}
 use Rattle.lsys_module.specs.declared.symbol.Symbol.TheVariants as code
-use Rattle.lsys_level.specs.Spots.{Spotted}
+use Rattle.lsys_level.specs.Spots.{Module}
 use Rattle.lsys_level.specs.Places.{seen_in, spots_of, has_cut}
 use Rattle.lsys_pairing.specs.Tagged.{HaveTags}
 use Rattle.lsys_revision.specs.Lines.{Line, AreLines}
@@ -26,7 +25,10 @@ seen_same (L.Pop l) (code.Module m) e = cc
 seen_same (L.Module l k) code.Push e = cc
 seen_same (L.Module l k) code.Pop e = cc
 seen_same (L.Module l k) code.Cut e = cc
-seen_same (L.Module l k) (code.Module m) e = cc
+seen_same (L.Module l k) (code.Module m) e =
+    let name : k.name ≡ module_name m.name = cc in
+    let params : k.params ≡ m.params = cc in
+    λ i. Module (record { name = sym name i; params = sym params i })
 
 pub spots_same : (seed : ℕ) (y : List Symbol) (symbols : List Code) (ks : List ℕ) → map plain y ≡ string_of symbols → spots_of symbols ks (map (λ s. key_of seed (lineage s)) y) ≡ spots_by seed y ks
 spots_same seed [] [] ks e = refl
@@ -45,15 +47,12 @@ pub no_cut : (y : List Symbol) (symbols : List Code) → map plain y ≡ string_
 no_cut [] [] e = refl
 no_cut [] (c ∷ cs) e = cc
 no_cut (a ∷ y) [] e = cc
-no_cut (a ∷ y) (c ∷ cs) e = by a c e
-  where
-    by : (a : Symbol) (c : Code) → map plain (a ∷ y) ≡ string_of (c ∷ cs) → has_cut (c ∷ cs) ≡ false
-    by a code.Push e = no_cut y cs cc
-    by a code.Pop e = no_cut y cs cc
-    by a (code.Module m) e = no_cut y cs cc
-    by (L.Push l) code.Cut e = cc
-    by (L.Pop l) code.Cut e = cc
-    by (L.Module l m) code.Cut e = cc
+no_cut (a ∷ y) (code.Push ∷ cs) e = let rest : map plain y ≡ string_of cs = cc in no_cut y cs rest
+no_cut (a ∷ y) (code.Pop ∷ cs) e = let rest : map plain y ≡ string_of cs = cc in no_cut y cs rest
+no_cut (a ∷ y) (code.Module m ∷ cs) e = let rest : map plain y ≡ string_of cs = cc in no_cut y cs rest
+no_cut (L.Push l ∷ y) (code.Cut ∷ cs) e = cc
+no_cut (L.Pop l ∷ y) (code.Cut ∷ cs) e = cc
+no_cut (L.Module l m ∷ y) (code.Cut ∷ cs) e = cc
 
 -- a balanced level is a balanced string
 pub string_balanced : (n : ℕ) (y : List Symbol) → level_balanced n y ≡ S.balanced n (map plain y)

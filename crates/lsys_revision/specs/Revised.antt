@@ -15,7 +15,7 @@ use Rattle.lsys_offspring.specs.declared.level.Level.{Level}
 use Rattle.lsys_revision.specs.Lines.{Line, AreLines}
 
 pub record Revised : Type 0 where
-  pub old : List Line
+  pub old_lines : List Line
   pub view : List (List Spotted)
   pub lines : List Line
   pub supply : Supply
@@ -65,12 +65,12 @@ above_level xs zero = root
 above_level xs (suc t) = slice_index_or xs t []
 
 pub record IsRevised (seed : ℕ) (xs ys : List (List Symbol)) (r : Revised) : Type 0 where
-  pub olds : AreOldLevels xs r.old
-  pub in_use : Each (λ a. in_use r.supply.used a.tag ≡ true) (all_tagged 0 xs (tags_of r.old))
+  pub olds : AreOldLevels xs r.old_lines
+  pub in_use : Each (λ a. in_use r.supply.used a.tag ≡ true) (all_tagged 0 xs (tags_of r.old_lines))
   pub rise : Each Rising ys
   pub lines : AreLines root ys r.lines
   pub view : r.view ≡ all_spots seed ys (tags_of r.lines)
-  pub named : AreAllNamed xs (tags_of r.old) r.supply 0 0 ys (tags_of r.lines)
+  pub named : AreAllNamed xs (tags_of r.old_lines) r.supply 0 0 ys (tags_of r.lines)
   pub mates : r.mates ≡ places_in (above_level xs (length ys)) (above_level ys (length ys))
   pub few : taken r.supply ≤ sum_by length xs + sum_by length ys
 

@@ -9,5 +9,5 @@ ghost use Rattle.lsys_revision.specs.Revised.{Revised, tags_of, AreOldLevels, Is
 pub fn law_of_revisions()
     ensures next { (seed : ℕ) (xs ys : List (List Symbol)) (r : Revised) → IsRevised seed xs ys r → AreOldLevels ys r.lines }
     ensures tags { (seed : ℕ) (xs ys : List (List Symbol)) (r : Revised) → IsRevised seed xs ys r
-        → AgreeAll (all_tagged 0 xs (tags_of r.old)) (all_tagged 0 ys (tags_of r.lines)) }
+        → AgreeAll (all_tagged 0 xs (tags_of r.old_lines)) (all_tagged 0 ys (tags_of r.lines)) }
 {}

@@ -5,7 +5,7 @@ ghost use Rattle.lsys_revision.specs.Lines.{line_of, no_line};
 ghost use Rattle.lsys_revision.specs.Revised.{AreOldLevels, CanAdd, IsNext, IsRevised};
 
 use crate::ancestry::Ancestry;
-use lsys_level::FlatLevels;
+use lsys_level::{FlatLevels, Tag};
 use lsys_offspring::Level;
 use lsys_pairing::{TagSupply, pair};
 use std::alloc::{AllocError, Global};
@@ -14,7 +14,7 @@ use std::marker::Model;
 /// The levels of a changed system, as far as they were made, beside the old ones.
 #[derive(Drop)]
 pub struct Revision<'a> {
-    old: &'a [Ancestry],
+    olds: &'a [Ancestry],
     view: FlatLevels,
     ancestries: Vec<Ancestry>,
     supply: TagSupply,
@@ -22,7 +22,7 @@ pub struct Revision<'a> {
     alloc: Global,
 }
 
-impl Model for Revision<'_> {
+impl<'a> Model for Revision<'a> {
     ghost use Rattle.std.specs.Prelude.{map};
     ghost use Rattle.lsys_revision.specs.Lines.{line_of};
     ghost use Rattle.lsys_revision.specs.Revised.{Revised};
@@ -30,7 +30,7 @@ impl Model for Revision<'_> {
     ghost Value = { Revised };
 
     ghost view = { λ a. record {
-      old = map line_of a.old.now;
+      old_lines = map line_of a.olds.now;
       view = a.view;
       lines = map line_of a.ancestries.items;
       supply = a.supply;
@@ -44,18 +44,18 @@ impl<'a> Revision<'a> {
     /// # Errors
     ///
     /// Want of memory.
-    pub fn new(alloc: Global, old: &'a [Ancestry]) -> Result<Revision<'a>, AllocError>
-        ensures { IfOk result (λ r. (seed : ℕ) (xs : List (List levels.Symbol)) → AreOldLevels xs (map line_of old.now)
+    pub fn new(alloc: Global, olds: &'a [Ancestry]) -> Result<Revision<'a>, AllocError>
+        ensures { IfOk result (λ r. (seed : ℕ) (xs : List (List levels.Symbol)) → AreOldLevels xs (map line_of olds.now)
             → IsRevised seed xs [] r) }
     {
         let mut supply = TagSupply::new(alloc);
-        for ancestry in old {
+        for ancestry in olds {
             supply.mark_all(ancestry.tags.as_slice())?;
         }
         let mut mates = Vec::new(alloc);
         mates.push(Some(0))?;
         Ok(Revision {
-            old,
+            olds,
             view: FlatLevels::new(alloc),
             ancestries: Vec::new(alloc),
             supply,
@@ -78,7 +78,7 @@ impl<'a> Revision<'a> {
             origins: Vec::new(self.alloc),
             tags: Vec::new(self.alloc),
         };
-        let old = line_at(self.old, self.ancestries.len(), &none);
+        let old = line_at(self.olds, self.ancestries.len(), &none);
         let mates = pair(
             self.alloc,
             old.origins.as_slice(),
@@ -88,8 +88,11 @@ impl<'a> Revision<'a> {
         let tags = self
             .supply
             .name_level(self.alloc, mates.as_slice(), old.tags.as_slice())?;
-        self.view
-            .push_level(level.symbols, tags.clone()?, level.keys)?;
+        self.view.push_level(
+            level.symbols,
+            copy_of(self.alloc, tags.as_slice())?,
+            level.keys,
+        )?;
         self.ancestries.push(Ancestry {
             origins: level.origins,
             tags,
@@ -114,8 +117,8 @@ impl<'a> Revision<'a> {
 
     /// The new levels, with what is kept beside their symbols.
     pub fn finish(self) -> (FlatLevels, Vec<Ancestry>)
-        ensures view { result.0 ≡ self.view }
-        ensures lines { map line_of result.1.items ≡ self.lines }
+        ensures view { result.0 ≡ self.entry.view }
+        ensures lines { map line_of result.1.items ≡ self.entry.lines }
     {
         (self.view, self.ancestries)
     }
@@ -130,4 +133,12 @@ fn line_at<'b>(old: &'b [Ancestry], level: usize, none: &'b Ancestry) -> &'b Anc
         Some(line) => line,
         None => none,
     }
+}
+
+fn copy_of(alloc: Global, tags: &[Tag]) -> Result<Vec<Tag>, AllocError>
+    ensures { IfOk result (λ copy. copy.items ≡ tags.now) }
+{
+    let mut copy = Vec::with_capacity(alloc, tags.len())?;
+    copy.extend_from_slice(tags)?;
+    Ok(copy)
 }
