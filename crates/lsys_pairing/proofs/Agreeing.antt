@@ -27,7 +27,7 @@ in_append a (b ∷ bs) cs (inl (inl e)) = inl e
 in_append a (b ∷ bs) cs (inl (inr i)) = inr (in_append a bs cs (inl i))
 in_append a (b ∷ bs) cs (inr i) = inr (in_append a bs cs (inr i))
 
-append_in : (a : Tagged) (bs cs : List Tagged) → In a (bs ++ cs) → In a bs ⊎ In a cs
+pub append_in : (a : Tagged) (bs cs : List Tagged) → In a (bs ++ cs) → In a bs ⊎ In a cs
 append_in a [] cs i = inr i
 append_in a (b ∷ bs) cs (inl e) = inl (inl e)
 append_in a (b ∷ bs) cs (inr i) = by (append_in a bs cs i)

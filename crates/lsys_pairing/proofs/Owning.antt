@@ -12,12 +12,12 @@ use Rattle.lsys_pairing.specs.Tagged.{Tagged, all_tagged, Agree, AgreeAll, HaveT
 use Rattle.lsys_pairing.proofs.Agreeing.{In, each_in, in_old, rising_at}
 
 -- a symbol of the levels, with the tag that stands at a spot
-record StandsAt (ys : List (List Symbol)) (tags : List (List ℕ)) (t p tag : ℕ) : Type 0 where
+pub record StandsAt (ys : List (List Symbol)) (tags : List (List ℕ)) (t p tag : ℕ) : Type 0 where
   pub symbol : Symbol
   pub there : slice_get (get_or ys t []) p ≡ Some symbol
   pub has_tag : slice_get (get_or tags t []) p ≡ Some tag
 
-stands_at : (ys : List (List Symbol)) (tags : List (List ℕ)) (xs : List (List Spotted)) → HaveTags ys tags xs → (t p : ℕ) (a : Spotted) → slice_get (get_or xs t []) p ≡ Some a → StandsAt ys tags t p a.tag
+pub stands_at : (ys : List (List Symbol)) (tags : List (List ℕ)) (xs : List (List Spotted)) → HaveTags ys tags xs → (t p : ℕ) (a : Spotted) → slice_get (get_or xs t []) p ≡ Some a → StandsAt ys tags t p a.tag
 stands_at [] [] [] h t p a g = cc
 stands_at (y ∷ ys) (ks ∷ tags) (x ∷ xs) h zero p a g =
     let l : p < length x = slice_get_within x p a g in

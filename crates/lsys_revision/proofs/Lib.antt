@@ -2,3 +2,4 @@ pub mod Below
 pub mod Seeing
 pub mod Marking
 pub mod Adding
+pub mod Together

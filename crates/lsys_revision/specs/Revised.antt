@@ -1,11 +1,11 @@
 -- New levels beside old ones.
-use Rattle.std.specs.Prelude.{◌≡◌, ◌<◌, ◌≤◌, ◌+◌, ◌^◌, ℕ, zero, suc, true, Option, List, [], ◌∷◌, length, map, sum_by, slice_index_or}
+use Rattle.std.specs.Prelude.{◌≡◌, ◌<◌, ◌≤◌, ◌+◌, ◌^◌, ℕ, zero, suc, true, Option, Some, List, [], ◌∷◌, length, map, sum_by, slice_get, slice_index_or}
 use Rattle.lsys_spec.specs.Draws.{key_of}
 use Rattle.lsys_spec.specs.Systems.{Each}
 use Rattle.lsys_spec.specs.Levels as L
 use Rattle.lsys_spec.specs.Levels.{Symbol, lineage, level_balanced}
 use Rattle.lsys_spec.specs.Cuts.{Rising}
-use Rattle.lsys_level.specs.Spots.{Seen, Push, Pop, Module, Spotted}
+use Rattle.lsys_level.specs.Spots.{Seen, Push, Pop, Module, Spotted, level_by, level_at}
 use Rattle.lsys_need.specs.Kept.{places_in}
 use Rattle.lsys_pairing.specs.Origins.{root}
 use Rattle.lsys_pairing.specs.Supplies.{Supply, in_use, taken, AreNamed}
@@ -89,3 +89,22 @@ pub record CanAdd (r : Revised) (level : Level) : Type 0 where
   pub y : List Symbol
   pub so_far : IsRevised seed xs ys r
   pub next : IsNext seed xs ys y level
+
+-- 3. by one naming of the tags
+
+-- the tag stands in this list
+abbrev pub HasTag : ℕ → List Spotted → Type 0
+HasTag k row = (p : ℕ) × (a : Spotted) × (slice_get row p ≡ Some a) × (a.tag ≡ k)
+
+-- One naming makes the old levels of what was seen of them, and the new ones of what is seen; and on each level the tags of both are equal where their names are.
+pub record AreNamedTogether (xs ys : List (List Symbol)) (old new : List (List Spotted)) : Type 0 where
+  pub naming : ℕ → List ℕ
+  pub old_levels : (t : ℕ) → level_by naming (level_at old t) ≡ slice_index_or xs t []
+  pub new_levels : (t : ℕ) → level_by naming (level_at new t) ≡ slice_index_or ys t []
+  pub across : (t k m : ℕ) → HasTag k (level_at old t) → HasTag m (level_at new t) → naming k ≡ naming m → k ≡ m
+
+-- the module m stands at place p; its tag names its lineage l, of which it has the key
+pub record IsKeyed (naming : ℕ → List ℕ) (seed : ℕ) (row : List Spotted) (p : ℕ) (l : List ℕ) (m : L.ModuleValue) : Type 0 where
+  pub tag : ℕ
+  pub here : slice_get row p ≡ Some (record { seen = Module m; tag = tag; key = key_of seed (naming tag) })
+  pub line : naming tag ≡ l
