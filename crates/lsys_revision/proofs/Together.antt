@@ -1,5 +1,5 @@
 -- One naming of the tags for old and new levels.
-use Rattle.std.proofs.Common.{◌≡◌, ℕ, zero, suc, ◌+◌, Bool, true, false, ◌==◌, cond, Option, Some, None, List, [], ◌∷◌, ◌++◌, length, map, get_or, refl, sym, ap, ◌∙◌, subst, arith, eq-eqb, inl, inr, ◌⊎◌}
+use Rattle.std.proofs.Common.{◌≡◌, ℕ, zero, suc, ◌+◌, Bool, true, false, ◌==◌, cond, Some, List, [], ◌∷◌, ◌++◌, length, get_or, refl, sym, ap, ◌∙◌, subst, arith, eq-eqb, inl, inr, ◌⊎◌}
 use Rattle.std.specs.Prelude.{slice_get, option_map}
 use Rattle.std.proofs.lemmas.Bool.{eqb-true}
 use Rattle.std.proofs.lemmas.Option.{slice_get-map}
@@ -7,10 +7,10 @@ use Rattle.lsys_spec.specs.Draws.{key_of}
 use Rattle.lsys_spec.specs.Systems.{Each}
 use Rattle.lsys_spec.specs.Levels as L
 use Rattle.lsys_spec.specs.Levels.{Symbol, lineage, ModuleValue}
-use Rattle.lsys_level.specs.Spots.{Seen, Spotted, Push, Pop, Module, with_lineage, named, level_by, level_at}
+use Rattle.lsys_level.specs.Spots.{Module, with_lineage, named, level_by, level_at}
 use Rattle.lsys_pairing.specs.Tagged.{Tagged, tagged, all_tagged, Agree, AgreeAll}
 use Rattle.lsys_pairing.proofs.Agreeing.{In, each_in, each_of, in_append, append_in, in_old}
-use Rattle.lsys_pairing.proofs.Owning.{StandsAt, stands_at}
+use Rattle.lsys_pairing.proofs.Owning.{stands_at}
 use Rattle.lsys_revision.specs.Lines.{Line, AreLines}
 use Rattle.lsys_revision.specs.Revised.{Revised, tags_of, seen_by, spots_by, all_spots, HasTag, AreNamedTogether, IsKeyed, IsRevised}
 use Rattle.lsys_revision.proofs.Seeing.{spots_have}
@@ -26,15 +26,15 @@ name_of (a ∷ more) k = cond (a.tag == k) a.line (name_of more k)
 name_told : (xs all : List Tagged) → AgreeAll all all → ((a : Tagged) → In a xs → In a all) → (a : Tagged) → In a xs → name_of xs a.tag ≡ a.line
 unfolding name_of
 name_told [] all h f a i = absurd i
-name_told (b ∷ xs) all h f a i = by (b.tag == a.tag) refl i
+name_told (b ∷ xs) all h f a i = by (λ j. name_told xs all h (λ a i. f a (inr i)) a j) (b.tag == a.tag) refl i
   where
-    by : (c : Bool) → b.tag == a.tag ≡ c → In a (b ∷ xs) → cond (b.tag == a.tag) b.line (name_of xs a.tag) ≡ a.line
-    by true e j =
+    by : (In a xs → name_of xs a.tag ≡ a.line) → (c : Bool) → b.tag == a.tag ≡ c → In a (b ∷ xs) → cond (b.tag == a.tag) b.line (name_of xs a.tag) ≡ a.line
+    by more true e j =
         let same : b.tag ≡ a.tag = eqb-true b.tag a.tag e in
         let both : Agree b a = each_in (Agree b) all a (each_in (λ b. Each (Agree b) all) all b h (f b (inl refl))) (f a j) in
         ap (λ c. cond c b.line (name_of xs a.tag)) e ∙ (both.0 same).1
-    by false e (inl j) = let same : b.tag == a.tag ≡ true = eq-eqb b.tag a.tag (ap (λ (x : Tagged). x.tag) j) in let no : true ≡ false = sym same ∙ e in cc
-    by false e (inr j) = ap (λ c. cond c b.line (name_of xs a.tag)) e ∙ name_told xs all h (λ a i. f a (inr i)) a j
+    by more false e (inl j) = let same : b.tag == a.tag ≡ true = eq-eqb b.tag a.tag (ap (λ (x : Tagged). x.tag) j) in let no : true ≡ false = sym same ∙ e in cc
+    by more false e (inr j) = ap (λ c. cond c b.line (name_of xs a.tag)) e ∙ more j
 
 -- 2. old and new ones together
 
@@ -129,7 +129,7 @@ keyed seed xs ys r h naming t p l m e g =
     let s = spot_there seed _ ys r.lines h.lines t p (L.Module l m) g in
     let there : slice_get (level_at r.view t) p ≡ Some (record { seen = Module m; tag = s.0; key = key_of seed l }) = ap (λ v. slice_get (level_at v t) p) h.view ∙ s.1 in
     let name : naming s.0 ≡ l =
-        let both : Some (L.Module (naming s.0) m) ≡ Some (L.Module l m) =
-            sym (slice_get-map (named naming) (level_at r.view t) p ∙ ap (option_map (named naming)) there) ∙ ap (λ x. slice_get x p) e ∙ g in
-        cc in
+    let both : Some (L.Module (naming s.0) m) ≡ Some (L.Module l m) =
+    sym (slice_get-map (named naming) (level_at r.view t) p ∙ ap (option_map (named naming)) there) ∙ ap (λ x. slice_get x p) e ∙ g in
+    cc in
     record { tag = s.0; here = there ∙ ap (λ l. Some (record { seen = Module m; tag = s.0; key = key_of seed l })) (sym name); line = name }
