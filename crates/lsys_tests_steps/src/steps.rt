@@ -1,4 +1,5 @@
 //! A derivation step beside an old one: mates, tags, what is moved, and the level behind a level.
+ghost use Rattle.std.specs.Prelude.{◌≡◌};
 ghost use Rattle.lsys_text.specs.Texts.{IsNameBytes};
 
 use lsys_draw::{axiom_key, child_key};
