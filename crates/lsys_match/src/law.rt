@@ -1,22 +1,28 @@
-//! Traces by tags, against traces by lineages.
-ghost use Rattle.std.specs.Prelude.{◌≡◌, ◌↔◌, ℕ, List, map, true};
-ghost use Rattle.lsys_spec.specs.Systems.{Each};
-ghost use Rattle.lsys_spec.specs.Equalities.{same_all, same_entry};
-ghost use Rattle.lsys_match.specs.Noted.{Noted, entry_by};
-ghost use Rattle.lsys_match.specs.Agreements.{AgreeTags, NamedNoted, same_trace};
+//! Laws of answers and of questions told by tags.
+ghost use Rattle.std.specs.Prelude.{◌≡◌, ◌↔◌, ℕ, List, Option};
+ghost use Rattle.lsys_walks.specs.Stores.{Store, OtherTracesStay};
+ghost use Rattle.lsys_match.specs.Asks.{IsMade, IsNew, StaysAsKept};
+ghost use Rattle.lsys_match.specs.Kept.{Kept};
+ghost use Rattle.lsys_match.specs.KeptAnswers.{AgreeQuestions, HoldOwnRuns, StaysMade};
+ghost use Rattle.lsys_match.specs.Stored.{runs_of};
+ghost use Rattle.lsys_match.specs.TagQuestions.{TagQuestion, question_by};
 
-/// A law of tags in traces: where the tags that an old trace and a new one name are equal exactly where their lineages
-/// are, the traces are equal by tags exactly where they are by lineages, and so are the tests.
-pub fn law_of_tagged_traces()
-    ensures equal { (before after : ℕ → List ℕ) (old new : List Noted)
-        → AgreeTags before after old new
-        → (old ≡ new) ↔ (map (entry_by before) old ≡ map (entry_by after) new) }
-    ensures tested { (before after : ℕ → List ℕ) (old new : List Noted)
-        → AgreeTags before after old new
-        → same_trace old new
-        ≡ same_all same_entry (map (entry_by before) old) (map (entry_by after) new) }
-    ensures told { (before after : ℕ → List ℕ) (old new : List Noted)
-        → AgreeTags before after old new → Each NamedNoted old → Each NamedNoted new
-        → (same_all same_entry (map (entry_by before) old) (map (entry_by after) new) ≡ true)
-        ↔ (old ≡ new) }
+/// A law of kept answers: they stay what they are when another one is made or released, or when the store gets more room;
+/// and a new answer holds its own runs.
+pub fn law_of_kept_answers()
+    ensures new { (before after : Store) (old : Option Kept) (a b : Kept) → IsNew before after old b → IsMade before a
+        → StaysMade before after a }
+    ensures own { (before after : Store) (old : Option Kept) (a b : Kept) → IsNew before after old b → IsMade before a
+        → HoldOwnRuns b a }
+    ensures released { (before after : Store) (a b : Kept) → OtherTracesStay before after (runs_of b) → HoldOwnRuns b a
+        → IsMade before a → StaysMade before after a }
+    ensures stays { (before after : Store) (a : Kept) → StaysAsKept before after → IsMade before a
+        → StaysMade before after a }
+{}
+
+/// A law of questions told by tags: where the tags of an old question and a new one are equal exactly where their lineages
+/// are, the questions are the same by tags exactly where they are by lineages.
+pub fn law_of_tagged_questions()
+    ensures { (before after : ℕ → List ℕ) (t : ℕ) (p q : TagQuestion) → AgreeQuestions before after p q
+        → (p ≡ q) ↔ (question_by before t p ≡ question_by after t q) }
 {}

@@ -1,35 +1,30 @@
-//! What stands around a module, against what a rule asks for: the walks of contexts over any view of levels.
+//! The questions of modules and their answers (ABOP 1.7, 1.8 and 1.10): which rule replaces a module, by what stands around
+//! it, and with what.
 //!
-//! A walk reads entries, and each one is compared with the old trace as it is read: while they agree nothing is written,
-//! and at the first difference the front that agreed is taken over. What a walk answers and reads is, by every naming of
-//! the tags, what the definitions' walk tells at that place of that level.
+//! An answer is kept with its question, and asking again tells whether the question is the same. Tags stand for levels and
+//! lineages; what is answered is, by every naming of the tags, what the definitions say of the module at that place.
 #![tactic(auto)]
 
-mod alike;
-mod contexts;
-mod entry;
-mod item;
+mod answer;
+mod asked;
+mod choice;
+mod derivation;
+mod found;
+mod group;
 mod law;
-mod left;
-mod mark;
-mod pattern;
-mod reading;
-mod right;
-mod same;
+mod outcome;
+mod posed;
+mod question;
+mod refusal;
+mod site;
 mod steps;
-mod store;
-mod trace;
-mod walked;
+mod told;
 
-pub use contexts::context_reads;
-pub use entry::{Entry, EntryKind};
-pub use law::law_of_tagged_traces;
-pub use left::left_reads;
-pub use mark::Mark;
-pub use reading::Reading;
-pub use right::right_reads;
-pub use same::same_trace;
+pub use answer::Answer;
+pub use asked::Asked;
+pub use derivation::Derivation;
+pub use law::{law_of_kept_answers, law_of_tagged_questions};
+pub use lsys_walks::{AnswerStore, Entry, EntryKind};
+pub use question::ask;
+pub use refusal::AskRefusal;
 pub use steps::Steps;
-pub use store::{AnswerStore, TraceRuns};
-pub use trace::Trace;
-pub use walked::Walked;

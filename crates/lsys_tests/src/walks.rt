@@ -9,9 +9,9 @@ ghost use Rattle.lsys_level.specs.Places.{has_cut};
 use crate::levels::{contexts_that_skip, letter, push};
 use lsys_bodies::{Item, Pattern};
 use lsys_level::{FlatLevels, LevelView};
-use lsys_match::{EntryKind, Mark, Reading, Steps, Trace, Walked, left_reads, right_reads};
 use lsys_module::{Module, Params, Symbol};
 use lsys_text::Name;
+use lsys_walks::{Counter, EntryKind, Mark, Reading, Trace, Walked, left_reads, right_reads};
 use std::alloc::{AllocError, Global};
 use std::marker::Brand;
 use std::sync::ledger::{Blank, Ledger};
@@ -174,7 +174,7 @@ fn left<V: Ledger>(
     let Some(spot) = spot_at(levels, place) else {
         return Err(AllocError);
     };
-    let mut visited = Steps::<V>::open(visited);
+    let mut visited = Counter::<V>::open(visited);
     let old = Trace::new(alloc);
     let mut trace = Reading::beside(&old, alloc);
     let mut bound = Vec::new(alloc);
@@ -210,7 +210,7 @@ fn right<V: Ledger>(
     let Some(spot) = spot_at(levels, place) else {
         return Err(AllocError);
     };
-    let mut visited = Steps::<V>::open(visited);
+    let mut visited = Counter::<V>::open(visited);
     let old = Trace::new(alloc);
     let mut trace = Reading::beside(&old, alloc);
     let mut bound = Vec::new(alloc);

@@ -1,7 +1,0 @@
-use Rattle.std.proofs.Common.{◌≡◌, map, take}
-use Rattle.lsys_spec.specs.Choice.{weights}
-use Rattle.lsys_choice.specs.Choices.{applying_of}
-use Rattle.lsys_choice.proofs.found.weights_of.Given as goal
-
-abbrev pub invariant-loop-rule : goal.invariant-loop-rule
-invariant-loop-rule l = l.weights.items ≡ weights (map applying_of (take l.rule-index l.rules))

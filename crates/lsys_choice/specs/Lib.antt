@@ -1,4 +1,0 @@
-pub mod Sites
-pub mod Tries
-pub mod Choices
-pub mod Groups

@@ -1,0 +1,44 @@
+-- What is asked of the module at a place of a level.
+use Rattle.std.specs.Prelude.{◌≡◌, ℕ, List, [], Some, length, slice_get}
+use Rattle.lsys_spec.specs.Systems.{System}
+use Rattle.lsys_spec.specs.Bodies.{group}
+use Rattle.lsys_spec.specs.Levels.{ModuleValue}
+use Rattle.lsys_spec.specs.Walks.{Told}
+use Rattle.lsys_spec.specs.Choice.{Choice}
+use Rattle.lsys_level.specs.Spots.{Spotted, Module}
+use Rattle.lsys_walks.specs.Views.{module_of}
+use Rattle.lsys_match.specs.declared.posed.Posed.{Posed as CodePosed}
+use Rattle.lsys_match.specs.Groups.{rules_of}
+use Rattle.lsys_match.specs.Sites.{Site, choice_told}
+use Rattle.lsys_match.specs.TagQuestions.{Posed, posed_of}
+
+-- a module stands at place p
+pub record IsModuleAt (row : List Spotted) (p : ℕ) : Type 0 where
+  pub tag : ℕ
+  pub key : ℕ
+  pub own : ModuleValue
+  pub here : slice_get row p ≡ Some (record { seen = Module own; tag = tag; key = key })
+
+-- a module stands there, and level t has rules for it
+pub record HasQuestion (s : System) (t : ℕ) (row : List Spotted) (p : ℕ) : Type 0 where
+  pub here : IsModuleAt row p
+  pub rules : group s t here.own.name (length here.own.params) ≡ [] → ⊥
+
+-- this is posed of the module at place p of level t
+pub record IsPosedAt (s : System) (t : ℕ) (row : List Spotted) (p : ℕ) (d : Posed) : Type 0 where
+  pub key : ℕ
+  pub here : slice_get row p ≡ Some (record { seen = Module d.own; tag = d.tag; key = key })
+  pub posed : d ≡ posed_of s t d.tag key d.own
+
+abbrev pub posed_by : CodePosed → Posed
+posed_by q = record { tag = q.tag; own = module_of q.group.name q.params.now; bodies = rules_of q.group; key = q.key }
+
+abbrev pub site_at : System → List Spotted → ℕ → ModuleValue → Site
+site_at s row p m = record { row = row; place = p; own = m; ignored = s.ignored }
+
+abbrev pub site_of : CodePosed → List Spotted → ℕ → Site
+site_of q row p = site_at q.group.system.now row p (posed_by q).own
+
+-- where a naming tells the lineages: what is read for it, and which rule is chosen
+abbrev pub told_for : (ℕ → List ℕ) → Site → Posed → Told Choice
+told_for naming s d = choice_told naming s d.key d.bodies

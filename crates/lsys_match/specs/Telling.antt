@@ -1,0 +1,66 @@
+-- What is read and chosen for a question, beside an old trace.
+use Rattle.std.specs.Prelude.{◌≡◌, ℕ, ℤ, List, length, Option, Some, None, Result, Ok, Err, option_map}
+use Rattle.lsys_spec.specs.Bodies.{Body}
+use Rattle.lsys_spec.specs.Levels.{ModuleValue}
+use Rattle.lsys_spec.specs.Walks.{Told}
+use Rattle.lsys_spec.specs.Choice as choice
+use Rattle.lsys_spec.specs.Meaning.{successor_by}
+use Rattle.lsys_module.specs.Views.{string_of}
+use Rattle.lsys_module.specs.declared.symbol.Symbol.{Symbol}
+use Rattle.lsys_rewrite.specs.Faults.{fault_of}
+use Rattle.lsys_rewrite.specs.declared.refusal.FaultKind.{FaultKind}
+use Rattle.lsys_walks.specs.Noted.{Noted}
+use Rattle.lsys_walks.specs.Views.{arities, decoded}
+use Rattle.lsys_match.specs.declared.choice.Choice.{Choice}
+use Rattle.lsys_match.specs.declared.refusal.AskRefusal.{AskRefusal}
+use Rattle.lsys_match.specs.declared.refusal.AskRefusal.TheVariants.{Fault, Memory}
+use Rattle.lsys_match.specs.declared.told.OldTrace.{OldTrace}
+use Rattle.lsys_match.specs.declared.told.Told.{Told as CodeTold}
+use Rattle.lsys_match.specs.declared.told.Told.TheVariants.{Same, Other}
+use Rattle.lsys_match.specs.declared.told.Reply.{Reply}
+use Rattle.lsys_match.specs.Choices.{choice_by}
+use Rattle.lsys_match.specs.Tries.{entries_by}
+use Rattle.lsys_match.specs.TagQuestions.{Posed, TagAnswer}
+use Rattle.lsys_match.specs.Answered.{IsAnswerTo, trace_told}
+
+-- the choice, where these are the values of the chosen rule's formals
+abbrev pub choice_at : Option ℕ → List ℤ → choice.Choice
+choice_at None values = choice.NoRule
+choice_at (Some g) values = choice.Chosen g values
+
+abbrev pub choice_or : Result (Option ℕ) FaultKind → List ℤ → choice.Choice
+choice_or (Ok g) values = choice_at g values
+choice_or (Err k) values = choice.Failed (fault_of k)
+
+-- the place, or the fault, of a choice
+abbrev pub IsPlaceOf : Choice → Result (Option ℕ) FaultKind → Type 0
+IsPlaceOf c r = (values : List ℤ) → choice_by c values ≡ choice_or r values
+
+-- the successor where this is chosen, or its fault; want of memory says nothing
+abbrev pub IsSuccessor : List Body → ModuleValue → Option ℕ → List ℤ → Result (List Symbol) AskRefusal → Type 0
+IsSuccessor bs m chosen values (Ok symbols) = successor_by bs m (choice_at chosen values) ≡ Ok (string_of symbols)
+IsSuccessor bs m chosen values (Err (Fault k)) = successor_by bs m (choice_at chosen values) ≡ Err (fault_of k)
+IsSuccessor bs m chosen values (Err Memory) = Unit {0}
+
+abbrev pub old_trace : Option OldTrace → Option (List Noted)
+old_trace o = option_map (λ t. decoded t.entries.now t.values.now) o
+
+-- it is the old trace, where there is one
+abbrev pub IsBeside : Option (List Noted) → List Noted → Type 0
+IsBeside None now = Unit {0}
+IsBeside (Some was) now = now ≡ was
+
+-- its parameters are as many as its entries have
+abbrev pub HasFittingParams : Option OldTrace → Type 0
+HasFittingParams None = Unit {0}
+HasFittingParams (Some t) = arities t.entries.now ≡ length t.values.now
+
+abbrev pub answer_of : Posed → Reply → TagAnswer
+answer_of d r = record { question = record { posed = d; trace = r.trace }; chosen = r.chosen; successor = string_of r.successor }
+
+-- the old trace was read; or another one, and this is the answer; or the fault
+abbrev pub IsTelling : ((ℕ → List ℕ) → Told choice.Choice) → Posed → Option (List Noted) → Result CodeTold AskRefusal → Type 0
+IsTelling told d old (Ok Same) = (was : List Noted) × (old ≡ Some was) × ((naming : ℕ → List ℕ) → entries_by naming was ≡ trace_told (told naming))
+IsTelling told d old (Ok (Other r)) = (old ≡ Some r.trace → ⊥) × IsAnswerTo told (answer_of d r)
+IsTelling told d old (Err (Fault k)) = (naming : ℕ → List ℕ) → successor_by d.bodies d.own (told naming).answer ≡ Err (fault_of k)
+IsTelling told d old (Err Memory) = Unit {0}

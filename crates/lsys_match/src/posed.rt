@@ -1,0 +1,102 @@
+//! What is asked of a module, but for what is read.
+ghost use Rattle.std.specs.Prelude.{◌≡◌, ◌≤◌, length};
+ghost use Rattle.lsys_laws.specs.Sessions.{IsWell};
+ghost use Rattle.lsys_level.specs.Spots.{IsSpot, level_at};
+ghost use Rattle.lsys_walks.specs.Views.{module_of};
+ghost use Rattle.lsys_match.specs.Groups.{rules_of};
+ghost use Rattle.lsys_match.specs.Asking.{IsModuleAt, IsPosedAt, posed_by};
+ghost use Rattle.lsys_match.specs.Telling.{IsSuccessor};
+
+use crate::group::Group;
+use crate::refusal::AskRefusal;
+use lsys_level::{LevelView, Sight, Tag};
+use lsys_module::{Module, Params, Symbol, SymbolList};
+use lsys_rewrite::fill_into;
+use lsys_rules::System;
+use std::alloc::Global;
+
+/// A question but for its trace: the module with its tag, its group, and its key where the group has weights.
+#[derive(Drop)]
+pub(crate) struct Posed<'a> {
+    pub(crate) tag: Tag,
+    pub(crate) params: &'a [i64],
+    pub(crate) group: Group<'a>,
+    pub(crate) key: Option<u64>,
+}
+
+impl<'a> Posed<'a> {
+    /// Of the module at a spot of a level.
+    pub(crate) fn at<W: LevelView>(
+        view: &'a W,
+        spot: W::Spot,
+        system: &'a System,
+        level: u32,
+    ) -> Posed<'a>
+        requires spot { IsSpot (W.levels view.now) (W.level_of view.now spot) (W.place_of view.now spot) }
+        requires module { IsModuleAt (level_at (W.levels view.now) (W.level_of view.now spot)) (W.place_of view.now spot) }
+        ensures posed { IsPosedAt system.now level (level_at (W.levels view.now) (W.level_of view.now spot)) (W.place_of view.now spot) (posed_by result) }
+        ensures system { result.group.system.now ≡ system.now }
+        ensures well { IsWell system.now }
+        ensures few { length result.params.now ≤ 8 }
+    {
+        let Sight::Module { name, params } = view.sight(spot) else {
+            unreachable!()
+        };
+        let group = Group {
+            system,
+            level,
+            name,
+            arity: params.len(),
+        };
+        let key = if group.is_weighted() {
+            Some(view.key(spot))
+        } else {
+            None
+        };
+        Posed {
+            tag: view.tag(spot),
+            params,
+            group,
+            key,
+        }
+    }
+
+    /// What replaces the module: the successor of the rule at a place of its group, where these are the values of the
+    /// rule's formals, or the module itself where no rule is chosen. Nothing is left over in its vector.
+    pub(crate) fn successor(
+        &self,
+        alloc: Global,
+        chosen: Option<u8>,
+        bound: &[i64],
+    ) -> Result<SymbolList, AskRefusal>
+        requires { length self.now.params.now ≤ 8 }
+        ensures { IsSuccessor (rules_of self.now.group) (module_of self.now.group.name self.now.params.now) chosen bound.now result }
+    {
+        let symbols = self.replacement(alloc, chosen, bound)?;
+        Ok(symbols.clone()?)
+    }
+
+    fn replacement(
+        &self,
+        alloc: Global,
+        chosen: Option<u8>,
+        bound: &[i64],
+    ) -> Result<SymbolList, AskRefusal>
+        requires { length self.now.params.now ≤ 8 }
+        ensures { IsSuccessor (rules_of self.now.group) (module_of self.now.group.name self.now.params.now) chosen bound.now result }
+    {
+        let mut symbols = SymbolList::new(alloc);
+        let Some(place) = chosen else {
+            symbols.push(Symbol::Module(Module {
+                name: self.group.name,
+                params: Params::of(self.params),
+            }))?;
+            return Ok(symbols);
+        };
+        let Some(body) = self.group.get(place as usize) else {
+            return Ok(symbols);
+        };
+        fill_into(&mut symbols, body, bound)?;
+        Ok(symbols)
+    }
+}

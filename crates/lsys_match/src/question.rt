@@ -1,0 +1,122 @@
+//! Questions.
+ghost use Rattle.std.specs.Prelude.{◌≡◌, ◌+◌, ◌≤◌, ℕ, List, length, option_map, IfOk, OnErr};
+ghost use Rattle.lsys_spec.specs.Levels.{ModuleValue};
+ghost use Rattle.lsys_spec.specs.Meaning.{most_entries};
+ghost use Rattle.lsys_level.specs.Spots.{IsSpot, level_at, level_by};
+ghost use Rattle.lsys_match.specs.Answered.{Counts};
+ghost use Rattle.lsys_match.specs.Asking.{HasQuestion, posed_by};
+ghost use Rattle.lsys_match.specs.Asks.{IsAnswered, IsKept, IsMadeIfAny, IsNamedAt, IsTraceFor, KeepsStore, StaysAsKept, by_definition, news};
+ghost use Rattle.lsys_match.specs.Telling.{HasFittingParams, answer_of, old_trace};
+
+use crate::answer::Answer;
+use crate::asked::Asked;
+use crate::posed::Posed;
+use crate::refusal::AskRefusal;
+use crate::steps::Steps;
+use crate::told::{OldTrace, Reply, Told};
+use lsys_level::LevelView;
+use lsys_region::room;
+use lsys_rules::System;
+use lsys_walks::AnswerStore;
+use std::alloc::{AllocError, Global};
+use std::marker::PhantomData;
+use std::sync::ledger::Ledger;
+
+/// Asks what replaces the module at a spot of a level: which rule of its group is chosen, and its successor.
+///
+/// What stands around the module is read as the rules ask for it, entry by entry, beside the trace of the old answer where
+/// its other parts (module, tag, bodies and key) are the same, and else beside an empty one. Each entry is counted by
+/// `visited`, whatever is answered. The answer is [`Asked::Same`] exactly where there is an old answer and its question is
+/// the same; all that the old answer says holds here then. Else it is a new answer, which `asked` counts, and which holds
+/// runs of `store` that were not live before. Tags in `old` are named as the view names them; it was made with `store`.
+///
+/// By every naming of the tags under which the module has the key of its lineage, question, choice, successor and fault are
+/// those of the definitions.
+///
+/// # Errors
+///
+/// `Fault` has the module's first fault, and `Memory` is want of memory; what is kept in the store then stays, and at most
+/// the entries of the trace were read.
+pub fn ask<'a, W: LevelView, L: Ledger, V: Ledger>(
+    alloc: Global,
+    store: &mut AnswerStore,
+    view: &'a W,
+    spot: W::Spot,
+    system: &'a System,
+    level: u32,
+    old: Option<&Answer<L>>,
+    asked: &mut Steps<L>,
+    visited: &mut Steps<V>,
+) -> Result<Asked<L>, AskRefusal>
+    requires spot { IsSpot (W.levels view.now) (W.level_of view.now spot) (W.place_of view.now spot) }
+    requires level { W.level_of view.now spot ≡ level }
+    requires module { HasQuestion system.now level (level_at (W.levels view.now) level) (W.place_of view.now spot) }
+    requires made { IsMadeIfAny store.old (option_map (λ a. a.now) old) }
+    ensures answered { let x = level_at (W.levels view.now) level in let p = W.place_of view.now spot in
+        (naming : ℕ → List ℕ) (tag : ℕ) (m : ModuleValue) → IsNamedAt naming system.now.seed x p tag m
+        → IsAnswered naming (by_definition system.now level (level_by naming x) p (naming tag) m)
+        store.new (option_map (λ a. a.now) old.entry) result }
+    ensures visited { let x = level_at (W.levels view.now) level in let p = W.place_of view.now spot in
+        (naming : ℕ → List ℕ) (tag : ℕ) (m : ModuleValue) → IsNamedAt naming system.now.seed x p tag m
+        → Counts (length (by_definition system.now level (level_by naming x) p (naming tag) m).question.trace)
+        visited.old visited.new result }
+    ensures asked { asked.new ≡ asked.old + news result }
+    ensures store { KeepsStore store.old store.new (option_map (λ a. a.now) old.entry) result }
+{
+    let posed = Posed::at(view, spot, system, level);
+    let kept = trace_for(old, store, &posed);
+    let Told::Other(reply) = posed.tell_at(alloc, view, spot, kept, &mut visited.count)? else {
+        return Ok(Asked::Same);
+    };
+    let answer = keep(alloc, store, &posed, reply)?;
+    asked.count.tick();
+    Ok(Asked::New(answer))
+}
+
+// The trace of the old answer, where its question is this one but for the trace.
+fn trace_for<'s, L: Ledger>(
+    old: Option<&Answer<L>>,
+    store: &'s AnswerStore,
+    posed: &Posed<'_>,
+) -> Option<OldTrace<'s>>
+    requires { IsMadeIfAny store.now (option_map (λ a. a.now) old) }
+    ensures trace { IsTraceFor store.now (option_map (λ a. a.now) old.entry) (posed_by posed.now) (old_trace result) }
+    ensures fitting { HasFittingParams result }
+{
+    match old {
+        Some(answer) => answer.trace_for(store, posed),
+        None => None,
+    }
+}
+
+// Keeps what was told of a module that is asked about.
+fn keep<L: Ledger>(
+    alloc: Global,
+    store: &mut AnswerStore,
+    posed: &Posed<'_>,
+    reply: Reply,
+) -> Result<Answer<L>, AllocError>
+    requires few { length posed.now.params.now ≤ 8 }
+    requires entries { length reply.trace ≤ most_entries + 1 }
+    ensures kept { IfOk result (λ a. IsKept store.old store.new (answer_of (posed_by posed.now) reply) a) }
+    ensures refused { OnErr result (StaysAsKept store.old store.new) }
+{
+    let bodies = posed.group.bodies(alloc)?;
+    let (entries, params) = reply.trace.parts();
+    let mut values = Vec::with_capacity(alloc, posed.params.len() + params.len())?;
+    values.extend_from_slice(posed.params)?;
+    values.extend_from_slice(params)?;
+    store.reserve(room(entries.len()), room(values.len()))?;
+    let runs = store.place(entries, &values);
+    Ok(Answer {
+        name: posed.group.name,
+        key: posed.key,
+        runs,
+        bodies,
+        successor: reply.successor,
+        tag: posed.tag,
+        arity: posed.params.len() as u8,
+        chosen: reply.chosen,
+        ledger: PhantomData,
+    })
+}

@@ -1,0 +1,227 @@
+//! A module, with what stands around it.
+ghost use Rattle.std.specs.Prelude.{◌≡◌, ◌+◌, ◌≤◌, [], length, map, Some, None, Ok, IfOk, OnErr};
+ghost use Rattle.lsys_module.specs.Views.{module_name};
+ghost use Rattle.lsys_level.specs.Spots.{IsSpot, level_at};
+ghost use Rattle.lsys_walks.specs.Views.{module_of};
+ghost use Rattle.lsys_spec.specs.Meaning.{most_entries};
+ghost use Rattle.lsys_bodies.specs.Views.{body_value};
+ghost use Rattle.lsys_spec.specs.Choice.{none_tried};
+ghost use Rattle.lsys_match.specs.Groups.{meant, rules_of};
+ghost use Rattle.lsys_match.specs.Sites.{first_told, all_told, choice_told};
+ghost use Rattle.lsys_match.specs.Choices.{Chooses, ChoosesFront, Finds, FindsFront};
+ghost use Rattle.lsys_match.specs.Tries.{Tries, TriesFront, decided_by, outcome_by};
+
+use crate::choice::Choice;
+use crate::found::Found;
+use crate::group::Group;
+use crate::outcome::{Outcome, judge};
+use lsys_bodies::{Body, SharedBody};
+use lsys_level::LevelView;
+use lsys_rewrite::FaultKind;
+use lsys_text::Name;
+use lsys_walks::{Counter, Reading, Walked, context_reads};
+use std::alloc::{AllocError, Global};
+use std::marker::Model;
+use std::sync::ledger::Ledger;
+
+/// A module of a level, and the names that contexts pass over.
+#[derive(Drop)]
+pub struct Site<'a, W: LevelView> {
+    view: &'a W,
+    spot: W::Spot,
+    name: Name,
+    params: &'a [i64],
+    ignored: &'a [Name],
+}
+
+impl<'a, W: LevelView> Model for Site<'a, W> {
+    ghost use Rattle.std.specs.Prelude.{map};
+    ghost use Rattle.lsys_module.specs.Views.{module_name};
+    ghost use Rattle.lsys_level.specs.Spots.{IsSpot, level_at};
+    ghost use Rattle.lsys_walks.specs.Views.{module_of};
+    ghost use Rattle.lsys_match.specs.Sites.{Site};
+
+    ghost Value = { Site };
+
+    ghost view = { λ a. record {
+      row = level_at (W.levels a.view.now) (W.level_of a.view.now a.spot);
+      place = W.place_of a.view.now a.spot;
+      own = module_of a.name a.params.now;
+      ignored = map module_name a.ignored.now;
+    } };
+
+    ghost invariant = { λ a. IsSpot (W.levels a.view.now) (W.level_of a.view.now a.spot) (W.place_of a.view.now a.spot) };
+}
+
+impl<'a, W: LevelView> Site<'a, W> {
+    /// A module with this name and these parameters at a spot of the view, and the names that contexts pass over.
+    pub fn new(
+        view: &'a W,
+        spot: W::Spot,
+        name: Name,
+        params: &'a [i64],
+        ignored: &'a [Name],
+    ) -> Site<'a, W>
+        requires { IsSpot (W.levels view.now) (W.level_of view.now spot) (W.place_of view.now spot) }
+        ensures row { result.row ≡ level_at (W.levels view.now) (W.level_of view.now spot) }
+        ensures place { result.place ≡ W.place_of view.now spot }
+        ensures own { result.own ≡ module_of name params.now }
+        ensures ignored { result.ignored ≡ map module_name ignored.now }
+    {
+        Site {
+            view,
+            spot,
+            name,
+            params,
+            ignored,
+        }
+    }
+
+    /// Tries the rule at a place of its group: reads its contexts, and where they match decides by its condition.
+    pub(crate) fn try_rule<'t, V: Ledger>(
+        &self,
+        place: u8,
+        body: &SharedBody,
+        trace: &mut Reading<'t>,
+        bound: &mut Vec<i64>,
+        visited: &mut Counter<V>,
+    ) -> Result<Outcome, AllocError>
+        requires room { length trace.old.read ≤ most_entries }
+        ensures tried { Tries self.now place (meant body.now) trace.old.read trace.new.read bound.new.items result }
+        ensures refused { TriesFront self.now place (meant body.now) trace.old.read trace.new.read result }
+        ensures few { OnErr result (length trace.new.read ≤ most_entries) }
+        ensures same { trace.new.old ≡ trace.old.old }
+        ensures counted { visited.new + length trace.old.read ≡ visited.old + length trace.new.read }
+    {
+        let body = body.get();
+        let walked = context_reads(
+            self.view,
+            self.spot,
+            self.params,
+            self.ignored,
+            body,
+            place,
+            trace,
+            bound,
+            visited,
+        )?;
+        Ok(decide(walked, body, bound))
+    }
+
+    /// The first rule of a group without weights that applies, or the first fault. `bound` has the values of its formals.
+    pub(crate) fn first_that_applies<'t, V: Ledger>(
+        &self,
+        group: &Group<'a>,
+        trace: &mut Reading<'t>,
+        bound: &mut Vec<i64>,
+        visited: &mut Counter<V>,
+    ) -> Result<Choice, AllocError>
+        requires unread { trace.old.read ≡ [] }
+        ensures chosen { Chooses (λ naming. first_told naming self.now none_tried (rules_of group.now)) trace.new.read bound.new.items result }
+        ensures refused { ChoosesFront (λ naming. first_told naming self.now none_tried (rules_of group.now)) trace.new.read result }
+        ensures few { OnErr result (length trace.new.read ≤ most_entries) }
+        ensures same { trace.new.old ≡ trace.old.old }
+        ensures counted { visited.new ≡ visited.old + length trace.new.read }
+    {
+        let mut place = 0;
+        while let Some(body) = group.get(place) {
+            let rule = place as u8;
+            match self.try_rule(rule, body, trace, bound, visited)? {
+                Outcome::No => place += 1,
+                Outcome::Yes => return Ok(Choice::Chosen(rule)),
+                Outcome::Fails(kind) => return Ok(Choice::Failed(kind)),
+            }
+        }
+        Ok(Choice::NoRule)
+    }
+
+    /// Finds all rules of a group with weights that apply, and tells the first fault, if there is one.
+    pub(crate) fn find_all<'t, V: Ledger>(
+        &self,
+        group: &Group<'a>,
+        found: &mut Found,
+        trace: &mut Reading<'t>,
+        bound: &mut Vec<i64>,
+        visited: &mut Counter<V>,
+    ) -> Result<Option<FaultKind>, AllocError>
+        requires unread { trace.old.read ≡ [] }
+        requires none { found.old ≡ [] }
+        ensures found { Finds (λ naming. all_told naming self.now none_tried (Ok []) (rules_of group.now)) trace.new.read found.new result }
+        ensures refused { FindsFront (λ naming. all_told naming self.now none_tried (Ok []) (rules_of group.now)) trace.new.read result }
+        ensures few { OnErr result (length trace.new.read ≤ most_entries) }
+        ensures whole { IfOk result (λ k. k ≡ None → length trace.new.read ≤ most_entries) }
+        ensures same { trace.new.old ≡ trace.old.old }
+        ensures counted { visited.new ≡ visited.old + length trace.new.read }
+    {
+        let mut place = 0;
+        while let Some(body) = group.get(place) {
+            let rule = place as u8;
+            let outcome = self.try_rule(rule, body, trace, bound, visited)?;
+            if let Some(kind) = found.consider(rule, body, outcome, bound)? {
+                return Ok(Some(kind));
+            }
+            place += 1;
+        }
+        Ok(None)
+    }
+
+    /// The rule of a group with weights that the draw of this key picks among those that apply, or the first fault.
+    /// `bound` has the values of its formals.
+    pub(crate) fn pick_weighted<'t, V: Ledger>(
+        &self,
+        alloc: Global,
+        group: &Group<'a>,
+        key: u64,
+        trace: &mut Reading<'t>,
+        bound: &mut Vec<i64>,
+        visited: &mut Counter<V>,
+    ) -> Result<Choice, AllocError>
+        requires unread { trace.old.read ≡ [] }
+        ensures chosen { Chooses (λ naming. choice_told naming self.now (Some key) (rules_of group.now)) trace.new.read bound.new.items result }
+        ensures refused { ChoosesFront (λ naming. choice_told naming self.now (Some key) (rules_of group.now)) trace.new.read result }
+        ensures few { OnErr result (length trace.new.read ≤ most_entries) }
+        ensures same { trace.new.old ≡ trace.old.old }
+        ensures counted { visited.new ≡ visited.old + length trace.new.read }
+    {
+        let mut found = Found::new(alloc);
+        if let Some(kind) = self.find_all(group, &mut found, trace, bound, visited)? {
+            return Ok(Choice::Failed(kind));
+        }
+        found.pick(key, bound)
+    }
+
+    /// The choice among the rules of a group, where one with weights has this key. `bound` has the values of the chosen
+    /// rule's formals.
+    pub fn choose<'t, V: Ledger>(
+        &self,
+        alloc: Global,
+        group: &Group<'a>,
+        key: Option<u64>,
+        trace: &mut Reading<'t>,
+        bound: &mut Vec<i64>,
+        visited: &mut Counter<V>,
+    ) -> Result<Choice, AllocError>
+        requires unread { trace.old.read ≡ [] }
+        ensures chosen { Chooses (λ naming. choice_told naming self.now key (rules_of group.now)) trace.new.read bound.new.items result }
+        ensures refused { ChoosesFront (λ naming. choice_told naming self.now key (rules_of group.now)) trace.new.read result }
+        ensures few { OnErr result (length trace.new.read ≤ most_entries) }
+        ensures same { trace.new.old ≡ trace.old.old }
+        ensures counted { visited.new ≡ visited.old + length trace.new.read }
+    {
+        match key {
+            Some(key) => self.pick_weighted(alloc, group, key, trace, bound, visited),
+            None => self.first_that_applies(group, trace, bound, visited),
+        }
+    }
+}
+
+// The outcome of a rule whose contexts were read so.
+fn decide(walked: Walked, body: &Body, bound: &[i64]) -> Outcome
+    ensures { outcome_by result bound.now ≡ decided_by walked (body_value body.now) bound.now }
+{
+    match walked {
+        Walked::Found => judge(body, bound),
+        Walked::Missed => Outcome::No,
+        Walked::TooFar => Outcome::Fails(FaultKind::TooFar),
+    }
+}

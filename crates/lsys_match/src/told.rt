@@ -1,0 +1,134 @@
+//! What is read and chosen for a question.
+ghost use Rattle.std.specs.Prelude.{◌≡◌, ◌↔◌, ◌≤◌, ℕ, List, [], length, IsTrue, Some};
+ghost use Rattle.lsys_level.specs.Spots.{IsSpot, level_at};
+ghost use Rattle.lsys_match.specs.Asking.{posed_by, site_of, told_for};
+ghost use Rattle.lsys_match.specs.Answered.{Counts, trace_told};
+ghost use Rattle.lsys_match.specs.Telling.{HasFittingParams, IsBeside, IsPlaceOf, IsTelling, old_trace};
+
+use crate::choice::Choice;
+use crate::posed::Posed;
+use crate::refusal::AskRefusal;
+use crate::site::Site;
+use lsys_level::LevelView;
+use lsys_module::SymbolList;
+use lsys_rewrite::FaultKind;
+use lsys_walks::{Counter, Entry, Reading, Trace};
+use std::alloc::Global;
+use std::sync::ledger::Ledger;
+
+/// The trace of an old answer, with the parameters of its modules.
+#[derive(Clone, Copy)]
+pub(crate) struct OldTrace<'a> {
+    pub(crate) entries: &'a [Entry],
+    pub(crate) values: &'a [i64],
+}
+
+/// What is read and chosen for a question.
+#[derive(Drop)]
+pub(crate) enum Told {
+    /// The old trace was read.
+    Same,
+    /// Another one was read, or there is no old one.
+    Other(Reply),
+}
+
+/// A trace, the rule that is chosen, by its place, and the successor.
+#[derive(Drop)]
+pub(crate) struct Reply {
+    pub(crate) trace: Trace,
+    pub(crate) chosen: Option<u8>,
+    pub(crate) successor: SymbolList,
+}
+
+impl<'a> Posed<'a> {
+    /// Reads and chooses at a spot. The old trace is that of an answer to a question that is the same but for the trace.
+    pub(crate) fn tell_at<W: LevelView, V: Ledger>(
+        &self,
+        alloc: Global,
+        view: &'a W,
+        spot: W::Spot,
+        old: Option<OldTrace<'_>>,
+        visited: &mut Counter<V>,
+    ) -> Result<Told, AskRefusal>
+        requires spot { IsSpot (W.levels view.now) (W.level_of view.now spot) (W.place_of view.now spot) }
+        requires few { length self.now.params.now ≤ 8 }
+        requires old { HasFittingParams old }
+        ensures told { let site = site_of self.now (level_at (W.levels view.now) (W.level_of view.now spot)) (W.place_of view.now spot) in
+            IsTelling (λ naming. told_for naming site (posed_by self.now)) (posed_by self.now) (old_trace old.entry) result }
+        ensures visited { let site = site_of self.now (level_at (W.levels view.now) (W.level_of view.now spot)) (W.place_of view.now spot) in
+            (naming : ℕ → List ℕ)
+            → Counts (length (trace_told (told_for naming site (posed_by self.now)))) visited.old visited.new result }
+    {
+        let ignored = self.group.system.ignored();
+        let site = Site::new(view, spot, self.group.name, self.params, ignored);
+        self.tell(alloc, &site, old, visited)
+    }
+
+    /// Reads and chooses.
+    fn tell<W: LevelView, V: Ledger>(
+        &self,
+        alloc: Global,
+        site: &Site<'a, W>,
+        old: Option<OldTrace<'_>>,
+        visited: &mut Counter<V>,
+    ) -> Result<Told, AskRefusal>
+        requires site { site.now.own ≡ (posed_by self.now).own }
+        requires few { length self.now.params.now ≤ 8 }
+        requires old { HasFittingParams old }
+        ensures told { IsTelling (λ naming. told_for naming site.now (posed_by self.now)) (posed_by self.now) (old_trace old.entry) result }
+        ensures visited { (naming : ℕ → List ℕ)
+            → Counts (length (trace_told (told_for naming site.now (posed_by self.now)))) visited.old visited.new result }
+    {
+        let mut trace = beside(old, alloc);
+        let mut bound = Vec::new(alloc);
+        let choice = site.choose(
+            alloc,
+            &self.group,
+            self.key,
+            &mut trace,
+            &mut bound,
+            visited,
+        )?;
+        let chosen = place_of(choice)?;
+        if is_read(old, &trace) {
+            return Ok(Told::Same);
+        }
+        let successor = self.successor(alloc, chosen, &bound)?;
+        Ok(Told::Other(Reply {
+            trace: trace.finish()?,
+            chosen,
+            successor,
+        }))
+    }
+}
+
+// Nothing was read as yet beside the old trace.
+fn beside<'a>(old: Option<OldTrace<'a>>, alloc: Global) -> Reading<'a>
+    requires { HasFittingParams old }
+    ensures old { IsBeside (old_trace old.entry) result.old }
+    ensures none { result.read ≡ [] }
+{
+    match old {
+        Some(kept) => Reading::beside_parts(kept.entries, kept.values, alloc),
+        None => Reading::beside_parts(&[], &[], alloc),
+    }
+}
+
+// The old trace is there and was read.
+fn is_read(old: Option<OldTrace<'_>>, trace: &Reading<'_>) -> bool
+    requires { IsBeside (old_trace old) trace.now.old }
+    ensures { IsTrue result ↔ (old_trace old.entry ≡ Some trace.now.read) }
+{
+    old.is_some() && trace.is_same()
+}
+
+// The place of the rule that is chosen.
+fn place_of(choice: Choice) -> Result<Option<u8>, FaultKind>
+    ensures { IsPlaceOf choice result }
+{
+    match choice {
+        Choice::NoRule => Ok(None),
+        Choice::Chosen(place) => Ok(Some(place)),
+        Choice::Failed(kind) => Err(kind),
+    }
+}

@@ -1,0 +1,24 @@
+-- What is read beside an old trace.
+use Rattle.std.specs.Prelude.{◌≡◌, ◌≤◌, ℕ, ℤ, Bool, true, false, List, ◌++◌, length, take}
+use Rattle.lsys_walks.specs.declared.entry.Entry.{Entry}
+use Rattle.lsys_walks.specs.Noted.{Noted}
+use Rattle.lsys_walks.specs.Views.{decoded, arities}
+
+-- the old trace, what was read so far, and whether it is read off the old one
+pub record Read : Type 0 where
+  pub old : List Noted
+  pub read : List Noted
+  pub agrees : Bool
+
+-- an old trace begins with it
+abbrev pub IsFront : List Noted → List Noted → Type 0
+IsFront now old = (rest : List Noted) × (old ≡ now ++ rest)
+
+-- while all agree, the front of the old trace; later what was written
+abbrev pub so_far : Bool → List Entry → List ℤ → ℕ → ℕ → List Noted → List Noted
+so_far true es vs p q own = decoded (take p es) (take q vs)
+so_far false es vs p q own = own
+
+-- The parameters are those of the entries. So many entries of the old trace were passed, and their parameters. Where not all agree, the old trace doesn't begin with what was written.
+abbrev pub IsReading : List Entry → List ℤ → ℕ → ℕ → Bool → List Noted → Type 0
+IsReading es vs p q agrees own = (arities es ≡ length vs) × (p ≤ length es) × (q ≡ arities (take p es)) × (agrees ≡ false → IsFront own (decoded es vs) → ⊥)
