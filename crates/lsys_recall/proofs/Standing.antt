@@ -1,14 +1,12 @@
 -- The tags that a trace names stand in its level.
-use Rattle.std.proofs.Common.{◌≡◌, ℕ, zero, suc, ◌+◌, Bool, true, false, ◌==◌, cond, Option, Some, None, List, [], ◌∷◌, ◌++◌, length, map, refl, sym, ap, ◌∙◌, subst, arith, eq-eqb, inl, inr, ◌⊎◌, length-append}
-use Rattle.std.specs.Prelude.{slice_get, option_map, ◌↔◌}
+use Rattle.std.proofs.Common.{◌≡◌, ℕ, Bool, true, false, ◌==◌, cond, Option, Some, None, List, [], ◌∷◌, ◌++◌, length, map, refl, sym, ap, ◌∙◌, subst, arith, eq-eqb, inl, inr, length-append}
+use Rattle.std.specs.Prelude.{slice_get, option_map}
 use Rattle.std.proofs.lemmas.Bool.{eqb-true}
 use Rattle.std.proofs.lemmas.Option.{slice_get-map}
 use Rattle.lsys_spec.specs.Systems.{System, Each}
 use Rattle.lsys_spec.specs.Bodies.{Body}
-use Rattle.lsys_spec.specs.Levels as L
-use Rattle.lsys_spec.specs.Levels.{ModuleValue, Symbol, lineage}
-use Rattle.lsys_spec.specs.Walks.{Entry, lineages_named}
-use Rattle.lsys_spec.specs.Questions.{question}
+use Rattle.lsys_spec.specs.Levels.{ModuleValue, lineage}
+use Rattle.lsys_spec.specs.Walks.{lineages_named}
 use Rattle.lsys_spec.specs.LevelLaws.{StandsIn}
 use Rattle.lsys_spec.proofs.Answered.{trace_present}
 use Rattle.lsys_level.specs.Spots.{Seen, Push, Pop, Module, Spotted, with_lineage, named, level_by}
