@@ -13,7 +13,8 @@ use Rattle.lsys_level.specs.Spots.{Seen, Push, Pop, Module, Spotted, with_lineag
 use Rattle.lsys_walks.specs.Noted.{Noted, Compared, Ignored, Out, Branched, entry_by}
 use Rattle.lsys_walks.specs.Agreements.{Names, HasTag, AgreeTags}
 use Rattle.lsys_need.proofs.Orders.{last_number}
-use Rattle.lsys_recall.specs.Traced.{IsOwn, IsTraceAt, StandsThere, NamesTell}
+use Rattle.lsys_recall.specs.Traced.{IsOwn, IsTraceAt}
+use Rattle.lsys_pairing.specs.Tagged.{StandsThere, NamesTell}
 
 -- 1. what an entry names
 
@@ -31,17 +32,17 @@ lines_in naming P k (n ∷ ns) (inr i) h = lines_in naming P k ns i h.1
 
 -- 2. a naming under which each tag has a lineage of its own: that of the module, and longer ones
 
-apart_by : ℕ → List ℕ → ℕ → List ℕ
+pub apart_by : ℕ → List ℕ → ℕ → List ℕ
 apart_by tag line k = cond (k == tag) line (line ++ k ∷ [])
 
-own_line : (tag : ℕ) (line : List ℕ) → apart_by tag line tag ≡ line
+pub own_line : (tag : ℕ) (line : List ℕ) → apart_by tag line tag ≡ line
 unfolding apart_by
 own_line tag line = ap (λ b. cond b line (line ++ tag ∷ [])) (eq-eqb tag tag refl)
 
 longer : (line : List ℕ) (k : ℕ) → line ≡ line ++ k ∷ [] → ⊥
 longer line k e = omega (arith, ap length e, length-append line (k ∷ []))
 
-apart : (tag : ℕ) (line : List ℕ) (j k : ℕ) → apart_by tag line j ≡ apart_by tag line k → j ≡ k
+pub apart : (tag : ℕ) (line : List ℕ) (j k : ℕ) → apart_by tag line j ≡ apart_by tag line k → j ≡ k
 unfolding apart_by
 apart tag line j k e = by (j == tag) (k == tag) refl refl e
   where

@@ -17,14 +17,3 @@ pub record IsTraceAt (s : System) (t : ℕ) (bs : List Body) (row : List Spotted
   pub line : List ℕ
   pub here : IsOwn s.seed row p tag m line
   pub told : (naming : ℕ → List ℕ) → IsOwn s.seed row p tag m (naming tag) → map (entry_by naming) trace ≡ (question s t bs (level_by naming row) p (naming tag) m).trace
-
--- the tag stands in the level
-pub record StandsThere (k : ℕ) (row : List Spotted) : Type 0 where
-  pub place : ℕ
-  pub spot : Spotted
-  pub there : slice_get row place ≡ Some spot
-  pub is : spot.tag ≡ k
-
--- a tag of the old level and one of the new are equal where their names are
-abbrev pub NamesTell : (ℕ → List ℕ) → List Spotted → List Spotted → Type 0
-NamesTell naming old new = (k m : ℕ) → StandsThere k old → StandsThere m new → naming k ≡ naming m → k ≡ m

@@ -8,11 +8,11 @@ use Rattle.lsys_spec.specs.Systems.{Each}
 use Rattle.lsys_spec.specs.Levels as L
 use Rattle.lsys_spec.specs.Levels.{Symbol, lineage, ModuleValue}
 use Rattle.lsys_level.specs.Spots.{Module, with_lineage, named, level_by, level_at}
-use Rattle.lsys_pairing.specs.Tagged.{Tagged, tagged, all_tagged, Agree, AgreeAll}
+use Rattle.lsys_pairing.specs.Tagged.{Tagged, tagged, all_tagged, Agree, AgreeAll, StandsThere}
 use Rattle.lsys_pairing.proofs.Agreeing.{In, each_in, each_of, in_append, append_in, in_old}
 use Rattle.lsys_pairing.proofs.Owning.{stands_at}
 use Rattle.lsys_revision.specs.Lines.{Line, AreLines}
-use Rattle.lsys_revision.specs.Revised.{Revised, tags_of, seen_by, spots_by, all_spots, HasTag, AreNamedTogether, IsKeyed, IsRevised}
+use Rattle.lsys_revision.specs.Revised.{Revised, tags_of, seen_by, spots_by, all_spots, AreNamedTogether, IsKeyed, IsRevised}
 use Rattle.lsys_revision.proofs.Seeing.{spots_have}
 use Rattle.lsys_revision.proofs.Adding.{across, next_olds}
 
@@ -75,11 +75,11 @@ levels_named naming seed u above (x ∷ xs) (l ∷ ls) h f (suc t) =
     levels_named naming seed (u + 1) x xs ls h.2 (λ a i. f a (in_append a (tagged u x l.tags) (all_tagged (u + 1) xs (tags_of ls)) (inr i))) t
 
 -- a spot of a level as a tagged symbol
-spot_in : (seed : ℕ) (above : List Symbol) (xs : List (List Symbol)) (ls : List Line) → AreLines above xs ls → (t k : ℕ) → HasTag k (level_at (all_spots seed xs (tags_of ls)) t)
+spot_in : (seed : ℕ) (above : List Symbol) (xs : List (List Symbol)) (ls : List Line) → AreLines above xs ls → (t k : ℕ) → StandsThere k (level_at (all_spots seed xs (tags_of ls)) t)
     → (line : List ℕ) × In (record { level = t; line = line; tag = k }) (all_tagged 0 xs (tags_of ls))
 spot_in seed above xs ls h t k w =
-    let s = stands_at xs (tags_of ls) (all_spots seed xs (tags_of ls)) (spots_have seed above xs ls h) t w.0 w.1 w.2 in
-    (lineage s.symbol, in_old xs (tags_of ls) 0 t t w.0 s.symbol k (omega arith) s.there (s.has_tag ∙ ap (λ k. Some k) w.3))
+    let s = stands_at xs (tags_of ls) (all_spots seed xs (tags_of ls)) (spots_have seed above xs ls h) t w.place w.spot w.there in
+    (lineage s.symbol, in_old xs (tags_of ls) 0 t t w.place s.symbol k (omega arith) s.there (s.has_tag ∙ ap (λ k. Some k) w.is))
 
 pub named_together : (before seed : ℕ) (xs ys : List (List Symbol)) (r : Revised) → IsRevised seed xs ys r → AreNamedTogether xs ys (all_spots before xs (tags_of r.old_lines)) r.view
 named_together before seed xs ys r h = record {
@@ -90,7 +90,7 @@ named_together before seed xs ys r h = record {
       ∙ levels_named (name_of (all_tagged 0 xs (tags_of r.old_lines) ++ all_tagged 0 ys (tags_of r.lines))) seed 0 _ ys r.lines h.lines (λ a i. told a (in_append a (all_tagged 0 xs (tags_of r.old_lines)) (all_tagged 0 ys (tags_of r.lines)) (inr i))) t;
   across = λ t k m v w e.
       let i = spot_in before _ xs r.old_lines h.olds.lines t k v in
-      let j = spot_in seed _ ys r.lines h.lines t m (subst (λ v. HasTag m (level_at v t)) h.view w) in
+      let j = spot_in seed _ ys r.lines h.lines t m (subst (λ v. StandsThere m (level_at v t)) h.view w) in
       let a : Tagged = record { level = t; line = i.0; tag = k } in
       let b : Tagged = record { level = t; line = j.0; tag = m } in
       let all : Agree a b = each_in (Agree a) (all_tagged 0 ys (tags_of r.lines)) b (each_in (λ a. Each (Agree a) (all_tagged 0 ys (tags_of r.lines))) (all_tagged 0 xs (tags_of r.old_lines)) a (across seed xs ys r h) i.1) j.1 in

@@ -9,7 +9,7 @@ use Rattle.lsys_level.specs.Spots.{Seen, Push, Pop, Module, Spotted, level_by, l
 use Rattle.lsys_need.specs.Kept.{places_in}
 use Rattle.lsys_pairing.specs.Origins.{root}
 use Rattle.lsys_pairing.specs.Supplies.{Supply, in_use, taken, AreNamed}
-use Rattle.lsys_pairing.specs.Tagged.{all_tagged, AgreeAll}
+use Rattle.lsys_pairing.specs.Tagged.{all_tagged, AgreeAll, NamesTell}
 use Rattle.lsys_offspring.specs.Grown.{HasSymbols}
 use Rattle.lsys_offspring.specs.declared.level.Level.{Level}
 use Rattle.lsys_revision.specs.Lines.{Line, AreLines}
@@ -92,16 +92,12 @@ pub record CanAdd (r : Revised) (level : Level) : Type 0 where
 
 -- 3. by one naming of the tags
 
--- the tag stands in this list
-abbrev pub HasTag : ℕ → List Spotted → Type 0
-HasTag k row = (p : ℕ) × (a : Spotted) × (slice_get row p ≡ Some a) × (a.tag ≡ k)
-
 -- One naming makes the old levels of what was seen of them, and the new ones of what is seen; and on each level the tags of both are equal where their names are.
 pub record AreNamedTogether (xs ys : List (List Symbol)) (old new : List (List Spotted)) : Type 0 where
   pub naming : ℕ → List ℕ
   pub old_levels : (t : ℕ) → level_by naming (level_at old t) ≡ slice_index_or xs t []
   pub new_levels : (t : ℕ) → level_by naming (level_at new t) ≡ slice_index_or ys t []
-  pub across : (t k m : ℕ) → HasTag k (level_at old t) → HasTag m (level_at new t) → naming k ≡ naming m → k ≡ m
+  pub across : (t : ℕ) → NamesTell naming (level_at old t) (level_at new t)
 
 -- the module m stands at place p; its tag names its lineage l, of which it has the key
 pub record IsKeyed (naming : ℕ → List ℕ) (seed : ℕ) (row : List Spotted) (p : ℕ) (l : List ℕ) (m : L.ModuleValue) : Type 0 where
