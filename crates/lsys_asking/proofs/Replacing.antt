@@ -10,9 +10,12 @@ use Rattle.lsys_spec.specs.Levels as L
 use Rattle.lsys_spec.specs.Levels.{Symbol, ModuleValue, plain, lineage}
 use Rattle.lsys_spec.specs.Choice.{Fault}
 use Rattle.lsys_spec.specs.Meaning.{asked as asked_of, successor_by, successor}
+use Rattle.lsys_spec.specs.Questions.{Question, question}
+use Rattle.lsys_need.specs.Kept.{where_grouped}
 use Rattle.lsys_level.specs.Spots.{Seen, Push, Pop, Module, Spotted}
 use Rattle.lsys_match.specs.Asking.{IsModuleAt}
-use Rattle.lsys_match.specs.Asks.{ByDefinition, IsAnswer, IsAnswered, IsNamedAt}
+use Rattle.lsys_match.specs.Answered.{Counts}
+use Rattle.lsys_match.specs.Asks.{ByDefinition, IsAnswer, IsAnswered, IsNamedAt, by_definition}
 use Rattle.lsys_match.specs.Kept.{Kept}
 use Rattle.lsys_match.specs.Stored.{answer_in}
 use Rattle.lsys_match.specs.declared.answer.Answer.{Answer}
@@ -26,7 +29,7 @@ use Rattle.lsys_asking.specs.declared.found.Found.{Found}
 use Rattle.lsys_asking.specs.declared.found.Found.TheVariants as found
 use Rattle.lsys_offspring.specs.Steps.{replacement}
 use Rattle.lsys_revision.specs.Revised.{seen_by}
-use Rattle.lsys_asking.specs.Replaced.{IsSymbolAt, IsReplaced}
+use Rattle.lsys_asking.specs.Replaced.{IsAsked, IsSymbolAt, IsReplaced, question_here}
 
 pub no_rules : {A B : Type 0} (f : A → B) (o : Option A) (bs : List B) → option_map f o ≡ slice_get bs 0 → is_none o ≡ true → bs ≡ []
 no_rules f None [] e h = refl
@@ -98,3 +101,47 @@ err_replaced {L} naming d s old r a result back e same h is goes = subst (IsRepl
     by : (e : AskRefusal) → IsAnswered {L = L} naming d s old (Err e) → IsReplaced {L = L} r a old (Err e)
     by (refusals.Fault k) h = same ∙ sym h
     by refusals.Memory h = tt
+
+-- whether there is a question
+
+pub bracket_asks_none : (s : System) (t : ℕ) (x : List Symbol) (p : ℕ) (a : Symbol) → (seen_by a ≡ Push) ⊎ (seen_by a ≡ Pop) → question_here s t x p a ≡ None
+bracket_asks_none s t x p (L.Push l) e = refl
+bracket_asks_none s t x p (L.Pop l) e = refl
+bracket_asks_none s t x p (L.Module l m) (inl e) = cc
+bracket_asks_none s t x p (L.Module l m) (inr e) = cc
+
+pub unruled_asks_none : (s : System) (t : ℕ) (x : List Symbol) (p : ℕ) (a : Symbol) (m : ModuleValue) → seen_by a ≡ Module m → group s t m.name (length m.params) ≡ [] → question_here s t x p a ≡ None
+unruled_asks_none s t x p (L.Push l) m e h = refl
+unruled_asks_none s t x p (L.Pop l) m e h = refl
+unruled_asks_none s t x p (L.Module l k) m e h =
+    let same : m ≡ k = cc in ap (λ bs. where_grouped bs (question s t bs x p l k)) (subst (λ (m : ModuleValue). group s t m.name (length m.params) ≡ []) same h)
+
+pub ruled_asks : (s : System) (t : ℕ) (x : List Symbol) (p : ℕ) (a : Symbol) (m : ModuleValue) → seen_by a ≡ Module m → (group s t m.name (length m.params) ≡ [] → ⊥)
+    → question_here s t x p a ≡ Some (by_definition s t x p (lineage a) m).question
+ruled_asks s t x p (L.Push l) m e h = cc
+ruled_asks s t x p (L.Pop l) m e h = cc
+ruled_asks s t x p (L.Module l k) m e h =
+    let same : k ≡ m = cc in
+    some (group s t k.name (length k.params)) (question s t (group s t k.name (length k.params)) x p l k) (λ i. h (ap (λ (m : ModuleValue). group s t m.name (length m.params)) (sym same) ∙ i))
+    ∙ ap (λ (m : ModuleValue). Some (by_definition s t x p l m).question) same
+  where
+    some : (bs : List Body) (q : Question) → (bs ≡ [] → ⊥) → where_grouped bs q ≡ Some q
+    some [] q h = absurd (h refl)
+    some (b ∷ bs) q h = refl
+
+pub none_asked : (L : Type 0) (o : Option Question) (n : ℕ) → o ≡ None → IsAsked {L = L} o n n (Ok found.Stays)
+none_asked L o n e = subst (λ o. IsAsked {L = L} o n n (Ok found.Stays)) (sym e) refl
+
+pub err_asked : {L : Type 0} (o : Option Question) (q : Question) (n m : ℕ) (result : Result (Asked L) AskRefusal) (back : Result (Found L) AskRefusal) (e : AskRefusal) → o ≡ Some q → Counts (length q.trace) n m result → result ≡ Err e → back ≡ Err e → IsAsked o n m back
+err_asked {L} o q n m result back e is h err goes =
+    subst (IsAsked {L = L} o n m) (sym goes) (subst (λ o. IsAsked {L = L} o n m (Err e)) (sym is) (by e (subst (Counts {T = Asked L} (length q.trace) n m) err h)))
+  where
+    by : (e : AskRefusal) → Counts {T = Asked L} (length q.trace) n m (Err e) → IsAsked {L = L} (Some q) n m (Err e)
+    by (refusals.Fault k) h = h
+    by refusals.Memory h = h
+
+pub same_asked : {L : Type 0} (o : Option Question) (q : Question) (n m : ℕ) (result : Result (Asked L) AskRefusal) → o ≡ Some q → Counts (length q.trace) n m result → result ≡ Ok asked.Same → IsAsked {L = L} o n m (Ok found.Same)
+same_asked {L} o q n m result is h ok = subst (λ o. IsAsked {L = L} o n m (Ok found.Same)) (sym is) (subst (Counts {T = Asked L} (length q.trace) n m) ok h)
+
+pub new_asked : {L : Type 0} (o : Option Question) (q : Question) (n m : ℕ) (result : Result (Asked L) AskRefusal) (b : Answer L) → o ≡ Some q → Counts (length q.trace) n m result → result ≡ Ok (asked.New b) → IsAsked {L = L} o n m (Ok (found.New b))
+new_asked {L} o q n m result b is h ok = subst (λ o. IsAsked {L = L} o n m (Ok (found.New b))) (sym is) (subst (Counts {T = Asked L} (length q.trace) n m) ok h)

@@ -4,7 +4,7 @@ ghost use Rattle.lsys_spec.specs.Levels.{Symbol};
 ghost use Rattle.lsys_level.specs.Spots.{level_at, level_by};
 ghost use Rattle.lsys_match.specs.Asks.{IsMadeIfAny};
 ghost use Rattle.lsys_offspring.specs.Steps.{replacement};
-ghost use Rattle.lsys_asking.specs.Replaced.{IsSymbolAt, IsReplaced, found_news};
+ghost use Rattle.lsys_asking.specs.Replaced.{IsAsked, IsReplaced, IsSymbolAt, KeepsFound, found_news, question_here};
 
 use crate::found::Found;
 use lsys_level::{FlatLevels, FlatSpot, LevelView, Sight};
@@ -34,7 +34,11 @@ pub fn ask_symbol<L: Ledger, V: Ledger>(
     ensures replaced { (naming : ℕ → List ℕ) (a : Symbol) → IsSymbolAt naming system.now.seed (level_at view.now level) place a
         → IsReplaced (replacement system.now level (level_by naming (level_at view.now level)) place a) a
         (option_map (λ a. a.now) old.entry) result }
+    ensures visited { (naming : ℕ → List ℕ) (a : Symbol) → IsSymbolAt naming system.now.seed (level_at view.now level) place a
+        → IsAsked (question_here system.now level (level_by naming (level_at view.now level)) place a)
+        visited.old visited.new result }
     ensures asked { asked.new ≡ asked.old + found_news result }
+    ensures store { KeepsFound store.old store.new (option_map (λ a. a.now) old.entry) result }
 {
     let spot = FlatSpot { level, place };
     let Sight::Module { name, params } = view.sight(spot) else {
