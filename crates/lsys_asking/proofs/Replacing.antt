@@ -29,7 +29,7 @@ use Rattle.lsys_asking.specs.declared.found.Found.{Found}
 use Rattle.lsys_asking.specs.declared.found.Found.TheVariants as found
 use Rattle.lsys_offspring.specs.Steps.{replacement}
 use Rattle.lsys_revision.specs.Revised.{seen_by}
-use Rattle.lsys_asking.specs.Replaced.{IsAsked, IsSymbolAt, IsReplaced, question_here}
+use Rattle.lsys_asking.specs.Replaced.{IsAsked, IsRecalled, IsSymbolAt, IsReplaced, question_here}
 
 pub no_rules : {A B : Type 0} (f : A → B) (o : Option A) (bs : List B) → option_map f o ≡ slice_get bs 0 → is_none o ≡ true → bs ≡ []
 no_rules f None [] e h = refl
@@ -145,3 +145,16 @@ same_asked {L} o q n m result is h ok = subst (λ o. IsAsked {L = L} o n m (Ok f
 
 pub new_asked : {L : Type 0} (o : Option Question) (q : Question) (n m : ℕ) (result : Result (Asked L) AskRefusal) (b : Answer L) → o ≡ Some q → Counts (length q.trace) n m result → result ≡ Ok (asked.New b) → IsAsked {L = L} o n m (Ok (found.New b))
 new_asked {L} o q n m result b is h ok = subst (λ o. IsAsked {L = L} o n m (Ok (found.New b))) (sym is) (subst (Counts {T = Asked L} (length q.trace) n m) ok h)
+
+-- what is kept of it
+
+pub same_recalled : {L : Type 0} (naming : ℕ → List ℕ) (d : ByDefinition) (s : Store) (old : Option Kept) (result : Result (Asked L) AskRefusal) → IsAnswered naming d s old result → result ≡ Ok asked.Same
+    → IsSomeAnd old (λ a. IsAnswer naming d (answer_in s a))
+same_recalled {L} naming d s old result h is = subst (IsAnswered {L = L} naming d s old) is h
+
+pub new_recalled : {L : Type 0} (naming : ℕ → List ℕ) (d : ByDefinition) (s : Store) (old : Option Kept) (result : Result (Asked L) AskRefusal) (b : Answer L) → IsAnswered naming d s old result → result ≡ Ok (asked.New b)
+    → IsAnswer naming d (answer_in s b)
+new_recalled {L} naming d s old result b h is = subst (IsAnswered {L = L} naming d s old) is h
+
+pub err_recalled : {L : Type 0} (naming : ℕ → List ℕ) (d : ByDefinition) (s : Store) (old : Option Kept) (result : Result (Found L) AskRefusal) (e : AskRefusal) → result ≡ Err e → IsRecalled naming d s old result
+err_recalled {L} naming d s old result e is = subst (IsRecalled {L = L} naming d s old) (sym is) tt

@@ -13,7 +13,8 @@ use Rattle.lsys_module.specs.Views.{string_of}
 use Rattle.lsys_rewrite.specs.Faults.{fault_of}
 use Rattle.lsys_level.specs.Spots.{Spotted}
 use Rattle.lsys_walks.specs.Stores.{Store}
-use Rattle.lsys_match.specs.Asks.{IsNew, StaysAsKept}
+use Rattle.lsys_match.specs.Asks.{ByDefinition, IsAnswer, IsNew, StaysAsKept}
+use Rattle.lsys_match.specs.Stored.{answer_in}
 use Rattle.lsys_match.specs.Kept.{Kept}
 use Rattle.lsys_match.specs.declared.refusal.AskRefusal.{AskRefusal}
 use Rattle.lsys_match.specs.declared.refusal.AskRefusal.TheVariants as refusals
@@ -66,3 +67,10 @@ KeepsFound before after old (Ok (New b)) = IsNew before after old b
 KeepsFound before after old (Ok Same) = StaysAsKept before after
 KeepsFound before after old (Ok Stays) = after ≡ before
 KeepsFound before after old (Err e) = StaysAsKept before after
+
+-- the old answer is this one, where the store holds this, or the new one is
+abbrev pub IsRecalled : {L : Type 0} → (ℕ → List ℕ) → ByDefinition → Store → Option Kept → Result (Found L) AskRefusal → Type 0
+IsRecalled naming d s old (Ok Same) = IsSomeAnd old (λ a. IsAnswer naming d (answer_in s a))
+IsRecalled naming d s old (Ok (New b)) = IsAnswer naming d (answer_in s b)
+IsRecalled naming d s old (Ok Stays) = Unit {0}
+IsRecalled naming d s old (Err e) = Unit {0}

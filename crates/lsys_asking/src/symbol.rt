@@ -1,10 +1,10 @@
 //! What replaces a symbol.
 ghost use Rattle.std.specs.Prelude.{◌≡◌, ◌+◌, ◌<◌, ℕ, List, [], length, option_map};
-ghost use Rattle.lsys_spec.specs.Levels.{Symbol};
+ghost use Rattle.lsys_spec.specs.Levels.{ModuleValue, Symbol};
 ghost use Rattle.lsys_level.specs.Spots.{level_at, level_by};
-ghost use Rattle.lsys_match.specs.Asks.{IsMadeIfAny};
+ghost use Rattle.lsys_match.specs.Asks.{IsMadeIfAny, IsNamedAt, by_definition};
 ghost use Rattle.lsys_offspring.specs.Steps.{replacement};
-ghost use Rattle.lsys_asking.specs.Replaced.{IsAsked, IsReplaced, IsSymbolAt, KeepsFound, found_news, question_here};
+ghost use Rattle.lsys_asking.specs.Replaced.{IsAsked, IsRecalled, IsReplaced, IsSymbolAt, KeepsFound, found_news, question_here};
 
 use crate::found::Found;
 use lsys_level::{FlatLevels, FlatSpot, LevelView, Sight};
@@ -13,7 +13,12 @@ use lsys_rules::System;
 use std::alloc::Global;
 use std::sync::ledger::Ledger;
 
-/// Asks what replaces the symbol at a place of a level, where it has a question.
+/// Asks what replaces the symbol at a place of a level, where it has a question: the old answer is handed to it, which was
+/// made with this store, and whose tags are named as the view names them.
+///
+/// By every naming of the tags that makes a level of what is seen, what replaces the symbol is what the definitions say:
+/// the symbol itself, the successor of the old answer or of the new one, or a fault. `asked` rises by 1 for a new answer
+/// alone, and `visited` by the entries of the question's trace, whatever is answered.
 ///
 /// # Errors
 ///
@@ -33,6 +38,10 @@ pub fn ask_symbol<L: Ledger, V: Ledger>(
     requires made { IsMadeIfAny store.old (option_map (λ a. a.now) old) }
     ensures replaced { (naming : ℕ → List ℕ) (a : Symbol) → IsSymbolAt naming system.now.seed (level_at view.now level) place a
         → IsReplaced (replacement system.now level (level_by naming (level_at view.now level)) place a) a
+        (option_map (λ a. a.now) old.entry) result }
+    ensures answered { let x = level_at view.now level in (naming : ℕ → List ℕ) (tag : ℕ) (m : ModuleValue)
+        → IsNamedAt naming system.now.seed x place tag m
+        → IsRecalled naming (by_definition system.now level (level_by naming x) place (naming tag) m) store.new
         (option_map (λ a. a.now) old.entry) result }
     ensures visited { (naming : ℕ → List ℕ) (a : Symbol) → IsSymbolAt naming system.now.seed (level_at view.now level) place a
         → IsAsked (question_here system.now level (level_by naming (level_at view.now level)) place a)

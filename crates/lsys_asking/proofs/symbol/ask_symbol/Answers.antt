@@ -7,7 +7,7 @@ use Rattle.lsys_match.specs.Asks.{by_definition}
 use Rattle.lsys_match.specs.declared.asked.Asked.TheVariants as asked
 use Rattle.lsys_offspring.specs.Steps.{replacement}
 use Rattle.lsys_asking.specs.Replaced.{question_here}
-use Rattle.lsys_asking.proofs.Replacing.{no_rules, has_rules, module_at, seen_there, unruled_stays, ruled, named_there, same_replaced, new_replaced, err_replaced, unruled_asks_none, ruled_asks, none_asked, err_asked, same_asked, new_asked}
+use Rattle.lsys_asking.proofs.Replacing.{no_rules, has_rules, module_at, seen_there, unruled_stays, ruled, named_there, same_replaced, new_replaced, err_replaced, unruled_asks_none, ruled_asks, none_asked, err_asked, same_asked, new_asked, same_recalled, new_recalled, err_recalled}
 use Rattle.lsys_asking.proofs.symbol.ask_symbol.Goals as goal
 
 pub returns-then-is_none-clause-replaced : goal.returns-then-is_none-clause-replaced
@@ -118,3 +118,18 @@ returns-in-New-clause-visited g c naming a h =
     ∙ ap (λ l. Some (by_definition c.args.system.now c.args.level x c.args.place l m).question) (sym h.line) in
     let new : c.ask.result ≡ Ok (asked.New c.in-New.answer) = c.in_ok-ask.was ∙ ap (λ v. Ok v) c.in-New.is in
     new_asked (question_here c.args.system.now c.args.level x c.args.place a) q _ _ c.ask.result c.in-New.answer is (c.ask.ensures.visited naming h.tag m named) new
+
+pub returns-in-Same-clause-answered : goal.returns-in-Same-clause-answered
+returns-in-Same-clause-answered g c naming tag m h =
+    let is : c.ask.result ≡ Ok asked.Same = c.in_ok-ask.was ∙ ap (λ v. Ok v) c.in-Same.is in
+    same_recalled naming _ c.ask.new.store _ c.ask.result (c.ask.ensures.answered naming tag m h) is
+
+pub returns-in-New-clause-answered : goal.returns-in-New-clause-answered
+returns-in-New-clause-answered g c naming tag m h =
+    let is : c.ask.result ≡ Ok (asked.New c.in-New.answer) = c.in_ok-ask.was ∙ ap (λ v. Ok v) c.in-New.is in
+    new_recalled naming _ c.ask.new.store _ c.ask.result c.in-New.answer (c.ask.ensures.answered naming tag m h) is
+
+pub returns-in_err-ask-clause-answered : goal.returns-in_err-ask-clause-answered
+returns-in_err-ask-clause-answered g c naming tag m h =
+    let goes : c.from_residual.result ≡ Err c.in_err-ask.field-0.0 = search rules in
+    err_recalled naming _ c.ask.new.store _ c.from_residual.result c.in_err-ask.field-0.0 goes
