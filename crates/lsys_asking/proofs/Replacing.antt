@@ -1,5 +1,5 @@
 -- What replaces a symbol that has no question, and the question of one that has.
-use Rattle.std.proofs.Common.{◌≡◌, ℕ, zero, suc, Bool, true, false, Option, Some, None, Result, Ok, Err, List, [], ◌∷◌, length, refl, sym, ap, ◌∙◌, subst, inl, inr, ◌⊎◌}
+use Rattle.std.proofs.Common.{◌≡◌, ℕ, true, false, Option, Some, None, Result, Ok, Err, List, [], ◌∷◌, length, refl, sym, ap, ◌∙◌, subst, inl, inr, ◌⊎◌}
 use Rattle.std.specs.Prelude.{ℤ, slice_get, option_map, is_none}
 use Rattle.std.specs.Option.{IsSomeAnd}
 use Rattle.lsys_syntax.specs.Strings as S
@@ -13,7 +13,6 @@ use Rattle.lsys_spec.specs.Meaning.{asked as asked_of, successor_by, successor}
 use Rattle.lsys_spec.specs.Questions.{Question, question}
 use Rattle.lsys_need.specs.Kept.{where_grouped}
 use Rattle.lsys_level.specs.Spots.{Seen, Push, Pop, Module, Spotted}
-use Rattle.lsys_match.specs.Asking.{IsModuleAt}
 use Rattle.lsys_match.specs.Answered.{Counts}
 use Rattle.lsys_match.specs.Asks.{ByDefinition, IsAnswer, IsAnswered, IsNamedAt, by_definition}
 use Rattle.lsys_match.specs.Kept.{Kept}

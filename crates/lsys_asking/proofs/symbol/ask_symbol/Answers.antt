@@ -1,6 +1,6 @@
-use Rattle.std.proofs.Common.{rules, ◌≡◌, ℕ, Bool, true, false, Option, Some, None, Ok, Err, List, [], length, sym, ap, ◌∙◌, subst}
-use Rattle.std.specs.Prelude.{is_none, option_map}
-use Rattle.lsys_spec.specs.Levels.{ModuleValue, Symbol, lineage}
+use Rattle.std.proofs.Common.{rules, ◌≡◌, true, false, Some, Ok, Err, sym, ap, ◌∙◌}
+use Rattle.std.specs.Prelude.{is_none}
+use Rattle.lsys_spec.specs.Levels.{ModuleValue}
 use Rattle.lsys_level.specs.Spots.{Module, level_at, level_by}
 use Rattle.lsys_module.specs.Views.{module_name}
 use Rattle.lsys_match.specs.Asks.{by_definition}
