@@ -145,7 +145,7 @@ marked_passed (b ∷ bs) [] x e = cc
 marked_passed (true ∷ bs) (y ∷ ys) x e = ap (λ zs. y ∷ zs) (marked_passed bs ys x (omega (arith, e)))
 marked_passed (false ∷ bs) (y ∷ ys) x e = marked_passed bs ys x (omega (arith, e))
 
-depth_behind : (o : Option ℕ) (s : S.Symbol ℤ) (i : ℕ) → IfSome o (λ n. n ≤ i) → IfSome (cutting_behind o s) (λ n. n ≤ i + 1)
+pub depth_behind : (o : Option ℕ) (s : S.Symbol ℤ) (i : ℕ) → IfSome o (λ n. n ≤ i) → IfSome (cutting_behind o s) (λ n. n ≤ i + 1)
 depth_behind None (S.Module n zs) i h = tt
 depth_behind None S.Push i h = tt
 depth_behind None S.Pop i h = tt

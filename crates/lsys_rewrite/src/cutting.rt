@@ -35,8 +35,8 @@ pub fn cut(symbols: &mut SymbolList, kept: &mut [bool])
     symbols.truncate(len);
 }
 
-// Whether a symbol stays, where a branch is being cut off in which so many others are open, or none is.
-fn stays(cutting: Option<usize>, symbol: &Symbol) -> bool
+/// Whether the next symbol stays, where a branch is being cut off in which so many others are open, or none is.
+pub fn stays(cutting: Option<usize>, symbol: &Symbol) -> bool
     ensures { result ≡ stays cutting (symbol_of symbol.now) }
 {
     match (cutting, symbol) {
@@ -46,8 +46,8 @@ fn stays(cutting: Option<usize>, symbol: &Symbol) -> bool
     }
 }
 
-// The same, behind the symbol.
-fn cutting_behind(cutting: Option<usize>, symbol: &Symbol) -> Option<usize>
+/// Behind the next symbol, whether a branch is being cut off and how many others are open in it.
+pub fn cutting_behind(cutting: Option<usize>, symbol: &Symbol) -> Option<usize>
     requires { IfSome cutting (λ branches. branches < usize.MAX) }
     ensures { result ≡ cutting_behind cutting (symbol_of symbol.now) }
 {

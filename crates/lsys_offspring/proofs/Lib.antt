@@ -1,0 +1,4 @@
+pub mod Stepping
+pub mod Limiting
+pub mod Growing
+pub mod Short

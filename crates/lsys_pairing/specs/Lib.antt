@@ -1,0 +1,4 @@
+pub mod Origins
+pub mod Moves
+pub mod Supplies
+pub mod Tagged
