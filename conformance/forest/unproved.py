@@ -45,7 +45,7 @@ def lay_out(name, folder):
         file.write("\n".join(lines) + "\n")
     program = os.path.join(folder, "crates", "forest_" + name)
     os.makedirs(os.path.join(program, "src"))
-    shutil.copy(os.path.join(HERE, name + ".rt"), os.path.join(program, "src", "main.rt"))
+    shutil.copy(os.path.join(HERE, name + ".rt.txt"), os.path.join(program, "src", "main.rt"))
     return program
 
 
