@@ -16,7 +16,7 @@ use lsys_rules::Refusal;
 /// # Errors
 ///
 /// The sink failed; a front of what was held and of the reply was written then.
-pub fn put_refusal<K: Sink>(
+pub(crate) fn put_refusal<K: Sink>(
     out: &mut Buffered,
     sink: &mut K,
     refusal: Refusal,
@@ -110,7 +110,7 @@ fn column_of(refusal: Refusal) -> Option<u32>
 /// # Errors
 ///
 /// The sink failed; a front of what was held and of the reply was written then.
-pub fn put_no_levels<K: Sink>(
+pub(crate) fn put_no_levels<K: Sink>(
     out: &mut Buffered,
     sink: &mut K,
     refusal: DeriveRefusal,
@@ -177,7 +177,11 @@ fn put_numbered<K: Sink>(
 /// # Errors
 ///
 /// The sink failed; a front of what was held and of the reply was written then.
-pub fn put_count<K: Sink>(out: &mut Buffered, sink: &mut K, count: EditCount) -> Result<(), Failed>
+pub(crate) fn put_count<K: Sink>(
+    out: &mut Buffered,
+    sink: &mut K,
+    count: EditCount,
+) -> Result<(), Failed>
     ensures { Puts K.written K.faults sink.old sink.new out.old out.new (count_text count) result }
 {
     out.put(sink, b"ok ")?;
@@ -192,7 +196,7 @@ pub fn put_count<K: Sink>(out: &mut Buffered, sink: &mut K, count: EditCount) ->
 /// # Errors
 ///
 /// The sink failed; a front of what was held was written then.
-pub fn finish<K: Sink>(out: &mut Buffered, sink: &mut K) -> Result<(), Failed>
+pub(crate) fn finish<K: Sink>(out: &mut Buffered, sink: &mut K) -> Result<(), Failed>
     ensures put { Puts K.written K.faults sink.old sink.new out.old out.new [] result }
     ensures empty { out.new ≡ [] }
 {

@@ -1,0 +1,107 @@
+//! Replies that are put whole: all that is held is written behind each.
+ghost use Rattle.std.specs.Prelude.{◌≡◌, ◌++◌, [], codes};
+ghost use Rattle.lsys_spec.specs.Refusals.{line_feed};
+ghost use Rattle.lsys_spec.specs.Shown.{show_text};
+ghost use Rattle.lsys_syntax.specs.Strings.{string_text};
+ghost use Rattle.lsys_module.specs.Views.{string_of};
+ghost use Rattle.lsys_session.specs.Requests.{count_text, derivation_line, refusal_line};
+ghost use Rattle.lsys_session.specs.Sessions.{Says, derivation_outcome, refusal_outcome};
+ghost use Rattle.lsys_session.specs.declared.outcome.Outcome.TheVariants.{Accepted, Printed};
+
+use crate::outcome::{Outcome, of_derivation, of_refusal};
+use crate::replies::{finish, put_count, put_no_levels, put_refusal};
+use lsys_io::{Buffered, Failed, Sink};
+use lsys_module::{SymbolList, print_string};
+use lsys_rewrite::{DeriveRefusal, EditCount};
+use lsys_rules::{Refusal, System, show};
+
+/// Answers a command that is refused by itself.
+///
+/// # Errors
+///
+/// The sink failed; a front of the reply was written then.
+pub fn refuse<K: Sink>(
+    out: &mut Buffered,
+    sink: &mut K,
+    refusal: Refusal,
+) -> Result<Outcome, Failed>
+    requires { out.old ≡ [] }
+    ensures { Says K.written K.faults sink.old sink.new out.new (refusal_line refusal) (refusal_outcome refusal) result }
+{
+    put_refusal(out, sink, refusal)?;
+    finish(out, sink)?;
+    Ok(of_refusal(refusal))
+}
+
+/// Answers an edit that is refused, since its system has no levels.
+///
+/// # Errors
+///
+/// The sink failed; a front of the reply was written then.
+pub fn refuse_edit<K: Sink>(
+    out: &mut Buffered,
+    sink: &mut K,
+    refusal: DeriveRefusal,
+) -> Result<Outcome, Failed>
+    requires { out.old ≡ [] }
+    ensures { Says K.written K.faults sink.old sink.new out.new (derivation_line refusal) (derivation_outcome refusal) result }
+{
+    put_no_levels(out, sink, refusal)?;
+    finish(out, sink)?;
+    Ok(of_derivation(refusal))
+}
+
+/// Answers an edit that was made, by how many questions it asked and how many there are.
+///
+/// # Errors
+///
+/// The sink failed; a front of the reply was written then.
+pub fn accept<K: Sink>(
+    out: &mut Buffered,
+    sink: &mut K,
+    count: EditCount,
+) -> Result<Outcome, Failed>
+    requires { out.old ≡ [] }
+    ensures { Says K.written K.faults sink.old sink.new out.new (count_text count) Accepted result }
+{
+    put_count(out, sink, count)?;
+    finish(out, sink)?;
+    Ok(Outcome::Accepted)
+}
+
+/// Answers with a system as the script that gives it back.
+///
+/// # Errors
+///
+/// The sink failed; a front of the reply was written then.
+pub fn show_system<K: Sink>(
+    out: &mut Buffered,
+    sink: &mut K,
+    system: &System,
+) -> Result<Outcome, Failed>
+    requires { out.old ≡ [] }
+    ensures { Says K.written K.faults sink.old sink.new out.new (show_text system.now) Printed result }
+{
+    show(system, out, sink)?;
+    finish(out, sink)?;
+    Ok(Outcome::Printed)
+}
+
+/// Answers with a level on a line.
+///
+/// # Errors
+///
+/// The sink failed; a front of the reply was written then.
+pub fn print_line<K: Sink>(
+    out: &mut Buffered,
+    sink: &mut K,
+    symbols: &SymbolList,
+) -> Result<Outcome, Failed>
+    requires { out.old ≡ [] }
+    ensures { Says K.written K.faults sink.old sink.new out.new (string_text (string_of symbols.now) ++ line_feed) Printed result }
+{
+    print_string(out, sink, symbols)?;
+    out.put(sink, b"\n")?;
+    finish(out, sink)?;
+    Ok(Outcome::Printed)
+}
