@@ -44,7 +44,7 @@ pub fn ask<'a, W: LevelView, L: Ledger, V: Ledger>(
     spot: W::Spot,
     system: &'a System,
     level: u32,
-    old: Option<&Answer<L>>,
+    old: Option<&'a Answer<L>>,
     asked: &mut Steps<L>,
     visited: &mut Steps<V>,
 ) -> Result<Asked<L>, AskRefusal>
