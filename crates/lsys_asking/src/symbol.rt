@@ -36,14 +36,17 @@ pub fn ask_symbol<L: Ledger, V: Ledger>(
 ) -> Result<Found<L>, AskRefusal>
     requires place { place < length (level_at view.now level) }
     requires made { IsMadeIfAny store.old (option_map (λ a. a.now) old) }
-    ensures replaced { (naming : ℕ → List ℕ) (a : Symbol) → IsSymbolAt naming system.now.seed (level_at view.now level) place a
+    ensures replaced { (naming : ℕ → List ℕ) (a : Symbol)
+        → IsSymbolAt naming system.now.seed (level_at view.now level) place a
         → IsReplaced (replacement system.now level (level_by naming (level_at view.now level)) place a) a
         (option_map (λ a. a.now) old.entry) result }
-    ensures answered { let x = level_at view.now level in (naming : ℕ → List ℕ) (tag : ℕ) (m : ModuleValue)
+    ensures answered { let x = level_at view.now level in
+        (naming : ℕ → List ℕ) (tag : ℕ) (m : ModuleValue)
         → IsNamedAt naming system.now.seed x place tag m
         → IsRecalled naming (by_definition system.now level (level_by naming x) place (naming tag) m) store.new
         (option_map (λ a. a.now) old.entry) result }
-    ensures visited { (naming : ℕ → List ℕ) (a : Symbol) → IsSymbolAt naming system.now.seed (level_at view.now level) place a
+    ensures visited { (naming : ℕ → List ℕ) (a : Symbol)
+        → IsSymbolAt naming system.now.seed (level_at view.now level) place a
         → IsAsked (question_here system.now level (level_by naming (level_at view.now level)) place a)
         visited.old visited.new result }
     ensures asked { asked.new ≡ asked.old + found_news result }

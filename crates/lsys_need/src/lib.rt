@@ -16,9 +16,12 @@ ghost use Rattle.lsys_need.specs.Kept.{kept_questions, kept_at, level_questions,
 /// The question of a system at a level and lineage is what is kept at the lineage's place in that level, where lineages
 /// rise from left to right in each level. The questions of a level are those of its places, in order.
 pub fn law_of_kept_questions()
-    ensures kept { (s : System) (levels : List (List Symbol)) → Each Rising levels → (t : ℕ) (l : List ℕ)
-        → question_at t l (questions s levels) ≡ kept_at (kept_questions s levels t) (place_of l (slice_index_or levels t [])) }
-    ensures level { (s : System) (t : ℕ) (x : List Symbol) → questions_at s t x ≡ present (level_questions s t x) }
+    ensures kept { (s : System) (levels : List (List Symbol)) → Each Rising levels
+        → (t : ℕ) (l : List ℕ)
+        → question_at t l (questions s levels)
+        ≡ kept_at (kept_questions s levels t) (place_of l (slice_index_or levels t [])) }
+    ensures level { (s : System) (t : ℕ) (x : List Symbol) → questions_at s t x
+        ≡ present (level_questions s t x) }
 {}
 
 /// The questions that an edit needs are, level by level, those of the new level that what is kept at the old place of
@@ -29,5 +32,6 @@ pub fn law_of_needs_by_levels()
     ensures need { (old new : System) (xs ys : List (List Symbol)) → Each Rising xs
         → need (questions old xs) (questions new ys) ≡ length (needs old new xs ys) }
     ensures visits { (old new : System) (xs ys : List (List Symbol)) → Each Rising xs
-        → least_visits (questions old xs) (questions new ys) ≡ sum_by (λ q. length q.trace) (needs old new xs ys) }
+        → least_visits (questions old xs) (questions new ys)
+        ≡ sum_by (λ q. length q.trace) (needs old new xs ys) }
 {}

@@ -1,5 +1,5 @@
 -- A derivation step, symbol by symbol.
-use Rattle.std.proofs.Common.{◌≡◌, ℕ, zero, suc, ◌+◌, Some, Result, Ok, Err, List, [], ◌∷◌, ◌++◌, drop, sym, ap, ◌∙◌, add-one}
+use Rattle.std.proofs.Common.{◌≡◌, ℕ, ◌+◌, Some, Result, Ok, Err, List, [], ◌∷◌, ◌++◌, drop, sym, ap, ◌∙◌}
 use Rattle.std.specs.Prelude.{ℤ, slice_get}
 use Rattle.lsys_syntax.specs.Strings as S
 use Rattle.lsys_spec.specs.Systems.{System}
@@ -9,15 +9,8 @@ use Rattle.lsys_spec.specs.Choice.{Fault}
 use Rattle.lsys_spec.specs.Cuts.{Raw, cut}
 use Rattle.lsys_spec.specs.Meaning.{LevelRefusal, FaultAt, numbered, fault_at, children_from, next_level}
 use Rattle.lsys_rewrite.proofs.Behind.{behind, behind_twice}
+use Rattle.lsys_pairing.proofs.Naming.{drop_there}
 use Rattle.lsys_offspring.specs.Steps.{replacement, counted, AreReplaced}
-
-drop_there : {A : Type 0} (xs : List A) (i : ℕ) (x : A) → slice_get xs i ≡ Some x → drop i xs ≡ x ∷ drop (i + 1) xs
-drop_there xs i x e = rw add-one (go xs i x e)
-  where
-    go : {A : Type 0} (xs : List A) (i : ℕ) (x : A) → slice_get xs i ≡ Some x → drop i xs ≡ x ∷ drop (suc i) xs
-    go [] i x e = cc
-    go (y ∷ xs) zero x e = let h : y ≡ x = cc in ap (λ y. y ∷ xs) h
-    go (y ∷ xs) (suc i) x e = go xs i x e
 
 one_step : (s : System) (t : ℕ) (x : List Symbol) (p n : ℕ) (a : Symbol) (rest : List Symbol) (ys : List (S.Symbol ℤ)) → replacement s t x p a ≡ Ok ys
     → children_from s t x p n (a ∷ rest) ≡ behind (numbered 0 (lineage a) ys) (children_from s t x (p + 1) (counted a n) rest)

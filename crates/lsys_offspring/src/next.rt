@@ -125,7 +125,8 @@ impl NextLevel {
 
     /// The level, where it has room.
     pub fn finish(self) -> Option<Level>
-        ensures { (seed : ℕ) (above : List levels.Symbol) (raw : List Raw) → IsGrown seed above raw self
+        ensures { (seed : ℕ) (above : List levels.Symbol) (raw : List Raw)
+            → IsGrown seed above raw self
             → IsMade seed above raw self.room result }
     {
         if !self.fits {

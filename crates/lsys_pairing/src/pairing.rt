@@ -66,8 +66,10 @@ fn advance(old: &[Origin], from: usize, parent: u32, number: u32) -> usize
 fn place_at(old: &[Origin], place: usize, parent: u32, number: u32) -> Option<u32>
     requires { length old.now < 2 ^ 32 }
     ensures found { (m : ℕ) → result ≡ Some m → (m ≡ place)
-        × (o : Origin) × (slice_get old.now m ≡ Some o) × (o.parent ≡ parent) × (o.number ≡ number) }
-    ensures none { (o : Origin) → result ≡ None → slice_get old.now place ≡ Some o → o.parent ≡ parent → o.number ≡ number → ⊥ }
+        × (o : Origin) × (slice_get old.now m ≡ Some o) × (o.parent ≡ parent) × (o.number
+        ≡ number) }
+    ensures none { (o : Origin) → result ≡ None → slice_get old.now place ≡ Some o → o.parent
+        ≡ parent → o.number ≡ number → ⊥ }
 {
     if place < old.len() {
         let found = old[place];

@@ -28,7 +28,8 @@ pub fn law_of_trace_tags()
 /// other are equal by tags exactly where they are by names. So what was seen by tags alone holds by lineages.
 pub fn law_of_told_traces()
     ensures { (old new : System) (t : ℕ) (bs cs : List Body) (x y : List Spotted) (p q tag tag' : ℕ) (m n : ModuleValue)
-        (a b : List Noted) (naming : ℕ → List ℕ) → IsTraceAt old t bs x p tag m a → IsTraceAt new t cs y q tag' n b
+        (a b : List Noted) (naming : ℕ → List ℕ) → IsTraceAt old t bs x p tag m a
+        → IsTraceAt new t cs y q tag' n b
         → NamesTell naming x y → (a ≡ b) ↔ (map (entry_by naming) a ≡ map (entry_by naming) b) }
 {}
 
@@ -37,7 +38,8 @@ pub fn law_of_told_traces()
 pub fn law_of_same_answers()
     ensures { (old new : System) (t : ℕ) (x y : List Spotted) (p q tag tag' : ℕ) (m n : ModuleValue) (a b : TagAnswer)
         (naming : ℕ → List ℕ) → IsAnswerThere old t x p tag m a → IsAnswerThere new t y q tag' n b
-        → NamesTell naming x y → IsNamedAt naming old.seed x p tag m → IsNamedAt naming new.seed y q tag' n
+        → NamesTell naming x y → IsNamedAt naming old.seed x p tag m
+        → IsNamedAt naming new.seed y q tag' n
         → (a.question ≡ b.question) ↔ (asked_there old t (level_by naming x) p (naming tag) m
         ≡ asked_there new t (level_by naming y) q (naming tag') n) }
 {}

@@ -45,7 +45,8 @@ impl<'a> Revision<'a> {
     ///
     /// Want of memory.
     pub fn new(alloc: Global, olds: &'a [Ancestry]) -> Result<Revision<'a>, AllocError>
-        ensures { IfOk result (λ r. (seed : ℕ) (xs : List (List levels.Symbol)) → AreOldLevels xs (map line_of olds.now)
+        ensures { IfOk result (λ r. (seed : ℕ) (xs : List (List levels.Symbol))
+            → AreOldLevels xs (map line_of olds.now)
             → IsRevised seed xs [] r) }
     {
         let mut supply = TagSupply::new(alloc);
@@ -72,7 +73,8 @@ impl<'a> Revision<'a> {
     pub fn add_level(&mut self, level: Level) -> Result<(), AllocError>
         requires { CanAdd self.old level }
         ensures { OnOk result ((seed : ℕ) (xs ys : List (List levels.Symbol)) (y : List levels.Symbol)
-            → IsRevised seed xs ys self.old → IsNext seed xs ys y level → IsRevised seed xs (ys ++ y ∷ []) self.new) }
+            → IsRevised seed xs ys self.old → IsNext seed xs ys y level
+            → IsRevised seed xs (ys ++ y ∷ []) self.new) }
     {
         let none = Ancestry {
             origins: Vec::new(self.alloc),
