@@ -1,10 +1,8 @@
-//! Tests of levels, walks over them, readers, the forest and turtles.
+//! Tests of levels, walks over them, readers and turtles.
 //!
 //! Tests stand in crates of their own, so that no crate below is proved a second time with its tests.
 #![tactic(auto)]
 
-#[cfg(test)]
-mod forests;
 #[cfg(test)]
 mod levels;
 #[cfg(test)]
