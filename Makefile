@@ -12,7 +12,7 @@ help:
 	@echo 'make                     proves the program and builds it as bin/lsys: minutes the first time, and says how far it is'
 	@echo 'make run [SCRIPT=path]   runs a script, examples/algae.lsys by default: half a minute the first time, then at once'
 	@echo 'make install [PREFIX=..] installs bin/lsys as PREFIX/bin/lsys'
-	@echo 'make test                the whole gate, as .ci/run: half an hour and more from nothing'
+	@echo 'make test                the whole gate, as .ci/run: over an hour from nothing'
 	@echo 'make help                this list'
 
 run:
