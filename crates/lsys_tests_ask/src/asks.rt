@@ -1,0 +1,118 @@
+//! What is answered, and when the same is asked again.
+ghost use Rattle.std.specs.Prelude.{◌≡◌, ◌<◌, option_map};
+ghost use Rattle.lsys_match.specs.Asks.{IsMadeIfAny, KeepsStore};
+
+use crate::systems::{level_of, system_after};
+use lsys_io::{Buffered, MemorySink};
+use lsys_level::{FlatSpot, LevelView, Sight};
+use lsys_match::{Answer, AnswerStore, AskRefusal, Asked, Steps, ask};
+use lsys_module::{SymbolList, print_string};
+use lsys_rewrite::FaultKind;
+use lsys_rules::System;
+use std::alloc::{AllocError, Global};
+use std::marker::Brand;
+use std::mem::size_of;
+use std::sync::ledger::{Blank, Ledger};
+use std::test::Fail;
+
+/// Asks at a place of the axiom. There is a module there that has rules, or memory is said to be wanting.
+fn ask_at<'a, L: Ledger, V: Ledger>(
+    alloc: Global,
+    store: &mut AnswerStore,
+    system: &'a System,
+    place: usize,
+    old: Option<&'a Answer<L>>,
+    asked: &mut Steps<L>,
+    visited: &mut Steps<V>,
+) -> Result<Asked<L>, AskRefusal>
+    requires { IsMadeIfAny store.old (option_map (λ a. a.now) old) }
+    ensures { KeepsStore store.old store.new (option_map (λ a. a.now) old.entry) result }
+{
+    let symbols = system.axiom().symbols();
+    if place >= symbols.len() {
+        return Err(AskRefusal::Memory);
+    }
+    let levels = level_of(alloc, symbols, system.seed())?;
+    let spot = FlatSpot { level: 0, place };
+    let Sight::Module { name, params } = levels.sight(spot) else {
+        return Err(AskRefusal::Memory);
+    };
+    if system.group_rule(0, name, params.len(), 0).is_none() {
+        return Err(AskRefusal::Memory);
+    }
+    ask(alloc, store, &levels, spot, system, 0, old, asked, visited)
+}
+
+/// The text of a string.
+fn printed(alloc: Global, symbols: &SymbolList) -> Result<Vec<u8>, AllocError> {
+    let mut sink = MemorySink::new(alloc, 65536, 7, Vec::new(alloc))?;
+    let mut out = Buffered::new(alloc)?;
+    print_string(&mut out, &mut sink, symbols).map_err(|_| AllocError)?;
+    out.flush(&mut sink).map_err(|_| AllocError)?;
+    Vec::from_slice(alloc, sink.bytes())
+}
+
+/// What is answered at a place of a system's axiom: the printed successor, or the fault.
+fn answered<L: Ledger, V: Ledger>(
+    alloc: Global,
+    system: &System,
+    place: usize,
+    asked: Blank,
+    visited: Blank,
+) -> Result<Result<Vec<u8>, FaultKind>, AllocError>
+    requires name { asked.name ≡ L.name }
+    requires parts { asked.parts ≡ L.parts }
+    requires some { 0 < asked.parts }
+    requires other_name { visited.name ≡ V.name }
+    requires other_parts { visited.parts ≡ V.parts }
+    requires other_some { 0 < visited.parts }
+{
+    let mut asked = Steps::<L>::open(asked);
+    let mut visited = Steps::<V>::open(visited);
+    let mut store = AnswerStore::new(alloc);
+    match ask_at(
+        alloc,
+        &mut store,
+        system,
+        place,
+        None,
+        &mut asked,
+        &mut visited,
+    ) {
+        Ok(Asked::Same) | Err(AskRefusal::Memory) => Err(AllocError),
+        Ok(Asked::New(answer)) => Ok(Ok(printed(alloc, answer.successor())?)),
+        Err(AskRefusal::Fault { kind }) => Ok(Err(kind)),
+    }
+}
+
+/// What is answered at a place of the axiom of the system that the lines make.
+fn answer(
+    alloc: Global,
+    lines: &[&str],
+    place: usize,
+) -> Result<Result<Vec<u8>, FaultKind>, AllocError> {
+    let system = system_after(alloc, lines)?;
+    answered::<Brand, Brand>(alloc, &system, place, Blank::new(1), Blank::new(1))
+}
+
+/// Whether this is the printed successor there.
+fn gives(alloc: Global, lines: &[&str], place: usize, text: &str) -> Result<bool, AllocError> {
+    Ok(answer(alloc, lines, place)?.is_ok_and(|found| found.as_slice() == text.as_bytes()))
+}
+
+#[test]
+fn contexts_give_parameters(rt: HostRuntime) -> Result<(), Fail> {
+    let lines = [
+        "axiom A(4)B(5)C(6)",
+        "production p: A(x) < B(y) > C(z) : x+y+z > 10 => E((x+y)/2)F((y+z)/2)",
+        "ignore",
+    ];
+    assert!(rt; gives(rt.alloc(), &lines, 1, "E(4)F(5)")?);
+    Ok(())
+}
+
+#[test]
+fn an_answer_is_small(rt: HostRuntime) -> Result<(), Fail> {
+    assert_eq!(rt; size_of::<Answer<Brand>>(), 112);
+    Ok(())
+}
