@@ -1,5 +1,5 @@
 -- One level as a view.
-use Rattle.std.proofs.Common.{inl, inr, ◌≡◌, ℕ, suc, Some, List, [], ◌∷◌, ◌++◌, length, refl, ap, ◌∙◌, arith}
+use Rattle.std.proofs.Common.{inl, inr, ◌≡◌, ℕ, suc, Some, List, [], ◌∷◌, ◌++◌, length, refl, ap, arith}
 use Rattle.std.specs.Prelude.{slice_get}
 use Rattle.lsys_module.specs.declared.symbol.Symbol.{Symbol}
 use Rattle.lsys_level.specs.Spots.{Spotted, level_at}

@@ -1,6 +1,6 @@
 //! What is answered, and when the same is asked again.
 ghost use Rattle.std.specs.Prelude.{◌≡◌, ◌<◌, option_map};
-ghost use Rattle.lsys_match.specs.Asks.{IsMadeIfAny, KeepsStore};
+ghost use Rattle.lsys_match.specs.Asks.{IsMade, IsMadeIfAny, KeepsStore};
 
 use crate::systems::{level_of, system_after};
 use lsys_io::{Buffered, MemorySink};
@@ -112,7 +112,99 @@ fn contexts_give_parameters(rt: HostRuntime) -> Result<(), Fail> {
 }
 
 #[test]
+fn a_product_overflows(rt: HostRuntime) -> Result<(), Fail> {
+    let lines = [
+        "axiom A(10000000000000000)",
+        "production p: A(x) => A(x*x)",
+        "ignore",
+    ];
+    let fault = answer(rt.alloc(), &lines, 0)?.err();
+    assert_eq!(rt; fault, Some(FaultKind::Overflow));
+    Ok(())
+}
+
+#[test]
 fn an_answer_is_small(rt: HostRuntime) -> Result<(), Fail> {
     assert_eq!(rt; size_of::<Answer<Brand>>(), 112);
+    Ok(())
+}
+
+/// Whether the same is asked at this place as before.
+fn is_same<L: Ledger, V: Ledger>(
+    alloc: Global,
+    store: &mut AnswerStore,
+    system: &System,
+    place: usize,
+    old: &Answer<L>,
+    asked: &mut Steps<L>,
+    visited: &mut Steps<V>,
+) -> Result<bool, AllocError>
+    requires { IsMade store.old old.now }
+    ensures { IsMade store.new old.now }
+{
+    match ask_at(alloc, store, system, place, Some(old), asked, visited) {
+        Ok(Asked::Same) => Ok(true),
+        Ok(Asked::New(_)) => Ok(false),
+        Err(_) => Err(AllocError),
+    }
+}
+
+/// What is told of an answer: whether the same was asked again, and how many entries and values its trace has.
+#[derive(Clone, Copy, PartialEq, Eq, Debug)]
+struct Again {
+    same: bool,
+    entries: usize,
+    values: usize,
+}
+
+/// Asks at the same place first of one system and then of another, beside the first answer, which is released then.
+fn asked_twice<L: Ledger, V: Ledger>(
+    alloc: Global,
+    first: &System,
+    then: &System,
+    asked: Blank,
+    visited: Blank,
+) -> Result<Again, AllocError>
+    requires name { asked.name ≡ L.name }
+    requires parts { asked.parts ≡ L.parts }
+    requires some { 0 < asked.parts }
+    requires other_name { visited.name ≡ V.name }
+    requires other_parts { visited.parts ≡ V.parts }
+    requires other_some { 0 < visited.parts }
+{
+    let mut asked = Steps::<L>::open(asked);
+    let mut visited = Steps::<V>::open(visited);
+    let mut store = AnswerStore::new(alloc);
+    let Ok(Asked::New(old)) = ask_at(alloc, &mut store, first, 0, None, &mut asked, &mut visited)
+    else {
+        return Err(AllocError);
+    };
+    let same = is_same(alloc, &mut store, then, 0, &old, &mut asked, &mut visited)?;
+    let entries = old.trace(&store).len();
+    let values = old.values(&store).len();
+    old.release(&mut store);
+    Ok(Again {
+        same,
+        entries,
+        values,
+    })
+}
+
+/// What is told where lines make the one system and the other.
+fn told(alloc: Global, before: &[&str], after: &[&str]) -> Result<Again, AllocError> {
+    let first = system_after(alloc, before)?;
+    let then = system_after(alloc, after)?;
+    asked_twice::<Brand, Brand>(alloc, &first, &then, Blank::new(1), Blank::new(1))
+}
+
+#[test]
+fn a_trace_has_what_was_read(rt: HostRuntime) -> Result<(), Fail> {
+    let lines = ["axiom A(1)B(2)", "production p: A(x) > B(y) => X", "seed 1"];
+    let expected = Again {
+        same: true,
+        entries: 1,
+        values: 1,
+    };
+    assert_eq!(rt; told(rt.alloc(), &lines, &lines)?, expected);
     Ok(())
 }

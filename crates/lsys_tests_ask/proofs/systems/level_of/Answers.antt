@@ -1,4 +1,4 @@
-use Rattle.std.proofs.Common.{refl, rules, ◌≡◌, [], ◌∷◌, ◌++◌, length, ap, ◌∙◌, arith}
+use Rattle.std.proofs.Common.{rules, ◌≡◌, [], ◌∷◌, ◌++◌, length, ap, ◌∙◌, arith}
 use Rattle.lsys_level.specs.Places.{spots_of}
 use Rattle.lsys_tests_ask.proofs.Viewed.{one_own, one_long, run_more}
 use Rattle.lsys_tests_ask.proofs.systems.level_of.Goals as goal
