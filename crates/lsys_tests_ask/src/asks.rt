@@ -112,6 +112,76 @@ fn contexts_give_parameters(rt: HostRuntime) -> Result<(), Fail> {
 }
 
 #[test]
+fn conditions_choose(rt: HostRuntime) -> Result<(), Fail> {
+    let lines = [
+        "axiom B(2)A(4,4)",
+        "production a: A(x,y) : y <= 3 => A(x*2,x+y)",
+        "production b: A(x,y) : y > 3 => B(x)A(x/y,0)",
+        "production c: B(x) : x < 1 => C",
+        "production d: B(x) : x >= 1 => B(x-1)",
+    ];
+    assert!(rt; gives(rt.alloc(), &lines, 1, "B(4)A(1,0)")?);
+    assert!(rt; gives(rt.alloc(), &lines, 0, "B(1)")?);
+    Ok(())
+}
+
+#[test]
+fn branches_are_skipped(rt: HostRuntime) -> Result<(), Fail> {
+    let deep = [
+        "axiom ABC[DE][SG[HI[JK]L]MNO]",
+        "production p: BC < S > G[H]M => X",
+        "ignore",
+    ];
+    let flat = ["axiom S[A][B]C", "production p: S > [B]C => X", "ignore"];
+    assert!(rt; gives(rt.alloc(), &deep, 8, "X")?);
+    assert!(rt; gives(rt.alloc(), &flat, 0, "X")?);
+    Ok(())
+}
+
+#[test]
+fn weights_choose(rt: HostRuntime) -> Result<(), Fail> {
+    let one = [
+        "axiom AAA",
+        "production p: A @ 0 => B",
+        "production q: A @ 5 => C",
+    ];
+    let none = [one[0], one[1], "production q: A @ 0 => C"];
+    assert!(rt; gives(rt.alloc(), &one, 2, "C")?);
+    assert!(rt; gives(rt.alloc(), &none, 2, "A")?);
+    Ok(())
+}
+
+#[test]
+fn a_heavy_rule_is_chosen(rt: HostRuntime) -> Result<(), Fail> {
+    let lines = [
+        "axiom A",
+        "production p: A @ 9223372036854775807 => B",
+        "production q: A @ 0 => C",
+    ];
+    assert!(rt; gives(rt.alloc(), &lines, 0, "B")?);
+    Ok(())
+}
+
+#[test]
+fn weights_have_faults(rt: HostRuntime) -> Result<(), Fail> {
+    let negative = [
+        "axiom AAA",
+        "production p: A @ 0 => B",
+        "production q: A @ -1 => C",
+    ];
+    let heavy = [
+        "axiom A",
+        "production p: A @ 9223372036854775807 => B",
+        "production q: A @ 1 => C",
+    ];
+    let negative = answer(rt.alloc(), &negative, 0)?.err();
+    assert_eq!(rt; negative, Some(FaultKind::NegativeWeight));
+    let heavy = answer(rt.alloc(), &heavy, 0)?.err();
+    assert_eq!(rt; heavy, Some(FaultKind::WeightTotal));
+    Ok(())
+}
+
+#[test]
 fn a_product_overflows(rt: HostRuntime) -> Result<(), Fail> {
     let lines = [
         "axiom A(10000000000000000)",
@@ -120,6 +190,43 @@ fn a_product_overflows(rt: HostRuntime) -> Result<(), Fail> {
     ];
     let fault = answer(rt.alloc(), &lines, 0)?.err();
     assert_eq!(rt; fault, Some(FaultKind::Overflow));
+    Ok(())
+}
+
+#[test]
+fn a_draw_goes_by_ancestry_and_not_by_place(rt: HostRuntime) -> Result<(), Fail> {
+    let rules = ["production p: A @ 1 => B", "production q: A @ 1 => C"];
+    let alone = answer(rt.alloc(), &["axiom A", rules[0], rules[1], "seed 1"], 0)?;
+    let second = answer(rt.alloc(), &["axiom +A", rules[0], rules[1], "seed 0"], 1)?;
+    assert!(rt; alone.is_ok());
+    assert_eq!(rt; alone, second);
+    Ok(())
+}
+
+/// `A`, so many times `B`, and `C`, as an axiom.
+fn apart(alloc: Global, between: usize) -> Result<String, AllocError> {
+    let mut axiom = String::new(alloc);
+    axiom.push_str("axiom A")?;
+    for _letter in 0..between {
+        axiom.push_str("B")?;
+    }
+    axiom.push_str("C")?;
+    Ok(axiom)
+}
+
+/// What is answered to the `A`; the `B` are ignored, and the rule for `A` asks for `C` behind it.
+fn far_apart(alloc: Global, between: usize) -> Result<Result<Vec<u8>, FaultKind>, AllocError> {
+    let axiom = apart(alloc, between)?;
+    let lines = [axiom.as_str(), "ignore B", "production p: A > C => X"];
+    answer(alloc, &lines, 0)
+}
+
+#[test]
+fn the_1025th_entry_is_too_far(rt: HostRuntime) -> Result<(), Fail> {
+    let near = far_apart(rt.alloc(), 1023)?.map(|text| text.len());
+    assert_eq!(rt; near, Ok(1));
+    let far = far_apart(rt.alloc(), 1024)?.err();
+    assert_eq!(rt; far, Some(FaultKind::TooFar));
     Ok(())
 }
 
@@ -206,5 +313,50 @@ fn a_trace_has_what_was_read(rt: HostRuntime) -> Result<(), Fail> {
         values: 1,
     };
     assert_eq!(rt; told(rt.alloc(), &lines, &lines)?, expected);
+    Ok(())
+}
+
+#[test]
+fn seed_and_ignored_and_formals_leave_a_question(rt: HostRuntime) -> Result<(), Fail> {
+    let lines = ["axiom A(1)B(2)", "production p: A(x) > B(y) => X", "seed 1"];
+    let seed = [lines[0], lines[1], "seed 2"];
+    let ignored = [lines[0], lines[1], "ignore C"];
+    let formals = [lines[0], "production p: A(z) > B(y) => X", lines[2]];
+    assert!(rt; told(rt.alloc(), &lines, &seed)?.same);
+    assert!(rt; told(rt.alloc(), &lines, &ignored)?.same);
+    assert!(rt; told(rt.alloc(), &lines, &formals)?.same);
+    Ok(())
+}
+
+#[test]
+fn parameters_and_successors_make_another_question(rt: HostRuntime) -> Result<(), Fail> {
+    let lines = ["axiom A(1)B(2)", "production p: A(x) > B(y) => X", "seed 1"];
+    let context = ["axiom A(1)B(3)", lines[1], lines[2]];
+    let own = ["axiom A(2)B(2)", lines[1], lines[2]];
+    let successor = [lines[0], "production p: A(x) > B(y) => Y", lines[2]];
+    assert!(rt; !told(rt.alloc(), &lines, &context)?.same);
+    assert!(rt; !told(rt.alloc(), &lines, &own)?.same);
+    assert!(rt; !told(rt.alloc(), &lines, &successor)?.same);
+    Ok(())
+}
+
+#[test]
+fn a_branch_makes_another_question(rt: HostRuntime) -> Result<(), Fail> {
+    let lines = ["axiom A(1)B(2)", "production p: A(x) > B(y) => X", "seed 1"];
+    let branch = ["axiom A(1)[B(2)]", lines[1], lines[2]];
+    assert!(rt; !told(rt.alloc(), &lines, &branch)?.same);
+    Ok(())
+}
+
+#[test]
+fn the_order_of_weighted_rules_is_asked(rt: HostRuntime) -> Result<(), Fail> {
+    let lines = [
+        "axiom A",
+        "production p: A @ 1 => B",
+        "production q: A @ 1 => C",
+    ];
+    let turned = [lines[0], lines[2], lines[1]];
+    assert!(rt; told(rt.alloc(), &lines, &lines)?.same);
+    assert!(rt; !told(rt.alloc(), &lines, &turned)?.same);
     Ok(())
 }
