@@ -1,0 +1,2 @@
+mod Viewed
+mod Asking

@@ -1,0 +1,362 @@
+//! What is answered, and when the same is asked again.
+ghost use Rattle.std.specs.Prelude.{◌≡◌, ◌<◌, option_map};
+ghost use Rattle.lsys_match.specs.Asks.{IsMade, IsMadeIfAny, KeepsStore};
+
+use crate::systems::{level_of, system_after};
+use lsys_io::{Buffered, MemorySink};
+use lsys_level::{FlatSpot, LevelView, Sight};
+use lsys_match::{Answer, AnswerStore, AskRefusal, Asked, Steps, ask};
+use lsys_module::{SymbolList, print_string};
+use lsys_rewrite::FaultKind;
+use lsys_rules::System;
+use std::alloc::{AllocError, Global};
+use std::marker::Brand;
+use std::mem::size_of;
+use std::sync::ledger::{Blank, Ledger};
+use std::test::Fail;
+
+/// Asks at a place of the axiom. There is a module there that has rules, or memory is said to be wanting.
+fn ask_at<'a, L: Ledger, V: Ledger>(
+    alloc: Global,
+    store: &mut AnswerStore,
+    system: &'a System,
+    place: usize,
+    old: Option<&'a Answer<L>>,
+    asked: &mut Steps<L>,
+    visited: &mut Steps<V>,
+) -> Result<Asked<L>, AskRefusal>
+    requires { IsMadeIfAny store.old (option_map (λ a. a.now) old) }
+    ensures { KeepsStore store.old store.new (option_map (λ a. a.now) old.entry) result }
+{
+    let symbols = system.axiom().symbols();
+    if place >= symbols.len() {
+        return Err(AskRefusal::Memory);
+    }
+    let levels = level_of(alloc, symbols, system.seed())?;
+    let spot = FlatSpot { level: 0, place };
+    let Sight::Module { name, params } = levels.sight(spot) else {
+        return Err(AskRefusal::Memory);
+    };
+    if system.group_rule(0, name, params.len(), 0).is_none() {
+        return Err(AskRefusal::Memory);
+    }
+    ask(alloc, store, &levels, spot, system, 0, old, asked, visited)
+}
+
+/// The text of a string.
+fn printed(alloc: Global, symbols: &SymbolList) -> Result<Vec<u8>, AllocError> {
+    let mut sink = MemorySink::new(alloc, 65536, 7, Vec::new(alloc))?;
+    let mut out = Buffered::new(alloc)?;
+    print_string(&mut out, &mut sink, symbols).map_err(|_| AllocError)?;
+    out.flush(&mut sink).map_err(|_| AllocError)?;
+    Vec::from_slice(alloc, sink.bytes())
+}
+
+/// What is answered at a place of a system's axiom: the printed successor, or the fault.
+fn answered<L: Ledger, V: Ledger>(
+    alloc: Global,
+    system: &System,
+    place: usize,
+    asked: Blank,
+    visited: Blank,
+) -> Result<Result<Vec<u8>, FaultKind>, AllocError>
+    requires name { asked.name ≡ L.name }
+    requires parts { asked.parts ≡ L.parts }
+    requires some { 0 < asked.parts }
+    requires other_name { visited.name ≡ V.name }
+    requires other_parts { visited.parts ≡ V.parts }
+    requires other_some { 0 < visited.parts }
+{
+    let mut asked = Steps::<L>::open(asked);
+    let mut visited = Steps::<V>::open(visited);
+    let mut store = AnswerStore::new(alloc);
+    match ask_at(
+        alloc,
+        &mut store,
+        system,
+        place,
+        None,
+        &mut asked,
+        &mut visited,
+    ) {
+        Ok(Asked::Same) | Err(AskRefusal::Memory) => Err(AllocError),
+        Ok(Asked::New(answer)) => Ok(Ok(printed(alloc, answer.successor())?)),
+        Err(AskRefusal::Fault { kind }) => Ok(Err(kind)),
+    }
+}
+
+/// What is answered at a place of the axiom of the system that the lines make.
+fn answer(
+    alloc: Global,
+    lines: &[&str],
+    place: usize,
+) -> Result<Result<Vec<u8>, FaultKind>, AllocError> {
+    let system = system_after(alloc, lines)?;
+    answered::<Brand, Brand>(alloc, &system, place, Blank::new(1), Blank::new(1))
+}
+
+/// Whether this is the printed successor there.
+fn gives(alloc: Global, lines: &[&str], place: usize, text: &str) -> Result<bool, AllocError> {
+    Ok(answer(alloc, lines, place)?.is_ok_and(|found| found.as_slice() == text.as_bytes()))
+}
+
+#[test]
+fn contexts_give_parameters(rt: HostRuntime) -> Result<(), Fail> {
+    let lines = [
+        "axiom A(4)B(5)C(6)",
+        "production p: A(x) < B(y) > C(z) : x+y+z > 10 => E((x+y)/2)F((y+z)/2)",
+        "ignore",
+    ];
+    assert!(rt; gives(rt.alloc(), &lines, 1, "E(4)F(5)")?);
+    Ok(())
+}
+
+#[test]
+fn conditions_choose(rt: HostRuntime) -> Result<(), Fail> {
+    let lines = [
+        "axiom B(2)A(4,4)",
+        "production a: A(x,y) : y <= 3 => A(x*2,x+y)",
+        "production b: A(x,y) : y > 3 => B(x)A(x/y,0)",
+        "production c: B(x) : x < 1 => C",
+        "production d: B(x) : x >= 1 => B(x-1)",
+    ];
+    assert!(rt; gives(rt.alloc(), &lines, 1, "B(4)A(1,0)")?);
+    assert!(rt; gives(rt.alloc(), &lines, 0, "B(1)")?);
+    Ok(())
+}
+
+#[test]
+fn branches_are_skipped(rt: HostRuntime) -> Result<(), Fail> {
+    let deep = [
+        "axiom ABC[DE][SG[HI[JK]L]MNO]",
+        "production p: BC < S > G[H]M => X",
+        "ignore",
+    ];
+    let flat = ["axiom S[A][B]C", "production p: S > [B]C => X", "ignore"];
+    assert!(rt; gives(rt.alloc(), &deep, 8, "X")?);
+    assert!(rt; gives(rt.alloc(), &flat, 0, "X")?);
+    Ok(())
+}
+
+#[test]
+fn weights_choose(rt: HostRuntime) -> Result<(), Fail> {
+    let one = [
+        "axiom AAA",
+        "production p: A @ 0 => B",
+        "production q: A @ 5 => C",
+    ];
+    let none = [one[0], one[1], "production q: A @ 0 => C"];
+    assert!(rt; gives(rt.alloc(), &one, 2, "C")?);
+    assert!(rt; gives(rt.alloc(), &none, 2, "A")?);
+    Ok(())
+}
+
+#[test]
+fn a_heavy_rule_is_chosen(rt: HostRuntime) -> Result<(), Fail> {
+    let lines = [
+        "axiom A",
+        "production p: A @ 9223372036854775807 => B",
+        "production q: A @ 0 => C",
+    ];
+    assert!(rt; gives(rt.alloc(), &lines, 0, "B")?);
+    Ok(())
+}
+
+#[test]
+fn weights_have_faults(rt: HostRuntime) -> Result<(), Fail> {
+    let negative = [
+        "axiom AAA",
+        "production p: A @ 0 => B",
+        "production q: A @ -1 => C",
+    ];
+    let heavy = [
+        "axiom A",
+        "production p: A @ 9223372036854775807 => B",
+        "production q: A @ 1 => C",
+    ];
+    let negative = answer(rt.alloc(), &negative, 0)?.err();
+    assert_eq!(rt; negative, Some(FaultKind::NegativeWeight));
+    let heavy = answer(rt.alloc(), &heavy, 0)?.err();
+    assert_eq!(rt; heavy, Some(FaultKind::WeightTotal));
+    Ok(())
+}
+
+#[test]
+fn a_product_overflows(rt: HostRuntime) -> Result<(), Fail> {
+    let lines = [
+        "axiom A(10000000000000000)",
+        "production p: A(x) => A(x*x)",
+        "ignore",
+    ];
+    let fault = answer(rt.alloc(), &lines, 0)?.err();
+    assert_eq!(rt; fault, Some(FaultKind::Overflow));
+    Ok(())
+}
+
+#[test]
+fn a_draw_goes_by_ancestry_and_not_by_place(rt: HostRuntime) -> Result<(), Fail> {
+    let rules = ["production p: A @ 1 => B", "production q: A @ 1 => C"];
+    let alone = answer(rt.alloc(), &["axiom A", rules[0], rules[1], "seed 1"], 0)?;
+    let second = answer(rt.alloc(), &["axiom +A", rules[0], rules[1], "seed 0"], 1)?;
+    assert!(rt; alone.is_ok());
+    assert_eq!(rt; alone, second);
+    Ok(())
+}
+
+/// `A`, so many times `B`, and `C`, as an axiom.
+fn apart(alloc: Global, between: usize) -> Result<String, AllocError> {
+    let mut axiom = String::new(alloc);
+    axiom.push_str("axiom A")?;
+    for _letter in 0..between {
+        axiom.push_str("B")?;
+    }
+    axiom.push_str("C")?;
+    Ok(axiom)
+}
+
+/// What is answered to the `A`; the `B` are ignored, and the rule for `A` asks for `C` behind it.
+fn far_apart(alloc: Global, between: usize) -> Result<Result<Vec<u8>, FaultKind>, AllocError> {
+    let axiom = apart(alloc, between)?;
+    let lines = [axiom.as_str(), "ignore B", "production p: A > C => X"];
+    answer(alloc, &lines, 0)
+}
+
+#[test]
+fn the_1025th_entry_is_too_far(rt: HostRuntime) -> Result<(), Fail> {
+    let near = far_apart(rt.alloc(), 1023)?.map(|text| text.len());
+    assert_eq!(rt; near, Ok(1));
+    let far = far_apart(rt.alloc(), 1024)?.err();
+    assert_eq!(rt; far, Some(FaultKind::TooFar));
+    Ok(())
+}
+
+#[test]
+fn an_answer_is_small(rt: HostRuntime) -> Result<(), Fail> {
+    assert_eq!(rt; size_of::<Answer<Brand>>(), 112);
+    Ok(())
+}
+
+/// Whether the same is asked at this place as before.
+fn is_same<L: Ledger, V: Ledger>(
+    alloc: Global,
+    store: &mut AnswerStore,
+    system: &System,
+    place: usize,
+    old: &Answer<L>,
+    asked: &mut Steps<L>,
+    visited: &mut Steps<V>,
+) -> Result<bool, AllocError>
+    requires { IsMade store.old old.now }
+    ensures { IsMade store.new old.now }
+{
+    match ask_at(alloc, store, system, place, Some(old), asked, visited) {
+        Ok(Asked::Same) => Ok(true),
+        Ok(Asked::New(_)) => Ok(false),
+        Err(_) => Err(AllocError),
+    }
+}
+
+/// What is told of an answer: whether the same was asked again, and how many entries and values its trace has.
+#[derive(Clone, Copy, PartialEq, Eq, Debug)]
+struct Again {
+    same: bool,
+    entries: usize,
+    values: usize,
+}
+
+/// Asks at the same place first of one system and then of another, beside the first answer, which is released then.
+fn asked_twice<L: Ledger, V: Ledger>(
+    alloc: Global,
+    first: &System,
+    then: &System,
+    asked: Blank,
+    visited: Blank,
+) -> Result<Again, AllocError>
+    requires name { asked.name ≡ L.name }
+    requires parts { asked.parts ≡ L.parts }
+    requires some { 0 < asked.parts }
+    requires other_name { visited.name ≡ V.name }
+    requires other_parts { visited.parts ≡ V.parts }
+    requires other_some { 0 < visited.parts }
+{
+    let mut asked = Steps::<L>::open(asked);
+    let mut visited = Steps::<V>::open(visited);
+    let mut store = AnswerStore::new(alloc);
+    let Ok(Asked::New(old)) = ask_at(alloc, &mut store, first, 0, None, &mut asked, &mut visited)
+    else {
+        return Err(AllocError);
+    };
+    let same = is_same(alloc, &mut store, then, 0, &old, &mut asked, &mut visited)?;
+    let entries = old.trace(&store).len();
+    let values = old.values(&store).len();
+    old.release(&mut store);
+    Ok(Again {
+        same,
+        entries,
+        values,
+    })
+}
+
+/// What is told where lines make the one system and the other.
+fn told(alloc: Global, before: &[&str], after: &[&str]) -> Result<Again, AllocError> {
+    let first = system_after(alloc, before)?;
+    let then = system_after(alloc, after)?;
+    asked_twice::<Brand, Brand>(alloc, &first, &then, Blank::new(1), Blank::new(1))
+}
+
+#[test]
+fn a_trace_has_what_was_read(rt: HostRuntime) -> Result<(), Fail> {
+    let lines = ["axiom A(1)B(2)", "production p: A(x) > B(y) => X", "seed 1"];
+    let expected = Again {
+        same: true,
+        entries: 1,
+        values: 1,
+    };
+    assert_eq!(rt; told(rt.alloc(), &lines, &lines)?, expected);
+    Ok(())
+}
+
+#[test]
+fn seed_and_ignored_and_formals_leave_a_question(rt: HostRuntime) -> Result<(), Fail> {
+    let lines = ["axiom A(1)B(2)", "production p: A(x) > B(y) => X", "seed 1"];
+    let seed = [lines[0], lines[1], "seed 2"];
+    let ignored = [lines[0], lines[1], "ignore C"];
+    let formals = [lines[0], "production p: A(z) > B(y) => X", lines[2]];
+    assert!(rt; told(rt.alloc(), &lines, &seed)?.same);
+    assert!(rt; told(rt.alloc(), &lines, &ignored)?.same);
+    assert!(rt; told(rt.alloc(), &lines, &formals)?.same);
+    Ok(())
+}
+
+#[test]
+fn parameters_and_successors_make_another_question(rt: HostRuntime) -> Result<(), Fail> {
+    let lines = ["axiom A(1)B(2)", "production p: A(x) > B(y) => X", "seed 1"];
+    let context = ["axiom A(1)B(3)", lines[1], lines[2]];
+    let own = ["axiom A(2)B(2)", lines[1], lines[2]];
+    let successor = [lines[0], "production p: A(x) > B(y) => Y", lines[2]];
+    assert!(rt; !told(rt.alloc(), &lines, &context)?.same);
+    assert!(rt; !told(rt.alloc(), &lines, &own)?.same);
+    assert!(rt; !told(rt.alloc(), &lines, &successor)?.same);
+    Ok(())
+}
+
+#[test]
+fn a_branch_makes_another_question(rt: HostRuntime) -> Result<(), Fail> {
+    let lines = ["axiom A(1)B(2)", "production p: A(x) > B(y) => X", "seed 1"];
+    let branch = ["axiom A(1)[B(2)]", lines[1], lines[2]];
+    assert!(rt; !told(rt.alloc(), &lines, &branch)?.same);
+    Ok(())
+}
+
+#[test]
+fn the_order_of_weighted_rules_is_asked(rt: HostRuntime) -> Result<(), Fail> {
+    let lines = [
+        "axiom A",
+        "production p: A @ 1 => B",
+        "production q: A @ 1 => C",
+    ];
+    let turned = [lines[0], lines[2], lines[1]];
+    assert!(rt; told(rt.alloc(), &lines, &lines)?.same);
+    assert!(rt; !told(rt.alloc(), &lines, &turned)?.same);
+    Ok(())
+}
