@@ -243,6 +243,7 @@ fn a_rule_is_put_in_the_place_of_its_label(rt: HostRuntime) -> Result<(), Fail> 
     assert!(rt; first.label.text().as_bytes() == b"p".as_slice());
     assert_eq!(rt; first.body.predecessor().arity(), 2);
     assert!(rt; first.body.condition().is_some());
+    assert_eq!(rt; first.body.successor().len(), 2);
     let Some(Template::Module { name, params }) = first.body.successor().get(1) else {
         return Err(Fail::from(AllocError));
     };
