@@ -1,33 +1,63 @@
 //! The program `lsys`: a run over standard input and standard output.
 #![tactic(auto)]
 
-use lsys_cli::{Status, lsys};
-use lsys_io::{StdSink, StdSource};
-use std::process::ExitCode;
-use std::{env, io};
+ghost use Rattle.std.specs.Prelude.{◌≡◌, ◌<◌};
 
-/// The words behind the program's name, or the status where they can't be had: words that aren't UTF-8 are wrong.
+use lsys_cli::{Status, lsys, status_without_words};
+use lsys_io::{StdSink, StdSource};
+use lsys_match::Steps;
+use std::env;
+use std::marker::Brand;
+use std::process::ExitCode;
+use std::sync::ledger::{Blank, Ledger};
+
+/// The words behind the program's name, or the status where they can't be had.
 fn words_of(rt: &HostRuntime) -> Result<Vec<String>, Status> {
-    let words = match env::args(rt) {
-        Ok(words) => words,
-        Err(error) => {
-            return Err(match error.kind() {
-                io::ErrorKind::OutOfMemory => Status::Memory,
-                _ => Status::Usage,
-            });
-        }
-    };
-    match words.skip(1).collect(rt.alloc()) {
-        Ok(words) => Ok(words),
-        Err(_) => Err(Status::Memory),
+    match env::args(rt) {
+        Ok(words) => words
+            .skip(1)
+            .collect(rt.alloc())
+            .map_err(|_| Status::Memory),
+        Err(error) => Err(status_without_words(error.kind())),
     }
 }
 
-fn main(rt: HostRuntime) -> ExitCode {
+/// Runs the program on ledgers that have no counter yet.
+fn counted<L: Ledger, V: Ledger>(
+    rt: &HostRuntime,
+    words: &[String],
+    asked: Blank,
+    visited: Blank,
+) -> Status
+    requires name { asked.name ≡ L.name }
+    requires parts { asked.parts ≡ L.parts }
+    requires some { 0 < asked.parts }
+    requires other_name { visited.name ≡ V.name }
+    requires other_parts { visited.parts ≡ V.parts }
+    requires other_some { 0 < visited.parts }
+{
     let mut source = StdSource::new(rt.stdin());
     let mut sink = StdSink::new(rt.stdout());
+    let mut asked = Steps::<L>::open(asked);
+    let mut visited = Steps::<V>::open(visited);
+    lsys(
+        rt.alloc(),
+        words,
+        &mut source,
+        &mut sink,
+        &mut asked,
+        &mut visited,
+    )
+}
+
+/// Runs the program, with counters of its own.
+fn run(rt: &HostRuntime, words: &[String]) -> Status {
+    counted::<Brand, Brand>(rt, words, Blank::new(1), Blank::new(1))
+}
+
+fn main(rt: HostRuntime) -> ExitCode {
     let status = match words_of(&rt) {
-        Ok(words) => lsys(rt.alloc(), words.as_slice(), &mut source, &mut sink),
+        Ok(words) => run(&rt, words.as_slice()),
         Err(status) => status,
     };
     if status == Status::Usage {

@@ -1,8 +1,7 @@
-pub mod Filtering
-pub mod Commands
+pub mod Feeds
 pub mod Appending
-pub mod Levels
 pub mod Replying
 pub mod SoFar
-pub mod Steps
-pub mod Offering
+pub mod Endings
+pub mod Turns
+pub mod Programs

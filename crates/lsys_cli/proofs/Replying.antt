@@ -1,68 +1,132 @@
--- A reply that was put is the line's.
-use Rattle.std.proofs.Common.{◌≡◌, ℕ, true, false, not, ◌&&◌, ◌<◌, Option, Some, None, Ok, List, [], ◌∷◌, ◌++◌, length, ◌-◌, codes, slice_get, refl, ap, sym, ◌∙◌, arith}
+-- A reply that was put is that of the whole line, its CR still there.
+use Rattle.std.proofs.Common.{◌≡◌, ◌==◌, ◌∷◌, if◌then◌else◌, ◌≤◌, ◌<◌, ◌&&◌, not, ℕ, Bool, true, false, Option, Ok, Err, List, [], ◌++◌, length, codes, refl, ap, sym, ◌∙◌, subst, arith}
 use Rattle.std.specs.Io.KnownBytes.{Appends}
-use Rattle.lsys_spec.specs.Systems as spec
-use Rattle.lsys_spec.specs.Meaning.{meaning}
-use Rattle.lsys_spec.specs.Meaning as M
-use Rattle.lsys_spec.specs.Shown.{level_text}
-use Rattle.lsys_spec.specs.Levels.{Symbol}
-use Rattle.lsys_spec.specs.Replies.{level_at, string_line, or_text, shown}
-use Rattle.lsys_spec.specs.Refusals.{Reply, said, refused, session_end, refused_memory, is_passed_over, derivation_text, line_feed}
-use Rattle.lsys_spec.specs.Interim.{bare_reply, refused_form}
-use Rattle.lsys_spec.specs.Output.{memory_or}
-use Rattle.lsys_syntax.specs.Strings.{string_text}
-use Rattle.lsys_module.specs.Views.{string_of}
-use Rattle.lsys_module.specs.declared.symbol.Symbol as code
-use Rattle.lsys_cli.specs.Sessions.{AreLevels, printed, Replies, bare_or_memory, refused_text}
-use Rattle.lsys_cli.specs.declared.session.Outcome.TheVariants.{Skipped, Accepted, Printed, Quit, Refused, Memory}
-use Rattle.lsys_cli.proofs.Levels.{level_line, numbered_line}
+use Rattle.std.proofs.lemmas.Bool.Decides.{nat_tests}
+use Rattle.lsys_io.specs.Writes.{AppendsFront}
+use Rattle.lsys_io.specs.declared.Failed.{Failed}
+use Rattle.lsys_syntax.specs.Lines.{without_cr}
+use Rattle.lsys_syntax.specs.Limits.{most_line_bytes}
+use Rattle.lsys_spec.specs.Systems.{System}
+use Rattle.lsys_spec.specs.Refusals.{Reply, line_feed, refused, is_long, is_passed_over}
+use Rattle.lsys_spec.specs.Replies.{reply, bare_reply}
+use Rattle.lsys_spec.specs.Output as output
+use Rattle.lsys_session.specs.Answers.{line_reply, may_lack, reply_or_memory, refuses, lacks_memory, ends_session, Answers}
+use Rattle.lsys_cli.specs.Runs.{AnswersLong}
+use Rattle.lsys_session.specs.declared.outcome.Outcome.{Outcome}
+use Rattle.lsys_cli.proofs.Appending.{goes_out}
 
-plainly : (limit : ℕ) (s : spec.System) (bare : List ℕ) (r : Reply) → bare_reply limit s bare ≡ r → r.is_memory ≡ false → r ≡ bare_or_memory limit r.is_memory s bare
-plainly limit s bare r e m = sym e ∙ ap (λ b. memory_or (b && not (is_passed_over bare)) s (bare_reply limit s bare)) (sym m)
+-- the reply to a whole line, or `refused memory`
+pub record IsReply (limit : ℕ) (s : System) (line : List ℕ) (lacks : Bool) (r : Reply) : Type 0 where
+  pub is : r ≡ output.reply_or_memory (reply limit) lacks s line
+  pub honest : lacks ≡ true → r.is_memory ≡ true
 
-put_level : (limit : ℕ) (s : spec.System) (bare : List ℕ) (w v : Option (List ℕ)) (t : Option ℕ) (levels : List (List Symbol)) (text : List ℕ) → meaning s limit ≡ Ok levels
-    → bare_reply limit s bare ≡ printed t s limit → text ≡ level_text (level_at t levels) → Appends w v (text ++ 10 ∷ []) → Replies limit s bare w v s Printed
-put_level limit s bare w v t levels text m e is_text put =
-    let r = said s (string_line t levels) in
-    let is : bare_reply limit s bare ≡ r = e ∙ ap (λ x. shown s (string_line t) (or_text derivation_text x)) m in
-    (r, plainly limit s bare r is refl, rw is_text at put, refl, (refl, refl, refl))
+-- it was put, and the session goes on from its system
+pub record Replied (limit : ℕ) (s : System) (line : List ℕ) (old now : Option (List ℕ)) (after : System) (o : Outcome) : Type 0 where
+  pub lacks : Bool
+  pub reply : Reply
+  pub is : IsReply limit s line lacks reply
+  pub put : Appends old now reply.text
+  pub next : after ≡ reply.next
+  pub refusal : reply.is_refusal ≡ refuses o
+  pub memory : reply.is_memory ≡ lacks_memory o
+  pub ends : reply.ends ≡ ends_session o
 
-pub skipped : (limit : ℕ) (s : spec.System) (bare : List ℕ) (w : Option (List ℕ)) → bare_reply limit s bare ≡ said s [] → Appends w w [] → Replies limit s bare w w s Skipped
-skipped limit s bare w e a = (said s [], plainly limit s bare (said s []) e refl, a, refl, (refl, refl, refl))
+-- the sink failed at it
+pub record Broke (limit : ℕ) (s : System) (line : List ℕ) (old now : Option (List ℕ)) : Type 0 where
+  pub lacks : Bool
+  pub reply : Reply
+  pub is : IsReply limit s line lacks reply
+  pub front : AppendsFront old now reply.text
 
-pub accepted : (limit : ℕ) (s next : spec.System) (bare : List ℕ) (w v : Option (List ℕ)) → bare_reply limit s bare ≡ said next (codes "ok" ++ line_feed) → Appends w v (codes "ok" ++ line_feed)
-    → Replies limit s bare w v next Accepted
-accepted limit s next bare w v e a = let r = said next (codes "ok" ++ line_feed) in (r, plainly limit s bare r e refl, a, refl, (refl, refl, refl))
+without_cr_short : (line : List ℕ) → length (without_cr line) ≤ length line
+without_cr_short [] = omega arith
+without_cr_short (b ∷ []) = one (b == 13)
+  where
+    one : (c : Bool) → length (if c then [] else b ∷ []) ≤ 1
+    one true = omega arith
+    one false = omega arith
+without_cr_short (b ∷ c ∷ bytes) = omega (arith, without_cr_short (c ∷ bytes))
 
-pub form : (limit : ℕ) (s : spec.System) (bare : List ℕ) (w v : Option (List ℕ)) → bare_reply limit s bare ≡ refused_form s → Appends w v (codes "refused form" ++ line_feed)
-    → Replies limit s bare w v s Refused
-form limit s bare w v e a = (refused_form s, plainly limit s bare (refused_form s) e refl, a, refl, (refl, refl, refl))
+short : (line : List ℕ) → length line ≤ most_line_bytes → is_long line ≡ false
+short line h = grind (arith, nat_tests)
 
-pub refusal : (limit : ℕ) (why : M.LevelRefusal) (s : spec.System) (bare : List ℕ) (w v : Option (List ℕ)) → bare_reply limit s bare ≡ refused s (derivation_text why) → Appends w v (refused_text why)
-    → Replies limit s bare w v s Refused
-refusal limit why s bare w v e a = let r = refused s (derivation_text why) in (r, plainly limit s bare r e refl, a, refl, (refl, refl, refl))
+-- a line that isn't long, and what is told of it
+bare_at : (limit : ℕ) (s : System) (line bare : List ℕ) (lacks long long' passed : Bool) (r whole : Reply) → long ≡ false → long' ≡ false
+    → output.memory_or (lacks && (not long' && not passed)) s (elim long' [ true ↦ r | false ↦ whole ])
+    ≡ output.memory_or ((lacks && (not long' && not passed)) && (not long && not passed)) s (elim long [ true ↦ r | false ↦ whole ])
+bare_at limit s line bare true false false true r whole e f = refl
+bare_at limit s line bare true false false false r whole e f = refl
+bare_at limit s line bare false false false passed r whole e f = refl
+bare_at limit s line bare lacks true long' passed r whole e f = cc
+bare_at limit s line bare lacks false true passed r whole e f = cc
 
-pub memory : (limit : ℕ) (s : spec.System) (bare : List ℕ) (w v : Option (List ℕ)) → is_passed_over bare ≡ false → Appends w v (codes "refused memory" ++ line_feed)
-    → Replies limit s bare w v s Memory
-memory limit s bare w v e a =
-    (refused_memory s, ap (λ b. memory_or (true && not b) s (bare_reply limit s bare)) (sym e), a, refl, (refl, refl, refl))
+is_honest : (lacks : Bool) (s : System) (r whole : Reply) → r ≡ output.memory_or lacks s whole → lacks ≡ true → r.is_memory ≡ true
+is_honest true s r whole e h = ap (λ x. x.is_memory) e
+is_honest false s r whole e h = cc
 
-pub level : (limit : ℕ) (s : spec.System) (bare : List ℕ) (w v : Option (List ℕ)) (rows : List (List code.Symbol)) (last : List code.Symbol) → AreLevels s limit rows
-    → bare_reply limit s bare ≡ printed None s limit → slice_get rows (length rows - 1) ≡ Some last
-    → Appends w v (string_text (string_of last) ++ 10 ∷ []) → Replies limit s bare w v s Printed
-level limit s bare w v rows last k e l put =
-    let levels = k.0.0 in
-    let some : 0 < length rows = omega (arith, k.1) in
-    let text : string_text (string_of last) ≡ level_text (level_at None levels) = sym (level_line levels rows last k.0.2 some l) in
-    put_level limit s bare w v None levels (string_text (string_of last)) k.0.1 e text put
+pub told_reply : (limit : ℕ) (s : System) (line bare : List ℕ) (lacks : Bool) (r : Reply) → length line ≤ most_line_bytes → bare ≡ without_cr line
+    → r ≡ reply_or_memory limit s bare lacks → IsReply limit s line (lacks && may_lack bare) r
+told_reply limit s line bare lacks r h b e = record {
+  is =
+      let not_long : is_long line ≡ false = short line h in
+      let bare_short : is_long (without_cr line) ≡ false = short (without_cr line) (omega (arith, h, without_cr_short line)) in
+      let P : List ℕ → Type 0 = λ t. r ≡ output.reply_or_memory (reply limit) (lacks && may_lack t) s line in
+      subst P (sym b) (e ∙ ap (λ t. reply_or_memory limit s t lacks) b
+      ∙ bare_at limit s line (without_cr line) lacks (is_long line) (is_long (without_cr line)) (is_passed_over (without_cr line)) (refused s (codes "syntax long"))
+      (bare_reply limit s (without_cr line)) not_long bare_short);
+  honest = is_honest (lacks && may_lack bare) s r (line_reply limit s bare) e;
+}
 
-pub numbered : (limit : ℕ) (s : spec.System) (bare : List ℕ) (w v : Option (List ℕ)) (rows : List (List code.Symbol)) (t : ℕ) (row : List code.Symbol) → AreLevels s limit rows
-    → bare_reply limit s bare ≡ printed (Some t) s limit → slice_get rows t ≡ Some row
-    → Appends w v (string_text (string_of row) ++ 10 ∷ []) → Replies limit s bare w v s Printed
-numbered limit s bare w v rows t row k e l put =
-    let levels = k.0.0 in
-    let text : string_text (string_of row) ≡ level_text (level_at (Some t) levels) = sym (numbered_line levels rows t row k.0.2 l) in
-    put_level limit s bare w v (Some t) levels (string_text (string_of row)) k.0.1 e text put
+pub long_reply : (limit : ℕ) (s : System) (line : List ℕ) → most_line_bytes < length line → IsReply limit s line false (refused s (codes "syntax long"))
+long_reply limit s line h =
+    let long : is_long line ≡ true = grind (arith, nat_tests) in
+    record { is = go (is_long line) long; honest = λ e. cc }
+  where
+    go : (b : Bool) → b ≡ true → refused s (codes "syntax long") ≡ elim b [ true ↦ refused s (codes "syntax long") | false ↦ bare_reply limit s (without_cr line) ]
+    go true e = refl
+    go false e = cc
 
-pub quits : (limit : ℕ) (s : spec.System) (bare : List ℕ) (w : Option (List ℕ)) → bare_reply limit s bare ≡ session_end s → Appends w w [] → Replies limit s bare w w s Quit
-quits limit s bare w e a = (session_end s, plainly limit s bare (session_end s) e refl, a, refl, (refl, refl, refl))
+-- what a session said of a line that is told
+pub told_line : {K : Type 0} (written : K → Option (List ℕ)) (faults : K → ℕ) (sink sink' : K) (held : List ℕ) (limit : ℕ) (s after : System) (line bare : List ℕ) (o : Outcome)
+    → length line ≤ most_line_bytes → bare ≡ without_cr line → Answers written faults sink sink' held limit s after bare (Ok o) → Replied limit s line (written sink) (written sink') after o
+told_line written faults sink sink' held limit s after line bare o h b a = record {
+  lacks = a.lacks && may_lack bare;
+  reply = a.reply;
+  is = told_reply limit s line bare a.lacks a.reply h b a.is;
+  put = goes_out (written sink) (written sink') held a.reply.text a.empty a.put.put;
+  next = a.next;
+  refusal = a.became.refusal;
+  memory = a.became.memory;
+  ends = a.became.end;
+}
+
+pub told_broke : {K : Type 0} (written : K → Option (List ℕ)) (faults : K → ℕ) (sink sink' : K) (held : List ℕ) (limit : ℕ) (s after : System) (line bare : List ℕ) (e : Failed)
+    → length line ≤ most_line_bytes → bare ≡ without_cr line → Answers written faults sink sink' held limit s after bare (Err e) → Broke limit s line (written sink) (written sink')
+told_broke written faults sink sink' held limit s after line bare e h b a = record {
+  lacks = a.lacks && may_lack bare;
+  reply = a.reply;
+  is = told_reply limit s line bare a.lacks a.reply h b a.is;
+  front = a.put.writes_front;
+}
+
+pub long_line : {K : Type 0} (written : K → Option (List ℕ)) (faults : K → ℕ) (sink sink' : K) (held : List ℕ) (limit : ℕ) (s after : System) (line : List ℕ) (o : Outcome)
+    → most_line_bytes < length line → AnswersLong written faults sink sink' held s after (Ok o) → Replied limit s line (written sink) (written sink') after o
+long_line written faults sink sink' held limit s after line o h a = record {
+  lacks = false;
+  reply = refused s (codes "syntax long");
+  is = long_reply limit s line h;
+  put = goes_out (written sink) (written sink') held (codes "refused " ++ (codes "syntax long" ++ []) ++ line_feed) a.says.empty a.says.put.put;
+  next = a.stays;
+  refusal = ap refuses (sym a.says.outcome);
+  memory = ap lacks_memory (sym a.says.outcome);
+  ends = ap ends_session (sym a.says.outcome);
+}
+
+pub long_broke : {K : Type 0} (written : K → Option (List ℕ)) (faults : K → ℕ) (sink sink' : K) (held : List ℕ) (limit : ℕ) (s after : System) (line : List ℕ) (e : Failed)
+    → most_line_bytes < length line → AnswersLong written faults sink sink' held s after (Err e) → Broke limit s line (written sink) (written sink')
+long_broke written faults sink sink' held limit s after line e h a = record {
+  lacks = false;
+  reply = refused s (codes "syntax long");
+  is = long_reply limit s line h;
+  front = a.says.put.writes_front;
+}

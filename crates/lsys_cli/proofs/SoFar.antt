@@ -1,67 +1,52 @@
 -- What the loop over the lines keeps.
-use Rattle.std.proofs.Common.{◌≡◌, ◌≢◌, ℕ, List, [], ◌∷◌, ◌++◌, ◌+◌, ◌<◌, ◌≤◌, length, Option, Some, None, Bool, true, false, not, ◌||◌, ◌&&◌, cond, eqb, eq-eqb, refl, ap, sym, subst, ◌∙◌, arith, append-nil, append_assoc, length-append, codes}
-use Rattle.std.specs.Io.KnownBytes.{Appends, Consumes, IsAtEnd}
+use Rattle.std.proofs.Common.{◌≡◌, ◌≢◌, ◌-◌, inl, inr, take, ℕ, List, [], ◌∷◌, ◌++◌, ◌+◌, ◌<◌, ◌≤◌, length, Option, Bool, true, false, ◌||◌, cond, eqb, eq-eqb, refl, ap, sym, subst, ◌∙◌, arith, append-nil, append_assoc, length-append}
+use Rattle.std.specs.Io.KnownBytes.{Appends}
 use Rattle.std.proofs.lemmas.List.Concat.{flat_map-append}
 use Rattle.std.proofs.lemmas.Bool.{ne_eqb, eqb-false}
-use Rattle.std.proofs.lemmas.Bool.Decides.{nat_tests}
 use Rattle.std.proofs.Math.Bool.{or_assoc, or-false}
-use Rattle.lsys_syntax.specs.Lines.{lines_of, without_cr}
-use Rattle.lsys_syntax.specs.Limits.{most_script_bytes, most_line_bytes}
-use Rattle.lsys_io.specs.Reading.{HasFirstLine, PassesLimit}
-use Rattle.std.specs.Option.{IfSome}
+use Rattle.lsys_io.specs.Feeds.{has_lf}
+use Rattle.lsys_syntax.specs.Lines.{lines_of}
+use Rattle.lsys_syntax.specs.Limits.{most_script_bytes}
 use Rattle.lsys_spec.specs.Systems.{System, opening}
-use Rattle.lsys_spec.specs.Refusals.{Reply, is_long, is_passed_over, line_feed}
-use Rattle.lsys_spec.specs.Interim.{reply, bare_reply, refused_form}
-use Rattle.lsys_spec.specs.Output.{out, replies_from, followed, output_text, any_refusal, any_memory, none, reply_or_memory, memory_or}
-use Rattle.lsys_cli.specs.Sessions.{Replies, LineReplies, refuses, lacks_memory, ends_session, bare_or_memory}
-use Rattle.lsys_cli.specs.Runs.{status_of}
-use Rattle.lsys_cli.specs.Ends.{OfScript, Answered, LackedMemory, Ends}
-use Rattle.lsys_cli.specs.declared.session.Outcome.{Outcome}
-use Rattle.lsys_cli.specs.declared.session.Outcome.TheVariants as outcomes
+use Rattle.lsys_spec.specs.Refusals.{Reply}
+use Rattle.lsys_spec.specs.Replies.{reply}
+use Rattle.lsys_spec.specs.Output.{out, replies_from, followed, output_text, any_refusal, any_memory, any_end, none, reply_or_memory, whole_lines}
+use Rattle.std.proofs.Math.Seq.{take-append-add}
+use Rattle.lsys_cli.specs.Ends.{IsWithin, within_limit}
+use Rattle.lsys_session.specs.Answers.{refuses, lacks_memory, ends_session}
+use Rattle.lsys_session.specs.declared.outcome.Outcome.{Outcome}
 use Rattle.lsys_cli.proofs.Appending.{then, nothing}
+use Rattle.lsys_cli.proofs.Feeds.{whole_to_feed, first_line}
+use Rattle.lsys_cli.proofs.Replying.{IsReply, Replied}
 
+-- both say the same of the lines before this number
 abbrev pub Agrees : ℕ → (ℕ → Bool) → (ℕ → Bool) → Type 0
 Agrees n answered M = (k : ℕ) → k < n → M k ≡ answered k
 
--- For each M that says of the lines so far what was answered, the replies so far and those after them are all replies.
-pub record Known (limit : ℕ) (script : List ℕ) (after : (ℕ → Bool) → ℕ → List Reply) (old now : Option (List ℕ)) (refused memory : Bool) : Type 0 where
+-- 1. the replies that were given
+
+-- to the lines before this number, and which of them lacked memory; what was written, and which kinds of refusal there were
+pub record Given (old now : Option (List ℕ)) (refused memory : Bool) : Type 0 where
   pub number : ℕ
   pub answered : ℕ → Bool
-  pub given : List Reply
-  pub told : (M : ℕ → Bool) → Agrees number answered M → out (reply limit) script M ≡ given ++ after M number
-  pub put : Appends old now (output_text given)
-  pub refusals : refused ≡ any_refusal given
-  pub memories : memory ≡ any_memory given
+  pub replies : List Reply
+  pub put : Appends old now (output_text replies)
+  pub refusals : refused ≡ any_refusal replies
+  pub memories : memory ≡ any_memory replies
   pub ample : memory ≡ false → (k : ℕ) → k < number → answered k ≡ false
 
--- the replies to lines that are still to come, by the number of the first
-abbrev pub to_come : ℕ → System → List (List ℕ) → (ℕ → Bool) → ℕ → List Reply
-to_come limit s lines M n = replies_from (reply limit) M n s lines
+none_given : (old : Option (List ℕ)) → Given old old false false
+none_given old = record {
+  number = 1;
+  answered = none;
+  replies = [];
+  put = nothing old;
+  refusals = refl;
+  memories = refl;
+  ample = λ _ k _. refl;
+}
 
--- the replies so far, and those to the rest, where the source may not tell
-abbrev pub SoFar : ℕ → Option (List ℕ) → Option (List ℕ) → Option (List ℕ) → Option (List ℕ) → System → Bool → Bool → ℕ → Type 0
-SoFar limit None rest old now s refused memory taken = Unit {0}
-SoFar limit (Some script) None old now s refused memory taken = ⊥
-SoFar limit (Some script) (Some rest) old now s refused memory taken =
-    Known limit script (to_come limit s (lines_of rest)) old now refused memory × (length script ≡ taken + length rest)
-
-pub start : (limit : ℕ) (script old : Option (List ℕ)) → SoFar limit script script old old opening false false 0
-start limit None old = tt
-start limit (Some script) old = (
-  record {
-    number = 1;
-    answered = none;
-    given = [];
-    told = λ M _. refl;
-    put = nothing old;
-    refusals = refl;
-    memories = refl;
-    ample = λ _ k _. refl;
-  },
-  omega arith,
-)
-
-with_answer : ℕ → Bool → (ℕ → Bool) → ℕ → Bool
+pub with_answer : ℕ → Bool → (ℕ → Bool) → ℕ → Bool
 with_answer n b answered k = cond (eqb k n) b (answered k)
 
 before : (n : ℕ) (b : Bool) (answered : ℕ → Bool) (k : ℕ) → k < n → with_answer n b answered k ≡ answered k
@@ -80,21 +65,6 @@ all_false_at n b answered k false q e h = rw (q) (h q)
 all_false : (n : ℕ) (b : Bool) (answered : ℕ → Bool) → b ≡ false → ((k : ℕ) → k < n → answered k ≡ false) → (k : ℕ) → k < n + 1 → with_answer n b answered k ≡ false
 all_false n b answered e h k l = all_false_at n b answered k (eqb k n) refl e (λ q. h k (let ne : k ≢ n = eqb-false k n q in omega (arith, l, ne)))
 
-one_line : (limit : ℕ) (M : ℕ → Bool) (n : ℕ) (s : System) (line : List ℕ) (lines : List (List ℕ)) (b : Bool) (r : Reply) → M n ≡ b
-    → r ≡ reply_or_memory (reply limit) b s line → replies_from (reply limit) M n s (line ∷ lines) ≡ followed r (λ next. replies_from (reply limit) M (n + 1) next lines)
-one_line limit M n s line lines b r m e =
-    ap (λ x. followed (reply_or_memory (reply limit) x s line) (λ next. replies_from (reply limit) M (n + 1) next lines)) m
-    ∙ ap (λ x. followed x (λ next. replies_from (reply limit) M (n + 1) next lines)) (sym e)
-
--- nothing, where the session ended
-abbrev pub unless_ended : Bool → List Reply → List Reply
-unless_ended true rs = []
-unless_ended false rs = rs
-
-followed_by : (r : Reply) (rest : System → List Reply) (b : Bool) → r.ends ≡ b → followed r rest ≡ r ∷ unless_ended b (rest r.next)
-followed_by r rest true h = rw h refl
-followed_by r rest false h = rw h refl
-
 any_refusal_push : (given : List Reply) (r : Reply) → any_refusal (given ++ r ∷ []) ≡ any_refusal given || r.is_refusal
 any_refusal_push [] r = or-false r.is_refusal
 any_refusal_push (g ∷ given) r = ap (λ t. g.is_refusal || t) (any_refusal_push given r) ∙ sym (or_assoc g.is_refusal (any_refusal given) r.is_refusal)
@@ -103,6 +73,10 @@ any_memory_push : (given : List Reply) (r : Reply) → any_memory (given ++ r �
 any_memory_push [] r = or-false r.is_memory
 any_memory_push (g ∷ given) r = ap (λ t. g.is_memory || t) (any_memory_push given r) ∙ sym (or_assoc g.is_memory (any_memory given) r.is_memory)
 
+pub any_end_push : (given : List Reply) (r : Reply) → any_end (given ++ r ∷ []) ≡ any_end given || r.ends
+any_end_push [] r = or-false r.ends
+any_end_push (g ∷ given) r = ap (λ t. g.ends || t) (any_end_push given r) ∙ sym (or_assoc g.ends (any_end given) r.ends)
+
 or_no : (a b : Bool) → (a || b) ≡ false → (a ≡ false) × (b ≡ false)
 or_no true b h = cc
 or_no false b h = (refl, h)
@@ -110,104 +84,207 @@ or_no false b h = (refl, h)
 text_push : (given : List Reply) (r : Reply) → output_text (given ++ r ∷ []) ≡ output_text given ++ r.text
 text_push given r = flat_map-append (λ x. x.text) given (r ∷ []) ∙ ap (λ t. output_text given ++ t) (append-nil r.text)
 
--- one line more
-known_more : (limit : ℕ) (script line : List ℕ) (lines : List (List ℕ)) (old now now' : Option (List ℕ)) (s next : System) (refused memory : Bool) (o : Outcome)
-    → Known limit script (to_come limit s (line ∷ lines)) old now refused memory → LineReplies limit s line now now' next o
-    → Known limit script (λ M n. unless_ended (ends_session o) (to_come limit next lines M n)) old now' (refused || refuses o) (memory || lacks_memory o)
-known_more limit script line lines old now now' s next refused memory o k (r, e, put, on, (f, m, n)) = record {
-  number = k.number + 1;
-  answered = with_answer k.number r.is_memory k.answered;
-  given = k.given ++ r ∷ [];
-  told = λ M agree.
-      k.told M (λ i l. agree i (omega (arith, l)) ∙ before k.number r.is_memory k.answered i l)
-      ∙ ap (λ u. k.given ++ u) (one_line limit M k.number s line lines r.is_memory r (agree k.number (omega arith) ∙ here k.number r.is_memory k.answered) e
-      ∙ followed_by r (λ c. to_come limit c lines M (k.number + 1)) (ends_session o) n)
-      ∙ sym (append_assoc k.given (r ∷ []) (unless_ended (ends_session o) (to_come limit r.next lines M (k.number + 1))))
-      ∙ ap (λ c. (k.given ++ r ∷ []) ++ unless_ended (ends_session o) (to_come limit c lines M (k.number + 1))) (sym on);
-  put = rw (text_push k.given r) (then old now now' (output_text k.given) r.text k.put put);
-  refusals = ap (λ b. refused || b) (sym f) ∙ ap (λ b. b || r.is_refusal) k.refusals ∙ sym (any_refusal_push k.given r);
-  memories = ap (λ b. memory || b) (sym m) ∙ ap (λ b. b || r.is_memory) k.memories ∙ sym (any_memory_push k.given r);
-  ample = λ z. let w = or_no memory (lacks_memory o) z in all_false k.number r.is_memory k.answered (m ∙ w.1) (k.ample w.0);
+not_lacking : (lacks : Bool) (r : Reply) → (lacks ≡ true → r.is_memory ≡ true) → r.is_memory ≡ false → lacks ≡ false
+not_lacking true r h e = sym (h refl) ∙ e
+not_lacking false r h e = refl
+
+-- one reply more
+pub more_given : (limit : ℕ) (s next : System) (line : List ℕ) (old now now' : Option (List ℕ)) (refused memory : Bool) (o : Outcome) → Given old now refused memory → Replied limit s line now now' next o
+    → Given old now' (refused || refuses o) (memory || lacks_memory o)
+more_given limit s next line old now now' refused memory o g a = record {
+  number = g.number + 1;
+  answered = with_answer g.number a.lacks g.answered;
+  replies = g.replies ++ a.reply ∷ [];
+  put = rw (text_push g.replies a.reply) (then old now now' (output_text g.replies) a.reply.text g.put a.put);
+  refusals = ap (λ b. refused || b) (sym a.refusal) ∙ ap (λ b. b || a.reply.is_refusal) g.refusals ∙ sym (any_refusal_push g.replies a.reply);
+  memories = ap (λ b. memory || b) (sym a.memory) ∙ ap (λ b. b || a.reply.is_memory) g.memories ∙ sym (any_memory_push g.replies a.reply);
+  ample = λ z.
+      let w = or_no memory (lacks_memory o) z in
+      all_false g.number a.lacks g.answered (not_lacking a.lacks a.reply a.is.honest (a.memory ∙ w.1)) (g.ample w.0);
 }
 
--- a line that goes on, and one that ends the session
-pub more : (limit : ℕ) (script rest rest' old now now' : Option (List ℕ)) (s next : System) (refused memory : Bool) (taken taken' : ℕ) (line ended : List ℕ) (o : Outcome)
-    → SoFar limit script rest old now s refused memory taken → HasFirstLine rest rest' line → Consumes rest rest' ended → taken' ≡ taken + length ended
-    → LineReplies limit s line now now' next o → ends_session o ≡ false
-    → SoFar limit script rest' old now' next (refused || refuses o) (memory || lacks_memory o) taken'
-more limit None rest rest' old now now' s next refused memory taken taken' line ended o k h b t p z = tt
-more limit (Some script) None rest' old now now' s next refused memory taken taken' line ended o k h b t p z = absurd k
-more limit (Some script) (Some rest) None old now now' s next refused memory taken taken' line ended o k h b t p z = absurd h
-more limit (Some script) (Some rest) (Some rest') old now now' s next refused memory taken taken' line ended o k h b t p z =
-    let P : List (List ℕ) → Type 0 = λ ls. Known limit script (to_come limit s ls) old now refused memory in
-    let Q : Bool → Type 0 = λ e. Known limit script (λ M n. unless_ended e (to_come limit next (lines_of rest') M n)) old now' (refused || refuses o) (memory || lacks_memory o) in
-    (subst Q z (known_more limit script line (lines_of rest') old now now' s next refused memory o (subst P h k.0) p), k.1 ∙ omega (arith, t, ap length b, length-append ended rest'))
+-- 2. the replies that are still to come
 
--- a run that is told whole
-whole_run : (limit : ℕ) (script old now : Option (List ℕ)) → (refused : Bool) → OfScript script (Answered limit refused old now) → Ends limit script old now (status_of refused false)
-whole_run limit script old now true h = record { done = λ e. cc; refused = λ e. h; memory = λ e. cc; too_long = λ e. cc }
-whole_run limit script old now false h = record { done = λ e. h; refused = λ e. cc; memory = λ e. cc; too_long = λ e. cc }
+pub one_line : (limit : ℕ) (M : ℕ → Bool) (n : ℕ) (s : System) (line : List ℕ) (lines : List (List ℕ)) (b : Bool) (r : Reply) → M n ≡ b
+    → r ≡ reply_or_memory (reply limit) b s line → replies_from (reply limit) M n s (line ∷ lines) ≡ followed r (λ next. replies_from (reply limit) M (n + 1) next lines)
+one_line limit M n s line lines b r m e =
+    ap (λ x. followed (reply_or_memory (reply limit) x s line) (λ next. replies_from (reply limit) M (n + 1) next lines)) m
+    ∙ ap (λ x. followed x (λ next. replies_from (reply limit) M (n + 1) next lines)) (sym e)
 
-lacking_run : (limit : ℕ) (script old now : Option (List ℕ)) (refused : Bool) → OfScript script (LackedMemory limit old now) → Ends limit script old now (status_of refused true)
-lacking_run limit script old now refused h = record { done = λ e. cc; refused = λ e. cc; memory = λ e. h; too_long = λ e. cc }
+goes_on_by : (r : Reply) (rest : System → List Reply) (next : System) → r.ends ≡ false → next ≡ r.next → followed r rest ≡ r ∷ rest next
+goes_on_by r rest next e n = ap (λ b. r ∷ elim b [ true ↦ [] | false ↦ rest r.next ]) e ∙ ap (λ x. r ∷ rest x) (sym n)
 
--- all replies are given
-known_ends : (limit : ℕ) (script : List ℕ) (old now : Option (List ℕ)) (refused memory : Bool) → Known limit script (λ M n. []) old now refused memory → Ends limit (Some script) old now (status_of refused memory)
-known_ends limit script old now refused true k =
-    let all : out (reply limit) script k.answered ≡ k.given = k.told k.answered (λ i l. refl) ∙ append-nil k.given in
-    lacking_run limit (Some script) old now refused (k.answered, rw all k.put, ap any_memory all ∙ sym k.memories)
-known_ends limit script old now refused false k =
-    let all : out (reply limit) script none ≡ k.given = k.told none (λ i l. sym (k.ample refl i l)) ∙ append-nil k.given in
-    whole_run limit (Some script) old now refused (rw all k.put, ap any_refusal all ∙ sym k.refusals, ap any_memory all ∙ sym k.memories)
+ends_by : (r : Reply) (rest : System → List Reply) → r.ends ≡ true → followed r rest ≡ r ∷ []
+ends_by r rest e = ap (λ b. r ∷ elim b [ true ↦ [] | false ↦ rest r.next ]) e
 
-untold_ends : (limit : ℕ) (old now : Option (List ℕ)) (refused memory : Bool) → Ends limit None old now (status_of refused memory)
-untold_ends limit old now refused true = lacking_run limit None old now refused tt
-untold_ends limit old now refused false = whole_run limit None old now refused tt
+-- for each M that agrees, some bytes are answered by the replies so far and those to what is behind them
+abbrev pub Told : ℕ → ℕ → (ℕ → Bool) → List Reply → List ℕ → System → List (List ℕ) → Type 0
+Told limit number answered given bytes s lines = (M : ℕ → Bool) → Agrees number answered M → out (reply limit) bytes M ≡ given ++ replies_from (reply limit) M number s lines
 
-pub ends : (limit : ℕ) (script rest old now : Option (List ℕ)) (s : System) (refused memory : Bool) (taken : ℕ) → SoFar limit script rest old now s refused memory taken → IsAtEnd rest
-    → Ends limit script old now (status_of refused memory)
-ends limit None rest old now s refused memory taken k e = untold_ends limit old now refused memory
-ends limit (Some script) None old now s refused memory taken k e = absurd k
-ends limit (Some script) (Some rest) old now s refused memory taken k e =
-    let P : List ℕ → Type 0 = λ r. Known limit script (to_come limit s (lines_of r)) old now refused memory in
-    known_ends limit script old now refused memory (subst P e k.0)
+-- and by the replies so far alone
+abbrev pub ToldAll : ℕ → ℕ → (ℕ → Bool) → List Reply → List ℕ → Type 0
+ToldAll limit number answered given bytes = (M : ℕ → Bool) → Agrees number answered M → out (reply limit) bytes M ≡ given
 
-pub quits : (limit : ℕ) (script rest rest' old now now' : Option (List ℕ)) (s next : System) (refused memory : Bool) (taken : ℕ) (line : List ℕ) (o : Outcome)
-    → SoFar limit script rest old now s refused memory taken → HasFirstLine rest rest' line → LineReplies limit s line now now' next o → ends_session o ≡ true
-    → Ends limit script old now' (status_of (refused || refuses o) (memory || lacks_memory o))
-quits limit None rest rest' old now now' s next refused memory taken line o k h p z = untold_ends limit old now' (refused || refuses o) (memory || lacks_memory o)
-quits limit (Some script) None rest' old now now' s next refused memory taken line o k h p z = absurd k
-quits limit (Some script) (Some rest) None old now now' s next refused memory taken line o k h p z = absurd h
-quits limit (Some script) (Some rest) (Some rest') old now now' s next refused memory taken line o k h p z =
-    let P : List (List ℕ) → Type 0 = λ ls. Known limit script (to_come limit s ls) old now refused memory in
-    let Q : Bool → Type 0 = λ e. Known limit script (λ M n. unless_ended e (to_come limit next (lines_of rest') M n)) old now' (refused || refuses o) (memory || lacks_memory o) in
-    known_ends limit script old now' (refused || refuses o) (memory || lacks_memory o) (subst Q z (known_more limit script line (lines_of rest') old now now' s next refused memory o (subst P h k.0) p))
+pub agree_before : (n : ℕ) (b : Bool) (answered M : ℕ → Bool) → Agrees (n + 1) (with_answer n b answered) M → Agrees n answered M
+agree_before n b answered M agree i l = agree i (omega (arith, l)) ∙ before n b answered i l
 
--- past the limit
-pub too_long : (limit : ℕ) (script rest old now : Option (List ℕ)) (s : System) (refused memory : Bool) (taken : ℕ) → SoFar limit script rest old now s refused memory taken
-    → IfSome rest (PassesLimit taken) → OfScript script (λ t. most_script_bytes < length t)
-too_long limit None rest old now s refused memory taken k p = tt
-too_long limit (Some script) None old now s refused memory taken k p = absurd k
-too_long limit (Some script) (Some rest) old now s refused memory taken k p = omega (arith, k.1, p.past)
+pub agree_here : (n : ℕ) (b : Bool) (answered M : ℕ → Bool) → Agrees (n + 1) (with_answer n b answered) M → M n ≡ b
+agree_here n b answered M agree = agree n (omega arith) ∙ here n b answered
 
--- a line's reply with its CR
-pub bare_line : (limit : ℕ) (s next : System) (line bare : List ℕ) (old now : Option (List ℕ)) (o : Outcome) → length line ≤ most_line_bytes → bare ≡ without_cr line
-    → Replies limit s bare old now next o → LineReplies limit s line old now next o
-bare_line limit s next line bare old now o h b (r, e, put, goes, flags) =
-    let short : is_long line ≡ false = grind (arith, nat_tests) in
-    (r, e ∙ ap (λ t. bare_or_memory limit r.is_memory s t) b ∙ whole r.is_memory (is_long line) short, put, goes, flags)
+told_more : (limit n : ℕ) (answered : ℕ → Bool) (given : List Reply) (bytes : List ℕ) (s next : System) (line : List ℕ) (lines : List (List ℕ)) (b : Bool) (r : Reply)
+    → Told limit n answered given bytes s (line ∷ lines) → IsReply limit s line b r → r.ends ≡ false → next ≡ r.next
+    → Told limit (n + 1) (with_answer n b answered) (given ++ r ∷ []) bytes next lines
+told_more limit n answered given bytes s next line lines b r told is e goes M agree =
+    told M (agree_before n b answered M agree)
+    ∙ ap (λ u. given ++ u) (one_line limit M n s line lines b r (agree_here n b answered M agree) is.is ∙ goes_on_by r (λ c. replies_from (reply limit) M (n + 1) c lines) next e goes)
+    ∙ sym (append_assoc given (r ∷ []) (replies_from (reply limit) M (n + 1) next lines))
+
+told_end : (limit n : ℕ) (answered : ℕ → Bool) (given : List Reply) (bytes : List ℕ) (s : System) (line : List ℕ) (lines : List (List ℕ)) (b : Bool) (r : Reply)
+    → Told limit n answered given bytes s (line ∷ lines) → IsReply limit s line b r → r.ends ≡ true
+    → ToldAll limit (n + 1) (with_answer n b answered) (given ++ r ∷ []) bytes
+told_end limit n answered given bytes s line lines b r told is e M agree =
+    told M (agree_before n b answered M agree)
+    ∙ ap (λ u. given ++ u) (one_line limit M n s line lines b r (agree_here n b answered M agree) is.is ∙ ends_by r (λ c. replies_from (reply limit) M (n + 1) c lines) e)
+
+-- 3. where a run stands
+
+-- The lines at the script's front were answered, none of them by an end, and the rest is still to come.
+pub record Running (limit : ℕ) (script rest : List ℕ) (old now : Option (List ℕ)) (s : System) (refused memory : Bool) (taken : ℕ) : Type 0 where
+  pub given : Given old now refused memory
+  pub front : List ℕ
+  pub split : script ≡ front ++ rest
+  pub counted : length front ≡ taken
+  pub whole : (more : List ℕ) → whole_lines (front ++ more) ≡ front ++ whole_lines more
+  pub told : (more : List ℕ) → Told limit given.number given.answered given.replies (front ++ more) s (lines_of more)
+  pub goes_on : any_end given.replies ≡ false
+
+-- All lines up to the script's end, or up to a heeded `quit`, were answered.
+pub record Finished (limit : ℕ) (script : List ℕ) (old now : Option (List ℕ)) (refused memory : Bool) : Type 0 where
+  pub given : Given old now refused memory
+  pub told : ToldAll limit given.number given.answered given.replies script
+  pub within : (M : ℕ → Bool) → Agrees given.number given.answered M → IsWithin limit script M
+
+pub begin : (limit : ℕ) (script : List ℕ) (old : Option (List ℕ)) → Running limit script script old old opening false false 0
+unfolding none_given
+begin limit script old = record {
+  given = none_given old;
+  front = [];
+  split = refl;
+  counted = refl;
+  whole = λ more. refl;
+  told = λ more M _. refl;
+  goes_on = refl;
+}
+
+-- a line with its LF
+pub line_more : (limit : ℕ) (script line after : List ℕ) (old now now' : Option (List ℕ)) (s next : System) (refused memory : Bool) (taken taken' : ℕ) (o : Outcome)
+    → Running limit script ((line ++ 10 ∷ []) ++ after) old now s refused memory taken → has_lf line ≡ false → taken' ≡ taken + length (line ++ 10 ∷ [])
+    → Replied limit s line now now' next o → ends_session o ≡ false
+    → Running limit script after old now' next (refused || refuses o) (memory || lacks_memory o) taken'
+unfolding more_given with_answer
+line_more limit script line after old now now' s next refused memory taken taken' o k no_lf count a e = record {
+  given = more_given limit s next line old now now' refused memory o k.given a;
+  front = k.front ++ (line ++ 10 ∷ []);
+  split = k.split ∙ sym (append_assoc k.front (line ++ 10 ∷ []) after);
+  counted = length-append k.front (line ++ 10 ∷ []) ∙ ap (λ n. n + length (line ++ 10 ∷ [])) k.counted ∙ sym count;
+  whole = λ more.
+      ap whole_lines (joined more) ∙ k.whole (line ++ 10 ∷ more) ∙ ap (λ t. k.front ++ t) (whole_to_feed line more) ∙ sym (joined (whole_lines more));
+  told = λ more.
+      let P : List ℕ → Type 0 = λ t. Told limit k.given.number k.given.answered k.given.replies t s (lines_of (line ++ 10 ∷ more)) in
+      let Q : List (List ℕ) → Type 0 = λ ls. Told limit k.given.number k.given.answered k.given.replies ((k.front ++ (line ++ 10 ∷ [])) ++ more) s ls in
+      told_more limit k.given.number k.given.answered k.given.replies ((k.front ++ (line ++ 10 ∷ [])) ++ more) s next line (lines_of more) a.lacks a.reply
+      (subst Q (first_line line more no_lf) (subst P (sym (joined more)) (k.told (line ++ 10 ∷ more)))) a.is (a.ends ∙ e) a.next;
+  goes_on = any_end_push k.given.replies a.reply ∙ ap (λ b. b || a.reply.ends) k.goes_on ∙ (a.ends ∙ e);
+}
   where
-    whole : (lacks long : Bool) → long ≡ false
-        → bare_or_memory limit lacks s (without_cr line) ≡ memory_or (lacks && (not long && not (is_passed_over (without_cr line)))) s (elim long [ true ↦ refused_form s | false ↦ bare_reply limit s (without_cr line) ])
-    whole lacks true q = cc
-    whole lacks false q = refl
+    joined : (more : List ℕ) → (k.front ++ (line ++ 10 ∷ [])) ++ more ≡ k.front ++ (line ++ 10 ∷ more)
+    joined more = append_assoc k.front (line ++ 10 ∷ []) more ∙ ap (λ t. k.front ++ t) (append_assoc line (10 ∷ []) more)
 
-pub long_line : (limit : ℕ) (s : System) (line : List ℕ) (old now : Option (List ℕ)) → most_line_bytes < length line → Appends old now (codes "refused form" ++ line_feed)
-    → LineReplies limit s line old now s outcomes.Refused
-long_line limit s line old now h put =
-    let long : is_long line ≡ true = grind (arith, nat_tests) in
-    (refused_form s, whole (is_long line) long, put, refl, (refl, refl, refl))
+script_length : (limit : ℕ) (script line front : List ℕ) (taken : ℕ) → script ≡ front ++ line → length front ≡ taken → taken + length line ≤ most_script_bytes → length script ≤ most_script_bytes
+script_length limit script line front taken split count small = omega (arith, ap length split, length-append front line, count, small)
+
+-- the front of the script within its limit, where a line ends there
+cut_behind : (script line after front : List ℕ) (taken : ℕ) → script ≡ front ++ ((line ++ 10 ∷ []) ++ after) → length front ≡ taken → taken + length (line ++ 10 ∷ []) ≤ most_script_bytes
+    → within_limit script ≡ front ++ (line ++ 10 ∷ take (most_script_bytes - (taken + length (line ++ 10 ∷ []))) after)
+cut_behind script line after front taken split count small =
+    let n = most_script_bytes - (taken + length (line ++ 10 ∷ [])) in
+    let sum : most_script_bytes ≡ length front + (length (line ++ 10 ∷ []) + n) = omega (arith, count, small) in
+    ap (λ m. take m script) sum ∙ ap (take (length front + (length (line ++ 10 ∷ []) + n))) split
+    ∙ take-append-add front ((line ++ 10 ∷ []) ++ after) (length (line ++ 10 ∷ []) + n)
+    ∙ ap (λ t. front ++ t) (take-append-add (line ++ 10 ∷ []) after n ∙ append_assoc line (10 ∷ []) (take n after))
+
+at_script : (limit : ℕ) (script line : List ℕ) (s : System) (front : List ℕ) (n : ℕ) (answered : ℕ → Bool) (given : List Reply) → script ≡ front ++ line → lines_of line ≡ line ∷ []
+    → Told limit n answered given (front ++ line) s (lines_of line) → Told limit n answered given script s (line ∷ [])
+at_script limit script line s front n answered given split one told =
+    let P : List ℕ → Type 0 = λ t. Told limit n answered given t s (line ∷ []) in
+    let Q : List (List ℕ) → Type 0 = λ ls. Told limit n answered given (front ++ line) s ls in
+    subst P (sym split) (subst Q one told)
+
+last_told : (limit : ℕ) (script line : List ℕ) (s : System) (n : ℕ) (answered : ℕ → Bool) (given : List Reply) (next : System) (b : Bool) (r : Reply)
+    → Told limit n answered given script s (line ∷ []) → IsReply limit s line b r → r.ends ≡ false → next ≡ r.next
+    → ToldAll limit (n + 1) (with_answer n b answered) (given ++ r ∷ []) script
+last_told limit script line s n answered given next b r told is e goes M agree =
+    told_more limit n answered given script s next line [] b r told is e goes M agree ∙ append-nil (given ++ r ∷ [])
+
+-- the last line, which has no LF
+pub line_last : (limit : ℕ) (script line : List ℕ) (old now now' : Option (List ℕ)) (s next : System) (refused memory : Bool) (taken : ℕ) (o : Outcome)
+    → Running limit script line old now s refused memory taken → lines_of line ≡ line ∷ [] → taken + length line ≤ most_script_bytes
+    → Replied limit s line now now' next o → ends_session o ≡ false
+    → Finished limit script old now' (refused || refuses o) (memory || lacks_memory o)
+unfolding more_given with_answer
+line_last limit script line old now now' s next refused memory taken o k one small a e = record {
+  given = more_given limit s next line old now now' refused memory o k.given a;
+  told = λ M agree.
+      last_told limit script line s k.given.number k.given.answered k.given.replies next a.lacks a.reply
+      (at_script limit script line s k.front k.given.number k.given.answered k.given.replies k.split one (k.told line)) a.is (a.ends ∙ e) a.next M agree;
+  within = λ M _. inl (script_length limit script line k.front taken k.split k.counted small);
+}
+
+-- a heeded `quit` with its LF
+pub quit_within : (limit : ℕ) (script line after : List ℕ) (old now now' : Option (List ℕ)) (s next : System) (refused memory : Bool) (taken : ℕ) (o : Outcome)
+    → Running limit script ((line ++ 10 ∷ []) ++ after) old now s refused memory taken → has_lf line ≡ false → taken + length (line ++ 10 ∷ []) ≤ most_script_bytes
+    → Replied limit s line now now' next o → ends_session o ≡ true
+    → Finished limit script old now' (refused || refuses o) (memory || lacks_memory o)
+unfolding more_given with_answer
+quit_within limit script line after old now now' s next refused memory taken o k no_lf small a e = record {
+  given = more_given limit s next line old now now' refused memory o k.given a;
+  told =
+      let P : List ℕ → Type 0 = λ t. ToldAll limit (k.given.number + 1) (with_answer k.given.number a.lacks k.given.answered) (k.given.replies ++ a.reply ∷ []) t in
+      subst P (sym (k.split ∙ ap (λ t. k.front ++ t) (append_assoc line (10 ∷ []) after))) (all after);
+  within = λ M agree.
+      let cut : within_limit script ≡ k.front ++ (line ++ 10 ∷ take (most_script_bytes - (taken + length (line ++ 10 ∷ []))) after) = cut_behind script line after k.front taken k.split k.counted small in
+      let whole = ap whole_lines cut ∙ k.whole (line ++ 10 ∷ take (most_script_bytes - (taken + length (line ++ 10 ∷ []))) after)
+      ∙ ap (λ t. k.front ++ t) (whole_to_feed line (take (most_script_bytes - (taken + length (line ++ 10 ∷ []))) after)) in
+      inr (ap (λ t. any_end (out (reply limit) t M)) whole ∙ ap any_end (all (whole_lines (take (most_script_bytes - (taken + length (line ++ 10 ∷ []))) after)) M agree)
+      ∙ any_end_push k.given.replies a.reply ∙ ap (λ b. b || a.reply.ends) k.goes_on ∙ (a.ends ∙ e));
+}
   where
-    whole : (long : Bool) → long ≡ true → refused_form s ≡ elim long [ true ↦ refused_form s | false ↦ bare_reply limit s (without_cr line) ]
-    whole true q = refl
-    whole false q = cc
+    all : (more : List ℕ) → ToldAll limit (k.given.number + 1) (with_answer k.given.number a.lacks k.given.answered) (k.given.replies ++ a.reply ∷ []) (k.front ++ (line ++ 10 ∷ more))
+    all more =
+        let Q : List (List ℕ) → Type 0 = λ ls. Told limit k.given.number k.given.answered k.given.replies (k.front ++ (line ++ 10 ∷ more)) s ls in
+        told_end limit k.given.number k.given.answered k.given.replies (k.front ++ (line ++ 10 ∷ more)) s line (lines_of more) a.lacks a.reply
+        (subst Q (first_line line more no_lf) (k.told (line ++ 10 ∷ more))) a.is (a.ends ∙ e)
+
+-- and without
+pub quit_last : (limit : ℕ) (script line : List ℕ) (old now now' : Option (List ℕ)) (s next : System) (refused memory : Bool) (taken : ℕ) (o : Outcome)
+    → Running limit script line old now s refused memory taken → lines_of line ≡ line ∷ [] → taken + length line ≤ most_script_bytes
+    → Replied limit s line now now' next o → ends_session o ≡ true
+    → Finished limit script old now' (refused || refuses o) (memory || lacks_memory o)
+unfolding more_given with_answer
+quit_last limit script line old now now' s next refused memory taken o k one small a e = record {
+  given = more_given limit s next line old now now' refused memory o k.given a;
+  told =
+      told_end limit k.given.number k.given.answered k.given.replies script s line [] a.lacks a.reply
+      (at_script limit script line s k.front k.given.number k.given.answered k.given.replies k.split one (k.told line)) a.is (a.ends ∙ e);
+  within = λ M _. inl (script_length limit script line k.front taken k.split k.counted small);
+}
+
+-- no byte is left behind the lines
+pub no_more : (limit : ℕ) (script : List ℕ) (old now : Option (List ℕ)) (s : System) (refused memory : Bool) (taken : ℕ)
+    → Running limit script [] old now s refused memory taken → taken ≤ most_script_bytes → Finished limit script old now refused memory
+no_more limit script old now s refused memory taken k small = record {
+  given = k.given;
+  told = λ M agree.
+      ap (λ t. out (reply limit) t M) k.split ∙ k.told [] M agree ∙ append-nil k.given.replies;
+  within = λ M _. inl (script_length limit script [] k.front taken k.split k.counted (omega (arith, small)));
+}

@@ -1,4 +1,4 @@
 pub mod Statuses
-pub mod Sessions
 pub mod Ends
+pub mod Programs
 pub mod Runs

@@ -1,31 +1,33 @@
 -- What becomes of a line that was read, and the status of a run that read its script to the end.
-use Rattle.std.specs.Prelude.{◌≡◌, ◌≤◌, ◌++◌, ℕ, Bool, true, false, List, length, codes}
+use Rattle.std.specs.Prelude.{◌≡◌, ℕ, Bool, true, false, Result, List}
 use Rattle.std.specs.declared.option.Option.{Option}
-use Rattle.std.specs.Io.KnownBytes.{Appends}
+use Rattle.lsys_io.specs.declared.Failed.{Failed}
 use Rattle.lsys_io.specs.declared.lines.LineRead.{LineRead}
 use Rattle.lsys_io.specs.declared.lines.LineRead.TheVariants as reads
-use Rattle.lsys_syntax.specs.Limits.{most_line_bytes}
 use Rattle.lsys_spec.specs.Systems.{System}
-use Rattle.lsys_spec.specs.Refusals.{line_feed}
-use Rattle.lsys_cli.specs.Sessions.{Replies}
-use Rattle.lsys_cli.specs.declared.session.Outcome.{Outcome}
-use Rattle.lsys_cli.specs.declared.session.Outcome.TheVariants as outcomes
+use Rattle.lsys_spec.specs.Refusals.{refused}
+use Rattle.lsys_session.specs.Answers.{Answers}
+use Rattle.lsys_session.specs.Requests.{refusal_line}
+use Rattle.lsys_session.specs.Sessions.{Says}
+use Rattle.lsys_rules.specs.declared.refusal.Refusal.TheVariants as refusals
+use Rattle.lsys_session.specs.declared.outcome.Outcome.{Outcome}
+use Rattle.lsys_session.specs.declared.outcome.Outcome.TheVariants as outcomes
 use Rattle.lsys_cli.specs.declared.status.Status.{Status}
 use Rattle.lsys_cli.specs.declared.status.Status.TheVariants.{Done, Refused, Memory}
 
+-- Memory goes before Refused.
 abbrev pub status_of : Bool → Bool → Status
 status_of refused true = Memory
 status_of true false = Refused
 status_of false false = Done
 
--- a line that is told has at most 65,536 bytes
-abbrev pub IsShort : LineRead → List ℕ → Type 0
-IsShort reads.Line line = length line ≤ most_line_bytes
-IsShort reads.Long line = Unit {0}
-IsShort reads.End line = Unit {0}
+-- the line is refused as too long, and changes nothing
+pub record AnswersLong {K : Type 0} (written : K → Option (List ℕ)) (faults : K → ℕ) (sink_old sink_new : K) (held : List ℕ) (old new : System) (result : Result Outcome Failed) : Type 0 where
+  pub says : Says written faults sink_old sink_new held (refusal_line refusals.LongLine) outcomes.Refused result
+  pub stays : new ≡ old
 
--- the reply to a line that is told; or to a long one, which changes nothing
-abbrev pub AnswersRead : LineRead → ℕ → System → List ℕ → Option (List ℕ) → Option (List ℕ) → System → Outcome → Type 0
-AnswersRead reads.Line limit s line written_old written_new next o = Replies limit s line written_old written_new next o
-AnswersRead reads.Long limit s line written_old written_new next o = (next ≡ s) × (o ≡ outcomes.Refused) × Appends written_old written_new (codes "refused form" ++ line_feed)
-AnswersRead reads.End limit s line written_old written_new next o = Unit {0}
+-- the reply to a line that is told, or to one that is too long
+abbrev pub AnswersRead : {K : Type 0} → (K → Option (List ℕ)) → (K → ℕ) → K → K → List ℕ → LineRead → ℕ → System → System → List ℕ → Result Outcome Failed → Type 0
+AnswersRead written faults sink_old sink_new held reads.Line limit old new line result = Answers written faults sink_old sink_new held limit old new line result
+AnswersRead written faults sink_old sink_new held reads.Long limit old new line result = AnswersLong written faults sink_old sink_new held old new result
+AnswersRead written faults sink_old sink_new held reads.End limit old new line result = Unit {0}

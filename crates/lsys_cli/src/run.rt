@@ -1,27 +1,39 @@
 //! The loop over the lines of a script.
-ghost use Rattle.std.specs.Prelude.{◌≡◌, ℕ, List, [], ◌≤◌, ◌≢◌, true, false, ◌||◌, IfOk, OnOk, OnErr};
-ghost use Rattle.std.specs.Io.KnownBytes.{Appends};
+ghost use Rattle.std.specs.Prelude.{◌≡◌, ℕ, List, [], ◌≤◌, ◌≢◌, ◌||◌, true, false, OnOk, OnErr};
 ghost use Rattle.lsys_io.specs.Causes.{Rose};
 ghost use Rattle.lsys_io.specs.declared.lines.Stage.TheVariants.{Going};
 ghost use Rattle.lsys_spec.specs.Systems.{opening};
-ghost use Rattle.lsys_spec.specs.Refusals.{Reply};
-ghost use Rattle.lsys_cli.specs.Sessions.{KeepsLevels, refuses, lacks_memory};
+ghost use Rattle.lsys_session.specs.Answers.{refuses, lacks_memory};
 ghost use Rattle.lsys_cli.specs.Ends.{Ends};
-ghost use Rattle.lsys_cli.specs.Runs.{status_of, IsShort, AnswersRead};
+ghost use Rattle.lsys_cli.specs.Runs.{status_of, AnswersRead};
 
-use crate::session::{Outcome, Session, refuse_long};
 use crate::status::Status;
 use lsys_io::{Buffered, Failed, LineRead, LineReader, LineRefusal, Sink, Source};
+use lsys_match::{Derivation, Steps};
+use lsys_rules::Refusal;
+use lsys_session::{Outcome, Session, refuse};
 use std::alloc::Global;
+use std::sync::ledger::Ledger;
 
 /// Which kinds of refusal there were so far.
 #[derive(Clone, Copy)]
 pub struct Tally {
-    pub refused: bool,
-    pub memory: bool,
+    refused: bool,
+    memory: bool,
 }
 
 impl Tally {
+    /// Before the first line.
+    pub fn new() -> Tally
+        ensures refused { result.refused ≡ false }
+        ensures memory { result.memory ≡ false }
+    {
+        Tally {
+            refused: false,
+            memory: false,
+        }
+    }
+
     /// With one more outcome.
     fn with(self, outcome: Outcome) -> Tally
         ensures refused { result.refused ≡ self.refused || refuses outcome }
@@ -49,29 +61,27 @@ impl Tally {
 }
 
 /// Answers the lines of the source to its end or to `quit`.
-pub fn run<S: Source, K: Sink>(
+pub fn run<S: Source, K: Sink, L: Ledger, V: Ledger, D: Derivation<L> + Drop>(
     alloc: Global,
-    session: &mut Session,
+    session: &mut Session<L, D>,
     reader: &mut LineReader,
     out: &mut Buffered,
     source: &mut S,
     sink: &mut K,
+    asked: &mut Steps<L>,
+    visited: &mut Steps<V>,
 ) -> Status
-    requires holds { KeepsLevels session.old }
-    requires opening { session.old.system ≡ opening }
+    requires opening { D.system_of session.old ≡ opening }
     requires empty { out.old ≡ [] }
     requires fresh { reader.old ≡ record { held = []; taken = 0; line = []; stage = Going } }
-    ensures ends { Ends session.old.limit (S.left source.old) (K.written sink.old) (K.written sink.new) result }
+    ensures ends { Ends (D.limit_of session.old) (S.left source.old) (S.left source.new)
+        (K.written sink.old) (K.written sink.new) result }
     ensures read_fault_only_where_rose { result ≡ Status.ReadFault → Rose (S.faults source.old) (S.faults source.new) }
     ensures write_fault_only_where_rose { result ≡ Status.WriteFault → Rose (K.faults sink.old) (K.faults sink.new) }
     ensures no_read_fault_passed_over { result ≢ Status.ReadFault → S.faults source.new ≡ S.faults source.old }
     ensures no_write_fault_passed_over { result ≢ Status.WriteFault → K.faults sink.new ≡ K.faults sink.old }
-    ensures not_usage { result ≢ Status.Usage }
 {
-    let mut tally = Tally {
-        refused: false,
-        memory: false,
-    };
+    let mut tally = Tally::new();
     'lines: loop {
         let read = match reader.next_line(source) {
             Ok(read) => read,
@@ -81,7 +91,16 @@ pub fn run<S: Source, K: Sink>(
         if read == LineRead::End {
             return tally.status();
         }
-        let Ok(outcome) = answer_line(alloc, session, read, reader.line(), out, sink) else {
+        let Ok(outcome) = answer_line(
+            alloc,
+            session,
+            read,
+            reader.line(),
+            out,
+            sink,
+            asked,
+            visited,
+        ) else {
             return Status::WriteFault;
         };
         tally = tally.with(outcome);
@@ -92,28 +111,27 @@ pub fn run<S: Source, K: Sink>(
 }
 
 /// Answers a line that was read, and puts the reply.
-fn answer_line<K: Sink>(
+fn answer_line<K: Sink, L: Ledger, V: Ledger, D: Derivation<L> + Drop>(
     alloc: Global,
-    session: &mut Session,
+    session: &mut Session<L, D>,
     read: LineRead,
     line: &[u8],
     out: &mut Buffered,
     sink: &mut K,
+    asked: &mut Steps<L>,
+    visited: &mut Steps<V>,
 ) -> Result<Outcome, Failed>
-    requires holds { KeepsLevels session.old }
     requires empty { out.old ≡ [] }
-    requires short { IsShort read line.now }
-    ensures replies { IfOk result (λ o. AnswersRead read session.old.limit session.old.system line.now (K.written sink.old) (K.written sink.new) session.new.system o) }
-    ensures holds { OnOk result (KeepsLevels session.new) }
-    ensures limit { session.new.limit ≡ session.old.limit }
-    ensures empty { OnOk result (out.new ≡ []) }
-    ensures never_falls { K.faults sink.old ≤ K.faults sink.new }
+    ensures replies { AnswersRead K.written K.faults sink.old sink.new out.new read (D.limit_of session.old)
+        (D.system_of session.old) (D.system_of session.new) line.now result }
+    ensures limit { D.limit_of session.new ≡ D.limit_of session.old }
+    ensures empty { out.new ≡ [] }
     ensures failed_only_where_rose { OnErr result (Rose (K.faults sink.old) (K.faults sink.new)) }
     ensures ok_leaves_count { OnOk result (K.faults sink.new ≡ K.faults sink.old) }
 {
     match read {
-        LineRead::Line => session.command(alloc, line, out, sink),
-        LineRead::Long => refuse_long(out, sink),
+        LineRead::Line => session.command(alloc, line, out, sink, asked, visited),
+        LineRead::Long => refuse(out, sink, Refusal::LongLine),
         LineRead::End => Ok(Outcome::Skipped),
     }
 }

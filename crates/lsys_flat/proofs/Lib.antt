@@ -1,6 +1,9 @@
-pub mod Behind
-pub mod Trees
-pub mod Successors
-pub mod Levels
-pub mod Growing
-pub mod SoFar
+pub mod Showing
+pub mod Depths
+pub mod Keeping
+pub mod DraftingLevels
+pub mod DraftingFirst
+pub mod DraftingAnswers
+pub mod DraftingAsked
+pub mod DraftingNext
+pub mod DraftingSteps

@@ -1,5 +1,3 @@
-pub mod Faults
-pub mod Made
-pub mod Answers
-pub mod Rows
-pub mod Offered
+pub mod Codes
+pub mod Derived
+pub mod Drafts

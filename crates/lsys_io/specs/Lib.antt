@@ -5,3 +5,4 @@ pub mod Feeds
 pub mod Reading
 pub mod LineAnswers
 pub mod Gathering
+pub mod Standard

@@ -18,4 +18,3 @@ pub mod BodyExamples
 pub mod WordExamples
 pub mod DefinitionExamples
 pub mod LawExamples
-pub mod InterimExamples

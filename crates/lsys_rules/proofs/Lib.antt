@@ -7,5 +7,4 @@ pub mod Kept
 pub mod RuleNames
 pub mod OnceNames
 pub mod Accepted
-pub mod Plain
 pub mod ShownTexts

@@ -9,5 +9,4 @@ pub mod InsideCommand
 pub mod Parsing
 pub mod Changes
 pub mod Applying
-pub mod Branches
 pub mod Showing

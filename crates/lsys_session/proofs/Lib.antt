@@ -1,2 +1,6 @@
 pub mod Requests
 pub mod Whole
+pub mod Levels
+pub mod Answering
+pub mod Editing
+pub mod Querying

@@ -5,22 +5,23 @@ use Rattle.std.proofs.lemmas.Bool.Decides.{nat_tests}
 use Rattle.std.specs.Prelude.{nat_lt}
 use Rattle.lsys_syntax.specs.Tokens as syntax
 use Rattle.lsys_syntax.specs.Commands.{Command, set_axiom, put_production, drop_rule, set_ignored, set_schedule, set_seed, set_depth, set_lattice, put_homomorphism, print_string, print_segments, print_svg, print_system, quit}
-use Rattle.lsys_syntax.specs.LineMachine.{Verdict, verdict, sentence, stops, too_deep}
+use Rattle.lsys_syntax.specs.LineMachine.{Verdict, verdict, sentence, stops, too_deep, command_in, parse_command}
 use Rattle.lsys_spec.specs.Systems as spec
 use Rattle.lsys_spec.specs.Edits as edits
 use Rattle.lsys_spec.specs.Refusals.{Reply, said, refused, is_passed_over, column_at, why_word, with_number}
-use Rattle.lsys_spec.specs.Replies.{accepted, edited, levels_of, command_reply, verdict_reply, tokens_reply, bare_reply}
+use Rattle.lsys_spec.specs.Replies.{accepted, edited, levels_of, command_reply, verdict_reply, tokens_reply, bare_reply, spelled_by, is_query}
 use Rattle.lsys_text.specs.Tokens.{kinds_of, token_of}
 use Rattle.lsys_text.specs.declared.token_kind.Token.{Token}
 use Rattle.lsys_reading.specs.Parted.{command_of}
 use Rattle.lsys_reading.specs.Parsing.{column_of, kind_of_command}
+use Rattle.lsys_reading.specs.declared.command.CommandKind.{CommandKind}
 use Rattle.lsys_reading.specs.declared.command.CommandKind.TheVariants as kinds
 use Rattle.lsys_rules.specs.Lines.{CommandLine}
 use Rattle.lsys_rules.specs.Parsing.{IsParsed}
 use Rattle.lsys_rules.specs.Applying.{IsToldAt}
 use Rattle.lsys_rules.specs.declared.refusal.Refusal.{Refusal}
 use Rattle.lsys_rules.specs.declared.refusal.Refusal.TheVariants as refusals
-use Rattle.lsys_session.specs.Requests.{IsCommandIn, IsRequested, IsRequest, HasLevel}
+use Rattle.lsys_session.specs.Requests.{IsCommandIn, IsRequested, IsRequest, IsAskedBy, HasLevel}
 use Rattle.lsys_session.specs.declared.request.Request.{Request}
 use Rattle.lsys_session.specs.declared.request.Request.TheVariants.{Nothing, String}
 
@@ -75,21 +76,33 @@ edit_asked limit s (set_depth n) e = refl
 edit_asked limit s (set_lattice k) e = refl
 edit_asked limit s (put_homomorphism l r) e = refl
 
-pub string_asked : (c : Command) (t : Option ℕ) → kind_of_command c ≡ kinds.String t → c ≡ print_string t
-string_asked (print_string n) t e = cc
-string_asked print_segments t e = cc
-string_asked print_svg t e = cc
-string_asked print_system t e = cc
-string_asked quit t e = cc
-string_asked (set_axiom xs) t e = cc
-string_asked (put_production u l r) t e = cc
-string_asked (drop_rule l) t e = cc
-string_asked (set_ignored ns) t e = cc
-string_asked (set_schedule ws) t e = cc
-string_asked (set_seed n) t e = cc
-string_asked (set_depth n) t e = cc
-string_asked (set_lattice k) t e = cc
-string_asked (put_homomorphism l r) t e = cc
+-- the command of this kind, where there is but one
+abbrev pub IsOfKind : CommandKind → Command → Type 0
+IsOfKind kinds.Edit c = is_query c ≡ false
+IsOfKind (kinds.String t) c = c ≡ print_string t
+IsOfKind kinds.Segments c = c ≡ print_segments
+IsOfKind kinds.Svg c = c ≡ print_svg
+IsOfKind kinds.Show c = c ≡ print_system
+IsOfKind kinds.Quit c = c ≡ quit
+
+kind_told : (c : Command) → IsOfKind (kind_of_command c) c
+kind_told (print_string n) = refl
+kind_told print_segments = refl
+kind_told print_svg = refl
+kind_told print_system = refl
+kind_told quit = refl
+kind_told (set_axiom xs) = refl
+kind_told (put_production t l r) = refl
+kind_told (drop_rule l) = refl
+kind_told (set_ignored ns) = refl
+kind_told (set_schedule ws) = refl
+kind_told (set_seed n) = refl
+kind_told (set_depth n) = refl
+kind_told (set_lattice k) = refl
+kind_told (put_homomorphism l r) = refl
+
+pub of_kind : (c : Command) (k : CommandKind) → kind_of_command c ≡ k → IsOfKind k c
+of_kind c k e = subst (λ k. IsOfKind k c) e (kind_told c)
 
 below : (b : Bool) (why : edits.Why) (n : ℕ) → edits.refused_if b why n ≡ None → b ≡ false
 below true why n e = cc
@@ -114,8 +127,22 @@ left : (b : Bool) (r q : Reply) → b ≡ false → either b r q ≡ q
 left true r q e = cc
 left false r q e = refl
 
+abbrev spelled_unless : Bool → Option Command → Option Command
+spelled_unless b o = elim b [ true ↦ None | false ↦ o ]
+
+none_spelled : (b : Bool) (o : Option Command) → b ≡ true → spelled_unless b o ≡ None
+none_spelled true o e = refl
+none_spelled false o e = cc
+
+some_spelled : (b : Bool) (o : Option Command) → b ≡ false → spelled_unless b o ≡ o
+some_spelled true o e = cc
+some_spelled false o e = refl
+
+spelled_in : (ts : List Token) (c : Command) → verdict (kinds_of ts) ≡ sentence c → spelled_by (Ok (map token_of ts)) ≡ Some c
+spelled_in ts c v = ap parse_command (same_kinds ts) ∙ ap command_in v
+
 pub passed_over : (s : spec.System) (bare : List ℕ) → is_passed_over bare ≡ true → IsRequest s bare (Ok Nothing)
-passed_over s bare e = (λ limit. taken (is_passed_over bare) (said s []) (tokens_reply limit s (length bare) (syntax.tokens bare)) e, tt)
+passed_over s bare e = (λ limit. taken (is_passed_over bare) (said s []) (tokens_reply limit s (length bare) (syntax.tokens bare)) e, tt, none_spelled (is_passed_over bare) (spelled_by (syntax.tokens bare)) e)
 
 not_passed : (limit : ℕ) (s : spec.System) (bare : List ℕ) → is_passed_over bare ≡ false → bare_reply limit s bare ≡ tokens_reply limit s (length bare) (syntax.tokens bare)
 not_passed limit s bare e = left (is_passed_over bare) (said s []) (tokens_reply limit s (length bare) (syntax.tokens bare)) e
@@ -147,7 +174,9 @@ module _ (s : spec.System) (bare : List ℕ) (c : CommandLine) (p : is_passed_ov
       replied limit ∙ ap (command_reply limit s column (command_of c.tokens)) told.1 ∙ ap (λ k. refused s (with_number (why_word why) k)) (sym at)
 
   pub asked : (r : Result Request Refusal) → IsRequested s c r → IsRequest s bare r
-  asked (Ok r) q = (λ limit. replied limit ∙ ap (command_reply limit s column (command_of c.tokens)) q.0 ∙ q.1 limit, q.2)
+  asked (Ok r) q =
+      let spelled = some_spelled (is_passed_over bare) (spelled_by (syntax.tokens bare)) p ∙ ap spelled_by h.0 ∙ spelled_in c.tokens (command_of c.tokens) h.1 in
+      (λ limit. replied limit ∙ ap (command_reply limit s column (command_of c.tokens)) q.0 ∙ q.1 limit, q.2, subst (λ o. IsAskedBy s o r) (sym spelled) q.3)
   asked (Err (refusals.Name n)) q = refused_so edits.unknown_name n q
   asked (Err (refusals.Duplicate n)) q = refused_so edits.duplicate n q
   asked (Err (refusals.Mixed n)) q = refused_so edits.mixed n q

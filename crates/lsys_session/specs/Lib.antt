@@ -1,2 +1,4 @@
 pub mod Requests
 pub mod Sessions
+pub mod Answers
+pub mod Given

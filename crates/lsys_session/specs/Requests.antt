@@ -1,5 +1,5 @@
 -- What a line asks of a system, and what it is answered.
-use Rattle.std.specs.Prelude.{◌≡◌, ◌≤◌, ◌++◌, ◌∷◌, decimal, ℕ, Option, Some, None, Result, Ok, Err, List, [], codes, length, map, false}
+use Rattle.std.specs.Prelude.{◌≡◌, ◌≤◌, ◌++◌, ◌∷◌, decimal, ℕ, Option, Some, None, Result, Ok, Err, List, [], codes, length, map, true, false}
 use Rattle.lsys_syntax.specs.Tokens.{tokens}
 use Rattle.lsys_syntax.specs.LineMachine.{sentence, verdict}
 use Rattle.lsys_spec.specs.Systems as spec
@@ -12,7 +12,8 @@ use Rattle.lsys_rewrite.specs.declared.refusal.DeriveRefusal.{DeriveRefusal}
 use Rattle.lsys_rewrite.specs.declared.refusal.DeriveRefusal.TheVariants as derive
 use Rattle.lsys_spec.specs.PictureTexts.{segments_text, svg_text}
 use Rattle.lsys_spec.specs.Shown.{show_text}
-use Rattle.lsys_spec.specs.Replies.{shown, string_line, levels_of, picture_of, edited, accepted, tokens_reply, bare_reply}
+use Rattle.lsys_syntax.specs.Commands.{Command}
+use Rattle.lsys_spec.specs.Replies.{shown, string_line, levels_of, picture_of, edited, accepted, tokens_reply, bare_reply, bare_spelled, is_query}
 use Rattle.lsys_text.specs.Tokens.{kinds_of, token_of}
 use Rattle.lsys_reading.specs.Parted.{command_of}
 use Rattle.lsys_rules.specs.Lines.{CommandLine}
@@ -87,6 +88,12 @@ reply_to limit s Svg = shown s (svg_text s.lattice) (picture_of s (levels_of lim
 reply_to limit s Show = said s (show_text s)
 reply_to limit s Quit = session_end s
 
+-- what the line that asks this spells, if anything; an edit's system is what its command makes of the old one
+abbrev pub IsAskedBy : spec.System → Option Command → Request → Type 0
+IsAskedBy s spelled Nothing = spelled ≡ None
+IsAskedBy s spelled (Edit next) = (c : Command) × (spelled ≡ Some c) × (is_query c ≡ false) × (edits.refusal s c ≡ None) × (next ≡ edits.changed s c)
+IsAskedBy s spelled r = (c : Command) × (spelled ≡ Some c) × (is_query c ≡ true)
+
 -- a level that is asked for by its number is there
 abbrev pub HasLevel : spec.System → Request → Type 0
 HasLevel s (String (Some t)) = t ≤ s.depth
@@ -94,7 +101,7 @@ HasLevel s r = Unit {0}
 
 -- for any limit of the session, this is the reply to the line; want of memory is no answer to a line that is passed over
 abbrev pub IsRequest : spec.System → List ℕ → Result Request Refusal → Type 0
-IsRequest s bare (Ok r) = ((limit : ℕ) → bare_reply limit s bare ≡ reply_to limit s r) × HasLevel s r
+IsRequest s bare (Ok r) = ((limit : ℕ) → bare_reply limit s bare ≡ reply_to limit s r) × HasLevel s r × IsAskedBy s (bare_spelled bare) r
 IsRequest s bare (Err refusals.Memory) = is_passed_over bare ≡ false
 IsRequest s bare (Err e) = (limit : ℕ) → bare_reply limit s bare ≡ refused s (refusal_text e)
 
@@ -109,4 +116,5 @@ IsCommandIn bare (Err e) = (limit : ℕ) (s : spec.System) → tokens_reply limi
 -- what a command asks that nothing refuses, or the first refusal
 abbrev pub IsRequested : spec.System → CommandLine → Result Request Refusal → Type 0
 IsRequested s c (Ok r) = (edits.refusal s (command_of c.tokens) ≡ None) × ((limit : ℕ) → accepted limit s (command_of c.tokens) ≡ reply_to limit s r) × HasLevel s r
+    × IsAskedBy s (Some (command_of c.tokens)) r
 IsRequested s c (Err e) = IsRefused c (edits.refusal s (command_of c.tokens)) e

@@ -1,12 +1,15 @@
-//! What a line asks of a session, and the replies that answer it.
+//! Sessions: what a line asks of a system, what it is answered, and what its edits ask of the derivation that is kept.
 #![tactic(auto)]
 
 mod line;
 mod outcome;
+mod pictures;
 mod replies;
 mod request;
 mod sayings;
+mod session;
 
 pub use outcome::Outcome;
 pub use request::{Request, request_of};
-pub use sayings::{accept, print_line, refuse, refuse_edit, show_system};
+pub use sayings::refuse;
+pub use session::Session;

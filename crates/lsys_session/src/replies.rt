@@ -1,12 +1,17 @@
 //! The texts of replies.
-ghost use Rattle.std.specs.Prelude.{◌≡◌, ◌++◌, ◌∷◌, [], decimal};
+ghost use Rattle.std.specs.Prelude.{◌≡◌, ◌++◌, ◌∷◌, [], codes, decimal};
 ghost use Rattle.lsys_io.specs.Writes.{Puts};
 ghost use Rattle.lsys_spec.specs.Refusals.{with_number};
 ghost use Rattle.lsys_session.specs.Requests.{cause_text, column_text, count_text, derivation_line, refusal_column, refusal_line, refusal_text, refusal_words};
 ghost use Rattle.lsys_rewrite.specs.Faults.{fault_of};
 ghost use Rattle.lsys_spec.specs.Meaning.{FaultAt};
 ghost use Rattle.lsys_spec.specs.Refusals.{derivation_text, fault_word};
+ghost use Rattle.lsys_spec.specs.Pictures.{Far, NoImage};
+ghost use Rattle.lsys_spec.specs.Refusals.{image_text};
+ghost use Rattle.lsys_hom.specs.Refusals.{refusal_of};
+ghost use Rattle.lsys_session.specs.Given.{picture_line};
 
+use lsys_hom::ImageRefusal;
 use lsys_io::{Buffered, Failed, Sink};
 use lsys_rewrite::{DeriveRefusal, EditCount, FaultKind};
 use lsys_rules::Refusal;
@@ -170,6 +175,62 @@ fn put_numbered<K: Sink>(
 {
     out.put(sink, words)?;
     put_blank_number(out, sink, number)
+}
+
+/// Puts the reply of a picture whose level has no image.
+///
+/// # Errors
+///
+/// The sink failed; a front of what was held and of the reply was written then.
+pub(crate) fn put_no_image<K: Sink>(
+    out: &mut Buffered,
+    sink: &mut K,
+    refusal: ImageRefusal,
+) -> Result<(), Failed>
+    ensures { Puts K.written K.faults sink.old sink.new out.old out.new (picture_line (NoImage (refusal_of refusal))) result }
+{
+    out.put(sink, b"refused ")?;
+    put_image(out, sink, refusal)?;
+    out.put(sink, b"\n")
+}
+
+// Puts why a level has no image.
+fn put_image<K: Sink>(out: &mut Buffered, sink: &mut K, refusal: ImageRefusal) -> Result<(), Failed>
+    ensures { Puts K.written K.faults sink.old sink.new out.old out.new (image_text (refusal_of refusal)) result }
+{
+    match refusal {
+        ImageRefusal::Arith { kind, module } => {
+            put_image_fault(out, sink, FaultKind::from(kind), module)
+        }
+        ImageRefusal::Limit => out.put(sink, b"image"),
+    }
+}
+
+// Puts a fault of a module at its image.
+fn put_image_fault<K: Sink>(
+    out: &mut Buffered,
+    sink: &mut K,
+    kind: FaultKind,
+    place: u32,
+) -> Result<(), Failed>
+    ensures { Puts K.written K.faults sink.old sink.new out.old out.new (codes "fault " ++ fault_word (fault_of kind) ++ with_number (codes " image") place) result }
+{
+    out.put(sink, b"fault ")?;
+    put_kind(out, sink, kind)?;
+    put_numbered(out, sink, b" image", place)
+}
+
+/// Puts the reply of a picture that would lead too far, at a module of the image.
+///
+/// # Errors
+///
+/// The sink failed; a front of what was held and of the reply was written then.
+pub(crate) fn put_far<K: Sink>(out: &mut Buffered, sink: &mut K, place: u32) -> Result<(), Failed>
+    ensures { Puts K.written K.faults sink.old sink.new out.old out.new (picture_line (Far place)) result }
+{
+    out.put(sink, b"refused ")?;
+    put_numbered(out, sink, b"far", place)?;
+    out.put(sink, b"\n")
 }
 
 /// Puts the reply of an accepted edit.

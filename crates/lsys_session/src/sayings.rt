@@ -1,15 +1,20 @@
 //! Replies that are put whole: all that is held is written behind each.
-ghost use Rattle.std.specs.Prelude.{◌≡◌, ◌++◌, [], codes};
+ghost use Rattle.std.specs.Prelude.{◌≡◌, ◌++◌, [], IfOk, codes};
 ghost use Rattle.lsys_spec.specs.Refusals.{line_feed};
 ghost use Rattle.lsys_spec.specs.Shown.{show_text};
 ghost use Rattle.lsys_syntax.specs.Strings.{string_text};
 ghost use Rattle.lsys_module.specs.Views.{string_of};
 ghost use Rattle.lsys_session.specs.Requests.{count_text, derivation_line, refusal_line};
 ghost use Rattle.lsys_session.specs.Sessions.{Says, derivation_outcome, refusal_outcome};
-ghost use Rattle.lsys_session.specs.declared.outcome.Outcome.TheVariants.{Accepted, Printed};
+ghost use Rattle.lsys_session.specs.declared.outcome.Outcome.TheVariants.{Accepted, Printed, Refused};
+ghost use Rattle.lsys_io.specs.Writes.{Puts};
+ghost use Rattle.lsys_spec.specs.Pictures.{Far, NoImage};
+ghost use Rattle.lsys_hom.specs.Refusals.{refusal_of};
+ghost use Rattle.lsys_session.specs.Given.{picture_line};
 
 use crate::outcome::{Outcome, of_derivation, of_refusal};
-use crate::replies::{finish, put_count, put_no_levels, put_refusal};
+use crate::replies::{finish, put_count, put_far, put_no_image, put_no_levels, put_refusal};
+use lsys_hom::ImageRefusal;
 use lsys_io::{Buffered, Failed, Sink};
 use lsys_module::{SymbolList, print_string};
 use lsys_rewrite::{DeriveRefusal, EditCount};
@@ -38,7 +43,7 @@ pub fn refuse<K: Sink>(
 /// # Errors
 ///
 /// The sink failed; a front of the reply was written then.
-pub fn refuse_edit<K: Sink>(
+pub(crate) fn refuse_edit<K: Sink>(
     out: &mut Buffered,
     sink: &mut K,
     refusal: DeriveRefusal,
@@ -56,7 +61,7 @@ pub fn refuse_edit<K: Sink>(
 /// # Errors
 ///
 /// The sink failed; a front of the reply was written then.
-pub fn accept<K: Sink>(
+pub(crate) fn accept<K: Sink>(
     out: &mut Buffered,
     sink: &mut K,
     count: EditCount,
@@ -74,7 +79,7 @@ pub fn accept<K: Sink>(
 /// # Errors
 ///
 /// The sink failed; a front of the reply was written then.
-pub fn show_system<K: Sink>(
+pub(crate) fn show_system<K: Sink>(
     out: &mut Buffered,
     sink: &mut K,
     system: &System,
@@ -92,7 +97,7 @@ pub fn show_system<K: Sink>(
 /// # Errors
 ///
 /// The sink failed; a front of the reply was written then.
-pub fn print_line<K: Sink>(
+pub(crate) fn print_line<K: Sink>(
     out: &mut Buffered,
     sink: &mut K,
     symbols: &SymbolList,
@@ -102,6 +107,56 @@ pub fn print_line<K: Sink>(
 {
     print_string(out, sink, symbols)?;
     out.put(sink, b"\n")?;
+    finish(out, sink)?;
+    Ok(Outcome::Printed)
+}
+
+/// Answers with a picture's refusal, since the last level has no image.
+///
+/// # Errors
+///
+/// The sink failed; a front of the reply was written then.
+pub(crate) fn refuse_image<K: Sink>(
+    out: &mut Buffered,
+    sink: &mut K,
+    refusal: ImageRefusal,
+) -> Result<Outcome, Failed>
+    requires { out.old ≡ [] }
+    ensures { Says K.written K.faults sink.old sink.new out.new (picture_line (NoImage (refusal_of refusal))) Refused result }
+{
+    put_no_image(out, sink, refusal)?;
+    finish(out, sink)?;
+    Ok(Outcome::Refused)
+}
+
+/// Answers with a picture's refusal, since a module of the image would lead too far.
+///
+/// # Errors
+///
+/// The sink failed; a front of the reply was written then.
+pub(crate) fn refuse_far<K: Sink>(
+    out: &mut Buffered,
+    sink: &mut K,
+    place: u32,
+) -> Result<Outcome, Failed>
+    requires { out.old ≡ [] }
+    ensures { Says K.written K.faults sink.old sink.new out.new (picture_line (Far place)) Refused result }
+{
+    put_far(out, sink, place)?;
+    finish(out, sink)?;
+    Ok(Outcome::Refused)
+}
+
+/// Ends an answer whose text was put.
+///
+/// # Errors
+///
+/// The sink failed; a front of what was held was written then.
+pub(crate) fn end_print<K: Sink>(out: &mut Buffered, sink: &mut K) -> Result<Outcome, Failed>
+    ensures put { Puts K.written K.faults sink.old sink.new out.old out.new [] result }
+    ensures empty { out.new ≡ [] }
+    ensures outcome { IfOk result (λ o. o ≡ Printed) }
+{
     finish(out, sink)?;
     Ok(Outcome::Printed)
 }

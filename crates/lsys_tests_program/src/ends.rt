@@ -1,10 +1,10 @@
 use lsys_io::{
     Buffered, Failed, LineRead, LineReader, LineRefusal, MemorySink, MemorySource, NeverSink,
-    NeverSource, Source, StdSink, StdSource, send_all,
+    NeverSource, Sink, Source, StdSink, StdSource, send_all,
 };
 use std::alloc::{AllocError, Global};
 use std::io;
-use std::io::Read;
+use std::io::{Read, Write};
 use std::test::Fail;
 
 /// What so many calls of a reader answer, in text.
@@ -200,5 +200,39 @@ fn ends_of_std(rt: HostRuntime) -> Result<(), Fail> {
     assert_eq!(rt; send_all(&mut sink, b"de"), Err(Failed));
     drop(sink);
     assert_eq!(rt; written, *b"abcd");
+    Ok(())
+}
+
+/// A writer that takes two bytes a call, counts its flushes, and fails at each of them from the second on.
+#[derive(Drop)]
+struct Counting<'a> {
+    flushes: &'a mut u32,
+}
+
+impl Write for Counting<'_> {
+    fn write(&mut self, bytes: &[u8]) -> io::Result<usize> {
+        Ok(bytes.len().min(2))
+    }
+
+    fn flush(&mut self) -> io::Result<()> {
+        *self.flushes = self.flushes.saturating_add(1);
+        if *self.flushes < 2 {
+            Ok(())
+        } else {
+            Err(io::Error::from(io::ErrorKind::Other))
+        }
+    }
+}
+
+#[test]
+fn each_write_is_flushed_and_a_flush_that_fails_is_a_fault(rt: HostRuntime) -> Result<(), Fail> {
+    let mut flushes = 0;
+    let mut sink = StdSink::new(Counting {
+        flushes: &mut flushes,
+    });
+    assert_eq!(rt; sink.write(b"abc"), Ok(2));
+    assert_eq!(rt; send_all(&mut sink, b"abc"), Err(Failed));
+    drop(sink);
+    assert_eq!(rt; flushes, 2);
     Ok(())
 }

@@ -1,10 +1,10 @@
-//! Tests of derivations and of the program over sources and sinks in memory.
+//! Tests of the program over sources and sinks in memory, and of the ends.
 //!
 //! Tests stand in crates of their own, so that no crate below is proved a second time with its tests.
 #![tactic(auto)]
 
 #[cfg(test)]
-mod derivations;
+mod edits;
 #[cfg(test)]
 mod ends;
 #[cfg(test)]

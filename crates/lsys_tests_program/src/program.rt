@@ -1,11 +1,78 @@
+ghost use Rattle.std.specs.Prelude.{◌≡◌, ◌<◌, ◌≤◌};
+
 use lsys_cli::{Status, lsys};
-use lsys_io::{MemorySink, MemorySource};
+use lsys_io::{MemorySink, MemorySource, NeverSink, NeverSource, Sink, Source};
+use lsys_match::Steps;
 use std::alloc::{AllocError, Global};
+use std::marker::Brand;
+use std::sync::ledger::{Blank, Ledger};
 use std::test::Fail;
 
-/// What a run over memory ends with, and what it writes. The source gives pieces of 8 bytes and the sink takes 5 at
-/// most; the source fails at its `read`th call and the sink at its `write`th, where these aren't 0.
-fn ran(
+const ALGAE: &str = "axiom A\nproduction a: A => AB\nproduction b: B => A\ndepth 5\nstring\n";
+
+const ALGAE_REPLIES: &str = "ok 0/0\nok 0/0\nok 0/0\nok 19/19\nABAABABAABAAB\n";
+
+/// The status of a run on ledgers that have no counter yet.
+fn counted<S: Source, K: Sink, L: Ledger, V: Ledger>(
+    alloc: Global,
+    words: &[String],
+    source: &mut S,
+    sink: &mut K,
+    asked: Blank,
+    visited: Blank,
+) -> Status
+    requires name { asked.name ≡ L.name }
+    requires parts { asked.parts ≡ L.parts }
+    requires some { 0 < asked.parts }
+    requires other_name { visited.name ≡ V.name }
+    requires other_parts { visited.parts ≡ V.parts }
+    requires other_some { 0 < visited.parts }
+{
+    let mut asked = Steps::<L>::open(asked);
+    let mut visited = Steps::<V>::open(visited);
+    lsys(alloc, words, source, sink, &mut asked, &mut visited)
+}
+
+/// The status of a run, with counters of its own.
+fn run<S: Source, K: Sink>(
+    alloc: Global,
+    words: &[String],
+    source: &mut S,
+    sink: &mut K,
+) -> Status {
+    counted::<S, K, Brand, Brand>(alloc, words, source, sink, Blank::new(1), Blank::new(1))
+}
+
+/// The status of a run with these words.
+fn status_of<S: Source, K: Sink>(
+    alloc: Global,
+    words: &[&str],
+    source: &mut S,
+    sink: &mut K,
+) -> Result<Status, AllocError> {
+    let mut owned = Vec::new(alloc);
+    for word in words {
+        owned.push(String::from_str(alloc, *word)?)?;
+    }
+    Ok(run(alloc, owned.as_slice(), source, sink))
+}
+
+/// What a run with these words ends with, and what it writes.
+pub(crate) fn ran_by(
+    alloc: Global,
+    words: &[&str],
+    script: &[u8],
+) -> Result<(Status, Vec<u8>), AllocError> {
+    let bytes = Vec::from_slice(alloc, script)?;
+    let mut source = MemorySource::new(bytes, 4096, Vec::new(alloc));
+    let mut sink = MemorySink::new(alloc, 65_536, 4096, Vec::new(alloc))?;
+    let status = status_of(alloc, words, &mut source, &mut sink)?;
+    Ok((status, Vec::from_slice(alloc, sink.bytes())?))
+}
+
+/// The same, where the source gives pieces of 8 bytes and the sink takes 4 at most, and they fail at these calls; at a
+/// call 0 neither fails.
+fn ran_failing(
     alloc: Global,
     script: &str,
     read: u64,
@@ -13,138 +80,223 @@ fn ran(
 ) -> Result<(Status, Vec<u8>), AllocError> {
     let bytes = Vec::from_slice(alloc, script.as_bytes())?;
     let mut source = MemorySource::new(bytes, 8, vec![in alloc; read]?);
-    let mut sink = MemorySink::new(alloc, 4096, 5, vec![in alloc; write]?)?;
-    let words = Vec::new(alloc);
-    let status = lsys(alloc, words.as_slice(), &mut source, &mut sink);
-    let written = Vec::from_slice(alloc, sink.bytes())?;
-    Ok((status, written))
+    let mut sink = MemorySink::new(alloc, 4096, 4, vec![in alloc; write]?)?;
+    let status = status_of(alloc, &[], &mut source, &mut sink)?;
+    Ok((status, Vec::from_slice(alloc, sink.bytes())?))
 }
 
 #[test]
-fn scripts_and_their_replies(rt: HostRuntime) -> Result<(), Fail> {
-    let algae = "axiom A\nproduction a: A => AB\nproduction b: B => A\ndepth 5\nstring\n";
-    let counting =
-        "axiom A(1)\nproduction a: A(n) : n < 3 => B_x(n) A(n+1)\ndepth 3\nstring\nstring 0\n";
+fn algae(rt: HostRuntime) -> Result<(), Fail> {
+    let (status, written) = ran_by(rt.alloc(), &[], ALGAE.as_bytes())?;
+    assert_eq!(rt; status, Status::Done);
+    assert_eq!(rt; written.as_slice(), ALGAE_REPLIES.as_bytes());
+    Ok(())
+}
+
+#[test]
+fn the_limits_boundary(rt: HostRuntime) -> Result<(), Fail> {
+    let over = "ok 0/0\nok 0/0\nok 0/0\nrefused limit level 5\nA\n";
     let rows = [
-        ("", ""),
-        ("string", "\n"),
-        ("axiom A\r\nstring", "ok\nA\n"),
-        (algae, "ok\nok\nok\nok\nABAABABAABAAB\n"),
-        (counting, "ok\nok\nok\nB_x(1)B_x(2)A(3)\nA(1)\n"),
-        ("; a comment\n \t\n\n", ""),
+        ("32", Status::Done, ALGAE_REPLIES),
+        ("31", Status::Refused, over),
     ];
-    for (script, written) in rows {
-        let (ended, text) = ran(rt.alloc(), script, 0, 0)?;
-        assert_eq!(rt; ended, Status::Done, "{script:?}");
-        assert_eq!(rt; text.as_slice(), written.as_bytes(), "{script:?}");
+    for (limit, expected, replies) in rows {
+        let (status, written) = ran_by(rt.alloc(), &["--limit", limit], ALGAE.as_bytes())?;
+        assert_eq!(rt; status, expected);
+        assert_eq!(rt; written.as_slice(), replies.as_bytes());
     }
     Ok(())
 }
 
 #[test]
-fn refused_derivations(rt: HostRuntime) -> Result<(), Fail> {
-    let growth = "axiom A\nproduction a: A => AA\ndepth 14\ndepth 15\ndepth 16\n";
-    let shrunk =
-        "axiom A\nproduction a: A => AA\ndepth 16\nproduction a: A => A(1/0)\ndepth 2\nstring\n";
-    let division =
-        "axiom A(4)B\nproduction a: A(n) => A(12/n) B\nproduction b: B => B(0)\nproduction c: B(n) => B(1/n)\ndepth 1\ndepth 2\nstring\naxiom A(-5)\nstring\n";
-    let power = "axiom C(-1)\nproduction c: C(n) => C(2^n)\ndepth 1\nstring\n";
-    let overflow =
-        "axiom AB(9223372036854775807)\nproduction b: B(n) => B(n+1)\ndepth 1\nproduction b: B(n) => B(n/2)\ndepth 1\nstring\n";
+fn svg(rt: HostRuntime) -> Result<(), Fail> {
+    let segment =
+        "ok 0/0\n<svg xmlns=\"http://www.w3.org/2000/svg\" viewBox=\"-10 -20 20 30\">\n<line x1=\"0\" y1=\"0\" x2=\"0\" y2=\"-10\" stroke=\"black\" stroke-width=\"1\"/>\n</svg>\n";
+    let empty = "<svg xmlns=\"http://www.w3.org/2000/svg\" viewBox=\"-10 -10 20 20\">\n</svg>\n";
+    for (script, replies) in [("axiom F\nsvg\n", segment), ("svg", empty)] {
+        let (status, written) = ran_by(rt.alloc(), &[], script.as_bytes())?;
+        assert_eq!(rt; status, Status::Done);
+        assert_eq!(rt; written.as_slice(), replies.as_bytes());
+    }
+    Ok(())
+}
+
+#[test]
+fn the_sample(rt: HostRuntime) -> Result<(), Fail> {
+    let replies = "ok 0/0\nok 0/0\nok 0/0\nok 3620/3620\nok 40/3581\nok 0/3581\nok 0/3581\n";
+    for words in [["--sample", "0"], ["--limit=200000", "--sample=0"]] {
+        let mut source = MemorySource::new(Vec::new(rt.alloc()), 8, vec![in rt.alloc(); 1]?);
+        let mut sink = MemorySink::new(rt.alloc(), 4096, 4096, Vec::new(rt.alloc()))?;
+        let status = status_of(rt.alloc(), &words, &mut source, &mut sink)?;
+        assert_eq!(rt; status, Status::Done);
+        assert_eq!(rt; sink.bytes(), replies.as_bytes());
+    }
+    Ok(())
+}
+
+#[test]
+fn words_outside_of_the_grammar(rt: HostRuntime) -> Result<(), Fail> {
+    let rows: [&[&str]; 12] = [
+        &["--limit", "0"],
+        &["--limit", "200001"],
+        &["--limit"],
+        &["--limit", "+5"],
+        &["--"],
+        &["x"],
+        &["--help"],
+        &["--limit", "5", "--limit=5"],
+        &["--sample="],
+        &["--sample", "18446744073709551616"],
+        &["--sample", "000000000000000000001"],
+        &["--limit", "--sample=1", "5"],
+    ];
+    for words in rows {
+        let (status, written) = ran_by(rt.alloc(), words, ALGAE.as_bytes())?;
+        assert_eq!(rt; status, Status::Usage, "{words:?}");
+        assert!(rt; written.is_empty());
+    }
+    for words in [
+        &["--limit=200000"][..],
+        &["--limit", "00000000000000000032"][..],
+    ] {
+        let (status, written) = ran_by(rt.alloc(), words, ALGAE.as_bytes())?;
+        assert_eq!(rt; status, Status::Done, "{words:?}");
+        assert_eq!(rt; written.as_slice(), ALGAE_REPLIES.as_bytes());
+    }
+    Ok(())
+}
+
+#[test]
+fn pictures_that_are_refused(rt: HostRuntime) -> Result<(), Fail> {
     let rows = [
-        (growth, "ok\nok\nok\nok\nrefused limit level 16\n"),
         (
-            shrunk,
-            "ok\nok\nrefused limit level 16\nok\nrefused fault divide-by-zero level 0 module 1\nA\n",
+            "axiom F(1000000001)\nsegments",
+            Status::Refused,
+            "ok 0/0\nrefused far 1\n",
         ),
         (
-            division,
-            "ok\nok\nok\nok\nok\nrefused fault divide-by-zero level 1 module 3\nA(3)BB(0)\nok\nA(-2)B\n",
+            "axiom A(0)\nhom h: A(x) => F(1/x)\nsvg",
+            Status::Refused,
+            "ok 0/0\nok 0/0\nrefused fault divide-by-zero image 1\n",
         ),
         (
-            power,
-            "ok\nok\nrefused fault negative-power level 0 module 1\nC(-1)\n",
-        ),
-        (
-            overflow,
-            "ok\nok\nrefused fault overflow level 0 module 2\nok\nok\nAB(4611686018427387903)\n",
+            "axiom F(1000000000)\nsegments",
+            Status::Done,
+            "ok 0/0\nsegments 1\n0 0 0 0 1000000000 0 1\n",
         ),
     ];
-    for (script, written) in rows {
-        let (ended, text) = ran(rt.alloc(), script, 0, 0)?;
-        assert_eq!(rt; ended, Status::Refused, "{script:?}");
-        assert_eq!(rt; text.as_slice(), written.as_bytes(), "{script:?}");
+    for (script, expected, replies) in rows {
+        let (status, written) = ran_by(rt.alloc(), &[], script.as_bytes())?;
+        assert_eq!(rt; status, expected, "{script:?}");
+        assert_eq!(rt; written.as_slice(), replies.as_bytes(), "{script:?}");
     }
     Ok(())
 }
 
+/// A script whose image has 8,000 times so many symbols.
+fn script_of_images(alloc: Global, symbols: usize) -> Result<Vec<u8>, AllocError> {
+    let mut script = Vec::from_slice(alloc, b"axiom ")?;
+    script.extend_from_slice(&vec![in alloc; b'A'; 1000]?)?;
+    script.extend_from_slice(b"\nproduction d: A => AA\ndepth 3\nhom h: A => ")?;
+    script.extend_from_slice(&vec![in alloc; b'F'; symbols]?)?;
+    script.extend_from_slice(b"\nsegments\n")?;
+    Ok(script)
+}
+
 #[test]
-fn refused_forms(rt: HostRuntime) -> Result<(), Fail> {
-    let lines = [
-        "svg",
-        "axiom A(1",
-        "axiom A[B]",
-        "axiom A%",
-        "axiom A(9223372036854775808)",
-        "axiom A(1,2,3,4,5,6,7,8,9)",
-        "production a: A(n) => B(m)",
-        "production a: A(n,n) => B",
-        "production a: A < B => B",
-        "production a: A => [B]",
-        "string 1",
-        "depth 65",
-        "quit quit",
-    ];
-    for line in lines {
-        let (ended, text) = ran(rt.alloc(), line, 0, 0)?;
-        assert_eq!(rt; ended, Status::Refused, "{line:?}");
-        assert_eq!(rt; text.as_slice(), "refused form\n".as_bytes(), "{line:?}");
-    }
+fn the_largest_image(rt: HostRuntime) -> Result<(), Fail> {
+    let edits = "ok 0/0\nok 0/0\nok 7000/7000\nok 0/7000\n";
+    let script = script_of_images(rt.alloc(), 126)?;
+    let (status, written) = ran_by(rt.alloc(), &[], script.as_slice())?;
+    assert_eq!(rt; status, Status::Refused);
+    let expected = format!(in rt.alloc(); "{edits}refused image\n")?;
+    assert_eq!(rt; written.as_slice(), expected.as_bytes());
+
+    let script = script_of_images(rt.alloc(), 125)?;
+    let mut source = NeverSource::new(script);
+    let mut sink = MemorySink::new(rt.alloc(), 65_536, 65_536, Vec::new(rt.alloc()))?;
+    let status = status_of(rt.alloc(), &[], &mut source, &mut sink)?;
+    assert_eq!(rt; status, Status::WriteFault);
+    let expected = format!(in rt.alloc(); "{edits}segments 1000000\n0 0 0 0 1 0 1\n")?;
+    assert!(rt; sink.bytes().starts_with(expected.as_bytes()));
     Ok(())
 }
 
 #[test]
-fn faults_of_the_ends(rt: HostRuntime) -> Result<(), Fail> {
-    let rows = [
-        ("axiom A\nstring\n", 2, 0, Status::ReadFault, "ok\n"),
-        ("axiom A\nstring\n", 1, 0, Status::ReadFault, ""),
-        ("axiom A", 0, 1, Status::WriteFault, ""),
-        ("axiom A\nstring\n", 0, 2, Status::WriteFault, "ok\n"),
-    ];
-    for (script, read, write, status, written) in rows {
-        let (ended, text) = ran(rt.alloc(), script, read, write)?;
-        assert_eq!(rt; ended, status, "{script:?}");
-        assert_eq!(rt; text.as_slice(), written.as_bytes(), "{script:?}");
-    }
+fn the_outside(rt: HostRuntime) -> Result<(), Fail> {
+    let (status, written) = ran_failing(rt.alloc(), "axiom A\nstring\n", 2, 0)?;
+    assert_eq!(rt; status, Status::ReadFault);
+    assert_eq!(rt; written.as_slice(), b"ok 0/0\n".as_slice());
+    let (status, written) = ran_failing(rt.alloc(), "axiom A", 0, 1)?;
+    assert_eq!(rt; status, Status::WriteFault);
+    assert!(rt; written.is_empty());
+    let (status, written) = ran_failing(rt.alloc(), "axiom A\nquit\nstring\n", 3, 0)?;
+    assert_eq!(rt; status, Status::Done);
+    assert_eq!(rt; written.as_slice(), b"ok 0/0\n".as_slice());
     Ok(())
 }
 
+/// Where the first call gives the last bytes and the second one nothing, the third isn't made.
 #[test]
-fn each_word_is_wrong_and_nothing_is_read(rt: HostRuntime) -> Result<(), Fail> {
-    for word in ["x", "", "--help", "--", "--limit"] {
-        let bytes = Vec::from_slice(rt.alloc(), b"string\n")?;
-        let mut source = MemorySource::new(bytes, 8, vec![in rt.alloc(); 1]?);
-        let mut sink = MemorySink::new(rt.alloc(), 16, 8, Vec::new(rt.alloc()))?;
-        let mut words = Vec::new(rt.alloc());
-        words.push(String::from_str(rt.alloc(), word)?)?;
-        let status = lsys(rt.alloc(), words.as_slice(), &mut source, &mut sink);
-        assert_eq!(rt; status, Status::Usage, "{word:?}");
-        assert_eq!(rt; sink.bytes().len(), 0, "{word:?}");
+fn the_source_is_not_read_behind_its_end(rt: HostRuntime) -> Result<(), Fail> {
+    for script in ["axiom A", "axiom A\n"] {
+        let (status, written) = ran_failing(rt.alloc(), script, 3, 0)?;
+        assert_eq!(rt; status, Status::Done);
+        assert_eq!(rt; written.as_slice(), b"ok 0/0\n".as_slice());
     }
     Ok(())
 }
 
 #[test]
 fn a_script_has_at_most_16_777_216_bytes(rt: HostRuntime) -> Result<(), Fail> {
-    for (bytes, status) in [(16_777_216, Status::Done), (16_777_217, Status::TooLong)] {
+    for (bytes, expected) in [(16_777_216, Status::Done), (16_777_217, Status::TooLong)] {
         let feeds = vec![in rt.alloc(); b'\n'; bytes]?;
         let mut source = MemorySource::new(feeds, 65_536, Vec::new(rt.alloc()));
         let mut sink = MemorySink::new(rt.alloc(), 16, 8, Vec::new(rt.alloc()))?;
-        let words = Vec::new(rt.alloc());
-        let ended = lsys(rt.alloc(), words.as_slice(), &mut source, &mut sink);
-        assert_eq!(rt; ended, status);
-        assert_eq!(rt; sink.bytes().len(), 0);
+        let status = status_of(rt.alloc(), &[], &mut source, &mut sink)?;
+        assert_eq!(rt; status, expected);
+        assert!(rt; sink.bytes().is_empty());
     }
+    Ok(())
+}
+
+#[test]
+fn ends_that_never_fail(rt: HostRuntime) -> Result<(), Fail> {
+    let mut source = NeverSource::new(Vec::from_slice(rt.alloc(), ALGAE.as_bytes())?);
+    let mut sink = NeverSink::new();
+    let status = status_of(rt.alloc(), &[], &mut source, &mut sink)?;
+    assert_eq!(rt; status, Status::Done);
+    assert_eq!(rt; sink.count(), 44);
+    Ok(())
+}
+
+/// The source gives 8 bytes a call and fails at one call after another: the replies to the whole lines before are written.
+#[test]
+fn a_source_that_fails_at_each_call(rt: HostRuntime) -> Result<(), Fail> {
+    let written_before = [0, 7, 7, 7, 14, 14, 14, 21, 30, 44];
+    for (place, count) in written_before.iter().enumerate() {
+        let (status, written) = ran_failing(rt.alloc(), ALGAE, place as u64 + 1, 0)?;
+        assert_eq!(rt; status, Status::ReadFault, "call {place}");
+        assert_eq!(rt; written.len(), *count, "call {place}");
+        assert!(rt; ALGAE_REPLIES.as_bytes().starts_with(written.as_slice()));
+    }
+    let (status, _) = ran_failing(rt.alloc(), ALGAE, 11, 0)?;
+    assert_eq!(rt; status, Status::Done);
+    Ok(())
+}
+
+/// The sink takes 4 bytes a call and fails at one call after another: a front of the replies is written.
+#[test]
+fn a_sink_that_fails_at_each_call(rt: HostRuntime) -> Result<(), Fail> {
+    let written_before = [0, 4, 7, 11, 14, 18, 21, 25, 29, 30, 34, 38, 42];
+    for (place, count) in written_before.iter().enumerate() {
+        let (status, written) = ran_failing(rt.alloc(), ALGAE, 0, place as u64 + 1)?;
+        assert_eq!(rt; status, Status::WriteFault, "call {place}");
+        assert_eq!(rt; written.len(), *count, "call {place}");
+        assert!(rt; ALGAE_REPLIES.as_bytes().starts_with(written.as_slice()));
+    }
+    let (status, _) = ran_failing(rt.alloc(), ALGAE, 0, 14)?;
+    assert_eq!(rt; status, Status::Done);
     Ok(())
 }
 

@@ -1,49 +1,80 @@
-use Rattle.std.proofs.Common.{◌≢◌, rules, ◌∙◌, sym, subst}
+use Rattle.std.proofs.Common.{◌≡◌, ◌≢◌, rules, ◌∙◌, refl, ap, sym, subst}
 use Rattle.lsys_io.specs.declared.lines.LineRead.TheVariants.{End}
 use Rattle.lsys_cli.specs.Ends.{Ends}
-use Rattle.lsys_cli.proofs.Steps.{begins, begins_going, begins_within, turned, ended, goes_on, line_is_short}
+use Rattle.lsys_session.specs.Answers.{ends_session}
+use Rattle.lsys_session.specs.declared.outcome.Outcome.TheVariants.{Quit}
+use Rattle.lsys_cli.proofs.Turns.{begins, begins_going, begins_within, turned, stuck, goes_on, quits, too_long, read_fault, write_fault, no_end, read_goes_on, unless_end}
 use Rattle.lsys_cli.proofs.run.run.Goals as goal
 
 pub lines-init : goal.lines-init
 lines-init g c = record {
-  far = begins c.args.session.now.limit c.args.reader.now c.args.session.now.system (g.S.Source.left c.args.source.now) (g.K.Sink.written c.args.sink.now) c.requires.fresh c.requires.opening;
-  holds = c.requires.holds;
-  limit = search rules;
+  far = begins (g.D.Derivation.limit_of c.args.session.now) c.args.reader.now (g.D.Derivation.system_of c.args.session.now) (g.S.Source.left c.args.source.now) (g.K.Sink.written c.args.sink.now)
+      c.new-tally.result.refused c.new-tally.result.memory c.requires.fresh c.requires.opening c.new-tally.ensures.refused c.new-tally.ensures.memory;
+  limit = refl;
   empty = c.requires.empty;
   going = begins_going c.args.reader.now c.requires.fresh;
   within = begins_within c.args.reader.now c.requires.fresh;
-  source = search rules;
-  sink = search rules;
+  source = refl;
+  sink = refl;
 }
 
-pub answer_line-requires-clause-short : goal.answer_line-requires-clause-short
-answer_line-requires-clause-short g c =
-    line_is_short c.in-Ok.read c.lines.reader c.next_line.new.self (g.S.Source.left c.lines.source) (g.S.Source.left c.next_line.new.source) c.line.result.now c.in-Ok.ensures.line c.line.ensures
+pub returns-in-Err-ReadFault-clause-ends : goal.returns-in-Err-ReadFault-clause-ends
+returns-in-Err-ReadFault-clause-ends g c =
+    let going = c.in-Err-ReadFault.ensures.was_going c.lines.invariant.going in
+    read_fault (g.D.Derivation.limit_of c.args.session.now) (g.S.Source.left c.args.source.now) (g.S.Source.left c.lines.source) (g.S.Source.left c.next_line.new.source)
+    (g.K.Sink.written c.args.sink.now) (g.K.Sink.written c.lines.sink) c.lines.reader (g.D.Derivation.system_of c.lines.session) c.lines.tally.refused c.lines.tally.memory
+    going c.lines.invariant.far (rw c.in-Err-ReadFault.field-0-is at (c.in-Err-ReadFault.ensures.read_fault_leaves_no_line going))
 
-pub lines-preserved : goal.lines-preserved
-lines-preserved g c =
+pub returns-in-Err-TooLong-clause-ends : goal.returns-in-Err-TooLong-clause-ends
+returns-in-Err-TooLong-clause-ends g c =
+    let going = c.in-Err-TooLong.ensures.was_going c.lines.invariant.going in
+    too_long (g.D.Derivation.limit_of c.args.session.now) (g.S.Source.left c.args.source.now) (g.S.Source.left c.lines.source) (g.S.Source.left c.next_line.new.source)
+    (g.K.Sink.written c.args.sink.now) (g.K.Sink.written c.lines.sink) c.lines.reader (g.D.Derivation.system_of c.lines.session) c.lines.tally.refused c.lines.tally.memory
+    going c.lines.invariant.within c.lines.invariant.far (rw c.in-Err-TooLong.field-0-is at (c.in-Err-TooLong.ensures.too_long_only_past_limit going))
+
+pub returns-in_default-clause-ends : goal.returns-in_default-clause-ends
+returns-in_default-clause-ends g c =
     let not_end : c.in-Ok.read ≢ End = search rules in
-    record {
-      far = turned c.in-Ok.read c.args.session.now.limit c.lines.session.limit (g.S.Source.left c.args.source.now) (g.S.Source.left c.lines.source) (g.S.Source.left c.next_line.new.source)
-          (g.K.Sink.written c.args.sink.now) (g.K.Sink.written c.lines.sink) (g.K.Sink.written c.answer_line.new.sink) c.lines.reader c.next_line.new.self
-          c.lines.session.system c.answer_line.new.session.system c.lines.tally.refused c.lines.tally.memory c.with-tally.result.refused c.with-tally.result.memory
-          c.line.result.now c.in-Ok-answer_line.outcome not_end c.lines.invariant.limit c.with-tally.ensures.refused c.with-tally.ensures.memory c.lines.invariant.far
-          c.in-Ok.ensures.line c.in-Ok.ensures.long c.line.ensures c.in-Ok-answer_line.ensures.replies (search rules);
-      holds = c.in-Ok-answer_line.ensures.holds;
-      limit = c.answer_line.ensures.limit ∙ c.lines.invariant.limit;
-      empty = c.in-Ok-answer_line.ensures.empty;
-      going = goes_on c.in-Ok.read c.lines.reader c.next_line.new.self (g.S.Source.left c.lines.source) (g.S.Source.left c.next_line.new.source) not_end c.in-Ok.ensures.line c.in-Ok.ensures.long;
-      within = c.next_line.ensures.within;
-      source = c.in-Ok.ensures.else_leaves_count ∙ c.lines.invariant.source;
-      sink = c.in-Ok-answer_line.ensures.ok_leaves_count ∙ c.lines.invariant.sink;
-    }
+    let going = unless_end c.in-Ok.read not_end (c.in-Ok.ensures.was_going c.lines.invariant.going) in
+    let broke = stuck g.K.Sink.written g.K.Sink.faults c.lines.sink c.answer_line.new.sink c.answer_line.new.out c.in-Ok.read (g.D.Derivation.limit_of c.lines.session) c.lines.reader c.next_line.new.self
+    (g.S.Source.left c.lines.source) (g.S.Source.left c.next_line.new.source) (g.D.Derivation.system_of c.lines.session) (g.D.Derivation.system_of c.answer_line.new.session) c.line.result.now c.in_default.field-0
+    not_end c.in-Ok.ensures.line c.in-Ok.ensures.long c.line.ensures c.in_default.ensures.replies in
+    write_fault (g.D.Derivation.limit_of c.args.session.now) (g.D.Derivation.limit_of c.lines.session) (g.S.Source.left c.args.source.now) (g.S.Source.left c.lines.source) (g.S.Source.left c.next_line.new.source)
+    (g.K.Sink.written c.args.sink.now) (g.K.Sink.written c.lines.sink) (g.K.Sink.written c.answer_line.new.sink) c.lines.reader c.next_line.new.self (g.D.Derivation.system_of c.lines.session)
+    c.lines.tally.refused c.lines.tally.memory c.lines.invariant.limit going c.lines.invariant.far broke
 
 pub returns-then-eq-2-clause-ends : goal.returns-then-eq-2-clause-ends
 returns-then-eq-2-clause-ends g c =
     let not_end : c.in-Ok.read ≢ End = search rules in
-    let done = ended c.in-Ok.read c.args.session.now.limit c.lines.session.limit (g.S.Source.left c.args.source.now) (g.S.Source.left c.lines.source) (g.S.Source.left c.next_line.new.source)
-    (g.K.Sink.written c.args.sink.now) (g.K.Sink.written c.lines.sink) (g.K.Sink.written c.answer_line.new.sink) c.lines.reader c.next_line.new.self
-    c.lines.session.system c.answer_line.new.session.system c.lines.tally.refused c.lines.tally.memory c.with-tally.result.refused c.with-tally.result.memory
-    c.line.result.now c.in-Ok-answer_line.outcome not_end c.lines.invariant.limit c.with-tally.ensures.refused c.with-tally.ensures.memory c.lines.invariant.far
-    c.in-Ok.ensures.line c.in-Ok.ensures.long c.line.ensures c.in-Ok-answer_line.ensures.replies (search rules) in
-    subst (Ends c.args.session.now.limit (g.S.Source.left c.args.source.now) (g.K.Sink.written c.args.sink.now) (g.K.Sink.written c.answer_line.new.sink)) (sym c.status-then-eq-2.ensures) done
+    let quit : c.in-Ok-answer_line.outcome ≡ Quit = search rules in
+    let going = unless_end c.in-Ok.read not_end (c.in-Ok.ensures.was_going c.lines.invariant.going) in
+    let turn = turned g.K.Sink.written g.K.Sink.faults c.lines.sink c.answer_line.new.sink c.answer_line.new.out c.in-Ok.read (g.D.Derivation.limit_of c.lines.session) c.lines.reader c.next_line.new.self
+    (g.S.Source.left c.lines.source) (g.S.Source.left c.next_line.new.source) (g.D.Derivation.system_of c.lines.session) (g.D.Derivation.system_of c.answer_line.new.session) c.line.result.now c.in-Ok-answer_line.outcome
+    not_end c.in-Ok.ensures.line c.in-Ok.ensures.long c.line.ensures c.in-Ok-answer_line.ensures.replies in
+    let done = quits (g.D.Derivation.limit_of c.args.session.now) (g.D.Derivation.limit_of c.lines.session) (g.S.Source.left c.args.source.now) (g.S.Source.left c.lines.source) (g.S.Source.left c.next_line.new.source)
+    (g.K.Sink.written c.args.sink.now) (g.K.Sink.written c.lines.sink) (g.K.Sink.written c.answer_line.new.sink) c.lines.reader c.next_line.new.self (g.D.Derivation.system_of c.lines.session) (g.D.Derivation.system_of c.answer_line.new.session)
+    c.lines.tally.refused c.lines.tally.memory c.with-tally.result.refused c.with-tally.result.memory c.in-Ok-answer_line.outcome c.lines.invariant.limit going c.next_line.ensures.within
+    c.with-tally.ensures.refused c.with-tally.ensures.memory c.lines.invariant.far turn (ap ends_session quit) in
+    subst (Ends (g.D.Derivation.limit_of c.args.session.now) (g.S.Source.left c.args.source.now) (g.S.Source.left c.next_line.new.source) (g.K.Sink.written c.args.sink.now) (g.K.Sink.written c.answer_line.new.sink))
+    (sym c.status-then-eq-2.ensures) done
+
+pub lines-preserved : goal.lines-preserved
+lines-preserved g c =
+    let not_end : c.in-Ok.read ≢ End = search rules in
+    let not_quit : c.in-Ok-answer_line.outcome ≢ Quit = search rules in
+    let going = unless_end c.in-Ok.read not_end (c.in-Ok.ensures.was_going c.lines.invariant.going) in
+    let turn = turned g.K.Sink.written g.K.Sink.faults c.lines.sink c.answer_line.new.sink c.answer_line.new.out c.in-Ok.read (g.D.Derivation.limit_of c.lines.session) c.lines.reader c.next_line.new.self
+    (g.S.Source.left c.lines.source) (g.S.Source.left c.next_line.new.source) (g.D.Derivation.system_of c.lines.session) (g.D.Derivation.system_of c.answer_line.new.session) c.line.result.now c.in-Ok-answer_line.outcome
+    not_end c.in-Ok.ensures.line c.in-Ok.ensures.long c.line.ensures c.in-Ok-answer_line.ensures.replies in
+    record {
+      far = goes_on (g.D.Derivation.limit_of c.args.session.now) (g.D.Derivation.limit_of c.lines.session) (g.S.Source.left c.args.source.now) (g.S.Source.left c.lines.source) (g.S.Source.left c.next_line.new.source)
+          (g.K.Sink.written c.args.sink.now) (g.K.Sink.written c.lines.sink) (g.K.Sink.written c.answer_line.new.sink) c.lines.reader c.next_line.new.self (g.D.Derivation.system_of c.lines.session) (g.D.Derivation.system_of c.answer_line.new.session)
+          c.lines.tally.refused c.lines.tally.memory c.with-tally.result.refused c.with-tally.result.memory c.in-Ok-answer_line.outcome c.lines.invariant.limit going c.next_line.ensures.within
+          c.with-tally.ensures.refused c.with-tally.ensures.memory c.lines.invariant.far turn (no_end c.in-Ok-answer_line.outcome not_quit);
+      limit = c.answer_line.ensures.limit ∙ c.lines.invariant.limit;
+      empty = c.answer_line.ensures.empty;
+      going = read_goes_on c.in-Ok.read c.lines.reader c.next_line.new.self (g.S.Source.left c.lines.source) (g.S.Source.left c.next_line.new.source) not_end c.in-Ok.ensures.line c.in-Ok.ensures.long;
+      within = c.next_line.ensures.within;
+      source = c.in-Ok.ensures.else_leaves_count ∙ c.lines.invariant.source;
+      sink = c.in-Ok-answer_line.ensures.ok_leaves_count ∙ c.lines.invariant.sink;
+    }

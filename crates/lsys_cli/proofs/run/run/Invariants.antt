@@ -1,16 +1,15 @@
 use Rattle.std.proofs.Common.{◌≡◌, ◌-◌, ◌≤◌, []}
 use Rattle.lsys_syntax.specs.Limits.{most_script_bytes}
 use Rattle.lsys_io.specs.Reading.{remaining, IsNotRefused}
-use Rattle.lsys_cli.specs.Sessions.{KeepsLevels}
-use Rattle.lsys_cli.proofs.SoFar.{SoFar}
+use Rattle.lsys_cli.proofs.Turns.{SoFar}
 use Rattle.lsys_cli.proofs.run.run.Given as goal
 
 -- the lines so far were answered, and the reader goes on
 abbrev pub invariant-lines : goal.invariant-lines
 invariant-lines g l = record {
-  far : SoFar l.initial.session.limit (g.S.Source.left l.initial.source) (remaining l.reader (g.S.Source.left l.source)) (g.K.Sink.written l.initial.sink) (g.K.Sink.written l.sink) l.session.system l.tally.refused l.tally.memory l.reader.taken;
-  holds : KeepsLevels l.session;
-  limit : l.session.limit ≡ l.initial.session.limit;
+  far : SoFar (g.D.Derivation.limit_of l.initial.session) (g.S.Source.left l.initial.source) l.reader.stage (remaining l.reader (g.S.Source.left l.source)) (g.K.Sink.written l.initial.sink) (g.K.Sink.written l.sink)
+      (g.D.Derivation.system_of l.session) l.tally.refused l.tally.memory l.reader.taken;
+  limit : g.D.Derivation.limit_of l.session ≡ g.D.Derivation.limit_of l.initial.session;
   empty : l.out ≡ [];
   going : IsNotRefused l.reader.stage;
   within : l.reader.taken ≤ most_script_bytes;

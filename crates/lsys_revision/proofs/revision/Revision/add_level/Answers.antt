@@ -82,8 +82,8 @@ push_level-requires-clause-own c =
     named c.in_ok-tags.ensures.used few in
     subst (λ ks. HasOwnTags (c.self.inside.view ++ spots_of c.args.level.symbols ks c.args.level.keys.items ∷ [])) (sym copied) (own_view q.seed q.xs (q.ys ++ q.y ∷ []) _ all)
 
-pub returns : goal.returns
-returns c seed xs ys y so_far next =
+pub returns-clause-added : goal.returns-clause-added
+returns-clause-added c seed xs ys y so_far next =
     let h = inside seed xs ys _ c.args.self.now c.self.view_is so_far in
     let n : c.len.result ≡ length (map line_of c.self.inside.ancestries.items) = search (rules, length-map c.self.inside.ancestries.items line_of) in
     let old = same_line seed xs ys _ (line_of c.line_at-old.result.now) c.len.result h c.line_at-old.ensures n in

@@ -20,8 +20,8 @@ loop-ancestry-preserved c =
     subst (λ ks. MarksAll ks (record { used = []; next = 0 }) c.mark_all.new.self) (sym tags)
     (then_all (record { used = []; next = 0 }) c.loop-ancestry.supply c.mark_all.new.self (all_tags (map line_of (take i olds))) a.tags.items c.loop-ancestry.invariant marked)
 
-pub returns : goal.returns
-returns c seed xs h =
+pub returns-clause-begun : goal.returns-clause-begun
+returns-clause-begun c seed xs h =
     let olds = c.args.olds.now in
     let all : take c.loop-ancestry.ancestry-index olds ≡ olds = take_all c.loop-ancestry.ancestry-index olds c.loop-ancestry-test.false in
     let view : c.new.result ≡ [] = c.new.ensures in

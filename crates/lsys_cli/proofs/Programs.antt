@@ -1,0 +1,114 @@
+-- From a run over a script to the program.
+use Rattle.std.proofs.Common.{◌≡◌, ◌≢◌, ◌⊎◌, ◌+◌, ◌&&◌, ◌||◌, ℕ, Bool, true, false, inl, inr, Option, Some, None, List, [], ◌∷◌, refl, ap, sym, subst, ◌∙◌, arith}
+use Rattle.lsys_spec.specs.Systems.{System}
+use Rattle.lsys_spec.specs.Refusals.{Reply}
+use Rattle.lsys_spec.specs.Replies.{reply}
+use Rattle.lsys_spec.specs.Samples.{sample}
+use Rattle.lsys_spec.specs.Output.{replies_from, followed, reply_or_memory, memory_or, may_lack_memory, any_refusal, any_memory, any_end, none, whole_lines}
+use Rattle.lsys_words.specs.declared.Options.{Options}
+use Rattle.std.specs.Option.{IfSome}
+use Rattle.lsys_words.specs.Words.{HasLimit, options_by}
+use Rattle.lsys_words.proofs.Bounds.{bounded}
+use Rattle.lsys_cli.specs.Ends.{OfScript, Ends, IsWithin, WroteWithin, replies, within_limit}
+use Rattle.lsys_cli.specs.Programs.{IsComplete, OnScript, script_of}
+use Rattle.lsys_cli.specs.declared.status.Status.{Status}
+use Rattle.lsys_cli.specs.declared.status.Status.TheVariants.{Done, Refused, Usage, ReadFault, WriteFault, Memory, TooLong}
+
+-- 1. a sample
+
+-- but for a read fault, nothing is said of what is left
+pub other_left : (limit : ℕ) (script left left' w now : Option (List ℕ)) (status : Status) → status ≢ ReadFault → Ends limit script left w now status → Ends limit script left' w now status
+other_left limit script left left' w now status n e = record {
+  done = e.done;
+  refused = e.refused;
+  memory = e.memory;
+  read_fault = λ r. absurd (n r);
+  write_fault = e.write_fault;
+  too_long = e.too_long;
+  no_usage = e.no_usage;
+}
+
+pub of_sample : (limit n : ℕ) (script : List ℕ) (told : Option (List ℕ)) (J U : Type 0) (left w now : Option (List ℕ)) (status : Status) → script ≡ sample n → status ≢ ReadFault
+    → told ≡ Some script → (J → U) → (((status ≡ Memory) × J) ⊎ Ends limit told left w now status)
+    → ((status ≡ Memory) × U) ⊎ ((left' : Option (List ℕ)) → Ends limit (Some (sample n)) left' w now status)
+of_sample limit n script told J U left w now status e r t k (inl h) = inl (h.0, k h.1)
+of_sample limit n script told J U left w now status e r t k (inr h) =
+    inr (λ left'. other_left limit (Some (sample n)) left left' w now status r (subst (λ s. Ends limit s left w now status) (t ∙ ap Some e) h))
+
+pub by_sample : (o : Options) (n : ℕ) (J U : Type 0) (told left w now : Option (List ℕ)) (status : Status) → o.sample ≡ Some n → (J → U)
+    → (((status ≡ Memory) × J) ⊎ ((left' : Option (List ℕ)) → Ends o.limit (Some (sample n)) left' w now status))
+    → ((status ≡ Memory) × U) ⊎ Ends o.limit (script_of o told) left w now status
+by_sample o n J U told left w now status e k (inl h) = inl (h.0, k h.1)
+by_sample o n J U told left w now status e k (inr h) =
+    let P : Option ℕ → Type 0 = λ s. Ends o.limit (elim s [ None ↦ told | Some m ↦ Some (sample m) ]) left w now status in
+    inr (subst P (sym e) (h left))
+
+-- 2. replies without `refused memory`
+
+bare : (b : Bool) (s : System) (r : Reply) → (memory_or b s r).is_memory ≡ false → memory_or b s r ≡ r
+bare true s r h = cc
+bare false s r h = refl
+
+neither : (a b : Bool) → (a || b) ≡ false → (a ≡ false) × (b ≡ false)
+neither true b h = cc
+neither false b h = (refl, h)
+
+abbrev unless : Bool → List Reply → List Reply
+unless ends xs = elim ends [ true ↦ [] | false ↦ xs ]
+
+tail : (ends : Bool) (xs ys : List Reply) → (any_memory xs ≡ false → xs ≡ ys) → any_memory (unless ends xs) ≡ false → unless ends xs ≡ unless ends ys
+tail true xs ys h m = refl
+tail false xs ys h m = h m
+
+ample : (answer : System → List ℕ → Reply) (M : ℕ → Bool) (n : ℕ) (s : System) (lines : List (List ℕ)) → any_memory (replies_from answer M n s lines) ≡ false → replies_from answer M n s lines ≡ replies_from answer none n s lines
+ample answer M n s [] h = refl
+ample answer M n s (line ∷ lines) h =
+    let r = reply_or_memory answer (M n) s line in
+    let q = answer s line in
+    let same : r ≡ q = bare (M n && may_lack_memory line) s q (neither r.is_memory (any_memory (unless r.ends (replies_from answer M (n + 1) r.next lines))) h).0 in
+    let P : Reply → Type 0 = λ x. any_memory (followed x (λ next. replies_from answer M (n + 1) next lines)) ≡ false in
+    let later = (neither q.is_memory (any_memory (unless q.ends (replies_from answer M (n + 1) q.next lines))) (subst P same h)).1 in
+    ap (λ x. followed x (λ next. replies_from answer M (n + 1) next lines)) same
+    ∙ ap (λ t. q ∷ t) (tail q.ends (replies_from answer M (n + 1) q.next lines) (replies_from answer none (n + 1) q.next lines) (ample answer M (n + 1) q.next lines) later)
+
+-- 3. completeness
+
+apart : {P : Type 0} (b : Bool) → b ≡ true → b ≡ false → P
+apart true e f = cc
+apart false e f = cc
+
+too_long : (limit : ℕ) (w now : Option (List ℕ)) (script : List ℕ) → WroteWithin limit w now script → IsWithin limit script none → (b : Bool) (h : WroteWithin limit w now script)
+    → any_memory (replies limit (whole_lines (within_limit script)) h.lines.lacks) ≡ b → IsComplete TooLong limit w now script
+too_long limit w now script x within true h e = inr (inr (refl, record { lacks = h.lines.lacks; written = h.lines.written; memories = e }))
+too_long limit w now script x (inl short) false h e = absurd (omega (arith, short, h.past))
+too_long limit w now script x (inr quit) false h e =
+    let same = ample (reply limit) h.lines.lacks 1 _ _ e in
+    apart (any_end (replies limit (whole_lines (within_limit script)) none)) quit (ap any_end (sym same) ∙ h.lines.no_quit)
+
+pub complete : (limit : ℕ) (script : List ℕ) (left w now : Option (List ℕ)) (status : Status) → Ends limit (Some script) left w now status → status ≢ ReadFault → status ≢ WriteFault
+    → IsWithin limit script none → any_refusal (replies limit script none) ≡ false → IsComplete status limit w now script
+complete limit script left w now Done e r f within unrefused = inl refl
+complete limit script left w now Refused e r f within unrefused = apart (any_refusal (replies limit script none)) (e.refused refl).refusals unrefused
+complete limit script left w now Usage e r f within unrefused = absurd (e.no_usage refl)
+complete limit script left w now ReadFault e r f within unrefused = absurd (r refl)
+complete limit script left w now WriteFault e r f within unrefused = absurd (f refl)
+complete limit script left w now Memory e r f within unrefused = inr (inl refl)
+complete limit script left w now TooLong e r f within unrefused =
+    let h = e.too_long refl in too_long limit w now script h within (any_memory (replies limit (whole_lines (within_limit script)) h.lines.lacks)) h refl
+
+-- 4. by the words
+
+pub limit_of : (words : List (List ℕ)) (o : Options) → Some o ≡ options_by words → HasLimit o
+limit_of words o e = subst (λ (p : Option Options). IfSome p HasLimit) (sym e) (bounded words)
+
+pub completes : (words : List (List ℕ)) (o : Options) (told left w now : Option (List ℕ)) (status : Status) (U : Type 0) → Some o ≡ options_by words
+    → ((status ≡ Memory) × U) ⊎ Ends o.limit (script_of o told) left w now status → status ≢ ReadFault → status ≢ WriteFault
+    → OnScript (options_by words) told (λ limit script. IsWithin limit script none → any_refusal (replies limit script none) ≡ false → IsComplete status limit w now script)
+completes words o told left w now status U e h r f =
+    subst (λ (p : Option Options). OnScript p told (λ limit script. IsWithin limit script none → any_refusal (replies limit script none) ≡ false → IsComplete status limit w now script)) e (at (script_of o told) h)
+  where
+    at : (s : Option (List ℕ)) → ((status ≡ Memory) × U) ⊎ Ends o.limit s left w now status
+        → OfScript s (λ script. IsWithin o.limit script none → any_refusal (replies o.limit script none) ≡ false → IsComplete status o.limit w now script)
+    at None k = tt
+    at (Some script) (inl k) = λ within unrefused. inr (inl k.0)
+    at (Some script) (inr k) = complete o.limit script left w now status k r f

@@ -1,0 +1,52 @@
+-- Levels of an unfinished derivation are those of a system with less depth.
+use Rattle.std.proofs.Common.{◌≡◌, ℕ, zero, suc, ◌≤◌, Bool, true, false, cond, Some, Result, Ok, Err, List, [], ◌∷◌, ◌++◌, length, refl, ap, ◌∙◌, subst, arith}
+use Rattle.std.specs.Prelude.{slice_get, sum_by, nat_lt}
+use Rattle.std.proofs.lemmas.Bool.Decides.{nat_tests}
+use Rattle.lsys_spec.specs.Systems.{System, WellSpelled}
+use Rattle.lsys_spec.specs.Values.{◌and_then◌}
+use Rattle.lsys_spec.specs.Levels.{Symbol, level_balanced}
+use Rattle.lsys_spec.specs.Cuts.{Rising}
+use Rattle.lsys_spec.specs.Meaning.{LevelRefusal, OverLimit, first_level, next_level, last_level, within_limit, meaning_to}
+use Rattle.lsys_spec.proofs.LevelInduction.{ok_parts}
+use Rattle.lsys_spec.proofs.Offspring.{has_balance, grown}
+
+same_to : (s : System) (limit d n : ℕ) → meaning_to (record s { depth = d }) limit n ≡ meaning_to s limit n
+same_to s limit d zero = refl
+same_to s limit d (suc n) =
+    ap (λ (r : Result (List (List Symbol)) LevelRefusal). r and_then λ levels. next_level s n (last_level levels) and_then λ x. within_limit limit (suc n) (levels ++ x ∷ [])) (same_to s limit d n)
+
+pub level_grown : (s : System) (limit t : ℕ) (ys : List (List Symbol)) → WellSpelled s → meaning_to s limit t ≡ Ok ys → (u : ℕ) (x : List Symbol) → slice_get ys u ≡ Some x → Rising x × (level_balanced 0 x ≡ true)
+level_grown s limit t ys w h u x e =
+    let spelled : WellSpelled (record s { depth = t }) = record {
+      rules = w.rules;
+      homomorphisms = w.homomorphisms;
+      rules_sound = w.rules_sound;
+      homomorphisms_sound = w.homomorphisms_sound;
+      axiom_symbols = w.axiom_symbols;
+      axiom_balanced = w.axiom_balanced;
+      ignored_names = w.ignored_names;
+      ignored_once = w.ignored_once;
+      words = w.words;
+      small_seed = w.small_seed;
+    } in
+    let g = grown (record s { depth = t }) (has_balance (record s { depth = t }) spelled) limit ys (same_to s limit t t ∙ h) u x e in
+    (g.rises, g.is_balanced)
+
+under : (limit t : ℕ) (xs ys : List (List Symbol)) → within_limit limit t xs ≡ Ok ys → sum_by length ys ≤ limit
+under limit t xs ys h = by (nat_lt limit (sum_by length xs)) refl h
+  where
+    by : (b : Bool) → nat_lt limit (sum_by length xs) ≡ b → cond b (Err (OverLimit t)) (Ok xs) ≡ Ok ys → sum_by length ys ≤ limit
+    by true e k = cc
+    by false e k = let same : xs ≡ ys = cc in subst (λ (ys : List (List Symbol)). sum_by length ys ≤ limit) same (grind (arith, nat_tests))
+
+pub within : (s : System) (limit t : ℕ) (ys : List (List Symbol)) → meaning_to s limit t ≡ Ok ys → sum_by length ys ≤ limit
+within s limit zero ys h = under limit 0 (first_level s ∷ []) ys h
+within s limit (suc t) ys h =
+    let before = ok_parts (meaning_to s limit t) _ ys h in
+    let here = ok_parts (next_level s t (last_level before.0)) _ ys before.2 in
+    under limit (suc t) (before.0 ++ here.0 ∷ []) ys here.2
+
+pub last_push : (xs : List (List Symbol)) (x : List Symbol) → last_level (xs ++ x ∷ []) ≡ x
+last_push [] x = refl
+last_push (y ∷ []) x = refl
+last_push (y ∷ z ∷ xs) x = last_push (z ∷ xs) x

@@ -1,0 +1,113 @@
+-- Level 0 is planned.
+use Rattle.std.proofs.Common.{◌≡◌, ℕ, ◌+◌, ◌-◌, ◌<◌, ◌≤◌, Option, Some, None, Result, Ok, Err, List, [], ◌∷◌, ◌++◌, length, refl, sym, ap, ◌∙◌, subst, arith}
+use Rattle.std.specs.Prelude.{OnOk, IfErr, sum_by, slice_get}
+use Rattle.std.proofs.lemmas.List.Sums.{sum_by-cons}
+use Rattle.lsys_spec.specs.Systems.{System}
+use Rattle.lsys_spec.specs.Draws.{key_of}
+use Rattle.lsys_spec.specs.Levels.{Symbol, Push, lineage}
+use Rattle.lsys_spec.specs.Cuts.{Raw}
+use Rattle.lsys_spec.specs.Meaning.{OverLimit, first_level, meaning, numbered}
+use Rattle.lsys_spec.specs.Questions.{Question, questions}
+use Rattle.lsys_laws.specs.Sessions.{IsWell}
+use Rattle.lsys_walks.specs.Stores.{Store}
+use Rattle.lsys_match.specs.Kept.{Kept}
+use Rattle.lsys_rewrite.specs.declared.refusal.DeriveRefusal.{DeriveRefusal}
+use Rattle.lsys_rewrite.specs.declared.refusal.DeriveRefusal.TheVariants as refusals
+use Rattle.lsys_module.specs.Views.{string_of}
+use Rattle.lsys_module.specs.declared.symbol.Symbol.{Symbol as Code}
+use Rattle.lsys_level.specs.Spots.{Spotted}
+use Rattle.lsys_offspring.specs.Grown.{Grown, IsGrown, IsMade, nothing_grown}
+use Rattle.lsys_round.proofs.Beginning.{none_grown}
+use Rattle.lsys_offspring.specs.declared.level.Level.{Level}
+use Rattle.lsys_offspring.proofs.Limiting.{begins_over}
+use Rattle.lsys_pairing.specs.Origins.{root}
+use Rattle.lsys_revision.specs.Lines.{Line}
+use Rattle.lsys_revision.specs.Revised.{AreOldLevels, IsNext, IsRevised, Revised}
+use Rattle.lsys_counts.specs.Counted.{all_slots_in}
+use Rattle.lsys_round.specs.Rounds.{entries_of}
+use Rattle.lsys_flat.specs.Drafts.{AreOlds, CanAdd, Drafted, HasFound, IsAdded, IsDraft, IsEmpty, IsLonger, IsRefusal}
+use Rattle.lsys_flat.proofs.Depths.{within}
+use Rattle.lsys_flat.proofs.DraftingLevels.{begins, is_next, same_length}
+
+-- the axiom with its cuts
+abbrev pub axiom_of : System → List Raw
+axiom_of s = numbered 0 [] s.axiom_string
+
+pub can_begin : (s : System) (limit : ℕ) (old_lines : List Line) (xs : List (List Symbol)) (d : Drafted) (r : Option Level) → IsWell s → IsEmpty limit old_lines d → AreOldLevels xs old_lines → sum_by length xs ≤ 1000000 → limit ≤ 1000000
+    → IsMade s.seed root (axiom_of s) d.room r → CanAdd d r
+can_begin s limit old_lines xs d None w e olds few small h = tt
+can_begin s limit old_lines xs d (Some level) w e olds few small h =
+    let next = is_next s limit 0 xs [] (first_level s) level w.1 (begins s limit (omega (arith, h.0, e.room))) few small h.1 in (
+      record { seed = s.seed; xs = xs; ys = []; y = first_level s; so_far = e.begun s.seed xs olds; next = next },
+      omega (arith, h.0, same_length (first_level s) level.symbols h.1.string),
+    )
+
+pub begun : {A : Type 0} (s : System) (limit : ℕ) (old_lines : List Line) (xs : List (List Symbol)) (kept : List (List (Option Kept))) (begin : Store) (before : ℕ) (d now : Drafted) (r : Option Level) (result : Result A DeriveRefusal)
+    → IsWell s → IsEmpty limit old_lines d → AreOlds limit xs old_lines kept begin → IsMade s.seed root (axiom_of s) d.room r → IsAdded 0 r d now result
+    → OnOk result (IsDraft s limit xs old_lines kept begin begin before before 0 now)
+begun s limit old_lines xs kept begin before d now None (Ok done) w e olds h a = absurd a
+begun s limit old_lines xs kept begin before d now None (Err k) w e olds h a = tt
+begun s limit old_lines xs kept begin before d now (Some level) (Err k) w e olds h a = tt
+begun s limit old_lines xs kept begin before d now (Some level) (Ok done) w e olds h a =
+    let y = first_level s in
+    let meant = begins s limit (omega (arith, h.0, e.room)) in
+    let few : sum_by length xs ≤ 1000000 = omega (arith, within olds.old limit olds.old.depth xs olds.meant, olds.small) in
+    let next = is_next s limit 0 xs [] y level w.1 meant few olds.small h.1 in
+    let fresh : now.fresh ≡ [] = ap (λ (d : Drafted). d.fresh) a.is ∙ e.fresh in
+    let taken : now.taken ≡ [] = ap (λ (d : Drafted). d.taken) a.is ∙ e.taken in
+    let one = sum_by-cons (length {A = Symbol}) y [] in
+    record {
+      ys = y ∷ [];
+      meant = meant;
+      levels = refl;
+      revised = a.grows s.seed xs [] y (e.begun s.seed xs olds.olds) next;
+      old = a.olds ∙ e.old;
+      room = omega (arith, a.room, e.room, one, same_length y level.symbols h.1.string);
+      found = (ap (λ (fs : List (List (Option Kept))). all_slots_in begin fs) fresh, taken);
+      long = rw fresh (omega (arith, one));
+      read = omega arith;
+      few = omega arith;
+    }
+
+pub begun_found : {A : Type 0} (limit : ℕ) (old_lines : List Line) (d now : Drafted) (r : Option Level) (result : Result A DeriveRefusal) → IsEmpty limit old_lines d → IsAdded 0 r d now result → OnOk result (HasFound 0 now)
+begun_found limit old_lines d now None (Ok done) e a = absurd a
+begun_found limit old_lines d now None (Err k) e a = tt
+begun_found limit old_lines d now (Some level) (Err k) e a = tt
+begun_found limit old_lines d now (Some level) (Ok done) e a =
+    let fresh : now.fresh ≡ [] = ap (λ (d : Drafted). d.fresh) a.is ∙ e.fresh in
+    let taken : now.taken ≡ [] = ap (λ (d : Drafted). d.taken) a.is ∙ e.taken in
+    let asked : now.asked ≡ 0 = ap (λ (d : Drafted). d.asked) a.is ∙ e.asked in
+    let all : now.all ≡ 0 = ap (λ (d : Drafted). d.all) a.is ∙ e.all in
+    record { each_fresh = ap length fresh; each_taken = ap length taken; asked = rw fresh asked; all = rw (fresh, taken) all; few = rw fresh (omega (arith, all)) }
+
+pub begun_refused : {A : Type 0} (s : System) (limit : ℕ) (old_lines : List Line) (d now : Drafted) (r : Option Level) (result : Result A DeriveRefusal) → IsEmpty limit old_lines d → IsMade s.seed root (axiom_of s) d.room r → IsAdded 0 r d now result
+    → IfErr result (IsRefusal s limit)
+begun_refused s limit old_lines d now None (Ok done) e h a = absurd a
+begun_refused s limit old_lines d now None (Err k) e h a = subst (IsRefusal s limit) (sym a) (begins_over s limit (omega (arith, h, e.room)))
+begun_refused s limit old_lines d now (Some level) (Ok done) e h a = tt
+begun_refused s limit old_lines d now (Some level) (Err k) e h a = subst (IsRefusal s limit) (sym a) tt
+
+pub axiom_made : (s : System) (room key : ℕ) (g before : Grown) (symbols : List Code) (r : Option Level) → before ≡ nothing_grown room → key ≡ s.seed → string_of symbols ≡ s.axiom_string
+    → ((seed : ℕ) (above : List Symbol) (raw : List Raw) (parent : Symbol) → IsGrown seed above raw before → slice_get above before.parents ≡ Some parent → key ≡ key_of seed (lineage parent) → IsGrown seed above (raw ++ numbered 0 (lineage parent) (string_of symbols)) g)
+    → g.room ≡ before.room → ((seed : ℕ) (above : List Symbol) (raw : List Raw) → IsGrown seed above raw g → IsMade seed above raw g.room r) → IsMade s.seed root (axiom_of s) room r
+axiom_made s room key g before symbols r is is_key string grows same finishes =
+    let none : IsGrown s.seed root [] before = subst (IsGrown s.seed root []) (sym is) (none_grown s.seed root room) in
+    let there : slice_get root before.parents ≡ Some (Push []) = ap (λ (g : Grown). slice_get root g.parents) is in
+    let one = grows s.seed root [] (Push []) none there is_key in
+    let all : IsGrown s.seed root (axiom_of s) g = subst (λ xs. IsGrown s.seed root (numbered 0 [] xs) g) string one in
+    subst (λ n. IsMade s.seed root (axiom_of s) n r) (same ∙ ap (λ (g : Grown). g.room) is) (finishes s.seed root (axiom_of s) all)
+
+pub longer : (level : Level) (old : Drafted) (r now : Revised) (fresh : List (List (Option Kept))) (taken : List (List (Option ℕ))) (room asked all n : ℕ) → old ≡ record { revised = r; fresh = fresh; taken = taken; room = room; asked = asked; all = all }
+    → n ≡ length level.symbols → CanAdd old (Some level) → ((seed : ℕ) (xs ys : List (List Symbol)) (y : List Symbol) → IsRevised seed xs ys r → IsNext seed xs ys y level → IsRevised seed xs (ys ++ y ∷ []) now)
+    → now.old_lines ≡ r.old_lines → (row : List Spotted) → now.view ≡ r.view ++ row ∷ [] → IsLonger level old (record { revised = now; fresh = fresh; taken = taken; room = room - n; asked = asked; all = all })
+longer level old r now fresh taken room asked all n is size can grows olds row above =
+    let same : old.room ≡ room = ap (λ (d : Drafted). d.room) is in
+    let revised : r ≡ old.revised = sym (ap (λ (d : Drafted). d.revised) is) in
+    record {
+      is = sym (ap (λ (d : Drafted). record d { revised = now; room = room - n }) is);
+      room = omega (arith, same, size, can.1);
+      grows = subst (λ (r : Revised). (seed : ℕ) (xs ys : List (List Symbol)) (y : List Symbol) → IsRevised seed xs ys r → IsNext seed xs ys y level → IsRevised seed xs (ys ++ y ∷ []) now) revised grows;
+      olds = olds ∙ ap (λ (r : Revised). r.old_lines) revised;
+      last = row;
+      above = above ∙ ap (λ (r : Revised). r.view ++ row ∷ []) revised;
+    }

@@ -1,0 +1,10 @@
+use Rattle.std.proofs.Common.{◌≡◌, ◌+◌, Option, Some, drop, length, sym, ap, ◌∙◌, arith}
+use Rattle.std.specs.Prelude.{slice_get}
+use Rattle.lsys_counts.specs.Slots.{filled}
+use Rattle.lsys_round.proofs.News.{filled_most}
+use Rattle.lsys_flat.proofs.draft.count_filled.Goals as goal
+
+pub overflow_add-count : goal.overflow_add-count
+overflow_add-count g c =
+    let most = filled_most c.args.slots.now in
+    omega (arith, most, c.loop-slot.invariant, c.requires)

@@ -1,0 +1,74 @@
+//! All levels of a changed system, planned beside the old ones.
+ghost use Rattle.std.specs.Prelude.{◌≡◌, ◌+◌, ◌*◌, ℕ, List, IfErr, IfOk, OnErr, OnOk, map};
+ghost use Rattle.lsys_spec.specs.Levels as levels;
+ghost use Rattle.lsys_match.specs.Derivations.{Rises, most_read};
+ghost use Rattle.lsys_revision.specs.Lines.{line_of};
+ghost use Rattle.lsys_keeping.specs.Answers.{lists_of};
+ghost use Rattle.lsys_round.specs.Rounds.{StayMade};
+ghost use Rattle.lsys_flat.specs.Drafts.{AreAllNew, AreOlds, IsPlanned, IsRefusal};
+
+use crate::draft::Draft;
+use lsys_keeping::release_all;
+use lsys_level::FlatLevels;
+use lsys_match::{Answer, AnswerStore, Steps};
+use lsys_revision::Ancestry;
+use lsys_rewrite::{DeriveRefusal, EditCount};
+use lsys_rules::System;
+use std::alloc::Global;
+use std::sync::ledger::Ledger;
+
+/// What is kept of the old levels.
+#[derive(Drop)]
+pub(crate) struct Olds<'a, L: Ledger> {
+    pub(crate) ancestries: &'a [Ancestry],
+    pub(crate) answers: &'a [Vec<Option<Answer<L>>>],
+}
+
+/// The levels of a changed system, planned beside the old ones.
+#[derive(Drop)]
+pub(crate) struct Plan<L: Ledger> {
+    pub(crate) view: FlatLevels,
+    pub(crate) ancestries: Vec<Ancestry>,
+    pub(crate) fresh: Vec<Vec<Option<Answer<L>>>>,
+    pub(crate) taken: Vec<Vec<Option<u32>>>,
+    pub(crate) count: EditCount,
+}
+
+/// Plans all levels of a system beside the old levels, under a limit. `asked` rises by the new answers, and `visited` by the
+/// entries of all questions.
+///
+/// # Errors
+///
+/// `Fault` and `Limit` are the refusal of the system, exactly where it has no levels under the limit, and `Memory` is want of
+/// memory. All new answers are let go then.
+pub(crate) fn planned<L: Ledger, V: Ledger>(
+    alloc: Global,
+    olds: &Olds<'_, L>,
+    limit: u32,
+    system: &System,
+    store: &mut AnswerStore,
+    asked: &mut Steps<L>,
+    visited: &mut Steps<V>,
+) -> Result<Plan<L>, DeriveRefusal>
+    requires { (xs : List (List levels.Symbol)) × AreOlds limit xs (map line_of olds.now.ancestries.now) (lists_of olds.now.answers.now) store.old }
+    ensures planned { (xs : List (List levels.Symbol))
+        → AreOlds limit xs (map line_of olds.now.ancestries.now) (lists_of olds.now.answers.now) store.old
+        → IfOk result (λ p. IsPlanned system.now limit xs (map line_of olds.now.ancestries.now)
+        (lists_of olds.now.answers.now) store.old store.new visited.old visited.new p.view
+        (map line_of p.ancestries.items) (lists_of p.fresh.items) (lists_of p.taken.items) p.count) }
+    ensures new { IfOk result (λ p. AreAllNew store.old store.new (lists_of p.fresh.items)) }
+    ensures asked { IfOk result (λ p. asked.new ≡ asked.old + p.count.asked) }
+    ensures stay { OnErr result (StayMade store.old store.new) }
+    ensures refused { IfErr result (IsRefusal system.now limit) }
+    ensures few_asked { OnErr result (Rises 0 limit asked.old asked.new) }
+    ensures few_read { OnErr result (Rises 0 (most_read * limit) visited.old visited.new) }
+{
+    let mut draft = Draft::new(alloc, olds.ancestries, limit)?;
+    match draft.complete(olds, system, store, asked, visited) {
+        Ok(()) => Ok(draft.finish()),
+        Err(refusal) => {
+            draft.release(store);
+            Err(refusal)
+        }
+    }
+}

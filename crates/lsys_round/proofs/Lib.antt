@@ -1,0 +1,9 @@
+pub mod Seen
+pub mod Entries
+pub mod News
+pub mod Finding
+pub mod Going
+pub mod Refusing
+pub mod Settled
+pub mod Rows
+pub mod Beginning

@@ -1,0 +1,46 @@
+use Rattle.std.proofs.Common.{rules, ◌≡◌, ◌+◌, ℕ, List, Ok, Err, OnErr, length, refl, sym, ap, ◌∙◌, subst, arith}
+use Rattle.lsys_counts.specs.Slots.{filled}
+use Rattle.lsys_level.specs.Spots.{level_at}
+use Rattle.lsys_rewrite.specs.declared.refusal.DeriveRefusal.{DeriveRefusal}
+use Rattle.lsys_round.specs.Rounds.{AreNew, AskedTo, IsAt, IsNoRound, Rounded, nothing_asked, told}
+use Rattle.lsys_round.proofs.Seen.{row_length}
+use Rattle.lsys_round.proofs.News.{made_still}
+use Rattle.lsys_round.proofs.Beginning.{none_at, none_asked, none_new}
+use Rattle.lsys_round.proofs.round.Round.ask_level.Goals as goal
+
+pub loop-place-init : goal.loop-place-init
+loop-place-init g c =
+    let room = c.args.self.now.next.room in
+    record {
+      at = subst (IsAt 0) (sym c.requires.new) (none_at room);
+      new = subst (λ (r : Rounded). AreNew c.args.store.now c.args.store.now r.fresh) (sym c.requires.new) (none_new c.args.store.now);
+      made = c.requires.made;
+      asked = let none : filled c.args.self.now.fresh ≡ 0 = ap (λ (r : Rounded). filled r.fresh) c.requires.new in omega (arith, none);
+      room = refl;
+      going = λ naming x is.
+          subst (λ (r : Rounded). AskedTo c.args.beside.now.system.now c.args.beside.now.level (level_at c.args.beside.now.view.now c.args.beside.now.level) x (told c.args.store.now c.args.beside.now.olds.now) c.args.beside.now.mates.now c.args.store.now r c.args.visited.now c.args.visited.now 0)
+          (sym c.requires.new) (none_asked c.args.beside.now.system.now c.args.beside.now.level (level_at c.args.beside.now.view.now c.args.beside.now.level) x (told c.args.store.now c.args.beside.now.olds.now) c.args.beside.now.mates.now c.args.store.now room c.args.visited.now);
+    }
+
+pub returns-in_err-ask_next-clause-round : goal.returns-in_err-ask_next-clause-round
+returns-in_err-ask_next-clause-round g c = λ naming x is.
+    let no = c.in_err-ask_next.ensures.refused c.args.store.now c.args.visited.now naming x is (c.loop-place.invariant.going naming x is) in
+    let goes : c.from_residual.result ≡ Err c.in_err-ask_next.field-0.0 = search rules in
+    rw goes no
+
+pub loop-place-preserved : goal.loop-place-preserved
+loop-place-preserved g c = record {
+  at = c.in_ok-ask_next.ensures.next;
+  new = c.in_ok-ask_next.ensures.new c.args.store.now c.loop-place.invariant.new;
+  made = made_still c.loop-place.store c.ask_next.new.store c.args.beside.now.olds.now c.in_ok-ask_next.ensures.stay c.loop-place.invariant.made;
+  asked = omega (arith, c.in_ok-ask_next.ensures.asked, c.loop-place.invariant.asked);
+  room = c.in_ok-ask_next.ensures.room ∙ c.loop-place.invariant.room;
+  going = λ naming x is. c.in_ok-ask_next.ensures.going c.args.store.now c.args.visited.now naming x is c.requires.made c.loop-place.invariant.new (c.loop-place.invariant.going naming x is);
+}
+
+pub returns-clause-round : goal.returns-clause-round
+returns-clause-round g c = λ naming x is.
+    let row = level_at c.args.beside.now.view.now c.args.beside.now.level in
+    let n : length x ≡ length row = row_length naming c.args.beside.now.system.now.seed row x is in
+    let at : c.loop-place.place ≡ length x = omega (arith, n, c.requires.level.each, c.loop-place-test.false, c.loop-place.auto.place-end) in
+    subst (AskedTo c.args.beside.now.system.now c.args.beside.now.level row x (told c.args.store.now c.args.beside.now.olds.now) c.args.beside.now.mates.now c.loop-place.store c.loop-place.self c.args.visited.now c.loop-place.visited) at (c.loop-place.invariant.going naming x is)

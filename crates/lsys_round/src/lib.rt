@@ -1,0 +1,10 @@
+//! A round of questions: all symbols of a level are asked about, from left to right, and replaced.
+//!
+//! What is answered anew is kept beside what was kept of the old level, which is only read.
+#![tactic(auto)]
+
+mod beside;
+mod round;
+
+pub use beside::Beside;
+pub use round::{Asked, Round};

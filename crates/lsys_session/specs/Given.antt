@@ -1,0 +1,93 @@
+-- What a request is answered, where memory may be wanting.
+use Rattle.std.specs.Prelude.{◌≡◌, ◌≤◌, ℕ, Some, None, Bool, true, false, ◌&&◌, ◌++◌, Option, Result, IfOk, List, codes}
+use Rattle.lsys_io.specs.declared.Failed.{Failed}
+use Rattle.lsys_laws.specs.Sessions.{IsWell, HasLevels}
+use Rattle.lsys_spec.specs.Systems.{System}
+use Rattle.lsys_spec.specs.Lattices.{Lattice}
+use Rattle.lsys_spec.specs.Pictures.{Segment, PictureRefusal}
+use Rattle.lsys_spec.specs.PictureTexts.{segments_text, svg_text}
+use Rattle.lsys_spec.specs.Refusals.{Reply, line_feed}
+use Rattle.lsys_spec.specs.Replies.{shown, or_text, picture_refusal_text}
+use Rattle.lsys_spec.specs.Output.{memory_or}
+use Rattle.lsys_session.specs.Requests.{reply_to}
+use Rattle.lsys_session.specs.Sessions.{Says}
+use Rattle.lsys_session.specs.declared.outcome.Outcome.{Outcome}
+use Rattle.lsys_session.specs.declared.outcome.Outcome.TheVariants as outcomes
+use Rattle.lsys_session.specs.declared.pictures.Picture.{Picture}
+use Rattle.lsys_session.specs.declared.pictures.Picture.TheVariants as pictures
+use Rattle.lsys_session.specs.declared.request.Request.{Request}
+use Rattle.lsys_session.specs.declared.request.Request.TheVariants.{Nothing, Edit, Segments, Svg, Quit}
+
+-- 1. what a session keeps
+
+-- a well-formed and well-spelled system that has its levels under a limit of at most 1,000,000 symbols
+pub record IsKept (limit : ℕ) (s : System) : Type 0 where
+  pub limited : limit ≤ 1000000
+  pub well : IsWell s
+  pub levels : HasLevels limit s
+
+-- 2. replies to requests
+
+abbrev pub is_something : Request → Bool
+is_something Nothing = false
+is_something r = true
+
+abbrev pub is_edit : Request → Bool
+is_edit (Edit next) = true
+is_edit r = false
+
+-- the reply to a request; want of memory may stand in its place, but not where nothing is asked
+abbrev pub given : ℕ → System → Request → Bool → Reply
+given limit s r lacks = memory_or (lacks && is_something r) s (reply_to limit s r)
+
+-- what becomes of a request that isn't refused
+abbrev pub done : Request → Outcome
+done Nothing = outcomes.Skipped
+done (Edit next) = outcomes.Accepted
+done Quit = outcomes.Quit
+done r = outcomes.Printed
+
+-- what becomes of one that is answered so
+abbrev pub unless_refused : Outcome → Reply → Outcome
+unless_refused o r = elim r.is_memory [ true ↦ outcomes.Memory | false ↦ elim r.is_refusal [ true ↦ outcomes.Refused | false ↦ o ] ]
+
+-- the reply to the request, or `refused memory`, was put whole, and the new system is the reply's
+pub record Gives {K : Type 0} (written : K → Option (List ℕ)) (faults : K → ℕ) (sink_old sink_new : K) (held : List ℕ) (limit : ℕ) (old new : System) (request : Request) (result : Result Outcome Failed)
+    : Type 0 where
+  pub lacks : Bool
+  pub says : Says written faults sink_old sink_new held (given limit old request lacks).text (unless_refused (done request) (given limit old request lacks)) result
+  pub next : IfOk result (λ o. new ≡ (given limit old request lacks).next)
+
+-- 3. queries
+
+-- this reply, or `refused memory`, was put whole
+pub record Prints {K : Type 0} (written : K → Option (List ℕ)) (faults : K → ℕ) (sink_old sink_new : K) (held : List ℕ) (s : System) (reply : Reply) (result : Result Outcome Failed) : Type 0 where
+  pub lacks : Bool
+  pub says : Says written faults sink_old sink_new held (memory_or lacks s reply).text (unless_refused outcomes.Printed (memory_or lacks s reply)) result
+
+-- what asks for a picture
+abbrev pub picture_request : Picture → Request
+picture_request pictures.Segments = Segments
+picture_request pictures.Svg = Svg
+
+-- the number of the level that is asked for, the last without one; one that is past the last isn't
+abbrev pub level_number : ℕ → Option ℕ → ℕ
+level_number depth None = depth
+level_number depth (Some t) = t
+
+abbrev pub IsWithin : ℕ → Option ℕ → Type 0
+IsWithin depth None = Unit {0}
+IsWithin depth (Some t) = t ≤ depth
+
+-- the text of a picture's segments on a lattice
+abbrev pub picture_text : Picture → Lattice → List Segment → List ℕ
+picture_text pictures.Segments l = segments_text
+picture_text pictures.Svg l = svg_text l
+
+-- the reply that tells this picture of a system
+abbrev pub picture_reply : Picture → System → Result (List Segment) PictureRefusal → Reply
+picture_reply kind s p = shown s (picture_text kind s.lattice) (or_text picture_refusal_text p)
+
+-- a picture's refusal
+abbrev pub picture_line : PictureRefusal → List ℕ
+picture_line r = codes "refused " ++ picture_refusal_text r ++ line_feed

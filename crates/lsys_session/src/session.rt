@@ -1,0 +1,193 @@
+//! Sessions: one line after another.
+ghost use Rattle.std.specs.Prelude.{◌≡◌, ◌≤◌, [], true, IfOk};
+ghost use Rattle.lsys_spec.specs.Systems.{opening};
+ghost use Rattle.lsys_session.specs.Answers.{Answers, Counts, is_derived};
+ghost use Rattle.lsys_session.specs.Given.{Gives, IsWithin, is_edit, level_number, picture_request};
+ghost use Rattle.lsys_session.specs.Requests.{HasLevel};
+ghost use Rattle.lsys_session.specs.declared.request.Request.TheVariants as requests;
+
+use crate::outcome::Outcome;
+use crate::pictures::{Picture, print_picture};
+use crate::request::{Request, request_of};
+use crate::sayings::{accept, print_line, refuse, refuse_edit, show_system};
+use lsys_io::{Buffered, Failed, Sink};
+use lsys_level::copy_level;
+use lsys_match::{Derivation, Steps};
+use lsys_rules::{Refusal, System};
+use std::alloc::{AllocError, Global};
+use std::marker::{Model, PhantomData};
+use std::sync::ledger::Ledger;
+
+/// A line has at most so many bytes.
+const MOST_LINE_BYTES: usize = 65536;
+
+/// A system that is edited and asked, with its levels under a limit of at most 1,000,000 symbols. Contracts see it as the
+/// derivation that it keeps.
+#[derive(Drop)]
+pub struct Session<L: Ledger, D: Derivation<L>> {
+    derivation: D,
+    ledger: PhantomData<L>,
+}
+
+impl<L: Ledger, D: Derivation<L>> Model for Session<L, D> {
+    ghost use Rattle.lsys_session.specs.Given.{IsKept};
+
+    ghost Value = { D };
+
+    ghost view = { λ s. s.derivation };
+
+    ghost invariant = { λ s. IsKept (D.limit_of s.derivation) (D.system_of s.derivation) };
+}
+
+impl<L: Ledger, D: Derivation<L>> Session<L, D> {
+    /// The opening system with its level, under a limit of at most 1,000,000 symbols.
+    ///
+    /// # Errors
+    ///
+    /// Want of memory.
+    pub fn start(alloc: Global, limit: u32) -> Result<Session<L, D>, AllocError>
+        requires { limit ≤ 1000000 }
+        ensures system { IfOk result (λ s. D.system_of s ≡ opening) }
+        ensures limit { IfOk result (λ s. D.limit_of s ≡ limit) }
+    {
+        Ok(Session {
+            derivation: D::start(alloc, limit)?,
+            ledger: PhantomData,
+        })
+    }
+
+    /// Answers a line without its LF and its CR: puts its reply, and goes on from the reply's system.
+    ///
+    /// An accepted edit asks the questions that are new, and an edit whose levels are refused or for which memory is wanting
+    /// at most as many as the limit has symbols; nothing else asks any.
+    ///
+    /// # Errors
+    ///
+    /// The sink failed; a front of the reply was written then, and nothing more is promised of the session but its limit.
+    pub fn command<K: Sink, V: Ledger>(
+        &mut self,
+        alloc: Global,
+        line: &[u8],
+        out: &mut Buffered,
+        sink: &mut K,
+        asked: &mut Steps<L>,
+        visited: &mut Steps<V>,
+    ) -> Result<Outcome, Failed>
+        requires { out.old ≡ [] }
+        ensures answers { Answers K.written K.faults sink.old sink.new out.new (D.limit_of self.old)
+            (D.system_of self.old) (D.system_of self.new) line.now result }
+        ensures limit { D.limit_of self.new ≡ D.limit_of self.old }
+        ensures counts { Counts D.visits (D.limit_of self.old) (is_derived (D.system_of self.old) line.now)
+            (D.system_of self.old) (D.system_of self.new) (record { asked = asked.old; visited = visited.old })
+            (record { asked = asked.new; visited = visited.new }) result }
+    {
+        if line.len() > MOST_LINE_BYTES {
+            return refuse(out, sink, Refusal::LongLine);
+        }
+        match request_of(alloc, self.derivation.system(), line) {
+            Ok(request) => self.answer(alloc, request, out, sink, asked, visited),
+            Err(refusal) => refuse(out, sink, refusal),
+        }
+    }
+
+    // Answers a request.
+    fn answer<K: Sink, V: Ledger>(
+        &mut self,
+        alloc: Global,
+        request: Request,
+        out: &mut Buffered,
+        sink: &mut K,
+        asked: &mut Steps<L>,
+        visited: &mut Steps<V>,
+    ) -> Result<Outcome, Failed>
+        requires empty { out.old ≡ [] }
+        requires level { HasLevel (D.system_of self.old) request }
+        ensures gives { Gives K.written K.faults sink.old sink.new out.new (D.limit_of self.old)
+            (D.system_of self.old) (D.system_of self.new) request result }
+        ensures limit { D.limit_of self.new ≡ D.limit_of self.old }
+        ensures counts { Counts D.visits (D.limit_of self.old) (is_edit request)
+            (D.system_of self.old) (D.system_of self.new) (record { asked = asked.old; visited = visited.old })
+            (record { asked = asked.new; visited = visited.new }) result }
+    {
+        match request {
+            Request::Nothing => Ok(Outcome::Skipped),
+            Request::Edit(next) => self.edit(alloc, next, out, sink, asked, visited),
+            Request::String { level } => self.print_level(alloc, level, out, sink),
+            Request::Segments => self.print_picture(alloc, Picture::Segments, out, sink),
+            Request::Svg => self.print_picture(alloc, Picture::Svg, out, sink),
+            Request::Show => show_system(out, sink, self.derivation.system()),
+            Request::Quit => Ok(Outcome::Quit),
+        }
+    }
+
+    // Answers an edit.
+    fn edit<K: Sink, V: Ledger>(
+        &mut self,
+        alloc: Global,
+        next: System,
+        out: &mut Buffered,
+        sink: &mut K,
+        asked: &mut Steps<L>,
+        visited: &mut Steps<V>,
+    ) -> Result<Outcome, Failed>
+        requires { out.old ≡ [] }
+        ensures gives { Gives K.written K.faults sink.old sink.new out.new (D.limit_of self.old)
+            (D.system_of self.old) (D.system_of self.new) (requests.Edit next) result }
+        ensures limit { D.limit_of self.new ≡ D.limit_of self.old }
+        ensures counts { Counts D.visits (D.limit_of self.old) true
+            (D.system_of self.old) (D.system_of self.new) (record { asked = asked.old; visited = visited.old })
+            (record { asked = asked.new; visited = visited.new }) result }
+    {
+        match self.derivation.edit(alloc, next, asked, visited) {
+            Ok(count) => accept(out, sink, count),
+            Err(refusal) => refuse_edit(out, sink, refusal),
+        }
+    }
+
+    // Answers with a level that is there; the last one without a number.
+    fn print_level<K: Sink>(
+        &self,
+        alloc: Global,
+        level: Option<u64>,
+        out: &mut Buffered,
+        sink: &mut K,
+    ) -> Result<Outcome, Failed>
+        requires empty { out.old ≡ [] }
+        requires level { HasLevel (D.system_of self.now) (requests.String level) }
+        ensures { Gives K.written K.faults sink.old sink.new out.new (D.limit_of self.now)
+            (D.system_of self.now) (D.system_of self.now) (requests.String level) result }
+    {
+        let depth = self.derivation.system().depth();
+        match copy_level(alloc, &self.derivation, number_of(level, depth)) {
+            Ok(symbols) => print_line(out, sink, &symbols),
+            Err(_) => refuse(out, sink, Refusal::Memory),
+        }
+    }
+
+    // Answers with the last level's picture.
+    fn print_picture<K: Sink>(
+        &self,
+        alloc: Global,
+        kind: Picture,
+        out: &mut Buffered,
+        sink: &mut K,
+    ) -> Result<Outcome, Failed>
+        requires { out.old ≡ [] }
+        ensures { Gives K.written K.faults sink.old sink.new out.new (D.limit_of self.now)
+            (D.system_of self.now) (D.system_of self.now) (picture_request kind) result }
+    {
+        let system = self.derivation.system();
+        print_picture(alloc, kind, &self.derivation, system, out, sink)
+    }
+}
+
+// The number of the level that is asked for.
+fn number_of(level: Option<u64>, depth: u32) -> u32
+    requires { IsWithin depth level }
+    ensures { result ≡ level_number depth level }
+{
+    match level {
+        Some(level) => level as u32,
+        None => depth,
+    }
+}

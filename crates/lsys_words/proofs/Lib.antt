@@ -1,0 +1,4 @@
+pub mod Numbers
+pub mod Firsts
+pub mod Spelling
+pub mod Bounds
