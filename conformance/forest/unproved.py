@@ -1,13 +1,13 @@
 """Builds a program of this folder over the crates of this checkout, without proofs."""
 import os
 import shutil
-import subprocess
 import sys
-import threading
-import time
 
 HERE = os.path.dirname(os.path.abspath(__file__))
 TOP = os.path.dirname(os.path.dirname(HERE))
+sys.path.insert(0, os.path.join(TOP, "tools"))
+from programs import build_without_proofs
+
 USED = ["lsys_syntax", "lsys_spec", "lsys_text", "lsys_module", "lsys_region", "lsys_level", "lsys_forest"]
 
 
@@ -49,32 +49,6 @@ def lay_out(name, folder):
     return program
 
 
-def keep_what_is_linked(folder, kept, done):
-    """While `rt try` works in the folder, keeps the program that it links there and would remove after its run."""
-    while not done.is_set():
-        for at, _, files in os.walk(folder):
-            if "program" in files:
-                try:
-                    os.link(os.path.join(at, "program"), kept)
-                    return
-                except OSError:
-                    pass  # it is not whole yet, or already gone
-        time.sleep(0.005)
-
-
 def build(name, folder):
     """The path of the program, which is built in this folder."""
-    crate = lay_out(name, folder)
-    work, kept = os.path.join(folder, "work"), os.path.join(folder, name)
-    os.mkdir(work)
-    done = threading.Event()
-    keeper = threading.Thread(target=keep_what_is_linked, args=(work, kept, done))
-    keeper.start()
-    ran = subprocess.run(["rt", "try"], cwd=crate, env={**os.environ, "TMPDIR": work}, stdin=subprocess.DEVNULL,
-                         stdout=subprocess.PIPE, stderr=subprocess.STDOUT, errors="replace")
-    done.set()
-    keeper.join()
-    if not os.path.exists(kept):
-        sys.stderr.write(ran.stdout)
-        sys.exit("no program was built")
-    return kept
+    return build_without_proofs(lay_out(name, folder), folder)
