@@ -1,5 +1,11 @@
-"""The programs that this checkout has built, and whether they are newer than all that they were made from."""
+"""The programs that this checkout has built, whether they are newer than all that they were made from, and how one is built
+without proofs."""
 import os
+import subprocess
+import sys
+import tempfile
+import threading
+import time
 
 TOP = os.path.dirname(os.path.dirname(os.path.abspath(__file__)))
 # `make` keeps the proved program in bin/; the gate leaves it in the crate's own folder.
@@ -53,3 +59,64 @@ def fresh_proved():
 def shown(path):
     """A path as one types it at the top of the checkout."""
     return os.path.relpath(path, TOP)
+
+
+def say(text):
+    print("; " + text, file=sys.stderr, flush=True)
+
+
+def keep_what_is_linked(folder, kept, done):
+    """While `rt try` works in the folder, keeps the program that it links there and would remove after its run."""
+    while not done.is_set():
+        for at, _, files in os.walk(folder):
+            if "program" in files:
+                try:
+                    os.link(os.path.join(at, "program"), kept)
+                    return
+                except OSError:
+                    pass  # it is not whole yet, or already gone
+        time.sleep(0.005)
+
+
+def build_without_proofs(crate, folder):
+    """Builds the program of a crate's folder inside another folder, and returns its path. Ends this process where the toolchain
+    can't build it."""
+    work, kept = os.path.join(folder, "work"), os.path.join(folder, "kept")
+    os.mkdir(work)
+    done = threading.Event()
+    keeper = threading.Thread(target=keep_what_is_linked, args=(work, kept, done))
+    keeper.start()
+    ran = subprocess.run(["rt", "try"], cwd=crate, env={**os.environ, "TMPDIR": work}, stdin=subprocess.DEVNULL, stdout=subprocess.PIPE,
+                         stderr=subprocess.STDOUT, errors="replace")
+    done.set()
+    keeper.join()
+    if ran.returncode or not os.path.exists(kept):
+        sys.stderr.write(ran.stdout)
+        say("no program was built (rt try ended with status %d, and said what stands above)" % ran.returncode)
+        sys.exit(ran.returncode or 1)
+    return kept
+
+
+def build_unproved():
+    """Builds the program without proofs and keeps it."""
+    os.makedirs(os.path.dirname(UNPROVED), exist_ok=True)
+    begun = time.time()
+    with tempfile.TemporaryDirectory(prefix="unproved-", dir=os.path.dirname(UNPROVED)) as folder:
+        kept = build_without_proofs(os.path.join(TOP, "crates", "lsys"), folder)
+        # An edit made while it was being built makes it stale.
+        os.utime(kept, (begun, begun))
+        os.replace(kept, UNPROVED)
+
+
+def fresh_program():
+    """The path of a program that is newer than all sources: a proved one where there is one, and else an unproved one, which is
+    built where that is needed. Says which one it is."""
+    program = fresh_proved()
+    if program:
+        say("by the proved program %s" % shown(program))
+        return program
+    if not is_fresh(UNPROVED):
+        say("no built program is newer than the sources: building one without proofs, which takes 20 to 60 seconds ..")
+        build_unproved()
+    say("by the unproved build %s (make proves the program, and builds bin/lsys)" % shown(UNPROVED))
+    return UNPROVED
