@@ -152,7 +152,7 @@ counts_err T U n old new x y r e i h = subst (Counts n old new) (sym i) (by r (s
 pub counts_late : (T U : Type 0) (n old new : ℕ) (x : Result T AskRefusal) (y : Result U AskRefusal) (a : T) → x ≡ Ok a → y ≡ Err Memory → Counts n old new x → Counts n old new y
 counts_late T U n old new x y a e i h = let k = counts_ok T n old new x a e h in subst (Counts n old new) (sym i) (omega (arith, k), omega (arith, k))
 
-module _ (q : CodePosed) (s : System) (t : ℕ) (row row' : List Spotted) (p : ℕ) (e : row' ≡ row) (sys : q.group.system.now ≡ s) (posed : IsPosedAt s t row' p (posed_by q)) where
+module _ (q : CodePosed) (s : System) (t : ℕ) (row row' : List Spotted) (p : ℕ) (e : row' ≡ row) (sys : map module_name q.ignored.now ≡ s.ignored) (posed : IsPosedAt s t row' p (posed_by q)) where
   abbrev d : Posed
   d = posed_by q
 
@@ -163,7 +163,7 @@ module _ (q : CodePosed) (s : System) (t : ℕ) (row row' : List Spotted) (p : �
   posed_here = subst (λ row. IsPosedAt s t row p d) e posed
 
   heard_is : (naming : ℕ → List ℕ) → heard naming ≡ told_for naming (site_at s row p d.own) d
-  heard_is naming = λ i. told_for naming (site_at (sys i) (e i) p d.own) d
+  heard_is naming = λ i. told_for naming (record { row = e i; place = p; own = d.own; ignored = sys i }) d
 
   pub few_read : (r : Reply) → IsAnswerTo heard (answer_of d r) → length r.trace ≤ most_entries + 1
   few_read r h =

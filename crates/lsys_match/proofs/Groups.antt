@@ -1,28 +1,13 @@
 -- The rules of a group.
 use Rattle.std.proofs.Common.{ap₂, eqb, ◌&&◌, is_some, zero, suc, ◌≡◌, ℕ, Bool, true, false, List, [], ◌∷◌, ◌+◌, ◌≤◌, ◌<◌, length, length-append, map, ◌++◌, slice_get, take, drop, Some, None, arith, ap, sym, ◌∙◌, refl, if◌then◌else◌}
-use Rattle.lsys_syntax.specs.Strings.{ModuleName}
-use Rattle.lsys_syntax.specs.Rules.{Production}
-use Rattle.lsys_syntax.specs.Limits.{most_rules}
-use Rattle.lsys_spec.specs.Systems.{System}
 use Rattle.lsys_bodies.specs.declared.body.Body.{Body as CodeBody}
 use Rattle.lsys_match.specs.Groups.{meant}
-use Rattle.lsys_spec.specs.Bodies.{Body, body_of, group, group_in, is_for, table_at}
+use Rattle.lsys_spec.specs.Bodies.{Body}
 use Rattle.lsys_spec.specs.Equalities.{same_all, same_body}
 use Rattle.lsys_spec.specs.Meaning.{any_weight}
 use Rattle.std.proofs.Math.Dec.{eqb-zero-suc, eqb-suc-suc}
 use Rattle.std.proofs.lemmas.List.{map-append}
 use Rattle.std.proofs.lemmas.Option.{same_Some, slice_get_within}
-
-pub few_in : (table : List ℕ) (n : ModuleName) (arity : ℕ) (ps : List Production) → length (group_in table n arity ps) ≤ length ps
-few_in table n arity [] = omega arith
-few_in table n arity (p ∷ ps) = by (is_for table n arity p) (few_in table n arity ps)
-  where
-    by : (b : Bool) → length (group_in table n arity ps) ≤ length ps → length (if b then body_of p.rule ∷ group_in table n arity ps else group_in table n arity ps) ≤ length (p ∷ ps)
-    by true h = omega (arith, h)
-    by false h = omega (arith, h)
-
-pub few : (s : System) (t : ℕ) (n : ModuleName) (arity : ℕ) → length s.rules ≤ most_rules → length (group s t n arity) ≤ most_rules
-few s t n arity h = let e = few_in (table_at s.schedule t) n arity s.rules in omega (arith, e, h)
 
 -- the rule at a place, and those behind it
 pub at_place : {A : Type 0} (bs : List A) (i : ℕ) (b : A) → Some b ≡ slice_get bs i → (i < length bs) × (drop i bs ≡ b ∷ drop (i + 1) bs)

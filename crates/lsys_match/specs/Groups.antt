@@ -1,7 +1,6 @@
 -- The rules for a module.
-use Rattle.std.specs.Prelude.{List}
-use Rattle.lsys_spec.specs.Bodies.{Body, body_of, group}
-use Rattle.lsys_module.specs.Views.{module_name}
+use Rattle.std.specs.Prelude.{List, map}
+use Rattle.lsys_spec.specs.Bodies.{Body, body_of}
 use Rattle.lsys_bodies.specs.declared.body.Body.{Body as CodeBody}
 use Rattle.lsys_bodies.specs.Views.{written}
 use Rattle.lsys_match.specs.declared.group.Group.{Group}
@@ -11,4 +10,4 @@ abbrev pub meant : CodeBody → Body
 meant b = body_of (written b)
 
 abbrev pub rules_of : Group → List Body
-rules_of g = group g.system.now g.level (module_name g.name) g.arity
+rules_of g = map (λ r. meant r.body) g.rules.now

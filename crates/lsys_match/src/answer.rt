@@ -115,7 +115,7 @@ impl<L: Ledger> Answer<L> {
         let (own, values) = store.values(&self.runs).split_at(self.arity as usize);
         if self.tag != posed.tag
             || self.key != posed.key
-            || !is_alike(self.name, own, posed.group.name, posed.params)
+            || !is_alike(self.name, own, posed.name, posed.params)
             || !posed.group.has_bodies(&self.bodies)
         {
             return None;

@@ -2,12 +2,14 @@
 ghost use Rattle.std.specs.Prelude.{◌≡◌, ◌≤◌, length, map, slice_get, IfOk};
 ghost use Rattle.std.specs.Option.{option_map};
 ghost use Rattle.lsys_syntax.specs.Limits.{most_rules};
+ghost use Rattle.lsys_spec.specs.Bodies.{group};
 ghost use Rattle.lsys_spec.specs.Equalities.{same_all, same_body};
 ghost use Rattle.lsys_spec.specs.Meaning.{any_weight};
+ghost use Rattle.lsys_module.specs.Views.{module_name};
 ghost use Rattle.lsys_laws.specs.Sessions.{IsWell};
 ghost use Rattle.lsys_match.specs.Groups.{meant, rules_of};
 
-use lsys_bodies::SharedBody;
+use lsys_bodies::{Rule, SharedBody};
 use lsys_rules::System;
 use lsys_text::Name;
 use std::alloc::{AllocError, Global};
@@ -15,30 +17,33 @@ use std::alloc::{AllocError, Global};
 /// The rules of a level's table for modules with a name and a number of parameters, in the order in which they are tried.
 #[derive(Clone, Copy)]
 pub struct Group<'a> {
-    pub system: &'a System,
-    pub level: u32,
-    pub name: Name,
-    pub arity: usize,
+    rules: &'a [Rule],
+    ghost few: { length rules.now ≤ most_rules },
 }
 
 impl<'a> Group<'a> {
+    /// The rules of a level for modules with this name and so many parameters.
+    pub(crate) fn at(system: &'a System, level: u32, name: Name, arity: usize) -> Group<'a>
+        ensures rules { rules_of result ≡ group system.now level (module_name name) arity }
+        ensures well { IsWell system.now }
+    {
+        Group {
+            rules: system.group(level, name, arity),
+        }
+    }
+
     /// The body of the rule at a place, from 0; none past the last one.
     pub fn get(&self, place: usize) -> Option<&'a SharedBody>
         ensures body { option_map (λ b. meant b.now) result ≡ slice_get (rules_of self.now) place }
         ensures few { length (rules_of self.now) ≤ most_rules }
-        ensures well { IsWell self.now.system.now }
     {
-        law_of_few_rules(self.system);
-        let rule = self
-            .system
-            .group_rule(self.level, self.name, self.arity, place)?;
+        let rule = self.rules.get(place)?;
         Some(&rule.body)
     }
 
     /// A rule has a weight.
     pub fn is_weighted(&self) -> bool
-        ensures weight { result ≡ any_weight (rules_of self.now) }
-        ensures well { IsWell self.now.system.now }
+        ensures { result ≡ any_weight (rules_of self.now) }
     {
         let mut place = 0;
         while let Some(body) = self.get(place) {
@@ -54,11 +59,7 @@ impl<'a> Group<'a> {
     pub(crate) fn len(&self) -> usize
         ensures { result ≡ length (rules_of self.now) }
     {
-        let mut place = 0;
-        while self.get(place).is_some() {
-            place += 1;
-        }
-        place
+        self.rules.len()
     }
 
     /// The bodies of the rules, in order. They are shared, so each takes the room of a reference, and nothing is left over.
@@ -88,12 +89,4 @@ impl<'a> Group<'a> {
         }
         place == bodies.len()
     }
-}
-
-// A law of systems: they are well formed and well spelled, and have few rules.
-fn law_of_few_rules(system: &System)
-    ensures few { length system.now.rules ≤ most_rules }
-    ensures well { IsWell system.now }
-{
-    let _ = system.rules();
 }

@@ -1,6 +1,7 @@
 //! What is asked of a module, but for what is read.
-ghost use Rattle.std.specs.Prelude.{◌≡◌, ◌≤◌, length};
+ghost use Rattle.std.specs.Prelude.{◌≡◌, ◌≤◌, length, map};
 ghost use Rattle.lsys_laws.specs.Sessions.{IsWell};
+ghost use Rattle.lsys_module.specs.Views.{module_name};
 ghost use Rattle.lsys_level.specs.Spots.{IsSpot, level_at};
 ghost use Rattle.lsys_walks.specs.Views.{module_of};
 ghost use Rattle.lsys_match.specs.Groups.{rules_of};
@@ -13,15 +14,19 @@ use lsys_level::{LevelView, Sight, Tag};
 use lsys_module::{Module, Params, Symbol, SymbolList};
 use lsys_rewrite::fill_into;
 use lsys_rules::System;
+use lsys_text::Name;
 use std::alloc::Global;
 
-/// A question but for its trace: the module with its tag, its group, and its key where the group has weights.
+/// A question but for its trace: the module with its tag, its group, and its key where the group has weights; and the
+/// names that contexts pass over.
 #[derive(Drop)]
 pub(crate) struct Posed<'a> {
     pub(crate) tag: Tag,
+    pub(crate) name: Name,
     pub(crate) params: &'a [i64],
     pub(crate) group: Group<'a>,
     pub(crate) key: Option<u64>,
+    pub(crate) ignored: &'a [Name],
 }
 
 impl<'a> Posed<'a> {
@@ -37,19 +42,14 @@ impl<'a> Posed<'a> {
             IsModuleAt x (W.place_of view.now spot) }
         ensures posed { let x = level_at (W.levels view.now) (W.level_of view.now spot) in
             IsPosedAt system.now level x (W.place_of view.now spot) (posed_by result) }
-        ensures system { result.group.system.now ≡ system.now }
+        ensures ignored { map module_name result.ignored.now ≡ system.now.ignored }
         ensures well { IsWell system.now }
         ensures few { length result.params.now ≤ 8 }
     {
         let Sight::Module { name, params } = view.sight(spot) else {
             unreachable!()
         };
-        let group = Group {
-            system,
-            level,
-            name,
-            arity: params.len(),
-        };
+        let group = Group::at(system, level, name, params.len());
         let key = if group.is_weighted() {
             Some(view.key(spot))
         } else {
@@ -57,9 +57,11 @@ impl<'a> Posed<'a> {
         };
         Posed {
             tag: view.tag(spot),
+            name,
             params,
             group,
             key,
+            ignored: system.ignored(),
         }
     }
 
@@ -72,7 +74,7 @@ impl<'a> Posed<'a> {
         bound: &[i64],
     ) -> Result<SymbolList, AskRefusal>
         requires { length self.now.params.now ≤ 8 }
-        ensures { let own = module_of self.now.group.name self.now.params.now in
+        ensures { let own = module_of self.now.name self.now.params.now in
             IsSuccessor (rules_of self.now.group) own chosen bound.now result }
     {
         let symbols = self.replacement(alloc, chosen, bound)?;
@@ -86,13 +88,13 @@ impl<'a> Posed<'a> {
         bound: &[i64],
     ) -> Result<SymbolList, AskRefusal>
         requires { length self.now.params.now ≤ 8 }
-        ensures { let own = module_of self.now.group.name self.now.params.now in
+        ensures { let own = module_of self.now.name self.now.params.now in
             IsSuccessor (rules_of self.now.group) own chosen bound.now result }
     {
         let mut symbols = SymbolList::new(alloc);
         let Some(place) = chosen else {
             symbols.push(Symbol::Module(Module {
-                name: self.group.name,
+                name: self.name,
                 params: Params::of(self.params),
             }))?;
             return Ok(symbols);

@@ -109,7 +109,7 @@ fn keep<L: Ledger>(
     store.reserve(room(entries.len()), room(values.len()))?;
     let runs = store.place(entries, &values);
     Ok(Answer {
-        name: posed.group.name,
+        name: posed.name,
         key: posed.key,
         runs,
         bodies,

@@ -62,8 +62,7 @@ impl<'a> Posed<'a> {
             (naming : ℕ → List ℕ)
             → Counts (length (trace_told (told_for naming site (posed_by self.now)))) visited.old visited.new result }
     {
-        let ignored = self.group.system.ignored();
-        let site = Site::new(view, spot, self.group.name, self.params, ignored);
+        let site = Site::new(view, spot, self.name, self.params, self.ignored);
         self.tell(alloc, &site, old, visited)
     }
 

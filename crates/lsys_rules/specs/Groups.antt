@@ -1,12 +1,13 @@
--- The groups of some rules: the places of those of a table that are for a letter with a number of parameters.
-use Rattle.std.specs.Prelude.{◌≡◌, ℕ, Bool, ◌&&◌, ◌==◌, ◌+◌, Option, Some, None, List, [], ◌∷◌, ◌++◌, Vec, bytes_eq, if◌then◌else◌}
+-- The groups of some rules: those of a table that are for a letter with a number of parameters.
+use Rattle.std.specs.Prelude.{◌≡◌, ℕ, Bool, ◌&&◌, ◌==◌, Option, Some, None, List, [], ◌∷◌, ◌++◌, Vec, bytes_eq, filter, if◌then◌else◌}
 use Rattle.std.specs.declared.alloc.Global.{Global}
 use Rattle.std.specs.HashMap.{HashMap, get}
-use Rattle.lsys_syntax.specs.Rules.{Production}
 use Rattle.lsys_spec.specs.Bodies.{is_for}
 use Rattle.lsys_text.specs.Packed.{packed}
 use Rattle.lsys_text.specs.Texts.{IsNameBytes}
 use Rattle.lsys_module.specs.Views.{module_name}
+use Rattle.lsys_bodies.specs.declared.rule.Rule.{Rule}
+use Rattle.lsys_bodies.specs.Views.{production_of}
 use Rattle.lsys_rules.specs.declared.groups.GroupKey.{GroupKey}
 
 abbrev pub same_key : GroupKey → GroupKey → Bool
@@ -15,26 +16,23 @@ same_key a b = bytes_eq a.table b.table && ((a.name == b.name) && (a.arity == b.
 abbrev pub key_of : List ℕ → List ℕ → ℕ → GroupKey
 key_of table name arity = record { table = table; name = packed name; arity = arity }
 
-abbrev pub places_of : Option (Vec ℕ Global) → List ℕ
-places_of None = []
-places_of (Some v) = v.items
+abbrev pub rules_of : Option (Vec Rule Global) → List Rule
+rules_of None = []
+rules_of (Some v) = v.items
 
--- the places of a group
-abbrev pub places_at : {S : Type 0} → HashMap GroupKey (Vec ℕ Global) S → GroupKey → List ℕ
-places_at groups key = places_of (get same_key groups key)
+-- the rules of a group
+abbrev pub rules_at : {S : Type 0} → HashMap GroupKey (Vec Rule Global) S → GroupKey → List Rule
+rules_at groups key = rules_of (get same_key groups key)
 
-abbrev pub with_place : Bool → List ℕ → ℕ → List ℕ
-with_place b places place = if b then places ++ place ∷ [] else places
+abbrev pub with_rule : Bool → List Rule → Rule → List Rule
+with_rule b rules rule = if b then rules ++ rule ∷ [] else rules
 
--- The new groups have one place more, behind those of the key's group.
-abbrev pub HasPlace : {S : Type 0} → HashMap GroupKey (Vec ℕ Global) S → HashMap GroupKey (Vec ℕ Global) S → GroupKey → ℕ → Type 0
-HasPlace old new key place = (q : GroupKey) → places_at new q ≡ with_place (same_key key q) (places_at old q) place
+-- The new groups have one rule more, behind those of the key's group.
+abbrev pub HasRule : {S : Type 0} → HashMap GroupKey (Vec Rule Global) S → HashMap GroupKey (Vec Rule Global) S → GroupKey → Rule → Type 0
+HasRule old new key rule = (q : GroupKey) → rules_at new q ≡ with_rule (same_key key q) (rules_at old q) rule
 
--- the places, from n on, of the elements that pass
-abbrev pub places_from : {A : Type 0} → (A → Bool) → ℕ → List A → List ℕ
-places_from p n [] = []
-places_from p n (x ∷ xs) = if p x then n ∷ places_from p (n + 1) xs else places_from p (n + 1) xs
-
--- The places of each group are those of its rules, in order.
-abbrev pub AreGroups : {S : Type 0} → HashMap GroupKey (Vec ℕ Global) S → List Production → Type 0
-AreGroups groups ps = (table name : List ℕ) (arity : ℕ) → IsNameBytes name → places_at groups (key_of table name arity) ≡ places_from (is_for table (module_name name) arity) 0 ps
+-- The rules of each group are those of its table that are for its letter, in order.
+abbrev pub AreGroups : {S : Type 0} → HashMap GroupKey (Vec Rule Global) S → List Rule → Type 0
+AreGroups groups rules =
+    (table name : List ℕ) (arity : ℕ) → IsNameBytes name
+    → rules_at groups (key_of table name arity) ≡ filter (λ r. is_for table (module_name name) arity (production_of r)) rules

@@ -23,5 +23,5 @@ Own label (e ∷ es) = (label e.1 ≡ e.0) × Own label es
 
 pub record IsKept (a : Rules) : Type 0 where
   pub labels : Own (λ r. r.label) a.by_label.entries
-  pub groups : AreGroups a.groups (productions_in a.by_label)
+  pub groups : AreGroups a.groups (values a.by_label)
   pub tables : a.tables.items ≡ tables (productions_in a.by_label)

@@ -1,9 +1,8 @@
 //! The groups of rules: which rules of a table are for a letter with a number of parameters.
-ghost use Rattle.std.specs.Prelude.{◌≡◌, IfOk, OnOk, map, length};
+ghost use Rattle.std.specs.Prelude.{◌≡◌, IfOk, OnOk, length};
 ghost use Rattle.lsys_text.specs.Packed.{packed};
 ghost use Rattle.lsys_text.specs.Texts.{IsNameBytes};
-ghost use Rattle.lsys_bodies.specs.Views.{production_of};
-ghost use Rattle.lsys_rules.specs.Groups.{AreGroups, HasPlace, places_at};
+ghost use Rattle.lsys_rules.specs.Groups.{AreGroups, HasRule, rules_at};
 
 use lsys_bodies::Rule;
 use lsys_text::{Name, Word};
@@ -18,8 +17,8 @@ pub(crate) struct GroupKey {
     pub arity: usize,
 }
 
-/// The places of the rules of each group, in order.
-pub(crate) type Groups = HashMap<GroupKey, Vec<usize>>;
+/// The rules of each group, in order.
+pub(crate) type Groups = HashMap<GroupKey, Vec<Rule>>;
 
 impl GroupKey {
     // That of the rules of a table for a letter with so many parameters.
@@ -50,36 +49,36 @@ impl GroupKey {
 
 // The groups of some rules.
 pub(crate) fn groups_of(alloc: Global, rules: &[Rule]) -> Result<Groups, AllocError>
-    ensures { IfOk result (λ groups. AreGroups groups (map production_of rules.now)) }
+    ensures { IfOk result (λ groups. AreGroups groups rules.now) }
 {
     let mut groups = HashMap::new(alloc);
-    for (place, rule) in rules.iter().enumerate() {
-        add_place(alloc, &mut groups, GroupKey::of(rule), place)?;
+    for rule in rules {
+        add_rule(alloc, &mut groups, GroupKey::of(rule), rule.clone()?)?;
     }
     Ok(groups)
 }
 
-// Adds a place behind those of its group.
-fn add_place(
+// Adds a rule behind those of its group.
+fn add_rule(
     alloc: Global,
     groups: &mut Groups,
     key: GroupKey,
-    place: usize,
+    rule: Rule,
 ) -> Result<(), AllocError>
-    ensures { OnOk result (HasPlace groups.old groups.new key place) }
+    ensures { OnOk result (HasRule groups.old groups.new key rule) }
 {
-    let mut places = groups.remove(&key).unwrap_or(Vec::new(alloc));
-    places.push(place)?;
-    groups.insert(key, places)?;
+    let mut rules = groups.remove(&key).unwrap_or(Vec::new(alloc));
+    rules.push(rule)?;
+    groups.insert(key, rules)?;
     Ok(())
 }
 
-// The places of a group.
-pub(crate) fn places_at(groups: &Groups, key: GroupKey) -> &[usize]
-    ensures { result.now ≡ places_at groups.now key }
+// The rules of a group.
+pub(crate) fn rules_at(groups: &Groups, key: GroupKey) -> &[Rule]
+    ensures { result.now ≡ rules_at groups.now key }
 {
     match groups.get(&key) {
-        Some(places) => places,
+        Some(rules) => rules,
         None => &[],
     }
 }

@@ -1,6 +1,5 @@
 //! The productions of a system, in the order in which they are tried.
-ghost use Rattle.std.specs.Prelude.{◌≡◌, [], IfOk, OnOk, map, filter, slice_get};
-ghost use Rattle.std.specs.Option.{option_map};
+ghost use Rattle.std.specs.Prelude.{◌≡◌, [], IfOk, OnOk, map, filter};
 ghost use Rattle.lsys_spec.specs.Systems.{is_table, tables, with_table};
 ghost use Rattle.lsys_spec.specs.Bodies.{is_for};
 ghost use Rattle.lsys_spec.specs.Edits.{put, without_rule};
@@ -8,7 +7,7 @@ ghost use Rattle.lsys_module.specs.Views.{module_name};
 ghost use Rattle.lsys_bodies.specs.Views.{production_of};
 ghost use Rattle.lsys_rules.specs.InsideRules.{Own, productions_in};
 
-use crate::groups::{GroupKey, Groups, groups_of, places_at};
+use crate::groups::{GroupKey, Groups, groups_of, rules_at};
 use indexmap::IndexMap;
 use lsys_bodies::Rule;
 use lsys_text::{Name, Word};
@@ -117,16 +116,12 @@ impl RuleTable {
         &self.rules.tables
     }
 
-    /// The rule at a place of the group of a table for modules of this name and number of parameters; none past its end.
-    /// A look-up costs the same however many rules there are.
-    pub fn group_rule(&self, table: Word, name: Name, arity: usize, place: usize) -> Option<&Rule>
-        ensures { option_map (λ r. production_of r.now) result ≡ slice_get (filter (is_for table (module_name name) arity) self.now) place }
+    /// The rules of the group of a table for modules of this name and number of parameters, in order. A look-up costs the
+    /// same however many rules there are.
+    pub fn group(&self, table: Word, name: Name, arity: usize) -> &[Rule]
+        ensures { map production_of result.now ≡ filter (is_for table (module_name name) arity) self.now }
     {
-        let places = places_at(&self.rules.groups, GroupKey::new(table, name, arity));
-        match places.get(place) {
-            Some(number) => self.rules.by_label.values().as_slice().get(*number),
-            None => None,
-        }
+        rules_at(&self.rules.groups, GroupKey::new(table, name, arity))
     }
 }
 

@@ -1,7 +1,7 @@
 //! Systems.
-ghost use Rattle.std.specs.Prelude.{◌≡◌, ◌≤◌, ◌<◌, IfOk, filter, map, slice_get};
+ghost use Rattle.std.specs.Prelude.{◌≡◌, ◌≤◌, ◌<◌, IfOk, filter, length, map, slice_get};
 ghost use Rattle.std.specs.Option.{option_map};
-ghost use Rattle.lsys_syntax.specs.Limits.{most_depth};
+ghost use Rattle.lsys_syntax.specs.Limits.{most_depth, most_rules};
 ghost use Rattle.lsys_spec.specs.Systems.{opening, tables};
 ghost use Rattle.lsys_spec.specs.Bodies.{body_of, group, is_for, table_at};
 ghost use Rattle.lsys_spec.specs.Meaning.{ignores};
@@ -163,18 +163,29 @@ impl System {
         self.parts.lattice
     }
 
-    /// The rule at a place, from 0, of the group of a level for modules with this name and number of parameters: of those of
-    /// the level's table that are for such modules, in order. None past the group's end. A look-up costs the same however
-    /// many rules there are.
+    /// The rules of the group of a level for modules with this name and number of parameters: those of the level's table that
+    /// are for such modules, in the order in which they are tried. A look-up costs the same however many rules there are.
+    pub fn group(&self, level: u32, name: Name, arity: usize) -> &[Rule]
+        ensures rules { map production_of result.now
+            ≡ filter (is_for (table_at self.now.schedule level) (module_name name) arity) self.now.rules }
+        ensures bodies { map (λ r. body_of (rule_of r)) result.now ≡ group self.now level (module_name name) arity }
+        ensures few { length result.now ≤ most_rules }
+        ensures well { IsWell self.now }
+    {
+        let schedule = &self.parts.schedule;
+        let table = schedule[level as usize % schedule.len()];
+        self.parts.rules.group(table, name, arity)
+    }
+
+    /// The rule at a place, from 0, of the group of a level for modules with this name and number of parameters. None past
+    /// the group's end.
     pub fn group_rule(&self, level: u32, name: Name, arity: usize, place: usize) -> Option<&Rule>
         ensures rule { option_map (λ r. production_of r.now) result
             ≡ slice_get (filter (is_for (table_at self.now.schedule level) (module_name name) arity) self.now.rules) place }
         ensures body { option_map (λ r. body_of (rule_of r.now)) result
             ≡ slice_get (group self.now level (module_name name) arity) place }
     {
-        let schedule = &self.parts.schedule;
-        let table = schedule[level as usize % schedule.len()];
-        self.parts.rules.group_rule(table, name, arity, place)
+        self.group(level, name, arity).get(place)
     }
 }
 
