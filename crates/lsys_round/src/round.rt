@@ -101,6 +101,7 @@ impl<L: Ledger> Round<L> {
         ensures asked { asked.new ≡ asked.old + filled self.new.fresh }
         ensures room { OnOk result (self.new.next.room ≡ self.old.next.room) }
     {
+        self.reserve(beside.mates.len())?;
         for place in 0..beside.mates.len() {
             self.ask_next(alloc, store, beside, place, asked, visited)?;
         }
@@ -120,6 +121,14 @@ impl<L: Ledger> Round<L> {
             taken: self.taken,
             questions: self.questions,
         }
+    }
+
+    // Makes room for what is found out about so many symbols.
+    fn reserve(&mut self, len: usize) -> Result<(), AllocError>
+        ensures { self.new ≡ self.old }
+    {
+        self.taken.reserve(len)?;
+        self.fresh.reserve(len)
     }
 
     // Asks about the symbol at the next place.

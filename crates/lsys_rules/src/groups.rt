@@ -59,12 +59,7 @@ pub(crate) fn groups_of(alloc: Global, rules: &[Rule]) -> Result<Groups, AllocEr
 }
 
 // Adds a rule behind those of its group.
-fn add_rule(
-    alloc: Global,
-    groups: &mut Groups,
-    key: GroupKey,
-    rule: Rule,
-) -> Result<(), AllocError>
+fn add_rule(alloc: Global, groups: &mut Groups, key: GroupKey, rule: Rule) -> Result<(), AllocError>
     ensures { OnOk result (HasRule groups.old groups.new key rule) }
 {
     let mut rules = groups.remove(&key).unwrap_or(Vec::new(alloc));

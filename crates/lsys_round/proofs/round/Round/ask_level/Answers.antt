@@ -2,24 +2,48 @@ use Rattle.std.proofs.Common.{rules, ◌≡◌, ◌+◌, ℕ, List, Ok, Err, OnE
 use Rattle.lsys_counts.specs.Slots.{filled}
 use Rattle.lsys_level.specs.Spots.{level_at}
 use Rattle.lsys_rewrite.specs.declared.refusal.DeriveRefusal.{DeriveRefusal}
-use Rattle.lsys_round.specs.Rounds.{AreNew, AskedTo, IsAt, IsNoRound, Rounded, nothing_asked, told}
+use Rattle.lsys_rewrite.specs.declared.refusal.DeriveRefusal.TheVariants.{Memory}
+use Rattle.lsys_round.specs.Rounds.{AreNew, AskedTo, IsAt, IsNoRound, IsRound, Rounded, nothing_asked, told}
 use Rattle.lsys_round.proofs.Seen.{row_length}
 use Rattle.lsys_round.proofs.News.{made_still}
 use Rattle.lsys_round.proofs.Beginning.{none_at, none_asked, none_new}
 use Rattle.lsys_round.proofs.round.Round.ask_level.Goals as goal
 
+pub returns-in_err-reserve-clause-round : goal.returns-in_err-reserve-clause-round
+returns-in_err-reserve-clause-round g c = λ naming x is.
+    let row = level_at c.args.beside.now.view.now c.args.beside.now.level in
+    let goes : c.from_residual-in_err-reserve.result ≡ Err Memory = search rules in
+    subst
+    (IsRound c.args.beside.now.system.now c.args.beside.now.level row x (told c.args.store.now c.args.beside.now.olds.now) c.args.beside.now.mates.now c.args.store.now c.reserve.new.self c.args.visited.now c.args.visited.now)
+    (sym goes) (omega arith, omega arith)
+
+pub returns-in_err-reserve-clause-new : goal.returns-in_err-reserve-clause-new
+returns-in_err-reserve-clause-new g c =
+    subst (λ (r : Rounded). AreNew c.args.store.now c.args.store.now r.fresh) (sym (c.reserve.ensures ∙ c.requires.new)) (none_new c.args.store.now)
+
+pub returns-in_err-reserve-clause-each : goal.returns-in_err-reserve-clause-each
+returns-in_err-reserve-clause-each g c =
+    let none : length c.reserve.new.self.fresh ≡ 0 = ap (λ (r : Rounded). length r.fresh) (c.reserve.ensures ∙ c.requires.new) in
+    omega (arith, none)
+
+pub returns-in_err-reserve-clause-asked : goal.returns-in_err-reserve-clause-asked
+returns-in_err-reserve-clause-asked g c =
+    let none : filled c.reserve.new.self.fresh ≡ 0 = ap (λ (r : Rounded). filled r.fresh) (c.reserve.ensures ∙ c.requires.new) in
+    omega (arith, none)
+
 pub loop-place-init : goal.loop-place-init
 loop-place-init g c =
     let room = c.args.self.now.next.room in
+    let none : c.reserve.new.self ≡ nothing_asked room = c.reserve.ensures ∙ c.requires.new in
     record {
-      at = subst (IsAt 0) (sym c.requires.new) (none_at room);
-      new = subst (λ (r : Rounded). AreNew c.args.store.now c.args.store.now r.fresh) (sym c.requires.new) (none_new c.args.store.now);
+      at = subst (IsAt 0) (sym none) (none_at room);
+      new = subst (λ (r : Rounded). AreNew c.args.store.now c.args.store.now r.fresh) (sym none) (none_new c.args.store.now);
       made = c.requires.made;
-      asked = let none : filled c.args.self.now.fresh ≡ 0 = ap (λ (r : Rounded). filled r.fresh) c.requires.new in omega (arith, none);
-      room = refl;
+      asked = let none : filled c.reserve.new.self.fresh ≡ 0 = ap (λ (r : Rounded). filled r.fresh) none in omega (arith, none);
+      room = ap (λ (r : Rounded). r.next.room) c.reserve.ensures;
       going = λ naming x is.
           subst (λ (r : Rounded). AskedTo c.args.beside.now.system.now c.args.beside.now.level (level_at c.args.beside.now.view.now c.args.beside.now.level) x (told c.args.store.now c.args.beside.now.olds.now) c.args.beside.now.mates.now c.args.store.now r c.args.visited.now c.args.visited.now 0)
-          (sym c.requires.new) (none_asked c.args.beside.now.system.now c.args.beside.now.level (level_at c.args.beside.now.view.now c.args.beside.now.level) x (told c.args.store.now c.args.beside.now.olds.now) c.args.beside.now.mates.now c.args.store.now room c.args.visited.now);
+          (sym none) (none_asked c.args.beside.now.system.now c.args.beside.now.level (level_at c.args.beside.now.view.now c.args.beside.now.level) x (told c.args.store.now c.args.beside.now.olds.now) c.args.beside.now.mates.now c.args.store.now room c.args.visited.now);
     }
 
 pub returns-in_err-ask_next-clause-round : goal.returns-in_err-ask_next-clause-round
