@@ -1,5 +1,5 @@
 -- What is answered by tags, and what the definitions say.
-use Rattle.std.proofs.Common.{◌≡◌, ℕ, ℤ, ◌+◌, true, ◌&&◌, List, [], length, Option, Some, None, Result, Ok, Err, refl, ap, sym, ◌∙◌, subst, arith, ◌≤◌}
+use Rattle.std.proofs.Common.{map, ◌≡◌, ℕ, ℤ, ◌+◌, true, ◌&&◌, List, [], length, Option, Some, None, Result, Ok, Err, refl, ap, sym, ◌∙◌, subst, arith, ◌≤◌}
 use Rattle.std.specs.Option.{IsSomeAnd}
 use Rattle.std.proofs.lemmas.List.{length-map, length-take}
 use Rattle.std.proofs.lemmas.Option.{same_Some}
@@ -19,6 +19,7 @@ use Rattle.lsys_spec.proofs.GroupTells.{told_choice}
 use Rattle.lsys_spec.proofs.Names.{NamedBody, same_all_true, same_body_true}
 use Rattle.lsys_spec.proofs.Tests.{both}
 use Rattle.lsys_spec.proofs.WellNamed.{group_named}
+use Rattle.lsys_module.specs.Views.{module_name}
 use Rattle.lsys_level.specs.Spots.{Spotted, Module, level_by}
 use Rattle.lsys_rewrite.specs.Faults.{fault_of}
 use Rattle.lsys_rewrite.specs.declared.refusal.FaultKind.{FaultKind}

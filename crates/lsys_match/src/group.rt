@@ -13,12 +13,28 @@ use lsys_bodies::{Rule, SharedBody};
 use lsys_rules::System;
 use lsys_text::Name;
 use std::alloc::{AllocError, Global};
+use std::marker::Model;
 
 /// The rules of a level's table for modules with a name and a number of parameters, in the order in which they are tried.
-#[derive(Clone, Copy)]
+#[derive(Drop)]
 pub struct Group<'a> {
     rules: &'a [Rule],
-    ghost few: { length rules.now ≤ most_rules },
+}
+
+impl<'a> Model for Group<'a> {
+    ghost use Rattle.std.specs.Prelude.{List, ◌≤◌, length, map};
+    ghost use Rattle.std.specs.Coded.{codes};
+    ghost use Rattle.lsys_syntax.specs.Limits.{most_rules};
+    ghost use Rattle.lsys_expr.specs.Codes.{expression_code};
+    ghost use Rattle.lsys_bodies.specs.declared.body.Body.{Body};
+
+    ghost Value = { List Body };
+
+    ghost coded = { Prim.hlevel (codes, expression_code) };
+
+    ghost view = { λ a. map (λ r. r.body) a.rules.now };
+
+    ghost invariant = { λ a. length a.rules.now ≤ most_rules };
 }
 
 impl<'a> Group<'a> {
