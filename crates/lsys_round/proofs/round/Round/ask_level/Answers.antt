@@ -12,7 +12,7 @@ use Rattle.lsys_round.proofs.round.Round.ask_level.Goals as goal
 pub returns-in_err-reserve-clause-round : goal.returns-in_err-reserve-clause-round
 returns-in_err-reserve-clause-round g c = λ naming x is.
     let row = level_at c.args.beside.now.view.now c.args.beside.now.level in
-    let goes : c.from_residual-in_err-reserve.result ≡ Err Memory = search rules in
+    let goes : c.from_residual.result ≡ Err Memory = search rules in
     subst
     (IsRound c.args.beside.now.system.now c.args.beside.now.level row x (told c.args.store.now c.args.beside.now.olds.now) c.args.beside.now.mates.now c.args.store.now c.reserve.new.self c.args.visited.now c.args.visited.now)
     (sym goes) (omega arith, omega arith)
@@ -49,7 +49,7 @@ loop-place-init g c =
 pub returns-in_err-ask_next-clause-round : goal.returns-in_err-ask_next-clause-round
 returns-in_err-ask_next-clause-round g c = λ naming x is.
     let no = c.in_err-ask_next.ensures.refused c.args.store.now c.args.visited.now naming x is (c.loop-place.invariant.going naming x is) in
-    let goes : c.from_residual.result ≡ Err c.in_err-ask_next.field-0.0 = search rules in
+    let goes : c.from_residual-in_err-ask_next.result ≡ Err c.in_err-ask_next.field-0.0 = search rules in
     rw goes no
 
 pub loop-place-preserved : goal.loop-place-preserved
