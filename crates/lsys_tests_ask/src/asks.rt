@@ -12,6 +12,7 @@ use lsys_rules::System;
 use std::alloc::{AllocError, Global};
 use std::marker::Brand;
 use std::mem::size_of;
+use std::process::Abort;
 use std::sync::ledger::{Blank, Ledger};
 use std::test::Fail;
 
@@ -95,109 +96,147 @@ fn answer(
     answered::<Brand, Brand>(alloc, &system, place, Blank::new(1), Blank::new(1))
 }
 
-/// Whether this is the printed successor there.
-fn gives(alloc: Global, lines: &[&str], place: usize, text: &str) -> Result<bool, AllocError> {
-    Ok(answer(alloc, lines, place)?.is_ok_and(|found| found.as_slice() == text.as_bytes()))
+/// This is the printed successor there.
+fn is_given(
+    rt: &impl Abort,
+    alloc: Global,
+    lines: &[&str],
+    place: usize,
+    text: &str,
+) -> Result<(), Fail> {
+    let found = answer(alloc, lines, place)?;
+    assert!(rt; found.is_ok_and(|found| found.as_slice() == text.as_bytes()));
+    Ok(())
 }
+
+/// This is the fault there.
+fn is_a_fault(
+    rt: &impl Abort,
+    alloc: Global,
+    lines: &[&str],
+    place: usize,
+    kind: FaultKind,
+) -> Result<(), Fail> {
+    let fault = answer(alloc, lines, place)?.err();
+    assert_eq!(rt; fault, Some(kind));
+    Ok(())
+}
+
+const CONTEXTS: &[&str] = &[
+    "axiom A(4)B(5)C(6)",
+    "production p: A(x) < B(y) > C(z) : x+y+z > 10 => E((x+y)/2)F((y+z)/2)",
+    "ignore",
+];
 
 #[test]
 fn contexts_give_parameters(rt: HostRuntime) -> Result<(), Fail> {
-    let lines = [
-        "axiom A(4)B(5)C(6)",
-        "production p: A(x) < B(y) > C(z) : x+y+z > 10 => E((x+y)/2)F((y+z)/2)",
-        "ignore",
-    ];
-    assert!(rt; gives(rt.alloc(), &lines, 1, "E(4)F(5)")?);
-    Ok(())
+    is_given(&rt, rt.alloc(), CONTEXTS, 1, "E(4)F(5)")
 }
+
+const CONDITIONS: &[&str] = &[
+    "axiom B(2)A(4,4)",
+    "production a: A(x,y) : y <= 3 => A(x*2,x+y)",
+    "production b: A(x,y) : y > 3 => B(x)A(x/y,0)",
+    "production c: B(x) : x < 1 => C",
+    "production d: B(x) : x >= 1 => B(x-1)",
+];
 
 #[test]
 fn conditions_choose(rt: HostRuntime) -> Result<(), Fail> {
-    let lines = [
-        "axiom B(2)A(4,4)",
-        "production a: A(x,y) : y <= 3 => A(x*2,x+y)",
-        "production b: A(x,y) : y > 3 => B(x)A(x/y,0)",
-        "production c: B(x) : x < 1 => C",
-        "production d: B(x) : x >= 1 => B(x-1)",
-    ];
-    assert!(rt; gives(rt.alloc(), &lines, 1, "B(4)A(1,0)")?);
-    assert!(rt; gives(rt.alloc(), &lines, 0, "B(1)")?);
-    Ok(())
+    is_given(&rt, rt.alloc(), CONDITIONS, 1, "B(4)A(1,0)")?;
+    is_given(&rt, rt.alloc(), CONDITIONS, 0, "B(1)")
 }
+
+const DEEP: &[&str] = &[
+    "axiom ABC[DE][SG[HI[JK]L]MNO]",
+    "production p: BC < S > G[H]M => X",
+    "ignore",
+];
+
+const FLAT: &[&str] = &["axiom S[A][B]C", "production p: S > [B]C => X", "ignore"];
 
 #[test]
 fn branches_are_skipped(rt: HostRuntime) -> Result<(), Fail> {
-    let deep = [
-        "axiom ABC[DE][SG[HI[JK]L]MNO]",
-        "production p: BC < S > G[H]M => X",
-        "ignore",
-    ];
-    let flat = ["axiom S[A][B]C", "production p: S > [B]C => X", "ignore"];
-    assert!(rt; gives(rt.alloc(), &deep, 8, "X")?);
-    assert!(rt; gives(rt.alloc(), &flat, 0, "X")?);
-    Ok(())
+    is_given(&rt, rt.alloc(), DEEP, 8, "X")?;
+    is_given(&rt, rt.alloc(), FLAT, 0, "X")
 }
+
+const ONE_HAS_WEIGHT: &[&str] = &[
+    "axiom AAA",
+    "production p: A @ 0 => B",
+    "production q: A @ 5 => C",
+];
+
+const NONE_HAS_WEIGHT: &[&str] = &[
+    "axiom AAA",
+    "production p: A @ 0 => B",
+    "production q: A @ 0 => C",
+];
 
 #[test]
 fn weights_choose(rt: HostRuntime) -> Result<(), Fail> {
-    let one = [
-        "axiom AAA",
-        "production p: A @ 0 => B",
-        "production q: A @ 5 => C",
-    ];
-    let none = [one[0], one[1], "production q: A @ 0 => C"];
-    assert!(rt; gives(rt.alloc(), &one, 2, "C")?);
-    assert!(rt; gives(rt.alloc(), &none, 2, "A")?);
-    Ok(())
+    is_given(&rt, rt.alloc(), ONE_HAS_WEIGHT, 2, "C")?;
+    is_given(&rt, rt.alloc(), NONE_HAS_WEIGHT, 2, "A")
 }
+
+const HEAVY: &[&str] = &[
+    "axiom A",
+    "production p: A @ 9223372036854775807 => B",
+    "production q: A @ 0 => C",
+];
 
 #[test]
 fn a_heavy_rule_is_chosen(rt: HostRuntime) -> Result<(), Fail> {
-    let lines = [
-        "axiom A",
-        "production p: A @ 9223372036854775807 => B",
-        "production q: A @ 0 => C",
-    ];
-    assert!(rt; gives(rt.alloc(), &lines, 0, "B")?);
-    Ok(())
+    is_given(&rt, rt.alloc(), HEAVY, 0, "B")
 }
+
+const NEGATIVE: &[&str] = &[
+    "axiom AAA",
+    "production p: A @ 0 => B",
+    "production q: A @ -1 => C",
+];
+
+const TOO_HEAVY: &[&str] = &[
+    "axiom A",
+    "production p: A @ 9223372036854775807 => B",
+    "production q: A @ 1 => C",
+];
 
 #[test]
 fn weights_have_faults(rt: HostRuntime) -> Result<(), Fail> {
-    let negative = [
-        "axiom AAA",
-        "production p: A @ 0 => B",
-        "production q: A @ -1 => C",
-    ];
-    let heavy = [
-        "axiom A",
-        "production p: A @ 9223372036854775807 => B",
-        "production q: A @ 1 => C",
-    ];
-    let negative = answer(rt.alloc(), &negative, 0)?.err();
-    assert_eq!(rt; negative, Some(FaultKind::NegativeWeight));
-    let heavy = answer(rt.alloc(), &heavy, 0)?.err();
-    assert_eq!(rt; heavy, Some(FaultKind::WeightTotal));
-    Ok(())
+    is_a_fault(&rt, rt.alloc(), NEGATIVE, 0, FaultKind::NegativeWeight)?;
+    is_a_fault(&rt, rt.alloc(), TOO_HEAVY, 0, FaultKind::WeightTotal)
 }
+
+const PRODUCT: &[&str] = &[
+    "axiom A(10000000000000000)",
+    "production p: A(x) => A(x*x)",
+    "ignore",
+];
 
 #[test]
 fn a_product_overflows(rt: HostRuntime) -> Result<(), Fail> {
-    let lines = [
-        "axiom A(10000000000000000)",
-        "production p: A(x) => A(x*x)",
-        "ignore",
-    ];
-    let fault = answer(rt.alloc(), &lines, 0)?.err();
-    assert_eq!(rt; fault, Some(FaultKind::Overflow));
-    Ok(())
+    is_a_fault(&rt, rt.alloc(), PRODUCT, 0, FaultKind::Overflow)
 }
+
+const ALONE: &[&str] = &[
+    "axiom A",
+    "production p: A @ 1 => B",
+    "production q: A @ 1 => C",
+    "seed 1",
+];
+
+const SECOND: &[&str] = &[
+    "axiom +A",
+    "production p: A @ 1 => B",
+    "production q: A @ 1 => C",
+    "seed 0",
+];
 
 #[test]
 fn a_draw_goes_by_ancestry_and_not_by_place(rt: HostRuntime) -> Result<(), Fail> {
-    let rules = ["production p: A @ 1 => B", "production q: A @ 1 => C"];
-    let alone = answer(rt.alloc(), &["axiom A", rules[0], rules[1], "seed 1"], 0)?;
-    let second = answer(rt.alloc(), &["axiom +A", rules[0], rules[1], "seed 0"], 1)?;
+    let alone = answer(rt.alloc(), ALONE, 0)?;
+    let second = answer(rt.alloc(), SECOND, 1)?;
     assert!(rt; alone.is_ok());
     assert_eq!(rt; alone, second);
     Ok(())
@@ -304,59 +343,87 @@ fn told(alloc: Global, before: &[&str], after: &[&str]) -> Result<Again, AllocEr
     asked_twice::<Brand, Brand>(alloc, &first, &then, Blank::new(1), Blank::new(1))
 }
 
+/// Whether the same is asked where other lines make the system.
+fn is_asked_again(
+    rt: &impl Abort,
+    alloc: Global,
+    before: &[&str],
+    after: &[&str],
+    same: bool,
+) -> Result<(), Fail> {
+    let again = told(alloc, before, after)?;
+    assert_eq!(rt; again.same, same, "{after:?}");
+    Ok(())
+}
+
+const LINES: &[&str] = &["axiom A(1)B(2)", "production p: A(x) > B(y) => X", "seed 1"];
+
 #[test]
 fn a_trace_has_what_was_read(rt: HostRuntime) -> Result<(), Fail> {
-    let lines = ["axiom A(1)B(2)", "production p: A(x) > B(y) => X", "seed 1"];
     let expected = Again {
         same: true,
         entries: 1,
         values: 1,
     };
-    assert_eq!(rt; told(rt.alloc(), &lines, &lines)?, expected);
+    assert_eq!(rt; told(rt.alloc(), LINES, LINES)?, expected);
     Ok(())
 }
+
+const OTHER_SEED: &[&str] = &["axiom A(1)B(2)", "production p: A(x) > B(y) => X", "seed 2"];
+
+const OTHER_IGNORED: &[&str] = &[
+    "axiom A(1)B(2)",
+    "production p: A(x) > B(y) => X",
+    "ignore C",
+];
+
+const OTHER_FORMALS: &[&str] = &["axiom A(1)B(2)", "production p: A(z) > B(y) => X", "seed 1"];
 
 #[test]
 fn seed_and_ignored_and_formals_leave_a_question(rt: HostRuntime) -> Result<(), Fail> {
-    let lines = ["axiom A(1)B(2)", "production p: A(x) > B(y) => X", "seed 1"];
-    let seed = [lines[0], lines[1], "seed 2"];
-    let ignored = [lines[0], lines[1], "ignore C"];
-    let formals = [lines[0], "production p: A(z) > B(y) => X", lines[2]];
-    assert!(rt; told(rt.alloc(), &lines, &seed)?.same);
-    assert!(rt; told(rt.alloc(), &lines, &ignored)?.same);
-    assert!(rt; told(rt.alloc(), &lines, &formals)?.same);
-    Ok(())
+    is_asked_again(&rt, rt.alloc(), LINES, OTHER_SEED, true)?;
+    is_asked_again(&rt, rt.alloc(), LINES, OTHER_IGNORED, true)?;
+    is_asked_again(&rt, rt.alloc(), LINES, OTHER_FORMALS, true)
 }
+
+const OTHER_CONTEXT: &[&str] = &["axiom A(1)B(3)", "production p: A(x) > B(y) => X", "seed 1"];
+
+const OTHER_OWN: &[&str] = &["axiom A(2)B(2)", "production p: A(x) > B(y) => X", "seed 1"];
+
+const OTHER_SUCCESSOR: &[&str] = &["axiom A(1)B(2)", "production p: A(x) > B(y) => Y", "seed 1"];
 
 #[test]
 fn parameters_and_successors_make_another_question(rt: HostRuntime) -> Result<(), Fail> {
-    let lines = ["axiom A(1)B(2)", "production p: A(x) > B(y) => X", "seed 1"];
-    let context = ["axiom A(1)B(3)", lines[1], lines[2]];
-    let own = ["axiom A(2)B(2)", lines[1], lines[2]];
-    let successor = [lines[0], "production p: A(x) > B(y) => Y", lines[2]];
-    assert!(rt; !told(rt.alloc(), &lines, &context)?.same);
-    assert!(rt; !told(rt.alloc(), &lines, &own)?.same);
-    assert!(rt; !told(rt.alloc(), &lines, &successor)?.same);
-    Ok(())
+    is_asked_again(&rt, rt.alloc(), LINES, OTHER_CONTEXT, false)?;
+    is_asked_again(&rt, rt.alloc(), LINES, OTHER_OWN, false)?;
+    is_asked_again(&rt, rt.alloc(), LINES, OTHER_SUCCESSOR, false)
 }
+
+const BRANCH: &[&str] = &[
+    "axiom A(1)[B(2)]",
+    "production p: A(x) > B(y) => X",
+    "seed 1",
+];
 
 #[test]
 fn a_branch_makes_another_question(rt: HostRuntime) -> Result<(), Fail> {
-    let lines = ["axiom A(1)B(2)", "production p: A(x) > B(y) => X", "seed 1"];
-    let branch = ["axiom A(1)[B(2)]", lines[1], lines[2]];
-    assert!(rt; !told(rt.alloc(), &lines, &branch)?.same);
-    Ok(())
+    is_asked_again(&rt, rt.alloc(), LINES, BRANCH, false)
 }
+
+const WEIGHTED: &[&str] = &[
+    "axiom A",
+    "production p: A @ 1 => B",
+    "production q: A @ 1 => C",
+];
+
+const TURNED: &[&str] = &[
+    "axiom A",
+    "production q: A @ 1 => C",
+    "production p: A @ 1 => B",
+];
 
 #[test]
 fn the_order_of_weighted_rules_is_asked(rt: HostRuntime) -> Result<(), Fail> {
-    let lines = [
-        "axiom A",
-        "production p: A @ 1 => B",
-        "production q: A @ 1 => C",
-    ];
-    let turned = [lines[0], lines[2], lines[1]];
-    assert!(rt; told(rt.alloc(), &lines, &lines)?.same);
-    assert!(rt; !told(rt.alloc(), &lines, &turned)?.same);
-    Ok(())
+    is_asked_again(&rt, rt.alloc(), WEIGHTED, WEIGHTED, true)?;
+    is_asked_again(&rt, rt.alloc(), WEIGHTED, TURNED, false)
 }

@@ -13,6 +13,7 @@ use lsys_rules::System;
 use lsys_text::Name;
 use lsys_turtle::{Far, Segment, Turtle};
 use std::alloc::{AllocError, Global};
+use std::process::Abort;
 use std::test::Fail;
 
 /// Both ends and the width.
@@ -128,94 +129,129 @@ fn over_axiom<T: Lattice>(alloc: Global, lines: &[&str]) -> Result<(Drawn, End),
     over_level::<T>(alloc, &system, system.axiom().symbols())
 }
 
-#[test]
-fn a_homomorphism_is_applied_once(rt: HostRuntime) -> Result<(), Fail> {
-    let lines = ["axiom AA", "hom h: A => F(2)+"];
-    let (drawn, end) = over_axiom::<Square>(rt.alloc(), &lines)?;
-    let expected = [((0, 0, 0), (0, 2, 0), 1), ((0, 2, 0), (-2, 2, 0), 1)];
-    assert_eq!(rt; drawn.first.as_slice(), expected.as_slice());
+/// These are the first segments over the axiom of the system that these lines make, and so many are drawn in all.
+fn is_drawn<T: Lattice>(
+    rt: &impl Abort,
+    alloc: Global,
+    lines: &[&str],
+    first: &[Line],
+    count: u32,
+) -> Result<(), Fail> {
+    let (drawn, end) = over_axiom::<T>(alloc, lines)?;
+    assert_eq!(rt; drawn.first.as_slice(), first);
     assert_eq!(rt; end, End::Whole);
-    assert_eq!(rt; drawn.count, 2);
+    assert_eq!(rt; drawn.count, count);
     Ok(())
 }
 
+/// The way over the axiom of the system that these lines make ends so, with this segment as the last.
+fn is_ended(
+    rt: &impl Abort,
+    alloc: Global,
+    lines: &[&str],
+    last: Option<Line>,
+    end: End,
+) -> Result<(), Fail> {
+    let (drawn, ended) = over_axiom::<Square>(alloc, lines)?;
+    assert_eq!(rt; ended, end, "{lines:?}");
+    assert_eq!(rt; drawn.last, last, "{lines:?}");
+    Ok(())
+}
+
+const TWO_SIDES: &[Line] = &[((0, 0, 0), (0, 2, 0), 1), ((0, 2, 0), (-2, 2, 0), 1)];
+
+#[test]
+fn a_homomorphism_is_applied_once(rt: HostRuntime) -> Result<(), Fail> {
+    let lines = &["axiom AA", "hom h: A => F(2)+"];
+    is_drawn::<Square>(&rt, rt.alloc(), lines, TWO_SIDES, 2)
+}
+
+const HEXAGON: &[Line] = &[
+    ((0, 0, 0), (1, 0, 0), 1),
+    ((1, 0, 0), (1, 1, 0), 1),
+    ((1, 1, 0), (0, 2, 0), 1),
+    ((0, 2, 0), (-1, 2, 0), 1),
+    ((-1, 2, 0), (-1, 1, 0), 1),
+    ((-1, 1, 0), (0, 0, 0), 1),
+];
+
+const WAY_IN_SPACE: &[Line] = &[
+    ((0, 0, 0), (0, 1, 0), 1),
+    ((0, 1, 0), (0, 1, -1), 1),
+    ((0, 1, -1), (0, 2, -1), 1),
+];
+
 #[test]
 fn a_hexagon_and_a_way_in_space(rt: HostRuntime) -> Result<(), Fail> {
-    let lines = ["lattice hexagonal", "axiom F+F+F+F+F+F"];
-    let (drawn_flat, _) = over_axiom::<Hexagonal>(rt.alloc(), &lines)?;
-    let hexagon = [
-        ((0, 0, 0), (1, 0, 0), 1),
-        ((1, 0, 0), (1, 1, 0), 1),
-        ((1, 1, 0), (0, 2, 0), 1),
-        ((0, 2, 0), (-1, 2, 0), 1),
-        ((-1, 2, 0), (-1, 1, 0), 1),
-        ((-1, 1, 0), (0, 0, 0), 1),
-    ];
-    assert_eq!(rt; drawn_flat.first.as_slice(), hexagon.as_slice());
-    assert_eq!(rt; drawn_flat.count, 6);
-    let (drawn_deep, _) = over_axiom::<Cubic>(rt.alloc(), &["lattice cubic", "axiom F&F^F"])?;
-    let way = [
-        ((0, 0, 0), (0, 1, 0), 1),
-        ((0, 1, 0), (0, 1, -1), 1),
-        ((0, 1, -1), (0, 2, -1), 1),
-    ];
-    assert_eq!(rt; drawn_deep.first.as_slice(), way.as_slice());
-    assert_eq!(rt; drawn_deep.count, 3);
+    let lines = &["lattice hexagonal", "axiom F+F+F+F+F+F"];
+    is_drawn::<Hexagonal>(&rt, rt.alloc(), lines, HEXAGON, 6)?;
+    let lines = &["lattice cubic", "axiom F&F^F"];
+    is_drawn::<Cubic>(&rt, rt.alloc(), lines, WAY_IN_SPACE, 3)
+}
+
+const ISLAND: &[&str] = &["axiom F-F-F-F", "hom f: F => F-F+F+FF-F-F+F"];
+
+const FIRST_LEVEL: &[&str] = &[
+    "axiom F-F+F+FF-F-F+F-F-F+F+FF-F-F+F-F-F+F+FF-F-F+F-F-F+F+FF-F-F+F",
+    "hom f: F => F-F+F+FF-F-F+F",
+];
+
+const SIDE: &[Line] = &[
+    ((0, 0, 0), (0, 1, 0), 1),
+    ((0, 1, 0), (1, 1, 0), 1),
+    ((1, 1, 0), (1, 2, 0), 1),
+    ((1, 2, 0), (0, 2, 0), 1),
+    ((0, 2, 0), (-1, 2, 0), 1),
+    ((-1, 2, 0), (-1, 3, 0), 1),
+    ((-1, 3, 0), (0, 3, 0), 1),
+    ((0, 3, 0), (0, 4, 0), 1),
+];
+
+/// So many segments are drawn over the axiom of the system that these lines make, and the last ends where the first begins.
+fn is_closed(rt: &impl Abort, alloc: Global, lines: &[&str], count: u32) -> Result<(), Fail> {
+    let (drawn, end) = over_axiom::<Square>(alloc, lines)?;
+    assert_eq!(rt; end, End::Whole);
+    assert_eq!(rt; drawn.count, count);
+    assert_eq!(rt; drawn.last.map(|line| line.1), Some((0, 0, 0)));
     Ok(())
 }
 
 /// The quadratic Koch island (ABOP 1.3): the image is its first level, and that level's image the second.
 #[test]
 fn the_quadratic_koch_island(rt: HostRuntime) -> Result<(), Fail> {
-    let side = "hom f: F => F-F+F+FF-F-F+F";
-    let first_level = "axiom F-F+F+FF-F-F+F-F-F+F+FF-F-F+F-F-F+F+FF-F-F+F-F-F+F+FF-F-F+F";
-    let expected = [
-        ((0, 0, 0), (0, 1, 0), 1),
-        ((0, 1, 0), (1, 1, 0), 1),
-        ((1, 1, 0), (1, 2, 0), 1),
-        ((1, 2, 0), (0, 2, 0), 1),
-        ((0, 2, 0), (-1, 2, 0), 1),
-        ((-1, 2, 0), (-1, 3, 0), 1),
-        ((-1, 3, 0), (0, 3, 0), 1),
-        ((0, 3, 0), (0, 4, 0), 1),
-    ];
-    for (axiom, count) in [("axiom F-F-F-F", 32), (first_level, 256)] {
-        let (drawn, end) = over_axiom::<Square>(rt.alloc(), &[axiom, side])?;
-        assert_eq!(rt; end, End::Whole);
-        assert_eq!(rt; drawn.count, count);
-        if count == 32 {
-            assert_eq!(rt; drawn.first.as_slice(), expected.as_slice());
-        }
-        assert_eq!(rt; drawn.last.map(|line| line.1), Some((0, 0, 0)));
-    }
-    Ok(())
+    is_drawn::<Square>(&rt, rt.alloc(), ISLAND, SIDE, 32)?;
+    is_closed(&rt, rt.alloc(), ISLAND, 32)?;
+    is_closed(&rt, rt.alloc(), FIRST_LEVEL, 256)
+}
+
+fn ends() -> &'static [(&'static [&'static str], Option<Line>, End)] {
+    &[
+        (&["axiom F(1000000001)", "ignore"], None, End::Far(1)),
+        (
+            &["axiom F(1000000000)", "ignore"],
+            Some(((0, 0, 0), (0, 1_000_000_000, 0), 1)),
+            End::Whole,
+        ),
+        (
+            &["axiom A(0)", "hom h: A(x) => F(1/x)"],
+            None,
+            End::Image(ImageRefusal::Arith {
+                kind: Arith::DivideByZero,
+                module: 1,
+            }),
+        ),
+        (
+            &["axiom +[F(-1000000001)]", "hom h: + => A+"],
+            None,
+            End::Far(3),
+        ),
+    ]
 }
 
 #[test]
 fn image_and_far(rt: HostRuntime) -> Result<(), Fail> {
-    let farthest = Some(((0, 0, 0), (0, 1_000_000_000, 0), 1));
-    let fault = ImageRefusal::Arith {
-        kind: Arith::DivideByZero,
-        module: 1,
-    };
-    let rows = [
-        (["axiom F(1000000001)", "ignore"], None, End::Far(1)),
-        (["axiom F(1000000000)", "ignore"], farthest, End::Whole),
-        (
-            ["axiom A(0)", "hom h: A(x) => F(1/x)"],
-            None,
-            End::Image(fault),
-        ),
-        (
-            ["axiom +[F(-1000000001)]", "hom h: + => A+"],
-            None,
-            End::Far(3),
-        ),
-    ];
-    for (lines, last, end) in rows {
-        let (drawn, ended) = over_axiom::<Square>(rt.alloc(), &lines)?;
-        assert_eq!(rt; ended, end, "{lines:?}");
-        assert_eq!(rt; drawn.last, last, "{lines:?}");
+    for (lines, last, end) in ends() {
+        is_ended(&rt, rt.alloc(), *lines, *last, *end)?;
     }
     Ok(())
 }
@@ -254,11 +290,15 @@ fn the_largest_image(rt: HostRuntime) -> Result<(), Fail> {
     Ok(())
 }
 
+/// The image of so many modules is too large.
+fn is_too_large(rt: &impl Abort, alloc: Global, letters: usize, more: usize) -> Result<(), Fail> {
+    let (_, end) = over_large(alloc, letters, more)?;
+    assert_eq!(rt; end, End::Image(ImageRefusal::Limit), "{letters} {more}");
+    Ok(())
+}
+
 #[test]
 fn one_symbol_more_than_the_largest_image(rt: HostRuntime) -> Result<(), Fail> {
-    for (letters, more) in [(125, 1), (126, 0)] {
-        let (_, end) = over_large(rt.alloc(), letters, more)?;
-        assert_eq!(rt; end, End::Image(ImageRefusal::Limit), "{letters} {more}");
-    }
-    Ok(())
+    is_too_large(&rt, rt.alloc(), 125, 1)?;
+    is_too_large(&rt, rt.alloc(), 126, 0)
 }

@@ -1,14 +1,21 @@
 use crate::program::ran_by;
+use std::alloc::Global;
+use std::process::Abort;
 use std::test::Fail;
+
+/// A script is answered so.
+fn is_answered(rt: &impl Abort, alloc: Global, script: &str, replies: &str) -> Result<(), Fail> {
+    let (_, written) = ran_by(alloc, &[], script.as_bytes())?;
+    assert_eq!(rt; written.as_slice(), replies.as_bytes());
+    Ok(())
+}
 
 #[test]
 fn productions_that_are_changed_and_put_again(rt: HostRuntime) -> Result<(), Fail> {
     let algae =
         "axiom A\nproduction a: A => AB\nproduction b: B => A\ndepth 5\nstring\nproduction b: B => B\nstring\nproduction b: B => B\n";
     let replies = "ok 0/0\nok 0/0\nok 0/0\nok 19/19\nABAABABAABAAB\nok 10/15\nABBBBB\nok 0/15\n";
-    let (_, written) = ran_by(rt.alloc(), &[], algae.as_bytes())?;
-    assert_eq!(rt; written.as_slice(), replies.as_bytes());
-    Ok(())
+    is_answered(&rt, rt.alloc(), algae, replies)
 }
 
 #[test]
@@ -16,9 +23,7 @@ fn a_signal(rt: HostRuntime) -> Result<(), Fail> {
     let signal =
         "axiom F_b[+F_a]F_a[-F_a]F_a[+F_a]F_a\nignore +-\nproduction s: F_b < F_a => F_b\ndepth 3\nstring\naxiom F_a[+F_a]F_a[-F_a]F_a[+F_a]F_a\n";
     let replies = "ok 0/0\nok 0/0\nok 0/0\nok 12/12\nF_b[+F_b]F_b[-F_b]F_b[+F_b]F_b\nok 15/21\n";
-    let (_, written) = ran_by(rt.alloc(), &[], signal.as_bytes())?;
-    assert_eq!(rt; written.as_slice(), replies.as_bytes());
-    Ok(())
+    is_answered(&rt, rt.alloc(), signal, replies)
 }
 
 #[test]
@@ -27,9 +32,7 @@ fn parameters(rt: HostRuntime) -> Result<(), Fail> {
         "axiom B(2)A(4,4)\nproduction a: A(x,y) : y <= 3 => A(x*2,x+y)\nproduction b: A(x,y) : y > 3 => B(x)A(x/y,0)\nproduction c: B(x) : x < 1 => C\nproduction d: B(x) : x >= 1 => B(x-1)\ndepth 5\nstring 1\nstring 2\nstring 3\nstring 4\nstring\n";
     let replies =
         "ok 0/0\nok 0/0\nok 0/0\nok 0/0\nok 0/0\nok 12/12\nB(1)B(4)A(1,0)\nB(0)B(3)A(2,1)\nCB(2)A(4,3)\nCB(1)A(8,7)\nCB(0)B(8)A(1,0)\n";
-    let (_, written) = ran_by(rt.alloc(), &[], script.as_bytes())?;
-    assert_eq!(rt; written.as_slice(), replies.as_bytes());
-    Ok(())
+    is_answered(&rt, rt.alloc(), script, replies)
 }
 
 #[test]
@@ -38,9 +41,7 @@ fn weights(rt: HostRuntime) -> Result<(), Fail> {
         "axiom AAA\nproduction p: A @ 0 => B\nproduction q: A @ 5 => C\ndepth 1\nstring\nseed 7\nstring\nproduction q: A @ 0 => C\nstring\nproduction q: A @ -1 => C\nstring\n";
     let replies =
         "ok 0/0\nok 0/0\nok 0/0\nok 3/3\nCCC\nok 3/3\nCCC\nok 3/3\nAAA\nrefused fault negative-weight level 0 module 1\nAAA\n";
-    let (_, written) = ran_by(rt.alloc(), &[], script.as_bytes())?;
-    assert_eq!(rt; written.as_slice(), replies.as_bytes());
-    Ok(())
+    is_answered(&rt, rt.alloc(), script, replies)
 }
 
 #[test]
@@ -48,9 +49,7 @@ fn an_insertion_between_symbols_that_did_not_change(rt: HostRuntime) -> Result<(
     let script =
         "axiom ABC\nproduction c: A < C => X\nproduction e: B =>\ndepth 2\nstring\nproduction e: B => B\nstring\n";
     let replies = "ok 0/0\nok 0/0\nok 0/0\nok 3/3\nAX\nok 3/4\nABC\n";
-    let (_, written) = ran_by(rt.alloc(), &[], script.as_bytes())?;
-    assert_eq!(rt; written.as_slice(), replies.as_bytes());
-    Ok(())
+    is_answered(&rt, rt.alloc(), script, replies)
 }
 
 #[test]
@@ -58,9 +57,7 @@ fn a_cut_comes_and_goes(rt: HostRuntime) -> Result<(), Fail> {
     let script =
         "axiom ABC\nproduction a: A => A\nproduction c: C => D\ndepth 2\nstring\nproduction a: A => A%\nstring\nproduction a: A => A\nstring\n";
     let replies = "ok 0/0\nok 0/0\nok 0/0\nok 3/3\nABD\nok 2/3\nA\nok 2/3\nABD\n";
-    let (_, written) = ran_by(rt.alloc(), &[], script.as_bytes())?;
-    assert_eq!(rt; written.as_slice(), replies.as_bytes());
-    Ok(())
+    is_answered(&rt, rt.alloc(), script, replies)
 }
 
 #[test]
@@ -68,9 +65,7 @@ fn the_quadratic_koch_island(rt: HostRuntime) -> Result<(), Fail> {
     let script =
         "axiom F-F-F-F\nproduction f: F => F-F+F+FF-F-F+F\ndepth 1\ndepth 2\ndepth 4\ndepth 5\n";
     let replies = "ok 0/0\nok 0/0\nok 4/4\nok 32/36\nok 2304/2340\nrefused limit level 5\n";
-    let (_, written) = ran_by(rt.alloc(), &[], script.as_bytes())?;
-    assert_eq!(rt; written.as_slice(), replies.as_bytes());
-    Ok(())
+    is_answered(&rt, rt.alloc(), script, replies)
 }
 
 #[test]
@@ -78,14 +73,11 @@ fn a_draw_by_what_stands_above(rt: HostRuntime) -> Result<(), Fail> {
     let above =
         "production p: A @ 1 => B\nproduction q: A @ 1 => C\naxiom ES\nproduction e: E => E\nproduction s: S => A\ndepth 2\nstring\nproduction e: E => EE\nstring\n";
     let replies = "ok 0/0\nok 0/0\nok 0/0\nok 0/0\nok 0/0\nok 4/4\nEC\nok 3/5\nEEEEC\n";
-    let (_, written) = ran_by(rt.alloc(), &[], above.as_bytes())?;
-    assert_eq!(rt; written.as_slice(), replies.as_bytes());
+    is_answered(&rt, rt.alloc(), above, replies)?;
     let seeds =
         "production p: A @ 1 => B\nproduction q: A @ 1 => C\ndepth 1\naxiom A\nseed 1\nstring\naxiom +A\nseed 0\nstring\n";
     let replies = "ok 0/0\nok 0/0\nok 0/0\nok 1/1\nok 1/1\nB\nok 1/1\nok 1/1\n+B\n";
-    let (_, written) = ran_by(rt.alloc(), &[], seeds.as_bytes())?;
-    assert_eq!(rt; written.as_slice(), replies.as_bytes());
-    Ok(())
+    is_answered(&rt, rt.alloc(), seeds, replies)
 }
 
 #[test]

@@ -32,9 +32,15 @@ fn kind_name(kind: CommandKind) -> &'static str {
     }
 }
 
-#[test]
-fn commands_and_what_they_are_for(rt: HostRuntime) -> Result<(), Fail> {
-    let rows: [(&str, &str); 26] = [
+/// A line is for this, or refused so.
+fn is_outlined(rt: &impl Abort, alloc: Global, line: &str, want: &str) -> Result<(), Fail> {
+    let text = outline(rt, alloc, line)?;
+    assert_eq!(rt; text.as_str(), want, "{line:?}");
+    Ok(())
+}
+
+fn command_rows() -> &'static [(&'static str, &'static str)] {
+    &[
         ("axiom", "edit"),
         ("axiom F_b(-9223372036854775808,0)[+F]%", "edit"),
         ("production p: A =>", "edit"),
@@ -64,17 +70,19 @@ fn commands_and_what_they_are_for(rt: HostRuntime) -> Result<(), Fail> {
         ("lattice round", "token 9"),
         ("schedule", "token 9"),
         ("", "token 1"),
-    ];
-    for (line, want) in rows {
-        let text = outline(&rt, rt.alloc(), line)?;
-        assert_eq!(rt; text.as_str(), want);
+    ]
+}
+
+#[test]
+fn commands_and_what_they_are_for(rt: HostRuntime) -> Result<(), Fail> {
+    for (line, want) in command_rows() {
+        is_outlined(&rt, rt.alloc(), *line, *want)?;
     }
     Ok(())
 }
 
-#[test]
-fn refused_lines_and_nesting(rt: HostRuntime) -> Result<(), Fail> {
-    let rows: [(&str, &str); 24] = [
+fn refused_rows() -> &'static [(&'static str, &'static str)] {
+    &[
         ("production p: A => [B", "token 22"),
         ("axiom A(1", "token 10"),
         ("seed 18446744073709551616", "token 6"),
@@ -105,10 +113,13 @@ fn refused_lines_and_nesting(rt: HostRuntime) -> Result<(), Fail> {
             "production p: A(x) => A(((((((((((((((((((((((((((((((((x)))))))))))))))))))))))))))))))))",
             "edit",
         ),
-    ];
-    for (line, want) in rows {
-        let text = outline(&rt, rt.alloc(), line)?;
-        assert_eq!(rt; text.as_str(), want);
+    ]
+}
+
+#[test]
+fn refused_lines_and_nesting(rt: HostRuntime) -> Result<(), Fail> {
+    for (line, want) in refused_rows() {
+        is_outlined(&rt, rt.alloc(), *line, *want)?;
     }
     Ok(())
 }

@@ -1,9 +1,10 @@
 //! Commands, and what they make of a system: which lines are refused and at which column, and what stays.
 use lsys_rules::{
-    Command, CommandKind, LatticeKind, Refusal, System, Template, apply, parse_command,
+    Command, CommandKind, LatticeKind, Refusal, SharedBody, System, Template, apply, parse_command,
 };
 use lsys_text::{Name, TextRefusal, tokens};
 use std::alloc::{AllocError, Global};
+use std::process::Abort;
 use std::test::Fail;
 
 /// The command of a line.
@@ -34,40 +35,57 @@ pub(crate) fn system_after(alloc: Global, lines: &[&str]) -> Result<System, Allo
     Ok(system)
 }
 
-#[test]
-fn lines_and_what_they_are_for(rt: HostRuntime) -> Result<(), Fail> {
-    let edit = CommandKind::Edit;
-    let rows = [
-        ("axiom F[+A(1,-2)]%", edit),
+/// A line is for this.
+fn is_for(rt: &impl Abort, alloc: Global, line: &str, kind: CommandKind) {
+    let answered = command_of(alloc, line).map(|command| command.kind());
+    assert_eq!(rt; answered, Ok(kind), "{line:?}");
+}
+
+fn kind_rows() -> &'static [(&'static str, CommandKind)] {
+    &[
+        ("axiom F[+A(1,-2)]%", CommandKind::Edit),
         (
             "production main p: A < B(x) > [C]D : x > 0 @ 2 => B(x - 1)[C]",
-            edit,
+            CommandKind::Edit,
         ),
-        ("drop p", edit),
-        ("ignore", edit),
-        ("ignore +-F_a", edit),
-        ("schedule main winter", edit),
-        ("seed 18446744073709551615", edit),
-        ("depth 64", edit),
-        ("lattice cubic", edit),
-        ("hom h: A(x) : x > 0 => F[+]", edit),
+        ("drop p", CommandKind::Edit),
+        ("ignore", CommandKind::Edit),
+        ("ignore +-F_a", CommandKind::Edit),
+        ("schedule main winter", CommandKind::Edit),
+        ("seed 18446744073709551615", CommandKind::Edit),
+        ("depth 64", CommandKind::Edit),
+        ("lattice cubic", CommandKind::Edit),
+        ("hom h: A(x) : x > 0 => F[+]", CommandKind::Edit),
         ("string", CommandKind::String { level: None }),
         ("string 1", CommandKind::String { level: Some(1) }),
         ("segments", CommandKind::Segments),
         ("svg", CommandKind::Svg),
         ("show", CommandKind::Show),
         ("quit", CommandKind::Quit),
-    ];
-    for (line, kind) in rows {
-        let answered = command_of(rt.alloc(), line).map(|command| command.kind());
-        assert_eq!(rt; answered, Ok(kind), "{line:?}");
-    }
-    Ok(())
+    ]
 }
 
 #[test]
-fn refused_lines(rt: HostRuntime) -> Result<(), Fail> {
-    let rows = [
+fn lines_and_what_they_are_for(rt: HostRuntime) {
+    for (line, kind) in kind_rows() {
+        is_for(&rt, rt.alloc(), *line, *kind);
+    }
+}
+
+/// A line is refused so for a system, or taken where there is no refusal.
+fn is_refused(
+    rt: &impl Abort,
+    alloc: Global,
+    system: &System,
+    line: &str,
+    refusal: Option<Refusal>,
+) {
+    let answered = answer(alloc, system, line).err();
+    assert_eq!(rt; answered, refusal, "{line:?}");
+}
+
+fn refused_rows() -> &'static [(&'static str, Refusal)] {
+    &[
         ("production p: A => [B", Refusal::Token { column: 22 }),
         ("axiom A(1", Refusal::Token { column: 10 }),
         ("axiom A$", Refusal::Byte { column: 8 }),
@@ -109,45 +127,55 @@ fn refused_lines(rt: HostRuntime) -> Result<(), Fail> {
             "production p: A > B(a,b,c,d,e,f,g,h,i) => B",
             Refusal::TooMany { column: 37 },
         ),
-    ];
+    ]
+}
+
+#[test]
+fn refused_lines(rt: HostRuntime) -> Result<(), Fail> {
     let system = System::opening(rt.alloc())?;
-    for (line, refusal) in rows {
-        let answered = answer(rt.alloc(), &system, line).err();
-        assert_eq!(rt; answered, Some(refusal), "{line:?}");
+    for (line, refusal) in refused_rows() {
+        is_refused(&rt, rt.alloc(), &system, *line, Some(*refusal));
     }
     Ok(())
 }
 
-/// A line that is refused behind another one.
-fn refusal_behind(alloc: Global, before: &str, line: &str) -> Result<Option<Refusal>, AllocError> {
+/// A line is refused so behind another one, or taken where there is no refusal.
+fn is_refused_behind(
+    rt: &impl Abort,
+    alloc: Global,
+    before: &str,
+    line: &str,
+    refusal: Option<Refusal>,
+) -> Result<(), Fail> {
     let system = system_after(alloc, &[before])?;
-    Ok(answer(alloc, &system, line).err())
+    is_refused(rt, alloc, &system, line, refusal);
+    Ok(())
 }
 
-#[test]
-fn lines_that_are_refused_for_what_stands(rt: HostRuntime) -> Result<(), Fail> {
-    let weighted = "production p: A @ 1 => B";
-    let rows = [
+const WEIGHTED: &str = "production p: A @ 1 => B";
+
+fn rows_behind() -> &'static [(&'static str, &'static str, Option<Refusal>)] {
+    &[
         (
-            weighted,
+            WEIGHTED,
             "production q: A => C",
             Some(Refusal::Mixed { column: 12 }),
         ),
-        (weighted, "production w q: A => C", None),
-        (weighted, "production q: A(x) => C", None),
-        (weighted, "production p: A => B", None),
+        (WEIGHTED, "production w q: A => C", None),
+        (WEIGHTED, "production q: A(x) => C", None),
+        (WEIGHTED, "production p: A => B", None),
         (
-            weighted,
+            WEIGHTED,
             "production q: A => C(y)",
             Some(Refusal::Name { column: 22 }),
         ),
         (
-            weighted,
+            WEIGHTED,
             "production w p: A => C",
             Some(Refusal::Label { column: 14 }),
         ),
         (
-            weighted,
+            WEIGHTED,
             "hom p: A => B",
             Some(Refusal::Label { column: 5 }),
         ),
@@ -162,61 +190,93 @@ fn lines_that_are_refused_for_what_stands(rt: HostRuntime) -> Result<(), Fail> {
             Some(Refusal::Mixed { column: 14 }),
         ),
         ("production w a: A => B", "schedule main w", None),
-    ];
-    for (before, line, refusal) in rows {
-        assert_eq!(rt;
-            refusal_behind(rt.alloc(), before, line)?,
-            refusal,
-            "{line:?}"
-        );
+    ]
+}
+
+#[test]
+fn lines_that_are_refused_for_what_stands(rt: HostRuntime) -> Result<(), Fail> {
+    for (before, line, refusal) in rows_behind() {
+        is_refused_behind(&rt, rt.alloc(), *before, *line, *refusal)?;
     }
     Ok(())
 }
 
-#[test]
-fn tables_and_the_last_rule_of_one(rt: HostRuntime) -> Result<(), Fail> {
-    let lines = [
+/// A level has one rule for a module, with this label.
+fn has_one_rule(
+    rt: &impl Abort,
+    system: &System,
+    level: u32,
+    name: Name,
+    label: &str,
+) -> Result<(), Fail> {
+    let Some(rule) = system.group_rule(level, name, 0, 0) else {
+        return Err(Fail::from(AllocError));
+    };
+    assert_eq!(rt; rule.label.text().as_bytes(), label.as_bytes());
+    assert!(rt; system.group_rule(level, name, 0, 1).is_none());
+    assert!(rt; system.group_rule(level, name, 1, 0).is_none());
+    Ok(())
+}
+
+fn lines_with_tables() -> &'static [&'static str] {
+    &[
         "axiom A",
         "production a: A => AB",
         "production winter w: A => C",
         "schedule main winter",
         "depth 2",
-    ];
-    let system = system_after(rt.alloc(), &lines)?;
-    assert_eq!(rt; system.tables().len(), 2);
-    assert_eq!(rt; system.schedule().len(), 2);
-    let name = Name::from_text(b"A");
-    for (level, label) in [(0, b"a"), (1, b"w"), (2, b"a")] {
-        let Some(rule) = system.group_rule(level, name, 0, 0) else {
-            return Err(Fail::from(AllocError));
-        };
-        assert_eq!(rt; rule.label.text().as_bytes(), label.as_slice());
-        assert!(rt; system.group_rule(level, name, 0, 1).is_none());
-        assert!(rt; system.group_rule(level, name, 1, 0).is_none());
-    }
-    assert_eq!(rt;
-        answer(rt.alloc(), &system, "drop w").err(),
-        Some(Refusal::Table { column: 6 })
-    );
-    let Ok(other) = answer(rt.alloc(), &system, "drop a") else {
+    ]
+}
+
+/// Without the rule `a` no rule is left for an `A`.
+fn is_left_without_a(rt: &impl Abort, alloc: Global, system: &System) -> Result<(), Fail> {
+    let Ok(other) = answer(alloc, system, "drop a") else {
         return Err(Fail::from(AllocError));
     };
     assert_eq!(rt; other.rules().len(), 1);
-    assert!(rt; other.group_rule(0, name, 0, 0).is_none());
+    assert!(rt; other.group_rule(0, Name::from_text(b"A"), 0, 0).is_none());
     Ok(())
 }
 
+/// The table of each level gives an `A` its rule.
+fn levels_have_their_rules(rt: &impl Abort, system: &System) -> Result<(), Fail> {
+    let name = Name::from_text(b"A");
+    for (level, label) in [(0, "a"), (1, "w"), (2, "a")].as_slice() {
+        has_one_rule(rt, system, *level, name, *label)?;
+    }
+    Ok(())
+}
+
+/// Two tables, one behind the other in the schedule.
+fn has_two_tables(rt: &impl Abort, system: &System) {
+    assert_eq!(rt; system.tables().len(), 2);
+    assert_eq!(rt; system.schedule().len(), 2);
+}
+
 #[test]
-fn edits_and_what_they_leave(rt: HostRuntime) -> Result<(), Fail> {
-    let lines = [
+fn tables_and_the_last_rule_of_one(rt: HostRuntime) -> Result<(), Fail> {
+    let system = system_after(rt.alloc(), lines_with_tables())?;
+    has_two_tables(&rt, &system);
+    levels_have_their_rules(&rt, &system)?;
+    let refusal = Some(Refusal::Table { column: 6 });
+    is_refused(&rt, rt.alloc(), &system, "drop w", refusal);
+    is_left_without_a(&rt, rt.alloc(), &system)
+}
+
+fn lines_of_edits() -> &'static [&'static str] {
+    &[
         "hom h: A => F",
         "axiom A[X(2,1)]%",
         "ignore +-+F_a-",
         "seed 7",
         "lattice cubic",
         "depth 3",
-    ];
-    let system = system_after(rt.alloc(), &lines)?;
+    ]
+}
+
+#[test]
+fn edits_and_what_they_leave(rt: HostRuntime) -> Result<(), Fail> {
+    let system = system_after(rt.alloc(), lines_of_edits())?;
     assert_eq!(rt; system.axiom().len(), 5);
     assert_eq!(rt; system.depth(), 3);
     assert_eq!(rt; system.seed(), 7);
@@ -228,28 +288,36 @@ fn edits_and_what_they_leave(rt: HostRuntime) -> Result<(), Fail> {
     Ok(())
 }
 
-#[test]
-fn a_rule_is_put_in_the_place_of_its_label(rt: HostRuntime) -> Result<(), Fail> {
-    let lines = [
-        "production p: A => B",
-        "production q: A => C",
-        "production p: X(n, m) : n > m => Y(m) Z(n * n, 2)",
-    ];
-    let system = system_after(rt.alloc(), &lines)?;
-    assert_eq!(rt; system.rules().len(), 2);
-    let Some(first) = system.rules().first() else {
-        return Err(Fail::from(AllocError));
-    };
-    assert!(rt; first.label.text().as_bytes() == b"p".as_slice());
-    assert_eq!(rt; first.body.predecessor().arity(), 2);
-    assert!(rt; first.body.condition().is_some());
-    assert_eq!(rt; first.body.successor().len(), 2);
-    let Some(Template::Module { name, params }) = first.body.successor().get(1) else {
+/// A rule for `X(n, m)` has these parts.
+fn is_the_rule_of_x(rt: &impl Abort, body: &SharedBody) -> Result<(), Fail> {
+    assert_eq!(rt; body.predecessor().arity(), 2);
+    assert!(rt; body.condition().is_some());
+    assert_eq!(rt; body.successor().len(), 2);
+    let Some(Template::Module { name, params }) = body.successor().get(1) else {
         return Err(Fail::from(AllocError));
     };
     assert!(rt; name.text().as_bytes() == b"Z".as_slice());
     assert_eq!(rt; params.len(), 2);
     Ok(())
+}
+
+fn lines_with_a_label_twice() -> &'static [&'static str] {
+    &[
+        "production p: A => B",
+        "production q: A => C",
+        "production p: X(n, m) : n > m => Y(m) Z(n * n, 2)",
+    ]
+}
+
+#[test]
+fn a_rule_is_put_in_the_place_of_its_label(rt: HostRuntime) -> Result<(), Fail> {
+    let system = system_after(rt.alloc(), lines_with_a_label_twice())?;
+    assert_eq!(rt; system.rules().len(), 2);
+    let Some(first) = system.rules().first() else {
+        return Err(Fail::from(AllocError));
+    };
+    assert!(rt; first.label.text().as_bytes() == b"p".as_slice());
+    is_the_rule_of_x(&rt, &first.body)
 }
 
 /// A line with so many of a piece behind its front.
@@ -269,12 +337,29 @@ fn repeated(
     Ok(line)
 }
 
-#[test]
-fn limits_of_one_line(rt: HostRuntime) -> Result<(), Fail> {
-    let full = repeated(rt.alloc(), "", "B(1,1,1,1,1,1,1,1)", 113, "B(1,1,1,1)")?;
-    let rule = repeated(rt.alloc(), "production p: A => ", full.as_str(), 1, "")?;
-    let image = repeated(rt.alloc(), "hom h: A => ", full.as_str(), 1, "")?;
-    let rows: [(&str, &str, u16, &str, u32); 17] = [
+/// A line with so many of a piece is taken; with one more it is refused at the column.
+fn is_the_limit(
+    rt: &impl Abort,
+    alloc: Global,
+    front: &str,
+    piece: &str,
+    count: u16,
+    back: &str,
+    column: u32,
+) -> Result<(), Fail> {
+    let system = System::opening(alloc)?;
+    let count = u32::from(count);
+    let line = repeated(alloc, front, piece, count, back)?;
+    is_refused(rt, alloc, &system, line.as_str(), None);
+    let longer = repeated(alloc, front, piece, count + 1, back)?;
+    let refusal = Some(Refusal::TooMany { column });
+    is_refused(rt, alloc, &system, longer.as_str(), refusal);
+    Ok(())
+}
+
+/// A front, a piece, how many of it at most, what comes behind, and the column of one more.
+fn limit_rows() -> &'static [(&'static str, &'static str, u16, &'static str, u32)] {
+    &[
         ("production p: A => B(-1", "+1", 127, ")", 278),
         ("production p: A : 1", "+1", 127, " => B", 275),
         ("production p: A @ -1", "+1", 127, " => B", 275),
@@ -290,26 +375,24 @@ fn limits_of_one_line(rt: HostRuntime) -> Result<(), Fail> {
         ("production p: A => %", "B", 127, "", 148),
         ("ignore ", "A", 64, "", 72),
         ("schedule", " main", 64, "", 330),
-        (rule.as_str(), "B", 2, "", 2066),
-        (image.as_str(), "B", 2, "", 2059),
-    ];
-    let system = System::opening(rt.alloc())?;
-    for (front, piece, count, back, column) in rows {
-        let count = u32::from(count);
-        let line = repeated(rt.alloc(), front, piece, count, back)?;
-        assert!(rt;
-            answer(rt.alloc(), &system, line.as_str()).is_ok(),
-            "{piece:?} {count}"
-        );
-        let longer = repeated(rt.alloc(), front, piece, count + 1, back)?;
-        let answered = answer(rt.alloc(), &system, longer.as_str()).err();
-        assert_eq!(rt;
-            answered,
-            Some(Refusal::TooMany { column }),
-            "{piece:?} {count}"
-        );
+    ]
+}
+
+#[test]
+fn limits_of_one_line(rt: HostRuntime) -> Result<(), Fail> {
+    for (front, piece, count, back, column) in limit_rows() {
+        is_the_limit(&rt, rt.alloc(), *front, *piece, *count, *back, *column)?;
     }
     Ok(())
+}
+
+#[test]
+fn a_rule_has_at_most_2048_tokens_behind_its_label(rt: HostRuntime) -> Result<(), Fail> {
+    let full = repeated(rt.alloc(), "", "B(1,1,1,1,1,1,1,1)", 113, "B(1,1,1,1)")?;
+    let rule = repeated(rt.alloc(), "production p: A => ", full.as_str(), 1, "")?;
+    is_the_limit(&rt, rt.alloc(), rule.as_str(), "B", 2, "", 2066)?;
+    let image = repeated(rt.alloc(), "hom h: A => ", full.as_str(), 1, "")?;
+    is_the_limit(&rt, rt.alloc(), image.as_str(), "B", 2, "", 2059)
 }
 
 /// A system with so many productions, each in a table of its own or all in `main`.
@@ -326,11 +409,8 @@ fn system_with_rules(alloc: Global, count: u32, are_in_tables: bool) -> Result<S
     Ok(system)
 }
 
-#[test]
-fn a_system_has_at_most_256_rules(rt: HostRuntime) -> Result<(), Fail> {
-    let most = system_with_rules(rt.alloc(), 255, false)?;
-    let system = answer(rt.alloc(), &most, "hom h: A => B").map_err(|_| AllocError)?;
-    let rows = [
+fn rows_of_a_full_system() -> &'static [(&'static str, Option<Refusal>)] {
+    &[
         ("production p7: A => C", None),
         ("hom h: A => C", None),
         (
@@ -338,10 +418,15 @@ fn a_system_has_at_most_256_rules(rt: HostRuntime) -> Result<(), Fail> {
             Some(Refusal::TooMany { column: 12 }),
         ),
         ("hom i: A => B", Some(Refusal::TooMany { column: 5 })),
-    ];
-    for (line, refusal) in rows {
-        let answered = answer(rt.alloc(), &system, line).err();
-        assert_eq!(rt; answered, refusal, "{line:?}");
+    ]
+}
+
+#[test]
+fn a_system_has_at_most_256_rules(rt: HostRuntime) -> Result<(), Fail> {
+    let most = system_with_rules(rt.alloc(), 255, false)?;
+    let system = answer(rt.alloc(), &most, "hom h: A => B").map_err(|_| AllocError)?;
+    for (line, refusal) in rows_of_a_full_system() {
+        is_refused(&rt, rt.alloc(), &system, *line, *refusal);
     }
     Ok(())
 }
@@ -349,8 +434,14 @@ fn a_system_has_at_most_256_rules(rt: HostRuntime) -> Result<(), Fail> {
 #[test]
 fn a_system_has_at_most_16_tables(rt: HostRuntime) -> Result<(), Fail> {
     let system = system_with_rules(rt.alloc(), 15, true)?;
-    assert!(rt; answer(rt.alloc(), &system, "production t14 q: A => B").is_ok());
-    let refused = answer(rt.alloc(), &system, "production t15 q: A => B").err();
-    assert_eq!(rt; refused, Some(Refusal::TooMany { column: 12 }));
+    is_refused(&rt, rt.alloc(), &system, "production t14 q: A => B", None);
+    let refusal = Some(Refusal::TooMany { column: 12 });
+    is_refused(
+        &rt,
+        rt.alloc(),
+        &system,
+        "production t15 q: A => B",
+        refusal,
+    );
     Ok(())
 }

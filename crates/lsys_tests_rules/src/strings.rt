@@ -4,6 +4,7 @@ use lsys_module::{
 };
 use lsys_text::{Name, PlaceRefusal, Token, tokens};
 use std::alloc::{AllocError, Global};
+use std::process::Abort;
 use std::test::Fail;
 
 /// The string of a line, printed; or its refusal.
@@ -60,9 +61,15 @@ pub(crate) fn printed(alloc: Global, symbols: &SymbolList) -> Result<Vec<u8>, Al
     Vec::from_slice(alloc, sink.bytes())
 }
 
-#[test]
-fn strings_are_printed(rt: HostRuntime) -> Result<(), Fail> {
-    let rows = [
+/// The string of a line is printed so, or refused so.
+fn is_answered(rt: &impl Abort, alloc: Global, line: &str, want: &str) -> Result<(), Fail> {
+    let text = answer(alloc, line)?;
+    assert_eq!(rt; text.as_slice(), want.as_bytes(), "{line:?}");
+    Ok(())
+}
+
+fn printed_rows() -> &'static [(&'static str, &'static str)] {
+    &[
         ("axiom F_a  F_b(1)F", "F_a F_b(1)F"),
         ("axiom F_l", "F_l"),
         (
@@ -84,17 +91,19 @@ fn strings_are_printed(rt: HostRuntime) -> Result<(), Fail> {
         ),
         ("axiom -(-1)", "-(-1)"),
         ("axiom", ""),
-    ];
-    for (line, want) in rows {
-        let text = answer(rt.alloc(), line)?;
-        assert_eq!(rt; text.as_slice(), want.as_bytes(), "{line:?}");
+    ]
+}
+
+#[test]
+fn strings_are_printed(rt: HostRuntime) -> Result<(), Fail> {
+    for (line, want) in printed_rows() {
+        is_answered(&rt, rt.alloc(), *line, *want)?;
     }
     Ok(())
 }
 
-#[test]
-fn the_first_token_that_no_string_goes_on_with_is_refused(rt: HostRuntime) -> Result<(), Fail> {
-    let rows = [
+fn refused_rows() -> &'static [(&'static str, &'static str)] {
+    &[
         ("axiom ]", "token 7"),
         ("axiom A(1", "token 10"),
         ("axiom A(9223372036854775808)", "token 9"),
@@ -116,17 +125,19 @@ fn the_first_token_that_no_string_goes_on_with_is_refused(rt: HostRuntime) -> Re
         ("axiom A < B", "token 9"),
         ("axiom A(18446744073709551616)", "token 9"),
         ("axiom A(1,2,3,4,5,6,7,8,9", "token 26"),
-    ];
-    for (line, want) in rows {
-        let text = answer(rt.alloc(), line)?;
-        assert_eq!(rt; text.as_slice(), want.as_bytes(), "{line:?}");
+    ]
+}
+
+#[test]
+fn the_first_token_that_no_string_goes_on_with_is_refused(rt: HostRuntime) -> Result<(), Fail> {
+    for (line, want) in refused_rows() {
+        is_answered(&rt, rt.alloc(), *line, *want)?;
     }
     Ok(())
 }
 
-#[test]
-fn the_first_token_past_a_limit_is_refused(rt: HostRuntime) -> Result<(), Fail> {
-    let rows = [
+fn limit_rows() -> &'static [(&'static str, &'static str)] {
+    &[
         ("axiom A(1,2,3,4,5,6,7,8)", "A(1,2,3,4,5,6,7,8)"),
         ("axiom A(1,2,3,4,5,6,7,8,9)", "many 25"),
         ("axiom A(1,2,3,4,5,6,7,8, -9)", "many 26"),
@@ -134,10 +145,13 @@ fn the_first_token_past_a_limit_is_refused(rt: HostRuntime) -> Result<(), Fail> 
             "axiom [A(1)B(1,2,3,4,5,6,7,8)]C(1,2,3,4,5,6,7,8, 9)",
             "many 50",
         ),
-    ];
-    for (line, want) in rows {
-        let text = answer(rt.alloc(), line)?;
-        assert_eq!(rt; text.as_slice(), want.as_bytes(), "{line:?}");
+    ]
+}
+
+#[test]
+fn the_first_token_past_a_limit_is_refused(rt: HostRuntime) -> Result<(), Fail> {
+    for (line, want) in limit_rows() {
+        is_answered(&rt, rt.alloc(), *line, *want)?;
     }
     Ok(())
 }

@@ -13,6 +13,7 @@ use lsys_reading::{Image, Parts, RuleLine, parse_command};
 use lsys_rewrite::{FaultKind, cut, fill, fill_into};
 use lsys_text::tokens;
 use std::alloc::{AllocError, Global};
+use std::process::Abort;
 use std::test::Fail;
 
 /// The string of an axiom's line.
@@ -104,9 +105,26 @@ fn shown(alloc: Global, kept: &[bool]) -> Result<Vec<u8>, AllocError> {
     Ok(text)
 }
 
-#[test]
-fn a_cut_takes_the_rest_of_its_branch(rt: HostRuntime) -> Result<(), Fail> {
-    let rows = [
+/// A cut makes this of a line's string, and keeps these places.
+fn a_cut_leaves(
+    rt: &impl Abort,
+    alloc: Global,
+    line: &str,
+    want: &str,
+    places: &str,
+) -> Result<(), Fail> {
+    let mut symbols = string_of(alloc, line)?;
+    let mut kept = vec![in alloc; false; symbols.len()]?;
+    cut(&mut symbols, kept.as_mut_slice());
+    let text = printed(alloc, &symbols)?;
+    assert_eq!(rt; text.as_slice(), want.as_bytes(), "{line:?}");
+    let marks = shown(alloc, kept.as_slice())?;
+    assert_eq!(rt; marks.as_slice(), places.as_bytes(), "{line:?}");
+    Ok(())
+}
+
+fn cut_rows() -> &'static [(&'static str, &'static str, &'static str)] {
+    &[
         ("axiom A[B%C[D]]E", "A[B]E", "xxx.....xx"),
         ("axiom %B", "", ".."),
         ("axiom [A%B]C", "[A]C", "xx..xx"),
@@ -117,60 +135,95 @@ fn a_cut_takes_the_rest_of_its_branch(rt: HostRuntime) -> Result<(), Fail> {
         ("axiom A%[B]%C", "A", "x......"),
         ("axiom [%[A]%[B]]%[C]", "[]", "x........x...."),
         ("axiom A[%]B[%C]D", "A[]B[]D", "xx.xxx..xx"),
-    ];
-    for (line, want, places) in rows {
-        let mut symbols = string_of(rt.alloc(), line)?;
-        let mut kept = vec![in rt.alloc(); false; symbols.len()]?;
-        cut(&mut symbols, kept.as_mut_slice());
-        let text = printed(rt.alloc(), &symbols)?;
-        assert_eq!(rt; text.as_slice(), want.as_bytes(), "{line:?}");
-        let marks = shown(rt.alloc(), kept.as_slice())?;
-        assert_eq!(rt; marks.as_slice(), places.as_bytes(), "{line:?}");
+    ]
+}
+
+#[test]
+fn a_cut_takes_the_rest_of_its_branch(rt: HostRuntime) -> Result<(), Fail> {
+    for (line, want, places) in cut_rows() {
+        a_cut_leaves(&rt, rt.alloc(), *line, *want, *places)?;
     }
+    Ok(())
+}
+
+/// A level in which a rule's successor stands for the module at a place.
+fn level_after(
+    alloc: Global,
+    axiom: &SymbolList,
+    rule: &Rule,
+    place: usize,
+) -> Result<SymbolList, AllocError> {
+    let mut level = SymbolList::new(alloc);
+    for (at, symbol) in axiom.symbols().iter().enumerate() {
+        if at == place {
+            fill_into(&mut level, &rule.body, &[]).map_err(|_| AllocError)?;
+        } else {
+            level.push(*symbol)?;
+        }
+    }
+    Ok(level)
+}
+
+/// A production at a place of a line's string, and then a cut, leave this.
+fn a_production_leaves(
+    rt: &impl Abort,
+    alloc: Global,
+    line: &str,
+    production: &str,
+    place: usize,
+    want: &str,
+) -> Result<(), Fail> {
+    let axiom = string_of(alloc, line)?;
+    let rule = bare_rule(alloc, production)?;
+    let mut level = level_after(alloc, &axiom, &rule, place)?;
+    let mut kept = vec![in alloc; false; level.len()]?;
+    cut(&mut level, kept.as_mut_slice());
+    let text = printed(alloc, &level)?;
+    assert_eq!(rt; text.as_slice(), want.as_bytes(), "{line:?}");
     Ok(())
 }
 
 #[test]
 fn a_cut_in_a_successor_takes_the_rest_of_the_branch(rt: HostRuntime) -> Result<(), Fail> {
-    let rows = [
-        ("axiom [AB]C", "production a: A => A%", 1, "[A]C"),
-        ("axiom AB", "production p: A => %", 0, ""),
-        ("axiom A[BC]", "production b: B => [D%E]F", 2, "A[[D]FC]"),
-    ];
-    for (line, production, place, want) in rows {
-        let axiom = string_of(rt.alloc(), line)?;
-        let rule = bare_rule(rt.alloc(), production)?;
-        let mut level = SymbolList::new(rt.alloc());
-        for (at, symbol) in axiom.symbols().iter().enumerate() {
-            if at == place {
-                fill_into(&mut level, &rule.body, &[]).map_err(|_| AllocError)?;
-            } else {
-                level.push(*symbol)?;
-            }
-        }
-        let mut kept = vec![in rt.alloc(); false; level.len()]?;
-        cut(&mut level, kept.as_mut_slice());
-        let text = printed(rt.alloc(), &level)?;
-        assert_eq!(rt; text.as_slice(), want.as_bytes(), "{line:?}");
-    }
-    let rule = bare_rule(rt.alloc(), "production a: A => A%[+B]")?;
-    let filled = fill(rt.alloc(), &rule, &[]).map_err(|_| AllocError)?;
-    let text = printed(rt.alloc(), &filled)?;
+    let alloc = rt.alloc();
+    a_production_leaves(
+        &rt,
+        alloc,
+        "axiom [AB]C",
+        "production a: A => A%",
+        1,
+        "[A]C",
+    )?;
+    a_production_leaves(&rt, alloc, "axiom AB", "production p: A => %", 0, "")?;
+    a_production_leaves(
+        &rt,
+        alloc,
+        "axiom A[BC]",
+        "production b: B => [D%E]F",
+        2,
+        "A[[D]FC]",
+    )?;
+    let rule = bare_rule(alloc, "production a: A => A%[+B]")?;
+    let filled = fill(alloc, &rule, &[]).map_err(|_| AllocError)?;
+    let text = printed(alloc, &filled)?;
     assert_eq!(rt; text.as_slice(), b"A%[+B]".as_slice());
     Ok(())
 }
 
-#[test]
-fn each_fault_has_its_word(rt: HostRuntime) {
-    let rows = [
+fn fault_rows() -> &'static [(FaultKind, &'static str)] {
+    &[
         (FaultKind::Overflow, "overflow"),
         (FaultKind::DivideByZero, "divide-by-zero"),
         (FaultKind::NegativePower, "negative-power"),
         (FaultKind::NegativeWeight, "negative-weight"),
         (FaultKind::WeightTotal, "weight-total"),
         (FaultKind::TooFar, "too-far"),
-    ];
-    for (kind, word) in rows {
-        assert_eq!(rt; kind.word(), word);
+    ]
+}
+
+#[test]
+fn each_fault_has_its_word(rt: HostRuntime) {
+    for (kind, word) in fault_rows() {
+        assert_eq!(rt; kind.word(), *word);
     }
 }
