@@ -86,9 +86,7 @@ fn the_leftmost_fault_of_the_least_level(rt: HostRuntime) -> Result<(), Fail> {
         "production p: A(x) : x > 0 => A(x-1)\nproduction q: A(x) => A(1/x)\ndepth 6\naxiom A(3)A(2)A(1)A(2)A(1)\naxiom A(3)A(2)A(2)\naxiom X+A(1)[A(0)]A(0)\naxiom A(6)A(7)A(8)\nstring\ndepth 7\nstring\n";
     let replies =
         "ok 0/0\nok 0/0\nok 0/0\nrefused fault divide-by-zero level 1 module 3\nrefused fault divide-by-zero level 2 module 2\nrefused fault divide-by-zero level 0 module 4\nok 18/18\nA(0)A(1)A(2)\nrefused fault divide-by-zero level 6 module 1\nA(0)A(1)A(2)\n";
-    let (_, written) = ran_by(rt.alloc(), &[], script.as_bytes())?;
-    assert_eq!(rt; written.as_slice(), replies.as_bytes());
-    Ok(())
+    is_answered(&rt, rt.alloc(), script, replies)
 }
 
 #[test]
@@ -108,7 +106,5 @@ fn the_first_rule_that_applies(rt: HostRuntime) -> Result<(), Fail> {
         "axiom A(1)A(5)\nproduction p: A(x) : x > 3 => B(x)\nproduction q: A(x) : x > 0 => C(x)A(x-1)\nproduction r: A(x) : 1/(x-1) > 0 => D\nproduction s: A(x) => A(1/0)\ndepth 1\nstring\ndepth 2\naxiom A(5)A(1)\naxiom A(0)A(1)\n";
     let replies =
         "ok 0/0\nok 0/0\nok 0/0\nok 0/0\nok 0/0\nok 2/2\nC(1)A(0)B(5)\nrefused fault divide-by-zero level 1 module 2\nok 2/2\nrefused fault divide-by-zero level 0 module 1\n";
-    let (_, written) = ran_by(rt.alloc(), &[], script.as_bytes())?;
-    assert_eq!(rt; written.as_slice(), replies.as_bytes());
-    Ok(())
+    is_answered(&rt, rt.alloc(), script, replies)
 }
