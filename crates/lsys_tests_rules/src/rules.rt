@@ -111,6 +111,11 @@ fn refused_rows() -> &'static [(&'static str, Refusal)] {
         ),
         ("string 1", Refusal::Level { column: 8 }),
         ("depth 65", Refusal::TooMany { column: 7 }),
+    ]
+}
+
+fn rows_with_many_formals() -> &'static [(&'static str, Refusal)] {
+    &[
         (
             "production p: A(a,b,c,d,e,f,g,h) => B(i)",
             Refusal::Name { column: 39 },
@@ -134,6 +139,9 @@ fn refused_rows() -> &'static [(&'static str, Refusal)] {
 fn refused_lines(rt: HostRuntime) -> Result<(), Fail> {
     let system = System::opening(rt.alloc())?;
     for (line, refusal) in refused_rows() {
+        is_refused(&rt, rt.alloc(), &system, *line, Some(*refusal));
+    }
+    for (line, refusal) in rows_with_many_formals() {
         is_refused(&rt, rt.alloc(), &system, *line, Some(*refusal));
     }
     Ok(())
