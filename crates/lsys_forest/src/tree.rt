@@ -2,8 +2,8 @@
 //!
 //! It has the nodes of the ring in their order, the root first. A node that was looked for, put in or taken out comes to its
 //! top by the turns of a splay tree. So over any run of calls each of them takes steps by the logarithm of the ring's nodes,
-//! on the average, and a few near the last one. Contracts see only for how many nodes it has room: that a place is right is
-//! found where the ring is read.
+//! on the average, and a few near the last one. Contracts see no more of it than for how many nodes it has room: whether a
+//! node that it finds is right, the ring tells.
 ghost use Rattle.std.specs.Prelude.{◌≡◌, ◌<◌, ◌≤◌, ◌+◌, OnOk, IfOk, vec_len, vec_capacity};
 
 use crate::node::NodeId;
@@ -19,7 +19,7 @@ struct Twig {
     right: NodeId,
 }
 
-/// The tree.
+/// The tree, by the numbers of its nodes.
 #[derive(Drop)]
 pub(crate) struct Tree {
     twigs: Vec<Twig>,
@@ -92,6 +92,7 @@ impl Tree {
         self.top
     }
 
+    /// The twig of a node; alone where it has none.
     fn twig(&self, node: NodeId) -> Twig {
         match self.twigs.get(node.0 as usize) {
             Some(twig) => *twig,
@@ -99,6 +100,7 @@ impl Tree {
         }
     }
 
+    /// Sets the twig of a node, if it has one.
     fn set(&mut self, node: NodeId, twig: Twig)
         ensures { self.new ≡ self.old }
     {
@@ -256,6 +258,7 @@ fn other(next: NodeId, node: NodeId) -> Option<NodeId> {
     if next == node { None } else { Some(next) }
 }
 
+/// The other way.
 fn turned(way: Way) -> Way {
     match way {
         Way::Left => Way::Right,
