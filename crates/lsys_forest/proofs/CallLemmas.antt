@@ -281,13 +281,13 @@ module _ {A : Type 0} where
   pub ring_same : (root : ℕ) (old new : Stock A) (r : Ring) → nodes_of new ≡ nodes_of old → SweepsRing root old r new r
   ring_same root old new r same = record {
     ring = λ order t. subst (λ (f : Nodes A). IsThreaded order f r root) (sym same) t;
-    links = (refl, refl, omega arith);
+    links = (refl, refl, refl, omega arith);
   }
 
   pub ring_then : (root : ℕ) (one : Stock A) (r : Ring) (two : Stock A) (s : Ring) (three : Stock A) (t : Ring) → SweepsRing root one r two s → SweepsRing root two s three t → SweepsRing root one r three t
   ring_then root one r two s three t a b = record {
     ring = λ order h. b.ring order (a.ring order h);
-    links = (b.links.0 ∙ a.links.0, b.links.1 ∙ a.links.1, omega (arith, a.links.2, b.links.2));
+    links = (b.links.0 ∙ a.links.0, b.links.1 ∙ a.links.1, b.links.2 ∙ a.links.2, omega (arith, a.links.3, b.links.3));
   }
 
   -- 3. the last change was undone, if there was one
@@ -328,12 +328,13 @@ module _ {A : Type 0} where
   set_threads old new r root spare k n n' sound is parent place depth same nodes live numbers t = record {
     ring = subst (λ (f : Nodes A). IsThreaded f f r root) (sym nodes) (set_threaded root (changes_of new) (nodes_of old) k n n' r (subst (λ (f : Nodes A). IsSound root (changes_of new) f) nodes sound) is parent place depth same t.ring);
     same = t.same;
+    twigs = t.twigs;
     numbers = omega (arith, numbers, t.numbers);
     room = omega (arith, live, t.room);
   }
 
-  pub add_threads : (old new : Stock A) (r s : Ring) (root spare less k : ℕ) (n : Node A) (params kids : ℕ) (changes : List (Change A)) → IsSound root changes (nodes_of old) → nodes_of old k ≡ None → n.kids ≡ [] → Journals old new k (Some n) Missing 1 params kids → k ≤ length old.slots → (length new.slots ≤ length old.slots) ⊎ (length new.slots ≡ k + 1) → s.ahead ≡ reached_links r.ahead k → s.back ≡ reached_links r.back k → r.places ≤ s.places → less + 1 ≡ spare → AreThreads r old root spare → AreThreads s new root less
-  add_threads old new r s root spare less k n params kids changes sound vacant none j within grown a b places fewer t =
+  pub add_threads : (old new : Stock A) (r s : Ring) (root spare less k : ℕ) (n : Node A) (params kids : ℕ) (changes : List (Change A)) → IsSound root changes (nodes_of old) → nodes_of old k ≡ None → n.kids ≡ [] → Journals old new k (Some n) Missing 1 params kids → k ≤ length old.slots → (length new.slots ≤ length old.slots) ⊎ (length new.slots ≡ k + 1) → s.ahead ≡ reached_links r.ahead k → s.back ≡ reached_links r.back k → length s.ahead ≡ s.twigs → r.places ≤ s.places → less + 1 ≡ spare → AreThreads r old root spare → AreThreads s new root less
+  add_threads old new r s root spare less k n params kids changes sound vacant none j within grown a b twigs places fewer t =
       let inside : k ≤ length r.ahead = omega (arith, within, t.numbers) in
       let la = ap length a in
       let lb = ap length b in
@@ -341,6 +342,7 @@ module _ {A : Type 0} where
       record {
         ring = subst (λ (f : Nodes A). IsThreaded f f s root) (sym j.nodes) (add_threaded root changes (nodes_of old) k n r s sound vacant none a b inside t.same t.ring);
         same = la ∙ links_alike r.ahead r.back k t.same ∙ sym lb;
+        twigs = twigs;
         numbers = elim grown [ inl e ↦ omega (arith, e, la, lx.0, t.numbers) | inr e ↦ omega (arith, e, la, lx.1) ];
         room = omega (arith, j.live, places, fewer, t.room);
       }
@@ -349,18 +351,21 @@ module _ {A : Type 0} where
   left_threads old new r s root spare ring links live room t = record {
     ring = ring;
     same = links.0 ∙ t.same ∙ sym links.1;
+    twigs = links.0 ∙ t.twigs ∙ sym links.2;
     numbers = omega (arith, links.0, room.numbers, t.numbers);
-    room = omega (arith, links.2, live, t.room);
+    room = omega (arith, links.3, live, t.room);
   }
 
   pub room_threads : (old new : Stock A) (r s : Ring) (root spare more : ℕ) → nodes_of new ≡ nodes_of old → new.slots ≡ old.slots → s ≡ record r { places = s.places } → live_slots new.slots + more ≤ s.places → AreThreads r old root spare → AreThreads s new root more
   room_threads old new r s root spare more nodes slots ring room t =
       let a = ap (λ (x : Ring). length x.ahead) ring in
       let b = ap (λ (x : Ring). length x.back) ring in
+      let w = ap (λ (x : Ring). x.twigs) ring in
       let n = ap length slots in
       record {
         ring = subst (λ (f : Nodes A). IsThreaded f f s root) (sym nodes) (subst (λ (x : Ring). IsThreaded (nodes_of old) (nodes_of old) x root) (sym ring) (threaded_room (nodes_of old) (nodes_of old) r root s.places t.ring));
         same = a ∙ t.same ∙ sym b;
+        twigs = a ∙ t.twigs ∙ sym w;
         numbers = omega (arith, a, n, t.numbers);
         room = room;
       }

@@ -33,10 +33,10 @@ pub links_in : (r : Ring) (k behind : ℕ) → KeepsLinks r (tied (tied r behind
 links_in r k behind =
     let one = tied_long r behind k in
     let two = tied_long (tied r behind k) k (link_at r.ahead behind) in
-    (two.0 ∙ one.0, two.1 ∙ one.1, omega arith)
+    (two.0 ∙ one.0, two.1 ∙ one.1, refl, omega arith)
 
 pub links_out : (r : Ring) (k : ℕ) → KeepsLinks r (tied r (link_at r.back k) (link_at r.ahead k))
-links_out r k = let one = tied_long r (link_at r.back k) (link_at r.ahead k) in (one.0, one.1, omega arith)
+links_out r k = let one = tied_long r (link_at r.back k) (link_at r.ahead k) in (one.0, one.1, refl, omega arith)
 
 module _ {A : Type 0} where
   -- the order of these before is their order now

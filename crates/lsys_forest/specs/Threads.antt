@@ -8,10 +8,16 @@ use Rattle.lsys_forest.specs.Stocks.{Stock, nodes_of}
 use Rattle.lsys_forest.specs.Groves.{In, place_in}
 use Rattle.lsys_forest.specs.Rows.{kids_in, depth_in, oriented, level_nodes}
 
--- the numbers that come next, by number, to the right and to the left; and how many numbers find a place
+-- how many numbers have a twig in the tree over the ring, and how many find a place
+pub record Twigs : Type 0 where
+  pub numbers : ℕ
+  pub places : ℕ
+
+-- the numbers that come next, by number, to the right and to the left; how many have a twig; and how many find a place
 pub record Ring : Type 0 where
   pub ahead : List ℕ
   pub back : List ℕ
+  pub twigs : ℕ
   pub places : ℕ
 
 -- with a link more, where the number is the next one
@@ -50,9 +56,9 @@ abbrev pub AreSorted : (ℕ → ℕ → Type 0) → List ℕ → Type 0
 AreSorted before [] = Unit {0}
 AreSorted before (x ∷ xs) = ((y : ℕ) → In y xs → before x y) × AreSorted before xs
 
--- the links of the ring are no fewer, and find place as before
+-- the ring has as many links and twigs, and they find place as before
 abbrev pub KeepsLinks : Ring → Ring → Type 0
-KeepsLinks old new = (length new.ahead ≡ length old.ahead) × (length new.back ≡ length old.back) × (old.places ≤ new.places)
+KeepsLinks old new = (length new.ahead ≡ length old.ahead) × (length new.back ≡ length old.back) × (new.twigs ≡ old.twigs) × (old.places ≤ new.places)
 
 module _ {A : Type 0} where
   abbrev pub parent_in : Option (Node A) → ℕ
@@ -164,5 +170,6 @@ module _ {A : Type 0} where
   pub record AreThreads (r : Ring) (stock : Stock A) (root spare : ℕ) : Type 0 where
     pub ring : IsThreaded (nodes_of stock) (nodes_of stock) r root
     pub same : length r.ahead ≡ length r.back
+    pub twigs : length r.ahead ≡ r.twigs
     pub numbers : length stock.slots ≤ length r.ahead
     pub room : live_slots stock.slots + spare ≤ r.places

@@ -14,6 +14,7 @@ mod stock;
 mod sweep;
 mod table;
 mod threads;
+mod tree;
 mod walk;
 
 pub use forest::Forest;

@@ -14,15 +14,17 @@ use crate::kept::Kept;
 use crate::node::NodeId;
 use crate::stock::Parts;
 use crate::sweep::is_loose;
-use crate::walk::{Way, place_of, position};
+use crate::tree::Tree;
+use crate::walk::{Way, place_of};
 use std::alloc::{AllocError, Global};
 use std::marker::Model;
 
-/// The next node of the ring, by number, to either side.
+/// The next node of the ring, by number, to either side, and a tree that finds where a node belongs.
 #[derive(Drop)]
 pub(crate) struct Threads {
     ahead: Vec<NodeId>,
     back: Vec<NodeId>,
+    tree: Tree,
 }
 
 impl Model for Threads {
@@ -35,7 +37,8 @@ impl Model for Threads {
     ghost view = { λ a. record {
       ahead = a.ahead.items;
       back = a.back.items;
-      places = min (vec_capacity a.ahead) (vec_capacity a.back);
+      twigs = a.tree.numbers;
+      places = min (min (vec_capacity a.ahead) (vec_capacity a.back)) a.tree.places;
     } };
 }
 
@@ -48,13 +51,15 @@ impl Threads {
     pub(crate) fn of_root(alloc: Global) -> Result<Threads, AllocError>
         ensures ahead { IfOk result (λ t. t.ahead ≡ 0 ∷ []) }
         ensures back { IfOk result (λ t. t.back ≡ 0 ∷ []) }
+        ensures twigs { IfOk result (λ t. t.twigs ≡ 1) }
         ensures places { IfOk result (λ t. 1 ≤ t.places) }
     {
         let mut ahead = Vec::new(alloc);
         ahead.push(NodeId(0))?;
         let mut back = Vec::new(alloc);
         back.push(NodeId(0))?;
-        Ok(Threads { ahead, back })
+        let tree = Tree::of_root(alloc)?;
+        Ok(Threads { ahead, back, tree })
     }
 
     /// Makes room for the links of so many nodes in all. The ring stays.
@@ -70,21 +75,25 @@ impl Threads {
         let ahead = nodes.saturating_sub(self.ahead.len());
         self.ahead.reserve(ahead)?;
         let back = nodes.saturating_sub(self.back.len());
-        self.back.reserve(back)
+        self.back.reserve(back)?;
+        self.tree.reserve(nodes)
     }
 
     /// Adds links for a node that has the next number. It takes no memory.
     pub(crate) fn reach(&mut self, node: NodeId)
         requires both { length self.old.ahead ≡ length self.old.back }
+        requires twigs { length self.old.ahead ≡ self.old.twigs }
         requires next { node ≤ length self.old.ahead }
         requires place { node ≡ length self.old.ahead → node < self.old.places }
         ensures ahead { self.new.ahead ≡ reached_links self.old.ahead node }
         ensures back { self.new.back ≡ reached_links self.old.back node }
+        ensures twigs { length self.new.ahead ≡ self.new.twigs }
         ensures places { self.old.places ≤ self.new.places }
     {
         if self.ahead.len() == node.0 as usize {
             push_link(&mut self.ahead);
             push_link(&mut self.back);
+            self.tree.reach(node);
         }
     }
 
@@ -110,7 +119,9 @@ impl Threads {
     pub(crate) fn take_out(&mut self, node: NodeId)
         ensures { self.new ≡ tied self.old (link_at self.old.back node) (link_at self.old.ahead node) }
     {
-        self.tie(self.next(node, Way::Left), self.next(node, Way::Right));
+        let behind = self.next(node, Way::Left);
+        self.tree.take_out(node, behind);
+        self.tie(behind, self.next(node, Way::Right));
     }
 
     /// Puts a node into the ring, behind another.
@@ -118,9 +129,45 @@ impl Threads {
         ensures { self.new ≡ tied (tied self.old behind node) node (link_at self.old.ahead behind) }
     {
         let ahead = self.next(behind, Way::Right);
+        self.tree.put_in(node, behind);
         self.tie(behind, node);
         self.tie(node, ahead);
     }
+
+    /// The root, or one of the ring that comes before a node: by the tree the last one.
+    fn last_before<A: Kept>(&mut self, parts: &Parts<A>, root: NodeId, node: NodeId) -> NodeId
+        ensures ring { self.new ≡ self.old }
+        ensures before { (result ≡ root)
+            ⊎ (IsFull (nodes_of parts.now) result × (result ≢ root) × Precedes (nodes_of parts.now) result node) }
+    {
+        let (before, last) = descend(&self.tree, parts, root, node);
+        self.tree.raise(last);
+        if before != root && is_full(parts, before) {
+            before
+        } else {
+            root
+        }
+    }
+}
+
+/// Goes down the tree for a node: the last one on the way that comes before it, or the root, and the last one on the way.
+fn descend<A: Kept>(tree: &Tree, parts: &Parts<A>, root: NodeId, node: NodeId) -> (NodeId, NodeId)
+    ensures { (result.0 ≡ root) ⊎ Precedes (nodes_of parts.now) result.0 node }
+{
+    let mut before = root;
+    let mut at = tree.top();
+    for _step in 0..tree.len() {
+        let mut way = Way::Left;
+        if at == root || precedes(parts, at, node) {
+            before = at;
+            way = Way::Right;
+        }
+        let Some(next) = tree.below(at, way) else {
+            return (before, at);
+        };
+        at = next;
+    }
+    (before, at)
 }
 
 fn link(links: &Vec<NodeId>, node: NodeId) -> NodeId
@@ -294,77 +341,6 @@ fn place_behind<A: Kept>(
     behind
 }
 
-/// Whether the first node is in the ring, and comes before the second.
-fn is_start<A: Kept>(parts: &Parts<A>, root: NodeId, one: NodeId, node: NodeId) -> bool
-    ensures { IsTrue result → IsFull (nodes_of parts.now) one × (one ≢ root) × Precedes (nodes_of parts.now) one node }
-{
-    one != root && is_full(parts, one) && precedes(parts, one, node)
-}
-
-/// The last of these nodes that has children.
-fn last_full<A: Kept>(parts: &Parts<A>, nodes: &[NodeId]) -> Option<NodeId> {
-    let mut left = nodes.len();
-    while left > 0 {
-        left -= 1;
-        if is_full(parts, nodes[left]) {
-            return Some(nodes[left]);
-        }
-    }
-    None
-}
-
-/// The children of a node, none where it does not live.
-fn kids_of<A: Kept>(parts: &Parts<A>, node: NodeId) -> &[NodeId] {
-    match parts.get(node) {
-        Some(_) => parts.kids(node),
-        None => &[],
-    }
-}
-
-/// The last node that has children before a node on its level, as far as the ring tells; the root where there is none.
-fn full_before<A: Kept>(parts: &Parts<A>, threads: &Threads, root: NodeId, node: NodeId) -> NodeId {
-    let mut parent = parent_of(parts, node);
-    let depth = depth_of(parts, parent);
-    let mut kids = kids_of(parts, parent);
-    if let Some(at) = position(parts, kids, node, place_of(parts, node)) {
-        if at < kids.len() {
-            kids = &kids[..at];
-        }
-    }
-    for _step in 0..parts.live() {
-        if let Some(found) = last_full(parts, kids) {
-            return found;
-        }
-        parent = threads.next(parent, Way::Left);
-        if parent == root || depth_of(parts, parent) != depth {
-            return root;
-        }
-        kids = kids_of(parts, parent);
-    }
-    root
-}
-
-/// One of the ring that comes before a node, or the root: that behind which it stood when it had children last, or else the
-/// last before it on its level, or else its parent.
-fn near_by<A: Kept>(parts: &Parts<A>, threads: &Threads, root: NodeId, node: NodeId) -> NodeId
-    ensures { (result ≡ root)
-        ⊎ (IsFull (nodes_of parts.now) result × (result ≢ root) × Precedes (nodes_of parts.now) result node) }
-{
-    let last = threads.next(node, Way::Left);
-    if is_start(parts, root, last, node) {
-        return last;
-    }
-    let before = full_before(parts, threads, root, node);
-    if is_start(parts, root, before, node) {
-        return before;
-    }
-    let parent = parent_of(parts, node);
-    if is_start(parts, root, parent, node) {
-        return parent;
-    }
-    root
-}
-
 /// Puts a node into the ring that has got children, or takes it out where it has lost them; `was` tells whether it had some.
 pub(crate) fn refit<A: Kept>(
     threads: &mut Threads,
@@ -384,7 +360,7 @@ pub(crate) fn refit<A: Kept>(
         return;
     }
     if is {
-        let start = near_by(parts, threads, root, node);
+        let start = threads.last_before(parts, root, node);
         let behind = place_behind(parts, threads, root, node, start);
         threads.put_in(node, behind);
     } else {

@@ -15,7 +15,7 @@ use crate::stock::Parts;
 use crate::threads::{Threads, next_full};
 
 /// Which way to go along a level.
-#[derive(Clone, Copy, Drop)]
+#[derive(Clone, Copy, Drop, PartialEq, Eq)]
 pub(crate) enum Way {
     Left,
     Right,

@@ -37,7 +37,7 @@ loop-root-preserved g c =
     record {
       sound = undone_sound c.args.root c.loop-root.parts c.undo_one.new.parts x done.1 was.sound;
       ring = c.undo_one.ensures.ring;
-      links = (let a = was.links in let b = c.undo_one.ensures.links in (b.0 ∙ a.0, b.1 ∙ a.1, omega (arith, a.2, b.2)));
+      links = (let a = was.links in let b = c.undo_one.ensures.links in (b.0 ∙ a.0, b.1 ∙ a.1, b.2 ∙ a.2, omega (arith, a.3, b.3)));
       told =
           ap (undone (changes_of c.undo_one.new.parts)) done.1.nodes
           ∙ ap (λ cs. undone cs (undo x m)) takes.are

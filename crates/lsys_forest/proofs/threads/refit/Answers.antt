@@ -1,10 +1,10 @@
 use mathlib.Core.Bool.{beq}
 use Rattle.std.specs.Prelude.{IsTrue, Bool}
-use Rattle.std.proofs.Common.{◌≡◌, ◌≢◌, true, false, refl, sym, ◌∙◌, subst, arith, inl, inr}
+use Rattle.std.proofs.Common.{◌≡◌, ◌≢◌, true, false, refl, sym, ap, ◌∙◌, subst, arith, inl, inr}
 use Rattle.std.proofs.lemmas.Bool.{cases_eq}
 use Rattle.lsys_forest.specs.Stocks.{nodes_of, changes_of}
 use Rattle.lsys_forest.specs.Slots.{live_slots}
-use Rattle.lsys_forest.specs.Threads.{IsFull, KeepsLinks, IsThreaded}
+use Rattle.lsys_forest.specs.Threads.{Ring, IsFull, IsOpen, KeepsLinks, IsThreaded, link_at, tied}
 use Rattle.lsys_forest.proofs.ThreadLemmas.{shown_live}
 use Rattle.lsys_forest.proofs.TurnLemmas.{kept_threaded, open_ring, started, put_threaded, out_threaded, old_lives, links_in, links_out}
 use Rattle.lsys_forest.proofs.threads.refit.Goals as goal
@@ -56,8 +56,10 @@ returns-then-is-clause-ring g c = λ before turns was t.
     let none : IsFull before k → ⊥ = λ h. other_bool c.is_full-is.result c.args.was c.if-is-was.false c.if-is.true (was.1 h) in
     let other : k ≢ root = λ same. grind (arith, same, c.eq.ensures, c.if-eq.false) in
     let ring = open_ring root cs before m r k p.slots c.requires (shown_live p.slots p.params p.kids) turns none is t in
-    let place = c.place_behind-behind.ensures t.full ring (started root before m r k c.near_by-start.result turns t c.near_by-start.ensures) in
-    subst (λ x. IsThreaded m m x root) (sym c.put_in.ensures) (put_threaded root cs before m r k c.place_behind-behind.result (live_slots p.slots) c.requires turns other none is t ring place)
+    let same = c.last_before-start.ensures.ring in
+    let place_open = subst (λ (x : Ring). IsOpen m x root t.full k (live_slots p.slots)) (sym same) ring in
+    let place = c.place_behind-behind.ensures t.full place_open (started root before m r k c.last_before-start.result turns t c.last_before-start.ensures.before) in
+    subst (λ x. IsThreaded m m x root) (sym (c.put_in.ensures ∙ ap (λ (x : Ring). tied (tied x c.place_behind-behind.result k) k (link_at x.ahead c.place_behind-behind.result)) same)) (put_threaded root cs before m r k c.place_behind-behind.result (live_slots p.slots) c.requires turns other none is t ring place)
 
 pub returns-else-is-clause-ring : goal.returns-else-is-clause-ring
 returns-else-is-clause-ring g c = λ before turns was t.
@@ -72,7 +74,9 @@ returns-else-is-clause-ring g c = λ before turns was t.
     subst (λ x. IsThreaded m m x root) (sym c.take_out.ensures) (out_threaded root (changes_of p) before m r k c.requires turns other is none t)
 
 pub returns-then-is-clause-links : goal.returns-then-is-clause-links
-returns-then-is-clause-links g c = subst (KeepsLinks c.args.threads.now) (sym c.put_in.ensures) (links_in c.args.threads.now c.args.node c.place_behind-behind.result)
+returns-then-is-clause-links g c =
+    let at = c.place_behind-behind.result in
+    subst (KeepsLinks c.args.threads.now) (sym (c.put_in.ensures ∙ ap (λ (x : Ring). tied (tied x at c.args.node) c.args.node (link_at x.ahead at)) c.last_before-start.ensures.ring)) (links_in c.args.threads.now c.args.node at)
 
 pub returns-else-is-clause-links : goal.returns-else-is-clause-links
 returns-else-is-clause-links g c = subst (KeepsLinks c.args.threads.now) (sym c.take_out.ensures) (links_out c.args.threads.now c.args.node)

@@ -28,6 +28,9 @@ overflow_add-depth g c =
 pub reach-requires-clause-both : goal.reach-requires-clause-both
 reach-requires-clause-both g c = c.self.invariant.threads.same
 
+pub reach-requires-clause-twigs : goal.reach-requires-clause-twigs
+reach-requires-clause-twigs g c = c.self.invariant.threads.twigs
+
 pub reach-requires-clause-next : goal.reach-requires-clause-next
 reach-requires-clause-next g c = omega (arith, c.insert-node.ensures.within, c.self.invariant.threads.numbers)
 
@@ -48,7 +51,7 @@ invariant_of-self g c =
     let n : Node g.row.A.Denot = record { parent = c.args.parent; place = c.args.place; depth = c.in-Some.above.now.depth + 1; seen = seen_in c.args.symbol.now; key = c.args.key; kids = []; answer = None } in
     record {
       grove = IsGrove-add i.parts c.insert-node.new.self i.root i.spare_nodes (i.spare_nodes - 1) i.spare_notes (i.spare_notes - 1) c.insert-node.result n s.0 (list_room (params_in c.args.symbol.now)) 0 c.insert-node.ensures.vacant s.1 depth refl c.insert-node.ensures.few c.insert-node.ensures.added (omega (arith, asked.1)) (omega (arith, asked.2)) c.self.invariant.grove;
-      threads = add_threads i.parts c.insert-node.new.self i.threads c.reach.new.self i.root i.spare_nodes (i.spare_nodes - 1) c.insert-node.result n (list_room (params_in c.args.symbol.now)) 0 (changes_of i.parts) (sound_now c.self.invariant.grove) c.insert-node.ensures.vacant refl c.insert-node.ensures.added c.insert-node.ensures.within c.insert-node.ensures.grown c.reach.ensures.ahead c.reach.ensures.back c.reach.ensures.places (omega (arith, asked.1)) c.self.invariant.threads;
+      threads = add_threads i.parts c.insert-node.new.self i.threads c.reach.new.self i.root i.spare_nodes (i.spare_nodes - 1) c.insert-node.result n (list_room (params_in c.args.symbol.now)) 0 (changes_of i.parts) (sound_now c.self.invariant.grove) c.insert-node.ensures.vacant refl c.insert-node.ensures.added c.insert-node.ensures.within c.insert-node.ensures.grown c.reach.ensures.ahead c.reach.ensures.back c.reach.ensures.twigs c.reach.ensures.places (omega (arith, asked.1)) c.self.invariant.threads;
     }
 
 pub returns-clause-added : goal.returns-clause-added

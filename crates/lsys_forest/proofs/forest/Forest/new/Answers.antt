@@ -27,6 +27,7 @@ invariant_of-result g c =
       threads = record {
         ring = threads_root (nodes_of p) t e.nodes f.ahead f.back;
         same = omega (arith, la, lb);
+        twigs = omega (arith, la, f.twigs);
         numbers = omega (arith, la, e.one);
         room = omega (arith, e.live, f.places);
       };

@@ -37,8 +37,9 @@ invariant_of-self g c =
       threads = record {
         ring = e.ring (nodes_of i.parts) turns c.is_full-had_some.ensures t.ring;
         same = e.links.0 ∙ t.same ∙ sym e.links.1;
+        twigs = e.links.0 ∙ t.twigs ∙ sym e.links.2;
         numbers = omega (arith, e.links.0, j.numbers, t.numbers);
-        room = omega (arith, e.links.2, j.live, t.room);
+        room = omega (arith, e.links.3, j.live, t.room);
       };
     }
 
