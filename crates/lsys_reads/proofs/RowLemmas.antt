@@ -1,5 +1,5 @@
 -- Rising lists of tags, as sets.
-use Rattle.std.proofs.Common.{◌≡◌, ◌≢◌, ℕ, zero, suc, ◌<◌, ◌≤◌, List, [], ◌∷◌, ◌++◌, length, get_or, Bool, true, false, not, ◌||◌, ◌&&◌, ◌==◌, refl, sym, ap, subst, ◌∙◌, inl, inr, arith, zero-le, ◌+◌, nat_cmp, Result, Ok, Err, rules, Equal}
+use Rattle.std.proofs.Common.{◌≡◌, ◌≢◌, ℕ, zero, suc, ◌<◌, ◌≤◌, List, [], ◌∷◌, ◌++◌, length, get_or, Bool, true, false, not, ◌||◌, ◌&&◌, ◌==◌, refl, sym, ap, subst, ◌∙◌, inl, inr, arith, zero-le, ◌+◌, ◌-◌, nat_cmp, Result, Ok, Err, rules, Equal}
 use Rattle.std.specs.Prelude.{sum_by, nat_lt, IsPermutation, eqb, cond, IfOk, is_ok}
 use Rattle.std.specs.List.{insert, remove, dedup, dedup_from, items_where_true, HoldsAt}
 use Rattle.std.specs.List.Retain.{IsFiltered, ReturnsInTurn}
@@ -197,6 +197,21 @@ or_turned false false = refl
 pub has_at_end : (xs : List ℕ) (x q : ℕ) → has (xs ++ x ∷ []) q ≡ ((x == q) || has xs q)
 has_at_end [] x q = refl
 has_at_end (y ∷ xs) x q = ap (λ (b : Bool). (y == q) || b) (has_at_end xs x q) ∙ or_swap (y == q) (x == q) (has xs q)
+
+below_all_end : (xs : List ℕ) (y x : ℕ) → y < x → IsBelowAll y xs → IsBelowAll y (xs ++ x ∷ [])
+below_all_end [] y x less below = (less, tt)
+below_all_end (z ∷ xs) y x less below = (below.0, below_all_end xs y x less below.1)
+
+rising_at_end : (xs : List ℕ) (x : ℕ) → IsRising xs → ((k : ℕ) → k < length xs → get_or xs k 0 < x) → IsRising (xs ++ x ∷ [])
+rising_at_end [] x rising low = (tt, tt)
+rising_at_end (y ∷ xs) x rising low = (below_all_end xs y x (low zero (omega arith)) rising.0, rising_at_end xs x rising.1 (λ k within. low (suc k) (omega (arith, within))))
+
+-- a tag at the end that is above the last
+pub rising_above : (xs : List ℕ) (x : ℕ) → IsRising xs → (0 < length xs → get_or xs (length xs - 1) 0 < x) → IsRising (xs ++ x ∷ [])
+rising_above xs x rising above = rising_at_end xs x rising (λ k within.
+    let last = above (omega (arith, within)) in
+    let most = rising_le xs rising k (length xs - 1) (omega (arith, within)) (omega (arith, within)) in
+    omega (arith, last, most))
 
 -- a cut is a sweep
 cut_lost : (b : Bool) → b ≡ true → (c : Bool) → (not b && c) ≡ false

@@ -2,7 +2,7 @@
 //!
 //! A change moves the tags behind it. Where many changes may come to one row, it is gone through once for all of them:
 //! what comes is put at the end until the last that is owed, and what goes is taken out together.
-ghost use Rattle.std.specs.Prelude.{◌≡◌, ℕ, ◌+◌, ◌<◌, length, [], ◌||◌, ◌&&◌, ◌==◌, not, OnOk, OnErr, IfNone, IfSome, true, false};
+ghost use Rattle.std.specs.Prelude.{◌≡◌, ℕ, ◌+◌, ◌<◌, ◌++◌, ◌∷◌, length, [], ◌||◌, ◌&&◌, ◌==◌, not, OnOk, OnErr, IfNone, IfSome, true, false};
 ghost use Rattle.lsys_reads.specs.Rows.{Row, empty_row, IsRising, has, Sweeps};
 
 use lsys_level::Tag;
@@ -10,7 +10,7 @@ use std::alloc::{AllocError, Global};
 use std::marker::Model;
 
 /// How many changes of a row are made one by one; where there may be more, the row is gone through once.
-const FEW: usize = 64;
+const FEW: usize = 256;
 
 /// Tags, and for how many more the room is kept. They rise, unless some stand at the end until all that is owed is there.
 #[derive(Drop)]
@@ -75,7 +75,7 @@ impl Row {
     {
         if self.mixed || self.owed > FEW {
             self.append(tag);
-            if self.owed == 0 {
+            if self.owed == 0 && self.mixed {
                 self.order();
             }
         } else {
@@ -106,11 +106,25 @@ impl Row {
         ensures tags { (q : ℕ) → has self.new.tags q ≡ ((tag == q) || has self.old.tags q) }
         ensures owed { self.new.owed + 1 ≡ self.old.owed }
     {
+        let rises = self.rises_with(tag);
         self.owed -= 1;
-        self.mixed = true;
+        self.mixed = !rises;
         match self.tags.push(tag) {
             Ok(()) => {}
             Err(_) => unreachable!(),
+        }
+    }
+
+    /// Whether the tags surely rise with this one at the end.
+    fn rises_with(&self, tag: Tag) -> bool
+        ensures { result ≡ true → IsRising (self.now.tags ++ tag ∷ []) }
+    {
+        if self.mixed {
+            return false;
+        }
+        match self.tags.last() {
+            Some(last) => *last < tag,
+            None => true,
         }
     }
 
