@@ -121,8 +121,9 @@ impl Reads {
     /// Takes the pairs of the readers in `gone` out of the settled ones, and then adds the pending pairs to them. It
     /// takes no memory.
     ///
-    /// It costs steps by the pairs that come and go, and for a row where many change steps by its length times the
-    /// logarithm of that, if the readers in `gone` rise. Where they don't, a row may be gone through for each.
+    /// It costs steps by the pairs that come and go. Up to a few hundred of them in one row move the tags behind them,
+    /// each for itself; where there may be more, the row is gone through once for all, in steps by its length and the
+    /// logarithm of that. So if the readers in `gone` rise; else a row may be gone through for each of them.
     pub fn settle(&mut self, gone: &[Tag])
         ensures settled { (reader seen : ℕ) → is_settled self.new reader seen
             ≡ ((not (has gone.now reader) && is_settled self.old reader seen) || is_pending self.old reader seen) }

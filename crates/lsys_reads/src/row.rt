@@ -12,7 +12,9 @@ use std::marker::Model;
 /// How many changes of a row are made one by one; where there may be more, the row is gone through once.
 const FEW: usize = 256;
 
-/// Tags, and for how many more the room is kept. They rise, unless some stand at the end until all that is owed is there.
+/// Tags, and for how many more the room is kept.
+///
+/// They rise unless `mixed` is set. Then some stand at the end until all that is owed has come.
 #[derive(Drop)]
 pub(crate) struct Row {
     alloc: Global,
