@@ -1,13 +1,14 @@
 -- What each step of the relations keeps.
-use Rattle.std.proofs.Common.{◌≡◌, ◌≢◌, ℕ, zero, suc, ◌+◌, ◌<◌, List, [], ◌∷◌, ◌++◌, map, get_or, Bool, true, false, not, ◌||◌, ◌&&◌, cond, ◌==◌, refl, sym, ap, subst, ◌∙◌, inl, inr, arith, rules}
+use Rattle.std.proofs.Common.{◌≡◌, ◌≢◌, ℕ, zero, suc, ◌+◌, ◌<◌, List, [], ◌∷◌, ◌++◌, map, get_or, Bool, true, false, not, ◌||◌, ◌&&◌, cond, ◌==◌, refl, sym, ap, subst, ◌∙◌, inl, inr, arith}
 use Rattle.std.specs.Prelude.{sum_by, nat_lt, IsPermutation}
 use Rattle.std.proofs.lemmas.List.Sorted.{sum_by-IsPermutation}
 use Rattle.std.proofs.lemmas.List.Sums.{sum_by-cons}
 use Rattle.std.proofs.lemmas.Bool.Decides.{eqb_tells}
-use Rattle.std.proofs.lemmas.Bool.{eq-eqb, ne_eqb}
+use Rattle.std.proofs.lemmas.Bool.{eq-eqb}
 use Rattle.lsys_reads.specs.declared.Pair.{Pair}
-use Rattle.lsys_reads.specs.Rows.{has, Row, row_at, OtherRowsStay, Cuts, Puts, Reserves}
-use Rattle.lsys_reads.specs.Relations.{Relations, is_settled, SettledStay, tags_of, view_of, times, seen_of, reader_of, IsSound, pairs_have}
+use Rattle.lsys_reads.specs.Rows.{has, Row, row_at, OtherRowsStay, IsRising, AreRising, Cuts, SweepsRow, Puts, Reserves}
+use Rattle.lsys_reads.proofs.RowLemmas.{either, has_at_end}
+use Rattle.lsys_reads.specs.Relations.{Relations, is_settled, SettledStay, tags_of, view_of, times, seen_of, reader_of, IsSound, pairs_have, Covers, Forgets}
 
 and_swap : (a b : Bool) → (a && b) ≡ (b && a)
 and_swap true true = refl
@@ -132,16 +133,6 @@ cuts_owed old new tag other cuts q = elim (eqb_tells tag q) [
   | inr apart ↦ ap (λ (r : Row). r.owed) (cuts.others q (λ e. apart.1 (sym e)))
 ]
 
-pub sound_cut : (s s' r r' : List Row) (pairs : List Pair) (reader seen : ℕ) → Cuts s s' seen reader → Cuts r r' reader seen → IsSound s r pairs → IsSound s' r' pairs
-sound_cut s s' r r' pairs reader seen in_seen in_reader sound = record {
-  agree = λ a b. cuts_has s s' seen reader in_seen b a
-      ∙ ap (λ (c : Bool). not c && has (row_at s b).tags a) (and_swap (seen == b) (reader == a))
-      ∙ ap (λ (c : Bool). not ((reader == a) && (seen == b)) && c) (sound.agree a b)
-      ∙ sym (cuts_has r r' reader seen in_reader a b);
-  owed_seen = λ q. cuts_owed s s' seen reader in_seen q ∙ sound.owed_seen q;
-  owed_reader = λ q. cuts_owed r r' reader seen in_reader q ∙ sound.owed_reader q;
-}
-
 or_false : (a : Bool) → (a || false) ≡ a
 or_false true = refl
 or_false false = refl
@@ -151,41 +142,6 @@ settled_put s s' pending pending' p old is puts reader seen =
     settled_is s' pending' reader seen ∙ puts_has s s' p.seen p.reader puts seen reader
     ∙ ap (λ (b : Bool). b || has (row_at s seen).tags reader) (and_swap (p.seen == seen) (p.reader == reader) ∙ sym (or_false _))
     ∙ ap (λ (b : Bool). pairs_have (p ∷ []) reader seen || b) (sym (settled_is s pending reader seen) ∙ ap (λ (v : Relations). is_settled v reader seen) is)
-
--- a reader's pairs are being taken out: s and r were the two tables, and s' and r' are now
-pub record Forgets (s r s' r' : List Row) (pending pending' : List Pair) (reader : ℕ) : Type 0 where
-  pub sound : IsSound s' r' pending'
-  pub same_pending : pending' ≡ pending
-  pub others : (other seen : ℕ) → other ≢ reader → has (row_at s' seen).tags other ≡ has (row_at s seen).tags other
-
-keeps_false : (a c : Bool) → (not (a && false) && c) ≡ c
-keeps_false true c = refl
-keeps_false false c = refl
-
-keeps_other : (a b c : Bool) → b ≡ false → (not (a && b) && c) ≡ c
-keeps_other a b c lacks = ap (λ (x : Bool). not (a && x) && c) lacks ∙ keeps_false a c
-
-pub forgets_none : (s r : List Row) (pending : List Pair) (reader : ℕ) → IsSound s r pending → Forgets s r s r pending pending reader
-forgets_none s r pending reader sound = record { sound = sound; same_pending = refl; others = λ other seen apart. refl }
-
-pub forgets_one : (s r s' r' s2 r2 : List Row) (pending pending' : List Pair) (reader seen : ℕ) → Forgets s r s' r' pending pending' reader → Cuts r' r2 reader seen → Cuts s' s2 seen reader → Forgets s r s2 r2 pending pending' reader
-forgets_one s r s' r' s2 r2 pending pending' reader seen so_far in_reader in_seen = record {
-  sound = sound_cut s' s2 r' r2 pending' reader seen in_seen in_reader so_far.sound;
-  same_pending = so_far.same_pending;
-  others = λ other tag apart. cuts_has s' s2 seen reader in_seen tag other
-      ∙ keeps_other (seen == tag) (reader == other) _ (ne_eqb reader other (λ e. apart (sym e)))
-      ∙ so_far.others other tag apart;
-}
-
-pub forgets_all : (s r s' r' : List Row) (pending pending' : List Pair) (reader : ℕ) (old : Relations) → view_of s pending ≡ old → Forgets s r s' r' pending pending' reader → (row_at r' reader).tags ≡ [] → (other seen : ℕ) → is_settled (view_of s' pending') other seen ≡ (not (has (reader ∷ []) other) && is_settled old other seen)
-forgets_all s r s' r' pending pending' reader old is so_far empty other seen = elim (eqb_tells reader other) [
-  | inl same ↦ settled_is s' pending' other seen ∙ so_far.sound.agree other seen
-      ∙ ap (λ (t : ℕ). has (row_at r' t).tags seen) (sym same.1) ∙ ap (λ (l : List ℕ). has l seen) empty
-      ∙ sym (ap (λ (b : Bool). not (b || false) && is_settled old other seen) same.0)
-  | inr apart ↦ settled_is s' pending' other seen ∙ so_far.others other seen (λ e. apart.1 (sym e))
-      ∙ sym (settled_is s pending other seen) ∙ ap (λ (v : Relations). is_settled v other seen) is
-      ∙ sym (ap (λ (b : Bool). not (b || false) && is_settled old other seen) apart.0)
-]
 
 pub pairs_have_push : (pairs : List Pair) (p : Pair) (reader seen : ℕ) → pairs_have (pairs ++ p ∷ []) reader seen ≡ (pairs_have pairs reader seen || pairs_have (p ∷ []) reader seen)
 pairs_have_push [] p reader seen = refl
@@ -201,55 +157,6 @@ moves false true false = refl
 moves false false true = refl
 moves false false false = refl
 
--- what is settled or pending stays while pending pairs are settled
-pub record Settles (was now : Relations) : Type 0 where
-  pub either : (reader seen : ℕ) → (is_settled now reader seen || pairs_have now.pending reader seen) ≡ (is_settled was reader seen || pairs_have was.pending reader seen)
-
-pub settles_one : (was old new : Relations) (p : Pair) → Settles was old → old.pending ≡ new.pending ++ p ∷ [] → ((reader seen : ℕ) → is_settled new reader seen ≡ (pairs_have (p ∷ []) reader seen || is_settled old reader seen)) → Settles was new
-settles_one was old new p so_far pushed step = record {
-  either = λ reader seen.
-      ap (λ (b : Bool). b || pairs_have new.pending reader seen) (step reader seen)
-      ∙ moves (is_settled old reader seen) (pairs_have (p ∷ []) reader seen) (pairs_have new.pending reader seen)
-      ∙ ap (λ (b : Bool). is_settled old reader seen || b) (sym (pairs_have_push new.pending p reader seen) ∙ sym (ap (λ (l : List Pair). pairs_have l reader seen) pushed))
-      ∙ so_far.either reader seen;
-}
-
-pub settles_all : (was now : Relations) → Settles was now → now.pending ≡ [] → (reader seen : ℕ) → is_settled now reader seen ≡ (is_settled was reader seen || pairs_have was.pending reader seen)
-settles_all was now so_far empty reader seen =
-    sym (or_false _) ∙ ap (λ (l : List Pair). is_settled now reader seen || pairs_have l reader seen) (sym empty) ∙ so_far.either reader seen
-
--- with the pairs of the rest of a list taken out, the pairs of all of it are
-pub record ForgetsDownTo (was now : Relations) (gone rest : List ℕ) : Type 0 where
-  pub pending : now.pending ≡ was.pending
-  pub settled : (reader seen : ℕ) → (not (has rest reader) && is_settled now reader seen) ≡ (not (has gone reader) && is_settled was reader seen)
-
-not_or : (a b c : Bool) → (not b && (not a && c)) ≡ (not (a || b) && c)
-not_or true true c = refl
-not_or true false c = refl
-not_or false true c = refl
-not_or false false c = refl
-
-has_push : (xs : List ℕ) (x q : ℕ) → has (xs ++ x ∷ []) q ≡ (has xs q || has (x ∷ []) q)
-has_push [] x q = refl
-has_push (y ∷ xs) x q = ap (λ (b : Bool). (y == q) || b) (has_push xs x q) ∙ sym (or_assoc (y == q) (has xs q) _)
-
-or_turned : (a b : Bool) → (a || b) ≡ (b || a)
-or_turned true true = refl
-or_turned true false = refl
-or_turned false true = refl
-or_turned false false = refl
-
-pub forgets_last : (was old new : Relations) (gone rest before : List ℕ) (reader : ℕ) → rest ≡ before ++ reader ∷ [] → ForgetsDownTo was old gone rest → new.pending ≡ old.pending
-    → ((other seen : ℕ) → is_settled new other seen ≡ (not (has (reader ∷ []) other) && is_settled old other seen)) → ForgetsDownTo was new gone before
-forgets_last was old new gone rest before reader split so_far same step = record {
-  pending = same ∙ so_far.pending;
-  settled = λ other seen.
-      ap (λ (b : Bool). not (has before other) && b) (step other seen)
-      ∙ not_or (has (reader ∷ []) other) (has before other) (is_settled old other seen)
-      ∙ ap (λ (b : Bool). not b && is_settled old other seen) (or_turned (has (reader ∷ []) other) (has before other) ∙ sym (has_push before reader other) ∙ ap (λ (l : List ℕ). has l other) (sym split))
-      ∙ so_far.settled other seen;
-}
-
 -- in another order the pending pairs are the same ones
 times_sum : (f : Pair → ℕ) (pairs : List Pair) (tag : ℕ) → times (map f pairs) tag ≡ sum_by (λ p. cond (f p == tag) 1 0) pairs
 times_sum f [] tag = refl
@@ -257,13 +164,6 @@ times_sum f (p ∷ pairs) tag = ap (λ n. cond (f p == tag) 1 0 + n) (times_sum 
 
 times_in_order : (f : Pair → ℕ) (pairs pairs' : List Pair) (tag : ℕ) → IsPermutation pairs pairs' → times (map f pairs') tag ≡ times (map f pairs) tag
 times_in_order f pairs pairs' tag p = times_sum f pairs' tag ∙ sum_by-IsPermutation (λ p. cond (f p == tag) 1 0) pairs pairs' p ∙ sym (times_sum f pairs tag)
-
-either : (b : Bool) (n : ℕ) → nat_lt 0 (cond b 1 0 + n) ≡ (b || nat_lt 0 n)
-either true n = lt_tells n
-  where
-    lt_tells : (n : ℕ) → nat_lt 0 (1 + n) ≡ true
-    lt_tells n = search rules
-either false n = ap (nat_lt 0) (omega arith)
 
 pairs_have_sum : (pairs : List Pair) (reader seen : ℕ) → pairs_have pairs reader seen ≡ nat_lt 0 (sum_by (λ p. cond ((p.reader == reader) && (p.seen == seen)) 1 0) pairs)
 pairs_have_sum [] reader seen = refl
@@ -282,3 +182,202 @@ sound_in_order s r pairs pairs' p sound = record {
   owed_seen = λ tag. sound.owed_seen tag ∙ sym (times_in_order seen_of pairs pairs' tag p);
   owed_reader = λ tag. sound.owed_reader tag ∙ sym (times_in_order reader_of pairs pairs' tag p);
 }
+
+pub reserves_rise : (old new : List Row) (tag : ℕ) → Reserves old new tag → AreRising old → AreRising new
+reserves_rise old new tag reserves rising q = subst IsRising (sym (reserves_tags old new tag reserves q)) (rising q)
+
+pub releases_rise : (old new : List Row) (tag : ℕ) → Reserves new old tag → AreRising old → AreRising new
+releases_rise old new tag reserves rising q = subst IsRising (reserves_tags new old tag reserves q) (rising q)
+
+-- pairs of one reader are taken out
+pub covers_sound : (s r : List Row) (pending : List Pair) → IsSound s r pending → Covers s r
+covers_sound s r pending sound reader seen there = sym (sound.agree reader seen) ∙ there
+
+pub forgets_none : (s r : List Row) (reader : ℕ) (gone : List ℕ) → Covers s r → AreRising s → AreRising r → Forgets s r s r reader gone
+forgets_none s r reader gone covers rising_seen rising_reader = record {
+  covers = covers;
+  kept = λ other seen apart among. refl;
+  others = λ other apart. refl;
+  owed_seen = λ tag. refl;
+  owed_reader = λ tag. refl;
+  rising_seen = rising_seen;
+  rising_reader = rising_reader;
+}
+
+rising_but : (old new : List Row) (tag : ℕ) → OtherRowsStay old new tag → IsRising (row_at new tag).tags → AreRising old → AreRising new
+rising_but old new tag others own was q = elim (eqb_tells tag q) [
+  | inl same ↦ subst (λ (z : ℕ). IsRising (row_at new z).tags) same.1 own
+  | inr apart ↦ subst (λ (r : Row). IsRising r.tags) (sym (others q (λ e. apart.1 (sym e)))) (was q)
+]
+
+sweeps_kept_row : (old new : List Row) (tag reader : ℕ) (gone : List ℕ) → SweepsRow old new tag reader gone → (other q : ℕ) → other ≢ reader → has gone other ≡ false → has (row_at new q).tags other ≡ has (row_at old q).tags other
+sweeps_kept_row old new tag reader gone sweeps other q apart among = elim (eqb_tells tag q) [
+  | inl same ↦ subst (λ (z : ℕ). has (row_at new z).tags other ≡ has (row_at old z).tags other) same.1 (sweeps.tags.kept other apart among)
+  | inr far ↦ ap (λ (r : Row). has r.tags other) (sweeps.others q (λ e. far.1 (sym e)))
+]
+
+sweeps_owed : (old new : List Row) (tag reader : ℕ) (gone : List ℕ) → SweepsRow old new tag reader gone → (q : ℕ) → (row_at new q).owed ≡ (row_at old q).owed
+sweeps_owed old new tag reader gone sweeps q = elim (eqb_tells tag q) [
+  | inl same ↦ subst (λ (z : ℕ). (row_at new z).owed ≡ (row_at old z).owed) same.1 sweeps.owed
+  | inr far ↦ ap (λ (r : Row). r.owed) (sweeps.others q (λ e. far.1 (sym e)))
+]
+
+keeps_false : (a c : Bool) → (not (a && false) && c) ≡ c
+keeps_false true c = refl
+keeps_false false c = refl
+
+-- the reader's row loses the tag, and the tag's row the reader
+covers_one : (s s' r r' : List Row) (reader seen : ℕ) (gone : List ℕ) → Cuts r r' reader seen → SweepsRow s s' seen reader gone → Covers s r → Covers s' r'
+covers_one s s' r r' reader seen gone cuts sweeps covers other tag there = elim (eqb_tells seen tag) [
+  | inl same ↦
+      (let here : has (row_at s' seen).tags other ≡ true = ap (λ (z : ℕ). has (row_at s' z).tags other) same.1 ∙ there in
+      let apart : other ≢ reader = λ e. let wrong : false ≡ true = sym sweeps.tags.lost ∙ ap (has (row_at s' seen).tags) (sym e) ∙ here in cc in
+      subst (λ (z : ℕ). has (row_at r' other).tags z ≡ true) same.1
+      (ap (λ (x : Row). has x.tags seen) (cuts.others other apart) ∙ covers other seen (sweeps.tags.fewer other here)))
+  | inr far ↦
+      (let was = covers other tag (sym (ap (λ (x : Row). has x.tags other) (sweeps.others tag (λ e. far.1 (sym e)))) ∙ there) in
+      cuts_has r r' reader seen cuts other tag
+      ∙ ap (λ (b : Bool). not ((reader == other) && b) && has (row_at r other).tags tag) far.0
+      ∙ keeps_false (reader == other) (has (row_at r other).tags tag) ∙ was)
+]
+
+pub forgets_one : (s r s' r' s2 r2 : List Row) (reader seen : ℕ) (gone : List ℕ) → Forgets s r s' r' reader gone → Cuts r' r2 reader seen → IsRising (row_at r2 reader).tags → SweepsRow s' s2 seen reader gone → Forgets s r s2 r2 reader gone
+forgets_one s r s' r' s2 r2 reader seen gone so_far cuts rising sweeps = record {
+  covers = covers_one s' s2 r' r2 reader seen gone cuts sweeps so_far.covers;
+  kept = λ other tag apart among. sweeps_kept_row s' s2 seen reader gone sweeps other tag apart among ∙ so_far.kept other tag apart among;
+  others = λ other apart. cuts.others other apart ∙ so_far.others other apart;
+  owed_seen = λ tag. sweeps_owed s' s2 seen reader gone sweeps tag ∙ so_far.owed_seen tag;
+  owed_reader = λ tag. cuts_owed r' r2 reader seen cuts tag ∙ so_far.owed_reader tag;
+  rising_seen = rising_but s' s2 seen sweeps.others sweeps.rising so_far.rising_seen;
+  rising_reader = rising_but r' r2 reader cuts.others rising so_far.rising_reader;
+}
+
+-- the readers in `gone` have no pairs, but for those in `rest`
+pub record ForgetsDownTo (s r s' r' : List Row) (gone rest : List ℕ) : Type 0 where
+  pub covers : Covers s' r'
+  pub within : (other : ℕ) → has rest other ≡ true → has gone other ≡ true
+  pub kept : (other seen : ℕ) → has gone other ≡ false → has (row_at s' seen).tags other ≡ has (row_at s seen).tags other
+  pub stay : (other : ℕ) → has gone other ≡ false → (row_at r' other).tags ≡ (row_at r other).tags
+  pub none : (other : ℕ) → has gone other ≡ true → has rest other ≡ false → (row_at r' other).tags ≡ []
+  pub owed_seen : (tag : ℕ) → (row_at s' tag).owed ≡ (row_at s tag).owed
+  pub owed_reader : (tag : ℕ) → (row_at r' tag).owed ≡ (row_at r tag).owed
+  pub rising_seen : AreRising s'
+  pub rising_reader : AreRising r'
+
+pub forgets_from : (s r : List Row) (pending : List Pair) (gone : List ℕ) → IsSound s r pending → AreRising s → AreRising r → ForgetsDownTo s r s r gone gone
+forgets_from s r pending gone sound rising_seen rising_reader = record {
+  covers = covers_sound s r pending sound;
+  within = λ other there. there;
+  kept = λ other seen among. refl;
+  stay = λ other among. refl;
+  none = λ other there lacks. absurd (let wrong : true ≡ false = sym there ∙ lacks in cc);
+  owed_seen = λ tag. refl;
+  owed_reader = λ tag. refl;
+  rising_seen = rising_seen;
+  rising_reader = rising_reader;
+}
+
+or_true : (a : Bool) → (a || true) ≡ true
+or_true true = refl
+or_true false = refl
+
+pub forgets_last : (s r s' r' s2 r2 : List Row) (gone rest before : List ℕ) (reader : ℕ) → rest ≡ before ++ reader ∷ [] → ForgetsDownTo s r s' r' gone rest → Forgets s' r' s2 r2 reader gone → (row_at r2 reader).tags ≡ [] → ForgetsDownTo s r s2 r2 gone before
+forgets_last s r s' r' s2 r2 gone rest before reader split so_far step empty =
+    let split_has : (other : ℕ) → has rest other ≡ ((reader == other) || has before other) = λ other. ap (λ (l : List ℕ). has l other) split ∙ has_at_end before reader other in
+    let member : has gone reader ≡ true = so_far.within reader (split_has reader ∙ ap (λ (b : Bool). b || has before reader) (eq-eqb reader reader refl)) in
+    let apart : (other : ℕ) → has gone other ≡ false → other ≢ reader = λ other among e. let wrong : true ≡ false = sym member ∙ ap (has gone) (sym e) ∙ among in cc in
+    record {
+      covers = step.covers;
+      within = λ other there. so_far.within other (split_has other ∙ ap (λ (b : Bool). (reader == other) || b) there ∙ or_true (reader == other));
+      kept = λ other seen among. step.kept other seen (apart other among) among ∙ so_far.kept other seen among;
+      stay = λ other among. ap (λ (x : Row). x.tags) (step.others other (apart other among)) ∙ so_far.stay other among;
+      none = λ other there lacks. elim (eqb_tells reader other) [
+        | inl same ↦ subst (λ (z : ℕ). (row_at r2 z).tags ≡ []) same.1 empty
+        | inr far ↦ ap (λ (x : Row). x.tags) (step.others other (λ e. far.1 (sym e)))
+            ∙ so_far.none other there (split_has other ∙ ap (λ (b : Bool). b || has before other) far.0 ∙ lacks)
+      ];
+      owed_seen = λ tag. step.owed_seen tag ∙ so_far.owed_seen tag;
+      owed_reader = λ tag. step.owed_reader tag ∙ so_far.owed_reader tag;
+      rising_seen = step.rising_seen;
+      rising_reader = step.rising_reader;
+    }
+
+false_unless : (b : Bool) → (b ≡ true → false ≡ true) → b ≡ false
+false_unless true never = sym (never refl)
+false_unless false _ = refl
+
+-- at the end no reader in `gone` has pairs
+gone_lacks : (s r s' r' : List Row) (gone : List ℕ) → ForgetsDownTo s r s' r' gone [] → (other seen : ℕ) → has gone other ≡ true → has (row_at s' seen).tags other ≡ false
+gone_lacks s r s' r' gone all other seen there =
+    false_unless (has (row_at s' seen).tags other) (λ still. sym (ap (λ (l : List ℕ). has l seen) (all.none other there refl)) ∙ all.covers other seen still)
+
+pub sound_forgets : (s r s' r' : List Row) (pending : List Pair) (gone : List ℕ) → IsSound s r pending → ForgetsDownTo s r s' r' gone [] → IsSound s' r' pending
+sound_forgets s r s' r' pending gone sound all = record {
+  agree = λ reader seen. agree reader seen (has gone reader) refl;
+  owed_seen = λ tag. all.owed_seen tag ∙ sound.owed_seen tag;
+  owed_reader = λ tag. all.owed_reader tag ∙ sound.owed_reader tag;
+}
+  where
+    agree : (reader seen : ℕ) (b : Bool) → has gone reader ≡ b → has (row_at s' seen).tags reader ≡ has (row_at r' reader).tags seen
+    agree reader seen true there = gone_lacks s r s' r' gone all reader seen there ∙ sym (ap (λ (l : List ℕ). has l seen) (all.none reader there refl))
+    agree reader seen false lacks = all.kept reader seen lacks ∙ sound.agree reader seen ∙ sym (ap (λ (l : List ℕ). has l seen) (all.stay reader lacks))
+
+pub forgets_all : (s r s' r' : List Row) (pending pending' : List Pair) (gone : List ℕ) (old : Relations) → view_of s pending ≡ old → ForgetsDownTo s r s' r' gone [] → (reader seen : ℕ) → is_settled (view_of s' pending') reader seen ≡ (not (has gone reader) && is_settled old reader seen)
+forgets_all s r s' r' pending pending' gone old is all reader seen = settled_is s' pending' reader seen ∙ told (has gone reader) refl
+  where
+    told : (b : Bool) → has gone reader ≡ b → has (row_at s' seen).tags reader ≡ (not (has gone reader) && is_settled old reader seen)
+    told true there = gone_lacks s r s' r' gone all reader seen there ∙ sym (ap (λ (b : Bool). not b && is_settled old reader seen) there)
+    told false lacks = all.kept reader seen lacks ∙ sym (settled_is s pending reader seen) ∙ ap (λ (v : Relations). is_settled v reader seen) is
+        ∙ sym (ap (λ (b : Bool). not b && is_settled old reader seen) lacks)
+
+-- pending pairs are settled: a row rises once nothing is owed there
+abbrev pub RiseUnlessOwed : List Row → Type 0
+RiseUnlessOwed rows = (tag : ℕ) → (row_at rows tag).owed ≡ 0 → IsRising (row_at rows tag).tags
+
+pub record Settles (s s' r' : List Row) (pending pending' : List Pair) : Type 0 where
+  pub sound : IsSound s' r' pending'
+  pub either : (reader seen : ℕ) → (has (row_at s' seen).tags reader || pairs_have pending' reader seen) ≡ (has (row_at s seen).tags reader || pairs_have pending reader seen)
+  pub rising_seen : RiseUnlessOwed s'
+  pub rising_reader : RiseUnlessOwed r'
+
+pub settles_none : (s r : List Row) (pending : List Pair) → IsSound s r pending → AreRising s → AreRising r → Settles s s r pending pending
+settles_none s r pending sound rising_seen rising_reader = record {
+  sound = sound;
+  either = λ reader seen. refl;
+  rising_seen = λ tag none. rising_seen tag;
+  rising_reader = λ tag none. rising_reader tag;
+}
+
+rise_put : (old new : List Row) (tag other : ℕ) → Puts old new tag other → ((row_at new tag).owed ≡ 0 → IsRising (row_at new tag).tags) → RiseUnlessOwed old → RiseUnlessOwed new
+rise_put old new tag other puts own was q none = elim (eqb_tells tag q) [
+  | inl same ↦ subst (λ (z : ℕ). IsRising (row_at new z).tags) same.1 (own (ap (λ (z : ℕ). (row_at new z).owed) same.1 ∙ none))
+  | inr far ↦
+      (let stays = puts.others q (λ e. far.1 (sym e)) in
+      subst (λ (r : Row). IsRising r.tags) (sym stays) (was q (sym (ap (λ (r : Row). r.owed) stays) ∙ none)))
+]
+
+pub settles_one : (s s' r' s2 r2 : List Row) (pending pending' left : List Pair) (p : Pair) → Settles s s' r' pending pending' → pending' ≡ left ++ p ∷ []
+    → Puts s' s2 p.seen p.reader → ((row_at s2 p.seen).owed ≡ 0 → IsRising (row_at s2 p.seen).tags) → Puts r' r2 p.reader p.seen → ((row_at r2 p.reader).owed ≡ 0 → IsRising (row_at r2 p.reader).tags) → Settles s s2 r2 pending left
+settles_one s s' r' s2 r2 pending pending' left p so_far pushed in_seen rise_seen in_reader rise_reader = record {
+  sound = sound_put s' s2 r' r2 left p in_seen in_reader (subst (IsSound s' r') pushed so_far.sound);
+  either = λ reader seen.
+      ap (λ (b : Bool). b || pairs_have left reader seen) (puts_has s' s2 p.seen p.reader in_seen seen reader ∙ ap (λ (b : Bool). b || has (row_at s' seen).tags reader) (and_swap (p.seen == seen) (p.reader == reader) ∙ sym (or_false _)))
+      ∙ moves (has (row_at s' seen).tags reader) (pairs_have (p ∷ []) reader seen) (pairs_have left reader seen)
+      ∙ ap (λ (b : Bool). has (row_at s' seen).tags reader || b) (sym (pairs_have_push left p reader seen) ∙ sym (ap (λ (l : List Pair). pairs_have l reader seen) pushed))
+      ∙ so_far.either reader seen;
+  rising_seen = rise_put s' s2 p.seen p.reader in_seen rise_seen so_far.rising_seen;
+  rising_reader = rise_put r' r2 p.reader p.seen in_reader rise_reader so_far.rising_reader;
+}
+
+-- at the end nothing is owed
+pub settles_rise_seen : (s s' r' : List Row) (pending pending' : List Pair) → Settles s s' r' pending pending' → pending' ≡ [] → AreRising s'
+settles_rise_seen s s' r' pending pending' all empty tag = all.rising_seen tag (all.sound.owed_seen tag ∙ ap (λ (l : List Pair). times (map seen_of l) tag) empty)
+
+pub settles_rise_reader : (s s' r' : List Row) (pending pending' : List Pair) → Settles s s' r' pending pending' → pending' ≡ [] → AreRising r'
+settles_rise_reader s s' r' pending pending' all empty tag = all.rising_reader tag (all.sound.owed_reader tag ∙ ap (λ (l : List Pair). times (map reader_of l) tag) empty)
+
+pub settles_all : (s s' r' : List Row) (pending pending' : List Pair) (old : Relations) → view_of s pending ≡ old → Settles s s' r' pending pending' → pending' ≡ [] → (reader seen : ℕ) → is_settled (view_of s' pending') reader seen ≡ (is_settled old reader seen || pairs_have old.pending reader seen)
+settles_all s s' r' pending pending' old is all empty reader seen =
+    settled_is s' pending' reader seen ∙ sym (or_false _) ∙ ap (λ (l : List Pair). has (row_at s' seen).tags reader || pairs_have l reader seen) (sym empty)
+    ∙ all.either reader seen ∙ ap (λ (b : Bool). b || pairs_have pending reader seen) (sym (settled_is s pending reader seen))
+    ∙ ap (λ (v : Relations). is_settled v reader seen || pairs_have v.pending reader seen) is

@@ -1,8 +1,8 @@
 -- What a contract sees of two relations between readers and what they saw.
-use Rattle.std.specs.Prelude.{◌≡◌, ℕ, ◌+◌, List, [], ◌∷◌, map, slice_index_or, Bool, ◌||◌, ◌&&◌, ◌==◌, cond, false, refl}
+use Rattle.std.specs.Prelude.{◌≡◌, ◌≢◌, ℕ, ◌+◌, List, [], ◌∷◌, map, slice_index_or, Bool, ◌||◌, ◌&&◌, ◌==◌, cond, true, false, refl}
 use Rattle.std.specs.Coded.{Coded, code_by, coded×, coded_ℕ, coded_list}
 use Rattle.lsys_reads.specs.declared.Pair.{Pair}
-use Rattle.lsys_reads.specs.Rows.{Row, row_at, has}
+use Rattle.lsys_reads.specs.Rows.{Row, row_at, has, AreRising, OtherRowsStay}
 
 -- the settled readers of each tag, and the pending pairs
 pub record Relations : Type 0 where
@@ -53,3 +53,17 @@ pub record IsSound (by_seen by_reader : List Row) (pending : List Pair) : Type 0
   pub agree : (reader seen : ℕ) → has (row_at by_seen seen).tags reader ≡ has (row_at by_reader reader).tags seen
   pub owed_seen : (tag : ℕ) → (row_at by_seen tag).owed ≡ times (map seen_of pending) tag
   pub owed_reader : (tag : ℕ) → (row_at by_reader tag).owed ≡ times (map reader_of pending) tag
+
+-- what the first table has the second has
+abbrev pub Covers : List Row → List Row → Type 0
+Covers by_seen by_reader = (reader seen : ℕ) → has (row_at by_seen seen).tags reader ≡ true → has (row_at by_reader reader).tags seen ≡ true
+
+-- pairs of the reader and, among the rows of readers, of some in `gone` are taken out: s and r were the two tables, and s' and r' are now
+pub record Forgets (s r s' r' : List Row) (reader : ℕ) (gone : List ℕ) : Type 0 where
+  pub covers : Covers s' r'
+  pub kept : (other seen : ℕ) → other ≢ reader → has gone other ≡ false → has (row_at s' seen).tags other ≡ has (row_at s seen).tags other
+  pub others : OtherRowsStay r r' reader
+  pub owed_seen : (tag : ℕ) → (row_at s' tag).owed ≡ (row_at s tag).owed
+  pub owed_reader : (tag : ℕ) → (row_at r' tag).owed ≡ (row_at r tag).owed
+  pub rising_seen : AreRising s'
+  pub rising_reader : AreRising r'

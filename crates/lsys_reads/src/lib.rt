@@ -9,8 +9,8 @@ mod row;
 mod table;
 
 ghost use Rattle.std.specs.Prelude.{◌≡◌, ℕ, ◌+◌, ◌<◌, ◌++◌, ◌∷◌, List, [], ◌||◌, ◌&&◌, not, Bool, true, false, OnOk, OnErr, IfNone, IfSome};
-ghost use Rattle.lsys_reads.specs.Rows.{has, IsRising};
-ghost use Rattle.lsys_reads.specs.Relations.{is_settled, is_pending, SettledStay, pairs_have};
+ghost use Rattle.lsys_reads.specs.Rows.{has, IsRising, AreRising, row_at};
+ghost use Rattle.lsys_reads.specs.Relations.{is_settled, is_pending, SettledStay, Covers, Forgets};
 
 use lsys_level::Tag;
 use std::alloc::{AllocError, Global};
@@ -34,6 +34,7 @@ pub struct Reads {
 }
 
 impl Model for Reads {
+    ghost use Rattle.lsys_reads.specs.Rows.{AreRising};
     ghost use Rattle.lsys_reads.specs.Relations.{Relations, relations_code, view_of, IsSound};
 
     ghost Value = { Relations };
@@ -42,7 +43,7 @@ impl Model for Reads {
 
     ghost view = { λ r. view_of r.by_seen r.pending.items };
 
-    ghost invariant = { λ r. IsSound r.by_seen r.by_reader r.pending.items };
+    ghost invariant = { λ r. IsSound r.by_seen r.by_reader r.pending.items × AreRising r.by_seen × AreRising r.by_reader };
 }
 
 impl Reads {
@@ -120,29 +121,28 @@ impl Reads {
     /// Takes the pairs of the readers in `gone` out of the settled ones, and then adds the pending pairs to them. It
     /// takes no memory.
     ///
-    /// It costs steps by the pairs that come and go, and by how many readers stand behind them in their rows: least
-    /// where the readers in `gone` rise.
+    /// It costs steps by the pairs that come and go. Up to a few hundred of them in one row move the tags behind them,
+    /// each for itself; where there may be more, the row is gone through once for all, in steps by its length and the
+    /// logarithm of that. So if the readers in `gone` rise; else a row may be gone through for each of them.
     pub fn settle(&mut self, gone: &[Tag])
         ensures settled { (reader seen : ℕ) → is_settled self.new reader seen
             ≡ ((not (has gone.now reader) && is_settled self.old reader seen) || is_pending self.old reader seen) }
         ensures pending { self.new.pending ≡ [] }
     {
-        let mut rest = gone;
-        while let Some((reader, before)) = rest.split_last() {
-            self.forget(*reader);
-            rest = before;
-        }
+        self.forget(gone);
         self.settle_pending();
     }
 
-    /// Takes all pairs of a reader out of the settled ones.
-    fn forget(&mut self, reader: Tag)
-        ensures settled { (other seen : ℕ) → is_settled self.new other seen
-            ≡ (not (has (reader ∷ []) other) && is_settled self.old other seen) }
+    /// Takes all pairs of the readers in `gone` out of the settled ones.
+    fn forget(&mut self, gone: &[Tag])
+        ensures settled { (reader seen : ℕ) → is_settled self.new reader seen
+            ≡ (not (has gone.now reader) && is_settled self.old reader seen) }
         ensures pending { self.new.pending ≡ self.old.pending }
     {
-        while let Some(seen) = self.by_reader.pop(reader) {
-            self.by_seen.cut(seen, reader);
+        let mut rest = gone;
+        while let Some((reader, before)) = rest.split_last() {
+            forget_one(&mut self.by_seen, &mut self.by_reader, *reader, gone);
+            rest = before;
         }
     }
 
@@ -153,7 +153,10 @@ impl Reads {
         ensures pending { self.new.pending ≡ [] }
     {
         self.sort_falling();
-        while let Some(_) = self.settle_one() {}
+        while let Some(pair) = self.pending.pop() {
+            self.by_seen.put(pair.seen, pair.reader);
+            self.by_reader.put(pair.reader, pair.seen);
+        }
     }
 
     /// Sorts the pending pairs by their readers, the highest first.
@@ -164,22 +167,17 @@ impl Reads {
         self.pending
             .sort_unstable_by_key(|pair| Reverse(pair.reader));
     }
+}
 
-    /// Settles one pending pair, if there is one.
-    fn settle_one(&mut self) -> Option<Pair>
-        ensures some { IfSome result (λ pair. self.old.pending ≡ self.new.pending ++ pair ∷ []) }
-        ensures settled { IfSome result (λ pair. (reader seen : ℕ) → is_settled self.new reader seen
-            ≡ (pairs_have (pair ∷ []) reader seen || is_settled self.old reader seen)) }
-        ensures none { IfNone result (self.old.pending ≡ []) }
-        ensures same { IfNone result (self.new ≡ self.old) }
-    {
-        match self.pending.pop() {
-            Some(pair) => {
-                self.by_seen.put(pair.seen, pair.reader);
-                self.by_reader.put(pair.reader, pair.seen);
-                Some(pair)
-            }
-            None => None,
-        }
+/// Takes all pairs of the reader out of both tables, and from the rows of readers maybe others in `gone`.
+fn forget_one(by_seen: &mut Table, by_reader: &mut Table, reader: Tag, gone: &[Tag])
+    requires covers { Covers by_seen.old by_reader.old }
+    requires rising_seen { AreRising by_seen.old }
+    requires rising_reader { AreRising by_reader.old }
+    ensures forgets { Forgets by_seen.old by_reader.old by_seen.new by_reader.new reader gone.now }
+    ensures none { (row_at by_reader.new reader).tags ≡ [] }
+{
+    while let Some(seen) = by_reader.pop(reader) {
+        by_seen.sweep(seen, reader, gone);
     }
 }

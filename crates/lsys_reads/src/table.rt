@@ -1,6 +1,6 @@
 //! The rows by their tags.
 ghost use Rattle.std.specs.Prelude.{◌≡◌, ℕ, ◌+◌, ◌<◌, List, [], length, OnOk, OnErr, IfNone, IfSome, true};
-ghost use Rattle.lsys_reads.specs.Rows.{Row, row_at, has, IsRising, SameRows, Cuts, Puts, Reserves};
+ghost use Rattle.lsys_reads.specs.Rows.{Row, row_at, has, IsRising, SameRows, Cuts, SweepsRow, Puts, Reserves};
 
 use crate::row::Row;
 use lsys_level::Tag;
@@ -68,32 +68,36 @@ impl Table {
         row.trim();
     }
 
-    /// Puts `other` into the row of this tag. It takes no memory.
+    /// Puts `other` into the row of this tag. With the last that is owed the row rises. It takes no memory.
     pub(crate) fn put(&mut self, tag: Tag, other: Tag)
         requires { 0 < (row_at self.old tag).owed }
-        ensures { Puts self.old self.new tag other }
+        ensures puts { Puts self.old self.new tag other }
+        ensures rising { (row_at self.new tag).owed ≡ 0 → IsRising (row_at self.new tag).tags }
     {
         self.rows[tag.0 as usize].put(other);
     }
 
-    /// Takes `other` out of the row of this tag, if it is there.
-    pub(crate) fn cut(&mut self, tag: Tag, other: Tag)
-        ensures { Cuts self.old self.new tag other }
+    /// Takes `other` out of the row of this tag, if it is there, and maybe others of `gone`.
+    pub(crate) fn sweep(&mut self, tag: Tag, other: Tag, gone: &[Tag])
+        requires rising { IsRising (row_at self.old tag).tags }
+        ensures { SweepsRow self.old self.new tag other gone.now }
     {
         if (tag.0 as usize) < self.rows.len() {
             let row = &mut self.rows[tag.0 as usize];
-            row.cut(other);
+            row.sweep(other, gone);
             row.trim();
         }
     }
 
     /// Takes the last tag out of the row of this tag.
     pub(crate) fn pop(&mut self, tag: Tag) -> Option<Tag>
+        requires rising { IsRising (row_at self.old tag).tags }
         ensures none { IfNone result ((row_at self.old tag).tags ≡ []) }
         ensures same { IfNone result (self.new ≡ self.old) }
         ensures some { IfSome result (λ other. has (row_at self.old tag).tags other ≡ true) }
         ensures tags { IfSome result (λ other. Cuts self.old self.new tag other) }
         ensures shorter { IfSome result (λ other. length (row_at self.new tag).tags < length (row_at self.old tag).tags) }
+        ensures rising { IsRising (row_at self.new tag).tags }
     {
         if self.rows.len() <= tag.0 as usize {
             return None;
@@ -106,8 +110,7 @@ impl Table {
 
     /// The row of this tag.
     pub(crate) fn tags(&self, tag: Tag) -> &[Tag]
-        ensures value { result.now ≡ (row_at self.now tag).tags }
-        ensures rising { IsRising result.now }
+        ensures { result.now ≡ (row_at self.now tag).tags }
     {
         match self.rows.get(tag.0 as usize) {
             Some(row) => row.tags(),

@@ -1,5 +1,21 @@
-use Rattle.lsys_reads.proofs.ReadsLemmas.{settles_one}
+use Rattle.std.proofs.Common.{ℕ, ◌<◌, List, map, sym, ap, subst, ◌∙◌}
+use Rattle.lsys_reads.specs.declared.Pair.{Pair}
+use Rattle.lsys_reads.specs.Relations.{seen_of, reader_of, times}
+use Rattle.lsys_reads.proofs.ReadsLemmas.{times_pushed, settles_one}
 use Rattle.lsys_reads.proofs.Reads.settle_pending.Goals as goal
 
-pub loop-preserved : goal.loop-preserved
-loop-preserved c = settles_one c.sort_falling.new.self c.loop.self c.settle_one.new.self c.in-Some.field-0 c.loop.invariant c.in-Some.ensures.some c.in-Some.ensures.settled
+pub put-requires : goal.put-requires
+put-requires c =
+    let owed = c.loop-pair.invariant.sound.owed_seen c.in-Some.pair.seen ∙ ap (λ (l : List Pair). times (map seen_of l) c.in-Some.pair.seen) c.in-Some.ensures.items in
+    subst (λ (n : ℕ). 0 < n) (sym owed) (times_pushed seen_of c.pop.new.self.items c.in-Some.pair)
+
+pub put-requires-in-Some : goal.put-requires-in-Some
+put-requires-in-Some c =
+    let owed = c.loop-pair.invariant.sound.owed_reader c.in-Some.pair.reader ∙ ap (λ (l : List Pair). times (map reader_of l) c.in-Some.pair.reader) c.in-Some.ensures.items in
+    subst (λ (n : ℕ). 0 < n) (sym owed) (times_pushed reader_of c.pop.new.self.items c.in-Some.pair)
+
+pub loop-pair-preserved : goal.loop-pair-preserved
+loop-pair-preserved c =
+    settles_one c.self.inside.by_seen c.loop-pair.self-inside.by_seen c.loop-pair.self-inside.by_reader c.put.new.self c.put-in-Some.new.self
+    c.self.inside.pending.items c.loop-pair.self-inside.pending.items c.pop.new.self.items c.in-Some.pair c.loop-pair.invariant c.in-Some.ensures.items
+    c.put.ensures.puts c.put.ensures.rising c.put-in-Some.ensures.puts c.put-in-Some.ensures.rising

@@ -4,7 +4,7 @@ use Rattle.lsys_reads.proofs.ReadsLemmas.{sound_in_order, pairs_have_in_order}
 use Rattle.lsys_reads.proofs.Reads.sort_falling.Goals as goal
 
 pub invariant_of-self : goal.invariant_of-self
-invariant_of-self c = sound_in_order c.self.inside.by_seen c.self.inside.by_reader c.self.inside.pending.items c.sort_unstable_by_key.new.self.items c.sort_unstable_by_key.ensures.permutation c.self.invariant
+invariant_of-self c = (sound_in_order c.self.inside.by_seen c.self.inside.by_reader c.self.inside.pending.items c.sort_unstable_by_key.new.self.items c.sort_unstable_by_key.ensures.permutation c.self.invariant.0, c.self.invariant.1, c.self.invariant.2)
 
 pub returns-clause-pending : goal.returns-clause-pending
 returns-clause-pending c = λ reader seen.

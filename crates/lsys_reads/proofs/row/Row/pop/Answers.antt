@@ -15,10 +15,11 @@ last_is c =
 pub invariant_of-self : goal.invariant_of-self
 invariant_of-self c =
     let xs = c.self.inside.tags.items in
+    let rising = subst (λ (r : Row). IsRising r.tags) (sym c.self.view_is) c.requires.rising in
     let room = c.self.invariant.1 in
     let len = c.remove.ensures.len in
     let same = c.remove.ensures.capacity in
-    (subst IsRising (sym c.remove.ensures.items) (rising_remove xs (c.len-len.result - 1) c.self.invariant.0), omega (arith, room, len, same))
+    ((λ _. subst IsRising (sym c.remove.ensures.items) (rising_remove xs (c.len-len.result - 1) rising)), omega (arith, room, len, same))
 
 pub returns-clause-some : goal.returns-clause-some
 returns-clause-some c =
@@ -27,7 +28,12 @@ returns-clause-some c =
 
 pub returns-clause-tags : goal.returns-clause-tags
 returns-clause-tags c = λ q.
+    let rising = subst (λ (r : Row). IsRising r.tags) (sym c.self.view_is) c.requires.rising in
     let last = last_is c in
     ap (λ (l : List ℕ). has l q) c.remove.ensures.items
-    ∙ has_remove c.self.inside.tags.items (c.len-len.result - 1) c.remove.result q c.self.invariant.0 last.0 last.1
+    ∙ has_remove c.self.inside.tags.items (c.len-len.result - 1) c.remove.result q rising last.0 last.1
     ∙ ap (λ (r : Row). not (c.remove.result == q) && has r.tags q) c.self.view_is
+
+pub returns-clause-rising : goal.returns-clause-rising
+returns-clause-rising c =
+    subst IsRising (sym c.remove.ensures.items) (rising_remove c.self.inside.tags.items (c.len-len.result - 1) (subst (λ (r : Row). IsRising r.tags) (sym c.self.view_is) c.requires.rising))
