@@ -1,4 +1,4 @@
-//! Tests of expressions, draws and lattices: values from outside, and each call once on its happy path.
+//! Tests of tokens, expressions, draws and lattices: values from outside, and each call once on its happy path.
 //!
 //! Tests stand in crates of their own, so that no crate below is proved a second time with its tests.
 #![tactic(auto)]
@@ -11,3 +11,5 @@ mod expressions;
 mod extents;
 #[cfg(test)]
 mod lattices;
+#[cfg(test)]
+mod tokens;
