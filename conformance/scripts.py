@@ -22,7 +22,9 @@ JUNK = ["axiom F_aF_b", "axiom A()", "axiom A(9223372036854775808)", "axiom A(-9
         "hom h: A < B => C", "hom h: A @ 1 => C", "hom h: A => B%", "hom main h: A => B", "hom h: A(x) => F(x%2)", "hom h", "hom h:",
         "string 65", "string -1", "string string", "segments 1", "svg 2", "show all", "lattice", "lattice triangular", "lattice square cubic",
         "seed", "seed -1", "seed 18446744073709551616", "seed 18446744073709551615", "ignore [", "ignore A(1)", "ignore %", "schedule",
-        "schedule main,main", "schedule 1", "drop", "drop p q", "axioms A", "Axiom A", "quit now", "\xff", "_", "1", ": =>", " ; note"]
+        "version", "version 0", "version 3", "version 1", "version 18446744073709551615", "version 2 2", "ignoring", "ignoring main", "ignoring main A",
+        "ignoring main: A(1)", "ignoring main winter: A", "consider main: %", "consider :", "consider summer: A", "common", "common main main", "common main:",
+        "common summer", "lineage", "lineage name", "lineage names places", "lineage: names", "depth 256", "depth 257", "schedule main,main", "schedule 1", "drop", "drop p q", "axioms A", "Axiom A", "quit now", "\xff", "_", "1", ": =>", " ; note"]
 
 
 def sum_of(tokens):
@@ -198,6 +200,19 @@ class Writer:
     def ignore(self):
         return self.text("ignore", self.rng.choices(self.names + MARKS[:2], k=self.rng.choice([0, 1, 2, 2, 3])))
 
+    def own(self):
+        return self.text("%s %s:" % (self.rng.choice(["ignoring", "consider"]), self.rng.choice(self.tables if self.often(0.9) else TABLES)),
+                         self.rng.choices(self.names + MARKS[:2], k=self.rng.choice([0, 1, 2, 3])))
+
+    def common(self):
+        return "common " + self.rng.choice(self.tables)
+
+    def lineage(self):
+        return self.rng.choice(["lineage names", "lineage names", "lineage places"])
+
+    def version(self):
+        return "version " + self.rng.choice(["2", "2", "2", "1"])
+
     def schedule(self):
         return "schedule " + " ".join(self.rng.choices(self.tables if self.often(0.95) else TABLES, k=self.rng.choice([1, 2, 2, 3])))
 
@@ -240,11 +255,12 @@ class Writer:
             "production p: A(x) => B(%s)" % ",".join(["x"] * (8 + more)),
             "production %s: A => B" % ("abcdefghijklmnopq"[:16 + more]),
             "ignore " + "+" * (64 + more),
+            "consider main: " + "+" * (64 + more),
             "schedule" + " main" * (64 + more),
             "axiom F(%d)" % (10**9 + more),
             ";" + "x" * (65535 + more)])
 
-    KINDS = {"axiom": 12, "production": 30, "hom": 6, "drop": 2, "ignore": 4, "schedule": 3, "seed": 3, "lattice": 4, "depth": 10, "string": 14, "level": 6,
+    KINDS = {"axiom": 12, "production": 30, "hom": 6, "drop": 2, "ignore": 4, "own": 3, "common": 1, "lineage": 2, "version": 1, "schedule": 3, "seed": 3, "lattice": 4, "depth": 10, "string": 14, "level": 6,
              "segments": 6, "svg": 4, "show": 3, "broken": 8, "junk": 3, "edge": 1, "passed": 2, "quit": 0.5}
 
     def line(self):
@@ -258,6 +274,10 @@ class Writer:
     def lines(self):
         if self.often(0.005):
             yield from ("production r%d: %s => %s" % (number, self.names[number % 2], self.names[0]) for number in range(self.rng.choice([255, 256, 257])))
+        if self.often(0.6):
+            yield "version 2"
+        if self.often(0.4):
+            yield "lineage names"
         yield self.axiom()
         if self.often(0.5):
             yield self.lattice()

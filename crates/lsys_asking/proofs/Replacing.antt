@@ -60,7 +60,7 @@ bracket_stays s t x p (L.Module l m) (inl e) = cc
 bracket_stays s t x p (L.Module l m) (inr e) = cc
 
 none_chosen : (s : System) (t : ℕ) (x : List Symbol) (p : ℕ) (l : List ℕ) (m : ModuleValue) → group s t m.name (length m.params) ≡ [] → successor s t x p l m ≡ Ok (S.Module m.name m.params ∷ [])
-none_chosen s t x p l m e = ap (λ bs. successor_by bs m (asked_of s bs x p l m).answer) e
+none_chosen s t x p l m e = ap (λ bs. successor_by bs m (asked_of s t bs x p l m).answer) e
 
 pub unruled_stays : (s : System) (t : ℕ) (x : List Symbol) (p : ℕ) (a : Symbol) (m : ModuleValue) → seen_by a ≡ Module m → group s t m.name (length m.params) ≡ [] → replacement s t x p a ≡ Ok (plain a ∷ [])
 unruled_stays s t x p (L.Push l) m e h = cc

@@ -7,7 +7,7 @@ use Rattle.lsys_syntax.specs.Tokens.{NameText}
 use Rattle.lsys_syntax.specs.Strings.{Symbol, Module, Push, Pop, Cut}
 use Rattle.lsys_syntax.specs.Checks.{all_formals, rule_formals}
 use Rattle.lsys_syntax.specs.Rules.{Rule}
-use Rattle.lsys_bodies.specs.Limits.{HaveFewParams, IsSmall}
+use Rattle.lsys_syntax.specs.Smalls.{HaveFewParams, IsSmall}
 
 few-more : (a b n : ℕ) → a ≤ most_params → b ≤ most_params * n → a + b ≤ most_params * (n + 1)
 few-more a b n h i = omega arith

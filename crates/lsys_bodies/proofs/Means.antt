@@ -17,7 +17,7 @@ use Rattle.lsys_bodies.specs.declared.body.Pattern.{Pattern}
 use Rattle.lsys_bodies.specs.declared.body.Item.{Item}
 use Rattle.lsys_bodies.specs.declared.body.Item.TheVariants as items
 use Rattle.lsys_bodies.specs.declared.body.Body.{Body}
-use Rattle.lsys_bodies.specs.Limits.{IsSmall}
+use Rattle.lsys_syntax.specs.Smalls.{IsSmall}
 use Rattle.lsys_bodies.specs.Built.{IsBuilt}
 use Rattle.lsys_bodies.specs.Views.{pattern_symbol, pattern_of, item_symbol, nest, tree_of, template_of, written, body_value}
 use Rattle.lsys_bodies.specs.Building.{CanBuild, symbol_tree}

@@ -8,7 +8,7 @@ use Rattle.lsys_syntax.specs.Expressions.{Expr, expr_kinds, expr_pieces}
 use Rattle.lsys_syntax.specs.Rules.{Rule, IsRule, formal_pieces, option_pieces, left_pieces, predecessor_pieces, right_pieces, successor_pieces, rule_pieces}
 use Rattle.lsys_syntax.specs.Checks.{rule_formals, inside_after, is_unknown, unknown_place, rule_unknown, rule_many}
 use Rattle.lsys_bodies.specs.Building.{IsKnown, AreKnown, OptionIsKnown, StringIsKnown, CanBuild}
-use Rattle.lsys_bodies.proofs.Wide.{is-small}
+use Rattle.lsys_syntax.proofs.Wide.{is-small}
 
 -- an unknown name is among the pieces
 abbrev unknown : List NameText → Bool → List Piece → Bool

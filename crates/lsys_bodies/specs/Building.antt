@@ -16,7 +16,7 @@ use Rattle.lsys_reading.specs.declared.images.Image.{Image}
 use Rattle.lsys_reading.specs.Spans.{expr_at}
 use Rattle.lsys_reading.specs.Images.{image_at}
 use Rattle.lsys_reading.specs.RuleLines.{rule_at}
-use Rattle.lsys_bodies.specs.Limits.{IsSmall}
+use Rattle.lsys_syntax.specs.Smalls.{IsSmall}
 
 -- each name of the expression is a formal
 abbrev pub IsKnown : List NameText → Expr → Type 0

@@ -3,7 +3,7 @@ use Rattle.std.specs.Prelude.{◌≡◌}
 use Rattle.lsys_syntax.specs.Rules.{IsRule}
 use Rattle.lsys_spec.specs.Bodies.{body_of}
 use Rattle.lsys_bodies.specs.declared.body.Body.{Body}
-use Rattle.lsys_bodies.specs.Limits.{IsSmall}
+use Rattle.lsys_syntax.specs.Smalls.{IsSmall}
 use Rattle.lsys_bodies.specs.Views.{written, body_value}
 
 -- What is written is a rule of the language, balanced, and no limit is passed. The body means what that rule means by the

@@ -1,5 +1,5 @@
 pub mod Views
-pub mod Limits
 pub mod Built
 pub mod Building
+pub mod Filters
 pub mod Same

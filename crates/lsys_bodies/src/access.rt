@@ -2,7 +2,7 @@
 ghost use Rattle.std.specs.Prelude.{◌≡◌, map};
 ghost use Rattle.std.specs.Option.{option_map};
 ghost use Rattle.lsys_spec.specs.Bodies.{innermost, body_of};
-ghost use Rattle.lsys_bodies.specs.Limits.{HaveFewParams};
+ghost use Rattle.lsys_syntax.specs.Smalls.{HaveFewParams};
 ghost use Rattle.lsys_bodies.specs.Views.{pattern_of, nest, template_symbol, template_of, written};
 
 use crate::body::{Item, Pattern, SharedBody, Template};

@@ -4,10 +4,12 @@
 mod access;
 mod body;
 mod building;
+mod filter;
 mod patterns;
 mod rule;
 mod same;
 
 pub use body::{Body, Item, Pattern, SharedBody, Template};
 pub use building::{build_hom_rule, build_rule};
+pub use filter::Filter;
 pub use rule::{HomRule, Rule};

@@ -10,7 +10,7 @@ use Rattle.std.specs.Option.{IfSome}
 use Rattle.lsys_words.specs.Words.{HasLimit, options_by}
 use Rattle.lsys_words.proofs.Bounds.{bounded}
 use Rattle.lsys_cli.specs.Ends.{OfScript, Ends, IsWithin, WroteWithin, replies, within_limit}
-use Rattle.lsys_cli.specs.Programs.{IsComplete, OnScript, script_of}
+use Rattle.lsys_cli.specs.Programs.{IsComplete, OfSample, OnSample, OnScript, script_of}
 use Rattle.lsys_cli.specs.declared.status.Status.{Status}
 use Rattle.lsys_cli.specs.declared.status.Status.TheVariants.{Done, Refused, Usage, ReadFault, WriteFault, Memory, TooLong}
 
@@ -112,3 +112,21 @@ completes words o told left w now status U e h r f =
     at None k = tt
     at (Some script) (inl k) = λ within unrefused. inr (inl k.0)
     at (Some script) (inr k) = complete o.limit script left w now status k r f
+
+-- 5. no memory to begin with
+
+pub on_sample : (o : Option Options) (P : Type 0) → P → OnSample o P
+on_sample None P h = tt
+on_sample (Some o) P h = by o.sample
+  where
+    by : (s : Option ℕ) → OfSample s P
+    by None = tt
+    by (Some n) = h
+
+pub on_script : (o : Option Options) (left : Option (List ℕ)) (P : ℕ → List ℕ → Type 0) → ((limit : ℕ) (script : List ℕ) → P limit script) → OnScript o left P
+on_script None left P h = tt
+on_script (Some o) left P h = by (script_of o left)
+  where
+    by : (s : Option (List ℕ)) → OfScript s (P o.limit)
+    by None = tt
+    by (Some script) = h o.limit script

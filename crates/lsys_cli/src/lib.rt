@@ -82,10 +82,11 @@ pub fn lsys<S: Source, K: Sink, L: Ledger, V: Ledger>(
         → any_refusal (replies limit script none) ≡ false
         → IsComplete result limit (K.written sink.old) (K.written sink.new) script) }
 {
-    match options_of(words) {
-        Some(options) => {
+    match options_of(alloc, words) {
+        Ok(Some(options)) => {
             run_by::<S, K, L, V, Levels<L>>(alloc, options, source, sink, asked, visited)
         }
-        None => Status::Usage,
+        Ok(None) => Status::Usage,
+        Err(_) => Status::Memory,
     }
 }

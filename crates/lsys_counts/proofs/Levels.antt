@@ -7,7 +7,7 @@ use Rattle.lsys_spec.specs.Systems.{System, Each, WellSpelled}
 use Rattle.lsys_spec.specs.Bodies.{Body, group}
 use Rattle.lsys_spec.specs.Levels.{Symbol, Push, Pop, Module, lineage}
 use Rattle.lsys_spec.specs.Meaning.{meaning}
-use Rattle.lsys_spec.specs.Cuts.{Rising}
+use Rattle.lsys_spec.specs.Cuts.{Distinct}
 use Rattle.lsys_spec.specs.Questions.{Question, question, where_any, questions_from, questions_at, questions_below, questions, question_at, differs, is_needed, need}
 use Rattle.lsys_spec.specs.Standings.{place_of}
 use Rattle.lsys_spec.proofs.Answered.{answered}
@@ -48,12 +48,12 @@ derived_of s xs h = by h.levels
     by (inl e) = no_levels s xs h.spelled e
     by (inr m) = derived s m.0 xs h.spelled m.1
 
-pub rising_of : (s : System) (xs : List (List Symbol)) → HasLevels s xs → Each Rising xs
-rising_of s xs h = each_of Rising xs (λ t x g. by t x g h.levels)
+pub distinct_of : (s : System) (xs : List (List Symbol)) → HasLevels s xs → Each Distinct xs
+distinct_of s xs h = each_of Distinct xs (λ t x g. by t x g h.levels)
   where
-    by : (t : ℕ) (x : List Symbol) → slice_get xs t ≡ Some x → (xs ≡ []) ⊎ ((limit : ℕ) × (meaning s limit ≡ Ok xs)) → Rising x
+    by : (t : ℕ) (x : List Symbol) → slice_get xs t ≡ Some x → (xs ≡ []) ⊎ ((limit : ℕ) × (meaning s limit ≡ Ok xs)) → Distinct x
     by t x g (inl e) = let no : None ≡ Some x = sym (ap (λ (xs : List (List Symbol)). slice_get xs t) e) ∙ g in cc
-    by t x g (inr m) = (grown s (has_balance s h.spelled) m.0 xs m.1 t x g).rises
+    by t x g (inr m) = (grown s (has_balance s h.spelled) m.0 xs m.1 t x g).distinct
 
 -- 2. what is kept of an old level
 
@@ -186,7 +186,7 @@ module _ (old new : System) (xs all : List (List Symbol)) (oldrows rows : List (
   }
 
   looked : (t : ℕ) (l : List ℕ) → question_at t l (questions old xs) ≡ kept_at (kept_questions old xs t) (place_of l (get_or xs t []))
-  looked t l = kept_there old 0 t xs t l (omega arith) (rising_of old xs oldlevels)
+  looked t l = kept_there old 0 t xs t l (omega arith) (distinct_of old xs oldlevels)
 
   news_from : (t : ℕ) (ys : List (List Symbol)) (fresh : List (List (Option TagAnswer))) (taken : List (List (Option ℕ))) → Fits ys all t → AreAllFound new t rows xs kept ys fresh taken → Each (IsSound (questions old xs)) (questions_below new t ys)
       → length (needs_from old new xs t ys) ≡ sum_by filled fresh
@@ -224,7 +224,7 @@ module _ (old new : System) (xs ys : List (List Symbol)) (oldrows rows : List (L
   pub counted_news : need (questions old xs) (questions new ys) ≡ sum_by filled fresh
   counted_news =
       sym (length-filter (is_needed (questions old xs)) (questions new ys))
-      ∙ ap length (of_levels old new xs (rising_of old xs h.old_levels) 0 ys)
+      ∙ ap length (of_levels old new xs (distinct_of old xs h.old_levels) 0 ys)
       ∙ news_from old new xs ys oldrows rows kept h.old_levels h.new_levels h.named h.old_keys h.new_keys h.slots 0 ys fresh taken (all_fit ys) h.found all_sound
 
   pub counted_all : length (questions new ys) ≡ sum_by filled fresh + sum_by filled taken

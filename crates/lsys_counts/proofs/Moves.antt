@@ -6,7 +6,7 @@ use Rattle.std.proofs.lemmas.List.{length-map}
 use Rattle.std.proofs.lemmas.Option.{slice_get_within, get_or_from_slice_get, slice_get-get_or}
 use Rattle.lsys_spec.specs.Systems.{System, Each}
 use Rattle.lsys_spec.specs.Levels.{Symbol}
-use Rattle.lsys_spec.specs.Cuts.{Rising}
+use Rattle.lsys_spec.specs.Cuts.{Distinct}
 use Rattle.lsys_spec.specs.Questions.{Question}
 use Rattle.lsys_need.specs.Kept.{places_in}
 use Rattle.lsys_walks.specs.Stores.{Store}
@@ -48,7 +48,7 @@ none_before : {A B : Type 0} (g : A → B) (o : Option A) → option_map g o ≡
 none_before g None e = refl
 none_before g (Some a) e = let no : Some (g a) ≡ None = e in cc
 
-module _ (s : System) (t : ℕ) (store : Store) (row : List Spotted) (x y : List Symbol) (olds fresh : List (Option Kept)) (taken : List (Option ℕ)) (rises : Rising y) (h : AreFound s t row y (slots_in store olds) (places_in x y) (slots_in store fresh) taken) where
+module _ (s : System) (t : ℕ) (store : Store) (row : List Spotted) (x y : List Symbol) (olds fresh : List (Option Kept)) (taken : List (Option ℕ)) (distinct : Distinct y) (h : AreFound s t row y (slots_in store olds) (places_in x y) (slots_in store fresh) taken) where
   taken_here : (p j : ℕ) → slice_get taken p ≡ Some (Some j) → IsTaken s t row p (slot_at (places_in x y) p) (slot_of (slots_in store olds) (slot_at (places_in x y) p)) (slot_at (slots_in store fresh) p) j
   taken_here p j e =
       let l : p < length taken = slice_get_within taken p (Some j) e in
@@ -58,7 +58,7 @@ module _ (s : System) (t : ℕ) (store : Store) (row : List Spotted) (x y : List
 
   pub can_move : CanMove olds fresh taken
   can_move = record {
-    apart = mates_apart x y taken rises of_mates;
+    apart = mates_apart x y taken distinct of_mates;
     below = λ p j e.
         let k = taken_here p j e in
         let there : IsSomeAnd (slot_at (slots_in store olds) j) (IsAnswerHere s t row p) = subst (λ m. IsSomeAnd (slot_of (slots_in store olds) m) (IsAnswerHere s t row p)) k.from_mate k.answer in
@@ -108,7 +108,7 @@ still : (olds fresh : List (Option Kept)) (taken : List (Option ℕ)) → fresh 
 still olds fresh taken e f = subst (λ fresh. CanMove olds fresh taken) (sym e) (subst (λ (taken : List (Option ℕ)). CanMove olds [] taken) (sym f) (nothing_moves olds))
 
 module _ (s : System) (store : Store) (rows : List (List Spotted)) (xs : List (List Symbol)) (olds : List (List (Option Kept))) where
-  moves_from : (t : ℕ) (ys : List (List Symbol)) (fresh : List (List (Option Kept))) (taken : List (List (Option ℕ))) → Each Rising ys → AreAllFound s t rows xs (all_slots_in store olds) ys (all_slots_in store fresh) taken → (i n : ℕ) → t + i ≡ n
+  moves_from : (t : ℕ) (ys : List (List Symbol)) (fresh : List (List (Option Kept))) (taken : List (List (Option ℕ))) → Each Distinct ys → AreAllFound s t rows xs (all_slots_in store olds) ys (all_slots_in store fresh) taken → (i n : ℕ) → t + i ≡ n
       → CanMove (level_of olds n) (level_of fresh i) (level_of taken i)
   moves_from t [] fresh taken r h i n e = still (level_of olds n) (level_of fresh i) (level_of taken i) (no_level store fresh i h.0) (ap (λ (k : List (List (Option ℕ))). level_of k i) h.1)
   moves_from t (y ∷ []) fresh taken r h i n e = still (level_of olds n) (level_of fresh i) (level_of taken i) (no_level store fresh i h.0) (ap (λ (k : List (List (Option ℕ))). level_of k i) h.1)
@@ -121,6 +121,6 @@ module _ (s : System) (store : Store) (rows : List (List Spotted)) (xs : List (L
       (subst (λ o. AreFound s t (get_or rows t []) y o (places_in (get_or xs t []) y) (slots_in store f) k) (sym (level_map (answer_in store) olds t)) h.0))
   moves_from t (y ∷ z ∷ ys) (f ∷ fresh) (k ∷ taken) r h (suc i) n e = moves_from (t + 1) (z ∷ ys) fresh taken r.1 h.1 i n (omega (arith, e))
 
-  pub all_can_move : (ys : List (List Symbol)) (fresh : List (List (Option Kept))) (taken : List (List (Option ℕ))) → Each Rising ys → AreAllFound s 0 rows xs (all_slots_in store olds) ys (all_slots_in store fresh) taken → (t : ℕ)
+  pub all_can_move : (ys : List (List Symbol)) (fresh : List (List (Option Kept))) (taken : List (List (Option ℕ))) → Each Distinct ys → AreAllFound s 0 rows xs (all_slots_in store olds) ys (all_slots_in store fresh) taken → (t : ℕ)
       → CanMove (level_of olds t) (level_of fresh t) (level_of taken t)
   all_can_move ys fresh taken r h t = moves_from 0 ys fresh taken r h t t (omega arith)

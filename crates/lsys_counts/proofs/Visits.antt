@@ -32,7 +32,7 @@ any_length [] q qs = omega arith
 any_length (b ∷ bs) q qs = omega arith
 
 short_trace : (s : System) (t : ℕ) (bs : List Body) (x : List Symbol) (p : ℕ) (l : List ℕ) (m : ModuleValue) → length (question s t bs x p l m).trace ≤ most_entries + 1
-short_trace s t bs x p l m = omega (arith, length-take (most_entries + 1) (asked s bs x p l m).entries)
+short_trace s t bs x p l m = omega (arith, length-take (most_entries + 1) (asked s t bs x p l m).entries)
 
 pub level_visits : (s : System) (t : ℕ) (x : List Symbol) (p : ℕ) (rest : List Symbol) → sum_by (λ q. length q.trace) (questions_from s t x p rest) ≤ (most_entries + 1) * length rest
 level_visits s t x p [] = omega arith

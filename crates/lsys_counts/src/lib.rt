@@ -8,7 +8,7 @@
 ghost use Rattle.std.specs.Prelude.{◌≡◌, ◌≤◌, ◌+◌, ◌*◌, ◌++◌, ◌∷◌, ℕ, Option, List, [], length, map, option_map, sum_by, slice_index_or};
 ghost use Rattle.lsys_spec.specs.Systems.{System, Each};
 ghost use Rattle.lsys_spec.specs.Levels.{Symbol};
-ghost use Rattle.lsys_spec.specs.Cuts.{Rising};
+ghost use Rattle.lsys_spec.specs.Cuts.{Distinct};
 ghost use Rattle.lsys_spec.specs.Meaning.{most_entries};
 ghost use Rattle.lsys_spec.specs.Questions.{Question, questions, questions_at, need, least_visits};
 ghost use Rattle.lsys_level.specs.Spots.{Spotted, level_at};
@@ -79,15 +79,15 @@ pub fn law_of_found_levels()
         → AreAllFound s 0 seen xs olds (ys ++ z ∷ []) (fresh ++ f ∷ []) (taken ++ k ∷ []) }
 {}
 
-/// Where lineages rise in the new levels, what is found out about them can be taken over: each old answer from its own
-/// place, and none where there is a new one.
+/// Where each lineage stands once in a new level, what is found out about these can be taken over: each old answer from its
+/// own place, and none where there is a new one.
 pub fn law_of_moves()
     ensures levels { (s : System) (store : Store) (rows : List (List Spotted)) (xs ys : List (List Symbol))
         (olds fresh : List (List (Option Kept))) (taken : List (List (Option ℕ)))
         → AreAllFound s 0 rows xs (all_slots_in store olds) ys (all_slots_in store fresh) taken
         → length fresh ≡ length taken }
     ensures places { (s : System) (store : Store) (rows : List (List Spotted)) (xs ys : List (List Symbol))
-        (olds fresh : List (List (Option Kept))) (taken : List (List (Option ℕ))) → Each Rising ys
+        (olds fresh : List (List (Option Kept))) (taken : List (List (Option ℕ))) → Each Distinct ys
         → AreAllFound s 0 rows xs (all_slots_in store olds) ys (all_slots_in store fresh) taken
         → (t : ℕ) → CanMove (level_of olds t) (level_of fresh t) (level_of taken t) }
 {}

@@ -3,8 +3,8 @@
 //! A symbol's key comes from its lineage and the system's seed alone, so that an edit elsewhere never changes a draw.
 #![tactic(auto)]
 
-ghost use Rattle.std.specs.Prelude.{◌≡◌, ◌^◌, ◌<◌, sum};
-ghost use Rattle.lsys_spec.specs.Draws.{word, axiom_key_of, child_key_of, draw_of, IsPick, pick_of};
+ghost use Rattle.std.specs.Prelude.{◌≡◌, ◌+◌, ◌*◌, ◌^◌, ◌<◌, sum};
+ghost use Rattle.lsys_spec.specs.Draws.{number_base, word, word_past, axiom_key_of, child_key_of, draw_of, IsPick, pick_of};
 
 use rand_core::{Rng, SeedableRng};
 use rand_xoshiro::SplitMix64;
@@ -17,18 +17,32 @@ fn first_word(state: u64) -> u64
     generator.next_u64()
 }
 
-/// The key of the axiom's symbol at `place`, counted from 0, in a system with this seed.
-pub fn axiom_key(seed: u64, place: u32) -> u64
-    ensures { result ≡ axiom_key_of seed place }
+/// The word `n` words behind that of a state.
+fn word_behind(state: u64, n: u64) -> u64
+    ensures { result ≡ word_past state n }
 {
-    first_word(seed.wrapping_add(1).wrapping_add(u64::from(place)))
+    first_word(state.wrapping_add(1).wrapping_add(n))
 }
 
-/// The key of the child at `place`, counted from 0, of a symbol with this key.
-pub fn child_key(key: u64, place: u32) -> u64
-    ensures { result ≡ child_key_of key place }
+/// The key of the axiom's symbol with this code and count, in a system with this seed. A place has the code 0.
+pub fn axiom_key(seed: u64, code: u64, count: u32) -> u64
+    requires { count < number_base }
+    ensures { result ≡ axiom_key_of seed (number_base * code + count) }
 {
-    first_word(key.wrapping_add(1).wrapping_add(u64::from(place)))
+    child_key(seed, code, count)
+}
+
+/// The key of the child with this code and count of a symbol with this key. A place has the code 0.
+pub fn child_key(key: u64, code: u64, count: u32) -> u64
+    requires { count < number_base }
+    ensures { result ≡ child_key_of key (number_base * code + count) }
+{
+    let from = if code == 0 {
+        key
+    } else {
+        word_behind(key, code)
+    };
+    word_behind(from, u64::from(count))
 }
 
 /// The draw of a module with this key.

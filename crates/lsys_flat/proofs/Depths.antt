@@ -5,8 +5,9 @@ use Rattle.std.proofs.lemmas.Bool.Decides.{nat_tests}
 use Rattle.lsys_spec.specs.Systems.{System, WellSpelled}
 use Rattle.lsys_spec.specs.Values.{◌and_then◌}
 use Rattle.lsys_spec.specs.Levels.{Symbol, level_balanced}
-use Rattle.lsys_spec.specs.Cuts.{Rising}
+use Rattle.lsys_spec.specs.Cuts.{Distinct}
 use Rattle.lsys_spec.specs.Meaning.{LevelRefusal, OverLimit, first_level, next_level, last_level, within_limit, meaning_to}
+use Rattle.lsys_spec.specs.LevelLaws.{HasBalance}
 use Rattle.lsys_spec.proofs.LevelInduction.{ok_parts}
 use Rattle.lsys_spec.proofs.Offspring.{has_balance, grown}
 
@@ -15,22 +16,12 @@ same_to s limit d zero = refl
 same_to s limit d (suc n) =
     ap (λ (r : Result (List (List Symbol)) LevelRefusal). r and_then λ levels. next_level s n (last_level levels) and_then λ x. within_limit limit (suc n) (levels ++ x ∷ [])) (same_to s limit d n)
 
-pub level_grown : (s : System) (limit t : ℕ) (ys : List (List Symbol)) → WellSpelled s → meaning_to s limit t ≡ Ok ys → (u : ℕ) (x : List Symbol) → slice_get ys u ≡ Some x → Rising x × (level_balanced 0 x ≡ true)
+pub level_grown : (s : System) (limit t : ℕ) (ys : List (List Symbol)) → WellSpelled s → meaning_to s limit t ≡ Ok ys → (u : ℕ) (x : List Symbol) → slice_get ys u ≡ Some x → Distinct x × (level_balanced 0 x ≡ true)
 level_grown s limit t ys w h u x e =
-    let spelled : WellSpelled (record s { depth = t }) = record {
-      rules = w.rules;
-      homomorphisms = w.homomorphisms;
-      rules_sound = w.rules_sound;
-      homomorphisms_sound = w.homomorphisms_sound;
-      axiom_symbols = w.axiom_symbols;
-      axiom_balanced = w.axiom_balanced;
-      ignored_names = w.ignored_names;
-      ignored_once = w.ignored_once;
-      words = w.words;
-      small_seed = w.small_seed;
-    } in
-    let g = grown (record s { depth = t }) (has_balance (record s { depth = t }) spelled) limit ys (same_to s limit t t ∙ h) u x e in
-    (g.rises, g.is_balanced)
+    let b = has_balance s w in
+    let balance : HasBalance (record s { depth = t }) = record { in_axiom = b.in_axiom; in_successors = b.in_successors; short_axiom = b.short_axiom; short_successors = b.short_successors } in
+    let g = grown (record s { depth = t }) balance limit ys (same_to s limit t t ∙ h) u x e in
+    (g.distinct, g.is_balanced)
 
 under : (limit t : ℕ) (xs ys : List (List Symbol)) → within_limit limit t xs ≡ Ok ys → sum_by length ys ≤ limit
 under limit t xs ys h = by (nat_lt limit (sum_by length xs)) refl h

@@ -1,14 +1,13 @@
 -- New answers of one level more.
-use Rattle.std.proofs.Common.{◌≡◌, ℕ, zero, suc, ◌+◌, ◌<◌, ◌≤◌, ◌⊎◌, inl, inr, Option, Some, None, List, [], ◌∷◌, ◌++◌, length, map, get_or, set, refl, sym, ap, ◌∙◌, subst, arith}
+use Rattle.std.proofs.Common.{◌≡◌, ℕ, zero, suc, ◌<◌, ◌⊎◌, inl, inr, Option, Some, List, [], ◌∷◌, ◌++◌, length, get_or, set, refl, sym, ap, ◌∙◌, arith}
 use Rattle.std.proofs.lemmas.List.{map-append}
 use Rattle.lsys_walks.specs.Stores.{Store}
 use Rattle.lsys_match.specs.Kept.{Kept}
-use Rattle.lsys_match.specs.KeptAnswers.{HoldOwnRuns, StaysMade}
+use Rattle.lsys_match.specs.KeptAnswers.{HoldOwnRuns}
 use Rattle.lsys_match.specs.Asks.{IsMade}
-use Rattle.lsys_match.specs.TagQuestions.{TagAnswer}
 use Rattle.lsys_counts.specs.Slots.{slot_at}
 use Rattle.lsys_counts.specs.Counted.{slots_in, all_slots_in}
-use Rattle.lsys_keeping.specs.Answers.{AreMade, AreOwn, answer_at, level_of}
+use Rattle.lsys_keeping.specs.Answers.{AreMade, answer_at, level_of}
 use Rattle.lsys_round.specs.Rounds.{AreMadeAt, AreNew, StayMade}
 use Rattle.lsys_round.proofs.News.{all_stay, stay_then, told_still}
 use Rattle.lsys_flat.specs.Drafts.{AreAllNew}

@@ -1,5 +1,5 @@
 -- What a round found out is kept.
-use Rattle.std.proofs.Common.{◌≡◌, ◌+◌, ◌≤◌, ℕ, zero, suc, Option, Result, List, [], ◌∷◌, length, map, set, refl, sym, ap, ◌∙◌, subst}
+use Rattle.std.proofs.Common.{◌≡◌, ◌+◌, ◌≤◌, ℕ, zero, suc, Option, Result, List, [], ◌∷◌, length, map, set, refl, ap, subst}
 use Rattle.std.specs.Prelude.{OnOk}
 use Rattle.lsys_spec.specs.Systems.{System}
 use Rattle.lsys_spec.specs.Levels.{Symbol}
@@ -22,7 +22,7 @@ module _ {A : Type 0} (s : System) (t : ℕ) (kept olds : List (Option Kept)) (b
     (seen : view ≡ old.revised.view) (paired : mates ≡ old.revised.mates) (same : olds ≡ kept) (roomy : room ≡ old.room) where
   pub has_asked : now ≡ record old { fresh = set old.fresh t rounded.fresh; taken = set old.taken t rounded.taken; asked = old.asked + filled rounded.fresh; all = old.all + rounded.questions }
       → ((naming : ℕ → List ℕ) (x : List Symbol) → IsRow naming s.seed (level_at view t) x → IsRound s t (level_at view t) x (told before olds) mates after rounded v w done) → OnOk done (IsAt (length (level_at view t)) rounded)
-      → IsFinished rounded.next next → OnOk done (rounded.next.room ≡ room) → AreNew before after rounded.fresh → length rounded.fresh ≤ length (level_at view t) → b ≡ a + filled rounded.fresh
+      → IsFinished rounded.next.grown next → OnOk done (rounded.next.grown.room ≡ room) → AreNew before after rounded.fresh → length rounded.fresh ≤ length (level_at view t) → b ≡ a + filled rounded.fresh
       → HasAsked s t kept before after v w a b old now done next
   has_asked is round whole finished fits new each counted = record {
     rounded = rounded;
@@ -33,7 +33,7 @@ module _ {A : Type 0} (s : System) (t : ℕ) (kept olds : List (Option Kept)) (b
         (subst (λ olds. (naming : ℕ → List ℕ) (x : List Symbol) → IsRow naming s.seed (level_at view t) x → IsRound s t (level_at view t) x (told before olds) mates after rounded v w done) same round));
     whole = subst (λ view. OnOk done (IsAt (length (level_at view t)) rounded)) seen whole;
     finished = finished;
-    room = subst (λ room. OnOk done (rounded.next.room ≡ room)) roomy fits;
+    room = subst (λ room. OnOk done (rounded.next.grown.room ≡ room)) roomy fits;
     new_answers = new;
     each = subst (λ view. length rounded.fresh ≤ length (level_at view t)) seen each;
     counted = counted;

@@ -1,22 +1,20 @@
 -- Level 0 is planned.
-use Rattle.std.proofs.Common.{◌≡◌, ℕ, ◌+◌, ◌-◌, ◌<◌, ◌≤◌, Option, Some, None, Result, Ok, Err, List, [], ◌∷◌, ◌++◌, length, refl, sym, ap, ◌∙◌, subst, arith}
+use Rattle.std.proofs.Common.{◌≡◌, ℕ, ◌-◌, ◌≤◌, Option, Some, None, Result, Ok, Err, List, [], ◌∷◌, ◌++◌, length, refl, sym, ap, ◌∙◌, subst, arith}
 use Rattle.std.specs.Prelude.{OnOk, IfErr, sum_by, slice_get}
 use Rattle.std.proofs.lemmas.List.Sums.{sum_by-cons}
 use Rattle.lsys_spec.specs.Systems.{System}
 use Rattle.lsys_spec.specs.Draws.{key_of}
 use Rattle.lsys_spec.specs.Levels.{Symbol, Push, lineage}
 use Rattle.lsys_spec.specs.Cuts.{Raw}
-use Rattle.lsys_spec.specs.Meaning.{OverLimit, first_level, meaning, numbered}
-use Rattle.lsys_spec.specs.Questions.{Question, questions}
+use Rattle.lsys_spec.specs.Meaning.{first_level, children}
 use Rattle.lsys_laws.specs.Sessions.{IsWell}
 use Rattle.lsys_walks.specs.Stores.{Store}
 use Rattle.lsys_match.specs.Kept.{Kept}
 use Rattle.lsys_rewrite.specs.declared.refusal.DeriveRefusal.{DeriveRefusal}
-use Rattle.lsys_rewrite.specs.declared.refusal.DeriveRefusal.TheVariants as refusals
 use Rattle.lsys_module.specs.Views.{string_of}
 use Rattle.lsys_module.specs.declared.symbol.Symbol.{Symbol as Code}
 use Rattle.lsys_level.specs.Spots.{Spotted}
-use Rattle.lsys_offspring.specs.Grown.{Grown, IsGrown, IsMade, nothing_grown}
+use Rattle.lsys_offspring.specs.Grown.{Making, IsGrown, IsMade, nothing_made}
 use Rattle.lsys_round.proofs.Beginning.{none_grown}
 use Rattle.lsys_offspring.specs.declared.level.Level.{Level}
 use Rattle.lsys_offspring.proofs.Limiting.{begins_over}
@@ -24,14 +22,13 @@ use Rattle.lsys_pairing.specs.Origins.{root}
 use Rattle.lsys_revision.specs.Lines.{Line}
 use Rattle.lsys_revision.specs.Revised.{AreOldLevels, IsNext, IsRevised, Revised}
 use Rattle.lsys_counts.specs.Counted.{all_slots_in}
-use Rattle.lsys_round.specs.Rounds.{entries_of}
 use Rattle.lsys_flat.specs.Drafts.{AreOlds, CanAdd, Drafted, HasFound, IsAdded, IsDraft, IsEmpty, IsLonger, IsRefusal}
 use Rattle.lsys_flat.proofs.Depths.{within}
 use Rattle.lsys_flat.proofs.DraftingLevels.{begins, is_next, same_length}
 
 -- the axiom with its cuts
 abbrev pub axiom_of : System → List Raw
-axiom_of s = numbered 0 [] s.axiom_string
+axiom_of s = children s.numbering [] s.axiom_string
 
 pub can_begin : (s : System) (limit : ℕ) (old_lines : List Line) (xs : List (List Symbol)) (d : Drafted) (r : Option Level) → IsWell s → IsEmpty limit old_lines d → AreOldLevels xs old_lines → sum_by length xs ≤ 1000000 → limit ≤ 1000000
     → IsMade s.seed root (axiom_of s) d.room r → CanAdd d r
@@ -87,15 +84,16 @@ begun_refused s limit old_lines d now None (Err k) e h a = subst (IsRefusal s li
 begun_refused s limit old_lines d now (Some level) (Ok done) e h a = tt
 begun_refused s limit old_lines d now (Some level) (Err k) e h a = subst (IsRefusal s limit) (sym a) tt
 
-pub axiom_made : (s : System) (room key : ℕ) (g before : Grown) (symbols : List Code) (r : Option Level) → before ≡ nothing_grown room → key ≡ s.seed → string_of symbols ≡ s.axiom_string
-    → ((seed : ℕ) (above : List Symbol) (raw : List Raw) (parent : Symbol) → IsGrown seed above raw before → slice_get above before.parents ≡ Some parent → key ≡ key_of seed (lineage parent) → IsGrown seed above (raw ++ numbered 0 (lineage parent) (string_of symbols)) g)
-    → g.room ≡ before.room → ((seed : ℕ) (above : List Symbol) (raw : List Raw) → IsGrown seed above raw g → IsMade seed above raw g.room r) → IsMade s.seed root (axiom_of s) room r
-axiom_made s room key g before symbols r is is_key string grows same finishes =
-    let none : IsGrown s.seed root [] before = subst (IsGrown s.seed root []) (sym is) (none_grown s.seed root room) in
-    let there : slice_get root before.parents ≡ Some (Push []) = ap (λ (g : Grown). slice_get root g.parents) is in
+pub axiom_made : (s : System) (room key : ℕ) (now before : Making) (symbols : List Code) (r : Option Level) → before ≡ nothing_made s.numbering room → key ≡ s.seed → string_of symbols ≡ s.axiom_string
+    → ((seed : ℕ) (above : List Symbol) (raw : List Raw) (parent : Symbol) → IsGrown seed above raw before.grown → slice_get above before.grown.parents ≡ Some parent → key ≡ key_of seed (lineage parent)
+    → IsGrown seed above (raw ++ children before.numbering (lineage parent) (string_of symbols)) now.grown)
+    → now.grown.room ≡ before.grown.room → ((seed : ℕ) (above : List Symbol) (raw : List Raw) → IsGrown seed above raw now.grown → IsMade seed above raw now.grown.room r) → IsMade s.seed root (axiom_of s) room r
+axiom_made s room key now before symbols r is is_key string grows same finishes =
+    let none : IsGrown s.seed root [] before.grown = subst (λ (m : Making). IsGrown s.seed root [] m.grown) (sym is) (none_grown s.seed root room) in
+    let there : slice_get root before.grown.parents ≡ Some (Push []) = ap (λ (m : Making). slice_get root m.grown.parents) is in
     let one = grows s.seed root [] (Push []) none there is_key in
-    let all : IsGrown s.seed root (axiom_of s) g = subst (λ xs. IsGrown s.seed root (numbered 0 [] xs) g) string one in
-    subst (λ n. IsMade s.seed root (axiom_of s) n r) (same ∙ ap (λ (g : Grown). g.room) is) (finishes s.seed root (axiom_of s) all)
+    let all : IsGrown s.seed root (axiom_of s) now.grown = subst (λ xs. IsGrown s.seed root (children s.numbering [] xs) now.grown) string (subst (λ g. IsGrown s.seed root (children g [] (string_of symbols)) now.grown) (ap (λ (m : Making). m.numbering) is) one) in
+    subst (λ n. IsMade s.seed root (axiom_of s) n r) (same ∙ ap (λ (m : Making). m.grown.room) is) (finishes s.seed root (axiom_of s) all)
 
 pub longer : (level : Level) (old : Drafted) (r now : Revised) (fresh : List (List (Option Kept))) (taken : List (List (Option ℕ))) (room asked all n : ℕ) → old ≡ record { revised = r; fresh = fresh; taken = taken; room = room; asked = asked; all = all }
     → n ≡ length level.symbols → CanAdd old (Some level) → ((seed : ℕ) (xs ys : List (List Symbol)) (y : List Symbol) → IsRevised seed xs ys r → IsNext seed xs ys y level → IsRevised seed xs (ys ++ y ∷ []) now)

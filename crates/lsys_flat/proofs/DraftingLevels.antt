@@ -1,12 +1,12 @@
 -- The next level fits behind those so far.
-use Rattle.std.proofs.Common.{◌≡◌, ℕ, zero, suc, ◌+◌, ◌<◌, ◌≤◌, ◌^◌, Bool, true, false, Some, Result, Ok, Err, List, [], ◌∷◌, ◌++◌, length, map, get_or, refl, sym, ap, ◌∙◌, subst, arith, add-one}
+use Rattle.std.proofs.Common.{◌≡◌, ℕ, zero, suc, ◌+◌, ◌≤◌, false, Some, Result, Ok, List, [], ◌∷◌, ◌++◌, length, map, get_or, refl, sym, ap, ◌∙◌, arith, add-one}
 use Rattle.std.specs.Prelude.{slice_get, sum_by, nat_lt}
 use Rattle.std.proofs.lemmas.Bool.Decides.{nat_tests}
 use Rattle.std.proofs.lemmas.List.Sums.{sum_by_push, sum_by-cons}
 use Rattle.lsys_spec.specs.Systems.{System, WellSpelled}
 use Rattle.lsys_spec.specs.Values.{◌and_then◌}
 use Rattle.lsys_spec.specs.Levels.{Symbol, plain}
-use Rattle.lsys_spec.specs.Meaning.{LevelRefusal, first_level, next_level, last_level, within_limit, meaning_to, meaning}
+use Rattle.lsys_spec.specs.Meaning.{LevelRefusal, first_level, next_level, last_level, within_limit, meaning_to}
 use Rattle.lsys_module.specs.Views.{string_of}
 use Rattle.lsys_module.specs.declared.symbol.Symbol.{Symbol as Code}
 use Rattle.lsys_offspring.specs.Grown.{HasSymbols}
@@ -60,4 +60,4 @@ pub is_next : (s : System) (limit n : ℕ) (xs ys : List (List Symbol)) (y : Lis
 is_next s limit n xs ys y level w m few small h =
     let g = level_grown s limit n (ys ++ y ∷ []) w m (length ys) y (at_push ys y) in
     let all = within s limit n (ys ++ y ∷ []) m in
-    record { rise = g.0; balanced = g.1; symbols = h; few = omega (arith, few, small, all, sum_by_push (length {A = Symbol}) ys y) }
+    record { distinct = g.0; balanced = g.1; symbols = h; few = omega (arith, few, small, all, sum_by_push (length {A = Symbol}) ys y) }

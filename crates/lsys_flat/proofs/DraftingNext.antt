@@ -1,13 +1,13 @@
 -- A level is asked about, and the next one is planned.
-use Rattle.std.proofs.Common.{◌≡◌, ℕ, zero, suc, ◌+◌, ◌*◌, ◌<◌, ◌≤◌, ◌^◌, Option, Some, None, Result, Ok, Err, List, [], ◌∷◌, ◌++◌, length, map, get_or, set, drop, refl, sym, ap, ◌∙◌, subst, arith, add-one, append-nil}
-use Rattle.std.specs.Prelude.{OnOk, IfErr, sum_by, slice_get}
-use Rattle.std.proofs.lemmas.List.{length_push, drop_all, length-map}
+use Rattle.std.proofs.Common.{◌≡◌, ℕ, zero, suc, ◌+◌, ◌*◌, ◌<◌, ◌≤◌, Option, Some, None, Result, Ok, Err, List, [], ◌∷◌, ◌++◌, length, get_or, drop, refl, sym, ap, ◌∙◌, subst, arith, add-one, append-nil}
+use Rattle.std.specs.Prelude.{sum_by}
+use Rattle.std.proofs.lemmas.List.{length_push, drop_all}
 use Rattle.std.proofs.lemmas.List.Sums.{sum_by_push, sum_by-append}
 use Rattle.lsys_spec.specs.Systems.{System}
 use Rattle.lsys_spec.specs.Levels.{Symbol}
 use Rattle.lsys_spec.specs.Cuts.{Raw, cut}
 use Rattle.lsys_spec.specs.Values.{◌and_then◌}
-use Rattle.lsys_spec.specs.Meaning.{children_from, FaultAt, LevelRefusal, OverLimit, meaning, meaning_to, next_level, last_level, most_entries}
+use Rattle.lsys_spec.specs.Meaning.{children_from, FaultAt, LevelRefusal, meaning, next_level, last_level}
 use Rattle.lsys_spec.specs.Questions.{Question, questions, questions_from, questions_at}
 use Rattle.lsys_laws.specs.Sessions.{IsWell}
 use Rattle.lsys_level.specs.Spots.{Spotted, level_at, level_by}
@@ -22,7 +22,7 @@ use Rattle.std.proofs.lemmas.Option.{slice_get_within}
 use Rattle.lsys_rewrite.specs.Faults.{fault_of}
 use Rattle.lsys_rewrite.specs.declared.refusal.DeriveRefusal.{DeriveRefusal}
 use Rattle.lsys_rewrite.specs.declared.refusal.DeriveRefusal.TheVariants as refusals
-use Rattle.lsys_offspring.specs.Grown.{Grown, HasSymbols, IsGrown, IsMade}
+use Rattle.lsys_offspring.specs.Grown.{HasSymbols, IsMade}
 use Rattle.lsys_offspring.specs.Steps.{AreReplaced}
 use Rattle.lsys_offspring.specs.declared.level.Level.{Level}
 use Rattle.lsys_offspring.proofs.Limiting.{goes_over, refused}
@@ -30,18 +30,18 @@ use Rattle.lsys_revision.specs.Lines.{Line}
 use Rattle.lsys_revision.specs.Revised.{IsNext, IsRevised, above_level, all_spots, tags_of}
 use Rattle.lsys_revision.proofs.Below.{level_short}
 use Rattle.lsys_revision.proofs.Together.{named_together}
-use Rattle.lsys_counts.specs.Slots.{AreAllFound, IsFound, filled, slot_at, slot_of}
+use Rattle.lsys_counts.specs.Slots.{AreAllFound, IsFound, slot_at, slot_of}
 use Rattle.lsys_counts.specs.Counted.{AreFoundAt, all_slots_in, slots_in}
 use Rattle.lsys_counts.proofs.Growing.{more_found}
 use Rattle.lsys_counts.proofs.Visits.{level_visits, more_questions}
 use Rattle.lsys_keeping.specs.Answers.{AreMade, level_of}
-use Rattle.lsys_round.specs.Rounds.{AreNew, AskedTo, CanAsk, HasRead, IsAt, IsNoRound, IsRound, IsRow, Rounded, StayMade, entries_of, told}
-use Rattle.lsys_round.proofs.News.{filled_more, told_still}
-use Rattle.lsys_flat.specs.Drafts.{AreAllNew, AreOlds, CanAdd, CanGoOn, Drafted, HasAsked, HasFound, IsAdded, IsDraft, IsLonger, IsRefusal}
+use Rattle.lsys_round.specs.Rounds.{AreNew, AskedTo, CanAsk, HasRead, IsAt, IsNoRound, IsRow, Rounded, entries_of, told}
+use Rattle.lsys_round.proofs.News.{told_still}
+use Rattle.lsys_flat.specs.Drafts.{AreAllNew, CanAdd, Drafted, IsAdded, IsDraft, IsLonger, IsRefusal}
 use Rattle.lsys_flat.proofs.Depths.{within}
 use Rattle.lsys_flat.proofs.Showing.{all_length, row_of, row_length}
 use Rattle.lsys_flat.proofs.DraftingLevels.{get_push, goes_on, is_next, last_is, same_length}
-use Rattle.lsys_flat.proofs.DraftingAnswers.{level_made, more_new, set_level, slots_at, slots_more, slots_still}
+use Rattle.lsys_flat.proofs.DraftingAnswers.{level_made, slots_at, slots_more, slots_still}
 
 -- 1. what is seen of the last level
 
@@ -118,7 +118,7 @@ module _ (s : System) (limit : ℕ) (xs : List (List Symbol)) (old_lines : List 
 
   -- 2. the next level
 
-  module _ (w : ℕ) (after : Store) (olds : List (Option TagAnswer)) (r : Rounded) (asked : AskedTo s t (level_at d.revised.view t) (get_or h.ys t []) olds d.revised.mates after r v w (length (get_or h.ys t []))) (room : r.next.room ≡ d.room) where
+  module _ (w : ℕ) (after : Store) (olds : List (Option TagAnswer)) (r : Rounded) (asked : AskedTo s t (level_at d.revised.view t) (get_or h.ys t []) olds d.revised.mates after r v w (length (get_or h.ys t []))) (room : r.next.grown.room ≡ d.room) where
     read_level : w ≡ v + entries_of (questions_at s t (get_or h.ys t []))
     read_level =
         let x = get_or h.ys t [] in
@@ -134,7 +134,7 @@ module _ (s : System) (limit : ℕ) (xs : List (List Symbol)) (old_lines : List 
             let all : children_from s t x 0 0 x ≡ Ok raw = sym k.told ∙ ap (λ rest. children_from s t x (length x) n rest and_then λ more. Ok (raw ++ more)) none ∙ ap (λ raw. Ok raw) (append-nil raw) in
             ap (λ (r : Result (List Raw) LevelRefusal). r and_then λ raw. Ok (cut raw)) all
 
-    pub over : (B : Type 0) (next : Option Level) (e : DeriveRefusal) (opened done : Drafted) (u : ℕ) → u ≡ t + 1 → t < s.depth → IsMade s.seed (get_or h.ys t []) asked.raw r.next.room next → IsAdded {A = B} u next opened done (Err e) → IsRefusal s limit e × Rises 0 (most_read * limit) before w
+    pub over : (B : Type 0) (next : Option Level) (e : DeriveRefusal) (opened done : Drafted) (u : ℕ) → u ≡ t + 1 → t < s.depth → IsMade s.seed (get_or h.ys t []) asked.raw r.next.grown.room next → IsAdded {A = B} u next opened done (Err e) → IsRefusal s limit e × Rises 0 (most_read * limit) before w
     over B None e opened done u is below made added =
         let far : limit < sum_by length h.ys + length (cut asked.raw) = omega (arith, made, room, h.room) in (
           subst (IsRefusal s limit) (sym (added ∙ ap refusals.Limit is)) (goes_over s limit t h.ys (cut asked.raw) h.meant next_is far below),
@@ -142,7 +142,7 @@ module _ (s : System) (limit : ℕ) (xs : List (List Symbol)) (old_lines : List 
         )
     over B (Some level) e opened done u is below made added = (subst (IsRefusal s limit) (sym added) tt, read_more w (omega (arith, asked.onward), omega (arith, read_level)))
 
-    pub can_add : (next : Option Level) (opened : Drafted) → IsWell s → sum_by length xs ≤ 1000000 → limit ≤ 1000000 → opened.revised ≡ d.revised → opened.room ≡ d.room → IsMade s.seed (get_or h.ys t []) asked.raw r.next.room next → CanAdd opened next
+    pub can_add : (next : Option Level) (opened : Drafted) → IsWell s → sum_by length xs ≤ 1000000 → limit ≤ 1000000 → opened.revised ≡ d.revised → opened.room ≡ d.room → IsMade s.seed (get_or h.ys t []) asked.raw r.next.grown.room next → CanAdd opened next
     can_add None opened w few small is same made = tt
     can_add (Some level) opened w few small is same made =
         let size = same_length (cut asked.raw) level.symbols made.1.string in (
@@ -150,14 +150,14 @@ module _ (s : System) (limit : ℕ) (xs : List (List Symbol)) (old_lines : List 
           omega (arith, made.0, size, room, same),
         )
       where
-        fits : (level : Level) → sum_by length xs ≤ 1000000 → limit ≤ 1000000 → IsWell s → IsMade s.seed (get_or h.ys t []) asked.raw r.next.room (Some level) → IsNext s.seed xs h.ys (cut asked.raw) level
+        fits : (level : Level) → sum_by length xs ≤ 1000000 → limit ≤ 1000000 → IsWell s → IsMade s.seed (get_or h.ys t []) asked.raw r.next.grown.room (Some level) → IsNext s.seed xs h.ys (cut asked.raw) level
         fits level few small w made =
             is_next s limit (t + 1) xs h.ys (cut asked.raw) level w.1 (goes_on s limit t h.ys (cut asked.raw) h.meant next_is (omega (arith, made.0, room, h.room))) few small
             (subst (λ above. HasSymbols s.seed above (cut asked.raw) level.symbols level.origins.items level.keys.items) (sym (above_is h.ys)) made.1)
 
     -- 3. one level more
 
-    module _ (level : Level) (opened now : Drafted) (w_is : IsWell s) (few : sum_by length xs ≤ 1000000) (small : limit ≤ 1000000) (made : IsMade s.seed (get_or h.ys t []) asked.raw r.next.room (Some level)) (added : IsLonger level opened now)
+    module _ (level : Level) (opened now : Drafted) (w_is : IsWell s) (few : sum_by length xs ≤ 1000000) (small : limit ≤ 1000000) (made : IsMade s.seed (get_or h.ys t []) asked.raw r.next.grown.room (Some level)) (added : IsLonger level opened now)
         (is : opened ≡ record d { fresh = d.fresh ++ r.fresh ∷ []; taken = d.taken ++ r.taken ∷ []; asked = opened.asked; all = opened.all }) (whole : IsAt (length (level_at d.revised.view t)) r) (each : length d.fresh ≡ t)
         (new : AreAllNew begin mid d.fresh) (round_new : AreNew mid after r.fresh) (olds_made : AreMade begin kept) (olds_are : olds ≡ told mid (level_of kept t)) where
       fresh_now : now.fresh ≡ d.fresh ++ r.fresh ∷ []

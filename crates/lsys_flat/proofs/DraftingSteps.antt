@@ -1,5 +1,5 @@
 -- What a level's questions and the next level make of a draft.
-use Rattle.std.proofs.Common.{◌≡◌, ℕ, ◌+◌, ◌*◌, ◌<◌, ◌≤◌, Option, Some, None, Result, Ok, Err, List, [], ◌∷◌, ◌++◌, length, get_or, set, refl, sym, ap, ◌∙◌, subst, arith}
+use Rattle.std.proofs.Common.{◌≡◌, ℕ, ◌+◌, ◌*◌, ◌<◌, ◌≤◌, Option, Some, None, Result, Ok, Err, List, [], ◌∷◌, ◌++◌, length, get_or, refl, sym, ap, ◌∙◌, subst, arith}
 use Rattle.std.specs.Prelude.{OnOk, IfErr, sum_by}
 use Rattle.std.proofs.lemmas.List.{length_push}
 use Rattle.std.proofs.lemmas.List.Sums.{sum_by_push, sum_by-cons}
@@ -21,7 +21,7 @@ use Rattle.lsys_counts.specs.Counted.{all_slots_in}
 use Rattle.lsys_keeping.specs.Answers.{AreMade, level_of}
 use Rattle.lsys_round.specs.Rounds.{AskedTo, StayMade, IsAt, IsNoRound, IsRound, Rounded, told}
 use Rattle.lsys_round.proofs.News.{filled_most}
-use Rattle.lsys_flat.specs.Drafts.{AreAllNew, AreOlds, CanAdd, IsEmpty, IsPlanned, Drafted, HasAsked, HasFound, IsAdded, IsDraft, IsLonger, IsRefusal}
+use Rattle.lsys_flat.specs.Drafts.{AreAllNew, AreOlds, CanAdd, IsEmpty, IsPlanned, Drafted, HasAsked, HasFound, IsAdded, IsDraft, IsRefusal}
 use Rattle.lsys_flat.proofs.Depths.{within}
 use Rattle.lsys_flat.proofs.DraftingAnswers.{more_new, set_level}
 use Rattle.lsys_flat.proofs.DraftingNext.{is_seen, few_found, round_refused, over, can_add, draft_now}
@@ -79,11 +79,11 @@ module _ {A : Type 0} (s : System) (limit : ℕ) (kept : List (List (Option Kept
           let r = is_seen s limit xs old_lines kept begin mid before v t d h in
           whole_round s t (level_at d.revised.view t) (get_or h.ys t []) (told mid (level_of kept t)) d.revised.mates after ha.rounded v w done unit is (ha.round r.naming (get_or h.ys t []) r.row_is)
 
-      made : IsMade s.seed (get_or h.ys t []) asked.raw ha.rounded.next.room next
+      made : IsMade s.seed (get_or h.ys t []) asked.raw ha.rounded.next.grown.room next
       made = ha.finished s.seed (get_or h.ys t []) asked.raw asked.grown
 
-      room : ha.rounded.next.room ≡ d.room
-      room = on_ok (ha.rounded.next.room ≡ d.room) done unit is ha.room
+      room : ha.rounded.next.grown.room ≡ d.room
+      room = on_ok (ha.rounded.next.grown.room ≡ d.room) done unit is ha.room
 
       pub done_can_add : IsWell s → sum_by length xs ≤ 1000000 → limit ≤ 1000000 → CanAdd now next
       done_can_add w_is few small =
@@ -110,7 +110,7 @@ module _ {A : Type 0} (s : System) (limit : ℕ) (kept : List (List (Option Kept
           whole : IsAt (length (level_at d.revised.view t)) ha.rounded
           whole = on_ok (IsAt (length (level_at d.revised.view t)) ha.rounded) done unit is ha.whole
 
-          by : (result : Result B DeriveRefusal) (next : Option Level) → IsMade s.seed (get_or h.ys t []) asked.raw ha.rounded.next.room next → IsAdded u next now later result → OnOk result (IsDraft s limit xs old_lines kept begin after before w (t + 1) later)
+          by : (result : Result B DeriveRefusal) (next : Option Level) → IsMade s.seed (get_or h.ys t []) asked.raw ha.rounded.next.grown.room next → IsAdded u next now later result → OnOk result (IsDraft s limit xs old_lines kept begin after before w (t + 1) later)
           by (Err e) next k added = tt
           by (Ok done) None k added = absurd added
           by (Ok done) (Some level) k added =

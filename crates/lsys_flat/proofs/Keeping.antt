@@ -75,7 +75,7 @@ opens limit store small = record {
   meant = [] ∷ [];
   is = rw (none_over limit) refl;
   small = small;
-  olds = record { rise = (tt, tt); lines = (tt, refl, tt); agree = tt };
+  olds = record { distinct = (tt, tt); lines = (tt, refl, tt); agree = tt };
   view = refl;
   slots = refl;
   made = record { each = λ t p a e. absurd (nothing_at t p a e) };
@@ -147,7 +147,7 @@ module _ (old new : System) (limit : ℕ) (levels : List (List Spotted)) (lines 
     fresh_own = h.news.own;
     beside = beside;
     levels = levels_alike new store view h.was.meant h.plan.ys kept fresh taken found;
-    places = λ t. all_can_move new store view h.was.meant kept h.plan.ys fresh taken h.plan.is.rise found t;
+    places = λ t. all_can_move new store view h.was.meant kept h.plan.ys fresh taken h.plan.is.distinct found t;
   }
 
   olds_after : AreOldLevels h.plan.ys newlines

@@ -119,7 +119,7 @@ pub stands_for : (seed : ℕ) (xs : List (List Symbol)) (ls : List Line) → Are
 stands_for seed xs ls h = record {
   depth = all_length seed root xs ls h.lines;
   strings = record { string = λ t. let r = level_of seed root xs ls t h.lines in ap (λ row. map plain (level_by (λ tag. []) row)) r.is ∙ spots_string (λ tag. []) seed (get_or xs t []) r.tags r.each };
-  tags = own_tags xs (tags_of ls) (all_spots seed xs (tags_of ls)) h.rise h.agree (spots_have seed root xs ls h.lines);
+  tags = own_tags xs (tags_of ls) (all_spots seed xs (tags_of ls)) h.distinct h.agree (spots_have seed root xs ls h.lines);
   keys = λ t p b a f g. let r = level_of seed root xs ls t h.lines in spots_key seed (get_or xs t []) r.tags p b a (ap (λ row. slice_get row p) (sym r.is) ∙ f) g;
 }
 

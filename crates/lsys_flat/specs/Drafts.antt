@@ -1,5 +1,5 @@
 -- New levels that are planned beside old ones.
-use Rattle.std.specs.Prelude.{◌≡◌, ◌+◌, ◌*◌, ◌<◌, ◌≤◌, ℕ, Option, Some, None, Result, Ok, Err, List, [], ◌∷◌, ◌++◌, length, map, set, sum_by, slice_index_or, OnOk}
+use Rattle.std.specs.Prelude.{◌≡◌, ◌+◌, ◌*◌, ◌<◌, ◌≤◌, ℕ, Option, Some, None, Result, Ok, Err, List, [], ◌∷◌, ◌++◌, length, set, sum_by, slice_index_or, OnOk}
 use Rattle.lsys_spec.specs.Systems.{System, WellSpelled}
 use Rattle.lsys_spec.specs.Levels as L
 use Rattle.lsys_spec.specs.Meaning.{meaning, meaning_to, FaultAt, OverLimit}
@@ -8,8 +8,7 @@ use Rattle.lsys_walks.specs.Stores.{Store}
 use Rattle.lsys_match.specs.Kept.{Kept}
 use Rattle.lsys_match.specs.Asks.{IsMade}
 use Rattle.lsys_match.specs.KeptAnswers.{HoldOwnRuns}
-use Rattle.lsys_match.specs.TagQuestions.{TagAnswer}
-use Rattle.lsys_match.specs.Derivations.{Rises, most_read}
+use Rattle.lsys_match.specs.Derivations.{most_read}
 use Rattle.lsys_rewrite.specs.Faults.{fault_of}
 use Rattle.lsys_rewrite.specs.declared.refusal.DeriveRefusal.{DeriveRefusal}
 use Rattle.lsys_rewrite.specs.declared.refusal.DeriveRefusal.TheVariants as refusals
@@ -135,8 +134,8 @@ pub record HasAsked {A : Type 0} (s : System) (t : ℕ) (kept : List (Option Kep
   pub round : (naming : ℕ → List ℕ) (x : List L.Symbol) → IsRow naming s.seed (level_at old.revised.view t) x
       → IsRound s t (level_at old.revised.view t) x (told before kept) old.revised.mates after rounded visited_old visited_new done
   pub whole : OnOk done (IsAt (length (level_at old.revised.view t)) rounded)
-  pub finished : IsFinished rounded.next next
-  pub room : OnOk done (rounded.next.room ≡ old.room)
+  pub finished : IsFinished rounded.next.grown next
+  pub room : OnOk done (rounded.next.grown.room ≡ old.room)
   pub new_answers : AreNew before after rounded.fresh
   pub each : length rounded.fresh ≤ length (level_at old.revised.view t)
   pub counted : asked_new ≡ asked_old + filled rounded.fresh

@@ -120,7 +120,7 @@ impl<'a, L: Ledger> Draft<'a, L> {
             → IfErr result (IsRefusal system.now limit) }
         ensures well { IsWell system.now }
     {
-        let mut axiom = NextLevel::new(self.alloc, self.room);
+        let mut axiom = NextLevel::new(self.alloc, system.lineage(), self.room);
         axiom.add_children(system.seed(), system.axiom().symbols())?;
         self.add_level(0, axiom.finish())
     }
@@ -199,7 +199,7 @@ impl<'a, L: Ledger> Draft<'a, L> {
             mates: self.revision.mates(),
             olds: answers_at(olds.answers, level as usize, &none),
         };
-        let mut round = Round::new(self.alloc, self.room);
+        let mut round = Round::new(self.alloc, system.lineage(), self.room);
         let done = round.ask_level(self.alloc, store, &beside, asked, visited);
         let found = round.finish();
         self.asked += count_filled(found.fresh.as_slice());

@@ -14,7 +14,7 @@ use Rattle.lsys_expr.specs.Answers.{arith_of}
 use Rattle.lsys_expr.specs.declared.arith.Arith as code
 use Rattle.lsys_module.specs.Views.{module_name, symbol_of}
 use Rattle.lsys_module.specs.declared.symbol.Symbol.{Symbol}
-use Rattle.lsys_bodies.specs.Limits.{HaveFewParams}
+use Rattle.lsys_syntax.specs.Smalls.{HaveFewParams}
 use Rattle.lsys_bodies.specs.Views.{template_of, template_symbol, written}
 use Rattle.lsys_bodies.specs.declared.body.Body.{Body}
 use Rattle.lsys_hom.specs.Refusals.{refusal_of}

@@ -5,7 +5,7 @@ ghost use Rattle.lsys_spec.specs.Images.{image_of};
 ghost use Rattle.lsys_spec.specs.Meaning.{filled};
 ghost use Rattle.lsys_expr.specs.Answers.{answer_of};
 ghost use Rattle.lsys_module.specs.Views.{symbol_of};
-ghost use Rattle.lsys_bodies.specs.Limits.{HaveFewParams};
+ghost use Rattle.lsys_syntax.specs.Smalls.{HaveFewParams};
 ghost use Rattle.lsys_bodies.specs.Views.{homomorphism_of, template_of, template_symbol};
 ghost use Rattle.lsys_hom.specs.Parts.{IsImage, IsSound, IsTaken, fault_in, module_with, symbols_of};
 

@@ -24,9 +24,11 @@ pub use lines::{LineRead, LineReader, LineRefusal};
 pub use memory::{MemorySink, MemorySource};
 pub use never::{NeverSink, NeverSource};
 pub use standard::{StdSink, StdSource};
+use thiserror::Error;
 
 /// A source or a sink failed.
-#[derive(Clone, Copy, Debug, PartialEq, Eq)]
+#[derive(Clone, Copy, Debug, PartialEq, Eq, Error)]
+#[error("an input or output failed")]
 pub struct Failed;
 
 /// Where bytes come from.

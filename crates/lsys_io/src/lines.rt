@@ -13,6 +13,7 @@ use crate::gathering::{LINE_LIMIT, finish, gather};
 use crate::pieces::Pieces;
 use std::alloc::{AllocError, Global};
 use std::marker::Model;
+use thiserror::Error;
 
 /// The most bytes that the lines of a script take, each LF counted.
 const SCRIPT_LIMIT: usize = 16_777_216;
@@ -29,11 +30,13 @@ pub enum LineRead {
 }
 
 /// Why a reader of lines stopped.
-#[derive(Clone, Copy, Debug, PartialEq, Eq)]
+#[derive(Clone, Copy, Debug, PartialEq, Eq, Error)]
 pub enum LineRefusal {
     /// The source failed.
+    #[error("the source failed")]
     ReadFault,
     /// The script has a 16,777,217th byte.
+    #[error("the script has more than 16,777,216 bytes")]
     TooLong,
 }
 

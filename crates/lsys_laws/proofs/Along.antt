@@ -4,7 +4,7 @@ use Rattle.std.specs.Prelude.{Option, codes}
 use Rattle.lsys_syntax.specs.Limits.{nesting_bound}
 use Rattle.lsys_syntax.specs.Lines.{lines_of, without_cr}
 use Rattle.lsys_syntax.specs.Tokens.{Kind, Token, tokens}
-use Rattle.lsys_syntax.specs.Commands.{Command, set_axiom, put_production, drop_rule, set_ignored, set_schedule, set_seed, set_depth, set_lattice, put_homomorphism, print_string, print_segments, print_svg, print_system, quit, IsCommand, nesting}
+use Rattle.lsys_syntax.specs.Commands.{Command, set_axiom, put_production, drop_rule, set_ignored, set_schedule, set_seed, set_depth, set_lattice, put_homomorphism, print_string, print_segments, print_svg, print_system, quit, set_version, set_own, drop_own, set_numbering, IsCommand, nesting}
 use Rattle.lsys_syntax.specs.LineMachine.{Verdict, sentence, stops, too_deep, verdict}
 use Rattle.lsys_syntax.specs.Sentences.{AreTokens}
 use Rattle.lsys_syntax.proofs.LineSound.{sentence-spelled}
@@ -52,6 +52,10 @@ module _ (limit : ℕ) (P : System → Type 0) (keeps : Keeps limit P) where
   accepted_keeps s (set_depth n) w i d e = edit_keeps s (set_depth n) w i d e
   accepted_keeps s (set_lattice l) w i d e = edit_keeps s (set_lattice l) w i d e
   accepted_keeps s (put_homomorphism l r) w i d e = edit_keeps s (put_homomorphism l r) w i d e
+  accepted_keeps s (set_version n) w i d e = edit_keeps s (set_version n) w i d e
+  accepted_keeps s (set_own k t ns) w i d e = edit_keeps s (set_own k t ns) w i d e
+  accepted_keeps s (drop_own t) w i d e = edit_keeps s (drop_own t) w i d e
+  accepted_keeps s (set_numbering g) w i d e = edit_keeps s (set_numbering g) w i d e
 
   command_keeps : (s : System) (column : ℕ → ℕ) (c : Command) (o : Option Refusal) → refusal s c ≡ o → P s → IsCommand c → nesting c ≤ nesting_bound → P (command_reply limit s column c o).next
   command_keeps s column c None e w i d = accepted_keeps s c w i d e

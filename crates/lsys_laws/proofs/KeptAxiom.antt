@@ -11,6 +11,7 @@ use Rattle.lsys_spec.specs.Edits.{values_of}
 use Rattle.lsys_laws.proofs.Unrefused.{place_none}
 use Rattle.lsys_spec.proofs.Tests.{neither}
 use Rattle.lsys_laws.proofs.Parts.{OfAxiom}
+use Rattle.lsys_spec.proofs.Shorts.{values_short}
 
 -- what was counted is no more, and in the same place
 record Below (c d : Counts) : Type 0 where
@@ -209,4 +210,4 @@ values_balanced (suc k) (Pop ∷ xs) = values_balanced k xs
 values_balanced k (Cut ∷ xs) = values_balanced k xs
 
 pub axiom_kept : (xs : List (Symbol Signed)) → EachOf (IsSymbol IsSigned) xs → balanced 0 xs ≡ true → axiom_many 1 xs ≡ None → OfAxiom (values_of xs)
-axiom_kept xs h b e = record { symbols = values_symbols xs h; balance = values_balanced 0 xs ∙ b; short = axiom_again xs e }
+axiom_kept xs h b e = record { symbols = values_symbols xs h; balance = values_balanced 0 xs ∙ b; short = axiom_again xs e; few = values_short 1 xs e }

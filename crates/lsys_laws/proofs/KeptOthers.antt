@@ -1,11 +1,11 @@
 -- What dropping a rule and putting a rule of the homomorphism leave.
 use Rattle.std.proofs.Common.{◌≡◌, ℕ, Bool, true, false, not, ◌||◌, None, List, [], ◌∷◌, ◌++◌, ◌+◌, ◌≤◌, nat_lt, length, map, refl, ap, ◌∙◌, sym, subst, arith, append_assoc, append-nil, bytes_eq, if◌then◌else◌, le_trans}
-use Rattle.lsys_syntax.specs.Limits.{nesting_bound, most_rules}
+use Rattle.lsys_syntax.specs.Limits.{nesting_bound, most_rules, most_successor_symbols}
 use Rattle.lsys_syntax.specs.Pieces.{IsWordText}
 use Rattle.lsys_syntax.specs.Rules.{Rule, Production, IsRule, IsProduction, rule_nesting}
 use Rattle.lsys_syntax.specs.Checks.{rule_unknown, rule_repeated, rule_many}
 use Rattle.lsys_syntax.specs.Commands.{IsHomomorphism}
-use Rattle.lsys_spec.specs.Systems.{System, Homomorphism, any, is_table, tables, clash, IsSound, Each, Apart}
+use Rattle.lsys_spec.specs.Systems.{System, Own, Homomorphism, any, is_table, tables, clash, IsSound, Each, Apart}
 use Rattle.lsys_spec.specs.Edits.{unknown_name, duplicate, wrong_label, wrong_table, many, or_else, refused_if, refused_at, put_hom, without_rule, without_hom, homomorphism_refusal, loses_table, drop_refusal}
 use Rattle.lsys_laws.proofs.Unrefused.{both_none, if_none, at_none, few, none_passes}
 use Rattle.lsys_spec.proofs.Tests.{not_false}
@@ -13,7 +13,7 @@ use Rattle.lsys_spec.proofs.Eachs.{each_more, each_append}
 use Rattle.lsys_laws.proofs.Aparts.{bytes_eq_true, apart_insert, each_mapped, map_append, map_swap, Placed, in_place, at_end, placed_later, each_placed, Dropped, gone, dropped_later, dropped_map, dropped_front, dropped_back, each_dropped, apart_dropped, length_dropped, all_stay}
 use Rattle.lsys_laws.proofs.Tabled.{tables_dropped}
 use Rattle.lsys_laws.proofs.KeptRules.{short_anywhere, sound_anywhere}
-use Rattle.lsys_laws.proofs.Parts.{IsShort, IsImage, OfRules, OfSchedule, Parts}
+use Rattle.lsys_laws.proofs.Parts.{IsShort, IsImage, OfRules, OfSchedule, OfOwn, Parts}
 
 -- dropping
 
@@ -41,17 +41,30 @@ labels_dropped rs rest hs left d e h =
     (apart_dropped bytes_eq (map (λ x. x.label) rs ++ map (λ x. x.label) hs) (map (λ x. x.label) rest ++ map (λ x. x.label) hs)
     (dropped_front (map (λ x. x.label) rs) (map (λ x. x.label) rest) (map (λ x. x.label) hs) (dropped_map (λ x. x.label) rs rest d)) h)
 
+each_first : {A : Type 0} (P : A → Type 0) (xs ys : List A) → Each P (xs ++ ys) → Each P xs
+each_first P [] ys h = tt
+each_first P (x ∷ xs) ys h = (h.0, each_first P xs ys h.1)
+
+each_rest : {A : Type 0} (P : A → Type 0) (xs ys : List A) → Each P (xs ++ ys) → Each P ys
+each_rest P [] ys h = h
+each_rest P (x ∷ xs) ys h = each_rest P xs ys h.1
+
+each_unmapped : (P Q : List ℕ → Type 0) (os : List Own) → ((t : List ℕ) → P t → Q t) → Each P (map (λ o. o.table) os) → Each (λ o. Q o.table) os
+each_unmapped P Q [] f h = tt
+each_unmapped P Q (o ∷ os) f h = (f o.table h.0, each_unmapped P Q os f h.1)
+
 pub drop_kept : (s : System) (l : List ℕ) → Parts s → drop_refusal s l ≡ None
-    → OfRules (without_rule l s.rules) (without_hom l s.homomorphisms) × OfSchedule (without_rule l s.rules) s.schedule
+    → OfRules (without_rule l s.rules) (without_hom l s.homomorphisms) × OfSchedule (without_rule l s.rules) s.schedule × OfOwn (without_rule l s.rules) s.own
 drop_kept s l w h =
     let o = w.of_rules in
     let rest = without_rule l s.rules in
     let left = without_hom l s.homomorphisms in
     let d : Dropped s.rules rest = rule_dropped l s.rules in
     let e : Dropped s.homomorphisms left = hom_dropped l s.homomorphisms in
-    let calm = both_none (refused_if (not (any (λ q. bytes_eq q.label l) s.rules || any (λ x. bytes_eq x.label l) s.homomorphisms)) wrong_label 1) (refused_if (loses_table rest s.schedule) wrong_table 1) h in
-    let stay : Each (λ v. not (is_table (tables rest) v) ≡ false) s.schedule =
-    none_passes (λ v. not (is_table (tables rest) v)) s.schedule (if_none (loses_table rest s.schedule) wrong_table 1 calm.1) in (
+    let calm = both_none (refused_if (not (any (λ q. bytes_eq q.label l) s.rules || any (λ x. bytes_eq x.label l) s.homomorphisms)) wrong_label 1) (refused_if (loses_table rest (s.schedule ++ map (λ o. o.table) s.own)) wrong_table 1) h in
+    let all : Each (λ v. not (is_table (tables rest) v) ≡ false) (s.schedule ++ map (λ o. o.table) s.own) =
+    none_passes (λ v. not (is_table (tables rest) v)) (s.schedule ++ map (λ o. o.table) s.own) (if_none (loses_table rest (s.schedule ++ map (λ o. o.table) s.own)) wrong_table 1 calm.1) in
+    let stay : Each (λ v. not (is_table (tables rest) v) ≡ false) s.schedule = each_first (λ v. not (is_table (tables rest) v) ≡ false) s.schedule (map (λ o. o.table) s.own) all in (
       record {
         labels = labels_dropped s.rules rest s.homomorphisms left d e o.labels;
         groups = apart_dropped clash s.rules rest d o.groups;
@@ -63,12 +76,21 @@ drop_kept s l w h =
         homomorphisms_sound = each_dropped (λ x. IsSound x.rule) s.homomorphisms left e o.homomorphisms_sound;
         few_tables = le_trans (tables_dropped s.rules rest d) o.few_tables;
         few_rules = omega (arith, length_dropped s.rules rest d, length_dropped s.homomorphisms left e, o.few_rules);
+        successors_few = each_dropped (λ x. length x.rule.successor ≤ most_successor_symbols) s.rules rest d o.successors_few;
       },
       record {
         words = w.of_schedule.words;
         some_word = w.of_schedule.some_word;
         scheduled = each_more (λ v. not (is_table (tables rest) v) ≡ false) (λ v. is_table (tables rest) v ≡ true) s.schedule (λ v. not_false (is_table (tables rest) v)) stay;
         few = w.of_schedule.few;
+      },
+      record {
+        tabled = each_unmapped (λ v. not (is_table (tables rest) v) ≡ false) (λ v. is_table (tables rest) v ≡ true) s.own (λ v. not_false (is_table (tables rest) v)) (each_rest (λ v. not (is_table (tables rest) v) ≡ false) s.schedule (map (λ o. o.table) s.own) all);
+        ordered = w.of_own.ordered;
+        few = w.of_own.few;
+        words = w.of_own.words;
+        names = w.of_own.names;
+        once = w.of_own.once;
       },
     )
 
@@ -125,4 +147,5 @@ homomorphism_kept s l r w il ir ih deep k =
       homomorphisms_sound = each_placed (λ x. x.label) h s.homomorphisms (put_hom h s.homomorphisms) (λ x. IsSound x.rule) p o.homomorphisms_sound (sound_anywhere 3 r (at_none (rule_unknown 3 r) unknown_name h1.0) (at_none (rule_repeated 3 r) duplicate h2.0) deep);
       few_tables = o.few_tables;
       few_rules = few most_rules (length s.rules + length (put_hom h s.homomorphisms)) many 1 h4.0;
+      successors_few = o.successors_few;
     }

@@ -26,6 +26,12 @@ opening_well = (
     few_words = grind arith;
     few_ignored = grind arith;
     shallow = grind arith;
+    some_version = omega arith;
+    known_version = omega arith;
+    first_version = λ e. (refl, refl);
+    own_tabled = tt;
+    own_ordered = tt;
+    own_few = tt;
   },
   record {
     rules = tt;
@@ -38,6 +44,11 @@ opening_well = (
     ignored_once = tt;
     words = ((refl, (refl, (refl, (refl, tt))), grind arith), tt);
     small_seed = grind arith;
+    axiom_few = omega arith;
+    successors_few = tt;
+    own_words = tt;
+    own_names = tt;
+    own_once = tt;
   },
 )
 
@@ -102,9 +113,12 @@ once_apart seen (n ∷ ns) =
     (each_more (New (seen ++ n ∷ [])) (λ z. same_name n z ≡ false) (once (seen ++ n ∷ []) ns) (λ z h. (any_last (λ y. same_name y z) seen n h).1) (once_new (seen ++ n ∷ []) ns))
     (once_apart (seen ++ n ∷ []) ns)
 
-pub ignored_kept : (ns : List ModuleName) → EachOf IsModuleName ns → refused_if (nat_lt most_ignored (length ns)) many (most_ignored + 1) ≡ None → OfIgnored (once [] ns)
-ignored_kept ns c h = record {
+pub names_kept : (n : ℕ) (ns : List ModuleName) → EachOf IsModuleName ns → refused_if (nat_lt most_ignored (length ns)) many n ≡ None → OfIgnored (once [] ns)
+names_kept n ns c h = record {
   names = once_names [] ns c;
   once = once_apart [] ns;
-  few = le_trans (once_length [] ns) (few most_ignored (length ns) many (most_ignored + 1) h);
+  few = le_trans (once_length [] ns) (few most_ignored (length ns) many n h);
 }
+
+pub ignored_kept : (ns : List ModuleName) → EachOf IsModuleName ns → refused_if (nat_lt most_ignored (length ns)) many (most_ignored + 1) ≡ None → OfIgnored (once [] ns)
+ignored_kept ns c h = names_kept (most_ignored + 1) ns c h

@@ -2,7 +2,7 @@
 use Rattle.std.proofs.Common.{◌≡◌, ℕ, Bool, true, false, ◌&&◌, Option, None, Some, List, [], ◌∷◌, ◌++◌, ◌+◌, ◌≤◌, ◌==◌, nat_lt, length, map, refl, ap, ◌∙◌, sym, subst, arith, append_assoc, append-nil, bytes_eq, if◌then◌else◌}
 use Rattle.std.specs.Prelude.{not}
 use Rattle.std.proofs.lemmas.Bool.Decides.{nat_tests}
-use Rattle.lsys_syntax.specs.Limits.{nesting_bound, most_rules, most_tables}
+use Rattle.lsys_syntax.specs.Limits.{nesting_bound, most_rules, most_tables, most_successor_symbols}
 use Rattle.lsys_syntax.specs.Tokens.{NameText}
 use Rattle.lsys_syntax.specs.Pieces.{Piece, blank, token, note, IsWordText}
 use Rattle.lsys_syntax.specs.Rules.{Rule, Production, IsRule, IsProduction, rule_nesting, rule_pieces}
@@ -15,7 +15,8 @@ use Rattle.lsys_spec.proofs.Tests.{not_false, neither}
 use Rattle.lsys_spec.proofs.Eachs.{each_more, each_front, each_back}
 use Rattle.lsys_laws.proofs.Aparts.{bytes_eq_true, bytes_eq_sym, apart_before, apart_behind, apart_front, apart_swap, apart_insert, apart_unmapped, each_mapped, map_append, map_swap, Placed, in_place, at_end, placed_later, each_placed}
 use Rattle.lsys_laws.proofs.Tabled.{tables_swap, tables_more}
-use Rattle.lsys_laws.proofs.Parts.{IsShort, OfRules, OfSchedule, Parts}
+use Rattle.lsys_laws.proofs.Parts.{IsShort, OfRules, OfSchedule, Parts, OfOwn}
+use Rattle.lsys_syntax.proofs.Wide.{is-small}
 use Rattle.lsys_laws.proofs.KeptAxiom.{many_anywhere}
 
 -- what a rule is refused for depends on no place
@@ -179,7 +180,7 @@ table_word (Some t) h = h
 
 pub production_kept : (s : System) (t : Option (List ℕ)) (l : List ℕ) (r : Rule) → Parts s → IsTable t → IsWordText l → IsRule r → rule_nesting r ≤ nesting_bound
     → production_refusal s (label_place t) (production_of t l r) ≡ None
-    → OfRules (put (production_of t l r) s.rules) s.homomorphisms × OfSchedule (put (production_of t l r) s.rules) s.schedule
+    → OfRules (put (production_of t l r) s.rules) s.homomorphisms × OfSchedule (put (production_of t l r) s.rules) s.schedule × OfOwn (put (production_of t l r) s.rules) s.own
 production_kept s t l r w it il ir deep h =
     let p : Production = production_of t l r in
     let c : Calm s (label_place t) p = calm s (label_place t) p h in
@@ -200,11 +201,20 @@ production_kept s t l r w it il ir deep h =
         homomorphisms_sound = o.homomorphisms_sound;
         few_tables = c.few_tables;
         few_rules = c.few_rules;
+        successors_few = each_placed (λ x. x.label) p s.rules (put p s.rules) (λ x. length x.rule.successor ≤ most_successor_symbols) d o.successors_few ((is-small (label_place t + 2) r c.fits).successor);
       },
       record {
         words = w.of_schedule.words;
         some_word = w.of_schedule.some_word;
         scheduled = each_more (λ v. is_table (tables s.rules) v ≡ true) (λ v. is_table (tables (put p s.rules)) v ≡ true) s.schedule (λ v k. tables_put p s.rules (put p s.rules) v d c.here k) w.of_schedule.scheduled;
         few = w.of_schedule.few;
+      },
+      record {
+        tabled = each_more (λ v. is_table (tables s.rules) v.table ≡ true) (λ v. is_table (tables (put p s.rules)) v.table ≡ true) s.own (λ v k. tables_put p s.rules (put p s.rules) v.table d c.here k) w.of_own.tabled;
+        ordered = w.of_own.ordered;
+        few = w.of_own.few;
+        words = w.of_own.words;
+        names = w.of_own.names;
+        once = w.of_own.once;
       },
     )

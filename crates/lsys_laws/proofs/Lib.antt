@@ -23,3 +23,5 @@ pub mod LeastMany
 pub mod Untouched
 pub mod KeptLevels
 pub mod StringsTold
+pub mod Orders
+pub mod KeptOwn

@@ -1,18 +1,18 @@
 -- The lines of the printed script: each is a command's, and is answered as this command.
-use Rattle.std.proofs.Common.{◌≡◌, ℕ, Bool, true, false, List, [], ◌∷◌, ◌++◌, ◌==◌, ◌<◌, ◌≤◌, map, length, nat_le, refl, ap, ◌∙◌, arith, decimal}
+use Rattle.std.proofs.Common.{◌≡◌, ℕ, Bool, true, false, List, [], ◌∷◌, ◌++◌, ◌==◌, ◌<◌, ◌≤◌, map, length, nat_le, if◌then◌else◌, refl, ap, ◌∙◌, arith, decimal}
 use Rattle.std.proofs.lemmas.Bool.Decides.{nat_tests}
 use Rattle.std.proofs.lemmas.Fmt.{decimal_is_IsNumeral}
-use Rattle.lsys_syntax.specs.Limits.{nesting_bound}
+use Rattle.lsys_syntax.specs.Limits.{nesting_bound, number_bound, most_depth, most_depth_of_two}
 use Rattle.lsys_syntax.specs.Lines.{lines_of}
 use Rattle.lsys_syntax.specs.Tokens.{short, long, Kind, Word, LongWord, Name, Number, BigNumber, Arrow, Equal, Unequal, AtMost, AtLeast, LeftParen, RightParen, LeftBracket, RightBracket, Comma, Colon, At, Plus, Minus, Times, Slash, Backslash, Percent, Ampersand, Bar, Caret, Bang, Less, Greater, Assign, Mode, First, next_mode, is_letter, is_digit, is_alphanumeric, is_word_byte}
 use Rattle.lsys_syntax.specs.Pieces.{Piece, blank, token, note, text_of, token_text, Tail, anything, ending, Reads, Stands, Every, IsWordText}
-use Rattle.lsys_syntax.specs.Strings.{EachOf}
+use Rattle.lsys_syntax.specs.Strings.{EachOf, IsModuleName}
 use Rattle.lsys_syntax.specs.Rules.{Production, IsRule, IsProduction}
-use Rattle.lsys_syntax.specs.Commands.{Command, set_schedule, set_depth, command_pieces, IsCommand, IsHomomorphism, nesting}
+use Rattle.lsys_syntax.specs.Commands.{Numbering, by_place, by_name, Command, set_lattice, set_seed, set_axiom, set_ignored, set_version, set_schedule, set_depth, command_pieces, IsCommand, IsHomomorphism, nesting}
 use Rattle.lsys_syntax.proofs.Bytes.{AllDigits-Every}
 use Rattle.lsys_syntax.proofs.LineReads.{command-reads}
-use Rattle.lsys_spec.specs.Systems.{System, Homomorphism, IsSound, Each, WellFormed, WellSpelled}
-use Rattle.lsys_spec.specs.Shown.{as_put, as_put_homomorphism, show_commands, script_of}
+use Rattle.lsys_spec.specs.Systems.{System, Own, depth_bound, Homomorphism, written, IsSound, Each, WellFormed, WellSpelled}
+use Rattle.lsys_spec.specs.Shown.{as_put, as_put_homomorphism, show_commands, script_of, as_set_own, numbering_commands, version_commands}
 use Rattle.lsys_spec.proofs.Eachs.{each_append}
 use Rattle.lsys_spec.proofs.ShownBack.{written-symbols, written-balanced}
 
@@ -111,10 +111,38 @@ schedule_line : (ws : List (List ℕ)) → EachOf IsWordText ws → 0 < length w
 schedule_line [] g h = absurd (omega arith)
 schedule_line (w ∷ ws) g h = g
 
+depth_bounded : (v : ℕ) → depth_bound v ≤ 256
+depth_bounded v = by (v == 1)
+  where
+    by : (c : Bool) → (if c then most_depth else most_depth_of_two) ≤ 256
+    by true = omega arith
+    by false = omega arith
+
+each_own : (os : List Own) → Each (λ o. IsWordText o.table) os → Each (λ o. EachOf IsModuleName o.names) os → Each IsLine (map as_set_own os)
+each_own [] h g = tt
+each_own (o ∷ os) h g = (((h.0, g.0), omega arith), each_own os h.1 g.1)
+
+numbering_lines : (g : Numbering) → Each IsLine (numbering_commands g)
+numbering_lines by_place = tt
+numbering_lines by_name = ((tt, omega arith), tt)
+
+version_lines : (s : System) → WellFormed s → Each IsLine (version_commands s)
+version_lines s w = by (s.version == 1)
+  where
+    by : (c : Bool) → Each IsLine (if c then [] else set_version s.version ∷ numbering_commands s.numbering)
+    by true = tt
+    by false = ((let l = w.known_version in omega (arith, l), omega arith), numbering_lines s.numbering)
+
 pub shown_lines : (s : System) → WellFormed s → WellSpelled s → Each IsLine (show_commands s)
 shown_lines s w v =
     let none : 0 ≤ nesting_bound = omega arith in
-    let last : Each IsLine (set_schedule s.schedule ∷ set_depth s.depth ∷ []) = ((schedule_line s.schedule v.words w.some_word, none), ((omega (arith, w.shallow), none), tt)) in (
+    let deep : s.depth < number_bound = let l = w.shallow in let k = depth_bounded s.version in omega (arith, l, k) in
+    let last : Each IsLine (set_schedule s.schedule ∷ set_depth s.depth ∷ []) = ((schedule_line s.schedule v.words w.some_word, none), ((deep, none), tt)) in
+    let own : Each IsLine (map as_set_own s.own ++ set_schedule s.schedule ∷ set_depth s.depth ∷ []) =
+    each_append IsLine (map as_set_own s.own) (set_schedule s.schedule ∷ set_depth s.depth ∷ []) (each_own s.own v.own_words v.own_names) last in
+    each_append IsLine (version_commands s)
+    (set_lattice s.lattice ∷ set_seed s.seed ∷ set_axiom (written s.axiom_string) ∷ set_ignored s.ignored ∷ (map as_put s.rules ++ (map as_put_homomorphism s.homomorphisms ++ (map as_set_own s.own ++ set_schedule s.schedule ∷ set_depth s.depth ∷ []))))
+    (version_lines s w) (
       (tt, none),
       (
         (v.small_seed, none),
@@ -122,8 +150,8 @@ shown_lines s w v =
           ((written-symbols s.axiom_string v.axiom_symbols, written-balanced 0 s.axiom_string v.axiom_balanced), none),
           (
             (v.ignored_names, none),
-            each_append IsLine (map as_put s.rules) (map as_put_homomorphism s.homomorphisms ++ set_schedule s.schedule ∷ set_depth s.depth ∷ []) (each_rule s.rules v.rules v.rules_sound)
-                (each_append IsLine (map as_put_homomorphism s.homomorphisms) (set_schedule s.schedule ∷ set_depth s.depth ∷ []) (each_image s.homomorphisms v.homomorphisms v.homomorphisms_sound) last),
+            each_append IsLine (map as_put s.rules) (map as_put_homomorphism s.homomorphisms ++ (map as_set_own s.own ++ set_schedule s.schedule ∷ set_depth s.depth ∷ [])) (each_rule s.rules v.rules v.rules_sound)
+                (each_append IsLine (map as_put_homomorphism s.homomorphisms) (map as_set_own s.own ++ set_schedule s.schedule ∷ set_depth s.depth ∷ []) (each_image s.homomorphisms v.homomorphisms v.homomorphisms_sound) own),
           ),
         ),
       ),

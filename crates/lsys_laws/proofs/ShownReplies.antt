@@ -1,26 +1,29 @@
 -- The replies to the printed script: none is a refusal, and the last system is the one that was printed.
-use Rattle.std.proofs.Common.{◌≡◌, ℕ, zero, suc, Bool, true, false, Result, Ok, Err, List, [], ◌∷◌, ◌++◌, ◌+◌, ◌≤◌, nat_lt, length, map, refl, ap, ◌∙◌, sym, subst, arith, append_assoc, true≢false}
-use Rattle.std.specs.Prelude.{codes, sum_by}
+use Rattle.std.proofs.Common.{◌≡◌, ℕ, zero, suc, ◌==◌, if◌then◌else◌, Bool, true, false, Result, Ok, Err, List, [], ◌∷◌, ◌++◌, ◌+◌, ◌≤◌, nat_lt, length, map, refl, ap, ◌∙◌, sym, subst, arith, append_assoc, true≢false}
+use Rattle.std.specs.Prelude.{ℤ, Option, Some, None, codes, sum_by}
 use Rattle.std.proofs.lemmas.Bool.Decides.{nat_tests}
 use Rattle.std.proofs.lemmas.List.Sums.{sum_by-cons}
 use Rattle.lsys_syntax.specs.Lines.{lines_of, without_cr}
 use Rattle.lsys_syntax.specs.Tokens.{tokens}
 use Rattle.lsys_syntax.specs.Pieces.{placed}
-use Rattle.lsys_syntax.specs.Commands.{Command, set_axiom, put_production, drop_rule, set_ignored, set_schedule, set_seed, set_depth, set_lattice, put_homomorphism, print_string, print_segments, print_svg, print_system, quit, command_pieces}
+use Rattle.lsys_syntax.specs.Commands.{Numbering, by_place, by_name, Command, set_axiom, put_production, drop_rule, set_ignored, set_schedule, set_seed, set_depth, set_lattice, put_homomorphism, print_string, print_segments, print_svg, print_system, quit, set_version, set_own, drop_own, set_numbering, command_pieces}
 use Rattle.lsys_syntax.specs.LineMachine.{verdict}
 use Rattle.lsys_syntax.proofs.LineReads.{line-reads, kinds-placed}
 use Rattle.lsys_syntax.proofs.LineComplete.{command-sentence}
 use Rattle.lsys_syntax.specs.Rules.{Production}
-use Rattle.lsys_spec.specs.Systems.{System, Homomorphism, opening, written, Each, WellFormed, WellSpelled}
+use Rattle.lsys_spec.specs.Systems.{System, Own, Homomorphism, opening, written, Each, WellFormed, WellSpelled}
 use Rattle.lsys_spec.specs.Edits.{Refusal, refusal, changed, apply}
 use Rattle.lsys_spec.specs.Levels as L
-use Rattle.lsys_spec.specs.Meaning.{LevelRefusal, first_level, next_level, last_level, within_limit, meaning_to, meaning}
+use Rattle.lsys_spec.specs.Meaning.{numbered, children, LevelRefusal, first_level, next_level, last_level, within_limit, meaning_to, meaning}
 use Rattle.lsys_spec.specs.Values.{◌and_then◌}
 use Rattle.lsys_spec.specs.Refusals.{Reply, said, refused, is_long, column_at}
 use Rattle.lsys_spec.specs.ReadBack.{IsPlainLine}
 use Rattle.lsys_spec.specs.Replies.{accepted, edited, levels_of, command_reply, verdict_reply, tokens_reply, bare_reply, reply, is_query, count_line, questions_of}
 use Rattle.lsys_spec.specs.Questions.{questions}
-use Rattle.lsys_spec.specs.Shown.{as_put, as_put_homomorphism, show_commands, show_text}
+use Rattle.lsys_spec.specs.Shown.{as_put, as_put_homomorphism, as_set_own, numbering_commands, version_commands, show_commands, show_text}
+use Rattle.lsys_syntax.specs.Strings.{Symbol, Module, Push, Pop, Cut}
+use Rattle.lsys_spec.specs.Numbers.{code_of}
+use Rattle.lsys_spec.specs.Cuts.{cut_on, cut}
 use Rattle.lsys_spec.specs.Output.{out, replies_from, followed, any_refusal, last_system, none}
 use Rattle.lsys_spec.proofs.Applied.{apply_all, commands-applied, written-back}
 use Rattle.lsys_spec.proofs.ShownBack.{shown-plain}
@@ -62,6 +65,10 @@ query_no_edit limit s (set_seed n) h = refl
 query_no_edit limit s (set_depth n) h = refl
 query_no_edit limit s (set_lattice l) h = refl
 query_no_edit limit s (put_homomorphism l r) h = refl
+query_no_edit limit s (set_version n) h = refl
+query_no_edit limit s (set_own k t ns) h = refl
+query_no_edit limit s (drop_own t) h = refl
+query_no_edit limit s (set_numbering g) h = refl
 query_no_edit limit s (print_string t) h = absurd (true≢false h)
 query_no_edit limit s print_segments h = absurd (true≢false h)
 query_no_edit limit s print_svg h = absurd (true≢false h)
@@ -136,29 +143,72 @@ keeps_images : (limit : ℕ) (hs : List Homomorphism) → Each (Keeps limit) (ma
 keeps_images limit [] = tt
 keeps_images limit (h ∷ hs) = (record { edits = refl; keeps = λ s k. record { depth = k.depth; small = k.small } }, keeps_images limit hs)
 
+-- how the symbols are numbered doesn't matter to how many are left
+born_length : (g h : Numbering) (n m : ℕ) (b c k l : List ℕ) (xs : List (Symbol ℤ)) (o : Option ℕ) → length (cut_on o (numbered g n b k xs)) ≡ length (cut_on o (numbered h m c l xs))
+born_length g h n m b c k l [] None = refl
+born_length g h n m b c k l [] (Some i) = refl
+born_length g h n m b c k l (Module a ps ∷ xs) None = ap suc (born_length g h (n + 1) (m + 1) (code_of (Module a ps) ∷ b) (code_of (Module a ps) ∷ c) k l xs None)
+born_length g h n m b c k l (Module a ps ∷ xs) (Some i) = born_length g h (n + 1) (m + 1) (code_of (Module a ps) ∷ b) (code_of (Module a ps) ∷ c) k l xs (Some i)
+born_length g h n m b c k l (Push ∷ xs) None = ap suc (born_length g h (n + 1) (m + 1) (91 ∷ b) (91 ∷ c) k l xs None)
+born_length g h n m b c k l (Push ∷ xs) (Some i) = born_length g h (n + 1) (m + 1) (91 ∷ b) (91 ∷ c) k l xs (Some (suc i))
+born_length g h n m b c k l (Pop ∷ xs) None = ap suc (born_length g h (n + 1) (m + 1) (93 ∷ b) (93 ∷ c) k l xs None)
+born_length g h n m b c k l (Pop ∷ xs) (Some zero) = ap suc (born_length g h (n + 1) (m + 1) (93 ∷ b) (93 ∷ c) k l xs None)
+born_length g h n m b c k l (Pop ∷ xs) (Some (suc i)) = born_length g h (n + 1) (m + 1) (93 ∷ b) (93 ∷ c) k l xs (Some i)
+born_length g h n m b c k l (Cut ∷ xs) None = born_length g h (n + 1) (m + 1) (37 ∷ b) (37 ∷ c) k l xs (Some 0)
+born_length g h n m b c k l (Cut ∷ xs) (Some i) = born_length g h (n + 1) (m + 1) (37 ∷ b) (37 ∷ c) k l xs (Some i)
+
+first_length : (g h : Numbering) (xs : List (Symbol ℤ)) → length (cut (children g [] xs)) ≡ length (cut (children h [] xs))
+first_length g h xs = born_length g h 0 0 [] [] [] [] xs None
+
 keeps_axiom : (limit : ℕ) (s : System) → length (first_level s) ≤ limit → Keeps limit (set_axiom (written s.axiom_string))
 keeps_axiom limit s h = record {
   edits = refl;
-  keeps = λ r k. record { depth = k.depth; small = subst (λ xs. length (first_level (record s { axiom_string = xs })) ≤ limit) (sym (written-back s.axiom_string)) h };
+  keeps = λ r k. record {
+    depth = k.depth;
+    small = subst (λ xs. length (first_level (record r { axiom_string = xs })) ≤ limit) (sym (written-back s.axiom_string)) (subst (λ n. n ≤ limit) (first_length s.numbering r.numbering s.axiom_string) h);
+  };
 }
 
--- all commands but the last, which sets the depth
-abbrev front_commands : System → List Command
-front_commands s =
+keeps_own : (limit : ℕ) (os : List Own) → Each (Keeps limit) (map as_set_own os)
+keeps_own limit [] = tt
+keeps_own limit (o ∷ os) = (record { edits = refl; keeps = λ s k. record { depth = k.depth; small = k.small } }, keeps_own limit os)
+
+keeps_numbering : (limit : ℕ) (g : Numbering) → Each (Keeps limit) (numbering_commands g)
+keeps_numbering limit by_place = tt
+keeps_numbering limit by_name =
+    (record { edits = refl; keeps = λ s k. record { depth = k.depth; small = subst (λ n. n ≤ limit) (first_length s.numbering by_name s.axiom_string) k.small } }, tt)
+
+keeps_version : (limit : ℕ) (s : System) → Each (Keeps limit) (version_commands s)
+keeps_version limit s = by (s.version == 1)
+  where
+    by : (b : Bool) → Each (Keeps limit) (if b then [] else set_version s.version ∷ numbering_commands s.numbering)
+    by true = tt
+    by false = (record { edits = refl; keeps = λ r k. record { depth = k.depth; small = k.small } }, keeps_numbering limit s.numbering)
+
+-- all commands but the last, which sets the depth, behind those of the version
+abbrev rest_commands : System → List Command
+rest_commands s =
     set_lattice s.lattice ∷ set_seed s.seed ∷ set_axiom (written s.axiom_string) ∷ set_ignored s.ignored
-    ∷ (map as_put s.rules ++ (map as_put_homomorphism s.homomorphisms ++ set_schedule s.schedule ∷ []))
+    ∷ (map as_put s.rules ++ (map as_put_homomorphism s.homomorphisms ++ (map as_set_own s.own ++ set_schedule s.schedule ∷ [])))
+
+abbrev front_commands : System → List Command
+front_commands s = version_commands s ++ rest_commands s
 
 commands_split : (s : System) → show_commands s ≡ front_commands s ++ set_depth s.depth ∷ []
 commands_split s =
     let rules = map as_put s.rules in
     let images = map as_put_homomorphism s.homomorphisms in
+    let own = map as_set_own s.own in
     let last = set_depth s.depth ∷ [] in
-    ap (λ cs. set_lattice s.lattice ∷ set_seed s.seed ∷ set_axiom (written s.axiom_string) ∷ set_ignored s.ignored ∷ cs)
-    (sym (append_assoc rules (images ++ set_schedule s.schedule ∷ []) last ∙ ap (λ cs. rules ++ cs) (append_assoc images (set_schedule s.schedule ∷ []) last)))
+    ap (λ cs. version_commands s ++ (set_lattice s.lattice ∷ set_seed s.seed ∷ set_axiom (written s.axiom_string) ∷ set_ignored s.ignored ∷ cs))
+    (sym (append_assoc rules (images ++ (own ++ set_schedule s.schedule ∷ [])) last
+    ∙ ap (λ cs. rules ++ cs) (append_assoc images (own ++ set_schedule s.schedule ∷ []) last ∙ ap (λ cs. images ++ cs) (append_assoc own (set_schedule s.schedule ∷ []) last))))
+    ∙ sym (append_assoc (version_commands s) (rest_commands s) last)
 
 front_keeps : (limit : ℕ) (s : System) → length (first_level s) ≤ limit → Each (Keeps limit) (front_commands s)
 front_keeps limit s h =
-    let last : Each (Keeps limit) (set_schedule s.schedule ∷ []) = (record { edits = refl; keeps = λ r k. record { depth = k.depth; small = k.small } }, tt) in (
+    let last : Each (Keeps limit) (set_schedule s.schedule ∷ []) = (record { edits = refl; keeps = λ r k. record { depth = k.depth; small = k.small } }, tt) in
+    each_append (Keeps limit) (version_commands s) (rest_commands s) (keeps_version limit s) (
       record { edits = refl; keeps = λ r k. record { depth = k.depth; small = k.small } },
       (
         record { edits = refl; keeps = λ r k. record { depth = k.depth; small = k.small } },
@@ -166,8 +216,9 @@ front_keeps limit s h =
           keeps_axiom limit s h,
           (
             record { edits = refl; keeps = λ r k. record { depth = k.depth; small = k.small } },
-            each_append (Keeps limit) (map as_put s.rules) (map as_put_homomorphism s.homomorphisms ++ set_schedule s.schedule ∷ []) (keeps_rules limit s.rules)
-                (each_append (Keeps limit) (map as_put_homomorphism s.homomorphisms) (set_schedule s.schedule ∷ []) (keeps_images limit s.homomorphisms) last),
+            each_append (Keeps limit) (map as_put s.rules) (map as_put_homomorphism s.homomorphisms ++ (map as_set_own s.own ++ set_schedule s.schedule ∷ [])) (keeps_rules limit s.rules)
+                (each_append (Keeps limit) (map as_put_homomorphism s.homomorphisms) (map as_set_own s.own ++ set_schedule s.schedule ∷ []) (keeps_images limit s.homomorphisms)
+                (each_append (Keeps limit) (map as_set_own s.own) (set_schedule s.schedule ∷ []) (keeps_own limit s.own) last)),
           ),
         ),
       ),

@@ -5,7 +5,7 @@ use Rattle.lsys_syntax.specs.Limits.{nesting_bound}
 use Rattle.lsys_syntax.specs.Tokens.{Kind, Word}
 use Rattle.lsys_syntax.specs.Pieces.{kinds_of}
 use Rattle.lsys_syntax.specs.Strings.{Symbol, Signed, signed_pieces, string_pieces}
-use Rattle.lsys_syntax.specs.Commands.{Command, set_axiom, put_production, drop_rule, set_ignored, set_schedule, set_seed, set_depth, set_lattice, put_homomorphism, print_string, print_segments, print_svg, print_system, quit, string_behind, command_pieces, IsCommand}
+use Rattle.lsys_syntax.specs.Commands.{Command, set_axiom, put_production, drop_rule, set_ignored, set_schedule, set_seed, set_depth, set_lattice, put_homomorphism, print_string, print_segments, print_svg, print_system, quit, to_ignore, to_consider, set_version, set_own, drop_own, set_numbering, string_behind, command_pieces, IsCommand}
 use Rattle.lsys_syntax.specs.LineMachine.{sentence, stops, too_deep, verdict}
 use Rattle.lsys_syntax.specs.Sentences.{AreTokens, Begins, BeginsDeep}
 use Rattle.lsys_syntax.proofs.LineComplete.{command-sentence}
@@ -45,6 +45,11 @@ axiom_only (set_seed n) ks e = no_other (set_seed n) ks refl e
 axiom_only (set_depth n) ks e = no_other (set_depth n) ks refl e
 axiom_only (set_lattice l) ks e = no_other (set_lattice l) ks refl e
 axiom_only (put_homomorphism l r) ks e = no_other (put_homomorphism l r) ks refl e
+axiom_only (set_version n) ks e = no_other (set_version n) ks refl e
+axiom_only (set_own to_ignore t ns) ks e = no_other (set_own to_ignore t ns) ks refl e
+axiom_only (set_own to_consider t ns) ks e = no_other (set_own to_consider t ns) ks refl e
+axiom_only (drop_own t) ks e = no_other (drop_own t) ks refl e
+axiom_only (set_numbering g) ks e = no_other (set_numbering g) ks refl e
 axiom_only (print_string n) ks e = no_other (print_string n) ks refl e
 axiom_only print_segments ks e = no_other print_segments ks refl e
 axiom_only print_svg ks e = no_other print_svg ks refl e

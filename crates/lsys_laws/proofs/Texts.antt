@@ -1,12 +1,13 @@
 -- What the text of a reply tells.
-use Rattle.std.proofs.Common.{◌≡◌, ℕ, suc, Bool, true, false, ◌&&◌, not, Option, Some, None, Result, Ok, Err, List, [], ◌∷◌, ◌++◌, length, map, refl, append_assoc}
+use Rattle.std.proofs.Common.{◌≡◌, ℕ, suc, ◌==◌, if◌then◌else◌, Bool, true, false, ◌&&◌, not, Option, Some, None, Result, Ok, Err, List, [], ◌∷◌, ◌++◌, length, map, refl, append_assoc}
 use Rattle.std.specs.Prelude.{codes, slice_get}
 use Rattle.lsys_syntax.specs.Lines.{without_cr}
 use Rattle.lsys_syntax.specs.Tokens.{Token, tokens}
-use Rattle.lsys_syntax.specs.Commands.{Command, set_axiom, put_production, drop_rule, set_ignored, set_schedule, set_seed, set_depth, set_lattice, put_homomorphism, print_string, print_segments, print_svg, print_system, quit}
+use Rattle.lsys_syntax.specs.Commands.{Command, set_axiom, put_production, drop_rule, set_ignored, set_schedule, set_seed, set_depth, set_lattice, put_homomorphism, print_string, print_segments, print_svg, print_system, quit, set_version, set_own, drop_own, set_numbering}
 use Rattle.lsys_syntax.specs.LineMachine.{Verdict, sentence, stops, too_deep, verdict}
-use Rattle.lsys_spec.specs.Systems.{System, WellSpelled}
-use Rattle.lsys_spec.specs.Edits.{Why, unknown_name, duplicate, mixed, wrong_label, wrong_table, wrong_level, many, Refusal, refusal, changed}
+use Rattle.lsys_spec.specs.Systems.{System, written, WellSpelled}
+use Rattle.lsys_spec.specs.Shown.{as_put, as_put_homomorphism, as_set_own, numbering_commands, script_of, show_text}
+use Rattle.lsys_spec.specs.Edits.{Why, wrong_version, unknown_name, duplicate, mixed, wrong_label, wrong_table, wrong_level, many, Refusal, refusal, changed}
 use Rattle.lsys_spec.specs.Levels as L
 use Rattle.lsys_spec.specs.Meaning as M
 use Rattle.lsys_spec.specs.Images.{ImageFault, ImageLimit}
@@ -35,6 +36,7 @@ Why_of (Ok a) = Unit {0}
 Why_of (Err why) = OtherWord why
 
 why_tells : (w : Why) (n : ℕ) → OtherWord (with_number (why_word w) n)
+why_tells wrong_version n rest = refl
 why_tells unknown_name n rest = refl
 why_tells duplicate n rest = refl
 why_tells mixed n rest = refl
@@ -99,13 +101,23 @@ ok_levels (Err r) levels h = cc
 edit_tells : (limit : ℕ) (s : System) (c : Command) → Telling (edited limit s (changed s c) (levels_of limit (changed s c)))
 edit_tells limit s c = edited_tells limit s (changed s c) (levels_of limit (changed s c)) (levels_why (M.meaning (changed s c) limit))
 
+shown_no_word : (s : System) (rest : List ℕ) → begins (codes "refused ") (show_text s ++ rest) ≡ false
+shown_no_word s rest = by (s.version == 1)
+  where
+    by : (b : Bool) → begins (codes "refused ") (script_of ((if b then [] else set_version s.version ∷ numbering_commands s.numbering)
+        ++ (set_lattice s.lattice ∷ set_seed s.seed ∷ set_axiom (written s.axiom_string) ∷ set_ignored s.ignored
+        ∷ (map as_put s.rules ++ (map as_put_homomorphism s.homomorphisms ++ (map as_set_own s.own ++ set_schedule s.schedule ∷ set_depth s.depth ∷ [])))))
+        ++ rest) ≡ false
+    by true = refl
+    by false = refl
+
 accepted_tells : (limit : ℕ) (s : System) (c : Command) → WellSpelled s → Telling (accepted limit s c)
 accepted_tells limit s (print_string t) w =
     shown_tells s (string_line t) (levels_of limit s) (levels_why (M.meaning s limit))
     (λ levels e. string_tells t levels (level_named s w limit levels (ok_levels (M.meaning s limit) levels e)))
 accepted_tells limit s print_segments w = shown_tells s _ (picture_of s (levels_of limit s)) (picture_why s (levels_of limit s) (levels_why (M.meaning s limit))) (λ gs e rest. refl)
 accepted_tells limit s print_svg w = shown_tells s _ (picture_of s (levels_of limit s)) (picture_why s (levels_of limit s) (levels_why (M.meaning s limit))) (λ gs e rest. refl)
-accepted_tells limit s print_system w = answers refl (λ rest. refl)
+accepted_tells limit s print_system w = answers refl (λ rest. shown_no_word s rest)
 accepted_tells limit s quit w = finishes refl refl refl
 accepted_tells limit s (set_axiom xs) w = edit_tells limit s (set_axiom xs)
 accepted_tells limit s (put_production t l r) w = edit_tells limit s (put_production t l r)
@@ -116,6 +128,10 @@ accepted_tells limit s (set_seed n) w = edit_tells limit s (set_seed n)
 accepted_tells limit s (set_depth n) w = edit_tells limit s (set_depth n)
 accepted_tells limit s (set_lattice l) w = edit_tells limit s (set_lattice l)
 accepted_tells limit s (put_homomorphism l r) w = edit_tells limit s (put_homomorphism l r)
+accepted_tells limit s (set_version n) w = edit_tells limit s (set_version n)
+accepted_tells limit s (set_own k t ns) w = edit_tells limit s (set_own k t ns)
+accepted_tells limit s (drop_own t) w = edit_tells limit s (drop_own t)
+accepted_tells limit s (set_numbering g) w = edit_tells limit s (set_numbering g)
 
 command_tells : (limit : ℕ) (s : System) (column : ℕ → ℕ) (c : Command) (o : Option Refusal) → WellSpelled s → Telling (command_reply limit s column c o)
 command_tells limit s column c None w = accepted_tells limit s c w

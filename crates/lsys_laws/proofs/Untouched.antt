@@ -3,12 +3,13 @@ use Rattle.std.proofs.Common.{◌≡◌, ℕ, Bool, true, false, ◌&&◌, ◌||
 use Rattle.std.specs.Prelude.{slice_get, ◌↔◌, not}
 use Rattle.std.proofs.lemmas.Option.{get_or_from_slice_get}
 use Rattle.lsys_spec.specs.Systems.{System, Each, WellSpelled}
+use Rattle.lsys_spec.specs.Bodies.{filter}
 use Rattle.lsys_spec.specs.Levels.{Symbol, lineage}
-use Rattle.lsys_spec.specs.Walks.{Entry, lineages_named, list_any}
+use Rattle.lsys_spec.specs.Walks.{Entry, lineages_named, any}
 use Rattle.lsys_spec.specs.Meaning.{meaning}
 use Rattle.lsys_spec.specs.Equalities.{same_number, same_option, same_all, same_symbol, same_body, same_entry}
 use Rattle.lsys_spec.specs.Questions.{Question, questions, question_at}
-use Rattle.lsys_spec.specs.Standings.{Settled, is_disturbed, reads_disturbed, any_disturbed, free, same_ignored, is_touched, touched_there}
+use Rattle.lsys_spec.specs.Standings.{Settled, is_disturbed, reads_disturbed, any_disturbed, free, same_filter, is_touched, touched_there}
 use Rattle.lsys_spec.specs.LevelLaws.{NoneDisturbed, may_differ}
 use Rattle.lsys_spec.proofs.Eachs.{each_at}
 use Rattle.lsys_spec.proofs.Equal.{same_number_true, same_question_refl}
@@ -21,7 +22,7 @@ use Rattle.lsys_laws.specs.Candidates.{IsUntouched}
 -- 1. what is read
 
 module _ (x y : List Symbol) (u : NamedLevel x) (v : NamedLevel y) where
-  settled_all : (ls : List (List ℕ)) → list_any (is_disturbed x y) ls ≡ false → Each (Settled x y) ls
+  settled_all : (ls : List (List ℕ)) → any (is_disturbed x y) ls ≡ false → Each (Settled x y) ls
   settled_all [] h = tt
   settled_all (l ∷ ls) h = let n = none_of (is_disturbed x y) l ls h in ((disturbed x y l u v).0 n.0, settled_all ls n.1)
 
@@ -33,14 +34,14 @@ module _ (x y : List Symbol) (u : NamedLevel x) (v : NamedLevel y) where
   none_either true b h k = h
   none_either false b h k = k
 
-  none_all : (ls : List (List ℕ)) → Each (Settled x y) ls → list_any (is_disturbed x y) ls ≡ false
+  none_all : (ls : List (List ℕ)) → Each (Settled x y) ls → any (is_disturbed x y) ls ≡ false
   none_all [] h = refl
-  none_all (l ∷ ls) h = any_is (is_disturbed x y) l ls ∙ none_either (is_disturbed x y l) (list_any (is_disturbed x y) ls) ((disturbed x y l u v).1 h.0) (none_all ls h.1)
+  none_all (l ∷ ls) h = any_is (is_disturbed x y) l ls ∙ none_either (is_disturbed x y l) (any (is_disturbed x y) ls) ((disturbed x y l u v).1 h.0) (none_all ls h.1)
 
   none_read : (es : List Entry) → NoneDisturbed x y es → any_disturbed x y es ≡ false
   none_read [] h = refl
   none_read (e ∷ es) h =
-      any_is (reads_disturbed x y) e es ∙ none_either (reads_disturbed x y e) (list_any (reads_disturbed x y) es) (none_all (lineages_named e) h.0) (none_read es h.1)
+      any_is (reads_disturbed x y) e es ∙ none_either (reads_disturbed x y e) (any (reads_disturbed x y) es) (none_all (lineages_named e) h.0) (none_read es h.1)
 
 -- 2. one question
 
@@ -74,7 +75,7 @@ touched_false old new x y asked q u v f =
     let own : same_symbol was.own q.own ≡ true = ap (λ a. same_symbol a q.own) f.own ∙ s.own in
     let bodies : same_all same_body was.bodies q.bodies ≡ true = ap (λ a. same_all same_body a q.bodies) f.bodies ∙ s.bodies in
     let key : same_option same_number was.key q.key ≡ true = ap (λ a. same_option same_number a q.key) f.key ∙ s.key in
-    none_of_four (not (same_symbol was.own q.own && (same_all same_body was.bodies q.bodies && same_option same_number was.key q.key))) (is_disturbed x y (lineage q.own)) (any_disturbed x y was.trace) (not (free q.bodies || same_ignored old.ignored new.ignored))
+    none_of_four (not (same_symbol was.own q.own && (same_all same_body was.bodies q.bodies && same_option same_number was.key q.key))) (is_disturbed x y (lineage q.own)) (any_disturbed x y was.trace) (not (free q.bodies || same_filter (filter old q.level) (filter new q.level)))
     (not_true _ (all_true _ _ _ own bodies key)) ((disturbed x y (lineage q.own) u v).1 f.settled) (none_read x y u v was.trace f.read) (not_true _ f.ignored)
 
 untouched : (old new : System) (x y : List Symbol) (asked : List Question) (was q : Question) → NamedLevel x → NamedLevel y

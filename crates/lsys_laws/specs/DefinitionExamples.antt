@@ -16,7 +16,7 @@ use Rattle.lsys_spec.specs.Replies.{reply}
 use Rattle.lsys_spec.specs.Output.{out, none, last_system}
 
 -- most bytes of a script; module limits
-pub limits_of_runs : most_script_bytes ∷ usual_module_limit ∷ greatest_module_limit ∷ [] ≡ 16777216 ∷ 100000 ∷ 200000 ∷ []
+pub limits_of_runs : most_script_bytes ∷ usual_module_limit ∷ greatest_module_limit ∷ [] ≡ 16777216 ∷ 100000 ∷ 1000000 ∷ []
 limits_of_runs = refl
 
 abbrev letter : ℕ → List ℕ → Symbol

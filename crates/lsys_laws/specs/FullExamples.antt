@@ -7,7 +7,7 @@ use Rattle.lsys_syntax.specs.Commands.{put_production, put_homomorphism, set_ign
 use Rattle.lsys_spec.specs.Systems.{System, opening}
 use Rattle.lsys_spec.specs.Edits.{refusal, many, wrong_label, wrong_table, wrong_level}
 
-abbrev plain_rule : Rule
+abbrev pub plain_rule : Rule
 plain_rule =
     record { left = []; name = named (short 65); formals = []; right = []; condition = None; weight = None; successor = [] }
 

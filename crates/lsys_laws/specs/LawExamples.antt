@@ -13,7 +13,7 @@ use Rattle.lsys_syntax.specs.Nesting.{expr_nesting}
 use Rattle.lsys_spec.specs.Draws.{unsplit}
 use Rattle.lsys_spec.specs.Lattices.{turn_left, turn_right, pitch_down, pitch_up, roll_left, roll_right, turn_round, inverse, vector, cross}
 use Rattle.lsys_spec.specs.Levels.{Symbol, Push, Pop, Module, close_of, level_balanced}
-use Rattle.lsys_spec.specs.Cuts.{Raw, Plain, Percent, raw_balanced, is_cut_off, kept}
+use Rattle.lsys_spec.specs.Cuts.{Raw, Plain, Cut, raw_balanced, is_cut_off, kept}
 use Rattle.lsys_spec.specs.Walks.{Mark, Compared, Ignored, Out, Branched}
 use Rattle.lsys_spec.specs.Equalities.{same_entry}
 use Rattle.lsys_spec.specs.Replies.{reply, spelled_command}
@@ -33,7 +33,7 @@ abbrev closing_bracket : Raw
 closing_bracket = Plain (Pop [])
 
 abbrev a_cut : Raw
-a_cut = Percent []
+a_cut = Cut []
 
 abbrev letter_a : Raw
 letter_a = Plain (a_module 65)

@@ -13,6 +13,7 @@ pub mod LevelNumberExamples
 pub mod ContextExamples
 pub mod LineExamples
 pub mod FullExamples
+pub mod FirstCauses
 pub mod CandidateExamples
 pub mod BodyExamples
 pub mod WordExamples

@@ -1,12 +1,12 @@
 -- What is answered by tags, and what the definitions say.
-use Rattle.std.proofs.Common.{map, ◌≡◌, ℕ, ℤ, ◌+◌, true, ◌&&◌, List, [], length, Option, Some, None, Result, Ok, Err, refl, ap, sym, ◌∙◌, subst, arith, ◌≤◌}
+use Rattle.std.proofs.Common.{◌≡◌, ℕ, ℤ, ◌+◌, true, ◌&&◌, List, [], length, Option, Some, None, Result, Ok, Err, refl, ap, sym, ◌∙◌, subst, arith, ◌≤◌}
 use Rattle.std.specs.Option.{IsSomeAnd}
 use Rattle.std.proofs.lemmas.List.{length-map, length-take}
 use Rattle.std.proofs.lemmas.Option.{same_Some}
 use Rattle.lsys_syntax.specs.Strings as S
 use Rattle.lsys_spec.specs.Draws.{key_of}
 use Rattle.lsys_spec.specs.Systems.{System, Each, WellSpelled}
-use Rattle.lsys_spec.specs.Bodies.{Body}
+use Rattle.lsys_spec.specs.Bodies.{Body, filter}
 use Rattle.lsys_spec.specs.Levels.{ModuleValue, way, items_from}
 use Rattle.lsys_spec.specs.Levels as L
 use Rattle.lsys_spec.specs.Walks.{Told}
@@ -19,7 +19,7 @@ use Rattle.lsys_spec.proofs.GroupTells.{told_choice}
 use Rattle.lsys_spec.proofs.Names.{NamedBody, same_all_true, same_body_true}
 use Rattle.lsys_spec.proofs.Tests.{both}
 use Rattle.lsys_spec.proofs.WellNamed.{group_named}
-use Rattle.lsys_module.specs.Views.{module_name}
+use Rattle.lsys_bodies.specs.Filters.{filter_of}
 use Rattle.lsys_level.specs.Spots.{Spotted, Module, level_by}
 use Rattle.lsys_rewrite.specs.Faults.{fault_of}
 use Rattle.lsys_rewrite.specs.declared.refusal.FaultKind.{FaultKind}
@@ -81,7 +81,7 @@ module _ (s : System) (t : ℕ) (row : List Spotted) (p : ℕ) (d : Posed) (h : 
       h.posed ∙ (λ i. posed_of s t (t' i) (key i) (own i))
 
   abbrev told_here : Posed → (ℕ → List ℕ) → Told Choice
-  told_here d naming = told_for naming (site_at s row p d.own) d
+  told_here d naming = told_for naming (site_at s t row p d.own) d
 
   abbrev def : ByDefinition
   def = by_definition s t (level_by naming row) p (naming tag) m
@@ -109,11 +109,11 @@ module _ (s : System) (t : ℕ) (row : List Spotted) (p : ℕ) (d : Posed) (h : 
 
 -- 3. an old answer to the same question
 
-pub answer_again : (s : System) (row : List Spotted) (p : ℕ) (d : Posed) (trace : List Noted) (a : TagAnswer)
-    → IsSound a → a.question.posed ≡ d → a.question.trace ≡ trace → ((naming : ℕ → List ℕ) → entries_by naming trace ≡ trace_told (told_for naming (site_at s row p d.own) d))
-    → IsAnswerTo (λ naming. told_for naming (site_at s row p d.own) d) a
-answer_again s row p d trace a h e i r =
-    subst (λ (d : Posed). IsAnswerTo (λ naming. told_for naming (site_at s row p d.own) d) a) e (record {
+pub answer_again : (s : System) (t : ℕ) (row : List Spotted) (p : ℕ) (d : Posed) (trace : List Noted) (a : TagAnswer)
+    → IsSound a → a.question.posed ≡ d → a.question.trace ≡ trace → ((naming : ℕ → List ℕ) → entries_by naming trace ≡ trace_told (told_for naming (site_at s t row p d.own) d))
+    → IsAnswerTo (λ naming. told_for naming (site_at s t row p d.own) d) a
+answer_again s t row p d trace a h e i r =
+    subst (λ (d : Posed). IsAnswerTo (λ naming. told_for naming (site_at s t row p d.own) d) a) e (record {
       trace = again;
       chosen = λ naming. sym (ap place_chosen (same naming)) ∙ h.answer.told.chosen naming;
       successor = λ naming. sym (ap (successor_by b.bodies b.own) (same naming)) ∙ h.answer.told.successor naming;
@@ -123,17 +123,17 @@ answer_again s row p d trace a h e i r =
     b = a.question.posed
 
     old : (ℕ → List ℕ) → Told Choice
-    old naming = told_for naming (site_at h.system h.row h.place b.own) b
+    old naming = told_for naming (site_at h.system h.level h.row h.place b.own) b
 
     new : (ℕ → List ℕ) → Told Choice
-    new naming = told_for naming (site_at s row p b.own) b
+    new naming = told_for naming (site_at s t row p b.own) b
 
     again : (naming : ℕ → List ℕ) → entries_by naming a.question.trace ≡ trace_told (new naming)
-    again naming = ap (entries_by naming) i ∙ r naming ∙ ap (λ (d : Posed). trace_told (told_for naming (site_at s row p d.own) d)) (sym e)
+    again naming = ap (entries_by naming) i ∙ r naming ∙ ap (λ (d : Posed). trace_told (told_for naming (site_at s t row p d.own) d)) (sym e)
 
     same : (naming : ℕ → List ℕ) → (old naming).answer ≡ (new naming).answer
     same naming =
-        told_choice (asking_at (site_at h.system h.row h.place b.own)) (asking_at (site_at s row p b.own)) b.key
+        told_choice (asking_at (site_at h.system h.level h.row h.place b.own)) (asking_at (site_at s t row p b.own)) b.key
         (way (level_by naming h.row) h.place) (way (level_by naming row) p) (items_from (level_by naming h.row) (h.place + 1)) (items_from (level_by naming row) (p + 1)) b.bodies refl
         (sym (h.answer.told.trace naming) ∙ again naming)
 
@@ -153,7 +153,7 @@ counts_err T U n old new x y r e i h = subst (Counts n old new) (sym i) (by r (s
 pub counts_late : (T U : Type 0) (n old new : ℕ) (x : Result T AskRefusal) (y : Result U AskRefusal) (a : T) → x ≡ Ok a → y ≡ Err Memory → Counts n old new x → Counts n old new y
 counts_late T U n old new x y a e i h = let k = counts_ok T n old new x a e h in subst (Counts n old new) (sym i) (omega (arith, k), omega (arith, k))
 
-module _ (q : CodePosed) (s : System) (t : ℕ) (row row' : List Spotted) (p : ℕ) (e : row' ≡ row) (sys : map module_name q.ignored.now ≡ s.ignored) (posed : IsPosedAt s t row' p (posed_by q)) where
+module _ (q : CodePosed) (s : System) (t : ℕ) (row row' : List Spotted) (p : ℕ) (e : row' ≡ row) (sys : filter_of q.filter ≡ filter s t) (posed : IsPosedAt s t row' p (posed_by q)) where
   abbrev d : Posed
   d = posed_by q
 
@@ -163,8 +163,8 @@ module _ (q : CodePosed) (s : System) (t : ℕ) (row row' : List Spotted) (p : �
   posed_here : IsPosedAt s t row p d
   posed_here = subst (λ row. IsPosedAt s t row p d) e posed
 
-  heard_is : (naming : ℕ → List ℕ) → heard naming ≡ told_for naming (site_at s row p d.own) d
-  heard_is naming = λ i. told_for naming (record { row = e i; place = p; own = d.own; ignored = sys i }) d
+  heard_is : (naming : ℕ → List ℕ) → heard naming ≡ told_for naming (site_at s t row p d.own) d
+  heard_is naming = λ i. told_for naming (record { row = e i; place = p; own = d.own; filter = sys i }) d
 
   pub few_read : (r : Reply) → IsAnswerTo heard (answer_of d r) → length r.trace ≤ most_entries + 1
   few_read r h =
@@ -173,7 +173,7 @@ module _ (q : CodePosed) (s : System) (t : ℕ) (row row' : List Spotted) (p : �
       let m = sym (length-map r.trace (entry_by naming)) ∙ ap length (h.trace naming) in
       omega (arith, n, m)
 
-  answers : (a : TagAnswer) → IsAnswerTo heard a → IsAnswerTo (λ naming. told_for naming (site_at s row p d.own) d) a
+  answers : (a : TagAnswer) → IsAnswerTo heard a → IsAnswerTo (λ naming. told_for naming (site_at s t row p d.own) d) a
   answers a h = record {
     trace = λ naming. h.trace naming ∙ ap trace_told (heard_is naming);
     chosen = λ naming. ap (λ (u : Told Choice). place_chosen u.answer) (sym (heard_is naming)) ∙ h.chosen naming;
@@ -194,10 +194,10 @@ module _ (q : CodePosed) (s : System) (t : ℕ) (row row' : List Spotted) (p : �
     pub failed : (L : Type 0) (store : Store) (old : Option Kept) (was : Option (List Noted)) (r : AskRefusal) (x : Result (Asked L) AskRefusal) → x ≡ Err r → IsTelling heard d was (Err r) → IsAnswered naming meaning store old x
     failed L store old was r x e h = subst (IsAnswered naming meaning store old) (sym e) (failed_by L store old was r h)
 
-    answered : (a : TagAnswer) → a.question.posed ≡ d → IsAnswerTo (λ naming. told_for naming (site_at s row p d.own) d) a → IsAnswer naming meaning a
+    answered : (a : TagAnswer) → a.question.posed ≡ d → IsAnswerTo (λ naming. told_for naming (site_at s t row p d.own) d) a → IsAnswer naming meaning a
     answered a e =
         let G : Posed → Type 0 = (λ x. let b : TagAnswer = record { question = record { posed = x; trace = a.question.trace }; chosen = a.chosen; successor = a.successor } in
-        IsAnswerTo (λ naming. told_for naming (site_at s row p d.own) d) b → IsAnswer naming meaning b) in
+        IsAnswerTo (λ naming. told_for naming (site_at s t row p d.own) d) b → IsAnswer naming meaning b) in
         subst G (sym e) (answer_here s t row p d posed_here naming tag m w a.question.trace a.chosen a.successor)
 
     pub new_answer : (r : Reply) (before after : Store) (a : Kept) → IsAnswerTo heard (answer_of d r) → IsKept before after (answer_of d r) a → IsAnswer naming meaning (answer_in after a)
@@ -211,7 +211,7 @@ module _ (q : CodePosed) (s : System) (t : ℕ) (row row' : List Spotted) (p : �
     old_answer store (Some a) (Some was) v made k read i h =
         let b : TagAnswer = answer_in store a in
         let f : b.question.posed ≡ d = posed_same b.question.posed d (posed_named made.sound.system made.sound.level made.sound.row made.sound.place b.question.posed made.sound.spelled made.sound.answer.posed) (posed_named s t row p d v posed_here) k.1 in
-        answered b f (answer_again s row p d read b made.sound f (k.0 ∙ same_Some was read i) (λ naming. h naming ∙ ap trace_told (heard_is naming)))
+        answered b f (answer_again s t row p d read b made.sound f (k.0 ∙ same_Some was read i) (λ naming. h naming ∙ ap trace_told (heard_is naming)))
 
   pub new_one : (v : WellSpelled s) (r : Reply) (before after : Store) (old : Option Kept) (was : Option (List Noted)) (a : Kept) → IsTraceFor before old d was → (was ≡ Some r.trace → ⊥) → IsAnswerTo heard (answer_of d r) → IsKept before after (answer_of d r) a
       → IsNew before after old a

@@ -1,5 +1,5 @@
 -- A rule is tried.
-use Rattle.std.proofs.Common.{map, subst, ◌≡◌, ℕ, ℤ, false, List, ◌++◌, ◌+◌, ◌≤◌, length, take, ap, sym, ◌∙◌, arith, length-append, if◌then◌else◌, nat_lt}
+use Rattle.std.proofs.Common.{subst, ◌≡◌, ℕ, ℤ, false, List, ◌++◌, ◌+◌, ◌≤◌, length, take, ap, sym, ◌∙◌, arith, length-append, if◌then◌else◌, nat_lt}
 use Rattle.std.proofs.lemmas.Bool.{le-ltb, lt-ltb}
 use Rattle.std.proofs.lemmas.List.{take_all, length-map}
 use Rattle.lsys_spec.specs.Bodies.{Body}
@@ -12,8 +12,9 @@ use Rattle.lsys_walks.specs.declared.walked.Walked.TheVariants as walked
 use Rattle.lsys_walks.specs.Walked.{Walks, AreKept}
 use Rattle.lsys_spec.specs.Levels.{way, items_from}
 use Rattle.lsys_spec.specs.Choice.{contexts}
-use Rattle.lsys_spec.specs.Meaning.{ignores}
-use Rattle.lsys_module.specs.Views.{module_name}
+use Rattle.lsys_spec.specs.Meaning.{ignored_by}
+use Rattle.lsys_bodies.specs.declared.filter.Filter.{Filter}
+use Rattle.lsys_bodies.specs.Filters.{filter_of}
 use Rattle.lsys_level.specs.Spots.{Spotted, level_by}
 use Rattle.lsys_walks.specs.Noted.{Noted, entry_by}
 use Rattle.lsys_walks.specs.Views.{module_of}
@@ -57,10 +58,10 @@ pub yes_few : (t : Told Found) (d : Tried) (b : Body) (old new : List Entry) (va
 yes_few t d b old new values o e h = (subst (λ o. MayGoOn (outcome_by o values) t old new) e h.all).1
 
 -- at a site with these parts
-module _ (s : Site) (row : List Spotted) (p : ℕ) (name : List ℕ) (params : List ℤ) (ignored : List (List ℕ)) (place : ℕ) (b : Body) (old new : List Noted) (naming : ℕ → List ℕ)
-    (e : s ≡ record { row = row; place = p; own = module_of name params; ignored = map module_name ignored }) where
+module _ (s : Site) (row : List Spotted) (p : ℕ) (name : List ℕ) (params : List ℤ) (filter : Filter) (place : ℕ) (b : Body) (old new : List Noted) (naming : ℕ → List ℕ)
+    (e : s ≡ record { row = row; place = p; own = module_of name params; filter = filter_of filter }) where
   abbrev pub told_there : Told Found
-  told_there = contexts (ignores (map module_name ignored)) (record { rule = place; depth = 0 }) b (module_of name params) (way (level_by naming row) p) (items_from (level_by naming row) (p + 1))
+  told_there = contexts (ignored_by (filter_of filter)) (record { rule = place; depth = 0 }) b (module_of name params) (way (level_by naming row) p) (items_from (level_by naming row) (p + 1))
 
   pub tried_there : (bound : List ℤ) (w : Walked) (o : Outcome) → o ≡ decided_by w b bound → Walks most_entries told_there (entries_by naming old) (entries_by naming new) (AreKept bound) w
       → IsTried (rule_told naming s (tried_so_far place old) b) (tried_so_far place old) b (entries_by naming old) (entries_by naming new) o

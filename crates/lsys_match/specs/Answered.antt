@@ -30,7 +30,7 @@ pub record IsAnswerTo (told : (ℕ → List ℕ) → Told choice.Choice) (a : Ta
 -- the answer to the question of the module at place p of level t
 pub record IsAnswerAt (s : System) (t : ℕ) (row : List Spotted) (p : ℕ) (a : TagAnswer) : Type 0 where
   pub posed : IsPosedAt s t row p a.question.posed
-  pub told : IsAnswerTo (λ naming. told_for naming (site_at s row p a.question.posed.own) a.question.posed) a
+  pub told : IsAnswerTo (λ naming. told_for naming (site_at s t row p a.question.posed.own) a.question.posed) a
 
 -- some well-spelled system answers so to the question of a module of some level
 pub record IsSound (a : TagAnswer) : Type 0 where

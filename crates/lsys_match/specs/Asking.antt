@@ -1,11 +1,11 @@
 -- What is asked of the module at a place of a level.
-use Rattle.std.specs.Prelude.{◌≡◌, ℕ, List, [], Some, length, map, slice_get}
+use Rattle.std.specs.Prelude.{◌≡◌, ℕ, List, [], Some, length, slice_get}
 use Rattle.lsys_spec.specs.Systems.{System}
-use Rattle.lsys_spec.specs.Bodies.{group}
+use Rattle.lsys_spec.specs.Bodies.{group, filter}
 use Rattle.lsys_spec.specs.Levels.{ModuleValue}
 use Rattle.lsys_spec.specs.Walks.{Told}
 use Rattle.lsys_spec.specs.Choice.{Choice}
-use Rattle.lsys_module.specs.Views.{module_name}
+use Rattle.lsys_bodies.specs.Filters.{filter_of}
 use Rattle.lsys_level.specs.Spots.{Spotted, Module}
 use Rattle.lsys_walks.specs.Views.{module_of}
 use Rattle.lsys_match.specs.declared.posed.Posed.{Posed as CodePosed}
@@ -34,11 +34,12 @@ pub record IsPosedAt (s : System) (t : ℕ) (row : List Spotted) (p : ℕ) (d : 
 abbrev pub posed_by : CodePosed → Posed
 posed_by q = record { tag = q.tag; own = module_of q.name q.params.now; bodies = rules_of q.group; key = q.key }
 
-abbrev pub site_at : System → List Spotted → ℕ → ModuleValue → Site
-site_at s row p m = record { row = row; place = p; own = m; ignored = s.ignored }
+-- of the module m at place p of level t
+abbrev pub site_at : System → ℕ → List Spotted → ℕ → ModuleValue → Site
+site_at s t row p m = record { row = row; place = p; own = m; filter = filter s t }
 
 abbrev pub site_of : CodePosed → List Spotted → ℕ → Site
-site_of q row p = record { row = row; place = p; own = (posed_by q).own; ignored = map module_name q.ignored.now }
+site_of q row p = record { row = row; place = p; own = (posed_by q).own; filter = filter_of q.filter }
 
 -- where a naming tells the lineages: what is read for it, and which rule is chosen
 abbrev pub told_for : (ℕ → List ℕ) → Site → Posed → Told Choice

@@ -35,7 +35,7 @@ pub record ByDefinition : Type 0 where
 abbrev pub by_definition : System → ℕ → List L.Symbol → ℕ → List ℕ → ModuleValue → ByDefinition
 by_definition s t x p l m =
     let bs = group s t m.name (length m.params) in
-    record { question = question s t bs x p l m; choice = (asked s bs x p l m).answer; successor = successor s t x p l m }
+    record { question = question s t bs x p l m; choice = (asked s t bs x p l m).answer; successor = successor s t x p l m }
 
 -- By this naming of the tags the module m stands at place p, with this tag, and with the key that its lineage has by the seed.
 pub record IsNamedAt (naming : ℕ → List ℕ) (seed : ℕ) (row : List Spotted) (p tag : ℕ) (m : ModuleValue) : Type 0 where

@@ -1,22 +1,21 @@
 -- What is asked, at a place of a level.
 use Rattle.std.specs.Prelude.{ℕ, ◌+◌, List, Option, Result}
-use Rattle.lsys_syntax.specs.Strings.{ModuleName}
-use Rattle.lsys_spec.specs.Bodies.{Body}
+use Rattle.lsys_spec.specs.Bodies.{Body, Filter}
 use Rattle.lsys_spec.specs.Levels.{ModuleValue, way, items_from}
 use Rattle.lsys_spec.specs.Walks.{Told, Found}
 use Rattle.lsys_spec.specs.Choice.{Asking, Tried, Choice, Fault, Applying, next_contexts, first_applying, all_applying, choice}
-use Rattle.lsys_spec.specs.Meaning.{ignores, most_entries}
+use Rattle.lsys_spec.specs.Meaning.{ignored_by, most_entries}
 use Rattle.lsys_level.specs.Spots.{Spotted, level_by}
 
--- a module of a level, and the names that contexts pass over
+-- a module of a level, and the filter by which contexts pass over modules
 pub record Site : Type 0 where
   pub row : List Spotted
   pub place : ℕ
   pub own : ModuleValue
-  pub ignored : List ModuleName
+  pub filter : Filter
 
 abbrev pub asking_at : Site → Asking
-asking_at s = record { ignored = ignores s.ignored; most = most_entries; own = s.own }
+asking_at s = record { ignored = ignored_by s.filter; most = most_entries; own = s.own }
 
 -- where a naming tells the lineages: what the next rule of a group reads
 abbrev pub rule_told : (ℕ → List ℕ) → Site → Tried → Body → Told Found

@@ -1,7 +1,8 @@
 //! What is asked of a module, but for what is read.
-ghost use Rattle.std.specs.Prelude.{◌≡◌, ◌≤◌, length, map};
+ghost use Rattle.std.specs.Prelude.{◌≡◌, ◌≤◌, length};
 ghost use Rattle.lsys_laws.specs.Sessions.{IsWell};
-ghost use Rattle.lsys_module.specs.Views.{module_name};
+ghost use Rattle.lsys_spec.specs.Bodies.{filter};
+ghost use Rattle.lsys_bodies.specs.Filters.{filter_of};
 ghost use Rattle.lsys_level.specs.Spots.{IsSpot, level_at};
 ghost use Rattle.lsys_walks.specs.Views.{module_of};
 ghost use Rattle.lsys_match.specs.Groups.{rules_of};
@@ -10,6 +11,7 @@ ghost use Rattle.lsys_match.specs.Telling.{IsSuccessor};
 
 use crate::group::Group;
 use crate::refusal::AskRefusal;
+use lsys_bodies::Filter;
 use lsys_level::{LevelView, Sight, Tag};
 use lsys_module::{Module, Params, Symbol, SymbolList};
 use lsys_rewrite::fill_into;
@@ -18,7 +20,7 @@ use lsys_text::Name;
 use std::alloc::Global;
 
 /// A question but for its trace: the module with its tag, its group, and its key where the group has weights; and the
-/// names that contexts pass over.
+/// filter of its level.
 #[derive(Drop)]
 pub(crate) struct Posed<'a> {
     pub(crate) tag: Tag,
@@ -26,7 +28,7 @@ pub(crate) struct Posed<'a> {
     pub(crate) params: &'a [i64],
     pub(crate) group: Group<'a>,
     pub(crate) key: Option<u64>,
-    pub(crate) ignored: &'a [Name],
+    pub(crate) filter: Filter<'a>,
 }
 
 impl<'a> Posed<'a> {
@@ -42,7 +44,7 @@ impl<'a> Posed<'a> {
             IsModuleAt x (W.place_of view.now spot) }
         ensures posed { let x = level_at (W.levels view.now) (W.level_of view.now spot) in
             IsPosedAt system.now level x (W.place_of view.now spot) (posed_by result) }
-        ensures ignored { map module_name result.ignored.now ≡ system.now.ignored }
+        ensures filter { filter_of result.filter ≡ filter system.now level }
         ensures well { IsWell system.now }
         ensures few { length result.params.now ≤ 8 }
     {
@@ -61,7 +63,7 @@ impl<'a> Posed<'a> {
             params,
             group,
             key,
-            ignored: system.ignored(),
+            filter: system.filter(level),
         }
     }
 

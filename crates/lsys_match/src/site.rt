@@ -1,6 +1,6 @@
 //! A module, with what stands around it.
-ghost use Rattle.std.specs.Prelude.{◌≡◌, ◌+◌, ◌≤◌, [], length, map, Some, None, Ok, IfOk, OnErr};
-ghost use Rattle.lsys_module.specs.Views.{module_name};
+ghost use Rattle.std.specs.Prelude.{◌≡◌, ◌+◌, ◌≤◌, [], length, Some, None, Ok, IfOk, OnErr};
+ghost use Rattle.lsys_bodies.specs.Filters.{filter_of};
 ghost use Rattle.lsys_level.specs.Spots.{IsSpot, level_at};
 ghost use Rattle.lsys_walks.specs.Views.{module_of};
 ghost use Rattle.lsys_spec.specs.Meaning.{most_entries};
@@ -15,7 +15,7 @@ use crate::choice::Choice;
 use crate::found::Found;
 use crate::group::Group;
 use crate::outcome::{Outcome, judge};
-use lsys_bodies::{Body, SharedBody};
+use lsys_bodies::{Body, Filter, SharedBody};
 use lsys_level::LevelView;
 use lsys_rewrite::FaultKind;
 use lsys_text::Name;
@@ -24,20 +24,19 @@ use std::alloc::{AllocError, Global};
 use std::marker::Model;
 use std::sync::ledger::Ledger;
 
-/// A module of a level, and the names that contexts pass over.
+/// A module of a level, and the filter by which contexts pass over modules.
 #[derive(Drop)]
 pub struct Site<'a, W: LevelView> {
     view: &'a W,
     spot: W::Spot,
     name: Name,
     params: &'a [i64],
-    ignored: &'a [Name],
+    filter: Filter<'a>,
 }
 
 impl<'a, W: LevelView> Model for Site<'a, W> {
-    ghost use Rattle.std.specs.Prelude.{map};
-    ghost use Rattle.lsys_module.specs.Views.{module_name};
     ghost use Rattle.lsys_level.specs.Spots.{IsSpot, level_at};
+    ghost use Rattle.lsys_bodies.specs.Filters.{filter_of};
     ghost use Rattle.lsys_walks.specs.Views.{module_of};
     ghost use Rattle.lsys_match.specs.Sites.{Site};
 
@@ -47,33 +46,33 @@ impl<'a, W: LevelView> Model for Site<'a, W> {
       row = level_at (W.levels a.view.now) (W.level_of a.view.now a.spot);
       place = W.place_of a.view.now a.spot;
       own = module_of a.name a.params.now;
-      ignored = map module_name a.ignored.now;
+      filter = filter_of a.filter;
     } };
 
     ghost invariant = { λ a. IsSpot (W.levels a.view.now) (W.level_of a.view.now a.spot) (W.place_of a.view.now a.spot) };
 }
 
 impl<'a, W: LevelView> Site<'a, W> {
-    /// A module with this name and these parameters at a spot of the view, and the names that contexts pass over.
+    /// A module with this name and these parameters at a spot of the view, and the filter of its level.
     pub fn new(
         view: &'a W,
         spot: W::Spot,
         name: Name,
         params: &'a [i64],
-        ignored: &'a [Name],
+        filter: Filter<'a>,
     ) -> Site<'a, W>
         requires { IsSpot (W.levels view.now) (W.level_of view.now spot) (W.place_of view.now spot) }
         ensures row { result.row ≡ level_at (W.levels view.now) (W.level_of view.now spot) }
         ensures place { result.place ≡ W.place_of view.now spot }
         ensures own { result.own ≡ module_of name params.now }
-        ensures ignored { result.ignored ≡ map module_name ignored.now }
+        ensures filter { result.filter ≡ filter_of filter.entry }
     {
         Site {
             view,
             spot,
             name,
             params,
-            ignored,
+            filter,
         }
     }
 
@@ -98,7 +97,7 @@ impl<'a, W: LevelView> Site<'a, W> {
             self.view,
             self.spot,
             self.params,
-            self.ignored,
+            self.filter,
             body,
             place,
             trace,

@@ -62,7 +62,7 @@ impl<'a> Posed<'a> {
             (naming : ℕ → List ℕ)
             → Counts (length (trace_told (told_for naming site (posed_by self.now)))) visited.old visited.new result }
     {
-        let site = Site::new(view, spot, self.name, self.params, self.ignored);
+        let site = Site::new(view, spot, self.name, self.params, self.filter);
         self.tell(alloc, &site, old, visited)
     }
 

@@ -1,5 +1,7 @@
 //! Modules and symbols.
+ghost use Rattle.std.specs.Prelude.{◌≡◌};
 ghost use Rattle.lsys_syntax.specs.Strings.{IsParam, IsSymbol};
+ghost use Rattle.lsys_spec.specs.Numbers.{code_of};
 ghost use Rattle.lsys_module.specs.Views.{symbol_of};
 
 use crate::params::Params;
@@ -23,6 +25,21 @@ pub enum Symbol {
     Cut,
     /// A module.
     Module(Module),
+}
+
+impl Symbol {
+    /// The code that symbols of one name have and no others: of a module the number of its name, of another symbol its
+    /// byte.
+    pub fn code(&self) -> u64
+        ensures { result ≡ code_of (symbol_of self.now) }
+    {
+        match self {
+            Symbol::Push => u64::from(b'['),
+            Symbol::Pop => u64::from(b']'),
+            Symbol::Cut => u64::from(b'%'),
+            Symbol::Module(module) => module.name.number(),
+        }
+    }
 }
 
 /// A law of symbols: each stands for a symbol of the language, since a module's name has the form of a name, and its

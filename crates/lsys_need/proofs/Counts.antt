@@ -9,7 +9,7 @@ use Rattle.lsys_spec.specs.Bodies.{Body, group}
 use Rattle.lsys_spec.specs.Levels.{Symbol, Push, Pop, Module, lineage}
 use Rattle.lsys_spec.specs.Questions.{Question, question, where_any, questions_from, questions_at, questions_below, questions, question_at, differs, is_needed, least_visits}
 use Rattle.lsys_spec.specs.Standings.{place_of}
-use Rattle.lsys_spec.specs.Cuts.{Rising}
+use Rattle.lsys_spec.specs.Cuts.{Distinct}
 use Rattle.lsys_need.specs.Kept.{places_in, where_grouped, questions_by_place, kept_questions, kept_at, unanswered, level_needs, needs_from}
 use Rattle.lsys_need.proofs.Lookups.{kept_there}
 
@@ -32,7 +32,7 @@ of_level olds kept x s t f y p (Module l m ∷ rest) =
     one olds bs (question s t bs y p l m) (questions_from s t y (p + 1) rest) (kept_at kept (place_of l x)) (map (kept_at kept) (places_in x rest)) (questions_by_place s t y (p + 1) rest) (f l)
     (of_level olds kept x s t f y (p + 1) rest)
 
-pub of_levels : (old new : System) (xs : List (List Symbol)) → Each Rising xs → (t : ℕ) (ys : List (List Symbol)) → filter (is_needed (questions old xs)) (questions_below new t ys) ≡ needs_from old new xs t ys
+pub of_levels : (old new : System) (xs : List (List Symbol)) → Each Distinct xs → (t : ℕ) (ys : List (List Symbol)) → filter (is_needed (questions old xs)) (questions_below new t ys) ≡ needs_from old new xs t ys
 of_levels old new xs h t [] = refl
 of_levels old new xs h t (y ∷ []) = refl
 of_levels old new xs h t (y ∷ z ∷ ys) =

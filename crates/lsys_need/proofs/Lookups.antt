@@ -8,7 +8,7 @@ use Rattle.lsys_spec.specs.Levels.{Symbol, Push, Pop, Module, lineage}
 use Rattle.lsys_spec.specs.Equalities.{same_lineage}
 use Rattle.lsys_spec.specs.Questions.{Question, question, where_any, questions_from, questions_at, questions_below, question_at}
 use Rattle.lsys_spec.specs.Standings.{first_or, place_of}
-use Rattle.lsys_spec.specs.Cuts.{Rising}
+use Rattle.lsys_spec.specs.Cuts.{Distinct}
 use Rattle.lsys_spec.proofs.Equal.{same_lineage_true}
 use Rattle.lsys_spec.proofs.Tests.{and_true}
 use Rattle.lsys_need.specs.Kept.{where_grouped, questions_by_place, level_questions, kept_from, kept_at, present}
@@ -48,11 +48,11 @@ elsewhere [] q qs t l f = refl
 elsewhere (b ∷ bs) q qs t l f = ap (λ c. cond c (Some q) (question_at t l qs)) (false_and (q.level == t) (same_lineage l (lineage q.own)) (not_same q.level t f))
 
 -- a lineage that stands first stands nowhere else
-gone : (u : Symbol) (x : List Symbol) (l : List ℕ) → Rising (u ∷ x) → same_lineage l (lineage u) ≡ true → place_of l x ≡ None
+gone : (u : Symbol) (x : List Symbol) (l : List ℕ) → Distinct (u ∷ x) → same_lineage l (lineage u) ≡ true → place_of l x ≡ None
 gone u x l h e = ap (λ l. place_of l x) (same_lineage_true l (lineage u) e) ∙ place_behind u x h
 
 -- a symbol without a question, and with one
-past : (u : Symbol) (rest : List Symbol) (l : List ℕ) (os : List (Option Question)) (r : Option Question) → Rising (u ∷ rest) → r ≡ kept_at os (place_of l rest)
+past : (u : Symbol) (rest : List Symbol) (l : List ℕ) (os : List (Option Question)) (r : Option Question) → Distinct (u ∷ rest) → r ≡ kept_at os (place_of l rest)
     → r ≡ kept_at (None ∷ os) (place_of l (u ∷ rest))
 past u rest l os r h e = by (same_lineage l (lineage u)) refl
   where
@@ -60,7 +60,7 @@ past u rest l os r h e = by (same_lineage l (lineage u)) refl
     by true k = rw k (e ∙ ap (kept_at os) (gone u rest l h k))
     by false k = rw k (e ∙ sym (later None os (place_of l rest)))
 
-here : (u : Symbol) (rest : List Symbol) (t : ℕ) (l : List ℕ) (os : List (Option Question)) (bs : List Body) (q : Question) (qs : List Question) → Rising (u ∷ rest) → q.level ≡ t → lineage q.own ≡ lineage u
+here : (u : Symbol) (rest : List Symbol) (t : ℕ) (l : List ℕ) (os : List (Option Question)) (bs : List Body) (q : Question) (qs : List Question) → Distinct (u ∷ rest) → q.level ≡ t → lineage q.own ≡ lineage u
     → question_at t l qs ≡ kept_at os (place_of l rest) → question_at t l (where_any bs q qs) ≡ kept_at (where_grouped bs q ∷ os) (place_of l (u ∷ rest))
 here u rest t l os bs q qs h f o e = by (same_lineage l (lineage u)) refl
   where
@@ -68,7 +68,7 @@ here u rest t l os bs q qs h f o e = by (same_lineage l (lineage u)) refl
     by true k = rw k (hit bs q qs t l f (ap (same_lineage l) o ∙ k) (e ∙ ap (kept_at os) (gone u rest l h k)))
     by false k = rw k (miss bs q qs t l (ap (same_lineage l) o ∙ k) ∙ e ∙ sym (later (where_grouped bs q) os (place_of l rest)))
 
-looked_up : (s : System) (t : ℕ) (x : List Symbol) (p : ℕ) (rest : List Symbol) → Rising rest → (l : List ℕ) → question_at t l (questions_from s t x p rest) ≡ kept_at (questions_by_place s t x p rest) (place_of l rest)
+looked_up : (s : System) (t : ℕ) (x : List Symbol) (p : ℕ) (rest : List Symbol) → Distinct rest → (l : List ℕ) → question_at t l (questions_from s t x p rest) ≡ kept_at (questions_by_place s t x p rest) (place_of l rest)
 looked_up s t x p [] h l = refl
 looked_up s t x p (Push k ∷ rest) h l = past (Push k) rest l (questions_by_place s t x (p + 1) rest) (question_at t l (questions_from s t x (p + 1) rest)) h (looked_up s t x (p + 1) rest h.1 l)
 looked_up s t x p (Pop k ∷ rest) h l = past (Pop k) rest l (questions_by_place s t x (p + 1) rest) (question_at t l (questions_from s t x (p + 1) rest)) h (looked_up s t x (p + 1) rest h.1 l)
@@ -137,7 +137,7 @@ past_levels s n t (x ∷ y ∷ levels) l h =
     ∙ none_then _ _ (other_level s n t x 0 x l (λ e. omega (arith, h, e))) ∙ past_levels s (n + 1) t (y ∷ levels) l (omega (arith, h))
 
 -- what is kept of the level i places behind level n
-pub kept_there : (s : System) (n t : ℕ) (levels : List (List Symbol)) (i : ℕ) (l : List ℕ) → n + i ≡ t → Each Rising levels
+pub kept_there : (s : System) (n t : ℕ) (levels : List (List Symbol)) (i : ℕ) (l : List ℕ) → n + i ≡ t → Each Distinct levels
     → question_at t l (questions_below s n levels) ≡ kept_at (kept_from s n levels i) (place_of l (get_or levels i []))
 kept_there s n t [] i l e h = sym (nothing_kept (place_of l (get_or [] i [])))
 kept_there s n t (x ∷ []) i l e h = sym (nothing_kept (place_of l (get_or (x ∷ []) i [])))

@@ -3,8 +3,8 @@ use Rattle.std.proofs.Common.{◌≡◌, ℕ, zero, suc, ◌<◌, Option, Some, 
 use Rattle.std.specs.Prelude.{slice_get}
 use Rattle.lsys_spec.specs.Levels.{Symbol, lineage}
 use Rattle.lsys_spec.specs.Standings.{place_of}
-use Rattle.lsys_spec.specs.Cuts.{Before, BeforeAll, Rising}
-use Rattle.lsys_spec.proofs.Rising.{rising_apart}
+use Rattle.lsys_spec.specs.Cuts.{Before, BeforeAll, Rising, Distinct}
+use Rattle.lsys_spec.proofs.Rising.{distinct_apart}
 use Rattle.lsys_spec.proofs.Standings.{place_told, place_found}
 
 pub before_sibling : (a : List ℕ) (i j : ℕ) → i < j → Before (a ++ i ∷ []) (a ++ j ∷ [])
@@ -59,12 +59,12 @@ place_none x l f = by (place_of l x) refl
     by None e = e
     by (Some p) e = let r = place_told l x p e in absurd (f p r.0 r.1 r.2)
 
-pub place_is : (x : List Symbol) → Rising x → (p : ℕ) (s : Symbol) (l : List ℕ) → slice_get x p ≡ Some s → lineage s ≡ l → place_of l x ≡ Some p
+pub place_is : (x : List Symbol) → Distinct x → (p : ℕ) (s : Symbol) (l : List ℕ) → slice_get x p ≡ Some s → lineage s ≡ l → place_of l x ≡ Some p
 place_is x h p s l g e =
     let f = place_found l x p s g e in
     let t = place_told l x f.0 f.1 in
-    f.1 ∙ ap (λ q. Some q) (rising_apart x h f.0 p t.0 s t.1 g (t.2 ∙ sym e))
+    f.1 ∙ ap (λ q. Some q) (distinct_apart x h f.0 p t.0 s t.1 g (t.2 ∙ sym e))
 
 -- the lineage of the first symbol stands nowhere else
-pub place_behind : (u : Symbol) (x : List Symbol) → Rising (u ∷ x) → place_of (lineage u) x ≡ None
-place_behind u x h = place_none x (lineage u) (λ p s g e. let n : zero ≡ suc p = rising_apart (u ∷ x) h zero (suc p) u s refl g (sym e) in cc)
+pub place_behind : (u : Symbol) (x : List Symbol) → Distinct (u ∷ x) → place_of (lineage u) x ≡ None
+place_behind u x h = place_none x (lineage u) (λ p s g e. let n : zero ≡ suc p = distinct_apart (u ∷ x) h zero (suc p) u s refl g (sym e) in cc)

@@ -1,6 +1,8 @@
 -- A level that is being made, symbol by symbol of the level before it.
 use Rattle.std.specs.Prelude.{◌≡◌, ◌<◌, ◌≤◌, ◌+◌, ◌++◌, ◌==◌, ℕ, Bool, true, false, Option, Some, None, List, [], ◌∷◌, length, map, if◌then◌else◌}
+use Rattle.lsys_syntax.specs.Commands.{Numbering}
 use Rattle.lsys_spec.specs.Draws.{child_key_of, key_of}
+use Rattle.lsys_spec.specs.Numbers.{code_of}
 use Rattle.lsys_spec.specs.Levels as L
 use Rattle.lsys_spec.specs.Levels.{lineage, plain}
 use Rattle.lsys_spec.specs.Cuts.{Raw, cut}
@@ -8,7 +10,8 @@ use Rattle.lsys_module.specs.Views.{symbol_of, string_of}
 use Rattle.lsys_module.specs.declared.symbol.Symbol.{Symbol}
 use Rattle.lsys_rewrite.specs.Cutting.{raw_plain, stays, cutting_behind}
 use Rattle.lsys_pairing.specs.declared.origin.Origin.{Origin}
-use Rattle.lsys_pairing.specs.Origins.{AreChildren}
+use Rattle.lsys_pairing.specs.Origins.{number_of, AreChildren}
+use Rattle.lsys_offspring.specs.Counts.{origin_at}
 use Rattle.lsys_offspring.specs.declared.level.Level.{Level}
 
 -- 1. by symbols
@@ -25,9 +28,17 @@ pub record Grown : Type 0 where
 abbrev pub nothing_grown : ℕ → Grown
 nothing_grown room = record { symbols = []; origins = []; keys = []; parents = 0; cutting = None; room = room; fits = true }
 
+-- by a numbering
+pub record Making : Type 0 where
+  pub numbering : Numbering
+  pub grown : Grown
+
+abbrev pub nothing_made : Numbering → ℕ → Making
+nothing_made g room = record { numbering = g; grown = nothing_grown room }
+
 -- one symbol more, of an origin, whose parent has this key
 abbrev pub with_symbol : Origin → ℕ → Symbol → Grown → Grown
-with_symbol o key s g = record g { symbols = g.symbols ++ s ∷ []; origins = g.origins ++ o ∷ []; keys = g.keys ++ child_key_of key o.number ∷ [] }
+with_symbol o key s g = record g { symbols = g.symbols ++ s ∷ []; origins = g.origins ++ o ∷ []; keys = g.keys ++ child_key_of key (number_of o) ∷ [] }
 
 abbrev pub where_room : Origin → ℕ → Symbol → Grown → Grown
 where_room o key s g = if length g.symbols == g.room then record g { fits = false } else with_symbol o key s g
@@ -38,10 +49,11 @@ with_child o key s g =
     let behind = record g { cutting = cutting_behind g.cutting (symbol_of s) } in
     if g.fits then (if stays g.cutting (symbol_of s) then where_room o key s behind else behind) else g
 
--- children more of the symbol at a place, numbered from n on
-abbrev pub with_children : ℕ → ℕ → ℕ → List Symbol → Grown → Grown
-with_children parent key n [] g = g
-with_children parent key n (s ∷ ss) g = with_children parent key (n + 1) ss (with_child (record { parent = parent; number = n }) key s g)
+-- children more of the symbol at a place, behind n of them that have these codes
+abbrev pub with_children : Numbering → ℕ → ℕ → ℕ → List ℕ → List Symbol → Grown → Grown
+with_children g parent key n before [] made = made
+with_children g parent key n before (s ∷ ss) made =
+    let code = code_of (symbol_of s) in with_children g parent key (n + 1) (code ∷ before) ss (with_child (origin_at g parent n before code) key s made)
 
 -- 2. by the definitions
 

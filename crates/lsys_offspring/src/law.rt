@@ -6,7 +6,7 @@ ghost use Rattle.lsys_spec.specs.Systems.{System, WellFormed};
 ghost use Rattle.lsys_spec.specs.Levels.{Symbol, lineage};
 ghost use Rattle.lsys_spec.specs.Choice.{Fault};
 ghost use Rattle.lsys_spec.specs.Cuts.{Raw, cut};
-ghost use Rattle.lsys_spec.specs.Meaning.{numbered, LevelRefusal, OverLimit, FaultAt, first_level, next_level, last_level, meaning_to, meaning};
+ghost use Rattle.lsys_spec.specs.Meaning.{children, LevelRefusal, OverLimit, FaultAt, first_level, next_level, last_level, meaning_to, meaning};
 ghost use Rattle.lsys_offspring.specs.Steps.{replacement, counted, AreReplaced};
 
 /// A derivation step goes symbol by symbol: each is replaced by its children, the first fault is that of the level, with
@@ -15,7 +15,7 @@ pub fn law_of_next_levels()
     ensures begins { (s : System) (t : ℕ) (x : List Symbol) → AreReplaced s t x 0 0 [] }
     ensures goes_on { (s : System) (t : ℕ) (x : List Symbol) (p n : ℕ) (raw : List Raw) (a : Symbol) (ys : List (strings.Symbol ℤ))
         → AreReplaced s t x p n raw → slice_get x p ≡ Some a → replacement s t x p a ≡ Ok ys
-        → AreReplaced s t x (p + 1) (counted a n) (raw ++ numbered 0 (lineage a) ys) }
+        → AreReplaced s t x (p + 1) (counted a n) (raw ++ children s.numbering (lineage a) ys) }
     ensures fault { (s : System) (t : ℕ) (x : List Symbol) (p n : ℕ) (raw : List Raw) (a : Symbol) (k : Fault)
         → AreReplaced s t x p n raw → slice_get x p ≡ Some a → replacement s t x p a ≡ Err k
         → next_level s t x ≡ Err (FaultAt k t (n + 1)) }

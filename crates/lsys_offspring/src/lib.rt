@@ -6,7 +6,9 @@
 
 mod law;
 mod level;
+mod made;
 mod next;
+mod numbers;
 
 pub use law::{law_of_meanings, law_of_next_levels, law_of_short_strings};
 pub use level::Level;

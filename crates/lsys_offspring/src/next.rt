@@ -1,72 +1,51 @@
 //! The level that is being made of the one before it.
-ghost use Rattle.std.specs.Prelude.{◌≡◌, ◌+◌, ◌*◌, ◌<◌, ◌≤◌, ◌^◌, ◌++◌, ℕ, List, [], length, IfSome, OnOk, Some, slice_get};
-ghost use Rattle.lsys_spec.specs.Draws.{key_of};
+ghost use Rattle.std.specs.Prelude.{◌≡◌, ◌+◌, ◌<◌, ◌≤◌, ◌^◌, ◌++◌, ℕ, List, length, OnOk, Some, slice_get};
+ghost use Rattle.lsys_spec.specs.Draws.{number_base, key_of};
 ghost use Rattle.lsys_spec.specs.Levels as levels;
 ghost use Rattle.lsys_spec.specs.Levels.{lineage};
 ghost use Rattle.lsys_spec.specs.Cuts.{Raw};
-ghost use Rattle.lsys_spec.specs.Meaning.{numbered};
+ghost use Rattle.lsys_spec.specs.Meaning.{children};
 ghost use Rattle.lsys_module.specs.Views.{string_of};
-ghost use Rattle.lsys_offspring.specs.Grown.{nothing_grown, with_child, with_children, IsGrown, IsMade};
+ghost use Rattle.lsys_reading.specs.Commands.{numbering_of};
+ghost use Rattle.lsys_offspring.specs.Grown.{nothing_made, IsGrown, IsMade};
 
 use crate::level::Level;
-use lsys_draw::child_key;
-use lsys_module::{Symbol, SymbolList};
-use lsys_pairing::Origin;
-use lsys_rewrite::{cutting_behind, stays};
+use crate::made::Made;
+use crate::numbers::Numbers;
+use lsys_module::Symbol;
+use lsys_reading::Numbering;
 use std::alloc::{AllocError, Global};
 use std::marker::Model;
 
 /// The level behind a level, as far as the symbols of this one were replaced.
 #[derive(Drop)]
 pub struct NextLevel {
-    symbols: SymbolList,
-    origins: Vec<Origin>,
-    keys: Vec<u64>,
-    // how many symbols were replaced
-    parents: u32,
-    // Where a branch is being cut off, how many others are open in it.
-    cutting: Option<usize>,
-    // how many symbols the level may have
-    room: usize,
-    fits: bool,
+    numbers: Numbers,
+    made: Made,
 }
 
 impl Model for NextLevel {
-    ghost use Rattle.std.specs.Prelude.{◌≤◌, ◌*◌, ◌^◌, IfSome};
-    ghost use Rattle.lsys_offspring.specs.Grown.{Grown};
+    ghost use Rattle.lsys_reading.specs.Commands.{numbering_of};
+    ghost use Rattle.lsys_offspring.specs.Grown.{Making};
 
-    ghost Value = { Grown };
+    ghost Value = { Making };
 
-    ghost view = { λ a. record {
-      symbols = a.symbols;
-      origins = a.origins.items;
-      keys = a.keys.items;
-      parents = a.parents;
-      cutting = a.cutting;
-      room = a.room;
-      fits = a.fits;
-    } };
-
-    ghost invariant = { λ a. IfSome a.cutting (λ branches. branches ≤ a.parents * 2 ^ 32) };
+    ghost view = { λ a. record { numbering = numbering_of a.numbers.numbering; grown = a.made } };
 }
 
 impl NextLevel {
     /// No symbol was replaced yet. The level may have `room` symbols. Takes no memory.
-    pub fn new(alloc: Global, room: usize) -> NextLevel
-        ensures { result ≡ nothing_grown room }
+    pub fn new(alloc: Global, numbering: Numbering, room: usize) -> NextLevel
+        ensures { result ≡ nothing_made (numbering_of numbering) room }
     {
         NextLevel {
-            symbols: SymbolList::new(alloc),
-            origins: Vec::new(alloc),
-            keys: Vec::new(alloc),
-            parents: 0,
-            cutting: None,
-            room,
-            fits: true,
+            numbers: Numbers::new(alloc, numbering),
+            made: Made::new(alloc, room),
         }
     }
 
-    /// Adds what replaces the next symbol of the level before, which has this key: as its children, numbered from 0.
+    /// Adds what replaces the next symbol of the level before, which has this key: as its children, by their places or by
+    /// their names.
     ///
     /// Level 0 is what replaces one symbol whose key is the seed by the axiom.
     ///
@@ -74,68 +53,25 @@ impl NextLevel {
     ///
     /// Want of memory. The level is of no use then.
     pub fn add_children(&mut self, key: u64, successor: &[Symbol]) -> Result<(), AllocError>
-        requires parents { self.old.parents + 1 < 2 ^ 32 }
-        requires few { length successor.now < 2 ^ 32 }
+        requires parents { self.old.grown.parents + 1 < 2 ^ 32 }
+        requires few { length successor.now ≤ number_base }
         ensures added { OnOk result ((seed : ℕ) (above : List levels.Symbol) (raw : List Raw) (parent : levels.Symbol)
-            → IsGrown seed above raw self.old → slice_get above self.old.parents ≡ Some parent
+            → IsGrown seed above raw self.old.grown → slice_get above self.old.grown.parents ≡ Some parent
             → key ≡ key_of seed (lineage parent)
-            → IsGrown seed above (raw ++ numbered 0 (lineage parent) (string_of successor.now)) self.new) }
-        ensures parents { OnOk result (self.new.parents ≡ self.old.parents + 1) }
-        ensures room { OnOk result (self.new.room ≡ self.old.room) }
+            → IsGrown seed above (raw ++ children self.old.numbering (lineage parent) (string_of successor.now)) self.new.grown) }
+        ensures parents { OnOk result (self.new.grown.parents ≡ self.old.grown.parents + 1) }
+        ensures room { OnOk result (self.new.grown.room ≡ self.old.grown.room) }
+        ensures numbering { OnOk result (self.new.numbering ≡ self.old.numbering) }
     {
-        let parent = self.parents;
-        self.parents += 1;
-        for (number, symbol) in successor.iter().enumerate() {
-            self.add_child(
-                Origin {
-                    parent,
-                    number: number as u32,
-                },
-                key,
-                symbol,
-            )?;
-        }
-        Ok(())
-    }
-
-    // Adds the child of that number of a symbol with this key, unless it is cut off or has no room.
-    fn add_child(&mut self, origin: Origin, key: u64, symbol: &Symbol) -> Result<(), AllocError>
-        requires { IfSome self.old.cutting (λ branches. branches < self.old.parents * 2 ^ 32) }
-        ensures added { OnOk result (self.new ≡ with_child origin key symbol.now self.old) }
-        ensures parents { self.new.parents ≡ self.old.parents }
-        ensures room { self.new.room ≡ self.old.room }
-    {
-        if !self.fits {
-            return Ok(());
-        }
-        let is_kept = stays(self.cutting, symbol);
-        self.cutting = cutting_behind(self.cutting, symbol);
-        if !is_kept {
-            return Ok(());
-        }
-        if self.symbols.len() == self.room {
-            self.fits = false;
-            return Ok(());
-        }
-        self.symbols.push(*symbol)?;
-        self.origins.push(origin)?;
-        self.keys.push(child_key(key, origin.number))?;
-        Ok(())
+        self.made.add_children(&mut self.numbers, key, successor)
     }
 
     /// The level, where it has room.
     pub fn finish(self) -> Option<Level>
         ensures { (seed : ℕ) (above : List levels.Symbol) (raw : List Raw)
-            → IsGrown seed above raw self
-            → IsMade seed above raw self.room result }
+            → IsGrown seed above raw self.grown
+            → IsMade seed above raw self.grown.room result }
     {
-        if !self.fits {
-            return None;
-        }
-        Some(Level {
-            symbols: self.symbols,
-            origins: self.origins,
-            keys: self.keys,
-        })
+        self.made.finish()
     }
 }

@@ -4,9 +4,10 @@ use Rattle.std.specs.Prelude.{slice_get}
 use Rattle.lsys_spec.specs.Systems.{Each}
 use Rattle.lsys_spec.specs.Levels.{Symbol, lineage}
 use Rattle.lsys_spec.specs.Standings.{place_of}
-use Rattle.lsys_spec.specs.Cuts.{BeforeAll, Rising}
+use Rattle.lsys_spec.specs.Cuts.{Distinct, WithAll}
 use Rattle.lsys_need.specs.Kept.{places_in}
-use Rattle.lsys_need.proofs.Orders.{never_before_itself, place_is}
+use Rattle.lsys_need.proofs.Orders.{place_is}
+use Rattle.lsys_spec.proofs.Rising.{Unlike}
 use Rattle.lsys_spec.proofs.Standings.{place_told}
 use Rattle.lsys_pairing.specs.Supplies.{in_use, AreNamed}
 use Rattle.lsys_pairing.specs.Tagged.{Tagged, tagged, all_tagged, Agree, AgreeAll, AllNamed}
@@ -169,18 +170,18 @@ stands_in (x ∷ xs) (ks ∷ kss) n (suc i) o h e = by (λ k. stands_in xs kss (
     by more (inl k) = absurd (let r = tagged_in n x ks o k in omega (arith, r.0, e))
     by more (inr k) = more k
 
-pub rising_at : (xs : List (List Symbol)) (t : ℕ) → Each Rising xs → Rising (get_or xs t [])
-rising_at [] t h = tt
-rising_at (x ∷ xs) zero h = h.0
-rising_at (x ∷ xs) (suc t) h = rising_at xs t h.1
+pub distinct_at : (xs : List (List Symbol)) (t : ℕ) → Each Distinct xs → Distinct (get_or xs t [])
+distinct_at [] t h = tt
+distinct_at (x ∷ xs) zero h = h.0
+distinct_at (x ∷ xs) (suc t) h = distinct_at xs t h.1
 
 -- a symbol is apart from those behind it
-apart_level : (t : ℕ) (a : List ℕ) (k : ℕ) (y : List Symbol) (ks : List ℕ) → BeforeAll a y → Each (λ e. Same (record { level = t; line = a; tag = k }) e → ⊥) (tagged t y ks)
+apart_level : (t : ℕ) (a : List ℕ) (k : ℕ) (y : List Symbol) (ks : List ℕ) → WithAll Unlike a y → Each (λ e. Same (record { level = t; line = a; tag = k }) e → ⊥) (tagged t y ks)
 apart_level t a k [] ks h = tt
 apart_level t a k (s ∷ y) [] h = tt
-apart_level t a k (s ∷ y) (m ∷ ks) h = (λ e. never_before_itself a (lineage s) e.1 h.0, apart_level t a k y ks h.1)
+apart_level t a k (s ∷ y) (m ∷ ks) h = (λ e. h.0 e.1, apart_level t a k y ks h.1)
 
-chain_level : (xs : List (List Symbol)) (olds : List (List ℕ)) (marks : List Bool) → Each Rising xs → (t from : ℕ) (y : List Symbol) (ks : List ℕ) (to : ℕ) → Rising y
+chain_level : (xs : List (List Symbol)) (olds : List (List ℕ)) (marks : List Bool) → Each Distinct xs → (t from : ℕ) (y : List Symbol) (ks : List ℕ) (to : ℕ) → Distinct y
     → AreNamed (get_or olds t []) marks (places_in (get_or xs t []) y) from ks to → (rest : List Tagged) → Each (λ e. t + 1 ≤ e.level) rest → Chain (all_tagged 0 xs olds) marks to rest
     → Chain (all_tagged 0 xs olds) marks from (tagged t y ks ++ rest)
 chain_level xs olds marks r t from [] [] to h n rest l c = subst (λ n. Chain (all_tagged 0 xs olds) marks n rest) (sym n) c
@@ -212,7 +213,7 @@ chain_level xs olds marks r t from (s ∷ y) (k ∷ ks) to h n rest l c = by (λ
           λ o i v.
               let same : o.level ≡ t = v.0 in
               let u = stands_in xs olds 0 t o i (omega (arith, same)) in
-              let there : place_of (lineage s) (get_or xs t []) ≡ Some u.0 = place_is (get_or xs t []) (rising_at xs t r) u.0 u.1 (lineage s) u.2 (u.3 ∙ v.1) in
+              let there : place_of (lineage s) (get_or xs t []) ≡ Some u.0 = place_is (get_or xs t []) (distinct_at xs t r) u.0 u.1 (lineage s) u.2 (u.3 ∙ v.1) in
               let no : Some u.0 ≡ None = sym there ∙ e in cc,
         ),
         more (k + 1) n.2,
@@ -222,7 +223,7 @@ chain_level xs olds marks r t from (s ∷ y) (k ∷ ks) to h n rest l c = by (λ
         let u = place_told (lineage s) (get_or xs t []) j e in
         (apart, inl ((record { level = t; line = lineage u.0; tag = k }, in_old xs olds 0 t t j u.0 k (omega arith) u.1 n.0, (refl, u.2), refl), more from n.1))
 
-pub all_chained : (xs : List (List Symbol)) (olds : List (List ℕ)) (marks : List Bool) → Each Rising xs → (t from : ℕ) (ys : List (List Symbol)) (kss : List (List ℕ)) → Each Rising ys
+pub all_chained : (xs : List (List Symbol)) (olds : List (List ℕ)) (marks : List Bool) → Each Distinct xs → (t from : ℕ) (ys : List (List Symbol)) (kss : List (List ℕ)) → Each Distinct ys
     → AllNamed xs olds marks t from ys kss → Chain (all_tagged 0 xs olds) marks from (all_tagged t ys kss)
 all_chained xs olds marks r t from [] kss h n = tt
 all_chained xs olds marks r t from (y ∷ ys) [] h n = tt

@@ -1,4 +1,5 @@
 pub mod Origins
+pub mod Lookups
 pub mod Moves
 pub mod Supplies
 pub mod Tagged

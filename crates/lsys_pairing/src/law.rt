@@ -2,7 +2,7 @@
 ghost use Rattle.std.specs.Prelude.{◌≡◌, ℕ, Bool, true, Option, List};
 ghost use Rattle.lsys_spec.specs.Systems.{Each};
 ghost use Rattle.lsys_spec.specs.Levels.{Symbol};
-ghost use Rattle.lsys_spec.specs.Cuts.{Rising};
+ghost use Rattle.lsys_spec.specs.Cuts.{Distinct};
 ghost use Rattle.lsys_level.specs.Spots.{Spotted};
 ghost use Rattle.lsys_level.specs.Tags.{HasOwnTags};
 ghost use Rattle.lsys_need.specs.Kept.{places_in};
@@ -15,27 +15,27 @@ ghost use Rattle.lsys_pairing.specs.Tagged.{all_tagged, AgreeAll, AllNamed, Have
 /// among the new ones. So no tag stands twice in the new levels.
 pub fn law_of_given_tags()
     ensures across { (xs ys : List (List Symbol)) (olds news : List (List ℕ)) (used : List Bool) (next : ℕ)
-        → Each Rising xs → Each Rising ys → Each (λ a. in_use used a.tag
+        → Each Distinct xs → Each Distinct ys → Each (λ a. in_use used a.tag
         ≡ true) (all_tagged 0 xs olds)
         → AgreeAll (all_tagged 0 xs olds) (all_tagged 0 xs olds)
         → AllNamed xs olds used 0 next ys news
         → AgreeAll (all_tagged 0 xs olds) (all_tagged 0 ys news) }
     ensures among { (xs ys : List (List Symbol)) (olds news : List (List ℕ)) (used : List Bool) (next : ℕ)
-        → Each Rising xs → Each Rising ys → Each (λ a. in_use used a.tag
+        → Each Distinct xs → Each Distinct ys → Each (λ a. in_use used a.tag
         ≡ true) (all_tagged 0 xs olds)
         → AgreeAll (all_tagged 0 xs olds) (all_tagged 0 xs olds)
         → AllNamed xs olds used 0 next ys news
         → AgreeAll (all_tagged 0 ys news) (all_tagged 0 ys news) }
     ensures own { (ys : List (List Symbol)) (tags : List (List ℕ)) (spots : List (List Spotted))
-        → Each Rising ys
+        → Each Distinct ys
         → AgreeAll (all_tagged 0 ys tags) (all_tagged 0 ys tags) → HaveTags ys tags spots
         → HasOwnTags spots }
 {}
 
-/// A law of mates: no two symbols of a new level, whose lineages rise from left to right, have the same old one. So what
+/// A law of mates: no two symbols of a new level, in which each lineage stands once, have the same old one. So what
 /// is taken over to some of them from their mates' places is taken from each place once.
 pub fn law_of_mates()
-    ensures { (x y : List Symbol) (places : List (Option ℕ)) → Rising y
+    ensures { (x y : List Symbol) (places : List (Option ℕ)) → Distinct y
         → AreOfMates (places_in x y) places
         → AreApart places }
 {}

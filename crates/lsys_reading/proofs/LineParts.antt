@@ -3,9 +3,9 @@ use Rattle.std.proofs.Common.{◌≡◌, ◌≤◌, ◌<◌, ◌+◌, ℕ, true,
 use Rattle.std.proofs.lemmas.List.{drop_all}
 use Rattle.lsys_syntax.specs.Tokens.{Kind, Word}
 use Rattle.lsys_syntax.specs.Strings.{ModuleName}
-use Rattle.lsys_syntax.specs.Commands.{set_ignored, set_schedule, print_string}
+use Rattle.lsys_syntax.specs.Commands.{set_schedule, print_string}
 use Rattle.lsys_syntax.specs.RuleMachine.{Sign, a_name, sign_of, reversed}
-use Rattle.lsys_syntax.specs.LineMachine.{State, InNames, ScheduleDue, InSchedule, StringRead, Stop, Verdict, sentence, stops, too_deep, verdict_from, step, is_stop, depth, nesting_bound, word_step, with_name}
+use Rattle.lsys_syntax.specs.LineMachine.{State, Listed, InNames, listing, ScheduleDue, InSchedule, StringRead, Stop, Verdict, sentence, stops, too_deep, verdict_from, step, is_stop, depth, nesting_bound, word_step, with_name}
 use Rattle.lsys_module.specs.Views.{module_name}
 use Rattle.lsys_syntax.specs.RulePoints.{Here}
 use Rattle.lsys_reading.specs.Lines.{line_at, IsRefused, word_in, name_of_sign, name_in, at_front, IsWord, IsName, LastNumberDue}
@@ -75,30 +75,31 @@ sign-stops f (a_name m) h = cc
 sign-stops f s h = refl
 
 -- what the loop over names keeps
-pub record NamesSoFar (ks : List Kind) (at : ℕ) (xs : List (List ℕ)) : Type 0 where
+pub record NamesSoFar (ks : List Kind) (from at : ℕ) (xs : List (List ℕ)) : Type 0 where
   pub within : at ≤ length ks
-  pub read : line_at ks 1 (InNames []) ≡ line_at ks at (InNames (reversed (map module_name xs)))
+  pub read : (g : Listed) → line_at ks from (InNames g []) ≡ line_at ks at (InNames g (reversed (map module_name xs)))
 
-module _ (ks : List Kind) (at : ℕ) (xs : List (List ℕ)) (so : NamesSoFar ks at xs) where
-  pub names-more : (x : List ℕ) → IsName ks at (Ok x) → NamesSoFar ks (at + 1) (xs ++ x ∷ [])
+module _ (ks : List Kind) (from at : ℕ) (xs : List (List ℕ)) (so : NamesSoFar ks from at xs) where
+  pub names-more : (x : List ℕ) → IsName ks at (Ok x) → NamesSoFar ks from (at + 1) (xs ++ x ∷ [])
   names-more x h = record {
     within = h.1.0;
-    read = so.read
-        ∙ token-goes ks at (InNames (reversed (map module_name xs))) h.0 (InNames (module_name x ∷ reversed (map module_name xs))) h.1
-        (sign-goes (λ n. InNames (n ∷ reversed (map module_name xs))) (sign_of h.0) (module_name x) h.2) (record { goes = refl; flat = refl })
-        ∙ ap (λ r. line_at ks (at + 1) (InNames r)) (sym (mapped-push module_name xs x));
+    read = λ g. so.read g
+        ∙ token-goes ks at (InNames g (reversed (map module_name xs))) h.0 (InNames g (module_name x ∷ reversed (map module_name xs))) h.1
+        (sign-goes (λ n. InNames g (n ∷ reversed (map module_name xs))) (sign_of h.0) (module_name x) h.2) (record { goes = refl; flat = refl })
+        ∙ ap (λ r. line_at ks (at + 1) (InNames g r)) (sym (mapped-push module_name xs x));
   }
 
-  pub names-refused : at < length ks → (e : PartRefusal) → IsName ks at (Err e) → IsRefused ks 1 (InNames []) e
-  names-refused w (Token place) h =
-      so.read ∙ none-stops ks at (InNames (reversed (map module_name xs))) name_in w (λ k i. sign-stops (λ n. InNames (n ∷ reversed (map module_name xs))) (sign_of k) i) h.1 ∙ ap stops (sym h.0)
-  names-refused w (Deep place) h = elim h [ ]
-  names-refused w Memory h = elim h [ ]
+  pub names-refused : at < length ks → (e : PartRefusal) → IsName ks at (Err e) → (g : Listed) → IsRefused ks from (InNames g []) e
+  names-refused w (Token place) h g =
+      so.read g ∙ none-stops ks at (InNames g (reversed (map module_name xs))) name_in w (λ k i. sign-stops (λ n. InNames g (n ∷ reversed (map module_name xs))) (sign_of k) i) h.1
+      ∙ ap stops (sym h.0)
+  names-refused w (Deep place) h g = elim h [ ]
+  names-refused w Memory h g = elim h [ ]
 
-  pub names-done : length ks ≤ at → line_at ks 1 (InNames []) ≡ sentence (set_ignored (map module_name xs))
-  names-done w =
-      so.read ∙ ap (verdict_from at (InNames (reversed (map module_name xs)))) (drop_all at ks w)
-      ∙ ap (λ r. sentence (set_ignored r)) (reversed-twice (map module_name xs) ∙ nil-append (map module_name xs))
+  pub names-done : length ks ≤ at → (g : Listed) → line_at ks from (InNames g []) ≡ sentence (listing g (map module_name xs))
+  names-done w g =
+      so.read g ∙ ap (verdict_from at (InNames g (reversed (map module_name xs)))) (drop_all at ks w)
+      ∙ ap (λ r. sentence (listing g r)) (reversed-twice (map module_name xs) ∙ nil-append (map module_name xs))
 
 -- 5. the words of a schedule
 

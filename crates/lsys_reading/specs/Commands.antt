@@ -7,8 +7,12 @@ use Rattle.lsys_syntax.specs.LineMachine.{InAxiom, Symbols, Verdict, sentence}
 use Rattle.lsys_module.specs.Views.{module_name}
 use Rattle.lsys_reading.specs.declared.parts.LatticeName.{LatticeName}
 use Rattle.lsys_reading.specs.declared.parts.LatticeName.TheVariants as lattices
+use Rattle.lsys_reading.specs.declared.parts.ListKind.{ListKind}
+use Rattle.lsys_reading.specs.declared.parts.ListKind.TheVariants as lists
+use Rattle.lsys_reading.specs.declared.parts.Numbering.{Numbering}
+use Rattle.lsys_reading.specs.declared.parts.Numbering.TheVariants as numberings
 use Rattle.lsys_reading.specs.declared.parts.Parts.{Parts}
-use Rattle.lsys_reading.specs.declared.parts.Parts.TheVariants.{Axiom, Production, Drop, Ignore, Schedule, Seed, Depth, Lattice, Homomorphism, String, Segments, Svg, Show, Quit}
+use Rattle.lsys_reading.specs.declared.parts.Parts.TheVariants.{Axiom, Production, Drop, Ignore, Schedule, Seed, Depth, Lattice, Homomorphism, String, Segments, Svg, Show, Quit, Version, Own, Common, Lineage}
 use Rattle.lsys_reading.specs.RuleLines.{rule_at, IsRuleLine}
 use Rattle.lsys_reading.specs.Lines.{line_at}
 
@@ -16,6 +20,14 @@ abbrev pub lattice_of : LatticeName → spec.Lattice
 lattice_of lattices.Square = spec.square
 lattice_of lattices.Hexagonal = spec.hexagonal
 lattice_of lattices.Cubic = spec.cubic
+
+abbrev pub list_kind_of : ListKind → spec.ListKind
+list_kind_of lists.Ignore = spec.to_ignore
+list_kind_of lists.Consider = spec.to_consider
+
+abbrev pub numbering_of : Numbering → spec.Numbering
+numbering_of numberings.ByPlace = spec.by_place
+numbering_of numberings.ByName = spec.by_name
 
 -- the string of an axiom
 abbrev pub string_in : Verdict → List (Symbol Signed)
@@ -42,6 +54,10 @@ parts_command ks Segments = spec.print_segments
 parts_command ks Svg = spec.print_svg
 parts_command ks Show = spec.print_system
 parts_command ks Quit = spec.quit
+parts_command ks (Version n) = spec.set_version n
+parts_command ks (Own o) = spec.set_own (list_kind_of o.kind) o.table (map module_name o.names.items)
+parts_command ks (Common t) = spec.drop_own t
+parts_command ks (Lineage g) = spec.set_numbering (numbering_of g)
 
 -- An axiom's string is one, and every expression of a rule stands at its span.
 abbrev pub AreParts : List Kind → Parts → Type 0

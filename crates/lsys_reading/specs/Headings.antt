@@ -1,10 +1,11 @@
 -- What stands before a rule.
-use Rattle.std.specs.Prelude.{◌≡◌, ◌+◌, ℕ, Result, Ok, Err, List, drop, Option, Some, None}
+use Rattle.std.specs.Prelude.{◌≡◌, ◌+◌, ℕ, Result, Ok, Err, List, [], drop, Option, Some, None}
 use Rattle.lsys_syntax.specs.Tokens.{Kind, Colon}
 use Rattle.lsys_syntax.specs.RuleMachine.{start}
-use Rattle.lsys_syntax.specs.LineMachine.{State, InProduction, InHomomorphism}
+use Rattle.lsys_syntax.specs.LineMachine.{State, InProduction, InHomomorphism, TableDue, InNames, of_own}
 use Rattle.lsys_syntax.specs.RulePoints.{Here}
-use Rattle.lsys_reading.specs.Lines.{at_front}
+use Rattle.lsys_syntax.specs.Commands.{ListKind}
+use Rattle.lsys_reading.specs.Lines.{at_front, IsPart}
 use Rattle.lsys_reading.specs.declared.refusal.PartRefusal.{PartRefusal}
 use Rattle.lsys_reading.specs.declared.refusal.PartRefusal.TheVariants.{Token}
 use Rattle.lsys_reading.specs.declared.heading.Heading.{Heading}
@@ -24,3 +25,7 @@ production_behind h = InProduction h.table h.label start
 
 abbrev pub homomorphism_behind : Heading → State
 homomorphism_behind h = InHomomorphism h.label start
+
+-- a table and a colon, behind the word of either kind of list
+abbrev pub IsTableHeading : List Kind → Result (List ℕ) PartRefusal → Type 0
+IsTableHeading ks result = (k : ListKind) → IsPart ks 1 (TableDue k) (λ t. 3) (λ t. InNames (of_own k t) []) result

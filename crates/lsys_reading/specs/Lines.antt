@@ -1,10 +1,11 @@
 -- A line by its parts: what the functions that read a command answer.
-use Rattle.std.specs.Prelude.{◌≡◌, ℕ, Option, Some, None, Result, Ok, Err, List, [], ◌∷◌, drop}
+use Rattle.std.specs.Prelude.{◌≡◌, ℕ, Option, Some, None, Result, Ok, Err, List, [], ◌∷◌, drop, map, Vec}
+use Rattle.std.specs.declared.alloc.Global.{Global}
 use Rattle.lsys_syntax.specs.Tokens.{Kind, Word, Number}
 use Rattle.lsys_syntax.specs.Strings.{ModuleName}
 use Rattle.lsys_syntax.specs.Commands.{Command}
 use Rattle.lsys_syntax.specs.RuleMachine as rules
-use Rattle.lsys_syntax.specs.LineMachine.{State, Whole, Verdict, sentence, stops, too_deep, verdict_from, finish, step, word_step, number_step}
+use Rattle.lsys_syntax.specs.LineMachine.{State, Listed, InNames, listing, Whole, Verdict, sentence, stops, too_deep, verdict_from, finish, step, word_step, number_step}
 use Rattle.lsys_module.specs.Views.{module_name}
 use Rattle.lsys_syntax.specs.RulePoints.{Here}
 use Rattle.lsys_reading.specs.declared.refusal.PartRefusal.{PartRefusal}
@@ -96,3 +97,8 @@ IsLastWord ks result = (s : State) (f : List ℕ → Command) → LastWordDue s 
 
 abbrev pub IsLastNumber : List Kind → Result ℕ PartRefusal → Type 0
 IsLastNumber ks result = (s : State) (f : ℕ → Command) → LastNumberDue ks s f → IsRest ks 1 s f result
+
+-- 3. names, up to the line's end, whichever they are
+
+abbrev pub AreNames : List Kind → ℕ → Result (Vec (List ℕ) Global) PartRefusal → Type 0
+AreNames ks at result = (g : Listed) → IsRest ks at (InNames g []) (λ xs. listing g (map module_name xs.items)) result

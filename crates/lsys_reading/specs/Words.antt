@@ -1,17 +1,18 @@
--- The states that the words of commands and of lattices lead to.
+-- The states that the words of commands, of lattices and of numberings lead to.
 use Rattle.std.specs.Prelude.{Option, Some, None, []}
-use Rattle.lsys_syntax.specs.Commands.{set_lattice, print_segments, print_svg, print_system, quit}
-use Rattle.lsys_syntax.specs.LineMachine.{Symbols, State, InAxiom, ProductionDue, DropDue, InNames, ScheduleDue, SeedDue, DepthDue, LatticeDue, LabelDue, StringRead, Whole, Stop}
+use Rattle.lsys_syntax.specs.Commands.{to_ignore, to_consider, set_lattice, set_numbering, print_segments, print_svg, print_system, quit}
+use Rattle.lsys_syntax.specs.LineMachine.{Symbols, State, InAxiom, ProductionDue, DropDue, InNames, of_ignored, ScheduleDue, SeedDue, DepthDue, LatticeDue, LabelDue, StringRead, VersionDue, TableDue, CommonDue, NumberingDue, Whole, Stop}
 use Rattle.lsys_reading.specs.declared.word.CommandWord.{CommandWord}
 use Rattle.lsys_reading.specs.declared.word.CommandWord.TheVariants as words
 use Rattle.lsys_reading.specs.declared.parts.LatticeName.{LatticeName}
-use Rattle.lsys_reading.specs.Commands.{lattice_of}
+use Rattle.lsys_reading.specs.declared.parts.Numbering.{Numbering}
+use Rattle.lsys_reading.specs.Commands.{lattice_of, numbering_of}
 
 abbrev pub word_state : CommandWord → State
 word_state words.Axiom = InAxiom (Symbols [])
 word_state words.Production = ProductionDue
 word_state words.Drop = DropDue
-word_state words.Ignore = InNames []
+word_state words.Ignore = InNames of_ignored []
 word_state words.Schedule = ScheduleDue
 word_state words.Seed = SeedDue
 word_state words.Depth = DepthDue
@@ -22,6 +23,11 @@ word_state words.Segments = Whole print_segments
 word_state words.Svg = Whole print_svg
 word_state words.Show = Whole print_system
 word_state words.Quit = Whole quit
+word_state words.Version = VersionDue
+word_state words.Ignoring = TableDue to_ignore
+word_state words.Consider = TableDue to_consider
+word_state words.Common = CommonDue
+word_state words.Lineage = NumberingDue
 
 -- no command begins with any other word
 abbrev pub word_state_in : Option CommandWord → State
@@ -31,3 +37,7 @@ word_state_in None = Stop
 abbrev pub lattice_state_in : Option LatticeName → State
 lattice_state_in (Some l) = Whole (set_lattice (lattice_of l))
 lattice_state_in None = Stop
+
+abbrev pub numbering_state_in : Option Numbering → State
+numbering_state_in (Some g) = Whole (set_numbering (numbering_of g))
+numbering_state_in None = Stop

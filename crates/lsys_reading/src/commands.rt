@@ -1,20 +1,21 @@
 //! The rest of each command behind its word.
 ghost use Rattle.std.specs.Prelude.{◌≡◌, ◌≤◌, [], IfOk};
-ghost use Rattle.lsys_syntax.specs.LineMachine.{InAxiom, Symbols, ProductionDue, DropDue, SeedDue, DepthDue, InNames, ScheduleDue, LatticeDue, LabelDue, StringRead, Whole, Fresh};
+ghost use Rattle.lsys_syntax.specs.LineMachine.{of_ignored, VersionDue, TableDue, CommonDue, NumberingDue, InAxiom, Symbols, ProductionDue, DropDue, SeedDue, DepthDue, InNames, ScheduleDue, LatticeDue, LabelDue, StringRead, Whole, Fresh};
 ghost use Rattle.lsys_reading.specs.Tokens.{kinds_in, size};
-ghost use Rattle.lsys_reading.specs.Lines.{IsPart, IsRest};
+ghost use Rattle.lsys_reading.specs.Lines.{IsPart, IsRest, AreNames};
 ghost use Rattle.lsys_reading.specs.Words.{word_state};
-ghost use Rattle.lsys_reading.specs.Commands.{parts_command, AreParts};
+ghost use Rattle.lsys_reading.specs.Commands.{list_kind_of, parts_command, AreParts};
 
 use crate::form::Form;
-use crate::heading::{homomorphism_heading, production_heading};
+use crate::heading::{homomorphism_heading, production_heading, table_heading};
 use crate::line_tokens::LineTokens;
-use crate::parts::{LabeledRule, LatticeName, Parts};
+use crate::parts::{LabeledRule, LatticeName, ListKind, OwnList, Parts};
 use crate::refusal::PartRefusal;
 use crate::rule::rule_line;
-use crate::word::{CommandWord, command_word, lattice_name};
+use crate::word::{CommandWord, command_word, lattice_name, numbering_name};
 use crate::words::{end, last_number, last_word, name, word};
 use lsys_module::scan_string;
+use lsys_text::Name;
 use std::alloc::Global;
 
 // What the tokens of a line are the parts of.
@@ -58,6 +59,11 @@ fn parts_behind(alloc: Global, line: &LineTokens, word: CommandWord) -> Result<P
         CommandWord::Svg => alone(line, Parts::Svg),
         CommandWord::Show => alone(line, Parts::Show),
         CommandWord::Quit => alone(line, Parts::Quit),
+        CommandWord::Version => version(line),
+        CommandWord::Ignoring => own(alloc, line, ListKind::Ignore),
+        CommandWord::Consider => own(alloc, line, ListKind::Consider),
+        CommandWord::Common => common(line),
+        CommandWord::Lineage => lineage(line),
     }
 }
 
@@ -125,21 +131,69 @@ fn depth(line: &LineTokens) -> Result<Parts, PartRefusal>
     Ok(Parts::Depth(last_number(line)?))
 }
 
-// Behind `ignore`: names.
-fn ignore(alloc: Global, line: &LineTokens) -> Result<Parts, PartRefusal>
-    requires { 1 ≤ size line.now }
-    ensures rest { IsRest (kinds_in line.now) 1 (InNames []) (parts_command (kinds_in line.now)) result }
-    ensures parts { IfOk result (AreParts (kinds_in line.now)) }
+// Names, from a place up to the line's end.
+fn names(alloc: Global, line: &LineTokens, from: usize) -> Result<Vec<Name>, PartRefusal>
+    requires within { from ≤ size line.now }
+    ensures { AreNames (kinds_in line.now) from result }
 {
     let mut names = Vec::new(alloc);
-    let mut at = 1;
+    let mut at = from;
     'names: while at < line.len() {
         names
             .push(name(line, at)?)
             .map_err(|_| PartRefusal::Memory)?;
         at += 1;
     }
-    Ok(Parts::Ignore(names))
+    Ok(names)
+}
+
+// Behind `ignore`: names.
+fn ignore(alloc: Global, line: &LineTokens) -> Result<Parts, PartRefusal>
+    requires { 1 ≤ size line.now }
+    ensures rest { IsRest (kinds_in line.now) 1 (InNames of_ignored []) (parts_command (kinds_in line.now)) result }
+    ensures parts { IfOk result (AreParts (kinds_in line.now)) }
+{
+    Ok(Parts::Ignore(names(alloc, line, 1)?))
+}
+
+// Behind `ignoring` or `consider`: a table, a colon and names.
+fn own(alloc: Global, line: &LineTokens, kind: ListKind) -> Result<Parts, PartRefusal>
+    ensures rest { IsRest (kinds_in line.now) 1 (TableDue (list_kind_of kind)) (parts_command (kinds_in line.now)) result }
+    ensures parts { IfOk result (AreParts (kinds_in line.now)) }
+{
+    let table = table_heading(line)?;
+    let names = names(alloc, line, 3)?;
+    Ok(Parts::Own(OwnList { kind, table, names }))
+}
+
+// Behind `common`: a table.
+fn common(line: &LineTokens) -> Result<Parts, PartRefusal>
+    ensures rest { IsRest (kinds_in line.now) 1 CommonDue (parts_command (kinds_in line.now)) result }
+    ensures parts { IfOk result (AreParts (kinds_in line.now)) }
+{
+    Ok(Parts::Common(last_word(line)?))
+}
+
+// Behind `version`: a number.
+fn version(line: &LineTokens) -> Result<Parts, PartRefusal>
+    ensures rest { IsRest (kinds_in line.now) 1 VersionDue (parts_command (kinds_in line.now)) result }
+    ensures parts { IfOk result (AreParts (kinds_in line.now)) }
+{
+    Ok(Parts::Version(last_number(line)?))
+}
+
+// Behind `lineage`: the name of a numbering.
+fn lineage(line: &LineTokens) -> Result<Parts, PartRefusal>
+    ensures rest { IsRest (kinds_in line.now) 1 NumberingDue (parts_command (kinds_in line.now)) result }
+    ensures parts { IfOk result (AreParts (kinds_in line.now)) }
+{
+    match numbering_name(word(line, 1)?) {
+        Some(numbering) => {
+            end(line, 2)?;
+            Ok(Parts::Lineage(numbering))
+        }
+        None => Err(PartRefusal::Token { place: 1 }),
+    }
 }
 
 // Behind `schedule`: words, one at least.

@@ -2,7 +2,7 @@
 ghost use Rattle.std.specs.Prelude.{◌≡◌, ◌≤◌, IfOk};
 ghost use Rattle.lsys_syntax.specs.LineMachine.{ProductionDue, LabelDue};
 ghost use Rattle.lsys_reading.specs.Tokens.{kinds_in, size};
-ghost use Rattle.lsys_reading.specs.Headings.{IsColon, production_behind, homomorphism_behind};
+ghost use Rattle.lsys_reading.specs.Headings.{IsColon, IsTableHeading, production_behind, homomorphism_behind};
 ghost use Rattle.lsys_reading.specs.Lines.{IsPart};
 
 use crate::glyph::peek;
@@ -64,4 +64,14 @@ pub(crate) fn homomorphism_heading(line: &LineTokens) -> Result<Heading, PartRef
         label,
         end,
     })
+}
+
+// The table between the word of a table's own list and its names, which begin at place 3.
+pub(crate) fn table_heading(line: &LineTokens) -> Result<Word, PartRefusal>
+    ensures heading { IsTableHeading (kinds_in line.now) result }
+    ensures place { IfOk result (λ t. 3 ≤ size line.now) }
+{
+    let table = word(line, 1)?;
+    colon(line, 2)?;
+    Ok(table)
 }

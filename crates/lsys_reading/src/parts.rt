@@ -11,6 +11,32 @@ pub enum LatticeName {
     Cubic,
 }
 
+/// What a table's own list says of its names.
+#[derive(Clone, Copy, PartialEq, Eq, Debug)]
+pub enum ListKind {
+    /// Contexts pass over them.
+    Ignore,
+    /// Contexts pass over all others.
+    Consider,
+}
+
+/// How the symbols of a list are numbered.
+#[derive(Clone, Copy, PartialEq, Eq, Debug)]
+pub enum Numbering {
+    /// By their places.
+    ByPlace,
+    /// By their names, and by how many of the same name stand before.
+    ByName,
+}
+
+/// A table's own list of names.
+#[derive(Drop)]
+pub struct OwnList {
+    pub kind: ListKind,
+    pub table: Word,
+    pub names: Vec<Name>,
+}
+
 /// A rule and its label; for a production also its table, where its word is written.
 #[derive(Drop)]
 pub struct LabeledRule {
@@ -50,4 +76,12 @@ pub enum Parts {
     Show,
     /// Ends the session.
     Quit,
+    /// Sets the version.
+    Version(u64),
+    /// Gives a table a list of its own.
+    Own(OwnList),
+    /// Takes a table's own list away.
+    Common(Word),
+    /// Sets how symbols are numbered.
+    Lineage(Numbering),
 }

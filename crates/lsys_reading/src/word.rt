@@ -1,9 +1,9 @@
-//! The words of commands and of lattices.
+//! The words of commands, of lattices and of numberings.
 ghost use Rattle.std.specs.Prelude.{◌≡◌};
-ghost use Rattle.lsys_syntax.specs.LineMachine.{first_word, lattice_named};
-ghost use Rattle.lsys_reading.specs.Words.{word_state_in, lattice_state_in};
+ghost use Rattle.lsys_syntax.specs.LineMachine.{first_word, lattice_named, numbering_named};
+ghost use Rattle.lsys_reading.specs.Words.{word_state_in, lattice_state_in, numbering_state_in};
 
-use crate::parts::LatticeName;
+use crate::parts::{LatticeName, Numbering};
 use lsys_text::Word;
 
 /// The first word of a line, which tells the command.
@@ -23,6 +23,11 @@ pub(crate) enum CommandWord {
     Svg,
     Show,
     Quit,
+    Version,
+    Ignoring,
+    Consider,
+    Common,
+    Lineage,
 }
 
 /// The command that a word begins, where it begins one.
@@ -37,6 +42,13 @@ pub(crate) fn lattice_name(word: Word) -> Option<LatticeName>
     ensures { lattice_named word ≡ lattice_state_in result }
 {
     lattice_with(word.text().as_bytes())
+}
+
+/// The numbering that a word names, where it names one.
+pub(crate) fn numbering_name(word: Word) -> Option<Numbering>
+    ensures { numbering_named word ≡ numbering_state_in result }
+{
+    numbering_with(word.text().as_bytes())
 }
 
 fn command_named(text: &[u8]) -> Option<CommandWord>
@@ -57,6 +69,11 @@ fn command_named(text: &[u8]) -> Option<CommandWord>
         b"svg" => Some(CommandWord::Svg),
         b"show" => Some(CommandWord::Show),
         b"quit" => Some(CommandWord::Quit),
+        b"version" => Some(CommandWord::Version),
+        b"ignoring" => Some(CommandWord::Ignoring),
+        b"consider" => Some(CommandWord::Consider),
+        b"common" => Some(CommandWord::Common),
+        b"lineage" => Some(CommandWord::Lineage),
         _ => None,
     }
 }
@@ -68,6 +85,16 @@ fn lattice_with(text: &[u8]) -> Option<LatticeName>
         b"square" => Some(LatticeName::Square),
         b"hexagonal" => Some(LatticeName::Hexagonal),
         b"cubic" => Some(LatticeName::Cubic),
+        _ => None,
+    }
+}
+
+fn numbering_with(text: &[u8]) -> Option<Numbering>
+    ensures { numbering_named text.now ≡ numbering_state_in result }
+{
+    match text {
+        b"places" => Some(Numbering::ByPlace),
+        b"names" => Some(Numbering::ByName),
         _ => None,
     }
 }

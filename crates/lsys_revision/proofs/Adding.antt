@@ -9,7 +9,7 @@ use Rattle.lsys_syntax.specs.Strings as S
 use Rattle.lsys_spec.specs.Draws.{key_of}
 use Rattle.lsys_spec.specs.Systems.{Each}
 use Rattle.lsys_spec.specs.Levels.{Symbol, lineage, plain}
-use Rattle.lsys_spec.specs.Cuts.{Rising}
+use Rattle.lsys_spec.specs.Cuts.{Distinct}
 use Rattle.lsys_spec.specs.Standings.{place_of}
 use Rattle.lsys_module.specs.Views.{symbol_of, string_of}
 use Rattle.lsys_level.specs.Tags.{HasOwnTags}
@@ -19,12 +19,12 @@ use Rattle.lsys_pairing.specs.Origins.{AreChildren}
 use Rattle.lsys_pairing.specs.Supplies.{Supply, taken, AreNamed}
 use Rattle.lsys_pairing.specs.Tagged.{all_tagged, AgreeAll, AllNamed}
 use Rattle.lsys_pairing.proofs.Mates.{children_length, child_from}
-use Rattle.lsys_pairing.proofs.Agreeing.{new_new, old_all, all_chained, rising_at}
+use Rattle.lsys_pairing.proofs.Agreeing.{new_new, old_all, all_chained, distinct_at}
 use Rattle.lsys_pairing.proofs.Owning.{own_tags}
 use Rattle.lsys_offspring.specs.declared.level.Level.{Level}
 use Rattle.lsys_revision.specs.Lines.{Line, no_line}
 use Rattle.lsys_revision.specs.Revised.{Revised, tags_of, all_spots, AreAllNamed, above_level, AreOldLevels, IsRevised, IsNext}
-use Rattle.lsys_revision.proofs.Below.{LineAt, old_line, lines_count, new_line, tags_at, tags_push, rising_above, rising_push, level_short}
+use Rattle.lsys_revision.proofs.Below.{LineAt, old_line, lines_count, new_line, tags_at, tags_push, distinct_above, distinct_push, level_short}
 use Rattle.lsys_revision.proofs.Seeing.{spots_same, all_spots_push, spots_have, string_balanced, no_cut}
 
 -- 1. tags
@@ -64,20 +64,20 @@ all_named xs olds s t from (y ∷ ys) (k ∷ kss) h = (h.0, h.1, all_named xs ol
 pub across : (seed : ℕ) (xs ys : List (List Symbol)) (r : Revised) → IsRevised seed xs ys r → AgreeAll (all_tagged 0 xs (tags_of r.old_lines)) (all_tagged 0 ys (tags_of r.lines))
 across seed xs ys r h =
     old_all (all_tagged 0 xs (tags_of r.old_lines)) r.supply.used 0 h.olds.agree h.in_use (all_tagged 0 ys (tags_of r.lines))
-    (all_chained xs (tags_of r.old_lines) r.supply.used h.olds.rise 0 0 ys (tags_of r.lines) h.rise (all_named xs (tags_of r.old_lines) r.supply 0 0 ys (tags_of r.lines) h.named))
+    (all_chained xs (tags_of r.old_lines) r.supply.used h.olds.distinct 0 0 ys (tags_of r.lines) h.distinct (all_named xs (tags_of r.old_lines) r.supply 0 0 ys (tags_of r.lines) h.named))
 
 pub next_olds : (seed : ℕ) (xs ys : List (List Symbol)) (r : Revised) → IsRevised seed xs ys r → AreOldLevels ys r.lines
 next_olds seed xs ys r h = record {
-  rise = h.rise;
+  distinct = h.distinct;
   lines = h.lines;
   agree =
       new_new (all_tagged 0 xs (tags_of r.old_lines)) r.supply.used 0 h.olds.agree h.in_use (all_tagged 0 ys (tags_of r.lines))
-      (all_chained xs (tags_of r.old_lines) r.supply.used h.olds.rise 0 0 ys (tags_of r.lines) h.rise (all_named xs (tags_of r.old_lines) r.supply 0 0 ys (tags_of r.lines) h.named));
+      (all_chained xs (tags_of r.old_lines) r.supply.used h.olds.distinct 0 0 ys (tags_of r.lines) h.distinct (all_named xs (tags_of r.old_lines) r.supply 0 0 ys (tags_of r.lines) h.named));
 }
 
 pub own_view : (seed : ℕ) (xs ys : List (List Symbol)) (r : Revised) → IsRevised seed xs ys r → HasOwnTags r.view
 own_view seed xs ys r h =
-    subst HasOwnTags (sym h.view) (own_tags ys (tags_of r.lines) (all_spots seed ys (tags_of r.lines)) h.rise (next_olds seed xs ys r h).agree (spots_have seed _ ys r.lines h.lines))
+    subst HasOwnTags (sym h.view) (own_tags ys (tags_of r.lines) (all_spots seed ys (tags_of r.lines)) h.distinct (next_olds seed xs ys r h).agree (spots_have seed _ ys r.lines h.lines))
 
 -- 3. one level more
 
@@ -106,14 +106,14 @@ module _ (seed : ℕ) (xs ys : List (List Symbol)) (y : List Symbol) (level : Le
   have_parents = λ k d l.
       let c = child_from (above_level ys (length ys)) level.origins.items y n.symbols.children k (get_or level.origins.items k d) (slice_get-get_or level.origins.items k d l) in
       let size : length r.mates ≡ length (above_level ys (length ys)) = ap length h.mates ∙ length-map (above_level ys (length ys)) (λ s. place_of (lineage s) (above_level xs (length ys))) in
-      let in_above = slice_get_within (above_level ys (length ys)) (get_or level.origins.items k d).parent c.2.0 c.2.1 in
+      let in_above = slice_get_within (above_level ys (length ys)) (get_or level.origins.items k d).parent c.2.parent c.2.there in
       omega (arith, size, in_above)
 
   pub mates_told : (mates : List (Option ℕ))
-      → ((a b x z : List Symbol) → Rising a → Rising x → Rising z → AreChildren a (get_or r.old_lines (length ys) no_line).origins x → AreChildren b level.origins.items z → r.mates ≡ places_in a b → mates ≡ places_in x z)
+      → ((a b x z : List Symbol) → Distinct a → Distinct x → AreChildren a (get_or r.old_lines (length ys) no_line).origins x → AreChildren b level.origins.items z → r.mates ≡ places_in a b → mates ≡ places_in x z)
       → mates ≡ places_in (get_or xs (length ys) []) y
   mates_told mates f =
-      f (above_level xs (length ys)) (above_level ys (length ys)) (get_or xs (length ys) []) y (rising_above xs (length ys) h.olds.rise) (rising_at xs (length ys) h.olds.rise) n.rise olds_there.children n.symbols.children h.mates
+      f (above_level xs (length ys)) (above_level ys (length ys)) (get_or xs (length ys) []) y (distinct_above xs (length ys) h.olds.distinct) (distinct_at xs (length ys) h.olds.distinct) olds_there.children n.symbols.children h.mates
 
   pub next_revised : (mates : List (Option ℕ)) (tags : List ℕ) (after : Supply) → mates ≡ places_in (get_or xs (length ys) []) y
       → AreNamed (get_or r.old_lines (length ys) no_line).tags r.supply.used mates r.supply.next tags after.next → after.used ≡ r.supply.used → taken after ≤ taken r.supply + length mates
@@ -134,7 +134,7 @@ module _ (seed : ℕ) (xs ys : List (List Symbol)) (y : List Symbol) (level : Le
       record {
         olds = h.olds;
         in_use = subst (λ u. Each (λ a. get_or u a.tag false ≡ true) (all_tagged 0 xs (tags_of r.old_lines))) (sym used) h.in_use;
-        rise = rising_push ys y h.rise n.rise;
+        distinct = distinct_push ys y h.distinct n.distinct;
         lines = new_line ys r.lines y l h.lines (record { children = n.symbols.children; tags = size });
         view =
             ap (λ v. v ++ spots_of level.symbols tags level.keys.items ∷ []) h.view
@@ -176,7 +176,7 @@ string_is_whole seed xs ys y level n = no_cut y level.symbols n.symbols.string
 -- one level more, by what pairing and naming tell of the old level
 pub next_by : (seed : ℕ) (xs ys : List (List Symbol)) (y : List Symbol) (level : Level) (r : Revised) → IsRevised seed xs ys r → IsNext seed xs ys y level → (l : Line) → l ≡ get_or r.old_lines (length ys) no_line
     → (mates : List (Option ℕ)) (tags : List ℕ) (after : Supply)
-    → ((a b x z : List Symbol) → Rising a → Rising x → Rising z → AreChildren a l.origins x → AreChildren b level.origins.items z → r.mates ≡ places_in a b → mates ≡ places_in x z)
+    → ((a b x z : List Symbol) → Distinct a → Distinct x → AreChildren a l.origins x → AreChildren b level.origins.items z → r.mates ≡ places_in a b → mates ≡ places_in x z)
     → AreNamed l.tags r.supply.used mates r.supply.next tags after.next → after.used ≡ r.supply.used → taken after ≤ taken r.supply + length mates
     → IsRevised seed xs (ys ++ y ∷ [])
     (record {
@@ -188,7 +188,7 @@ pub next_by : (seed : ℕ) (xs ys : List (List Symbol)) (y : List Symbol) (level
     })
 next_by seed xs ys y level r h n l e mates tags after paired named used few =
     next_revised seed xs ys y level r h n mates tags after
-    (mates_told seed xs ys y level r h n mates (λ a b x z ra rx rz ca cb m. paired a b x z ra rx rz (subst (λ (l : Line). AreChildren a l.origins x) (sym e) ca) cb m))
+    (mates_told seed xs ys y level r h n mates (λ a b x z da dx ca cb m. paired a b x z da dx (subst (λ (l : Line). AreChildren a l.origins x) (sym e) ca) cb m))
     (subst (λ (l : Line). AreNamed l.tags r.supply.used mates r.supply.next tags after.next) e named) used few
 
 pub tags_length : (old : List ℕ) (used : List Bool) (mates : List (Option ℕ)) (from : ℕ) (tags : List ℕ) (to : ℕ) → AreNamed old used mates from tags to → length tags ≡ length mates

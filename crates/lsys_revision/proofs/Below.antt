@@ -4,9 +4,9 @@ use Rattle.std.specs.Prelude.{sum_by}
 use Rattle.std.proofs.lemmas.List.Sums.{sum_by-cons}
 use Rattle.lsys_spec.specs.Systems.{Each}
 use Rattle.lsys_spec.specs.Levels.{Symbol}
-use Rattle.lsys_spec.specs.Cuts.{Rising}
+use Rattle.lsys_spec.specs.Cuts.{Distinct}
 use Rattle.lsys_pairing.specs.Origins.{AreChildren, root}
-use Rattle.lsys_pairing.proofs.Agreeing.{rising_at}
+use Rattle.lsys_pairing.proofs.Agreeing.{distinct_at}
 use Rattle.lsys_revision.specs.Lines.{Line, no_line, AreLines}
 use Rattle.lsys_revision.specs.Revised.{tags_of, above_level}
 
@@ -65,15 +65,15 @@ pub tags_push : (ls : List Line) (l : Line) → tags_of (ls ++ l ∷ []) ≡ tag
 tags_push [] l = refl
 tags_push (k ∷ ls) l = ap (λ ks. k.tags ∷ ks) (tags_push ls l)
 
--- lineages rise on each level, and on the one above
+-- lineages distinct on each level, and on the one above
 
-pub rising_above : (xs : List (List Symbol)) (t : ℕ) → Each Rising xs → Rising (above_level xs t)
-rising_above xs zero h = (tt, tt)
-rising_above xs (suc t) h = rising_at xs t h
+pub distinct_above : (xs : List (List Symbol)) (t : ℕ) → Each Distinct xs → Distinct (above_level xs t)
+distinct_above xs zero h = (tt, tt)
+distinct_above xs (suc t) h = distinct_at xs t h
 
-pub rising_push : (ys : List (List Symbol)) (y : List Symbol) → Each Rising ys → Rising y → Each Rising (ys ++ y ∷ [])
-rising_push [] y h g = (g, tt)
-rising_push (x ∷ ys) y h g = (h.0, rising_push ys y h.1 g)
+pub distinct_push : (ys : List (List Symbol)) (y : List Symbol) → Each Distinct ys → Distinct y → Each Distinct (ys ++ y ∷ [])
+distinct_push [] y h g = (g, tt)
+distinct_push (x ∷ ys) y h g = (h.0, distinct_push ys y h.1 g)
 
 -- a level is no longer than all
 pub level_short : (xs : List (List Symbol)) (t : ℕ) → length (get_or xs t []) ≤ sum_by length xs

@@ -49,7 +49,7 @@ pub started : (seed : ℕ) (xs : List (List Symbol)) (ls : List Line) (s : Suppl
 started seed xs ls s h m = record {
   olds = h;
   in_use = of_levels (λ k. in_use s.used k ≡ true) 0 xs ls m.used;
-  rise = tt;
+  distinct = tt;
   lines = tt;
   view = refl;
   named = sym m.next;

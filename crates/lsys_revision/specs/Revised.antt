@@ -4,7 +4,7 @@ use Rattle.lsys_spec.specs.Draws.{key_of}
 use Rattle.lsys_spec.specs.Systems.{Each}
 use Rattle.lsys_spec.specs.Levels as L
 use Rattle.lsys_spec.specs.Levels.{Symbol, lineage, level_balanced}
-use Rattle.lsys_spec.specs.Cuts.{Rising}
+use Rattle.lsys_spec.specs.Cuts.{Distinct}
 use Rattle.lsys_level.specs.Spots.{Seen, Push, Pop, Module, Spotted, level_by, level_at}
 use Rattle.lsys_need.specs.Kept.{places_in}
 use Rattle.lsys_pairing.specs.Origins.{root}
@@ -26,9 +26,9 @@ tags_of ls = map (λ l. l.tags) ls
 
 -- 1. the old levels
 
--- Lineages rise, tags are equal exactly where level and lineage are, and the symbols are fewer than numbers have.
+-- Each lineage stands once in a level, tags are equal exactly where level and lineage are, and the symbols are fewer than numbers have.
 pub record AreOldLevels (xs : List (List Symbol)) (old : List Line) : Type 0 where
-  pub rise : Each Rising xs
+  pub distinct : Each Distinct xs
   pub lines : AreLines root xs old
   pub agree : AgreeAll (all_tagged 0 xs (tags_of old)) (all_tagged 0 xs (tags_of old))
 
@@ -67,16 +67,16 @@ above_level xs (suc t) = slice_index_or xs t []
 pub record IsRevised (seed : ℕ) (xs ys : List (List Symbol)) (r : Revised) : Type 0 where
   pub olds : AreOldLevels xs r.old_lines
   pub in_use : Each (λ a. in_use r.supply.used a.tag ≡ true) (all_tagged 0 xs (tags_of r.old_lines))
-  pub rise : Each Rising ys
+  pub distinct : Each Distinct ys
   pub lines : AreLines root ys r.lines
   pub view : r.view ≡ all_spots seed ys (tags_of r.lines)
   pub named : AreAllNamed xs (tags_of r.old_lines) r.supply 0 0 ys (tags_of r.lines)
   pub mates : r.mates ≡ places_in (above_level xs (length ys)) (above_level ys (length ys))
   pub few : taken r.supply ≤ sum_by length xs + sum_by length ys
 
--- the next level: balanced, its lineages rise, and its symbols come from the last one; and there are numbers enough
+-- the next level: balanced, each lineage stands there once, and its symbols come from the last one; and there are numbers enough
 pub record IsNext (seed : ℕ) (xs ys : List (List Symbol)) (y : List Symbol) (level : Level) : Type 0 where
-  pub rise : Rising y
+  pub distinct : Distinct y
   pub balanced : level_balanced 0 y ≡ true
   pub symbols : HasSymbols seed (above_level ys (length ys)) y level.symbols level.origins.items level.keys.items
   pub few : sum_by length xs + sum_by length ys + length y < 2 ^ 32

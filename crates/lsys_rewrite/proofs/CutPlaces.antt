@@ -4,7 +4,7 @@ use Rattle.std.specs.Prelude.{slice_index_or, IfSome}
 use Rattle.std.proofs.lemmas.List.{length-map, length-set, append_assoc, append-nil, take_all, drop_all, drop-set-lt, take_more_set, length-take-le}
 use Rattle.lsys_syntax.specs.Strings as S
 use Rattle.lsys_spec.specs.Levels.{Push, Pop, Module, plain}
-use Rattle.lsys_spec.specs.Cuts.{Raw, Plain, Percent, cut_on, never_closes, is_cut_off}
+use Rattle.lsys_spec.specs.Cuts.{Raw, Plain, Cut, cut_on, never_closes, is_cut_off}
 use Rattle.lsys_module.specs.declared.symbol.Symbol.{Symbol as Code}
 use Rattle.lsys_module.specs.Views.{symbol_of, string_of}
 use Rattle.lsys_rewrite.proofs.Behind.{drop_item}
@@ -15,7 +15,7 @@ use Rattle.lsys_rewrite.specs.Cutting.{AreOf, raw_plain, marked, stays, cutting_
 -- more open branches close none
 closes_more : (x : List Raw) (n m : ℕ) → n ≤ m → never_closes n x ≡ true → never_closes m x ≡ true
 closes_more [] n m i h = refl
-closes_more (Percent l ∷ x) n m i h = closes_more x n m i h
+closes_more (Cut l ∷ x) n m i h = closes_more x n m i h
 closes_more (Plain (Module l k) ∷ x) n m i h = closes_more x n m i h
 closes_more (Plain (Push l) ∷ x) n m i h = closes_more x (suc n) (suc m) (omega (arith, i)) h
 closes_more (Plain (Pop l) ∷ x) zero m i h = cc
@@ -37,30 +37,30 @@ either_way false true c h = let e : false ≡ true = h refl in cc
 
 -- whether the first symbol stays
 first_stays : (o : Option ℕ) (r : Raw) (x : List Raw) → stays o (raw_plain r) ≡ not (off o (r ∷ x) 0)
-first_stays None (Percent l) x = refl
+first_stays None (Cut l) x = refl
 first_stays None (Plain (Module l m)) x = refl
 first_stays None (Plain (Push l)) x = refl
 first_stays None (Plain (Pop l)) x = refl
-first_stays (Some zero) (Percent l) x = refl
+first_stays (Some zero) (Cut l) x = refl
 first_stays (Some zero) (Plain (Module l m)) x = refl
 first_stays (Some zero) (Plain (Push l)) x = refl
 first_stays (Some zero) (Plain (Pop l)) x = refl
-first_stays (Some (suc n)) (Percent l) x = refl
+first_stays (Some (suc n)) (Cut l) x = refl
 first_stays (Some (suc n)) (Plain (Module l m)) x = refl
 first_stays (Some (suc n)) (Plain (Push l)) x = refl
 first_stays (Some (suc n)) (Plain (Pop l)) x = refl
 
 -- and those behind it
 later_off : (o : Option ℕ) (r : Raw) (x : List Raw) (p : ℕ) → off (cutting_behind o (raw_plain r)) x p ≡ off o (r ∷ x) (suc p)
-later_off None (Percent l) x p = refl
+later_off None (Cut l) x p = refl
 later_off None (Plain (Module l m)) x p = refl
 later_off None (Plain (Push l)) x p = refl
 later_off None (Plain (Pop l)) x p = refl
-later_off (Some zero) (Percent l) x p = either_way (never_closes 0 (take (suc p) x)) (never_closes 0 (take (suc p) x)) (is_cut_off x p) (λ e. e)
+later_off (Some zero) (Cut l) x p = either_way (never_closes 0 (take (suc p) x)) (never_closes 0 (take (suc p) x)) (is_cut_off x p) (λ e. e)
 later_off (Some zero) (Plain (Module l m)) x p = refl
 later_off (Some zero) (Plain (Push l)) x p = refl
 later_off (Some zero) (Plain (Pop l)) x p = refl
-later_off (Some (suc n)) (Percent l) x p =
+later_off (Some (suc n)) (Cut l) x p =
     either_way (never_closes (suc n) (take (suc p) x)) (never_closes 0 (take (suc p) x)) (is_cut_off x p) (closes_more (take (suc p) x) 0 (suc n) (omega arith))
 later_off (Some (suc n)) (Plain (Module l m)) x p = refl
 later_off (Some (suc n)) (Plain (Push l)) x p = refl
@@ -82,15 +82,15 @@ marks_kept x ys p e h =
 cut_marked : (x : List Raw) (o : Option ℕ) → map plain (cut_on o x) ≡ marked (marks_from o (map raw_plain x)) (map raw_plain x)
 cut_marked [] None = refl
 cut_marked [] (Some n) = refl
-cut_marked (Percent l ∷ x) None = cut_marked x (Some 0)
+cut_marked (Cut l ∷ x) None = cut_marked x (Some 0)
 cut_marked (Plain (Module l m) ∷ x) None = ap (λ ys. S.Module m.name m.params ∷ ys) (cut_marked x None)
 cut_marked (Plain (Push l) ∷ x) None = ap (λ ys. S.Push ∷ ys) (cut_marked x None)
 cut_marked (Plain (Pop l) ∷ x) None = ap (λ ys. S.Pop ∷ ys) (cut_marked x None)
-cut_marked (Percent l ∷ x) (Some zero) = cut_marked x (Some 0)
+cut_marked (Cut l ∷ x) (Some zero) = cut_marked x (Some 0)
 cut_marked (Plain (Module l m) ∷ x) (Some zero) = cut_marked x (Some 0)
 cut_marked (Plain (Push l) ∷ x) (Some zero) = cut_marked x (Some 1)
 cut_marked (Plain (Pop l) ∷ x) (Some zero) = ap (λ ys. S.Pop ∷ ys) (cut_marked x None)
-cut_marked (Percent l ∷ x) (Some (suc n)) = cut_marked x (Some (suc n))
+cut_marked (Cut l ∷ x) (Some (suc n)) = cut_marked x (Some (suc n))
 cut_marked (Plain (Module l m) ∷ x) (Some (suc n)) = cut_marked x (Some (suc n))
 cut_marked (Plain (Push l) ∷ x) (Some (suc n)) = cut_marked x (Some (suc (suc n)))
 cut_marked (Plain (Pop l) ∷ x) (Some (suc n)) = cut_marked x (Some n)

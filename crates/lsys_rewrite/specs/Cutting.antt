@@ -2,14 +2,14 @@
 use Rattle.std.specs.Prelude.{◌≡◌, ℕ, zero, suc, ℤ, Bool, true, false, Option, Some, None, List, [], ◌∷◌, map}
 use Rattle.lsys_syntax.specs.Strings as S
 use Rattle.lsys_spec.specs.Levels.{plain}
-use Rattle.lsys_spec.specs.Cuts.{Raw, Plain, Percent}
+use Rattle.lsys_spec.specs.Cuts.{Raw, Plain, Cut}
 use Rattle.lsys_module.specs.declared.symbol.Symbol.{Symbol}
 use Rattle.lsys_module.specs.Views.{string_of}
 
 -- a symbol, without its lineage
 abbrev pub raw_plain : Raw → S.Symbol ℤ
 raw_plain (Plain s) = plain s
-raw_plain (Percent l) = S.Cut
+raw_plain (Cut l) = S.Cut
 
 -- symbols with lineages are these symbols
 abbrev pub AreOf : List Raw → List Symbol → Type 0

@@ -3,7 +3,7 @@ ghost use Rattle.std.specs.Prelude.{◌≡◌, ◌≤◌, ◌∷◌, [], length,
 ghost use Rattle.lsys_spec.specs.Bodies.{body_of};
 ghost use Rattle.lsys_spec.specs.Meaning.{filled, filled_params};
 ghost use Rattle.lsys_expr.specs.Answers.{answer_of};
-ghost use Rattle.lsys_bodies.specs.Limits.{HaveFewParams};
+ghost use Rattle.lsys_syntax.specs.Smalls.{HaveFewParams};
 ghost use Rattle.lsys_bodies.specs.Views.{rule_of, template_of, template_symbol, tree_of, written};
 ghost use Rattle.lsys_rewrite.specs.Filled.{IsAdded, IsAddedFront, IsFilled, IsSymbol};
 

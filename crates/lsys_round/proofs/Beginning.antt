@@ -1,6 +1,7 @@
 -- A round before its first symbol.
 use Rattle.std.proofs.Common.{◌≡◌, ℕ, ◌+◌, ◌<◌, ◌≤◌, Bool, true, false, Option, Some, None, Result, Ok, Err, List, [], ◌∷◌, ◌++◌, length, refl, sym, ap, ◌∙◌, subst, arith}
 use Rattle.std.specs.Prelude.{slice_get}
+use Rattle.lsys_syntax.specs.Commands.{Numbering}
 use Rattle.lsys_spec.specs.Systems.{System}
 use Rattle.lsys_spec.specs.Values.{◌and_then◌}
 use Rattle.lsys_spec.specs.Levels.{Symbol}
@@ -32,13 +33,14 @@ none_new s = record {
   stay = all_stay s;
 }
 
-pub none_at : (room : ℕ) → IsAt 0 (nothing_asked room)
-none_at room = record { each_fresh = refl; each_taken = refl; parents = refl; modules = omega arith; questions = refl; few = omega arith }
+pub none_at : (g : Numbering) (room : ℕ) → IsAt 0 (nothing_asked g room)
+none_at g room = record { each_fresh = refl; each_taken = refl; parents = refl; modules = omega arith; questions = refl; few = omega arith }
 
-pub none_asked : (s : System) (t : ℕ) (row : List Spotted) (x : List Symbol) (olds : List (Option TagAnswer)) (mates : List (Option ℕ)) (store : Store) (room v : ℕ) → AskedTo s t row x olds mates store (nothing_asked room) v v 0
+pub none_asked : (s : System) (t : ℕ) (row : List Spotted) (x : List Symbol) (olds : List (Option TagAnswer)) (mates : List (Option ℕ)) (store : Store) (room v : ℕ) → AskedTo s t row x olds mates store (nothing_asked s.numbering room) v v 0
 none_asked s t row x olds mates store room v = record {
   raw = [];
   replaced = record { told = nothing_before (children_from s t x 0 0 x) };
+  numbering = refl;
   grown = none_grown s.seed x room;
   found = λ q a l e. absurd (omega (arith, l));
   read = refl;

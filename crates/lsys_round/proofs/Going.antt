@@ -10,7 +10,7 @@ use Rattle.lsys_spec.specs.Systems.{System}
 use Rattle.lsys_spec.specs.Levels as levels
 use Rattle.lsys_spec.specs.Levels.{Symbol, ModuleValue, lineage, plain}
 use Rattle.lsys_spec.specs.Choice.{Fault}
-use Rattle.lsys_spec.specs.Meaning.{numbered}
+use Rattle.lsys_spec.specs.Meaning.{children}
 use Rattle.lsys_spec.specs.Questions.{Question, questions_from, questions_at}
 use Rattle.lsys_level.specs.Spots.{Spotted, level_by}
 use Rattle.lsys_level.specs.Spots as Seen
@@ -22,6 +22,7 @@ use Rattle.lsys_match.specs.Asks.{IsNamedAt, StaysAsKept, by_definition}
 use Rattle.lsys_match.specs.TagQuestions.{TagAnswer}
 use Rattle.lsys_match.specs.declared.answer.Answer.{Answer}
 use Rattle.lsys_match.specs.declared.refusal.AskRefusal.{AskRefusal}
+use Rattle.lsys_offspring.specs.Grown.{IsGrown}
 use Rattle.lsys_offspring.specs.Steps.{AreReplaced, replacement, counted}
 use Rattle.lsys_offspring.proofs.Stepping.{goes_on}
 use Rattle.lsys_revision.specs.Revised.{seen_by}
@@ -117,12 +118,15 @@ module _ {L : Type 0} (s : System) (t : ℕ) (row : List Spotted) (mates : List 
 
   pub goes : AskedTo s t row (level_by naming row) (told begin olds) mates mid r v0 v p → AskedTo s t row (level_by naming row) (told begin olds) mates after after_r v0 w (p + 1)
   goes h = record {
-    raw = h.raw ++ numbered 0 (lineage a) (string_found (seen_by a) old f);
+    raw = h.raw ++ children s.numbering (lineage a) (string_found (seen_by a) old f);
     replaced =
         let n : counted a r.modules ≡ after_r.modules = sym (ap (λ (r : Rounded). r.modules) is ∙ modules_here s t (level_by naming row) p a f v w r.modules asked) in
-        subst (λ n. AreReplaced s t (level_by naming row) (p + 1) n (h.raw ++ numbered 0 (lineage a) (string_found (seen_by a) old f))) n
+        subst (λ n. AreReplaced s t (level_by naming row) (p + 1) n (h.raw ++ children s.numbering (lineage a) (string_found (seen_by a) old f))) n
         (goes_on s t (level_by naming row) p r.modules h.raw a (string_found (seen_by a) old f) h.replaced there (string_here (replacement s t (level_by naming row) p a) a old f replaced));
-    grown = replaces.grown s.seed (level_by naming row) h.raw a h.grown (ap (slice_get (level_by naming row)) at.parents ∙ there) refl;
+    numbering = replaces.numbering ∙ h.numbering;
+    grown =
+        subst (λ g. IsGrown s.seed (level_by naming row) (h.raw ++ children g (lineage a) (string_found (seen_by a) old f)) after_r.next.grown) h.numbering
+        (replaces.grown s.seed (level_by naming row) h.raw a h.grown (ap (slice_get (level_by naming row)) at.parents ∙ there) refl);
     found = λ q b l e. by q b e (below q l);
     read =
         let one = entries_here s t (level_by naming row) p a there in

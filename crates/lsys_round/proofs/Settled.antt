@@ -5,6 +5,7 @@ use Rattle.std.proofs.lemmas.Option.{slice_get-get_or}
 use Rattle.std.proofs.lemmas.List.{length_push}
 use Rattle.lsys_syntax.specs.Limits.{most_successor_symbols}
 use Rattle.lsys_syntax.specs.Strings as S
+use Rattle.lsys_spec.specs.Draws.{number_base}
 use Rattle.lsys_spec.specs.Systems.{System, WellFormed}
 use Rattle.lsys_spec.specs.Draws.{key_of}
 use Rattle.lsys_spec.specs.Levels.{Symbol, lineage}
@@ -17,7 +18,7 @@ use Rattle.lsys_walks.specs.Stores.{Store}
 use Rattle.lsys_match.specs.Kept.{Kept}
 use Rattle.lsys_match.specs.declared.answer.Answer.{Answer}
 use Rattle.lsys_match.specs.declared.refusal.AskRefusal.{AskRefusal}
-use Rattle.lsys_offspring.specs.Grown.{Grown}
+use Rattle.lsys_offspring.specs.Grown.{Making}
 use Rattle.lsys_offspring.specs.Steps.{replacement}
 use Rattle.lsys_offspring.proofs.Short.{replacement_short}
 use Rattle.lsys_revision.specs.Revised.{seen_by}
@@ -74,8 +75,8 @@ questions_most L found.Stays = omega arith
 questions_most L found.Same = omega arith
 questions_most L (found.New b) = omega arith
 
-pub at_next : (L : Type 0) (p : ℕ) (e : Seen) (olds : List (Option Kept)) (mate : Option ℕ) (old : Option Kept) (f : Found L) (next : Grown) (r opened now : Rounded) → IsAt p r → opened ≡ record r { fresh = r.fresh ++ None ∷ []; taken = r.taken ++ None ∷ [] }
-    → now ≡ settled p e mate f next opened → next.parents ≡ r.next.parents + 1 → old ≡ slot_of olds mate → HasOld old f → IsAt (p + 1) now
+pub at_next : (L : Type 0) (p : ℕ) (e : Seen) (olds : List (Option Kept)) (mate : Option ℕ) (old : Option Kept) (f : Found L) (next : Making) (r opened now : Rounded) → IsAt p r → opened ≡ record r { fresh = r.fresh ++ None ∷ []; taken = r.taken ++ None ∷ [] }
+    → now ≡ settled p e mate f next opened → next.grown.parents ≡ r.next.grown.parents + 1 → old ≡ slot_of olds mate → HasOld old f → IsAt (p + 1) now
 at_next L p e olds mate old f next r opened now at is_opened is parents is_old has = subst (IsAt (p + 1)) (sym (is ∙ ap (settled p e mate f next) is_opened)) (record {
   each_fresh = ap length fresh ∙ length_push r.fresh (fresh_found f) ∙ ap (λ n. n + 1) at.each_fresh;
   each_taken = ap length taken ∙ length_push r.taken (taken_found mate f) ∙ ap (λ n. n + 1) at.each_taken;
@@ -113,7 +114,7 @@ stands_here s row mates p b h e l =
     let here = symbol_there h.naming s.seed row h.level p a h.is there in
     record { naming = h.naming; symbol = a; here = here; seen = let both = sym e ∙ here.here in let same : b ≡ record { seen = seen_by a; tag = here.tag; key = key_of s.seed (lineage a) } = cc in ap (λ (b : Spotted). b.seen) same }
 
-string_short : (n : ℕ) (s : System) (t : ℕ) (x : List Symbol) (p : ℕ) (a : Symbol) (ys : List (S.Symbol ℤ)) → WellFormed s → replacement s t x p a ≡ Ok ys → length ys < 2 ^ 32
+string_short : (n : ℕ) (s : System) (t : ℕ) (x : List Symbol) (p : ℕ) (a : Symbol) (ys : List (S.Symbol ℤ)) → WellFormed s → replacement s t x p a ≡ Ok ys → length ys ≤ number_base
 string_short n s t x p a ys w h = let short = replacement_short s w t x p a ys h in omega (arith, short)
 
 pub has_old : (L : Type 0) (r : Result (List (S.Symbol ℤ)) Fault) (a : Symbol) (old : Option Kept) (f : Found L) → IsReplaced r a old (Ok f) → HasOld old f
@@ -124,20 +125,20 @@ has_old L r a (Some o) found.Stays h = tt
 has_old L r a None (found.New b) h = tt
 has_old L r a (Some o) (found.New b) h = tt
 
-pub short_found : (L : Type 0) (s : System) (t : ℕ) (x : List Symbol) (p : ℕ) (a : Symbol) (e : Seen) (old : Option Kept) (f : Found L) → WellFormed s → e ≡ seen_by a → IsReplaced (replacement s t x p a) a old (Ok f) → length (string_found e old f) < 2 ^ 32
+pub short_found : (L : Type 0) (s : System) (t : ℕ) (x : List Symbol) (p : ℕ) (a : Symbol) (e : Seen) (old : Option Kept) (f : Found L) → WellFormed s → e ≡ seen_by a → IsReplaced (replacement s t x p a) a old (Ok f) → length (string_found e old f) ≤ number_base
 short_found L s t x p a e old f w is h =
-    subst (λ e. length (string_found e old f) < 2 ^ 32) (sym is) (string_short 0 s t x p a (string_found (seen_by a) old f) w (string_here (replacement s t x p a) a old f h))
+    subst (λ e. length (string_found e old f) ≤ number_base) (sym is) (string_short 0 s t x p a (string_found (seen_by a) old f) w (string_here (replacement s t x p a) a old f h))
 
 pub string_length : (xs : List Code) → length (string_of xs) ≡ length xs
 string_length [] = refl
 string_length (x ∷ xs) = ap suc (string_length xs)
 
-pub short_same : (L : Type 0) (n : ℕ) (e : Seen) (old : Option Kept) (o : Kept) (f : Found L) → f ≡ found.Same → old ≡ Some o → length (string_found e old f) < n → length o.successor < n
+pub short_same : (L : Type 0) (n : ℕ) (e : Seen) (old : Option Kept) (o : Kept) (f : Found L) → f ≡ found.Same → old ≡ Some o → length (string_found e old f) ≤ n → length o.successor ≤ n
 short_same L n e old o f is there h =
-    let one : length (string_of o.successor) < n = subst (λ (old : Option Kept). length (string_found {L = L} e old found.Same) < n) there (subst (λ (f : Found L). length (string_found e old f) < n) is h) in
+    let one : length (string_of o.successor) ≤ n = subst (λ (old : Option Kept). length (string_found {L = L} e old found.Same) ≤ n) there (subst (λ (f : Found L). length (string_found e old f) ≤ n) is h) in
     omega (arith, one, string_length o.successor)
 
-pub short_new : (L : Type 0) (n : ℕ) (e : Seen) (old : Option Kept) (b : Answer L) (f : Found L) → f ≡ found.New b → length (string_found e old f) < n → length b.successor < n
+pub short_new : (L : Type 0) (n : ℕ) (e : Seen) (old : Option Kept) (b : Answer L) (f : Found L) → f ≡ found.New b → length (string_found e old f) ≤ n → length b.successor ≤ n
 short_new L n e old b f is h =
-    let one : length (string_of b.successor) < n = subst (λ (f : Found L). length (string_found e old f) < n) is h in
+    let one : length (string_of b.successor) ≤ n = subst (λ (f : Found L). length (string_found e old f) ≤ n) is h in
     omega (arith, one, string_length b.successor)

@@ -1,11 +1,12 @@
 -- A level that is asked about, symbol by symbol.
 use Rattle.std.specs.Prelude.{◌≡◌, ◌+◌, ◌<◌, ◌≤◌, ◌^◌, ℕ, ℤ, Option, Some, None, Result, Ok, Err, List, [], ◌∷◌, ◌++◌, length, map, drop, set, sum_by, slice_get, option_map}
 use Rattle.lsys_syntax.specs.Strings as S
+use Rattle.lsys_syntax.specs.Commands.{Numbering}
 use Rattle.lsys_spec.specs.Draws.{key_of}
 use Rattle.lsys_spec.specs.Systems.{System, WellFormed}
 use Rattle.lsys_spec.specs.Levels.{Symbol, lineage}
 use Rattle.lsys_spec.specs.Cuts.{Raw}
-use Rattle.lsys_spec.specs.Meaning.{FaultAt, next_level, numbered}
+use Rattle.lsys_spec.specs.Meaning.{FaultAt, next_level, children}
 use Rattle.lsys_spec.specs.Questions.{Question, questions_from, questions_at}
 use Rattle.lsys_level.specs.Spots.{Seen, Push, Pop, Module, Spotted, level_by}
 use Rattle.lsys_walks.specs.Stores.{Store}
@@ -19,7 +20,7 @@ use Rattle.lsys_match.specs.declared.refusal.AskRefusal.TheVariants as asks
 use Rattle.lsys_rewrite.specs.Faults.{fault_of}
 use Rattle.lsys_rewrite.specs.declared.refusal.DeriveRefusal.{DeriveRefusal}
 use Rattle.lsys_rewrite.specs.declared.refusal.DeriveRefusal.TheVariants as refusals
-use Rattle.lsys_offspring.specs.Grown.{Grown, IsGrown, IsMade as IsMadeLevel, nothing_grown}
+use Rattle.lsys_offspring.specs.Grown.{Grown, Making, IsGrown, IsMade as IsMadeLevel, nothing_made}
 use Rattle.lsys_offspring.specs.declared.level.Level.{Level}
 use Rattle.lsys_offspring.specs.Steps.{AreReplaced}
 use Rattle.lsys_module.specs.Views.{string_of}
@@ -67,20 +68,20 @@ told s slots = map (option_map (answer_in s)) slots
 
 -- the next level so far; for each symbol so far its new answer, or the old place from which one is taken over; how many modules there were, and how many questions
 pub record Rounded : Type 0 where
-  pub next : Grown
+  pub next : Making
   pub fresh : List (Option Kept)
   pub taken : List (Option ℕ)
   pub modules : ℕ
   pub questions : ℕ
 
-abbrev pub nothing_asked : ℕ → Rounded
-nothing_asked room = record { next = nothing_grown room; fresh = []; taken = []; modules = 0; questions = 0 }
+abbrev pub nothing_asked : Numbering → ℕ → Rounded
+nothing_asked g room = record { next = nothing_made g room; fresh = []; taken = []; modules = 0; questions = 0 }
 
 -- so many symbols were asked about
 pub record IsAt (p : ℕ) (r : Rounded) : Type 0 where
   pub each_fresh : length r.fresh ≡ p
   pub each_taken : length r.taken ≡ p
-  pub parents : r.next.parents ≡ p
+  pub parents : r.next.grown.parents ≡ p
   pub modules : r.modules ≤ p
   pub questions : r.questions ≡ filled r.fresh + filled r.taken
   pub few : r.questions ≤ p
@@ -97,7 +98,8 @@ HasRead most before after = (before ≤ after) × (after ≤ before + most)
 pub record AskedTo (s : System) (t : ℕ) (row : List Spotted) (x : List Symbol) (olds : List (Option TagAnswer)) (mates : List (Option ℕ)) (store : Store) (r : Rounded) (before after p : ℕ) : Type 0 where
   pub raw : List Raw
   pub replaced : AreReplaced s t x p r.modules raw
-  pub grown : IsGrown s.seed x raw r.next
+  pub numbering : r.next.numbering ≡ s.numbering
+  pub grown : IsGrown s.seed x raw r.next.grown
   pub found : (q : ℕ) (a : Symbol) → q < p → slice_get x q ≡ Some a →
       IsFound s t row q (question_here s t x q a) (slot_at mates q) (slot_of olds (slot_at mates q)) (slot_at (told store r.fresh) q) (slot_at r.taken q)
   pub read : after + entries_of (questions_from s t x p (drop p x)) ≡ before + entries_of (questions_at s t x)
@@ -132,11 +134,12 @@ modules_in Pop = 0
 modules_in (Module m) = 1
 
 -- these symbols replaced the next symbol, which has this key
-pub record Replaces (key : ℕ) (ys : List (S.Symbol ℤ)) (before after : Grown) : Type 0 where
-  pub grown : (seed : ℕ) (above : List Symbol) (raw : List Raw) (parent : Symbol) → IsGrown seed above raw before → slice_get above before.parents ≡ Some parent → key ≡ key_of seed (lineage parent)
-      → IsGrown seed above (raw ++ numbered 0 (lineage parent) ys) after
-  pub parents : after.parents ≡ before.parents + 1
-  pub room : after.room ≡ before.room
+pub record Replaces (key : ℕ) (ys : List (S.Symbol ℤ)) (before after : Making) : Type 0 where
+  pub grown : (seed : ℕ) (above : List Symbol) (raw : List Raw) (parent : Symbol) → IsGrown seed above raw before.grown → slice_get above before.grown.parents ≡ Some parent → key ≡ key_of seed (lineage parent)
+      → IsGrown seed above (raw ++ children before.numbering (lineage parent) ys) after.grown
+  pub parents : after.grown.parents ≡ before.grown.parents + 1
+  pub room : after.grown.room ≡ before.grown.room
+  pub numbering : after.numbering ≡ before.numbering
 
 -- why the system has no levels, where n modules stand before this one
 abbrev pub refusal_at : ℕ → ℕ → AskRefusal → DeriveRefusal
@@ -183,13 +186,13 @@ pub record IsOpened (p : ℕ) (r : Rounded) : Type 0 where
   pub taken : length r.taken ≡ p + 1
   pub none_fresh : slot_at r.fresh p ≡ None
   pub none_taken : slot_at r.taken p ≡ None
-  pub parents : r.next.parents ≡ p
+  pub parents : r.next.grown.parents ≡ p
   pub modules : r.modules ≤ p
   pub questions : r.questions ≤ p
   pub few : p + 1 < 2 ^ 32
 
 -- what is kept of the symbol at place p of which this was found out
-abbrev pub settled : {L : Type 0} → ℕ → Seen → Option ℕ → Found L → Grown → Rounded → Rounded
+abbrev pub settled : {L : Type 0} → ℕ → Seen → Option ℕ → Found L → Making → Rounded → Rounded
 settled p e mate f next r = record {
   next = next;
   fresh = set r.fresh p (fresh_found f);

@@ -1,9 +1,11 @@
 //! All symbols of a level, asked about and replaced.
 ghost use Rattle.std.specs.Prelude.{◌≡◌, ◌+◌, ◌++◌, ◌∷◌, [], ◌<◌, ◌≤◌, ◌^◌, ℕ, List, None, Some, OnOk, OnErr, length, option_map, set};
+ghost use Rattle.lsys_spec.specs.Draws.{number_base};
 ghost use Rattle.lsys_spec.specs.Levels as levels;
 ghost use Rattle.lsys_level.specs.Spots.{Spotted, level_at, spotted_at};
 ghost use Rattle.lsys_level.specs.Views.{seen_of, HasFewParams};
 ghost use Rattle.lsys_module.specs.Views.{string_of};
+ghost use Rattle.lsys_reading.specs.Commands.{numbering_of};
 ghost use Rattle.lsys_walks.specs.Stores.{Store};
 ghost use Rattle.lsys_counts.specs.Slots.{filled, slot_at};
 ghost use Rattle.lsys_round.specs.Rounds.{alone, fresh_found, modules_in, nothing_asked, refusal_at, settled, string_found, told, AreMadeAt, AreNew, AskedTo, CanAsk, HasOld, IsAt, IsFinished, IsOpened, IsRound, IsRow, Replaces, StayMade};
@@ -14,6 +16,7 @@ use lsys_level::{FlatSpot, LevelView, Sight};
 use lsys_match::{Answer, AnswerStore, AskRefusal, Steps};
 use lsys_module::{Module, Params, Symbol};
 use lsys_offspring::{Level, NextLevel};
+use lsys_reading::Numbering;
 use lsys_rewrite::DeriveRefusal;
 use std::alloc::{AllocError, Global};
 use std::marker::Model;
@@ -60,11 +63,11 @@ impl<L: Ledger> Model for Round<L> {
 
 impl<L: Ledger> Round<L> {
     /// No symbol was asked about yet. The next level may have `room` symbols. Takes no memory.
-    pub fn new(alloc: Global, room: usize) -> Round<L>
-        ensures { result ≡ nothing_asked room }
+    pub fn new(alloc: Global, numbering: Numbering, room: usize) -> Round<L>
+        ensures { result ≡ nothing_asked (numbering_of numbering) room }
     {
         Round {
-            next: NextLevel::new(alloc, room),
+            next: NextLevel::new(alloc, numbering, room),
             fresh: Vec::new(alloc),
             taken: Vec::new(alloc),
             modules: 0,
@@ -87,7 +90,7 @@ impl<L: Ledger> Round<L> {
         asked: &mut Steps<L>,
         visited: &mut Steps<V>,
     ) -> Result<(), DeriveRefusal>
-        requires new { self.old ≡ nothing_asked self.old.next.room }
+        requires new { self.old ≡ nothing_asked beside.now.system.now.numbering self.old.next.grown.room }
         requires level { let row = level_at beside.now.view.now beside.now.level in
             CanAsk beside.now.system.now row beside.now.mates.now }
         requires made { AreMadeAt store.old beside.now.olds.now }
@@ -99,7 +102,7 @@ impl<L: Ledger> Round<L> {
         ensures new { AreNew store.old store.new self.new.fresh }
         ensures each { length self.new.fresh ≤ length (level_at beside.now.view.now beside.now.level) }
         ensures asked { asked.new ≡ asked.old + filled self.new.fresh }
-        ensures room { OnOk result (self.new.next.room ≡ self.old.next.room) }
+        ensures room { OnOk result (self.new.next.grown.room ≡ self.old.next.grown.room) }
     {
         self.reserve(beside.mates.len())?;
         for place in 0..beside.mates.len() {
@@ -110,7 +113,7 @@ impl<L: Ledger> Round<L> {
 
     /// What was found out, with the next level where there was room for it.
     pub fn finish(self) -> Asked<L>
-        ensures next { IsFinished self.next result.next }
+        ensures next { IsFinished self.next.grown result.next }
         ensures fresh { result.fresh.items ≡ self.fresh }
         ensures taken { result.taken.items ≡ self.taken }
         ensures questions { result.questions ≡ self.questions }
@@ -151,7 +154,7 @@ impl<L: Ledger> Round<L> {
         ensures new { (begin : Store) → AreNew begin store.old self.old.fresh → AreNew begin store.new self.new.fresh }
         ensures each { length self.new.fresh ≤ place + 1 }
         ensures asked { asked.new + filled self.old.fresh ≡ asked.old + filled self.new.fresh }
-        ensures room { OnOk result (self.new.next.room ≡ self.old.next.room) }
+        ensures room { OnOk result (self.new.next.grown.room ≡ self.old.next.grown.room) }
         ensures going { let row = level_at beside.now.view.now beside.now.level in
             (begin : Store) (before : ℕ) (naming : ℕ → List ℕ) (x : List levels.Symbol)
             → IsRow naming beside.now.system.now.seed row x
@@ -202,7 +205,7 @@ impl<L: Ledger> Round<L> {
         requires mate { place < length beside.now.mates.now }
         requires old { HasOld (option_map (λ a. a.now) old) found }
         requires short { (b : Spotted) → spotted_at beside.now.view.now beside.now.level place ≡ Some b
-            → length (string_found b.seen (option_map (λ a. a.now) old) found) < 2 ^ 32 }
+            → length (string_found b.seen (option_map (λ a. a.now) old) found) ≤ number_base }
         ensures replaced { (b : Spotted) → spotted_at beside.now.view.now beside.now.level place ≡ Some b
             → OnOk result (Replaces b.key (string_found b.seen (option_map (λ a. a.now) old.entry) found)
             self.old.next self.new.next) }
@@ -253,7 +256,7 @@ impl<L: Ledger> Round<L> {
 
     // A symbol without a question stays.
     fn stay(&mut self, key: u64, sight: Sight<'_>) -> Result<(), AllocError>
-        requires parents { self.old.next.parents + 1 < 2 ^ 32 }
+        requires parents { self.old.next.grown.parents + 1 < 2 ^ 32 }
         requires modules { self.old.modules + 1 < 2 ^ 32 }
         requires few { HasFewParams sight }
         ensures replaced { OnOk result (Replaces key (alone (seen_of sight.entry)) self.old.next self.new.next) }
@@ -280,11 +283,11 @@ impl<L: Ledger> Round<L> {
         from: Option<u32>,
         old: &Answer<L>,
     ) -> Result<(), AllocError>
-        requires parents { self.old.next.parents + 1 < 2 ^ 32 }
+        requires parents { self.old.next.grown.parents + 1 < 2 ^ 32 }
         requires modules { self.old.modules + 1 < 2 ^ 32 }
         requires questions { self.old.questions + 1 < 2 ^ 32 }
         requires place { place < length self.old.taken }
-        requires short { length old.now.successor < 2 ^ 32 }
+        requires short { length old.now.successor ≤ number_base }
         ensures replaced { OnOk result (Replaces key (string_of old.now.successor) self.old.next self.new.next) }
         ensures rest { OnOk result (self.new ≡ record self.old { next = self.new.next; taken = set self.old.taken place from; modules = self.old.modules + 1; questions = self.old.questions + 1 }) }
         ensures fresh { self.new.fresh ≡ self.old.fresh }
@@ -297,11 +300,11 @@ impl<L: Ledger> Round<L> {
 
     // The new answer is kept.
     fn put(&mut self, place: usize, key: u64, answer: Answer<L>) -> Result<(), AllocError>
-        requires parents { self.old.next.parents + 1 < 2 ^ 32 }
+        requires parents { self.old.next.grown.parents + 1 < 2 ^ 32 }
         requires modules { self.old.modules + 1 < 2 ^ 32 }
         requires questions { self.old.questions + 1 < 2 ^ 32 }
         requires place { place < length self.old.fresh }
-        requires short { length answer.successor < 2 ^ 32 }
+        requires short { length answer.successor ≤ number_base }
         ensures replaced { OnOk result (Replaces key (string_of answer.successor) self.old.next self.new.next) }
         ensures rest { OnOk result (self.new ≡ record self.old { next = self.new.next; fresh = set self.old.fresh place (Some answer); modules = self.old.modules + 1; questions = self.old.questions + 1 }) }
         ensures fresh { self.new.fresh ≡ set self.old.fresh place (Some answer) }

@@ -10,15 +10,15 @@ use Rattle.lsys_bodies.specs.declared.rule.HomRule.{HomRule}
 use Rattle.lsys_bodies.specs.Views.{production_of, homomorphism_of}
 use Rattle.lsys_rules.specs.InsideRules.{Own}
 
-abbrev values_of : {R : Type 0} → List (List ℕ × R) → List R
+abbrev pub values_of : {R : Type 0} → List (List ℕ × R) → List R
 values_of es = map (λ e. e.1) es
 
 module _ {R : Type 0} (label : R → List ℕ) where
-  abbrev put_at : R → List R → List R
+  abbrev pub put_at : R → List R → List R
   put_at r [] = r ∷ []
   put_at r (q ∷ qs) = if bytes_eq (label q) (label r) then r ∷ qs else q ∷ put_at r qs
 
-  abbrev without_at : List ℕ → List R → List R
+  abbrev pub without_at : List ℕ → List R → List R
   without_at l [] = []
   without_at l (q ∷ qs) = if bytes_eq (label q) l then qs else q ∷ without_at l qs
 
@@ -53,7 +53,7 @@ module _ {R : Type 0} (label : R → List ℕ) where
       by true false h rest = cc
       by false true h rest = cc
 
-  values_removed : (es : List (List ℕ × R)) (l : List ℕ) → Own label es → values_of (remove_entry (bytes_eq l) es) ≡ without_at l (values_of es)
+  pub values_removed : (es : List (List ℕ × R)) (l : List ℕ) → Own label es → values_of (remove_entry (bytes_eq l) es) ≡ without_at l (values_of es)
   values_removed [] l own = refl
   values_removed (e ∷ es) l own = by (bytes_eq l e.0) (bytes_eq (label e.1) l) (swapped l e own.0) (values_removed es l own.1)
     where

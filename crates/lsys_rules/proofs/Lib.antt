@@ -1,4 +1,5 @@
 pub mod Labels
+pub mod OwnOrder
 pub mod Grouping
 pub mod Tables
 pub mod Searches

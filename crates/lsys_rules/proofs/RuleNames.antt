@@ -16,7 +16,7 @@ use Rattle.lsys_text.specs.declared.token_kind.Token.{Token}
 use Rattle.lsys_reading.specs.declared.rule.RuleLine.{RuleLine}
 use Rattle.lsys_reading.specs.declared.parts.LabeledRule.{LabeledRule}
 use Rattle.lsys_reading.specs.declared.parts.Parts.{Parts}
-use Rattle.lsys_reading.specs.declared.parts.Parts.TheVariants.{Axiom, Production, Drop, Ignore, Schedule, Seed, Depth, Lattice, Homomorphism, String, Segments, Svg, Show, Quit}
+use Rattle.lsys_reading.specs.declared.parts.Parts.TheVariants.{Axiom, Production, Drop, Ignore, Schedule, Seed, Depth, Lattice, Homomorphism, String, Segments, Svg, Show, Quit, Version, Own, Common, Lineage}
 use Rattle.lsys_reading.specs.RuleLines.{rule_at}
 use Rattle.lsys_reading.specs.Spans.{option_at}
 use Rattle.lsys_reading.specs.Images.{images_at}
@@ -88,6 +88,10 @@ from_production ks l x Segments e h = tt
 from_production ks l x Svg e h = tt
 from_production ks l x Show e h = tt
 from_production ks l x Quit e h = tt
+from_production ks l x (Version w) e h = tt
+from_production ks l x (Own w) e h = tt
+from_production ks l x (Common w) e h = tt
+from_production ks l x (Lineage w) e h = tt
 
 from_homomorphism : (ks : List Kind) (l : LabeledRule) (x : FormalNames) (q : Parts) → parts_command ks (Homomorphism l) ≡ parts_command ks q → AreFormalNames 3 l.rule x → HasFormals q (Some x)
 from_homomorphism ks l x (Homomorphism m) e h = let rules : rule_at ks l.rule ≡ rule_at ks m.rule = cc in names_moved 3 ks l.rule m.rule x rules h
@@ -104,6 +108,10 @@ from_homomorphism ks l x Segments e h = tt
 from_homomorphism ks l x Svg e h = tt
 from_homomorphism ks l x Show e h = tt
 from_homomorphism ks l x Quit e h = tt
+from_homomorphism ks l x (Version w) e h = tt
+from_homomorphism ks l x (Own w) e h = tt
+from_homomorphism ks l x (Common w) e h = tt
+from_homomorphism ks l x (Lineage w) e h = tt
 
 pub production_names : (ks : List Kind) (p : Parts) (l : LabeledRule) (x : FormalNames) → p ≡ Production l → IsParted ks p → AreFormalNames (label_place l.table + 2) l.rule x
     → (q : Parts) → IsParted ks q → HasFormals q (Some x)

@@ -1,21 +1,22 @@
 -- The texts of a shown system, part by part.
 use Rattle.std.proofs.Common.{◌≡◌, ℕ, zero, suc, arith, ◌+◌, ◌<◌, ℤ, Bool, true, false, List, [], ◌∷◌, ◌++◌, codes, decimal, length, map, take, drop, get_or, refl, ap, ap₂, subst, ◌∙◌, sym, append_assoc, append-nil, All, Option, Some, None, IsTrue, ◌==◌, ◌||◌, is_some, unwrap_or, if◌then◌else◌}
+use Rattle.std.proofs.lemmas.Bool.{eqb-true}
 use Rattle.std.proofs.lemmas.List.{take_more, take-append-drop, map-append}
 use Rattle.lsys_syntax.specs.Tokens.{NameText, long, Kind, LongWord, Comma, LeftParen, RightParen, LeftBracket, RightBracket, Percent, Colon, At, Less, Greater, Bang, Assign, one_mark}
 use Rattle.lsys_syntax.specs.Pieces.{Piece, blank, token, note, a_symbol, a_param, token_text, text_of}
 use Rattle.lsys_syntax.specs.Strings.{Symbol, Module, Push, Pop, Cut, ModuleName, named, Signed, signed_of, more_pieces, params_pieces, symbol_pieces, string_pieces, signed_pieces, value_pieces, string_text, ends_in_name, begins_with_letter, is_letters}
 use Rattle.lsys_syntax.specs.Expressions.{Expr, only_and, or, And, only_rel, and, Rel, only_sum, compare, RelOp, equal, unequal, less, at_most, greater, at_least, Sum, only_term, total, SumOp, add, subtract, Term, only_unary, product, TermOp, multiply, divide, remainder, Unary, negated, inverted, only_atom, raised, Atom, number, name, parens, expr_kinds, and_kinds, rel_kinds, sum_kinds, term_kinds, unary_kinds, atom_kinds, rel_kind, sum_kind, term_kind, expr_pieces}
-use Rattle.lsys_syntax.specs.Commands.{Command, as_symbol, command_pieces, set_axiom, set_depth, set_ignored, set_lattice, set_schedule, set_seed, words_pieces}
+use Rattle.lsys_syntax.specs.Commands.{Command, Numbering, as_symbol, command_pieces, list_word, set_axiom, set_depth, set_ignored, set_lattice, set_schedule, set_seed, set_version, string_behind, words_pieces}
 use Rattle.lsys_syntax.specs.Rules.{Rule, Production, formal_pieces, left_pieces, predecessor_pieces, right_pieces, option_pieces, successor_pieces, rule_pieces}
-use Rattle.lsys_spec.specs.Systems.{System, Homomorphism, module_name_text, written}
-use Rattle.lsys_spec.specs.Shown.{as_put, as_put_homomorphism, script_of, show_text}
+use Rattle.lsys_spec.specs.Systems.{System, Homomorphism, Own, module_name_text, written}
+use Rattle.lsys_spec.specs.Shown.{as_put, as_put_homomorphism, as_set_own, numbering_commands, version_commands, script_of, show_text}
 use Rattle.lsys_text.specs.declared.token_kind.TokenKind.{TokenKind}
 use Rattle.lsys_text.specs.declared.token_kind.TokenKind.TheVariants as kinds
 use Rattle.lsys_text.specs.Tokens.{kind_of, is_mark, mark_kind, IsMarkByte}
 use Rattle.lsys_module.specs.Views.{module_name}
 use Rattle.lsys_module.specs.Printing.{gap_text, name_behind, symbol_behind, more_text, runs_on_after}
 use Rattle.lsys_module.proofs.PrintedTexts.{text_of-append, more_text-append}
-use Rattle.lsys_rules.specs.Showing.{line_of, names_text, kinds_text, expr_behind}
+use Rattle.lsys_rules.specs.Showing.{line_of, listed_text, names_text, kinds_text, expr_behind, version_lines}
 
 -- a text of items, one behind another
 pub record Gathers {X : Type 0} (whole : List X → List ℕ) (each : X → List ℕ) : Type 0 where
@@ -202,23 +203,63 @@ seed-line n = ap (λ t. codes "seed " ++ (t ++ 10 ∷ [])) (append-nil (decimal 
 pub depth-line : (n : ℕ) → line_of (set_depth n) ≡ codes "depth " ++ (decimal n ++ 10 ∷ [])
 depth-line n = ap (λ t. codes "depth " ++ (t ++ 10 ∷ [])) (append-nil (decimal n))
 
+-- the first lines of a system that isn't of version 1
+pub later-lines : (n : ℕ) (g : Numbering) → (n ≡ 1 → ⊥) → version_lines n g ≡ (codes "version " ++ (decimal n ++ 10 ∷ [])) ++ script_of (numbering_commands g)
+later-lines n g h =
+    ap (λ b. if b then [] else line_of (set_version n) ++ script_of (numbering_commands g)) (other (n == 1) refl)
+    ∙ ap (λ t. (codes "version " ++ (t ++ 10 ∷ [])) ++ script_of (numbering_commands g)) (append-nil (decimal n))
+  where
+    other : (b : Bool) → (n == 1) ≡ b → b ≡ false
+    other true e = absurd (h (eqb-true n 1 e))
+    other false e = refl
+
+-- the lines of own lists
+pub lists_gather : Gathers (λ os. script_of (map as_set_own os)) (λ o. line_of (as_set_own o))
+lists_gather = record {
+  none = refl;
+  more = λ os qs. ap script_of (map-append as_set_own os qs) ∙ script-append (map as_set_own os) (map as_set_own qs);
+  one = λ o. refl;
+}
+
+pub own-line : (o : Own) → line_of (as_set_own o) ≡ list_word o.kind ++ ((32 ∷ o.table) ++ listed_text o.names)
+own-line o =
+    let names = text_of (string_behind (map as_symbol o.names)) in
+    append_assoc (list_word o.kind) (32 ∷ (o.table ++ 58 ∷ names)) (10 ∷ []) ∙ ap (λ t. list_word o.kind ++ 32 ∷ t) (append_assoc o.table (58 ∷ names) (10 ∷ []))
+
+-- names that are some, behind their colon
+pub listed-text : (ns : List ModuleName) → (ns ≡ [] → ⊥) → listed_text ns ≡ codes ": " ++ (names_text ns ++ 10 ∷ [])
+listed-text [] h = absurd (h refl)
+listed-text (n ∷ ns) h = refl
+
+-- the first lines of a system
+version-text : (s : System) → script_of (version_commands s) ≡ version_lines s.version s.numbering
+version-text s = by (s.version == 1)
+  where
+    by : (b : Bool) → script_of (if b then [] else set_version s.version ∷ numbering_commands s.numbering) ≡ (if b then [] else line_of (set_version s.version) ++ script_of (numbering_commands s.numbering))
+    by true = refl
+    by false = line-behind (set_version s.version) (numbering_commands s.numbering)
+
 -- all lines of a system
 pub show-text : (s : System) → show_text s
-    ≡ line_of (set_lattice s.lattice) ++ (line_of (set_seed s.seed) ++ (line_of (set_axiom (written s.axiom_string)) ++ (line_of (set_ignored s.ignored) ++ (script_of (map as_put s.rules) ++ (script_of (map as_put_homomorphism s.homomorphisms) ++ (line_of (set_schedule s.schedule) ++ line_of (set_depth s.depth)))))))
+    ≡ version_lines s.version s.numbering ++ (line_of (set_lattice s.lattice) ++ (line_of (set_seed s.seed) ++ (line_of (set_axiom (written s.axiom_string)) ++ (line_of (set_ignored s.ignored) ++ (script_of (map as_put s.rules) ++ (script_of (map as_put_homomorphism s.homomorphisms) ++ (script_of (map as_set_own s.own) ++ (line_of (set_schedule s.schedule) ++ line_of (set_depth s.depth)))))))))
 show-text s =
     let last = set_schedule s.schedule ∷ set_depth s.depth ∷ [] in
-    let homs = map as_put_homomorphism s.homomorphisms ++ last in
+    let lists = map as_set_own s.own ++ last in
+    let homs = map as_put_homomorphism s.homomorphisms ++ lists in
     let rules = map as_put s.rules ++ homs in
-    let fourth = set_ignored s.ignored ∷ rules in
-    let third = set_axiom (written s.axiom_string) ∷ fourth in
-    let second = set_seed s.seed ∷ third in
-    line-behind (set_lattice s.lattice) second
-    ∙ ap (λ t. line_of (set_lattice s.lattice) ++ t) (line-behind (set_seed s.seed) third
-    ∙ ap (λ t. line_of (set_seed s.seed) ++ t) (line-behind (set_axiom (written s.axiom_string)) fourth
+    let fifth = set_ignored s.ignored ∷ rules in
+    let fourth = set_axiom (written s.axiom_string) ∷ fifth in
+    let third = set_seed s.seed ∷ fourth in
+    let second = set_lattice s.lattice ∷ third in
+    script-append (version_commands s) second ∙ ap (λ t. t ++ script_of second) (version-text s)
+    ∙ ap (λ t. version_lines s.version s.numbering ++ t) (line-behind (set_lattice s.lattice) third
+    ∙ ap (λ t. line_of (set_lattice s.lattice) ++ t) (line-behind (set_seed s.seed) fourth
+    ∙ ap (λ t. line_of (set_seed s.seed) ++ t) (line-behind (set_axiom (written s.axiom_string)) fifth
     ∙ ap (λ t. line_of (set_axiom (written s.axiom_string)) ++ t) (line-behind (set_ignored s.ignored) rules
     ∙ ap (λ t. line_of (set_ignored s.ignored) ++ t) (script-append (map as_put s.rules) homs
-    ∙ ap (λ t. script_of (map as_put s.rules) ++ t) (script-append (map as_put_homomorphism s.homomorphisms) last
-    ∙ ap (λ t. script_of (map as_put_homomorphism s.homomorphisms) ++ t) (line-behind (set_schedule s.schedule) (set_depth s.depth ∷ []) ∙ ap (λ t. line_of (set_schedule s.schedule) ++ t) (line-behind (set_depth s.depth) [] ∙ append-nil (line_of (set_depth s.depth)))))))))
+    ∙ ap (λ t. script_of (map as_put s.rules) ++ t) (script-append (map as_put_homomorphism s.homomorphisms) lists
+    ∙ ap (λ t. script_of (map as_put_homomorphism s.homomorphisms) ++ t) (script-append (map as_set_own s.own) last
+    ∙ ap (λ t. script_of (map as_set_own s.own) ++ t) (line-behind (set_schedule s.schedule) (set_depth s.depth ∷ []) ∙ ap (λ t. line_of (set_schedule s.schedule) ++ t) (line-behind (set_depth s.depth) [] ∙ append-nil (line_of (set_depth s.depth)))))))))))
 
 -- No mark of an expression is other than the 20 marks.
 

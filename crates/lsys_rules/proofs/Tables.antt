@@ -22,9 +22,9 @@ pub any_map : {A B : Type 0} (p : B → Bool) (f : A → B) (xs : List A) → li
 any_map p f [] = refl
 any_map p f (x ∷ xs) = ap (λ b. p (f x) || b) (any_map p f xs)
 
-walks_any : {A : Type 0} (p : A → Bool) (xs : List A) → list_any p xs ≡ W.list_any p xs
+walks_any : {A : Type 0} (p : A → Bool) (xs : List A) → list_any p xs ≡ W.any p xs
 walks_any p [] = refl
-walks_any p (x ∷ xs) = by (p x) (list_any p xs) (W.list_any p xs) (walks_any p xs)
+walks_any p (x ∷ xs) = by (p x) (list_any p xs) (W.any p xs) (walks_any p xs)
   where
     by : (a b c : Bool) → b ≡ c → (a || b) ≡ (elim a [ true ↦ true | false ↦ c ])
     by true b c h = refl

@@ -6,7 +6,7 @@ use Rattle.lsys_reading.specs.Parted.{command_of}
 use Rattle.lsys_reading.specs.Parsing.{column_of}
 use Rattle.lsys_rules.specs.Lines.{CommandLine}
 use Rattle.lsys_rules.specs.declared.refusal.Refusal.{Refusal}
-use Rattle.lsys_rules.specs.declared.refusal.Refusal.TheVariants.{Name, Duplicate, Mixed, Label, Table, Level, TooMany, Memory}
+use Rattle.lsys_rules.specs.declared.refusal.Refusal.TheVariants.{Version, Name, Duplicate, Mixed, Label, Table, Level, TooMany, Memory}
 
 -- it is refused so, at the token with this column
 abbrev pub IsToldAt : CommandLine → edits.Why → ℕ → Option edits.Refusal → Type 0
@@ -14,6 +14,7 @@ IsToldAt line why column told = (place : ℕ) × (told ≡ Some (record { why = 
 
 -- the refusal that the definitions tell; for want of memory only where they tell none
 abbrev pub IsRefused : CommandLine → Option edits.Refusal → Refusal → Type 0
+IsRefused line told (Version column) = IsToldAt line edits.wrong_version column told
 IsRefused line told (Name column) = IsToldAt line edits.unknown_name column told
 IsRefused line told (Duplicate column) = IsToldAt line edits.duplicate column told
 IsRefused line told (Mixed column) = IsToldAt line edits.mixed column told

@@ -2,9 +2,9 @@
 use Rattle.std.specs.Prelude.{Bool, List, [], ◌∷◌, ◌++◌, if◌then◌else◌}
 use Rattle.lsys_syntax.specs.Strings.{ModuleName}
 use Rattle.lsys_reading.specs.declared.parts.Parts.{Parts}
-use Rattle.lsys_reading.specs.declared.parts.Parts.TheVariants.{Axiom, Production, Drop, Ignore, Schedule, Homomorphism}
+use Rattle.lsys_reading.specs.declared.parts.Parts.TheVariants.{Axiom, Production, Drop, Ignore, Schedule, Homomorphism, Own, Common}
 
--- an edit of a number or of the lattice, or a query
+-- an edit of a number, of the lattice or of the numbering, or a query
 abbrev pub IsPlainEdit : Parts → Type 0
 IsPlainEdit Axiom = ⊥
 IsPlainEdit (Production l) = ⊥
@@ -12,6 +12,8 @@ IsPlainEdit (Drop l) = ⊥
 IsPlainEdit (Ignore ns) = ⊥
 IsPlainEdit (Schedule ws) = ⊥
 IsPlainEdit (Homomorphism l) = ⊥
+IsPlainEdit (Own l) = ⊥
+IsPlainEdit (Common t) = ⊥
 IsPlainEdit p = Unit {0}
 
 -- a name more, unless it stands there

@@ -1,7 +1,7 @@
 -- What refuses a command, as the definitions have it.
 use Rattle.std.specs.Prelude.{◌≡◌, ℕ, Bool, not, ◌&&◌, bytes_eq, length, List, if◌then◌else◌, Option, option_map}
 use Rattle.lsys_syntax.specs.Rules.{Production}
-use Rattle.lsys_spec.specs.Edits.{Why, Refusal, unknown_name, duplicate, mixed, wrong_label, wrong_table, wrong_level, many, same_label}
+use Rattle.lsys_spec.specs.Edits.{Why, Refusal, wrong_version, unknown_name, duplicate, mixed, wrong_label, wrong_table, wrong_level, many, same_label}
 use Rattle.lsys_spec.specs.Systems.{clash, is_weighted}
 use Rattle.lsys_module.specs.Views.{module_name}
 use Rattle.lsys_rules.specs.declared.faults.Cause.{Cause}
@@ -10,6 +10,7 @@ use Rattle.lsys_rules.specs.declared.faults.Fault.{Fault}
 use Rattle.lsys_rules.specs.declared.rule_faults.Newcomer.{Newcomer}
 
 abbrev pub why_of : Cause → Why
+why_of causes.Version = wrong_version
 why_of causes.Name = unknown_name
 why_of causes.Duplicate = duplicate
 why_of causes.Mixed = mixed

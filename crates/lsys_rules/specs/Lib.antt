@@ -1,6 +1,8 @@
 pub mod Codes
 pub mod Groups
 pub mod InsideRules
+pub mod InsideOwn
+pub mod OwnPlaces
 pub mod Systems
 pub mod Faults
 pub mod Lines

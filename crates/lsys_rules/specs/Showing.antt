@@ -1,10 +1,11 @@
 -- The lines of a shown system.
-use Rattle.std.specs.Prelude.{ℕ, Option, Some, None, List, [], ◌∷◌, ◌++◌, map}
+use Rattle.std.specs.Prelude.{ℕ, Option, Some, None, List, [], ◌∷◌, ◌++◌, ◌==◌, map, if◌then◌else◌}
 use Rattle.lsys_syntax.specs.Tokens.{Kind}
 use Rattle.lsys_syntax.specs.Pieces.{text_of, token_text}
 use Rattle.lsys_syntax.specs.Strings.{ModuleName, string_pieces, signed_pieces}
 use Rattle.lsys_syntax.specs.Expressions.{Expr, expr_pieces}
-use Rattle.lsys_syntax.specs.Commands.{Command, as_symbol, command_pieces}
+use Rattle.lsys_syntax.specs.Commands.{Command, Numbering, set_version, as_symbol, command_pieces, string_behind}
+use Rattle.lsys_spec.specs.Shown.{numbering_commands, script_of}
 
 -- a command on a line of its own
 abbrev pub line_of : Command → List ℕ
@@ -23,3 +24,11 @@ kinds_text (k ∷ ks) = token_text k ++ kinds_text ks
 abbrev pub expr_behind : List ℕ → Option Expr → List ℕ
 expr_behind mark None = []
 expr_behind mark (Some e) = mark ++ text_of (expr_pieces e)
+
+-- the first lines of a system of this version and numbering
+abbrev pub version_lines : ℕ → Numbering → List ℕ
+version_lines v g = if v == 1 then [] else line_of (set_version v) ++ script_of (numbering_commands g)
+
+-- what stands behind the word of a table in the line of its own list
+abbrev pub listed_text : List ModuleName → List ℕ
+listed_text ns = 58 ∷ (text_of (string_behind (map as_symbol ns)) ++ 10 ∷ [])

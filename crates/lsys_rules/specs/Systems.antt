@@ -2,7 +2,7 @@
 use Rattle.std.specs.Prelude.{map}
 use Rattle.lsys_spec.specs.Systems as spec
 use Rattle.lsys_module.specs.Views.{module_name, string_of}
-use Rattle.lsys_reading.specs.Commands.{lattice_of}
+use Rattle.lsys_reading.specs.Commands.{lattice_of, numbering_of}
 use Rattle.lsys_rules.specs.declared.parts.SystemParts.{SystemParts}
 
 abbrev pub system_of : SystemParts → spec.System
@@ -15,4 +15,7 @@ system_of s = record {
   seed = s.seed;
   depth = s.depth;
   lattice = lattice_of s.lattice;
+  version = s.version;
+  numbering = numbering_of s.numbering;
+  own = s.own;
 }

@@ -1,8 +1,8 @@
 //! What an edit that nothing refuses makes of a system.
 ghost use Rattle.std.specs.Prelude.{◌≡◌, ◌≤◌, ℕ, None, [], List, IfOk, OnOk, length, map};
-ghost use Rattle.lsys_syntax.specs.Limits.{most_depth};
+ghost use Rattle.lsys_syntax.specs.Limits.{greatest_version, most_depth_of_two};
 ghost use Rattle.lsys_syntax.specs.Checks.{axiom_many};
-ghost use Rattle.lsys_syntax.specs.Commands.{drop_rule, put_homomorphism, put_production, set_axiom, set_ignored, set_schedule};
+ghost use Rattle.lsys_syntax.specs.Commands.{drop_rule, put_homomorphism, put_production, set_axiom, set_ignored, set_own, set_schedule, drop_own};
 ghost use Rattle.lsys_syntax.specs.LineMachine.{sentence};
 ghost use Rattle.lsys_syntax.specs.Tokens.{Kind};
 ghost use Rattle.lsys_syntax.specs.Sentences.{AreTokens};
@@ -11,7 +11,7 @@ ghost use Rattle.lsys_spec.specs.Meaning.{ignores};
 ghost use Rattle.lsys_text.specs.Tokens.{kinds_of};
 ghost use Rattle.lsys_module.specs.Building.{AreOfLine};
 ghost use Rattle.lsys_module.specs.Views.{module_name, string_of};
-ghost use Rattle.lsys_reading.specs.Commands.{axiom_verdict, parts_command, string_in};
+ghost use Rattle.lsys_reading.specs.Commands.{axiom_verdict, list_kind_of, parts_command, string_in};
 ghost use Rattle.lsys_reading.specs.Parted.{command_of, IsParted};
 ghost use Rattle.lsys_reading.specs.RuleLines.{IsRuleLine, rule_at};
 ghost use Rattle.lsys_bodies.specs.Building.{CanBuild};
@@ -19,10 +19,11 @@ ghost use Rattle.lsys_rules.specs.Changes.{IsPlainEdit, with_name};
 ghost use Rattle.lsys_rules.specs.Systems.{system_of};
 
 use crate::names::is_among;
+use crate::own_list::OwnList;
 use crate::parts::SystemParts;
 use lsys_bodies::{build_hom_rule, build_rule};
 use lsys_module::{StringRefusal, SymbolList, build_string};
-use lsys_reading::{LabeledRule, Parts};
+use lsys_reading::{LabeledRule, OwnList as ReadList, Parts};
 use lsys_text::{Name, Token, Word};
 use std::alloc::{AllocError, Global};
 
@@ -46,14 +47,17 @@ pub(crate) fn changed(
         Parts::Ignore(names) => with_ignored(alloc, parts, names),
         Parts::Schedule(words) => with_schedule(alloc, parts, words),
         Parts::Homomorphism(labeled) => with_hom_rule(alloc, parts, tokens, labeled),
+        Parts::Own(list) => with_own(alloc, parts, list),
+        Parts::Common(table) => without_own(alloc, parts, *table),
         other => with_plain(parts, other),
     }
 }
 
-// Those after an edit of a number or of the lattice, or after a query.
+// Those after an edit of a number, of the lattice or of the numbering, or after a query.
 fn with_plain(parts: &SystemParts, edit: &Parts) -> Result<SystemParts, AllocError>
     requires plain { IsPlainEdit edit.now }
-    requires depth { (n : ℕ) → edit.now ≡ Parts.Depth n → n ≤ most_depth }
+    requires depth { (n : ℕ) → edit.now ≡ Parts.Depth n → n ≤ most_depth_of_two }
+    requires version { (n : ℕ) → edit.now ≡ Parts.Version n → n ≤ greatest_version }
     ensures { (ks : List Kind) → IfOk result (λ next. system_of next ≡ changed (system_of parts.now) (parts_command ks edit.now)) }
 {
     let mut next = parts.clone()?;
@@ -61,6 +65,8 @@ fn with_plain(parts: &SystemParts, edit: &Parts) -> Result<SystemParts, AllocErr
         Parts::Seed(seed) => next.seed = *seed,
         Parts::Depth(depth) => next.depth = *depth as u32,
         Parts::Lattice(lattice) => next.lattice = *lattice,
+        Parts::Version(version) => next.version = *version as u32,
+        Parts::Lineage(numbering) => next.numbering = *numbering,
         _ => (),
     }
     Ok(next)
@@ -170,6 +176,28 @@ fn with_ignored(
     let ignored = once(alloc, names)?;
     let mut next = parts.clone()?;
     next.ignored = ignored;
+    Ok(next)
+}
+
+fn with_own(alloc: Global, parts: &SystemParts, list: &ReadList) -> Result<SystemParts, AllocError>
+    ensures { IfOk result (λ next. system_of next
+        ≡ changed (system_of parts.now) (set_own (list_kind_of list.now.kind) list.now.table (map module_name list.now.names.items))) }
+{
+    let names = once(alloc, &list.names)?;
+    let own = parts
+        .own
+        .with(alloc, OwnList::new(list.table, list.kind, names))?;
+    let mut next = parts.clone()?;
+    next.own = own;
+    Ok(next)
+}
+
+fn without_own(alloc: Global, parts: &SystemParts, table: Word) -> Result<SystemParts, AllocError>
+    ensures { IfOk result (λ next. system_of next ≡ changed (system_of parts.now) (drop_own table)) }
+{
+    let own = parts.own.without(alloc, table)?;
+    let mut next = parts.clone()?;
+    next.own = own;
     Ok(next)
 }
 

@@ -70,7 +70,6 @@ fn formals(
     requires parts { IsParted (kinds_of tokens.now) parts.now }
     ensures { IfOk result (λ names. (p : Parts) → IsParted (kinds_of tokens.now) p → HasFormals p names) }
 {
-    let _count = tokens.len();
     match parts {
         Parts::Production(labeled) => {
             let from = production_place(labeled);

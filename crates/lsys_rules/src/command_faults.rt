@@ -12,7 +12,10 @@ ghost use Rattle.lsys_rules.specs.Faults.{Tells};
 ghost use Rattle.lsys_rules.specs.Formals.{HasFormals};
 
 use crate::command::Command;
-use crate::edit_faults::{depth_fault, drop_fault, ignore_fault, level_fault, schedule_fault};
+use crate::edit_faults::{
+    common_fault, depth_fault, drop_fault, ignore_fault, later_fault, level_fault, list_fault,
+    schedule_fault, version_fault,
+};
 use crate::faults::{Cause, Fault};
 use crate::rule_faults::{homomorphism_fault, production_fault};
 use crate::system::System;
@@ -21,7 +24,7 @@ use lsys_module::first_many;
 use lsys_reading::Parts;
 use lsys_text::Token;
 
-/// What refuses a command: the first refusal in the order name, duplicate, mixed, label, table, level, many.
+/// What refuses a command: the first refusal in the order version, name, duplicate, mixed, label, table, level, many.
 pub(crate) fn fault_of(system: &System, command: &Command) -> Option<Fault>
     ensures { Tells result (refusal system.now (command_of command.now.tokens)) }
 {
@@ -39,7 +42,6 @@ fn parts_fault(
     requires formals { HasFormals parts.now formals.now }
     ensures { Tells result (refusal system.now (parts_command (kinds_of tokens.now) parts.now)) }
 {
-    let _count = tokens.len();
     match (parts, formals) {
         (Parts::Axiom, _) => axiom_fault(tokens),
         (Parts::Production(labeled), Some(names)) => {
@@ -51,8 +53,12 @@ fn parts_fault(
         (Parts::Drop(label), _) => drop_fault(system, *label),
         (Parts::Ignore(names), _) => ignore_fault(names),
         (Parts::Schedule(words), _) => schedule_fault(system, words),
-        (Parts::Depth(depth), _) => depth_fault(*depth),
+        (Parts::Depth(depth), _) => depth_fault(system, *depth),
         (Parts::String(level), _) => level_fault(system, *level),
+        (Parts::Version(version), _) => version_fault(system, *version),
+        (Parts::Own(list), _) => list_fault(system, list.table, &list.names),
+        (Parts::Common(table), _) => common_fault(system, *table),
+        (Parts::Lineage(_), _) => later_fault(system),
         _ => None,
     }
 }

@@ -17,7 +17,7 @@ use std::alloc::{AllocError, Global};
 ///
 /// # Errors
 ///
-/// The first refusal in the order name, duplicate, mixed, label, table, level, many, each with the column of the token at
+/// The first refusal in the order version, name, duplicate, mixed, label, table, level, many, each with the column of the token at
 /// which the command is refused. It is found without memory; so `Memory` comes only where nothing refuses the command.
 pub fn apply(alloc: Global, system: &System, command: &Command) -> Result<System, Refusal>
     ensures { IsApplied system.now command.now result }
@@ -44,6 +44,7 @@ impl Command {
     {
         let column = self.column(fault.place);
         match fault.cause {
+            Cause::Version => Refusal::Version { column },
             Cause::Name => Refusal::Name { column },
             Cause::Duplicate => Refusal::Duplicate { column },
             Cause::Mixed => Refusal::Mixed { column },

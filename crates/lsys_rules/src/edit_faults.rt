@@ -1,14 +1,17 @@
 //! What refuses the edits and queries that are no rules.
-ghost use Rattle.std.specs.Prelude.{◌≡◌, ◌+◌, ◌||◌, not, length, map, nat_lt, bytes_eq};
-ghost use Rattle.lsys_syntax.specs.Limits.{most_ignored, most_schedule_words, most_depth};
-ghost use Rattle.lsys_spec.specs.Edits.{first_place, refused_if, many, schedule_refusal, level_refusal, drop_refusal, loses_table, without_rule};
-ghost use Rattle.lsys_spec.specs.Systems.{Apart, any, is_table, main};
+ghost use Rattle.std.specs.Prelude.{◌≡◌, ◌+◌, ◌||◌, ◌∷◌, [], not, length, map, nat_lt, bytes_eq};
+ghost use Rattle.lsys_syntax.specs.Limits.{most_ignored, most_schedule_words};
+ghost use Rattle.lsys_spec.specs.Edits.{common_refusal, drop_refusal, first_place, later_refusal, level_refusal, loses_table, many, own_refusal, refused_at, refused_if, schedule_refusal, untabled, version_refusal, without_rule, wrong_table, wrong_version};
+ghost use Rattle.lsys_spec.specs.Systems.{Apart, any, depth_bound, is_table, main};
+ghost use Rattle.lsys_module.specs.Views.{module_name};
 ghost use Rattle.lsys_bodies.specs.Views.{production_of};
 ghost use Rattle.lsys_rules.specs.Faults.{Tells, labelled_else};
 
 use crate::faults::{Cause, Fault};
 use crate::labelled::{has_hom_rule, has_rule};
-use crate::limits::{MOST_DEPTH, MOST_IGNORED, MOST_SCHEDULE_WORDS};
+use crate::limits::{
+    GREATEST_VERSION, MOST_DEPTH, MOST_DEPTH_OF_TWO, MOST_IGNORED, MOST_SCHEDULE_WORDS,
+};
 use crate::rule_table::is_table;
 use crate::system::System;
 use lsys_bodies::Rule;
@@ -21,11 +24,81 @@ pub(crate) fn ignore_fault(names: &[Name]) -> Option<Fault>
     too_many_if(names.len() > MOST_IGNORED, MOST_IGNORED + 1)
 }
 
-/// What refuses a depth.
-pub(crate) fn depth_fault(depth: u64) -> Option<Fault>
-    ensures { Tells result (refused_if (nat_lt most_depth depth) many 1) }
+/// What refuses a depth: it is greater than the system's version allows.
+pub(crate) fn depth_fault(system: &System, depth: u64) -> Option<Fault>
+    ensures { Tells result (refused_if (nat_lt (depth_bound system.now.version) depth) many 1) }
 {
-    too_many_if(depth > MOST_DEPTH, 1)
+    too_many_if(depth > most_depth(system.version()), 1)
+}
+
+// The greatest depth of systems of a version.
+fn most_depth(version: u32) -> u64
+    ensures { result ≡ depth_bound version }
+{
+    if version == 1 {
+        MOST_DEPTH
+    } else {
+        MOST_DEPTH_OF_TWO
+    }
+}
+
+/// What refuses a number as the version: there is no such version, or it is less than the system's.
+pub(crate) fn version_fault(system: &System, version: u64) -> Option<Fault>
+    ensures { Tells result (version_refusal system.now version) }
+{
+    let is_wrong = version == 0
+        || version > GREATEST_VERSION
+        || version < u64::from(system.version());
+    version_if(is_wrong, 1)
+}
+
+/// What refuses a command that version 1 doesn't know.
+pub(crate) fn later_fault(system: &System) -> Option<Fault>
+    ensures { Tells result (later_refusal system.now) }
+{
+    version_if(system.version() == 1, 0)
+}
+
+fn version_if(is_wrong: bool, place: usize) -> Option<Fault>
+    ensures { Tells result (refused_if is_wrong wrong_version place) }
+{
+    is_wrong.then_some(Fault {
+        cause: Cause::Version,
+        place,
+    })
+}
+
+/// What refuses these names as a table's own list: the version, the table, or their number.
+pub(crate) fn list_fault(system: &System, table: Word, names: &[Name]) -> Option<Fault>
+    ensures { Tells result (own_refusal system.now table (map module_name names.now)) }
+{
+    if let Some(fault) = common_fault(system, table) {
+        return Some(fault);
+    }
+    too_many_if(names.len() > MOST_IGNORED, MOST_IGNORED + 3)
+}
+
+/// What refuses that a table is to have no list of its own: the version, or that it is no table.
+pub(crate) fn common_fault(system: &System, table: Word) -> Option<Fault>
+    ensures { Tells result (common_refusal system.now table) }
+{
+    if let Some(fault) = later_fault(system) {
+        return Some(fault);
+    }
+    table_fault(system.tables(), table)
+}
+
+// What refuses the word behind a line's first one as a table.
+fn table_fault(tables: &[Word], word: Word) -> Option<Fault>
+    ensures { Tells result (refused_if (not (is_table tables.now word)) wrong_table 1) }
+{
+    if is_table(tables, word) {
+        return None;
+    }
+    Some(Fault {
+        cause: Cause::Table,
+        place: 1,
+    })
 }
 
 fn too_many_if(passed: bool, place: usize) -> Option<Fault>
@@ -71,7 +144,8 @@ fn untabled(tables: &[Word], words: &[Word]) -> Option<usize>
     Some(place + 1)
 }
 
-/// What refuses that the rule under a label is dropped: there is none, or its table is scheduled and has no other rule.
+/// What refuses that the rule under a label is dropped: there is none, or its table has no other rule, and is scheduled or
+/// has a list of its own.
 pub(crate) fn drop_fault(system: &System, label: Word) -> Option<Fault>
     ensures { Tells result (drop_refusal system.now label) }
 {
@@ -82,7 +156,9 @@ pub(crate) fn drop_fault(system: &System, label: Word) -> Option<Fault>
             place: 1,
         });
     }
-    if loses_table(rules, label, system.schedule()) {
+    if loses_table(rules, label, system.schedule())
+        || loses_table(rules, label, system.own_tables())
+    {
         return Some(Fault {
             cause: Cause::Table,
             place: 1,
@@ -91,12 +167,12 @@ pub(crate) fn drop_fault(system: &System, label: Word) -> Option<Fault>
     None
 }
 
-// Whether some word of the schedule names no table without the rule under this label.
-fn loses_table(rules: &[Rule], label: Word, schedule: &[Word]) -> bool
+// Whether some word names no table without the rule under this label.
+fn loses_table(rules: &[Rule], label: Word, words: &[Word]) -> bool
     requires { Apart bytes_eq (map (λ p. p.label) (map production_of rules.now)) }
-    ensures { result ≡ loses_table (without_rule label (map production_of rules.now)) schedule.now }
+    ensures { result ≡ loses_table (without_rule label (map production_of rules.now)) words.now }
 {
-    for word in schedule {
+    for word in words {
         if is_lost(rules, label, *word) {
             return true;
         }

@@ -3,6 +3,8 @@
 /// Why a command is refused.
 #[derive(Clone, Copy)]
 pub(crate) enum Cause {
+    /// There is no such version, or the system is of another one.
+    Version,
     /// A name in an expression is no formal of its rule.
     Name,
     /// A formal of a rule stands twice.

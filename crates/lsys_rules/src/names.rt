@@ -1,10 +1,10 @@
-//! Names among names.
+//! Names among names, and the order of words.
 ghost use Rattle.std.specs.Prelude.{◌≡◌, map};
 ghost use Rattle.lsys_spec.specs.Meaning.{ignores};
-ghost use Rattle.lsys_spec.specs.Systems.{same_name};
+ghost use Rattle.lsys_spec.specs.Systems.{comes_before, same_name};
 ghost use Rattle.lsys_module.specs.Views.{module_name};
 
-use lsys_text::Name;
+use lsys_text::{Name, Word};
 
 // Whether a name is among these.
 pub(crate) fn is_among(names: &[Name], name: Name) -> bool
@@ -18,4 +18,11 @@ pub(crate) fn same_name(one: Name, other: Name) -> bool
     ensures { result ≡ same_name (module_name one) (module_name other) }
 {
     one == other
+}
+
+// Whether a word comes before another one in the order of their bytes.
+pub(crate) fn comes_before(one: Word, other: Word) -> bool
+    ensures { result ≡ comes_before one other }
+{
+    one.text().as_bytes() < other.text().as_bytes()
 }

@@ -3,9 +3,10 @@ ghost use Rattle.std.specs.Prelude.{◌≡◌};
 ghost use Rattle.lsys_rules.specs.Systems.{system_of};
 
 use crate::hom_table::HomTable;
+use crate::own_table::OwnTable;
 use crate::rule_table::RuleTable;
 use lsys_module::SymbolList;
-use lsys_reading::LatticeName;
+use lsys_reading::{LatticeName, Numbering};
 use lsys_text::{Name, Word};
 use std::alloc::AllocError;
 
@@ -20,6 +21,9 @@ pub(crate) struct SystemParts {
     pub seed: u64,
     pub depth: u32,
     pub lattice: LatticeName,
+    pub version: u32,
+    pub numbering: Numbering,
+    pub own: OwnTable,
 }
 
 impl Clone for SystemParts {
@@ -35,6 +39,9 @@ impl Clone for SystemParts {
             seed: self.seed,
             depth: self.depth,
             lattice: self.lattice,
+            version: self.version,
+            numbering: self.numbering,
+            own: self.own.clone()?,
         })
     }
 }

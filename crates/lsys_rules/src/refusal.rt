@@ -18,6 +18,9 @@ pub enum Refusal {
     /// As `Token`, but without the bound on nesting one does.
     #[error("syntax deep {column}")]
     Deep { column: u32 },
+    /// A version that isn't or is less than the system's, or the word of a command that version 1 doesn't know.
+    #[error("version {column}")]
+    Version { column: u32 },
     /// A name in an expression that is no formal of its rule.
     #[error("name {column}")]
     Name { column: u32 },
@@ -30,7 +33,7 @@ pub enum Refusal {
     /// A label that stands elsewhere, or to be dropped nowhere.
     #[error("label {column}")]
     Label { column: u32 },
-    /// A word that names no table, or the label of a scheduled table's last rule.
+    /// A word that names no table, or the label of the last rule of a table that is scheduled or has a list of its own.
     #[error("table {column}")]
     Table { column: u32 },
     /// A level past the depth.

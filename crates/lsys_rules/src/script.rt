@@ -1,21 +1,22 @@
 //! A system as a script.
 ghost use Rattle.std.specs.Prelude.{◌++◌, ◌∷◌, [], map, decimal};
-ghost use Rattle.lsys_syntax.specs.Commands.{set_axiom, set_depth, set_ignored, set_lattice, set_schedule, set_seed, words_pieces};
+ghost use Rattle.lsys_syntax.specs.Commands.{list_word, set_axiom, set_depth, set_ignored, set_lattice, set_schedule, set_seed, words_pieces};
 ghost use Rattle.lsys_syntax.specs.Pieces.{text_of};
-ghost use Rattle.lsys_spec.specs.Shown.{as_put, as_put_homomorphism, script_of, show_text};
+ghost use Rattle.lsys_spec.specs.Shown.{as_put, as_put_homomorphism, as_set_own, numbering_commands, script_of, show_text};
 ghost use Rattle.lsys_spec.specs.Systems.{written};
 ghost use Rattle.lsys_io.specs.Writes.{Puts};
 ghost use Rattle.lsys_module.specs.Views.{module_name, string_of};
-ghost use Rattle.lsys_reading.specs.Commands.{lattice_of};
+ghost use Rattle.lsys_reading.specs.Commands.{lattice_of, list_kind_of, numbering_of};
 ghost use Rattle.lsys_bodies.specs.Views.{homomorphism_of, production_of};
-ghost use Rattle.lsys_rules.specs.Showing.{line_of, names_text};
+ghost use Rattle.lsys_rules.specs.Showing.{line_of, listed_text, names_text, version_lines};
 
+use crate::own_list::OwnList;
 use crate::show_rules::{put_decimal, put_hom_rule, put_rule, put_word};
 use crate::system::System;
 use lsys_bodies::{HomRule, Rule};
 use lsys_io::{Buffered, Failed, Sink};
 use lsys_module::{SymbolList, print_string, put_name};
-use lsys_reading::LatticeName;
+use lsys_reading::{LatticeName, ListKind, Numbering};
 use lsys_text::{Name, Word};
 
 /// Puts the system as the script of the commands that make it from the opening one, each on its line. It takes no memory.
@@ -26,14 +27,46 @@ use lsys_text::{Name, Word};
 pub fn show<K: Sink>(system: &System, out: &mut Buffered, sink: &mut K) -> Result<(), Failed>
     ensures { Puts K.written K.faults sink.old sink.new out.old out.new (show_text system.now) result }
 {
+    put_version(out, sink, system.version(), system.lineage())?;
     put_lattice(out, sink, system.lattice())?;
     put_seed(out, sink, system.seed())?;
     put_axiom(out, sink, system.axiom())?;
     put_ignored(out, sink, system.ignored())?;
     put_rules(out, sink, system.rules())?;
     put_hom_rules(out, sink, system.hom_rules())?;
+    put_own_lists(out, sink, system.own_lists())?;
     put_schedule(out, sink, system.schedule())?;
     put_depth(out, sink, system.depth())
+}
+
+// Puts a version and a numbering, which have no line in version 1.
+fn put_version<K: Sink>(
+    out: &mut Buffered,
+    sink: &mut K,
+    version: u32,
+    numbering: Numbering,
+) -> Result<(), Failed>
+    ensures { Puts K.written K.faults sink.old sink.new out.old out.new (version_lines version (numbering_of numbering)) result }
+{
+    if version == 1 {
+        return Ok(());
+    }
+    put_number_line(out, sink, b"version ", u64::from(version))?;
+    put_numbering(out, sink, numbering)
+}
+
+// Puts the numbering, which has no line where it is by places.
+fn put_numbering<K: Sink>(
+    out: &mut Buffered,
+    sink: &mut K,
+    numbering: Numbering,
+) -> Result<(), Failed>
+    ensures { Puts K.written K.faults sink.old sink.new out.old out.new (script_of (numbering_commands (numbering_of numbering))) result }
+{
+    match numbering {
+        Numbering::ByPlace => Ok(()),
+        Numbering::ByName => out.put(sink, b"lineage names\n"),
+    }
 }
 
 fn put_lattice<K: Sink>(
@@ -125,6 +158,45 @@ fn put_hom_rules<K: Sink>(out: &mut Buffered, sink: &mut K, rules: &[HomRule]) -
         put_hom_rule(out, sink, rule)?;
     }
     Ok(())
+}
+
+fn put_own_lists<K: Sink>(out: &mut Buffered, sink: &mut K, lists: &[OwnList]) -> Result<(), Failed>
+    ensures { Puts K.written K.faults sink.old sink.new out.old out.new (script_of (map as_set_own lists.now)) result }
+{
+    for list in lists {
+        put_own_list(out, sink, list)?;
+    }
+    Ok(())
+}
+
+fn put_own_list<K: Sink>(out: &mut Buffered, sink: &mut K, list: &OwnList) -> Result<(), Failed>
+    ensures { Puts K.written K.faults sink.old sink.new out.old out.new (line_of (as_set_own list.now)) result }
+{
+    let filter = list.filter();
+    put_list_word(out, sink, filter.kind)?;
+    put_next_word(out, sink, list.table())?;
+    put_listed(out, sink, filter.names)
+}
+
+fn put_list_word<K: Sink>(out: &mut Buffered, sink: &mut K, kind: ListKind) -> Result<(), Failed>
+    ensures { Puts K.written K.faults sink.old sink.new out.old out.new (list_word (list_kind_of kind)) result }
+{
+    match kind {
+        ListKind::Ignore => out.put(sink, b"ignoring"),
+        ListKind::Consider => out.put(sink, b"consider"),
+    }
+}
+
+// Puts a colon and the names behind it, up to the line's end.
+fn put_listed<K: Sink>(out: &mut Buffered, sink: &mut K, names: &[Name]) -> Result<(), Failed>
+    ensures { Puts K.written K.faults sink.old sink.new out.old out.new (listed_text (map module_name names.now)) result }
+{
+    if names.is_empty() {
+        return out.put(sink, b":\n");
+    }
+    out.put(sink, b": ")?;
+    put_names(out, sink, names)?;
+    out.put(sink, b"\n")
 }
 
 fn put_schedule<K: Sink>(out: &mut Buffered, sink: &mut K, words: &[Word]) -> Result<(), Failed>

@@ -1,30 +1,34 @@
 //! Systems.
 ghost use Rattle.std.specs.Prelude.{◌≡◌, ◌≤◌, ◌<◌, IfOk, filter, length, map, slice_get};
 ghost use Rattle.std.specs.Option.{option_map};
-ghost use Rattle.lsys_syntax.specs.Limits.{most_depth, most_rules};
-ghost use Rattle.lsys_spec.specs.Systems.{opening, tables};
+ghost use Rattle.lsys_syntax.specs.Limits.{greatest_version, most_rules};
+ghost use Rattle.lsys_spec.specs.Systems.{depth_bound, opening, tables};
+ghost use Rattle.lsys_spec.specs.Bodies as bodies;
 ghost use Rattle.lsys_spec.specs.Bodies.{body_of, group, is_for, table_at};
-ghost use Rattle.lsys_spec.specs.Meaning.{ignores};
+ghost use Rattle.lsys_spec.specs.Meaning.{ignored_by};
 ghost use Rattle.lsys_laws.specs.Sessions.{IsWell};
 ghost use Rattle.lsys_module.specs.Views.{module_name, string_of};
-ghost use Rattle.lsys_reading.specs.Commands.{lattice_of};
+ghost use Rattle.lsys_reading.specs.Commands.{lattice_of, numbering_of};
+ghost use Rattle.lsys_bodies.specs.Filters.{filter_of};
 ghost use Rattle.lsys_bodies.specs.Views.{homomorphism_of, production_of, rule_of};
 ghost use Rattle.lsys_rules.specs.Systems.{system_of};
 
 use crate::hom_table::HomTable;
-use crate::names::is_among;
+use crate::own_list::OwnList;
+use crate::own_table::OwnTable;
 use crate::parts::SystemParts;
 use crate::rule_table::RuleTable;
-use lsys_bodies::{HomRule, Rule};
+use lsys_bodies::{Filter, HomRule, Rule};
 use lsys_module::SymbolList;
-use lsys_reading::LatticeName;
+use lsys_reading::{LatticeName, Numbering};
 use lsys_text::{Name, Word};
 use std::alloc::{AllocError, Global};
 use std::marker::Model;
 
 /// What the accepted edits leave. Contracts see it as the system of the definitions, and it is well formed and well spelled
-/// always: no label stands twice, no group is mixed, the schedule has some word and names tables alone, no limit is
-/// passed, brackets are balanced, and each expression's names are formals of its rule.
+/// always: no label stands twice, no group is mixed, the schedule has some word and names tables alone, own lists are those
+/// of tables, in version 1 there is none and symbols are numbered by places, no limit is passed, brackets are balanced, and
+/// each expression's names are formals of its rule.
 #[derive(Drop)]
 pub struct System {
     parts: SystemParts,
@@ -49,7 +53,7 @@ impl Model for System {
 
 impl System {
     /// The system before the first edit: an empty axiom, no rules, `main` as the schedule, nothing ignored, seed and depth 0,
-    /// the square lattice.
+    /// the square lattice, version 1, symbols numbered by places.
     ///
     /// # Errors
     ///
@@ -68,6 +72,9 @@ impl System {
             seed: 0,
             depth: 0,
             lattice: LatticeName::Square,
+            version: 1,
+            numbering: Numbering::ByPlace,
+            own: OwnTable::new(alloc)?,
         };
         Ok(System { parts })
     }
@@ -127,18 +134,58 @@ impl System {
         &self.parts.schedule
     }
 
-    /// The names that contexts pass over, each once.
+    /// The names that contexts pass over on levels whose table has no list of its own, each once.
     pub fn ignored(&self) -> &[Name]
         ensures { map module_name result.now ≡ self.now.ignored }
     {
         &self.parts.ignored
     }
 
-    /// Whether contexts pass over modules of this name.
-    pub fn is_ignored(&self, name: Name) -> bool
-        ensures { result ≡ ignores self.now.ignored (module_name name) }
+    /// The own lists of tables, in the order of the bytes of the tables' words; none in version 1.
+    pub fn own_lists(&self) -> &[OwnList]
+        ensures { result.now ≡ self.now.own }
     {
-        is_among(&self.parts.ignored, name)
+        self.parts.own.lists()
+    }
+
+    /// The tables that have a list of their own, in the order of the bytes of their words.
+    pub fn own_tables(&self) -> &[Word]
+        ensures { result.now ≡ map (λ o. o.table) self.now.own }
+    {
+        self.parts.own.tables()
+    }
+
+    /// What contexts pass over on a level: by the own list of the level's table, or by the ignored names where that table
+    /// has none. It takes one look-up, so a caller keeps it while it is at one level.
+    pub fn filter(&self, level: u32) -> Filter<'_>
+        ensures { filter_of result ≡ bodies.filter self.now level }
+    {
+        self.parts
+            .own
+            .filter(self.table(level), &self.parts.ignored)
+    }
+
+    /// Whether contexts pass over modules of this name on a level.
+    pub fn ignores(&self, level: u32, name: Name) -> bool
+        ensures { result ≡ ignored_by (bodies.filter self.now level) (module_name name) }
+    {
+        self.filter(level).ignores(name)
+    }
+
+    /// The version of the language that the system is of: 1 or 2.
+    pub fn version(&self) -> u32
+        ensures version { result ≡ self.now.version }
+        ensures some { 1 ≤ result }
+        ensures known { result ≤ greatest_version }
+    {
+        self.parts.version
+    }
+
+    /// How symbols are numbered; by places in version 1.
+    pub fn lineage(&self) -> Numbering
+        ensures { numbering_of result ≡ self.now.numbering }
+    {
+        self.parts.numbering
     }
 
     /// What the draws depend on.
@@ -148,10 +195,10 @@ impl System {
         self.parts.seed
     }
 
-    /// The number of the last level, at most 64.
+    /// The number of the last level: at most 64 in version 1, and 256 in version 2.
     pub fn depth(&self) -> u32
         ensures depth { result ≡ self.now.depth }
-        ensures bound { result ≤ most_depth }
+        ensures bound { result ≤ depth_bound self.now.version }
     {
         self.parts.depth
     }
@@ -172,9 +219,15 @@ impl System {
         ensures few { length result.now ≤ most_rules }
         ensures well { IsWell self.now }
     {
+        self.parts.rules.group(self.table(level), name, arity)
+    }
+
+    // The table of a level.
+    fn table(&self, level: u32) -> Word
+        ensures { result ≡ table_at self.now.schedule level }
+    {
         let schedule = &self.parts.schedule;
-        let table = schedule[level as usize % schedule.len()];
-        self.parts.rules.group(table, name, arity)
+        schedule[level as usize % schedule.len()]
     }
 
     /// The rule at a place, from 0, of the group of a level for modules with this name and number of parameters. None past

@@ -160,6 +160,7 @@ module _ {K : Type 0} (written : K → Option (List ℕ)) (faults : K → ℕ) (
   answered_refusal refusals.LongLine short q said = refused_so (refusal_text refusals.LongLine) (not_long limit s line short ∙ q limit) said
   answered_refusal (refusals.Token n) short q said = refused_so (refusal_text (refusals.Token n)) (not_long limit s line short ∙ q limit) said
   answered_refusal (refusals.Deep n) short q said = refused_so (refusal_text (refusals.Deep n)) (not_long limit s line short ∙ q limit) said
+  answered_refusal (refusals.Version n) short q said = refused_so (refusal_text (refusals.Version n)) (not_long limit s line short ∙ q limit) said
   answered_refusal (refusals.Name n) short q said = refused_so (refusal_text (refusals.Name n)) (not_long limit s line short ∙ q limit) said
   answered_refusal (refusals.Duplicate n) short q said = refused_so (refusal_text (refusals.Duplicate n)) (not_long limit s line short ∙ q limit) said
   answered_refusal (refusals.Mixed n) short q said = refused_so (refusal_text (refusals.Mixed n)) (not_long limit s line short ∙ q limit) said

@@ -4,7 +4,7 @@ use Rattle.std.proofs.lemmas.Simd.{map-map}
 use Rattle.std.proofs.lemmas.Bool.Decides.{nat_tests}
 use Rattle.std.specs.Prelude.{nat_lt}
 use Rattle.lsys_syntax.specs.Tokens as syntax
-use Rattle.lsys_syntax.specs.Commands.{Command, set_axiom, put_production, drop_rule, set_ignored, set_schedule, set_seed, set_depth, set_lattice, put_homomorphism, print_string, print_segments, print_svg, print_system, quit}
+use Rattle.lsys_syntax.specs.Commands.{Command, set_axiom, put_production, drop_rule, set_ignored, set_schedule, set_seed, set_depth, set_lattice, put_homomorphism, print_string, print_segments, print_svg, print_system, quit, set_version, set_own, drop_own, set_numbering}
 use Rattle.lsys_syntax.specs.LineMachine.{Verdict, verdict, sentence, stops, too_deep, command_in, parse_command}
 use Rattle.lsys_spec.specs.Systems as spec
 use Rattle.lsys_spec.specs.Edits as edits
@@ -50,6 +50,7 @@ parsed_line bare ts e (Err (refusals.Deep n)) p = λ limit s.
 parsed_line bare ts e (Err refusals.Memory) p = tt
 parsed_line bare ts e (Err (refusals.Byte n)) p = absurd p
 parsed_line bare ts e (Err refusals.LongLine) p = absurd p
+parsed_line bare ts e (Err (refusals.Version n)) p = absurd p
 parsed_line bare ts e (Err (refusals.Name n)) p = absurd p
 parsed_line bare ts e (Err (refusals.Duplicate n)) p = absurd p
 parsed_line bare ts e (Err (refusals.Mixed n)) p = absurd p
@@ -75,6 +76,10 @@ edit_asked limit s (set_seed n) e = refl
 edit_asked limit s (set_depth n) e = refl
 edit_asked limit s (set_lattice k) e = refl
 edit_asked limit s (put_homomorphism l r) e = refl
+edit_asked limit s (set_version n) e = refl
+edit_asked limit s (set_own k t ns) e = refl
+edit_asked limit s (drop_own t) e = refl
+edit_asked limit s (set_numbering g) e = refl
 
 -- the command of this kind, where there is but one
 abbrev pub IsOfKind : CommandKind → Command → Type 0
@@ -100,6 +105,10 @@ kind_told (set_seed n) = refl
 kind_told (set_depth n) = refl
 kind_told (set_lattice k) = refl
 kind_told (put_homomorphism l r) = refl
+kind_told (set_version n) = refl
+kind_told (set_own k t ns) = refl
+kind_told (drop_own t) = refl
+kind_told (set_numbering g) = refl
 
 pub of_kind : (c : Command) (k : CommandKind) → kind_of_command c ≡ k → IsOfKind k c
 of_kind c k e = subst (λ k. IsOfKind k c) e (kind_told c)
@@ -153,6 +162,7 @@ no_command s bare (refusals.Byte n) p h = λ limit. not_passed limit s bare p �
 no_command s bare refusals.LongLine p h = λ limit. not_passed limit s bare p ∙ h limit s
 no_command s bare (refusals.Token n) p h = λ limit. not_passed limit s bare p ∙ h limit s
 no_command s bare (refusals.Deep n) p h = λ limit. not_passed limit s bare p ∙ h limit s
+no_command s bare (refusals.Version n) p h = λ limit. not_passed limit s bare p ∙ h limit s
 no_command s bare (refusals.Name n) p h = λ limit. not_passed limit s bare p ∙ h limit s
 no_command s bare (refusals.Duplicate n) p h = λ limit. not_passed limit s bare p ∙ h limit s
 no_command s bare (refusals.Mixed n) p h = λ limit. not_passed limit s bare p ∙ h limit s
@@ -177,6 +187,7 @@ module _ (s : spec.System) (bare : List ℕ) (c : CommandLine) (p : is_passed_ov
   asked (Ok r) q =
       let spelled = some_spelled (is_passed_over bare) (spelled_by (syntax.tokens bare)) p ∙ ap spelled_by h.0 ∙ spelled_in c.tokens (command_of c.tokens) h.1 in
       (λ limit. replied limit ∙ ap (command_reply limit s column (command_of c.tokens)) q.0 ∙ q.1 limit, q.2, subst (λ o. IsAskedBy s o r) (sym spelled) q.3)
+  asked (Err (refusals.Version n)) q = refused_so edits.wrong_version n q
   asked (Err (refusals.Name n)) q = refused_so edits.unknown_name n q
   asked (Err (refusals.Duplicate n)) q = refused_so edits.duplicate n q
   asked (Err (refusals.Mixed n)) q = refused_so edits.mixed n q

@@ -31,6 +31,7 @@ refusal_words (refusals.Byte n) = codes "syntax byte"
 refusal_words refusals.LongLine = codes "syntax long"
 refusal_words (refusals.Token n) = codes "syntax token"
 refusal_words (refusals.Deep n) = codes "syntax deep"
+refusal_words (refusals.Version n) = codes "version"
 refusal_words (refusals.Name n) = codes "name"
 refusal_words (refusals.Duplicate n) = codes "duplicate"
 refusal_words (refusals.Mixed n) = codes "mixed"
@@ -44,6 +45,7 @@ abbrev pub refusal_column : Refusal → Option ℕ
 refusal_column (refusals.Byte n) = Some n
 refusal_column (refusals.Token n) = Some n
 refusal_column (refusals.Deep n) = Some n
+refusal_column (refusals.Version n) = Some n
 refusal_column (refusals.Name n) = Some n
 refusal_column (refusals.Duplicate n) = Some n
 refusal_column (refusals.Mixed n) = Some n

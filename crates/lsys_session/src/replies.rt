@@ -80,6 +80,7 @@ fn words_of(refusal: Refusal) -> &'static [u8]
         Refusal::LongLine => b"syntax long",
         Refusal::Token { column: _column } => b"syntax token",
         Refusal::Deep { column: _column } => b"syntax deep",
+        Refusal::Version { column: _column } => b"version",
         Refusal::Name { column: _column } => b"name",
         Refusal::Duplicate { column: _column } => b"duplicate",
         Refusal::Mixed { column: _column } => b"mixed",
@@ -100,6 +101,7 @@ fn column_of(refusal: Refusal) -> Option<u32>
         Refusal::Byte { column }
         | Refusal::Token { column }
         | Refusal::Deep { column }
+        | Refusal::Version { column }
         | Refusal::Name { column }
         | Refusal::Duplicate { column }
         | Refusal::Mixed { column }

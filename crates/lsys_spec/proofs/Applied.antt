@@ -1,15 +1,17 @@
 -- The edits that show prints are all accepted, and give the system again.
-use Rattle.std.proofs.Common.{◌≡◌, ℕ, Bool, true, false, not, None, Result, Ok, Err, List, [], ◌∷◌, ◌++◌, ◌&&◌, ◌+◌, ◌≤◌, nat_lt, length, map, refl, ap, ◌∙◌, sym, subst, append_assoc, append-nil, arith, length-append, le_trans, bytes_eq, ℤ, pos, negsuc}
+use Rattle.std.proofs.Common.{◌≡◌, ℕ, zero, suc, Bool, true, false, not, ◌||◌, ◌==◌, ◌<◌, if◌then◌else◌, true≢false, None, Result, Ok, Err, List, [], ◌∷◌, ◌++◌, ◌&&◌, ◌+◌, ◌≤◌, nat_lt, length, map, refl, ap, ◌∙◌, sym, subst, append_assoc, append-nil, arith, length-append, le_trans, bytes_eq, ℤ, pos, negsuc}
+use Rattle.std.proofs.lemmas.Bool.{eq-eqb, ne_eqb, eqb-true, ltb-true}
 use Rattle.std.proofs.lemmas.Bool.Decides.{nat_tests}
-use Rattle.lsys_syntax.specs.Limits.{most_rules, most_tables, most_ignored, most_schedule_words, most_depth}
+use Rattle.std.proofs.lemmas.Slice.Eq.{bytes_eq-Decides}
+use Rattle.lsys_syntax.specs.Limits.{most_rules, most_tables, most_ignored, most_schedule_words, greatest_version}
 use Rattle.lsys_syntax.specs.Checks.{rule_many}
 use Rattle.lsys_syntax.specs.Strings.{ModuleName, Symbol, Module, Push, Pop, Cut, signed_of, signed_value}
 use Rattle.lsys_syntax.specs.Rules.{Production}
-use Rattle.lsys_syntax.specs.Commands.{Command, set_lattice, set_seed, set_axiom, set_ignored, set_schedule, set_depth}
-use Rattle.lsys_spec.specs.Systems.{System, Homomorphism, main, any, same_name, is_table, with_table, tables_onto, tables, clash, written, IsSound, Each, Apart, WellFormed, WellSpelled, opening}
+use Rattle.lsys_syntax.specs.Commands.{Numbering, by_place, by_name, Command, set_lattice, set_seed, set_axiom, set_ignored, set_schedule, set_depth, set_version}
+use Rattle.lsys_spec.specs.Systems.{System, Homomorphism, Own, depth_bound, comes_before, in_order, main, any, same_name, is_table, with_table, tables_onto, tables, clash, written, IsSound, Each, Apart, WellFormed, WellSpelled, opening}
 use Rattle.lsys_spec.proofs.Unplaced.{IsUnrefused, unrefused_at, axiom_short_anywhere}
-use Rattle.lsys_spec.specs.Edits.{Refusal, first_place, unless_seen, once, same_label, put, put_hom, production_refusal, homomorphism_refusal, refusal, values_of, changed, unless_refused, apply}
-use Rattle.lsys_spec.specs.Shown.{as_put, as_put_homomorphism, show_commands}
+use Rattle.lsys_spec.specs.Edits.{Refusal, first_place, unless_seen, once, same_label, put, put_hom, put_own, own_of, production_refusal, homomorphism_refusal, own_refusal, refusal, values_of, changed, unless_refused, apply}
+use Rattle.lsys_spec.specs.Shown.{as_put, as_put_homomorphism, as_set_own, numbering_commands, version_commands, show_commands}
 
 -- one after another, all accepted
 abbrev pub apply_all : Result System Refusal → List Command → Result System Refusal
@@ -195,6 +197,76 @@ module _ (s : System) where
       ∙ images-applied rest (done ++ h ∷ []) cs (rw e r)
       ∙ ap (λ hs. apply_all (Ok (record s { homomorphisms = hs })) cs) e
 
+-- own lists stand in order, so each goes last
+and-both : (a b : Bool) → (a && b) ≡ true → (a ≡ true) × (b ≡ true)
+and-both true b h = (refl, h)
+and-both false b h = cc
+
+pub before-itself : (a : List ℕ) → comes_before a a ≡ false
+before-itself [] = refl
+before-itself (x ∷ a) = rw (not_over x x (omega arith), eq-eqb x x refl) (before-itself a)
+
+turned : (x y : ℕ) (a b : List ℕ) → (comes_before a b ≡ true → comes_before b a ≡ false) → (c : Bool) → nat_lt x y ≡ c → (c || ((x == y) && comes_before a b)) ≡ true → (nat_lt y x || ((y == x) && comes_before b a)) ≡ false
+turned x y a b f true l g =
+    let k : x < y = ltb-true x y l in rw (not_over y x (omega (arith, k)), ne_eqb y x (λ e. omega (arith, k, e))) refl
+turned x y a b f false l g =
+    let e = and-both (x == y) (comes_before a b) g in
+    let i : x ≡ y = eqb-true x y e.0 in rw (not_over y x (omega (arith, i)), f e.1) (and-false (y == x) false refl)
+
+pub before-turned : (a b : List ℕ) → comes_before a b ≡ true → comes_before b a ≡ false
+before-turned a [] h = cc
+before-turned [] (y ∷ b) h = refl
+before-turned (x ∷ a) (y ∷ b) h = turned x y a b (before-turned a b) (nat_lt x y) refl h
+
+before-apart : (a b : List ℕ) → comes_before a b ≡ true → bytes_eq a b ≡ false
+before-apart a b h = by (bytes_eq a b) refl
+  where
+    by : (c : Bool) → bytes_eq a b ≡ c → bytes_eq a b ≡ false
+    by true e = let same : a ≡ b = (bytes_eq-Decides a b).0 e in absurd (true≢false (sym h ∙ ap (λ z. comes_before a z) (sym same) ∙ before-itself a))
+    by false e = e
+
+put_own-new : (o : Own) (qs : List Own) → Each (λ q. not (in_order q o) ≡ false) qs → put_own o qs ≡ qs ++ o ∷ []
+put_own-new o [] h = refl
+put_own-new o (q ∷ qs) h =
+    let before : comes_before q.table o.table ≡ true = not-false (comes_before q.table o.table) h.0 in
+    rw (before-apart q.table o.table before, before-turned q.table o.table before, put_own-new o qs h.1)
+  where
+    not-false : (b : Bool) → not b ≡ false → b ≡ true
+    not-false true e = refl
+    not-false false e = cc
+
+module _ (s : System) (later : (s.version == 1) ≡ false) where
+  new_own : (o : Own) (done : List Own) → is_table (tables s.rules) o.table ≡ true → length o.names ≤ most_ignored → own_refusal (record s { own = done }) o.table o.names ≡ None
+  new_own o done known few =
+      let there : first_place (λ x. not (is_table (tables s.rules) x)) 1 (o.table ∷ []) ≡ None = first_place-none (λ x. not (is_table (tables s.rules) x)) 1 (o.table ∷ []) (ap not known, tt) in
+      let names : nat_lt most_ignored (length o.names) ≡ false = not_over most_ignored (length o.names) few in
+      rw (later, there, names)
+
+  owns-applied : (rest done : List Own) (cs : List Command) → Apart (λ o q. not (in_order o q)) (done ++ rest)
+      → Each (λ o. is_table (tables s.rules) o.table ≡ true) rest → Each (λ o. length o.names ≤ most_ignored) rest → Each (λ o. Apart same_name o.names) rest
+      → apply_all (Ok (record s { own = done })) (map as_set_own rest ++ cs) ≡ apply_all (Ok (record s { own = done ++ rest })) cs
+  owns-applied [] done cs r known few onces = ap (λ os. apply_all (Ok (record s { own = os })) cs) (sym (append-nil done))
+  owns-applied (o ∷ rest) done cs r known few onces =
+      let e : (done ++ o ∷ []) ++ rest ≡ done ++ o ∷ rest = append_assoc done (o ∷ []) rest in
+      let written : own_of o.kind o.table o.names ≡ o = ap (λ ns. let w : Own = record { table = o.table; kind = o.kind; names = ns } in w) (once-all o.names [] onces.0) in
+      let last : put_own o done ≡ done ++ o ∷ [] = put_own-new o done (apart-before (λ o q. not (in_order o q)) done rest o r) in
+      ap (λ w. apply_all (unless_refused w (record s { own = put_own (own_of o.kind o.table o.names) done })) (map as_set_own rest ++ cs)) (new_own o done known.0 few.0)
+      ∙ ap (λ w. apply_all (Ok (record s { own = put_own w done })) (map as_set_own rest ++ cs)) written
+      ∙ ap (λ os. apply_all (Ok (record s { own = os })) (map as_set_own rest ++ cs)) last
+      ∙ owns-applied rest (done ++ o ∷ []) cs (subst (λ os. Apart (λ o q. not (in_order o q)) os) (sym e) r) known.1 few.1 onces.1
+      ∙ ap (λ os. apply_all (Ok (record s { own = os })) cs) e
+
+-- all own lists: a system of version 1 has none
+own-lines : (s : System) (ws : List (List ℕ)) (d : ℕ) (cs : List Command) → WellFormed s → WellSpelled s
+    → apply_all (Ok (record s { schedule = ws; depth = d; own = [] })) (map as_set_own s.own ++ cs) ≡ apply_all (Ok (record s { schedule = ws; depth = d })) cs
+own-lines s ws d cs w v = by (s.version == 1) refl
+  where
+    by : (c : Bool) → (s.version == 1) ≡ c → apply_all (Ok (record s { schedule = ws; depth = d; own = [] })) (map as_set_own s.own ++ cs) ≡ apply_all (Ok (record s { schedule = ws; depth = d })) cs
+    by true e =
+        let none : s.own ≡ [] = (w.first_version (eqb-true s.version 1 e)).0 in
+        ap (λ os. apply_all (Ok (record s { schedule = ws; depth = d; own = [] })) (map as_set_own os ++ cs)) none ∙ ap (λ os. apply_all (Ok (record s { schedule = ws; depth = d; own = os })) cs) (sym none)
+    by false e = owns-applied (record s { schedule = ws; depth = d }) e s.own [] cs w.own_ordered w.own_tabled w.own_few v.own_once
+
 accepted : (s : System) (c : Command) (cs : List Command) → refusal s c ≡ None → apply_all (Ok s) (c ∷ cs) ≡ apply_all (Ok (changed s c)) cs
 accepted s c cs e = ap (λ o. apply_all (unless_refused o (changed s c)) cs) e
 
@@ -205,20 +277,30 @@ ends s w =
     first_place-none (λ x. not (is_table (tables s.rules) x)) 1 s.schedule
     (each-map (λ x. is_table (tables s.rules) x ≡ true) (λ x. not (is_table (tables s.rules) x) ≡ false) (λ x h. ap not h) s.schedule w.scheduled) in
     let words : nat_lt most_schedule_words (length s.schedule) ≡ false = not_over most_schedule_words (length s.schedule) w.few_words in
-    let steps : nat_lt most_depth s.depth ≡ false = not_over most_depth s.depth w.shallow in
+    let steps : nat_lt (depth_bound s.version) s.depth ≡ false = not_over (depth_bound s.version) s.depth w.shallow in
     let t : System = record s { schedule = main ∷ []; depth = 0 } in
     accepted t (set_schedule s.schedule) (set_depth s.depth ∷ []) (rw (known, words))
     ∙ accepted (record s { depth = 0 }) (set_depth s.depth) [] (rw steps)
 
--- the first four lines
+-- the version and the numbering
+versions : (v : ℕ) (g : Numbering) (cs : List Command) → 1 ≤ v → v ≤ greatest_version → (v ≡ 1 → g ≡ by_place)
+    → apply_all (Ok opening) ((if v == 1 then [] else set_version v ∷ numbering_commands g) ++ cs) ≡ apply_all (Ok (record opening { version = v; numbering = g })) cs
+versions zero g cs l k f = absurd (omega (arith, l))
+versions (suc zero) g cs l k f = ap (λ g. apply_all (Ok (record opening { version = 1; numbering = g })) cs) (sym (f refl))
+versions (suc (suc zero)) by_place cs l k f = refl
+versions (suc (suc zero)) by_name cs l k f = refl
+versions (suc (suc (suc v))) g cs l k f = absurd (omega (arith, k))
+
+-- the first lines
 begins : (s : System) (cs : List Command) → WellFormed s → WellSpelled s
-    → apply_all (Ok opening) (set_lattice s.lattice ∷ set_seed s.seed ∷ set_axiom (written s.axiom_string) ∷ set_ignored s.ignored ∷ cs)
-    ≡ apply_all (Ok (record s { rules = []; homomorphisms = []; schedule = main ∷ []; depth = 0 })) cs
+    → apply_all (Ok opening) (version_commands s ++ (set_lattice s.lattice ∷ set_seed s.seed ∷ set_axiom (written s.axiom_string) ∷ set_ignored s.ignored ∷ cs))
+    ≡ apply_all (Ok (record s { rules = []; homomorphisms = []; schedule = main ∷ []; depth = 0; own = [] })) cs
 begins s cs w v =
     let names : nat_lt most_ignored (length s.ignored) ≡ false = not_over most_ignored (length s.ignored) w.few_ignored in
-    let t : System = record s { axiom_string = []; ignored = []; rules = []; homomorphisms = []; schedule = main ∷ []; depth = 0 } in
-    let u : System = record s { ignored = []; rules = []; homomorphisms = []; schedule = main ∷ []; depth = 0 } in
-    accepted t (set_axiom (written s.axiom_string)) (set_ignored s.ignored ∷ cs) (rw (axiom_short_anywhere 0 1 (written s.axiom_string) w.axiom_short))
+    let t : System = record s { axiom_string = []; ignored = []; rules = []; homomorphisms = []; schedule = main ∷ []; depth = 0; own = [] } in
+    let u : System = record s { ignored = []; rules = []; homomorphisms = []; schedule = main ∷ []; depth = 0; own = [] } in
+    versions s.version s.numbering (set_lattice s.lattice ∷ set_seed s.seed ∷ set_axiom (written s.axiom_string) ∷ set_ignored s.ignored ∷ cs) w.some_version w.known_version (λ e. (w.first_version e).1)
+    ∙ accepted t (set_axiom (written s.axiom_string)) (set_ignored s.ignored ∷ cs) (rw (axiom_short_anywhere 0 1 (written s.axiom_string) w.axiom_short))
     ∙ ap (λ xs. apply_all (Ok (record t { axiom_string = xs })) (set_ignored s.ignored ∷ cs)) (written-back s.axiom_string)
     ∙ accepted u (set_ignored s.ignored) cs (rw names)
     ∙ ap (λ ns. apply_all (Ok (record u { ignored = ns })) cs) (once-all s.ignored [] v.ignored_once)
@@ -243,7 +325,9 @@ commands-applied s w v =
       few = omega (arith, w.few_rules);
     } in
     let hs : Images s.rules s.homomorphisms = record { labels = w.labels; each = each-image-unrefused s.homomorphisms w.homomorphisms_short v.homomorphisms_sound; few = w.few_rules } in
-    begins s (map as_put s.rules ++ (map as_put_homomorphism s.homomorphisms ++ last)) w v
-    ∙ rules-applied (record s { rules = []; homomorphisms = []; schedule = main ∷ []; depth = 0 }) refl s.rules [] (map as_put_homomorphism s.homomorphisms ++ last) rs
-    ∙ images-applied (record s { homomorphisms = []; schedule = main ∷ []; depth = 0 }) s.homomorphisms [] last hs
+    let own : List Command = map as_set_own s.own ++ last in
+    begins s (map as_put s.rules ++ (map as_put_homomorphism s.homomorphisms ++ own)) w v
+    ∙ rules-applied (record s { rules = []; homomorphisms = []; schedule = main ∷ []; depth = 0; own = [] }) refl s.rules [] (map as_put_homomorphism s.homomorphisms ++ own) rs
+    ∙ images-applied (record s { homomorphisms = []; schedule = main ∷ []; depth = 0; own = [] }) s.homomorphisms [] own hs
+    ∙ own-lines s (main ∷ []) 0 last w v
     ∙ ends s w

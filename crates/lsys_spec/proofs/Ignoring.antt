@@ -1,16 +1,18 @@
 -- Names that are ignored alike on a level make no difference to it.
-use Rattle.std.proofs.Common.{◌≡◌, ℕ, zero, suc, ◌+◌, Bool, true, false, List, [], ◌∷◌, ◌++◌, length, take, drop, refl, ap, ◌∙◌, true≢false}
+use Rattle.std.proofs.Common.{◌≡◌, ℕ, zero, suc, ◌+◌, Bool, true, false, List, [], ◌∷◌, ◌++◌, length, take, drop, bytes_eq, if◌then◌else◌, refl, ap, ◌∙◌, true≢false}
 use Rattle.std.specs.Prelude.{Some, None, Ok, fold}
 use Rattle.lsys_syntax.specs.Strings.{ModuleName}
-use Rattle.lsys_spec.specs.Systems.{System, Each, same_name}
+use Rattle.lsys_spec.specs.Systems.{System, Own, Each, same_name}
 use Rattle.lsys_spec.specs.Values.{◌and_then◌}
-use Rattle.lsys_spec.specs.Bodies.{Body, Pattern, Patterns, Done, OneOf, BranchOf, group}
+use Rattle.lsys_spec.specs.Bodies.{Body, Pattern, Patterns, Done, OneOf, BranchOf, table_at, group, filter_in, filter}
 use Rattle.lsys_spec.specs.Levels.{ModuleValue, Symbol, Push, Pop, Module, Step, Passed, Around, OutOf, Reading, restored, read, way, Items, Nothing, One, Branch, Nest, at_root, in_branch, items_here, with_module, with_whole_branch, with_open_bracket, items_of, items_from}
 use Rattle.lsys_spec.specs.Walks.{Mark, deeper, Told, Found, says, before, followed, is_ignored, fits, behind, left_walk, ahead, joined, or_passed, right_walk}
 use Rattle.lsys_spec.proofs.Meetings.{met}
 use Rattle.lsys_spec.specs.Choice.{right_after}
-use Rattle.lsys_spec.specs.Cuts.{Plain, cut}
-use Rattle.lsys_spec.specs.Meaning.{numbered, key_for, most_entries, ignores, asking, asked, successor_by, successor, fault_at, children_from, next_level}
+use Rattle.lsys_spec.specs.Cuts.{cut}
+use Rattle.lsys_syntax.specs.Commands.{ListKind, to_ignore}
+use Rattle.lsys_syntax.specs.Strings as S
+use Rattle.lsys_spec.specs.Meaning.{children, key_for, most_entries, ignores, ignored_by, asking, asked, successor_by, successor, fault_at, children_from, next_level}
 use Rattle.lsys_spec.specs.Questions.{Question, question, where_any, questions_from, questions_at}
 use Rattle.lsys_spec.specs.Morphisms.{IsAlike, AreAlike, ignoring, occurs}
 use Rattle.lsys_spec.proofs.SameGroups.{FindSame, choice_same}
@@ -31,9 +33,9 @@ module _ (f g : ModuleName → Bool) where
   ItemsAlike (One s r) = IsAlike f g s × ItemsAlike r
   ItemsAlike (Branch o c inner r) = ItemsAlike inner × ItemsAlike r
 
-  met_same : (i j b : Bool) (d : Mark) (s : Symbol) (on go next then : Told Found)
-      → i ≡ j → on ≡ go → next ≡ then → met i b d s on next ≡ met j b d s go then
-  met_same i j b d s on go next then e h k = cc
+  met_same : (i j b : Bool) (d : Mark) (s : Symbol) (on go next past : Told Found)
+      → i ≡ j → on ≡ go → next ≡ past → met i b d s on next ≡ met j b d s go past
+  met_same i j b d s on go next past e h k = cc
 
   left_same : (d : Mark) (qs : List Pattern) (w : List Step) → Each StepAlike w → left_walk f d qs w ≡ left_walk g d qs w
   left_same d [] w h = refl
@@ -142,30 +144,55 @@ module _ (f g : ModuleName → Bool) where
   items_alike : (x : List Symbol) (p : ℕ) → AreAlike f g x → ItemsAlike (items_from x p)
   items_alike x p h = innermost_alike (items_of (drop p x)) (nest_alike (drop p x) (drop_alike x p h))
 
-module _ (s : System) (names : List ModuleName) (x : List Symbol) (h : AreAlike (ignores names) (ignores s.ignored) x) where
-  asked_same : (bs : List Body) (p : ℕ) (l : List ℕ) (m : ModuleValue) → asked (ignoring names s) bs x p l m ≡ asked s bs x p l m
-  asked_same bs p l m =
-      choice_same (asking (ignoring names s) m) (ignores s.ignored) (way x p) (way x p) (items_from x (p + 1)) (items_from x (p + 1)) (key_for s l bs) bs
-      (all_same _ _ m (way x p) (items_from x (p + 1)) bs (way_alike _ _ x p h) (items_alike _ _ x (p + 1) h))
+-- Where a table has no list of its own, the ignored names are told by.
+kind_same : (k : ListKind) (ns : List ModuleName) (x : List Symbol) → AreAlike (ignored_by (record { kind = k; names = ns })) (ignored_by (record { kind = k; names = ns })) x
+kind_same k ns [] = tt
+kind_same k ns (Module l m ∷ x) = (refl, kind_same k ns x)
+kind_same k ns (Push l ∷ x) = (tt, kind_same k ns x)
+kind_same k ns (Pop l ∷ x) = (tt, kind_same k ns x)
+
+names_alike : (a b : List ModuleName) (x : List Symbol) → AreAlike (ignores a) (ignores b) x → AreAlike (ignored_by (record { kind = to_ignore; names = a })) (ignored_by (record { kind = to_ignore; names = b })) x
+names_alike a b [] h = tt
+names_alike a b (Module l m ∷ x) h = (h.0, names_alike a b x h.1)
+names_alike a b (Push l ∷ x) h = (tt, names_alike a b x h.1)
+names_alike a b (Pop l ∷ x) h = (tt, names_alike a b x h.1)
+
+lists_alike : (table : List ℕ) (own : List Own) (a b : List ModuleName) (x : List Symbol) → AreAlike (ignores a) (ignores b) x → AreAlike (ignored_by (filter_in table own a)) (ignored_by (filter_in table own b)) x
+lists_alike table [] a b x h = names_alike a b x h
+lists_alike table (o ∷ os) a b x h = by (bytes_eq o.table table) (lists_alike table os a b x h)
+  where
+    by : (c : Bool) → AreAlike (ignored_by (filter_in table os a)) (ignored_by (filter_in table os b)) x
+        → AreAlike (ignored_by (if c then record { kind = o.kind; names = o.names } else filter_in table os a)) (ignored_by (if c then record { kind = o.kind; names = o.names } else filter_in table os b)) x
+    by true g = kind_same o.kind o.names x
+    by false g = g
+
+module _ (s : System) (names : List ModuleName) (x : List Symbol) (alike : AreAlike (ignores names) (ignores s.ignored) x) where
+  filters_alike : (t : ℕ) → AreAlike (ignored_by (filter (ignoring names s) t)) (ignored_by (filter s t)) x
+  filters_alike t = lists_alike (table_at s.schedule t) s.own names s.ignored x alike
+
+  asked_same : (t : ℕ) (bs : List Body) (p : ℕ) (l : List ℕ) (m : ModuleValue) → asked (ignoring names s) t bs x p l m ≡ asked s t bs x p l m
+  asked_same t bs p l m =
+      choice_same (asking (ignoring names s) t m) (ignored_by (filter s t)) (way x p) (way x p) (items_from x (p + 1)) (items_from x (p + 1)) (key_for s l bs) bs
+      (all_same _ _ m (way x p) (items_from x (p + 1)) bs (way_alike _ _ x p (filters_alike t)) (items_alike _ _ x (p + 1) (filters_alike t)))
 
   successor_same : (t p : ℕ) (l : List ℕ) (m : ModuleValue) → successor (ignoring names s) t x p l m ≡ successor s t x p l m
   successor_same t p l m =
-      let bs = group s t m.name (length m.params) in ap (λ o. successor_by bs m o.answer) (asked_same bs p l m)
+      let bs = group s t m.name (length m.params) in ap (λ o. successor_by bs m o.answer) (asked_same t bs p l m)
 
   children_same : (t p n : ℕ) (rest : List Symbol) → children_from (ignoring names s) t x p n rest ≡ children_from s t x p n rest
   children_same t p n [] = refl
-  children_same t p n (Push l ∷ rest) = ap (λ r. r and_then λ more. Ok (Plain (Push (l ++ 0 ∷ [])) ∷ more)) (children_same t (p + 1) n rest)
-  children_same t p n (Pop l ∷ rest) = ap (λ r. r and_then λ more. Ok (Plain (Pop (l ++ 0 ∷ [])) ∷ more)) (children_same t (p + 1) n rest)
+  children_same t p n (Push l ∷ rest) = ap (λ r. r and_then λ more. Ok (children s.numbering l (S.Push ∷ []) ++ more)) (children_same t (p + 1) n rest)
+  children_same t p n (Pop l ∷ rest) = ap (λ r. r and_then λ more. Ok (children s.numbering l (S.Pop ∷ []) ++ more)) (children_same t (p + 1) n rest)
   children_same t p n (Module l m ∷ rest) =
-      ap (λ a. fault_at t (n + 1) a and_then λ ys. children_from (ignoring names s) t x (p + 1) (n + 1) rest and_then λ more. Ok (numbered 0 l ys ++ more)) (successor_same t p l m)
-      ∙ ap (λ r. fault_at t (n + 1) (successor s t x p l m) and_then λ ys. r and_then λ more. Ok (numbered 0 l ys ++ more)) (children_same t (p + 1) (n + 1) rest)
+      ap (λ a. fault_at t (n + 1) a and_then λ ys. children_from (ignoring names s) t x (p + 1) (n + 1) rest and_then λ more. Ok (children s.numbering l ys ++ more)) (successor_same t p l m)
+      ∙ ap (λ r. fault_at t (n + 1) (successor s t x p l m) and_then λ ys. r and_then λ more. Ok (children s.numbering l ys ++ more)) (children_same t (p + 1) (n + 1) rest)
 
   pub level_same : (t : ℕ) → next_level (ignoring names s) t x ≡ next_level s t x
   level_same t = ap (λ r. r and_then λ raw. Ok (cut raw)) (children_same t 0 0 x)
 
   question_same : (t : ℕ) (bs : List Body) (p : ℕ) (l : List ℕ) (m : ModuleValue) → question (ignoring names s) t bs x p l m ≡ question s t bs x p l m
   question_same t bs p l m =
-      ap (λ o. record { level = t; own = Module l m; bodies = bs; key = key_for s l bs; trace = take (most_entries + 1) o.entries }) (asked_same bs p l m)
+      ap (λ o. record { level = t; own = Module l m; bodies = bs; key = key_for s l bs; trace = take (most_entries + 1) o.entries }) (asked_same t bs p l m)
 
   any_same : (bs : List Body) (q r : Question) (qs rs : List Question) → q ≡ r → qs ≡ rs → where_any bs q qs ≡ where_any bs r rs
   any_same bs q r qs rs e k = cc

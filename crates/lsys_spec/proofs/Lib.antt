@@ -39,3 +39,6 @@ pub mod Free
 pub mod Undisturbed
 pub mod Needs
 pub mod Answered
+pub mod FormerSystems
+pub mod Numbered
+pub mod Shorts

@@ -151,5 +151,5 @@ choice_named V a (Some key) w r bs h k = all_named V a w r none_tried (Ok []) bs
 
 pub trace_of : (V : Symbol → Type 0) (s : System) (t : ℕ) (bs : List Body) (x : List Symbol) (p : ℕ) (l : List ℕ) (m : ModuleValue) → Each V x → Each (OfEntry V) (question s t bs x p l m).trace
 trace_of V s t bs x p l m h =
-    each_take (OfEntry V) (most_entries + 1) (asked s bs x p l m).entries
-    (choice_named V (asking s m) (key_for s l bs) (way x p) (items_from x (p + 1)) bs (level_way V x p h) (level_items V x (p + 1) h))
+    each_take (OfEntry V) (most_entries + 1) (asked s t bs x p l m).entries
+    (choice_named V (asking s t m) (key_for s l bs) (way x p) (items_from x (p + 1)) bs (level_way V x p h) (level_items V x (p + 1) h))

@@ -5,17 +5,17 @@ use Rattle.std.proofs.lemmas.Bool.{eqb-true}
 use Rattle.std.proofs.lemmas.List.Sums.{sum_by-cons}
 use Rattle.std.proofs.lemmas.Option.{get_or_from_slice_get}
 use Rattle.lsys_spec.specs.Systems.{System, Each, WellSpelled}
-use Rattle.lsys_spec.specs.Bodies.{Body, group}
+use Rattle.lsys_spec.specs.Bodies.{Body, group, filter}
 use Rattle.lsys_spec.specs.Levels.{ModuleValue, Symbol, Push, Pop, Module, lineage, IsLevel}
-use Rattle.lsys_spec.specs.Walks.{Entry, lineages_named, list_any}
+use Rattle.lsys_spec.specs.Walks.{Entry, lineages_named, any}
 use Rattle.lsys_spec.specs.Meaning.{key_for, meaning}
 use Rattle.lsys_spec.specs.Equalities.{same_number, same_option, same_all, same_lineage, same_symbol, same_body}
 use Rattle.lsys_spec.specs.Questions.{Question, question, where_any, questions_from, questions_at, questions_below, questions, same_question, question_at, differs, is_needed}
-use Rattle.lsys_spec.specs.Standings.{standing, place_of, standing_of, before_place, Settled, same_standing, is_disturbed, reads_disturbed, any_disturbed, free, same_ignored, is_touched, touched_there}
+use Rattle.lsys_spec.specs.Standings.{standing, place_of, standing_of, before_place, Settled, same_standing, is_disturbed, reads_disturbed, any_disturbed, free, same_filter, is_touched, touched_there}
 use Rattle.lsys_spec.specs.LevelLaws.{may_differ}
 use Rattle.lsys_spec.proofs.Alike.{Settles}
 use Rattle.lsys_spec.proofs.Balanced.{is_level}
-use Rattle.lsys_spec.proofs.Rising.{rising_apart}
+use Rattle.lsys_spec.proofs.Rising.{distinct_apart}
 use Rattle.lsys_spec.proofs.Offspring.{Grown, has_balance, grown}
 use Rattle.lsys_spec.proofs.Equal.{same_number_true, same_lineage_true, same_question_refl, same_standings_refl}
 use Rattle.lsys_spec.proofs.Names.{NamedSymbol, NamedBody, NamedStanding, InOption, same_option_true, same_all_true, same_plain_option, same_symbol_true, same_body_true, same_standing_true}
@@ -51,7 +51,7 @@ disturbed_unless x y l e = ap (λ o. not (same_option same_standing o (standing_
 pub disturbed : (x y : List Symbol) (l : List ℕ) → NamedLevel x → NamedLevel y → (is_disturbed x y l ≡ false) ↔ Settled x y l
 disturbed x y l u v = (settled_if x y l u v, disturbed_unless x y l)
 
-each_settled : (x y : List Symbol) (ls : List (List ℕ)) → NamedLevel x → NamedLevel y → list_any (is_disturbed x y) ls ≡ false → Each (Settled x y) ls
+each_settled : (x y : List Symbol) (ls : List (List ℕ)) → NamedLevel x → NamedLevel y → any (is_disturbed x y) ls ≡ false → Each (Settled x y) ls
 each_settled x y [] u v h = tt
 each_settled x y (l ∷ ls) u v h = let n = none_of (is_disturbed x y) l ls h in (settled_if x y l u v n.0, each_settled x y ls u v n.1)
 
@@ -132,7 +132,7 @@ pub record Derived (s : System) (xs : List (List Symbol)) : Type 0 where
 pub derived : (s : System) (limit : ℕ) (xs : List (List Symbol)) → WellSpelled s → meaning s limit ≡ Ok xs → Derived s xs
 derived s limit xs w h = record {
   formed = w;
-  levels = λ t x g. let r : Grown t x = grown s (has_balance s w) limit xs h t x g in is_level x r.is_balanced (rising_apart x r.rises);
+  levels = λ t x g. let r : Grown s.numbering t x = grown s (has_balance s w) limit xs h t x g in is_level x r.is_balanced (distinct_apart x r.distinct);
   names = level_named s w limit xs h;
 }
 
@@ -177,7 +177,8 @@ untouched old new xs ys dx dy was q a b level h =
     let settled : Settled x y l = settled_if x y l nx ny (ap (λ s. is_disturbed x y (lineage s)) (sym (ap (λ (r : Question). r.own) moved)) ∙ k.0) in
     let read : Each (Settles (Settled x y)) was.trace = all_settled x y was.trace nx ny r.0 in
     let stands : slice_get y b.place ≡ Some (Module l m) = b.stands ∙ ap (λ s. Some s) (sym own') in
-    let ignored : free bs || same_ignored old.ignored new.ignored ≡ true = ap (λ bs. free bs || same_ignored old.ignored new.ignored) (sym (ap (λ (r : Question). r.bodies) moved)) ∙ not_false _ r.1 in
+    let ignored : free bs || same_filter (filter old t) (filter new t) ≡ true =
+    ap (λ n. free bs || same_filter (filter old n) (filter new n)) level ∙ ap (λ bs. free bs || same_filter (filter old q.level) (filter new q.level)) (sym (ap (λ (r : Question). r.bodies) moved)) ∙ not_false _ r.1 in
     let same : IsSame old new t bs x y a.place b.place l m =
     same_at old new t bs x y a.place b.place l m (dx.levels t x a.there) (dy.levels q.level y b.there) a.stands stands settled keys ignored
     (subst (λ (r : Question). Each (Settles (Settled x y)) r.trace) here read) in

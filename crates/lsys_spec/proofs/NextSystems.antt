@@ -3,7 +3,7 @@ use Rattle.std.proofs.Common.{◌≡◌, ℕ, Bool, true, false, List, [], refl,
 use Rattle.std.specs.Prelude.{Option, Some, None, Result, Ok, Err, length, map, codes}
 use Rattle.lsys_syntax.specs.Lines.{without_cr}
 use Rattle.lsys_syntax.specs.Tokens.{Token, tokens}
-use Rattle.lsys_syntax.specs.Commands.{Command, set_axiom, put_production, drop_rule, set_ignored, set_schedule, set_seed, set_depth, set_lattice, put_homomorphism, print_string, print_segments, print_svg, print_system, quit}
+use Rattle.lsys_syntax.specs.Commands.{Command, set_axiom, put_production, drop_rule, set_ignored, set_schedule, set_seed, set_depth, set_lattice, put_homomorphism, print_string, print_segments, print_svg, print_system, quit, set_version, set_own, drop_own, set_numbering}
 use Rattle.lsys_syntax.specs.LineMachine.{Verdict, sentence, stops, too_deep, verdict, command_in}
 use Rattle.lsys_spec.specs.Systems.{System}
 use Rattle.lsys_spec.specs.Edits.{Refusal, refusal, changed, apply}
@@ -82,6 +82,10 @@ accepted_leaves limit s (set_seed n) e = edited_leaves limit s (set_seed n) e re
 accepted_leaves limit s (set_depth n) e = edited_leaves limit s (set_depth n) e refl
 accepted_leaves limit s (set_lattice l) e = edited_leaves limit s (set_lattice l) e refl
 accepted_leaves limit s (put_homomorphism l r) e = edited_leaves limit s (put_homomorphism l r) e refl
+accepted_leaves limit s (set_version n) e = edited_leaves limit s (set_version n) e refl
+accepted_leaves limit s (set_own k t ns) e = edited_leaves limit s (set_own k t ns) e refl
+accepted_leaves limit s (drop_own t) e = edited_leaves limit s (drop_own t) e refl
+accepted_leaves limit s (set_numbering g) e = edited_leaves limit s (set_numbering g) e refl
 
 command_leaves : (limit : ℕ) (s : System) (column : ℕ → ℕ) (c : Command) (o : Option Refusal)
     → refusal s c ≡ o → Leaves s (Some c) (command_reply limit s column c o)

@@ -72,6 +72,12 @@ sample-well_formed = record {
   few_words = omega arith;
   few_ignored = omega arith;
   shallow = omega arith;
+  some_version = omega arith;
+  known_version = omega arith;
+  first_version = λ e. cc;
+  own_tabled = (refl, tt);
+  own_ordered = (tt, tt);
+  own_few = (omega arith, tt);
 }
 
 pub sample-well_spelled : WellSpelled full_system
@@ -89,4 +95,9 @@ sample-well_spelled = record {
   ignored_once = ((refl, tt), (tt, tt));
   words = ((refl, (refl, (refl, (refl, tt))), omega arith), ((refl, (refl, (refl, (refl, (refl, (refl, tt))))), omega arith), tt));
   small_seed = omega arith;
+  axiom_few = omega arith;
+  successors_few = (omega arith, (omega arith, tt));
+  own_words = ((refl, (refl, (refl, (refl, (refl, (refl, tt))))), omega arith), tt);
+  own_names = ((refl, ((refl, (refl, tt), omega arith, omega arith), tt)), tt);
+  own_once = (((refl, tt), (tt, tt)), tt);
 }

@@ -1,22 +1,22 @@
 -- The script that show prints, cut into lines and read, gives the system again.
-use Rattle.std.proofs.Common.{◌≡◌, ℕ, zero, Bool, true, false, Some, Result, Ok, Err, List, [], ◌∷◌, ◌++◌, ◌==◌, ◌<◌, ◌≤◌, map, length, suc, nat_le, refl, ap, ◌∙◌, sym, subst, arith, decimal, ℤ}
+use Rattle.std.proofs.Common.{◌≡◌, ℕ, zero, Bool, true, false, Some, Result, Ok, Err, List, [], ◌∷◌, ◌++◌, ◌==◌, ◌<◌, ◌≤◌, map, length, suc, nat_le, if◌then◌else◌, refl, ap, ◌∙◌, sym, subst, arith, decimal, ℤ}
 use Rattle.std.proofs.lemmas.Bool.Decides.{nat_tests}
 use Rattle.std.proofs.lemmas.Fmt.{decimal_is_IsNumeral}
-use Rattle.lsys_syntax.specs.Limits.{nesting_bound}
+use Rattle.lsys_syntax.specs.Limits.{nesting_bound, number_bound, most_depth, most_depth_of_two}
 use Rattle.lsys_syntax.specs.Lines.{lines_of, without_cr}
 use Rattle.lsys_syntax.specs.Tokens.{short, long, Kind, Word, LongWord, Name, Number, BigNumber, Arrow, Equal, Unequal, AtMost, AtLeast, LeftParen, RightParen, LeftBracket, RightBracket, Comma, Colon, At, Plus, Minus, Times, Slash, Backslash, Percent, Ampersand, Bar, Caret, Bang, Less, Greater, Assign, Mode, First, next_mode, is_letter, is_digit, is_alphanumeric, is_word_byte, tokens}
 use Rattle.lsys_syntax.specs.Pieces.{Piece, blank, token, note, text_of, token_text, Tail, anything, ending, Reads, Stands, Every, IsWordText}
-use Rattle.lsys_syntax.specs.Strings.{Symbol, Module, Push, Pop, Cut, signed_of, EachOf, IsSymbol, IsParam, IsSigned, balanced}
+use Rattle.lsys_syntax.specs.Strings.{IsModuleName, Symbol, Module, Push, Pop, Cut, signed_of, EachOf, IsSymbol, IsParam, IsSigned, balanced}
 use Rattle.lsys_syntax.specs.Rules.{Production, IsRule, IsProduction}
-use Rattle.lsys_syntax.specs.Commands.{Command, set_axiom, put_production, drop_rule, set_ignored, set_schedule, set_seed, set_depth, set_lattice, put_homomorphism, print_string, print_segments, print_svg, print_system, quit, command_pieces, IsCommand, IsHomomorphism, nesting}
+use Rattle.lsys_syntax.specs.Commands.{Command, set_axiom, put_production, drop_rule, set_ignored, set_schedule, set_seed, set_depth, set_lattice, put_homomorphism, print_string, print_segments, print_svg, print_system, quit, set_version, set_own, drop_own, set_numbering, to_ignore, to_consider, Numbering, by_place, by_name, command_pieces, IsCommand, IsHomomorphism, nesting}
 use Rattle.lsys_syntax.specs.LineMachine.{parse_command, command_in}
 use Rattle.lsys_syntax.proofs.Bytes.{AllDigits-Every}
 use Rattle.lsys_syntax.proofs.StringsRead.{value_is_signed}
 use Rattle.lsys_syntax.proofs.LineReads.{command-reads, line-reads, kinds-placed}
 use Rattle.lsys_syntax.proofs.LineComplete.{command-sentence}
-use Rattle.lsys_spec.specs.Systems.{System, Homomorphism, opening, written, IsSound, Each, WellFormed, WellSpelled}
+use Rattle.lsys_spec.specs.Systems.{System, Homomorphism, Own, depth_bound, opening, written, IsSound, Each, WellFormed, WellSpelled}
 use Rattle.lsys_spec.specs.Edits.{Refusal, apply}
-use Rattle.lsys_spec.specs.Shown.{as_put, as_put_homomorphism, show_commands, script_of, show_text}
+use Rattle.lsys_spec.specs.Shown.{as_put, as_put_homomorphism, as_set_own, numbering_commands, version_commands, show_commands, script_of, show_text}
 use Rattle.lsys_spec.specs.Refusals.{is_passed_over}
 use Rattle.lsys_spec.specs.ReadBack.{IsPlainLine, spelled_by, accepted_system, then_command, read_lines, IsReadBack}
 use Rattle.lsys_spec.proofs.Applied.{apply_all, commands-applied}
@@ -123,6 +123,11 @@ not_passed print_segments = refl
 not_passed print_svg = refl
 not_passed print_system = refl
 not_passed quit = refl
+not_passed (set_version n) = refl
+not_passed (set_own to_ignore t ns) = refl
+not_passed (set_own to_consider t ns) = refl
+not_passed (drop_own t) = refl
+not_passed (set_numbering g) = refl
 
 lines-plain : (cs : List Command) → Each IsLine cs → Each IsPlainLine (map line_text cs)
 lines-plain [] g = tt
@@ -182,10 +187,38 @@ schedule-line : (ws : List (List ℕ)) → EachOf IsWordText ws → 0 < length w
 schedule-line [] g h = absurd (omega arith)
 schedule-line (w ∷ ws) g h = g
 
+depth-bounded : (v : ℕ) → depth_bound v ≤ 256
+depth-bounded v = by (v == 1)
+  where
+    by : (c : Bool) → (if c then most_depth else most_depth_of_two) ≤ 256
+    by true = omega arith
+    by false = omega arith
+
+each-own : (os : List Own) → Each (λ o. IsWordText o.table) os → Each (λ o. EachOf IsModuleName o.names) os → Each IsLine (map as_set_own os)
+each-own [] h g = tt
+each-own (o ∷ os) h g = (((h.0, g.0), omega arith), each-own os h.1 g.1)
+
+numbering-lines : (g : Numbering) → Each IsLine (numbering_commands g)
+numbering-lines by_place = tt
+numbering-lines by_name = ((tt, omega arith), tt)
+
+version-lines : (s : System) → WellFormed s → Each IsLine (version_commands s)
+version-lines s w = by (s.version == 1)
+  where
+    by : (c : Bool) → Each IsLine (if c then [] else set_version s.version ∷ numbering_commands s.numbering)
+    by true = tt
+    by false = ((let l = w.known_version in omega (arith, l), omega arith), numbering-lines s.numbering)
+
 shown-lines : (s : System) → WellFormed s → WellSpelled s → Each IsLine (show_commands s)
 shown-lines s w v =
     let none : 0 ≤ nesting_bound = omega arith in
-    let last : Each IsLine (set_schedule s.schedule ∷ set_depth s.depth ∷ []) = ((schedule-line s.schedule v.words w.some_word, none), ((omega (arith, w.shallow), none), tt)) in (
+    let deep : s.depth < number_bound = let l = w.shallow in let k = depth-bounded s.version in omega (arith, l, k) in
+    let last : Each IsLine (set_schedule s.schedule ∷ set_depth s.depth ∷ []) = ((schedule-line s.schedule v.words w.some_word, none), ((deep, none), tt)) in
+    let own : Each IsLine (map as_set_own s.own ++ set_schedule s.schedule ∷ set_depth s.depth ∷ []) =
+    each-append IsLine (map as_set_own s.own) (set_schedule s.schedule ∷ set_depth s.depth ∷ []) (each-own s.own v.own_words v.own_names) last in
+    each-append IsLine (version_commands s)
+    (set_lattice s.lattice ∷ set_seed s.seed ∷ set_axiom (written s.axiom_string) ∷ set_ignored s.ignored ∷ (map as_put s.rules ++ (map as_put_homomorphism s.homomorphisms ++ (map as_set_own s.own ++ set_schedule s.schedule ∷ set_depth s.depth ∷ []))))
+    (version-lines s w) (
       (tt, none),
       (
         (v.small_seed, none),
@@ -193,8 +226,8 @@ shown-lines s w v =
           ((written-symbols s.axiom_string v.axiom_symbols, written-balanced 0 s.axiom_string v.axiom_balanced), none),
           (
             (v.ignored_names, none),
-            each-append IsLine (map as_put s.rules) (map as_put_homomorphism s.homomorphisms ++ set_schedule s.schedule ∷ set_depth s.depth ∷ []) (each-rule s.rules v.rules v.rules_sound)
-                (each-append IsLine (map as_put_homomorphism s.homomorphisms) (set_schedule s.schedule ∷ set_depth s.depth ∷ []) (each-image s.homomorphisms v.homomorphisms v.homomorphisms_sound) last),
+            each-append IsLine (map as_put s.rules) (map as_put_homomorphism s.homomorphisms ++ (map as_set_own s.own ++ set_schedule s.schedule ∷ set_depth s.depth ∷ [])) (each-rule s.rules v.rules v.rules_sound)
+                (each-append IsLine (map as_put_homomorphism s.homomorphisms) (map as_set_own s.own ++ set_schedule s.schedule ∷ set_depth s.depth ∷ []) (each-image s.homomorphisms v.homomorphisms v.homomorphisms_sound) own),
           ),
         ),
       ),

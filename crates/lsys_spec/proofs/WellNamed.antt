@@ -12,8 +12,10 @@ use Rattle.lsys_spec.specs.Values.{Tree}
 use Rattle.lsys_spec.specs.Bodies.{Body, body_of, Patterns, PatternNest, outermost, within, with_pattern, with_branch, opened, nest_of, innermost, left_patterns, pattern_of, templates, is_for, group_in, group, table_at}
 use Rattle.lsys_spec.specs.Levels.{ModuleValue, Symbol, Push, Pop, Module}
 use Rattle.lsys_spec.specs.Choice.{Choice, NoRule, Chosen, Failed}
-use Rattle.lsys_spec.specs.Cuts.{Raw, Plain, Percent, cut_on, cut}
-use Rattle.lsys_spec.specs.Meaning.{numbered, first_level, asked, filled_params, filled, filled_at, successor_by, successor, fault_at, children_from, next_level, meaning_to}
+use Rattle.lsys_syntax.specs.Commands.{Numbering}
+use Rattle.lsys_spec.specs.Numbers.{code_of}
+use Rattle.lsys_spec.specs.Cuts.{Raw, Plain, Cut, cut_on, cut}
+use Rattle.lsys_spec.specs.Meaning.{numbered, children, first_level, asked, filled_params, filled, filled_at, successor_by, successor, fault_at, children_from, next_level, meaning_to}
 use Rattle.lsys_spec.proofs.LevelInduction.{ok_parts, ok_as_fault, ok_fault_at, at_each_level}
 use Rattle.lsys_spec.proofs.Names.{NamedSymbol, NamedPattern, NamedPatterns, NamedTemplate, NamedBody}
 
@@ -114,39 +116,39 @@ NamedLevel x = Each NamedSymbol x
 
 abbrev NamedRaw : Raw → Type 0
 NamedRaw (Plain s) = NamedSymbol s
-NamedRaw (Percent l) = Unit {0}
+NamedRaw (Cut l) = Unit {0}
 
 abbrev NamedRaws : List Raw → Type 0
 NamedRaws x = Each NamedRaw x
 
-numbered_named : (i : ℕ) (l : List ℕ) (xs : List (S.Symbol ℤ)) (y : List Raw) → Each NamedTemplate xs → NamedRaws y → NamedRaws (numbered i l xs ++ y)
-numbered_named i l [] y v h = h
-numbered_named i l (S.Module m ps ∷ xs) y v h = (v.0, numbered_named (i + 1) l xs y v.1 h)
-numbered_named i l (S.Push ∷ xs) y v h = (tt, numbered_named (i + 1) l xs y v.1 h)
-numbered_named i l (S.Pop ∷ xs) y v h = (tt, numbered_named (i + 1) l xs y v.1 h)
-numbered_named i l (S.Cut ∷ xs) y v h = (tt, numbered_named (i + 1) l xs y v.1 h)
+numbered_named : (g : Numbering) (i : ℕ) (before l : List ℕ) (xs : List (S.Symbol ℤ)) (y : List Raw) → Each NamedTemplate xs → NamedRaws y → NamedRaws (numbered g i before l xs ++ y)
+numbered_named g i before l [] y v h = h
+numbered_named g i before l (S.Module m ps ∷ xs) y v h = (v.0, numbered_named g (i + 1) (code_of (S.Module m ps) ∷ before) l xs y v.1 h)
+numbered_named g i before l (S.Push ∷ xs) y v h = (tt, numbered_named g (i + 1) (91 ∷ before) l xs y v.1 h)
+numbered_named g i before l (S.Pop ∷ xs) y v h = (tt, numbered_named g (i + 1) (93 ∷ before) l xs y v.1 h)
+numbered_named g i before l (S.Cut ∷ xs) y v h = (tt, numbered_named g (i + 1) (37 ∷ before) l xs y v.1 h)
 
 children_named : (s : System) → WellSpelled s → (t : ℕ) (x : List Symbol) (p n : ℕ) (rest : List Symbol) (raw : List Raw) → children_from s t x p n rest ≡ Ok raw → NamedLevel rest → NamedRaws raw
 children_named s w t x p n [] raw h v = let e : [] ≡ raw = cc in subst NamedRaws e tt
 children_named s w t x p n (Push l ∷ rest) raw h v =
     let r = ok_parts (children_from s t x (p + 1) n rest) _ raw h in
-    let e : Plain (Push (l ++ 0 ∷ [])) ∷ r.0 ≡ raw = let i = r.2 in cc in subst NamedRaws e (tt, children_named s w t x (p + 1) n rest r.0 r.1 v.1)
+    let e : children s.numbering l (S.Push ∷ []) ++ r.0 ≡ raw = let i = r.2 in cc in subst NamedRaws e (tt, children_named s w t x (p + 1) n rest r.0 r.1 v.1)
 children_named s w t x p n (Pop l ∷ rest) raw h v =
     let r = ok_parts (children_from s t x (p + 1) n rest) _ raw h in
-    let e : Plain (Pop (l ++ 0 ∷ [])) ∷ r.0 ≡ raw = let i = r.2 in cc in subst NamedRaws e (tt, children_named s w t x (p + 1) n rest r.0 r.1 v.1)
+    let e : children s.numbering l (S.Pop ∷ []) ++ r.0 ≡ raw = let i = r.2 in cc in subst NamedRaws e (tt, children_named s w t x (p + 1) n rest r.0 r.1 v.1)
 children_named s w t x p n (Module l m ∷ rest) raw h v =
     let z = ok_parts (fault_at t (n + 1) (successor s t x p l m)) _ raw h in
     let r = ok_parts (children_from s t x (p + 1) (n + 1) rest) _ raw z.2 in
-    let e : numbered 0 l z.0 ++ r.0 ≡ raw = let i = r.2 in cc in
+    let e : children s.numbering l z.0 ++ r.0 ≡ raw = let i = r.2 in cc in
     let bs : List Body = group s t m.name (length m.params) in
-    let ys : Each NamedTemplate z.0 = choice_named bs m (asked s bs x p l m).answer z.0 (group_named s w t m.name (length m.params)) v.0 (ok_fault_at t (n + 1) (successor s t x p l m) z.0 z.1) in
-    subst NamedRaws e (numbered_named 0 l z.0 r.0 ys (children_named s w t x (p + 1) (n + 1) rest r.0 r.1 v.1))
+    let ys : Each NamedTemplate z.0 = choice_named bs m (asked s t bs x p l m).answer z.0 (group_named s w t m.name (length m.params)) v.0 (ok_fault_at t (n + 1) (successor s t x p l m) z.0 z.1) in
+    subst NamedRaws e (numbered_named s.numbering 0 [] l z.0 r.0 ys (children_named s w t x (p + 1) (n + 1) rest r.0 r.1 v.1))
 
 cut_named : (x : List Raw) (o : Option ℕ) → NamedRaws x → NamedLevel (cut_on o x)
 cut_named [] None h = tt
 cut_named [] (Some k) h = tt
-cut_named (Percent l ∷ x) None h = cut_named x (Some 0) h.1
-cut_named (Percent l ∷ x) (Some k) h = cut_named x (Some k) h.1
+cut_named (Cut l ∷ x) None h = cut_named x (Some 0) h.1
+cut_named (Cut l ∷ x) (Some k) h = cut_named x (Some k) h.1
 cut_named (Plain s ∷ x) None h = (h.0, cut_named x None h.1)
 cut_named (Plain (Module l m) ∷ x) (Some k) h = cut_named x (Some k) h.1
 cut_named (Plain (Push l) ∷ x) (Some k) h = cut_named x (Some (suc k)) h.1
@@ -163,7 +165,7 @@ string_named G (S.Cut ∷ xs) h = (tt, string_named G xs h.1)
 first_named : (s : System) → WellSpelled s → NamedLevel (first_level s)
 first_named s w =
     let xs : List (S.Symbol ℤ) = s.axiom_string in
-    cut_named (numbered 0 [] xs) None (subst NamedRaws (append-nil (numbered 0 [] xs)) (numbered_named 0 [] xs [] (string_named _ xs w.axiom_symbols) tt))
+    cut_named (children s.numbering [] xs) None (subst NamedRaws (append-nil (children s.numbering [] xs)) (numbered_named s.numbering 0 [] [] xs [] (string_named _ xs w.axiom_symbols) tt))
 
 next_named : (s : System) → WellSpelled s → (t : ℕ) (x y : List Symbol) → NamedLevel x → next_level s t x ≡ Ok y → NamedLevel y
 next_named s w t x y v h =

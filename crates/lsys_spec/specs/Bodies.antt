@@ -6,7 +6,8 @@ use Rattle.lsys_syntax.specs.Strings as S
 use Rattle.lsys_syntax.specs.Expressions.{Expr}
 use Rattle.lsys_syntax.specs.Rules.{Rule, Production}
 use Rattle.lsys_syntax.specs.Checks.{rule_formals}
-use Rattle.lsys_spec.specs.Systems.{System, main, same_name}
+use Rattle.lsys_syntax.specs.Commands.{ListKind, to_ignore}
+use Rattle.lsys_spec.specs.Systems.{System, Own, main, same_name}
 use Rattle.lsys_spec.specs.Values.{Tree, expr_tree}
 
 -- a letter and a number of formals
@@ -107,3 +108,16 @@ group_in table n arity (p ∷ ps) = if is_for table n arity p then body_of p.rul
 
 abbrev pub group : System → ℕ → ModuleName → ℕ → List Body
 group s t n arity = group_in (table_at s.schedule t) n arity s.rules
+
+-- what a level's ignored modules are told by: names to ignore, or to consider
+pub record Filter : Type 0 where
+  pub kind : ListKind
+  pub names : List ModuleName
+
+abbrev pub filter_in : List ℕ → List Own → List ModuleName → Filter
+filter_in table [] ignored = record { kind = to_ignore; names = ignored }
+filter_in table (o ∷ os) ignored = if bytes_eq o.table table then record { kind = o.kind; names = o.names } else filter_in table os ignored
+
+-- the own list of the table of a level, or the ignored names where that table has none
+abbrev pub filter : System → ℕ → Filter
+filter s t = filter_in (table_at s.schedule t) s.own s.ignored

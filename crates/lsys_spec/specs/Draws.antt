@@ -11,19 +11,32 @@ word s =
     let z = folded (folded ((s + 0x9E3779B97F4A7C15) % 2 ^ 64) 30 0xBF58476D1CE4E5B9) 27 0x94D049BB133111EB in
     bit_xor z (z / 2 ^ 31)
 
--- the key of the axiom's symbol at a place, counted from 0
+-- Numbers from this one on are those of symbols by their names: so many for each code.
+abbrev pub number_base : ℕ
+number_base = 4096
+
+-- the word that many words behind the one of a state
+abbrev pub word_past : ℕ → ℕ → ℕ
+word_past state n = word ((state + 1 + n) % 2 ^ 64)
+
+-- The key of a number below a key. By its name a symbol has a code and a count among those of its code, and takes two
+-- steps.
+abbrev pub grown_key : ℕ → ℕ → ℕ
+grown_key key number = if nat_lt number number_base then word_past key number else word_past (word_past key (number / number_base)) (number % number_base)
+
+-- the key of the axiom's symbol with a number
 abbrev pub axiom_key_of : ℕ → ℕ → ℕ
-axiom_key_of seed place = word ((seed + 1 + place) % 2 ^ 64)
+axiom_key_of seed number = grown_key seed number
 
--- the key of the child at a place, counted from 0, of a symbol with this key
+-- the key of the child with a number of a symbol with this key
 abbrev pub child_key_of : ℕ → ℕ → ℕ
-child_key_of key place = word ((key + 1 + place) % 2 ^ 64)
+child_key_of key number = grown_key key number
 
--- The key of the symbol with a lineage: its place in the axiom, then its place among the children at each level.
+-- The key of the symbol with a lineage: its number in the axiom, then its number among the children at each level.
 -- No symbol has the empty lineage.
 abbrev pub key_of : ℕ → List ℕ → ℕ
 key_of seed [] = seed
-key_of seed (place ∷ below) = fold child_key_of (axiom_key_of seed place) below
+key_of seed (number ∷ below) = fold child_key_of (axiom_key_of seed number) below
 
 -- the draw of a module with this key
 abbrev pub draw_of : ℕ → ℕ

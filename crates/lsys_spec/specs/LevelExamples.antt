@@ -7,7 +7,7 @@ use Rattle.lsys_spec.specs.Values.{DivideByZero, Overflow}
 use Rattle.lsys_spec.specs.Bodies.{table_at}
 use Rattle.lsys_spec.specs.Levels.{Symbol, Push, Pop, Module, lineage, close_of, level_balanced, Passed, Around, OutOf, way, Nothing, One, Branch, items_from}
 use Rattle.lsys_spec.specs.Walks.{Mark, Compared, Ignored, Out, Branched}
-use Rattle.lsys_spec.specs.Cuts.{Plain, Percent, cut}
+use Rattle.lsys_spec.specs.Cuts.{Plain, Cut, cut}
 use Rattle.lsys_spec.specs.Choice.{Arithmetic}
 use Rattle.lsys_spec.specs.Meaning.{FaultAt, first_level, last_level, meaning_to, meaning}
 use Rattle.lsys_spec.specs.Questions.{Question, questions, least_visits}
@@ -76,7 +76,7 @@ lineages_after_cut = refl
 -- what follows a cut goes, with the branches in it; the bracket that ends its branch stays
 pub cut_in_branch :
     cut
-    (Plain (Push (0 ∷ [])) ∷ Percent (1 ∷ []) ∷ Plain (Push (2 ∷ [])) ∷ Plain (Pop (3 ∷ [])) ∷ Percent (4 ∷ []) ∷ Plain (Pop (5 ∷ []))
+    (Plain (Push (0 ∷ [])) ∷ Cut (1 ∷ []) ∷ Plain (Push (2 ∷ [])) ∷ Plain (Pop (3 ∷ [])) ∷ Cut (4 ∷ []) ∷ Plain (Pop (5 ∷ []))
     ∷ Plain (Push (6 ∷ [])) ∷ Plain (Pop (7 ∷ [])) ∷ [])
     ≡ Push (0 ∷ []) ∷ Pop (5 ∷ []) ∷ Push (6 ∷ []) ∷ Pop (7 ∷ []) ∷ []
 cut_in_branch = refl

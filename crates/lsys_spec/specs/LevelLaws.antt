@@ -1,6 +1,7 @@
 -- What is said of each level of a system, and of its questions after an edit.
-use Rattle.std.specs.Prelude.{◌≡◌, ℕ, Bool, true, Some, Ok, List, [], length, slice_get, get_or, count_by, sum_by, if◌then◌else◌}
+use Rattle.std.specs.Prelude.{◌≡◌, ◌≤◌, ℕ, Bool, true, Some, Ok, List, [], length, slice_get, get_or, count_by, sum_by, if◌then◌else◌}
 use Rattle.lsys_syntax.specs.Strings.{balanced}
+use Rattle.lsys_spec.specs.Draws.{number_base}
 use Rattle.lsys_spec.specs.Systems.{System, Each}
 use Rattle.lsys_spec.specs.Levels.{Symbol, lineage}
 use Rattle.lsys_spec.specs.Walks.{Entry, lineages_named}
@@ -8,10 +9,13 @@ use Rattle.lsys_spec.specs.Meaning.{meaning}
 use Rattle.lsys_spec.specs.Questions.{Question, questions}
 use Rattle.lsys_spec.specs.Standings.{Settled, is_candidate}
 
--- each `[` of the axiom and of a rule's successor has its `]`, and there are no others
+-- Each `[` of the axiom and of a rule's successor has its `]`, and there are no others. They have no more symbols than one
+-- code has numbers.
 pub record HasBalance (s : System) : Type 0 where
   pub in_axiom : balanced 0 s.axiom_string ≡ true
   pub in_successors : Each (λ p. balanced 0 p.rule.successor ≡ true) s.rules
+  pub short_axiom : length s.axiom_string ≤ number_base
+  pub short_successors : Each (λ p. length p.rule.successor ≤ number_base) s.rules
 
 -- where the system has a meaning, P holds of each of its levels, and of the level's number
 abbrev pub AtEachLevel : System → (ℕ → List Symbol → Type 0) → Type 0

@@ -1,46 +1,65 @@
 -- Parallel rewriting, level by level (ABOP 1.2), the fault of a derivation, and the limit of its size.
-use Rattle.std.specs.Prelude.{ℕ, zero, suc, ℤ, Bool, Option, Some, None, Result, Ok, Err, List, [], ◌∷◌, ◌++◌, ◌+◌, length, sum_by, nat_lt, is_some, if◌then◌else◌}
+use Rattle.std.specs.Prelude.{ℕ, zero, suc, ℤ, Bool, Option, Some, None, Result, Ok, Err, List, [], ◌∷◌, ◌++◌, ◌+◌, not, length, sum_by, nat_lt, is_some, if◌then◌else◌}
 pub use Rattle.lsys_syntax.specs.Limits.{most_entries}
 use Rattle.lsys_syntax.specs.Strings.{ModuleName}
+use Rattle.lsys_syntax.specs.Commands.{ListKind, to_ignore, to_consider, Numbering}
 use Rattle.lsys_syntax.specs.Strings as S
 use Rattle.lsys_spec.specs.Draws.{key_of}
+use Rattle.lsys_spec.specs.Numbers.{code_of, number_at}
 use Rattle.lsys_spec.specs.Systems.{System, same_name}
 use Rattle.lsys_spec.specs.Values.{Tree, value, Arith, ◌and_then◌}
-use Rattle.lsys_spec.specs.Bodies.{Body, group}
+use Rattle.lsys_spec.specs.Bodies.{Body, group, Filter, filter}
 use Rattle.lsys_spec.specs.Levels.{ModuleValue, Symbol, Push, Pop, Module, way, items_from}
-use Rattle.lsys_spec.specs.Walks.{Told, list_any}
+use Rattle.lsys_spec.specs.Walks.{Told, any}
 use Rattle.lsys_spec.specs.Choice.{Fault, as_fault, Choice, NoRule, Chosen, Failed, Asking, choice}
-use Rattle.lsys_spec.specs.Cuts.{Raw, Plain, Percent, cut}
+use Rattle.lsys_spec.specs.Cuts.{Raw, Plain, Cut, cut}
 
--- these symbols as the children of a lineage, numbered from n on
-abbrev pub numbered : ℕ → List ℕ → List (S.Symbol ℤ) → List Raw
-numbered n l [] = []
-numbered n l (S.Module name ps ∷ xs) = Plain (Module (l ++ n ∷ []) (record { name = name; params = ps })) ∷ numbered (n + 1) l xs
-numbered n l (S.Push ∷ xs) = Plain (Push (l ++ n ∷ [])) ∷ numbered (n + 1) l xs
-numbered n l (S.Pop ∷ xs) = Plain (Pop (l ++ n ∷ [])) ∷ numbered (n + 1) l xs
-numbered n l (S.Cut ∷ xs) = Percent (l ++ n ∷ []) ∷ numbered (n + 1) l xs
+-- the symbol with a lineage
+abbrev pub raw_of : List ℕ → S.Symbol ℤ → Raw
+raw_of l (S.Module name ps) = Plain (Module l (record { name = name; params = ps }))
+raw_of l S.Push = Plain (Push l)
+raw_of l S.Pop = Plain (Pop l)
+raw_of l S.Cut = Cut l
+
+-- these symbols as children of a lineage, behind n of them that have these codes
+abbrev pub numbered : Numbering → ℕ → List ℕ → List ℕ → List (S.Symbol ℤ) → List Raw
+numbered g n before l [] = []
+numbered g n before l (x ∷ xs) = raw_of (l ++ number_at g n before (code_of x) ∷ []) x ∷ numbered g (n + 1) (code_of x ∷ before) l xs
+
+-- all children of a lineage
+abbrev pub children : Numbering → List ℕ → List (S.Symbol ℤ) → List Raw
+children g l xs = numbered g 0 [] l xs
 
 -- level 0: the axiom after its cut
 abbrev pub first_level : System → List Symbol
-first_level s = cut (numbered 0 [] s.axiom_string)
+first_level s = cut (children s.numbering [] s.axiom_string)
 
 abbrev pub ignores : List ModuleName → ModuleName → Bool
-ignores names n = list_any (λ i. same_name i n) names
+ignores names n = any (λ i. same_name i n) names
+
+abbrev pub by_kind : ListKind → Bool → Bool
+by_kind to_ignore b = b
+by_kind to_consider b = not b
+
+-- of a list of names to ignore the names, of one to consider all others
+abbrev pub ignored_by : Filter → ModuleName → Bool
+ignored_by f n = by_kind f.kind (ignores f.names n)
 
 -- a rule of the group has a weight
 abbrev pub any_weight : List Body → Bool
-any_weight bs = list_any (λ b. is_some b.weight) bs
+any_weight bs = any (λ b. is_some b.weight) bs
 
 -- the key, where the group has weights: all its rules have one, or none has
 abbrev pub key_for : System → List ℕ → List Body → Option ℕ
 key_for s l bs = if any_weight bs then Some (key_of s.seed l) else None
 
-abbrev pub asking : System → ModuleValue → Asking
-asking s m = record { ignored = ignores s.ignored; most = most_entries; own = m }
+-- of a module of level t
+abbrev pub asking : System → ℕ → ModuleValue → Asking
+asking s t m = record { ignored = ignored_by (filter s t); most = most_entries; own = m }
 
--- what is read for the module m at place p of the level x, and which rule of these bodies is chosen
-abbrev pub asked : System → List Body → List Symbol → ℕ → List ℕ → ModuleValue → Told Choice
-asked s bs x p l m = choice (asking s m) (key_for s l bs) (way x p) (items_from x (p + 1)) bs
+-- what is read for the module m at place p of level t, which is x, and which rule of these bodies is chosen
+abbrev pub asked : System → ℕ → List Body → List Symbol → ℕ → List ℕ → ModuleValue → Told Choice
+asked s t bs x p l m = choice (asking s t m) (key_for s l bs) (way x p) (items_from x (p + 1)) bs
 
 abbrev pub filled_params : List Tree → List ℤ → Result (List ℤ) Arith
 filled_params [] bound = Ok []
@@ -68,7 +87,7 @@ successor_by bs m (Failed k) = Err k
 
 abbrev pub successor : System → ℕ → List Symbol → ℕ → List ℕ → ModuleValue → Result (List (S.Symbol ℤ)) Fault
 successor s t x p l m =
-    let bs = group s t m.name (length m.params) in successor_by bs m (asked s bs x p l m).answer
+    let bs = group s t m.name (length m.params) in successor_by bs m (asked s t bs x p l m).answer
 
 -- why a system has no levels up to its depth
 pub data LevelRefusal : Type 0 where
@@ -82,14 +101,14 @@ fault_at t n (Err k) = Err (FaultAt k t n)
 -- The children of the symbols of level t from place p on, where n modules stand before them; brackets give themselves.
 abbrev pub children_from : System → ℕ → List Symbol → ℕ → ℕ → List Symbol → Result (List Raw) LevelRefusal
 children_from s t x p n [] = Ok []
-children_from s t x p n (Push l ∷ rest) = children_from s t x (p + 1) n rest and_then λ more. Ok (Plain (Push (l ++ 0 ∷ [])) ∷ more)
-children_from s t x p n (Pop l ∷ rest) = children_from s t x (p + 1) n rest and_then λ more. Ok (Plain (Pop (l ++ 0 ∷ [])) ∷ more)
+children_from s t x p n (Push l ∷ rest) = children_from s t x (p + 1) n rest and_then λ more. Ok (children s.numbering l (S.Push ∷ []) ++ more)
+children_from s t x p n (Pop l ∷ rest) = children_from s t x (p + 1) n rest and_then λ more. Ok (children s.numbering l (S.Pop ∷ []) ++ more)
 children_from s t x p n (Module l m ∷ rest) =
-    fault_at t (n + 1) (successor s t x p l m) and_then λ ys. children_from s t x (p + 1) (n + 1) rest and_then λ more. Ok (numbered 0 l ys ++ more)
+    fault_at t (n + 1) (successor s t x p l m) and_then λ ys. children_from s t x (p + 1) (n + 1) rest and_then λ more. Ok (children s.numbering l ys ++ more)
 
 -- the level behind level t, or the leftmost fault of level t
 abbrev pub next_level : System → ℕ → List Symbol → Result (List Symbol) LevelRefusal
-next_level s t x = children_from s t x 0 0 x and_then λ raw. Ok (cut raw)
+next_level s t x = children_from s t x 0 0 x and_then λ raws. Ok (cut raws)
 
 abbrev pub within_limit : ℕ → ℕ → List (List Symbol) → Result (List (List Symbol)) LevelRefusal
 within_limit limit t levels = if nat_lt limit (sum_by length levels) then Err (OverLimit t) else Ok levels

@@ -6,9 +6,9 @@ use Rattle.lsys_spec.specs.Systems.{System, Each, same_name}
 use Rattle.lsys_spec.specs.Values.{◌and_then◌}
 use Rattle.lsys_spec.specs.Bodies.{group}
 use Rattle.lsys_spec.specs.Levels.{ModuleValue, Symbol, Push, Pop, Module, plain}
-use Rattle.lsys_spec.specs.Walks.{list_any}
+use Rattle.lsys_spec.specs.Walks.{any}
 use Rattle.lsys_spec.specs.Choice.{Fault}
-use Rattle.lsys_spec.specs.Cuts.{Raw, Plain, Percent}
+use Rattle.lsys_spec.specs.Cuts.{Raw, Plain, Cut}
 use Rattle.lsys_spec.specs.Meaning.{LevelRefusal, OverLimit, FaultAt, any_weight, successor}
 use Rattle.lsys_spec.specs.Standings.{free}
 
@@ -35,7 +35,7 @@ rewritten h (S.Cut ∷ xs) = rewritten h xs and_then λ more. Ok (S.Cut ∷ more
 -- without its lineage
 abbrev pub raw_plain : Raw → S.Symbol ℤ
 raw_plain (Plain s) = plain s
-raw_plain (Percent l) = S.Cut
+raw_plain (Cut l) = S.Cut
 
 -- children without their lineages, or a fault without its place
 abbrev pub AreMade : Result (List Raw) LevelRefusal → Result (List (S.Symbol ℤ)) Fault → Type 0
@@ -65,4 +65,4 @@ is_named n (Pop l) = false
 
 -- a module of the level has this name
 abbrev pub occurs : ModuleName → List Symbol → Bool
-occurs n x = list_any (is_named n) x
+occurs n x = any (is_named n) x

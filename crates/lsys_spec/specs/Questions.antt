@@ -17,7 +17,7 @@ pub record Question : Type 0 where
 
 abbrev pub question : System → ℕ → List Body → List Symbol → ℕ → List ℕ → ModuleValue → Question
 question s t bs x p l m =
-    record { level = t; own = Module l m; bodies = bs; key = key_for s l bs; trace = take (most_entries + 1) (asked s bs x p l m).entries }
+    record { level = t; own = Module l m; bodies = bs; key = key_for s l bs; trace = take (most_entries + 1) (asked s t bs x p l m).entries }
 
 abbrev pub where_any : List Body → Question → List Question → List Question
 where_any [] q qs = qs

@@ -4,7 +4,7 @@ use Rattle.lsys_syntax.specs.Limits.{most_line_bytes}
 use Rattle.lsys_syntax.specs.Lines.{is_blank_line, is_comment}
 use Rattle.lsys_syntax.specs.Tokens.{Token}
 use Rattle.lsys_spec.specs.Systems.{System}
-use Rattle.lsys_spec.specs.Edits.{Why, unknown_name, duplicate, mixed, wrong_label, wrong_table, wrong_level, many}
+use Rattle.lsys_spec.specs.Edits.{Why, wrong_version, unknown_name, duplicate, mixed, wrong_label, wrong_table, wrong_level, many}
 use Rattle.lsys_spec.specs.Values.{Arith, Overflow, DivideByZero, NegativePower}
 use Rattle.lsys_spec.specs.Choice.{Fault, Arithmetic, NegativeWeight, WeightTotal, TooFar}
 use Rattle.lsys_spec.specs.Meaning as M
@@ -49,6 +49,7 @@ column_at end zero (t ∷ ts) = t.start + 1
 column_at end (suc n) (t ∷ ts) = column_at end n ts
 
 abbrev pub why_word : Why → List ℕ
+why_word wrong_version = codes "version"
 why_word unknown_name = codes "name"
 why_word duplicate = codes "duplicate"
 why_word mixed = codes "mixed"

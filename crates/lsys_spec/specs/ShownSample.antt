@@ -5,7 +5,7 @@ use Rattle.lsys_syntax.specs.Tokens.{NameText, short, long}
 use Rattle.lsys_syntax.specs.Strings.{ModuleName, named, plus, Module, Push, Pop, Cut}
 use Rattle.lsys_syntax.specs.Expressions.{only_and, only_rel, only_sum, compare, less, greater, Sum, only_term, only_unary, product, multiply, Unary, negated, inverted, only_atom, raised, number, name}
 use Rattle.lsys_syntax.specs.Rules.{Rule}
-use Rattle.lsys_syntax.specs.Commands.{hexagonal}
+use Rattle.lsys_syntax.specs.Commands.{hexagonal, by_name, to_consider}
 use Rattle.lsys_spec.specs.Systems.{System, main}
 use Rattle.lsys_spec.specs.Shown.{show_text}
 
@@ -73,8 +73,11 @@ full_system = record {
   seed = 7;
   depth = 2;
   lattice = hexagonal;
+  version = 2;
+  numbering = by_name;
+  own = record { table = codes "winter"; kind = to_consider; names = a ∷ f_a ∷ [] } ∷ [];
 }
 
-pub sample_row : show_text full_system ≡ codes "lattice hexagonal\nseed 7\naxiom A(-3,4)[F_a B]%\nignore +F_a\nproduction main a: A => AB\nproduction winter w: F_a F_b < A(x) > [+B]B : !x<-1 @ 2*x => F_a(x^2)[B]%\nhom h: B(x) : x>0 => [+]\nschedule main winter\ndepth 2\n"
+pub sample_row : show_text full_system ≡ codes "version 2\nlineage names\nlattice hexagonal\nseed 7\naxiom A(-3,4)[F_a B]%\nignore +F_a\nproduction main a: A => AB\nproduction winter w: F_a F_b < A(x) > [+B]B : !x<-1 @ 2*x => F_a(x^2)[B]%\nhom h: B(x) : x>0 => [+]\nconsider winter: AF_a\nschedule main winter\ndepth 2\n"
 unfolding digits
 sample_row = refl

@@ -1,10 +1,12 @@
 -- How a symbol stands in its level, which symbols an edit disturbs, and which questions may be other ones then.
 use Rattle.std.specs.Prelude.{◌≡◌, ℕ, zero, suc, Bool, true, false, not, Option, Some, None, List, [], ◌∷◌, ◌+◌, ◌&&◌, ◌||◌, option_map, slice_get}
 use Rattle.lsys_syntax.specs.Strings.{ModuleName}
-use Rattle.lsys_spec.specs.Systems.{System, same_name}
-use Rattle.lsys_spec.specs.Bodies.{Body, Pattern, Patterns, Done, OneOf, BranchOf}
+use Rattle.lsys_spec.specs.Systems.{System}
+use Rattle.lsys_spec.specs.Bodies.{Body, Pattern, Patterns, Done, OneOf, BranchOf, Filter, filter}
+use Rattle.lsys_syntax.specs.Commands.{ListKind, to_ignore, to_consider}
 use Rattle.lsys_spec.specs.Levels.{Symbol, Push, Pop, Module, lineage, Step, Passed, Around, OutOf, Items, Nothing, One, Branch, way, items_from}
-use Rattle.lsys_spec.specs.Walks.{Entry, lineages_named, list_any}
+use Rattle.lsys_spec.specs.Walks.{Entry, lineages_named, any}
+use Rattle.lsys_spec.specs.Meaning.{ignores}
 use Rattle.lsys_spec.specs.Equalities.{same_option, same_symbol, same_lineage, same_all, same_body, same_number}
 use Rattle.lsys_spec.specs.Questions.{Question, question_at}
 
@@ -64,10 +66,10 @@ is_disturbed x y l = not (same_option same_standing (standing_of y l) (standing_
 
 -- a symbol that an entry names is disturbed
 abbrev pub reads_disturbed : List Symbol → List Symbol → Entry → Bool
-reads_disturbed x y e = list_any (is_disturbed x y) (lineages_named e)
+reads_disturbed x y e = any (is_disturbed x y) (lineages_named e)
 
 abbrev pub any_disturbed : List Symbol → List Symbol → List Entry → Bool
-any_disturbed x y es = list_any (reads_disturbed x y) es
+any_disturbed x y es = any (reads_disturbed x y) es
 
 abbrev pub no_patterns : Patterns → Bool
 no_patterns Done = true
@@ -83,21 +85,27 @@ abbrev pub free : List Body → Bool
 free [] = true
 free (b ∷ bs) = (no_left b.left && no_patterns b.right) && free bs
 
--- the same names are ignored, in whatever order
-abbrev pub among : List ModuleName → ModuleName → Bool
-among names n = list_any (λ i. same_name i n) names
-
-abbrev pub all_among : List ModuleName → List ModuleName → Bool
-all_among [] names = true
-all_among (n ∷ ns) names = among names n && all_among ns names
+-- the same names, in whatever order
+abbrev pub all_ignored : List ModuleName → List ModuleName → Bool
+all_ignored [] names = true
+all_ignored (n ∷ ns) names = ignores names n && all_ignored ns names
 
 abbrev pub same_ignored : List ModuleName → List ModuleName → Bool
-same_ignored a b = all_among a b && all_among b a
+same_ignored a b = all_ignored a b && all_ignored b a
+
+abbrev pub same_kind : ListKind → ListKind → Bool
+same_kind to_ignore to_ignore = true
+same_kind to_consider to_consider = true
+same_kind a b = false
+
+-- names to ignore, or to consider, in both, and the same ones
+abbrev pub same_filter : Filter → Filter → Bool
+same_filter f g = same_kind f.kind g.kind && same_ignored f.names g.names
 
 abbrev pub is_touched : System → System → List Symbol → List Symbol → Question → Question → Bool
 is_touched old new x y was q =
     not (same_symbol was.own q.own && (same_all same_body was.bodies q.bodies && same_option same_number was.key q.key))
-    || (is_disturbed x y (lineage q.own) || (any_disturbed x y was.trace || not (free q.bodies || same_ignored old.ignored new.ignored)))
+    || (is_disturbed x y (lineage q.own) || (any_disturbed x y was.trace || not (free q.bodies || same_filter (filter old q.level) (filter new q.level))))
 
 abbrev pub touched_there : System → System → List Symbol → List Symbol → Question → Option Question → Bool
 touched_there old new x y q None = true

@@ -47,9 +47,9 @@ modules (Push l) = []
 modules (Pop l) = []
 modules (Module l m) = m ∷ []
 
-abbrev pub list_any : {A : Type 0} → (A → Bool) → List A → Bool
-list_any p [] = false
-list_any p (x ∷ xs) = elim (p x) [ true ↦ true | false ↦ list_any p xs ]
+abbrev pub any : {A : Type 0} → (A → Bool) → List A → Bool
+any p [] = false
+any p (x ∷ xs) = elim (p x) [ true ↦ true | false ↦ any p xs ]
 
 abbrev pub is_ignored : (ModuleName → Bool) → Symbol → Bool
 is_ignored ignored (Module l m) = ignored m.name

@@ -1,7 +1,7 @@
 //! Laws of keys, draws and picks.
 
-ghost use Rattle.std.specs.Prelude.{◌≡◌, ℕ, ◌+◌, ◌%◌, ◌^◌, ◌<◌, ◌≤◌, ◌↔◌, List, [], ◌∷◌, ◌++◌, ◌-◌, length, slice_index, Option, Some, None};
-ghost use Rattle.lsys_spec.specs.Draws.{word, axiom_key_of, child_key_of, key_of, IsPick, pick_of, unsplit};
+ghost use Rattle.std.specs.Prelude.{◌≡◌, ℕ, ◌+◌, ◌*◌, ◌%◌, ◌^◌, ◌<◌, ◌≤◌, ◌↔◌, List, [], ◌∷◌, ◌++◌, ◌-◌, length, slice_index, Option, Some, None};
+ghost use Rattle.lsys_spec.specs.Draws.{number_base, word, word_past, grown_key, axiom_key_of, child_key_of, key_of, IsPick, pick_of, unsplit};
 
 /// Known values: the word of SplitMix64's reference, and picks at the ends of the weights' shares.
 pub fn law_of_known_draws()
@@ -35,9 +35,17 @@ pub fn law_of_keys_below()
         → key_of seed (lineage ++ below) ≡ key_of (key_of seed lineage) below }
 {}
 
-/// The next seed has the same keys in the axiom, one place earlier.
+/// A number by places is one word past its key. A number by names, of a code that isn't 0, is one word past the word of the
+/// code, by its count.
+pub fn law_of_number_keys()
+    ensures by_place { (key count : ℕ) → count < number_base → grown_key key count ≡ word_past key count }
+    ensures by_name { (key code count : ℕ) → 0 < code → count < number_base
+        → grown_key key (number_base * code + count) ≡ word_past (word_past key code) count }
+{}
+
+/// The next seed has the same keys in the axiom, one place earlier, where it is numbered by places.
 pub fn law_of_next_seed()
-    ensures { (seed place : ℕ)
+    ensures { (seed place : ℕ) → place + 1 < number_base
         → axiom_key_of seed (place + 1) ≡ axiom_key_of ((seed + 1) % 2 ^ 64) place }
 {}
 

@@ -2,9 +2,10 @@
 
 ghost use Rattle.std.specs.Prelude.{◌≡◌, ◌+◌, ℕ, true, Some, List, map, length, slice_get, ◌↔◌};
 ghost use Rattle.lsys_syntax.specs.Strings.{IsModuleName};
+ghost use Rattle.lsys_syntax.specs.Commands.{by_place};
 ghost use Rattle.lsys_spec.specs.Systems.{System, WellSpelled};
 ghost use Rattle.lsys_spec.specs.Levels.{ModuleValue, Symbol, Module, lineage, level_balanced, IsLevel};
-ghost use Rattle.lsys_spec.specs.Cuts.{Raw, Plain, raw_balanced, cut, IsCutOff, is_cut_off, kept, Rising};
+ghost use Rattle.lsys_spec.specs.Cuts.{Raw, Plain, raw_balanced, cut, IsCutOff, is_cut_off, kept, Rising, Distinct};
 ghost use Rattle.lsys_spec.specs.LevelLaws.{HasBalance, AtEachLevel};
 
 /// What a cut leaves of a balanced string is balanced.
@@ -26,15 +27,17 @@ pub fn law_of_cut_places()
 
 /// In a balanced string of distinct lineages each bracket has its mate.
 pub fn law_of_mates()
-    ensures { (x : List Symbol) → level_balanced 0 x ≡ true → Rising x → IsLevel x }
+    ensures { (x : List Symbol) → level_balanced 0 x ≡ true → Distinct x → IsLevel x }
 {}
 
-/// Where the axiom and the successors are balanced, so is each level; its lineages rise, so each stands there once, and
-/// those of level t have t + 1 numbers. In a well-spelled system each module has a name of the language.
+/// Where the axiom and the successors are balanced and short, each level is balanced; each of its lineages stands there
+/// once, and those of level t have t + 1 numbers. Where symbols are numbered by places the lineages rise. In a well-spelled
+/// system each module has a name of the language.
 pub fn law_of_levels()
     ensures spelled { (s : System) → WellSpelled s → HasBalance s }
     ensures balance { (s : System) → HasBalance s → AtEachLevel s (λ t x. level_balanced 0 x ≡ true) }
-    ensures rise { (s : System) → HasBalance s → AtEachLevel s (λ t x. Rising x) }
+    ensures rise { (s : System) → HasBalance s → s.numbering ≡ by_place → AtEachLevel s (λ t x. Rising x) }
+    ensures distinct { (s : System) → HasBalance s → AtEachLevel s (λ t x. Distinct x) }
     ensures mates { (s : System) → HasBalance s → AtEachLevel s (λ t x. IsLevel x) }
     ensures generations { (s : System) → HasBalance s
         → AtEachLevel s (λ t x. (p : ℕ) (a : Symbol) → slice_get x p ≡ Some a → length (lineage a) ≡ t + 1) }

@@ -5,8 +5,10 @@
 
 pub mod derivations;
 pub mod draws;
+pub mod former;
 pub mod lattices;
 pub mod levels;
+pub mod numbers;
 pub mod questions;
 pub mod replies;
 pub mod shown;

@@ -3,14 +3,14 @@
 ghost use Rattle.std.specs.Prelude.{◌≡◌, ◌+◌, ◌||◌, ◌≤◌, ◌↔◌, ℕ, Bool, true, false, Some, Ok, List, length, reverse, slice_get};
 ghost use Rattle.lsys_syntax.specs.Strings.{ModuleName};
 ghost use Rattle.lsys_spec.specs.Systems.{System, WellSpelled, Each};
-ghost use Rattle.lsys_spec.specs.Bodies.{Body, Pattern, Patterns, group};
+ghost use Rattle.lsys_spec.specs.Bodies.{Body, Pattern, Patterns, group, filter};
 ghost use Rattle.lsys_spec.specs.Levels.{ModuleValue, Symbol, Module, lineage, Items, way, items_from, IsLevel};
 ghost use Rattle.lsys_spec.specs.Walks.{Mark, lineages_named, left_walk, right_walk};
 ghost use Rattle.lsys_spec.specs.Choice.{contexts};
 ghost use Rattle.lsys_spec.specs.Contexts.{path, left, right, around};
 ghost use Rattle.lsys_spec.specs.Meaning.{key_for, asked, successor, meaning};
 ghost use Rattle.lsys_spec.specs.Questions.{Question, question, questions, question_at, is_needed, need, least_visits};
-ghost use Rattle.lsys_spec.specs.Standings.{Settled, is_disturbed, free, same_ignored};
+ghost use Rattle.lsys_spec.specs.Standings.{Settled, is_disturbed, free, same_filter};
 ghost use Rattle.lsys_spec.specs.LevelLaws.{StandsIn, NoneDisturbed, candidates, candidate_visits};
 
 /// The left walk answers what the path gives: its last modules, where they match the patterns in order.
@@ -46,23 +46,23 @@ pub fn law_of_disturbed_symbols()
         → (l : List ℕ) → (is_disturbed x y l ≡ false) ↔ Settled x y l }
 {}
 
-/// Where a module, what was read for it, its group and its key stay, and the ignored names do so too or nothing is
+/// Where a module, what was read for it, its group and its key stay, and what is ignored does so too or nothing is
 /// read, its question and its choice are the same.
 pub fn law_of_undisturbed_questions()
     ensures question { (old new : System) (t : ℕ) (bs : List Body) (x y : List Symbol) (p q : ℕ) (l : List ℕ) (m : ModuleValue)
         → IsLevel x → IsLevel y
         → slice_get x p ≡ Some (Module l m) → slice_get y q ≡ Some (Module l m) → Settled x y l
         → key_for new l bs ≡ key_for old l bs
-        → free bs || same_ignored old.ignored new.ignored ≡ true
+        → free bs || same_filter (filter old t) (filter new t) ≡ true
         → NoneDisturbed x y (question old t bs x p l m).trace
         → question new t bs y q l m ≡ question old t bs x p l m }
     ensures choice { (old new : System) (t : ℕ) (bs : List Body) (x y : List Symbol) (p q : ℕ) (l : List ℕ) (m : ModuleValue)
         → IsLevel x → IsLevel y
         → slice_get x p ≡ Some (Module l m) → slice_get y q ≡ Some (Module l m) → Settled x y l
         → key_for new l bs ≡ key_for old l bs
-        → free bs || same_ignored old.ignored new.ignored ≡ true
+        → free bs || same_filter (filter old t) (filter new t) ≡ true
         → NoneDisturbed x y (question old t bs x p l m).trace
-        → (asked new bs y q l m).answer ≡ (asked old bs x p l m).answer }
+        → (asked new t bs y q l m).answer ≡ (asked old t bs x p l m).answer }
 {}
 
 /// Two questions that are the same have the same choice: the same place of the group with the same values, or none, or
@@ -71,7 +71,7 @@ pub fn law_of_same_questions()
     ensures choice { (old new : System) (t t' : ℕ) (bs bs' : List Body) (x y : List Symbol) (p q : ℕ)
         (l l' : List ℕ) (m m' : ModuleValue)
         → question old t bs x p l m ≡ question new t' bs' y q l' m'
-        → (asked old bs x p l m).answer ≡ (asked new bs' y q l' m').answer }
+        → (asked old t bs x p l m).answer ≡ (asked new t' bs' y q l' m').answer }
     ensures successor { (old new : System) (t t' : ℕ) (x y : List Symbol) (p q : ℕ) (l l' : List ℕ) (m m' : ModuleValue)
         → question old t (group old t m.name (length m.params)) x p l m
         ≡ question new t' (group new t' m'.name (length m'.params)) y q l' m'

@@ -5,8 +5,8 @@ use Rattle.lsys_syntax.specs.Pieces.{IsWordText}
 use Rattle.lsys_syntax.specs.Strings.{ModuleName, Symbol, Module, Pop, Signed, unsigned, minus_sign}
 use Rattle.lsys_syntax.specs.RuleMachine as R
 use Rattle.lsys_syntax.specs.RuleMachine.{production, homomorphism, reversed, open_in}
-use Rattle.lsys_syntax.specs.Commands.{square, Command, set_axiom, put_production, drop_rule, set_ignored, set_schedule, set_seed, set_depth, set_lattice, put_homomorphism, print_string, print_system}
-use Rattle.lsys_syntax.specs.LineMachine.{AxiomState, Symbols, NumberDue, MinusRead, NumberRead, State, Fresh, InAxiom, ProductionDue, OneWord, TwoWords, InProduction, LabelDue, LabelRead, InHomomorphism, DropDue, InNames, ScheduleDue, InSchedule, SeedDue, DepthDue, LatticeDue, StringRead, Whole, Stop, is_stop}
+use Rattle.lsys_syntax.specs.Commands.{square, ListKind, by_name, Command, set_axiom, put_production, drop_rule, set_schedule, set_seed, set_depth, set_lattice, put_homomorphism, print_string, print_system, set_version, drop_own, set_numbering}
+use Rattle.lsys_syntax.specs.LineMachine.{AxiomState, Symbols, NumberDue, MinusRead, NumberRead, State, Fresh, InAxiom, ProductionDue, OneWord, TwoWords, InProduction, LabelDue, LabelRead, InHomomorphism, DropDue, Listed, of_own, listing, InNames, ScheduleDue, InSchedule, SeedDue, DepthDue, LatticeDue, StringRead, VersionDue, TableDue, TableRead, CommonDue, NumberingDue, Whole, Stop, is_stop}
 use Rattle.lsys_syntax.specs.Sentences.{IsSpelled, Begins}
 use Rattle.lsys_syntax.proofs.RuleBegins.{Begun, begun}
 use Rattle.lsys_syntax.proofs.LineHolds.{word, AxiomHolds, production_front, homomorphism_front, Holds, behind, symbol-read, number_due-holds, minus-holds, number_read-holds, rule-start}
@@ -66,6 +66,12 @@ module _ (b : ℕ) where
   begins-image : (l : List ℕ) (ts : List Kind) → Holds b (LabelRead l) ts → Begins b ts
   begins-image l ts h = begins-before ts (Colon ∷ []) (begins-homomorphism l R.start (ts ++ Colon ∷ []) ([], behind _ ts Colon h.0, rule-start homomorphism b, h.1, tt))
 
+  begins-names : (f : Listed) (r : List ModuleName) (ts : List Kind) → Holds b (InNames f r) ts → Begins b ts
+  begins-names f r ts h = begins-whole (listing f (reversed r)) ts (finish-spelled b (InNames f r) ts h)
+
+  begins-own : (f : ListKind) (t : List ℕ) (ts : List Kind) → Holds b (TableRead f t) ts → Begins b ts
+  begins-own f t ts h = begins-before ts (Colon ∷ []) (begins-names (of_own f t) [] (ts ++ Colon ∷ []) (behind _ ts Colon h.0, h.1, tt))
+
   -- one token is due, and ends the line
   begins-one : (c : Command) (ts : List Kind) (k : Kind) → IsSpelled b (ts ++ k ∷ []) c → Begins b ts
   begins-one c ts k h = begins-before ts (k ∷ []) (begins-whole c (ts ++ k ∷ []) h)
@@ -82,12 +88,17 @@ module _ (b : ℕ) where
   line-begins (LabelRead l) ts g h = begins-image l ts h
   line-begins (InHomomorphism l s) ts g h = begins-homomorphism l s ts h
   line-begins DropDue ts g h = begins-one (drop_rule a_word) ts (word a_word) (behind _ ts (word a_word) h, a_word-text, omega arith)
-  line-begins (InNames r) ts g h = begins-whole (set_ignored (reversed r)) ts (finish-spelled b (InNames r) ts h)
+  line-begins (InNames f r) ts g h = begins-names f r ts h
   line-begins ScheduleDue ts g h = begins-one (set_schedule (a_word ∷ [])) ts (word a_word) (behind _ ts (word a_word) h, (a_word-text, tt), omega arith)
   line-begins (InSchedule r) ts g h = begins-whole (set_schedule (reversed r)) ts (finish-spelled b (InSchedule r) ts h)
   line-begins SeedDue ts g h = begins-one (set_seed 0) ts (Number 0) (behind _ ts (Number 0) h, omega arith, omega arith)
   line-begins DepthDue ts g h = begins-one (set_depth 0) ts (Number 0) (behind _ ts (Number 0) h, omega arith, omega arith)
   line-begins LatticeDue ts g h = begins-one (set_lattice square) ts (word (codes "square")) (behind _ ts (word (codes "square")) h, tt, omega arith)
   line-begins StringRead ts g h = begins-whole (print_string None) ts (finish-spelled b StringRead ts h)
+  line-begins VersionDue ts g h = begins-one (set_version 0) ts (Number 0) (behind _ ts (Number 0) h, omega arith, omega arith)
+  line-begins (TableDue f) ts g h = begins-before ts (word a_word ∷ []) (begins-own f a_word (ts ++ word a_word ∷ []) (behind _ ts (word a_word) h, a_word-text))
+  line-begins (TableRead f t) ts g h = begins-own f t ts h
+  line-begins CommonDue ts g h = begins-one (drop_own a_word) ts (word a_word) (behind _ ts (word a_word) h, a_word-text, omega arith)
+  line-begins NumberingDue ts g h = begins-one (set_numbering by_name) ts (word (codes "names")) (behind _ ts (word (codes "names")) h, tt, omega arith)
   line-begins (Whole c) ts g h = begins-whole c ts h
   line-begins Stop ts g h = cc

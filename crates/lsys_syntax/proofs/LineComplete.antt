@@ -8,8 +8,8 @@ use Rattle.lsys_syntax.specs.Expressions.{Expr}
 use Rattle.lsys_syntax.specs.Rules.{Rule, rule_pieces, IsRule, rule_nesting}
 use Rattle.lsys_syntax.specs.RuleMachine as R
 use Rattle.lsys_syntax.specs.RuleMachine.{Form, production, homomorphism, reversed_onto, reversed, open_in, where_closed, sign_of, a_name}
-use Rattle.lsys_syntax.specs.Commands.{square, hexagonal, cubic, Command, set_axiom, put_production, drop_rule, set_ignored, set_schedule, set_seed, set_depth, set_lattice, put_homomorphism, print_string, print_segments, print_svg, print_system, quit, as_symbol, string_behind, words_pieces, command_pieces, HasNoCut, IsHomomorphism, IsCommand, nesting}
-use Rattle.lsys_syntax.specs.LineMachine.{Symbols, NumberDue, MinusRead, NumberRead, State, Fresh, InAxiom, InProduction, InHomomorphism, InNames, InSchedule, StringRead, Whole, Stop, popped, if_small, unless_stop, step, finish, depth, ended, is_stop, nesting_bound, verdict_from, verdict, sentence}
+use Rattle.lsys_syntax.specs.Commands.{square, hexagonal, cubic, Command, set_axiom, put_production, drop_rule, set_ignored, set_schedule, set_seed, set_depth, set_lattice, put_homomorphism, print_string, print_segments, print_svg, print_system, quit, set_version, set_own, drop_own, set_numbering, to_ignore, to_consider, by_place, by_name, as_symbol, string_behind, words_pieces, command_pieces, HasNoCut, IsHomomorphism, IsCommand, nesting}
+use Rattle.lsys_syntax.specs.LineMachine.{Symbols, NumberDue, MinusRead, NumberRead, State, Fresh, InAxiom, InProduction, InHomomorphism, Listed, of_ignored, of_own, InNames, InSchedule, StringRead, Whole, Stop, popped, if_small, unless_stop, step, finish, depth, ended, is_stop, nesting_bound, verdict_from, verdict, sentence}
 use Rattle.lsys_syntax.proofs.Leads.{Leads, leads-append, leads-token, leads-to, leads-gap, Puts, string-leads, none_open, reversed-one, twice}
 use Rattle.lsys_syntax.proofs.ExprLeads.{Shallow}
 use Rattle.lsys_syntax.proofs.RuleComplete.{Lead, Absent, NoWeight, MayCut, OfForm, read_rule, rule-leads, read_rule-whole}
@@ -141,29 +141,29 @@ module _ (b : ℕ) where
   axiom-leads (x ∷ xs) g e = string-leads step (Calm b) in_symbols signed_pieces (x ∷ xs) [] (each-symbol (x ∷ xs) g) e
 
   -- names and words
-  names-step : (n : ModuleName) (r : List ModuleName) → step (InNames r) (name_kind n) ≡ InNames (n ∷ r)
-  names-step (named n) r = refl
-  names-step plus r = refl
-  names-step minus r = refl
-  names-step ampersand r = refl
-  names-step caret r = refl
-  names-step backslash r = refl
-  names-step slash r = refl
-  names-step bar r = refl
-  names-step bang r = refl
+  names-step : (g : Listed) (n : ModuleName) (r : List ModuleName) → step (InNames g r) (name_kind n) ≡ InNames g (n ∷ r)
+  names-step g (named n) r = refl
+  names-step g plus r = refl
+  names-step g minus r = refl
+  names-step g ampersand r = refl
+  names-step g caret r = refl
+  names-step g backslash r = refl
+  names-step g slash r = refl
+  names-step g bar r = refl
+  names-step g bang r = refl
 
-  names-lead : (ns r : List ModuleName) → Leads step (Calm b) (InNames r) (string_pieces signed_pieces (map as_symbol ns)) (InNames (reversed_onto ns r))
-  names-lead [] r = refl
-  names-lead (n ∷ ns) r =
+  names-lead : (g : Listed) (ns r : List ModuleName) → Leads step (Calm b) (InNames g r) (string_pieces signed_pieces (map as_symbol ns)) (InNames g (reversed_onto ns r))
+  names-lead g [] r = refl
+  names-lead g (n ∷ ns) r =
       let rest : List Piece = string_pieces signed_pieces (map as_symbol ns) in
       let a : Bool = ends_in_name (as_symbol n) in
       let l : Bool = begins_with_letter (map as_symbol ns) in
-      leads-token step (Calm b) (name_kind n) (gap a l ++ rest) (InNames r) (InNames (n ∷ r)) (InNames (reversed_onto ns (n ∷ r))) (names-step n r) tt
-      (leads-gap step (Calm b) a l rest (InNames (n ∷ r)) (InNames (reversed_onto ns (n ∷ r))) (names-lead ns (n ∷ r)))
+      leads-token step (Calm b) (name_kind n) (gap a l ++ rest) (InNames g r) (InNames g (n ∷ r)) (InNames g (reversed_onto ns (n ∷ r))) (names-step g n r) tt
+      (leads-gap step (Calm b) a l rest (InNames g (n ∷ r)) (InNames g (reversed_onto ns (n ∷ r))) (names-lead g ns (n ∷ r)))
 
-  ignored-lead : (ns : List ModuleName) → Leads step (Calm b) (InNames []) (string_behind (map as_symbol ns)) (InNames (reversed_onto ns []))
-  ignored-lead [] = refl
-  ignored-lead (n ∷ ns) = names-lead (n ∷ ns) []
+  listed-lead : (g : Listed) (ns : List ModuleName) → Leads step (Calm b) (InNames g []) (string_behind (map as_symbol ns)) (InNames g (reversed_onto ns []))
+  listed-lead g [] = refl
+  listed-lead g (n ∷ ns) = names-lead g (n ∷ ns) []
 
   words-lead : (ws r : List (List ℕ)) → Leads step (Calm b) (InSchedule r) (words_pieces ws) (InSchedule (reversed_onto ws r))
   words-lead [] r = refl
@@ -187,7 +187,7 @@ module _ (b : ℕ) where
   command-leads (put_production (Some t) l r) g h =
       (InProduction (Some t) l (read_rule r), (tt, (tt, (tt, (tt, production-leads (Some t) l r g.2 h)))), ap (option_map (put_production (Some t) l)) (read_rule-whole r g.2))
   command-leads (drop_rule l) g h = (Whole (drop_rule l), (tt, (tt, refl)), refl)
-  command-leads (set_ignored ns) g h = (InNames (reversed_onto ns []), (tt, ignored-lead ns), ap (λ ms. Some (set_ignored ms)) (twice ns))
+  command-leads (set_ignored ns) g h = (InNames of_ignored (reversed_onto ns []), (tt, listed-lead of_ignored ns), ap (λ ms. Some (set_ignored ms)) (twice ns))
   command-leads (set_schedule []) g h = elim g [ ]
   command-leads (set_schedule (w ∷ ws)) g h = (InSchedule (reversed_onto ws (w ∷ [])), (tt, (tt, words-lead ws (w ∷ []))), ap (λ vs. Some (set_schedule vs)) (reversed-one w ws))
   command-leads (set_seed n) g h = (Whole (set_seed n), (tt, (tt, refl)), refl)
@@ -206,6 +206,14 @@ module _ (b : ℕ) where
   command-leads print_svg g h = (Whole print_svg, (tt, refl), refl)
   command-leads print_system g h = (Whole print_system, (tt, refl), refl)
   command-leads quit g h = (Whole quit, (tt, refl), refl)
+  command-leads (set_version n) g h = (Whole (set_version n), (tt, (tt, refl)), refl)
+  command-leads (set_own to_ignore t ns) g h =
+      (InNames (of_own to_ignore t) (reversed_onto ns []), (tt, (tt, (tt, listed-lead (of_own to_ignore t) ns))), ap (λ ms. Some (set_own to_ignore t ms)) (twice ns))
+  command-leads (set_own to_consider t ns) g h =
+      (InNames (of_own to_consider t) (reversed_onto ns []), (tt, (tt, (tt, listed-lead (of_own to_consider t) ns))), ap (λ ms. Some (set_own to_consider t ms)) (twice ns))
+  command-leads (drop_own t) g h = (Whole (drop_own t), (tt, (tt, refl)), refl)
+  command-leads (set_numbering by_place) g h = (Whole (set_numbering by_place), (tt, (tt, refl)), refl)
+  command-leads (set_numbering by_name) g h = (Whole (set_numbering by_name), (tt, (tt, refl)), refl)
 
 -- the state behind some tokens
 abbrev pub run : State → List Kind → State

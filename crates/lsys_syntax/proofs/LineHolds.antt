@@ -7,8 +7,8 @@ use Rattle.lsys_syntax.specs.Pieces.{kinds_of, IsWordText}
 use Rattle.lsys_syntax.specs.Strings.{ModuleName, Symbol, Module, Push, Pop, Cut, Signed, unsigned, minus_sign, name_kind, signed_pieces, EachOf, IsModuleName, IsSymbol, IsSigned}
 use Rattle.lsys_syntax.specs.RuleMachine as R
 use Rattle.lsys_syntax.specs.RuleMachine.{production, homomorphism, reversed, open_in, Sign, a_name, a_push, a_pop, a_cut, no_sign, sign_of}
-use Rattle.lsys_syntax.specs.Commands.{drop_rule, set_seed, set_depth, print_string, IsTable}
-use Rattle.lsys_syntax.specs.LineMachine.{AxiomState, Symbols, NumberDue, MinusRead, NumberRead, State, Fresh, InAxiom, ProductionDue, OneWord, TwoWords, InProduction, LabelDue, LabelRead, InHomomorphism, DropDue, InNames, ScheduleDue, InSchedule, SeedDue, DepthDue, LatticeDue, StringRead, Whole, Stop, popped, axiom_sign, axiom_open, symbols_step, if_small, number_due_step, minus_step, number_read_step, axiom_step, first_word, lattice_named, unless_stop, with_name, word_step, number_step, one_word_step, colon_step, step}
+use Rattle.lsys_syntax.specs.Commands.{list_word, drop_rule, set_seed, set_depth, print_string, set_version, drop_own, IsTable}
+use Rattle.lsys_syntax.specs.LineMachine.{AxiomState, Symbols, NumberDue, MinusRead, NumberRead, State, Fresh, InAxiom, ProductionDue, OneWord, TwoWords, InProduction, LabelDue, LabelRead, InHomomorphism, DropDue, Listed, of_ignored, of_own, InNames, ScheduleDue, InSchedule, SeedDue, DepthDue, LatticeDue, StringRead, VersionDue, TableDue, TableRead, CommonDue, NumberingDue, Whole, Stop, popped, axiom_sign, axiom_open, symbols_step, if_small, number_due_step, minus_step, number_read_step, axiom_step, first_word, lattice_named, numbering_named, unless_stop, with_name, word_step, number_step, one_word_step, colon_step, step}
 use Rattle.lsys_syntax.specs.Sentences.{IsToken, IsSpelled}
 use Rattle.lsys_syntax.proofs.Leads.{Closes}
 use Rattle.lsys_syntax.proofs.ExprLeads.{Shallow}
@@ -45,6 +45,15 @@ production_front (Some t) l = word (codes "production") ∷ word t ∷ word l �
 abbrev pub homomorphism_front : List ℕ → List Kind
 homomorphism_front l = word (codes "hom") ∷ word l ∷ Colon ∷ []
 
+-- a line of names up to its names
+abbrev pub listed_front : Listed → List Kind
+listed_front of_ignored = word (codes "ignore") ∷ []
+listed_front (of_own k t) = word (list_word k) ∷ word t ∷ Colon ∷ []
+
+abbrev pub IsListed : Listed → Type 0
+IsListed of_ignored = Unit {0}
+IsListed (of_own k t) = IsWordText t
+
 -- The tokens ts are those of the state, and what it holds are parts of commands whose expressions are nested at most b deep.
 abbrev pub Holds : ℕ → State → List Kind → Type 0
 Holds b Fresh ts = [] ≡ ts
@@ -57,7 +66,7 @@ Holds b LabelDue ts = word (codes "hom") ∷ [] ≡ ts
 Holds b (LabelRead l) ts = (word (codes "hom") ∷ word l ∷ [] ≡ ts) × IsWordText l
 Holds b (InHomomorphism l s) ts = (us : List Kind) × (homomorphism_front l ++ us ≡ ts) × H.Holds homomorphism b s us × IsWordText l × GoesOn s
 Holds b DropDue ts = word (codes "drop") ∷ [] ≡ ts
-Holds b (InNames r) ts = (word (codes "ignore") ∷ map name_kind (reversed r) ≡ ts) × EachOf IsModuleName r
+Holds b (InNames g r) ts = (listed_front g ++ map name_kind (reversed r) ≡ ts) × IsListed g × EachOf IsModuleName r
 Holds b ScheduleDue ts = word (codes "schedule") ∷ [] ≡ ts
 Holds b (InSchedule []) ts = ⊥
 Holds b (InSchedule (w ∷ r)) ts = (word (codes "schedule") ∷ map word (reversed (w ∷ r)) ≡ ts) × EachOf IsWordText (w ∷ r)
@@ -65,6 +74,11 @@ Holds b SeedDue ts = word (codes "seed") ∷ [] ≡ ts
 Holds b DepthDue ts = word (codes "depth") ∷ [] ≡ ts
 Holds b LatticeDue ts = word (codes "lattice") ∷ [] ≡ ts
 Holds b StringRead ts = word (codes "string") ∷ [] ≡ ts
+Holds b VersionDue ts = word (codes "version") ∷ [] ≡ ts
+Holds b (TableDue g) ts = word (list_word g) ∷ [] ≡ ts
+Holds b (TableRead g t) ts = (word (list_word g) ∷ word t ∷ [] ≡ ts) × IsWordText t
+Holds b CommonDue ts = word (codes "common") ∷ [] ≡ ts
+Holds b NumberingDue ts = word (codes "lineage") ∷ [] ≡ ts
 Holds b (Whole c) ts = IsSpelled b ts c
 Holds b Stop ts = Unit {0}
 
@@ -87,7 +101,7 @@ first-holds b w =
     if-word P w (codes "axiom") _ _ (λ e. (same (codes "axiom") e, (tt, tt)))
     (if-word P w (codes "production") _ _ (same (codes "production"))
     (if-word P w (codes "drop") _ _ (same (codes "drop"))
-    (if-word P w (codes "ignore") _ _ (λ e. (same (codes "ignore") e, tt))
+    (if-word P w (codes "ignore") _ _ (λ e. (same (codes "ignore") e, tt, tt))
     (if-word P w (codes "schedule") _ _ (same (codes "schedule"))
     (if-word P w (codes "seed") _ _ (same (codes "seed"))
     (if-word P w (codes "depth") _ _ (same (codes "depth"))
@@ -97,7 +111,12 @@ first-holds b w =
     (if-word P w (codes "segments") _ _ (λ e. (same (codes "segments") e, tt, omega arith))
     (if-word P w (codes "svg") _ _ (λ e. (same (codes "svg") e, tt, omega arith))
     (if-word P w (codes "show") _ _ (λ e. (same (codes "show") e, tt, omega arith))
-    (if-word P w (codes "quit") _ _ (λ e. (same (codes "quit") e, tt, omega arith)) tt)))))))))))))
+    (if-word P w (codes "quit") _ _ (λ e. (same (codes "quit") e, tt, omega arith))
+    (if-word P w (codes "version") _ _ (same (codes "version"))
+    (if-word P w (codes "ignoring") _ _ (same (codes "ignoring"))
+    (if-word P w (codes "consider") _ _ (same (codes "consider"))
+    (if-word P w (codes "common") _ _ (same (codes "common"))
+    (if-word P w (codes "lineage") _ _ (same (codes "lineage")) tt))))))))))))))))))
 
 lattice-holds : (b : ℕ) (w : List ℕ) → Holds b (lattice_named w) (word (codes "lattice") ∷ word w ∷ [])
 lattice-holds b w =
@@ -106,6 +125,13 @@ lattice-holds b w =
     if-word P w (codes "square") _ _ (λ e. (same (codes "square") e, tt, omega arith))
     (if-word P w (codes "hexagonal") _ _ (λ e. (same (codes "hexagonal") e, tt, omega arith))
     (if-word P w (codes "cubic") _ _ (λ e. (same (codes "cubic") e, tt, omega arith)) tt))
+
+numbering-holds : (b : ℕ) (w : List ℕ) → Holds b (numbering_named w) (word (codes "lineage") ∷ word w ∷ [])
+numbering-holds b w =
+    let P : State → Type 0 = λ s. Holds b s (word (codes "lineage") ∷ word w ∷ []) in
+    let same : (x : List ℕ) → w ≡ x → word (codes "lineage") ∷ word x ∷ [] ≡ word (codes "lineage") ∷ word w ∷ [] = λ x e. ap (λ v. word (codes "lineage") ∷ word v ∷ []) (sym e) in
+    if-word P w (codes "places") _ _ (λ e. (same (codes "places") e, tt, omega arith))
+    (if-word P w (codes "names") _ _ (λ e. (same (codes "names") e, tt, omega arith)) tt)
 
 -- a token behind those that are known
 pub behind : (ks ts : List Kind) (k : Kind) → ks ≡ ts → ks ++ k ∷ [] ≡ ts ++ k ∷ []
@@ -217,12 +243,21 @@ map-more {A = A} f front x r ts e = ap (λ ys. front ∷ map f ys) (reversed-mor
     spread [] = refl
     spread (y ∷ ys) = ap (λ ks. f y ∷ ks) (spread ys)
 
-names-holds : (b : ℕ) (r : List ModuleName) (ts : List Kind) (k : Kind) (g : Sign) → IsSignOf k g → G.IsNamed k → Holds b (InNames r) ts → Holds b (with_name (λ n. InNames (n ∷ r)) g) (ts ++ k ∷ [])
-names-holds b r ts k (a_name n) i o h = subst (λ j. Holds b (InNames (n ∷ r)) (ts ++ j ∷ [])) (sym i.0) (map-more name_kind (word (codes "ignore")) n r ts h.0, (i.1 o, h.1))
-names-holds b r ts k a_push i o h = tt
-names-holds b r ts k a_pop i o h = tt
-names-holds b r ts k a_cut i o h = tt
-names-holds b r ts k no_sign i o h = tt
+names-more : (front : List Kind) (n : ModuleName) (r : List ModuleName) (ts : List Kind) → front ++ map name_kind (reversed r) ≡ ts → front ++ map name_kind (reversed (n ∷ r)) ≡ ts ++ name_kind n ∷ []
+names-more front n r ts e =
+    ap (λ ys. front ++ map name_kind ys) (reversed-more n r) ∙ ap (λ ks. front ++ ks) (spread (reversed r)) ∙ sym (append_assoc front (map name_kind (reversed r)) (name_kind n ∷ []))
+    ∙ behind (front ++ map name_kind (reversed r)) ts (name_kind n) e
+  where
+    spread : (ys : List ModuleName) → map name_kind (ys ++ n ∷ []) ≡ map name_kind ys ++ name_kind n ∷ []
+    spread [] = refl
+    spread (y ∷ ys) = ap (λ ks. name_kind y ∷ ks) (spread ys)
+
+names-holds : (b : ℕ) (f : Listed) (r : List ModuleName) (ts : List Kind) (k : Kind) (g : Sign) → IsSignOf k g → G.IsNamed k → Holds b (InNames f r) ts → Holds b (with_name (λ n. InNames f (n ∷ r)) g) (ts ++ k ∷ [])
+names-holds b f r ts k (a_name n) i o h = subst (λ j. Holds b (InNames f (n ∷ r)) (ts ++ j ∷ [])) (sym i.0) (names-more (listed_front f) n r ts h.0, h.1, (i.1 o, h.2))
+names-holds b f r ts k a_push i o h = tt
+names-holds b f r ts k a_pop i o h = tt
+names-holds b f r ts k a_cut i o h = tt
+names-holds b f r ts k no_sign i o h = tt
 
 word-holds : (b : ℕ) (f : List ℕ → State) (ts : List Kind) (k : Kind) → IsToken k → ((w : List ℕ) → IsWordText w → Holds b (f w) (ts ++ word w ∷ [])) → Holds b (word_step f k) (ts ++ k ∷ [])
 word-holds b f ts (Word w) o h = h w o
@@ -260,12 +295,18 @@ step-holds b (LabelRead l) ts k o h c = colon-holds b (InHomomorphism l R.start)
 step-holds b (InHomomorphism l s) ts k o h c =
     homomorphism-goes b l (R.step homomorphism s k) (h.0 ++ k ∷ []) (ts ++ k ∷ []) (S.step-holds homomorphism b s h.0 k (named-token k o) h.2) (more-behind (homomorphism_front l) h.0 ts k h.1) h.3 c
 step-holds b DropDue ts k o h c = word-holds b (λ l. Whole (drop_rule l)) ts k o (λ w g. (behind (word (codes "drop") ∷ []) ts (word w) h, g, omega arith))
-step-holds b (InNames r) ts k o h c = names-holds b r ts k (sign_of k) (sign-is k) (named-token k o) h
+step-holds b (InNames g r) ts k o h c = names-holds b g r ts k (sign_of k) (sign-is k) (named-token k o) h
 step-holds b ScheduleDue ts k o h c = word-holds b (λ w. InSchedule (w ∷ [])) ts k o (λ w g. (behind (word (codes "schedule") ∷ []) ts (word w) h, (g, tt)))
 step-holds b (InSchedule r) ts k o h c = schedule-holds b r ts k o h
 step-holds b SeedDue ts k o h c = number-holds b (λ n. Whole (set_seed n)) ts k o (λ n g. (behind (word (codes "seed") ∷ []) ts (Number n) h, g, omega arith))
 step-holds b DepthDue ts k o h c = number-holds b (λ n. Whole (set_depth n)) ts k o (λ n g. (behind (word (codes "depth") ∷ []) ts (Number n) h, g, omega arith))
 step-holds b LatticeDue ts k o h c = word-holds b lattice_named ts k o (λ w g. subst (λ us. Holds b (lattice_named w) (us ++ word w ∷ [])) h (lattice-holds b w))
 step-holds b StringRead ts k o h c = number-holds b (λ n. Whole (print_string (Some n))) ts k o (λ n g. (behind (word (codes "string") ∷ []) ts (Number n) h, g, omega arith))
+step-holds b VersionDue ts k o h c = number-holds b (λ n. Whole (set_version n)) ts k o (λ n g. (behind (word (codes "version") ∷ []) ts (Number n) h, g, omega arith))
+step-holds b (TableDue f) ts k o h c = word-holds b (TableRead f) ts k o (λ w g. (behind (word (list_word f) ∷ []) ts (word w) h, g))
+step-holds b (TableRead f t) ts k o h c =
+    colon-holds b (InNames (of_own f t) []) ts k (behind (word (list_word f) ∷ word t ∷ []) ts Colon h.0, h.1, tt)
+step-holds b CommonDue ts k o h c = word-holds b (λ t. Whole (drop_own t)) ts k o (λ w g. (behind (word (codes "common") ∷ []) ts (word w) h, g, omega arith))
+step-holds b NumberingDue ts k o h c = word-holds b numbering_named ts k o (λ w g. subst (λ us. Holds b (numbering_named w) (us ++ word w ∷ [])) h (numbering-holds b w))
 step-holds b (Whole d) ts k o h c = tt
 step-holds b Stop ts k o h c = tt

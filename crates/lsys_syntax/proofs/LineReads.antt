@@ -6,7 +6,7 @@ use Rattle.lsys_syntax.specs.Pieces.{Piece, blank, token, note, text_of, kinds_o
 use Rattle.lsys_syntax.specs.Strings.{ModuleName, Symbol, Module, Signed, string_pieces, signed_pieces, EachOf, IsModuleName, IsSymbol, IsSigned}
 use Rattle.lsys_syntax.specs.Expressions.{Expr, IsExpr, expr_pieces}
 use Rattle.lsys_syntax.specs.Rules.{Rule, formal_pieces, left_pieces, right_pieces, option_pieces, successor_pieces, rule_pieces, IsOption, IsRule}
-use Rattle.lsys_syntax.specs.Commands.{Lattice, square, hexagonal, cubic, Command, set_axiom, put_production, drop_rule, set_ignored, set_schedule, set_seed, set_depth, set_lattice, put_homomorphism, print_string, print_segments, print_svg, print_system, quit, lattice_word, as_symbol, string_behind, words_pieces, command_pieces, IsCommand}
+use Rattle.lsys_syntax.specs.Commands.{Lattice, square, hexagonal, cubic, Command, set_axiom, put_production, drop_rule, set_ignored, set_schedule, set_seed, set_depth, set_lattice, put_homomorphism, print_string, print_segments, print_svg, print_system, quit, set_version, set_own, drop_own, set_numbering, to_ignore, to_consider, Numbering, by_place, by_name, lattice_word, numbering_word, as_symbol, string_behind, words_pieces, command_pieces, IsCommand}
 use Rattle.lsys_syntax.proofs.StringsRead.{ReadsAnywhere, string-reads, symbol-reads, signed-reads, symbol_tail}
 use Rattle.lsys_syntax.proofs.ReadBack.{reads_back}
 use Rattle.lsys_syntax.proofs.ExprReads.{pieces-reads}
@@ -77,6 +77,10 @@ lattice-text square = word_from (codes "square") refl
 lattice-text hexagonal = word_from (codes "hexagonal") refl
 lattice-text cubic = word_from (codes "cubic") refl
 
+numbering-text : (g : Numbering) → IsWordText (numbering_word g)
+numbering-text by_place = word_from (codes "places") refl
+numbering-text by_name = word_from (codes "names") refl
+
 behind-reads : (xs : List (Symbol Signed)) → EachOf (IsSymbol IsSigned) xs → (t : Tail) → Reads Modules t (string_behind xs)
 behind-reads [] g t = tt
 behind-reads (x ∷ xs) g t = rw (← append-nil (string_pieces signed_pieces (x ∷ xs))) (string-reads signed_pieces IsSigned signed-reads (x ∷ xs) g anything (λ e. refl) [] (λ u. tt))
@@ -108,6 +112,13 @@ command-reads print_segments g = (refl, (tt, word_from (codes "segments") refl),
 command-reads print_svg g = (refl, (tt, word_from (codes "svg") refl), tt)
 command-reads print_system g = (refl, (tt, word_from (codes "show") refl), tt)
 command-reads quit g = (refl, (tt, word_from (codes "quit") refl), tt)
+command-reads (set_version n) g = (refl, (tt, word_from (codes "version") refl), (refl, g, tt))
+command-reads (set_own to_ignore t ns) g =
+    (refl, (tt, word_from (codes "ignoring") refl), (refl, (tt, g.0), (refl, tt, behind-reads (map as_symbol ns) (names-symbols ns g.1) _)))
+command-reads (set_own to_consider t ns) g =
+    (refl, (tt, word_from (codes "consider") refl), (refl, (tt, g.0), (refl, tt, behind-reads (map as_symbol ns) (names-symbols ns g.1) _)))
+command-reads (drop_own t) g = (refl, (tt, word_from (codes "common") refl), (refl, (tt, g), tt))
+command-reads (set_numbering n) g = (refl, (tt, word_from (codes "lineage") refl), (refl, (tt, numbering-text n), tt))
 
 -- The printed line is read as the tokens that it was printed from.
 pub line-reads : (c : Command) → IsCommand c → tokens (text_of (command_pieces c)) ≡ Ok (placed 0 (command_pieces c))

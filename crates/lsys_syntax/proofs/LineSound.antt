@@ -1,15 +1,15 @@
 -- A sentence is the spelling of its command.
 use Rattle.std.proofs.Common.{◌≡◌, ℕ, zero, suc, Bool, true, false, ◌≤◌, ◌+◌, Option, Some, None, List, [], ◌∷◌, ◌++◌, map, nat_lt, option_map, refl, ap, ◌∙◌, sym, subst, append_assoc, append-nil, codes, arith}
 use Rattle.std.proofs.lemmas.Bool.Decides.{nat_tests}
-use Rattle.lsys_syntax.specs.Tokens.{NameText, Kind}
+use Rattle.lsys_syntax.specs.Tokens.{NameText, Kind, Colon}
 use Rattle.lsys_syntax.specs.Pieces.{Piece, kinds_of, IsWordText}
 use Rattle.lsys_syntax.specs.Strings.{ModuleName, Symbol, Module, Push, Pop, Cut, Signed, name_kind, string_pieces, signed_pieces, gap, ends_in_name, begins_with_letter, EachOf, IsModuleName, IsSymbol, IsSigned}
 use Rattle.lsys_syntax.specs.Expressions.{Expr}
 use Rattle.lsys_syntax.specs.Rules.{Rule}
 use Rattle.lsys_syntax.specs.RuleMachine as R
 use Rattle.lsys_syntax.specs.RuleMachine.{Form, production, homomorphism, reversed, open_in, where_closed}
-use Rattle.lsys_syntax.specs.Commands.{Command, set_axiom, put_production, set_schedule, put_homomorphism, as_symbol, string_behind, words_pieces, HasNoCut, IsHomomorphism, IsTable}
-use Rattle.lsys_syntax.specs.LineMachine.{AxiomState, Symbols, NumberDue, MinusRead, NumberRead, State, Fresh, InAxiom, ProductionDue, OneWord, TwoWords, InProduction, LabelDue, LabelRead, InHomomorphism, DropDue, InNames, ScheduleDue, InSchedule, SeedDue, DepthDue, LatticeDue, StringRead, Whole, Stop, step, finish, depth, Verdict, sentence, stops, too_deep, ended, is_stop, nesting_bound, verdict_from, verdict}
+use Rattle.lsys_syntax.specs.Commands.{list_word, Command, set_axiom, put_production, set_schedule, put_homomorphism, as_symbol, string_behind, words_pieces, HasNoCut, IsHomomorphism, IsTable}
+use Rattle.lsys_syntax.specs.LineMachine.{AxiomState, Symbols, NumberDue, MinusRead, NumberRead, State, Fresh, InAxiom, ProductionDue, OneWord, TwoWords, InProduction, LabelDue, LabelRead, InHomomorphism, DropDue, of_ignored, of_own, InNames, ScheduleDue, InSchedule, SeedDue, DepthDue, LatticeDue, StringRead, VersionDue, TableDue, TableRead, CommonDue, NumberingDue, Whole, Stop, step, finish, depth, Verdict, sentence, stops, too_deep, ended, is_stop, nesting_bound, verdict_from, verdict}
 use Rattle.lsys_syntax.specs.Sentences.{IsToken, AreTokens, IsSpelled}
 use Rattle.lsys_syntax.proofs.ExprLeads.{Shallow}
 use Rattle.lsys_syntax.proofs.RuleComplete.{Absent, NoWeight, MayCut, OfForm}
@@ -107,7 +107,9 @@ finish-spelled b LabelDue ts h = tt
 finish-spelled b (LabelRead l) ts h = tt
 finish-spelled b (InHomomorphism l s) ts h = homomorphism-command b l h.0 ts (R.whole s) (whole-spelled homomorphism b s h.0 h.2) h.1 h.3
 finish-spelled b DropDue ts h = tt
-finish-spelled b (InNames r) ts h = (ap (λ ks. word (codes "ignore") ∷ ks) (behind-names (reversed r)) ∙ h.0, each-reversed IsModuleName r h.1, omega arith)
+finish-spelled b (InNames of_ignored r) ts h = (ap (λ ks. word (codes "ignore") ∷ ks) (behind-names (reversed r)) ∙ h.0, each-reversed IsModuleName r h.2, omega arith)
+finish-spelled b (InNames (of_own k t) r) ts h =
+    (ap (λ ks. word (list_word k) ∷ word t ∷ Colon ∷ ks) (behind-names (reversed r)) ∙ h.0, (h.1, each-reversed IsModuleName r h.2), omega arith)
 finish-spelled b ScheduleDue ts h = tt
 finish-spelled b (InSchedule []) ts h = elim h [ ]
 finish-spelled b (InSchedule (w ∷ r)) ts h = schedule-spelled b (reversed (w ∷ r)) w r ts refl h.0 h.1
@@ -115,6 +117,11 @@ finish-spelled b SeedDue ts h = tt
 finish-spelled b DepthDue ts h = tt
 finish-spelled b LatticeDue ts h = tt
 finish-spelled b StringRead ts h = (h, tt, omega arith)
+finish-spelled b VersionDue ts h = tt
+finish-spelled b (TableDue g) ts h = tt
+finish-spelled b (TableRead g t) ts h = tt
+finish-spelled b CommonDue ts h = tt
+finish-spelled b NumberingDue ts h = tt
 finish-spelled b (Whole c) ts h = h
 finish-spelled b Stop ts h = tt
 

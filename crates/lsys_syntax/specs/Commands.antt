@@ -2,6 +2,8 @@
 --   command = axiom string | production Word [[ Word ]] ":" rule | drop Word | ignore { name } | schedule Word { Word }
 --           | seed Number | depth Number | lattice square | lattice hexagonal | lattice cubic | hom Word ":" rule
 --           | string [[ Number ]] | segments | svg | show | quit
+--           | version Number | ignoring Word ":" { name } | consider Word ":" { name } | common Word
+--           | lineage places | lineage names
 use Rattle.std.specs.Prelude.{◌≡◌, ℕ, true, Option, Some, None, List, [], ◌∷◌, ◌++◌, ◌<◌, codes, map}
 use Rattle.lsys_syntax.specs.Limits.{number_bound}
 use Rattle.lsys_syntax.specs.Tokens.{Word, Number, Colon}
@@ -14,6 +16,16 @@ pub data Lattice : Type 0 where
   square : Lattice
   hexagonal : Lattice
   cubic : Lattice
+
+-- what a table's own list says of its names: they are ignored, or all others are
+pub data ListKind : Type 0 where
+  to_ignore : ListKind
+  to_consider : ListKind
+
+-- how the symbols of a list are numbered
+pub data Numbering : Type 0 where
+  by_place : Numbering
+  by_name : Numbering
 
 pub data Command : Type 0 where
   set_axiom : List (Symbol Signed) → Command
@@ -30,11 +42,23 @@ pub data Command : Type 0 where
   print_svg : Command
   print_system : Command
   quit : Command
+  set_version : ℕ → Command
+  set_own : ListKind → List ℕ → List ModuleName → Command  -- of this table
+  drop_own : List ℕ → Command
+  set_numbering : Numbering → Command
 
 abbrev pub lattice_word : Lattice → List ℕ
 lattice_word square = codes "square"
 lattice_word hexagonal = codes "hexagonal"
 lattice_word cubic = codes "cubic"
+
+abbrev pub list_word : ListKind → List ℕ
+list_word to_ignore = codes "ignoring"
+list_word to_consider = codes "consider"
+
+abbrev pub numbering_word : Numbering → List ℕ
+numbering_word by_place = codes "places"
+numbering_word by_name = codes "names"
 
 abbrev pub as_symbol : ModuleName → Symbol Signed
 as_symbol n = Module n []
@@ -74,6 +98,10 @@ command_pieces print_segments = token (Word (codes "segments")) ∷ []
 command_pieces print_svg = token (Word (codes "svg")) ∷ []
 command_pieces print_system = token (Word (codes "show")) ∷ []
 command_pieces quit = token (Word (codes "quit")) ∷ []
+command_pieces (set_version n) = token (Word (codes "version")) ∷ blank ∷ token (Number n) ∷ []
+command_pieces (set_own k t ns) = token (Word (list_word k)) ∷ blank ∷ token (Word t) ∷ token Colon ∷ string_behind (map as_symbol ns)
+command_pieces (drop_own t) = token (Word (codes "common")) ∷ blank ∷ token (Word t) ∷ []
+command_pieces (set_numbering g) = token (Word (codes "lineage")) ∷ blank ∷ token (Word (numbering_word g)) ∷ []
 
 abbrev pub HasNoCut : List (Symbol Expr) → Type 0
 HasNoCut [] = Unit {0}
@@ -104,6 +132,9 @@ IsCommand (set_seed n) = n < number_bound
 IsCommand (set_depth n) = n < number_bound
 IsCommand (put_homomorphism l r) = IsWordText l × IsRule r × IsHomomorphism r
 IsCommand (print_string n) = IsLevelNumber n
+IsCommand (set_version n) = n < number_bound
+IsCommand (set_own k t ns) = IsWordText t × EachOf IsModuleName ns
+IsCommand (drop_own t) = IsWordText t
 IsCommand c = Unit {0}
 
 abbrev pub nesting : Command → ℕ

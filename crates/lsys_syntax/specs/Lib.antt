@@ -10,9 +10,11 @@ pub mod Nesting
 pub mod Rules
 pub mod RuleMachine
 pub mod Checks
+pub mod Smalls
 pub mod Commands
 pub mod ExpressionPlaces
 pub mod LineMachine
 pub mod Sentences
 pub mod Examples
 pub mod RulePoints
+pub mod Former

@@ -64,15 +64,23 @@ most_rules = 256
 abbrev pub most_tables : ℕ
 most_tables = 16
 
--- as they are written, repeats counted
+-- as they are written, repeats counted; of a table's own list, too
 abbrev pub most_ignored : ℕ
 most_ignored = 64
 
 abbrev pub most_schedule_words : ℕ
 most_schedule_words = 64
 
+abbrev pub greatest_version : ℕ
+greatest_version = 2
+
+-- of a system of version 1
 abbrev pub most_depth : ℕ
 most_depth = 64
+
+-- of a system of version 2
+abbrev pub most_depth_of_two : ℕ
+most_depth_of_two = 256
 
 -- 4. derivations and pictures
 
@@ -82,7 +90,7 @@ usual_module_limit = 100000
 
 -- the greatest module limit that a run's words may name
 abbrev pub greatest_module_limit : ℕ
-greatest_module_limit = 200000
+greatest_module_limit = 1000000
 
 -- of the trace of one question
 abbrev pub most_entries : ℕ

@@ -6,7 +6,7 @@ use Rattle.lsys_syntax.specs.Tokens.{Kind, Word, Number, LeftParen, RightParen, 
 use Rattle.lsys_syntax.specs.Strings.{ModuleName, Symbol, Module, Push, Pop, Cut, Signed, unsigned, minus_sign}
 use Rattle.lsys_syntax.specs.RuleMachine as R
 use Rattle.lsys_syntax.specs.RuleMachine.{reversed, Sign, a_name, a_push, a_pop, a_cut, no_sign, sign_of, Form, production, homomorphism, open_in, where_closed}
-use Rattle.lsys_syntax.specs.Commands.{square, hexagonal, cubic, Command, set_axiom, put_production, drop_rule, set_ignored, set_schedule, set_seed, set_depth, set_lattice, put_homomorphism, print_string, print_segments, print_svg, print_system, quit}
+use Rattle.lsys_syntax.specs.Commands.{square, hexagonal, cubic, ListKind, to_ignore, to_consider, by_place, by_name, Command, set_axiom, put_production, drop_rule, set_ignored, set_schedule, set_seed, set_depth, set_lattice, put_homomorphism, print_string, print_segments, print_svg, print_system, quit, set_version, set_own, drop_own, set_numbering}
 
 -- The string of an axiom, the last symbol first; the parameters of its last module, the last one first.
 pub data AxiomState : Type 0 where
@@ -14,6 +14,11 @@ pub data AxiomState : Type 0 where
   NumberDue : List (Symbol Signed) → ModuleName → List Signed → AxiomState
   MinusRead : List (Symbol Signed) → ModuleName → List Signed → AxiomState
   NumberRead : List (Symbol Signed) → ModuleName → List Signed → AxiomState
+
+-- which names a line lists: the ignored ones, or those of a table's own list
+pub data Listed : Type 0 where
+  of_ignored : Listed
+  of_own : ListKind → List ℕ → Listed
 
 pub data State : Type 0 where
   Fresh : State
@@ -26,13 +31,18 @@ pub data State : Type 0 where
   LabelRead : List ℕ → State
   InHomomorphism : List ℕ → R.State → State
   DropDue : State
-  InNames : List ModuleName → State
+  InNames : Listed → List ModuleName → State
   ScheduleDue : State
   InSchedule : List (List ℕ) → State
   SeedDue : State
   DepthDue : State
   LatticeDue : State
   StringRead : State
+  VersionDue : State
+  TableDue : ListKind → State
+  TableRead : ListKind → List ℕ → State
+  CommonDue : State
+  NumberingDue : State
   Whole : Command → State  -- nothing may follow
   Stop : State
 
@@ -86,7 +96,7 @@ first_word w =
     if bytes_eq w (codes "axiom") then InAxiom (Symbols [])
     else if bytes_eq w (codes "production") then ProductionDue
     else if bytes_eq w (codes "drop") then DropDue
-    else if bytes_eq w (codes "ignore") then InNames []
+    else if bytes_eq w (codes "ignore") then InNames of_ignored []
     else if bytes_eq w (codes "schedule") then ScheduleDue
     else if bytes_eq w (codes "seed") then SeedDue
     else if bytes_eq w (codes "depth") then DepthDue
@@ -97,6 +107,11 @@ first_word w =
     else if bytes_eq w (codes "svg") then Whole print_svg
     else if bytes_eq w (codes "show") then Whole print_system
     else if bytes_eq w (codes "quit") then Whole quit
+    else if bytes_eq w (codes "version") then VersionDue
+    else if bytes_eq w (codes "ignoring") then TableDue to_ignore
+    else if bytes_eq w (codes "consider") then TableDue to_consider
+    else if bytes_eq w (codes "common") then CommonDue
+    else if bytes_eq w (codes "lineage") then NumberingDue
     else Stop
 
 abbrev pub lattice_named : List ℕ → State
@@ -105,6 +120,16 @@ lattice_named w =
     else if bytes_eq w (codes "hexagonal") then Whole (set_lattice hexagonal)
     else if bytes_eq w (codes "cubic") then Whole (set_lattice cubic)
     else Stop
+
+abbrev pub numbering_named : List ℕ → State
+numbering_named w =
+    if bytes_eq w (codes "places") then Whole (set_numbering by_place)
+    else if bytes_eq w (codes "names") then Whole (set_numbering by_name)
+    else Stop
+
+abbrev pub listing : Listed → List ModuleName → Command
+listing of_ignored ns = set_ignored ns
+listing (of_own k t) ns = set_own k t ns
 
 abbrev pub unless_stop : (R.State → State) → R.State → State
 unless_stop f R.Stop = Stop
@@ -142,13 +167,18 @@ step LabelDue k = word_step LabelRead k
 step (LabelRead l) k = colon_step (InHomomorphism l R.start) k
 step (InHomomorphism l s) k = unless_stop (InHomomorphism l) (R.step homomorphism s k)
 step DropDue k = word_step (λ l. Whole (drop_rule l)) k
-step (InNames r) k = with_name (λ n. InNames (n ∷ r)) (sign_of k)
+step (InNames g r) k = with_name (λ n. InNames g (n ∷ r)) (sign_of k)
 step ScheduleDue k = word_step (λ w. InSchedule (w ∷ [])) k
 step (InSchedule r) k = word_step (λ w. InSchedule (w ∷ r)) k
 step SeedDue k = number_step (λ n. Whole (set_seed n)) k
 step DepthDue k = number_step (λ n. Whole (set_depth n)) k
 step LatticeDue k = word_step lattice_named k
 step StringRead k = number_step (λ n. Whole (print_string (Some n))) k
+step VersionDue k = number_step (λ n. Whole (set_version n)) k
+step (TableDue g) k = word_step (TableRead g) k
+step (TableRead g t) k = colon_step (InNames (of_own g t) []) k
+step CommonDue k = word_step (λ t. Whole (drop_own t)) k
+step NumberingDue k = word_step numbering_named k
 step (Whole c) k = Stop
 step Stop k = Stop
 
@@ -157,7 +187,7 @@ abbrev pub finish : State → Option Command
 finish (InAxiom (Symbols r)) = where_closed (open_in r) (Some (set_axiom (reversed r)))
 finish (InProduction t l s) = option_map (put_production t l) (R.whole s)
 finish (InHomomorphism l s) = option_map (put_homomorphism l) (R.whole s)
-finish (InNames r) = Some (set_ignored (reversed r))
+finish (InNames g r) = Some (listing g (reversed r))
 finish (InSchedule r) = Some (set_schedule (reversed r))
 finish StringRead = Some (print_string None)
 finish (Whole c) = Some c

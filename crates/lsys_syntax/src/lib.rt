@@ -3,7 +3,7 @@
 //! Definitions that contracts cite stand in `specs/`. The functions here have empty bodies: the contract is the law.
 #![tactic(auto)]
 
-ghost use Rattle.std.specs.Prelude.{◌≡◌, ◌≤◌, ◌<◌, List, ℕ, ℤ, zero, suc, Ok, Some, [], ◌∷◌, ◌++◌, map, take, length};
+ghost use Rattle.std.specs.Prelude.{◌≡◌, ◌≤◌, ◌<◌, List, ℕ, ℤ, false, zero, suc, Ok, Some, [], ◌∷◌, ◌++◌, map, take, length};
 ghost use Rattle.lsys_syntax.specs.Limits.{nesting_bound};
 ghost use Rattle.lsys_syntax.specs.Lines.{lines_of};
 ghost use Rattle.lsys_syntax.specs.Tokens.{Kind, Token, tokens, tokens_from, First, Modules};
@@ -18,6 +18,7 @@ ghost use Rattle.lsys_syntax.specs.LineMachine.{verdict, verdict_from, sentence,
 ghost use Rattle.lsys_syntax.specs.RuleMachine as rules;
 ghost use Rattle.lsys_syntax.specs.RulePoints.{Line, form_of, line_state, line_verdict, rule_from, by_extent};
 ghost use Rattle.lsys_syntax.specs.Sentences.{AreTokens, IsSpelled, Begins, BeginsDeep, IsSpelling};
+ghost use Rattle.lsys_syntax.specs.Former.{begins_later, IsFormer, BeginsFormer, is_later_line, former_tokens};
 
 /// A law of lines: the lines of a script that begins with LF are an empty line and the lines of the rest.
 pub fn law_of_empty_first_line()
@@ -111,4 +112,15 @@ pub fn law_of_rule_parts()
 pub fn law_of_printed_commands()
     ensures { (command : Command) → IsCommand command
         → tokens (text_of (command_pieces command)) ≡ Ok (placed 0 (command_pieces command)) }
+{}
+
+/// A law of version 1: a line whose first token is none of `version`, `ignoring`, `consider`, `common` and `lineage` is
+/// read as it was in version 1. Where it is a sentence, it is one of the commands of version 1; and where a sentence
+/// begins with its tokens, one of version 1 does. So it is refused at the same token and for the same reason.
+pub fn law_of_former_language()
+    ensures sentences { (bound : ℕ) (kinds : List Kind) (command : Command) → begins_later kinds ≡ false
+        → IsSpelled bound kinds command → IsFormer command }
+    ensures begins { (bound : ℕ) (kinds : List Kind) → begins_later kinds ≡ false
+        → Begins bound kinds → BeginsFormer bound kinds }
+    ensures lines { (line : List ℕ) → is_later_line line ≡ false → tokens line ≡ former_tokens line }
 {}

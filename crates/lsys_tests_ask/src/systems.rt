@@ -68,7 +68,7 @@ fn list_of(alloc: Global, symbols: &[Symbol]) -> Result<SymbolList, AllocError>
     Ok(list)
 }
 
-/// One level of these symbols, at most 10,000, each with the key that an axiom's symbol has there by the seed. Its tags are its
+/// One level of these symbols, at most 4,096, each with the key that an axiom's symbol has there by the seed. Its tags are its
 /// places. Other strings are refused.
 pub(crate) fn level_of(
     alloc: Global,
@@ -77,7 +77,7 @@ pub(crate) fn level_of(
 ) -> Result<FlatLevels, AllocError>
     ensures { IfOk result (λ levels. length (level_at levels 0) ≡ length symbols.now) }
 {
-    if symbols.len() > 10_000 || !is_level(symbols) {
+    if symbols.len() > 4096 || !is_level(symbols) {
         return Err(AllocError);
     }
     let list = list_of(alloc, symbols)?;
@@ -85,7 +85,7 @@ pub(crate) fn level_of(
     let mut keys = Vec::new(alloc);
     for place in 0..symbols.len() {
         tags.push(Tag(place as u32))?;
-        keys.push(axiom_key(seed, place as u32))?;
+        keys.push(axiom_key(seed, 0, place as u32))?;
     }
     let mut levels = FlatLevels::new(alloc);
     levels.push_level(list, tags, keys)?;

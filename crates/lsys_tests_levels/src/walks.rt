@@ -7,9 +7,10 @@ ghost use Rattle.lsys_level.specs.Spots.{IsSpot};
 ghost use Rattle.lsys_level.specs.Places.{has_cut};
 
 use crate::levels::{contexts_that_skip, letter, push};
-use lsys_bodies::{Item, Pattern};
+use lsys_bodies::{Filter, Item, Pattern};
 use lsys_level::{FlatLevels, LevelView};
 use lsys_module::{Module, Params, Symbol};
+use lsys_reading::ListKind;
 use lsys_text::Name;
 use lsys_walks::{Counter, EntryKind, Mark, Reading, Trace, Walked, left_reads, right_reads};
 use std::alloc::{AllocError, Global};
@@ -157,12 +158,28 @@ fn told(alloc: Global, walked: Walked, trace: &Trace) -> Result<Vec<u32>, AllocE
     Ok(told)
 }
 
+/// The filter that passes over these names alone.
+fn ignoring(names: &[Name]) -> Filter<'_> {
+    Filter {
+        kind: ListKind::Ignore,
+        names,
+    }
+}
+
+/// The filter that passes over all other names.
+fn considering(names: &[Name]) -> Filter<'_> {
+    Filter {
+        kind: ListKind::Consider,
+        names,
+    }
+}
+
 /// What the left walk from a place reads.
 fn left<V: Ledger>(
     alloc: Global,
     levels: &FlatLevels,
     place: usize,
-    ignored: &[Name],
+    filter: Filter<'_>,
     patterns: &[Pattern],
     visited: Blank,
 ) -> Result<Vec<u32>, AllocError>
@@ -182,7 +199,7 @@ fn left<V: Ledger>(
     let walked = left_reads(
         levels,
         spot,
-        ignored,
+        filter,
         patterns,
         mark,
         &mut trace,
@@ -197,7 +214,7 @@ fn right<V: Ledger>(
     alloc: Global,
     levels: &FlatLevels,
     place: usize,
-    ignored: &[Name],
+    filter: Filter<'_>,
     items: &[Item],
     visited: Blank,
 ) -> Result<Vec<u32>, AllocError>
@@ -218,7 +235,7 @@ fn right<V: Ledger>(
     let walked = right_reads(
         levels,
         spot,
-        ignored,
+        filter,
         items,
         0,
         mark,
@@ -234,7 +251,7 @@ fn read_left(
     alloc: Global,
     symbols: &[Symbol],
     place: usize,
-    ignored: &[Name],
+    filter: Filter<'_>,
     patterns: &[Pattern],
 ) -> Result<Vec<u32>, AllocError>
     requires balance { balanced 0 (string_of symbols.now) ≡ true }
@@ -243,7 +260,7 @@ fn read_left(
 {
     let mut levels = FlatLevels::new(alloc);
     push(&mut levels, alloc, symbols, 0)?;
-    left::<Brand>(alloc, &levels, place, ignored, patterns, Blank::new(1))
+    left::<Brand>(alloc, &levels, place, filter, patterns, Blank::new(1))
 }
 
 /// What the right walk reads from a place of a level of these symbols, whose tags are their places.
@@ -251,7 +268,7 @@ fn read_right(
     alloc: Global,
     symbols: &[Symbol],
     place: usize,
-    ignored: &[Name],
+    filter: Filter<'_>,
     items: &[Item],
 ) -> Result<Vec<u32>, AllocError>
     requires balance { balanced 0 (string_of symbols.now) ≡ true }
@@ -261,7 +278,7 @@ fn read_right(
 {
     let mut levels = FlatLevels::new(alloc);
     push(&mut levels, alloc, symbols, 0)?;
-    right::<Brand>(alloc, &levels, place, ignored, items, Blank::new(1))
+    right::<Brand>(alloc, &levels, place, filter, items, Blank::new(1))
 }
 
 /// `BC < S > G[H]M` at the `S` of `ABC[DE][SG[HI[JK]L]MNO]`
@@ -270,7 +287,7 @@ fn contexts_skip_branches(rt: HostRuntime) -> Result<(), Fail> {
     let alloc = rt.alloc();
     let symbols = contexts_that_skip();
     let patterns = [pattern(alloc, b"B"), pattern(alloc, b"C")];
-    let read = read_left(alloc, &symbols, 8, &[], &patterns)?;
+    let read = read_left(alloc, &symbols, 8, ignoring(&[]), &patterns)?;
     let want = [
         FOUND, OUT, 0, 7, 0, BRANCH, 0, 3, 6, COMPARED, 0, 2, 0, COMPARED, 0, 1, 0,
     ];
@@ -282,7 +299,7 @@ fn contexts_skip_branches(rt: HostRuntime) -> Result<(), Fail> {
         Item::Pop,
         Item::Pattern(pattern(alloc, b"M")),
     ];
-    let read = read_right(alloc, &symbols, 8, &[], &items)?;
+    let read = read_right(alloc, &symbols, 8, ignoring(&[]), &items)?;
     let want = [
         FOUND, COMPARED, 0, 9, 0, BRANCH, 0, 10, 18, COMPARED, 1, 11, 0, COMPARED, 0, 19, 0,
     ];
@@ -290,12 +307,14 @@ fn contexts_skip_branches(rt: HostRuntime) -> Result<(), Fail> {
     Ok(())
 }
 
-/// `F_b <` at the `F_a` of a level, where `+` and `-` are ignored: the first two are reached, the next two are not.
+/// `F_b <` at the `F_a` of a level, where `+` and `-` are ignored, or where only `F_a` and `F_b` are considered: the first two
+/// are reached, the next two are not.
 #[test]
 fn a_signal_is_read_past_ignored_modules(rt: HostRuntime) -> Result<(), Fail> {
     let alloc = rt.alloc();
     let symbols = signal();
     let ignored = [Name::from_mark(b'+'), Name::from_mark(b'-')];
+    let considered = [Name::from_text(b"F_a"), Name::from_text(b"F_b")];
     let patterns = [pattern(alloc, b"F_b")];
     let rows = [
         (
@@ -310,8 +329,10 @@ fn a_signal_is_read_past_ignored_modules(rt: HostRuntime) -> Result<(), Fail> {
         (10, [MISSED, BRANCH, 0, 6, 9, COMPARED, 0, 5, 0].as_slice()),
     ];
     for (place, want) in &rows {
-        let read = read_left(alloc, &symbols, *place, &ignored, &patterns)?;
-        assert_eq!(rt; read.as_slice(), *want, "at {place}");
+        for filter in [ignoring(&ignored), considering(&considered)] {
+            let read = read_left(alloc, &symbols, *place, filter, &patterns)?;
+            assert_eq!(rt; read.as_slice(), *want, "at {place}");
+        }
     }
     Ok(())
 }
@@ -326,7 +347,7 @@ fn a_second_branch_is_tried(rt: HostRuntime) -> Result<(), Fail> {
         Item::Pop,
         Item::Pattern(pattern(alloc, b"C")),
     ];
-    let read = read_right(alloc, &two_branches(), 0, &[], &items)?;
+    let read = read_right(alloc, &two_branches(), 0, ignoring(&[]), &items)?;
     let want = [
         FOUND, BRANCH, 0, 1, 3, COMPARED, 1, 2, 0, BRANCH, 0, 4, 6, COMPARED, 1, 5, 0, COMPARED, 0,
         7, 0,
@@ -343,7 +364,7 @@ fn the_1025th_entry_is_too_far(rt: HostRuntime) -> Result<(), Fail> {
     let items = [Item::Pattern(pattern(alloc, b"C"))];
     for (between, end, entries) in [(1023, FOUND, 1024), (1024, TOO_FAR, 1025)] {
         let symbols = far_apart(alloc, between)?;
-        let read = read_right(alloc, &symbols, 0, &ignored, &items)?;
+        let read = read_right(alloc, &symbols, 0, ignoring(&ignored), &items)?;
         assert_eq!(rt; read.first().copied(), Some(end));
         assert_eq!(rt; read.len(), 1 + 4 * entries);
     }

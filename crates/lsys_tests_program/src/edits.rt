@@ -4,7 +4,12 @@ use std::process::Abort;
 use std::test::Fail;
 
 /// A script is answered so.
-fn is_answered(rt: &impl Abort, alloc: Global, script: &str, replies: &str) -> Result<(), Fail> {
+pub fn is_answered(
+    rt: &impl Abort,
+    alloc: Global,
+    script: &str,
+    replies: &str,
+) -> Result<(), Fail> {
     let (_, written) = ran_by(alloc, &[], script.as_bytes())?;
     assert_eq!(rt; written.as_slice(), replies.as_bytes());
     Ok(())

@@ -236,3 +236,38 @@ fn each_write_is_flushed_and_a_flush_that_fails_is_a_fault(rt: HostRuntime) -> R
     assert_eq!(rt; flushes, 2);
     Ok(())
 }
+
+/// A reader that fails once and then gives a byte at each call.
+#[derive(Drop)]
+struct Recovering {
+    failed: bool,
+}
+
+impl Read for Recovering {
+    fn read(&mut self, into: &mut [u8]) -> io::Result<usize> {
+        if !self.failed {
+            self.failed = true;
+            return Err(io::Error::from(io::ErrorKind::Other));
+        }
+        match into.first_mut() {
+            Some(first) => {
+                *first = b'a';
+                Ok(1)
+            }
+            None => Ok(0),
+        }
+    }
+}
+
+#[test]
+fn a_read_that_failed_is_told_and_not_tried_again(rt: HostRuntime) -> Result<(), Fail> {
+    let mut source = StdSource::new(Recovering { failed: false });
+    let mut bytes = [0u8; 2];
+    assert_eq!(rt; source.read(bytes.as_mut_slice()), Err(Failed));
+    assert_eq!(rt; source.read(bytes.as_mut_slice()), Ok(1));
+    assert_eq!(rt; bytes, [b'a', 0]);
+    let mut source = StdSource::new(Recovering { failed: false });
+    let text = answers(rt.alloc(), &mut source, 2)?;
+    assert_eq!(rt; text.as_slice(), b"fault fault ".as_slice());
+    Ok(())
+}

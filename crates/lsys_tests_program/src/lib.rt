@@ -9,3 +9,5 @@ mod edits;
 mod ends;
 #[cfg(test)]
 mod program;
+#[cfg(test)]
+mod versions;

@@ -155,7 +155,7 @@ fn the_sample(rt: HostRuntime) -> Result<(), Fail> {
 fn wrong_words() -> &'static [&'static [&'static str]] {
     &[
         &["--limit", "0"],
-        &["--limit", "200001"],
+        &["--limit", "1000001"],
         &["--limit"],
         &["--limit", "+5"],
         &["--"],
@@ -174,7 +174,7 @@ fn words_outside_of_the_grammar(rt: HostRuntime) -> Result<(), Fail> {
     for words in wrong_words() {
         is_answered(&rt, rt.alloc(), *words, ALGAE, Status::Usage, "")?;
     }
-    let words = &["--limit=200000"];
+    let words = &["--limit=1000000"];
     is_answered(&rt, rt.alloc(), words, ALGAE, Status::Done, ALGAE_REPLIES)?;
     let words = &["--limit", "00000000000000000032"];
     is_answered(&rt, rt.alloc(), words, ALGAE, Status::Done, ALGAE_REPLIES)

@@ -11,7 +11,7 @@ use Rattle.lsys_reading.specs.declared.rule.RuleLine.{RuleLine}
 use Rattle.lsys_reading.specs.Images.{image_at, images_at}
 use Rattle.lsys_reading.specs.RuleLines.{rule_at}
 use Rattle.lsys_bodies.specs.Building.{CanBuild, StringIsKnown}
-use Rattle.lsys_bodies.specs.Limits.{HaveFewParams}
+use Rattle.lsys_syntax.specs.Smalls.{HaveFewParams}
 
 pub none_of : {A : Type 0} (xs : List A) (n : ℕ) (b : Bool) → n ≡ length xs → b ≡ (n == 0) → b ≡ true → xs ≡ []
 none_of [] n b e f t = refl

@@ -290,8 +290,8 @@ fn edits_and_what_they_leave(rt: HostRuntime) -> Result<(), Fail> {
     assert_eq!(rt; system.seed(), 7);
     assert!(rt; system.lattice() == LatticeKind::Cubic);
     assert_eq!(rt; system.ignored().len(), 3);
-    assert!(rt; system.is_ignored(Name::from_text(b"F_a")));
-    assert!(rt; !system.is_ignored(Name::from_text(b"F")));
+    assert!(rt; system.ignores(0, Name::from_text(b"F_a")));
+    assert!(rt; !system.ignores(0, Name::from_text(b"F")));
     assert_eq!(rt; system.hom_rules().len(), 1);
     Ok(())
 }

@@ -4,7 +4,7 @@ ghost use Rattle.lsys_syntax.specs.Rules.{IsRule};
 ghost use Rattle.lsys_reading.specs.Images.{images_at};
 ghost use Rattle.lsys_reading.specs.RuleLines.{rule_at};
 ghost use Rattle.lsys_bodies.specs.Building.{CanBuild, StringIsKnown};
-ghost use Rattle.lsys_bodies.specs.Limits.{HaveFewParams};
+ghost use Rattle.lsys_syntax.specs.Smalls.{HaveFewParams};
 
 use crate::strings::printed;
 use lsys_bodies::{Rule, build_rule};

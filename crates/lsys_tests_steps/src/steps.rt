@@ -1,5 +1,6 @@
 //! A derivation step beside an old one: mates, tags, what is moved, and the level behind a level.
-ghost use Rattle.std.specs.Prelude.{◌≡◌};
+ghost use Rattle.std.specs.Prelude.{◌≡◌, ◌<◌, length, IfOk};
+ghost use Rattle.std.specs.List.{All};
 ghost use Rattle.lsys_text.specs.Texts.{IsNameBytes};
 
 use lsys_draw::{axiom_key, child_key};
@@ -7,13 +8,31 @@ use lsys_level::Tag;
 use lsys_module::{Module, Params, Symbol};
 use lsys_offspring::NextLevel;
 use lsys_pairing::{Origin, TagSupply, move_kept, pair};
+use lsys_reading::Numbering;
 use lsys_text::Name;
+use std::alloc::{AllocError, Global};
 use std::test::Fail;
 
-fn child(parent: u32, number: u32) -> Origin
-    ensures { result ≡ record { parent = parent; number = number } }
+/// The child at a place.
+fn child(parent: u32, place: u32) -> Origin
+    ensures { result ≡ record { parent = parent; code = 0; count = place } }
 {
-    Origin { parent, number }
+    Origin {
+        parent,
+        code: 0,
+        count: place,
+    }
+}
+
+/// The child with this letter behind `count` children with the same.
+fn named(parent: u32, letter: u8, count: u32) -> Origin
+    ensures { result ≡ record { parent = parent; code = letter; count = count } }
+{
+    Origin {
+        parent,
+        code: u64::from(letter),
+        count,
+    }
 }
 
 /// A module without parameters.
@@ -52,6 +71,60 @@ fn ancestry_counts_and_not_the_place(rt: HostRuntime) -> Result<(), Fail> {
     Ok(())
 }
 
+/// `AABC` of one parent behind `BACAD`, and `AB` of another behind `BA`.
+#[test]
+fn names_count_and_not_the_order(rt: HostRuntime) -> Result<(), Fail> {
+    let old = [
+        named(0, b'B', 0),
+        named(0, b'A', 0),
+        named(0, b'C', 0),
+        named(0, b'A', 1),
+        named(0, b'D', 0),
+        named(1, b'B', 0),
+        named(1, b'A', 0),
+    ];
+    let new = [
+        named(0, b'A', 0),
+        named(0, b'A', 1),
+        named(0, b'B', 0),
+        named(0, b'C', 0),
+        named(1, b'A', 0),
+        named(1, b'B', 0),
+        named(2, b'A', 0),
+    ];
+    let mates = pair(rt.alloc(), &old, &new, &[Some(0), Some(1), Some(2)])?;
+    let want = [Some(1), Some(3), Some(0), Some(2), Some(6), Some(5), None];
+    assert!(rt; mates.as_slice() == want.as_slice());
+    Ok(())
+}
+
+/// Symbols of 4,096 names below one parent, in an order or in the other.
+fn axiom(alloc: Global, is_turned: bool) -> Result<Vec<Origin>, AllocError>
+    ensures parents { IfOk result (λ row. All (λ o. o.parent < 1) row.items) }
+    ensures few { IfOk result (λ row. length row.items ≡ 4096) }
+{
+    let mut row = Vec::with_capacity(alloc, 4096)?;
+    for place in 0..4096u64 {
+        row.push(Origin {
+            parent: 0,
+            code: if is_turned { 4095 - place } else { place },
+            count: 0,
+        })?;
+    }
+    Ok(row)
+}
+
+#[test]
+fn an_axiom_is_paired_with_one_turned_round(rt: HostRuntime) -> Result<(), Fail> {
+    let old = axiom(rt.alloc(), false)?;
+    let new = axiom(rt.alloc(), true)?;
+    let mates = pair(rt.alloc(), old.as_slice(), new.as_slice(), &[Some(0)])?;
+    for place in 0..4096u32 {
+        assert!(rt; mates.as_slice().get(place as usize).copied() == Some(Some(4095 - place)));
+    }
+    Ok(())
+}
+
 #[test]
 fn free_tags_are_given_from_the_least_on(rt: HostRuntime) -> Result<(), Fail> {
     let mut tags = TagSupply::new(rt.alloc());
@@ -78,7 +151,7 @@ fn what_is_kept_goes_to_its_new_place(rt: HostRuntime) -> Result<(), Fail> {
 
 #[test]
 fn a_cut_goes_on_behind_the_children_of_one_symbol(rt: HostRuntime) -> Result<(), Fail> {
-    let mut level = NextLevel::new(rt.alloc(), 4);
+    let mut level = NextLevel::new(rt.alloc(), Numbering::ByPlace, 4);
     level.add_children(70, &[Symbol::Push])?;
     level.add_children(71, &[letter(b"A"), Symbol::Cut, letter(b"B"), Symbol::Push])?;
     level.add_children(72, &[letter(b"C"), Symbol::Pop])?;
@@ -89,10 +162,38 @@ fn a_cut_goes_on_behind_the_children_of_one_symbol(rt: HostRuntime) -> Result<()
     let origins = [child(0, 0), child(1, 0), child(3, 0), child(3, 1)];
     assert!(rt; made.origins.as_slice() == origins.as_slice());
     let keys = [
-        child_key(70, 0),
-        child_key(71, 0),
-        child_key(73, 0),
-        child_key(73, 1),
+        child_key(70, 0, 0),
+        child_key(71, 0, 0),
+        child_key(73, 0, 0),
+        child_key(73, 0, 1),
+    ];
+    assert!(rt; made.keys.as_slice() == keys.as_slice());
+    Ok(())
+}
+
+/// `A[%A` and `]ABA` by names: what was cut off is counted, and brackets have codes too.
+#[test]
+fn children_by_names_are_counted_by_letter(rt: HostRuntime) -> Result<(), Fail> {
+    let mut level = NextLevel::new(rt.alloc(), Numbering::ByName, 6);
+    level.add_children(70, &[letter(b"A"), Symbol::Push, Symbol::Cut, letter(b"A")])?;
+    level.add_children(71, &[Symbol::Pop, letter(b"A"), letter(b"B"), letter(b"A")])?;
+    let made = level.finish().expect(&rt, "it has room");
+    let origins = [
+        named(0, b'A', 0),
+        named(0, b'[', 0),
+        named(1, b']', 0),
+        named(1, b'A', 0),
+        named(1, b'B', 0),
+        named(1, b'A', 1),
+    ];
+    assert!(rt; made.origins.as_slice() == origins.as_slice());
+    let keys = [
+        child_key(70, 65, 0),
+        child_key(70, 91, 0),
+        child_key(71, 93, 0),
+        child_key(71, 65, 0),
+        child_key(71, 66, 0),
+        child_key(71, 65, 1),
     ];
     assert!(rt; made.keys.as_slice() == keys.as_slice());
     Ok(())
@@ -101,11 +202,11 @@ fn a_cut_goes_on_behind_the_children_of_one_symbol(rt: HostRuntime) -> Result<()
 #[test]
 fn the_axiom_is_what_replaces_the_seed(rt: HostRuntime) -> Result<(), Fail> {
     let axiom = [letter(b"A"), letter(b"B")];
-    let mut level = NextLevel::new(rt.alloc(), 2);
+    let mut level = NextLevel::new(rt.alloc(), Numbering::ByPlace, 2);
     level.add_children(5, &axiom)?;
     let made = level.finish().expect(&rt, "it has room");
-    assert!(rt; made.keys.as_slice() == [axiom_key(5, 0), axiom_key(5, 1)].as_slice());
-    let mut over = NextLevel::new(rt.alloc(), 1);
+    assert!(rt; made.keys.as_slice() == [axiom_key(5, 0, 0), axiom_key(5, 0, 1)].as_slice());
+    let mut over = NextLevel::new(rt.alloc(), Numbering::ByPlace, 1);
     over.add_children(5, &axiom)?;
     assert!(rt; over.finish().is_none());
     Ok(())

@@ -19,20 +19,30 @@ fn draws_are_first_words(rt: HostRuntime) {
     }
 }
 
-// The keys were computed by the same program.
+// The keys were computed by the same program: by places with the code 0, by names with the code of the name.
 #[test]
 fn keys_follow_lineages(rt: HostRuntime) {
-    for (seed, place, key) in [
-        (0, 0, 0x910a2dec89025cc1),
-        (7, 3, 0x50f5647d2380309d),
-        (0xffffffffffffffff, 0, 0xe220a8397b1dcdaf),
-        (0xffffffffffffffff, 4_294_967_295, 0x73b13ba2aff181c0),
+    for (seed, code, count, key) in [
+        (0, 0, 0, 0x910a2dec89025cc1),
+        (7, 0, 3, 0x50f5647d2380309d),
+        (0xffffffffffffffff, 0, 0, 0xe220a8397b1dcdaf),
+        (0xffffffffffffffff, 0, 4095, 0xc41030440c4e0d03),
+        (0, 65, 0, 0x63a0c1e500cec4de),
+        (7, 65, 3, 0x39d9ff4166a7d9ad),
+        (0xffffffffffffffff, 91, 4095, 0x4019beeabf9697cd),
+        (5, 0x6665646362615f46, 0, 0x85c2dddb55ea0b1a),
     ] {
-        assert_eq!(rt; axiom_key(seed, place), key, "seed {seed}, place {place}");
+        assert!(rt; count < 4096);
+        assert_eq!(rt;
+            axiom_key(seed, code, count),
+            key,
+            "seed {seed}, code {code}, count {count}"
+        );
     }
-    let child = child_key(axiom_key(9, 2), 0);
+    let child = child_key(axiom_key(9, 0, 2), 0, 0);
     assert_eq!(rt; child, 0x967dba0b719c2f41);
-    assert_eq!(rt; child_key(child, 5), 0xa4cedb55731a246d);
+    assert_eq!(rt; child_key(child, 0, 5), 0xa4cedb55731a246d);
+    assert_eq!(rt; child_key(child, 66, 1), 0x1761db0462a087b9);
 }
 
 #[test]

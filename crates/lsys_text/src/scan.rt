@@ -163,7 +163,7 @@ fn mode_behind_word(word: Word) -> Mode
 {
     match word.text().as_bytes() {
         b"axiom" | b"ignore" => Mode::Modules,
-        b"production" | b"hom" => Mode::UntilColon,
+        b"production" | b"hom" | b"ignoring" | b"consider" => Mode::UntilColon,
         _ => Mode::Words,
     }
 }

@@ -3,12 +3,13 @@ use Rattle.std.specs.Prelude.{◌≡◌, ℕ, ℤ, Some, None, List, ◌++◌, �
 use Rattle.lsys_spec.specs.Levels.{ModuleValue, Symbol, way, items_from}
 use Rattle.lsys_spec.specs.Walks.{Told, Found, Entry, left_walk, right_walk}
 use Rattle.lsys_spec.specs.Choice.{contexts, params_of}
-use Rattle.lsys_spec.specs.Meaning.{ignores, most_entries}
-use Rattle.lsys_module.specs.Views.{module_name}
+use Rattle.lsys_spec.specs.Meaning.{ignored_by, most_entries}
 use Rattle.lsys_level.specs.Spots.{Spotted, level_by}
 use Rattle.lsys_bodies.specs.declared.body.Pattern.{Pattern}
 use Rattle.lsys_bodies.specs.declared.body.Item.{Item}
 use Rattle.lsys_bodies.specs.declared.body.Body.{Body}
+use Rattle.lsys_bodies.specs.declared.filter.Filter.{Filter}
+use Rattle.lsys_bodies.specs.Filters.{filter_of}
 use Rattle.lsys_bodies.specs.Views.{pattern_of, body_value}
 use Rattle.lsys_walks.specs.declared.mark.Mark.{Mark}
 use Rattle.lsys_walks.specs.declared.walked.Walked.{Walked}
@@ -20,16 +21,16 @@ use Rattle.lsys_walks.specs.Items.{patterns_from}
 -- 1. the walks at place p of a level
 
 -- of a left context, whose nearest pattern is the last
-abbrev pub left_told : List (List ℕ) → Mark → List Pattern → ℕ → List Symbol → Told Found
-left_told ignored d patterns p x = left_walk (ignores (map module_name ignored)) (mark_of d) (reverse (map pattern_of patterns)) (way x p)
+abbrev pub left_told : Filter → Mark → List Pattern → ℕ → List Symbol → Told Found
+left_told filter d patterns p x = left_walk (ignored_by (filter_of filter)) (mark_of d) (reverse (map pattern_of patterns)) (way x p)
 
 -- of the items from one on, up to the bracket that ends their branch
-abbrev pub right_told : List (List ℕ) → Mark → List Item → ℕ → ℕ → List Symbol → Told Found
-right_told ignored d items first p x = right_walk (ignores (map module_name ignored)) (mark_of d) (patterns_from items first) (items_from x (p + 1))
+abbrev pub right_told : Filter → Mark → List Item → ℕ → ℕ → List Symbol → Told Found
+right_told filter d items first p x = right_walk (ignored_by (filter_of filter)) (mark_of d) (patterns_from items first) (items_from x (p + 1))
 
 -- of both contexts of a rule, by its place in its group; m is the module at p
-abbrev pub rule_told : List (List ℕ) → ℕ → Body → ModuleValue → ℕ → List Symbol → Told Found
-rule_told ignored rule b m p x = contexts (ignores (map module_name ignored)) (record { rule = rule; depth = 0 }) (body_value b) m (way x p) (items_from x (p + 1))
+abbrev pub rule_told : Filter → ℕ → Body → ModuleValue → ℕ → List Symbol → Told Found
+rule_told filter rule b m p x = contexts (ignored_by (filter_of filter)) (record { rule = rule; depth = 0 }) (body_value b) m (way x p) (items_from x (p + 1))
 
 -- 2. what of it was read
 

@@ -12,9 +12,8 @@ use crate::mark::Mark;
 use crate::reading::Reading;
 use crate::right::right_reads;
 use crate::walked::Walked;
-use lsys_bodies::Body;
+use lsys_bodies::{Body, Filter};
 use lsys_level::LevelView;
-use lsys_text::Name;
 use std::alloc::AllocError;
 use std::sync::ledger::Ledger;
 
@@ -33,7 +32,7 @@ pub fn context_reads<'a, W: LevelView, V: Ledger>(
     view: &W,
     spot: W::Spot,
     own: &[i64],
-    ignored: &[Name],
+    filter: Filter<'_>,
     body: &Body,
     rule: u8,
     trace: &mut Reading<'a>,
@@ -45,11 +44,11 @@ pub fn context_reads<'a, W: LevelView, V: Ledger>(
     requires room { length trace.old.read ≤ most_entries }
     ensures told { let x = level_at (W.levels view.now) (W.level_of view.now spot) in
         (m : ModuleValue) → m.params ≡ own.now
-        → IsWalk (rule_told ignored.now rule body.now m (W.place_of view.now spot)) x
+        → IsWalk (rule_told filter.entry rule body.now m (W.place_of view.now spot)) x
         trace.old.read trace.new.read (AreKept bound.new.items) result }
     ensures refused { let x = level_at (W.levels view.now) (W.level_of view.now spot) in
         (m : ModuleValue) → m.params ≡ own.now
-        → IsFrontOfWalk (rule_told ignored.now rule body.now m (W.place_of view.now spot)) x
+        → IsFrontOfWalk (rule_told filter.entry rule body.now m (W.place_of view.now spot)) x
         trace.old.read trace.new.read result }
     ensures few { OnErr result (length trace.new.read ≤ most_entries) }
     ensures same { trace.new.old ≡ trace.old.old }
@@ -57,12 +56,12 @@ pub fn context_reads<'a, W: LevelView, V: Ledger>(
 {
     bound.truncate(0);
     let mark = Mark { rule, depth: 0 };
-    match left_reads(view, spot, ignored, &body.left, mark, trace, bound, visited)? {
+    match left_reads(view, spot, filter, &body.left, mark, trace, bound, visited)? {
         Walked::Found => {
             bound.reverse();
             bound.extend_from_slice(own)?;
             let right = &body.right;
-            let walked = right_reads(view, spot, ignored, right, 0, mark, trace, bound, visited)?;
+            let walked = right_reads(view, spot, filter, right, 0, mark, trace, bound, visited)?;
             Ok(walked)
         }
         Walked::Missed => Ok(Walked::Missed),

@@ -7,12 +7,11 @@ ghost use Rattle.lsys_walks.specs.Walked.{left_told, IsWalk, IsFrontOfWalk, Kept
 use crate::counter::Counter;
 use crate::entry::Entry;
 use crate::mark::Mark;
-use crate::pattern::{fits, is_ignored};
+use crate::pattern::fits;
 use crate::reading::Reading;
 use crate::walked::Walked;
-use lsys_bodies::Pattern;
+use lsys_bodies::{Filter, Pattern};
 use lsys_level::{LevelView, Sight};
-use lsys_text::Name;
 use std::alloc::AllocError;
 use std::sync::ledger::Ledger;
 
@@ -34,7 +33,7 @@ use std::sync::ledger::Ledger;
 pub fn left_reads<'a, W: LevelView, V: Ledger>(
     view: &W,
     spot: W::Spot,
-    ignored: &[Name],
+    filter: Filter<'_>,
     patterns: &[Pattern],
     mark: Mark,
     trace: &mut Reading<'a>,
@@ -44,10 +43,10 @@ pub fn left_reads<'a, W: LevelView, V: Ledger>(
     requires spot { IsSpot (W.levels view.now) (W.level_of view.now spot) (W.place_of view.now spot) }
     requires room { length trace.old.read ≤ most_entries }
     ensures told { let x = level_at (W.levels view.now) (W.level_of view.now spot) in
-        let walk = left_told ignored.now mark patterns.now (W.place_of view.now spot) in
+        let walk = left_told filter.entry mark patterns.now (W.place_of view.now spot) in
         IsWalk walk x trace.old.read trace.new.read (KeptReversed bound.old.items bound.new.items) result }
     ensures refused { let x = level_at (W.levels view.now) (W.level_of view.now spot) in
-        let walk = left_told ignored.now mark patterns.now (W.place_of view.now spot) in
+        let walk = left_told filter.entry mark patterns.now (W.place_of view.now spot) in
         IsFrontOfWalk walk x trace.old.read trace.new.read result }
     ensures few { OnErr result (length trace.new.read ≤ most_entries) }
     ensures same { trace.new.old ≡ trace.old.old }
@@ -76,7 +75,7 @@ pub fn left_reads<'a, W: LevelView, V: Ledger>(
                 at = mate;
             }
             Sight::Module { name, params } => {
-                if is_ignored(ignored, name) {
+                if filter.ignores(name) {
                     if trace.note(Entry::ignored(mark, tag, name, params), params, visited)? {
                         return Ok(Walked::TooFar);
                     }

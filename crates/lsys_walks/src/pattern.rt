@@ -1,7 +1,6 @@
-//! Whether a module fits a pattern, or is ignored.
-ghost use Rattle.std.specs.Prelude.{◌≡◌, length, map};
+//! Whether a module fits a pattern.
+ghost use Rattle.std.specs.Prelude.{◌≡◌};
 ghost use Rattle.lsys_spec.specs.Systems.{same_name};
-ghost use Rattle.lsys_spec.specs.Meaning.{ignores};
 ghost use Rattle.lsys_module.specs.Views.{module_name};
 ghost use Rattle.lsys_walks.specs.Patterns.{fits_pattern};
 
@@ -20,16 +19,4 @@ pub(crate) fn fits(pattern: &Pattern, name: Name, params: &[i64]) -> bool
     ensures { result ≡ fits_pattern pattern.now name params.now }
 {
     same_name(pattern.name, name) && pattern.formals.len() == params.len()
-}
-
-/// The name is one of those that are ignored.
-pub(crate) fn is_ignored(ignored: &[Name], name: Name) -> bool
-    ensures { result ≡ ignores (map module_name ignored.now) (module_name name) }
-{
-    for other in ignored {
-        if same_name(*other, name) {
-            return true;
-        }
-    }
-    false
 }

@@ -8,12 +8,11 @@ use crate::counter::Counter;
 use crate::entry::Entry;
 use crate::item::behind;
 use crate::mark::Mark;
-use crate::pattern::{fits, is_ignored};
+use crate::pattern::fits;
 use crate::reading::Reading;
 use crate::walked::Walked;
-use lsys_bodies::Item;
+use lsys_bodies::{Filter, Item};
 use lsys_level::{LevelView, Sight};
-use lsys_text::Name;
 use std::alloc::AllocError;
 use std::sync::ledger::Ledger;
 
@@ -37,7 +36,7 @@ use std::sync::ledger::Ledger;
 pub fn right_reads<'a, W: LevelView, V: Ledger>(
     view: &W,
     spot: W::Spot,
-    ignored: &[Name],
+    filter: Filter<'_>,
     items: &[Item],
     first: usize,
     mark: Mark,
@@ -50,10 +49,10 @@ pub fn right_reads<'a, W: LevelView, V: Ledger>(
     requires depth { mark.depth + (length items.now - first) < 256 }
     requires room { length trace.old.read ≤ most_entries }
     ensures told { let x = level_at (W.levels view.now) (W.level_of view.now spot) in
-        let walk = right_told ignored.now mark items.now first (W.place_of view.now spot) in
+        let walk = right_told filter.entry mark items.now first (W.place_of view.now spot) in
         IsWalk walk x trace.old.read trace.new.read (KeptInOrder bound.old.items bound.new.items) result }
     ensures refused { let x = level_at (W.levels view.now) (W.level_of view.now spot) in
-        let walk = right_told ignored.now mark items.now first (W.place_of view.now spot) in
+        let walk = right_told filter.entry mark items.now first (W.place_of view.now spot) in
         IsFrontOfWalk walk x trace.old.read trace.new.read result }
     ensures few { OnErr result (length trace.new.read ≤ most_entries) }
     ensures front { take (length bound.old.items) bound.new.items ≡ bound.old.items }
@@ -89,7 +88,7 @@ pub fn right_reads<'a, W: LevelView, V: Ledger>(
                     match right_reads(
                         view,
                         here,
-                        ignored,
+                        filter,
                         items,
                         next + 1,
                         inside,
@@ -105,7 +104,7 @@ pub fn right_reads<'a, W: LevelView, V: Ledger>(
             }
             Sight::Module { name, params } => {
                 at = view.right(here);
-                if is_ignored(ignored, name) {
+                if filter.ignores(name) {
                     if trace.note(Entry::ignored(mark, tag, name, params), params, visited)? {
                         return Ok(Walked::TooFar);
                     }

@@ -1,5 +1,5 @@
 //! Where answers are kept.
-ghost use Rattle.std.specs.Prelude.{◌≡◌, ◌≤◌, OnOk, Some};
+ghost use Rattle.std.specs.Prelude.{◌≡◌, ◌≤◌, OnErr, OnOk, Some};
 ghost use Rattle.lsys_region.specs.Pool.{empty_pool, list_of, IsLive};
 ghost use Rattle.lsys_region.specs.Rooms.{list_room};
 ghost use Rattle.lsys_walks.specs.Stores.{StaysWithRoom, Holds, AreLive, AreFresh, OtherTracesStay, TakesRoom, AreGone, StaysAsLarge, GivesBackRoom};
@@ -48,12 +48,13 @@ impl AnswerStore {
     ///
     /// # Errors
     ///
-    /// Want of memory. What is kept stays then too.
+    /// Want of memory. What is kept stays then too, and of the room for parameters nothing was taken.
     pub fn reserve(&mut self, entries: usize, values: usize) -> Result<(), AllocError>
         ensures entries { OnOk result (entries ≤ self.new.traces.spare) }
         ensures params { OnOk result (values ≤ self.new.values.spare) }
         ensures traces { StaysWithRoom self.old.traces self.new.traces }
         ensures values { StaysWithRoom self.old.values self.new.values }
+        ensures refused { OnErr result (self.new.values ≡ self.old.values) }
     {
         self.traces.reserve(entries)?;
         self.values.reserve(values)

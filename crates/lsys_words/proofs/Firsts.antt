@@ -8,7 +8,7 @@ use Rattle.lsys_words.specs.declared.setting.Setting.{Setting}
 use Rattle.lsys_words.specs.declared.setting.Setting.TheVariants.{Sample}
 use Rattle.lsys_words.proofs.Numbers.{first_digit}
 
-whole : (word : List ℕ) → is_number word ≡ true → in_two word ≡ word ∷ []
+pub whole : (word : List ℕ) → is_number word ≡ true → in_two word ≡ word ∷ []
 whole [] h = refl
 whole (c ∷ cs) h =
     let no : (45 == c) ≡ false = first_digit c cs h in
@@ -31,7 +31,7 @@ no_front name word rest (Some n) sampled e = unfronted name (codes "--limit") (n
 no_front name word rest None (Some n) e = unfronted name (codes "--sample") (n ∷ rest) refl
 no_front name word rest None None e = unfronted name word rest e
 
-second : (name word : List ℕ) (rest : List (List ℕ)) → front_of (name ∷ (in_two word ++ rest)) ≡ option_map (λ s. (s, rest)) (setting_of name word)
+pub second : (name word : List ℕ) (rest : List (List ℕ)) → front_of (name ∷ (in_two word ++ rest)) ≡ option_map (λ s. (s, rest)) (setting_of name word)
 second name word rest = go (is_number word) refl
   where
     go : (b : Bool) → is_number word ≡ b → front_of (name ∷ (in_two word ++ rest)) ≡ option_map (λ s. (s, rest)) (setting_of name word)

@@ -37,7 +37,7 @@ more b k z zs None p e = refl
 more b k z zs (Some s) None e = rw e refl
 more b k z zs (Some s) (Some t) e = rw e refl
 
-by_fronts : (x : List ℕ) (xs : List (List ℕ)) → spelled (x ∷ xs) ≡ after_first (front_of (x ∷ xs))
+pub by_fronts : (x : List ℕ) (xs : List (List ℕ)) → spelled (x ∷ xs) ≡ after_first (front_of (x ∷ xs))
 by_fronts a [] = refl
 by_fronts a (n ∷ []) = one (setting_of a n)
 by_fronts a (n ∷ b ∷ []) = three b (setting_of a n)
@@ -45,7 +45,7 @@ by_fronts a (n ∷ b ∷ k ∷ []) = two b k (setting_of a n) (setting_of b k) r
 by_fronts a (n ∷ b ∷ k ∷ z ∷ zs) = more b k z zs (setting_of a n) (setting_of b k) refl
 
 -- words that are not none are some names and numbers
-by_cases : (P : List (List ℕ) → Type 0) → ((x : List ℕ) (xs : List (List ℕ)) → P (x ∷ xs)) → (limited sampled : Option (List ℕ)) (word : List ℕ) (rest : List (List ℕ))
+pub by_cases : (P : List (List ℕ) → Type 0) → ((x : List ℕ) (xs : List (List ℕ)) → P (x ∷ xs)) → (limited sampled : Option (List ℕ)) (word : List ℕ) (rest : List (List ℕ))
     → P (name_and (codes "--limit") limited (name_and (codes "--sample") sampled (word ∷ [])) ++ rest)
 by_cases P h (Some n) sampled word rest = h (codes "--limit") (n ∷ rest)
 by_cases P h None (Some n) word rest = h (codes "--sample") (n ∷ rest)
@@ -57,7 +57,7 @@ suc_is_not n = search rules
 apart : {P : Type 0} → true ≡ false → P
 apart e = cc
 
-some : {A : Type 0} (P : List (List ℕ) → Type 0) → ((x : List ℕ) (xs : List (List ℕ)) → P (x ∷ xs)) → (words : List (String A)) → false ≡ (length words == 0) → P (flat_map in_two (texts words))
+pub some : {A : Type 0} (P : List (List ℕ) → Type 0) → ((x : List ℕ) (xs : List (List ℕ)) → P (x ∷ xs)) → (words : List (String A)) → false ≡ (length words == 0) → P (flat_map in_two (texts words))
 some P h [] e = apart (sym e)
 some P h (word ∷ words) e =
     by_cases P h (text_behind (codes "--limit=") (string_bytes word)) (text_behind (codes "--sample=") (string_bytes word)) (string_bytes word) (flat_map in_two (texts words))

@@ -22,7 +22,7 @@ is_number word = is_short_numeral word && (nat_lt 0 (length word) && nat_lt (dig
 abbrev pub number_of : List ℕ → Option ℕ
 number_of word = if is_number word then Some (digits_value 10 word) else None
 
--- from 1 to 200,000
+-- from 1 to 1,000,000
 abbrev pub limit_of : ℕ → Option Setting
 limit_of n = if nat_lt 0 n && nat_le n greatest_module_limit then Some (Limit n) else None
 
@@ -72,6 +72,6 @@ options_by words = spelled (flat_map in_two words)
 abbrev pub texts : {A : Type 0} → List (String A) → List (List ℕ)
 texts words = map string_bytes words
 
--- from 1 to 200,000
+-- from 1 to 1,000,000
 abbrev pub HasLimit : Options → Type 0
 HasLimit o = (1 ≤ o.limit) × (o.limit ≤ greatest_module_limit)

@@ -1,7 +1,7 @@
 // One option.
-ghost use Rattle.std.specs.Prelude.{◌≡◌, ◌↔◌, ◌∷◌, None, true, slice_index, EachIndex, IsTrue, MatchOption, option_map, option_and_then};
+ghost use Rattle.std.specs.Prelude.{◌≡◌, ◌↔◌, ◌∷◌, None, true, is_some, slice_index, EachIndex, IsTrue, MatchOption, option_map, option_and_then};
 ghost use Rattle.std.specs.Char.{is_ascii_digit};
-ghost use Rattle.lsys_words.specs.Words.{is_short_numeral, number_of, limit_of, setting_of, in_two, alone, together, texts};
+ghost use Rattle.lsys_words.specs.Words.{is_short_numeral, number_of, limit_of, setting_of, in_two, alone, together, texts, options_by};
 ghost use Rattle.lsys_words.specs.Fronts.{IsFirst, attached_words};
 
 use super::Options;
@@ -60,7 +60,7 @@ fn is_short_numeral(word: &str) -> bool
 }
 
 /// The number that a word of one to twenty digits writes.
-fn number(word: &str) -> Option<u64>
+pub fn number(word: &str) -> Option<u64>
     ensures { result ≡ number_of word.now }
 {
     if is_short_numeral(word) {
@@ -74,7 +74,7 @@ fn number(word: &str) -> Option<u64>
 fn limit(number: u64) -> Option<Setting>
     ensures { result ≡ limit_of number }
 {
-    if (1..=200_000).contains(&number) {
+    if (1..=1_000_000).contains(&number) {
         Some(Setting::Limit(number as u32))
     } else {
         None
@@ -109,7 +109,7 @@ fn in_two(word: &str) -> (&str, Option<&str>)
 }
 
 /// The option at the front of some words, and the words behind it.
-pub fn first_setting(words: &[String]) -> Option<(Setting, &[String])>
+fn first_setting(words: &[String]) -> Option<(Setting, &[String])>
     ensures { MatchOption result (IsFirst (texts words.now) None) (λ p. IsFirst (texts words.now) (Some (p.0, texts p.1.now))) }
 {
     let (word, words) = words.split_first()?;
@@ -119,4 +119,33 @@ pub fn first_setting(words: &[String]) -> Option<(Setting, &[String])>
     }
     let (word, words) = words.split_first()?;
     Some((set_by(name, word.as_str())?, words))
+}
+
+/// What words spell, or None where they are outside of the grammar.
+fn spelled(words: &[String]) -> Option<Options>
+    ensures { result ≡ options_by (texts words.now) }
+{
+    if words.is_empty() {
+        return Some(Options {
+            limit: 100_000,
+            sample: None,
+        });
+    }
+    let (first, words) = first_setting(words)?;
+    if words.is_empty() {
+        return Some(first.alone());
+    }
+    let (second, words) = first_setting(words)?;
+    if words.is_empty() {
+        first.together(second)
+    } else {
+        None
+    }
+}
+
+/// Whether words are in the grammar.
+pub fn is_in_grammar(words: &[String]) -> bool
+    ensures { result ≡ is_some (options_by (texts words.now)) }
+{
+    spelled(words).is_some()
 }

@@ -1,6 +1,4 @@
-use Rattle.std.proofs.Common.{◌≡◌, ◌+◌, Option, Some, drop, length, sym, ap, ◌∙◌, arith}
-use Rattle.std.specs.Prelude.{slice_get}
-use Rattle.lsys_counts.specs.Slots.{filled}
+use Rattle.std.proofs.Common.{arith}
 use Rattle.lsys_round.proofs.News.{filled_most}
 use Rattle.lsys_flat.proofs.draft.count_filled.Goals as goal
 

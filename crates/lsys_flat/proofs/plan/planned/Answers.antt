@@ -1,5 +1,4 @@
-use Rattle.std.proofs.Common.{◌≡◌, ◌+◌, ◌≤◌, map, arith}
-use Rattle.std.specs.Prelude.{sum_by}
+use Rattle.std.proofs.Common.{map, arith}
 use Rattle.lsys_keeping.specs.Answers.{lists_of}
 use Rattle.lsys_revision.specs.Lines.{line_of}
 use Rattle.lsys_flat.proofs.DraftingSteps.{few_filled, is_planned}

@@ -1,6 +1,6 @@
 use Rattle.std.proofs.Common.{◌≡◌, map, drop}
 use Rattle.lsys_spec.specs.Meaning.{filled}
-use Rattle.lsys_bodies.specs.Limits.{HaveFewParams}
+use Rattle.lsys_syntax.specs.Smalls.{HaveFewParams}
 use Rattle.lsys_bodies.specs.Views.{template_of, template_symbol}
 use Rattle.lsys_hom.specs.Parts.{fault_in}
 use Rattle.lsys_hom.proofs.part.check_templates.Given as goal

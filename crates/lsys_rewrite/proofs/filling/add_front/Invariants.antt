@@ -1,5 +1,5 @@
 use Rattle.std.proofs.Common.{map, drop}
-use Rattle.lsys_bodies.specs.Limits.{HaveFewParams}
+use Rattle.lsys_syntax.specs.Smalls.{HaveFewParams}
 use Rattle.lsys_bodies.specs.Views.{template_symbol}
 use Rattle.lsys_rewrite.proofs.Successors.{Grown}
 use Rattle.lsys_rewrite.proofs.filling.add_front.Given as goal

@@ -11,15 +11,15 @@ returns-then-is_lost c =
     let rules = map production_of c.args.rules.now in
     let lost : List ℕ → Bool = λ w. not (is_table (tables (without_rule c.args.label rules)) w) in
     let word = c.word-item.result in
-    let rest = any lost (drop (c.loop-word.word-index + 1) c.args.schedule.now) in
+    let rest = any lost (drop (c.loop-word.word-index + 1) c.args.words.now) in
     let this : lost word ≡ true = ap not (sym (table_left c.args.label word rules c.requires)) ∙ sym c.is_lost.ensures ∙ c.if-is_lost.true in
-    sym (ap (λ b. b || rest) this) ∙ sym (any_at lost c.args.schedule.now c.loop-word.word-index word c.loop-word-test.true c.word-item.is) ∙ c.loop-word.invariant.rest
+    sym (ap (λ b. b || rest) this) ∙ sym (any_at lost c.args.words.now c.loop-word.word-index word c.loop-word-test.true c.word-item.is) ∙ c.loop-word.invariant.rest
 
 pub loop-word-preserved : goal.loop-word-preserved
 loop-word-preserved c =
     let rules = map production_of c.args.rules.now in
     let lost : List ℕ → Bool = λ w. not (is_table (tables (without_rule c.args.label rules)) w) in
     let word = c.word-item.result in
-    let rest = any lost (drop (c.loop-word.word-index + 1) c.args.schedule.now) in
+    let rest = any lost (drop (c.loop-word.word-index + 1) c.args.words.now) in
     let this : lost word ≡ false = ap not (sym (table_left c.args.label word rules c.requires)) ∙ sym c.is_lost.ensures ∙ c.if-is_lost.false in
-    record { rest = sym (ap (λ b. b || rest) this) ∙ sym (any_at lost c.args.schedule.now c.loop-word.word-index word c.loop-word-test.true c.word-item.is) ∙ c.loop-word.invariant.rest }
+    record { rest = sym (ap (λ b. b || rest) this) ∙ sym (any_at lost c.args.words.now c.loop-word.word-index word c.loop-word-test.true c.word-item.is) ∙ c.loop-word.invariant.rest }

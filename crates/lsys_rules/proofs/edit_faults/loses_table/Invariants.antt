@@ -6,5 +6,5 @@ use Rattle.lsys_rules.proofs.edit_faults.loses_table.Given as goal
 -- no word so far is lost
 abbrev pub invariant-loop-word : goal.invariant-loop-word
 invariant-loop-word l = record {
-  rest : loses_table (without_rule l.label (map production_of l.rules)) (drop l.word-index l.schedule) ≡ loses_table (without_rule l.label (map production_of l.rules)) l.schedule;
+  rest : loses_table (without_rule l.label (map production_of l.rules)) (drop l.word-index l.words) ≡ loses_table (without_rule l.label (map production_of l.rules)) l.words;
 }

@@ -1,13 +1,12 @@
-use Rattle.std.proofs.Common.{map, rules, ◌∙◌}
+use Rattle.std.proofs.Common.{rules, ◌∙◌}
 use Rattle.std.proofs.lemmas.Iterator.{YieldsList-from_slice}
 use Rattle.std.proofs.lemmas.Iterator.Search.{any_from_yields_List}
 use Rattle.lsys_spec.specs.Systems.{same_name}
 use Rattle.lsys_module.specs.Views.{module_name}
-use Rattle.lsys_rules.proofs.Tables.{any_map, ignores_same}
+use Rattle.lsys_bodies.proofs.Among.{any_named}
 use Rattle.lsys_rules.proofs.names.is_among.Goals as goal
 
 pub returns : goal.returns
 returns c =
     let n = module_name c.args.name in
-    any_from_yields_List (λ o. same_name (module_name o) n) _ _ _ c.any.ensures.ran (YieldsList-from_slice c.args.names.now cc) (λ x b q k. search rules)
-    ∙ any_map (λ y. same_name y n) module_name c.args.names.now ∙ ignores_same (map module_name c.args.names.now) n
+    any_from_yields_List (λ o. same_name (module_name o) n) _ _ _ c.any.ensures.ran (YieldsList-from_slice c.args.names.now cc) (λ x b q k. search rules) ∙ any_named n c.args.names.now

@@ -2,7 +2,7 @@ use Rattle.std.proofs.Common.{List, drop}
 use Rattle.lsys_syntax.specs.Tokens.{Kind, NameText}
 use Rattle.lsys_reading.specs.Images.{images_at}
 use Rattle.lsys_bodies.specs.Building.{StringIsKnown}
-use Rattle.lsys_bodies.specs.Limits.{HaveFewParams}
+use Rattle.lsys_syntax.specs.Smalls.{HaveFewParams}
 use Rattle.lsys_tests_rules.proofs.successors.are_bare.Given as goal
 
 -- the symbols so far have no parameters

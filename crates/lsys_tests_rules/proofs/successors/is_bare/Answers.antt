@@ -3,7 +3,7 @@ use Rattle.lsys_syntax.specs.Checks.{rule_formals}
 use Rattle.lsys_reading.specs.Images.{images_at}
 use Rattle.lsys_reading.specs.RuleLines.{rule_at}
 use Rattle.lsys_bodies.specs.Building.{StringIsKnown}
-use Rattle.lsys_bodies.specs.Limits.{HaveFewParams}
+use Rattle.lsys_syntax.specs.Smalls.{HaveFewParams}
 use Rattle.lsys_tests_rules.proofs.Bare.{none_of, can_build}
 use Rattle.lsys_tests_rules.proofs.successors.is_bare.Goals as goal
 

@@ -1,7 +1,7 @@
 use Rattle.std.proofs.Common.{◌≡◌, ◌+◌, ◌-◌, ◌≤◌, ℕ, List, length, take, map}
-use Rattle.lsys_spec.specs.Meaning.{ignores, most_entries}
-use Rattle.lsys_module.specs.Views.{module_name}
+use Rattle.lsys_spec.specs.Meaning.{ignored_by, most_entries}
 use Rattle.lsys_level.specs.Spots.{level_at}
+use Rattle.lsys_bodies.specs.Filters.{filter_of}
 use Rattle.lsys_walks.specs.Views.{mark_of}
 use Rattle.lsys_walks.proofs.Shown.{IsAt, place_at}
 use Rattle.lsys_walks.proofs.Rights.{Walk}
@@ -17,7 +17,7 @@ invariant-loop-next g l =
     × (l.first ≤ l.next)
     × (l.next ≤ length l.items)
     × (length l.trace.read ≤ most_entries)
-    × ((naming : ℕ → List ℕ) → Walk (ignores (map module_name l.ignored)) (mark_of l.mark) (level_at (g.W.LevelView.levels l.view) (g.W.LevelView.level_of l.view l.fn.spot)) l.items naming
+    × ((naming : ℕ → List ℕ) → Walk (ignored_by (filter_of l.filter)) (mark_of l.mark) (level_at (g.W.LevelView.levels l.view) (g.W.LevelView.level_of l.view l.fn.spot)) l.items naming
     l.first (g.W.LevelView.place_of l.view l.fn.spot + 1) l.next (place_at (g.W.LevelView.levels l.view) (g.W.LevelView.level_of l.view) (g.W.LevelView.place_of l.view) (g.W.LevelView.level_of l.view l.fn.spot) l.at)
     l.fn.trace.read l.trace.read l.fn.bound.items l.bound.items)
     × (take (length l.fn.bound.items) l.bound.items ≡ l.fn.bound.items)

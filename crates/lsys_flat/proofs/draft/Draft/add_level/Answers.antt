@@ -1,4 +1,4 @@
-use Rattle.std.proofs.Common.{◌≡◌, Some, sym, subst}
+use Rattle.std.proofs.Common.{sym, subst}
 use Rattle.lsys_flat.specs.Drafts.{CanAdd}
 use Rattle.lsys_flat.proofs.DraftingFirst.{longer}
 use Rattle.lsys_flat.proofs.draft.Draft.add_level.Goals as goal

@@ -1,11 +1,11 @@
-use Rattle.std.proofs.Common.{◌≡◌, ◌+◌, ◌≤◌, ℕ, length, map, set, refl, sym, ap, ◌∙◌, subst, arith}
+use Rattle.std.proofs.Common.{◌≡◌, length, set, ap, ◌∙◌, subst, arith}
 use Rattle.std.specs.Prelude.{OnOk}
 use Rattle.lsys_level.specs.Spots.{level_at}
 use Rattle.lsys_round.specs.Rounds.{Rounded}
 use Rattle.lsys_counts.specs.Slots.{filled}
 use Rattle.lsys_keeping.specs.Answers.{lists_of}
 use Rattle.lsys_round.proofs.News.{filled_most}
-use Rattle.lsys_flat.specs.Drafts.{Drafted, HasAsked}
+use Rattle.lsys_flat.specs.Drafts.{Drafted}
 use Rattle.lsys_flat.proofs.DraftingAsked.{has_asked, kept_is, map_set}
 use Rattle.lsys_flat.proofs.draft.Draft.ask.Goals as goal
 
@@ -28,4 +28,4 @@ returns g c =
     (map_set (λ level. level.items) c.self.inside.fresh.items c.args.level c.finish-found.result.fresh ∙ ap (set (lists_of c.self.inside.fresh.items) c.args.level) c.finish-found.ensures.fresh)
     (map_set (λ level. level.items) c.self.inside.taken.items c.args.level c.finish-found.result.taken ∙ ap (set (lists_of c.self.inside.taken.items) c.args.level) c.finish-found.ensures.taken)
     (c.count_filled.ensures ∙ ap filled (c.as_slice.ensures.value ∙ c.finish-found.ensures.fresh)) (c.from.ensures ∙ c.finish-found.ensures.questions))
-    c.ask_level-done.ensures.round c.ask_level-done.ensures.whole c.finish-found.ensures.next (subst (λ n. OnOk c.ask_level-done.result (c.ask_level-done.new.self.next.room ≡ n)) (ap (λ (r : Rounded). r.next.room) c.new-round.ensures) c.ask_level-done.ensures.room) c.ask_level-done.ensures.new c.ask_level-done.ensures.each c.ask_level-done.ensures.asked
+    c.ask_level-done.ensures.round c.ask_level-done.ensures.whole c.finish-found.ensures.next (subst (λ n. OnOk c.ask_level-done.result (c.ask_level-done.new.self.next.grown.room ≡ n)) (ap (λ (r : Rounded). r.next.grown.room) c.new-round.ensures) c.ask_level-done.ensures.room) c.ask_level-done.ensures.new c.ask_level-done.ensures.each c.ask_level-done.ensures.asked

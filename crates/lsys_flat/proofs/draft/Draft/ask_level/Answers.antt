@@ -1,12 +1,11 @@
-use Rattle.std.proofs.Common.{rules, ◌≡◌, ◌+◌, ◌++◌, ◌∷◌, [], ℕ, List, Ok, Err, length, map, refl, sym, ap, ◌∙◌, subst, arith}
-use Rattle.std.specs.Prelude.{OnOk, IfErr, sum_by}
+use Rattle.std.proofs.Common.{rules, ◌≡◌, ◌+◌, Err, map, refl, sym, subst}
 use Rattle.lsys_level.specs.Spots.{level_at}
 use Rattle.lsys_keeping.specs.Answers.{level_of, lists_of}
 use Rattle.lsys_revision.specs.Lines.{line_of}
 use Rattle.lsys_round.specs.Rounds.{CanAsk}
 use Rattle.lsys_flat.specs.Drafts.{Drafted}
 use Rattle.lsys_flat.proofs.DraftingAnswers.{level_made}
-use Rattle.lsys_flat.proofs.DraftingNext.{can_ask, few_before, read_so_far}
+use Rattle.lsys_flat.proofs.DraftingNext.{can_ask}
 use Rattle.lsys_flat.proofs.DraftingSteps.{add_refused, asked_is, asked_of, done_can_add, done_refused, few_is, found_next, going, new_is, olds_few}
 use Rattle.lsys_flat.proofs.draft.Draft.ask_level.Goals as goal
 

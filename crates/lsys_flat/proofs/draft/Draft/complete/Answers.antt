@@ -1,5 +1,4 @@
-use Rattle.std.proofs.Common.{rules, ◌≡◌, ◌*◌, ◌≤◌, ℕ, List, Err, length, map, sym, subst, arith}
-use Rattle.std.specs.Prelude.{sum_by}
+use Rattle.std.proofs.Common.{rules, ◌≡◌, ◌*◌, Err, map, sym, subst, arith}
 use Rattle.lsys_keeping.specs.Answers.{lists_of}
 use Rattle.lsys_match.specs.Derivations.{Rises, most_read}
 use Rattle.lsys_revision.specs.Lines.{line_of}

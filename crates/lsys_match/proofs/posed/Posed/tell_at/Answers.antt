@@ -8,5 +8,5 @@ use Rattle.lsys_match.proofs.posed.Posed.tell_at.Goals as goal
 pub returns-clause-visited : goal.returns-clause-visited
 returns-clause-visited g c =
     let site : Site = site_of c.args.self.now (level_at (g.W.LevelView.levels c.args.view.now) (g.W.LevelView.level_of c.args.view.now c.args.spot)) (g.W.LevelView.place_of c.args.view.now c.args.spot) in
-    let e : c.new-site.result ≡ site = (λ i. record { row = c.new-site.ensures.row i; place = c.new-site.ensures.place i; own = c.new-site.ensures.own i; ignored = c.new-site.ensures.ignored i }) in
+    let e : c.new-site.result ≡ site = (λ i. record { row = c.new-site.ensures.row i; place = c.new-site.ensures.place i; own = c.new-site.ensures.own i; filter = c.new-site.ensures.filter i }) in
     subst (λ (site : Site). (naming : ℕ → List ℕ) → Counts (length (trace_told (told_for naming site (posed_by c.args.self.now)))) c.args.visited.now c.tell.new.visited c.tell.result) e c.tell.ensures.visited

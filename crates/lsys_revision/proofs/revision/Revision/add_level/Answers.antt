@@ -77,8 +77,8 @@ push_level-requires-clause-own c =
     let few : taken c.name_level.new.self ≤ taken c.self.inside.supply + length c.in_ok-mates.mates.items = omega (arith, c.in_ok-tags.ensures.taken, ap length c.as_slice-4.ensures.value) in
     let copied : c.in_ok-copy_of.field-0.items ≡ c.in_ok-tags.tags.items = c.in_ok-copy_of.ensures ∙ c.as_slice-6.ensures.value in
     let all = next_by q.seed q.xs q.ys q.y c.args.level _ h q.next (line_of c.line_at-old.result.now) old c.in_ok-mates.mates.items c.in_ok-tags.tags.items c.name_level.new.self
-    (λ a b x z ra rx rz ca cb m.
-    c.in_ok-mates.ensures.paired a b x z ra rx rz (subst (λ os. AreChildren a os x) (sym c.as_slice.ensures.value) ca) (subst (λ os. AreChildren b os z) (sym c.as_slice-2.ensures.value) cb) (c.as_slice-3.ensures.value ∙ m))
+    (λ a b x z da dx ca cb m.
+    c.in_ok-mates.ensures.paired a b x z da dx (subst (λ os. AreChildren a os x) (sym c.as_slice.ensures.value) ca) (subst (λ os. AreChildren b os z) (sym c.as_slice-2.ensures.value) cb) (c.as_slice-3.ensures.value ∙ m))
     named c.in_ok-tags.ensures.used few in
     subst (λ ks. HasOwnTags (c.self.inside.view ++ spots_of c.args.level.symbols ks c.args.level.keys.items ∷ [])) (sym copied) (own_view q.seed q.xs (q.ys ++ q.y ∷ []) _ all)
 
@@ -97,8 +97,8 @@ returns-clause-added c seed xs ys y so_far next =
     let lines : map line_of c.push.new.self.items ≡ map line_of c.self.inside.ancestries.items ++ record { origins = c.args.level.origins.items; tags = c.in_ok-tags.tags.items } ∷ [] =
     ap (map line_of) c.in_ok-push.ensures.items ∙ map-append line_of c.self.inside.ancestries.items _ in
     let all = next_by seed xs ys y c.args.level _ h next (line_of c.line_at-old.result.now) old c.in_ok-mates.mates.items c.in_ok-tags.tags.items c.name_level.new.self
-    (λ a b x z ra rx rz ca cb m.
-    c.in_ok-mates.ensures.paired a b x z ra rx rz (subst (λ os. AreChildren a os x) (sym c.as_slice.ensures.value) ca) (subst (λ os. AreChildren b os z) (sym c.as_slice-2.ensures.value) cb) (c.as_slice-3.ensures.value ∙ m))
+    (λ a b x z da dx ca cb m.
+    c.in_ok-mates.ensures.paired a b x z da dx (subst (λ os. AreChildren a os x) (sym c.as_slice.ensures.value) ca) (subst (λ os. AreChildren b os z) (sym c.as_slice-2.ensures.value) cb) (c.as_slice-3.ensures.value ∙ m))
     named c.in_ok-tags.ensures.used few in
     subst (IsRevised seed xs (ys ++ y ∷ []))
     (λ i. record { old_lines = map line_of c.self.inside.olds.now; view = sym view i; lines = sym lines i; supply = c.name_level.new.self; mates = c.in_ok-mates.mates.items }) all

@@ -33,14 +33,15 @@ returns-in_err-reserve-clause-asked g c =
 
 pub loop-place-init : goal.loop-place-init
 loop-place-init g c =
-    let room = c.args.self.now.next.room in
-    let none : c.reserve.new.self ≡ nothing_asked room = c.reserve.ensures ∙ c.requires.new in
+    let numbering = c.args.beside.now.system.now.numbering in
+    let room = c.args.self.now.next.grown.room in
+    let none : c.reserve.new.self ≡ nothing_asked numbering room = c.reserve.ensures ∙ c.requires.new in
     record {
-      at = subst (IsAt 0) (sym none) (none_at room);
+      at = subst (IsAt 0) (sym none) (none_at numbering room);
       new = subst (λ (r : Rounded). AreNew c.args.store.now c.args.store.now r.fresh) (sym none) (none_new c.args.store.now);
       made = c.requires.made;
       asked = let none : filled c.reserve.new.self.fresh ≡ 0 = ap (λ (r : Rounded). filled r.fresh) none in omega (arith, none);
-      room = ap (λ (r : Rounded). r.next.room) c.reserve.ensures;
+      room = ap (λ (r : Rounded). r.next.grown.room) c.reserve.ensures;
       going = λ naming x is.
           subst (λ (r : Rounded). AskedTo c.args.beside.now.system.now c.args.beside.now.level (level_at c.args.beside.now.view.now c.args.beside.now.level) x (told c.args.store.now c.args.beside.now.olds.now) c.args.beside.now.mates.now c.args.store.now r c.args.visited.now c.args.visited.now 0)
           (sym none) (none_asked c.args.beside.now.system.now c.args.beside.now.level (level_at c.args.beside.now.view.now c.args.beside.now.level) x (told c.args.store.now c.args.beside.now.olds.now) c.args.beside.now.mates.now c.args.store.now room c.args.visited.now);

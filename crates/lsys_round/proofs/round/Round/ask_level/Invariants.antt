@@ -13,7 +13,7 @@ invariant-loop-place g l =
       new : AreNew l.fn.store l.store l.self.fresh;
       made : AreMadeAt l.store l.beside.olds.now;
       asked : l.asked ≡ l.fn.asked + filled l.self.fresh;
-      room : l.self.next.room ≡ l.fn.self.next.room;
+      room : l.self.next.grown.room ≡ l.fn.self.next.grown.room;
       going : (naming : ℕ → List ℕ) (x : List levels.Symbol) → IsRow naming l.beside.system.now.seed row x
           → AskedTo l.beside.system.now l.beside.level row x (told l.fn.store l.beside.olds.now) l.beside.mates.now l.store l.self l.fn.visited l.visited l.place;
     }

@@ -83,11 +83,11 @@ returns-clause-next g c =
     let s = stands_here c.args.beside.now.system.now (level_at c.args.beside.now.view.now c.args.beside.now.level) c.args.beside.now.mates.now c.args.place b.0 c.requires.level b.1 c.requires.place in
     let replaces = c.in_ok-settle.ensures.replaced b.0 b.1 in
     at_next g.row.L.Denot c.args.place b.0.seen c.args.beside.now.olds.now (slot_at c.args.beside.now.mates.now c.args.place) (option_map (λ a. a.now) c.old-old.result) c.in-Ok.found c.settle.new.self.next c.args.self.now c.open.new.self c.settle.new.self c.requires.next
-    c.in_ok-open.ensures.opened (c.in_ok-settle.ensures.settled b.0 b.1) (replaces.parents ∙ ap (λ (r : Rounded). r.next.parents + 1) c.in_ok-open.ensures.opened) c.old-old.ensures
+    c.in_ok-open.ensures.opened (c.in_ok-settle.ensures.settled b.0 b.1) (replaces.parents ∙ ap (λ (r : Rounded). r.next.grown.parents + 1) c.in_ok-open.ensures.opened) c.old-old.ensures
     (has_old g.row.L.Denot _ s.symbol _ c.in-Ok.found (c.in-Ok.ensures.replaced s.naming s.symbol s.here))
 
 pub returns-clause-room : goal.returns-clause-room
 returns-clause-room g c =
     let b = spot_at (level_at c.args.beside.now.view.now c.args.beside.now.level) c.args.place c.requires.place in
     let replaces = c.in_ok-settle.ensures.replaced b.0 b.1 in
-    replaces.room ∙ ap (λ (r : Rounded). r.next.room) c.in_ok-open.ensures.opened
+    replaces.room ∙ ap (λ (r : Rounded). r.next.grown.room) c.in_ok-open.ensures.opened

@@ -1,24 +1,16 @@
-use Rattle.std.proofs.Math.Nat.{mod-lt}
-use Rattle.std.proofs.Common.{◌≡◌, ◌<◌, ◌≤◌, ◌+◌, ◌%◌, length, map, ap, arith, subst, ◌∙◌, rules}
+use Rattle.std.proofs.Common.{◌≤◌, ◌+◌, length, ap, arith, subst, ◌∙◌}
 use Rattle.std.specs.Prelude.{filter}
 use Rattle.lsys_syntax.specs.Limits.{most_rules}
-use Rattle.lsys_spec.specs.Bodies.{is_for, table_at, word_at}
+use Rattle.lsys_spec.specs.Bodies.{is_for, table_at}
 use Rattle.lsys_module.specs.Views.{module_name}
-use Rattle.lsys_bodies.specs.Views.{production_of}
-use Rattle.lsys_rules.proofs.Grouping.{group_few, group_meant, word_there}
+use Rattle.lsys_rules.proofs.Grouping.{group_few, group_meant}
 use Rattle.lsys_rules.proofs.system.System.group.Goals as goal
 
 pub returns-clause-rules : goal.returns-clause-rules
 returns-clause-rules c =
     let a = c.args in
-    let ws = c.self.inside.parts.schedule.items in
-    let count : c.len.result ≡ length ws = search rules in
-    let some : 0 < length ws = c.self.invariant.0.some_word in
-    let within : a.level % c.len.result < length ws = rw count (mod-lt a.level some) in
-    let word = word_there ws (a.level % c.len.result) c.index-table.result.now within c.index-table.ensures ∙ ap (λ n. word_at ws (a.level % n)) count in
-    subst
-    (λ s. map production_of c.group.result.now ≡ filter (is_for (table_at s.schedule a.level) (module_name a.name) a.arity) s.rules) c.self.view_is
-    (c.group.ensures ∙ ap (λ t. filter (is_for t (module_name a.name) a.arity) c.self.inside.parts.rules) word)
+    c.group.ensures ∙ ap (λ t. filter (is_for t (module_name a.name) a.arity) c.self.inside.parts.rules) c.table.ensures
+    ∙ ap (λ s. filter (is_for (table_at a.self.now.schedule a.level) (module_name a.name) a.arity) s.rules) c.self.view_is
 
 pub returns-clause-bodies : goal.returns-clause-bodies
 returns-clause-bodies c =

@@ -1,4 +1,6 @@
-use Rattle.std.proofs.Common.{ap}
+use Rattle.std.proofs.Common.{ap, subst, sym, rules}
+use Rattle.lsys_laws.specs.Sessions.{IsWell, HasLevels}
+use Rattle.lsys_session.specs.Given.{IsKept}
 use Rattle.lsys_session.proofs.Editing.{edit_accepted, edit_refused, edit_counted, edit_few}
 use Rattle.lsys_session.proofs.session.Session.edit.Goals as goal
 use Rattle.lsys_session.proofs.session.Session.edit.Goals.{in-Ok, in-Err}
@@ -28,3 +30,17 @@ returns-clause-counts g c =
       | in-Ok w ↦ rw w.result-is (edit_counted g.D.Derivation.visits limit s new c.args.next (record { asked = c.args.asked.now; visited = c.args.visited.now }) (record { asked = c.edit.new.asked; visited = c.edit.new.visited }) kept.0 levels w.in-Ok.count w.accept.result kept.1 w.in-Ok.ensures.outcome w.in-Ok.ensures.counted w.in-Ok.ensures.asked w.in-Ok.ensures.read w.in-Ok.ensures.system w.accept.ensures.outcome)
       | in-Err w ↦ rw w.result-is (edit_few g.D.Derivation.visits limit s new c.args.next (record { asked = c.args.asked.now; visited = c.args.visited.now }) (record { asked = c.edit.new.asked; visited = c.edit.new.visited }) w.in-Err.refusal w.refuse_edit.result w.in-Err.ensures.few_asked w.in-Err.ensures.few_read w.refuse_edit.ensures.outcome)
     ])
+
+pub invariant_of-self : goal.invariant_of-self
+invariant_of-self g c =
+    let limit = g.D.Derivation.limit_of c.self.inside.derivation in
+    let new = g.D.Derivation.system_of c.edit.new.self in
+    let kept : IsKept limit new = elim c.match-edit.branch [
+      | in-Ok w ↦ record {
+        limited = c.self.invariant.limited;
+        well = (let well : IsWell c.args.next = search rules in subst IsWell (sym w.in-Ok.ensures.system) well);
+        levels = subst (HasLevels limit) (sym w.in-Ok.ensures.system) (w.in-Ok.ensures.outcome.meant, w.in-Ok.ensures.outcome.is);
+      }
+      | in-Err w ↦ subst (IsKept limit) (sym (ap g.D.Derivation.system_of w.in-Err.ensures.refused)) (search rules)
+    ] in
+    subst (λ n. IsKept n new) (sym c.edit.ensures.limit) kept

@@ -1,0 +1,13 @@
+use Rattle.std.proofs.Common.{ap, ap₂, sym, refl, ◌∙◌}
+use Rattle.std.specs.Cmp.Lexicographic.{lists_agrees}
+use Rattle.std.specs.Ordering.{is_lt, is_some_and}
+use Rattle.lsys_spec.specs.Systems.{comes_before}
+use Rattle.lsys_rules.proofs.OwnOrder.{before_compared}
+use Rattle.lsys_rules.proofs.names.comes_before.Goals as goal
+
+pub returns : goal.returns
+returns c =
+    let one = c.as_bytes.result.now in
+    let other = c.as_bytes-2.result.now in
+    c.lt.ensures ∙ ap (is_some_and is_lt) (lists_agrees (λ x y. refl) one other) ∙ sym (before_compared one other)
+    ∙ ap₂ comes_before (c.as_bytes.ensures.bytes ∙ c.text.ensures.text) (c.as_bytes-2.ensures.bytes ∙ c.text-2.ensures.text)
