@@ -2,30 +2,55 @@
 import re
 import subprocess
 
-# What an edit of this word is worth again that a script no longer has.
-OPENING = {"axiom": "axiom", "ignore": "ignore", "schedule": "schedule main", "seed": "seed 0", "depth": "depth 0", "lattice": "lattice square"}
+from replies import LONGEST_LINE, is_command, reply_from
+
+# What an edit of this word is worth again that a script no longer has. A version is never taken back.
+OPENING = {"axiom": b"axiom", "ignore": b"ignore", "schedule": b"schedule main", "seed": b"seed 0", "depth": b"depth 0",
+           "lattice": b"lattice square", "lineage": b"lineage places"}
 QUERIES = ("string", "segments", "svg", "show")
-RULE = re.compile(rb"\s*(production|hom)\s+(?:\w+\s+)?(\w+)\s*:")
+PICTURES = (b"segments", b"svg")
+RULE = re.compile(rb"[ \t]*(production|hom)[ \t]+(?:\w+[ \t]+)?(\w+)[ \t]*:")
+OWN_LIST = re.compile(rb"[ \t]*(?:(?:ignoring|consider)[ \t]+(\w+)[ \t]*:|common[ \t]+(\w+)[ \t]*$)")
+# Refusals that a line has by itself, whatever the lines before it are.
+BY_ITSELF = ("refused syntax ", "refused name ", "refused duplicate ")
+LONGEST_SHOWN = 2000
+# Of replies and pictures that may be asked for again, no more bytes are kept than this and one more reply.
+MOST_KEPT = 64000000
 
 
 class Ended(Exception):
-    """The program has ended, by `quit` or for want of what it needs."""
-
-
-def is_command(line):
-    """Whether a line has a reply, or is `quit`."""
-    return not line.startswith(b";") and line.strip(b" \t") != b""
+    """The program has ended, or was ended."""
 
 
 def key_of(line):
-    """What a line is about: ("production", label), ("hom", label), (word, None) for the other edits and the queries, or None."""
-    rule = RULE.match(line)
+    """What a line is about: ("production", label), ("hom", label), ("own", table), (word, None) for the other edits and the queries,
+    None for what depends on its place among the lines, and ("wrong", line) for what is no command."""
+    if len(line) > LONGEST_LINE:
+        return ("wrong", line)
+    rule, own = RULE.match(line), OWN_LIST.match(line)
     if rule:
-        return rule.group(1).decode(), rule.group(2).decode()
+        return rule.group(1).decode(), rule.group(2).decode("latin-1")
+    if own:
+        return "own", (own.group(1) or own.group(2)).decode("latin-1")
     word = (line.split() or [b""])[0].decode("latin-1")
     head = re.match(r"axiom|ignore", word)
     word = head.group() if head else word
-    return (word, None) if word in OPENING or word in QUERIES else None
+    if word in OPENING or word in QUERIES or word == "version":
+        return word, None
+    return None if word == "drop" else ("wrong", line)
+
+
+def is_query(line):
+    return (key_of(line) or ("",))[0] in QUERIES
+
+
+def as_reply(reply):
+    """A reply as a person sees it beside its line."""
+    if reply.startswith("segments ") or reply.startswith("<svg "):
+        return reply.split("\n", 1)[0]
+    if len(reply) > LONGEST_SHOWN:
+        return "%s .. (%d bytes in all)" % (reply[:LONGEST_SHOWN], len(reply) - 1)
+    return reply.rstrip("\n")
 
 
 class Program:
@@ -47,14 +72,10 @@ class Program:
             self.running.stdin.flush()
         except OSError:
             raise Ended from None
-        reply = [self.next_line()]
-        if reply[0].startswith(b"segments "):
-            reply += [self.next_line() for _ in range(int(reply[0].split()[1]))]
-        elif reply[0].startswith((b"<svg ", b"lattice ")):
-            last = b"</svg>" if reply[0].startswith(b"<svg ") else b"depth "
-            while not reply[-1].startswith(last):
-                reply.append(self.next_line())
-        return b"".join(reply).decode("latin-1")
+        return b"".join(reply_from(self.next_line(), self.next_line)).decode("latin-1")
+
+    def has_ended(self):
+        return self.running.poll() is not None
 
     def close(self):
         """Lets the program end by itself, and waits for it."""
@@ -67,18 +88,27 @@ class Program:
 
 
 class Session:
-    """The program that follows a script. `replies` has a reply for each command of the script, `sent` the lines that were sent since
-    it was last emptied, with their replies, and `held` each edit that was accepted last for what it is about, rules in the order
-    in which they stand."""
+    """The program that follows a script. `replies` has a reply for each command of the script, as a person sees it, `sent` the edits
+    that were sent for the last change with their replies, `pictures` those that queries within the script had, by the number of
+    the command, and `held` each edit that was accepted last for what it is about, rules in the order in which they stand."""
 
     def __init__(self, words):
         self.words, self.program = words, None
-        self.held, self.told, self.replies, self.sent = {}, {}, [], []
+        self.commands, self.replies, self.sent = [], [], []
+        self.forget()
+        self.forget_pictures()
+
+    def forget(self):
+        self.held, self.told, self.tried, self.answers = {}, {}, {}, {}
+        self.standing, self.is_exact = 0, True
+
+    def forget_pictures(self):
+        self.pictures, self.kept_of_pictures = {}, 0
 
     def start(self):
         self.close()
         self.program = Program(self.words)
-        self.held, self.told = {}, {}
+        self.forget()
 
     def close(self):
         if self.program:
@@ -90,68 +120,194 @@ class Session:
         if self.program:
             self.program.running.terminate()
 
+    def depth(self):
+        """The depth of the system, whatever level is being looked at."""
+        line = self.held.get(("depth", None))
+        return int(line.split()[1]) if line else 0
+
+    def lattice(self):
+        line = self.held.get(("lattice", None))
+        return line.split()[1].decode() if line else "square"
+
+    def stand_at(self, level=None):
+        """Lets the program derive no further than to this level, until it is asked for another one or an edit comes."""
+        wanted = self.depth() if level is None else min(level, self.depth())
+        if self.program and self.standing != wanted:
+            self.program.ask(b"depth %d" % wanted)
+            self.standing = wanted
+
+    def answer(self, line):
+        """The reply to a query, which is asked once between edits. A picture is told by its segments."""
+        words = b" ".join(line.split())
+        asked = b"segments" if words in PICTURES else line
+        if (self.standing, asked) not in self.answers:
+            if sum(map(len, self.answers.values())) > MOST_KEPT:
+                self.answers = {}
+            self.answers[self.standing, asked] = self.program.ask(asked)
+        return self.answers[self.standing, asked]
+
     def ask(self, line):
-        """Sends a line, keeps what it changed, and gives the reply."""
-        if self.program is None:
-            self.start()
-        reply = self.program.ask(line)
-        self.sent.append((line.decode("latin-1"), reply))
+        """Sends an edit, keeps what it changed, and gives the reply."""
         key = key_of(line)
-        self.told[key] = reply
-        if reply.startswith("ok ") and key:
-            self.held[key] = line
-        elif reply.startswith("ok "):
+        reply = self.program.ask(line).rstrip("\n")
+        self.sent.append((line.decode("latin-1"), reply))
+        self.told[key], self.tried[key] = reply, line
+        if not reply.startswith("ok "):
+            return reply
+        self.answers = {}
+        if key is None:
             label = line.split()[1].decode("latin-1")
-            self.held = {key: kept for key, kept in self.held.items() if key[1] != label}
+            self.held = {key: kept for key, kept in self.held.items() if key[0] not in ("production", "hom") or key[1] != label}
+        else:
+            self.held[key] = line
+        if key == ("depth", None):
+            self.standing = self.depth()
         return reply
 
-    def follow(self, script):
-        """Brings the session to what the script says: by its changed lines where that is enough, and else from its beginning.
-        Says in a word which of the two it was."""
+    def ask_in_turn(self, line):
+        """Sends a line of the script at its place among the others, and keeps its reply."""
+        if is_query(line):
+            reply = self.answer(line)
+            if reply.startswith("segments ") and self.kept_of_pictures <= MOST_KEPT:
+                self.kept_of_pictures += len(reply)
+                self.pictures[len(self.replies)] = reply
+        else:
+            reply = self.ask(line)
+        self.replies.append(as_reply(reply))
+
+    def follow(self, commands):
+        """Brings the session to what the commands of a script say: by its changed lines where that is enough, and else from its
+        beginning. Says in a word which of the two it was. Raises Ended where the program ends in between."""
         self.sent = []
-        commands = [line for line in lines_of(script) if is_command(line)]
-        changes = self.changes(commands)
-        try:
-            if changes is not None and self.program and all(self.is_kept(line) for line in changes):
-                self.replies = [self.ask(line) if key_of(line)[0] in QUERIES else self.told[key_of(line)] for line in commands]
+        if self.program:
+            if self.program.has_ended():
+                raise Ended
+            self.stand_at()
+            if self.goes_on(commands):
                 return "edited"
-        except Ended:
-            pass
+            changes = self.changes(commands)
+            if changes is not None and all(self.is_kept(line) for line in changes):
+                self.replies_again(commands)
+                return "edited"
         self.from_the_beginning(commands)
         return "begun anew"
 
+    def goes_on(self, commands):
+        """Asks the further ones of these commands where those before them have been asked already, and none behind them changed anything.
+        Says whether that was so."""
+        common = 0
+        while common < min(len(commands), len(self.commands)) and commands[common] == self.commands[common]:
+            common += 1
+        if not self.is_exact or not all(is_query(line) or reply.startswith("refused ") for line, reply in self.asked()[common:]):
+            return False
+        self.replies = self.replies[:common]
+        self.pictures = {place: picture for place, picture in self.pictures.items() if place < common}
+        for line in commands[common:]:
+            self.ask_in_turn(line)
+        self.commands = commands
+        return True
+
+    def asked(self):
+        """The script's commands with their replies."""
+        return list(zip(self.commands, self.replies))
+
+    def depends_on_places(self):
+        """Whether a line of the script is refused for want of another one before it, or was taken for no command and is one: only the
+        whole script is trusted then."""
+        for line, reply in self.asked():
+            if not is_query(line) and reply.startswith("refused ") and not reply.startswith(BY_ITSELF):
+                return True
+            if reply.startswith("ok ") and (key_of(line) or ("",))[0] == "wrong":
+                return True
+        return False
+
     def is_kept(self, line):
         """Sends an edit. A refusal that the other edits may have caused says that it has to be tried from the beginning."""
-        return self.ask(line).startswith(("ok ", "refused syntax ", "refused name ", "refused duplicate "))
+        reply = self.ask(line)
+        return reply.startswith(BY_ITSELF) or reply.startswith("ok ") and (key_of(line) or ("",))[0] != "wrong"
+
+    def replies_again(self, commands):
+        """The replies to commands whose edits have all been sent."""
+        self.commands, self.replies = commands, []
+        self.forget_pictures()
+        self.is_exact = True
+        keys = set(map(key_of, commands))
+        self.told = {key: reply for key, reply in self.told.items() if key and (key[0] != "wrong" or key in keys)}
+        for line in commands:
+            if is_query(line):
+                self.ask_in_turn(line)
+            else:
+                self.is_exact &= self.told[key_of(line)].startswith("ok ")
+                self.replies.append(self.told[key_of(line)])
 
     def from_the_beginning(self, commands):
         self.start()
-        self.replies, self.sent = [], []
-        try:
-            for line in commands:
-                self.replies.append(self.ask(line))
-        except Ended:
-            self.close()  # by quit, behind which nothing is a command
+        self.commands, self.replies, self.sent = commands, [], []
+        self.forget_pictures()
+        for line in commands:
+            self.ask_in_turn(line)
 
     def changes(self, commands):
         """The edits that make what is held to what these commands say, or None where only a new beginning does."""
         keys = [key_of(line) for line in commands]
-        asked = [key is not None and key[0] in QUERIES for key in keys]
-        edits = dict(zip(keys, commands)) if None not in keys else None
-        if edits is None or asked != sorted(asked) or len({key for key, query in zip(keys, asked) if not query}) != asked.count(False):
+        if self.depends_on_places() or not are_in_order(keys):
             return None
-        edits = {key: line for key, line in edits.items() if key[0] not in QUERIES}
-        gone = [key for key in self.held if key not in edits]
+        edits = {key: line for key, line in zip(keys, commands) if key[0] not in QUERIES}
+        gone = [key for key, line in self.held.items() if key not in edits and line != opening_of(key)]
+        if ("version", None) in gone or not self.rules_keep_their_order(edits):
+            return None
+        back = sorted(map(opening_of, gone), key=lambda line: line.startswith(b"drop"))
+        return back + [line for key, line in edits.items() if not self.stands(key, line)]
+
+    def stands(self, key, line):
+        """Whether this line was sent last of all about its key, and is held or was refused by itself."""
+        return self.tried.get(key) == line and (self.held.get(key) == line or not self.told[key].startswith("ok "))
+
+    def rules_keep_their_order(self, edits):
+        """Whether rules that stay do so in their order, with those that are new behind them."""
         for kind in ("production", "hom"):
             stays = [key for key in self.held if key[0] == kind and key in edits]
             wanted = [key for key in edits if key[0] == kind]
             if wanted[:len(stays)] != stays:
-                return None
-        back = [OPENING[word].encode() if label is None else b"drop " + label.encode() for word, label in gone]
-        return sorted(back, key=lambda line: line.startswith(b"drop")) + [line for key, line in edits.items() if self.held.get(key) != line]
+                return False
+        return True
 
 
-def lines_of(script):
-    """A script's lines, as the program reads them."""
-    lines = script.split(b"\n")
-    return [line[:-1] if line.endswith(b"\r") else line for line in lines]
+def opening_of(key):
+    """The edit that takes back what a key is about."""
+    word, name = key
+    if word == "own":
+        return b"common " + name.encode("latin-1")
+    return OPENING.get(word) if name is None else b"drop " + name.encode("latin-1")
+
+
+def are_in_order(keys):
+    """Whether commands about these keys mean the same by their last edit of each as one after another: no two are about the same, queries
+    come last, and so do edits that need others."""
+    if None in keys:
+        return False
+    found = [key for key in keys if key[0] != "wrong"]
+    edits = [key for key in found if key[0] not in QUERIES]
+    labels = [name for word, name in edits if word in ("production", "hom")]
+    return edits == found[:len(edits)] and len(set(edits)) == len(edits) and len(set(labels)) == len(labels) and needs_come_first(edits)
+
+
+def needs_come_first(edits):
+    """Whether the version is set first, tables are named behind the rules, and the depth behind all that levels come from: no line before
+    `depth` derives anything then, and none is refused for want of a later one."""
+    words = [word for word, _ in edits]
+    rules = [place for place, word in enumerate(words) if word == "production"]
+    named = [place for place, word in enumerate(words) if word in ("schedule", "own")]
+    behind_depth = words[words.index("depth") + 1:] if "depth" in words else []
+    return "version" not in words[1:] and (not rules or not named or rules[-1] < named[0]) and set(behind_depth) <= {"lattice", "hom"}
+
+
+def commands_before_end(lines):
+    """The commands of a script's lines with their places, up to `quit`, behind which nothing is a command."""
+    found = []
+    for place, line in enumerate(lines):
+        if line.strip(b" \t") == b"quit":
+            break
+        if is_command(line):
+            found.append((place, line))
+    return found

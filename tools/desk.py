@@ -1,0 +1,434 @@
+"""What the pages of `tools/look` work on: a script, the program that follows it, and the file that it is kept in."""
+import os
+import re
+import secrets
+import subprocess
+import tempfile
+import threading
+
+from figure import KINDS, Figure, joined
+from programs import TOP
+from replies import lines_of
+from session import Ended, as_reply, commands_before_end, is_query, key_of
+
+EXAMPLES = os.path.join(TOP, "examples")
+LONGEST_SCRIPT = 16777216
+# Replies that are shown beside their lines; of a longer script the first ones, and the refusals.
+MOST_REPLIES = 5000
+MOST_PICTURES = 100
+LONGEST_LEVEL = 20000
+# Texts of which it is known what they belonged to.
+MOST_LEFT = 20
+COUNTS = re.compile(r"ok (\d+)/(\d+)")
+PICTURE = re.compile(r"^<svg .*?^</svg>\n", re.S | re.M)
+
+
+class Wrong(Exception):
+    """A request that can't be met, with a word for the page."""
+
+    def __init__(self, word, status=409):
+        Exception.__init__(self, word)
+        self.status = status
+
+
+def as_text(data):
+    """A script's bytes as text, from which `as_bytes` makes the same bytes."""
+    return data.decode("utf-8", "surrogateescape")
+
+
+def as_bytes(text):
+    try:
+        return text.encode("utf-8", "surrogateescape")
+    except UnicodeEncodeError:
+        return text.encode("utf-8", "replace")
+
+
+def read(path):
+    """A file's bytes, or None where it can't be read now."""
+    try:
+        with open(path, "rb") as file:
+            return file.read(LONGEST_SCRIPT + 1)
+    except OSError:
+        return None
+
+
+def save(path, data):
+    """Puts a file in the place of another one in one step, so that each reader sees the one or the other."""
+    path = os.path.realpath(path)
+    folder = os.path.dirname(path)
+    number, room = tempfile.mkstemp(prefix=".lsys-", dir=folder)
+    try:
+        with os.fdopen(number, "wb") as file:
+            file.write(data)
+            file.flush()
+            os.fsync(file.fileno())
+        mask = os.umask(0)
+        os.umask(mask)
+        os.chmod(room, os.stat(path).st_mode & 0o7777 if os.path.exists(path) else 0o666 & ~mask)
+        os.replace(room, path)
+    except OSError:
+        os.unlink(room)
+        raise
+
+
+class Script:
+    """The text that one works on, by its lines, and the file that it belongs to, where there is one. `number` rises with each change
+    of the text. `on_disk` is what the file had when it was last read or written, `other` what another program put there since."""
+
+    def __init__(self, path=None):
+        self.path, self.name, self.number = path, os.path.basename(path) if path else "", 0
+        self.on_disk, self.other, self.seen, self.ends, self.opened = None, None, None, "\n", b""
+        self.lines, self.left = [""], {}
+        if path:
+            self.seen = self.sign()
+            self.on_disk = read(path) or b""
+            self.put(self.on_disk)
+
+    def put(self, data):
+        """Takes these bytes for the text. Line ends of two bytes are kept apart from it, since a page has one kind alone."""
+        text = as_text(data)
+        pairs = text.count("\r\n")
+        self.ends = "\r\n" if pairs and pairs == text.count("\n") else "\n"
+        self.lines = text.replace("\r\n", "\n").split("\n")
+        self.number += 1
+
+    def data(self):
+        return as_bytes(self.ends.join(self.lines))
+
+    def is_saved(self):
+        return self.path is not None and self.data() == self.on_disk
+
+    def belongs(self):
+        """The file that the text belongs to, and what it had."""
+        return self.path, self.name, self.on_disk, self.opened
+
+    def belong(self, belongs):
+        self.path, self.name, self.on_disk, self.opened = belongs
+        self.other, self.seen = None, None
+
+    def is_kept(self):
+        """Whether nothing would be lost if the text were gone."""
+        return self.is_saved() or self.data() in (self.opened, b"")
+
+    def change(self, first, removed, lines):
+        """Puts lines in the place of some."""
+        if not 0 <= first <= first + removed <= len(self.lines) or not all(isinstance(line, str) and "\n" not in line for line in lines):
+            raise Wrong("no such lines", 400)
+        changed = self.lines[:first] + lines + self.lines[first + removed:]
+        if sum(map(len, changed)) + len(changed) > LONGEST_SCRIPT + 1:
+            raise Wrong("a script has at most 16,777,216 bytes", 413)
+        self.lines = changed or [""]
+        self.number += 1
+        # A text that comes back by an undo belongs to what it belonged to.
+        belongs = self.left.get(self.data()) if self.left else None
+        if belongs and belongs[0] != self.path:
+            self.belong(belongs)
+
+    def open(self, data, name):
+        """Takes another text, which belongs to no file yet."""
+        self.left[self.data()] = self.belongs()
+        self.put(data)
+        self.belong((None, name, None, self.data()))
+        self.left.setdefault(self.data(), self.belongs())
+        while len(self.left) > MOST_LEFT:
+            del self.left[next(iter(self.left))]
+
+    def sign(self):
+        """What changes where the file does."""
+        try:
+            told = os.stat(self.path)
+            return told.st_mtime_ns, told.st_size, told.st_ino
+        except OSError:
+            return None
+
+    def look_at_file(self):
+        """Says whether another program has changed the file: "taken" where its text was taken over, "asked" where both have changed."""
+        sign = self.sign() if self.path else None
+        if sign is None or sign == self.seen:
+            return None
+        data = read(self.path)
+        if data is None:
+            return None
+        self.seen = sign
+        if data in (self.on_disk, self.other):
+            return None
+        if data == self.data():
+            self.on_disk, self.other = data, None
+            return "same"
+        if self.is_saved():
+            self.on_disk, self.other = data, None
+            self.put(data)
+            return "taken"
+        self.other = data
+        return "asked"
+
+    def save(self, path):
+        data = self.data()
+        save(path, data)
+        self.path, self.name, self.on_disk, self.other = path, os.path.basename(path), data, None
+        self.seen = self.sign()
+
+
+class Desk:
+    """What all pages see, numbered by `turn` so that a page can wait for the next one."""
+
+    def __init__(self, session, path=None):
+        self.session, self.script = session, Script(path)
+        self.changed = threading.Condition()
+        self.turn, self.stopping, self.sign = 0, False, secrets.token_hex(8)
+        self.how, self.notice, self.places, self.counts = "", [0, ""], [], None
+        with self.changed:
+            self.follow()
+
+    def say(self, word):
+        """A word that each page shows once."""
+        self.notice = [self.notice[0] + 1, word]
+
+    def tell(self):
+        self.turn += 1
+        self.changed.notify_all()
+
+    def follow(self):
+        """Brings the program to the script, and lets the pages know."""
+        found = commands_before_end(lines_of(as_bytes("\n".join(self.script.lines))))
+        self.places = [place for place, _ in found]
+        commands = [line for _, line in found]
+        for _ in range(2):
+            try:
+                self.how = self.session.follow(commands)
+                break
+            except Ended:
+                self.session.close()
+                if self.stopping:
+                    break
+                self.say("The program had ended. It was started again with the script.")
+        else:
+            place = self.places[min(len(self.session.replies), len(commands) - 1)] + 1 if commands else 1
+            self.say("The program ended at line %d, and once more when it was started again. The next change tries it anew." % place)
+        self.counts = counts(self.session.sent) or self.counts
+        self.tell()
+
+    def look_around(self):
+        """Looks whether the file was changed, and whether the program is still there."""
+        with self.changed:
+            what = self.script.look_at_file()
+            if what == "taken":
+                self.say("Another program changed the file. Its text was taken over.")
+            if what == "taken" or self.session.program and self.session.program.has_ended():
+                self.follow()
+            elif what:
+                self.tell()
+
+    def after(self, turn, text, seconds):
+        """The state once there is something newer than this turn, or after some seconds as it is."""
+        with self.changed:
+            self.changed.wait_for(lambda: self.turn > turn or self.stopping, seconds)
+            return self.state(text)
+
+    def state(self, text=None):
+        """All that a page shows but the picture, and the script where the page has another one than number `text`."""
+        script, session = self.script, self.session
+        replies = [list(pair) for pair in zip(self.places, session.replies)]
+        refused = [place for place, reply in replies if reply.startswith("refused ")]
+        told = replies[:MOST_REPLIES] + [pair for pair in replies[MOST_REPLIES:] if pair[1].startswith("refused ")][:MOST_REPLIES]
+        state = {"desk": self.sign, "turn": self.turn, "text": script.number, "name": script.name, "path": script.path, "saved": script.is_saved(), "kept": script.is_kept(),
+                 "asked": script.other is not None, "how": self.how, "sent": [[line[:200], reply] for line, reply in session.sent[-20:]],
+                 "counts": self.counts, "replies": told, "left_out": len(replies) - len(told), "refused": len(refused),
+                 "depth": session.depth(), "lattice": session.lattice(), "notice": self.notice, "running": session.program is not None,
+                 "pictures": [self.places[place] for place in sorted(session.pictures)[-MOST_PICTURES:] if place < len(self.places)],
+                 "size": sum(map(len, script.lines)) + len(script.lines) - 1}
+        if text != script.number:
+            state["script"] = "\n".join(script.lines)
+        return state
+
+    def has_text(self, number):
+        if number != self.script.number:
+            raise Wrong("another page changed the script")
+
+    def change(self, asked):
+        """A page's change of some lines of the text that it has."""
+        with self.changed:
+            self.has_text(asked["base"])
+            self.script.change(asked["first"], asked["removed"], asked["lines"])
+            self.follow()
+            return self.state(self.script.number)
+
+    def open(self, asked):
+        """Takes an example or a text for the script. The file that the old one belongs to stays as it is."""
+        with self.changed:
+            name = asked["name"]
+            data = as_bytes(asked["script"]) if "script" in asked else read(example(name))
+            if data is None or len(data) > LONGEST_SCRIPT:
+                raise Wrong("there is no such script", 404)
+            self.script.open(data, os.path.basename(name))
+            self.follow()
+            return self.state()
+
+    def save(self, asked):
+        """Writes the script into its file, or into another one of the folder in which the tool was started."""
+        with self.changed:
+            self.has_text(asked["text"])
+            path = self.script.path
+            if asked.get("name"):
+                path = asked["name"] if asked["name"].endswith(".lsys") else asked["name"] + ".lsys"
+                if os.path.basename(path) != path or path.startswith(".") or "\0" in path:
+                    raise Wrong("a name without a folder is wanted", 400)
+                path = os.path.abspath(path)
+                if os.path.exists(path) and not asked.get("replace"):
+                    raise Wrong("there is a file %s already" % os.path.basename(path))
+            if path is None:
+                raise Wrong("the script has no file yet", 400)
+            if self.script.other is not None and not asked.get("name"):
+                raise Wrong("another program changed the file")
+            try:
+                self.script.save(path)
+            except OSError as error:
+                raise Wrong("it can't be saved: %s" % error.strerror, 500) from None
+            self.say("Saved as %s." % path)
+            self.tell()
+            return self.state(self.script.number)
+
+    def settle(self, asked):
+        """What becomes of two texts, this one and the one that another program put into the file."""
+        with self.changed:
+            script = self.script
+            if script.other is not None:
+                script.on_disk, script.other = script.other, None
+                if asked["take"]:
+                    script.put(script.on_disk)
+                    self.follow()
+                else:
+                    self.tell()
+            return self.state()
+
+    def ask(self, asked):
+        """The reply to a query that is no line of the script."""
+        line = as_bytes(asked["line"])
+        if b"\n" in line or key_of(line) is None or not is_query(line):
+            raise Wrong("only queries are asked here: string, string N, segments, svg, show", 400)
+        with self.changed:
+            def asked_of_all():
+                self.session.stand_at()
+                return self.session.answer(line)
+            reply = self.from_program(asked_of_all)
+            return {"reply": as_reply(reply) if reply.startswith("segments ") else reply[:LONGEST_LEVEL], "length": len(reply)}
+
+    def from_program(self, asked):
+        """What the running program answers; it is started again where it has ended."""
+        for _ in range(2):
+            try:
+                if self.session.program:
+                    return asked()
+            except Ended:
+                self.session.close()
+            self.follow()
+        raise Wrong("the program doesn't run", 503)
+
+    def segments(self, level=None, line=None):
+        """The segments of a level, or of the picture that a line of the script asks for."""
+        if line is not None:
+            found = {self.places[place]: picture for place, picture in self.session.pictures.items() if place < len(self.places)}
+            if line not in found:
+                raise Wrong("this line asks for no picture", 404)
+            return found[line]
+
+        def asked():
+            self.session.stand_at(level)
+            return self.session.answer(b"segments")
+        return self.from_program(asked)
+
+    def picture(self, text, level, line, most):
+        """The segments for a page that has this text, or their number alone where they are more than `most`."""
+        with self.changed:
+            self.has_text(text)
+            reply = self.segments(level, line)
+            if reply.startswith("segments ") and int(reply.split("\n", 1)[0].split()[1]) > most:
+                reply = reply.split("\n", 1)[0] + "\n"
+            return reply.encode("latin-1"), self.session.lattice(), self.session.standing
+
+    def level(self, text, number):
+        """A level's string, or its beginning, and how long it is."""
+        with self.changed:
+            self.has_text(text)
+
+            def asked():
+                if number > self.session.standing:
+                    self.session.stand_at()
+                return self.session.answer(b"string %d" % number)
+            reply = self.from_program(asked).rstrip("\n")
+            return {"level": number, "string": reply[:LONGEST_LEVEL], "length": len(reply)}
+
+    def export(self, kind, level, line):
+        """The picture as a file of a kind."""
+        with self.changed:
+            if kind == "svg" and line is None:
+                def asked():
+                    self.session.stand_at(level)
+                    return self.session.program.ask(b"svg")
+                reply = self.from_program(asked)
+            else:
+                reply = self.segments(level, line)
+            if reply.startswith("refused "):
+                raise Wrong("there is no picture: " + reply.rstrip("\n"))
+            if kind in ("obj", "dxf") or kind == "svg" and line is not None:
+                rows = (tuple(map(int, row.split())) for row in reply.split("\n")[1:-1])
+                return "".join(text + "\n" for text in KINDS[kind](Figure(self.session.lattice(), joined(rows)))).encode()
+            return reply.encode("latin-1")
+
+    def stop(self):
+        """Ends the program and lets the pages go; says whether the text is kept elsewhere."""
+        with self.changed:
+            self.stopping = True
+            self.changed.notify_all()
+            self.session.close()
+            return self.script.is_kept()
+
+
+def counts(sent):
+    """How many of all questions the edits of the last change asked, as [M, T], or None where none was accepted."""
+    found = [COUNTS.match(reply) for _, reply in sent]
+    found = [tuple(map(int, match.groups())) for match in found if match]
+    return [min(sum(new for new, _ in found), found[-1][1]), found[-1][1]] if found else None
+
+
+def example(name):
+    """The path of an example; of a name that can be none, a path where nothing is."""
+    return os.path.join(EXAMPLES, name + ".lsys" if re.fullmatch(r"\w+", name) else "none")
+
+
+class Gallery:
+    """The examples, in their order, each with what its comment says of it and its picture."""
+
+    def __init__(self, words):
+        self.words, self.pictures, self.busy = words, {}, threading.Lock()
+
+    def entries(self):
+        """Headings, and below each the examples."""
+        entries = []
+        for line in as_text(read(os.path.join(EXAMPLES, "gallery.txt")) or b"").splitlines():
+            word = line.strip().rstrip("*").strip()
+            if word.startswith("#"):
+                entries.append({"heading": word.lstrip("# "), "examples": []})
+            elif word and entries and os.path.exists(example(word)):
+                entries[-1]["examples"].append({"name": word, "about": about(word)})
+        return entries
+
+    def picture(self, name):
+        """The last picture of an example, or None where it has none."""
+        with self.busy:
+            if name not in self.pictures:
+                script = read(example(name)) or b""
+                ran = subprocess.run(self.words, input=script, stdout=subprocess.PIPE, stderr=subprocess.DEVNULL)
+                found = PICTURE.findall(ran.stdout.decode("latin-1"))
+                self.pictures[name] = found[-1] if found else None
+            return self.pictures[name]
+
+
+def about(name):
+    """The comment at the head of an example, in one line."""
+    lines = []
+    for line in as_text(read(example(name)) or b"").splitlines():
+        if not line.startswith(";"):
+            break
+        lines.append(line.lstrip("; "))
+    return " ".join(lines)
