@@ -1,36 +1,56 @@
-# make help lists what there is.
+# make help lists what there is. The times are of one processor; where other work is done on the machine, by the clock they are more.
 PREFIX ?= /usr/local
+# Of `make look`, whether a person named a script.
+LOOK_ORIGIN := $(if $(filter undefined,$(origin SCRIPT)),file,named)
 SCRIPT ?= examples/plant_b.lsys
+# Where Inkscape looks, if it is here.
+INKSCAPE_EXTENSIONS ?= $(shell { inkscape --system-data-directory 2>/dev/null || echo $(PREFIX)/share/inkscape; } | tail -1)/extensions
+PACKED := lsys-$(shell cat VERSION)-x86_64-linux
 .DEFAULT_GOAL := bin/lsys
+# A script's path reaches the tools as it is, with its blanks and quotes.
+export SCRIPT
 
-bin/lsys: $(shell find crates -name '*.rt' -path '*/src/*') $(shell find crates -name '*.antt' -not -path '*/out/*') crates.txt
+bin/lsys: $(shell find crates -name '*.rt' -path '*/src/*') $(shell find crates -name '*.antt' -not -path '*/out/*') crates.txt | python3
 	@tools/prove
 
-.PHONY: help run look gallery install test
+.PHONY: help python3 run look gallery check test dist install
 
 help:
-	@echo 'make                     proves the program and builds it as bin/lsys: minutes the first time, and says how far it is'
 	@echo 'make run [SCRIPT=path]   runs a script, examples/plant_b.lsys by default, and puts its pictures into build/pictures:'
-	@echo '                         half a minute the first time, then at once'
-	@echo 'make look [SCRIPT=path]  shows a script in a browser, and draws it anew each time it is saved'
+	@echo '                         2 minutes of one processor where a program has to be built, then at once'
+	@echo 'make look [SCRIPT=path]  opens a script in a browser, to be edited beside its picture; without SCRIPT a gallery to begin from'
+	@echo 'make                     proves the program and builds it as bin/lsys, and says how far it is: an hour from nothing, after a'
+	@echo '                         change what stands on it'
 	@echo 'make gallery             draws all scripts of examples/ with the proved program on one page, gallery/index.html'
-	@echo 'make install [PREFIX=..] installs bin/lsys as PREFIX/bin/lsys, and the manual page'
-	@echo 'make test                the whole gate, as .ci/run: over an hour from nothing'
+	@echo 'make check               the tests for between commits, without a proof: some minutes'
+	@echo 'make test                the whole gate, as .ci/run: some 5 hours of one processor from nothing'
+	@echo 'make dist                packs the proved program for people without the toolchain: build/$(PACKED).tar.gz and .deb'
+	@echo 'make install [PREFIX=..] installs the program, the manual page and the extension for Inkscape'
 	@echo 'make help                this list'
 
-run:
-	@tools/run $(SCRIPT)
+python3:
+	@command -v python3 >/dev/null || { echo '; there is no python3 in PATH: the tools need Python 3.9 or newer (README.md)' >&2; exit 127; }
 
-look:
-	@tools/look $(SCRIPT)
+run: python3
+	@tools/run "$$SCRIPT"
+
+look: python3
+	@tools/look $(if $(filter file,$(LOOK_ORIGIN)),,"$$SCRIPT")
 
 gallery: bin/lsys
 	@tools/gallery --program bin/lsys
 
-install: bin/lsys
-	install -d $(DESTDIR)$(PREFIX)/bin $(DESTDIR)$(PREFIX)/share/man/man1
-	install bin/lsys $(DESTDIR)$(PREFIX)/bin/lsys
-	install -m 644 docs/lsys.1 $(DESTDIR)$(PREFIX)/share/man/man1/lsys.1
+check: python3
+	@tools/check
 
 test:
 	.ci/run
+
+dist: bin/lsys
+	@tools/dist --program bin/lsys
+
+install: bin/lsys
+	install -d "$(DESTDIR)$(PREFIX)/bin" "$(DESTDIR)$(PREFIX)/share/man/man1" "$(DESTDIR)$(INKSCAPE_EXTENSIONS)/lsys"
+	install bin/lsys "$(DESTDIR)$(PREFIX)/bin/lsys"
+	install -m 644 docs/lsys.1 "$(DESTDIR)$(PREFIX)/share/man/man1/lsys.1"
+	install -m 644 tools/figure.py tools/replies.py tools/inkscape/lsys.inx tools/inkscape/lsys_inkscape.py "$(DESTDIR)$(INKSCAPE_EXTENSIONS)/lsys"

@@ -1,16 +1,27 @@
-"""The programs that this checkout has built, whether they are newer than all that they were made from, and how one is built
-without proofs."""
+"""The programs that this checkout has built, and whether they are newer than all that they were made from. Where there are tools and
+no sources, as where they are installed, the program that came with them."""
 import os
+import shutil
 import subprocess
 import sys
 import tempfile
-import threading
 import time
 
-TOP = os.path.dirname(os.path.dirname(os.path.abspath(__file__)))
+sys.dont_write_bytecode = True
+from building import NO_TOOLCHAIN, build_without_proofs
+from telling import give_up, say
+
+TOP = os.path.dirname(os.path.dirname(os.path.realpath(__file__)))
 # `make` keeps the proved program in bin/; the gate leaves it in the crate's own folder.
 PROVED = [os.path.join(TOP, "bin", "lsys"), os.path.join(TOP, "crates", "lsys", "out", "lsys")]
 UNPROVED = os.path.join(TOP, "build", "lsys-unproved")
+# Of an unproved build, as README.md and `make help` tell it.
+UNPROVED_COST = "2 minutes"
+
+
+def is_checkout():
+    """Whether the sources are here."""
+    return os.path.exists(os.path.join(TOP, "crates.txt"))
 
 
 def crates_of_the_program():
@@ -57,66 +68,62 @@ def fresh_proved():
 
 
 def shown(path):
-    """A path as one types it at the top of the checkout."""
-    return os.path.relpath(path, TOP)
-
-
-def say(text):
-    print("; " + text, file=sys.stderr, flush=True)
-
-
-def keep_what_is_linked(folder, kept, done):
-    """While `rt try` works in the folder, keeps the program that it links there and would remove after its run."""
-    while not done.is_set():
-        for at, _, files in os.walk(folder):
-            if "program" in files:
-                try:
-                    os.link(os.path.join(at, "program"), kept)
-                    return
-                except OSError:
-                    pass  # it is not whole yet, or already gone
-        time.sleep(0.005)
-
-
-def build_without_proofs(crate, folder):
-    """Builds the program of a crate's folder inside another folder, and returns its path. Ends this process where the toolchain
-    can't build it."""
-    work, kept = os.path.join(folder, "work"), os.path.join(folder, "kept")
-    os.mkdir(work)
-    done = threading.Event()
-    keeper = threading.Thread(target=keep_what_is_linked, args=(work, kept, done))
-    keeper.start()
-    ran = subprocess.run(["rt", "try"], cwd=crate, env={**os.environ, "TMPDIR": work}, stdin=subprocess.DEVNULL, stdout=subprocess.PIPE,
-                         stderr=subprocess.STDOUT, errors="replace")
-    done.set()
-    keeper.join()
-    if ran.returncode or not os.path.exists(kept):
-        sys.stderr.write(ran.stdout)
-        say("no program was built (rt try ended with status %d, and said what stands above)" % ran.returncode)
-        sys.exit(ran.returncode or 1)
-    return kept
+    """A path as one types it in the folder that one is in."""
+    near = os.path.relpath(path)
+    return path if near.startswith("../..") else near
 
 
 def build_unproved():
-    """Builds the program without proofs and keeps it."""
+    """Builds the program without proofs and keeps it. Says what it costs, stage by stage."""
+    if not shutil.which("rt"):
+        give_up(NO_TOOLCHAIN, 127)
+    say("no built program is newer than the sources: building one without proofs, by estimate %s of one processor .." % UNPROVED_COST)
     os.makedirs(os.path.dirname(UNPROVED), exist_ok=True)
     begun = time.time()
     with tempfile.TemporaryDirectory(prefix="unproved-", dir=os.path.dirname(UNPROVED)) as folder:
-        kept = build_without_proofs(os.path.join(TOP, "crates", "lsys"), folder)
+        kept, is_fast = build_without_proofs(os.path.join(TOP, "crates", "lsys"), folder)
         # An edit made while it was being built makes it stale.
         os.utime(kept, (begun, begun))
         os.replace(kept, UNPROVED)
+    if not is_fast:
+        say("this toolchain gave a slow program, some hundred times slower than the proved one, which make builds")
+
+
+def ready_program():
+    """The program that came with these tools, where no sources did; or one that is installed."""
+    beside = PROVED[0]
+    program = beside if os.access(beside, os.X_OK) else shutil.which("lsys")
+    return program or give_up("there is no program: neither %s nor lsys in PATH" % beside)
 
 
 def fresh_program():
     """The path of a program that is newer than all sources: a proved one where there is one, and else an unproved one, which is
     built where that is needed. Says which one it is."""
+    if not is_checkout():
+        return ready_program()
     program = fresh_proved()
     if program:
         say("by the proved program %s" % shown(program))
         return program
     if not is_fresh(UNPROVED):
-        say("no built program is newer than the sources: building one without proofs, which takes 20 to 60 seconds ..")
         build_unproved()
     say("by the unproved build %s (make proves the program, and builds bin/lsys)" % shown(UNPROVED))
     return UNPROVED
+
+
+def checked(program, words=()):
+    """The path of a program that a person named, with these words. Ends this process where it doesn't answer as `lsys` does."""
+    named = os.path.abspath(program)
+    try:
+        ran = subprocess.run([named] + list(words), input=b"depth 0\n", stdout=subprocess.PIPE, stderr=subprocess.PIPE, timeout=60)
+    except (OSError, subprocess.TimeoutExpired) as error:
+        give_up("no program can be run at %s: %s" % (program, getattr(error, "strerror", None) or "it doesn't end"))
+    if ran.stdout != b"ok 0/0\n":
+        said = (ran.stderr or b"it doesn't answer as lsys does").decode(errors="replace").strip().split("\n")[0]
+        give_up("%s: %s" % (" ".join([program] + list(words)), said))
+    return named
+
+
+def program_of(named, words=()):
+    """The program that a person named or else a fresh one; both have to take these words."""
+    return checked(named or fresh_program(), words) if named or words else fresh_program()

@@ -1,0 +1,72 @@
+"""What a tool says itself: a line on standard error. A machine that lacks something, a wrong word and a reader that has gone are told
+so, and never by a traceback."""
+import argparse
+import os
+import signal
+import sys
+
+
+def say(text):
+    print("; " + text, file=sys.stderr, flush=True)
+
+
+def give_up(text, status=1):
+    """Ends the process with a line that says why."""
+    say(text)
+    sys.exit(status)
+
+
+class Words(argparse.ArgumentParser):
+    """The words of a tool. Its usage is the tool's own description, and a wrong word is told in a line."""
+
+    def __init__(self, description):
+        argparse.ArgumentParser.__init__(self, usage=description.replace("%", "%%"), add_help=False)
+        self.description_of_tool = description
+        self.add_argument("-h", "--help", action="store_true")
+
+    def parse_args(self, *words):
+        if {"-h", "--help"} & set(sys.argv[1:]):
+            print(self.description_of_tool)
+            sys.exit(0)
+        return argparse.ArgumentParser.parse_args(self, *words)
+
+    def error(self, message):
+        give_up("%s (%s --help says more)" % (message, os.path.relpath(sys.argv[0])), 2)
+
+
+def port(text):
+    """A number of a port, as the words of a tool give it."""
+    if not text.isdigit() or int(text) > 65535:
+        raise argparse.ArgumentTypeError("a port is a number from 0 to 65535, and 0 takes a free one; not %s" % text)
+    return int(text)
+
+
+def read_no_further(*_):
+    """Lets what would still go to standard output vanish, since nobody reads it."""
+    os.dup2(os.open(os.devnull, os.O_WRONLY), 1)
+
+
+def as_status(main):
+    """Runs a tool, and gives the status of its end."""
+    try:
+        return main()
+    except BrokenPipeError:
+        return 0
+    except KeyboardInterrupt:
+        say("stopped")
+        return 130
+    except OSError as error:
+        say("%s%s" % (error.strerror or error, ": " + str(error.filename) if error.filename else ""))
+        return 1
+
+
+def run_tool(main):
+    """Runs a tool and ends its process."""
+    # What a tool started is ended in order at this signal too.
+    signal.signal(signal.SIGTERM, lambda *_: sys.exit(143))
+    status = as_status(main)
+    try:
+        sys.stdout.flush()
+    except OSError:
+        read_no_further()
+    sys.exit(status)
