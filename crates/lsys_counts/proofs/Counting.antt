@@ -4,8 +4,7 @@ use Rattle.std.specs.Prelude.{slice_get}
 use Rattle.lsys_spec.specs.Systems.{System}
 use Rattle.lsys_spec.specs.Levels.{Symbol, Push, Pop, Module}
 use Rattle.lsys_spec.specs.Questions.{Question, differs}
-use Rattle.lsys_need.specs.Kept.{questions_by_place, present, unanswered}
-use Rattle.lsys_asking.specs.Replaced.{question_here}
+use Rattle.lsys_laws.specs.KeptQuestions.{questions_by_place, present, unanswered, question_here}
 use Rattle.lsys_counts.specs.Slots.{slot_at, filled}
 
 -- 1. the question at a place

@@ -2,7 +2,7 @@
 use Rattle.std.proofs.Common.{◌≡◌, ℕ, zero, suc, ◌+◌, ◌≤◌, Option, List, [], ◌∷◌, ◌++◌, length, refl, sym, subst, arith, get_or}
 use Rattle.lsys_spec.specs.Systems.{System}
 use Rattle.lsys_spec.specs.Levels.{Symbol}
-use Rattle.lsys_need.specs.Kept.{places_in}
+use Rattle.lsys_laws.specs.KeptQuestions.{places_in}
 use Rattle.lsys_level.specs.Spots.{Spotted}
 use Rattle.lsys_match.specs.TagQuestions.{TagAnswer}
 use Rattle.lsys_counts.specs.Slots.{AreFound, AreAllFound}

@@ -5,9 +5,9 @@ use Rattle.std.proofs.lemmas.Option.{slice_get-map}
 use Rattle.lsys_spec.specs.Draws.{key_of}
 use Rattle.lsys_spec.specs.Levels.{ModuleValue, Symbol, lineage}
 use Rattle.lsys_spec.specs.Levels as L
-use Rattle.lsys_level.specs.Spots.{Spotted, Module, level_at, named}
+use Rattle.lsys_level.specs.Spots.{Spotted, Module, level_at, named, seen_by}
 use Rattle.lsys_revision.specs.Lines.{Line, AreLines}
-use Rattle.lsys_revision.specs.Revised.{AreOldLevels, all_spots, seen_by, spots_by, tags_of}
+use Rattle.lsys_revision.specs.Revised.{AreOldLevels, all_spots, spots_by, tags_of}
 use Rattle.lsys_counts.specs.Counted.{AreKeyed}
 
 spot_of : (seed : ℕ) (y : List Symbol) (ks : List ℕ) → length ks ≡ length y → (p : ℕ) (s : Symbol) → slice_get y p ≡ Some s

@@ -14,15 +14,14 @@ use Rattle.lsys_spec.proofs.Answered.{answered}
 use Rattle.lsys_spec.proofs.Eachs.{each_front, each_back}
 use Rattle.lsys_spec.proofs.Needs.{Derived, derived}
 use Rattle.lsys_spec.proofs.Offspring.{has_balance, grown}
-use Rattle.lsys_need.specs.Kept.{places_in, where_grouped, level_questions, kept_from, kept_questions, kept_at, unanswered, level_needs, needs_from}
-use Rattle.lsys_need.proofs.Lookups.{all_present, kept_there}
+use Rattle.lsys_laws.specs.KeptQuestions.{places_in, where_grouped, level_questions, kept_from, kept_questions, kept_at, unanswered, level_needs, needs_from, question_here}
+use Rattle.lsys_laws.proofs.Lookups.{all_present, kept_there}
 use Rattle.std.proofs.lemmas.List.Sums.{length-filter}
-use Rattle.lsys_need.proofs.Counts.{of_levels}
+use Rattle.lsys_laws.proofs.NeedsByLevels.{of_levels}
 use Rattle.lsys_level.specs.Spots.{Spotted}
 use Rattle.std.specs.Option.{IsSomeAnd}
 use Rattle.lsys_match.specs.TagQuestions.{TagAnswer}
 use Rattle.lsys_revision.specs.Revised.{AreNamedTogether}
-use Rattle.lsys_asking.specs.Replaced.{question_here}
 use Rattle.lsys_counts.specs.Slots.{slot_at, slot_of, IsAnswerHere, IsSlot, IsFound, AreFound, AreAllSlots, AreAllFound, filled}
 use Rattle.lsys_counts.specs.Counted.{HasLevels, AreKeyed, AreCounted}
 use Rattle.lsys_counts.proofs.Counting.{by_place, places_length, count_new, count_asked, one, one_new}

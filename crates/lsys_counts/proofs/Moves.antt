@@ -8,14 +8,13 @@ use Rattle.lsys_spec.specs.Systems.{System, Each}
 use Rattle.lsys_spec.specs.Levels.{Symbol}
 use Rattle.lsys_spec.specs.Cuts.{Distinct}
 use Rattle.lsys_spec.specs.Questions.{Question}
-use Rattle.lsys_need.specs.Kept.{places_in}
+use Rattle.lsys_laws.specs.KeptQuestions.{places_in, question_here}
 use Rattle.lsys_walks.specs.Stores.{Store}
 use Rattle.lsys_level.specs.Spots.{Spotted}
 use Rattle.lsys_match.specs.Kept.{Kept}
 use Rattle.lsys_match.specs.Stored.{answer_in}
 use Rattle.lsys_match.specs.TagQuestions.{TagAnswer}
 use Rattle.lsys_pairing.proofs.Apart.{mates_apart}
-use Rattle.lsys_asking.specs.Replaced.{question_here}
 use Rattle.lsys_keeping.specs.Answers.{level_of, CanMove}
 use Rattle.lsys_counts.specs.Slots.{slot_at, slot_of, IsAnswerHere, IsFound, AreFound, AreAllFound}
 use Rattle.lsys_counts.specs.Counted.{slots_in, all_slots_in}

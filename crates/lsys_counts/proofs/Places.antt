@@ -10,16 +10,15 @@ use Rattle.lsys_spec.specs.Questions.{Question, question, differs}
 use Rattle.lsys_spec.specs.Standings.{place_of}
 use Rattle.lsys_spec.proofs.Equal.{same_question_refl}
 use Rattle.lsys_spec.proofs.Standings.{place_told}
-use Rattle.lsys_need.specs.Kept.{where_grouped, kept_at}
+use Rattle.lsys_laws.specs.KeptQuestions.{where_grouped, kept_at, question_here}
 use Rattle.lsys_level.specs.Spots.{Seen, Spotted, level_by}
 use Rattle.lsys_level.specs.Spots as S
 use Rattle.lsys_match.specs.Asks.{IsNamedAt}
 use Rattle.lsys_match.specs.TagQuestions.{TagAnswer}
-use Rattle.lsys_pairing.specs.Tagged.{NamesTell}
+use Rattle.lsys_level.specs.Tags.{NamesTell}
 use Rattle.lsys_revision.specs.Revised.{IsKeyed}
 use Rattle.lsys_recall.specs.Recalled.{IsAnswerThere, asked_there}
 use Rattle.lsys_recall.proofs.Same.{same_answers}
-use Rattle.lsys_asking.specs.Replaced.{question_here}
 use Rattle.lsys_counts.specs.Slots.{slot_at, slot_of, IsAnswerHere, IsSlot, IsFound}
 use Rattle.lsys_counts.proofs.Counting.{one, one_new}
 

@@ -14,8 +14,8 @@ use Rattle.lsys_match.specs.Stored.{answer_in}
 use Rattle.lsys_match.specs.TagQuestions.{TagAnswer}
 use Rattle.lsys_pairing.specs.Moves.{moved}
 use Rattle.lsys_pairing.proofs.Taking.{moved_length, moved_there, moved_not}
-use Rattle.lsys_asking.specs.Replaced.{question_here}
 use Rattle.lsys_keeping.specs.Answers.{level_of, answer_at, moved_from, AllStayMade}
+use Rattle.lsys_laws.specs.KeptQuestions.{question_here}
 use Rattle.lsys_counts.specs.Slots.{slot_at, slot_of, IsAnswerHere, IsSlot, AreSlots, IsFound, AreFound, AreAllSlots, AreAllFound, filled}
 use Rattle.lsys_counts.specs.Counted.{slots_in, all_slots_in}
 

@@ -3,7 +3,7 @@ use Rattle.std.specs.Prelude.{◌≡◌, ◌⊎◌, ℕ, Option, Some, Ok, List,
 use Rattle.lsys_spec.specs.Systems.{System, WellSpelled}
 use Rattle.lsys_spec.specs.Levels.{ModuleValue, Symbol, Module}
 use Rattle.lsys_spec.specs.Meaning.{meaning}
-use Rattle.lsys_need.specs.Kept.{places_in}
+use Rattle.lsys_laws.specs.KeptQuestions.{places_in}
 use Rattle.lsys_walks.specs.Stores.{Store}
 use Rattle.lsys_level.specs.Spots.{Spotted, level_at, level_by}
 use Rattle.lsys_match.specs.Kept.{Kept}

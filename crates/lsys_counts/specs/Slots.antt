@@ -4,11 +4,10 @@ use Rattle.std.specs.Option.{IsSomeAnd}
 use Rattle.lsys_spec.specs.Systems.{System}
 use Rattle.lsys_spec.specs.Levels.{Symbol, ModuleValue}
 use Rattle.lsys_spec.specs.Questions.{Question}
-use Rattle.lsys_need.specs.Kept.{places_in}
+use Rattle.lsys_laws.specs.KeptQuestions.{places_in, question_here}
 use Rattle.lsys_level.specs.Spots.{Spotted}
 use Rattle.lsys_match.specs.TagQuestions.{TagAnswer}
 use Rattle.lsys_recall.specs.Recalled.{IsAnswerThere}
-use Rattle.lsys_asking.specs.Replaced.{question_here}
 
 -- 1. what is kept
 

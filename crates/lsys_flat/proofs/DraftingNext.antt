@@ -15,8 +15,7 @@ use Rattle.lsys_walks.specs.Stores.{Store}
 use Rattle.lsys_match.specs.Kept.{Kept}
 use Rattle.lsys_match.specs.Derivations.{Rises, most_read}
 use Rattle.lsys_match.specs.TagQuestions.{TagAnswer}
-use Rattle.lsys_need.specs.Kept.{places_in}
-use Rattle.lsys_asking.specs.Replaced.{question_here}
+use Rattle.lsys_laws.specs.KeptQuestions.{places_in, question_here}
 use Rattle.lsys_pairing.specs.Origins.{root}
 use Rattle.std.proofs.lemmas.Option.{slice_get_within}
 use Rattle.lsys_rewrite.specs.Faults.{fault_of}

@@ -25,3 +25,6 @@ pub mod KeptLevels
 pub mod StringsTold
 pub mod Orders
 pub mod KeptOwn
+pub mod Lineages
+pub mod Lookups
+pub mod NeedsByLevels

@@ -19,3 +19,4 @@ pub mod BodyExamples
 pub mod WordExamples
 pub mod DefinitionExamples
 pub mod LawExamples
+pub mod KeptQuestions

@@ -20,6 +20,12 @@ with_lineage l Push = L.Push l
 with_lineage l Pop = L.Pop l
 with_lineage l (Module m) = L.Module l m
 
+-- what is seen of a symbol
+abbrev pub seen_by : L.Symbol → Seen
+seen_by (L.Push l) = Push
+seen_by (L.Pop l) = Pop
+seen_by (L.Module l m) = Module m
+
 -- the symbol, where a naming tells the lineage of each tag
 abbrev pub named : (ℕ → List ℕ) → Spotted → L.Symbol
 named naming s = with_lineage (naming s.tag) s.seen

@@ -1,5 +1,5 @@
 -- What tags tell: a tag stands for a level and a lineage.
-use Rattle.std.specs.Prelude.{◌≡◌, ℕ, ◌<◌, Some, List, [], map, slice_index_or}
+use Rattle.std.specs.Prelude.{◌≡◌, ℕ, ◌<◌, Some, List, [], map, slice_get, slice_index_or}
 use Rattle.lsys_spec.specs.Levels.{IsLevel, plain}
 use Rattle.lsys_spec.specs.Levels as L
 use Rattle.lsys_level.specs.Spots.{Spotted, level_at, level_by, spotted_at}
@@ -29,3 +29,14 @@ pub record ShowsLevels (x : List (List L.Symbol)) (levels : List (List Spotted))
 pub record IsNamed (x : List (List L.Symbol)) (levels : List (List Spotted)) : Type 0 where
   pub naming : ℕ → List ℕ
   pub level : (t : ℕ) → level_by naming (level_at levels t) ≡ slice_index_or x t []
+
+-- the tag stands in what is seen of a level
+pub record StandsThere (k : ℕ) (row : List Spotted) : Type 0 where
+  pub place : ℕ
+  pub spot : Spotted
+  pub there : slice_get row place ≡ Some spot
+  pub is : spot.tag ≡ k
+
+-- a tag of the old level and one of the new are equal where their names are
+abbrev pub NamesTell : (ℕ → List ℕ) → List Spotted → List Spotted → Type 0
+NamesTell naming old new = (k m : ℕ) → StandsThere k old → StandsThere m new → naming k ≡ naming m → k ≡ m

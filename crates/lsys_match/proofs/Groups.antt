@@ -1,13 +1,15 @@
 -- The rules of a group.
-use Rattle.std.proofs.Common.{ap₂, eqb, ◌&&◌, is_some, zero, suc, ◌≡◌, ℕ, Bool, true, false, List, [], ◌∷◌, ◌+◌, ◌≤◌, ◌<◌, length, length-append, map, ◌++◌, slice_get, take, drop, Some, None, arith, ap, sym, ◌∙◌, refl, if◌then◌else◌}
+use Rattle.std.proofs.Common.{ap₂, eqb, ◌&&◌, is_some, zero, suc, ◌≡◌, ℕ, Bool, true, false, List, [], ◌∷◌, ◌+◌, ◌≤◌, ◌<◌, length, length-append, map, slice_get, drop, Option, Some, None, arith, ap, sym, ◌∙◌, refl, if◌then◌else◌}
 use Rattle.lsys_bodies.specs.declared.body.Body.{Body as CodeBody}
-use Rattle.lsys_match.specs.Groups.{meant}
+use Rattle.lsys_bodies.specs.declared.rule.Rule.{Rule}
+use Rattle.lsys_match.specs.Groups.{bodies_of, meant, rules_of}
 use Rattle.lsys_spec.specs.Bodies.{Body}
 use Rattle.lsys_spec.specs.Equalities.{same_all, same_body}
 use Rattle.lsys_spec.specs.Meaning.{any_weight}
 use Rattle.std.proofs.Math.Dec.{eqb-zero-suc, eqb-suc-suc}
-use Rattle.std.proofs.lemmas.List.{map-append}
-use Rattle.std.proofs.lemmas.Option.{same_Some, slice_get_within}
+use Rattle.std.specs.Prelude.{option_map}
+use Rattle.std.proofs.lemmas.List.{length-map}
+use Rattle.std.proofs.lemmas.Option.{same_Some, slice_get-map, slice_get_within}
 
 -- the rule at a place, and those behind it
 pub at_place : {A : Type 0} (bs : List A) (i : ℕ) (b : A) → Some b ≡ slice_get bs i → (i < length bs) × (drop i bs ≡ b ∷ drop (i + 1) bs)
@@ -52,25 +54,14 @@ same_end xs ys i l h = ap (same_all same_body (drop i xs)) (past_end ys i h) ∙
     by (x ∷ xs) zero l = sym (eqb-zero-suc (length xs))
     by (x ∷ xs) (suc i) l = by xs i (omega (arith, l)) ∙ sym (eqb-suc-suc i (length xs))
 
--- the bodies of the first rules, and one more
+-- the rules that are kept of a group
 
-take_push : (bs : List Body) (i : ℕ) (b : Body) → Some b ≡ slice_get bs i → take (i + 1) bs ≡ take i bs ++ b ∷ []
-take_push [] i b h = cc h
-take_push (c ∷ bs) zero b h = ap (λ x. x ∷ []) (sym (same_Some b c h))
-take_push (c ∷ bs) (suc i) b h = let e : suc i + 1 ≡ suc (i + 1) = omega arith in ap (λ k. take k (c ∷ bs)) e ∙ ap (λ x. c ∷ x) (take_push bs i b h)
-
-pub taken_on : (rules : List Body) (old new : List CodeBody) (b : CodeBody) → new ≡ old ++ b ∷ [] → Some (meant b) ≡ slice_get rules (length old) → map meant old ≡ take (length old) rules
-    → (length new ≤ length rules) × (map meant new ≡ take (length new) rules)
-taken_on rules old new b e h k =
-    let a = at_place rules (length old) (meant b) h in
-    let n : length new ≡ length old + 1 = ap length e ∙ length-append old (b ∷ []) in
-    (omega (arith, a.0, n), ap (map meant) e ∙ map-append meant old (b ∷ []) ∙ ap (λ x. x ++ meant b ∷ []) k ∙ sym (take_push rules (length old) (meant b) h) ∙ ap (λ k. take k rules) (sym n))
-
-pub taken_all : (rules : List Body) (bodies : List CodeBody) → slice_get rules (length bodies) ≡ None → map meant bodies ≡ take (length bodies) rules → map meant bodies ≡ rules
-taken_all rules bodies h k = k ∙ whole rules (length bodies) h
+pub meant_at : (rs : List Rule) (i : ℕ) (o : Option Rule) → slice_get rs i ≡ o → slice_get (rules_of (bodies_of rs)) i ≡ option_map (λ r. meant r.body) o
+meant_at rs i o h = slice_get-map meant (bodies_of rs) i ∙ ap (option_map meant) (slice_get-map (λ r. r.body) rs i) ∙ twice (slice_get rs i) ∙ ap (option_map (λ r. meant r.body)) h
   where
-    whole : (bs : List Body) (i : ℕ) → slice_get bs i ≡ None → take i bs ≡ bs
-    whole [] zero h = refl
-    whole [] (suc i) h = refl
-    whole (c ∷ bs) zero h = cc h
-    whole (c ∷ bs) (suc i) h = ap (λ x. c ∷ x) (whole bs i h)
+    twice : (o : Option Rule) → option_map meant (option_map (λ r. r.body) o) ≡ option_map (λ r. meant r.body) o
+    twice None = refl
+    twice (Some r) = refl
+
+pub length_bodies : (rs : List Rule) → length (rules_of (bodies_of rs)) ≡ length rs
+length_bodies rs = length-map (bodies_of rs) meant ∙ length-map rs (λ r. r.body)

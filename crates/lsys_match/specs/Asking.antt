@@ -1,5 +1,5 @@
 -- What is asked of the module at a place of a level.
-use Rattle.std.specs.Prelude.{◌≡◌, ℕ, List, [], Some, length, slice_get}
+use Rattle.std.specs.Prelude.{◌≡◌, ℕ, Bool, List, [], Option, Some, None, length, slice_get, if◌then◌else◌}
 use Rattle.lsys_spec.specs.Systems.{System}
 use Rattle.lsys_spec.specs.Bodies.{group, filter}
 use Rattle.lsys_spec.specs.Levels.{ModuleValue}
@@ -12,6 +12,14 @@ use Rattle.lsys_match.specs.declared.posed.Posed.{Posed as CodePosed}
 use Rattle.lsys_match.specs.Groups.{rules_of}
 use Rattle.lsys_match.specs.Sites.{Site, choice_told}
 use Rattle.lsys_match.specs.TagQuestions.{Posed, posed_of}
+
+-- a level of a system that is asked about
+pub record AskedLevel : Type 0 where
+  pub system : System
+  pub level : ℕ
+
+abbrev pub asked_level : System → ℕ → AskedLevel
+asked_level s t = record { system = s; level = t }
 
 -- a module stands at place p
 pub record IsModuleAt (row : List Spotted) (p : ℕ) : Type 0 where
@@ -30,6 +38,10 @@ pub record IsPosedAt (s : System) (t : ℕ) (row : List Spotted) (p : ℕ) (d : 
   pub key : ℕ
   pub here : slice_get row p ≡ Some (record { seen = Module d.own; tag = d.tag; key = key })
   pub posed : d ≡ posed_of s t d.tag key d.own
+
+-- the key, where the group has weights
+abbrev pub key_if : Bool → Option ℕ → Option ℕ
+key_if weighted key = if weighted then key else None
 
 abbrev pub posed_by : CodePosed → Posed
 posed_by q = record { tag = q.tag; own = module_of q.name q.params.now; bodies = rules_of q.group; key = q.key }

@@ -12,8 +12,10 @@ use Rattle.lsys_spec.specs.Meaning.{asked, successor}
 use Rattle.lsys_spec.specs.Questions.{Question, question}
 use Rattle.lsys_level.specs.Spots.{Spotted, Module}
 use Rattle.lsys_rewrite.specs.Faults.{fault_of}
-use Rattle.lsys_walks.specs.Stores.{Store, StaysWithRoom, AreFresh, AreLive, OtherTracesStay}
+use Rattle.lsys_walks.specs.Stores.{Store, StaysWithRoom, AreFresh, AreLive, Holds, OtherTracesStay}
 use Rattle.lsys_walks.specs.Noted.{Noted}
+use Rattle.lsys_walks.specs.declared.entry.Entry.{Entry}
+use Rattle.lsys_walks.specs.declared.store.TraceRuns.{TraceRuns}
 use Rattle.lsys_match.specs.declared.asked.Asked.{Asked}
 use Rattle.lsys_match.specs.declared.asked.Asked.TheVariants.{Same, New}
 use Rattle.lsys_match.specs.declared.refusal.AskRefusal.{AskRefusal}
@@ -54,6 +56,12 @@ IsAnswered naming d s old (Ok (New a)) = IsAnswer naming d (answer_in s a)
 IsAnswered naming d s old (Err (refusals.Fault k)) = Err (fault_of k) ≡ d.successor
 IsAnswered naming d s old (Err refusals.Memory) = Unit {0}
 
+-- what asking answers; nothing where there is no question
+abbrev pub asked_if_any : {L : Type 0} → Result (Option (Asked L)) AskRefusal → Option (Result (Asked L) AskRefusal)
+asked_if_any (Ok None) = None
+asked_if_any (Ok (Some a)) = Some (Ok a)
+asked_if_any (Err e) = Some (Err e)
+
 -- 2. by tags
 
 -- An answer that was made with this store: its runs are live there, its parameters are those of its module and its trace, and some system's answer it is.
@@ -79,6 +87,12 @@ pub record IsNew (before after : Store) (old : Option Kept) (a : Kept) : Type 0 
   pub other : (o : Kept) → old ≡ Some o → question_in before o ≡ question_in after a → ⊥
   pub fresh : AreFresh before (runs_of a) (entries_in after a) (values_in after a)
   pub others : OtherTracesStay before after (runs_of a)
+
+-- This trace is kept with these parameters: its runs have them, and weren't live before, and all other runs stay.
+pub record IsPlaced (before after : Store) (runs : TraceRuns) (entries : List Entry) (values : List ℤ) : Type 0 where
+  pub placed : Holds after runs entries values
+  pub fresh : AreFresh before runs entries values
+  pub others : OtherTracesStay before after runs
 
 -- This answer is kept: its runs are live, and weren't before, and all other runs stay.
 pub record IsKept (before after : Store) (meant : TagAnswer) (a : Kept) : Type 0 where

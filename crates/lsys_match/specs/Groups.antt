@@ -1,7 +1,8 @@
 -- The rules for a module.
-use Rattle.std.specs.Prelude.{List, map}
+use Rattle.std.specs.Prelude.{List, [], map, Option, Some, None}
 use Rattle.lsys_spec.specs.Bodies.{Body, body_of}
 use Rattle.lsys_bodies.specs.declared.body.Body.{Body as CodeBody}
+use Rattle.lsys_bodies.specs.declared.rule.Rule.{Rule}
 use Rattle.lsys_bodies.specs.Views.{written}
 
 -- what a body means
@@ -11,3 +12,12 @@ meant b = body_of (written b)
 -- what the bodies of a group mean
 abbrev pub rules_of : List CodeBody → List Body
 rules_of bodies = map meant bodies
+
+-- the bodies of rules
+abbrev pub bodies_of : List Rule → List CodeBody
+bodies_of rules = map (λ r. r.body) rules
+
+-- those of a group that was looked for; none where there is no group
+abbrev pub rules_found : Option (List CodeBody) → List Body
+rules_found None = []
+rules_found (Some bodies) = rules_of bodies

@@ -42,6 +42,11 @@ IsSuccessor bs m chosen values (Ok symbols) = successor_by bs m (choice_at chose
 IsSuccessor bs m chosen values (Err (Fault k)) = successor_by bs m (choice_at chosen values) ≡ Err (fault_of k)
 IsSuccessor bs m chosen values (Err Memory) = Unit {0}
 
+-- these symbols, or the refusal
+abbrev pub replaced_by : List Symbol → Result Unit AskRefusal → Result (List Symbol) AskRefusal
+replaced_by symbols (Ok _) = Ok symbols
+replaced_by symbols (Err e) = Err e
+
 abbrev pub old_trace : Option OldTrace → Option (List Noted)
 old_trace o = option_map (λ t. decoded t.entries.now t.values.now) o
 

@@ -10,9 +10,9 @@ ghost use Rattle.lsys_match.specs.Telling.{HasFittingParams};
 
 use crate::posed::Posed;
 use crate::told::OldTrace;
-use lsys_bodies::SharedBody;
 use lsys_level::Tag;
 use lsys_module::SymbolList;
+use lsys_rules::SharedGroup;
 use lsys_text::Name;
 use lsys_walks::{AnswerStore, Entry, TraceRuns};
 use std::marker::{Model, PhantomData};
@@ -28,7 +28,7 @@ pub struct Answer<L: Ledger> {
     pub(crate) name: Name,
     pub(crate) key: Option<u64>,
     pub(crate) runs: TraceRuns,
-    pub(crate) bodies: Vec<SharedBody>,
+    pub(crate) group: SharedGroup,
     pub(crate) successor: SymbolList,
     pub(crate) tag: Tag,
     pub(crate) arity: u8,
@@ -45,11 +45,13 @@ impl<L: Ledger> Model for Answer<L> {
 
     ghost coded = { Prim.hlevel (codes, expression_code) };
 
+    ghost use Rattle.lsys_match.specs.Groups.{bodies_of};
+
     ghost view = { λ a. record {
       tag = a.tag;
       name = a.name;
       arity = a.arity;
-      bodies = a.bodies.items;
+      bodies = bodies_of a.group;
       key = a.key;
       chosen = a.chosen;
       successor = a.successor;
@@ -116,7 +118,7 @@ impl<L: Ledger> Answer<L> {
         if self.tag != posed.tag
             || self.key != posed.key
             || !is_alike(self.name, own, posed.name, posed.params)
-            || !posed.group.has_bodies(&self.bodies)
+            || !posed.group.is_same(&self.group)
         {
             return None;
         }

@@ -1,5 +1,5 @@
 //! The rules for a module.
-ghost use Rattle.std.specs.Prelude.{◌≡◌, ◌≤◌, length, map, slice_get, IfOk};
+ghost use Rattle.std.specs.Prelude.{◌≡◌, ◌<◌, ◌≤◌, length, map, slice_get, IfOk, IfSome};
 ghost use Rattle.std.specs.Option.{option_map};
 ghost use Rattle.lsys_syntax.specs.Limits.{most_rules};
 ghost use Rattle.lsys_spec.specs.Bodies.{group};
@@ -7,22 +7,24 @@ ghost use Rattle.lsys_spec.specs.Equalities.{same_all, same_body};
 ghost use Rattle.lsys_spec.specs.Meaning.{any_weight};
 ghost use Rattle.lsys_module.specs.Views.{module_name};
 ghost use Rattle.lsys_laws.specs.Sessions.{IsWell};
-ghost use Rattle.lsys_match.specs.Groups.{meant, rules_of};
+ghost use Rattle.lsys_match.specs.Groups.{bodies_of, meant, rules_found, rules_of};
 
 use lsys_bodies::{Rule, SharedBody};
-use lsys_rules::System;
+use lsys_rules::{SharedGroup, System};
 use lsys_text::Name;
-use std::alloc::{AllocError, Global};
+use std::alloc::AllocError;
 use std::marker::Model;
 
-/// The rules of a level's table for modules with a name and a number of parameters, in the order in which they are tried.
+/// The rules of a level's table for modules with a name and a number of parameters, one at least, in the order in which
+/// they are tried.
 #[derive(Drop)]
 pub struct Group<'a> {
+    shared: &'a SharedGroup,
     rules: &'a [Rule],
 }
 
 impl<'a> Model for Group<'a> {
-    ghost use Rattle.std.specs.Prelude.{List, ◌≤◌, length, map};
+    ghost use Rattle.std.specs.Prelude.{List, ◌≡◌, ◌<◌, ◌≤◌, length};
     ghost use Rattle.std.specs.Coded.{codes};
     ghost use Rattle.lsys_syntax.specs.Limits.{most_rules};
     ghost use Rattle.lsys_expr.specs.Codes.{expression_code};
@@ -32,20 +34,26 @@ impl<'a> Model for Group<'a> {
 
     ghost coded = { Prim.hlevel (codes, expression_code) };
 
-    ghost view = { λ a. map (λ r. r.body) a.rules.now };
+    ghost use Rattle.lsys_match.specs.Groups.{bodies_of};
 
-    ghost invariant = { λ a. length a.rules.now ≤ most_rules };
+    ghost view = { λ a. bodies_of a.rules.now };
+
+    ghost invariant = { λ a. (a.shared.now ≡ a.rules.now) × (0 < length a.rules.now)
+        × (length a.rules.now ≤ most_rules) };
 }
 
 impl<'a> Group<'a> {
-    /// The rules of a level for modules with this name and so many parameters.
-    pub(crate) fn at(system: &'a System, level: u32, name: Name, arity: usize) -> Group<'a>
-        ensures rules { rules_of result ≡ group system.now level (module_name name) arity }
+    /// The rules of a level for modules with this name and so many parameters; none where there are no such rules.
+    pub(crate) fn at(system: &'a System, level: u32, name: Name, arity: usize) -> Option<Group<'a>>
+        ensures rules { rules_found result ≡ group system.now level (module_name name) arity }
+        ensures some { IfSome result (λ g. 0 < length (rules_of g)) }
         ensures well { IsWell system.now }
     {
-        Group {
-            rules: system.group(level, name, arity),
-        }
+        let shared = system.group(level, name, arity)?;
+        Some(Group {
+            shared,
+            rules: shared.rules(),
+        })
     }
 
     /// The body of the rule at a place, from 0; none past the last one.
@@ -71,38 +79,35 @@ impl<'a> Group<'a> {
         false
     }
 
-    /// How many rules there are.
-    pub(crate) fn len(&self) -> usize
-        ensures { result ≡ length (rules_of self.now) }
+    /// The rules, to be kept: they are shared, so none is copied.
+    pub(crate) fn share(&self) -> Result<SharedGroup, AllocError>
+        ensures { IfOk result (λ rules. bodies_of rules ≡ self.now) }
     {
-        self.rules.len()
+        self.shared.clone()
     }
 
-    /// The bodies of the rules, in order. They are shared, so each takes the room of a reference, and nothing is left over.
-    pub(crate) fn bodies(&self, alloc: Global) -> Result<Vec<SharedBody>, AllocError>
-        ensures { IfOk result (λ bodies. map meant bodies.items ≡ rules_of self.now) }
+    /// The bodies of these rules are those of the group, in order.
+    pub(crate) fn is_same(&self, group: &SharedGroup) -> bool
+        ensures { result ≡ same_all same_body (rules_of (bodies_of group.now)) (rules_of self.now) }
     {
-        let mut bodies = Vec::with_capacity(alloc, self.len())?;
-        while let Some(body) = self.get(bodies.len()) {
-            bodies.push(body.clone()?)?;
-        }
-        Ok(bodies)
-    }
-
-    /// These are the bodies of the rules, in order.
-    pub(crate) fn has_bodies(&self, bodies: &[SharedBody]) -> bool
-        ensures { result ≡ same_all same_body (map meant bodies.now) (rules_of self.now) }
-    {
+        let others = group.rules();
         let mut place = 0;
         while let Some(body) = self.get(place) {
-            let Some(other) = bodies.get(place) else {
+            let Some(other) = others.get(place) else {
                 return false;
             };
-            if !other.same(body) {
+            if !other.body.same(body) {
                 return false;
             }
             place += 1;
         }
-        place == bodies.len()
+        place == others.len()
+    }
+
+    /// The other group has the same bodies, in order.
+    pub(crate) fn agrees(&self, other: &Group<'_>) -> bool
+        ensures { result ≡ same_all same_body (rules_of other.now) (rules_of self.now) }
+    {
+        self.is_same(other.shared)
     }
 }

@@ -7,6 +7,7 @@
 
 mod answer;
 mod asked;
+mod asker;
 mod choice;
 mod derivation;
 mod found;
@@ -16,12 +17,14 @@ mod outcome;
 mod posed;
 mod question;
 mod refusal;
+mod scratch;
 mod site;
 mod steps;
 mod told;
 
 pub use answer::Answer;
 pub use asked::Asked;
+pub use asker::Asker;
 pub use derivation::Derivation;
 pub use law::{law_of_kept_answers, law_of_tagged_questions};
 pub use lsys_walks::{AnswerStore, Entry, EntryKind};

@@ -1,23 +1,23 @@
 //! What is asked of a module, but for what is read.
-ghost use Rattle.std.specs.Prelude.{◌≡◌, ◌≤◌, length};
+ghost use Rattle.std.specs.Prelude.{◌≡◌, ◌≤◌, length, option_map, IfNone, IfSome};
 ghost use Rattle.lsys_laws.specs.Sessions.{IsWell};
 ghost use Rattle.lsys_spec.specs.Bodies.{filter};
+ghost use Rattle.lsys_spec.specs.Meaning.{any_weight};
 ghost use Rattle.lsys_bodies.specs.Filters.{filter_of};
-ghost use Rattle.lsys_level.specs.Spots.{IsSpot, level_at};
+ghost use Rattle.lsys_level.specs.Spots.{IsSpot, level_at, spotted_at};
 ghost use Rattle.lsys_walks.specs.Views.{module_of};
 ghost use Rattle.lsys_match.specs.Groups.{rules_of};
-ghost use Rattle.lsys_match.specs.Asking.{IsModuleAt, IsPosedAt, posed_by};
-ghost use Rattle.lsys_match.specs.Telling.{IsSuccessor};
+ghost use Rattle.lsys_match.specs.Asking.{HasQuestion, IsPosedAt, key_if, posed_by};
+ghost use Rattle.lsys_match.specs.Telling.{IsSuccessor, replaced_by};
 
+use crate::asker::Asker;
 use crate::group::Group;
 use crate::refusal::AskRefusal;
 use lsys_bodies::Filter;
 use lsys_level::{LevelView, Sight, Tag};
 use lsys_module::{Module, Params, Symbol, SymbolList};
 use lsys_rewrite::fill_into;
-use lsys_rules::System;
 use lsys_text::Name;
-use std::alloc::Global;
 
 /// A question but for its trace: the module with its tag, its group, and its key where the group has weights; and the
 /// filter of its level.
@@ -32,46 +32,47 @@ pub(crate) struct Posed<'a> {
 }
 
 impl<'a> Posed<'a> {
-    /// Of the module at a spot of a level.
+    /// Of the module at a spot of the level that is asked about; none where it has no question.
     pub(crate) fn at<W: LevelView>(
         view: &'a W,
         spot: W::Spot,
-        system: &'a System,
-        level: u32,
-    ) -> Posed<'a>
+        asker: &Asker<'a>,
+    ) -> Option<Posed<'a>>
         requires spot { IsSpot (W.levels view.now) (W.level_of view.now spot) (W.place_of view.now spot) }
-        requires module { let x = level_at (W.levels view.now) (W.level_of view.now spot) in
-            IsModuleAt x (W.place_of view.now spot) }
+        ensures none { let x = level_at (W.levels view.now) (W.level_of view.now spot) in
+            IfNone result (HasQuestion asker.now.system asker.now.level x
+            (W.place_of view.now spot) → ⊥) }
+        ensures some { let x = level_at (W.levels view.now) (W.level_of view.now spot) in
+            IfSome result (λ q. HasQuestion asker.now.system asker.now.level x
+            (W.place_of view.now spot)) }
         ensures posed { let x = level_at (W.levels view.now) (W.level_of view.now spot) in
-            IsPosedAt system.now level x (W.place_of view.now spot) (posed_by result) }
-        ensures filter { filter_of result.filter ≡ filter system.now level }
-        ensures well { IsWell system.now }
-        ensures few { length result.params.now ≤ 8 }
+            IfSome result (λ q. IsPosedAt asker.now.system asker.now.level x
+            (W.place_of view.now spot) (posed_by q)) }
+        ensures filter { IfSome result
+            (λ q. filter_of q.filter ≡ filter asker.now.system asker.now.level) }
+        ensures well { IfSome result (λ _. IsWell asker.now.system) }
+        ensures few { IfSome result (λ q. length q.params.now ≤ 8) }
     {
         let Sight::Module { name, params } = view.sight(spot) else {
-            unreachable!()
+            return None;
         };
-        let group = Group::at(system, level, name, params.len());
-        let key = if group.is_weighted() {
-            Some(view.key(spot))
-        } else {
-            None
-        };
-        Posed {
+        let group = asker.group(name, params.len())?;
+        Some(Posed {
             tag: view.tag(spot),
             name,
             params,
+            key: key_for(view, spot, &group),
             group,
-            key,
-            filter: system.filter(level),
-        }
+            filter: asker.filter(),
+        })
     }
 
     /// What replaces the module: the successor of the rule at a place of its group, where these are the values of the
-    /// rule's formals, or the module itself where no rule is chosen. Nothing is left over in its vector.
+    /// rule's formals, or the module itself where no rule is chosen. Nothing is left over in its vector, since it is worked
+    /// out in `symbols`, which may be used again.
     pub(crate) fn successor(
         &self,
-        alloc: Global,
+        symbols: &mut SymbolList,
         chosen: Option<u8>,
         bound: &[i64],
     ) -> Result<SymbolList, AskRefusal>
@@ -79,32 +80,48 @@ impl<'a> Posed<'a> {
         ensures { let own = module_of self.now.name self.now.params.now in
             IsSuccessor (rules_of self.now.group) own chosen bound.now result }
     {
-        let symbols = self.replacement(alloc, chosen, bound)?;
+        self.replace(symbols, chosen, bound)?;
         Ok(symbols.clone()?)
     }
 
-    fn replacement(
+    // Puts what replaces the module in the place of these symbols.
+    fn replace(
         &self,
-        alloc: Global,
+        symbols: &mut SymbolList,
         chosen: Option<u8>,
         bound: &[i64],
-    ) -> Result<SymbolList, AskRefusal>
+    ) -> Result<(), AskRefusal>
         requires { length self.now.params.now ≤ 8 }
         ensures { let own = module_of self.now.name self.now.params.now in
-            IsSuccessor (rules_of self.now.group) own chosen bound.now result }
+            IsSuccessor (rules_of self.now.group) own chosen bound.now
+            (replaced_by symbols.new result) }
     {
-        let mut symbols = SymbolList::new(alloc);
+        symbols.truncate(0);
         let Some(place) = chosen else {
             symbols.push(Symbol::Module(Module {
                 name: self.name,
                 params: Params::of(self.params),
             }))?;
-            return Ok(symbols);
+            return Ok(());
         };
         let Some(body) = self.group.get(place as usize) else {
-            return Ok(symbols);
+            return Ok(());
         };
-        fill_into(&mut symbols, body, bound)?;
-        Ok(symbols)
+        fill_into(symbols, body, bound)?;
+        Ok(())
+    }
+}
+
+// The key of the module at a spot, where its group has weights.
+fn key_for<W: LevelView>(view: &W, spot: W::Spot, group: &Group<'_>) -> Option<u64>
+    requires { IsSpot (W.levels view.now) (W.level_of view.now spot) (W.place_of view.now spot) }
+    ensures { let here = spotted_at (W.levels view.now) (W.level_of view.now spot)
+        (W.place_of view.now spot) in
+        result ≡ key_if (any_weight (rules_of group.now)) (option_map (λ s. s.key) here) }
+{
+    if group.is_weighted() {
+        Some(view.key(spot))
+    } else {
+        None
     }
 }

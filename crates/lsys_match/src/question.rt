@@ -1,15 +1,19 @@
 //! Questions.
-ghost use Rattle.std.specs.Prelude.{◌≡◌, ◌+◌, ◌≤◌, ℕ, List, length, option_map, IfOk, OnErr};
+ghost use Rattle.std.specs.Prelude.{◌≡◌, ◌+◌, ◌++◌, ◌≤◌, ℕ, List, length, option_map, IfNone, IfOk, IfSome, MatchOption, OnErr};
+ghost use Rattle.lsys_laws.specs.Sessions.{IsWell};
+ghost use Rattle.lsys_spec.specs.Bodies.{filter};
 ghost use Rattle.lsys_spec.specs.Levels.{ModuleValue};
 ghost use Rattle.lsys_spec.specs.Meaning.{most_entries};
+ghost use Rattle.lsys_bodies.specs.Filters.{filter_of};
 ghost use Rattle.lsys_level.specs.Spots.{IsSpot, level_at, level_by};
 ghost use Rattle.lsys_match.specs.Answered.{Counts};
-ghost use Rattle.lsys_match.specs.Asking.{HasQuestion, posed_by};
-ghost use Rattle.lsys_match.specs.Asks.{IsAnswered, IsKept, IsMadeIfAny, IsNamedAt, IsTraceFor, KeepsStore, StaysAsKept, by_definition, news};
+ghost use Rattle.lsys_match.specs.Asking.{HasQuestion, IsPosedAt, posed_by};
+ghost use Rattle.lsys_match.specs.Asks.{IsAnswered, IsKept, IsMadeIfAny, IsNamedAt, IsPlaced, IsTraceFor, KeepsStore, StaysAsKept, asked_if_any, by_definition, news};
 ghost use Rattle.lsys_match.specs.Telling.{HasFittingParams, answer_of, old_trace};
 
 use crate::answer::Answer;
 use crate::asked::Asked;
+use crate::asker::Asker;
 use crate::posed::Posed;
 use crate::refusal::AskRefusal;
 use crate::steps::Steps;
@@ -17,7 +21,7 @@ use crate::told::{OldTrace, Reply, Told};
 use lsys_level::LevelView;
 use lsys_region::room;
 use lsys_rules::System;
-use lsys_walks::AnswerStore;
+use lsys_walks::{AnswerStore, Entry, TraceRuns};
 use std::alloc::{AllocError, Global};
 use std::marker::PhantomData;
 use std::sync::ledger::Ledger;
@@ -63,14 +67,123 @@ pub fn ask<'a, W: LevelView, L: Ledger, V: Ledger>(
     ensures asked { asked.new ≡ asked.old + news result }
     ensures store { KeepsStore store.old store.new (option_map (λ a. a.now) old.entry) result }
 {
-    let posed = Posed::at(view, spot, system, level);
-    let kept = trace_for(old, store, &posed);
-    let Told::Other(reply) = posed.tell_at(alloc, view, spot, kept, &mut visited.count)? else {
-        return Ok(Asked::Same);
-    };
-    let answer = keep(alloc, store, &posed, reply)?;
-    asked.count.tick();
-    Ok(Asked::New(answer))
+    let mut asker = Asker::new(alloc, system, level);
+    match asker.ask(alloc, store, view, spot, old, asked, visited) {
+        Ok(Some(answer)) => Ok(answer),
+        Ok(None) => unreachable!(),
+        Err(refusal) => Err(refusal),
+    }
+}
+
+impl<'a> Asker<'a> {
+    /// Asks what replaces the symbol at a spot of the level, as [`ask`] does: the group is found by one look, and where
+    /// there is none, or the symbol is a bracket, there is no question, and nothing is answered.
+    ///
+    /// # Errors
+    ///
+    /// As `ask`.
+    pub fn ask<W: LevelView, L: Ledger, V: Ledger>(
+        &mut self,
+        alloc: Global,
+        store: &mut AnswerStore,
+        view: &'a W,
+        spot: W::Spot,
+        old: Option<&Answer<L>>,
+        asked: &mut Steps<L>,
+        visited: &mut Steps<V>,
+    ) -> Result<Option<Asked<L>>, AskRefusal>
+        requires spot { IsSpot (W.levels view.now) (W.level_of view.now spot)
+            (W.place_of view.now spot) }
+        requires level { W.level_of view.now spot ≡ self.old.level }
+        requires made { IsMadeIfAny store.old (option_map (λ a. a.now) old) }
+        ensures same { self.new ≡ self.old }
+        ensures none { let x = level_at (W.levels view.now) self.old.level in
+            IfNone (asked_if_any result) (HasQuestion self.old.system self.old.level x
+            (W.place_of view.now spot) → ⊥) }
+        ensures some { let x = level_at (W.levels view.now) self.old.level in
+            IfSome (asked_if_any result) (λ _. HasQuestion self.old.system self.old.level x
+            (W.place_of view.now spot)) }
+        ensures answered { let x = level_at (W.levels view.now) self.old.level in
+            let p = W.place_of view.now spot in
+            (naming : ℕ → List ℕ) (tag : ℕ) (m : ModuleValue)
+            → IsNamedAt naming self.old.system.seed x p tag m
+            → IfSome (asked_if_any result) (IsAnswered naming
+            (by_definition self.old.system self.old.level (level_by naming x) p (naming tag) m)
+            store.new (option_map (λ a. a.now) old.entry)) }
+        ensures visited { let x = level_at (W.levels view.now) self.old.level in
+            let p = W.place_of view.now spot in
+            (naming : ℕ → List ℕ) (tag : ℕ) (m : ModuleValue)
+            → IsNamedAt naming self.old.system.seed x p tag m
+            → IfSome (asked_if_any result) (Counts (length
+            (by_definition self.old.system self.old.level (level_by naming x) p
+            (naming tag) m).question.trace)
+            visited.old visited.new) }
+        ensures unread { IfNone (asked_if_any result) (visited.new ≡ visited.old) }
+        ensures asked { MatchOption (asked_if_any result) (asked.new ≡ asked.old)
+            (λ r. asked.new ≡ asked.old + news r) }
+        ensures store { MatchOption (asked_if_any result) (store.new ≡ store.old)
+            (KeepsStore store.old store.new (option_map (λ a. a.now) old.entry)) }
+    {
+        let Some(posed) = Posed::at(view, spot, self) else {
+            return Ok(None);
+        };
+        match self.answer(alloc, store, view, spot, &posed, old, asked, visited) {
+            Ok(answer) => Ok(Some(answer)),
+            Err(refusal) => Err(refusal),
+        }
+    }
+
+    // Answers what is posed of the module at a spot of the level.
+    fn answer<W: LevelView, L: Ledger, V: Ledger>(
+        &mut self,
+        alloc: Global,
+        store: &mut AnswerStore,
+        view: &'a W,
+        spot: W::Spot,
+        posed: &Posed<'a>,
+        old: Option<&Answer<L>>,
+        asked: &mut Steps<L>,
+        visited: &mut Steps<V>,
+    ) -> Result<Asked<L>, AskRefusal>
+        requires spot { IsSpot (W.levels view.now) (W.level_of view.now spot)
+            (W.place_of view.now spot) }
+        requires level { W.level_of view.now spot ≡ self.old.level }
+        requires made { IsMadeIfAny store.old (option_map (λ a. a.now) old) }
+        requires posed { let x = level_at (W.levels view.now) (W.level_of view.now spot) in
+            IsPosedAt self.old.system self.old.level x (W.place_of view.now spot)
+            (posed_by posed.now) }
+        requires filter { filter_of posed.now.filter ≡ filter self.old.system self.old.level }
+        requires well { IsWell self.old.system }
+        requires few { length posed.now.params.now ≤ 8 }
+        ensures same { self.new ≡ self.old }
+        ensures answered { let x = level_at (W.levels view.now) self.old.level in
+            let p = W.place_of view.now spot in
+            (naming : ℕ → List ℕ) (tag : ℕ) (m : ModuleValue)
+            → IsNamedAt naming self.old.system.seed x p tag m
+            → IsAnswered naming (by_definition self.old.system self.old.level
+            (level_by naming x) p (naming tag) m)
+            store.new (option_map (λ a. a.now) old.entry) result }
+        ensures visited { let x = level_at (W.levels view.now) self.old.level in
+            let p = W.place_of view.now spot in
+            (naming : ℕ → List ℕ) (tag : ℕ) (m : ModuleValue)
+            → IsNamedAt naming self.old.system.seed x p tag m
+            → Counts (length
+            (by_definition self.old.system self.old.level (level_by naming x) p
+            (naming tag) m).question.trace)
+            visited.old visited.new result }
+        ensures asked { asked.new ≡ asked.old + news result }
+        ensures store { KeepsStore store.old store.new (option_map (λ a. a.now) old.entry) result }
+    {
+        let kept = trace_for(old, store, posed);
+        let scratch = &mut self.scratch;
+        let visited = &mut visited.count;
+        let Told::Other(reply) = posed.tell_at(alloc, view, spot, kept, scratch, visited)? else {
+            return Ok(Asked::Same);
+        };
+        let answer = keep(alloc, store, posed, reply)?;
+        asked.count.tick();
+        Ok(Asked::New(answer))
+    }
 }
 
 // The trace of the old answer, where its question is this one but for the trace.
@@ -101,22 +214,56 @@ fn keep<L: Ledger>(
     ensures kept { IfOk result (λ a. IsKept store.old store.new (answer_of (posed_by posed.now) reply) a) }
     ensures refused { OnErr result (StaysAsKept store.old store.new) }
 {
-    let bodies = posed.group.bodies(alloc)?;
-    let (entries, params) = reply.trace.parts();
-    let mut values = Vec::with_capacity(alloc, posed.params.len() + params.len())?;
-    values.extend_from_slice(posed.params)?;
-    values.extend_from_slice(params)?;
-    store.reserve(room(entries.len()), room(values.len()))?;
-    let runs = store.place(entries, &values);
+    let group = posed.group.share()?;
+    let (entries, read) = reply.trace.parts();
+    let runs = place(alloc, store, entries, posed.params, read)?;
     Ok(Answer {
         name: posed.name,
         key: posed.key,
         runs,
-        bodies,
+        group,
         successor: reply.successor,
         tag: posed.tag,
         arity: posed.params.len() as u8,
         chosen: reply.chosen,
         ledger: PhantomData,
     })
+}
+
+// Keeps a trace, with the parameters of a module and behind them those that were read. They are joined first only where
+// there are some of both.
+fn place(
+    alloc: Global,
+    store: &mut AnswerStore,
+    entries: &[Entry],
+    own: &[i64],
+    read: &[i64],
+) -> Result<TraceRuns, AllocError>
+    ensures placed { IfOk result (λ r. IsPlaced store.old store.new r entries.now
+        (own.now ++ read.now)) }
+    ensures refused { OnErr result (StaysAsKept store.old store.new) }
+{
+    if read.is_empty() {
+        return place_list(store, entries, own);
+    }
+    if own.is_empty() {
+        return place_list(store, entries, read);
+    }
+    let mut values = Vec::with_capacity(alloc, own.len() + read.len())?;
+    values.extend_from_slice(own)?;
+    values.extend_from_slice(read)?;
+    place_list(store, entries, &values)
+}
+
+// Keeps a trace with these parameters.
+fn place_list(
+    store: &mut AnswerStore,
+    entries: &[Entry],
+    values: &[i64],
+) -> Result<TraceRuns, AllocError>
+    ensures placed { IfOk result (λ r. IsPlaced store.old store.new r entries.now values.now) }
+    ensures refused { OnErr result (StaysAsKept store.old store.new) }
+{
+    store.reserve(room(entries.len()), room(values.len()))?;
+    Ok(store.place(entries, values))
 }

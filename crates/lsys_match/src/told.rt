@@ -8,6 +8,7 @@ ghost use Rattle.lsys_match.specs.Telling.{HasFittingParams, IsBeside, IsPlaceOf
 use crate::choice::Choice;
 use crate::posed::Posed;
 use crate::refusal::AskRefusal;
+use crate::scratch::Scratch;
 use crate::site::Site;
 use lsys_level::LevelView;
 use lsys_module::SymbolList;
@@ -48,6 +49,7 @@ impl<'a> Posed<'a> {
         view: &'a W,
         spot: W::Spot,
         old: Option<OldTrace<'_>>,
+        scratch: &mut Scratch,
         visited: &mut Counter<V>,
     ) -> Result<Told, AskRefusal>
         requires spot { IsSpot (W.levels view.now) (W.level_of view.now spot) (W.place_of view.now spot) }
@@ -63,7 +65,7 @@ impl<'a> Posed<'a> {
             → Counts (length (trace_told (told_for naming site (posed_by self.now)))) visited.old visited.new result }
     {
         let site = Site::new(view, spot, self.name, self.params, self.filter);
-        self.tell(alloc, &site, old, visited)
+        self.tell(alloc, &site, old, scratch, visited)
     }
 
     /// Reads and chooses.
@@ -72,6 +74,7 @@ impl<'a> Posed<'a> {
         alloc: Global,
         site: &Site<'a, W>,
         old: Option<OldTrace<'_>>,
+        scratch: &mut Scratch,
         visited: &mut Counter<V>,
     ) -> Result<Told, AskRefusal>
         requires site { site.now.own ≡ (posed_by self.now).own }
@@ -83,20 +86,19 @@ impl<'a> Posed<'a> {
             → Counts (length (trace_told (told_for naming site.now (posed_by self.now)))) visited.old visited.new result }
     {
         let mut trace = beside(old, alloc);
-        let mut bound = Vec::new(alloc);
         let choice = site.choose(
             alloc,
             &self.group,
             self.key,
             &mut trace,
-            &mut bound,
+            &mut scratch.bound,
             visited,
         )?;
         let chosen = place_of(choice)?;
         if is_read(old, &trace) {
             return Ok(Told::Same);
         }
-        let successor = self.successor(alloc, chosen, &bound)?;
+        let successor = self.successor(&mut scratch.symbols, chosen, &scratch.bound)?;
         Ok(Told::Other(Reply {
             trace: trace.finish()?,
             chosen,

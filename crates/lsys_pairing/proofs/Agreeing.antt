@@ -5,8 +5,8 @@ use Rattle.lsys_spec.specs.Systems.{Each}
 use Rattle.lsys_spec.specs.Levels.{Symbol, lineage}
 use Rattle.lsys_spec.specs.Standings.{place_of}
 use Rattle.lsys_spec.specs.Cuts.{Distinct, WithAll}
-use Rattle.lsys_need.specs.Kept.{places_in}
-use Rattle.lsys_need.proofs.Orders.{place_is}
+use Rattle.lsys_laws.specs.KeptQuestions.{places_in}
+use Rattle.lsys_laws.proofs.Lineages.{place_is}
 use Rattle.lsys_spec.proofs.Rising.{Unlike}
 use Rattle.lsys_spec.proofs.Standings.{place_told}
 use Rattle.lsys_pairing.specs.Supplies.{in_use, AreNamed}

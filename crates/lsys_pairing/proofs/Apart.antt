@@ -7,7 +7,7 @@ use Rattle.lsys_spec.specs.Standings.{place_of}
 use Rattle.lsys_spec.specs.Cuts.{Distinct}
 use Rattle.lsys_spec.proofs.Rising.{distinct_apart}
 use Rattle.lsys_spec.proofs.Standings.{place_told}
-use Rattle.lsys_need.specs.Kept.{places_in}
+use Rattle.lsys_laws.specs.KeptQuestions.{places_in}
 use Rattle.lsys_pairing.specs.Moves.{AreApart, AreOfMates}
 
 -- the symbol that has its mate at a place

@@ -9,8 +9,8 @@ use Rattle.lsys_spec.specs.Standings.{place_of}
 use Rattle.lsys_spec.specs.Cuts.{Distinct}
 use Rattle.lsys_spec.proofs.Standings.{place_told}
 use Rattle.lsys_pairing.specs.declared.origin.Origin.{Origin}
-use Rattle.lsys_need.specs.Kept.{places_in}
-use Rattle.lsys_need.proofs.Orders.{last_number, place_none, place_is}
+use Rattle.lsys_laws.specs.KeptQuestions.{places_in}
+use Rattle.lsys_laws.proofs.Lineages.{last_number, place_none, place_is}
 use Rattle.lsys_pairing.specs.Origins.{number_of, IsChild, AreChildren}
 use Rattle.lsys_pairing.specs.Lookups.{IsPlaceOf}
 

@@ -1,9 +1,9 @@
 -- Symbols of levels with their tags.
-use Rattle.std.specs.Prelude.{◌≡◌, ◌↔◌, ℕ, Bool, List, [], ◌∷◌, ◌++◌, ◌+◌, length, map, slice_get, slice_index_or, Some}
+use Rattle.std.specs.Prelude.{◌≡◌, ◌↔◌, ℕ, Bool, List, [], ◌∷◌, ◌++◌, ◌+◌, length, map, slice_index_or}
 use Rattle.lsys_spec.specs.Systems.{Each}
 use Rattle.lsys_spec.specs.Levels.{Symbol, lineage}
 use Rattle.lsys_level.specs.Spots.{Spotted}
-use Rattle.lsys_need.specs.Kept.{places_in}
+use Rattle.lsys_laws.specs.KeptQuestions.{places_in}
 use Rattle.lsys_pairing.specs.Supplies.{AreNamed}
 
 -- a symbol by its level and lineage, with its tag
@@ -43,14 +43,3 @@ abbrev pub HaveTags : List (List Symbol) → List (List ℕ) → List (List Spot
 HaveTags [] [] [] = Unit {0}
 HaveTags (y ∷ ys) (ks ∷ kss) (x ∷ xs) = (length x ≡ length y) × (map (λ s. s.tag) x ≡ ks) × HaveTags ys kss xs
 HaveTags ys kss xs = ⊥
-
--- the tag stands in what is seen of a level
-pub record StandsThere (k : ℕ) (row : List Spotted) : Type 0 where
-  pub place : ℕ
-  pub spot : Spotted
-  pub there : slice_get row place ≡ Some spot
-  pub is : spot.tag ≡ k
-
--- a tag of the old level and one of the new are equal where their names are
-abbrev pub NamesTell : (ℕ → List ℕ) → List Spotted → List Spotted → Type 0
-NamesTell naming old new = (k m : ℕ) → StandsThere k old → StandsThere m new → naming k ≡ naming m → k ≡ m

@@ -5,7 +5,7 @@ ghost use Rattle.lsys_spec.specs.Levels.{Symbol};
 ghost use Rattle.lsys_spec.specs.Cuts.{Distinct};
 ghost use Rattle.lsys_level.specs.Spots.{Spotted};
 ghost use Rattle.lsys_level.specs.Tags.{HasOwnTags};
-ghost use Rattle.lsys_need.specs.Kept.{places_in};
+ghost use Rattle.lsys_laws.specs.KeptQuestions.{places_in};
 ghost use Rattle.lsys_pairing.specs.Moves.{AreApart, AreOfMates};
 ghost use Rattle.lsys_pairing.specs.Supplies.{in_use};
 ghost use Rattle.lsys_pairing.specs.Tagged.{all_tagged, AgreeAll, AllNamed, HaveTags};

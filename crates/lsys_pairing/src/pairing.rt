@@ -3,7 +3,7 @@ ghost use Rattle.std.specs.Prelude.{◌≡◌, ◌<◌, ◌^◌, List, length, I
 ghost use Rattle.std.specs.List.{All};
 ghost use Rattle.lsys_spec.specs.Levels.{Symbol};
 ghost use Rattle.lsys_spec.specs.Cuts.{Distinct};
-ghost use Rattle.lsys_need.specs.Kept.{places_in};
+ghost use Rattle.lsys_laws.specs.KeptQuestions.{places_in};
 ghost use Rattle.lsys_pairing.specs.Origins.{AreChildren};
 ghost use Rattle.lsys_pairing.specs.Moves.{AreBelow};
 

@@ -10,7 +10,7 @@ use Rattle.lsys_match.specs.Asks.{IsNamedAt}
 use Rattle.lsys_match.specs.KeptAnswers.{AgreeQuestions}
 use Rattle.lsys_match.specs.TagQuestions.{TagAnswer}
 use Rattle.lsys_match.proofs.Tagged.{lifted}
-use Rattle.lsys_pairing.specs.Tagged.{StandsThere, NamesTell}
+use Rattle.lsys_level.specs.Tags.{StandsThere, NamesTell}
 use Rattle.lsys_recall.specs.Traced.{IsOwn, IsTraceAt}
 use Rattle.lsys_recall.specs.Recalled.{IsAnswerThere, asked_there}
 use Rattle.lsys_recall.proofs.Standing.{apart_by, own_line, apart, tags_agree}

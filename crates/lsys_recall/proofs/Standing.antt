@@ -12,9 +12,9 @@ use Rattle.lsys_spec.proofs.Answered.{trace_present}
 use Rattle.lsys_level.specs.Spots.{Seen, Push, Pop, Module, Spotted, with_lineage, named, level_by}
 use Rattle.lsys_walks.specs.Noted.{Noted, Compared, Ignored, Out, Branched, entry_by}
 use Rattle.lsys_walks.specs.Agreements.{Names, HasTag, AgreeTags}
-use Rattle.lsys_need.proofs.Orders.{last_number}
+use Rattle.lsys_laws.proofs.Lineages.{last_number}
 use Rattle.lsys_recall.specs.Traced.{IsOwn, IsTraceAt}
-use Rattle.lsys_pairing.specs.Tagged.{StandsThere, NamesTell}
+use Rattle.lsys_level.specs.Tags.{StandsThere, NamesTell}
 
 -- 1. what an entry names
 

@@ -11,7 +11,7 @@ ghost use Rattle.lsys_spec.specs.Levels.{ModuleValue};
 ghost use Rattle.lsys_level.specs.Spots.{Spotted};
 ghost use Rattle.lsys_walks.specs.Noted.{Noted, entry_by};
 ghost use Rattle.lsys_walks.specs.Agreements.{HasTag};
-ghost use Rattle.lsys_pairing.specs.Tagged.{StandsThere, NamesTell};
+ghost use Rattle.lsys_level.specs.Tags.{StandsThere, NamesTell};
 ghost use Rattle.lsys_level.specs.Spots.{level_by};
 ghost use Rattle.lsys_match.specs.Asks.{IsNamedAt};
 ghost use Rattle.lsys_match.specs.TagQuestions.{TagAnswer};

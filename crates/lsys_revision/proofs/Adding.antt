@@ -14,7 +14,7 @@ use Rattle.lsys_spec.specs.Standings.{place_of}
 use Rattle.lsys_module.specs.Views.{symbol_of, string_of}
 use Rattle.lsys_level.specs.Tags.{HasOwnTags}
 use Rattle.lsys_level.specs.Places.{spots_of, has_cut}
-use Rattle.lsys_need.specs.Kept.{places_in}
+use Rattle.lsys_laws.specs.KeptQuestions.{places_in}
 use Rattle.lsys_pairing.specs.Origins.{AreChildren}
 use Rattle.lsys_pairing.specs.Supplies.{Supply, taken, AreNamed}
 use Rattle.lsys_pairing.specs.Tagged.{all_tagged, AgreeAll, AllNamed}

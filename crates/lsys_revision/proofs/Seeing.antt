@@ -7,11 +7,11 @@ use Rattle.lsys_spec.specs.Levels.{Symbol, lineage, plain, level_balanced}
 use Rattle.lsys_module.specs.Views.{symbol_of, string_of, module_name}
 use Rattle.lsys_module.specs.declared.symbol.Symbol.{Symbol as Code}
 use Rattle.lsys_module.specs.declared.symbol.Symbol.TheVariants as code
-use Rattle.lsys_level.specs.Spots.{Module}
+use Rattle.lsys_level.specs.Spots.{Module, seen_by}
 use Rattle.lsys_level.specs.Places.{seen_in, spots_of, has_cut}
 use Rattle.lsys_pairing.specs.Tagged.{HaveTags}
 use Rattle.lsys_revision.specs.Lines.{Line, AreLines}
-use Rattle.lsys_revision.specs.Revised.{seen_by, spots_by, all_spots, tags_of}
+use Rattle.lsys_revision.specs.Revised.{spots_by, all_spots, tags_of}
 
 seen_same : (a : Symbol) (c : Code) → plain a ≡ symbol_of c → seen_in c ≡ seen_by a
 seen_same (L.Push l) code.Push e = refl

@@ -7,12 +7,13 @@ use Rattle.lsys_spec.specs.Draws.{key_of}
 use Rattle.lsys_spec.specs.Systems.{Each}
 use Rattle.lsys_spec.specs.Levels as L
 use Rattle.lsys_spec.specs.Levels.{Symbol, lineage, ModuleValue}
-use Rattle.lsys_level.specs.Spots.{Module, with_lineage, named, level_by, level_at}
-use Rattle.lsys_pairing.specs.Tagged.{Tagged, tagged, all_tagged, Agree, AgreeAll, StandsThere}
+use Rattle.lsys_level.specs.Spots.{Module, with_lineage, named, level_by, level_at, seen_by}
+use Rattle.lsys_level.specs.Tags.{StandsThere}
+use Rattle.lsys_pairing.specs.Tagged.{Tagged, tagged, all_tagged, Agree, AgreeAll}
 use Rattle.lsys_pairing.proofs.Agreeing.{In, each_in, each_of, in_append, append_in, in_old}
 use Rattle.lsys_pairing.proofs.Owning.{stands_at}
 use Rattle.lsys_revision.specs.Lines.{Line, AreLines}
-use Rattle.lsys_revision.specs.Revised.{Revised, tags_of, seen_by, spots_by, all_spots, AreNamedTogether, IsKeyed, IsRevised}
+use Rattle.lsys_revision.specs.Revised.{Revised, tags_of, spots_by, all_spots, AreNamedTogether, IsKeyed, IsRevised}
 use Rattle.lsys_revision.proofs.Seeing.{spots_have}
 use Rattle.lsys_revision.proofs.Adding.{across, next_olds}
 

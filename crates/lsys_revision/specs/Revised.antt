@@ -5,11 +5,12 @@ use Rattle.lsys_spec.specs.Systems.{Each}
 use Rattle.lsys_spec.specs.Levels as L
 use Rattle.lsys_spec.specs.Levels.{Symbol, lineage, level_balanced}
 use Rattle.lsys_spec.specs.Cuts.{Distinct}
-use Rattle.lsys_level.specs.Spots.{Seen, Push, Pop, Module, Spotted, level_by, level_at}
-use Rattle.lsys_need.specs.Kept.{places_in}
+use Rattle.lsys_level.specs.Spots.{Module, Spotted, seen_by, level_by, level_at}
+use Rattle.lsys_laws.specs.KeptQuestions.{places_in}
 use Rattle.lsys_pairing.specs.Origins.{root}
 use Rattle.lsys_pairing.specs.Supplies.{Supply, in_use, taken, AreNamed}
-use Rattle.lsys_pairing.specs.Tagged.{all_tagged, AgreeAll, NamesTell}
+use Rattle.lsys_level.specs.Tags.{NamesTell}
+use Rattle.lsys_pairing.specs.Tagged.{all_tagged, AgreeAll}
 use Rattle.lsys_offspring.specs.Grown.{HasSymbols}
 use Rattle.lsys_offspring.specs.declared.level.Level.{Level}
 use Rattle.lsys_revision.specs.Lines.{Line, AreLines}
@@ -33,12 +34,6 @@ pub record AreOldLevels (xs : List (List Symbol)) (old : List Line) : Type 0 whe
   pub agree : AgreeAll (all_tagged 0 xs (tags_of old)) (all_tagged 0 xs (tags_of old))
 
 -- 2. the new ones
-
--- what is seen of a symbol
-abbrev pub seen_by : Symbol → Seen
-seen_by (L.Push l) = Push
-seen_by (L.Pop l) = Pop
-seen_by (L.Module l m) = Module m
 
 -- a level with these tags, and with its keys by a seed
 abbrev pub spots_by : ℕ → List Symbol → List ℕ → List Spotted

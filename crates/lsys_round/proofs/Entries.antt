@@ -6,13 +6,13 @@ use Rattle.lsys_spec.specs.Systems.{System}
 use Rattle.lsys_spec.specs.Bodies.{Body, group}
 use Rattle.lsys_spec.specs.Levels.{Symbol, Push, Pop, Module}
 use Rattle.lsys_spec.specs.Questions.{Question, question, where_any, questions_from, questions_at}
-use Rattle.lsys_need.specs.Kept.{where_grouped}
+use Rattle.lsys_laws.specs.KeptQuestions.{where_grouped, question_here}
 use Rattle.lsys_pairing.proofs.Naming.{drop_there}
 use Rattle.lsys_match.specs.declared.refusal.AskRefusal.{AskRefusal}
 use Rattle.lsys_match.specs.declared.refusal.AskRefusal.TheVariants as refusals
-use Rattle.lsys_asking.specs.declared.found.Found.{Found}
-use Rattle.lsys_asking.specs.declared.found.Found.TheVariants as found
-use Rattle.lsys_asking.specs.Replaced.{question_here, IsAsked}
+use Rattle.lsys_round.specs.declared.found.Found.{Found}
+use Rattle.lsys_round.specs.declared.found.Found.TheVariants as found
+use Rattle.lsys_round.specs.Replaced.{IsAsked}
 use Rattle.lsys_round.specs.Rounds.{entries_of, HasRead}
 
 -- the entries of a question that there may be

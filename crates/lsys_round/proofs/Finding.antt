@@ -15,9 +15,10 @@ use Rattle.lsys_match.specs.Asks.{IsAnswer, IsMade, IsNamedAt, IsNew, by_definit
 use Rattle.lsys_match.specs.TagQuestions.{TagAnswer}
 use Rattle.lsys_match.specs.declared.answer.Answer.{Answer}
 use Rattle.lsys_match.specs.declared.refusal.AskRefusal.{AskRefusal}
-use Rattle.lsys_asking.specs.declared.found.Found.{Found}
-use Rattle.lsys_asking.specs.declared.found.Found.TheVariants as found
-use Rattle.lsys_asking.specs.Replaced.{IsSymbolAt, IsAsked, IsRecalled, question_here}
+use Rattle.lsys_round.specs.declared.found.Found.{Found}
+use Rattle.lsys_round.specs.declared.found.Found.TheVariants as found
+use Rattle.lsys_round.specs.Replaced.{IsSymbolAt, IsAsked, IsRecalled}
+use Rattle.lsys_laws.specs.KeptQuestions.{question_here}
 use Rattle.lsys_counts.specs.Slots.{IsAnswerHere, IsFound, slot_at, slot_of}
 use Rattle.lsys_round.specs.Rounds.{AreMadeAt, StayMade, told}
 use Rattle.lsys_round.proofs.News.{old_told}

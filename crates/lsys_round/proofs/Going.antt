@@ -12,7 +12,7 @@ use Rattle.lsys_spec.specs.Levels.{Symbol, ModuleValue, lineage, plain}
 use Rattle.lsys_spec.specs.Choice.{Fault}
 use Rattle.lsys_spec.specs.Meaning.{children}
 use Rattle.lsys_spec.specs.Questions.{Question, questions_from, questions_at}
-use Rattle.lsys_level.specs.Spots.{Spotted, level_by}
+use Rattle.lsys_level.specs.Spots.{Spotted, level_by, seen_by}
 use Rattle.lsys_level.specs.Spots as Seen
 use Rattle.lsys_module.specs.Views.{string_of}
 use Rattle.lsys_walks.specs.Stores.{Store}
@@ -25,10 +25,10 @@ use Rattle.lsys_match.specs.declared.refusal.AskRefusal.{AskRefusal}
 use Rattle.lsys_offspring.specs.Grown.{IsGrown}
 use Rattle.lsys_offspring.specs.Steps.{AreReplaced, replacement, counted}
 use Rattle.lsys_offspring.proofs.Stepping.{goes_on}
-use Rattle.lsys_revision.specs.Revised.{seen_by}
-use Rattle.lsys_asking.specs.declared.found.Found.{Found}
-use Rattle.lsys_asking.specs.declared.found.Found.TheVariants as found
-use Rattle.lsys_asking.specs.Replaced.{IsSymbolAt, IsAsked, IsRecalled, IsReplaced, KeepsFound, question_here}
+use Rattle.lsys_round.specs.declared.found.Found.{Found}
+use Rattle.lsys_round.specs.declared.found.Found.TheVariants as found
+use Rattle.lsys_round.specs.Replaced.{IsSymbolAt, IsAsked, IsRecalled, IsReplaced, KeepsFound}
+use Rattle.lsys_laws.specs.KeptQuestions.{question_here}
 use Rattle.lsys_counts.specs.Slots.{IsFound, slot_at, slot_of}
 use Rattle.lsys_round.specs.Rounds.{IsRow, IsAt, AreMadeAt, AreNew, StayMade, Rounded, AskedTo, Replaces, told, entries_of, alone, modules_in, string_found, fresh_found, taken_found, modules_found, settled}
 use Rattle.lsys_round.proofs.Seen.{symbol_there, alone_plain, counted_seen, row_length}

@@ -7,3 +7,4 @@ pub mod Refusing
 pub mod Settled
 pub mod Rows
 pub mod Beginning
+pub mod Replacing

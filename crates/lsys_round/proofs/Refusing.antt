@@ -17,8 +17,9 @@ use Rattle.lsys_rewrite.specs.declared.refusal.DeriveRefusal.TheVariants as refu
 use Rattle.lsys_rewrite.specs.Faults.{fault_of}
 use Rattle.lsys_offspring.specs.Steps.{replacement}
 use Rattle.lsys_offspring.proofs.Stepping.{faults}
-use Rattle.lsys_asking.specs.declared.found.Found.{Found}
-use Rattle.lsys_asking.specs.Replaced.{IsAsked, IsReplaced, question_here}
+use Rattle.lsys_round.specs.declared.found.Found.{Found}
+use Rattle.lsys_laws.specs.KeptQuestions.{question_here}
+use Rattle.lsys_round.specs.Replaced.{IsAsked, IsReplaced}
 use Rattle.lsys_round.specs.Rounds.{AskedTo, HasRead, IsNoRound, Rounded, entries_of, refusal_at}
 use Rattle.lsys_round.proofs.Entries.{entries_if, entries_here, read_err}
 

@@ -5,7 +5,7 @@ use Rattle.lsys_spec.specs.Draws.{key_of}
 use Rattle.lsys_spec.specs.Systems.{System}
 use Rattle.lsys_spec.specs.Levels.{Symbol, ModuleValue, lineage}
 use Rattle.lsys_spec.specs.Questions.{questions_at}
-use Rattle.lsys_level.specs.Spots.{Spotted, level_by}
+use Rattle.lsys_level.specs.Spots.{Spotted, level_by, seen_by}
 use Rattle.lsys_walks.specs.Stores.{Store}
 use Rattle.lsys_match.specs.Kept.{Kept}
 use Rattle.lsys_match.specs.Asks.{IsNamedAt, by_definition}
@@ -13,9 +13,9 @@ use Rattle.lsys_match.specs.TagQuestions.{TagAnswer}
 use Rattle.lsys_match.specs.declared.refusal.AskRefusal.{AskRefusal}
 use Rattle.lsys_rewrite.specs.declared.refusal.DeriveRefusal.{DeriveRefusal}
 use Rattle.lsys_offspring.specs.Steps.{replacement}
-use Rattle.lsys_revision.specs.Revised.{seen_by}
-use Rattle.lsys_asking.specs.declared.found.Found.{Found}
-use Rattle.lsys_asking.specs.Replaced.{IsSymbolAt, IsAsked, IsRecalled, IsReplaced, KeepsFound, question_here}
+use Rattle.lsys_round.specs.declared.found.Found.{Found}
+use Rattle.lsys_round.specs.Replaced.{IsSymbolAt, IsAsked, IsRecalled, IsReplaced, KeepsFound}
+use Rattle.lsys_laws.specs.KeptQuestions.{question_here}
 use Rattle.lsys_counts.specs.Slots.{slot_at, slot_of}
 use Rattle.lsys_round.specs.Rounds.{AreMadeAt, AreNew, AskedTo, HasRead, IsAt, IsNoRound, IsRow, Replaces, Rounded, entries_of, refusal_at, settled, string_found, told}
 use Rattle.lsys_round.proofs.Seen.{symbol_there, row_length}

@@ -6,11 +6,10 @@ use Rattle.lsys_syntax.specs.Strings as S
 use Rattle.lsys_spec.specs.Draws.{key_of}
 use Rattle.lsys_spec.specs.Levels as L
 use Rattle.lsys_spec.specs.Levels.{Symbol, ModuleValue, lineage, plain}
-use Rattle.lsys_level.specs.Spots.{Seen, Push, Pop, Module, Spotted, with_lineage, named, level_by}
+use Rattle.lsys_level.specs.Spots.{Seen, Push, Pop, Module, Spotted, with_lineage, named, level_by, seen_by}
 use Rattle.lsys_match.specs.Asks.{IsNamedAt}
 use Rattle.lsys_offspring.specs.Steps.{counted}
-use Rattle.lsys_revision.specs.Revised.{seen_by}
-use Rattle.lsys_asking.specs.Replaced.{IsSymbolAt}
+use Rattle.lsys_round.specs.Replaced.{IsSymbolAt}
 use Rattle.lsys_round.specs.Rounds.{IsRow, alone, modules_in}
 
 seen_with : (l : List ℕ) (e : Seen) → seen_by (with_lineage l e) ≡ e

@@ -11,7 +11,7 @@ use Rattle.lsys_spec.specs.Draws.{key_of}
 use Rattle.lsys_spec.specs.Levels.{Symbol, lineage}
 use Rattle.lsys_spec.specs.Levels as levels
 use Rattle.lsys_spec.specs.Choice.{Fault}
-use Rattle.lsys_level.specs.Spots.{Seen, Push, Pop, Module, Spotted, level_by}
+use Rattle.lsys_level.specs.Spots.{Seen, Push, Pop, Module, Spotted, level_by, seen_by}
 use Rattle.lsys_module.specs.Views.{string_of}
 use Rattle.lsys_module.specs.declared.symbol.Symbol.{Symbol as Code}
 use Rattle.lsys_walks.specs.Stores.{Store}
@@ -21,10 +21,9 @@ use Rattle.lsys_match.specs.declared.refusal.AskRefusal.{AskRefusal}
 use Rattle.lsys_offspring.specs.Grown.{Making}
 use Rattle.lsys_offspring.specs.Steps.{replacement}
 use Rattle.lsys_offspring.proofs.Short.{replacement_short}
-use Rattle.lsys_revision.specs.Revised.{seen_by}
-use Rattle.lsys_asking.specs.declared.found.Found.{Found}
-use Rattle.lsys_asking.specs.declared.found.Found.TheVariants as found
-use Rattle.lsys_asking.specs.Replaced.{IsSymbolAt, IsReplaced, KeepsFound, found_news}
+use Rattle.lsys_round.specs.declared.found.Found.{Found}
+use Rattle.lsys_round.specs.declared.found.Found.TheVariants as found
+use Rattle.lsys_round.specs.Replaced.{IsSymbolAt, IsReplaced, KeepsFound, found_news}
 use Rattle.lsys_counts.specs.Slots.{filled, slot_at, slot_of}
 use Rattle.lsys_round.specs.Rounds.{AreNew, CanAsk, HasOld, IsAt, IsRow, Rounded, StayMade, fresh_found, modules_found, modules_in, questions_found, settled, string_found, taken_found}
 use Rattle.lsys_round.proofs.Seen.{spot_of, symbol_there, row_length}

@@ -24,9 +24,9 @@ use Rattle.lsys_offspring.specs.Grown.{Grown, Making, IsGrown, IsMade as IsMadeL
 use Rattle.lsys_offspring.specs.declared.level.Level.{Level}
 use Rattle.lsys_offspring.specs.Steps.{AreReplaced}
 use Rattle.lsys_module.specs.Views.{string_of}
-use Rattle.lsys_asking.specs.Replaced.{question_here}
-use Rattle.lsys_asking.specs.declared.found.Found.{Found}
-use Rattle.lsys_asking.specs.declared.found.Found.TheVariants.{Stays, Same, New}
+use Rattle.lsys_round.specs.declared.found.Found.{Found}
+use Rattle.lsys_round.specs.declared.found.Found.TheVariants.{Stays, Same, New}
+use Rattle.lsys_laws.specs.KeptQuestions.{question_here}
 use Rattle.lsys_counts.specs.Slots.{IsFound, filled, slot_at, slot_of}
 
 -- 1. what is seen of a level, and what is kept

@@ -3,7 +3,9 @@
 //! What is answered anew is kept beside what was kept of the old level, which is only read.
 #![tactic(auto)]
 
+mod asking;
 mod beside;
+mod found;
 mod round;
 
 pub use beside::Beside;

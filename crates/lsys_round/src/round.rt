@@ -7,13 +7,15 @@ ghost use Rattle.lsys_level.specs.Views.{seen_of, HasFewParams};
 ghost use Rattle.lsys_module.specs.Views.{string_of};
 ghost use Rattle.lsys_reading.specs.Commands.{numbering_of};
 ghost use Rattle.lsys_walks.specs.Stores.{Store};
+ghost use Rattle.lsys_match.specs.Asking.{asked_level};
 ghost use Rattle.lsys_counts.specs.Slots.{filled, slot_at};
 ghost use Rattle.lsys_round.specs.Rounds.{alone, fresh_found, modules_in, nothing_asked, refusal_at, settled, string_found, told, AreMadeAt, AreNew, AskedTo, CanAsk, HasOld, IsAt, IsFinished, IsOpened, IsRound, IsRow, Replaces, StayMade};
 
+use crate::asking::ask_at;
 use crate::beside::Beside;
-use lsys_asking::{Found, ask_symbol};
+use crate::found::Found;
 use lsys_level::{FlatSpot, LevelView, Sight};
-use lsys_match::{Answer, AnswerStore, AskRefusal, Steps};
+use lsys_match::{Answer, AnswerStore, AskRefusal, Asker, Steps};
 use lsys_module::{Module, Params, Symbol};
 use lsys_offspring::{Level, NextLevel};
 use lsys_reading::Numbering;
@@ -105,8 +107,9 @@ impl<L: Ledger> Round<L> {
         ensures room { OnOk result (self.new.next.grown.room ≡ self.old.next.grown.room) }
     {
         self.reserve(beside.mates.len())?;
+        let mut asker = Asker::new(alloc, beside.system, beside.level);
         for place in 0..beside.mates.len() {
-            self.ask_next(alloc, store, beside, place, asked, visited)?;
+            self.ask_next(alloc, store, beside, place, &mut asker, asked, visited)?;
         }
         Ok(())
     }
@@ -135,20 +138,23 @@ impl<L: Ledger> Round<L> {
     }
 
     // Asks about the symbol at the next place.
-    fn ask_next<V: Ledger>(
+    fn ask_next<'a, V: Ledger>(
         &mut self,
         alloc: Global,
         store: &mut AnswerStore,
-        beside: &Beside<'_, L>,
+        beside: &Beside<'a, L>,
         place: usize,
+        asker: &mut Asker<'a>,
         asked: &mut Steps<L>,
         visited: &mut Steps<V>,
     ) -> Result<(), DeriveRefusal>
+        requires asker { asker.old ≡ asked_level beside.now.system.now beside.now.level }
         requires next { IsAt place self.old }
         requires place { place < length (level_at beside.now.view.now beside.now.level) }
         requires level { let row = level_at beside.now.view.now beside.now.level in
             CanAsk beside.now.system.now row beside.now.mates.now }
         requires made { AreMadeAt store.old beside.now.olds.now }
+        ensures same { asker.new ≡ asker.old }
         ensures next { OnOk result (IsAt (place + 1) self.new) }
         ensures stay { StayMade store.old store.new }
         ensures new { (begin : Store) → AreNew begin store.old self.old.fresh → AreNew begin store.new self.new.fresh }
@@ -174,17 +180,7 @@ impl<L: Ledger> Round<L> {
     {
         self.open()?;
         let old = beside.old(place);
-        let found = match ask_symbol(
-            alloc,
-            store,
-            beside.view,
-            place,
-            beside.system,
-            beside.level,
-            old,
-            asked,
-            visited,
-        ) {
+        let found = match ask_at(alloc, store, beside, place, asker, old, asked, visited) {
             Ok(found) => found,
             Err(refusal) => return Err(self.refusal(beside.level, refusal)),
         };

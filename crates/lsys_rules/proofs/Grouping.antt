@@ -1,19 +1,21 @@
 -- The rules of a group.
 use Rattle.std.proofs.Common.{◌≡◌, ℕ, not, zero, suc, ◌+◌, ◌<◌, ◌≤◌, Bool, true, false, ◌&&◌, ◌==◌, List, [], ◌∷◌, ◌++◌, length, take, filter, map, cond, get_or, refl, ap, ap₂, sym, ◌∙◌, arith, bytes_eq, if◌then◌else◌, add-one}
-use Rattle.std.specs.Prelude.{Vec}
-use Rattle.std.specs.declared.alloc.Global.{Global}
-use Rattle.std.specs.HashMap.{HashMap}
+use Rattle.std.specs.Prelude.{IfSome, Option, Some, None}
+use Rattle.std.specs.Option.{option_map}
+use Rattle.std.specs.HashMap.{HashMap, get}
 use Rattle.std.specs.Map.{lookup}
 use Rattle.std.proofs.lemmas.List.{length-map, append-nil}
 use Rattle.std.proofs.lemmas.List.Elements.{filter-append}
 use Rattle.std.proofs.lemmas.List.Filters.{length-filter_both}
 use Rattle.std.proofs.lemmas.Simd.{map-map}
+use Rattle.std.proofs.lemmas.Bool.{eqb-true}
 use Rattle.std.proofs.lemmas.Bool.Decides.{same_from_decides, Decides-like, Decides-eqb}
 use Rattle.std.proofs.lemmas.Slice.Eq.{bytes_eq-Decides}
 use Rattle.lsys_syntax.specs.Rules.{Production}
 use Rattle.lsys_syntax.specs.Strings.{ModuleName}
 use Rattle.lsys_spec.specs.Bodies.{body_of, is_for, group_in, word_at}
 use Rattle.lsys_spec.specs.Systems.{same_name}
+use Rattle.lsys_laws.proofs.Aparts.{bytes_eq_true}
 use Rattle.lsys_text.specs.Tokens.{name_of}
 use Rattle.lsys_text.specs.Packed.{packed, unpacked}
 use Rattle.lsys_text.specs.Texts.{IsNameBytes}
@@ -24,6 +26,7 @@ use Rattle.lsys_bodies.specs.declared.rule.Rule.{Rule}
 use Rattle.lsys_bodies.specs.Views.{production_of, rule_of}
 use Rattle.lsys_rules.specs.Groups.{same_key, key_of, rules_of, rules_at, with_rule, HasRule, AreGroups}
 use Rattle.lsys_rules.specs.declared.groups.GroupKey.{GroupKey}
+use Rattle.lsys_rules.specs.declared.shared_group.SharedGroup.{SharedGroup}
 
 -- names are told apart by their numbers
 same_number : (m n : List ℕ) → IsNameBytes m → IsNameBytes n → (packed m == packed n) ≡ bytes_eq m n
@@ -66,7 +69,7 @@ filter_more p xs x = filter-append p xs (x ∷ []) ∙ by (p x)
     by false = append-nil (filter p xs)
 
 -- one more rule
-pub group_step : {S : Type 0} (old new : HashMap GroupKey (Vec Rule Global) S) (rs : List Rule) (i : ℕ) (r : Rule) (key : GroupKey) → i < length rs → r ≡ get_or rs i r
+pub group_step : {S : Type 0} (old new : HashMap GroupKey SharedGroup S) (rs : List Rule) (i : ℕ) (r : Rule) (key : GroupKey) → i < length rs → r ≡ get_or rs i r
     → key.table ≡ r.table → key.name ≡ packed r.body.predecessor.name → key.arity ≡ length r.body.predecessor.formals.items → IsNameBytes r.body.predecessor.name
     → AreGroups old (take i rs) → HasRule old new key r → AreGroups new (take (i + 1) rs)
 group_step old new rs i r key h e t n a form all put table name arity k =
@@ -76,8 +79,35 @@ group_step old new rs i r key h e t n a form all put table name arity k =
     ∙ sym (filter_more p (take i rs) r)
     ∙ ap (filter p) (sym (take_here rs i r h e))
 
+same_keys : (a b : GroupKey) → same_key a b ≡ true → a ≡ b
+same_keys a b h =
+    let table : a.table ≡ b.table = bytes_eq_true a.table b.table (and_left (bytes_eq a.table b.table) _ h) in
+    let rest = and_right (bytes_eq a.table b.table) _ h in
+    let name : a.name ≡ b.name = eqb-true a.name b.name (and_left (a.name == b.name) _ rest) in
+    let arity : a.arity ≡ b.arity = eqb-true a.arity b.arity (and_right (a.name == b.name) _ rest) in
+    λ i. record { table = table i; name = name i; arity = arity i }
+  where
+    and_left : (x y : Bool) → (x && y) ≡ true → x ≡ true
+    and_left true y h = refl
+    and_left false y h = cc
+
+    and_right : (x y : Bool) → (x && y) ≡ true → y ≡ true
+    and_right true y h = h
+    and_right false y h = cc
+
+-- a rule more in one group
+pub grown : {S : Type 0} (old mid new : HashMap GroupKey SharedGroup S) (key q : GroupKey) (rule : Rule) (group : List Rule)
+    → get same_key mid q ≡ cond (same_key key q) None (get same_key old q) → get same_key new q ≡ cond (same_key key q) (Some group) (get same_key mid q)
+    → group ≡ rules_of (get same_key old key) ++ rule ∷ [] → rules_at new q ≡ with_rule (same_key key q) (rules_at old q) rule
+grown old mid new key q rule group removed put is = by (same_key key q) refl removed put
+  where
+    by : (b : Bool) → same_key key q ≡ b → get same_key mid q ≡ cond b None (get same_key old q) → get same_key new q ≡ cond b (Some group) (get same_key mid q)
+        → rules_at new q ≡ with_rule b (rules_at old q) rule
+    by true h removed put = ap rules_of put ∙ is ∙ ap (λ k. rules_at old k ++ rule ∷ []) (same_keys key q h)
+    by false h removed put = ap rules_of (put ∙ removed)
+
 -- without rules
-pub no_groups : {S : Type 0} (groups : HashMap GroupKey (Vec Rule Global) S) → groups.entries ≡ [] → AreGroups groups []
+pub no_groups : {S : Type 0} (groups : HashMap GroupKey SharedGroup S) → groups.entries ≡ [] → AreGroups groups []
 no_groups groups e table name arity form = ap (λ es. rules_of (lookup (same_key (key_of table name arity)) es)) e
 
 filtered_map : {A B : Type 0} (f : A → B) (p : B → Bool) (xs : List A) → map f (filter (λ x. p (f x)) xs) ≡ filter p (map f xs)
@@ -90,7 +120,7 @@ filtered_map f p (x ∷ xs) = by (p (f x)) (filtered_map f p xs)
     by false h = h
 
 -- what stands under a group's key
-pub group_found : {S : Type 0} (groups : HashMap GroupKey (Vec Rule Global) S) (rs : List Rule) (key : GroupKey) (table name : List ℕ) (arity : ℕ)
+pub group_found : {S : Type 0} (groups : HashMap GroupKey SharedGroup S) (rs : List Rule) (key : GroupKey) (table name : List ℕ) (arity : ℕ)
     → AreGroups groups rs → key.table ≡ table → key.name ≡ packed name → key.arity ≡ arity → IsNameBytes name
     → map production_of (rules_at groups key) ≡ filter (is_for table (module_name name) arity) (map production_of rs)
 group_found groups rs key table name arity all t n a form =
@@ -113,6 +143,11 @@ pub group_few : (table : List ℕ) (n : ModuleName) (arity : ℕ) (ps : List Pro
 group_few table n arity ps rs h =
     let e : length rs ≡ length (filter (is_for table n arity) ps) = sym (length-map rs production_of) ∙ ap length h in
     omega (arith, e, length-filter_both (is_for table n arity) (λ p. not (is_for table n arity p)) (λ p. refl) ps)
+
+-- there are no more than that, where any were found
+pub few_found : {R : Type 0} (f : R → List Rule) (found : Option R) (n : ℕ) → length (rules_of (option_map f found)) ≤ n → IfSome found (λ g. length (f g) ≤ n)
+few_found f None n h = tt
+few_found f (Some g) n h = h
 
 -- the bodies of a group's rules
 pub group_meant : (table : List ℕ) (n : ModuleName) (arity : ℕ) (ps : List Production) (rs : List Rule) → map production_of rs ≡ filter (is_for table n arity) ps

@@ -1,6 +1,5 @@
 -- The groups of some rules: those of a table that are for a letter with a number of parameters.
-use Rattle.std.specs.Prelude.{◌≡◌, ℕ, Bool, ◌&&◌, ◌==◌, Option, Some, None, List, [], ◌∷◌, ◌++◌, Vec, bytes_eq, filter, if◌then◌else◌}
-use Rattle.std.specs.declared.alloc.Global.{Global}
+use Rattle.std.specs.Prelude.{◌≡◌, ℕ, Bool, ◌&&◌, ◌==◌, Option, Some, None, List, [], ◌∷◌, ◌++◌, bytes_eq, filter, if◌then◌else◌}
 use Rattle.std.specs.HashMap.{HashMap, get}
 use Rattle.lsys_spec.specs.Bodies.{is_for}
 use Rattle.lsys_text.specs.Packed.{packed}
@@ -9,6 +8,7 @@ use Rattle.lsys_module.specs.Views.{module_name}
 use Rattle.lsys_bodies.specs.declared.rule.Rule.{Rule}
 use Rattle.lsys_bodies.specs.Views.{production_of}
 use Rattle.lsys_rules.specs.declared.groups.GroupKey.{GroupKey}
+use Rattle.lsys_rules.specs.declared.shared_group.SharedGroup.{SharedGroup}
 
 abbrev pub same_key : GroupKey → GroupKey → Bool
 same_key a b = bytes_eq a.table b.table && ((a.name == b.name) && (a.arity == b.arity))
@@ -16,23 +16,24 @@ same_key a b = bytes_eq a.table b.table && ((a.name == b.name) && (a.arity == b.
 abbrev pub key_of : List ℕ → List ℕ → ℕ → GroupKey
 key_of table name arity = record { table = table; name = packed name; arity = arity }
 
-abbrev pub rules_of : Option (Vec Rule Global) → List Rule
+-- the rules that were found; none where there is no group
+abbrev pub rules_of : Option (List Rule) → List Rule
 rules_of None = []
-rules_of (Some v) = v.items
+rules_of (Some rules) = rules
 
 -- the rules of a group
-abbrev pub rules_at : {S : Type 0} → HashMap GroupKey (Vec Rule Global) S → GroupKey → List Rule
+abbrev pub rules_at : {S : Type 0} → HashMap GroupKey SharedGroup S → GroupKey → List Rule
 rules_at groups key = rules_of (get same_key groups key)
 
 abbrev pub with_rule : Bool → List Rule → Rule → List Rule
 with_rule b rules rule = if b then rules ++ rule ∷ [] else rules
 
 -- The new groups have one rule more, behind those of the key's group.
-abbrev pub HasRule : {S : Type 0} → HashMap GroupKey (Vec Rule Global) S → HashMap GroupKey (Vec Rule Global) S → GroupKey → Rule → Type 0
+abbrev pub HasRule : {S : Type 0} → HashMap GroupKey SharedGroup S → HashMap GroupKey SharedGroup S → GroupKey → Rule → Type 0
 HasRule old new key rule = (q : GroupKey) → rules_at new q ≡ with_rule (same_key key q) (rules_at old q) rule
 
 -- The rules of each group are those of its table that are for its letter, in order.
-abbrev pub AreGroups : {S : Type 0} → HashMap GroupKey (Vec Rule Global) S → List Rule → Type 0
+abbrev pub AreGroups : {S : Type 0} → HashMap GroupKey SharedGroup S → List Rule → Type 0
 AreGroups groups rules =
     (table name : List ℕ) (arity : ℕ) → IsNameBytes name
     → rules_at groups (key_of table name arity) ≡ filter (λ r. is_for table (module_name name) arity (production_of r)) rules

@@ -1,9 +1,11 @@
 //! The groups of rules: which rules of a table are for a letter with a number of parameters.
-ghost use Rattle.std.specs.Prelude.{◌≡◌, IfOk, OnOk, length};
+ghost use Rattle.std.specs.Prelude.{◌≡◌, ◌++◌, ◌∷◌, [], IfOk, OnOk, length};
+ghost use Rattle.std.specs.Option.{option_map};
 ghost use Rattle.lsys_text.specs.Packed.{packed};
 ghost use Rattle.lsys_text.specs.Texts.{IsNameBytes};
-ghost use Rattle.lsys_rules.specs.Groups.{AreGroups, HasRule, rules_at};
+ghost use Rattle.lsys_rules.specs.Groups.{AreGroups, HasRule, rules_at, rules_of};
 
+use crate::shared_group::SharedGroup;
 use lsys_bodies::Rule;
 use lsys_text::{Name, Word};
 use std::alloc::{AllocError, Global};
@@ -18,7 +20,7 @@ pub(crate) struct GroupKey {
 }
 
 /// The rules of each group, in order.
-pub(crate) type Groups = HashMap<GroupKey, Vec<Rule>>;
+pub(crate) type Groups = HashMap<GroupKey, SharedGroup>;
 
 impl GroupKey {
     // That of the rules of a table for a letter with so many parameters.
@@ -62,18 +64,28 @@ pub(crate) fn groups_of(alloc: Global, rules: &[Rule]) -> Result<Groups, AllocEr
 fn add_rule(alloc: Global, groups: &mut Groups, key: GroupKey, rule: Rule) -> Result<(), AllocError>
     ensures { OnOk result (HasRule groups.old groups.new key rule) }
 {
-    let mut rules = groups.remove(&key).unwrap_or(Vec::new(alloc));
-    rules.push(rule)?;
-    groups.insert(key, rules)?;
+    let group = with_rule(alloc, groups.remove(&key), rule)?;
+    groups.insert(key, group)?;
     Ok(())
 }
 
-// The rules of a group.
-pub(crate) fn rules_at(groups: &Groups, key: GroupKey) -> &[Rule]
-    ensures { result.now ≡ rules_at groups.now key }
+// The group with one rule more, which is its first one where there was none.
+fn with_rule(
+    alloc: Global,
+    group: Option<SharedGroup>,
+    rule: Rule,
+) -> Result<SharedGroup, AllocError>
+    ensures { IfOk result (λ g. g ≡ rules_of group ++ rule ∷ []) }
 {
-    match groups.get(&key) {
-        Some(rules) => rules,
-        None => &[],
+    match group {
+        Some(group) => group.with(alloc, rule),
+        None => SharedGroup::of(alloc, rule),
     }
+}
+
+// The rules of a group; none where there is no rule for it.
+pub(crate) fn rules_at(groups: &Groups, key: GroupKey) -> Option<&SharedGroup>
+    ensures { rules_of (option_map (λ g. g.now) result) ≡ rules_at groups.now key }
+{
+    groups.get(&key)
 }

@@ -19,6 +19,7 @@ mod refusal;
 mod rule_faults;
 mod rule_table;
 mod script;
+mod shared_group;
 mod show_rules;
 mod system;
 
@@ -32,4 +33,5 @@ pub use own_table::OwnTable;
 pub use refusal::Refusal;
 pub use rule_table::RuleTable;
 pub use script::show;
+pub use shared_group::SharedGroup;
 pub use system::System;

@@ -1,13 +1,16 @@
 //! The productions of a system, in the order in which they are tried.
 ghost use Rattle.std.specs.Prelude.{◌≡◌, [], IfOk, OnOk, map, filter};
+ghost use Rattle.std.specs.Option.{option_map};
 ghost use Rattle.lsys_spec.specs.Systems.{is_table, tables, with_table};
 ghost use Rattle.lsys_spec.specs.Bodies.{is_for};
 ghost use Rattle.lsys_spec.specs.Edits.{put, without_rule};
 ghost use Rattle.lsys_module.specs.Views.{module_name};
 ghost use Rattle.lsys_bodies.specs.Views.{production_of};
+ghost use Rattle.lsys_rules.specs.Groups.{rules_of};
 ghost use Rattle.lsys_rules.specs.InsideRules.{Own, productions_in};
 
 use crate::groups::{GroupKey, Groups, groups_of, rules_at};
+use crate::shared_group::SharedGroup;
 use indexmap::IndexMap;
 use lsys_bodies::Rule;
 use lsys_text::{Name, Word};
@@ -116,10 +119,11 @@ impl RuleTable {
         &self.rules.tables
     }
 
-    /// The rules of the group of a table for modules of this name and number of parameters, in order. A look-up costs the
-    /// same however many rules there are.
-    pub fn group(&self, table: Word, name: Name, arity: usize) -> &[Rule]
-        ensures { map production_of result.now ≡ filter (is_for table (module_name name) arity) self.now }
+    /// The group of a table for modules of this name and number of parameters; none where the table has no rule for them.
+    /// A look-up costs the same however many rules there are.
+    pub fn group(&self, table: Word, name: Name, arity: usize) -> Option<&SharedGroup>
+        ensures { map production_of (rules_of (option_map (λ g. g.now) result))
+            ≡ filter (is_for table (module_name name) arity) self.now }
     {
         rules_at(&self.rules.groups, GroupKey::new(table, name, arity))
     }

@@ -1,5 +1,5 @@
 //! Systems.
-ghost use Rattle.std.specs.Prelude.{◌≡◌, ◌≤◌, ◌<◌, IfOk, filter, length, map, slice_get};
+ghost use Rattle.std.specs.Prelude.{◌≡◌, ◌≤◌, ◌<◌, IfOk, IfSome, filter, length, map, slice_get};
 ghost use Rattle.std.specs.Option.{option_map};
 ghost use Rattle.lsys_syntax.specs.Limits.{greatest_version, most_rules};
 ghost use Rattle.lsys_spec.specs.Systems.{depth_bound, opening, tables};
@@ -11,6 +11,7 @@ ghost use Rattle.lsys_module.specs.Views.{module_name, string_of};
 ghost use Rattle.lsys_reading.specs.Commands.{lattice_of, numbering_of};
 ghost use Rattle.lsys_bodies.specs.Filters.{filter_of};
 ghost use Rattle.lsys_bodies.specs.Views.{homomorphism_of, production_of, rule_of};
+ghost use Rattle.lsys_rules.specs.Groups.{rules_of};
 ghost use Rattle.lsys_rules.specs.Systems.{system_of};
 
 use crate::hom_table::HomTable;
@@ -18,6 +19,7 @@ use crate::own_list::OwnList;
 use crate::own_table::OwnTable;
 use crate::parts::SystemParts;
 use crate::rule_table::RuleTable;
+use crate::shared_group::SharedGroup;
 use lsys_bodies::{Filter, HomRule, Rule};
 use lsys_module::SymbolList;
 use lsys_reading::{LatticeName, Numbering};
@@ -210,13 +212,15 @@ impl System {
         self.parts.lattice
     }
 
-    /// The rules of the group of a level for modules with this name and number of parameters: those of the level's table that
-    /// are for such modules, in the order in which they are tried. A look-up costs the same however many rules there are.
-    pub fn group(&self, level: u32, name: Name, arity: usize) -> &[Rule]
-        ensures rules { map production_of result.now
+    /// The group of a level for modules with this name and number of parameters: the rules of the level's table that are for
+    /// such modules, in the order in which they are tried. None where the table has no rule for them. A look-up costs the
+    /// same however many rules there are.
+    pub fn group(&self, level: u32, name: Name, arity: usize) -> Option<&SharedGroup>
+        ensures rules { map production_of (rules_of (option_map (λ g. g.now) result))
             ≡ filter (is_for (table_at self.now.schedule level) (module_name name) arity) self.now.rules }
-        ensures bodies { map (λ r. body_of (rule_of r)) result.now ≡ group self.now level (module_name name) arity }
-        ensures few { length result.now ≤ most_rules }
+        ensures bodies { map (λ r. body_of (rule_of r)) (rules_of (option_map (λ g. g.now) result))
+            ≡ group self.now level (module_name name) arity }
+        ensures few { IfSome result (λ g. length g.now ≤ most_rules) }
         ensures well { IsWell self.now }
     {
         self.parts.rules.group(self.table(level), name, arity)
@@ -238,7 +242,8 @@ impl System {
         ensures body { option_map (λ r. body_of (rule_of r.now)) result
             ≡ slice_get (group self.now level (module_name name) arity) place }
     {
-        self.group(level, name, arity).get(place)
+        let group = self.group(level, name, arity)?;
+        group.rules().get(place)
     }
 }
 

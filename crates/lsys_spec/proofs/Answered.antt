@@ -42,7 +42,7 @@ trace_named s xs q d a =
     subst (λ (r : Question). Each (OfEntry NamedSymbol) r.trace) (sym a.is)
     (trace_of NamedSymbol s q.level (group s q.level a.value.name (length a.value.params)) a.level a.place a.parents a.value (d.names q.level a.level a.there))
 
-same_question_true : (old new : System) (xs ys : List (List Symbol)) → Derived old xs → Derived new ys → (was q : Question) → IsAsked old xs was → IsAsked new ys q → same_question was q ≡ true → was ≡ q
+pub same_question_true : (old new : System) (xs ys : List (List Symbol)) → Derived old xs → Derived new ys → (was q : Question) → IsAsked old xs was → IsAsked new ys q → same_question was q ≡ true → was ≡ q
 same_question_true old new xs ys dx dy was q a b h =
     let e1 = both (same_number was.level q.level) _ h in
     let e2 = both (same_symbol was.own q.own) _ e1.1 in

@@ -24,7 +24,7 @@ ok_fault_at t n (Err e) a h = cc
 
 -- 2. levels, the first of which is level t
 
-abbrev AllAt : (ℕ → List Symbol → Type 0) → ℕ → List (List Symbol) → Type 0
+abbrev pub AllAt : (ℕ → List Symbol → Type 0) → ℕ → List (List Symbol) → Type 0
 AllAt P t [] = Unit {0}
 AllAt P t (x ∷ xs) = P t x × AllAt P (suc t) xs
 
@@ -32,29 +32,29 @@ all_push : (P : ℕ → List Symbol → Type 0) (t n : ℕ) (xs : List (List Sym
 all_push P t n [] x e h g = let i : n ≡ t = omega (arith, e) in (subst (λ n. P n x) i g, tt)
 all_push P t n (y ∷ xs) x e h g = (h.0, all_push P (suc t) n xs x (omega (arith, e)) h.1 g)
 
-all_at : (P : ℕ → List Symbol → Type 0) (t n : ℕ) (xs : List (List Symbol)) (i : ℕ) (x : List Symbol) → t + i ≡ n → AllAt P t xs → slice_get xs i ≡ Some x → P n x
+pub all_at : (P : ℕ → List Symbol → Type 0) (t n : ℕ) (xs : List (List Symbol)) (i : ℕ) (x : List Symbol) → t + i ≡ n → AllAt P t xs → slice_get xs i ≡ Some x → P n x
 all_at P t n [] i x e h g = cc
 all_at P t n (y ∷ xs) zero x e h g = let a : y ≡ x = cc in let m : t ≡ n = omega (arith, e) in subst (P n) a (subst (λ n. P n y) m h.0)
 all_at P t n (y ∷ xs) (suc i) x e h g = all_at P (suc t) n xs i x (omega (arith, e)) h.1 g
 
-last_push : (xs : List (List Symbol)) (x : List Symbol) → last_level (xs ++ x ∷ []) ≡ x
+pub last_push : (xs : List (List Symbol)) (x : List Symbol) → last_level (xs ++ x ∷ []) ≡ x
 last_push [] x = refl
 last_push (y ∷ []) x = refl
 last_push (y ∷ z ∷ xs) x = last_push (z ∷ xs) x
 
-ok_within : (limit t : ℕ) (xs ys : List (List Symbol)) → within_limit limit t xs ≡ Ok ys → xs ≡ ys
+pub ok_within : (limit t : ℕ) (xs ys : List (List Symbol)) → within_limit limit t xs ≡ Ok ys → xs ≡ ys
 ok_within limit t xs ys h = by (nat_lt limit (sum_by length xs)) h
   where
     by : (b : Bool) → cond b (Err (OverLimit t)) (Ok xs) ≡ Ok ys → xs ≡ ys
     by true h = cc
     by false h = cc
 
-record UpTo (P : ℕ → List Symbol → Type 0) (n : ℕ) (xs : List (List Symbol)) : Type 0 where
+pub record UpTo (P : ℕ → List Symbol → Type 0) (n : ℕ) (xs : List (List Symbol)) : Type 0 where
   pub all : AllAt P 0 xs
   pub count : length xs ≡ suc n
   pub latest : P n (last_level xs)
 
-up_to : (s : System) (P : ℕ → List Symbol → Type 0) → P 0 (first_level s) → ((t : ℕ) (x y : List Symbol) → P t x → next_level s t x ≡ Ok y → P (suc t) y)
+pub up_to : (s : System) (P : ℕ → List Symbol → Type 0) → P 0 (first_level s) → ((t : ℕ) (x y : List Symbol) → P t x → next_level s t x ≡ Ok y → P (suc t) y)
     → (limit n : ℕ) (xs : List (List Symbol)) → meaning_to s limit n ≡ Ok xs → UpTo P n xs
 up_to s P first next limit zero xs h =
     let e : first_level s ∷ [] ≡ xs = ok_within limit 0 (first_level s ∷ []) xs h in

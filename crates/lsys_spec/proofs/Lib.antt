@@ -42,3 +42,4 @@ pub mod Answered
 pub mod FormerSystems
 pub mod Numbered
 pub mod Shorts
+pub mod CostSums

@@ -95,7 +95,7 @@ choice_balanced bs m NoRule ys h k = let e : S.Module m.name m.params ∷ [] ≡
 choice_balanced bs m (Chosen g values) ys h k = chosen_balanced bs g values ys h k
 choice_balanced bs m (Failed f) ys h k = cc
 
-successor_balanced : (s : System) → HasBalance s → (t : ℕ) (x : List Symbol) (p : ℕ) (l : List ℕ) (m : ModuleValue) (ys : List (S.Symbol ℤ)) → successor s t x p l m ≡ Ok ys → S.balanced 0 ys ≡ true
+pub successor_balanced : (s : System) → HasBalance s → (t : ℕ) (x : List Symbol) (p : ℕ) (l : List ℕ) (m : ModuleValue) (ys : List (S.Symbol ℤ)) → successor s t x p l m ≡ Ok ys → S.balanced 0 ys ≡ true
 successor_balanced s b t x p l m ys h =
     let bs : List Body = group s t m.name (length m.params) in
     choice_balanced bs m (asked s t bs x p l m).answer ys (group_balanced (table_at s.schedule t) m.name (length m.params) s.rules b.in_successors) h
@@ -151,20 +151,20 @@ choice_short bs m NoRule ys h k = let e : S.Module m.name m.params ∷ [] ≡ ys
 choice_short bs m (Chosen g values) ys h k = chosen_short bs g values ys h k
 choice_short bs m (Failed f) ys h k = cc
 
-successor_short : (s : System) → HasBalance s → (t : ℕ) (x : List Symbol) (p : ℕ) (l : List ℕ) (m : ModuleValue) (ys : List (S.Symbol ℤ)) → successor s t x p l m ≡ Ok ys → length ys ≤ number_base
+pub successor_short : (s : System) → HasBalance s → (t : ℕ) (x : List Symbol) (p : ℕ) (l : List ℕ) (m : ModuleValue) (ys : List (S.Symbol ℤ)) → successor s t x p l m ≡ Ok ys → length ys ≤ number_base
 successor_short s b t x p l m ys h =
     let bs : List Body = group s t m.name (length m.params) in
     choice_short bs m (asked s t bs x p l m).answer ys (group_short (table_at s.schedule t) m.name (length m.params) s.rules b.short_successors) h
 
 -- 3. the children of a level: brackets give themselves, and modules balanced strings
 
-abbrev Offspring : Numbering → List Symbol → List Raw → Type 0
+abbrev pub Offspring : Numbering → List Symbol → List Raw → Type 0
 Offspring g [] raw = raw ≡ []
 Offspring g (Push l ∷ x) raw = (more : List Raw) × (raw ≡ children g l (S.Push ∷ []) ++ more) × Offspring g x more
 Offspring g (Pop l ∷ x) raw = (more : List Raw) × (raw ≡ children g l (S.Pop ∷ []) ++ more) × Offspring g x more
 Offspring g (Module l m ∷ x) raw = (ys : List (S.Symbol ℤ)) × (more : List Raw) × (S.balanced 0 ys ≡ true) × (length ys ≤ number_base) × (raw ≡ children g l ys ++ more) × Offspring g x more
 
-offspring : (s : System) → HasBalance s → (t : ℕ) (x : List Symbol) (p n : ℕ) (rest : List Symbol) (raw : List Raw) → children_from s t x p n rest ≡ Ok raw → Offspring s.numbering rest raw
+pub offspring : (s : System) → HasBalance s → (t : ℕ) (x : List Symbol) (p n : ℕ) (rest : List Symbol) (raw : List Raw) → children_from s t x p n rest ≡ Ok raw → Offspring s.numbering rest raw
 offspring s b t x p n [] raw h = let e : [] ≡ raw = cc in sym e
 offspring s b t x p n (Push l ∷ rest) raw h =
     let r = ok_parts (children_from s t x (p + 1) n rest) _ raw h in
@@ -190,7 +190,7 @@ numbered_balanced g i before l (S.Pop ∷ s) y zero n b e h = cc
 numbered_balanced g i before l (S.Pop ∷ s) y (suc k) n zero e h = absurd (omega (arith, e))
 numbered_balanced g i before l (S.Pop ∷ s) y (suc k) n (suc b) e h = numbered_balanced g (i + 1) (93 ∷ before) l s y k n b (omega (arith, e)) h
 
-offspring_balanced : (g : Numbering) (x : List Symbol) (raw : List Raw) (n : ℕ) → Offspring g x raw → level_balanced n x ≡ true → raw_balanced n raw ≡ true
+pub offspring_balanced : (g : Numbering) (x : List Symbol) (raw : List Raw) (n : ℕ) → Offspring g x raw → level_balanced n x ≡ true → raw_balanced n raw ≡ true
 offspring_balanced g [] raw n o h = ap (raw_balanced n) o ∙ h
 offspring_balanced g (Push l ∷ x) raw n o h = ap (raw_balanced n) o.1 ∙ offspring_balanced g x o.0 (suc n) o.2 h
 offspring_balanced g (Pop l ∷ x) raw zero o h = cc
@@ -281,7 +281,7 @@ of_raws g t raw b r d l = record {
   generations = cut_long (t + 1) raw None l;
 }
 
-first_grown : (s : System) → HasBalance s → Grown s.numbering 0 (first_level s)
+pub first_grown : (s : System) → HasBalance s → Grown s.numbering 0 (first_level s)
 first_grown s b =
     let xs : List (S.Symbol ℤ) = s.axiom_string in
     let g : Numbering = s.numbering in
@@ -292,7 +292,7 @@ first_grown s b =
     (subst (PairwiseRaws Unlike) whole (distinct_numbered g 0 [] [] xs [] (let k = b.short_axiom in omega (arith, k)) (λ i. tt) tt))
     (subst (LongRaws 1) whole (numbered_long g 0 0 [] [] xs [] refl tt))
 
-next_grown : (s : System) → HasBalance s → (t : ℕ) (x y : List Symbol) → Grown s.numbering t x → next_level s t x ≡ Ok y → Grown s.numbering (suc t) y
+pub next_grown : (s : System) → HasBalance s → (t : ℕ) (x y : List Symbol) → Grown s.numbering t x → next_level s t x ≡ Ok y → Grown s.numbering (suc t) y
 next_grown s b t x y g h =
     let r = ok_parts (children_from s t x 0 0 x) _ y h in
     let e : cut r.0 ≡ y = let i = r.2 in cc in

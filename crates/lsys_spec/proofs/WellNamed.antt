@@ -162,12 +162,12 @@ string_named G (S.Push ∷ xs) h = (tt, string_named G xs h.1)
 string_named G (S.Pop ∷ xs) h = (tt, string_named G xs h.1)
 string_named G (S.Cut ∷ xs) h = (tt, string_named G xs h.1)
 
-first_named : (s : System) → WellSpelled s → NamedLevel (first_level s)
+pub first_named : (s : System) → WellSpelled s → NamedLevel (first_level s)
 first_named s w =
     let xs : List (S.Symbol ℤ) = s.axiom_string in
     cut_named (children s.numbering [] xs) None (subst NamedRaws (append-nil (children s.numbering [] xs)) (numbered_named s.numbering 0 [] [] xs [] (string_named _ xs w.axiom_symbols) tt))
 
-next_named : (s : System) → WellSpelled s → (t : ℕ) (x y : List Symbol) → NamedLevel x → next_level s t x ≡ Ok y → NamedLevel y
+pub next_named : (s : System) → WellSpelled s → (t : ℕ) (x y : List Symbol) → NamedLevel x → next_level s t x ≡ Ok y → NamedLevel y
 next_named s w t x y v h =
     let r = ok_parts (children_from s t x 0 0 x) _ y h in
     let e : cut r.0 ≡ y = let i = r.2 in cc in

@@ -1,5 +1,5 @@
 -- Lines, sessions, values and the sample: examples that the checker computes.
-use Rattle.std.specs.Prelude.{◌≡◌, ℕ, pos, negsuc, true, false, ◌||◌, ◌==◌, ◌-◌, ◌^◌, Ok, Err, List, [], ◌∷◌, ◌++◌, map, flat_map, replicate, codes, refl}
+use Rattle.std.specs.Prelude.{◌≡◌, ℕ, pos, negsuc, true, false, ◌||◌, ◌==◌, ◌-◌, ◌^◌, Ok, Err, List, [], ◌∷◌, ◌++◌, length, map, flat_map, replicate, codes, refl}
 use Rattle.std.specs.Fmt.{digits}
 use Rattle.lsys_syntax.specs.Limits.{usual_module_limit}
 use Rattle.lsys_spec.specs.Values.{Overflow, NegativePower, power, applied, product_of, in_range}
@@ -8,6 +8,7 @@ use Rattle.lsys_spec.specs.Lattices.{square, vector}
 use Rattle.lsys_spec.specs.Pictures.{box, pen_width}
 use Rattle.lsys_spec.specs.Replies.{reply}
 use Rattle.lsys_spec.specs.Output.{out, output_text, none, any_refusal, any_memory, quits, whole_lines, run_with}
+use Rattle.lsys_spec.specs.Costs.{line_cost, script_cost}
 use Rattle.lsys_spec.specs.Samples.{sample}
 
 abbrev run : List ℕ → List ℕ
@@ -141,3 +142,11 @@ pub another_sample :
     ++ (pairs 47 ++ (codes "[+F_a]F_a[-F_a]F_b" ++ (pairs 2 ++ codes "[+F_a]F_a\nproduction s: F_b < F_a => F_b\nseed 701\nquit\n")))))
 unfolding digits
 another_sample = refl
+
+-- Of three accepted edits the third asks one question, which reads one entry, and here an edit visits as many entries as there are
+-- levels; two edits are refused, one for its levels and one for want of memory; behind `quit` nothing counts.
+pub costs :
+    script_cost (reply 4) (line_cost (λ old new xs ys. length ys) 4)
+    (codes "axiom BA\nproduction a: B<A => B\ndepth 1\nstring\ndepth 2\ndepth 0\n\nquit\ndepth 0\n") (λ n. n == 6)
+    ≡ record { need = 1; least = 1; most = 4; refusals = 2 }
+costs = refl

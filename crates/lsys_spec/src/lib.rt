@@ -3,6 +3,7 @@
 //! They stand in `specs/`. The functions here have empty bodies: the contract is a law about the definitions.
 #![tactic(auto)]
 
+pub mod costs;
 pub mod derivations;
 pub mod draws;
 pub mod former;

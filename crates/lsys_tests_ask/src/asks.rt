@@ -271,7 +271,7 @@ fn the_1025th_entry_is_too_far(rt: HostRuntime) -> Result<(), Fail> {
 
 #[test]
 fn an_answer_is_small(rt: HostRuntime) -> Result<(), Fail> {
-    assert_eq!(rt; size_of::<Answer<Brand>>(), 112);
+    assert_eq!(rt; size_of::<Answer<Brand>>(), 96);
     Ok(())
 }
 

@@ -54,7 +54,7 @@ impl Trace {
         (&self.entries, &self.values)
     }
 
-    /// A trace with these entries, whose parameters stand in order.
+    /// A trace with these entries, whose parameters stand in order. Without entries it takes no memory.
     ///
     /// # Errors
     ///
@@ -67,6 +67,9 @@ impl Trace {
         requires { arities entries.now ≡ length values.now }
         ensures { IfOk result (λ t. t ≡ decoded entries.now values.now) }
     {
+        if entries.is_empty() {
+            return Ok(Trace::new(alloc));
+        }
         let mut all = Vec::new(alloc);
         all.extend_from_slice(entries)?;
         let mut params = Vec::new(alloc);

@@ -1,84 +1,45 @@
-use Rattle.std.proofs.Common.{rules, ◌≡◌, ap, subst, ◌∙◌, Ok, Err}
-use Rattle.lsys_level.specs.Spots.{level_at}
-use Rattle.lsys_match.specs.declared.told.Told.{Told as CodeTold}
-use Rattle.lsys_match.specs.declared.told.Told.TheVariants.{Same, Other}
-use Rattle.lsys_match.specs.Asking.{posed_by, site_of, told_for}
-use Rattle.lsys_match.specs.Telling.{IsTelling, old_trace}
-use Rattle.lsys_match.proofs.Answering.{counted, counts_err, counts_ok, failed, few_read, new_answer, new_one, old_answer}
+use Rattle.std.proofs.Common.{rules, ◌≡◌, ℕ, List, length, Option, Some, Ok, Err, subst}
+use Rattle.std.specs.Prelude.{option_map, IfSome}
+use Rattle.lsys_spec.specs.Levels.{ModuleValue}
+use Rattle.lsys_level.specs.Spots.{level_at, level_by}
+use Rattle.lsys_match.specs.Answered.{Counts}
+use Rattle.lsys_match.specs.Asking.{AskedLevel}
+use Rattle.lsys_match.specs.Asks.{IsAnswered, IsNamedAt, asked_if_any, by_definition}
+use Rattle.lsys_match.specs.declared.asked.Asked.{Asked}
 use Rattle.lsys_match.proofs.question.ask.Goals as goal
 
-pub returns-in_err-reply-clause-answered : goal.returns-in_err-reply-clause-answered
-returns-in_err-reply-clause-answered g c =
+pub returns-in-Ok-Some-clause-answered : goal.returns-in-Ok-Some-clause-answered
+returns-in-Ok-Some-clause-answered g c =
     let levels = g.W.LevelView.levels c.args.view.now in
     let p = g.W.LevelView.place_of c.args.view.now c.args.spot in
-    let row = level_at levels c.args.level in
-    let row' = level_at levels (g.W.LevelView.level_of c.args.view.now c.args.spot) in
-    let e : row' ≡ row = ap (level_at levels) c.requires.level in
-    let r : c.from_residual.result ≡ Err c.in_err-reply.field-0.0 = search rules in
-    let told = subst (IsTelling (λ naming. told_for naming (site_of c.at-posed.result row' p) (posed_by c.at-posed.result)) (posed_by c.at-posed.result) (old_trace c.trace_for-kept.result)) c.in_err-reply.was c.tell_at.ensures.told in
-    λ naming tag m w. failed c.at-posed.result c.args.system.now c.args.level row row' p e c.at-posed.ensures.filter c.at-posed.ensures.posed naming tag m w _ c.args.store.now _ (old_trace c.trace_for-kept.result) c.in_err-reply.field-0.0 c.from_residual.result r told
+    let some : c.in-Ok-Some.field-0 ≡ Some c.in-Ok-Some.answer = search rules in
+    let Goal : AskedLevel → Option (Asked g.row.L.Denot) → Type 0 = (λ k o. (naming : ℕ → List ℕ) (tag : ℕ) (m : ModuleValue) → IsNamedAt naming k.system.seed (level_at levels k.level) p tag m
+    → IfSome (asked_if_any {L = g.row.L.Denot} (Ok o)) (IsAnswered {L = g.row.L.Denot} naming (by_definition k.system k.level (level_by naming (level_at levels k.level)) p (naming tag) m) c.ask.new.store (option_map (λ a. a.now) c.args.old))) in
+    subst (λ k. Goal k (Some c.in-Ok-Some.answer)) c.new-asker.ensures (subst (Goal c.new-asker.result) some c.in-Ok-Some.ensures.answered)
 
-pub returns-in_err-reply-clause-visited : goal.returns-in_err-reply-clause-visited
-returns-in_err-reply-clause-visited g c =
+pub returns-in-Ok-Some-clause-visited : goal.returns-in-Ok-Some-clause-visited
+returns-in-Ok-Some-clause-visited g c =
     let levels = g.W.LevelView.levels c.args.view.now in
     let p = g.W.LevelView.place_of c.args.view.now c.args.spot in
-    let row = level_at levels c.args.level in
-    let row' = level_at levels (g.W.LevelView.level_of c.args.view.now c.args.spot) in
-    let e : row' ≡ row = ap (level_at levels) c.requires.level in
-    let r : c.from_residual.result ≡ Err c.in_err-reply.field-0.0 = search rules in
-    λ naming tag m w. let k = counted c.at-posed.result c.args.system.now c.args.level row row' p e c.at-posed.ensures.filter c.at-posed.ensures.posed naming tag m w CodeTold c.visited.inside.count c.args.visited.now c.tell_at.new.visited c.tell_at.result c.visited.view_is (c.tell_at.ensures.visited naming) in
-    counts_err CodeTold _ _ c.args.visited.now c.tell_at.new.visited c.tell_at.result c.from_residual.result c.in_err-reply.field-0.0 c.in_err-reply.was r k
-
-pub returns-in_default-clause-answered : goal.returns-in_default-clause-answered
-returns-in_default-clause-answered g c =
-    let levels = g.W.LevelView.levels c.args.view.now in
-    let p = g.W.LevelView.place_of c.args.view.now c.args.spot in
-    let row = level_at levels c.args.level in
-    let row' = level_at levels (g.W.LevelView.level_of c.args.view.now c.args.spot) in
-    let e : row' ≡ row = ap (level_at levels) c.requires.level in
-    let ok : c.tell_at.result ≡ Ok Same = c.in_ok-reply.was ∙ ap (λ r. Ok r) c.in_default.is in
-    let told = subst (IsTelling (λ naming. told_for naming (site_of c.at-posed.result row' p) (posed_by c.at-posed.result)) (posed_by c.at-posed.result) (old_trace c.trace_for-kept.result)) ok c.tell_at.ensures.told in
-    λ naming tag m w. old_answer c.at-posed.result c.args.system.now c.args.level row row' p e c.at-posed.ensures.filter c.at-posed.ensures.posed naming tag m w c.args.store.now _ (old_trace c.trace_for-kept.result) c.at-posed.ensures.well.1 c.requires.made c.trace_for-kept.ensures.trace told.0 told.1 told.2
-
-pub keep-requires-clause-entries : goal.keep-requires-clause-entries
-keep-requires-clause-entries g c =
-    let levels = g.W.LevelView.levels c.args.view.now in
-    let p = g.W.LevelView.place_of c.args.view.now c.args.spot in
-    let row = level_at levels c.args.level in
-    let row' = level_at levels (g.W.LevelView.level_of c.args.view.now c.args.spot) in
-    let e : row' ≡ row = ap (level_at levels) c.requires.level in
-    let ok : c.tell_at.result ≡ Ok (Other c.in-Other.reply) = c.in_ok-reply.was ∙ ap (λ r. Ok r) c.in-Other.is in
-    let told = subst (IsTelling (λ naming. told_for naming (site_of c.at-posed.result row' p) (posed_by c.at-posed.result)) (posed_by c.at-posed.result) (old_trace c.trace_for-kept.result)) ok c.tell_at.ensures.told in
-    few_read c.at-posed.result c.args.system.now c.args.level row row' p e c.at-posed.ensures.filter c.at-posed.ensures.posed c.in-Other.reply told.1
+    let some : c.in-Ok-Some.field-0 ≡ Some c.in-Ok-Some.answer = search rules in
+    let Goal : AskedLevel → Option (Asked g.row.L.Denot) → Type 0 = (λ k o. (naming : ℕ → List ℕ) (tag : ℕ) (m : ModuleValue) → IsNamedAt naming k.system.seed (level_at levels k.level) p tag m
+    → IfSome (asked_if_any {L = g.row.L.Denot} (Ok o)) (Counts {T = Asked g.row.L.Denot} (length (by_definition k.system k.level (level_by naming (level_at levels k.level)) p (naming tag) m).question.trace) c.args.visited.now c.ask.new.visited)) in
+    subst (λ k. Goal k (Some c.in-Ok-Some.answer)) c.new-asker.ensures (subst (Goal c.new-asker.result) some c.in-Ok-Some.ensures.visited)
 
 pub returns-clause-answered : goal.returns-clause-answered
 returns-clause-answered g c =
     let levels = g.W.LevelView.levels c.args.view.now in
     let p = g.W.LevelView.place_of c.args.view.now c.args.spot in
-    let row = level_at levels c.args.level in
-    let row' = level_at levels (g.W.LevelView.level_of c.args.view.now c.args.spot) in
-    let e : row' ≡ row = ap (level_at levels) c.requires.level in
-    let ok : c.tell_at.result ≡ Ok (Other c.in-Other.reply) = c.in_ok-reply.was ∙ ap (λ r. Ok r) c.in-Other.is in
-    let told = subst (IsTelling (λ naming. told_for naming (site_of c.at-posed.result row' p) (posed_by c.at-posed.result)) (posed_by c.at-posed.result) (old_trace c.trace_for-kept.result)) ok c.tell_at.ensures.told in
-    λ naming tag m w. new_answer c.at-posed.result c.args.system.now c.args.level row row' p e c.at-posed.ensures.filter c.at-posed.ensures.posed naming tag m w c.in-Other.reply c.args.store.now c.keep.new.store c.in_ok-answer.answer told.1 c.in_ok-answer.ensures.kept
+    subst
+    (λ (k : AskedLevel). (naming : ℕ → List ℕ) (tag : ℕ) (m : ModuleValue) → IsNamedAt naming k.system.seed (level_at levels k.level) p tag m
+    → IsAnswered {L = g.row.L.Denot} naming (by_definition k.system k.level (level_by naming (level_at levels k.level)) p (naming tag) m) c.ask.new.store (option_map (λ a. a.now) c.args.old) (Err c.in-Err.refusal))
+    c.new-asker.ensures c.in-Err.ensures.answered
 
 pub returns-clause-visited : goal.returns-clause-visited
 returns-clause-visited g c =
     let levels = g.W.LevelView.levels c.args.view.now in
     let p = g.W.LevelView.place_of c.args.view.now c.args.spot in
-    let row = level_at levels c.args.level in
-    let row' = level_at levels (g.W.LevelView.level_of c.args.view.now c.args.spot) in
-    let e : row' ≡ row = ap (level_at levels) c.requires.level in
-    λ naming tag m w. let k = counted c.at-posed.result c.args.system.now c.args.level row row' p e c.at-posed.ensures.filter c.at-posed.ensures.posed naming tag m w CodeTold c.visited.inside.count c.args.visited.now c.tell_at.new.visited c.tell_at.result c.visited.view_is (c.tell_at.ensures.visited naming) in
-    counts_ok CodeTold _ c.args.visited.now c.tell_at.new.visited c.tell_at.result _ c.in_ok-reply.was k
-
-pub returns-clause-store : goal.returns-clause-store
-returns-clause-store g c =
-    let levels = g.W.LevelView.levels c.args.view.now in
-    let p = g.W.LevelView.place_of c.args.view.now c.args.spot in
-    let row = level_at levels c.args.level in
-    let row' = level_at levels (g.W.LevelView.level_of c.args.view.now c.args.spot) in
-    let e : row' ≡ row = ap (level_at levels) c.requires.level in
-    let ok : c.tell_at.result ≡ Ok (Other c.in-Other.reply) = c.in_ok-reply.was ∙ ap (λ r. Ok r) c.in-Other.is in
-    let told = subst (IsTelling (λ naming. told_for naming (site_of c.at-posed.result row' p) (posed_by c.at-posed.result)) (posed_by c.at-posed.result) (old_trace c.trace_for-kept.result)) ok c.tell_at.ensures.told in
-    new_one c.at-posed.result c.args.system.now c.args.level row row' p e c.at-posed.ensures.filter c.at-posed.ensures.posed c.at-posed.ensures.well.1 c.in-Other.reply c.args.store.now c.keep.new.store _ (old_trace c.trace_for-kept.result) c.in_ok-answer.answer c.trace_for-kept.ensures.trace told.0 told.1 c.in_ok-answer.ensures.kept
+    subst
+    (λ (k : AskedLevel). (naming : ℕ → List ℕ) (tag : ℕ) (m : ModuleValue) → IsNamedAt naming k.system.seed (level_at levels k.level) p tag m
+    → Counts {T = Asked g.row.L.Denot} (length (by_definition k.system k.level (level_by naming (level_at levels k.level)) p (naming tag) m).question.trace) c.args.visited.now c.ask.new.visited (Err c.in-Err.refusal))
+    c.new-asker.ensures c.in-Err.ensures.visited

@@ -1,6 +1,6 @@
 use Rattle.std.proofs.Common.{◌≡◌, List, length, take}
 use Rattle.lsys_spec.specs.Levels.{Symbol}
-use Rattle.lsys_need.specs.Kept.{places_in}
+use Rattle.lsys_laws.specs.KeptQuestions.{places_in}
 use Rattle.lsys_pairing.specs.Lookups.{AreSorted}
 use Rattle.lsys_pairing.specs.Moves.{AreBelow}
 use Rattle.lsys_pairing.proofs.Mates.{Two}

@@ -37,6 +37,7 @@ loop-place-init g c =
     let room = c.args.self.now.next.grown.room in
     let none : c.reserve.new.self ≡ nothing_asked numbering room = c.reserve.ensures ∙ c.requires.new in
     record {
+      asker = c.new-asker.ensures;
       at = subst (IsAt 0) (sym none) (none_at numbering room);
       new = subst (λ (r : Rounded). AreNew c.args.store.now c.args.store.now r.fresh) (sym none) (none_new c.args.store.now);
       made = c.requires.made;
@@ -55,6 +56,7 @@ returns-in_err-ask_next-clause-round g c = λ naming x is.
 
 pub loop-place-preserved : goal.loop-place-preserved
 loop-place-preserved g c = record {
+  asker = c.in_ok-ask_next.ensures.same ∙ c.loop-place.invariant.asker;
   at = c.in_ok-ask_next.ensures.next;
   new = c.in_ok-ask_next.ensures.new c.args.store.now c.loop-place.invariant.new;
   made = made_still c.loop-place.store c.ask_next.new.store c.args.beside.now.olds.now c.in_ok-ask_next.ensures.stay c.loop-place.invariant.made;

@@ -1,6 +1,7 @@
 use Rattle.std.proofs.Common.{◌≡◌, ◌+◌, ℕ, List, length}
 use Rattle.lsys_spec.specs.Levels as levels
 use Rattle.lsys_level.specs.Spots.{level_at}
+use Rattle.lsys_match.specs.Asking.{asked_level}
 use Rattle.lsys_counts.specs.Slots.{filled}
 use Rattle.lsys_round.specs.Rounds.{told, AreMadeAt, AreNew, AskedTo, IsAt, IsRow}
 use Rattle.lsys_round.proofs.round.Round.ask_level.Given as goal
@@ -9,6 +10,7 @@ abbrev pub invariant-loop-place : goal.invariant-loop-place
 invariant-loop-place g l =
     let row = level_at l.beside.view.now l.beside.level in
     record {
+      asker : l.asker ≡ asked_level l.beside.system.now l.beside.level;
       at : IsAt l.place l.self;
       new : AreNew l.fn.store l.store l.self.fresh;
       made : AreMadeAt l.store l.beside.olds.now;

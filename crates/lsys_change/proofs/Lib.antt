@@ -1,0 +1,15 @@
+pub mod UpTo
+pub mod Faultless
+pub mod Asked
+pub mod Found
+pub mod Rows
+pub mod Limits
+pub mod Sums
+pub mod Joints
+pub mod Mirrors
+pub mod Closers
+pub mod Placed
+pub mod Lineages
+pub mod Untouched
+pub mod Families
+pub mod Still

@@ -1,0 +1,9 @@
+pub mod Passes
+pub mod Groups
+pub mod LevelCounts
+pub mod Kinds
+pub mod Children
+pub mod Seams
+pub mod Mates
+pub mod Seats
+pub mod Nodes
