@@ -1,6 +1,6 @@
 -- What undoing a change and taking one up do to the nodes and to the other changes.
 use Rattle.std.proofs.Common.{◌≡◌, ◌≤◌, ◌<◌, ◌+◌, ℕ, ℤ, zero, suc, List, [], ◌∷◌, ◌++◌, length, set, Option, Some, None, refl, sym, ap, ◌∙◌, arith, subst}
-use Rattle.std.specs.Prelude.{option_map, slice_get}
+use Rattle.std.specs.Prelude.{IfSome, IfNone, option_map, slice_get}
 use Rattle.std.specs.Option.{option_and_then}
 use Rattle.std.proofs.lemmas.List.{length-set}
 use Rattle.lsys_region.proofs.ListLemmas.{slice_get-push_old, slice_get-push_new}
@@ -11,7 +11,7 @@ use Rattle.lsys_forest.specs.declared.note.Was.TheVariants as was
 use Rattle.lsys_forest.specs.Shelves.{Shelf}
 use Rattle.lsys_forest.specs.Slots.{slot_at, live_slots, change_slot, kind_set, key_set, answer_set, answer_before}
 use Rattle.lsys_forest.specs.Nodes.{Node, Nodes, change, seen_as, with_seen, with_key, with_kids, with_answer}
-use Rattle.lsys_forest.specs.Changes.{Before, Missing, OldSeen, OldKey, OldKids, OldAnswer, Change, undo}
+use Rattle.lsys_forest.specs.Changes.{KeepsKids, Before, Missing, OldSeen, OldKey, OldKids, OldAnswer, Change, undo}
 use Rattle.lsys_forest.specs.Answers.{answer_of, old_answer}
 use Rattle.lsys_forest.specs.Stocks.{row_at, first_of, before_of, params_left, kids_left, node_of, told, param_lists, kid_lists, param_count, kid_count, IsStock, UndoesParams, UndoesKids, undone_slots, slot_answer, dropped_slot, dropped, looked, DropsParams, TakesKids, noted_answer, named}
 use Rattle.lsys_forest.proofs.SlotLemmas.{live_change, live_gone, slot_some}
@@ -30,25 +30,53 @@ option_twice f g f' g' same None = refl
 option_twice f g f' g' same (Some x) = ap Some (same x)
 
 module _ {A : Type 0} where
-  -- the last change is of the node that the last note is of
-  pub told_last : (notes : List (Note A)) (ps : List (List ℤ)) (ks : List (List ℕ)) (i : ℕ) (n : Note A) (earlier : List (Change A)) (c : Change A) → i + 1 ≡ length notes → slice_get notes i ≡ Some n → told notes ps ks ≡ earlier ++ c ∷ [] → c.node ≡ n.node
+  pub no_last : (earlier : List (Change A)) (c : Change A) → [] ≡ earlier ++ c ∷ [] → ⊥
+  no_last [] c e = cc
+  no_last (x ∷ earlier) c e = cc
+
+  -- a change as a note tells it
+  pub record IsToldBy (n : Note A) (c : Change A) : Type 0 where
+    pub node : c.node ≡ n.node
+    pub params : List ℤ
+    pub kids : List ℕ
+    pub before : c.before ≡ before_of n.was params kids
+
+  -- the last change is told by the last note
+  pub told_last : (notes : List (Note A)) (ps : List (List ℤ)) (ks : List (List ℕ)) (i : ℕ) (n : Note A) (earlier : List (Change A)) (c : Change A) → i + 1 ≡ length notes → slice_get notes i ≡ Some n → told notes ps ks ≡ earlier ++ c ∷ [] → IsToldBy n c
   told_last [] ps ks i n earlier c long here e = absurd (omega (arith, long))
   told_last (m ∷ []) ps ks zero n [] c long here e =
       let change : Change A = record { node = m.node; before = before_of m.was (first_of ps) (first_of ks) } in
       let f : change ≡ c = cc in
       let g : m ≡ n = cc in
-      ap (λ (x : Change A). x.node) (sym f) ∙ ap (λ (x : Note A). x.node) g
-  told_last (m ∷ []) ps ks zero n (d ∷ earlier) c long here e = absurd (some_behind earlier c cc)
-    where
-      some_behind : (xs : List (Change A)) (x : Change A) → [] ≡ xs ++ x ∷ [] → ⊥
-      some_behind [] x f = cc
-      some_behind (y ∷ xs) x f = cc
+      record {
+        node = ap (λ (x : Change A). x.node) (sym f) ∙ ap (λ (x : Note A). x.node) g;
+        params = first_of ps;
+        kids = first_of ks;
+        before = ap (λ (x : Change A). x.before) (sym f) ∙ ap (λ (x : Note A). before_of x.was (first_of ps) (first_of ks)) g;
+      }
+  told_last (m ∷ []) ps ks zero n (d ∷ earlier) c long here e = absurd (no_last earlier c cc)
   told_last (m ∷ []) ps ks (suc i) n earlier c long here e = absurd (omega (arith, long))
   told_last (m ∷ o ∷ notes) ps ks zero n earlier c long here e = absurd (omega (arith, long))
-  told_last (m ∷ o ∷ notes) ps ks (suc i) n [] c long here e = cc
+  told_last (m ∷ o ∷ notes) ps ks (suc i) n [] c long here e = let none : ⊥ = cc in absurd none
   told_last (m ∷ o ∷ notes) ps ks (suc i) n (d ∷ earlier) c long here e =
       let f : told (o ∷ notes) (params_left m.was ps) (kids_left m.was ks) ≡ earlier ++ c ∷ [] = cc in
       told_last (o ∷ notes) (params_left m.was ps) (kids_left m.was ks) i n earlier c (omega (arith, long)) here f
+
+  pub keeps_kids : (w : Was A) (params : List ℤ) (kids : List ℕ) → kid_lists w ≡ 0 → KeepsKids (before_of w params kids)
+  keeps_kids was.Missing params kids e = tt
+  keeps_kids (was.Kind x) params kids e = tt
+  keeps_kids (was.Key x) params kids e = tt
+  keeps_kids was.Kids params kids e = absurd (omega (arith, e))
+  keeps_kids (was.Answer x) params kids e = tt
+
+  -- the node whose children the last change set
+  pub family_is : (node : Option ℕ) (n : Note A) (changes : List (Change A)) → IfSome node (λ k. n.node ≡ k) → ((c : Change A) (earlier : List (Change A)) → changes ≡ earlier ++ c ∷ [] → IsToldBy n c) → IfSome node (λ k. (c : Change A) (earlier : List (Change A)) → changes ≡ earlier ++ c ∷ [] → c.node ≡ k)
+  family_is None n changes is told = tt
+  family_is (Some k) n changes is told = λ c earlier were. (told c earlier were).node ∙ is
+
+  pub family_none : (node : Option ℕ) (n : Note A) (changes : List (Change A)) → IfNone node (kid_lists n.was ≡ 0) → ((c : Change A) (earlier : List (Change A)) → changes ≡ earlier ++ c ∷ [] → IsToldBy n c) → IfNone node ((c : Change A) (earlier : List (Change A)) → changes ≡ earlier ++ c ∷ [] → KeepsKids c.before)
+  family_none None n changes is told = λ c earlier were. (let t = told c earlier were in subst KeepsKids (sym t.before) (keeps_kids n.was t.params t.kids is))
+  family_none (Some k) n changes is told = tt
 
   pub undone_long : (w : Was A) (k : ℕ) (slots : List (Option (Stored A))) → length (undone_slots w k slots) ≡ length slots
   undone_long was.Missing k slots = length-set slots k None

@@ -78,7 +78,7 @@ module _ {A : Type 0} where
         ];
         held = λ x n found other. absurd (none-some n (sym (ap (λ (f : Nodes A). f x) is ∙ put_other (λ k. None) 0 x (Some (root_node 0)) other) ∙ found));
         own = λ p n found. elim (cases_eq p 0) [
-          | inl e ↦ subst (λ (l : List ℕ). AreKids m 0 p l) (ap (λ (o : Node A). o.kids) (same_Some (root_node 0) n (sym there ∙ sym (ap m e) ∙ found))) (record { under = λ x h. absurd h; rising = tt })
+          | inl e ↦ subst (λ (l : List ℕ). AreKids m 0 p l) (ap (λ (o : Node A). o.kids) (same_Some (root_node 0) n (sym there ∙ sym (ap m e) ∙ found))) (record { under = λ x h. absurd h; apart = tt })
           | inr ne ↦ absurd (none-some n (sym (ap (λ (f : Nodes A). f p) is ∙ put_other (λ k. None) 0 p (Some (root_node 0)) ne) ∙ found))
         ];
       }

@@ -1,14 +1,14 @@
 -- The levels of a sound forest: no node stands twice, and each stands among the children of its parent.
-use Rattle.std.proofs.Common.{◌≡◌, ◌≢◌, ◌⊎◌, ◌+◌, ◌<◌, ◌≤◌, ℕ, zero, suc, List, [], ◌∷◌, ◌++◌, length, Option, Some, None, refl, sym, ap, ◌∙◌, arith, inl, inr, subst, append_assoc}
+use Rattle.std.proofs.Common.{◌≡◌, ◌≢◌, ◌⊎◌, ◌+◌, ◌<◌, ◌≤◌, ℕ, zero, suc, List, [], ◌∷◌, ◌++◌, length, slice_get, Option, Some, None, refl, sym, ap, ◌∙◌, arith, inl, inr, subst, append_assoc}
 use Rattle.std.proofs.lemmas.Bool.{cases_eq}
 use Rattle.std.proofs.lemmas.Grind.{common_steps}
 use Rattle.std.proofs.lemmas.List.{append-nil}
-use Rattle.std.proofs.lemmas.Option.{same_Some}
+use Rattle.std.proofs.lemmas.Option.{none-some, same_Some}
 use Rattle.lsys_forest.specs.declared.walk.Way.{Way}
 use Rattle.lsys_forest.specs.declared.walk.Way.TheVariants.{Left, Right}
 use Rattle.lsys_forest.specs.Nodes.{Node, Nodes}
 use Rattle.lsys_forest.specs.Changes.{Change}
-use Rattle.lsys_forest.specs.Groves.{In, AreApart, AreRising, IsSound}
+use Rattle.lsys_forest.specs.Groves.{In, AreApart, IsSound}
 use Rattle.std.specs.Prelude.{IsSome}
 use Rattle.lsys_forest.specs.declared.node.Stored.{Stored}
 use Rattle.lsys_forest.specs.Slots.{slot_at, live_slots}
@@ -36,6 +36,18 @@ pub In_split : (k : ℕ) (xs : List ℕ) → In k xs → (before : List ℕ) × 
 In_split k [] h = absurd h
 In_split k (x ∷ xs) (inl e) = ([], xs, ap (λ y. y ∷ xs) (sym e))
 In_split k (x ∷ xs) (inr h) = let s = In_split k xs h in (x ∷ s.0, s.1, ap (λ (l : List ℕ). x ∷ l) s.2)
+
+-- what stands at a place stands between others
+pub record IsSplit (xs : List ℕ) (i k : ℕ) : Type 0 where
+  pub before : List ℕ
+  pub after : List ℕ
+  pub whole : xs ≡ before ++ k ∷ after
+  pub long : length before ≡ i
+
+pub get_split : (xs : List ℕ) (i k : ℕ) → slice_get xs i ≡ Some k → IsSplit xs i k
+get_split [] i k e = absurd (none-some k e)
+get_split (x ∷ xs) zero k e = record { before = []; after = xs; whole = ap (λ y. y ∷ xs) (same_Some x k e); long = refl }
+get_split (x ∷ xs) (suc i) k e = let s = get_split xs i k e in record { before = x ∷ s.before; after = s.after; whole = ap (λ (l : List ℕ). x ∷ l) s.whole; long = ap suc s.long }
 
 pub apart_parts : (xs ys : List ℕ) → AreApart (xs ++ ys) → AreApart xs × AreApart ys × ((k : ℕ) → In k xs → In k ys → ⊥)
 apart_parts [] ys a = (tt, a, λ k h i. absurd h)
@@ -154,23 +166,12 @@ flat_In f (x ∷ xs) k h = elim (In_append (f x) (flat f xs) k h) [
 -- 2. levels
 
 module _ {A : Type 0} where
-  rising_apart : (m : Nodes A) (xs : List ℕ) → AreRising m xs → AreApart xs
-  rising_apart m [] r = tt
-  rising_apart m (x ∷ xs) r = (λ h. let e = r.0 x h in omega (arith, e), rising_apart m xs r.1)
-
   pub kids_apart : (root : ℕ) (changes : List (Change A)) (m : Nodes A) → IsSound root changes m → (p : ℕ) → AreApart (kids_in (m p))
   kids_apart root changes m sound p = go (m p) refl
     where
       go : (o : Option (Node A)) → m p ≡ o → AreApart (kids_in o)
       go None e = tt
-      go (Some n) e = rising_apart m n.kids (sound.own p n e).rising
-
-  pub kids_rising : (root : ℕ) (changes : List (Change A)) (m : Nodes A) → IsSound root changes m → (p : ℕ) → AreRising m (kids_in (m p))
-  kids_rising root changes m sound p = go (m p) refl
-    where
-      go : (o : Option (Node A)) → m p ≡ o → AreRising m (kids_in o)
-      go None e = tt
-      go (Some n) e = (sound.own p n e).rising
+      go (Some n) e = (sound.own p n e).apart
 
   -- a node of a level, with its parent
   pub record IsChild (m : Nodes A) (p k : ℕ) : Type 0 where

@@ -9,7 +9,7 @@ use Rattle.lsys_level.specs.Spots.{Seen}
 use Rattle.lsys_forest.specs.Nodes.{Node, Nodes, put, change, with_seen, with_key, with_kids, with_answer}
 use Rattle.lsys_forest.specs.Changes.{OldSeen, OldKey, OldKids, OldAnswer, Change, undo, undone}
 use Rattle.lsys_forest.specs.Stocks.{looked}
-use Rattle.lsys_forest.specs.Groves.{In, place_in, HasFew, IsUnder, AreRising, AreKids, Named, IsHeld, IsSound, AreSound}
+use Rattle.lsys_forest.specs.Groves.{In, HasFew, IsUnder, AreKids, Named, IsHeld, IsSound, AreSound}
 use Rattle.lsys_forest.proofs.StockLemmas.{put_same, put_other}
 
 pub some_of : {X : Type 0} (o : Option X) → IsSome o → (x : X) × (o ≡ Some x)
@@ -79,7 +79,6 @@ module _ {A : Type 0} where
   -- the second node may stand for the first, where a commit looks at the children that it lost
   pub record Replaces (c : Change A) (old new : Node A) : Type 0 where
     pub parent : new.parent ≡ old.parent
-    pub place : new.place ≡ old.place
     pub depth : new.depth ≡ old.depth
     pub kids : (x : ℕ) → In x old.kids → In x new.kids ⊎ In x (looked c)
 
@@ -94,7 +93,7 @@ module _ {A : Type 0} where
     pub replaces : Replaces c old node
 
   itself : (c : Change A) (n : Node A) → Replaces c n n
-  itself c n = record { parent = refl; place = refl; depth = refl; kids = λ x h. inl h }
+  itself c n = record { parent = refl; depth = refl; kids = λ x h. inl h }
 
   before : (m : Nodes A) (c : Change A) (k : ℕ) (old new : Node A) → m k ≡ Some old → Replaces c old new → (x : ℕ) (n : Node A) → put m k (Some new) x ≡ Some n → Then m c x n
   before m c k old new is replaces x n found = elim (cases_eq x k) [
@@ -113,21 +112,10 @@ module _ {A : Type 0} where
       let a = after m c k old new is replaces x under.node under.is in
       record { node = a.node; is = a.is; parent_is = a.replaces.parent ∙ under.parent_is; other = under.other }
 
-  place_after : (m : Nodes A) (c : Change A) (k : ℕ) (old new : Node A) → m k ≡ Some old → Replaces c old new → (x : ℕ) → place_in (put m k (Some new) x) ≡ place_in (m x)
-  place_after m c k old new is replaces x = elim (cases_eq x k) [
-    | inl e ↦ ap place_in (put_same m k x (Some new) e) ∙ replaces.place ∙ sym (ap place_in (ap m e ∙ is))
-    | inr ne ↦ ap place_in (put_other m k x (Some new) ne)
-  ]
-
-  pub rising_same : (m m' : Nodes A) (kids : List ℕ) → ((x : ℕ) → In x kids → place_in (m' x) ≡ place_in (m x)) → AreRising m kids → AreRising m' kids
-  rising_same m m' [] same rising = tt
-  rising_same m m' (x ∷ kids) same rising =
-      (λ y h. let a = same x (inl refl) in let b = same y (inr h) in omega (arith, a, b, rising.0 y h), rising_same m m' kids (λ y h. same y (inr h)) rising.1)
-
   kids_after : (m : Nodes A) (root : ℕ) (c : Change A) (k : ℕ) (old new : Node A) → m k ≡ Some old → Replaces c old new → (p : ℕ) (kids : List ℕ) → AreKids m root p kids → AreKids (put m k (Some new)) root p kids
   kids_after m root c k old new is replaces p kids are = record {
     under = λ x h. under_after m root c k old new is replaces p x (are.under x h);
-    rising = rising_same m (put m k (Some new)) kids (λ x h. place_after m c k old new is replaces x) are.rising;
+    apart = are.apart;
   }
 
   linked_after : (changes : List (Change A)) (c : Change A) (old new : Node A) (x : ℕ) → Replaces c old new → In x old.kids ⊎ Named changes x → In x new.kids ⊎ Named (changes ++ c ∷ []) x
@@ -186,12 +174,12 @@ module _ {A : Type 0} where
           }
     ];
     own = λ p n found. elim (cases_eq p k) [
-      | inl e ↦ subst (AreKids (put m k (Some new)) root p) (sym (ap (λ (o : Node A). o.kids) (sym (same_Some new n (sym (put_same m k p (Some new) e) ∙ found))) ∙ none)) (record { under = λ x h. absurd h; rising = tt })
+      | inl e ↦ subst (AreKids (put m k (Some new)) root p) (sym (ap (λ (o : Node A). o.kids) (sym (same_Some new n (sym (put_same m k p (Some new) e) ∙ found))) ∙ none)) (record { under = λ x h. absurd h; apart = tt })
       | inr ne ↦
           let are = sound.own p n (sym (put_other m k p (Some new) ne) ∙ found) in
           record {
             under = λ x h. let u = are.under x h in record { node = u.node; is = kept x u.node u.is; parent_is = u.parent_is; other = u.other };
-            rising = rising_same m (put m k (Some new)) n.kids (λ x h. let u = are.under x h in ap place_in (kept x u.node u.is ∙ sym u.is)) are.rising;
+            apart = are.apart;
           }
     ];
   }
@@ -210,19 +198,19 @@ module _ {A : Type 0} where
 
   pub set_seen : (root : ℕ) (changes : List (Change A)) (m : Nodes A) (k : ℕ) (old : Node A) (x : Seen) → HasFew x → IsSound root changes m → m k ≡ Some old → IsSet root changes (record { node = k; before = OldSeen old.seen }) m k old (with_seen x old)
   unfolding IsSet
-  set_seen root changes m k old x few sound is = (is, record { parent = refl; place = refl; depth = refl; kids = λ y h. inl h }, sound.own k old is, change_back (with_seen old.seen) m k old (with_seen x old) is refl, few)
+  set_seen root changes m k old x few sound is = (is, record { parent = refl; depth = refl; kids = λ y h. inl h }, sound.own k old is, change_back (with_seen old.seen) m k old (with_seen x old) is refl, few)
 
   pub set_key : (root : ℕ) (changes : List (Change A)) (m : Nodes A) (k : ℕ) (old : Node A) (x : ℕ) → IsSound root changes m → m k ≡ Some old → IsSet root changes (record { node = k; before = OldKey old.key }) m k old (with_key x old)
   unfolding IsSet
-  set_key root changes m k old x sound is = (is, record { parent = refl; place = refl; depth = refl; kids = λ y h. inl h }, sound.own k old is, change_back (with_key old.key) m k old (with_key x old) is refl, sound.few k old is)
+  set_key root changes m k old x sound is = (is, record { parent = refl; depth = refl; kids = λ y h. inl h }, sound.own k old is, change_back (with_key old.key) m k old (with_key x old) is refl, sound.few k old is)
 
   pub set_answer : (root : ℕ) (changes : List (Change A)) (m : Nodes A) (k : ℕ) (old : Node A) (x : Option A) → IsSound root changes m → m k ≡ Some old → IsSet root changes (record { node = k; before = OldAnswer old.answer }) m k old (with_answer x old)
   unfolding IsSet
-  set_answer root changes m k old x sound is = (is, record { parent = refl; place = refl; depth = refl; kids = λ y h. inl h }, sound.own k old is, change_back (with_answer old.answer) m k old (with_answer x old) is refl, sound.few k old is)
+  set_answer root changes m k old x sound is = (is, record { parent = refl; depth = refl; kids = λ y h. inl h }, sound.own k old is, change_back (with_answer old.answer) m k old (with_answer x old) is refl, sound.few k old is)
 
   pub set_kids : (root : ℕ) (changes : List (Change A)) (m : Nodes A) (k : ℕ) (old : Node A) (x : List ℕ) → AreKids m root k x → IsSound root changes m → m k ≡ Some old → IsSet root changes (record { node = k; before = OldKids old.kids }) m k old (with_kids x old)
   unfolding IsSet
-  set_kids root changes m k old x kids sound is = (is, record { parent = refl; place = refl; depth = refl; kids = λ y h. inr h }, kids, change_back (with_kids old.kids) m k old (with_kids x old) is refl, sound.few k old is)
+  set_kids root changes m k old x kids sound is = (is, record { parent = refl; depth = refl; kids = λ y h. inr h }, kids, change_back (with_kids old.kids) m k old (with_kids x old) is refl, sound.few k old is)
 
   pub set_sound : (root : ℕ) (changes : List (Change A)) (c : Change A) (m : Nodes A) (k : ℕ) (old new : Node A) → IsSet root changes c m k old new → IsSound root changes m → IsSound root (changes ++ c ∷ []) (put m k (Some new))
   unfolding IsSet

@@ -342,9 +342,9 @@ module _ {A : Type 0} where
   ]
 
   -- the root was put where nothing was
-  pub planted : (slots slots' : List (Option (Stored A))) (params params' : List (List ℤ)) (kids kids' : List (List ℕ)) (k row : ℕ) → slots ≡ [] → length params ≡ length slots → length kids ≡ length slots → k ≡ 0 → slots' ≡ put_slot slots k (record { parent = 0; place = 0; depth = 0; kind = kinds.Push; key = 0; answer = None }) → params' ≡ reached params row → kids' ≡ reached kids row → shown_nodes slots' params' kids' ≡ put (λ j. None) 0 (Some (root_node 0))
+  pub planted : (slots slots' : List (Option (Stored A))) (params params' : List (List ℤ)) (kids kids' : List (List ℕ)) (k row : ℕ) → slots ≡ [] → length params ≡ length slots → length kids ≡ length slots → k ≡ 0 → slots' ≡ put_slot slots k (record { parent = 0; code = 0; count = 0; depth = 0; kind = kinds.Push; key = 0; answer = None }) → params' ≡ reached params row → kids' ≡ reached kids row → shown_nodes slots' params' kids' ≡ put (λ j. None) 0 (Some (root_node 0))
   planted slots slots' params params' kids kids' k row none pl kl first put_is pr qr =
-      let s : Stored A = record { parent = 0; place = 0; depth = 0; kind = kinds.Push; key = 0; answer = None } in
+      let s : Stored A = record { parent = 0; code = 0; count = 0; depth = 0; kind = kinds.Push; key = 0; answer = None } in
       let only : slots' ≡ Some s ∷ [] = put_is ∙ ap (λ (x : List (Option (Stored A))). put_slot x k s) none ∙ put_slot_next [] k s first in
       let empty : (j : ℕ) → row_at params' j ≡ [] = λ j. ap (λ (x : List (List ℤ)). row_at x j) pr ∙ reached_row params row j ∙ nothing params (pl ∙ ap length none) j in
       let empty' : (j : ℕ) → row_at kids' j ≡ [] = λ j. ap (λ (x : List (List ℕ)). row_at x j) qr ∙ reached_row kids row j ∙ nothing kids (kl ∙ ap length none) j in

@@ -6,10 +6,11 @@ use Rattle.std.proofs.lemmas.Option.{none-some, same_Some}
 use Rattle.lsys_forest.specs.Nodes.{Node, Nodes, put}
 use Rattle.lsys_forest.specs.Changes.{OldKids, Change}
 use Rattle.lsys_forest.specs.Stocks.{looked}
-use Rattle.lsys_forest.specs.Groves.{In, place_in, ReachedIn, Reached, Named, IsSound}
-use Rattle.lsys_forest.specs.Sweeps.{IsLinked, AreRisingUnder, IsSwept}
+use Rattle.lsys_forest.specs.Groves.{In, ReachedIn, Reached, Named, IsSound}
+use Rattle.lsys_forest.specs.Sweeps.{IsLinked, IsSwept}
 use Rattle.lsys_forest.proofs.StockLemmas.{put_same, put_other}
-use Rattle.lsys_forest.proofs.SoundLemmas.{some_of, Named_more, Named_last, rising_same}
+use Rattle.lsys_forest.proofs.SoundLemmas.{Named_more, Named_last}
+use Rattle.lsys_forest.specs.Ranks.{AreRanked}
 
 later_left : (k y : ℕ) (left : List ℕ) → y ≢ k → In y (k ∷ left) → In y left
 later_left k y left ne h = elim h [
@@ -139,17 +140,9 @@ module _ {A : Type 0} where
     kids = swept.kids;
   }
 
-  -- the places of the children of a node that is left rise
-  pub swept_rising : (first : Nodes A) (root : ℕ) (before : List (Change A)) → IsSound root before first → (m : Nodes A) (changes : List (Change A)) (left : List ℕ) → IsSwept first root m changes left → (p : ℕ) → AreRisingUnder m p
-  swept_rising first root before sound m changes left swept p = λ n is.
-      let was = kept first root m changes left swept p n is in
-      rising_same first m n.kids (λ x among. ap place_in (same x (swept.kids p x n is among))) (sound.own p n was).rising
-    where
-      same : (x : ℕ) → IsSome (m x) → m x ≡ first x
-      same x lives = elim (swept.same x) [
-        | inl e ↦ e
-        | inr gone ↦ absurd (let s = some_of (m x) lives in none-some s.0 (sym gone.0 ∙ s.1))
-      ]
+  -- the children of a node that is left have the ranks that they had
+  pub swept_ranked : (first : Nodes A) (root : ℕ) (m : Nodes A) (changes : List (Change A)) (left at : List ℕ) → IsSwept first root m changes left → AreRanked first at → AreRanked m at
+  swept_ranked first root m changes left at swept ranked = λ p n i k is here. ranked p n i k (kept first root m changes left swept p n is) here
 
   linked_at_end : (first : Nodes A) (root : ℕ) (m : Nodes A) → IsSwept first root m [] [] → (k : ℕ) (n : Node A) → m k ≡ Some n → k ≢ root → IsLinked m k n
   linked_at_end first root m swept k n is other = elim (swept.cover k n is other) [
@@ -213,6 +206,6 @@ module _ {A : Type 0} where
           under = λ x among.
               let u = are.under x among in
               record { node = u.node; is = same x among ∙ u.is; parent_is = u.parent_is; other = u.other };
-          rising = rising_same first m n.kids (λ x among. ap place_in (same x among)) are.rising;
+          apart = are.apart;
         };
   }

@@ -15,10 +15,10 @@ use Rattle.lsys_level.specs.Tags.{HasOwnTags}
 use Rattle.lsys_forest.specs.declared.walk.Way.TheVariants.{Left, Right}
 use Rattle.lsys_forest.specs.Nodes.{Node, seen_as}
 use Rattle.lsys_forest.specs.Changes.{Change}
-use Rattle.lsys_forest.specs.Groves.{Grove, In, AreApart, now_of, IsSound}
-use Rattle.lsys_forest.specs.Rows.{first_in, index_in, mirrored, oriented, complete_from, depth_in, spot_in, level_nodes, level_spots, complete_levels, level_of_node, place_of_node}
-use Rattle.lsys_forest.proofs.RowLemmas.{In_right, In_split, index_of, index_within, level_depth, level_apart}
-use Rattle.lsys_forest.proofs.WalkLemmas.{mirrored_around, mirrored_push}
+use Rattle.lsys_forest.specs.Groves.{Grove, In, AreApart, now_of, changes_in, IsSound}
+use Rattle.lsys_forest.specs.Rows.{first_in, index_in, mirrored, oriented, complete_from, depth_in, spot_in, level_nodes, level_spots, complete_levels, level_of_node, place_of_node, AreBalancedTo, IsSpotAt}
+use Rattle.lsys_forest.proofs.RowLemmas.{get_split, In_right, In_split, index_of, index_within, level_depth, level_apart}
+use Rattle.lsys_forest.proofs.WalkLemmas.{long_around, mirrored_around, mirrored_push}
 
 -- 1. which levels are told
 
@@ -49,6 +49,21 @@ told_by levels most t h =
     let same : 0 + t ≡ t = omega arith in
     subst (λ u. IsTold levels u (level_at (complete_from levels most 0) t)) same (complete_at levels most 0 t h)
 
+balanced_told : (levels : ℕ → List Spotted) (most n t : ℕ) → ((u : ℕ) → u ≤ t → level_balanced 0 (level_by (λ tag. []) (levels (n + u))) ≡ true) → t < most → t < length (complete_from levels most n)
+balanced_told levels zero n t all h = absurd (omega (arith, h))
+balanced_told levels (suc most) n zero all h =
+    let same : n + 0 ≡ n = omega arith in
+    let e = ap (λ i. level_balanced 0 (level_by (λ tag. []) (levels i))) (sym same) ∙ all 0 (omega arith) in
+    subst (λ b. 0 < length (cond b (levels n ∷ complete_from levels most (suc n)) [])) (sym e) (omega arith)
+balanced_told levels (suc most) n (suc t) all h =
+    let same : n + 0 ≡ n = omega arith in
+    let e = ap (λ i. level_balanced 0 (level_by (λ tag. []) (levels i))) (sym same) ∙ all 0 (omega arith) in
+    let r = balanced_told levels most (suc n) t (λ u within. (
+    let next : suc n + u ≡ n + suc u = omega arith in
+    ap (λ i. level_balanced 0 (level_by (λ tag. []) (levels i))) next ∙ all (suc u) (omega (arith, within))
+    )) (omega (arith, h)) in
+    subst (λ b. suc t < length (cond b (levels n ∷ complete_from levels most (suc n)) [])) (sym e) (omega (arith, r))
+
 level_past : (levels : List (List Spotted)) (t : ℕ) → length levels ≤ t → level_at levels t ≡ []
 level_past [] t h = refl
 level_past (x ∷ levels) zero h = absurd (omega (arith, h))
@@ -58,10 +73,6 @@ spot_told : (levels : List (List Spotted)) (t p : ℕ) → IsSpot levels t p →
 spot_told [] t p h = absurd (omega (arith, h))
 spot_told (x ∷ levels) zero p h = omega arith
 spot_told (x ∷ levels) (suc t) p h = omega (arith, spot_told levels t p h)
-
-around_long : (before : List ℕ) (k : ℕ) (after : List ℕ) → length (before ++ k ∷ after) ≡ length before + 1 + length after
-around_long [] k after = omega arith
-around_long (x ∷ before) k after = omega (arith, around_long before k after)
 
 last_split : (xs : List ℕ) → (xs ≡ []) ⊎ ((ys : List ℕ) × (y : ℕ) × (xs ≡ ys ++ y ∷ []))
 last_split [] = inl refl
@@ -136,7 +147,22 @@ module _ {A : Type 0} where
   long_level : (f : Grove A) (t : ℕ) → IsTold (level_spots (now_of f) f.root) t (level_at (complete_levels f) t) → length (level_at (complete_levels f) t) ≡ length (level_nodes (now_of f) f.root t)
   long_level f t tells = ap length tells.is ∙ length-map (level_nodes (now_of f) f.root t) (λ i. spot_in i (now_of f i))
 
-  -- 2. the calls
+  -- 2. the law of spots
+
+  pub told_is : (f : Grove A) (t : ℕ) → t < length (complete_levels f) → level_at (complete_levels f) t ≡ level_spots (now_of f) f.root t
+  told_is f t h = (told f t h).is
+
+  pub are_told : (f : Grove A) (t : ℕ) → t < 2 ^ 32 → AreBalancedTo f t → t < length (complete_levels f)
+  unfolding complete_levels
+  are_told f t within all = balanced_told (level_spots (now_of f) f.root) (2 ^ 32) 0 t (λ u h. (let same : 0 + u ≡ u = omega arith in ap (λ i. level_balanced 0 (level_by (λ tag. []) (level_spots (now_of f) f.root i))) same ∙ all u h)) within
+
+  pub is_spot : (f : Grove A) (t k : ℕ) (before after : List ℕ) → IsSound f.root (changes_in f) (now_of f) → t < length (complete_levels f) → level_nodes (now_of f) f.root t ≡ before ++ k ∷ after → IsSpotAt f t (length before) k
+  is_spot f t k before after sound h whole =
+      let s = spot_of f (changes_in f) sound t k before after whole in
+      let size = ap length whole in
+      record { level_is = s.level; place_is = s.place; spot = omega (arith, long_level f t (told f t h), size, long_around before k after) }
+
+  -- 3. the calls
 
   pub right_match : (f : Grove A) (changes : List (Change A)) (k : ℕ) (result : Option ℕ) → IsSound f.root changes (now_of f) → (at : IsNodeAt f k) → result ≡ first_in at.after → MatchOption result (place_of_node f k + 1 ≡ length (level_at (complete_levels f) (level_of_node f k))) (λ s. (level_of_node f s ≡ level_of_node f k) × (place_of_node f s ≡ place_of_node f k + 1) × (place_of_node f s < length (level_at (complete_levels f) (level_of_node f k))))
   right_match f changes k result sound at is = go at.after at.level is
@@ -150,12 +176,12 @@ module _ {A : Type 0} where
       go : (after : List ℕ) → level_nodes (now_of f) f.root t ≡ at.before ++ k ∷ after → result ≡ first_in after → Goal result
       go [] whole e =
           let size = ap length whole in
-          subst Goal (sym e) (omega (arith, at.place, long_level f t at.told_is, size, around_long at.before k []))
+          subst Goal (sym e) (omega (arith, at.place, long_level f t at.told_is, size, long_around at.before k []))
       go (y ∷ after) whole e =
           let again : level_nodes (now_of f) f.root t ≡ (at.before ++ k ∷ []) ++ y ∷ after = whole ∙ sym (append_assoc at.before (k ∷ []) (y ∷ after)) in
           let s = spot_of f changes sound t y (at.before ++ k ∷ []) after again in
           let size = ap length again in
-          subst Goal (sym e) (s.level, omega (arith, s.place, at.place, length_push at.before k), omega (arith, s.place, long_level f t at.told_is, size, around_long (at.before ++ k ∷ []) y after))
+          subst Goal (sym e) (s.level, omega (arith, s.place, at.place, length_push at.before k), omega (arith, s.place, long_level f t at.told_is, size, long_around (at.before ++ k ∷ []) y after))
 
   pub left_match : (f : Grove A) (changes : List (Change A)) (k : ℕ) (result : Option ℕ) → IsSound f.root changes (now_of f) → (at : IsNodeAt f k) → result ≡ first_in (mirrored at.before) → MatchOption result (place_of_node f k ≡ 0) (λ s. (level_of_node f s ≡ level_of_node f k) × (place_of_node f s + 1 ≡ place_of_node f k))
   left_match f changes k result sound at is = elim (last_split at.before) [
@@ -216,11 +242,6 @@ module _ {A : Type 0} where
         (sym s.level ∙ ap (level_of_node f) tags ∙ r.level, x.3.1 ∙ sym s.place ∙ ap (place_of_node f) tags ∙ r.place ∙ sym y.3.1);
   }
     where
-      split_at : (L : List ℕ) (p k : ℕ) → slice_get L p ≡ Some k → (before : List ℕ) × (after : List ℕ) × (L ≡ before ++ k ∷ after) × (p ≡ length before)
-      split_at [] p k e = absurd (none-some k e)
-      split_at (x ∷ L) zero k e = ([], L, ap (λ y. y ∷ L) (same_Some x k e), refl)
-      split_at (x ∷ L) (suc p) k e = let s = split_at L p k e in (x ∷ s.0, s.1, ap (λ (l : List ℕ). x ∷ l) s.2, ap suc s.3)
-
       tag_is : (k : ℕ) (o : Option (Node A)) → (spot_in k o).tag ≡ k
       tag_is k None = refl
       tag_is k (Some n) = refl
@@ -234,8 +255,8 @@ module _ {A : Type 0} where
           go : (o : Option ℕ) → slice_get (level_nodes (now_of f) f.root t) p ≡ o → option_map (λ i. spot_in i (now_of f i)) o ≡ Some a → (k : ℕ) × (before : List ℕ) × (after : List ℕ) × ((level_nodes (now_of f) f.root t ≡ before ++ k ∷ after) × (p ≡ length before)) × (a.tag ≡ k)
           go None here g = absurd (none-some a g)
           go (Some k) here g =
-              let s = split_at (level_nodes (now_of f) f.root t) p k here in
-              (k, s.0, s.1, (s.2, s.3), ap (λ (x : Spotted). x.tag) (sym (same_Some (spot_in k (now_of f k)) a g)) ∙ tag_is k (now_of f k))
+              let s = get_split (level_nodes (now_of f) f.root t) p k here in
+              (k, s.before, s.after, (s.whole, sym s.long), ap (λ (x : Spotted). x.tag) (sym (same_Some (spot_in k (now_of f k)) a g)) ∙ tag_is k (now_of f k))
 
   -- the way of a bracket's mate
   pub bracket_way : (f : Grove A) (k : ℕ) → (at : IsNodeAt f k) → (kind : Kind) (params : List ℤ) → at.node.seen ≡ seen_as kind params → IsBracketAt (level_at (complete_levels f) (level_of_node f k)) (place_of_node f k) → IsBracketThat (mate_way kind) (Some at.node)
@@ -256,7 +277,7 @@ module _ {A : Type 0} where
       let s = spot_of f changes sound t mate mates.before mates.after mates.whole in
       let size = ap length mates.whole in
       record {
-        within = omega (arith, s.place, long_level f t at.told_is, size, around_long mates.before mate mates.after);
+        within = omega (arith, s.place, long_level f t at.told_is, size, long_around mates.before mate mates.after);
         opens = λ e. ends way (λ w. mates.ends w) bracket (seen_there f k at Push e);
         closes = λ e. begins way (λ w. mates.begins w) bracket (seen_there f k at Pop e);
       }

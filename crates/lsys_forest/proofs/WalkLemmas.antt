@@ -1,14 +1,16 @@
 -- Walks along a level: from child to child, and where a parent has no more from its level's next node that has some.
 use Rattle.std.proofs.Common.{◌≡◌, ◌+◌, ◌-◌, ◌<◌, ℕ, zero, suc, List, [], ◌∷◌, ◌++◌, length, slice_get, Option, Some, None, refl, sym, ap, ◌∙◌, arith, inl, inr, subst, append_assoc}
-use Rattle.std.proofs.lemmas.List.{length_push}
+use Rattle.std.proofs.lemmas.List.{append-nil, length_push}
 use Rattle.std.proofs.lemmas.Option.{none-some, same_Some}
 use Rattle.lsys_forest.specs.declared.walk.Way.{Way}
+use Rattle.lsys_forest.specs.declared.walk.Way.TheVariants as ways
 use Rattle.lsys_forest.specs.Nodes.{Node, Nodes}
 use Rattle.lsys_forest.specs.Changes.{Change}
-use Rattle.lsys_forest.specs.Groves.{In, AreApart, place_in, AreRising, IsSound}
-use Rattle.lsys_forest.specs.Rows.{first_in, index_in, oriented, mirrored, flat, kids_in, level_nodes}
+use Rattle.lsys_forest.specs.Groves.{In, AreApart, IsSound}
+use Rattle.lsys_forest.specs.Ranks.{AreRanked}
+use Rattle.lsys_forest.specs.Rows.{first_in, last_in, index_in, oriented, mirrored, flat, kids_in, kids_that_way, kids_below, level_nodes}
 use Rattle.lsys_forest.proofs.RowLemmas.{In_right, In_split, same_sides, index_of, oriented_In, oriented_In_back, oriented_apart, oriented_flat, flat_around, child, level_apart, level_depth, parent_level, parent_root}
-use Rattle.std.specs.Prelude.{IsSome, option_map}
+use Rattle.std.specs.Prelude.{IsSome, IfSome, option_map}
 use Rattle.std.proofs.Common.{ℤ}
 use Rattle.lsys_forest.specs.declared.node.Stored.{Stored}
 use Rattle.lsys_forest.specs.Stocks.{row_at, node_of}
@@ -89,6 +91,11 @@ last_first [] = refl
 last_first (x ∷ []) = refl
 last_first (x ∷ y ∷ xs) = (let e : length (x ∷ y ∷ xs) - 1 ≡ suc (length (y ∷ xs) - 1) = omega arith in ap (slice_get (x ∷ y ∷ xs)) e) ∙ last_first (y ∷ xs) ∙ sym (first_more (mirrored (y ∷ xs)) x (omega (arith, mirrored_long (y ∷ xs))))
 
+pub last_mirrored : (xs : List ℕ) → last_in xs ≡ first_in (mirrored xs)
+last_mirrored [] = refl
+last_mirrored (x ∷ []) = refl
+last_mirrored (x ∷ y ∷ xs) = last_mirrored (y ∷ xs) ∙ sym (first_more (mirrored (y ∷ xs)) x (omega (arith, mirrored_long (y ∷ xs))))
+
 pub no_first : (xs : List ℕ) → first_in xs ≡ None → xs ≡ []
 no_first [] e = refl
 no_first (x ∷ xs) e = absurd (none-some x (sym e))
@@ -106,12 +113,16 @@ In_at k [] h = absurd h
 In_at k (x ∷ xs) (inl e) = (0, ap Some (sym e))
 In_at k (x ∷ xs) (inr h) = let r = In_at k xs h in (suc r.0, r.1)
 
+pub first_among : (xs : List ℕ) (first : Option ℕ) → first ≡ first_in xs → IfSome first (λ k. In k xs)
+first_among [] first e = subst (λ (o : Option ℕ). IfSome o (λ k. ⊥)) (sym e) tt
+first_among (x ∷ xs) first e = subst (λ (o : Option ℕ). IfSome o (λ k. In k (x ∷ xs))) (sym e) (inl refl)
+
 -- how many nodes of the level are from this one on
 abbrev pub left_from : List ℕ → Option ℕ → ℕ
 left_from level None = 0
 left_from level (Some q) = length level - index_in q level
 
-long_around : (xs : List ℕ) (x : ℕ) (ys : List ℕ) → length (xs ++ x ∷ ys) ≡ length xs + 1 + length ys
+pub long_around : (xs : List ℕ) (x : ℕ) (ys : List ℕ) → length (xs ++ x ∷ ys) ≡ length xs + 1 + length ys
 long_around [] x ys = omega arith
 long_around (z ∷ xs) x ys = omega (arith, long_around xs x ys)
 
@@ -131,30 +142,34 @@ left_on O apart passed q (r ∷ ahead) next whole e =
     omega (arith, here, then, size, some, long_around passed q (r ∷ ahead), length_push passed q)
 
 module _ {A : Type 0} where
-  -- the children, that way
-  abbrev pub kids_that_way : Way → Nodes A → ℕ → List ℕ
-  kids_that_way way m k = oriented way (kids_in (m k))
-
-  -- of two children the one with the lesser place stands first
-  pub rising_at : (m : Nodes A) (xs : List ℕ) (i j x y : ℕ) → AreRising m xs → i < j → slice_get xs i ≡ Some x → slice_get xs j ≡ Some y → place_in (m x) < place_in (m y)
-  rising_at m [] i j x y rising less e f = absurd (none-some x e)
-  rising_at m (z ∷ xs) zero zero x y rising less e f = absurd (omega (arith, less))
-  rising_at m (z ∷ xs) zero (suc j) x y rising less e f = subst (λ k. place_in (m k) < place_in (m y)) (same_Some z x e) (rising.0 y (get_In xs j y f))
-  rising_at m (z ∷ xs) (suc i) zero x y rising less e f = absurd (omega (arith, less))
-  rising_at m (z ∷ xs) (suc i) (suc j) x y rising less e f = rising_at m xs i j x y rising.1 (omega (arith, less)) e f
+  -- a child stands where its rank says
+  pub ranked_at : (k p : ℕ) (m : Nodes A) (at : List ℕ) (rank : ℕ) → AreRanked m at → In k (kids_in (m p)) → ((i : ℕ) → slice_get at k ≡ Some i → rank ≡ i) → slice_get (kids_in (m p)) rank ≡ Some k
+  ranked_at k p m at rank ranked among reads = go (m p) refl among
+    where
+      go : (o : Option (Node A)) → m p ≡ o → In k (kids_in o) → slice_get (kids_in o) rank ≡ Some k
+      go None e h = absurd h
+      go (Some n) e h = let i = In_at k n.kids h in ap (slice_get n.kids) (reads i.0 (ranked p n i.0 k e i.1)) ∙ i.1
 
   -- 2. along a level
 
   level_that_way : (way : Way) (m : Nodes A) (root t : ℕ) → oriented way (level_nodes m root (suc t)) ≡ flat (kids_that_way way m) (oriented way (level_nodes m root t))
   level_that_way way m root t = oriented_flat way (λ k. kids_in (m k)) (level_nodes m root t)
 
-  -- What a walk over the level above keeps true: what stands behind the node are the children of the nodes from `at` on.
-  pub record IsBehind (way : Way) (m : Nodes A) (root t node : ℕ) (at : Option ℕ) : Type 0 where
+  -- What a walk along a level keeps true: of the lists that it looks through, those of the nodes from `at` on are left.
+  pub record IsAlong (Left : List ℕ → Type 0) (way : Way) (m : Nodes A) (root t : ℕ) (at : Option ℕ) : Type 0 where
     pub passed : List ℕ
     pub ahead : List ℕ
     pub whole : oriented way (level_nodes m root t) ≡ passed ++ ahead
     pub at_is : at ≡ first_in ahead
-    pub rest : (b a : List ℕ) → oriented way (level_nodes m root (suc t)) ≡ b ++ node ∷ a → a ≡ flat (kids_that_way way m) ahead
+    pub rest : Left (flat (kids_that_way way m) ahead)
+
+  -- what stands behind a node of the level below
+  abbrev pub Behind : Way → Nodes A → ℕ → ℕ → ℕ → List ℕ → Type 0
+  Behind way m root t node rest = (b a : List ℕ) → oriented way (level_nodes m root (suc t)) ≡ b ++ node ∷ a → a ≡ rest
+
+  -- the children of the nodes from this one on
+  abbrev pub Below : Way → Nodes A → ℕ → ℕ → Option ℕ → List ℕ → Type 0
+  Below way m root t start rest = (b a : List ℕ) → oriented way (level_nodes m root t) ≡ b ++ a → start ≡ first_in a → flat (kids_that_way way m) a ≡ rest
 
   -- the parent of a node, between the others of its level, and the node among its children
   pub record IsAmid (way : Way) (m : Nodes A) (root t p node : ℕ) : Type 0 where
@@ -191,7 +206,7 @@ module _ {A : Type 0} where
   pub next_same : (way : Way) (m : Nodes A) (root t p node : ℕ) → (am : IsAmid way m root t p node) → (next : ℕ) → Some next ≡ first_in am.right → (b a : List ℕ) → oriented way (level_nodes m root (suc t)) ≡ b ++ node ∷ a → Some next ≡ first_in a
   next_same way m root t p node am next e b a whole = sym (ap first_in (am.behind b a whole) ∙ first_append am.right (flat (kids_that_way way m) am.after) next (sym e))
 
-  pub behind_start : (way : Way) (m : Nodes A) (root t p node : ℕ) (at : Option ℕ) → (am : IsAmid way m root t p node) → first_in am.right ≡ None → at ≡ first_in am.after → IsBehind way m root t node at
+  pub behind_start : (way : Way) (m : Nodes A) (root t p node : ℕ) (at : Option ℕ) → (am : IsAmid way m root t p node) → first_in am.right ≡ None → at ≡ first_in am.after → IsAlong (Behind way m root t node) way m root t at
   behind_start way m root t p node at am none is = record {
     passed = am.before ++ p ∷ [];
     ahead = am.after;
@@ -200,43 +215,68 @@ module _ {A : Type 0} where
     rest = λ b a whole. am.behind b a whole ∙ ap (λ (l : List ℕ). l ++ flat (kids_that_way way m) am.after) (no_first am.right none);
   }
 
+  pub below_start : (way : Way) (root : ℕ) (changes : List (Change A)) (m : Nodes A) → IsSound root changes m → (t : ℕ) (start : Option ℕ) → IfSome start (λ k. In k (level_nodes m root t)) → IsAlong (Below way m root t start) way m root t start
+  below_start way root changes m sound t None among = record {
+    passed = oriented way (level_nodes m root t);
+    ahead = [];
+    whole = sym (append-nil (oriented way (level_nodes m root t)));
+    at_is = refl;
+    rest = λ b a whole e. ap (flat (kids_that_way way m)) (no_first a (sym e));
+  }
+  below_start way root changes m sound t (Some k) among =
+      let O = oriented way (level_nodes m root t) in
+      let s = In_split k O (oriented_In way k (level_nodes m root t) among) in
+      record {
+        passed = s.0;
+        ahead = k ∷ s.1;
+        whole = s.2;
+        at_is = refl;
+        rest = λ b a whole e. (
+            let r = first_split a k (sym e) in
+            let apart = subst AreApart s.2 (oriented_apart way (level_nodes m root t) (level_apart root changes m sound t)) in
+            let same = same_sides k s.0 s.1 b r.0 apart (sym s.2 ∙ whole ∙ ap (λ (l : List ℕ). b ++ l) r.1) in
+            ap (flat (kids_that_way way m)) (r.1 ∙ ap (λ (l : List ℕ). k ∷ l) (sym same.1))
+            );
+      }
+
   -- the node at which the walk stands
-  pub record IsThere (way : Way) (m : Nodes A) (root t node q : ℕ) : Type 0 where
+  pub record IsThere (Left : List ℕ → Type 0) (way : Way) (m : Nodes A) (root t q : ℕ) : Type 0 where
     pub passed : List ℕ
     pub ahead : List ℕ
     pub whole : oriented way (level_nodes m root t) ≡ passed ++ q ∷ ahead
     pub among : In q (level_nodes m root t)
-    pub rest : (b a : List ℕ) → oriented way (level_nodes m root (suc t)) ≡ b ++ node ∷ a → a ≡ kids_that_way way m q ++ flat (kids_that_way way m) ahead
+    pub rest : Left (kids_that_way way m q ++ flat (kids_that_way way m) ahead)
 
-  pub there : (way : Way) (m : Nodes A) (root t node q : ℕ) (at : Option ℕ) → IsBehind way m root t node at → at ≡ Some q → IsThere way m root t node q
-  there way m root t node q at walk e =
-      let s = first_split walk.ahead q (sym walk.at_is ∙ e) in
-      let whole = walk.whole ∙ ap (λ (l : List ℕ). walk.passed ++ l) s.1 in
-      record {
-        passed = walk.passed;
-        ahead = s.0;
-        whole = whole;
-        among = oriented_In_back way q (level_nodes m root t) (subst (In q) (sym whole) (In_right q walk.passed (q ∷ s.0) (inl refl)));
-        rest = λ b a w. walk.rest b a w ∙ ap (flat (kids_that_way way m)) s.1;
-      }
+  module _ (Left : List ℕ → Type 0) (way : Way) (m : Nodes A) (root t : ℕ) where
+    pub there : (q : ℕ) (at : Option ℕ) → IsAlong Left way m root t at → at ≡ Some q → IsThere Left way m root t q
+    there q at walk e =
+        let s = first_split walk.ahead q (sym walk.at_is ∙ e) in
+        let whole = walk.whole ∙ ap (λ (l : List ℕ). walk.passed ++ l) s.1 in
+        record {
+          passed = walk.passed;
+          ahead = s.0;
+          whole = whole;
+          among = oriented_In_back way q (level_nodes m root t) (subst (In q) (sym whole) (In_right q walk.passed (q ∷ s.0) (inl refl)));
+          rest = subst (λ (l : List ℕ). Left (flat (kids_that_way way m) l)) s.1 walk.rest;
+        }
 
-  pub found_kid : (way : Way) (m : Nodes A) (root t node q kid : ℕ) → IsThere way m root t node q → Some kid ≡ first_in (kids_that_way way m q) → (b a : List ℕ) → oriented way (level_nodes m root (suc t)) ≡ b ++ node ∷ a → Some kid ≡ first_in a
-  found_kid way m root t node q kid at e b a whole = sym (ap first_in (at.rest b a whole) ∙ first_append (kids_that_way way m q) (flat (kids_that_way way m) at.ahead) kid (sym e))
+    pub walk_on : (q : ℕ) (next : Option ℕ) → (at : IsThere Left way m root t q) → first_in (kids_that_way way m q) ≡ None → next ≡ first_in at.ahead → IsAlong Left way m root t next
+    walk_on q next at none is = record {
+      passed = at.passed ++ q ∷ [];
+      ahead = at.ahead;
+      whole = at.whole ∙ sym (append_assoc at.passed (q ∷ []) at.ahead);
+      at_is = is;
+      rest = subst (λ (l : List ℕ). Left (l ++ flat (kids_that_way way m) at.ahead)) (no_first (kids_that_way way m q) none) at.rest;
+    }
 
-  pub behind_step : (way : Way) (m : Nodes A) (root t node q : ℕ) (next : Option ℕ) → (at : IsThere way m root t node q) → first_in (kids_that_way way m q) ≡ None → next ≡ first_in at.ahead → IsBehind way m root t node next
-  behind_step way m root t node q next at none is = record {
-    passed = at.passed ++ q ∷ [];
-    ahead = at.ahead;
-    whole = at.whole ∙ sym (append_assoc at.passed (q ∷ []) at.ahead);
-    at_is = is;
-    rest = λ b a w. at.rest b a w ∙ ap (λ (l : List ℕ). l ++ flat (kids_that_way way m) at.ahead) (no_first (kids_that_way way m q) none);
-  }
+    pub walk_end : IsAlong Left way m root t None → Left []
+    walk_end walk = subst (λ (l : List ℕ). Left (flat (kids_that_way way m) l)) (no_first walk.ahead (sym walk.at_is)) walk.rest
 
-  pub behind_end : (way : Way) (m : Nodes A) (root t node : ℕ) → IsBehind way m root t node None → (b a : List ℕ) → oriented way (level_nodes m root (suc t)) ≡ b ++ node ∷ a → None ≡ first_in a
-  behind_end way m root t node walk b a whole = sym (ap first_in (walk.rest b a whole ∙ ap (flat (kids_that_way way m)) (no_first walk.ahead (sym walk.at_is))))
+    pub found : (q kid : ℕ) → (at : IsThere Left way m root t q) → Some kid ≡ first_in (kids_that_way way m q) → Some kid ≡ first_in (kids_that_way way m q ++ flat (kids_that_way way m) at.ahead)
+    found q kid at e = sym (first_append (kids_that_way way m q) (flat (kids_that_way way m) at.ahead) kid (sym e))
 
-  pub left_less : (way : Way) (root : ℕ) (changes : List (Change A)) (m : Nodes A) → IsSound root changes m → (t node q : ℕ) (next : Option ℕ) → (at : IsThere way m root t node q) → next ≡ first_in at.ahead → left_from (oriented way (level_nodes m root t)) next < left_from (oriented way (level_nodes m root t)) (Some q)
-  left_less way root changes m sound t node q next at is = left_on (oriented way (level_nodes m root t)) (oriented_apart way (level_nodes m root t) (level_apart root changes m sound t)) at.passed q at.ahead next at.whole is
+    pub walk_less : (changes : List (Change A)) → IsSound root changes m → (q : ℕ) (next : Option ℕ) → (at : IsThere Left way m root t q) → next ≡ first_in at.ahead → left_from (oriented way (level_nodes m root t)) next < left_from (oriented way (level_nodes m root t)) (Some q)
+    walk_less changes sound q next at is = left_on (oriented way (level_nodes m root t)) (oriented_apart way (level_nodes m root t) (level_apart root changes m sound t)) at.passed q at.ahead next at.whole is
 
   -- a node of a level is among the children of its parent
   pub level_parent : (root : ℕ) (changes : List (Change A)) (m : Nodes A) → IsSound root changes m → (t k : ℕ) (n : Node A) → In k (level_nodes m root t) → m k ≡ Some n → In k (kids_in (m n.parent))
@@ -262,51 +302,9 @@ module _ {A : Type 0} where
       let am = amid way root changes m sound t k n h is in
       next_same way m root t n.parent k am next (e am.left am.right am.kids) b a whole
 
-  -- what was passed of a level has no children
-  pub record IsPassed (m : Nodes A) (root t : ℕ) (at : Option ℕ) : Type 0 where
-    pub passed : List ℕ
-    pub ahead : List ℕ
-    pub whole : level_nodes m root t ≡ passed ++ ahead
-    pub at_is : at ≡ first_in ahead
-    pub rest : level_nodes m root (suc t) ≡ flat (λ k. kids_in (m k)) ahead
-
-  pub passed_start : (m : Nodes A) (root t : ℕ) (at : Option ℕ) → at ≡ first_in (level_nodes m root t) → IsPassed m root t at
-  passed_start m root t at is = record { passed = []; ahead = level_nodes m root t; whole = refl; at_is = is; rest = refl }
-
-  -- the node that was come to
-  pub record IsCome (m : Nodes A) (root t q : ℕ) : Type 0 where
-    pub passed : List ℕ
-    pub ahead : List ℕ
-    pub whole : level_nodes m root t ≡ passed ++ q ∷ ahead
-    pub among : In q (level_nodes m root t)
-    pub rest : level_nodes m root (suc t) ≡ kids_in (m q) ++ flat (λ k. kids_in (m k)) ahead
-
-  pub come : (m : Nodes A) (root t q : ℕ) (at : Option ℕ) → IsPassed m root t at → at ≡ Some q → IsCome m root t q
-  come m root t q at walk e =
-      let s = first_split walk.ahead q (sym walk.at_is ∙ e) in
-      let whole = walk.whole ∙ ap (λ (l : List ℕ). walk.passed ++ l) s.1 in
-      record {
-        passed = walk.passed;
-        ahead = s.0;
-        whole = whole;
-        among = subst (In q) (sym whole) (In_right q walk.passed (q ∷ s.0) (inl refl));
-        rest = walk.rest ∙ ap (flat (λ k. kids_in (m k))) s.1;
-      }
-
-  pub come_kid : (m : Nodes A) (root t q kid : ℕ) → IsCome m root t q → Some kid ≡ first_in (kids_in (m q)) → Some kid ≡ first_in (level_nodes m root (suc t))
-  come_kid m root t q kid at e = sym (ap first_in at.rest ∙ first_append (kids_in (m q)) (flat (λ k. kids_in (m k)) at.ahead) kid (sym e))
-
-  pub come_on : (m : Nodes A) (root t q : ℕ) (next : Option ℕ) → (at : IsCome m root t q) → first_in (kids_in (m q)) ≡ None → next ≡ first_in at.ahead → IsPassed m root t next
-  come_on m root t q next at none is = record {
-    passed = at.passed ++ q ∷ [];
-    ahead = at.ahead;
-    whole = at.whole ∙ sym (append_assoc at.passed (q ∷ []) at.ahead);
-    at_is = is;
-    rest = at.rest ∙ ap (λ (l : List ℕ). l ++ flat (λ k. kids_in (m k)) at.ahead) (no_first (kids_in (m q)) none);
-  }
-
-  pub come_end : (m : Nodes A) (root t : ℕ) → IsPassed m root t None → None ≡ first_in (level_nodes m root (suc t))
-  come_end m root t walk = sym (ap first_in (walk.rest ∙ ap (flat (λ k. kids_in (m k))) (no_first walk.ahead (sym walk.at_is))))
-
-  pub come_less : (root : ℕ) (changes : List (Change A)) (m : Nodes A) → IsSound root changes m → (t q : ℕ) (next : Option ℕ) → (at : IsCome m root t q) → next ≡ first_in at.ahead → left_from (level_nodes m root t) next < left_from (level_nodes m root t) (Some q)
-  come_less root changes m sound t q next at is = left_on (level_nodes m root t) (level_apart root changes m sound t) at.passed q at.ahead next at.whole is
+  -- from the last node up to a node, the first child from the right is the last one
+  pub last_of : (m : Nodes A) (before : List ℕ) (k : ℕ) → first_in (flat (kids_that_way ways.Left m) (k ∷ mirrored before)) ≡ last_in (kids_below m (before ++ k ∷ []))
+  last_of m before k =
+      ap (λ (l : List ℕ). first_in (flat (kids_that_way ways.Left m) l)) (sym (mirrored_push before k))
+      ∙ ap first_in (sym (oriented_flat ways.Left (λ j. kids_in (m j)) (before ++ k ∷ [])))
+      ∙ sym (last_mirrored (kids_below m (before ++ k ∷ [])))

@@ -31,3 +31,8 @@ module _ {A : Type 0} where
   abbrev pub undone : List (Change A) → Nodes A → Nodes A
   undone [] m = m
   undone (c ∷ changes) m = undo c (undone changes m)
+
+  -- the change was not one of children
+  abbrev pub KeepsKids : Before A → Type 0
+  KeepsKids (OldKids x) = ⊥
+  KeepsKids b = Unit {0}

@@ -1,5 +1,5 @@
 -- What a contract sees of a forest.
-use Rattle.std.specs.Prelude.{◌≡◌, ◌≢◌, ◌⊎◌, ◌+◌, ◌<◌, ◌≤◌, ◌^◌, ℕ, zero, suc, List, [], ◌∷◌, ◌++◌, length, Option, Some, None, IsSome}
+use Rattle.std.specs.Prelude.{◌≡◌, ◌≢◌, ◌⊎◌, ◌+◌, ◌<◌, ◌≤◌, ◌^◌, ℕ, zero, suc, List, [], ◌∷◌, ◌++◌, length, Option, Some, IsSome}
 use Rattle.lsys_level.specs.Spots.{Seen, Push, Pop, Module}
 use Rattle.lsys_forest.specs.Slots.{live_slots}
 use Rattle.lsys_forest.specs.Nodes.{Node, Nodes, put}
@@ -24,10 +24,6 @@ In k (x ∷ xs) = (k ≡ x) ⊎ In k xs
 abbrev pub AreApart : List ℕ → Type 0
 AreApart [] = Unit {0}
 AreApart (x ∷ xs) = (In x xs → ⊥) × AreApart xs
-
-abbrev pub place_in : {A : Type 0} → Option (Node A) → ℕ
-place_in None = 0
-place_in (Some n) = n.place
 
 -- a module has at most eight parameters
 abbrev pub HasFew : Seen → Type 0
@@ -75,15 +71,10 @@ module _ {A : Type 0} where
     pub parent_is : node.parent ≡ parent
     pub other : kid ≢ root
 
-  -- the places of these nodes rise
-  abbrev pub AreRising : Nodes A → List ℕ → Type 0
-  AreRising m [] = Unit {0}
-  AreRising m (x ∷ xs) = ((y : ℕ) → In y xs → place_in (m x) < place_in (m y)) × AreRising m xs
-
-  -- nodes of this parent, whose places rise
+  -- nodes of this parent, none twice, in whatever order
   pub record AreKids (m : Nodes A) (root parent : ℕ) (kids : List ℕ) : Type 0 where
     pub under : (x : ℕ) → In x kids → IsUnder m root parent x
-    pub rising : AreRising m kids
+    pub apart : AreApart kids
 
   -- by so many steps down from the root
   abbrev pub ReachedIn : Nodes A → ℕ → ℕ → ℕ → Type 0

@@ -5,11 +5,12 @@ use Rattle.lsys_level.specs.Spots.{Seen, Push, Pop, Module}
 use Rattle.lsys_forest.specs.declared.node.Kind.{Kind}
 use Rattle.lsys_forest.specs.declared.node.Kind.TheVariants as kinds
 
--- A node: the number of its parent, its place under it, how many steps it is below the root, its symbol, its key, its
--- children in order, and the answer that it keeps.
+-- A node: the number of its parent, the code and the count that name it under that one, how many steps it is below the
+-- root, its symbol, its key, its children in order, and the answer that it keeps.
 pub record Node (A : Type 0) : Type 0 where
   pub parent : ℕ
-  pub place : ℕ
+  pub code : ℕ
+  pub count : ℕ
   pub depth : ℕ
   pub seen : Seen
   pub key : ℕ
@@ -18,7 +19,7 @@ pub record Node (A : Type 0) : Type 0 where
 
 -- the root, which has no symbol and no key (a bracket and 0 stand for them), and is its own parent
 abbrev pub root_node : {A : Type 0} → ℕ → Node A
-root_node root = record { parent = root; place = 0; depth = 0; seen = Push; key = 0; kids = []; answer = None }
+root_node root = record { parent = root; code = 0; count = 0; depth = 0; seen = Push; key = 0; kids = []; answer = None }
 
 -- what a symbol is, by its kind and its parameters
 abbrev pub seen_as : Kind → List ℤ → Seen

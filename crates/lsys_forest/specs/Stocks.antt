@@ -54,7 +54,7 @@ named_by look.Nothing hand = []
 
 module _ {A : Type 0} where
   abbrev pub node_of : List ℤ → List ℕ → Stored A → Node A
-  node_of params kids s = record { parent = s.parent; place = s.place; depth = s.depth; seen = seen_as s.kind params; key = s.key; kids = kids; answer = s.answer }
+  node_of params kids s = record { parent = s.parent; code = s.code; count = s.count; depth = s.depth; seen = seen_as s.kind params; key = s.key; kids = kids; answer = s.answer }
 
   -- the nodes
   abbrev pub nodes_of : Stock A → Nodes A

@@ -4,7 +4,8 @@ use Rattle.lsys_forest.specs.Slots.{live_slots}
 use Rattle.lsys_forest.specs.Nodes.{Node, Nodes}
 use Rattle.lsys_forest.specs.Changes.{Change}
 use Rattle.lsys_forest.specs.Stocks.{Stock, nodes_of, changes_of, KeepsRoom}
-use Rattle.lsys_forest.specs.Groves.{In, AreRising, Reached, Named, IsSound}
+use Rattle.lsys_forest.specs.Ranks.{AreRanked}
+use Rattle.lsys_forest.specs.Groves.{In, Reached, Named, IsSound}
 
 module _ {A : Type 0} where
   -- the parent lives and has the node among its children
@@ -13,10 +14,6 @@ module _ {A : Type 0} where
     pub is : m n.parent ≡ Some parent
     pub among : In k parent.kids
 
-  -- the places of the children of this node rise, if it lives
-  abbrev pub AreRisingUnder : Nodes A → ℕ → Type 0
-  AreRisingUnder m p = (n : Node A) → m p ≡ Some n → AreRising m n.kids
-
   -- What a commit keeps true while it removes nodes from `first`: none that is reached was removed, and each other that is
   -- left and not linked is among `left`, or a change names it. The children of a node that is left are left.
   pub record IsSwept (first : Nodes A) (root : ℕ) (m : Nodes A) (changes : List (Change A)) (left : List ℕ) : Type 0 where
@@ -24,9 +21,9 @@ module _ {A : Type 0} where
     pub cover : (k : ℕ) (n : Node A) → m k ≡ Some n → k ≢ root → IsLinked m k n ⊎ In k left ⊎ Named changes k
     pub kids : (p k : ℕ) (n : Node A) → m p ≡ Some n → In k n.kids → IsSome (m k)
 
-  -- the nodes in `left` were looked at, whatever the forest was first
-  abbrev pub SweepsLeft : ℕ → Stock A → Stock A → List ℕ → Type 0
-  SweepsLeft root old new left = (first : Nodes A) (before : List (Change A)) → IsSound root before first → IsSwept first root (nodes_of old) (changes_of old) left → IsSwept first root (nodes_of new) (changes_of new) []
+  -- the nodes in `left` were looked at, whatever the forest was first, where these are its ranks
+  abbrev pub SweepsLeft : ℕ → List ℕ → Stock A → Stock A → List ℕ → Type 0
+  SweepsLeft root at old new left = (first : Nodes A) (before : List (Change A)) → IsSound root before first → AreRanked first at → IsSwept first root (nodes_of old) (changes_of old) left → IsSwept first root (nodes_of new) (changes_of new) []
 
   -- a node that is removed makes place for the change that tells its children
   pub record KeepsPlaces (old new : Stock A) : Type 0 where

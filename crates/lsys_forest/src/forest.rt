@@ -1,25 +1,24 @@
 //! The forest.
-ghost use Rattle.std.specs.Prelude.{List, ◌∷◌, ◌++◌, ◌≡◌, ◌≢◌, ◌+◌, ◌<◌, ◌≤◌, ◌^◌, ℕ, [], None, Some, IsSome, IfOk, OnOk, IsTrue, false, option_copied, length};
+ghost use Rattle.std.specs.Prelude.{◌↔◌, List, ◌∷◌, ◌++◌, ◌≡◌, ◌≢◌, ◌+◌, ◌<◌, ◌≤◌, ◌^◌, ℕ, [], None, Some, IfOk, OnOk, IsTrue, false, option_copied, length};
 ghost use Rattle.lsys_module.specs.declared.symbol.Symbol.TheVariants.{Cut};
 ghost use Rattle.lsys_level.specs.Places.{seen_in, params_in};
-ghost use Rattle.lsys_level.specs.Spots.{IsSpot};
 ghost use Rattle.lsys_region.specs.Rooms.{list_room};
 ghost use Rattle.lsys_forest.specs.Nodes.{Node, root_node, with_seen, with_key, with_kids, with_answer};
 ghost use Rattle.lsys_forest.specs.Slots.{live_slots};
 ghost use Rattle.lsys_forest.specs.Changes.{Change, undone};
 ghost use Rattle.lsys_forest.specs.Stocks.{nodes_of, changes_of, KeepsRoom, Undoes, dropped};
 ghost use Rattle.lsys_forest.specs.Answers.{answers, kept_by, IsMade, Releases, AreMade, Follows, FreesAllBut};
-ghost use Rattle.lsys_forest.specs.Rows.{first_in, oriented, level_nodes, complete_levels, level_of_node, place_of_node};
+ghost use Rattle.lsys_forest.specs.Rows.{first_in, last_in, oriented, flat, kids_that_way, kids_below, complete_levels, level_of_node, place_of_node, IsAtSpot, level_with};
 ghost use Rattle.lsys_forest.specs.Mates.{mate_way};
-ghost use Rattle.lsys_forest.specs.Threads.{IsThreaded, KeepsLinks};
+ghost use Rattle.lsys_forest.specs.Ranks.{AreRanked};
 ghost use Rattle.lsys_forest.specs.Groves.{now_of, rest_of, IsAtRest, IsLive, live_nodes, spare_params, spare_kids, kept_in, changes_in, IsSound, AreSound, Reached, AreKids, Sets, Spends};
 
 use crate::kept::Kept;
 use crate::node::{Kind, NodeId};
+use crate::ranks::{Ranks, rerank};
 use crate::stock::Parts;
 use crate::sweep::sweep_all;
-use crate::threads::{Threads, is_full, refit};
-use crate::walk::{Way, beside, first_at, mate_of};
+use crate::walk::{Way, beside, first_at, first_child, is_before, mate_of};
 use lsys_level::{LevelView, Sight, Tag};
 use lsys_module::Symbol;
 use std::alloc::{AllocError, Global};
@@ -29,7 +28,7 @@ use std::marker::Model;
 #[derive(Drop)]
 pub struct Forest<A> {
     parts: Parts<A>,
-    threads: Threads,
+    ranks: Ranks,
     root: NodeId,
     spare_nodes: usize,
     spare_notes: usize,
@@ -37,7 +36,7 @@ pub struct Forest<A> {
 
 impl<A> Model for Forest<A> {
     ghost use Rattle.lsys_forest.specs.Groves.{Grove, IsGrove};
-    ghost use Rattle.lsys_forest.specs.Threads.{AreThreads};
+    ghost use Rattle.lsys_forest.specs.Ranks.{AreRanks};
 
     ghost Value = { Grove A };
 
@@ -45,7 +44,7 @@ impl<A> Model for Forest<A> {
 
     ghost invariant = { λ a. record {
       grove : IsGrove a.parts a.root a.spare_nodes a.spare_notes;
-      threads : AreThreads a.threads a.parts a.root a.spare_nodes;
+      ranks : AreRanks a.ranks a.parts a.spare_nodes;
     } };
 }
 
@@ -62,10 +61,10 @@ impl<A: Kept> Forest<A> {
         ensures live { IfOk result (λ f. live_nodes f ≡ 1) }
     {
         let parts = Parts::of_root(alloc)?;
-        let threads = Threads::of_root(alloc)?;
+        let ranks = Ranks::of_root(alloc)?;
         Ok(Forest {
             parts,
-            threads,
+            ranks,
             root: NodeId(0),
             spare_nodes: 0,
             spare_notes: 0,
@@ -99,14 +98,21 @@ impl<A: Kept> Forest<A> {
         let spare_notes = notes.max(self.spare_notes);
         let places = spare_notes.saturating_add(self.parts.live() + spare_nodes);
         self.parts.reserve(spare_nodes, params, kids, places)?;
-        self.threads.reserve(self.parts.live() + spare_nodes)?;
+        self.ranks.reserve(self.parts.live() + spare_nodes)?;
         self.spare_nodes = spare_nodes;
         self.spare_notes = spare_notes;
         Ok(())
     }
 
     /// Adds a node under a parent, with no children and no answer. No other node changes. It takes no memory.
-    pub fn add(&mut self, parent: NodeId, place: u32, symbol: &Symbol, key: u64) -> NodeId
+    pub fn add(
+        &mut self,
+        parent: NodeId,
+        code: u64,
+        count: u32,
+        symbol: &Symbol,
+        key: u64,
+    ) -> NodeId
         requires parent { IsLive self.old parent }
         requires whole { symbol.now ≢ Cut }
         requires nodes { 0 < self.old.spare_nodes }
@@ -115,7 +121,8 @@ impl<A: Kept> Forest<A> {
         ensures new { now_of self.old result ≡ None }
         ensures added { (p : Node A) → now_of self.old parent ≡ Some p → Sets self.old self.new result (record {
           parent = parent;
-          place = place;
+          code = code;
+          count = count;
           depth = p.depth + 1;
           seen = seen_in symbol.now;
           key = key;
@@ -130,12 +137,13 @@ impl<A: Kept> Forest<A> {
         };
         self.spare_nodes -= 1;
         self.spare_notes -= 1;
-        let node = self.parts.insert(parent, place, depth, symbol, key);
-        self.threads.reach(node);
+        let node = self.parts.insert(parent, code, count, depth, symbol, key);
+        self.ranks.reach(node);
         node
     }
 
-    /// Sets the children of a node: nodes of this parent, whose places rise. Nothing else changes. It takes no memory.
+    /// Sets the children of a node: nodes of this parent, none twice, in whatever order. Nothing else changes. It takes no
+    /// memory.
     pub fn set_children(&mut self, node: NodeId, kids: &[NodeId])
         requires lives { IsLive self.old node }
         requires kids { AreKids (now_of self.old) self.old.root node kids.now }
@@ -145,9 +153,8 @@ impl<A: Kept> Forest<A> {
         ensures spends { Spends self.old self.new 0 0 (list_room kids.now) 1 }
     {
         self.spare_notes -= 1;
-        let had_some = is_full(&self.parts, node);
         self.parts.set_kids(node, kids);
-        refit(&mut self.threads, &self.parts, self.root, node, had_some);
+        rerank(&mut self.ranks, &self.parts, node);
     }
 
     /// Sets the symbol of a node that is not the root. Nothing else changes. It takes no memory.
@@ -189,11 +196,19 @@ impl<A: Kept> Forest<A> {
         self.parts.set_answer(node, answer);
     }
 
-    /// The root.
+    /// The root. A forest is sound: its nodes hang together under the root.
     pub fn root(&self) -> NodeId
-        ensures { result ≡ self.now.root }
+        ensures root { result ≡ self.now.root }
+        ensures sound { IsSound self.now.root (changes_in self.now) (now_of self.now) }
     {
         self.root
+    }
+
+    /// How many nodes live, the root among them.
+    pub fn live(&self) -> usize
+        ensures { result ≡ live_nodes self.now }
+    {
+        self.parts.live()
     }
 
     /// The answer that a node keeps, if it keeps one.
@@ -215,14 +230,15 @@ impl<A: Kept> Forest<A> {
         self.parts.kids(node)
     }
 
-    /// The place of a node under its parent. The node is not the root.
-    pub fn place(&self, node: NodeId) -> u32
+    /// The code and the count that name a node under its parent. The node is not the root.
+    pub fn number(&self, node: NodeId) -> (u64, u32)
         requires lives { IsLive self.now node }
         requires other { node ≢ self.now.root }
-        ensures { (n : Node A) → now_of self.now node ≡ Some n → result ≡ n.place }
+        ensures { (n : Node A) → now_of self.now node ≡ Some n
+            → (result.0 ≡ n.code) × (result.1 ≡ n.count) }
     {
         match self.parts.get(node) {
-            Some(found) => found.place,
+            Some(found) => (found.code, found.count),
             None => unreachable!(),
         }
     }
@@ -238,7 +254,7 @@ impl<A: Kept> Forest<A> {
         ensures store { FreesAllBut A.run_at A.Holds (kept_in self.old) (kept_by (rest_of self.old)) store.old store.new }
         ensures still { AreMade A.run_at A.Holds store.new (kept_in self.new) }
     {
-        undo_all(&mut self.parts, &mut self.threads, self.root, store);
+        undo_all(&mut self.parts, &mut self.ranks, self.root, store);
     }
 
     /// Keeps the forest as it is, as a rest: the nodes that are reached from the root stay node for node, and all others
@@ -253,21 +269,56 @@ impl<A: Kept> Forest<A> {
         ensures store { FreesAllBut A.run_at A.Holds (kept_in self.old) (kept_by (now_of self.new)) store.old store.new }
         ensures still { AreMade A.run_at A.Holds store.new (kept_in self.new) }
     {
-        sweep_all(&mut self.parts, &mut self.threads, self.root, store);
+        sweep_all(&mut self.parts, &self.ranks, self.root, store);
     }
 }
 
 impl<A: Kept> Forest<A> {
+    /// Whether the first of two nodes of one complete level comes before the second.
+    pub fn is_before(&self, one: NodeId, two: NodeId) -> bool
+        requires one { IsAtSpot self.now one }
+        requires two { IsAtSpot self.now two }
+        requires level { level_of_node self.now two ≡ level_of_node self.now one }
+        ensures { IsTrue result ↔ (place_of_node self.now one < place_of_node self.now two) }
+    {
+        is_before(
+            &self.parts,
+            &self.ranks,
+            self.root,
+            one,
+            two,
+            self.depth(one),
+        )
+    }
+
+    /// The first child of the nodes of a complete level from this one on; none where they have no children.
+    pub fn first_below(&self, spot: NodeId) -> Option<NodeId>
+        requires { IsAtSpot self.now spot }
+        ensures { (before after : List ℕ) → level_with self.now spot ≡ before ++ spot ∷ after
+            → result ≡ first_in (kids_below (now_of self.now) (spot ∷ after)) }
+    {
+        self.child_from(spot, Way::Right)
+    }
+
+    /// The last child of the nodes of a complete level up to this one; none where they have no children.
+    pub fn last_below(&self, spot: NodeId) -> Option<NodeId>
+        requires { IsAtSpot self.now spot }
+        ensures { (before after : List ℕ) → level_with self.now spot ≡ before ++ spot ∷ after
+            → result ≡ last_in (kids_below (now_of self.now) (before ++ spot ∷ [])) }
+    {
+        self.child_from(spot, Way::Left)
+    }
+
     /// The node next to one of a complete level, that way.
     fn beside(&self, spot: NodeId, way: Way) -> Option<NodeId>
-        requires { IsSpot (complete_levels self.now) (level_of_node self.now spot) (place_of_node self.now spot) }
-        ensures beside { (before after : List ℕ) → oriented way (level_nodes (now_of self.now) self.now.root (level_of_node self.now spot))
-            ≡ before ++ spot ∷ after → result ≡ first_in after }
+        requires { IsAtSpot self.now spot }
+        ensures beside { (before after : List ℕ)
+            → oriented way (level_with self.now spot) ≡ before ++ spot ∷ after → result ≡ first_in after }
         ensures sound { IsSound self.now.root (changes_in self.now) (now_of self.now) }
     {
         beside(
             &self.parts,
-            &self.threads,
+            &self.ranks,
             self.root,
             spot,
             self.depth(spot),
@@ -275,9 +326,26 @@ impl<A: Kept> Forest<A> {
         )
     }
 
+    /// The first child of the nodes of a complete level from one of them on, that way.
+    fn child_from(&self, spot: NodeId, way: Way) -> Option<NodeId>
+        requires { IsAtSpot self.now spot }
+        ensures { (before after : List ℕ)
+            → oriented way (level_with self.now spot) ≡ before ++ spot ∷ after
+            → result ≡ first_in (flat (kids_that_way way (now_of self.now)) (spot ∷ after)) }
+    {
+        first_child(
+            &self.parts,
+            &self.ranks,
+            self.root,
+            Some(spot),
+            self.depth(spot),
+            way,
+        )
+    }
+
     /// How many steps a node of a complete level is below the root.
     fn depth(&self, spot: NodeId) -> u32
-        requires { IsSpot (complete_levels self.now) (level_of_node self.now spot) (place_of_node self.now spot) }
+        requires { IsAtSpot self.now spot }
         ensures { result ≡ level_of_node self.now spot + 1 }
     {
         match self.parts.get(spot) {
@@ -299,7 +367,7 @@ impl<A: Kept> LevelView for Forest<A> {
     ghost place_of = { place_of_node };
 
     fn first(&self, level: u32) -> Option<NodeId> {
-        first_at(&self.parts, &self.threads, self.root, level)
+        first_at(&self.parts, &self.ranks, self.root, level)
     }
 
     fn left(&self, spot: NodeId) -> Option<NodeId> {
@@ -314,7 +382,7 @@ impl<A: Kept> LevelView for Forest<A> {
         let way = way_to_mate(self.parts.kind(spot));
         mate_of(
             &self.parts,
-            &self.threads,
+            &self.ranks,
             self.root,
             spot,
             self.depth(spot),
@@ -334,7 +402,7 @@ impl<A: Kept> LevelView for Forest<A> {
     }
 
     fn tag(&self, spot: NodeId) -> Tag {
-        let _root = self.root;
+        prove!(spot != self.root);
         Tag(spot.0)
     }
 
@@ -357,51 +425,50 @@ fn way_to_mate(kind: Kind) -> Way
 }
 
 /// Undoes each change, the last first.
-fn undo_all<A: Kept>(
-    parts: &mut Parts<A>,
-    threads: &mut Threads,
-    root: NodeId,
-    store: &mut A::Store,
-)
+fn undo_all<A: Kept>(parts: &mut Parts<A>, ranks: &mut Ranks, root: NodeId, store: &mut A::Store)
     requires sound { AreSound root (changes_of parts.old) (nodes_of parts.old) }
-    requires ring { IsThreaded (nodes_of parts.old) (nodes_of parts.old) threads.old root }
+    requires ranked { AreRanked (nodes_of parts.old) ranks.old.at }
+    requires numbers { length parts.old.slots ≤ length ranks.old.at }
     requires made { AreMade A.run_at A.Holds store.old (answers (nodes_of parts.old) (changes_of parts.old)) }
     ensures nodes { nodes_of parts.new ≡ undone (changes_of parts.old) (nodes_of parts.old) }
     ensures empty { changes_of parts.new ≡ [] }
     ensures short { length parts.new.notes ≡ 0 }
     ensures live { live_slots parts.new.slots ≤ live_slots parts.old.slots }
     ensures room { KeepsRoom parts.old parts.new }
-    ensures ring { IsThreaded (nodes_of parts.new) (nodes_of parts.new) threads.new root }
-    ensures links { KeepsLinks threads.old threads.new }
+    ensures ranked { AreRanked (nodes_of parts.new) ranks.new.at }
+    ensures long { length ranks.new.at ≡ length ranks.old.at }
+    ensures places { ranks.old.places ≤ ranks.new.places }
     ensures made { AreMade A.run_at A.Holds store.new (answers (nodes_of parts.new) (changes_of parts.new)) }
     ensures freed { Follows A.run_at A.Holds (answers (nodes_of parts.old) (changes_of parts.old)) store.old
         (answers (nodes_of parts.new) (changes_of parts.new)) store.new }
 {
-    while undo_one(parts, threads, root, store) {}
+    while undo_one(parts, ranks, root, store) {}
 }
 
 /// Undoes the last change, and tells whether there was one.
 fn undo_one<A: Kept>(
     parts: &mut Parts<A>,
-    threads: &mut Threads,
+    ranks: &mut Ranks,
     root: NodeId,
     store: &mut A::Store,
 ) -> bool
     requires sound { AreSound root (changes_of parts.old) (nodes_of parts.old) }
-    requires ring { IsThreaded (nodes_of parts.old) (nodes_of parts.old) threads.old root }
+    requires ranked { AreRanked (nodes_of parts.old) ranks.old.at }
+    requires numbers { length parts.old.slots ≤ length ranks.old.at }
     requires made { (c : Change A) (earlier : List (Change A)) → changes_of parts.old ≡ earlier ++ c ∷ []
         → IsMade A.run_at A.Holds store.old (dropped c (nodes_of parts.old)) }
     ensures undone { IsTrue result → (c : Change A) × Undoes parts.old parts.new c
         × Releases A.run_at A.Holds (dropped c (nodes_of parts.old)) store.old store.new }
     ensures none { result ≡ false → (changes_of parts.old ≡ []) × (parts.new ≡ parts.old) × (store.new ≡ store.old) }
-    ensures ring { IsThreaded (nodes_of parts.new) (nodes_of parts.new) threads.new root }
-    ensures links { KeepsLinks threads.old threads.new }
+    ensures ranked { AreRanked (nodes_of parts.new) ranks.new.at }
+    ensures long { length ranks.new.at ≡ length ranks.old.at }
+    ensures places { ranks.old.places ≤ ranks.new.places }
 {
-    let Some(node) = parts.last_changed() else {
-        return false;
-    };
-    let had_some = is_full(parts, node);
+    let family = parts.last_family();
     let undone = parts.undo_last(store);
-    refit(threads, parts, root, node, had_some);
+    match family {
+        Some(node) => rerank(ranks, parts, node),
+        None => {}
+    }
     undone
 }

@@ -7,16 +7,17 @@
 
 mod forest;
 mod kept;
+mod law;
 mod lists;
 mod node;
 mod note;
+mod ranks;
 mod stock;
 mod sweep;
 mod table;
-mod threads;
-mod tree;
 mod walk;
 
 pub use forest::Forest;
 pub use kept::Kept;
+pub use law::law_of_spots;
 pub use node::NodeId;

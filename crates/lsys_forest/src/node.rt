@@ -42,7 +42,9 @@ pub(crate) enum Kind {
 #[derive(Drop)]
 pub(crate) struct Stored<A> {
     pub(crate) parent: NodeId,
-    pub(crate) place: u32,
+    /// With the parent, what names it: a code and a count.
+    pub(crate) code: u64,
+    pub(crate) count: u32,
     /// How many steps it is below the root.
     pub(crate) depth: u32,
     pub(crate) kind: Kind,

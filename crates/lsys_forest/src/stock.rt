@@ -8,8 +8,8 @@ ghost use Rattle.lsys_forest.specs.Slots.{slot_at, live_slots};
 ghost use Rattle.lsys_forest.specs.Answers.{old_answer, IsMade, Releases};
 ghost use Rattle.lsys_forest.specs.Groves.{HasFew};
 ghost use Rattle.lsys_forest.specs.Nodes.{Node, root_node, put, with_seen, with_key, with_kids, with_answer};
-ghost use Rattle.lsys_forest.specs.Changes.{Change, Missing, OldSeen, OldKey, OldKids, OldAnswer};
-ghost use Rattle.lsys_forest.specs.Stocks.{nodes_of, changes_of, row_at, Journals, KeepsRoom, dropped, Undoes, TakesUp, Removes, undone_slots, UndoesParams, UndoesKids, dropped_slot, DropsParams, TakesKids, noted_answer, named, named_by};
+ghost use Rattle.lsys_forest.specs.Changes.{Change, KeepsKids, Missing, OldSeen, OldKey, OldKids, OldAnswer};
+ghost use Rattle.lsys_forest.specs.Stocks.{nodes_of, changes_of, row_at, Journals, KeepsRoom, dropped, Undoes, TakesUp, Removes, undone_slots, UndoesParams, UndoesKids, dropped_slot, DropsParams, TakesKids, noted_answer, named, named_by, kid_lists};
 
 use crate::kept::{Kept, release_one, release_slot};
 use crate::lists::Lists;
@@ -100,7 +100,8 @@ impl<A: Drop> Parts<A> {
     {
         let number = self.table.insert(Stored {
             parent: NodeId(0),
-            place: 0,
+            code: 0,
+            count: 0,
             depth: 0,
             kind: Kind::Push,
             key: 0,
@@ -157,14 +158,15 @@ impl<A: Drop> Parts<A> {
         self.notes.is_empty()
     }
 
-    /// The node that the last change was of, if there is one.
-    pub(crate) fn last_changed(&self) -> Option<NodeId>
+    /// The node whose children the last change set, if it set children.
+    pub(crate) fn last_family(&self) -> Option<NodeId>
         ensures some { IfSome result (λ k. (c : Change A) (earlier : List (Change A))
             → changes_of self.now ≡ earlier ++ c ∷ [] → c.node ≡ k) }
-        ensures none { IfNone result (changes_of self.now ≡ []) }
+        ensures none { IfNone result ((c : Change A) (earlier : List (Change A))
+            → changes_of self.now ≡ earlier ++ c ∷ [] → KeepsKids c.before) }
     {
         match self.notes.last() {
-            Some(note) => Some(node_changed(note)),
+            Some(note) => family_of(note),
             None => None,
         }
     }
@@ -214,7 +216,8 @@ impl<A: Drop> Parts<A> {
     pub(crate) fn insert(
         &mut self,
         parent: NodeId,
-        place: u32,
+        code: u64,
+        count: u32,
         depth: u32,
         symbol: &Symbol,
         key: u64,
@@ -231,7 +234,8 @@ impl<A: Drop> Parts<A> {
         ensures few { HasFew (seen_in symbol.now) }
         ensures added { Journals self.old self.new result (Some (record {
           parent = parent;
-          place = place;
+          code = code;
+          count = count;
           depth = depth;
           seen = seen_in symbol.now;
           key = key;
@@ -242,7 +246,8 @@ impl<A: Drop> Parts<A> {
     {
         let number = self.table.insert(Stored {
             parent,
-            place,
+            code,
+            count,
             depth,
             kind: kind_of(symbol),
             key,
@@ -416,11 +421,15 @@ impl<A: Kept> Parts<A> {
     }
 }
 
-/// The node that a note is of.
-fn node_changed<A>(note: &Note<A>) -> NodeId
-    ensures { result ≡ note.now.node }
+/// The node that a note is of, if it is one of children.
+fn family_of<A>(note: &Note<A>) -> Option<NodeId>
+    ensures some { IfSome result (λ k. note.now.node ≡ k) }
+    ensures none { IfNone result (kid_lists note.now.was ≡ 0) }
 {
-    note.node
+    match &note.was {
+        Was::Kids => Some(note.node),
+        _ => None,
+    }
 }
 
 /// Undoes the change of this note, which was the last.

@@ -1,18 +1,18 @@
 //! Walks along a level.
-ghost use Rattle.std.specs.Prelude.{◌≡◌, ◌+◌, ◌-◌, ◌<◌, ◌≤◌, ℕ, ◌∷◌, ◌++◌, [], ◌^◌, List, length, Some, None, IfSome, slice_get, true};
+ghost use Rattle.std.specs.Prelude.{◌≡◌, ◌↔◌, IsTrue, ◌+◌, ◌-◌, ◌<◌, ℕ, ◌∷◌, ◌++◌, [], ◌^◌, List, length, Some, None, IfSome, slice_get, true};
 ghost use Rattle.lsys_forest.specs.Stocks.{nodes_of, changes_of};
-ghost use Rattle.lsys_forest.specs.Groves.{In, AreApart, AreRising, IsSound, place_in};
+ghost use Rattle.lsys_forest.specs.Groves.{In, AreApart, IsSound};
 ghost use Rattle.lsys_spec.specs.Levels.{level_balanced};
 ghost use Rattle.lsys_level.specs.Spots.{level_by};
 ghost use Rattle.lsys_forest.specs.Slots.{live_slots};
-ghost use Rattle.lsys_forest.specs.Threads.{IsThreaded};
+ghost use Rattle.lsys_forest.specs.Ranks.{AreRanked, parent_in};
 ghost use Rattle.lsys_forest.specs.Mates.{nested, IsBracketThat, IsMateThat};
-ghost use Rattle.lsys_forest.specs.Rows.{first_in, oriented, level_nodes, level_spots};
+ghost use Rattle.lsys_forest.specs.Rows.{first_in, index_in, oriented, flat, kids_that_way, level_nodes, level_spots};
 
 use crate::kept::Kept;
 use crate::node::{Kind, NodeId};
+use crate::ranks::Ranks;
 use crate::stock::Parts;
-use crate::threads::{Threads, next_full};
 
 /// Which way to go along a level.
 #[derive(Clone, Copy, Drop, PartialEq, Eq)]
@@ -21,82 +21,29 @@ pub(crate) enum Way {
     Right,
 }
 
-/// The node that comes next to a node among these, that way, where the node has this place under its parent.
-fn next_to<A: Kept>(
-    parts: &Parts<A>,
-    kids: &[NodeId],
-    node: NodeId,
-    place: u32,
-    way: Way,
-) -> Option<NodeId>
-    requires among { In node kids.now }
-    requires place { place ≡ place_in (nodes_of parts.now node) }
-    requires rising { AreRising (nodes_of parts.now) kids.now }
+/// The node that comes next to the one at a place among these, that way.
+fn next_to(kids: &[NodeId], place: usize, way: Way) -> Option<NodeId>
+    requires within { place < length kids.now }
     requires apart { AreApart kids.now }
-    ensures { (before after : List ℕ) → oriented way kids.now ≡ before ++ node ∷ after → result ≡ first_in after }
+    ensures { (node : ℕ) (before after : List ℕ) → slice_get kids.now place ≡ Some node
+        → oriented way kids.now ≡ before ++ node ∷ after → result ≡ first_in after }
 {
-    let Some(at) = position(parts, kids, node, place) else {
-        unreachable!()
-    };
     match way {
         Way::Left => {
-            if at == 0 {
+            if place == 0 {
                 return None;
             }
-            Some(kids[at - 1])
+            kid_at(kids, place - 1)
         }
-        Way::Right => kid_at(kids, at + 1),
+        Way::Right => kid_at(kids, place + 1),
     }
 }
 
 /// The node at a place among these.
-fn kid_at(kids: &[NodeId], place: usize) -> Option<NodeId>
+pub(crate) fn kid_at(kids: &[NodeId], place: usize) -> Option<NodeId>
     ensures { result ≡ slice_get kids.now place }
 {
     kids.get(place).copied()
-}
-
-/// The place of a node under its parent; 0 where it does not live.
-pub(crate) fn place_of<A: Kept>(parts: &Parts<A>, node: NodeId) -> u32
-    ensures { result ≡ place_in (nodes_of parts.now node) }
-{
-    match parts.get(node) {
-        Some(found) => found.place,
-        None => 0,
-    }
-}
-
-/// Where the node, which has this place under its parent, stands among these; none where it is not among them. As long as
-/// none was taken out before it, it stands at its place. Else it is found by halves, since the places of children rise.
-pub(crate) fn position<A: Kept>(
-    parts: &Parts<A>,
-    kids: &[NodeId],
-    node: NodeId,
-    place: u32,
-) -> Option<usize>
-    ensures stands { IfSome result (λ i. slice_get kids.now i ≡ Some node) }
-    ensures lacks { result ≡ None → place ≡ place_in (nodes_of parts.now node)
-        → AreRising (nodes_of parts.now) kids.now → In node kids.now → ⊥ }
-{
-    let first = place as usize;
-    if first < kids.len() && kids[first] == node {
-        return Some(first);
-    }
-    let mut low = 0;
-    let mut high = kids.len();
-    while low < high {
-        let middle = low + (high - low) / 2;
-        let kid = kids[middle];
-        if kid == node {
-            return Some(middle);
-        }
-        if place_of(parts, kid) < place {
-            low = middle + 1;
-        } else {
-            high = middle;
-        }
-    }
-    None
 }
 
 /// The first of these nodes, that way.
@@ -112,14 +59,14 @@ fn first_of(kids: &[NodeId], way: Way) -> Option<NodeId>
 /// The node that comes next to a node of the level this many steps below the root, that way; none at the end.
 pub(crate) fn beside<A: Kept>(
     parts: &Parts<A>,
-    threads: &Threads,
+    ranks: &Ranks,
     root: NodeId,
     node: NodeId,
     depth: u32,
     way: Way,
 ) -> Option<NodeId>
     requires sound { IsSound root (changes_of parts.now) (nodes_of parts.now) }
-    requires ring { IsThreaded (nodes_of parts.now) (nodes_of parts.now) threads.now root }
+    requires ranked { AreRanked (nodes_of parts.now) ranks.now.at }
     requires below { 0 < depth }
     requires among { In node (level_nodes (nodes_of parts.now) root (depth - 1)) }
     ensures { (before after : List ℕ) → oriented way (level_nodes (nodes_of parts.now) root (depth - 1)) ≡ before ++ node ∷ after
@@ -129,38 +76,47 @@ pub(crate) fn beside<A: Kept>(
         unreachable!()
     };
     let parent = found.parent;
-    if let Some(next) = next_to(parts, parts.kids(parent), node, found.place, way) {
+    if let Some(next) = next_to(parts.kids(parent), ranks.rank(node), way) {
         return Some(next);
     }
     if depth == 1 {
         return None;
     }
-    match next_full(parts, threads, root, parent, depth - 1, way) {
-        Some(above) => first_of(parts.kids(above), way),
-        None => None,
+    let mut at = beside(parts, ranks, root, parent, depth - 1, way);
+    while let Some(above) = at {
+        if let Some(kid) = first_of(parts.kids(above), way) {
+            return Some(kid);
+        }
+        at = beside(parts, ranks, root, above, depth - 1, way);
     }
+    None
 }
 
-/// The leftmost child of the nodes of a level, from one of its nodes on; none where they have no children.
-fn first_below<A: Kept>(
+/// The first child of the nodes of a level from one of them on, that way; none where they have no children.
+pub(crate) fn first_child<A: Kept>(
     parts: &Parts<A>,
-    threads: &Threads,
+    ranks: &Ranks,
     root: NodeId,
     start: Option<NodeId>,
     depth: u32,
+    way: Way,
 ) -> Option<NodeId>
     requires sound { IsSound root (changes_of parts.now) (nodes_of parts.now) }
-    requires ring { IsThreaded (nodes_of parts.now) (nodes_of parts.now) threads.now root }
+    requires ranked { AreRanked (nodes_of parts.now) ranks.now.at }
     requires below { 0 < depth }
-    requires first { start ≡ first_in (level_nodes (nodes_of parts.now) root (depth - 1)) }
-    ensures { result ≡ first_in (level_nodes (nodes_of parts.now) root depth) }
+    requires among { IfSome start (λ node.
+        In node (level_nodes (nodes_of parts.now) root (depth - 1))) }
+    ensures { (before after : List ℕ)
+        → oriented way (level_nodes (nodes_of parts.now) root (depth - 1)) ≡ before ++ after
+        → start ≡ first_in after
+        → result ≡ first_in (flat (kids_that_way way (nodes_of parts.now)) after) }
 {
     let mut at = start;
     while let Some(above) = at {
-        if let Some(kid) = first_of(parts.kids(above), Way::Right) {
+        if let Some(kid) = first_of(parts.kids(above), way) {
             return Some(kid);
         }
-        at = beside(parts, threads, root, above, depth, Way::Right);
+        at = beside(parts, ranks, root, above, depth, way);
     }
     None
 }
@@ -168,17 +124,17 @@ fn first_below<A: Kept>(
 /// The leftmost node of a level.
 pub(crate) fn first_at<A: Kept>(
     parts: &Parts<A>,
-    threads: &Threads,
+    ranks: &Ranks,
     root: NodeId,
     level: u32,
 ) -> Option<NodeId>
     requires sound { IsSound root (changes_of parts.now) (nodes_of parts.now) }
-    requires ring { IsThreaded (nodes_of parts.now) (nodes_of parts.now) threads.now root }
+    requires ranked { AreRanked (nodes_of parts.now) ranks.now.at }
     ensures { result ≡ first_in (level_nodes (nodes_of parts.now) root level) }
 {
     let mut at = first_of(parts.kids(root), Way::Right);
     for depth in 0..level {
-        at = first_below(parts, threads, root, at, depth + 1);
+        at = first_child(parts, ranks, root, at, depth + 1, Way::Right);
     }
     at
 }
@@ -198,14 +154,14 @@ fn nest(way: Way, kind: Kind, inside: u32) -> Option<u32>
 /// The mate of a bracket, that way.
 pub(crate) fn mate_of<A: Kept>(
     parts: &Parts<A>,
-    threads: &Threads,
+    ranks: &Ranks,
     root: NodeId,
     node: NodeId,
     depth: u32,
     way: Way,
 ) -> NodeId
     requires sound { IsSound root (changes_of parts.now) (nodes_of parts.now) }
-    requires ring { IsThreaded (nodes_of parts.now) (nodes_of parts.now) threads.now root }
+    requires ranked { AreRanked (nodes_of parts.now) ranks.now.at }
     requires numbers { live_slots parts.now.slots < 2 ^ 32 }
     requires below { 0 < depth }
     requires among { In node (level_nodes (nodes_of parts.now) root (depth - 1)) }
@@ -214,13 +170,48 @@ pub(crate) fn mate_of<A: Kept>(
     ensures { IsMateThat way (nodes_of parts.now) (level_nodes (nodes_of parts.now) root (depth - 1)) node result }
 {
     let mut inside = 0;
-    let mut at = beside(parts, threads, root, node, depth, way);
+    let mut at = beside(parts, ranks, root, node, depth, way);
     while let Some(found) = at {
         let Some(branches) = nest(way, parts.kind(found), inside) else {
             return found;
         };
         inside = branches;
-        at = beside(parts, threads, root, found, depth, way);
+        at = beside(parts, ranks, root, found, depth, way);
     }
     unreachable!()
+}
+
+/// The parent of a node; 0 where it does not live.
+fn parent_of<A: Kept>(parts: &Parts<A>, node: NodeId) -> NodeId
+    ensures { result ≡ parent_in (nodes_of parts.now node) }
+{
+    match parts.get(node) {
+        Some(found) => found.parent,
+        None => NodeId(0),
+    }
+}
+
+/// Whether the first of two nodes of the level this many steps below the root comes first.
+pub(crate) fn is_before<A: Kept>(
+    parts: &Parts<A>,
+    ranks: &Ranks,
+    root: NodeId,
+    one: NodeId,
+    two: NodeId,
+    depth: u32,
+) -> bool
+    requires sound { IsSound root (changes_of parts.now) (nodes_of parts.now) }
+    requires ranked { AreRanked (nodes_of parts.now) ranks.now.at }
+    requires below { 0 < depth }
+    requires one { In one (level_nodes (nodes_of parts.now) root (depth - 1)) }
+    requires two { In two (level_nodes (nodes_of parts.now) root (depth - 1)) }
+    ensures { IsTrue result ↔ (index_in one (level_nodes (nodes_of parts.now) root (depth - 1))
+        < index_in two (level_nodes (nodes_of parts.now) root (depth - 1))) }
+{
+    let parent = parent_of(parts, one);
+    let other = parent_of(parts, two);
+    if parent == other {
+        return ranks.rank(one) < ranks.rank(two);
+    }
+    is_before(parts, ranks, root, parent, other, depth - 1)
 }

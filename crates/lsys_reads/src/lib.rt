@@ -8,7 +8,7 @@
 mod row;
 mod table;
 
-ghost use Rattle.std.specs.Prelude.{◌≡◌, ℕ, ◌+◌, ◌<◌, ◌++◌, ◌∷◌, List, [], ◌||◌, ◌&&◌, not, Bool, true, false, OnOk, OnErr, IfNone, IfSome};
+ghost use Rattle.std.specs.Prelude.{◌≡◌, ℕ, ◌+◌, ◌<◌, ◌++◌, ◌∷◌, List, [], ◌||◌, ◌&&◌, not, Bool, true, false, length, take, OnOk, OnErr, IfNone, IfSome};
 ghost use Rattle.lsys_reads.specs.Rows.{has, IsRising, AreRising, row_at};
 ghost use Rattle.lsys_reads.specs.Relations.{is_settled, is_pending, SettledStay, Covers, Forgets};
 
@@ -93,12 +93,29 @@ impl Reads {
         self.by_seen.tags(seen)
     }
 
+    /// How many pairs are pending.
+    pub fn pending(&self) -> usize
+        ensures { result ≡ length self.now.pending }
+    {
+        self.pending.len()
+    }
+
     /// Drops the pending pairs. It takes no memory.
     pub fn retract(&mut self)
         ensures settled { SettledStay self.old self.new }
         ensures pending { self.new.pending ≡ [] }
     {
-        while let Some(_) = self.retract_one() {}
+        self.retract_from(0);
+    }
+
+    /// Drops the last pending pairs, so that no more than so many stay. It takes no memory.
+    pub fn retract_from(&mut self, pairs: usize)
+        ensures settled { SettledStay self.old self.new }
+        ensures pending { self.new.pending ≡ take pairs self.old.pending }
+    {
+        while self.pending() > pairs {
+            let _ = self.retract_one();
+        }
     }
 
     /// Drops one pending pair, if there is one.

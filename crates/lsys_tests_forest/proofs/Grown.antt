@@ -1,6 +1,6 @@
 -- A forest of two levels that is built: its levels are complete.
 use Rattle.std.proofs.Common.{◌≡◌, ◌≢◌, ◌+◌, ◌<◌, ◌≤◌, ◌^◌, ℕ, zero, suc, true, false, List, [], ◌∷◌, ◌++◌, length, map, take, drop, get_or, Option, Some, None, refl, sym, ap, ◌∙◌, arith, inl, inr, subst, append_assoc}
-use Rattle.std.specs.Prelude.{IsSome, cond}
+use Rattle.std.specs.Prelude.{cond}
 use Rattle.std.proofs.lemmas.Bool.{cases_eq}
 use Rattle.std.proofs.lemmas.List.{append-nil}
 use Rattle.std.proofs.lemmas.Option.{none-some, same_Some}
@@ -12,11 +12,11 @@ use Rattle.lsys_module.specs.declared.symbol.Symbol.TheVariants.{Push, Pop, Cut,
 use Rattle.lsys_level.specs.Spots.{Spotted, level_by, named, with_lineage}
 use Rattle.lsys_level.specs.Places.{seen_in, bare, has_cut}
 use Rattle.lsys_level.proofs.Bare.{bare_balanced}
-use Rattle.lsys_forest.specs.Nodes.{Node, Nodes, put, with_kids, root_node}
-use Rattle.lsys_forest.specs.Groves.{In, AreApart, place_in, IsUnder, AreRising, AreKids}
-use Rattle.lsys_forest.specs.Rows.{flat, kids_in, spot_in, level_nodes, level_spots, complete_from}
+use Rattle.lsys_forest.specs.Nodes.{Node, Nodes, put, with_kids}
+use Rattle.lsys_forest.specs.Groves.{In, AreApart, IsUnder, AreKids}
+use Rattle.lsys_forest.specs.Rows.{flat, kids_in, spot_in, level_spots, complete_from}
 use Rattle.lsys_forest.proofs.StockLemmas.{put_same, put_other}
-use Rattle.lsys_forest.proofs.RowLemmas.{In_left, In_right, apart_parts, flat_append}
+use Rattle.lsys_forest.proofs.RowLemmas.{In_left, In_right, apart_append, apart_parts, flat_append}
 
 flat_none : (f : ℕ → List ℕ) (xs : List ℕ) → ((k : ℕ) → In k xs → f k ≡ []) → flat f xs ≡ []
 flat_none f [] none = refl
@@ -76,20 +76,19 @@ take_whole (x ∷ xs) (suc i) within = ap (λ l. x ∷ l) (take_whole xs i (omeg
 
 module _ {A : Type 0} where
   -- a node with this symbol, and no children
-  pub record IsGrown (m : Nodes A) (root place k : ℕ) (x : Symbol) : Type 0 where
+  pub record IsGrown (m : Nodes A) (root k : ℕ) (x : Symbol) : Type 0 where
     pub node : Node A
     pub is : m k ≡ Some node
     pub parent : node.parent ≡ root
-    pub place_is : node.place ≡ place
     pub seen : node.seen ≡ seen_in x
     pub kids : node.kids ≡ []
     pub other : k ≢ root
 
-  abbrev pub AreGrown : Nodes A → ℕ → ℕ → List ℕ → List Symbol → Type 0
-  AreGrown m root p [] [] = Unit {0}
-  AreGrown m root p [] (x ∷ xs) = ⊥
-  AreGrown m root p (k ∷ ks) [] = ⊥
-  AreGrown m root p (k ∷ ks) (x ∷ xs) = IsGrown m root p k x × AreGrown m root (suc p) ks xs
+  abbrev pub AreGrown : Nodes A → ℕ → List ℕ → List Symbol → Type 0
+  AreGrown m root [] [] = Unit {0}
+  AreGrown m root [] (x ∷ xs) = ⊥
+  AreGrown m root (k ∷ ks) [] = ⊥
+  AreGrown m root (k ∷ ks) (x ∷ xs) = IsGrown m root k x × AreGrown m root ks xs
 
   -- nodes with these symbols
   pub record IsSeen (m : Nodes A) (k : ℕ) (x : Symbol) : Type 0 where
@@ -105,67 +104,60 @@ module _ {A : Type 0} where
 
   -- 1. the first level
 
-  pub grown_kept : (m m' : Nodes A) (root p : ℕ) (ks : List ℕ) (xs : List Symbol) → ((k : ℕ) (n : Node A) → k ≢ root → m k ≡ Some n → m' k ≡ Some n) → AreGrown m root p ks xs → AreGrown m' root p ks xs
-  grown_kept m m' root p [] [] same g = tt
-  grown_kept m m' root p [] (x ∷ xs) same g = g
-  grown_kept m m' root p (k ∷ ks) [] same g = g
-  grown_kept m m' root p (k ∷ ks) (x ∷ xs) same g =
+  pub grown_kept : (m m' : Nodes A) (root : ℕ) (ks : List ℕ) (xs : List Symbol) → ((k : ℕ) (n : Node A) → k ≢ root → m k ≡ Some n → m' k ≡ Some n) → AreGrown m root ks xs → AreGrown m' root ks xs
+  grown_kept m m' root [] [] same g = tt
+  grown_kept m m' root [] (x ∷ xs) same g = g
+  grown_kept m m' root (k ∷ ks) [] same g = g
+  grown_kept m m' root (k ∷ ks) (x ∷ xs) same g =
       let one = g.0 in
-      (record { node = one.node; is = same k one.node one.other one.is; parent = one.parent; place_is = one.place_is; seen = one.seen; kids = one.kids; other = one.other }, grown_kept m m' root (suc p) ks xs same g.1)
+      (record { node = one.node; is = same k one.node one.other one.is; parent = one.parent; seen = one.seen; kids = one.kids; other = one.other }, grown_kept m m' root ks xs same g.1)
 
-  pub grown_push : (m : Nodes A) (root p : ℕ) (ks : List ℕ) (xs : List Symbol) (k q : ℕ) (x : Symbol) → AreGrown m root p ks xs → q ≡ p + length xs → IsGrown m root q k x → AreGrown m root p (ks ++ k ∷ []) (xs ++ x ∷ [])
-  grown_push m root p [] [] k q x g e one = (subst (λ i. IsGrown m root i k x) (omega (arith, e)) one, tt)
-  grown_push m root p [] (y ∷ xs) k q x g e one = absurd g
-  grown_push m root p (j ∷ ks) [] k q x g e one = absurd g
-  grown_push m root p (j ∷ ks) (y ∷ xs) k q x g e one = (g.0, grown_push m root (suc p) ks xs k q x g.1 (omega (arith, e)) one)
+  pub grown_push : (m : Nodes A) (root : ℕ) (ks : List ℕ) (xs : List Symbol) (k : ℕ) (x : Symbol) → AreGrown m root ks xs → IsGrown m root k x → AreGrown m root (ks ++ k ∷ []) (xs ++ x ∷ [])
+  grown_push m root [] [] k x g one = (one, tt)
+  grown_push m root [] (y ∷ xs) k x g one = absurd g
+  grown_push m root (j ∷ ks) [] k x g one = absurd g
+  grown_push m root (j ∷ ks) (y ∷ xs) k x g one = (g.0, grown_push m root ks xs k x g.1 one)
 
-  pub grown_long : (m : Nodes A) (root p : ℕ) (ks : List ℕ) (xs : List Symbol) → AreGrown m root p ks xs → length ks ≡ length xs
-  grown_long m root p [] [] g = refl
-  grown_long m root p [] (x ∷ xs) g = absurd g
-  grown_long m root p (k ∷ ks) [] g = absurd g
-  grown_long m root p (k ∷ ks) (x ∷ xs) g = omega (arith, grown_long m root (suc p) ks xs g.1)
+  pub grown_long : (m : Nodes A) (root : ℕ) (ks : List ℕ) (xs : List Symbol) → AreGrown m root ks xs → length ks ≡ length xs
+  grown_long m root [] [] g = refl
+  grown_long m root [] (x ∷ xs) g = absurd g
+  grown_long m root (k ∷ ks) [] g = absurd g
+  grown_long m root (k ∷ ks) (x ∷ xs) g = omega (arith, grown_long m root ks xs g.1)
 
-  grown_under : (m : Nodes A) (root p : ℕ) (ks : List ℕ) (xs : List Symbol) → AreGrown m root p ks xs → (k : ℕ) → In k ks → IsUnder m root root k × (p ≤ place_in (m k)) × (kids_in (m k) ≡ [])
-  grown_under m root p [] xs g k h = absurd h
-  grown_under m root p (j ∷ ks) [] g k h = absurd g
-  grown_under m root p (j ∷ ks) (x ∷ xs) g k (inl e) =
+  grown_under : (m : Nodes A) (root : ℕ) (ks : List ℕ) (xs : List Symbol) → AreGrown m root ks xs → (k : ℕ) → In k ks → IsUnder m root root k × (kids_in (m k) ≡ [])
+  grown_under m root [] xs g k h = absurd h
+  grown_under m root (j ∷ ks) [] g k h = absurd g
+  grown_under m root (j ∷ ks) (x ∷ xs) g k (inl e) =
       let one = g.0 in
       let is = ap m e ∙ one.is in
-      let f = ap place_in is in
-      (record { node = one.node; is = is; parent_is = one.parent; other = λ same. one.other (sym e ∙ same) }, omega (arith, f, one.place_is), ap kids_in is ∙ one.kids)
-  grown_under m root p (j ∷ ks) (x ∷ xs) g k (inr h) = let r = grown_under m root (suc p) ks xs g.1 k h in (r.0, omega (arith, r.1), r.2)
+      (record { node = one.node; is = is; parent_is = one.parent; other = λ same. one.other (sym e ∙ same) }, ap kids_in is ∙ one.kids)
+  grown_under m root (j ∷ ks) (x ∷ xs) g k (inr h) = grown_under m root ks xs g.1 k h
 
-  grown_rising : (m : Nodes A) (root p : ℕ) (ks : List ℕ) (xs : List Symbol) → AreGrown m root p ks xs → AreRising m ks
-  grown_rising m root p [] xs g = tt
-  grown_rising m root p (k ∷ ks) [] g = absurd g
-  grown_rising m root p (k ∷ ks) (x ∷ xs) g =
-      let f = ap place_in g.0.is in
-      (λ y h. let r = grown_under m root (suc p) ks xs g.1 y h in omega (arith, f, g.0.place_is, r.1), grown_rising m root (suc p) ks xs g.1)
-
-  pub grown_kids : (m : Nodes A) (root : ℕ) (ks : List ℕ) (xs : List Symbol) → AreGrown m root 0 ks xs → AreKids m root root ks
-  grown_kids m root ks xs g = record { under = λ x h. (grown_under m root 0 ks xs g x h).0; rising = grown_rising m root 0 ks xs g }
+  pub grown_kids : (m : Nodes A) (root : ℕ) (ks : List ℕ) (xs : List Symbol) → AreGrown m root ks xs → AreApart ks → AreKids m root root ks
+  grown_kids m root ks xs g apart = record { under = λ x h. (grown_under m root ks xs g x h).0; apart = apart }
 
   -- one symbol more
-  pub first_step : (m m' : Nodes A) (root : ℕ) (ks : List ℕ) (xs : List Symbol) (i k : ℕ) (x : Symbol) (top born : Node A) → AreGrown m root 0 ks (take i xs) → i < length xs → x ≡ get_or xs i x → m root ≡ Some top → m k ≡ None → born.parent ≡ root → born.place ≡ i → born.seen ≡ seen_in x → born.kids ≡ [] → m' ≡ put m k (Some born) → AreGrown m' root 0 (ks ++ k ∷ []) (take (i + 1) xs) × (m' root ≡ Some top)
-  first_step m m' root ks xs i k x top born grown within is there vacant parent place seen kids e =
+  pub first_step : (m m' : Nodes A) (root : ℕ) (ks : List ℕ) (xs : List Symbol) (i k : ℕ) (x : Symbol) (top born : Node A) → AreGrown m root ks (take i xs) → AreApart ks → i < length xs → x ≡ get_or xs i x → m root ≡ Some top → m k ≡ None → born.parent ≡ root → born.seen ≡ seen_in x → born.kids ≡ [] → m' ≡ put m k (Some born) → AreGrown m' root (ks ++ k ∷ []) (take (i + 1) xs) × AreApart (ks ++ k ∷ []) × (m' root ≡ Some top)
+  first_step m m' root ks xs i k x top born grown apart within is there vacant parent seen kids e =
       let far : (j : ℕ) (n : Node A) → m j ≡ Some n → m' j ≡ Some n = λ j n live. ap (λ (f : Nodes A). f j) e ∙ put_other m k j (Some born) (λ same. none-some n (sym vacant ∙ sym (ap m same) ∙ live)) ∙ live in
-      let other : k ≢ root = λ same. none-some top (sym vacant ∙ ap m same ∙ there) in (
-        subst (AreGrown m' root 0 (ks ++ k ∷ [])) (sym (take_next xs i x within is)) (grown_push m' root 0 ks (take i xs) k i x (grown_kept m m' root 0 ks (take i xs) (λ j n ne live. far j n live) grown) (let l = take_long xs i (omega (arith, within)) in omega (arith, l))
-            (record { node = born; is = ap (λ (f : Nodes A). f k) e ∙ put_same m k k (Some born) refl; parent = parent; place_is = place; seen = seen; kids = kids; other = other })),
+      let other : k ≢ root = λ same. none-some top (sym vacant ∙ ap m same ∙ there) in
+      let new : (j : ℕ) → In j ks → In j (k ∷ []) → ⊥ = λ j h one. elim one [
+        | inl same ↦ (let u = (grown_under m root ks (take i xs) grown j h).0 in none-some u.node (sym vacant ∙ sym (ap m same) ∙ u.is))
+        | inr none ↦ none
+      ] in (
+        subst (AreGrown m' root (ks ++ k ∷ [])) (sym (take_next xs i x within is)) (grown_push m' root ks (take i xs) k x (grown_kept m m' root ks (take i xs) (λ j n ne live. far j n live) grown)
+            (record { node = born; is = ap (λ (f : Nodes A). f k) e ∙ put_same m k k (Some born) refl; parent = parent; seen = seen; kids = kids; other = other })),
+        apart_append ks (k ∷ []) apart (λ h. h, tt) new,
         far root top there,
       )
 
   -- 2. the second level
 
-  rising_apart : (m : Nodes A) (xs : List ℕ) → AreRising m xs → AreApart xs
-  rising_apart m [] r = tt
-  rising_apart m (x ∷ xs) r = (λ h. let e = r.0 x h in omega (arith, e), rising_apart m xs r.1)
-
-  grown_seen : (m : Nodes A) (root p : ℕ) (ks : List ℕ) (xs : List Symbol) → AreGrown m root p ks xs → AreSeen m ks xs
-  grown_seen m root p [] [] g = tt
-  grown_seen m root p [] (x ∷ xs) g = g
-  grown_seen m root p (k ∷ ks) [] g = g
-  grown_seen m root p (k ∷ ks) (x ∷ xs) g = (record { node = g.0.node; is = g.0.is; seen = g.0.seen }, grown_seen m root (suc p) ks xs g.1)
+  grown_seen : (m : Nodes A) (root : ℕ) (ks : List ℕ) (xs : List Symbol) → AreGrown m root ks xs → AreSeen m ks xs
+  grown_seen m root [] [] g = tt
+  grown_seen m root [] (x ∷ xs) g = g
+  grown_seen m root (k ∷ ks) [] g = g
+  grown_seen m root (k ∷ ks) (x ∷ xs) g = (record { node = g.0.node; is = g.0.is; seen = g.0.seen }, grown_seen m root ks xs g.1)
 
   -- each node that lives keeps its symbol
   abbrev pub Keeps : Nodes A → Nodes A → Type 0
@@ -204,25 +196,25 @@ module _ {A : Type 0} where
     pub second : AreSeen m (flat (λ k. kids_in (m k)) done) (drop 1 (take at xs))
     pub none : (k : ℕ) → In k left → kids_in (m k) ≡ []
 
-  pub half_start : (m m' : Nodes A) (root : ℕ) (ks : List ℕ) (xs : List Symbol) (top : Node A) → AreGrown m root 0 ks xs → m' ≡ put m root (Some (with_kids ks top)) → 0 < length xs → IsHalf m' root ks xs 1
-  half_start m m' root [] [] top g e some = absurd (omega (arith, some))
-  half_start m m' root [] (x ∷ xs) top g e some = absurd g
-  half_start m m' root (k ∷ ks) [] top g e some = absurd g
-  half_start m m' root (k ∷ ks) (x ∷ xs) top g e some =
+  pub half_start : (m m' : Nodes A) (root : ℕ) (ks : List ℕ) (xs : List Symbol) (top : Node A) → AreGrown m root ks xs → AreApart ks → m' ≡ put m root (Some (with_kids ks top)) → 0 < length xs → IsHalf m' root ks xs 1
+  half_start m m' root [] [] top g apart e some = absurd (omega (arith, some))
+  half_start m m' root [] (x ∷ xs) top g apart e some = absurd g
+  half_start m m' root (k ∷ ks) [] top g apart e some = absurd g
+  half_start m m' root (k ∷ ks) (x ∷ xs) top g apart e some =
       let kept : (j : ℕ) (n : Node A) → j ≢ root → m j ≡ Some n → m' j ≡ Some n = λ j n other is. ap (λ (f : Nodes A). f j) e ∙ put_other m root j (Some (with_kids (k ∷ ks) top)) other ∙ is in
-      let grown = grown_kept m m' root 0 (k ∷ ks) (x ∷ xs) kept g in
-      let under = grown_under m' root 0 (k ∷ ks) (x ∷ xs) grown in
+      let grown = grown_kept m m' root (k ∷ ks) (x ∷ xs) kept g in
+      let under = grown_under m' root (k ∷ ks) (x ∷ xs) grown in
       record {
         top = ap (λ (f : Nodes A). kids_in (f root)) e ∙ ap kids_in (put_same m root root (Some (with_kids (k ∷ ks) top)) refl);
-        first = grown_seen m' root 0 (k ∷ ks) (x ∷ xs) grown;
-        apart = rising_apart m' (k ∷ ks) (grown_rising m' root 0 (k ∷ ks) (x ∷ xs) grown);
+        first = grown_seen m' root (k ∷ ks) (x ∷ xs) grown;
+        apart = apart;
         other = λ j h. (under j h).0.other;
         done = k ∷ [];
         left = ks;
         whole = refl;
         reached = refl;
-        second = subst (λ l. AreSeen m' l []) (sym (flat_none (λ j. kids_in (m' j)) (k ∷ []) (λ j h. elim h [ inl same ↦ (under j (inl same)).2 | inr none ↦ absurd none ]))) tt;
-        none = λ j h. (under j (inr h)).2;
+        second = subst (λ l. AreSeen m' l []) (sym (flat_none (λ j. kids_in (m' j)) (k ∷ []) (λ j h. elim h [ inl same ↦ (under j (inl same)).1 | inr none ↦ absurd none ]))) tt;
+        none = λ j h. (under j (inr h)).1;
       }
 
   pub half_step : (m m1 m2 : Nodes A) (root : ℕ) (ks : List ℕ) (xs : List Symbol) (at k c : ℕ) (x : Symbol) (born n : Node A) → (h : IsHalf m root ks xs at) → (left : List ℕ) → h.left ≡ k ∷ left → 0 < at → take (at + 1) xs ≡ take at xs ++ x ∷ [] → length (take at xs) ≡ at → m c ≡ None → born.seen ≡ seen_in x → born.kids ≡ [] → m k ≡ Some n → m1 ≡ put m c (Some born) → m2 ≡ put m1 k (Some (with_kids (c ∷ []) n)) → IsHalf m2 root ks xs (at + 1)
@@ -317,7 +309,7 @@ module _ {A : Type 0} where
       | inl same ↦ record { node = born; is = ap (λ (f : Nodes A). f x) e ∙ put_same m k x (Some born) same; parent_is = parent; other = λ f. lives (ap m (sym f ∙ same) ∙ vacant) }
       | inr none ↦ absurd none
     ];
-    rising = (λ y h. absurd h, tt);
+    apart = (λ h. h, tt);
   }
 
   -- 3. both are complete

@@ -37,7 +37,7 @@ impl Kept for Mark {
 fn grow(
     forest: &mut Forest<Mark>,
     parent: NodeId,
-    place: u32,
+    count: u32,
     symbol: &Symbol,
 ) -> Result<NodeId, AllocError>
     requires parent { IsLive forest.old parent }
@@ -49,7 +49,8 @@ fn grow(
     ensures added { IfOk result (λ k. (p : Node Mark) → now_of forest.old parent ≡ Some p
         → now_of forest.new ≡ put (now_of forest.old) k (Some (record {
           parent = parent;
-          place = place;
+          code = 0;
+          count = count;
           depth = p.depth + 1;
           seen = seen_in symbol.now;
           key = 0;
@@ -62,7 +63,7 @@ fn grow(
         _ => 0,
     };
     forest.reserve(1, room(params), 0, 1)?;
-    Ok(forest.add(parent, place, symbol, 0))
+    Ok(forest.add(parent, 0, count, symbol, 0))
 }
 
 /// Sets the children of a node, after making room for them.

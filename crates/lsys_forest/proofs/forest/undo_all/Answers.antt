@@ -6,13 +6,14 @@ use Rattle.lsys_forest.specs.Answers.{answers, AreMade, Follows}
 use Rattle.lsys_forest.proofs.StockLemmas.{told_none}
 use Rattle.lsys_forest.proofs.SoundLemmas.{undone_last}
 use Rattle.lsys_forest.proofs.AnswerLemmas.{IsStep, undo_step, lost_made, step_made, step_follows, follows_on}
-use Rattle.lsys_forest.proofs.CallLemmas.{undone_sound}
+use Rattle.lsys_forest.proofs.RankLemmas.{undone_sound}
 use Rattle.lsys_forest.proofs.forest.undo_all.Goals as goal
 
 pub undo_one-requires : goal.undo_one-requires
 undo_one-requires g c = record {
   sound = c.loop-root.invariant.sound;
-  ring = c.loop-root.invariant.ring;
+  ranked = c.loop-root.invariant.ranked;
+  numbers = c.loop-root.invariant.numbers;
   made = λ x earlier were.
       let m = nodes_of c.loop-root.parts in
       let step = undo_step m earlier x.node x.before in
@@ -36,8 +37,10 @@ loop-root-preserved g c =
     let follows = step_follows g.A.Kept.run_at g.A.Kept.Holds (answers m (takes.earlier ++ x ∷ [])) (answers m' (changes_of c.undo_one.new.parts)) (dropped x m) c.loop-root.store c.undo_one.new.store step made done.2 in
     record {
       sound = undone_sound c.args.root c.loop-root.parts c.undo_one.new.parts x done.1 was.sound;
-      ring = c.undo_one.ensures.ring;
-      links = (let a = was.links in let b = c.undo_one.ensures.links in (b.0 ∙ a.0, b.1 ∙ a.1, b.2 ∙ a.2, omega (arith, a.3, b.3)));
+      ranked = c.undo_one.ensures.ranked;
+      numbers = omega (arith, c.undo_one.ensures.long, takes.room.numbers, was.numbers);
+      long = c.undo_one.ensures.long ∙ was.long;
+      places = omega (arith, c.undo_one.ensures.places, was.places);
       told =
           ap (undone (changes_of c.undo_one.new.parts)) done.1.nodes
           ∙ ap (λ cs. undone cs (undo x m)) takes.are

@@ -4,14 +4,16 @@ use Rattle.lsys_forest.specs.Changes.{undone}
 use Rattle.lsys_forest.specs.Stocks.{nodes_of, changes_of, KeepsRoom}
 use Rattle.lsys_forest.specs.Answers.{answers, AreMade, Follows}
 use Rattle.lsys_forest.specs.Groves.{AreSound}
-use Rattle.lsys_forest.specs.Threads.{IsThreaded, KeepsLinks}
+use Rattle.lsys_forest.specs.Ranks.{AreRanked}
 use Rattle.lsys_forest.proofs.forest.undo_all.Given as goal
 
 abbrev pub invariant-loop-root : goal.invariant-loop-root
 invariant-loop-root g l = record {
   sound : AreSound l.root (changes_of l.parts) (nodes_of l.parts);
-  ring : IsThreaded (nodes_of l.parts) (nodes_of l.parts) l.threads l.root;
-  links : KeepsLinks l.fn.threads l.threads;
+  ranked : AreRanked (nodes_of l.parts) l.ranks.at;
+  numbers : length l.parts.slots ≤ length l.ranks.at;
+  long : length l.ranks.at ≡ length l.fn.ranks.at;
+  places : l.fn.ranks.places ≤ l.ranks.places;
   told : undone (changes_of l.parts) (nodes_of l.parts) ≡ undone (changes_of l.fn.parts) (nodes_of l.fn.parts);
   live : live_slots l.parts.slots ≤ live_slots l.fn.parts.slots;
   room : KeepsRoom l.fn.parts l.parts;

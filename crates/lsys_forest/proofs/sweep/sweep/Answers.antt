@@ -4,8 +4,7 @@ use Rattle.lsys_forest.specs.Nodes.{Nodes, put}
 use Rattle.lsys_forest.specs.Changes.{Change}
 use Rattle.lsys_forest.specs.Answers.{AtNode, answer_of, answers}
 use Rattle.lsys_forest.specs.Stocks.{nodes_of, changes_of}
-use Rattle.lsys_forest.specs.Threads.{IsThreaded}
-use Rattle.lsys_forest.proofs.SweepLemmas.{IsSwept-removes, swept_rising}
+use Rattle.lsys_forest.proofs.SweepLemmas.{IsSwept-removes, swept_ranked}
 use Rattle.lsys_forest.proofs.SoundLemmas.{some_of}
 use Rattle.lsys_forest.proofs.AnswerLemmas.{IsStep, remove_step, step_made, step_follows}
 use Rattle.lsys_forest.proofs.sweep.sweep.Goals as goal
@@ -17,12 +16,12 @@ pub remove-requires-clause-lives : goal.remove-requires-clause-lives
 remove-requires-clause-lives g c = c.is_loose.ensures.lives c.if-is_loose.true
 
 pub returns-then-is_loose-clause-swept : goal.returns-then-is_loose-clause-swept
-returns-then-is_loose-clause-swept g c = λ left first before sound swept.
+returns-then-is_loose-clause-swept g c = λ left first before sound ranked swept.
     let m = nodes_of c.args.parts.now in
     let s = some_of (m c.args.node) (c.is_loose.ensures.lives c.if-is_loose.true) in
     let done = (c.remove.ensures s.0 s.1).0 in
     let differ : c.args.node ≢ c.args.root = λ same. grind (arith, same, c.ne.ensures, c.if-ne.true) in
-    let apart = c.is_loose.ensures.apart s.0 c.if-is_loose.true s.1 (swept_rising first c.args.root before sound m (changes_of c.args.parts.now) (c.args.node ∷ left) swept s.0.parent) in
+    let apart = c.is_loose.ensures.apart s.0 c.if-is_loose.true s.1 (swept_ranked first c.args.root m (changes_of c.args.parts.now) (c.args.node ∷ left) c.args.ranks.now.at swept ranked) in
     IsSwept-removes first c.args.root before sound m (nodes_of c.remove.new.self) (changes_of c.args.parts.now) (changes_of c.remove.new.self) c.args.node s.0 left differ s.1 apart done.nodes done.noted swept
 
 pub returns-then-is_loose-clause-keeps : goal.returns-then-is_loose-clause-keeps
@@ -59,15 +58,3 @@ returns-then-is_loose-clause-freed g c =
     subst (λ (f : Nodes g.row.A.Denot). IsStep (answers (nodes_of t) (changes_of t)) (answers f (changes_of u)) s.0.answer) (sym done.0.nodes)
     (subst (λ (cs : List (Change g.row.A.Denot)). IsStep (answers (nodes_of t) (changes_of t)) (answers (put (nodes_of t) k None) cs) s.0.answer) (sym done.0.noted) (remove_step (nodes_of t) k s.0 (changes_of t) s.1)) in
     step_follows g.A.Kept.run_at g.A.Kept.Holds (answers (nodes_of t) (changes_of t)) (answers (nodes_of u) (changes_of u)) s.0.answer c.args.store.now c.remove.new.store step c.requires.made done.1
-
-pub forget-requires : goal.forget-requires
-forget-requires g c = λ same. grind (arith, same, c.ne.ensures, c.if-ne.true)
-
-pub returns-then-is_loose-clause-ring : goal.returns-then-is_loose-clause-ring
-returns-then-is_loose-clause-ring g c =
-    let s = some_of (nodes_of c.args.parts.now c.args.node) (c.is_loose.ensures.lives c.if-is_loose.true) in
-    let done = (c.remove.ensures s.0 s.1).0 in
-    record {
-      ring = λ order t. subst (λ f. IsThreaded order f c.forget.new.threads c.args.root) (sym done.nodes) (c.forget.ensures.ring order t);
-      links = c.forget.ensures.links;
-    }

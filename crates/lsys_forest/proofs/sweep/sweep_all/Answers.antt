@@ -1,4 +1,4 @@
-use Rattle.std.proofs.Common.{◌++◌, ◌∷◌, [], List, refl, sym, ap, ◌∙◌, subst, arith}
+use Rattle.std.proofs.Common.{◌++◌, ◌∷◌, [], List, sym, ap, ◌∙◌, subst, arith}
 use Rattle.lsys_forest.specs.Nodes.{Nodes}
 use Rattle.lsys_forest.specs.Changes.{Change}
 use Rattle.lsys_forest.specs.Stocks.{nodes_of, changes_of, looked}
@@ -7,7 +7,6 @@ use Rattle.lsys_forest.specs.Sweeps.{IsSwept}
 use Rattle.lsys_forest.proofs.StockLemmas.{told_none}
 use Rattle.lsys_forest.proofs.SweepLemmas.{IsSwept-start, IsSwept-pop}
 use Rattle.lsys_forest.proofs.AnswerLemmas.{IsStep, take_step, lost_made, step_made, step_follows, follows_on, follows_start}
-use Rattle.lsys_forest.proofs.CallLemmas.{ring_same, ring_then}
 use Rattle.lsys_forest.proofs.sweep.sweep_all.Goals as goal
 
 pub loop-look-init : goal.loop-look-init
@@ -15,7 +14,6 @@ loop-look-init g c =
     let t = c.args.parts.now in
     record {
       swept = IsSwept-start (nodes_of t) c.args.root (changes_of t) c.requires.sound;
-      ring = ring_same c.args.root t t c.args.threads.now refl;
       places = c.requires.places;
       live = omega arith;
       room = record { capacity = omega arith; places = omega arith; param_room = omega arith; kid_room = omega arith; numbers = omega arith };
@@ -68,8 +66,7 @@ loop-look-preserved g c =
     let freed = follows_on g.A.Kept.run_at g.A.Kept.Holds (answers first (changes_of c.args.parts.now)) (answers m (changes_of c.loop-look.parts)) (answers (nodes_of u) (changes_of u)) c.args.store.now c.loop-look.store c.take_last.new.store was.made was.freed
     (subst (λ cs. Follows g.A.Kept.run_at g.A.Kept.Holds (answers m cs) c.loop-look.store (answers (nodes_of u) (changes_of u)) c.take_last.new.store) (sym takes.were) follows) in
     record {
-      swept = e.swept first (changes_of c.args.parts.now) c.requires.sound (subst (IsSwept first c.args.root (nodes_of u) (changes_of u)) (sym done.1.looks) begun);
-      ring = ring_then c.args.root c.args.parts.now c.args.threads.now c.loop-look.parts c.loop-look.threads v c.sweep_looked.new.threads was.ring (ring_then c.args.root c.loop-look.parts c.loop-look.threads u c.loop-look.threads v c.sweep_looked.new.threads (ring_same c.args.root c.loop-look.parts u c.loop-look.threads done.1.nodes) e.ring);
+      swept = e.swept first (changes_of c.args.parts.now) c.requires.sound c.requires.ranked (subst (IsSwept first c.args.root (nodes_of u) (changes_of u)) (sym done.1.looks) begun);
       places = omega (arith, e.keeps.places, e.keeps.room.places, takes.notes, takes.room.places, done.1.live, was.places);
       live = omega (arith, e.keeps.live, done.1.live, was.live);
       room = record {
@@ -105,9 +102,3 @@ returns-clause-freed g c =
     subst (λ s. Follows g.A.Kept.run_at g.A.Kept.Holds first c.args.store.now (answers (nodes_of t) (changes_of t)) s) (sym none.2)
     (subst (λ (f : Nodes g.row.A.Denot). Follows g.A.Kept.run_at g.A.Kept.Holds first c.args.store.now (answers f (changes_of t)) c.loop-look.store) (sym (c.put_down.ensures.nodes ∙ ap nodes_of none.1))
     (subst (λ cs. Follows g.A.Kept.run_at g.A.Kept.Holds first c.args.store.now (answers (nodes_of c.loop-look.parts) cs) c.loop-look.store) (sym (c.put_down.ensures.changes ∙ ap changes_of none.1)) c.loop-look.invariant.freed))
-
-pub returns-clause-ring : goal.returns-clause-ring
-returns-clause-ring g c =
-    let t = c.put_down.new.self in
-    let none = c.in_default.ensures.none in
-    ring_then c.args.root c.args.parts.now c.args.threads.now c.loop-look.parts c.loop-look.threads t c.loop-look.threads c.loop-look.invariant.ring (ring_same c.args.root c.loop-look.parts t c.loop-look.threads (c.put_down.ensures.nodes ∙ ap nodes_of none.1))

@@ -6,7 +6,6 @@ use Rattle.lsys_forest.specs.Stocks.{nodes_of, changes_of}
 use Rattle.lsys_forest.specs.Answers.{answers}
 use Rattle.lsys_forest.specs.Sweeps.{IsSwept}
 use Rattle.lsys_forest.proofs.AnswerLemmas.{follows_on}
-use Rattle.lsys_forest.proofs.CallLemmas.{ring_then}
 use Rattle.lsys_forest.proofs.sweep.sweep_hand.Goals as goal
 
 pub loop-place-preserved : goal.loop-place-preserved
@@ -23,8 +22,7 @@ loop-place-preserved g c =
     let here : get_or hand i 0 ≡ kid = get_or_from_slice_get hand i kid 0 (slice_get_read hand (length hand) i kid refl within (subst (λ (l : List ℕ). kid ≡ get_or l i kid) now c.index-in_hand-place.is)) in
     let left : drop i hand ≡ kid ∷ drop (i + 1) hand = drop-cons hand i 0 within ∙ ap (λ n. get_or hand i 0 ∷ drop n hand) next ∙ ap (λ x. x ∷ drop (i + 1) hand) here in
     record {
-      swept = λ first before sound start. e.swept (drop (i + 1) hand) first before sound (subst (IsSwept first c.args.root (nodes_of t) (changes_of t)) left (was.swept first before sound start));
-      ring = ring_then c.args.root c.args.parts.now c.args.threads.now t c.loop-place.threads c.sweep.new.parts c.sweep.new.threads was.ring e.ring;
+      swept = λ first before sound ranked start. e.swept (drop (i + 1) hand) first before sound ranked (subst (IsSwept first c.args.root (nodes_of t) (changes_of t)) left (was.swept first before sound ranked start));
       keeps = record {
         places = omega (arith, e.keeps.places, was.keeps.places);
         live = omega (arith, e.keeps.live, was.keeps.live);
@@ -43,6 +41,6 @@ loop-place-preserved g c =
     }
 
 pub returns-clause-swept : goal.returns-clause-swept
-returns-clause-swept g c = λ first before sound start.
+returns-clause-swept g c = λ first before sound ranked start.
     let t = c.loop-place.parts in
-    subst (IsSwept first c.args.root (nodes_of t) (changes_of t)) (drop_all c.loop-place.place c.args.parts.now.hand (omega (arith, c.loop-place.invariant.end, c.loop-place-test.false))) (c.loop-place.invariant.swept first before sound start)
+    subst (IsSwept first c.args.root (nodes_of t) (changes_of t)) (drop_all c.loop-place.place c.args.parts.now.hand (omega (arith, c.loop-place.invariant.end, c.loop-place-test.false))) (c.loop-place.invariant.swept first before sound ranked start)

@@ -1,4 +1,4 @@
-use Rattle.std.proofs.Common.{◌≡◌, ◌+◌, ℕ, [], Some, None, sym, ap, ◌∙◌, subst}
+use Rattle.std.proofs.Common.{◌≡◌, ◌+◌, [], Some, None, sym, ap, ◌∙◌, subst}
 use Rattle.std.specs.Prelude.{IsSome}
 use Rattle.lsys_level.specs.Places.{seen_in}
 use Rattle.lsys_forest.specs.Nodes.{Nodes, put}
@@ -23,7 +23,8 @@ returns-clause-added c = λ p is.
     let e = (c.add.ensures.added p (ap (λ (m : Nodes Mark). m c.args.parent) c.reserve.ensures.now ∙ is)).now in
     subst (λ (m : Nodes Mark). now_of c.add.new.self ≡ put m c.add.result (Some (record {
       parent = c.args.parent;
-      place = c.args.place;
+      code = 0;
+      count = c.args.count;
       depth = p.depth + 1;
       seen = seen_in c.args.symbol.now;
       key = 0;

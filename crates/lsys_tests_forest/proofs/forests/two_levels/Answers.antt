@@ -1,10 +1,9 @@
-use Rattle.std.proofs.Common.{◌≡◌, ◌≢◌, ◌+◌, ◌<◌, ◌≤◌, ℕ, List, [], ◌∷◌, ◌++◌, Some, None, length, take, get_or, refl, sym, ap, ◌∙◌, subst, arith}
+use Rattle.std.proofs.Common.{◌≡◌, ◌+◌, ◌<◌, [], ◌∷◌, Some, length, take, refl, sym, ap, ◌∙◌, subst, arith}
 use Rattle.std.specs.Prelude.{IsSome}
 use Rattle.std.proofs.lemmas.Option.{none-some}
-use Rattle.lsys_level.specs.Places.{seen_in}
 use Rattle.lsys_forest.specs.Nodes.{Node, Nodes, put, with_kids, root_node}
-use Rattle.lsys_forest.specs.Groves.{now_of, AreKids}
-use Rattle.lsys_forest.specs.Rows.{complete_levels, level_spots, complete_from}
+use Rattle.lsys_forest.specs.Groves.{AreApart, now_of, AreKids}
+use Rattle.lsys_forest.specs.Rows.{complete_levels}
 use Rattle.lsys_forest.proofs.StockLemmas.{put_other}
 use Rattle.lsys_tests_forest.specs.declared.forests.Mark.{Mark}
 use Rattle.lsys_tests_forest.proofs.Grown.{AreGrown, IsHalf, whole_at, take_next, take_long, take_whole, first_step, grown_long, grown_kids, half_start, half_step, turn_at, half_end, root_lives, lone_kid, both_complete}
@@ -21,11 +20,12 @@ loop-place-preserved c =
     let k = c.in_ok-grow.field-0 in
     let top : Node Mark = root_node root in
     let added = e.added top was.alone in
-    let step = first_step (now_of c.loop-place.forest) (now_of c.grow.new.forest) root c.loop-place.parents.items c.args.symbols.now c.loop-place.place k c.index-symbols-place.result top _ was.grown c.loop-place-test.true c.index-symbols-place.is was.alone e.fresh refl refl refl refl added in
+    let step = first_step (now_of c.loop-place.forest) (now_of c.grow.new.forest) root c.loop-place.parents.items c.args.symbols.now c.loop-place.place k c.index-symbols-place.result top _ was.grown was.apart c.loop-place-test.true c.index-symbols-place.is was.alone e.fresh refl refl refl added in
     record {
       root_is = e.root ∙ was.root_is;
-      alone = step.1;
-      grown = subst (λ l. AreGrown (now_of c.grow.new.forest) root 0 l (take (c.loop-place.place + 1) c.args.symbols.now)) (sym c.in_ok-push.ensures.items) step.0;
+      alone = step.2;
+      grown = subst (λ l. AreGrown (now_of c.grow.new.forest) root l (take (c.loop-place.place + 1) c.args.symbols.now)) (sym c.in_ok-push.ensures.items) step.0;
+      apart = subst AreApart (sym c.in_ok-push.ensures.items) step.1;
       few = omega (arith, e.live, was.few);
     }
 
@@ -34,12 +34,12 @@ give-requires-clause-kids c =
     let was = c.loop-place.invariant in
     let m = now_of c.loop-place.forest in
     subst (λ r. AreKids m r c.root-root.result c.deref.result.now) (sym was.root_is)
-    (subst (AreKids m c.root-root.result c.root-root.result) (sym c.deref.ensures.value) (grown_kids m c.root-root.result c.loop-place.parents.items (take c.loop-place.place c.args.symbols.now) was.grown))
+    (subst (AreKids m c.root-root.result c.root-root.result) (sym c.deref.ensures.value) (grown_kids m c.root-root.result c.loop-place.parents.items (take c.loop-place.place c.args.symbols.now) was.grown was.apart))
 
 pub give-requires-clause-short : goal.give-requires-clause-short
 give-requires-clause-short c =
     let was = c.loop-place.invariant in
-    let long = grown_long (now_of c.loop-place.forest) c.root-root.result 0 c.loop-place.parents.items (take c.loop-place.place c.args.symbols.now) was.grown in
+    let long = grown_long (now_of c.loop-place.forest) c.root-root.result c.loop-place.parents.items (take c.loop-place.place c.args.symbols.now) was.grown in
     let all = ap length (take_whole c.args.symbols.now c.loop-place.place c.loop-place-test.false) in
     let same = ap length c.deref.ensures.value in
     omega (arith, long, all, same, c.requires.few)
@@ -53,12 +53,12 @@ loop-at-init c =
     let xs = c.args.symbols.now in
     let e = c.in_ok-give.ensures in
     let all = take_whole xs c.loop-place.place c.loop-place-test.false in
-    let grown = subst (AreGrown m root 0 c.loop-place.parents.items) all was.grown in
+    let grown = subst (AreGrown m root c.loop-place.parents.items) all was.grown in
     let top : Node Mark = root_node root in
     let set : m' ≡ put m root (Some (with_kids c.loop-place.parents.items top)) = subst (λ l. m' ≡ put m root (Some (with_kids l top))) c.deref.ensures.value (e.set top was.alone) in
     record {
-      half = subst (λ r. IsHalf m' r c.loop-place.parents.items xs 1) (sym (e.root ∙ was.root_is)) (half_start m m' root c.loop-place.parents.items xs top grown set c.requires.some);
-      long = grown_long m root 0 c.loop-place.parents.items xs grown;
+      half = subst (λ r. IsHalf m' r c.loop-place.parents.items xs 1) (sym (e.root ∙ was.root_is)) (half_start m m' root c.loop-place.parents.items xs top grown was.apart set c.requires.some);
+      long = grown_long m root c.loop-place.parents.items xs grown;
       some = omega arith;
       few = omega (arith, e.live, was.few, c.loop-place.auto.place-end);
     }

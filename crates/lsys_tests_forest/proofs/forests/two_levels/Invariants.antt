@@ -1,6 +1,6 @@
 use Rattle.std.proofs.Common.{◌≡◌, ◌+◌, ◌<◌, ◌≤◌, Some, length, take}
 use Rattle.lsys_forest.specs.Nodes.{root_node}
-use Rattle.lsys_forest.specs.Groves.{now_of, live_nodes}
+use Rattle.lsys_forest.specs.Groves.{AreApart, now_of, live_nodes}
 use Rattle.lsys_tests_forest.proofs.Grown.{AreGrown, IsHalf}
 use Rattle.lsys_tests_forest.proofs.forests.two_levels.Given as goal
 
@@ -8,7 +8,8 @@ abbrev pub invariant-loop-place : goal.invariant-loop-place
 invariant-loop-place l = record {
   root_is : l.forest.root ≡ l.root;
   alone : now_of l.forest l.root ≡ Some (root_node l.root);
-  grown : AreGrown (now_of l.forest) l.root 0 l.parents.items (take l.place l.symbols);
+  grown : AreGrown (now_of l.forest) l.root l.parents.items (take l.place l.symbols);
+  apart : AreApart l.parents.items;
   few : live_nodes l.forest ≤ l.place + 1;
 }
 

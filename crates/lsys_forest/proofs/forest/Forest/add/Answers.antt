@@ -10,7 +10,7 @@ use Rattle.std.proofs.lemmas.Option.{same_Some}
 use Rattle.lsys_forest.specs.declared.node.Stored.{Stored}
 use Rattle.lsys_forest.proofs.StockLemmas.{stored_of}
 use Rattle.lsys_forest.proofs.DepthLemmas.{depth_fits}
-use Rattle.lsys_forest.proofs.CallLemmas.{add_threads}
+use Rattle.lsys_forest.proofs.RankLemmas.{add_ranks}
 use Rattle.lsys_forest.proofs.GroveLemmas.{sound_now, IsGrove-add, add_rested}
 use Rattle.lsys_forest.proofs.forest.Forest.add.Goals as goal
 
@@ -25,20 +25,13 @@ overflow_add-depth g c =
     let fits = depth_fits i.root (changes_of i.parts) (nodes_of i.parts) i.parts.slots (sound_now c.self.invariant.grove) (λ k n is. let x = stored_of i.parts.slots i.parts.params i.parts.kids k n is in subst IsSome (sym x.1) refl) c.args.parent s.0 s.1 in
     omega (arith, fits, depth, asked.1, c.self.invariant.grove.numbers)
 
-pub reach-requires-clause-both : goal.reach-requires-clause-both
-reach-requires-clause-both g c = c.self.invariant.threads.same
-
-pub reach-requires-clause-twigs : goal.reach-requires-clause-twigs
-reach-requires-clause-twigs g c = c.self.invariant.threads.twigs
-
-pub reach-requires-clause-next : goal.reach-requires-clause-next
-reach-requires-clause-next g c = omega (arith, c.insert-node.ensures.within, c.self.invariant.threads.numbers)
-
-pub reach-requires-clause-place : goal.reach-requires-clause-place
-reach-requires-clause-place g c = λ e.
-    let asked = subst (λ (f : Grove g.row.A.Denot). 0 < f.spare_nodes) (sym c.self.view_is) c.requires.nodes in
-    let next = c.insert-node.ensures.next (omega (arith, e, c.insert-node.ensures.within, c.self.invariant.threads.numbers)) in
-    omega (arith, e, next, c.insert-node.ensures.within, c.self.invariant.threads.numbers, c.self.invariant.threads.room, asked)
+pub reach-requires : goal.reach-requires
+reach-requires g c = record {
+  place = λ e.
+      let asked = subst (λ (f : Grove g.row.A.Denot). 0 < f.spare_nodes) (sym c.self.view_is) c.requires.nodes in
+      let next = c.insert-node.ensures.next (omega (arith, e, c.insert-node.ensures.within, c.self.invariant.ranks.numbers)) in
+      omega (arith, e, next, c.insert-node.ensures.within, c.self.invariant.ranks.numbers, c.self.invariant.ranks.room, asked);
+}
 
 pub invariant_of-self : goal.invariant_of-self
 invariant_of-self g c =
@@ -48,17 +41,17 @@ invariant_of-self g c =
     let t = stored_of i.parts.slots i.parts.params i.parts.kids c.args.parent s.0 s.1 in
     let above : c.in-Some.above.now ≡ t.0 = same_Some c.in-Some.above.now t.0 (c.in-Some.ensures ∙ t.1) in
     let depth : c.in-Some.above.now.depth + 1 ≡ s.0.depth + 1 = ap (λ (x : Stored g.row.A.Denot). x.depth + 1) above ∙ ap (λ (x : Node g.row.A.Denot). x.depth + 1) t.2 in
-    let n : Node g.row.A.Denot = record { parent = c.args.parent; place = c.args.place; depth = c.in-Some.above.now.depth + 1; seen = seen_in c.args.symbol.now; key = c.args.key; kids = []; answer = None } in
+    let n : Node g.row.A.Denot = record { parent = c.args.parent; code = c.args.code; count = c.args.count; depth = c.in-Some.above.now.depth + 1; seen = seen_in c.args.symbol.now; key = c.args.key; kids = []; answer = None } in
     record {
       grove = IsGrove-add i.parts c.insert-node.new.self i.root i.spare_nodes (i.spare_nodes - 1) i.spare_notes (i.spare_notes - 1) c.insert-node.result n s.0 (list_room (params_in c.args.symbol.now)) 0 c.insert-node.ensures.vacant s.1 depth refl c.insert-node.ensures.few c.insert-node.ensures.added (omega (arith, asked.1)) (omega (arith, asked.2)) c.self.invariant.grove;
-      threads = add_threads i.parts c.insert-node.new.self i.threads c.reach.new.self i.root i.spare_nodes (i.spare_nodes - 1) c.insert-node.result n (list_room (params_in c.args.symbol.now)) 0 (changes_of i.parts) (sound_now c.self.invariant.grove) c.insert-node.ensures.vacant refl c.insert-node.ensures.added c.insert-node.ensures.within c.insert-node.ensures.grown c.reach.ensures.ahead c.reach.ensures.back c.reach.ensures.twigs c.reach.ensures.places (omega (arith, asked.1)) c.self.invariant.threads;
+      ranks = add_ranks i.parts c.insert-node.new.self i.ranks c.reach.new.self i.spare_nodes (i.spare_nodes - 1) c.insert-node.result n (list_room (params_in c.args.symbol.now)) 0 refl c.insert-node.ensures.added c.insert-node.ensures.within c.insert-node.ensures.grown c.reach.ensures.at c.reach.ensures.places (omega (arith, asked.1)) c.self.invariant.ranks;
     }
 
 pub returns-clause-added : goal.returns-clause-added
 returns-clause-added g c =
     let i = c.self.inside in
     let new : Grove g.row.A.Denot = record { stock = c.insert-node.new.self; root = i.root; spare_nodes = i.spare_nodes - 1; spare_notes = i.spare_notes - 1 } in
-    let n : Node g.row.A.Denot = record { parent = c.args.parent; place = c.args.place; depth = c.in-Some.above.now.depth + 1; seen = seen_in c.args.symbol.now; key = c.args.key; kids = []; answer = None } in
+    let n : Node g.row.A.Denot = record { parent = c.args.parent; code = c.args.code; count = c.args.count; depth = c.in-Some.above.now.depth + 1; seen = seen_in c.args.symbol.now; key = c.args.key; kids = []; answer = None } in
     subst (λ (f : Grove g.row.A.Denot). (p : Node g.row.A.Denot) → now_of f c.args.parent ≡ Some p → Sets f new c.insert-node.result (record n { depth = p.depth + 1 })) c.self.view_is
     (λ p is. (
     let t = stored_of i.parts.slots i.parts.params i.parts.kids c.args.parent p is in

@@ -1,11 +1,11 @@
-use Rattle.std.proofs.Common.{◌≡◌, ℕ, refl, sym, subst, arith}
+use Rattle.std.proofs.Common.{[], ◌≡◌, ℕ, refl, sym, subst, arith}
 use Rattle.std.specs.Prelude.{IsSome}
 use Rattle.lsys_forest.specs.Stocks.{nodes_of, changes_of}
 use Rattle.lsys_forest.specs.Answers.{answers, kept_by, AreMade, FreesAllBut}
 use Rattle.lsys_forest.specs.Groves.{Grove, now_of, kept_in, Reached, Spends}
 use Rattle.lsys_forest.proofs.SoundLemmas.{some_of}
-use Rattle.lsys_forest.proofs.SweepLemmas.{left_stood, IsSound-swept, all_reached, reached_stays}
-use Rattle.lsys_forest.proofs.CallLemmas.{left_threads, swept_threaded}
+use Rattle.lsys_forest.proofs.SweepLemmas.{swept_ranked, IsSound-swept, all_reached, reached_stays}
+use Rattle.lsys_forest.proofs.RankLemmas.{left_ranks}
 use Rattle.lsys_forest.proofs.GroveLemmas.{sound_now, IsGrove-rest}
 use Rattle.lsys_forest.proofs.AnswerLemmas.{frees_by}
 use Rattle.lsys_forest.proofs.forest.Forest.commit.Goals as goal
@@ -22,10 +22,10 @@ invariant_of-self g c =
     let e = c.sweep_all.ensures in
     let sound = (IsSound-swept (nodes_of i.parts) i.root (changes_of i.parts) (sound_now c.self.invariant.grove) (nodes_of c.sweep_all.new.parts) e.swept) in
     let m = nodes_of c.sweep_all.new.parts in
-    let ring = swept_threaded i.root (nodes_of i.parts) m c.sweep_all.new.threads sound (left_stood (nodes_of i.parts) i.root m e.swept) (e.ring.ring (nodes_of i.parts) c.self.invariant.threads.ring) in
+    let ranked = swept_ranked (nodes_of i.parts) i.root m [] [] i.ranks.at e.swept c.self.invariant.ranks.ranked in
     record {
       grove = IsGrove-rest i.parts c.sweep_all.new.parts i.root i.spare_nodes i.spare_notes sound e.empty e.short e.live e.room c.self.invariant.grove;
-      threads = left_threads i.parts c.sweep_all.new.parts i.threads c.sweep_all.new.threads i.root i.spare_nodes ring e.ring.links e.live e.room c.self.invariant.threads;
+      ranks = left_ranks i.parts c.sweep_all.new.parts i.ranks i.ranks i.spare_nodes ranked refl (omega arith) e.live e.room c.self.invariant.ranks;
     }
 
 pub returns-clause-stay : goal.returns-clause-stay

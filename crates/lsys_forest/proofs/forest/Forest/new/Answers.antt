@@ -5,7 +5,7 @@ use Rattle.lsys_forest.specs.Groves.{AreSound}
 use Rattle.lsys_forest.proofs.StockLemmas.{put_same, put_other}
 use Rattle.lsys_forest.proofs.GroveLemmas.{IsSound-root}
 use Rattle.lsys_forest.proofs.SoundLemmas.{AreSound-rest}
-use Rattle.lsys_forest.proofs.CallLemmas.{threads_root}
+use Rattle.lsys_forest.proofs.RankLemmas.{ranked_root}
 use Rattle.lsys_forest.proofs.forest.Forest.new.Goals as goal
 
 pub invariant_of-result : goal.invariant_of-result
@@ -13,10 +13,9 @@ invariant_of-result g c =
     let p = c.in_ok-parts.parts in
     let e = c.in_ok-parts.ensures in
     let sound = IsSound-root (nodes_of p) e.nodes in
-    let t = c.in_ok-threads.threads in
-    let f = c.in_ok-threads.ensures in
-    let la = ap length f.ahead in
-    let lb = ap length f.back in
+    let t = c.in_ok-ranks.ranks in
+    let f = c.in_ok-ranks.ensures in
+    let la = ap length f.at in
     record {
       grove = record {
         sound = subst (λ cs. AreSound 0 cs (nodes_of p)) (sym e.changes) (AreSound-rest 0 (nodes_of p) sound);
@@ -24,10 +23,8 @@ invariant_of-result g c =
         numbers = omega (arith, e.live);
         places_left = omega (arith, e.live, e.places, e.notes);
       };
-      threads = record {
-        ring = threads_root (nodes_of p) t e.nodes f.ahead f.back;
-        same = omega (arith, la, lb);
-        twigs = omega (arith, la, f.twigs);
+      ranks = record {
+        ranked = ranked_root (nodes_of p) t.at e.nodes;
         numbers = omega (arith, la, e.one);
         room = omega (arith, e.live, f.places);
       };

@@ -1,24 +1,23 @@
-use Rattle.std.proofs.Common.{◌≡◌, ◌∙◌, ◌<◌, ◌-◌, Some, refl, sym, subst, arith}
+use Rattle.std.proofs.Common.{◌≡◌, ◌∙◌, ap, ◌<◌, ◌-◌, Some, refl, sym, subst, arith}
 use Rattle.std.specs.Prelude.{IsSome}
 use Rattle.lsys_region.specs.Rooms.{list_room}
 use Rattle.lsys_forest.specs.Nodes.{Node, Nodes, with_kids}
 use Rattle.lsys_forest.specs.Stocks.{nodes_of, changes_of}
 use Rattle.lsys_forest.specs.Groves.{Grove, now_of, AreKids, Sets, Spends}
 use Rattle.lsys_forest.proofs.SoundLemmas.{some_of, set_kids}
-use Rattle.lsys_forest.specs.Threads.{Turns}
-use Rattle.lsys_forest.proofs.CallLemmas.{put_turns}
+use Rattle.lsys_forest.proofs.StockLemmas.{put_other}
 use Rattle.lsys_forest.proofs.GroveLemmas.{sound_now, IsGrove-set, set_rested}
 use Rattle.lsys_forest.proofs.forest.Forest.set_children.Goals as goal
 
-pub refit-requires : goal.refit-requires
-refit-requires g c =
+pub rerank-requires : goal.rerank-requires
+rerank-requires g c =
     let i = c.self.inside in
     let asked = subst (λ (f : Grove g.row.A.Denot). IsSome (now_of f c.args.node) × (0 < f.spare_notes)) (sym c.self.view_is) (c.requires.lives, c.requires.notes) in
     let s = some_of (nodes_of i.parts c.args.node) asked.0 in
     let kids = subst (λ (f : Grove g.row.A.Denot). AreKids (now_of f) f.root c.args.node c.args.kids.now) (sym c.self.view_is) c.requires.kids in
     let j = c.set_kids.ensures s.0 s.1 in
     let grove = IsGrove-set i.parts c.set_kids.new.self i.root i.spare_nodes i.spare_notes (i.spare_notes - 1) c.args.node s.0 (with_kids c.args.kids.now s.0) _ 0 (list_room c.args.kids.now) (set_kids i.root (changes_of i.parts) (nodes_of i.parts) c.args.node s.0 c.args.kids.now kids (sound_now c.self.invariant.grove) s.1) (c.set_kids.ensures s.0 s.1) (omega (arith, asked.1)) c.self.invariant.grove in
-    sound_now grove
+    record { sound = (i.root, sound_now grove); numbers = omega (arith, j.numbers, c.self.invariant.ranks.numbers) }
 
 pub invariant_of-self : goal.invariant_of-self
 invariant_of-self g c =
@@ -28,18 +27,15 @@ invariant_of-self g c =
     let kids = subst (λ (f : Grove g.row.A.Denot). AreKids (now_of f) f.root c.args.node c.args.kids.now) (sym c.self.view_is) c.requires.kids in
     let j = c.set_kids.ensures s.0 s.1 in
     let grove = IsGrove-set i.parts c.set_kids.new.self i.root i.spare_nodes i.spare_notes (i.spare_notes - 1) c.args.node s.0 (with_kids c.args.kids.now s.0) _ 0 (list_room c.args.kids.now) (set_kids i.root (changes_of i.parts) (nodes_of i.parts) c.args.node s.0 c.args.kids.now kids (sound_now c.self.invariant.grove) s.1) (c.set_kids.ensures s.0 s.1) (omega (arith, asked.1)) c.self.invariant.grove in
-    let t = c.self.invariant.threads in
-    let e = c.refit.ensures in
+    let t = c.self.invariant.ranks in
+    let e = c.rerank.ensures in
     let n = with_kids c.args.kids.now s.0 in
-    let turns = subst (λ (f : Nodes g.row.A.Denot). Turns (nodes_of i.parts) f c.args.node) (sym j.nodes) (put_turns (nodes_of i.parts) c.args.node s.0 n s.1 refl refl refl) in
     record {
       grove = grove;
-      threads = record {
-        ring = e.ring (nodes_of i.parts) turns c.is_full-had_some.ensures t.ring;
-        same = e.links.0 ∙ t.same ∙ sym e.links.1;
-        twigs = e.links.0 ∙ t.twigs ∙ sym e.links.2;
-        numbers = omega (arith, e.links.0, j.numbers, t.numbers);
-        room = omega (arith, e.links.3, j.live, t.room);
+      ranks = record {
+        ranked = e.ranked (nodes_of i.parts) (λ k ne. ap (λ (f : Nodes g.row.A.Denot). f k) j.nodes ∙ put_other (nodes_of i.parts) c.args.node k (Some n) ne) t.ranked;
+        numbers = omega (arith, e.long, j.numbers, t.numbers);
+        room = omega (arith, e.places, j.live, t.room);
       };
     }
 

@@ -6,7 +6,7 @@ use Rattle.lsys_forest.specs.Nodes.{Node, with_seen}
 use Rattle.lsys_forest.specs.Stocks.{nodes_of, changes_of}
 use Rattle.lsys_forest.specs.Groves.{Grove, now_of, Sets, Spends}
 use Rattle.lsys_forest.proofs.SoundLemmas.{some_of, set_seen}
-use Rattle.lsys_forest.proofs.CallLemmas.{set_threads}
+use Rattle.lsys_forest.proofs.RankLemmas.{set_ranks}
 use Rattle.lsys_forest.proofs.GroveLemmas.{sound_now, IsGrove-set, set_rested}
 use Rattle.lsys_forest.proofs.forest.Forest.set_symbol.Goals as goal
 
@@ -19,7 +19,7 @@ invariant_of-self g c =
     let grove = IsGrove-set i.parts c.set_symbol.new.self i.root i.spare_nodes i.spare_notes (i.spare_notes - 1) c.args.node s.0 (with_seen (seen_in c.args.symbol.now) s.0) _ (list_room (params_in c.args.symbol.now)) 0 (set_seen i.root (changes_of i.parts) (nodes_of i.parts) c.args.node s.0 (seen_in c.args.symbol.now) c.set_symbol.ensures.few (sound_now c.self.invariant.grove) s.1) (c.set_symbol.ensures.set s.0 s.1) (omega (arith, asked.1)) c.self.invariant.grove in
     record {
       grove = grove;
-      threads = set_threads i.parts c.set_symbol.new.self i.threads i.root i.spare_nodes c.args.node s.0 (with_seen (seen_in c.args.symbol.now) s.0) (sound_now grove) s.1 refl refl refl refl j.nodes j.live j.numbers c.self.invariant.threads;
+      ranks = set_ranks i.parts c.set_symbol.new.self i.ranks i.spare_nodes c.args.node s.0 (with_seen (seen_in c.args.symbol.now) s.0) s.1 refl j.nodes j.live j.numbers c.self.invariant.ranks;
     }
 
 pub returns-clause-set : goal.returns-clause-set

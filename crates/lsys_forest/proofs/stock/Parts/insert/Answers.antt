@@ -21,7 +21,7 @@ pub invariant_of-self : goal.invariant_of-self
 invariant_of-self g c =
     let i = c.self.inside in
     let k = c.insert-number.result in
-    let s : Stored g.row.A.Denot = record { parent = c.args.parent; place = c.args.place; depth = c.args.depth; kind = c.kind_of.result; key = c.args.key; answer = None } in
+    let s : Stored g.row.A.Denot = record { parent = c.args.parent; code = c.args.code; count = c.args.count; depth = c.args.depth; kind = c.kind_of.result; key = c.args.key; answer = None } in
     let params : c.set.new.self ≡ record i.params { current = set (reached i.params.current k) k c.params_of.result.now; spare = c.set.new.self.spare; places = c.reach.new.self.places } =
     c.set.ensures.set ∙ ap (λ (r : Shelf ℤ). record r { current = set r.current c.number.inside.0 c.params_of.result.now; spare = c.set.new.self.spare }) c.reach.ensures.reached
     ∙ ap (λ n. record i.params { current = set (reached i.params.current n) n c.params_of.result.now; spare = c.set.new.self.spare; places = c.reach.new.self.places }) c.number.view_is in
@@ -41,7 +41,7 @@ pub returns-clause-added : goal.returns-clause-added
 returns-clause-added g c =
     let i = c.self.inside in
     let k = c.insert-number.result in
-    let s : Stored g.row.A.Denot = record { parent = c.args.parent; place = c.args.place; depth = c.args.depth; kind = c.kind_of.result; key = c.args.key; answer = None } in
+    let s : Stored g.row.A.Denot = record { parent = c.args.parent; code = c.args.code; count = c.args.count; depth = c.args.depth; kind = c.kind_of.result; key = c.args.key; answer = None } in
     let params : c.set.new.self ≡ record i.params { current = set (reached i.params.current k) k c.params_of.result.now; spare = c.set.new.self.spare; places = c.reach.new.self.places } =
     c.set.ensures.set ∙ ap (λ (r : Shelf ℤ). record r { current = set r.current c.number.inside.0 c.params_of.result.now; spare = c.set.new.self.spare }) c.reach.ensures.reached
     ∙ ap (λ n. record i.params { current = set (reached i.params.current n) n c.params_of.result.now; spare = c.set.new.self.spare; places = c.reach.new.self.places }) c.number.view_is in
@@ -50,7 +50,7 @@ returns-clause-added g c =
     ∙ ap (λ n. record i.kids { current = set (reached i.kids.current n) n []; spare = c.set-2.new.self.spare; places = c.reach-2.new.self.places }) c.number.view_is in
     let l = params_in c.args.symbol.now in
     let new : Stock g.row.A.Denot = record { slots = c.insert-number.new.self.slots; params = c.set.new.self.current; kids = c.set-2.new.self.current; notes = c.push_note.new.notes.items; past_params = c.set.new.self.past; past_kids = c.set-2.new.self.past; hand = c.set-2.new.self.hand; capacity = min c.insert-number.new.self.capacity (min c.set.new.self.places c.set-2.new.self.places); places = min (vec_capacity c.push_note.new.notes) (min c.set.new.self.past_places c.set-2.new.self.past_places); param_room = c.set.new.self.spare; kid_room = c.set-2.new.self.spare } in
-    let n : Node g.row.A.Denot = record { parent = c.args.parent; place = c.args.place; depth = c.args.depth; seen = seen_in c.args.symbol.now; key = c.args.key; kids = []; answer = None } in
+    let n : Node g.row.A.Denot = record { parent = c.args.parent; code = c.args.code; count = c.args.count; depth = c.args.depth; seen = seen_in c.args.symbol.now; key = c.args.key; kids = []; answer = None } in
     subst (λ (t : Stock g.row.A.Denot). Journals t new k (Some n) Missing 1 (list_room (params_in c.args.symbol.now)) 0) c.self.view_is
     (record {
       nodes =
@@ -93,7 +93,7 @@ pub returns-clause-grown : goal.returns-clause-grown
 returns-clause-grown g c =
     let i = c.self.inside in
     let k = c.insert-number.result in
-    let s : Stored g.row.A.Denot = record { parent = c.args.parent; place = c.args.place; depth = c.args.depth; kind = c.kind_of.result; key = c.args.key; answer = None } in
+    let s : Stored g.row.A.Denot = record { parent = c.args.parent; code = c.args.code; count = c.args.count; depth = c.args.depth; kind = c.kind_of.result; key = c.args.key; answer = None } in
     let same : length c.insert-number.new.self.slots ≡ length (put_slot i.table.slots k s) = ap length c.insert-number.ensures.put in
     subst (λ (t : Stock g.row.A.Denot). (length c.insert-number.new.self.slots ≤ length t.slots) ⊎ (length c.insert-number.new.self.slots ≡ k + 1)) c.self.view_is
     (elim (put_slot_grown i.table.slots k s) [ inl e ↦ inl (omega (arith, e, same)) | inr e ↦ inr (omega (arith, e, same)) ])

@@ -1,0 +1,3 @@
+pub mod Neighbours
+pub mod Seats
+pub mod Standings
