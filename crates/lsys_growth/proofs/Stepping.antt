@@ -1,0 +1,53 @@
+-- Turns and single steps.
+use Rattle.std.proofs.Common.{◌≡◌, ℕ, zero, suc, ◌+◌, ◌-◌, ◌*◌, ◌<◌, ◌≤◌, ◌/◌, ◌%◌, List, Option, length, ap, sym, ◌∙◌, subst, arith}
+use Rattle.std.proofs.Math.Nat.{div-add-mod}
+use Rattle.lsys_syntax.specs.Strings.{ModuleName}
+use Rattle.lsys_spec.specs.Systems.{System}
+use Rattle.lsys_matrix.specs.Capped.{capped}
+use Rattle.lsys_matrix.specs.Sums.{run, repeated, steps_product}
+use Rattle.lsys_matrix.specs.Matrices.{Square, IsRow, IsMatrix, IsRowTimes, IsProduct}
+use Rattle.lsys_matrix.proofs.Powers.{StandsFor, steps_stand, run_whole}
+use Rattle.lsys_matrix.proofs.Squaring.{times_row, times_matrix}
+use Rattle.lsys_growth_laws.specs.Counts.{step_matrix, first_counts, counts_after}
+use Rattle.lsys_growth_laws.proofs.Told.{steps_again}
+use Rattle.lsys_growth.specs.Steps.{turn_matrix, AfterTurns, AfterSteps}
+
+-- one more step of a turn
+pub next_product : (k : ℕ) (a : ℕ → ℕ → ℕ → ℕ) (l : ℕ) (turn step m : Square) → 1 ≤ l → IsMatrix k (steps_product k a (l - 1)) turn → IsMatrix k (a l) step → IsProduct turn step m → IsMatrix k (steps_product k a (l + 1 - 1)) m
+next_product k a zero turn step m h t s p = absurd (omega arith)
+next_product k a (suc l) turn step m h t s p =
+    let e : suc l - 1 ≡ l = omega arith in
+    let f : suc l ≡ suc l + 1 - 1 = omega arith in
+    subst (λ (n : ℕ). IsMatrix k (steps_product k a n) m) f
+    (times_matrix k (steps_product k a l) (a (suc l)) turn step m (subst (λ (n : ℕ). IsMatrix k (steps_product k a n) turn) e t) s p)
+
+-- one more single step
+pub next_run : (k : ℕ) (a : ℕ → ℕ → ℕ → ℕ) (l : ℕ) (v : ℕ → ℕ) (row r : List (Option ℕ)) (step : Square) → IsRow k (run k a 0 l v) row → IsMatrix k (a l) step → IsRowTimes row step r → IsRow k (run k a 0 (l + 1) v) r
+next_run k a l v row r step h s p =
+    let e : l + 1 ≡ suc l = omega arith in
+    let f : l ≡ 0 + l = omega arith in
+    subst (λ (n : ℕ). IsRow k (run k a 0 n v) r) (sym e)
+    (times_row k (run k a 0 l v) (a (0 + l)) row r step h (subst (λ (n : ℕ). IsMatrix k (a n) step) f s) p)
+
+-- the row of a level: after whole turns, and then after the steps that are left
+pub level_row : (s : System) (ns : List ModuleName) (level : ℕ) (first row r : List (Option ℕ)) → 0 < length s.schedule
+    → IsRow (suc (length ns)) (first_counts s ns) first
+    → AfterTurns s ns (level / length s.schedule) first row
+    → AfterSteps s ns (level % length s.schedule) row r
+    → IsRow (suc (length ns)) (counts_after s ns level) r
+level_row s ns level first row r some f g h =
+    let k = suc (length ns) in
+    let n = length s.schedule in
+    let q = level / n in
+    let m = level % n in
+    let whole : n * q + m ≡ level = div-add-mod level n in
+    let one : suc (n - 1) ≡ n = omega (arith, some) in
+    let turn : StandsFor k (step_matrix s ns) 0 n (turn_matrix s ns) = subst (λ (x : ℕ). StandsFor k (step_matrix s ns) 0 x (turn_matrix s ns)) one (steps_stand k (step_matrix s ns) (n - 1)) in
+    let left : IsRow k (run k (step_matrix s ns) 0 m (repeated k (turn_matrix s ns) q (first_counts s ns))) r = h (repeated k (turn_matrix s ns) q (first_counts s ns)) (g (first_counts s ns) f) in
+    record {
+      len = left.len;
+      places = λ i u.
+          left.places i u
+          ∙ ap capped (sym (run_whole k (step_matrix s ns) n (turn_matrix s ns) (steps_again s ns) turn q m (first_counts s ns) i u)
+          ∙ ap (λ (x : ℕ). run k (step_matrix s ns) 0 x (first_counts s ns) i) whole);
+    }

@@ -1,0 +1,24 @@
+use Rattle.std.proofs.Common.{◌≡◌, ◌<◌, ℕ, map, ap, subst, length, ◌/◌, ◌%◌}
+use Rattle.lsys_module.specs.Views.{module_name}
+use Rattle.lsys_growth_laws.specs.Counts.{first_counts}
+use Rattle.lsys_growth.specs.Steps.{IsLevelRow, AfterSteps, AfterTurns}
+use Rattle.lsys_growth.proofs.Stepping.{level_row}
+use Rattle.lsys_growth.proofs.Results.{if_ok}
+use Rattle.lsys_growth.proofs.steps.level_row.Goals as goal
+
+pub after_steps-requires : goal.after_steps-requires
+after_steps-requires g c = (c.in_ok-row.ensures.row (first_counts c.args.system.now (map module_name c.args.letters.now)) c.in_ok-first.ensures).len
+
+pub returns-clause-row : goal.returns-clause-row
+returns-clause-row g c =
+    let s = c.args.system.now in
+    let ns = map module_name c.args.letters.now in
+    let first = c.in_ok-first.first.items in
+    let row = c.in_ok-row.row.items in
+    let n = length c.schedule.result.now in
+    let words : n ≡ length s.schedule = ap length c.schedule.ensures.words in
+    let some : 0 < length s.schedule = c.schedule.ensures.well.0.some_word in
+    let turns : AfterTurns s ns (c.args.level / length s.schedule) first row = subst (λ (m : ℕ). AfterTurns s ns (c.args.level / m) first row) words c.in_ok-row.ensures.row in
+    if_ok (λ r. AfterSteps s ns (c.args.level % n) row r.items) (λ r. IsLevelRow s ns c.args.level r.items) c.after_steps.result
+    (λ r h. level_row s ns c.args.level first row r.items some c.in_ok-first.ensures turns (subst (λ (m : ℕ). AfterSteps s ns (c.args.level % m) row r.items) words h))
+    c.after_steps.ensures

@@ -1,0 +1,103 @@
+//! Many steps.
+ghost use Rattle.std.specs.Prelude.{◌≡◌, ◌≤◌, ◌<◌, ◌+◌, ◌/◌, ◌^◌, ℕ, IfOk, length, map};
+ghost use Rattle.lsys_module.specs.Views.{module_name};
+ghost use Rattle.lsys_growth.specs.Steps.{AfterSteps, AfterTurns, IsAxiomRow, IsLevelRow, IsTurn, width};
+
+use crate::counting::push_axiom;
+use crate::tables::step;
+use lsys_matrix::{Matrix, Steps, multiply, power_times, row_times};
+use lsys_rules::System;
+use lsys_text::Name;
+use std::alloc::{AllocError, Global};
+use std::sync::ledger::Ledger;
+
+// The counts of a level: of each letter, and of `[`.
+pub(crate) fn level_row<P: Ledger>(
+    alloc: Global,
+    system: &System,
+    letters: &[Name],
+    level: u64,
+    products: &mut Steps<P>,
+) -> Result<Vec<Option<u128>>, AllocError>
+    ensures row { IfOk result (λ r.
+        IsLevelRow system.now (map module_name letters.now) level r.items) }
+    ensures count { (k : ℕ) → level / length system.now.schedule < 2 ^ k
+        → products.new ≤ products.old + (length system.now.schedule + k) }
+{
+    let turn_length = system.schedule().len() as u64;
+    let first = axiom_row(alloc, system, letters)?;
+    let row = after_turns(alloc, system, letters, first, level / turn_length, products)?;
+    after_steps(alloc, system, letters, row, (level % turn_length) as u32)
+}
+
+fn axiom_row(
+    alloc: Global,
+    system: &System,
+    letters: &[Name],
+) -> Result<Vec<Option<u128>>, AllocError>
+    ensures { IfOk result (λ r. IsAxiomRow system.now (map module_name letters.now) r.items) }
+{
+    let mut row = Vec::new(alloc);
+    push_axiom(&mut row, letters, system.axiom().symbols())?;
+    Ok(row)
+}
+
+// The row after so many turns through the schedule.
+fn after_turns<P: Ledger>(
+    alloc: Global,
+    system: &System,
+    letters: &[Name],
+    first: Vec<Option<u128>>,
+    turns: u64,
+    products: &mut Steps<P>,
+) -> Result<Vec<Option<u128>>, AllocError>
+    requires { length first.items ≡ width (map module_name letters.now) }
+    ensures row { IfOk result (λ r.
+        AfterTurns system.now (map module_name letters.now) turns first.items r.items) }
+    ensures count { (k : ℕ) → turns < 2 ^ k
+        → products.new ≤ products.old + (length system.now.schedule + k) }
+{
+    if turns == 0 {
+        return Ok(first);
+    }
+    let turn = turn(alloc, system, letters, products)?;
+    power_times(alloc, first, turn, turns, products)
+}
+
+// The matrix of a turn through the schedule: the product of those of its steps.
+fn turn<P: Ledger>(
+    alloc: Global,
+    system: &System,
+    letters: &[Name],
+    products: &mut Steps<P>,
+) -> Result<Matrix, AllocError>
+    ensures product { IfOk result (IsTurn system.now (map module_name letters.now)) }
+    ensures count { products.new ≤ products.old + length system.now.schedule }
+{
+    let mut turn = step(alloc, system, letters, 0)?;
+    for level in 1..system.schedule().len() as u32 {
+        let step = step(alloc, system, letters, level)?;
+        turn = multiply(alloc, &turn, &step, products)?;
+    }
+    Ok(turn)
+}
+
+// The row after so many steps from level 0.
+fn after_steps(
+    alloc: Global,
+    system: &System,
+    letters: &[Name],
+    first: Vec<Option<u128>>,
+    steps: u32,
+) -> Result<Vec<Option<u128>>, AllocError>
+    requires { length first.items ≡ width (map module_name letters.now) }
+    ensures { IfOk result (λ r.
+        AfterSteps system.now (map module_name letters.now) steps first.items r.items) }
+{
+    let mut row = first;
+    for level in 0..steps {
+        let step = step(alloc, system, letters, level)?;
+        row = row_times(alloc, &row, &step)?;
+    }
+    Ok(row)
+}

@@ -1,0 +1,5 @@
+pub mod Alone
+pub mod LevelCounts
+pub mod Lengths
+pub mod Letters
+pub mod Told

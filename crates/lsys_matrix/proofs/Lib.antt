@@ -1,0 +1,4 @@
+pub mod Sums
+pub mod Powers
+pub mod Stopping
+pub mod Squaring

@@ -1,0 +1,31 @@
+//! Sums and products that stop at 2^128.
+
+ghost use Rattle.std.specs.Prelude.{◌≡◌, ◌+◌, ◌*◌, ℕ};
+ghost use Rattle.lsys_matrix.specs.Capped.{capped, value_of};
+
+/// The sum; None where it is past 128 bits.
+pub fn plus(a: Option<u128>, b: Option<u128>) -> Option<u128>
+    ensures { value_of result ≡ capped (value_of a + value_of b) }
+{
+    match (a, b) {
+        (Some(a), Some(b)) => a.checked_add(b),
+        _ => None,
+    }
+}
+
+/// The product; None where it is past 128 bits.
+pub fn times(a: Option<u128>, b: Option<u128>) -> Option<u128>
+    ensures { value_of result ≡ capped (value_of a * value_of b) }
+{
+    match (a, b) {
+        (Some(a), Some(b)) => a.checked_mul(b),
+        (Some(0), None) | (None, Some(0)) => Some(0),
+        _ => None,
+    }
+}
+
+/// A sum or a product that stops at 2^128 may stop at any step of it.
+pub fn law_of_stopping()
+    ensures sum { (x y : ℕ) → capped (x + y) ≡ capped (capped x + capped y) }
+    ensures product { (x y : ℕ) → capped (x * y) ≡ capped (capped x * capped y) }
+{}
