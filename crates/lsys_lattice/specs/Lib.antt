@@ -1,3 +1,4 @@
+pub mod Wide
 pub mod Views
 pub mod Directions
 pub mod FlatFrames

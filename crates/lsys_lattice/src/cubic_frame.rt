@@ -1,11 +1,14 @@
 //! The frames of the cubic lattice.
 
-ghost use Rattle.std.specs.Prelude.{◌≡◌};
+ghost use Rattle.std.specs.Prelude.{◌≡◌, ◌<◌, ◌^◌, unsigned_abs};
 ghost use Rattle.lsys_spec.specs.Lattices.{frame, IsUpright, opposite};
+ghost use Rattle.lsys_effects.specs.Rotations.{scaled};
 ghost use Rattle.lsys_lattice.specs.Directions.{along};
 ghost use Rattle.lsys_lattice.specs.Views.{vector_of};
+ghost use Rattle.lsys_lattice.specs.Wide.{AreBelow, IsBelow, IsShort, extents_of, shared, wide_of};
 
-use crate::Place;
+use crate::wide::Span;
+use crate::{Extents, Place, Vector};
 
 /// A direction along an axis.
 #[derive(Clone, Copy, PartialEq, Eq, Debug)]
@@ -44,6 +47,40 @@ impl Direction {
             Direction::Down => (0, 0, -1),
         };
         Place { x, y, z }
+    }
+
+    // So many steps in the direction; they are below 2^100 in magnitude.
+    pub(crate) fn times(self, steps: i128) -> Vector
+        requires { unsigned_abs steps < 2 ^ 100 }
+        ensures steps { wide_of result ≡ scaled steps (along self) }
+        ensures within { IsBelow 100 (wide_of result) }
+    {
+        let (x, y, z) = match self {
+            Direction::East => (steps, 0, 0),
+            Direction::West => (-steps, 0, 0),
+            Direction::North => (0, steps, 0),
+            Direction::South => (0, -steps, 0),
+            Direction::Up => (0, 0, steps),
+            Direction::Down => (0, 0, -steps),
+        };
+        Vector { x, y, z }
+    }
+
+    // How far places reach that lie in the direction, as many steps from the origin as the span tells.
+    pub(crate) fn share(self, span: Span) -> Extents
+        requires { IsShort span }
+        ensures share { extents_of result ≡ shared (along self) span.low span.high }
+        ensures within { AreBelow 100 (extents_of result) }
+    {
+        let none = Span { low: 0, high: 0 };
+        match self {
+            Direction::East => Extents::of(span, none, none),
+            Direction::West => Extents::of(span.back(), none, none),
+            Direction::North => Extents::of(none, span, none),
+            Direction::South => Extents::of(none, span.back(), none),
+            Direction::Up => Extents::of(none, none, span),
+            Direction::Down => Extents::of(none, none, span.back()),
+        }
     }
 }
 

@@ -6,7 +6,7 @@ ghost use Rattle.lsys_spec.proofs.Turns.{turned_back, full_turn_back};
 ghost use Rattle.lsys_spec.specs.Lattices.{all_turned, sixth_left, sixth_right};
 ghost use Rattle.lsys_lattice.specs.FlatFrames.{hexagonal_frame, hexagonal_upright, hexagonal_known, hexagonal_faithful};
 
-use crate::{Lattice, Place, Turn};
+use crate::{Extents, Lattice, Place, Turn, Vector};
 
 /// The hexagonal lattice: places with two axial coordinates, and six headings.
 #[derive(Clone, Copy, PartialEq, Eq, Debug)]
@@ -98,5 +98,44 @@ impl Lattice for Hexagonal {
 
     fn project(place: Place) -> (i64, i64) {
         (20 * place.x + 10 * place.y, -17 * place.y)
+    }
+
+    fn carry(frame: HexagonalFrame, v: Vector) -> Vector {
+        let Vector { x: q, y: r, z } = v;
+        match frame {
+            HexagonalFrame::East => Vector { x: q, y: r, z },
+            HexagonalFrame::NorthEast => Vector { x: -r, y: q + r, z },
+            HexagonalFrame::NorthWest => Vector { x: -q - r, y: q, z },
+            HexagonalFrame::West => Vector { x: -q, y: -r, z },
+            HexagonalFrame::SouthWest => Vector { x: r, y: -q - r, z },
+            HexagonalFrame::SouthEast => Vector { x: q + r, y: -q, z },
+        }
+    }
+
+    fn carry_extents(frame: HexagonalFrame, extents: Extents) -> Extents {
+        let (first, second, third) = extents.spans();
+        match frame {
+            HexagonalFrame::East => Extents::of(first, second, third),
+            HexagonalFrame::NorthEast => Extents::of(second.back(), third, first),
+            HexagonalFrame::NorthWest => Extents::of(third.back(), first, second.back()),
+            HexagonalFrame::West => Extents::of(first.back(), second.back(), third.back()),
+            HexagonalFrame::SouthWest => Extents::of(second, third.back(), first.back()),
+            HexagonalFrame::SouthEast => Extents::of(third, first.back(), second),
+        }
+    }
+
+    fn follow(frame: HexagonalFrame, inner: HexagonalFrame) -> HexagonalFrame {
+        match inner {
+            HexagonalFrame::East => frame,
+            HexagonalFrame::NorthEast => frame.left(),
+            HexagonalFrame::NorthWest => frame.left().left(),
+            HexagonalFrame::West => frame.left().left().left(),
+            HexagonalFrame::SouthWest => frame.right().right(),
+            HexagonalFrame::SouthEast => frame.right(),
+        }
+    }
+
+    fn measures(v: Vector) -> Vector {
+        Vector { z: v.x + v.y, ..v }
     }
 }

@@ -8,17 +8,22 @@ ghost use Rattle.std.specs.Prelude.{◌≡◌, Contains};
 ghost use Rattle.lsys_spec.specs.Lattices.{Frame, frames, IsUpright, first_frame, full_turn, inverse, projected, times, turn_by, turned, IsWithin, turn_left};
 ghost use Rattle.lsys_spec.specs.Lattices.{Lattice as Kind};
 ghost use Rattle.lsys_spec.specs.Lattices.{Turn as SpecTurn};
+ghost use Rattle.lsys_effects.specs.Extents.{AreCarried};
+ghost use Rattle.lsys_effects.specs.Rotations.{carried, followed, measures};
 ghost use Rattle.lsys_lattice.specs.Views.{turn_of, vector_of};
+ghost use Rattle.lsys_lattice.specs.Wide.{AreBelow, IsBelow, extents_of, wide_of};
 
 mod cubic;
 mod cubic_frame;
 mod hexagonal;
 mod square;
+mod wide;
 
 pub use cubic::Cubic;
 pub use cubic_frame::CubicFrame;
 pub use hexagonal::{Hexagonal, HexagonalFrame};
 pub use square::{Square, SquareFrame};
+pub use wide::{Extents, Vector};
 
 /// A place or a direction, by its coordinates. On the hexagonal lattice `x` and `y` are the axial coordinates q and r.
 #[derive(Clone, Copy, PartialEq, Eq, Debug)]
@@ -90,6 +95,32 @@ pub trait Lattice {
     fn project(place: Place) -> (i64, i64)
         requires { IsWithin 1000000000 (vector_of place) }
         ensures { result ≡ projected shape (vector_of place) };
+
+    /// The vector that lies in this frame as `v` does in the first one: the rotation that takes the first frame to this one.
+    ///
+    /// The coordinates of `v` are below 2^100 in magnitude.
+    fn carry(frame: Self::Frame, v: Vector) -> Vector
+        requires { IsBelow 100 (wide_of v) }
+        ensures { wide_of result ≡ carried shape (frame_of frame) (wide_of v) };
+
+    /// The extents of places that the frame has carried, by the extents of the places.
+    ///
+    /// The six values are below 2^100 in magnitude.
+    fn carry_extents(frame: Self::Frame, extents: Extents) -> Extents
+        requires { AreBelow 100 (extents_of extents) }
+        ensures { AreCarried shape (frame_of frame) (extents_of extents) (extents_of result) };
+
+    /// The frame that lies in this one as `inner` does in the first one: it is reached from here by the turns that lead from the
+    /// first frame to `inner`.
+    fn follow(frame: Self::Frame, inner: Self::Frame) -> Self::Frame
+        ensures { frame_of result ≡ followed shape (frame_of frame) (frame_of inner) };
+
+    /// What is measured of a place: x, y and z on the square and the cubic lattice, and q, r and q + r on the hexagonal one.
+    ///
+    /// The coordinates of `v` are below 2^99 in magnitude.
+    fn measures(v: Vector) -> Vector
+        requires { IsBelow 99 (wide_of v) }
+        ensures { wide_of result ≡ measures shape (wide_of v) };
 
     // a turn and its inverse give the frame back
     ghost inverse_back: { (turn : SpecTurn) (f : Self.Frame)

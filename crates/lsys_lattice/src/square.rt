@@ -6,7 +6,7 @@ ghost use Rattle.lsys_spec.proofs.Turns.{turned_back, full_turn_back};
 ghost use Rattle.lsys_spec.specs.Lattices.{all_turned, quarter_left, quarter_right};
 ghost use Rattle.lsys_lattice.specs.FlatFrames.{square_frame, square_upright, square_known, square_faithful};
 
-use crate::{Lattice, Place, Turn};
+use crate::{Extents, Lattice, Place, Turn, Vector};
 
 /// The square lattice: places with two coordinates, and four headings.
 #[derive(Clone, Copy, PartialEq, Eq, Debug)]
@@ -90,5 +90,38 @@ impl Lattice for Square {
 
     fn project(place: Place) -> (i64, i64) {
         (10 * place.x, -10 * place.y)
+    }
+
+    fn carry(frame: SquareFrame, v: Vector) -> Vector {
+        let Vector { x, y, z } = v;
+        match frame {
+            SquareFrame::North => Vector { x, y, z },
+            SquareFrame::West => Vector { x: -y, y: x, z },
+            SquareFrame::South => Vector { x: -x, y: -y, z },
+            SquareFrame::East => Vector { x: y, y: -x, z },
+        }
+    }
+
+    fn carry_extents(frame: SquareFrame, extents: Extents) -> Extents {
+        let (first, second, third) = extents.spans();
+        match frame {
+            SquareFrame::North => Extents::of(first, second, third),
+            SquareFrame::West => Extents::of(second.back(), first, third),
+            SquareFrame::South => Extents::of(first.back(), second.back(), third),
+            SquareFrame::East => Extents::of(second, first.back(), third),
+        }
+    }
+
+    fn follow(frame: SquareFrame, inner: SquareFrame) -> SquareFrame {
+        match inner {
+            SquareFrame::North => frame,
+            SquareFrame::West => frame.left(),
+            SquareFrame::South => frame.left().left(),
+            SquareFrame::East => frame.right(),
+        }
+    }
+
+    fn measures(v: Vector) -> Vector {
+        v
     }
 }

@@ -75,7 +75,7 @@ left : {A : Type 0} (b : Bool) (x y : A) → b ≡ false → either b x y ≡ y
 left true x y e = cc
 left false x y e = refl
 
-not_long : (limit : ℕ) (s : System) (line : List ℕ) → is_long line ≡ false → line_reply limit s line ≡ bare_reply limit s line
+pub not_long : (limit : ℕ) (s : System) (line : List ℕ) → is_long line ≡ false → line_reply limit s line ≡ bare_reply limit s line
 not_long limit s line e = left (is_long line) (refused s (codes "syntax long")) (bare_reply limit s line) e
 
 pub spelled_so : (line : List ℕ) → is_long line ≡ false → line_spelled line ≡ bare_spelled line
@@ -88,7 +88,7 @@ passed_none false o c e = refl
 may : (line : List ℕ) → is_long line ≡ false → is_passed_over line ≡ false → may_lack line ≡ true
 may line e p = ap (λ b. not b && not (is_passed_over line)) e ∙ ap (λ b. not b) p
 
-may_spelled : (line : List ℕ) (c : Command) → is_long line ≡ false → bare_spelled line ≡ Some c → may_lack line ≡ true
+pub may_spelled : (line : List ℕ) (c : Command) → is_long line ≡ false → bare_spelled line ≡ Some c → may_lack line ≡ true
 may_spelled line c e h = may line e (passed_none (is_passed_over line) (spelled_by (tokens line)) c h)
 
 lacking : (limit : ℕ) (s : System) (line : List ℕ) → may_lack line ≡ true → refused_memory s ≡ reply_or_memory limit s line true

@@ -7,7 +7,7 @@ use Rattle.lsys_spec.specs.Lattices.{Lattice}
 use Rattle.lsys_spec.specs.Pictures.{Segment, PictureRefusal}
 use Rattle.lsys_spec.specs.PictureTexts.{segments_text, svg_text}
 use Rattle.lsys_spec.specs.Refusals.{Reply, line_feed}
-use Rattle.lsys_spec.specs.Replies.{shown, or_text, picture_refusal_text}
+use Rattle.lsys_spec.specs.Replies.{shown, or_text, picture_refusal_text, edited, levels_of}
 use Rattle.lsys_spec.specs.Output.{memory_or}
 use Rattle.lsys_session.specs.Requests.{reply_to}
 use Rattle.lsys_session.specs.Sessions.{Says}
@@ -57,6 +57,14 @@ pub record Gives {K : Type 0} (written : K → Option (List ℕ)) (faults : K �
   pub lacks : Bool
   pub says : Says written faults sink_old sink_new held (given limit old request lacks).text (unless_refused (done request) (given limit old request lacks)) result
   pub next : IfOk result (λ o. new ≡ (given limit old request lacks).next)
+
+-- The reply of the edit that leads to this system, or `refused memory`, was put whole, and the session goes on from the reply's system; or the sink failed, and a front of the reply was written.
+pub record Leads {K : Type 0} (written : K → Option (List ℕ)) (faults : K → ℕ) (sink_old sink_new : K) (held : List ℕ) (limit : ℕ) (old to new : System) (result : Result Outcome Failed) : Type 0 where
+  pub lacks : Bool
+  pub reply : Reply
+  pub is : reply ≡ memory_or lacks old (edited limit old to (levels_of limit to))
+  pub says : Says written faults sink_old sink_new held reply.text (unless_refused outcomes.Accepted reply) result
+  pub next : IfOk result (λ o. new ≡ reply.next)
 
 -- 3. queries
 

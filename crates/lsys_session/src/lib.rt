@@ -9,7 +9,8 @@ mod request;
 mod sayings;
 mod session;
 
+pub use line::is_without_command;
 pub use outcome::Outcome;
 pub use request::{Request, request_of};
 pub use sayings::refuse;
-pub use session::Session;
+pub use session::{MOST_LINE_BYTES, Session};

@@ -2,7 +2,7 @@
 ghost use Rattle.std.specs.Prelude.{◌≡◌, ◌≤◌, [], true, IfOk};
 ghost use Rattle.lsys_spec.specs.Systems.{opening};
 ghost use Rattle.lsys_session.specs.Answers.{Answers, Counts, is_derived};
-ghost use Rattle.lsys_session.specs.Given.{Gives, IsWithin, is_edit, level_number, picture_request};
+ghost use Rattle.lsys_session.specs.Given.{Gives, IsKept, IsWithin, Leads, is_edit, level_number, picture_request};
 ghost use Rattle.lsys_session.specs.Requests.{HasLevel};
 ghost use Rattle.lsys_session.specs.declared.request.Request.TheVariants as requests;
 
@@ -19,7 +19,7 @@ use std::marker::{Model, PhantomData};
 use std::sync::ledger::Ledger;
 
 /// A line has at most so many bytes.
-const MOST_LINE_BYTES: usize = 65536;
+pub const MOST_LINE_BYTES: usize = 65536;
 
 /// A system that is edited and asked, with its levels under a limit of at most 1,000,000 symbols. Contracts see it as the
 /// derivation that it keeps.
@@ -90,8 +90,50 @@ impl<L: Ledger, D: Derivation<L>> Session<L, D> {
         }
     }
 
-    // Answers a request.
-    fn answer<K: Sink, V: Ledger>(
+    /// The present system. It has its levels under the session's limit.
+    pub fn system(&self) -> &System
+        ensures system { result.now ≡ D.system_of self.now }
+        ensures kept { IsKept (D.limit_of self.now) (D.system_of self.now) }
+    {
+        self.derivation.system()
+    }
+
+    /// Goes on from another system, as an edit that leads to it: it is accepted where it has its levels under the limit, and
+    /// else refused as such an edit is.
+    ///
+    /// The counters rise as at an edit.
+    ///
+    /// # Errors
+    ///
+    /// The sink failed; a front of the reply was written then, and nothing more is promised of the session but its limit.
+    pub fn restore<K: Sink, V: Ledger>(
+        &mut self,
+        alloc: Global,
+        system: System,
+        out: &mut Buffered,
+        sink: &mut K,
+        asked: &mut Steps<L>,
+        visited: &mut Steps<V>,
+    ) -> Result<Outcome, Failed>
+        requires { out.old ≡ [] }
+        ensures leads { Leads K.written K.faults sink.old sink.new out.new (D.limit_of self.old)
+            (D.system_of self.old) system (D.system_of self.new) result }
+        ensures limit { D.limit_of self.new ≡ D.limit_of self.old }
+        ensures counts { Counts D.visits (D.limit_of self.old) true
+            (D.system_of self.old) (D.system_of self.new) (record { asked = asked.old; visited = visited.old })
+            (record { asked = asked.new; visited = visited.new }) result }
+    {
+        self.edit(alloc, system, out, sink, asked, visited)
+    }
+
+    /// Answers what a line asks of the present system: puts the reply, and goes on from its system.
+    ///
+    /// The counters rise as at the line.
+    ///
+    /// # Errors
+    ///
+    /// The sink failed; a front of the reply was written then, and nothing more is promised of the session but its limit.
+    pub fn answer<K: Sink, V: Ledger>(
         &mut self,
         alloc: Global,
         request: Request,

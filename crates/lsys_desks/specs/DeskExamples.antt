@@ -1,0 +1,34 @@
+-- Examples of the definitions of a desk, which the checker computes.
+use Rattle.std.specs.Prelude.{◌≡◌, ℕ, List, [], ◌∷◌, ◌++◌, codes, map, None, Some, refl}
+use Rattle.std.specs.Fmt.{digits}
+use Rattle.lsys_spec.specs.Output.{none, output_text}
+use Rattle.lsys_desks.specs.Desks.{desk_line, desk_out, undo, redo}
+
+abbrev run : List ℕ → List ℕ
+run script = output_text (desk_out 100000 script none)
+
+-- blanks and a CR are no tokens, and a desk line has one; a longer one is refused by the session
+pub desk_lines :
+    map desk_line (codes "undo" ∷ (codes " \tredo " ++ 13 ∷ []) ∷ codes "undo x" ∷ codes "undo;" ∷ codes "Undo" ∷ codes "undoredo" ∷ codes ";undo" ∷ [] ∷ [])
+    ≡ Some undo ∷ Some redo ∷ None ∷ None ∷ None ∷ None ∷ None ∷ None ∷ []
+desk_lines = refl
+
+-- at the opening nothing is kept
+pub nothing_to_undo :
+    run (codes "undo\nredo\nundo x\nundo undo\n") ≡ codes "refused undo\nrefused redo\nrefused syntax token 1\nrefused syntax token 1\n"
+unfolding digits
+nothing_to_undo = refl
+
+-- an undo asks what the edit back would, and a redo what the edit did
+pub algae_and_back :
+    run (codes "axiom A\nproduction a: A => AB\nproduction b: B => A\ndepth 5\nproduction b: B => B\nstring\nundo\nstring\nredo\nstring\nredo\n")
+    ≡ codes "ok 0/0\nok 0/0\nok 0/0\nok 19/19\nok 10/15\nABBBBB\nok 14/19\nABAABABAABAAB\nok 10/15\nABBBBB\nrefused redo\n"
+unfolding digits
+algae_and_back = refl
+
+-- queries, refusals and lines without a reply are no steps, and an edit forgets what was undone
+pub what_is_a_step :
+    run (codes "axiom A\naxiom AB\nstring\nproduction\n; none\n\nundo\nstring\naxiom B\nredo\nundo\nundo\nundo\nstring\n")
+    ≡ codes "ok 0/0\nok 0/0\nAB\nrefused syntax token 11\nok 0/0\nA\nok 0/0\nrefused redo\nok 0/0\nok 0/0\nrefused undo\n\n"
+unfolding digits
+what_is_a_step = refl

@@ -1,0 +1,132 @@
+-- A desk: a system with those that edits led away from and those that were undone. What it answers a line, and a script.
+use Rattle.std.specs.Prelude.{◌≡◌, ℕ, ◌+◌, Bool, true, false, not, ◌&&◌, Option, Some, None, Result, Ok, Err, All, List, [], ◌∷◌, codes, bytes_eq, if◌then◌else◌}
+use Rattle.lsys_syntax.specs.Lines.{lines_of, without_cr}
+use Rattle.lsys_syntax.specs.Tokens.{Token, Kind, Word, tokens}
+use Rattle.lsys_syntax.specs.Commands.{Command}
+use Rattle.lsys_spec.specs.Systems.{System, opening}
+use Rattle.lsys_spec.specs.Refusals.{Reply, refused, refused_memory, is_long, is_passed_over}
+use Rattle.lsys_spec.specs.Replies.{reply, edited, levels_of, is_query, spelled_command}
+use Rattle.lsys_spec.specs.Output.{may_lack_memory}
+use Rattle.lsys_history.specs.Timelines as timelines
+
+-- 1. desk lines
+
+-- what a line asks of the desk
+pub data DeskLine : Type 0 where
+  undo : DeskLine
+  redo : DeskLine
+
+abbrev pub word_asks : List ℕ → Option DeskLine
+word_asks text = if bytes_eq text (codes "undo") then Some undo else if bytes_eq text (codes "redo") then Some redo else None
+
+abbrev pub kind_asks : Kind → Option DeskLine
+kind_asks (Word text) = word_asks text
+kind_asks k = None
+
+-- Desk lines are told by their tokens: one that has more of them than it should is none, and goes to the session.
+abbrev pub tokens_ask : List Token → Option DeskLine
+tokens_ask [] = None
+tokens_ask (t ∷ []) = kind_asks t.kind
+tokens_ask (t ∷ u ∷ ts) = None
+
+abbrev pub read_asks : Result (List Token) ℕ → Option DeskLine
+read_asks (Ok ts) = tokens_ask ts
+read_asks (Err column) = None
+
+-- what a line without its CR asks of the desk that isn't too long; one that is passed over asks nothing
+abbrev pub bare_asks : List ℕ → Option DeskLine
+bare_asks bare = elim (is_passed_over bare) [ true ↦ None | false ↦ read_asks (tokens bare) ]
+
+-- what a line asks of the desk, its CR still there; one that is too long or passed over asks nothing
+abbrev pub desk_line : List ℕ → Option DeskLine
+desk_line line = elim (is_long line) [ true ↦ None | false ↦ bare_asks (without_cr line) ]
+
+-- 2. the reply to a line
+
+pub record Desk : Type 0 where
+  pub system : System
+  pub steps : timelines.Timeline System
+
+abbrev pub desk : System → timelines.Timeline System → Desk
+desk s steps = record { system = s; steps = steps }
+
+abbrev pub opening_desk : Desk
+opening_desk = desk opening timelines.nothing_kept
+
+-- a reply, and the desk behind it
+pub record DeskReply : Type 0 where
+  pub reply : Reply
+  pub next : Desk
+
+abbrev pub answered : Reply → Desk → DeskReply
+answered r d = record { reply = r; next = d }
+
+-- The reply to the edit that leads to a system. Where it is accepted, these are the steps behind it. (A kept system has its
+-- levels, so it is.)
+abbrev pub led : Desk → Reply → timelines.Timeline System → DeskReply
+led d r steps = elim r.is_refusal [ true ↦ answered r d | false ↦ answered r (desk r.next steps) ]
+
+-- A step to this system. Where there is none, the step is refused by its word, and the desk stays.
+abbrev pub stepped : ℕ → Desk → List ℕ → timelines.Timeline System → Option System → DeskReply
+stepped limit d word steps None = answered (refused d.system word) d
+stepped limit d word steps (Some s) = led d (edited limit d.system s (levels_of limit s)) steps
+
+-- the desk's own reply: an undo steps to the nearest of the past, and a redo to the nearest of those that were undone
+abbrev pub own_reply : ℕ → Desk → DeskLine → DeskReply
+own_reply limit d undo = stepped limit d (codes "undo") (timelines.undone d.steps d.system) (timelines.nearest d.steps.past)
+own_reply limit d redo = stepped limit d (codes "redo") (timelines.redone d.steps d.system) (timelines.nearest d.steps.future)
+
+abbrev pub is_edit : Option Command → Bool
+is_edit None = false
+is_edit (Some c) = not (is_query c)
+
+-- the steps behind the session's reply to a line that spells this: an accepted edit leads away from the system
+abbrev pub steps_behind : Desk → Reply → Option Command → timelines.Timeline System
+steps_behind d r spelled = elim (not r.is_refusal && is_edit spelled) [ true ↦ timelines.edited d.steps d.system | false ↦ d.steps ]
+
+abbrev pub session_reply : Desk → Reply → Option Command → DeskReply
+session_reply d r spelled = answered r (desk r.next (steps_behind d r spelled))
+
+-- the reply to a line that asks this of the desk, where the session would reply so
+abbrev pub reply_by : ℕ → Desk → Option DeskLine → Reply → Option Command → DeskReply
+reply_by limit d None r spelled = session_reply d r spelled
+reply_by limit d (Some asked) r spelled = own_reply limit d asked
+
+-- the reply to a line, its CR still there
+abbrev pub desk_reply : ℕ → Desk → List ℕ → DeskReply
+desk_reply limit d line = reply_by limit d (desk_line line) (reply limit d.system line) (spelled_command line)
+
+-- 3. the replies to a script
+
+abbrev pub desk_memory_or : Bool → Desk → DeskReply → DeskReply
+desk_memory_or true d r = answered (refused_memory d.system) d
+desk_memory_or false d r = r
+
+-- the reply to a line that may be refused for want of memory
+abbrev pub desk_reply_or_memory : ℕ → Bool → Desk → List ℕ → DeskReply
+desk_reply_or_memory limit lacks d line = desk_memory_or (lacks && may_lack_memory line) d (desk_reply limit d line)
+
+-- a reply, and behind it what follows from its desk, unless it ends the session
+abbrev pub desk_followed : DeskReply → (Desk → List Reply) → List Reply
+desk_followed r rest = r.reply ∷ elim r.reply.ends [ true ↦ [] | false ↦ rest r.next ]
+
+-- the replies to lines that are numbered from n on; those whose numbers are in M are refused for want of memory
+abbrev pub desk_replies_from : ℕ → (ℕ → Bool) → ℕ → Desk → List (List ℕ) → List Reply
+desk_replies_from limit M n d [] = []
+desk_replies_from limit M n d (line ∷ lines) =
+    desk_followed (desk_reply_or_memory limit (M n) d line) (λ next. desk_replies_from limit M (n + 1) next lines)
+
+abbrev pub desk_out : ℕ → List ℕ → (ℕ → Bool) → List Reply
+desk_out limit script M = desk_replies_from limit M 1 opening_desk (lines_of script)
+
+-- 4. what is said of lines and of what is kept
+
+-- no line asks anything of the desk
+abbrev pub HasNoDeskLine : List (List ℕ) → Type 0
+HasNoDeskLine [] = Unit {0}
+HasNoDeskLine (line ∷ lines) = (desk_line line ≡ None) × HasNoDeskLine lines
+
+-- of every system that an undo or a redo may lead back to
+pub record EachKept (P : System → Type 0) (steps : timelines.Timeline System) : Type 0 where
+  pub past : All P steps.past
+  pub future : All P steps.future
