@@ -52,6 +52,11 @@ impl Params {
         &self.values[..self.len as usize]
     }
 
+    /// A law of parameters: each is a number of 64 bits.
+    pub(crate) fn law_of_params(self)
+        ensures { EachOf IsParam self }
+    {}
+
     /// One more value, of which there are at most seven.
     pub(crate) fn and(mut self, value: i64) -> Params
         requires { length self < 8 }

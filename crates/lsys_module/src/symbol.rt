@@ -48,7 +48,7 @@ pub(crate) fn law_of_symbols(symbol: &Symbol)
     ensures { IsSymbol IsParam (symbol_of symbol.now) }
 {
     if let Symbol::Module(module) = symbol {
-        let _ = module.name.number();
-        let _ = module.params.values();
+        module.name.law_of_names();
+        module.params.law_of_params();
     }
 }

@@ -45,7 +45,7 @@ has_balance s w = record {
 
 -- 2. successors
 
-templates_balanced : (fs : List NameText) (xs : List (S.Symbol Expr)) (n : ℕ) → S.balanced n (templates fs xs) ≡ S.balanced n xs
+pub templates_balanced : (fs : List NameText) (xs : List (S.Symbol Expr)) (n : ℕ) → S.balanced n (templates fs xs) ≡ S.balanced n xs
 templates_balanced fs [] n = refl
 templates_balanced fs (S.Module m es ∷ xs) n = templates_balanced fs xs n
 templates_balanced fs (S.Push ∷ xs) n = templates_balanced fs xs (suc n)
@@ -66,7 +66,7 @@ group_balanced table m arity (p ∷ ps) h =
     by true g k = (g, k)
     by false g k = k
 
-filled_balanced : (xs : List (S.Symbol Tree)) (bound : List ℤ) (ys : List (S.Symbol ℤ)) (n : ℕ) → filled xs bound ≡ Ok ys → S.balanced n ys ≡ S.balanced n xs
+pub filled_balanced : (xs : List (S.Symbol Tree)) (bound : List ℤ) (ys : List (S.Symbol ℤ)) (n : ℕ) → filled xs bound ≡ Ok ys → S.balanced n ys ≡ S.balanced n xs
 filled_balanced [] bound ys n h = let e : [] ≡ ys = cc in ap (S.balanced n) (sym e)
 filled_balanced (S.Module m ts ∷ xs) bound ys n h =
     let z = ok_parts (filled_params ts bound) _ ys h in

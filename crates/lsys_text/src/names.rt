@@ -83,6 +83,11 @@ impl Name {
         self.0
     }
 
+    /// A law of names: each has the form of one.
+    pub fn law_of_names(self)
+        ensures { IsNameBytes self }
+    {}
+
     /// The text, of one to eight bytes.
     pub fn text(self) -> ShortText
         ensures text { result ≡ self }
