@@ -1,21 +1,22 @@
 -- What undoing a change and taking one up do to the nodes and to the other changes.
-use Rattle.std.proofs.Common.{◌≡◌, ◌≤◌, ◌<◌, ◌+◌, ℕ, ℤ, zero, suc, List, [], ◌∷◌, ◌++◌, length, set, Option, Some, None, refl, sym, ap, ◌∙◌, arith, subst}
-use Rattle.std.specs.Prelude.{IfSome, IfNone, option_map, slice_get}
+use Rattle.std.proofs.Common.{◌≡◌, ◌≤◌, ◌+◌, ℕ, ℤ, zero, suc, List, [], ◌∷◌, ◌++◌, length, set, Option, Some, None, refl, sym, ap, ◌∙◌, arith, inl, inr, subst}
+use Rattle.std.proofs.lemmas.Bool.{cases_eq}
+use Rattle.std.proofs.lemmas.Option.{none-some}
+use Rattle.std.specs.Prelude.{IsSome, IfSome, IfNone, option_map, slice_get}
 use Rattle.std.specs.Option.{option_and_then}
-use Rattle.std.proofs.lemmas.List.{length-set}
-use Rattle.lsys_region.proofs.ListLemmas.{slice_get-push_old, slice_get-push_new}
 use Rattle.lsys_forest.specs.declared.node.Stored.{Stored}
 use Rattle.lsys_forest.specs.declared.note.Note.{Note}
 use Rattle.lsys_forest.specs.declared.note.Was.{Was}
 use Rattle.lsys_forest.specs.declared.note.Was.TheVariants as was
 use Rattle.lsys_forest.specs.Shelves.{Shelf}
-use Rattle.lsys_forest.specs.Slots.{slot_at, live_slots, change_slot, kind_set, key_set, answer_set, answer_before}
+use Rattle.lsys_forest.specs.Slots.{slot_at, rank_at, live_slots, kind_set, key_set, answer_set, answer_before}
 use Rattle.lsys_forest.specs.Nodes.{Node, Nodes, change, seen_as, with_seen, with_key, with_kids, with_answer}
 use Rattle.lsys_forest.specs.Changes.{KeepsKids, Before, Missing, OldSeen, OldKey, OldKids, OldAnswer, Change, undo}
 use Rattle.lsys_forest.specs.Answers.{answer_of, old_answer}
-use Rattle.lsys_forest.specs.Stocks.{row_at, first_of, before_of, params_left, kids_left, node_of, told, param_lists, kid_lists, param_count, kid_count, IsStock, UndoesParams, UndoesKids, undone_slots, slot_answer, dropped_slot, dropped, looked, DropsParams, TakesKids, noted_answer, named}
+use Rattle.lsys_forest.specs.Stocks.{row_at, where_some, first_of, before_of, params_left, kids_left, node_of, told, param_lists, kid_lists, param_count, kid_count, IsStock, UndoesParams, UndoesKids, undone_slots, undone_ranks, slot_answer, dropped_slot, dropped, looked, DropsParams, TakesKids, noted_answer, named}
 use Rattle.lsys_forest.proofs.SlotLemmas.{live_change, live_gone, slot_some}
-use Rattle.lsys_forest.proofs.StockLemmas.{get_same, get_other, change_other, change_long, shown_nodes, AgreeBut, nodes_put, told_plain, told_param, told_kid, param_count_push, kid_count_push}
+use Rattle.lsys_forest.proofs.TableLemmas.{get_set_other, get_cleared}
+use Rattle.lsys_forest.proofs.StockLemmas.{change_there, change_other, shown_nodes, lives_stored, AgreeBut, nodes_put, told_plain, told_param, told_kid, param_count_push, kid_count_push}
 
 -- a list that is not empty ends with something
 pub last_of : {X : Type 0} (xs : List X) (n : ℕ) → length xs ≡ n + 1 → (ys : List X) × (y : X) × (xs ≡ ys ++ y ∷ []) × (length ys ≡ n)
@@ -25,9 +26,9 @@ last_of {X} (x ∷ y ∷ xs) n e =
     let rest = last_of (y ∷ xs) (length xs) (omega arith) in
     (x ∷ rest.0, rest.1, ap (λ (l : List X). x ∷ l) rest.2, omega (arith, e, rest.3))
 
-option_twice : {X Y Z W : Type 0} (f : X → Y) (g : Y → Z) (f' : X → W) (g' : W → Z) → ((x : X) → g (f x) ≡ g' (f' x)) → (o : Option X) → option_map g (option_map f o) ≡ option_map g' (option_map f' o)
-option_twice f g f' g' same None = refl
-option_twice f g f' g' same (Some x) = ap Some (same x)
+option_twice : {X Y Z W : Type 0} (f : X → Y) (g : Y → Z) (f' : X → W) (g' : W → Z) → (o : Option X) → ((x : X) → o ≡ Some x → g (f x) ≡ g' (f' x)) → option_map g (option_map f o) ≡ option_map g' (option_map f' o)
+option_twice f g f' g' None same = refl
+option_twice f g f' g' (Some x) same = ap Some (same x refl)
 
 module _ {A : Type 0} where
   pub no_last : (earlier : List (Change A)) (c : Change A) → [] ≡ earlier ++ c ∷ [] → ⊥
@@ -78,48 +79,32 @@ module _ {A : Type 0} where
   family_none None n changes is told = λ c earlier were. (let t = told c earlier were in subst KeepsKids (sym t.before) (keeps_kids n.was t.params t.kids is))
   family_none (Some k) n changes is told = tt
 
-  pub undone_long : (w : Was A) (k : ℕ) (slots : List (Option (Stored A))) → length (undone_slots w k slots) ≡ length slots
-  undone_long was.Missing k slots = length-set slots k None
-  undone_long (was.Kind x) k slots = change_long (kind_set x) slots k
-  undone_long (was.Key x) k slots = change_long (key_set x) slots k
-  undone_long was.Kids k slots = refl
-  undone_long (was.Answer x) k slots = change_long (answer_set x) slots k
-
   -- one node changed, in its slot or in its lists
-  pub nodes_change : (f : Stored A → Stored A) (g : Node A → Node A) (k : ℕ) (slots slots' : List (Option (Stored A))) (params params' : List (List ℤ)) (kids kids' : List (List ℕ)) → AgreeBut k slots slots' params params' kids kids' → slot_at slots' k ≡ option_map f (slot_at slots k) → ((s : Stored A) → node_of (row_at params' k) (row_at kids' k) (f s) ≡ g (node_of (row_at params k) (row_at kids k) s)) → shown_nodes slots' params' kids' ≡ change g (shown_nodes slots params kids) k
+  pub nodes_change : (f : Stored A → Stored A) (g : Node A → Node A) (k : ℕ) (slots slots' : List (Option (Stored A))) (params params' : List (List ℤ)) (kids kids' : List (List ℕ)) → AgreeBut k slots slots' params params' kids kids' → slot_at slots' k ≡ option_map f (slot_at slots k) → ((s : Stored A) → slot_at slots k ≡ Some s → node_of (row_at params' k) (row_at kids' k) (f s) ≡ g (node_of (row_at params k) (row_at kids k) s)) → shown_nodes slots' params' kids' ≡ change g (shown_nodes slots params kids) k
   nodes_change f g k slots slots' params params' kids kids' agree here same =
       nodes_put k slots slots' params params' kids kids' (option_map g (shown_nodes slots params kids k)) agree (
       ap (option_map (node_of (row_at params' k) (row_at kids' k))) here
-      ∙ option_twice f (node_of (row_at params' k) (row_at kids' k)) (node_of (row_at params k) (row_at kids k)) g same (slot_at slots k))
-
-  pub change_there : (f : Stored A → Stored A) (slots : List (Option (Stored A))) (k : ℕ) → k < length slots → slot_at (change_slot f slots k) k ≡ option_map f (slot_at slots k)
-  change_there f slots k within = get_same slots k (option_map f (slot_at slots k)) None within
-
-  pub numbered_last : (slots : List (Option (Stored A))) (params : List (List ℤ)) (kids : List (List ℕ)) (notes : List (Note A)) (n : Note A) (past_params : List (List ℤ)) (past_kids : List (List ℕ)) → IsStock slots params kids (notes ++ n ∷ []) past_params past_kids → n.node < length slots
-  numbered_last slots params kids notes n pp pk is = is.numbered (length notes) n (slice_get-push_new notes n)
+      ∙ option_twice f (node_of (row_at params' k) (row_at kids' k)) (node_of (row_at params k) (row_at kids k)) g (slot_at slots k) same)
 
   -- a note less
-  pub IsStock-pop : (slots slots' : List (Option (Stored A))) (params params' : List (List ℤ)) (kids kids' : List (List ℕ)) (notes : List (Note A)) (n : Note A) (past_params past_params' : List (List ℤ)) (past_kids past_kids' : List (List ℕ)) → length slots' ≡ length slots → length params' ≡ length params → length kids' ≡ length kids → length past_params ≡ length past_params' + param_lists n.was → length past_kids ≡ length past_kids' + kid_lists n.was → IsStock slots params kids (notes ++ n ∷ []) past_params past_kids → IsStock slots' params' kids' notes past_params' past_kids'
-  IsStock-pop slots slots' params params' kids kids' notes n pp pp' pk pk' sl pl kl ppl pkl is = record {
-    params_long = pl ∙ is.params_long ∙ sym sl;
-    kids_long = kl ∙ is.kids_long ∙ sym sl;
+  IsStock-pop : (notes : List (Note A)) (n : Note A) (past_params past_params' : List (List ℤ)) (past_kids past_kids' : List (List ℕ)) → length past_params ≡ length past_params' + param_lists n.was → length past_kids ≡ length past_kids' + kid_lists n.was → IsStock (notes ++ n ∷ []) past_params past_kids → IsStock notes past_params' past_kids'
+  IsStock-pop notes n pp pp' pk pk' ppl pkl is = record {
     past_params_long = omega (arith, ppl, is.past_params_long, param_count_push notes n);
     past_kids_long = omega (arith, pkl, is.past_kids_long, kid_count_push notes n);
-    numbered = λ i m e. let before = is.numbered i m (slice_get-push_old notes i m n e) in omega (arith, before, sl);
   }
 
   -- the last change was undone
   pub record Undone (slots slots' : List (Option (Stored A))) (p p' : Shelf ℤ) (q q' : Shelf ℕ) (notes : List (Note A)) (k : ℕ) (w : Was A) : Type 0 where
     pub last : Change A
-    pub sound : IsStock slots' p'.current q'.current notes p'.past q'.past
+    pub sound : IsStock notes p'.past q'.past
     pub told_is : told (notes ++ record { node = k; was = w } ∷ []) p.past q.past ≡ told notes p'.past q'.past ++ last ∷ []
     pub nodes : shown_nodes slots' p'.current q'.current ≡ undo last (shown_nodes slots p.current q.current)
     pub live : live_slots slots' ≤ live_slots slots
     pub answer : dropped last (shown_nodes slots p.current q.current) ≡ dropped_slot w (slot_at slots k)
     pub param_room : p.spare ≤ p'.spare
     pub kid_room : q.spare ≤ q'.spare
-    pub param_places : (p'.places ≡ p.places) × (p'.past_places ≡ p.past_places)
-    pub kid_places : (q'.places ≡ q.places) × (q'.past_places ≡ q.past_places)
+    pub param_places : p'.past_places ≡ p.past_places
+    pub kid_places : q'.past_places ≡ q.past_places
 
   live_none : (slots : List (Option (Stored A))) (k : ℕ) → live_slots (set slots k None) ≤ live_slots slots
   live_none slots k = go (slot_at slots k) refl
@@ -141,105 +126,99 @@ module _ {A : Type 0} where
   dropped_same x p q k m None e = grind (arith, e)
   dropped_same x p q k m (Some s) e = grind (arith, e)
 
-  pub undo_done : (slots slots' : List (Option (Stored A))) (p p' : Shelf ℤ) (q q' : Shelf ℕ) (notes : List (Note A)) (k : ℕ) (w : Was A) → IsStock slots p.current q.current (notes ++ record { node = k; was = w } ∷ []) p.past q.past → slots' ≡ undone_slots w k slots → UndoesParams w k p p' → UndoesKids w k q q' → Undone slots slots' p p' q q' notes k w
+  pub undo_done : (slots slots' : List (Option (Stored A))) (p p' : Shelf ℤ) (q q' : Shelf ℕ) (notes : List (Note A)) (k : ℕ) (w : Was A) → IsStock (notes ++ record { node = k; was = w } ∷ []) p.past q.past → slots' ≡ undone_slots w k slots → UndoesParams w (slot_at slots k) k p p' → UndoesKids w (slot_at slots k) k q q' → Undone slots slots' p p' q q' notes k w
   undo_done slots slots' p p' q q' notes k was.Missing is sl pu qu =
       let n : Note A = record { node = k; was = was.Missing } in
       let pl : length p.past ≡ param_count notes = omega (arith, is.past_params_long, param_count_push notes n) in
       let ql : length q.past ≡ kid_count notes = omega (arith, is.past_kids_long, kid_count_push notes n) in
-      let pc = ap (λ (x : Shelf ℤ). x.current) pu.0 in
-      let qc = ap (λ (x : Shelf ℕ). x.current) qu.0 in
-      let pp = ap (λ (x : Shelf ℤ). x.past) pu.0 in
-      let qp = ap (λ (x : Shelf ℕ). x.past) qu.0 in
-      let within = numbered_last slots p.current q.current notes n p.past q.past is in
-      let cleared : slot_at slots' k ≡ None = ap (λ (x : List (Option (Stored A))). slot_at x k) sl ∙ get_same slots k None None within in
+      let pp = ap (λ (x : Shelf ℤ). x.past) pu.cleared in
+      let qp = ap (λ (x : Shelf ℕ). x.past) qu.cleared in
+      let cleared : slot_at slots' k ≡ None = ap (λ (x : List (Option (Stored A))). slot_at x k) sl ∙ get_cleared slots k None in
       record {
         last = record { node = k; before = Missing };
-        sound = IsStock-pop slots slots' p.current p'.current q.current q'.current notes n p.past p'.past q.past q'.past (ap length sl ∙ length-set slots k None) (ap length pc ∙ length-set p.current k []) (ap length qc ∙ length-set q.current k []) (let e = ap length pp in omega (arith, e)) (let e = ap length qp in omega (arith, e)) is;
+        sound = IsStock-pop notes n p.past p'.past q.past q'.past (let e = ap length pp in omega (arith, e)) (let e = ap length qp in omega (arith, e)) is;
         told_is = told_plain notes n p.past q.past pl ql ∙ ap (λ (x : List (List ℤ)). told notes x q.past ++ record { node = k; before = Missing } ∷ []) (sym pp) ∙ ap (λ (x : List (List ℕ)). told notes p'.past x ++ record { node = k; before = Missing } ∷ []) (sym qp);
         nodes = nodes_put k slots slots' p.current p'.current q.current q'.current None (record {
-          slots_same = λ j ne. ap (λ (x : List (Option (Stored A))). slot_at x j) sl ∙ get_other slots k j None None ne;
-          params_same = λ j ne. ap (λ (x : List (List ℤ)). row_at x j) pc ∙ get_other p.current k j [] [] ne;
-          kids_same = λ j ne. ap (λ (x : List (List ℕ)). row_at x j) qc ∙ get_other q.current k j [] [] ne;
+          slots_same = λ j ne. ap (λ (x : List (Option (Stored A))). slot_at x j) sl ∙ get_set_other slots k j None None ne;
+          params_same = pu.comes.others;
+          kids_same = qu.comes.others;
         }) (ap (option_map (node_of (row_at p'.current k) (row_at q'.current k))) cleared);
         live = let e = ap live_slots sl in omega (arith, e, live_none slots k);
         answer = answer_same (row_at p.current k) (row_at q.current k) (slot_at slots k);
-        param_room = pu.1;
-        kid_room = qu.1;
-        param_places = (ap (λ (x : Shelf ℤ). x.places) pu.0, ap (λ (x : Shelf ℤ). x.past_places) pu.0);
-        kid_places = (ap (λ (x : Shelf ℕ). x.places) qu.0, ap (λ (x : Shelf ℕ). x.past_places) qu.0);
+        param_room = let e = ap (λ (x : Shelf ℤ). x.spare) pu.cleared in omega (arith, e);
+        kid_room = let e = ap (λ (x : Shelf ℕ). x.spare) qu.cleared in omega (arith, e);
+        param_places = ap (λ (x : Shelf ℤ). x.past_places) pu.cleared;
+        kid_places = ap (λ (x : Shelf ℕ). x.past_places) qu.cleared;
       }
   undo_done slots slots' p p' q q' notes k (was.Kind x) is sl pu qu =
       let n : Note A = record { node = k; was = was.Kind x } in
       let pl : length p.past ≡ param_count notes + 1 = omega (arith, is.past_params_long, param_count_push notes n) in
       let ql : length q.past ≡ kid_count notes = omega (arith, is.past_kids_long, kid_count_push notes n) in
       let end = last_of p.past (param_count notes) pl in
-      let pr = pu end.0 end.1 end.2 in
-      let pc = ap (λ (x : Shelf ℤ). x.current) pr in
+      let restored = pu end.0 end.1 end.2 in
+      let pr = restored.1 in
       let pp = ap (λ (x : Shelf ℤ). x.past) pr in
-      let within = numbered_last slots p.current q.current notes n p.past q.past is in
-      let row : row_at p'.current k ≡ end.1 = ap (λ (x : List (List ℤ)). row_at x k) pc ∙ get_same p.current k end.1 [] (subst (λ m. k < m) (sym is.params_long) within) in
+      let row : (s : Stored A) → slot_at slots k ≡ Some s → row_at p'.current k ≡ end.1 = λ s here. restored.0.here ∙ ap (λ (o : Option (Stored A)). where_some o end.1) here in
       subst (λ (r : Shelf ℕ). Undone slots slots' p p' q r notes k (was.Kind x)) (sym qu) (record {
         last = record { node = k; before = OldSeen (seen_as x end.1) };
-        sound = IsStock-pop slots slots' p.current p'.current q.current q.current notes n p.past p'.past q.past q.past (ap length sl ∙ change_long (kind_set x) slots k) (ap length pc ∙ length-set p.current k end.1) refl (let e = ap length pp in omega (arith, e, pl, end.3)) (omega arith) is;
+        sound = IsStock-pop notes n p.past p'.past q.past q.past (let e = ap length pp in omega (arith, e, pl, end.3)) (omega arith) is;
         told_is = ap (λ (y : List (List ℤ)). told (notes ++ n ∷ []) y q.past) end.2 ∙ told_param notes n end.0 end.1 q.past end.3 ql ∙ ap (λ (y : List (List ℤ)). told notes y q.past ++ record { node = k; before = OldSeen (seen_as x end.1) } ∷ []) (sym pp);
         nodes = nodes_change (kind_set x) (with_seen (seen_as x end.1)) k slots slots' p.current p'.current q.current q.current (record {
           slots_same = λ j ne. ap (λ (y : List (Option (Stored A))). slot_at y j) sl ∙ change_other (kind_set x) slots k j ne;
-          params_same = λ j ne. ap (λ (y : List (List ℤ)). row_at y j) pc ∙ get_other p.current k j end.1 [] ne;
+          params_same = restored.0.others;
           kids_same = λ j ne. refl;
-        }) (ap (λ (y : List (Option (Stored A))). slot_at y k) sl ∙ change_there (kind_set x) slots k within) (λ s. ap (λ (y : List ℤ). node_of y (row_at q.current k) (kind_set x s)) row);
+        }) (ap (λ (y : List (Option (Stored A))). slot_at y k) sl ∙ change_there (kind_set x) slots k) (λ s here. ap (λ (y : List ℤ). node_of y (row_at q.current k) (kind_set x s)) (row s here));
         live = let e = ap live_slots sl in omega (arith, e, live_change (kind_set x) slots k);
         answer = refl;
         param_room = let e = ap (λ (y : Shelf ℤ). y.spare) pr in omega (arith, e);
         kid_room = omega arith;
-        param_places = (ap (λ (y : Shelf ℤ). y.places) pr, ap (λ (y : Shelf ℤ). y.past_places) pr);
-        kid_places = (refl, refl);
+        param_places = ap (λ (y : Shelf ℤ). y.past_places) pr;
+        kid_places = refl;
       })
   undo_done slots slots' p p' q q' notes k (was.Key x) is sl pu qu =
       let n : Note A = record { node = k; was = was.Key x } in
       let pl : length p.past ≡ param_count notes = omega (arith, is.past_params_long, param_count_push notes n) in
       let ql : length q.past ≡ kid_count notes = omega (arith, is.past_kids_long, kid_count_push notes n) in
-      let within = numbered_last slots p.current q.current notes n p.past q.past is in
       subst (λ (r : Shelf ℕ). Undone slots slots' p p' q r notes k (was.Key x)) (sym qu) (subst (λ (r : Shelf ℤ). Undone slots slots' p r q q notes k (was.Key x)) (sym pu) (record {
         last = record { node = k; before = OldKey x };
-        sound = IsStock-pop slots slots' p.current p.current q.current q.current notes n p.past p.past q.past q.past (ap length sl ∙ change_long (key_set x) slots k) refl refl (omega arith) (omega arith) is;
+        sound = IsStock-pop notes n p.past p.past q.past q.past (omega arith) (omega arith) is;
         told_is = told_plain notes n p.past q.past pl ql;
         nodes = nodes_change (key_set x) (with_key x) k slots slots' p.current p.current q.current q.current (record {
           slots_same = λ j ne. ap (λ (y : List (Option (Stored A))). slot_at y j) sl ∙ change_other (key_set x) slots k j ne;
           params_same = λ j ne. refl;
           kids_same = λ j ne. refl;
-        }) (ap (λ (y : List (Option (Stored A))). slot_at y k) sl ∙ change_there (key_set x) slots k within) (λ s. refl);
+        }) (ap (λ (y : List (Option (Stored A))). slot_at y k) sl ∙ change_there (key_set x) slots k) (λ s here. refl);
         live = let e = ap live_slots sl in omega (arith, e, live_change (key_set x) slots k);
         answer = refl;
         param_room = omega arith;
         kid_room = omega arith;
-        param_places = (refl, refl);
-        kid_places = (refl, refl);
+        param_places = refl;
+        kid_places = refl;
       }))
   undo_done slots slots' p p' q q' notes k was.Kids is sl pu qu =
       let n : Note A = record { node = k; was = was.Kids } in
       let pl : length p.past ≡ param_count notes = omega (arith, is.past_params_long, param_count_push notes n) in
       let ql : length q.past ≡ kid_count notes + 1 = omega (arith, is.past_kids_long, kid_count_push notes n) in
       let end = last_of q.past (kid_count notes) ql in
-      let qr = qu end.0 end.1 end.2 in
-      let qc = ap (λ (x : Shelf ℕ). x.current) qr in
+      let restored = qu end.0 end.1 end.2 in
+      let qr = restored.1 in
       let qp = ap (λ (x : Shelf ℕ). x.past) qr in
-      let within = numbered_last slots p.current q.current notes n p.past q.past is in
-      let row : row_at q'.current k ≡ end.1 = ap (λ (x : List (List ℕ)). row_at x k) qc ∙ get_same q.current k end.1 [] (subst (λ m. k < m) (sym is.kids_long) within) in
+      let row : (s : Stored A) → slot_at slots k ≡ Some s → row_at q'.current k ≡ end.1 = λ s here. restored.0.here ∙ ap (λ (o : Option (Stored A)). where_some o end.1) here in
       subst (λ (r : Shelf ℤ). Undone slots slots' p r q q' notes k was.Kids) (sym pu) (record {
         last = record { node = k; before = OldKids end.1 };
-        sound = IsStock-pop slots slots' p.current p.current q.current q'.current notes n p.past p.past q.past q'.past (ap length sl) refl (ap length qc ∙ length-set q.current k end.1) (omega arith) (let e = ap length qp in omega (arith, e, ql, end.3)) is;
+        sound = IsStock-pop notes n p.past p.past q.past q'.past (omega arith) (let e = ap length qp in omega (arith, e, ql, end.3)) is;
         told_is = ap (told (notes ++ n ∷ []) p.past) end.2 ∙ told_kid notes n p.past end.0 end.1 pl end.3 ∙ ap (λ (y : List (List ℕ)). told notes p.past y ++ record { node = k; before = OldKids end.1 } ∷ []) (sym qp);
         nodes = nodes_change (λ s. s) (with_kids end.1) k slots slots' p.current p.current q.current q'.current (record {
           slots_same = λ j ne. ap (λ (y : List (Option (Stored A))). slot_at y j) sl;
           params_same = λ j ne. refl;
-          kids_same = λ j ne. ap (λ (y : List (List ℕ)). row_at y j) qc ∙ get_other q.current k j end.1 [] ne;
-        }) (ap (λ (y : List (Option (Stored A))). slot_at y k) sl ∙ itself (slot_at slots k)) (λ s. ap (λ (y : List ℕ). node_of (row_at p.current k) y s) row);
+          kids_same = restored.0.others;
+        }) (ap (λ (y : List (Option (Stored A))). slot_at y k) sl ∙ itself (slot_at slots k)) (λ s here. ap (λ (y : List ℕ). node_of (row_at p.current k) y s) (row s here));
         live = let e = ap live_slots sl in omega (arith, e);
         answer = refl;
         param_room = omega arith;
         kid_room = let e = ap (λ (y : Shelf ℕ). y.spare) qr in omega (arith, e);
-        param_places = (refl, refl);
-        kid_places = (ap (λ (y : Shelf ℕ). y.places) qr, ap (λ (y : Shelf ℕ). y.past_places) qr);
+        param_places = refl;
+        kid_places = ap (λ (y : Shelf ℕ). y.past_places) qr;
       })
     where
       itself : (o : Option (Stored A)) → o ≡ option_map (λ (s : Stored A). s) o
@@ -249,40 +228,52 @@ module _ {A : Type 0} where
       let n : Note A = record { node = k; was = was.Answer x } in
       let pl : length p.past ≡ param_count notes = omega (arith, is.past_params_long, param_count_push notes n) in
       let ql : length q.past ≡ kid_count notes = omega (arith, is.past_kids_long, kid_count_push notes n) in
-      let within = numbered_last slots p.current q.current notes n p.past q.past is in
       subst (λ (r : Shelf ℕ). Undone slots slots' p p' q r notes k (was.Answer x)) (sym qu) (subst (λ (r : Shelf ℤ). Undone slots slots' p r q q notes k (was.Answer x)) (sym pu) (record {
         last = record { node = k; before = OldAnswer x };
-        sound = IsStock-pop slots slots' p.current p.current q.current q.current notes n p.past p.past q.past q.past (ap length sl ∙ change_long (answer_set x) slots k) refl refl (omega arith) (omega arith) is;
+        sound = IsStock-pop notes n p.past p.past q.past q.past (omega arith) (omega arith) is;
         told_is = told_plain notes n p.past q.past pl ql;
         nodes = nodes_change (answer_set x) (with_answer x) k slots slots' p.current p.current q.current q.current (record {
           slots_same = λ j ne. ap (λ (y : List (Option (Stored A))). slot_at y j) sl ∙ change_other (answer_set x) slots k j ne;
           params_same = λ j ne. refl;
           kids_same = λ j ne. refl;
-        }) (ap (λ (y : List (Option (Stored A))). slot_at y k) sl ∙ change_there (answer_set x) slots k within) (λ s. refl);
+        }) (ap (λ (y : List (Option (Stored A))). slot_at y k) sl ∙ change_there (answer_set x) slots k) (λ s here. refl);
         live = let e = ap live_slots sl in omega (arith, e, live_change (answer_set x) slots k);
         answer = dropped_same x (row_at p.current k) (row_at q.current k) k (shown_nodes slots p.current q.current) (slot_at slots k) refl;
         param_room = omega arith;
         kid_room = omega arith;
-        param_places = (refl, refl);
-        kid_places = (refl, refl);
+        param_places = refl;
+        kid_places = refl;
       }))
 
+  -- each node that lives then has its rank still
+  pub undone_kept : (slots slots' : List (Option (Stored A))) (params : List (List ℤ)) (kids : List (List ℕ)) (ranks ranks' : List ℕ) (k : ℕ) (w : Was A) → slots' ≡ undone_slots w k slots → ranks' ≡ undone_ranks w k ranks → (j : ℕ) → IsSome (shown_nodes slots' params kids j) → rank_at ranks' j ≡ rank_at ranks j
+  undone_kept slots slots' params kids ranks ranks' k was.Missing sl rl j lives = elim (cases_eq j k) [
+    | inl e ↦
+        let s = lives_stored slots' params kids j lives in
+        absurd (none-some s.0 (sym (ap (λ (x : List (Option (Stored A))). slot_at x j) sl ∙ ap (slot_at (set slots k None)) e ∙ get_cleared slots k None) ∙ s.1))
+    | inr ne ↦ ap (λ r. rank_at r j) rl ∙ get_set_other ranks k j 0 0 ne
+  ]
+  undone_kept slots slots' params kids ranks ranks' k (was.Kind x) sl rl j lives = ap (λ r. rank_at r j) rl
+  undone_kept slots slots' params kids ranks ranks' k (was.Key x) sl rl j lives = ap (λ r. rank_at r j) rl
+  undone_kept slots slots' params kids ranks ranks' k was.Kids sl rl j lives = ap (λ r. rank_at r j) rl
+  undone_kept slots slots' params kids ranks ranks' k (was.Answer x) sl rl j lives = ap (λ r. rank_at r j) rl
+
   -- the last change was taken up
-  pub record Taken (slots : List (Option (Stored A))) (p p' : Shelf ℤ) (q q' : Shelf ℕ) (notes : List (Note A)) (k : ℕ) (w : Was A) : Type 0 where
+  pub record Taken (p p' : Shelf ℤ) (q q' : Shelf ℕ) (notes : List (Note A)) (k : ℕ) (w : Was A) : Type 0 where
     pub last : Change A
-    pub sound : IsStock slots p'.current q'.current notes p'.past q'.past
+    pub sound : IsStock notes p'.past q'.past
     pub told_is : told (notes ++ record { node = k; was = w } ∷ []) p.past q.past ≡ told notes p'.past q'.past ++ last ∷ []
     pub params : p'.current ≡ p.current
     pub kids : q'.current ≡ q.current
     pub looks : named w k q'.hand ≡ looked last
     pub answer : old_answer last ≡ noted_answer w
     pub rooms : (p'.spare ≡ p.spare) × (q'.spare ≡ q.spare)
-    pub param_places : (p'.places ≡ p.places) × (p'.past_places ≡ p.past_places)
-    pub kid_places : (q'.places ≡ q.places) × (q'.past_places ≡ q.past_places)
+    pub param_places : p'.past_places ≡ p.past_places
+    pub kid_places : q'.past_places ≡ q.past_places
 
   -- a note without a list
-  take_plain : (slots : List (Option (Stored A))) (p p' : Shelf ℤ) (q q' : Shelf ℕ) (notes : List (Note A)) (k : ℕ) (w : Was A) (b : Before A) → param_lists w ≡ 0 → kid_lists w ≡ 0 → ((p : List (List ℤ)) (q : List (List ℕ)) → length p ≡ param_count notes → length q ≡ kid_count notes → told (notes ++ record { node = k; was = w } ∷ []) p q ≡ told notes p q ++ record { node = k; before = b } ∷ []) → named w k q'.hand ≡ looked (record { node = k; before = b }) → old_answer (record { node = k; before = b }) ≡ noted_answer w → IsStock slots p.current q.current (notes ++ record { node = k; was = w } ∷ []) p.past q.past → p' ≡ p → q' ≡ q → Taken slots p p' q q' notes k w
-  take_plain slots p p' q q' notes k w b p0 q0 plain looks answer is pu qu =
+  take_plain : (p p' : Shelf ℤ) (q q' : Shelf ℕ) (notes : List (Note A)) (k : ℕ) (w : Was A) (b : Before A) → param_lists w ≡ 0 → kid_lists w ≡ 0 → ((p : List (List ℤ)) (q : List (List ℕ)) → length p ≡ param_count notes → length q ≡ kid_count notes → told (notes ++ record { node = k; was = w } ∷ []) p q ≡ told notes p q ++ record { node = k; before = b } ∷ []) → named w k q'.hand ≡ looked (record { node = k; before = b }) → old_answer (record { node = k; before = b }) ≡ noted_answer w → IsStock (notes ++ record { node = k; was = w } ∷ []) p.past q.past → p' ≡ p → q' ≡ q → Taken p p' q q' notes k w
+  take_plain p p' q q' notes k w b p0 q0 plain looks answer is pu qu =
       let n : Note A = record { node = k; was = w } in
       let pl : length p.past ≡ param_count notes = omega (arith, is.past_params_long, param_count_push notes n, p0) in
       let ql : length q.past ≡ kid_count notes = omega (arith, is.past_kids_long, kid_count_push notes n, q0) in
@@ -290,22 +281,22 @@ module _ {A : Type 0} where
       let qp = ap (λ (x : Shelf ℕ). x.past) qu in
       record {
         last = record { node = k; before = b };
-        sound = IsStock-pop slots slots p.current p'.current q.current q'.current notes n p.past p'.past q.past q'.past refl (ap (λ (x : Shelf ℤ). length x.current) pu) (ap (λ (x : Shelf ℕ). length x.current) qu) (let e = ap length pp in omega (arith, e, p0)) (let e = ap length qp in omega (arith, e, q0)) is;
+        sound = IsStock-pop notes n p.past p'.past q.past q'.past (let e = ap length pp in omega (arith, e, p0)) (let e = ap length qp in omega (arith, e, q0)) is;
         told_is = plain p.past q.past pl ql ∙ ap (λ (x : List (List ℤ)). told notes x q.past ++ record { node = k; before = b } ∷ []) (sym pp) ∙ ap (λ (x : List (List ℕ)). told notes p'.past x ++ record { node = k; before = b } ∷ []) (sym qp);
         params = ap (λ (x : Shelf ℤ). x.current) pu;
         kids = ap (λ (x : Shelf ℕ). x.current) qu;
         looks = looks;
         answer = answer;
         rooms = (ap (λ (x : Shelf ℤ). x.spare) pu, ap (λ (x : Shelf ℕ). x.spare) qu);
-        param_places = (ap (λ (x : Shelf ℤ). x.places) pu, ap (λ (x : Shelf ℤ). x.past_places) pu);
-        kid_places = (ap (λ (x : Shelf ℕ). x.places) qu, ap (λ (x : Shelf ℕ). x.past_places) qu);
+        param_places = ap (λ (x : Shelf ℤ). x.past_places) pu;
+        kid_places = ap (λ (x : Shelf ℕ). x.past_places) qu;
       }
 
-  pub take_done : (slots : List (Option (Stored A))) (p p' : Shelf ℤ) (q q' : Shelf ℕ) (notes : List (Note A)) (k : ℕ) (w : Was A) → IsStock slots p.current q.current (notes ++ record { node = k; was = w } ∷ []) p.past q.past → DropsParams w p p' → TakesKids w q q' → Taken slots p p' q q' notes k w
-  take_done slots p p' q q' notes k was.Missing is pu qu = take_plain slots p p' q q' notes k was.Missing Missing refl refl (told_plain notes (record { node = k; was = was.Missing })) refl refl is pu qu
-  take_done slots p p' q q' notes k (was.Key x) is pu qu = take_plain slots p p' q q' notes k (was.Key x) (OldKey x) refl refl (told_plain notes (record { node = k; was = was.Key x })) refl refl is pu qu
-  take_done slots p p' q q' notes k (was.Answer x) is pu qu = take_plain slots p p' q q' notes k (was.Answer x) (OldAnswer x) refl refl (told_plain notes (record { node = k; was = was.Answer x })) refl refl is pu qu
-  take_done slots p p' q q' notes k (was.Kind x) is pu qu =
+  pub take_done : (p p' : Shelf ℤ) (q q' : Shelf ℕ) (notes : List (Note A)) (k : ℕ) (w : Was A) → IsStock (notes ++ record { node = k; was = w } ∷ []) p.past q.past → DropsParams w p p' → TakesKids w q q' → Taken p p' q q' notes k w
+  take_done p p' q q' notes k was.Missing is pu qu = take_plain p p' q q' notes k was.Missing Missing refl refl (told_plain notes (record { node = k; was = was.Missing })) refl refl is pu qu
+  take_done p p' q q' notes k (was.Key x) is pu qu = take_plain p p' q q' notes k (was.Key x) (OldKey x) refl refl (told_plain notes (record { node = k; was = was.Key x })) refl refl is pu qu
+  take_done p p' q q' notes k (was.Answer x) is pu qu = take_plain p p' q q' notes k (was.Answer x) (OldAnswer x) refl refl (told_plain notes (record { node = k; was = was.Answer x })) refl refl is pu qu
+  take_done p p' q q' notes k (was.Kind x) is pu qu =
       let n : Note A = record { node = k; was = was.Kind x } in
       let pl : length p.past ≡ param_count notes + 1 = omega (arith, is.past_params_long, param_count_push notes n) in
       let ql : length q.past ≡ kid_count notes = omega (arith, is.past_kids_long, kid_count_push notes n) in
@@ -315,17 +306,17 @@ module _ {A : Type 0} where
       let qp = ap (λ (x : Shelf ℕ). x.past) qu in
       record {
         last = record { node = k; before = OldSeen (seen_as x end.1) };
-        sound = IsStock-pop slots slots p.current p'.current q.current q'.current notes n p.past p'.past q.past q'.past refl (ap (λ (x : Shelf ℤ). length x.current) pr) (ap (λ (x : Shelf ℕ). length x.current) qu) (let e = ap length pp in omega (arith, e, pl, end.3)) (let e = ap length qp in omega (arith, e)) is;
+        sound = IsStock-pop notes n p.past p'.past q.past q'.past (let e = ap length pp in omega (arith, e, pl, end.3)) (let e = ap length qp in omega (arith, e)) is;
         told_is = ap (λ (y : List (List ℤ)). told (notes ++ n ∷ []) y q.past) end.2 ∙ told_param notes n end.0 end.1 q.past end.3 ql ∙ ap (λ (y : List (List ℤ)). told notes y q.past ++ record { node = k; before = OldSeen (seen_as x end.1) } ∷ []) (sym pp) ∙ ap (λ (y : List (List ℕ)). told notes p'.past y ++ record { node = k; before = OldSeen (seen_as x end.1) } ∷ []) (sym qp);
         params = ap (λ (x : Shelf ℤ). x.current) pr;
         kids = ap (λ (x : Shelf ℕ). x.current) qu;
         looks = refl;
         answer = refl;
         rooms = (ap (λ (x : Shelf ℤ). x.spare) pr, ap (λ (x : Shelf ℕ). x.spare) qu);
-        param_places = (ap (λ (x : Shelf ℤ). x.places) pr, ap (λ (x : Shelf ℤ). x.past_places) pr);
-        kid_places = (ap (λ (x : Shelf ℕ). x.places) qu, ap (λ (x : Shelf ℕ). x.past_places) qu);
+        param_places = ap (λ (x : Shelf ℤ). x.past_places) pr;
+        kid_places = ap (λ (x : Shelf ℕ). x.past_places) qu;
       }
-  take_done slots p p' q q' notes k was.Kids is pu qu =
+  take_done p p' q q' notes k was.Kids is pu qu =
       let n : Note A = record { node = k; was = was.Kids } in
       let pl : length p.past ≡ param_count notes = omega (arith, is.past_params_long, param_count_push notes n) in
       let ql : length q.past ≡ kid_count notes + 1 = omega (arith, is.past_kids_long, kid_count_push notes n) in
@@ -335,15 +326,15 @@ module _ {A : Type 0} where
       let qp = ap (λ (x : Shelf ℕ). x.past) qr in
       record {
         last = record { node = k; before = OldKids end.1 };
-        sound = IsStock-pop slots slots p.current p'.current q.current q'.current notes n p.past p'.past q.past q'.past refl (ap (λ (x : Shelf ℤ). length x.current) pu) (ap (λ (x : Shelf ℕ). length x.current) qr) (let e = ap length pp in omega (arith, e)) (let e = ap length qp in omega (arith, e, ql, end.3)) is;
+        sound = IsStock-pop notes n p.past p'.past q.past q'.past (let e = ap length pp in omega (arith, e)) (let e = ap length qp in omega (arith, e, ql, end.3)) is;
         told_is = ap (told (notes ++ n ∷ []) p.past) end.2 ∙ told_kid notes n p.past end.0 end.1 pl end.3 ∙ ap (λ (y : List (List ℤ)). told notes y end.0 ++ record { node = k; before = OldKids end.1 } ∷ []) (sym pp) ∙ ap (λ (y : List (List ℕ)). told notes p'.past y ++ record { node = k; before = OldKids end.1 } ∷ []) (sym qp);
         params = ap (λ (x : Shelf ℤ). x.current) pu;
         kids = ap (λ (x : Shelf ℕ). x.current) qr;
         looks = ap (λ (x : Shelf ℕ). x.hand) qr;
         answer = refl;
         rooms = (ap (λ (x : Shelf ℤ). x.spare) pu, ap (λ (x : Shelf ℕ). x.spare) qr);
-        param_places = (ap (λ (x : Shelf ℤ). x.places) pu, ap (λ (x : Shelf ℤ). x.past_places) pu);
-        kid_places = (ap (λ (x : Shelf ℕ). x.places) qr, ap (λ (x : Shelf ℕ). x.past_places) qr);
+        param_places = ap (λ (x : Shelf ℤ). x.past_places) pu;
+        kid_places = ap (λ (x : Shelf ℕ). x.past_places) qr;
       }
 
   -- the last change, before it is undone or taken up
@@ -354,7 +345,7 @@ module _ {A : Type 0} where
     pub answer : dropped last (shown_nodes slots p.current q.current) ≡ dropped_slot w (slot_at slots k)
     pub noted : old_answer last ≡ noted_answer w
 
-  pub last_undone : (slots : List (Option (Stored A))) (p : Shelf ℤ) (q : Shelf ℕ) (notes : List (Note A)) (k : ℕ) (w : Was A) → IsStock slots p.current q.current (notes ++ record { node = k; was = w } ∷ []) p.past q.past → Last slots p q notes k w
+  pub last_undone : (slots : List (Option (Stored A))) (p : Shelf ℤ) (q : Shelf ℕ) (notes : List (Note A)) (k : ℕ) (w : Was A) → IsStock (notes ++ record { node = k; was = w } ∷ []) p.past q.past → Last slots p q notes k w
   last_undone slots p q notes k was.Missing is =
       let n : Note A = record { node = k; was = was.Missing } in
       record {

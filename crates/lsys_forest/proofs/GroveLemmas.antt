@@ -26,6 +26,7 @@ module _ {A : Type 0} where
             (subst (λ (m : Nodes A). IsSound root (changes_of new) m) (sym j.nodes) (subst (λ (cs : List (Change A)). IsSound root cs (put (nodes_of old) k (Some n))) (sym j.noted) (set_sound root (changes_of old) c (nodes_of old) k was n set (sound_now grove)))) grove.sound;
         nodes_left = omega (arith, j.live, j.capacity, grove.nodes_left);
         numbers = omega (arith, j.live, grove.numbers);
+        fit = λ some. (let f = grove.fit some in omega (arith, f, j.capacity));
         places_left = omega (arith, j.live, j.notes, j.places, fewer, grove.places_left);
       }
 
@@ -46,14 +47,16 @@ module _ {A : Type 0} where
             (subst (λ (m : Nodes A). IsSound root (changes_of new) m) (sym j.nodes) (subst (λ (cs : List (Change A)). IsSound root cs (put (nodes_of old) k (Some n))) (sym j.noted) (IsSound-add root (changes_of old) c (nodes_of old) k n parent vacant is depth none few (inl refl) (sound_now grove)))) grove.sound;
         nodes_left = omega (arith, j.live, j.capacity, fewer, grove.nodes_left);
         numbers = omega (arith, j.live, fewer, grove.numbers);
+        fit = λ some. (let f = grove.fit (omega (arith, some, fewer)) in omega (arith, f, j.capacity));
         places_left = omega (arith, j.live, j.notes, j.places, fewer, lower, grove.places_left);
       }
 
-  pub IsGrove-room : (old new : Stock A) (root nodes notes more more' : ℕ) → nodes_of new ≡ nodes_of old → changes_of new ≡ changes_of old → length new.notes ≡ length old.notes → live_slots new.slots ≡ live_slots old.slots → live_slots new.slots + more ≤ new.capacity → live_slots new.slots + more < 2 ^ 32 → length new.notes + live_slots new.slots + more + more' ≤ new.places → IsGrove old root nodes notes → IsGrove new root more more'
-  IsGrove-room old new root nodes notes more more' same kept long live cap numbers places grove = record {
+  pub IsGrove-room : (old new : Stock A) (root nodes notes more more' : ℕ) → nodes_of new ≡ nodes_of old → changes_of new ≡ changes_of old → length new.notes ≡ length old.notes → live_slots new.slots ≡ live_slots old.slots → live_slots new.slots + more ≤ new.capacity → live_slots new.slots + more < 2 ^ 32 → (0 < more → new.capacity ≤ 2 ^ 32) → length new.notes + live_slots new.slots + more + more' ≤ new.places → IsGrove old root nodes notes → IsGrove new root more more'
+  IsGrove-room old new root nodes notes more more' same kept long live cap numbers fit places grove = record {
     sound = subst (λ (m : Nodes A). AreSound root (changes_of new) m) (sym same) (subst (λ (cs : List (Change A)). AreSound root cs (nodes_of old)) (sym kept) grove.sound);
     nodes_left = cap;
     numbers = numbers;
+    fit = fit;
     places_left = places;
   }
 
@@ -63,6 +66,7 @@ module _ {A : Type 0} where
     sound = subst (λ (cs : List (Change A)). AreSound root cs (nodes_of new)) (sym none) (AreSound-rest root (nodes_of new) sound);
     nodes_left = omega (arith, live, room.capacity, grove.nodes_left);
     numbers = omega (arith, live, grove.numbers);
+    fit = λ some. (let f = grove.fit some in omega (arith, f, room.capacity));
     places_left = omega (arith, live, short, room.places, grove.places_left);
   }
 

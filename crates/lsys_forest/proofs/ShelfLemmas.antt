@@ -1,14 +1,17 @@
 -- Runs stay owned while lists are placed, handed over and freed.
-use Rattle.std.proofs.Common.{◌≡◌, ◌≢◌, ◌⊎◌, ◌≤◌, ◌<◌, ℕ, suc, List, [], ◌∷◌, ◌++◌, length, map, set, slice_get, Option, Some, None, refl, sym, ap, ◌∙◌, arith, inl, inr, subst}
-use Rattle.std.specs.Prelude.{IsSome, IfSome, get_or}
+use Rattle.std.proofs.Common.{◌≡◌, ◌≢◌, ◌⊎◌, ◌≤◌, ◌+◌, ℕ, suc, List, [], ◌∷◌, ◌++◌, length, map, set, slice_get, Option, Some, None, refl, sym, ap, ap₂, ◌∙◌, arith, inl, inr, subst}
+use Rattle.std.specs.Prelude.{IsSome, IfSome}
 use Rattle.std.specs.Option.{unwrap_or, option_and_then, option_map}
 use Rattle.std.proofs.lemmas.Bool.{cases_eq}
-use Rattle.std.proofs.lemmas.List.{map-set, map_push, same_from_push, length-map}
-use Rattle.std.proofs.lemmas.Option.{none-some, same_Some, get_or_from_slice_get, slice_get-map, slice_get_read}
-use Rattle.lsys_region.specs.Rooms.{room_of}
+use Rattle.std.proofs.lemmas.List.{map_push, same_from_push}
+use Rattle.std.proofs.lemmas.Option.{none-some, same_Some}
+use Rattle.lsys_region.specs.Rooms.{room_of, list_room}
 use Rattle.lsys_region.specs.Pool.{Pool, Slot, list_of, list_at, IsLive, IsFresh, OthersStay, empty_pool}
-use Rattle.lsys_region.proofs.ListLemmas.{slice_get-set_other, slice_get-set_same, slice_get-push_new, slice_get-push_other}
-use Rattle.lsys_forest.specs.Shelves.{Shelf, Holder, Caller, Hand, Number, Past, held, shown, AreOwned}
+use Rattle.lsys_region.proofs.ListLemmas.{slice_get-push_new, slice_get-push_other}
+use Rattle.lsys_forest.specs.Shelves.{Hoard, Holder, Caller, Hand, Number, Past, run_at, held, shown, shelf_of, AreOwned, IsOwner, IsPlaced, IsFreed}
+use Rattle.lsys_forest.specs.Slots.{change_run, run_before, run_after}
+use Rattle.lsys_forest.specs.Stocks.{row_at, where_some, ComesTo, Clears, Restores, Adds, DropsLast, TakesLastUp, PutsDown, Swaps}
+use Rattle.lsys_forest.proofs.TableLemmas.{part_at, get_set_other, get_cleared}
 
 -- 1. holders
 
@@ -56,7 +59,7 @@ record Owns {T : Type 0} (pool : Pool T) (holds : Runs) : Type 0 where
   pub all : (n : ℕ) → IsLive pool (Some n) → (h : Holder) × (holds h ≡ Some (Some n))
 
 -- two holders swap what they hold
-record Swaps (holds new : Runs) (a b : Holder) : Type 0 where
+record Trades (holds new : Runs) (a b : Holder) : Type 0 where
   pub first : new a ≡ holds b
   pub second : new b ≡ holds a
   pub others : (h : Holder) → h ≢ a → h ≢ b → new h ≡ holds h
@@ -67,7 +70,7 @@ data Was (a b : Holder) (h i : Holder) : Type 0 where
   FromFirst : h ≡ b → i ≡ a → Was a b h i
   Itself : h ≢ a → h ≢ b → i ≡ h → Was a b h i
 
-was : (holds new : Runs) (a b : Holder) → Swaps holds new a b → (h : Holder) → (i : Holder) × Was a b h i × (new h ≡ holds i)
+was : (holds new : Runs) (a b : Holder) → Trades holds new a b → (h : Holder) → (i : Holder) × Was a b h i × (new h ≡ holds i)
 was holds new a b s h = elim (same_holder h a) [
   | inl e ↦ (b, FromSecond e refl, ap new e ∙ s.first)
   | inr na ↦ elim (same_holder h b) [
@@ -87,7 +90,7 @@ was_once a b h h' i (Itself p q r) (FromSecond s t) = absurd (q (sym r ∙ t))
 was_once a b h h' i (Itself p q r) (FromFirst s t) = absurd (p (sym r ∙ t))
 was_once a b h h' i (Itself p q r) (Itself s t u) = sym r ∙ u
 
-swaps_back : (holds new : Runs) (a b : Holder) → Swaps holds new a b → Swaps new holds a b
+swaps_back : (holds new : Runs) (a b : Holder) → Trades holds new a b → Trades new holds a b
 swaps_back holds new a b s = record { first = sym s.second; second = sym s.first; others = λ h na nb. sym (s.others h na nb) }
 
 full : (r : Option ℕ) → Some r ≢ None
@@ -106,8 +109,18 @@ past_end : (xs : List (Option ℕ)) → slice_get xs (length xs) ≡ None
 past_end [] = refl
 past_end (x ∷ xs) = past_end xs
 
+-- the runs at other numbers, where one was given to a number
+pub others_swapped : {X : Type 0} (there : Option X) (now now' : List (Option ℕ)) (run : Option ℕ) (k j : ℕ) → now' ≡ change_run there now k run → j ≢ k → run_at now' j ≡ run_at now j
+others_swapped None now now' run k j changed ne = ap (λ n. run_at n j) changed
+others_swapped (Some x) now now' run k j changed ne = ap (λ n. run_at n j) changed ∙ get_set_other now k j run None ne
+
+-- the run of a node that lives
+pub run_is : {X : Type 0} (o : Option X) (r run : Option ℕ) → Some run ≡ option_map (λ s. r) o → run ≡ r
+run_is None r run e = absurd (none-some run (sym e))
+run_is (Some s) r run e = same_Some run r e
+
 module _ {T : Type 0} where
-  swapped : (pool : Pool T) (holds new : Runs) (a b : Holder) → Swaps holds new a b → Owns pool holds → Owns pool new
+  swapped : (pool : Pool T) (holds new : Runs) (a b : Holder) → Trades holds new a b → Owns pool holds → Owns pool new
   swapped pool holds new a b s owns = record {
     live = λ h run e. let w = was holds new a b s h in owns.live w.0 run (sym w.2 ∙ e);
     once = λ h i n e f.
@@ -213,9 +226,9 @@ module _ {T : Type 0} where
   owned_by : (pool : Pool T) (now past : List (Option ℕ)) (hand : Option ℕ) (caller : Option (Option ℕ)) → Owns pool (held now past hand caller) → AreOwned pool now past hand caller
   owned_by pool now past hand caller owns = record { live = owns.live; once = owns.once; all = owns.all }
 
-  -- every list shows as it did
+  -- each list that is held shows as it did
   pub record Shows (old new : Pool T) (now past : List (Option ℕ)) (hand : Option ℕ) : Type 0 where
-    pub current : map (shown new) now ≡ map (shown old) now
+    pub rows : (k : ℕ) → shown new (run_at now k) ≡ shown old (run_at now k)
     pub behind : map (shown new) past ≡ map (shown old) past
     pub here : shown new hand ≡ shown old hand
 
@@ -227,7 +240,7 @@ module _ {T : Type 0} where
 
   shows : (old new : Pool T) (now past : List (Option ℕ)) (hand : Option ℕ) (caller : Option (Option ℕ)) → Keeps old new (held now past hand caller) → Shows old new now past hand
   shows old new now past hand caller keeps = record {
-    current = map_same old new now (λ k run e. keeps.same (Number k) run e);
+    rows = λ k. ap (λ (o : Option (List T)). unwrap_or o []) (keeps.same (Number k) (run_at now k) refl);
     behind = map_same old new past (λ k run e. keeps.same (Past k) run e);
     here = ap (λ (o : Option (List T)). unwrap_or o []) (keeps.same Hand hand refl);
   }
@@ -250,23 +263,47 @@ module _ {T : Type 0} where
   Shows-freed old new now past hand run stay owned =
       shows old new now past hand None (freed_keeps old new (held now past hand (Some run)) (held now past hand None) run refl refl (same_but_caller now past hand (Some run) None) stay (AreOwned-by old now past hand (Some run) owned))
 
-  handed : (pool : Pool T) (now past now' past' : List (Option ℕ)) (hand hand' : Option ℕ) (caller caller' : Option (Option ℕ)) (a b : Holder) → Swaps (held now past hand caller) (held now' past' hand' caller') a b → AreOwned pool now past hand caller → AreOwned pool now' past' hand' caller'
+  handed : (pool : Pool T) (now past now' past' : List (Option ℕ)) (hand hand' : Option ℕ) (caller caller' : Option (Option ℕ)) (a b : Holder) → Trades (held now past hand caller) (held now' past' hand' caller') a b → AreOwned pool now past hand caller → AreOwned pool now' past' hand' caller'
   handed pool now past now' past' hand hand' caller caller' a b swaps owned =
       owned_by pool now' past' hand' caller' (swapped pool (held now past hand caller) (held now' past' hand' caller') a b swaps (AreOwned-by pool now past hand caller owned))
 
   -- the caller's run and that of a number change places
-  pub AreOwned-number : (pool : Pool T) (now past : List (Option ℕ)) (hand run before : Option ℕ) (k : ℕ) → slice_get now k ≡ Some before → AreOwned pool now past hand (Some run) → AreOwned pool (set now k run) past hand (Some before)
-  AreOwned-number pool now past hand run before k is owned = handed pool now past (set now k run) past hand hand (Some run) (Some before) Caller (Number k) (record {
-    first = sym is;
-    second = slice_get-set_same now k before run is;
+  pub AreOwned-number : (pool : Pool T) (now now' past : List (Option ℕ)) (hand run before : Option ℕ) (k : ℕ) → run_at now k ≡ before → run_at now' k ≡ run → ((j : ℕ) → j ≢ k → run_at now' j ≡ run_at now j) → AreOwned pool now past hand (Some run) → AreOwned pool now' past hand (Some before)
+  AreOwned-number pool now now' past hand run before k was is rest owned = handed pool now past now' past hand hand (Some run) (Some before) Caller (Number k) (record {
+    first = ap Some (sym was);
+    second = ap Some is;
     others = go;
   }) owned
     where
-      go : (h : Holder) → h ≢ Caller → h ≢ Number k → held (set now k run) past hand (Some before) h ≡ held now past hand (Some run) h
+      go : (h : Holder) → h ≢ Caller → h ≢ Number k → held now' past hand (Some before) h ≡ held now past hand (Some run) h
       go Caller ne nk = absurd (ne refl)
       go Hand ne nk = refl
-      go (Number j) ne nk = slice_get-set_other now k j run (λ e. nk (ap Number e))
+      go (Number j) ne nk = ap Some (rest j (λ e. nk (ap Number e)))
       go (Past j) ne nk = refl
+
+  -- a caller that holds the empty list's run may as well hold none
+  pub holds_none : (pool : Pool T) (now past : List (Option ℕ)) (hand : Option ℕ) → AreOwned pool now past hand None → AreOwned pool now past hand (Some None)
+  holds_none pool now past hand owned = record {
+    live = λ h run e. elim (same_holder h Caller) [
+      | inl c ↦ subst (IsLive pool) (same_Some None run (ap (held now past hand (Some None)) (sym c) ∙ e)) refl
+      | inr ne ↦ owned.live h run (same_but_caller now past hand (Some None) None h ne ∙ e)
+    ];
+    once = λ h i n e f. owned.once h i n (other h n e) (other i n f);
+    all = λ n live. let h = owned.all n live in (h.0, sym (same_but_caller now past hand (Some None) None h.0 (λ c. none-some (Some n) (ap (held now past hand None) (sym c) ∙ h.1))) ∙ h.1);
+  }
+    where
+      other : (h : Holder) (n : ℕ) → held now past hand (Some None) h ≡ Some (Some n) → held now past hand None h ≡ Some (Some n)
+      other h n e = same_but_caller now past hand (Some None) None h (λ c. none-some n (same_Some None (Some n) (ap (held now past hand (Some None)) (sym c) ∙ e))) ∙ e
+
+  pub none_held : (pool : Pool T) (now past : List (Option ℕ)) (hand : Option ℕ) → AreOwned pool now past hand (Some None) → AreOwned pool now past hand None
+  none_held pool now past hand owned = record {
+    live = λ h run e. owned.live h run (sym (same_but_caller now past hand (Some None) None h (λ c. none-some run (ap (held now past hand None) (sym c) ∙ e))) ∙ e);
+    once = λ h i n e f. owned.once h i n (other h n e) (other i n f);
+    all = λ n live. let h = owned.all n live in (h.0, same_but_caller now past hand (Some None) None h.0 (λ c. none-some n (same_Some None (Some n) (ap (held now past hand (Some None)) (sym c) ∙ h.1))) ∙ h.1);
+  }
+    where
+      other : (h : Holder) (n : ℕ) → held now past hand None h ≡ Some (Some n) → held now past hand (Some None) h ≡ Some (Some n)
+      other h n e = sym (same_but_caller now past hand (Some None) None h (λ c. none-some (Some n) (ap (held now past hand None) (sym c) ∙ e))) ∙ e
 
   pub AreOwned-hand : (pool : Pool T) (now past : List (Option ℕ)) (hand run : Option ℕ) → AreOwned pool now past hand (Some run) → AreOwned pool now past run (Some hand)
   AreOwned-hand pool now past hand run owned = handed pool now past now past hand run (Some run) (Some hand) Caller Hand (record {
@@ -307,19 +344,6 @@ module _ {T : Type 0} where
       go (Number j) ne nk = refl
       go (Past j) ne nk = sym (slice_get-push_other past j run (λ e. nk (ap Past e)))
 
-  pub AreOwned-row : (pool : Pool T) (now past : List (Option ℕ)) (hand run : Option ℕ) → AreOwned pool now past hand (Some run) → AreOwned pool (now ++ run ∷ []) past hand None
-  AreOwned-row pool now past hand run owned = handed pool now past (now ++ run ∷ []) past hand hand (Some run) None Caller (Number (length now)) (record {
-    first = sym (past_end now);
-    second = slice_get-push_new now run;
-    others = go;
-  }) owned
-    where
-      go : (h : Holder) → h ≢ Caller → h ≢ Number (length now) → held (now ++ run ∷ []) past hand None h ≡ held now past hand (Some run) h
-      go Caller ne nk = absurd (ne refl)
-      go Hand ne nk = refl
-      go (Number j) ne nk = slice_get-push_other now j run (λ e. nk (ap Number e))
-      go (Past j) ne nk = refl
-
   pub AreOwned-slots : (old new : Pool T) (now past : List (Option ℕ)) (hand : Option ℕ) → new.slots ≡ old.slots → AreOwned old now past hand None → AreOwned new now past hand None
   AreOwned-slots old new now past hand same owned = record {
     live = λ h run e. subst IsSome (sym (lists run)) (owned.live h run e);
@@ -333,7 +357,7 @@ module _ {T : Type 0} where
 
   pub Shows-slots : (old new : Pool T) (now past : List (Option ℕ)) (hand : Option ℕ) → new.slots ≡ old.slots → Shows old new now past hand
   Shows-slots old new now past hand same = record {
-    current = map_same old new now (λ k run e. lists run);
+    rows = λ k. ap (λ (o : Option (List T)). unwrap_or o []) (lists (run_at now k));
     behind = map_same old new past (λ k run e. lists run);
     here = ap (λ (o : Option (List T)). unwrap_or o []) (lists hand);
   }
@@ -352,179 +376,248 @@ module _ {T : Type 0} where
       go : (h : Holder) (r : Option ℕ) → held [] [] None None h ≡ Some r → IsLive pool r
       go Caller r e = absurd (none-some r e)
       go Hand r e = subst (IsLive pool) (same_Some None r e) refl
-      go (Number k) r e = absurd (none-some r e)
+      go (Number k) r e = subst (IsLive pool) (same_Some None r e) refl
       go (Past k) r e = absurd (none-some r e)
 
       only : (h : Holder) (n : ℕ) → held [] [] None None h ≡ Some (Some n) → ⊥
       only Caller n e = none-some (Some n) e
       only Hand n e = none-some n (same_Some None (Some n) e)
-      only (Number k) n e = none-some (Some n) e
+      only (Number k) n e = none-some n (same_Some None (Some n) e)
       only (Past k) n e = none-some (Some n) e
   AreOwned-new (Some n) pool fresh stay = absurd (fresh.0 refl)
 
   -- 3. what the calls do
 
-  -- everything is owned, and the three kinds of lists show so
-  pub record Shelves (pool : Pool T) (now past : List (Option ℕ)) (hand : Option ℕ) (current behind : List (List T)) (here : List T) : Type 0 where
-    pub owned : AreOwned pool now past hand None
-    pub current_is : map (shown pool) now ≡ current
-    pub past_is : map (shown pool) past ≡ behind
-    pub hand_is : shown pool hand ≡ here
-
-  -- a list was placed for the caller
-  pub record IsPlaced (old new : Pool T) (run : Option ℕ) (list : List T) : Type 0 where
-    pub placed : list_of new run ≡ Some list
-    pub fresh : IsFresh old run list
-    pub others : OthersStay old new run
-
-  -- the caller's run was freed
-  pub record IsFreed (old new : Pool T) (run : Option ℕ) : Type 0 where
-    pub gone : IfSome run (λ n. list_at new n ≡ None)
-    pub others : OthersStay old new run
-
   pub shows_placed : (pool : Pool T) (run : Option ℕ) (list : List T) → list_of pool run ≡ Some list → shown pool run ≡ list
   shows_placed pool run list is = ap (λ (o : Option (List T)). unwrap_or o []) is
 
-  set_shown : (pool : Pool T) (now : List (Option ℕ)) (k : ℕ) (run : Option ℕ) → map (shown pool) (set now k run) ≡ set (map (shown pool) now) k (shown pool run)
-  set_shown pool now k run = map-set (shown pool) now k run
+  -- the list at a number
+  pub row_is : (pool : Pool T) (now : List (Option ℕ)) (k : ℕ) → row_at (map (shown pool) now) k ≡ shown pool (run_at now k)
+  row_is pool now k = part_at (shown pool) now k None
 
-  pub set_done : (p0 p1 p2 : Pool T) (now past : List (Option ℕ)) (hand run before : Option ℕ) (k : ℕ) (list : List T) → slice_get now k ≡ Some before → IsPlaced p0 p1 run list → IsFreed p1 p2 before → AreOwned p0 now past hand None → Shelves p2 (set now k run) past hand (set (map (shown p0) now) k list) (map (shown p0) past) (shown p0 hand)
-  set_done p0 p1 p2 now past hand run before k list is put free owned =
-      let first = AreOwned-placed p0 p1 now past hand run list put.fresh put.placed put.others owned in
-      let same = Shows-placed p0 p1 now past hand run list put.fresh put.others owned in
-      let second = AreOwned-number p1 now past hand run before k is first in
-      let after = Shows-freed p1 p2 (set now k run) past hand before free.others second in
-      record {
-        owned = AreOwned-freed p1 p2 (set now k run) past hand before free.gone free.others second;
-        current_is = after.current ∙ set_shown p1 now k run ∙ ap (λ (ls : List (List T)). set ls k (shown p1 run)) same.current ∙ ap (λ (l : List T). set (map (shown p0) now) k l) (shows_placed p1 run list put.placed);
-        past_is = after.behind ∙ same.behind;
-        hand_is = after.here ∙ same.here;
-      }
+  -- a run was given to a number, if a node is there, and the one before came back
+  pub AreOwned-swapped : {X : Type 0} (there : Option X) (pool : Pool T) (now now' past : List (Option ℕ)) (hand run before : Option ℕ) (k : ℕ) → before ≡ run_before there (run_at now k) run → run_at now' k ≡ run_after there run → now' ≡ change_run there now k run → AreOwned pool now past hand (Some run) → AreOwned pool now' past hand (Some before)
+  AreOwned-swapped None pool now now' past hand run before k was is changed owned = subst (λ r. AreOwned pool now' past hand (Some r)) (sym was) (subst (λ n. AreOwned pool n past hand (Some run)) (sym changed) owned)
+  AreOwned-swapped (Some x) pool now now' past hand run before k was is changed owned = AreOwned-number pool now now' past hand run before k (sym was) is (λ j ne. ap (λ n. run_at n j) changed ∙ get_set_other now k j run None ne) owned
 
-  pub swap_live : (p0 p1 : Pool T) (now past : List (Option ℕ)) (hand run before : Option ℕ) (k : ℕ) (list : List T) → slice_get now k ≡ Some before → IsPlaced p0 p1 run list → AreOwned p0 now past hand None → IsLive p1 before
-  swap_live p0 p1 now past hand run before k list is put owned =
-      (AreOwned-number p1 now past hand run before k is (AreOwned-placed p0 p1 now past hand run list put.fresh put.placed put.others owned)).live Caller before refl
+  -- the run at a number was taken out
+  pub AreOwned-taken : (pool : Pool T) (now now' past : List (Option ℕ)) (hand run : Option ℕ) (k : ℕ) → run ≡ run_at now k → now' ≡ set now k None → AreOwned pool now past hand None → AreOwned pool now' past hand (Some run)
+  AreOwned-taken pool now now' past hand run k was changed owned =
+      AreOwned-number pool now now' past hand None run k (sym was) (ap (λ n. run_at n k) changed ∙ get_cleared now k None) (λ j ne. ap (λ n. run_at n j) changed ∙ get_set_other now k j None None ne) (holds_none pool now past hand owned)
 
-  pub swap_done : (p0 p1 : Pool T) (now past : List (Option ℕ)) (hand run before : Option ℕ) (k : ℕ) (list : List T) → slice_get now k ≡ Some before → IsPlaced p0 p1 run list → AreOwned p0 now past hand None → Shelves p1 (set now k run) (past ++ before ∷ []) hand (set (map (shown p0) now) k list) (map (shown p0) past ++ get_or (map (shown p0) now) k [] ∷ []) (shown p0 hand)
-  swap_done p0 p1 now past hand run before k list is put owned =
-      let first = AreOwned-placed p0 p1 now past hand run list put.fresh put.placed put.others owned in
-      let same = Shows-placed p0 p1 now past hand run list put.fresh put.others owned in
-      let stood : shown p1 before ≡ get_or (map (shown p0) now) k [] = sym (get_or_from_slice_get (map (shown p1) now) k (shown p1 before) [] (slice_get-map (shown p1) now k ∙ ap (option_map (shown p1)) is)) ∙ ap (λ (ls : List (List T)). get_or ls k []) same.current in
-      record {
-        owned = AreOwned-push p1 (set now k run) past hand before (AreOwned-number p1 now past hand run before k is first);
-        current_is = set_shown p1 now k run ∙ ap (λ (ls : List (List T)). set ls k (shown p1 run)) same.current ∙ ap (λ (l : List T). set (map (shown p0) now) k l) (shows_placed p1 run list put.placed);
-        past_is = map_push (shown p1) past before ∙ ap (λ (ls : List (List T)). ls ++ shown p1 before ∷ []) same.behind ∙ ap (λ (l : List T). map (shown p0) past ++ l ∷ []) stood;
-        hand_is = same.here;
-      }
+  -- a run was put at a number where none was
+  pub AreOwned-put : (pool : Pool T) (now now' past : List (Option ℕ)) (hand run : Option ℕ) (k : ℕ) → run_at now k ≡ None → run_at now' k ≡ run → ((j : ℕ) → j ≢ k → run_at now' j ≡ run_at now j) → AreOwned pool now past hand (Some run) → AreOwned pool now' past hand None
+  AreOwned-put pool now now' past hand run k was is rest owned = none_held pool now' past hand (AreOwned-number pool now now' past hand run None k was is rest owned)
 
   -- the last of the past lists is this one
-  last_shown : (pool : Pool T) (past : List (Option ℕ)) (run : Option ℕ) (behind : List (List T)) (list : List T) → map (shown pool) (past ++ run ∷ []) ≡ behind ++ list ∷ [] → (map (shown pool) past ≡ behind) × (shown pool run ≡ list)
+  pub last_shown : (pool : Pool T) (past : List (Option ℕ)) (run : Option ℕ) (behind : List (List T)) (list : List T) → map (shown pool) (past ++ run ∷ []) ≡ behind ++ list ∷ [] → (map (shown pool) past ≡ behind) × (shown pool run ≡ list)
   last_shown pool past run behind list is = same_from_push (map (shown pool) past) behind (shown pool run) list (sym (map_push (shown pool) past run) ∙ is)
 
-  pub restore_live : (pool : Pool T) (now past : List (Option ℕ)) (hand run before : Option ℕ) (k : ℕ) → slice_get now k ≡ Some before → AreOwned pool now (past ++ run ∷ []) hand None → IsLive pool before
-  restore_live pool now past hand run before k is owned = owned.live (Number k) before is
+  -- 4. the same for hoards
 
-  pub restore_done : (p0 p1 : Pool T) (now past : List (Option ℕ)) (hand run before : Option ℕ) (k : ℕ) (behind : List (List T)) (list : List T) → slice_get now k ≡ Some before → IsFreed p0 p1 before → AreOwned p0 now (past ++ run ∷ []) hand None → map (shown p0) (past ++ run ∷ []) ≡ behind ++ list ∷ [] → Shelves p1 (set now k run) past hand (set (map (shown p0) now) k list) behind (shown p0 hand)
-  restore_done p0 p1 now past hand run before k behind list is free owned last =
-      let second = AreOwned-number p0 now past hand run before k is (AreOwned-pop p0 now past hand run owned) in
-      let after = Shows-freed p0 p1 (set now k run) past hand before free.others second in
-      let lists = last_shown p0 past run behind list last in
+  module _ (h0 h1 : Hoard T) where
+    -- the lists of a hoard are as they were
+    pub shelf_same : (now now' : List (Option ℕ)) (behind : List (List T)) (here : List T) (spare places : ℕ) → map (shown h1.pool) h1.past ≡ behind → shown h1.pool h1.hand ≡ here → h1.pool.spare ≡ spare → h1.past_places ≡ places → shelf_of h1 now' ≡ record { current = map (shown h1.pool) now'; past = behind; hand = here; spare = spare; past_places = places }
+    shelf_same now now' behind here spare places b h s p =
+        ap₂ (λ (x : List (List T)) (y : List T). record { current = map (shown h1.pool) now'; past = x; hand = y; spare = h1.pool.spare; past_places = h1.past_places }) b h
+        ∙ ap₂ (λ x y. record { current = map (shown h1.pool) now'; past = behind; hand = here; spare = x; past_places = y }) s p
+
+    -- the row that was set, and the others
+    pub comes_to : (now now' : List (Option ℕ)) (k : ℕ) (list : List T) → shown h1.pool (run_at now' k) ≡ list → ((j : ℕ) → j ≢ k → run_at now' j ≡ run_at now j) → ((j : ℕ) → shown h1.pool (run_at now j) ≡ shown h0.pool (run_at now j)) → ComesTo k list (shelf_of h0 now).current (shelf_of h1 now').current
+    comes_to now now' k list here rest same = record {
+      here = row_is h1.pool now' k ∙ here;
+      others = λ j ne. row_is h1.pool now' j ∙ ap (shown h1.pool) (rest j ne) ∙ same j ∙ sym (row_is h0.pool now j);
+    }
+
+    -- where each number's list shows as it did, so do all
+    all_rows : (now : List (Option ℕ)) → ((k : ℕ) → shown h1.pool (run_at now k) ≡ shown h0.pool (run_at now k)) → map (shown h1.pool) now ≡ map (shown h0.pool) now
+    all_rows [] same = refl
+    all_rows (r ∷ now) same = ap₂ (λ (x : List T) (xs : List (List T)). x ∷ xs) (same 0) (all_rows now (λ k. same (suc k)))
+
+    pub popped_live : (now past : List (Option ℕ)) (run : Option ℕ) → h0.past ≡ past ++ run ∷ [] → IsOwner h0 now → IsLive h0.pool run
+    popped_live now past run e owned = owned.live (Past (length past)) run (ap (λ p. slice_get p (length past)) e ∙ slice_get-push_new past run)
+
+    popped : (now : List (Option ℕ)) (run : Option ℕ) → h0.past ≡ h1.past ++ run ∷ [] → IsOwner h0 now → AreOwned h0.pool now h1.past h0.hand (Some run)
+    popped now run e owned = AreOwned-pop h0.pool now h1.past h0.hand run (subst (λ p. AreOwned h0.pool now p h0.hand None) e owned)
+
+    -- the last of the past lists was freed
+    pub drop_done : (now : List (Option ℕ)) (run : Option ℕ) → h0.past ≡ h1.past ++ run ∷ [] → h1.hand ≡ h0.hand → IsFreed h0.pool h1.pool run → h1.pool.spare ≡ h0.pool.spare → h1.past_places ≡ h0.past_places → IsOwner h0 now → IsOwner h1 now × DropsLast (shelf_of h0 now) (shelf_of h1 now)
+    drop_done now run e hand free spare places owned =
+        let first = popped now run e owned in
+        let shows = Shows-freed h0.pool h1.pool now h1.past h0.hand run free.others first in (
+          subst (λ x. AreOwned h1.pool now h1.past x None) (sym hand) (AreOwned-freed h0.pool h1.pool now h1.past h0.hand run free.gone free.others first),
+          λ before list last. (
+              let lists = last_shown h0.pool h1.past run before list (ap (map (shown h0.pool)) (sym e) ∙ last) in
+              shelf_same now now before (shown h0.pool h0.hand) h0.pool.spare h0.past_places (shows.behind ∙ lists.0) (ap (shown h1.pool) hand ∙ shows.here) spare places
+              ∙ ap (λ (x : List (List T)). record { current = x; past = before; hand = shown h0.pool h0.hand; spare = h0.pool.spare; past_places = h0.past_places }) (all_rows now shows.rows)
+              ),
+        )
+
+    -- the last of the past lists came in hand, and the one that was there was freed
+    pub take_up_done : (now : List (Option ℕ)) (run : Option ℕ) → h0.past ≡ h1.past ++ run ∷ [] → h1.hand ≡ run → IsFreed h0.pool h1.pool h0.hand → h1.pool.spare ≡ h0.pool.spare → h1.past_places ≡ h0.past_places → IsOwner h0 now → IsOwner h1 now × TakesLastUp (shelf_of h0 now) (shelf_of h1 now)
+    take_up_done now run e hand free spare places owned =
+        let first = AreOwned-hand h0.pool now h1.past h0.hand run (popped now run e owned) in
+        let shows = Shows-freed h0.pool h1.pool now h1.past run h0.hand free.others first in (
+          subst (λ x. AreOwned h1.pool now h1.past x None) (sym hand) (AreOwned-freed h0.pool h1.pool now h1.past run h0.hand free.gone free.others first),
+          λ before list last. (
+              let lists = last_shown h0.pool h1.past run before list (ap (map (shown h0.pool)) (sym e) ∙ last) in
+              shelf_same now now before list h0.pool.spare h0.past_places (shows.behind ∙ lists.0) (ap (shown h1.pool) hand ∙ shows.here ∙ lists.1) spare places
+              ∙ ap (λ (x : List (List T)). record { current = x; past = before; hand = list; spare = h0.pool.spare; past_places = h0.past_places }) (all_rows now shows.rows)
+              ),
+        )
+
+    -- the list in hand was freed
+    pub put_down_live : (pool : Pool T) (now : List (Option ℕ)) (run : Option ℕ) → IsPlaced h0.pool pool run [] → IsOwner h0 now → IsLive pool h0.hand
+    put_down_live pool now run put owned =
+        (AreOwned-placed h0.pool pool now h0.past h0.hand run [] put.fresh put.placed put.others owned).live Hand h0.hand refl
+
+    pub put_down_done : (pool : Pool T) (now : List (Option ℕ)) (run : Option ℕ) → IsPlaced h0.pool pool run [] → IsFreed pool h1.pool h0.hand → h1.past ≡ h0.past → h1.hand ≡ run → h0.pool.spare ≤ h1.pool.spare → h1.past_places ≡ h0.past_places → IsOwner h0 now → IsOwner h1 now × PutsDown (shelf_of h0 now) (shelf_of h1 now)
+    put_down_done pool now run put free past hand spare places owned =
+        let first = AreOwned-placed h0.pool pool now h0.past h0.hand run [] put.fresh put.placed put.others owned in
+        let same = Shows-placed h0.pool pool now h0.past h0.hand run [] put.fresh put.others owned in
+        let second = AreOwned-hand pool now h0.past h0.hand run first in
+        let after = Shows-freed pool h1.pool now h0.past run h0.hand free.others second in (
+          subst (λ x. AreOwned h1.pool now x h1.hand None) (sym past) (subst (λ x. AreOwned h1.pool now h0.past x None) (sym hand) (AreOwned-freed pool h1.pool now h0.past run h0.hand free.gone free.others second)),
+          (
+            shelf_same now now (map (shown h0.pool) h0.past) [] h1.pool.spare h0.past_places (ap (map (shown h1.pool)) past ∙ after.behind ∙ same.behind) (ap (shown h1.pool) hand ∙ after.here ∙ shows_placed pool run [] put.placed) refl places
+                ∙ ap (λ (x : List (List T)). record { current = x; past = map (shown h0.pool) h0.past; hand = []; spare = h1.pool.spare; past_places = h0.past_places }) (all_rows now (λ k. after.rows k ∙ same.rows k)),
+            spare,
+          ),
+        )
+
+    -- the last of the past lists went back to a number, if a node is there
+    pub restore_live : {X : Type 0} (there : Option X) (now now' : List (Option ℕ)) (run before : Option ℕ) (k : ℕ) → before ≡ run_before there (run_at now k) run → run_at now' k ≡ run_after there run → now' ≡ change_run there now k run → h0.past ≡ h1.past ++ run ∷ [] → IsOwner h0 now → IsLive h0.pool before
+    restore_live there now now' run before k was is changed e owned =
+        (AreOwned-swapped there h0.pool now now' h1.past h0.hand run before k was is changed (popped now run e owned)).live Caller before refl
+
+    pub restore_done : {X : Type 0} (there : Option X) (now now' : List (Option ℕ)) (run before : Option ℕ) (k : ℕ) → before ≡ run_before there (run_at now k) run → run_at now' k ≡ run_after there run → now' ≡ change_run there now k run → h0.past ≡ h1.past ++ run ∷ [] → h1.hand ≡ h0.hand → IsFreed h0.pool h1.pool before → h1.pool.spare ≡ h0.pool.spare → h1.past_places ≡ h0.past_places → IsOwner h0 now → IsOwner h1 now' × Restores there k (shelf_of h0 now) (shelf_of h1 now')
+    restore_done there now now' run before k was is changed e hand free spare places owned =
+        let second = AreOwned-swapped there h0.pool now now' h1.past h0.hand run before k was is changed (popped now run e owned) in
+        let shows = Shows-freed h0.pool h1.pool now' h1.past h0.hand before free.others second in (
+          subst (λ x. AreOwned h1.pool now' h1.past x None) (sym hand) (AreOwned-freed h0.pool h1.pool now' h1.past h0.hand before free.gone free.others second),
+          λ old list last. (
+              let lists = last_shown h0.pool h1.past run old list (ap (map (shown h0.pool)) (sym e) ∙ last) in (
+                record {
+                  here = row_is h1.pool now' k ∙ shows.rows k ∙ ap (shown h0.pool) is ∙ there_shown there run list lists.1;
+                  others = λ j ne. row_is h1.pool now' j ∙ shows.rows j ∙ ap (shown h0.pool) (others_swapped there now now' run k j changed ne) ∙ sym (row_is h0.pool now j);
+                },
+                shelf_same now now' old (shown h0.pool h0.hand) h0.pool.spare h0.past_places (shows.behind ∙ lists.0) (ap (shown h1.pool) hand ∙ shows.here) spare places,
+              )
+              ),
+        )
+      where
+        there_shown : {X : Type 0} (there : Option X) (run : Option ℕ) (list : List T) → shown h0.pool run ≡ list → shown h0.pool (run_after there run) ≡ where_some there list
+        there_shown None run list is = refl
+        there_shown (Some x) run list is = is
+
+    -- a list came to a number of a node that lives, and the one that stood there behind the past ones
+    pub swap_done : {X : Type 0} (there : Option X) (now now' : List (Option ℕ)) (run before : Option ℕ) (list : List T) (k : ℕ) → IsSome there → IsPlaced h0.pool h1.pool run list → before ≡ run_before there (run_at now k) run → run_at now' k ≡ run_after there run → now' ≡ change_run there now k run → h1.past ≡ h0.past ++ before ∷ [] → h1.hand ≡ h0.hand → h0.pool.spare ≤ h1.pool.spare + list_room list → h0.past_places ≤ h1.past_places → IsOwner h0 now → IsOwner h1 now' × Swaps k list (shelf_of h0 now) (shelf_of h1 now')
+    swap_done None now now' run before list k lives put was is changed e hand spare places owned = absurd (grind (arith, lives))
+    swap_done (Some x) now now' run before list k lives put was is changed e hand spare places owned =
+        let first = AreOwned-placed h0.pool h1.pool now h0.past h0.hand run list put.fresh put.placed put.others owned in
+        let same = Shows-placed h0.pool h1.pool now h0.past h0.hand run list put.fresh put.others owned in
+        let second = AreOwned-swapped (Some x) h1.pool now now' h0.past h0.hand run before k was is changed first in
+        let third = AreOwned-push h1.pool now' h0.past h0.hand before second in
+        let stood : shown h1.pool before ≡ row_at (map (shown h0.pool) now) k = ap (shown h1.pool) was ∙ same.rows k ∙ sym (row_is h0.pool now k) in (
+          subst (λ y. AreOwned h1.pool now' y h1.hand None) (sym e) (subst (λ y. AreOwned h1.pool now' (h0.past ++ before ∷ []) y None) (sym hand) third),
+          record {
+            comes = comes_to now now' k list (ap (shown h1.pool) is ∙ shows_placed h1.pool run list put.placed) (λ j ne. others_swapped (Some x) now now' run k j changed ne) same.rows;
+            swapped =
+                shelf_same now now' (map (shown h0.pool) h0.past ++ row_at (map (shown h0.pool) now) k ∷ []) (shown h0.pool h0.hand) h1.pool.spare h1.past_places
+                (ap (map (shown h1.pool)) e ∙ map_push (shown h1.pool) h0.past before ∙ ap₂ (λ (xs : List (List T)) (y : List T). xs ++ y ∷ []) same.behind stood) (ap (shown h1.pool) hand ∙ same.here) refl refl;
+            spare = spare;
+            places = places;
+          },
+        )
+
+    -- a list came to a number where no node was
+    pub add_done : (now now' : List (Option ℕ)) (run : Option ℕ) (list : List T) (k : ℕ) → run_at now k ≡ None → run_at now' k ≡ run → ((j : ℕ) → j ≢ k → run_at now' j ≡ run_at now j) → IsPlaced h0.pool h1.pool run list → h1.past ≡ h0.past → h1.hand ≡ h0.hand → h0.pool.spare ≤ h1.pool.spare + list_room list → h1.past_places ≡ h0.past_places → IsOwner h0 now → IsOwner h1 now' × Adds k list (shelf_of h0 now) (shelf_of h1 now')
+    add_done now now' run list k none is rest put e hand spare places owned =
+        let first = AreOwned-placed h0.pool h1.pool now h0.past h0.hand run list put.fresh put.placed put.others owned in
+        let same = Shows-placed h0.pool h1.pool now h0.past h0.hand run list put.fresh put.others owned in
+        let second = AreOwned-put h1.pool now now' h0.past h0.hand run k none is rest first in (
+          subst (λ y. AreOwned h1.pool now' y h1.hand None) (sym e) (subst (λ y. AreOwned h1.pool now' h0.past y None) (sym hand) second),
+          record {
+            comes = comes_to now now' k list (ap (shown h1.pool) is ∙ shows_placed h1.pool run list put.placed) rest same.rows;
+            rest = shelf_same now now' (map (shown h0.pool) h0.past) (shown h0.pool h0.hand) h1.pool.spare h0.past_places (ap (map (shown h1.pool)) e ∙ same.behind) (ap (shown h1.pool) hand ∙ same.here) refl places;
+            spare = spare;
+          },
+        )
+
+    -- the list at a number was freed
+    pub clear_live : (now : List (Option ℕ)) (run : Option ℕ) (k : ℕ) → run ≡ run_at now k → IsOwner h0 now → IsLive h0.pool run
+    clear_live now run k was owned = owned.live (Number k) run (ap Some (sym was))
+
+    pub clear_done : (now now' : List (Option ℕ)) (run : Option ℕ) (k : ℕ) → run ≡ run_at now k → now' ≡ set now k None → IsFreed h0.pool h1.pool run → h1.past ≡ h0.past → h1.hand ≡ h0.hand → h1.pool.spare ≡ h0.pool.spare → h1.past_places ≡ h0.past_places → IsOwner h0 now → IsOwner h1 now' × Clears k (shelf_of h0 now) (shelf_of h1 now')
+    clear_done now now' run k was changed free e hand spare places owned =
+        let first = AreOwned-taken h0.pool now now' h0.past h0.hand run k was changed owned in
+        let shows = Shows-freed h0.pool h1.pool now' h0.past h0.hand run free.others first in
+        let second = AreOwned-freed h0.pool h1.pool now' h0.past h0.hand run free.gone free.others first in (
+          subst (λ y. AreOwned h1.pool now' y h1.hand None) (sym e) (subst (λ y. AreOwned h1.pool now' h0.past y None) (sym hand) second),
+          record {
+            comes = record {
+              here = row_is h1.pool now' k ∙ ap (shown h1.pool) (ap (λ n. run_at n k) changed ∙ get_cleared now k None);
+              others = λ j ne. row_is h1.pool now' j ∙ shows.rows j ∙ ap (shown h0.pool) (ap (λ n. run_at n j) changed ∙ get_set_other now k j None None ne) ∙ sym (row_is h0.pool now j);
+            };
+            cleared = shelf_same now now' (map (shown h0.pool) h0.past) (shown h0.pool h0.hand) h0.pool.spare h0.past_places (ap (map (shown h1.pool)) e ∙ shows.behind) (ap (shown h1.pool) hand ∙ shows.here) spare places;
+          },
+        )
+
+    -- the list at a number went behind the past ones
+    pub push_done : (now now' : List (Option ℕ)) (run : Option ℕ) (k : ℕ) → run ≡ run_at now k → now' ≡ set now k None → h1.pool ≡ h0.pool → h1.past ≡ h0.past ++ run ∷ [] → h1.hand ≡ h0.hand → h0.past_places ≤ h1.past_places → IsOwner h0 now → IsOwner h1 now' × Swaps k [] (shelf_of h0 now) (shelf_of h1 now')
+    push_done now now' run k was changed pool e hand places owned =
+        let first = AreOwned-push h0.pool now' h0.past h0.hand run (AreOwned-taken h0.pool now now' h0.past h0.hand run k was changed owned) in (
+          subst (λ x. AreOwned x now' h1.past h1.hand None) (sym pool) (subst (λ y. AreOwned h0.pool now' y h1.hand None) (sym e) (subst (λ y. AreOwned h0.pool now' (h0.past ++ run ∷ []) y None) (sym hand) first)),
+          record {
+            comes = record {
+              here = row_is h1.pool now' k ∙ ap (shown h1.pool) (ap (λ n. run_at n k) changed ∙ get_cleared now k None);
+              others = λ j ne. row_is h1.pool now' j ∙ ap (λ (x : Pool T). shown x (run_at now' j)) pool ∙ ap (shown h0.pool) (ap (λ n. run_at n j) changed ∙ get_set_other now k j None None ne) ∙ sym (row_is h0.pool now j);
+            };
+            swapped =
+                shelf_same now now' (map (shown h0.pool) h0.past ++ row_at (map (shown h0.pool) now) k ∷ []) (shown h0.pool h0.hand) h1.pool.spare h1.past_places
+                (ap₂ (λ (x : Pool T) y. map (shown x) y) pool e ∙ map_push (shown h0.pool) h0.past run ∙ ap (λ (y : List T). map (shown h0.pool) h0.past ++ y ∷ []) (ap (shown h0.pool) was ∙ sym (row_is h0.pool now k)))
+                (ap₂ (λ (x : Pool T) y. shown x y) pool hand) refl refl;
+            spare = let same = ap (λ (x : Pool T). x.spare) pool in omega (arith, same);
+            places = places;
+          },
+        )
+
+  -- more room was made
+  pub record Stays (h0 h1 : Hoard T) (now : List (Option ℕ)) : Type 0 where
+    pub owned : IsOwner h1 now
+    pub current : map (shown h1.pool) now ≡ map (shown h0.pool) now
+    pub behind : map (shown h1.pool) h1.past ≡ map (shown h0.pool) h0.past
+    pub here : shown h1.pool h1.hand ≡ shown h0.pool h0.hand
+
+  pub reserve_done : (h0 h1 : Hoard T) (now : List (Option ℕ)) → h1 ≡ record h0 { pool = h1.pool; past_places = h1.past_places } → h1.pool ≡ record h0.pool { spare = h1.pool.spare } → IsOwner h0 now → Stays h0 h1 now
+  reserve_done h0 h1 now kept pool owned =
+      let past = ap (λ (x : Hoard T). x.past) kept in
+      let hand = ap (λ (x : Hoard T). x.hand) kept in
+      let slots = ap (λ (x : Pool T). x.slots) pool in
+      let shows = Shows-slots h0.pool h1.pool now h0.past h0.hand slots in
       record {
-        owned = AreOwned-freed p0 p1 (set now k run) past hand before free.gone free.others second;
-        current_is = after.current ∙ set_shown p0 now k run ∙ ap (λ (l : List T). set (map (shown p0) now) k l) lists.1;
-        past_is = after.behind ∙ lists.0;
-        hand_is = after.here;
+        owned = subst (λ x. AreOwned h1.pool now x h1.hand None) (sym past) (subst (λ x. AreOwned h1.pool now h0.past x None) (sym hand) (AreOwned-slots h0.pool h1.pool now h0.past h0.hand slots owned));
+        current = all_rows h0 h1 now shows.rows;
+        behind = ap (map (shown h1.pool)) past ∙ shows.behind;
+        here = ap (shown h1.pool) hand ∙ shows.here;
       }
 
-  pub drop_done : (p0 p1 : Pool T) (now past : List (Option ℕ)) (hand run : Option ℕ) (behind : List (List T)) (list : List T) → IsFreed p0 p1 run → AreOwned p0 now (past ++ run ∷ []) hand None → map (shown p0) (past ++ run ∷ []) ≡ behind ++ list ∷ [] → Shelves p1 now past hand (map (shown p0) now) behind (shown p0 hand)
-  drop_done p0 p1 now past hand run behind list free owned last =
-      let second = AreOwned-pop p0 now past hand run owned in
-      let after = Shows-freed p0 p1 now past hand run free.others second in
-      let lists = last_shown p0 past run behind list last in
-      record {
-        owned = AreOwned-freed p0 p1 now past hand run free.gone free.others second;
-        current_is = after.current;
-        past_is = after.behind ∙ lists.0;
-        hand_is = after.here;
-      }
+  -- the list of a node that lives
+  pub run_live : {X : Type 0} (h : Hoard T) (now : List (Option ℕ)) (o : Option X) (k : ℕ) (run : Option ℕ) → Some run ≡ option_map (λ s. run_at now k) o → IsOwner h now → IsLive h.pool run
+  run_live h now o k run e owned = owned.live (Number k) run (ap Some (sym (run_is o (run_at now k) run e)))
 
-  pub take_up_done : (p0 p1 : Pool T) (now past : List (Option ℕ)) (hand run : Option ℕ) (behind : List (List T)) (list : List T) → IsFreed p0 p1 hand → AreOwned p0 now (past ++ run ∷ []) hand None → map (shown p0) (past ++ run ∷ []) ≡ behind ++ list ∷ [] → Shelves p1 now past run (map (shown p0) now) behind list
-  take_up_done p0 p1 now past hand run behind list free owned last =
-      let second = AreOwned-hand p0 now past hand run (AreOwned-pop p0 now past hand run owned) in
-      let after = Shows-freed p0 p1 now past run hand free.others second in
-      let lists = last_shown p0 past run behind list last in
-      record {
-        owned = AreOwned-freed p0 p1 now past run hand free.gone free.others second;
-        current_is = after.current;
-        past_is = after.behind ∙ lists.0;
-        hand_is = after.here ∙ lists.1;
-      }
+  pub run_read : {X : Type 0} (h : Hoard T) (now : List (Option ℕ)) (o : Option X) (k : ℕ) (run : Option ℕ) (list : List T) → Some run ≡ option_map (λ s. run_at now k) o → list_of h.pool run ≡ Some list → list ≡ row_at (map (shown h.pool) now) k
+  run_read h now o k run list e is = sym (row_is h.pool now k ∙ ap (shown h.pool) (sym (run_is o (run_at now k) run e)) ∙ shows_placed h.pool run list is)
 
-  pub put_down_done : (p0 p1 p2 : Pool T) (now past : List (Option ℕ)) (hand run : Option ℕ) → IsPlaced p0 p1 run [] → IsFreed p1 p2 hand → AreOwned p0 now past hand None → Shelves p2 now past run (map (shown p0) now) (map (shown p0) past) []
-  put_down_done p0 p1 p2 now past hand run put free owned =
-      let first = AreOwned-placed p0 p1 now past hand run [] put.fresh put.placed put.others owned in
-      let same = Shows-placed p0 p1 now past hand run [] put.fresh put.others owned in
-      let second = AreOwned-hand p1 now past hand run first in
-      let after = Shows-freed p1 p2 now past run hand free.others second in
-      record {
-        owned = AreOwned-freed p1 p2 now past run hand free.gone free.others second;
-        current_is = after.current ∙ same.current;
-        past_is = after.behind ∙ same.behind;
-        hand_is = after.here ∙ shows_placed p1 run [] put.placed;
-      }
-
-  pub put_down_live : (p0 p1 : Pool T) (now past : List (Option ℕ)) (hand run : Option ℕ) → IsPlaced p0 p1 run [] → AreOwned p0 now past hand None → IsLive p1 hand
-  put_down_live p0 p1 now past hand run put owned =
-      (AreOwned-placed p0 p1 now past hand run [] put.fresh put.placed put.others owned).live Hand hand refl
-
-  pub add_row_done : (p0 p1 : Pool T) (now past : List (Option ℕ)) (hand run : Option ℕ) → IsPlaced p0 p1 run [] → AreOwned p0 now past hand None → Shelves p1 (now ++ run ∷ []) past hand (map (shown p0) now ++ [] ∷ []) (map (shown p0) past) (shown p0 hand)
-  add_row_done p0 p1 now past hand run put owned =
-      let first = AreOwned-placed p0 p1 now past hand run [] put.fresh put.placed put.others owned in
-      let same = Shows-placed p0 p1 now past hand run [] put.fresh put.others owned in
-      record {
-        owned = AreOwned-row p1 now past hand run first;
-        current_is = map_push (shown p1) now run ∙ ap (λ (ls : List (List T)). ls ++ shown p1 run ∷ []) same.current ∙ ap (λ (l : List T). map (shown p0) now ++ l ∷ []) (shows_placed p1 run [] put.placed);
-        past_is = same.behind;
-        hand_is = same.here;
-      }
-
-  pub slots_done : (p0 p1 : Pool T) (now past : List (Option ℕ)) (hand : Option ℕ) → p1.slots ≡ p0.slots → AreOwned p0 now past hand None → Shelves p1 now past hand (map (shown p0) now) (map (shown p0) past) (shown p0 hand)
-  slots_done p0 p1 now past hand same owned =
-      let shows = Shows-slots p0 p1 now past hand same in
-      record {
-        owned = AreOwned-slots p0 p1 now past hand same owned;
-        current_is = shows.current;
-        past_is = shows.behind;
-        hand_is = shows.here;
-      }
-
-  pub read_done : (pool : Pool T) (now : List (Option ℕ)) (run : Option ℕ) (k : ℕ) (list : List T) → slice_get now k ≡ Some run → list_of pool run ≡ Some list → list ≡ get_or (map (shown pool) now) k []
-  read_done pool now run k list is shows =
-      sym (shows_placed pool run list shows) ∙ sym (get_or_from_slice_get (map (shown pool) now) k (shown pool run) [] (slice_get-map (shown pool) now k ∙ ap (option_map (shown pool)) is))
-
-  -- what the shelf shows
-  pub shelf_is : (pool : Pool T) (now past : List (Option ℕ)) (hand : Option ℕ) (current behind : List (List T)) (here : List T) (spare places past_places : ℕ) → Shelves pool now past hand current behind here → ◌≡◌ {A = Shelf T} (record { current = map (shown pool) now; past = map (shown pool) past; hand = shown pool hand; spare = spare; places = places; past_places = past_places }) (record { current = current; past = behind; hand = here; spare = spare; places = places; past_places = past_places })
-  shelf_is pool now past hand current behind here spare places past_places s =
-      ap (λ (x : List (List T)). record { current = x; past = map (shown pool) past; hand = shown pool hand; spare = spare; places = places; past_places = past_places }) s.current_is
-      ∙ ap (λ (x : List (List T)). record { current = current; past = x; hand = shown pool hand; spare = spare; places = places; past_places = past_places }) s.past_is
-      ∙ ap (λ (x : List T). record { current = current; past = behind; hand = x; spare = spare; places = places; past_places = past_places }) s.hand_is
-
-  -- what stood at a number
-  pub stood : (pool : Pool T) (now : List (Option ℕ)) (k : ℕ) (before : Option ℕ) → k < length (map (shown pool) now) → before ≡ get_or now k before → slice_get now k ≡ Some before
-  stood pool now k before within is = slice_get_read now (length now) k before refl (subst (λ n. k < n) (length-map now (shown pool)) within) is
-
-  pub restored_owned : (p0 p1 : Pool T) (now past : List (Option ℕ)) (hand run before : Option ℕ) (k : ℕ) → slice_get now k ≡ Some before → IsFreed p0 p1 before → AreOwned p0 now (past ++ run ∷ []) hand None → AreOwned p1 (set now k run) past hand None
-  restored_owned p0 p1 now past hand run before k is free owned =
-      AreOwned-freed p0 p1 (set now k run) past hand before free.gone free.others (AreOwned-number p0 now past hand run before k is (AreOwned-pop p0 now past hand run owned))
-
-  pub dropped_owned : (p0 p1 : Pool T) (now past : List (Option ℕ)) (hand run : Option ℕ) → IsFreed p0 p1 run → AreOwned p0 now (past ++ run ∷ []) hand None → AreOwned p1 now past hand None
-  dropped_owned p0 p1 now past hand run free owned = AreOwned-freed p0 p1 now past hand run free.gone free.others (AreOwned-pop p0 now past hand run owned)
-
-  pub taken_up_owned : (p0 p1 : Pool T) (now past : List (Option ℕ)) (hand run : Option ℕ) → IsFreed p0 p1 hand → AreOwned p0 now (past ++ run ∷ []) hand None → AreOwned p1 now past run None
-  taken_up_owned p0 p1 now past hand run free owned = AreOwned-freed p0 p1 now past run hand free.gone free.others (AreOwned-hand p0 now past hand run (AreOwned-pop p0 now past hand run owned))
-
-  pub popped_live : (pool : Pool T) (now past : List (Option ℕ)) (hand run : Option ℕ) → AreOwned pool now (past ++ run ∷ []) hand None → IsLive pool run
-  popped_live pool now past hand run owned = owned.live (Past (length past)) run (slice_get-push_new past run)
-
-  pub hand_live : (pool : Pool T) (now past : List (Option ℕ)) (hand : Option ℕ) → AreOwned pool now past hand None → IsLive pool hand
-  hand_live pool now past hand owned = owned.live Hand hand refl
+  -- nothing stood at a number that was cleared
+  pub clear_none : (h : Hoard T) (now now' : List (Option ℕ)) (k : ℕ) → None ≡ run_at now k → now' ≡ set now k None → IsOwner h now → IsOwner h now' × Clears k (shelf_of h now) (shelf_of h now')
+  clear_none h now now' k was changed owned = (
+    none_held h.pool now' h.past h.hand (AreOwned-taken h.pool now now' h.past h.hand None k was changed owned),
+    record {
+      comes = record {
+        here = row_is h.pool now' k ∙ ap (shown h.pool) (ap (λ n. run_at n k) changed ∙ get_cleared now k None);
+        others = λ j ne. row_is h.pool now' j ∙ ap (shown h.pool) (ap (λ n. run_at n j) changed ∙ get_set_other now k j None None ne) ∙ sym (row_is h.pool now j);
+      };
+      cleared = refl;
+    },
+  )

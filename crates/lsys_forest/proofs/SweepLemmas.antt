@@ -1,6 +1,8 @@
 -- A commit leaves exactly the nodes that are reached.
 use Rattle.std.proofs.Common.{◌≡◌, ◌≢◌, ◌⊎◌, ◌+◌, ℕ, zero, suc, List, [], ◌∷◌, ◌++◌, Some, None, refl, sym, ap, ◌∙◌, arith, inl, inr, subst}
 use Rattle.std.specs.Prelude.{IsSome}
+use Rattle.lsys_forest.specs.Slots.{rank_at}
+use Rattle.lsys_forest.proofs.WalkLemmas.{get_In}
 use Rattle.std.proofs.lemmas.Bool.{cases_eq}
 use Rattle.std.proofs.lemmas.Option.{none-some, same_Some}
 use Rattle.lsys_forest.specs.Nodes.{Node, Nodes, put}
@@ -140,9 +142,24 @@ module _ {A : Type 0} where
     kids = swept.kids;
   }
 
-  -- the children of a node that is left have the ranks that they had
-  pub swept_ranked : (first : Nodes A) (root : ℕ) (m : Nodes A) (changes : List (Change A)) (left at : List ℕ) → IsSwept first root m changes left → AreRanked first at → AreRanked m at
-  swept_ranked first root m changes left at swept ranked = λ p n i k is here. ranked p n i k (kept first root m changes left swept p n is) here
+  -- a loose node was removed: it is no child of a node that is left
+  pub removed_ranked : (first : Nodes A) (root : ℕ) (before : List (Change A)) → IsSound root before first → (m m' : Nodes A) (changes : List (Change A)) (ranks ranks' : List ℕ) (k : ℕ) (n : Node A) (left : List ℕ) → m k ≡ Some n → (IsLinked m k n → ⊥) → m' ≡ put m k None → ((j : ℕ) → j ≢ k → rank_at ranks' j ≡ rank_at ranks j) → IsSwept first root m changes left → AreRanked m ranks → AreRanked m' ranks'
+  removed_ranked first root before sound m m' changes ranks ranks' k n left is apart removed same swept ranked = λ p o i y there here.
+      let found = sym (ap (λ (f : Nodes A). f p) removed) ∙ there in
+      elim (cases_eq p k) [
+        | inl e ↦ absurd (none-some o (sym (put_same m k p None e) ∙ found))
+        | inr ne ↦
+            let was : m p ≡ Some o = sym (put_other m k p None ne) ∙ found in
+            elim (cases_eq y k) [
+              | inl e ↦
+                  let among = get_In o.kids i y here in
+                  let under = (sound.own p o (kept first root m changes left swept p o was)).under y among in
+                  let one : under.node ≡ n = same_Some under.node n (sym under.is ∙ ap first e ∙ kept first root m changes left swept k n is) in
+                  let parent_is : n.parent ≡ p = ap (λ (u : Node A). u.parent) (sym one) ∙ under.parent_is in
+                  absurd (apart (record { parent = o; is = ap m parent_is ∙ was; among = subst (λ z. In z o.kids) e among }))
+              | inr far ↦ same y far ∙ ranked p o i y was here
+            ]
+      ]
 
   linked_at_end : (first : Nodes A) (root : ℕ) (m : Nodes A) → IsSwept first root m [] [] → (k : ℕ) (n : Node A) → m k ≡ Some n → k ≢ root → IsLinked m k n
   linked_at_end first root m swept k n is other = elim (swept.cover k n is other) [

@@ -7,6 +7,7 @@ use Rattle.lsys_forest.specs.declared.walk.Way.TheVariants as ways
 use Rattle.lsys_forest.specs.Nodes.{Node, Nodes}
 use Rattle.lsys_forest.specs.Changes.{Change}
 use Rattle.lsys_forest.specs.Groves.{In, AreApart, IsSound}
+use Rattle.lsys_forest.specs.Slots.{rank_at}
 use Rattle.lsys_forest.specs.Ranks.{AreRanked}
 use Rattle.lsys_forest.specs.Rows.{first_in, last_in, index_in, oriented, mirrored, flat, kids_in, kids_that_way, kids_below, level_nodes}
 use Rattle.lsys_forest.proofs.RowLemmas.{In_right, In_split, same_sides, index_of, oriented_In, oriented_In_back, oriented_apart, oriented_flat, flat_around, child, level_apart, level_depth, parent_level, parent_root}
@@ -143,12 +144,12 @@ left_on O apart passed q (r ∷ ahead) next whole e =
 
 module _ {A : Type 0} where
   -- a child stands where its rank says
-  pub ranked_at : (k p : ℕ) (m : Nodes A) (at : List ℕ) (rank : ℕ) → AreRanked m at → In k (kids_in (m p)) → ((i : ℕ) → slice_get at k ≡ Some i → rank ≡ i) → slice_get (kids_in (m p)) rank ≡ Some k
+  pub ranked_at : (k p : ℕ) (m : Nodes A) (at : List ℕ) (rank : ℕ) → AreRanked m at → In k (kids_in (m p)) → rank ≡ rank_at at k → slice_get (kids_in (m p)) rank ≡ Some k
   ranked_at k p m at rank ranked among reads = go (m p) refl among
     where
       go : (o : Option (Node A)) → m p ≡ o → In k (kids_in o) → slice_get (kids_in o) rank ≡ Some k
       go None e h = absurd h
-      go (Some n) e h = let i = In_at k n.kids h in ap (slice_get n.kids) (reads i.0 (ranked p n i.0 k e i.1)) ∙ i.1
+      go (Some n) e h = let i = In_at k n.kids h in ap (slice_get n.kids) (reads ∙ ranked p n i.0 k e i.1) ∙ i.1
 
   -- 2. along a level
 

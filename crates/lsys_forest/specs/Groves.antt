@@ -53,6 +53,10 @@ module _ {A : Type 0} where
   abbrev pub live_nodes : Grove A → ℕ
   live_nodes f = live_slots f.stock.slots
 
+  -- for how many nodes there is room; each number is below it
+  abbrev pub numbers_in : Grove A → ℕ
+  numbers_in f = f.stock.capacity
+
   -- how much room there is for the parameters of symbols, and for lists of children, with no memory taken
   abbrev pub spare_params : Grove A → ℕ
   spare_params f = f.stock.param_room
@@ -107,11 +111,12 @@ module _ {A : Type 0} where
   abbrev pub AreSound : ℕ → List (Change A) → Nodes A → Type 0
   AreSound root changes m = (earlier later : List (Change A)) → changes ≡ earlier ++ later → IsSound root earlier (undone later m)
 
-  -- the nodes hang together, as they are and as they were, and there is room
+  -- the nodes hang together, as they are and as they were, and there is room, with numbers for the nodes
   pub record IsGrove (stock : Stock A) (root spare_nodes spare_notes : ℕ) : Type 0 where
     pub sound : AreSound root (changes_of stock) (nodes_of stock)
     pub nodes_left : live_slots stock.slots + spare_nodes ≤ stock.capacity
     pub numbers : live_slots stock.slots + spare_nodes < 2 ^ 32
+    pub fit : 0 < spare_nodes → stock.capacity ≤ 2 ^ 32
     pub places_left : length stock.notes + live_slots stock.slots + spare_nodes + spare_notes ≤ stock.places
 
   -- one node became this one, and nothing else changed; the last rest stays
@@ -120,10 +125,20 @@ module _ {A : Type 0} where
     pub rest : rest_of new ≡ rest_of old
     pub root : new.root ≡ old.root
 
-  -- the spares fell by at most so much, and no more than so many nodes came to live
+  -- the spares fell by at most so much, no more than so many nodes came to live, and numbers are below what they were below
   pub record Spends (old new : Grove A) (nodes params kids notes : ℕ) : Type 0 where
     pub live : live_nodes new ≤ live_nodes old + nodes
+    pub numbers : numbers_in new ≤ numbers_in old
     pub nodes_left : old.spare_nodes ≤ new.spare_nodes + nodes
     pub params_left : spare_params old ≤ spare_params new + params
     pub kids_left : spare_kids old ≤ spare_kids new + kids
     pub notes_left : old.spare_notes ≤ new.spare_notes + notes
+
+  -- no more nodes live, and no spare is less, nor is there room for fewer nodes
+  pub record KeepsSpares (old new : Grove A) : Type 0 where
+    pub live : live_nodes new ≡ live_nodes old
+    pub numbers : numbers_in old ≤ numbers_in new
+    pub nodes_left : old.spare_nodes ≤ new.spare_nodes
+    pub params_left : spare_params old ≤ spare_params new
+    pub kids_left : spare_kids old ≤ spare_kids new
+    pub notes_left : old.spare_notes ≤ new.spare_notes

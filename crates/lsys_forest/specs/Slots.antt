@@ -1,12 +1,45 @@
 -- Nodes as they are kept, by their numbers.
-use Rattle.std.specs.Prelude.{◌≡◌, ℕ, ◌+◌, ◌≤◌, List, [], ◌∷◌, ◌++◌, length, Option, Some, None, is_some, count_by, cond, nat_eq, option_map, slice_get, slice_set, slice_index_or}
+use Rattle.std.specs.Prelude.{◌≡◌, ◌≢◌, ℕ, List, map, Option, Some, None, is_some, count_by, option_map, slice_set, slice_index_or}
+use Rattle.slab.specs.Slab.{Slab}
+use Rattle.lsys_forest.specs.Shelves.{run_at}
 use Rattle.lsys_forest.specs.declared.node.Kind.{Kind}
 use Rattle.lsys_forest.specs.declared.node.Stored.{Stored}
+use Rattle.lsys_forest.specs.declared.node.Entry.{Entry}
 
--- the nodes, and how many there may be with no memory taken
+-- By number: the nodes, the runs of their parameters and of their children, and their ranks. Where no node is, the runs are
+-- those of empty lists, and the rank is 0. Then the number that is given out next, and how many nodes there may be with no
+-- memory taken.
 pub record SlotTable (A : Type 0) : Type 0 where
   pub slots : List (Option (Stored A))
+  pub param_runs : List (Option ℕ)
+  pub kid_runs : List (Option ℕ)
+  pub ranks : List ℕ
+  pub next : ℕ
   pub capacity : ℕ
+
+-- the rank at a number
+abbrev pub rank_at : List ℕ → ℕ → ℕ
+rank_at ranks k = slice_index_or ranks k 0
+
+-- a run where a node is, or this one where none is
+abbrev pub run_before : {X : Type 0} → Option X → Option ℕ → Option ℕ → Option ℕ
+run_before None run x = x
+run_before (Some s) run x = run
+
+-- this run where a node is
+abbrev pub run_after : {X : Type 0} → Option X → Option ℕ → Option ℕ
+run_after None x = None
+run_after (Some s) x = x
+
+-- the run at a number is another one, if a node is there
+abbrev pub change_run : {X : Type 0} → Option X → List (Option ℕ) → ℕ → Option ℕ → List (Option ℕ)
+change_run None runs k x = runs
+change_run (Some s) runs k x = slice_set runs k x
+
+-- the rank at a number is another one, if a node is there
+abbrev pub change_rank : {X : Type 0} → Option X → List ℕ → ℕ → ℕ → List ℕ
+change_rank None ranks k x = ranks
+change_rank (Some s) ranks k x = slice_set ranks k x
 
 module _ {A : Type 0} where
   -- the node with this number
@@ -20,10 +53,6 @@ module _ {A : Type 0} where
   -- the node at a number was changed, if it lives
   abbrev pub change_slot : (Stored A → Stored A) → List (Option (Stored A)) → ℕ → List (Option (Stored A))
   change_slot f slots k = slice_set slots k (option_map f (slot_at slots k))
-
-  -- a node was put at a number, or at the next one
-  abbrev pub put_slot : List (Option (Stored A)) → ℕ → Stored A → List (Option (Stored A))
-  put_slot slots k node = cond (nat_eq k (length slots)) (slots ++ Some node ∷ []) (slice_set slots k (Some node))
 
   abbrev pub kind_set : Kind → Stored A → Stored A
   kind_set x s = record s { kind = x }
@@ -39,9 +68,55 @@ module _ {A : Type 0} where
   answer_before None x = x
   answer_before (Some s) x = s.answer
 
-  -- the free numbers are those of vacant places, none twice, and all of them
-  pub record AreFree (slots : List (Option (Stored A))) (free : List ℕ) (places : ℕ) : Type 0 where
-    pub vacant : (j k : ℕ) → slice_get free j ≡ Some k → slice_get slots k ≡ Some None
-    pub once : (i j k : ℕ) → slice_get free i ≡ Some k → slice_get free j ≡ Some k → i ≡ j
-    pub count : live_slots slots + length free ≡ length slots
-    pub room : length slots ≤ places
+  -- what an entry has, where there is one
+  abbrev pub node_in : Option (Entry A) → Option (Stored A)
+  node_in None = None
+  node_in (Some e) = Some e.node
+
+  abbrev pub param_run_in : Option (Entry A) → Option ℕ
+  param_run_in None = None
+  param_run_in (Some e) = e.params
+
+  abbrev pub kid_run_in : Option (Entry A) → Option ℕ
+  kid_run_in None = None
+  kid_run_in (Some e) = e.kids
+
+  abbrev pub rank_in : Option (Entry A) → ℕ
+  rank_in None = 0
+  rank_in (Some e) = e.rank
+
+  -- the entries of a slab, part by part
+  abbrev pub table_of : Slab (Entry A) → SlotTable A
+  table_of s = record { slots = map node_in s.slots; param_runs = map param_run_in s.slots; kid_runs = map kid_run_in s.slots; ranks = map rank_in s.slots; next = s.vacant_key; capacity = s.capacity }
+
+  -- the entry at a number was changed, if there is one
+  abbrev pub change_entry : (Entry A → Entry A) → List (Option (Entry A)) → ℕ → List (Option (Entry A))
+  change_entry f entries k = slice_set entries k (option_map f (slice_index_or entries k None))
+
+  abbrev pub node_set : (Stored A → Stored A) → Entry A → Entry A
+  node_set f e = record e { node = f e.node }
+
+  abbrev pub params_set : Option ℕ → Entry A → Entry A
+  params_set x e = record e { params = x }
+
+  abbrev pub kids_set : Option ℕ → Entry A → Entry A
+  kids_set x e = record e { kids = x }
+
+  abbrev pub rank_set : ℕ → Entry A → Entry A
+  rank_set x e = record e { rank = x }
+
+  -- an entry was put at a number, and all others stay
+  pub record Puts (old new : SlotTable A) (k : ℕ) (e : Entry A) : Type 0 where
+    pub slot : slot_at new.slots k ≡ Some e.node
+    pub params : run_at new.param_runs k ≡ e.params
+    pub kids : run_at new.kid_runs k ≡ e.kids
+    pub other_slots : (j : ℕ) → j ≢ k → slot_at new.slots j ≡ slot_at old.slots j
+    pub other_params : (j : ℕ) → j ≢ k → run_at new.param_runs j ≡ run_at old.param_runs j
+    pub other_kids : (j : ℕ) → j ≢ k → run_at new.kid_runs j ≡ run_at old.kid_runs j
+    pub other_ranks : (j : ℕ) → j ≢ k → rank_at new.ranks j ≡ rank_at old.ranks j
+
+  -- this entry stands at a number, if there is one
+  pub record StandsAt (t : SlotTable A) (k : ℕ) (e : Option (Entry A)) : Type 0 where
+    pub slot : node_in e ≡ slot_at t.slots k
+    pub params : param_run_in e ≡ run_at t.param_runs k
+    pub kids : kid_run_in e ≡ run_at t.kid_runs k

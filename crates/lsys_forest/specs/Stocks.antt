@@ -1,24 +1,26 @@
 -- How the nodes and the changes stand in their parts.
-use Rattle.std.specs.Prelude.{◌≡◌, ℕ, ℤ, ◌+◌, ◌<◌, ◌≤◌, List, [], ◌∷◌, ◌++◌, length, Option, Some, None, slice_get, slice_index_or, slice_set, option_map}
+use Rattle.std.specs.Prelude.{◌≡◌, ◌≢◌, ℕ, ℤ, ◌+◌, ◌≤◌, List, [], ◌∷◌, ◌++◌, length, map, min, Option, Some, None, IsSome, slice_index_or, slice_set, option_map}
+use Rattle.lsys_region.specs.Rooms.{list_room}
 use Rattle.lsys_forest.specs.declared.node.Stored.{Stored}
 use Rattle.lsys_forest.specs.declared.note.Note.{Note}
 use Rattle.lsys_forest.specs.declared.note.Was.{Was}
 use Rattle.lsys_forest.specs.declared.note.Was.TheVariants as was
-use Rattle.lsys_forest.specs.Shelves.{Shelf}
+use Rattle.lsys_forest.specs.Shelves.{Shelf, Hoard, shown, IsOwner}
 use Rattle.lsys_forest.specs.declared.note.Look.{Look}
 use Rattle.lsys_forest.specs.declared.note.Look.TheVariants as look
-use Rattle.lsys_forest.specs.Slots.{slot_at, live_slots, change_slot, kind_set, key_set, answer_set, answer_before}
+use Rattle.lsys_forest.specs.Slots.{SlotTable, slot_at, rank_at, live_slots, change_slot, kind_set, key_set, answer_set, answer_before}
 use Rattle.lsys_forest.specs.Nodes.{Node, Nodes, put, seen_as}
 use Rattle.lsys_forest.specs.Answers.{answer_of}
 use Rattle.std.specs.Option.{option_and_then}
 use Rattle.lsys_forest.specs.Changes.{Before, Missing, OldSeen, OldKey, OldKids, OldAnswer, Change, undo}
 
--- Nodes without parameters and children, these beside them by number; notes without lists, these in turn; the list in hand;
--- and how much room there is for nodes, for notes, and for lists.
+-- Nodes without parameters and children, these beside them by number, and their ranks; notes without lists, these in turn; the
+-- list in hand; and how much room there is for nodes, for notes, and for lists.
 pub record Stock (A : Type 0) : Type 0 where
   pub slots : List (Option (Stored A))
   pub params : List (List ℤ)
   pub kids : List (List ℕ)
+  pub ranks : List ℕ
   pub notes : List (Note A)
   pub past_params : List (List ℤ)
   pub past_kids : List (List ℕ)
@@ -39,13 +41,49 @@ abbrev pub behind_first : {T : Type 0} → List (List T) → List (List T)
 behind_first [] = []
 behind_first (x ∷ xs) = xs
 
--- the list at this number was cleared
-abbrev pub Clears : {T : Type 0} → ℕ → Shelf T → Shelf T → Type 0
-Clears {T} k old new = (new ≡ record old { current = slice_set old.current k []; spare = new.spare }) × (old.spare ≤ new.spare)
+-- a list where something is
+abbrev pub where_some : {X T : Type 0} → Option X → List T → List T
+where_some None list = []
+where_some (Some x) list = list
 
--- the last of the past lists went back to this number
-abbrev pub Restores : {T : Type 0} → ℕ → Shelf T → Shelf T → Type 0
-Restores {T} k old new = (before : List (List T)) (list : List T) → old.past ≡ before ++ list ∷ [] → new ≡ record old { current = slice_set old.current k list; past = before }
+-- this list stands at a number, and all others are as they were
+pub record ComesTo {T : Type 0} (k : ℕ) (list : List T) (old new : List (List T)) : Type 0 where
+  pub here : row_at new k ≡ list
+  pub others : (j : ℕ) → j ≢ k → row_at new j ≡ row_at old j
+
+-- the list at this number was cleared
+pub record Clears {T : Type 0} (k : ℕ) (old new : Shelf T) : Type 0 where
+  pub comes : ComesTo k [] old.current new.current
+  pub cleared : new ≡ record old { current = new.current }
+
+-- the last of the past lists went back to this number, if this is there
+abbrev pub Restores : {X T : Type 0} → Option X → ℕ → Shelf T → Shelf T → Type 0
+Restores {T = T} there k old new = (before : List (List T)) (list : List T) → old.past ≡ before ++ list ∷ [] → ComesTo k (where_some there list) old.current new.current × (new ≡ record old { current = new.current; past = before })
+
+-- this list came to a number where none was
+pub record Adds {T : Type 0} (k : ℕ) (list : List T) (old new : Shelf T) : Type 0 where
+  pub comes : ComesTo k list old.current new.current
+  pub rest : new ≡ record old { current = new.current; spare = new.spare }
+  pub spare : old.spare ≤ new.spare + list_room list
+
+-- the last of the past lists was dropped
+abbrev pub DropsLast : {T : Type 0} → Shelf T → Shelf T → Type 0
+DropsLast {T = T} old new = (before : List (List T)) (list : List T) → old.past ≡ before ++ list ∷ [] → new ≡ record old { past = before }
+
+-- the last of the past lists came in hand
+abbrev pub TakesLastUp : {T : Type 0} → Shelf T → Shelf T → Type 0
+TakesLastUp {T = T} old new = (before : List (List T)) (list : List T) → old.past ≡ before ++ list ∷ [] → new ≡ record old { past = before; hand = list }
+
+-- the list in hand was freed
+abbrev pub PutsDown : {T : Type 0} → Shelf T → Shelf T → Type 0
+PutsDown old new = (new ≡ record old { hand = []; spare = new.spare }) × (old.spare ≤ new.spare)
+
+-- this list came to a number, and the one that stood there behind the past ones
+pub record Swaps {T : Type 0} (k : ℕ) (list : List T) (old new : Shelf T) : Type 0 where
+  pub comes : ComesTo k list old.current new.current
+  pub swapped : new ≡ record old { current = new.current; past = old.past ++ row_at old.current k ∷ []; spare = new.spare; past_places = new.past_places }
+  pub spare : old.spare ≤ new.spare + list_room list
+  pub places : old.past_places ≤ new.past_places
 
 abbrev pub named_by : Look → List ℕ → List ℕ
 named_by (look.Node k) hand = k ∷ []
@@ -102,13 +140,37 @@ module _ {A : Type 0} where
   kid_count [] = 0
   kid_count (n ∷ notes) = kid_lists n.was + kid_count notes
 
-  -- each number has its lists, each note its list, and each note's node a number that was given out
-  pub record IsStock (slots : List (Option (Stored A))) (params : List (List ℤ)) (kids : List (List ℕ)) (notes : List (Note A)) (past_params : List (List ℤ)) (past_kids : List (List ℕ)) : Type 0 where
-    pub params_long : length params ≡ length slots
-    pub kids_long : length kids ≡ length slots
+  -- each note has its list
+  pub record IsStock (notes : List (Note A)) (past_params : List (List ℤ)) (past_kids : List (List ℕ)) : Type 0 where
     pub past_params_long : length past_params ≡ param_count notes
     pub past_kids_long : length past_kids ≡ kid_count notes
-    pub numbered : (i : ℕ) (n : Note A) → slice_get notes i ≡ Some n → n.node < length slots
+
+  -- the parts, where the notes have so many places
+  abbrev pub stock_of : SlotTable A → Hoard ℤ → Hoard ℕ → List (Note A) → ℕ → Stock A
+  stock_of t p q notes places = record {
+    slots = t.slots;
+    params = map (shown p.pool) t.param_runs;
+    kids = map (shown q.pool) t.kid_runs;
+    ranks = t.ranks;
+    notes = notes;
+    past_params = map (shown p.pool) p.past;
+    past_kids = map (shown q.pool) q.past;
+    hand = shown q.pool q.hand;
+    capacity = t.capacity;
+    places = min places (min p.past_places q.past_places);
+    param_room = p.pool.spare;
+    kid_room = q.pool.spare;
+  }
+
+  -- each list of a node and each past one stands in a run of its own, and each note has its list
+  pub record AreParts (t : SlotTable A) (p : Hoard ℤ) (q : Hoard ℕ) (notes : List (Note A)) : Type 0 where
+    pub params : IsOwner p t.param_runs
+    pub kids : IsOwner q t.kid_runs
+    pub stock : IsStock notes (map (shown p.pool) p.past) (map (shown q.pool) q.past)
+
+  -- each of these nodes has its rank still
+  abbrev pub KeepsRanks : Nodes A → Stock A → Stock A → Type 0
+  KeepsRanks m old new = (j : ℕ) → IsSome (m j) → rank_at new.ranks j ≡ rank_at old.ranks j
 
   -- The node at a number became this one, or is no more, and a note tells what it was before; so many nodes more live, and
   -- the rooms for lists fell by no more than this.
@@ -117,20 +179,19 @@ module _ {A : Type 0} where
     pub noted : changes_of new ≡ changes_of old ++ record { node = k; before = before } ∷ []
     pub notes : length new.notes ≡ length old.notes + 1
     pub live : live_slots new.slots ≡ live_slots old.slots + born
-    pub capacity : old.capacity ≤ new.capacity
+    pub capacity : new.capacity ≡ old.capacity
     pub places : old.places ≤ new.places
     pub param_room : old.param_room ≤ new.param_room + params
     pub kid_room : old.kid_room ≤ new.kid_room + kids
     pub hand : new.hand ≡ old.hand
-    pub numbers : length new.slots ≤ length old.slots + born
+    pub ranks : KeepsRanks (nodes_of old) old new
 
-  -- there is room as before, and no number more was given out
+  -- there is room as before
   pub record KeepsRoom (old new : Stock A) : Type 0 where
-    pub capacity : old.capacity ≤ new.capacity
+    pub capacity : new.capacity ≡ old.capacity
     pub places : old.places ≤ new.places
     pub param_room : old.param_room ≤ new.param_room
     pub kid_room : old.kid_room ≤ new.kid_room
-    pub numbers : length new.slots ≤ length old.slots
 
   -- the answer that is kept no more when the change is undone
   abbrev pub dropped_before : Before A → Option (Node A) → Option A
@@ -171,15 +232,20 @@ module _ {A : Type 0} where
   undone_slots was.Kids k slots = slots
   undone_slots (was.Answer x) k slots = change_slot (answer_set x) slots k
 
-  abbrev pub UndoesParams : Was A → ℕ → Shelf ℤ → Shelf ℤ → Type 0
-  UndoesParams was.Missing k old new = Clears k old new
-  UndoesParams (was.Kind x) k old new = Restores k old new
-  UndoesParams w k old new = new ≡ old
+  abbrev pub UndoesParams : Was A → Option (Stored A) → ℕ → Shelf ℤ → Shelf ℤ → Type 0
+  UndoesParams was.Missing s k old new = Clears k old new
+  UndoesParams (was.Kind x) s k old new = Restores s k old new
+  UndoesParams w s k old new = new ≡ old
 
-  abbrev pub UndoesKids : Was A → ℕ → Shelf ℕ → Shelf ℕ → Type 0
-  UndoesKids was.Missing k old new = Clears k old new
-  UndoesKids was.Kids k old new = Restores k old new
-  UndoesKids w k old new = new ≡ old
+  abbrev pub UndoesKids : Was A → Option (Stored A) → ℕ → Shelf ℕ → Shelf ℕ → Type 0
+  UndoesKids was.Missing s k old new = Clears k old new
+  UndoesKids was.Kids s k old new = Restores s k old new
+  UndoesKids w s k old new = new ≡ old
+
+  -- what it does to the ranks
+  abbrev pub undone_ranks : Was A → ℕ → List ℕ → List ℕ
+  undone_ranks was.Missing k ranks = slice_set ranks k 0
+  undone_ranks w k ranks = ranks
 
   -- the answer that is kept no more when this is undone, where such a slot is
   abbrev pub slot_answer : Stored A → Option A
@@ -192,12 +258,12 @@ module _ {A : Type 0} where
 
   -- the last of the past parameters goes with a note
   abbrev pub DropsParams : Was A → Shelf ℤ → Shelf ℤ → Type 0
-  DropsParams (was.Kind x) old new = (before : List (List ℤ)) (list : List ℤ) → old.past ≡ before ++ list ∷ [] → new ≡ record old { past = before }
+  DropsParams (was.Kind x) old new = DropsLast old new
   DropsParams w old new = new ≡ old
 
   -- the last of the past lists of children comes in hand with a note
   abbrev pub TakesKids : Was A → Shelf ℕ → Shelf ℕ → Type 0
-  TakesKids was.Kids old new = (before : List (List ℕ)) (list : List ℕ) → old.past ≡ before ++ list ∷ [] → new ≡ record old { past = before; hand = list }
+  TakesKids was.Kids old new = TakesLastUp old new
   TakesKids w old new = new ≡ old
 
   -- the answer that a note keeps
@@ -223,6 +289,7 @@ module _ {A : Type 0} where
     pub nodes : nodes_of new ≡ nodes_of old
     pub live : live_slots new.slots ≡ live_slots old.slots
     pub looks : named_by look new.hand ≡ looked last
+    pub ranks : new.ranks ≡ old.ranks
 
   -- after a node was removed, whose children a commit has to look at
   pub record Removes (old new : Stock A) (k : ℕ) (n : Node A) : Type 0 where
@@ -232,3 +299,4 @@ module _ {A : Type 0} where
     pub live : live_slots new.slots + 1 ≡ live_slots old.slots
     pub room : KeepsRoom old new
     pub hand : new.hand ≡ old.hand
+    pub ranks : (j : ℕ) → j ≢ k → rank_at new.ranks j ≡ rank_at old.ranks j

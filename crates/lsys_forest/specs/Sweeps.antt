@@ -21,9 +21,14 @@ module _ {A : Type 0} where
     pub cover : (k : ℕ) (n : Node A) → m k ≡ Some n → k ≢ root → IsLinked m k n ⊎ In k left ⊎ Named changes k
     pub kids : (p k : ℕ) (n : Node A) → m p ≡ Some n → In k n.kids → IsSome (m k)
 
-  -- the nodes in `left` were looked at, whatever the forest was first, where these are its ranks
-  abbrev pub SweepsLeft : ℕ → List ℕ → Stock A → Stock A → List ℕ → Type 0
-  SweepsLeft root at old new left = (first : Nodes A) (before : List (Change A)) → IsSound root before first → AreRanked first at → IsSwept first root (nodes_of old) (changes_of old) left → IsSwept first root (nodes_of new) (changes_of new) []
+  -- the same, with the ranks of the nodes that are left
+  pub record IsSweptOf (first : Nodes A) (root : ℕ) (t : Stock A) (left : List ℕ) : Type 0 where
+    pub swept : IsSwept first root (nodes_of t) (changes_of t) left
+    pub ranked : AreRanked (nodes_of t) t.ranks
+
+  -- the nodes in `left` were looked at, whatever the forest was first
+  abbrev pub SweepsLeft : ℕ → Stock A → Stock A → List ℕ → Type 0
+  SweepsLeft root old new left = (first : Nodes A) (before : List (Change A)) → IsSound root before first → IsSweptOf first root old left → IsSweptOf first root new []
 
   -- a node that is removed makes place for the change that tells its children
   pub record KeepsPlaces (old new : Stock A) : Type 0 where

@@ -1,21 +1,22 @@
 //! The forest.
-ghost use Rattle.std.specs.Prelude.{◌↔◌, List, ◌∷◌, ◌++◌, ◌≡◌, ◌≢◌, ◌+◌, ◌<◌, ◌≤◌, ◌^◌, ℕ, [], None, Some, IfOk, OnOk, IsTrue, false, option_copied, length};
+ghost use Rattle.std.specs.Prelude.{◌↔◌, List, ◌∷◌, ◌++◌, ◌≡◌, ◌≢◌, ◌+◌, ◌<◌, ◌≤◌, ◌^◌, ℕ, [], None, Some, IfOk, OnOk, IsTrue, false, option_copied, length, max};
 ghost use Rattle.lsys_module.specs.declared.symbol.Symbol.TheVariants.{Cut};
 ghost use Rattle.lsys_level.specs.Places.{seen_in, params_in};
+ghost use Rattle.lsys_level.specs.Views.{seen_of, HasFewParams};
 ghost use Rattle.lsys_region.specs.Rooms.{list_room};
 ghost use Rattle.lsys_forest.specs.Nodes.{Node, root_node, with_seen, with_key, with_kids, with_answer};
 ghost use Rattle.lsys_forest.specs.Slots.{live_slots};
-ghost use Rattle.lsys_forest.specs.Changes.{Change, undone};
+ghost use Rattle.lsys_forest.specs.Changes.{Change, OldAnswer, undone};
 ghost use Rattle.lsys_forest.specs.Stocks.{nodes_of, changes_of, KeepsRoom, Undoes, dropped};
 ghost use Rattle.lsys_forest.specs.Answers.{answers, kept_by, IsMade, Releases, AreMade, Follows, FreesAllBut};
 ghost use Rattle.lsys_forest.specs.Rows.{first_in, last_in, oriented, flat, kids_that_way, kids_below, complete_levels, level_of_node, place_of_node, IsAtSpot, level_with};
 ghost use Rattle.lsys_forest.specs.Mates.{mate_way};
 ghost use Rattle.lsys_forest.specs.Ranks.{AreRanked};
-ghost use Rattle.lsys_forest.specs.Groves.{now_of, rest_of, IsAtRest, IsLive, live_nodes, spare_params, spare_kids, kept_in, changes_in, IsSound, AreSound, Reached, AreKids, Sets, Spends};
+ghost use Rattle.lsys_forest.specs.Groves.{now_of, rest_of, IsAtRest, IsLive, live_nodes, numbers_in, spare_params, spare_kids, kept_in, changes_in, IsSound, AreSound, Reached, AreKids, Sets, Spends, KeepsSpares};
 
 use crate::kept::Kept;
 use crate::node::{Kind, NodeId};
-use crate::ranks::{Ranks, rerank};
+use crate::seen::is_seen;
 use crate::stock::Parts;
 use crate::sweep::sweep_all;
 use crate::walk::{Way, beside, first_at, first_child, is_before, mate_of};
@@ -28,7 +29,6 @@ use std::marker::Model;
 #[derive(Drop)]
 pub struct Forest<A> {
     parts: Parts<A>,
-    ranks: Ranks,
     root: NodeId,
     spare_nodes: usize,
     spare_notes: usize,
@@ -36,7 +36,8 @@ pub struct Forest<A> {
 
 impl<A> Model for Forest<A> {
     ghost use Rattle.lsys_forest.specs.Groves.{Grove, IsGrove};
-    ghost use Rattle.lsys_forest.specs.Ranks.{AreRanks};
+    ghost use Rattle.lsys_forest.specs.Ranks.{AreRanked};
+    ghost use Rattle.lsys_forest.specs.Stocks.{nodes_of};
 
     ghost Value = { Grove A };
 
@@ -44,7 +45,7 @@ impl<A> Model for Forest<A> {
 
     ghost invariant = { λ a. record {
       grove : IsGrove a.parts a.root a.spare_nodes a.spare_notes;
-      ranks : AreRanks a.ranks a.parts a.spare_nodes;
+      ranked : AreRanked (nodes_of a.parts) a.parts.ranks;
     } };
 }
 
@@ -61,10 +62,8 @@ impl<A: Kept> Forest<A> {
         ensures live { IfOk result (λ f. live_nodes f ≡ 1) }
     {
         let parts = Parts::of_root(alloc)?;
-        let ranks = Ranks::of_root(alloc)?;
         Ok(Forest {
             parts,
-            ranks,
             root: NodeId(0),
             spare_nodes: 0,
             spare_notes: 0,
@@ -76,7 +75,8 @@ impl<A: Kept> Forest<A> {
     ///
     /// # Errors
     ///
-    /// Want of memory. The spares are then no less than they were.
+    /// Want of memory, also of numbers below 2^32: where the room that was made is for more nodes than that, none finds room
+    /// any more. The other spares are then no less than they were.
     pub fn reserve(
         &mut self,
         nodes: usize,
@@ -86,9 +86,12 @@ impl<A: Kept> Forest<A> {
     ) -> Result<(), AllocError>
         requires numbers { live_nodes self.old + nodes < 2 ^ 32 }
         ensures now { now_of self.new ≡ now_of self.old }
+        ensures changes { changes_in self.new ≡ changes_in self.old }
         ensures rest { rest_of self.new ≡ rest_of self.old }
         ensures root { self.new.root ≡ self.old.root }
-        ensures spares { Spends self.old self.new 0 0 0 0 }
+        ensures spares { OnOk result (KeepsSpares self.old self.new) }
+        ensures fits { numbers_in self.new ≤ 2 ^ 32 → KeepsSpares self.old self.new }
+        ensures others { KeepsSpares (record self.old { spare_nodes = 0 }) self.new }
         ensures nodes { OnOk result (nodes ≤ self.new.spare_nodes) }
         ensures params { OnOk result (params ≤ spare_params self.new) }
         ensures kids { OnOk result (kids ≤ spare_kids self.new) }
@@ -97,11 +100,15 @@ impl<A: Kept> Forest<A> {
         let spare_nodes = nodes.max(self.spare_nodes);
         let spare_notes = notes.max(self.spare_notes);
         let places = spare_notes.saturating_add(self.parts.live() + spare_nodes);
-        self.parts.reserve(spare_nodes, params, kids, places)?;
-        self.ranks.reserve(self.parts.live() + spare_nodes)?;
-        self.spare_nodes = spare_nodes;
+        self.parts.reserve(params, kids, places)?;
+        let room = room_for(&mut self.parts, nodes, self.spare_nodes);
+        self.spare_nodes = room;
         self.spare_notes = spare_notes;
-        Ok(())
+        if room < nodes {
+            Err(AllocError)
+        } else {
+            Ok(())
+        }
     }
 
     /// Adds a node under a parent, with no children and no answer. No other node changes. It takes no memory.
@@ -137,9 +144,7 @@ impl<A: Kept> Forest<A> {
         };
         self.spare_nodes -= 1;
         self.spare_notes -= 1;
-        let node = self.parts.insert(parent, code, count, depth, symbol, key);
-        self.ranks.reach(node);
-        node
+        self.parts.insert(parent, code, count, depth, symbol, key)
     }
 
     /// Sets the children of a node: nodes of this parent, none twice, in whatever order. Nothing else changes. It takes no
@@ -154,7 +159,7 @@ impl<A: Kept> Forest<A> {
     {
         self.spare_notes -= 1;
         self.parts.set_kids(node, kids);
-        rerank(&mut self.ranks, &self.parts, node);
+        self.parts.rerank(node);
     }
 
     /// Sets the symbol of a node that is not the root. Nothing else changes. It takes no memory.
@@ -190,6 +195,9 @@ impl<A: Kept> Forest<A> {
         requires notes { 0 < self.old.spare_notes }
         ensures set { (n : Node A) → now_of self.old node ≡ Some n
             → Sets self.old self.new node (with_answer answer n) }
+        ensures noted { (n : Node A) → now_of self.old node ≡ Some n
+            → changes_in self.new
+            ≡ changes_in self.old ++ record { node = node; before = OldAnswer n.answer } ∷ [] }
         ensures spends { Spends self.old self.new 0 0 0 1 }
     {
         self.spare_notes -= 1;
@@ -211,6 +219,15 @@ impl<A: Kept> Forest<A> {
         self.parts.live()
     }
 
+    /// For how many nodes there is room. Each live node's number is below it. Only [`Forest::reserve`] raises it: so room for
+    /// something of each node can be made before the nodes are.
+    pub fn numbers(&self) -> usize
+        ensures count { result ≡ numbers_in self.now }
+        ensures below { (k : ℕ) → IsLive self.now k → k < result }
+    {
+        self.parts.numbers()
+    }
+
     /// The answer that a node keeps, if it keeps one.
     pub fn answer(&self, node: NodeId) -> Option<&A>
         requires { IsLive self.now node }
@@ -222,12 +239,42 @@ impl<A: Kept> Forest<A> {
         }
     }
 
-    /// The children of a node, as they were last set, in order.
+    /// The children of a node, as they were last set, in order: distinct nodes of this parent. The forest is sound, so the
+    /// parent is above them.
     pub fn children(&self, node: NodeId) -> &[NodeId]
         requires { IsLive self.now node }
-        ensures { (n : Node A) → now_of self.now node ≡ Some n → result.now ≡ n.kids }
+        ensures kids { (n : Node A) → now_of self.now node ≡ Some n → result.now ≡ n.kids }
+        ensures under { AreKids (now_of self.now) self.now.root node result.now }
+        ensures sound { IsSound self.now.root (changes_in self.now) (now_of self.now) }
     {
         self.parts.kids(node)
+    }
+
+    /// The symbol of a node, of whatever level; of the root, which has none, `[`.
+    pub fn symbol(&self, node: NodeId) -> Sight<'_>
+        requires { IsLive self.now node }
+        ensures few { HasFewParams result }
+        ensures seen { (n : Node A) → now_of self.now node ≡ Some n → seen_of result ≡ n.seen }
+    {
+        self.parts.symbol(node)
+    }
+
+    /// Whether a node, of whatever level, has this symbol.
+    pub fn has_symbol(&self, node: NodeId, symbol: &Symbol) -> bool
+        requires lives { IsLive self.now node }
+        requires whole { symbol.now ≢ Cut }
+        ensures { (n : Node A) → now_of self.now node ≡ Some n
+            → IsTrue result ↔ (n.seen ≡ seen_in symbol.now) }
+    {
+        is_seen(self.symbol(node), symbol)
+    }
+
+    /// The key of a node, of whatever level; of the root, which has none, 0.
+    pub fn key_of(&self, node: NodeId) -> u64
+        requires { IsLive self.now node }
+        ensures { (n : Node A) → now_of self.now node ≡ Some n → result ≡ n.key }
+    {
+        self.parts.key(node)
     }
 
     /// The code and the count that name a node under its parent. The node is not the root.
@@ -254,7 +301,7 @@ impl<A: Kept> Forest<A> {
         ensures store { FreesAllBut A.run_at A.Holds (kept_in self.old) (kept_by (rest_of self.old)) store.old store.new }
         ensures still { AreMade A.run_at A.Holds store.new (kept_in self.new) }
     {
-        undo_all(&mut self.parts, &mut self.ranks, self.root, store);
+        undo_all(&mut self.parts, self.root, store);
     }
 
     /// Keeps the forest as it is, as a rest: the nodes that are reached from the root stay node for node, and all others
@@ -269,7 +316,7 @@ impl<A: Kept> Forest<A> {
         ensures store { FreesAllBut A.run_at A.Holds (kept_in self.old) (kept_by (now_of self.new)) store.old store.new }
         ensures still { AreMade A.run_at A.Holds store.new (kept_in self.new) }
     {
-        sweep_all(&mut self.parts, &self.ranks, self.root, store);
+        sweep_all(&mut self.parts, self.root, store);
     }
 }
 
@@ -281,14 +328,7 @@ impl<A: Kept> Forest<A> {
         requires level { level_of_node self.now two ≡ level_of_node self.now one }
         ensures { IsTrue result ↔ (place_of_node self.now one < place_of_node self.now two) }
     {
-        is_before(
-            &self.parts,
-            &self.ranks,
-            self.root,
-            one,
-            two,
-            self.depth(one),
-        )
+        is_before(&self.parts, self.root, one, two, self.depth(one))
     }
 
     /// The first child of the nodes of a complete level from this one on; none where they have no children.
@@ -316,14 +356,7 @@ impl<A: Kept> Forest<A> {
             → oriented way (level_with self.now spot) ≡ before ++ spot ∷ after → result ≡ first_in after }
         ensures sound { IsSound self.now.root (changes_in self.now) (now_of self.now) }
     {
-        beside(
-            &self.parts,
-            &self.ranks,
-            self.root,
-            spot,
-            self.depth(spot),
-            way,
-        )
+        beside(&self.parts, self.root, spot, self.depth(spot), way)
     }
 
     /// The first child of the nodes of a complete level from one of them on, that way.
@@ -333,14 +366,7 @@ impl<A: Kept> Forest<A> {
             → oriented way (level_with self.now spot) ≡ before ++ spot ∷ after
             → result ≡ first_in (flat (kids_that_way way (now_of self.now)) (spot ∷ after)) }
     {
-        first_child(
-            &self.parts,
-            &self.ranks,
-            self.root,
-            Some(spot),
-            self.depth(spot),
-            way,
-        )
+        first_child(&self.parts, self.root, Some(spot), self.depth(spot), way)
     }
 
     /// How many steps a node of a complete level is below the root.
@@ -367,7 +393,7 @@ impl<A: Kept> LevelView for Forest<A> {
     ghost place_of = { place_of_node };
 
     fn first(&self, level: u32) -> Option<NodeId> {
-        first_at(&self.parts, &self.ranks, self.root, level)
+        first_at(&self.parts, self.root, level)
     }
 
     fn left(&self, spot: NodeId) -> Option<NodeId> {
@@ -380,25 +406,11 @@ impl<A: Kept> LevelView for Forest<A> {
 
     fn mate(&self, spot: NodeId) -> NodeId {
         let way = way_to_mate(self.parts.kind(spot));
-        mate_of(
-            &self.parts,
-            &self.ranks,
-            self.root,
-            spot,
-            self.depth(spot),
-            way,
-        )
+        mate_of(&self.parts, self.root, spot, self.depth(spot), way)
     }
 
     fn sight(&self, spot: NodeId) -> Sight<'_> {
-        match self.parts.kind(spot) {
-            Kind::Push => Sight::Push,
-            Kind::Pop => Sight::Pop,
-            Kind::Module(name) => Sight::Module {
-                name,
-                params: self.parts.params(spot),
-            },
-        }
+        self.parts.symbol(spot)
     }
 
     fn tag(&self, spot: NodeId) -> Tag {
@@ -407,10 +419,7 @@ impl<A: Kept> LevelView for Forest<A> {
     }
 
     fn key(&self, spot: NodeId) -> u64 {
-        match self.parts.get(spot) {
-            Some(found) => found.key,
-            None => unreachable!(),
-        }
+        self.parts.key(spot)
     }
 }
 
@@ -424,51 +433,64 @@ fn way_to_mate(kind: Kind) -> Way
     }
 }
 
+/// Asks for room for so many nodes, where so many find room, and answers how many do then: none, where there is room for
+/// more nodes than there are numbers.
+fn room_for<A: Kept>(parts: &mut Parts<A>, nodes: usize, spare: usize) -> usize
+    requires room { live_slots parts.old.slots + spare ≤ parts.old.capacity }
+    requires fit { 0 < spare → parts.old.capacity ≤ 2 ^ 32 }
+    ensures same { parts.new ≡ record parts.old { capacity = parts.new.capacity } }
+    ensures room { live_slots parts.old.slots + result ≤ parts.new.capacity }
+    ensures fit { 0 < result → parts.new.capacity ≤ 2 ^ 32 }
+    ensures more { parts.old.capacity ≤ parts.new.capacity }
+    ensures kept { parts.new.capacity ≤ 2 ^ 32 → spare ≤ result }
+    ensures enough { nodes ≤ result → spare ≤ result }
+    ensures most { result ≤ max nodes spare }
+{
+    if nodes <= spare {
+        return spare;
+    }
+    match parts.reserve_nodes(nodes) {
+        Ok(()) => nodes,
+        Err(_) if parts.has_numbers() => spare,
+        Err(_) => 0,
+    }
+}
+
 /// Undoes each change, the last first.
-fn undo_all<A: Kept>(parts: &mut Parts<A>, ranks: &mut Ranks, root: NodeId, store: &mut A::Store)
+fn undo_all<A: Kept>(parts: &mut Parts<A>, root: NodeId, store: &mut A::Store)
     requires sound { AreSound root (changes_of parts.old) (nodes_of parts.old) }
-    requires ranked { AreRanked (nodes_of parts.old) ranks.old.at }
-    requires numbers { length parts.old.slots ≤ length ranks.old.at }
+    requires ranked { AreRanked (nodes_of parts.old) parts.old.ranks }
     requires made { AreMade A.run_at A.Holds store.old (answers (nodes_of parts.old) (changes_of parts.old)) }
     ensures nodes { nodes_of parts.new ≡ undone (changes_of parts.old) (nodes_of parts.old) }
     ensures empty { changes_of parts.new ≡ [] }
     ensures short { length parts.new.notes ≡ 0 }
     ensures live { live_slots parts.new.slots ≤ live_slots parts.old.slots }
     ensures room { KeepsRoom parts.old parts.new }
-    ensures ranked { AreRanked (nodes_of parts.new) ranks.new.at }
-    ensures long { length ranks.new.at ≡ length ranks.old.at }
-    ensures places { ranks.old.places ≤ ranks.new.places }
+    ensures ranked { AreRanked (nodes_of parts.new) parts.new.ranks }
     ensures made { AreMade A.run_at A.Holds store.new (answers (nodes_of parts.new) (changes_of parts.new)) }
     ensures freed { Follows A.run_at A.Holds (answers (nodes_of parts.old) (changes_of parts.old)) store.old
         (answers (nodes_of parts.new) (changes_of parts.new)) store.new }
 {
-    while undo_one(parts, ranks, root, store) {}
+    while undo_one(parts, root, store) {}
 }
 
 /// Undoes the last change, and tells whether there was one.
-fn undo_one<A: Kept>(
-    parts: &mut Parts<A>,
-    ranks: &mut Ranks,
-    root: NodeId,
-    store: &mut A::Store,
-) -> bool
+fn undo_one<A: Kept>(parts: &mut Parts<A>, root: NodeId, store: &mut A::Store) -> bool
     requires sound { AreSound root (changes_of parts.old) (nodes_of parts.old) }
-    requires ranked { AreRanked (nodes_of parts.old) ranks.old.at }
-    requires numbers { length parts.old.slots ≤ length ranks.old.at }
+    requires ranked { AreRanked (nodes_of parts.old) parts.old.ranks }
     requires made { (c : Change A) (earlier : List (Change A)) → changes_of parts.old ≡ earlier ++ c ∷ []
         → IsMade A.run_at A.Holds store.old (dropped c (nodes_of parts.old)) }
     ensures undone { IsTrue result → (c : Change A) × Undoes parts.old parts.new c
         × Releases A.run_at A.Holds (dropped c (nodes_of parts.old)) store.old store.new }
     ensures none { result ≡ false → (changes_of parts.old ≡ []) × (parts.new ≡ parts.old) × (store.new ≡ store.old) }
-    ensures ranked { AreRanked (nodes_of parts.new) ranks.new.at }
-    ensures long { length ranks.new.at ≡ length ranks.old.at }
-    ensures places { ranks.old.places ≤ ranks.new.places }
+    ensures ranked { AreRanked (nodes_of parts.new) parts.new.ranks }
 {
     let family = parts.last_family();
-    let undone = parts.undo_last(store);
-    match family {
-        Some(node) => rerank(ranks, parts, node),
-        None => {}
+    if !parts.undo_last(store) {
+        return false;
     }
-    undone
+    if let Some(node) = family {
+        parts.rerank(node);
+    }
+    true
 }

@@ -1,10 +1,6 @@
 //! What a forest keeps at its nodes.
 ghost use Rattle.std.specs.Prelude.{◌≡◌, Option, IsSome, None};
-ghost use Rattle.std.specs.Option.{option_and_then};
 ghost use Rattle.lsys_forest.specs.Answers.{IsMade, Releases};
-ghost use Rattle.lsys_forest.specs.Stocks.{slot_answer};
-
-use crate::node::Stored;
 
 /// An answer that a node keeps. It holds runs of a store, and gives them back when it is kept no more.
 pub trait Kept: Drop {
@@ -36,15 +32,5 @@ pub(crate) fn release_one<A: Kept>(answer: Option<A>, store: &mut A::Store)
 {
     if let Some(kept) = answer {
         kept.release(store);
-    }
-}
-
-/// Releases the answer of a node, if there are both.
-pub(crate) fn release_slot<A: Kept>(node: Option<Stored<A>>, store: &mut A::Store)
-    requires { IsMade A.run_at A.Holds store.old (option_and_then slot_answer node) }
-    ensures { Releases A.run_at A.Holds (option_and_then slot_answer node) store.old store.new }
-{
-    if let Some(kept) = node {
-        release_one(kept.answer, store);
     }
 }

@@ -1,15 +1,14 @@
 //! Nodes as they are kept.
-ghost use Rattle.std.specs.Prelude.{◌≡◌, ◌≢◌, option_map};
+ghost use Rattle.std.specs.Prelude.{◌≡◌, ◌≢◌};
 ghost use Rattle.lsys_module.specs.declared.symbol.Symbol.TheVariants.{Cut};
 ghost use Rattle.lsys_level.specs.Places.{seen_in, params_in};
 ghost use Rattle.lsys_forest.specs.Nodes.{seen_as};
 ghost use Rattle.lsys_forest.specs.Groves.{HasFew};
-ghost use Rattle.lsys_forest.specs.Slots.{kind_set, key_set, answer_set, answer_before};
 
 use lsys_module::Symbol;
+use lsys_region::Run;
 use lsys_text::Name;
 use std::marker::Model;
-use std::mem;
 
 /// The number that names a node of a forest, which is also its tag's.
 #[derive(Clone, Copy, Debug, Drop, PartialEq, Eq)]
@@ -52,6 +51,16 @@ pub(crate) struct Stored<A> {
     pub(crate) answer: Option<A>,
 }
 
+/// A node with the runs of its parameters and of its children, and its place among the children of its parent.
+#[derive(Drop)]
+pub(crate) struct Entry<A> {
+    pub(crate) node: Stored<A>,
+    pub(crate) params: Run,
+    pub(crate) kids: Run,
+    /// Its place in the list that its parent has, where it is in that list.
+    pub(crate) rank: usize,
+}
+
 /// The kind of a symbol.
 pub(crate) fn kind_of(symbol: &Symbol) -> Kind
     requires { symbol.now ≢ Cut }
@@ -73,38 +82,5 @@ pub(crate) fn params_of(symbol: &Symbol) -> &[i64]
     match symbol {
         Symbol::Module(module) => module.params.values(),
         _ => &[],
-    }
-}
-
-/// Sets the symbol without its parameters, and answers the one before.
-pub(crate) fn swap_kind<A>(slot: &mut Option<Stored<A>>, kind: Kind) -> Option<Kind>
-    ensures before { result ≡ option_map (λ s. s.kind) slot.old }
-    ensures changed { slot.new ≡ option_map (kind_set kind) slot.old }
-{
-    match slot {
-        Some(node) => Some(mem::replace(&mut node.kind, kind)),
-        None => None,
-    }
-}
-
-/// Sets the key, and answers the one before.
-pub(crate) fn swap_key<A>(slot: &mut Option<Stored<A>>, key: u64) -> Option<u64>
-    ensures before { result ≡ option_map (λ s. s.key) slot.old }
-    ensures changed { slot.new ≡ option_map (key_set key) slot.old }
-{
-    match slot {
-        Some(node) => Some(mem::replace(&mut node.key, key)),
-        None => None,
-    }
-}
-
-/// Sets the answer, and answers the one before; where no node is, the answer comes back.
-pub(crate) fn swap_answer<A: Drop>(slot: &mut Option<Stored<A>>, answer: Option<A>) -> Option<A>
-    ensures before { result ≡ answer_before slot.old answer }
-    ensures changed { slot.new ≡ option_map (answer_set answer) slot.old }
-{
-    match slot {
-        Some(node) => mem::replace(&mut node.answer, answer),
-        None => answer,
     }
 }

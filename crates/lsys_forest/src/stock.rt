@@ -1,21 +1,29 @@
 //! The parts of a forest: its nodes, their lists, and the journal.
-ghost use Rattle.std.specs.Prelude.{◌≡◌, ◌≢◌, ◌⊎◌, ℕ, ◌+◌, ◌<◌, ◌≤◌, ◌^◌, ◌++◌, ◌∷◌, [], length, List, Some, None, IsSome, IfOk, IfSome, IfNone, IsTrue, OnOk, option_copied, false, vec_len, vec_capacity};
+ghost use Rattle.std.specs.Prelude.{◌≡◌, ◌≢◌, ◌↔◌, ℕ, ◌+◌, ◌<◌, ◌≤◌, ◌^◌, ◌++◌, ◌∷◌, [], length, List, Option, Some, None, IsSome, IfOk, IfSome, IfNone, IsTrue, OnOk, option_copied, false, vec_len, vec_capacity};
 ghost use Rattle.lsys_module.specs.declared.symbol.Symbol.TheVariants.{Cut};
 ghost use Rattle.lsys_level.specs.Places.{seen_in, params_in};
+ghost use Rattle.lsys_level.specs.Views.{seen_of};
 ghost use Rattle.lsys_region.specs.Rooms.{list_room};
+ghost use Rattle.lsys_forest.specs.declared.node.Kind.TheVariants.{Push};
 ghost use Rattle.lsys_forest.specs.declared.node.Stored.{Stored};
-ghost use Rattle.lsys_forest.specs.Slots.{slot_at, live_slots};
+ghost use Rattle.lsys_forest.specs.Shelves.{shelf_of, IsOwner};
+ghost use Rattle.lsys_forest.specs.Slots.{slot_at, rank_at, live_slots};
 ghost use Rattle.lsys_forest.specs.Answers.{old_answer, IsMade, Releases};
-ghost use Rattle.lsys_forest.specs.Groves.{HasFew};
-ghost use Rattle.lsys_forest.specs.Nodes.{Node, root_node, put, with_seen, with_key, with_kids, with_answer};
+ghost use Rattle.lsys_forest.specs.Groves.{HasFew, IsSound};
+ghost use Rattle.lsys_forest.specs.Nodes.{Node, Nodes, root_node, put, with_seen, with_key, with_kids, with_answer};
 ghost use Rattle.lsys_forest.specs.Changes.{Change, KeepsKids, Missing, OldSeen, OldKey, OldKids, OldAnswer};
-ghost use Rattle.lsys_forest.specs.Stocks.{nodes_of, changes_of, row_at, Journals, KeepsRoom, dropped, Undoes, TakesUp, Removes, undone_slots, UndoesParams, UndoesKids, dropped_slot, DropsParams, TakesKids, noted_answer, named, named_by, kid_lists};
+ghost use Rattle.lsys_forest.specs.Stocks.{nodes_of, changes_of, row_at, Journals, KeepsRoom, KeepsRanks, dropped, Undoes, TakesUp, Removes, undone_slots, undone_ranks, UndoesParams, UndoesKids, dropped_slot, DropsParams, TakesKids, noted_answer, named, named_by, kid_lists};
+ghost use Rattle.lsys_forest.specs.Ranks.{AreRanked};
 
-use crate::kept::{Kept, release_one, release_slot};
+use crate::kept::{Kept, release_one};
 use crate::lists::Lists;
 use crate::node::{Kind, NodeId, Stored, kind_of, params_of};
 use crate::note::{Look, Note, Was};
+use crate::runs::{
+    clear, insert, number, restore_kids, restore_params, swap_kids, swap_params, take_out,
+};
 use crate::table::Table;
+use lsys_level::Sight;
 use lsys_module::Symbol;
 use std::alloc::{AllocError, Global};
 use std::marker::Model;
@@ -30,42 +38,17 @@ pub(crate) struct Parts<A> {
 }
 
 impl<A> Model for Parts<A> {
-    ghost use Rattle.std.specs.Prelude.{min, vec_capacity};
-    ghost use Rattle.lsys_forest.specs.Stocks.{Stock, IsStock};
+    ghost use Rattle.std.specs.Prelude.{vec_capacity};
+    ghost use Rattle.lsys_forest.specs.Stocks.{Stock, stock_of, AreParts};
 
     ghost Value = { Stock A };
 
-    ghost view = { λ a. record {
-      slots = a.table.slots;
-      params = a.params.current;
-      kids = a.kids.current;
-      notes = a.notes.items;
-      past_params = a.params.past;
-      past_kids = a.kids.past;
-      hand = a.kids.hand;
-      capacity = min a.table.capacity (min a.params.places a.kids.places);
-      places = min (vec_capacity a.notes) (min a.params.past_places a.kids.past_places);
-      param_room = a.params.spare;
-      kid_room = a.kids.spare;
-    } };
+    ghost view = { λ a. stock_of a.table a.params a.kids a.notes.items (vec_capacity a.notes) };
 
-    ghost invariant = { λ a. IsStock a.table.slots a.params.current a.kids.current a.notes.items a.params.past a.kids.past };
+    ghost invariant = { λ a. AreParts a.table a.params a.kids a.notes.items };
 }
 
 impl<A: Drop> Parts<A> {
-    /// No nodes and no changes. It takes no memory.
-    pub(crate) fn new(alloc: Global) -> Parts<A>
-        ensures slots { result.slots ≡ [] }
-        ensures notes { result.notes ≡ [] }
-    {
-        Parts {
-            table: Table::new(alloc),
-            params: Lists::new(alloc),
-            kids: Lists::new(alloc),
-            notes: Vec::new(alloc),
-        }
-    }
-
     /// The root alone, with number 0, and no changes.
     ///
     /// # Errors
@@ -76,72 +59,71 @@ impl<A: Drop> Parts<A> {
         ensures changes { IfOk result (λ p. changes_of p ≡ []) }
         ensures notes { IfOk result (λ p. length p.notes ≡ 0) }
         ensures live { IfOk result (λ p. live_slots p.slots ≡ 1) }
-        ensures one { IfOk result (λ p. length p.slots ≡ 1) }
         ensures capacity { IfOk result (λ p. 1 ≤ p.capacity) }
         ensures places { IfOk result (λ p. 1 ≤ p.places) }
     {
-        let mut parts = Parts::new(alloc);
-        parts.reserve(1, 0, 0, 1)?;
-        parts.plant();
+        let mut table = Table::new(alloc);
+        table.reserve(1)?;
+        let mut params = Lists::new(alloc);
+        let mut kids = Lists::new(alloc);
+        insert(&mut table, &mut params, &mut kids, root_stored(), &[]);
+        let mut parts = Parts {
+            table,
+            params,
+            kids,
+            notes: Vec::new(alloc),
+        };
+        parts.reserve(0, 0, 1)?;
         Ok(parts)
     }
 
-    /// Adds the root, and notes nothing.
-    fn plant(&mut self)
-        requires slots { self.old.slots ≡ [] }
-        requires notes { self.old.notes ≡ [] }
-        requires capacity { 1 ≤ self.old.capacity }
-        ensures nodes { nodes_of self.new ≡ put (λ k. None) 0 (Some (root_node 0)) }
-        ensures changes { self.new.notes ≡ [] }
-        ensures live { live_slots self.new.slots ≡ 1 }
-        ensures capacity { self.old.capacity ≤ self.new.capacity }
-        ensures places { self.old.places ≤ self.new.places }
-        ensures one { length self.new.slots ≡ 1 }
-    {
-        let number = self.table.insert(Stored {
-            parent: NodeId(0),
-            code: 0,
-            count: 0,
-            depth: 0,
-            kind: Kind::Push,
-            key: 0,
-            answer: None,
-        });
-        let row = number.0 as usize;
-        self.params.reach(row);
-        self.kids.reach(row);
-    }
-
-    /// Makes room for so many nodes, cells of parameters, cells of children, and notes more.
+    /// Makes room for so many cells of parameters, cells of children, and notes more.
     ///
     /// # Errors
     ///
     /// Want of memory. The nodes and the changes stay.
     pub(crate) fn reserve(
         &mut self,
-        nodes: usize,
         params: usize,
         kids: usize,
         notes: usize,
     ) -> Result<(), AllocError>
         ensures nodes { nodes_of self.new ≡ nodes_of self.old }
         ensures changes { changes_of self.new ≡ changes_of self.old }
+        ensures ranks { self.new.ranks ≡ self.old.ranks }
         ensures notes { length self.new.notes ≡ length self.old.notes }
         ensures live { live_slots self.new.slots ≡ live_slots self.old.slots }
         ensures keeps { KeepsRoom self.old self.new }
-        ensures capacity { OnOk result (live_slots self.new.slots + nodes ≤ self.new.capacity) }
         ensures places { OnOk result (length self.new.notes + notes ≤ self.new.places) }
         ensures param_room { OnOk result (params ≤ self.new.param_room) }
         ensures kid_room { OnOk result (kids ≤ self.new.kid_room) }
         ensures fits { OnOk result (length self.new.notes + notes < 2 ^ 63) }
-        ensures slots { self.new.slots ≡ self.old.slots }
-        ensures same_notes { self.new.notes ≡ self.old.notes }
     {
-        self.table.reserve(nodes)?;
         self.notes.reserve(notes)?;
         let places = self.notes.len() + notes;
-        self.params.reserve(nodes, places, params)?;
-        self.kids.reserve(nodes, places, kids)
+        self.params.reserve(places, params)?;
+        self.kids.reserve(places, kids)
+    }
+
+    /// Makes room for so many nodes more.
+    ///
+    /// # Errors
+    ///
+    /// Want of memory, also where there is room for more nodes than there are numbers. The nodes stay.
+    pub(crate) fn reserve_nodes(&mut self, nodes: usize) -> Result<(), AllocError>
+        ensures nodes { self.new ≡ record self.old { capacity = self.new.capacity } }
+        ensures room { OnOk result (live_slots self.new.slots + nodes ≤ self.new.capacity) }
+        ensures numbers { OnOk result (self.new.capacity ≤ 2 ^ 32) }
+        ensures capacity { self.old.capacity ≤ self.new.capacity }
+    {
+        self.table.reserve(nodes)
+    }
+
+    /// Whether there are numbers for all nodes that there is room for.
+    pub(crate) fn has_numbers(&self) -> bool
+        ensures { IsTrue result ↔ (self.now.capacity ≤ 2 ^ 32) }
+    {
+        self.table.has_numbers()
     }
 
     /// How many nodes live.
@@ -151,11 +133,12 @@ impl<A: Drop> Parts<A> {
         self.table.live()
     }
 
-    /// Whether nothing was changed since the last rest.
-    pub(crate) fn is_at_rest(&self) -> bool
-        ensures { IsTrue result → changes_of self.now ≡ [] }
+    /// For how many nodes there is room. Each number is below it.
+    pub(crate) fn numbers(&self) -> usize
+        ensures room { result ≡ self.now.capacity }
+        ensures below { (k : ℕ) → IsSome (slot_at self.now.slots k) → k < result }
     {
-        self.notes.is_empty()
+        self.table.numbers()
     }
 
     /// The node whose children the last change set, if it set children.
@@ -183,7 +166,10 @@ impl<A: Drop> Parts<A> {
         requires { IsSome (nodes_of self.now node) }
         ensures { result.now ≡ row_at self.now.params node }
     {
-        self.params.at(node.0 as usize)
+        match self.table.params(node) {
+            Some(run) => self.params.read(run),
+            None => unreachable!(),
+        }
     }
 
     /// The children of a node that lives.
@@ -191,7 +177,17 @@ impl<A: Drop> Parts<A> {
         requires { IsSome (nodes_of self.now node) }
         ensures { result.now ≡ row_at self.now.kids node }
     {
-        self.kids.at(node.0 as usize)
+        match self.table.kids(node) {
+            Some(run) => self.kids.read(run),
+            None => unreachable!(),
+        }
+    }
+
+    /// The rank of a node; 0 where it doesn't live.
+    pub(crate) fn rank(&self, node: NodeId) -> usize
+        ensures { result ≡ rank_at self.now.ranks node }
+    {
+        self.table.rank(node)
     }
 
     /// The kind of the symbol of a node that lives.
@@ -201,6 +197,32 @@ impl<A: Drop> Parts<A> {
     {
         match self.table.get(node) {
             Some(found) => found.kind,
+            None => unreachable!(),
+        }
+    }
+
+    /// The symbol of a node that lives.
+    pub(crate) fn symbol(&self, node: NodeId) -> Sight<'_>
+        requires { IsSome (nodes_of self.now node) }
+        ensures { (n : Node A) → nodes_of self.now node ≡ Some n → seen_of result ≡ n.seen }
+    {
+        match self.kind(node) {
+            Kind::Push => Sight::Push,
+            Kind::Pop => Sight::Pop,
+            Kind::Module(name) => Sight::Module {
+                name,
+                params: self.params(node),
+            },
+        }
+    }
+
+    /// The key of a node that lives.
+    pub(crate) fn key(&self, node: NodeId) -> u64
+        requires { IsSome (nodes_of self.now node) }
+        ensures { (n : Node A) → nodes_of self.now node ≡ Some n → result ≡ n.key }
+    {
+        match self.table.get(node) {
+            Some(found) => found.key,
             None => unreachable!(),
         }
     }
@@ -224,13 +246,10 @@ impl<A: Drop> Parts<A> {
     ) -> NodeId
         requires whole { symbol.now ≢ Cut }
         requires capacity { live_slots self.old.slots < self.old.capacity }
-        requires numbers { live_slots self.old.slots < 2 ^ 32 }
+        requires numbers { self.old.capacity ≤ 2 ^ 32 }
         requires place { length self.old.notes < self.old.places }
         requires room { list_room (params_in symbol.now) ≤ self.old.param_room }
         ensures vacant { nodes_of self.old result ≡ None }
-        ensures within { result ≤ length self.old.slots }
-        ensures next { result ≡ length self.old.slots → live_slots self.old.slots ≡ length self.old.slots }
-        ensures grown { (length self.new.slots ≤ length self.old.slots) ⊎ (length self.new.slots ≡ result + 1) }
         ensures few { HasFew (seen_in symbol.now) }
         ensures added { Journals self.old self.new result (Some (record {
           parent = parent;
@@ -244,7 +263,7 @@ impl<A: Drop> Parts<A> {
         }))
             Missing 1 (list_room (params_in symbol.now)) 0 }
     {
-        let number = self.table.insert(Stored {
+        let stored = Stored {
             parent,
             code,
             count,
@@ -252,12 +271,14 @@ impl<A: Drop> Parts<A> {
             kind: kind_of(symbol),
             key,
             answer: None,
-        });
-        let row = number.0 as usize;
-        self.params.reach(row);
-        self.kids.reach(row);
-        self.params.set(row, params_of(symbol));
-        self.kids.set(row, &[]);
+        };
+        let number = insert(
+            &mut self.table,
+            &mut self.params,
+            &mut self.kids,
+            stored,
+            params_of(symbol),
+        );
         push_note(
             &mut self.notes,
             Note {
@@ -281,7 +302,7 @@ impl<A: Drop> Parts<A> {
         let Some(kind) = self.table.swap_kind(node, kind_of(symbol)) else {
             unreachable!()
         };
-        self.params.swap(node.0 as usize, params_of(symbol));
+        swap_params(&mut self.table, &mut self.params, node, params_of(symbol));
         push_note(
             &mut self.notes,
             Note {
@@ -335,7 +356,7 @@ impl<A: Drop> Parts<A> {
         ensures { (n : Node A) → nodes_of self.old node ≡ Some n → Journals self.old self.new node
             (Some (with_kids kids.now n)) (OldKids n.kids) 0 0 (list_room kids.now) }
     {
-        self.kids.swap(node.0 as usize, kids);
+        swap_kids(&mut self.table, &mut self.kids, node, kids);
         push_note(
             &mut self.notes,
             Note {
@@ -343,6 +364,19 @@ impl<A: Drop> Parts<A> {
                 was: Was::Kids,
             },
         );
+    }
+
+    /// Gives the children of a node their ranks, if it lives.
+    pub(crate) fn rerank(&mut self, node: NodeId)
+        requires { (root : ℕ) × IsSound root (changes_of self.old) (nodes_of self.old) }
+        ensures same { self.new ≡ record self.old { ranks = self.new.ranks } }
+        ensures ranked { (before : Nodes A) → ((j : ℕ) → j ≢ node → nodes_of self.old j ≡ before j)
+            → AreRanked before self.old.ranks → AreRanked (nodes_of self.old) self.new.ranks }
+    {
+        if let Some(run) = self.table.kids(node) {
+            let kids = self.kids.read(run);
+            number(&mut self.table, kids);
+        }
     }
 }
 
@@ -355,6 +389,7 @@ impl<A: Kept> Parts<A> {
         ensures undone { IsTrue result → (c : Change A) × Undoes self.old self.new c
             × Releases A.run_at A.Holds (dropped c (nodes_of self.old)) store.old store.new }
         ensures none { result ≡ false → (changes_of self.old ≡ []) × (self.new ≡ self.old) × (store.new ≡ store.old) }
+        ensures ranks { KeepsRanks (nodes_of self.new) self.old self.new }
     {
         match self.notes.pop() {
             Some(note) => {
@@ -394,11 +429,7 @@ impl<A: Kept> Parts<A> {
         ensures { (n : Node A) → nodes_of self.old node ≡ Some n → Removes self.old self.new node n
             × Releases A.run_at A.Holds n.answer store.old store.new }
     {
-        let Some(removed) = self.table.remove(node) else {
-            unreachable!()
-        };
-        self.params.set(node.0 as usize, &[]);
-        self.kids.swap(node.0 as usize, &[]);
+        let removed = take_out(&mut self.table, &mut self.params, &mut self.kids, node);
         push_note(
             &mut self.notes,
             Note {
@@ -416,6 +447,7 @@ impl<A: Kept> Parts<A> {
         ensures notes { length self.new.notes ≡ length self.old.notes }
         ensures live { live_slots self.new.slots ≡ live_slots self.old.slots }
         ensures keeps { KeepsRoom self.old self.new }
+        ensures ranks { self.new.ranks ≡ self.old.ranks }
     {
         self.kids.put_down();
     }
@@ -440,31 +472,32 @@ fn undo_note<A: Kept>(
     note: Note<A>,
     store: &mut A::Store,
 )
-    requires params { note.node < length params.old.current }
-    requires kids { note.node < length kids.old.current }
+    requires params { IsOwner params.old table.old.param_runs }
+    requires kids { IsOwner kids.old table.old.kid_runs }
     requires made { IsMade A.run_at A.Holds store.old (dropped_slot note.was (slot_at table.old.slots note.node)) }
     ensures slots { table.new.slots ≡ undone_slots note.was note.node table.old.slots }
-    ensures capacity { table.old.capacity ≤ table.new.capacity }
-    ensures params { UndoesParams note.was note.node params.old params.new }
-    ensures kids { UndoesKids note.was note.node kids.old kids.new }
+    ensures ranks { table.new.ranks ≡ undone_ranks note.was note.node table.old.ranks }
+    ensures capacity { table.new.capacity ≡ table.old.capacity }
+    ensures params { IsOwner params.new table.new.param_runs }
+    ensures kids { IsOwner kids.new table.new.kid_runs }
+    ensures old_params { UndoesParams note.was (slot_at table.old.slots note.node) note.node
+        (shelf_of params.old table.old.param_runs) (shelf_of params.new table.new.param_runs) }
+    ensures old_kids { UndoesKids note.was (slot_at table.old.slots note.node) note.node
+        (shelf_of kids.old table.old.kid_runs) (shelf_of kids.new table.new.kid_runs) }
     ensures released { Releases A.run_at A.Holds (dropped_slot note.was (slot_at table.old.slots note.node))
         store.old store.new }
 {
     let Note { node, was } = note;
     match was {
-        Was::Missing => {
-            params.set(node.0 as usize, &[]);
-            kids.set(node.0 as usize, &[]);
-            release_slot(table.remove(node), store);
-        }
+        Was::Missing => clear(table, params, kids, node, store),
         Was::Kind(kind) => {
+            restore_params(table, params, node);
             let _ = table.swap_kind(node, kind);
-            params.restore(node.0 as usize);
         }
         Was::Key(key) => {
             let _ = table.swap_key(node, key);
         }
-        Was::Kids => kids.restore(node.0 as usize),
+        Was::Kids => restore_kids(table, kids, node),
         Was::Answer(answer) => release_one(table.swap_answer(node, answer), store),
     }
 }
@@ -476,9 +509,15 @@ fn take_note<A: Kept>(
     note: Note<A>,
     store: &mut A::Store,
 ) -> Look
+    requires params { (now : List (Option ℕ)) × IsOwner params.old now }
+    requires kids { (now : List (Option ℕ)) × IsOwner kids.old now }
     requires made { IsMade A.run_at A.Holds store.old (noted_answer note.was) }
-    ensures params { DropsParams note.was params.old params.new }
-    ensures kids { TakesKids note.was kids.old kids.new }
+    ensures params { (now : List (Option ℕ)) → IsOwner params.old now → IsOwner params.new now }
+    ensures kids { (now : List (Option ℕ)) → IsOwner kids.old now → IsOwner kids.new now }
+    ensures old_params { (now : List (Option ℕ)) → IsOwner params.old now
+        → DropsParams note.was (shelf_of params.old now) (shelf_of params.new now) }
+    ensures old_kids { (now : List (Option ℕ)) → IsOwner kids.old now
+        → TakesKids note.was (shelf_of kids.old now) (shelf_of kids.new now) }
     ensures released { Releases A.run_at A.Holds (noted_answer note.was) store.old store.new }
     ensures named { (hand : List ℕ) → named_by result hand ≡ named note.was note.node hand }
 {
@@ -498,6 +537,29 @@ fn take_note<A: Kept>(
             release_one(answer, store);
             Look::Nothing
         }
+    }
+}
+
+/// The root as it is kept.
+fn root_stored<A>() -> Stored<A>
+    ensures { result ≡ record {
+      parent = 0;
+      code = 0;
+      count = 0;
+      depth = 0;
+      kind = Push;
+      key = 0;
+      answer = None;
+    } }
+{
+    Stored {
+        parent: NodeId(0),
+        code: 0,
+        count: 0,
+        depth: 0,
+        kind: Kind::Push,
+        key: 0,
+        answer: None,
     }
 }
 

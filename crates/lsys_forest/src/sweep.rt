@@ -7,37 +7,36 @@ ghost use Rattle.lsys_forest.specs.Answers.{answers, AreMade, Follows};
 ghost use Rattle.lsys_forest.specs.Stocks.{nodes_of, changes_of, named_by, KeepsRoom};
 ghost use Rattle.lsys_forest.specs.Groves.{In, IsSound};
 ghost use Rattle.lsys_forest.specs.Ranks.{AreRanked};
-ghost use Rattle.lsys_forest.specs.Sweeps.{IsLinked, IsSwept, SweepsLeft, KeepsPlaces};
+ghost use Rattle.lsys_forest.specs.Sweeps.{IsLinked, IsSwept, IsSweptOf, SweepsLeft, KeepsPlaces};
 
 use crate::kept::Kept;
 use crate::node::NodeId;
 use crate::note::Look;
-use crate::ranks::Ranks;
 use crate::stock::Parts;
 use crate::walk::kid_at;
 
 /// Whether the node lives, and is not among the children of its parent.
-pub(crate) fn is_loose<A: Kept>(parts: &Parts<A>, ranks: &Ranks, node: NodeId) -> bool
+pub(crate) fn is_loose<A: Kept>(parts: &Parts<A>, node: NodeId) -> bool
     ensures lives { IsTrue result → IsSome (nodes_of parts.now node) }
     ensures apart { (n : Node A) → IsTrue result → nodes_of parts.now node ≡ Some n
-        → AreRanked (nodes_of parts.now) ranks.now.at → IsLinked (nodes_of parts.now) node n → ⊥ }
+        → AreRanked (nodes_of parts.now) parts.now.ranks → IsLinked (nodes_of parts.now) node n → ⊥ }
     ensures linked { (n : Node A) → result ≡ false → nodes_of parts.now node ≡ Some n
         → IsLinked (nodes_of parts.now) node n }
 {
     match parts.get(node) {
-        Some(found) => !has_kid(parts, ranks, found.parent, node),
+        Some(found) => !has_kid(parts, found.parent, node),
         None => false,
     }
 }
 
 /// Whether the first node lives, and has the second among its children.
-fn has_kid<A: Kept>(parts: &Parts<A>, ranks: &Ranks, parent: NodeId, node: NodeId) -> bool
+fn has_kid<A: Kept>(parts: &Parts<A>, parent: NodeId, node: NodeId) -> bool
     ensures has { IsTrue result → (p : Node A) × (nodes_of parts.now parent ≡ Some p) × In node p.kids }
-    ensures lacks { (p : Node A) → result ≡ false → AreRanked (nodes_of parts.now) ranks.now.at
+    ensures lacks { (p : Node A) → result ≡ false → AreRanked (nodes_of parts.now) parts.now.ranks
         → nodes_of parts.now parent ≡ Some p → In node p.kids → ⊥ }
 {
     match parts.get(parent) {
-        Some(_) => stands_at(parts.kids(parent), node, ranks.rank(node)),
+        Some(_) => stands_at(parts.kids(parent), node, parts.rank(node)),
         None => false,
     }
 }
@@ -53,33 +52,26 @@ fn stands_at(kids: &[NodeId], node: NodeId, place: usize) -> bool
 }
 
 /// Removes the node if it is loose, and notes its children.
-fn sweep<A: Kept>(
-    parts: &mut Parts<A>,
-    ranks: &Ranks,
-    root: NodeId,
-    node: NodeId,
-    store: &mut A::Store,
-)
+fn sweep<A: Kept>(parts: &mut Parts<A>, root: NodeId, node: NodeId, store: &mut A::Store)
     requires places { length parts.old.notes + live_slots parts.old.slots ≤ parts.old.places }
     requires made { AreMade A.run_at A.Holds store.old (answers (nodes_of parts.old) (changes_of parts.old)) }
     ensures swept { (left : List ℕ) (first : Nodes A) (before : List (Change A)) → IsSound root before first
-        → AreRanked first ranks.now.at → IsSwept first root (nodes_of parts.old) (changes_of parts.old) (node ∷ left)
-        → IsSwept first root (nodes_of parts.new) (changes_of parts.new) left }
+        → IsSweptOf first root parts.old (node ∷ left) → IsSweptOf first root parts.new left }
     ensures keeps { KeepsPlaces parts.old parts.new }
     ensures made { AreMade A.run_at A.Holds store.new (answers (nodes_of parts.new) (changes_of parts.new)) }
     ensures freed { Follows A.run_at A.Holds (answers (nodes_of parts.old) (changes_of parts.old)) store.old
         (answers (nodes_of parts.new) (changes_of parts.new)) store.new }
 {
-    if node != root && is_loose(parts, ranks, node) {
+    if node != root && is_loose(parts, node) {
         parts.remove(node, store);
     }
 }
 
 /// Sweeps the children in hand.
-fn sweep_hand<A: Kept>(parts: &mut Parts<A>, ranks: &Ranks, root: NodeId, store: &mut A::Store)
+fn sweep_hand<A: Kept>(parts: &mut Parts<A>, root: NodeId, store: &mut A::Store)
     requires places { length parts.old.notes + live_slots parts.old.slots ≤ parts.old.places }
     requires made { AreMade A.run_at A.Holds store.old (answers (nodes_of parts.old) (changes_of parts.old)) }
-    ensures swept { SweepsLeft root ranks.now.at parts.old parts.new parts.old.hand }
+    ensures swept { SweepsLeft root parts.old parts.new parts.old.hand }
     ensures keeps { KeepsPlaces parts.old parts.new }
     ensures made { AreMade A.run_at A.Holds store.new (answers (nodes_of parts.new) (changes_of parts.new)) }
     ensures freed { Follows A.run_at A.Holds (answers (nodes_of parts.old) (changes_of parts.old)) store.old
@@ -87,45 +79,35 @@ fn sweep_hand<A: Kept>(parts: &mut Parts<A>, ranks: &Ranks, root: NodeId, store:
 {
     for place in 0..parts.in_hand().len() {
         let kid = parts.in_hand()[place];
-        sweep(parts, ranks, root, kid, store);
+        sweep(parts, root, kid, store);
     }
 }
 
 /// Sweeps the nodes that a change names.
-fn sweep_looked<A: Kept>(
-    parts: &mut Parts<A>,
-    ranks: &Ranks,
-    root: NodeId,
-    look: Look,
-    store: &mut A::Store,
-)
+fn sweep_looked<A: Kept>(parts: &mut Parts<A>, root: NodeId, look: Look, store: &mut A::Store)
     requires places { length parts.old.notes + live_slots parts.old.slots ≤ parts.old.places }
     requires made { AreMade A.run_at A.Holds store.old (answers (nodes_of parts.old) (changes_of parts.old)) }
-    ensures swept { SweepsLeft root ranks.now.at parts.old parts.new (named_by look parts.old.hand) }
+    ensures swept { SweepsLeft root parts.old parts.new (named_by look parts.old.hand) }
     ensures keeps { KeepsPlaces parts.old parts.new }
     ensures made { AreMade A.run_at A.Holds store.new (answers (nodes_of parts.new) (changes_of parts.new)) }
     ensures freed { Follows A.run_at A.Holds (answers (nodes_of parts.old) (changes_of parts.old)) store.old
         (answers (nodes_of parts.new) (changes_of parts.new)) store.new }
 {
     match look {
-        Look::Node(node) => sweep(parts, ranks, root, node, store),
-        Look::Hand => sweep_hand(parts, ranks, root, store),
+        Look::Node(node) => sweep(parts, root, node, store),
+        Look::Hand => sweep_hand(parts, root, store),
         Look::Nothing => {}
     }
 }
 
 /// Removes each node that is not reached from the root.
-pub(crate) fn sweep_all<A: Kept>(
-    parts: &mut Parts<A>,
-    ranks: &Ranks,
-    root: NodeId,
-    store: &mut A::Store,
-)
+pub(crate) fn sweep_all<A: Kept>(parts: &mut Parts<A>, root: NodeId, store: &mut A::Store)
     requires places { length parts.old.notes + live_slots parts.old.slots ≤ parts.old.places }
     requires sound { IsSound root (changes_of parts.old) (nodes_of parts.old) }
-    requires ranked { AreRanked (nodes_of parts.old) ranks.now.at }
+    requires ranked { AreRanked (nodes_of parts.old) parts.old.ranks }
     requires made { AreMade A.run_at A.Holds store.old (answers (nodes_of parts.old) (changes_of parts.old)) }
     ensures swept { IsSwept (nodes_of parts.old) root (nodes_of parts.new) [] [] }
+    ensures ranked { AreRanked (nodes_of parts.new) parts.new.ranks }
     ensures empty { changes_of parts.new ≡ [] }
     ensures short { length parts.new.notes ≡ 0 }
     ensures live { live_slots parts.new.slots ≤ live_slots parts.old.slots }
@@ -135,7 +117,7 @@ pub(crate) fn sweep_all<A: Kept>(
         (answers (nodes_of parts.new) (changes_of parts.new)) store.new }
 {
     while let Some(look) = parts.take_last(store) {
-        sweep_looked(parts, ranks, root, look, store);
+        sweep_looked(parts, root, look, store);
     }
     parts.put_down();
 }

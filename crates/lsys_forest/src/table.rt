@@ -1,38 +1,41 @@
 //! Nodes by their numbers.
-ghost use Rattle.std.specs.Prelude.{◌≡◌, ◌+◌, ◌<◌, ◌≤◌, ◌^◌, [], length, min, None, OnOk, option_map, option_copied, slice_set, ◌++◌, ◌∷◌, Some, vec_len, vec_capacity};
-ghost use Rattle.lsys_forest.specs.Slots.{slot_at, live_slots, change_slot, put_slot, kind_set, key_set, answer_set, answer_before};
+ghost use Rattle.std.specs.Prelude.{◌≡◌, ◌↔◌, IsTrue, ◌+◌, ◌<◌, ◌≤◌, ◌^◌, ℕ, [], None, OnOk, Some, IsSome, option_map, option_copied, slice_set, slice_index_or};
+ghost use Rattle.slab.specs.Slab.{Slab, get};
+ghost use Rattle.lsys_forest.specs.Shelves.{run_at};
+ghost use Rattle.lsys_forest.specs.declared.node.Entry.{Entry};
+ghost use Rattle.lsys_forest.specs.Slots.{slot_at, rank_at, live_slots, change_slot, change_run, change_rank, run_before, run_after, kind_set, key_set, answer_set, answer_before, node_in, param_run_in, kid_run_in, change_entry, node_set, params_set, kids_set, rank_set, Puts, StandsAt};
 
-use crate::node::{Kind, NodeId, Stored, swap_answer, swap_key, swap_kind};
+use crate::node::{Entry, Kind, NodeId, Stored};
+use lsys_region::Run;
+use slab::Slab;
 use std::alloc::{AllocError, Global};
 use std::marker::Model;
+use std::mem;
 
-/// Nodes by their numbers. A number that is free again is given out again, the last one first, so that no number is
-/// higher than the most nodes that lived at a time.
+/// Each number is below it.
+const NUMBERS: usize = 0x1_0000_0000;
+
+/// Nodes by their numbers, each with the runs of its lists and its rank.
 #[derive(Drop)]
 pub(crate) struct Table<A> {
-    slots: Vec<Option<Stored<A>>>,
-    free: Vec<NodeId>,
+    nodes: Slab<Entry<A>>,
 }
 
 impl<A> Model for Table<A> {
-    ghost use Rattle.std.specs.Prelude.{min, vec_capacity};
-    ghost use Rattle.lsys_forest.specs.Slots.{SlotTable, AreFree};
+    ghost use Rattle.lsys_forest.specs.Slots.{SlotTable, table_of};
 
     ghost Value = { SlotTable A };
 
-    ghost view = { λ a. record { slots = a.slots.items; capacity = min (vec_capacity a.slots) (vec_capacity a.free) } };
-
-    ghost invariant = { λ a. AreFree a.slots.items a.free.items (vec_capacity a.free) };
+    ghost view = { λ a. table_of a.nodes };
 }
 
 impl<A: Drop> Table<A> {
     /// No nodes. It takes no memory.
     pub(crate) fn new(alloc: Global) -> Table<A>
-        ensures { result.slots ≡ [] }
+        ensures { result ≡ record { slots = []; param_runs = []; kid_runs = []; ranks = []; next = 0; capacity = 0 } }
     {
         Table {
-            slots: Vec::new(alloc),
-            free: Vec::new(alloc),
+            nodes: Slab::new(alloc),
         }
     }
 
@@ -40,44 +43,73 @@ impl<A: Drop> Table<A> {
     ///
     /// # Errors
     ///
-    /// Want of memory. The nodes stay.
+    /// Want of memory, also where there is room for more nodes than there are numbers. The nodes stay.
     pub(crate) fn reserve(&mut self, nodes: usize) -> Result<(), AllocError>
-        ensures slots { self.new.slots ≡ self.old.slots }
+        ensures nodes { self.new ≡ record self.old { capacity = self.new.capacity } }
         ensures room { OnOk result (live_slots self.new.slots + nodes ≤ self.new.capacity) }
+        ensures numbers { OnOk result (self.new.capacity ≤ 2 ^ 32) }
         ensures capacity { self.old.capacity ≤ self.new.capacity }
     {
-        self.slots.reserve(nodes)?;
-        let numbers = self.slots.len() - self.free.len() + nodes;
-        self.free.reserve(numbers)
+        self.nodes.reserve(nodes)?;
+        if self.has_numbers() {
+            Ok(())
+        } else {
+            Err(AllocError)
+        }
     }
 
     /// Adds a node, and answers its number. It takes no memory.
-    pub(crate) fn insert(&mut self, node: Stored<A>) -> NodeId
+    pub(crate) fn insert(&mut self, entry: Entry<A>) -> NodeId
         requires room { live_slots self.old.slots < self.old.capacity }
-        requires numbers { live_slots self.old.slots < 2 ^ 32 }
+        requires numbers { self.old.capacity ≤ 2 ^ 32 }
+        ensures next { result ≡ self.old.next }
         ensures vacant { slot_at self.old.slots result ≡ None }
-        ensures within { result ≤ length self.old.slots }
-        ensures next { result ≡ length self.old.slots → live_slots self.old.slots ≡ length self.old.slots }
-        ensures put { self.new.slots ≡ put_slot self.old.slots result node }
+        ensures none { run_at self.old.param_runs result ≡ None }
+        ensures no_kids { run_at self.old.kid_runs result ≡ None }
+        ensures put { Puts self.old self.new result entry }
         ensures live { live_slots self.new.slots ≡ live_slots self.old.slots + 1 }
-        ensures capacity { self.old.capacity ≤ self.new.capacity }
+        ensures capacity { self.new.capacity ≡ self.old.capacity }
     {
-        if let Some(number) = self.free.pop() {
-            self.slots[number.0 as usize] = Some(node);
-            return number;
-        }
-        let number = self.slots.len() as u32;
-        push_slot(&mut self.slots, node);
-        NodeId(number)
+        NodeId(self.nodes.insert_reserved(entry) as u32)
     }
 
     /// The node with this number, if it lives.
     pub(crate) fn get(&self, number: NodeId) -> Option<&Stored<A>>
         ensures { option_copied result ≡ slot_at self.now.slots number }
     {
-        match self.slots.get(number.0 as usize) {
-            Some(Some(node)) => Some(node),
-            _ => None,
+        match self.nodes.get(number.0 as usize) {
+            Some(entry) => Some(&entry.node),
+            None => None,
+        }
+    }
+
+    /// The run of a node's parameters, if the node lives.
+    pub(crate) fn params(&self, number: NodeId) -> Option<&Run>
+        ensures { option_copied result ≡ option_map (λ s. run_at self.now.param_runs number) (slot_at self.now.slots number) }
+    {
+        match self.nodes.get(number.0 as usize) {
+            Some(entry) => Some(&entry.params),
+            None => None,
+        }
+    }
+
+    /// The run of a node's children, if the node lives.
+    pub(crate) fn kids(&self, number: NodeId) -> Option<&Run>
+        ensures { option_copied result ≡ option_map (λ s. run_at self.now.kid_runs number) (slot_at self.now.slots number) }
+    {
+        match self.nodes.get(number.0 as usize) {
+            Some(entry) => Some(&entry.kids),
+            None => None,
+        }
+    }
+
+    /// The rank of a node; 0 where it doesn't live.
+    pub(crate) fn rank(&self, number: NodeId) -> usize
+        ensures { result ≡ rank_at self.now.ranks number }
+    {
+        match self.nodes.get(number.0 as usize) {
+            Some(entry) => entry.rank,
+            None => 0,
         }
     }
 
@@ -85,133 +117,177 @@ impl<A: Drop> Table<A> {
     pub(crate) fn live(&self) -> usize
         ensures { result ≡ live_slots self.now.slots }
     {
-        self.slots.len() - self.free.len()
+        self.nodes.len()
     }
 
-    /// How many numbers were given out.
-    pub(crate) fn numbers(&self) -> usize
-        ensures { result ≡ length self.now.slots }
+    /// Whether there are numbers for all nodes that there is room for.
+    pub(crate) fn has_numbers(&self) -> bool
+        ensures { IsTrue result ↔ (self.now.capacity ≤ 2 ^ 32) }
     {
-        self.slots.len()
+        self.nodes.capacity() <= NUMBERS
+    }
+
+    /// For how many nodes there is room. Each number is below it.
+    pub(crate) fn numbers(&self) -> usize
+        ensures room { result ≡ self.now.capacity }
+        ensures below { (k : ℕ) → IsSome (slot_at self.now.slots k) → k < result }
+    {
+        self.nodes.capacity()
     }
 
     /// Removes a node, and answers it if it lived. It takes no memory.
-    pub(crate) fn remove(&mut self, number: NodeId) -> Option<Stored<A>>
-        ensures was { result ≡ slot_at self.old.slots number }
-        ensures gone { self.new.slots ≡ slice_set self.old.slots number None }
-        ensures capacity { self.old.capacity ≤ self.new.capacity }
+    pub(crate) fn remove(&mut self, number: NodeId) -> Option<Entry<A>>
+        ensures was { StandsAt self.old number result }
+        ensures gone { self.new ≡ record self.old {
+          slots = slice_set self.old.slots number None;
+          param_runs = slice_set self.old.param_runs number None;
+          kid_runs = slice_set self.old.kid_runs number None;
+          ranks = slice_set self.old.ranks number 0;
+          next = self.new.next;
+        } }
     {
-        let removed = take_slot(&mut self.slots, number);
-        if removed.is_some() {
-            push_number(&mut self.free, number);
-        }
-        removed
+        self.nodes.try_remove(number.0 as usize)
     }
 
     /// Sets a symbol without its parameters, and answers the one before.
     pub(crate) fn swap_kind(&mut self, number: NodeId, kind: Kind) -> Option<Kind>
         ensures before { result ≡ option_map (λ s. s.kind) (slot_at self.old.slots number) }
-        ensures changed { self.new.slots ≡ change_slot (kind_set kind) self.old.slots number }
-        ensures capacity { self.new.capacity ≡ self.old.capacity }
+        ensures changed { self.new ≡ record self.old {
+          slots = change_slot (kind_set kind) self.old.slots number;
+        } }
     {
-        change_kind(&mut self.slots, number, kind)
+        change_kind(&mut self.nodes, number, kind)
     }
 
     /// Sets a key, and answers the one before.
     pub(crate) fn swap_key(&mut self, number: NodeId, key: u64) -> Option<u64>
         ensures before { result ≡ option_map (λ s. s.key) (slot_at self.old.slots number) }
-        ensures changed { self.new.slots ≡ change_slot (key_set key) self.old.slots number }
-        ensures capacity { self.new.capacity ≡ self.old.capacity }
+        ensures changed { self.new ≡ record self.old {
+          slots = change_slot (key_set key) self.old.slots number;
+        } }
     {
-        change_key(&mut self.slots, number, key)
+        change_key(&mut self.nodes, number, key)
     }
 
     /// Sets an answer, and answers the one before; where no node lives, the answer comes back.
     pub(crate) fn swap_answer(&mut self, number: NodeId, answer: Option<A>) -> Option<A>
         ensures before { result ≡ answer_before (slot_at self.old.slots number) answer }
-        ensures changed { self.new.slots ≡ change_slot (answer_set answer) self.old.slots number }
-        ensures capacity { self.new.capacity ≡ self.old.capacity }
+        ensures changed { self.new ≡ record self.old {
+          slots = change_slot (answer_set answer) self.old.slots number;
+        } }
     {
-        change_answer(&mut self.slots, number, answer)
+        change_answer(&mut self.nodes, number, answer)
     }
-}
 
-/// Takes a node out of its place.
-fn take_slot<A>(slots: &mut Vec<Option<Stored<A>>>, number: NodeId) -> Option<Stored<A>>
-    ensures was { result ≡ slot_at slots.old.items number }
-    ensures gone { slots.new.items ≡ slice_set slots.old.items number None }
-    ensures capacity { vec_capacity slots.new ≡ vec_capacity slots.old }
-{
-    match slots.get_mut(number.0 as usize) {
-        Some(slot) => slot.take(),
-        None => None,
+    /// Sets the run of a node's parameters, and answers the one before; where no node lives, the run comes back.
+    pub(crate) fn swap_params(&mut self, number: NodeId, run: Run) -> Run
+        ensures before { result ≡ run_before (slot_at self.old.slots number) (run_at self.old.param_runs number) run }
+        ensures changed { self.new ≡ record self.old {
+          param_runs = change_run (slot_at self.old.slots number) self.old.param_runs number run;
+        } }
+        ensures here { run_at self.new.param_runs number ≡ run_after (slot_at self.old.slots number) run }
+    {
+        change_params(&mut self.nodes, number, run)
     }
-}
 
-/// Adds a node at the end of a vector that has room for it.
-fn push_slot<A>(slots: &mut Vec<Option<Stored<A>>>, node: Stored<A>)
-    requires { vec_len slots.old < vec_capacity slots.old }
-    ensures pushed { slots.new.items ≡ slots.old.items ++ Some node ∷ [] }
-    ensures capacity { vec_capacity slots.old ≤ vec_capacity slots.new }
-{
-    match slots.push(Some(node)) {
-        Ok(()) => {}
-        Err(_) => unreachable!(),
+    /// Sets the run of a node's children, and answers the one before; where no node lives, the run comes back.
+    pub(crate) fn swap_kids(&mut self, number: NodeId, run: Run) -> Run
+        ensures before { result ≡ run_before (slot_at self.old.slots number) (run_at self.old.kid_runs number) run }
+        ensures changed { self.new ≡ record self.old {
+          kid_runs = change_run (slot_at self.old.slots number) self.old.kid_runs number run;
+        } }
+        ensures here { run_at self.new.kid_runs number ≡ run_after (slot_at self.old.slots number) run }
+    {
+        change_kids(&mut self.nodes, number, run)
     }
-}
 
-/// Adds a number at the end of a vector that has room for it.
-fn push_number(numbers: &mut Vec<NodeId>, number: NodeId)
-    requires { vec_len numbers.old < vec_capacity numbers.old }
-    ensures pushed { numbers.new.items ≡ numbers.old.items ++ number ∷ [] }
-    ensures capacity { vec_capacity numbers.old ≤ vec_capacity numbers.new }
-{
-    match numbers.push(number) {
-        Ok(()) => {}
-        Err(_) => unreachable!(),
+    /// Sets the rank of a node, if it lives.
+    pub(crate) fn set_rank(&mut self, number: NodeId, rank: usize)
+        ensures changed { self.new ≡ record self.old {
+          ranks = change_rank (slot_at self.old.slots number) self.old.ranks number rank;
+        } }
+        ensures here { IsSome (slot_at self.old.slots number) → rank_at self.new.ranks number ≡ rank }
+    {
+        change_rank(&mut self.nodes, number, rank);
     }
 }
 
 /// Sets a symbol without its parameters, and answers the one before.
-fn change_kind<A: Drop>(
-    slots: &mut Vec<Option<Stored<A>>>,
-    number: NodeId,
-    kind: Kind,
-) -> Option<Kind>
-    ensures before { result ≡ option_map (λ s. s.kind) (slot_at slots.old.items number) }
-    ensures changed { slots.new.items ≡ change_slot (kind_set kind) slots.old.items number }
-    ensures capacity { vec_capacity slots.new ≡ vec_capacity slots.old }
+fn change_kind<A: Drop>(nodes: &mut Slab<Entry<A>>, number: NodeId, kind: Kind) -> Option<Kind>
+    ensures before { result ≡ option_map (λ e. e.node.kind) (get nodes.old number) }
+    ensures changed { nodes.new ≡ record nodes.old {
+      slots = change_entry (node_set (kind_set kind)) nodes.old.slots number;
+    } }
 {
-    match slots.get_mut(number.0 as usize) {
-        Some(slot) => swap_kind(slot, kind),
+    match nodes.get_mut(number.0 as usize) {
+        Some(entry) => Some(mem::replace(&mut entry.node.kind, kind)),
         None => None,
     }
 }
 
 /// Sets a key, and answers the one before.
-fn change_key<A: Drop>(slots: &mut Vec<Option<Stored<A>>>, number: NodeId, key: u64) -> Option<u64>
-    ensures before { result ≡ option_map (λ s. s.key) (slot_at slots.old.items number) }
-    ensures changed { slots.new.items ≡ change_slot (key_set key) slots.old.items number }
-    ensures capacity { vec_capacity slots.new ≡ vec_capacity slots.old }
+fn change_key<A: Drop>(nodes: &mut Slab<Entry<A>>, number: NodeId, key: u64) -> Option<u64>
+    ensures before { result ≡ option_map (λ e. e.node.key) (get nodes.old number) }
+    ensures changed { nodes.new ≡ record nodes.old {
+      slots = change_entry (node_set (key_set key)) nodes.old.slots number;
+    } }
 {
-    match slots.get_mut(number.0 as usize) {
-        Some(slot) => swap_key(slot, key),
+    match nodes.get_mut(number.0 as usize) {
+        Some(entry) => Some(mem::replace(&mut entry.node.key, key)),
         None => None,
     }
 }
 
 /// Sets an answer, and answers the one before; where no node lives, the answer comes back.
 fn change_answer<A: Drop>(
-    slots: &mut Vec<Option<Stored<A>>>,
+    nodes: &mut Slab<Entry<A>>,
     number: NodeId,
     answer: Option<A>,
 ) -> Option<A>
-    ensures before { result ≡ answer_before (slot_at slots.old.items number) answer }
-    ensures changed { slots.new.items ≡ change_slot (answer_set answer) slots.old.items number }
-    ensures capacity { vec_capacity slots.new ≡ vec_capacity slots.old }
+    ensures before { result ≡ answer_before (node_in (get nodes.old number)) answer }
+    ensures changed { nodes.new ≡ record nodes.old {
+      slots = change_entry (node_set (answer_set answer)) nodes.old.slots number;
+    } }
 {
-    match slots.get_mut(number.0 as usize) {
-        Some(slot) => swap_answer(slot, answer),
+    match nodes.get_mut(number.0 as usize) {
+        Some(entry) => mem::replace(&mut entry.node.answer, answer),
         None => answer,
+    }
+}
+
+/// Sets the run of a node's parameters, and answers the one before; where no node lives, the run comes back.
+fn change_params<A: Drop>(nodes: &mut Slab<Entry<A>>, number: NodeId, run: Run) -> Run
+    ensures before { result ≡ run_before (get nodes.old number) (param_run_in (get nodes.old number)) run }
+    ensures changed { nodes.new ≡ record nodes.old {
+      slots = change_entry (params_set run) nodes.old.slots number;
+    } }
+{
+    match nodes.get_mut(number.0 as usize) {
+        Some(entry) => mem::replace(&mut entry.params, run),
+        None => run,
+    }
+}
+
+/// Sets the run of a node's children, and answers the one before; where no node lives, the run comes back.
+fn change_kids<A: Drop>(nodes: &mut Slab<Entry<A>>, number: NodeId, run: Run) -> Run
+    ensures before { result ≡ run_before (get nodes.old number) (kid_run_in (get nodes.old number)) run }
+    ensures changed { nodes.new ≡ record nodes.old {
+      slots = change_entry (kids_set run) nodes.old.slots number;
+    } }
+{
+    match nodes.get_mut(number.0 as usize) {
+        Some(entry) => mem::replace(&mut entry.kids, run),
+        None => run,
+    }
+}
+
+/// Sets the rank of a node, if it lives.
+fn change_rank<A: Drop>(nodes: &mut Slab<Entry<A>>, number: NodeId, rank: usize)
+    ensures { nodes.new ≡ record nodes.old {
+      slots = change_entry (rank_set rank) nodes.old.slots number;
+    } }
+{
+    if let Some(entry) = nodes.get_mut(number.0 as usize) {
+        entry.rank = rank;
     }
 }

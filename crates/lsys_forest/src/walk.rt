@@ -11,7 +11,6 @@ ghost use Rattle.lsys_forest.specs.Rows.{first_in, index_in, oriented, flat, kid
 
 use crate::kept::Kept;
 use crate::node::{Kind, NodeId};
-use crate::ranks::Ranks;
 use crate::stock::Parts;
 
 /// Which way to go along a level.
@@ -59,14 +58,13 @@ fn first_of(kids: &[NodeId], way: Way) -> Option<NodeId>
 /// The node that comes next to a node of the level this many steps below the root, that way; none at the end.
 pub(crate) fn beside<A: Kept>(
     parts: &Parts<A>,
-    ranks: &Ranks,
     root: NodeId,
     node: NodeId,
     depth: u32,
     way: Way,
 ) -> Option<NodeId>
     requires sound { IsSound root (changes_of parts.now) (nodes_of parts.now) }
-    requires ranked { AreRanked (nodes_of parts.now) ranks.now.at }
+    requires ranked { AreRanked (nodes_of parts.now) parts.now.ranks }
     requires below { 0 < depth }
     requires among { In node (level_nodes (nodes_of parts.now) root (depth - 1)) }
     ensures { (before after : List ℕ) → oriented way (level_nodes (nodes_of parts.now) root (depth - 1)) ≡ before ++ node ∷ after
@@ -76,18 +74,18 @@ pub(crate) fn beside<A: Kept>(
         unreachable!()
     };
     let parent = found.parent;
-    if let Some(next) = next_to(parts.kids(parent), ranks.rank(node), way) {
+    if let Some(next) = next_to(parts.kids(parent), parts.rank(node), way) {
         return Some(next);
     }
     if depth == 1 {
         return None;
     }
-    let mut at = beside(parts, ranks, root, parent, depth - 1, way);
+    let mut at = beside(parts, root, parent, depth - 1, way);
     while let Some(above) = at {
         if let Some(kid) = first_of(parts.kids(above), way) {
             return Some(kid);
         }
-        at = beside(parts, ranks, root, above, depth - 1, way);
+        at = beside(parts, root, above, depth - 1, way);
     }
     None
 }
@@ -95,14 +93,13 @@ pub(crate) fn beside<A: Kept>(
 /// The first child of the nodes of a level from one of them on, that way; none where they have no children.
 pub(crate) fn first_child<A: Kept>(
     parts: &Parts<A>,
-    ranks: &Ranks,
     root: NodeId,
     start: Option<NodeId>,
     depth: u32,
     way: Way,
 ) -> Option<NodeId>
     requires sound { IsSound root (changes_of parts.now) (nodes_of parts.now) }
-    requires ranked { AreRanked (nodes_of parts.now) ranks.now.at }
+    requires ranked { AreRanked (nodes_of parts.now) parts.now.ranks }
     requires below { 0 < depth }
     requires among { IfSome start (λ node.
         In node (level_nodes (nodes_of parts.now) root (depth - 1))) }
@@ -116,25 +113,20 @@ pub(crate) fn first_child<A: Kept>(
         if let Some(kid) = first_of(parts.kids(above), way) {
             return Some(kid);
         }
-        at = beside(parts, ranks, root, above, depth, way);
+        at = beside(parts, root, above, depth, way);
     }
     None
 }
 
 /// The leftmost node of a level.
-pub(crate) fn first_at<A: Kept>(
-    parts: &Parts<A>,
-    ranks: &Ranks,
-    root: NodeId,
-    level: u32,
-) -> Option<NodeId>
+pub(crate) fn first_at<A: Kept>(parts: &Parts<A>, root: NodeId, level: u32) -> Option<NodeId>
     requires sound { IsSound root (changes_of parts.now) (nodes_of parts.now) }
-    requires ranked { AreRanked (nodes_of parts.now) ranks.now.at }
+    requires ranked { AreRanked (nodes_of parts.now) parts.now.ranks }
     ensures { result ≡ first_in (level_nodes (nodes_of parts.now) root level) }
 {
     let mut at = first_of(parts.kids(root), Way::Right);
     for depth in 0..level {
-        at = first_child(parts, ranks, root, at, depth + 1, Way::Right);
+        at = first_child(parts, root, at, depth + 1, Way::Right);
     }
     at
 }
@@ -154,14 +146,13 @@ fn nest(way: Way, kind: Kind, inside: u32) -> Option<u32>
 /// The mate of a bracket, that way.
 pub(crate) fn mate_of<A: Kept>(
     parts: &Parts<A>,
-    ranks: &Ranks,
     root: NodeId,
     node: NodeId,
     depth: u32,
     way: Way,
 ) -> NodeId
     requires sound { IsSound root (changes_of parts.now) (nodes_of parts.now) }
-    requires ranked { AreRanked (nodes_of parts.now) ranks.now.at }
+    requires ranked { AreRanked (nodes_of parts.now) parts.now.ranks }
     requires numbers { live_slots parts.now.slots < 2 ^ 32 }
     requires below { 0 < depth }
     requires among { In node (level_nodes (nodes_of parts.now) root (depth - 1)) }
@@ -170,13 +161,13 @@ pub(crate) fn mate_of<A: Kept>(
     ensures { IsMateThat way (nodes_of parts.now) (level_nodes (nodes_of parts.now) root (depth - 1)) node result }
 {
     let mut inside = 0;
-    let mut at = beside(parts, ranks, root, node, depth, way);
+    let mut at = beside(parts, root, node, depth, way);
     while let Some(found) = at {
         let Some(branches) = nest(way, parts.kind(found), inside) else {
             return found;
         };
         inside = branches;
-        at = beside(parts, ranks, root, found, depth, way);
+        at = beside(parts, root, found, depth, way);
     }
     unreachable!()
 }
@@ -194,14 +185,13 @@ fn parent_of<A: Kept>(parts: &Parts<A>, node: NodeId) -> NodeId
 /// Whether the first of two nodes of the level this many steps below the root comes first.
 pub(crate) fn is_before<A: Kept>(
     parts: &Parts<A>,
-    ranks: &Ranks,
     root: NodeId,
     one: NodeId,
     two: NodeId,
     depth: u32,
 ) -> bool
     requires sound { IsSound root (changes_of parts.now) (nodes_of parts.now) }
-    requires ranked { AreRanked (nodes_of parts.now) ranks.now.at }
+    requires ranked { AreRanked (nodes_of parts.now) parts.now.ranks }
     requires below { 0 < depth }
     requires one { In one (level_nodes (nodes_of parts.now) root (depth - 1)) }
     requires two { In two (level_nodes (nodes_of parts.now) root (depth - 1)) }
@@ -211,7 +201,7 @@ pub(crate) fn is_before<A: Kept>(
     let parent = parent_of(parts, one);
     let other = parent_of(parts, two);
     if parent == other {
-        return ranks.rank(one) < ranks.rank(two);
+        return parts.rank(one) < parts.rank(two);
     }
-    is_before(parts, ranks, root, parent, other, depth - 1)
+    is_before(parts, root, parent, other, depth - 1)
 }

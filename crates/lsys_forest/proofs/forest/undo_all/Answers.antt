@@ -13,7 +13,6 @@ pub undo_one-requires : goal.undo_one-requires
 undo_one-requires g c = record {
   sound = c.loop-root.invariant.sound;
   ranked = c.loop-root.invariant.ranked;
-  numbers = c.loop-root.invariant.numbers;
   made = λ x earlier were.
       let m = nodes_of c.loop-root.parts in
       let step = undo_step m earlier x.node x.before in
@@ -38,9 +37,6 @@ loop-root-preserved g c =
     record {
       sound = undone_sound c.args.root c.loop-root.parts c.undo_one.new.parts x done.1 was.sound;
       ranked = c.undo_one.ensures.ranked;
-      numbers = omega (arith, c.undo_one.ensures.long, takes.room.numbers, was.numbers);
-      long = c.undo_one.ensures.long ∙ was.long;
-      places = omega (arith, c.undo_one.ensures.places, was.places);
       told =
           ap (undone (changes_of c.undo_one.new.parts)) done.1.nodes
           ∙ ap (λ cs. undone cs (undo x m)) takes.are
@@ -53,7 +49,6 @@ loop-root-preserved g c =
         places = omega (arith, takes.room.places, was.room.places);
         param_room = omega (arith, takes.room.param_room, was.room.param_room);
         kid_room = omega (arith, takes.room.kid_room, was.room.kid_room);
-        numbers = omega (arith, takes.room.numbers, was.room.numbers);
       };
       made = made';
       freed = follows_on g.A.Kept.run_at g.A.Kept.Holds (answers (nodes_of c.args.parts.now) (changes_of c.args.parts.now)) (answers m (changes_of c.loop-root.parts)) (answers m' (changes_of c.undo_one.new.parts)) c.args.store.now c.loop-root.store c.undo_one.new.store was.made was.freed

@@ -10,10 +10,7 @@ use Rattle.lsys_forest.proofs.forest.undo_all.Given as goal
 abbrev pub invariant-loop-root : goal.invariant-loop-root
 invariant-loop-root g l = record {
   sound : AreSound l.root (changes_of l.parts) (nodes_of l.parts);
-  ranked : AreRanked (nodes_of l.parts) l.ranks.at;
-  numbers : length l.parts.slots ≤ length l.ranks.at;
-  long : length l.ranks.at ≡ length l.fn.ranks.at;
-  places : l.fn.ranks.places ≤ l.ranks.places;
+  ranked : AreRanked (nodes_of l.parts) l.parts.ranks;
   told : undone (changes_of l.parts) (nodes_of l.parts) ≡ undone (changes_of l.fn.parts) (nodes_of l.fn.parts);
   live : live_slots l.parts.slots ≤ live_slots l.fn.parts.slots;
   room : KeepsRoom l.fn.parts l.parts;

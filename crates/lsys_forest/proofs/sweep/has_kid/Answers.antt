@@ -20,7 +20,7 @@ returns-in-Some-clause-lacks g c = λ p no ranked is among.
     let k = c.args.parent in
     let kids : c.kids.result.now ≡ p.kids = c.kids.ensures ∙ kids_were t.slots t.params t.kids k p is in
     let at = In_at c.args.node p.kids among in
-    let rank : c.rank.result ≡ at.0 = c.rank.ensures at.0 (ranked k p at.0 c.args.node is at.1) in
+    let rank : c.rank.result ≡ at.0 = c.rank.ensures ∙ ranked k p at.0 c.args.node is at.1 in
     not_both c.stands_at.result no (c.stands_at.ensures.1 (ap (slice_get c.kids.result.now) rank ∙ ap (λ l. slice_get l at.0) kids ∙ at.1))
   where
     not_both : (b : Bool) → b ≡ false → IsTrue b → ⊥

@@ -4,7 +4,7 @@ use Rattle.lsys_forest.specs.Nodes.{Nodes, put}
 use Rattle.lsys_forest.specs.Changes.{Change}
 use Rattle.lsys_forest.specs.Answers.{AtNode, answer_of, answers}
 use Rattle.lsys_forest.specs.Stocks.{nodes_of, changes_of}
-use Rattle.lsys_forest.proofs.SweepLemmas.{IsSwept-removes, swept_ranked}
+use Rattle.lsys_forest.proofs.SweepLemmas.{IsSwept-removes, removed_ranked}
 use Rattle.lsys_forest.proofs.SoundLemmas.{some_of}
 use Rattle.lsys_forest.proofs.AnswerLemmas.{IsStep, remove_step, step_made, step_follows}
 use Rattle.lsys_forest.proofs.sweep.sweep.Goals as goal
@@ -16,13 +16,16 @@ pub remove-requires-clause-lives : goal.remove-requires-clause-lives
 remove-requires-clause-lives g c = c.is_loose.ensures.lives c.if-is_loose.true
 
 pub returns-then-is_loose-clause-swept : goal.returns-then-is_loose-clause-swept
-returns-then-is_loose-clause-swept g c = λ left first before sound ranked swept.
+returns-then-is_loose-clause-swept g c = λ left first before sound is.
     let m = nodes_of c.args.parts.now in
     let s = some_of (m c.args.node) (c.is_loose.ensures.lives c.if-is_loose.true) in
     let done = (c.remove.ensures s.0 s.1).0 in
     let differ : c.args.node ≢ c.args.root = λ same. grind (arith, same, c.ne.ensures, c.if-ne.true) in
-    let apart = c.is_loose.ensures.apart s.0 c.if-is_loose.true s.1 (swept_ranked first c.args.root m (changes_of c.args.parts.now) (c.args.node ∷ left) c.args.ranks.now.at swept ranked) in
-    IsSwept-removes first c.args.root before sound m (nodes_of c.remove.new.self) (changes_of c.args.parts.now) (changes_of c.remove.new.self) c.args.node s.0 left differ s.1 apart done.nodes done.noted swept
+    let apart = c.is_loose.ensures.apart s.0 c.if-is_loose.true s.1 is.ranked in
+    record {
+      swept = IsSwept-removes first c.args.root before sound m (nodes_of c.remove.new.self) (changes_of c.args.parts.now) (changes_of c.remove.new.self) c.args.node s.0 left differ s.1 apart done.nodes done.noted is.swept;
+      ranked = removed_ranked first c.args.root before sound m (nodes_of c.remove.new.self) (changes_of c.args.parts.now) c.args.parts.now.ranks c.remove.new.self.ranks c.args.node s.0 (c.args.node ∷ left) s.1 apart done.nodes done.ranks is.swept is.ranked;
+    }
 
 pub returns-then-is_loose-clause-keeps : goal.returns-then-is_loose-clause-keeps
 returns-then-is_loose-clause-keeps g c =

@@ -1,8 +1,9 @@
-use Rattle.std.proofs.Common.{◌++◌, ◌∷◌, [], List, sym, ap, ◌∙◌, subst, arith}
+use Rattle.std.proofs.Common.{refl, ◌++◌, ◌∷◌, [], List, sym, ap, ◌∙◌, subst, arith}
 use Rattle.lsys_forest.specs.Nodes.{Nodes}
 use Rattle.lsys_forest.specs.Changes.{Change}
-use Rattle.lsys_forest.specs.Stocks.{nodes_of, changes_of, looked}
+use Rattle.lsys_forest.specs.Stocks.{Stock, nodes_of, changes_of, looked}
 use Rattle.lsys_forest.specs.Answers.{answers, old_answer, AreMade, Follows}
+use Rattle.lsys_forest.specs.Ranks.{AreRanked}
 use Rattle.lsys_forest.specs.Sweeps.{IsSwept}
 use Rattle.lsys_forest.proofs.StockLemmas.{told_none}
 use Rattle.lsys_forest.proofs.SweepLemmas.{IsSwept-start, IsSwept-pop}
@@ -13,10 +14,10 @@ pub loop-look-init : goal.loop-look-init
 loop-look-init g c =
     let t = c.args.parts.now in
     record {
-      swept = IsSwept-start (nodes_of t) c.args.root (changes_of t) c.requires.sound;
+      swept = record { swept = IsSwept-start (nodes_of t) c.args.root (changes_of t) c.requires.sound; ranked = c.requires.ranked };
       places = c.requires.places;
       live = omega arith;
-      room = record { capacity = omega arith; places = omega arith; param_room = omega arith; kid_room = omega arith; numbers = omega arith };
+      room = record { capacity = refl; places = omega arith; param_room = omega arith; kid_room = omega arith };
       made = c.requires.made;
       freed = follows_start g.A.Kept.run_at g.A.Kept.Holds (answers (nodes_of t) (changes_of t)) c.args.store.now;
     }
@@ -62,11 +63,12 @@ loop-look-preserved g c =
     let begun : IsSwept first c.args.root (nodes_of u) (changes_of u) (looked x) =
     subst (λ (f : Nodes g.row.A.Denot). IsSwept first c.args.root f (changes_of u) (looked x)) (sym done.1.nodes)
     (subst (λ (cs : List (Change g.row.A.Denot)). IsSwept first c.args.root m cs (looked x)) (sym takes.are)
-    (IsSwept-pop first c.args.root m takes.earlier x (subst (λ cs. IsSwept first c.args.root m cs []) takes.were was.swept))) in
+    (IsSwept-pop first c.args.root m takes.earlier x (subst (λ cs. IsSwept first c.args.root m cs []) takes.were was.swept.swept))) in
+    let ranked : AreRanked (nodes_of u) u.ranks = subst (λ r. AreRanked (nodes_of u) r) (sym done.1.ranks) (subst (λ (f : Nodes g.row.A.Denot). AreRanked f c.loop-look.parts.ranks) (sym done.1.nodes) was.swept.ranked) in
     let freed = follows_on g.A.Kept.run_at g.A.Kept.Holds (answers first (changes_of c.args.parts.now)) (answers m (changes_of c.loop-look.parts)) (answers (nodes_of u) (changes_of u)) c.args.store.now c.loop-look.store c.take_last.new.store was.made was.freed
     (subst (λ cs. Follows g.A.Kept.run_at g.A.Kept.Holds (answers m cs) c.loop-look.store (answers (nodes_of u) (changes_of u)) c.take_last.new.store) (sym takes.were) follows) in
     record {
-      swept = e.swept first (changes_of c.args.parts.now) c.requires.sound c.requires.ranked (subst (IsSwept first c.args.root (nodes_of u) (changes_of u)) (sym done.1.looks) begun);
+      swept = e.swept first (changes_of c.args.parts.now) c.requires.sound (record { swept = subst (IsSwept first c.args.root (nodes_of u) (changes_of u)) (sym done.1.looks) begun; ranked = ranked });
       places = omega (arith, e.keeps.places, e.keeps.room.places, takes.notes, takes.room.places, done.1.live, was.places);
       live = omega (arith, e.keeps.live, done.1.live, was.live);
       room = record {
@@ -74,7 +76,6 @@ loop-look-preserved g c =
         places = omega (arith, e.keeps.room.places, takes.room.places, was.room.places);
         param_room = omega (arith, e.keeps.room.param_room, takes.room.param_room, was.room.param_room);
         kid_room = omega (arith, e.keeps.room.kid_room, takes.room.kid_room, was.room.kid_room);
-        numbers = omega (arith, e.keeps.room.numbers, takes.room.numbers, was.room.numbers);
       };
       made = e.made;
       freed = follows_on g.A.Kept.run_at g.A.Kept.Holds (answers first (changes_of c.args.parts.now)) (answers (nodes_of u) (changes_of u)) (answers (nodes_of v) (changes_of v)) c.args.store.now c.take_last.new.store c.sweep_looked.new.store made' freed e.freed;
@@ -102,3 +103,10 @@ returns-clause-freed g c =
     subst (λ s. Follows g.A.Kept.run_at g.A.Kept.Holds first c.args.store.now (answers (nodes_of t) (changes_of t)) s) (sym none.2)
     (subst (λ (f : Nodes g.row.A.Denot). Follows g.A.Kept.run_at g.A.Kept.Holds first c.args.store.now (answers f (changes_of t)) c.loop-look.store) (sym (c.put_down.ensures.nodes ∙ ap nodes_of none.1))
     (subst (λ cs. Follows g.A.Kept.run_at g.A.Kept.Holds first c.args.store.now (answers (nodes_of c.loop-look.parts) cs) c.loop-look.store) (sym (c.put_down.ensures.changes ∙ ap changes_of none.1)) c.loop-look.invariant.freed))
+
+pub returns-clause-ranked : goal.returns-clause-ranked
+returns-clause-ranked g c =
+    let t = c.put_down.new.self in
+    let none = c.in_default.ensures.none in
+    let ranks = c.put_down.ensures.ranks ∙ ap (λ (u : Stock g.row.A.Denot). u.ranks) none.1 in
+    subst (λ r. AreRanked (nodes_of t) r) (sym ranks) (subst (λ (f : Nodes g.row.A.Denot). AreRanked f c.loop-look.parts.ranks) (sym (c.put_down.ensures.nodes ∙ ap nodes_of none.1)) c.loop-look.invariant.swept.ranked)

@@ -2,12 +2,12 @@ use Rattle.std.proofs.Common.{◌≤◌, ◌+◌, [], length}
 use Rattle.lsys_forest.specs.Slots.{live_slots}
 use Rattle.lsys_forest.specs.Stocks.{nodes_of, changes_of, KeepsRoom}
 use Rattle.lsys_forest.specs.Answers.{answers, AreMade, Follows}
-use Rattle.lsys_forest.specs.Sweeps.{IsSwept}
+use Rattle.lsys_forest.specs.Sweeps.{IsSweptOf}
 use Rattle.lsys_forest.proofs.sweep.sweep_all.Given as goal
 
 abbrev pub invariant-loop-look : goal.invariant-loop-look
 invariant-loop-look g l = record {
-  swept : IsSwept (nodes_of l.fn.parts) l.root (nodes_of l.parts) (changes_of l.parts) [];
+  swept : IsSweptOf (nodes_of l.fn.parts) l.root l.parts [];
   places : length l.parts.notes + live_slots l.parts.slots ≤ l.parts.places;
   live : live_slots l.parts.slots ≤ live_slots l.fn.parts.slots;
   room : KeepsRoom l.fn.parts l.parts;

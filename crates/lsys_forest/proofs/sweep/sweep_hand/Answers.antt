@@ -4,7 +4,7 @@ use Rattle.std.proofs.lemmas.List.{drop_all}
 use Rattle.std.proofs.lemmas.Option.{get_or_from_slice_get, slice_get_read}
 use Rattle.lsys_forest.specs.Stocks.{nodes_of, changes_of}
 use Rattle.lsys_forest.specs.Answers.{answers}
-use Rattle.lsys_forest.specs.Sweeps.{IsSwept}
+use Rattle.lsys_forest.specs.Sweeps.{IsSweptOf}
 use Rattle.lsys_forest.proofs.AnswerLemmas.{follows_on}
 use Rattle.lsys_forest.proofs.sweep.sweep_hand.Goals as goal
 
@@ -22,7 +22,7 @@ loop-place-preserved g c =
     let here : get_or hand i 0 ≡ kid = get_or_from_slice_get hand i kid 0 (slice_get_read hand (length hand) i kid refl within (subst (λ (l : List ℕ). kid ≡ get_or l i kid) now c.index-in_hand-place.is)) in
     let left : drop i hand ≡ kid ∷ drop (i + 1) hand = drop-cons hand i 0 within ∙ ap (λ n. get_or hand i 0 ∷ drop n hand) next ∙ ap (λ x. x ∷ drop (i + 1) hand) here in
     record {
-      swept = λ first before sound ranked start. e.swept (drop (i + 1) hand) first before sound ranked (subst (IsSwept first c.args.root (nodes_of t) (changes_of t)) left (was.swept first before sound ranked start));
+      swept = λ first before sound start. e.swept (drop (i + 1) hand) first before sound (subst (IsSweptOf first c.args.root t) left (was.swept first before sound start));
       keeps = record {
         places = omega (arith, e.keeps.places, was.keeps.places);
         live = omega (arith, e.keeps.live, was.keeps.live);
@@ -31,7 +31,6 @@ loop-place-preserved g c =
           places = omega (arith, e.keeps.room.places, was.keeps.room.places);
           param_room = omega (arith, e.keeps.room.param_room, was.keeps.room.param_room);
           kid_room = omega (arith, e.keeps.room.kid_room, was.keeps.room.kid_room);
-          numbers = omega (arith, e.keeps.room.numbers, was.keeps.room.numbers);
         };
         hand = e.keeps.hand ∙ was.keeps.hand;
       };
@@ -41,6 +40,6 @@ loop-place-preserved g c =
     }
 
 pub returns-clause-swept : goal.returns-clause-swept
-returns-clause-swept g c = λ first before sound ranked start.
+returns-clause-swept g c = λ first before sound start.
     let t = c.loop-place.parts in
-    subst (IsSwept first c.args.root (nodes_of t) (changes_of t)) (drop_all c.loop-place.place c.args.parts.now.hand (omega (arith, c.loop-place.invariant.end, c.loop-place-test.false))) (c.loop-place.invariant.swept first before sound ranked start)
+    subst (IsSweptOf first c.args.root t) (drop_all c.loop-place.place c.args.parts.now.hand (omega (arith, c.loop-place.invariant.end, c.loop-place-test.false))) (c.loop-place.invariant.swept first before sound start)

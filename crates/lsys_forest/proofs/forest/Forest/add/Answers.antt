@@ -10,7 +10,7 @@ use Rattle.std.proofs.lemmas.Option.{same_Some}
 use Rattle.lsys_forest.specs.declared.node.Stored.{Stored}
 use Rattle.lsys_forest.proofs.StockLemmas.{stored_of}
 use Rattle.lsys_forest.proofs.DepthLemmas.{depth_fits}
-use Rattle.lsys_forest.proofs.RankLemmas.{add_ranks}
+use Rattle.lsys_forest.proofs.RankLemmas.{add_ranked}
 use Rattle.lsys_forest.proofs.GroveLemmas.{sound_now, IsGrove-add, add_rested}
 use Rattle.lsys_forest.proofs.forest.Forest.add.Goals as goal
 
@@ -25,13 +25,10 @@ overflow_add-depth g c =
     let fits = depth_fits i.root (changes_of i.parts) (nodes_of i.parts) i.parts.slots (sound_now c.self.invariant.grove) (λ k n is. let x = stored_of i.parts.slots i.parts.params i.parts.kids k n is in subst IsSome (sym x.1) refl) c.args.parent s.0 s.1 in
     omega (arith, fits, depth, asked.1, c.self.invariant.grove.numbers)
 
-pub reach-requires : goal.reach-requires
-reach-requires g c = record {
-  place = λ e.
-      let asked = subst (λ (f : Grove g.row.A.Denot). 0 < f.spare_nodes) (sym c.self.view_is) c.requires.nodes in
-      let next = c.insert-node.ensures.next (omega (arith, e, c.insert-node.ensures.within, c.self.invariant.ranks.numbers)) in
-      omega (arith, e, next, c.insert-node.ensures.within, c.self.invariant.ranks.numbers, c.self.invariant.ranks.room, asked);
-}
+pub insert-requires-clause-numbers : goal.insert-requires-clause-numbers
+insert-requires-clause-numbers g c =
+    let asked = subst (λ (f : Grove g.row.A.Denot). 0 < f.spare_nodes) (sym c.self.view_is) c.requires.nodes in
+    c.self.invariant.grove.fit asked
 
 pub invariant_of-self : goal.invariant_of-self
 invariant_of-self g c =
@@ -43,23 +40,23 @@ invariant_of-self g c =
     let depth : c.in-Some.above.now.depth + 1 ≡ s.0.depth + 1 = ap (λ (x : Stored g.row.A.Denot). x.depth + 1) above ∙ ap (λ (x : Node g.row.A.Denot). x.depth + 1) t.2 in
     let n : Node g.row.A.Denot = record { parent = c.args.parent; code = c.args.code; count = c.args.count; depth = c.in-Some.above.now.depth + 1; seen = seen_in c.args.symbol.now; key = c.args.key; kids = []; answer = None } in
     record {
-      grove = IsGrove-add i.parts c.insert-node.new.self i.root i.spare_nodes (i.spare_nodes - 1) i.spare_notes (i.spare_notes - 1) c.insert-node.result n s.0 (list_room (params_in c.args.symbol.now)) 0 c.insert-node.ensures.vacant s.1 depth refl c.insert-node.ensures.few c.insert-node.ensures.added (omega (arith, asked.1)) (omega (arith, asked.2)) c.self.invariant.grove;
-      ranks = add_ranks i.parts c.insert-node.new.self i.ranks c.reach.new.self i.spare_nodes (i.spare_nodes - 1) c.insert-node.result n (list_room (params_in c.args.symbol.now)) 0 refl c.insert-node.ensures.added c.insert-node.ensures.within c.insert-node.ensures.grown c.reach.ensures.at c.reach.ensures.places (omega (arith, asked.1)) c.self.invariant.ranks;
+      grove = IsGrove-add i.parts c.insert.new.self i.root i.spare_nodes (i.spare_nodes - 1) i.spare_notes (i.spare_notes - 1) c.insert.result n s.0 (list_room (params_in c.args.symbol.now)) 0 c.insert.ensures.vacant s.1 depth refl c.insert.ensures.few c.insert.ensures.added (omega (arith, asked.1)) (omega (arith, asked.2)) c.self.invariant.grove;
+      ranked = add_ranked i.root i.parts c.insert.new.self c.insert.result n (list_room (params_in c.args.symbol.now)) 0 (sound_now c.self.invariant.grove) refl c.insert.ensures.added c.self.invariant.ranked;
     }
 
 pub returns-clause-added : goal.returns-clause-added
 returns-clause-added g c =
     let i = c.self.inside in
-    let new : Grove g.row.A.Denot = record { stock = c.insert-node.new.self; root = i.root; spare_nodes = i.spare_nodes - 1; spare_notes = i.spare_notes - 1 } in
+    let new : Grove g.row.A.Denot = record { stock = c.insert.new.self; root = i.root; spare_nodes = i.spare_nodes - 1; spare_notes = i.spare_notes - 1 } in
     let n : Node g.row.A.Denot = record { parent = c.args.parent; code = c.args.code; count = c.args.count; depth = c.in-Some.above.now.depth + 1; seen = seen_in c.args.symbol.now; key = c.args.key; kids = []; answer = None } in
-    subst (λ (f : Grove g.row.A.Denot). (p : Node g.row.A.Denot) → now_of f c.args.parent ≡ Some p → Sets f new c.insert-node.result (record n { depth = p.depth + 1 })) c.self.view_is
+    subst (λ (f : Grove g.row.A.Denot). (p : Node g.row.A.Denot) → now_of f c.args.parent ≡ Some p → Sets f new c.insert.result (record n { depth = p.depth + 1 })) c.self.view_is
     (λ p is. (
     let t = stored_of i.parts.slots i.parts.params i.parts.kids c.args.parent p is in
     let above : c.in-Some.above.now ≡ t.0 = same_Some c.in-Some.above.now t.0 (c.in-Some.ensures ∙ t.1) in
     let depth : c.in-Some.above.now.depth + 1 ≡ p.depth + 1 = ap (λ (x : Stored g.row.A.Denot). x.depth + 1) above ∙ ap (λ (x : Node g.row.A.Denot). x.depth + 1) t.2 in
-    subst (λ d. Sets (record { stock = i.parts; root = i.root; spare_nodes = i.spare_nodes; spare_notes = i.spare_notes }) new c.insert-node.result (record n { depth = d })) depth (record {
-      now = c.insert-node.ensures.added.nodes;
-      rest = add_rested i.parts c.insert-node.new.self c.insert-node.result n (list_room (params_in c.args.symbol.now)) 0 c.insert-node.ensures.vacant c.insert-node.ensures.added;
+    subst (λ d. Sets (record { stock = i.parts; root = i.root; spare_nodes = i.spare_nodes; spare_notes = i.spare_notes }) new c.insert.result (record n { depth = d })) depth (record {
+      now = c.insert.ensures.added.nodes;
+      rest = add_rested i.parts c.insert.new.self c.insert.result n (list_room (params_in c.args.symbol.now)) 0 c.insert.ensures.vacant c.insert.ensures.added;
       root = refl;
     })
     ))

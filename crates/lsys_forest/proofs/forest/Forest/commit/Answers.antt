@@ -1,11 +1,10 @@
-use Rattle.std.proofs.Common.{[], ◌≡◌, ℕ, refl, sym, subst, arith}
+use Rattle.std.proofs.Common.{◌≡◌, ℕ, refl, sym, subst, arith}
 use Rattle.std.specs.Prelude.{IsSome}
 use Rattle.lsys_forest.specs.Stocks.{nodes_of, changes_of}
 use Rattle.lsys_forest.specs.Answers.{answers, kept_by, AreMade, FreesAllBut}
 use Rattle.lsys_forest.specs.Groves.{Grove, now_of, kept_in, Reached, Spends}
 use Rattle.lsys_forest.proofs.SoundLemmas.{some_of}
-use Rattle.lsys_forest.proofs.SweepLemmas.{swept_ranked, IsSound-swept, all_reached, reached_stays}
-use Rattle.lsys_forest.proofs.RankLemmas.{left_ranks}
+use Rattle.lsys_forest.proofs.SweepLemmas.{IsSound-swept, all_reached, reached_stays}
 use Rattle.lsys_forest.proofs.GroveLemmas.{sound_now, IsGrove-rest}
 use Rattle.lsys_forest.proofs.AnswerLemmas.{frees_by}
 use Rattle.lsys_forest.proofs.forest.Forest.commit.Goals as goal
@@ -21,11 +20,9 @@ invariant_of-self g c =
     let i = c.self.inside in
     let e = c.sweep_all.ensures in
     let sound = (IsSound-swept (nodes_of i.parts) i.root (changes_of i.parts) (sound_now c.self.invariant.grove) (nodes_of c.sweep_all.new.parts) e.swept) in
-    let m = nodes_of c.sweep_all.new.parts in
-    let ranked = swept_ranked (nodes_of i.parts) i.root m [] [] i.ranks.at e.swept c.self.invariant.ranks.ranked in
     record {
       grove = IsGrove-rest i.parts c.sweep_all.new.parts i.root i.spare_nodes i.spare_notes sound e.empty e.short e.live e.room c.self.invariant.grove;
-      ranks = left_ranks i.parts c.sweep_all.new.parts i.ranks i.ranks i.spare_nodes ranked refl (omega arith) e.live e.room c.self.invariant.ranks;
+      ranked = e.ranked;
     }
 
 pub returns-clause-stay : goal.returns-clause-stay
@@ -49,6 +46,7 @@ returns-clause-spares g c =
     let new : Grove g.row.A.Denot = record { stock = c.sweep_all.new.parts; root = i.root; spare_nodes = i.spare_nodes; spare_notes = i.spare_notes } in
     subst (λ (f : Grove g.row.A.Denot). Spends f new 0 0 0 0) c.self.view_is (record {
       live = omega (arith, e.live);
+      numbers = omega (arith, e.room.capacity);
       nodes_left = omega arith;
       params_left = omega (arith, e.room.param_room);
       kids_left = omega (arith, e.room.kid_room);

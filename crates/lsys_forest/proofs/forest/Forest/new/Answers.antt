@@ -1,4 +1,4 @@
-use Rattle.std.proofs.Common.{length, Some, None, refl, sym, ap, ◌∙◌, subst, arith}
+use Rattle.std.proofs.Common.{Some, None, refl, sym, ap, ◌∙◌, subst, arith}
 use Rattle.lsys_forest.specs.Nodes.{root_node}
 use Rattle.lsys_forest.specs.Stocks.{nodes_of}
 use Rattle.lsys_forest.specs.Groves.{AreSound}
@@ -13,21 +13,15 @@ invariant_of-result g c =
     let p = c.in_ok-parts.parts in
     let e = c.in_ok-parts.ensures in
     let sound = IsSound-root (nodes_of p) e.nodes in
-    let t = c.in_ok-ranks.ranks in
-    let f = c.in_ok-ranks.ensures in
-    let la = ap length f.at in
     record {
       grove = record {
         sound = subst (λ cs. AreSound 0 cs (nodes_of p)) (sym e.changes) (AreSound-rest 0 (nodes_of p) sound);
         nodes_left = omega (arith, e.live, e.capacity);
         numbers = omega (arith, e.live);
+        fit = λ some. absurd (omega (arith, some));
         places_left = omega (arith, e.live, e.places, e.notes);
       };
-      ranks = record {
-        ranked = ranked_root (nodes_of p) t.at e.nodes;
-        numbers = omega (arith, la, e.one);
-        room = omega (arith, e.live, f.places);
-      };
+      ranked = ranked_root (nodes_of p) p.ranks e.nodes;
     }
 
 pub returns-clause-root : goal.returns-clause-root

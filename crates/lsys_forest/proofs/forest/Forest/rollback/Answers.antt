@@ -3,7 +3,6 @@ use Rattle.lsys_forest.specs.Nodes.{Nodes}
 use Rattle.lsys_forest.specs.Stocks.{nodes_of, changes_of}
 use Rattle.lsys_forest.specs.Answers.{answers, kept_by, AreMade, FreesAllBut}
 use Rattle.lsys_forest.specs.Groves.{Grove, rest_of, kept_in, Spends, IsSound}
-use Rattle.lsys_forest.proofs.RankLemmas.{left_ranks}
 use Rattle.lsys_forest.proofs.GroveLemmas.{sound_rest, IsGrove-rest}
 use Rattle.lsys_forest.proofs.AnswerLemmas.{frees_by}
 use Rattle.lsys_forest.proofs.forest.Forest.rollback.Goals as goal
@@ -11,8 +10,7 @@ use Rattle.lsys_forest.proofs.forest.Forest.rollback.Goals as goal
 pub undo_all-requires : goal.undo_all-requires
 undo_all-requires g c = record {
   sound = c.self.invariant.grove.sound;
-  ranked = c.self.invariant.ranks.ranked;
-  numbers = c.self.invariant.ranks.numbers;
+  ranked = c.self.invariant.ranked;
   made = subst (λ (f : Grove g.row.A.Denot). AreMade g.A.Kept.run_at g.A.Kept.Holds c.args.store.now (kept_in f)) (sym c.self.view_is) c.requires.made;
 }
 
@@ -22,7 +20,7 @@ invariant_of-self g c =
     let e = c.undo_all.ensures in
     record {
       grove = IsGrove-rest i.parts c.undo_all.new.parts i.root i.spare_nodes i.spare_notes (subst (IsSound i.root []) (sym e.nodes) (sound_rest c.self.invariant.grove)) e.empty e.short e.live e.room c.self.invariant.grove;
-      ranks = left_ranks i.parts c.undo_all.new.parts i.ranks c.undo_all.new.ranks i.spare_nodes e.ranked e.long e.places e.live e.room c.self.invariant.ranks;
+      ranked = e.ranked;
     }
 
 pub returns-clause-spares : goal.returns-clause-spares
@@ -32,6 +30,7 @@ returns-clause-spares g c =
     let new : Grove g.row.A.Denot = record { stock = c.undo_all.new.parts; root = i.root; spare_nodes = i.spare_nodes; spare_notes = i.spare_notes } in
     subst (λ (f : Grove g.row.A.Denot). Spends f new 0 0 0 0) c.self.view_is (record {
       live = omega (arith, e.live);
+      numbers = omega (arith, e.room.capacity);
       nodes_left = omega arith;
       params_left = omega (arith, e.room.param_room);
       kids_left = omega (arith, e.room.kid_room);

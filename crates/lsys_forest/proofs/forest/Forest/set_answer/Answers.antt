@@ -1,10 +1,11 @@
-use Rattle.std.proofs.Common.{◌≡◌, ◌<◌, ◌-◌, Some, refl, sym, subst, arith}
+use Rattle.std.proofs.Common.{◌≡◌, ◌<◌, ◌-◌, ◌++◌, ◌∷◌, [], Some, refl, sym, subst, arith}
 use Rattle.std.specs.Prelude.{IsSome}
 use Rattle.lsys_forest.specs.Nodes.{Node, with_answer}
 use Rattle.lsys_forest.specs.Stocks.{nodes_of, changes_of}
-use Rattle.lsys_forest.specs.Groves.{Grove, now_of, Sets, Spends}
+use Rattle.lsys_forest.specs.Changes.{OldAnswer}
+use Rattle.lsys_forest.specs.Groves.{Grove, now_of, changes_in, Sets, Spends}
 use Rattle.lsys_forest.proofs.SoundLemmas.{some_of, set_answer}
-use Rattle.lsys_forest.proofs.RankLemmas.{set_ranks}
+use Rattle.lsys_forest.proofs.RankLemmas.{set_ranked}
 use Rattle.lsys_forest.proofs.GroveLemmas.{sound_now, IsGrove-set, set_rested}
 use Rattle.lsys_forest.proofs.forest.Forest.set_answer.Goals as goal
 
@@ -17,7 +18,7 @@ invariant_of-self g c =
     let grove = IsGrove-set i.parts c.set_answer.new.self i.root i.spare_nodes i.spare_notes (i.spare_notes - 1) c.args.node s.0 (with_answer c.args.answer s.0) _ 0 0 (set_answer i.root (changes_of i.parts) (nodes_of i.parts) c.args.node s.0 c.args.answer (sound_now c.self.invariant.grove) s.1) (c.set_answer.ensures s.0 s.1) (omega (arith, asked.1)) c.self.invariant.grove in
     record {
       grove = grove;
-      ranks = set_ranks i.parts c.set_answer.new.self i.ranks i.spare_nodes c.args.node s.0 (with_answer c.args.answer s.0) s.1 refl j.nodes j.live j.numbers c.self.invariant.ranks;
+      ranked = set_ranked i.root i.parts c.set_answer.new.self c.args.node s.0 (with_answer c.args.answer s.0) _ 0 0 (sound_now c.self.invariant.grove) s.1 refl j c.self.invariant.ranked;
     }
 
 pub returns-clause-set : goal.returns-clause-set
@@ -31,6 +32,13 @@ returns-clause-set g c =
       root = refl;
     })
 
+pub returns-clause-noted : goal.returns-clause-noted
+returns-clause-noted g c =
+    let i = c.self.inside in
+    let new : Grove g.row.A.Denot = record { stock = c.set_answer.new.self; root = i.root; spare_nodes = i.spare_nodes; spare_notes = i.spare_notes - 1 } in
+    subst (λ (f : Grove g.row.A.Denot). (n : Node g.row.A.Denot) → now_of f c.args.node ≡ Some n → changes_in new ≡ changes_in f ++ record { node = c.args.node; before = OldAnswer n.answer } ∷ []) c.self.view_is
+    (λ n is. (c.set_answer.ensures n is).noted)
+
 pub returns-clause-spends : goal.returns-clause-spends
 returns-clause-spends g c =
     let i = c.self.inside in
@@ -40,6 +48,7 @@ returns-clause-spends g c =
     let j = c.set_answer.ensures s.0 s.1 in
     subst (λ (f : Grove g.row.A.Denot). Spends f new 0 (0) (0) 1) c.self.view_is (record {
       live = omega (arith, j.live);
+      numbers = omega (arith, j.capacity);
       nodes_left = omega arith;
       params_left = j.param_room;
       kids_left = j.kid_room;

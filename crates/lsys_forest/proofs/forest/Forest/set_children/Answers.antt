@@ -1,11 +1,14 @@
 use Rattle.std.proofs.Common.{◌≡◌, ◌∙◌, ap, ◌<◌, ◌-◌, Some, refl, sym, subst, arith}
 use Rattle.std.specs.Prelude.{IsSome}
 use Rattle.lsys_region.specs.Rooms.{list_room}
-use Rattle.lsys_forest.specs.Nodes.{Node, Nodes, with_kids}
-use Rattle.lsys_forest.specs.Stocks.{nodes_of, changes_of}
-use Rattle.lsys_forest.specs.Groves.{Grove, now_of, AreKids, Sets, Spends}
+use Rattle.lsys_forest.specs.Nodes.{Node, with_kids}
+use Rattle.lsys_forest.specs.Stocks.{Stock, nodes_of, changes_of}
+use Rattle.lsys_forest.specs.Slots.{live_slots}
+use Rattle.lsys_forest.specs.Changes.{undone}
+use Rattle.lsys_forest.specs.Ranks.{AreRanked}
+use Rattle.lsys_forest.specs.Groves.{Grove, now_of, AreKids, Sets, Spends, IsGrove}
 use Rattle.lsys_forest.proofs.SoundLemmas.{some_of, set_kids}
-use Rattle.lsys_forest.proofs.StockLemmas.{put_other}
+use Rattle.lsys_forest.proofs.RankLemmas.{kids_ranked}
 use Rattle.lsys_forest.proofs.GroveLemmas.{sound_now, IsGrove-set, set_rested}
 use Rattle.lsys_forest.proofs.forest.Forest.set_children.Goals as goal
 
@@ -17,7 +20,7 @@ rerank-requires g c =
     let kids = subst (λ (f : Grove g.row.A.Denot). AreKids (now_of f) f.root c.args.node c.args.kids.now) (sym c.self.view_is) c.requires.kids in
     let j = c.set_kids.ensures s.0 s.1 in
     let grove = IsGrove-set i.parts c.set_kids.new.self i.root i.spare_nodes i.spare_notes (i.spare_notes - 1) c.args.node s.0 (with_kids c.args.kids.now s.0) _ 0 (list_room c.args.kids.now) (set_kids i.root (changes_of i.parts) (nodes_of i.parts) c.args.node s.0 c.args.kids.now kids (sound_now c.self.invariant.grove) s.1) (c.set_kids.ensures s.0 s.1) (omega (arith, asked.1)) c.self.invariant.grove in
-    record { sound = (i.root, sound_now grove); numbers = omega (arith, j.numbers, c.self.invariant.ranks.numbers) }
+    (i.root, sound_now grove)
 
 pub invariant_of-self : goal.invariant_of-self
 invariant_of-self g c =
@@ -27,27 +30,25 @@ invariant_of-self g c =
     let kids = subst (λ (f : Grove g.row.A.Denot). AreKids (now_of f) f.root c.args.node c.args.kids.now) (sym c.self.view_is) c.requires.kids in
     let j = c.set_kids.ensures s.0 s.1 in
     let grove = IsGrove-set i.parts c.set_kids.new.self i.root i.spare_nodes i.spare_notes (i.spare_notes - 1) c.args.node s.0 (with_kids c.args.kids.now s.0) _ 0 (list_room c.args.kids.now) (set_kids i.root (changes_of i.parts) (nodes_of i.parts) c.args.node s.0 c.args.kids.now kids (sound_now c.self.invariant.grove) s.1) (c.set_kids.ensures s.0 s.1) (omega (arith, asked.1)) c.self.invariant.grove in
-    let t = c.self.invariant.ranks in
     let e = c.rerank.ensures in
     let n = with_kids c.args.kids.now s.0 in
+    let ranks = c.rerank.new.self.ranks in
+    let old = c.set_kids.new.self in
+    let now : IsGrove (record old { ranks = ranks }) i.root i.spare_nodes (i.spare_notes - 1) = record { sound = grove.sound; nodes_left = grove.nodes_left; numbers = grove.numbers; fit = grove.fit; places_left = grove.places_left } in
     record {
-      grove = grove;
-      ranks = record {
-        ranked = e.ranked (nodes_of i.parts) (λ k ne. ap (λ (f : Nodes g.row.A.Denot). f k) j.nodes ∙ put_other (nodes_of i.parts) c.args.node k (Some n) ne) t.ranked;
-        numbers = omega (arith, e.long, j.numbers, t.numbers);
-        room = omega (arith, e.places, j.live, t.room);
-      };
+      grove = subst (λ (t : Stock g.row.A.Denot). IsGrove t i.root i.spare_nodes (i.spare_notes - 1)) (sym e.same) now;
+      ranked = subst (λ (t : Stock g.row.A.Denot). AreRanked (nodes_of t) ranks) (sym e.same) (kids_ranked i.root i.parts old ranks c.args.node n _ 0 (list_room c.args.kids.now) (sound_now c.self.invariant.grove) j c.self.invariant.ranked e.ranked);
     }
 
 pub returns-clause-set : goal.returns-clause-set
 returns-clause-set g c =
     let i = c.self.inside in
     let kids = subst (λ (f : Grove g.row.A.Denot). AreKids (now_of f) f.root c.args.node c.args.kids.now) (sym c.self.view_is) c.requires.kids in
-    let new : Grove g.row.A.Denot = record { stock = c.set_kids.new.self; root = i.root; spare_nodes = i.spare_nodes; spare_notes = i.spare_notes - 1 } in
+    let new : Grove g.row.A.Denot = record { stock = c.rerank.new.self; root = i.root; spare_nodes = i.spare_nodes; spare_notes = i.spare_notes - 1 } in
     subst (λ (f : Grove g.row.A.Denot). (n : Node g.row.A.Denot) → now_of f c.args.node ≡ Some n → Sets f new c.args.node (with_kids c.args.kids.now n)) c.self.view_is
     (λ n is. record {
-      now = (c.set_kids.ensures n is).nodes;
-      rest = set_rested i.parts c.set_kids.new.self i.root c.args.node n (with_kids c.args.kids.now n) _ 0 (list_room c.args.kids.now) (set_kids i.root (changes_of i.parts) (nodes_of i.parts) c.args.node n c.args.kids.now kids (sound_now c.self.invariant.grove) is) (c.set_kids.ensures n is);
+      now = ap (λ (t : Stock g.row.A.Denot). nodes_of t) c.rerank.ensures.same ∙ (c.set_kids.ensures n is).nodes;
+      rest = ap (λ (t : Stock g.row.A.Denot). undone (changes_of t) (nodes_of t)) c.rerank.ensures.same ∙ set_rested i.parts c.set_kids.new.self i.root c.args.node n (with_kids c.args.kids.now n) _ 0 (list_room c.args.kids.now) (set_kids i.root (changes_of i.parts) (nodes_of i.parts) c.args.node n c.args.kids.now kids (sound_now c.self.invariant.grove) is) (c.set_kids.ensures n is);
       root = refl;
     })
 
@@ -56,12 +57,16 @@ returns-clause-spends g c =
     let i = c.self.inside in
     let asked = subst (λ (f : Grove g.row.A.Denot). IsSome (now_of f c.args.node) × (0 < f.spare_notes)) (sym c.self.view_is) (c.requires.lives, c.requires.notes) in
     let s = some_of (nodes_of i.parts c.args.node) asked.0 in
-    let new : Grove g.row.A.Denot = record { stock = c.set_kids.new.self; root = i.root; spare_nodes = i.spare_nodes; spare_notes = i.spare_notes - 1 } in
+    let new : Grove g.row.A.Denot = record { stock = c.rerank.new.self; root = i.root; spare_nodes = i.spare_nodes; spare_notes = i.spare_notes - 1 } in
     let j = c.set_kids.ensures s.0 s.1 in
+    let live = ap (λ (t : Stock g.row.A.Denot). live_slots t.slots) c.rerank.ensures.same in
+    let params = ap (λ (t : Stock g.row.A.Denot). t.param_room) c.rerank.ensures.same in
+    let kids = ap (λ (t : Stock g.row.A.Denot). t.kid_room) c.rerank.ensures.same in
     subst (λ (f : Grove g.row.A.Denot). Spends f new 0 (0) ((list_room c.args.kids.now)) 1) c.self.view_is (record {
-      live = omega (arith, j.live);
+      live = omega (arith, j.live, live);
+      numbers = (let room = ap (λ (t : Stock g.row.A.Denot). t.capacity) c.rerank.ensures.same in omega (arith, j.capacity, room));
       nodes_left = omega arith;
-      params_left = j.param_room;
-      kids_left = j.kid_room;
+      params_left = omega (arith, j.param_room, params);
+      kids_left = omega (arith, j.kid_room, kids);
       notes_left = omega (arith, asked.1);
     })

@@ -6,7 +6,7 @@ use Rattle.lsys_forest.specs.Nodes.{Node, with_seen}
 use Rattle.lsys_forest.specs.Stocks.{nodes_of, changes_of}
 use Rattle.lsys_forest.specs.Groves.{Grove, now_of, Sets, Spends}
 use Rattle.lsys_forest.proofs.SoundLemmas.{some_of, set_seen}
-use Rattle.lsys_forest.proofs.RankLemmas.{set_ranks}
+use Rattle.lsys_forest.proofs.RankLemmas.{set_ranked}
 use Rattle.lsys_forest.proofs.GroveLemmas.{sound_now, IsGrove-set, set_rested}
 use Rattle.lsys_forest.proofs.forest.Forest.set_symbol.Goals as goal
 
@@ -19,7 +19,7 @@ invariant_of-self g c =
     let grove = IsGrove-set i.parts c.set_symbol.new.self i.root i.spare_nodes i.spare_notes (i.spare_notes - 1) c.args.node s.0 (with_seen (seen_in c.args.symbol.now) s.0) _ (list_room (params_in c.args.symbol.now)) 0 (set_seen i.root (changes_of i.parts) (nodes_of i.parts) c.args.node s.0 (seen_in c.args.symbol.now) c.set_symbol.ensures.few (sound_now c.self.invariant.grove) s.1) (c.set_symbol.ensures.set s.0 s.1) (omega (arith, asked.1)) c.self.invariant.grove in
     record {
       grove = grove;
-      ranks = set_ranks i.parts c.set_symbol.new.self i.ranks i.spare_nodes c.args.node s.0 (with_seen (seen_in c.args.symbol.now) s.0) s.1 refl j.nodes j.live j.numbers c.self.invariant.ranks;
+      ranked = set_ranked i.root i.parts c.set_symbol.new.self c.args.node s.0 (with_seen (seen_in c.args.symbol.now) s.0) _ (list_room (params_in c.args.symbol.now)) 0 (sound_now c.self.invariant.grove) s.1 refl j c.self.invariant.ranked;
     }
 
 pub returns-clause-set : goal.returns-clause-set
@@ -42,6 +42,7 @@ returns-clause-spends g c =
     let j = c.set_symbol.ensures.set s.0 s.1 in
     subst (λ (f : Grove g.row.A.Denot). Spends f new 0 ((list_room (params_in c.args.symbol.now))) (0) 1) c.self.view_is (record {
       live = omega (arith, j.live);
+      numbers = omega (arith, j.capacity);
       nodes_left = omega arith;
       params_left = j.param_room;
       kids_left = j.kid_room;

@@ -1,27 +1,32 @@
-use Rattle.std.proofs.Common.{ℕ, map, sym, ap, ◌∙◌, subst}
-use Rattle.std.specs.Prelude.{vec_capacity, None}
-use Rattle.lsys_forest.specs.Shelves.{Shelf, shown, AreOwned}
-use Rattle.lsys_forest.proofs.ShelfLemmas.{dropped_owned, popped_live, IsFreed, drop_done, shelf_is}
+use Rattle.std.proofs.Common.{refl, sym, subst}
+use Rattle.std.specs.Prelude.{vec_capacity}
+use Rattle.lsys_forest.specs.Shelves.{Hoard, shelf_of, IsOwner, IsFreed}
+use Rattle.lsys_forest.specs.Stocks.{DropsLast}
+use Rattle.lsys_forest.proofs.ShelfLemmas.{popped_live, drop_done}
 use Rattle.lsys_forest.proofs.lists.Lists.drop_past.Goals as goal
 
 pub free-requires : goal.free-requires
 free-requires g c =
     let i = c.self.inside in
-    popped_live i.region i.rows.items c.pop.new.self.items i.hand c.in-Some.run' (subst (λ p. AreOwned i.region i.rows.items p i.hand None) c.in-Some.ensures.items c.self.invariant)
+    let h : Hoard g.row.T.Denot = record { pool = i.region; past = i.past.items; hand = i.hand; past_places = vec_capacity i.past } in
+    let owned = subst (λ (x : Hoard g.row.T.Denot). IsOwner x c.requires.owned.0) (sym c.self.view_is) c.requires.owned.1 in
+    popped_live h h c.requires.owned.0 c.pop.new.self.items c.in-Some.run' c.in-Some.ensures.items owned
 
-pub invariant_of-self : goal.invariant_of-self
-invariant_of-self g c =
+pub returns-in-Some-clause-owned : goal.returns-in-Some-clause-owned
+returns-in-Some-clause-owned g c = λ now is.
     let i = c.self.inside in
+    let h : Hoard g.row.T.Denot = record { pool = i.region; past = i.past.items; hand = i.hand; past_places = vec_capacity i.past } in
+    let new : Hoard g.row.T.Denot = record { pool = c.free.new.self; past = c.pop.new.self.items; hand = i.hand; past_places = vec_capacity c.pop.new.self } in
+    let owned = subst (λ (x : Hoard g.row.T.Denot). IsOwner x now) (sym c.self.view_is) is in
     let free : IsFreed i.region c.free.new.self c.in-Some.run' = record { gone = c.free.ensures.gone; others = c.free.ensures.others } in
-    dropped_owned i.region c.free.new.self i.rows.items c.pop.new.self.items i.hand c.in-Some.run' free (subst (λ p. AreOwned i.region i.rows.items p i.hand None) c.in-Some.ensures.items c.self.invariant)
+    (drop_done h new now c.in-Some.run' c.in-Some.ensures.items refl free c.free.ensures.spare c.in-Some.ensures.capacity owned).0
 
-pub returns-in-Some : goal.returns-in-Some
-returns-in-Some g c = λ before list last.
+pub returns-in-Some-clause-dropped : goal.returns-in-Some-clause-dropped
+returns-in-Some-clause-dropped g c = λ now is.
     let i = c.self.inside in
+    let h : Hoard g.row.T.Denot = record { pool = i.region; past = i.past.items; hand = i.hand; past_places = vec_capacity i.past } in
+    let new : Hoard g.row.T.Denot = record { pool = c.free.new.self; past = c.pop.new.self.items; hand = i.hand; past_places = vec_capacity c.pop.new.self } in
+    let owned = subst (λ (x : Hoard g.row.T.Denot). IsOwner x now) (sym c.self.view_is) is in
     let free : IsFreed i.region c.free.new.self c.in-Some.run' = record { gone = c.free.ensures.gone; others = c.free.ensures.others } in
-    let there = ap (map (shown i.region)) (sym c.in-Some.ensures.items) ∙ ap (λ (s : Shelf g.row.T.Denot). s.past) c.self.view_is ∙ last in
-    let done = drop_done i.region c.free.new.self i.rows.items c.pop.new.self.items i.hand c.in-Some.run' before list free (subst (λ p. AreOwned i.region i.rows.items p i.hand None) c.in-Some.ensures.items c.self.invariant) there in
-    shelf_is c.free.new.self i.rows.items c.pop.new.self.items i.hand _ _ _ c.free.new.self.spare (vec_capacity i.rows) (vec_capacity c.pop.new.self) done
-    ∙ ap (λ (n : ℕ). record { current = map (shown i.region) i.rows.items; past = before; hand = shown i.region i.hand; spare = n; places = vec_capacity i.rows; past_places = vec_capacity c.pop.new.self }) c.free.ensures.spare
-    ∙ ap (λ (n : ℕ). record { current = map (shown i.region) i.rows.items; past = before; hand = shown i.region i.hand; spare = i.region.spare; places = vec_capacity i.rows; past_places = n }) c.in-Some.ensures.capacity
-    ∙ ap (λ (s : Shelf g.row.T.Denot). record s { past = before }) c.self.view_is
+    subst (λ (x : Hoard g.row.T.Denot). DropsLast (shelf_of x now) (shelf_of new now)) c.self.view_is
+    (drop_done h new now c.in-Some.run' c.in-Some.ensures.items refl free c.free.ensures.spare c.in-Some.ensures.capacity owned).1

@@ -8,9 +8,8 @@ use Rattle.lsys_forest.proofs.lists.Lists.new.Goals as goal
 pub place-hand-requires : goal.place-hand-requires
 place-hand-requires g c = room_nil _
 
-pub invariant_of-result : goal.invariant_of-result
-invariant_of-result g c =
+pub returns-clause-owned : goal.returns-clause-owned
+returns-clause-owned g c =
     let none : Pool g.row.T.Denot = empty_pool in
     let owned = AreOwned-new c.place-hand.result c.place-hand.new.self (subst (λ (p : Pool g.row.T.Denot). IsFresh p c.place-hand.result []) c.new-region.ensures c.place-hand.ensures.fresh) (subst (λ (p : Pool g.row.T.Denot). OthersStay p c.place-hand.new.self c.place-hand.result) c.new-region.ensures c.place-hand.ensures.others) in
-    subst (λ p. AreOwned c.place-hand.new.self c.new.result.items p c.place-hand.result None) (sym c.new-2.ensures.items)
-    (subst (λ p. AreOwned c.place-hand.new.self p [] c.place-hand.result None) (sym c.new.ensures.items) owned)
+    subst (λ p. AreOwned c.place-hand.new.self [] p c.place-hand.result None) (sym c.new.ensures.items) owned

@@ -1,30 +1,32 @@
-use Rattle.std.proofs.Common.{ℕ, map, sym, ap, ◌∙◌, subst}
-use Rattle.std.specs.Prelude.{vec_capacity, None}
+use Rattle.std.proofs.Common.{refl, sym, subst}
+use Rattle.std.specs.Prelude.{vec_capacity}
 use Rattle.lsys_region.specs.Pool.{IsLive}
-use Rattle.lsys_forest.specs.Shelves.{Shelf, shown, AreOwned}
-use Rattle.lsys_forest.proofs.ShelfLemmas.{Shelves, taken_up_owned, hand_live, IsFreed, take_up_done, shelf_is}
+use Rattle.lsys_forest.specs.Shelves.{Hoard, Hand, shelf_of, IsOwner, IsFreed}
+use Rattle.lsys_forest.specs.Stocks.{TakesLastUp}
+use Rattle.lsys_forest.proofs.ShelfLemmas.{take_up_done}
 use Rattle.lsys_forest.proofs.lists.Lists.take_up.Goals as goal
 
 pub free-requires : goal.free-requires
 free-requires g c =
     let i = c.self.inside in
-    subst (IsLive i.region) (sym c.replace-before.ensures.value) (hand_live i.region i.rows.items i.past.items i.hand c.self.invariant)
+    let owned = subst (λ (x : Hoard g.row.T.Denot). IsOwner x c.requires.owned.0) (sym c.self.view_is) c.requires.owned.1 in
+    subst (IsLive i.region) (sym c.replace-before.ensures.value) (owned.live Hand i.hand refl)
 
-pub invariant_of-self : goal.invariant_of-self
-invariant_of-self g c =
+pub returns-in-Some-clause-owned : goal.returns-in-Some-clause-owned
+returns-in-Some-clause-owned g c = λ now is.
     let i = c.self.inside in
+    let h : Hoard g.row.T.Denot = record { pool = i.region; past = i.past.items; hand = i.hand; past_places = vec_capacity i.past } in
+    let new : Hoard g.row.T.Denot = record { pool = c.free.new.self; past = c.pop.new.self.items; hand = c.replace-before.new.dest; past_places = vec_capacity c.pop.new.self } in
+    let owned = subst (λ (x : Hoard g.row.T.Denot). IsOwner x now) (sym c.self.view_is) is in
     let free : IsFreed i.region c.free.new.self i.hand = subst (λ r. IsFreed i.region c.free.new.self r) c.replace-before.ensures.value (record { gone = c.free.ensures.gone; others = c.free.ensures.others }) in
-    subst (λ r. AreOwned c.free.new.self i.rows.items c.pop.new.self.items r None) (sym c.replace-before.ensures.after)
-    (taken_up_owned i.region c.free.new.self i.rows.items c.pop.new.self.items i.hand c.in-Some.run' free (subst (λ p. AreOwned i.region i.rows.items p i.hand None) c.in-Some.ensures.items c.self.invariant))
+    (take_up_done h new now c.in-Some.run' c.in-Some.ensures.items c.replace-before.ensures.after free c.free.ensures.spare c.in-Some.ensures.capacity owned).0
 
-pub returns-in-Some : goal.returns-in-Some
-returns-in-Some g c = λ before list last.
+pub returns-in-Some-clause-taken : goal.returns-in-Some-clause-taken
+returns-in-Some-clause-taken g c = λ now is.
     let i = c.self.inside in
+    let h : Hoard g.row.T.Denot = record { pool = i.region; past = i.past.items; hand = i.hand; past_places = vec_capacity i.past } in
+    let new : Hoard g.row.T.Denot = record { pool = c.free.new.self; past = c.pop.new.self.items; hand = c.replace-before.new.dest; past_places = vec_capacity c.pop.new.self } in
+    let owned = subst (λ (x : Hoard g.row.T.Denot). IsOwner x now) (sym c.self.view_is) is in
     let free : IsFreed i.region c.free.new.self i.hand = subst (λ r. IsFreed i.region c.free.new.self r) c.replace-before.ensures.value (record { gone = c.free.ensures.gone; others = c.free.ensures.others }) in
-    let there = ap (map (shown i.region)) (sym c.in-Some.ensures.items) ∙ ap (λ (s : Shelf g.row.T.Denot). s.past) c.self.view_is ∙ last in
-    let done = take_up_done i.region c.free.new.self i.rows.items c.pop.new.self.items i.hand c.in-Some.run' before list free (subst (λ p. AreOwned i.region i.rows.items p i.hand None) c.in-Some.ensures.items c.self.invariant) there in
-    let done' = subst (λ r. Shelves c.free.new.self i.rows.items c.pop.new.self.items r (map (shown i.region) i.rows.items) before list) (sym c.replace-before.ensures.after) done in
-    shelf_is c.free.new.self i.rows.items c.pop.new.self.items c.replace-before.new.dest _ _ _ c.free.new.self.spare (vec_capacity i.rows) (vec_capacity c.pop.new.self) done'
-    ∙ ap (λ (n : ℕ). record { current = map (shown i.region) i.rows.items; past = before; hand = list; spare = n; places = vec_capacity i.rows; past_places = vec_capacity c.pop.new.self }) c.free.ensures.spare
-    ∙ ap (λ (n : ℕ). record { current = map (shown i.region) i.rows.items; past = before; hand = list; spare = i.region.spare; places = vec_capacity i.rows; past_places = n }) c.in-Some.ensures.capacity
-    ∙ ap (λ (s : Shelf g.row.T.Denot). record s { past = before; hand = list }) c.self.view_is
+    subst (λ (x : Hoard g.row.T.Denot). TakesLastUp (shelf_of x now) (shelf_of new now)) c.self.view_is
+    (take_up_done h new now c.in-Some.run' c.in-Some.ensures.items c.replace-before.ensures.after free c.free.ensures.spare c.in-Some.ensures.capacity owned).1

@@ -1,102 +1,102 @@
-use Rattle.std.proofs.Common.{set, ℤ, ◌≡◌, ◌<◌, ◌++◌, ◌∷◌, [], ℕ, length, min, Some, None, sym, ap, ◌∙◌, subst, arith}
-use Rattle.std.specs.Prelude.{IsSome, vec_capacity}
-use Rattle.std.proofs.lemmas.List.{length_push, length-set}
-use Rattle.lsys_forest.specs.declared.note.Was.TheVariants as was
-use Rattle.std.specs.Prelude.{option_map}
+use Rattle.std.proofs.Common.{ℕ, ℤ, ◌≡◌, ◌<◌, ◌++◌, ◌∷◌, [], length, map, Some, None, refl, sym, ap, ◌∙◌, subst, arith}
+use Rattle.std.specs.Prelude.{IsSome, option_map, vec_capacity}
+use Rattle.std.proofs.lemmas.List.{length_push, length-map}
 use Rattle.std.proofs.lemmas.Option.{same_Some}
+use Rattle.lsys_forest.specs.declared.note.Was.TheVariants as was
 use Rattle.lsys_forest.specs.declared.node.Stored.{Stored}
-use Rattle.lsys_forest.specs.Shelves.{Shelf}
-use Rattle.lsys_forest.specs.Slots.{slot_at, live_slots}
+use Rattle.lsys_forest.specs.Shelves.{Shelf, shown}
+use Rattle.lsys_forest.specs.Slots.{slot_at, rank_at, live_slots}
 use Rattle.lsys_forest.specs.Nodes.{Node}
 use Rattle.lsys_forest.specs.Changes.{OldKids}
 use Rattle.lsys_forest.specs.Answers.{IsMade, Releases}
-use Rattle.lsys_forest.specs.Stocks.{Stock, node_of, row_at, nodes_of, told, IsStock, Removes}
+use Rattle.lsys_forest.specs.Stocks.{Stock, node_of, row_at, nodes_of, told, stock_of, Removes}
 use Rattle.lsys_forest.proofs.ShelfLemmas.{room_nil}
 use Rattle.lsys_forest.proofs.SlotLemmas.{live_gone, slot_some}
-use Rattle.lsys_forest.proofs.StockLemmas.{IsStock-note, shown_nodes, nodes_put, stored_of, lives_stored, lives_within, told_kid, get_same, get_other, kid_count_le}
+use Rattle.lsys_forest.proofs.TableLemmas.{get_set_other, get_cleared}
+use Rattle.lsys_forest.proofs.StockLemmas.{IsStock-note, nodes_put, stored_of, lives_stored, told_kid, kid_count_le}
 use Rattle.lsys_forest.proofs.stock.Parts.remove.Goals as goal
 
-pub set-requires-clause-room : goal.set-requires-clause-room
-set-requires-clause-room g c = room_nil _
+pub take_out-removed-requires-clause-lives : goal.take_out-removed-requires-clause-lives
+take_out-removed-requires-clause-lives g c =
+    let i = c.self.inside in
+    let lives = subst (λ (t : Stock g.row.A.Denot). IsSome (nodes_of t c.args.node)) (sym c.self.view_is) c.requires.lives in
+    let s = lives_stored i.table.slots (map (shown i.params.pool) i.table.param_runs) (map (shown i.kids.pool) i.table.kid_runs) c.args.node lives in
+    subst IsSome (sym s.1) refl
 
-pub swap-requires-clause-room : goal.swap-requires-clause-room
-swap-requires-clause-room g c = room_nil _
-
-pub swap-requires-clause-place : goal.swap-requires-clause-place
-swap-requires-clause-place g c =
+pub take_out-removed-requires-clause-place : goal.take_out-removed-requires-clause-place
+take_out-removed-requires-clause-place g c =
     let i = c.self.inside in
     let place = subst (λ (t : Stock g.row.A.Denot). length t.notes < t.places) (sym c.self.view_is) c.requires.place in
-    omega (arith, place, c.self.invariant.past_kids_long, kid_count_le i.notes.items)
+    let same = length-map i.kids.past (shown i.kids.pool) in
+    omega (arith, place, same, c.self.invariant.stock.past_kids_long, kid_count_le i.notes.items)
 
 pub release_one-requires : goal.release_one-requires
 release_one-requires g c =
     let i = c.self.inside in
-    let lives = subst (λ (t : Stock g.row.A.Denot). IsSome (nodes_of t c.args.node)) (sym c.self.view_is) c.requires.lives in
-    let within = lives_within i.table.slots i.params.current i.kids.current c.args.node lives in
-    let s = lives_stored i.table.slots i.params.current i.kids.current c.args.node lives in
-    let n = node_of (row_at i.params.current c.args.node) (row_at i.kids.current c.args.node) s.0 in
-    let is : shown_nodes i.table.slots i.params.current i.kids.current c.args.node ≡ Some n = ap (option_map (node_of (row_at i.params.current c.args.node) (row_at i.kids.current c.args.node))) s.1 in
+    let params = map (shown i.params.pool) i.table.param_runs in
+    let kids = map (shown i.kids.pool) i.table.kid_runs in
+    let s = c.take_out-removed.result in
+    let n = node_of (row_at params c.args.node) (row_at kids c.args.node) s in
     let made = subst (λ (t : Stock g.row.A.Denot). (n : Node g.row.A.Denot) → nodes_of t c.args.node ≡ Some n → IsMade g.A.Kept.run_at g.A.Kept.Holds c.args.store.now n.answer) (sym c.self.view_is) c.requires.made in
-    let same : c.in-Some.removed ≡ s.0 = same_Some c.in-Some.removed s.0 (c.in-Some.ensures.was ∙ s.1) in
-    subst (λ (r : Stored g.row.A.Denot). IsMade g.A.Kept.run_at g.A.Kept.Holds c.args.store.now r.answer) (sym same) (made n is)
+    made n (ap (option_map (node_of (row_at params c.args.node) (row_at kids c.args.node))) c.take_out-removed.ensures.was)
 
 pub invariant_of-self : goal.invariant_of-self
 invariant_of-self g c =
     let i = c.self.inside in
-    let lives = subst (λ (t : Stock g.row.A.Denot). IsSome (nodes_of t c.args.node)) (sym c.self.view_is) c.requires.lives in
-    let within = lives_within i.table.slots i.params.current i.kids.current c.args.node lives in
-    let pr = c.set.ensures.set ∙ ap (λ k. record i.params { current = set i.params.current k []; spare = c.set.new.self.spare }) c.node.view_is in
-    let qr = c.swap.ensures.swapped ∙ ap (λ k. record i.kids { current = set i.kids.current k []; past = i.kids.past ++ row_at i.kids.current k ∷ []; spare = c.swap.new.self.spare; past_places = c.swap.new.self.past_places }) c.node.view_is in
-    let pc = ap (λ (x : Shelf ℤ). x.current) pr in
-    let qc = ap (λ (x : Shelf ℕ). x.current) qr in
-    let pp = ap (λ (x : Shelf ℤ). x.past) pr in
-    let qp = ap (λ (x : Shelf ℕ). x.past) qr in
-    let sl : length c.remove.new.self.slots ≡ length i.table.slots = ap length c.in-Some.ensures.gone ∙ length-set i.table.slots c.args.node None in
-    let pl : length c.set.new.self.current ≡ length i.params.current = ap length pc ∙ length-set i.params.current c.args.node [] in
-    let ql : length c.swap.new.self.current ≡ length i.kids.current = ap length qc ∙ length-set i.kids.current c.args.node [] in
-    subst (λ ns. IsStock c.remove.new.self.slots c.set.new.self.current c.swap.new.self.current ns c.set.new.self.past c.swap.new.self.past) (sym c.push_note.ensures.pushed)
-    (IsStock-note i.table.slots c.remove.new.self.slots i.params.current c.set.new.self.current i.kids.current c.swap.new.self.current i.notes.items (record { node = c.args.node; was = was.Kids }) i.params.past c.set.new.self.past i.kids.past c.swap.new.self.past (omega (arith, sl)) (pl ∙ c.self.invariant.params_long ∙ sym sl) (ql ∙ c.self.invariant.kids_long ∙ sym sl) (let e = ap length pp in omega (arith, e)) (ap length qp ∙ length_push i.kids.past _) (omega (arith, within, sl)) c.self.invariant)
+    let e = c.take_out-removed.ensures in
+    let p' = c.take_out-removed.new.params in
+    let q' = c.take_out-removed.new.kids in
+    let pp = ap (λ (s : Shelf ℤ). s.past) e.no_params.cleared in
+    let qp = ap (λ (s : Shelf ℕ). s.past) e.no_kids.swapped in
+    record {
+      params = e.params;
+      kids = e.kids;
+      stock = IsStock-note i.notes.items c.push_note.new.notes.items _ (map (shown i.params.pool) i.params.past) (map (shown p'.pool) p'.past) (map (shown i.kids.pool) i.kids.past) (map (shown q'.pool) q'.past) c.push_note.ensures.pushed (let l = ap length pp in omega (arith, l)) (ap length qp ∙ length_push (map (shown i.kids.pool) i.kids.past) _) c.self.invariant.stock;
+    }
 
 pub returns : goal.returns
 returns g c =
     let i = c.self.inside in
-    let lives = subst (λ (t : Stock g.row.A.Denot). IsSome (nodes_of t c.args.node)) (sym c.self.view_is) c.requires.lives in
-    let within = lives_within i.table.slots i.params.current i.kids.current c.args.node lives in
-    let pr = c.set.ensures.set ∙ ap (λ k. record i.params { current = set i.params.current k []; spare = c.set.new.self.spare }) c.node.view_is in
-    let qr = c.swap.ensures.swapped ∙ ap (λ k. record i.kids { current = set i.kids.current k []; past = i.kids.past ++ row_at i.kids.current k ∷ []; spare = c.swap.new.self.spare; past_places = c.swap.new.self.past_places }) c.node.view_is in
-    let pc = ap (λ (x : Shelf ℤ). x.current) pr in
-    let qc = ap (λ (x : Shelf ℕ). x.current) qr in
-    let pp = ap (λ (x : Shelf ℤ). x.past) pr in
-    let qp = ap (λ (x : Shelf ℕ). x.past) qr in
+    let e = c.take_out-removed.ensures in
     let k = c.args.node in
-    let new : Stock g.row.A.Denot = record { slots = c.remove.new.self.slots; params = c.set.new.self.current; kids = c.swap.new.self.current; notes = c.push_note.new.notes.items; past_params = c.set.new.self.past; past_kids = c.swap.new.self.past; hand = c.swap.new.self.hand; capacity = min c.remove.new.self.capacity (min c.set.new.self.places c.swap.new.self.places); places = min (vec_capacity c.push_note.new.notes) (min c.set.new.self.past_places c.swap.new.self.past_places); param_room = c.set.new.self.spare; kid_room = c.swap.new.self.spare } in
+    let t' = c.take_out-removed.new.table in
+    let p' = c.take_out-removed.new.params in
+    let q' = c.take_out-removed.new.kids in
+    let ns = c.push_note.new.notes in
+    let params = map (shown i.params.pool) i.table.param_runs in
+    let kids = map (shown i.kids.pool) i.table.kid_runs in
+    let past = map (shown i.params.pool) i.params.past in
+    let past_kids = map (shown i.kids.pool) i.kids.past in
+    let pp = ap (λ (s : Shelf ℤ). s.past) e.no_params.cleared in
+    let qp = ap (λ (s : Shelf ℕ). s.past) e.no_kids.swapped in
+    let new : Stock g.row.A.Denot = stock_of t' p' q' ns.items (vec_capacity ns) in
     subst (λ (t : Stock g.row.A.Denot). (n : Node g.row.A.Denot) → nodes_of t k ≡ Some n → Removes t new k n × Releases g.A.Kept.run_at g.A.Kept.Holds n.answer c.args.store.now c.release_one.new.store) c.self.view_is
     (λ n is. (
-    let s = stored_of i.table.slots i.params.current i.kids.current k n is in
-    let same : c.in-Some.removed ≡ s.0 = same_Some c.in-Some.removed s.0 (c.in-Some.ensures.was ∙ s.1) in
-    let cleared : slot_at c.remove.new.self.slots k ≡ None = ap (λ x. slot_at x k) c.in-Some.ensures.gone ∙ get_same i.table.slots k None None within in (
+    let s = stored_of i.table.slots params kids k n is in
+    let same : c.take_out-removed.result ≡ s.0 = same_Some c.take_out-removed.result s.0 (sym e.was ∙ s.1) in
+    let cleared : slot_at t'.slots k ≡ None = ap (λ x. slot_at x k) e.slots ∙ get_cleared i.table.slots k None in (
       record {
-        nodes = nodes_put k i.table.slots c.remove.new.self.slots i.params.current c.set.new.self.current i.kids.current c.swap.new.self.current None (record {
-          slots_same = λ j ne. ap (λ x. slot_at x j) c.in-Some.ensures.gone ∙ get_other i.table.slots k j None None ne;
-          params_same = λ j ne. ap (λ x. row_at x j) pc ∙ get_other i.params.current k j [] [] ne;
-          kids_same = λ j ne. ap (λ x. row_at x j) qc ∙ get_other i.kids.current k j [] [] ne;
-        }) (ap (option_map (node_of (row_at c.set.new.self.current k) (row_at c.swap.new.self.current k))) cleared);
+        nodes = nodes_put k i.table.slots t'.slots params new.params kids new.kids None (record {
+          slots_same = λ j ne. ap (λ x. slot_at x j) e.slots ∙ get_set_other i.table.slots k j None None ne;
+          params_same = e.no_params.comes.others;
+          kids_same = e.no_kids.comes.others;
+        }) (ap (option_map (node_of (row_at new.params k) (row_at new.kids k))) cleared);
         noted =
-            ap (λ ns. told ns c.set.new.self.past c.swap.new.self.past) c.push_note.ensures.pushed
-            ∙ ap (λ p. told (i.notes.items ++ record { node = k; was = was.Kids } ∷ []) p c.swap.new.self.past) pp
-            ∙ ap (told (i.notes.items ++ record { node = k; was = was.Kids } ∷ []) i.params.past) qp
-            ∙ told_kid i.notes.items (record { node = k; was = was.Kids }) i.params.past i.kids.past (row_at i.kids.current k) c.self.invariant.past_params_long c.self.invariant.past_kids_long
-            ∙ ap (λ (m : Node g.row.A.Denot). told i.notes.items i.params.past i.kids.past ++ record { node = k; before = OldKids m.kids } ∷ []) s.2;
+            ap (λ ns. told ns (map (shown p'.pool) p'.past) (map (shown q'.pool) q'.past)) c.push_note.ensures.pushed
+            ∙ ap (λ p. told (i.notes.items ++ record { node = k; was = was.Kids } ∷ []) p (map (shown q'.pool) q'.past)) pp
+            ∙ ap (told (i.notes.items ++ record { node = k; was = was.Kids } ∷ []) past) qp
+            ∙ told_kid i.notes.items (record { node = k; was = was.Kids }) past past_kids (row_at kids k) c.self.invariant.stock.past_params_long c.self.invariant.stock.past_kids_long
+            ∙ ap (λ (m : Node g.row.A.Denot). told i.notes.items past past_kids ++ record { node = k; before = OldKids m.kids } ∷ []) s.2;
         notes = ap length c.push_note.ensures.pushed ∙ length_push i.notes.items _;
-        live = let e = ap live_slots c.in-Some.ensures.gone in let f = live_gone i.table.slots k s.0 (slot_some i.table.slots k s.0 s.1) in omega (arith, e, f);
+        live = let l = ap live_slots e.slots in let f = live_gone i.table.slots k s.0 (slot_some i.table.slots k s.0 s.1) in omega (arith, l, f);
         room = record {
-          capacity = let e = ap (λ (x : Shelf ℤ). x.places) pr in let f = ap (λ (x : Shelf ℕ). x.places) qr in omega (arith, e, f, c.in-Some.ensures.capacity);
-          places = let e = ap (λ (x : Shelf ℤ). x.past_places) pr in omega (arith, e, c.push_note.ensures.capacity, c.swap.ensures.places);
-          param_room = omega (arith, c.set.ensures.spare, room_nil 0);
-          kid_room = omega (arith, c.swap.ensures.spare, room_nil 0);
-          numbers = (let e = ap length c.in-Some.ensures.gone in omega (arith, e, length-set i.table.slots k None));
+          capacity = e.capacity;
+          places = let x = ap (λ (r : Shelf ℤ). r.past_places) e.no_params.cleared in omega (arith, x, c.push_note.ensures.capacity, e.no_kids.places);
+          param_room = let x = ap (λ (r : Shelf ℤ). r.spare) e.no_params.cleared in omega (arith, x);
+          kid_room = omega (arith, e.no_kids.spare, room_nil 0);
         };
-        hand = ap (λ (x : Shelf ℕ). x.hand) qr;
+        hand = ap (λ (r : Shelf ℕ). r.hand) e.no_kids.swapped;
+        ranks = λ j ne. ap (λ r. rank_at r j) e.ranks ∙ get_set_other i.table.ranks k j 0 0 ne;
       },
       subst (λ o. Releases g.A.Kept.run_at g.A.Kept.Holds o c.args.store.now c.release_one.new.store) (ap (λ (r : Stored g.row.A.Denot). r.answer) same ∙ ap (λ (m : Node g.row.A.Denot). m.answer) s.2) c.release_one.ensures,
     )

@@ -1,38 +1,29 @@
-use Rattle.std.proofs.Common.{◌≡◌, ◌++◌, ◌∷◌, [], length, min, Some, refl, sym, ap, ◌∙◌, subst, arith}
-use Rattle.std.specs.Prelude.{IsSome, vec_capacity}
-use Rattle.std.proofs.lemmas.List.{length_push}
-use Rattle.lsys_forest.specs.Slots.{live_slots, key_set}
+use Rattle.std.proofs.Common.{◌≡◌, Some, sym, ap, subst, refl}
+use Rattle.std.specs.Prelude.{vec_capacity}
+use Rattle.lsys_forest.specs.declared.note.Was.TheVariants as was
+use Rattle.lsys_forest.specs.Slots.{SlotTable, key_set}
 use Rattle.lsys_forest.specs.Nodes.{Node, with_key}
 use Rattle.lsys_forest.specs.Changes.{OldKey}
-use Rattle.lsys_forest.specs.Stocks.{Stock, nodes_of, told, Journals}
-use Rattle.lsys_forest.proofs.SlotLemmas.{live_change}
-use Rattle.lsys_forest.proofs.StockLemmas.{change_long, IsStock-changed, nodes_changed, told_plain, part_was}
+use Rattle.lsys_forest.specs.Stocks.{Stock, nodes_of, stock_of, AreParts, Journals}
+use Rattle.lsys_forest.proofs.StockLemmas.{part_was}
+use Rattle.lsys_forest.proofs.PartLemmas.{rows_of, kids_of, parts_slot, journal_slot}
 use Rattle.lsys_forest.proofs.stock.Parts.set_key.Goals as goal
 
 pub invariant_of-self : goal.invariant_of-self
 invariant_of-self g c =
     let i = c.self.inside in
-    let lives = subst (λ (t : Stock g.row.A.Denot). IsSome (nodes_of t c.args.node)) (sym c.self.view_is) c.requires.lives in
-    IsStock-changed (key_set c.args.key) i.table.slots c.swap_key.new.self.slots i.params.current i.kids.current i.notes.items c.push_note.new.notes.items _ i.params.past i.kids.past c.swap_key.ensures.changed c.push_note.ensures.pushed lives refl refl c.self.invariant
+    subst (λ (x : SlotTable g.row.A.Denot). AreParts x i.params i.kids c.push_note.new.notes.items) (sym c.swap_key.ensures.changed)
+    (parts_slot i.table i.params i.kids i.notes.items c.push_note.new.notes.items c.args.node (was.Key c.in-Some.before) (key_set c.args.key) refl refl c.push_note.ensures.pushed c.self.invariant)
 
 pub returns : goal.returns
 returns g c =
     let i = c.self.inside in
-    let new : Stock g.row.A.Denot = record { slots = c.swap_key.new.self.slots; params = i.params.current; kids = i.kids.current; notes = c.push_note.new.notes.items; past_params = i.params.past; past_kids = i.kids.past; hand = i.kids.hand; capacity = min c.swap_key.new.self.capacity (min i.params.places i.kids.places); places = min (vec_capacity c.push_note.new.notes) (min i.params.past_places i.kids.past_places); param_room = i.params.spare; kid_room = i.kids.spare } in
-    subst (λ (t : Stock g.row.A.Denot). (n : Node g.row.A.Denot) → nodes_of t c.args.node ≡ Some n → Journals t new c.args.node (Some (with_key c.args.key n)) (OldKey n.key) 0 0 0) c.self.view_is
-    (λ n is. record {
-      nodes = nodes_changed (key_set c.args.key) (with_key c.args.key) (λ p q s. refl) i.table.slots c.swap_key.new.self.slots i.params.current i.kids.current c.args.node n is c.swap_key.ensures.changed;
-      noted =
-          let same = part_was (λ s. s.key) (λ (m : Node g.row.A.Denot). m.key) (λ p q s. refl) i.table.slots i.params.current i.kids.current c.args.node n c.in-Some.before is c.in-Some.ensures.before in
-          ap (λ ns. told ns i.params.past i.kids.past) c.push_note.ensures.pushed
-          ∙ told_plain i.notes.items _ i.params.past i.kids.past c.self.invariant.past_params_long c.self.invariant.past_kids_long
-          ∙ ap (λ x. told i.notes.items i.params.past i.kids.past ++ record { node = c.args.node; before = OldKey x } ∷ []) same;
-      notes = ap length c.push_note.ensures.pushed ∙ length_push i.notes.items _;
-      live = let same = ap live_slots c.swap_key.ensures.changed ∙ live_change (key_set c.args.key) i.table.slots c.args.node in omega (arith, same);
-      capacity = omega (arith, c.swap_key.ensures.capacity);
-      places = omega (arith, c.push_note.ensures.capacity);
-      param_room = omega arith;
-      kid_room = omega arith;
-      numbers = (let e = ap length c.swap_key.ensures.changed ∙ change_long _ _ _ in omega (arith, e));
-      hand = refl;
-    })
+    let ns = c.push_note.new.notes in
+    subst (λ (t : Stock g.row.A.Denot). (n : Node g.row.A.Denot) → nodes_of t c.args.node ≡ Some n → Journals t (stock_of c.swap_key.new.self i.params i.kids ns.items (vec_capacity ns)) c.args.node (Some (with_key c.args.key n)) (OldKey n.key) 0 0 0) c.self.view_is
+    (λ n is. (
+    let p = rows_of i.table i.params i.kids i.notes.items ns.items c.args.node (was.Key c.in-Some.before) in
+    let q = kids_of i.table i.params i.kids i.notes.items ns.items c.args.node (was.Key c.in-Some.before) in
+    let same = part_was (λ s. s.key) (λ (m : Node g.row.A.Denot). m.key) (λ x y s. refl) i.table.slots p q c.args.node n c.in-Some.before is c.in-Some.ensures.before in
+    subst (λ (x : SlotTable g.row.A.Denot). Journals (stock_of i.table i.params i.kids i.notes.items (vec_capacity i.notes)) (stock_of x i.params i.kids ns.items (vec_capacity ns)) c.args.node (Some (with_key c.args.key n)) (OldKey n.key) 0 0 0) (sym c.swap_key.ensures.changed)
+    (journal_slot i.table i.params i.kids i.notes.items ns.items c.args.node (was.Key c.in-Some.before) (key_set c.args.key) (with_key c.args.key) (λ x y s. refl) (vec_capacity i.notes) (vec_capacity ns) (OldKey n.key) n c.push_note.ensures.pushed c.push_note.ensures.capacity c.self.invariant is (ap OldKey same))
+    ))

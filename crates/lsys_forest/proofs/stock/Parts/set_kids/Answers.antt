@@ -1,63 +1,71 @@
-use Rattle.std.proofs.Common.{set, ◌≡◌, ◌+◌, ◌<◌, ◌++◌, ◌∷◌, [], ℕ, length, min, Some, sym, ap, ◌∙◌, subst, arith}
+use Rattle.std.proofs.Common.{ℕ, ◌≡◌, ◌<◌, ◌++◌, ◌∷◌, [], length, map, Some, refl, sym, ap, ◌∙◌, subst, arith}
 use Rattle.std.specs.Prelude.{IsSome, vec_capacity}
-use Rattle.std.proofs.lemmas.List.{length_push, length-set}
+use Rattle.std.proofs.lemmas.List.{length_push, length-map}
 use Rattle.lsys_region.specs.Rooms.{list_room}
 use Rattle.lsys_forest.specs.declared.note.Was.TheVariants as was
-use Rattle.lsys_forest.specs.Shelves.{Shelf}
+use Rattle.lsys_forest.specs.Shelves.{Shelf, shown, IsOwner}
+use Rattle.lsys_forest.specs.Slots.{SlotTable, rank_at, live_slots}
 use Rattle.lsys_forest.specs.Nodes.{Node, with_kids}
 use Rattle.lsys_forest.specs.Changes.{OldKids}
-use Rattle.lsys_forest.specs.Stocks.{Stock, row_at, nodes_of, told, IsStock, Journals}
-use Rattle.lsys_forest.proofs.StockLemmas.{IsStock-note, told_kid, kid_count_le, lives_within, kids_changed, kids_were}
+use Rattle.lsys_forest.specs.Stocks.{Stock, row_at, nodes_of, told, stock_of, Journals}
+use Rattle.lsys_forest.proofs.StockLemmas.{shown_nodes, IsStock-note, told_kid, kid_count_le, lives_stored, kids_changed, kids_were}
 use Rattle.lsys_forest.proofs.stock.Parts.set_kids.Goals as goal
 
-pub swap-requires-clause-within : goal.swap-requires-clause-within
-swap-requires-clause-within g c =
+pub swap_kids-requires-clause-lives : goal.swap_kids-requires-clause-lives
+swap_kids-requires-clause-lives g c =
     let i = c.self.inside in
     let lives = subst (λ (t : Stock g.row.A.Denot). IsSome (nodes_of t c.args.node)) (sym c.self.view_is) c.requires.lives in
-    let within = lives_within i.table.slots i.params.current i.kids.current c.args.node lives in
-    subst (λ k. k < length i.kids.current) (sym c.node.view_is) (omega (arith, within, c.self.invariant.kids_long))
+    let s = lives_stored i.table.slots (map (shown i.params.pool) i.table.param_runs) (map (shown i.kids.pool) i.table.kid_runs) c.args.node lives in
+    subst IsSome (sym s.1) refl
 
-pub swap-requires-clause-place : goal.swap-requires-clause-place
-swap-requires-clause-place g c =
+pub swap_kids-requires-clause-place : goal.swap_kids-requires-clause-place
+swap_kids-requires-clause-place g c =
     let i = c.self.inside in
     let place = subst (λ (t : Stock g.row.A.Denot). length t.notes < t.places) (sym c.self.view_is) c.requires.place in
-    omega (arith, place, c.self.invariant.past_kids_long, kid_count_le i.notes.items)
+    let same = length-map i.kids.past (shown i.kids.pool) in
+    omega (arith, place, same, c.self.invariant.stock.past_kids_long, kid_count_le i.notes.items)
 
 pub invariant_of-self : goal.invariant_of-self
 invariant_of-self g c =
     let i = c.self.inside in
-    let lives = subst (λ (t : Stock g.row.A.Denot). IsSome (nodes_of t c.args.node)) (sym c.self.view_is) c.requires.lives in
-    let within = lives_within i.table.slots i.params.current i.kids.current c.args.node lives in
-    let current = ap (λ (s : Shelf ℕ). s.current) c.swap.ensures.swapped in
-    let behind = ap (λ (s : Shelf ℕ). s.past) c.swap.ensures.swapped in
-    let long : length c.swap.new.self.current ≡ length i.kids.current = ap length current ∙ length-set i.kids.current _ _ in
-    let more : length c.swap.new.self.past ≡ length i.kids.past + 1 = ap length behind ∙ length_push i.kids.past _ in
-    subst (λ ns. IsStock i.table.slots i.params.current c.swap.new.self.current ns i.params.past c.swap.new.self.past) (sym c.push_note.ensures.pushed)
-    (IsStock-note i.table.slots i.table.slots i.params.current i.params.current i.kids.current c.swap.new.self.current i.notes.items _ i.params.past i.params.past i.kids.past c.swap.new.self.past (omega arith) c.self.invariant.params_long (long ∙ c.self.invariant.kids_long) (omega arith) more within c.self.invariant)
+    let e = c.swap_kids.ensures in
+    let behind = ap (λ (s : Shelf ℕ). s.past) e.swapped.swapped in
+    let params = ap (λ (x : SlotTable g.row.A.Denot). x.param_runs) e.table in
+    record {
+      params = subst (λ r. IsOwner i.params r) (sym params) c.self.invariant.params;
+      kids = e.owned;
+      stock = IsStock-note i.notes.items c.push_note.new.notes.items _ (map (shown i.params.pool) i.params.past) (map (shown i.params.pool) i.params.past) (map (shown i.kids.pool) i.kids.past) (map (shown c.swap_kids.new.lists.pool) c.swap_kids.new.lists.past) c.push_note.ensures.pushed (omega arith) (ap length behind ∙ length_push (map (shown i.kids.pool) i.kids.past) _) c.self.invariant.stock;
+    }
 
 pub returns : goal.returns
 returns g c =
     let i = c.self.inside in
-    let lives = subst (λ (t : Stock g.row.A.Denot). IsSome (nodes_of t c.args.node)) (sym c.self.view_is) c.requires.lives in
-    let within = lives_within i.table.slots i.params.current i.kids.current c.args.node lives in
-    let current = ap (λ (s : Shelf ℕ). s.current) c.swap.ensures.swapped ∙ ap (λ k. set i.kids.current k c.args.kids.now) c.node.view_is in
-    let behind = ap (λ (s : Shelf ℕ). s.past) c.swap.ensures.swapped ∙ ap (λ k. i.kids.past ++ row_at i.kids.current k ∷ []) c.node.view_is in
-    let new : Stock g.row.A.Denot = record { slots = i.table.slots; params = i.params.current; kids = c.swap.new.self.current; notes = c.push_note.new.notes.items; past_params = i.params.past; past_kids = c.swap.new.self.past; hand = c.swap.new.self.hand; capacity = min i.table.capacity (min i.params.places c.swap.new.self.places); places = min (vec_capacity c.push_note.new.notes) (min i.params.past_places c.swap.new.self.past_places); param_room = i.params.spare; kid_room = c.swap.new.self.spare } in
-    subst (λ (t : Stock g.row.A.Denot). (n : Node g.row.A.Denot) → nodes_of t c.args.node ≡ Some n → Journals t new c.args.node (Some (with_kids c.args.kids.now n)) (OldKids n.kids) 0 0 (list_room c.args.kids.now)) c.self.view_is
+    let e = c.swap_kids.ensures in
+    let t' = c.swap_kids.new.table in
+    let q' = c.swap_kids.new.lists in
+    let ns = c.push_note.new.notes in
+    let k = c.args.node in
+    let params = map (shown i.params.pool) i.table.param_runs in
+    let kids = map (shown i.kids.pool) i.table.kid_runs in
+    let past = map (shown i.params.pool) i.params.past in
+    let behind = ap (λ (s : Shelf ℕ). s.past) e.swapped.swapped in
+    subst (λ (t : Stock g.row.A.Denot). (n : Node g.row.A.Denot) → nodes_of t k ≡ Some n → Journals t (stock_of t' i.params q' ns.items (vec_capacity ns)) k (Some (with_kids c.args.kids.now n)) (OldKids n.kids) 0 0 (list_room c.args.kids.now)) c.self.view_is
     (λ n is. record {
-      nodes = kids_changed i.table.slots i.params.current i.kids.current c.swap.new.self.current c.args.node c.args.kids.now n is (omega (arith, within, c.self.invariant.kids_long)) current;
+      nodes =
+          ap (λ (x : SlotTable g.row.A.Denot). shown_nodes x.slots (map (shown i.params.pool) x.param_runs) (map (shown q'.pool) t'.kid_runs)) e.table
+          ∙ kids_changed i.table.slots params kids (map (shown q'.pool) t'.kid_runs) k c.args.kids.now n is e.swapped.comes;
       noted =
-          let same = kids_were i.table.slots i.params.current i.kids.current c.args.node n is in
-          ap (λ ns. told ns i.params.past c.swap.new.self.past) c.push_note.ensures.pushed
-          ∙ ap (told (i.notes.items ++ record { node = c.args.node; was = was.Kids } ∷ []) i.params.past) behind
-          ∙ told_kid i.notes.items (record { node = c.args.node; was = was.Kids }) i.params.past i.kids.past (row_at i.kids.current c.args.node) c.self.invariant.past_params_long c.self.invariant.past_kids_long
-          ∙ ap (λ x. told i.notes.items i.params.past i.kids.past ++ record { node = c.args.node; before = OldKids x } ∷ []) same;
+          let same = kids_were i.table.slots params kids k n is in
+          ap (λ ns. told ns past (map (shown q'.pool) q'.past)) c.push_note.ensures.pushed
+          ∙ ap (told (i.notes.items ++ record { node = k; was = was.Kids } ∷ []) past) behind
+          ∙ told_kid i.notes.items (record { node = k; was = was.Kids }) past (map (shown i.kids.pool) i.kids.past) (row_at kids k) c.self.invariant.stock.past_params_long c.self.invariant.stock.past_kids_long
+          ∙ ap (λ x. told i.notes.items past (map (shown i.kids.pool) i.kids.past) ++ record { node = k; before = OldKids x } ∷ []) same;
       notes = ap length c.push_note.ensures.pushed ∙ length_push i.notes.items _;
-      live = omega arith;
-      capacity = let same = ap (λ (s : Shelf ℕ). s.places) c.swap.ensures.swapped in omega (arith, same);
-      places = omega (arith, c.push_note.ensures.capacity, c.swap.ensures.places);
+      live = let same = ap (λ (x : SlotTable g.row.A.Denot). x.slots) e.table in let l = ap live_slots same in omega (arith, l);
+      capacity = ap (λ (x : SlotTable g.row.A.Denot). x.capacity) e.table;
+      places = omega (arith, c.push_note.ensures.capacity, e.swapped.places);
       param_room = omega arith;
-      kid_room = c.swap.ensures.spare;
-      numbers = omega arith;
-      hand = ap (λ (s : Shelf ℕ). s.hand) c.swap.ensures.swapped;
+      kid_room = e.swapped.spare;
+      hand = ap (λ (s : Shelf ℕ). s.hand) e.swapped.swapped;
+      ranks = λ j lives. ap (λ (x : SlotTable g.row.A.Denot). rank_at x.ranks j) e.table;
     })

@@ -1,70 +1,97 @@
-use Rattle.std.proofs.Common.{set, ℤ, ◌≡◌, ◌+◌, ◌≤◌, ◌<◌, ◌++◌, ◌∷◌, [], length, min, Some, refl, sym, ap, ◌∙◌, subst, arith}
-use Rattle.std.specs.Prelude.{IsSome, vec_capacity}
-use Rattle.std.proofs.lemmas.List.{length_push, length-set}
+use Rattle.std.proofs.Common.{ℤ, ◌≡◌, ◌+◌, ◌≤◌, ◌<◌, ◌++◌, ◌∷◌, [], length, map, Some, refl, sym, ap, ◌∙◌, subst, arith}
+use Rattle.std.specs.Prelude.{IsSome, option_map, vec_capacity}
+use Rattle.std.proofs.lemmas.List.{length_push, length-map}
 use Rattle.lsys_level.specs.Places.{seen_in, params_in}
 use Rattle.lsys_region.specs.Rooms.{list_room}
-use Rattle.lsys_forest.specs.Slots.{live_slots, kind_set}
+use Rattle.lsys_forest.specs.Slots.{SlotTable, slot_at, rank_at, live_slots, change_slot, kind_set}
 use Rattle.lsys_forest.specs.declared.note.Was.TheVariants as was
-use Rattle.lsys_forest.specs.Shelves.{Shelf}
+use Rattle.lsys_forest.specs.Shelves.{Shelf, shown, shelf_of, IsOwner}
 use Rattle.lsys_forest.specs.Nodes.{Node, put, with_seen}
 use Rattle.lsys_forest.specs.Changes.{OldSeen}
-use Rattle.lsys_forest.specs.Stocks.{Stock, row_at, nodes_of, told, IsStock, Journals}
+use Rattle.lsys_forest.specs.Stocks.{Stock, row_at, nodes_of, told, ComesTo, Swaps, stock_of, Journals}
 use Rattle.lsys_forest.proofs.SlotLemmas.{live_change}
-use Rattle.lsys_forest.proofs.StockLemmas.{change_long, IsStock-note, shown_nodes, told_param, change_long, param_count_le, lives_within, seen_was, seen_changed}
+use Rattle.lsys_forest.proofs.StockLemmas.{shown_nodes, change_there, IsStock-note, told_param, param_count_le, lives_stored, seen_was, seen_changed}
 use Rattle.lsys_forest.proofs.stock.Parts.set_symbol.Goals as goal
 
-pub swap-requires-clause-within : goal.swap-requires-clause-within
-swap-requires-clause-within g c =
+pub swap_params-requires-clause-owned : goal.swap_params-requires-clause-owned
+swap_params-requires-clause-owned g c =
+    let i = c.self.inside in
+    subst (λ r. IsOwner i.params r) (sym (ap (λ (y : SlotTable g.row.A.Denot). y.param_runs) c.swap_kind.ensures.changed)) c.self.invariant.params
+
+pub swap_params-requires-clause-lives : goal.swap_params-requires-clause-lives
+swap_params-requires-clause-lives g c =
     let i = c.self.inside in
     let lives = subst (λ (t : Stock g.row.A.Denot). IsSome (nodes_of t c.args.node)) (sym c.self.view_is) c.requires.lives in
-    let within = lives_within i.table.slots i.params.current i.kids.current c.args.node lives in
-    subst (λ k. k < length i.params.current) (sym c.node.view_is) (omega (arith, within, c.self.invariant.params_long))
+    let s = lives_stored i.table.slots (map (shown i.params.pool) i.table.param_runs) (map (shown i.kids.pool) i.table.kid_runs) c.args.node lives in
+    let there = ap (λ (y : SlotTable g.row.A.Denot). slot_at y.slots c.args.node) c.swap_kind.ensures.changed ∙ change_there (kind_set c.kind_of.result) i.table.slots c.args.node ∙ ap (option_map (kind_set c.kind_of.result)) s.1 in
+    subst IsSome (sym there) refl
 
-pub swap-requires-clause-place : goal.swap-requires-clause-place
-swap-requires-clause-place g c =
+pub swap_params-requires-clause-place : goal.swap_params-requires-clause-place
+swap_params-requires-clause-place g c =
     let i = c.self.inside in
     let place = subst (λ (t : Stock g.row.A.Denot). length t.notes < t.places) (sym c.self.view_is) c.requires.place in
-    omega (arith, place, c.self.invariant.past_params_long, param_count_le i.notes.items)
+    let same = length-map i.params.past (shown i.params.pool) in
+    omega (arith, place, same, c.self.invariant.stock.past_params_long, param_count_le i.notes.items)
 
 pub invariant_of-self : goal.invariant_of-self
 invariant_of-self g c =
     let i = c.self.inside in
-    let lives = subst (λ (t : Stock g.row.A.Denot). IsSome (nodes_of t c.args.node)) (sym c.self.view_is) c.requires.lives in
-    let within = lives_within i.table.slots i.params.current i.kids.current c.args.node lives in
-    let current = ap (λ (s : Shelf ℤ). s.current) c.swap.ensures.swapped in
-    let behind = ap (λ (s : Shelf ℤ). s.past) c.swap.ensures.swapped in
-    let same : length c.swap_kind.new.self.slots ≡ length i.table.slots = ap length c.swap_kind.ensures.changed ∙ change_long (kind_set c.kind_of.result) i.table.slots c.args.node in
-    let long : length c.swap.new.self.current ≡ length i.params.current = ap length current ∙ length-set i.params.current _ _ in
-    let more : length c.swap.new.self.past ≡ length i.params.past + 1 = ap length behind ∙ length_push i.params.past _ in
-    subst (λ ns. IsStock c.swap_kind.new.self.slots c.swap.new.self.current i.kids.current ns c.swap.new.self.past i.kids.past) (sym c.push_note.ensures.pushed)
-    (IsStock-note i.table.slots c.swap_kind.new.self.slots i.params.current c.swap.new.self.current i.kids.current i.kids.current i.notes.items _ i.params.past c.swap.new.self.past i.kids.past i.kids.past (omega (arith, same)) (long ∙ c.self.invariant.params_long ∙ sym same) (c.self.invariant.kids_long ∙ sym same) more (omega arith) (omega (arith, within, same)) c.self.invariant)
+    let e = c.swap_params.ensures in
+    let k = c.args.node in
+    let x = c.kind_of.result in
+    let f = c.swap_kind.ensures.changed in
+    let now : SlotTable g.row.A.Denot = record i.table { slots = change_slot (kind_set x) i.table.slots k } in
+    let t' = c.swap_params.new.table in
+    let p' = c.swap_params.new.lists in
+    let runs : c.swap_kind.new.self.param_runs ≡ i.table.param_runs = ap (λ (y : SlotTable g.row.A.Denot). y.param_runs) f in
+    let is_table : t' ≡ record i.table { slots = change_slot (kind_set x) i.table.slots k; param_runs = t'.param_runs } = e.table ∙ ap (λ (y : SlotTable g.row.A.Denot). record y { param_runs = t'.param_runs }) f in
+    let swapped : Swaps k c.params_of.result.now (shelf_of i.params i.table.param_runs) (shelf_of p' t'.param_runs) = subst (λ r. Swaps k c.params_of.result.now (shelf_of i.params r) (shelf_of p' t'.param_runs)) runs e.swapped in
+    let behind = ap (λ (s : Shelf ℤ). s.past) swapped.swapped in
+    record {
+      params = e.owned;
+      kids = subst (λ r. IsOwner i.kids r) (sym (ap (λ (y : SlotTable g.row.A.Denot). y.kid_runs) is_table)) c.self.invariant.kids;
+      stock = IsStock-note i.notes.items c.push_note.new.notes.items _ (map (shown i.params.pool) i.params.past) (map (shown p'.pool) p'.past) (map (shown i.kids.pool) i.kids.past) (map (shown i.kids.pool) i.kids.past) c.push_note.ensures.pushed (ap length behind ∙ length_push (map (shown i.params.pool) i.params.past) _) (omega arith) c.self.invariant.stock;
+    }
 
 pub returns-clause-set : goal.returns-clause-set
 returns-clause-set g c =
     let i = c.self.inside in
-    let lives = subst (λ (t : Stock g.row.A.Denot). IsSome (nodes_of t c.args.node)) (sym c.self.view_is) c.requires.lives in
-    let within = lives_within i.table.slots i.params.current i.kids.current c.args.node lives in
+    let e = c.swap_params.ensures in
+    let k = c.args.node in
     let x = c.kind_of.result in
+    let f = c.swap_kind.ensures.changed in
+    let now : SlotTable g.row.A.Denot = record i.table { slots = change_slot (kind_set x) i.table.slots k } in
+    let t' = c.swap_params.new.table in
+    let p' = c.swap_params.new.lists in
+    let runs : c.swap_kind.new.self.param_runs ≡ i.table.param_runs = ap (λ (y : SlotTable g.row.A.Denot). y.param_runs) f in
+    let is_table : t' ≡ record i.table { slots = change_slot (kind_set x) i.table.slots k; param_runs = t'.param_runs } = e.table ∙ ap (λ (y : SlotTable g.row.A.Denot). record y { param_runs = t'.param_runs }) f in
+    let swapped : Swaps k c.params_of.result.now (shelf_of i.params i.table.param_runs) (shelf_of p' t'.param_runs) = subst (λ r. Swaps k c.params_of.result.now (shelf_of i.params r) (shelf_of p' t'.param_runs)) runs e.swapped in
+    let ns = c.push_note.new.notes in
     let l = params_in c.args.symbol.now in
-    let current = ap (λ (s : Shelf ℤ). s.current) c.swap.ensures.swapped ∙ ap (λ k. set i.params.current k c.params_of.result.now) c.node.view_is ∙ ap (set i.params.current c.args.node) c.params_of.ensures.params in
-    let behind = ap (λ (s : Shelf ℤ). s.past) c.swap.ensures.swapped ∙ ap (λ k. i.params.past ++ row_at i.params.current k ∷ []) c.node.view_is in
-    let new : Stock g.row.A.Denot = record { slots = c.swap_kind.new.self.slots; params = c.swap.new.self.current; kids = i.kids.current; notes = c.push_note.new.notes.items; past_params = c.swap.new.self.past; past_kids = i.kids.past; hand = i.kids.hand; capacity = min c.swap_kind.new.self.capacity (min c.swap.new.self.places i.kids.places); places = min (vec_capacity c.push_note.new.notes) (min c.swap.new.self.past_places i.kids.past_places); param_room = c.swap.new.self.spare; kid_room = i.kids.spare } in
-    subst (λ (t : Stock g.row.A.Denot). (n : Node g.row.A.Denot) → nodes_of t c.args.node ≡ Some n → Journals t new c.args.node (Some (with_seen (seen_in c.args.symbol.now) n)) (OldSeen n.seen) 0 (list_room (params_in c.args.symbol.now)) 0) c.self.view_is
+    let params = map (shown i.params.pool) i.table.param_runs in
+    let kids = map (shown i.kids.pool) i.table.kid_runs in
+    let past = map (shown i.params.pool) i.params.past in
+    let past_kids = map (shown i.kids.pool) i.kids.past in
+    let behind = ap (λ (s : Shelf ℤ). s.past) swapped.swapped in
+    let comes = subst (λ m. ComesTo k m params (map (shown p'.pool) t'.param_runs)) c.params_of.ensures.params swapped.comes in
+    subst (λ (t : Stock g.row.A.Denot). (n : Node g.row.A.Denot) → nodes_of t k ≡ Some n → Journals t (stock_of t' p' i.kids ns.items (vec_capacity ns)) k (Some (with_seen (seen_in c.args.symbol.now) n)) (OldSeen n.seen) 0 (list_room l) 0) c.self.view_is
     (λ n is. record {
-      nodes = seen_changed i.table.slots c.swap_kind.new.self.slots i.params.current c.swap.new.self.current i.kids.current c.args.node x l n is (omega (arith, within, c.self.invariant.params_long)) c.swap_kind.ensures.changed current
-          ∙ ap (λ y. put (shown_nodes i.table.slots i.params.current i.kids.current) c.args.node (Some (with_seen y n))) c.kind_of.ensures;
+      nodes =
+          ap (λ (y : SlotTable g.row.A.Denot). shown_nodes y.slots (map (shown p'.pool) t'.param_runs) (map (shown i.kids.pool) y.kid_runs)) is_table
+          ∙ seen_changed i.table.slots (change_slot (kind_set x) i.table.slots k) params (map (shown p'.pool) t'.param_runs) kids k x l n is refl comes
+          ∙ ap (λ y. put (shown_nodes i.table.slots params kids) k (Some (with_seen y n))) c.kind_of.ensures;
       noted =
-          let same = seen_was i.table.slots i.params.current i.kids.current c.args.node n c.in-Some.kind is c.in-Some.ensures.before in
-          ap (λ ns. told ns c.swap.new.self.past i.kids.past) c.push_note.ensures.pushed
-          ∙ ap (λ ps. told (i.notes.items ++ record { node = c.args.node; was = was.Kind c.in-Some.kind } ∷ []) ps i.kids.past) behind
-          ∙ told_param i.notes.items (record { node = c.args.node; was = was.Kind c.in-Some.kind }) i.params.past (row_at i.params.current c.args.node) i.kids.past c.self.invariant.past_params_long c.self.invariant.past_kids_long
-          ∙ ap (λ x. told i.notes.items i.params.past i.kids.past ++ record { node = c.args.node; before = OldSeen x } ∷ []) same;
+          let same = seen_was i.table.slots params kids k n c.in-Some.kind is c.in-Some.ensures.before in
+          ap (λ ns. told ns (map (shown p'.pool) p'.past) past_kids) c.push_note.ensures.pushed
+          ∙ ap (λ ps. told (i.notes.items ++ record { node = k; was = was.Kind c.in-Some.kind } ∷ []) ps past_kids) behind
+          ∙ told_param i.notes.items (record { node = k; was = was.Kind c.in-Some.kind }) past (row_at params k) past_kids c.self.invariant.stock.past_params_long c.self.invariant.stock.past_kids_long
+          ∙ ap (λ y. told i.notes.items past past_kids ++ record { node = k; before = OldSeen y } ∷ []) same;
       notes = ap length c.push_note.ensures.pushed ∙ length_push i.notes.items _;
-      live = let same = ap live_slots c.swap_kind.ensures.changed ∙ live_change (kind_set x) i.table.slots c.args.node in omega (arith, same);
-      capacity = let same = ap (λ (s : Shelf ℤ). s.places) c.swap.ensures.swapped in omega (arith, same, c.swap_kind.ensures.capacity);
-      places = omega (arith, c.push_note.ensures.capacity, c.swap.ensures.places);
-      param_room = subst (λ m. i.params.spare ≤ c.swap.new.self.spare + list_room m) c.params_of.ensures.params c.swap.ensures.spare;
+      live = let same = ap (λ (y : SlotTable g.row.A.Denot). live_slots y.slots) is_table ∙ live_change (kind_set x) i.table.slots k in omega (arith, same);
+      capacity = ap (λ (y : SlotTable g.row.A.Denot). y.capacity) is_table;
+      places = omega (arith, c.push_note.ensures.capacity, swapped.places);
+      param_room = subst (λ m. i.params.pool.spare ≤ p'.pool.spare + list_room m) c.params_of.ensures.params swapped.spare;
       kid_room = omega arith;
-      numbers = (let e = ap length c.swap_kind.ensures.changed ∙ change_long _ _ _ in omega (arith, e));
       hand = refl;
+      ranks = λ j lives. ap (λ (y : SlotTable g.row.A.Denot). rank_at y.ranks j) is_table;
     })

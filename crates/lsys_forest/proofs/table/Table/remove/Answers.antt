@@ -1,22 +1,13 @@
-use Rattle.std.proofs.Common.{◌≡◌, ◌++◌, ◌∷◌, [], slice_set, None, subst, sym, ◌∙◌, true, false}
-use Rattle.std.specs.Prelude.{vec_capacity}
-use Rattle.lsys_forest.specs.Slots.{AreFree}
-use Rattle.lsys_forest.proofs.SlotLemmas.{AreFree-gone, AreFree-none, more_places, some_found, none_found, slot_some}
+use Rattle.std.proofs.Common.{◌≡◌, None, slice_set, subst}
+use Rattle.lsys_forest.specs.Slots.{SlotTable, table_of}
+use Rattle.lsys_forest.proofs.TableLemmas.{removed}
 use Rattle.lsys_forest.proofs.table.Table.remove.Goals as goal
 
-pub invariant_of-self : goal.invariant_of-self
-invariant_of-self g c =
+pub returns-clause-gone : goal.returns-clause-gone
+returns-clause-gone g c =
     let i = c.self.inside in
-    let lived = some_found c.take_slot-removed.result (subst (λ b. b ≡ true) c.is_some.ensures c.if-is_some.true) in
-    let is = slot_some i.slots.items c.args.number lived.0 (sym c.take_slot-removed.ensures.was ∙ lived.1) in
-    let gone = AreFree-gone i.slots.items i.free.items c.args.number (vec_capacity i.free) lived.0 is c.self.invariant in
-    subst (λ f. AreFree c.take_slot-removed.new.slots.items f (vec_capacity c.push_number.new.numbers)) (sym c.push_number.ensures.pushed)
-    (subst (λ s. AreFree s (i.free.items ++ c.args.number ∷ []) (vec_capacity c.push_number.new.numbers)) (sym c.take_slot-removed.ensures.gone)
-    (more_places (slice_set i.slots.items c.args.number None) (i.free.items ++ c.args.number ∷ []) (vec_capacity i.free) (vec_capacity c.push_number.new.numbers) c.push_number.ensures.capacity gone))
-
-pub invariant_of-self-else-is_some : goal.invariant_of-self-else-is_some
-invariant_of-self-else-is_some g c =
-    let i = c.self.inside in
-    let none = none_found c.take_slot-removed.result (subst (λ b. b ≡ false) c.is_some.ensures c.if-is_some.false) in
-    subst (λ s. AreFree s i.free.items (vec_capacity i.free)) (sym c.take_slot-removed.ensures.gone)
-    (AreFree-none i.slots.items i.free.items c.args.number (vec_capacity i.free) (sym c.take_slot-removed.ensures.was ∙ none) c.self.invariant)
+    let e = c.try_remove.ensures in
+    let new = c.try_remove.new.self in
+    subst (λ k. table_of new ≡ record c.args.self.now { slots = slice_set c.args.self.now.slots k None; param_runs = slice_set c.args.self.now.param_runs k None; kid_runs = slice_set c.args.self.now.kid_runs k None; ranks = slice_set c.args.self.now.ranks k 0; next = new.vacant_key }) c.number.view_is
+    (subst (λ (t : SlotTable g.row.A.Denot). table_of new ≡ record t { slots = slice_set t.slots c.number.inside.0 None; param_runs = slice_set t.param_runs c.number.inside.0 None; kid_runs = slice_set t.kid_runs c.number.inside.0 None; ranks = slice_set t.ranks c.number.inside.0 0; next = new.vacant_key }) c.self.view_is
+    (removed i.nodes new c.number.inside.0 c.try_remove.result e.value e.slots e.absent e.capacity))

@@ -1,10 +1,10 @@
-use Rattle.std.proofs.Common.{subst, sym}
-use Rattle.std.specs.Prelude.{vec_capacity}
-use Rattle.lsys_forest.specs.Slots.{AreFree, kind_set}
-use Rattle.lsys_forest.proofs.SlotLemmas.{AreFree-change}
+use Rattle.std.proofs.Common.{◌≡◌, subst}
+use Rattle.lsys_forest.specs.Slots.{SlotTable, change_slot, kind_set, table_of}
+use Rattle.lsys_forest.proofs.TableLemmas.{changed_node}
 use Rattle.lsys_forest.proofs.table.Table.swap_kind.Goals as goal
 
-pub invariant_of-self : goal.invariant_of-self
-invariant_of-self g c =
+pub returns-clause-changed : goal.returns-clause-changed
+returns-clause-changed g c =
     let i = c.self.inside in
-    subst (λ slots. AreFree slots i.free.items (vec_capacity i.free)) (sym c.change_kind.ensures.changed) (AreFree-change (kind_set c.args.kind) i.slots.items i.free.items c.args.number (vec_capacity i.free) c.self.invariant)
+    subst (λ (t : SlotTable g.row.A.Denot). table_of c.change_kind.new.nodes ≡ record t { slots = change_slot (kind_set c.args.kind) t.slots c.args.number }) c.self.view_is
+    (changed_node (kind_set c.args.kind) i.nodes c.change_kind.new.nodes c.args.number c.change_kind.ensures.changed)

@@ -1,0 +1,45 @@
+use Rattle.std.proofs.Common.{◌++◌, ◌∷◌, [], ℕ, ℤ, refl, sym, ap, subst}
+use Rattle.lsys_forest.specs.Shelves.{Hoard, shelf_of, IsOwner}
+use Rattle.lsys_forest.specs.Slots.{SlotTable}
+use Rattle.lsys_forest.specs.Stocks.{Clears, Swaps}
+use Rattle.lsys_forest.proofs.ShelfLemmas.{clear_live, clear_done, push_done}
+use Rattle.lsys_forest.proofs.runs.take_out.Goals as goal
+
+pub free-requires : goal.free-requires
+free-requires g c = clear_live c.args.params.now c.args.params.now c.args.table.now.param_runs c.in-Some.removed.params c.args.node c.in-Some.ensures.was.params c.requires.params
+
+pub returns-clause-params : goal.returns-clause-params
+returns-clause-params g c =
+    let h : Hoard ℤ = c.args.params.now in
+    let t = c.args.table.now in
+    let u = c.remove.new.self in
+    let new : Hoard ℤ = record h { pool = c.free.new.self.pool } in
+    let done = clear_done h new t.param_runs u.param_runs c.in-Some.removed.params c.args.node c.in-Some.ensures.was.params (ap (λ (x : SlotTable g.row.A.Denot). x.param_runs) c.remove.ensures.gone) c.free.ensures.freed refl refl c.free.ensures.spare refl c.requires.params in
+    subst (λ (x : Hoard ℤ). IsOwner x u.param_runs) (sym c.free.ensures.kept) done.0
+
+pub returns-clause-kids : goal.returns-clause-kids
+returns-clause-kids g c =
+    let h : Hoard ℕ = c.args.kids.now in
+    let t = c.args.table.now in
+    let u = c.remove.new.self in
+    let new : Hoard ℕ = record h { past = h.past ++ c.in-Some.removed.kids ∷ []; past_places = c.push.new.self.past_places } in
+    let done = push_done h new t.kid_runs u.kid_runs c.in-Some.removed.kids c.args.node c.in-Some.ensures.was.kids (ap (λ (x : SlotTable g.row.A.Denot). x.kid_runs) c.remove.ensures.gone) refl refl refl c.push.ensures.places c.requires.kids in
+    subst (λ (x : Hoard ℕ). IsOwner x u.kid_runs) (sym c.push.ensures.pushed) done.0
+
+pub returns-clause-no_params : goal.returns-clause-no_params
+returns-clause-no_params g c =
+    let h : Hoard ℤ = c.args.params.now in
+    let t = c.args.table.now in
+    let u = c.remove.new.self in
+    let new : Hoard ℤ = record h { pool = c.free.new.self.pool } in
+    let done = clear_done h new t.param_runs u.param_runs c.in-Some.removed.params c.args.node c.in-Some.ensures.was.params (ap (λ (x : SlotTable g.row.A.Denot). x.param_runs) c.remove.ensures.gone) c.free.ensures.freed refl refl c.free.ensures.spare refl c.requires.params in
+    subst (λ (x : Hoard ℤ). Clears c.args.node (shelf_of h t.param_runs) (shelf_of x u.param_runs)) (sym c.free.ensures.kept) done.1
+
+pub returns-clause-no_kids : goal.returns-clause-no_kids
+returns-clause-no_kids g c =
+    let h : Hoard ℕ = c.args.kids.now in
+    let t = c.args.table.now in
+    let u = c.remove.new.self in
+    let new : Hoard ℕ = record h { past = h.past ++ c.in-Some.removed.kids ∷ []; past_places = c.push.new.self.past_places } in
+    let done = push_done h new t.kid_runs u.kid_runs c.in-Some.removed.kids c.args.node c.in-Some.ensures.was.kids (ap (λ (x : SlotTable g.row.A.Denot). x.kid_runs) c.remove.ensures.gone) refl refl refl c.push.ensures.places c.requires.kids in
+    subst (λ (x : Hoard ℕ). Swaps c.args.node [] (shelf_of h t.kid_runs) (shelf_of x u.kid_runs)) (sym c.push.ensures.pushed) done.1

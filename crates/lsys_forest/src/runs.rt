@@ -1,0 +1,188 @@
+//! The lists that nodes have: their runs stand at the nodes.
+ghost use Rattle.std.specs.Prelude.{◌≡◌, ◌≢◌, ◌+◌, ◌<◌, ◌≤◌, ◌^◌, ℕ, [], length, IsSome, None, Some, slice_get, slice_set};
+ghost use Rattle.std.specs.Option.{option_and_then};
+ghost use Rattle.lsys_region.specs.Rooms.{list_room};
+ghost use Rattle.lsys_forest.specs.Shelves.{shelf_of, IsOwner};
+ghost use Rattle.lsys_forest.specs.Slots.{slot_at, rank_at, live_slots};
+ghost use Rattle.lsys_forest.specs.Answers.{IsMade, Releases};
+ghost use Rattle.lsys_forest.specs.Stocks.{slot_answer, Adds, Swaps, Restores, Clears};
+ghost use Rattle.lsys_forest.specs.Groves.{In, AreApart};
+
+use crate::kept::{Kept, release_one};
+use crate::lists::Lists;
+use crate::node::{Entry, NodeId, Stored};
+use crate::table::Table;
+
+/// Gives a node these parameters, and puts those that it had behind the past ones. It takes no memory.
+pub(crate) fn swap_params<A: Drop>(
+    table: &mut Table<A>,
+    lists: &mut Lists<i64>,
+    node: NodeId,
+    list: &[i64],
+)
+    requires owned { IsOwner lists.old table.old.param_runs }
+    requires lives { IsSome (slot_at table.old.slots node) }
+    requires room { list_room list.now ≤ lists.old.pool.spare }
+    requires place { length lists.old.past < lists.old.past_places }
+    ensures owned { IsOwner lists.new table.new.param_runs }
+    ensures swapped { Swaps node list.now
+        (shelf_of lists.old table.old.param_runs) (shelf_of lists.new table.new.param_runs) }
+    ensures table { table.new ≡ record table.old { param_runs = table.new.param_runs } }
+{
+    let run = lists.place(list);
+    let before = table.swap_params(node, run);
+    lists.push(before);
+}
+
+/// Gives a node these children, and puts those that it had behind the past ones. It takes no memory.
+pub(crate) fn swap_kids<A: Drop>(
+    table: &mut Table<A>,
+    lists: &mut Lists<NodeId>,
+    node: NodeId,
+    list: &[NodeId],
+)
+    requires owned { IsOwner lists.old table.old.kid_runs }
+    requires lives { IsSome (slot_at table.old.slots node) }
+    requires room { list_room list.now ≤ lists.old.pool.spare }
+    requires place { length lists.old.past < lists.old.past_places }
+    ensures owned { IsOwner lists.new table.new.kid_runs }
+    ensures swapped { Swaps node list.now
+        (shelf_of lists.old table.old.kid_runs) (shelf_of lists.new table.new.kid_runs) }
+    ensures table { table.new ≡ record table.old { kid_runs = table.new.kid_runs } }
+{
+    let run = lists.place(list);
+    let before = table.swap_kids(node, run);
+    lists.push(before);
+}
+
+/// Gives a node the last of the past parameters, and frees those that it has. It takes no memory.
+pub(crate) fn restore_params<A: Drop>(table: &mut Table<A>, lists: &mut Lists<i64>, node: NodeId)
+    requires owned { IsOwner lists.old table.old.param_runs }
+    ensures owned { IsOwner lists.new table.new.param_runs }
+    ensures restored { Restores (slot_at table.old.slots node) node
+        (shelf_of lists.old table.old.param_runs) (shelf_of lists.new table.new.param_runs) }
+    ensures table { table.new ≡ record table.old { param_runs = table.new.param_runs } }
+{
+    if let Some(run) = lists.pop() {
+        let displaced = table.swap_params(node, run);
+        lists.free(displaced);
+    }
+}
+
+/// Gives a node the last of the past lists of children, and frees the one that it has. It takes no memory.
+pub(crate) fn restore_kids<A: Drop>(table: &mut Table<A>, lists: &mut Lists<NodeId>, node: NodeId)
+    requires owned { IsOwner lists.old table.old.kid_runs }
+    ensures owned { IsOwner lists.new table.new.kid_runs }
+    ensures restored { Restores (slot_at table.old.slots node) node
+        (shelf_of lists.old table.old.kid_runs) (shelf_of lists.new table.new.kid_runs) }
+    ensures table { table.new ≡ record table.old { kid_runs = table.new.kid_runs } }
+{
+    if let Some(run) = lists.pop() {
+        let displaced = table.swap_kids(node, run);
+        lists.free(displaced);
+    }
+}
+
+/// Adds a node with these parameters and no children, and answers its number. It takes no memory.
+pub(crate) fn insert<A: Drop>(
+    table: &mut Table<A>,
+    params: &mut Lists<i64>,
+    kids: &mut Lists<NodeId>,
+    node: Stored<A>,
+    list: &[i64],
+) -> NodeId
+    requires params { IsOwner params.old table.old.param_runs }
+    requires kids { IsOwner kids.old table.old.kid_runs }
+    requires capacity { live_slots table.old.slots < table.old.capacity }
+    requires numbers { table.old.capacity ≤ 2 ^ 32 }
+    requires room { list_room list.now ≤ params.old.pool.spare }
+    ensures next { result ≡ table.old.next }
+    ensures vacant { slot_at table.old.slots result ≡ None }
+    ensures here { slot_at table.new.slots result ≡ Some node }
+    ensures others { (j : ℕ) → j ≢ result → slot_at table.new.slots j ≡ slot_at table.old.slots j }
+    ensures ranks { (j : ℕ) → j ≢ result → rank_at table.new.ranks j ≡ rank_at table.old.ranks j }
+    ensures live { live_slots table.new.slots ≡ live_slots table.old.slots + 1 }
+    ensures capacity { table.new.capacity ≡ table.old.capacity }
+    ensures params { IsOwner params.new table.new.param_runs }
+    ensures kids { IsOwner kids.new table.new.kid_runs }
+    ensures has_params { Adds result list.now (shelf_of params.old table.old.param_runs) (shelf_of params.new table.new.param_runs) }
+    ensures no_kids { Adds result [] (shelf_of kids.old table.old.kid_runs) (shelf_of kids.new table.new.kid_runs) }
+{
+    let entry = Entry {
+        node,
+        params: params.place(list),
+        kids: kids.place(&[]),
+        rank: 0,
+    };
+    table.insert(entry)
+}
+
+/// Removes a node that lives, frees its parameters, and puts its children behind the past ones. It takes no memory.
+pub(crate) fn take_out<A: Drop>(
+    table: &mut Table<A>,
+    params: &mut Lists<i64>,
+    kids: &mut Lists<NodeId>,
+    node: NodeId,
+) -> Stored<A>
+    requires params { IsOwner params.old table.old.param_runs }
+    requires kids { IsOwner kids.old table.old.kid_runs }
+    requires lives { IsSome (slot_at table.old.slots node) }
+    requires place { length kids.old.past < kids.old.past_places }
+    ensures was { slot_at table.old.slots node ≡ Some result }
+    ensures slots { table.new.slots ≡ slice_set table.old.slots node None }
+    ensures ranks { table.new.ranks ≡ slice_set table.old.ranks node 0 }
+    ensures capacity { table.new.capacity ≡ table.old.capacity }
+    ensures params { IsOwner params.new table.new.param_runs }
+    ensures kids { IsOwner kids.new table.new.kid_runs }
+    ensures no_params { Clears node (shelf_of params.old table.old.param_runs) (shelf_of params.new table.new.param_runs) }
+    ensures no_kids { Swaps node [] (shelf_of kids.old table.old.kid_runs) (shelf_of kids.new table.new.kid_runs) }
+{
+    let Some(removed) = table.remove(node) else {
+        unreachable!()
+    };
+    params.free(removed.params);
+    kids.push(removed.kids);
+    removed.node
+}
+
+/// Removes a node, if it lives, frees its lists and releases its answer. It takes no memory.
+pub(crate) fn clear<A: Kept>(
+    table: &mut Table<A>,
+    params: &mut Lists<i64>,
+    kids: &mut Lists<NodeId>,
+    node: NodeId,
+    store: &mut A::Store,
+)
+    requires params { IsOwner params.old table.old.param_runs }
+    requires kids { IsOwner kids.old table.old.kid_runs }
+    requires made { IsMade A.run_at A.Holds store.old (option_and_then slot_answer (slot_at table.old.slots node)) }
+    ensures slots { table.new.slots ≡ slice_set table.old.slots node None }
+    ensures ranks { table.new.ranks ≡ slice_set table.old.ranks node 0 }
+    ensures capacity { table.new.capacity ≡ table.old.capacity }
+    ensures params { IsOwner params.new table.new.param_runs }
+    ensures kids { IsOwner kids.new table.new.kid_runs }
+    ensures no_params { Clears node (shelf_of params.old table.old.param_runs) (shelf_of params.new table.new.param_runs) }
+    ensures no_kids { Clears node (shelf_of kids.old table.old.kid_runs) (shelf_of kids.new table.new.kid_runs) }
+    ensures released { Releases A.run_at A.Holds (option_and_then slot_answer (slot_at table.old.slots node))
+        store.old store.new }
+{
+    if let Some(entry) = table.remove(node) {
+        params.free(entry.params);
+        kids.free(entry.kids);
+        release_one(entry.node.answer, store);
+    }
+}
+
+/// Gives each of these nodes its place among them as its rank.
+pub(crate) fn number<A: Drop>(table: &mut Table<A>, kids: &[NodeId])
+    requires apart { AreApart kids.now }
+    requires live { (k : ℕ) → In k kids.now → IsSome (slot_at table.old.slots k) }
+    ensures stands { (i k : ℕ) → slice_get kids.now i ≡ Some k → rank_at table.new.ranks k ≡ i }
+    ensures others { (k : ℕ) → (In k kids.now → ⊥)
+        → rank_at table.new.ranks k ≡ rank_at table.old.ranks k }
+    ensures table { table.new ≡ record table.old { ranks = table.new.ranks } }
+{
+    for place in 0..kids.len() {
+        table.set_rank(kids[place], place);
+    }
+}
