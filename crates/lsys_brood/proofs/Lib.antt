@@ -1,1 +1,5 @@
 pub mod MatchLemmas
+pub mod StepLemmas
+pub mod PlacedLemmas
+pub mod FoundLemmas
+pub mod AllLemmas

@@ -1,1 +1,3 @@
 pub mod Matches
+pub mod Children
+pub mod Steps

@@ -1,23 +1,30 @@
-//! The old children of a node, matched with the numbers of those that are wanted.
-ghost use Rattle.std.specs.Prelude.{◌≡◌, ◌≢◌, ◌++◌, ◌∷◌, ℕ, [], OnOk, map, cond, Some, None, is_some};
+//! The children of a node, as they are wanted.
+ghost use Rattle.std.specs.Prelude.{◌≡◌, ◌≢◌, ◌++◌, ◌∷◌, ◌+◌, ◌≤◌, ◌^◌, ℕ, [], OnOk, OnErr, IfOk, map, cond, length, Some, None, is_some};
 ghost use Rattle.std.specs.HashMap.{get};
 ghost use Rattle.lsys_forest.specs.Nodes.{Node};
-ghost use Rattle.lsys_forest.specs.Groves.{In, now_of, changes_in, IsLive, IsSound};
+ghost use Rattle.lsys_forest.specs.Groves.{Grove, In, now_of, rest_of, changes_in, IsLive, IsSound, Spends};
+ghost use Rattle.lsys_forest.specs.Rows.{kids_in};
 ghost use Rattle.lsys_brood.specs.declared.number.Number.{Number};
 ghost use Rattle.lsys_brood.specs.Matches.{same_number, has_number, AreApart, number_of, node_numbered, nodes_where, match_of};
+ghost use Rattle.lsys_brood.specs.Children.{numbers_of, AreWhole, need_at, HasRoomFor, SpendsNeed, AreRenewed, TellsOf};
 
+use crate::changes::Changes;
+use crate::child::Child;
+use crate::need::{Need, need_of};
 use crate::number::Number;
+use crate::renew::renew_all;
 use lsys_forest::{Forest, Kept, NodeId};
 use std::alloc::{AllocError, Global};
 use std::collections::HashMap;
 use std::marker::Model;
 
-/// The children that are wanted, matched with the old ones of a node. It keeps its room from one node to the next.
+/// The children that are wanted of a node, matched with the old ones. It keeps its room from one node to the next.
 #[derive(Drop)]
 pub struct Brood {
     by_number: HashMap<Number, NodeId>,
     found: Vec<Option<NodeId>>,
     gone: Vec<NodeId>,
+    nodes: Vec<NodeId>,
 }
 
 impl Model for Brood {
@@ -37,11 +44,12 @@ impl Brood {
             by_number: HashMap::new(alloc),
             found: Vec::new(alloc),
             gone: Vec::new(alloc),
+            nodes: Vec::new(alloc),
         }
     }
 
-    /// Matches these numbers, of which none stands twice, with those of a node's children. The forest is only read. That it is
-    /// sound is told by [`Forest::root`].
+    /// Matches the numbers of these children, of which none stands twice, with those of a node's children. The forest is only
+    /// read.
     ///
     /// # Errors
     ///
@@ -50,29 +58,99 @@ impl Brood {
         &mut self,
         forest: &Forest<A>,
         parent: NodeId,
-        numbers: &[Number],
+        wanted: &[Child],
     ) -> Result<(), AllocError>
         requires lives { IsLive forest.now parent }
-        requires sound { IsSound forest.now.root (changes_in forest.now) (now_of forest.now) }
-        requires apart { AreApart numbers.now }
-        ensures { OnOk result ((n : Node A) → now_of forest.now parent ≡ Some n
-            → self.new ≡ match_of (now_of forest.now) n.kids numbers.now) }
+        requires apart { AreApart (numbers_of wanted.now) }
+        ensures matched { OnOk result ((n : Node A) → now_of forest.now parent ≡ Some n
+            → self.new ≡ match_of (now_of forest.now) n.kids (numbers_of wanted.now)) }
+        ensures sound { OnOk result (IsSound forest.now.root (changes_in forest.now) (now_of forest.now)) }
     {
         let kids = forest.children(parent);
         enter_all(&mut self.by_number, forest, kids)?;
-        take_all(&mut self.by_number, numbers, &mut self.found)?;
+        take_all(&mut self.by_number, wanted, &mut self.found)?;
         find_left(&self.by_number, forest, kids, &mut self.gone)?;
         Ok(())
     }
 
-    /// Of each number, in order, the old child that has it; none where one is to be added.
+    /// Counts what [`Brood::change`] takes for a node and the children that are wanted of it: at most so much room, and
+    /// exactly so many nodes are new. Then [`Brood::gone`] has the old children that are children no more. The forest is only
+    /// read.
+    ///
+    /// # Errors
+    ///
+    /// Want of memory. What was matched is of no use then.
+    pub fn count<A: Kept>(
+        &mut self,
+        forest: &Forest<A>,
+        parent: NodeId,
+        wanted: &[Child],
+    ) -> Result<Need, AllocError>
+        requires lives { IsLive forest.now parent }
+        requires apart { AreApart (numbers_of wanted.now) }
+        requires few { length wanted.now ≤ 4096 }
+        ensures matched { OnOk result ((n : Node A) → now_of forest.now parent ≡ Some n
+            → self.new ≡ match_of (now_of forest.now) n.kids (numbers_of wanted.now)) }
+        ensures need { IfOk result (λ need. (n : Node A) → now_of forest.now parent ≡ Some n
+            → need ≡ need_at (now_of forest.now) n.kids wanted.now) }
+    {
+        self.find(forest, parent, wanted)?;
+        Ok(need_of(wanted, forest.children(parent).len(), &self.found))
+    }
+
+    /// Makes the children of a node those that are wanted: the old ones of their numbers, in whatever order these stood, with
+    /// the symbols and the keys that are wanted, and new nodes where there were none. What differs is told. All other nodes
+    /// stay as they are; so do the children, and the answers, of the old ones.
+    ///
+    /// # Errors
+    ///
+    /// Want of memory. Nothing changed then, and nothing is told.
+    pub fn change<A: Kept>(
+        &mut self,
+        forest: &mut Forest<A>,
+        parent: NodeId,
+        wanted: &[Child],
+        changes: &mut Changes,
+    ) -> Result<(), AllocError>
+        requires lives { IsLive forest.old parent }
+        requires apart { AreApart (numbers_of wanted.now) }
+        requires whole { AreWhole wanted.now }
+        requires room { (n : Node A) → now_of forest.old parent ≡ Some n
+            → HasRoomFor forest.old changes.old (need_at (now_of forest.old) n.kids wanted.now) }
+        ensures children { OnOk result ((n : Node A) → now_of forest.old parent ≡ Some n
+            → AreRenewed (now_of forest.old) (now_of forest.new) parent n wanted.now (kids_in (now_of forest.new parent))) }
+        ensures told { OnOk result ((n : Node A) → now_of forest.old parent ≡ Some n
+            → TellsOf (now_of forest.old) (now_of forest.new) parent n wanted.now
+            (kids_in (now_of forest.new parent)) changes.old changes.new) }
+        ensures rest { rest_of forest.new ≡ rest_of forest.old }
+        ensures root { forest.new.root ≡ forest.old.root }
+        ensures spends { OnOk result ((n : Node A) → now_of forest.old parent ≡ Some n
+            → SpendsNeed forest.old forest.new (need_at (now_of forest.old) n.kids wanted.now)) }
+        ensures refused { OnErr result ((forest.new ≡ forest.old) × (changes.new ≡ changes.old)) }
+    {
+        self.find(forest, parent, wanted)?;
+        self.nodes.clear();
+        self.nodes.reserve(wanted.len())?;
+        renew_all(
+            forest,
+            parent,
+            wanted,
+            &self.found,
+            &self.gone,
+            &mut self.nodes,
+            changes,
+        );
+        Ok(())
+    }
+
+    /// Of each child that was wanted last, in order, the old one that has its number; none where there was none.
     pub fn found(&self) -> &[Option<NodeId>]
         ensures { result.now ≡ self.now.found }
     {
         &self.found
     }
 
-    /// The old children that have none of these numbers, in order.
+    /// The old children that had none of these numbers, in order.
     pub fn gone(&self) -> &[NodeId]
         ensures { result.now ≡ self.now.gone }
     {
@@ -136,20 +214,21 @@ fn enter_all<A: Kept>(
     Ok(())
 }
 
-/// Takes out the nodes that have these numbers, of which none stands twice.
+/// Takes out the nodes that have the numbers of these children, of which none stands twice.
 fn take_all(
     nodes: &mut HashMap<Number, NodeId>,
-    numbers: &[Number],
+    wanted: &[Child],
     found: &mut Vec<Option<NodeId>>,
 ) -> Result<(), AllocError>
-    requires apart { AreApart numbers.now }
-    ensures found { OnOk result (found.new.items ≡ map (get same_number nodes.old) numbers.now) }
+    requires apart { AreApart (numbers_of wanted.now) }
+    ensures found { OnOk result (found.new.items
+        ≡ map (get same_number nodes.old) (numbers_of wanted.now)) }
     ensures left { OnOk result ((q : Number) → get same_number nodes.new q
-        ≡ cond (has_number numbers.now q) None (get same_number nodes.old q)) }
+        ≡ cond (has_number (numbers_of wanted.now) q) None (get same_number nodes.old q)) }
 {
     found.clear();
-    for number in numbers {
-        found.push(take(nodes, *number))?;
+    for child in wanted {
+        found.push(take(nodes, child.number))?;
     }
     Ok(())
 }

@@ -2,7 +2,14 @@
 #![tactic(auto)]
 
 mod brood;
+mod changes;
+mod child;
+mod need;
 mod number;
+mod renew;
 
 pub use brood::Brood;
+pub use changes::Changes;
+pub use child::Child;
+pub use need::Need;
 pub use number::Number;

@@ -23,7 +23,7 @@ use Rattle.lsys_seats.proofs.SeatLemmas.{told_own, told_other}
 
 -- 1. places
 
-index_cases : (k x : ℕ) (xs : List ℕ) → ((k ≡ x) × (index_in k (x ∷ xs) ≡ 0)) ⊎ ((k ≢ x) × (index_in k (x ∷ xs) ≡ suc (index_in k xs)))
+pub index_cases : (k x : ℕ) (xs : List ℕ) → ((k ≡ x) × (index_in k (x ∷ xs) ≡ 0)) ⊎ ((k ≢ x) × (index_in k (x ∷ xs) ≡ suc (index_in k xs)))
 index_cases k x xs = elim (cases_eq k x) [
   | inl e ↦ inl (e, grind (arith, common_steps))
   | inr ne ↦ inr (ne, grind (arith, common_steps))
@@ -122,14 +122,14 @@ module _ {A : Type 0} where
   level_is : (f : Grove A) (k : ℕ) → IsOnLevel f k → level_at (complete_levels f) (level_of_node f k) ≡ level_spots (now_of f) f.root (level_of_node f k)
   level_is f k h = told_is f (level_of_node f k) (spot_within (complete_levels f) (level_of_node f k) (place_of_node f k) h)
 
-  level_long : (f : Grove A) (k : ℕ) → IsOnLevel f k → length (level_at (complete_levels f) (level_of_node f k)) ≡ length (level_around f k)
+  pub level_long : (f : Grove A) (k : ℕ) → IsOnLevel f k → length (level_at (complete_levels f) (level_of_node f k)) ≡ length (level_around f k)
   level_long f k h = ap length (level_is f k h) ∙ length-map (level_around f k) (λ i. spot_in i (now_of f i))
 
   -- where another node of the level stands
   other_place : (f : Grove A) (k s : ℕ) → level_of_node f s ≡ level_of_node f k → place_of_node f s ≡ index_in s (level_around f k)
   other_place f k s e = ap (λ t. index_in s (level_nodes (now_of f) f.root t)) e
 
-  there_is : (f : Grove A) (k s : ℕ) → IsOnLevel f k → level_of_node f s ≡ level_of_node f k → place_of_node f s < length (level_at (complete_levels f) (level_of_node f k))
+  pub there_is : (f : Grove A) (k s : ℕ) → IsOnLevel f k → level_of_node f s ≡ level_of_node f k → place_of_node f s < length (level_at (complete_levels f) (level_of_node f k))
       → slice_get (level_around f k) (place_of_node f s) ≡ Some s
   there_is f k s h e w =
       let o = other_place f k s e in

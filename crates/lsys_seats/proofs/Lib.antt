@@ -1,3 +1,5 @@
 pub mod SeatLemmas
 pub mod LevelLemmas
 pub mod LawLemmas
+pub mod SeamLemmas
+pub mod LookLemmas

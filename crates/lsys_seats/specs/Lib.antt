@@ -1,3 +1,4 @@
 pub mod Neighbours
 pub mod Seats
 pub mod Standings
+pub mod Looks

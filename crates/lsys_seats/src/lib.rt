@@ -2,12 +2,15 @@
 //!
 //! A pass that repairs levels keeps them from one rest to the next, and sets them anew only where a level changed. So it
 //! tells a node that is disturbed by one look at its seat, with no copy of any old level. Marks go with the seats, so that
-//! a list keeps a node once.
+//! a list keeps a node once. Where to look, it is told by the seams of a level: the nodes whose neighbours may be others,
+//! since nodes of the level above them have other children or other neighbours.
 #![tactic(auto)]
 
 mod law;
+mod seams;
 mod seat;
 mod seats;
 
-pub use law::law_of_kept_seats;
+pub use law::{law_of_kept_seats, law_of_looks};
+pub use seams::{first_behind, last_before, look_around, look_beyond};
 pub use seats::Seats;

@@ -1,0 +1,98 @@
+-- A pass that is at rest again, and a new one.
+use Rattle.std.proofs.Common.{◌≡◌, ℕ, ◌<◌, ◌≤◌, ◌^◌, List, [], refl, sym, ap, ◌∙◌, subst, arith}
+use Rattle.lsys_spec.specs.Systems.{System, opening}
+use Rattle.lsys_walks.specs.Stores.{Store}
+use Rattle.lsys_match.specs.Kept.{Kept}
+use Rattle.lsys_reads.specs.Relations.{Relations, SettledStay}
+use Rattle.lsys_forest.specs.Changes.{undone}
+use Rattle.lsys_forest.specs.Answers.{answers, kept_by, AreMade, FreesAllBut}
+use Rattle.lsys_forest.specs.Groves.{Grove, now_of, rest_of, changes_in, live_nodes, kept_in}
+use Rattle.lsys_kept.specs.Names.{run_in, holds}
+use Rattle.lsys_seats.specs.declared.seat.Seat.{Seat}
+use Rattle.lsys_pass.specs.declared.fault.Faulted.{Faulted}
+use Rattle.lsys_pass.specs.declared.state.PassState.{PassState}
+use Rattle.lsys_pass.specs.declared.state.PassState.TheVariants.{Rest, Level, Done, Failed}
+use Rattle.lsys_pass.specs.Rests.{IsResting}
+use Rattle.lsys_pass.specs.Stages.{Stage, IsStored, Rests}
+use Rattle.lsys_pass.specs.Passes.{PassView, stage_of, now, was, HoldsAt, IsPass}
+use Rattle.lsys_pass.proofs.Stores.{AllStay, rest_stays}
+use Rattle.lsys_pass.proofs.Keepers.{are_made, stay_kept, stored_rest}
+use Rattle.lsys_pass.proofs.Openings.{IsAlone, alone_rests, alone_stored}
+
+pub rests_at : (s : Stage) (state : PassState) → HoldsAt s state → Rests s
+rests_at s Rest h = h.rest
+rests_at s (Level t) h = h.rest
+rests_at s Done h = h.rest
+rests_at s Failed h = h
+
+-- the forest's answers were made with the store
+pub held : (v : PassView) → IsPass v → AreMade run_in holds v.store (kept_in v.forest)
+held v h = are_made (now v) (changes_in v.forest) v.forest.root v.store h.stored
+
+-- at rest, with these parts
+abbrev pub resting : Grove Kept → Store → Relations → List Seat → System → ℕ → List ℕ → List Faulted → List ℕ → List ℕ → PassView
+resting f st reads seats system limit ps fs rn ds = record {
+  forest = f;
+  store = st;
+  reads = reads;
+  seats = seats;
+  system = system;
+  next = system;
+  limit = limit;
+  state = Rest;
+  pending = ps;
+  faults = fs;
+  renewed = rn;
+  dropped = ds;
+}
+
+pub is_resting : (f : Grove Kept) (st : Store) (reads : Relations) (seats : List Seat) (system : System) (limit : ℕ) (ps : List ℕ) (fs : List Faulted) (rn ds : List ℕ)
+    → IsStored (now_of f) (changes_in f) f.root st → live_nodes f < 2 ^ 32 → IsResting system limit (rest_of f) f.root st reads seats → changes_in f ≡ [] → reads.pending ≡ []
+    → ps ≡ [] → fs ≡ [] → rn ≡ [] → ds ≡ [] → IsPass (resting f st reads seats system limit ps fs rn ds)
+is_resting f st reads seats system limit ps fs rn ds stored few rest still quiet p q r d = record {
+  stored = stored;
+  few = few;
+  holds = record { rest = rest; changes = still; next = refl; reads = quiet; pending = p; faults = q; renewed = r; dropped = d };
+}
+
+pub back_pass : (v : PassView) (f : Grove Kept) (st : Store) (reads : Relations) (ps : List ℕ) (fs : List Faulted) (rn ds : List ℕ) → IsPass v
+    → now_of f ≡ rest_of v.forest → changes_in f ≡ [] → f.root ≡ v.forest.root → live_nodes f ≤ live_nodes v.forest
+    → FreesAllBut run_in holds (kept_in v.forest) (kept_by (rest_of v.forest)) v.store st → AreMade run_in holds st (kept_in f)
+    → SettledStay v.reads reads → reads.pending ≡ [] → ps ≡ [] → fs ≡ [] → rn ≡ [] → ds ≡ []
+    → IsPass (resting f st reads v.seats v.system v.limit ps fs rn ds)
+back_pass v f st reads ps fs rn ds h is still root live frees are settled quiet p q r d =
+    is_resting f st reads v.seats v.system v.limit ps fs rn ds stored (let b = h.few in omega (arith, live, b)) rests still quiet p q r d
+  where
+    rest : IsResting v.system v.limit (was v) v.forest.root v.store v.reads v.seats
+    rest = rests_at (stage_of v) v.state h.holds
+
+    stays : AllStay (was v) v.store st
+    stays = stay_kept (was v) (kept_in v.forest) v.store st rest.made frees
+
+    made : AreMade run_in holds st (answers (was v) [])
+    made = subst (λ m. AreMade run_in holds st (answers m [])) is (subst (λ cs. AreMade run_in holds st (answers (now_of f) cs)) still are)
+
+    was_stored : IsStored (was v) [] v.forest.root st
+    was_stored = stored_rest (now v) (changes_in v.forest) v.forest.root v.store st h.stored rest.made stays made
+
+    stored : IsStored (now_of f) (changes_in f) f.root st
+    stored = subst (λ k. IsStored (now_of f) (changes_in f) k st) (sym root) (subst (λ cs. IsStored (now_of f) cs v.forest.root st) (sym still) (subst (λ m. IsStored m [] v.forest.root st) (sym is) was_stored))
+
+    was_rests : IsResting v.system v.limit (was v) v.forest.root st reads v.seats
+    was_rests = rest_stays v.system v.limit (was v) v.forest.root v.store st v.reads reads v.seats stays settled rest
+
+    rest_is : rest_of f ≡ was v
+    rest_is = ap (λ cs. undone cs (now_of f)) still ∙ is
+
+    rests : IsResting v.system v.limit (rest_of f) f.root st reads v.seats
+    rests = subst (λ k. IsResting v.system v.limit (rest_of f) k st reads v.seats) (sym root) (subst (λ m. IsResting v.system v.limit m v.forest.root st reads v.seats) (sym rest_is) was_rests)
+
+pub new_pass : (f : Grove Kept) (st : Store) (reads : Relations) (seats : List Seat) (system : System) (limit : ℕ) (ps : List ℕ) (fs : List Faulted) (rn ds : List ℕ)
+    → IsAlone (now_of f) f.root → changes_in f ≡ [] → live_nodes f ≡ 1 → system ≡ opening → reads.settled ≡ [] → reads.pending ≡ [] → ps ≡ [] → fs ≡ [] → rn ≡ [] → ds ≡ []
+    → IsPass (resting f st reads seats system limit ps fs rn ds)
+new_pass f st reads seats system limit ps fs rn ds alone still live opens none quiet p q r d =
+    is_resting f st reads seats system limit ps fs rn ds
+    (subst (λ cs. IsStored (now_of f) cs f.root st) (sym still) (alone_stored (now_of f) f.root st alone)) (omega (arith, live))
+    (subst (λ s. IsResting s limit (rest_of f) f.root st reads seats) (sym opens)
+    (subst (λ m. IsResting opening limit m f.root st reads seats) (sym (ap (λ cs. undone cs (now_of f)) still)) (alone_rests (now_of f) f.root limit st reads seats alone none)))
+    still quiet p q r d

@@ -1,0 +1,4 @@
+pub mod Stores
+pub mod Keepers
+pub mod Openings
+pub mod Backing

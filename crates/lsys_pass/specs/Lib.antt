@@ -1,0 +1,6 @@
+pub mod Lineages
+pub mod Levels
+pub mod Rests
+pub mod Stages
+pub mod Passes
+pub mod Moves

@@ -1,0 +1,77 @@
+-- What a contract sees of a pass, and what holds of it between calls.
+use Rattle.std.specs.Prelude.{◌≡◌, ◌<◌, ◌^◌, ℕ, List, []}
+use Rattle.lsys_spec.specs.Systems.{System}
+use Rattle.lsys_walks.specs.Stores.{Store}
+use Rattle.lsys_match.specs.Kept.{Kept}
+use Rattle.lsys_reads.specs.Relations.{Relations}
+use Rattle.lsys_forest.specs.Nodes.{Nodes}
+use Rattle.lsys_forest.specs.Groves.{Grove, now_of, rest_of, changes_in, live_nodes}
+use Rattle.lsys_seats.specs.declared.seat.Seat.{Seat}
+use Rattle.lsys_pass.specs.declared.state.PassState.{PassState}
+use Rattle.lsys_pass.specs.declared.state.PassState.TheVariants.{Rest, Level, Done, Failed}
+use Rattle.lsys_pass.specs.declared.fault.Faulted.{Faulted}
+use Rattle.lsys_pass.specs.Stages.{Stage, IsStored, Rests, IsAtLevel, IsDone}
+
+-- A pass: the forest, the store of its answers, and who read what; the seats of the last rest; the system of the last rest, and the
+-- one that is being made, which at rest is the same; the limit, and where the pass stands. Then the lists of a stage.
+pub record PassView : Type 0 where
+  pub forest : Grove Kept
+  pub store : Store
+  pub reads : Relations
+  pub seats : List Seat
+  pub system : System
+  pub next : System
+  pub limit : ℕ
+  pub state : PassState
+  pub pending : List ℕ
+  pub faults : List Faulted
+  pub renewed : List ℕ
+  pub dropped : List ℕ
+
+abbrev pub stage_of : PassView → Stage
+stage_of v = record {
+  now = now_of v.forest;
+  changes = changes_in v.forest;
+  root = v.forest.root;
+  store = v.store;
+  reads = v.reads;
+  seats = v.seats;
+  system = v.system;
+  next = v.next;
+  limit = v.limit;
+  pending = v.pending;
+  faults = v.faults;
+  renewed = v.renewed;
+  dropped = v.dropped;
+}
+
+-- the nodes as they are, and those of the last rest
+abbrev pub now : PassView → Nodes Kept
+now v = now_of v.forest
+
+abbrev pub was : PassView → Nodes Kept
+was v = rest_of v.forest
+
+-- nothing has changed since the last rest, and nothing is kept of an edit
+pub record IsStill (s : Stage) : Type 0 where
+  pub rest : Rests s
+  pub changes : s.changes ≡ []
+  pub next : s.next ≡ s.system
+  pub reads : s.reads.pending ≡ []
+  pub pending : s.pending ≡ []
+  pub faults : s.faults ≡ []
+  pub renewed : s.renewed ≡ []
+  pub dropped : s.dropped ≡ []
+
+-- what holds where it stands
+abbrev pub HoldsAt : Stage → PassState → Type 0
+HoldsAt s Rest = IsStill s
+HoldsAt s (Level t) = IsAtLevel s t
+HoldsAt s Done = IsDone s
+HoldsAt s Failed = Rests s
+
+-- what holds between calls
+pub record IsPass (v : PassView) : Type 0 where
+  pub stored : IsStored (now v) (changes_in v.forest) v.forest.root v.store
+  pub few : live_nodes v.forest < 2 ^ 32
+  pub holds : HoldsAt (stage_of v) v.state

@@ -1,0 +1,190 @@
+-- What a pass keeps true while it makes the levels of another system.
+use Rattle.std.specs.Prelude.{◌≡◌, ◌<◌, ◌≤◌, ◌+◌, ◌^◌, ◌⊎◌, ◌↔◌, ℕ, true, List, [], ◌∷◌, length, Ok, Err, Option, Some, None, cond, nat_eq, get_or, slice_get}
+use Rattle.lsys_spec.specs.Systems.{System, WellSpelled}
+use Rattle.lsys_spec.specs.Bodies.{group}
+use Rattle.lsys_spec.specs.Levels.{ModuleValue, Module}
+use Rattle.lsys_spec.specs.Levels as L
+use Rattle.lsys_spec.specs.Meaning.{meaning, meaning_to, successor}
+use Rattle.lsys_rewrite.specs.Faults.{fault_of}
+use Rattle.lsys_rewrite.specs.declared.refusal.FaultKind.{FaultKind}
+use Rattle.lsys_walks.specs.Stores.{Store}
+use Rattle.lsys_match.specs.Kept.{Kept}
+use Rattle.lsys_match.specs.Asks.{IsMade}
+use Rattle.lsys_reads.specs.Relations.{Relations, is_pending}
+use Rattle.lsys_change.specs.Nodes.{AreOnce, Extends}
+use Rattle.lsys_change.specs.Passes.{module_question, is_candidate_at}
+use Rattle.lsys_forest.specs.Nodes.{Node, Nodes}
+use Rattle.lsys_forest.specs.Changes.{Change, undone}
+use Rattle.lsys_forest.specs.Answers.{Keeper, answers}
+use Rattle.lsys_forest.specs.Groves.{In, AreApart, AreSound, Reached}
+use Rattle.lsys_forest.specs.Rows.{level_nodes}
+use Rattle.lsys_kept.specs.Names.{RunName, holds}
+use Rattle.lsys_seats.specs.declared.seat.Seat.{Seat}
+use Rattle.lsys_pass.specs.declared.fault.Faulted.{Faulted}
+use Rattle.lsys_pass.specs.Lineages.{kins}
+use Rattle.lsys_pass.specs.Levels.{HaveLevels, AnsweredAt, answer_at, HasRead}
+use Rattle.lsys_pass.specs.Rests.{meant, meant_to, IsResting}
+
+-- The nodes, what they were before each change since the last rest, and the root; the store of their answers; who read what; the
+-- seats of the last rest; the system of the last rest, and the one that is being made; the limit; the nodes of the level that are
+-- still to be asked, from left to right; those that have a fault; those that got another answer since the last rest; and those
+-- that had one and are gone or have no question any more.
+pub record Stage : Type 0 where
+  pub now : Nodes Kept
+  pub changes : List (Change Kept)
+  pub root : ℕ
+  pub store : Store
+  pub reads : Relations
+  pub seats : List Seat
+  pub system : System
+  pub next : System
+  pub limit : ℕ
+  pub pending : List ℕ
+  pub faults : List Faulted
+  pub renewed : List ℕ
+  pub dropped : List ℕ
+
+-- the nodes of the last rest
+abbrev pub was : Stage → Nodes Kept
+was s = undone s.changes s.now
+
+-- level t of a system
+abbrev pub level_to : System → ℕ → ℕ → List L.Symbol
+level_to s limit t = get_or (meant_to s limit t) t []
+
+-- 1. at any time
+
+-- The nodes hang together, as they are and as they were. Each answer that is kept now, or was at any time since the last rest, was
+-- made with the store, and no two hold one run.
+pub record IsStored (m : Nodes Kept) (changes : List (Change Kept)) (root : ℕ) (store : Store) : Type 0 where
+  pub sound : AreSound root changes m
+  pub made : (h : Keeper) (a : Kept) → answers m changes h ≡ Some a → IsMade store a
+  pub once : (h i : Keeper) (a b : Kept) (r : RunName) → answers m changes h ≡ Some a → answers m changes i ≡ Some b
+      → holds a r → holds b r → h ≡ i
+
+-- the forest of the last rest
+abbrev pub Rests : Stage → Type 0
+Rests s = IsResting s.system s.limit (was s) s.root s.store s.reads s.seats
+
+-- 2. a level
+
+-- the fault of a node that was noted
+abbrev pub fault_in : ℕ → List Faulted → Option FaultKind
+fault_in k [] = None
+fault_in k (f ∷ fs) = cond (nat_eq k f.node) (Some f.kind) (fault_in k fs)
+
+-- the module at place p of level t has this fault
+abbrev pub HasFault : System → ℕ → List L.Symbol → ℕ → FaultKind → Type 0
+HasFault s t y p kind =
+    (l : List ℕ) (m : ModuleValue) → slice_get y p ≡ Some (Module l m)
+    → successor s t y p l m ≡ Err (fault_of kind)
+
+abbrev pub OutcomeBy : Option FaultKind → Type 0 → (FaultKind → Type 0) → Type 0
+OutcomeBy None answered faulted = answered
+OutcomeBy (Some kind) answered faulted = faulted kind
+
+-- What is kept of node k at place p of level t, if it isn't pending: the fault of its module, or the answer to its question.
+abbrev pub IsOutcome : Stage → ℕ → ℕ → ℕ → Type 0
+IsOutcome s t p k =
+    OutcomeBy (fault_in k s.faults) (AnsweredAt s.next t s.now s.root s.store p k)
+    (HasFault s.next t (level_to s.next s.limit t) p)
+
+-- The module at place p of level t of a new system has a question that is a candidate.
+pub record IsCandidate (old new : System) (limit t p : ℕ) : Type 0 where
+  pub line : List ℕ
+  pub own : ModuleValue
+  pub stands : slice_get (level_to new limit t) p ≡ Some (Module line own)
+  pub rules : group new t own.name (length own.params) ≡ [] → ⊥
+  pub is : is_candidate_at old new (meant old limit) t (level_to new limit t)
+      (module_question new t (level_to new limit t) p line own) ≡ true
+
+-- node k at place p of level t is still to be asked: a candidate, with the answer that it had, and no fault
+pub record IsOpen (s : Stage) (t p k : ℕ) : Type 0 where
+  pub pending : In k s.pending
+  pub candidate : IsCandidate s.system s.next s.limit t p
+  pub same : answer_at s.now k ≡ answer_at (was s) k
+  pub faultless : fault_in k s.faults ≡ None
+
+-- or it is not, and its outcome is kept
+pub record IsSettled (s : Stage) (t p k : ℕ) : Type 0 where
+  pub done : In k s.pending → ⊥
+  pub outcome : IsOutcome s t p k
+
+-- these are some of those, in order
+abbrev pub AreSome : List ℕ → List ℕ → Type 0
+AreSome [] ks = Unit {0}
+AreSome (j ∷ js) [] = ⊥
+AreSome (j ∷ js) (k ∷ ks) = ((j ≡ k) × AreSome js ks) ⊎ AreSome (j ∷ js) ks
+
+-- The nodes m up to level t are the levels of the system; what lies deeper is as it was in the nodes o of the last rest.
+pub record HasTree (m o : Nodes Kept) (root : ℕ) (new : System) (limit t : ℕ) : Type 0 where
+  pub spelled : WellSpelled new
+  pub below : t < new.depth
+  pub small : t < 2 ^ 32
+  pub is : meaning_to new limit t ≡ Ok (meant_to new limit t)
+  pub levels : HaveLevels m root new.seed (meant_to new limit t)
+  pub once : AreOnce (kins m) root
+  pub stay : Extends (kins o) (kins m)
+  pub kids : (k : ℕ) (n p : Node Kept) → m k ≡ Some n → o k ≡ Some p → n.depth ≡ t + 1
+      → n.kids ≡ p.kids
+  pub new_kids : (k : ℕ) (n : Node Kept) → m k ≡ Some n → o k ≡ None → n.depth ≡ t + 1
+      → n.kids ≡ []
+  pub deeper : (k : ℕ) (n : Node Kept) → o k ≡ Some n → t + 1 < n.depth → m k ≡ Some n
+  pub none_deeper : (k : ℕ) (n : Node Kept) → m k ≡ Some n → o k ≡ None → n.depth ≤ t + 1
+
+-- The questions above level t are answered, and on it those that are not pending, or their faults noted.
+pub record HasAnswers (s : Stage) (t : ℕ) : Type 0 where
+  pub above : (u p k : ℕ) → u < t → slice_get (level_nodes s.now s.root u) p ≡ Some k
+      → AnsweredAt s.next u s.now s.root s.store p k
+  pub here : (p k : ℕ) → slice_get (level_nodes s.now s.root t) p ≡ Some k
+      → IsOpen s t p k ⊎ IsSettled s t p k
+  pub in_order : AreSome s.pending (level_nodes s.now s.root t)
+  pub apart : AreApart s.pending
+
+-- Which answers are new, and which are gone or will be; what the new ones read is pending.
+pub record HasLists (s : Stage) (t : ℕ) : Type 0 where
+  pub read : (reader seen : ℕ) → (is_pending s.reads reader seen ≡ true)
+      ↔ (In reader s.renewed × HasRead s.now s.store reader seen)
+  pub renewed_are : (k : ℕ) → In k s.renewed
+      → (u : ℕ) × (u ≤ t) × In k (level_nodes s.now s.root u)
+  pub renewed_done : (k : ℕ) → In k s.renewed → In k s.pending → ⊥
+  pub dropped_are : (k u : ℕ) → In k s.dropped → u ≤ t → In k (level_nodes s.now s.root u)
+      → answer_at s.now k ≡ None
+  pub dropped_done : (k : ℕ) → In k s.dropped → In k s.pending → ⊥
+  pub kept : (k : ℕ) (a : Kept) → answer_at (was s) k ≡ Some a
+      → In k s.renewed ⊎ In k s.dropped ⊎ (answer_at s.now k ≡ Some a)
+  pub lost : (k u : ℕ) (a : Kept) → u ≤ t → answer_at (was s) k ≡ Some a
+      → In k (level_nodes (was s) s.root u)
+      → In k s.dropped ⊎ In k (level_nodes s.now s.root u)
+  pub fresh : (k : ℕ) (a : Kept) → answer_at s.now k ≡ Some a
+      → In k s.renewed ⊎ (answer_at (was s) k ≡ Some a)
+
+-- at level t
+pub record IsAtLevel (s : Stage) (t : ℕ) : Type 0 where
+  pub rest : Rests s
+  pub tree : HasTree s.now (was s) s.root s.next s.limit t
+  pub answers : HasAnswers s t
+  pub lists : HasLists s t
+
+-- 3. all levels are there
+
+pub record IsDone (s : Stage) : Type 0 where
+  pub rest : Rests s
+  pub spelled : WellSpelled s.next
+  pub is : meaning s.next s.limit ≡ Ok (meant s.next s.limit)
+  pub levels : HaveLevels s.now s.root s.next.seed (meant s.next s.limit)
+  pub ends : level_nodes s.now s.root (length (meant s.next s.limit)) ≡ []
+  pub once : AreOnce (kins s.now) s.root
+  pub stay : Extends (kins (was s)) (kins s.now)
+  pub answered : (t p k : ℕ) → t < s.next.depth → slice_get (level_nodes s.now s.root t) p ≡ Some k
+      → AnsweredAt s.next t s.now s.root s.store p k
+  pub last : (k : ℕ) → In k (level_nodes s.now s.root s.next.depth) → answer_at s.now k ≡ None
+  pub read : (reader seen : ℕ) → (is_pending s.reads reader seen ≡ true)
+      ↔ (In reader s.renewed × HasRead s.now s.store reader seen)
+  pub renewed_are : (k : ℕ) → In k s.renewed → Reached s.now s.root k
+  pub dropped_are : (k : ℕ) → In k s.dropped → Reached s.now s.root k → answer_at s.now k ≡ None
+  pub kept : (k : ℕ) (a : Kept) → answer_at (was s) k ≡ Some a
+      → In k s.renewed ⊎ In k s.dropped
+      ⊎ (Reached s.now s.root k × (answer_at s.now k ≡ Some a))
+  pub fresh : (k : ℕ) (a : Kept) → answer_at s.now k ≡ Some a
+      → In k s.renewed ⊎ (answer_at (was s) k ≡ Some a)

@@ -1,0 +1,13 @@
+//! The pass in place: the levels of a forest, which an edit repairs one after the other.
+//!
+//! What a contract sees of a pass, and what holds of it between calls, stands in `specs/Passes.antt`; what its calls do in
+//! `specs/Moves.antt`.
+#![tactic(auto)]
+
+mod fault;
+mod pass;
+mod state;
+
+pub use fault::Faulted;
+pub use pass::Pass;
+pub use state::PassState;

@@ -1,0 +1,12 @@
+use Rattle.std.proofs.Common.{◌∷◌, [], sym, ◌∙◌, subst, inl}
+use Rattle.std.proofs.lemmas.Option.{same_Some}
+use Rattle.lsys_forest.specs.Groves.{In}
+use Rattle.lsys_seats.proofs.SeamLemmas.{in_left, in_right}
+use Rattle.lsys_seats.proofs.seams.add.Goals as goal
+
+pub returns-in_ok-push-clause-added : goal.returns-in_ok-push-clause-added
+returns-in_ok-push-clause-added c = λ k is.
+    subst (In k) (sym c.in_ok-push.ensures.items) (in_right c.args.nodes.now.items (c.in-Some.found ∷ []) k (inl (same_Some k c.in-Some.found (sym is ∙ c.in-Some.is))))
+
+pub returns-in_ok-push-clause-keeps : goal.returns-in_ok-push-clause-keeps
+returns-in_ok-push-clause-keeps c = λ k h. subst (In k) (sym c.in_ok-push.ensures.items) (in_left c.args.nodes.now.items (c.in-Some.found ∷ []) k h)

@@ -1,0 +1,35 @@
+-- Who is looked at on the next level: the nodes whose neighbours may be others.
+use Rattle.std.specs.Prelude.{◌≡◌, ◌++◌, ◌∷◌, [], ℕ, List, Some}
+use Rattle.lsys_change.specs.Seams.{AreTouched}
+use Rattle.lsys_change.specs.Seams as seams
+use Rattle.lsys_forest.specs.Groves.{Grove, In, AreApart, now_of}
+use Rattle.lsys_forest.specs.Rows.{first_in, last_in, kids_in, kids_below, level_nodes, level_of_node, level_with}
+
+module _ {A : Type 0} where
+  -- These are among the nodes: the children of a node, the last child of those before it on its level, and the first child of
+  -- those behind it, where none stands twice there.
+  pub record LooksAround (f : Grove A) (q : ℕ) (nodes : List ℕ) : Type 0 where
+    pub children : (k : ℕ) → In k (kids_in (now_of f q)) → In k nodes
+    pub before : (k : ℕ) (left right : List ℕ) → AreApart (level_with f q) → level_with f q ≡ left ++ q ∷ right → last_in (kids_below (now_of f) left) ≡ Some k → In k nodes
+    pub behind : (k : ℕ) (left right : List ℕ) → AreApart (level_with f q) → level_with f q ≡ left ++ q ∷ right → first_in (kids_below (now_of f) right) ≡ Some k → In k nodes
+
+  -- the last child of those up to a node, and the first child of those from it on
+  pub record LooksBeyond (f : Grove A) (q : ℕ) (nodes : List ℕ) : Type 0 where
+    pub up_to : (k : ℕ) (left right : List ℕ) → level_with f q ≡ left ++ q ∷ right → last_in (kids_below (now_of f) (left ++ q ∷ [])) ≡ Some k → In k nodes
+    pub from : (k : ℕ) (left right : List ℕ) → level_with f q ≡ left ++ q ∷ right → first_in (kids_below (now_of f) (q ∷ right)) ≡ Some k → In k nodes
+
+  abbrev pub kids_of : Grove A → ℕ → List ℕ
+  kids_of f k = kids_in (now_of f k)
+
+  -- What was looked at below level t of a forest, where the nodes of that level were xs before, with the children `own`. Of
+  -- those that are there now, these are new or have other children; and the turned ones have another neighbour.
+  pub record AreLooked (f : Grove A) (t : ℕ) (own : ℕ → List ℕ) (xs touched turned looked : List ℕ) : Type 0 where
+    pub touched_level : (q : ℕ) → seams.In q touched → level_of_node f q ≡ t
+    pub turned_level : (q : ℕ) → seams.In q turned → level_of_node f q ≡ t
+    pub changed : AreTouched touched own (kids_of f) xs (level_nodes (now_of f) f.root t)
+    pub around : (q : ℕ) → seams.In q touched → LooksAround f q looked
+    pub beyond : (q : ℕ) → seams.In q turned → LooksBeyond f q looked
+
+  -- the level below
+  abbrev pub level_below : Grove A → ℕ → List ℕ
+  level_below f t = seams.flat (kids_of f) (level_nodes (now_of f) f.root t)
