@@ -7,10 +7,9 @@ use Rattle.lsys_io.specs.Feeds.{has_lf}
 use Rattle.lsys_io.specs.Reading.{PassesLimit}
 use Rattle.lsys_syntax.specs.Lines.{lines_of}
 use Rattle.lsys_syntax.specs.Limits.{most_script_bytes}
-use Rattle.lsys_spec.specs.Systems.{System}
 use Rattle.lsys_spec.specs.Refusals.{Reply}
-use Rattle.lsys_spec.specs.Replies.{reply}
-use Rattle.lsys_spec.specs.Output.{out, replies_from, followed, output_text, any_refusal, any_memory, any_end, none, whole_lines}
+use Rattle.lsys_spec.specs.Output.{output_text, any_refusal, any_memory, any_end, none, whole_lines}
+use Rattle.lsys_desks.specs.Desks.{Desk, DeskReply, desk_followed, desk_out, desk_replies_from}
 use Rattle.lsys_cli.specs.Ends.{within_limit, WroteOutput, WroteLacking, WroteLines, WroteFront, WroteGiven, WroteWithin, OfScript, Ends}
 use Rattle.lsys_cli.specs.Runs.{status_of}
 use Rattle.lsys_cli.specs.declared.status.Status.TheVariants.{Done, Refused, ReadFault, WriteFault, Memory, TooLong}
@@ -92,12 +91,12 @@ of_too_long limit script left old now h = record {
 output_of : (limit : ℕ) (script : List ℕ) (old now : Option (List ℕ)) (refused : Bool) → Finished limit script old now refused false → WroteOutput limit refused old now script
 output_of limit script old now refused k =
     let agree : (i : ℕ) → i < k.given.number → none i ≡ k.given.answered i = λ i l. sym (k.given.ample refl i l) in
-    let all : out (reply limit) script none ≡ k.given.replies = k.told none agree in
+    let all : desk_out limit script none ≡ k.given.replies = k.told none agree in
     record { written = rw all k.given.put; refusals = ap any_refusal all ∙ sym k.given.refusals; within = k.within none agree }
 
 lacking_of : (limit : ℕ) (script : List ℕ) (old now : Option (List ℕ)) (refused : Bool) → Finished limit script old now refused true → WroteLacking limit old now script
 lacking_of limit script old now refused k =
-    let all : out (reply limit) script k.given.answered ≡ k.given.replies = k.told k.given.answered (λ i l. refl) in
+    let all : desk_out limit script k.given.answered ≡ k.given.replies = k.told k.given.answered (λ i l. refl) in
     record { lacks = k.given.answered; written = rw all k.given.put; memories = ap any_memory all ∙ sym k.given.memories; within = k.within k.given.answered (λ i l. refl) }
 
 pub finished_ends : (limit : ℕ) (script : List ℕ) (left old now : Option (List ℕ)) (refused memory : Bool) → Finished limit script old now refused memory → Ends limit (Some script) left old now (status_of refused memory)
@@ -112,49 +111,49 @@ untold_ends limit left old now false false = of_done limit None left old now tt
 
 -- 3. a run that stopped behind some whole lines
 
-stopped_behind : (limit : ℕ) (script rest : List ℕ) (old now : Option (List ℕ)) (s : System) (refused memory : Bool) (taken : ℕ) (k : Running limit script rest old now s refused memory taken)
+stopped_behind : (limit : ℕ) (script rest : List ℕ) (old now : Option (List ℕ)) (d : Desk) (refused memory : Bool) (taken : ℕ) (k : Running limit script rest old now d refused memory taken)
     → (bytes more : List ℕ) → bytes ≡ k.front ++ more → has_lf more ≡ false → WroteLines limit old now bytes
-stopped_behind limit script rest old now s refused memory taken k bytes more e no_lf =
+stopped_behind limit script rest old now d refused memory taken k bytes more e no_lf =
     let whole : whole_lines bytes ≡ k.front ++ [] = ap whole_lines e ∙ k.whole more ∙ ap (λ t. k.front ++ t) (no_whole_line more no_lf) in
-    let all : out (reply limit) (whole_lines bytes) k.given.answered ≡ k.given.replies =
-    ap (λ t. out (reply limit) t k.given.answered) whole ∙ k.told [] k.given.answered (λ i l. refl) ∙ append-nil k.given.replies in
+    let all : desk_out limit (whole_lines bytes) k.given.answered ≡ k.given.replies =
+    ap (λ t. desk_out limit t k.given.answered) whole ∙ k.told [] k.given.answered (λ i l. refl) ∙ append-nil k.given.replies in
     record { lacks = k.given.answered; written = rw all k.given.put; no_quit = ap any_end all ∙ k.goes_on }
 
-pub past_limit : (limit : ℕ) (script rest : List ℕ) (old now : Option (List ℕ)) (s : System) (refused memory : Bool) (taken : ℕ) → Running limit script rest old now s refused memory taken
+pub past_limit : (limit : ℕ) (script rest : List ℕ) (old now : Option (List ℕ)) (d : Desk) (refused memory : Bool) (taken : ℕ) → Running limit script rest old now d refused memory taken
     → taken ≤ most_script_bytes → PassesLimit taken rest → WroteWithin limit old now script
-past_limit limit script rest old now s refused memory taken k small p =
+past_limit limit script rest old now d refused memory taken k small p =
     let n = most_script_bytes - taken in
     let sum : most_script_bytes ≡ length k.front + n = omega (arith, k.counted, small) in
     let cut : within_limit script ≡ k.front ++ take n rest = ap (λ m. take m script) sum ∙ ap (take (length k.front + n)) k.split ∙ take-append-add k.front rest n in
     record {
       past = omega (arith, p.past, k.counted, ap length k.split, length-append k.front rest);
-      lines = stopped_behind limit script rest old now s refused memory taken k (within_limit script) (take n rest) cut p.no_end;
+      lines = stopped_behind limit script rest old now d refused memory taken k (within_limit script) (take n rest) cut p.no_end;
     }
 
-pub read_fault_at : (limit : ℕ) (script rest : List ℕ) (left old now : Option (List ℕ)) (s : System) (refused memory : Bool) (taken : ℕ) → Running limit script rest old now s refused memory taken
+pub read_fault_at : (limit : ℕ) (script rest : List ℕ) (left old now : Option (List ℕ)) (d : Desk) (refused memory : Bool) (taken : ℕ) → Running limit script rest old now d refused memory taken
     → (given : List ℕ) → Consumes (Some rest) left given → has_lf given ≡ false → taken + length given ≤ most_script_bytes → WroteGiven limit left old now script
-read_fault_at limit script rest None old now s refused memory taken k given c no_lf small = absurd c
-read_fault_at limit script rest (Some left) old now s refused memory taken k given c no_lf small = record {
+read_fault_at limit script rest None old now d refused memory taken k given c no_lf small = absurd c
+read_fault_at limit script rest (Some left) old now d refused memory taken k given c no_lf small = record {
   given = k.front ++ given;
   taken = k.split ∙ ap (λ t. k.front ++ t) c ∙ sym (append_assoc k.front given left);
   within = omega (arith, small, k.counted, length-append k.front given);
-  lines = stopped_behind limit script rest old now s refused memory taken k (k.front ++ given) given refl no_lf;
+  lines = stopped_behind limit script rest old now d refused memory taken k (k.front ++ given) given refl no_lf;
 }
 
 -- 4. a run whose sink failed at a line
 
-more_replies : (r : Reply) (rest : System → List Reply) → (more : List Reply) × (followed r rest ≡ r ∷ more)
-more_replies r rest = (elim r.ends [ true ↦ [] | false ↦ rest r.next ], refl)
+more_replies : (r : DeskReply) (rest : Desk → List Reply) → (more : List Reply) × (desk_followed r rest ≡ r.reply ∷ more)
+more_replies r rest = (elim r.reply.ends [ true ↦ [] | false ↦ rest r.next ], refl)
 
-pub broke_at : (limit : ℕ) (script rest line : List ℕ) (lines : List (List ℕ)) (old now now' : Option (List ℕ)) (s : System) (refused memory : Bool) (taken : ℕ) → Running limit script rest old now s refused memory taken
-    → lines_of rest ≡ line ∷ lines → Broke limit s line now now' → WroteFront limit old now' script
-broke_at limit script rest line lines old now now' s refused memory taken k first b =
+pub broke_at : (limit : ℕ) (script rest line : List ℕ) (lines : List (List ℕ)) (old now now' : Option (List ℕ)) (d : Desk) (refused memory : Bool) (taken : ℕ) → Running limit script rest old now d refused memory taken
+    → lines_of rest ≡ line ∷ lines → Broke limit d line now now' → WroteFront limit old now' script
+broke_at limit script rest line lines old now now' d refused memory taken k first b =
     let M = with_answer k.given.number b.lacks k.given.answered in
-    let more = more_replies b.reply (λ next. replies_from (reply limit) M (k.given.number + 1) next lines) in
-    let P : List (List ℕ) → Type 0 = λ ls. out (reply limit) (k.front ++ rest) M ≡ k.given.replies ++ replies_from (reply limit) M k.given.number s ls in
+    let more = more_replies b.answer (λ next. desk_replies_from limit M (k.given.number + 1) next lines) in
+    let P : List (List ℕ) → Type 0 = λ ls. desk_out limit (k.front ++ rest) M ≡ k.given.replies ++ desk_replies_from limit M k.given.number d ls in
     let told = subst P first (k.told rest M (agree_before k.given.number b.lacks k.given.answered M (λ i l. refl))) in
-    let all : out (reply limit) script M ≡ k.given.replies ++ (b.reply ∷ more.0) =
-    ap (λ t. out (reply limit) t M) k.split ∙ told
-    ∙ ap (λ u. k.given.replies ++ u) (one_line limit M k.given.number s line lines b.lacks b.reply (agree_here k.given.number b.lacks k.given.answered M (λ i l. refl)) b.is.is ∙ more.1) in
-    let text : output_text (out (reply limit) script M) ≡ output_text k.given.replies ++ (b.reply.text ++ output_text more.0) = ap output_text all ∙ flat_map-append (λ x. x.text) k.given.replies (b.reply ∷ more.0) in
-    record { lacks = M; written = rw text (then_front old now now' (output_text k.given.replies) b.reply.text (output_text more.0) k.given.put b.front) }
+    let all : desk_out limit script M ≡ k.given.replies ++ (b.answer.reply ∷ more.0) =
+    ap (λ t. desk_out limit t M) k.split ∙ told
+    ∙ ap (λ u. k.given.replies ++ u) (one_line limit M k.given.number d line lines b.lacks b.answer (agree_here k.given.number b.lacks k.given.answered M (λ i l. refl)) b.is.is ∙ more.1) in
+    let text : output_text (desk_out limit script M) ≡ output_text k.given.replies ++ (b.answer.reply.text ++ output_text more.0) = ap output_text all ∙ flat_map-append (λ x. x.text) k.given.replies (b.answer.reply ∷ more.0) in
+    record { lacks = M; written = rw text (then_front old now now' (output_text k.given.replies) b.answer.reply.text (output_text more.0) k.given.put b.front) }

@@ -1,10 +1,9 @@
 -- From a run over a script to the program.
 use Rattle.std.proofs.Common.{◌≡◌, ◌≢◌, ◌⊎◌, ◌+◌, ◌&&◌, ◌||◌, ℕ, Bool, true, false, inl, inr, Option, Some, None, List, [], ◌∷◌, refl, ap, sym, subst, ◌∙◌, arith}
-use Rattle.lsys_spec.specs.Systems.{System}
 use Rattle.lsys_spec.specs.Refusals.{Reply}
-use Rattle.lsys_spec.specs.Replies.{reply}
 use Rattle.lsys_spec.specs.Samples.{sample}
-use Rattle.lsys_spec.specs.Output.{replies_from, followed, reply_or_memory, memory_or, may_lack_memory, any_refusal, any_memory, any_end, none, whole_lines}
+use Rattle.lsys_spec.specs.Output.{may_lack_memory, any_refusal, any_memory, any_end, none, whole_lines}
+use Rattle.lsys_desks.specs.Desks.{Desk, DeskReply, desk_followed, desk_memory_or, desk_replies_from, desk_reply, desk_reply_or_memory}
 use Rattle.lsys_words.specs.declared.Options.{Options}
 use Rattle.std.specs.Option.{IfSome}
 use Rattle.lsys_words.specs.Words.{HasLimit, options_by}
@@ -45,9 +44,9 @@ by_sample o n J U told left w now status e k (inr h) =
 
 -- 2. replies without `refused memory`
 
-bare : (b : Bool) (s : System) (r : Reply) → (memory_or b s r).is_memory ≡ false → memory_or b s r ≡ r
-bare true s r h = cc
-bare false s r h = refl
+bare : (b : Bool) (d : Desk) (r : DeskReply) → (desk_memory_or b d r).reply.is_memory ≡ false → desk_memory_or b d r ≡ r
+bare true d r h = cc
+bare false d r h = refl
 
 neither : (a b : Bool) → (a || b) ≡ false → (a ≡ false) × (b ≡ false)
 neither true b h = cc
@@ -60,16 +59,16 @@ tail : (ends : Bool) (xs ys : List Reply) → (any_memory xs ≡ false → xs �
 tail true xs ys h m = refl
 tail false xs ys h m = h m
 
-ample : (answer : System → List ℕ → Reply) (M : ℕ → Bool) (n : ℕ) (s : System) (lines : List (List ℕ)) → any_memory (replies_from answer M n s lines) ≡ false → replies_from answer M n s lines ≡ replies_from answer none n s lines
-ample answer M n s [] h = refl
-ample answer M n s (line ∷ lines) h =
-    let r = reply_or_memory answer (M n) s line in
-    let q = answer s line in
-    let same : r ≡ q = bare (M n && may_lack_memory line) s q (neither r.is_memory (any_memory (unless r.ends (replies_from answer M (n + 1) r.next lines))) h).0 in
-    let P : Reply → Type 0 = λ x. any_memory (followed x (λ next. replies_from answer M (n + 1) next lines)) ≡ false in
-    let later = (neither q.is_memory (any_memory (unless q.ends (replies_from answer M (n + 1) q.next lines))) (subst P same h)).1 in
-    ap (λ x. followed x (λ next. replies_from answer M (n + 1) next lines)) same
-    ∙ ap (λ t. q ∷ t) (tail q.ends (replies_from answer M (n + 1) q.next lines) (replies_from answer none (n + 1) q.next lines) (ample answer M (n + 1) q.next lines) later)
+ample : (limit : ℕ) (M : ℕ → Bool) (n : ℕ) (d : Desk) (lines : List (List ℕ)) → any_memory (desk_replies_from limit M n d lines) ≡ false → desk_replies_from limit M n d lines ≡ desk_replies_from limit none n d lines
+ample limit M n d [] h = refl
+ample limit M n d (line ∷ lines) h =
+    let r = desk_reply_or_memory limit (M n) d line in
+    let q = desk_reply limit d line in
+    let same : r ≡ q = bare (M n && may_lack_memory line) d q (neither r.reply.is_memory (any_memory (unless r.reply.ends (desk_replies_from limit M (n + 1) r.next lines))) h).0 in
+    let P : DeskReply → Type 0 = λ x. any_memory (desk_followed x (λ next. desk_replies_from limit M (n + 1) next lines)) ≡ false in
+    let later = (neither q.reply.is_memory (any_memory (unless q.reply.ends (desk_replies_from limit M (n + 1) q.next lines))) (subst P same h)).1 in
+    ap (λ x. desk_followed x (λ next. desk_replies_from limit M (n + 1) next lines)) same
+    ∙ ap (λ t. q.reply ∷ t) (tail q.reply.ends (desk_replies_from limit M (n + 1) q.next lines) (desk_replies_from limit none (n + 1) q.next lines) (ample limit M (n + 1) q.next lines) later)
 
 -- 3. completeness
 
@@ -82,7 +81,7 @@ too_long : (limit : ℕ) (w now : Option (List ℕ)) (script : List ℕ) → Wro
 too_long limit w now script x within true h e = inr (inr (refl, record { lacks = h.lines.lacks; written = h.lines.written; memories = e }))
 too_long limit w now script x (inl short) false h e = absurd (omega (arith, short, h.past))
 too_long limit w now script x (inr quit) false h e =
-    let same = ample (reply limit) h.lines.lacks 1 _ _ e in
+    let same = ample limit h.lines.lacks 1 _ _ e in
     apart (any_end (replies limit (whole_lines (within_limit script)) none)) quit (ap any_end (sym same) ∙ h.lines.no_quit)
 
 pub complete : (limit : ℕ) (script : List ℕ) (left w now : Option (List ℕ)) (status : Status) → Ends limit (Some script) left w now status → status ≢ ReadFault → status ≢ WriteFault

@@ -7,10 +7,9 @@ use Rattle.std.proofs.Math.Bool.{or_assoc, or-false}
 use Rattle.lsys_io.specs.Feeds.{has_lf}
 use Rattle.lsys_syntax.specs.Lines.{lines_of}
 use Rattle.lsys_syntax.specs.Limits.{most_script_bytes}
-use Rattle.lsys_spec.specs.Systems.{System, opening}
 use Rattle.lsys_spec.specs.Refusals.{Reply}
-use Rattle.lsys_spec.specs.Replies.{reply}
-use Rattle.lsys_spec.specs.Output.{out, replies_from, followed, output_text, any_refusal, any_memory, any_end, none, reply_or_memory, whole_lines}
+use Rattle.lsys_spec.specs.Output.{output_text, any_refusal, any_memory, any_end, none, whole_lines}
+use Rattle.lsys_desks.specs.Desks.{Desk, DeskReply, desk_followed, desk_out, desk_replies_from, desk_reply_or_memory, opening_desk}
 use Rattle.std.proofs.Math.Seq.{take-append-add}
 use Rattle.lsys_cli.specs.Ends.{IsWithin, within_limit}
 use Rattle.lsys_session.specs.Answers.{refuses, lacks_memory, ends_session}
@@ -89,41 +88,41 @@ not_lacking true r h e = sym (h refl) ∙ e
 not_lacking false r h e = refl
 
 -- one reply more
-pub more_given : (limit : ℕ) (s next : System) (line : List ℕ) (old now now' : Option (List ℕ)) (refused memory : Bool) (o : Outcome) → Given old now refused memory → Replied limit s line now now' next o
+pub more_given : (limit : ℕ) (d next : Desk) (line : List ℕ) (old now now' : Option (List ℕ)) (refused memory : Bool) (o : Outcome) → Given old now refused memory → Replied limit d line now now' next o
     → Given old now' (refused || refuses o) (memory || lacks_memory o)
-more_given limit s next line old now now' refused memory o g a = record {
+more_given limit d next line old now now' refused memory o g a = record {
   number = g.number + 1;
   answered = with_answer g.number a.lacks g.answered;
-  replies = g.replies ++ a.reply ∷ [];
-  put = rw (text_push g.replies a.reply) (then old now now' (output_text g.replies) a.reply.text g.put a.put);
-  refusals = ap (λ b. refused || b) (sym a.refusal) ∙ ap (λ b. b || a.reply.is_refusal) g.refusals ∙ sym (any_refusal_push g.replies a.reply);
-  memories = ap (λ b. memory || b) (sym a.memory) ∙ ap (λ b. b || a.reply.is_memory) g.memories ∙ sym (any_memory_push g.replies a.reply);
+  replies = g.replies ++ a.answer.reply ∷ [];
+  put = rw (text_push g.replies a.answer.reply) (then old now now' (output_text g.replies) a.answer.reply.text g.put a.put);
+  refusals = ap (λ b. refused || b) (sym a.refusal) ∙ ap (λ b. b || a.answer.reply.is_refusal) g.refusals ∙ sym (any_refusal_push g.replies a.answer.reply);
+  memories = ap (λ b. memory || b) (sym a.memory) ∙ ap (λ b. b || a.answer.reply.is_memory) g.memories ∙ sym (any_memory_push g.replies a.answer.reply);
   ample = λ z.
       let w = or_no memory (lacks_memory o) z in
-      all_false g.number a.lacks g.answered (not_lacking a.lacks a.reply a.is.honest (a.memory ∙ w.1)) (g.ample w.0);
+      all_false g.number a.lacks g.answered (not_lacking a.lacks a.answer.reply a.is.honest (a.memory ∙ w.1)) (g.ample w.0);
 }
 
 -- 2. the replies that are still to come
 
-pub one_line : (limit : ℕ) (M : ℕ → Bool) (n : ℕ) (s : System) (line : List ℕ) (lines : List (List ℕ)) (b : Bool) (r : Reply) → M n ≡ b
-    → r ≡ reply_or_memory (reply limit) b s line → replies_from (reply limit) M n s (line ∷ lines) ≡ followed r (λ next. replies_from (reply limit) M (n + 1) next lines)
-one_line limit M n s line lines b r m e =
-    ap (λ x. followed (reply_or_memory (reply limit) x s line) (λ next. replies_from (reply limit) M (n + 1) next lines)) m
-    ∙ ap (λ x. followed x (λ next. replies_from (reply limit) M (n + 1) next lines)) (sym e)
+pub one_line : (limit : ℕ) (M : ℕ → Bool) (n : ℕ) (d : Desk) (line : List ℕ) (lines : List (List ℕ)) (b : Bool) (r : DeskReply) → M n ≡ b
+    → r ≡ desk_reply_or_memory limit b d line → desk_replies_from limit M n d (line ∷ lines) ≡ desk_followed r (λ next. desk_replies_from limit M (n + 1) next lines)
+one_line limit M n d line lines b r m e =
+    ap (λ x. desk_followed (desk_reply_or_memory limit x d line) (λ next. desk_replies_from limit M (n + 1) next lines)) m
+    ∙ ap (λ x. desk_followed x (λ next. desk_replies_from limit M (n + 1) next lines)) (sym e)
 
-goes_on_by : (r : Reply) (rest : System → List Reply) (next : System) → r.ends ≡ false → next ≡ r.next → followed r rest ≡ r ∷ rest next
-goes_on_by r rest next e n = ap (λ b. r ∷ elim b [ true ↦ [] | false ↦ rest r.next ]) e ∙ ap (λ x. r ∷ rest x) (sym n)
+goes_on_by : (r : DeskReply) (rest : Desk → List Reply) (next : Desk) → r.reply.ends ≡ false → next ≡ r.next → desk_followed r rest ≡ r.reply ∷ rest next
+goes_on_by r rest next e n = ap (λ b. r.reply ∷ elim b [ true ↦ [] | false ↦ rest r.next ]) e ∙ ap (λ x. r.reply ∷ rest x) (sym n)
 
-ends_by : (r : Reply) (rest : System → List Reply) → r.ends ≡ true → followed r rest ≡ r ∷ []
-ends_by r rest e = ap (λ b. r ∷ elim b [ true ↦ [] | false ↦ rest r.next ]) e
+ends_by : (r : DeskReply) (rest : Desk → List Reply) → r.reply.ends ≡ true → desk_followed r rest ≡ r.reply ∷ []
+ends_by r rest e = ap (λ b. r.reply ∷ elim b [ true ↦ [] | false ↦ rest r.next ]) e
 
 -- for each M that agrees, some bytes are answered by the replies so far and those to what is behind them
-abbrev pub Told : ℕ → ℕ → (ℕ → Bool) → List Reply → List ℕ → System → List (List ℕ) → Type 0
-Told limit number answered given bytes s lines = (M : ℕ → Bool) → Agrees number answered M → out (reply limit) bytes M ≡ given ++ replies_from (reply limit) M number s lines
+abbrev pub Told : ℕ → ℕ → (ℕ → Bool) → List Reply → List ℕ → Desk → List (List ℕ) → Type 0
+Told limit number answered given bytes d lines = (M : ℕ → Bool) → Agrees number answered M → desk_out limit bytes M ≡ given ++ desk_replies_from limit M number d lines
 
 -- and by the replies so far alone
 abbrev pub ToldAll : ℕ → ℕ → (ℕ → Bool) → List Reply → List ℕ → Type 0
-ToldAll limit number answered given bytes = (M : ℕ → Bool) → Agrees number answered M → out (reply limit) bytes M ≡ given
+ToldAll limit number answered given bytes = (M : ℕ → Bool) → Agrees number answered M → desk_out limit bytes M ≡ given
 
 pub agree_before : (n : ℕ) (b : Bool) (answered M : ℕ → Bool) → Agrees (n + 1) (with_answer n b answered) M → Agrees n answered M
 agree_before n b answered M agree i l = agree i (omega (arith, l)) ∙ before n b answered i l
@@ -131,31 +130,31 @@ agree_before n b answered M agree i l = agree i (omega (arith, l)) ∙ before n 
 pub agree_here : (n : ℕ) (b : Bool) (answered M : ℕ → Bool) → Agrees (n + 1) (with_answer n b answered) M → M n ≡ b
 agree_here n b answered M agree = agree n (omega arith) ∙ here n b answered
 
-told_more : (limit n : ℕ) (answered : ℕ → Bool) (given : List Reply) (bytes : List ℕ) (s next : System) (line : List ℕ) (lines : List (List ℕ)) (b : Bool) (r : Reply)
-    → Told limit n answered given bytes s (line ∷ lines) → IsReply limit s line b r → r.ends ≡ false → next ≡ r.next
-    → Told limit (n + 1) (with_answer n b answered) (given ++ r ∷ []) bytes next lines
-told_more limit n answered given bytes s next line lines b r told is e goes M agree =
+told_more : (limit n : ℕ) (answered : ℕ → Bool) (given : List Reply) (bytes : List ℕ) (d next : Desk) (line : List ℕ) (lines : List (List ℕ)) (b : Bool) (r : DeskReply)
+    → Told limit n answered given bytes d (line ∷ lines) → IsReply limit d line b r → r.reply.ends ≡ false → next ≡ r.next
+    → Told limit (n + 1) (with_answer n b answered) (given ++ r.reply ∷ []) bytes next lines
+told_more limit n answered given bytes d next line lines b r told is e goes M agree =
     told M (agree_before n b answered M agree)
-    ∙ ap (λ u. given ++ u) (one_line limit M n s line lines b r (agree_here n b answered M agree) is.is ∙ goes_on_by r (λ c. replies_from (reply limit) M (n + 1) c lines) next e goes)
-    ∙ sym (append_assoc given (r ∷ []) (replies_from (reply limit) M (n + 1) next lines))
+    ∙ ap (λ u. given ++ u) (one_line limit M n d line lines b r (agree_here n b answered M agree) is.is ∙ goes_on_by r (λ c. desk_replies_from limit M (n + 1) c lines) next e goes)
+    ∙ sym (append_assoc given (r.reply ∷ []) (desk_replies_from limit M (n + 1) next lines))
 
-told_end : (limit n : ℕ) (answered : ℕ → Bool) (given : List Reply) (bytes : List ℕ) (s : System) (line : List ℕ) (lines : List (List ℕ)) (b : Bool) (r : Reply)
-    → Told limit n answered given bytes s (line ∷ lines) → IsReply limit s line b r → r.ends ≡ true
-    → ToldAll limit (n + 1) (with_answer n b answered) (given ++ r ∷ []) bytes
-told_end limit n answered given bytes s line lines b r told is e M agree =
+told_end : (limit n : ℕ) (answered : ℕ → Bool) (given : List Reply) (bytes : List ℕ) (d : Desk) (line : List ℕ) (lines : List (List ℕ)) (b : Bool) (r : DeskReply)
+    → Told limit n answered given bytes d (line ∷ lines) → IsReply limit d line b r → r.reply.ends ≡ true
+    → ToldAll limit (n + 1) (with_answer n b answered) (given ++ r.reply ∷ []) bytes
+told_end limit n answered given bytes d line lines b r told is e M agree =
     told M (agree_before n b answered M agree)
-    ∙ ap (λ u. given ++ u) (one_line limit M n s line lines b r (agree_here n b answered M agree) is.is ∙ ends_by r (λ c. replies_from (reply limit) M (n + 1) c lines) e)
+    ∙ ap (λ u. given ++ u) (one_line limit M n d line lines b r (agree_here n b answered M agree) is.is ∙ ends_by r (λ c. desk_replies_from limit M (n + 1) c lines) e)
 
 -- 3. where a run stands
 
 -- The lines at the script's front were answered, none of them by an end, and the rest is still to come.
-pub record Running (limit : ℕ) (script rest : List ℕ) (old now : Option (List ℕ)) (s : System) (refused memory : Bool) (taken : ℕ) : Type 0 where
+pub record Running (limit : ℕ) (script rest : List ℕ) (old now : Option (List ℕ)) (d : Desk) (refused memory : Bool) (taken : ℕ) : Type 0 where
   pub given : Given old now refused memory
   pub front : List ℕ
   pub split : script ≡ front ++ rest
   pub counted : length front ≡ taken
   pub whole : (more : List ℕ) → whole_lines (front ++ more) ≡ front ++ whole_lines more
-  pub told : (more : List ℕ) → Told limit given.number given.answered given.replies (front ++ more) s (lines_of more)
+  pub told : (more : List ℕ) → Told limit given.number given.answered given.replies (front ++ more) d (lines_of more)
   pub goes_on : any_end given.replies ≡ false
 
 -- All lines up to the script's end, or up to a heeded `quit`, were answered.
@@ -164,7 +163,7 @@ pub record Finished (limit : ℕ) (script : List ℕ) (old now : Option (List �
   pub told : ToldAll limit given.number given.answered given.replies script
   pub within : (M : ℕ → Bool) → Agrees given.number given.answered M → IsWithin limit script M
 
-pub begin : (limit : ℕ) (script : List ℕ) (old : Option (List ℕ)) → Running limit script script old old opening false false 0
+pub begin : (limit : ℕ) (script : List ℕ) (old : Option (List ℕ)) → Running limit script script old old opening_desk false false 0
 unfolding none_given
 begin limit script old = record {
   given = none_given old;
@@ -177,24 +176,24 @@ begin limit script old = record {
 }
 
 -- a line with its LF
-pub line_more : (limit : ℕ) (script line after : List ℕ) (old now now' : Option (List ℕ)) (s next : System) (refused memory : Bool) (taken taken' : ℕ) (o : Outcome)
-    → Running limit script ((line ++ 10 ∷ []) ++ after) old now s refused memory taken → has_lf line ≡ false → taken' ≡ taken + length (line ++ 10 ∷ [])
-    → Replied limit s line now now' next o → ends_session o ≡ false
+pub line_more : (limit : ℕ) (script line after : List ℕ) (old now now' : Option (List ℕ)) (d next : Desk) (refused memory : Bool) (taken taken' : ℕ) (o : Outcome)
+    → Running limit script ((line ++ 10 ∷ []) ++ after) old now d refused memory taken → has_lf line ≡ false → taken' ≡ taken + length (line ++ 10 ∷ [])
+    → Replied limit d line now now' next o → ends_session o ≡ false
     → Running limit script after old now' next (refused || refuses o) (memory || lacks_memory o) taken'
 unfolding more_given with_answer
-line_more limit script line after old now now' s next refused memory taken taken' o k no_lf count a e = record {
-  given = more_given limit s next line old now now' refused memory o k.given a;
+line_more limit script line after old now now' d next refused memory taken taken' o k no_lf count a e = record {
+  given = more_given limit d next line old now now' refused memory o k.given a;
   front = k.front ++ (line ++ 10 ∷ []);
   split = k.split ∙ sym (append_assoc k.front (line ++ 10 ∷ []) after);
   counted = length-append k.front (line ++ 10 ∷ []) ∙ ap (λ n. n + length (line ++ 10 ∷ [])) k.counted ∙ sym count;
   whole = λ more.
       ap whole_lines (joined more) ∙ k.whole (line ++ 10 ∷ more) ∙ ap (λ t. k.front ++ t) (whole_to_feed line more) ∙ sym (joined (whole_lines more));
   told = λ more.
-      let P : List ℕ → Type 0 = λ t. Told limit k.given.number k.given.answered k.given.replies t s (lines_of (line ++ 10 ∷ more)) in
-      let Q : List (List ℕ) → Type 0 = λ ls. Told limit k.given.number k.given.answered k.given.replies ((k.front ++ (line ++ 10 ∷ [])) ++ more) s ls in
-      told_more limit k.given.number k.given.answered k.given.replies ((k.front ++ (line ++ 10 ∷ [])) ++ more) s next line (lines_of more) a.lacks a.reply
+      let P : List ℕ → Type 0 = λ t. Told limit k.given.number k.given.answered k.given.replies t d (lines_of (line ++ 10 ∷ more)) in
+      let Q : List (List ℕ) → Type 0 = λ ls. Told limit k.given.number k.given.answered k.given.replies ((k.front ++ (line ++ 10 ∷ [])) ++ more) d ls in
+      told_more limit k.given.number k.given.answered k.given.replies ((k.front ++ (line ++ 10 ∷ [])) ++ more) d next line (lines_of more) a.lacks a.answer
       (subst Q (first_line line more no_lf) (subst P (sym (joined more)) (k.told (line ++ 10 ∷ more)))) a.is (a.ends ∙ e) a.next;
-  goes_on = any_end_push k.given.replies a.reply ∙ ap (λ b. b || a.reply.ends) k.goes_on ∙ (a.ends ∙ e);
+  goes_on = any_end_push k.given.replies a.answer.reply ∙ ap (λ b. b || a.answer.reply.ends) k.goes_on ∙ (a.ends ∙ e);
 }
   where
     joined : (more : List ℕ) → (k.front ++ (line ++ 10 ∷ [])) ++ more ≡ k.front ++ (line ++ 10 ∷ more)
@@ -213,78 +212,78 @@ cut_behind script line after front taken split count small =
     ∙ take-append-add front ((line ++ 10 ∷ []) ++ after) (length (line ++ 10 ∷ []) + n)
     ∙ ap (λ t. front ++ t) (take-append-add (line ++ 10 ∷ []) after n ∙ append_assoc line (10 ∷ []) (take n after))
 
-at_script : (limit : ℕ) (script line : List ℕ) (s : System) (front : List ℕ) (n : ℕ) (answered : ℕ → Bool) (given : List Reply) → script ≡ front ++ line → lines_of line ≡ line ∷ []
-    → Told limit n answered given (front ++ line) s (lines_of line) → Told limit n answered given script s (line ∷ [])
-at_script limit script line s front n answered given split one told =
-    let P : List ℕ → Type 0 = λ t. Told limit n answered given t s (line ∷ []) in
-    let Q : List (List ℕ) → Type 0 = λ ls. Told limit n answered given (front ++ line) s ls in
+at_script : (limit : ℕ) (script line : List ℕ) (d : Desk) (front : List ℕ) (n : ℕ) (answered : ℕ → Bool) (given : List Reply) → script ≡ front ++ line → lines_of line ≡ line ∷ []
+    → Told limit n answered given (front ++ line) d (lines_of line) → Told limit n answered given script d (line ∷ [])
+at_script limit script line d front n answered given split one told =
+    let P : List ℕ → Type 0 = λ t. Told limit n answered given t d (line ∷ []) in
+    let Q : List (List ℕ) → Type 0 = λ ls. Told limit n answered given (front ++ line) d ls in
     subst P (sym split) (subst Q one told)
 
-last_told : (limit : ℕ) (script line : List ℕ) (s : System) (n : ℕ) (answered : ℕ → Bool) (given : List Reply) (next : System) (b : Bool) (r : Reply)
-    → Told limit n answered given script s (line ∷ []) → IsReply limit s line b r → r.ends ≡ false → next ≡ r.next
-    → ToldAll limit (n + 1) (with_answer n b answered) (given ++ r ∷ []) script
-last_told limit script line s n answered given next b r told is e goes M agree =
-    told_more limit n answered given script s next line [] b r told is e goes M agree ∙ append-nil (given ++ r ∷ [])
+last_told : (limit : ℕ) (script line : List ℕ) (d : Desk) (n : ℕ) (answered : ℕ → Bool) (given : List Reply) (next : Desk) (b : Bool) (r : DeskReply)
+    → Told limit n answered given script d (line ∷ []) → IsReply limit d line b r → r.reply.ends ≡ false → next ≡ r.next
+    → ToldAll limit (n + 1) (with_answer n b answered) (given ++ r.reply ∷ []) script
+last_told limit script line d n answered given next b r told is e goes M agree =
+    told_more limit n answered given script d next line [] b r told is e goes M agree ∙ append-nil (given ++ r.reply ∷ [])
 
 -- the last line, which has no LF
-pub line_last : (limit : ℕ) (script line : List ℕ) (old now now' : Option (List ℕ)) (s next : System) (refused memory : Bool) (taken : ℕ) (o : Outcome)
-    → Running limit script line old now s refused memory taken → lines_of line ≡ line ∷ [] → taken + length line ≤ most_script_bytes
-    → Replied limit s line now now' next o → ends_session o ≡ false
+pub line_last : (limit : ℕ) (script line : List ℕ) (old now now' : Option (List ℕ)) (d next : Desk) (refused memory : Bool) (taken : ℕ) (o : Outcome)
+    → Running limit script line old now d refused memory taken → lines_of line ≡ line ∷ [] → taken + length line ≤ most_script_bytes
+    → Replied limit d line now now' next o → ends_session o ≡ false
     → Finished limit script old now' (refused || refuses o) (memory || lacks_memory o)
 unfolding more_given with_answer
-line_last limit script line old now now' s next refused memory taken o k one small a e = record {
-  given = more_given limit s next line old now now' refused memory o k.given a;
+line_last limit script line old now now' d next refused memory taken o k one small a e = record {
+  given = more_given limit d next line old now now' refused memory o k.given a;
   told = λ M agree.
-      last_told limit script line s k.given.number k.given.answered k.given.replies next a.lacks a.reply
-      (at_script limit script line s k.front k.given.number k.given.answered k.given.replies k.split one (k.told line)) a.is (a.ends ∙ e) a.next M agree;
+      last_told limit script line d k.given.number k.given.answered k.given.replies next a.lacks a.answer
+      (at_script limit script line d k.front k.given.number k.given.answered k.given.replies k.split one (k.told line)) a.is (a.ends ∙ e) a.next M agree;
   within = λ M _. inl (script_length limit script line k.front taken k.split k.counted small);
 }
 
 -- a heeded `quit` with its LF
-pub quit_within : (limit : ℕ) (script line after : List ℕ) (old now now' : Option (List ℕ)) (s next : System) (refused memory : Bool) (taken : ℕ) (o : Outcome)
-    → Running limit script ((line ++ 10 ∷ []) ++ after) old now s refused memory taken → has_lf line ≡ false → taken + length (line ++ 10 ∷ []) ≤ most_script_bytes
-    → Replied limit s line now now' next o → ends_session o ≡ true
+pub quit_within : (limit : ℕ) (script line after : List ℕ) (old now now' : Option (List ℕ)) (d next : Desk) (refused memory : Bool) (taken : ℕ) (o : Outcome)
+    → Running limit script ((line ++ 10 ∷ []) ++ after) old now d refused memory taken → has_lf line ≡ false → taken + length (line ++ 10 ∷ []) ≤ most_script_bytes
+    → Replied limit d line now now' next o → ends_session o ≡ true
     → Finished limit script old now' (refused || refuses o) (memory || lacks_memory o)
 unfolding more_given with_answer
-quit_within limit script line after old now now' s next refused memory taken o k no_lf small a e = record {
-  given = more_given limit s next line old now now' refused memory o k.given a;
+quit_within limit script line after old now now' d next refused memory taken o k no_lf small a e = record {
+  given = more_given limit d next line old now now' refused memory o k.given a;
   told =
-      let P : List ℕ → Type 0 = λ t. ToldAll limit (k.given.number + 1) (with_answer k.given.number a.lacks k.given.answered) (k.given.replies ++ a.reply ∷ []) t in
+      let P : List ℕ → Type 0 = λ t. ToldAll limit (k.given.number + 1) (with_answer k.given.number a.lacks k.given.answered) (k.given.replies ++ a.answer.reply ∷ []) t in
       subst P (sym (k.split ∙ ap (λ t. k.front ++ t) (append_assoc line (10 ∷ []) after))) (all after);
   within = λ M agree.
       let cut : within_limit script ≡ k.front ++ (line ++ 10 ∷ take (most_script_bytes - (taken + length (line ++ 10 ∷ []))) after) = cut_behind script line after k.front taken k.split k.counted small in
       let whole = ap whole_lines cut ∙ k.whole (line ++ 10 ∷ take (most_script_bytes - (taken + length (line ++ 10 ∷ []))) after)
       ∙ ap (λ t. k.front ++ t) (whole_to_feed line (take (most_script_bytes - (taken + length (line ++ 10 ∷ []))) after)) in
-      inr (ap (λ t. any_end (out (reply limit) t M)) whole ∙ ap any_end (all (whole_lines (take (most_script_bytes - (taken + length (line ++ 10 ∷ []))) after)) M agree)
-      ∙ any_end_push k.given.replies a.reply ∙ ap (λ b. b || a.reply.ends) k.goes_on ∙ (a.ends ∙ e));
+      inr (ap (λ t. any_end (desk_out limit t M)) whole ∙ ap any_end (all (whole_lines (take (most_script_bytes - (taken + length (line ++ 10 ∷ []))) after)) M agree)
+      ∙ any_end_push k.given.replies a.answer.reply ∙ ap (λ b. b || a.answer.reply.ends) k.goes_on ∙ (a.ends ∙ e));
 }
   where
-    all : (more : List ℕ) → ToldAll limit (k.given.number + 1) (with_answer k.given.number a.lacks k.given.answered) (k.given.replies ++ a.reply ∷ []) (k.front ++ (line ++ 10 ∷ more))
+    all : (more : List ℕ) → ToldAll limit (k.given.number + 1) (with_answer k.given.number a.lacks k.given.answered) (k.given.replies ++ a.answer.reply ∷ []) (k.front ++ (line ++ 10 ∷ more))
     all more =
-        let Q : List (List ℕ) → Type 0 = λ ls. Told limit k.given.number k.given.answered k.given.replies (k.front ++ (line ++ 10 ∷ more)) s ls in
-        told_end limit k.given.number k.given.answered k.given.replies (k.front ++ (line ++ 10 ∷ more)) s line (lines_of more) a.lacks a.reply
+        let Q : List (List ℕ) → Type 0 = λ ls. Told limit k.given.number k.given.answered k.given.replies (k.front ++ (line ++ 10 ∷ more)) d ls in
+        told_end limit k.given.number k.given.answered k.given.replies (k.front ++ (line ++ 10 ∷ more)) d line (lines_of more) a.lacks a.answer
         (subst Q (first_line line more no_lf) (k.told (line ++ 10 ∷ more))) a.is (a.ends ∙ e)
 
 -- and without
-pub quit_last : (limit : ℕ) (script line : List ℕ) (old now now' : Option (List ℕ)) (s next : System) (refused memory : Bool) (taken : ℕ) (o : Outcome)
-    → Running limit script line old now s refused memory taken → lines_of line ≡ line ∷ [] → taken + length line ≤ most_script_bytes
-    → Replied limit s line now now' next o → ends_session o ≡ true
+pub quit_last : (limit : ℕ) (script line : List ℕ) (old now now' : Option (List ℕ)) (d next : Desk) (refused memory : Bool) (taken : ℕ) (o : Outcome)
+    → Running limit script line old now d refused memory taken → lines_of line ≡ line ∷ [] → taken + length line ≤ most_script_bytes
+    → Replied limit d line now now' next o → ends_session o ≡ true
     → Finished limit script old now' (refused || refuses o) (memory || lacks_memory o)
 unfolding more_given with_answer
-quit_last limit script line old now now' s next refused memory taken o k one small a e = record {
-  given = more_given limit s next line old now now' refused memory o k.given a;
+quit_last limit script line old now now' d next refused memory taken o k one small a e = record {
+  given = more_given limit d next line old now now' refused memory o k.given a;
   told =
-      told_end limit k.given.number k.given.answered k.given.replies script s line [] a.lacks a.reply
-      (at_script limit script line s k.front k.given.number k.given.answered k.given.replies k.split one (k.told line)) a.is (a.ends ∙ e);
+      told_end limit k.given.number k.given.answered k.given.replies script d line [] a.lacks a.answer
+      (at_script limit script line d k.front k.given.number k.given.answered k.given.replies k.split one (k.told line)) a.is (a.ends ∙ e);
   within = λ M _. inl (script_length limit script line k.front taken k.split k.counted small);
 }
 
 -- no byte is left behind the lines
-pub no_more : (limit : ℕ) (script : List ℕ) (old now : Option (List ℕ)) (s : System) (refused memory : Bool) (taken : ℕ)
-    → Running limit script [] old now s refused memory taken → taken ≤ most_script_bytes → Finished limit script old now refused memory
-no_more limit script old now s refused memory taken k small = record {
+pub no_more : (limit : ℕ) (script : List ℕ) (old now : Option (List ℕ)) (d : Desk) (refused memory : Bool) (taken : ℕ)
+    → Running limit script [] old now d refused memory taken → taken ≤ most_script_bytes → Finished limit script old now refused memory
+no_more limit script old now d refused memory taken k small = record {
   given = k.given;
   told = λ M agree.
-      ap (λ t. out (reply limit) t M) k.split ∙ k.told [] M agree ∙ append-nil k.given.replies;
+      ap (λ t. desk_out limit t M) k.split ∙ k.told [] M agree ∙ append-nil k.given.replies;
   within = λ M _. inl (script_length limit script [] k.front taken k.split k.counted (omega (arith, small)));
 }

@@ -5,14 +5,14 @@ use Rattle.std.specs.Io.KnownBytes.{Appends, Consumes}
 use Rattle.lsys_io.specs.Writes.{AppendsFront}
 use Rattle.lsys_syntax.specs.Limits.{most_script_bytes}
 use Rattle.lsys_spec.specs.Refusals.{Reply}
-use Rattle.lsys_spec.specs.Replies.{reply}
-use Rattle.lsys_spec.specs.Output.{out, output_text, any_refusal, any_memory, none, quits, whole_lines}
+use Rattle.lsys_spec.specs.Output.{output_text, any_refusal, any_memory, any_end, none, whole_lines}
+use Rattle.lsys_desks.specs.Desks.{desk_out}
 use Rattle.lsys_cli.specs.declared.status.Status.{Status}
 use Rattle.lsys_cli.specs.declared.status.Status.TheVariants.{Done, Refused, Usage, ReadFault, WriteFault, Memory, TooLong}
 
--- the replies to a script, of which the lines in M are refused for want of memory
+-- the replies of a desk to a script, of which the lines in M are refused for want of memory
 abbrev pub replies : ℕ → List ℕ → (ℕ → Bool) → List Reply
-replies limit script M = out (reply limit) script M
+replies limit script M = desk_out limit script M
 
 -- the bytes before the script's 16,777,217th
 abbrev pub within_limit : List ℕ → List ℕ
@@ -20,7 +20,7 @@ within_limit script = take most_script_bytes script
 
 -- A heeded `quit` stands among the whole lines of some bytes.
 abbrev pub heeds_quit : ℕ → List ℕ → (ℕ → Bool) → Bool
-heeds_quit limit bytes M = quits (reply limit) (whole_lines bytes) M
+heeds_quit limit bytes M = any_end (replies limit (whole_lines bytes) M)
 
 -- The script is within its length; what stands behind the line of a heeded `quit` doesn't count.
 abbrev pub IsWithin : ℕ → List ℕ → (ℕ → Bool) → Type 0

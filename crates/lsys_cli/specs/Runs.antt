@@ -4,9 +4,9 @@ use Rattle.std.specs.declared.option.Option.{Option}
 use Rattle.lsys_io.specs.declared.Failed.{Failed}
 use Rattle.lsys_io.specs.declared.lines.LineRead.{LineRead}
 use Rattle.lsys_io.specs.declared.lines.LineRead.TheVariants as reads
-use Rattle.lsys_spec.specs.Systems.{System}
 use Rattle.lsys_spec.specs.Refusals.{refused}
-use Rattle.lsys_session.specs.Answers.{Answers}
+use Rattle.lsys_desks.specs.Desks.{Desk}
+use Rattle.lsys_desk.specs.Answers.{Answers}
 use Rattle.lsys_session.specs.Requests.{refusal_line}
 use Rattle.lsys_session.specs.Sessions.{Says}
 use Rattle.lsys_rules.specs.declared.refusal.Refusal.TheVariants as refusals
@@ -22,12 +22,12 @@ status_of true false = Refused
 status_of false false = Done
 
 -- the line is refused as too long, and changes nothing
-pub record AnswersLong {K : Type 0} (written : K → Option (List ℕ)) (faults : K → ℕ) (sink_old sink_new : K) (held : List ℕ) (old new : System) (result : Result Outcome Failed) : Type 0 where
+pub record AnswersLong {K : Type 0} (written : K → Option (List ℕ)) (faults : K → ℕ) (sink_old sink_new : K) (held : List ℕ) (old new : Desk) (result : Result Outcome Failed) : Type 0 where
   pub says : Says written faults sink_old sink_new held (refusal_line refusals.LongLine) outcomes.Refused result
   pub stays : new ≡ old
 
 -- the reply to a line that is told, or to one that is too long
-abbrev pub AnswersRead : {K : Type 0} → (K → Option (List ℕ)) → (K → ℕ) → K → K → List ℕ → LineRead → ℕ → System → System → List ℕ → Result Outcome Failed → Type 0
+abbrev pub AnswersRead : {K : Type 0} → (K → Option (List ℕ)) → (K → ℕ) → K → K → List ℕ → LineRead → ℕ → Desk → Desk → List ℕ → Result Outcome Failed → Type 0
 AnswersRead written faults sink_old sink_new held reads.Line limit old new line result = Answers written faults sink_old sink_new held limit old new line result
 AnswersRead written faults sink_old sink_new held reads.Long limit old new line result = AnswersLong written faults sink_old sink_new held old new result
 AnswersRead written faults sink_old sink_new held reads.End limit old new line result = Unit {0}

@@ -2,16 +2,18 @@
 ghost use Rattle.std.specs.Prelude.{◌≡◌, ℕ, List, [], ◌≤◌, ◌≢◌, ◌||◌, true, false, OnOk, OnErr};
 ghost use Rattle.lsys_io.specs.Causes.{Rose};
 ghost use Rattle.lsys_io.specs.declared.lines.Stage.TheVariants.{Going};
-ghost use Rattle.lsys_spec.specs.Systems.{opening};
+ghost use Rattle.lsys_desk.specs.Views.{desk_on};
+ghost use Rattle.lsys_desks.specs.Desks.{opening_desk};
 ghost use Rattle.lsys_session.specs.Answers.{refuses, lacks_memory};
 ghost use Rattle.lsys_cli.specs.Ends.{Ends};
 ghost use Rattle.lsys_cli.specs.Runs.{status_of, AnswersRead};
 
 use crate::status::Status;
+use lsys_desk::Desk;
 use lsys_io::{Buffered, Failed, LineRead, LineReader, LineRefusal, Sink, Source};
 use lsys_match::{Derivation, Steps};
 use lsys_rules::Refusal;
-use lsys_session::{Outcome, Session, refuse};
+use lsys_session::{Outcome, refuse};
 use std::alloc::Global;
 use std::sync::ledger::Ledger;
 
@@ -63,7 +65,7 @@ impl Tally {
 /// Answers the lines of the source to its end or to `quit`.
 pub fn run<S: Source, K: Sink, L: Ledger, V: Ledger, D: Derivation<L> + Drop>(
     alloc: Global,
-    session: &mut Session<L, D>,
+    desk: &mut Desk<L, D>,
     reader: &mut LineReader,
     out: &mut Buffered,
     source: &mut S,
@@ -71,10 +73,10 @@ pub fn run<S: Source, K: Sink, L: Ledger, V: Ledger, D: Derivation<L> + Drop>(
     asked: &mut Steps<L>,
     visited: &mut Steps<V>,
 ) -> Status
-    requires opening { D.system_of session.old ≡ opening }
+    requires opening { desk_on D.system_of desk.old ≡ opening_desk }
     requires empty { out.old ≡ [] }
     requires fresh { reader.old ≡ record { held = []; taken = 0; line = []; stage = Going } }
-    ensures ends { Ends (D.limit_of session.old) (S.left source.old) (S.left source.new)
+    ensures ends { Ends (D.limit_of desk.old.derivation) (S.left source.old) (S.left source.new)
         (K.written sink.old) (K.written sink.new) result }
     ensures read_fault_only_where_rose { result ≡ Status.ReadFault → Rose (S.faults source.old) (S.faults source.new) }
     ensures write_fault_only_where_rose { result ≡ Status.WriteFault → Rose (K.faults sink.old) (K.faults sink.new) }
@@ -91,16 +93,8 @@ pub fn run<S: Source, K: Sink, L: Ledger, V: Ledger, D: Derivation<L> + Drop>(
         if read == LineRead::End {
             return tally.status();
         }
-        let Ok(outcome) = answer_line(
-            alloc,
-            session,
-            read,
-            reader.line(),
-            out,
-            sink,
-            asked,
-            visited,
-        ) else {
+        let Ok(outcome) = answer_line(alloc, desk, read, reader.line(), out, sink, asked, visited)
+        else {
             return Status::WriteFault;
         };
         tally = tally.with(outcome);
@@ -113,7 +107,7 @@ pub fn run<S: Source, K: Sink, L: Ledger, V: Ledger, D: Derivation<L> + Drop>(
 /// Answers a line that was read, and puts the reply.
 fn answer_line<K: Sink, L: Ledger, V: Ledger, D: Derivation<L> + Drop>(
     alloc: Global,
-    session: &mut Session<L, D>,
+    desk: &mut Desk<L, D>,
     read: LineRead,
     line: &[u8],
     out: &mut Buffered,
@@ -122,15 +116,15 @@ fn answer_line<K: Sink, L: Ledger, V: Ledger, D: Derivation<L> + Drop>(
     visited: &mut Steps<V>,
 ) -> Result<Outcome, Failed>
     requires empty { out.old ≡ [] }
-    ensures replies { AnswersRead K.written K.faults sink.old sink.new out.new read (D.limit_of session.old)
-        (D.system_of session.old) (D.system_of session.new) line.now result }
-    ensures limit { D.limit_of session.new ≡ D.limit_of session.old }
+    ensures replies { AnswersRead K.written K.faults sink.old sink.new out.new read
+        (D.limit_of desk.old.derivation) (desk_on D.system_of desk.old) (desk_on D.system_of desk.new) line.now result }
+    ensures limit { D.limit_of desk.new.derivation ≡ D.limit_of desk.old.derivation }
     ensures empty { out.new ≡ [] }
     ensures failed_only_where_rose { OnErr result (Rose (K.faults sink.old) (K.faults sink.new)) }
     ensures ok_leaves_count { OnOk result (K.faults sink.new ≡ K.faults sink.old) }
 {
     match read {
-        LineRead::Line => session.command(alloc, line, out, sink, asked, visited),
+        LineRead::Line => desk.command(alloc, line, out, sink, asked, visited),
         LineRead::Long => refuse(out, sink, Refusal::LongLine),
         LineRead::End => Ok(Outcome::Skipped),
     }

@@ -9,10 +9,10 @@ ghost use Rattle.lsys_cli.specs.Programs.{OfSample, Untouched, UntouchedSink, sc
 
 use crate::run::run;
 use crate::status::Status;
+use lsys_desk::Desk;
 use lsys_io::{Buffered, LineReader, NeverSource, Sink, Source};
 use lsys_match::{Derivation, Steps};
 use lsys_sample::sample;
-use lsys_session::Session;
 use lsys_words::Options;
 use std::alloc::Global;
 use std::sync::ledger::Ledger;
@@ -101,12 +101,12 @@ fn run_script<S: Source, K: Sink, L: Ledger, V: Ledger, D: Derivation<L> + Drop>
     let Ok(mut out) = Buffered::new(alloc) else {
         return Status::Memory;
     };
-    let Ok(mut session) = Session::<L, D>::start(alloc, limit) else {
+    let Ok(mut desk) = Desk::<L, D>::start(alloc, limit) else {
         return Status::Memory;
     };
     run(
         alloc,
-        &mut session,
+        &mut desk,
         &mut reader,
         &mut out,
         source,

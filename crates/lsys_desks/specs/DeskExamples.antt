@@ -2,7 +2,7 @@
 use Rattle.std.specs.Prelude.{◌≡◌, ℕ, List, [], ◌∷◌, ◌++◌, codes, map, None, Some, refl}
 use Rattle.std.specs.Fmt.{digits}
 use Rattle.lsys_spec.specs.Output.{none, output_text}
-use Rattle.lsys_desks.specs.Desks.{desk_line, desk_out, undo, redo}
+use Rattle.lsys_desks.specs.Desks.{desk_line, desk_out, undo, redo, growth}
 
 abbrev run : List ℕ → List ℕ
 run script = output_text (desk_out 100000 script none)
@@ -12,6 +12,12 @@ pub desk_lines :
     map desk_line (codes "undo" ∷ (codes " \tredo " ++ 13 ∷ []) ∷ codes "undo x" ∷ codes "undo;" ∷ codes "Undo" ∷ codes "undoredo" ∷ codes ";undo" ∷ [] ∷ [])
     ≡ Some undo ∷ Some redo ∷ None ∷ None ∷ None ∷ None ∷ None ∷ None ∷ []
 desk_lines = refl
+
+-- a number of more than 64 bits is none that a desk line has
+pub growth_lines :
+    map desk_line (codes "growth 5" ∷ codes "\tgrowth  007 " ∷ codes "growth" ∷ codes "growth 5 6" ∷ codes "growth A" ∷ codes "growth 18446744073709551616" ∷ codes "undo 1" ∷ [])
+    ≡ Some (growth 5) ∷ Some (growth 7) ∷ None ∷ None ∷ None ∷ None ∷ None ∷ []
+growth_lines = refl
 
 -- at the opening nothing is kept
 pub nothing_to_undo :
@@ -32,3 +38,10 @@ pub what_is_a_step :
     ≡ codes "ok 0/0\nok 0/0\nAB\nrefused syntax token 11\nok 0/0\nA\nok 0/0\nrefused redo\nok 0/0\nok 0/0\nrefused undo\n\n"
 unfolding digits
 what_is_a_step = refl
+
+-- growth goes on past the depth, isn't a step, and is refused where a rule has a formal
+pub letters_of_levels :
+    run (codes "axiom A\nproduction a: A => AB\nproduction b: B => A\ngrowth 5\nundo\ngrowth 2\nredo\nproduction c: C(x) => C(x)\ngrowth 0\n")
+    ≡ codes "ok 0/0\nok 0/0\nok 0/0\ngrowth 13\nA 8\nB 5\nok 0/0\ngrowth 3\nA 1\nB 2\nok 0/0\nok 0/0\nrefused growth\n"
+unfolding digits
+letters_of_levels = refl

@@ -1,12 +1,13 @@
 -- A desk: a system with those that edits led away from and those that were undone. What it answers a line, and a script.
 use Rattle.std.specs.Prelude.{◌≡◌, ℕ, ◌+◌, Bool, true, false, not, ◌&&◌, Option, Some, None, Result, Ok, Err, All, List, [], ◌∷◌, codes, bytes_eq, if◌then◌else◌}
 use Rattle.lsys_syntax.specs.Lines.{lines_of, without_cr}
-use Rattle.lsys_syntax.specs.Tokens.{Token, Kind, Word, tokens}
+use Rattle.lsys_syntax.specs.Tokens.{Token, Kind, Word, Number, tokens}
 use Rattle.lsys_syntax.specs.Commands.{Command}
 use Rattle.lsys_spec.specs.Systems.{System, opening}
-use Rattle.lsys_spec.specs.Refusals.{Reply, refused, refused_memory, is_long, is_passed_over}
+use Rattle.lsys_spec.specs.Refusals.{Reply, said, refused, refused_memory, is_long, is_passed_over}
 use Rattle.lsys_spec.specs.Replies.{reply, edited, levels_of, is_query, spelled_command}
 use Rattle.lsys_spec.specs.Output.{may_lack_memory}
+use Rattle.lsys_growth_laws.specs.Growth.{Census, GrowthFault, growth_at, growth_text, growth_fault_text}
 use Rattle.lsys_history.specs.Timelines as timelines
 
 -- 1. desk lines
@@ -15,6 +16,7 @@ use Rattle.lsys_history.specs.Timelines as timelines
 pub data DeskLine : Type 0 where
   undo : DeskLine
   redo : DeskLine
+  growth : ℕ → DeskLine
 
 abbrev pub word_asks : List ℕ → Option DeskLine
 word_asks text = if bytes_eq text (codes "undo") then Some undo else if bytes_eq text (codes "redo") then Some redo else None
@@ -23,11 +25,19 @@ abbrev pub kind_asks : Kind → Option DeskLine
 kind_asks (Word text) = word_asks text
 kind_asks k = None
 
+abbrev pub number_asks : List ℕ → ℕ → Option DeskLine
+number_asks text n = if bytes_eq text (codes "growth") then Some (growth n) else None
+
+abbrev pub two_kinds_ask : Kind → Kind → Option DeskLine
+two_kinds_ask (Word text) (Number n) = number_asks text n
+two_kinds_ask k l = None
+
 -- Desk lines are told by their tokens: one that has more of them than it should is none, and goes to the session.
 abbrev pub tokens_ask : List Token → Option DeskLine
 tokens_ask [] = None
 tokens_ask (t ∷ []) = kind_asks t.kind
-tokens_ask (t ∷ u ∷ ts) = None
+tokens_ask (t ∷ u ∷ []) = two_kinds_ask t.kind u.kind
+tokens_ask (t ∷ u ∷ v ∷ ts) = None
 
 abbrev pub read_asks : Result (List Token) ℕ → Option DeskLine
 read_asks (Ok ts) = tokens_ask ts
@@ -71,10 +81,17 @@ abbrev pub stepped : ℕ → Desk → List ℕ → timelines.Timeline System →
 stepped limit d word steps None = answered (refused d.system word) d
 stepped limit d word steps (Some s) = led d (edited limit d.system s (levels_of limit s)) steps
 
--- the desk's own reply: an undo steps to the nearest of the past, and a redo to the nearest of those that were undone
+-- how the letters of a level of a system are told, or why they aren't
+abbrev pub growth_reply : System → Result Census GrowthFault → Reply
+growth_reply s (Ok c) = said s (growth_text c)
+growth_reply s (Err f) = refused s (growth_fault_text f)
+
+-- the desk's own reply: an undo steps to the nearest of the past, a redo to the nearest of those that were undone, and growth
+-- counts the letters of a level
 abbrev pub own_reply : ℕ → Desk → DeskLine → DeskReply
 own_reply limit d undo = stepped limit d (codes "undo") (timelines.undone d.steps d.system) (timelines.nearest d.steps.past)
 own_reply limit d redo = stepped limit d (codes "redo") (timelines.redone d.steps d.system) (timelines.nearest d.steps.future)
+own_reply limit d (growth level) = answered (growth_reply d.system (growth_at d.system level)) d
 
 abbrev pub is_edit : Option Command → Bool
 is_edit None = false

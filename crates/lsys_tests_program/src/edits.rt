@@ -113,3 +113,21 @@ fn the_first_rule_that_applies(rt: HostRuntime) -> Result<(), Fail> {
         "ok 0/0\nok 0/0\nok 0/0\nok 0/0\nok 0/0\nok 2/2\nC(1)A(0)B(5)\nrefused fault divide-by-zero level 1 module 2\nok 2/2\nrefused fault divide-by-zero level 0 module 1\n";
     is_answered(&rt, rt.alloc(), script, replies)
 }
+
+#[test]
+fn an_undo_and_a_redo(rt: HostRuntime) -> Result<(), Fail> {
+    let script =
+        "undo\naxiom A\nproduction a: A => AB\nproduction b: B => A\ndepth 5\nproduction b: B => B\nundo\nstring\nredo\nredo\nstring\naxiom B\nredo\nundo x\n";
+    let replies =
+        "refused undo\nok 0/0\nok 0/0\nok 0/0\nok 19/19\nok 10/15\nok 14/19\nABAABABAABAAB\nok 10/15\nrefused redo\nABBBBB\nok 5/5\nrefused redo\nrefused syntax token 1\n";
+    is_answered(&rt, rt.alloc(), script, replies)
+}
+
+#[test]
+fn growth_without_the_level(rt: HostRuntime) -> Result<(), Fail> {
+    let script =
+        "axiom A\nproduction a: A => [-A]AB\nproduction b: B => A\ngrowth 3\ngrowth 200\nproduction c: C(x) => C(x)\ngrowth 0\n";
+    let replies =
+        "ok 0/0\nok 0/0\nok 0/0\ngrowth 41\n- 8\nA 12\nB 5\nrefused overflow\nok 0/0\nrefused growth\n";
+    is_answered(&rt, rt.alloc(), script, replies)
+}

@@ -2,13 +2,14 @@ use Rattle.std.proofs.Common.{◌≡◌, ◌≢◌, rules, ◌∙◌, refl, ap, 
 use Rattle.lsys_io.specs.declared.lines.LineRead.TheVariants.{End}
 use Rattle.lsys_cli.specs.Ends.{Ends}
 use Rattle.lsys_session.specs.Answers.{ends_session}
+use Rattle.lsys_desk.specs.Views.{desk_on}
 use Rattle.lsys_session.specs.declared.outcome.Outcome.TheVariants.{Quit}
 use Rattle.lsys_cli.proofs.Turns.{begins, begins_going, begins_within, turned, stuck, goes_on, quits, too_long, read_fault, write_fault, no_end, read_goes_on, unless_end}
 use Rattle.lsys_cli.proofs.run.run.Goals as goal
 
 pub lines-init : goal.lines-init
 lines-init g c = record {
-  far = begins (g.D.Derivation.limit_of c.args.session.now) c.args.reader.now (g.D.Derivation.system_of c.args.session.now) (g.S.Source.left c.args.source.now) (g.K.Sink.written c.args.sink.now)
+  far = begins (g.D.Derivation.limit_of c.args.desk.now.derivation) c.args.reader.now (desk_on g.D.Derivation.system_of c.args.desk.now) (g.S.Source.left c.args.source.now) (g.K.Sink.written c.args.sink.now)
       c.new-tally.result.refused c.new-tally.result.memory c.requires.fresh c.requires.opening c.new-tally.ensures.refused c.new-tally.ensures.memory;
   limit = refl;
   empty = c.requires.empty;
@@ -21,26 +22,26 @@ lines-init g c = record {
 pub returns-in-Err-ReadFault-clause-ends : goal.returns-in-Err-ReadFault-clause-ends
 returns-in-Err-ReadFault-clause-ends g c =
     let going = c.in-Err-ReadFault.ensures.was_going c.lines.invariant.going in
-    read_fault (g.D.Derivation.limit_of c.args.session.now) (g.S.Source.left c.args.source.now) (g.S.Source.left c.lines.source) (g.S.Source.left c.next_line.new.source)
-    (g.K.Sink.written c.args.sink.now) (g.K.Sink.written c.lines.sink) c.lines.reader (g.D.Derivation.system_of c.lines.session) c.lines.tally.refused c.lines.tally.memory
+    read_fault (g.D.Derivation.limit_of c.args.desk.now.derivation) (g.S.Source.left c.args.source.now) (g.S.Source.left c.lines.source) (g.S.Source.left c.next_line.new.source)
+    (g.K.Sink.written c.args.sink.now) (g.K.Sink.written c.lines.sink) c.lines.reader (desk_on g.D.Derivation.system_of c.lines.desk) c.lines.tally.refused c.lines.tally.memory
     going c.lines.invariant.far (rw c.in-Err-ReadFault.field-0-is at (c.in-Err-ReadFault.ensures.read_fault_leaves_no_line going))
 
 pub returns-in-Err-TooLong-clause-ends : goal.returns-in-Err-TooLong-clause-ends
 returns-in-Err-TooLong-clause-ends g c =
     let going = c.in-Err-TooLong.ensures.was_going c.lines.invariant.going in
-    too_long (g.D.Derivation.limit_of c.args.session.now) (g.S.Source.left c.args.source.now) (g.S.Source.left c.lines.source) (g.S.Source.left c.next_line.new.source)
-    (g.K.Sink.written c.args.sink.now) (g.K.Sink.written c.lines.sink) c.lines.reader (g.D.Derivation.system_of c.lines.session) c.lines.tally.refused c.lines.tally.memory
+    too_long (g.D.Derivation.limit_of c.args.desk.now.derivation) (g.S.Source.left c.args.source.now) (g.S.Source.left c.lines.source) (g.S.Source.left c.next_line.new.source)
+    (g.K.Sink.written c.args.sink.now) (g.K.Sink.written c.lines.sink) c.lines.reader (desk_on g.D.Derivation.system_of c.lines.desk) c.lines.tally.refused c.lines.tally.memory
     going c.lines.invariant.within c.lines.invariant.far (rw c.in-Err-TooLong.field-0-is at (c.in-Err-TooLong.ensures.too_long_only_past_limit going))
 
 pub returns-in_default-clause-ends : goal.returns-in_default-clause-ends
 returns-in_default-clause-ends g c =
     let not_end : c.in-Ok.read ≢ End = search rules in
     let going = unless_end c.in-Ok.read not_end (c.in-Ok.ensures.was_going c.lines.invariant.going) in
-    let broke = stuck g.K.Sink.written g.K.Sink.faults c.lines.sink c.answer_line.new.sink c.answer_line.new.out c.in-Ok.read (g.D.Derivation.limit_of c.lines.session) c.lines.reader c.next_line.new.self
-    (g.S.Source.left c.lines.source) (g.S.Source.left c.next_line.new.source) (g.D.Derivation.system_of c.lines.session) (g.D.Derivation.system_of c.answer_line.new.session) c.line.result.now c.in_default.field-0
+    let broke = stuck g.K.Sink.written g.K.Sink.faults c.lines.sink c.answer_line.new.sink c.answer_line.new.out c.in-Ok.read (g.D.Derivation.limit_of c.lines.desk.derivation) c.lines.reader c.next_line.new.self
+    (g.S.Source.left c.lines.source) (g.S.Source.left c.next_line.new.source) (desk_on g.D.Derivation.system_of c.lines.desk) (desk_on g.D.Derivation.system_of c.answer_line.new.desk) c.line.result.now c.in_default.field-0
     not_end c.in-Ok.ensures.line c.in-Ok.ensures.long c.line.ensures c.in_default.ensures.replies in
-    write_fault (g.D.Derivation.limit_of c.args.session.now) (g.D.Derivation.limit_of c.lines.session) (g.S.Source.left c.args.source.now) (g.S.Source.left c.lines.source) (g.S.Source.left c.next_line.new.source)
-    (g.K.Sink.written c.args.sink.now) (g.K.Sink.written c.lines.sink) (g.K.Sink.written c.answer_line.new.sink) c.lines.reader c.next_line.new.self (g.D.Derivation.system_of c.lines.session)
+    write_fault (g.D.Derivation.limit_of c.args.desk.now.derivation) (g.D.Derivation.limit_of c.lines.desk.derivation) (g.S.Source.left c.args.source.now) (g.S.Source.left c.lines.source) (g.S.Source.left c.next_line.new.source)
+    (g.K.Sink.written c.args.sink.now) (g.K.Sink.written c.lines.sink) (g.K.Sink.written c.answer_line.new.sink) c.lines.reader c.next_line.new.self (desk_on g.D.Derivation.system_of c.lines.desk)
     c.lines.tally.refused c.lines.tally.memory c.lines.invariant.limit going c.lines.invariant.far broke
 
 pub returns-then-eq-2-clause-ends : goal.returns-then-eq-2-clause-ends
@@ -48,14 +49,14 @@ returns-then-eq-2-clause-ends g c =
     let not_end : c.in-Ok.read ≢ End = search rules in
     let quit : c.in-Ok-answer_line.outcome ≡ Quit = search rules in
     let going = unless_end c.in-Ok.read not_end (c.in-Ok.ensures.was_going c.lines.invariant.going) in
-    let turn = turned g.K.Sink.written g.K.Sink.faults c.lines.sink c.answer_line.new.sink c.answer_line.new.out c.in-Ok.read (g.D.Derivation.limit_of c.lines.session) c.lines.reader c.next_line.new.self
-    (g.S.Source.left c.lines.source) (g.S.Source.left c.next_line.new.source) (g.D.Derivation.system_of c.lines.session) (g.D.Derivation.system_of c.answer_line.new.session) c.line.result.now c.in-Ok-answer_line.outcome
+    let turn = turned g.K.Sink.written g.K.Sink.faults c.lines.sink c.answer_line.new.sink c.answer_line.new.out c.in-Ok.read (g.D.Derivation.limit_of c.lines.desk.derivation) c.lines.reader c.next_line.new.self
+    (g.S.Source.left c.lines.source) (g.S.Source.left c.next_line.new.source) (desk_on g.D.Derivation.system_of c.lines.desk) (desk_on g.D.Derivation.system_of c.answer_line.new.desk) c.line.result.now c.in-Ok-answer_line.outcome
     not_end c.in-Ok.ensures.line c.in-Ok.ensures.long c.line.ensures c.in-Ok-answer_line.ensures.replies in
-    let done = quits (g.D.Derivation.limit_of c.args.session.now) (g.D.Derivation.limit_of c.lines.session) (g.S.Source.left c.args.source.now) (g.S.Source.left c.lines.source) (g.S.Source.left c.next_line.new.source)
-    (g.K.Sink.written c.args.sink.now) (g.K.Sink.written c.lines.sink) (g.K.Sink.written c.answer_line.new.sink) c.lines.reader c.next_line.new.self (g.D.Derivation.system_of c.lines.session) (g.D.Derivation.system_of c.answer_line.new.session)
+    let done = quits (g.D.Derivation.limit_of c.args.desk.now.derivation) (g.D.Derivation.limit_of c.lines.desk.derivation) (g.S.Source.left c.args.source.now) (g.S.Source.left c.lines.source) (g.S.Source.left c.next_line.new.source)
+    (g.K.Sink.written c.args.sink.now) (g.K.Sink.written c.lines.sink) (g.K.Sink.written c.answer_line.new.sink) c.lines.reader c.next_line.new.self (desk_on g.D.Derivation.system_of c.lines.desk) (desk_on g.D.Derivation.system_of c.answer_line.new.desk)
     c.lines.tally.refused c.lines.tally.memory c.with-tally.result.refused c.with-tally.result.memory c.in-Ok-answer_line.outcome c.lines.invariant.limit going c.next_line.ensures.within
     c.with-tally.ensures.refused c.with-tally.ensures.memory c.lines.invariant.far turn (ap ends_session quit) in
-    subst (Ends (g.D.Derivation.limit_of c.args.session.now) (g.S.Source.left c.args.source.now) (g.S.Source.left c.next_line.new.source) (g.K.Sink.written c.args.sink.now) (g.K.Sink.written c.answer_line.new.sink))
+    subst (Ends (g.D.Derivation.limit_of c.args.desk.now.derivation) (g.S.Source.left c.args.source.now) (g.S.Source.left c.next_line.new.source) (g.K.Sink.written c.args.sink.now) (g.K.Sink.written c.answer_line.new.sink))
     (sym c.status-then-eq-2.ensures) done
 
 pub lines-preserved : goal.lines-preserved
@@ -63,12 +64,12 @@ lines-preserved g c =
     let not_end : c.in-Ok.read ≢ End = search rules in
     let not_quit : c.in-Ok-answer_line.outcome ≢ Quit = search rules in
     let going = unless_end c.in-Ok.read not_end (c.in-Ok.ensures.was_going c.lines.invariant.going) in
-    let turn = turned g.K.Sink.written g.K.Sink.faults c.lines.sink c.answer_line.new.sink c.answer_line.new.out c.in-Ok.read (g.D.Derivation.limit_of c.lines.session) c.lines.reader c.next_line.new.self
-    (g.S.Source.left c.lines.source) (g.S.Source.left c.next_line.new.source) (g.D.Derivation.system_of c.lines.session) (g.D.Derivation.system_of c.answer_line.new.session) c.line.result.now c.in-Ok-answer_line.outcome
+    let turn = turned g.K.Sink.written g.K.Sink.faults c.lines.sink c.answer_line.new.sink c.answer_line.new.out c.in-Ok.read (g.D.Derivation.limit_of c.lines.desk.derivation) c.lines.reader c.next_line.new.self
+    (g.S.Source.left c.lines.source) (g.S.Source.left c.next_line.new.source) (desk_on g.D.Derivation.system_of c.lines.desk) (desk_on g.D.Derivation.system_of c.answer_line.new.desk) c.line.result.now c.in-Ok-answer_line.outcome
     not_end c.in-Ok.ensures.line c.in-Ok.ensures.long c.line.ensures c.in-Ok-answer_line.ensures.replies in
     record {
-      far = goes_on (g.D.Derivation.limit_of c.args.session.now) (g.D.Derivation.limit_of c.lines.session) (g.S.Source.left c.args.source.now) (g.S.Source.left c.lines.source) (g.S.Source.left c.next_line.new.source)
-          (g.K.Sink.written c.args.sink.now) (g.K.Sink.written c.lines.sink) (g.K.Sink.written c.answer_line.new.sink) c.lines.reader c.next_line.new.self (g.D.Derivation.system_of c.lines.session) (g.D.Derivation.system_of c.answer_line.new.session)
+      far = goes_on (g.D.Derivation.limit_of c.args.desk.now.derivation) (g.D.Derivation.limit_of c.lines.desk.derivation) (g.S.Source.left c.args.source.now) (g.S.Source.left c.lines.source) (g.S.Source.left c.next_line.new.source)
+          (g.K.Sink.written c.args.sink.now) (g.K.Sink.written c.lines.sink) (g.K.Sink.written c.answer_line.new.sink) c.lines.reader c.next_line.new.self (desk_on g.D.Derivation.system_of c.lines.desk) (desk_on g.D.Derivation.system_of c.answer_line.new.desk)
           c.lines.tally.refused c.lines.tally.memory c.with-tally.result.refused c.with-tally.result.memory c.in-Ok-answer_line.outcome c.lines.invariant.limit going c.next_line.ensures.within
           c.with-tally.ensures.refused c.with-tally.ensures.memory c.lines.invariant.far turn (no_end c.in-Ok-answer_line.outcome not_quit);
       limit = c.answer_line.ensures.limit ∙ c.lines.invariant.limit;

@@ -1,0 +1,38 @@
+-- What is said of each system that is kept.
+use Rattle.std.proofs.Common.{◌≡◌, ◌-◌, List, [], ◌∷◌, ◌++◌, ◌≢◌, ◌∙◌, length, Some, None, ap, subst}
+use Rattle.std.specs.Prelude.{All}
+use Rattle.std.proofs.lemmas.List.Elements.{All-push, All-nil, All-drop, All-take, All-get_or}
+use Rattle.std.proofs.lemmas.Option.{slice_get_within, get_or_from_slice_get}
+use Rattle.lsys_spec.specs.Systems.{System}
+use Rattle.lsys_history.specs.Timelines.{Timeline, most_kept, nearest, nothing_kept}
+use Rattle.lsys_desks.specs.Desks.{EachKept}
+use Rattle.lsys_session.specs.declared.outcome.Outcome.{Outcome}
+use Rattle.lsys_session.specs.declared.outcome.Outcome.TheVariants as outcomes
+use Rattle.lsys_desk.specs.Steps.{steps_after, steps_by}
+use Rattle.lsys_desk.specs.declared.step.Step.{Step}
+use Rattle.lsys_desk.specs.declared.step.Step.TheVariants.{Edit, Undo, Redo}
+
+module _ (P : System → Type 0) where
+  pub none_kept : EachKept P nothing_kept
+  none_kept = record { past = All-nil P; future = All-nil P }
+
+  step_kept : (step : Step) (h : Timeline System) (s : System) → EachKept P h → P s → EachKept P (steps_by step h s)
+  step_kept Edit h s k p = record { past = All-drop P (length (h.past ++ s ∷ []) - most_kept) (h.past ++ s ∷ []) (All-push P h.past s k.past p); future = All-nil P }
+  step_kept Undo h s k p = record { past = All-take P (length h.past - 1) h.past k.past; future = All-push P h.future s k.future p }
+  step_kept Redo h s k p = record { past = All-push P h.past s k.past p; future = All-take P (length h.future - 1) h.future k.future }
+
+  pub steps_kept : (o : Outcome) (step : Step) (h : Timeline System) (s : System) → EachKept P h → P s → EachKept P (steps_after o step h s)
+  steps_kept outcomes.Skipped step h s k p = k
+  steps_kept outcomes.Accepted step h s k p = step_kept step h s k p
+  steps_kept outcomes.Printed step h s k p = k
+  steps_kept outcomes.Refused step h s k p = k
+  steps_kept outcomes.Memory step h s k p = k
+  steps_kept outcomes.Quit step h s k p = k
+
+  pub nearest_kept : (xs : List System) (s : System) → All P xs → nearest xs ≡ Some s → P s
+  nearest_kept xs s h e =
+      subst P (get_or_from_slice_get xs (length xs - 1) s s e) (All-get_or P xs (length xs - 1) s (slice_get_within xs (length xs - 1) s e) h)
+
+-- there is a nearest one only where there are some
+pub some_nearest : (xs : List System) (s : System) → Some s ≡ nearest xs → xs ≢ []
+some_nearest xs s e none = let no : Some s ≡ None = e ∙ ap nearest none in cc

@@ -1,0 +1,138 @@
+-- What is said where a desk goes from one system to another.
+use Rattle.std.proofs.Common.{◌≡◌, ℕ, Bool, true, false, Option, Some, None, Result, Ok, Err, List, [], refl, sym, ap, ◌∙◌, subst}
+use Rattle.std.specs.Prelude.{IfOk, IsErr, codes}
+use Rattle.lsys_io.specs.Writes.{Puts}
+use Rattle.lsys_io.proofs.Puts.{puts_refused}
+use Rattle.lsys_io.specs.declared.Failed.{Failed}
+use Rattle.lsys_spec.specs.Systems.{System}
+use Rattle.lsys_spec.specs.Levels as L
+use Rattle.lsys_spec.specs.Refusals.{Reply, refused, refused_memory}
+use Rattle.lsys_spec.specs.Replies.{edited, levels_of}
+use Rattle.lsys_spec.specs.Output.{memory_or}
+use Rattle.lsys_history.specs.Timelines as timelines
+use Rattle.lsys_growth_laws.specs.Growth.{Census, GrowthFault, growth_at}
+use Rattle.lsys_desks.specs.Desks.{Desk, DeskReply, answered, desk, desk_memory_or, growth, growth_reply, led, own_reply, redo, stepped, undo}
+use Rattle.lsys_rules.specs.declared.refusal.Refusal.TheVariants as refusals
+use Rattle.lsys_session.specs.Requests.{refusal_line}
+use Rattle.lsys_session.specs.Sessions.{Says}
+use Rattle.lsys_session.specs.Given.{Leads, Prints, unless_refused}
+use Rattle.lsys_session.specs.declared.outcome.Outcome.{Outcome}
+use Rattle.lsys_session.specs.declared.outcome.Outcome.TheVariants as outcomes
+use Rattle.lsys_desk.specs.Answers.{Became, Gives, GivesOrLacks, step_answer}
+use Rattle.lsys_desk.specs.Steps.{steps_after, steps_by}
+use Rattle.lsys_desk.specs.declared.step.Step.{Step}
+
+if_ok : {P : Type 0} (result : Result Outcome Failed) → P → IfOk result (λ o. P)
+if_ok (Ok o) p = p
+if_ok (Err f) p = tt
+
+became_so : {reply : Reply} {outcome : Outcome} (result : Result Outcome Failed) → IfOk result (λ o. o ≡ outcome) → Became reply outcome → IfOk result (Became reply)
+became_so {reply = reply} (Ok o) e b = subst (Became reply) (sym e) b
+became_so (Err f) e b = tt
+
+same_desk : (s t : System) (h k : timelines.Timeline System) → s ≡ t → h ≡ k → desk s h ≡ desk t k
+same_desk s t h k e f = rw (e, f) refl
+
+module _ {K : Type 0} (written : K → Option (List ℕ)) (faults : K → ℕ) (a b : K) (held : List ℕ) (d : Desk) (result : Result Outcome Failed) where
+  -- a reply that leaves the desk as it was
+  pub stays : (answer : DeskReply) (o : Outcome) → Says written faults a b held answer.reply.text o result → answer.next ≡ d → Became answer.reply o → Gives written faults a b held answer d result
+  stays answer o says same became = record {
+    put = says.put;
+    empty = says.empty;
+    next = if_ok result (sym same);
+    became = became_so result says.outcome became;
+  }
+
+  pub lacking : (answer : DeskReply) → Says written faults a b held (refusal_line refusals.Memory) outcomes.Memory result → GivesOrLacks written faults a b held d answer d result
+  lacking answer says = record {
+    lacks = true;
+    gives = stays (answered (refused_memory d.system) d) outcomes.Memory says refl (record { refusal = refl; memory = refl; end = refl });
+  }
+
+  -- 1. an undo or a redo that leads nowhere
+
+  pub no_undo : (limit : ℕ) → None ≡ timelines.nearest d.steps.past → Says written faults a b held (codes "refused undo\n") outcomes.Refused result → GivesOrLacks written faults a b held d (own_reply limit d undo) d result
+  no_undo limit e says =
+      subst (λ o. GivesOrLacks written faults a b held d (stepped limit d (codes "undo") (timelines.undone d.steps d.system) o) d result) e
+      (record { lacks = false; gives = stays (answered (refused d.system (codes "undo")) d) outcomes.Refused says refl (record { refusal = refl; memory = refl; end = refl }) })
+
+  pub no_redo : (limit : ℕ) → None ≡ timelines.nearest d.steps.future → Says written faults a b held (codes "refused redo\n") outcomes.Refused result → GivesOrLacks written faults a b held d (own_reply limit d redo) d result
+  no_redo limit e says =
+      subst (λ o. GivesOrLacks written faults a b held d (stepped limit d (codes "redo") (timelines.redone d.steps d.system) o) d result) e
+      (record { lacks = false; gives = stays (answered (refused d.system (codes "redo")) d) outcomes.Refused says refl (record { refusal = refl; memory = refl; end = refl }) })
+
+  -- 2. an undo or a redo that leads to the nearest system
+
+  pub undo_leads : (limit : ℕ) (s : System) (new : Desk) → Some s ≡ timelines.nearest d.steps.past → GivesOrLacks written faults a b held d (step_answer limit d s (timelines.undone d.steps d.system)) new result
+      → GivesOrLacks written faults a b held d (own_reply limit d undo) new result
+  undo_leads limit s new e g = subst (λ o. GivesOrLacks written faults a b held d (stepped limit d (codes "undo") (timelines.undone d.steps d.system) o) new result) e g
+
+  pub redo_leads : (limit : ℕ) (s : System) (new : Desk) → Some s ≡ timelines.nearest d.steps.future → GivesOrLacks written faults a b held d (step_answer limit d s (timelines.redone d.steps d.system)) new result
+      → GivesOrLacks written faults a b held d (own_reply limit d redo) new result
+  redo_leads limit s new e g = subst (λ o. GivesOrLacks written faults a b held d (stepped limit d (codes "redo") (timelines.redone d.steps d.system) o) new result) e g
+
+  -- 3. growth
+
+  told : (lacks : Bool) (g : Result Census GrowthFault) → Says written faults a b held (memory_or lacks d.system (growth_reply d.system g)).text (unless_refused outcomes.Printed (memory_or lacks d.system (growth_reply d.system g))) result
+      → Gives written faults a b held (desk_memory_or lacks d (answered (growth_reply d.system g) d)) d result
+  told true g says = stays (answered (refused_memory d.system) d) outcomes.Memory says refl (record { refusal = refl; memory = refl; end = refl })
+  told false (Ok c) says = stays (answered (growth_reply d.system (Ok c)) d) outcomes.Printed says refl (record { refusal = refl; memory = refl; end = refl })
+  told false (Err f) says = stays (answered (growth_reply d.system (Err f)) d) outcomes.Refused says refl (record { refusal = refl; memory = refl; end = refl })
+
+  pub growth_told : (limit level : ℕ) → Prints written faults a b held d.system (growth_reply d.system (growth_at d.system level)) result → GivesOrLacks written faults a b held d (own_reply limit d (growth level)) d result
+  growth_told limit level p = record { lacks = p.lacks; gives = told p.lacks (growth_at d.system level) p.says }
+
+-- 4. a step
+
+module _ {K : Type 0} (written : K → Option (List ℕ)) (faults : K → ℕ) (a b : K) (held : List ℕ) (limit : ℕ) (d : Desk) (to : System) (step : Step) where
+  abbrev steps : timelines.Timeline System
+  steps = steps_by step d.steps d.system
+
+  led_so : (lacks : Bool) (x : Result (List (List L.Symbol)) (List ℕ)) (o : Outcome) (new : System) (h : timelines.Timeline System) → let r = memory_or lacks d.system (edited limit d.system to x) in
+      Says written faults a b held r.text (unless_refused outcomes.Accepted r) (Ok o) → new ≡ r.next → h ≡ steps_after o step d.steps d.system
+      → Gives written faults a b held (desk_memory_or lacks d (led d (edited limit d.system to x) steps)) (desk new h) (Ok o)
+  led_so true x o new h says n e = record {
+    put = says.put;
+    empty = says.empty;
+    next = same_desk new d.system h d.steps n (e ∙ ap (λ o. steps_after o step d.steps d.system) says.outcome);
+    became = subst (Became (refused_memory d.system)) (sym says.outcome) (record { refusal = refl; memory = refl; end = refl });
+  }
+  led_so false (Err why) o new h says n e = record {
+    put = says.put;
+    empty = says.empty;
+    next = same_desk new d.system h d.steps n (e ∙ ap (λ o. steps_after o step d.steps d.system) says.outcome);
+    became = subst (Became (refused d.system why)) (sym says.outcome) (record { refusal = refl; memory = refl; end = refl });
+  }
+  led_so false (Ok levels) o new h says n e = record {
+    put = says.put;
+    empty = says.empty;
+    next = same_desk new to h steps n (e ∙ ap (λ o. steps_after o step d.steps d.system) says.outcome);
+    became = subst (Became (edited limit d.system to (Ok levels))) (sym says.outcome) (record { refusal = refl; memory = refl; end = refl });
+  }
+
+  pub step_taken : (o : Outcome) (new : System) (h : timelines.Timeline System) → Leads written faults a b held limit d.system to new (Ok o) → h ≡ steps_after o step d.steps d.system
+      → GivesOrLacks written faults a b held d (step_answer limit d to steps) (desk new h) (Ok o)
+  step_taken o new h l e =
+      let r = memory_or l.lacks d.system (edited limit d.system to (levels_of limit to)) in
+      let says : Says written faults a b held r.text (unless_refused outcomes.Accepted r) (Ok o) =
+      subst (λ (q : Reply). Says written faults a b held q.text (unless_refused outcomes.Accepted q) (Ok o)) l.is l.says in
+      record { lacks = l.lacks; gives = led_so l.lacks (levels_of limit to) o new h says (l.next ∙ ap (λ (q : Reply). q.next) l.is) e }
+
+  same_text : (lacks : Bool) (x : Result (List (List L.Symbol)) (List ℕ)) → (memory_or lacks d.system (edited limit d.system to x)).text ≡ (desk_memory_or lacks d (led d (edited limit d.system to x) steps)).reply.text
+  same_text true x = refl
+  same_text false (Ok levels) = refl
+  same_text false (Err why) = refl
+
+  -- the sink failed at it
+  pub step_failed : (failed : Failed) (middle : System) (new : Desk) (result : Result Outcome Failed) → IsErr result → Leads written faults a b held limit d.system to middle (Err failed)
+      → GivesOrLacks written faults a b held d (step_answer limit d to steps) new result
+  step_failed failed middle new (Ok o) is l = cc
+  step_failed failed middle new (Err f) is l = record {
+    lacks = l.lacks;
+    gives = record {
+      put = subst (λ (text : List ℕ). Puts {A = Outcome} written faults a b [] held text (Err f)) (ap (λ (q : Reply). q.text) l.is ∙ same_text l.lacks (levels_of limit to)) (puts_refused {B = Outcome} {result = Err f} refl l.says.put);
+      empty = l.says.empty;
+      next = tt;
+      became = tt;
+    };
+  }

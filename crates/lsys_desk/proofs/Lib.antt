@@ -1,0 +1,6 @@
+pub mod Leading
+pub mod Answering
+pub mod Counting
+pub mod Keeping
+pub mod CountTexts
+pub mod Growing

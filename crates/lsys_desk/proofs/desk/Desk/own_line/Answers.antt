@@ -1,0 +1,27 @@
+use Rattle.std.proofs.Common.{false}
+use Rattle.lsys_spec.specs.Refusals.{Reply}
+use Rattle.lsys_spec.specs.Output.{memory_or}
+use Rattle.lsys_session.specs.Given.{unless_refused}
+use Rattle.lsys_session.specs.declared.outcome.Outcome.TheVariants as outcomes
+use Rattle.lsys_growth_laws.specs.Growth.{growth_at}
+use Rattle.lsys_desks.specs.Desks.{growth_reply}
+use Rattle.lsys_desk.specs.Views.{Bench, bench, desk_on}
+use Rattle.lsys_desk.proofs.Leading.{growth_told}
+use Rattle.lsys_desk.proofs.Counting.{printed_quiet, stay}
+use Rattle.lsys_desk.proofs.desk.Desk.own_line.Goals as goal
+
+pub returns-in-Growth-clause-gives : goal.returns-in-Growth-clause-gives
+returns-in-Growth-clause-gives g c =
+    let before : Bench _ = bench c.self.inside.session c.self.inside.history in
+    rw (← c.self.view_is, c.in-Growth.is)
+    (growth_told g.K.Sink.written g.K.Sink.faults c.args.sink.now c.answer_growth.new.sink c.answer_growth.new.out (desk_on g.D.Derivation.system_of before) c.answer_growth.result
+    (g.D.Derivation.limit_of c.self.inside.session) c.in-Growth.level (rw c.system.ensures.system at c.answer_growth.ensures))
+
+pub returns-in-Growth-clause-kept : goal.returns-in-Growth-clause-kept
+returns-in-Growth-clause-kept g c = rw (← c.self.view_is) c.self.invariant
+
+pub returns-in-Growth-clause-counts : goal.returns-in-Growth-clause-counts
+returns-in-Growth-clause-counts g c =
+    let reply : Reply = memory_or c.answer_growth.ensures.lacks c.system.result.now (growth_reply c.system.result.now (growth_at c.system.result.now c.in-Growth.level)) in
+    stay g.D.Derivation.visits (g.D.Derivation.limit_of c.args.self.now.derivation) (g.D.Derivation.system_of c.args.self.now.derivation) (record { asked = c.args.asked.now; visited = c.args.visited.now })
+    false (unless_refused outcomes.Printed reply) c.answer_growth.result (printed_quiet reply) c.answer_growth.ensures.says.outcome

@@ -1,0 +1,265 @@
+//! Desks: one line after another.
+ghost use Rattle.std.specs.Prelude.{◌≡◌, ◌≤◌, [], None, true, false, length, IfOk};
+ghost use Rattle.lsys_syntax.specs.Limits.{most_line_bytes};
+ghost use Rattle.lsys_laws.specs.Sessions.{HasLevels};
+ghost use Rattle.lsys_desks.specs.Desks.{EachKept, bare_asks, opening_desk, own_reply};
+ghost use Rattle.lsys_desks.specs.Desks as desks;
+ghost use Rattle.lsys_session.specs.Answers.{Counts, is_derived};
+ghost use Rattle.lsys_desk.specs.Answers.{Answers, GivesOrLacks, is_led, step_answer};
+ghost use Rattle.lsys_desk.specs.Steps.{CanStep, steps_by};
+ghost use Rattle.lsys_desk.specs.Views.{desk_line_of, desk_on};
+
+use crate::desk_line::{DeskLine, desk_line};
+use crate::growth_reply::answer_growth;
+use crate::sayings::say;
+use crate::step::{Step, take_step};
+use lsys_history::History;
+use lsys_io::{Buffered, Failed, Sink};
+use lsys_match::{Derivation, Steps};
+use lsys_rules::{Refusal, System};
+use lsys_session::{MOST_LINE_BYTES, Outcome, Request, Session, refuse, request_of};
+use std::alloc::{AllocError, Global};
+use std::marker::Model;
+use std::sync::ledger::Ledger;
+
+/// A session with the systems that edits led away from and those that were undone, at most 32 in all, each of which has its
+/// levels under the session's limit. Contracts see the derivation that is kept, and these systems.
+#[derive(Drop)]
+pub struct Desk<L: Ledger, D: Derivation<L>> {
+    session: Session<L, D>,
+    history: History<System>,
+}
+
+impl<L: Ledger, D: Derivation<L>> Model for Desk<L, D> {
+    ghost use Rattle.std.specs.Coded.{codes};
+    ghost use Rattle.lsys_laws.specs.Sessions.{HasLevels};
+    ghost use Rattle.lsys_rules.specs.Codes.{expr_code};
+    ghost use Rattle.lsys_desks.specs.Desks.{EachKept};
+    ghost use Rattle.lsys_desk.specs.Views.{Bench, bench};
+
+    ghost Value = { Bench D };
+
+    ghost coded = { Prim.hlevel (codes, expr_code) };
+
+    ghost view = { λ d. bench d.session d.history };
+
+    ghost invariant = { λ d. EachKept (HasLevels (D.limit_of d.session)) d.history };
+}
+
+impl<L: Ledger, D: Derivation<L>> Desk<L, D> {
+    /// The opening system with its level, under a limit of at most 1,000,000 symbols, and nothing kept beside it.
+    ///
+    /// # Errors
+    ///
+    /// Want of memory.
+    pub fn start(alloc: Global, limit: u32) -> Result<Desk<L, D>, AllocError>
+        requires { limit ≤ 1000000 }
+        ensures desk { IfOk result (λ d. desk_on D.system_of d ≡ opening_desk) }
+        ensures limit { IfOk result (λ d. D.limit_of d.derivation ≡ limit) }
+    {
+        Ok(Desk {
+            history: History::new(alloc)?,
+            session: Session::start(alloc, limit)?,
+        })
+    }
+
+    /// Answers a line without its LF and its CR: puts its reply, and keeps the reply's desk.
+    ///
+    /// An accepted edit asks the questions that are new, and so does an undo or a redo, as an edit from the present system to
+    /// the one that it leads to. An edit whose levels are refused or for which memory is wanting asks at most as many as the
+    /// limit has symbols; nothing else asks any.
+    ///
+    /// # Errors
+    ///
+    /// The sink failed; a front of the reply was written then, and nothing more is promised of the desk but its limit, and
+    /// that the systems beside its present one have their levels.
+    pub fn command<K: Sink, V: Ledger>(
+        &mut self,
+        alloc: Global,
+        line: &[u8],
+        out: &mut Buffered,
+        sink: &mut K,
+        asked: &mut Steps<L>,
+        visited: &mut Steps<V>,
+    ) -> Result<Outcome, Failed>
+        requires { out.old ≡ [] }
+        ensures answers { Answers K.written K.faults sink.old sink.new out.new (D.limit_of self.old.derivation)
+            (desk_on D.system_of self.old) (desk_on D.system_of self.new) line.now result }
+        ensures limit { D.limit_of self.new.derivation ≡ D.limit_of self.old.derivation }
+        ensures kept { EachKept (HasLevels (D.limit_of self.old.derivation)) self.old.steps
+            → EachKept (HasLevels (D.limit_of self.new.derivation)) self.new.steps }
+        ensures counts { Counts D.visits (D.limit_of self.old.derivation)
+            (is_led (D.system_of self.old.derivation) line.now)
+            (D.system_of self.old.derivation) (D.system_of self.new.derivation)
+            (record { asked = asked.old; visited = visited.old })
+            (record { asked = asked.new; visited = visited.new }) result }
+    {
+        if line.len() > MOST_LINE_BYTES {
+            return refuse(out, sink, Refusal::LongLine);
+        }
+        match desk_line(alloc, line) {
+            Ok(None) => self.session_line(alloc, line, out, sink, asked, visited),
+            Ok(Some(line)) => self.own_line(alloc, line, out, sink, asked, visited),
+            Err(AllocError) => refuse(out, sink, Refusal::Memory),
+        }
+    }
+
+    // Answers a line that asks nothing of the desk.
+    fn session_line<K: Sink, V: Ledger>(
+        &mut self,
+        alloc: Global,
+        line: &[u8],
+        out: &mut Buffered,
+        sink: &mut K,
+        asked: &mut Steps<L>,
+        visited: &mut Steps<V>,
+    ) -> Result<Outcome, Failed>
+        requires empty { out.old ≡ [] }
+        requires short { length line.now ≤ most_line_bytes }
+        requires other { bare_asks line.now ≡ None }
+        ensures answers { Answers K.written K.faults sink.old sink.new out.new (D.limit_of self.old.derivation)
+            (desk_on D.system_of self.old) (desk_on D.system_of self.new) line.now result }
+        ensures limit { D.limit_of self.new.derivation ≡ D.limit_of self.old.derivation }
+        ensures kept { EachKept (HasLevels (D.limit_of self.new.derivation)) self.new.steps }
+        ensures counts { Counts D.visits (D.limit_of self.old.derivation)
+            (is_derived (D.system_of self.old.derivation) line.now)
+            (D.system_of self.old.derivation) (D.system_of self.new.derivation)
+            (record { asked = asked.old; visited = visited.old })
+            (record { asked = asked.new; visited = visited.new }) result }
+    {
+        let request = match request_of(alloc, self.session.system(), line) {
+            Ok(request) => request,
+            Err(refusal) => return refuse(out, sink, refusal),
+        };
+        match request {
+            Request::Edit(next) => self.lead(alloc, Step::Edit, next, out, sink, asked, visited),
+            request => self
+                .session
+                .answer(alloc, request, out, sink, asked, visited),
+        }
+    }
+
+    // Answers what a line asks of the desk.
+    fn own_line<K: Sink, V: Ledger>(
+        &mut self,
+        alloc: Global,
+        line: DeskLine,
+        out: &mut Buffered,
+        sink: &mut K,
+        asked: &mut Steps<L>,
+        visited: &mut Steps<V>,
+    ) -> Result<Outcome, Failed>
+        requires { out.old ≡ [] }
+        ensures gives { GivesOrLacks K.written K.faults sink.old sink.new out.new (desk_on D.system_of self.old)
+            (own_reply (D.limit_of self.old.derivation) (desk_on D.system_of self.old) (desk_line_of line))
+            (desk_on D.system_of self.new) result }
+        ensures limit { D.limit_of self.new.derivation ≡ D.limit_of self.old.derivation }
+        ensures kept { EachKept (HasLevels (D.limit_of self.new.derivation)) self.new.steps }
+        ensures counts { Counts D.visits (D.limit_of self.old.derivation) false
+            (D.system_of self.old.derivation) (D.system_of self.new.derivation)
+            (record { asked = asked.old; visited = visited.old })
+            (record { asked = asked.new; visited = visited.new }) result }
+    {
+        match line {
+            DeskLine::Undo => self.undo(alloc, out, sink, asked, visited),
+            DeskLine::Redo => self.redo(alloc, out, sink, asked, visited),
+            DeskLine::Growth { level } => {
+                answer_growth(alloc, self.session.system(), level, out, sink)
+            }
+        }
+    }
+
+    // Goes back to the nearest system of the past.
+    fn undo<K: Sink, V: Ledger>(
+        &mut self,
+        alloc: Global,
+        out: &mut Buffered,
+        sink: &mut K,
+        asked: &mut Steps<L>,
+        visited: &mut Steps<V>,
+    ) -> Result<Outcome, Failed>
+        requires { out.old ≡ [] }
+        ensures gives { GivesOrLacks K.written K.faults sink.old sink.new out.new (desk_on D.system_of self.old)
+            (own_reply (D.limit_of self.old.derivation) (desk_on D.system_of self.old) desks.undo)
+            (desk_on D.system_of self.new) result }
+        ensures limit { D.limit_of self.new.derivation ≡ D.limit_of self.old.derivation }
+        ensures kept { EachKept (HasLevels (D.limit_of self.new.derivation)) self.new.steps }
+        ensures counts { Counts D.visits (D.limit_of self.old.derivation) false
+            (D.system_of self.old.derivation) (D.system_of self.new.derivation)
+            (record { asked = asked.old; visited = visited.old })
+            (record { asked = asked.new; visited = visited.new }) result }
+    {
+        let Some(last) = self.history.last() else {
+            return say(out, sink, b"refused undo\n", Outcome::Refused);
+        };
+        let copied: Result<System, AllocError> = last.clone();
+        match copied {
+            Ok(last) => self.lead(alloc, Step::Undo, last, out, sink, asked, visited),
+            Err(_) => refuse(out, sink, Refusal::Memory),
+        }
+    }
+
+    // Goes on to the nearest system that was undone.
+    fn redo<K: Sink, V: Ledger>(
+        &mut self,
+        alloc: Global,
+        out: &mut Buffered,
+        sink: &mut K,
+        asked: &mut Steps<L>,
+        visited: &mut Steps<V>,
+    ) -> Result<Outcome, Failed>
+        requires { out.old ≡ [] }
+        ensures gives { GivesOrLacks K.written K.faults sink.old sink.new out.new (desk_on D.system_of self.old)
+            (own_reply (D.limit_of self.old.derivation) (desk_on D.system_of self.old) desks.redo)
+            (desk_on D.system_of self.new) result }
+        ensures limit { D.limit_of self.new.derivation ≡ D.limit_of self.old.derivation }
+        ensures kept { EachKept (HasLevels (D.limit_of self.new.derivation)) self.new.steps }
+        ensures counts { Counts D.visits (D.limit_of self.old.derivation) false
+            (D.system_of self.old.derivation) (D.system_of self.new.derivation)
+            (record { asked = asked.old; visited = visited.old })
+            (record { asked = asked.new; visited = visited.new }) result }
+    {
+        let Some(next) = self.history.next() else {
+            return say(out, sink, b"refused redo\n", Outcome::Refused);
+        };
+        let copied: Result<System, AllocError> = next.clone();
+        match copied {
+            Ok(next) => self.lead(alloc, Step::Redo, next, out, sink, asked, visited),
+            Err(_) => refuse(out, sink, Refusal::Memory),
+        }
+    }
+
+    // Goes to another system by an edit, an undo or a redo.
+    fn lead<K: Sink, V: Ledger>(
+        &mut self,
+        alloc: Global,
+        step: Step,
+        system: System,
+        out: &mut Buffered,
+        sink: &mut K,
+        asked: &mut Steps<L>,
+        visited: &mut Steps<V>,
+    ) -> Result<Outcome, Failed>
+        requires empty { out.old ≡ [] }
+        requires there { CanStep step self.old.steps }
+        ensures gives { GivesOrLacks K.written K.faults sink.old sink.new out.new (desk_on D.system_of self.old)
+            (step_answer (D.limit_of self.old.derivation) (desk_on D.system_of self.old) system
+            (steps_by step self.old.steps (D.system_of self.old.derivation)))
+            (desk_on D.system_of self.new) result }
+        ensures limit { D.limit_of self.new.derivation ≡ D.limit_of self.old.derivation }
+        ensures kept { EachKept (HasLevels (D.limit_of self.new.derivation)) self.new.steps }
+        ensures counts { Counts D.visits (D.limit_of self.old.derivation) true
+            (D.system_of self.old.derivation) (D.system_of self.new.derivation)
+            (record { asked = asked.old; visited = visited.old })
+            (record { asked = asked.new; visited = visited.new }) result }
+    {
+        let Ok(present) = self.session.system().clone() else {
+            return refuse(out, sink, Refusal::Memory);
+        };
+        let outcome = self
+            .session
+            .restore(alloc, system, out, sink, asked, visited)?;
+        take_step(&mut self.history, step, outcome, present);
+        Ok(outcome)
+    }
+}
