@@ -6,10 +6,11 @@ and on the standard library, and runs where these two files are.
 import math
 import subprocess
 
-from replies import caret_below, commands_of, refusal, reply_from
+from replies import Lines, caret_below, commands_of, refusal, reply_from
 
 # Lines that only print, and are left out where only the figure is wanted.
 QUERIES = (b"string", b"segments", b"svg", b"show")
+NUMBERED = (b"string", b"growth")
 HALF, HEIGHT = 0.5, math.sqrt(3) / 2
 # Where a place of a lattice is in space, and where it is drawn in the plane, upwards; a step has the length 1.
 SPACE = {"square": lambda x, y, z: (x, y, 0), "hexagonal": lambda x, y, z: (x + HALF * y, HEIGHT * y, 0), "cubic": lambda x, y, z: (x, y, z)}
@@ -78,7 +79,7 @@ def asked(script, level):
 
 def is_query(line):
     words = line.split()
-    return words[0] in QUERIES and (len(words) == 1 or words[0] == b"string" and len(words) == 2 and words[1].isdigit())
+    return words[0] in QUERIES and len(words) == 1 or words[0] in NUMBERED and len(words) == 2 and words[1].isdigit()
 
 
 def figure_of(program, script, level=None, words=()):
@@ -92,7 +93,7 @@ def figure_of(program, script, level=None, words=()):
     refusals = [pair + (reply,) for pair, reply in zip(commands, replies) if reply.startswith(b"refused ")]
     if refusals:
         raise Refused(refusals)
-    shown = list(reply_from(next_line(), next_line))
+    shown = list(reply_from(Lines(next_line)))
     first = next_line()
     if not first.startswith(b"segments "):
         why = first or ran.stderr or b"the program ended with status %d" % ran.returncode

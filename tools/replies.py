@@ -6,6 +6,8 @@ LONGEST_LINE = 65536
 AT_COLUMN = re.compile(rb"refused (?:syntax (?:byte|token|deep)|name|duplicate|mixed|label|table|level|many) (\d+)$")
 # The first words of replies of many lines, and the beginnings of their last ones.
 LAST_LINES = [((b"<svg ",), b"</svg>"), ((b"lattice ", b"version "), b"depth ")]
+# Behind the first line of a growth as many letters are counted as stand there; no other reply begins like these lines.
+COUNT = re.compile(rb"(?:[A-Za-z](?:_[A-Za-z0-9]{1,6})?|[-+&^\\/|!]) \d+$")
 WIDEST_SHOWN = 100
 
 
@@ -35,17 +37,37 @@ def commands_of(script):
             yield number, line
 
 
-def reply_from(first, next_line):
-    """The lines of the reply that begins with this one, the further ones as `next_line` gives them."""
+class Lines:
+    """The lines that a program writes, as `next_line` gives them, of which the next one can be looked at before it is taken."""
+
+    def __init__(self, next_line):
+        self.next_line, self.ahead = next_line, None
+
+    def peek(self):
+        if self.ahead is None:
+            self.ahead = self.next_line()
+        return self.ahead
+
+    def next(self):
+        line, self.ahead = self.peek(), None
+        return line
+
+
+def reply_from(lines):
+    """The lines of the next reply. The end of a growth is told by the line behind it alone: who waits for a reply asks something more."""
+    first = lines.next()
     yield first
     if first.startswith(b"segments "):
         for _ in range(int(first.split()[1])):
-            yield next_line()
+            yield lines.next()
+    if first.startswith(b"growth "):
+        while COUNT.match(lines.peek()):
+            yield lines.next()
     for words, last in LAST_LINES:
         if first.startswith(words):
             line = first
             while line and not line.startswith(last):
-                line = next_line()
+                line = lines.next()
                 yield line
 
 

@@ -2,12 +2,15 @@
 import re
 import subprocess
 
-from replies import LONGEST_LINE, is_command, reply_from
+from replies import LONGEST_LINE, Lines, is_command, reply_from
 
 # What an edit of this word is worth again that a script no longer has. A version is never taken back.
 OPENING = {"axiom": b"axiom", "ignore": b"ignore", "schedule": b"schedule main", "seed": b"seed 0", "depth": b"depth 0",
            "lattice": b"lattice square", "lineage": b"lineage places"}
-QUERIES = ("string", "segments", "svg", "show")
+QUERIES = ("string", "segments", "svg", "show", "growth")
+STEPS = (b"undo", b"redo")
+# So many systems are kept to go back or on to.
+MOST_STEPS = 32
 PICTURES = (b"segments", b"svg")
 RULE = re.compile(rb"[ \t]*(production|hom)[ \t]+(?:\w+[ \t]+)?(\w+)[ \t]*:")
 OWN_LIST = re.compile(rb"[ \t]*(?:(?:ignoring|consider)[ \t]+(\w+)[ \t]*:|common[ \t]+(\w+)[ \t]*$)")
@@ -16,6 +19,8 @@ BY_ITSELF = ("refused syntax ", "refused name ", "refused duplicate ")
 LONGEST_SHOWN = 2000
 # Of replies and pictures that may be asked for again, no more bytes are kept than this and one more reply.
 MOST_KEPT = 64000000
+# A line that is no command, and is refused as such.
+NO_COMMAND = b"_\n"
 
 
 class Ended(Exception):
@@ -37,7 +42,16 @@ def key_of(line):
     word = head.group() if head else word
     if word in OPENING or word in QUERIES or word == "version":
         return word, None
-    return None if word == "drop" else ("wrong", line)
+    return None if word == "drop" or is_step(line) else ("wrong", line)
+
+
+def is_step(line):
+    """Whether a line is an undo or a redo."""
+    return line.strip(b" \t") in STEPS
+
+
+def is_growth(line):
+    return line.split()[:1] == [b"growth"]
 
 
 def is_query(line):
@@ -58,6 +72,7 @@ class Program:
 
     def __init__(self, words):
         self.running = subprocess.Popen(words, stdin=subprocess.PIPE, stdout=subprocess.PIPE)
+        self.lines = Lines(self.next_line)
 
     def next_line(self):
         line = self.running.stdout.readline()
@@ -66,13 +81,17 @@ class Program:
         return line
 
     def ask(self, line):
-        """Sends a command and gives its reply."""
+        """Sends a command and gives its reply. Behind a growth one is sent whose reply is a refusal, by which the end is known."""
+        probe = NO_COMMAND if is_growth(line) else b""
         try:
-            self.running.stdin.write(line + b"\n")
+            self.running.stdin.write(line + b"\n" + probe)
             self.running.stdin.flush()
         except OSError:
             raise Ended from None
-        return b"".join(reply_from(self.next_line(), self.next_line)).decode("latin-1")
+        reply = b"".join(reply_from(self.lines)).decode("latin-1")
+        if probe:
+            self.lines.next()
+        return reply
 
     def has_ended(self):
         return self.running.poll() is not None
@@ -101,6 +120,7 @@ class Session:
     def forget(self):
         self.held, self.told, self.tried, self.answers = {}, {}, {}, {}
         self.standing, self.is_exact = 0, True
+        self.past, self.future = [], []
 
     def forget_pictures(self):
         self.pictures, self.kept_of_pictures = {}, 0
@@ -155,14 +175,27 @@ class Session:
         if not reply.startswith("ok "):
             return reply
         self.answers = {}
-        if key is None:
-            label = line.split()[1].decode("latin-1")
-            self.held = {key: kept for key, kept in self.held.items() if key[0] not in ("production", "hom") or key[1] != label}
+        if is_step(line):
+            self.step(line)
         else:
-            self.held[key] = line
-        if key == ("depth", None):
+            self.past, self.future = (self.past + [self.held])[-MOST_STEPS:], []
+            self.held = self.held_behind(key, line)
+        if key == ("depth", None) or is_step(line):
             self.standing = self.depth()
         return reply
+
+    def held_behind(self, key, line):
+        """What is held behind an accepted edit."""
+        if key is not None:
+            return {**self.held, key: line}
+        label = line.split()[1].decode("latin-1")
+        return {key: kept for key, kept in self.held.items() if key[0] not in ("production", "hom") or key[1] != label}
+
+    def step(self, line):
+        """Goes back or on to what was held."""
+        left, gained = (self.past, self.future) if line.strip(b" \t") == b"undo" else (self.future, self.past)
+        gained.append(self.held)
+        self.held = left.pop()
 
     def ask_in_turn(self, line):
         """Sends a line of the script at its place among the others, and keeps its reply."""
@@ -177,9 +210,10 @@ class Session:
 
     def follow(self, commands):
         """Brings the session to what the commands of a script say: by its changed lines where that is enough, and else from its
-        beginning. Says in a word which of the two it was. Raises Ended where the program ends in between."""
+        beginning. Says in a word which of the two it was. Raises Ended where the program ends in between. An undo goes back over the
+        edits of the program, so a script with one is always run from its beginning."""
         self.sent = []
-        if self.program:
+        if self.program and not any(map(is_step, commands)):
             if self.program.has_ended():
                 raise Ended
             self.stand_at()

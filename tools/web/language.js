@@ -2,8 +2,9 @@
 // refusal says in plain words. What a script means only the program says.
 
 export const EDITS = ["axiom", "production", "drop", "ignore", "schedule", "seed", "depth", "lattice", "hom", "version", "ignoring", "consider", "common", "lineage"];
-export const QUERIES = ["string", "segments", "svg", "show"];
-export const COMMANDS = [...EDITS, ...QUERIES, "quit"];
+export const QUERIES = ["string", "segments", "svg", "show", "growth"];
+export const STEPS = ["undo", "redo"];
+export const COMMANDS = [...EDITS, ...QUERIES, ...STEPS, "quit"];
 const RULES = ["production", "hom"];
 // Behind these words, or behind the first colon of these, there are names and no words.
 const NAMES_BEHIND_WORD = ["axiom", "ignore"];
@@ -114,6 +115,11 @@ const MEANINGS = [
     [/^refused limit/, "the levels would be too large together"],
     [/^refused image/, "the picture would have more than 1,000,000 symbols"],
     [/^refused far/, "the picture would reach too far"],
+    [/^refused undo/, "no system is kept that stands before this one"],
+    [/^refused redo/, "nothing was undone since the last edit"],
+    [/^refused growth/, "only where every module of a letter is rewritten alike is its growth known"],
+    [/^refused letters/, "more than 63 letters"],
+    [/^refused overflow/, "the level would have 2^128 symbols or more"],
     [/^refused memory/, "there is no memory for it"],
 ];
 
