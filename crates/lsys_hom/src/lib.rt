@@ -12,4 +12,6 @@ mod walk;
 
 pub use image::Image;
 pub use law::law_of_images;
+pub use part::Part;
 pub use refusal::ImageRefusal;
+pub use walk::part_of;

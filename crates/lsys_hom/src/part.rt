@@ -18,7 +18,7 @@ use lsys_text::Name;
 
 /// What is left of the image of one symbol.
 #[derive(Clone, Copy)]
-pub(crate) enum Part<'a> {
+pub enum Part<'a> {
     Nothing,
     /// A bracket, or a module that stays.
     Single(Symbol),
@@ -31,7 +31,7 @@ pub(crate) enum Part<'a> {
 
 impl<'a> Part<'a> {
     /// The image of a module, of which no parameter has a fault.
-    pub(crate) fn of_module(
+    pub fn of_module(
         rules: &'a [HomRule],
         name: Name,
         params: &'a [i64],
@@ -53,7 +53,7 @@ impl<'a> Part<'a> {
     }
 
     /// How many symbols there are.
-    pub(crate) fn len(&self) -> usize
+    pub fn len(&self) -> usize
         requires { IsSound self.now }
         ensures { result ≡ length (symbols_of self.now) }
     {
@@ -65,7 +65,7 @@ impl<'a> Part<'a> {
     }
 
     /// Takes the first symbol.
-    pub(crate) fn next(&mut self) -> Option<Symbol>
+    pub fn next(&mut self) -> Option<Symbol>
         requires { IsSound self.old }
         ensures taken { IsTaken (symbols_of self.old) (symbols_of self.new) result }
         ensures sound { IsSound self.new }

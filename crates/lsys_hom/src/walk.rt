@@ -127,7 +127,7 @@ fn modules_behind(modules: u32, sight: &Sight<'_>) -> u32
 /// # Errors
 ///
 /// The module's fault, or the limit, which comes behind it.
-pub(crate) fn part_of<'a>(
+pub fn part_of<'a>(
     rules: &'a [HomRule],
     sight: Sight<'a>,
     modules: u32,

@@ -8,7 +8,7 @@ use Rattle.lsys_module.specs.Views.{string_of, symbol_of}
 use Rattle.lsys_module.specs.declared.symbol.Symbol.{Symbol}
 use Rattle.lsys_level.specs.Spots.{Seen, Push, Pop, Module, Spotted, named, level_at, level_by, with_lineage, spotted_at}
 use Rattle.lsys_level.specs.Views.{IsCopy}
-use Rattle.lsys_level.proofs.Lists.{from_option_map}
+use Rattle.lsys_region.proofs.ListLemmas.{from_option_map}
 
 -- how many symbols are still to be copied
 abbrev pub left_over : {S : Type 0} → (S → ℕ) → List Spotted → Option S → ℕ

@@ -1,4 +1,3 @@
-pub mod Lists
 pub mod Mating
 pub mod Bare
 pub mod Naming

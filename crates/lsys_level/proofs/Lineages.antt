@@ -12,7 +12,7 @@ use Rattle.lsys_level.specs.Spots as S
 use Rattle.lsys_level.specs.Spots.{Spotted, Seen, with_lineage, named, level_by, level_at, spotted_at}
 use Rattle.lsys_level.specs.Tags.{HasOwnTags, NamesLevels, TagsTell, ShowsLevels, IsNamed}
 use Rattle.lsys_level.specs.Places.{spots_of, has_cut}
-use Rattle.lsys_level.proofs.Lists.{from_option_map}
+use Rattle.lsys_region.proofs.ListLemmas.{from_option_map}
 
 -- no tag stands twice in the list
 record IsApart (tags : List ℕ) : Type 0 where

@@ -13,7 +13,7 @@ use Rattle.lsys_level.specs.declared.place.Kind.TheVariants as kinds
 use Rattle.lsys_level.specs.declared.place.Place.{Place}
 use Rattle.lsys_level.specs.Spots.{Seen, Push, Pop, Module, Spotted, with_lineage, named, level_by, IsMate, IsBracket}
 use Rattle.lsys_level.specs.Places.{seen_in, seen_as, spotted, spots_of, bare, params_in, place_of, Mates, has_cut, IsWithin, Fits, AllFit, IsRow}
-use Rattle.lsys_level.proofs.Lists.{slice_get-push_cases}
+use Rattle.lsys_region.proofs.ListLemmas.{slice_get-push_cases}
 use Rattle.lsys_level.proofs.Naming.{mates_named}
 
 -- 1. what stood in a list still stands there when more is behind it

@@ -5,7 +5,7 @@ use Rattle.lsys_module.specs.declared.symbol.Symbol.{Symbol}
 use Rattle.lsys_level.specs.Spots.{Spotted, level_at}
 use Rattle.lsys_level.specs.Places.{spots_of}
 use Rattle.lsys_level.specs.Tags.{HasOwnTags}
-use Rattle.lsys_level.proofs.Lists.{slice_get-push_cases}
+use Rattle.lsys_region.proofs.ListLemmas.{slice_get-push_cases}
 use Rattle.lsys_level.proofs.Owning.{below_none, own_none, own_running, running}
 
 pub one_own : (symbols : List Symbol) (tags keys : List ℕ) → ((p t : ℕ) → slice_get tags p ≡ Some t → t ≡ p) → HasOwnTags ([] ++ spots_of symbols tags keys ∷ [])

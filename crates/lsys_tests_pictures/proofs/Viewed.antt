@@ -10,7 +10,7 @@ use Rattle.lsys_level.specs.Spots.{Spotted, level_by}
 use Rattle.lsys_level.specs.Places.{has_cut, spots_of}
 use Rattle.lsys_level.specs.Tags.{HasOwnTags}
 use Rattle.lsys_level.proofs.Lineages.{strings}
-use Rattle.lsys_level.proofs.Lists.{slice_get-push_cases}
+use Rattle.lsys_region.proofs.ListLemmas.{slice_get-push_cases}
 use Rattle.lsys_level.proofs.Owning.{below_none, no_longer, own_none, own_running, running}
 use Rattle.lsys_spec.specs.Systems.{System, WellSpelled}
 use Rattle.lsys_out.specs.Nesting.{HasLast}

@@ -7,8 +7,8 @@ ghost use Rattle.lsys_turtle.specs.Ways.{act_of};
 use lsys_lattice::Turn;
 use lsys_module::Module;
 
-/// What a turtle does.
-pub(crate) enum Act {
+/// What a turtle does at a symbol.
+pub enum Act {
     /// It moves by so many steps and draws a segment.
     Draws(i64),
     /// It moves by so many steps.
@@ -30,7 +30,7 @@ fn pen_width(parameter: i64) -> u32
 
 impl Act {
     /// What a module has a turtle do. Its name's first letter and its first parameter alone tell it.
-    pub(crate) fn of(symbol: &Module) -> Act
+    pub fn of(symbol: &Module) -> Act
         ensures { act_of result ≡ act (module_name symbol.now.name) symbol.now.params }
     {
         let text = symbol.name.text();

@@ -8,5 +8,6 @@ mod pose;
 mod segment;
 mod turtle;
 
+pub use act::Act;
 pub use segment::{Far, Segment};
 pub use turtle::Turtle;
