@@ -19,7 +19,7 @@ use Rattle.lsys_forest.specs.Answers.{Keeper, AtNode, AtChange, answer_of, old_a
 use Rattle.lsys_forest.proofs.StockLemmas.{put_same, put_other}
 use Rattle.lsys_forest.proofs.SoundLemmas.{IsSet, set_answer, set_sound, set_back, AreSound-push, AreSound-rest, AreSound-now, AreSound-then}
 use Rattle.lsys_kept.specs.Names.{RunName, InTraces, InValues, Entries, Values, run_in, holds}
-use Rattle.lsys_pass.specs.Levels.{answer_at}
+use Rattle.lsys_kept.specs.Levels.{answer_at}
 use Rattle.lsys_pass.specs.Stages.{IsStored}
 use Rattle.lsys_pass.proofs.Stores.{AllMade, AllStay}
 

@@ -21,9 +21,10 @@ use Rattle.lsys_forest.specs.Groves.{AreKids, HasFew, IsSound}
 use Rattle.lsys_forest.specs.Rows.{kids_in, kids_below, spot_in, level_nodes, level_spots}
 use Rattle.lsys_forest.proofs.SoundLemmas.{AreSound-rest}
 use Rattle.lsys_seats.specs.declared.seat.Seat.{Seat}
-use Rattle.lsys_pass.specs.Lineages.{kin_of, kins, names}
-use Rattle.lsys_pass.specs.Levels.{answer_at}
-use Rattle.lsys_pass.specs.Rests.{meant, IsResting}
+use Rattle.lsys_kept.specs.Lineages.{kin_of, kins, names}
+use Rattle.lsys_kept.specs.Levels.{answer_at}
+use Rattle.lsys_kept.specs.Meant.{meant}
+use Rattle.lsys_pass.specs.Rests.{IsResting}
 use Rattle.lsys_pass.specs.Stages.{IsStored}
 
 none_over : (m : ℕ) → nat_lt m 0 ≡ false

@@ -16,7 +16,7 @@ use Rattle.lsys_forest.specs.Nodes.{Nodes}
 use Rattle.lsys_forest.specs.Groves.{In}
 use Rattle.lsys_forest.specs.Rows.{level_spots}
 use Rattle.lsys_seats.specs.declared.seat.Seat.{Seat}
-use Rattle.lsys_pass.specs.Levels.{IsRight, IsKeptFor, IsAnswered, AnsweredIn, answer_at, tags_named, tags_read, HasRead}
+use Rattle.lsys_kept.specs.Levels.{IsRight, IsKeptFor, IsAnswered, AnsweredIn, answer_at, tags_named, tags_read, HasRead}
 use Rattle.lsys_pass.specs.Rests.{IsResting}
 
 -- each answer that nodes keep was made with the store

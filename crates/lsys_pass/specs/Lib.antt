@@ -1,5 +1,3 @@
-pub mod Lineages
-pub mod Levels
 pub mod Rests
 pub mod Stages
 pub mod Passes

@@ -1,8 +1,7 @@
 -- What is kept at rest.
-use Rattle.std.specs.Prelude.{◌≡◌, ◌<◌, ◌⊎◌, ◌↔◌, ℕ, true, List, [], length, Result, Ok, Err, Some, None, slice_get}
+use Rattle.std.specs.Prelude.{◌≡◌, ◌<◌, ◌⊎◌, ◌↔◌, ℕ, true, List, [], length, Ok, Some, None, slice_get}
 use Rattle.lsys_spec.specs.Systems.{System, WellSpelled}
-use Rattle.lsys_spec.specs.Levels as L
-use Rattle.lsys_spec.specs.Meaning.{LevelRefusal, meaning, meaning_to}
+use Rattle.lsys_spec.specs.Meaning.{meaning}
 use Rattle.lsys_walks.specs.Stores.{Store}
 use Rattle.lsys_match.specs.Kept.{Kept}
 use Rattle.lsys_match.specs.Asks.{IsMade}
@@ -11,22 +10,11 @@ use Rattle.lsys_change.specs.Nodes.{AreOnce}
 use Rattle.lsys_forest.specs.Nodes.{Node, Nodes}
 use Rattle.lsys_forest.specs.Groves.{In, Reached}
 use Rattle.lsys_forest.specs.Rows.{level_nodes}
+use Rattle.lsys_kept.specs.Lineages.{kins}
+use Rattle.lsys_kept.specs.Levels.{HaveLevels, AnsweredAt, answer_at, HasRead}
+use Rattle.lsys_kept.specs.Meant.{meant}
 use Rattle.lsys_seats.specs.declared.seat.Seat.{Seat}
 use Rattle.lsys_seats.specs.Standings.{AreSeated}
-use Rattle.lsys_pass.specs.Lineages.{kins}
-use Rattle.lsys_pass.specs.Levels.{HaveLevels, AnsweredAt, answer_at, HasRead}
-
--- the levels that a system has; none where it has none
-abbrev pub levels_or_none : Result (List (List L.Symbol)) LevelRefusal → List (List L.Symbol)
-levels_or_none (Ok xs) = xs
-levels_or_none (Err e) = []
-
-abbrev pub meant : System → ℕ → List (List L.Symbol)
-meant s limit = levels_or_none (meaning s limit)
-
--- those up to level t
-abbrev pub meant_to : System → ℕ → ℕ → List (List L.Symbol)
-meant_to s limit t = levels_or_none (meaning_to s limit t)
 
 -- The nodes are the levels of the system, with the answers to all its questions; who read what is settled; and the seat of
 -- each node tells who is beside it. Behind the last level there are no nodes, and no node lives that is not reached.

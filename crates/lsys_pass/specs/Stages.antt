@@ -1,7 +1,6 @@
 -- What a pass keeps true while it makes the levels of another system.
-use Rattle.std.specs.Prelude.{◌≡◌, ◌<◌, ◌≤◌, ◌+◌, ◌^◌, ◌⊎◌, ◌↔◌, ℕ, true, List, [], ◌∷◌, length, Ok, Err, Option, Some, None, cond, nat_eq, get_or, slice_get}
+use Rattle.std.specs.Prelude.{◌≡◌, ◌<◌, ◌≤◌, ◌+◌, ◌^◌, ◌⊎◌, ◌↔◌, ℕ, true, List, [], ◌∷◌, length, Ok, Err, Option, Some, None, cond, nat_eq, slice_get}
 use Rattle.lsys_spec.specs.Systems.{System, WellSpelled}
-use Rattle.lsys_spec.specs.Bodies.{group}
 use Rattle.lsys_spec.specs.Levels.{ModuleValue, Module}
 use Rattle.lsys_spec.specs.Levels as L
 use Rattle.lsys_spec.specs.Meaning.{meaning, meaning_to, successor}
@@ -12,18 +11,18 @@ use Rattle.lsys_match.specs.Kept.{Kept}
 use Rattle.lsys_match.specs.Asks.{IsMade}
 use Rattle.lsys_reads.specs.Relations.{Relations, is_pending}
 use Rattle.lsys_change.specs.Nodes.{AreOnce, Extends}
-use Rattle.lsys_change.specs.Passes.{module_question, is_candidate_at}
 use Rattle.lsys_forest.specs.Nodes.{Node, Nodes}
 use Rattle.lsys_forest.specs.Changes.{Change, undone}
 use Rattle.lsys_forest.specs.Answers.{Keeper, answers}
 use Rattle.lsys_forest.specs.Groves.{In, AreApart, AreSound, Reached}
 use Rattle.lsys_forest.specs.Rows.{level_nodes}
 use Rattle.lsys_kept.specs.Names.{RunName, holds}
+use Rattle.lsys_kept.specs.Lineages.{kins}
+use Rattle.lsys_kept.specs.Levels.{HaveLevels, AnsweredAt, answer_at, HasRead}
+use Rattle.lsys_kept.specs.Meant.{meant, meant_to, level_to, IsCandidate}
 use Rattle.lsys_seats.specs.declared.seat.Seat.{Seat}
 use Rattle.lsys_pass.specs.declared.fault.Faulted.{Faulted}
-use Rattle.lsys_pass.specs.Lineages.{kins}
-use Rattle.lsys_pass.specs.Levels.{HaveLevels, AnsweredAt, answer_at, HasRead}
-use Rattle.lsys_pass.specs.Rests.{meant, meant_to, IsResting}
+use Rattle.lsys_pass.specs.Rests.{IsResting}
 
 -- The nodes, what they were before each change since the last rest, and the root; the store of their answers; who read what; the
 -- seats of the last rest; the system of the last rest, and the one that is being made; the limit; the nodes of the level that are
@@ -47,10 +46,6 @@ pub record Stage : Type 0 where
 -- the nodes of the last rest
 abbrev pub was : Stage → Nodes Kept
 was s = undone s.changes s.now
-
--- level t of a system
-abbrev pub level_to : System → ℕ → ℕ → List L.Symbol
-level_to s limit t = get_or (meant_to s limit t) t []
 
 -- 1. at any time
 
@@ -88,15 +83,6 @@ abbrev pub IsOutcome : Stage → ℕ → ℕ → ℕ → Type 0
 IsOutcome s t p k =
     OutcomeBy (fault_in k s.faults) (AnsweredAt s.next t s.now s.root s.store p k)
     (HasFault s.next t (level_to s.next s.limit t) p)
-
--- The module at place p of level t of a new system has a question that is a candidate.
-pub record IsCandidate (old new : System) (limit t p : ℕ) : Type 0 where
-  pub line : List ℕ
-  pub own : ModuleValue
-  pub stands : slice_get (level_to new limit t) p ≡ Some (Module line own)
-  pub rules : group new t own.name (length own.params) ≡ [] → ⊥
-  pub is : is_candidate_at old new (meant old limit) t (level_to new limit t)
-      (module_question new t (level_to new limit t) p line own) ≡ true
 
 -- node k at place p of level t is still to be asked: a candidate, with the answer that it had, and no fault
 pub record IsOpen (s : Stage) (t p k : ℕ) : Type 0 where

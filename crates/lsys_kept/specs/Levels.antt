@@ -17,7 +17,7 @@ use Rattle.lsys_forest.specs.Nodes.{Nodes}
 use Rattle.lsys_forest.specs.Answers.{answer_of}
 use Rattle.lsys_forest.specs.Groves.{In}
 use Rattle.lsys_forest.specs.Rows.{level_spots}
-use Rattle.lsys_pass.specs.Lineages.{names}
+use Rattle.lsys_kept.specs.Lineages.{names}
 
 -- level t of the nodes, by the lineages that they have
 abbrev pub level_of : Nodes Kept → ℕ → ℕ → List L.Symbol
