@@ -1,12 +1,12 @@
 -- A desk: a system with those that edits led away from and those that were undone. What it answers a line, and a script.
-use Rattle.std.specs.Prelude.{◌≡◌, ℕ, ◌+◌, Bool, true, false, not, ◌&&◌, Option, Some, None, Result, Ok, Err, All, List, [], ◌∷◌, codes, bytes_eq, if◌then◌else◌}
+use Rattle.std.specs.Prelude.{◌≡◌, ℕ, ◌+◌, Bool, true, false, not, ◌&&◌, nat_lt, length, Option, Some, None, Result, Ok, Err, All, List, [], ◌∷◌, codes, bytes_eq, if◌then◌else◌}
 use Rattle.lsys_syntax.specs.Lines.{lines_of, without_cr}
 use Rattle.lsys_syntax.specs.Tokens.{Token, Kind, Word, Number, tokens}
 use Rattle.lsys_syntax.specs.Commands.{Command}
 use Rattle.lsys_spec.specs.Systems.{System, opening}
 use Rattle.lsys_spec.specs.Refusals.{Reply, said, refused, refused_memory, is_long, is_passed_over}
 use Rattle.lsys_spec.specs.Replies.{reply, edited, levels_of, is_query, spelled_command}
-use Rattle.lsys_spec.specs.Output.{may_lack_memory}
+use Rattle.lsys_spec.specs.Output.{may_lack_memory, whole_lines}
 use Rattle.lsys_growth_laws.specs.Growth.{Census, GrowthFault, growth_at, growth_text, growth_fault_text}
 use Rattle.lsys_history.specs.Timelines as timelines
 
@@ -137,6 +137,14 @@ abbrev pub desk_out : ℕ → List ℕ → (ℕ → Bool) → List Reply
 desk_out limit script M = desk_replies_from limit M 1 opening_desk (lines_of script)
 
 -- 4. what is said of lines and of what is kept
+
+-- those of some numbers that are at most n
+abbrev pub up_to : ℕ → (ℕ → Bool) → ℕ → Bool
+up_to n M i = M i && not (nat_lt n i)
+
+-- those of some lines' numbers that belong to the whole lines of these bytes
+abbrev pub numbers_of_whole : List ℕ → (ℕ → Bool) → ℕ → Bool
+numbers_of_whole bytes M = up_to (length (lines_of (whole_lines bytes))) M
 
 -- no line asks anything of the desk
 abbrev pub HasNoDeskLine : List (List ℕ) → Type 0

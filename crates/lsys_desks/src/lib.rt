@@ -10,14 +10,22 @@ ghost use Rattle.lsys_syntax.specs.Lines.{lines_of};
 ghost use Rattle.lsys_spec.specs.Systems.{System};
 ghost use Rattle.lsys_spec.specs.Refusals.{Reply};
 ghost use Rattle.lsys_spec.specs.Replies.{reply};
-ghost use Rattle.lsys_spec.specs.Output.{out};
+ghost use Rattle.lsys_spec.specs.Output.{out, whole_lines, IsFront};
 ghost use Rattle.lsys_laws.specs.Sessions.{HasLevels};
-ghost use Rattle.lsys_desks.specs.Desks.{Desk, HasNoDeskLine, desk_out, is_edit, own_reply, redo, session_reply, undo};
+ghost use Rattle.lsys_desks.specs.Desks.{Desk, HasNoDeskLine, desk_out, is_edit, numbers_of_whole, own_reply, redo, session_reply, undo};
 
 /// A script without desk lines is answered as without a desk.
 pub fn law_of_the_former_text()
     ensures { (limit : ℕ) (script : List ℕ) (M : ℕ → Bool) → HasNoDeskLine (lines_of script)
         → desk_out limit script M ≡ out (reply limit) script M }
+{}
+
+/// Take any front of a script's bytes, and any set of lines that are refused for want of memory. Of the front keep the whole
+/// lines, and of the set the numbers of these: the replies are a front of the replies to the script. So a script that is cut
+/// off never changes an earlier reply.
+pub fn law_of_cuts()
+    ensures { (limit : ℕ) (front script : List ℕ) (M : ℕ → Bool) → IsFront front script
+        → IsFront (desk_out limit (whole_lines front) (numbers_of_whole front M)) (desk_out limit script M) }
 {}
 
 /// Where the nearest system of the past has its levels, an undo isn't refused and leads back to it; and where the present
