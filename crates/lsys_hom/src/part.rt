@@ -31,11 +31,7 @@ pub enum Part<'a> {
 
 impl<'a> Part<'a> {
     /// The image of a module, of which no parameter has a fault.
-    pub fn of_module(
-        rules: &'a [HomRule],
-        name: Name,
-        params: &'a [i64],
-    ) -> Result<Part<'a>, Arith>
+    pub fn of_module(rules: &'a [HomRule], name: Name, params: &'a [i64]) -> Result<Part<'a>, Arith>
         requires { length params.now ≤ 8 }
         ensures { IsImage (image_of (map homomorphism_of rules.now) (module_with name params.now)) result }
     {
