@@ -1,11 +1,14 @@
 -- The rules of a group.
-use Rattle.std.proofs.Common.{ap₂, eqb, ◌&&◌, is_some, zero, suc, ◌≡◌, ℕ, Bool, true, false, List, [], ◌∷◌, ◌+◌, ◌≤◌, ◌<◌, length, length-append, map, slice_get, drop, Option, Some, None, arith, ap, sym, ◌∙◌, refl, if◌then◌else◌}
-use Rattle.lsys_bodies.specs.declared.body.Body.{Body as CodeBody}
+use Rattle.std.proofs.Common.{ap₂, eqb, ◌&&◌, is_some, zero, suc, ◌≡◌, ℕ, Bool, true, false, List, [], ◌∷◌, ◌+◌, ◌≤◌, ◌<◌, length, map, slice_get, drop, Option, Some, None, arith, ap, sym, ◌∙◌, refl, if◌then◌else◌}
 use Rattle.lsys_bodies.specs.declared.rule.Rule.{Rule}
 use Rattle.lsys_match.specs.Groups.{bodies_of, meant, rules_of}
 use Rattle.lsys_spec.specs.Bodies.{Body}
 use Rattle.lsys_spec.specs.Equalities.{same_all, same_body}
-use Rattle.lsys_spec.specs.Meaning.{any_weight}
+use Rattle.lsys_spec.specs.Meaning.{any_weight, ignores}
+use Rattle.lsys_spec.specs.Standings.{all_ignored, free, no_left, no_patterns}
+use Rattle.lsys_syntax.specs.Strings.{ModuleName}
+use Rattle.lsys_module.specs.Views.{module_name}
+use Rattle.std.specs.List.{list_all}
 use Rattle.std.proofs.Math.Dec.{eqb-zero-suc, eqb-suc-suc}
 use Rattle.std.specs.Prelude.{option_map}
 use Rattle.std.proofs.lemmas.List.{length-map}
@@ -34,6 +37,22 @@ weight_on bs i b h = ap any_weight (at_place bs i b h).1 ∙ by (is_some b.weigh
     by : (x y : Bool) → (elim x [ true ↦ true | false ↦ y ]) ≡ (if x then true else y)
     by true y = refl
     by false y = refl
+
+-- whether no rule from a place on has a context
+pub free_on : (bs : List Body) (i : ℕ) (b : Body) → Some b ≡ slice_get bs i → free (drop i bs) ≡ free (b ∷ []) && free (drop (i + 1) bs)
+free_on bs i b h = ap free (at_place bs i b h).1 ∙ by (no_left b.left && no_patterns b.right) (free (drop (i + 1) bs))
+  where
+    by : (x y : Bool) → (x && y) ≡ ((x && true) && y)
+    by true y = refl
+    by false y = refl
+
+-- each of some names is among others
+pub all_named : (others : List ModuleName) (names : List (List ℕ)) → list_all (λ o. ignores others (module_name o)) names ≡ all_ignored (map module_name names) others
+all_named others [] = refl
+all_named others (x ∷ xs) = step (ignores others (module_name x)) _ _ (all_named others xs)
+  where
+    step : (a b c : Bool) → b ≡ c → (a && b) ≡ (a && c)
+    step a b c h = ap (λ d. a && d) h
 
 -- two groups that are compared from a place on
 

@@ -1,5 +1,5 @@
 -- Which symbols have a question.
-use Rattle.std.proofs.Common.{◌≡◌, ℕ, ℤ, Bor, ◌<◌, List, [], ◌∷◌, length, slice_get, Option, Some, None, refl, sym, ap, ◌∙◌, arith}
+use Rattle.std.proofs.Common.{◌≡◌, ℕ, ℤ, Bor, ◌<◌, List, [], length, slice_get, Option, Some, None, refl, sym, ap, ◌∙◌, arith}
 use Rattle.std.specs.Prelude.{option_map}
 use Rattle.std.proofs.lemmas.Option.{same_Some}
 use Rattle.lsys_spec.specs.Systems.{System}

@@ -1,15 +1,17 @@
 //! The rules for a module.
-ghost use Rattle.std.specs.Prelude.{◌≡◌, ◌<◌, ◌≤◌, length, map, slice_get, IfOk, IfSome};
+ghost use Rattle.std.specs.Prelude.{◌≡◌, ◌<◌, ◌≤◌, ◌∷◌, [], length, map, not, slice_get, IfOk, IfSome};
 ghost use Rattle.std.specs.Option.{option_map};
 ghost use Rattle.lsys_syntax.specs.Limits.{most_rules};
-ghost use Rattle.lsys_spec.specs.Bodies.{group};
+ghost use Rattle.lsys_bodies.specs.Views.{nest};
+ghost use Rattle.lsys_spec.specs.Bodies.{group, innermost};
 ghost use Rattle.lsys_spec.specs.Equalities.{same_all, same_body};
 ghost use Rattle.lsys_spec.specs.Meaning.{any_weight};
+ghost use Rattle.lsys_spec.specs.Standings.{free, no_patterns};
 ghost use Rattle.lsys_module.specs.Views.{module_name};
 ghost use Rattle.lsys_laws.specs.Sessions.{IsWell};
 ghost use Rattle.lsys_match.specs.Groups.{bodies_of, meant, rules_found, rules_of};
 
-use lsys_bodies::{Rule, SharedBody};
+use lsys_bodies::{Item, Rule, SharedBody};
 use lsys_rules::{SharedGroup, System};
 use lsys_text::Name;
 use std::alloc::AllocError;
@@ -40,6 +42,20 @@ impl<'a> Model for Group<'a> {
 
     ghost invariant = { λ a. (a.shared.now ≡ a.rules.now) × (0 < length a.rules.now)
         × (length a.rules.now ≤ most_rules) };
+}
+
+// The rule has a left or a right context.
+fn has_context(body: &SharedBody) -> bool
+    ensures { result ≡ not (free (meant body.now ∷ [])) }
+{
+    !body.left().is_empty() || has_pattern(body.right())
+}
+
+// A right context has a pattern or a branch. (It is balanced, so it doesn't begin with `]`.)
+fn has_pattern(items: &[Item]) -> bool
+    ensures { result ≡ not (no_patterns (innermost (nest items.now))) }
+{
+    matches!(items.first(), Some(Item::Push | Item::Pattern(_)))
 }
 
 impl<'a> Group<'a> {
@@ -77,6 +93,20 @@ impl<'a> Group<'a> {
             place += 1;
         }
         false
+    }
+
+    /// No rule has a context.
+    pub fn is_free(&self) -> bool
+        ensures { result ≡ free (rules_of self.now) }
+    {
+        let mut place = 0;
+        while let Some(body) = self.get(place) {
+            if has_context(body) {
+                return false;
+            }
+            place += 1;
+        }
+        true
     }
 
     /// The rules, to be kept: they are shared, so none is copied.

@@ -1,7 +1,7 @@
 use Rattle.std.proofs.Common.{◌≡◌, map, slice_get, Some, ap, sym, ◌∙◌}
 use Rattle.std.specs.Prelude.{option_map}
 use Rattle.std.proofs.lemmas.Option.{slice_get-map, slice_get-get_or}
-use Rattle.lsys_match.specs.Groups.{meant, rules_of}
+use Rattle.lsys_match.specs.Groups.{meant}
 use Rattle.lsys_match.proofs.group.Group.get.Goals as goal
 
 pub returns-clause-body : goal.returns-clause-body

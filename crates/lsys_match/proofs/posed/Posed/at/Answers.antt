@@ -2,7 +2,7 @@ use Rattle.lsys_spec.specs.Levels.{ModuleValue}
 use Rattle.lsys_level.specs.Spots.{level_at}
 use Rattle.lsys_module.specs.Views.{module_name}
 use Rattle.lsys_match.specs.Groups.{rules_of}
-use Rattle.lsys_match.proofs.Unasked.{bracketed, posed_there, ruled, unruled}
+use Rattle.lsys_match.proofs.Unasked.{bracketed, posed_there, ruled}
 use Rattle.lsys_match.proofs.posed.Posed.at.Goals as goal
 
 pub returns-in_default : goal.returns-in_default

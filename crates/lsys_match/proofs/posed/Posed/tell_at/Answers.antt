@@ -1,4 +1,4 @@
-use Rattle.std.proofs.Common.{◌≡◌, ℕ, List, length, subst, ◌∙◌}
+use Rattle.std.proofs.Common.{◌≡◌, ℕ, List, length, subst}
 use Rattle.lsys_level.specs.Spots.{level_at}
 use Rattle.lsys_match.specs.Answered.{Counts, trace_told}
 use Rattle.lsys_match.specs.Asking.{posed_by, site_of, told_for}
