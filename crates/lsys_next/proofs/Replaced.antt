@@ -1,0 +1,54 @@
+-- A right answer tells what replaces its node.
+use Rattle.std.proofs.Common.{◌≡◌, ◌+◌, ◌<◌, ℕ, zero, suc, map, Option, Some, None, Result, Ok, List, [], ◌∷◌, length, refl, sym, ap, ◌∙◌, subst}
+use Rattle.std.specs.Prelude.{ℤ, slice_get, option_map}
+use Rattle.std.proofs.lemmas.Option.{slice_get-map}
+use Rattle.lsys_syntax.specs.Strings as S
+use Rattle.lsys_spec.specs.Draws.{key_of}
+use Rattle.lsys_spec.specs.Systems.{System}
+use Rattle.lsys_spec.specs.Bodies.{Body, group}
+use Rattle.lsys_spec.specs.Levels.{ModuleValue}
+use Rattle.lsys_spec.specs.Levels as L
+use Rattle.lsys_spec.specs.Choice.{Fault}
+use Rattle.lsys_spec.specs.Meaning.{successor, successor_by, asked}
+use Rattle.lsys_change.specs.Children.{replacement}
+use Rattle.lsys_level.specs.Spots.{Seen, Push, Pop, Module, Spotted, with_lineage, level_by}
+use Rattle.lsys_walks.specs.Stores.{Store}
+use Rattle.lsys_match.specs.Kept.{Kept}
+use Rattle.lsys_forest.specs.Nodes.{Nodes}
+use Rattle.lsys_forest.specs.Rows.{spot_in, level_nodes, level_spots}
+use Rattle.lsys_kept.specs.Lineages.{names}
+use Rattle.lsys_kept.specs.Levels.{level_of, answer_at, IsRight, IsKeptFor, IsAnswered, AnsweredAt}
+use Rattle.lsys_next.specs.Nexts.{symbol_at}
+use Rattle.lsys_next.specs.Answers.{replaced_by, successors}
+
+no_rules : (s : System) (t : ℕ) (x : List L.Symbol) (p : ℕ) (l : List ℕ) (v : ModuleValue) → group s t v.name (length v.params) ≡ [] → successor s t x p l v ≡ Ok (S.Module v.name v.params ∷ [])
+no_rules s t x p l v e = ap (λ (bs : List Body). successor_by bs v (asked s t bs x p l v).answer) e
+
+module _ (s : System) (t : ℕ) (m : Nodes Kept) (root : ℕ) (store : Store) (p : ℕ) where
+  row : List Spotted
+  row = level_spots m root t
+
+  pub replaced : (k : ℕ) → ((a : Spotted) → slice_get (level_spots m root t) p ≡ Some a → a.key ≡ key_of s.seed (names m a.tag))
+      → AnsweredAt s t m root store p k → slice_get (level_nodes m root t) p ≡ Some k
+      → replacement s t (level_of m root t) p (symbol_at m k) ≡ Ok (successors m k)
+  replaced k keys answered there = by (spot_in k (m k)).seen (answer_at m k) refl (answered (spot_in k (m k)) here)
+    where
+      here : slice_get (level_spots m root t) p ≡ Some (spot_in k (m k))
+      here = slice_get-map (λ k. spot_in k (m k)) (level_nodes m root t) p ∙ ap (λ o. option_map (λ k. spot_in k (m k)) o) there
+
+      tag : ℕ
+      tag = (spot_in k (m k)).tag
+
+      by : (x : Seen) (o : Option Kept) → (spot_in k (m k)).seen ≡ x → IsAnswered s t (level_spots m root t) store p (spot_in k (m k)).tag x o
+          → replacement s t (level_of m root t) p (with_lineage (names m (spot_in k (m k)).tag) x) ≡ Ok (replaced_by x o)
+      by Push o e h = refl
+      by Pop o e h = refl
+      by (Module v) o e h = of (group s t v.name (length v.params)) refl h
+        where
+          whole : slice_get (level_spots m root t) p ≡ Some (record { seen = Module v; tag = (spot_in k (m k)).tag; key = key_of s.seed (names m (spot_in k (m k)).tag) })
+          whole = here ∙ (λ i. Some (record { seen = e i; tag = (spot_in k (m k)).tag; key = keys (spot_in k (m k)) here i }))
+
+          of : (bs : List Body) → group s t v.name (length v.params) ≡ bs → IsKeptFor bs (IsRight s t (level_spots m root t) store p (spot_in k (m k)).tag v) o
+              → successor s t (level_of m root t) p (names m (spot_in k (m k)).tag) v ≡ Ok (replaced_by (Module v) o)
+          of [] f none = no_rules s t (level_of m root t) p (names m (spot_in k (m k)).tag) v f ∙ ap (λ o. Ok (replaced_by (Module v) o)) (sym none)
+          of (b ∷ bs) f some = sym (some.2.answer.told (names m) (record { here = whole })).successor ∙ ap (λ o. Ok (replaced_by (Module v) o)) (sym some.1)

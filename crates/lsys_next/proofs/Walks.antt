@@ -1,0 +1,106 @@
+-- What is wanted of the nodes of a level, one after the other.
+use Rattle.std.proofs.Common.{◌≡◌, ◌≢◌, ◌⊎◌, ◌+◌, ◌<◌, ◌≤◌, ℕ, zero, suc, Bool, true, false, cond, map, Option, Some, None, List, [], ◌∷◌, length, refl, sym, ap, ◌∙◌, subst, arith, inl, inr}
+use Rattle.std.specs.Prelude.{ℤ, nat_eq}
+use Rattle.std.proofs.lemmas.Bool.{cases_eq}
+use Rattle.std.proofs.lemmas.Grind.{common_steps}
+use Rattle.std.proofs.lemmas.Option.{none-some, same_Some}
+use Rattle.lsys_syntax.specs.Commands.{Numbering}
+use Rattle.lsys_syntax.specs.Strings as S
+use Rattle.lsys_change.specs.Kinds.{BracketKind, Opens, Closes, Neither, stays, reached}
+use Rattle.lsys_change.specs.Children.{is_open}
+use Rattle.lsys_level.specs.Spots.{Spotted}
+use Rattle.lsys_forest.specs.Nodes.{Node, Nodes, with_kids}
+use Rattle.lsys_forest.specs.Changes.{Change}
+use Rattle.lsys_forest.specs.Groves.{In, AreApart, IsSound}
+use Rattle.lsys_forest.specs.Rows.{kids_in, spot_in, level_nodes}
+use Rattle.lsys_forest.proofs.RowLemmas as rows
+use Rattle.lsys_brood.specs.Children.{bracket_kind, renewed, born}
+use Rattle.lsys_next.specs.Nexts.{Successors, kind_of, wanted_behind, HasWanted, HaveWanted, AreClosed, wanted_in}
+use Rattle.lsys_next.specs.Renewals.{Renewal, stayed, relisted, turned, came, AreRenewals, KeepsUpper}
+use Rattle.lsys_next.proofs.Above.{name_stays, upper_nodes}
+use Rattle.lsys_next.proofs.Wants.{wanted_stays}
+use Rattle.lsys_next.proofs.Renewing.{keeps_upper, in_cases}
+
+same_yes : (k : ℕ) → nat_eq k k ≡ true
+same_yes k = grind (arith, common_steps)
+
+same_not : (k j : ℕ) → k ≢ j → nat_eq k j ≡ false
+same_not k j ne = grind (arith, common_steps, ne)
+
+module _ {A : Type 0} where
+  pub alone : (g : Numbering) (seed : ℕ) (m : Nodes A) (by : Successors) (ks : List ℕ) → AreClosed by ks → ((k : ℕ) → In k ks → HasWanted g seed m k (by k)) → HaveWanted g seed m by None ks
+  alone g seed m by [] closed h = tt
+  alone g seed m by (k ∷ ks) closed h =
+      (h k (inl refl), subst (λ o. HaveWanted g seed m by o ks) (sym (none_reached (kind_of m k) (is_open (by k)) closed.0)) (alone g seed m by ks closed.1 (λ j i. h j (inr i))))
+    where
+      none_reached : (kind : BracketKind) (b : Bool) → b ≡ false → reached None kind b ≡ None
+      none_reached Opens b e = refl
+      none_reached Closes b e = refl
+      none_reached Neither true e = cc
+      none_reached Neither false e = refl
+
+  pub walk : (g : Numbering) (seed : ℕ) (m : Nodes A) (by : Successors) (o : Option ℕ) (ks : List ℕ) → AreApart ks → ((k : ℕ) → In k ks → HasWanted g seed m k (wanted_in m by o ks k)) → HaveWanted g seed m by o ks
+  walk g seed m by o [] apart h = tt
+  walk g seed m by o (k ∷ ks) apart h = (
+    subst (HasWanted g seed m k) (ap (λ b. cond b (wanted_behind o (kind_of m k) (by k)) (wanted_in m by (reached o (kind_of m k) (is_open (by k))) ks k)) (same_yes k)) (h k (inl refl)),
+    walk g seed m by (reached o (kind_of m k) (is_open (by k))) ks apart.1 (λ j i.
+        subst (HasWanted g seed m j) (ap (λ b. cond b (wanted_behind o (kind_of m k) (by k)) (wanted_in m by (reached o (kind_of m k) (is_open (by k))) ks j)) (same_not j k (λ e. apart.0 (subst (λ x. In x ks) e i)))) (h j (inr i))),
+  )
+
+  wanted_same : (old new : Nodes A) (by : Successors) (o : Option ℕ) (ks : List ℕ) (k : ℕ) → ((j : ℕ) → In j ks → spot_in j (new j) ≡ spot_in j (old j)) → wanted_in new by o ks k ≡ wanted_in old by o ks k
+  wanted_same old new by o [] k h = refl
+  wanted_same old new by o (j ∷ js) k h =
+      let kind : kind_of new j ≡ kind_of old j = ap (λ (s : Spotted). bracket_kind s.seen) (h j (inl refl)) in
+      ap (λ b. cond (nat_eq k j) (wanted_behind o b (by j)) (wanted_in new by (reached o b (is_open (by j))) js k)) kind
+      ∙ ap (λ zs. cond (nat_eq k j) (wanted_behind o (kind_of old j) (by j)) zs) (wanted_same old new by (reached o (kind_of old j) (is_open (by j))) js k (λ i l. h i (inr l)))
+
+  -- a parent whose children were not renewed
+  unlisted : (root : ℕ) (changes : List (Change A)) (g : Numbering) (seed : ℕ) (old new : Nodes A) (depth : ℕ) (by : Successors) (done : List ℕ) (k : ℕ) (n : Node A) (zs : List (S.Symbol ℤ)) → IsSound root changes old
+      → AreRenewals g seed old new root depth by done → (In k done → ⊥) → old k ≡ Some n → n.depth ≡ depth → HasWanted g seed old k zs → HasWanted g seed new k zs
+  unlisted root changes g seed old new depth by done k n zs sound h out is deep w =
+      wanted_stays g seed old new k zs (list (h.each k)) (name_stays old new root k n h.was_once h.stay is) (λ j i. spot j i (h.each j))
+      (λ j i. (let u = rows.child root changes old sound k j i in name_stays old new root j u.node h.was_once h.stay u.is)) w
+    where
+      list : Renewal old new depth done k → kids_in (new k) ≡ kids_in (old k)
+      list (stayed f) = ap (λ o. kids_in o) f
+      list (relisted x ls i o d f) = absurd (out i)
+      list (turned x v i o d f) = let same = ap (λ (y : Node A). y.depth) (same_Some n x (sym is ∙ o)) in absurd (omega (arith, same, d, deep))
+      list (came q v i o f) = absurd (none-some n (sym o ∙ is))
+
+      spot : (j : ℕ) → In j (kids_in (old k)) → Renewal old new depth done j → spot_in j (new j) ≡ spot_in j (old j)
+      spot j i (stayed f) = ap (spot_in j) f
+      spot j i (relisted x ls l o d f) =
+          let u = rows.child root changes old sound k j i in
+          let own = ap (λ (y : Node A). y.depth) (same_Some x u.node (sym o ∙ u.is)) in
+          let above = ap (λ (y : Node A). y.depth) (same_Some n u.above (sym is ∙ u.above_is)) in absurd (omega (arith, own, above, u.depth, d, deep))
+      spot j i (turned x v l o d f) =
+          let u = rows.child root changes old sound k j i in
+          absurd (out (subst (λ q. In q done) (ap (λ (y : Node A). y.parent) (same_Some x u.node (sym o ∙ u.is)) ∙ u.parent_is) l))
+      spot j i (came q v l o f) = let u = rows.child root changes old sound k j i in absurd (none-some u.node (sym o ∙ u.is))
+
+  module _ (root : ℕ) (changes : List (Change A)) (g : Numbering) (seed : ℕ) (old new : Nodes A) (t : ℕ) (by : Successors) (done : List ℕ) (sound : IsSound root changes old)
+      (h : AreRenewals g seed old new root (t + 1) by done) (each : (k : ℕ) → In k (level_nodes old root t) → In k done ⊎ HasWanted g seed old k (by k)) where
+    all_wanted : (k : ℕ) → In k (level_nodes old root t) → HasWanted g seed new k (by k)
+    all_wanted k i = elim (in_cases k done) [
+      | inl l ↦ h.wanted k l
+      | inr out ↦ elim (each k i) [
+        | inl l ↦ h.wanted k l
+        | inr w ↦ let d = rows.level_depth root changes old sound t k i in unlisted root changes g seed old new (t + 1) by done k d.0 (by k) sound h out d.1 d.2 w
+      ]
+    ]
+
+    same_nodes : level_nodes new root t ≡ level_nodes old root t
+    same_nodes = upper_nodes root changes old new sound t (keeps_upper g seed old new root (t + 1) by done h) t (omega arith)
+
+    pub level_alone : AreClosed by (level_nodes old root t) → HaveWanted g seed new by None (level_nodes new root t)
+    level_alone closed = subst (HaveWanted g seed new by None) (sym same_nodes) (alone g seed new by (level_nodes old root t) closed all_wanted)
+
+    pub level_walked : (succ : Successors) → ((k : ℕ) → by k ≡ wanted_in old succ None (level_nodes old root t) k) → HaveWanted g seed new succ None (level_nodes new root t)
+    level_walked succ is = subst (HaveWanted g seed new succ None) (sym same_nodes)
+        (walk g seed new succ None (level_nodes old root t) (rows.level_apart root changes old sound t)
+        (λ k i. subst (HasWanted g seed new k) (is k ∙ sym (wanted_same old new succ None (level_nodes old root t) k spots)) (all_wanted k i)))
+      where
+        spots : (j : ℕ) → In j (level_nodes old root t) → spot_in j (new j) ≡ spot_in j (old j)
+        spots j i =
+            let d = rows.level_depth root changes old sound t j i in
+            let e : d.0.depth ≡ t + 1 = d.2 in (keeps_upper g seed old new root (t + 1) by done h).spots j d.0 d.1 (omega (arith, e))

@@ -1,0 +1,102 @@
+-- Nodes whose children are the wanted ones.
+use Rattle.std.specs.Prelude.{◌≡◌, ◌≢◌, ◌+◌, ◌≤◌, ◌<◌, ℕ, ℤ, false, Option, Some, None, Result, Ok, Err, List, [], ◌∷◌, ◌++◌, length, map, cond, nat_eq, slice_get, if◌then◌else◌}
+use Rattle.lsys_syntax.specs.Commands.{Numbering}
+use Rattle.lsys_syntax.specs.Strings as S
+use Rattle.lsys_spec.specs.Draws.{number_base, key_of}
+use Rattle.lsys_spec.specs.Systems.{System, WellSpelled}
+use Rattle.lsys_spec.specs.Levels as L
+use Rattle.lsys_spec.specs.Choice.{Fault}
+use Rattle.lsys_spec.specs.Cuts.{cut}
+use Rattle.lsys_spec.specs.Meaning.{LevelRefusal, children, meaning_to, last_level}
+use Rattle.lsys_change.specs.Kinds.{BracketKind, Opens, Closes, Neither, stays, reached}
+use Rattle.lsys_change.specs.Children.{is_open, replacement}
+use Rattle.lsys_level.specs.Spots.{named}
+use Rattle.lsys_forest.specs.Nodes.{Node, Nodes}
+use Rattle.lsys_forest.specs.Groves.{In}
+use Rattle.lsys_forest.specs.Rows.{kids_in, spot_in, level_nodes}
+use Rattle.lsys_brood.specs.Children.{bracket_kind}
+use Rattle.lsys_kept.specs.Lineages.{names}
+use Rattle.lsys_kept.specs.Levels.{level_of, HaveLevels}
+use Rattle.lsys_kept.specs.Meant.{meant_to}
+use Rattle.lsys_match.specs.Kept.{Kept}
+
+-- what replaces each node
+abbrev pub Successors : Type 0
+Successors = ℕ → List (S.Symbol ℤ)
+
+-- what a node's successor wants of it, behind what is being cut off: nothing where its children are cut off
+abbrev pub wanted_behind : Option ℕ → BracketKind → List (S.Symbol ℤ) → List (S.Symbol ℤ)
+wanted_behind o kind zs = if stays o kind then zs else []
+
+-- no cut reaches what stands behind the children of one of them
+abbrev pub AreClosed : Successors → List ℕ → Type 0
+AreClosed by [] = Unit {0}
+AreClosed by (k ∷ ks) = (is_open (by k) ≡ false) × AreClosed by ks
+
+-- a module is one more
+abbrev pub counted : BracketKind → ℕ → ℕ
+counted Neither n = n + 1
+counted Opens n = n
+counted Closes n = n
+
+module _ {A : Type 0} where
+  -- a node as a symbol of its level, and its kind
+  abbrev pub symbol_at : Nodes A → ℕ → L.Symbol
+  symbol_at m k = named (names m) (spot_in k (m k))
+
+  abbrev pub kind_of : Nodes A → ℕ → BracketKind
+  kind_of m k = bracket_kind (spot_in k (m k)).seen
+
+  abbrev pub key_at : Nodes A → ℕ → ℕ
+  key_at m k = (spot_in k (m k)).key
+
+  -- The children of a node are those that a successor wants of it, with the keys of their lineages.
+  pub record HasWanted (g : Numbering) (seed : ℕ) (m : Nodes A) (k : ℕ) (zs : List (S.Symbol ℤ)) : Type 0 where
+    pub symbols : map (symbol_at m) (kids_in (m k)) ≡ cut (children g (names m k) zs)
+    pub keys : (j : ℕ) → In j (kids_in (m k)) → key_at m j ≡ key_of seed (names m j)
+
+  -- a node has the children that it had, with the symbols and the keys that they had
+  pub record AreSameChildren (old new : Nodes A) (k : ℕ) : Type 0 where
+    pub list : kids_in (new k) ≡ kids_in (old k)
+    pub spots : (j : ℕ) → In j (kids_in (old k)) → spot_in j (new j) ≡ spot_in j (old j)
+
+  -- Of these nodes of a level, behind what is being cut off, each has the children that its successor wants of it.
+  abbrev pub HaveWanted : Numbering → ℕ → Nodes A → Successors → Option ℕ → List ℕ → Type 0
+  HaveWanted g seed m by o [] = Unit {0}
+  HaveWanted g seed m by o (k ∷ ks) =
+      HasWanted g seed m k (wanted_behind o (kind_of m k) (by k))
+      × HaveWanted g seed m by (reached o (kind_of m k) (is_open (by k))) ks
+
+  -- what a walk of these nodes finds to be wanted of one of them
+  abbrev pub wanted_in : Nodes A → Successors → Option ℕ → List ℕ → Successors
+  wanted_in m by o [] k = []
+  wanted_in m by o (j ∷ js) k =
+      if nat_eq k j then wanted_behind o (kind_of m j) (by j)
+      else wanted_in m by (reached o (kind_of m j) (is_open (by j))) js k
+
+  -- how many of them are modules
+  abbrev pub modules_in : Nodes A → List ℕ → ℕ
+  modules_in m [] = 0
+  modules_in m (k ∷ ks) = counted (kind_of m k) (modules_in m ks)
+
+-- The nodes up to level t are the system's levels, with their keys; each node of level t has its successor, and the children
+-- that this one wants of it.
+pub record HaveNext (s : System) (limit t : ℕ) (m : Nodes Kept) (root : ℕ) (by : Successors) : Type 0 where
+  pub spelled : WellSpelled s
+  pub is : meaning_to s limit t ≡ Ok (meant_to s limit t)
+  pub levels : HaveLevels m root s.seed (meant_to s limit t)
+  pub replaced : (p k : ℕ) → slice_get (level_nodes m root t) p ≡ Some k
+      → replacement s t (level_of m root t) p (symbol_at m k) ≡ Ok (by k)
+  pub children : HaveWanted s.numbering s.seed m by None (level_nodes m root t)
+
+-- The nodes up to level t are the system's levels. Of those of level t the node k, behind these and before those, is the first
+-- whose module has a fault, and each before it has its successor.
+pub record HasFirstFault (s : System) (limit t : ℕ) (m : Nodes Kept) (root : ℕ) (by : Successors)
+    (before : List ℕ) (k : ℕ) (after : List ℕ) (fault : Fault) : Type 0 where
+  pub spelled : WellSpelled s
+  pub is : meaning_to s limit t ≡ Ok (meant_to s limit t)
+  pub levels : HaveLevels m root s.seed (meant_to s limit t)
+  pub level : level_nodes m root t ≡ before ++ k ∷ after
+  pub replaced : (p j : ℕ) → slice_get before p ≡ Some j
+      → replacement s t (level_of m root t) p (symbol_at m j) ≡ Ok (by j)
+  pub faulty : replacement s t (level_of m root t) (length before) (symbol_at m k) ≡ Err fault

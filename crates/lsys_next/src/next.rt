@@ -1,0 +1,76 @@
+//! Laws of the next level.
+ghost use Rattle.std.specs.Prelude.{◌≡◌, ◌+◌, ◌≤◌, ℕ, ℤ, List, [], ◌∷◌, length, None, Some, Ok, slice_get, sum_by};
+ghost use Rattle.lsys_syntax.specs.Commands.{Numbering};
+ghost use Rattle.lsys_syntax.specs.Strings as S;
+ghost use Rattle.lsys_spec.specs.Draws.{key_of};
+ghost use Rattle.lsys_spec.specs.Systems.{System};
+ghost use Rattle.lsys_spec.specs.Meaning.{next_level, last_level, meaning_to};
+ghost use Rattle.lsys_change.specs.Nodes.{AreOnce, Extends};
+ghost use Rattle.lsys_change.specs.Children.{replacement};
+ghost use Rattle.lsys_level.specs.Spots.{Spotted};
+ghost use Rattle.lsys_walks.specs.Stores.{Store};
+ghost use Rattle.lsys_match.specs.Kept.{Kept};
+ghost use Rattle.lsys_forest.specs.Nodes.{Node, Nodes};
+ghost use Rattle.lsys_forest.specs.Changes.{Change};
+ghost use Rattle.lsys_forest.specs.Groves.{In, AreApart, IsSound};
+ghost use Rattle.lsys_forest.specs.Rows.{kids_in, level_nodes, level_spots};
+ghost use Rattle.lsys_brood.specs.declared.child.Child.{Child};
+ghost use Rattle.lsys_brood.specs.Children.{AreRenewed};
+ghost use Rattle.lsys_kept.specs.Lineages.{kins, names};
+ghost use Rattle.lsys_kept.specs.Levels.{level_of, HaveLevels, AnsweredAt};
+ghost use Rattle.lsys_kept.specs.Meant.{meant_to};
+ghost use Rattle.lsys_wanted.specs.Wishes.{AreWanted};
+ghost use Rattle.lsys_next.specs.Nexts.{Successors, symbol_at, AreSameChildren, HasWanted, HaveWanted, HaveNext, AreClosed, wanted_in};
+ghost use Rattle.lsys_next.specs.Answers.{successors};
+
+/// Nodes that are the levels of a system up to level t, and those of level t with the children that their successors want:
+/// then the level of these children is the system's next level. Where the lengths still sum to no more than the limit, the
+/// nodes are the levels up to it, with their keys and their brackets balanced.
+pub fn law_of_next_nodes()
+    ensures next { (s : System) (limit t : ℕ) (m : Nodes Kept) (root : ℕ) (by : Successors)
+        → HaveNext s limit t m root by
+        → next_level s t (last_level (meant_to s limit t)) ≡ Ok (level_of m root (t + 1)) }
+    ensures within { (s : System) (limit t : ℕ) (m : Nodes Kept) (root : ℕ) (by : Successors)
+        → HaveNext s limit t m root by
+        → sum_by length (meant_to s limit t) + length (level_nodes m root (t + 1)) ≤ limit
+        → meaning_to s limit (t + 1) ≡ Ok (meant_to s limit (t + 1)) }
+    ensures levels { (s : System) (limit t : ℕ) (m : Nodes Kept) (root : ℕ) (by : Successors)
+        → HaveNext s limit t m root by
+        → sum_by length (meant_to s limit t) + length (level_nodes m root (t + 1)) ≤ limit
+        → HaveLevels m root s.seed (meant_to s limit (t + 1)) }
+{}
+
+/// What replaces a node is told by the right answer to its question: the answer's successor, or the node itself, where there is
+/// no question.
+pub fn law_of_answered_nodes()
+    ensures { (s : System) (t : ℕ) (m : Nodes Kept) (root : ℕ) (store : Store) (p k : ℕ)
+        → ((a : Spotted) → slice_get (level_spots m root t) p ≡ Some a → a.key ≡ key_of s.seed (names m a.tag))
+        → AnsweredAt s t m root store p k → slice_get (level_nodes m root t) p ≡ Some k
+        → replacement s t (level_of m root t) p (symbol_at m k) ≡ Ok (successors m k) }
+{}
+
+/// A parent whose children were made those that its successor wants has them, with the lineages and the keys that the
+/// definitions give them; and it has them as long as its list, and the symbols and the keys of these children, stay.
+pub fn law_of_wanted_children<A>()
+    ensures renewed { (root : ℕ) (changes : List (Change A)) (old new : Nodes A) (p : ℕ) (n : Node A)
+        (g : Numbering) (seed : ℕ) (zs : List (S.Symbol ℤ)) (ws : List Child)
+        → IsSound root changes old → AreOnce (kins new) root → old p ≡ Some n
+        → AreRenewed old new p n ws (kids_in (new p)) → AreWanted g (key_of seed (names new p)) zs ws
+        → HasWanted g seed new p zs }
+    ensures stays { (root : ℕ) (changes : List (Change A)) (old new : Nodes A) (k : ℕ) (n : Node A)
+        (g : Numbering) (seed : ℕ) (zs : List (S.Symbol ℤ))
+        → IsSound root changes old → AreOnce (kins old) root → Extends (kins old) (kins new)
+        → old k ≡ Some n → AreSameChildren old new k
+        → HasWanted g seed old k zs → HasWanted g seed new k zs }
+{}
+
+/// What the nodes of a level want together: where no cut reaches what stands behind the children of one of them, each has what
+/// its own successor wants; else each has what a walk of the level from the left finds.
+pub fn law_of_walks<A>()
+    ensures alone { (g : Numbering) (seed : ℕ) (m : Nodes A) (by : Successors) (ks : List ℕ)
+        → AreClosed by ks → ((k : ℕ) → In k ks → HasWanted g seed m k (by k))
+        → HaveWanted g seed m by None ks }
+    ensures walk { (g : Numbering) (seed : ℕ) (m : Nodes A) (by : Successors) (ks : List ℕ)
+        → AreApart ks → ((k : ℕ) → In k ks → HasWanted g seed m k (wanted_in m by None ks k))
+        → HaveWanted g seed m by None ks }
+{}
