@@ -6,3 +6,4 @@ pub mod Walks
 pub mod Refused
 pub mod Firsts
 pub mod Replaced
+pub mod Families

@@ -1,9 +1,9 @@
 //! Laws of the next level.
-ghost use Rattle.std.specs.Prelude.{◌≡◌, ◌+◌, ◌≤◌, ℕ, ℤ, List, [], ◌∷◌, length, None, Some, Ok, slice_get, sum_by};
+ghost use Rattle.std.specs.Prelude.{◌≡◌, ◌+◌, ◌<◌, ◌≤◌, ℕ, ℤ, List, [], ◌∷◌, length, None, Some, Ok, slice_get, sum_by};
 ghost use Rattle.lsys_syntax.specs.Commands.{Numbering};
 ghost use Rattle.lsys_syntax.specs.Strings as S;
 ghost use Rattle.lsys_spec.specs.Draws.{key_of};
-ghost use Rattle.lsys_spec.specs.Systems.{System};
+ghost use Rattle.lsys_spec.specs.Systems.{System, WellSpelled};
 ghost use Rattle.lsys_spec.specs.Meaning.{next_level, last_level, meaning_to};
 ghost use Rattle.lsys_change.specs.Nodes.{AreOnce, Extends};
 ghost use Rattle.lsys_change.specs.Children.{replacement};
@@ -73,4 +73,20 @@ pub fn law_of_walks<A>()
     ensures walk { (g : Numbering) (seed : ℕ) (m : Nodes A) (by : Successors) (ks : List ℕ)
         → AreApart ks → ((k : ℕ) → In k ks → HasWanted g seed m k (wanted_in m by None ks k))
         → HaveWanted g seed m by None ks }
+{}
+
+/// Nodes that are a system's levels have the children that their successors want: the root those of the axiom, and the nodes of
+/// each level but the last those of the symbols that replace them.
+pub fn law_of_level_children()
+    ensures first { (s : System) (limit n : ℕ) (m : Nodes Kept) (root : ℕ) (changes : List (Change Kept))
+        → WellSpelled s → meaning_to s limit n ≡ Ok (meant_to s limit n)
+        → HaveLevels m root s.seed (meant_to s limit n) → IsSound root changes m → AreOnce (kins m) root
+        → HasWanted s.numbering s.seed m root s.axiom_string }
+    ensures next { (s : System) (limit n : ℕ) (m : Nodes Kept) (root : ℕ) (changes : List (Change Kept))
+        → WellSpelled s → meaning_to s limit n ≡ Ok (meant_to s limit n)
+        → HaveLevels m root s.seed (meant_to s limit n) → IsSound root changes m → AreOnce (kins m) root
+        → (t : ℕ) (by : Successors) → t < n
+        → ((p k : ℕ) → slice_get (level_nodes m root t) p ≡ Some k
+        → replacement s t (level_of m root t) p (symbol_at m k) ≡ Ok (by k))
+        → HaveWanted s.numbering s.seed m by None (level_nodes m root t) }
 {}
