@@ -28,7 +28,6 @@ use Rattle.lsys_kept.specs.Meant.{levels_or_none, meant_to}
 use Rattle.lsys_next.specs.Nexts.{symbol_at, HasWanted}
 use Rattle.lsys_next.proofs.Nexts.{level_symbols, tag_of, spot_of, balance_by}
 use Rattle.lsys_next.proofs.Wants.{renewed_wanted}
-use Rattle.lsys_next.proofs.Refused.{over_first}
 
 module _ {A : Type 0} where
   pub name_root : (m : Nodes A) (root : ℕ) → AreOnce (kins m) root → names m root ≡ []
@@ -76,9 +75,6 @@ module _ (s : System) (limit : ℕ) (m : Nodes Kept) (root : ℕ) (once : AreOnc
     balanced = λ u i. subst (λ u. level_balanced 0 (level_by (λ tag. []) (level_spots m root u)) ≡ true) (sym (only u i))
         (balance_by (λ tag. []) (names m) 0 (level_spots m root 0) ∙ ap (level_balanced 0) is ∙ (grown_to s limit 0 (first_level s ∷ []) spelled (meant_first l) 0 (first_level s) refl).balanced);
   })
-
-  pub over_root : limit < length (level_nodes m root 0) → meaning s limit ≡ Err (OverLimit 0)
-  over_root l = over_first s limit (omega (arith, long, l))
 
 pub first_levels : (s : System) (limit : ℕ) (m : Nodes Kept) (root : ℕ) → WellSpelled s → AreOnce (kins m) root → HasWanted s.numbering s.seed m root s.axiom_string → length (level_nodes m root 0) ≤ limit
     → HaveLevels m root s.seed (meant_to s limit 0)

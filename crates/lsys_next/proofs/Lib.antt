@@ -7,3 +7,4 @@ pub mod Refused
 pub mod Firsts
 pub mod Replaced
 pub mod Families
+pub mod Lengths

@@ -135,10 +135,10 @@ within limit t xs h = grind (arith, nat_tests)
 
 module _ (s : System) (limit t : ℕ) (m : Nodes Kept) (root : ℕ) (by : Successors) (h : HaveNext s limit t m root by) where
   count : length (meant_to s limit t) ≡ t + 1
-  count = level_count s limit t (meant_to s limit t) h.spelled h.is
+  count = level_count s limit t (meant_to s limit t) h.level.spelled h.level.is
 
   here : last_level (meant_to s limit t) ≡ level_of m root t
-  here = last_there (meant_to s limit t) t count ∙ sym (h.levels.each t (omega (arith, count)))
+  here = last_there (meant_to s limit t) t count ∙ sym (h.level.levels.each t (omega (arith, count)))
 
   abbrev nodes : List ℕ
   nodes = level_nodes m root t
@@ -147,14 +147,14 @@ module _ (s : System) (limit t : ℕ) (m : Nodes Kept) (root : ℕ) (by : Succes
   row_is = level_symbols m (kids_below m nodes) ∙ below_row s.numbering s.seed m by None nodes h.children
 
   replaced : AreReplaced s t (level_of m root t) 0 (map (symbol_at m) nodes) (map by nodes)
-  replaced = all_replaced s t (level_of m root t) m by nodes h.replaced
+  replaced = all_replaced s t (level_of m root t) m by nodes h.level.replaced
 
   pub next : next_level s t (last_level (meant_to s limit t)) ≡ Ok (level_of m root (t + 1))
   next =
       let x : List L.Symbol = map (symbol_at m) nodes in
       let same : level_of m root t ≡ x = level_symbols m nodes in
       ap (next_level s t) (here ∙ same)
-      ∙ kept_level s t x (map by nodes) h.spelled (subst (λ y. AreReplaced s t y 0 x (map by nodes)) same replaced)
+      ∙ kept_level s t x (map by nodes) h.level.spelled (subst (λ y. AreReplaced s t y 0 x (map by nodes)) same replaced)
       ∙ ap Ok (sym row_is) ∙ ap (λ u. Ok (level_of m root u)) (sym (add-one t))
 
   -- the levels with the next one
@@ -170,22 +170,22 @@ module _ (s : System) (limit t : ℕ) (m : Nodes Kept) (root : ℕ) (by : Succes
   pub meant_more : sum_by length (meant_to s limit t) + length (level_nodes m root (t + 1)) ≤ limit → meaning_to s limit (t + 1) ≡ Ok more
   meant_more l =
       ap (meaning_to s limit) (add-one t)
-      ∙ ap (λ (r : Result (List (List L.Symbol)) LevelRefusal). r and_then λ levels. next_level s t (last_level levels) and_then λ x. within_limit limit (suc t) (levels ++ x ∷ [])) h.is
+      ∙ ap (λ (r : Result (List (List L.Symbol)) LevelRefusal). r and_then λ levels. next_level s t (last_level levels) and_then λ x. within_limit limit (suc t) (levels ++ x ∷ [])) h.level.is
       ∙ ap (λ (r : Result (List L.Symbol) LevelRefusal). r and_then λ x. within_limit limit (suc t) (meant_to s limit t ++ x ∷ [])) next
       ∙ within limit (suc t) more (fits l)
 
   pub levels_more : meaning_to s limit (t + 1) ≡ Ok more → HaveLevels m root s.seed more
   levels_more e = record {
     each = λ u l. elim (cases_lt u (t + 1)) [ inl a ↦ each_old u a | inr b ↦ each_new u l b ];
-    keys = λ u p a l g. elim (cases_lt u (t + 1)) [ inl b ↦ h.levels.keys u p a (omega (arith, b, count)) g | inr b ↦ keys_new u p a l b g ];
-    balanced = λ u l. elim (cases_lt u (t + 1)) [ inl a ↦ h.levels.balanced u (omega (arith, a, count)) | inr b ↦ balanced_new u l b ];
+    keys = λ u p a l g. elim (cases_lt u (t + 1)) [ inl b ↦ h.level.levels.keys u p a (omega (arith, b, count)) g | inr b ↦ keys_new u p a l b g ];
+    balanced = λ u l. elim (cases_lt u (t + 1)) [ inl a ↦ h.level.levels.balanced u (omega (arith, a, count)) | inr b ↦ balanced_new u l b ];
   }
     where
       long : length more ≡ t + 2
       long = length_push (meant_to s limit t) (level_of m root (t + 1)) ∙ omega (arith, count)
 
       each_old : (u : ℕ) → u < t + 1 → level_of m root u ≡ get_or more u []
-      each_old u a = h.levels.each u (omega (arith, a, count)) ∙ sym (get_or-append (meant_to s limit t) (level_of m root (t + 1) ∷ []) [] u (omega (arith, a, count)))
+      each_old u a = h.level.levels.each u (omega (arith, a, count)) ∙ sym (get_or-append (meant_to s limit t) (level_of m root (t + 1) ∷ []) [] u (omega (arith, a, count)))
 
       last_is : get_or more (t + 1) [] ≡ level_of m root (t + 1)
       last_is = ap (λ u. get_or more u []) (sym count) ∙ get_or-append_seam (meant_to s limit t) (level_of m root (t + 1)) [] []
@@ -206,7 +206,7 @@ module _ (s : System) (limit t : ℕ) (m : Nodes Kept) (root : ℕ) (by : Succes
           let i : t + 1 ≡ u = omega (arith, l, b, long) in
           let at : slice_get more (t + 1) ≡ Some (level_of m root (t + 1)) = slice_get-get_or more (t + 1) [] (omega (arith, long)) ∙ ap Some last_is in
           subst (λ u. level_balanced 0 (level_by (λ tag. []) (level_spots m root u)) ≡ true) i
-          (balance_by (λ tag. []) (names m) 0 (level_spots m root (t + 1)) ∙ (grown_to s limit (t + 1) more h.spelled e (t + 1) (level_of m root (t + 1)) at).balanced)
+          (balance_by (λ tag. []) (names m) 0 (level_spots m root (t + 1)) ∙ (grown_to s limit (t + 1) more h.level.spelled e (t + 1) (level_of m root (t + 1)) at).balanced)
 
   pub meant_next : sum_by length (meant_to s limit t) + length (level_nodes m root (t + 1)) ≤ limit → meant_to s limit (t + 1) ≡ more
   meant_next l = ap levels_or_none (meant_more l)

@@ -52,14 +52,11 @@ step_to s limit t levels r m n =
     ap (λ (r : Result (List (List L.Symbol)) LevelRefusal). r and_then λ levels. next_level s t (last_level levels) and_then λ x. within_limit limit (suc t) (levels ++ x ∷ [])) m
     ∙ ap (λ (r : Result (List L.Symbol) LevelRefusal). r and_then λ x. within_limit limit (suc t) (levels ++ x ∷ [])) n
 
-pub over_next : (s : System) (limit t : ℕ) (m : Nodes Kept) (root : ℕ) (by : Successors) → HaveNext s limit t m root by → limit < sum_by length (meant_to s limit t) + length (level_nodes m root (t + 1)) → t < s.depth
+pub over_behind : (s : System) (limit t : ℕ) (xs : List (List L.Symbol)) (x : List L.Symbol) → meaning_to s limit t ≡ Ok xs → next_level s t (last_level xs) ≡ Ok x → limit < sum_by length xs + length x → t < s.depth
     → meaning s limit ≡ Err (OverLimit (t + 1))
-over_next s limit t m root by h l d =
-    let xs : List (List L.Symbol) = meant_to s limit t in
-    let x : List L.Symbol = level_of m root (t + 1) in
-    let long : length x ≡ length (level_nodes m root (t + 1)) = ap length (level_symbols m (level_nodes m root (t + 1))) ∙ length-map (level_nodes m root (t + 1)) (symbol_at m) in
-    rw add-one (stays s limit (suc t) s.depth (OverLimit (suc t)) (omega (arith, d))
-    (step_to s limit t xs (Ok x) h.is (next s limit t m root by h) ∙ over limit (suc t) (xs ++ x ∷ []) (omega (arith, sum_by_push (length {A = L.Symbol}) xs x, long, l))))
+over_behind s limit t xs x m n h l =
+    rw add-one (stays s limit (suc t) s.depth (OverLimit (suc t)) (omega (arith, l))
+    (step_to s limit t xs (Ok x) m n ∙ over limit (suc t) (xs ++ x ∷ []) (omega (arith, sum_by_push (length {A = L.Symbol}) xs x, h))))
 
 -- 2. the first fault of a level
 

@@ -21,23 +21,23 @@ use Rattle.lsys_next.proofs.Above.{name_stays, upper_nodes}
 use Rattle.lsys_next.proofs.Wants.{wanted_stays}
 use Rattle.lsys_next.proofs.Renewing.{keeps_upper, in_cases}
 
-same_yes : (k : ℕ) → nat_eq k k ≡ true
+pub same_yes : (k : ℕ) → nat_eq k k ≡ true
 same_yes k = grind (arith, common_steps)
 
-same_not : (k j : ℕ) → k ≢ j → nat_eq k j ≡ false
+pub same_not : (k j : ℕ) → k ≢ j → nat_eq k j ≡ false
 same_not k j ne = grind (arith, common_steps, ne)
+
+pub none_reached : (kind : BracketKind) (b : Bool) → b ≡ false → reached None kind b ≡ None
+none_reached Opens b e = refl
+none_reached Closes b e = refl
+none_reached Neither true e = cc
+none_reached Neither false e = refl
 
 module _ {A : Type 0} where
   pub alone : (g : Numbering) (seed : ℕ) (m : Nodes A) (by : Successors) (ks : List ℕ) → AreClosed by ks → ((k : ℕ) → In k ks → HasWanted g seed m k (by k)) → HaveWanted g seed m by None ks
   alone g seed m by [] closed h = tt
   alone g seed m by (k ∷ ks) closed h =
       (h k (inl refl), subst (λ o. HaveWanted g seed m by o ks) (sym (none_reached (kind_of m k) (is_open (by k)) closed.0)) (alone g seed m by ks closed.1 (λ j i. h j (inr i))))
-    where
-      none_reached : (kind : BracketKind) (b : Bool) → b ≡ false → reached None kind b ≡ None
-      none_reached Opens b e = refl
-      none_reached Closes b e = refl
-      none_reached Neither true e = cc
-      none_reached Neither false e = refl
 
   pub walk : (g : Numbering) (seed : ℕ) (m : Nodes A) (by : Successors) (o : Option ℕ) (ks : List ℕ) → AreApart ks → ((k : ℕ) → In k ks → HasWanted g seed m k (wanted_in m by o ks k)) → HaveWanted g seed m by o ks
   walk g seed m by o [] apart h = tt
@@ -46,6 +46,23 @@ module _ {A : Type 0} where
     walk g seed m by (reached o (kind_of m k) (is_open (by k))) ks apart.1 (λ j i.
         subst (HasWanted g seed m j) (ap (λ b. cond b (wanted_behind o (kind_of m k) (by k)) (wanted_in m by (reached o (kind_of m k) (is_open (by k))) ks j)) (same_not j k (λ e. apart.0 (subst (λ x. In x ks) e i)))) (h j (inr i))),
   )
+
+  -- and so has each of them
+  pub each_alone : (g : Numbering) (seed : ℕ) (m : Nodes A) (by : Successors) (ks : List ℕ) → AreClosed by ks → HaveWanted g seed m by None ks → (k : ℕ) → In k ks → HasWanted g seed m k (by k)
+  each_alone g seed m by [] closed h k i = absurd i
+  each_alone g seed m by (j ∷ js) closed h k (inl e) = subst (λ k. HasWanted g seed m k (by k)) (sym e) h.0
+  each_alone g seed m by (j ∷ js) closed h k (inr i) =
+      each_alone g seed m by js closed.1 (subst (λ o. HaveWanted g seed m by o js) (none_reached (kind_of m j) (is_open (by j)) closed.0) h.1) k i
+
+  pub each_walked : (g : Numbering) (seed : ℕ) (m : Nodes A) (by : Successors) (o : Option ℕ) (ks : List ℕ) → AreApart ks → HaveWanted g seed m by o ks → (k : ℕ) → In k ks → HasWanted g seed m k (wanted_in m by o ks k)
+  each_walked g seed m by o [] apart h k i = absurd i
+  each_walked g seed m by o (j ∷ js) apart h k (inl e) =
+      subst (λ k. HasWanted g seed m k (wanted_in m by o (j ∷ js) k)) (sym e)
+      (subst (HasWanted g seed m j) (sym (ap (λ b. cond b (wanted_behind o (kind_of m j) (by j)) (wanted_in m by (reached o (kind_of m j) (is_open (by j))) js j)) (same_yes j))) h.0)
+  each_walked g seed m by o (j ∷ js) apart h k (inr i) =
+      subst (HasWanted g seed m k)
+      (sym (ap (λ b. cond b (wanted_behind o (kind_of m j) (by j)) (wanted_in m by (reached o (kind_of m j) (is_open (by j))) js k)) (same_not k j (λ e. apart.0 (subst (λ x. In x js) e i)))))
+      (each_walked g seed m by (reached o (kind_of m j) (is_open (by j))) js apart.1 h.1 k i)
 
   wanted_same : (old new : Nodes A) (by : Successors) (o : Option ℕ) (ks : List ℕ) (k : ℕ) → ((j : ℕ) → In j ks → spot_in j (new j) ≡ spot_in j (old j)) → wanted_in new by o ks k ≡ wanted_in old by o ks k
   wanted_same old new by o [] k h = refl

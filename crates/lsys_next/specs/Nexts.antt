@@ -1,5 +1,5 @@
 -- Nodes whose children are the wanted ones.
-use Rattle.std.specs.Prelude.{◌≡◌, ◌≢◌, ◌+◌, ◌≤◌, ◌<◌, ℕ, ℤ, false, Option, Some, None, Result, Ok, Err, List, [], ◌∷◌, ◌++◌, length, map, cond, nat_eq, slice_get, if◌then◌else◌}
+use Rattle.std.specs.Prelude.{◌≡◌, ◌≢◌, ◌+◌, ◌≤◌, ◌<◌, ℕ, ℤ, false, Option, Some, None, Result, Ok, Err, List, [], ◌∷◌, ◌++◌, length, map, cond, nat_eq, slice_get, sum_by, if◌then◌else◌}
 use Rattle.lsys_syntax.specs.Commands.{Numbering}
 use Rattle.lsys_syntax.specs.Strings as S
 use Rattle.lsys_spec.specs.Draws.{number_base, key_of}
@@ -32,6 +32,10 @@ wanted_behind o kind zs = if stays o kind then zs else []
 abbrev pub AreClosed : Successors → List ℕ → Type 0
 AreClosed by [] = Unit {0}
 AreClosed by (k ∷ ks) = (is_open (by k) ≡ false) × AreClosed by ks
+
+-- how many children a successor wants
+abbrev pub wanted_count : Numbering → List (S.Symbol ℤ) → ℕ
+wanted_count g zs = length (cut (children g [] zs))
 
 -- a module is one more
 abbrev pub counted : BracketKind → ℕ → ℕ
@@ -74,19 +78,26 @@ module _ {A : Type 0} where
       if nat_eq k j then wanted_behind o (kind_of m j) (by j)
       else wanted_in m by (reached o (kind_of m j) (is_open (by j))) js k
 
+  -- how many children all of them want
+  abbrev pub count_wanted : Numbering → Nodes A → Successors → List ℕ → ℕ
+  count_wanted g m by ks = sum_by (λ k. wanted_count g (wanted_in m by None ks k)) ks
+
   -- how many of them are modules
   abbrev pub modules_in : Nodes A → List ℕ → ℕ
   modules_in m [] = 0
   modules_in m (k ∷ ks) = counted (kind_of m k) (modules_in m ks)
 
--- The nodes up to level t are the system's levels, with their keys; each node of level t has its successor, and the children
--- that this one wants of it.
-pub record HaveNext (s : System) (limit t : ℕ) (m : Nodes Kept) (root : ℕ) (by : Successors) : Type 0 where
+-- The nodes up to level t are the system's levels, with their keys, and it is told what replaces each node of level t.
+pub record HaveSuccessors (s : System) (limit t : ℕ) (m : Nodes Kept) (root : ℕ) (by : Successors) : Type 0 where
   pub spelled : WellSpelled s
   pub is : meaning_to s limit t ≡ Ok (meant_to s limit t)
   pub levels : HaveLevels m root s.seed (meant_to s limit t)
   pub replaced : (p k : ℕ) → slice_get (level_nodes m root t) p ≡ Some k
       → replacement s t (level_of m root t) p (symbol_at m k) ≡ Ok (by k)
+
+-- And each of these has the children that its successor wants of it.
+pub record HaveNext (s : System) (limit t : ℕ) (m : Nodes Kept) (root : ℕ) (by : Successors) : Type 0 where
+  pub level : HaveSuccessors s limit t m root by
   pub children : HaveWanted s.numbering s.seed m by None (level_nodes m root t)
 
 -- The nodes up to level t are the system's levels. Of those of level t the node k, behind these and before those, is the first

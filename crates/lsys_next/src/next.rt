@@ -1,5 +1,5 @@
 //! Laws of the next level.
-ghost use Rattle.std.specs.Prelude.{◌≡◌, ◌+◌, ◌<◌, ◌≤◌, ℕ, ℤ, List, [], ◌∷◌, length, None, Some, Ok, slice_get, sum_by};
+ghost use Rattle.std.specs.Prelude.{◌≡◌, ◌↔◌, ◌⊎◌, ◌+◌, ◌<◌, ◌≤◌, ℕ, ℤ, List, [], ◌∷◌, length, None, Some, Ok, slice_get, sum_by};
 ghost use Rattle.lsys_syntax.specs.Commands.{Numbering};
 ghost use Rattle.lsys_syntax.specs.Strings as S;
 ghost use Rattle.lsys_spec.specs.Draws.{key_of};
@@ -13,14 +13,14 @@ ghost use Rattle.lsys_match.specs.Kept.{Kept};
 ghost use Rattle.lsys_forest.specs.Nodes.{Node, Nodes};
 ghost use Rattle.lsys_forest.specs.Changes.{Change};
 ghost use Rattle.lsys_forest.specs.Groves.{In, AreApart, IsSound};
-ghost use Rattle.lsys_forest.specs.Rows.{kids_in, level_nodes, level_spots};
+ghost use Rattle.lsys_forest.specs.Rows.{kids_in, kids_below, level_nodes, level_spots};
 ghost use Rattle.lsys_brood.specs.declared.child.Child.{Child};
 ghost use Rattle.lsys_brood.specs.Children.{AreRenewed};
 ghost use Rattle.lsys_kept.specs.Lineages.{kins, names};
 ghost use Rattle.lsys_kept.specs.Levels.{level_of, HaveLevels, AnsweredAt};
 ghost use Rattle.lsys_kept.specs.Meant.{meant_to};
 ghost use Rattle.lsys_wanted.specs.Wishes.{AreWanted};
-ghost use Rattle.lsys_next.specs.Nexts.{Successors, symbol_at, AreSameChildren, HasWanted, HaveWanted, HaveNext, AreClosed, wanted_in};
+ghost use Rattle.lsys_next.specs.Nexts.{Successors, symbol_at, AreSameChildren, HasWanted, HaveWanted, HaveNext, AreClosed, wanted_in, wanted_count, count_wanted};
 ghost use Rattle.lsys_next.specs.Answers.{successors};
 
 /// Nodes that are the levels of a system up to level t, and those of level t with the children that their successors want:
@@ -68,11 +68,11 @@ pub fn law_of_wanted_children<A>()
 /// its own successor wants; else each has what a walk of the level from the left finds.
 pub fn law_of_walks<A>()
     ensures alone { (g : Numbering) (seed : ℕ) (m : Nodes A) (by : Successors) (ks : List ℕ)
-        → AreClosed by ks → ((k : ℕ) → In k ks → HasWanted g seed m k (by k))
-        → HaveWanted g seed m by None ks }
-    ensures walk { (g : Numbering) (seed : ℕ) (m : Nodes A) (by : Successors) (ks : List ℕ)
-        → AreApart ks → ((k : ℕ) → In k ks → HasWanted g seed m k (wanted_in m by None ks k))
-        → HaveWanted g seed m by None ks }
+        → AreClosed by ks
+        → HaveWanted g seed m by None ks ↔ ((k : ℕ) → In k ks → HasWanted g seed m k (by k)) }
+    ensures walked { (g : Numbering) (seed : ℕ) (m : Nodes A) (by : Successors) (ks : List ℕ)
+        → AreApart ks
+        → HaveWanted g seed m by None ks ↔ ((k : ℕ) → In k ks → HasWanted g seed m k (wanted_in m by None ks k)) }
 {}
 
 /// Nodes that are a system's levels have the children that their successors want: the root those of the axiom, and the nodes of
@@ -89,4 +89,22 @@ pub fn law_of_level_children()
         → ((p k : ℕ) → slice_get (level_nodes m root t) p ≡ Some k
         → replacement s t (level_of m root t) p (symbol_at m k) ≡ Ok (by k))
         → HaveWanted s.numbering s.seed m by None (level_nodes m root t) }
+{}
+
+/// How long the next level is, before it is made: as many symbols as the nodes of the level want children together. A parent wants
+/// as many as are made for it, or as it has, if it has the wanted ones. Where some of the parents want other numbers than before,
+/// the sum changes by theirs.
+pub fn law_of_next_lengths<A>()
+    ensures made { (g : Numbering) (key : ℕ) (zs : List (S.Symbol ℤ)) (ws : List Child)
+        → AreWanted g key zs ws → length ws ≡ wanted_count g zs }
+    ensures kids { (g : Numbering) (seed : ℕ) (m : Nodes A) (k : ℕ) (zs : List (S.Symbol ℤ))
+        → HasWanted g seed m k zs → length (kids_in (m k)) ≡ wanted_count g zs }
+    ensures nodes { (m : Nodes A) (ks : List ℕ) → length (kids_below m ks) ≡ sum_by (λ k. length (kids_in (m k))) ks }
+    ensures alone { (g : Numbering) (m : Nodes A) (by : Successors) (ks : List ℕ)
+        → AreClosed by ks
+        → count_wanted g m by ks ≡ sum_by (λ k. wanted_count g (by k)) ks }
+    ensures sums { (old new : ℕ → ℕ) (ks ps : List ℕ)
+        → AreApart ks → AreApart ps → ((p : ℕ) → In p ps → In p ks)
+        → ((k : ℕ) → In k ks → In k ps ⊎ (new k ≡ old k))
+        → sum_by new ks + sum_by old ps ≡ sum_by old ks + sum_by new ps }
 {}
