@@ -14,7 +14,10 @@ use Rattle.lsys_forest.specs.Changes.{Change}
 use Rattle.lsys_forest.specs.Groves.{In, AreApart, IsSound}
 use Rattle.lsys_forest.specs.Rows.{kids_in, spot_in, level_nodes}
 use Rattle.lsys_forest.proofs.RowLemmas as rows
-use Rattle.lsys_brood.specs.Children.{bracket_kind, renewed, born}
+use Rattle.lsys_brood.specs.declared.number.Number.{Number}
+use Rattle.lsys_brood.specs.declared.child.Child.{Child}
+use Rattle.lsys_brood.specs.Matches.{same_number, number_in, node_numbered, some_or}
+use Rattle.lsys_brood.specs.Children.{bracket_kind, renewed, born, numbers_of, need_of, need_at}
 use Rattle.lsys_next.specs.Nexts.{Successors, kind_of, wanted_behind, HasWanted, HaveWanted, AreClosed, wanted_in}
 use Rattle.lsys_next.specs.Renewals.{Renewal, stayed, relisted, turned, came, AreRenewals, KeepsUpper}
 use Rattle.lsys_next.proofs.Above.{name_stays, upper_nodes}
@@ -71,11 +74,41 @@ module _ {A : Type 0} where
       ap (λ b. cond (nat_eq k j) (wanted_behind o b (by j)) (wanted_in new by (reached o b (is_open (by j))) js k)) kind
       ∙ ap (λ zs. cond (nat_eq k j) (wanted_behind o (kind_of old j) (by j)) zs) (wanted_same old new by (reached o (kind_of old j) (is_open (by j))) js k (λ i l. h i (inr l)))
 
+  -- the children of a parent whose turn has not come stay
+  pub kids_stay : (root : ℕ) (changes : List (Change A)) (g : Numbering) (seed : ℕ) (old new : Nodes A) (depth : ℕ) (by : Successors) (done : List ℕ) (k : ℕ) (n : Node A) → IsSound root changes old
+      → AreRenewals g seed old new root depth by done → (In k done → ⊥) → old k ≡ Some n → n.depth ≡ depth → (j : ℕ) → In j n.kids → new j ≡ old j
+  kids_stay root changes g seed old new depth by done k n sound h out is deep j i = go (h.each j)
+    where
+      u : rows.IsChild old k j
+      u = rows.child root changes old sound k j (subst (λ o. In j (kids_in o)) (sym is) i)
+
+      go : Renewal old new depth done j → new j ≡ old j
+      go (stayed f) = f
+      go (relisted x ls l o d f) =
+          let own = ap (λ (y : Node A). y.depth) (same_Some x u.node (sym o ∙ u.is)) in
+          let above = ap (λ (y : Node A). y.depth) (same_Some n u.above (sym is ∙ u.above_is)) in absurd (omega (arith, own, above, u.depth, d, deep))
+      go (turned x v l o d f) = absurd (out (subst (λ q. In q done) (ap (λ (y : Node A). y.parent) (same_Some x u.node (sym o ∙ u.is)) ∙ u.parent_is) l))
+      go (came q v l o f) = absurd (none-some u.node (sym o ∙ u.is))
+
+  numbered_stay : (old new : Nodes A) (ks : List ℕ) (q : Number) → ((k : ℕ) → In k ks → new k ≡ old k) → node_numbered new ks q ≡ node_numbered old ks q
+  numbered_stay old new [] q h = refl
+  numbered_stay old new (k ∷ ks) q h =
+      λ i. some_or (numbered_stay old new ks q (λ j l. h j (inr l)) i) (cond (same_number (number_in (h k (inl refl) i)) q) (Some k) None)
+
+  -- so its step takes what it took at the start
+  pub need_stays : (root : ℕ) (changes : List (Change A)) (g : Numbering) (seed : ℕ) (old new : Nodes A) (depth : ℕ) (by : Successors) (done : List ℕ) (k : ℕ) (n : Node A) (ws : List Child) → IsSound root changes old
+      → AreRenewals g seed old new root depth by done → (In k done → ⊥) → old k ≡ Some n → n.depth ≡ depth → need_at new n.kids ws ≡ need_at old n.kids ws
+  need_stays root changes g seed old new depth by done k n ws sound h out is deep = ap (need_of ws (length n.kids)) (all (numbers_of ws))
+    where
+      all : (qs : List Number) → map (node_numbered new n.kids) qs ≡ map (node_numbered old n.kids) qs
+      all [] = refl
+      all (q ∷ qs) = λ i. numbered_stay old new n.kids q (kids_stay root changes g seed old new depth by done k n sound h out is deep) i ∷ all qs i
+
   -- a parent whose children were not renewed
   unlisted : (root : ℕ) (changes : List (Change A)) (g : Numbering) (seed : ℕ) (old new : Nodes A) (depth : ℕ) (by : Successors) (done : List ℕ) (k : ℕ) (n : Node A) (zs : List (S.Symbol ℤ)) → IsSound root changes old
       → AreRenewals g seed old new root depth by done → (In k done → ⊥) → old k ≡ Some n → n.depth ≡ depth → HasWanted g seed old k zs → HasWanted g seed new k zs
   unlisted root changes g seed old new depth by done k n zs sound h out is deep w =
-      wanted_stays g seed old new k zs (list (h.each k)) (name_stays old new root k n h.was_once h.stay is) (λ j i. spot j i (h.each j))
+      wanted_stays g seed old new k zs (list (h.each k)) (name_stays old new root k n h.was_once h.stay is) (λ j i. ap (spot_in j) (kids_stay root changes g seed old new depth by done k n sound h out is deep j (subst (λ o. In j (kids_in o)) is i)))
       (λ j i. (let u = rows.child root changes old sound k j i in name_stays old new root j u.node h.was_once h.stay u.is)) w
     where
       list : Renewal old new depth done k → kids_in (new k) ≡ kids_in (old k)
@@ -83,17 +116,6 @@ module _ {A : Type 0} where
       list (relisted x ls i o d f) = absurd (out i)
       list (turned x v i o d f) = let same = ap (λ (y : Node A). y.depth) (same_Some n x (sym is ∙ o)) in absurd (omega (arith, same, d, deep))
       list (came q v i o f) = absurd (none-some n (sym o ∙ is))
-
-      spot : (j : ℕ) → In j (kids_in (old k)) → Renewal old new depth done j → spot_in j (new j) ≡ spot_in j (old j)
-      spot j i (stayed f) = ap (spot_in j) f
-      spot j i (relisted x ls l o d f) =
-          let u = rows.child root changes old sound k j i in
-          let own = ap (λ (y : Node A). y.depth) (same_Some x u.node (sym o ∙ u.is)) in
-          let above = ap (λ (y : Node A). y.depth) (same_Some n u.above (sym is ∙ u.above_is)) in absurd (omega (arith, own, above, u.depth, d, deep))
-      spot j i (turned x v l o d f) =
-          let u = rows.child root changes old sound k j i in
-          absurd (out (subst (λ q. In q done) (ap (λ (y : Node A). y.parent) (same_Some x u.node (sym o ∙ u.is)) ∙ u.parent_is) l))
-      spot j i (came q v l o f) = let u = rows.child root changes old sound k j i in absurd (none-some u.node (sym o ∙ u.is))
 
   module _ (root : ℕ) (changes : List (Change A)) (g : Numbering) (seed : ℕ) (old new : Nodes A) (t : ℕ) (by : Successors) (done : List ℕ) (sound : IsSound root changes old)
       (h : AreRenewals g seed old new root (t + 1) by done) (each : (k : ℕ) → In k (level_nodes old root t) → In k done ⊎ HasWanted g seed old k (by k)) where

@@ -2,8 +2,9 @@
 ghost use Rattle.std.specs.Prelude.{◌≡◌, ◌↔◌, ◌⊎◌, ◌+◌, ◌<◌, ◌≤◌, ℕ, ℤ, List, [], ◌∷◌, length, None, Some, Ok, slice_get, sum_by};
 ghost use Rattle.lsys_syntax.specs.Commands.{Numbering};
 ghost use Rattle.lsys_syntax.specs.Strings as S;
-ghost use Rattle.lsys_spec.specs.Draws.{key_of};
+ghost use Rattle.lsys_spec.specs.Draws.{number_base, key_of};
 ghost use Rattle.lsys_spec.specs.Systems.{System, WellSpelled};
+ghost use Rattle.lsys_spec.specs.Levels as L;
 ghost use Rattle.lsys_spec.specs.Meaning.{next_level, last_level, meaning_to};
 ghost use Rattle.lsys_change.specs.Nodes.{AreOnce, Extends};
 ghost use Rattle.lsys_change.specs.Children.{replacement};
@@ -47,6 +48,13 @@ pub fn law_of_answered_nodes()
         → ((a : Spotted) → slice_get (level_spots m root t) p ≡ Some a → a.key ≡ key_of s.seed (names m a.tag))
         → AnsweredAt s t m root store p k → slice_get (level_nodes m root t) p ≡ Some k
         → replacement s t (level_of m root t) p (symbol_at m k) ≡ Ok (successors m k) }
+{}
+
+/// What replaces a symbol is short: of its symbols no more have one code than there are numbers for it. So is the axiom.
+pub fn law_of_short_successors()
+    ensures successors { (s : System) (t : ℕ) (x : List L.Symbol) (p : ℕ) (a : L.Symbol) (zs : List (S.Symbol ℤ))
+        → WellSpelled s → replacement s t x p a ≡ Ok zs → length zs ≤ number_base }
+    ensures axioms { (s : System) → WellSpelled s → length s.axiom_string ≤ number_base }
 {}
 
 /// A parent whose children were made those that its successor wants has them, with the lineages and the keys that the
