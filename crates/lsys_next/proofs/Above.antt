@@ -1,13 +1,13 @@
 -- The levels above those that change stay.
-use Rattle.std.proofs.Common.{◌≡◌, ◌⊎◌, ◌+◌, ◌<◌, ◌≤◌, ℕ, zero, suc, true, map, Option, Some, None, List, [], ◌∷◌, ◌++◌, length, refl, sym, ap, ◌∙◌, subst, arith, inl, inr}
-use Rattle.std.specs.Prelude.{slice_get, get_or, option_map}
+use Rattle.std.proofs.Common.{◌≡◌, ◌+◌, ◌≤◌, ℕ, zero, suc, map, Some, List, [], ◌∷◌, ◌++◌, length, refl, sym, ap, ◌∙◌, subst, arith, inl, inr}
+use Rattle.std.specs.Prelude.{slice_get, option_map}
 use Rattle.lsys_spec.specs.Draws.{key_of}
 use Rattle.lsys_spec.specs.Systems.{System}
 use Rattle.lsys_spec.specs.Levels as L
 use Rattle.lsys_spec.specs.Levels.{level_balanced}
 use Rattle.lsys_change.specs.Nodes.{AreOnce, Extends}
 use Rattle.lsys_change.proofs.Lineages.{stays}
-use Rattle.lsys_level.specs.Spots.{Spotted, with_lineage, named, level_by}
+use Rattle.lsys_level.specs.Spots.{Spotted, with_lineage, level_by}
 use Rattle.lsys_forest.specs.Nodes.{Node, Nodes}
 use Rattle.lsys_forest.specs.Changes.{Change}
 use Rattle.lsys_forest.specs.Groves.{In, IsSound}
@@ -16,8 +16,7 @@ use Rattle.lsys_forest.proofs.RowLemmas.{level_depth}
 use Rattle.lsys_walks.specs.Stores.{Store}
 use Rattle.lsys_match.specs.Kept.{Kept}
 use Rattle.lsys_kept.specs.Lineages.{kin_of, kins, names}
-use Rattle.lsys_kept.specs.Levels.{level_of, HaveLevels, AnsweredIn, AnsweredAt, answer_at}
-use Rattle.lsys_next.specs.Nexts.{symbol_at}
+use Rattle.lsys_kept.specs.Levels.{HaveLevels, AnsweredIn, AnsweredAt, answer_at}
 use Rattle.lsys_next.specs.Renewals.{KeepsUpper}
 use Rattle.lsys_next.proofs.Nexts.{tag_of, spot_of}
 

@@ -1,5 +1,5 @@
 -- Nodes that are a system's levels have the children that their successors want.
-use Rattle.std.proofs.Common.{◌≡◌, ◌≢◌, ◌⊎◌, ◌+◌, ◌<◌, ◌≤◌, ℕ, zero, suc, Bool, true, false, cond, map, Option, Some, None, Result, Ok, List, [], ◌∷◌, ◌++◌, length, refl, sym, ap, ◌∙◌, subst, arith, inl, inr}
+use Rattle.std.proofs.Common.{◌≡◌, ◌+◌, ◌<◌, ◌≤◌, ℕ, zero, suc, Bool, true, false, cond, map, Option, Some, None, Ok, List, [], ◌∷◌, ◌++◌, length, refl, sym, ap, ◌∙◌, subst, arith, inl, inr}
 use Rattle.std.specs.Prelude.{ℤ, slice_get, get_or, option_map}
 use Rattle.std.proofs.lemmas.Bool.{cases_lt}
 use Rattle.std.proofs.lemmas.List.{map-append, length_push}
@@ -10,7 +10,6 @@ use Rattle.lsys_syntax.specs.Commands.{Numbering}
 use Rattle.lsys_syntax.specs.Strings as S
 use Rattle.lsys_spec.specs.Draws.{key_of}
 use Rattle.lsys_spec.specs.Systems.{System, Each, WellSpelled}
-use Rattle.lsys_spec.specs.Values.{◌and_then◌}
 use Rattle.lsys_spec.specs.Levels as L
 use Rattle.lsys_spec.specs.Levels.{lineage}
 use Rattle.lsys_spec.specs.Cuts.{Raw, Plain, Cut, raw_lineage, cut_on, cut}
@@ -25,8 +24,6 @@ use Rattle.lsys_change.specs.Children.{own_children, is_open, replacement, AreRe
 use Rattle.lsys_change.specs.Nodes.{AreOnce}
 use Rattle.lsys_change.proofs.Lineages.{child, apart}
 use Rattle.lsys_change.proofs.Rows.{kept_level}
-use Rattle.lsys_change.proofs.UpTo.{level_count}
-use Rattle.lsys_level.specs.Spots.{Spotted}
 use Rattle.lsys_forest.specs.Nodes.{Node, Nodes}
 use Rattle.lsys_forest.specs.Changes.{Change}
 use Rattle.lsys_forest.specs.Groves.{In, AreApart, IsSound}
@@ -36,7 +33,7 @@ use Rattle.lsys_match.specs.Kept.{Kept}
 use Rattle.lsys_kept.specs.Lineages.{kin_of, kins, names}
 use Rattle.lsys_kept.specs.Levels.{level_of, HaveLevels}
 use Rattle.lsys_kept.specs.Meant.{meant_to}
-use Rattle.lsys_next.specs.Nexts.{Successors, symbol_at, kind_of, key_at, wanted_behind, HasWanted, HaveWanted}
+use Rattle.lsys_next.specs.Nexts.{Successors, symbol_at, kind_of, key_at, HasWanted, HaveWanted}
 use Rattle.lsys_next.proofs.Nexts.{lineage_at, kind_with, tag_of, level_symbols, last_there, all_replaced}
 use Rattle.lsys_next.proofs.Firsts.{name_root}
 
@@ -189,8 +186,7 @@ module _ {A : Type 0} (m : Nodes A) (root : ℕ) where
           let parts = split (IsChildOf (names m k)) (IsBelowOne ks) (map (symbol_at m) (kids_in (m k))) (map (symbol_at m) (kids_below m ks)) (cond (stays o (kinds.kind_of x)) (own_children g x (by k)) [])
           (row g next (map (symbol_at m) ks) (map by ks)) (λ b p q. mine b p q) (kids_are k) (all_below ks)
           (each_cond (IsChildOf (names m k)) (stays o (kinds.kind_of x)) (own_children g x (by k)) (each_weaker (IsChildOf (lineage x)) (IsChildOf (names m k)) (own_children g x (by k)) (λ b c. subst (λ l. IsChildOf l b) (lineage_at m k) c) (all_own g x (by k))))
-          (row_below g by next ks) (sym (map-append (symbol_at m) (kids_in (m k)) (kids_below m ks)) ∙ e) in
-          (
+          (row_below g by next ks) (sym (map-append (symbol_at m) (kids_in (m k)) (kids_below m ks)) ∙ e) in (
             record {
               symbols = parts.0 ∙ ap (λ b. cond (stays o b) (own_children g x (by k)) []) kind ∙ own (stays o (kind_of m k));
               keys = λ j i. keys j (rows.In_left j (kids_in (m k)) (kids_below m ks) i);

@@ -1,5 +1,5 @@
 -- The first level of nodes.
-use Rattle.std.proofs.Common.{◌≡◌, ◌+◌, ◌<◌, ◌≤◌, ℕ, zero, suc, true, map, Option, Some, None, Ok, List, [], ◌∷◌, length, refl, sym, ap, ◌∙◌, subst, arith, sum_by}
+use Rattle.std.proofs.Common.{◌≡◌, ◌<◌, ◌≤◌, ℕ, true, map, Some, Ok, List, [], ◌∷◌, length, refl, sym, ap, ◌∙◌, subst, arith, sum_by}
 use Rattle.std.specs.Prelude.{slice_get, get_or}
 use Rattle.std.proofs.lemmas.Bool.Decides.{nat_tests}
 use Rattle.std.proofs.lemmas.List.{length-map}
@@ -9,8 +9,7 @@ use Rattle.lsys_spec.specs.Systems.{System, WellSpelled}
 use Rattle.lsys_spec.specs.Levels as L
 use Rattle.lsys_spec.specs.Levels.{level_balanced}
 use Rattle.lsys_spec.specs.Cuts.{cut}
-use Rattle.lsys_spec.specs.Meaning.{OverLimit, children, first_level, within_limit, meaning_to, meaning}
-use Rattle.std.proofs.Common.{Err}
+use Rattle.lsys_spec.specs.Meaning.{children, first_level, within_limit, meaning_to}
 use Rattle.lsys_change.specs.Nodes.{AreOnce, depth_in, lineage_in}
 use Rattle.lsys_change.proofs.UpTo.{grown_to}
 use Rattle.lsys_level.specs.Spots.{Spotted, level_by}

@@ -1,5 +1,5 @@
 -- How many children the nodes of a level want.
-use Rattle.std.proofs.Common.{◌≡◌, ◌≢◌, ◌⊎◌, ◌+◌, ◌<◌, ◌≤◌, ℕ, zero, suc, Bool, true, false, cond, map, Option, Some, None, Ok, Err, List, [], ◌∷◌, ◌++◌, length, refl, sym, ap, ◌∙◌, subst, arith, inl, inr, sum_by, length-append}
+use Rattle.std.proofs.Common.{◌≡◌, ◌≢◌, ◌⊎◌, ◌+◌, ◌<◌, ℕ, zero, suc, Bool, true, false, cond, map, Option, Some, None, Err, List, [], ◌∷◌, ◌++◌, length, refl, sym, ap, ◌∙◌, subst, arith, inl, inr, sum_by, length-append}
 use Rattle.std.specs.Prelude.{ℤ, nat_eq}
 use Rattle.std.proofs.lemmas.Bool.{cases_eq}
 use Rattle.std.proofs.lemmas.List.{length-map}
@@ -28,7 +28,7 @@ use Rattle.lsys_kept.specs.Levels.{level_of}
 use Rattle.lsys_kept.specs.Meant.{meant_to}
 use Rattle.lsys_wanted.specs.Wishes.{child_symbol, AreWanted}
 use Rattle.lsys_next.specs.Nexts.{Successors, symbol_at, kind_of, wanted_behind, HasWanted, AreClosed, wanted_in, wanted_count, count_wanted, HaveSuccessors}
-use Rattle.lsys_next.proofs.Nexts.{kind_with, lineage_at, level_symbols, last_there, all_replaced}
+use Rattle.lsys_next.proofs.Nexts.{kind_with, level_symbols, last_there, all_replaced}
 use Rattle.lsys_next.proofs.Walks.{same_yes, same_not, none_reached}
 use Rattle.lsys_next.proofs.Refused.{over_first, over_behind}
 

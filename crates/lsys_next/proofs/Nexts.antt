@@ -1,6 +1,6 @@
 -- The next level of nodes.
-use Rattle.std.proofs.Common.{◌≡◌, ◌⊎◌, ◌+◌, ◌<◌, ◌≤◌, ℕ, zero, suc, Bool, true, false, cond, map, Option, Some, None, Result, Ok, Err, List, [], ◌∷◌, ◌++◌, length, refl, sym, ap, ◌∙◌, subst, arith, inl, inr, add-one, sum_by}
-use Rattle.std.specs.Prelude.{ℤ, slice_get, get_or, nat_lt}
+use Rattle.std.proofs.Common.{◌≡◌, ◌+◌, ◌<◌, ◌≤◌, ℕ, zero, suc, Bool, true, false, cond, map, Option, Some, None, Result, Ok, List, [], ◌∷◌, ◌++◌, length, refl, sym, ap, ◌∙◌, subst, arith, inl, inr, add-one, sum_by}
+use Rattle.std.specs.Prelude.{slice_get, get_or}
 use Rattle.std.proofs.lemmas.Bool.{cases_lt}
 use Rattle.std.proofs.lemmas.Bool.Decides.{nat_tests}
 use Rattle.std.proofs.lemmas.List.{map-append, length-map, length_push}
@@ -9,19 +9,16 @@ use Rattle.std.proofs.lemmas.Option.{same_Some, slice_get-get_or}
 use Rattle.std.proofs.Math.ListN.{get_or-append}
 use Rattle.std.proofs.Math.Seq.{get_or-append_seam}
 use Rattle.lsys_syntax.specs.Commands.{Numbering}
-use Rattle.lsys_syntax.specs.Strings as S
 use Rattle.lsys_spec.specs.Draws.{key_of}
-use Rattle.lsys_spec.specs.Systems.{System, WellSpelled}
+use Rattle.lsys_spec.specs.Systems.{System}
 use Rattle.lsys_spec.specs.Values.{◌and_then◌}
 use Rattle.lsys_spec.specs.Levels as L
 use Rattle.lsys_spec.specs.Levels.{lineage, level_balanced}
 use Rattle.lsys_spec.specs.Cuts.{cut}
-use Rattle.lsys_spec.specs.Meaning.{LevelRefusal, OverLimit, children, next_level, last_level, within_limit, meaning_to}
-use Rattle.lsys_spec.proofs.LevelInduction.{last_push}
+use Rattle.lsys_spec.specs.Meaning.{LevelRefusal, children, next_level, last_level, within_limit, meaning_to}
 use Rattle.lsys_change.specs.Kinds.{BracketKind, stays, reached}
 use Rattle.lsys_change.specs.Kinds as kinds
-use Rattle.lsys_change.specs.Children.{own_children, is_open, replacement, AreReplaced, row, NoneOpen}
-use Rattle.lsys_change.specs.Passes.{IsGrownLevel}
+use Rattle.lsys_change.specs.Children.{own_children, is_open, replacement, AreReplaced, row}
 use Rattle.lsys_change.proofs.Rows.{kept_level}
 use Rattle.lsys_change.proofs.UpTo.{level_count, grown_to}
 use Rattle.lsys_level.specs.Spots.{Seen, Push, Pop, Module, Spotted, with_lineage, named, level_by}
@@ -34,7 +31,7 @@ use Rattle.lsys_match.specs.Kept.{Kept}
 use Rattle.lsys_kept.specs.Lineages.{names}
 use Rattle.lsys_kept.specs.Levels.{level_of, HaveLevels}
 use Rattle.lsys_kept.specs.Meant.{levels_or_none, meant_to}
-use Rattle.lsys_next.specs.Nexts.{Successors, symbol_at, kind_of, key_at, HasWanted, wanted_behind, HaveWanted, HaveNext}
+use Rattle.lsys_next.specs.Nexts.{Successors, symbol_at, kind_of, key_at, HaveWanted, HaveNext}
 
 -- 1. symbols and spots
 

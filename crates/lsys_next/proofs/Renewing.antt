@@ -1,10 +1,9 @@
 -- The children of one parent more were renewed.
-use Rattle.std.proofs.Common.{◌≡◌, ◌≢◌, ◌⊎◌, ◌+◌, ◌*◌, ◌<◌, ◌≤◌, ◌||◌, ℕ, zero, suc, Bool, true, false, map, Option, Some, None, List, [], ◌∷◌, length, refl, sym, ap, ◌∙◌, subst, arith, inl, inr}
-use Rattle.std.specs.Prelude.{ℤ, option_map, is_some}
+use Rattle.std.proofs.Common.{◌≡◌, ◌≢◌, ◌⊎◌, ◌+◌, ◌*◌, ◌<◌, ◌≤◌, ◌||◌, ℕ, Bool, true, false, map, Option, Some, None, List, [], ◌∷◌, refl, sym, ap, ◌∙◌, subst, arith, inl, inr}
+use Rattle.std.specs.Prelude.{option_map, is_some}
 use Rattle.std.proofs.lemmas.Bool.{cases_eq}
 use Rattle.std.proofs.lemmas.Option.{none-some, same_Some}
 use Rattle.lsys_syntax.specs.Commands.{Numbering}
-use Rattle.lsys_spec.specs.Systems.{Each}
 use Rattle.lsys_spec.specs.Draws.{number_base, key_of}
 use Rattle.lsys_change.specs.Nodes.{Kin, AreOnce, Extends}
 use Rattle.lsys_forest.specs.Nodes.{Node, Nodes, with_kids}
@@ -22,7 +21,7 @@ use Rattle.lsys_kept.specs.Lineages.{kin_of, kins, names}
 use Rattle.lsys_next.specs.Nexts.{Successors, HasWanted}
 use Rattle.lsys_next.specs.Renewals.{AreSmall, AreAllUnder, Renewal, stayed, relisted, turned, came, AreRenewals, KeepsUpper}
 use Rattle.lsys_next.proofs.Above.{name_stays}
-use Rattle.lsys_next.proofs.Wants.{IsMadeFor, all_made, renewed_wanted, wanted_stays}
+use Rattle.lsys_next.proofs.Wants.{all_made, renewed_wanted, wanted_stays}
 
 pub in_cases : (k : ℕ) (xs : List ℕ) → In k xs ⊎ (In k xs → ⊥)
 in_cases k [] = inr (λ h. h)

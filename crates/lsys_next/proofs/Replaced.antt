@@ -1,5 +1,5 @@
 -- A right answer tells what replaces its node.
-use Rattle.std.proofs.Common.{arith, ◌≡◌, ◌+◌, ◌<◌, ◌≤◌, ℕ, zero, suc, map, Option, Some, None, Result, Ok, List, [], ◌∷◌, length, refl, sym, ap, ◌∙◌, subst}
+use Rattle.std.proofs.Common.{arith, ◌≡◌, ◌≤◌, ℕ, Option, Some, Ok, List, [], ◌∷◌, length, refl, sym, ap, ◌∙◌}
 use Rattle.std.specs.Prelude.{ℤ, slice_get, option_map}
 use Rattle.std.proofs.lemmas.Option.{slice_get-map}
 use Rattle.lsys_syntax.specs.Strings as S
@@ -9,10 +9,9 @@ use Rattle.lsys_spec.proofs.Offspring.{has_balance, successor_short}
 use Rattle.lsys_spec.specs.Bodies.{Body, group}
 use Rattle.lsys_spec.specs.Levels.{ModuleValue}
 use Rattle.lsys_spec.specs.Levels as L
-use Rattle.lsys_spec.specs.Choice.{Fault}
 use Rattle.lsys_spec.specs.Meaning.{successor, successor_by, asked}
 use Rattle.lsys_change.specs.Children.{replacement}
-use Rattle.lsys_level.specs.Spots.{Seen, Push, Pop, Module, Spotted, with_lineage, level_by}
+use Rattle.lsys_level.specs.Spots.{Seen, Push, Pop, Module, Spotted, with_lineage}
 use Rattle.lsys_walks.specs.Stores.{Store}
 use Rattle.lsys_match.specs.Kept.{Kept}
 use Rattle.lsys_forest.specs.Nodes.{Nodes}

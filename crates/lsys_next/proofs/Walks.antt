@@ -1,15 +1,14 @@
 -- What is wanted of the nodes of a level, one after the other.
-use Rattle.std.proofs.Common.{◌≡◌, ◌≢◌, ◌⊎◌, ◌+◌, ◌<◌, ◌≤◌, ℕ, zero, suc, Bool, true, false, cond, map, Option, Some, None, List, [], ◌∷◌, length, refl, sym, ap, ◌∙◌, subst, arith, inl, inr}
+use Rattle.std.proofs.Common.{◌≡◌, ◌≢◌, ◌⊎◌, ◌+◌, ℕ, Bool, true, false, cond, map, Option, Some, None, List, [], ◌∷◌, length, refl, sym, ap, ◌∙◌, subst, arith, inl, inr}
 use Rattle.std.specs.Prelude.{ℤ, nat_eq}
-use Rattle.std.proofs.lemmas.Bool.{cases_eq}
 use Rattle.std.proofs.lemmas.Grind.{common_steps}
 use Rattle.std.proofs.lemmas.Option.{none-some, same_Some}
 use Rattle.lsys_syntax.specs.Commands.{Numbering}
 use Rattle.lsys_syntax.specs.Strings as S
-use Rattle.lsys_change.specs.Kinds.{BracketKind, Opens, Closes, Neither, stays, reached}
+use Rattle.lsys_change.specs.Kinds.{BracketKind, Opens, Closes, Neither, reached}
 use Rattle.lsys_change.specs.Children.{is_open}
 use Rattle.lsys_level.specs.Spots.{Spotted}
-use Rattle.lsys_forest.specs.Nodes.{Node, Nodes, with_kids}
+use Rattle.lsys_forest.specs.Nodes.{Node, Nodes}
 use Rattle.lsys_forest.specs.Changes.{Change}
 use Rattle.lsys_forest.specs.Groves.{In, AreApart, IsSound}
 use Rattle.lsys_forest.specs.Rows.{kids_in, spot_in, level_nodes}
@@ -17,9 +16,9 @@ use Rattle.lsys_forest.proofs.RowLemmas as rows
 use Rattle.lsys_brood.specs.declared.number.Number.{Number}
 use Rattle.lsys_brood.specs.declared.child.Child.{Child}
 use Rattle.lsys_brood.specs.Matches.{same_number, number_in, node_numbered, some_or}
-use Rattle.lsys_brood.specs.Children.{bracket_kind, renewed, born, numbers_of, need_of, need_at}
+use Rattle.lsys_brood.specs.Children.{bracket_kind, numbers_of, need_of, need_at}
 use Rattle.lsys_next.specs.Nexts.{Successors, kind_of, wanted_behind, HasWanted, HaveWanted, AreClosed, wanted_in}
-use Rattle.lsys_next.specs.Renewals.{Renewal, stayed, relisted, turned, came, AreRenewals, KeepsUpper}
+use Rattle.lsys_next.specs.Renewals.{Renewal, stayed, relisted, turned, came, AreRenewals}
 use Rattle.lsys_next.proofs.Above.{name_stays, upper_nodes}
 use Rattle.lsys_next.proofs.Wants.{wanted_stays}
 use Rattle.lsys_next.proofs.Renewing.{keeps_upper, in_cases}

@@ -1,6 +1,6 @@
 -- The children that were made are the wanted ones.
-use Rattle.std.proofs.Common.{◌≡◌, ◌≢◌, ◌⊎◌, ◌+◌, ◌*◌, ◌<◌, ◌≤◌, ℕ, zero, suc, Bool, true, false, cond, map, Option, Some, None, List, [], ◌∷◌, ◌++◌, length, refl, sym, ap, ◌∙◌, subst, arith, inl, inr, fold}
-use Rattle.std.specs.Prelude.{ℤ, option_map, nat_eq, is_some}
+use Rattle.std.proofs.Common.{◌≡◌, ◌≢◌, ◌⊎◌, ◌+◌, ◌*◌, ℕ, map, Option, Some, None, List, [], ◌∷◌, ◌++◌, refl, sym, ap, ◌∙◌, subst, inl, inr, fold}
+use Rattle.std.specs.Prelude.{ℤ, option_map}
 use Rattle.std.proofs.lemmas.Option.{none-some, same_Some}
 use Rattle.lsys_syntax.specs.Commands.{Numbering}
 use Rattle.lsys_syntax.specs.Strings as S
@@ -8,12 +8,11 @@ use Rattle.lsys_spec.specs.Systems.{Each}
 use Rattle.lsys_spec.specs.Draws.{number_base, axiom_key_of, child_key_of, key_of}
 use Rattle.lsys_spec.specs.Cuts.{cut}
 use Rattle.lsys_spec.specs.Meaning.{children}
-use Rattle.lsys_spec.specs.Levels as L
-use Rattle.lsys_change.specs.Nodes.{Kin, AreOnce, Extends}
+use Rattle.lsys_change.specs.Nodes.{AreOnce, Extends}
 use Rattle.lsys_change.proofs.Lineages.{child}
 use Rattle.lsys_level.specs.Spots.{Spotted, with_lineage, named}
 use Rattle.lsys_level.specs.Places.{seen_in}
-use Rattle.lsys_forest.specs.Nodes.{Node, Nodes, with_kids}
+use Rattle.lsys_forest.specs.Nodes.{Node, Nodes}
 use Rattle.lsys_forest.specs.Changes.{Change}
 use Rattle.lsys_forest.specs.Groves.{In, IsSound}
 use Rattle.lsys_forest.specs.Rows.{kids_in, spot_in}
@@ -21,11 +20,11 @@ use Rattle.lsys_forest.proofs.RowLemmas as rows
 use Rattle.lsys_brood.specs.declared.number.Number.{Number}
 use Rattle.lsys_brood.specs.declared.child.Child.{Child}
 use Rattle.lsys_brood.specs.Matches.{number_of, node_numbered}
-use Rattle.lsys_brood.specs.Children.{numbers_of, born, renewed, IsBorn, IsKept, IsMade, AreMade, AreRenewed}
+use Rattle.lsys_brood.specs.Children.{numbers_of, born, renewed, IsBorn, IsMade, AreMade, AreRenewed}
 use Rattle.lsys_brood.proofs.FoundLemmas.{numbered_is}
 use Rattle.lsys_wanted.specs.Wishes.{child_number, child_symbol, AreWanted}
 use Rattle.lsys_kept.specs.Lineages.{kin_of, kins, names}
-use Rattle.lsys_next.specs.Nexts.{symbol_at, key_at, HasWanted, AreSameChildren}
+use Rattle.lsys_next.specs.Nexts.{symbol_at, HasWanted, AreSameChildren}
 use Rattle.lsys_next.proofs.Nexts.{tag_of}
 use Rattle.lsys_next.proofs.Above.{map_same, name_stays}
 

@@ -1,5 +1,5 @@
 -- What replaces a node, by the answer that it keeps.
-use Rattle.std.specs.Prelude.{ℕ, ℤ, List, [], ◌∷◌, Option, Some, None}
+use Rattle.std.specs.Prelude.{ℤ, List, [], ◌∷◌, Option, Some, None}
 use Rattle.lsys_syntax.specs.Strings as S
 use Rattle.lsys_module.specs.Views.{string_of}
 use Rattle.lsys_level.specs.Spots.{Seen, Push, Pop, Module}

@@ -1,21 +1,23 @@
 -- Nodes whose children are the wanted ones.
-use Rattle.std.specs.Prelude.{◌≡◌, ◌≢◌, ◌+◌, ◌≤◌, ◌<◌, ℕ, ℤ, false, Option, Some, None, Result, Ok, Err, List, [], ◌∷◌, ◌++◌, length, map, cond, nat_eq, slice_get, sum_by, if◌then◌else◌}
+use Rattle.std.specs.Prelude.{◌≡◌, ◌+◌, ℕ, ℤ, false, Option, Some, None, Ok, Err, List, [], ◌∷◌, ◌++◌, length, map, nat_eq, slice_get, sum_by, if◌then◌else◌}
 use Rattle.lsys_syntax.specs.Commands.{Numbering}
 use Rattle.lsys_syntax.specs.Strings as S
-use Rattle.lsys_spec.specs.Draws.{number_base, key_of}
+use Rattle.lsys_spec.specs.Draws.{key_of}
 use Rattle.lsys_spec.specs.Systems.{System, WellSpelled}
 use Rattle.lsys_spec.specs.Levels as L
 use Rattle.lsys_spec.specs.Choice.{Fault}
 use Rattle.lsys_spec.specs.Cuts.{cut}
-use Rattle.lsys_spec.specs.Meaning.{LevelRefusal, children, meaning_to, last_level}
+use Rattle.lsys_spec.specs.Meaning.{children, meaning_to}
 use Rattle.lsys_change.specs.Kinds.{BracketKind, Opens, Closes, Neither, stays, reached}
 use Rattle.lsys_change.specs.Children.{is_open, replacement}
+use Rattle.lsys_change.specs.Nodes.{AreOnce}
 use Rattle.lsys_level.specs.Spots.{named}
-use Rattle.lsys_forest.specs.Nodes.{Node, Nodes}
-use Rattle.lsys_forest.specs.Groves.{In}
+use Rattle.lsys_forest.specs.Nodes.{Nodes}
+use Rattle.lsys_forest.specs.Changes.{Change}
+use Rattle.lsys_forest.specs.Groves.{In, IsSound}
 use Rattle.lsys_forest.specs.Rows.{kids_in, spot_in, level_nodes}
 use Rattle.lsys_brood.specs.Children.{bracket_kind}
-use Rattle.lsys_kept.specs.Lineages.{names}
+use Rattle.lsys_kept.specs.Lineages.{kins, names}
 use Rattle.lsys_kept.specs.Levels.{level_of, HaveLevels}
 use Rattle.lsys_kept.specs.Meant.{meant_to}
 use Rattle.lsys_match.specs.Kept.{Kept}
@@ -55,7 +57,8 @@ module _ {A : Type 0} where
   key_at m k = (spot_in k (m k)).key
 
   -- The children of a node are those that a successor wants of it, with the keys of their lineages.
-  pub record HasWanted (g : Numbering) (seed : ℕ) (m : Nodes A) (k : ℕ) (zs : List (S.Symbol ℤ)) : Type 0 where
+  pub record HasWanted (g : Numbering) (seed : ℕ) (m : Nodes A) (k : ℕ)
+      (zs : List (S.Symbol ℤ)) : Type 0 where
     pub symbols : map (symbol_at m) (kids_in (m k)) ≡ cut (children g (names m k) zs)
     pub keys : (j : ℕ) → In j (kids_in (m k)) → key_at m j ≡ key_of seed (names m j)
 
@@ -87,8 +90,18 @@ module _ {A : Type 0} where
   modules_in m [] = 0
   modules_in m (k ∷ ks) = counted (kind_of m k) (modules_in m ks)
 
+-- The nodes hang together and are the system's levels up to level n, with their keys; no two of a depth have one lineage.
+pub record AreLevels (s : System) (limit n : ℕ) (m : Nodes Kept) (root : ℕ) : Type 0 where
+  pub spelled : WellSpelled s
+  pub is : meaning_to s limit n ≡ Ok (meant_to s limit n)
+  pub levels : HaveLevels m root s.seed (meant_to s limit n)
+  pub once : AreOnce (kins m) root
+  pub changes : List (Change Kept)
+  pub sound : IsSound root changes m
+
 -- The nodes up to level t are the system's levels, with their keys, and it is told what replaces each node of level t.
-pub record HaveSuccessors (s : System) (limit t : ℕ) (m : Nodes Kept) (root : ℕ) (by : Successors) : Type 0 where
+pub record HaveSuccessors (s : System) (limit t : ℕ) (m : Nodes Kept) (root : ℕ)
+    (by : Successors) : Type 0 where
   pub spelled : WellSpelled s
   pub is : meaning_to s limit t ≡ Ok (meant_to s limit t)
   pub levels : HaveLevels m root s.seed (meant_to s limit t)
@@ -96,12 +109,13 @@ pub record HaveSuccessors (s : System) (limit t : ℕ) (m : Nodes Kept) (root : 
       → replacement s t (level_of m root t) p (symbol_at m k) ≡ Ok (by k)
 
 -- And each of these has the children that its successor wants of it.
-pub record HaveNext (s : System) (limit t : ℕ) (m : Nodes Kept) (root : ℕ) (by : Successors) : Type 0 where
+pub record HaveNext (s : System) (limit t : ℕ) (m : Nodes Kept) (root : ℕ)
+    (by : Successors) : Type 0 where
   pub level : HaveSuccessors s limit t m root by
   pub children : HaveWanted s.numbering s.seed m by None (level_nodes m root t)
 
--- The nodes up to level t are the system's levels. Of those of level t the node k, behind these and before those, is the first
--- whose module has a fault, and each before it has its successor.
+-- The nodes up to level t are the system's levels. Of those of level t the node k, behind these and before those, is the
+-- first whose module has a fault, and each before it has its successor.
 pub record HasFirstFault (s : System) (limit t : ℕ) (m : Nodes Kept) (root : ℕ) (by : Successors)
     (before : List ℕ) (k : ℕ) (after : List ℕ) (fault : Fault) : Type 0 where
   pub spelled : WellSpelled s

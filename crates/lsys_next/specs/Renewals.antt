@@ -1,7 +1,6 @@
 -- Parents of one depth whose children were renewed, one parent after the other.
-use Rattle.std.specs.Prelude.{◌≡◌, ◌≢◌, ◌+◌, ◌<◌, ◌≤◌, ℕ, ℤ, List, [], Option, Some, None}
+use Rattle.std.specs.Prelude.{◌≡◌, ◌≢◌, ◌+◌, ◌<◌, ◌≤◌, ℕ, List, Some, None}
 use Rattle.lsys_syntax.specs.Commands.{Numbering}
-use Rattle.lsys_syntax.specs.Strings as S
 use Rattle.lsys_spec.specs.Draws.{number_base}
 use Rattle.lsys_change.specs.Nodes.{AreOnce, Extends}
 use Rattle.lsys_forest.specs.Nodes.{Node, Nodes, with_kids}
@@ -19,10 +18,11 @@ module _ {A : Type 0} where
 
   -- all nodes of this parent are its children
   abbrev pub AreAllUnder : Nodes A → ℕ → ℕ → Type 0
-  AreAllUnder m root p = (k : ℕ) (n : Node A) → m k ≡ Some n → k ≢ root → n.parent ≡ p → In k (kids_in (m p))
+  AreAllUnder m root p =
+      (k : ℕ) (n : Node A) → m k ≡ Some n → k ≢ root → n.parent ≡ p → In k (kids_in (m p))
 
-  -- What became of a node: it stayed; or it is one of the parents, and has other children; or it is an old child of one of them,
-  -- with another symbol or another key; or a new child of one of them.
+  -- What became of a node: it stayed; or it is one of the parents, and has other children; or it is an old child of one of
+  -- them, with another symbol or another key; or a new child of one of them.
   pub data Renewal (old new : Nodes A) (depth : ℕ) (done : List ℕ) (k : ℕ) : Type 0 where
     stayed : new k ≡ old k → Renewal old new depth done k
     relisted : (n : Node A) (ks : List ℕ) → In k done → old k ≡ Some n → n.depth ≡ depth
@@ -34,8 +34,8 @@ module _ {A : Type 0} where
 
   -- The children of these parents, all of this depth, were renewed, and are those that the parents' successors want; what
   -- became of each other node is told. Lineages stay, and no two nodes of a depth have one.
-  pub record AreRenewals (g : Numbering) (seed : ℕ) (old new : Nodes A) (root depth : ℕ) (by : Successors)
-      (done : List ℕ) : Type 0 where
+  pub record AreRenewals (g : Numbering) (seed : ℕ) (old new : Nodes A) (root depth : ℕ)
+      (by : Successors) (done : List ℕ) : Type 0 where
     pub small : AreSmall new
     pub was_once : AreOnce (kins old) root
     pub once : AreOnce (kins new) root

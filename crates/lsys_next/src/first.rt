@@ -19,9 +19,11 @@ ghost use Rattle.lsys_next.specs.Nexts.{HasWanted};
 /// The root's children, where they are those that the axiom wants of a parent whose key is the seed, are level 0. Where it is
 /// no longer than the limit, the nodes are the levels up to it.
 pub fn law_of_first_nodes()
-    ensures renewed { (s : System) (root : ℕ) (changes : List (Change Kept)) (old new : Nodes Kept) (n : Node Kept) (ws : List Child)
+    ensures renewed { (s : System) (root : ℕ) (changes : List (Change Kept)) (old new : Nodes Kept)
+        (n : Node Kept) (ws : List Child)
         → IsSound root changes old → AreOnce (kins new) root → old root ≡ Some n
-        → AreRenewed old new root n ws (kids_in (new root)) → AreWanted s.numbering s.seed s.axiom_string ws
+        → AreRenewed old new root n ws (kids_in (new root))
+        → AreWanted s.numbering s.seed s.axiom_string ws
         → HasWanted s.numbering s.seed new root s.axiom_string }
     ensures first { (s : System) (m : Nodes Kept) (root : ℕ)
         → AreOnce (kins m) root → HasWanted s.numbering s.seed m root s.axiom_string

@@ -13,8 +13,8 @@ ghost use Rattle.lsys_kept.specs.Lineages.{kins};
 ghost use Rattle.lsys_kept.specs.Levels.{HaveLevels, AnsweredAt, answer_at};
 ghost use Rattle.lsys_next.specs.Renewals.{KeepsUpper};
 
-/// Where the nodes that are at most t + 1 steps below the root keep their symbols and keys, and those less deep their children,
-/// the levels up to t stay as they are; and so do right answers that are kept.
+/// Where the nodes that are at most t + 1 steps below the root keep their symbols and keys, and those less deep their
+/// children, the levels up to t stay as they are; and so do right answers that are kept.
 pub fn law_of_upper_levels()
     ensures nodes { (root : ℕ) (changes : List (Change Kept)) (old new : Nodes Kept) (t : ℕ)
         → IsSound root changes old → KeepsUpper old new (t + 1)

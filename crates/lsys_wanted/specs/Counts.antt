@@ -17,7 +17,11 @@ numbered_at by_name n before c = record { code = c; count = count_by (λ d. d ==
 
 -- a symbol as the child of a parent with this key
 abbrev pub child_of : ℕ → Number → Symbol → Child
-child_of key number s = record { number = number; symbol = s; key = child_key_of key (number_base * number.code + number.count) }
+child_of key number s = record {
+  number = number;
+  symbol = s;
+  key = child_key_of key (number_base * number.code + number.count);
+}
 
 -- it is there if it stays
 abbrev pub child_if : Bool → Child → List Child
@@ -27,7 +31,8 @@ child_if b w = cond b (w ∷ []) []
 pub record IsBehind (n : ℕ) (before : List ℕ) (a : Numbers) : Type 0 where
   pub symbols : a.symbols ≡ n
   pub length : length before ≡ n
-  pub counts : a.numbering ≡ code.ByName → (c : ℕ) → count_at (get nat_eq a.counts) c ≡ count_by (λ d. d == c) before
+  pub counts : a.numbering ≡ code.ByName
+      → (c : ℕ) → count_at (get nat_eq a.counts) c ≡ count_by (λ d. d == c) before
 
 -- fewer were numbered than there are numbers for a code
 abbrev pub AreFew : Numbers → Type 0

@@ -29,7 +29,8 @@ child_symbol l w = with_lineage (l ++ child_number w ∷ []) (seen_in w.symbol)
 
 -- The children are those that a successor wants of a parent with this key: what the cuts among the successor's symbols leave,
 -- each with the number that it has among them all, and with the key that this number has below the parent's.
-pub record AreWanted (g : Numbering) (key : ℕ) (zs : List (S.Symbol ℤ)) (ws : List Child) : Type 0 where
+pub record AreWanted (g : Numbering) (key : ℕ) (zs : List (S.Symbol ℤ))
+    (ws : List Child) : Type 0 where
   pub symbols : (l : List ℕ) → map (child_symbol l) ws ≡ cut (children g l zs)
   pub keys : Each (λ w. w.key ≡ child_key_of key (child_number w)) ws
   pub whole : AreWhole ws

@@ -45,8 +45,11 @@ impl Numbers {
     /// The number of the next symbol, among those of one parent. Whether it is cut off does not matter.
     pub(crate) fn next(&mut self, symbol: &Symbol) -> Result<Number, AllocError>
         requires few { AreFew self.old }
-        ensures number { IfOk result (λ number. (n : ℕ) (before : List ℕ) → IsBehind n before self.old
-            → number ≡ numbered_at (numbering_of self.old.numbering) n before (code_of (symbol_of symbol.now))) }
+        ensures number { IfOk result (λ number. (n : ℕ) (before : List ℕ)
+            → IsBehind n before self.old
+            → number
+            ≡ numbered_at (numbering_of self.old.numbering) n before
+            (code_of (symbol_of symbol.now))) }
         ensures behind { OnOk result ((n : ℕ) (before : List ℕ) → IsBehind n before self.old
             → IsBehind (n + 1) (code_of (symbol_of symbol.now) ∷ before) self.new) }
         ensures numbering { self.new.numbering ≡ self.old.numbering }

@@ -62,7 +62,8 @@ impl Wanted {
         successor: &[Symbol],
     ) -> Result<(), AllocError>
         requires few { length successor.now ≤ number_base }
-        ensures wanted { OnOk result (AreWanted (numbering_of numbering) key (string_of successor.now) self.new.children) }
+        ensures wanted { OnOk result
+            (AreWanted (numbering_of numbering) key (string_of successor.now) self.new.children) }
         ensures cuts { OnOk result (self.new.is_open ≡ is_open (string_of successor.now)) }
     {
         self.numbers.begin(numbering);
@@ -89,7 +90,8 @@ impl Wanted {
         symbol: &Symbol,
     ) -> Result<(), AllocError>
         requires whole { symbol.now ≢ Cut }
-        ensures wanted { OnOk result (AreWanted (numbering_of numbering) key (symbol_of symbol.now ∷ []) self.new.children) }
+        ensures wanted { OnOk result
+            (AreWanted (numbering_of numbering) key (symbol_of symbol.now ∷ []) self.new.children) }
         ensures cuts { OnOk result (self.new.is_open ≡ false) }
     {
         self.fill(numbering, key, &[*symbol])
@@ -120,7 +122,8 @@ fn put_child(
 ) -> Result<(), AllocError>
     requires small { number.count < number_base }
     ensures { OnOk result (children.new.items
-        ≡ children.old.items ++ child_if (stays cutting (symbol_of symbol.now)) (child_of key number symbol.now)) }
+        ≡ children.old.items
+        ++ child_if (stays cutting (symbol_of symbol.now)) (child_of key number symbol.now)) }
 {
     if stays(cutting, symbol) {
         children.push(Child {

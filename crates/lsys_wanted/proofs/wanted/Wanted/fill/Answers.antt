@@ -1,10 +1,10 @@
-use Rattle.std.proofs.Common.{rules, refl, ◌≡◌, Some, sym, ap, ◌∙◌, subst, arith}
+use Rattle.std.proofs.Common.{rules, ◌≡◌, Some, sym, ap, ◌∙◌, arith}
 use Rattle.std.specs.Prelude.{slice_get}
 use Rattle.std.proofs.lemmas.Option.{slice_get-get_or}
 use Rattle.lsys_spec.specs.Numbers.{code_of}
 use Rattle.lsys_module.specs.Views.{symbol_of}
 use Rattle.lsys_reading.specs.Commands.{numbering_of}
-use Rattle.lsys_wanted.proofs.Filling.{IsFilled, one_filled, small_number, filled_wanted, filled_open, depth_behind, depth_fits}
+use Rattle.lsys_wanted.proofs.Filling.{one_filled, small_number, filled_wanted, filled_open, depth_behind, depth_fits}
 use Rattle.lsys_wanted.proofs.wanted.Wanted.fill.Goals as goal
 
 pub loop-symbol-preserved : goal.loop-symbol-preserved
