@@ -8,3 +8,4 @@ pub mod Firsts
 pub mod Replaced
 pub mod Families
 pub mod Lengths
+pub mod Finishing

@@ -1,5 +1,5 @@
 -- Parents of one depth whose children were renewed, one parent after the other.
-use Rattle.std.specs.Prelude.{◌≡◌, ◌≢◌, ◌+◌, ◌<◌, ◌≤◌, ℕ, List, Some, None}
+use Rattle.std.specs.Prelude.{◌≡◌, ◌≢◌, ◌+◌, ◌<◌, ◌≤◌, ℕ, List, [], Some, None}
 use Rattle.lsys_syntax.specs.Commands.{Numbering}
 use Rattle.lsys_spec.specs.Draws.{number_base}
 use Rattle.lsys_change.specs.Nodes.{AreOnce, Extends}
@@ -51,3 +51,12 @@ module _ {A : Type 0} where
         → spot_in k (new k) ≡ spot_in k (old k)
     pub lists : (k : ℕ) (n : Node A) → old k ≡ Some n → n.depth < depth
         → kids_in (new k) ≡ kids_in (old k)
+
+  -- The nodes m, made of the nodes o, have not come deeper than this: those that lived and are deeper are as they were; those
+  -- that are so deep have the children that they had, or none, if they are new.
+  pub record KeepsDeeper (o m : Nodes A) (depth : ℕ) : Type 0 where
+    pub kids : (k : ℕ) (n p : Node A) → m k ≡ Some n → o k ≡ Some p → n.depth ≡ depth
+        → n.kids ≡ p.kids
+    pub new_kids : (k : ℕ) (n : Node A) → m k ≡ Some n → o k ≡ None → n.depth ≡ depth → n.kids ≡ []
+    pub deeper : (k : ℕ) (n : Node A) → o k ≡ Some n → depth < n.depth → m k ≡ Some n
+    pub none_deeper : (k : ℕ) (n : Node A) → m k ≡ Some n → o k ≡ None → n.depth ≤ depth
