@@ -9,3 +9,4 @@ pub mod Replaced
 pub mod Families
 pub mod Lengths
 pub mod Finishing
+pub mod Depths

@@ -4,6 +4,7 @@
 //! The functions here have empty bodies: the contract is a law about the definitions.
 #![tactic(auto)]
 
+pub mod deeper;
 pub mod finished;
 pub mod first;
 pub mod next;

@@ -2,7 +2,7 @@
 ghost use Rattle.std.specs.Prelude.{◌≡◌, ◌⊎◌, ◌+◌, ◌∷◌, ℕ, List, [], Some, None};
 ghost use Rattle.lsys_syntax.specs.Commands.{Numbering};
 ghost use Rattle.lsys_spec.specs.Draws.{key_of};
-ghost use Rattle.lsys_change.specs.Nodes.{AreOnce, Extends};
+ghost use Rattle.lsys_change.specs.Nodes.{AreOnce};
 ghost use Rattle.lsys_forest.specs.Nodes.{Node, Nodes};
 ghost use Rattle.lsys_forest.specs.Changes.{Change};
 ghost use Rattle.lsys_forest.specs.Groves.{In, IsSound};
@@ -12,11 +12,11 @@ ghost use Rattle.lsys_brood.specs.Children.{AreRenewed, need_at};
 ghost use Rattle.lsys_kept.specs.Lineages.{kins, names};
 ghost use Rattle.lsys_wanted.specs.Wishes.{AreWanted};
 ghost use Rattle.lsys_next.specs.Nexts.{Successors, HasWanted, HaveWanted, AreClosed, wanted_in};
-ghost use Rattle.lsys_next.specs.Renewals.{AreSmall, AreAllUnder, AreRenewals, KeepsUpper, KeepsDeeper};
+ghost use Rattle.lsys_next.specs.Renewals.{AreSmall, AreAllUnder, AreRenewals, KeepsUpper};
 
 /// The children of parents of one depth, renewed one parent after the other: each has those that are wanted of it, lineages
 /// stay, and no two nodes of a depth have one. A parent stays till its turn, with its children, and its step takes what it
-/// took at the start. What is above stays, and what is deeper; and if the other nodes of the level had the wanted children before, then all of
+/// took at the start. What is above stays; and if the other nodes of the level had the wanted children before, then all of
 /// them have.
 pub fn law_of_renewals<A>()
     ensures begins { (g : Numbering) (seed : ℕ) (old : Nodes A) (root depth : ℕ) (by : Successors)
@@ -47,10 +47,6 @@ pub fn law_of_renewals<A>()
     ensures upper { (g : Numbering) (seed : ℕ) (old new : Nodes A) (root depth : ℕ)
         (by : Successors) (done : List ℕ)
         → AreRenewals g seed old new root depth by done → KeepsUpper old new depth }
-    ensures deeper { (g : Numbering) (seed : ℕ) (o old new : Nodes A) (root depth : ℕ)
-        (by : Successors) (done : List ℕ)
-        → Extends (kins o) (kins old) → KeepsDeeper o old depth
-        → AreRenewals g seed old new root depth by done → KeepsDeeper o new (depth + 1) }
     ensures alone { (g : Numbering) (seed : ℕ) (old new : Nodes A) (root t : ℕ) (by : Successors)
         (done : List ℕ) (changes : List (Change A))
         → IsSound root changes old → AreRenewals g seed old new root (t + 1) by done
