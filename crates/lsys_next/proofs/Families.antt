@@ -33,7 +33,7 @@ use Rattle.lsys_match.specs.Kept.{Kept}
 use Rattle.lsys_kept.specs.Lineages.{kin_of, kins, names}
 use Rattle.lsys_kept.specs.Levels.{level_of, HaveLevels}
 use Rattle.lsys_kept.specs.Meant.{meant_to}
-use Rattle.lsys_next.specs.Nexts.{Successors, symbol_at, kind_of, key_at, HasWanted, HaveWanted}
+use Rattle.lsys_next.specs.Nexts.{Successors, node_symbol, node_kind, node_key, HasWanted, HaveWanted}
 use Rattle.lsys_next.proofs.Nexts.{lineage_at, kind_with, tag_of, level_symbols, last_there, all_replaced}
 use Rattle.lsys_next.proofs.Firsts.{name_root}
 
@@ -148,54 +148,54 @@ module _ {A : Type 0} (m : Nodes A) (root : ℕ) where
   IsBelowOne : List ℕ → L.Symbol → Type 0
   IsBelowOne ks a = (k : ℕ) × In k ks × IsChildOf (names m k) a
 
-  row_below : (g : Numbering) (by : Successors) (o : Option ℕ) (ks : List ℕ) → Each (IsBelowOne ks) (row g o (map (symbol_at m) ks) (map by ks))
+  row_below : (g : Numbering) (by : Successors) (o : Option ℕ) (ks : List ℕ) → Each (IsBelowOne ks) (row g o (map (node_symbol m) ks) (map by ks))
   unfolding IsBelowOne
   row_below g by o [] = tt
   row_below g by o (k ∷ ks) =
-      let a : L.Symbol = symbol_at m k in
-      each_append (IsBelowOne (k ∷ ks)) (cond (stays o (kinds.kind_of a)) (own_children g a (by k)) []) (row g (reached o (kinds.kind_of a) (is_open (by k))) (map (symbol_at m) ks) (map by ks))
+      let a : L.Symbol = node_symbol m k in
+      each_append (IsBelowOne (k ∷ ks)) (cond (stays o (kinds.kind_of a)) (own_children g a (by k)) []) (row g (reached o (kinds.kind_of a) (is_open (by k))) (map (node_symbol m) ks) (map by ks))
       (each_cond (IsBelowOne (k ∷ ks)) (stays o (kinds.kind_of a)) (own_children g a (by k))
       (each_weaker (IsChildOf (lineage a)) (IsBelowOne (k ∷ ks)) (own_children g a (by k)) (λ b c. (k, inl refl, subst (λ l. IsChildOf l b) (lineage_at m k) c)) (all_own g a (by k))))
       (each_weaker (IsBelowOne ks) (IsBelowOne (k ∷ ks)) _ (λ b c. (c.0, inr c.1, c.2)) (row_below g by (reached o (kinds.kind_of a) (is_open (by k))) ks))
 
   module _ (changes : List (Change A)) (sound : IsSound root changes m) (once : AreOnce (kins m) root) where
-    kid_of : (k j : ℕ) → In j (kids_in (m k)) → IsChildOf (names m k) (symbol_at m j)
+    kid_of : (k j : ℕ) → In j (kids_in (m k)) → IsChildOf (names m k) (node_symbol m j)
     kid_of k j i =
         let u = rows.child root changes m sound k j i in
         let other = ((sound.own k u.above u.above_is).under j u.among).other in
         let c = child (kins m) root j (kin_of u.node) once (ap (option_map (λ (n : Node A). kin_of n)) u.is) other in
         ((kin_of u.node).number, lineage_at m j ∙ c ∙ ap (λ q. names m q ++ (kin_of u.node).number ∷ []) u.parent_is)
 
-    kids_are : (k : ℕ) → Each (IsChildOf (names m k)) (map (symbol_at m) (kids_in (m k)))
-    kids_are k = each_map (IsChildOf (names m k)) (symbol_at m) (kids_in (m k)) (kid_of k)
+    kids_are : (k : ℕ) → Each (IsChildOf (names m k)) (map (node_symbol m) (kids_in (m k)))
+    kids_are k = each_map (IsChildOf (names m k)) (node_symbol m) (kids_in (m k)) (kid_of k)
 
-    all_below : (ks : List ℕ) → Each (IsBelowOne ks) (map (symbol_at m) (kids_below m ks))
+    all_below : (ks : List ℕ) → Each (IsBelowOne ks) (map (node_symbol m) (kids_below m ks))
     unfolding IsBelowOne
-    all_below ks = each_map (IsBelowOne ks) (symbol_at m) (kids_below m ks) (λ j i. (let f = rows.flat_In (λ k. kids_in (m k)) ks j i in (f.0, f.1, kid_of f.0 j f.2)))
+    all_below ks = each_map (IsBelowOne ks) (node_symbol m) (kids_below m ks) (λ j i. (let f = rows.flat_In (λ k. kids_in (m k)) ks j i in (f.0, f.1, kid_of f.0 j f.2)))
 
     -- nodes of one depth have each a lineage of its own
     module _ (g : Numbering) (seed : ℕ) (by : Successors) (depth : ℕ) where
-      families : (o : Option ℕ) (ks : List ℕ) → AreApart ks → ((k : ℕ) → In k ks → (n : Node A) × (m k ≡ Some n) × (n.depth ≡ depth)) → ((j : ℕ) → In j (kids_below m ks) → key_at m j ≡ key_of seed (names m j))
-          → map (symbol_at m) (kids_below m ks) ≡ row g o (map (symbol_at m) ks) (map by ks) → HaveWanted g seed m by o ks
+      families : (o : Option ℕ) (ks : List ℕ) → AreApart ks → ((k : ℕ) → In k ks → (n : Node A) × (m k ≡ Some n) × (n.depth ≡ depth)) → ((j : ℕ) → In j (kids_below m ks) → node_key m j ≡ key_of seed (names m j))
+          → map (node_symbol m) (kids_below m ks) ≡ row g o (map (node_symbol m) ks) (map by ks) → HaveWanted g seed m by o ks
       unfolding IsBelowOne
       families o [] a d keys e = tt
       families o (k ∷ ks) a d keys e =
-          let x : L.Symbol = symbol_at m k in
-          let kind : kinds.kind_of x ≡ kind_of m k = kind_with (names m (spot_in k (m k)).tag) (spot_in k (m k)).seen in
+          let x : L.Symbol = node_symbol m k in
+          let kind : kinds.kind_of x ≡ node_kind m k = kind_with (names m (spot_in k (m k)).tag) (spot_in k (m k)).seen in
           let next : Option ℕ = reached o (kinds.kind_of x) (is_open (by k)) in
-          let parts = split (IsChildOf (names m k)) (IsBelowOne ks) (map (symbol_at m) (kids_in (m k))) (map (symbol_at m) (kids_below m ks)) (cond (stays o (kinds.kind_of x)) (own_children g x (by k)) [])
-          (row g next (map (symbol_at m) ks) (map by ks)) (λ b p q. mine b p q) (kids_are k) (all_below ks)
+          let parts = split (IsChildOf (names m k)) (IsBelowOne ks) (map (node_symbol m) (kids_in (m k))) (map (node_symbol m) (kids_below m ks)) (cond (stays o (kinds.kind_of x)) (own_children g x (by k)) [])
+          (row g next (map (node_symbol m) ks) (map by ks)) (λ b p q. mine b p q) (kids_are k) (all_below ks)
           (each_cond (IsChildOf (names m k)) (stays o (kinds.kind_of x)) (own_children g x (by k)) (each_weaker (IsChildOf (lineage x)) (IsChildOf (names m k)) (own_children g x (by k)) (λ b c. subst (λ l. IsChildOf l b) (lineage_at m k) c) (all_own g x (by k))))
-          (row_below g by next ks) (sym (map-append (symbol_at m) (kids_in (m k)) (kids_below m ks)) ∙ e) in (
+          (row_below g by next ks) (sym (map-append (node_symbol m) (kids_in (m k)) (kids_below m ks)) ∙ e) in (
             record {
-              symbols = parts.0 ∙ ap (λ b. cond (stays o b) (own_children g x (by k)) []) kind ∙ own (stays o (kind_of m k));
+              symbols = parts.0 ∙ ap (λ b. cond (stays o b) (own_children g x (by k)) []) kind ∙ own (stays o (node_kind m k));
               keys = λ j i. keys j (rows.In_left j (kids_in (m k)) (kids_below m ks) i);
             },
             subst (λ b. HaveWanted g seed m by (reached o b (is_open (by k))) ks) kind
                 (families next ks a.1 (λ j i. d j (inr i)) (λ j i. keys j (rows.In_right j (kids_in (m k)) (kids_below m ks) i)) parts.1),
           )
         where
-          own : (b : Bool) → cond b (own_children g (symbol_at m k) (by k)) [] ≡ cut (children g (names m k) (cond b (by k) []))
+          own : (b : Bool) → cond b (own_children g (node_symbol m k) (by k)) [] ≡ cut (children g (names m k) (cond b (by k) []))
           own true = ap (λ l. cut (children g l (by k))) (lineage_at m k)
           own false = refl
 
@@ -214,7 +214,7 @@ module _ (s : System) (limit n : ℕ) (m : Nodes Kept) (root : ℕ) (changes : L
   step : IsStep s n (meant_to s limit n)
   step = steps s limit n (meant_to s limit n) is
 
-  key_there : (t j : ℕ) → t ≤ n → In j (level_nodes m root t) → key_at m j ≡ key_of s.seed (names m j)
+  key_there : (t j : ℕ) → t ≤ n → In j (level_nodes m root t) → node_key m j ≡ key_of s.seed (names m j)
   key_there t j l i =
       let p = place_in j (level_nodes m root t) i in
       let there : slice_get (level_spots m root t) p.0 ≡ Some (spot_in j (m j)) = slice_get-map (λ k. spot_in k (m k)) (level_nodes m root t) p.0 ∙ ap (option_map (λ k. spot_in k (m k))) p.1 in
@@ -229,12 +229,12 @@ module _ (s : System) (limit n : ℕ) (m : Nodes Kept) (root : ℕ) (changes : L
     keys = λ j i. key_there 0 j (omega arith) i;
   }
 
-  pub level_families : (t : ℕ) (by : Successors) → t < n → ((p k : ℕ) → slice_get (level_nodes m root t) p ≡ Some k → replacement s t (level_of m root t) p (symbol_at m k) ≡ Ok (by k))
+  pub level_families : (t : ℕ) (by : Successors) → t < n → ((p k : ℕ) → slice_get (level_nodes m root t) p ≡ Some k → replacement s t (level_of m root t) p (node_symbol m k) ≡ Ok (by k))
       → HaveWanted s.numbering s.seed m by None (level_nodes m root t)
   level_families t by l replaced =
       let nodes : List ℕ = level_nodes m root t in
       let long = step.long in
-      let x : List L.Symbol = map (symbol_at m) nodes in
+      let x : List L.Symbol = map (node_symbol m) nodes in
       let here : level_of m root t ≡ x = level_symbols m nodes in
       let all : AreReplaced s t x 0 x (map by nodes) = subst (λ y. AreReplaced s t y 0 x (map by nodes)) here (all_replaced s t (level_of m root t) m by nodes replaced) in
       let next : next_level s t x ≡ Ok (get_or (meant_to s limit n) (t + 1) []) = ap (next_level s t) (sym here ∙ levels.each t (omega (arith, long, l))) ∙ step.each t l in

@@ -23,8 +23,8 @@ use Rattle.lsys_brood.proofs.MatchLemmas.{got_in}
 use Rattle.lsys_kept.specs.Lineages.{kin_of, kins, names}
 use Rattle.lsys_kept.specs.Levels.{level_of, HaveLevels, AnsweredAt, answer_at}
 use Rattle.lsys_kept.specs.Meant.{meant_to}
-use Rattle.lsys_next.specs.Nexts.{Successors, symbol_at, HaveWanted, HaveSuccessors, HaveNext}
-use Rattle.lsys_next.specs.Answers.{successors, AreAnswered}
+use Rattle.lsys_next.specs.Nexts.{Successors, node_symbol, HaveWanted, HaveSuccessors, HaveNext}
+use Rattle.lsys_next.specs.Answers.{kept_successors, AreAnswered}
 use Rattle.lsys_next.specs.Renewals.{Renewal, stayed, relisted, turned, came, AreRenewals, KeepsUpper, KeepsDeeper}
 use Rattle.lsys_next.proofs.Nexts.{tag_of, next_meant, next_levels}
 use Rattle.lsys_next.proofs.Above.{name_stays, upper_nodes, upper_levels_by, upper_levels, upper_answers}
@@ -88,7 +88,7 @@ answers_stay g seed old new root depth by done h k = go (h.each k)
     go (turned x w i y t r) = ap (option_and_then answer_of) r ∙ sym (ap (option_and_then answer_of) y)
     go (came q w i y r) = ap (option_and_then answer_of) r ∙ sym (ap (option_and_then answer_of) y)
 
-pub answered_level : (s : System) (limit t : ℕ) (m : Nodes Kept) (root : ℕ) (store : Store) → AreAnswered s limit t m root store → HaveSuccessors s limit t m root (successors m)
+pub answered_level : (s : System) (limit t : ℕ) (m : Nodes Kept) (root : ℕ) (store : Store) → AreAnswered s limit t m root store → HaveSuccessors s limit t m root (kept_successors m)
 answered_level s limit t m root store h =
     let l = h.levels in
     let count : length (meant_to s limit t) ≡ t + 1 = level_count s limit t (meant_to s limit t) l.spelled l.is in
@@ -108,7 +108,7 @@ module _ (s : System) (limit t : ℕ) (old new : Nodes Kept) (root : ℕ) (store
   answers_above u p k l a =
       upper_answers root ready.levels.changes old new ready.levels.sound t keeps s store u p k l (answers_stay s.numbering s.seed old new root (t + 1) by done h k) a
 
-  next_of : HaveWanted s.numbering s.seed new (successors old) None (level_nodes new root t) → HaveNext s limit t new root (successors old)
+  next_of : HaveWanted s.numbering s.seed new (kept_successors old) None (level_nodes new root t) → HaveNext s limit t new root (kept_successors old)
   next_of wanted =
       let l = ready.levels in
       let was = answered_level s limit t old root store ready in
@@ -121,13 +121,13 @@ module _ (s : System) (limit t : ℕ) (old new : Nodes Kept) (root : ℕ) (store
           levels = upper_levels root l.changes old new l.sound t keeps l.once h.stay s.seed (meant_to s limit t) (omega (arith, count)) l.levels;
           replaced = λ p k e. (
               let there : slice_get (level_nodes old root t) p ≡ Some k = ap (λ (ks : List ℕ). slice_get ks p) (sym (upper_nodes root l.changes old new l.sound t keeps t (omega arith))) ∙ e in
-              ap (λ (x : List L.Symbol). replacement s t x p (symbol_at new k)) level ∙ ap (replacement s t (level_of old root t) p) (same k (got_in (level_nodes old root t) p k there)) ∙ was.replaced p k there
+              ap (λ (x : List L.Symbol). replacement s t x p (node_symbol new k)) level ∙ ap (replacement s t (level_of old root t) p) (same k (got_in (level_nodes old root t) p k there)) ∙ was.replaced p k there
               );
         };
         children = wanted;
       }
     where
-      same : (k : ℕ) → In k (level_nodes old root t) → symbol_at new k ≡ symbol_at old k
+      same : (k : ℕ) → In k (level_nodes old root t) → node_symbol new k ≡ node_symbol old k
       same k i =
           let l = ready.levels in
           let d = rows.level_depth root l.changes old l.sound t k i in
@@ -135,10 +135,10 @@ module _ (s : System) (limit t : ℕ) (old new : Nodes Kept) (root : ℕ) (store
           ap (named (names new)) (keeps.spots k d.0 d.1 (omega (arith, e)))
           ∙ ap (λ n. with_lineage n (spot_in k (old k)).seen) (subst (λ j. names new j ≡ names old j) (sym (tag_of k (old k))) (name_stays old new root k d.0 l.once h.stay d.1))
 
-  pub finished_meant : HaveWanted s.numbering s.seed new (successors old) None (level_nodes new root t) → sum_by length (meant_to s limit t) + length (level_nodes new root (t + 1)) ≤ limit
+  pub finished_meant : HaveWanted s.numbering s.seed new (kept_successors old) None (level_nodes new root t) → sum_by length (meant_to s limit t) + length (level_nodes new root (t + 1)) ≤ limit
       → meaning_to s limit (t + 1) ≡ Ok (meant_to s limit (t + 1))
-  finished_meant wanted l = next_meant s limit t new root (successors old) (next_of wanted) l
+  finished_meant wanted l = next_meant s limit t new root (kept_successors old) (next_of wanted) l
 
-  pub finished_levels : HaveWanted s.numbering s.seed new (successors old) None (level_nodes new root t) → sum_by length (meant_to s limit t) + length (level_nodes new root (t + 1)) ≤ limit
+  pub finished_levels : HaveWanted s.numbering s.seed new (kept_successors old) None (level_nodes new root t) → sum_by length (meant_to s limit t) + length (level_nodes new root (t + 1)) ≤ limit
       → HaveLevels new root s.seed (meant_to s limit (t + 1))
-  finished_levels wanted l = next_levels s limit t new root (successors old) (next_of wanted) l
+  finished_levels wanted l = next_levels s limit t new root (kept_successors old) (next_of wanted) l

@@ -24,7 +24,7 @@ use Rattle.lsys_match.specs.Kept.{Kept}
 use Rattle.lsys_kept.specs.Lineages.{kins, names}
 use Rattle.lsys_kept.specs.Levels.{level_of, HaveLevels}
 use Rattle.lsys_kept.specs.Meant.{levels_or_none, meant_to}
-use Rattle.lsys_next.specs.Nexts.{symbol_at, HasWanted}
+use Rattle.lsys_next.specs.Nexts.{node_symbol, HasWanted}
 use Rattle.lsys_next.proofs.Nexts.{level_symbols, tag_of, spot_of, balance_by}
 use Rattle.lsys_next.proofs.Wants.{renewed_wanted}
 
@@ -49,7 +49,7 @@ module _ (s : System) (limit : ℕ) (m : Nodes Kept) (root : ℕ) (once : AreOnc
   is = first s m root once h
 
   long : length (first_level s) ≡ length (level_nodes m root 0)
-  long = ap length (sym is ∙ level_symbols m (kids_in (m root))) ∙ length-map (kids_in (m root)) (symbol_at m)
+  long = ap length (sym is ∙ level_symbols m (kids_in (m root))) ∙ length-map (kids_in (m root)) (node_symbol m)
 
   meant_first : length (level_nodes m root 0) ≤ limit → meaning_to s limit 0 ≡ Ok (first_level s ∷ [])
   meant_first l = within limit 0 (first_level s ∷ []) (omega (arith, sum_by-cons (length {A = L.Symbol}) (first_level s) [], long, l))

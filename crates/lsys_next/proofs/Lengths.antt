@@ -27,7 +27,7 @@ use Rattle.lsys_kept.specs.Lineages.{names}
 use Rattle.lsys_kept.specs.Levels.{level_of}
 use Rattle.lsys_kept.specs.Meant.{meant_to}
 use Rattle.lsys_wanted.specs.Wishes.{child_symbol, AreWanted}
-use Rattle.lsys_next.specs.Nexts.{Successors, symbol_at, kind_of, wanted_behind, HasWanted, AreClosed, wanted_in, wanted_count, count_wanted, HaveSuccessors}
+use Rattle.lsys_next.specs.Nexts.{Successors, node_symbol, node_kind, wanted_behind, HasWanted, AreClosed, wanted_in, wanted_count, count_wanted, HaveSuccessors}
 use Rattle.lsys_next.proofs.Nexts.{kind_with, level_symbols, last_there, all_replaced}
 use Rattle.lsys_next.proofs.Walks.{same_yes, same_not, none_reached}
 use Rattle.lsys_next.proofs.Refused.{over_first, over_behind}
@@ -102,7 +102,7 @@ other_sums old new ks (p ∷ ps) a b among each =
 
 module _ {A : Type 0} where
   pub kids_count : (g : Numbering) (seed : ℕ) (m : Nodes A) (k : ℕ) (zs : List (S.Symbol ℤ)) → HasWanted g seed m k zs → length (kids_in (m k)) ≡ wanted_count g zs
-  kids_count g seed m k zs h = sym (length-map (kids_in (m k)) (symbol_at m)) ∙ ap length h.symbols ∙ count_of g (names m k) zs
+  kids_count g seed m k zs h = sym (length-map (kids_in (m k)) (node_symbol m)) ∙ ap length h.symbols ∙ count_of g (names m k) zs
 
   pub below_count : (m : Nodes A) (ks : List ℕ) → length (kids_below m ks) ≡ sum_by (λ k. length (kids_in (m k))) ks
   below_count m [] = refl
@@ -114,34 +114,34 @@ module _ {A : Type 0} where
     where
       go : (k ≡ j) ⊎ (k ≢ j) → (In k js → wanted_in m by None js k ≡ by k) → wanted_in m by None (j ∷ js) k ≡ by k
       go (inl e) more =
-          ap (λ n. cond (nat_eq n j) (by j) (wanted_in m by (reached None (kind_of m j) (is_open (by j))) js k)) e
-          ∙ ap (λ b. cond b (by j) (wanted_in m by (reached None (kind_of m j) (is_open (by j))) js k)) (same_yes j) ∙ ap by (sym e)
+          ap (λ n. cond (nat_eq n j) (by j) (wanted_in m by (reached None (node_kind m j) (is_open (by j))) js k)) e
+          ∙ ap (λ b. cond b (by j) (wanted_in m by (reached None (node_kind m j) (is_open (by j))) js k)) (same_yes j) ∙ ap by (sym e)
       go (inr ne) more =
-          ap (λ b. cond b (by j) (wanted_in m by (reached None (kind_of m j) (is_open (by j))) js k)) (same_not k j ne)
-          ∙ ap (λ o. wanted_in m by o js k) (none_reached (kind_of m j) (is_open (by j)) closed.0) ∙ more (later k j js i ne)
+          ap (λ b. cond b (by j) (wanted_in m by (reached None (node_kind m j) (is_open (by j))) js k)) (same_not k j ne)
+          ∙ ap (λ o. wanted_in m by o js k) (none_reached (node_kind m j) (is_open (by j)) closed.0) ∙ more (later k j js i ne)
 
   pub alone_count : (g : Numbering) (m : Nodes A) (by : Successors) (ks : List ℕ) → AreClosed by ks → count_wanted g m by ks ≡ sum_by (λ k. wanted_count g (by k)) ks
   alone_count g m by ks closed = sum_same (λ k. wanted_count g (wanted_in m by None ks k)) (λ k. wanted_count g (by k)) ks (λ k i. ap (wanted_count g) (alone_wanted m by ks k closed i))
 
-  row_count : (g : Numbering) (m : Nodes A) (by : Successors) (o : Option ℕ) (ks : List ℕ) → AreApart ks → length (row g o (map (symbol_at m) ks) (map by ks)) ≡ sum_by (λ k. wanted_count g (wanted_in m by o ks k)) ks
+  row_count : (g : Numbering) (m : Nodes A) (by : Successors) (o : Option ℕ) (ks : List ℕ) → AreApart ks → length (row g o (map (node_symbol m) ks) (map by ks)) ≡ sum_by (λ k. wanted_count g (wanted_in m by o ks k)) ks
   row_count g m by o [] apart = refl
   row_count g m by o (k ∷ ks) apart =
-      let a : L.Symbol = symbol_at m k in
-      let kind : kinds.kind_of a ≡ kind_of m k = kind_with (names m (spot_in k (m k)).tag) (spot_in k (m k)).seen in
-      let next : Option ℕ = reached o (kind_of m k) (is_open (by k)) in
-      let front : length (cond (stays o (kind_of m k)) (own_children g a (by k)) []) ≡ wanted_count g (wanted_behind o (kind_of m k) (by k)) = own (stays o (kind_of m k)) in
-      let first : wanted_in m by o (k ∷ ks) k ≡ wanted_behind o (kind_of m k) (by k) = ap (λ b. cond b (wanted_behind o (kind_of m k) (by k)) (wanted_in m by next ks k)) (same_yes k) in
+      let a : L.Symbol = node_symbol m k in
+      let kind : kinds.kind_of a ≡ node_kind m k = kind_with (names m (spot_in k (m k)).tag) (spot_in k (m k)).seen in
+      let next : Option ℕ = reached o (node_kind m k) (is_open (by k)) in
+      let front : length (cond (stays o (node_kind m k)) (own_children g a (by k)) []) ≡ wanted_count g (wanted_behind o (node_kind m k) (by k)) = own (stays o (node_kind m k)) in
+      let first : wanted_in m by o (k ∷ ks) k ≡ wanted_behind o (node_kind m k) (by k) = ap (λ b. cond b (wanted_behind o (node_kind m k) (by k)) (wanted_in m by next ks k)) (same_yes k) in
       let others : sum_by (λ j. wanted_count g (wanted_in m by o (k ∷ ks) j)) ks ≡ sum_by (λ j. wanted_count g (wanted_in m by next ks j)) ks =
       sum_same (λ j. wanted_count g (wanted_in m by o (k ∷ ks) j)) (λ j. wanted_count g (wanted_in m by next ks j)) ks
-      (λ j i. ap (λ b. wanted_count g (cond b (wanted_behind o (kind_of m k) (by k)) (wanted_in m by next ks j))) (same_not j k (λ e. apart.0 (subst (λ x. In x ks) e i)))) in
-      ap (λ b. length (cond (stays o b) (own_children g a (by k)) [] ++ row g (reached o b (is_open (by k))) (map (symbol_at m) ks) (map by ks))) kind
-      ∙ length-append (cond (stays o (kind_of m k)) (own_children g a (by k)) []) (row g next (map (symbol_at m) ks) (map by ks))
-      ∙ ap (λ n. n + length (row g next (map (symbol_at m) ks) (map by ks))) (front ∙ ap (wanted_count g) (sym first))
+      (λ j i. ap (λ b. wanted_count g (cond b (wanted_behind o (node_kind m k) (by k)) (wanted_in m by next ks j))) (same_not j k (λ e. apart.0 (subst (λ x. In x ks) e i)))) in
+      ap (λ b. length (cond (stays o b) (own_children g a (by k)) [] ++ row g (reached o b (is_open (by k))) (map (node_symbol m) ks) (map by ks))) kind
+      ∙ length-append (cond (stays o (node_kind m k)) (own_children g a (by k)) []) (row g next (map (node_symbol m) ks) (map by ks))
+      ∙ ap (λ n. n + length (row g next (map (node_symbol m) ks) (map by ks))) (front ∙ ap (wanted_count g) (sym first))
       ∙ ap (λ n. wanted_count g (wanted_in m by o (k ∷ ks) k) + n) (row_count g m by next ks apart.1 ∙ sym others)
       ∙ sym (sum_by-cons (λ j. wanted_count g (wanted_in m by o (k ∷ ks) j)) k ks)
     where
-      own : (b : Bool) → length (cond b (own_children g (symbol_at m k) (by k)) []) ≡ wanted_count g (cond b (by k) [])
-      own true = count_of g (lineage (symbol_at m k)) (by k)
+      own : (b : Bool) → length (cond b (own_children g (node_symbol m k) (by k)) []) ≡ wanted_count g (cond b (by k) [])
+      own true = count_of g (lineage (node_symbol m k)) (by k)
       own false = refl
 
 pub over_first_count : (s : System) (limit : ℕ) → limit < wanted_count s.numbering s.axiom_string → meaning s limit ≡ Err (OverLimit 0)
@@ -151,7 +151,7 @@ pub over_count : (s : System) (limit t : ℕ) (m : Nodes Kept) (root : ℕ) (by 
     → limit < sum_by length (meant_to s limit t) + count_wanted s.numbering m by (level_nodes m root t) → t < s.depth → meaning s limit ≡ Err (OverLimit (t + 1))
 over_count s limit t m root by h apart l d =
     let nodes : List ℕ = level_nodes m root t in
-    let x : List L.Symbol = map (symbol_at m) nodes in
+    let x : List L.Symbol = map (node_symbol m) nodes in
     let count : length (meant_to s limit t) ≡ t + 1 = level_count s limit t (meant_to s limit t) h.spelled h.is in
     let here : level_of m root t ≡ x = level_symbols m nodes in
     let last : last_level (meant_to s limit t) ≡ x = last_there (meant_to s limit t) t count ∙ sym (h.levels.each t (omega (arith, count))) ∙ here in

@@ -31,7 +31,7 @@ use Rattle.lsys_match.specs.Kept.{Kept}
 use Rattle.lsys_kept.specs.Lineages.{names}
 use Rattle.lsys_kept.specs.Levels.{level_of, HaveLevels}
 use Rattle.lsys_kept.specs.Meant.{levels_or_none, meant_to}
-use Rattle.lsys_next.specs.Nexts.{Successors, symbol_at, kind_of, key_at, HaveWanted, HaveNext}
+use Rattle.lsys_next.specs.Nexts.{Successors, node_symbol, node_kind, node_key, HaveWanted, HaveNext}
 
 -- 1. symbols and spots
 
@@ -54,10 +54,10 @@ module _ {A : Type 0} where
   tag_of k None = refl
   tag_of k (Some n) = refl
 
-  pub lineage_at : (m : Nodes A) (k : ℕ) → lineage (symbol_at m k) ≡ names m k
+  pub lineage_at : (m : Nodes A) (k : ℕ) → lineage (node_symbol m k) ≡ names m k
   lineage_at m k = lineage_with (names m (spot_in k (m k)).tag) (spot_in k (m k)).seen ∙ ap (names m) (tag_of k (m k))
 
-  pub level_symbols : (m : Nodes A) (ks : List ℕ) → level_by (names m) (map (λ k. spot_in k (m k)) ks) ≡ map (symbol_at m) ks
+  pub level_symbols : (m : Nodes A) (ks : List ℕ) → level_by (names m) (map (λ k. spot_in k (m k)) ks) ≡ map (node_symbol m) ks
   level_symbols m ks = map_map (named (names m)) (λ k. spot_in k (m k)) ks
 
   -- a spot is one of a node
@@ -69,42 +69,42 @@ module _ {A : Type 0} where
   -- 2. the level below these nodes
 
   pub below_row : (g : Numbering) (seed : ℕ) (m : Nodes A) (by : Successors) (o : Option ℕ) (ks : List ℕ) → HaveWanted g seed m by o ks
-      → map (symbol_at m) (kids_below m ks) ≡ row g o (map (symbol_at m) ks) (map by ks)
+      → map (node_symbol m) (kids_below m ks) ≡ row g o (map (node_symbol m) ks) (map by ks)
   below_row g seed m by o [] h = refl
   below_row g seed m by o (k ∷ ks) h =
-      let a : L.Symbol = symbol_at m k in
-      let kind : kinds.kind_of a ≡ kind_of m k = kind_with (names m (spot_in k (m k)).tag) (spot_in k (m k)).seen in
-      map-append (symbol_at m) (kids_in (m k)) (kids_below m ks)
-      ∙ ap (λ y. y ++ map (symbol_at m) (kids_below m ks)) (h.0.symbols ∙ own (stays o (kind_of m k)) ∙ ap (λ b. cond (stays o b) (own_children g a (by k)) []) (sym kind))
+      let a : L.Symbol = node_symbol m k in
+      let kind : kinds.kind_of a ≡ node_kind m k = kind_with (names m (spot_in k (m k)).tag) (spot_in k (m k)).seen in
+      map-append (node_symbol m) (kids_in (m k)) (kids_below m ks)
+      ∙ ap (λ y. y ++ map (node_symbol m) (kids_below m ks)) (h.0.symbols ∙ own (stays o (node_kind m k)) ∙ ap (λ b. cond (stays o b) (own_children g a (by k)) []) (sym kind))
       ∙ ap (λ y. cond (stays o (kinds.kind_of a)) (own_children g a (by k)) [] ++ y)
-      (below_row g seed m by (reached o (kind_of m k) (is_open (by k))) ks h.1 ∙ ap (λ b. row g (reached o b (is_open (by k))) (map (symbol_at m) ks) (map by ks)) (sym kind))
+      (below_row g seed m by (reached o (node_kind m k) (is_open (by k))) ks h.1 ∙ ap (λ b. row g (reached o b (is_open (by k))) (map (node_symbol m) ks) (map by ks)) (sym kind))
     where
-      own : (b : Bool) → cut (children g (names m k) (cond b (by k) [])) ≡ cond b (own_children g (symbol_at m k) (by k)) []
+      own : (b : Bool) → cut (children g (names m k) (cond b (by k) [])) ≡ cond b (own_children g (node_symbol m k) (by k)) []
       own true = ap (λ l. cut (children g l (by k))) (sym (lineage_at m k))
       own false = refl
 
   pub below_keys : (g : Numbering) (seed : ℕ) (m : Nodes A) (by : Successors) (o : Option ℕ) (ks : List ℕ) → HaveWanted g seed m by o ks
-      → (j : ℕ) → In j (kids_below m ks) → key_at m j ≡ key_of seed (names m j)
+      → (j : ℕ) → In j (kids_below m ks) → node_key m j ≡ key_of seed (names m j)
   below_keys g seed m by o [] h j i = absurd i
   below_keys g seed m by o (k ∷ ks) h j i = elim (In_append (kids_in (m k)) (kids_below m ks) j i) [
     | inl a ↦ h.0.keys j a
-    | inr b ↦ below_keys g seed m by (reached o (kind_of m k) (is_open (by k))) ks h.1 j b
+    | inr b ↦ below_keys g seed m by (reached o (node_kind m k) (is_open (by k))) ks h.1 j b
   ]
 
   -- 3. what replaces the nodes replaces the level
 
   replaced_from : (s : System) (t : ℕ) (x : List L.Symbol) (m : Nodes A) (by : Successors) (p : ℕ) (ks : List ℕ)
-      → ((i k : ℕ) → slice_get ks i ≡ Some k → replacement s t x (p + i) (symbol_at m k) ≡ Ok (by k)) → AreReplaced s t x p (map (symbol_at m) ks) (map by ks)
+      → ((i k : ℕ) → slice_get ks i ≡ Some k → replacement s t x (p + i) (node_symbol m k) ≡ Ok (by k)) → AreReplaced s t x p (map (node_symbol m) ks) (map by ks)
   replaced_from s t x m by p [] h = refl
   replaced_from s t x m by p (k ∷ ks) h =
       let e : p + 0 ≡ p = omega arith in (
-        ap (λ p. replacement s t x p (symbol_at m k)) (sym e) ∙ h 0 k refl,
-        replaced_from s t x m by (p + 1) ks (λ i j g. (let f : p + 1 + i ≡ p + suc i = omega arith in ap (λ p. replacement s t x p (symbol_at m j)) f ∙ h (suc i) j g)),
+        ap (λ p. replacement s t x p (node_symbol m k)) (sym e) ∙ h 0 k refl,
+        replaced_from s t x m by (p + 1) ks (λ i j g. (let f : p + 1 + i ≡ p + suc i = omega arith in ap (λ p. replacement s t x p (node_symbol m j)) f ∙ h (suc i) j g)),
       )
 
   pub all_replaced : (s : System) (t : ℕ) (x : List L.Symbol) (m : Nodes A) (by : Successors) (ks : List ℕ)
-      → ((p k : ℕ) → slice_get ks p ≡ Some k → replacement s t x p (symbol_at m k) ≡ Ok (by k)) → AreReplaced s t x 0 (map (symbol_at m) ks) (map by ks)
-  all_replaced s t x m by ks h = replaced_from s t x m by 0 ks (λ i k g. (let f : 0 + i ≡ i = omega arith in ap (λ p. replacement s t x p (symbol_at m k)) f ∙ h i k g))
+      → ((p k : ℕ) → slice_get ks p ≡ Some k → replacement s t x p (node_symbol m k) ≡ Ok (by k)) → AreReplaced s t x 0 (map (node_symbol m) ks) (map by ks)
+  all_replaced s t x m by ks h = replaced_from s t x m by 0 ks (λ i k g. (let f : 0 + i ≡ i = omega arith in ap (λ p. replacement s t x p (node_symbol m k)) f ∙ h i k g))
 
 -- 4. levels of a system
 
@@ -140,15 +140,15 @@ module _ (s : System) (limit t : ℕ) (m : Nodes Kept) (root : ℕ) (by : Succes
   abbrev nodes : List ℕ
   nodes = level_nodes m root t
 
-  row_is : level_of m root (suc t) ≡ row s.numbering None (map (symbol_at m) nodes) (map by nodes)
+  row_is : level_of m root (suc t) ≡ row s.numbering None (map (node_symbol m) nodes) (map by nodes)
   row_is = level_symbols m (kids_below m nodes) ∙ below_row s.numbering s.seed m by None nodes h.children
 
-  replaced : AreReplaced s t (level_of m root t) 0 (map (symbol_at m) nodes) (map by nodes)
+  replaced : AreReplaced s t (level_of m root t) 0 (map (node_symbol m) nodes) (map by nodes)
   replaced = all_replaced s t (level_of m root t) m by nodes h.level.replaced
 
   pub next : next_level s t (last_level (meant_to s limit t)) ≡ Ok (level_of m root (t + 1))
   next =
-      let x : List L.Symbol = map (symbol_at m) nodes in
+      let x : List L.Symbol = map (node_symbol m) nodes in
       let same : level_of m root t ≡ x = level_symbols m nodes in
       ap (next_level s t) (here ∙ same)
       ∙ kept_level s t x (map by nodes) h.level.spelled (subst (λ y. AreReplaced s t y 0 x (map by nodes)) same replaced)
@@ -162,7 +162,7 @@ module _ (s : System) (limit t : ℕ) (m : Nodes Kept) (root : ℕ) (by : Succes
   fits l = omega (arith, sum_by_push (length {A = L.Symbol}) (meant_to s limit t) (level_of m root (t + 1)), long, l)
     where
       long : length (level_of m root (t + 1)) ≡ length (level_nodes m root (t + 1))
-      long = ap length (level_symbols m (level_nodes m root (t + 1))) ∙ length-map (level_nodes m root (t + 1)) (symbol_at m)
+      long = ap length (level_symbols m (level_nodes m root (t + 1))) ∙ length-map (level_nodes m root (t + 1)) (node_symbol m)
 
   pub meant_more : sum_by length (meant_to s limit t) + length (level_nodes m root (t + 1)) ≤ limit → meaning_to s limit (t + 1) ≡ Ok more
   meant_more l =

@@ -23,7 +23,7 @@ use Rattle.lsys_match.specs.Kept.{Kept}
 use Rattle.lsys_kept.specs.Lineages.{names}
 use Rattle.lsys_kept.specs.Levels.{level_of}
 use Rattle.lsys_kept.specs.Meant.{meant_to}
-use Rattle.lsys_next.specs.Nexts.{Successors, symbol_at, kind_of, counted, modules_in, HasFirstFault}
+use Rattle.lsys_next.specs.Nexts.{Successors, node_symbol, node_kind, count_kind, module_nodes, HasFirstFault}
 use Rattle.lsys_next.proofs.Nexts.{kind_with, level_symbols, last_there}
 
 -- 1. a refusal stays
@@ -60,7 +60,7 @@ over_behind s limit t xs x m n h l =
 -- 2. the first fault of a level
 
 fault_past : (s : System) (t : ℕ) (x : List L.Symbol) (p n : ℕ) (a : L.Symbol) (rest : List L.Symbol) (zs : List (S.Symbol ℤ)) (f : LevelRefusal) → replacement s t x p a ≡ Ok zs
-    → children_from s t x (p + 1) (counted (kinds.kind_of a) n) rest ≡ Err f → children_from s t x p n (a ∷ rest) ≡ Err f
+    → children_from s t x (p + 1) (count_kind (kinds.kind_of a) n) rest ≡ Err f → children_from s t x p n (a ∷ rest) ≡ Err f
 fault_past s t x p n (L.Push l) rest zs f e h = ap (λ (r : Result (List Raw) LevelRefusal). r and_then λ more. Ok (children s.numbering l (S.Push ∷ []) ++ more)) h
 fault_past s t x p n (L.Pop l) rest zs f e h = ap (λ (r : Result (List Raw) LevelRefusal). r and_then λ more. Ok (children s.numbering l (S.Pop ∷ []) ++ more)) h
 fault_past s t x p n (L.Module l v) rest zs f e h =
@@ -73,42 +73,42 @@ fault_here s t x p n (L.Pop l) rest e h = cc
 fault_here s t x p n (L.Module l v) rest e h =
     ap (λ (r : Result (List (S.Symbol ℤ)) Fault). fault_at t (n + 1) r and_then λ ys. children_from s t x (p + 1) (n + 1) rest and_then λ more. Ok (children s.numbering l ys ++ more)) h
 
-counted_more : (kind : BracketKind) (n i : ℕ) → counted kind n + i ≡ n + counted kind i
+counted_more : (kind : BracketKind) (n i : ℕ) → count_kind kind n + i ≡ n + count_kind kind i
 counted_more Opens n i = refl
 counted_more Closes n i = refl
 counted_more Neither n i = omega arith
 
 module _ {A : Type 0} where
   first_fault : (s : System) (t : ℕ) (x : List L.Symbol) (m : Nodes A) (by : Successors) (p n : ℕ) (before : List ℕ) (k : ℕ) (after : List ℕ) (e : Fault)
-      → ((i j : ℕ) → slice_get before i ≡ Some j → replacement s t x (p + i) (symbol_at m j) ≡ Ok (by j)) → replacement s t x (p + length before) (symbol_at m k) ≡ Err e
-      → children_from s t x p n (map (symbol_at m) (before ++ k ∷ after)) ≡ Err (FaultAt e t (n + modules_in m before + 1))
+      → ((i j : ℕ) → slice_get before i ≡ Some j → replacement s t x (p + i) (node_symbol m j) ≡ Ok (by j)) → replacement s t x (p + length before) (node_symbol m k) ≡ Err e
+      → children_from s t x p n (map (node_symbol m) (before ++ k ∷ after)) ≡ Err (FaultAt e t (n + module_nodes m before + 1))
   first_fault s t x m by p n [] k after e each h =
       let here : p + 0 ≡ p = omega arith in
       let count : n + 1 ≡ n + 0 + 1 = omega arith in
-      fault_here s t x p n (symbol_at m k) (map (symbol_at m) after) e (ap (λ p. replacement s t x p (symbol_at m k)) (sym here) ∙ h) ∙ ap (λ i. Err (FaultAt e t i)) count
+      fault_here s t x p n (node_symbol m k) (map (node_symbol m) after) e (ap (λ p. replacement s t x p (node_symbol m k)) (sym here) ∙ h) ∙ ap (λ i. Err (FaultAt e t i)) count
   first_fault s t x m by p n (j ∷ before) k after e each h =
-      let kind : kinds.kind_of (symbol_at m j) ≡ kind_of m j = kind_with (names m (spot_in j (m j)).tag) (spot_in j (m j)).seen in
+      let kind : kinds.kind_of (node_symbol m j) ≡ node_kind m j = kind_with (names m (spot_in j (m j)).tag) (spot_in j (m j)).seen in
       let here : p + 0 ≡ p = omega arith in
       let there : p + 1 + length before ≡ p + suc (length before) = omega arith in
-      let rest = first_fault s t x m by (p + 1) (counted (kinds.kind_of (symbol_at m j)) n) before k after e
-      (λ i q g. (let f : p + 1 + i ≡ p + suc i = omega arith in ap (λ p. replacement s t x p (symbol_at m q)) f ∙ each (suc i) q g))
-      (ap (λ p. replacement s t x p (symbol_at m k)) there ∙ h) in
-      fault_past s t x p n (symbol_at m j) (map (symbol_at m) (before ++ k ∷ after)) (by j) (FaultAt e t (counted (kinds.kind_of (symbol_at m j)) n + modules_in m before + 1))
-      (ap (λ p. replacement s t x p (symbol_at m j)) (sym here) ∙ each 0 j refl) rest
-      ∙ ap (λ b. Err (FaultAt e t (counted b n + modules_in m before + 1))) kind ∙ ap (λ i. Err (FaultAt e t (i + 1))) (counted_more (kind_of m j) n (modules_in m before))
+      let rest = first_fault s t x m by (p + 1) (count_kind (kinds.kind_of (node_symbol m j)) n) before k after e
+      (λ i q g. (let f : p + 1 + i ≡ p + suc i = omega arith in ap (λ p. replacement s t x p (node_symbol m q)) f ∙ each (suc i) q g))
+      (ap (λ p. replacement s t x p (node_symbol m k)) there ∙ h) in
+      fault_past s t x p n (node_symbol m j) (map (node_symbol m) (before ++ k ∷ after)) (by j) (FaultAt e t (count_kind (kinds.kind_of (node_symbol m j)) n + module_nodes m before + 1))
+      (ap (λ p. replacement s t x p (node_symbol m j)) (sym here) ∙ each 0 j refl) rest
+      ∙ ap (λ b. Err (FaultAt e t (count_kind b n + module_nodes m before + 1))) kind ∙ ap (λ i. Err (FaultAt e t (i + 1))) (counted_more (node_kind m j) n (module_nodes m before))
 
 pub fault_next : (s : System) (limit t : ℕ) (m : Nodes Kept) (root : ℕ) (by : Successors) (before : List ℕ) (k : ℕ) (after : List ℕ) (e : Fault) → HasFirstFault s limit t m root by before k after e → t < s.depth
-    → meaning s limit ≡ Err (FaultAt e t (modules_in m before + 1))
+    → meaning s limit ≡ Err (FaultAt e t (module_nodes m before + 1))
 fault_next s limit t m root by before k after e h d =
     let x : List L.Symbol = level_of m root t in
     let count : length (meant_to s limit t) ≡ t + 1 = level_count s limit t (meant_to s limit t) h.spelled h.is in
     let last : last_level (meant_to s limit t) ≡ x = last_there (meant_to s limit t) t count ∙ sym (h.levels.each t (omega (arith, count))) in
-    let whole : x ≡ map (symbol_at m) (before ++ k ∷ after) = level_symbols m (level_nodes m root t) ∙ ap (map (symbol_at m)) h.level in
+    let whole : x ≡ map (node_symbol m) (before ++ k ∷ after) = level_symbols m (level_nodes m root t) ∙ ap (map (node_symbol m)) h.level in
     let zero_and : (i : ℕ) → 0 + i ≡ i = λ i. omega arith in
-    let all : children_from s t x 0 0 (map (symbol_at m) (before ++ k ∷ after)) ≡ Err (FaultAt e t (0 + modules_in m before + 1)) =
-    first_fault s t x m by 0 0 before k after e (λ i j g. ap (λ p. replacement s t x p (symbol_at m j)) (zero_and i) ∙ h.replaced i j g)
-    (ap (λ p. replacement s t x p (symbol_at m k)) (zero_and (length before)) ∙ h.faulty) in
-    let none : next_level s t (last_level (meant_to s limit t)) ≡ Err (FaultAt e t (modules_in m before + 1)) =
+    let all : children_from s t x 0 0 (map (node_symbol m) (before ++ k ∷ after)) ≡ Err (FaultAt e t (0 + module_nodes m before + 1)) =
+    first_fault s t x m by 0 0 before k after e (λ i j g. ap (λ p. replacement s t x p (node_symbol m j)) (zero_and i) ∙ h.replaced i j g)
+    (ap (λ p. replacement s t x p (node_symbol m k)) (zero_and (length before)) ∙ h.faulty) in
+    let none : next_level s t (last_level (meant_to s limit t)) ≡ Err (FaultAt e t (module_nodes m before + 1)) =
     ap (next_level s t) last
-    ∙ ap (λ (r : Result (List Raw) LevelRefusal). r and_then λ raw. Ok (cut raw)) (ap (children_from s t x 0 0) whole ∙ all ∙ ap (λ i. Err (FaultAt e t (i + 1))) (zero_and (modules_in m before))) in
-    stays s limit (suc t) s.depth (FaultAt e t (modules_in m before + 1)) (omega (arith, d)) (step_to s limit t (meant_to s limit t) (Err (FaultAt e t (modules_in m before + 1))) h.is none)
+    ∙ ap (λ (r : Result (List Raw) LevelRefusal). r and_then λ raw. Ok (cut raw)) (ap (children_from s t x 0 0) whole ∙ all ∙ ap (λ i. Err (FaultAt e t (i + 1))) (zero_and (module_nodes m before))) in
+    stays s limit (suc t) s.depth (FaultAt e t (module_nodes m before + 1)) (omega (arith, d)) (step_to s limit t (meant_to s limit t) (Err (FaultAt e t (module_nodes m before + 1))) h.is none)

@@ -18,8 +18,8 @@ use Rattle.lsys_forest.specs.Nodes.{Nodes}
 use Rattle.lsys_forest.specs.Rows.{spot_in, level_nodes, level_spots}
 use Rattle.lsys_kept.specs.Lineages.{names}
 use Rattle.lsys_kept.specs.Levels.{level_of, answer_at, IsRight, IsKeptFor, IsAnswered, AnsweredAt}
-use Rattle.lsys_next.specs.Nexts.{symbol_at}
-use Rattle.lsys_next.specs.Answers.{replaced_by, successors}
+use Rattle.lsys_next.specs.Nexts.{node_symbol}
+use Rattle.lsys_next.specs.Answers.{kept_successor, kept_successors}
 
 one_symbol : (y : S.Symbol ℤ) (ys : List (S.Symbol ℤ)) → y ∷ [] ≡ ys → length ys ≤ number_base
 one_symbol y ys e = let one : length (y ∷ []) ≡ length ys = ap length e in omega (arith, one)
@@ -38,14 +38,14 @@ no_rules s t x p l v e = ap (λ (bs : List Body). successor_by bs v (asked s t b
 module _ (s : System) (t : ℕ) (m : Nodes Kept) (root : ℕ) (store : Store) (p : ℕ) where
   pub replaced : (k : ℕ) → ((a : Spotted) → slice_get (level_spots m root t) p ≡ Some a → a.key ≡ key_of s.seed (names m a.tag))
       → AnsweredAt s t m root store p k → slice_get (level_nodes m root t) p ≡ Some k
-      → replacement s t (level_of m root t) p (symbol_at m k) ≡ Ok (successors m k)
+      → replacement s t (level_of m root t) p (node_symbol m k) ≡ Ok (kept_successors m k)
   replaced k keys answered there = by (spot_in k (m k)).seen (answer_at m k) refl (answered (spot_in k (m k)) here)
     where
       here : slice_get (level_spots m root t) p ≡ Some (spot_in k (m k))
       here = slice_get-map (λ k. spot_in k (m k)) (level_nodes m root t) p ∙ ap (λ o. option_map (λ k. spot_in k (m k)) o) there
 
       by : (x : Seen) (o : Option Kept) → (spot_in k (m k)).seen ≡ x → IsAnswered s t (level_spots m root t) store p (spot_in k (m k)).tag x o
-          → replacement s t (level_of m root t) p (with_lineage (names m (spot_in k (m k)).tag) x) ≡ Ok (replaced_by x o)
+          → replacement s t (level_of m root t) p (with_lineage (names m (spot_in k (m k)).tag) x) ≡ Ok (kept_successor x o)
       by Push o e h = refl
       by Pop o e h = refl
       by (Module v) o e h = of (group s t v.name (length v.params)) refl h
@@ -54,6 +54,6 @@ module _ (s : System) (t : ℕ) (m : Nodes Kept) (root : ℕ) (store : Store) (p
           whole = here ∙ (λ i. Some (record { seen = e i; tag = (spot_in k (m k)).tag; key = keys (spot_in k (m k)) here i }))
 
           of : (bs : List Body) → group s t v.name (length v.params) ≡ bs → IsKeptFor bs (IsRight s t (level_spots m root t) store p (spot_in k (m k)).tag v) o
-              → successor s t (level_of m root t) p (names m (spot_in k (m k)).tag) v ≡ Ok (replaced_by (Module v) o)
-          of [] f none = no_rules s t (level_of m root t) p (names m (spot_in k (m k)).tag) v f ∙ ap (λ o. Ok (replaced_by (Module v) o)) (sym none)
-          of (b ∷ bs) f some = sym (some.2.answer.told (names m) (record { here = whole })).successor ∙ ap (λ o. Ok (replaced_by (Module v) o)) (sym some.1)
+              → successor s t (level_of m root t) p (names m (spot_in k (m k)).tag) v ≡ Ok (kept_successor (Module v) o)
+          of [] f none = no_rules s t (level_of m root t) p (names m (spot_in k (m k)).tag) v f ∙ ap (λ o. Ok (kept_successor (Module v) o)) (sym none)
+          of (b ∷ bs) f some = sym (some.2.answer.told (names m) (record { here = whole })).successor ∙ ap (λ o. Ok (kept_successor (Module v) o)) (sym some.1)

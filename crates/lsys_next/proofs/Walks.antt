@@ -17,7 +17,7 @@ use Rattle.lsys_brood.specs.declared.number.Number.{Number}
 use Rattle.lsys_brood.specs.declared.child.Child.{Child}
 use Rattle.lsys_brood.specs.Matches.{same_number, number_in, node_numbered, some_or}
 use Rattle.lsys_brood.specs.Children.{bracket_kind, numbers_of, need_of, need_at}
-use Rattle.lsys_next.specs.Nexts.{Successors, kind_of, wanted_behind, HasWanted, HaveWanted, AreClosed, wanted_in}
+use Rattle.lsys_next.specs.Nexts.{Successors, node_kind, wanted_behind, HasWanted, HaveWanted, AreClosed, wanted_in}
 use Rattle.lsys_next.specs.Renewals.{Renewal, stayed, relisted, turned, came, AreRenewals}
 use Rattle.lsys_next.proofs.Above.{name_stays, upper_nodes}
 use Rattle.lsys_next.proofs.Wants.{wanted_stays}
@@ -39,14 +39,14 @@ module _ {A : Type 0} where
   pub alone : (g : Numbering) (seed : ℕ) (m : Nodes A) (by : Successors) (ks : List ℕ) → AreClosed by ks → ((k : ℕ) → In k ks → HasWanted g seed m k (by k)) → HaveWanted g seed m by None ks
   alone g seed m by [] closed h = tt
   alone g seed m by (k ∷ ks) closed h =
-      (h k (inl refl), subst (λ o. HaveWanted g seed m by o ks) (sym (none_reached (kind_of m k) (is_open (by k)) closed.0)) (alone g seed m by ks closed.1 (λ j i. h j (inr i))))
+      (h k (inl refl), subst (λ o. HaveWanted g seed m by o ks) (sym (none_reached (node_kind m k) (is_open (by k)) closed.0)) (alone g seed m by ks closed.1 (λ j i. h j (inr i))))
 
   pub walk : (g : Numbering) (seed : ℕ) (m : Nodes A) (by : Successors) (o : Option ℕ) (ks : List ℕ) → AreApart ks → ((k : ℕ) → In k ks → HasWanted g seed m k (wanted_in m by o ks k)) → HaveWanted g seed m by o ks
   walk g seed m by o [] apart h = tt
   walk g seed m by o (k ∷ ks) apart h = (
-    subst (HasWanted g seed m k) (ap (λ b. cond b (wanted_behind o (kind_of m k) (by k)) (wanted_in m by (reached o (kind_of m k) (is_open (by k))) ks k)) (same_yes k)) (h k (inl refl)),
-    walk g seed m by (reached o (kind_of m k) (is_open (by k))) ks apart.1 (λ j i.
-        subst (HasWanted g seed m j) (ap (λ b. cond b (wanted_behind o (kind_of m k) (by k)) (wanted_in m by (reached o (kind_of m k) (is_open (by k))) ks j)) (same_not j k (λ e. apart.0 (subst (λ x. In x ks) e i)))) (h j (inr i))),
+    subst (HasWanted g seed m k) (ap (λ b. cond b (wanted_behind o (node_kind m k) (by k)) (wanted_in m by (reached o (node_kind m k) (is_open (by k))) ks k)) (same_yes k)) (h k (inl refl)),
+    walk g seed m by (reached o (node_kind m k) (is_open (by k))) ks apart.1 (λ j i.
+        subst (HasWanted g seed m j) (ap (λ b. cond b (wanted_behind o (node_kind m k) (by k)) (wanted_in m by (reached o (node_kind m k) (is_open (by k))) ks j)) (same_not j k (λ e. apart.0 (subst (λ x. In x ks) e i)))) (h j (inr i))),
   )
 
   -- and so has each of them
@@ -54,24 +54,24 @@ module _ {A : Type 0} where
   each_alone g seed m by [] closed h k i = absurd i
   each_alone g seed m by (j ∷ js) closed h k (inl e) = subst (λ k. HasWanted g seed m k (by k)) (sym e) h.0
   each_alone g seed m by (j ∷ js) closed h k (inr i) =
-      each_alone g seed m by js closed.1 (subst (λ o. HaveWanted g seed m by o js) (none_reached (kind_of m j) (is_open (by j)) closed.0) h.1) k i
+      each_alone g seed m by js closed.1 (subst (λ o. HaveWanted g seed m by o js) (none_reached (node_kind m j) (is_open (by j)) closed.0) h.1) k i
 
   pub each_walked : (g : Numbering) (seed : ℕ) (m : Nodes A) (by : Successors) (o : Option ℕ) (ks : List ℕ) → AreApart ks → HaveWanted g seed m by o ks → (k : ℕ) → In k ks → HasWanted g seed m k (wanted_in m by o ks k)
   each_walked g seed m by o [] apart h k i = absurd i
   each_walked g seed m by o (j ∷ js) apart h k (inl e) =
       subst (λ k. HasWanted g seed m k (wanted_in m by o (j ∷ js) k)) (sym e)
-      (subst (HasWanted g seed m j) (sym (ap (λ b. cond b (wanted_behind o (kind_of m j) (by j)) (wanted_in m by (reached o (kind_of m j) (is_open (by j))) js j)) (same_yes j))) h.0)
+      (subst (HasWanted g seed m j) (sym (ap (λ b. cond b (wanted_behind o (node_kind m j) (by j)) (wanted_in m by (reached o (node_kind m j) (is_open (by j))) js j)) (same_yes j))) h.0)
   each_walked g seed m by o (j ∷ js) apart h k (inr i) =
       subst (HasWanted g seed m k)
-      (sym (ap (λ b. cond b (wanted_behind o (kind_of m j) (by j)) (wanted_in m by (reached o (kind_of m j) (is_open (by j))) js k)) (same_not k j (λ e. apart.0 (subst (λ x. In x js) e i)))))
-      (each_walked g seed m by (reached o (kind_of m j) (is_open (by j))) js apart.1 h.1 k i)
+      (sym (ap (λ b. cond b (wanted_behind o (node_kind m j) (by j)) (wanted_in m by (reached o (node_kind m j) (is_open (by j))) js k)) (same_not k j (λ e. apart.0 (subst (λ x. In x js) e i)))))
+      (each_walked g seed m by (reached o (node_kind m j) (is_open (by j))) js apart.1 h.1 k i)
 
   wanted_same : (old new : Nodes A) (by : Successors) (o : Option ℕ) (ks : List ℕ) (k : ℕ) → ((j : ℕ) → In j ks → spot_in j (new j) ≡ spot_in j (old j)) → wanted_in new by o ks k ≡ wanted_in old by o ks k
   wanted_same old new by o [] k h = refl
   wanted_same old new by o (j ∷ js) k h =
-      let kind : kind_of new j ≡ kind_of old j = ap (λ (s : Spotted). bracket_kind s.seen) (h j (inl refl)) in
+      let kind : node_kind new j ≡ node_kind old j = ap (λ (s : Spotted). bracket_kind s.seen) (h j (inl refl)) in
       ap (λ b. cond (nat_eq k j) (wanted_behind o b (by j)) (wanted_in new by (reached o b (is_open (by j))) js k)) kind
-      ∙ ap (λ zs. cond (nat_eq k j) (wanted_behind o (kind_of old j) (by j)) zs) (wanted_same old new by (reached o (kind_of old j) (is_open (by j))) js k (λ i l. h i (inr l)))
+      ∙ ap (λ zs. cond (nat_eq k j) (wanted_behind o (node_kind old j) (by j)) zs) (wanted_same old new by (reached o (node_kind old j) (is_open (by j))) js k (λ i l. h i (inr l)))
 
   -- the children of a parent whose turn has not come stay
   pub kids_stay : (root : ℕ) (changes : List (Change A)) (g : Numbering) (seed : ℕ) (old new : Nodes A) (depth : ℕ) (by : Successors) (done : List ℕ) (k : ℕ) (n : Node A) → IsSound root changes old

@@ -24,7 +24,7 @@ use Rattle.lsys_brood.specs.Children.{numbers_of, born, renewed, IsBorn, IsMade,
 use Rattle.lsys_brood.proofs.FoundLemmas.{numbered_is}
 use Rattle.lsys_wanted.specs.Wishes.{child_number, child_symbol, AreWanted}
 use Rattle.lsys_kept.specs.Lineages.{kin_of, kins, names}
-use Rattle.lsys_next.specs.Nexts.{symbol_at, HasWanted, AreSameChildren}
+use Rattle.lsys_next.specs.Nexts.{node_symbol, HasWanted, AreSameChildren}
 use Rattle.lsys_next.proofs.Nexts.{tag_of}
 use Rattle.lsys_next.proofs.Above.{map_same, name_stays}
 
@@ -110,13 +110,13 @@ module _ {A : Type 0} where
           numbered None = record { code = 0; count = 0 }
           numbered (Some x) = record { code = x.code; count = x.count }
 
-      made_symbol : (depth : ℕ) (w : Child) (k : ℕ) → IsMadeFor old new p depth n.kids w k → number_of new k ≡ w.number → symbol_at new k ≡ child_symbol (names new p) w
+      made_symbol : (depth : ℕ) (w : Child) (k : ℕ) → IsMadeFor old new p depth n.kids w k → number_of new k ≡ w.number → node_symbol new k ≡ child_symbol (names new p) w
       made_symbol depth w k h e =
           ap (λ o. named (names new) (spot_in k o)) h.is ∙ ap (λ l. with_lineage l h.node.seen) (made_name depth w k h e) ∙ ap (with_lineage (names new p ++ child_number w ∷ [])) h.seen
 
       pub renewed_wanted : (g : Numbering) (seed : ℕ) (zs : List (S.Symbol ℤ)) (ws : List Child) → AreRenewed old new p n ws (kids_in (new p)) → AreWanted g (key_of seed (names new p)) zs ws → HasWanted g seed new p zs
       renewed_wanted g seed zs ws r a = record {
-        symbols = made_map (symbol_at new) (child_symbol (names new p)) old new p (n.depth + 1) n.kids ws (kids_in (new p)) r.made r.named (λ k w h e. made_symbol (n.depth + 1) w k h e) ∙ a.symbols (names new p);
+        symbols = made_map (node_symbol new) (child_symbol (names new p)) old new p (n.depth + 1) n.kids ws (kids_in (new p)) r.made r.named (λ k w h e. made_symbol (n.depth + 1) w k h e) ∙ a.symbols (names new p);
         keys = λ j i. (
             let m = all_made (λ w. w.key ≡ child_key_of (key_of seed (names new p)) (child_number w)) old new p (n.depth + 1) n.kids ws (kids_in (new p)) r.made r.named a.keys j i in
             ap (λ o. (spot_in j o).key) m.1.is ∙ m.1.key ∙ m.3 ∙ sym (child_key seed (names new p) (child_number m.0)) ∙ ap (key_of seed) (sym (made_name (n.depth + 1) m.0 j m.1 m.2))
@@ -128,14 +128,14 @@ module _ {A : Type 0} where
   pub wanted_stays : (g : Numbering) (seed : ℕ) (old new : Nodes A) (k : ℕ) (zs : List (S.Symbol ℤ)) → kids_in (new k) ≡ kids_in (old k) → names new k ≡ names old k
       → ((j : ℕ) → In j (kids_in (old k)) → spot_in j (new j) ≡ spot_in j (old j)) → ((j : ℕ) → In j (kids_in (old k)) → names new j ≡ names old j) → HasWanted g seed old k zs → HasWanted g seed new k zs
   wanted_stays g seed old new k zs list own spots kids h = record {
-    symbols = ap (map (symbol_at new)) list ∙ map_same (symbol_at new) (symbol_at old) (kids_in (old k)) (λ j i. same j i) ∙ h.symbols ∙ ap (λ l. cut (children g l zs)) (sym own);
+    symbols = ap (map (node_symbol new)) list ∙ map_same (node_symbol new) (node_symbol old) (kids_in (old k)) (λ j i. same j i) ∙ h.symbols ∙ ap (λ l. cut (children g l zs)) (sym own);
     keys = λ j i. (
         let there : In j (kids_in (old k)) = subst (In j) list i in
         ap (λ (s : Spotted). s.key) (spots j there) ∙ h.keys j there ∙ ap (key_of seed) (sym (kids j there))
         );
   }
     where
-      same : (j : ℕ) → In j (kids_in (old k)) → symbol_at new j ≡ symbol_at old j
+      same : (j : ℕ) → In j (kids_in (old k)) → node_symbol new j ≡ node_symbol old j
       same j i = ap (named (names new)) (spots j i) ∙ ap (λ l. with_lineage l (spot_in j (old j)).seen) (subst (λ q. names new q ≡ names old q) (sym (tag_of j (old j))) (kids j i))
 
   pub same_children : (root : ℕ) (changes : List (Change A)) (old new : Nodes A) (k : ℕ) (n : Node A) (g : Numbering) (seed : ℕ) (zs : List (S.Symbol ℤ)) → IsSound root changes old → AreOnce (kins old) root → Extends (kins old) (kins new)

@@ -13,18 +13,19 @@ use Rattle.lsys_kept.specs.Levels.{AnsweredAt, answer_at}
 use Rattle.lsys_next.specs.Nexts.{Successors, AreLevels}
 
 -- a module by its answer, and else itself, as each bracket
-abbrev pub replaced_by : Seen → Option Kept → List (S.Symbol ℤ)
-replaced_by Push o = itself Push ∷ []
-replaced_by Pop o = itself Pop ∷ []
-replaced_by (Module v) None = itself (Module v) ∷ []
-replaced_by (Module v) (Some a) = string_of a.successor
+abbrev pub kept_successor : Seen → Option Kept → List (S.Symbol ℤ)
+kept_successor Push o = itself Push ∷ []
+kept_successor Pop o = itself Pop ∷ []
+kept_successor (Module v) None = itself (Module v) ∷ []
+kept_successor (Module v) (Some a) = string_of a.successor
 
-abbrev pub successors : Nodes Kept → Successors
-successors m k = replaced_by (spot_in k (m k)).seen (answer_at m k)
+abbrev pub kept_successors : Nodes Kept → Successors
+kept_successors m k = kept_successor (spot_in k (m k)).seen (answer_at m k)
 
 -- The nodes hang together and are the system's levels up to level t, with their keys; no two of a depth have one lineage; and the
 -- questions of level t are answered.
-pub record AreAnswered (s : System) (limit t : ℕ) (m : Nodes Kept) (root : ℕ) (store : Store) : Type 0 where
+pub record AreAnswered (s : System) (limit t : ℕ) (m : Nodes Kept) (root : ℕ)
+    (store : Store) : Type 0 where
   pub levels : AreLevels s limit t m root
   pub answered : (p k : ℕ) → slice_get (level_nodes m root t) p ≡ Some k
       → AnsweredAt s t m root store p k

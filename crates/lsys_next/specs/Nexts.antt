@@ -40,27 +40,27 @@ abbrev pub wanted_count : Numbering → List (S.Symbol ℤ) → ℕ
 wanted_count g zs = length (cut (children g [] zs))
 
 -- a module is one more
-abbrev pub counted : BracketKind → ℕ → ℕ
-counted Neither n = n + 1
-counted Opens n = n
-counted Closes n = n
+abbrev pub count_kind : BracketKind → ℕ → ℕ
+count_kind Neither n = n + 1
+count_kind Opens n = n
+count_kind Closes n = n
 
 module _ {A : Type 0} where
   -- a node as a symbol of its level, and its kind
-  abbrev pub symbol_at : Nodes A → ℕ → L.Symbol
-  symbol_at m k = named (names m) (spot_in k (m k))
+  abbrev pub node_symbol : Nodes A → ℕ → L.Symbol
+  node_symbol m k = named (names m) (spot_in k (m k))
 
-  abbrev pub kind_of : Nodes A → ℕ → BracketKind
-  kind_of m k = bracket_kind (spot_in k (m k)).seen
+  abbrev pub node_kind : Nodes A → ℕ → BracketKind
+  node_kind m k = bracket_kind (spot_in k (m k)).seen
 
-  abbrev pub key_at : Nodes A → ℕ → ℕ
-  key_at m k = (spot_in k (m k)).key
+  abbrev pub node_key : Nodes A → ℕ → ℕ
+  node_key m k = (spot_in k (m k)).key
 
   -- The children of a node are those that a successor wants of it, with the keys of their lineages.
   pub record HasWanted (g : Numbering) (seed : ℕ) (m : Nodes A) (k : ℕ)
       (zs : List (S.Symbol ℤ)) : Type 0 where
-    pub symbols : map (symbol_at m) (kids_in (m k)) ≡ cut (children g (names m k) zs)
-    pub keys : (j : ℕ) → In j (kids_in (m k)) → key_at m j ≡ key_of seed (names m j)
+    pub symbols : map (node_symbol m) (kids_in (m k)) ≡ cut (children g (names m k) zs)
+    pub keys : (j : ℕ) → In j (kids_in (m k)) → node_key m j ≡ key_of seed (names m j)
 
   -- a node has the children that it had, with the symbols and the keys that they had
   pub record AreSameChildren (old new : Nodes A) (k : ℕ) : Type 0 where
@@ -71,24 +71,24 @@ module _ {A : Type 0} where
   abbrev pub HaveWanted : Numbering → ℕ → Nodes A → Successors → Option ℕ → List ℕ → Type 0
   HaveWanted g seed m by o [] = Unit {0}
   HaveWanted g seed m by o (k ∷ ks) =
-      HasWanted g seed m k (wanted_behind o (kind_of m k) (by k))
-      × HaveWanted g seed m by (reached o (kind_of m k) (is_open (by k))) ks
+      HasWanted g seed m k (wanted_behind o (node_kind m k) (by k))
+      × HaveWanted g seed m by (reached o (node_kind m k) (is_open (by k))) ks
 
   -- what a walk of these nodes finds to be wanted of one of them
   abbrev pub wanted_in : Nodes A → Successors → Option ℕ → List ℕ → Successors
   wanted_in m by o [] k = []
   wanted_in m by o (j ∷ js) k =
-      if nat_eq k j then wanted_behind o (kind_of m j) (by j)
-      else wanted_in m by (reached o (kind_of m j) (is_open (by j))) js k
+      if nat_eq k j then wanted_behind o (node_kind m j) (by j)
+      else wanted_in m by (reached o (node_kind m j) (is_open (by j))) js k
 
   -- how many children all of them want
   abbrev pub count_wanted : Numbering → Nodes A → Successors → List ℕ → ℕ
   count_wanted g m by ks = sum_by (λ k. wanted_count g (wanted_in m by None ks k)) ks
 
   -- how many of them are modules
-  abbrev pub modules_in : Nodes A → List ℕ → ℕ
-  modules_in m [] = 0
-  modules_in m (k ∷ ks) = counted (kind_of m k) (modules_in m ks)
+  abbrev pub module_nodes : Nodes A → List ℕ → ℕ
+  module_nodes m [] = 0
+  module_nodes m (k ∷ ks) = count_kind (node_kind m k) (module_nodes m ks)
 
 -- The nodes hang together and are the system's levels up to level n, with their keys; no two of a depth have one lineage.
 pub record AreLevels (s : System) (limit n : ℕ) (m : Nodes Kept) (root : ℕ) : Type 0 where
@@ -106,7 +106,7 @@ pub record HaveSuccessors (s : System) (limit t : ℕ) (m : Nodes Kept) (root : 
   pub is : meaning_to s limit t ≡ Ok (meant_to s limit t)
   pub levels : HaveLevels m root s.seed (meant_to s limit t)
   pub replaced : (p k : ℕ) → slice_get (level_nodes m root t) p ≡ Some k
-      → replacement s t (level_of m root t) p (symbol_at m k) ≡ Ok (by k)
+      → replacement s t (level_of m root t) p (node_symbol m k) ≡ Ok (by k)
 
 -- And each of these has the children that its successor wants of it.
 pub record HaveNext (s : System) (limit t : ℕ) (m : Nodes Kept) (root : ℕ)
@@ -123,5 +123,5 @@ pub record HasFirstFault (s : System) (limit t : ℕ) (m : Nodes Kept) (root : �
   pub levels : HaveLevels m root s.seed (meant_to s limit t)
   pub level : level_nodes m root t ≡ before ++ k ∷ after
   pub replaced : (p j : ℕ) → slice_get before p ≡ Some j
-      → replacement s t (level_of m root t) p (symbol_at m j) ≡ Ok (by j)
-  pub faulty : replacement s t (level_of m root t) (length before) (symbol_at m k) ≡ Err fault
+      → replacement s t (level_of m root t) p (node_symbol m j) ≡ Ok (by j)
+  pub faulty : replacement s t (level_of m root t) (length before) (node_symbol m k) ≡ Err fault

@@ -21,8 +21,8 @@ ghost use Rattle.lsys_kept.specs.Lineages.{kins, names};
 ghost use Rattle.lsys_kept.specs.Levels.{level_of, HaveLevels, AnsweredAt};
 ghost use Rattle.lsys_kept.specs.Meant.{meant_to};
 ghost use Rattle.lsys_wanted.specs.Wishes.{AreWanted};
-ghost use Rattle.lsys_next.specs.Nexts.{Successors, symbol_at, AreSameChildren, HasWanted, HaveWanted, AreLevels, HaveNext, AreClosed, wanted_in, wanted_count, count_wanted};
-ghost use Rattle.lsys_next.specs.Answers.{successors};
+ghost use Rattle.lsys_next.specs.Nexts.{Successors, node_symbol, AreSameChildren, HasWanted, HaveWanted, AreLevels, HaveNext, AreClosed, wanted_in, wanted_count, count_wanted};
+ghost use Rattle.lsys_next.specs.Answers.{kept_successors};
 
 /// Nodes that are the levels of a system up to level t, and those of level t with the children that their successors want:
 /// then the level of these children is the system's next level. Where the lengths still sum to no more than the limit, the
@@ -48,7 +48,7 @@ pub fn law_of_answered_nodes()
         → ((a : Spotted) → slice_get (level_spots m root t) p ≡ Some a
         → a.key ≡ key_of s.seed (names m a.tag))
         → AnsweredAt s t m root store p k → slice_get (level_nodes m root t) p ≡ Some k
-        → replacement s t (level_of m root t) p (symbol_at m k) ≡ Ok (successors m k) }
+        → replacement s t (level_of m root t) p (node_symbol m k) ≡ Ok (kept_successors m k) }
 {}
 
 /// What replaces a symbol is short: of its symbols no more have one code than there are numbers for it. So is the axiom.
@@ -96,7 +96,7 @@ pub fn law_of_level_children()
     ensures next { (s : System) (limit n t : ℕ) (m : Nodes Kept) (root : ℕ) (by : Successors)
         → AreLevels s limit n m root → t < n
         → ((p k : ℕ) → slice_get (level_nodes m root t) p ≡ Some k
-        → replacement s t (level_of m root t) p (symbol_at m k) ≡ Ok (by k))
+        → replacement s t (level_of m root t) p (node_symbol m k) ≡ Ok (by k))
         → HaveWanted s.numbering s.seed m by None (level_nodes m root t) }
 {}
 

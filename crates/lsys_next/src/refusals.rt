@@ -8,7 +8,7 @@ ghost use Rattle.lsys_forest.specs.Nodes.{Nodes};
 ghost use Rattle.lsys_forest.specs.Groves.{AreApart};
 ghost use Rattle.lsys_forest.specs.Rows.{level_nodes};
 ghost use Rattle.lsys_kept.specs.Meant.{meant_to};
-ghost use Rattle.lsys_next.specs.Nexts.{Successors, HaveSuccessors, HasFirstFault, wanted_count, count_wanted, modules_in};
+ghost use Rattle.lsys_next.specs.Nexts.{Successors, HaveSuccessors, HasFirstFault, wanted_count, count_wanted, module_nodes};
 
 /// Where level 0, or the level behind one whose successors are told, is over the limit, this is why the system has no levels:
 /// it is told by how many children are wanted, before they are made. And where a module of a level has a fault, the leftmost
@@ -26,5 +26,5 @@ pub fn law_of_refusals()
     ensures fault { (s : System) (limit t : ℕ) (m : Nodes Kept) (root : ℕ) (by : Successors)
         (before : List ℕ) (k : ℕ) (after : List ℕ) (e : Fault)
         → HasFirstFault s limit t m root by before k after e → t < s.depth
-        → meaning s limit ≡ Err (FaultAt e t (modules_in m before + 1)) }
+        → meaning s limit ≡ Err (FaultAt e t (module_nodes m before + 1)) }
 {}
