@@ -1,0 +1,3 @@
+pub mod Nexts
+pub mod Renewals
+pub mod Answers

@@ -1,0 +1,2 @@
+pub mod Wishing
+mod Filling

@@ -1,0 +1,39 @@
+-- The symbols of a successor, one behind the other: their numbers, and the children that they are.
+use Rattle.std.specs.Prelude.{◌≡◌, ◌+◌, ◌*◌, ◌<◌, ◌==◌, ℕ, Bool, List, [], ◌∷◌, length, count_by, nat_eq, cond}
+use Rattle.std.specs.HashMap.{get}
+use Rattle.std.specs.Map.{count_at}
+use Rattle.lsys_syntax.specs.Commands.{Numbering, by_place, by_name}
+use Rattle.lsys_spec.specs.Draws.{number_base, child_key_of}
+use Rattle.lsys_reading.specs.declared.parts.Numbering.TheVariants as code
+use Rattle.lsys_module.specs.declared.symbol.Symbol.{Symbol}
+use Rattle.lsys_brood.specs.declared.number.Number.{Number}
+use Rattle.lsys_brood.specs.declared.child.Child.{Child}
+use Rattle.lsys_wanted.specs.declared.numbers.Numbers.{Numbers}
+
+-- the number of a symbol with this code, behind n symbols with these codes
+abbrev pub numbered_at : Numbering → ℕ → List ℕ → ℕ → Number
+numbered_at by_place n before c = record { code = 0; count = n }
+numbered_at by_name n before c = record { code = c; count = count_by (λ d. d == c) before }
+
+-- a symbol as the child of a parent with this key
+abbrev pub child_of : ℕ → Number → Symbol → Child
+child_of key number s = record {
+  number = number;
+  symbol = s;
+  key = child_key_of key (number_base * number.code + number.count);
+}
+
+-- it is there if it stays
+abbrev pub child_if : Bool → Child → List Child
+child_if b w = cond b (w ∷ []) []
+
+-- n symbols were numbered, with these codes
+pub record IsBehind (n : ℕ) (before : List ℕ) (a : Numbers) : Type 0 where
+  pub symbols : a.symbols ≡ n
+  pub length : length before ≡ n
+  pub counts : a.numbering ≡ code.ByName
+      → (c : ℕ) → count_at (get nat_eq a.counts) c ≡ count_by (λ d. d == c) before
+
+-- fewer were numbered than there are numbers for a code
+abbrev pub AreFew : Numbers → Type 0
+AreFew a = (n : ℕ) × (before : List ℕ) × IsBehind n before a × (n < number_base)

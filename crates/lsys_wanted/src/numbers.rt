@@ -1,0 +1,72 @@
+//! The numbers of the symbols of a successor.
+ghost use Rattle.std.specs.Prelude.{◌≡◌, ◌∷◌, ◌+◌, ◌<◌, ℕ, List, [], IfOk, OnOk, length};
+ghost use Rattle.lsys_spec.specs.Draws.{number_base};
+ghost use Rattle.lsys_spec.specs.Numbers.{code_of};
+ghost use Rattle.lsys_module.specs.Views.{symbol_of};
+ghost use Rattle.lsys_reading.specs.Commands.{numbering_of};
+ghost use Rattle.lsys_wanted.specs.Counts.{numbered_at, IsBehind, AreFew};
+
+use lsys_brood::Number;
+use lsys_module::Symbol;
+use lsys_reading::Numbering;
+use std::alloc::{AllocError, Global};
+use std::collections::HashMap;
+
+/// What tells the symbols of a successor, one after another, from each other.
+#[derive(Drop)]
+pub(crate) struct Numbers {
+    pub(crate) numbering: Numbering,
+    // how many symbols there were
+    pub(crate) symbols: u32,
+    // by names, how many of each code
+    pub(crate) counts: HashMap<u64, u32>,
+}
+
+impl Numbers {
+    /// Takes no memory.
+    pub(crate) fn new(alloc: Global) -> Numbers {
+        Numbers {
+            numbering: Numbering::ByPlace,
+            symbols: 0,
+            counts: HashMap::new(alloc),
+        }
+    }
+
+    /// Begins with another successor.
+    pub(crate) fn begin(&mut self, numbering: Numbering)
+        ensures behind { IsBehind 0 [] self.new }
+        ensures numbering { self.new.numbering ≡ numbering }
+    {
+        self.numbering = numbering;
+        self.symbols = 0;
+        self.counts.clear();
+    }
+
+    /// The number of the next symbol, among those of one parent. Whether it is cut off does not matter.
+    pub(crate) fn next(&mut self, symbol: &Symbol) -> Result<Number, AllocError>
+        requires few { AreFew self.old }
+        ensures number { IfOk result (λ number. (n : ℕ) (before : List ℕ)
+            → IsBehind n before self.old
+            → number
+            ≡ numbered_at (numbering_of self.old.numbering) n before
+            (code_of (symbol_of symbol.now))) }
+        ensures behind { OnOk result ((n : ℕ) (before : List ℕ) → IsBehind n before self.old
+            → IsBehind (n + 1) (code_of (symbol_of symbol.now) ∷ before) self.new) }
+        ensures numbering { self.new.numbering ≡ self.old.numbering }
+    {
+        let place = self.symbols;
+        self.symbols += 1;
+        match self.numbering {
+            Numbering::ByPlace => Ok(Number {
+                code: 0,
+                count: place,
+            }),
+            Numbering::ByName => {
+                let code = symbol.code();
+                let count = self.counts.get(&code).copied().unwrap_or(0);
+                self.counts.insert(code, count + 1)?;
+                Ok(Number { code, count })
+            }
+        }
+    }
+}

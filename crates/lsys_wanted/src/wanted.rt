@@ -1,0 +1,152 @@
+//! The children that a successor wants.
+ghost use Rattle.std.specs.Prelude.{◌≡◌, ◌≢◌, ◌<◌, ◌≤◌, ◌++◌, ◌∷◌, false, [], length, OnOk};
+ghost use Rattle.lsys_spec.specs.Draws.{number_base};
+ghost use Rattle.lsys_change.specs.Children.{is_open};
+ghost use Rattle.lsys_level.specs.Views.{seen_of, HasFewParams};
+ghost use Rattle.lsys_module.specs.declared.symbol.Symbol.TheVariants.{Cut};
+ghost use Rattle.lsys_module.specs.Views.{symbol_of, string_of};
+ghost use Rattle.lsys_reading.specs.Commands.{numbering_of};
+ghost use Rattle.lsys_rewrite.specs.Cutting.{stays};
+ghost use Rattle.lsys_wanted.specs.Wishes.{AreWanted, itself};
+ghost use Rattle.lsys_wanted.specs.Counts.{child_of, child_if};
+
+use crate::numbers::Numbers;
+use lsys_brood::{Child, Number};
+use lsys_draw::child_key;
+use lsys_level::Sight;
+use lsys_module::{Module, Params, Symbol};
+use lsys_reading::Numbering;
+use lsys_rewrite::{cutting_behind, stays};
+use std::alloc::{AllocError, Global};
+use std::marker::Model;
+
+/// The children that a successor wants of one parent, and whether a cut among them reaches what stands behind them. It keeps
+/// its room from one successor to the next.
+#[derive(Drop)]
+pub struct Wanted {
+    numbers: Numbers,
+    children: Vec<Child>,
+    is_open: bool,
+}
+
+impl Model for Wanted {
+    ghost use Rattle.lsys_wanted.specs.Wishes.{Wish};
+
+    ghost Value = { Wish };
+
+    ghost view = { λ a. record { children = a.children.items; is_open = a.is_open } };
+}
+
+impl Wanted {
+    /// Nothing is wanted. It takes no memory.
+    pub fn new(alloc: Global) -> Wanted
+        ensures { result ≡ record { children = []; is_open = false } }
+    {
+        Wanted {
+            numbers: Numbers::new(alloc),
+            children: Vec::new(alloc),
+            is_open: false,
+        }
+    }
+
+    /// The children that a successor wants of a parent with this key: what the cuts among its symbols leave, each with the
+    /// number and the key that it has among them all. The root's key is the seed, and its successor the axiom.
+    ///
+    /// # Errors
+    ///
+    /// Want of memory. What is there is of no use then.
+    pub fn fill(
+        &mut self,
+        numbering: Numbering,
+        key: u64,
+        successor: &[Symbol],
+    ) -> Result<(), AllocError>
+        requires few { length successor.now ≤ number_base }
+        ensures wanted { OnOk result
+            (AreWanted (numbering_of numbering) key (string_of successor.now) self.new.children) }
+        ensures cuts { OnOk result (self.new.is_open ≡ is_open (string_of successor.now)) }
+    {
+        self.numbers.begin(numbering);
+        self.children.clear();
+        let mut cutting = None;
+        for symbol in successor {
+            let number = self.numbers.next(symbol)?;
+            put_child(&mut self.children, cutting, key, number, symbol)?;
+            cutting = cutting_behind(cutting, symbol);
+        }
+        self.is_open = cutting.is_some();
+        Ok(())
+    }
+
+    /// The one child that a bracket, or a module that nothing replaces, wants with this key: itself.
+    ///
+    /// # Errors
+    ///
+    /// Want of memory. What is there is of no use then.
+    pub fn fill_itself(
+        &mut self,
+        numbering: Numbering,
+        key: u64,
+        symbol: &Symbol,
+    ) -> Result<(), AllocError>
+        requires whole { symbol.now ≢ Cut }
+        ensures wanted { OnOk result
+            (AreWanted (numbering_of numbering) key (symbol_of symbol.now ∷ []) self.new.children) }
+        ensures cuts { OnOk result (self.new.is_open ≡ false) }
+    {
+        self.fill(numbering, key, &[*symbol])
+    }
+
+    /// The children, in order.
+    pub fn children(&self) -> &[Child]
+        ensures { result.now ≡ self.now.children }
+    {
+        &self.children
+    }
+
+    /// Whether a cut among what the children come from reaches what stands behind them.
+    pub fn is_open(&self) -> bool
+        ensures { result ≡ self.now.is_open }
+    {
+        self.is_open
+    }
+}
+
+/// Puts the child that a symbol is behind the others, if it stays where so much is being cut off.
+fn put_child(
+    children: &mut Vec<Child>,
+    cutting: Option<usize>,
+    key: u64,
+    number: Number,
+    symbol: &Symbol,
+) -> Result<(), AllocError>
+    requires small { number.count < number_base }
+    ensures { OnOk result (children.new.items
+        ≡ children.old.items
+        ++ child_if (stays cutting (symbol_of symbol.now)) (child_of key number symbol.now)) }
+{
+    if stays(cutting, symbol) {
+        children.push(Child {
+            number,
+            symbol: *symbol,
+            key: child_key(key, number.code, number.count),
+        })?;
+    }
+    Ok(())
+}
+
+/// The symbol that is seen.
+pub fn symbol_seen(sight: Sight<'_>) -> Symbol
+    requires { HasFewParams sight }
+    ensures symbol { symbol_of result ≡ itself (seen_of sight.entry) }
+    ensures whole { result ≢ Cut }
+{
+    match sight {
+        Sight::Push => Symbol::Push,
+        Sight::Pop => Symbol::Pop,
+        Sight::Module { name, params } => Symbol::Module(Module {
+            name,
+            params: Params::of(params),
+        }),
+    }
+}
