@@ -136,6 +136,7 @@ impl<A: Kept> Forest<A> {
           kids = [];
           answer = None;
         }) }
+        ensures kept { kept_in self.new ≡ kept_in self.old }
         ensures spends { Spends self.old self.new 1 (list_room (params_in symbol.now)) 0 1 }
     {
         let depth = match self.parts.get(parent) {
@@ -155,6 +156,7 @@ impl<A: Kept> Forest<A> {
         requires notes { 0 < self.old.spare_notes }
         requires room { list_room kids.now ≤ spare_kids self.old }
         ensures set { (n : Node A) → now_of self.old node ≡ Some n → Sets self.old self.new node (with_kids kids.now n) }
+        ensures kept { kept_in self.new ≡ kept_in self.old }
         ensures spends { Spends self.old self.new 0 0 (list_room kids.now) 1 }
     {
         self.spare_notes -= 1;
@@ -171,6 +173,7 @@ impl<A: Kept> Forest<A> {
         requires room { list_room (params_in symbol.now) ≤ spare_params self.old }
         ensures set { (n : Node A) → now_of self.old node ≡ Some n
             → Sets self.old self.new node (with_seen (seen_in symbol.now) n) }
+        ensures kept { kept_in self.new ≡ kept_in self.old }
         ensures spends { Spends self.old self.new 0 (list_room (params_in symbol.now)) 0 1 }
     {
         self.spare_notes -= 1;
@@ -183,6 +186,7 @@ impl<A: Kept> Forest<A> {
         requires other { node ≢ self.old.root }
         requires notes { 0 < self.old.spare_notes }
         ensures set { (n : Node A) → now_of self.old node ≡ Some n → Sets self.old self.new node (with_key key n) }
+        ensures kept { kept_in self.new ≡ kept_in self.old }
         ensures spends { Spends self.old self.new 0 0 0 1 }
     {
         self.spare_notes -= 1;
@@ -204,10 +208,11 @@ impl<A: Kept> Forest<A> {
         self.parts.set_answer(node, answer);
     }
 
-    /// The root. A forest is sound: its nodes hang together under the root.
+    /// The root. A forest is sound: its nodes hang together under the root, and did so at any time since the last rest.
     pub fn root(&self) -> NodeId
         ensures root { result ≡ self.now.root }
         ensures sound { IsSound self.now.root (changes_in self.now) (now_of self.now) }
+        ensures always { AreSound self.now.root (changes_in self.now) (now_of self.now) }
     {
         self.root
     }
