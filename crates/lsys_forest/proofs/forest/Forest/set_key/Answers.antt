@@ -10,6 +10,7 @@ use Rattle.lsys_forest.proofs.AnswerLemmas.{kept_stay}
 use Rattle.lsys_forest.specs.Answers.{answer_of}
 use Rattle.std.specs.Option.{option_and_then}
 use Rattle.lsys_forest.specs.Changes.{OldKey}
+use Rattle.lsys_forest.proofs.LinkLemmas.{set_linked}
 use Rattle.lsys_forest.proofs.forest.Forest.set_key.Goals as goal
 
 pub invariant_of-self : goal.invariant_of-self
@@ -22,6 +23,7 @@ invariant_of-self g c =
     record {
       grove = grove;
       ranked = set_ranked i.root i.parts c.set_key.new.self c.args.node s.0 (with_key c.args.key s.0) _ 0 0 (sound_now c.self.invariant.grove) s.1 refl j c.self.invariant.ranked;
+      linked = set_linked i.root (changes_of c.set_key.new.self) i.parts c.set_key.new.self c.args.node i.linked s.0 (with_key c.args.key s.0) _ 0 0 (sound_now grove) s.1 refl j c.self.invariant.linked;
     }
 
 pub returns-clause-set : goal.returns-clause-set

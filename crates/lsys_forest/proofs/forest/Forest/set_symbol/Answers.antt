@@ -12,6 +12,7 @@ use Rattle.lsys_forest.proofs.AnswerLemmas.{kept_stay}
 use Rattle.lsys_forest.specs.Answers.{answer_of}
 use Rattle.std.specs.Option.{option_and_then}
 use Rattle.lsys_forest.specs.Changes.{OldSeen}
+use Rattle.lsys_forest.proofs.LinkLemmas.{set_linked}
 use Rattle.lsys_forest.proofs.forest.Forest.set_symbol.Goals as goal
 
 pub invariant_of-self : goal.invariant_of-self
@@ -24,6 +25,7 @@ invariant_of-self g c =
     record {
       grove = grove;
       ranked = set_ranked i.root i.parts c.set_symbol.new.self c.args.node s.0 (with_seen (seen_in c.args.symbol.now) s.0) _ (list_room (params_in c.args.symbol.now)) 0 (sound_now c.self.invariant.grove) s.1 refl j c.self.invariant.ranked;
+      linked = set_linked i.root (changes_of c.set_symbol.new.self) i.parts c.set_symbol.new.self c.args.node i.linked s.0 (with_seen (seen_in c.args.symbol.now) s.0) _ (list_room (params_in c.args.symbol.now)) 0 (sound_now grove) s.1 refl j c.self.invariant.linked;
     }
 
 pub returns-clause-set : goal.returns-clause-set
