@@ -1,5 +1,5 @@
 -- The links of levels stay where the levels do.
-use Rattle.std.proofs.Common.{◌≡◌, ◌≢◌, ◌+◌, ◌<◌, ◌≤◌, ℕ, zero, suc, List, [], ◌∷◌, ◌++◌, Option, Some, None, refl, sym, ap, ◌∙◌, arith, inl, inr, subst, append_assoc}
+use Rattle.std.proofs.Common.{◌≡◌, ◌≢◌, ◌+◌, ◌<◌, ◌≤◌, ℕ, zero, suc, List, [], ◌∷◌, ◌++◌, length, Option, Some, None, refl, sym, ap, ◌∙◌, arith, inl, inr, subst, append_assoc}
 use Rattle.std.specs.Prelude.{IsSome}
 use Rattle.std.proofs.lemmas.Bool.{cases_eq}
 use Rattle.std.proofs.lemmas.List.{append-nil}
@@ -7,22 +7,30 @@ use Rattle.std.proofs.lemmas.Option.{same_Some}
 use Rattle.lsys_forest.specs.declared.node.Footing.{Footing}
 use Rattle.lsys_forest.specs.declared.walk.Way.{Way}
 use Rattle.lsys_forest.specs.declared.walk.Way.TheVariants.{Left, Right}
-use Rattle.lsys_forest.specs.Slots.{footing_at, link_in, link_at, links_set, rank_at}
+use Rattle.lsys_forest.specs.Slots.{footing_at, link_in, link_at, rank_at}
 use Rattle.lsys_forest.specs.Nodes.{Node, Nodes}
 use Rattle.lsys_forest.specs.Changes.{KeepsKids, Missing, Change, Before}
 use Rattle.lsys_forest.specs.Stocks.{Stock, nodes_of, changes_of, Journals, Undoes, KeepsFootings}
 use Rattle.lsys_forest.specs.Groves.{In, AreApart, IsSound, AreSound}
-use Rattle.lsys_forest.specs.Ranks.{AreRanked, AreLinked}
+use Rattle.lsys_forest.specs.Ranks.{AreRanked, AreChained, LinksRow, AreLinked}
 use Rattle.lsys_forest.specs.Rows.{first_in, oriented, mirrored, flat, kids_in, kids_below, depth_in, level_nodes}
 use Rattle.lsys_forest.proofs.StockLemmas.{put_same, put_other}
 use Rattle.lsys_forest.proofs.SoundLemmas.{some_of, AreSound-now}
-use Rattle.lsys_forest.proofs.RowLemmas.{In_append, In_right, same_sides, oriented_In_back, oriented_apart, level_apart, level_depth}
-use Rattle.lsys_forest.proofs.WalkLemmas.{mirrored_push, mirrored_around, no_first, first_split, level_live}
+use Rattle.lsys_forest.proofs.RowLemmas.{In_left, In_right, apart_parts, oriented_In_back, flat_append, level_apart, level_depth}
+use Rattle.lsys_forest.proofs.WalkLemmas.{no_first, first_split, level_live, long_around}
+use Rattle.lsys_forest.proofs.ChainLemmas.{last_among}
 use Rattle.lsys_forest.proofs.RankLemmas.{undo_other, undone_kids, undone_sound}
 
 pub flat_same : (f g : ℕ → List ℕ) (xs : List ℕ) → ((k : ℕ) → In k xs → f k ≡ g k) → flat f xs ≡ flat g xs
 flat_same f g [] same = refl
 flat_same f g (x ∷ xs) same = ap (λ (l : List ℕ). l ++ flat f xs) (same x (inl refl)) ∙ ap (λ (l : List ℕ). g x ++ l) (flat_same f g xs (λ k h. same k (inr h)))
+
+none_chained : (footings : List Footing) → AreChained [] footings
+none_chained footings = λ k way b a e. absurd (empty way k b a e)
+  where
+    empty : (way : Way) (k : ℕ) (b a : List ℕ) → oriented way [] ≡ b ++ k ∷ a → ⊥
+    empty Left k b a e = let size = ap length e in omega (arith, size, long_around b k a)
+    empty Right k b a e = let size = ap length e in omega (arith, size, long_around b k a)
 
 module _ {A : Type 0} where
   -- 1. levels that stay
@@ -136,103 +144,104 @@ module _ {A : Type 0} where
 
   -- 3. a level is linked
 
-  -- What is kept true while the nodes of a level are linked from the left to the right: those that were passed are.
+  -- where all ranks stay
+  pub same_ranked : (m : Nodes A) (footings footings' : List Footing) → ((k : ℕ) → rank_at footings' k ≡ rank_at footings k) → AreRanked m footings → AreRanked m footings'
+  same_ranked m footings footings' same ranked = λ p n i k is stands. same k ∙ ranked p n i k is stands
+
+  below_more : (m : Nodes A) (passed : List ℕ) (above : ℕ) → kids_below m (passed ++ above ∷ []) ≡ kids_below m passed ++ kids_in (m above)
+  below_more m passed above =
+      flat_append (λ k. kids_in (m k)) passed (above ∷ []) ∙ ap (λ (l : List ℕ). kids_below m passed ++ l) (append-nil (kids_in (m above)))
+
+  -- What is kept true while the children of the nodes of level t are linked from the left to the right.
   pub record IsLinking (m : Nodes A) (root t : ℕ) (footings : List Footing) (before at : Option ℕ) : Type 0 where
     pub passed : List ℕ
     pub ahead : List ℕ
     pub whole : level_nodes m root t ≡ passed ++ ahead
     pub at_is : at ≡ first_in ahead
-    pub before_is : before ≡ first_in (mirrored passed)
-    pub linked : (k : ℕ) (way : Way) (b a : List ℕ) → In k passed → oriented way (level_nodes m root t) ≡ b ++ k ∷ a → link_at way footings k ≡ first_in a
+    pub before_is : before ≡ first_in (mirrored (kids_below m passed))
+    pub chained : AreChained (kids_below m passed) footings
 
-  pub linking_start : (m : Nodes A) (root t : ℕ) (footings : List Footing) (at : Option ℕ) → at ≡ first_in (level_nodes m root t) → IsLinking m root t footings None at
-  linking_start m root t footings at is = record {
+  pub linking_start : (m : Nodes A) (root t : ℕ) (footings : List Footing) (first : ℕ) → first_in (level_nodes m root t) ≡ Some first → IsLinking m root t footings None (Some first)
+  linking_start m root t footings first is = record {
     passed = [];
     ahead = level_nodes m root t;
     whole = refl;
-    at_is = is;
+    at_is = sym is;
     before_is = refl;
-    linked = λ k way b a none. absurd none;
+    chained = none_chained footings;
   }
 
-  -- the node that is linked next
-  pub record IsNext (m : Nodes A) (root t : ℕ) (footings : List Footing) (before : Option ℕ) (node : ℕ) : Type 0 where
+  -- the node whose children are linked next
+  pub record IsNext (m : Nodes A) (root t : ℕ) (footings : List Footing) (before : Option ℕ) (above : ℕ) : Type 0 where
     pub passed : List ℕ
     pub rest : List ℕ
-    pub whole : level_nodes m root t ≡ passed ++ node ∷ rest
-    pub among : In node (level_nodes m root t)
-    pub before_is : before ≡ first_in (mirrored passed)
-    pub linked : (k : ℕ) (way : Way) (b a : List ℕ) → In k passed → oriented way (level_nodes m root t) ≡ b ++ k ∷ a → link_at way footings k ≡ first_in a
+    pub whole : level_nodes m root t ≡ passed ++ above ∷ rest
+    pub among : In above (level_nodes m root t)
+    pub before_is : before ≡ first_in (mirrored (kids_below m passed))
+    pub chained : AreChained (kids_below m passed) footings
+    pub apart : AreApart (kids_below m passed ++ kids_in (m above))
+    pub inside : (k : ℕ) → In k (kids_below m passed ++ kids_in (m above)) → In k (level_nodes m root (suc t))
 
-  pub linking_next : (m : Nodes A) (root t : ℕ) (footings : List Footing) (before at : Option ℕ) (node : ℕ) → IsLinking m root t footings before at → at ≡ Some node → IsNext m root t footings before node
-  linking_next m root t footings before at node is e =
-      let s = first_split is.ahead node (sym is.at_is ∙ e) in
+  pub linking_next : (root : ℕ) (changes : List (Change A)) (m : Nodes A) (t : ℕ) (footings : List Footing) (before at : Option ℕ) (above : ℕ) → IsSound root changes m → IsLinking m root t footings before at → at ≡ Some above → IsNext m root t footings before above
+  linking_next root changes m t footings before at above sound is e =
+      let s = first_split is.ahead above (sym is.at_is ∙ e) in
       let whole = is.whole ∙ ap (λ (l : List ℕ). is.passed ++ l) s.1 in
+      let below : level_nodes m root (suc t) ≡ (kids_below m is.passed ++ kids_in (m above)) ++ kids_below m s.0 =
+      ap (kids_below m) whole ∙ flat_append (λ k. kids_in (m k)) is.passed (above ∷ s.0) ∙ sym (append_assoc (kids_below m is.passed) (kids_in (m above)) (kids_below m s.0)) in
       record {
         passed = is.passed;
         rest = s.0;
         whole = whole;
-        among = subst (In node) (sym whole) (In_right node is.passed (node ∷ s.0) (inl refl));
+        among = subst (In above) (sym whole) (In_right above is.passed (above ∷ s.0) (inl refl));
         before_is = is.before_is;
-        linked = is.linked;
+        chained = is.chained;
+        apart = (apart_parts (kids_below m is.passed ++ kids_in (m above)) (kids_below m s.0) (subst AreApart below (level_apart root changes m sound (suc t)))).0;
+        inside = λ k h. subst (In k) (sym below) (In_left k (kids_below m is.passed ++ kids_in (m above)) (kids_below m s.0) h);
       }
 
-  pub linking_on : (root : ℕ) (changes : List (Change A)) (m : Nodes A) (t : ℕ) (footings footings' : List Footing) (before next : Option ℕ) (node : ℕ) → IsSound root changes m → (is : IsNext m root t footings before node) → next ≡ first_in is.rest → footing_at footings' node ≡ links_set before next (footing_at footings node) → ((k : ℕ) → k ≢ node → footing_at footings' k ≡ footing_at footings k) → IsLinking m root t footings' (Some node) next
-  linking_on root changes m t footings footings' before next node sound is then here others = record {
-    passed = is.passed ++ node ∷ [];
-    ahead = is.rest;
-    whole = is.whole ∙ sym (append_assoc is.passed (node ∷ []) is.rest);
-    at_is = then;
-    before_is = sym (ap first_in (mirrored_push is.passed node));
-    linked = λ k way b a h there. elim (cases_eq k node) [
-      | inl e ↦ ap (link_at way footings') e ∙ ap (link_in way) here ∙ new way b a (subst (λ i. oriented way (level_nodes m root t) ≡ b ++ i ∷ a) e there)
-      | inr ne ↦ ap (link_in way) (others k ne) ∙ is.linked k way b a (old k ne h) there
-    ];
-  }
-    where
-      apart : AreApart (is.passed ++ node ∷ is.rest)
-      apart = subst AreApart is.whole (level_apart root changes m sound t)
+  -- the last node before them lives, and is none of them
+  pub linking_before : (root : ℕ) (changes : List (Change A)) (m : Nodes A) (t : ℕ) (footings : List Footing) (before : Option ℕ) (above : ℕ) → IsSound root changes m → (is : IsNext m root t footings before above) → (k : ℕ) → before ≡ Some k → IsSome (m k) × (In k (kids_in (m above)) → ⊥)
+  linking_before root changes m t footings before above sound is k e =
+      let among = last_among (kids_below m is.passed) k (sym is.before_is ∙ e) in (
+        level_live root changes m sound (suc t) k (is.inside k (In_left k (kids_below m is.passed) (kids_in (m above)) among)),
+        (apart_parts (kids_below m is.passed) (kids_in (m above)) is.apart).2 k among,
+      )
 
-      old : (k : ℕ) → k ≢ node → In k (is.passed ++ node ∷ []) → In k is.passed
-      old k ne h = elim (In_append is.passed (node ∷ []) k h) [
-        | inl before ↦ before
-        | inr last ↦ elim last [ inl e ↦ absurd (ne e) | inr none ↦ absurd none ]
-      ]
-
-      new : (way : Way) (b a : List ℕ) → oriented way (level_nodes m root t) ≡ b ++ node ∷ a → link_in way (links_set before next (footing_at footings node)) ≡ first_in a
-      new Right b a there = then ∙ ap first_in (same_sides node is.passed is.rest b a apart (sym is.whole ∙ there)).1
-      new Left b a there =
-          let turned : mirrored (level_nodes m root t) ≡ mirrored is.rest ++ node ∷ mirrored is.passed = ap mirrored is.whole ∙ mirrored_around is.passed node is.rest in
-          is.before_is ∙ ap first_in (same_sides node (mirrored is.rest) (mirrored is.passed) b a (subst AreApart turned (oriented_apart Left (level_nodes m root t) (level_apart root changes m sound t))) (sym turned ∙ there)).1
-
-  -- the levels above stay linked
-  pub linking_above : (root : ℕ) (changes : List (Change A)) (m : Nodes A) (t : ℕ) (footings footings' : List Footing) (node : ℕ) → IsSound root changes m → In node (level_nodes m root t) → ((k : ℕ) → k ≢ node → footing_at footings' k ≡ footing_at footings k) → AreLinked m root footings t → AreLinked m root footings' t
-  linking_above root changes m t footings footings' node sound among others are = λ u k way b a less whole.
+  -- the levels that are linked stay so
+  pub linking_above : (root : ℕ) (changes : List (Change A)) (m : Nodes A) (t linked : ℕ) (footings footings' : List Footing) (before last : Option ℕ) (above : ℕ) → IsSound root changes m → linked ≡ t + 1 → (is : IsNext m root t footings before above) → LinksRow footings footings' before (kids_in (m above)) last → AreLinked m root footings linked → AreLinked m root footings' linked
+  linking_above root changes m t linked footings footings' before last above sound more is e are = λ u k way b a less whole.
       let there : In k (level_nodes m root u) = oriented_In_back way k (level_nodes m root u) (subst (In k) (sym whole) (In_right k b (k ∷ a) (inl refl))) in
       let d = level_depth root changes m sound u k there in
-      let e = level_depth root changes m sound t node among in
-      let apart : k ≢ node = λ same. deeper (same_Some d.0 e.0 (sym d.1 ∙ ap m same ∙ e.1)) less d.2 e.2 in
-      ap (link_in way) (others k apart) ∙ are u k way b a less whole
+      let lower : In k (level_nodes m root (suc t)) → ⊥ = λ h. (let f = level_depth root changes m sound (suc t) k h in deeper (same_Some d.0 f.0 (sym d.1 ∙ f.1)) less d.2 f.2) in
+      ap (link_in way) (e.others k (λ h. lower (is.inside k (In_right k (kids_below m is.passed) (kids_in (m above)) h))) (λ f. lower (is.inside k (In_left k (kids_below m is.passed) (kids_in (m above)) (last_among (kids_below m is.passed) k (sym is.before_is ∙ f))))))
+      ∙ are u k way b a less whole
     where
-      deeper : {x y : Node A} {u : ℕ} → x ≡ y → u < t → x.depth ≡ u + 1 → y.depth ≡ t + 1 → ⊥
-      deeper {x = x} {y = y} {u = u} same less one two = let depth : x.depth ≡ y.depth = ap (λ (o : Node A). o.depth) same in omega (arith, less, depth, one, two)
+      deeper : {x y : Node A} {u : ℕ} → x ≡ y → u < linked → x.depth ≡ u + 1 → y.depth ≡ suc t + 1 → ⊥
+      deeper {x = x} {y = y} {u = u} same less one two = let depth : x.depth ≡ y.depth = ap (λ (o : Node A). o.depth) same in omega (arith, less, more, depth, one, two)
 
-  -- and the ranks
-  pub linking_ranked : (m : Nodes A) (footings footings' : List Footing) (node : ℕ) (left right : Option ℕ) → footing_at footings' node ≡ links_set left right (footing_at footings node) → ((k : ℕ) → k ≢ node → footing_at footings' k ≡ footing_at footings k) → AreRanked m footings → AreRanked m footings'
-  linking_ranked m footings footings' node left right here others ranked = λ p n i k is stands. same k ∙ ranked p n i k is stands
-    where
-      same : (k : ℕ) → rank_at footings' k ≡ rank_at footings k
-      same k = elim (cases_eq k node) [
-        | inl e ↦ ap (rank_at footings') e ∙ ap (λ (f : Footing). f.rank) here ∙ ap (rank_at footings) (sym e)
-        | inr ne ↦ ap (λ (f : Footing). f.rank) (others k ne)
-      ]
+  pub linking_on : (m : Nodes A) (root t : ℕ) (footings footings' : List Footing) (before last next : Option ℕ) (above : ℕ) → (is : IsNext m root t footings before above) → LinksRow footings footings' before (kids_in (m above)) last → next ≡ first_in is.rest → IsLinking m root t footings' last next
+  linking_on m root t footings footings' before last next above is e then = record {
+    passed = is.passed ++ above ∷ [];
+    ahead = is.rest;
+    whole = is.whole ∙ sym (append_assoc is.passed (above ∷ []) is.rest);
+    at_is = then;
+    before_is = e.last_is (kids_below m is.passed) is.before_is ∙ ap (λ (l : List ℕ). first_in (mirrored l)) (sym (below_more m is.passed above));
+    chained = subst (λ (l : List ℕ). AreChained l footings') (sym (below_more m is.passed above)) (e.chained (kids_below m is.passed) is.before_is is.apart is.chained);
+  }
 
   -- one level more is linked
-  pub linking_end : (m : Nodes A) (root t linked : ℕ) (footings : List Footing) (before : Option ℕ) → linked ≡ t + 1 → IsLinking m root t footings before None → AreLinked m root footings t → AreLinked m root footings linked
-  linking_end m root t linked footings before more is are = λ u k way b a less whole. elim (cases_eq u t) [
-    | inl e ↦
-        let there : oriented way (level_nodes m root t) ≡ b ++ k ∷ a = ap (λ i. oriented way (level_nodes m root i)) (sym e) ∙ whole in
-        let all : level_nodes m root t ≡ is.passed = is.whole ∙ ap (λ (l : List ℕ). is.passed ++ l) (no_first is.ahead (sym is.at_is)) ∙ append-nil is.passed in
-        is.linked k way b a (subst (In k) all (oriented_In_back way k (level_nodes m root t) (subst (In k) (sym there) (In_right k b (k ∷ a) (inl refl))))) there
+  pub linking_more : (m : Nodes A) (root linked linked' : ℕ) (footings : List Footing) → linked' ≡ linked + 1 → AreChained (level_nodes m root linked) footings → AreLinked m root footings linked → AreLinked m root footings linked'
+  linking_more m root linked linked' footings more chained are = λ u k way b a less whole. elim (cases_eq u linked) [
+    | inl e ↦ chained k way b a (ap (λ i. oriented way (level_nodes m root i)) (sym e) ∙ whole)
     | inr ne ↦ are u k way b a (omega (arith, less, more, ne)) whole
   ]
+
+  pub linking_end : (m : Nodes A) (root t linked : ℕ) (footings : List Footing) (before : Option ℕ) → linked ≡ suc t → IsLinking m root t footings before None → AreChained (level_nodes m root linked) footings
+  linking_end m root t linked footings before more is =
+      let all : level_nodes m root t ≡ is.passed = is.whole ∙ ap (λ (l : List ℕ). is.passed ++ l) (no_first is.ahead (sym is.at_is)) ∙ append-nil is.passed in
+      subst (λ (l : List ℕ). AreChained l footings) (sym (ap (level_nodes m root) more ∙ ap (kids_below m) all)) is.chained
+
+  -- the first level is linked
+  pub linking_first : (root : ℕ) (changes : List (Change A)) (m : Nodes A) (footings footings' : List Footing) (last : Option ℕ) (linked : ℕ) → IsSound root changes m → linked ≡ 1 → LinksRow footings footings' None (kids_in (m root)) last → AreLinked m root footings' linked
+  linking_first root changes m footings footings' last linked sound one e =
+      linking_more m root 0 linked footings' one (e.chained [] refl (level_apart root changes m sound 0) (none_chained footings)) (λ u k way b a less whole. absurd (omega (arith, less)))

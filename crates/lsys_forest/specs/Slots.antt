@@ -42,6 +42,9 @@ link_at way footings k = link_in way (footing_at footings k)
 abbrev pub rank_set : ℕ → Footing → Footing
 rank_set x f = record f { rank = x }
 
+abbrev pub right_set : Option ℕ → Footing → Footing
+right_set x f = record f { right = x }
+
 abbrev pub links_set : Option ℕ → Option ℕ → Footing → Footing
 links_set left right f = record f { left = left; right = right }
 

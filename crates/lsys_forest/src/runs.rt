@@ -8,6 +8,7 @@ ghost use Rattle.lsys_forest.specs.Slots.{slot_at, footing_at, rank_at, link_at,
 ghost use Rattle.lsys_forest.specs.Answers.{IsMade, Releases};
 ghost use Rattle.lsys_forest.specs.Stocks.{slot_answer, Adds, Swaps, Restores, Clears};
 ghost use Rattle.lsys_forest.specs.Groves.{In, AreApart};
+ghost use Rattle.lsys_forest.specs.Ranks.{Joins, LinksRow};
 
 use crate::kept::{Kept, release_one};
 use crate::lists::Lists;
@@ -185,10 +186,49 @@ pub(crate) fn number<A: Drop>(table: &mut Table<A>, kids: &[NodeId])
     ensures stands { (i k : ℕ) → slice_get kids.now i ≡ Some k → rank_at table.new.footings k ≡ i }
     ensures others { (k : ℕ) → (In k kids.now → ⊥)
         → rank_at table.new.footings k ≡ rank_at table.old.footings k }
-    ensures links { (way : Way) (k : ℕ) → link_at way table.new.footings k ≡ link_at way table.old.footings k }
+    ensures links { (way : Way) (k : ℕ)
+        → link_at way table.new.footings k ≡ link_at way table.old.footings k }
     ensures table { table.new ≡ record table.old { footings = table.new.footings } }
 {
     for place in 0..kids.len() {
         table.set_rank(kids[place], place);
+    }
+}
+
+/// Links these nodes to one another, the first of them behind this one, and answers the last.
+pub(crate) fn link_row<A: Drop>(
+    table: &mut Table<A>,
+    kids: &[NodeId],
+    before: Option<NodeId>,
+) -> Option<NodeId>
+    requires apart { AreApart kids.now }
+    requires live { (k : ℕ) → In k kids.now → IsSome (slot_at table.old.slots k) }
+    requires before { (k : ℕ) → before ≡ Some k
+        → IsSome (slot_at table.old.slots k) × (In k kids.now → ⊥) }
+    ensures row { LinksRow table.old.footings table.new.footings before kids.now result }
+    ensures table { table.new ≡ record table.old { footings = table.new.footings } }
+{
+    let mut last = before;
+    for place in 0..kids.len() {
+        let kid = kids[place];
+        join(table, last, kid);
+        last = Some(kid);
+    }
+    last
+}
+
+/// Links a node behind the last one, if there is one.
+fn join<A: Drop>(table: &mut Table<A>, last: Option<NodeId>, kid: NodeId)
+    requires lives { IsSome (slot_at table.old.slots kid) }
+    requires last { (k : ℕ) → last ≡ Some k → IsSome (slot_at table.old.slots k) × (k ≢ kid) }
+    ensures joins { Joins table.old.footings table.new.footings last kid }
+    ensures table { table.new ≡ record table.old { footings = table.new.footings } }
+{
+    match last {
+        Some(node) => {
+            table.set_right(node, Some(kid));
+            table.set_links(kid, Some(node), None);
+        }
+        None => table.set_links(kid, None, None),
     }
 }

@@ -8,21 +8,21 @@ ghost use Rattle.lsys_forest.specs.declared.node.Kind.TheVariants.{Push};
 ghost use Rattle.lsys_forest.specs.declared.node.Stored.{Stored};
 ghost use Rattle.lsys_forest.specs.declared.walk.Way.{Way};
 ghost use Rattle.lsys_forest.specs.Shelves.{shelf_of, IsOwner};
-ghost use Rattle.lsys_forest.specs.Slots.{slot_at, footing_at, rank_at, link_at, links_set, live_slots};
+ghost use Rattle.lsys_forest.specs.Slots.{slot_at, rank_at, link_at, live_slots};
 ghost use Rattle.lsys_forest.specs.Answers.{old_answer, IsMade, Releases};
-ghost use Rattle.lsys_forest.specs.Groves.{HasFew, IsSound};
+ghost use Rattle.lsys_forest.specs.Groves.{In, HasFew, IsSound};
 ghost use Rattle.lsys_forest.specs.Nodes.{Node, Nodes, root_node, put, with_seen, with_key, with_kids, with_answer};
 ghost use Rattle.lsys_forest.specs.Changes.{Change, KeepsKids, Missing, OldSeen, OldKey, OldKids, OldAnswer};
 ghost use Rattle.lsys_forest.specs.Stocks.{nodes_of, changes_of, row_at, Journals, KeepsRoom, KeepsFootings, dropped, Undoes, TakesUp, Removes, undone_slots, undone_footings, UndoesParams, UndoesKids, dropped_slot, DropsParams, TakesKids, noted_answer, named, named_by, kid_lists};
-ghost use Rattle.lsys_forest.specs.Ranks.{AreRanked};
-ghost use Rattle.lsys_forest.specs.Rows.{depth_in};
+ghost use Rattle.lsys_forest.specs.Ranks.{AreRanked, LinksRow};
+ghost use Rattle.lsys_forest.specs.Rows.{depth_in, kids_in};
 
 use crate::kept::{Kept, release_one};
 use crate::lists::Lists;
 use crate::node::{Kind, NodeId, Stored, kind_of, params_of};
 use crate::note::{Look, Note, Was};
 use crate::runs::{
-    clear, insert, number, restore_kids, restore_params, swap_kids, swap_params, take_out,
+    clear, insert, link_row, number, restore_kids, restore_params, swap_kids, swap_params, take_out,
 };
 use crate::table::Table;
 use crate::walk::Way;
@@ -401,14 +401,22 @@ impl<A: Drop> Parts<A> {
         }
     }
 
-    /// Links a node to its neighbours on its level, if it lives.
-    pub(crate) fn set_links(&mut self, node: NodeId, left: Option<NodeId>, right: Option<NodeId>)
+    /// Links the children of a node to one another, the first of them behind `before`, and answers the last.
+    pub(crate) fn link_kids(&mut self, node: NodeId, before: Option<NodeId>) -> Option<NodeId>
+        requires sound { (root : ℕ) × IsSound root (changes_of self.old) (nodes_of self.old) }
+        requires before { (k : ℕ) → before ≡ Some k
+            → IsSome (nodes_of self.old k) × (In k (kids_in (nodes_of self.old node)) → ⊥) }
         ensures same { self.new ≡ record self.old { footings = self.new.footings } }
-        ensures here { IsSome (nodes_of self.old node)
-            → footing_at self.new.footings node ≡ links_set left right (footing_at self.old.footings node) }
-        ensures others { (j : ℕ) → j ≢ node → footing_at self.new.footings j ≡ footing_at self.old.footings j }
+        ensures row { LinksRow self.old.footings self.new.footings before
+            (kids_in (nodes_of self.old node)) result }
     {
-        self.table.set_links(node, left, right);
+        match self.table.kids(node) {
+            Some(run) => {
+                let kids = self.kids.read(run);
+                link_row(&mut self.table, kids, before)
+            }
+            None => before,
+        }
     }
 }
 

@@ -3,7 +3,7 @@ ghost use Rattle.std.specs.Prelude.{◌≡◌, ◌≢◌, ◌↔◌, IsTrue, ◌
 ghost use Rattle.slab.specs.Slab.{Slab, get};
 ghost use Rattle.lsys_forest.specs.Shelves.{run_at};
 ghost use Rattle.lsys_forest.specs.declared.node.Entry.{Entry};
-ghost use Rattle.lsys_forest.specs.Slots.{slot_at, footing_at, rank_at, link_at, live_slots, change_slot, change_run, change_footing, run_before, run_after, kind_set, key_set, answer_set, answer_before, node_in, param_run_in, kid_run_in, change_entry, node_set, params_set, kids_set, footing_set, rank_set, links_set, no_footing, Puts, StandsAt};
+ghost use Rattle.lsys_forest.specs.Slots.{slot_at, footing_at, rank_at, link_at, live_slots, change_slot, change_run, change_footing, run_before, run_after, kind_set, key_set, answer_set, answer_before, node_in, param_run_in, kid_run_in, change_entry, node_set, params_set, kids_set, footing_set, rank_set, right_set, links_set, no_footing, Puts, StandsAt};
 
 use crate::node::{Entry, Kind, NodeId, Stored};
 use crate::walk::Way;
@@ -216,19 +216,34 @@ impl<A: Drop> Table<A> {
     /// Sets the rank of a node, if it lives.
     pub(crate) fn set_rank(&mut self, number: NodeId, rank: usize)
         ensures changed { self.new ≡ record self.old {
-          footings = change_footing (rank_set rank) (slot_at self.old.slots number) self.old.footings number;
+          footings = change_footing (rank_set rank) (slot_at self.old.slots number)
+              self.old.footings number;
         } }
         ensures here { IsSome (slot_at self.old.slots number)
-            → footing_at self.new.footings number ≡ rank_set rank (footing_at self.old.footings number) }
+            → footing_at self.new.footings number
+            ≡ rank_set rank (footing_at self.old.footings number) }
     {
         change_rank(&mut self.nodes, number, rank);
+    }
+
+    /// Links a node to its right neighbour, if it lives.
+    pub(crate) fn set_right(&mut self, number: NodeId, right: Option<NodeId>)
+        ensures same { self.new ≡ record self.old { footings = self.new.footings } }
+        ensures here { IsSome (slot_at self.old.slots number)
+            → footing_at self.new.footings number
+            ≡ right_set right (footing_at self.old.footings number) }
+        ensures others { (j : ℕ) → j ≢ number
+            → footing_at self.new.footings j ≡ footing_at self.old.footings j }
+    {
+        change_right(&mut self.nodes, number, right);
     }
 
     /// Links a node to its neighbours, if it lives.
     pub(crate) fn set_links(&mut self, number: NodeId, left: Option<NodeId>, right: Option<NodeId>)
         ensures same { self.new ≡ record self.old { footings = self.new.footings } }
         ensures here { IsSome (slot_at self.old.slots number)
-            → footing_at self.new.footings number ≡ links_set left right (footing_at self.old.footings number) }
+            → footing_at self.new.footings number
+            ≡ links_set left right (footing_at self.old.footings number) }
         ensures others { (j : ℕ) → j ≢ number
             → footing_at self.new.footings j ≡ footing_at self.old.footings j }
     {
@@ -313,6 +328,17 @@ fn change_rank<A: Drop>(nodes: &mut Slab<Entry<A>>, number: NodeId, rank: usize)
 {
     if let Some(entry) = nodes.get_mut(number.0 as usize) {
         entry.footing.rank = rank;
+    }
+}
+
+/// Links a node to its right neighbour, if it lives.
+fn change_right<A: Drop>(nodes: &mut Slab<Entry<A>>, number: NodeId, right: Option<NodeId>)
+    ensures { nodes.new ≡ record nodes.old {
+      slots = change_entry (footing_set (right_set right)) nodes.old.slots number;
+    } }
+{
+    if let Some(entry) = nodes.get_mut(number.0 as usize) {
+        entry.footing.right = right;
     }
 }
 

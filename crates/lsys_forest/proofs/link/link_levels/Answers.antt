@@ -1,31 +1,39 @@
-use Rattle.std.proofs.Common.{◌≡◌, ◌+◌, ◌-◌, [], suc, Some, sym, ap, ◌∙◌, subst, arith}
+use Rattle.std.proofs.Common.{◌≡◌, ◌+◌, ◌-◌, sym, ap, ◌∙◌, subst, arith}
 use Rattle.lsys_forest.specs.Stocks.{Stock, nodes_of, changes_of}
 use Rattle.lsys_forest.specs.Groves.{IsSound}
 use Rattle.lsys_forest.specs.Rows.{first_in, level_nodes}
 use Rattle.lsys_forest.proofs.link.link_levels.Goals as goal
 
-pub first_child-at-requires-clause-sound : goal.first_child-at-requires-clause-sound
-first_child-at-requires-clause-sound g c =
-    subst (λ (s : Stock g.row.A.Denot). IsSound c.args.root (changes_of s) (nodes_of s)) (sym c.link_level.ensures.same) c.loop-at.invariant.sound
+pub first_at-at-requires-clause-sound : goal.first_at-at-requires-clause-sound
+first_at-at-requires-clause-sound g c =
+    subst (λ (s : Stock g.row.A.Denot). IsSound c.args.root (changes_of s) (nodes_of s)) (sym c.link_first-depth.ensures.same) c.requires.sound
+
+pub loop-at-init : goal.loop-at-init
+loop-at-init g c =
+    let e = c.link_first-depth.ensures in
+    record {
+      same = e.same;
+      sound = subst (λ (s : Stock g.row.A.Denot). IsSound c.args.root (changes_of s) (nodes_of s)) (sym e.same) c.requires.sound;
+      ranked = e.ranked;
+      linked = e.linked;
+      first = c.first_at-at.ensures;
+      some = e.some;
+    }
 
 pub loop-at-preserved : goal.loop-at-preserved
 loop-at-preserved g c =
     let t = c.loop-at.parts in
-    let u = c.link_level.new.parts in
-    let e = c.link_level.ensures in
+    let u = c.link_level-at.new.parts in
+    let e = c.link_level-at.ensures in
     let was = c.loop-at.invariant in
     let d = c.loop-at.depth in
     let root = c.args.root in
-    let here : d + 1 - 1 ≡ d = omega arith in
-    let next : suc d ≡ d + 1 = omega arith in
-    let first : Some c.in-Some.first ≡ first_in (level_nodes (nodes_of u) root d) =
-    sym c.in-Some.is ∙ was.first ∙ ap (λ (s : Stock g.row.A.Denot). first_in (level_nodes (nodes_of s) root d)) (sym e.same) in
+    let here : d ≡ d + 1 - 1 = omega arith in
     record {
       same = e.same ∙ ap (λ (s : Stock g.row.A.Denot). record s { footings = u.footings }) was.same;
       sound = subst (λ (s : Stock g.row.A.Denot). IsSound root (changes_of s) (nodes_of s)) (sym e.same) was.sound;
       ranked = e.ranked;
       linked = e.linked;
-      first =
-          c.first_child-at.ensures [] (level_nodes (nodes_of u) root d) (ap (λ i. level_nodes (nodes_of u) root i) here) first
-          ∙ ap (λ i. first_in (level_nodes (nodes_of u) root i)) next;
+      first = e.first ∙ ap (λ (s : Stock g.row.A.Denot). first_in (level_nodes (nodes_of s) root d)) (sym e.same) ∙ ap (λ i. first_in (level_nodes (nodes_of u) root i)) here;
+      some = omega arith;
     }

@@ -1,4 +1,4 @@
-use Rattle.std.proofs.Common.{◌≡◌, ◌-◌}
+use Rattle.std.proofs.Common.{◌≡◌, ◌-◌, ◌<◌}
 use Rattle.lsys_forest.specs.Stocks.{nodes_of, changes_of}
 use Rattle.lsys_forest.specs.Groves.{IsSound}
 use Rattle.lsys_forest.specs.Ranks.{AreRanked, AreLinked}
@@ -11,7 +11,8 @@ invariant-loop-at g l = record {
   sound : IsSound l.root (changes_of l.parts) (nodes_of l.parts);
   ranked : AreRanked (nodes_of l.parts) l.parts.footings;
   linked : AreLinked (nodes_of l.parts) l.root l.parts.footings l.depth;
-  first : l.at ≡ first_in (level_nodes (nodes_of l.parts) l.root l.depth);
+  first : l.at ≡ first_in (level_nodes (nodes_of l.parts) l.root (l.depth - 1));
+  some : 0 < l.depth;
 }
 
 abbrev pub decreases-loop-at : goal.decreases-loop-at
