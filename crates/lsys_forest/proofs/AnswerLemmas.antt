@@ -6,10 +6,10 @@ use Rattle.std.proofs.lemmas.Grind.{common_steps}
 use Rattle.std.specs.Option.{option_and_then}
 use Rattle.std.proofs.lemmas.Bool.{cases_eq}
 use Rattle.std.proofs.lemmas.Option.{none-some, slice_get_past}
-use Rattle.lsys_region.proofs.ListLemmas.{slice_get-push_old, slice_get-push_new, slice_get-push_cases}
+use Rattle.lsys_region.proofs.ListLemmas.{slice_get-push_old, slice_get-push_new, slice_get-push_other, slice_get-push_cases}
 use Rattle.lsys_forest.specs.Nodes.{Node, Nodes, put, change, with_seen, with_key, with_kids, with_answer}
 use Rattle.lsys_forest.specs.Changes.{Before, Missing, OldSeen, OldKey, OldKids, OldAnswer, Change, undo}
-use Rattle.lsys_forest.specs.Stocks.{dropped, dropped_before}
+use Rattle.lsys_forest.specs.Stocks.{Stock, nodes_of, changes_of, Journals, dropped, dropped_before}
 use Rattle.lsys_forest.specs.Answers.{Keeper, AtNode, AtChange, answer_of, old_answer, answers, kept_by, AreMade, IsMade, Releases, Follows, FreesAllBut}
 use Rattle.lsys_forest.proofs.StockLemmas.{put_same, put_other}
 
@@ -241,6 +241,29 @@ module _ {A : Type 0} where
       stays : (i : Keeper) (a : A) → answers m changes i ≡ Some a → answers m (changes ++ c ∷ []) i ≡ Some a
       stays (AtNode k) a is = is
       stays (AtChange i) a is = earlier_is m m changes c i a is
+
+  -- who keeps which answer stays, where the node that changed has the answer that it had, and no answer is noted
+  pub answers_stay : (m : Nodes A) (k : ℕ) (v : Option (Node A)) (changes : List (Change A)) (c : Change A) → option_and_then answer_of v ≡ option_and_then answer_of (m k) → old_answer c ≡ None → answers (put m k v) (changes ++ c ∷ []) ≡ answers m changes
+  answers_stay m k v changes c same none = fun_ext (λ h. stays h)
+    where
+      noted : (i : ℕ) → option_and_then old_answer (slice_get (changes ++ c ∷ []) i) ≡ option_and_then old_answer (slice_get changes i)
+      noted i = elim (cases_eq i (length changes)) [
+        | inl last ↦ ap (λ j. option_and_then old_answer (slice_get (changes ++ c ∷ []) j)) last ∙ last_is m changes c ∙ none ∙ sym (ap (option_and_then old_answer) (slice_get_past changes i (omega (arith, last))))
+        | inr other ↦ ap (option_and_then old_answer) (slice_get-push_other changes i c other)
+      ]
+
+      stays : (h : Keeper) → answers (put m k v) (changes ++ c ∷ []) h ≡ answers m changes h
+      stays (AtNode j) = elim (put_answer m k v changes j) [
+        | inl e ↦ e.1 ∙ same ∙ ap (λ i. option_and_then answer_of (m i)) (sym e.0)
+        | inr e ↦ e.1
+      ]
+      stays (AtChange i) = noted i
+
+  -- the same of a change that was journaled
+  pub kept_stay : (old new : Stock A) (k : ℕ) (v : Option (Node A)) (before : Before A) (born params kids : ℕ) → option_and_then answer_of v ≡ option_and_then answer_of (nodes_of old k) → old_answer (record { node = k; before = before }) ≡ None → Journals old new k v before born params kids → answers (nodes_of new) (changes_of new) ≡ answers (nodes_of old) (changes_of old)
+  kept_stay old new k v before born params kids same none j =
+      let c : Change A = record { node = k; before = before } in
+      ap (λ (m : Nodes A). answers m (changes_of new)) j.nodes ∙ ap (answers (put (nodes_of old) k v)) j.noted ∙ answers_stay (nodes_of old) k v (changes_of old) c same none
 
   pub remove_step : (m : Nodes A) (k : ℕ) (n : Node A) (changes : List (Change A)) → m k ≡ Some n → IsStep (answers m changes) (answers (put m k None) (changes ++ record { node = k; before = OldKids n.kids } ∷ [])) n.answer
   remove_step m k n changes is =

@@ -5,15 +5,16 @@ use Rattle.std.proofs.lemmas.Option.{none-some}
 use Rattle.std.specs.Prelude.{IsSome, IfSome, IfNone, option_map, slice_get}
 use Rattle.std.specs.Option.{option_and_then}
 use Rattle.lsys_forest.specs.declared.node.Stored.{Stored}
+use Rattle.lsys_forest.specs.declared.node.Footing.{Footing}
 use Rattle.lsys_forest.specs.declared.note.Note.{Note}
 use Rattle.lsys_forest.specs.declared.note.Was.{Was}
 use Rattle.lsys_forest.specs.declared.note.Was.TheVariants as was
 use Rattle.lsys_forest.specs.Shelves.{Shelf}
-use Rattle.lsys_forest.specs.Slots.{slot_at, rank_at, live_slots, kind_set, key_set, answer_set, answer_before}
+use Rattle.lsys_forest.specs.Slots.{slot_at, no_footing, footing_at, live_slots, kind_set, key_set, answer_set, answer_before}
 use Rattle.lsys_forest.specs.Nodes.{Node, Nodes, change, seen_as, with_seen, with_key, with_kids, with_answer}
 use Rattle.lsys_forest.specs.Changes.{KeepsKids, Before, Missing, OldSeen, OldKey, OldKids, OldAnswer, Change, undo}
 use Rattle.lsys_forest.specs.Answers.{answer_of, old_answer}
-use Rattle.lsys_forest.specs.Stocks.{row_at, where_some, first_of, before_of, params_left, kids_left, node_of, told, param_lists, kid_lists, param_count, kid_count, IsStock, UndoesParams, UndoesKids, undone_slots, undone_ranks, slot_answer, dropped_slot, dropped, looked, DropsParams, TakesKids, noted_answer, named}
+use Rattle.lsys_forest.specs.Stocks.{row_at, where_some, first_of, before_of, params_left, kids_left, node_of, told, param_lists, kid_lists, param_count, kid_count, IsStock, UndoesParams, UndoesKids, undone_slots, undone_footings, slot_answer, dropped_slot, dropped, looked, DropsParams, TakesKids, noted_answer, named}
 use Rattle.lsys_forest.proofs.SlotLemmas.{live_change, live_gone, slot_some}
 use Rattle.lsys_forest.proofs.TableLemmas.{get_set_other, get_cleared}
 use Rattle.lsys_forest.proofs.StockLemmas.{change_there, change_other, shown_nodes, lives_stored, AgreeBut, nodes_put, told_plain, told_param, told_kid, param_count_push, kid_count_push}
@@ -245,18 +246,18 @@ module _ {A : Type 0} where
         kid_places = refl;
       }))
 
-  -- each node that lives then has its rank still
-  pub undone_kept : (slots slots' : List (Option (Stored A))) (params : List (List ℤ)) (kids : List (List ℕ)) (ranks ranks' : List ℕ) (k : ℕ) (w : Was A) → slots' ≡ undone_slots w k slots → ranks' ≡ undone_ranks w k ranks → (j : ℕ) → IsSome (shown_nodes slots' params kids j) → rank_at ranks' j ≡ rank_at ranks j
-  undone_kept slots slots' params kids ranks ranks' k was.Missing sl rl j lives = elim (cases_eq j k) [
+  -- each node that lives then stands as it stood
+  pub undone_kept : (slots slots' : List (Option (Stored A))) (params : List (List ℤ)) (kids : List (List ℕ)) (footings footings' : List Footing) (k : ℕ) (w : Was A) → slots' ≡ undone_slots w k slots → footings' ≡ undone_footings w k footings → (j : ℕ) → IsSome (shown_nodes slots' params kids j) → footing_at footings' j ≡ footing_at footings j
+  undone_kept slots slots' params kids footings footings' k was.Missing sl rl j lives = elim (cases_eq j k) [
     | inl e ↦
         let s = lives_stored slots' params kids j lives in
         absurd (none-some s.0 (sym (ap (λ (x : List (Option (Stored A))). slot_at x j) sl ∙ ap (slot_at (set slots k None)) e ∙ get_cleared slots k None) ∙ s.1))
-    | inr ne ↦ ap (λ r. rank_at r j) rl ∙ get_set_other ranks k j 0 0 ne
+    | inr ne ↦ ap (λ r. footing_at r j) rl ∙ get_set_other footings k j no_footing no_footing ne
   ]
-  undone_kept slots slots' params kids ranks ranks' k (was.Kind x) sl rl j lives = ap (λ r. rank_at r j) rl
-  undone_kept slots slots' params kids ranks ranks' k (was.Key x) sl rl j lives = ap (λ r. rank_at r j) rl
-  undone_kept slots slots' params kids ranks ranks' k was.Kids sl rl j lives = ap (λ r. rank_at r j) rl
-  undone_kept slots slots' params kids ranks ranks' k (was.Answer x) sl rl j lives = ap (λ r. rank_at r j) rl
+  undone_kept slots slots' params kids footings footings' k (was.Kind x) sl rl j lives = ap (λ r. footing_at r j) rl
+  undone_kept slots slots' params kids footings footings' k (was.Key x) sl rl j lives = ap (λ r. footing_at r j) rl
+  undone_kept slots slots' params kids footings footings' k was.Kids sl rl j lives = ap (λ r. footing_at r j) rl
+  undone_kept slots slots' params kids footings footings' k (was.Answer x) sl rl j lives = ap (λ r. footing_at r j) rl
 
   -- the last change was taken up
   pub record Taken (p p' : Shelf ℤ) (q q' : Shelf ℕ) (notes : List (Note A)) (k : ℕ) (w : Was A) : Type 0 where

@@ -41,5 +41,5 @@ module _ {A : Type 0} (t : SlotTable A) (p : Hoard ℤ) (q : Hoard ℕ) (notes n
     param_room = omega arith;
     kid_room = omega arith;
     hand = refl;
-    ranks = λ j lives. refl;
+    footings = λ j lives. refl;
   }

@@ -6,6 +6,7 @@ use Rattle.std.proofs.lemmas.Option.{slice_get_within}
 use Rattle.lsys_forest.specs.Nodes.{Nodes}
 use Rattle.lsys_forest.specs.Changes.{Change}
 use Rattle.lsys_forest.specs.Groves.{In, AreApart, IsSound}
+use Rattle.lsys_forest.specs.declared.node.Footing.{Footing}
 use Rattle.lsys_forest.specs.Slots.{rank_at}
 use Rattle.lsys_forest.specs.Ranks.{AreRanked, parent_in}
 use Rattle.lsys_forest.specs.Rows.{index_in, flat, kids_in, level_nodes}
@@ -81,7 +82,7 @@ module _ {A : Type 0} where
     parents_deep zero k l h g ne = absurd (ne (top k h ∙ sym (top l g)))
     parents_deep (suc t) k l h g ne = omega arith
 
-    pub by_ranks : (t k l r s : ℕ) (at : List ℕ) → AreRanked m at → In k (level_nodes m root t) → In l (level_nodes m root t) → parent_in (m k) ≡ parent_in (m l) → r ≡ rank_at at k → s ≡ rank_at at l → (r < s) ↔ (index_in k (level_nodes m root t) < index_in l (level_nodes m root t))
+    pub by_ranks : (t k l r s : ℕ) (at : List Footing) → AreRanked m at → In k (level_nodes m root t) → In l (level_nodes m root t) → parent_in (m k) ≡ parent_in (m l) → r ≡ rank_at at k → s ≡ rank_at at l → (r < s) ↔ (index_in k (level_nodes m root t) < index_in l (level_nodes m root t))
     by_ranks t k l r s at ranked h g same reads reads' =
         let one = ranked_at k (parent_in (m k)) m at r ranked (among t k h) reads in
         let two = ap (λ j. slice_get (kids_in (m j)) s) same ∙ ranked_at l (parent_in (m l)) m at s ranked (among t l g) reads' in

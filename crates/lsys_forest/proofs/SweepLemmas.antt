@@ -1,7 +1,8 @@
 -- A commit leaves exactly the nodes that are reached.
 use Rattle.std.proofs.Common.{◌≡◌, ◌≢◌, ◌⊎◌, ◌+◌, ℕ, zero, suc, List, [], ◌∷◌, ◌++◌, Some, None, refl, sym, ap, ◌∙◌, arith, inl, inr, subst}
 use Rattle.std.specs.Prelude.{IsSome}
-use Rattle.lsys_forest.specs.Slots.{rank_at}
+use Rattle.lsys_forest.specs.declared.node.Footing.{Footing}
+use Rattle.lsys_forest.specs.Slots.{footing_at}
 use Rattle.lsys_forest.proofs.WalkLemmas.{get_In}
 use Rattle.std.proofs.lemmas.Bool.{cases_eq}
 use Rattle.std.proofs.lemmas.Option.{none-some, same_Some}
@@ -9,7 +10,7 @@ use Rattle.lsys_forest.specs.Nodes.{Node, Nodes, put}
 use Rattle.lsys_forest.specs.Changes.{OldKids, Change}
 use Rattle.lsys_forest.specs.Stocks.{looked}
 use Rattle.lsys_forest.specs.Groves.{In, ReachedIn, Reached, Named, IsSound}
-use Rattle.lsys_forest.specs.Sweeps.{IsLinked, IsSwept}
+use Rattle.lsys_forest.specs.Sweeps.{IsFast, IsSwept}
 use Rattle.lsys_forest.proofs.StockLemmas.{put_same, put_other}
 use Rattle.lsys_forest.proofs.SoundLemmas.{Named_more, Named_last}
 use Rattle.lsys_forest.specs.Ranks.{AreRanked}
@@ -35,8 +36,8 @@ module _ {A : Type 0} where
     | inr gone ↦ absurd (gone.1 reached)
   ]
 
-  -- a node that is not linked is not reached
-  unreached : (first : Nodes A) (root : ℕ) (before : List (Change A)) → IsSound root before first → (m : Nodes A) (changes : List (Change A)) (left : List ℕ) → IsSwept first root m changes left → (k : ℕ) (n : Node A) → k ≢ root → m k ≡ Some n → (IsLinked m k n → ⊥) → Reached first root k → ⊥
+  -- a node that is not fast is not reached
+  unreached : (first : Nodes A) (root : ℕ) (before : List (Change A)) → IsSound root before first → (m : Nodes A) (changes : List (Change A)) (left : List ℕ) → IsSwept first root m changes left → (k : ℕ) (n : Node A) → k ≢ root → m k ≡ Some n → (IsFast m k n → ⊥) → Reached first root k → ⊥
   unreached first root before sound m changes left swept k n other is apart r = by r.0 r.1
     where
       by : (d : ℕ) → ReachedIn first root d k → ⊥
@@ -53,7 +54,7 @@ module _ {A : Type 0} where
           })
 
   -- a loose node was removed, and its children noted
-  pub IsSwept-removes : (first : Nodes A) (root : ℕ) (before : List (Change A)) → IsSound root before first → (m m' : Nodes A) (changes changes' : List (Change A)) (k : ℕ) (n : Node A) (left : List ℕ) → k ≢ root → m k ≡ Some n → (IsLinked m k n → ⊥) → m' ≡ put m k None → changes' ≡ changes ++ record { node = k; before = OldKids n.kids } ∷ [] → IsSwept first root m changes (k ∷ left) → IsSwept first root m' changes' left
+  pub IsSwept-removes : (first : Nodes A) (root : ℕ) (before : List (Change A)) → IsSound root before first → (m m' : Nodes A) (changes changes' : List (Change A)) (k : ℕ) (n : Node A) (left : List ℕ) → k ≢ root → m k ≡ Some n → (IsFast m k n → ⊥) → m' ≡ put m k None → changes' ≡ changes ++ record { node = k; before = OldKids n.kids } ∷ [] → IsSwept first root m changes (k ∷ left) → IsSwept first root m' changes' left
   IsSwept-removes first root before sound m m' changes changes' k n left other is apart removed noted swept =
       let c : Change A = record { node = k; before = OldKids n.kids } in
       let after = put m k None in
@@ -95,14 +96,14 @@ module _ {A : Type 0} where
       subst (λ (cs : List (Change A)). IsSwept first root m' cs left) (sym noted) (subst (λ (x : Nodes A). IsSwept first root x (changes ++ c ∷ []) left) (sym removed) done)
 
   -- nothing was to be done
-  pub IsSwept-spares : (first : Nodes A) (root : ℕ) (m : Nodes A) (changes : List (Change A)) (k : ℕ) (left : List ℕ) → ((n : Node A) → k ≢ root → m k ≡ Some n → IsLinked m k n) → IsSwept first root m changes (k ∷ left) → IsSwept first root m changes left
+  pub IsSwept-spares : (first : Nodes A) (root : ℕ) (m : Nodes A) (changes : List (Change A)) (k : ℕ) (left : List ℕ) → ((n : Node A) → k ≢ root → m k ≡ Some n → IsFast m k n) → IsSwept first root m changes (k ∷ left) → IsSwept first root m changes left
   IsSwept-spares first root m changes k left fast swept = record {
     same = swept.same;
     cover = λ y n is other. elim (swept.cover y n is other) [
       | inl linked ↦ inl linked
       | inr waits ↦ elim waits [
         | inl among ↦ elim among [
-          | inl e ↦ inl (subst (λ z. IsLinked m z n) (sym e) (fast n (λ h. other (e ∙ h)) (ap m (sym e) ∙ is)))
+          | inl e ↦ inl (subst (λ z. IsFast m z n) (sym e) (fast n (λ h. other (e ∙ h)) (ap m (sym e) ∙ is)))
           | inr later ↦ inr (inl later)
         ]
         | inr named ↦ inr (inr named)
@@ -143,8 +144,8 @@ module _ {A : Type 0} where
   }
 
   -- a loose node was removed: it is no child of a node that is left
-  pub removed_ranked : (first : Nodes A) (root : ℕ) (before : List (Change A)) → IsSound root before first → (m m' : Nodes A) (changes : List (Change A)) (ranks ranks' : List ℕ) (k : ℕ) (n : Node A) (left : List ℕ) → m k ≡ Some n → (IsLinked m k n → ⊥) → m' ≡ put m k None → ((j : ℕ) → j ≢ k → rank_at ranks' j ≡ rank_at ranks j) → IsSwept first root m changes left → AreRanked m ranks → AreRanked m' ranks'
-  removed_ranked first root before sound m m' changes ranks ranks' k n left is apart removed same swept ranked = λ p o i y there here.
+  pub removed_ranked : (first : Nodes A) (root : ℕ) (before : List (Change A)) → IsSound root before first → (m m' : Nodes A) (changes : List (Change A)) (footings footings' : List Footing) (k : ℕ) (n : Node A) (left : List ℕ) → m k ≡ Some n → (IsFast m k n → ⊥) → m' ≡ put m k None → ((j : ℕ) → j ≢ k → footing_at footings' j ≡ footing_at footings j) → IsSwept first root m changes left → AreRanked m footings → AreRanked m' footings'
+  removed_ranked first root before sound m m' changes footings footings' k n left is apart removed same swept ranked = λ p o i y there here.
       let found = sym (ap (λ (f : Nodes A). f p) removed) ∙ there in
       elim (cases_eq p k) [
         | inl e ↦ absurd (none-some o (sym (put_same m k p None e) ∙ found))
@@ -157,11 +158,11 @@ module _ {A : Type 0} where
                   let one : under.node ≡ n = same_Some under.node n (sym under.is ∙ ap first e ∙ kept first root m changes left swept k n is) in
                   let parent_is : n.parent ≡ p = ap (λ (u : Node A). u.parent) (sym one) ∙ under.parent_is in
                   absurd (apart (record { parent = o; is = ap m parent_is ∙ was; among = subst (λ z. In z o.kids) e among }))
-              | inr far ↦ same y far ∙ ranked p o i y was here
+              | inr far ↦ ap (λ (f : Footing). f.rank) (same y far) ∙ ranked p o i y was here
             ]
       ]
 
-  linked_at_end : (first : Nodes A) (root : ℕ) (m : Nodes A) → IsSwept first root m [] [] → (k : ℕ) (n : Node A) → m k ≡ Some n → k ≢ root → IsLinked m k n
+  linked_at_end : (first : Nodes A) (root : ℕ) (m : Nodes A) → IsSwept first root m [] [] → (k : ℕ) (n : Node A) → m k ≡ Some n → k ≢ root → IsFast m k n
   linked_at_end first root m swept k n is other = elim (swept.cover k n is other) [
     | inl linked ↦ linked
     | inr waits ↦ elim waits [ inl among ↦ absurd among | inr named ↦ absurd named ]

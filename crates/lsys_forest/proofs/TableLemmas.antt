@@ -5,8 +5,9 @@ use Rattle.std.proofs.lemmas.List.{map-set}
 use Rattle.std.proofs.lemmas.List.Sums.{sum_by-cons}
 use Rattle.slab.specs.Slab.{Slab, get, Updates}
 use Rattle.lsys_forest.specs.declared.node.Stored.{Stored}
+use Rattle.lsys_forest.specs.declared.node.Footing.{Footing}
 use Rattle.lsys_forest.specs.declared.node.Entry.{Entry}
-use Rattle.lsys_forest.specs.Slots.{slot_at, live_slots, change_slot, change_run, change_rank, change_entry, run_before, run_after, node_in, param_run_in, kid_run_in, rank_in, node_set, params_set, kids_set, rank_set, table_of, Puts}
+use Rattle.lsys_forest.specs.Slots.{slot_at, live_slots, change_slot, change_run, no_footing, footing_at, change_footing, change_entry, run_before, run_after, node_in, param_run_in, kid_run_in, footing_in, node_set, params_set, kids_set, footing_set, table_of, Puts}
 
 -- a part of what stands at a place
 pub part_at : {X Y : Type 0} (part : X → Y) (xs : List X) (k : ℕ) (d : X) → get_or (map part xs) k (part d) ≡ part (get_or xs k d)
@@ -39,6 +40,11 @@ get_cleared [] k d = refl
 get_cleared (x ∷ xs) zero d = refl
 get_cleared (x ∷ xs) (suc k) d = get_cleared xs k d
 
+-- where the others stand, after a footing was changed
+pub footing_other : {X : Type 0} (f : Footing → Footing) (there : Option X) (footings footings' : List Footing) (k j : ℕ) → footings' ≡ change_footing f there footings k → j ≢ k → footing_at footings' j ≡ footing_at footings j
+footing_other f None footings footings' k j is ne = ap (λ r. footing_at r j) is
+footing_other f (Some x) footings footings' k j is ne = ap (λ r. footing_at r j) is ∙ get_set_other footings k j (f (footing_at footings k)) no_footing ne
+
 module _ {A : Type 0} where
   -- the entry that was changed
   entry_there : (f : Entry A → Entry A) (entries : List (Option (Entry A))) (k : ℕ) → get_or (change_entry f entries k) k None ≡ option_map f (get_or entries k None)
@@ -61,12 +67,12 @@ module _ {A : Type 0} where
   pub kids_there : (x : Option ℕ) (s t : Slab (Entry A)) (k : ℕ) → t ≡ record s { slots = change_entry (kids_set x) s.slots k } → get_or (table_of t).kid_runs k None ≡ run_after (slot_at (table_of s).slots k) x
   kids_there x s t k is = ap (λ (y : Slab (Entry A)). get_or (table_of y).kid_runs k None) is ∙ run_there kid_run_in (kids_set x) x (λ e. refl) refl s.slots k
 
-  pub rank_there : (x : ℕ) (s t : Slab (Entry A)) (k : ℕ) → t ≡ record s { slots = change_entry (rank_set x) s.slots k } → IsSome (slot_at (table_of s).slots k) → get_or (table_of t).ranks k 0 ≡ x
-  rank_there x s t k is lives =
-      ap (λ (y : Slab (Entry A)). get_or (table_of y).ranks k 0) is ∙ part_at rank_in (change_entry (rank_set x) s.slots k) k None ∙ ap rank_in (entry_there (rank_set x) s.slots k)
-      ∙ go (get s k) (subst IsSome (part_at node_in s.slots k None) lives)
+  pub footing_there : (f : Footing → Footing) (s t : Slab (Entry A)) (k : ℕ) → t ≡ record s { slots = change_entry (footing_set f) s.slots k } → IsSome (slot_at (table_of s).slots k) → footing_at (table_of t).footings k ≡ f (footing_at (table_of s).footings k)
+  footing_there f s t k is lives =
+      ap (λ (y : Slab (Entry A)). footing_at (table_of y).footings k) is ∙ part_at footing_in (change_entry (footing_set f) s.slots k) k None ∙ ap footing_in (entry_there (footing_set f) s.slots k)
+      ∙ go (get s k) (subst IsSome (part_at node_in s.slots k None) lives) ∙ ap f (sym (part_at footing_in s.slots k None))
     where
-      go : (o : Option (Entry A)) → IsSome (node_in o) → rank_in (option_map (rank_set x) o) ≡ x
+      go : (o : Option (Entry A)) → IsSome (node_in o) → footing_in (option_map (footing_set f) o) ≡ f (footing_in o)
       go None some = absurd (grind (arith, some))
       go (Some e) some = refl
 
@@ -96,8 +102,8 @@ module _ {A : Type 0} where
   pub changed_node : (f : Stored A → Stored A) (s t : Slab (Entry A)) (k : ℕ) → t ≡ record s { slots = change_entry (node_set f) s.slots k } → table_of t ≡ record (table_of s) { slots = change_slot f (table_of s).slots k }
   changed_node f s t k is =
       ap (λ (x : Slab (Entry A)). table_of x) is
-      ∙ ap₂ (λ (x : List (Option (Stored A))) (r : List ℕ). record (table_of s) { slots = x; ranks = r; param_runs = map param_run_in (change_entry (node_set f) s.slots k); kid_runs = map kid_run_in (change_entry (node_set f) s.slots k) })
-      (part_changes node_in (node_set f) s.slots k ∙ ap (set (map node_in s.slots) k) (node_mapped f (get s k) ∙ ap (option_map f) (sym (slot_is s k)))) (part_stays rank_in (node_set f) (λ e. refl) s.slots k)
+      ∙ ap₂ (λ (x : List (Option (Stored A))) (r : List Footing). record (table_of s) { slots = x; footings = r; param_runs = map param_run_in (change_entry (node_set f) s.slots k); kid_runs = map kid_run_in (change_entry (node_set f) s.slots k) })
+      (part_changes node_in (node_set f) s.slots k ∙ ap (set (map node_in s.slots) k) (node_mapped f (get s k) ∙ ap (option_map f) (sym (slot_is s k)))) (part_stays footing_in (node_set f) (λ e. refl) s.slots k)
       ∙ ap₂ (λ x y. record (table_of s) { slots = change_slot f (table_of s).slots k; param_runs = x; kid_runs = y }) (part_stays param_run_in (node_set f) (λ e. refl) s.slots k) (part_stays kid_run_in (node_set f) (λ e. refl) s.slots k)
 
   run_set : (part : Option (Entry A) → Option ℕ) (f : Entry A → Entry A) (x : Option ℕ) → ((e : Entry A) → part (Some (f e)) ≡ x) → part None ≡ None → (entries : List (Option (Entry A))) (k : ℕ) → map part (change_entry f entries k) ≡ change_run (get_or (map node_in entries) k None) (map part entries) k x
@@ -109,35 +115,37 @@ module _ {A : Type 0} where
           ∙ ap (λ (o : Option (Stored A)). change_run o (map part entries) k x) (sym (part_at node_in entries k None ∙ ap node_in here))
       go (Some e) here = ap (set (map part entries) k) (sets e) ∙ ap (λ (o : Option (Stored A)). change_run o (map part entries) k x) (sym (part_at node_in entries k None ∙ ap node_in here))
 
-  rank_changed : (x : ℕ) (entries : List (Option (Entry A))) (k : ℕ) → map rank_in (change_entry (rank_set x) entries k) ≡ change_rank (get_or (map node_in entries) k None) (map rank_in entries) k x
-  rank_changed x entries k = part_changes rank_in (rank_set x) entries k ∙ go (get_or entries k None) refl
+  footing_changed : (f : Footing → Footing) (entries : List (Option (Entry A))) (k : ℕ) → map footing_in (change_entry (footing_set f) entries k) ≡ change_footing f (get_or (map node_in entries) k None) (map footing_in entries) k
+  footing_changed f entries k = part_changes footing_in (footing_set f) entries k ∙ go (get_or entries k None) refl
     where
-      go : (o : Option (Entry A)) → get_or entries k None ≡ o → set (map rank_in entries) k (rank_in (option_map (rank_set x) o)) ≡ change_rank (get_or (map node_in entries) k None) (map rank_in entries) k x
+      go : (o : Option (Entry A)) → get_or entries k None ≡ o → set (map footing_in entries) k (footing_in (option_map (footing_set f) o)) ≡ change_footing f (get_or (map node_in entries) k None) (map footing_in entries) k
       go None here =
-          ap (λ (o : Option (Entry A)). set (map rank_in entries) k (rank_in o)) (sym here) ∙ ap (set (map rank_in entries) k) (sym (part_at rank_in entries k None)) ∙ set_itself (map rank_in entries) k 0
-          ∙ ap (λ (o : Option (Stored A)). change_rank o (map rank_in entries) k x) (sym (part_at node_in entries k None ∙ ap node_in here))
-      go (Some e) here = ap (λ (o : Option (Stored A)). change_rank o (map rank_in entries) k x) (sym (part_at node_in entries k None ∙ ap node_in here))
+          ap (λ (o : Option (Entry A)). set (map footing_in entries) k (footing_in o)) (sym here) ∙ ap (set (map footing_in entries) k) (sym (part_at footing_in entries k None)) ∙ set_itself (map footing_in entries) k no_footing
+          ∙ ap (λ (o : Option (Stored A)). change_footing f o (map footing_in entries) k) (sym (part_at node_in entries k None ∙ ap node_in here))
+      go (Some e) here =
+          ap (λ x. set (map footing_in entries) k (f x)) (sym (part_at footing_in entries k None ∙ ap footing_in here))
+          ∙ ap (λ (o : Option (Stored A)). change_footing f o (map footing_in entries) k) (sym (part_at node_in entries k None ∙ ap node_in here))
 
   pub changed_params : (x : Option ℕ) (s t : Slab (Entry A)) (k : ℕ) → t ≡ record s { slots = change_entry (params_set x) s.slots k } → table_of t ≡ record (table_of s) { param_runs = change_run (slot_at (table_of s).slots k) (table_of s).param_runs k x }
   changed_params x s t k is =
       ap (λ (y : Slab (Entry A)). table_of y) is
-      ∙ ap₂ (λ (y : List (Option (Stored A))) (r : List ℕ). record (table_of s) { slots = y; ranks = r; param_runs = map param_run_in (change_entry (params_set x) s.slots k); kid_runs = map kid_run_in (change_entry (params_set x) s.slots k) })
-      (part_stays node_in (params_set x) (λ e. refl) s.slots k) (part_stays rank_in (params_set x) (λ e. refl) s.slots k)
+      ∙ ap₂ (λ (y : List (Option (Stored A))) (r : List Footing). record (table_of s) { slots = y; footings = r; param_runs = map param_run_in (change_entry (params_set x) s.slots k); kid_runs = map kid_run_in (change_entry (params_set x) s.slots k) })
+      (part_stays node_in (params_set x) (λ e. refl) s.slots k) (part_stays footing_in (params_set x) (λ e. refl) s.slots k)
       ∙ ap₂ (λ p q. record (table_of s) { param_runs = p; kid_runs = q }) (run_set param_run_in (params_set x) x (λ e. refl) refl s.slots k) (part_stays kid_run_in (params_set x) (λ e. refl) s.slots k)
 
   pub changed_kids : (x : Option ℕ) (s t : Slab (Entry A)) (k : ℕ) → t ≡ record s { slots = change_entry (kids_set x) s.slots k } → table_of t ≡ record (table_of s) { kid_runs = change_run (slot_at (table_of s).slots k) (table_of s).kid_runs k x }
   changed_kids x s t k is =
       ap (λ (y : Slab (Entry A)). table_of y) is
-      ∙ ap₂ (λ (y : List (Option (Stored A))) (r : List ℕ). record (table_of s) { slots = y; ranks = r; param_runs = map param_run_in (change_entry (kids_set x) s.slots k); kid_runs = map kid_run_in (change_entry (kids_set x) s.slots k) })
-      (part_stays node_in (kids_set x) (λ e. refl) s.slots k) (part_stays rank_in (kids_set x) (λ e. refl) s.slots k)
+      ∙ ap₂ (λ (y : List (Option (Stored A))) (r : List Footing). record (table_of s) { slots = y; footings = r; param_runs = map param_run_in (change_entry (kids_set x) s.slots k); kid_runs = map kid_run_in (change_entry (kids_set x) s.slots k) })
+      (part_stays node_in (kids_set x) (λ e. refl) s.slots k) (part_stays footing_in (kids_set x) (λ e. refl) s.slots k)
       ∙ ap₂ (λ p q. record (table_of s) { param_runs = p; kid_runs = q }) (part_stays param_run_in (kids_set x) (λ e. refl) s.slots k) (run_set kid_run_in (kids_set x) x (λ e. refl) refl s.slots k)
 
-  pub changed_rank : (x : ℕ) (s t : Slab (Entry A)) (k : ℕ) → t ≡ record s { slots = change_entry (rank_set x) s.slots k } → table_of t ≡ record (table_of s) { ranks = change_rank (slot_at (table_of s).slots k) (table_of s).ranks k x }
-  changed_rank x s t k is =
+  pub changed_footing : (f : Footing → Footing) (s t : Slab (Entry A)) (k : ℕ) → t ≡ record s { slots = change_entry (footing_set f) s.slots k } → table_of t ≡ record (table_of s) { footings = change_footing f (slot_at (table_of s).slots k) (table_of s).footings k }
+  changed_footing f s t k is =
       ap (λ (y : Slab (Entry A)). table_of y) is
-      ∙ ap₂ (λ (y : List (Option (Stored A))) (r : List ℕ). record (table_of s) { slots = y; ranks = r; param_runs = map param_run_in (change_entry (rank_set x) s.slots k); kid_runs = map kid_run_in (change_entry (rank_set x) s.slots k) })
-      (part_stays node_in (rank_set x) (λ e. refl) s.slots k) (rank_changed x s.slots k)
-      ∙ ap₂ (λ p q. record (table_of s) { ranks = change_rank (slot_at (table_of s).slots k) (table_of s).ranks k x; param_runs = p; kid_runs = q }) (part_stays param_run_in (rank_set x) (λ e. refl) s.slots k) (part_stays kid_run_in (rank_set x) (λ e. refl) s.slots k)
+      ∙ ap₂ (λ (y : List (Option (Stored A))) (r : List Footing). record (table_of s) { slots = y; footings = r; param_runs = map param_run_in (change_entry (footing_set f) s.slots k); kid_runs = map kid_run_in (change_entry (footing_set f) s.slots k) })
+      (part_stays node_in (footing_set f) (λ e. refl) s.slots k) (footing_changed f s.slots k)
+      ∙ ap₂ (λ p q. record (table_of s) { footings = change_footing f (slot_at (table_of s).slots k) (table_of s).footings k; param_runs = p; kid_runs = q }) (part_stays param_run_in (footing_set f) (λ e. refl) s.slots k) (part_stays kid_run_in (footing_set f) (λ e. refl) s.slots k)
 
   -- what was read at a run's place
   pub run_was : (part : Option (Entry A) → Option ℕ) (s : Slab (Entry A)) (k : ℕ) (x : Option ℕ) → run_before (get s k) (part (get s k)) x ≡ run_before (slot_at (table_of s).slots k) (get_or (map part s.slots) k (part None)) x
@@ -162,15 +170,15 @@ module _ {A : Type 0} where
     other_slots = λ j ne. slot_is t j ∙ ap node_in (up.others j ne) ∙ sym (slot_is s j);
     other_params = λ j ne. part_at param_run_in t.slots j None ∙ ap param_run_in (up.others j ne) ∙ sym (part_at param_run_in s.slots j None);
     other_kids = λ j ne. part_at kid_run_in t.slots j None ∙ ap kid_run_in (up.others j ne) ∙ sym (part_at kid_run_in s.slots j None);
-    other_ranks = λ j ne. part_at rank_in t.slots j None ∙ ap rank_in (up.others j ne) ∙ sym (part_at rank_in s.slots j None);
+    other_footings = λ j ne. part_at footing_in t.slots j None ∙ ap footing_in (up.others j ne) ∙ sym (part_at footing_in s.slots j None);
   }
 
   -- an entry was removed, if there was one
-  pub removed : (s t : Slab (Entry A)) (k : ℕ) (r : Option (Entry A)) → r ≡ get s k → OnSome r (t.slots ≡ set s.slots k None) → IfNone r (t ≡ s) → t.capacity ≡ s.capacity → table_of t ≡ record { slots = set (map node_in s.slots) k None; param_runs = set (map param_run_in s.slots) k None; kid_runs = set (map kid_run_in s.slots) k None; ranks = set (map rank_in s.slots) k 0; next = t.vacant_key; capacity = s.capacity }
+  pub removed : (s t : Slab (Entry A)) (k : ℕ) (r : Option (Entry A)) → r ≡ get s k → OnSome r (t.slots ≡ set s.slots k None) → IfNone r (t ≡ s) → t.capacity ≡ s.capacity → table_of t ≡ record { slots = set (map node_in s.slots) k None; param_runs = set (map param_run_in s.slots) k None; kid_runs = set (map kid_run_in s.slots) k None; footings = set (map footing_in s.slots) k no_footing; next = t.vacant_key; capacity = s.capacity }
   removed s t k r is some none same =
-      ap₂ (λ (xs : List (Option (Entry A))) c. record { slots = map node_in xs; param_runs = map param_run_in xs; kid_runs = map kid_run_in xs; ranks = map rank_in xs; next = t.vacant_key; capacity = c }) (cleared r refl) same
-      ∙ ap₂ (λ (x : List (Option (Stored A))) y. record { slots = x; param_runs = y; kid_runs = map kid_run_in (set s.slots k None); ranks = map rank_in (set s.slots k None); next = t.vacant_key; capacity = s.capacity }) (map-set node_in s.slots k None) (map-set param_run_in s.slots k None)
-      ∙ ap₂ (λ x y. record { slots = set (map node_in s.slots) k None; param_runs = set (map param_run_in s.slots) k None; kid_runs = x; ranks = y; next = t.vacant_key; capacity = s.capacity }) (map-set kid_run_in s.slots k None) (map-set rank_in s.slots k None)
+      ap₂ (λ (xs : List (Option (Entry A))) c. record { slots = map node_in xs; param_runs = map param_run_in xs; kid_runs = map kid_run_in xs; footings = map footing_in xs; next = t.vacant_key; capacity = c }) (cleared r refl) same
+      ∙ ap₂ (λ (x : List (Option (Stored A))) y. record { slots = x; param_runs = y; kid_runs = map kid_run_in (set s.slots k None); footings = map footing_in (set s.slots k None); next = t.vacant_key; capacity = s.capacity }) (map-set node_in s.slots k None) (map-set param_run_in s.slots k None)
+      ∙ ap₂ (λ x y. record { slots = set (map node_in s.slots) k None; param_runs = set (map param_run_in s.slots) k None; kid_runs = x; footings = y; next = t.vacant_key; capacity = s.capacity }) (map-set kid_run_in s.slots k None) (map-set footing_in s.slots k None)
     where
       cleared : (o : Option (Entry A)) → r ≡ o → t.slots ≡ set s.slots k None
       cleared (Some e) here = subst (λ (o : Option (Entry A)). OnSome o (t.slots ≡ set s.slots k None)) here some

@@ -1,5 +1,5 @@
 -- The complete levels of a forest, as a view tells them.
-use Rattle.std.proofs.Common.{◌≡◌, ◌⊎◌, ◌+◌, ◌<◌, ◌≤◌, ◌^◌, ℕ, zero, suc, Bool, true, false, List, [], ◌∷◌, ◌++◌, length, slice_get, Option, Some, None, refl, sym, ap, ◌∙◌, arith, inl, inr, subst, append_assoc}
+use Rattle.std.proofs.Common.{◌≡◌, ◌⊎◌, ◌+◌, ◌<◌, ◌≤◌, ◌^◌, ℕ, zero, suc, Bool, true, false, List, [], ◌∷◌, ◌++◌, length, slice_get, Option, Some, None, refl, sym, ap, ap₂, ◌∙◌, arith, inl, inr, subst, append_assoc}
 use Rattle.std.specs.Prelude.{option_map, cond, MatchOption}
 use Rattle.std.proofs.lemmas.List.{length-map, length_push}
 use Rattle.std.proofs.lemmas.Option.{none-some, same_Some, slice_get-map, slice_get_within}
@@ -13,7 +13,7 @@ use Rattle.lsys_forest.specs.Mates.{IsBracketThat, IsMateThat, seen_level, mate_
 use Rattle.lsys_level.specs.Spots.{Seen, Push, Pop, Spotted, IsBracket, IsBracketAt, IsMate, level_at, spotted_at, level_by, IsSpot}
 use Rattle.lsys_level.specs.Tags.{HasOwnTags}
 use Rattle.lsys_forest.specs.declared.walk.Way.TheVariants.{Left, Right}
-use Rattle.lsys_forest.specs.Nodes.{Node, seen_as}
+use Rattle.lsys_forest.specs.Nodes.{Nodes, Node, seen_as}
 use Rattle.lsys_forest.specs.Changes.{Change}
 use Rattle.lsys_forest.specs.Groves.{Grove, In, AreApart, now_of, changes_in, IsSound}
 use Rattle.lsys_forest.specs.Rows.{first_in, index_in, mirrored, oriented, complete_from, depth_in, spot_in, level_nodes, level_spots, complete_levels, level_of_node, place_of_node, AreBalancedTo, IsSpotAt}
@@ -146,6 +146,11 @@ module _ {A : Type 0} where
 
   long_level : (f : Grove A) (t : ℕ) → IsTold (level_spots (now_of f) f.root) t (level_at (complete_levels f) t) → length (level_at (complete_levels f) t) ≡ length (level_nodes (now_of f) f.root t)
   long_level f t tells = ap length tells.is ∙ length-map (level_nodes (now_of f) f.root t) (λ i. spot_in i (now_of f i))
+
+  -- the levels are those of the nodes and the root
+  pub levels_by : (old new : Grove A) → now_of new ≡ now_of old → new.root ≡ old.root → complete_levels new ≡ complete_levels old
+  unfolding complete_levels
+  levels_by old new now root = ap₂ (λ (m : Nodes A) r. complete_from (level_spots m r) (2 ^ 32) 0) now root
 
   -- 2. the law of spots
 

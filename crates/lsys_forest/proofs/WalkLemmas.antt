@@ -7,6 +7,7 @@ use Rattle.lsys_forest.specs.declared.walk.Way.TheVariants as ways
 use Rattle.lsys_forest.specs.Nodes.{Node, Nodes}
 use Rattle.lsys_forest.specs.Changes.{Change}
 use Rattle.lsys_forest.specs.Groves.{In, AreApart, IsSound}
+use Rattle.lsys_forest.specs.declared.node.Footing.{Footing}
 use Rattle.lsys_forest.specs.Slots.{rank_at}
 use Rattle.lsys_forest.specs.Ranks.{AreRanked}
 use Rattle.lsys_forest.specs.Rows.{first_in, last_in, index_in, oriented, mirrored, flat, kids_in, kids_that_way, kids_below, level_nodes}
@@ -101,7 +102,7 @@ pub no_first : (xs : List ℕ) → first_in xs ≡ None → xs ≡ []
 no_first [] e = refl
 no_first (x ∷ xs) e = absurd (none-some x (sym e))
 
-first_split : (xs : List ℕ) (x : ℕ) → first_in xs ≡ Some x → (rest : List ℕ) × (xs ≡ x ∷ rest)
+pub first_split : (xs : List ℕ) (x : ℕ) → first_in xs ≡ Some x → (rest : List ℕ) × (xs ≡ x ∷ rest)
 first_split [] x e = absurd (none-some x e)
 first_split (y ∷ xs) x e = (xs, ap (λ z. z ∷ xs) (same_Some y x e))
 
@@ -144,7 +145,7 @@ left_on O apart passed q (r ∷ ahead) next whole e =
 
 module _ {A : Type 0} where
   -- a child stands where its rank says
-  pub ranked_at : (k p : ℕ) (m : Nodes A) (at : List ℕ) (rank : ℕ) → AreRanked m at → In k (kids_in (m p)) → rank ≡ rank_at at k → slice_get (kids_in (m p)) rank ≡ Some k
+  pub ranked_at : (k p : ℕ) (m : Nodes A) (at : List Footing) (rank : ℕ) → AreRanked m at → In k (kids_in (m p)) → rank ≡ rank_at at k → slice_get (kids_in (m p)) rank ≡ Some k
   ranked_at k p m at rank ranked among reads = go (m p) refl among
     where
       go : (o : Option (Node A)) → m p ≡ o → In k (kids_in o) → slice_get (kids_in o) rank ≡ Some k

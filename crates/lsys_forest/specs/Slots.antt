@@ -4,22 +4,49 @@ use Rattle.slab.specs.Slab.{Slab}
 use Rattle.lsys_forest.specs.Shelves.{run_at}
 use Rattle.lsys_forest.specs.declared.node.Kind.{Kind}
 use Rattle.lsys_forest.specs.declared.node.Stored.{Stored}
+use Rattle.lsys_forest.specs.declared.node.Footing.{Footing}
 use Rattle.lsys_forest.specs.declared.node.Entry.{Entry}
+use Rattle.lsys_forest.specs.declared.walk.Way.{Way}
+use Rattle.lsys_forest.specs.declared.walk.Way.TheVariants.{Left, Right}
 
--- By number: the nodes, the runs of their parameters and of their children, and their ranks. Where no node is, the runs are
--- those of empty lists, and the rank is 0. Then the number that is given out next, and how many nodes there may be with no
+-- By number: the nodes, the runs of their parameters and of their children, and where they stand among others. Where no node
+-- is, the runs are those of empty lists, and the footing is that of a node with no others. Then the number that is given out next, and how many nodes there may be with no
 -- memory taken.
 pub record SlotTable (A : Type 0) : Type 0 where
   pub slots : List (Option (Stored A))
   pub param_runs : List (Option ℕ)
   pub kid_runs : List (Option ℕ)
-  pub ranks : List ℕ
+  pub footings : List Footing
   pub next : ℕ
   pub capacity : ℕ
 
+-- where a node stands that has no others
+abbrev pub no_footing : Footing
+no_footing = record { rank = 0; left = None; right = None }
+
+abbrev pub footing_at : List Footing → ℕ → Footing
+footing_at footings k = slice_index_or footings k no_footing
+
 -- the rank at a number
-abbrev pub rank_at : List ℕ → ℕ → ℕ
-rank_at ranks k = slice_index_or ranks k 0
+abbrev pub rank_at : List Footing → ℕ → ℕ
+rank_at footings k = (footing_at footings k).rank
+
+-- the neighbour that a footing names, that way
+abbrev pub link_in : Way → Footing → Option ℕ
+link_in Left f = f.left
+link_in Right f = f.right
+
+abbrev pub link_at : Way → List Footing → ℕ → Option ℕ
+link_at way footings k = link_in way (footing_at footings k)
+
+abbrev pub rank_set : ℕ → Footing → Footing
+rank_set x f = record f { rank = x }
+
+abbrev pub right_set : Option ℕ → Footing → Footing
+right_set x f = record f { right = x }
+
+abbrev pub links_set : Option ℕ → Option ℕ → Footing → Footing
+links_set left right f = record f { left = left; right = right }
 
 -- a run where a node is, or this one where none is
 abbrev pub run_before : {X : Type 0} → Option X → Option ℕ → Option ℕ → Option ℕ
@@ -36,10 +63,10 @@ abbrev pub change_run : {X : Type 0} → Option X → List (Option ℕ) → ℕ 
 change_run None runs k x = runs
 change_run (Some s) runs k x = slice_set runs k x
 
--- the rank at a number is another one, if a node is there
-abbrev pub change_rank : {X : Type 0} → Option X → List ℕ → ℕ → ℕ → List ℕ
-change_rank None ranks k x = ranks
-change_rank (Some s) ranks k x = slice_set ranks k x
+-- the footing at a number was changed, if a node is there
+abbrev pub change_footing : {X : Type 0} → (Footing → Footing) → Option X → List Footing → ℕ → List Footing
+change_footing f None footings k = footings
+change_footing f (Some s) footings k = slice_set footings k (f (footing_at footings k))
 
 module _ {A : Type 0} where
   -- the node with this number
@@ -81,13 +108,13 @@ module _ {A : Type 0} where
   kid_run_in None = None
   kid_run_in (Some e) = e.kids
 
-  abbrev pub rank_in : Option (Entry A) → ℕ
-  rank_in None = 0
-  rank_in (Some e) = e.rank
+  abbrev pub footing_in : Option (Entry A) → Footing
+  footing_in None = no_footing
+  footing_in (Some e) = e.footing
 
   -- the entries of a slab, part by part
   abbrev pub table_of : Slab (Entry A) → SlotTable A
-  table_of s = record { slots = map node_in s.slots; param_runs = map param_run_in s.slots; kid_runs = map kid_run_in s.slots; ranks = map rank_in s.slots; next = s.vacant_key; capacity = s.capacity }
+  table_of s = record { slots = map node_in s.slots; param_runs = map param_run_in s.slots; kid_runs = map kid_run_in s.slots; footings = map footing_in s.slots; next = s.vacant_key; capacity = s.capacity }
 
   -- the entry at a number was changed, if there is one
   abbrev pub change_entry : (Entry A → Entry A) → List (Option (Entry A)) → ℕ → List (Option (Entry A))
@@ -102,8 +129,8 @@ module _ {A : Type 0} where
   abbrev pub kids_set : Option ℕ → Entry A → Entry A
   kids_set x e = record e { kids = x }
 
-  abbrev pub rank_set : ℕ → Entry A → Entry A
-  rank_set x e = record e { rank = x }
+  abbrev pub footing_set : (Footing → Footing) → Entry A → Entry A
+  footing_set f e = record e { footing = f e.footing }
 
   -- an entry was put at a number, and all others stay
   pub record Puts (old new : SlotTable A) (k : ℕ) (e : Entry A) : Type 0 where
@@ -113,7 +140,7 @@ module _ {A : Type 0} where
     pub other_slots : (j : ℕ) → j ≢ k → slot_at new.slots j ≡ slot_at old.slots j
     pub other_params : (j : ℕ) → j ≢ k → run_at new.param_runs j ≡ run_at old.param_runs j
     pub other_kids : (j : ℕ) → j ≢ k → run_at new.kid_runs j ≡ run_at old.kid_runs j
-    pub other_ranks : (j : ℕ) → j ≢ k → rank_at new.ranks j ≡ rank_at old.ranks j
+    pub other_footings : (j : ℕ) → j ≢ k → footing_at new.footings j ≡ footing_at old.footings j
 
   -- this entry stands at a number, if there is one
   pub record StandsAt (t : SlotTable A) (k : ℕ) (e : Option (Entry A)) : Type 0 where

@@ -2,25 +2,26 @@
 use Rattle.std.specs.Prelude.{◌≡◌, ◌≢◌, ℕ, ℤ, ◌+◌, ◌≤◌, List, [], ◌∷◌, ◌++◌, length, map, min, Option, Some, None, IsSome, slice_index_or, slice_set, option_map}
 use Rattle.lsys_region.specs.Rooms.{list_room}
 use Rattle.lsys_forest.specs.declared.node.Stored.{Stored}
+use Rattle.lsys_forest.specs.declared.node.Footing.{Footing}
 use Rattle.lsys_forest.specs.declared.note.Note.{Note}
 use Rattle.lsys_forest.specs.declared.note.Was.{Was}
 use Rattle.lsys_forest.specs.declared.note.Was.TheVariants as was
 use Rattle.lsys_forest.specs.Shelves.{Shelf, Hoard, shown, IsOwner}
 use Rattle.lsys_forest.specs.declared.note.Look.{Look}
 use Rattle.lsys_forest.specs.declared.note.Look.TheVariants as look
-use Rattle.lsys_forest.specs.Slots.{SlotTable, slot_at, rank_at, live_slots, change_slot, kind_set, key_set, answer_set, answer_before}
+use Rattle.lsys_forest.specs.Slots.{SlotTable, slot_at, no_footing, footing_at, live_slots, change_slot, kind_set, key_set, answer_set, answer_before}
 use Rattle.lsys_forest.specs.Nodes.{Node, Nodes, put, seen_as}
 use Rattle.lsys_forest.specs.Answers.{answer_of}
 use Rattle.std.specs.Option.{option_and_then}
 use Rattle.lsys_forest.specs.Changes.{Before, Missing, OldSeen, OldKey, OldKids, OldAnswer, Change, undo}
 
--- Nodes without parameters and children, these beside them by number, and their ranks; notes without lists, these in turn; the
+-- Nodes without parameters and children, these beside them by number, and where they stand; notes without lists, these in turn; the
 -- list in hand; and how much room there is for nodes, for notes, and for lists.
 pub record Stock (A : Type 0) : Type 0 where
   pub slots : List (Option (Stored A))
   pub params : List (List ℤ)
   pub kids : List (List ℕ)
-  pub ranks : List ℕ
+  pub footings : List Footing
   pub notes : List (Note A)
   pub past_params : List (List ℤ)
   pub past_kids : List (List ℕ)
@@ -151,7 +152,7 @@ module _ {A : Type 0} where
     slots = t.slots;
     params = map (shown p.pool) t.param_runs;
     kids = map (shown q.pool) t.kid_runs;
-    ranks = t.ranks;
+    footings = t.footings;
     notes = notes;
     past_params = map (shown p.pool) p.past;
     past_kids = map (shown q.pool) q.past;
@@ -168,9 +169,9 @@ module _ {A : Type 0} where
     pub kids : IsOwner q t.kid_runs
     pub stock : IsStock notes (map (shown p.pool) p.past) (map (shown q.pool) q.past)
 
-  -- each of these nodes has its rank still
-  abbrev pub KeepsRanks : Nodes A → Stock A → Stock A → Type 0
-  KeepsRanks m old new = (j : ℕ) → IsSome (m j) → rank_at new.ranks j ≡ rank_at old.ranks j
+  -- each of these nodes stands among others as it stood
+  abbrev pub KeepsFootings : Nodes A → Stock A → Stock A → Type 0
+  KeepsFootings m old new = (j : ℕ) → IsSome (m j) → footing_at new.footings j ≡ footing_at old.footings j
 
   -- The node at a number became this one, or is no more, and a note tells what it was before; so many nodes more live, and
   -- the rooms for lists fell by no more than this.
@@ -184,7 +185,7 @@ module _ {A : Type 0} where
     pub param_room : old.param_room ≤ new.param_room + params
     pub kid_room : old.kid_room ≤ new.kid_room + kids
     pub hand : new.hand ≡ old.hand
-    pub ranks : KeepsRanks (nodes_of old) old new
+    pub footings : KeepsFootings (nodes_of old) old new
 
   -- there is room as before
   pub record KeepsRoom (old new : Stock A) : Type 0 where
@@ -242,10 +243,10 @@ module _ {A : Type 0} where
   UndoesKids was.Kids s k old new = Restores s k old new
   UndoesKids w s k old new = new ≡ old
 
-  -- what it does to the ranks
-  abbrev pub undone_ranks : Was A → ℕ → List ℕ → List ℕ
-  undone_ranks was.Missing k ranks = slice_set ranks k 0
-  undone_ranks w k ranks = ranks
+  -- what it does to the footings
+  abbrev pub undone_footings : Was A → ℕ → List Footing → List Footing
+  undone_footings was.Missing k footings = slice_set footings k no_footing
+  undone_footings w k footings = footings
 
   -- the answer that is kept no more when this is undone, where such a slot is
   abbrev pub slot_answer : Stored A → Option A
@@ -289,7 +290,7 @@ module _ {A : Type 0} where
     pub nodes : nodes_of new ≡ nodes_of old
     pub live : live_slots new.slots ≡ live_slots old.slots
     pub looks : named_by look new.hand ≡ looked last
-    pub ranks : new.ranks ≡ old.ranks
+    pub footings : new.footings ≡ old.footings
 
   -- after a node was removed, whose children a commit has to look at
   pub record Removes (old new : Stock A) (k : ℕ) (n : Node A) : Type 0 where
@@ -299,4 +300,4 @@ module _ {A : Type 0} where
     pub live : live_slots new.slots + 1 ≡ live_slots old.slots
     pub room : KeepsRoom old new
     pub hand : new.hand ≡ old.hand
-    pub ranks : (j : ℕ) → j ≢ k → rank_at new.ranks j ≡ rank_at old.ranks j
+    pub footings : (j : ℕ) → j ≢ k → footing_at new.footings j ≡ footing_at old.footings j

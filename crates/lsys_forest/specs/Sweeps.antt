@@ -1,6 +1,7 @@
 -- How the nodes that are reached no more are removed.
 use Rattle.std.specs.Prelude.{◌≡◌, ◌≢◌, ◌⊎◌, ◌+◌, ◌≤◌, ℕ, List, [], length, Some, None, IsSome}
-use Rattle.lsys_forest.specs.Slots.{live_slots}
+use Rattle.lsys_forest.specs.declared.node.Footing.{Footing}
+use Rattle.lsys_forest.specs.Slots.{footing_at, live_slots}
 use Rattle.lsys_forest.specs.Nodes.{Node, Nodes}
 use Rattle.lsys_forest.specs.Changes.{Change}
 use Rattle.lsys_forest.specs.Stocks.{Stock, nodes_of, changes_of, KeepsRoom}
@@ -8,27 +9,28 @@ use Rattle.lsys_forest.specs.Ranks.{AreRanked}
 use Rattle.lsys_forest.specs.Groves.{In, Reached, Named, IsSound}
 
 module _ {A : Type 0} where
-  -- the parent lives and has the node among its children
-  pub record IsLinked (m : Nodes A) (k : ℕ) (n : Node A) : Type 0 where
+  -- the node is fast: its parent lives, and has it among its children
+  pub record IsFast (m : Nodes A) (k : ℕ) (n : Node A) : Type 0 where
     pub parent : Node A
     pub is : m n.parent ≡ Some parent
     pub among : In k parent.kids
 
   -- What a commit keeps true while it removes nodes from `first`: none that is reached was removed, and each other that is
-  -- left and not linked is among `left`, or a change names it. The children of a node that is left are left.
+  -- left and not fast is among `left`, or a change names it. The children of a node that is left are left.
   pub record IsSwept (first : Nodes A) (root : ℕ) (m : Nodes A) (changes : List (Change A)) (left : List ℕ) : Type 0 where
     pub same : (k : ℕ) → (m k ≡ first k) ⊎ ((m k ≡ None) × (Reached first root k → ⊥))
-    pub cover : (k : ℕ) (n : Node A) → m k ≡ Some n → k ≢ root → IsLinked m k n ⊎ In k left ⊎ Named changes k
+    pub cover : (k : ℕ) (n : Node A) → m k ≡ Some n → k ≢ root → IsFast m k n ⊎ In k left ⊎ Named changes k
     pub kids : (p k : ℕ) (n : Node A) → m p ≡ Some n → In k n.kids → IsSome (m k)
 
-  -- the same, with the ranks of the nodes that are left
-  pub record IsSweptOf (first : Nodes A) (root : ℕ) (t : Stock A) (left : List ℕ) : Type 0 where
+  -- the same, and each node that is left stands as it stood
+  pub record IsSweptOf (first : Nodes A) (stood : List Footing) (root : ℕ) (t : Stock A) (left : List ℕ) : Type 0 where
     pub swept : IsSwept first root (nodes_of t) (changes_of t) left
-    pub ranked : AreRanked (nodes_of t) t.ranks
+    pub ranked : AreRanked (nodes_of t) t.footings
+    pub stands : (j : ℕ) → IsSome (nodes_of t j) → footing_at t.footings j ≡ footing_at stood j
 
   -- the nodes in `left` were looked at, whatever the forest was first
   abbrev pub SweepsLeft : ℕ → Stock A → Stock A → List ℕ → Type 0
-  SweepsLeft root old new left = (first : Nodes A) (before : List (Change A)) → IsSound root before first → IsSweptOf first root old left → IsSweptOf first root new []
+  SweepsLeft root old new left = (first : Nodes A) (before : List (Change A)) (stood : List Footing) → IsSound root before first → IsSweptOf first stood root old left → IsSweptOf first stood root new []
 
   -- a node that is removed makes place for the change that tells its children
   pub record KeepsPlaces (old new : Stock A) : Type 0 where

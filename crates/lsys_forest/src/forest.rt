@@ -11,10 +11,11 @@ ghost use Rattle.lsys_forest.specs.Stocks.{nodes_of, changes_of, KeepsRoom, Undo
 ghost use Rattle.lsys_forest.specs.Answers.{answers, kept_by, IsMade, Releases, AreMade, Follows, FreesAllBut};
 ghost use Rattle.lsys_forest.specs.Rows.{first_in, last_in, oriented, flat, kids_that_way, kids_below, complete_levels, level_of_node, place_of_node, IsAtSpot, level_with};
 ghost use Rattle.lsys_forest.specs.Mates.{mate_way};
-ghost use Rattle.lsys_forest.specs.Ranks.{AreRanked};
+ghost use Rattle.lsys_forest.specs.Ranks.{AreRanked, AreLinked};
 ghost use Rattle.lsys_forest.specs.Groves.{now_of, rest_of, IsAtRest, IsLive, live_nodes, numbers_in, spare_params, spare_kids, kept_in, changes_in, IsSound, AreSound, Reached, AreKids, Sets, Spends, KeepsSpares};
 
 use crate::kept::Kept;
+use crate::link::link_levels;
 use crate::node::{Kind, NodeId};
 use crate::seen::is_seen;
 use crate::stock::Parts;
@@ -30,13 +31,15 @@ use std::marker::Model;
 pub struct Forest<A> {
     parts: Parts<A>,
     root: NodeId,
+    /// How many levels, from the first one on, have their nodes linked to their neighbours.
+    linked: u32,
     spare_nodes: usize,
     spare_notes: usize,
 }
 
 impl<A> Model for Forest<A> {
     ghost use Rattle.lsys_forest.specs.Groves.{Grove, IsGrove};
-    ghost use Rattle.lsys_forest.specs.Ranks.{AreRanked};
+    ghost use Rattle.lsys_forest.specs.Ranks.{AreRanked, AreLinked};
     ghost use Rattle.lsys_forest.specs.Stocks.{nodes_of};
 
     ghost Value = { Grove A };
@@ -45,7 +48,8 @@ impl<A> Model for Forest<A> {
 
     ghost invariant = { λ a. record {
       grove : IsGrove a.parts a.root a.spare_nodes a.spare_notes;
-      ranked : AreRanked (nodes_of a.parts) a.parts.ranks;
+      ranked : AreRanked (nodes_of a.parts) a.parts.footings;
+      linked : AreLinked (nodes_of a.parts) a.root a.parts.footings a.linked;
     } };
 }
 
@@ -65,6 +69,7 @@ impl<A: Kept> Forest<A> {
         Ok(Forest {
             parts,
             root: NodeId(0),
+            linked: 0,
             spare_nodes: 0,
             spare_notes: 0,
         })
@@ -136,6 +141,7 @@ impl<A: Kept> Forest<A> {
           kids = [];
           answer = None;
         }) }
+        ensures kept { kept_in self.new ≡ kept_in self.old }
         ensures spends { Spends self.old self.new 1 (list_room (params_in symbol.now)) 0 1 }
     {
         let depth = match self.parts.get(parent) {
@@ -155,11 +161,13 @@ impl<A: Kept> Forest<A> {
         requires notes { 0 < self.old.spare_notes }
         requires room { list_room kids.now ≤ spare_kids self.old }
         ensures set { (n : Node A) → now_of self.old node ≡ Some n → Sets self.old self.new node (with_kids kids.now n) }
+        ensures kept { kept_in self.new ≡ kept_in self.old }
         ensures spends { Spends self.old self.new 0 0 (list_room kids.now) 1 }
     {
         self.spare_notes -= 1;
         self.parts.set_kids(node, kids);
         self.parts.rerank(node);
+        self.linked = self.linked.min(self.parts.depth(node));
     }
 
     /// Sets the symbol of a node that is not the root. Nothing else changes. It takes no memory.
@@ -171,6 +179,7 @@ impl<A: Kept> Forest<A> {
         requires room { list_room (params_in symbol.now) ≤ spare_params self.old }
         ensures set { (n : Node A) → now_of self.old node ≡ Some n
             → Sets self.old self.new node (with_seen (seen_in symbol.now) n) }
+        ensures kept { kept_in self.new ≡ kept_in self.old }
         ensures spends { Spends self.old self.new 0 (list_room (params_in symbol.now)) 0 1 }
     {
         self.spare_notes -= 1;
@@ -183,6 +192,7 @@ impl<A: Kept> Forest<A> {
         requires other { node ≢ self.old.root }
         requires notes { 0 < self.old.spare_notes }
         ensures set { (n : Node A) → now_of self.old node ≡ Some n → Sets self.old self.new node (with_key key n) }
+        ensures kept { kept_in self.new ≡ kept_in self.old }
         ensures spends { Spends self.old self.new 0 0 0 1 }
     {
         self.spare_notes -= 1;
@@ -204,10 +214,27 @@ impl<A: Kept> Forest<A> {
         self.parts.set_answer(node, answer);
     }
 
-    /// The root. A forest is sound: its nodes hang together under the root.
+    /// Links the nodes of the levels up to this one to their neighbours, where they aren't linked yet: a step along a linked
+    /// level is one look, and no climb. Children that are set, now or by a rollback, unlink the level that they are on and
+    /// those below. What a call answers doesn't depend on links, nor what it needs. It takes no memory.
+    pub fn link(&mut self, level: u32)
+        ensures now { now_of self.new ≡ now_of self.old }
+        ensures changes { changes_in self.new ≡ changes_in self.old }
+        ensures rest { rest_of self.new ≡ rest_of self.old }
+        ensures root { self.new.root ≡ self.old.root }
+        ensures levels { complete_levels self.new ≡ complete_levels self.old }
+        ensures spends { Spends self.old self.new 0 0 0 0 }
+        ensures spares { KeepsSpares self.old self.new }
+    {
+        let levels = level.saturating_add(1);
+        self.linked = link_levels(&mut self.parts, self.root, self.linked, levels);
+    }
+
+    /// The root. A forest is sound: its nodes hang together under the root, and did so at any time since the last rest.
     pub fn root(&self) -> NodeId
         ensures root { result ≡ self.now.root }
         ensures sound { IsSound self.now.root (changes_in self.now) (now_of self.now) }
+        ensures always { AreSound self.now.root (changes_in self.now) (now_of self.now) }
     {
         self.root
     }
@@ -301,7 +328,7 @@ impl<A: Kept> Forest<A> {
         ensures store { FreesAllBut A.run_at A.Holds (kept_in self.old) (kept_by (rest_of self.old)) store.old store.new }
         ensures still { AreMade A.run_at A.Holds store.new (kept_in self.new) }
     {
-        undo_all(&mut self.parts, self.root, store);
+        undo_all(&mut self.parts, self.root, &mut self.linked, store);
     }
 
     /// Keeps the forest as it is, as a rest: the nodes that are reached from the root stay node for node, and all others
@@ -356,7 +383,14 @@ impl<A: Kept> Forest<A> {
             → oriented way (level_with self.now spot) ≡ before ++ spot ∷ after → result ≡ first_in after }
         ensures sound { IsSound self.now.root (changes_in self.now) (now_of self.now) }
     {
-        beside(&self.parts, self.root, spot, self.depth(spot), way)
+        beside(
+            &self.parts,
+            self.root,
+            spot,
+            self.depth(spot),
+            self.linked,
+            way,
+        )
     }
 
     /// The first child of the nodes of a complete level from one of them on, that way.
@@ -366,7 +400,14 @@ impl<A: Kept> Forest<A> {
             → oriented way (level_with self.now spot) ≡ before ++ spot ∷ after
             → result ≡ first_in (flat (kids_that_way way (now_of self.now)) (spot ∷ after)) }
     {
-        first_child(&self.parts, self.root, Some(spot), self.depth(spot), way)
+        first_child(
+            &self.parts,
+            self.root,
+            Some(spot),
+            self.depth(spot),
+            self.linked,
+            way,
+        )
     }
 
     /// How many steps a node of a complete level is below the root.
@@ -393,7 +434,7 @@ impl<A: Kept> LevelView for Forest<A> {
     ghost place_of = { place_of_node };
 
     fn first(&self, level: u32) -> Option<NodeId> {
-        first_at(&self.parts, self.root, level)
+        first_at(&self.parts, self.root, level, self.linked)
     }
 
     fn left(&self, spot: NodeId) -> Option<NodeId> {
@@ -406,7 +447,14 @@ impl<A: Kept> LevelView for Forest<A> {
 
     fn mate(&self, spot: NodeId) -> NodeId {
         let way = way_to_mate(self.parts.kind(spot));
-        mate_of(&self.parts, self.root, spot, self.depth(spot), way)
+        mate_of(
+            &self.parts,
+            self.root,
+            spot,
+            self.depth(spot),
+            self.linked,
+            way,
+        )
     }
 
     fn sight(&self, spot: NodeId) -> Sight<'_> {
@@ -457,33 +505,42 @@ fn room_for<A: Kept>(parts: &mut Parts<A>, nodes: usize, spare: usize) -> usize
 }
 
 /// Undoes each change, the last first.
-fn undo_all<A: Kept>(parts: &mut Parts<A>, root: NodeId, store: &mut A::Store)
+fn undo_all<A: Kept>(parts: &mut Parts<A>, root: NodeId, linked: &mut u32, store: &mut A::Store)
     requires sound { AreSound root (changes_of parts.old) (nodes_of parts.old) }
-    requires ranked { AreRanked (nodes_of parts.old) parts.old.ranks }
+    requires ranked { AreRanked (nodes_of parts.old) parts.old.footings }
+    requires linked { AreLinked (nodes_of parts.old) root parts.old.footings linked.old }
     requires made { AreMade A.run_at A.Holds store.old (answers (nodes_of parts.old) (changes_of parts.old)) }
     ensures nodes { nodes_of parts.new ≡ undone (changes_of parts.old) (nodes_of parts.old) }
     ensures empty { changes_of parts.new ≡ [] }
     ensures short { length parts.new.notes ≡ 0 }
     ensures live { live_slots parts.new.slots ≤ live_slots parts.old.slots }
     ensures room { KeepsRoom parts.old parts.new }
-    ensures ranked { AreRanked (nodes_of parts.new) parts.new.ranks }
+    ensures ranked { AreRanked (nodes_of parts.new) parts.new.footings }
+    ensures linked { AreLinked (nodes_of parts.new) root parts.new.footings linked.new }
     ensures made { AreMade A.run_at A.Holds store.new (answers (nodes_of parts.new) (changes_of parts.new)) }
     ensures freed { Follows A.run_at A.Holds (answers (nodes_of parts.old) (changes_of parts.old)) store.old
         (answers (nodes_of parts.new) (changes_of parts.new)) store.new }
 {
-    while undo_one(parts, root, store) {}
+    while undo_one(parts, root, linked, store) {}
 }
 
 /// Undoes the last change, and tells whether there was one.
-fn undo_one<A: Kept>(parts: &mut Parts<A>, root: NodeId, store: &mut A::Store) -> bool
+fn undo_one<A: Kept>(
+    parts: &mut Parts<A>,
+    root: NodeId,
+    linked: &mut u32,
+    store: &mut A::Store,
+) -> bool
     requires sound { AreSound root (changes_of parts.old) (nodes_of parts.old) }
-    requires ranked { AreRanked (nodes_of parts.old) parts.old.ranks }
+    requires ranked { AreRanked (nodes_of parts.old) parts.old.footings }
+    requires linked { AreLinked (nodes_of parts.old) root parts.old.footings linked.old }
     requires made { (c : Change A) (earlier : List (Change A)) → changes_of parts.old ≡ earlier ++ c ∷ []
         → IsMade A.run_at A.Holds store.old (dropped c (nodes_of parts.old)) }
     ensures undone { IsTrue result → (c : Change A) × Undoes parts.old parts.new c
         × Releases A.run_at A.Holds (dropped c (nodes_of parts.old)) store.old store.new }
     ensures none { result ≡ false → (changes_of parts.old ≡ []) × (parts.new ≡ parts.old) × (store.new ≡ store.old) }
-    ensures ranked { AreRanked (nodes_of parts.new) parts.new.ranks }
+    ensures ranked { AreRanked (nodes_of parts.new) parts.new.footings }
+    ensures linked { AreLinked (nodes_of parts.new) root parts.new.footings linked.new }
 {
     let family = parts.last_family();
     if !parts.undo_last(store) {
@@ -491,6 +548,7 @@ fn undo_one<A: Kept>(parts: &mut Parts<A>, root: NodeId, store: &mut A::Store) -
     }
     if let Some(node) = family {
         parts.rerank(node);
+        *linked = (*linked).min(parts.depth(node));
     }
     true
 }

@@ -8,6 +8,7 @@
 mod forest;
 mod kept;
 mod law;
+mod link;
 mod lists;
 mod node;
 mod note;

@@ -51,14 +51,23 @@ pub(crate) struct Stored<A> {
     pub(crate) answer: Option<A>,
 }
 
-/// A node with the runs of its parameters and of its children, and its place among the children of its parent.
+/// Where a node stands among others.
+#[derive(Clone, Copy, Drop)]
+pub(crate) struct Footing {
+    /// Its place in the list that its parent has, where it is in that list.
+    pub(crate) rank: usize,
+    /// Its neighbours on its level, where the level is linked.
+    pub(crate) left: Option<NodeId>,
+    pub(crate) right: Option<NodeId>,
+}
+
+/// A node with the runs of its parameters and of its children, and where it stands among others.
 #[derive(Drop)]
 pub(crate) struct Entry<A> {
     pub(crate) node: Stored<A>,
     pub(crate) params: Run,
     pub(crate) kids: Run,
-    /// Its place in the list that its parent has, where it is in that list.
-    pub(crate) rank: usize,
+    pub(crate) footing: Footing,
 }
 
 /// The kind of a symbol.

@@ -2,15 +2,17 @@
 ghost use Rattle.std.specs.Prelude.{◌≡◌, ◌≢◌, ◌+◌, ◌<◌, ◌≤◌, ◌^◌, ℕ, [], length, IsSome, None, Some, slice_get, slice_set};
 ghost use Rattle.std.specs.Option.{option_and_then};
 ghost use Rattle.lsys_region.specs.Rooms.{list_room};
+ghost use Rattle.lsys_forest.specs.declared.walk.Way.{Way};
 ghost use Rattle.lsys_forest.specs.Shelves.{shelf_of, IsOwner};
-ghost use Rattle.lsys_forest.specs.Slots.{slot_at, rank_at, live_slots};
+ghost use Rattle.lsys_forest.specs.Slots.{slot_at, footing_at, rank_at, link_at, no_footing, live_slots};
 ghost use Rattle.lsys_forest.specs.Answers.{IsMade, Releases};
 ghost use Rattle.lsys_forest.specs.Stocks.{slot_answer, Adds, Swaps, Restores, Clears};
 ghost use Rattle.lsys_forest.specs.Groves.{In, AreApart};
+ghost use Rattle.lsys_forest.specs.Ranks.{Joins, LinksRow};
 
 use crate::kept::{Kept, release_one};
 use crate::lists::Lists;
-use crate::node::{Entry, NodeId, Stored};
+use crate::node::{Entry, Footing, NodeId, Stored};
 use crate::table::Table;
 
 /// Gives a node these parameters, and puts those that it had behind the past ones. It takes no memory.
@@ -100,7 +102,7 @@ pub(crate) fn insert<A: Drop>(
     ensures vacant { slot_at table.old.slots result ≡ None }
     ensures here { slot_at table.new.slots result ≡ Some node }
     ensures others { (j : ℕ) → j ≢ result → slot_at table.new.slots j ≡ slot_at table.old.slots j }
-    ensures ranks { (j : ℕ) → j ≢ result → rank_at table.new.ranks j ≡ rank_at table.old.ranks j }
+    ensures footings { (j : ℕ) → j ≢ result → footing_at table.new.footings j ≡ footing_at table.old.footings j }
     ensures live { live_slots table.new.slots ≡ live_slots table.old.slots + 1 }
     ensures capacity { table.new.capacity ≡ table.old.capacity }
     ensures params { IsOwner params.new table.new.param_runs }
@@ -112,7 +114,11 @@ pub(crate) fn insert<A: Drop>(
         node,
         params: params.place(list),
         kids: kids.place(&[]),
-        rank: 0,
+        footing: Footing {
+            rank: 0,
+            left: None,
+            right: None,
+        },
     };
     table.insert(entry)
 }
@@ -130,7 +136,7 @@ pub(crate) fn take_out<A: Drop>(
     requires place { length kids.old.past < kids.old.past_places }
     ensures was { slot_at table.old.slots node ≡ Some result }
     ensures slots { table.new.slots ≡ slice_set table.old.slots node None }
-    ensures ranks { table.new.ranks ≡ slice_set table.old.ranks node 0 }
+    ensures footings { table.new.footings ≡ slice_set table.old.footings node no_footing }
     ensures capacity { table.new.capacity ≡ table.old.capacity }
     ensures params { IsOwner params.new table.new.param_runs }
     ensures kids { IsOwner kids.new table.new.kid_runs }
@@ -157,7 +163,7 @@ pub(crate) fn clear<A: Kept>(
     requires kids { IsOwner kids.old table.old.kid_runs }
     requires made { IsMade A.run_at A.Holds store.old (option_and_then slot_answer (slot_at table.old.slots node)) }
     ensures slots { table.new.slots ≡ slice_set table.old.slots node None }
-    ensures ranks { table.new.ranks ≡ slice_set table.old.ranks node 0 }
+    ensures footings { table.new.footings ≡ slice_set table.old.footings node no_footing }
     ensures capacity { table.new.capacity ≡ table.old.capacity }
     ensures params { IsOwner params.new table.new.param_runs }
     ensures kids { IsOwner kids.new table.new.kid_runs }
@@ -177,12 +183,52 @@ pub(crate) fn clear<A: Kept>(
 pub(crate) fn number<A: Drop>(table: &mut Table<A>, kids: &[NodeId])
     requires apart { AreApart kids.now }
     requires live { (k : ℕ) → In k kids.now → IsSome (slot_at table.old.slots k) }
-    ensures stands { (i k : ℕ) → slice_get kids.now i ≡ Some k → rank_at table.new.ranks k ≡ i }
+    ensures stands { (i k : ℕ) → slice_get kids.now i ≡ Some k → rank_at table.new.footings k ≡ i }
     ensures others { (k : ℕ) → (In k kids.now → ⊥)
-        → rank_at table.new.ranks k ≡ rank_at table.old.ranks k }
-    ensures table { table.new ≡ record table.old { ranks = table.new.ranks } }
+        → rank_at table.new.footings k ≡ rank_at table.old.footings k }
+    ensures links { (way : Way) (k : ℕ)
+        → link_at way table.new.footings k ≡ link_at way table.old.footings k }
+    ensures table { table.new ≡ record table.old { footings = table.new.footings } }
 {
     for place in 0..kids.len() {
         table.set_rank(kids[place], place);
+    }
+}
+
+/// Links these nodes to one another, the first of them behind this one, and answers the last.
+pub(crate) fn link_row<A: Drop>(
+    table: &mut Table<A>,
+    kids: &[NodeId],
+    before: Option<NodeId>,
+) -> Option<NodeId>
+    requires apart { AreApart kids.now }
+    requires live { (k : ℕ) → In k kids.now → IsSome (slot_at table.old.slots k) }
+    requires before { (k : ℕ) → before ≡ Some k
+        → IsSome (slot_at table.old.slots k) × (In k kids.now → ⊥) }
+    ensures row { LinksRow table.old.footings table.new.footings before kids.now result }
+    ensures table { table.new ≡ record table.old { footings = table.new.footings } }
+{
+    let mut last = before;
+    for place in 0..kids.len() {
+        let kid = kids[place];
+        join(table, last, kid);
+        last = Some(kid);
+    }
+    last
+}
+
+/// Links a node behind the last one, if there is one.
+fn join<A: Drop>(table: &mut Table<A>, last: Option<NodeId>, kid: NodeId)
+    requires lives { IsSome (slot_at table.old.slots kid) }
+    requires last { (k : ℕ) → last ≡ Some k → IsSome (slot_at table.old.slots k) × (k ≢ kid) }
+    ensures joins { Joins table.old.footings table.new.footings last kid }
+    ensures table { table.new ≡ record table.old { footings = table.new.footings } }
+{
+    match last {
+        Some(node) => {
+            table.set_right(node, Some(kid));
+            table.set_links(kid, Some(node), None);
+        }
+        None => table.set_links(kid, None, None),
     }
 }

@@ -6,23 +6,26 @@ ghost use Rattle.lsys_level.specs.Views.{seen_of};
 ghost use Rattle.lsys_region.specs.Rooms.{list_room};
 ghost use Rattle.lsys_forest.specs.declared.node.Kind.TheVariants.{Push};
 ghost use Rattle.lsys_forest.specs.declared.node.Stored.{Stored};
+ghost use Rattle.lsys_forest.specs.declared.walk.Way.{Way};
 ghost use Rattle.lsys_forest.specs.Shelves.{shelf_of, IsOwner};
-ghost use Rattle.lsys_forest.specs.Slots.{slot_at, rank_at, live_slots};
+ghost use Rattle.lsys_forest.specs.Slots.{slot_at, rank_at, link_at, live_slots};
 ghost use Rattle.lsys_forest.specs.Answers.{old_answer, IsMade, Releases};
-ghost use Rattle.lsys_forest.specs.Groves.{HasFew, IsSound};
+ghost use Rattle.lsys_forest.specs.Groves.{In, HasFew, IsSound};
 ghost use Rattle.lsys_forest.specs.Nodes.{Node, Nodes, root_node, put, with_seen, with_key, with_kids, with_answer};
 ghost use Rattle.lsys_forest.specs.Changes.{Change, KeepsKids, Missing, OldSeen, OldKey, OldKids, OldAnswer};
-ghost use Rattle.lsys_forest.specs.Stocks.{nodes_of, changes_of, row_at, Journals, KeepsRoom, KeepsRanks, dropped, Undoes, TakesUp, Removes, undone_slots, undone_ranks, UndoesParams, UndoesKids, dropped_slot, DropsParams, TakesKids, noted_answer, named, named_by, kid_lists};
-ghost use Rattle.lsys_forest.specs.Ranks.{AreRanked};
+ghost use Rattle.lsys_forest.specs.Stocks.{nodes_of, changes_of, row_at, Journals, KeepsRoom, KeepsFootings, dropped, Undoes, TakesUp, Removes, undone_slots, undone_footings, UndoesParams, UndoesKids, dropped_slot, DropsParams, TakesKids, noted_answer, named, named_by, kid_lists};
+ghost use Rattle.lsys_forest.specs.Ranks.{AreRanked, LinksRow};
+ghost use Rattle.lsys_forest.specs.Rows.{depth_in, kids_in};
 
 use crate::kept::{Kept, release_one};
 use crate::lists::Lists;
 use crate::node::{Kind, NodeId, Stored, kind_of, params_of};
 use crate::note::{Look, Note, Was};
 use crate::runs::{
-    clear, insert, number, restore_kids, restore_params, swap_kids, swap_params, take_out,
+    clear, insert, link_row, number, restore_kids, restore_params, swap_kids, swap_params, take_out,
 };
 use crate::table::Table;
+use crate::walk::Way;
 use lsys_level::Sight;
 use lsys_module::Symbol;
 use std::alloc::{AllocError, Global};
@@ -90,7 +93,7 @@ impl<A: Drop> Parts<A> {
     ) -> Result<(), AllocError>
         ensures nodes { nodes_of self.new ≡ nodes_of self.old }
         ensures changes { changes_of self.new ≡ changes_of self.old }
-        ensures ranks { self.new.ranks ≡ self.old.ranks }
+        ensures footings { self.new.footings ≡ self.old.footings }
         ensures notes { length self.new.notes ≡ length self.old.notes }
         ensures live { live_slots self.new.slots ≡ live_slots self.old.slots }
         ensures keeps { KeepsRoom self.old self.new }
@@ -185,9 +188,26 @@ impl<A: Drop> Parts<A> {
 
     /// The rank of a node; 0 where it doesn't live.
     pub(crate) fn rank(&self, node: NodeId) -> usize
-        ensures { result ≡ rank_at self.now.ranks node }
+        ensures { result ≡ rank_at self.now.footings node }
     {
         self.table.rank(node)
+    }
+
+    /// The neighbour to which a node is linked, that way; none where it doesn't live.
+    pub(crate) fn link(&self, node: NodeId, way: Way) -> Option<NodeId>
+        ensures { result ≡ link_at way self.now.footings node }
+    {
+        self.table.link(node, way)
+    }
+
+    /// How many steps a node is below the root; 0 where it doesn't live.
+    pub(crate) fn depth(&self, node: NodeId) -> u32
+        ensures { result ≡ depth_in (nodes_of self.now node) }
+    {
+        match self.table.get(node) {
+            Some(found) => found.depth,
+            None => 0,
+        }
     }
 
     /// The kind of the symbol of a node that lives.
@@ -369,13 +389,33 @@ impl<A: Drop> Parts<A> {
     /// Gives the children of a node their ranks, if it lives.
     pub(crate) fn rerank(&mut self, node: NodeId)
         requires { (root : ℕ) × IsSound root (changes_of self.old) (nodes_of self.old) }
-        ensures same { self.new ≡ record self.old { ranks = self.new.ranks } }
+        ensures same { self.new ≡ record self.old { footings = self.new.footings } }
         ensures ranked { (before : Nodes A) → ((j : ℕ) → j ≢ node → nodes_of self.old j ≡ before j)
-            → AreRanked before self.old.ranks → AreRanked (nodes_of self.old) self.new.ranks }
+            → AreRanked before self.old.footings → AreRanked (nodes_of self.old) self.new.footings }
+        ensures links { (way : Way) (j : ℕ)
+            → link_at way self.new.footings j ≡ link_at way self.old.footings j }
     {
         if let Some(run) = self.table.kids(node) {
             let kids = self.kids.read(run);
             number(&mut self.table, kids);
+        }
+    }
+
+    /// Links the children of a node to one another, the first of them behind `before`, and answers the last.
+    pub(crate) fn link_kids(&mut self, node: NodeId, before: Option<NodeId>) -> Option<NodeId>
+        requires sound { (root : ℕ) × IsSound root (changes_of self.old) (nodes_of self.old) }
+        requires before { (k : ℕ) → before ≡ Some k
+            → IsSome (nodes_of self.old k) × (In k (kids_in (nodes_of self.old node)) → ⊥) }
+        ensures same { self.new ≡ record self.old { footings = self.new.footings } }
+        ensures row { LinksRow self.old.footings self.new.footings before
+            (kids_in (nodes_of self.old node)) result }
+    {
+        match self.table.kids(node) {
+            Some(run) => {
+                let kids = self.kids.read(run);
+                link_row(&mut self.table, kids, before)
+            }
+            None => before,
         }
     }
 }
@@ -389,7 +429,7 @@ impl<A: Kept> Parts<A> {
         ensures undone { IsTrue result → (c : Change A) × Undoes self.old self.new c
             × Releases A.run_at A.Holds (dropped c (nodes_of self.old)) store.old store.new }
         ensures none { result ≡ false → (changes_of self.old ≡ []) × (self.new ≡ self.old) × (store.new ≡ store.old) }
-        ensures ranks { KeepsRanks (nodes_of self.new) self.old self.new }
+        ensures footings { KeepsFootings (nodes_of self.new) self.old self.new }
     {
         match self.notes.pop() {
             Some(note) => {
@@ -447,7 +487,7 @@ impl<A: Kept> Parts<A> {
         ensures notes { length self.new.notes ≡ length self.old.notes }
         ensures live { live_slots self.new.slots ≡ live_slots self.old.slots }
         ensures keeps { KeepsRoom self.old self.new }
-        ensures ranks { self.new.ranks ≡ self.old.ranks }
+        ensures footings { self.new.footings ≡ self.old.footings }
     {
         self.kids.put_down();
     }
@@ -476,7 +516,7 @@ fn undo_note<A: Kept>(
     requires kids { IsOwner kids.old table.old.kid_runs }
     requires made { IsMade A.run_at A.Holds store.old (dropped_slot note.was (slot_at table.old.slots note.node)) }
     ensures slots { table.new.slots ≡ undone_slots note.was note.node table.old.slots }
-    ensures ranks { table.new.ranks ≡ undone_ranks note.was note.node table.old.ranks }
+    ensures footings { table.new.footings ≡ undone_footings note.was note.node table.old.footings }
     ensures capacity { table.new.capacity ≡ table.old.capacity }
     ensures params { IsOwner params.new table.new.param_runs }
     ensures kids { IsOwner kids.new table.new.kid_runs }

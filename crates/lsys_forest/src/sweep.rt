@@ -1,13 +1,14 @@
 //! The removal of nodes that are reached no more.
 ghost use Rattle.std.specs.Prelude.{◌≡◌, ◌↔◌, slice_get, ◌+◌, ◌≤◌, ℕ, ◌∷◌, [], length, List, false, Some, IsSome, IsTrue};
+ghost use Rattle.lsys_forest.specs.declared.node.Footing.{Footing};
 ghost use Rattle.lsys_forest.specs.Slots.{live_slots};
 ghost use Rattle.lsys_forest.specs.Nodes.{Node, Nodes};
 ghost use Rattle.lsys_forest.specs.Changes.{Change};
 ghost use Rattle.lsys_forest.specs.Answers.{answers, AreMade, Follows};
-ghost use Rattle.lsys_forest.specs.Stocks.{nodes_of, changes_of, named_by, KeepsRoom};
+ghost use Rattle.lsys_forest.specs.Stocks.{nodes_of, changes_of, named_by, KeepsRoom, KeepsFootings};
 ghost use Rattle.lsys_forest.specs.Groves.{In, IsSound};
 ghost use Rattle.lsys_forest.specs.Ranks.{AreRanked};
-ghost use Rattle.lsys_forest.specs.Sweeps.{IsLinked, IsSwept, IsSweptOf, SweepsLeft, KeepsPlaces};
+ghost use Rattle.lsys_forest.specs.Sweeps.{IsFast, IsSwept, IsSweptOf, SweepsLeft, KeepsPlaces};
 
 use crate::kept::Kept;
 use crate::node::NodeId;
@@ -19,9 +20,9 @@ use crate::walk::kid_at;
 pub(crate) fn is_loose<A: Kept>(parts: &Parts<A>, node: NodeId) -> bool
     ensures lives { IsTrue result → IsSome (nodes_of parts.now node) }
     ensures apart { (n : Node A) → IsTrue result → nodes_of parts.now node ≡ Some n
-        → AreRanked (nodes_of parts.now) parts.now.ranks → IsLinked (nodes_of parts.now) node n → ⊥ }
+        → AreRanked (nodes_of parts.now) parts.now.footings → IsFast (nodes_of parts.now) node n → ⊥ }
     ensures linked { (n : Node A) → result ≡ false → nodes_of parts.now node ≡ Some n
-        → IsLinked (nodes_of parts.now) node n }
+        → IsFast (nodes_of parts.now) node n }
 {
     match parts.get(node) {
         Some(found) => !has_kid(parts, found.parent, node),
@@ -32,7 +33,7 @@ pub(crate) fn is_loose<A: Kept>(parts: &Parts<A>, node: NodeId) -> bool
 /// Whether the first node lives, and has the second among its children.
 fn has_kid<A: Kept>(parts: &Parts<A>, parent: NodeId, node: NodeId) -> bool
     ensures has { IsTrue result → (p : Node A) × (nodes_of parts.now parent ≡ Some p) × In node p.kids }
-    ensures lacks { (p : Node A) → result ≡ false → AreRanked (nodes_of parts.now) parts.now.ranks
+    ensures lacks { (p : Node A) → result ≡ false → AreRanked (nodes_of parts.now) parts.now.footings
         → nodes_of parts.now parent ≡ Some p → In node p.kids → ⊥ }
 {
     match parts.get(parent) {
@@ -55,8 +56,9 @@ fn stands_at(kids: &[NodeId], node: NodeId, place: usize) -> bool
 fn sweep<A: Kept>(parts: &mut Parts<A>, root: NodeId, node: NodeId, store: &mut A::Store)
     requires places { length parts.old.notes + live_slots parts.old.slots ≤ parts.old.places }
     requires made { AreMade A.run_at A.Holds store.old (answers (nodes_of parts.old) (changes_of parts.old)) }
-    ensures swept { (left : List ℕ) (first : Nodes A) (before : List (Change A)) → IsSound root before first
-        → IsSweptOf first root parts.old (node ∷ left) → IsSweptOf first root parts.new left }
+    ensures swept { (left : List ℕ) (first : Nodes A) (before : List (Change A)) (stood : List Footing)
+        → IsSound root before first
+        → IsSweptOf first stood root parts.old (node ∷ left) → IsSweptOf first stood root parts.new left }
     ensures keeps { KeepsPlaces parts.old parts.new }
     ensures made { AreMade A.run_at A.Holds store.new (answers (nodes_of parts.new) (changes_of parts.new)) }
     ensures freed { Follows A.run_at A.Holds (answers (nodes_of parts.old) (changes_of parts.old)) store.old
@@ -104,10 +106,11 @@ fn sweep_looked<A: Kept>(parts: &mut Parts<A>, root: NodeId, look: Look, store: 
 pub(crate) fn sweep_all<A: Kept>(parts: &mut Parts<A>, root: NodeId, store: &mut A::Store)
     requires places { length parts.old.notes + live_slots parts.old.slots ≤ parts.old.places }
     requires sound { IsSound root (changes_of parts.old) (nodes_of parts.old) }
-    requires ranked { AreRanked (nodes_of parts.old) parts.old.ranks }
+    requires ranked { AreRanked (nodes_of parts.old) parts.old.footings }
     requires made { AreMade A.run_at A.Holds store.old (answers (nodes_of parts.old) (changes_of parts.old)) }
     ensures swept { IsSwept (nodes_of parts.old) root (nodes_of parts.new) [] [] }
-    ensures ranked { AreRanked (nodes_of parts.new) parts.new.ranks }
+    ensures footings { KeepsFootings (nodes_of parts.new) parts.old parts.new }
+    ensures ranked { AreRanked (nodes_of parts.new) parts.new.footings }
     ensures empty { changes_of parts.new ≡ [] }
     ensures short { length parts.new.notes ≡ 0 }
     ensures live { live_slots parts.new.slots ≤ live_slots parts.old.slots }

@@ -1,11 +1,12 @@
 //! Nodes by their numbers.
-ghost use Rattle.std.specs.Prelude.{◌≡◌, ◌↔◌, IsTrue, ◌+◌, ◌<◌, ◌≤◌, ◌^◌, ℕ, [], None, OnOk, Some, IsSome, option_map, option_copied, slice_set, slice_index_or};
+ghost use Rattle.std.specs.Prelude.{◌≡◌, ◌≢◌, ◌↔◌, IsTrue, ◌+◌, ◌<◌, ◌≤◌, ◌^◌, ℕ, [], None, OnOk, Some, IsSome, option_map, option_copied, slice_set, slice_index_or};
 ghost use Rattle.slab.specs.Slab.{Slab, get};
 ghost use Rattle.lsys_forest.specs.Shelves.{run_at};
 ghost use Rattle.lsys_forest.specs.declared.node.Entry.{Entry};
-ghost use Rattle.lsys_forest.specs.Slots.{slot_at, rank_at, live_slots, change_slot, change_run, change_rank, run_before, run_after, kind_set, key_set, answer_set, answer_before, node_in, param_run_in, kid_run_in, change_entry, node_set, params_set, kids_set, rank_set, Puts, StandsAt};
+ghost use Rattle.lsys_forest.specs.Slots.{slot_at, footing_at, rank_at, link_at, live_slots, change_slot, change_run, change_footing, run_before, run_after, kind_set, key_set, answer_set, answer_before, node_in, param_run_in, kid_run_in, change_entry, node_set, params_set, kids_set, footing_set, rank_set, right_set, links_set, no_footing, Puts, StandsAt};
 
 use crate::node::{Entry, Kind, NodeId, Stored};
+use crate::walk::Way;
 use lsys_region::Run;
 use slab::Slab;
 use std::alloc::{AllocError, Global};
@@ -15,7 +16,7 @@ use std::mem;
 /// Each number is below it.
 const NUMBERS: usize = 0x1_0000_0000;
 
-/// Nodes by their numbers, each with the runs of its lists and its rank.
+/// Nodes by their numbers, each with the runs of its lists, and where it stands among others.
 #[derive(Drop)]
 pub(crate) struct Table<A> {
     nodes: Slab<Entry<A>>,
@@ -32,7 +33,7 @@ impl<A> Model for Table<A> {
 impl<A: Drop> Table<A> {
     /// No nodes. It takes no memory.
     pub(crate) fn new(alloc: Global) -> Table<A>
-        ensures { result ≡ record { slots = []; param_runs = []; kid_runs = []; ranks = []; next = 0; capacity = 0 } }
+        ensures { result ≡ record { slots = []; param_runs = []; kid_runs = []; footings = []; next = 0; capacity = 0 } }
     {
         Table {
             nodes: Slab::new(alloc),
@@ -105,11 +106,22 @@ impl<A: Drop> Table<A> {
 
     /// The rank of a node; 0 where it doesn't live.
     pub(crate) fn rank(&self, number: NodeId) -> usize
-        ensures { result ≡ rank_at self.now.ranks number }
+        ensures { result ≡ rank_at self.now.footings number }
     {
         match self.nodes.get(number.0 as usize) {
-            Some(entry) => entry.rank,
+            Some(entry) => entry.footing.rank,
             None => 0,
+        }
+    }
+
+    /// The neighbour to which a node is linked, that way; none where it doesn't live.
+    pub(crate) fn link(&self, number: NodeId, way: Way) -> Option<NodeId>
+        ensures { result ≡ link_at way self.now.footings number }
+    {
+        let entry = self.nodes.get(number.0 as usize)?;
+        match way {
+            Way::Left => entry.footing.left,
+            Way::Right => entry.footing.right,
         }
     }
 
@@ -142,7 +154,7 @@ impl<A: Drop> Table<A> {
           slots = slice_set self.old.slots number None;
           param_runs = slice_set self.old.param_runs number None;
           kid_runs = slice_set self.old.kid_runs number None;
-          ranks = slice_set self.old.ranks number 0;
+          footings = slice_set self.old.footings number no_footing;
           next = self.new.next;
         } }
     {
@@ -204,11 +216,38 @@ impl<A: Drop> Table<A> {
     /// Sets the rank of a node, if it lives.
     pub(crate) fn set_rank(&mut self, number: NodeId, rank: usize)
         ensures changed { self.new ≡ record self.old {
-          ranks = change_rank (slot_at self.old.slots number) self.old.ranks number rank;
+          footings = change_footing (rank_set rank) (slot_at self.old.slots number)
+              self.old.footings number;
         } }
-        ensures here { IsSome (slot_at self.old.slots number) → rank_at self.new.ranks number ≡ rank }
+        ensures here { IsSome (slot_at self.old.slots number)
+            → footing_at self.new.footings number
+            ≡ rank_set rank (footing_at self.old.footings number) }
     {
         change_rank(&mut self.nodes, number, rank);
+    }
+
+    /// Links a node to its right neighbour, if it lives.
+    pub(crate) fn set_right(&mut self, number: NodeId, right: Option<NodeId>)
+        ensures same { self.new ≡ record self.old { footings = self.new.footings } }
+        ensures here { IsSome (slot_at self.old.slots number)
+            → footing_at self.new.footings number
+            ≡ right_set right (footing_at self.old.footings number) }
+        ensures others { (j : ℕ) → j ≢ number
+            → footing_at self.new.footings j ≡ footing_at self.old.footings j }
+    {
+        change_right(&mut self.nodes, number, right);
+    }
+
+    /// Links a node to its neighbours, if it lives.
+    pub(crate) fn set_links(&mut self, number: NodeId, left: Option<NodeId>, right: Option<NodeId>)
+        ensures same { self.new ≡ record self.old { footings = self.new.footings } }
+        ensures here { IsSome (slot_at self.old.slots number)
+            → footing_at self.new.footings number
+            ≡ links_set left right (footing_at self.old.footings number) }
+        ensures others { (j : ℕ) → j ≢ number
+            → footing_at self.new.footings j ≡ footing_at self.old.footings j }
+    {
+        change_links(&mut self.nodes, number, left, right);
     }
 }
 
@@ -284,10 +323,38 @@ fn change_kids<A: Drop>(nodes: &mut Slab<Entry<A>>, number: NodeId, run: Run) ->
 /// Sets the rank of a node, if it lives.
 fn change_rank<A: Drop>(nodes: &mut Slab<Entry<A>>, number: NodeId, rank: usize)
     ensures { nodes.new ≡ record nodes.old {
-      slots = change_entry (rank_set rank) nodes.old.slots number;
+      slots = change_entry (footing_set (rank_set rank)) nodes.old.slots number;
     } }
 {
     if let Some(entry) = nodes.get_mut(number.0 as usize) {
-        entry.rank = rank;
+        entry.footing.rank = rank;
+    }
+}
+
+/// Links a node to its right neighbour, if it lives.
+fn change_right<A: Drop>(nodes: &mut Slab<Entry<A>>, number: NodeId, right: Option<NodeId>)
+    ensures { nodes.new ≡ record nodes.old {
+      slots = change_entry (footing_set (right_set right)) nodes.old.slots number;
+    } }
+{
+    if let Some(entry) = nodes.get_mut(number.0 as usize) {
+        entry.footing.right = right;
+    }
+}
+
+/// Links a node to its neighbours, if it lives.
+fn change_links<A: Drop>(
+    nodes: &mut Slab<Entry<A>>,
+    number: NodeId,
+    left: Option<NodeId>,
+    right: Option<NodeId>,
+)
+    ensures { nodes.new ≡ record nodes.old {
+      slots = change_entry (footing_set (links_set left right)) nodes.old.slots number;
+    } }
+{
+    if let Some(entry) = nodes.get_mut(number.0 as usize) {
+        entry.footing.left = left;
+        entry.footing.right = right;
     }
 }

@@ -5,7 +5,7 @@ ghost use Rattle.lsys_forest.specs.Groves.{In, AreApart, IsSound};
 ghost use Rattle.lsys_spec.specs.Levels.{level_balanced};
 ghost use Rattle.lsys_level.specs.Spots.{level_by};
 ghost use Rattle.lsys_forest.specs.Slots.{live_slots};
-ghost use Rattle.lsys_forest.specs.Ranks.{AreRanked, parent_in};
+ghost use Rattle.lsys_forest.specs.Ranks.{AreRanked, AreLinked, parent_in};
 ghost use Rattle.lsys_forest.specs.Mates.{nested, IsBracketThat, IsMateThat};
 ghost use Rattle.lsys_forest.specs.Rows.{first_in, index_in, oriented, flat, kids_that_way, level_nodes, level_spots};
 
@@ -55,21 +55,27 @@ fn first_of(kids: &[NodeId], way: Way) -> Option<NodeId>
     }
 }
 
-/// The node that comes next to a node of the level this many steps below the root, that way; none at the end.
+/// The node that comes next to a node of the level this many steps below the root, that way; none at the end. Where the level
+/// is linked one look tells it; else the next node of the same parent, or what comes next below the level above.
 pub(crate) fn beside<A: Kept>(
     parts: &Parts<A>,
     root: NodeId,
     node: NodeId,
     depth: u32,
+    linked: u32,
     way: Way,
 ) -> Option<NodeId>
     requires sound { IsSound root (changes_of parts.now) (nodes_of parts.now) }
-    requires ranked { AreRanked (nodes_of parts.now) parts.now.ranks }
+    requires ranked { AreRanked (nodes_of parts.now) parts.now.footings }
+    requires linked { AreLinked (nodes_of parts.now) root parts.now.footings linked }
     requires below { 0 < depth }
     requires among { In node (level_nodes (nodes_of parts.now) root (depth - 1)) }
     ensures { (before after : List ℕ) → oriented way (level_nodes (nodes_of parts.now) root (depth - 1)) ≡ before ++ node ∷ after
         → result ≡ first_in after }
 {
+    if depth <= linked {
+        return parts.link(node, way);
+    }
     let Some(found) = parts.get(node) else {
         unreachable!()
     };
@@ -80,12 +86,12 @@ pub(crate) fn beside<A: Kept>(
     if depth == 1 {
         return None;
     }
-    let mut at = beside(parts, root, parent, depth - 1, way);
+    let mut at = beside(parts, root, parent, depth - 1, linked, way);
     while let Some(above) = at {
         if let Some(kid) = first_of(parts.kids(above), way) {
             return Some(kid);
         }
-        at = beside(parts, root, above, depth - 1, way);
+        at = beside(parts, root, above, depth - 1, linked, way);
     }
     None
 }
@@ -96,10 +102,12 @@ pub(crate) fn first_child<A: Kept>(
     root: NodeId,
     start: Option<NodeId>,
     depth: u32,
+    linked: u32,
     way: Way,
 ) -> Option<NodeId>
     requires sound { IsSound root (changes_of parts.now) (nodes_of parts.now) }
-    requires ranked { AreRanked (nodes_of parts.now) parts.now.ranks }
+    requires ranked { AreRanked (nodes_of parts.now) parts.now.footings }
+    requires linked { AreLinked (nodes_of parts.now) root parts.now.footings linked }
     requires below { 0 < depth }
     requires among { IfSome start (λ node.
         In node (level_nodes (nodes_of parts.now) root (depth - 1))) }
@@ -113,20 +121,26 @@ pub(crate) fn first_child<A: Kept>(
         if let Some(kid) = first_of(parts.kids(above), way) {
             return Some(kid);
         }
-        at = beside(parts, root, above, depth, way);
+        at = beside(parts, root, above, depth, linked, way);
     }
     None
 }
 
 /// The leftmost node of a level.
-pub(crate) fn first_at<A: Kept>(parts: &Parts<A>, root: NodeId, level: u32) -> Option<NodeId>
+pub(crate) fn first_at<A: Kept>(
+    parts: &Parts<A>,
+    root: NodeId,
+    level: u32,
+    linked: u32,
+) -> Option<NodeId>
     requires sound { IsSound root (changes_of parts.now) (nodes_of parts.now) }
-    requires ranked { AreRanked (nodes_of parts.now) parts.now.ranks }
+    requires ranked { AreRanked (nodes_of parts.now) parts.now.footings }
+    requires linked { AreLinked (nodes_of parts.now) root parts.now.footings linked }
     ensures { result ≡ first_in (level_nodes (nodes_of parts.now) root level) }
 {
     let mut at = first_of(parts.kids(root), Way::Right);
     for depth in 0..level {
-        at = first_child(parts, root, at, depth + 1, Way::Right);
+        at = first_child(parts, root, at, depth + 1, linked, Way::Right);
     }
     at
 }
@@ -149,10 +163,12 @@ pub(crate) fn mate_of<A: Kept>(
     root: NodeId,
     node: NodeId,
     depth: u32,
+    linked: u32,
     way: Way,
 ) -> NodeId
     requires sound { IsSound root (changes_of parts.now) (nodes_of parts.now) }
-    requires ranked { AreRanked (nodes_of parts.now) parts.now.ranks }
+    requires ranked { AreRanked (nodes_of parts.now) parts.now.footings }
+    requires linked { AreLinked (nodes_of parts.now) root parts.now.footings linked }
     requires numbers { live_slots parts.now.slots < 2 ^ 32 }
     requires below { 0 < depth }
     requires among { In node (level_nodes (nodes_of parts.now) root (depth - 1)) }
@@ -161,13 +177,13 @@ pub(crate) fn mate_of<A: Kept>(
     ensures { IsMateThat way (nodes_of parts.now) (level_nodes (nodes_of parts.now) root (depth - 1)) node result }
 {
     let mut inside = 0;
-    let mut at = beside(parts, root, node, depth, way);
+    let mut at = beside(parts, root, node, depth, linked, way);
     while let Some(found) = at {
         let Some(branches) = nest(way, parts.kind(found), inside) else {
             return found;
         };
         inside = branches;
-        at = beside(parts, root, found, depth, way);
+        at = beside(parts, root, found, depth, linked, way);
     }
     unreachable!()
 }
@@ -191,7 +207,7 @@ pub(crate) fn is_before<A: Kept>(
     depth: u32,
 ) -> bool
     requires sound { IsSound root (changes_of parts.now) (nodes_of parts.now) }
-    requires ranked { AreRanked (nodes_of parts.now) parts.now.ranks }
+    requires ranked { AreRanked (nodes_of parts.now) parts.now.footings }
     requires below { 0 < depth }
     requires one { In one (level_nodes (nodes_of parts.now) root (depth - 1)) }
     requires two { In two (level_nodes (nodes_of parts.now) root (depth - 1)) }

@@ -16,15 +16,12 @@ use Rattle.lsys_forest.specs.Nodes.{Node, Nodes, put, with_kids}
 use Rattle.lsys_forest.specs.Groves.{In, AreApart, IsUnder, AreKids}
 use Rattle.lsys_forest.specs.Rows.{flat, kids_in, spot_in, level_spots, complete_from}
 use Rattle.lsys_forest.proofs.StockLemmas.{put_same, put_other}
+use Rattle.lsys_forest.proofs.LinkLemmas.{flat_same}
 use Rattle.lsys_forest.proofs.RowLemmas.{In_left, In_right, apart_append, apart_parts, flat_append}
 
 flat_none : (f : ℕ → List ℕ) (xs : List ℕ) → ((k : ℕ) → In k xs → f k ≡ []) → flat f xs ≡ []
 flat_none f [] none = refl
 flat_none f (x ∷ xs) none = ap (λ (l : List ℕ). l ++ flat f xs) (none x (inl refl)) ∙ flat_none f xs (λ k h. none k (inr h))
-
-flat_same : (f g : ℕ → List ℕ) (xs : List ℕ) → ((k : ℕ) → In k xs → f k ≡ g k) → flat f xs ≡ flat g xs
-flat_same f g [] same = refl
-flat_same f g (x ∷ xs) same = ap (λ (l : List ℕ). l ++ flat f xs) (same x (inl refl)) ∙ ap (λ (l : List ℕ). g x ++ l) (flat_same f g xs (λ k h. same k (inr h)))
 
 drop_push : (ys : List Symbol) (x : Symbol) → 0 < length ys → drop 1 (ys ++ x ∷ []) ≡ drop 1 ys ++ x ∷ []
 drop_push [] x some = absurd (omega (arith, some))

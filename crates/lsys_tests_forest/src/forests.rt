@@ -117,24 +117,41 @@ fn a_root_keeps_an_answer(rt: HostRuntime) -> Result<(), Fail> {
     Ok(())
 }
 
-/// Nodes are numbered as they are added, the root first: a symbol of the first level is its place and 1, and the child of
-/// the symbol at place p is p and 23.
+/// Each symbol of the first level of a forest, by the numbers of the nodes, behind it its mate; and then all from the right to
+/// the left. Nodes are numbered as they are added, the root first: a symbol of the first level is its place and 1.
+const FIRST: [u32; 69] = [
+    1, 1, 2, 2, 3, 3, 4, 7, 5, 5, 6, 6, 7, 4, 8, 23, 9, 9, 10, 10, 11, 19, 12, 12, 13, 13, 14, 17,
+    15, 15, 16, 16, 17, 14, 18, 18, 19, 11, 20, 20, 21, 21, 22, 22, 23, 8, 23, 22, 21, 20, 19, 18,
+    17, 16, 15, 14, 13, 12, 11, 10, 9, 8, 7, 6, 5, 4, 3, 2, 1,
+];
+
+/// The same of the second level: the child of the symbol at place p is p and 23.
+const SECOND: [u32; 66] = [
+    24, 24, 25, 25, 26, 29, 27, 27, 28, 28, 29, 26, 30, 45, 31, 31, 32, 32, 33, 41, 34, 34, 35, 35,
+    36, 39, 37, 37, 38, 38, 39, 36, 40, 40, 41, 33, 42, 42, 43, 43, 44, 44, 45, 30, 45, 44, 43, 42,
+    41, 40, 39, 38, 37, 36, 35, 34, 33, 32, 31, 30, 29, 28, 27, 26, 25, 24,
+];
+
 #[test]
 fn contexts_that_skip_are_walked_both_ways(rt: HostRuntime) -> Result<(), Fail> {
     let forest = two_levels(rt.alloc(), &contexts_that_skip())?;
     let first = walk(rt.alloc(), &forest, 0)?;
-    let want = [
-        1, 1, 2, 2, 3, 3, 4, 7, 5, 5, 6, 6, 7, 4, 8, 23, 9, 9, 10, 10, 11, 19, 12, 12, 13, 13, 14,
-        17, 15, 15, 16, 16, 17, 14, 18, 18, 19, 11, 20, 20, 21, 21, 22, 22, 23, 8, 23, 22, 21, 20,
-        19, 18, 17, 16, 15, 14, 13, 12, 11, 10, 9, 8, 7, 6, 5, 4, 3, 2, 1,
-    ];
-    assert_eq!(rt; first.as_slice(), want.as_slice());
+    assert_eq!(rt; first.as_slice(), FIRST.as_slice());
     let second = walk(rt.alloc(), &forest, 1)?;
-    let want = [
-        24, 24, 25, 25, 26, 29, 27, 27, 28, 28, 29, 26, 30, 45, 31, 31, 32, 32, 33, 41, 34, 34, 35,
-        35, 36, 39, 37, 37, 38, 38, 39, 36, 40, 40, 41, 33, 42, 42, 43, 43, 44, 44, 45, 30, 45, 44,
-        43, 42, 41, 40, 39, 38, 37, 36, 35, 34, 33, 32, 31, 30, 29, 28, 27, 26, 25, 24,
-    ];
-    assert_eq!(rt; second.as_slice(), want.as_slice());
+    assert_eq!(rt; second.as_slice(), SECOND.as_slice());
+    Ok(())
+}
+
+#[test]
+fn levels_that_are_linked_are_walked_as_others(rt: HostRuntime) -> Result<(), Fail> {
+    let mut forest = two_levels(rt.alloc(), &contexts_that_skip())?;
+    forest.link(0);
+    let second = walk(rt.alloc(), &forest, 1)?;
+    assert_eq!(rt; second.as_slice(), SECOND.as_slice());
+    forest.link(1);
+    let first = walk(rt.alloc(), &forest, 0)?;
+    assert_eq!(rt; first.as_slice(), FIRST.as_slice());
+    let second = walk(rt.alloc(), &forest, 1)?;
+    assert_eq!(rt; second.as_slice(), SECOND.as_slice());
     Ok(())
 }

@@ -13,6 +13,7 @@ pub undo_one-requires : goal.undo_one-requires
 undo_one-requires g c = record {
   sound = c.loop-root.invariant.sound;
   ranked = c.loop-root.invariant.ranked;
+  linked = c.loop-root.invariant.linked;
   made = λ x earlier were.
       let m = nodes_of c.loop-root.parts in
       let step = undo_step m earlier x.node x.before in
@@ -37,6 +38,7 @@ loop-root-preserved g c =
     record {
       sound = undone_sound c.args.root c.loop-root.parts c.undo_one.new.parts x done.1 was.sound;
       ranked = c.undo_one.ensures.ranked;
+      linked = c.undo_one.ensures.linked;
       told =
           ap (undone (changes_of c.undo_one.new.parts)) done.1.nodes
           ∙ ap (λ cs. undone cs (undo x m)) takes.are

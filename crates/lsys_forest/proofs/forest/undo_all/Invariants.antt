@@ -4,13 +4,14 @@ use Rattle.lsys_forest.specs.Changes.{undone}
 use Rattle.lsys_forest.specs.Stocks.{nodes_of, changes_of, KeepsRoom}
 use Rattle.lsys_forest.specs.Answers.{answers, AreMade, Follows}
 use Rattle.lsys_forest.specs.Groves.{AreSound}
-use Rattle.lsys_forest.specs.Ranks.{AreRanked}
+use Rattle.lsys_forest.specs.Ranks.{AreRanked, AreLinked}
 use Rattle.lsys_forest.proofs.forest.undo_all.Given as goal
 
 abbrev pub invariant-loop-root : goal.invariant-loop-root
 invariant-loop-root g l = record {
   sound : AreSound l.root (changes_of l.parts) (nodes_of l.parts);
-  ranked : AreRanked (nodes_of l.parts) l.parts.ranks;
+  ranked : AreRanked (nodes_of l.parts) l.parts.footings;
+  linked : AreLinked (nodes_of l.parts) l.root l.parts.footings l.linked;
   told : undone (changes_of l.parts) (nodes_of l.parts) ≡ undone (changes_of l.fn.parts) (nodes_of l.fn.parts);
   live : live_slots l.parts.slots ≤ live_slots l.fn.parts.slots;
   room : KeepsRoom l.fn.parts l.parts;

@@ -1,4 +1,8 @@
-use Rattle.std.proofs.Common.{◌≢◌, ◌∷◌, List, None, sym, ap, ◌∙◌, subst, arith}
+use Rattle.std.proofs.Common.{◌≢◌, ◌∷◌, List, None, sym, ap, ◌∙◌, subst, arith, inl, inr}
+use Rattle.std.specs.Prelude.{IsSome}
+use Rattle.std.proofs.lemmas.Bool.{cases_eq}
+use Rattle.std.proofs.lemmas.Option.{none-some}
+use Rattle.lsys_forest.proofs.StockLemmas.{put_same, put_other}
 use Rattle.std.specs.Option.{option_and_then}
 use Rattle.lsys_forest.specs.Nodes.{Nodes, put}
 use Rattle.lsys_forest.specs.Changes.{Change}
@@ -16,7 +20,7 @@ pub remove-requires-clause-lives : goal.remove-requires-clause-lives
 remove-requires-clause-lives g c = c.is_loose.ensures.lives c.if-is_loose.true
 
 pub returns-then-is_loose-clause-swept : goal.returns-then-is_loose-clause-swept
-returns-then-is_loose-clause-swept g c = λ left first before sound is.
+returns-then-is_loose-clause-swept g c = λ left first before stood sound is.
     let m = nodes_of c.args.parts.now in
     let s = some_of (m c.args.node) (c.is_loose.ensures.lives c.if-is_loose.true) in
     let done = (c.remove.ensures s.0 s.1).0 in
@@ -24,7 +28,11 @@ returns-then-is_loose-clause-swept g c = λ left first before sound is.
     let apart = c.is_loose.ensures.apart s.0 c.if-is_loose.true s.1 is.ranked in
     record {
       swept = IsSwept-removes first c.args.root before sound m (nodes_of c.remove.new.self) (changes_of c.args.parts.now) (changes_of c.remove.new.self) c.args.node s.0 left differ s.1 apart done.nodes done.noted is.swept;
-      ranked = removed_ranked first c.args.root before sound m (nodes_of c.remove.new.self) (changes_of c.args.parts.now) c.args.parts.now.ranks c.remove.new.self.ranks c.args.node s.0 (c.args.node ∷ left) s.1 apart done.nodes done.ranks is.swept is.ranked;
+      ranked = removed_ranked first c.args.root before sound m (nodes_of c.remove.new.self) (changes_of c.args.parts.now) c.args.parts.now.footings c.remove.new.self.footings c.args.node s.0 (c.args.node ∷ left) s.1 apart done.nodes done.footings is.swept is.ranked;
+      stands = λ j lives. elim (cases_eq j c.args.node) [
+        | inl e ↦ absurd (none-some (some_of (nodes_of c.remove.new.self j) lives).0 (sym (ap (λ (f : Nodes g.row.A.Denot). f j) done.nodes ∙ put_same m c.args.node j None e) ∙ (some_of (nodes_of c.remove.new.self j) lives).1))
+        | inr ne ↦ done.footings j ne ∙ is.stands j (subst IsSome (ap (λ (f : Nodes g.row.A.Denot). f j) done.nodes ∙ put_other m c.args.node j None ne) lives)
+      ];
     }
 
 pub returns-then-is_loose-clause-keeps : goal.returns-then-is_loose-clause-keeps

@@ -1,8 +1,10 @@
-use Rattle.std.proofs.Common.{refl, ◌++◌, ◌∷◌, [], List, sym, ap, ◌∙◌, subst, arith}
+use Rattle.std.specs.Prelude.{IsSome}
+use Rattle.std.proofs.Common.{◌≡◌, ℕ, refl, ◌++◌, ◌∷◌, [], List, sym, ap, ◌∙◌, subst, arith}
 use Rattle.lsys_forest.specs.Nodes.{Nodes}
 use Rattle.lsys_forest.specs.Changes.{Change}
 use Rattle.lsys_forest.specs.Stocks.{Stock, nodes_of, changes_of, looked}
 use Rattle.lsys_forest.specs.Answers.{answers, old_answer, AreMade, Follows}
+use Rattle.lsys_forest.specs.Slots.{footing_at}
 use Rattle.lsys_forest.specs.Ranks.{AreRanked}
 use Rattle.lsys_forest.specs.Sweeps.{IsSwept}
 use Rattle.lsys_forest.proofs.StockLemmas.{told_none}
@@ -14,7 +16,7 @@ pub loop-look-init : goal.loop-look-init
 loop-look-init g c =
     let t = c.args.parts.now in
     record {
-      swept = record { swept = IsSwept-start (nodes_of t) c.args.root (changes_of t) c.requires.sound; ranked = c.requires.ranked };
+      swept = record { swept = IsSwept-start (nodes_of t) c.args.root (changes_of t) c.requires.sound; ranked = c.requires.ranked; stands = λ j lives. refl };
       places = c.requires.places;
       live = omega arith;
       room = record { capacity = refl; places = omega arith; param_room = omega arith; kid_room = omega arith };
@@ -64,11 +66,13 @@ loop-look-preserved g c =
     subst (λ (f : Nodes g.row.A.Denot). IsSwept first c.args.root f (changes_of u) (looked x)) (sym done.1.nodes)
     (subst (λ (cs : List (Change g.row.A.Denot)). IsSwept first c.args.root m cs (looked x)) (sym takes.are)
     (IsSwept-pop first c.args.root m takes.earlier x (subst (λ cs. IsSwept first c.args.root m cs []) takes.were was.swept.swept))) in
-    let ranked : AreRanked (nodes_of u) u.ranks = subst (λ r. AreRanked (nodes_of u) r) (sym done.1.ranks) (subst (λ (f : Nodes g.row.A.Denot). AreRanked f c.loop-look.parts.ranks) (sym done.1.nodes) was.swept.ranked) in
+    let ranked : AreRanked (nodes_of u) u.footings = subst (λ r. AreRanked (nodes_of u) r) (sym done.1.footings) (subst (λ (f : Nodes g.row.A.Denot). AreRanked f c.loop-look.parts.footings) (sym done.1.nodes) was.swept.ranked) in
+    let stands : (j : ℕ) → IsSome (nodes_of u j) → footing_at u.footings j ≡ footing_at c.args.parts.now.footings j =
+    λ j lives. ap (λ r. footing_at r j) done.1.footings ∙ was.swept.stands j (subst (λ (f : Nodes g.row.A.Denot). IsSome (f j)) done.1.nodes lives) in
     let freed = follows_on g.A.Kept.run_at g.A.Kept.Holds (answers first (changes_of c.args.parts.now)) (answers m (changes_of c.loop-look.parts)) (answers (nodes_of u) (changes_of u)) c.args.store.now c.loop-look.store c.take_last.new.store was.made was.freed
     (subst (λ cs. Follows g.A.Kept.run_at g.A.Kept.Holds (answers m cs) c.loop-look.store (answers (nodes_of u) (changes_of u)) c.take_last.new.store) (sym takes.were) follows) in
     record {
-      swept = e.swept first (changes_of c.args.parts.now) c.requires.sound (record { swept = subst (IsSwept first c.args.root (nodes_of u) (changes_of u)) (sym done.1.looks) begun; ranked = ranked });
+      swept = e.swept first (changes_of c.args.parts.now) c.args.parts.now.footings c.requires.sound (record { swept = subst (IsSwept first c.args.root (nodes_of u) (changes_of u)) (sym done.1.looks) begun; ranked = ranked; stands = stands });
       places = omega (arith, e.keeps.places, e.keeps.room.places, takes.notes, takes.room.places, done.1.live, was.places);
       live = omega (arith, e.keeps.live, done.1.live, was.live);
       room = record {
@@ -108,5 +112,12 @@ pub returns-clause-ranked : goal.returns-clause-ranked
 returns-clause-ranked g c =
     let t = c.put_down.new.self in
     let none = c.in_default.ensures.none in
-    let ranks = c.put_down.ensures.ranks ∙ ap (λ (u : Stock g.row.A.Denot). u.ranks) none.1 in
-    subst (λ r. AreRanked (nodes_of t) r) (sym ranks) (subst (λ (f : Nodes g.row.A.Denot). AreRanked f c.loop-look.parts.ranks) (sym (c.put_down.ensures.nodes ∙ ap nodes_of none.1)) c.loop-look.invariant.swept.ranked)
+    let footings = c.put_down.ensures.footings ∙ ap (λ (u : Stock g.row.A.Denot). u.footings) none.1 in
+    subst (λ r. AreRanked (nodes_of t) r) (sym footings) (subst (λ (f : Nodes g.row.A.Denot). AreRanked f c.loop-look.parts.footings) (sym (c.put_down.ensures.nodes ∙ ap nodes_of none.1)) c.loop-look.invariant.swept.ranked)
+
+pub returns-clause-footings : goal.returns-clause-footings
+returns-clause-footings g c = λ j lives.
+    let none = c.in_default.ensures.none in
+    let footings = c.put_down.ensures.footings ∙ ap (λ (u : Stock g.row.A.Denot). u.footings) none.1 in
+    ap (λ r. footing_at r j) footings
+    ∙ c.loop-look.invariant.swept.stands j (subst (λ (f : Nodes g.row.A.Denot). IsSome (f j)) (c.put_down.ensures.nodes ∙ ap nodes_of none.1) lives)

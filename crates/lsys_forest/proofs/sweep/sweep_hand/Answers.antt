@@ -22,7 +22,7 @@ loop-place-preserved g c =
     let here : get_or hand i 0 ≡ kid = get_or_from_slice_get hand i kid 0 (slice_get_read hand (length hand) i kid refl within (subst (λ (l : List ℕ). kid ≡ get_or l i kid) now c.index-in_hand-place.is)) in
     let left : drop i hand ≡ kid ∷ drop (i + 1) hand = drop-cons hand i 0 within ∙ ap (λ n. get_or hand i 0 ∷ drop n hand) next ∙ ap (λ x. x ∷ drop (i + 1) hand) here in
     record {
-      swept = λ first before sound start. e.swept (drop (i + 1) hand) first before sound (subst (IsSweptOf first c.args.root t) left (was.swept first before sound start));
+      swept = λ first before stood sound start. e.swept (drop (i + 1) hand) first before stood sound (subst (IsSweptOf first stood c.args.root t) left (was.swept first before stood sound start));
       keeps = record {
         places = omega (arith, e.keeps.places, was.keeps.places);
         live = omega (arith, e.keeps.live, was.keeps.live);
@@ -40,6 +40,6 @@ loop-place-preserved g c =
     }
 
 pub returns-clause-swept : goal.returns-clause-swept
-returns-clause-swept g c = λ first before sound start.
+returns-clause-swept g c = λ first before stood sound start.
     let t = c.loop-place.parts in
-    subst (IsSweptOf first c.args.root t) (drop_all c.loop-place.place c.args.parts.now.hand (omega (arith, c.loop-place.invariant.end, c.loop-place-test.false))) (c.loop-place.invariant.swept first before sound start)
+    subst (IsSweptOf first stood c.args.root t) (drop_all c.loop-place.place c.args.parts.now.hand (omega (arith, c.loop-place.invariant.end, c.loop-place-test.false))) (c.loop-place.invariant.swept first before stood sound start)

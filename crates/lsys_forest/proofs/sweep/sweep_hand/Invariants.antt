@@ -1,4 +1,5 @@
 use Rattle.std.proofs.Common.{◌≡◌, List, length, drop}
+use Rattle.lsys_forest.specs.declared.node.Footing.{Footing}
 use Rattle.lsys_forest.specs.Nodes.{Nodes}
 use Rattle.lsys_forest.specs.Changes.{Change}
 use Rattle.lsys_forest.specs.Stocks.{nodes_of, changes_of}
@@ -9,7 +10,7 @@ use Rattle.lsys_forest.proofs.sweep.sweep_hand.Given as goal
 
 abbrev pub invariant-loop-place : goal.invariant-loop-place
 invariant-loop-place g l = record {
-  swept : (first : Nodes g.row.A.Denot) (before : List (Change g.row.A.Denot)) → IsSound l.root before first → IsSweptOf first l.root l.fn.parts l.fn.parts.hand → IsSweptOf first l.root l.parts (drop l.place l.fn.parts.hand);
+  swept : (first : Nodes g.row.A.Denot) (before : List (Change g.row.A.Denot)) (stood : List Footing) → IsSound l.root before first → IsSweptOf first stood l.root l.fn.parts l.fn.parts.hand → IsSweptOf first stood l.root l.parts (drop l.place l.fn.parts.hand);
   keeps : KeepsPlaces l.fn.parts l.parts;
   made : AreMade g.A.Kept.run_at g.A.Kept.Holds l.store (answers (nodes_of l.parts) (changes_of l.parts));
   freed : Follows g.A.Kept.run_at g.A.Kept.Holds (answers (nodes_of l.fn.parts) (changes_of l.fn.parts)) l.fn.store (answers (nodes_of l.parts) (changes_of l.parts)) l.store;

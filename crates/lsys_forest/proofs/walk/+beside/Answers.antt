@@ -32,7 +32,7 @@ next_to-requires-clause-within g t c =
     let is : nodes_of p c.args.node ≡ Some n = ap (option_map (node_of (row_at p.params c.args.node) (row_at p.kids c.args.node))) (sym c.in-Some.ensures) in
     let among = level_parent c.args.root (changes_of p) (nodes_of p) c.requires.sound (c.args.depth - 1) c.args.node n c.requires.among is in
     let live = kids_live c.args.root (changes_of p) (nodes_of p) c.requires.sound n.parent c.args.node among in
-    let here = ranked_at c.args.node n.parent (nodes_of p) c.args.parts.now.ranks c.rank.result c.requires.ranked among c.rank.ensures in
+    let here = ranked_at c.args.node n.parent (nodes_of p) c.args.parts.now.footings c.rank.result c.requires.ranked among c.rank.ensures in
     slice_get_within c.kids.result.now c.rank.result c.args.node (ap (λ l. slice_get l c.rank.result) (c.kids.ensures ∙ rows_are p.slots p.params p.kids n.parent live) ∙ here)
 
 pub next_to-requires-clause-apart : goal.next_to-requires-clause-apart
@@ -54,7 +54,7 @@ returns-in-Some-next_to g t c = λ before after whole.
     let among = level_parent c.args.root cs m c.requires.sound (c.args.depth - 1) c.args.node n c.requires.among is in
     let live = kids_live c.args.root cs m c.requires.sound n.parent c.args.node among in
     let kids : c.kids.result.now ≡ kids_in (m n.parent) = c.kids.ensures ∙ rows_are p.slots p.params p.kids n.parent live in
-    let here = ranked_at c.args.node n.parent m c.args.parts.now.ranks c.rank.result c.requires.ranked among c.rank.ensures in
+    let here = ranked_at c.args.node n.parent m c.args.parts.now.footings c.rank.result c.requires.ranked among c.rank.ensures in
     let next : (before after : List ℕ) → oriented c.args.way (kids_in (m n.parent)) ≡ before ++ c.args.node ∷ after → c.next_to.result ≡ first_in after =
     subst (λ (l : List ℕ). (before after : List ℕ) → oriented c.args.way l ≡ before ++ c.args.node ∷ after → c.next_to.result ≡ first_in after) kids (λ b a. c.next_to.ensures c.args.node b a (ap (λ l. slice_get l c.rank.result) kids ∙ here)) in
     next_on c.args.way c.args.root cs m c.requires.sound (c.args.depth - 1) c.args.node n c.in-Some-next_to.next c.requires.among is (λ b a w. sym c.in-Some-next_to.is ∙ next b a w) before after whole
@@ -69,7 +69,7 @@ returns-then-depth-eq1 g t c = λ before after whole.
     let among = level_parent c.args.root cs m c.requires.sound (c.args.depth - 1) c.args.node n c.requires.among is in
     let live = kids_live c.args.root cs m c.requires.sound n.parent c.args.node among in
     let kids : c.kids.result.now ≡ kids_in (m n.parent) = c.kids.ensures ∙ rows_are p.slots p.params p.kids n.parent live in
-    let here = ranked_at c.args.node n.parent m c.args.parts.now.ranks c.rank.result c.requires.ranked among c.rank.ensures in
+    let here = ranked_at c.args.node n.parent m c.args.parts.now.footings c.rank.result c.requires.ranked among c.rank.ensures in
     let next : (before after : List ℕ) → oriented c.args.way (kids_in (m n.parent)) ≡ before ++ c.args.node ∷ after → c.next_to.result ≡ first_in after =
     subst (λ (l : List ℕ). (before after : List ℕ) → oriented c.args.way l ≡ before ++ c.args.node ∷ after → c.next_to.result ≡ first_in after) kids (λ b a. c.next_to.ensures c.args.node b a (ap (λ l. slice_get l c.rank.result) kids ∙ here)) in
     let top : c.args.depth - 1 ≡ 0 = omega (arith, c.if-depth-eq1.true) in
@@ -86,7 +86,7 @@ beside-at-requires g t c =
     let among = level_parent c.args.root cs m c.requires.sound (c.args.depth - 1) c.args.node n c.requires.among is in
     let live = kids_live c.args.root cs m c.requires.sound n.parent c.args.node among in
     let kids : c.kids.result.now ≡ kids_in (m n.parent) = c.kids.ensures ∙ rows_are p.slots p.params p.kids n.parent live in
-    let here = ranked_at c.args.node n.parent m c.args.parts.now.ranks c.rank.result c.requires.ranked among c.rank.ensures in
+    let here = ranked_at c.args.node n.parent m c.args.parts.now.footings c.rank.result c.requires.ranked among c.rank.ensures in
     let next : (before after : List ℕ) → oriented c.args.way (kids_in (m n.parent)) ≡ before ++ c.args.node ∷ after → c.next_to.result ≡ first_in after =
     subst (λ (l : List ℕ). (before after : List ℕ) → oriented c.args.way l ≡ before ++ c.args.node ∷ after → c.next_to.result ≡ first_in after) kids (λ b a. c.next_to.ensures c.args.node b a (ap (λ l. slice_get l c.rank.result) kids ∙ here)) in
     let deep : c.args.depth - 1 ≡ suc (c.args.depth - 1 - 1) = omega (arith, c.if-depth-eq1.false, c.requires.below) in
@@ -106,7 +106,7 @@ loop-at-init g t c =
     let among = level_parent c.args.root cs m c.requires.sound (c.args.depth - 1) c.args.node n c.requires.among is in
     let live = kids_live c.args.root cs m c.requires.sound n.parent c.args.node among in
     let kids : c.kids.result.now ≡ kids_in (m n.parent) = c.kids.ensures ∙ rows_are p.slots p.params p.kids n.parent live in
-    let here = ranked_at c.args.node n.parent m c.args.parts.now.ranks c.rank.result c.requires.ranked among c.rank.ensures in
+    let here = ranked_at c.args.node n.parent m c.args.parts.now.footings c.rank.result c.requires.ranked among c.rank.ensures in
     let next : (before after : List ℕ) → oriented c.args.way (kids_in (m n.parent)) ≡ before ++ c.args.node ∷ after → c.next_to.result ≡ first_in after =
     subst (λ (l : List ℕ). (before after : List ℕ) → oriented c.args.way l ≡ before ++ c.args.node ∷ after → c.next_to.result ≡ first_in after) kids (λ b a. c.next_to.ensures c.args.node b a (ap (λ l. slice_get l c.rank.result) kids ∙ here)) in
     let deep : c.args.depth - 1 ≡ suc (c.args.depth - 1 - 1) = omega (arith, c.if-depth-eq1.false, c.requires.below) in

@@ -12,7 +12,7 @@ returns-then-eq g t c =
     let p = c.args.parts.now in
     let m = nodes_of p in
     let same : parent_in (m c.args.one) ≡ parent_in (m c.args.two) = sym c.parent_of-parent.ensures ∙ grind (arith, c.eq.ensures, c.if-eq.true) ∙ c.parent_of-other.ensures in
-    let by = by_ranks c.args.root (changes_of p) m c.requires.sound (c.args.depth - 1) c.args.one c.args.two c.rank.result c.rank-then-eq.result c.args.parts.now.ranks c.requires.ranked c.requires.one c.requires.two same c.rank.ensures c.rank-then-eq.ensures in
+    let by = by_ranks c.args.root (changes_of p) m c.requires.sound (c.args.depth - 1) c.args.one c.args.two c.rank.result c.rank-then-eq.result c.args.parts.now.footings c.requires.ranked c.requires.one c.requires.two same c.rank.ensures c.rank-then-eq.ensures in
     search rules
 
 pub is_before-requires : goal.is_before-requires

@@ -4,7 +4,7 @@ use Rattle.lsys_level.specs.Places.{seen_in, params_in}
 use Rattle.lsys_region.specs.Rooms.{list_room}
 use Rattle.lsys_forest.specs.Nodes.{Node}
 use Rattle.lsys_forest.specs.Stocks.{nodes_of, changes_of}
-use Rattle.lsys_forest.specs.Groves.{Grove, now_of, Sets}
+use Rattle.lsys_forest.specs.Groves.{Grove, now_of, Sets, kept_in}
 use Rattle.lsys_forest.proofs.SoundLemmas.{some_of}
 use Rattle.std.proofs.lemmas.Option.{same_Some}
 use Rattle.lsys_forest.specs.declared.node.Stored.{Stored}
@@ -12,6 +12,11 @@ use Rattle.lsys_forest.proofs.StockLemmas.{stored_of}
 use Rattle.lsys_forest.proofs.DepthLemmas.{depth_fits}
 use Rattle.lsys_forest.proofs.RankLemmas.{add_ranked}
 use Rattle.lsys_forest.proofs.GroveLemmas.{sound_now, IsGrove-add, add_rested}
+use Rattle.lsys_forest.proofs.AnswerLemmas.{kept_stay}
+use Rattle.lsys_forest.specs.Answers.{answer_of}
+use Rattle.std.specs.Option.{option_and_then}
+use Rattle.lsys_forest.specs.Changes.{Missing}
+use Rattle.lsys_forest.proofs.LinkLemmas.{add_linked}
 use Rattle.lsys_forest.proofs.forest.Forest.add.Goals as goal
 
 pub overflow_add-depth : goal.overflow_add-depth
@@ -42,6 +47,7 @@ invariant_of-self g c =
     record {
       grove = IsGrove-add i.parts c.insert.new.self i.root i.spare_nodes (i.spare_nodes - 1) i.spare_notes (i.spare_notes - 1) c.insert.result n s.0 (list_room (params_in c.args.symbol.now)) 0 c.insert.ensures.vacant s.1 depth refl c.insert.ensures.few c.insert.ensures.added (omega (arith, asked.1)) (omega (arith, asked.2)) c.self.invariant.grove;
       ranked = add_ranked i.root i.parts c.insert.new.self c.insert.result n (list_room (params_in c.args.symbol.now)) 0 (sound_now c.self.invariant.grove) refl c.insert.ensures.added c.self.invariant.ranked;
+      linked = add_linked i.root i.parts c.insert.new.self c.insert.result i.linked n (list_room (params_in c.args.symbol.now)) 0 (sound_now c.self.invariant.grove) c.insert.ensures.vacant refl c.insert.ensures.added c.self.invariant.linked;
     }
 
 pub returns-clause-added : goal.returns-clause-added
@@ -60,3 +66,10 @@ returns-clause-added g c =
       root = refl;
     })
     ))
+
+pub returns-clause-kept : goal.returns-clause-kept
+returns-clause-kept g c =
+    let i = c.self.inside in
+    let new : Grove g.row.A.Denot = record { stock = c.insert.new.self; root = i.root; spare_nodes = i.spare_nodes - 1; spare_notes = i.spare_notes - 1 } in
+    subst (λ (f : Grove g.row.A.Denot). kept_in new ≡ kept_in f) c.self.view_is
+    (kept_stay i.parts c.insert.new.self c.insert.result _ Missing 1 (list_room (params_in c.args.symbol.now)) 0 (sym (ap (option_and_then answer_of) c.insert.ensures.vacant)) refl c.insert.ensures.added)

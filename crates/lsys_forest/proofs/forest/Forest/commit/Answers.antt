@@ -4,9 +4,10 @@ use Rattle.lsys_forest.specs.Stocks.{nodes_of, changes_of}
 use Rattle.lsys_forest.specs.Answers.{answers, kept_by, AreMade, FreesAllBut}
 use Rattle.lsys_forest.specs.Groves.{Grove, now_of, kept_in, Reached, Spends}
 use Rattle.lsys_forest.proofs.SoundLemmas.{some_of}
-use Rattle.lsys_forest.proofs.SweepLemmas.{IsSound-swept, all_reached, reached_stays}
+use Rattle.lsys_forest.proofs.SweepLemmas.{IsSound-swept, all_reached, reached_stays, left_stood}
 use Rattle.lsys_forest.proofs.GroveLemmas.{sound_now, IsGrove-rest}
 use Rattle.lsys_forest.proofs.AnswerLemmas.{frees_by}
+use Rattle.lsys_forest.proofs.LinkLemmas.{swept_linked}
 use Rattle.lsys_forest.proofs.forest.Forest.commit.Goals as goal
 
 pub sweep_all-requires-clause-made : goal.sweep_all-requires-clause-made
@@ -23,6 +24,7 @@ invariant_of-self g c =
     record {
       grove = IsGrove-rest i.parts c.sweep_all.new.parts i.root i.spare_nodes i.spare_notes sound e.empty e.short e.live e.room c.self.invariant.grove;
       ranked = e.ranked;
+      linked = swept_linked i.root (nodes_of i.parts) (nodes_of c.sweep_all.new.parts) i.parts.footings c.sweep_all.new.parts.footings i.linked sound (left_stood (nodes_of i.parts) i.root (nodes_of c.sweep_all.new.parts) e.swept) e.footings c.self.invariant.linked;
     }
 
 pub returns-clause-stay : goal.returns-clause-stay

@@ -21,7 +21,8 @@ invariant_of-result g c =
         fit = λ some. absurd (omega (arith, some));
         places_left = omega (arith, e.live, e.places, e.notes);
       };
-      ranked = ranked_root (nodes_of p) p.ranks e.nodes;
+      ranked = ranked_root (nodes_of p) p.footings e.nodes;
+      linked = λ t k way before after less whole. absurd (omega (arith, less));
     }
 
 pub returns-clause-root : goal.returns-clause-root

@@ -4,7 +4,7 @@ use Rattle.lsys_forest.specs.Slots.{live_slots}
 use Rattle.lsys_forest.specs.Nodes.{Nodes}
 use Rattle.lsys_forest.specs.Changes.{undone}
 use Rattle.lsys_forest.specs.Stocks.{Stock, nodes_of, changes_of}
-use Rattle.lsys_forest.specs.Ranks.{AreRanked}
+use Rattle.lsys_forest.specs.Ranks.{AreRanked, AreLinked}
 use Rattle.lsys_forest.specs.Groves.{Grove, live_nodes, rest_of, IsGrove, KeepsSpares}
 use Rattle.lsys_forest.proofs.GroveLemmas.{IsGrove-room}
 use Rattle.lsys_forest.proofs.forest.Forest.reserve.Goals.{then-room-nodes, else-room-nodes}
@@ -17,7 +17,8 @@ invariant_of-self g c =
     let grove = c.self.invariant.grove in
     record {
       grove = IsGrove-room i.parts c.reserve.new.self i.root i.spare_nodes i.spare_notes i.spare_nodes i.spare_notes e.nodes e.changes e.notes e.live (omega (arith, e.live, e.keeps.capacity, grove.nodes_left)) (omega (arith, e.live, grove.numbers)) (λ some. (let f = grove.fit some in omega (arith, f, e.keeps.capacity))) (omega (arith, e.live, e.notes, e.keeps.places, grove.places_left)) grove;
-      ranked = subst (λ (m : Nodes g.row.A.Denot). AreRanked m c.reserve.new.self.ranks) (sym e.nodes) (subst (AreRanked (nodes_of i.parts)) (sym e.ranks) c.self.invariant.ranked);
+      ranked = subst (λ (m : Nodes g.row.A.Denot). AreRanked m c.reserve.new.self.footings) (sym e.nodes) (subst (AreRanked (nodes_of i.parts)) (sym e.footings) c.self.invariant.ranked);
+      linked = subst (λ (m : Nodes g.row.A.Denot). AreLinked m i.root c.reserve.new.self.footings i.linked) (sym e.nodes) (subst (λ fs. AreLinked (nodes_of i.parts) i.root fs i.linked) (sym e.footings) c.self.invariant.linked);
     }
 
 pub invariant_of-self-2 : goal.invariant_of-self-2
@@ -36,7 +37,8 @@ invariant_of-self-2 g c =
     record {
       grove = IsGrove-room c.reserve.new.self new i.root i.spare_nodes i.spare_notes c.room_for-room.result c.max-spare_notes.result (ap (λ (t : Stock g.row.A.Denot). nodes_of t) r.same) (ap (λ (t : Stock g.row.A.Denot). changes_of t) r.same) notes (ap (λ (t : Stock g.row.A.Denot). live_slots t.slots) r.same)
           (omega (arith, live, e.live, r.room)) (omega (arith, live, e.live, r.most, asked, grove.numbers)) r.fit (omega (arith, live, notes, places, more.places, more.fits, r.most, c.max-spare_nodes.ensures, c.saturating_add-places.ensures, c.live.ensures, e.notes)) was;
-      ranked = subst (λ (t : Stock g.row.A.Denot). AreRanked (nodes_of t) t.ranks) (sym r.same) (subst (λ (m : Nodes g.row.A.Denot). AreRanked m c.reserve.new.self.ranks) (sym e.nodes) (subst (AreRanked (nodes_of i.parts)) (sym e.ranks) c.self.invariant.ranked));
+      ranked = subst (λ (t : Stock g.row.A.Denot). AreRanked (nodes_of t) t.footings) (sym r.same) (subst (λ (m : Nodes g.row.A.Denot). AreRanked m c.reserve.new.self.footings) (sym e.nodes) (subst (AreRanked (nodes_of i.parts)) (sym e.footings) c.self.invariant.ranked));
+      linked = subst (λ (t : Stock g.row.A.Denot). AreLinked (nodes_of t) i.root t.footings i.linked) (sym r.same) (subst (λ (m : Nodes g.row.A.Denot). AreLinked m i.root c.reserve.new.self.footings i.linked) (sym e.nodes) (subst (λ fs. AreLinked (nodes_of i.parts) i.root fs i.linked) (sym e.footings) c.self.invariant.linked));
     }
 
 pub returns-clause-now : goal.returns-clause-now

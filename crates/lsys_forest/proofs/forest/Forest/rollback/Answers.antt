@@ -11,6 +11,7 @@ pub undo_all-requires : goal.undo_all-requires
 undo_all-requires g c = record {
   sound = c.self.invariant.grove.sound;
   ranked = c.self.invariant.ranked;
+  linked = c.self.invariant.linked;
   made = subst (λ (f : Grove g.row.A.Denot). AreMade g.A.Kept.run_at g.A.Kept.Holds c.args.store.now (kept_in f)) (sym c.self.view_is) c.requires.made;
 }
 
@@ -21,6 +22,7 @@ invariant_of-self g c =
     record {
       grove = IsGrove-rest i.parts c.undo_all.new.parts i.root i.spare_nodes i.spare_notes (subst (IsSound i.root []) (sym e.nodes) (sound_rest c.self.invariant.grove)) e.empty e.short e.live e.room c.self.invariant.grove;
       ranked = e.ranked;
+      linked = e.linked;
     }
 
 pub returns-clause-spares : goal.returns-clause-spares

@@ -7,6 +7,7 @@ use Rattle.lsys_forest.specs.Groves.{Grove, now_of, changes_in, Sets, Spends}
 use Rattle.lsys_forest.proofs.SoundLemmas.{some_of, set_answer}
 use Rattle.lsys_forest.proofs.RankLemmas.{set_ranked}
 use Rattle.lsys_forest.proofs.GroveLemmas.{sound_now, IsGrove-set, set_rested}
+use Rattle.lsys_forest.proofs.LinkLemmas.{set_linked}
 use Rattle.lsys_forest.proofs.forest.Forest.set_answer.Goals as goal
 
 pub invariant_of-self : goal.invariant_of-self
@@ -19,6 +20,7 @@ invariant_of-self g c =
     record {
       grove = grove;
       ranked = set_ranked i.root i.parts c.set_answer.new.self c.args.node s.0 (with_answer c.args.answer s.0) _ 0 0 (sound_now c.self.invariant.grove) s.1 refl j c.self.invariant.ranked;
+      linked = set_linked i.root (changes_of c.set_answer.new.self) i.parts c.set_answer.new.self c.args.node i.linked s.0 (with_answer c.args.answer s.0) _ 0 0 (sound_now grove) s.1 refl j c.self.invariant.linked;
     }
 
 pub returns-clause-set : goal.returns-clause-set

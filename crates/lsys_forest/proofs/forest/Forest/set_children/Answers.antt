@@ -4,12 +4,17 @@ use Rattle.lsys_region.specs.Rooms.{list_room}
 use Rattle.lsys_forest.specs.Nodes.{Node, with_kids}
 use Rattle.lsys_forest.specs.Stocks.{Stock, nodes_of, changes_of}
 use Rattle.lsys_forest.specs.Slots.{live_slots}
-use Rattle.lsys_forest.specs.Changes.{undone}
-use Rattle.lsys_forest.specs.Ranks.{AreRanked}
-use Rattle.lsys_forest.specs.Groves.{Grove, now_of, AreKids, Sets, Spends, IsGrove}
+use Rattle.lsys_forest.specs.Changes.{undone, OldKids}
+use Rattle.lsys_forest.specs.Ranks.{AreRanked, AreLinked}
+use Rattle.lsys_forest.specs.Groves.{Grove, now_of, AreKids, Sets, Spends, IsGrove, kept_in}
 use Rattle.lsys_forest.proofs.SoundLemmas.{some_of, set_kids}
 use Rattle.lsys_forest.proofs.RankLemmas.{kids_ranked}
 use Rattle.lsys_forest.proofs.GroveLemmas.{sound_now, IsGrove-set, set_rested}
+use Rattle.lsys_forest.proofs.AnswerLemmas.{kept_stay}
+use Rattle.lsys_forest.specs.Answers.{answer_of, answers}
+use Rattle.std.specs.Option.{option_and_then}
+use Rattle.lsys_forest.proofs.LinkLemmas.{kids_linked}
+use Rattle.lsys_forest.specs.Rows.{depth_in}
 use Rattle.lsys_forest.proofs.forest.Forest.set_children.Goals as goal
 
 pub rerank-requires : goal.rerank-requires
@@ -32,12 +37,15 @@ invariant_of-self g c =
     let grove = IsGrove-set i.parts c.set_kids.new.self i.root i.spare_nodes i.spare_notes (i.spare_notes - 1) c.args.node s.0 (with_kids c.args.kids.now s.0) _ 0 (list_room c.args.kids.now) (set_kids i.root (changes_of i.parts) (nodes_of i.parts) c.args.node s.0 c.args.kids.now kids (sound_now c.self.invariant.grove) s.1) (c.set_kids.ensures s.0 s.1) (omega (arith, asked.1)) c.self.invariant.grove in
     let e = c.rerank.ensures in
     let n = with_kids c.args.kids.now s.0 in
-    let ranks = c.rerank.new.self.ranks in
+    let footings = c.rerank.new.self.footings in
     let old = c.set_kids.new.self in
-    let now : IsGrove (record old { ranks = ranks }) i.root i.spare_nodes (i.spare_notes - 1) = record { sound = grove.sound; nodes_left = grove.nodes_left; numbers = grove.numbers; fit = grove.fit; places_left = grove.places_left } in
+    let high : c.depth.result ≡ depth_in (nodes_of old c.args.node) = c.depth.ensures ∙ ap (λ (t : Stock g.row.A.Denot). depth_in (nodes_of t c.args.node)) e.same in
+    let now : IsGrove (record old { footings = footings }) i.root i.spare_nodes (i.spare_notes - 1) = record { sound = grove.sound; nodes_left = grove.nodes_left; numbers = grove.numbers; fit = grove.fit; places_left = grove.places_left } in
     record {
       grove = subst (λ (t : Stock g.row.A.Denot). IsGrove t i.root i.spare_nodes (i.spare_notes - 1)) (sym e.same) now;
-      ranked = subst (λ (t : Stock g.row.A.Denot). AreRanked (nodes_of t) ranks) (sym e.same) (kids_ranked i.root i.parts old ranks c.args.node n _ 0 (list_room c.args.kids.now) (sound_now c.self.invariant.grove) j c.self.invariant.ranked e.ranked);
+      ranked = subst (λ (t : Stock g.row.A.Denot). AreRanked (nodes_of t) footings) (sym e.same) (kids_ranked i.root i.parts old footings c.args.node n _ 0 (list_room c.args.kids.now) (sound_now c.self.invariant.grove) j c.self.invariant.ranked e.ranked);
+      linked = subst (λ (t : Stock g.row.A.Denot). AreLinked (nodes_of t) i.root footings c.min-self-inside.result) (sym e.same)
+          (kids_linked i.root (changes_of old) i.parts old footings c.args.node i.linked c.min-self-inside.result s.0 n _ 0 (list_room c.args.kids.now) (sound_now grove) s.1 j e.links (omega (arith, c.min-self-inside.ensures)) (omega (arith, c.min-self-inside.ensures, high)) c.self.invariant.linked);
     }
 
 pub returns-clause-set : goal.returns-clause-set
@@ -51,6 +59,15 @@ returns-clause-set g c =
       rest = ap (λ (t : Stock g.row.A.Denot). undone (changes_of t) (nodes_of t)) c.rerank.ensures.same ∙ set_rested i.parts c.set_kids.new.self i.root c.args.node n (with_kids c.args.kids.now n) _ 0 (list_room c.args.kids.now) (set_kids i.root (changes_of i.parts) (nodes_of i.parts) c.args.node n c.args.kids.now kids (sound_now c.self.invariant.grove) is) (c.set_kids.ensures n is);
       root = refl;
     })
+
+pub returns-clause-kept : goal.returns-clause-kept
+returns-clause-kept g c =
+    let i = c.self.inside in
+    let lives = subst (λ (f : Grove g.row.A.Denot). IsSome (now_of f c.args.node)) (sym c.self.view_is) c.requires.lives in
+    let s = some_of (nodes_of i.parts c.args.node) lives in
+    let new : Grove g.row.A.Denot = record { stock = c.rerank.new.self; root = i.root; spare_nodes = i.spare_nodes; spare_notes = i.spare_notes - 1 } in
+    subst (λ (f : Grove g.row.A.Denot). kept_in new ≡ kept_in f) c.self.view_is
+    (ap (λ (t : Stock g.row.A.Denot). answers (nodes_of t) (changes_of t)) c.rerank.ensures.same ∙ kept_stay i.parts c.set_kids.new.self c.args.node (Some (with_kids c.args.kids.now s.0)) (OldKids s.0.kids) 0 0 (list_room c.args.kids.now) (sym (ap (option_and_then answer_of) s.1)) refl (c.set_kids.ensures s.0 s.1))
 
 pub returns-clause-spends : goal.returns-clause-spends
 returns-clause-spends g c =

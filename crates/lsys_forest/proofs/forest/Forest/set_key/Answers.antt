@@ -1,11 +1,16 @@
-use Rattle.std.proofs.Common.{◌≡◌, ◌<◌, ◌-◌, Some, refl, sym, subst, arith}
+use Rattle.std.proofs.Common.{◌≡◌, ◌<◌, ◌-◌, Some, refl, sym, subst, arith, ap}
 use Rattle.std.specs.Prelude.{IsSome}
 use Rattle.lsys_forest.specs.Nodes.{Node, with_key}
 use Rattle.lsys_forest.specs.Stocks.{nodes_of, changes_of}
-use Rattle.lsys_forest.specs.Groves.{Grove, now_of, Sets, Spends}
+use Rattle.lsys_forest.specs.Groves.{Grove, now_of, Sets, Spends, kept_in}
 use Rattle.lsys_forest.proofs.SoundLemmas.{some_of, set_key}
 use Rattle.lsys_forest.proofs.RankLemmas.{set_ranked}
 use Rattle.lsys_forest.proofs.GroveLemmas.{sound_now, IsGrove-set, set_rested}
+use Rattle.lsys_forest.proofs.AnswerLemmas.{kept_stay}
+use Rattle.lsys_forest.specs.Answers.{answer_of}
+use Rattle.std.specs.Option.{option_and_then}
+use Rattle.lsys_forest.specs.Changes.{OldKey}
+use Rattle.lsys_forest.proofs.LinkLemmas.{set_linked}
 use Rattle.lsys_forest.proofs.forest.Forest.set_key.Goals as goal
 
 pub invariant_of-self : goal.invariant_of-self
@@ -18,6 +23,7 @@ invariant_of-self g c =
     record {
       grove = grove;
       ranked = set_ranked i.root i.parts c.set_key.new.self c.args.node s.0 (with_key c.args.key s.0) _ 0 0 (sound_now c.self.invariant.grove) s.1 refl j c.self.invariant.ranked;
+      linked = set_linked i.root (changes_of c.set_key.new.self) i.parts c.set_key.new.self c.args.node i.linked s.0 (with_key c.args.key s.0) _ 0 0 (sound_now grove) s.1 refl j c.self.invariant.linked;
     }
 
 pub returns-clause-set : goal.returns-clause-set
@@ -30,6 +36,15 @@ returns-clause-set g c =
       rest = set_rested i.parts c.set_key.new.self i.root c.args.node n (with_key c.args.key n) _ 0 0 (set_key i.root (changes_of i.parts) (nodes_of i.parts) c.args.node n c.args.key (sound_now c.self.invariant.grove) is) (c.set_key.ensures n is);
       root = refl;
     })
+
+pub returns-clause-kept : goal.returns-clause-kept
+returns-clause-kept g c =
+    let i = c.self.inside in
+    let lives = subst (λ (f : Grove g.row.A.Denot). IsSome (now_of f c.args.node)) (sym c.self.view_is) c.requires.lives in
+    let s = some_of (nodes_of i.parts c.args.node) lives in
+    let new : Grove g.row.A.Denot = record { stock = c.set_key.new.self; root = i.root; spare_nodes = i.spare_nodes; spare_notes = i.spare_notes - 1 } in
+    subst (λ (f : Grove g.row.A.Denot). kept_in new ≡ kept_in f) c.self.view_is
+    (kept_stay i.parts c.set_key.new.self c.args.node (Some (with_key c.args.key s.0)) (OldKey s.0.key) 0 0 0 (sym (ap (option_and_then answer_of) s.1)) refl (c.set_key.ensures s.0 s.1))
 
 pub returns-clause-spends : goal.returns-clause-spends
 returns-clause-spends g c =

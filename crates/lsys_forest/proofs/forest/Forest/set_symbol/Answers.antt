@@ -1,13 +1,18 @@
-use Rattle.std.proofs.Common.{◌≡◌, ◌<◌, ◌-◌, Some, refl, sym, subst, arith}
+use Rattle.std.proofs.Common.{◌≡◌, ◌<◌, ◌-◌, Some, refl, sym, subst, arith, ap}
 use Rattle.std.specs.Prelude.{IsSome}
 use Rattle.lsys_level.specs.Places.{seen_in, params_in}
 use Rattle.lsys_region.specs.Rooms.{list_room}
 use Rattle.lsys_forest.specs.Nodes.{Node, with_seen}
 use Rattle.lsys_forest.specs.Stocks.{nodes_of, changes_of}
-use Rattle.lsys_forest.specs.Groves.{Grove, now_of, Sets, Spends}
+use Rattle.lsys_forest.specs.Groves.{Grove, now_of, Sets, Spends, kept_in}
 use Rattle.lsys_forest.proofs.SoundLemmas.{some_of, set_seen}
 use Rattle.lsys_forest.proofs.RankLemmas.{set_ranked}
 use Rattle.lsys_forest.proofs.GroveLemmas.{sound_now, IsGrove-set, set_rested}
+use Rattle.lsys_forest.proofs.AnswerLemmas.{kept_stay}
+use Rattle.lsys_forest.specs.Answers.{answer_of}
+use Rattle.std.specs.Option.{option_and_then}
+use Rattle.lsys_forest.specs.Changes.{OldSeen}
+use Rattle.lsys_forest.proofs.LinkLemmas.{set_linked}
 use Rattle.lsys_forest.proofs.forest.Forest.set_symbol.Goals as goal
 
 pub invariant_of-self : goal.invariant_of-self
@@ -20,6 +25,7 @@ invariant_of-self g c =
     record {
       grove = grove;
       ranked = set_ranked i.root i.parts c.set_symbol.new.self c.args.node s.0 (with_seen (seen_in c.args.symbol.now) s.0) _ (list_room (params_in c.args.symbol.now)) 0 (sound_now c.self.invariant.grove) s.1 refl j c.self.invariant.ranked;
+      linked = set_linked i.root (changes_of c.set_symbol.new.self) i.parts c.set_symbol.new.self c.args.node i.linked s.0 (with_seen (seen_in c.args.symbol.now) s.0) _ (list_room (params_in c.args.symbol.now)) 0 (sound_now grove) s.1 refl j c.self.invariant.linked;
     }
 
 pub returns-clause-set : goal.returns-clause-set
@@ -32,6 +38,15 @@ returns-clause-set g c =
       rest = set_rested i.parts c.set_symbol.new.self i.root c.args.node n (with_seen (seen_in c.args.symbol.now) n) _ (list_room (params_in c.args.symbol.now)) 0 (set_seen i.root (changes_of i.parts) (nodes_of i.parts) c.args.node n (seen_in c.args.symbol.now) c.set_symbol.ensures.few (sound_now c.self.invariant.grove) is) (c.set_symbol.ensures.set n is);
       root = refl;
     })
+
+pub returns-clause-kept : goal.returns-clause-kept
+returns-clause-kept g c =
+    let i = c.self.inside in
+    let lives = subst (λ (f : Grove g.row.A.Denot). IsSome (now_of f c.args.node)) (sym c.self.view_is) c.requires.lives in
+    let s = some_of (nodes_of i.parts c.args.node) lives in
+    let new : Grove g.row.A.Denot = record { stock = c.set_symbol.new.self; root = i.root; spare_nodes = i.spare_nodes; spare_notes = i.spare_notes - 1 } in
+    subst (λ (f : Grove g.row.A.Denot). kept_in new ≡ kept_in f) c.self.view_is
+    (kept_stay i.parts c.set_symbol.new.self c.args.node (Some (with_seen (seen_in c.args.symbol.now) s.0)) (OldSeen s.0.seen) 0 (list_room (params_in c.args.symbol.now)) 0 (sym (ap (option_and_then answer_of) s.1)) refl (c.set_symbol.ensures.set s.0 s.1))
 
 pub returns-clause-spends : goal.returns-clause-spends
 returns-clause-spends g c =

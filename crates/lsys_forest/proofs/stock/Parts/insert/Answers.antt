@@ -72,7 +72,7 @@ returns-clause-added g c =
       param_room = subst (λ m. i.params.pool.spare ≤ p'.pool.spare + list_room m) c.params_of.ensures.params e.has_params.spare;
       kid_room = omega (arith, e.no_kids.spare, room_nil 0);
       hand = ap (λ (r : Shelf ℕ). r.hand) e.no_kids.rest;
-      ranks = λ j lives. e.ranks j (λ same. gone (slot_at i.table.slots j) (row_at params j) (row_at kids j) (ap (slot_at i.table.slots) same ∙ e.vacant) lives);
+      footings = λ j lives. e.footings j (λ same. gone (slot_at i.table.slots j) (row_at params j) (row_at kids j) (ap (slot_at i.table.slots) same ∙ e.vacant) lives);
     })
   where
     gone : {A : Type 0} (o : Option (Stored A)) (x : List ℤ) (y : List ℕ) → o ≡ None → IsSome (option_map (node_of x y) o) → ⊥

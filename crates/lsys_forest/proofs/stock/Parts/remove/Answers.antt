@@ -5,7 +5,7 @@ use Rattle.std.proofs.lemmas.Option.{same_Some}
 use Rattle.lsys_forest.specs.declared.note.Was.TheVariants as was
 use Rattle.lsys_forest.specs.declared.node.Stored.{Stored}
 use Rattle.lsys_forest.specs.Shelves.{Shelf, shown}
-use Rattle.lsys_forest.specs.Slots.{slot_at, rank_at, live_slots}
+use Rattle.lsys_forest.specs.Slots.{slot_at, no_footing, footing_at, live_slots}
 use Rattle.lsys_forest.specs.Nodes.{Node}
 use Rattle.lsys_forest.specs.Changes.{OldKids}
 use Rattle.lsys_forest.specs.Answers.{IsMade, Releases}
@@ -96,7 +96,7 @@ returns g c =
           kid_room = omega (arith, e.no_kids.spare, room_nil 0);
         };
         hand = ap (λ (r : Shelf ℕ). r.hand) e.no_kids.swapped;
-        ranks = λ j ne. ap (λ r. rank_at r j) e.ranks ∙ get_set_other i.table.ranks k j 0 0 ne;
+        footings = λ j ne. ap (λ r. footing_at r j) e.footings ∙ get_set_other i.table.footings k j no_footing no_footing ne;
       },
       subst (λ o. Releases g.A.Kept.run_at g.A.Kept.Holds o c.args.store.now c.release_one.new.store) (ap (λ (r : Stored g.row.A.Denot). r.answer) same ∙ ap (λ (m : Node g.row.A.Denot). m.answer) s.2) c.release_one.ensures,
     )

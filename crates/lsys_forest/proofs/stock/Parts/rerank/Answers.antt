@@ -2,7 +2,8 @@ use Rattle.std.proofs.Common.{◌≡◌, ◌≢◌, ℕ, map, slice_get, Option,
 use Rattle.std.specs.Prelude.{IsSome, option_map}
 use Rattle.std.proofs.lemmas.Option.{none-some}
 use Rattle.lsys_forest.specs.Shelves.{shown, run_at}
-use Rattle.lsys_forest.specs.Slots.{slot_at}
+use Rattle.lsys_forest.specs.declared.walk.Way.{Way}
+use Rattle.lsys_forest.specs.Slots.{slot_at, link_at}
 use Rattle.lsys_forest.specs.Nodes.{Node, Nodes}
 use Rattle.lsys_forest.specs.Stocks.{Stock, nodes_of, changes_of, row_at, node_of}
 use Rattle.lsys_forest.specs.Groves.{In, AreApart, IsSound}
@@ -64,8 +65,8 @@ returns-in-Some-clause-ranked g c =
     let s = subst (λ (t : Stock g.row.A.Denot). (root : ℕ) × IsSound root (changes_of t) (nodes_of t)) (sym c.self.view_is) c.requires in
     let lives = mapped_some (slot_at i.table.slots k) (run_at i.table.kid_runs k) c.in-Some.run'.now c.in-Some.ensures (node_of (row_at params k) (row_at kids k)) in
     let list : c.read-kids.result.now ≡ kids_in (m k) = run_read i.kids i.table.kid_runs (slot_at i.table.slots k) k c.in-Some.run'.now c.read-kids.result.now c.in-Some.ensures c.read-kids.ensures ∙ rows_are i.table.slots params kids k lives in
-    subst (λ (t : Stock g.row.A.Denot). (before : Nodes g.row.A.Denot) → ((j : ℕ) → j ≢ k → nodes_of t j ≡ before j) → AreRanked before t.ranks → AreRanked (nodes_of t) c.number.new.table.ranks) c.self.view_is
-    (λ before other ranked. reranked s.0 _ before m k i.table.ranks c.number.new.table.ranks s.1 other (λ x j here. c.number.ensures.stands x j (ap (λ l. slice_get l x) list ∙ here)) (λ j none. c.number.ensures.others j (λ h. none (subst (In j) list h))) ranked)
+    subst (λ (t : Stock g.row.A.Denot). (before : Nodes g.row.A.Denot) → ((j : ℕ) → j ≢ k → nodes_of t j ≡ before j) → AreRanked before t.footings → AreRanked (nodes_of t) c.number.new.table.footings) c.self.view_is
+    (λ before other ranked. reranked s.0 _ before m k i.table.footings c.number.new.table.footings s.1 other (λ x j here. c.number.ensures.stands x j (ap (λ l. slice_get l x) list ∙ here)) (λ j none. c.number.ensures.others j (λ h. none (subst (In j) list h))) ranked)
 
 pub returns-in_default-clause-ranked : goal.returns-in_default-clause-ranked
 returns-in_default-clause-ranked g c =
@@ -76,5 +77,9 @@ returns-in_default-clause-ranked g c =
     let m = shown_nodes i.table.slots params kids in
     let s = subst (λ (t : Stock g.row.A.Denot). (root : ℕ) × IsSound root (changes_of t) (nodes_of t)) (sym c.self.view_is) c.requires in
     let none : m k ≡ None = mapped_none (slot_at i.table.slots k) (run_at i.table.kid_runs k) c.in_default.ensures (node_of (row_at params k) (row_at kids k)) in
-    subst (λ (t : Stock g.row.A.Denot). (before : Nodes g.row.A.Denot) → ((j : ℕ) → j ≢ k → nodes_of t j ≡ before j) → AreRanked before t.ranks → AreRanked (nodes_of t) t.ranks) c.self.view_is
-    (λ before other ranked. reranked s.0 _ before m k i.table.ranks i.table.ranks s.1 other (λ x j here. absurd (none-some j (ap (λ (o : Option (Node g.row.A.Denot)). slice_get (kids_in o) x) (sym none) ∙ here))) (λ j no. refl) ranked)
+    subst (λ (t : Stock g.row.A.Denot). (before : Nodes g.row.A.Denot) → ((j : ℕ) → j ≢ k → nodes_of t j ≡ before j) → AreRanked before t.footings → AreRanked (nodes_of t) t.footings) c.self.view_is
+    (λ before other ranked. reranked s.0 _ before m k i.table.footings i.table.footings s.1 other (λ x j here. absurd (none-some j (ap (λ (o : Option (Node g.row.A.Denot)). slice_get (kids_in o) x) (sym none) ∙ here))) (λ j no. refl) ranked)
+
+pub returns-in-Some-clause-links : goal.returns-in-Some-clause-links
+returns-in-Some-clause-links g c =
+    subst (λ (t : Stock g.row.A.Denot). (way : Way) (j : ℕ) → link_at way c.number.new.table.footings j ≡ link_at way t.footings j) c.self.view_is c.number.ensures.links

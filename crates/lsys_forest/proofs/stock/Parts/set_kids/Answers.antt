@@ -4,7 +4,7 @@ use Rattle.std.proofs.lemmas.List.{length_push, length-map}
 use Rattle.lsys_region.specs.Rooms.{list_room}
 use Rattle.lsys_forest.specs.declared.note.Was.TheVariants as was
 use Rattle.lsys_forest.specs.Shelves.{Shelf, shown, IsOwner}
-use Rattle.lsys_forest.specs.Slots.{SlotTable, rank_at, live_slots}
+use Rattle.lsys_forest.specs.Slots.{SlotTable, footing_at, live_slots}
 use Rattle.lsys_forest.specs.Nodes.{Node, with_kids}
 use Rattle.lsys_forest.specs.Changes.{OldKids}
 use Rattle.lsys_forest.specs.Stocks.{Stock, row_at, nodes_of, told, stock_of, Journals}
@@ -67,5 +67,5 @@ returns g c =
       param_room = omega arith;
       kid_room = e.swapped.spare;
       hand = ap (λ (s : Shelf ℕ). s.hand) e.swapped.swapped;
-      ranks = λ j lives. ap (λ (x : SlotTable g.row.A.Denot). rank_at x.ranks j) e.table;
+      footings = λ j lives. ap (λ (x : SlotTable g.row.A.Denot). footing_at x.footings j) e.table;
     })

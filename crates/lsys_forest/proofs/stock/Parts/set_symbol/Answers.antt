@@ -3,7 +3,7 @@ use Rattle.std.specs.Prelude.{IsSome, option_map, vec_capacity}
 use Rattle.std.proofs.lemmas.List.{length_push, length-map}
 use Rattle.lsys_level.specs.Places.{seen_in, params_in}
 use Rattle.lsys_region.specs.Rooms.{list_room}
-use Rattle.lsys_forest.specs.Slots.{SlotTable, slot_at, rank_at, live_slots, change_slot, kind_set}
+use Rattle.lsys_forest.specs.Slots.{SlotTable, slot_at, footing_at, live_slots, change_slot, kind_set}
 use Rattle.lsys_forest.specs.declared.note.Was.TheVariants as was
 use Rattle.lsys_forest.specs.Shelves.{Shelf, shown, shelf_of, IsOwner}
 use Rattle.lsys_forest.specs.Nodes.{Node, put, with_seen}
@@ -93,5 +93,5 @@ returns-clause-set g c =
       param_room = subst (λ m. i.params.pool.spare ≤ p'.pool.spare + list_room m) c.params_of.ensures.params swapped.spare;
       kid_room = omega arith;
       hand = refl;
-      ranks = λ j lives. ap (λ (y : SlotTable g.row.A.Denot). rank_at y.ranks j) is_table;
+      footings = λ j lives. ap (λ (y : SlotTable g.row.A.Denot). footing_at y.footings j) is_table;
     })

@@ -70,7 +70,7 @@ returns-in-Some-clause-taken g c =
         nodes = ap₂ (λ x y. shown_nodes i.table.slots x y) done.params done.kids;
         live = refl;
         looks = e.named new.hand ∙ done.looks;
-        ranks = refl;
+        footings = refl;
       },
       subst (λ o. Releases g.A.Kept.run_at g.A.Kept.Holds o c.args.store.now c.take_note.new.store) (sym done.answer) e.released,
     )

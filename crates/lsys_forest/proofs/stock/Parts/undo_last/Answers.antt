@@ -4,7 +4,7 @@ use Rattle.std.proofs.lemmas.List.{length_push}
 use Rattle.lsys_forest.specs.Shelves.{shelf_of}
 use Rattle.lsys_forest.specs.Changes.{Change}
 use Rattle.lsys_forest.specs.Answers.{IsMade, Releases}
-use Rattle.lsys_forest.specs.Stocks.{Stock, nodes_of, changes_of, told, dropped, IsStock, stock_of, KeepsRanks, Undoes}
+use Rattle.lsys_forest.specs.Stocks.{Stock, nodes_of, changes_of, told, dropped, IsStock, stock_of, KeepsFootings, Undoes}
 use Rattle.lsys_forest.proofs.BackLemmas.{last_undone, undo_done, undone_kept}
 use Rattle.lsys_forest.proofs.stock.Parts.undo_last.Goals as goal
 
@@ -70,8 +70,8 @@ returns-in-Some-clause-undone g c = λ yes.
       subst (λ o. Releases g.A.Kept.run_at g.A.Kept.Holds o c.args.store.now c.undo_note.new.store) (sym done.answer) e.released,
     )
 
-pub returns-in-Some-clause-ranks : goal.returns-in-Some-clause-ranks
-returns-in-Some-clause-ranks g c =
+pub returns-in-Some-clause-footings : goal.returns-in-Some-clause-footings
+returns-in-Some-clause-footings g c =
     let i = c.self.inside in
     let k = c.in-Some.note.node in
     let w = c.in-Some.note.was in
@@ -84,5 +84,5 @@ returns-in-Some-clause-ranks g c =
     let e = c.undo_note.ensures in
     let done = undo_done i.table.slots t'.slots P (shelf_of p' t'.param_runs) Q (shelf_of q' t'.kid_runs) c.pop.new.self.items k w is e.slots e.old_params e.old_kids in
     let new : Stock g.row.A.Denot = stock_of t' p' q' c.pop.new.self.items (vec_capacity c.pop.new.self) in
-    subst (λ (t : Stock g.row.A.Denot). KeepsRanks (nodes_of new) t new) c.self.view_is
-    (undone_kept i.table.slots t'.slots new.params new.kids i.table.ranks t'.ranks k w e.slots e.ranks)
+    subst (λ (t : Stock g.row.A.Denot). KeepsFootings (nodes_of new) t new) c.self.view_is
+    (undone_kept i.table.slots t'.slots new.params new.kids i.table.footings t'.footings k w e.slots e.footings)
