@@ -1,4 +1,7 @@
 pub mod Rests
 pub mod Stages
 pub mod Passes
+pub mod Places
+pub mod Read
+pub mod Steps
 pub mod Moves
