@@ -62,6 +62,9 @@ distinct_all : (xs : List (List Symbol)) → ((t : ℕ) (x : List Symbol) → sl
 distinct_all [] h = tt
 distinct_all (x ∷ xs) h = (h 0 x refl, distinct_all xs (λ t y e. h (suc t) y e))
 
+zero_plus : (p : ℕ) → 0 + p ≡ p
+zero_plus p = omega arith
+
 -- a level below the last one has the questions of its modules
 pub asked_there : (s : System) (limit : ℕ) (xs : List (List Symbol)) → WellSpelled s → meaning s limit ≡ Ok xs → (t : ℕ) (x : List Symbol) → slice_get xs t ≡ Some x → t < s.depth
     → (p : ℕ) (l : List ℕ) (m : ModuleValue) → slice_get x p ≡ Some (Module l m) → (group s t m.name (length m.params) ≡ [] → ⊥) → question_at t l (questions s xs) ≡ Some (module_question s t x p l m)
@@ -71,6 +74,7 @@ asked_there s limit xs w e t x there below p l m stands rules =
     ∙ ap (λ (y : List Symbol). kept_at (level_questions s t y) (place_of l y)) (get_or_from_slice_get xs t x [] there)
     ∙ ap (kept_at (level_questions s t x)) (place_is x p (Module l m) (grown_to s limit s.depth xs w e t x there).level stands)
     ∙ by_place s t x 0 x p (Module l m) stands
+    ∙ ap (λ q. question_here s t x q (Module l m)) (zero_plus p)
     ∙ grouped (group s t m.name (length m.params)) (module_question s t x p l m) rules
 
 -- such a question isn't needed
@@ -136,7 +140,7 @@ module _ (s : System) (limit : ℕ) (m : Nodes Kept) (root : ℕ) (store : Store
     | inr ge ↦ elim (cases_lt s.depth t) [
       | inl far ↦
           let past = no_more m root (length (meant s limit)) (t - length (meant s limit)) r.ends in
-          let same : length (meant s limit) + t - length (meant s limit) ≡ t = (let c = count_is in omega (arith, c, far)) in
+          let same : length (meant s limit) + (t - length (meant s limit)) ≡ t = (let c = count_is in omega (arith, c, far)) in
           absurd (subst (In k) (sym (ap (level_nodes m root) same) ∙ past) on)
       | inr near ↦
           let same : t ≡ s.depth = omega (arith, ge, near) in

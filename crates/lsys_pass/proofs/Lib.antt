@@ -5,4 +5,5 @@ pub mod Alike
 pub mod Before
 pub mod Stepping
 pub mod Needed
+pub mod Reading
 pub mod Backing

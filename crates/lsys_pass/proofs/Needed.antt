@@ -87,12 +87,12 @@ module _ (s : Stage) (t node : ℕ) (n : Node Kept) (front back : List ℕ) (x :
       }
 
   -- its question, by the definitions
-  asked : (p : ℕ) → ModuleValue → Question
+  abbrev asked : (p : ℕ) → ModuleValue → Question
   asked p m = module_question s.next t (level_of s.now s.root t) p (names s.now node) m
 
   -- 2. the old level
 
-  olds : List (List Symbol)
+  abbrev olds : List (List Symbol)
   olds = meant s.system s.limit
 
   -- a node of the old level has the lineage that it had
@@ -147,7 +147,7 @@ module _ (s : Stage) (t node : ℕ) (n : Node Kept) (front back : List ℕ) (x :
       let name = old_names node (get_In (level_nodes (was s) s.root t) w.place node w.there) in
       record { here = w.spot ∙ ap (λ k. Some (record { seen = S.Module w.own; tag = node; key = k })) (key ∙ ap (key_of s.system.seed) (sym name)) }
 
-  old_question : (a : Kept) → WasAnswered s.system t (was s) s.root s.store node a → Question
+  abbrev old_question : (a : Kept) → WasAnswered s.system t (was s) s.root s.store node a → Question
   old_question a w = module_question s.system t (level_of (was s) s.root t) w.place (names s.now node) w.own
 
   old_stands : (a : Kept) → (w : WasAnswered s.system t (was s) s.root s.store node a) → slice_get (level_of (was s) s.root t) w.place ≡ Some (Module (names s.now node) w.own)
@@ -215,16 +215,14 @@ module _ (s : Stage) (t node : ℕ) (n : Node Kept) (front back : List ℕ) (x :
           let c = level_count s.next s.limit t (meant_to s.next s.limit t) x.at.tree.spelled x.at.tree.is in
           slice_get-get_or (meant_to s.next s.limit t) t [] (omega (arith, c)) ∙ ap (λ y. Some y) (sym level_meant)
 
-      Goal : Type 0
-      Goal = (a : Kept) × (answer_at s.now node ≡ Some a) × (w : WasAnswered s.system t (was s) s.root s.store node a) × (old_question a w ≡ asked p m)
-
       rules_were : (b : IsAsked s.system olds (asked p m)) → group s.system t b.value.name (length b.value.params) ≡ [] → ⊥
       rules_were b none = here_rules (ap (λ (q : Question). q.bodies) b.is ∙ none)
         where
           here_rules : group s.next t m.name (length m.params) ≡ [] → ⊥
           here_rules = rules
 
-      by : IsAsked s.system olds (asked p m) → question_at t (names s.now node) (questions s.system olds) ≡ Some (asked p m) → Goal
+      by : IsAsked s.system olds (asked p m) → question_at t (names s.now node) (questions s.system olds) ≡ Some (asked p m)
+          → (a : Kept) × (answer_at s.now node ≡ Some a) × (w : WasAnswered s.system t (was s) s.root s.store node a) × (old_question a w ≡ asked p m)
       by b found =
           let below : t < s.system.depth = (
           let l = level_below s.system olds t (names s.now node) (asked p m) found in
@@ -236,14 +234,14 @@ module _ (s : Stage) (t node : ℕ) (n : Node Kept) (front back : List ℕ) (x :
           let two = map_back (λ i. spot_in i (was s i)) (level_nodes (was s) s.root t) b.place one.0 one.1 in
           let d = level_depth s.root [] (was s) x.was_sound t two.0 (get_In (level_nodes (was s) s.root t) b.place two.0 two.1) in
           let spot : one.0 ≡ record { seen = d.0.seen; tag = two.0; key = d.0.key } = sym two.2 ∙ ap (spot_in two.0) d.1 in
-          let mod = is_module (names s.now two.0) b.parents d.0.seen b.value (ap (named (names s.now)) (sym spot) ∙ one.2) in
-          let line : names s.now two.0 ≡ names s.now node = mod.line ∙ sym (ap (λ (q : Question). lineage q.own) b.is) in
+          let module_there = is_module (names s.now two.0) b.parents d.0.seen b.value (ap (named (names s.now)) (sym spot) ∙ one.2) in
+          let line : names s.now two.0 ≡ names s.now node = module_there.line ∙ sym (ap (λ (q : Question). lineage q.own) b.is) in
           let now_is = x.at.tree.stay two.0 (kin_of d.0) (ap (option_map kin_of) d.1) in
           let same : two.0 ≡ node = apart (kins s.now) s.root two.0 node (kin_of d.0) (kin_of n) x.at.tree.once now_is (ap (option_map kin_of) x.is) (let e = depth_is s t node n front back x in omega (arith, e, d.2)) line in
           let there_was : slice_get (level_nodes (was s) s.root t) b.place ≡ Some node = two.1 ∙ ap (λ k. Some k) same in
           let at = spot_at (was s) s.root t b.place node d.0 there_was (ap (was s) (sym same) ∙ d.1) in
           let kept : IsAnswered s.system t (level_spots (was s) s.root t) s.store b.place node (S.Module b.value) (answer_at (was s) node) =
-          subst (λ y. IsAnswered s.system t (level_spots (was s) s.root t) s.store b.place node y (answer_at (was s) node)) mod.seen
+          subst (λ y. IsAnswered s.system t (level_spots (was s) s.root t) s.store b.place node y (answer_at (was s) node)) module_there.seen
           (x.at.rest.answered t b.place node below there_was (record { seen = d.0.seen; tag = node; key = d.0.key }) at) in
           let some = kept_some (group s.system t b.value.name (length b.value.params)) (IsRight s.system t (level_spots (was s) s.root t) s.store b.place node b.value) (answer_at (was s) node) kept (rules_were b) in
           let now_kept : answer_at s.now node ≡ Some some.0 = (is_open s t node n front back x p there).same ∙ some.1 in

@@ -154,10 +154,10 @@ module _ (s : Stage) (t node : ℕ) (n : Node Kept) (before after : List ℕ) (x
 
   module _ (o : Option Kept) (cs : List (Change Kept)) (st : Store) (rd : Relations) (fs : List Faulted) (rn : List ℕ) (b : ℕ)
       (back : undone cs (put s.now node (Some (with_answer o n))) ≡ was s) (h : Steps s t node n o st rd fs) (r : Renews s t node n o st rd fs rn b) where
-    m : Nodes Kept
+    abbrev m : Nodes Kept
     m = put s.now node (Some (with_answer o n))
 
-    s' : Stage
+    abbrev s' : Stage
     s' = stepped s m cs st rd (before ++ after) fs rn b
 
     alike : AreAlike s.now m
