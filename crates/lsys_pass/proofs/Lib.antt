@@ -5,5 +5,10 @@ pub mod Alike
 pub mod Before
 pub mod Stepping
 pub mod Needed
+pub mod Asking
+pub mod Outcomes
 pub mod Reading
+pub mod Waiting
+pub mod Stepped
+pub mod Moved
 pub mod Backing

@@ -103,3 +103,6 @@ has_reader node (k ∷ tags) seen (inr h) = ap (λ b. ((node == node) && (k == s
 -- what an answer read is what the entries of its trace name
 pub trace_tags : (store : Store) (a : Kept) (es : List Entry) → list_of store.traces a.entries ≡ Some es → tags_read store a ≡ entries_tags es
 trace_tags store a es e = entries_same (entries_in store a) (drop a.arity (values_in store a)) ∙ ap (λ (o : Option (List Entry)). entries_tags (listed o)) e
+
+pub with_tags : (new old : List Pair) (k node : ℕ) (tags read : List ℕ) → k ≡ node → new ≡ old ++ pairs_of k tags → read ≡ tags → new ≡ old ++ pairs_of node read
+with_tags new old k node tags read e is same = is ∙ ap (λ j. old ++ pairs_of j tags) e ∙ ap (λ (ts : List ℕ). old ++ pairs_of node ts) (sym same)

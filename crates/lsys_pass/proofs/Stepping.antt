@@ -36,7 +36,7 @@ use Rattle.lsys_pass.proofs.Alike.{AreAlike, nodes_alike, spots_alike, level_ali
 
 -- 1. lists
 
-some_in : (js ks : List ℕ) → AreSome js ks → (k : ℕ) → In k js → In k ks
+pub some_in : (js ks : List ℕ) → AreSome js ks → (k : ℕ) → In k js → In k ks
 some_in [] ks h k i = absurd i
 some_in (j ∷ js) [] h k i = absurd h
 some_in (j ∷ js) (x ∷ ks) (inl h) k (inl e) = inl (e ∙ h.0)

@@ -1,5 +1,5 @@
 -- What the calls of a pass do.
-use Rattle.std.specs.Prelude.{◌≡◌, ◌≢◌, ℕ, List, ◌++◌, ◌∷◌, length, Ok, Err, Some, slice_get, if◌then◌else◌}
+use Rattle.std.specs.Prelude.{◌≡◌, ◌≢◌, ℕ, List, ◌++◌, ◌∷◌, length, Result, Ok, Err, Some, slice_get, if◌then◌else◌}
 use Rattle.lsys_spec.specs.Systems.{System}
 use Rattle.lsys_spec.specs.Levels.{ModuleValue, Module}
 use Rattle.lsys_spec.specs.Questions.{Question, questions, is_needed}
@@ -62,10 +62,14 @@ pub record Waits (old new : PassView) : Type 0 where
   pub reads : new.reads.pending ≡ old.reads.pending
   pub settled : SettledStay old.reads new.reads
 
+-- so many where there is a result, and none where there is a fault
+abbrev pub if_fine : {A E : Type 0} → Result A E → ℕ → ℕ
+if_fine (Ok a) n = n
+if_fine (Err e) n = 0
+
 -- one for a question that the old system didn't answer, of a module that has no fault
 abbrev pub one_if_new : List Question → ByDefinition → ℕ
-one_if_new olds d =
-    elim d.successor [ Ok ys ↦ if is_needed olds d.question then 1 else 0 | Err e ↦ 0 ]
+one_if_new olds d = if_fine d.successor (if is_needed olds d.question then 1 else 0)
 
 -- What asking a node moves the counters by: how many answers are new, and how many entries are read. It is a function of the two
 -- systems, the level, and the node's lineage.

@@ -6,6 +6,7 @@
 
 mod fault;
 mod keep;
+mod outcome;
 mod pass;
 mod place;
 mod read;

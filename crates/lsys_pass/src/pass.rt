@@ -9,16 +9,15 @@ ghost use Rattle.lsys_pass.specs.declared.state.PassState.TheVariants.{Rest, Don
 ghost use Rattle.lsys_pass.specs.Passes.{IsPass};
 ghost use Rattle.lsys_pass.specs.Moves.{AtLevel, IsBack, StepsOver, MovesOnce, Waits, Closes};
 
-use crate::fault::Faulted;
-use crate::keep::{answer_of, keep, push_in_room, target};
+use crate::keep::{answer_of, target};
+use crate::outcome::keep_outcome;
 use crate::place::place_among;
 use crate::seating::seat_all;
 use crate::state::PassState;
 use crate::work::Work;
 use lsys_forest::{Forest, NodeId};
 use lsys_kept::KeptAnswer;
-use lsys_level::Tag;
-use lsys_match::{AnswerStore, AskRefusal, Asked, Steps, ask};
+use lsys_match::{AnswerStore, Steps, ask};
 use lsys_reads::Reads;
 use lsys_rewrite::EditCount;
 use lsys_rules::System;
@@ -169,42 +168,25 @@ impl<L: Ledger> Pass<L> {
             _ => unreachable!(),
         };
         self.forest.reserve(0, 0, 0, 1)?;
-        self.work.faults.reserve(1)?;
-        self.work.renewed.reserve(1)?;
+        self.work.reserve()?;
         let place = place_among(&self.forest, &self.work.pending, node);
         let system = target(&self.next, &self.system);
         let old = answer_of(&self.forest, node);
         let is_born = old.is_none();
-        match ask(
-            alloc,
+        let store = &mut self.store;
+        let forest = &self.forest;
+        let outcome = ask(
+            alloc, store, forest, node, system, level, old, asked, visited,
+        );
+        keep_outcome(
+            &mut self.forest,
             &mut self.store,
-            &self.forest,
+            &mut self.reads,
+            &mut self.work,
             node,
-            system,
-            level,
-            old,
-            asked,
-            visited,
-        ) {
-            Ok(Asked::Same) => {}
-            Ok(Asked::New(answer)) => {
-                keep(
-                    &mut self.forest,
-                    &mut self.store,
-                    &mut self.reads,
-                    node,
-                    answer,
-                )?;
-                push_in_room(&mut self.work.renewed, Tag(node.0));
-                if is_born {
-                    self.work.born += 1;
-                }
-            }
-            Err(AskRefusal::Fault { kind }) => {
-                push_in_room(&mut self.work.faults, Faulted { node, kind });
-            }
-            Err(AskRefusal::Memory) => return Err(AllocError),
-        }
+            is_born,
+            outcome,
+        )?;
         self.work.pending.remove(place);
         Ok(())
     }
