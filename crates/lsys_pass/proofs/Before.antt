@@ -62,7 +62,7 @@ distinct_all : (xs : List (List Symbol)) → ((t : ℕ) (x : List Symbol) → sl
 distinct_all [] h = tt
 distinct_all (x ∷ xs) h = (h 0 x refl, distinct_all xs (λ t y e. h (suc t) y e))
 
-zero_plus : (p : ℕ) → 0 + p ≡ p
+pub zero_plus : (p : ℕ) → 0 + p ≡ p
 zero_plus p = omega arith
 
 -- a level below the last one has the questions of its modules
@@ -97,7 +97,7 @@ reached_on m root (suc d) k h =
     let above = reached_on m root d h.0 h.2 in
     flat_into (λ i. kids_in (m i)) (level_nodes m root d) h.0 k above (subst (In k) (sym (ap kids_in h.3)) h.4)
 
-no_more : (m : Nodes Kept) (root t u : ℕ) → level_nodes m root t ≡ [] → level_nodes m root (t + u) ≡ []
+pub no_more : (m : Nodes Kept) (root t u : ℕ) → level_nodes m root t ≡ [] → level_nodes m root (t + u) ≡ []
 no_more m root t zero h = let e : t + 0 ≡ t = omega arith in ap (level_nodes m root) e ∙ h
 no_more m root t (suc u) h =
     let e : t + suc u ≡ suc (t + u) = omega arith in
@@ -123,7 +123,7 @@ spot_at m root t p k n there is =
     slice_get-map (λ i. spot_in i (m i)) (level_nodes m root t) p
     ∙ ap (option_map (λ i. spot_in i (m i))) there ∙ ap (λ o. Some (spot_in k o)) is
 
-kept_rules : (bs : List Body) (right : Kept → Type 0) (o : Option Kept) (a : Kept) → o ≡ Some a → IsKeptFor bs right o → (bs ≡ [] → ⊥) × right a
+pub kept_rules : (bs : List Body) (right : Kept → Type 0) (o : Option Kept) (a : Kept) → o ≡ Some a → IsKeptFor bs right o → (bs ≡ [] → ⊥) × right a
 kept_rules [] right o a e h = absurd (none-some a (sym h ∙ e))
 kept_rules (b ∷ bs) right o a e h =
     let same : h.0 ≡ a = same_Some h.0 a (sym h.1 ∙ e) in
@@ -134,7 +134,7 @@ module _ (s : System) (limit : ℕ) (m : Nodes Kept) (root : ℕ) (store : Store
   count_is = level_count s limit s.depth (meant s limit) r.spelled r.is
 
   -- none is kept past the levels that have questions
-  is_below : (t k : ℕ) (a : Kept) → In k (level_nodes m root t) → answer_at m k ≡ Some a → t < s.depth
+  pub is_below : (t k : ℕ) (a : Kept) → In k (level_nodes m root t) → answer_at m k ≡ Some a → t < s.depth
   is_below t k a on e = elim (cases_lt t s.depth) [
     | inl l ↦ l
     | inr ge ↦ elim (cases_lt s.depth t) [

@@ -8,7 +8,12 @@ pub mod Needed
 pub mod Asking
 pub mod Outcomes
 pub mod Reading
+pub mod Settling
 pub mod Waiting
 pub mod Stepped
 pub mod Moved
 pub mod Backing
+pub mod Closing
+pub mod Counting
+pub mod Totals
+pub mod Closed

@@ -49,11 +49,11 @@ pub record IsHere (s : Stage) (t node p : ℕ) : Type 0 where
 pub level_is_meant : (s : Stage) (t : ℕ) → HasTree s.now (was s) s.root s.next s.limit t → level_of s.now s.root t ≡ level_to s.next s.limit t
 level_is_meant s t h = h.levels.each t (let c = level_count s.next s.limit t (meant_to s.next s.limit t) h.spelled h.is in omega (arith, c))
 
-record IsModule (l l' : List ℕ) (x : Seen) (v : ModuleValue) : Type 0 where
-  seen : x ≡ S.Module v
-  line : l ≡ l'
+pub record IsModule (l l' : List ℕ) (x : Seen) (v : ModuleValue) : Type 0 where
+  pub seen : x ≡ S.Module v
+  pub line : l ≡ l'
 
-is_module : (l l' : List ℕ) (x : Seen) (v : ModuleValue) → with_lineage l x ≡ Module l' v → IsModule l l' x v
+pub is_module : (l l' : List ℕ) (x : Seen) (v : ModuleValue) → with_lineage l x ≡ Module l' v → IsModule l l' x v
 is_module l l' S.Push v e = cc
 is_module l l' S.Pop v e = cc
 is_module l l' (S.Module w) v e = let f : w ≡ v = cc in let g : l ≡ l' = cc in record { seen = ap (λ w. S.Module w) f; line = g }

@@ -1,5 +1,5 @@
 //! What is kept of a question.
-ghost use Rattle.std.specs.Prelude.{◌≡◌, ◌<◌, ◌++◌, ◌∷◌, [], Some, OnOk, OnErr, option_map, vec_len, vec_capacity};
+ghost use Rattle.std.specs.Prelude.{◌≡◌, ◌<◌, ◌++◌, ◌∷◌, [], None, Some, OnOk, OnErr, option_map, vec_len, vec_capacity};
 ghost use Rattle.std.specs.Option.{unwrap_or};
 ghost use Rattle.lsys_walks.specs.Stores.{AreLive, OtherTracesStay};
 ghost use Rattle.lsys_match.specs.Kept.{Kept as KeptValue};
@@ -28,6 +28,16 @@ pub(crate) fn target<'a>(next: &'a Option<System>, system: &'a System) -> &'a Sy
     match next {
         Some(next) => next,
         None => system,
+    }
+}
+
+/// The system that was being made, if there is one, takes the place of the one that is there.
+pub(crate) fn take_over(next: &mut Option<System>, system: &mut System)
+    ensures system { system.new ≡ unwrap_or next.old system.old }
+    ensures none { next.new ≡ None }
+{
+    if let Some(made) = next.take() {
+        *system = made;
     }
 }
 

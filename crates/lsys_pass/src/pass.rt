@@ -9,9 +9,10 @@ ghost use Rattle.lsys_pass.specs.declared.state.PassState.TheVariants.{Rest, Don
 ghost use Rattle.lsys_pass.specs.Passes.{IsPass};
 ghost use Rattle.lsys_pass.specs.Moves.{AtLevel, IsBack, StepsOver, MovesOnce, Waits, Closes};
 
-use crate::keep::{answer_of, target};
+use crate::keep::{answer_of, take_over, target};
 use crate::outcome::keep_outcome;
 use crate::place::place_among;
+use crate::read::settle_reads;
 use crate::seating::seat_all;
 use crate::state::PassState;
 use crate::work::Work;
@@ -204,14 +205,9 @@ impl<L: Ledger> Pass<L> {
         let asked = self.work.renewed.len();
         self.answers = self.answers - self.work.dropped.len() + self.work.born;
         self.forest.commit(&mut self.store);
-        self.work.dropped.sort_unstable_by_key(|tag| tag.0);
-        self.work.renewed.sort_unstable_by_key(|tag| tag.0);
-        self.reads.forget(&self.work.dropped);
-        self.reads.settle(&self.work.renewed);
+        settle_reads(&mut self.reads, &mut self.work);
         seat_all(&mut self.seats, &self.forest, &self.work.moved);
-        if let Some(next) = self.next.take() {
-            self.system = next;
-        }
+        take_over(&mut self.next, &mut self.system);
         self.work.clear();
         self.state = PassState::Rest;
         EditCount {

@@ -1,8 +1,10 @@
 //! What an answer read.
-ghost use Rattle.std.specs.Prelude.{◌≡◌, ◌++◌, OnOk, OnErr};
-ghost use Rattle.lsys_reads.specs.Relations.{SettledStay};
+ghost use Rattle.std.specs.Prelude.{◌≡◌, ◌++◌, ◌&&◌, ◌||◌, not, ℕ, [], OnOk, OnErr};
+ghost use Rattle.lsys_reads.specs.Rows.{has};
+ghost use Rattle.lsys_reads.specs.Relations.{SettledStay, is_settled, is_pending};
 ghost use Rattle.lsys_pass.specs.Read.{entry_tags, entries_tags, pairs_of, ComesBehind};
 
+use crate::work::Work;
 use lsys_level::Tag;
 use lsys_reads::Reads;
 use lsys_walks::{Entry, EntryKind};
@@ -29,6 +31,22 @@ pub(crate) fn add_reads(
         reads.retract_from(pairs);
     }
     added
+}
+
+/// Who read what, when a pass ends: what those read that were dropped is forgotten, and what those read that were renewed is what
+/// is pending. It takes no memory.
+pub(crate) fn settle_reads(reads: &mut Reads, work: &mut Work)
+    ensures settled { (reader seen : ℕ) → is_settled reads.new reader seen
+        ≡ ((not (has work.old.renewed.items reader)
+        && (not (has work.old.dropped.items reader) && is_settled reads.old reader seen))
+        || is_pending reads.old reader seen) }
+    ensures pending { reads.new.pending ≡ [] }
+    ensures moved { work.new.moved ≡ work.old.moved }
+{
+    work.dropped.sort_unstable_by_key(|tag| tag.0);
+    work.renewed.sort_unstable_by_key(|tag| tag.0);
+    reads.forget(&work.dropped);
+    reads.settle(&work.renewed);
 }
 
 /// Adds them one by one; for want of memory only some.
