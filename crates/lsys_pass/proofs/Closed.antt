@@ -3,7 +3,7 @@ use Rattle.std.proofs.Common.{◌≡◌, ◌≢◌, ◌⊎◌, ◌↔◌, ◌+�
 use Rattle.std.specs.Prelude.{◌-◌, IsSome, not, count_by, is_none}
 use Rattle.lsys_pass.proofs.Before.{answer_lives}
 use Rattle.lsys_forest.proofs.RowLemmas.{level_apart}
-use Rattle.std.specs.Option.{option_and_then}
+use Rattle.std.specs.Option.{option_and_then, unwrap_or}
 use Rattle.lsys_spec.specs.Systems.{System}
 use Rattle.lsys_spec.specs.Levels.{level_balanced}
 use Rattle.lsys_spec.specs.Questions.{questions, need}
@@ -11,6 +11,7 @@ use Rattle.lsys_change.proofs.UpTo.{level_count}
 use Rattle.lsys_level.specs.Spots.{Spotted, level_by}
 use Rattle.lsys_walks.specs.Stores.{Store}
 use Rattle.lsys_match.specs.Kept.{Kept}
+use Rattle.lsys_match.specs.Derivations.{IsCount}
 use Rattle.lsys_match.specs.KeptAnswers.{StaysMade}
 use Rattle.lsys_reads.specs.Rows.{has}
 use Rattle.lsys_reads.specs.Relations.{Relations, is_settled, is_pending}
@@ -162,3 +163,20 @@ module _ (v : PassView) (h : IsPass v) (state : v.state ≡ Done) where
             closed_rests (stage_of v) done m' st' rd' seats' (changes_in v.forest) sound c.stay c.only stays
             (closed_reads (stage_of v) done m' st' rd' settled c.stay c.only stays)
             (λ t p k l i m. seated k m ∙ neighbours_there t p k l i) others
+
+  -- what is counted, as the other view of the pass tells it
+  pub closed_counts : (w : PassView) (asked count : ℕ) → v ≡ w → asked ≡ length v.renewed → count ≡ v.answers - length v.dropped + v.born
+      → IsCount (questions w.system (meant w.system w.limit)) (questions w.next (meant w.next w.limit)) (record { asked = asked; questions = count })
+  closed_counts w asked count e a q =
+      subst (λ (z : PassView). IsCount (questions z.system (meant z.system z.limit)) (questions z.next (meant z.next z.limit)) (record { asked = asked; questions = count })) e (record {
+        asked = a ∙ asked_count;
+        questions = q ∙ (let b = total in let f = few_dropped in omega (arith, b, f));
+      })
+
+  pub fits_count : (gone : ℕ) → gone ≡ length v.dropped → v.answers - gone + v.born < 2 ^ 64
+  fits_count gone e = let b = total in let f = few_dropped in let n = few_questions in omega (arith, b, f, n, e)
+
+-- no other system is being made
+pub none_next : (f : Grove Kept) (st : Store) (rd : Relations) (seats : List Seat) (nx : Option System) (sys : System) (limit : ℕ) (w : Work) (answers : ℕ) → nx ≡ None → IsPass (resting f st rd seats sys limit w answers)
+    → IsPass (record (resting f st rd seats sys limit w answers) { next = unwrap_or nx sys })
+none_next f st rd seats nx sys limit w answers e h = subst (λ (o : Option System). IsPass (record (resting f st rd seats sys limit w answers) { next = unwrap_or o sys })) (sym e) h

@@ -227,9 +227,9 @@ module _ (s : Stage) (t node : ℕ) (n : Node Kept) (before after : List ℕ) (x
       deeper = λ k y e l.
           let there_is = x.at.tree.deeper k y e l in
           put_other s.now node k (Some (with_answer o n)) (λ q. (
-              let d = ap (λ (z : Node Kept). z.depth) (same_Some n y (sym x.is ∙ ap s.now (sym q) ∙ there_is)) in
-              omega (arith, d, l, depth_is)
-              )) ∙ there_is;
+          let d = ap (λ (z : Node Kept). z.depth) (same_Some n y (sym x.is ∙ ap s.now (sym q) ∙ there_is)) in
+          omega (arith, d, l, depth_is)
+          )) ∙ there_is;
       none_deeper = λ k y e f.
           let g = put_from s.now node n o x.is k y e in
           subst (λ d. d ≤ t + 1) (sym g.depth) (x.at.tree.none_deeper k g.node g.is f);

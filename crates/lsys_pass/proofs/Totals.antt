@@ -58,7 +58,7 @@ grouped_there (b ∷ bs) q h = refl
 
 -- 2. the nodes with an answer
 
-abbrev all : Question → Bool
+abbrev pub all : Question → Bool
 all q = true
 
 module _ (s : System) (limit : ℕ) (m : Nodes Kept) (root : ℕ) (store : Store) (changes : List (Change Kept)) (sound : IsSound root changes m) (spelled : WellSpelled s) (is : meaning s limit ≡ Ok (meant s limit))
@@ -231,7 +231,7 @@ module _ (s : Stage) (d : IsDone s) (changes : List (Change Kept)) (sound : IsSo
   abbrev olds : List (List Symbol)
   olds = meant s.system s.limit
 
-  abbrev new_nodes : (Question → Bool) → List ℕ
+  abbrev pub new_nodes : (Question → Bool) → List ℕ
   new_nodes test = passing s.next s.limit s.now s.root s.store changes sound d.spelled d.is d.levels d.answered test
 
   abbrev old_nodes : List ℕ
@@ -348,7 +348,7 @@ module _ (s : Stage) (d : IsDone s) (changes : List (Change Kept)) (sound : IsSo
   old_count : length old_nodes ≡ length (questions s.system olds)
   old_count = passing_count s.system s.limit (was s) s.root s.store [] was_sound d.rest.spelled d.rest.is d.rest.levels d.rest.answered all ∙ count_all (questions s.system olds)
 
-  new_count : length (new_nodes all) ≡ length (questions s.next (meant s.next s.limit))
+  pub new_count : length (new_nodes all) ≡ length (questions s.next (meant s.next s.limit))
   new_count = passing_count s.next s.limit s.now s.root s.store changes sound d.spelled d.is d.levels d.answered all ∙ count_all (questions s.next (meant s.next s.limit))
 
   -- what came and what went

@@ -15,11 +15,7 @@ use std::alloc::AllocError;
 /// # Errors
 ///
 /// Want of memory. Both relations stay then.
-pub(crate) fn add_reads(
-    reads: &mut Reads,
-    reader: Tag,
-    entries: &[Entry],
-) -> Result<(), AllocError>
+pub(crate) fn add_reads(reads: &mut Reads, reader: Tag, entries: &[Entry]) -> Result<(), AllocError>
     ensures settled { SettledStay reads.old reads.new }
     ensures ok { OnOk result
         (reads.new.pending ≡ reads.old.pending ++ pairs_of reader (entries_tags entries.now)) }
