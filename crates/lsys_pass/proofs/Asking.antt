@@ -1,9 +1,8 @@
 -- The node that a step asks, in a forest with room for its answer.
-use Rattle.std.proofs.Common.{◌≡◌, ◌≢◌, ◌⊎◌, ◌+◌, ◌<◌, ◌≤◌, ◌^◌, ℕ, zero, suc, Bool, true, false, List, [], ◌∷◌, ◌++◌, length, Option, Some, None, refl, sym, ap, ◌∙◌, subst, inl, inr, arith, slice_get}
+use Rattle.std.proofs.Common.{◌≡◌, ◌≢◌, ◌<◌, ◌^◌, ℕ, zero, suc, Bool, true, false, List, [], ◌∷◌, ◌++◌, length, Option, Some, None, refl, sym, ap, ◌∙◌, subst, inl, inr, arith, slice_get}
 use Rattle.std.specs.Prelude.{IsSome, is_some, is_none, not, option_map}
 use Rattle.std.specs.List.{remove}
 use Rattle.std.proofs.lemmas.Option.{none-some, same_Some}
-use Rattle.lsys_spec.specs.Draws.{key_of}
 use Rattle.lsys_spec.specs.Systems.{System}
 use Rattle.lsys_spec.specs.Levels.{level_balanced}
 use Rattle.lsys_change.proofs.UpTo.{level_count}
@@ -11,12 +10,11 @@ use Rattle.lsys_level.specs.Spots.{Spotted, IsSpot, level_at, level_by}
 use Rattle.lsys_match.specs.Kept.{Kept}
 use Rattle.lsys_match.specs.Asking.{HasQuestion}
 use Rattle.lsys_match.specs.Asks.{IsMadeIfAny}
-use Rattle.lsys_walks.specs.Stores.{Store}
 use Rattle.lsys_forest.specs.Nodes.{Node, Nodes}
 use Rattle.lsys_forest.specs.Changes.{Change}
 use Rattle.lsys_forest.specs.Answers.{AtNode}
 use Rattle.lsys_forest.specs.Groves.{Grove, In, AreApart, IsLive, IsSound, now_of, changes_in}
-use Rattle.lsys_forest.specs.Rows.{index_in, level_nodes, level_spots, complete_levels, level_of_node, place_of_node, level_with, IsAtSpot, AreBalancedTo, IsSpotAt}
+use Rattle.lsys_forest.specs.Rows.{index_in, level_nodes, level_spots, complete_levels, level_of_node, place_of_node, IsAtSpot, AreBalancedTo}
 use Rattle.lsys_forest.proofs.RowLemmas.{In_split, get_split, same_sides, level_depth, level_apart}
 use Rattle.lsys_forest.proofs.SoundLemmas.{AreSound-now, AreSound-then}
 use Rattle.lsys_forest.proofs.ViewLemmas.{is_spot, are_told, told_is}
@@ -26,10 +24,10 @@ use Rattle.lsys_kept.specs.Levels.{answer_at}
 use Rattle.lsys_kept.specs.Meant.{meant_to}
 use Rattle.lsys_pass.specs.declared.state.PassState.TheVariants.{Level}
 use Rattle.lsys_pass.specs.Places.{AreInOrder}
-use Rattle.lsys_pass.specs.Stages.{Stage, was, AreSome, IsAtLevel}
+use Rattle.lsys_pass.specs.Stages.{AreSome, IsAtLevel}
 use Rattle.lsys_pass.specs.Passes.{PassView, stage_of, now, HoldsAt, IsPass}
 use Rattle.lsys_pass.proofs.Stores.{AllMade}
-use Rattle.lsys_pass.proofs.Stepping.{IsNext, some_in, on_level}
+use Rattle.lsys_pass.proofs.Stepping.{IsNext, some_in}
 use Rattle.lsys_pass.proofs.Needed.{IsHere, here}
 
 -- 1. places on a level

@@ -1,12 +1,12 @@
 -- What the old system asked: its questions by their places, and the nodes that keep its answers.
-use Rattle.std.proofs.Common.{◌≡◌, ◌≢◌, ◌⊎◌, ◌+◌, ◌<◌, ◌≤◌, ℕ, zero, suc, false, List, [], ◌∷◌, ◌++◌, length, map, Option, Some, None, Ok, refl, sym, ap, ◌∙◌, subst, inl, inr, arith, slice_get, get_or}
+use Rattle.std.proofs.Common.{◌≡◌, ◌+◌, ◌<◌, ℕ, zero, suc, false, List, [], ◌∷◌, length, Option, Some, None, Ok, refl, sym, ap, ◌∙◌, subst, inl, inr, arith, slice_get, get_or}
 use Rattle.std.specs.Prelude.{◌-◌, not, option_map}
 use Rattle.std.specs.Option.{option_and_then}
 use Rattle.std.proofs.lemmas.Bool.{cases_lt}
 use Rattle.std.proofs.lemmas.Option.{none-some, same_Some, slice_get-map, get_or_from_slice_get}
 use Rattle.lsys_spec.specs.Systems.{System, Each, WellSpelled}
 use Rattle.lsys_spec.specs.Bodies.{Body, group}
-use Rattle.lsys_spec.specs.Levels.{ModuleValue, Symbol, Push, Pop, Module, lineage, IsLevel}
+use Rattle.lsys_spec.specs.Levels.{ModuleValue, Symbol, Module, lineage}
 use Rattle.lsys_spec.specs.Cuts.{Distinct}
 use Rattle.lsys_spec.specs.Meaning.{meaning}
 use Rattle.lsys_spec.specs.Questions.{Question, questions, question_at, differs, is_needed}
@@ -15,7 +15,7 @@ use Rattle.lsys_spec.proofs.Equal.{same_question_refl}
 use Rattle.lsys_spec.proofs.Standings.{place_is}
 use Rattle.lsys_laws.specs.KeptQuestions.{where_grouped, question_here, questions_by_place, level_questions, kept_from, kept_at}
 use Rattle.lsys_laws.proofs.Lookups.{kept_there}
-use Rattle.lsys_change.specs.Passes.{IsGrownLevel, module_question}
+use Rattle.lsys_change.specs.Passes.{module_question}
 use Rattle.lsys_change.proofs.UpTo.{level_count, grown_to}
 use Rattle.lsys_match.specs.Kept.{Kept}
 use Rattle.lsys_match.specs.Stored.{answer_in}
@@ -25,7 +25,7 @@ use Rattle.lsys_level.specs.Spots.{Seen, Spotted}
 use Rattle.lsys_level.specs.Spots as S
 use Rattle.lsys_forest.specs.Nodes.{Node, Nodes}
 use Rattle.lsys_forest.specs.Answers.{answer_of}
-use Rattle.lsys_forest.specs.Groves.{In, ReachedIn, IsSound}
+use Rattle.lsys_forest.specs.Groves.{In, ReachedIn}
 use Rattle.lsys_forest.specs.Rows.{flat, kids_in, kids_below, spot_in, level_nodes, level_spots}
 use Rattle.lsys_forest.proofs.RowLemmas.{In_left, In_right}
 use Rattle.lsys_forest.proofs.WalkLemmas.{In_at}

@@ -1,6 +1,6 @@
 -- A pass at its end.
-use Rattle.std.proofs.Common.{◌≡◌, ◌≢◌, ◌⊎◌, ◌↔◌, ◌+◌, ◌<◌, ◌≤◌, ◌^◌, ◌&&◌, ◌||◌, ℕ, Bool, true, false, List, [], length, Option, Some, None, refl, sym, ap, ◌∙◌, subst, inl, inr, arith, slice_get}
-use Rattle.std.specs.Prelude.{◌-◌, IsSome, not, count_by, is_none}
+use Rattle.std.proofs.Common.{◌≡◌, ◌+◌, ◌<◌, ◌≤◌, ◌^◌, ◌&&◌, ◌||◌, ℕ, List, [], length, Option, Some, None, refl, sym, ap, ◌∙◌, subst, arith, slice_get}
+use Rattle.std.specs.Prelude.{◌-◌, IsSome, not}
 use Rattle.lsys_pass.proofs.Before.{answer_lives}
 use Rattle.lsys_forest.proofs.RowLemmas.{level_apart}
 use Rattle.std.specs.Option.{option_and_then, unwrap_or}
@@ -15,7 +15,7 @@ use Rattle.lsys_match.specs.Derivations.{IsCount}
 use Rattle.lsys_match.specs.KeptAnswers.{StaysMade}
 use Rattle.lsys_reads.specs.Rows.{has}
 use Rattle.lsys_reads.specs.Relations.{Relations, is_settled, is_pending}
-use Rattle.lsys_forest.specs.Nodes.{Node, Nodes}
+use Rattle.lsys_forest.specs.Nodes.{Nodes}
 use Rattle.lsys_forest.specs.Changes.{Change, undone}
 use Rattle.lsys_forest.specs.Answers.{answer_of, answers, kept_by, AreMade, FreesAllBut}
 use Rattle.lsys_forest.specs.Groves.{Grove, In, IsLive, IsSound, Reached, now_of, rest_of, changes_in, live_nodes, kept_in}
@@ -23,7 +23,7 @@ use Rattle.lsys_forest.specs.Rows.{level_nodes, level_spots, place_of_node}
 use Rattle.lsys_forest.proofs.DepthLemmas.{fits}
 use Rattle.lsys_forest.proofs.SoundLemmas.{AreSound-now, AreSound-rest, AreSound-then}
 use Rattle.lsys_forest.proofs.StockLemmas.{stored_of}
-use Rattle.lsys_forest.proofs.WalkLemmas.{get_In, In_at}
+use Rattle.lsys_forest.proofs.WalkLemmas.{get_In}
 use Rattle.lsys_seats.specs.declared.seat.Seat.{Seat}
 use Rattle.lsys_seats.specs.Neighbours.{neighbours_in, neighbours_on, IsOnLevel}
 use Rattle.lsys_seats.specs.Seats.{neighbours_at, SameMarks}
@@ -33,15 +33,15 @@ use Rattle.lsys_kept.specs.Meant.{meant}
 use Rattle.lsys_pass.specs.declared.state.PassState.TheVariants.{Done}
 use Rattle.lsys_pass.specs.declared.work.Work.{Work}
 use Rattle.lsys_pass.specs.Rests.{IsResting}
-use Rattle.lsys_pass.specs.Stages.{Stage, IsStored, IsDone}
+use Rattle.lsys_pass.specs.Stages.{IsStored, IsDone}
 use Rattle.lsys_pass.specs.Passes as P
 use Rattle.lsys_pass.specs.Passes.{PassView, stage_of, now, HoldsAt, IsPass}
 use Rattle.lsys_pass.proofs.Keepers.{stay_kept, only_node, all_made}
-use Rattle.lsys_pass.proofs.Backing.{IsCleared, resting, is_resting, AreUnmarked}
+use Rattle.lsys_pass.proofs.Backing.{IsCleared, resting, is_resting}
 use Rattle.lsys_pass.proofs.Asking.{Stands, stands, there_at}
-use Rattle.lsys_pass.proofs.Closing.{closed_sound, closed_nodes, closed_spots, closed_reads, closed_rests, lived, on_reached, closed_neighbours}
+use Rattle.lsys_pass.proofs.Closing.{closed_sound, closed_nodes, closed_spots, closed_reads, closed_rests, closed_neighbours}
 use Rattle.lsys_pass.proofs.Outcomes.{one_place}
-use Rattle.lsys_pass.proofs.Totals.{answers_count, dropped_few, renewed_needed, new_count, new_nodes, has_answer, passing_apart, all, is_passing}
+use Rattle.lsys_pass.proofs.Totals.{answers_count, dropped_few, renewed_needed, new_count, new_nodes, has_answer, passing_apart, all}
 
 -- 1. the forest is committed
 

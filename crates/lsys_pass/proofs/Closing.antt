@@ -1,30 +1,28 @@
 -- A pass that is closed: the nodes that are reached are the levels of the new system.
-use Rattle.std.proofs.Common.{◌≡◌, ◌≢◌, ◌⊎◌, ◌↔◌, ◌+◌, ◌<◌, ◌≤◌, ◌^◌, ◌&&◌, ◌||◌, ℕ, zero, suc, Bool, true, false, List, [], ◌∷◌, ◌++◌, length, map, Option, Some, None, refl, sym, ap, ◌∙◌, subst, inl, inr, arith, slice_get}
+use Rattle.std.proofs.Common.{◌≡◌, ◌≢◌, ◌⊎◌, ◌↔◌, ◌+◌, ◌<◌, ◌≤◌, ◌&&◌, ◌||◌, ℕ, zero, suc, Bool, true, false, List, [], ◌∷◌, ◌++◌, length, map, Option, Some, None, refl, sym, ap, ◌∙◌, subst, inl, inr, arith, slice_get}
 use Rattle.std.specs.Prelude.{◌-◌, IsSome, not, option_map}
 use Rattle.std.specs.Option.{option_and_then}
-use Rattle.std.proofs.lemmas.Bool.{cases_eq, cases_lt}
-use Rattle.std.proofs.lemmas.Option.{none-some, same_Some, slice_get-map}
+use Rattle.std.proofs.lemmas.Bool.{cases_lt}
+use Rattle.std.proofs.lemmas.Option.{none-some, same_Some}
 use Rattle.lsys_spec.specs.Draws.{key_of}
-use Rattle.lsys_spec.specs.Systems.{System}
 use Rattle.lsys_spec.specs.Levels.{level_balanced}
 use Rattle.lsys_spec.specs.Levels as L
 use Rattle.lsys_spec.specs.Standings.{mate_at}
 use Rattle.lsys_level.specs.Spots.{Spotted, with_lineage, named, level_by}
-use Rattle.lsys_change.specs.Nodes.{Kin, Kins, AreOnce, Extends, naming}
+use Rattle.lsys_change.specs.Nodes.{Kin, AreOnce, Extends}
 use Rattle.lsys_change.specs.Seams.{node_before}
 use Rattle.lsys_change.proofs.Lineages.{stays}
 use Rattle.lsys_change.proofs.UpTo.{level_count}
 use Rattle.lsys_walks.specs.Stores.{Store}
 use Rattle.lsys_match.specs.Kept.{Kept}
 use Rattle.lsys_match.specs.KeptAnswers.{StaysMade}
-use Rattle.lsys_match.specs.Asks.{IsMade}
 use Rattle.lsys_reads.specs.Rows.{has}
 use Rattle.lsys_reads.specs.Relations.{Relations, is_settled, is_pending}
 use Rattle.lsys_forest.specs.Nodes.{Node, Nodes}
 use Rattle.lsys_forest.specs.Changes.{Change}
 use Rattle.lsys_forest.specs.Answers.{answer_of}
-use Rattle.lsys_forest.specs.Groves.{In, IsSound, ReachedIn, Reached, HasFew}
-use Rattle.lsys_forest.specs.Rows.{first_in, flat, kids_in, kids_below, spot_in, level_nodes, level_spots}
+use Rattle.lsys_forest.specs.Groves.{In, IsSound, ReachedIn, Reached}
+use Rattle.lsys_forest.specs.Rows.{first_in, flat, kids_in, spot_in, level_nodes, level_spots}
 use Rattle.lsys_forest.proofs.RowLemmas.{flat_In, level_depth}
 use Rattle.lsys_forest.proofs.WalkLemmas.{get_In}
 use Rattle.lsys_kept.specs.Lineages.{kin_of, kins, names}
@@ -33,7 +31,7 @@ use Rattle.lsys_kept.specs.Meant.{meant}
 use Rattle.lsys_seats.specs.declared.seat.Seat.{Seat}
 use Rattle.lsys_seats.specs.Neighbours.{Neighbours, neighbours_on}
 use Rattle.lsys_seats.specs.Seats.{neighbours_at}
-use Rattle.lsys_pass.specs.Rests.{AreCountedLow, IsResting}
+use Rattle.lsys_pass.specs.Rests.{IsResting}
 use Rattle.lsys_pass.specs.Stages.{Stage, was, IsDone}
 use Rattle.lsys_pass.proofs.Stores.{answered_stays, tags_stay}
 use Rattle.lsys_pass.proofs.Before.{no_more, answer_lives}

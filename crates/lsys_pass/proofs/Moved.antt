@@ -1,12 +1,12 @@
 -- By how much a step moves the counters.
-use Rattle.std.proofs.Common.{◌≡◌, ◌+◌, ◌<◌, ◌≤◌, ℕ, zero, suc, Bool, true, false, List, [], ◌∷◌, ◌++◌, length, take, drop, Option, Some, None, Ok, Err, Result, refl, sym, ap, ◌∙◌, subst, arith, slice_get, cond}
+use Rattle.std.proofs.Common.{◌≡◌, ◌+◌, ◌≤◌, ℕ, Bool, List, [], ◌∷◌, ◌++◌, length, Option, Some, Ok, Err, Result, sym, ap, ◌∙◌, subst, arith, slice_get, cond}
 use Rattle.std.proofs.lemmas.List.{length-take, length_push}
 use Rattle.std.proofs.lemmas.Option.{same_Some}
 use Rattle.lsys_spec.specs.Systems.{System}
 use Rattle.lsys_spec.specs.Bodies.{group}
 use Rattle.lsys_spec.specs.Levels.{ModuleValue, Symbol, Module}
-use Rattle.lsys_spec.specs.Meaning.{most_entries, asked}
-use Rattle.lsys_spec.specs.Questions.{Question, question, questions, is_needed}
+use Rattle.lsys_spec.specs.Meaning.{asked}
+use Rattle.lsys_spec.specs.Questions.{Question, questions, is_needed}
 use Rattle.lsys_level.specs.Spots.{Spotted, level_at, level_by}
 use Rattle.lsys_walks.specs.Stores.{Store}
 use Rattle.lsys_match.specs.declared.asked.Asked.{Asked}
@@ -17,9 +17,9 @@ use Rattle.lsys_match.specs.Kept.{Kept}
 use Rattle.lsys_match.specs.Answered.{Counts}
 use Rattle.lsys_match.specs.Asks.{ByDefinition, IsAnswered, IsNamedAt, KeepsStore, by_definition, news}
 use Rattle.lsys_match.specs.Derivations.{Rises, most_read}
-use Rattle.lsys_forest.specs.Groves.{Grove, In, AreApart, now_of}
+use Rattle.lsys_forest.specs.Groves.{Grove, In, now_of}
 use Rattle.lsys_forest.specs.Rows.{complete_levels, level_nodes, level_spots, place_of_node}
-use Rattle.lsys_forest.proofs.RowLemmas.{get_split, same_sides, level_apart}
+use Rattle.lsys_forest.proofs.RowLemmas.{level_apart}
 use Rattle.lsys_kept.specs.Lineages.{names}
 use Rattle.lsys_kept.specs.Levels.{level_of, answer_at}
 use Rattle.lsys_kept.specs.Meant.{meant, level_to}
@@ -27,9 +27,9 @@ use Rattle.lsys_pass.specs.declared.state.PassState.TheVariants.{Level}
 use Rattle.lsys_pass.specs.Steps.{Parts, KeepsOutcome}
 use Rattle.lsys_pass.specs.Passes.{PassView, stage_of, now, IsPass}
 use Rattle.lsys_pass.specs.Moves.{if_fine, one_if_new, Moves, MovesOnce}
-use Rattle.lsys_pass.proofs.Needed.{IsHere, level_is_meant}
-use Rattle.lsys_pass.proofs.Asking.{IsSameForest, IsAsked, asked as asked_node, at, made_now, there_now, here_now, row_is}
-use Rattle.lsys_pass.proofs.Outcomes.{IsReplied, one_place, SameModule, same_module, unneeded, successor_same, successor_fault, needed, successor_new}
+use Rattle.lsys_pass.proofs.Needed.{level_is_meant}
+use Rattle.lsys_pass.proofs.Asking.{IsSameForest, asked as asked_node, made_now, there_now, here_now, row_is}
+use Rattle.lsys_pass.proofs.Outcomes.{IsReplied, one_place, same_module, unneeded, successor_same, successor_fault, needed, successor_new}
 
 -- 2. what was answered, of the forest's level
 

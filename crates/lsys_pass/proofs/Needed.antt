@@ -1,15 +1,13 @@
 -- A question that is asked of a pending node: the old system answered it exactly where the node's answer is the same.
-use Rattle.std.proofs.Common.{◌≡◌, ◌≢◌, ◌⊎◌, ◌+◌, ◌<◌, ℕ, zero, suc, Bool, true, false, List, [], ◌∷◌, ◌++◌, length, map, Option, Some, None, Ok, refl, sym, ap, ◌∙◌, subst, inl, inr, arith, slice_get, get_or}
+use Rattle.std.proofs.Common.{◌≡◌, ◌<◌, ℕ, zero, suc, Bool, true, false, List, [], ◌∷◌, length, map, Option, Some, None, refl, sym, ap, ◌∙◌, subst, inl, inr, arith, slice_get}
 use Rattle.std.specs.Prelude.{option_map}
 use Rattle.std.proofs.lemmas.Option.{none-some, same_Some, slice_get-map, slice_get-get_or}
 use Rattle.lsys_spec.specs.Draws.{key_of}
-use Rattle.lsys_spec.specs.Systems.{System}
 use Rattle.lsys_spec.specs.Bodies.{Body, group}
-use Rattle.lsys_spec.specs.Levels.{ModuleValue, Symbol, Push, Pop, Module, lineage}
-use Rattle.lsys_spec.specs.Meaning.{meaning}
+use Rattle.lsys_spec.specs.Levels.{ModuleValue, Symbol, Module, lineage}
 use Rattle.lsys_spec.specs.Questions.{Question, questions, question_at, is_needed}
 use Rattle.lsys_spec.proofs.Needs.{Derived, derived, IsAsked, all_asked, IsFound, found_asked}
-use Rattle.lsys_change.specs.Nodes.{Kin, AreOnce, Extends, naming}
+use Rattle.lsys_change.specs.Nodes.{Kin}
 use Rattle.lsys_change.specs.Passes.{module_question}
 use Rattle.lsys_change.proofs.Asked.{IsOld, not_needed}
 use Rattle.lsys_change.proofs.Faultless.{level_below}
@@ -25,17 +23,17 @@ use Rattle.lsys_match.specs.Asks.{IsAnswer, IsNamedAt, by_definition}
 use Rattle.lsys_recall.specs.Recalled.{IsAnswerThere, asked_there}
 use Rattle.lsys_recall.proofs.Same.{same_answers}
 use Rattle.lsys_forest.specs.Nodes.{Node, Nodes}
-use Rattle.lsys_forest.specs.Groves.{In, IsSound}
+use Rattle.lsys_forest.specs.Groves.{In}
 use Rattle.lsys_forest.specs.Rows.{spot_in, level_nodes, level_spots}
 use Rattle.lsys_forest.proofs.RowLemmas.{level_depth}
 use Rattle.lsys_forest.proofs.WalkLemmas.{get_In}
 use Rattle.lsys_kept.specs.Lineages.{kin_of, kins, names}
 use Rattle.lsys_kept.specs.Levels.{IsKeptFor, IsRight, IsAnswered, level_of, answer_at}
 use Rattle.lsys_kept.specs.Meant.{meant, meant_to, level_to}
-use Rattle.lsys_pass.specs.Stages.{Stage, was, HasTree, IsNeededAt}
+use Rattle.lsys_pass.specs.Stages.{Stage, was, HasTree}
 use Rattle.lsys_pass.proofs.Before as before
 use Rattle.lsys_pass.proofs.Before.{WasAnswered, was_answered, IsPlaced, placed, answer_lives, spot_at, found_same}
-use Rattle.lsys_pass.proofs.Stepping.{IsNext, on_level, depth_is, is_open}
+use Rattle.lsys_pass.proofs.Stepping.{IsNext, depth_is, is_open}
 
 -- 1. the module that is asked about
 

@@ -1,13 +1,11 @@
 -- The outcome of a step, case by case.
-use Rattle.std.proofs.Common.{◌≡◌, ◌≢◌, ◌⊎◌, ◌↔◌, ◌+◌, ◌<◌, ◌≤◌, ℕ, zero, suc, Bool, true, false, List, [], ◌∷◌, ◌++◌, length, map, Option, Some, None, Ok, Err, Result, refl, sym, ap, ◌∙◌, subst, inl, inr, arith, slice_get, cond}
-use Rattle.std.specs.Prelude.{count_by, is_none, nat_eq, sum_by}
+use Rattle.std.proofs.Common.{◌≡◌, ◌≢◌, ◌↔◌, ◌+◌, ℕ, Bool, true, false, List, [], ◌∷◌, ◌++◌, length, Option, Some, None, Ok, Err, Result, refl, sym, ap, ◌∙◌, subst, inl, inr, arith, slice_get, cond}
+use Rattle.std.specs.Prelude.{count_by, is_none, nat_eq}
 use Rattle.std.specs.Option.{option_and_then, IsSomeAnd}
-use Rattle.std.proofs.lemmas.Bool.{cases_eq}
 use Rattle.std.proofs.lemmas.Grind.{common_steps}
 use Rattle.std.proofs.lemmas.List.Sums.{sum_by-append, sum_by-cons}
 use Rattle.std.proofs.lemmas.Option.{none-some, same_Some}
 use Rattle.lsys_spec.specs.Draws.{key_of}
-use Rattle.lsys_spec.specs.Systems.{System}
 use Rattle.lsys_spec.specs.Bodies.{Body, group}
 use Rattle.lsys_spec.specs.Levels.{ModuleValue, Symbol, Module}
 use Rattle.lsys_spec.specs.Meaning.{successor}
@@ -24,16 +22,15 @@ use Rattle.lsys_match.specs.declared.refusal.AskRefusal.{AskRefusal}
 use Rattle.lsys_match.specs.declared.refusal.AskRefusal.TheVariants as refusals
 use Rattle.lsys_match.specs.Kept.{Kept}
 use Rattle.lsys_match.specs.KeptAnswers.{StaysMade}
-use Rattle.lsys_match.specs.Stored.{answer_in, question_in}
-use Rattle.lsys_match.specs.Asks.{IsMade, IsAnswer, IsAnswered, IsNamedAt, IsNew, StaysAsKept, KeepsStore, by_definition}
-use Rattle.lsys_match.specs.Answered.{Counts}
+use Rattle.lsys_match.specs.Stored.{answer_in}
+use Rattle.lsys_match.specs.Asks.{IsMade, IsAnswer, IsAnswered, IsNamedAt, KeepsStore, by_definition}
 use Rattle.lsys_match.proofs.Staying.{stays_new, stays_kept}
 use Rattle.lsys_recall.specs.Recalled.{IsAnswerThere}
 use Rattle.lsys_reads.specs.Relations.{Relations, is_pending, pairs_have, SettledStay}
 use Rattle.lsys_forest.specs.Nodes.{Node, Nodes, put, with_answer}
 use Rattle.lsys_forest.specs.Changes.{Change, undone}
 use Rattle.lsys_forest.specs.Answers.{answer_of}
-use Rattle.lsys_forest.specs.Groves.{In, AreApart, IsSound}
+use Rattle.lsys_forest.specs.Groves.{In, AreApart}
 use Rattle.lsys_forest.specs.Rows.{level_nodes, level_spots}
 use Rattle.lsys_forest.proofs.RowLemmas.{In_append, In_left, In_right, get_split, same_sides, apart_append, level_apart}
 use Rattle.lsys_kept.specs.Lineages.{names}
@@ -42,11 +39,11 @@ use Rattle.lsys_kept.specs.Levels.{IsRight, IsKeptFor, AnsweredIn, level_of, ans
 use Rattle.lsys_kept.specs.Meant.{meant, level_to}
 use Rattle.lsys_pass.specs.declared.fault.Faulted.{Faulted}
 use Rattle.lsys_pass.specs.Read.{pairs_of}
-use Rattle.lsys_pass.specs.Stages.{Stage, was, fault_in, HasFault, OutcomeBy, IsNeeded, IsNeededAt, IsAtLevel}
+use Rattle.lsys_pass.specs.Stages.{Stage, was, fault_in, HasFault, OutcomeBy, IsNeededAt, IsAtLevel}
 use Rattle.lsys_pass.proofs.Stores.{AllMade, AllStay, read_on, read_back}
 use Rattle.lsys_pass.proofs.Alike.{answer_put, answer_other, put_again}
 use Rattle.lsys_pass.proofs.Reading.{have_cases, have_left, have_right, of_reader, has_reader}
-use Rattle.lsys_pass.proofs.Stepping.{IsNext, Steps, Renews, stepped, at_level, is_open, unrenewed, on_level}
+use Rattle.lsys_pass.proofs.Stepping.{IsNext, Renews, stepped, at_level, is_open, unrenewed}
 use Rattle.lsys_pass.proofs.Needed.{IsHere, level_is_meant, same_unneeded, new_needed}
 
 -- 1. one place, one module

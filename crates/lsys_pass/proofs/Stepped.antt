@@ -1,8 +1,6 @@
 -- A pass when a step is over.
-use Rattle.std.proofs.Common.{◌≡◌, ◌≢◌, ◌⊎◌, ◌+◌, ◌<◌, ◌≤◌, ◌^◌, ℕ, zero, suc, Bool, true, List, [], ◌∷◌, ◌++◌, length, Option, Some, None, Ok, Err, Result, refl, sym, ap, ◌∙◌, subst, inl, inr, arith, slice_get, cond, append_assoc}
+use Rattle.std.proofs.Common.{◌≡◌, ◌≢◌, ◌+◌, ◌≤◌, ℕ, Bool, List, [], ◌∷◌, ◌++◌, Option, Some, Ok, Err, Result, refl, sym, ap, ◌∙◌, subst, arith, cond}
 use Rattle.std.specs.Prelude.{is_none}
-use Rattle.std.proofs.lemmas.Option.{none-some, same_Some}
-use Rattle.lsys_rewrite.specs.declared.refusal.FaultKind.{FaultKind}
 use Rattle.lsys_walks.specs.Stores.{Store}
 use Rattle.lsys_match.specs.declared.asked.Asked.{Asked}
 use Rattle.lsys_match.specs.declared.asked.Asked.TheVariants.{Same, New}
@@ -13,22 +11,22 @@ use Rattle.lsys_match.specs.KeptAnswers.{StaysMade}
 use Rattle.lsys_match.specs.Asks.{IsMade, KeepsStore}
 use Rattle.lsys_match.proofs.Staying.{stays_kept}
 use Rattle.lsys_reads.specs.Relations.{Relations}
-use Rattle.lsys_forest.specs.Nodes.{Node, Nodes, put, with_answer}
+use Rattle.lsys_forest.specs.Nodes.{Nodes, put, with_answer}
 use Rattle.lsys_forest.specs.Changes.{Change, undone}
 use Rattle.lsys_forest.specs.Groves.{Grove, In, now_of, rest_of, changes_in, live_nodes}
 use Rattle.lsys_forest.proofs.StockLemmas.{put_other}
-use Rattle.lsys_kept.specs.Levels.{level_of, answer_at, tags_read}
+use Rattle.lsys_kept.specs.Levels.{level_of, answer_at}
 use Rattle.lsys_pass.specs.declared.fault.Faulted.{Faulted}
 use Rattle.lsys_pass.specs.declared.state.PassState.TheVariants.{Level}
 use Rattle.lsys_pass.specs.declared.work.Work.{Work}
-use Rattle.lsys_pass.specs.Stages.{Stage, was, fault_in, IsStored, IsAtLevel}
+use Rattle.lsys_pass.specs.Stages.{Stage, fault_in, IsStored, IsAtLevel}
 use Rattle.lsys_pass.specs.Passes as P
 use Rattle.lsys_pass.specs.Passes.{PassView, stage_of, now, HoldsAt, IsPass}
-use Rattle.lsys_pass.specs.Steps.{Parts, KeepsAnswers, KeepsOutcome, KeepsNothing}
-use Rattle.lsys_pass.specs.Moves.{SameRun, StepsOver}
+use Rattle.lsys_pass.specs.Steps.{KeepsAnswers, KeepsOutcome, KeepsNothing}
+use Rattle.lsys_pass.specs.Moves.{StepsOver}
 use Rattle.lsys_pass.proofs.Keepers.{note_of, stored_set, stored_in}
 use Rattle.lsys_pass.proofs.Alike.{alike_put, level_alike, put_again}
-use Rattle.lsys_pass.proofs.Stepping.{IsNext, stepped}
+use Rattle.lsys_pass.proofs.Stepping.{stepped}
 use Rattle.lsys_pass.proofs.Asking.{IsSameForest, IsAsked, asked, at, made_now}
 use Rattle.lsys_pass.proofs.Waiting.{stays_refused, level_waits}
 use Rattle.lsys_pass.proofs.Outcomes.{IsReplied, fault_behind, level_same, level_fault, level_new}

@@ -1,9 +1,9 @@
 -- A level when one of its nodes is asked: its outcome is kept, and it is pending no more.
-use Rattle.std.proofs.Common.{◌≡◌, ◌≢◌, ◌⊎◌, ◌↔◌, ◌+◌, ◌<◌, ◌≤◌, ℕ, zero, suc, true, List, [], ◌∷◌, ◌++◌, length, Option, Some, None, refl, sym, ap, ◌∙◌, subst, inl, inr, arith, slice_get}
+use Rattle.std.proofs.Common.{◌≡◌, ◌≢◌, ◌⊎◌, ◌↔◌, ◌+◌, ◌<◌, ◌≤◌, ℕ, true, List, [], ◌∷◌, ◌++◌, Option, Some, None, refl, sym, ap, ◌∙◌, subst, inl, inr, arith, slice_get}
 use Rattle.std.specs.Prelude.{count_by, is_none}
 use Rattle.std.specs.Option.{option_and_then}
 use Rattle.std.proofs.lemmas.Bool.{cases_eq}
-use Rattle.std.proofs.lemmas.Option.{none-some, same_Some}
+use Rattle.std.proofs.lemmas.Option.{same_Some}
 use Rattle.lsys_spec.specs.Draws.{number_base}
 use Rattle.lsys_spec.specs.Systems.{System}
 use Rattle.lsys_spec.specs.Levels as L
@@ -24,15 +24,14 @@ use Rattle.lsys_forest.proofs.RowLemmas.{In_append, In_left, In_right, apart_par
 use Rattle.lsys_forest.proofs.StockLemmas.{put_other}
 use Rattle.lsys_forest.proofs.WalkLemmas.{get_In}
 use Rattle.lsys_kept.specs.Lineages.{kins}
-use Rattle.lsys_kept.specs.Levels.{AnsweredIn, AnsweredAt, level_of, answer_at, HasRead}
+use Rattle.lsys_kept.specs.Levels.{AnsweredIn, AnsweredAt, answer_at, HasRead}
 use Rattle.lsys_kept.specs.Meant.{level_to}
 use Rattle.lsys_seats.specs.Neighbours.{neighbours_on}
-use Rattle.lsys_seats.specs.Seats.{neighbours_at}
 use Rattle.lsys_pass.specs.declared.fault.Faulted.{Faulted}
 use Rattle.lsys_pass.specs.Rests.{AreCountedLow, IsResting}
 use Rattle.lsys_pass.specs.Stages.{Stage, was, Rests, fault_in, HasFault, OutcomeBy, IsOutcome, IsOpen, IsSettled, AreSome, IsNeeded, IsNeededAt, HasTree, HasAnswers, HasLists, HasNews, HasSeats, IsAtLevel}
 use Rattle.lsys_pass.proofs.Stores.{AllMade, AllStay, answered_stays, rest_stays}
-use Rattle.lsys_pass.proofs.Alike.{AreAlike, nodes_alike, spots_alike, level_alike, neighbours_alike, have_alike, alike_put, answer_put, answer_other, IsFrom, put_from}
+use Rattle.lsys_pass.proofs.Alike.{AreAlike, nodes_alike, spots_alike, level_alike, neighbours_alike, have_alike, alike_put, answer_put, answer_other, put_from}
 
 -- 1. lists
 

@@ -1,8 +1,7 @@
 -- How many questions the new system has, and how many of them are new, by the lists of a pass.
-use Rattle.std.proofs.Common.{◌≡◌, ◌≢◌, ◌⊎◌, ◌↔◌, ◌+◌, ◌<◌, ◌≤◌, ℕ, zero, suc, Bool, true, false, List, [], ◌∷◌, ◌++◌, length, map, Option, Some, None, Ok, refl, sym, ap, ◌∙◌, subst, inl, inr, arith, slice_get, get_or, cond}
+use Rattle.std.proofs.Common.{◌≡◌, ◌+◌, ◌<◌, ◌≤◌, ℕ, zero, suc, Bool, true, false, List, [], ◌∷◌, ◌++◌, length, Option, Some, None, Ok, refl, sym, ap, ◌∙◌, subst, inl, inr, arith, slice_get, cond}
 use Rattle.std.specs.Prelude.{◌-◌, count_by, is_none, option_map}
 use Rattle.std.specs.List.{filter}
-use Rattle.std.specs.Option.{option_and_then}
 use Rattle.std.proofs.lemmas.Bool.{cases_lt}
 use Rattle.std.proofs.lemmas.List.{length-append, length-map}
 use Rattle.std.proofs.lemmas.List.Sums.{length-filter, sum_by-cons}
@@ -28,11 +27,11 @@ use Rattle.lsys_forest.proofs.WalkLemmas.{get_In, In_at}
 use Rattle.lsys_kept.specs.Lineages.{names}
 use Rattle.lsys_kept.specs.Levels.{HaveLevels, AnsweredAt, IsAnswered, IsKeptFor, IsRight, level_of, answer_at}
 use Rattle.lsys_kept.specs.Meant.{meant}
-use Rattle.lsys_pass.specs.Stages.{Stage, was, IsNeeded, IsNeededAt, IsDone}
-use Rattle.lsys_pass.proofs.Before.{spot_at, kept_rules, placed, IsPlaced, is_below, answer_lives, zero_plus, reached_on, no_more}
+use Rattle.lsys_pass.specs.Stages.{Stage, was, IsDone}
+use Rattle.lsys_pass.proofs.Before.{spot_at, kept_rules, placed, is_below, answer_lives, zero_plus, reached_on, no_more}
 use Rattle.lsys_pass.proofs.Needed.{is_module}
 use Rattle.lsys_pass.proofs.Closing.{on_reached, root_none}
-use Rattle.lsys_pass.proofs.Counting.{same_length, Passes, picked_below, below_count, PassesBelow, below_in, in_below, below_apart}
+use Rattle.lsys_pass.proofs.Counting.{same_length, Passes, picked_below, below_count, below_in, in_below, below_apart}
 
 -- 1. the question of a symbol
 

@@ -1,5 +1,5 @@
 -- A pass that waits: nothing was kept of a step, and the store has at most more room.
-use Rattle.std.proofs.Common.{◌≡◌, ◌⊎◌, ◌↔◌, ◌+◌, ◌<◌, ◌≤◌, ℕ, true, List, Option, Some, None, Ok, Err, Result, refl, sym, ap, ◌∙◌, subst, inl, inr, arith}
+use Rattle.std.proofs.Common.{◌≡◌, ◌⊎◌, ℕ, Option, Some, None, Ok, Err, Result, sym, ap, ◌∙◌, subst, inl, inr}
 use Rattle.lsys_spec.specs.Systems.{System}
 use Rattle.lsys_rewrite.specs.declared.refusal.FaultKind.{FaultKind}
 use Rattle.lsys_walks.specs.Stores.{Store}
@@ -10,9 +10,9 @@ use Rattle.lsys_match.specs.Kept.{Kept}
 use Rattle.lsys_match.specs.KeptAnswers.{StaysMade}
 use Rattle.lsys_match.specs.Asks.{IsMade, KeepsStore}
 use Rattle.lsys_match.proofs.Staying.{stays_new, stays_kept, stays_released, own_runs}
-use Rattle.lsys_reads.specs.Relations.{Relations, is_pending, pairs_have, SettledStay}
-use Rattle.lsys_forest.specs.Rows.{level_nodes, level_spots}
-use Rattle.lsys_kept.specs.Levels.{AnsweredAt, answer_at, HasRead}
+use Rattle.lsys_reads.specs.Relations.{Relations, pairs_have, SettledStay}
+use Rattle.lsys_forest.specs.Rows.{level_spots}
+use Rattle.lsys_kept.specs.Levels.{AnsweredAt, answer_at}
 use Rattle.lsys_kept.specs.Meant.{level_to}
 use Rattle.lsys_pass.specs.Stages.{Stage, was, fault_in, HasFault, OutcomeBy, IsOpen, IsSettled, IsAtLevel}
 use Rattle.lsys_pass.specs.Steps.{ReleasesNew}

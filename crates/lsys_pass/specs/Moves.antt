@@ -1,6 +1,5 @@
 -- What the calls of a pass do.
 use Rattle.std.specs.Prelude.{◌≡◌, ◌≢◌, ℕ, List, ◌++◌, ◌∷◌, length, Result, Ok, Err, Some, slice_get, if◌then◌else◌}
-use Rattle.lsys_spec.specs.Systems.{System}
 use Rattle.lsys_spec.specs.Levels.{ModuleValue, Module}
 use Rattle.lsys_spec.specs.Questions.{Question, questions, is_needed}
 use Rattle.lsys_match.specs.Asks.{ByDefinition, by_definition}

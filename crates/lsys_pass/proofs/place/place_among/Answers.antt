@@ -1,7 +1,6 @@
-use Rattle.std.proofs.Common.{◌≡◌, ◌<◌, ◌≤◌, ◌+◌, ◌-◌, ◌/◌, ℕ, Some, slice_get, length, refl, sym, ap, ◌∙◌, subst, inl, inr, arith}
+use Rattle.std.proofs.Common.{◌≡◌, ◌<◌, ◌+◌, ◌-◌, ◌/◌, Some, slice_get, length, refl, sym, ap, ◌∙◌, inl, inr, arith}
 use Rattle.std.proofs.lemmas.Bool.{cases_order, cases_lt}
 use Rattle.std.proofs.lemmas.Option.{slice_get_read, same_Some}
-use Rattle.lsys_forest.specs.Groves.{In}
 use Rattle.lsys_forest.specs.Rows.{place_of_node}
 use Rattle.lsys_forest.proofs.WalkLemmas.{get_In, In_at}
 use Rattle.lsys_pass.proofs.place.place_among.Goals as goal

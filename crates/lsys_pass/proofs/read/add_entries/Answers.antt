@@ -1,6 +1,5 @@
-use Rattle.std.proofs.Common.{◌≡◌, Some, length, slice_get, refl, ◌∙◌}
-use Rattle.std.proofs.lemmas.Option.{slice_get_read}
-use Rattle.lsys_pass.proofs.Reading.{pairs_more, comes_further}
+use Rattle.std.proofs.Common.{◌∙◌}
+use Rattle.lsys_pass.proofs.Reading.{comes_further}
 use Rattle.lsys_pass.proofs.read.add_entries.Goals as goal
 
 pub returns-in_err-add_entry-clause-settled : goal.returns-in_err-add_entry-clause-settled
