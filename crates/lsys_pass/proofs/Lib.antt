@@ -17,3 +17,4 @@ pub mod Closing
 pub mod Counting
 pub mod Totals
 pub mod Closed
+pub mod Finishing

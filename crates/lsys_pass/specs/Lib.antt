@@ -5,4 +5,5 @@ pub mod Places
 pub mod Read
 pub mod Works
 pub mod Steps
+pub mod Advances
 pub mod Moves
