@@ -13,7 +13,7 @@ use Rattle.lsys_walks.specs.Stores.{Store}
 use Rattle.lsys_match.specs.Kept.{Kept}
 use Rattle.lsys_reads.specs.Relations.{Relations, is_pending}
 use Rattle.lsys_forest.specs.Nodes.{Node, Nodes}
-use Rattle.lsys_forest.specs.Groves.{In, AreApart, IsSound}
+use Rattle.lsys_forest.specs.Groves.{In, AreApart, IsSound, Reached}
 use Rattle.lsys_forest.specs.Rows.{level_nodes, level_spots, spot_in}
 use Rattle.lsys_forest.proofs.RowLemmas.{level_depth}
 use Rattle.lsys_forest.proofs.WalkLemmas.{get_In}
@@ -23,8 +23,8 @@ use Rattle.lsys_kept.specs.Lineages.{kin_of, kins, names}
 use Rattle.lsys_kept.specs.Levels.{AnsweredAt, AnsweredIn, level_of, answer_at, HasRead}
 use Rattle.lsys_kept.specs.Meant.{level_to}
 use Rattle.lsys_pass.specs.Rests.{IsResting}
-use Rattle.lsys_pass.specs.Stages.{Stage, was, Rests, fault_in, HasFault, OutcomeBy, IsNeeded, IsNeededAt, IsAtLevel}
-use Rattle.lsys_pass.specs.Advances.{IsAskedTo, Makes, Advances}
+use Rattle.lsys_pass.specs.Stages.{Stage, was, Rests, fault_in, HasFault, OutcomeBy, IsNeeded, IsNeededAt, HasSeats, IsAtLevel, IsDone}
+use Rattle.lsys_pass.specs.Advances.{IsAskedTo, Makes, Advances, Ends}
 use Rattle.lsys_pass.proofs.Stepping.{some_in}
 
 -- 1. a level that was asked
@@ -92,7 +92,7 @@ renamed m f g (k ∷ ks) h =
     let one : named f (spot_in k (m k)) ≡ named g (spot_in k (m k)) = ap (λ l. with_lineage l (spot_in k (m k)).seen) (ap f (tag_is k (m k)) ∙ h k (inl refl) ∙ ap g (sym (tag_is k (m k)))) in
     ap (λ a. a ∷ level_by f (map (λ k. spot_in k (m k)) ks)) one ∙ ap (λ (l : List L.Symbol). named g (spot_in k (m k)) ∷ l) (renamed m f g ks (λ j i. h j (inr i)))
 
-module _ (s s' : Stage) (t : ℕ) (h : IsAskedTo s t) (sound : IsSound s.root s.changes s.now) (sound' : IsSound s'.root s'.changes s'.now) (x : Makes s s' (suc t)) (a : Advances s' (suc t)) where
+module _ (s s' : Stage) (t : ℕ) (h : IsAskedTo s t) (sound : IsSound s.root s.changes s.now) (sound' : IsSound s'.root s'.changes s'.now) (x : Makes s s' (suc t)) where
   within : (u : ℕ) → u ≤ t → u < suc t
   within u l = omega (arith, l)
 
@@ -204,8 +204,8 @@ module _ (s s' : Stage) (t : ℕ) (h : IsAskedTo s t) (sound : IsSound s.root s.
     | inr old ↦ needed_as u p old ((all_news s t h u p k old (there u p k old e)).0 (is_renewed k i))
   ]
 
-  all_on : (u p k : ℕ) → u ≤ suc t → slice_get (level_nodes s'.now s'.root u) p ≡ Some k → IsNeededAt s' u p → In k s'.renewed ⊎ In k s'.pending ⊎ (fault_in k s'.faults ≡ None → ⊥)
-  all_on u p k l e n = elim (cases_lt t u) [
+  all_on : Advances s' (suc t) → (u p k : ℕ) → u ≤ suc t → slice_get (level_nodes s'.now s'.root u) p ≡ Some k → IsNeededAt s' u p → In k s'.renewed ⊎ In k s'.pending ⊎ (fault_in k s'.faults ≡ None → ⊥)
+  all_on a u p k l e n = elim (cases_lt t u) [
     | inl last ↦
         let same : u ≡ suc t = omega (arith, last, l) in
         elim (a.ask.each p k (ap (λ w. slice_get (level_nodes s'.now s'.root w) p) (sym same) ∙ e)) [
@@ -216,8 +216,8 @@ module _ (s s' : Stage) (t : ℕ) (h : IsAskedTo s t) (sound : IsSound s.root s.
   ]
 
   -- the pass is at that level
-  pub starts : IsAtLevel s' (suc t)
-  starts = record {
+  pub starts : Advances s' (suc t) → IsAtLevel s' (suc t)
+  starts a = record {
     rest = rest;
     tree = a.tree;
     answers = record {
@@ -245,8 +245,44 @@ module _ (s s' : Stage) (t : ℕ) (h : IsAskedTo s t) (sound : IsSound s.root s.
     news = record {
       apart = subst AreApart (sym x.run.renewed) h.at.news.apart;
       needed = needed_on;
-      all = all_on;
+      all = all_on a;
       born = x.run.born ∙ h.at.news.born ∙ ap (λ (m : Nodes Kept). count_by (λ k. is_none (answer_at m k)) s.renewed) (sym x.run.was) ∙ ap (count_by (λ k. is_none (answer_at (was s') k))) (sym x.run.renewed);
     };
     seats = x.seats;
+  }
+
+  done_kept : Ends s' (suc t) → (k : ℕ) (b : Kept) → In k s'.renewed ⊎ In k s'.dropped ⊎ (answer_at s'.now k ≡ Some b) → In k s'.renewed ⊎ In k s'.dropped ⊎ (Reached s'.now s'.root k × (answer_at s'.now k ≡ Some b))
+  done_kept d k b (inl i) = inl i
+  done_kept d k b (inr (inl i)) = inr (inl i)
+  done_kept d k b (inr (inr e)) = elim (d.reached k b e) [ inl r ↦ inr (inr (r, e)) | inr i ↦ inr (inl i) ]
+
+  -- all levels are there
+  pub ends : Ends s' (suc t) → IsDone s'
+  ends d = record {
+    rest = rest;
+    spelled = d.spelled;
+    is = d.is;
+    levels = d.levels;
+    small = d.small;
+    counts = d.counts;
+    ends = d.none_below;
+    once = d.once;
+    stay = d.stay;
+    answered = λ u p k l e. answered u p k (let f = d.depth in omega (arith, l, f)) e;
+    last = λ k i. d.last k (subst (λ w. In k (level_nodes s'.now s'.root w)) d.depth i);
+    read = read;
+    renewed_are = λ k i. let w = renewed_level k i in (w.0, (let l = w.1 in let f = d.depth in omega (arith, l, f)), on_new w.0 k w.1 w.2);
+    renewed_apart = subst AreApart (sym x.run.renewed) h.at.news.apart;
+    news = λ u p k l e.
+        let f = d.depth in
+        let old : u ≤ t = omega (arith, l, f) in
+        let n = all_news s t h u p k old (there u p k old e) in
+        (λ i. needed_as u p old (n.0 (is_renewed k i)), λ i. subst (In k) (sym x.run.renewed) (n.1 (needed_was u p old i)));
+    born = x.run.born ∙ h.at.news.born ∙ ap (λ (m : Nodes Kept). count_by (λ k. is_none (answer_at m k)) s.renewed) (sym x.run.was) ∙ ap (count_by (λ k. is_none (answer_at (was s') k))) (sym x.run.renewed);
+    dropped_apart = x.drops.apart;
+    dropped_had = x.drops.had;
+    dropped_are = d.dropped_none;
+    kept = λ k b e. done_kept d k b (kept_on k b e);
+    fresh = λ k b e. elim (h.at.lists.fresh k b (x.above.same k b e)) [ inl i ↦ inl (subst (In k) (sym x.run.renewed) i) | inr f ↦ inr (was_answer k ∙ f) ];
+    seats = subst (HasSeats s') (sym d.depth) x.seats;
   }

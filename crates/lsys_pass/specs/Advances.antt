@@ -1,13 +1,16 @@
 -- What making the next level does to a stage, of which all that was pending is asked.
-use Rattle.std.specs.Prelude.{◌≡◌, ◌<◌, ◌≤◌, ◌⊎◌, ℕ, List, [], Some, None, slice_get}
+use Rattle.std.specs.Prelude.{◌≡◌, ◌<◌, ◌≤◌, ◌⊎◌, ◌^◌, ℕ, [], length, Ok, Some, None, slice_get}
+use Rattle.lsys_spec.specs.Systems.{WellSpelled}
+use Rattle.lsys_spec.specs.Meaning.{meaning}
 use Rattle.lsys_match.specs.Kept.{Kept}
-use Rattle.lsys_change.specs.Nodes.{Extends}
-use Rattle.lsys_forest.specs.Groves.{In, AreApart}
+use Rattle.lsys_change.specs.Nodes.{AreOnce, Extends}
+use Rattle.lsys_forest.specs.Groves.{In, AreApart, Reached}
 use Rattle.lsys_forest.specs.Rows.{level_nodes, level_spots}
 use Rattle.lsys_kept.specs.Lineages.{kins}
-use Rattle.lsys_kept.specs.Levels.{AnsweredAt, answer_at}
-use Rattle.lsys_kept.specs.Meant.{IsCandidate}
+use Rattle.lsys_kept.specs.Levels.{HaveLevels, AnsweredAt, answer_at}
+use Rattle.lsys_kept.specs.Meant.{meant, IsCandidate}
 use Rattle.lsys_seats.specs.Seats.{SameSeats}
+use Rattle.lsys_pass.specs.Rests.{AreCountedLow}
 use Rattle.lsys_pass.specs.Stages.{Stage, was, AreSome, IsNeededAt, HasTree, HasSeats, IsAtLevel}
 
 -- Level t was asked: nothing of it is pending, and it has no faults.
@@ -74,3 +77,19 @@ pub record Makes (old new : Stage) (t : ℕ) : Type 0 where
 pub record Advances (s : Stage) (t : ℕ) : Type 0 where
   pub tree : HasTree s.now (was s) s.root s.next s.limit t
   pub ask : AreToAsk s t
+
+-- or it is the last one: its nodes have no answers and no children, and an answer that is still kept is reached or was dropped
+pub record Ends (s : Stage) (t : ℕ) : Type 0 where
+  pub depth : s.next.depth ≡ t
+  pub spelled : WellSpelled s.next
+  pub is : meaning s.next s.limit ≡ Ok (meant s.next s.limit)
+  pub levels : HaveLevels s.now s.root s.next.seed (meant s.next s.limit)
+  pub small : s.next.depth < 2 ^ 32
+  pub counts : AreCountedLow s.now
+  pub none_below : level_nodes s.now s.root (length (meant s.next s.limit)) ≡ []
+  pub once : AreOnce (kins s.now) s.root
+  pub stay : Extends (kins (was s)) (kins s.now)
+  pub last : (k : ℕ) → In k (level_nodes s.now s.root t) → answer_at s.now k ≡ None
+  pub reached : (k : ℕ) (a : Kept) → answer_at s.now k ≡ Some a
+      → Reached s.now s.root k ⊎ In k s.dropped
+  pub dropped_none : (k : ℕ) → In k s.dropped → Reached s.now s.root k → answer_at s.now k ≡ None
