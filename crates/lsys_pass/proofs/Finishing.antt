@@ -1,5 +1,5 @@
 -- From one level to the next.
-use Rattle.std.proofs.Common.{◌≡◌, ◌≢◌, ◌⊎◌, ◌↔◌, ◌+◌, ◌<◌, ◌≤◌, ℕ, zero, suc, true, List, [], ◌∷◌, length, map, Option, Some, None, refl, sym, ap, ◌∙◌, subst, inl, inr, arith, slice_get}
+use Rattle.std.proofs.Common.{◌≡◌, ◌⊎◌, ◌↔◌, ◌<◌, ◌≤◌, ℕ, suc, true, false, List, [], ◌∷◌, map, Option, Some, None, refl, sym, ap, ◌∙◌, subst, inl, inr, arith, slice_get}
 use Rattle.std.specs.Prelude.{count_by, is_none, option_map}
 use Rattle.std.proofs.lemmas.Bool.{cases_lt}
 use Rattle.std.proofs.lemmas.Option.{none-some, same_Some}
@@ -7,12 +7,12 @@ use Rattle.lsys_spec.specs.Systems.{System}
 use Rattle.lsys_spec.specs.Levels as L
 use Rattle.lsys_rewrite.specs.declared.refusal.FaultKind.{FaultKind}
 use Rattle.lsys_level.specs.Spots.{Spotted, with_lineage, named, level_by}
-use Rattle.lsys_change.specs.Nodes.{Kin, Kins, AreOnce, Extends}
 use Rattle.lsys_change.proofs.Lineages.{stays}
 use Rattle.lsys_walks.specs.Stores.{Store}
 use Rattle.lsys_match.specs.Kept.{Kept}
-use Rattle.lsys_reads.specs.Relations.{Relations, is_pending}
+use Rattle.lsys_reads.specs.Relations.{Relations, is_pending, pairs_have}
 use Rattle.lsys_forest.specs.Nodes.{Node, Nodes}
+use Rattle.lsys_forest.specs.Changes.{Change, undone}
 use Rattle.lsys_forest.specs.Groves.{In, AreApart, IsSound, Reached}
 use Rattle.lsys_forest.specs.Rows.{level_nodes, level_spots, spot_in}
 use Rattle.lsys_forest.proofs.RowLemmas.{level_depth}
@@ -24,7 +24,8 @@ use Rattle.lsys_kept.specs.Levels.{AnsweredAt, AnsweredIn, level_of, answer_at, 
 use Rattle.lsys_kept.specs.Meant.{level_to}
 use Rattle.lsys_pass.specs.Rests.{IsResting}
 use Rattle.lsys_pass.specs.Stages.{Stage, was, Rests, fault_in, HasFault, OutcomeBy, IsNeeded, IsNeededAt, HasSeats, IsAtLevel, IsDone}
-use Rattle.lsys_pass.specs.Advances.{IsAskedTo, Makes, Advances, Ends}
+use Rattle.lsys_pass.specs.Advances.{IsAskedTo, KeepsRest, Makes, Begins, Advances, Ends}
+use Rattle.lsys_pass.specs.Passes.{IsStill}
 use Rattle.lsys_pass.proofs.Stepping.{some_in}
 
 -- 1. a level that was asked
@@ -82,6 +83,16 @@ rest_seats s limit m root store reads seats seats' same h = record {
   seated = λ t p k e. same k ∙ h.seated t p k e;
 }
 
+rest_made : (s s' : Stage) → KeepsRest s s' → Rests s → Rests s'
+rest_made s s' run h =
+    subst (λ r. IsResting s'.system s'.limit (was s') s'.root s'.store r s'.seats) (sym run.reads)
+    (subst (λ st. IsResting s'.system s'.limit (was s') s'.root st s.reads s'.seats) (sym run.store)
+    (subst (λ r. IsResting s'.system s'.limit (was s') r s.store s.reads s'.seats) (sym run.root)
+    (subst (λ (m : Nodes Kept). IsResting s'.system s'.limit m s.root s.store s.reads s'.seats) (sym run.was)
+    (subst (λ n. IsResting s'.system n (was s) s.root s.store s.reads s'.seats) (sym run.limit)
+    (subst (λ (y : System). IsResting y s.limit (was s) s.root s.store s.reads s'.seats) (sym run.system)
+    (rest_seats s.system s.limit (was s) s.root s.store s.reads s.seats s'.seats run.same_seats h))))))
+
 tag_is : (k : ℕ) (o : Option (Node Kept)) → (spot_in k o).tag ≡ k
 tag_is k None = refl
 tag_is k (Some n) = refl
@@ -123,14 +134,7 @@ module _ (s s' : Stage) (t : ℕ) (h : IsAskedTo s t) (sound : IsSound s.root s.
       let l = w.1 in omega (arith, e, l)
 
   rest : Rests s'
-  rest =
-      subst (λ r. IsResting s'.system s'.limit (was s') s'.root s'.store r s'.seats) (sym x.run.reads)
-      (subst (λ st. IsResting s'.system s'.limit (was s') s'.root st s.reads s'.seats) (sym x.run.store)
-      (subst (λ r. IsResting s'.system s'.limit (was s') r s.store s.reads s'.seats) (sym x.run.root)
-      (subst (λ (m : Nodes Kept). IsResting s'.system s'.limit m s.root s.store s.reads s'.seats) (sym x.run.was)
-      (subst (λ n. IsResting s'.system n (was s) s.root s.store s.reads s'.seats) (sym x.run.limit)
-      (subst (λ (y : System). IsResting y s.limit (was s) s.root s.store s.reads s'.seats) (sym x.run.system)
-      (rest_seats s.system s.limit (was s) s.root s.store s.reads s.seats s'.seats x.same_seats h.at.rest))))))
+  rest = rest_made s s' x.run h.at.rest
 
   answered : (u p k : ℕ) → u ≤ t → slice_get (level_nodes s'.now s'.root u) p ≡ Some k → AnsweredAt s'.next u s'.now s'.root s'.store p k
   answered u p k l e =
@@ -138,7 +142,7 @@ module _ (s s' : Stage) (t : ℕ) (h : IsAskedTo s t) (sound : IsSound s.root s.
       subst (λ st. AnsweredIn s'.next u (level_spots s'.now s'.root u) st p (answer_at s'.now k)) (sym x.run.store)
       (subst (λ (o : Option Kept). AnsweredIn s'.next u (level_spots s'.now s'.root u) s.store p o) (sym (x.above.kept u k (within u l) (get_In (level_nodes s.now s.root u) p k old)))
       (subst (λ (row : List Spotted). AnsweredIn s'.next u row s.store p (answer_at s.now k)) (sym (x.above.spots u (within u l)))
-      (subst (λ (y : System). AnsweredIn y u (level_spots s.now s.root u) s.store p (answer_at s.now k)) (sym x.run.next) (all_answered s t h u p k l old))))
+      (subst (λ (y : System). AnsweredIn y u (level_spots s.now s.root u) s.store p (answer_at s.now k)) (sym x.next) (all_answered s t h u p k l old))))
 
   level_kept : (u : ℕ) → u ≤ t → level_of s'.now s'.root u ≡ level_of s.now s.root u
   level_kept u l =
@@ -152,11 +156,11 @@ module _ (s s' : Stage) (t : ℕ) (h : IsAskedTo s t) (sound : IsSound s.root s.
   needed_as u p l n =
       subst (λ (y : List L.Symbol). IsNeeded s'.system s'.next s'.limit u y p) (sym (level_kept u l))
       (subst (λ m. IsNeeded s'.system s'.next m u (level_of s.now s.root u) p) (sym x.run.limit)
-      (subst (λ (y : System). IsNeeded s'.system y s.limit u (level_of s.now s.root u) p) (sym x.run.next) (subst (λ (y : System). IsNeeded y s.next s.limit u (level_of s.now s.root u) p) (sym x.run.system) n)))
+      (subst (λ (y : System). IsNeeded s'.system y s.limit u (level_of s.now s.root u) p) (sym x.next) (subst (λ (y : System). IsNeeded y s.next s.limit u (level_of s.now s.root u) p) (sym x.run.system) n)))
 
   needed_was : (u p : ℕ) → u ≤ t → IsNeededAt s' u p → IsNeededAt s u p
   needed_was u p l n =
-      subst (λ (y : System). IsNeeded y s.next s.limit u (level_of s.now s.root u) p) x.run.system (subst (λ (y : System). IsNeeded s'.system y s.limit u (level_of s.now s.root u) p) x.run.next
+      subst (λ (y : System). IsNeeded y s.next s.limit u (level_of s.now s.root u) p) x.run.system (subst (λ (y : System). IsNeeded s'.system y s.limit u (level_of s.now s.root u) p) x.next
       (subst (λ m. IsNeeded s'.system s'.next m u (level_of s.now s.root u) p) x.run.limit (subst (λ (y : List L.Symbol). IsNeeded s'.system s'.next s'.limit u y p) (level_kept u l) n)))
 
   -- a reader that was renewed reads what it read
@@ -284,5 +288,115 @@ module _ (s s' : Stage) (t : ℕ) (h : IsAskedTo s t) (sound : IsSound s.root s.
     dropped_are = d.dropped_none;
     kept = λ k b e. done_kept d k b (kept_on k b e);
     fresh = λ k b e. elim (h.at.lists.fresh k b (x.above.same k b e)) [ inl i ↦ inl (subst (In k) (sym x.run.renewed) i) | inr f ↦ inr (was_answer k ∙ f) ];
+    seats = subst (HasSeats s') (sym d.depth) x.seats;
+  }
+
+-- 3. the first level
+
+module _ (s s' : Stage) (h : IsStill s) (x : Begins s s') where
+  none_renewed : (k : ℕ) → In k s'.renewed → ⊥
+  none_renewed k i = subst (In k) (x.run.renewed ∙ h.renewed) i
+
+  first_rest : Rests s'
+  first_rest = rest_made s s' x.run h.rest
+
+  -- the nodes of the last rest are those that were there
+  was_now : was s' ≡ s.now
+  was_now = x.run.was ∙ ap (λ (cs : List (Change Kept)). undone cs s.now) h.changes
+
+  first_answer : (k : ℕ) → answer_at (was s') k ≡ answer_at s.now k
+  first_answer k = ap (λ (m : Nodes Kept). answer_at m k) was_now
+
+  first_read : (reader seen : ℕ) → (is_pending s'.reads reader seen ≡ true) ↔ (In reader s'.renewed × HasRead s'.now s'.store reader seen)
+  first_read reader seen = (
+    λ e. absurd (let f : false ≡ true = sym (ap (λ ps. pairs_have ps reader seen) (ap (λ (r : Relations). r.pending) x.run.reads ∙ h.reads)) ∙ e in cc),
+    λ q. absurd (none_renewed reader q.0),
+  )
+
+  first_kept : (k : ℕ) (b : Kept) → answer_at (was s') k ≡ Some b → In k s'.renewed ⊎ In k s'.dropped ⊎ (answer_at s'.now k ≡ Some b)
+  first_kept k b e = inr (x.gone k b (sym (first_answer k) ∙ e))
+
+  first_fresh : (k : ℕ) (b : Kept) → answer_at s'.now k ≡ Some b → In k s'.renewed ⊎ (answer_at (was s') k ≡ Some b)
+  first_fresh k b e = inr (first_answer k ∙ x.same k b e)
+
+  first_lost : (k u : ℕ) (b : Kept) → u ≤ 0 → answer_at (was s') k ≡ Some b → In k (level_nodes (was s') s'.root u) → In k s'.dropped ⊎ In k (level_nodes s'.now s'.root u)
+  first_lost k u b l e i =
+      let same : u ≡ 0 = omega (arith, l) in
+      subst (λ w. In k s'.dropped ⊎ In k (level_nodes s'.now s'.root w)) (sym same) (x.drops.lost k b e (subst (λ w. In k (level_nodes (was s') s'.root w)) same i))
+
+  first_all : Advances s' 0 → (u p k : ℕ) → u ≤ 0 → slice_get (level_nodes s'.now s'.root u) p ≡ Some k → IsNeededAt s' u p → In k s'.renewed ⊎ In k s'.pending ⊎ (fault_in k s'.faults ≡ None → ⊥)
+  first_all a u p k l e n =
+      let same : u ≡ 0 = omega (arith, l) in
+      elim (a.ask.each p k (ap (λ w. slice_get (level_nodes s'.now s'.root w) p) (sym same) ∙ e)) [
+        | inl r ↦ inr (inl r.0)
+        | inr r ↦ absurd (r.2 (subst (λ w. IsNeededAt s' w p) same n))
+      ]
+
+  none_born : s'.born ≡ count_by (λ k. is_none (answer_at (was s') k)) s'.renewed
+  none_born = x.run.born ∙ h.born ∙ ap (count_by (λ k. is_none (answer_at (was s') k))) (sym (x.run.renewed ∙ h.renewed))
+
+  -- the pass is at the first level
+  pub starts_first : Advances s' 0 → IsAtLevel s' 0
+  starts_first a = record {
+    rest = first_rest;
+    tree = a.tree;
+    answers = record {
+      above = λ u p k l e. absurd (omega (arith, l));
+      here = λ p k e. elim (a.ask.each p k e) [
+        | inl r ↦ inl (record { pending = r.0; candidate = r.1; same = r.2; faultless = no_fault s' k a.ask.faults })
+        | inr r ↦ inr (record { done = r.0; outcome = subst (λ o. OutcomeBy o (AnsweredAt s'.next 0 s'.now s'.root s'.store p k) (HasFault s'.next 0 (level_to s'.next s'.limit 0) p)) (sym (no_fault s' k a.ask.faults)) r.1 })
+      ];
+      in_order = a.ask.in_order;
+      apart = a.ask.apart;
+    };
+    lists = record {
+      read = first_read;
+      renewed_are = λ k i. absurd (none_renewed k i);
+      renewed_done = λ k i j. none_renewed k i;
+      dropped_are = λ k u i l j. x.drops.none k u i l j;
+      dropped_done = a.ask.undropped;
+      kept = first_kept;
+      dropped_apart = x.drops.apart;
+      dropped_at = x.drops.at;
+      dropped_had = x.drops.had;
+      lost = first_lost;
+      fresh = first_fresh;
+    };
+    news = record {
+      apart = subst AreApart (sym (x.run.renewed ∙ h.renewed)) tt;
+      needed = λ u p k l e i. absurd (none_renewed k i);
+      all = first_all a;
+      born = none_born;
+    };
+    seats = x.seats;
+  }
+
+  -- or it is the only one
+  pub starts_done : Ends s' 0 → IsDone s'
+  starts_done d = record {
+    rest = first_rest;
+    spelled = d.spelled;
+    is = d.is;
+    levels = d.levels;
+    small = d.small;
+    counts = d.counts;
+    ends = d.none_below;
+    once = d.once;
+    stay = d.stay;
+    answered = λ u p k l e. absurd (let f = d.depth in omega (arith, l, f));
+    last = λ k i. d.last k (subst (λ w. In k (level_nodes s'.now s'.root w)) d.depth i);
+    read = first_read;
+    renewed_are = λ k i. absurd (none_renewed k i);
+    renewed_apart = subst AreApart (sym (x.run.renewed ∙ h.renewed)) tt;
+    news = λ u p k l e. absurd (let f = d.depth in omega (arith, l, f));
+    born = none_born;
+    dropped_apart = x.drops.apart;
+    dropped_had = x.drops.had;
+    dropped_are = d.dropped_none;
+    kept = λ k b e. elim (x.gone k b (sym (first_answer k) ∙ e)) [
+      | inl i ↦ inr (inl i)
+      | inr f ↦ elim (d.reached k b f) [ inl r ↦ inr (inr (r, f)) | inr i ↦ inr (inl i) ]
+    ];
+    fresh = first_fresh;
     seats = subst (HasSeats s') (sym d.depth) x.seats;
   }

@@ -19,10 +19,9 @@ pub record IsAskedTo (s : Stage) (t : ℕ) : Type 0 where
   pub pending : s.pending ≡ []
   pub faults : s.faults ≡ []
 
--- Both systems and the last rest stay, what was read, and which answers are new.
-pub record KeepsRun (old new : Stage) : Type 0 where
+-- The last rest stays, what was read, and which answers are new.
+pub record KeepsRest (old new : Stage) : Type 0 where
   pub system : new.system ≡ old.system
-  pub next : new.next ≡ old.next
   pub limit : new.limit ≡ old.limit
   pub root : new.root ≡ old.root
   pub was : was new ≡ was old
@@ -30,6 +29,7 @@ pub record KeepsRun (old new : Stage) : Type 0 where
   pub reads : new.reads ≡ old.reads
   pub renewed : new.renewed ≡ old.renewed
   pub born : new.born ≡ old.born
+  pub same_seats : SameSeats old.seats new.seats
 
 -- The levels before level t stay, with their answers. Elsewhere no answer is new, and one that is kept no more was dropped.
 pub record StaysAbove (old new : Stage) (t : ℕ) : Type 0 where
@@ -67,11 +67,20 @@ pub record AreToAsk (s : Stage) (t : ℕ) : Type 0 where
 
 -- level t is made
 pub record Makes (old new : Stage) (t : ℕ) : Type 0 where
-  pub run : KeepsRun old new
+  pub next : new.next ≡ old.next
+  pub run : KeepsRest old new
   pub above : StaysAbove old new t
   pub drops : Drops old new t
-  pub same_seats : SameSeats old.seats new.seats
   pub seats : HasSeats new t
+
+-- level 0 of another system is made, from the last rest
+pub record Begins (old new : Stage) : Type 0 where
+  pub run : KeepsRest old new
+  pub same : (k : ℕ) (a : Kept) → answer_at new.now k ≡ Some a → answer_at old.now k ≡ Some a
+  pub gone : (k : ℕ) (a : Kept) → answer_at old.now k ≡ Some a
+      → In k new.dropped ⊎ (answer_at new.now k ≡ Some a)
+  pub drops : Drops old new 0
+  pub seats : HasSeats new 0
 
 -- and it is one whose questions are to be asked
 pub record Advances (s : Stage) (t : ℕ) : Type 0 where
