@@ -58,8 +58,10 @@ pub record Drops (old new : Stage) (t : ℕ) : Type 0 where
 -- answer is right as it is.
 pub record AreToAsk (s : Stage) (t : ℕ) : Type 0 where
   pub each : (p k : ℕ) → slice_get (level_nodes s.now s.root t) p ≡ Some k
-      → (In k s.pending × IsCandidate s.system s.next s.limit t p × (answer_at s.now k ≡ answer_at (was s) k))
-      ⊎ ((In k s.pending → ⊥) × AnsweredAt s.next t s.now s.root s.store p k × (IsNeededAt s t p → ⊥))
+      → (In k s.pending × IsCandidate s.system s.next s.limit t p
+      × (answer_at s.now k ≡ answer_at (was s) k))
+      ⊎ ((In k s.pending → ⊥) × AnsweredAt s.next t s.now s.root s.store p k
+      × (IsNeededAt s t p → ⊥))
   pub in_order : AreSome s.pending (level_nodes s.now s.root t)
   pub apart : AreApart s.pending
   pub faults : s.faults ≡ []

@@ -31,7 +31,8 @@ pub record Parts : Type 0 where
 
 -- The node keeps a new answer. What it read is pending, and it is among those that were renewed.
 pub record KeepsNew (node : ℕ) (is_born : Bool) (old new : Parts) (a : Kept) : Type 0 where
-  pub kept : (n : Node Kept) → now_of old.forest node ≡ Some n → TakesAnswer old.forest new.forest node n a
+  pub kept : (n : Node Kept) → now_of old.forest node ≡ Some n
+      → TakesAnswer old.forest new.forest node n a
   pub store : new.store ≡ old.store
   pub read : new.reads.pending ≡ old.reads.pending ++ pairs_of node (tags_read old.store a)
   pub settled : SettledStay old.reads new.reads
