@@ -1,6 +1,7 @@
 -- A pass that is at rest again, and a new one.
-use Rattle.std.proofs.Common.{◌≡◌, ℕ, ◌<◌, ◌≤◌, ◌^◌, List, [], refl, sym, ap, ◌∙◌, subst, arith}
+use Rattle.std.proofs.Common.{◌≡◌, ℕ, ◌<◌, ◌≤◌, ◌^◌, false, List, [], length, refl, sym, ap, ◌∙◌, subst, arith}
 use Rattle.lsys_spec.specs.Systems.{System, opening}
+use Rattle.lsys_spec.specs.Questions.{questions}
 use Rattle.lsys_walks.specs.Stores.{Store}
 use Rattle.lsys_match.specs.Kept.{Kept}
 use Rattle.lsys_reads.specs.Relations.{Relations, SettledStay}
@@ -8,8 +9,10 @@ use Rattle.lsys_forest.specs.Changes.{undone}
 use Rattle.lsys_forest.specs.Answers.{answers, kept_by, AreMade, FreesAllBut}
 use Rattle.lsys_forest.specs.Groves.{Grove, now_of, rest_of, changes_in, live_nodes, kept_in}
 use Rattle.lsys_kept.specs.Names.{run_in, holds}
+use Rattle.lsys_kept.specs.Meant.{meant}
 use Rattle.lsys_seats.specs.declared.seat.Seat.{Seat}
-use Rattle.lsys_pass.specs.declared.fault.Faulted.{Faulted}
+use Rattle.lsys_seats.specs.Seats.{is_marked}
+use Rattle.lsys_pass.specs.declared.work.Work.{Work}
 use Rattle.lsys_pass.specs.declared.state.PassState.{PassState}
 use Rattle.lsys_pass.specs.declared.state.PassState.TheVariants.{Rest, Level, Done, Failed}
 use Rattle.lsys_pass.specs.Rests.{IsResting}
@@ -17,7 +20,7 @@ use Rattle.lsys_pass.specs.Stages.{Stage, IsStored, Rests}
 use Rattle.lsys_pass.specs.Passes.{PassView, stage_of, now, was, HoldsAt, IsPass}
 use Rattle.lsys_pass.proofs.Stores.{AllStay, rest_stays}
 use Rattle.lsys_pass.proofs.Keepers.{are_made, stay_kept, stored_rest}
-use Rattle.lsys_pass.proofs.Openings.{IsAlone, alone_rests, alone_stored}
+use Rattle.lsys_pass.proofs.Openings.{IsAlone, alone_rests, alone_stored, opening_questions}
 
 pub rests_at : (s : Stage) (state : PassState) → HoldsAt s state → Rests s
 rests_at s Rest h = h.rest
@@ -29,9 +32,18 @@ rests_at s Failed h = h
 pub held : (v : PassView) → IsPass v → AreMade run_in holds v.store (kept_in v.forest)
 held v h = are_made (now v) (changes_in v.forest) v.forest.root v.store h.stored
 
+-- nothing is worked on
+pub record IsCleared (w : Work) : Type 0 where
+  pub pending : w.pending.items ≡ []
+  pub faults : w.faults.items ≡ []
+  pub renewed : w.renewed.items ≡ []
+  pub born : w.born ≡ 0
+  pub dropped : w.dropped.items ≡ []
+  pub moved : w.moved.items ≡ []
+
 -- at rest, with these parts
-abbrev pub resting : Grove Kept → Store → Relations → List Seat → System → ℕ → List ℕ → List Faulted → List ℕ → List ℕ → PassView
-resting f st reads seats system limit ps fs rn ds = record {
+abbrev pub resting : Grove Kept → Store → Relations → List Seat → System → ℕ → Work → ℕ → PassView
+resting f st reads seats system limit w answers = record {
   forest = f;
   store = st;
   reads = reads;
@@ -40,28 +52,47 @@ resting f st reads seats system limit ps fs rn ds = record {
   next = system;
   limit = limit;
   state = Rest;
-  pending = ps;
-  faults = fs;
-  renewed = rn;
-  dropped = ds;
+  pending = w.pending.items;
+  faults = w.faults.items;
+  renewed = w.renewed.items;
+  born = w.born;
+  dropped = w.dropped.items;
+  moved = w.moved.items;
+  answers = answers;
 }
 
-pub is_resting : (f : Grove Kept) (st : Store) (reads : Relations) (seats : List Seat) (system : System) (limit : ℕ) (ps : List ℕ) (fs : List Faulted) (rn ds : List ℕ)
-    → IsStored (now_of f) (changes_in f) f.root st → live_nodes f < 2 ^ 32 → IsResting system limit (rest_of f) f.root st reads seats → changes_in f ≡ [] → reads.pending ≡ []
-    → ps ≡ [] → fs ≡ [] → rn ≡ [] → ds ≡ [] → IsPass (resting f st reads seats system limit ps fs rn ds)
-is_resting f st reads seats system limit ps fs rn ds stored few rest still quiet p q r d = record {
+-- no node is marked
+abbrev pub AreUnmarked : List Seat → Type 0
+AreUnmarked seats = (k : ℕ) → is_marked seats k ≡ false
+
+pub is_resting : (f : Grove Kept) (st : Store) (reads : Relations) (seats : List Seat) (system : System) (limit : ℕ) (w : Work) (answers : ℕ)
+    → IsStored (now_of f) (changes_in f) f.root st → live_nodes f < 2 ^ 32 → AreUnmarked seats → answers ≡ length (questions system (meant system limit))
+    → IsResting system limit (rest_of f) f.root st reads seats → changes_in f ≡ [] → reads.pending ≡ [] → IsCleared w → IsPass (resting f st reads seats system limit w answers)
+is_resting f st reads seats system limit w answers stored few unmarked counted rest still quiet clear = record {
   stored = stored;
   few = few;
-  holds = record { rest = rest; changes = still; next = refl; reads = quiet; pending = p; faults = q; renewed = r; dropped = d };
+  unmarked = unmarked;
+  counted = counted;
+  holds = record {
+    rest = rest;
+    changes = still;
+    next = refl;
+    reads = quiet;
+    pending = clear.pending;
+    faults = clear.faults;
+    renewed = clear.renewed;
+    born = clear.born;
+    dropped = clear.dropped;
+    moved = clear.moved;
+  };
 }
 
-pub back_pass : (v : PassView) (f : Grove Kept) (st : Store) (reads : Relations) (ps : List ℕ) (fs : List Faulted) (rn ds : List ℕ) → IsPass v
+pub back_pass : (v : PassView) (f : Grove Kept) (st : Store) (reads : Relations) (w : Work) → IsPass v
     → now_of f ≡ rest_of v.forest → changes_in f ≡ [] → f.root ≡ v.forest.root → live_nodes f ≤ live_nodes v.forest
     → FreesAllBut run_in holds (kept_in v.forest) (kept_by (rest_of v.forest)) v.store st → AreMade run_in holds st (kept_in f)
-    → SettledStay v.reads reads → reads.pending ≡ [] → ps ≡ [] → fs ≡ [] → rn ≡ [] → ds ≡ []
-    → IsPass (resting f st reads v.seats v.system v.limit ps fs rn ds)
-back_pass v f st reads ps fs rn ds h is still root live frees are settled quiet p q r d =
-    is_resting f st reads v.seats v.system v.limit ps fs rn ds stored (let b = h.few in omega (arith, live, b)) rests still quiet p q r d
+    → SettledStay v.reads reads → reads.pending ≡ [] → IsCleared w → IsPass (resting f st reads v.seats v.system v.limit w v.answers)
+back_pass v f st reads w h is still root live frees are settled quiet clear =
+    is_resting f st reads v.seats v.system v.limit w v.answers stored (let b = h.few in omega (arith, live, b)) h.unmarked h.counted rests still quiet clear
   where
     rest : IsResting v.system v.limit (was v) v.forest.root v.store v.reads v.seats
     rest = rests_at (stage_of v) v.state h.holds
@@ -87,12 +118,13 @@ back_pass v f st reads ps fs rn ds h is still root live frees are settled quiet 
     rests : IsResting v.system v.limit (rest_of f) f.root st reads v.seats
     rests = subst (λ k. IsResting v.system v.limit (rest_of f) k st reads v.seats) (sym root) (subst (λ m. IsResting v.system v.limit m v.forest.root st reads v.seats) (sym rest_is) was_rests)
 
-pub new_pass : (f : Grove Kept) (st : Store) (reads : Relations) (seats : List Seat) (system : System) (limit : ℕ) (ps : List ℕ) (fs : List Faulted) (rn ds : List ℕ)
-    → IsAlone (now_of f) f.root → changes_in f ≡ [] → live_nodes f ≡ 1 → system ≡ opening → reads.settled ≡ [] → reads.pending ≡ [] → ps ≡ [] → fs ≡ [] → rn ≡ [] → ds ≡ []
-    → IsPass (resting f st reads seats system limit ps fs rn ds)
-new_pass f st reads seats system limit ps fs rn ds alone still live opens none quiet p q r d =
-    is_resting f st reads seats system limit ps fs rn ds
-    (subst (λ cs. IsStored (now_of f) cs f.root st) (sym still) (alone_stored (now_of f) f.root st alone)) (omega (arith, live))
+pub new_pass : (f : Grove Kept) (st : Store) (reads : Relations) (seats : List Seat) (system : System) (limit : ℕ) (w : Work)
+    → IsAlone (now_of f) f.root → changes_in f ≡ [] → live_nodes f ≡ 1 → system ≡ opening → reads.settled ≡ [] → reads.pending ≡ [] → AreUnmarked seats → IsCleared w
+    → IsPass (resting f st reads seats system limit w 0)
+new_pass f st reads seats system limit w alone still live opens none quiet unmarked clear =
+    is_resting f st reads seats system limit w 0
+    (subst (λ cs. IsStored (now_of f) cs f.root st) (sym still) (alone_stored (now_of f) f.root st alone)) (omega (arith, live)) unmarked
+    (sym (ap (λ s. length (questions s (meant s limit))) opens ∙ ap length (opening_questions limit)))
     (subst (λ s. IsResting s limit (rest_of f) f.root st reads seats) (sym opens)
     (subst (λ m. IsResting opening limit m f.root st reads seats) (sym (ap (λ cs. undone cs (now_of f)) still)) (alone_rests (now_of f) f.root limit st reads seats alone none)))
-    still quiet p q r d
+    still quiet clear

@@ -197,7 +197,7 @@ stay_kept m held old new made frees k a e =
     let same : (r : RunName) → holds a r → run_in new r ≡ run_in old r = λ r h. frees.kept_runs r (AtNode k, a, e, h) in
     stays_made old new a (same_entries old new a same) (same_values old new a same) (made k a e)
 
-only_node : (m : Nodes Kept) (h : Keeper) (a : Kept) → answers m [] h ≡ Some a → (k : ℕ) × (answer_at m k ≡ Some a)
+pub only_node : (m : Nodes Kept) (h : Keeper) (a : Kept) → answers m [] h ≡ Some a → (k : ℕ) × (answer_at m k ≡ Some a)
 only_node m (AtNode k) a e = (k, e)
 only_node m (AtChange i) a e = absurd (none-some a e)
 

@@ -5,8 +5,10 @@ use Rattle.std.specs.Option.{option_and_then}
 use Rattle.std.proofs.lemmas.Bool.{cases_eq}
 use Rattle.std.proofs.lemmas.Option.{none-some, same_Some}
 use Rattle.std.proofs.lemmas.Bool.Decides.{nat_tests}
+use Rattle.lsys_spec.specs.Draws.{number_base}
 use Rattle.lsys_spec.specs.Systems.{opening}
 use Rattle.lsys_spec.specs.Meaning.{meaning}
+use Rattle.lsys_spec.specs.Questions.{questions}
 use Rattle.lsys_laws.proofs.KeptPlain.{opening_well}
 use Rattle.lsys_spec.specs.Levels.{Symbol, level_balanced}
 use Rattle.lsys_level.specs.Spots.{level_by}
@@ -73,6 +75,7 @@ alone_rests m root limit store reads seats h none = record {
     balanced = λ t l. ap (λ xs. level_balanced 0 (level_by (λ tag. []) xs)) (spots t);
   };
   ends = no_levels m root (length (meant opening limit)) h;
+  counts = λ k n e. (let z = ap (λ (q : Node Kept). q.count) (only_root m root k n h e).1 in let b : number_base ≡ 4096 = refl in omega (arith, z, b));
   once = record {
     root_lives = (kin_of {A = Kept} (root_node root), ap (option_map (kin_of {A = Kept})) h.alone, refl);
     held = λ k n e other. absurd (other (kin_root k n e));
@@ -129,3 +132,10 @@ alone_stored m root store h = record {
     none : (k : Keeper) (a : Kept) → answers m [] k ≡ Some a → ⊥
     none (AtNode k) a e = none-some a (sym (no_answer m root k h) ∙ e)
     none (AtChange i) a e = none-some a e
+
+-- the opening system has one level, and so no questions
+pub opening_questions : (limit : ℕ) → questions opening (meant opening limit) ≡ []
+opening_questions limit = ap (questions opening) meant_is
+  where
+    meant_is : meant opening limit ≡ [] ∷ []
+    meant_is = rw (none_over limit) refl

@@ -73,6 +73,7 @@ rest_stays s limit m root old new reads reads' seats stays same h = record {
   is = h.is;
   levels = h.levels;
   ends = h.ends;
+  counts = h.counts;
   once = h.once;
   reached = h.reached;
   answered = λ t p k below at. answered_stays old new s t (level_spots m root t) p (answer_at m k) (stays k) (h.answered t p k below at);

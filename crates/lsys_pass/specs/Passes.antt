@@ -1,19 +1,23 @@
 -- What a contract sees of a pass, and what holds of it between calls.
-use Rattle.std.specs.Prelude.{◌≡◌, ◌<◌, ◌^◌, ℕ, List, []}
+use Rattle.std.specs.Prelude.{◌≡◌, ◌<◌, ◌^◌, ℕ, false, List, [], length}
 use Rattle.lsys_spec.specs.Systems.{System}
+use Rattle.lsys_spec.specs.Questions.{questions}
 use Rattle.lsys_walks.specs.Stores.{Store}
 use Rattle.lsys_match.specs.Kept.{Kept}
 use Rattle.lsys_reads.specs.Relations.{Relations}
 use Rattle.lsys_forest.specs.Nodes.{Nodes}
 use Rattle.lsys_forest.specs.Groves.{Grove, now_of, rest_of, changes_in, live_nodes}
+use Rattle.lsys_kept.specs.Meant.{meant}
 use Rattle.lsys_seats.specs.declared.seat.Seat.{Seat}
+use Rattle.lsys_seats.specs.Seats.{is_marked}
 use Rattle.lsys_pass.specs.declared.state.PassState.{PassState}
 use Rattle.lsys_pass.specs.declared.state.PassState.TheVariants.{Rest, Level, Done, Failed}
 use Rattle.lsys_pass.specs.declared.fault.Faulted.{Faulted}
 use Rattle.lsys_pass.specs.Stages.{Stage, IsStored, Rests, IsAtLevel, IsDone}
 
 -- A pass: the forest, the store of its answers, and who read what; the seats of the last rest; the system of the last rest, and the
--- one that is being made, which at rest is the same; the limit, and where the pass stands. Then the lists of a stage.
+-- one that is being made, which at rest is the same; the limit, and where the pass stands. Then the lists of a stage, and how many
+-- questions the system of the last rest has.
 pub record PassView : Type 0 where
   pub forest : Grove Kept
   pub store : Store
@@ -26,7 +30,10 @@ pub record PassView : Type 0 where
   pub pending : List ℕ
   pub faults : List Faulted
   pub renewed : List ℕ
+  pub born : ℕ
   pub dropped : List ℕ
+  pub moved : List ℕ
+  pub answers : ℕ
 
 abbrev pub stage_of : PassView → Stage
 stage_of v = record {
@@ -42,7 +49,9 @@ stage_of v = record {
   pending = v.pending;
   faults = v.faults;
   renewed = v.renewed;
+  born = v.born;
   dropped = v.dropped;
+  moved = v.moved;
 }
 
 -- the nodes as they are, and those of the last rest
@@ -61,7 +70,9 @@ pub record IsStill (s : Stage) : Type 0 where
   pub pending : s.pending ≡ []
   pub faults : s.faults ≡ []
   pub renewed : s.renewed ≡ []
+  pub born : s.born ≡ 0
   pub dropped : s.dropped ≡ []
+  pub moved : s.moved ≡ []
 
 -- what holds where it stands
 abbrev pub HoldsAt : Stage → PassState → Type 0
@@ -70,8 +81,10 @@ HoldsAt s (Level t) = IsAtLevel s t
 HoldsAt s Done = IsDone s
 HoldsAt s Failed = Rests s
 
--- what holds between calls
+-- what holds between calls; no node is marked then
 pub record IsPass (v : PassView) : Type 0 where
   pub stored : IsStored (now v) (changes_in v.forest) v.forest.root v.store
   pub few : live_nodes v.forest < 2 ^ 32
+  pub unmarked : (k : ℕ) → is_marked v.seats k ≡ false
+  pub counted : v.answers ≡ length (questions v.system (meant v.system v.limit))
   pub holds : HoldsAt (stage_of v) v.state

@@ -1,5 +1,6 @@
 -- What is kept at rest.
 use Rattle.std.specs.Prelude.{◌≡◌, ◌<◌, ◌⊎◌, ◌↔◌, ℕ, true, List, [], length, Ok, Some, None, slice_get}
+use Rattle.lsys_spec.specs.Draws.{number_base}
 use Rattle.lsys_spec.specs.Systems.{System, WellSpelled}
 use Rattle.lsys_spec.specs.Meaning.{meaning}
 use Rattle.lsys_walks.specs.Stores.{Store}
@@ -16,6 +17,10 @@ use Rattle.lsys_kept.specs.Meant.{meant}
 use Rattle.lsys_seats.specs.declared.seat.Seat.{Seat}
 use Rattle.lsys_seats.specs.Standings.{AreSeated}
 
+-- Counts of children that have one code are small, so that code and count are one number.
+abbrev pub AreCountedLow : Nodes Kept → Type 0
+AreCountedLow m = (k : ℕ) (n : Node Kept) → m k ≡ Some n → n.count < number_base
+
 -- The nodes are the levels of the system, with the answers to all its questions; who read what is settled; and the seat of
 -- each node tells who is beside it. Behind the last level there are no nodes, and no node lives that is not reached.
 pub record IsResting (s : System) (limit : ℕ) (m : Nodes Kept) (root : ℕ) (store : Store) (reads : Relations)
@@ -24,6 +29,7 @@ pub record IsResting (s : System) (limit : ℕ) (m : Nodes Kept) (root : ℕ) (s
   pub is : meaning s limit ≡ Ok (meant s limit)
   pub levels : HaveLevels m root s.seed (meant s limit)
   pub ends : level_nodes m root (length (meant s limit)) ≡ []
+  pub counts : AreCountedLow m
   pub once : AreOnce (kins m) root
   pub reached : (k : ℕ) (n : Node Kept) → m k ≡ Some n → Reached m root k
   pub answered : (t p k : ℕ) → t < s.depth → slice_get (level_nodes m root t) p ≡ Some k

@@ -1,9 +1,11 @@
 -- What a pass keeps true while it makes the levels of another system.
-use Rattle.std.specs.Prelude.{◌≡◌, ◌<◌, ◌≤◌, ◌+◌, ◌^◌, ◌⊎◌, ◌↔◌, ℕ, true, List, [], ◌∷◌, length, Ok, Err, Option, Some, None, cond, nat_eq, slice_get}
+use Rattle.std.specs.Prelude.{◌≡◌, ◌<◌, ◌≤◌, ◌+◌, ◌^◌, ◌⊎◌, ◌↔◌, ℕ, true, List, [], ◌∷◌, length, count_by, is_none, Ok, Err, Option, Some, None, cond, nat_eq, slice_get}
 use Rattle.lsys_spec.specs.Systems.{System, WellSpelled}
+use Rattle.lsys_spec.specs.Bodies.{group}
 use Rattle.lsys_spec.specs.Levels.{ModuleValue, Module}
 use Rattle.lsys_spec.specs.Levels as L
 use Rattle.lsys_spec.specs.Meaning.{meaning, meaning_to, successor}
+use Rattle.lsys_spec.specs.Questions.{questions, is_needed}
 use Rattle.lsys_rewrite.specs.Faults.{fault_of}
 use Rattle.lsys_rewrite.specs.declared.refusal.FaultKind.{FaultKind}
 use Rattle.lsys_walks.specs.Stores.{Store}
@@ -11,6 +13,7 @@ use Rattle.lsys_match.specs.Kept.{Kept}
 use Rattle.lsys_match.specs.Asks.{IsMade}
 use Rattle.lsys_reads.specs.Relations.{Relations, is_pending}
 use Rattle.lsys_change.specs.Nodes.{AreOnce, Extends}
+use Rattle.lsys_change.specs.Passes.{module_question}
 use Rattle.lsys_forest.specs.Nodes.{Node, Nodes}
 use Rattle.lsys_forest.specs.Changes.{Change, undone}
 use Rattle.lsys_forest.specs.Answers.{Keeper, answers}
@@ -18,16 +21,19 @@ use Rattle.lsys_forest.specs.Groves.{In, AreApart, AreSound, Reached}
 use Rattle.lsys_forest.specs.Rows.{level_nodes}
 use Rattle.lsys_kept.specs.Names.{RunName, holds}
 use Rattle.lsys_kept.specs.Lineages.{kins}
-use Rattle.lsys_kept.specs.Levels.{HaveLevels, AnsweredAt, answer_at, HasRead}
+use Rattle.lsys_kept.specs.Levels.{HaveLevels, AnsweredAt, level_of, answer_at, HasRead}
 use Rattle.lsys_kept.specs.Meant.{meant, meant_to, level_to, IsCandidate}
 use Rattle.lsys_seats.specs.declared.seat.Seat.{Seat}
+use Rattle.lsys_seats.specs.Neighbours.{neighbours_on}
+use Rattle.lsys_seats.specs.Seats.{neighbours_at, HasSeat}
 use Rattle.lsys_pass.specs.declared.fault.Faulted.{Faulted}
-use Rattle.lsys_pass.specs.Rests.{IsResting}
+use Rattle.lsys_pass.specs.Rests.{AreCountedLow, IsResting}
 
 -- The nodes, what they were before each change since the last rest, and the root; the store of their answers; who read what; the
 -- seats of the last rest; the system of the last rest, and the one that is being made; the limit; the nodes of the level that are
--- still to be asked, from left to right; those that have a fault; those that got another answer since the last rest; and those
--- that had one and are gone or have no question any more.
+-- still to be asked, from left to right; those that have a fault; those that got another answer since the last rest, and how many
+-- of them had none then; those that had one and are gone or have no question any more; and those whose seat tells others than
+-- stand beside them now.
 pub record Stage : Type 0 where
   pub now : Nodes Kept
   pub changes : List (Change Kept)
@@ -41,7 +47,9 @@ pub record Stage : Type 0 where
   pub pending : List ℕ
   pub faults : List Faulted
   pub renewed : List ℕ
+  pub born : ℕ
   pub dropped : List ℕ
+  pub moved : List ℕ
 
 -- the nodes of the last rest
 abbrev pub was : Stage → Nodes Kept
@@ -96,6 +104,18 @@ pub record IsSettled (s : Stage) (t p k : ℕ) : Type 0 where
   pub done : In k s.pending → ⊥
   pub outcome : IsOutcome s t p k
 
+-- The module at place p of level t of a new system, which is y, has a question that the old system didn't answer.
+pub record IsNeeded (old new : System) (limit t : ℕ) (y : List L.Symbol) (p : ℕ) : Type 0 where
+  pub line : List ℕ
+  pub own : ModuleValue
+  pub stands : slice_get y p ≡ Some (Module line own)
+  pub rules : group new t own.name (length own.params) ≡ [] → ⊥
+  pub is : is_needed (questions old (meant old limit)) (module_question new t y p line own) ≡ true
+
+-- so it is with node k, at place p of level t
+abbrev pub IsNeededAt : Stage → ℕ → ℕ → Type 0
+IsNeededAt s t p = IsNeeded s.system s.next s.limit t (level_of s.now s.root t) p
+
 -- these are some of those, in order
 abbrev pub AreSome : List ℕ → List ℕ → Type 0
 AreSome [] ks = Unit {0}
@@ -109,6 +129,7 @@ pub record HasTree (m o : Nodes Kept) (root : ℕ) (new : System) (limit t : ℕ
   pub small : t < 2 ^ 32
   pub is : meaning_to new limit t ≡ Ok (meant_to new limit t)
   pub levels : HaveLevels m root new.seed (meant_to new limit t)
+  pub counts : AreCountedLow m
   pub once : AreOnce (kins m) root
   pub stay : Extends (kins o) (kins m)
   pub kids : (k : ℕ) (n p : Node Kept) → m k ≡ Some n → o k ≡ Some p → n.depth ≡ t + 1
@@ -139,11 +160,34 @@ pub record HasLists (s : Stage) (t : ℕ) : Type 0 where
   pub dropped_done : (k : ℕ) → In k s.dropped → In k s.pending → ⊥
   pub kept : (k : ℕ) (a : Kept) → answer_at (was s) k ≡ Some a
       → In k s.renewed ⊎ In k s.dropped ⊎ (answer_at s.now k ≡ Some a)
+  pub dropped_apart : AreApart s.dropped
+  pub dropped_at : (k : ℕ) → In k s.dropped
+      → (u : ℕ) × (u ≤ t) × In k (level_nodes (was s) s.root u)
+  pub dropped_had : (k : ℕ) → In k s.dropped → answer_at (was s) k ≡ None → ⊥
   pub lost : (k u : ℕ) (a : Kept) → u ≤ t → answer_at (was s) k ≡ Some a
       → In k (level_nodes (was s) s.root u)
       → In k s.dropped ⊎ In k (level_nodes s.now s.root u)
   pub fresh : (k : ℕ) (a : Kept) → answer_at s.now k ≡ Some a
       → In k s.renewed ⊎ (answer_at (was s) k ≡ Some a)
+
+-- The nodes with a new answer are those whose question the old system didn't answer, up to level t; of those that are pending,
+-- and of those that have a fault, none.
+pub record HasNews (s : Stage) (t : ℕ) : Type 0 where
+  pub apart : AreApart s.renewed
+  pub needed : (u p k : ℕ) → u ≤ t → slice_get (level_nodes s.now s.root u) p ≡ Some k
+      → In k s.renewed → IsNeededAt s u p
+  pub all : (u p k : ℕ) → u ≤ t → slice_get (level_nodes s.now s.root u) p ≡ Some k
+      → IsNeededAt s u p → In k s.renewed ⊎ In k s.pending ⊎ (fault_in k s.faults ≡ None → ⊥)
+  pub born : s.born ≡ count_by (λ k. is_none (answer_at (was s) k)) s.renewed
+
+-- Up to level t the seat of each node tells its neighbours, or the node is one of those that moved, which have a seat.
+pub record HasSeats (s : Stage) (t : ℕ) : Type 0 where
+  pub seated : (u p k : ℕ) → u ≤ t → slice_get (level_nodes s.now s.root u) p ≡ Some k
+      → In k s.moved
+      ⊎ (neighbours_at s.seats k ≡ neighbours_on s.now (level_nodes s.now s.root u) p)
+  pub moved_are : (k : ℕ) → In k s.moved
+      → (u : ℕ) × (u ≤ t) × In k (level_nodes s.now s.root u)
+  pub room : (k : ℕ) → In k s.moved → HasSeat s.seats k
 
 -- at level t
 pub record IsAtLevel (s : Stage) (t : ℕ) : Type 0 where
@@ -151,6 +195,8 @@ pub record IsAtLevel (s : Stage) (t : ℕ) : Type 0 where
   pub tree : HasTree s.now (was s) s.root s.next s.limit t
   pub answers : HasAnswers s t
   pub lists : HasLists s t
+  pub news : HasNews s t
+  pub seats : HasSeats s t
 
 -- 3. all levels are there
 
@@ -159,6 +205,8 @@ pub record IsDone (s : Stage) : Type 0 where
   pub spelled : WellSpelled s.next
   pub is : meaning s.next s.limit ≡ Ok (meant s.next s.limit)
   pub levels : HaveLevels s.now s.root s.next.seed (meant s.next s.limit)
+  pub small : s.next.depth < 2 ^ 32
+  pub counts : AreCountedLow s.now
   pub ends : level_nodes s.now s.root (length (meant s.next s.limit)) ≡ []
   pub once : AreOnce (kins s.now) s.root
   pub stay : Extends (kins (was s)) (kins s.now)
@@ -167,10 +215,19 @@ pub record IsDone (s : Stage) : Type 0 where
   pub last : (k : ℕ) → In k (level_nodes s.now s.root s.next.depth) → answer_at s.now k ≡ None
   pub read : (reader seen : ℕ) → (is_pending s.reads reader seen ≡ true)
       ↔ (In reader s.renewed × HasRead s.now s.store reader seen)
-  pub renewed_are : (k : ℕ) → In k s.renewed → Reached s.now s.root k
+  pub renewed_are : (k : ℕ) → In k s.renewed
+      → (u : ℕ) × (u < s.next.depth) × In k (level_nodes s.now s.root u)
+  pub renewed_apart : AreApart s.renewed
+  pub news : (u p k : ℕ) → u < s.next.depth
+      → slice_get (level_nodes s.now s.root u) p ≡ Some k
+      → In k s.renewed ↔ IsNeededAt s u p
+  pub born : s.born ≡ count_by (λ k. is_none (answer_at (was s) k)) s.renewed
+  pub dropped_apart : AreApart s.dropped
+  pub dropped_had : (k : ℕ) → In k s.dropped → answer_at (was s) k ≡ None → ⊥
   pub dropped_are : (k : ℕ) → In k s.dropped → Reached s.now s.root k → answer_at s.now k ≡ None
   pub kept : (k : ℕ) (a : Kept) → answer_at (was s) k ≡ Some a
       → In k s.renewed ⊎ In k s.dropped
       ⊎ (Reached s.now s.root k × (answer_at s.now k ≡ Some a))
   pub fresh : (k : ℕ) (a : Kept) → answer_at s.now k ≡ Some a
       → In k s.renewed ⊎ (answer_at (was s) k ≡ Some a)
+  pub seats : HasSeats s s.next.depth

@@ -5,8 +5,14 @@
 #![tactic(auto)]
 
 mod fault;
+mod keep;
+mod outcome;
 mod pass;
+mod place;
+mod read;
+mod seating;
 mod state;
+mod work;
 
 pub use fault::Faulted;
 pub use pass::Pass;

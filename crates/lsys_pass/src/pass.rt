@@ -1,17 +1,26 @@
 //! The pass.
-ghost use Rattle.std.specs.Prelude.{◌≡◌, ◌<◌, ◌≢◌, length, slice_get, Some, IfOk};
+ghost use Rattle.std.specs.Prelude.{◌≡◌, ◌+◌, ◌<◌, ◌≢◌, length, slice_get, Some, IfOk, OnOk, OnErr};
 ghost use Rattle.lsys_spec.specs.Systems.{opening};
-ghost use Rattle.lsys_pass.specs.declared.state.PassState.TheVariants.{Rest};
+ghost use Rattle.lsys_spec.specs.Questions.{questions};
+ghost use Rattle.lsys_match.specs.Derivations.{IsCount, Rises, most_read};
+ghost use Rattle.lsys_forest.specs.Groves.{In};
+ghost use Rattle.lsys_kept.specs.Meant.{meant};
+ghost use Rattle.lsys_pass.specs.declared.state.PassState.TheVariants.{Rest, Done};
 ghost use Rattle.lsys_pass.specs.Passes.{IsPass};
-ghost use Rattle.lsys_pass.specs.Moves.{IsBack};
+ghost use Rattle.lsys_pass.specs.Moves.{AtLevel, IsBack, StepsOver, MovesOnce, Waits, Closes};
 
-use crate::fault::Faulted;
+use crate::keep::{answer_of, take_over, target};
+use crate::outcome::keep_outcome;
+use crate::place::place_among;
+use crate::read::settle_reads;
+use crate::seating::seat_all;
 use crate::state::PassState;
+use crate::work::Work;
 use lsys_forest::{Forest, NodeId};
 use lsys_kept::KeptAnswer;
-use lsys_level::Tag;
-use lsys_match::AnswerStore;
+use lsys_match::{AnswerStore, Steps, ask};
 use lsys_reads::Reads;
+use lsys_rewrite::EditCount;
 use lsys_rules::System;
 use lsys_seats::Seats;
 use std::alloc::{AllocError, Global};
@@ -29,10 +38,8 @@ pub struct Pass<L: Ledger> {
     next: Option<System>,
     limit: u32,
     state: PassState,
-    pending: Vec<NodeId>,
-    faults: Vec<Faulted>,
-    renewed: Vec<Tag>,
-    dropped: Vec<Tag>,
+    answers: usize,
+    work: Work,
 }
 
 impl<L: Ledger> Model for Pass<L> {
@@ -56,10 +63,13 @@ impl<L: Ledger> Model for Pass<L> {
       next = unwrap_or a.next a.system;
       limit = a.limit;
       state = a.state;
-      pending = a.pending.items;
-      faults = a.faults.items;
-      renewed = a.renewed.items;
-      dropped = a.dropped.items;
+      pending = a.work.pending.items;
+      faults = a.work.faults.items;
+      renewed = a.work.renewed.items;
+      born = a.work.born;
+      dropped = a.work.dropped.items;
+      moved = a.work.moved.items;
+      answers = a.answers;
     } };
 
     ghost invariant = { λ a. IsPass (record {
@@ -71,10 +81,13 @@ impl<L: Ledger> Model for Pass<L> {
       next = unwrap_or a.next a.system;
       limit = a.limit;
       state = a.state;
-      pending = a.pending.items;
-      faults = a.faults.items;
-      renewed = a.renewed.items;
-      dropped = a.dropped.items;
+      pending = a.work.pending.items;
+      faults = a.work.faults.items;
+      renewed = a.work.renewed.items;
+      born = a.work.born;
+      dropped = a.work.dropped.items;
+      moved = a.work.moved.items;
+      answers = a.answers;
     }) };
 }
 
@@ -98,10 +111,8 @@ impl<L: Ledger> Pass<L> {
             next: None,
             limit,
             state: PassState::Rest,
-            pending: Vec::new(alloc),
-            faults: Vec::new(alloc),
-            renewed: Vec::new(alloc),
-            dropped: Vec::new(alloc),
+            answers: 0,
+            work: Work::new(alloc),
         })
     }
 
@@ -117,7 +128,7 @@ impl<L: Ledger> Pass<L> {
     pub fn pending(&self) -> usize
         ensures { result ≡ length self.now.pending }
     {
-        self.pending.len()
+        self.work.pending.len()
     }
 
     /// One of them, counted from the left.
@@ -125,7 +136,84 @@ impl<L: Ledger> Pass<L> {
         requires { place < length self.now.pending }
         ensures { slice_get self.now.pending place ≡ Some result }
     {
-        self.pending[place]
+        self.work.pending[place]
+    }
+
+    /// Asks a node that is pending: its answer is kept, or its fault is noted. Then it is pending no more. Nodes may be asked in
+    /// any order: one costs what is read for it, and to be found among those that are pending; to take the last one off costs
+    /// nothing, any other one moves those behind it.
+    ///
+    /// # Errors
+    ///
+    /// Want of memory. The node stays pending, with the answer that it had.
+    pub fn step<V: Ledger>(
+        &mut self,
+        alloc: Global,
+        node: NodeId,
+        asked: &mut Steps<L>,
+        visited: &mut Steps<V>,
+    ) -> Result<(), AllocError>
+        requires state { AtLevel self.old.state }
+        requires pending { In node self.old.pending }
+        ensures steps { OnOk result (StepsOver self.old self.new node) }
+        ensures renewed { OnOk result
+            (asked.new + length self.old.renewed ≡ asked.old + length self.new.renewed) }
+        ensures moves { OnOk result (MovesOnce self.old node
+            (λ asks reads. (asked.new ≡ asked.old + asks) × (visited.new ≡ visited.old + reads))) }
+        ensures waits { OnErr result (Waits self.old self.new) }
+        ensures few_asked { Rises 0 1 asked.old asked.new }
+        ensures few_read { Rises 0 most_read visited.old visited.new }
+    {
+        let level = match self.state {
+            PassState::Level(level) => level,
+            _ => unreachable!(),
+        };
+        self.forest.reserve(0, 0, 0, 1)?;
+        self.work.reserve()?;
+        let place = place_among(&self.forest, &self.work.pending, node);
+        let system = target(&self.next, &self.system);
+        let old = answer_of(&self.forest, node);
+        let is_born = old.is_none();
+        let store = &mut self.store;
+        let forest = &self.forest;
+        let outcome = ask(
+            alloc, store, forest, node, system, level, old, asked, visited,
+        );
+        keep_outcome(
+            &mut self.forest,
+            &mut self.store,
+            &mut self.reads,
+            &mut self.work,
+            node,
+            is_born,
+            outcome,
+        )?;
+        self.work.pending.remove(place);
+        Ok(())
+    }
+
+    /// Keeps the new levels, as those of the last rest, and tells how many questions were new, and how many there are. It takes
+    /// no memory.
+    pub fn close(&mut self) -> EditCount
+        requires { self.old.state ≡ Done }
+        ensures closes { Closes self.old self.new }
+        ensures counts { IsCount
+            (questions self.old.system (meant self.old.system self.old.limit))
+            (questions self.old.next (meant self.old.next self.old.limit)) result }
+        ensures asked { result.asked ≡ length self.old.renewed }
+    {
+        let asked = self.work.renewed.len();
+        self.answers = self.answers - self.work.dropped.len() + self.work.born;
+        self.forest.commit(&mut self.store);
+        settle_reads(&mut self.reads, &mut self.work);
+        seat_all(&mut self.seats, &self.forest, &self.work.moved);
+        take_over(&mut self.next, &mut self.system);
+        self.work.clear();
+        self.state = PassState::Rest;
+        EditCount {
+            asked: asked as u64,
+            questions: self.answers as u64,
+        }
     }
 
     /// Goes back to the last rest, node for node; the new system is dropped. It takes no memory.
@@ -136,10 +224,7 @@ impl<L: Ledger> Pass<L> {
         self.forest.rollback(&mut self.store);
         self.reads.retract();
         self.next = None;
-        self.pending.clear();
-        self.faults.clear();
-        self.renewed.clear();
-        self.dropped.clear();
+        self.work.clear();
         self.state = PassState::Rest;
     }
 }

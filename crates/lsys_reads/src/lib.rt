@@ -150,8 +150,9 @@ impl Reads {
         self.settle_pending();
     }
 
-    /// Takes all pairs of the readers in `gone` out of the settled ones.
-    fn forget(&mut self, gone: &[Tag])
+    /// Takes all pairs of the readers in `gone` out of the settled ones. It takes no memory. [`Reads::settle`] tells what it
+    /// costs.
+    pub fn forget(&mut self, gone: &[Tag])
         ensures settled { (reader seen : ℕ) → is_settled self.new reader seen
             ≡ (not (has gone.now reader) && is_settled self.old reader seen) }
         ensures pending { self.new.pending ≡ self.old.pending }

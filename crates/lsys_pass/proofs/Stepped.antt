@@ -1,0 +1,201 @@
+-- A pass when a step is over.
+use Rattle.std.proofs.Common.{◌≡◌, ◌≢◌, ◌+◌, ◌≤◌, ℕ, Bool, List, [], ◌∷◌, ◌++◌, Option, Some, Ok, Err, Result, refl, sym, ap, ◌∙◌, subst, arith, cond}
+use Rattle.std.specs.Prelude.{is_none}
+use Rattle.lsys_walks.specs.Stores.{Store}
+use Rattle.lsys_match.specs.declared.asked.Asked.{Asked}
+use Rattle.lsys_match.specs.declared.asked.Asked.TheVariants.{Same, New}
+use Rattle.lsys_match.specs.declared.refusal.AskRefusal.{AskRefusal}
+use Rattle.lsys_match.specs.declared.refusal.AskRefusal.TheVariants as refusals
+use Rattle.lsys_match.specs.Kept.{Kept}
+use Rattle.lsys_match.specs.KeptAnswers.{StaysMade}
+use Rattle.lsys_match.specs.Asks.{IsMade, KeepsStore}
+use Rattle.lsys_match.proofs.Staying.{stays_kept}
+use Rattle.lsys_reads.specs.Relations.{Relations}
+use Rattle.lsys_forest.specs.Nodes.{Nodes, put, with_answer}
+use Rattle.lsys_forest.specs.Changes.{Change, undone}
+use Rattle.lsys_forest.specs.Groves.{Grove, In, now_of, rest_of, changes_in, live_nodes}
+use Rattle.lsys_forest.proofs.StockLemmas.{put_other}
+use Rattle.lsys_kept.specs.Levels.{level_of, answer_at}
+use Rattle.lsys_pass.specs.declared.fault.Faulted.{Faulted}
+use Rattle.lsys_pass.specs.declared.state.PassState.TheVariants.{Level}
+use Rattle.lsys_pass.specs.declared.work.Work.{Work}
+use Rattle.lsys_pass.specs.Stages.{Stage, fault_in, IsStored, IsAtLevel}
+use Rattle.lsys_pass.specs.Passes as P
+use Rattle.lsys_pass.specs.Passes.{PassView, stage_of, now, HoldsAt, IsPass}
+use Rattle.lsys_pass.specs.Steps.{KeepsAnswers, KeepsOutcome, KeepsNothing}
+use Rattle.lsys_pass.specs.Moves.{StepsOver}
+use Rattle.lsys_pass.proofs.Keepers.{note_of, stored_set, stored_in}
+use Rattle.lsys_pass.proofs.Alike.{alike_put, level_alike, put_again}
+use Rattle.lsys_pass.proofs.Stepping.{stepped}
+use Rattle.lsys_pass.proofs.Asking.{IsSameForest, IsAsked, asked, at, made_now}
+use Rattle.lsys_pass.proofs.Waiting.{stays_refused, level_waits}
+use Rattle.lsys_pass.proofs.Outcomes.{IsReplied, fault_behind, level_same, level_fault, level_new}
+
+-- 1. the parts of a stage, one by one
+
+abbrev stage_with : Stage → Nodes Kept → List (Change Kept) → ℕ → Store → Relations → List ℕ → List Faulted → List ℕ → ℕ → List ℕ → List ℕ → Stage
+stage_with s m cs r st rd ps fs rn b ds mv =
+    record s { now = m; changes = cs; root = r; store = st; reads = rd; pending = ps; faults = fs; renewed = rn; born = b; dropped = ds; moved = mv }
+
+same_stage : (s : Stage) (m m' : Nodes Kept) (cs : List (Change Kept)) (r : ℕ) (st st' : Store) (rd rd' : Relations) (ps ps' : List ℕ) (fs fs' : List Faulted) (rn rn' : List ℕ) (b b' : ℕ) (ds mv : List ℕ)
+    → m' ≡ m → r ≡ s.root → st' ≡ st → rd' ≡ rd → ps' ≡ ps → fs' ≡ fs → rn' ≡ rn → b' ≡ b → ds ≡ s.dropped → mv ≡ s.moved
+    → ◌≡◌ {A = Stage} (stage_with s m' cs r st' rd' ps' fs' rn' b' ds mv) (stepped s m cs st rd ps fs rn b)
+same_stage s m m' cs r st st' rd rd' ps ps' fs fs' rn rn' b b' ds mv e1 e2 e3 e4 e5 e6 e7 e8 e9 e10 =
+    λ i. stage_with s (e1 i) cs (e2 i) (e3 i) (e4 i) (e5 i) (e6 i) (e7 i) (e8 i) (e9 i) (e10 i)
+
+stored_same : (m m' : Nodes Kept) (cs cs' : List (Change Kept)) (r r' : ℕ) (st st' : Store) → m' ≡ m → cs' ≡ cs → r' ≡ r → st' ≡ st → IsStored m cs r st → IsStored m' cs' r' st'
+stored_same m m' cs cs' r r' st st' e1 e2 e3 e4 h =
+    subst (IsStored m' cs' r') (sym e4) (subst (λ k. IsStored m' cs' k st) (sym e3) (subst (λ (c : List (Change Kept)). IsStored m' c r st) (sym e2) (subst (λ (n : Nodes Kept). IsStored n cs r st) (sym e1) h)))
+
+-- 2. the pass
+
+abbrev pub after : PassView → Grove Kept → Store → Relations → List ℕ → List Faulted → List ℕ → ℕ → List ℕ → List ℕ → PassView
+after v f st rd ps fs rn b ds mv =
+    record v { forest = f; store = st; reads = rd; pending = ps; faults = fs; renewed = rn; born = b; dropped = ds; moved = mv }
+
+-- the lists of the pass, before and after what was kept, and after the node was taken off
+pub record HasWork (v : PassView) (w w' : Work) : Type 0 where
+  pub faults : w.faults.items ≡ v.faults
+  pub renewed : w.renewed.items ≡ v.renewed
+  pub born : w.born ≡ v.born
+  pub dropped : w'.dropped.items ≡ v.dropped
+  pub moved : w'.moved.items ≡ v.moved
+
+pub record IsStepped (v v' : PassView) (node : ℕ) : Type 0 where
+  pub pass : IsPass v'
+  pub steps : StepsOver v v' node
+
+module _ (v : PassView) (t : ℕ) (h : IsPass v) (state : v.state ≡ Level t) (node : ℕ) (pending : In node v.pending) (g : Grove Kept) (same : IsSameForest v.forest g) (live : live_nodes g ≡ live_nodes v.forest)
+    (st : Store) (g' : Grove Kept) (st' : Store) (rd' : Relations) (w w' : Work) (work : HasWork v w w') (is_born : Bool) (born_is : is_born ≡ is_none (answer_at (now v) node)) (ps : List ℕ) where
+  abbrev a : IsAsked v t h state node
+  a = asked v t h state node pending
+
+  abbrev s : Stage
+  s = stage_of v
+
+  abbrev v' : PassView
+  v' = after v g' st' rd' ps w'.faults.items w'.renewed.items w'.born w'.dropped.items w'.moved.items
+
+  rest_same : rest_of g ≡ P.was v
+  rest_same = ap (λ (cs : List (Change Kept)). undone cs (now_of g)) same.changes ∙ ap (undone (changes_in v.forest)) same.now
+
+  abbrev set : Option Kept → Nodes Kept
+  set o = put (now v) node (Some (with_answer o a.n))
+
+  again : set a.n.answer ≡ now v
+  again = put_again (now v) node a.n a.next.is
+
+  -- from what the parts become to the pass
+  over : (o : Option Kept) (fs : List Faulted) (rn : List ℕ) (b : ℕ) (rd : Relations) → ps ≡ a.front ++ a.back
+      → now_of g' ≡ set o → rest_of g' ≡ P.was v → g'.root ≡ v.forest.root → st' ≡ st → rd' ≡ rd → w'.faults.items ≡ fs → w'.renewed.items ≡ rn → w'.born ≡ b
+      → live_nodes g' ≤ live_nodes v.forest → IsStored (now_of g') (changes_in g') g'.root st'
+      → ((k : ℕ) → k ≢ node → fault_in k fs ≡ fault_in k v.faults)
+      → (undone (changes_in g') (set o) ≡ P.was v → IsAtLevel (stepped s (set o) (changes_in g') st rd (a.front ++ a.back) fs rn b) t)
+      → IsStepped v v' node
+  over o fs rn b rd less nodes rest root store reads faults renewed born few stored others level = record {
+    pass = record {
+      stored = stored;
+      few = (let f = h.few in omega (arith, few, f));
+      unmarked = h.unmarked;
+      counted = h.counted;
+      holds = subst (HoldsAt (stage_of v')) (sym state) (subst (λ (z : Stage). IsAtLevel z t) (sym whole) (level (ap (undone (changes_in g')) (sym nodes) ∙ rest)));
+    };
+    steps = record {
+      run = record { system = refl; next = refl; limit = refl; root = root; was = rest };
+      state = refl;
+      before = a.front;
+      after = a.back;
+      pending_old = a.next.whole;
+      pending = less;
+      nodes = λ k ne. ap (λ (m : Nodes Kept). m k) nodes ∙ put_other (now v) node k (Some (with_answer o a.n)) ne;
+      levels = λ u.
+          ap (λ (m : Nodes Kept). level_of m g'.root u) nodes ∙ ap (λ r. level_of (set o) r u) root
+          ∙ level_alike (now v) (set o) v.forest.root (alike_put (now v) node a.n o a.next.is) u;
+      faults = λ k ne. ap (fault_in k) faults ∙ others k ne;
+    };
+  }
+    where
+      whole : ◌≡◌ {A = Stage} (stage_of v') (stepped s (set o) (changes_in g') st rd (a.front ++ a.back) fs rn b)
+      whole = same_stage s (set o) (now_of g') (changes_in g') g'.root st st' rd rd' (a.front ++ a.back) ps fs w'.faults.items rn w'.renewed.items b w'.born w'.dropped.items w'.moved.items
+          nodes root store reads less faults renewed born work.dropped work.moved
+
+  -- no answer is new
+  still : (fs : List Faulted) → ps ≡ a.front ++ a.back → KeepsAnswers (record { forest = g; store = st; reads = v.reads; work = w }) (record { forest = g'; store = st'; reads = rd'; work = w' }) → w'.faults.items ≡ fs
+      → ((b : Kept) → IsMade v.store b → StaysMade v.store st b) → ((k : ℕ) → k ≢ node → fault_in k fs ≡ fault_in k v.faults)
+      → (undone (changes_in g') (set a.n.answer) ≡ P.was v → IsAtLevel (stepped s (set a.n.answer) (changes_in g') st v.reads (a.front ++ a.back) fs v.renewed v.born) t) → IsStepped v v' node
+  still fs less k faults stays others level =
+      over a.n.answer fs v.renewed v.born v.reads less
+      (ap now_of k.forest ∙ same.now ∙ sym again) (ap rest_of k.forest ∙ rest_same) (ap (λ (f : Grove Kept). f.root) k.forest ∙ same.root) k.store k.reads faults (k.renewed ∙ work.renewed) (k.born ∙ work.born)
+      (let l = ap live_nodes k.forest in omega (arith, l, live))
+      (stored_same (now v) (now_of g') (changes_in v.forest) (changes_in g') v.forest.root g'.root st st' (ap now_of k.forest ∙ same.now) (ap changes_in k.forest ∙ same.changes) (ap (λ (f : Grove Kept). f.root) k.forest ∙ same.root) k.store
+      (stored_in (now v) (changes_in v.forest) v.forest.root v.store st stays h.stored))
+      others level
+
+  module _ {L : Type 0} (p : ℕ) where
+    pub over_all : (r : Result (Asked L) AskRefusal) → IsReplied s t node p st r → ps ≡ a.front ++ a.back
+        → KeepsOutcome node is_born (record { forest = g; store = st; reads = v.reads; work = w }) (record { forest = g'; store = st'; reads = rd'; work = w' }) r → IsStepped v v' node
+    over_all (Ok Same) r less k =
+        still v.faults less k.0 (k.1 ∙ work.faults) (λ b m. stays_kept v.store st b r.store m) (λ j ne. refl)
+        (level_same s t node a.n a.front a.back a.next (made_now v t h state) p st r (changes_in g'))
+    over_all (Err (refusals.Fault kind)) r less k =
+        still (v.faults ++ record { node = node; kind = kind } ∷ []) less k.0 (k.1 ∙ ap (λ (fs : List Faulted). fs ++ record { node = node; kind = kind } ∷ []) work.faults) (λ b m. stays_kept v.store st b r.store m)
+        (λ j ne. fault_behind j v.faults (record { node = node; kind = kind }) ne)
+        (level_fault s t node a.n a.front a.back a.next (made_now v t h state) p st kind r (changes_in g'))
+    over_all (Err refusals.Memory) r less k = absurd k
+    over_all (Ok (New b)) r less k =
+        let t' = k.kept a.n (ap (λ (m : Nodes Kept). m node) same.now ∙ a.next.is) in
+        let nodes : now_of g' ≡ set (Some b) = t'.sets.now ∙ ap (λ (m : Nodes Kept). put m node (Some (with_answer (Some b) a.n))) same.now in
+        let root : g'.root ≡ v.forest.root = t'.sets.root ∙ same.root in
+        let changes : changes_in g' ≡ changes_in v.forest ++ note_of node a.n ∷ [] = t'.noted ∙ ap (λ (cs : List (Change Kept)). cs ++ note_of node a.n ∷ []) same.changes in
+        over (Some b) v.faults (v.renewed ++ node ∷ []) w'.born rd' less nodes (t'.sets.rest ∙ rest_same) root k.store refl (k.faults ∙ work.faults)
+        (k.renewed ∙ ap (λ (l : List ℕ). l ++ node ∷ []) work.renewed) refl
+        (let l = t'.live in omega (arith, l, live))
+        (stored_same (set (Some b)) (now_of g') (changes_in v.forest ++ note_of node a.n ∷ []) (changes_in g') v.forest.root g'.root st st' nodes changes root k.store
+        (stored_set (now v) (changes_in v.forest) v.forest.root node a.n v.store st (answer_at (now v) node) b a.next.is r.store h.stored))
+        (λ j ne. refl)
+        (λ undo. level_new s t node a.n a.front a.back a.next (made_now v t h state) p st b r (changes_in g') rd' w'.born is_born undo k.read k.settled born_is (k.born ∙ ap (λ c. c + cond is_born 1 0) work.born))
+
+-- 3. nothing was kept
+
+module _ {L : Type 0} (v : PassView) (t : ℕ) (h : IsPass v) (state : v.state ≡ Level t) (g : Grove Kept) (same : IsSameForest v.forest g) (live : live_nodes g ≡ live_nodes v.forest) where
+  pub waits_pass : (g' : Grove Kept) (st : Store) (st' : Store) (rd' : Relations) (w w' : Work) (o : Option Kept) (r : Result (Asked L) AskRefusal) (ps : List ℕ) → HasWork v w w' → ps ≡ v.pending → KeepsStore v.store st o r
+      → KeepsNothing (record { forest = g; store = st; reads = v.reads; work = w }) (record { forest = g'; store = st'; reads = rd'; work = w' }) r
+      → IsPass (after v g' st' rd' ps w'.faults.items w'.renewed.items w'.born w'.dropped.items w'.moved.items)
+  waits_pass g' st st' rd' w w' o r ps work less keeps k = record {
+    stored = stored_same (now v) (now_of g') (changes_in v.forest) (changes_in g') v.forest.root g'.root st' st' nodes changes root refl (stored_in (now v) (changes_in v.forest) v.forest.root v.store st' stays h.stored);
+    few = (let f = h.few in let l = ap live_nodes k.forest in omega (arith, f, l, live));
+    unmarked = h.unmarked;
+    counted = h.counted;
+    holds = subst (HoldsAt (stage_of (after v g' st' rd' ps w'.faults.items w'.renewed.items w'.born w'.dropped.items w'.moved.items))) (sym state)
+        (subst (λ (z : Stage). IsAtLevel z t) (sym whole) (level_waits (stage_of v) t st' rd' (made_now v t h state) stays k.settled k.read (at v t h state)));
+  }
+    where
+      nodes : now_of g' ≡ now v
+      nodes = ap now_of k.forest ∙ same.now
+
+      changes : changes_in g' ≡ changes_in v.forest
+      changes = ap changes_in k.forest ∙ same.changes
+
+      root : g'.root ≡ v.forest.root
+      root = ap (λ (f : Grove Kept). f.root) k.forest ∙ same.root
+
+      stays : (a : Kept) → IsMade v.store a → StaysMade v.store st' a
+      stays = stays_refused v.store st st' o r keeps k.store
+
+      whole : ◌≡◌ {A = Stage} (stage_of (after v g' st' rd' ps w'.faults.items w'.renewed.items w'.born w'.dropped.items w'.moved.items)) (record (stage_of v) { store = st'; reads = rd' })
+      whole = λ i. record (stage_of v) {
+        now = nodes i;
+        changes = changes i;
+        root = root i;
+        store = st';
+        reads = rd';
+        pending = less i;
+        faults = (k.faults ∙ work.faults) i;
+        renewed = (k.renewed ∙ work.renewed) i;
+        born = (k.born ∙ work.born) i;
+        dropped = work.dropped i;
+        moved = work.moved i;
+      }
+
+pub steps_at : (v w v' : PassView) (node : ℕ) → v ≡ w → StepsOver v v' node → StepsOver w v' node
+steps_at v w v' node e = subst (λ (z : PassView). StepsOver z v' node) e

@@ -1,0 +1,25 @@
+-- What the entries of a trace name, as pairs of a reader and what it saw.
+use Rattle.std.specs.Prelude.{◌≡◌, ◌++◌, ℕ, List, [], map, flat_map}
+use Rattle.lsys_reads.specs.declared.Pair.{Pair}
+use Rattle.lsys_walks.specs.declared.entry.Entry.{Entry}
+use Rattle.lsys_walks.specs.Views.{noted_of}
+use Rattle.lsys_kept.specs.Levels.{tags_named}
+
+-- the tags that an entry names, whatever parameters a module has
+abbrev pub entry_tags : Entry → List ℕ
+entry_tags e = tags_named (noted_of e [])
+
+abbrev pub entries_tags : List Entry → List ℕ
+entries_tags es = flat_map entry_tags es
+
+-- a reader with each of these
+abbrev pub pair_of : ℕ → ℕ → Pair
+pair_of reader seen = record { reader = reader; seen = seen }
+
+abbrev pub pairs_of : ℕ → List ℕ → List Pair
+pairs_of reader tags = map (pair_of reader) tags
+
+-- those that were there are there, and maybe others behind them
+pub record ComesBehind (old new : List Pair) : Type 0 where
+  pub more : List Pair
+  pub is : new ≡ old ++ more

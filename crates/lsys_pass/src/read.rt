@@ -1,0 +1,73 @@
+//! What an answer read.
+ghost use Rattle.std.specs.Prelude.{◌≡◌, ◌++◌, ◌&&◌, ◌||◌, not, ℕ, [], OnOk, OnErr};
+ghost use Rattle.lsys_reads.specs.Rows.{has};
+ghost use Rattle.lsys_reads.specs.Relations.{SettledStay, is_settled, is_pending};
+ghost use Rattle.lsys_pass.specs.Read.{entry_tags, entries_tags, pairs_of, ComesBehind};
+
+use crate::work::Work;
+use lsys_level::Tag;
+use lsys_reads::Reads;
+use lsys_walks::{Entry, EntryKind};
+use std::alloc::AllocError;
+
+/// Adds to the pending pairs that a reader read these entries.
+///
+/// # Errors
+///
+/// Want of memory. Both relations stay then.
+pub(crate) fn add_reads(reads: &mut Reads, reader: Tag, entries: &[Entry]) -> Result<(), AllocError>
+    ensures settled { SettledStay reads.old reads.new }
+    ensures ok { OnOk result
+        (reads.new.pending ≡ reads.old.pending ++ pairs_of reader (entries_tags entries.now)) }
+    ensures err { OnErr result (reads.new.pending ≡ reads.old.pending) }
+{
+    let pairs = reads.pending();
+    let added = add_entries(reads, reader, entries);
+    if added.is_err() {
+        reads.retract_from(pairs);
+    }
+    added
+}
+
+/// Who read what, when a pass ends: what those read that were dropped is forgotten, and what those read that were renewed is what
+/// is pending. It takes no memory.
+pub(crate) fn settle_reads(reads: &mut Reads, work: &mut Work)
+    ensures settled { (reader seen : ℕ) → is_settled reads.new reader seen
+        ≡ ((not (has work.old.renewed.items reader)
+        && (not (has work.old.dropped.items reader) && is_settled reads.old reader seen))
+        || is_pending reads.old reader seen) }
+    ensures pending { reads.new.pending ≡ [] }
+    ensures moved { work.new.moved ≡ work.old.moved }
+{
+    work.dropped.sort_unstable_by_key(|tag| tag.0);
+    work.renewed.sort_unstable_by_key(|tag| tag.0);
+    reads.forget(&work.dropped);
+    reads.settle(&work.renewed);
+}
+
+/// Adds them one by one; for want of memory only some.
+fn add_entries(reads: &mut Reads, reader: Tag, entries: &[Entry]) -> Result<(), AllocError>
+    ensures settled { SettledStay reads.old reads.new }
+    ensures behind { ComesBehind reads.old.pending reads.new.pending }
+    ensures ok { OnOk result
+        (reads.new.pending ≡ reads.old.pending ++ pairs_of reader (entries_tags entries.now)) }
+{
+    for entry in entries {
+        add_entry(reads, reader, entry)?;
+    }
+    Ok(())
+}
+
+/// Adds what one entry names.
+fn add_entry(reads: &mut Reads, reader: Tag, entry: &Entry) -> Result<(), AllocError>
+    ensures settled { SettledStay reads.old reads.new }
+    ensures behind { ComesBehind reads.old.pending reads.new.pending }
+    ensures ok { OnOk result
+        (reads.new.pending ≡ reads.old.pending ++ pairs_of reader (entry_tags entry.now)) }
+{
+    reads.add(reader, entry.tag)?;
+    if entry.kind == EntryKind::Branch {
+        reads.add(reader, entry.mate)?;
+    }
+    Ok(())
+}

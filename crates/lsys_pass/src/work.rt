@@ -1,0 +1,101 @@
+//! What a pass works on.
+ghost use Rattle.std.specs.Prelude.{◌≡◌, ◌≤◌, ◌+◌, ◌++◌, ◌∷◌, [], length, if◌then◌else◌, OnOk};
+ghost use Rattle.lsys_pass.specs.Works.{HasRoom, OthersStay};
+
+use crate::fault::Faulted;
+use crate::keep::push_in_room;
+use lsys_forest::NodeId;
+use lsys_level::Tag;
+use lsys_rewrite::FaultKind;
+use std::alloc::{AllocError, Global};
+
+/// The lists of a pass: the nodes that are still to be asked; those that have a fault; those with another answer than at the
+/// last rest, and how many of them had none then; those that had one and have none any more; and those that moved.
+#[derive(Drop)]
+pub(crate) struct Work {
+    pub(crate) pending: Vec<NodeId>,
+    pub(crate) faults: Vec<Faulted>,
+    pub(crate) renewed: Vec<Tag>,
+    pub(crate) born: usize,
+    pub(crate) dropped: Vec<Tag>,
+    pub(crate) moved: Vec<NodeId>,
+}
+
+impl Work {
+    /// Nothing. It takes no memory.
+    pub(crate) fn new(alloc: Global) -> Work
+        ensures pending { result.pending.items ≡ [] }
+        ensures faults { result.faults.items ≡ [] }
+        ensures renewed { result.renewed.items ≡ [] }
+        ensures born { result.born ≡ 0 }
+        ensures dropped { result.dropped.items ≡ [] }
+        ensures moved { result.moved.items ≡ [] }
+    {
+        Work {
+            pending: Vec::new(alloc),
+            faults: Vec::new(alloc),
+            renewed: Vec::new(alloc),
+            born: 0,
+            dropped: Vec::new(alloc),
+            moved: Vec::new(alloc),
+        }
+    }
+
+    /// Makes room for what a node may get. All lists stay.
+    ///
+    /// # Errors
+    ///
+    /// Want of memory.
+    pub(crate) fn reserve(&mut self) -> Result<(), AllocError>
+        ensures faults { self.new.faults.items ≡ self.old.faults.items }
+        ensures renewed { self.new.renewed.items ≡ self.old.renewed.items }
+        ensures others { OthersStay self.old self.new }
+        ensures born { self.new.born ≡ self.old.born }
+        ensures room { OnOk result (HasRoom self.new) }
+    {
+        self.faults.reserve(1)?;
+        self.renewed.reserve(1)
+    }
+
+    /// A node has another answer than at the last rest, and had none then or had one. It takes no memory.
+    pub(crate) fn renew(&mut self, node: NodeId, is_born: bool)
+        requires room { HasRoom self.old }
+        requires few { self.old.born ≤ length self.old.renewed.items }
+        ensures renewed { self.new.renewed.items ≡ self.old.renewed.items ++ node ∷ [] }
+        ensures born { self.new.born ≡ self.old.born + (if is_born then 1 else 0) }
+        ensures faults { self.new.faults.items ≡ self.old.faults.items }
+        ensures others { OthersStay self.old self.new }
+    {
+        push_in_room(&mut self.renewed, Tag(node.0));
+        self.born += usize::from(is_born);
+    }
+
+    /// A node has this fault. It takes no memory.
+    pub(crate) fn note(&mut self, node: NodeId, kind: FaultKind)
+        requires room { HasRoom self.old }
+        ensures faults { self.new.faults.items
+            ≡ self.old.faults.items ++ record { node = node; kind = kind } ∷ [] }
+        ensures renewed { self.new.renewed.items ≡ self.old.renewed.items }
+        ensures born { self.new.born ≡ self.old.born }
+        ensures others { OthersStay self.old self.new }
+    {
+        push_in_room(&mut self.faults, Faulted { node, kind });
+    }
+
+    /// Forgets everything. It takes no memory.
+    pub(crate) fn clear(&mut self)
+        ensures pending { self.new.pending.items ≡ [] }
+        ensures faults { self.new.faults.items ≡ [] }
+        ensures renewed { self.new.renewed.items ≡ [] }
+        ensures born { self.new.born ≡ 0 }
+        ensures dropped { self.new.dropped.items ≡ [] }
+        ensures moved { self.new.moved.items ≡ [] }
+    {
+        self.pending.clear();
+        self.faults.clear();
+        self.renewed.clear();
+        self.born = 0;
+        self.dropped.clear();
+        self.moved.clear();
+    }
+}
