@@ -8,6 +8,7 @@ use Rattle.lsys_spec.specs.Standings.{is_disturbed}
 use Rattle.lsys_level.specs.Spots.{Seen, Push, Pop, Module, with_lineage, named, seen_by}
 use Rattle.lsys_level.proofs.Naming.{mates_named}
 use Rattle.lsys_change.specs.Seams.{In}
+use Rattle.lsys_change.specs.Seats as C
 use Rattle.lsys_change.specs.Seats.{seated, IsSeating, AreSeatings, IsSameSeat, StandsStill}
 use Rattle.lsys_change.proofs.Placed.{got_in, seat_told}
 use Rattle.lsys_forest.specs.Nodes.{Nodes}
@@ -25,7 +26,7 @@ seen_with l Push = refl
 seen_with l Pop = refl
 seen_with l (Module m) = refl
 
-among : (k : ℕ) (xs : List ℕ) → In k xs → F.In k xs
+pub among : (k : ℕ) (xs : List ℕ) → In k xs → F.In k xs
 among k [] h = h
 among k (x ∷ xs) (inl e) = inl e
 among k (x ∷ xs) (inr h) = inr (among k xs h)
@@ -65,7 +66,7 @@ module _ {A : Type 0} where
   same_symbol : (naming : ℕ → List ℕ) (m n : Nodes A) (k : ℕ) → seen_at n k ≡ seen_at m k → named naming (spot_in k (n k)) ≡ named naming (spot_in k (m k))
   same_symbol naming m n k e = named_by_number naming k (n k) ∙ ap (with_lineage (naming k)) e ∙ sym (named_by_number naming k (m k))
 
-  same_seat : (naming : ℕ → List ℕ) (m n : Nodes A) (was are : List ℕ) → IsLevel (seen_level naming m was) → IsLevel (seen_level naming n are) → (p q k : ℕ) → slice_get was p ≡ Some k → slice_get are q ≡ Some k
+  pub same_seat : (naming : ℕ → List ℕ) (m n : Nodes A) (was are : List ℕ) → IsLevel (seen_level naming m was) → IsLevel (seen_level naming n are) → (p q k : ℕ) → slice_get was p ≡ Some k → slice_get are q ≡ Some k
       → IsSameSeat (seating_of naming m was) (seating_of naming n are) p q k ↔ StandsAsBefore m n (neighbours_on m was p) (neighbours_on n are q) k
   same_seat naming m n was are hw ha p q k hp hq = (to, from)
     where
@@ -110,23 +111,39 @@ module _ {A : Type 0} where
       from : IsSameSeat (seating_of naming m was) (seating_of naming n are) p q k → P
       from s = e.1 (record { old_place = p; new_place = q; was_there = hp; is_there = hq; same = s })
 
+  -- the levels as seatings
+  pub level_seats : (old new : System) (xs ys : List (List Symbol)) (t : ℕ) (naming : ℕ → List ℕ) (m n : Nodes A) (was are : List ℕ)
+      → AreOldAndNew old new xs ys t naming m n was are → C.AreSeated old new xs ys t naming (seating_of naming m was) (seating_of naming n are)
+  level_seats old new xs ys t naming m n was are h = record {
+    meant = h.meant;
+    seatings = record {
+      before = is_seating naming m was h.old_is;
+      after = is_seating naming n are h.new_is;
+      apart = h.apart;
+    };
+    old_level = h.old_level ∙ ap Some (sym (seated_is naming m was));
+    new_level = h.new_level ∙ ap Some (sym (seated_is naming n are));
+  }
+
+  pub still_tell : (old new : System) (xs ys : List (List Symbol)) (t : ℕ) (naming : ℕ → List ℕ) (m n : Nodes A) (was are : List ℕ)
+      → AreOldAndNew old new xs ys t naming m n was are → (k : ℕ) → In k was
+      → (is_disturbed (get_or xs t []) (get_or ys t []) (naming k) ≡ false) ↔ StandsStill (seating_of naming m was) (seating_of naming n are) k
+  still_tell old new xs ys t naming m n was are h k i =
+      let s = level_seats old new xs ys t naming m n was are h in
+      let x = get_or_from_slice_get xs t (seated (seating_of naming m was)) [] s.old_level in
+      let y = get_or_from_slice_get ys t (seated (seating_of naming n are)) [] s.new_level in
+      let e = subst (λ x. (is_disturbed x (seated (seating_of naming n are)) (naming k) ≡ false) ↔ StandsStill (seating_of naming m was) (seating_of naming n are) k) (sym x)
+      (seat_told old new xs ys t naming (seating_of naming m was) (seating_of naming n are) s k i) in
+      subst (λ y. (is_disturbed (get_or xs t []) y (naming k) ≡ false) ↔ StandsStill (seating_of naming m was) (seating_of naming n are) k) (sym y) e
+
   pub levels_tell : (old new : System) (xs ys : List (List Symbol)) (t : ℕ) (naming : ℕ → List ℕ) (m n : Nodes A) (was are : List ℕ)
       → AreOldAndNew old new xs ys t naming m n was are → (p q k : ℕ) → slice_get was p ≡ Some k → slice_get are q ≡ Some k
       → (is_disturbed (get_or xs t []) (get_or ys t []) (naming k) ≡ false) ↔ StandsAsBefore m n (neighbours_on m was p) (neighbours_on n are q) k
   levels_tell old new xs ys t naming m n was are h p q k hp hq =
-      let s : AreSeatings naming (seating_of naming m was) (seating_of naming n are) = record {
-        before = is_seating naming m was h.old_is;
-        after = is_seating naming n are h.new_is;
-        apart = h.apart;
-      } in
-      let x : slice_get xs t ≡ Some (seated (seating_of naming m was)) = h.old_level ∙ ap Some (sym (seated_is naming m was)) in
-      let y : slice_get ys t ≡ Some (seated (seating_of naming n are)) = h.new_level ∙ ap Some (sym (seated_is naming n are)) in
-      let still = seat_told old new xs ys t naming (seating_of naming m was) (seating_of naming n are) (record { meant = h.meant; seatings = s; old_level = x; new_level = y }) k (got_in was p k hp) in
-      let d = one_seat naming m n was are h.old_is h.new_is p q k hp hq (is_disturbed (seated (seating_of naming m was)) (seated (seating_of naming n are)) (naming k) ≡ false) still in
+      let still = still_tell old new xs ys t naming m n was are h k (got_in was p k hp) in
+      let d = one_seat naming m n was are h.old_is h.new_is p q k hp hq (is_disturbed (get_or xs t []) (get_or ys t []) (naming k) ≡ false) still in
       let r = same_seat naming m n was are h.old_is h.new_is p q k hp hq in
-      let e = subst (λ x. (is_disturbed x (seated (seating_of naming n are)) (naming k) ≡ false) ↔ IsSameSeat (seating_of naming m was) (seating_of naming n are) p q k) (sym (get_or_from_slice_get xs t (seated (seating_of naming m was)) [] x)) d in
-      let f = subst (λ y. (is_disturbed (get_or xs t []) y (naming k) ≡ false) ↔ IsSameSeat (seating_of naming m was) (seating_of naming n are) p q k) (sym (get_or_from_slice_get ys t (seated (seating_of naming n are)) [] y)) e in
-      (λ g. r.0 (f.0 g), λ g. f.1 (r.1 g))
+      (λ g. r.0 (d.0 g), λ g. d.1 (r.1 g))
 
   pub seats_tell : (old new : System) (xs ys : List (List Symbol)) (t : ℕ) (naming : ℕ → List ℕ) (m n : Nodes A) (was are : List ℕ) (seats : List Seat)
       → AreOldAndNew old new xs ys t naming m n was are → AreSeated m was seats → (p q k : ℕ) → slice_get was p ≡ Some k → slice_get are q ≡ Some k

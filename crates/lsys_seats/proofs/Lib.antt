@@ -3,3 +3,6 @@ pub mod LevelLemmas
 pub mod LawLemmas
 pub mod SeamLemmas
 pub mod LookLemmas
+pub mod BranchLemmas
+pub mod MateLemmas
+pub mod LookedLemmas

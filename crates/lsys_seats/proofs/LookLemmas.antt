@@ -9,12 +9,12 @@ use Rattle.lsys_forest.specs.Rows.{first_in, last_in, flat, kids_below, level_no
 use Rattle.lsys_seats.specs.Looks.{AreLooked, kids_of, level_below}
 
 -- one word for each twice
-in_same : (k : ℕ) (xs : List ℕ) → S.In k xs → In k xs
+pub in_same : (k : ℕ) (xs : List ℕ) → S.In k xs → In k xs
 in_same k [] h = absurd h
 in_same k (x ∷ xs) (inl e) = inl e
 in_same k (x ∷ xs) (inr h) = inr (in_same k xs h)
 
-in_back : (k : ℕ) (xs : List ℕ) → In k xs → S.In k xs
+pub in_back : (k : ℕ) (xs : List ℕ) → In k xs → S.In k xs
 in_back k [] h = absurd h
 in_back k (x ∷ xs) (inl e) = inl e
 in_back k (x ∷ xs) (inr h) = inr (in_back k xs h)

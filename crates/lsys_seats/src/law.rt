@@ -8,7 +8,9 @@ ghost use Rattle.lsys_change.specs.Seams as seams;
 ghost use Rattle.lsys_forest.specs.Nodes.{Nodes};
 ghost use Rattle.lsys_forest.specs.Groves.{Grove, In, now_of};
 ghost use Rattle.lsys_forest.specs.Rows.{level_nodes};
-ghost use Rattle.lsys_seats.specs.Looks.{AreLooked, level_below};
+ghost use Rattle.lsys_change.specs.Mates.{Generation, next_nodes, AreMatesBelow};
+ghost use Rattle.lsys_seats.specs.Branches.{AreLookedMates};
+ghost use Rattle.lsys_seats.specs.Looks.{AreLooked, AreLookedSeats, level_below};
 ghost use Rattle.lsys_seats.specs.declared.seat.Seat.{Seat};
 ghost use Rattle.lsys_seats.specs.Neighbours.{neighbours_on};
 ghost use Rattle.lsys_seats.specs.Seats.{neighbours_at};
@@ -48,4 +50,30 @@ pub fn law_of_looks<A>()
         → AreTurned left_of turned xs (level_nodes (now_of f) f.root t)
         → (k : ℕ) → seams.In k (level_below f t)
         → In k looked ⊎ (left_of k (flat own xs) ≡ left_of k (level_below f t)) }
+{}
+
+/// Each bracket of the next level whose mate is another one than before is among those that were looked at, where these are told:
+/// of the level above, the children of the nodes that are new or have other children, those of their mates, and those of the
+/// brackets that are new or have another mate.
+pub fn law_of_looked_mates()
+    ensures opens { (old new : Generation) (touched turned looked : List ℕ)
+        → AreLookedMates old new touched turned looked
+        → (k j : ℕ) → AreMatesBelow old k j → seams.In k (next_nodes new)
+        → seams.In k looked ⊎ AreMatesBelow new k j }
+    ensures closes { (old new : Generation) (touched turned looked : List ℕ)
+        → AreLookedMates old new touched turned looked
+        → (k j : ℕ) → AreMatesBelow old k j → seams.In j (next_nodes new)
+        → seams.In j looked ⊎ AreMatesBelow new k j }
+{}
+
+/// A node of the next level that is not among those that were looked at has the neighbours that it had, and the mate: the
+/// laws of looks and of looked mates together.
+pub fn law_of_looked_seats<A>()
+    ensures { (o : Nodes A) (f : Grove A) (t : ℕ) (own : ℕ → List ℕ) (xs : List ℕ)
+        (old new : Generation) (touched turned looked : List ℕ)
+        → AreLookedSeats o f t own xs old new touched turned looked
+        → (p q k : ℕ) → slice_get (seams.flat own xs) p ≡ Some k
+        → slice_get (level_below f t) q ≡ Some k
+        → In k looked ⊎ (neighbours_on (now_of f) (level_below f t) q
+        ≡ neighbours_on o (seams.flat own xs) p) }
 {}

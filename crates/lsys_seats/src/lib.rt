@@ -7,10 +7,12 @@
 #![tactic(auto)]
 
 mod law;
+mod mates;
 mod seams;
 mod seat;
 mod seats;
 
-pub use law::{law_of_kept_seats, law_of_looks};
+pub use law::{law_of_kept_seats, law_of_looked_mates, law_of_looked_seats, law_of_looks};
+pub use mates::{look_at_mates, look_into_branches};
 pub use seams::{first_behind, last_before, look_around, look_beyond};
 pub use seats::Seats;

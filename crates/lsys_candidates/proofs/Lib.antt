@@ -1,0 +1,10 @@
+pub mod AskedThere
+pub mod Spots
+pub mod Nodes
+pub mod Gathering
+pub mod Beside
+pub mod Marking
+pub mod Adding
+pub mod Merging
+pub mod FoundNodes
+pub mod Readers

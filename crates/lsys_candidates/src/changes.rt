@@ -1,0 +1,96 @@
+//! Who may have another question than before.
+ghost use Rattle.std.specs.Prelude.{◌≡◌, ◌⊎◌, ℕ, OnOk, true, false, []};
+ghost use Rattle.lsys_forest.specs.Groves.{In};
+ghost use Rattle.lsys_seats.specs.Seats.{is_marked, SameSeats, SameMarks, KeepsSeats};
+ghost use Rattle.lsys_candidates.specs.Found.{IsOther, AreOnLevels, HasRoom, IsFound};
+
+use crate::finds::{find_beside, find_readers, find_turned, mark_all};
+use lsys_forest::{Forest, Kept, NodeId};
+use lsys_reads::Reads;
+use lsys_seats::Seats;
+use std::alloc::AllocError;
+
+/// How a level changed: which nodes came, which are gone, which of those that stayed have another symbol, and which were
+/// looked at since they may have other neighbours, or another mate.
+#[derive(Drop)]
+pub struct Changes {
+    pub came: Vec<NodeId>,
+    pub gone: Vec<NodeId>,
+    pub changed: Vec<NodeId>,
+    pub looked: Vec<NodeId>,
+}
+
+/// Finds the nodes of a level that may have another question, though their rules are the same: each once, and none that
+/// came. Into `turned` go those that have other neighbours, or another mate; into `beside` others whose symbol changed, and
+/// those beside such; into `readers` others whose answers read one of all these, or one that is gone. No node is marked
+/// before or behind. [`law_of_found_nodes`] says that these are the candidates.
+///
+/// It costs steps by the nodes that changed or were looked at, and by the readers of those that are found.
+///
+/// # Errors
+///
+/// Want of memory. The seats tell what they told.
+///
+/// [`law_of_found_nodes`]: crate::law_of_found_nodes
+pub fn find_nodes<A: Kept>(
+    forest: &Forest<A>,
+    seats: &mut Seats,
+    reads: &Reads,
+    changes: &Changes,
+    turned: &mut Vec<NodeId>,
+    beside: &mut Vec<NodeId>,
+    readers: &mut Vec<NodeId>,
+) -> Result<(), AllocError>
+    requires levels { AreOnLevels forest.now changes.now }
+    requires room { HasRoom forest.now reads.now changes.now seats.old }
+    requires clear { (k : ℕ) → is_marked seats.old k ≡ false }
+    ensures found { OnOk result (IsFound forest.now seats.old reads.now changes.now
+        turned.new.items beside.new.items readers.new.items) }
+    ensures clear { (k : ℕ) → is_marked seats.new k ≡ false }
+    ensures seats { SameSeats seats.old seats.new }
+    ensures keeps { KeepsSeats seats.old seats.new }
+{
+    turned.clear();
+    beside.clear();
+    readers.clear();
+    let outcome = find_marked(forest, seats, reads, changes, turned, beside, readers);
+    seats.clear(&changes.gone);
+    seats.clear(&changes.came);
+    seats.clear(turned);
+    seats.clear(beside);
+    seats.clear(readers);
+    outcome
+}
+
+/// Finds them, and leaves marks on them, and on those that came or are gone.
+fn find_marked<A: Kept>(
+    forest: &Forest<A>,
+    seats: &mut Seats,
+    reads: &Reads,
+    changes: &Changes,
+    turned: &mut Vec<NodeId>,
+    beside: &mut Vec<NodeId>,
+    readers: &mut Vec<NodeId>,
+) -> Result<(), AllocError>
+    requires levels { AreOnLevels forest.now changes.now }
+    requires room { HasRoom forest.now reads.now changes.now seats.old }
+    requires clear { (k : ℕ) → is_marked seats.old k ≡ false }
+    requires turned { turned.old.items ≡ [] }
+    requires beside { beside.old.items ≡ [] }
+    requires readers { readers.old.items ≡ [] }
+    ensures found { OnOk result (IsFound forest.now seats.old reads.now changes.now
+        turned.new.items beside.new.items readers.new.items) }
+    ensures marked { (k : ℕ) → is_marked seats.new k ≡ true → IsOther changes.now k
+        ⊎ In k turned.new.items ⊎ In k beside.new.items ⊎ In k readers.new.items }
+    ensures seats { SameSeats seats.old seats.new }
+    ensures keeps { KeepsSeats seats.old seats.new }
+{
+    mark_all(seats, &changes.gone);
+    mark_all(seats, &changes.came);
+    find_turned(forest, seats, &changes.looked, turned)?;
+    find_beside(forest, seats, &changes.changed, beside)?;
+    find_readers(reads, seats, turned, readers)?;
+    find_readers(reads, seats, beside, readers)?;
+    find_readers(reads, seats, &changes.gone, readers)?;
+    Ok(())
+}

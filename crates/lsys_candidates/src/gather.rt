@@ -1,0 +1,44 @@
+//! Nodes, each once.
+ghost use Rattle.std.specs.Prelude.{◌≡◌, ℕ, OnOk, true, Some};
+ghost use Rattle.lsys_seats.specs.Seats.{is_marked, HasSeat};
+ghost use Rattle.lsys_candidates.specs.Finds.{Gathers};
+
+use lsys_forest::NodeId;
+use lsys_seats::Seats;
+use std::alloc::AllocError;
+
+/// Marks a node, and adds it if it had no mark.
+pub(crate) fn gather(
+    seats: &mut Seats,
+    node: NodeId,
+    nodes: &mut Vec<NodeId>,
+) -> Result<(), AllocError>
+    requires { HasSeat seats.old node }
+    ensures gathers { Gathers (λ k. k ≡ node) seats.old seats.new nodes.old.items nodes.new.items }
+    ensures marked { OnOk result (is_marked seats.new node ≡ true) }
+{
+    nodes.reserve(1)?;
+    if seats.mark(node) {
+        match nodes.push(node) {
+            Ok(()) => {}
+            Err(_) => unreachable!(),
+        }
+    }
+    Ok(())
+}
+
+/// The same, if there is one.
+pub(crate) fn gather_any(
+    seats: &mut Seats,
+    node: Option<NodeId>,
+    nodes: &mut Vec<NodeId>,
+) -> Result<(), AllocError>
+    requires { (k : ℕ) → node ≡ Some k → HasSeat seats.old k }
+    ensures gathers { Gathers (λ k. node ≡ Some k) seats.old seats.new nodes.old.items nodes.new.items }
+    ensures marked { OnOk result ((k : ℕ) → node ≡ Some k → is_marked seats.new k ≡ true) }
+{
+    match node {
+        Some(found) => gather(seats, found, nodes),
+        None => Ok(()),
+    }
+}

@@ -1,0 +1,93 @@
+//! Nodes of a level in order.
+ghost use Rattle.std.specs.Prelude.{◌≡◌, ◌<◌, ◌≤◌, ◌↔◌, ◌⊎◌, ℕ, IfOk, OnOk, OnErr, Some, [], length, slice_get};
+ghost use Rattle.lsys_forest.specs.Groves.{In, AreApart};
+ghost use Rattle.lsys_forest.specs.Rows.{place_of_node};
+ghost use Rattle.lsys_candidates.specs.Asks.{AreOnOneLevel, AreInOrder};
+ghost use Rattle.lsys_candidates.specs.Merges.{AreMergeable, AreMerged};
+
+use lsys_forest::{Forest, Kept, NodeId};
+use std::alloc::{AllocError, Global};
+
+/// These nodes of one complete level, none of them twice, in the order in which they come on it. It costs comparisons by
+/// their number and its logarithm.
+///
+/// # Errors
+///
+/// Want of memory.
+pub fn in_order<A: Kept>(
+    alloc: Global,
+    forest: &Forest<A>,
+    nodes: &[NodeId],
+) -> Result<Vec<NodeId>, AllocError>
+    requires level { AreOnOneLevel forest.now nodes.now }
+    requires apart { AreApart nodes.now }
+    ensures same { IfOk result (λ found. (k : ℕ) → In k found.items ↔ In k nodes.now) }
+    ensures order { IfOk result (λ found. AreInOrder forest.now found.items) }
+{
+    let mut found = Vec::new(alloc);
+    if nodes.len() <= 1 {
+        found.extend_from_slice(nodes)?;
+        return Ok(found);
+    }
+    let half = nodes.len() / 2;
+    let left = in_order(alloc, forest, &nodes[..half])?;
+    let right = in_order(alloc, forest, &nodes[half..])?;
+    merge(forest, &left, &right, &mut found)?;
+    Ok(found)
+}
+
+/// Adds the nodes of two lists that are in order, in order.
+fn merge<A: Kept>(
+    forest: &Forest<A>,
+    left: &[NodeId],
+    right: &[NodeId],
+    merged: &mut Vec<NodeId>,
+) -> Result<(), AllocError>
+    requires both { AreMergeable forest.now left.now right.now }
+    requires empty { merged.old.items ≡ [] }
+    ensures same { OnOk result ((k : ℕ) → In k merged.new.items
+        ↔ (In k left.now ⊎ In k right.now)) }
+    ensures order { OnOk result (AreInOrder forest.now merged.new.items) }
+{
+    let mut i = 0;
+    let mut j = 0;
+    while i < left.len() {
+        j = add_before(forest, left, i, right, j, merged)?;
+        merged.push(left[i])?;
+        i += 1;
+    }
+    merged.extend_from_slice(&right[j..])?;
+    Ok(())
+}
+
+/// Adds those of the right list, from place `start` on, that come before place `i` of the left one. Answers how many of the
+/// right one are merged then.
+fn add_before<A: Kept>(
+    forest: &Forest<A>,
+    left: &[NodeId],
+    i: usize,
+    right: &[NodeId],
+    start: usize,
+    merged: &mut Vec<NodeId>,
+) -> Result<usize, AllocError>
+    requires both { AreMergeable forest.now left.now right.now }
+    requires within { i < length left.now }
+    requires merged { AreMerged (place_of_node forest.now) left.now right.now i start
+        merged.old.items }
+    ensures merged { IfOk result (λ j.
+        AreMerged (place_of_node forest.now) left.now right.now i j merged.new.items) }
+    ensures next { IfOk result (λ j. (k x : ℕ) → slice_get left.now i ≡ Some k
+        → slice_get right.now j ≡ Some x → place_of_node forest.now k < place_of_node forest.now x) }
+{
+    let node = left[i];
+    let mut j = start;
+    while j < right.len() {
+        let next = right[j];
+        if !forest.is_before(next, node) {
+            return Ok(j);
+        }
+        merged.push(next)?;
+        j += 1;
+    }
+    Ok(j)
+}
