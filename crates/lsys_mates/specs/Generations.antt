@@ -1,4 +1,4 @@
--- What cuts left of the children of a level, and the level without the brackets that they cut off.
+-- What cuts left of the children of a level, and which of its nodes have any.
 use Rattle.std.specs.Prelude.{◌≡◌, ℕ, Bool, true, false, List, [], ◌∷◌, ◌++◌, Option, None, if◌then◌else◌}
 use Rattle.lsys_change.specs.Kinds.{BracketKind, Opens, Closes, Neither, stays, reached}
 use Rattle.lsys_change.specs.Seams.{AreApart, flat}
@@ -17,19 +17,14 @@ AreLeft kind own cuts o (p ∷ ps) =
     IsLeft kind (stays o (kind p)) (kind p) (own p)
     × AreLeft kind own cuts (reached o (kind p) (cuts p)) ps
 
--- a bracket that was cut off has no child; a module may have none
-abbrev pub is_parent : BracketKind → List ℕ → Bool
-is_parent Neither ks = true
-is_parent Opens [] = false
-is_parent Opens (k ∷ ks) = true
-is_parent Closes [] = false
-is_parent Closes (k ∷ ks) = true
+abbrev pub is_parent : List ℕ → Bool
+is_parent [] = false
+is_parent (k ∷ ks) = true
 
--- these nodes without the brackets that were cut off
-abbrev pub parents : (ℕ → BracketKind) → (ℕ → List ℕ) → List ℕ → List ℕ
-parents kind own [] = []
-parents kind own (p ∷ ps) =
-    (if is_parent (kind p) (own p) then p ∷ [] else []) ++ parents kind own ps
+-- those of these nodes that have children
+abbrev pub parents : (ℕ → List ℕ) → List ℕ → List ℕ
+parents own [] = []
+parents own (p ∷ ps) = (if is_parent (own p) then p ∷ [] else []) ++ parents own ps
 
 -- A balanced level, and what cuts left of the children of its nodes. On neither level a node stands twice.
 pub record IsLeftLevel (kind : ℕ → BracketKind) (own : ℕ → List ℕ) (xs : List ℕ) : Type 0 where
@@ -39,10 +34,10 @@ pub record IsLeftLevel (kind : ℕ → BracketKind) (own : ℕ → List ℕ) (xs
   pub apart : AreApart xs
   pub kids_apart : AreApart (flat own xs)
 
--- its generation, in which nothing more is cut off
+-- the generation of the nodes that have children, in which nothing more is cut off
 abbrev pub left_generation : (ℕ → BracketKind) → (ℕ → List ℕ) → List ℕ → Generation
 left_generation kind own xs = record {
-  nodes = parents kind own xs;
+  nodes = parents own xs;
   kind = kind;
   own = own;
   cuts = λ k. false;
