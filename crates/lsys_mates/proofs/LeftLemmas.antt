@@ -205,6 +205,39 @@ behind kind own xs before q after h whole opens p =
     let z : 0 + 0 ≡ 0 = omega arith in
     same_closer kind own h.cuts None after 0 l ∙ ap (λ n. closer kind n after) z
 
+-- in what is being cut off a bracket that ends a branch has no children
+ends_gone : (kind : ℕ → BracketKind) (own : ℕ → List ℕ) (cuts : ℕ → Bool) (ps : List ℕ) (a n r : ℕ) → AreLeft kind own cuts (Some (suc (a + n))) ps → closer kind a ps ≡ Some r → own r ≡ []
+ends_gone kind own cuts [] a n r l e = cc
+ends_gone kind own cuts (p ∷ ps) a n r l e = by (kind p) a l.0 l.1 e (λ a h e. ends_gone kind own cuts ps a n r h e)
+  where
+    by : (k : BracketKind) (a : ℕ) → IsLeft kind (stays (Some (suc (a + n))) k) k (own p) → AreLeft kind own cuts (reached (Some (suc (a + n))) k (cuts p)) ps → closing k a p (λ m. closer kind m ps) ≡ Some r
+        → ((a : ℕ) → AreLeft kind own cuts (Some (suc (a + n))) ps → closer kind a ps ≡ Some r → own r ≡ []) → own r ≡ []
+    by Neither a w l e ih = ih a l e
+    by Opens a w l e ih =
+        let i : suc (suc (a + n)) ≡ suc (suc a + n) = omega arith in
+        ih (suc a) (subst (λ n. AreLeft kind own cuts (Some n) ps) i l) e
+    by Closes zero w l e ih = let f : p ≡ r = cc in ap own (sym f) ∙ w
+    by Closes (suc a) w l e ih =
+        let i : suc a + n ≡ suc (a + n) = omega arith in
+        ih a (subst (λ n. AreLeft kind own cuts (Some n) ps) i l) e
+
+-- a bracket has a child where its mate has one
+opener_left : (kind : ℕ → BracketKind) (own : ℕ → List ℕ) (cuts : ℕ → Bool) (q r : ℕ) (after : List ℕ) (o : Option ℕ) (k : BracketKind) → k ≡ Opens → closer kind 0 after ≡ Some r → is_parent (own r) ≡ true
+    → IsLeft kind (stays o k) k (own q) → AreLeft kind own cuts (reached o k (cuts q)) after → is_parent (own q) ≡ true
+opener_left kind own cuts q r after o Neither e c p w l = cc
+opener_left kind own cuts q r after o Closes e c p w l = cc
+opener_left kind own cuts q r after None Opens e c p w l = ap is_parent w.1
+opener_left kind own cuts q r after (Some n) Opens e c p w l =
+    let i : suc n ≡ suc (0 + n) = omega arith in
+    let gone : own r ≡ [] = ends_gone kind own cuts after 0 n r (subst (λ n. AreLeft kind own cuts (Some n) after) i l) c in
+    let f : true ≡ false = sym p ∙ ap is_parent gone in
+    cc
+
+pub opener_has_child : (kind : ℕ → BracketKind) (own : ℕ → List ℕ) (xs : List ℕ) → IsLeftLevel kind own xs → (q r : ℕ) → AreMatesAmong kind xs q r → is_parent (own r) ≡ true → is_parent (own q) ≡ true
+opener_has_child kind own xs h q r m p =
+    let s = left_from kind own h.cuts None m.before (q ∷ m.after) (subst (AreLeft kind own h.cuts None) m.whole h.left) in
+    opener_left kind own h.cuts q r m.after s.0 (kind q) m.opens m.closes p s.1.0 s.1.1
+
 pub mates_are : (kind : ℕ → BracketKind) (own : ℕ → List ℕ) (xs : List ℕ) → IsLeftLevel kind own xs → (q r : ℕ)
     → AreMatesOn (left_generation kind own xs) q r ↔ (AreMatesAmong kind xs q r × (is_parent (own q) ≡ true))
 mates_are kind own xs h q r = (to, from)
@@ -238,7 +271,7 @@ own_left : (kind : ℕ → BracketKind) (b : Bool) (k : BracketKind) (ks : List 
 own_left kind true k ks e w = w
 own_left kind false k ks e w = let f : true ≡ false = sym e ∙ ap is_parent w in cc
 
-in_flat : (own : ℕ → List ℕ) (xs : List ℕ) (p k : ℕ) → In p xs → In k (own p) → In k (flat own xs)
+pub in_flat : (own : ℕ → List ℕ) (xs : List ℕ) (p k : ℕ) → In p xs → In k (own p) → In k (flat own xs)
 in_flat own [] p k i j = absurd i
 in_flat own (x ∷ xs) p k (inl e) j = in_front k (own x) (flat own xs) (subst (λ p. In k (own p)) e j)
 in_flat own (x ∷ xs) p k (inr i) j = in_back k (own x) (flat own xs) (in_flat own xs p k i j)
