@@ -23,7 +23,7 @@ parent_below kind own cuts o (p ∷ ps) k i = by (stays o (kind p)) i (parent_be
     by false i ih = let r = ih i in (r.0, inr r.1, r.2)
 
 -- what ends a branch is a bracket that does, and stands there
-ended : (kind : ℕ → BracketKind) (n : ℕ) (v : List ℕ) (j : ℕ) → closer kind n v ≡ Some j → In j v × (kind j ≡ Closes)
+pub ended : (kind : ℕ → BracketKind) (n : ℕ) (v : List ℕ) (j : ℕ) → closer kind n v ≡ Some j → In j v × (kind j ≡ Closes)
 ended kind n [] j e = cc
 ended kind n (x ∷ v) j e = by (kind x) refl n e (λ m h. ended kind m v j h)
   where
@@ -39,10 +39,10 @@ other_kind k e f = cc
 other_end : (k : BracketKind) → k ≡ Closes → k ≡ Neither → ⊥
 other_end k e f = cc
 
-opener_there : (kind : ℕ → BracketKind) (ks : List ℕ) (k j : ℕ) → AreMatesAmong kind ks k j → In k ks
+pub opener_there : (kind : ℕ → BracketKind) (ks : List ℕ) (k j : ℕ) → AreMatesAmong kind ks k j → In k ks
 opener_there kind ks k j m = subst (In k) (sym m.whole) (in_middle k m.before m.after)
 
-closer_there : (kind : ℕ → BracketKind) (ks : List ℕ) (k j : ℕ) → AreMatesAmong kind ks k j → In j ks
+pub closer_there : (kind : ℕ → BracketKind) (ks : List ℕ) (k j : ℕ) → AreMatesAmong kind ks k j → In j ks
 closer_there kind ks k j m = subst (In j) (sym m.whole) (in_back j m.before (k ∷ m.after) (inr (ended kind 0 m.after j m.closes).0))
 
 module _ (old new : Generation) (touched turned looked : List ℕ) (l : AreLookedMates old new touched turned looked) where

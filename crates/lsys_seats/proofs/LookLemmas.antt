@@ -19,11 +19,11 @@ in_back k [] h = absurd h
 in_back k (x ∷ xs) (inl e) = inl e
 in_back k (x ∷ xs) (inr h) = inr (in_back k xs h)
 
-apart_same : (xs : List ℕ) → S.AreApart xs → AreApart xs
+pub apart_same : (xs : List ℕ) → S.AreApart xs → AreApart xs
 apart_same [] h = tt
 apart_same (x ∷ xs) h = (λ i. h.0 (in_back x xs i), apart_same xs h.1)
 
-flat_same : (f : ℕ → List ℕ) (xs : List ℕ) → flat f xs ≡ S.flat f xs
+pub flat_same : (f : ℕ → List ℕ) (xs : List ℕ) → flat f xs ≡ S.flat f xs
 flat_same f [] = refl
 flat_same f (x ∷ xs) = ap (λ ys. f x ++ ys) (flat_same f xs)
 

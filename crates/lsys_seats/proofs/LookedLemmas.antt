@@ -31,7 +31,7 @@ seen_kind l V.Pop h = absurd (let g : Closes ≡ Neither = h in cc)
 seen_kind l (V.Module v) h = (v, refl)
 
 -- the mate of an opening bracket of a balanced level
-opener_has : (kind : ℕ → BracketKind) (ks : List ℕ) (k : ℕ) → AreBalanced kind 0 ks → S.In k ks → kind k ≡ Opens → (j : ℕ) × AreMatesAmong kind ks k j
+pub opener_has : (kind : ℕ → BracketKind) (ks : List ℕ) (k : ℕ) → AreBalanced kind 0 ks → S.In k ks → kind k ≡ Opens → (j : ℕ) × AreMatesAmong kind ks k j
 opener_has kind ks k b i e =
     let s = split k ks i in
     let j = inside kind s.before k s.after e (subst (AreBalanced kind 0) s.whole b) in
@@ -46,13 +46,13 @@ module _ {A : Type 0} where
   one_place m ks h p q k i j = h.apart p q (numbered_symbol m k) (numbered_symbol m k) (symbol_at (λ k. k ∷ []) m ks p k i) (symbol_at (λ k. k ∷ []) m ks q k j) refl
 
   -- brackets that are mates by their kinds tell one another
-  open_mate : (m : Nodes A) (ks : List ℕ) (k j p : ℕ) → IsLevel (numbered_level m ks) → AreMatesAmong (kind_in m) ks k j → slice_get ks p ≡ Some k → mate_on m ks p ≡ Some j
+  pub open_mate : (m : Nodes A) (ks : List ℕ) (k j p : ℕ) → IsLevel (numbered_level m ks) → AreMatesAmong (kind_in m) ks k j → slice_get ks p ≡ Some k → mate_on m ks p ≡ Some j
   open_mate m ks k j p h mates here =
       let t = there (numbered_symbol m) ks k j mates in
       let a : AreMates (numbered_level m ks) t.place t.end = subst (λ x. AreMates x t.place t.end) (symbols m ks) t.mates in
       mates_ahead m ks p t.end j (subst (λ p. AreMates (numbered_level m ks) p t.end) (one_place m ks h t.place p k t.opens here) a) t.closes
 
-  close_mate : (m : Nodes A) (ks : List ℕ) (k j p : ℕ) → IsLevel (numbered_level m ks) → AreMatesAmong (kind_in m) ks k j → slice_get ks p ≡ Some j → mate_on m ks p ≡ Some k
+  pub close_mate : (m : Nodes A) (ks : List ℕ) (k j p : ℕ) → IsLevel (numbered_level m ks) → AreMatesAmong (kind_in m) ks k j → slice_get ks p ≡ Some j → mate_on m ks p ≡ Some k
   close_mate m ks k j p h mates here =
       let t = there (numbered_symbol m) ks k j mates in
       let a : AreMates (numbered_level m ks) t.place t.end = subst (λ x. AreMates x t.place t.end) (symbols m ks) t.mates in
@@ -74,7 +74,7 @@ module _ {A : Type 0} where
       by (Some k) e = (k, e)
 
   -- the mate of a closing bracket
-  closer_has : (m : Nodes A) (ks : List ℕ) (k p : ℕ) → IsLevel (numbered_level m ks) → AreBalanced (kind_in m) 0 ks → slice_get ks p ≡ Some k → kind_in m k ≡ Closes → (i : ℕ) × AreMatesAmong (kind_in m) ks i k
+  pub closer_has : (m : Nodes A) (ks : List ℕ) (k p : ℕ) → IsLevel (numbered_level m ks) → AreBalanced (kind_in m) 0 ks → slice_get ks p ≡ Some k → kind_in m k ≡ Closes → (i : ℕ) × AreMatesAmong (kind_in m) ks i k
   closer_has m ks k p h b here e = by (numbered_symbol m k) refl
     where
       by : (s : Symbol) → numbered_symbol m k ≡ s → (i : ℕ) × AreMatesAmong (kind_in m) ks i k

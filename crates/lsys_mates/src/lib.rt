@@ -1,0 +1,8 @@
+//! Laws of the mates on a level whose level above is being repaired.
+#![tactic(auto)]
+
+pub mod below;
+pub mod generations;
+
+pub use below::law_of_looks_below;
+pub use generations::law_of_left_generations;
