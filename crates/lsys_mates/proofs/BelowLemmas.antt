@@ -46,7 +46,6 @@ first_either : (xs ys : List ℕ) (k : ℕ) → first_in (xs ++ ys) ≡ Some k �
 first_either [] ys k e = inr e
 first_either (x ∷ xs) ys k e = inl (inl (sym (same_Some x k e)))
 
-
 -- 2. kinds
 
 -- who has the same children, of the same kinds, is of the same kind
