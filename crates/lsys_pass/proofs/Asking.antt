@@ -76,7 +76,7 @@ pub record Stands (f : Grove Kept) (t k : ℕ) : Type 0 where
   pub at_spot : IsAtSpot f k
   pub told : level_at (complete_levels f) t ≡ level_spots (now_of f) f.root t
 
-get_around : (before : List ℕ) (k : ℕ) (after : List ℕ) → slice_get (before ++ k ∷ after) (length before) ≡ Some k
+pub get_around : (before : List ℕ) (k : ℕ) (after : List ℕ) → slice_get (before ++ k ∷ after) (length before) ≡ Some k
 get_around [] k after = refl
 get_around (x ∷ before) k after = get_around before k after
 
@@ -150,7 +150,7 @@ module _ (v : PassView) (t : ℕ) (h : IsPass v) (state : v.state ≡ Level t) w
   pub sound_now : IsSound v.forest.root (changes_in v.forest) (now v)
   sound_now = AreSound-now v.forest.root (changes_in v.forest) (now v) h.stored.sound
 
-  balanced_now : AreBalancedTo v.forest t
+  pub balanced_now : AreBalancedTo v.forest t
   balanced_now u l = at.tree.levels.balanced u (let c = level_count v.next v.limit t (meant_to v.next v.limit t) at.tree.spelled at.tree.is in omega (arith, c, l))
 
   pub made_now : AllMade (now v) v.store

@@ -13,14 +13,17 @@ use Rattle.lsys_kept.specs.Meant.{meant}
 use Rattle.lsys_seats.specs.declared.seat.Seat.{Seat}
 use Rattle.lsys_seats.specs.Seats.{is_marked}
 use Rattle.lsys_pass.specs.declared.work.Work.{Work}
+use Rattle.lsys_pass.specs.declared.sizes.Sizes.{Sizes}
 use Rattle.lsys_pass.specs.declared.state.PassState.{PassState}
 use Rattle.lsys_pass.specs.declared.state.PassState.TheVariants.{Rest, Level, Done, Failed}
 use Rattle.lsys_pass.specs.Rests.{IsResting}
 use Rattle.lsys_pass.specs.Stages.{Stage, IsStored, Rests}
 use Rattle.lsys_pass.specs.Passes.{PassView, stage_of, now, was, HoldsAt, IsPass}
+use Rattle.lsys_pass.specs.Sizes.{HaveSizes}
 use Rattle.lsys_pass.proofs.Stores.{AllStay, rest_stays}
+use Rattle.lsys_pass.proofs.Sized.{none_sized}
 use Rattle.lsys_pass.proofs.Keepers.{are_made, stay_kept, stored_rest}
-use Rattle.lsys_pass.proofs.Openings.{IsAlone, alone_rests, alone_stored, opening_questions}
+use Rattle.lsys_pass.proofs.Openings.{IsAlone, no_levels, alone_rests, alone_stored, opening_questions}
 
 pub rests_at : (s : Stage) (state : PassState) → HoldsAt s state → Rests s
 rests_at s Rest h = h.rest
@@ -42,12 +45,14 @@ pub record IsCleared (w : Work) : Type 0 where
   pub moved : w.moved.items ≡ []
 
 -- at rest, with these parts
-abbrev pub resting : Grove Kept → Store → Relations → List Seat → System → ℕ → Work → ℕ → PassView
-resting f st reads seats system limit w answers = record {
+abbrev pub resting : Grove Kept → Store → Relations → List Seat → Sizes → System → ℕ → Work → ℕ → PassView
+resting f st reads seats z system limit w answers = record {
   forest = f;
   store = st;
   reads = reads;
   seats = seats;
+  sizes = z.rest.items;
+  made = z.made.items;
   system = system;
   next = system;
   limit = limit;
@@ -65,14 +70,17 @@ resting f st reads seats system limit w answers = record {
 abbrev pub AreUnmarked : List Seat → Type 0
 AreUnmarked seats = (k : ℕ) → is_marked seats k ≡ false
 
-pub is_resting : (f : Grove Kept) (st : Store) (reads : Relations) (seats : List Seat) (system : System) (limit : ℕ) (w : Work) (answers : ℕ)
+pub is_resting : (f : Grove Kept) (st : Store) (reads : Relations) (seats : List Seat) (z : Sizes) (system : System) (limit : ℕ) (w : Work) (answers : ℕ)
     → IsStored (now_of f) (changes_in f) f.root st → live_nodes f < 2 ^ 32 → AreUnmarked seats → answers ≡ length (questions system (meant system limit))
-    → IsResting system limit (rest_of f) f.root st reads seats → changes_in f ≡ [] → reads.pending ≡ [] → IsCleared w → IsPass (resting f st reads seats system limit w answers)
-is_resting f st reads seats system limit w answers stored few unmarked counted rest still quiet clear = record {
+    → IsResting system limit (rest_of f) f.root st reads seats → changes_in f ≡ [] → reads.pending ≡ [] → IsCleared w
+    → HaveSizes (rest_of f) f.root z.rest.items → z.made.items ≡ [] → IsPass (resting f st reads seats z system limit w answers)
+is_resting f st reads seats z system limit w answers stored few unmarked counted rest still quiet clear sized none = record {
   stored = stored;
   few = few;
   unmarked = unmarked;
   counted = counted;
+  sized = sized;
+  made_sized = none;
   holds = record {
     rest = rest;
     changes = still;
@@ -87,12 +95,13 @@ is_resting f st reads seats system limit w answers stored few unmarked counted r
   };
 }
 
-pub back_pass : (v : PassView) (f : Grove Kept) (st : Store) (reads : Relations) (w : Work) → IsPass v
+pub back_pass : (v : PassView) (f : Grove Kept) (st : Store) (reads : Relations) (z : Sizes) (w : Work) → IsPass v
     → now_of f ≡ rest_of v.forest → changes_in f ≡ [] → f.root ≡ v.forest.root → live_nodes f ≤ live_nodes v.forest
     → FreesAllBut run_in holds (kept_in v.forest) (kept_by (rest_of v.forest)) v.store st → AreMade run_in holds st (kept_in f)
-    → SettledStay v.reads reads → reads.pending ≡ [] → IsCleared w → IsPass (resting f st reads v.seats v.system v.limit w v.answers)
-back_pass v f st reads w h is still root live frees are settled quiet clear =
-    is_resting f st reads v.seats v.system v.limit w v.answers stored (let b = h.few in omega (arith, live, b)) h.unmarked h.counted rests still quiet clear
+    → SettledStay v.reads reads → reads.pending ≡ [] → IsCleared w → z.rest.items ≡ v.sizes → z.made.items ≡ [] → IsPass (resting f st reads v.seats z v.system v.limit w v.answers)
+back_pass v f st reads z w h is still root live frees are settled quiet clear same none =
+    is_resting f st reads v.seats z v.system v.limit w v.answers stored (let b = h.few in omega (arith, live, b)) h.unmarked h.counted rests still quiet clear
+    (subst (HaveSizes (rest_of f) f.root) (sym same) (subst (λ k. HaveSizes (rest_of f) k v.sizes) (sym root) (subst (λ m. HaveSizes m v.forest.root v.sizes) (sym rest_is) h.sized))) none
   where
     rest : IsResting v.system v.limit (was v) v.forest.root v.store v.reads v.seats
     rest = rests_at (stage_of v) v.state h.holds
@@ -118,13 +127,14 @@ back_pass v f st reads w h is still root live frees are settled quiet clear =
     rests : IsResting v.system v.limit (rest_of f) f.root st reads v.seats
     rests = subst (λ k. IsResting v.system v.limit (rest_of f) k st reads v.seats) (sym root) (subst (λ m. IsResting v.system v.limit m v.forest.root st reads v.seats) (sym rest_is) was_rests)
 
-pub new_pass : (f : Grove Kept) (st : Store) (reads : Relations) (seats : List Seat) (system : System) (limit : ℕ) (w : Work)
-    → IsAlone (now_of f) f.root → changes_in f ≡ [] → live_nodes f ≡ 1 → system ≡ opening → reads.settled ≡ [] → reads.pending ≡ [] → AreUnmarked seats → IsCleared w
-    → IsPass (resting f st reads seats system limit w 0)
-new_pass f st reads seats system limit w alone still live opens none quiet unmarked clear =
-    is_resting f st reads seats system limit w 0
+pub new_pass : (f : Grove Kept) (st : Store) (reads : Relations) (seats : List Seat) (z : Sizes) (system : System) (limit : ℕ) (w : Work)
+    → IsAlone (now_of f) f.root → changes_in f ≡ [] → live_nodes f ≡ 1 → system ≡ opening → reads.settled ≡ [] → reads.pending ≡ [] → AreUnmarked seats → IsCleared w → z.rest.items ≡ [] → z.made.items ≡ []
+    → IsPass (resting f st reads seats z system limit w 0)
+new_pass f st reads seats z system limit w alone still live opens none quiet unmarked clear sizes made =
+    is_resting f st reads seats z system limit w 0
     (subst (λ cs. IsStored (now_of f) cs f.root st) (sym still) (alone_stored (now_of f) f.root st alone)) (omega (arith, live)) unmarked
     (sym (ap (λ s. length (questions s (meant s limit))) opens ∙ ap length (opening_questions limit)))
     (subst (λ s. IsResting s limit (rest_of f) f.root st reads seats) (sym opens)
     (subst (λ m. IsResting opening limit m f.root st reads seats) (sym (ap (λ cs. undone cs (now_of f)) still)) (alone_rests (now_of f) f.root limit st reads seats alone none)))
     still quiet clear
+    (subst (HaveSizes (rest_of f) f.root) (sym sizes) (subst (λ m. HaveSizes m f.root []) (sym (ap (λ cs. undone cs (now_of f)) still)) (none_sized (now_of f) f.root (λ t. no_levels (now_of f) f.root t alone)))) made

@@ -32,6 +32,9 @@ use Rattle.lsys_kept.specs.Levels.{answer_at}
 use Rattle.lsys_kept.specs.Meant.{meant}
 use Rattle.lsys_pass.specs.declared.state.PassState.TheVariants.{Done}
 use Rattle.lsys_pass.specs.declared.work.Work.{Work}
+use Rattle.lsys_pass.specs.declared.sizes.Sizes.{Sizes}
+use Rattle.lsys_pass.specs.Sizes.{HaveSizes, HaveSizesTo, SizesAt}
+use Rattle.lsys_pass.proofs.Sized.{sized_stays, all_sized}
 use Rattle.lsys_pass.specs.Rests.{IsResting}
 use Rattle.lsys_pass.specs.Stages.{IsStored, IsDone}
 use Rattle.lsys_pass.specs.Passes as P
@@ -39,7 +42,7 @@ use Rattle.lsys_pass.specs.Passes.{PassView, stage_of, now, HoldsAt, IsPass}
 use Rattle.lsys_pass.proofs.Keepers.{stay_kept, only_node, all_made}
 use Rattle.lsys_pass.proofs.Backing.{IsCleared, resting, is_resting}
 use Rattle.lsys_pass.proofs.Asking.{Stands, stands, there_at}
-use Rattle.lsys_pass.proofs.Closing.{closed_sound, closed_nodes, closed_spots, closed_reads, closed_rests, closed_neighbours}
+use Rattle.lsys_pass.proofs.Closing.{on_reached, closed_sound, closed_nodes, closed_spots, closed_reads, closed_rests, closed_neighbours}
 use Rattle.lsys_pass.proofs.Outcomes.{one_place}
 use Rattle.lsys_pass.proofs.Totals.{answers_count, dropped_few, renewed_needed, new_count, new_nodes, has_answer, passing_apart, all}
 
@@ -143,18 +146,31 @@ module _ (v : PassView) (h : IsPass v) (state : v.state ≡ Done) where
         ∙ ap (neighbours_on m' (level_nodes m' f'.root u)) same ∙ ap (λ r. neighbours_on m' (level_nodes m' r u) p) c.root
         ∙ closed_neighbours (now v) m' v.forest.root (changes_in v.forest) sound c.stay c.only u p
 
-    pub closed_pass : (rd' : Relations) (seats' : List Seat) (sys : System) (w : Work) (answers' : ℕ) → sys ≡ v.next
+    pub closed_pass : (rd' : Relations) (seats' : List Seat) (z : Sizes) (sys : System) (w : Work) (answers' : ℕ) → sys ≡ v.next
         → ((reader seen : ℕ) → is_settled rd' reader seen ≡ ((not (has v.renewed reader) && (not (has v.dropped reader) && is_settled v.reads reader seen)) || is_pending v.reads reader seen)) → rd'.pending ≡ []
         → ((k : ℕ) → In k v.moved → neighbours_at seats' k ≡ neighbours_in f' k) → ((k : ℕ) → (In k v.moved → ⊥) → neighbours_at seats' k ≡ neighbours_at v.seats k) → SameMarks v.seats seats'
-        → answers' ≡ v.answers - length v.dropped + v.born → IsCleared w → IsPass (resting f' st' rd' seats' sys v.limit w answers')
-    closed_pass rd' seats' sys w answers' e settled quiet seated others marks count clear =
-        is_resting f' st' rd' seats' sys v.limit w answers' stored (let f = h.few in let l = c.live in omega (arith, f, l)) (λ k. marks k ∙ h.unmarked k)
+        → answers' ≡ v.answers - length v.dropped + v.born → IsCleared w → z.rest.items ≡ v.made → z.made.items ≡ [] → IsPass (resting f' st' rd' seats' z sys v.limit w answers')
+    closed_pass rd' seats' z sys w answers' e settled quiet seated others marks count clear sizes none =
+        is_resting f' st' rd' seats' z sys v.limit w answers' stored (let f = h.few in let l = c.live in omega (arith, f, l)) (λ k. marks k ∙ h.unmarked k)
         (count ∙ counts ∙ ap (λ (z : System). length (questions z (meant z v.limit))) (sym e))
         (subst (λ (z : System). IsResting z v.limit (rest_of f') f'.root st' rd' seats') (sym e)
         (subst (λ r. IsResting v.next v.limit (rest_of f') r st' rd' seats') (sym c.root)
         (subst (λ (m : Nodes Kept). IsResting v.next v.limit m v.forest.root st' rd' seats') (sym (ap (λ (cs : List (Change Kept)). undone cs m') c.rest)) rests)))
         c.rest quiet clear
+        (subst (HaveSizes (rest_of f') f'.root) (sym sizes) (subst (λ r. HaveSizes (rest_of f') r v.made) (sym c.root) (subst (λ (m : Nodes Kept). HaveSizes m v.forest.root v.made) (sym (ap (λ (cs : List (Change Kept)). undone cs m') c.rest)) sized_all))) none
       where
+        made_at : HaveSizesTo (now v) v.forest.root v.made v.next.depth
+        made_at = subst (SizesAt (now v) v.forest.root v.next.depth v.made) state h.made_sized
+
+        level_long : length (meant v.next v.limit) ≡ v.next.depth + 1
+        level_long = level_count v.next v.limit v.next.depth (meant v.next v.limit) done.spelled done.is
+
+        sized_all : HaveSizes m' v.forest.root v.made
+        sized_all =
+            sized_stays (now v) m' v.forest.root v.made (closed_nodes (now v) m' v.forest.root (changes_in v.forest) sound c.stay c.only)
+            (λ t k i. c.stay k (on_reached (now v) v.forest.root t k i))
+            (all_sized (now v) v.forest.root v.made v.next.depth made_at (ap (level_nodes (now v) v.forest.root) (sym level_long) ∙ done.ends) done.last)
+
         counts : v.answers - length v.dropped + v.born ≡ length (questions v.next (meant v.next v.limit))
         counts = let a = total in let b = few_dropped in omega (arith, a, b)
 
@@ -177,6 +193,6 @@ module _ (v : PassView) (h : IsPass v) (state : v.state ≡ Done) where
   fits_count gone e = let b = total in let f = few_dropped in let n = few_questions in omega (arith, b, f, n, e)
 
 -- no other system is being made
-pub none_next : (f : Grove Kept) (st : Store) (rd : Relations) (seats : List Seat) (nx : Option System) (sys : System) (limit : ℕ) (w : Work) (answers : ℕ) → nx ≡ None → IsPass (resting f st rd seats sys limit w answers)
-    → IsPass (record (resting f st rd seats sys limit w answers) { next = unwrap_or nx sys })
-none_next f st rd seats nx sys limit w answers e h = subst (λ (o : Option System). IsPass (record (resting f st rd seats sys limit w answers) { next = unwrap_or o sys })) (sym e) h
+pub none_next : (f : Grove Kept) (st : Store) (rd : Relations) (seats : List Seat) (z : Sizes) (nx : Option System) (sys : System) (limit : ℕ) (w : Work) (answers : ℕ) → nx ≡ None → IsPass (resting f st rd seats z sys limit w answers)
+    → IsPass (record (resting f st rd seats z sys limit w answers) { next = unwrap_or nx sys })
+none_next f st rd seats z nx sys limit w answers e h = subst (λ (o : Option System). IsPass (record (resting f st rd seats z sys limit w answers) { next = unwrap_or o sys })) (sym e) h

@@ -6,6 +6,7 @@ use Rattle.std.proofs.lemmas.Option.{none-some, same_Some}
 use Rattle.lsys_spec.specs.Systems.{System}
 use Rattle.lsys_spec.specs.Levels as L
 use Rattle.lsys_rewrite.specs.declared.refusal.FaultKind.{FaultKind}
+use Rattle.lsys_pass.specs.declared.fault.Faulted.{Faulted}
 use Rattle.lsys_level.specs.Spots.{Spotted, with_lineage, named, level_by}
 use Rattle.lsys_change.proofs.Lineages.{stays}
 use Rattle.lsys_walks.specs.Stores.{Store}
@@ -23,7 +24,7 @@ use Rattle.lsys_kept.specs.Lineages.{kin_of, kins, names}
 use Rattle.lsys_kept.specs.Levels.{AnsweredAt, AnsweredIn, level_of, answer_at, HasRead}
 use Rattle.lsys_kept.specs.Meant.{level_to}
 use Rattle.lsys_pass.specs.Rests.{IsResting}
-use Rattle.lsys_pass.specs.Stages.{Stage, was, Rests, fault_in, HasFault, OutcomeBy, IsNeeded, IsNeededAt, HasSeats, IsAtLevel, IsDone}
+use Rattle.lsys_pass.specs.Stages.{Stage, was, Rests, fault_in, AreNoted, HasFault, OutcomeBy, IsNeeded, IsNeededAt, HasSeats, IsAtLevel, IsDone}
 use Rattle.lsys_pass.specs.Advances.{IsAskedTo, KeepsRest, Makes, Begins, Advances, Ends}
 use Rattle.lsys_pass.specs.Passes.{IsStill}
 use Rattle.lsys_pass.proofs.Stepping.{some_in}
@@ -33,6 +34,9 @@ use Rattle.lsys_pass.proofs.Stepping.{some_in}
 no_outcome : (o : Option FaultKind) (A : Type 0) (F : FaultKind → Type 0) → o ≡ None → OutcomeBy o A F → A
 no_outcome None A F e h = h
 no_outcome (Some k) A F e h = absurd (none-some k (sym e))
+
+none_noted : (fs : List Faulted) (ks : List ℕ) (y : List L.Symbol) → fs ≡ [] → AreNoted fs ks y
+none_noted fs ks y e i f h = absurd (none-some f (ap (λ (l : List Faulted). slice_get l i) (sym e) ∙ h))
 
 no_fault : (s : Stage) (k : ℕ) → s.faults ≡ [] → fault_in k s.faults ≡ None
 no_fault s k e = ap (fault_in k) e
@@ -230,6 +234,7 @@ module _ (s s' : Stage) (t : ℕ) (h : IsAskedTo s t) (sound : IsSound s.root s.
         | inl r ↦ inl (record { pending = r.0; candidate = r.1; same = r.2; faultless = no_fault s' k a.ask.faults })
         | inr r ↦ inr (record { done = r.0; outcome = subst (λ o. OutcomeBy o (AnsweredAt s'.next (suc t) s'.now s'.root s'.store p k) (HasFault s'.next (suc t) (level_to s'.next s'.limit (suc t)) p)) (sym (no_fault s' k a.ask.faults)) r.1 })
       ];
+      noted = none_noted s'.faults (level_nodes s'.now s'.root (suc t)) (level_of s'.now s'.root (suc t)) a.ask.faults;
       in_order = a.ask.in_order;
       apart = a.ask.apart;
     };
@@ -346,6 +351,7 @@ module _ (s s' : Stage) (h : IsStill s) (x : Begins s s') where
         | inl r ↦ inl (record { pending = r.0; candidate = r.1; same = r.2; faultless = no_fault s' k a.ask.faults })
         | inr r ↦ inr (record { done = r.0; outcome = subst (λ o. OutcomeBy o (AnsweredAt s'.next 0 s'.now s'.root s'.store p k) (HasFault s'.next 0 (level_to s'.next s'.limit 0) p)) (sym (no_fault s' k a.ask.faults)) r.1 })
       ];
+      noted = none_noted s'.faults (level_nodes s'.now s'.root 0) (level_of s'.now s'.root 0) a.ask.faults;
       in_order = a.ask.in_order;
       apart = a.ask.apart;
     };

@@ -1,4 +1,5 @@
 pub mod Stores
+pub mod Sized
 pub mod Keepers
 pub mod Openings
 pub mod Alike
@@ -17,4 +18,11 @@ pub mod Closing
 pub mod Counting
 pub mod Totals
 pub mod Closed
+pub mod Numbering
+pub mod Refusing
 pub mod Finishing
+pub mod Limits
+pub mod Making
+pub mod Arrivals
+pub mod NextLengths
+pub mod Closedness

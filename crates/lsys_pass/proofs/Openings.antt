@@ -58,7 +58,7 @@ alone_sound m root h = record {
   few = λ k n e. subst (λ (q : Node Kept). HasFew q.seen) (sym (only_root m root k n h e).1) tt;
 }
 
-no_levels : (m : Nodes Kept) (root t : ℕ) → IsAlone m root → level_nodes m root t ≡ []
+pub no_levels : (m : Nodes Kept) (root t : ℕ) → IsAlone m root → level_nodes m root t ≡ []
 no_levels m root zero h = ap kids_in h.alone
 no_levels m root (suc t) h = ap (kids_below m) (no_levels m root t h)
 

@@ -1,5 +1,5 @@
 -- The outcome of a step, case by case.
-use Rattle.std.proofs.Common.{◌≡◌, ◌≢◌, ◌↔◌, ◌+◌, ℕ, Bool, true, false, List, [], ◌∷◌, ◌++◌, length, Option, Some, None, Ok, Err, Result, refl, sym, ap, ◌∙◌, subst, inl, inr, arith, slice_get, cond}
+use Rattle.std.proofs.Common.{◌≡◌, ◌≢◌, ◌⊎◌, ◌↔◌, ◌+◌, ℕ, zero, suc, Bool, true, false, List, [], ◌∷◌, ◌++◌, length, Option, Some, None, Ok, Err, Result, refl, sym, ap, ◌∙◌, subst, inl, inr, arith, slice_get, cond}
 use Rattle.std.specs.Prelude.{count_by, is_none, nat_eq}
 use Rattle.std.specs.Option.{option_and_then, IsSomeAnd}
 use Rattle.std.proofs.lemmas.Grind.{common_steps}
@@ -39,7 +39,7 @@ use Rattle.lsys_kept.specs.Levels.{IsRight, IsKeptFor, AnsweredIn, level_of, ans
 use Rattle.lsys_kept.specs.Meant.{meant, level_to}
 use Rattle.lsys_pass.specs.declared.fault.Faulted.{Faulted}
 use Rattle.lsys_pass.specs.Read.{pairs_of}
-use Rattle.lsys_pass.specs.Stages.{Stage, was, fault_in, HasFault, OutcomeBy, IsNeededAt, IsAtLevel}
+use Rattle.lsys_pass.specs.Stages.{Stage, was, fault_in, IsNoted, AreNoted, HasFault, OutcomeBy, IsNeededAt, IsAtLevel}
 use Rattle.lsys_pass.proofs.Stores.{AllMade, AllStay, read_on, read_back}
 use Rattle.lsys_pass.proofs.Alike.{answer_put, answer_other, put_again}
 use Rattle.lsys_pass.proofs.Reading.{have_cases, have_left, have_right, of_reader, has_reader}
@@ -79,6 +79,30 @@ fault_step false x o o' kind f h = f h
 fault_last : (k : ℕ) (fs : List Faulted) (kind : FaultKind) → fault_in k fs ≡ None → fault_in k (fs ++ record { node = k; kind = kind } ∷ []) ≡ Some kind
 fault_last k [] kind e = grind (arith, common_steps)
 fault_last k (x ∷ fs) kind e = fault_step (nat_eq k x.node) x.kind (fault_in k fs) (fault_in k (fs ++ record { node = k; kind = kind } ∷ [])) kind (fault_last k fs kind) e
+
+fault_on : (b : Bool) (x kind : FaultKind) (o o' : Option FaultKind) → (o ≡ Some kind → o' ≡ Some kind) → cond b (Some x) o ≡ Some kind → cond b (Some x) o' ≡ Some kind
+fault_on true x kind o o' f h = h
+fault_on false x kind o o' f h = f h
+
+-- a fault that was noted stays the one of its node
+fault_stays : (k : ℕ) (fs : List Faulted) (f : Faulted) (kind : FaultKind) → fault_in k fs ≡ Some kind → fault_in k (fs ++ f ∷ []) ≡ Some kind
+fault_stays k [] f kind h = absurd (none-some kind h)
+fault_stays k (x ∷ fs) f kind h = fault_on (nat_eq k x.node) x.kind kind (fault_in k fs) (fault_in k (fs ++ f ∷ [])) (fault_stays k fs f kind) h
+
+last_or : (fs : List Faulted) (f : Faulted) (i : ℕ) (g : Faulted) → slice_get (fs ++ f ∷ []) i ≡ Some g → (slice_get fs i ≡ Some g) ⊎ (f ≡ g)
+last_or [] f zero g h = inr (same_Some f g h)
+last_or [] f (suc i) g h = absurd (none-some g h)
+last_or (x ∷ fs) f zero g h = inl h
+last_or (x ∷ fs) f (suc i) g h = last_or fs f i g h
+
+-- one more is noted, of a node that had none
+noted_more : (fs : List Faulted) (f : Faulted) (ks : List ℕ) (y : List Symbol) → AreNoted fs ks y → IsNoted (fs ++ f ∷ []) ks y f → AreNoted (fs ++ f ∷ []) ks y
+noted_more fs f ks y all own i g h = elim (last_or fs f i g h) [
+  | inl old ↦
+      let n = all i g old in
+      record { place = n.place; line = n.line; own = n.own; there = n.there; stands = n.stands; is = fault_stays g.node fs f g.kind n.is }
+  | inr e ↦ subst (λ (z : Faulted). IsNoted (fs ++ f ∷ []) ks y z) e own
+]
 
 -- one more is counted
 count_more : (o : Nodes Kept) (rn : List ℕ) (node : ℕ) → count_by (λ k. is_none (answer_at o k)) (rn ++ node ∷ []) ≡ count_by (λ k. is_none (answer_at o k)) rn + cond (is_none (answer_at o node)) 1 0
@@ -207,6 +231,7 @@ module _ (s : Stage) (t node : ℕ) (n : Node Kept) (front back : List ℕ) (x :
           made = made;
           settled = λ reader seen. refl;
           faults = λ k ne. refl;
+          noted = x.at.answers.noted;
           outcome = outcome_right s.faults st n.answer r.there (faultless r.there)
               (right_here r.here st old.0 n.answer (sym kept_is ∙ old.1) (stay_same old.0 (made node old.0 old.1)).made (there_is r.here st old.0 told_same));
         })
@@ -241,6 +266,8 @@ module _ (s : Stage) (t node : ℕ) (n : Node Kept) (front back : List ℕ) (x :
           made = made;
           settled = λ reader seen. refl;
           faults = λ k ne. fault_behind k s.faults (record { node = node; kind = kind }) ne;
+          noted = noted_more s.faults (record { node = node; kind = kind }) (level_nodes s.now s.root t) (level_of s.now s.root t) x.at.answers.noted
+              (record { place = p; line = names s.now node; own = r.here.own; there = r.there; stands = r.here.stands; is = noted_is });
           outcome = λ q h. subst (λ f. OutcomeBy f (AnsweredIn s.next t row st q n.answer) (HasFault s.next t (level_to s.next s.limit t) q)) (sym noted_is)
               (subst (λ i. HasFault s.next t (level_to s.next s.limit t) i kind) (sym (same_place q r.there h)) has_fault);
         })
@@ -302,6 +329,7 @@ module _ (s : Stage) (t node : ℕ) (n : Node Kept) (front back : List ℕ) (x :
           made = made;
           settled = settled;
           faults = λ k ne. refl;
+          noted = x.at.answers.noted;
           outcome = outcome_right s.faults st (Some a) r.there (faultless r.there) (right_here r.here st a (Some a) refl r.store.made there_new);
         })
         (record {

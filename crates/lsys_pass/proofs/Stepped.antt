@@ -25,8 +25,12 @@ use Rattle.lsys_pass.specs.Passes.{PassView, stage_of, now, HoldsAt, IsPass}
 use Rattle.lsys_pass.specs.Steps.{KeepsAnswers, KeepsOutcome, KeepsNothing}
 use Rattle.lsys_pass.specs.Moves.{StepsOver}
 use Rattle.lsys_pass.proofs.Keepers.{note_of, stored_set, stored_in}
-use Rattle.lsys_pass.proofs.Alike.{alike_put, level_alike, put_again}
-use Rattle.lsys_pass.proofs.Stepping.{stepped}
+use Rattle.lsys_pass.proofs.Alike.{alike_put, nodes_alike, level_alike, put_again}
+use Rattle.lsys_pass.proofs.Stepping.{stepped, other_level}
+use Rattle.lsys_pass.proofs.Sized.{made_stays}
+use Rattle.lsys_pass.specs.Sizes.{HaveSizes, HaveSizesTo, SizesAt}
+use Rattle.lsys_seats.proofs.LevelLemmas.{place_in}
+use Rattle.lsys_forest.specs.Rows.{level_nodes}
 use Rattle.lsys_pass.proofs.Asking.{IsSameForest, IsAsked, asked, at, made_now}
 use Rattle.lsys_pass.proofs.Waiting.{stays_refused, level_waits}
 use Rattle.lsys_pass.proofs.Outcomes.{IsReplied, fault_behind, level_same, level_fault, level_new}
@@ -85,6 +89,15 @@ module _ (v : PassView) (t : ℕ) (h : IsPass v) (state : v.state ≡ Level t) (
   again : set a.n.answer ≡ now v
   again = put_again (now v) node a.n a.next.is
 
+  -- the sizes of the levels stay
+  made_set : (o : Option Kept) → HaveSizesTo (now v) v.forest.root v.made t → HaveSizesTo (set o) v.forest.root v.made t
+  made_set o made =
+      made_stays (now v) (set o) v.forest.root v.made t (nodes_alike (now v) (set o) v.forest.root (alike_put (now v) node a.n o a.next.is))
+      (λ u k l i. (
+      let p = place_in k (level_nodes (now v) v.forest.root u) i in
+      put_other (now v) node k (Some (with_answer o a.n)) (other_level s t node a.n a.front a.back a.next u p.0 k l p.1)
+      )) made
+
   -- from what the parts become to the pass
   over : (o : Option Kept) (fs : List Faulted) (rn : List ℕ) (b : ℕ) (rd : Relations) → ps ≡ a.front ++ a.back
       → now_of g' ≡ set o → rest_of g' ≡ P.was v → g'.root ≡ v.forest.root → st' ≡ st → rd' ≡ rd → w'.faults.items ≡ fs → w'.renewed.items ≡ rn → w'.born ≡ b
@@ -98,6 +111,9 @@ module _ (v : PassView) (t : ℕ) (h : IsPass v) (state : v.state ≡ Level t) (
       few = (let f = h.few in omega (arith, few, f));
       unmarked = h.unmarked;
       counted = h.counted;
+      sized = subst (λ (w : Nodes Kept). HaveSizes w g'.root v.sizes) (sym rest) (subst (λ r. HaveSizes (P.was v) r v.sizes) (sym root) h.sized);
+      made_sized = subst (SizesAt (now_of g') g'.root v.next.depth v.made) (sym state) (subst (λ (m : Nodes Kept). HaveSizesTo m g'.root v.made t) (sym nodes) (subst (λ r. HaveSizesTo (set o) r v.made t) (sym root)
+          (made_set o (subst (SizesAt (now v) v.forest.root v.next.depth v.made) state h.made_sized))));
       holds = subst (HoldsAt (stage_of v')) (sym state) (subst (λ (z : Stage). IsAtLevel z t) (sym whole) (level (ap (undone (changes_in g')) (sym nodes) ∙ rest)));
     };
     steps = record {
@@ -166,6 +182,9 @@ module _ {L : Type 0} (v : PassView) (t : ℕ) (h : IsPass v) (state : v.state �
     few = (let f = h.few in let l = ap live_nodes k.forest in omega (arith, f, l, live));
     unmarked = h.unmarked;
     counted = h.counted;
+    sized = subst (λ (w : Nodes Kept). HaveSizes w g'.root v.sizes) (sym rest) (subst (λ r. HaveSizes (P.was v) r v.sizes) (sym root) h.sized);
+    made_sized = subst (SizesAt (now_of g') g'.root v.next.depth v.made) (sym state) (subst (λ (m : Nodes Kept). HaveSizesTo m g'.root v.made t) (sym nodes) (subst (λ r. HaveSizesTo (now v) r v.made t) (sym root)
+        (subst (SizesAt (now v) v.forest.root v.next.depth v.made) state h.made_sized)));
     holds = subst (HoldsAt (stage_of (after v g' st' rd' ps w'.faults.items w'.renewed.items w'.born w'.dropped.items w'.moved.items))) (sym state)
         (subst (λ (z : Stage). IsAtLevel z t) (sym whole) (level_waits (stage_of v) t st' rd' (made_now v t h state) stays k.settled k.read (at v t h state)));
   }
@@ -178,6 +197,9 @@ module _ {L : Type 0} (v : PassView) (t : ℕ) (h : IsPass v) (state : v.state �
 
       root : g'.root ≡ v.forest.root
       root = ap (λ (f : Grove Kept). f.root) k.forest ∙ same.root
+
+      rest : rest_of g' ≡ P.was v
+      rest = ap (λ (cs : List (Change Kept)). undone cs (now_of g')) changes ∙ ap (undone (changes_in v.forest)) nodes
 
       stays : (a : Kept) → IsMade v.store a → StaysMade v.store st' a
       stays = stays_refused v.store st st' o r keeps k.store

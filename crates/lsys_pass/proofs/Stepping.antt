@@ -24,12 +24,12 @@ use Rattle.lsys_forest.proofs.RowLemmas.{In_append, In_left, In_right, apart_par
 use Rattle.lsys_forest.proofs.StockLemmas.{put_other}
 use Rattle.lsys_forest.proofs.WalkLemmas.{get_In}
 use Rattle.lsys_kept.specs.Lineages.{kins}
-use Rattle.lsys_kept.specs.Levels.{AnsweredIn, AnsweredAt, answer_at, HasRead}
+use Rattle.lsys_kept.specs.Levels.{AnsweredIn, AnsweredAt, level_of, answer_at, HasRead}
 use Rattle.lsys_kept.specs.Meant.{level_to}
 use Rattle.lsys_seats.specs.Neighbours.{neighbours_on}
 use Rattle.lsys_pass.specs.declared.fault.Faulted.{Faulted}
 use Rattle.lsys_pass.specs.Rests.{AreCountedLow, IsResting}
-use Rattle.lsys_pass.specs.Stages.{Stage, was, Rests, fault_in, HasFault, OutcomeBy, IsOutcome, IsOpen, IsSettled, AreSome, IsNeeded, IsNeededAt, HasTree, HasAnswers, HasLists, HasNews, HasSeats, IsAtLevel}
+use Rattle.lsys_pass.specs.Stages.{Stage, was, Rests, fault_in, AreNoted, HasFault, OutcomeBy, IsOutcome, IsOpen, IsSettled, AreSome, IsNeeded, IsNeededAt, HasTree, HasAnswers, HasLists, HasNews, HasSeats, IsAtLevel}
 use Rattle.lsys_pass.proofs.Stores.{AllMade, AllStay, answered_stays, rest_stays}
 use Rattle.lsys_pass.proofs.Alike.{AreAlike, nodes_alike, spots_alike, level_alike, neighbours_alike, have_alike, alike_put, answer_put, answer_other, put_from}
 
@@ -55,24 +55,24 @@ some_less (x ∷ b) j a [] h = absurd h
 some_less (x ∷ b) j a (k ∷ ks) (inl h) = inl (h.0, some_less b j a ks h.1)
 some_less (x ∷ b) j a (k ∷ ks) (inr h) = inr (some_less (x ∷ b) j a ks h)
 
-in_more : (b : List ℕ) (j : ℕ) (a : List ℕ) (k : ℕ) → In k (b ++ a) → In k (b ++ j ∷ a)
+pub in_more : (b : List ℕ) (j : ℕ) (a : List ℕ) (k : ℕ) → In k (b ++ a) → In k (b ++ j ∷ a)
 in_more b j a k h = elim (In_append b a k h) [
   | inl i ↦ In_left k b (j ∷ a) i
   | inr i ↦ In_right k b (j ∷ a) (inr i)
 ]
 
-in_less : (b : List ℕ) (j : ℕ) (a : List ℕ) (k : ℕ) → k ≢ j → In k (b ++ j ∷ a) → In k (b ++ a)
+pub in_less : (b : List ℕ) (j : ℕ) (a : List ℕ) (k : ℕ) → k ≢ j → In k (b ++ j ∷ a) → In k (b ++ a)
 in_less b j a k ne h = elim (In_append b (j ∷ a) k h) [
   | inl i ↦ In_left k b a i
   | inr i ↦ elim i [ inl e ↦ absurd (ne e) | inr r ↦ In_right k b a r ]
 ]
 
-not_left : (b : List ℕ) (j : ℕ) (a : List ℕ) → AreApart (b ++ j ∷ a) → In j (b ++ a) → ⊥
+pub not_left : (b : List ℕ) (j : ℕ) (a : List ℕ) → AreApart (b ++ j ∷ a) → In j (b ++ a) → ⊥
 not_left b j a h i =
     let p = apart_parts b (j ∷ a) h in
     elim (In_append b a j i) [ inl l ↦ p.2 j l (inl refl) | inr r ↦ p.1.0 r ]
 
-apart_less : (b : List ℕ) (j : ℕ) (a : List ℕ) → AreApart (b ++ j ∷ a) → AreApart (b ++ a)
+pub apart_less : (b : List ℕ) (j : ℕ) (a : List ℕ) → AreApart (b ++ j ∷ a) → AreApart (b ++ a)
 apart_less b j a h = let p = apart_parts b (j ∷ a) h in apart_append b a p.0 p.1.1 (λ k i r. p.2 k i (inr r))
 
 -- 2. what a step is about
@@ -95,6 +95,7 @@ pub record Steps (s : Stage) (t node : ℕ) (n : Node Kept) (o : Option Kept) (s
   pub made : AllMade s.now s.store
   pub settled : SettledStay s.reads rd
   pub faults : (k : ℕ) → k ≢ node → fault_in k fs ≡ fault_in k s.faults
+  pub noted : AreNoted fs (level_nodes s.now s.root t) (level_of s.now s.root t)
   pub outcome : (p : ℕ) → slice_get (level_nodes s.now s.root t) p ≡ Some node
       → OutcomeBy (fault_in node fs) (AnsweredIn s.next t (level_spots s.now s.root t) st p o) (HasFault s.next t (level_to s.next s.limit t) p)
 
@@ -128,7 +129,7 @@ module _ (s : Stage) (t node : ℕ) (n : Node Kept) (before after : List ℕ) (x
       let e = ap (λ (o : Node Kept). o.depth) (same_Some n d.0 (sym x.is ∙ d.1)) in
       omega (arith, e, d.2, depth_is)
 
-  other_level : (u p k : ℕ) → u < t → slice_get (level_nodes s.now s.root u) p ≡ Some k → k ≢ node
+  pub other_level : (u p k : ℕ) → u < t → slice_get (level_nodes s.now s.root u) p ≡ Some k → k ≢ node
   other_level u p k less h e =
       let same : u ≡ t = level_is u p (h ∙ ap Some e) in
       omega (arith, same, less)
@@ -271,6 +272,7 @@ module _ (s : Stage) (t node : ℕ) (n : Node Kept) (before after : List ℕ) (x
     answers = record {
       above = λ u p k less e. right_other s.next u p k (other_level u p k less (there u p k e)) (x.at.answers.above u p k less (there u p k e));
       here = λ p k e. here_at p k (there t p k e);
+      noted = subst (λ ks. AreNoted fs ks (level_of m s.root t)) (sym (level t)) (subst (λ (y : List L.Symbol). AreNoted fs (level_nodes s.now s.root t) y) (sym (level_alike s.now m s.root alike t)) h.noted);
       in_order = subst (AreSome (before ++ after)) (sym (level t)) (some_less before node after (level_nodes s.now s.root t) (subst (λ l. AreSome l (level_nodes s.now s.root t)) x.whole x.at.answers.in_order));
       apart = apart_less before node after apart_all;
     }

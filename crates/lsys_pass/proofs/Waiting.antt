@@ -58,6 +58,7 @@ module _ (s : Stage) (t : ℕ) (st : Store) (rd : Relations) (made : AllMade s.n
     answers = record {
       above = λ u p k less e. right s.next u p k (h.answers.above u p k less e);
       here = λ p k e. here_at p k (h.answers.here p k e);
+      noted = h.answers.noted;
       in_order = h.answers.in_order;
       apart = h.answers.apart;
     };

@@ -10,6 +10,8 @@ use Rattle.lsys_kept.specs.Lineages.{kins}
 use Rattle.lsys_kept.specs.Levels.{HaveLevels, AnsweredAt, answer_at}
 use Rattle.lsys_kept.specs.Meant.{meant, IsCandidate}
 use Rattle.lsys_seats.specs.Seats.{SameSeats}
+use Rattle.lsys_next.specs.Nexts.{count_wanted}
+use Rattle.lsys_next.specs.Answers.{kept_successors}
 use Rattle.lsys_pass.specs.Rests.{AreCountedLow}
 use Rattle.lsys_pass.specs.Stages.{Stage, was, AreSome, IsNeededAt, HasTree, HasSeats, IsAtLevel}
 
@@ -18,6 +20,10 @@ pub record IsAskedTo (s : Stage) (t : ℕ) : Type 0 where
   pub at : IsAtLevel s t
   pub pending : s.pending ≡ []
   pub faults : s.faults ≡ []
+
+-- how many symbols the next level has: as many as the answers of the nodes of level t want children
+abbrev pub symbols_wanted : Stage → ℕ → ℕ
+symbols_wanted s t = count_wanted s.next.numbering s.now (kept_successors s.now) (level_nodes s.now s.root t)
 
 -- The last rest stays, what was read, and which answers are new.
 pub record KeepsRest (old new : Stage) : Type 0 where

@@ -7,3 +7,5 @@ pub mod Works
 pub mod Steps
 pub mod Advances
 pub mod Moves
+pub mod Leftmost
+pub mod Sizes

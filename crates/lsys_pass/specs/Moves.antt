@@ -1,7 +1,12 @@
 -- What the calls of a pass do.
-use Rattle.std.specs.Prelude.{◌≡◌, ◌≢◌, ℕ, List, ◌++◌, ◌∷◌, length, Result, Ok, Err, Some, slice_get, if◌then◌else◌}
+use Rattle.std.specs.Prelude.{◌≡◌, ◌≢◌, ◌<◌, ◌+◌, ℕ, List, ◌++◌, ◌∷◌, length, Result, Ok, Err, Some, slice_get, if◌then◌else◌}
+use Rattle.lsys_spec.specs.Systems.{System}
 use Rattle.lsys_spec.specs.Levels.{ModuleValue, Module}
+use Rattle.lsys_spec.specs.Meaning.{meaning, FaultAt, OverLimit}
 use Rattle.lsys_spec.specs.Questions.{Question, questions, is_needed}
+use Rattle.lsys_rewrite.specs.Faults.{fault_of}
+use Rattle.lsys_rewrite.specs.declared.refusal.DeriveRefusal.{DeriveRefusal}
+use Rattle.lsys_rewrite.specs.declared.refusal.DeriveRefusal.TheVariants.{Fault, Limit, Memory}
 use Rattle.lsys_match.specs.Asks.{ByDefinition, by_definition}
 use Rattle.lsys_reads.specs.Relations.{SettledStay}
 use Rattle.lsys_forest.specs.Groves.{Reached}
@@ -86,7 +91,42 @@ Moves v Failed node by = Unit {0}
 abbrev pub MovesOnce : PassView → ℕ → (ℕ → ℕ → Type 0) → Type 0
 MovesOnce v node by = Moves v v.state node by
 
--- 2. the end
+-- 2. why a system has no levels
+
+-- the fault or the limit that the definitions tell; want of memory says nothing
+abbrev pub IsRefusal : System → ℕ → DeriveRefusal → Type 0
+IsRefusal s limit (Fault kind t n) = meaning s limit ≡ Err (FaultAt (fault_of kind) t n)
+IsRefusal s limit (Limit t) = meaning s limit ≡ Err (OverLimit t)
+IsRefusal s limit Memory = Unit {0}
+
+-- 3. the levels
+
+-- it stands at this level, or it is done where this is the last one
+abbrev pub IsNext : System → ℕ → PassState → Type 0
+IsNext s t (Level u) = (u ≡ t) × (t < s.depth)
+IsNext s t Done = s.depth ≡ t
+IsNext s t Rest = ⊥
+IsNext s t Failed = ⊥
+
+-- at the next one, where it stood at some level
+abbrev pub Follows : System → PassState → PassState → Type 0
+Follows s (Level t) next = IsNext s (t + 1) next
+Follows s Rest next = ⊥
+Follows s Done next = ⊥
+Follows s Failed next = ⊥
+
+-- another level is made, and no answer is new
+pub record Finishes (old new : PassView) : Type 0 where
+  pub run : SameRun old new
+  pub state : Follows old.next old.state new.state
+  pub renewed : new.renewed ≡ old.renewed
+
+-- the new system has no levels, or memory was wanted
+pub record Fails (old new : PassView) : Type 0 where
+  pub run : SameRun old new
+  pub state : new.state ≡ Failed
+
+-- 4. the end
 
 -- it is at rest with the new system, and the nodes that are reached are what they were
 pub record Closes (old new : PassView) : Type 0 where

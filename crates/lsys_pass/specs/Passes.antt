@@ -13,9 +13,12 @@ use Rattle.lsys_seats.specs.Seats.{is_marked}
 use Rattle.lsys_pass.specs.declared.state.PassState.{PassState}
 use Rattle.lsys_pass.specs.declared.state.PassState.TheVariants.{Rest, Level, Done, Failed}
 use Rattle.lsys_pass.specs.declared.fault.Faulted.{Faulted}
+use Rattle.lsys_pass.specs.declared.sizes.Size.{Size}
+use Rattle.lsys_pass.specs.Sizes.{HaveSizes, SizesAt}
 use Rattle.lsys_pass.specs.Stages.{Stage, IsStored, Rests, IsAtLevel, IsDone}
 
--- A pass: the forest, the store of its answers, and who read what; the seats of the last rest; the system of the last rest, and the
+-- A pass: the forest, the store of its answers, and who read what; the seats of the last rest; the
+-- sizes of its levels, and of those that were made since; the system of the last rest, and the
 -- one that is being made, which at rest is the same; the limit, and where the pass stands. Then the lists of a stage, and how many
 -- questions the system of the last rest has.
 pub record PassView : Type 0 where
@@ -23,6 +26,8 @@ pub record PassView : Type 0 where
   pub store : Store
   pub reads : Relations
   pub seats : List Seat
+  pub sizes : List Size
+  pub made : List Size
   pub system : System
   pub next : System
   pub limit : ℕ
@@ -87,4 +92,6 @@ pub record IsPass (v : PassView) : Type 0 where
   pub few : live_nodes v.forest < 2 ^ 32
   pub unmarked : (k : ℕ) → is_marked v.seats k ≡ false
   pub counted : v.answers ≡ length (questions v.system (meant v.system v.limit))
+  pub sized : HaveSizes (was v) v.forest.root v.sizes
+  pub made_sized : SizesAt (now v) v.forest.root v.next.depth v.made v.state
   pub holds : HoldsAt (stage_of v) v.state

@@ -92,6 +92,18 @@ IsOutcome s t p k =
     OutcomeBy (fault_in k s.faults) (AnsweredAt s.next t s.now s.root s.store p k)
     (HasFault s.next t (level_to s.next s.limit t) p)
 
+-- A fault that was noted is the one of its node, which is one of these; and it stands as a module on the level y, which they are.
+pub record IsNoted (faults : List Faulted) (ks : List ℕ) (y : List L.Symbol) (f : Faulted) : Type 0 where
+  pub place : ℕ
+  pub line : List ℕ
+  pub own : ModuleValue
+  pub there : slice_get ks place ≡ Some f.node
+  pub stands : slice_get y place ≡ Some (Module line own)
+  pub is : fault_in f.node faults ≡ Some f.kind
+
+abbrev pub AreNoted : List Faulted → List ℕ → List L.Symbol → Type 0
+AreNoted faults ks y = (i : ℕ) (f : Faulted) → slice_get faults i ≡ Some f → IsNoted faults ks y f
+
 -- node k at place p of level t is still to be asked: a candidate, with the answer that it had, and no fault
 pub record IsOpen (s : Stage) (t p k : ℕ) : Type 0 where
   pub pending : In k s.pending
@@ -145,6 +157,7 @@ pub record HasAnswers (s : Stage) (t : ℕ) : Type 0 where
       → AnsweredAt s.next u s.now s.root s.store p k
   pub here : (p k : ℕ) → slice_get (level_nodes s.now s.root t) p ≡ Some k
       → IsOpen s t p k ⊎ IsSettled s t p k
+  pub noted : AreNoted s.faults (level_nodes s.now s.root t) (level_of s.now s.root t)
   pub in_order : AreSome s.pending (level_nodes s.now s.root t)
   pub apart : AreApart s.pending
 

@@ -10,10 +10,13 @@ mod outcome;
 mod pass;
 mod place;
 mod read;
+mod refusal;
 mod seating;
+mod sizes;
 mod state;
 mod work;
 
 pub use fault::Faulted;
 pub use pass::Pass;
+pub use sizes::Size;
 pub use state::PassState;

@@ -1,26 +1,30 @@
 //! The pass.
-ghost use Rattle.std.specs.Prelude.{◌≡◌, ◌+◌, ◌<◌, ◌≢◌, length, slice_get, Some, IfOk, OnOk, OnErr};
+ghost use Rattle.std.specs.Prelude.{◌≡◌, ◌+◌, ◌-◌, ◌<◌, ◌≤◌, ◌≢◌, [], length, slice_get, Some, MatchOption, IfOk, OnOk, OnErr};
 ghost use Rattle.lsys_spec.specs.Systems.{opening};
 ghost use Rattle.lsys_spec.specs.Questions.{questions};
 ghost use Rattle.lsys_match.specs.Derivations.{IsCount, Rises, most_read};
 ghost use Rattle.lsys_forest.specs.Groves.{In};
 ghost use Rattle.lsys_kept.specs.Meant.{meant};
-ghost use Rattle.lsys_pass.specs.declared.state.PassState.TheVariants.{Rest, Done};
-ghost use Rattle.lsys_pass.specs.Passes.{IsPass};
-ghost use Rattle.lsys_pass.specs.Moves.{AtLevel, IsBack, StepsOver, MovesOnce, Waits, Closes};
+ghost use Rattle.lsys_pass.specs.declared.state.PassState.TheVariants.{Rest, Level, Done};
+ghost use Rattle.lsys_pass.specs.Passes.{IsPass, stage_of};
+ghost use Rattle.lsys_pass.specs.Sizes.{total_of};
+ghost use Rattle.lsys_pass.specs.Advances.{IsAskedTo, symbols_wanted};
+ghost use Rattle.lsys_pass.specs.Moves.{AtLevel, Fails, IsBack, IsRefusal, StepsOver, MovesOnce, Waits, Closes};
 
 use crate::keep::{answer_of, take_over, target};
 use crate::outcome::keep_outcome;
 use crate::place::place_among;
 use crate::read::settle_reads;
+use crate::refusal::first_fault;
 use crate::seating::seat_all;
+use crate::sizes::{Sizes, room_under};
 use crate::state::PassState;
 use crate::work::Work;
 use lsys_forest::{Forest, NodeId};
 use lsys_kept::KeptAnswer;
 use lsys_match::{AnswerStore, Steps, ask};
 use lsys_reads::Reads;
-use lsys_rewrite::EditCount;
+use lsys_rewrite::{DeriveRefusal, EditCount};
 use lsys_rules::System;
 use lsys_seats::Seats;
 use std::alloc::{AllocError, Global};
@@ -34,6 +38,7 @@ pub struct Pass<L: Ledger> {
     store: AnswerStore,
     reads: Reads,
     seats: Seats,
+    sizes: Sizes,
     system: System,
     next: Option<System>,
     limit: u32,
@@ -59,6 +64,8 @@ impl<L: Ledger> Model for Pass<L> {
       store = a.store;
       reads = a.reads;
       seats = a.seats;
+      sizes = a.sizes.rest.items;
+      made = a.sizes.made.items;
       system = a.system;
       next = unwrap_or a.next a.system;
       limit = a.limit;
@@ -77,6 +84,8 @@ impl<L: Ledger> Model for Pass<L> {
       store = a.store;
       reads = a.reads;
       seats = a.seats;
+      sizes = a.sizes.rest.items;
+      made = a.sizes.made.items;
       system = a.system;
       next = unwrap_or a.next a.system;
       limit = a.limit;
@@ -107,6 +116,7 @@ impl<L: Ledger> Pass<L> {
             store: AnswerStore::new(alloc),
             reads: Reads::new(alloc),
             seats: Seats::new(alloc),
+            sizes: Sizes::new(alloc),
             system: System::opening(alloc)?,
             next: None,
             limit,
@@ -122,6 +132,40 @@ impl<L: Ledger> Pass<L> {
         ensures pass { IsPass self.now }
     {
         self.state
+    }
+
+    /// Why its level has no next one, where faults were noted: the leftmost of them.
+    fn fault_refusal(&self, level: u32) -> Option<DeriveRefusal>
+        requires state { self.now.state ≡ Level level }
+        requires pending { self.now.pending ≡ [] }
+        ensures { MatchOption result (self.now.faults ≡ [])
+            (IsRefusal self.now.next self.now.limit) }
+    {
+        first_fault(&self.forest, level, &self.work.faults)
+    }
+
+    /// Why this level, which would be made next and have so many symbols, can't be; none where there is room for it.
+    fn limit_refusal(&self, level: u32, symbols: usize) -> Option<DeriveRefusal>
+        requires state { self.now.state ≡ Level (level - 1) }
+        requires behind { 0 < level }
+        requires asked { IsAskedTo (stage_of self.now) (level - 1) }
+        requires symbols { symbols ≡ symbols_wanted (stage_of self.now) (level - 1) }
+        ensures { MatchOption result (total_of self.now.made + symbols ≤ self.now.limit)
+            (IsRefusal self.now.next self.now.limit) }
+    {
+        if symbols > room_under(self.limit, &self.sizes.made) {
+            Some(DeriveRefusal::Limit { level })
+        } else {
+            None
+        }
+    }
+
+    /// The new system has no levels, or memory was wanted: only to abandon it is left. It takes no memory.
+    fn fail(&mut self)
+        requires { AtLevel self.old.state }
+        ensures fails { Fails self.old self.new }
+    {
+        self.state = PassState::Failed;
     }
 
     /// How many nodes of the level are still to be asked.
@@ -207,6 +251,7 @@ impl<L: Ledger> Pass<L> {
         self.forest.commit(&mut self.store);
         settle_reads(&mut self.reads, &mut self.work);
         seat_all(&mut self.seats, &self.forest, &self.work.moved);
+        self.sizes.keep();
         take_over(&mut self.next, &mut self.system);
         self.work.clear();
         self.state = PassState::Rest;
@@ -223,6 +268,7 @@ impl<L: Ledger> Pass<L> {
     {
         self.forest.rollback(&mut self.store);
         self.reads.retract();
+        self.sizes.forget();
         self.next = None;
         self.work.clear();
         self.state = PassState::Rest;
