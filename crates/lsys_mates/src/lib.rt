@@ -3,6 +3,8 @@
 
 pub mod below;
 pub mod generations;
+pub mod levels;
 
 pub use below::law_of_looks_below;
 pub use generations::law_of_left_generations;
+pub use levels::law_of_left_levels;
