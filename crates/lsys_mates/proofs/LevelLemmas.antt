@@ -43,7 +43,7 @@ use Rattle.lsys_mates.specs.Below.{kids_at, AreLeftLevels}
 
 -- 1. rows
 
-apart_back : (xs : List ℕ) → G.AreApart xs → S.AreApart xs
+pub apart_back : (xs : List ℕ) → G.AreApart xs → S.AreApart xs
 apart_back [] h = tt
 apart_back (x ∷ xs) h = (λ i. h.0 (in_same x xs i), apart_back xs h.1)
 
@@ -57,7 +57,7 @@ one_symbol f (k ∷ []) a e = let g : f k ≡ a = cc in (k, refl, g)
 one_symbol f (k ∷ j ∷ ks) a e = cc
 
 -- where a number stands that stands once
-one_place : (xs : List ℕ) → G.AreApart xs → (p k : ℕ) → slice_get xs p ≡ Some k → index_in k xs ≡ p
+pub one_place : (xs : List ℕ) → G.AreApart xs → (p k : ℕ) → slice_get xs p ≡ Some k → index_in k xs ≡ p
 one_place xs h p k e =
     let s = get_split xs p k e in
     ap (index_in k) s.whole ∙ index_of k s.before s.after (subst G.AreApart s.whole h) ∙ s.long
@@ -76,7 +76,7 @@ balanced_kinds kind f same n (k ∷ ks) h = by (f k) (same k) n h (λ n e. balan
     by (L.Pop l) e (suc n) h rest = subst (λ k. balancing k (suc n) (λ m. AreBalanced kind m ks)) (sym e) (rest n h)
 
 module _ {A : Type 0} (m : Nodes A) where
-  kind_is : (k : ℕ) → kind_in m k ≡ node_kind m k
+  pub kind_is : (k : ℕ) → kind_in m k ≡ node_kind m k
   kind_is k = kind_with ((spot_in k (m k)).tag ∷ []) (spot_in k (m k)).seen
 
   kind_named : (k : ℕ) → kind_in m k ≡ kind_of (node_symbol m k)

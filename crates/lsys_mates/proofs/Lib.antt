@@ -1,3 +1,4 @@
 pub mod LeftLemmas
 pub mod BelowLemmas
 pub mod LevelLemmas
+pub mod TurnedLemmas

@@ -4,7 +4,9 @@
 pub mod below;
 pub mod generations;
 pub mod levels;
+pub mod turned;
 
 pub use below::law_of_looks_below;
 pub use generations::law_of_left_generations;
 pub use levels::law_of_left_levels;
+pub use turned::{law_of_families, law_of_seats_below};
