@@ -2,3 +2,4 @@ pub mod LeftLemmas
 pub mod BelowLemmas
 pub mod LevelLemmas
 pub mod TurnedLemmas
+pub mod RepairedLemmas

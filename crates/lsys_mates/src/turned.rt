@@ -11,7 +11,7 @@ ghost use Rattle.lsys_seats.specs.Neighbours.{neighbours_in, neighbours_on};
 ghost use Rattle.lsys_seats.specs.Seats.{neighbours_at};
 ghost use Rattle.lsys_seats.specs.Standings.{AreSeated};
 ghost use Rattle.lsys_mates.specs.Below.{AreLookedBelow, KeepsFamily};
-ghost use Rattle.lsys_mates.specs.Turned.{AreTurnedBy};
+ghost use Rattle.lsys_mates.specs.Turned.{AreTurnedBy, IsSameLevel};
 
 /// A node of the level before that keeps its children, and their kinds, keeps its family.
 pub fn law_of_families<A>()
@@ -41,4 +41,16 @@ pub fn law_of_seats_below<A>()
         → (k : ℕ) → In k (level_nodes (now_of f) f.root (t + 1))
         → In k (level_nodes o f.root (t + 1))
         → In k looked ⊎ (neighbours_in f k ≡ neighbours_at seats k) }
+{}
+
+/// While a level has the same nodes with the same symbols, they have the neighbours and the mates that they had, whatever
+/// changes below it; and so those that are turned stay turned.
+pub fn law_of_same_level<A>()
+    ensures neighbours { (f h : Grove A) (t : ℕ)
+        → IsSound f.root (changes_in f) (now_of f) → IsSound h.root (changes_in h) (now_of h)
+        → IsSameLevel f h t → (k : ℕ) → In k (level_nodes (now_of f) f.root t)
+        → neighbours_in h k ≡ neighbours_in f k }
+    ensures turned { (o : Nodes A) (f h : Grove A) (t : ℕ) (seats : List Seat) (turned : List ℕ)
+        → IsSound h.root (changes_in h) (now_of h) → IsSameLevel f h t
+        → AreTurnedBy o f t seats turned → AreTurnedBy o h t seats turned }
 {}
