@@ -3,8 +3,8 @@ use Rattle.std.proofs.Common.{◌≡◌, inl, inr, ℕ, zero, suc, Bool, true, f
 use Rattle.std.specs.Prelude.{◌↔◌, ◌+◌}
 use Rattle.lsys_change.specs.Kinds.{BracketKind, Opens, Closes, Neither, stays, reached}
 use Rattle.lsys_change.specs.Seams.{In, AreApart, flat}
-use Rattle.lsys_change.specs.Mates.{closing, closer, balancing, AreBalanced, AreOwn, below, AreMatesAmong, Generation, next_nodes, AreMatesOn, IsGeneration}
-use Rattle.lsys_change.proofs.Joints.{in_front, in_back, in_middle, in_either}
+use Rattle.lsys_change.specs.Mates.{closing, closer, balancing, AreBalanced, AreOwn, below, AreMatesAmong, next_nodes, AreMatesOn, IsGeneration}
+use Rattle.lsys_change.proofs.Joints.{in_front, in_back}
 use Rattle.lsys_mates.specs.Generations.{IsLeft, AreLeft, is_parent, parents, IsLeftLevel, left_generation}
 
 -- 1. nodes that are left

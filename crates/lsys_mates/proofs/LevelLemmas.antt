@@ -1,20 +1,19 @@
 -- What cuts left on the levels of a system.
-use Rattle.std.proofs.Common.{◌≡◌, ◌+◌, ◌<◌, ℕ, zero, suc, Bool, true, false, cond, List, [], ◌∷◌, ◌++◌, length, map, append-nil, slice_get, Option, Some, None, Ok, refl, sym, ap, ◌∙◌, subst, arith, inl, inr}
-use Rattle.std.specs.Prelude.{ℤ, get_or}
+use Rattle.std.proofs.Common.{◌≡◌, ◌+◌, ◌<◌, ℕ, zero, suc, Bool, true, false, cond, List, [], ◌∷◌, ◌++◌, map, append-nil, slice_get, Option, Some, None, Ok, refl, sym, ap, ◌∙◌, subst, arith, inl, inr}
+use Rattle.std.specs.Prelude.{ℤ}
 use Rattle.std.proofs.lemmas.Bool.{eqb-true}
-use Rattle.std.proofs.lemmas.Option.{same_Some}
 use Rattle.lsys_syntax.specs.Commands.{Numbering}
 use Rattle.lsys_syntax.specs.Strings as T
 use Rattle.lsys_spec.specs.Systems.{System, WellSpelled}
 use Rattle.lsys_spec.specs.Levels as L
 use Rattle.lsys_spec.specs.Levels.{lineage, level_balanced, IsLevel}
-use Rattle.lsys_spec.specs.Cuts.{Raw, raw_balanced, cut}
+use Rattle.lsys_spec.specs.Cuts.{raw_balanced, cut}
 use Rattle.lsys_spec.specs.Numbers.{number_at}
 use Rattle.lsys_spec.specs.Meaning.{children}
 use Rattle.lsys_spec.proofs.Cutting.{cut_balanced}
 use Rattle.lsys_spec.proofs.Balanced.{is_level}
 use Rattle.lsys_spec.proofs.Offspring.{has_balance, successor_balanced, successor_short, offspring_balanced}
-use Rattle.lsys_change.specs.Kinds.{BracketKind, Opens, Closes, Neither, kind_of, stays, reached}
+use Rattle.lsys_change.specs.Kinds.{BracketKind, kind_of, stays, reached}
 use Rattle.lsys_change.specs.Seams as S
 use Rattle.lsys_change.specs.Mates.{balancing, AreBalanced, AreOwn}
 use Rattle.lsys_change.specs.Children.{is_open, replacement}
@@ -30,7 +29,7 @@ use Rattle.lsys_brood.specs.Children.{bracket_kind}
 use Rattle.lsys_kept.specs.Lineages.{names}
 use Rattle.lsys_kept.specs.Levels.{level_of}
 use Rattle.lsys_kept.specs.Meant.{meant_to}
-use Rattle.lsys_next.specs.Nexts.{Successors, AreLevels, HaveWanted, HasWanted, node_symbol, node_kind}
+use Rattle.lsys_next.specs.Nexts.{Successors, AreLevels, HaveWanted, node_symbol, node_kind}
 use Rattle.lsys_next.proofs.Nexts.{kind_with, balance_by}
 use Rattle.lsys_next.proofs.Families.{level_families}
 use Rattle.lsys_seats.specs.Neighbours.{numbered_level}

@@ -1,9 +1,9 @@
 -- Levels of a forest that is being repaired.
-use Rattle.std.proofs.Common.{◌≡◌, ◌<◌, ◌⊎◌, ◌+◌, ℕ, List, [], length, refl, sym, ap, ◌∙◌, subst, arith, inl, inr}
+use Rattle.std.proofs.Common.{◌<◌, ◌⊎◌, ℕ, List, [], arith, inl, inr}
 use Rattle.lsys_change.specs.Seams as S
 use Rattle.lsys_change.proofs.UpTo.{level_count}
 use Rattle.lsys_reads.specs.Relations.{Relations}
-use Rattle.lsys_forest.specs.Groves.{In, changes_in}
+use Rattle.lsys_forest.specs.Groves.{In}
 use Rattle.lsys_kept.specs.Meant.{meant}
 use Rattle.lsys_next.specs.Nexts.{AreLevels}
 use Rattle.lsys_next.specs.Answers.{kept_successors}
@@ -11,7 +11,7 @@ use Rattle.lsys_next.proofs.Replaced.{replaced}
 use Rattle.lsys_seats.specs.declared.seat.Seat.{Seat}
 use Rattle.lsys_seats.proofs.LookLemmas.{in_same, in_back}
 use Rattle.lsys_candidates.specs.declared.changes.Changes.{Changes}
-use Rattle.lsys_candidates.specs.Repairs.{Repair, SteppingSpots, now, rest, root, were, are}
+use Rattle.lsys_candidates.specs.Repairs.{Repair, SteppingSpots, rest, root, were, are}
 use Rattle.lsys_candidates.specs.Found.{IsFound, SteppingNodes}
 use Rattle.lsys_candidates.proofs.Spots.{is_in, sound_old, sound_new}
 use Rattle.lsys_candidates.proofs.FoundNodes.{found_seated}

@@ -1,5 +1,5 @@
 -- What seats tell of a level and of the level below it.
-use Rattle.std.proofs.Common.{◌≡◌, ◌≢◌, ◌⊎◌, ◌+◌, ◌-◌, ℕ, zero, suc, List, [], ◌∷◌, slice_get, Option, Some, None, refl, sym, ap, ◌∙◌, subst, arith, inl, inr, add-one}
+use Rattle.std.proofs.Common.{◌≡◌, ◌≢◌, ◌⊎◌, ◌+◌, ℕ, List, [], ◌∷◌, slice_get, Option, Some, None, sym, ap, ◌∙◌, subst, arith, inl, inr, add-one}
 use Rattle.std.specs.Prelude.{option_map}
 use Rattle.std.specs.Option.{option_and_then}
 use Rattle.lsys_spec.specs.Levels as L
@@ -7,7 +7,7 @@ use Rattle.lsys_spec.specs.Standings.{mate_at}
 use Rattle.lsys_level.specs.Spots.{level_by}
 use Rattle.lsys_change.specs.Seams.{node_before}
 use Rattle.std.proofs.lemmas.Bool.{cases_eq}
-use Rattle.std.proofs.lemmas.Option.{none-some, same_Some}
+use Rattle.std.proofs.lemmas.Option.{same_Some}
 use Rattle.lsys_change.specs.Kinds.{BracketKind}
 use Rattle.lsys_change.specs.Seams as S
 use Rattle.lsys_forest.specs.Nodes.{Node, Nodes}
@@ -21,7 +21,7 @@ use Rattle.lsys_seats.specs.declared.seat.Seat.{Seat}
 use Rattle.lsys_seats.specs.Neighbours.{neighbours_in, neighbours_on, mate_on}
 use Rattle.lsys_seats.specs.Seats.{neighbours_at}
 use Rattle.lsys_seats.specs.Standings.{AreSeated}
-use Rattle.lsys_seats.specs.Looks.{kind_in, level_below}
+use Rattle.lsys_seats.specs.Looks.{level_below}
 use Rattle.lsys_seats.proofs.LookLemmas.{flat_same, in_same, in_back}
 use Rattle.lsys_seats.proofs.LevelLemmas.{place_in, got_in}
 use Rattle.lsys_mates.specs.Below.{kids_at, KeepsFamily, AreLookedBelow}
@@ -60,12 +60,12 @@ module _ {A : Type 0} where
     there = there;
     list = keeps.list;
     kinds = λ k i. (
-    let j : In k (kids_in (o q)) = in_same k (kids_in (o q)) i in
-    let c = child root changes o sound q k j in
-    let now : node_kind m k ≡ bracket_kind c.node.seen = kind_there m k (bracket_kind c.node.seen) (keeps.kinds k j c.node c.is) in
-    let was : node_kind o k ≡ bracket_kind c.node.seen = ap (λ x. bracket_kind (spot_in k x).seen) c.is in
-    kind_is m k ∙ now ∙ sym was ∙ sym (kind_is o k)
-    );
+        let j : In k (kids_in (o q)) = in_same k (kids_in (o q)) i in
+        let c = child root changes o sound q k j in
+        let now : node_kind m k ≡ bracket_kind c.node.seen = kind_there m k (bracket_kind c.node.seen) (keeps.kinds k j c.node c.is) in
+        let was : node_kind o k ≡ bracket_kind c.node.seen = ap (λ x. bracket_kind (spot_in k x).seen) c.is in
+        kind_is m k ∙ now ∙ sym was ∙ sym (kind_is o k)
+        );
   }
 
   -- 3. seats
@@ -137,6 +137,6 @@ module _ {A : Type 0} where
     seated = subst (λ r. AreSeated o (level_nodes o r t) seats) (sym e.root) a.seated;
     there = λ k i away. subst (λ r. S.In k (level_nodes o r t)) (sym e.root) (a.there k (subst (S.In k) e.nodes i) away);
     same = λ k i away. (
-    let j = subst (S.In k) e.nodes i in same_neighbours f h t a.sound sh e k (in_same k (level_nodes (now_of f) f.root t) j) ∙ a.same k j away
-    );
+        let j = subst (S.In k) e.nodes i in same_neighbours f h t a.sound sh e k (in_same k (level_nodes (now_of f) f.root t) j) ∙ a.same k j away
+        );
   }
