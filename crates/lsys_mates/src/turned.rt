@@ -34,7 +34,8 @@ pub fn law_of_seats_below<A>()
         → slice_get (level_nodes (now_of f) f.root t) i ≡ Some q
         → seams.In q turned ⊎ (neighbours_on (now_of f) (level_nodes (now_of f) f.root t) i
         ≡ neighbours_on o (level_nodes o f.root t) p) }
-    ensures looked { (o : Nodes A) (f : Grove A) (t : ℕ) (touched turned looked : List ℕ) (seats : List Seat)
+    ensures looked { (o : Nodes A) (f : Grove A) (t : ℕ)
+        (touched turned looked : List ℕ) (seats : List Seat)
         → AreLookedBelow o f t touched turned looked
         → IsSound f.root (changes_in f) (now_of f)
         → AreSeated o (level_nodes o f.root (t + 1)) seats
