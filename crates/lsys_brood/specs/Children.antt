@@ -1,5 +1,5 @@
 -- The children of one parent, before they are renewed and after it.
-use Rattle.std.specs.Prelude.{◌≡◌, ◌≢◌, ◌⊎◌, ◌+◌, ◌≤◌, ℕ, List, [], ◌∷◌, ◌++◌, length, map, Option, Some, None, IsSome, option_map}
+use Rattle.std.specs.Prelude.{◌≡◌, ◌≢◌, ◌⊎◌, ◌+◌, ◌≤◌, ◌^◌, ℕ, List, [], ◌∷◌, ◌++◌, length, map, Option, Some, None, IsSome, option_map}
 use Rattle.lsys_module.specs.declared.symbol.Symbol.TheVariants.{Cut}
 use Rattle.lsys_level.specs.Spots.{Seen, Push, Pop, Module}
 use Rattle.lsys_level.specs.Places.{seen_in, params_in}
@@ -52,6 +52,13 @@ need_of ws old os = record {
   notes = notes_for os + 1;
   told = length ws + old + 1;
 }
+
+-- what the step for one parent with at most 4,096 children takes at most, beside what is told
+pub record IsFew (need : Need) : Type 0 where
+  pub nodes : need.nodes ≤ 2 ^ 12
+  pub params : need.params ≤ 2 ^ 16
+  pub kids : need.kids ≤ 2 ^ 16
+  pub notes : need.notes ≤ 2 ^ 14
 
 -- 2. symbols of nodes
 

@@ -2,11 +2,11 @@
 ghost use Rattle.std.specs.Prelude.{◌≡◌, ◌≢◌, ◌++◌, ◌∷◌, ◌+◌, ◌≤◌, ◌^◌, ℕ, [], OnOk, OnErr, IfOk, map, cond, length, Some, None, is_some};
 ghost use Rattle.std.specs.HashMap.{get};
 ghost use Rattle.lsys_forest.specs.Nodes.{Node};
-ghost use Rattle.lsys_forest.specs.Groves.{Grove, In, now_of, rest_of, changes_in, IsLive, IsSound, Spends};
+ghost use Rattle.lsys_forest.specs.Groves.{Grove, In, now_of, rest_of, changes_in, kept_in, IsLive, IsSound, Spends};
 ghost use Rattle.lsys_forest.specs.Rows.{kids_in};
 ghost use Rattle.lsys_brood.specs.declared.number.Number.{Number};
 ghost use Rattle.lsys_brood.specs.Matches.{same_number, has_number, AreApart, number_of, node_numbered, nodes_where, match_of};
-ghost use Rattle.lsys_brood.specs.Children.{numbers_of, AreWhole, need_at, HasRoomFor, SpendsNeed, AreRenewed, TellsOf};
+ghost use Rattle.lsys_brood.specs.Children.{numbers_of, AreWhole, IsFew, need_at, HasRoomFor, SpendsNeed, AreRenewed, TellsOf};
 
 use crate::changes::Changes;
 use crate::child::Child;
@@ -93,6 +93,7 @@ impl Brood {
             → self.new ≡ match_of (now_of forest.now) n.kids (numbers_of wanted.now)) }
         ensures need { IfOk result (λ need. (n : Node A) → now_of forest.now parent ≡ Some n
             → need ≡ need_at (now_of forest.now) n.kids wanted.now) }
+        ensures few { IfOk result (λ need. IsFew need) }
     {
         self.find(forest, parent, wanted)?;
         Ok(need_of(wanted, forest.children(parent).len(), &self.found))
@@ -124,6 +125,8 @@ impl Brood {
             (kids_in (now_of forest.new parent)) changes.old changes.new) }
         ensures rest { rest_of forest.new ≡ rest_of forest.old }
         ensures root { forest.new.root ≡ forest.old.root }
+        ensures sound { OnOk result (IsSound forest.old.root (changes_in forest.old) (now_of forest.old)) }
+        ensures kept { kept_in forest.new ≡ kept_in forest.old }
         ensures spends { OnOk result ((n : Node A) → now_of forest.old parent ≡ Some n
             → SpendsNeed forest.old forest.new (need_at (now_of forest.old) n.kids wanted.now)) }
         ensures refused { OnErr result ((forest.new ≡ forest.old) × (changes.new ≡ changes.old)) }

@@ -129,7 +129,7 @@ impl Changes {
     }
 
     /// Tells that nodes are children no more. It takes no memory.
-    pub(crate) fn tell_gone(&mut self, nodes: &[NodeId])
+    pub fn tell_gone(&mut self, nodes: &[NodeId])
         requires { length nodes.now ≤ self.old.room }
         ensures told { self.new ≡ record self.old { gone = self.old.gone ++ nodes.now; room = self.new.room } }
         ensures room { self.old.room ≤ self.new.room + length nodes.now }

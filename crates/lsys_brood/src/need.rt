@@ -2,7 +2,7 @@
 ghost use Rattle.std.specs.Prelude.{◌≡◌, ◌*◌, ◌≤◌, ◌^◌, ◌∷◌, [], length};
 ghost use Rattle.lsys_level.specs.Places.{params_in};
 ghost use Rattle.lsys_region.specs.Rooms.{list_room};
-ghost use Rattle.lsys_brood.specs.Children.{births, notes_for, params_for, need_of};
+ghost use Rattle.lsys_brood.specs.Children.{births, notes_for, params_for, need_of, IsFew};
 
 use crate::child::Child;
 use lsys_forest::NodeId;
@@ -27,7 +27,8 @@ pub(crate) fn need_of(wanted: &[Child], old: usize, found: &[Option<NodeId>]) ->
     requires few { length wanted.now ≤ 4096 }
     requires old { old ≤ 2 ^ 62 }
     requires found { length found.now ≡ length wanted.now }
-    ensures { result ≡ need_of wanted.now old found.now }
+    ensures need { result ≡ need_of wanted.now old found.now }
+    ensures few { IsFew result }
 {
     Need {
         nodes: births(found),
@@ -89,7 +90,8 @@ fn notes_for_one(old: Option<NodeId>) -> usize
 /// The room that the parameters of the children take.
 fn params_for(wanted: &[Child]) -> usize
     requires { length wanted.now ≤ 4096 }
-    ensures { result ≡ params_for wanted.now }
+    ensures cells { result ≡ params_for wanted.now }
+    ensures few { result ≤ 16 * length wanted.now }
 {
     let mut cells = 0;
     for child in wanted {

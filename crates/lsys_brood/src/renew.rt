@@ -5,7 +5,7 @@ ghost use Rattle.lsys_level.specs.Places.{seen_in, params_in};
 ghost use Rattle.lsys_level.specs.Views.{seen_of};
 ghost use Rattle.lsys_region.specs.Rooms.{list_room};
 ghost use Rattle.lsys_forest.specs.Nodes.{Node, with_seen, with_key, with_kids};
-ghost use Rattle.lsys_forest.specs.Groves.{now_of, rest_of, changes_in, IsLive, IsSound, spare_params, spare_kids, AreKids, Sets, Spends};
+ghost use Rattle.lsys_forest.specs.Groves.{now_of, rest_of, changes_in, IsLive, IsSound, spare_params, spare_kids, kept_in, AreKids, Sets, Spends};
 ghost use Rattle.lsys_forest.specs.Rows.{kids_in};
 ghost use Rattle.lsys_brood.specs.Matches.{AreApart};
 ghost use Rattle.lsys_brood.specs.Children.{bracket_kind, numbers_of, AreWhole, need_at, HasRoomFor, SpendsNeed, AreRenewed, TellsOf};
@@ -40,6 +40,7 @@ fn bear<A: Kept>(
 ) -> NodeId
     requires { CanPlace forest.old parent child.now None changes.old }
     ensures placed { IsPlaced forest.old forest.new parent child.now None result }
+    ensures kept { kept_in forest.new ≡ kept_in forest.old }
     ensures told { TellsNodes (now_of forest.old) (now_of forest.new) (result ∷ []) changes.old changes.new }
 {
     let node = forest.add(
@@ -69,6 +70,7 @@ fn renew_symbol<A: Kept>(
     ensures set { (n : Node A) → now_of forest.old node ≡ Some n
         → Sets forest.old forest.new node (with_seen (seen_in symbol.now) n) }
     ensures spends { Spends forest.old forest.new 0 (list_room (params_in symbol.now)) 0 1 }
+    ensures kept { kept_in forest.new ≡ kept_in forest.old }
     ensures told { TellsNodes (now_of forest.old) (now_of forest.new) (node ∷ []) changes.old changes.new }
 {
     if !forest.has_symbol(node, symbol) {
@@ -85,6 +87,7 @@ fn renew_key<A: Kept>(forest: &mut Forest<A>, node: NodeId, key: u64)
     ensures set { (n : Node A) → now_of forest.old node ≡ Some n
         → Sets forest.old forest.new node (with_key key n) }
     ensures spends { Spends forest.old forest.new 0 0 0 1 }
+    ensures kept { kept_in forest.new ≡ kept_in forest.old }
 {
     if forest.key_of(node) != key {
         forest.set_key(node, key);
@@ -102,6 +105,7 @@ fn renew<A: Kept>(
 ) -> bool
     requires { CanPlace forest.old parent child.now (Some node) changes.old }
     ensures placed { IsPlaced forest.old forest.new parent child.now (Some node) node }
+    ensures kept { kept_in forest.new ≡ kept_in forest.old }
     ensures told { TellsNodes (now_of forest.old) (now_of forest.new) (node ∷ []) changes.old changes.new }
     ensures kind { KindsTell (now_of forest.old) (now_of forest.new) (node ∷ []) result }
 {
@@ -123,6 +127,7 @@ fn place<A: Kept>(
 ) -> NodeId
     requires { CanPlace forest.old parent child.now found changes.old }
     ensures placed { IsPlaced forest.old forest.new parent child.now found result }
+    ensures kept { kept_in forest.new ≡ kept_in forest.old }
     ensures told { TellsNodes (now_of forest.old) (now_of forest.new) (result ∷ []) changes.old changes.new }
     ensures kinds { (kind : Bool) × (keep_kinds.new ≡ (keep_kinds.old && kind))
         × KindsTell (now_of forest.old) (now_of forest.new) (result ∷ []) kind }
@@ -149,7 +154,8 @@ fn place_all<A: Kept>(
     requires room { CanPlaceAll forest.old parent wanted.now found.now changes.old }
     requires empty { nodes.old.items ≡ [] }
     requires places { length wanted.now ≤ vec_capacity nodes.old }
-    ensures { ArePlaced forest.old forest.new parent wanted.now found.now nodes.new.items changes.old changes.new result }
+    ensures placed { ArePlaced forest.old forest.new parent wanted.now found.now nodes.new.items changes.old changes.new result }
+    ensures kept { kept_in forest.new ≡ kept_in forest.old }
 {
     let mut keep_kinds = true;
     for at in 0..wanted.len() {
@@ -175,6 +181,7 @@ fn set_list<A: Kept>(forest: &mut Forest<A>, node: NodeId, kids: &[NodeId]) -> b
     ensures set { (n : Node A) → now_of forest.old node ≡ Some n
         → Sets forest.old forest.new node (with_kids kids.now n) }
     ensures spends { Spends forest.old forest.new 0 0 (list_room kids.now) 1 }
+    ensures kept { kept_in forest.new ≡ kept_in forest.old }
     ensures had { (n : Node A) → now_of forest.old node ≡ Some n
         → (IsTrue result → n.kids ≢ kids.now) × (result ≡ false → n.kids ≡ kids.now) }
 {
@@ -213,6 +220,7 @@ pub(crate) fn renew_all<A: Kept>(
         (kids_in (now_of forest.new parent)) changes.old changes.new }
     ensures rest { rest_of forest.new ≡ rest_of forest.old }
     ensures root { forest.new.root ≡ forest.old.root }
+    ensures kept { kept_in forest.new ≡ kept_in forest.old }
     ensures spends { (n : Node A) → now_of forest.old parent ≡ Some n
         → SpendsNeed forest.old forest.new (need_at (now_of forest.old) n.kids wanted.now) }
 {

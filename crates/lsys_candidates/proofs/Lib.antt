@@ -8,3 +8,4 @@ pub mod Adding
 pub mod Merging
 pub mod FoundNodes
 pub mod Readers
+pub mod Alike

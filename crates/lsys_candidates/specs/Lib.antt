@@ -4,3 +4,4 @@ pub mod Finds
 pub mod Found
 pub mod Asks
 pub mod Merges
+pub mod Others

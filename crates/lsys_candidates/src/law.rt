@@ -1,5 +1,9 @@
 //! The law of candidates.
-ghost use Rattle.std.specs.Prelude.{◌≡◌, ◌↔◌, ◌⊎◌, ℕ, Some, List, slice_get};
+ghost use Rattle.std.specs.Prelude.{◌≡◌, ◌↔◌, ◌⊎◌, ◌<◌, ◌^◌, ℕ, Some, List, length, slice_get};
+ghost use Rattle.lsys_spec.specs.Systems.{System};
+ghost use Rattle.lsys_spec.specs.Levels.{ModuleValue};
+ghost use Rattle.lsys_change.specs.Groups.{has_same_rules};
+ghost use Rattle.lsys_candidates.specs.Others.{are_alike};
 ghost use Rattle.lsys_reads.specs.Relations.{Relations};
 ghost use Rattle.lsys_forest.specs.Groves.{In};
 ghost use Rattle.lsys_seats.specs.declared.seat.Seat.{Seat};
@@ -49,4 +53,14 @@ pub fn law_of_readers()
     ensures { (r : Repair) → AreAnswersRight r
         → (reader seen : ℕ) → HasRead (rest r) r.store reader seen → In seen (were r)
         → In reader (were r) }
+{}
+
+/// Whether a module has other rules is told by its name and the number of its parameters: no lineage has one key under two
+/// seeds. So what [`add_others`] adds of a level are exactly the modules with other rules.
+///
+/// [`add_others`]: crate::add_others
+pub fn law_of_other_rules()
+    ensures alike { (old new : System) (t : ℕ) (l : List ℕ) (m : ModuleValue)
+        → old.seed < 2 ^ 64 → new.seed < 2 ^ 64
+        → has_same_rules old new t l m ≡ are_alike old new t m.name (length m.params) }
 {}

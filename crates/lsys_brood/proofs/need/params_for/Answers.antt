@@ -19,5 +19,5 @@ loop-child-preserved c =
       few = omega (arith, c.loop-child.invariant.few, c.room_for-cells.ensures.few);
     }
 
-pub returns : goal.returns
-returns c = omega (arith, c.loop-child.invariant.count, ap params_for (take_whole c.args.wanted.now c.loop-child.child-index c.loop-child-test.false))
+pub returns-clause-cells : goal.returns-clause-cells
+returns-clause-cells c = omega (arith, c.loop-child.invariant.count, ap params_for (take_whole c.args.wanted.now c.loop-child.child-index c.loop-child-test.false))

@@ -1,4 +1,4 @@
-use Rattle.std.proofs.Common.{◌≡◌, ◌<◌, ◌+◌, Bool, List, ℕ, [], ◌∷◌, ◌++◌, length, take, slice_get, Option, Some, refl, sym, subst, arith}
+use Rattle.std.proofs.Common.{◌≡◌, ◌<◌, ◌+◌, Bool, List, ℕ, [], ◌∷◌, ◌++◌, length, take, slice_get, Option, Some, refl, sym, ◌∙◌, subst, arith}
 use Rattle.std.proofs.lemmas.Option.{slice_get_read}
 use Rattle.lsys_brood.specs.declared.child.Child.{Child}
 use Rattle.lsys_brood.specs.Steps.{ArePlaced}
@@ -10,6 +10,7 @@ pub loop-at-init : goal.loop-at-init
 loop-at-init g c = record {
   placed = placed_start c.args.forest.now c.args.parent c.args.wanted.now c.args.found.now c.args.nodes.now.items c.args.changes.now c.requires.empty;
   places = c.requires.places;
+  kept = refl;
 }
 
 pub place-node-requires : goal.place-node-requires
@@ -56,10 +57,11 @@ loop-at-preserved g c =
           (subst (λ (b : Bool). ArePlaced f new parent (take (i + 1) ws) (take (i + 1) os) (ks ++ k ∷ []) t after b) (sym e.kinds.1)
           (all_next f c.loop-at.forest new parent ws os ks t c.loop-at.changes after c.loop-at.keep_kinds e.kinds.0 i w o k c.requires.room c.loop-at.invariant.placed here there e.other e.placed e.told e.kinds.2));
       places = omega (arith, c.loop-at.invariant.places, c.push.ensures.capacity);
+      kept = e.kept ∙ c.loop-at.invariant.kept;
     }
 
-pub returns : goal.returns
-returns g c =
+pub returns-clause-placed : goal.returns-clause-placed
+returns-clause-placed g c =
     let f = c.args.forest.now in
     let now = c.loop-at.forest in
     let parent = c.args.parent in

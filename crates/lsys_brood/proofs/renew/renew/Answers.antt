@@ -49,3 +49,6 @@ returns-clause-kind g c =
     let there = set_is f h k seen (c.renew_symbol.ensures.set n.0 n.1) in
     let last = set_is h c.renew_key.new.forest k (with_key w.key seen) (c.renew_key.ensures.set seen there) in
     kind_tells (now_of f) (now_of c.renew_key.new.forest) k n.0 (seen_in w.symbol) c.has_kind-keeps_kind.result n.1 (ap (option_map (λ (x : Node g.row.A.Denot). x.seen)) last) (c.has_kind-keeps_kind.ensures n.0 n.1)
+
+pub returns-clause-kept : goal.returns-clause-kept
+returns-clause-kept g c = c.renew_key.ensures.kept ∙ c.renew_symbol.ensures.kept

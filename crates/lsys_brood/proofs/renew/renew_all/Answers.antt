@@ -1,4 +1,4 @@
-use Rattle.std.proofs.Common.{List, ℕ, length, sym, ap, subst, arith}
+use Rattle.std.proofs.Common.{List, ℕ, length, sym, ap, ◌∙◌, subst, arith}
 use Rattle.lsys_region.specs.Rooms.{room_of}
 use Rattle.lsys_forest.specs.Groves.{now_of}
 use Rattle.lsys_brood.specs.Children.{numbers_of, notes_for, AreRenewed, TellsOf}
@@ -24,7 +24,7 @@ set_list-had_others-requires-clause-kids g c =
     let t' = c.place_all-keep_kinds.new.changes in
     let ks = c.deref.result.now in
     let p = some_of (now_of f parent) c.requires.lives in
-    let placed = subst (λ (l : List ℕ). ArePlaced f now parent ws os l t t' a) (sym c.deref.ensures.value) c.place_all-keep_kinds.ensures in
+    let placed = subst (λ (l : List ℕ). ArePlaced f now parent ws os l t t' a) (sym c.deref.ensures.value) c.place_all-keep_kinds.ensures.placed in
     placed_kids f now parent ws os ks gone t t' a c.requires.sound c.requires.lives c.requires.matched placed
 
 pub set_list-had_others-requires-clause-notes : goal.set_list-had_others-requires-clause-notes
@@ -32,7 +32,7 @@ set_list-had_others-requires-clause-notes g c =
     let p = some_of (now_of c.args.forest.now c.args.parent) c.requires.lives in
     let room = c.requires.room p.0 p.1 in
     let is = (c.requires.matched p.0 p.1).found in
-    omega (arith, room.notes, c.place_all-keep_kinds.ensures.spends.notes_left, ap notes_for is)
+    omega (arith, room.notes, c.place_all-keep_kinds.ensures.placed.spends.notes_left, ap notes_for is)
 
 pub set_list-had_others-requires-clause-room : goal.set_list-had_others-requires-clause-room
 set_list-had_others-requires-clause-room g c =
@@ -47,7 +47,7 @@ set_list-had_others-requires-clause-room g c =
     let t' = c.place_all-keep_kinds.new.changes in
     let ks = c.deref.result.now in
     let p = some_of (now_of f parent) c.requires.lives in
-    let placed = subst (λ (l : List ℕ). ArePlaced f now parent ws os l t t' a) (sym c.deref.ensures.value) c.place_all-keep_kinds.ensures in
+    let placed = subst (λ (l : List ℕ). ArePlaced f now parent ws os l t t' a) (sym c.deref.ensures.value) c.place_all-keep_kinds.ensures.placed in
     omega (arith, (c.requires.room p.0 p.1).kids, placed.spends.kids_left, ap room_of placed.long)
 
 pub tell_family-requires : goal.tell_family-requires
@@ -63,7 +63,7 @@ tell_family-requires g c =
     let t' = c.place_all-keep_kinds.new.changes in
     let ks = c.deref.result.now in
     let p = some_of (now_of f parent) c.requires.lives in
-    let placed = subst (λ (l : List ℕ). ArePlaced f now parent ws os l t t' a) (sym c.deref.ensures.value) c.place_all-keep_kinds.ensures in
+    let placed = subst (λ (l : List ℕ). ArePlaced f now parent ws os l t t' a) (sym c.deref.ensures.value) c.place_all-keep_kinds.ensures.placed in
     omega (arith, (c.requires.room p.0 p.1).told, placed.told.room, placed.long)
 
 pub tell_gone-requires : goal.tell_gone-requires
@@ -79,7 +79,7 @@ tell_gone-requires g c =
     let t' = c.place_all-keep_kinds.new.changes in
     let ks = c.deref.result.now in
     let p = some_of (now_of f parent) c.requires.lives in
-    let placed = subst (λ (l : List ℕ). ArePlaced f now parent ws os l t t' a) (sym c.deref.ensures.value) c.place_all-keep_kinds.ensures in
+    let placed = subst (λ (l : List ℕ). ArePlaced f now parent ws os l t t' a) (sym c.deref.ensures.value) c.place_all-keep_kinds.ensures.placed in
     omega (arith, (c.requires.room p.0 p.1).told, placed.told.room, placed.long, c.tell_family.ensures.room, ap length (c.requires.matched p.0 p.1).left, without_short (now_of f) (numbers_of ws) p.0.kids)
 
 pub returns-clause-children : goal.returns-clause-children
@@ -95,7 +95,7 @@ returns-clause-children g c = λ n is.
     let t' = c.place_all-keep_kinds.new.changes in
     let ks = c.deref.result.now in
     let p = some_of (now_of f parent) c.requires.lives in
-    let placed = subst (λ (l : List ℕ). ArePlaced f now parent ws os l t t' a) (sym c.deref.ensures.value) c.place_all-keep_kinds.ensures in
+    let placed = subst (λ (l : List ℕ). ArePlaced f now parent ws os l t t' a) (sym c.deref.ensures.value) c.place_all-keep_kinds.ensures.placed in
     let new = c.set_list-had_others.new.forest in
     let had = c.set_list-had_others.result in
     let set = c.set_list-had_others.ensures in
@@ -131,7 +131,7 @@ returns-clause-told g c = λ n is.
     let t' = c.place_all-keep_kinds.new.changes in
     let ks = c.deref.result.now in
     let p = some_of (now_of f parent) c.requires.lives in
-    let placed = subst (λ (l : List ℕ). ArePlaced f now parent ws os l t t' a) (sym c.deref.ensures.value) c.place_all-keep_kinds.ensures in
+    let placed = subst (λ (l : List ℕ). ArePlaced f now parent ws os l t t' a) (sym c.deref.ensures.value) c.place_all-keep_kinds.ensures.placed in
     let new = c.set_list-had_others.new.forest in
     let had = c.set_list-had_others.result in
     let set = c.set_list-had_others.ensures in
@@ -167,7 +167,7 @@ returns-clause-spends g c = λ n is.
     let t' = c.place_all-keep_kinds.new.changes in
     let ks = c.deref.result.now in
     let p = some_of (now_of f parent) c.requires.lives in
-    let placed = subst (λ (l : List ℕ). ArePlaced f now parent ws os l t t' a) (sym c.deref.ensures.value) c.place_all-keep_kinds.ensures in
+    let placed = subst (λ (l : List ℕ). ArePlaced f now parent ws os l t t' a) (sym c.deref.ensures.value) c.place_all-keep_kinds.ensures.placed in
     let new = c.set_list-had_others.new.forest in
     let had = c.set_list-had_others.result in
     let set = c.set_list-had_others.ensures in
@@ -189,3 +189,6 @@ returns-clause-spends g c = λ n is.
       last_room = c.tell_gone.ensures.room;
     } in
     spends_all f now new parent ws os ks gone t t' t'' after had a c.requires.sound n is (c.requires.matched n is) placed ends
+
+pub returns-clause-kept : goal.returns-clause-kept
+returns-clause-kept g c = c.set_list-had_others.ensures.kept ∙ c.place_all-keep_kinds.ensures.kept

@@ -20,3 +20,6 @@ pub returns-clause-had : goal.returns-clause-had
 returns-clause-had g c = λ n is.
     let tells = slice_eq-Decides Decides-eqb c.children.result.now c.args.kids.now c.eq.result c.eq.ensures in
     (λ t e. absurd (grind (arith, c.if-eq.false, tells.1 (c.children.ensures.kids n is ∙ e))), λ f. absurd (grind (arith, f)))
+
+pub returns-clause-kept : goal.returns-clause-kept
+returns-clause-kept g c = c.set_children.ensures.kept

@@ -22,4 +22,4 @@ returns-clause-need g c = λ n is.
     let m = now_of c.args.forest.now in
     let ws = c.args.wanted.now in
     let found : c.deref.result.now ≡ map (node_numbered m n.kids) (numbers_of ws) = c.deref.ensures.value ∙ ap (λ (x : Matched). x.found) (c.self.view_is ∙ c.in_ok-find.ensures.matched n is) in
-    c.need_of.ensures ∙ ap (λ (l : List ℕ). need_of ws (length l) c.deref.result.now) (c.children.ensures.kids n is) ∙ ap (λ (os : List (Option ℕ)). need_of ws (length n.kids) os) found
+    c.need_of.ensures.need ∙ ap (λ (l : List ℕ). need_of ws (length l) c.deref.result.now) (c.children.ensures.kids n is) ∙ ap (λ (os : List (Option ℕ)). need_of ws (length n.kids) os) found

@@ -1,0 +1,40 @@
+-- Whether a level has other rules for the modules of a name than the old system has there.
+use Rattle.std.specs.Prelude.{◌≡◌, ◌==◌, ◌&&◌, ◌||◌, not, ℕ, Bool, false, List, length, map}
+use Rattle.lsys_syntax.specs.Strings.{ModuleName}
+use Rattle.lsys_spec.specs.Systems.{System}
+use Rattle.lsys_spec.specs.Bodies.{Body, body_of, group, filter}
+use Rattle.lsys_spec.specs.Levels.{ModuleValue}
+use Rattle.lsys_spec.specs.Meaning.{any_weight}
+use Rattle.lsys_spec.specs.Equalities.{same_all, same_body}
+use Rattle.lsys_spec.specs.Standings.{free, same_filter}
+use Rattle.lsys_level.specs.Spots.{Module}
+use Rattle.lsys_bodies.specs.declared.rule.Rule.{Rule}
+use Rattle.lsys_bodies.specs.Views.{rule_of}
+use Rattle.lsys_forest.specs.Nodes.{Nodes}
+use Rattle.lsys_seats.specs.Standings.{seen_at}
+
+-- The modules of this name and so many parameters have the same bodies on level t; the seed is the same, if one has a weight; and
+-- contexts pass over the same modules, if one has a context. No lineage is looked at.
+abbrev pub are_alike : System → System → ℕ → ModuleName → ℕ → Bool
+are_alike old new t n arity =
+    let was = group old t n arity in
+    let are = group new t n arity in
+    same_all same_body was are
+    && ((not (any_weight are) || (old.seed == new.seed))
+    && (free are || same_filter (filter old t) (filter new t)))
+
+-- the rules of a level, by an old system and by a new one
+pub record RulesOf : Type 0 where
+  pub old : System
+  pub new : System
+  pub level : ℕ
+
+-- what the bodies of rules mean
+abbrev pub bodies_of : List Rule → List Body
+bodies_of rs = map (λ r. body_of (rule_of r)) rs
+
+-- a node is a module whose rules on the level are others
+pub record IsOtherwise {A : Type 0} (r : RulesOf) (m : Nodes A) (k : ℕ) : Type 0 where
+  pub own : ModuleValue
+  pub is : seen_at m k ≡ Module own
+  pub rules : are_alike r.old r.new r.level own.name (length own.params) ≡ false

@@ -1,0 +1,4 @@
+pub mod Parents
+pub mod Needs
+pub mod Made
+pub mod Levels

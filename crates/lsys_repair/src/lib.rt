@@ -1,0 +1,17 @@
+//! The children of the nodes of a level of a forest that is repaired: what is wanted of each parent, what the steps for all of
+//! them take, and the steps themselves.
+#![tactic(auto)]
+
+mod count;
+mod first;
+mod law;
+mod make;
+mod opens;
+mod parent;
+
+pub use count::{Count, count_children};
+pub use first::{count_first, make_first};
+pub use law::{law_of_made_levels, law_of_parents};
+pub use make::make_children;
+pub use opens::is_open;
+pub use parent::Parent;

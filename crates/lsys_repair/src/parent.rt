@@ -1,0 +1,88 @@
+//! Parents, and what is wanted of them.
+ghost use Rattle.std.specs.Prelude.{◌≡◌, ◌≤◌, ◌∷◌, [], length, OnOk};
+ghost use Rattle.lsys_spec.specs.Draws.{number_base};
+ghost use Rattle.lsys_forest.specs.Groves.{now_of, IsLive};
+ghost use Rattle.lsys_forest.specs.Rows.{spot_in};
+ghost use Rattle.lsys_reading.specs.Commands.{numbering_of};
+ghost use Rattle.lsys_wanted.specs.Wishes.{AreWanted, itself};
+ghost use Rattle.lsys_next.specs.Nexts.{node_key};
+ghost use Rattle.lsys_next.specs.Answers.{kept_successors};
+ghost use Rattle.lsys_repair.specs.Parents.{wants};
+
+use lsys_forest::{Forest, NodeId};
+use lsys_kept::KeptAnswer;
+use lsys_level::Sight;
+use lsys_reading::Numbering;
+use lsys_wanted::{Wanted, symbol_seen};
+use std::alloc::AllocError;
+use std::sync::ledger::Ledger;
+
+/// A node whose children are made, and whether a cut before it cuts them off.
+#[derive(Clone, Copy, Debug, Drop)]
+pub struct Parent {
+    pub node: NodeId,
+    pub is_cut: bool,
+}
+
+/// Finds the children that are wanted of a parent: what the answer that it keeps puts in its place, else the node itself, and
+/// nothing where they are cut off.
+///
+/// # Errors
+///
+/// Want of memory. What was found is of no use then.
+pub(crate) fn fill_for<L: Ledger>(
+    wanted: &mut Wanted,
+    forest: &Forest<KeptAnswer<L>>,
+    numbering: Numbering,
+    parent: Parent,
+) -> Result<(), AllocError>
+    requires lives { IsLive forest.now parent.node }
+    requires short { length (kept_successors (now_of forest.now) parent.node) ≤ number_base }
+    ensures wanted { OnOk result (AreWanted (numbering_of numbering) (node_key (now_of forest.now) parent.node)
+        (wants (now_of forest.now) parent) wanted.new.children) }
+{
+    if parent.is_cut {
+        return wanted.fill(numbering, forest.key_of(parent.node), &[]);
+    }
+    fill_whole(wanted, forest, numbering, parent.node)
+}
+
+/// The same where no cut cuts them off.
+fn fill_whole<L: Ledger>(
+    wanted: &mut Wanted,
+    forest: &Forest<KeptAnswer<L>>,
+    numbering: Numbering,
+    node: NodeId,
+) -> Result<(), AllocError>
+    requires lives { IsLive forest.now node }
+    requires short { length (kept_successors (now_of forest.now) node) ≤ number_base }
+    ensures wanted { OnOk result (AreWanted (numbering_of numbering) (node_key (now_of forest.now) node)
+        (kept_successors (now_of forest.now) node) wanted.new.children) }
+{
+    match forest.symbol(node) {
+        Sight::Push | Sight::Pop => fill_itself(wanted, forest, numbering, node),
+        Sight::Module { .. } => match forest.answer(node) {
+            Some(kept) => wanted.fill(
+                numbering,
+                forest.key_of(node),
+                kept.answer.successor().symbols(),
+            ),
+            None => fill_itself(wanted, forest, numbering, node),
+        },
+    }
+}
+
+/// The one child of a node that nothing replaces: itself.
+fn fill_itself<L: Ledger>(
+    wanted: &mut Wanted,
+    forest: &Forest<KeptAnswer<L>>,
+    numbering: Numbering,
+    node: NodeId,
+) -> Result<(), AllocError>
+    requires lives { IsLive forest.now node }
+    ensures wanted { OnOk result (AreWanted (numbering_of numbering) (node_key (now_of forest.now) node)
+        (itself (spot_in node (now_of forest.now node)).seen ∷ []) wanted.new.children) }
+{
+    let symbol = symbol_seen(forest.symbol(node));
+    wanted.fill_itself(numbering, forest.key_of(node), &symbol)
+}
