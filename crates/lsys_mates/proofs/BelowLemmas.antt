@@ -1,28 +1,27 @@
 -- Nodes below a level that were not looked at have the neighbours and the mates that they had.
-use Rattle.std.proofs.Common.{◌≡◌, ◌⊎◌, ℕ, zero, suc, ◌+◌, Bool, true, false, List, [], ◌∷◌, ◌++◌, append-nil, slice_get, Option, Some, None, refl, sym, ap, ◌∙◌, subst, arith, inl, inr}
+use Rattle.std.proofs.Common.{◌≡◌, ◌⊎◌, ℕ, true, List, [], ◌∷◌, ◌++◌, append-nil, slice_get, Some, refl, sym, ap, ◌∙◌, subst, arith, inl, inr}
 use Rattle.std.proofs.lemmas.Option.{same_Some}
-use Rattle.lsys_spec.specs.Levels.{Symbol}
 use Rattle.lsys_level.specs.Spots.{Seen, Push, Pop, Module, IsBracket, with_lineage}
 use Rattle.lsys_change.specs.Kinds.{BracketKind, Opens, Closes, Neither, kind_of}
 use Rattle.lsys_change.specs.Seams as S
 use Rattle.lsys_change.specs.Seams.{right_of, left_of, node_before, AreTurned}
-use Rattle.lsys_change.specs.Mates.{balancing, AgreeOn, AreBalanced, AreOwn, AreMatesAmong, Generation, next_nodes, AreMatesOn, IsGeneration}
+use Rattle.lsys_change.specs.Mates.{balancing, AgreeOn, AreBalanced, AreOwn, AreMatesAmong, Generation, AreMatesOn, IsGeneration}
 use Rattle.lsys_change.proofs.Joints as J
 use Rattle.lsys_change.proofs.Mirrors.{right_neighbour, left_neighbour}
 use Rattle.lsys_forest.specs.Nodes.{Nodes}
 use Rattle.lsys_forest.specs.Groves as G
 use Rattle.lsys_forest.specs.Groves.{Grove, In, now_of}
-use Rattle.lsys_forest.specs.Rows.{first_in, last_in, index_in, spot_in, kids_in, kids_below, level_nodes, level_with, level_of_node, place_of_node}
+use Rattle.lsys_forest.specs.Rows.{first_in, last_in, index_in, spot_in, kids_in, kids_below, level_nodes, level_with}
 use Rattle.lsys_forest.proofs.RowLemmas.{flat_append}
 use Rattle.lsys_seats.specs.Neighbours.{neighbours_on, neighbours_in, mate_on}
 use Rattle.lsys_seats.specs.Branches.{IsSameParent, AreLookedMates}
-use Rattle.lsys_seats.specs.Looks.{LooksAround, LooksBeyond, AreLooked, AreLookedSeats, kids_of, level_below, kind_in}
+use Rattle.lsys_seats.specs.Looks.{LooksAround, LooksBeyond, AreLooked, AreLookedSeats, level_below, kind_in}
 use Rattle.lsys_seats.proofs.LookLemmas.{in_same, in_back, apart_same}
 use Rattle.lsys_seats.proofs.LevelLemmas.{place_in, get_index, index_less, named_by_number}
 use Rattle.lsys_seats.proofs.BranchLemmas.{ended, opener_there, closer_there}
 use Rattle.lsys_seats.proofs.LookedLemmas.{opener_has, open_mate, close_mate, closer_has, seat_looked}
-use Rattle.lsys_mates.specs.Generations.{is_parent, parents, IsLeftLevel, left_generation}
-use Rattle.lsys_mates.specs.Below.{kids_at, AreLeftLevels, KeepsFamily, AreLookedBelow}
+use Rattle.lsys_mates.specs.Generations.{is_parent, left_generation}
+use Rattle.lsys_mates.specs.Below.{kids_at, KeepsFamily, AreLookedBelow}
 use Rattle.lsys_mates.proofs.LeftLemmas.{nodes_are, next_is, mates_are, opener_has_child, in_flat, is_generation}
 
 -- 1. rows

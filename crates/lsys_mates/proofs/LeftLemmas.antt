@@ -3,8 +3,8 @@ use Rattle.std.proofs.Common.{◌≡◌, inl, inr, ℕ, zero, suc, Bool, true, f
 use Rattle.std.specs.Prelude.{◌↔◌, ◌+◌}
 use Rattle.lsys_change.specs.Kinds.{BracketKind, Opens, Closes, Neither, stays, reached}
 use Rattle.lsys_change.specs.Seams.{In, AreApart, flat}
-use Rattle.lsys_change.specs.Mates.{closing, closer, balancing, AreBalanced, AreOwn, below, AreMatesAmong, Generation, next_nodes, AreMatesOn, IsGeneration}
-use Rattle.lsys_change.proofs.Joints.{in_front, in_back, in_middle, in_either}
+use Rattle.lsys_change.specs.Mates.{closing, closer, balancing, AreBalanced, AreOwn, below, AreMatesAmong, next_nodes, AreMatesOn, IsGeneration}
+use Rattle.lsys_change.proofs.Joints.{in_front, in_back}
 use Rattle.lsys_mates.specs.Generations.{IsLeft, AreLeft, is_parent, parents, IsLeftLevel, left_generation}
 
 -- 1. nodes that are left
@@ -143,11 +143,11 @@ one_closer kind (Some (suc n)) Closes c p ks ps rest a e w ih =
     let i : suc (a + n) ≡ a + suc n = omega arith in
     ap (λ ks. closer kind a (one_of (is_parent ks) p ++ rest)) w ∙ ih a ∙ ap (λ n. closing Closes n p (λ m. closer kind m ps)) i
 
-same_closer : (kind : ℕ → BracketKind) (own : ℕ → List ℕ) (cuts : ℕ → Bool) (o : Option ℕ) (ps : List ℕ) (a : ℕ) → AreLeft kind own cuts o ps
+same_closer : (kind : ℕ → BracketKind) (own : ℕ → List ℕ) (o : Option ℕ) (ps : List ℕ) (a : ℕ) → AreLeft kind own o ps
     → closer kind a (parents own ps) ≡ closer kind (a + dead o) ps
-same_closer kind own cuts o [] a l = refl
-same_closer kind own cuts o (p ∷ ps) a l =
-    one_closer kind o (kind p) (cuts p) p (own p) ps (parents own ps) a refl l.0 (λ b. same_closer kind own cuts (reached o (kind p) (cuts p)) ps b l.1)
+same_closer kind own o [] a l = refl
+same_closer kind own o (p ∷ ps) a l =
+    one_closer kind o (kind p) l.1 p (own p) ps (parents own ps) a refl l.0 (λ b. same_closer kind own (reached o (kind p) l.1) ps b l.2)
 
 one_balanced : (kind : ℕ → BracketKind) (o : Option ℕ) (k : BracketKind) (c : Bool) (p : ℕ) (ks ps rest : List ℕ) (a : ℕ) → kind p ≡ k → IsLeft kind (stays o k) k ks
     → ((b : ℕ) → AreBalanced kind (b + dead (reached o k c)) ps → AreBalanced kind b rest)
@@ -177,66 +177,66 @@ one_balanced kind (Some (suc n)) Closes c p ks ps rest a e w ih h =
     let i : a + suc n ≡ suc (a + n) = omega arith in
     subst (λ ks. AreBalanced kind a (one_of (is_parent ks) p ++ rest)) (sym w) (ih a (subst (λ n. balancing Closes n (λ m. AreBalanced kind m ps)) i h))
 
-same_balance : (kind : ℕ → BracketKind) (own : ℕ → List ℕ) (cuts : ℕ → Bool) (o : Option ℕ) (ps : List ℕ) (a : ℕ) → AreLeft kind own cuts o ps
+same_balance : (kind : ℕ → BracketKind) (own : ℕ → List ℕ) (o : Option ℕ) (ps : List ℕ) (a : ℕ) → AreLeft kind own o ps
     → AreBalanced kind (a + dead o) ps → AreBalanced kind a (parents own ps)
-same_balance kind own cuts o [] a l h = omega (arith, h)
-same_balance kind own cuts o (p ∷ ps) a l h =
-    one_balanced kind o (kind p) (cuts p) p (own p) ps (parents own ps) a refl l.0 (λ b. same_balance kind own cuts (reached o (kind p) (cuts p)) ps b l.1) h
+same_balance kind own o [] a l h = omega (arith, h)
+same_balance kind own o (p ∷ ps) a l h =
+    one_balanced kind o (kind p) l.1 p (own p) ps (parents own ps) a refl l.0 (λ b. same_balance kind own (reached o (kind p) l.1) ps b l.2) h
 
 -- 4. mates
 
-left_from : (kind : ℕ → BracketKind) (own : ℕ → List ℕ) (cuts : ℕ → Bool) (o : Option ℕ) (xs ys : List ℕ) → AreLeft kind own cuts o (xs ++ ys) → (s : Option ℕ) × AreLeft kind own cuts s ys
-left_from kind own cuts o [] ys l = (o, l)
-left_from kind own cuts o (x ∷ xs) ys l = left_from kind own cuts (reached o (kind x) (cuts x)) xs ys l.1
+left_from : (kind : ℕ → BracketKind) (own : ℕ → List ℕ) (o : Option ℕ) (xs ys : List ℕ) → AreLeft kind own o (xs ++ ys) → (s : Option ℕ) × AreLeft kind own s ys
+left_from kind own o [] ys l = (o, l)
+left_from kind own o (x ∷ xs) ys l = left_from kind own (reached o (kind x) l.1) xs ys l.2
 
 -- behind a bracket that begins a branch, and has a child, nothing is being cut off
-left_behind : (kind : ℕ → BracketKind) (own : ℕ → List ℕ) (cuts : ℕ → Bool) (q : ℕ) (after : List ℕ) (o : Option ℕ) (k : BracketKind) → k ≡ Opens → is_parent (own q) ≡ true
-    → IsLeft kind (stays o k) k (own q) → AreLeft kind own cuts (reached o k (cuts q)) after → AreLeft kind own cuts None after
-left_behind kind own cuts q after o Neither e p w l = cc
-left_behind kind own cuts q after o Closes e p w l = cc
-left_behind kind own cuts q after None Opens e p w l = l
-left_behind kind own cuts q after (Some n) Opens e p w l = let f : true ≡ false = sym p ∙ ap is_parent w in cc
+left_behind : (kind : ℕ → BracketKind) (own : ℕ → List ℕ) (c : Bool) (q : ℕ) (after : List ℕ) (o : Option ℕ) (k : BracketKind) → k ≡ Opens → is_parent (own q) ≡ true
+    → IsLeft kind (stays o k) k (own q) → AreLeft kind own (reached o k c) after → AreLeft kind own None after
+left_behind kind own c q after o Neither e p w l = cc
+left_behind kind own c q after o Closes e p w l = cc
+left_behind kind own c q after None Opens e p w l = l
+left_behind kind own c q after (Some n) Opens e p w l = let f : true ≡ false = sym p ∙ ap is_parent w in cc
 
 behind : (kind : ℕ → BracketKind) (own : ℕ → List ℕ) (xs before : List ℕ) (q : ℕ) (after : List ℕ) → IsLeftLevel kind own xs → xs ≡ before ++ q ∷ after → kind q ≡ Opens
     → is_parent (own q) ≡ true → closer kind 0 (parents own after) ≡ closer kind 0 after
 behind kind own xs before q after h whole opens p =
-    let s = left_from kind own h.cuts None before (q ∷ after) (subst (AreLeft kind own h.cuts None) whole h.left) in
-    let l : AreLeft kind own h.cuts None after = left_behind kind own h.cuts q after s.0 (kind q) opens p s.1.0 s.1.1 in
+    let s = left_from kind own None before (q ∷ after) (subst (AreLeft kind own None) whole h.left) in
+    let l : AreLeft kind own None after = left_behind kind own s.1.1 q after s.0 (kind q) opens p s.1.0 s.1.2 in
     let z : 0 + 0 ≡ 0 = omega arith in
-    same_closer kind own h.cuts None after 0 l ∙ ap (λ n. closer kind n after) z
+    same_closer kind own None after 0 l ∙ ap (λ n. closer kind n after) z
 
 -- in what is being cut off a bracket that ends a branch has no children
-ends_gone : (kind : ℕ → BracketKind) (own : ℕ → List ℕ) (cuts : ℕ → Bool) (ps : List ℕ) (a n r : ℕ) → AreLeft kind own cuts (Some (suc (a + n))) ps → closer kind a ps ≡ Some r → own r ≡ []
-ends_gone kind own cuts [] a n r l e = cc
-ends_gone kind own cuts (p ∷ ps) a n r l e = by (kind p) a l.0 l.1 e (λ a h e. ends_gone kind own cuts ps a n r h e)
+ends_gone : (kind : ℕ → BracketKind) (own : ℕ → List ℕ) (ps : List ℕ) (a n r : ℕ) → AreLeft kind own (Some (suc (a + n))) ps → closer kind a ps ≡ Some r → own r ≡ []
+ends_gone kind own [] a n r l e = cc
+ends_gone kind own (p ∷ ps) a n r l e = by (kind p) a l.0 l.2 e (λ a h e. ends_gone kind own ps a n r h e)
   where
-    by : (k : BracketKind) (a : ℕ) → IsLeft kind (stays (Some (suc (a + n))) k) k (own p) → AreLeft kind own cuts (reached (Some (suc (a + n))) k (cuts p)) ps → closing k a p (λ m. closer kind m ps) ≡ Some r
-        → ((a : ℕ) → AreLeft kind own cuts (Some (suc (a + n))) ps → closer kind a ps ≡ Some r → own r ≡ []) → own r ≡ []
+    by : (k : BracketKind) (a : ℕ) → IsLeft kind (stays (Some (suc (a + n))) k) k (own p) → AreLeft kind own (reached (Some (suc (a + n))) k l.1) ps → closing k a p (λ m. closer kind m ps) ≡ Some r
+        → ((a : ℕ) → AreLeft kind own (Some (suc (a + n))) ps → closer kind a ps ≡ Some r → own r ≡ []) → own r ≡ []
     by Neither a w l e ih = ih a l e
     by Opens a w l e ih =
         let i : suc (suc (a + n)) ≡ suc (suc a + n) = omega arith in
-        ih (suc a) (subst (λ n. AreLeft kind own cuts (Some n) ps) i l) e
+        ih (suc a) (subst (λ n. AreLeft kind own (Some n) ps) i l) e
     by Closes zero w l e ih = let f : p ≡ r = cc in ap own (sym f) ∙ w
     by Closes (suc a) w l e ih =
         let i : suc a + n ≡ suc (a + n) = omega arith in
-        ih a (subst (λ n. AreLeft kind own cuts (Some n) ps) i l) e
+        ih a (subst (λ n. AreLeft kind own (Some n) ps) i l) e
 
 -- a bracket has a child where its mate has one
-opener_left : (kind : ℕ → BracketKind) (own : ℕ → List ℕ) (cuts : ℕ → Bool) (q r : ℕ) (after : List ℕ) (o : Option ℕ) (k : BracketKind) → k ≡ Opens → closer kind 0 after ≡ Some r → is_parent (own r) ≡ true
-    → IsLeft kind (stays o k) k (own q) → AreLeft kind own cuts (reached o k (cuts q)) after → is_parent (own q) ≡ true
-opener_left kind own cuts q r after o Neither e c p w l = cc
-opener_left kind own cuts q r after o Closes e c p w l = cc
-opener_left kind own cuts q r after None Opens e c p w l = ap is_parent w.1
-opener_left kind own cuts q r after (Some n) Opens e c p w l =
+opener_left : (kind : ℕ → BracketKind) (own : ℕ → List ℕ) (c : Bool) (q r : ℕ) (after : List ℕ) (o : Option ℕ) (k : BracketKind) → k ≡ Opens → closer kind 0 after ≡ Some r → is_parent (own r) ≡ true
+    → IsLeft kind (stays o k) k (own q) → AreLeft kind own (reached o k c) after → is_parent (own q) ≡ true
+opener_left kind own c q r after o Neither e x p w l = cc
+opener_left kind own c q r after o Closes e x p w l = cc
+opener_left kind own c q r after None Opens e x p w l = ap is_parent w.1
+opener_left kind own c q r after (Some n) Opens e x p w l =
     let i : suc n ≡ suc (0 + n) = omega arith in
-    let gone : own r ≡ [] = ends_gone kind own cuts after 0 n r (subst (λ n. AreLeft kind own cuts (Some n) after) i l) c in
+    let gone : own r ≡ [] = ends_gone kind own after 0 n r (subst (λ n. AreLeft kind own (Some n) after) i l) x in
     let f : true ≡ false = sym p ∙ ap is_parent gone in
     cc
 
 pub opener_has_child : (kind : ℕ → BracketKind) (own : ℕ → List ℕ) (xs : List ℕ) → IsLeftLevel kind own xs → (q r : ℕ) → AreMatesAmong kind xs q r → is_parent (own r) ≡ true → is_parent (own q) ≡ true
 opener_has_child kind own xs h q r m p =
-    let s = left_from kind own h.cuts None m.before (q ∷ m.after) (subst (AreLeft kind own h.cuts None) m.whole h.left) in
-    opener_left kind own h.cuts q r m.after s.0 (kind q) m.opens m.closes p s.1.0 s.1.1
+    let s = left_from kind own None m.before (q ∷ m.after) (subst (AreLeft kind own None) m.whole h.left) in
+    opener_left kind own s.1.1 q r m.after s.0 (kind q) m.opens m.closes p s.1.0 s.1.2
 
 pub mates_are : (kind : ℕ → BracketKind) (own : ℕ → List ℕ) (xs : List ℕ) → IsLeftLevel kind own xs → (q r : ℕ)
     → AreMatesOn (left_generation kind own xs) q r ↔ (AreMatesAmong kind xs q r × (is_parent (own q) ≡ true))
@@ -262,10 +262,10 @@ mates_are kind own xs h q r = (to, from)
 
 -- 5. the generation
 
-left_at : (kind : ℕ → BracketKind) (own : ℕ → List ℕ) (cuts : ℕ → Bool) (o : Option ℕ) (xs : List ℕ) (p : ℕ) → AreLeft kind own cuts o xs → In p xs → (b : Bool) × IsLeft kind b (kind p) (own p)
-left_at kind own cuts o [] p l i = absurd i
-left_at kind own cuts o (x ∷ xs) p l (inl e) = subst (λ p. (b : Bool) × IsLeft kind b (kind p) (own p)) (sym e) (stays o (kind x), l.0)
-left_at kind own cuts o (x ∷ xs) p l (inr i) = left_at kind own cuts (reached o (kind x) (cuts x)) xs p l.1 i
+left_at : (kind : ℕ → BracketKind) (own : ℕ → List ℕ) (o : Option ℕ) (xs : List ℕ) (p : ℕ) → AreLeft kind own o xs → In p xs → (b : Bool) × IsLeft kind b (kind p) (own p)
+left_at kind own o [] p l i = absurd i
+left_at kind own o (x ∷ xs) p l (inl e) = subst (λ p. (b : Bool) × IsLeft kind b (kind p) (own p)) (sym e) (stays o (kind x), l.0)
+left_at kind own o (x ∷ xs) p l (inr i) = left_at kind own (reached o (kind x) l.1) xs p l.2 i
 
 own_left : (kind : ℕ → BracketKind) (b : Bool) (k : BracketKind) (ks : List ℕ) → is_parent ks ≡ true → IsLeft kind b k ks → AreOwn kind k ks
 own_left kind true k ks e w = w
@@ -294,8 +294,8 @@ one_parent own (x ∷ xs) h p q k (inr i) (inr j) ip iq = one_parent own xs (beh
 
 pub is_generation : (kind : ℕ → BracketKind) (own : ℕ → List ℕ) (xs : List ℕ) → IsLeftLevel kind own xs → IsGeneration (left_generation kind own xs)
 is_generation kind own xs h = record {
-  balanced = let z : 0 ≡ 0 + 0 = omega arith in same_balance kind own h.cuts None xs 0 h.left (subst (λ n. AreBalanced kind n xs) z h.balanced);
-  own_kinds = λ p i. let n = (nodes_are own xs p).0 i in let l = left_at kind own h.cuts None xs p h.left n.0 in own_left kind l.0 (kind p) (own p) n.1 l.1;
+  balanced = let z : 0 ≡ 0 + 0 = omega arith in same_balance kind own None xs 0 h.left (subst (λ n. AreBalanced kind n xs) z h.balanced);
+  own_kinds = λ p i. let n = (nodes_are own xs p).0 i in let l = left_at kind own None xs p h.left n.0 in own_left kind l.0 (kind p) (own p) n.1 l.1;
   apart = parents_apart own xs h.apart;
   next_apart = subst AreApart (sym (next_is kind own xs)) h.kids_apart;
   one_parent = λ p q k i j ip iq. one_parent own xs h.kids_apart p q k ((nodes_are own xs p).0 i).0 ((nodes_are own xs q).0 j).0 ip iq;

@@ -29,7 +29,8 @@ module _ {A : Type 0} where
 
   -- Of the nodes of level t of a forest these are new, or have other children, or children of other kinds; and those are new, or
   -- have another neighbour or another mate. By both it was looked.
-  pub record AreLookedBelow (o : Nodes A) (f : Grove A) (t : ℕ) (touched turned looked : List ℕ) : Type 0 where
+  pub record AreLookedBelow (o : Nodes A) (f : Grove A) (t : ℕ)
+      (touched turned looked : List ℕ) : Type 0 where
     pub were : AreLeftLevels o f.root t
     pub are : AreLeftLevels (now_of f) f.root t
     pub touched_level : (q : ℕ) → In q touched → level_of_node f q ≡ t

@@ -1,6 +1,6 @@
 -- What cuts left of the children of a level, and which of its nodes have any.
 use Rattle.std.specs.Prelude.{◌≡◌, ℕ, Bool, true, false, List, [], ◌∷◌, ◌++◌, Option, None, if◌then◌else◌}
-use Rattle.lsys_change.specs.Kinds.{BracketKind, Opens, Closes, Neither, stays, reached}
+use Rattle.lsys_change.specs.Kinds.{BracketKind, stays, reached}
 use Rattle.lsys_change.specs.Seams.{AreApart, flat}
 use Rattle.lsys_change.specs.Mates.{AreBalanced, AreOwn, Generation}
 
@@ -9,13 +9,13 @@ abbrev pub IsLeft : (ℕ → BracketKind) → Bool → BracketKind → List ℕ 
 IsLeft kind true k ks = AreOwn kind k ks
 IsLeft kind false k ks = ks ≡ []
 
--- Nodes with the children that cuts left them: of some nodes a cut reaches what stands behind them, and where a branch is being
--- cut off there are no children.
-abbrev pub AreLeft : (ℕ → BracketKind) → (ℕ → List ℕ) → (ℕ → Bool) → Option ℕ → List ℕ → Type 0
-AreLeft kind own cuts o [] = Unit {0}
-AreLeft kind own cuts o (p ∷ ps) =
+-- Nodes with the children that cuts left them: of some a cut reaches what stands behind them, and where a branch is being cut off
+-- there are no children.
+abbrev pub AreLeft : (ℕ → BracketKind) → (ℕ → List ℕ) → Option ℕ → List ℕ → Type 0
+AreLeft kind own o [] = Unit {0}
+AreLeft kind own o (p ∷ ps) =
     IsLeft kind (stays o (kind p)) (kind p) (own p)
-    × AreLeft kind own cuts (reached o (kind p) (cuts p)) ps
+    × (cut : Bool) × AreLeft kind own (reached o (kind p) cut) ps
 
 abbrev pub is_parent : List ℕ → Bool
 is_parent [] = false
@@ -29,8 +29,7 @@ parents own (p ∷ ps) = (if is_parent (own p) then p ∷ [] else []) ++ parents
 -- A balanced level, and what cuts left of the children of its nodes. On neither level a node stands twice.
 pub record IsLeftLevel (kind : ℕ → BracketKind) (own : ℕ → List ℕ) (xs : List ℕ) : Type 0 where
   pub balanced : AreBalanced kind 0 xs
-  pub cuts : ℕ → Bool
-  pub left : AreLeft kind own cuts None xs
+  pub left : AreLeft kind own None xs
   pub apart : AreApart xs
   pub kids_apart : AreApart (flat own xs)
 

@@ -1,2 +1,4 @@
 pub mod Generations
 pub mod Below
+pub mod Turned
+pub mod Remade

@@ -16,7 +16,8 @@ pub fn law_of_looks_below<A>()
         → AreLookedBelow o f t touched turned looked
         → AreLookedSeats o f t (kids_at o) (level_nodes o f.root t)
         (left_generation (kind_in o) (kids_at o) (level_nodes o f.root t))
-        (left_generation (kind_in (now_of f)) (kids_at (now_of f)) (level_nodes (now_of f) f.root t))
+        (left_generation (kind_in (now_of f)) (kids_at (now_of f))
+        (level_nodes (now_of f) f.root t))
         touched (turned ++ touched) looked }
     ensures stays { (o : Nodes A) (f : Grove A) (t : ℕ) (touched turned looked : List ℕ)
         → AreLookedBelow o f t touched turned looked

@@ -19,4 +19,7 @@ pub fn law_of_left_generations()
         → IsLeftLevel kind own xs → (q r : ℕ)
         → AreMatesOn (left_generation kind own xs) q r
         ↔ (AreMatesAmong kind xs q r × (is_parent (own q) ≡ true)) }
+    ensures openers { (kind : ℕ → BracketKind) (own : ℕ → List ℕ) (xs : List ℕ)
+        → IsLeftLevel kind own xs → (q r : ℕ) → AreMatesAmong kind xs q r
+        → is_parent (own r) ≡ true → is_parent (own q) ≡ true }
 {}

@@ -66,7 +66,7 @@ module _ {A : Type 0} where
   symbol_kind : (m : Nodes A) (ks : List ℕ) (p k : ℕ) (s : Symbol) → slice_get ks p ≡ Some k → slice_get (numbered_level m ks) p ≡ Some s → kind_in m k ≡ kind_of s
   symbol_kind m ks p k s here is = ap kind_of (same_Some (numbered_symbol m k) s (sym (symbol_at (λ k. k ∷ []) m ks p k here) ∙ is))
 
-  node_at : (m : Nodes A) (ks : List ℕ) (p : ℕ) (s : Symbol) → slice_get (numbered_level m ks) p ≡ Some s → (k : ℕ) × (slice_get ks p ≡ Some k)
+  pub node_at : (m : Nodes A) (ks : List ℕ) (p : ℕ) (s : Symbol) → slice_get (numbered_level m ks) p ≡ Some s → (k : ℕ) × (slice_get ks p ≡ Some k)
   node_at m ks p s is = by (slice_get ks p) refl
     where
       by : (o : Option ℕ) → slice_get ks p ≡ o → (k : ℕ) × (slice_get ks p ≡ Some k)
