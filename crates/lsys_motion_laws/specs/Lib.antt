@@ -1,0 +1,2 @@
+pub mod Motions
+pub mod Courses

@@ -1,0 +1,68 @@
+-- What is kept of a string so that its whole is told by its parts: how many symbols it has, where it leads, and how far.
+use Rattle.std.specs.Prelude.{◌≡◌, ℕ, ℤ, ◌+◌, Option, Some, None, List, [], ◌∷◌, length}
+use Rattle.std.specs.Int.{int_min, int_max}
+use Rattle.lsys_syntax.specs.Strings as S
+use Rattle.lsys_spec.specs.Lattices.{Lattice, Vector, vector}
+use Rattle.lsys_spec.specs.Pictures.{Act}
+use Rattle.lsys_effects.specs.Rotations.{plus, measures}
+use Rattle.lsys_effects.specs.Extents.{Extents, extents, AreCarried}
+use Rattle.lsys_effects.specs.Effects.{Stand, done, drawn_ends, place_reached, at_start, stand_from, effect, drawn, reach}
+
+pub record Motion : Type 0 where
+  pub symbols : ℕ
+  pub effect : Stand  -- where it leads from the start
+  pub drawn : Option Extents  -- of the ends that it draws
+  pub reached : Option Extents  -- of the places that it reaches
+
+-- None for no places
+abbrev pub extents_of : Lattice → List Vector → Option Extents
+extents_of l [] = None
+extents_of l (v ∷ vs) = Some (extents l v vs)
+
+abbrev pub motion : Lattice → List (S.Symbol ℤ) → Motion
+motion l xs = record { symbols = length xs; effect = effect l xs; drawn = extents_of l (drawn l xs); reached = extents_of l (reach l xs) }
+
+-- 1. of no symbol, of one, and of a branch
+
+abbrev pub at_rest : Lattice → ℕ → Motion
+at_rest l n = record { symbols = n; effect = (at_start l).here; drawn = None; reached = None }
+
+abbrev pub moved : Lattice → Act → Motion
+moved l a =
+    let start = (at_start l).here in
+    record { symbols = 1; effect = done l a start; drawn = extents_of l (drawn_ends a start); reached = extents_of l (place_reached a start) }
+
+abbrev pub branched : Lattice → Motion → Motion
+branched l m = record { symbols = m.symbols + 2; effect = (at_start l).here; drawn = m.drawn; reached = m.reached }
+
+-- 2. of two strings one behind the other
+
+abbrev pub each_of : (ℤ → ℤ → ℤ) → Vector → Vector → Vector
+each_of f v w = vector (f v.x w.x) (f v.y w.y) (f v.z w.z)
+
+abbrev pub both : Extents → Extents → Extents
+both d e = record { low = each_of int_min d.low e.low; high = each_of int_max d.high e.high }
+
+abbrev pub united : Option Extents → Option Extents → Option Extents
+united None e = e
+united (Some d) None = Some d
+united (Some d) (Some e) = Some (both d e)
+
+-- by the measures of the vector
+abbrev pub shifted : Lattice → Vector → Extents → Extents
+shifted l v e = record { low = plus (measures l v) e.low; high = plus (measures l v) e.high }
+
+-- the extents as they are seen from a stand: carried by its frame, and shifted by its place
+abbrev pub AreSeen : Lattice → Stand → Option Extents → Option Extents → Type 0
+AreSeen l from None after = after ≡ None
+AreSeen l from (Some e) after = (carried : Extents) × AreCarried l from.frame e carried × (after ≡ Some (shifted l from.place carried))
+
+-- the extents of both strings: those of the second are seen from where the first one leads
+abbrev pub AreUnited : Lattice → Stand → Option Extents → Option Extents → Option Extents → Type 0
+AreUnited l from first second whole = (seen : Option Extents) × AreSeen l from second seen × (whole ≡ united first seen)
+
+pub record IsJoined (l : Lattice) (m n whole : Motion) : Type 0 where
+  pub symbols : whole.symbols ≡ m.symbols + n.symbols
+  pub effect : whole.effect ≡ stand_from l m.effect n.effect
+  pub drawn : AreUnited l m.effect m.drawn n.drawn whole.drawn
+  pub reached : AreUnited l m.effect m.reached n.reached whole.reached

@@ -1,0 +1,46 @@
+//! What is kept of the parts of a string, and how the whole is told by it: the laws on which kept motions stand.
+//!
+//! Its functions are laws with empty bodies.
+#![tactic(auto)]
+
+ghost use Rattle.std.specs.Prelude.{◌≡◌, ◌+◌, ◌≤◌, ℕ, ℤ, suc, true, List, [], ◌∷◌, ◌++◌, length, take, Contains};
+ghost use Rattle.lsys_syntax.specs.Strings.{ModuleName, balanced};
+ghost use Rattle.lsys_syntax.specs.Strings as S;
+ghost use Rattle.lsys_spec.specs.Lattices.{Lattice, frames};
+ghost use Rattle.lsys_spec.specs.Pictures.{act};
+ghost use Rattle.lsys_effects.specs.Effects.{Stand, at_start, walker, walked, walker_from};
+ghost use Rattle.lsys_motion_laws.specs.Motions.{Motion, motion, at_rest, moved, branched, IsJoined};
+ghost use Rattle.lsys_motion_laws.specs.Courses.{course, onward, inward};
+
+/// The motion of a whole is told by the motions of its parts: of strings one behind the other they are joined, whichever are
+/// joined first; a branch leads nowhere, and draws and reaches what is in it; a single module has the motion of what it does,
+/// and no symbol is no motion.
+pub fn law_of_motions()
+    ensures joined { (l : Lattice) (xs ys : List (S.Symbol ℤ)) (whole : Motion) → balanced 0 xs ≡ true → balanced 0 ys ≡ true
+        → IsJoined l (motion l xs) (motion l ys) whole → whole ≡ motion l (xs ++ ys) }
+    ensures associative { (l : Lattice) (xs ys zs : List (S.Symbol ℤ)) (first last whole : Motion)
+        → balanced 0 xs ≡ true → balanced 0 ys ≡ true → balanced 0 zs ≡ true
+        → IsJoined l (motion l xs) (motion l ys) first → IsJoined l (motion l ys) (motion l zs) last
+        → IsJoined l first (motion l zs) whole → (other : Motion) → IsJoined l (motion l xs) last other → whole ≡ other }
+    ensures branch { (l : Lattice) (xs : List (S.Symbol ℤ)) → balanced 0 xs ≡ true
+        → motion l (S.Push ∷ xs ++ S.Pop ∷ []) ≡ branched l (motion l xs) }
+    ensures module { (l : Lattice) (name : ModuleName) (ps : List ℤ) → motion l (S.Module name ps ∷ []) ≡ moved l (act name ps) }
+    ensures mark { (l : Lattice) → motion l (S.Cut ∷ []) ≡ at_rest l 1 }
+    ensures rest { (l : Lattice) → motion l [] ≡ at_rest l 0 }
+{}
+
+/// Inside a balanced string any turtle goes the way from the start, carried to where it is, and what was saved stays below.
+/// In strings one behind the other it goes the way of the first, and behind this that of the second from where the first one
+/// leads. In a branch it goes the way of what is in it, with the start saved, and behind the `]` it is at the start again.
+pub fn law_of_courses()
+    ensures anywhere { (l : Lattice) (from : Stand) (below : List Stand) (n : ℕ) (xs : List (S.Symbol ℤ))
+        → Contains (frames l) from.frame → balanced 0 xs ≡ true
+        → walked l (take n xs) (walker from below) ≡ walker_from l from below (course l n xs) }
+    ensures first { (l : Lattice) (n : ℕ) (xs ys : List (S.Symbol ℤ)) → n ≤ length xs → course l n (xs ++ ys) ≡ course l n xs }
+    ensures second { (l : Lattice) (n : ℕ) (xs ys : List (S.Symbol ℤ)) → balanced 0 xs ≡ true → balanced 0 ys ≡ true
+        → course l (length xs + n) (xs ++ ys) ≡ onward l xs (course l n ys) }
+    ensures branch { (l : Lattice) (n : ℕ) (xs : List (S.Symbol ℤ)) → balanced 0 xs ≡ true → n ≤ length xs
+        → course l (suc n) (S.Push ∷ xs ++ S.Pop ∷ []) ≡ inward l (course l n xs) }
+    ensures behind { (l : Lattice) (n : ℕ) (xs : List (S.Symbol ℤ)) → balanced 0 xs ≡ true → length xs + 2 ≤ n
+        → course l n (S.Push ∷ xs ++ S.Pop ∷ []) ≡ at_start l }
+{}
