@@ -47,7 +47,7 @@ pub course_anywhere : (l : Lattice) (from : Stand) (below : List Stand) (n : ℕ
 course_anywhere l from below n xs k b =
     ap (walked l (take n xs)) (sym (from_start l from below k)) ∙ front_from l from below n xs (at_start l).here [] k b
 
-walked-append : (l : Lattice) (xs ys : List (S.Symbol ℤ)) (w : Walker) → walked l (xs ++ ys) w ≡ walked l ys (walked l xs w)
+pub walked-append : (l : Lattice) (xs ys : List (S.Symbol ℤ)) (w : Walker) → walked l (xs ++ ys) w ≡ walked l ys (walked l xs w)
 walked-append l [] ys w = refl
 walked-append l (x ∷ xs) ys w = walked-append l xs ys (stepped l x w)
 

@@ -8,9 +8,9 @@ ghost use Rattle.lsys_syntax.specs.Strings.{ModuleName, balanced};
 ghost use Rattle.lsys_syntax.specs.Strings as S;
 ghost use Rattle.lsys_spec.specs.Lattices.{Lattice, frames};
 ghost use Rattle.lsys_spec.specs.Pictures.{act};
-ghost use Rattle.lsys_effects.specs.Effects.{Stand, at_start, walker, walked, walker_from};
+ghost use Rattle.lsys_effects.specs.Effects.{Stand, at_start, effect, walker, walked, walker_from};
 ghost use Rattle.lsys_motion_laws.specs.Motions.{Motion, motion, at_rest, moved, branched, IsJoined};
-ghost use Rattle.lsys_motion_laws.specs.Courses.{course, onward, inward};
+ghost use Rattle.lsys_motion_laws.specs.Courses.{course, onward, inward, strung, AreBalanced, led, Parts, string_of, HasBalancedRuns, descent};
 
 /// The motion of a whole is told by the motions of its parts: of strings one behind the other they are joined, whichever are
 /// joined first; a branch leads nowhere, and draws and reaches what is in it; a single module has the motion of what it does,
@@ -43,4 +43,24 @@ pub fn law_of_courses()
         → course l (suc n) (S.Push ∷ xs ++ S.Pop ∷ []) ≡ inward l (course l n xs) }
     ensures behind { (l : Lattice) (n : ℕ) (xs : List (S.Symbol ℤ)) → balanced 0 xs ≡ true → length xs + 2 ≤ n
         → course l n (S.Push ∷ xs ++ S.Pop ∷ []) ≡ at_start l }
+{}
+
+/// Parts side by side lead where each of them leads from where the one before it led. In one of them the turtle goes the way
+/// of that part from where those before it led, whatever stands behind it.
+pub fn law_of_strides()
+    ensures effect { (l : Lattice) (parts : List (List (S.Symbol ℤ))) → AreBalanced parts
+        → effect l (strung parts) ≡ led l (at_start l).here parts }
+    ensures inside { (l : Lattice) (n : ℕ) (before : List (List (S.Symbol ℤ))) (part behind : List (S.Symbol ℤ))
+        → AreBalanced before → balanced 0 part ≡ true → n ≤ length part
+        → course l (length (strung before) + n) (strung before ++ (part ++ behind))
+        ≡ walker_from l (led l (at_start l).here before) [] (course l n part) }
+{}
+
+/// Of a string that is told by its parts the way over the first symbols is found by going down to the run where they end: past
+/// the parts before it by their effects alone, and into a branch with the start saved. Behind its `]` a branch has led nowhere,
+/// and the width is what it was.
+pub fn law_of_fronts()
+    ensures balanced { (parts : Parts) → HasBalancedRuns parts → balanced 0 (string_of parts) ≡ true }
+    ensures descent { (l : Lattice) (n : ℕ) (parts : Parts) → HasBalancedRuns parts → n ≤ length (string_of parts)
+        → descent l n parts ≡ course l n (string_of parts) }
 {}

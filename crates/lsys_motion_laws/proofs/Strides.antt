@@ -1,0 +1,87 @@
+-- Parts side by side, and parts of parts.
+use Rattle.std.proofs.Common.{◌≡◌, ℕ, zero, suc, ◌+◌, ◌-◌, ◌≤◌, ◌<◌, Bool, true, false, cond, List, [], ◌∷◌, ◌++◌, map, length, length-append, append_assoc, refl, ap, sym, ◌∙◌, arith, nat_lt, subst, ◌==◌}
+use Rattle.std.specs.Prelude.{ℤ, Contains}
+use Rattle.std.proofs.lemmas.Bool.Decides.{nat_tests}
+use Rattle.lsys_syntax.specs.Strings.{balanced}
+use Rattle.lsys_syntax.specs.Strings as S
+use Rattle.lsys_spec.specs.Lattices.{Lattice, Frame, frames}
+use Rattle.lsys_effects.specs.Effects.{Stand, Walker, walker, walked, at_start, stand_from, walker_from, effect}
+use Rattle.lsys_effects.proofs.Moving.{law_of_effects}
+use Rattle.lsys_effects.proofs.Turning.{followed-known}
+use Rattle.lsys_motion_laws.specs.Courses.{course, onward, inward, strung, AreBalanced, led, Parts, Run, Row, Branch, string_of, HasBalancedRuns, descent}
+use Rattle.lsys_motion_laws.proofs.Fronts.{first_known, effect_known, course_first, course_second, course_branch, course_behind, walked-append}
+use Rattle.lsys_motion_laws.proofs.Joining.{balanced-append}
+
+-- 1. side by side
+
+pub strung_balanced : (parts : List (List (S.Symbol ℤ))) → AreBalanced parts → balanced 0 (strung parts) ≡ true
+strung_balanced [] h = refl
+strung_balanced (xs ∷ parts) h = balanced-append 0 xs (strung parts) h.0 (strung_balanced parts h.1)
+
+led_from : (l : Lattice) (from : Stand) (parts : List (List (S.Symbol ℤ))) → Contains (frames l) from.frame → AreBalanced parts
+    → walked l (strung parts) (walker from []) ≡ walker (led l from parts) []
+led_from l from [] k h = refl
+led_from l from (xs ∷ parts) k h =
+    walked-append l xs (strung parts) (walker from [])
+    ∙ ap (walked l (strung parts)) (law_of_effects l from [] xs k h.0)
+    ∙ led_from l (stand_from l from (effect l xs)) parts (followed-known l from.frame (effect l xs).frame k (effect_known l xs)) h.1
+
+pub led_there : (l : Lattice) (parts : List (List (S.Symbol ℤ))) → AreBalanced parts → effect l (strung parts) ≡ led l (at_start l).here parts
+led_there l parts h = ap (λ (w : Walker). w.here) (led_from l (at_start l).here parts (first_known l) h)
+
+pub course_inside : (l : Lattice) (n : ℕ) (before : List (List (S.Symbol ℤ))) (part behind : List (S.Symbol ℤ)) → AreBalanced before → balanced 0 part ≡ true → n ≤ length part
+    → course l (length (strung before) + n) (strung before ++ (part ++ behind)) ≡ walker_from l (led l (at_start l).here before) [] (course l n part)
+course_inside l n before part behind b c h =
+    let k : ℕ = length (strung before) in
+    let size : length (strung before ++ part) ≡ k + length part = length-append (strung before) part in
+    let few : k + n ≤ length (strung before ++ part) = omega (arith, size, h) in
+    ap (course l (k + n)) (sym (append_assoc (strung before) part behind))
+    ∙ course_first l (k + n) (strung before ++ part) behind few
+    ∙ course_second l n (strung before) part (strung_balanced before b) c
+    ∙ ap (λ (h : Stand). walker_from l h [] (course l n part)) (led_there l before b)
+
+-- 2. parts of parts
+
+closed_balanced : (k : ℕ) (xs : List (S.Symbol ℤ)) → balanced k xs ≡ true → balanced (suc k) (xs ++ S.Pop ∷ []) ≡ true
+closed_balanced k [] b = b
+closed_balanced k (S.Module n ps ∷ xs) b = closed_balanced k xs b
+closed_balanced k (S.Push ∷ xs) b = closed_balanced (suc k) xs b
+closed_balanced zero (S.Pop ∷ xs) b = cc
+closed_balanced (suc k) (S.Pop ∷ xs) b = closed_balanced k xs b
+closed_balanced k (S.Cut ∷ xs) b = closed_balanced k xs b
+
+pub parts_balanced : (parts : Parts) → HasBalancedRuns parts → balanced 0 (string_of parts) ≡ true
+parts_balanced (Run xs) h = h
+parts_balanced (Row a b) h = balanced-append 0 (string_of a) (string_of b) (parts_balanced a h.0) (parts_balanced b h.1)
+parts_balanced (Branch a) h = closed_balanced 0 (string_of a) (parts_balanced a h)
+
+chosen : {A : Type 0} (b : Bool) (x y z : A) → (b ≡ true → x ≡ z) → (b ≡ false → y ≡ z) → cond b x y ≡ z
+chosen true x y z f g = f refl
+chosen false x y z f g = g refl
+
+pub descent_there : (l : Lattice) (n : ℕ) (parts : Parts) → HasBalancedRuns parts → n ≤ length (string_of parts) → descent l n parts ≡ course l n (string_of parts)
+descent_there l n (Run xs) h few = refl
+descent_there l n (Row a b) h few =
+    let k : ℕ = length (string_of a) in
+    let size : length (string_of a ++ string_of b) ≡ k + length (string_of b) = length-append (string_of a) (string_of b) in
+    chosen (nat_lt k n) _ _ _
+    (λ past.
+    let beyond : k < n = grind (arith, nat_tests) in
+    let rest : k + (n - k) ≡ n = omega (arith, beyond) in
+    let left : n - k ≤ length (string_of b) = omega (arith, beyond, size, few) in
+    ap (onward l (string_of a)) (descent_there l (n - k) b h.1 left)
+    ∙ sym (course_second l (n - k) (string_of a) (string_of b) (parts_balanced a h.0) (parts_balanced b h.1))
+    ∙ ap (λ (m : ℕ). course l m (string_of a ++ string_of b)) rest)
+    (λ not_past.
+    let within : n ≤ k = grind (arith, nat_tests) in
+    descent_there l n a h.0 within ∙ sym (course_first l n (string_of a) (string_of b) within))
+descent_there l zero (Branch a) h few = refl
+descent_there l (suc n) (Branch a) h few =
+    let k : ℕ = length (string_of a) in
+    chosen (nat_lt k n) _ _ _
+    (λ past.
+    let beyond : k < n = grind (arith, nat_tests) in
+    sym (course_behind l (suc n) (string_of a) (parts_balanced a h) (omega (arith, beyond))))
+    (λ not_past.
+    let within : n ≤ k = grind (arith, nat_tests) in
+    ap (inward l) (descent_there l n a h within) ∙ sym (course_branch l n (string_of a) (parts_balanced a h) within))
