@@ -1,3 +1,5 @@
 pub mod Joining
 pub mod Fronts
 pub mod Strides
+pub mod Planes
+pub mod Bounded

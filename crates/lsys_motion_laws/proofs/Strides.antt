@@ -1,10 +1,10 @@
 -- Parts side by side, and parts of parts.
-use Rattle.std.proofs.Common.{◌≡◌, ℕ, zero, suc, ◌+◌, ◌-◌, ◌≤◌, ◌<◌, Bool, true, false, cond, List, [], ◌∷◌, ◌++◌, map, length, length-append, append_assoc, refl, ap, sym, ◌∙◌, arith, nat_lt, subst, ◌==◌}
+use Rattle.std.proofs.Common.{◌≡◌, ℕ, zero, suc, ◌+◌, ◌-◌, ◌≤◌, ◌<◌, Bool, true, false, cond, List, [], ◌∷◌, ◌++◌, length, length-append, append_assoc, refl, ap, sym, ◌∙◌, arith, nat_lt}
 use Rattle.std.specs.Prelude.{ℤ, Contains}
 use Rattle.std.proofs.lemmas.Bool.Decides.{nat_tests}
 use Rattle.lsys_syntax.specs.Strings.{balanced}
 use Rattle.lsys_syntax.specs.Strings as S
-use Rattle.lsys_spec.specs.Lattices.{Lattice, Frame, frames}
+use Rattle.lsys_spec.specs.Lattices.{Lattice, frames}
 use Rattle.lsys_effects.specs.Effects.{Stand, Walker, walker, walked, at_start, stand_from, walker_from, effect}
 use Rattle.lsys_effects.proofs.Moving.{law_of_effects}
 use Rattle.lsys_effects.proofs.Turning.{followed-known}

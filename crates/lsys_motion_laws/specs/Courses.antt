@@ -1,5 +1,5 @@
 -- Where a turtle is inside a string: behind some symbols of it, with a stand for each branch that is open there.
-use Rattle.std.specs.Prelude.{◌≡◌, ℕ, zero, suc, ◌-◌, ℤ, Bool, true, List, [], ◌∷◌, ◌++◌, length, take, nat_lt, if◌then◌else◌}
+use Rattle.std.specs.Prelude.{◌≡◌, ℕ, zero, suc, ◌-◌, ℤ, true, List, [], ◌∷◌, ◌++◌, length, take, nat_lt, if◌then◌else◌}
 use Rattle.lsys_syntax.specs.Strings as S
 use Rattle.lsys_spec.specs.Lattices.{Lattice}
 use Rattle.lsys_effects.specs.Effects.{Stand, Walker, walked, at_start, stand_from, walker_from, effect}

@@ -1,2 +1,3 @@
 pub mod Motions
 pub mod Courses
+pub mod Far

@@ -3,13 +3,17 @@
 //! Its functions are laws with empty bodies.
 #![tactic(auto)]
 
-ghost use Rattle.std.specs.Prelude.{◌≡◌, ◌+◌, ◌≤◌, ℕ, ℤ, suc, true, List, [], ◌∷◌, ◌++◌, length, take, Contains};
+ghost use Rattle.std.specs.Prelude.{◌≡◌, ◌+◌, ◌≤◌, ℕ, ℤ, suc, true, None, Option, ◌↔◌, List, [], ◌∷◌, ◌++◌, length, take, Contains};
 ghost use Rattle.lsys_syntax.specs.Strings.{ModuleName, balanced};
 ghost use Rattle.lsys_syntax.specs.Strings as S;
 ghost use Rattle.lsys_spec.specs.Lattices.{Lattice, frames};
-ghost use Rattle.lsys_spec.specs.Pictures.{act};
-ghost use Rattle.lsys_effects.specs.Effects.{Stand, at_start, effect, walker, walked, walker_from};
-ghost use Rattle.lsys_motion_laws.specs.Motions.{Motion, motion, at_rest, moved, branched, IsJoined};
+ghost use Rattle.std.specs.Option.{option_or};
+ghost use Rattle.lsys_spec.specs.Pictures.{act, origin};
+ghost use Rattle.lsys_effects.specs.Extents.{Extents};
+ghost use Rattle.lsys_effects.specs.Free.{first_far};
+ghost use Rattle.lsys_effects.specs.Effects.{Stand, Walker, at_start, stand_from, effect, walker, walked, walker_from};
+ghost use Rattle.lsys_motion_laws.specs.Motions.{Motion, motion, at_rest, moved, branched, IsJoined, AreSeen};
+ghost use Rattle.lsys_motion_laws.specs.Far.{stays_near, IsInPlane, modules_past};
 ghost use Rattle.lsys_motion_laws.specs.Courses.{course, onward, inward, strung, AreBalanced, led, Parts, string_of, HasBalancedRuns, descent};
 
 /// The motion of a whole is told by the motions of its parts: of strings one behind the other they are joined, whichever are
@@ -63,4 +67,21 @@ pub fn law_of_fronts()
     ensures balanced { (parts : Parts) → HasBalancedRuns parts → balanced 0 (string_of parts) ≡ true }
     ensures descent { (l : Lattice) (n : ℕ) (parts : Parts) → HasBalancedRuns parts → n ≤ length (string_of parts)
         → descent l n parts ≡ course l n (string_of parts) }
+{}
+
+/// From a stand no module of a part leads too far exactly where the extents of what it reaches, seen from the stand, stay within
+/// the bound. The first module that leads too far is in the first part that has one. A part leads from places of the
+/// hexagonal lattice's plane to such places, and the origin is one.
+pub fn law_of_far_modules()
+    ensures near { (l : Lattice) (from : Stand) (below : List Stand) (n : ℕ) (xs : List (S.Symbol ℤ)) (seen : Option Extents)
+        → Contains (frames l) from.frame → IsInPlane l from.place → balanced 0 xs ≡ true
+        → AreSeen l from (motion l xs).reached seen
+        → (first_far l n (walker from below) xs ≡ None) ↔ (stays_near l seen ≡ true) }
+    ensures first { (l : Lattice) (w : Walker) (n : ℕ) (xs ys : List (S.Symbol ℤ))
+        → first_far l n w (xs ++ ys)
+        ≡ option_or (first_far l n w xs) (first_far l (modules_past n xs) (walked l xs w) ys) }
+    ensures plane { (l : Lattice) (from : Stand) (xs : List (S.Symbol ℤ))
+        → Contains (frames l) from.frame → IsInPlane l from.place
+        → balanced 0 xs ≡ true → IsInPlane l (stand_from l from (effect l xs)).place }
+    ensures start { (l : Lattice) → IsInPlane l origin }
 {}
