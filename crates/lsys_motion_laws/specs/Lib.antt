@@ -1,3 +1,4 @@
 pub mod Motions
 pub mod Courses
 pub mod Far
+pub mod Images

@@ -3,11 +3,17 @@
 //! Its functions are laws with empty bodies.
 #![tactic(auto)]
 
-ghost use Rattle.std.specs.Prelude.{◌≡◌, ◌+◌, ◌≤◌, ℕ, ℤ, suc, true, None, Option, ◌↔◌, List, [], ◌∷◌, ◌++◌, length, take, Contains};
+ghost use Rattle.std.specs.Prelude.{◌≡◌, ◌+◌, ◌≤◌, ℕ, ℤ, suc, true, None, Option, ◌↔◌, List, [], ◌∷◌, ◌++◌, length, take, Contains, Ok};
 ghost use Rattle.lsys_syntax.specs.Strings.{ModuleName, balanced};
 ghost use Rattle.lsys_syntax.specs.Strings as S;
 ghost use Rattle.lsys_spec.specs.Lattices.{Lattice, frames};
 ghost use Rattle.std.specs.Option.{option_or};
+ghost use Rattle.lsys_spec.specs.Systems.{System, Homomorphism, WellSpelled};
+ghost use Rattle.lsys_spec.specs.LevelLaws.{HasBalance};
+ghost use Rattle.lsys_spec.specs.Levels.{Symbol, ModuleValue, Module, level_balanced};
+ghost use Rattle.lsys_spec.specs.Images.{image, image_from};
+ghost use Rattle.lsys_effects.specs.Nodes.{modules_in};
+ghost use Rattle.lsys_motion_laws.specs.Images.{and_behind, HasBalancedImages, HasPartImage, level_below, HasDescendants};
 ghost use Rattle.lsys_spec.specs.Pictures.{act, origin};
 ghost use Rattle.lsys_effects.specs.Extents.{Extents};
 ghost use Rattle.lsys_effects.specs.Free.{first_far};
@@ -84,4 +90,28 @@ pub fn law_of_far_modules()
         → Contains (frames l) from.frame → IsInPlane l from.place
         → balanced 0 xs ≡ true → IsInPlane l (stand_from l from (effect l xs)).place }
     ensures start { (l : Lattice) → IsInPlane l origin }
+{}
+
+/// The image of a level is told part by part: behind the image of one part comes that of the next, as many modules and symbols
+/// further on, and the first refusal is the whole's. Of a whole image each part is the image of that part alone, and balanced
+/// parts have balanced images.
+pub fn law_of_image_parts()
+    ensures parts { (hs : List Homomorphism) (n k : ℕ) (x y : List Symbol)
+        → image_from hs n k (x ++ y) ≡ and_behind (image_from hs n k x) k (λ j. image_from hs (modules_in n x) j y) }
+    ensures middle { (s : System) (before part behind : List Symbol) (ys : List (S.Symbol ℤ))
+        → image s (before ++ (part ++ behind)) ≡ Ok ys → HasPartImage s before part behind ys }
+    ensures balanced { (s : System) (x : List Symbol) (ys : List (S.Symbol ℤ)) → HasBalancedImages s
+        → level_balanced 0 x ≡ true → image s x ≡ Ok ys → balanced 0 ys ≡ true }
+    ensures spelled { (s : System) → WellSpelled s → HasBalancedImages s }
+{}
+
+/// The descendants of a balanced part of a level stand side by side in each level below, and are balanced there. So do those of
+/// a module, which is such a part.
+pub fn law_of_descendants()
+    ensures part { (s : System) (t n : ℕ) (before part behind y : List Symbol) → HasBalance s
+        → level_balanced 0 part ≡ true → level_below s t n (before ++ (part ++ behind)) ≡ Ok y
+        → HasDescendants s t n before part behind y }
+    ensures module { (s : System) (t n : ℕ) (before behind y : List Symbol) (line : List ℕ) (m : ModuleValue) → HasBalance s
+        → level_below s t n (before ++ (Module line m ∷ behind)) ≡ Ok y
+        → HasDescendants s t n before (Module line m ∷ []) behind y }
 {}
