@@ -150,16 +150,6 @@ balanced-append zero (S.Pop ∷ xs) ys b c = cc
 balanced-append (suc k) (S.Pop ∷ xs) ys b c = balanced-append k xs ys b c
 balanced-append k (S.Cut ∷ xs) ys b c = balanced-append k xs ys b c
 
-pub either_way : (l : Lattice) (xs ys zs : List (S.Symbol ℤ)) (first last whole : Motion) → balanced 0 xs ≡ true → balanced 0 ys ≡ true → balanced 0 zs ≡ true
-    → IsJoined l (motion l xs) (motion l ys) first → IsJoined l (motion l ys) (motion l zs) last
-    → IsJoined l first (motion l zs) whole → (other : Motion) → IsJoined l (motion l xs) last other → whole ≡ other
-either_way l xs ys zs first last whole a b c h i j other k =
-    let left : IsJoined l (motion l (xs ++ ys)) (motion l zs) whole = subst (λ (m : Motion). IsJoined l m (motion l zs) whole) (motions_joined l xs ys first a b h) j in
-    let right : IsJoined l (motion l xs) (motion l (ys ++ zs)) other = subst (λ (m : Motion). IsJoined l (motion l xs) m other) (motions_joined l ys zs last b c i) k in
-    motions_joined l (xs ++ ys) zs whole (balanced-append 0 xs ys a b) c left
-    ∙ ap (motion l) (append_assoc xs ys zs)
-    ∙ sym (motions_joined l xs (ys ++ zs) other a (balanced-append 0 ys zs b c) right)
-
 -- 5. a branch
 
 from_there : (l : Lattice) (vs : List Vector) → map (place_from l (at_start l).here) vs ≡ vs

@@ -5,3 +5,5 @@ pub mod Planes
 pub mod Bounded
 pub mod Imaging
 pub mod Descending
+pub mod Rows
+pub mod Wholes

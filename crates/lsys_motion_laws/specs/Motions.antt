@@ -1,10 +1,11 @@
 -- What is kept of a string so that its whole is told by its parts: how many symbols it has, where it leads, and how far.
-use Rattle.std.specs.Prelude.{◌≡◌, ℕ, ℤ, ◌+◌, Option, Some, None, List, [], ◌∷◌, length}
+use Rattle.std.specs.Prelude.{◌≡◌, ℕ, ℤ, ◌+◌, ◌+ℤ◌, ◌*ℤ◌, if◌then◌else◌, Option, Some, None, List, [], ◌∷◌, length}
 use Rattle.std.specs.Int.{int_min, int_max}
+use Rattle.std.specs.Ordering.{int_eq}
 use Rattle.lsys_syntax.specs.Strings as S
-use Rattle.lsys_spec.specs.Lattices.{Lattice, Vector, vector}
+use Rattle.lsys_spec.specs.Lattices.{Lattice, square, hexagonal, cubic, Vector, vector, Frame}
 use Rattle.lsys_spec.specs.Pictures.{Act}
-use Rattle.lsys_effects.specs.Rotations.{plus, measures}
+use Rattle.lsys_effects.specs.Rotations.{plus, carried, measures}
 use Rattle.lsys_effects.specs.Extents.{Extents, extents, AreCarried}
 use Rattle.lsys_effects.specs.Effects.{Stand, done, drawn_ends, place_reached, at_start, stand_from, effect, drawn, reach}
 
@@ -66,3 +67,34 @@ pub record IsJoined (l : Lattice) (m n whole : Motion) : Type 0 where
   pub effect : whole.effect ≡ stand_from l m.effect n.effect
   pub drawn : AreUnited l m.effect m.drawn n.drawn whole.drawn
   pub reached : AreUnited l m.effect m.reached n.reached whole.reached
+
+-- 3. the extents of what a frame has carried
+
+abbrev pub corners : Vector → Vector → Extents
+corners v w = record { low = each_of int_min v w; high = each_of int_max v w }
+
+-- one measure of what a hexagonal frame carries, told by the measures there: where it is as much ahead as to the left, by the third one
+abbrev pub along : ℤ → ℤ → Vector → ℤ
+along a b m = if int_eq a b then m.z *ℤ a else m.x *ℤ a +ℤ m.y *ℤ b
+
+-- Each measure becomes one of the three, or the opposite of one.
+abbrev pub carried_measures : Lattice → Frame → Vector → Vector
+carried_measures square f m = carried square f m
+carried_measures hexagonal f m =
+    vector (along f.heading.x f.left.x m) (along f.heading.y f.left.y m) (along (f.heading.x +ℤ f.heading.y) (f.left.x +ℤ f.left.y) m)
+carried_measures cubic f m = carried cubic f m
+
+abbrev pub carried_extents : Lattice → Frame → Extents → Extents
+carried_extents l f e = corners (carried_measures l f e.low) (carried_measures l f e.high)
+
+abbrev pub seen_from : Lattice → Stand → Option Extents → Option Extents
+seen_from l from None = None
+seen_from l from (Some e) = Some (shifted l from.place (carried_extents l from.frame e))
+
+abbrev pub joined : Lattice → Motion → Motion → Motion
+joined l m n = record {
+  symbols = m.symbols + n.symbols;
+  effect = stand_from l m.effect n.effect;
+  drawn = united m.drawn (seen_from l m.effect n.drawn);
+  reached = united m.reached (seen_from l m.effect n.reached);
+}

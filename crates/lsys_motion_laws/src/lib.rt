@@ -6,7 +6,7 @@
 ghost use Rattle.std.specs.Prelude.{◌≡◌, ◌+◌, ◌≤◌, ℕ, ℤ, suc, true, None, Option, ◌↔◌, List, [], ◌∷◌, ◌++◌, length, take, Contains, Ok};
 ghost use Rattle.lsys_syntax.specs.Strings.{ModuleName, balanced};
 ghost use Rattle.lsys_syntax.specs.Strings as S;
-ghost use Rattle.lsys_spec.specs.Lattices.{Lattice, frames};
+ghost use Rattle.lsys_spec.specs.Lattices.{Lattice, Frame, frames};
 ghost use Rattle.std.specs.Option.{option_or};
 ghost use Rattle.lsys_spec.specs.Systems.{System, Homomorphism, WellSpelled};
 ghost use Rattle.lsys_spec.specs.LevelLaws.{HasBalance};
@@ -15,23 +15,37 @@ ghost use Rattle.lsys_spec.specs.Images.{image, image_from};
 ghost use Rattle.lsys_effects.specs.Nodes.{modules_in};
 ghost use Rattle.lsys_motion_laws.specs.Images.{and_behind, HasBalancedImages, HasPartImage, level_below, HasDescendants};
 ghost use Rattle.lsys_spec.specs.Pictures.{act, origin};
-ghost use Rattle.lsys_effects.specs.Extents.{Extents};
+ghost use Rattle.lsys_effects.specs.Extents.{Extents, AreCarried};
 ghost use Rattle.lsys_effects.specs.Free.{first_far};
 ghost use Rattle.lsys_effects.specs.Effects.{Stand, Walker, at_start, stand_from, effect, walker, walked, walker_from};
-ghost use Rattle.lsys_motion_laws.specs.Motions.{Motion, motion, at_rest, moved, branched, IsJoined, AreSeen};
+ghost use Rattle.lsys_motion_laws.specs.Motions.{Motion, motion, at_rest, moved, branched, IsJoined, AreSeen, carried_extents, seen_from, joined};
 ghost use Rattle.lsys_motion_laws.specs.Far.{stays_near, IsInPlane, modules_past};
 ghost use Rattle.lsys_motion_laws.specs.Courses.{course, onward, inward, strung, AreBalanced, led, Parts, string_of, HasBalancedRuns, descent};
 
+/// What a frame of the lattice makes of the extents of places is told by the extents alone, and so is how they are seen from a
+/// stand.
+pub fn law_of_carried_extents()
+    ensures frame { (l : Lattice) (f : Frame) (e : Extents) → Contains (frames l) f → AreCarried l f e (carried_extents l f e) }
+    ensures stand { (l : Lattice) (from : Stand) (o : Option Extents) → Contains (frames l) from.frame
+        → AreSeen l from o (seen_from l from o) }
+{}
+
 /// The motion of a whole is told by the motions of its parts: of strings one behind the other they are joined, whichever are
-/// joined first; a branch leads nowhere, and draws and reaches what is in it; a single module has the motion of what it does,
-/// and no symbol is no motion.
+/// joined first, and rest adds nothing; what is made by carrying extents is this. A branch leads nowhere, and draws and reaches
+/// what is in it; a single module has the motion of what it does, and no symbol is at rest.
 pub fn law_of_motions()
-    ensures joined { (l : Lattice) (xs ys : List (S.Symbol ℤ)) (whole : Motion) → balanced 0 xs ≡ true → balanced 0 ys ≡ true
-        → IsJoined l (motion l xs) (motion l ys) whole → whole ≡ motion l (xs ++ ys) }
-    ensures associative { (l : Lattice) (xs ys zs : List (S.Symbol ℤ)) (first last whole : Motion)
+    ensures joined { (l : Lattice) (xs ys : List (S.Symbol ℤ)) → balanced 0 xs ≡ true → balanced 0 ys ≡ true
+        → motion l (xs ++ ys) ≡ joined l (motion l xs) (motion l ys) }
+    ensures made { (l : Lattice) (xs ys : List (S.Symbol ℤ)) (whole : Motion) → balanced 0 xs ≡ true → balanced 0 ys ≡ true
+        → IsJoined l (motion l xs) (motion l ys) whole → whole ≡ joined l (motion l xs) (motion l ys) }
+    ensures associative { (l : Lattice) (xs ys zs : List (S.Symbol ℤ))
         → balanced 0 xs ≡ true → balanced 0 ys ≡ true → balanced 0 zs ≡ true
-        → IsJoined l (motion l xs) (motion l ys) first → IsJoined l (motion l ys) (motion l zs) last
-        → IsJoined l first (motion l zs) whole → (other : Motion) → IsJoined l (motion l xs) last other → whole ≡ other }
+        → joined l (joined l (motion l xs) (motion l ys)) (motion l zs)
+            ≡ joined l (motion l xs) (joined l (motion l ys) (motion l zs)) }
+    ensures rest_before { (l : Lattice) (xs : List (S.Symbol ℤ)) → balanced 0 xs ≡ true
+        → joined l (at_rest l 0) (motion l xs) ≡ motion l xs }
+    ensures rest_behind { (l : Lattice) (xs : List (S.Symbol ℤ)) → balanced 0 xs ≡ true
+        → joined l (motion l xs) (at_rest l 0) ≡ motion l xs }
     ensures branch { (l : Lattice) (xs : List (S.Symbol ℤ)) → balanced 0 xs ≡ true
         → motion l (S.Push ∷ xs ++ S.Pop ∷ []) ≡ branched l (motion l xs) }
     ensures module { (l : Lattice) (name : ModuleName) (ps : List ℤ) → motion l (S.Module name ps ∷ []) ≡ moved l (act name ps) }

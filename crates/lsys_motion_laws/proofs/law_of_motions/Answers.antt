@@ -1,13 +1,23 @@
 use Rattle.std.proofs.Common.{refl}
 use Rattle.lsys_motion_laws.proofs.Fronts.{first_known}
-use Rattle.lsys_motion_laws.proofs.Joining.{motions_joined, either_way, motion_branched, motion_module}
+use Rattle.lsys_motion_laws.proofs.Joining.{motion_branched, motion_module}
+use Rattle.lsys_motion_laws.proofs.Wholes.{whole_motion, made_motion, either_way, rest_before, rest_behind}
 use Rattle.lsys_motion_laws.proofs.law_of_motions.Goals as goal
 
 pub returns-clause-joined : goal.returns-clause-joined
-returns-clause-joined c = motions_joined
+returns-clause-joined c = whole_motion
+
+pub returns-clause-made : goal.returns-clause-made
+returns-clause-made c = made_motion
 
 pub returns-clause-associative : goal.returns-clause-associative
 returns-clause-associative c = either_way
+
+pub returns-clause-rest_before : goal.returns-clause-rest_before
+returns-clause-rest_before c = rest_before
+
+pub returns-clause-rest_behind : goal.returns-clause-rest_behind
+returns-clause-rest_behind c = rest_behind
 
 pub returns-clause-branch : goal.returns-clause-branch
 returns-clause-branch c l xs b = motion_branched l xs (first_known l) b
