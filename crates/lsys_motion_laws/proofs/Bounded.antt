@@ -9,6 +9,7 @@ use Rattle.std.proofs.lemmas.Int.{ints, int_min_is, int_max_is}
 use Rattle.lsys_syntax.specs.Limits.{greatest_coordinate}
 use Rattle.lsys_syntax.specs.Strings.{balanced}
 use Rattle.lsys_syntax.specs.Strings as S
+use Rattle.lsys_spec.proofs.Tests.{both, and_true as all_true}
 use Rattle.lsys_spec.specs.Systems.{Each}
 use Rattle.lsys_spec.specs.Lattices.{Lattice, square, hexagonal, cubic, Vector, frames}
 use Rattle.lsys_spec.specs.Pictures.{is_far, modules_to}
@@ -40,38 +41,26 @@ same_bool true b f g = sym (f refl)
 same_bool false true f g = g refl
 same_bool false false f g = refl
 
-left_of : (a b : Bool) → (a && b) ≡ true → a ≡ true
-left_of true b h = refl
-left_of false b h = cc
-
-right_of : (a b : Bool) → (a && b) ≡ true → b ≡ true
-right_of true b h = h
-right_of false b h = cc
-
-both_hold : (a b : Bool) → a ≡ true → b ≡ true → (a && b) ≡ true
-both_hold true b h k = k
-both_hold false b h k = cc
-
 one_more : (b : ℕ) (lo hi x : ℤ) → lo ≤ℤ hi → (small b (int_min lo x) && small b (int_max hi x)) ≡ ((small b lo && small b hi) && small b x)
 one_more b lo hi x o =
     same_bool _ _
     (λ h.
-    let low = small_is b (int_min lo x) (left_of (small b (int_min lo x)) _ h) in
-    let high = small_is b (int_max hi x) (right_of (small b (int_min lo x)) _ h) in
+    let low = small_is b (int_min lo x) (both (small b (int_min lo x)) _ h).0 in
+    let high = small_is b (int_max hi x) (both (small b (int_min lo x)) _ h).1 in
     let l0 : neg_ℤ (pos b) ≤ℤ int_min lo x = low.0 in
     let h1 : int_max hi x ≤ℤ pos b = high.1 in
     let m = int_min_is lo x in
     let n = int_max_is hi x in
-    both_hold (small b lo && small b hi) (small b x)
-    (both_hold (small b lo) (small b hi)
+    all_true (small b lo && small b hi) (small b x)
+    (all_true (small b lo) (small b hi)
     (is_small b lo (omega (arith, ints, m, n, l0, h1, o)) (omega (arith, ints, m, n, l0, h1, o)))
     (is_small b hi (omega (arith, ints, m, n, l0, h1, o)) (omega (arith, ints, m, n, l0, h1, o))))
     (is_small b x (omega (arith, ints, m, n, l0, h1, o)) (omega (arith, ints, m, n, l0, h1, o))))
     (λ h.
-    let ends : (small b lo && small b hi) ≡ true = left_of (small b lo && small b hi) (small b x) h in
-    let low = small_is b lo (left_of (small b lo) _ ends) in
-    let high = small_is b hi (right_of (small b lo) _ ends) in
-    let mid = small_is b x (right_of (small b lo && small b hi) _ h) in
+    let ends : (small b lo && small b hi) ≡ true = (both (small b lo && small b hi) _ h).0 in
+    let low = small_is b lo (both (small b lo) _ ends).0 in
+    let high = small_is b hi (both (small b lo) _ ends).1 in
+    let mid = small_is b x (both (small b lo && small b hi) _ h).1 in
     let a : neg_ℤ (pos b) ≤ℤ lo = low.0 in
     let c : lo ≤ℤ pos b = low.1 in
     let d : neg_ℤ (pos b) ≤ℤ hi = high.0 in
@@ -80,7 +69,7 @@ one_more b lo hi x o =
     let g : x ≤ℤ pos b = mid.1 in
     let m = int_min_is lo x in
     let n = int_max_is hi x in
-    both_hold (small b (int_min lo x)) (small b (int_max hi x))
+    all_true (small b (int_min lo x)) (small b (int_max hi x))
     (is_small b (int_min lo x) (omega (arith, ints, m, a, f)) (omega (arith, ints, m, c, g)))
     (is_small b (int_max hi x) (omega (arith, ints, n, d, f)) (omega (arith, ints, n, e, g))))
 

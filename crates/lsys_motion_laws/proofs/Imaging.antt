@@ -1,5 +1,5 @@
 -- The image part by part.
-use Rattle.std.proofs.Common.{◌≡◌, ℕ, zero, suc, ◌+◌, ◌≤◌, ◌==◌, nat_lt, Bool, true, false, cond, List, [], ◌∷◌, ◌++◌, length, length-append, append_assoc, refl, ap, sym, ◌∙◌, arith, subst}
+use Rattle.std.proofs.Common.{◌≡◌, ℕ, zero, suc, ◌+◌, ◌≤◌, nat_lt, Bool, true, false, cond, List, [], ◌∷◌, ◌++◌, length, length-append, append_assoc, refl, ap, sym, ◌∙◌, arith, subst}
 use Rattle.std.specs.Prelude.{ℤ, Result, Ok, Err}
 use Rattle.std.proofs.lemmas.Bool.Decides.{nat_tests}
 use Rattle.lsys_syntax.specs.Limits.{most_image_symbols}
@@ -18,6 +18,7 @@ use Rattle.lsys_syntax.specs.Pieces.{IsWordText}
 use Rattle.lsys_syntax.specs.Rules.{IsRule}
 use Rattle.lsys_syntax.specs.Commands.{IsHomomorphism}
 use Rattle.lsys_effects.specs.Nodes.{modules_in}
+use Rattle.lsys_motion_laws.proofs.Joining.{never}
 use Rattle.lsys_motion_laws.specs.Images.{and_behind, HasPartImage}
 
 abbrev Answer : Type 0
@@ -142,9 +143,6 @@ part_image s before part behind ys h =
 balanced_then : (j m q : ℕ) (zs more : List (S.Symbol ℤ)) → j + m ≡ q → balanced j zs ≡ true → balanced m more ≡ true → balanced q (zs ++ more) ≡ true
 balanced_then zero m q [] more e b c = let f : m ≡ q = omega (arith, e) in subst (λ (p : ℕ). balanced p more ≡ true) f c
 balanced_then (suc j) m q [] more e b c = absurd (never j b)
-  where
-    never : (n : ℕ) → (suc n == 0) ≡ true → ⊥
-    never n h = grind (arith, nat_tests)
 balanced_then j m q (S.Module n ps ∷ zs) more e b c = balanced_then j m q zs more e b c
 balanced_then j m q (S.Push ∷ zs) more e b c = balanced_then (suc j) m (suc q) zs more (omega (arith, e)) b c
 balanced_then zero m q (S.Pop ∷ zs) more e b c = cc

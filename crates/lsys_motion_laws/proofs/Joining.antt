@@ -1,21 +1,21 @@
 -- The extents of places one behind the other, and of places seen from elsewhere.
-use Rattle.std.proofs.Common.{◌≡◌, ℕ, zero, suc, ◌+◌, true, List, [], ◌∷◌, ◌++◌, map, length, refl, ap, sym, ◌∙◌, arith, append_assoc, length-append, ◌==◌, subst}
+use Rattle.std.proofs.Common.{◌≡◌, ℕ, zero, suc, ◌+◌, true, List, [], ◌∷◌, ◌++◌, map, length, refl, ap, sym, ◌∙◌, arith, length-append, ◌==◌}
 use Rattle.std.proofs.lemmas.Bool.Decides.{nat_tests}
-use Rattle.std.specs.Prelude.{ℤ, ◌+ℤ◌, Option, Some, fold, Contains}
+use Rattle.std.specs.Prelude.{ℤ, ◌+ℤ◌, Option, Some, fold}
 use Rattle.std.specs.Int.{int_min, int_max}
 use Rattle.std.proofs.lemmas.Int.{ints, int_min_is, int_max_is}
 use Rattle.std.proofs.lemmas.List.{append-nil, map-append}
 use Rattle.std.proofs.lemmas.List.Sums.{fold-append}
 use Rattle.lsys_syntax.specs.Strings.{balanced}
 use Rattle.lsys_syntax.specs.Strings as S
-use Rattle.lsys_spec.specs.Lattices.{Lattice, square, hexagonal, cubic, Vector, vector, frames}
-use Rattle.lsys_spec.specs.Pictures.{Act, act, origin}
+use Rattle.lsys_spec.specs.Lattices.{Lattice, square, hexagonal, cubic, Vector, vector}
+use Rattle.lsys_spec.specs.Pictures.{Act, act}
 use Rattle.lsys_spec.proofs.Turns.{same_vector}
 use Rattle.lsys_effects.specs.Rotations.{plus, carried, measures}
 use Rattle.lsys_effects.specs.Extents.{Extents, extents}
 use Rattle.lsys_effects.specs.Effects.{Stand, Walker, walker, stepped, drawn_ends, place_reached, symbol_places, places, at_start, place_from, effect, drawn, reach}
-use Rattle.lsys_effects.proofs.Carrying.{carried-start}
 use Rattle.lsys_effects.proofs.Moving.{effect-append, effect-branch, told-append, told_anywhere, drawn_from, reached_from}
+use Rattle.lsys_motion_laws.proofs.Fronts.{first_known, place_there}
 use Rattle.lsys_motion_laws.specs.Motions.{Motion, extents_of, motion, branched, moved, both, united, shifted, AreSeen, AreUnited, IsJoined}
 
 -- 1. the least and the greatest of lists one behind the other
@@ -40,10 +40,10 @@ measured-append f h p v w vs ws =
     ∙ fold-append f (p v) (map p vs) (p w ∷ map p ws)
     ∙ fold_out f h (fold f (p v) (map p vs)) (p w) (map p ws)
 
-abbrev reach_of : Vector → Vector → Extents
+abbrev pub reach_of : Vector → Vector → Extents
 reach_of low high = record { low = low; high = high }
 
-same_reach : (a a' b b' c c' d d' e e' f f' : ℤ) → a ≡ a' → b ≡ b' → c ≡ c' → d ≡ d' → e ≡ e' → f ≡ f' → reach_of (vector a b c) (vector d e f) ≡ reach_of (vector a' b' c') (vector d' e' f')
+pub same_reach : (a a' b b' c c' d d' e e' f f' : ℤ) → a ≡ a' → b ≡ b' → c ≡ c' → d ≡ d' → e ≡ e' → f ≡ f' → reach_of (vector a b c) (vector d e f) ≡ reach_of (vector a' b' c') (vector d' e' f')
 same_reach a a' b b' c c' d d' e e' f f' h i j k l m = cc
 
 extents-append : (l : Lattice) (v w : Vector) (vs ws : List Vector) → extents l v (vs ++ w ∷ ws) ≡ both (extents l v vs) (extents l w ws)
@@ -138,7 +138,7 @@ motions_joined l xs ys whole b c h =
     (united_there l (effect l xs) (drawn l xs) (drawn l ys) whole.drawn h.drawn ∙ ap (extents_of l) (sym (told-append drawn_ends drawn_from l xs ys b c)))
     (united_there l (effect l xs) (reach l xs) (reach l ys) whole.reached h.reached ∙ ap (extents_of l) (sym (told-append place_reached reached_from l xs ys b c)))
 
-never : (n : ℕ) → (suc n == 0) ≡ true → ⊥
+pub never : (n : ℕ) → (suc n == 0) ≡ true → ⊥
 never n h = grind (arith, nat_tests)
 
 pub balanced-append : (k : ℕ) (xs ys : List (S.Symbol ℤ)) → balanced k xs ≡ true → balanced 0 ys ≡ true → balanced k (xs ++ ys) ≡ true
@@ -154,10 +154,7 @@ balanced-append k (S.Cut ∷ xs) ys b c = balanced-append k xs ys b c
 
 from_there : (l : Lattice) (vs : List Vector) → map (place_from l (at_start l).here) vs ≡ vs
 from_there l [] = refl
-from_there l (v ∷ vs) = ap (λ (u : Vector). u ∷ map (place_from l (at_start l).here) vs) (ap (plus origin) (carried-start l v) ∙ origin_plus v) ∙ ap (λ us. v ∷ us) (from_there l vs)
-  where
-    origin_plus : (v : Vector) → plus origin v ≡ v
-    origin_plus v = same_vector _ _ _ _ _ _ (omega (arith, ints)) (omega (arith, ints)) (omega (arith, ints))
+from_there l (v ∷ vs) = ap (λ (u : Vector). u ∷ map (place_from l (at_start l).here) vs) (place_there l v) ∙ ap (λ us. v ∷ us) (from_there l vs)
 
 closed : (told : Act → Stand → List Vector) (l : Lattice) (xs : List (S.Symbol ℤ)) (w : Walker) → places told l (xs ++ S.Pop ∷ []) w ≡ places told l xs w
 closed told l [] w = refl
@@ -166,13 +163,13 @@ closed told l (x ∷ xs) w = ap (λ vs. symbol_places told x w.here ++ vs) (clos
 two_more : (n : ℕ) → suc (n + 1) ≡ n + 2
 two_more n = omega arith
 
-pub motion_branched : (l : Lattice) (xs : List (S.Symbol ℤ)) → Contains (frames l) (at_start l).here.frame → balanced 0 xs ≡ true → motion l (S.Push ∷ xs ++ S.Pop ∷ []) ≡ branched l (motion l xs)
-motion_branched l xs k b =
+pub motion_branched : (l : Lattice) (xs : List (S.Symbol ℤ)) → balanced 0 xs ≡ true → motion l (S.Push ∷ xs ++ S.Pop ∷ []) ≡ branched l (motion l xs)
+motion_branched l xs b =
     let start : Stand = (at_start l).here in
     let ends : drawn l (S.Push ∷ xs ++ S.Pop ∷ []) ≡ drawn l xs =
-    closed drawn_ends l xs (walker start (start ∷ [])) ∙ told_anywhere drawn_ends drawn_from l start (start ∷ []) xs k b ∙ from_there l (drawn l xs) in
+    closed drawn_ends l xs (walker start (start ∷ [])) ∙ told_anywhere drawn_ends drawn_from l start (start ∷ []) xs (first_known l) b ∙ from_there l (drawn l xs) in
     let all : reach l (S.Push ∷ xs ++ S.Pop ∷ []) ≡ reach l xs =
-    closed place_reached l xs (walker start (start ∷ [])) ∙ told_anywhere place_reached reached_from l start (start ∷ []) xs k b ∙ from_there l (reach l xs) in
+    closed place_reached l xs (walker start (start ∷ [])) ∙ told_anywhere place_reached reached_from l start (start ∷ []) xs (first_known l) b ∙ from_there l (reach l xs) in
     same_motion (motion l (S.Push ∷ xs ++ S.Pop ∷ [])) (branched l (motion l xs)) (ap suc (length-append xs (S.Pop ∷ [])) ∙ two_more (length xs)) (effect-branch l xs b) (ap (extents_of l) ends) (ap (extents_of l) all)
 
 pub motion_module : (l : Lattice) (name : S.ModuleName) (ps : List ℤ) → motion l (S.Module name ps ∷ []) ≡ moved l (act name ps)

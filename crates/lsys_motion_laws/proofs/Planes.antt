@@ -4,14 +4,13 @@ use Rattle.std.specs.Prelude.{ℤ, pos, ◌+ℤ◌, ◌*ℤ◌, Contains}
 use Rattle.std.specs.List.{list_all}
 use Rattle.std.proofs.Common.{int_eq}
 use Rattle.std.proofs.lemmas.Int.{ints}
-use Rattle.std.proofs.lemmas.Bool.Decides.{Decides-int_eq}
 use Rattle.lsys_syntax.specs.Strings as S
 use Rattle.lsys_spec.specs.Systems.{Each}
 use Rattle.lsys_spec.specs.Lattices.{Lattice, square, hexagonal, cubic, Vector, Frame, frames}
 use Rattle.lsys_spec.specs.Pictures.{Act, draws, moves, turns, widens, rests, act, origin}
-use Rattle.std.proofs.lemmas.List.Sums.{AllPass-from_list_all}
 use Rattle.lsys_effects.specs.Effects.{Stand, Walker, walker, ahead, done, walked, place_reached, reached, stand_from, effect}
 use Rattle.lsys_effects.proofs.Moving.{walked_known, law_of_effects}
+use Rattle.lsys_motion_laws.proofs.Rows.{equal, of_frame}
 use Rattle.lsys_motion_laws.specs.Far.{IsInPlane}
 
 abbrev heads_in_plane : Frame → Bool
@@ -21,7 +20,7 @@ all_in_plane : list_all heads_in_plane (frames hexagonal) ≡ true
 all_in_plane = refl
 
 no_height : (f : Frame) → Contains (frames hexagonal) f → f.heading.z ≡ pos 0
-no_height f k = (Decides-int_eq f.heading.z (pos 0)).0 (subst (λ g. heads_in_plane g ≡ true) k.2 (AllPass-from_list_all heads_in_plane (frames hexagonal) all_in_plane k.0 f k.1))
+no_height f k = equal f.heading.z (pos 0) (of_frame heads_in_plane (frames hexagonal) f all_in_plane k)
 
 no_multiple : (n : ℤ) → n *ℤ pos 0 ≡ pos 0
 no_multiple n = omega (arith, ints)

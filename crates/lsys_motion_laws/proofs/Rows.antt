@@ -1,5 +1,5 @@
 -- A frame takes each measure to one of the three, or to the opposite of one: so it takes extents to extents.
-use Rattle.std.proofs.Common.{◌≡◌, ◌&&◌, ◌||◌, Bool, true, false, cond, Option, Some, None, List, [], ◌∷◌, map, refl, ap, sym, ◌∙◌, arith, subst}
+use Rattle.std.proofs.Common.{◌≡◌, ◌&&◌, ◌||◌, Bool, true, false, List, [], ◌∷◌, map, refl, ap, sym, ◌∙◌, arith, subst}
 use Rattle.std.specs.Prelude.{ℤ, pos, negsuc, neg_ℤ, ◌+ℤ◌, ◌*ℤ◌, ◌≤ℤ◌, fold, Contains}
 use Rattle.std.specs.List.{list_all}
 use Rattle.std.specs.Ordering.{int_eq}
@@ -7,13 +7,14 @@ use Rattle.std.specs.Int.{int_min, int_max}
 use Rattle.std.proofs.lemmas.Bool.Decides.{Decides-int_eq}
 use Rattle.std.proofs.lemmas.List.Sums.{AllPass-from_list_all}
 use Rattle.std.proofs.lemmas.Int.{ints, int_min_is, int_max_is}
-use Rattle.lsys_spec.specs.Lattices.{Lattice, square, hexagonal, cubic, Vector, vector, Frame, frames}
+use Rattle.lsys_spec.specs.Lattices.{Lattice, square, hexagonal, cubic, Vector, Frame, frames}
 use Rattle.lsys_spec.proofs.Tests.{both}
-use Rattle.lsys_effects.specs.Rotations.{carried, measures}
+use Rattle.lsys_effects.specs.Rotations.{carried}
 use Rattle.lsys_effects.specs.Extents.{Extents, least, greatest, extents, AreCarried}
 use Rattle.lsys_effects.proofs.Ranges.{least_same, greatest_same, least_opposite, greatest_opposite}
 use Rattle.lsys_effects.proofs.Ring.{times_sum}
-use Rattle.lsys_motion_laws.specs.Motions.{along, corners, carried_measures, carried_extents}
+use Rattle.lsys_motion_laws.proofs.Joining.{same_reach}
+use Rattle.lsys_motion_laws.specs.Motions.{along, carried_extents}
 
 -- 1. one measure
 
@@ -43,20 +44,22 @@ ap_two : (f : ℤ → ℤ → ℤ) (a a' b b' : ℤ) → a ≡ a' → b ≡ b' �
 ap_two f a a' b b' h k = cc
 
 spans_same : (p : Vector → ℤ) (g : Vector → Vector) (v : Vector) (vs : List Vector) (q : Vector → ℤ) (a b : ℤ) → a ≡ least q v vs → b ≡ greatest q v vs → ((w : Vector) → p (g w) ≡ q w) → Spans p g v vs a b
-spans_same p g v vs q a b d e h =
-    (ap_two int_min a (least q v vs) b (greatest q v vs) d e ∙ least_first _ _ (in_order q v vs) ∙ sym (least_same g p q h v vs),
-     ap_two int_max a (least q v vs) b (greatest q v vs) d e ∙ greatest_last _ _ (in_order q v vs) ∙ sym (greatest_same g p q h v vs))
+spans_same p g v vs q a b d e h = (
+  ap_two int_min a (least q v vs) b (greatest q v vs) d e ∙ least_first _ _ (in_order q v vs) ∙ sym (least_same g p q h v vs),
+  ap_two int_max a (least q v vs) b (greatest q v vs) d e ∙ greatest_last _ _ (in_order q v vs) ∙ sym (greatest_same g p q h v vs),
+)
 
 spans_back : (p : Vector → ℤ) (g : Vector → Vector) (v : Vector) (vs : List Vector) (q : Vector → ℤ) (a b : ℤ) → a ≡ neg_ℤ (least q v vs) → b ≡ neg_ℤ (greatest q v vs) → ((w : Vector) → p (g w) ≡ neg_ℤ (q w)) → Spans p g v vs a b
-spans_back p g v vs q a b d e h =
-    (ap_two int_min a (neg_ℤ (least q v vs)) b (neg_ℤ (greatest q v vs)) d e ∙ least_back _ _ (in_order q v vs) ∙ sym (least_opposite g p q h v vs),
-     ap_two int_max a (neg_ℤ (least q v vs)) b (neg_ℤ (greatest q v vs)) d e ∙ greatest_back _ _ (in_order q v vs) ∙ sym (greatest_opposite g p q h v vs))
+spans_back p g v vs q a b d e h = (
+  ap_two int_min a (neg_ℤ (least q v vs)) b (neg_ℤ (greatest q v vs)) d e ∙ least_back _ _ (in_order q v vs) ∙ sym (least_opposite g p q h v vs),
+  ap_two int_max a (neg_ℤ (least q v vs)) b (neg_ℤ (greatest q v vs)) d e ∙ greatest_back _ _ (in_order q v vs) ∙ sym (greatest_opposite g p q h v vs),
+)
 
 either : (A : Type 0) (b c : Bool) → (b || c) ≡ true → (b ≡ true → A) → (c ≡ true → A) → A
 either A true c h f g = f refl
 either A false c h f g = g h
 
-equal : (a b : ℤ) → int_eq a b ≡ true → a ≡ b
+pub equal : (a b : ℤ) → int_eq a b ≡ true → a ≡ b
 equal a b h = (Decides-int_eq a b).0 h
 
 -- 2. the square and the cubic lattice
@@ -106,7 +109,7 @@ square_rows = refl
 cubic_rows : list_all has_rows (frames cubic) ≡ true
 cubic_rows = refl
 
-of_frame : (test : Frame → Bool) (fs : List Frame) (f : Frame) → list_all test fs ≡ true → Contains fs f → test f ≡ true
+pub of_frame : (test : Frame → Bool) (fs : List Frame) (f : Frame) → list_all test fs ≡ true → Contains fs f → test f ≡ true
 of_frame test fs f all k = subst (λ g. test g ≡ true) k.2 (AllPass-from_list_all test fs all k.0 f k.1)
 
 -- 3. the hexagonal lattice
@@ -177,12 +180,6 @@ sum_of_rows a b c d x y =
 
 -- 4. extents
 
-abbrev reach_of : Vector → Vector → Extents
-reach_of low high = record { low = low; high = high }
-
-same_reach : (a a' b b' c c' d d' e e' f f' : ℤ) → a ≡ a' → b ≡ b' → c ≡ c' → d ≡ d' → e ≡ e' → f ≡ f' → reach_of (vector a b c) (vector d e f) ≡ reach_of (vector a' b' c') (vector d' e' f')
-same_reach a a' b b' c c' d d' e e' f f' h i j k l m = cc
-
 pub extents_carried : (l : Lattice) (f : Frame) → Contains (frames l) f → (v : Vector) (vs : List Vector) → carried_extents l f (extents l v vs) ≡ extents l (carried l f v) (map (carried l f) vs)
 extents_carried square f k v vs =
     let all = both (is_row f.heading.x f.left.x f.up.x) _ (of_frame has_rows (frames square) f square_rows k) in
@@ -209,7 +206,7 @@ extents_carried hexagonal f k v vs =
     let at_x : (w : Vector) → (g w).x ≡ slope f.heading.x f.left.x w.x w.y = λ w. flat_row f.heading.x f.left.x f.up.x w.x w.y w.z ux in
     let at_y : (w : Vector) → (g w).y ≡ slope f.heading.y f.left.y w.x w.y = λ w. flat_row f.heading.y f.left.y f.up.y w.x w.y w.z uy in
     let at_z : (w : Vector) → (g w).x +ℤ (g w).y ≡ slope (f.heading.x +ℤ f.heading.y) (f.left.x +ℤ f.left.y) w.x w.y =
-        λ w. ap_two (λ a b. a +ℤ b) _ _ _ _ (at_x w) (at_y w) ∙ sum_of_rows f.heading.x f.left.x f.heading.y f.left.y w.x w.y in
+    λ w. ap_two (λ a b. a +ℤ b) _ _ _ _ (at_x w) (at_y w) ∙ sum_of_rows f.heading.x f.left.x f.heading.y f.left.y w.x w.y in
     let x = sixth_spans _ _ one.0 (λ w. w.x) g at_x v vs in
     let y = sixth_spans _ _ two.0 (λ w. w.y) g at_y v vs in
     let z = sixth_spans _ _ three.0 (λ w. w.x +ℤ w.y) g at_z v vs in

@@ -25,8 +25,10 @@ ghost use Rattle.lsys_motion_laws.specs.Courses.{course, onward, inward, strung,
 /// What a frame of the lattice makes of the extents of places is told by the extents alone, and so is how they are seen from a
 /// stand.
 pub fn law_of_carried_extents()
-    ensures frame { (l : Lattice) (f : Frame) (e : Extents) → Contains (frames l) f → AreCarried l f e (carried_extents l f e) }
-    ensures stand { (l : Lattice) (from : Stand) (o : Option Extents) → Contains (frames l) from.frame
+    ensures frame { (l : Lattice) (f : Frame) (e : Extents) → Contains (frames l) f
+        → AreCarried l f e (carried_extents l f e) }
+    ensures stand { (l : Lattice) (from : Stand) (o : Option Extents)
+        → Contains (frames l) from.frame
         → AreSeen l from o (seen_from l from o) }
 {}
 
@@ -34,21 +36,25 @@ pub fn law_of_carried_extents()
 /// joined first, and rest adds nothing; what is made by carrying extents is this. A branch leads nowhere, and draws and reaches
 /// what is in it; a single module has the motion of what it does, and no symbol is at rest.
 pub fn law_of_motions()
-    ensures joined { (l : Lattice) (xs ys : List (S.Symbol ℤ)) → balanced 0 xs ≡ true → balanced 0 ys ≡ true
+    ensures joined { (l : Lattice) (xs ys : List (S.Symbol ℤ)) → balanced 0 xs ≡ true
+        → balanced 0 ys ≡ true
         → motion l (xs ++ ys) ≡ joined l (motion l xs) (motion l ys) }
-    ensures made { (l : Lattice) (xs ys : List (S.Symbol ℤ)) (whole : Motion) → balanced 0 xs ≡ true → balanced 0 ys ≡ true
-        → IsJoined l (motion l xs) (motion l ys) whole → whole ≡ joined l (motion l xs) (motion l ys) }
+    ensures made { (l : Lattice) (xs ys : List (S.Symbol ℤ)) (whole : Motion)
+        → balanced 0 xs ≡ true → balanced 0 ys ≡ true
+        → IsJoined l (motion l xs) (motion l ys) whole
+        → whole ≡ joined l (motion l xs) (motion l ys) }
     ensures associative { (l : Lattice) (xs ys zs : List (S.Symbol ℤ))
         → balanced 0 xs ≡ true → balanced 0 ys ≡ true → balanced 0 zs ≡ true
         → joined l (joined l (motion l xs) (motion l ys)) (motion l zs)
-            ≡ joined l (motion l xs) (joined l (motion l ys) (motion l zs)) }
+        ≡ joined l (motion l xs) (joined l (motion l ys) (motion l zs)) }
     ensures rest_before { (l : Lattice) (xs : List (S.Symbol ℤ)) → balanced 0 xs ≡ true
         → joined l (at_rest l 0) (motion l xs) ≡ motion l xs }
     ensures rest_behind { (l : Lattice) (xs : List (S.Symbol ℤ)) → balanced 0 xs ≡ true
         → joined l (motion l xs) (at_rest l 0) ≡ motion l xs }
     ensures branch { (l : Lattice) (xs : List (S.Symbol ℤ)) → balanced 0 xs ≡ true
         → motion l (S.Push ∷ xs ++ S.Pop ∷ []) ≡ branched l (motion l xs) }
-    ensures module { (l : Lattice) (name : ModuleName) (ps : List ℤ) → motion l (S.Module name ps ∷ []) ≡ moved l (act name ps) }
+    ensures module { (l : Lattice) (name : ModuleName) (ps : List ℤ)
+        → motion l (S.Module name ps ∷ []) ≡ moved l (act name ps) }
     ensures mark { (l : Lattice) → motion l (S.Cut ∷ []) ≡ at_rest l 1 }
     ensures rest { (l : Lattice) → motion l [] ≡ at_rest l 0 }
 {}
@@ -60,12 +66,16 @@ pub fn law_of_courses()
     ensures anywhere { (l : Lattice) (from : Stand) (below : List Stand) (n : ℕ) (xs : List (S.Symbol ℤ))
         → Contains (frames l) from.frame → balanced 0 xs ≡ true
         → walked l (take n xs) (walker from below) ≡ walker_from l from below (course l n xs) }
-    ensures first { (l : Lattice) (n : ℕ) (xs ys : List (S.Symbol ℤ)) → n ≤ length xs → course l n (xs ++ ys) ≡ course l n xs }
-    ensures second { (l : Lattice) (n : ℕ) (xs ys : List (S.Symbol ℤ)) → balanced 0 xs ≡ true → balanced 0 ys ≡ true
+    ensures first { (l : Lattice) (n : ℕ) (xs ys : List (S.Symbol ℤ)) → n ≤ length xs
+        → course l n (xs ++ ys) ≡ course l n xs }
+    ensures second { (l : Lattice) (n : ℕ) (xs ys : List (S.Symbol ℤ)) → balanced 0 xs ≡ true
+        → balanced 0 ys ≡ true
         → course l (length xs + n) (xs ++ ys) ≡ onward l xs (course l n ys) }
-    ensures branch { (l : Lattice) (n : ℕ) (xs : List (S.Symbol ℤ)) → balanced 0 xs ≡ true → n ≤ length xs
+    ensures branch { (l : Lattice) (n : ℕ) (xs : List (S.Symbol ℤ)) → balanced 0 xs ≡ true
+        → n ≤ length xs
         → course l (suc n) (S.Push ∷ xs ++ S.Pop ∷ []) ≡ inward l (course l n xs) }
-    ensures behind { (l : Lattice) (n : ℕ) (xs : List (S.Symbol ℤ)) → balanced 0 xs ≡ true → length xs + 2 ≤ n
+    ensures behind { (l : Lattice) (n : ℕ) (xs : List (S.Symbol ℤ)) → balanced 0 xs ≡ true
+        → length xs + 2 ≤ n
         → course l n (S.Push ∷ xs ++ S.Pop ∷ []) ≡ at_start l }
 {}
 
@@ -84,8 +94,10 @@ pub fn law_of_strides()
 /// the parts before it by their effects alone, and into a branch with the start saved. Behind its `]` a branch has led nowhere,
 /// and the width is what it was.
 pub fn law_of_fronts()
-    ensures balanced { (parts : Parts) → HasBalancedRuns parts → balanced 0 (string_of parts) ≡ true }
-    ensures descent { (l : Lattice) (n : ℕ) (parts : Parts) → HasBalancedRuns parts → n ≤ length (string_of parts)
+    ensures balanced { (parts : Parts) → HasBalancedRuns parts
+        → balanced 0 (string_of parts) ≡ true }
+    ensures descent { (l : Lattice) (n : ℕ) (parts : Parts) → HasBalancedRuns parts
+        → n ≤ length (string_of parts)
         → descent l n parts ≡ course l n (string_of parts) }
 {}
 
@@ -111,7 +123,8 @@ pub fn law_of_far_modules()
 /// parts have balanced images.
 pub fn law_of_image_parts()
     ensures parts { (hs : List Homomorphism) (n k : ℕ) (x y : List Symbol)
-        → image_from hs n k (x ++ y) ≡ and_behind (image_from hs n k x) k (λ j. image_from hs (modules_in n x) j y) }
+        → image_from hs n k (x ++ y)
+        ≡ and_behind (image_from hs n k x) k (λ j. image_from hs (modules_in n x) j y) }
     ensures middle { (s : System) (before part behind : List Symbol) (ys : List (S.Symbol ℤ))
         → image s (before ++ (part ++ behind)) ≡ Ok ys → HasPartImage s before part behind ys }
     ensures balanced { (s : System) (x : List Symbol) (ys : List (S.Symbol ℤ)) → HasBalancedImages s

@@ -1,5 +1,4 @@
 use Rattle.std.proofs.Common.{refl}
-use Rattle.lsys_motion_laws.proofs.Fronts.{first_known}
 use Rattle.lsys_motion_laws.proofs.Joining.{motion_branched, motion_module}
 use Rattle.lsys_motion_laws.proofs.Wholes.{whole_motion, made_motion, either_way, rest_before, rest_behind}
 use Rattle.lsys_motion_laws.proofs.law_of_motions.Goals as goal
@@ -20,7 +19,7 @@ pub returns-clause-rest_behind : goal.returns-clause-rest_behind
 returns-clause-rest_behind c = rest_behind
 
 pub returns-clause-branch : goal.returns-clause-branch
-returns-clause-branch c l xs b = motion_branched l xs (first_known l) b
+returns-clause-branch c = motion_branched
 
 pub returns-clause-module : goal.returns-clause-module
 returns-clause-module c = motion_module
