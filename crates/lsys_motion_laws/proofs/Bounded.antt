@@ -18,7 +18,7 @@ use Rattle.lsys_effects.specs.Effects.{Stand, Walker, walker, walked, stepped, p
 use Rattle.lsys_effects.specs.Free.{first_far, goes_far}
 use Rattle.lsys_effects.proofs.Freely.{reached_near}
 use Rattle.lsys_effects.proofs.Moving.{told_anywhere, reached_from}
-use Rattle.lsys_motion_laws.specs.Motions.{extents_of, motion, AreSeen}
+use Rattle.lsys_motion_laws.specs.Motions.{extents_or_none, motion, AreSeen}
 use Rattle.lsys_motion_laws.specs.Far.{coordinates, stays_near, IsInPlane, modules_past}
 use Rattle.lsys_motion_laws.proofs.Joining.{seen_there}
 use Rattle.lsys_motion_laws.proofs.Planes.{all_reached_in_plane}
@@ -141,7 +141,7 @@ no_heights : (vs : List Vector) → Each (IsInPlane hexagonal) vs → list_all (
 no_heights [] h = refl
 no_heights (v ∷ vs) h = ap (λ (z : ℤ). small limit z && list_all (small limit) (map (λ v. v.z) vs)) h.0 ∙ no_heights vs h.1
 
-near_all : (l : Lattice) (vs : List Vector) → Each (IsInPlane l) vs → stays_near l (extents_of l vs) ≡ list_all (λ v. not (is_far v)) vs
+near_all : (l : Lattice) (vs : List Vector) → Each (IsInPlane l) vs → stays_near l (extents_or_none l vs) ≡ list_all (λ v. not (is_far v)) vs
 near_all l [] h = refl
 near_all square (v ∷ vs) h =
     corners (extents square v vs).low (extents square v vs).high _ _ _ (all_small limit (λ w. w.x) v vs) (all_small limit (λ w. w.y) v vs) (all_small limit (λ w. w.z) v vs) ∙ sym (all_near (v ∷ vs))
@@ -158,7 +158,7 @@ none_far l from below n xs seen k p b h =
     let there : reached l xs (walker from []) ≡ map (place_from l from) (reach l xs) = told_anywhere place_reached reached_from l from [] xs k b in
     let also : reached l xs (walker from below) ≡ map (place_from l from) (reach l xs) = told_anywhere place_reached reached_from l from below xs k b in
     let same : stays_near l seen ≡ list_all (λ v. not (is_far v)) (reached l xs (walker from below)) =
-    ap (stays_near l) (seen_there l from (reach l xs) seen h ∙ ap (extents_of l) (sym there))
+    ap (stays_near l) (seen_there l from (reach l xs) seen h ∙ ap (extents_or_none l) (sym there))
     ∙ near_all l (reached l xs (walker from [])) (all_reached_in_plane l xs from [] (k, p) tt)
     ∙ ap (list_all (λ v. not (is_far v))) (there ∙ sym also) in
     subst (λ (a : Bool). (first_far l n (walker from below) xs ≡ None) ↔ (a ≡ true)) (sym same) (reached_near l n (walker from below) xs)

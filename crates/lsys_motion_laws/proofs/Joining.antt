@@ -16,7 +16,7 @@ use Rattle.lsys_effects.specs.Extents.{Extents, extents}
 use Rattle.lsys_effects.specs.Effects.{Stand, Walker, walker, stepped, drawn_ends, place_reached, symbol_places, places, at_start, place_from, effect, drawn, reach}
 use Rattle.lsys_effects.proofs.Moving.{effect-append, effect-branch, told-append, told_anywhere, drawn_from, reached_from}
 use Rattle.lsys_motion_laws.proofs.Fronts.{first_known, place_there}
-use Rattle.lsys_motion_laws.specs.Motions.{Motion, extents_of, motion, branched, moved, both, united, shifted, AreSeen, AreUnited, IsJoined}
+use Rattle.lsys_motion_laws.specs.Motions.{Motion, extents_or_none, motion, branched, motion_of_act, both, united, shifted_by, AreSeen, AreUnited, IsJoined}
 
 -- 1. the least and the greatest of lists one behind the other
 
@@ -56,7 +56,7 @@ extents-append l v w vs ws =
     (measured-append int_max greatest_associative (λ u. (measures l u).y) v w vs ws)
     (measured-append int_max greatest_associative (λ u. (measures l u).z) v w vs ws)
 
-pub extents_of-append : (l : Lattice) (vs ws : List Vector) → extents_of l (vs ++ ws) ≡ united (extents_of l vs) (extents_of l ws)
+pub extents_of-append : (l : Lattice) (vs ws : List Vector) → extents_or_none l (vs ++ ws) ≡ united (extents_or_none l vs) (extents_or_none l ws)
 extents_of-append l [] ws = refl
 extents_of-append l (v ∷ vs) [] = ap (λ us. Some (extents l v us)) (append-nil vs)
 extents_of-append l (v ∷ vs) (w ∷ ws) = ap Some (extents-append l v w vs ws)
@@ -89,7 +89,7 @@ measure_plus square u w = refl
 measure_plus hexagonal u w = same_vector _ _ _ _ _ _ refl refl (omega (arith, ints))
 measure_plus cubic u w = refl
 
-extents_shifted : (l : Lattice) (u v : Vector) (vs : List Vector) → extents l (plus u v) (map (plus u) vs) ≡ shifted l u (extents l v vs)
+extents_shifted : (l : Lattice) (u v : Vector) (vs : List Vector) → extents l (plus u v) (map (plus u) vs) ≡ shifted_by l u (extents l v vs)
 extents_shifted l u v vs =
     same_reach _ _ _ _ _ _ _ _ _ _ _ _
     (ends_shifted int_min least_shifted (λ w. (measures l w).x) (plus u) (measures l u).x (λ w. ap (λ (q : Vector). q.x) (measure_plus l u w)) v vs)
@@ -105,18 +105,18 @@ carried_there : (l : Lattice) (from : Stand) (vs : List Vector) → map (place_f
 carried_there l from [] = refl
 carried_there l from (v ∷ vs) = ap (λ us. place_from l from v ∷ us) (carried_there l from vs)
 
-pub seen_there : (l : Lattice) (from : Stand) (vs : List Vector) (after : Option Extents) → AreSeen l from (extents_of l vs) after → after ≡ extents_of l (map (place_from l from) vs)
+pub seen_there : (l : Lattice) (from : Stand) (vs : List Vector) (after : Option Extents) → AreSeen l from (extents_or_none l vs) after → after ≡ extents_or_none l (map (place_from l from) vs)
 seen_there l from [] after h = h
 seen_there l from (v ∷ vs) after h =
     h.2
-    ∙ ap (λ (e : Extents). Some (shifted l from.place e)) (h.1 v vs refl)
+    ∙ ap (λ (e : Extents). Some (shifted_by l from.place e)) (h.1 v vs refl)
     ∙ ap Some (sym (extents_shifted l from.place (carried l from.frame v) (map (carried l from.frame) vs)))
     ∙ ap (λ us. Some (extents l (place_from l from v) us)) (sym (carried_there l from vs))
 
-united_there : (l : Lattice) (from : Stand) (vs ws : List Vector) (whole : Option Extents) → AreUnited l from (extents_of l vs) (extents_of l ws) whole
-    → whole ≡ extents_of l (vs ++ map (place_from l from) ws)
+united_there : (l : Lattice) (from : Stand) (vs ws : List Vector) (whole : Option Extents) → AreUnited l from (extents_or_none l vs) (extents_or_none l ws) whole
+    → whole ≡ extents_or_none l (vs ++ map (place_from l from) ws)
 united_there l from vs ws whole h =
-    h.2 ∙ ap (united (extents_of l vs)) (seen_there l from ws h.0 h.1) ∙ sym (extents_of-append l vs (map (place_from l from) ws))
+    h.2 ∙ ap (united (extents_or_none l vs)) (seen_there l from ws h.0 h.1) ∙ sym (extents_of-append l vs (map (place_from l from) ws))
 
 -- 4. motions
 
@@ -135,8 +135,8 @@ motions_joined l xs ys whole b c h =
     same_motion whole (motion l (xs ++ ys))
     (h.symbols ∙ sym (length-append xs ys))
     (h.effect ∙ sym (effect-append l xs ys b c))
-    (united_there l (effect l xs) (drawn l xs) (drawn l ys) whole.drawn h.drawn ∙ ap (extents_of l) (sym (told-append drawn_ends drawn_from l xs ys b c)))
-    (united_there l (effect l xs) (reach l xs) (reach l ys) whole.reached h.reached ∙ ap (extents_of l) (sym (told-append place_reached reached_from l xs ys b c)))
+    (united_there l (effect l xs) (drawn l xs) (drawn l ys) whole.drawn h.drawn ∙ ap (extents_or_none l) (sym (told-append drawn_ends drawn_from l xs ys b c)))
+    (united_there l (effect l xs) (reach l xs) (reach l ys) whole.reached h.reached ∙ ap (extents_or_none l) (sym (told-append place_reached reached_from l xs ys b c)))
 
 pub never : (n : ℕ) → (suc n == 0) ≡ true → ⊥
 never n h = grind (arith, nat_tests)
@@ -170,11 +170,11 @@ motion_branched l xs b =
     closed drawn_ends l xs (walker start (start ∷ [])) ∙ told_anywhere drawn_ends drawn_from l start (start ∷ []) xs (first_known l) b ∙ from_there l (drawn l xs) in
     let all : reach l (S.Push ∷ xs ++ S.Pop ∷ []) ≡ reach l xs =
     closed place_reached l xs (walker start (start ∷ [])) ∙ told_anywhere place_reached reached_from l start (start ∷ []) xs (first_known l) b ∙ from_there l (reach l xs) in
-    same_motion (motion l (S.Push ∷ xs ++ S.Pop ∷ [])) (branched l (motion l xs)) (ap suc (length-append xs (S.Pop ∷ [])) ∙ two_more (length xs)) (effect-branch l xs b) (ap (extents_of l) ends) (ap (extents_of l) all)
+    same_motion (motion l (S.Push ∷ xs ++ S.Pop ∷ [])) (branched l (motion l xs)) (ap suc (length-append xs (S.Pop ∷ [])) ∙ two_more (length xs)) (effect-branch l xs b) (ap (extents_or_none l) ends) (ap (extents_or_none l) all)
 
-pub motion_module : (l : Lattice) (name : S.ModuleName) (ps : List ℤ) → motion l (S.Module name ps ∷ []) ≡ moved l (act name ps)
+pub motion_module : (l : Lattice) (name : S.ModuleName) (ps : List ℤ) → motion l (S.Module name ps ∷ []) ≡ motion_of_act l (act name ps)
 motion_module l name ps =
     let start : Stand = (at_start l).here in
-    same_motion (motion l (S.Module name ps ∷ [])) (moved l (act name ps)) refl refl
-    (ap (extents_of l) (append-nil (drawn_ends (act name ps) start)))
-    (ap (extents_of l) (append-nil (place_reached (act name ps) start)))
+    same_motion (motion l (S.Module name ps ∷ [])) (motion_of_act l (act name ps)) refl refl
+    (ap (extents_or_none l) (append-nil (drawn_ends (act name ps) start)))
+    (ap (extents_or_none l) (append-nil (place_reached (act name ps) start)))

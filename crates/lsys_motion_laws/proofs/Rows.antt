@@ -14,7 +14,7 @@ use Rattle.lsys_effects.specs.Extents.{Extents, least, greatest, extents, AreCar
 use Rattle.lsys_effects.proofs.Ranges.{least_same, greatest_same, least_opposite, greatest_opposite}
 use Rattle.lsys_effects.proofs.Ring.{times_sum}
 use Rattle.lsys_motion_laws.proofs.Joining.{same_reach}
-use Rattle.lsys_motion_laws.specs.Motions.{along, carried_extents}
+use Rattle.lsys_motion_laws.specs.Motions.{measured_along, carried_extents}
 
 -- 1. one measure
 
@@ -130,10 +130,10 @@ slope_is a b p q h x y =
     let one = both (int_eq a p) _ h in
     ap (λ (k : ℤ). x *ℤ k +ℤ y *ℤ b) (equal a p one.0) ∙ ap (λ (k : ℤ). x *ℤ p +ℤ y *ℤ k) (equal b q one.1)
 
-along_is : (a b p q : ℤ) → is_pair a b p q ≡ true → (m : Vector) → along a b m ≡ along p q m
+along_is : (a b p q : ℤ) → is_pair a b p q ≡ true → (m : Vector) → measured_along a b m ≡ measured_along p q m
 along_is a b p q h m =
     let one = both (int_eq a p) _ h in
-    ap (λ (k : ℤ). along k b m) (equal a p one.0) ∙ ap (λ (k : ℤ). along p k m) (equal b q one.1)
+    ap (λ (k : ℤ). measured_along k b m) (equal a p one.0) ∙ ap (λ (k : ℤ). measured_along p k m) (equal b q one.1)
 
 abbrev low_of : Vector → List Vector → Vector
 low_of v vs = (extents hexagonal v vs).low
@@ -142,20 +142,20 @@ abbrev high_of : Vector → List Vector → Vector
 high_of v vs = (extents hexagonal v vs).high
 
 sixth_spans : (a b : ℤ) → is_sixth a b ≡ true → (p : Vector → ℤ) (g : Vector → Vector) → ((w : Vector) → p (g w) ≡ slope a b w.x w.y) → (v : Vector) (vs : List Vector)
-    → Spans p g v vs (along a b (low_of v vs)) (along a b (high_of v vs))
+    → Spans p g v vs (measured_along a b (low_of v vs)) (measured_along a b (high_of v vs))
 sixth_spans a b t p g k v vs =
-    let goal : Type 0 = Spans p g v vs (along a b (low_of v vs)) (along a b (high_of v vs)) in
+    let goal : Type 0 = Spans p g v vs (measured_along a b (low_of v vs)) (measured_along a b (high_of v vs)) in
     either goal _ _ t
-    (λ h. let e : (m : Vector) → along a b m ≡ m.x = λ m. along_is a b (pos 1) (pos 0) h m ∙ omega (arith, ints) in spans_same p g v vs (λ w. w.x) _ _ (e _) (e _) (λ w. k w ∙ slope_is a b (pos 1) (pos 0) h w.x w.y ∙ omega (arith, ints)))
+    (λ h. let e : (m : Vector) → measured_along a b m ≡ m.x = λ m. along_is a b (pos 1) (pos 0) h m ∙ omega (arith, ints) in spans_same p g v vs (λ w. w.x) _ _ (e _) (e _) (λ w. k w ∙ slope_is a b (pos 1) (pos 0) h w.x w.y ∙ omega (arith, ints)))
     (λ t. either goal _ _ t
-    (λ h. let e : (m : Vector) → along a b m ≡ neg_ℤ m.x = λ m. along_is a b (negsuc 0) (pos 0) h m ∙ omega (arith, ints) in spans_back p g v vs (λ w. w.x) _ _ (e _) (e _) (λ w. k w ∙ slope_is a b (negsuc 0) (pos 0) h w.x w.y ∙ omega (arith, ints)))
+    (λ h. let e : (m : Vector) → measured_along a b m ≡ neg_ℤ m.x = λ m. along_is a b (negsuc 0) (pos 0) h m ∙ omega (arith, ints) in spans_back p g v vs (λ w. w.x) _ _ (e _) (e _) (λ w. k w ∙ slope_is a b (negsuc 0) (pos 0) h w.x w.y ∙ omega (arith, ints)))
     (λ t. either goal _ _ t
-    (λ h. let e : (m : Vector) → along a b m ≡ m.y = λ m. along_is a b (pos 0) (pos 1) h m ∙ omega (arith, ints) in spans_same p g v vs (λ w. w.y) _ _ (e _) (e _) (λ w. k w ∙ slope_is a b (pos 0) (pos 1) h w.x w.y ∙ omega (arith, ints)))
+    (λ h. let e : (m : Vector) → measured_along a b m ≡ m.y = λ m. along_is a b (pos 0) (pos 1) h m ∙ omega (arith, ints) in spans_same p g v vs (λ w. w.y) _ _ (e _) (e _) (λ w. k w ∙ slope_is a b (pos 0) (pos 1) h w.x w.y ∙ omega (arith, ints)))
     (λ t. either goal _ _ t
-    (λ h. let e : (m : Vector) → along a b m ≡ neg_ℤ m.y = λ m. along_is a b (pos 0) (negsuc 0) h m ∙ omega (arith, ints) in spans_back p g v vs (λ w. w.y) _ _ (e _) (e _) (λ w. k w ∙ slope_is a b (pos 0) (negsuc 0) h w.x w.y ∙ omega (arith, ints)))
+    (λ h. let e : (m : Vector) → measured_along a b m ≡ neg_ℤ m.y = λ m. along_is a b (pos 0) (negsuc 0) h m ∙ omega (arith, ints) in spans_back p g v vs (λ w. w.y) _ _ (e _) (e _) (λ w. k w ∙ slope_is a b (pos 0) (negsuc 0) h w.x w.y ∙ omega (arith, ints)))
     (λ t. either goal _ _ t
-    (λ h. let e : (m : Vector) → along a b m ≡ m.z = λ m. along_is a b (pos 1) (pos 1) h m ∙ omega (arith, ints) in spans_same p g v vs (λ w. w.x +ℤ w.y) _ _ (e _) (e _) (λ w. k w ∙ slope_is a b (pos 1) (pos 1) h w.x w.y ∙ omega (arith, ints)))
-    (λ h. let e : (m : Vector) → along a b m ≡ neg_ℤ m.z = λ m. along_is a b (negsuc 0) (negsuc 0) h m ∙ omega (arith, ints) in spans_back p g v vs (λ w. w.x +ℤ w.y) _ _ (e _) (e _) (λ w. k w ∙ slope_is a b (negsuc 0) (negsuc 0) h w.x w.y ∙ omega (arith, ints)))))))
+    (λ h. let e : (m : Vector) → measured_along a b m ≡ m.z = λ m. along_is a b (pos 1) (pos 1) h m ∙ omega (arith, ints) in spans_same p g v vs (λ w. w.x +ℤ w.y) _ _ (e _) (e _) (λ w. k w ∙ slope_is a b (pos 1) (pos 1) h w.x w.y ∙ omega (arith, ints)))
+    (λ h. let e : (m : Vector) → measured_along a b m ≡ neg_ℤ m.z = λ m. along_is a b (negsuc 0) (negsuc 0) h m ∙ omega (arith, ints) in spans_back p g v vs (λ w. w.x +ℤ w.y) _ _ (e _) (e _) (λ w. k w ∙ slope_is a b (negsuc 0) (negsuc 0) h w.x w.y ∙ omega (arith, ints)))))))
 
 abbrev has_sixths : Frame → Bool
 has_sixths f =

@@ -22,36 +22,36 @@ abbrev pub strung : List (List (S.Symbol ℤ)) → List (S.Symbol ℤ)
 strung [] = []
 strung (xs ∷ parts) = xs ++ strung parts
 
-abbrev pub AreBalanced : List (List (S.Symbol ℤ)) → Type 0
-AreBalanced [] = Unit {0}
-AreBalanced (xs ∷ parts) = (S.balanced 0 xs ≡ true) × AreBalanced parts
+abbrev pub AreAllBalanced : List (List (S.Symbol ℤ)) → Type 0
+AreAllBalanced [] = Unit {0}
+AreAllBalanced (xs ∷ parts) = (S.balanced 0 xs ≡ true) × AreAllBalanced parts
 
 -- where the parts lead from a stand: each from where the one before it led
-abbrev pub led : Lattice → Stand → List (List (S.Symbol ℤ)) → Stand
-led l from [] = from
-led l from (xs ∷ parts) = led l (stand_from l from (effect l xs)) parts
+abbrev pub led_through : Lattice → Stand → List (List (S.Symbol ℤ)) → Stand
+led_through l from [] = from
+led_through l from (xs ∷ parts) = led_through l (stand_from l from (effect l xs)) parts
 
 -- 2. parts of parts
 
-pub data Parts : Type 0 where
-  Run : List (S.Symbol ℤ) → Parts  -- symbols that are walked one by one
-  Row : Parts → Parts → Parts  -- one behind the other
-  Branch : Parts → Parts  -- between brackets
+pub data Grouping : Type 0 where
+  Run : List (S.Symbol ℤ) → Grouping  -- symbols that are walked one by one
+  Row : Grouping → Grouping → Grouping  -- one behind the other
+  Branch : Grouping → Grouping  -- between brackets
 
-abbrev pub string_of : Parts → List (S.Symbol ℤ)
-string_of (Run xs) = xs
-string_of (Row a b) = string_of a ++ string_of b
-string_of (Branch a) = S.Push ∷ string_of a ++ S.Pop ∷ []
+abbrev pub nested_string : Grouping → List (S.Symbol ℤ)
+nested_string (Run xs) = xs
+nested_string (Row a b) = nested_string a ++ nested_string b
+nested_string (Branch a) = S.Push ∷ nested_string a ++ S.Pop ∷ []
 
-abbrev pub HasBalancedRuns : Parts → Type 0
+abbrev pub HasBalancedRuns : Grouping → Type 0
 HasBalancedRuns (Run xs) = S.balanced 0 xs ≡ true
 HasBalancedRuns (Row a b) = HasBalancedRuns a × HasBalancedRuns b
 HasBalancedRuns (Branch a) = HasBalancedRuns a
 
 -- behind n symbols: down to the run where these end, by the numbers of symbols of the parts alone
-abbrev pub descent : Lattice → ℕ → Parts → Walker
+abbrev pub descent : Lattice → ℕ → Grouping → Walker
 descent l n (Run xs) = course l n xs
 descent l n (Row a b) =
-    if nat_lt (length (string_of a)) n then onward l (string_of a) (descent l (n - length (string_of a)) b) else descent l n a
+    if nat_lt (length (nested_string a)) n then onward l (nested_string a) (descent l (n - length (nested_string a)) b) else descent l n a
 descent l zero (Branch a) = at_start l
-descent l (suc n) (Branch a) = if nat_lt (length (string_of a)) n then at_start l else inward l (descent l n a)
+descent l (suc n) (Branch a) = if nat_lt (length (nested_string a)) n then at_start l else inward l (descent l n a)

@@ -4,10 +4,10 @@
 #![tactic(auto)]
 
 ghost use Rattle.std.specs.Prelude.{◌≡◌, ◌+◌, ◌≤◌, ℕ, ℤ, suc, true, None, Option, ◌↔◌, List, [], ◌∷◌, ◌++◌, length, take, Contains, Ok};
+ghost use Rattle.std.specs.Option.{option_or};
 ghost use Rattle.lsys_syntax.specs.Strings.{ModuleName, balanced};
 ghost use Rattle.lsys_syntax.specs.Strings as S;
 ghost use Rattle.lsys_spec.specs.Lattices.{Lattice, Frame, frames};
-ghost use Rattle.std.specs.Option.{option_or};
 ghost use Rattle.lsys_spec.specs.Systems.{System, Homomorphism, WellSpelled};
 ghost use Rattle.lsys_spec.specs.LevelLaws.{HasBalance};
 ghost use Rattle.lsys_spec.specs.Levels.{Symbol, ModuleValue, Module, level_balanced};
@@ -18,9 +18,9 @@ ghost use Rattle.lsys_spec.specs.Pictures.{act, origin};
 ghost use Rattle.lsys_effects.specs.Extents.{Extents, AreCarried};
 ghost use Rattle.lsys_effects.specs.Free.{first_far};
 ghost use Rattle.lsys_effects.specs.Effects.{Stand, Walker, at_start, stand_from, effect, walker, walked, walker_from};
-ghost use Rattle.lsys_motion_laws.specs.Motions.{Motion, motion, at_rest, moved, branched, IsJoined, AreSeen, carried_extents, seen_from, joined};
+ghost use Rattle.lsys_motion_laws.specs.Motions.{Motion, motion, at_rest, motion_of_act, branched, IsJoined, AreSeen, carried_extents, seen_from, joined};
 ghost use Rattle.lsys_motion_laws.specs.Far.{stays_near, IsInPlane, modules_past};
-ghost use Rattle.lsys_motion_laws.specs.Courses.{course, onward, inward, strung, AreBalanced, led, Parts, string_of, HasBalancedRuns, descent};
+ghost use Rattle.lsys_motion_laws.specs.Courses.{course, onward, inward, strung, AreAllBalanced, led_through, Grouping, nested_string, HasBalancedRuns, descent};
 
 /// What a frame of the lattice makes of the extents of places is told by the extents alone, and so is how they are seen from a
 /// stand.
@@ -54,7 +54,7 @@ pub fn law_of_motions()
     ensures branch { (l : Lattice) (xs : List (S.Symbol ℤ)) → balanced 0 xs ≡ true
         → motion l (S.Push ∷ xs ++ S.Pop ∷ []) ≡ branched l (motion l xs) }
     ensures module { (l : Lattice) (name : ModuleName) (ps : List ℤ)
-        → motion l (S.Module name ps ∷ []) ≡ moved l (act name ps) }
+        → motion l (S.Module name ps ∷ []) ≡ motion_of_act l (act name ps) }
     ensures mark { (l : Lattice) → motion l (S.Cut ∷ []) ≡ at_rest l 1 }
     ensures rest { (l : Lattice) → motion l [] ≡ at_rest l 0 }
 {}
@@ -82,23 +82,23 @@ pub fn law_of_courses()
 /// Parts side by side lead where each of them leads from where the one before it led. In one of them the turtle goes the way
 /// of that part from where those before it led, whatever stands behind it.
 pub fn law_of_strides()
-    ensures effect { (l : Lattice) (parts : List (List (S.Symbol ℤ))) → AreBalanced parts
-        → effect l (strung parts) ≡ led l (at_start l).here parts }
+    ensures effect { (l : Lattice) (parts : List (List (S.Symbol ℤ))) → AreAllBalanced parts
+        → effect l (strung parts) ≡ led_through l (at_start l).here parts }
     ensures inside { (l : Lattice) (n : ℕ) (before : List (List (S.Symbol ℤ))) (part behind : List (S.Symbol ℤ))
-        → AreBalanced before → balanced 0 part ≡ true → n ≤ length part
+        → AreAllBalanced before → balanced 0 part ≡ true → n ≤ length part
         → course l (length (strung before) + n) (strung before ++ (part ++ behind))
-        ≡ walker_from l (led l (at_start l).here before) [] (course l n part) }
+        ≡ walker_from l (led_through l (at_start l).here before) [] (course l n part) }
 {}
 
 /// Of a string that is told by its parts the way over the first symbols is found by going down to the run where they end: past
 /// the parts before it by their effects alone, and into a branch with the start saved. Behind its `]` a branch has led nowhere,
 /// and the width is what it was.
 pub fn law_of_fronts()
-    ensures balanced { (parts : Parts) → HasBalancedRuns parts
-        → balanced 0 (string_of parts) ≡ true }
-    ensures descent { (l : Lattice) (n : ℕ) (parts : Parts) → HasBalancedRuns parts
-        → n ≤ length (string_of parts)
-        → descent l n parts ≡ course l n (string_of parts) }
+    ensures balanced { (parts : Grouping) → HasBalancedRuns parts
+        → balanced 0 (nested_string parts) ≡ true }
+    ensures descent { (l : Lattice) (n : ℕ) (parts : Grouping) → HasBalancedRuns parts
+        → n ≤ length (nested_string parts)
+        → descent l n parts ≡ course l n (nested_string parts) }
 {}
 
 /// From a stand no module of a part leads too far exactly where the extents of what it reaches, seen from the stand, stay within
