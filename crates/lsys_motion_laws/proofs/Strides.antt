@@ -1,6 +1,10 @@
 -- Parts side by side, and parts of parts.
 use Rattle.std.proofs.Common.{◌≡◌, ℕ, zero, suc, ◌+◌, ◌-◌, ◌≤◌, ◌<◌, Bool, true, false, cond, List, [], ◌∷◌, ◌++◌, length, length-append, append_assoc, refl, ap, sym, ◌∙◌, arith, nat_lt}
-use Rattle.std.specs.Prelude.{ℤ, Contains}
+use Rattle.std.specs.Prelude.{ℤ, Option, Some, None, Ok, Contains}
+use Rattle.lsys_spec.specs.Pictures.{Turtle, Segment, segments_of}
+use Rattle.lsys_effects.specs.Free.{turtle_of}
+use Rattle.lsys_effects.specs.Bounds.{turtle_at}
+use Rattle.lsys_effects.proofs.Freely.{turtle_there, none_too_far}
 use Rattle.std.proofs.lemmas.Bool.Decides.{nat_tests}
 use Rattle.lsys_syntax.specs.Strings.{balanced}
 use Rattle.lsys_syntax.specs.Strings as S
@@ -85,3 +89,16 @@ descent_there l (suc n) (Branch a) h few =
     (λ not_past.
     let within : n ≤ k = grind (arith, nat_tests) in
     ap (inward l) (descent_there l n a h within) ∙ sym (course_branch l n (nested_string a) (parts_balanced a h) within))
+
+present : (b : Bool) (o : Option Turtle) → b ≡ false → cond b None o ≡ o
+present true o e = cc
+present false o e = refl
+
+pub turtle_told : (l : Lattice) (n : ℕ) (parts : Grouping) (gs : List Segment) → HasBalancedRuns parts → segments_of l (nested_string parts) ≡ Ok gs → n ≤ length (nested_string parts)
+    → turtle_at l n (nested_string parts) ≡ Some (turtle_of (descent l n parts))
+turtle_told l n parts gs b h few =
+    let ys : List (S.Symbol ℤ) = nested_string parts in
+    let there : nat_lt (length ys) n ≡ false = grind (arith, nat_tests) in
+    present (nat_lt (length ys) n) _ there
+    ∙ turtle_there l 0 (at_start l) ys (none_too_far l 0 (at_start l) ys gs h) n
+    ∙ ap (λ (w : Walker). Some (turtle_of w)) (sym (descent_there l n parts b few))

@@ -1,15 +1,18 @@
 -- The motion of a whole.
-use Rattle.std.proofs.Common.{◌≡◌, true, List, [], ◌++◌, refl, ap, sym, ◌∙◌, append_assoc}
-use Rattle.std.specs.Prelude.{ℤ, Option, Some, None, Contains}
+use Rattle.std.proofs.Common.{◌≡◌, true, List, [], ◌∷◌, ◌++◌, refl, ap, sym, ◌∙◌, append_assoc}
+use Rattle.std.specs.Prelude.{ℤ, Option, Some, None, Ok, Contains}
 use Rattle.std.proofs.lemmas.List.{append-nil}
 use Rattle.lsys_syntax.specs.Strings.{balanced}
 use Rattle.lsys_syntax.specs.Strings as S
 use Rattle.lsys_spec.specs.Lattices.{Lattice, frames}
-use Rattle.lsys_effects.specs.Extents.{Extents}
-use Rattle.lsys_effects.specs.Effects.{Stand}
-use Rattle.lsys_motion_laws.specs.Motions.{Motion, motion, at_rest, carried_extents, seen_from, AreSeen, IsJoined, joined}
+use Rattle.lsys_effects.specs.Extents.{Extents, extents}
+use Rattle.lsys_effects.specs.Effects.{Stand, at_start, drawn}
+use Rattle.lsys_effects.specs.Bounds.{bounds_of}
+use Rattle.lsys_spec.specs.Pictures.{Segment, origin, segments_of}
+use Rattle.lsys_effects.proofs.Freely.{drawn_freely}
+use Rattle.lsys_motion_laws.specs.Motions.{Motion, motion, at_rest, carried_extents, seen_from, AreSeen, IsJoined, united, joined}
 use Rattle.lsys_motion_laws.proofs.Fronts.{effect_known}
-use Rattle.lsys_motion_laws.proofs.Joining.{motions_joined, balanced-append}
+use Rattle.lsys_motion_laws.proofs.Joining.{motions_joined, balanced-append, extents_of-append}
 use Rattle.lsys_motion_laws.proofs.Rows.{are_carried}
 
 pub are_seen : (l : Lattice) (from : Stand) → Contains (frames l) from.frame → (o : Option Extents) → AreSeen l from o (seen_from l from o)
@@ -46,3 +49,7 @@ rest_before l xs b = sym (whole_motion l [] xs refl b)
 
 pub rest_behind : (l : Lattice) (xs : List (S.Symbol ℤ)) → balanced 0 xs ≡ true → joined l (motion l xs) (at_rest l 0) ≡ motion l xs
 rest_behind l xs b = sym (whole_motion l xs [] b refl) ∙ ap (motion l) (append-nil xs)
+
+pub bounds_told : (l : Lattice) (xs : List (S.Symbol ℤ)) (gs : List Segment) → segments_of l xs ≡ Ok gs → Some (bounds_of l gs) ≡ united (Some (extents l origin [])) (motion l xs).drawn
+bounds_told l xs gs h =
+    ap (λ vs. Some (extents l origin vs)) (drawn_freely l 0 (at_start l) xs gs h) ∙ extents_of-append l (origin ∷ []) (drawn l xs)

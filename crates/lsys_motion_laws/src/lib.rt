@@ -3,7 +3,7 @@
 //! Its functions are laws with empty bodies.
 #![tactic(auto)]
 
-ghost use Rattle.std.specs.Prelude.{◌≡◌, ◌+◌, ◌≤◌, ℕ, ℤ, suc, true, None, Option, ◌↔◌, List, [], ◌∷◌, ◌++◌, length, take, Contains, Ok};
+ghost use Rattle.std.specs.Prelude.{◌≡◌, ◌+◌, ◌≤◌, ℕ, ℤ, suc, true, None, Some, Option, ◌↔◌, List, [], ◌∷◌, ◌++◌, length, take, Contains, Ok};
 ghost use Rattle.std.specs.Option.{option_or};
 ghost use Rattle.lsys_syntax.specs.Strings.{ModuleName, balanced};
 ghost use Rattle.lsys_syntax.specs.Strings as S;
@@ -14,11 +14,12 @@ ghost use Rattle.lsys_spec.specs.Levels.{Symbol, ModuleValue, Module, level_bala
 ghost use Rattle.lsys_spec.specs.Images.{image, image_from};
 ghost use Rattle.lsys_effects.specs.Nodes.{modules_in};
 ghost use Rattle.lsys_motion_laws.specs.Images.{and_behind, HasBalancedImages, HasPartImage, level_below, HasDescendants};
-ghost use Rattle.lsys_spec.specs.Pictures.{act, origin};
-ghost use Rattle.lsys_effects.specs.Extents.{Extents, AreCarried};
-ghost use Rattle.lsys_effects.specs.Free.{first_far};
+ghost use Rattle.lsys_spec.specs.Pictures.{Segment, act, origin, segments_of};
+ghost use Rattle.lsys_effects.specs.Extents.{Extents, extents, AreCarried};
+ghost use Rattle.lsys_effects.specs.Free.{first_far, turtle_of};
+ghost use Rattle.lsys_effects.specs.Bounds.{bounds_of, turtle_at};
 ghost use Rattle.lsys_effects.specs.Effects.{Stand, Walker, at_start, stand_from, effect, walker, walked, walker_from};
-ghost use Rattle.lsys_motion_laws.specs.Motions.{Motion, motion, at_rest, motion_of_act, branched, IsJoined, AreSeen, carried_extents, seen_from, joined};
+ghost use Rattle.lsys_motion_laws.specs.Motions.{Motion, motion, at_rest, motion_of_act, branched, IsJoined, AreSeen, carried_extents, seen_from, united, joined};
 ghost use Rattle.lsys_motion_laws.specs.Far.{stays_near, IsInPlane, modules_past};
 ghost use Rattle.lsys_motion_laws.specs.Courses.{course, onward, inward, strung, AreAllBalanced, led_through, Grouping, nested_string, HasBalancedRuns, descent};
 
@@ -34,7 +35,8 @@ pub fn law_of_carried_extents()
 
 /// The motion of a whole is told by the motions of its parts: of strings one behind the other they are joined, whichever are
 /// joined first, and rest adds nothing; what is made by carrying extents is this. A branch leads nowhere, and draws and reaches
-/// what is in it; a single module has the motion of what it does, and no symbol is at rest.
+/// what is in it; a single module has the motion of what it does, and no symbol is at rest. How far a picture reaches is told by the
+/// motion of its image.
 pub fn law_of_motions()
     ensures joined { (l : Lattice) (xs ys : List (S.Symbol ℤ)) → balanced 0 xs ≡ true
         → balanced 0 ys ≡ true
@@ -57,6 +59,9 @@ pub fn law_of_motions()
         → motion l (S.Module name ps ∷ []) ≡ motion_of_act l (act name ps) }
     ensures mark { (l : Lattice) → motion l (S.Cut ∷ []) ≡ at_rest l 1 }
     ensures rest { (l : Lattice) → motion l [] ≡ at_rest l 0 }
+    ensures bounds { (l : Lattice) (xs : List (S.Symbol ℤ)) (gs : List Segment)
+        → segments_of l xs ≡ Ok gs
+        → Some (bounds_of l gs) ≡ united (Some (extents l origin [])) (motion l xs).drawn }
 {}
 
 /// Inside a balanced string any turtle goes the way from the start, carried to where it is, and what was saved stays below.
@@ -92,13 +97,17 @@ pub fn law_of_strides()
 
 /// Of a string that is told by its parts the way over the first symbols is found by going down to the run where they end: past
 /// the parts before it by their effects alone, and into a branch with the start saved. Behind its `]` a branch has led nowhere,
-/// and the width is what it was.
+/// and the width is what it was. So the turtle of a picture is found.
 pub fn law_of_fronts()
     ensures balanced { (parts : Grouping) → HasBalancedRuns parts
         → balanced 0 (nested_string parts) ≡ true }
     ensures descent { (l : Lattice) (n : ℕ) (parts : Grouping) → HasBalancedRuns parts
         → n ≤ length (nested_string parts)
         → descent l n parts ≡ course l n (nested_string parts) }
+    ensures turtles { (l : Lattice) (n : ℕ) (parts : Grouping) (gs : List Segment)
+        → HasBalancedRuns parts → segments_of l (nested_string parts) ≡ Ok gs
+        → n ≤ length (nested_string parts)
+        → turtle_at l n (nested_string parts) ≡ Some (turtle_of (descent l n parts)) }
 {}
 
 /// From a stand no module of a part leads too far exactly where the extents of what it reaches, seen from the stand, stay within

@@ -1,6 +1,6 @@
 use Rattle.std.proofs.Common.{refl}
 use Rattle.lsys_motion_laws.proofs.Joining.{motion_branched, motion_module}
-use Rattle.lsys_motion_laws.proofs.Wholes.{whole_motion, made_motion, either_way, rest_before, rest_behind}
+use Rattle.lsys_motion_laws.proofs.Wholes.{whole_motion, made_motion, either_way, rest_before, rest_behind, bounds_told}
 use Rattle.lsys_motion_laws.proofs.law_of_motions.Goals as goal
 
 pub returns-clause-joined : goal.returns-clause-joined
@@ -29,3 +29,6 @@ returns-clause-mark c l = refl
 
 pub returns-clause-rest : goal.returns-clause-rest
 returns-clause-rest c l = refl
+
+pub returns-clause-bounds : goal.returns-clause-bounds
+returns-clause-bounds c = bounds_told
