@@ -1,0 +1,4 @@
+pub mod Motions
+pub mod Courses
+pub mod Far
+pub mod Images
