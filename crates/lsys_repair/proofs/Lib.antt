@@ -6,3 +6,4 @@ pub mod Levels
 pub mod Roots
 pub mod Walked
 pub mod Cutting
+pub mod Walking

@@ -8,6 +8,7 @@ mod law;
 mod make;
 mod opens;
 mod parent;
+mod walk;
 
 pub use count::{Count, count_children};
 pub use first::{count_first, make_first};
@@ -15,3 +16,4 @@ pub use law::{law_of_made_levels, law_of_parents};
 pub use make::make_children;
 pub use opens::is_open;
 pub use parent::Parent;
+pub use walk::walk_parents;
