@@ -7,3 +7,4 @@ pub mod Roots
 pub mod Walked
 pub mod Cutting
 pub mod Walking
+pub mod Listed

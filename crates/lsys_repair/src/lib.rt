@@ -5,6 +5,7 @@
 mod count;
 mod first;
 mod law;
+mod listing;
 mod make;
 mod opens;
 mod parent;
@@ -13,6 +14,7 @@ mod walk;
 pub use count::{Count, count_children};
 pub use first::{count_first, make_first};
 pub use law::{law_of_made_levels, law_of_parents};
+pub use listing::list_level;
 pub use make::make_children;
 pub use opens::is_open;
 pub use parent::Parent;
