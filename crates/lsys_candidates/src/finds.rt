@@ -153,7 +153,8 @@ pub(crate) fn find_readers(
 /// Marks and adds the nodes with these tags.
 fn gather_tags(seats: &mut Seats, tags: &[Tag], nodes: &mut Vec<NodeId>) -> Result<(), AllocError>
     requires room { (k : ℕ) → In k tags.now → HasSeat seats.old k }
-    ensures gathers { Gathers (λ k. In k tags.now) seats.old seats.new nodes.old.items nodes.new.items }
+    ensures gathers { Gathers (λ k. In k tags.now) seats.old seats.new
+        nodes.old.items nodes.new.items }
     ensures all { OnOk result (AllMarked (λ k. In k tags.now) seats.new) }
 {
     for tag in tags {

@@ -34,7 +34,8 @@ pub(crate) fn gather_any(
     nodes: &mut Vec<NodeId>,
 ) -> Result<(), AllocError>
     requires { (k : ℕ) → node ≡ Some k → HasSeat seats.old k }
-    ensures gathers { Gathers (λ k. node ≡ Some k) seats.old seats.new nodes.old.items nodes.new.items }
+    ensures gathers { Gathers (λ k. node ≡ Some k) seats.old seats.new
+        nodes.old.items nodes.new.items }
     ensures marked { OnOk result ((k : ℕ) → node ≡ Some k → is_marked seats.new k ≡ true) }
 {
     match node {

@@ -33,17 +33,20 @@ pub fn law_of_candidates()
 pub fn law_of_found_nodes()
     ensures asked { (r : Repair) (seats : List Seat) (reads : Relations) (c : Changes)
         (others turned beside readers : List ℕ)
-        → SteppingNodes r seats reads c others → IsFound r.forest seats reads c turned beside readers
+        → SteppingNodes r seats reads c others
+        → IsFound r.forest seats reads c turned beside readers
         → (k : ℕ) → In k (are r)
         → IsCandidateNode r k
         ↔ (HasQuestion r k × (In k others ⊎ IsAmong c turned beside readers k)) }
     ensures there { (r : Repair) (seats : List Seat) (reads : Relations) (c : Changes)
         (others turned beside readers : List ℕ)
-        → SteppingNodes r seats reads c others → IsFound r.forest seats reads c turned beside readers
+        → SteppingNodes r seats reads c others
+        → IsFound r.forest seats reads c turned beside readers
         → (k : ℕ) → IsAmong c turned beside readers k → In k (are r) }
     ensures seated { (r : Repair) (seats : List Seat) (reads : Relations) (c : Changes)
         (others turned beside readers : List ℕ)
-        → SteppingNodes r seats reads c others → IsFound r.forest seats reads c turned beside readers
+        → SteppingNodes r seats reads c others
+        → IsFound r.forest seats reads c turned beside readers
         → (k : ℕ) → In k (are r) → (In k c.came.items → ⊥) → (In k turned → ⊥)
         → neighbours_in r.forest k ≡ neighbours_at seats k }
 {}

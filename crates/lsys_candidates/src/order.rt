@@ -77,7 +77,8 @@ fn add_before<A: Kept>(
     ensures merged { IfOk result (λ j.
         AreMerged (place_of_node forest.now) left.now right.now i j merged.new.items) }
     ensures next { IfOk result (λ j. (k x : ℕ) → slice_get left.now i ≡ Some k
-        → slice_get right.now j ≡ Some x → place_of_node forest.now k < place_of_node forest.now x) }
+        → slice_get right.now j ≡ Some x
+        → place_of_node forest.now k < place_of_node forest.now x) }
 {
     let node = left[i];
     let mut j = start;

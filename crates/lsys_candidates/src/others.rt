@@ -43,9 +43,11 @@ impl<'a> Model for LevelRules<'a> {
 
     ghost view = { λ a. record { old = a.old.now; new = a.new.now; level = a.level } };
 
-    ghost invariant = { λ a. (a.was ≡ asked_level a.old.now a.level) × (a.are ≡ asked_level a.new.now a.level)
+    ghost invariant = { λ a. (a.was ≡ asked_level a.old.now a.level)
+        × (a.are ≡ asked_level a.new.now a.level)
         × (a.is_same_seed ≡ (a.old.now.seed == a.new.now.seed))
-        × (a.is_same_filter ≡ same_filter (bodies.filter a.old.now a.level) (bodies.filter a.new.now a.level)) };
+        × (a.is_same_filter
+        ≡ same_filter (bodies.filter a.old.now a.level) (bodies.filter a.new.now a.level)) };
 }
 
 impl<'a> LevelRules<'a> {
@@ -70,7 +72,8 @@ impl<'a> LevelRules<'a> {
     /// Whether modules with this name and so many parameters have the rules that they had: the same bodies, with the same seed
     /// if one has a weight, and with the same modules passed over if one has a context.
     pub fn are_alike(&self, name: Name, arity: usize) -> bool
-        ensures { result ≡ are_alike self.now.old self.now.new self.now.level (module_name name) arity }
+        ensures { result
+            ≡ are_alike self.now.old self.now.new self.now.level (module_name name) arity }
     {
         self.are.has_group_of(&self.was, name, arity)
             && (!is_weighted(self.new, self.level, name, arity) || self.is_same_seed)

@@ -42,7 +42,8 @@ pub fn count_children<L: Ledger>(
     requires parents { HasParents (now_of forest.now) forest.now.root (nodes_in parents.now) }
     requires few { length parents.now ≤ 2 ^ 32 }
     requires had { had_by_all (now_of forest.now) parents.now ≤ 2 ^ 32 }
-    ensures { IfOk result (λ count. count ≡ count_of (numbering_of numbering) (now_of forest.now) parents.now) }
+    ensures { IfOk result (λ count. count
+        ≡ count_of (numbering_of numbering) (now_of forest.now) parents.now) }
 {
     let mut count = NONE;
     for parent in parents {
@@ -62,7 +63,8 @@ fn count_one<L: Ledger>(
 ) -> Result<Count, AllocError>
     requires lives { IsLive forest.now parent.node }
     requires short { length (kept_successors (now_of forest.now) parent.node) ≤ number_base }
-    ensures count { IfOk result (λ count. count ≡ count_at (numbering_of numbering) (now_of forest.now) parent) }
+    ensures count { IfOk result (λ count. count
+        ≡ count_at (numbering_of numbering) (now_of forest.now) parent) }
     ensures few { IfOk result (λ count. IsSmall 1 count.had count) }
 {
     let node = parent.node;

@@ -39,7 +39,8 @@ pub fn count_first<L: Ledger>(
 ) -> Result<Count, AllocError>
     requires short { length symbols.now ≤ number_base }
     ensures { IfOk result (λ count. count
-        ≡ count_below (numbering_of numbering) (now_of forest.now) forest.now.root (string_of symbols.now)) }
+        ≡ count_below (numbering_of numbering) (now_of forest.now) forest.now.root
+        (string_of symbols.now)) }
 {
     let root = forest.root();
     wanted.fill(numbering, seed, symbols)?;
@@ -71,16 +72,20 @@ pub fn make_first<L: Ledger>(
     requires once { AreOnce (kins (now_of forest.old)) forest.old.root }
     requires small { AreSmall (now_of forest.old) }
     requires under { AreAllUnder (now_of forest.old) forest.old.root forest.old.root }
-    requires room { HasRoomFor forest.old changes.old (need_for (numbering_of numbering) (now_of forest.old)
+    requires room { HasRoomFor forest.old changes.old
+        (need_for (numbering_of numbering) (now_of forest.old)
         (kids_in (now_of forest.old forest.old.root)) (string_of symbols.now)) }
-    ensures children { OnOk result (AreRenewals (numbering_of numbering) seed (now_of forest.old) (now_of forest.new)
+    ensures children { OnOk result (AreRenewals (numbering_of numbering) seed
+        (now_of forest.old) (now_of forest.new)
         forest.old.root 0 (λ k. string_of symbols.now) (forest.old.root ∷ [])) }
-    ensures told { OnOk result (TellsAllOf (now_of forest.old) (now_of forest.new) (forest.old.root ∷ [])
-        changes.old changes.new) }
-    ensures gone { OnOk result (changes.new.gone ≡ changes.old.gone ++ nodes_without (now_of forest.old)
+    ensures told { OnOk result (TellsAllOf (now_of forest.old) (now_of forest.new)
+        (forest.old.root ∷ []) changes.old changes.new) }
+    ensures gone { OnOk result (changes.new.gone
+        ≡ changes.old.gone ++ nodes_without (now_of forest.old)
         (map number_told (wanted_symbols (numbering_of numbering) (string_of symbols.now)))
         (kids_in (now_of forest.old forest.old.root))) }
-    ensures spends { OnOk result (SpendsNeed forest.old forest.new (need_for (numbering_of numbering) (now_of forest.old)
+    ensures spends { OnOk result (SpendsNeed forest.old forest.new
+        (need_for (numbering_of numbering) (now_of forest.old)
         (kids_in (now_of forest.old forest.old.root)) (string_of symbols.now))) }
     ensures rest { rest_of forest.new ≡ rest_of forest.old }
     ensures root { forest.new.root ≡ forest.old.root }

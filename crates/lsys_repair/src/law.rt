@@ -21,7 +21,8 @@ pub fn law_of_parents()
     ensures walked { (m : Nodes Kept) (ks : List ℕ) → AreApart ks
         → AreToldBy (wanted_in m (kept_successors m) None ks) m (walked m None ks) }
     ensures found { (m : Nodes Kept) (ks : List ℕ) → nodes_in (map whole ks) ≡ ks }
-    ensures alone { (m : Nodes Kept) (ks : List ℕ) → AreToldBy (kept_successors m) m (map whole ks) }
+    ensures alone { (m : Nodes Kept) (ks : List ℕ)
+        → AreToldBy (kept_successors m) m (map whole ks) }
 {}
 
 /// Nodes are the levels of a system up to level t, with the right answers on it. Where the children of some of its nodes are
@@ -29,19 +30,22 @@ pub fn law_of_parents()
 /// by what a walk of the level finds to be wanted, or, where no cut reaches what stands behind the children of one node, by
 /// what replaces each. Answers stay.
 pub fn law_of_made_levels()
-    ensures walked { (s : System) (limit t root : ℕ) (changes : List (Change Kept)) (old new : Nodes Kept) (store : Store)
-        (by : Successors) (done : List ℕ)
-        → IsSound root changes old → AreAnsweredTo s limit t old root store → IsLevelMade s old new root t by done
+    ensures walked { (s : System) (limit t root : ℕ) (changes : List (Change Kept))
+        (old new : Nodes Kept) (store : Store) (by : Successors) (done : List ℕ)
+        → IsSound root changes old → AreAnsweredTo s limit t old root store
+        → IsLevelMade s old new root t by done
         → ((k : ℕ) → by k ≡ wanted_in old (kept_successors old) None (level_nodes old root t) k)
         → sum_by length (meant_to s limit t) + length (level_nodes new root (t + 1)) ≤ limit
         → AreLevelsTo s limit (t + 1) new root }
-    ensures alone { (s : System) (limit t root : ℕ) (changes : List (Change Kept)) (old new : Nodes Kept) (store : Store)
-        (by : Successors) (done : List ℕ)
-        → IsSound root changes old → AreAnsweredTo s limit t old root store → IsLevelMade s old new root t by done
+    ensures alone { (s : System) (limit t root : ℕ) (changes : List (Change Kept))
+        (old new : Nodes Kept) (store : Store) (by : Successors) (done : List ℕ)
+        → IsSound root changes old → AreAnsweredTo s limit t old root store
+        → IsLevelMade s old new root t by done
         → ((k : ℕ) → In k (level_nodes old root t) → by k ≡ kept_successors old k)
         → AreClosed by (level_nodes old root t)
         → sum_by length (meant_to s limit t) + length (level_nodes new root (t + 1)) ≤ limit
         → AreLevelsTo s limit (t + 1) new root }
-    ensures answers { (s : System) (t root : ℕ) (old new : Nodes Kept) (by : Successors) (done : List ℕ)
+    ensures answers { (s : System) (t root : ℕ) (old new : Nodes Kept)
+        (by : Successors) (done : List ℕ)
         → IsLevelMade s old new root t by done → (k : ℕ) → answer_at new k ≡ answer_at old k }
 {}

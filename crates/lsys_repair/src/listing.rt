@@ -18,7 +18,8 @@ pub fn list_level<A: Kept>(
     nodes: &mut Vec<NodeId>,
 ) -> Result<(), AllocError>
     requires { level < length (complete_levels forest.now) }
-    ensures { OnOk result (nodes.new.items ≡ level_nodes (now_of forest.now) forest.now.root level) }
+    ensures { OnOk result (nodes.new.items
+        ≡ level_nodes (now_of forest.now) forest.now.root level) }
 {
     nodes.clear();
     let mut at = forest.first(level);

@@ -38,7 +38,8 @@ pub fn make_children<L: Ledger>(
 ) -> Result<(), AllocError>
     requires sound { IsSound forest.old.root (changes_in forest.old) (now_of forest.old) }
     requires parents { HasParents (now_of forest.old) forest.old.root (nodes_in parents.now) }
-    requires room { HasRoomFor forest.old changes.old (needs (numbering_of numbering) (now_of forest.old) parents.now) }
+    requires room { HasRoomFor forest.old changes.old
+        (needs (numbering_of numbering) (now_of forest.old) parents.now) }
     ensures children { OnOk result ((seed depth : ℕ) (by : Successors)
         → AreParents seed depth (now_of forest.old) forest.old.root (nodes_in parents.now)
         → AreToldBy by (now_of forest.old) parents.now
@@ -71,10 +72,13 @@ fn make_one<L: Ledger>(
 ) -> Result<(), AllocError>
     requires lives { IsLive forest.old parent.node }
     requires short { length (kept_successors (now_of forest.old) parent.node) ≤ number_base }
-    requires room { HasRoomFor forest.old changes.old (need_at_parent (numbering_of numbering) (now_of forest.old) parent) }
+    requires room { HasRoomFor forest.old changes.old
+        (need_at_parent (numbering_of numbering) (now_of forest.old) parent) }
     ensures renewed { OnOk result ((n : Node Kept) → now_of forest.old parent.node ≡ Some n
-        → IsRenewed (numbering_of numbering) forest.old forest.new parent n changes.old changes.new) }
-    ensures sound { OnOk result (IsSound forest.old.root (changes_in forest.old) (now_of forest.old)) }
+        → IsRenewed (numbering_of numbering) forest.old forest.new parent n
+        changes.old changes.new) }
+    ensures sound { OnOk result
+        (IsSound forest.old.root (changes_in forest.old) (now_of forest.old)) }
     ensures rest { rest_of forest.new ≡ rest_of forest.old }
     ensures root { forest.new.root ≡ forest.old.root }
     ensures kept { kept_in forest.new ≡ kept_in forest.old }

@@ -38,7 +38,8 @@ pub(crate) fn fill_for<L: Ledger>(
 ) -> Result<(), AllocError>
     requires lives { IsLive forest.now parent.node }
     requires short { length (kept_successors (now_of forest.now) parent.node) ≤ number_base }
-    ensures wanted { OnOk result (AreWanted (numbering_of numbering) (node_key (now_of forest.now) parent.node)
+    ensures wanted { OnOk result (AreWanted (numbering_of numbering)
+        (node_key (now_of forest.now) parent.node)
         (wants (now_of forest.now) parent) wanted.new.children) }
 {
     if parent.is_cut {
@@ -56,7 +57,8 @@ fn fill_whole<L: Ledger>(
 ) -> Result<(), AllocError>
     requires lives { IsLive forest.now node }
     requires short { length (kept_successors (now_of forest.now) node) ≤ number_base }
-    ensures wanted { OnOk result (AreWanted (numbering_of numbering) (node_key (now_of forest.now) node)
+    ensures wanted { OnOk result (AreWanted (numbering_of numbering)
+        (node_key (now_of forest.now) node)
         (kept_successors (now_of forest.now) node) wanted.new.children) }
 {
     match forest.symbol(node) {
@@ -80,7 +82,8 @@ fn fill_itself<L: Ledger>(
     node: NodeId,
 ) -> Result<(), AllocError>
     requires lives { IsLive forest.now node }
-    ensures wanted { OnOk result (AreWanted (numbering_of numbering) (node_key (now_of forest.now) node)
+    ensures wanted { OnOk result (AreWanted (numbering_of numbering)
+        (node_key (now_of forest.now) node)
         (itself (spot_in node (now_of forest.now node)).seen ∷ []) wanted.new.children) }
 {
     let symbol = symbol_seen(forest.symbol(node));
