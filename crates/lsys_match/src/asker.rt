@@ -3,9 +3,8 @@ ghost use Rattle.std.specs.Prelude.{◌≡◌, ◌<◌, length, map, IfSome};
 ghost use Rattle.lsys_laws.specs.Sessions.{IsWell};
 ghost use Rattle.lsys_spec.specs.Bodies.{filter, group};
 ghost use Rattle.lsys_spec.specs.Equalities.{same_all, same_body};
-ghost use Rattle.lsys_spec.specs.Standings.{all_ignored, free, same_filter, same_kind};
+ghost use Rattle.lsys_spec.specs.Standings.{free};
 ghost use Rattle.lsys_bodies.specs.Filters.{filter_of};
-ghost use Rattle.lsys_reading.specs.Commands.{list_kind_of};
 ghost use Rattle.lsys_module.specs.Views.{module_name};
 ghost use Rattle.lsys_match.specs.Asking.{asked_level};
 ghost use Rattle.lsys_match.specs.Groups.{rules_found, rules_of};
@@ -13,7 +12,7 @@ ghost use Rattle.lsys_match.specs.Groups.{rules_found, rules_of};
 use crate::group::Group;
 use crate::scratch::Scratch;
 use lsys_bodies::Filter;
-use lsys_rules::{ListKind, System};
+use lsys_rules::System;
 use lsys_text::Name;
 use std::alloc::Global;
 use std::marker::Model;
@@ -101,37 +100,4 @@ impl<'a> Asker<'a> {
             None => true,
         }
     }
-
-    /// Whether contexts pass over the same modules as on the level of another one who asks, told by their lists: both list what
-    /// to ignore or both what to consider, and the same names. It compares each name with each, so it is asked once a level.
-    pub fn has_filter_of(&self, other: &Asker<'_>) -> bool
-        ensures { let theirs = filter other.now.system other.now.level in
-            let ours = filter self.now.system self.now.level in
-            result ≡ same_filter theirs ours }
-    {
-        is_same_kind(other.filter.kind, self.filter.kind)
-            && are_listed(other.filter.names, self.filter.names)
-            && are_listed(self.filter.names, other.filter.names)
-    }
-}
-
-// Both list what to ignore, or both what to consider.
-fn is_same_kind(one: ListKind, two: ListKind) -> bool
-    ensures { result ≡ same_kind (list_kind_of one) (list_kind_of two) }
-{
-    matches!(
-        (one, two),
-        (ListKind::Ignore, ListKind::Ignore) | (ListKind::Consider, ListKind::Consider)
-    )
-}
-
-// Each of the first names is among the others.
-fn are_listed(names: &[Name], others: &[Name]) -> bool
-    ensures { result ≡ all_ignored (map module_name names.now) (map module_name others.now) }
-{
-    let listed = Filter {
-        kind: ListKind::Ignore,
-        names: others,
-    };
-    names.iter().all(|name| listed.ignores(*name))
 }
