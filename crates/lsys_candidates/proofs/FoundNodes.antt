@@ -18,7 +18,7 @@ use Rattle.lsys_seats.specs.Neighbours.{Neighbours, neighbours_on, neighbours_in
 use Rattle.lsys_seats.specs.Seats.{neighbours_at}
 use Rattle.lsys_seats.specs.Standings.{seen_at}
 use Rattle.lsys_seats.proofs.LevelLemmas.{got_in, place_in, get_index, index_less, symbol_at}
-use Rattle.lsys_candidates.specs.declared.changes.Changes.{Changes}
+use Rattle.lsys_candidates.specs.Found.{LevelChanges}
 use Rattle.lsys_candidates.specs.Finds.{IsTurned, IsBeside}
 use Rattle.lsys_candidates.specs.Found.{IsOther, IsFound, IsAmong, SteppingNodes}
 use Rattle.lsys_candidates.specs.Repairs.{Repair, now, rest, root, were, are}
@@ -54,7 +54,7 @@ before_is xs (suc p) j h = (p, omega arith, h)
 is_before : (xs : List ℕ) (q j : ℕ) → slice_get xs q ≡ Some j → node_before xs (q + 1) ≡ Some j
 is_before xs q j h = let n : q + 1 ≡ suc q = omega arith in ap (node_before xs) n ∙ h
 
-module _ (r : Repair) (seats : List Seat) (reads : Relations) (c : Changes) (others : List ℕ) (s : SteppingNodes r seats reads c others) where
+module _ (r : Repair) (seats : List Seat) (reads : Relations) (c : LevelChanges) (others : List ℕ) (s : SteppingNodes r seats reads c others) where
   -- 2. neighbours now
 
   at_level : (k : ℕ) → In k (are r) → level_of_node r.forest k ≡ r.level
@@ -83,45 +83,45 @@ module _ (r : Repair) (seats : List Seat) (reads : Relations) (c : Changes) (oth
 
   -- 3. what was found does not stand still
 
-  turned_moved : (k : ℕ) → IsTurned r.forest seats c.looked.items k → StandsStill r k → ⊥
+  turned_moved : (k : ℕ) → IsTurned r.forest seats c.looked k → StandsStill r k → ⊥
   turned_moved k t still = t.turned (still_seated k still)
 
-  changed_moved : (j k : ℕ) → In j c.changed.items → StandsStill r k → (neighbours_in r.forest j).left ≡ Some k → ⊥
+  changed_moved : (j k : ℕ) → In j c.changed → StandsStill r k → (neighbours_in r.forest j).left ≡ Some k → ⊥
   changed_moved j k h t e =
-      let ch = (s.changed j).0 h in
+      let ch = (s.differs.changed j).0 h in
       let q = place_in j (are r) ch.0 in
       let b = before_is (are r) q.0 k (sym (ap (λ n. n.left) (neighbours_are j q.0 q.1)) ∙ e) in
       let place : b.0 ≡ t.new_place = sym (place_is k b.0 b.2) ∙ place_is k t.new_place t.is_there in
       let right : slice_get (are r) (t.new_place + 1) ≡ Some j = ap (slice_get (are r)) (ap (λ n. n + 1) (sym place) ∙ sym b.1) ∙ q.1 in
       ch.2 (t.same.right j (sym (ap (λ n. n.right) t.same.neighbours) ∙ right))
 
-  changed_moves : (j k : ℕ) → In j c.changed.items → StandsStill r k → (neighbours_in r.forest j).right ≡ Some k → ⊥
+  changed_moves : (j k : ℕ) → In j c.changed → StandsStill r k → (neighbours_in r.forest j).right ≡ Some k → ⊥
   changed_moves j k h t e =
-      let ch = (s.changed j).0 h in
+      let ch = (s.differs.changed j).0 h in
       let q = place_in j (are r) ch.0 in
       let b : slice_get (are r) (q.0 + 1) ≡ Some k = sym (ap (λ n. n.right) (neighbours_are j q.0 q.1)) ∙ e in
       let place : q.0 + 1 ≡ t.new_place = sym (place_is k (q.0 + 1) b) ∙ place_is k t.new_place t.is_there in
       let left : node_before (are r) t.new_place ≡ Some j = ap (node_before (are r)) (sym place) ∙ is_before (are r) q.0 j q.1 in
       ch.2 (t.same.left j (sym (ap (λ n. n.left) t.same.neighbours) ∙ left))
 
-  beside_moved : (k : ℕ) → IsBeside r.forest c.changed.items k → StandsStill r k → ⊥
+  beside_moved : (k : ℕ) → IsBeside r.forest c.changed k → StandsStill r k → ⊥
   beside_moved k b t = elim b.near [
-    | inl e ↦ ((s.changed b.node).0 b.among).2 (subst (λ k. seen_at (now r) k ≡ seen_at (rest r) k) e t.same.symbol)
+    | inl e ↦ ((s.differs.changed b.node).0 b.among).2 (subst (λ k. seen_at (now r) k ≡ seen_at (rest r) k) e t.same.symbol)
     | inr o ↦ elim o [
       | inl l ↦ changed_moved b.node k b.among t l
       | inr i ↦ changed_moves b.node k b.among t i
     ]
   ]
 
-  gone_moved : (k : ℕ) → In k c.gone.items → StandsStill r k → ⊥
-  gone_moved k h t = ((s.gone k).0 h).1 (got_in (are r) t.new_place k t.is_there)
+  gone_moved : (k : ℕ) → In k c.gone → StandsStill r k → ⊥
+  gone_moved k h t = ((s.differs.gone k).0 h).1 (got_in (are r) t.new_place k t.is_there)
 
-  came_moved : (k : ℕ) → In k c.came.items → StandsStill r k → ⊥
-  came_moved k h t = ((s.came k).0 h).1 (got_in (were r) t.old_place k t.was_there)
+  came_moved : (k : ℕ) → In k c.came → StandsStill r k → ⊥
+  came_moved k h t = ((s.differs.came k).0 h).1 (got_in (were r) t.old_place k t.was_there)
 
-  beside_there : (k : ℕ) → IsBeside r.forest c.changed.items k → In k (are r)
+  beside_there : (k : ℕ) → IsBeside r.forest c.changed k → In k (are r)
   beside_there k b =
-      let ch = (s.changed b.node).0 b.among in
+      let ch = (s.differs.changed b.node).0 b.among in
       let q = place_in b.node (are r) ch.0 in
       elim b.near [
         | inl e ↦ subst (λ k. In k (are r)) (sym e) ch.0
@@ -134,14 +134,14 @@ module _ (r : Repair) (seats : List Seat) (reads : Relations) (c : Changes) (oth
   module _ (turned beside readers : List ℕ) (f : IsFound r.forest seats reads c turned beside readers) where
     -- 4. one that does not stand still, and was there, is gone or found
 
-    symbol_kept : (k : ℕ) → In k (are r) → In k (were r) → (In k c.changed.items → ⊥) → (seen_at (now r) k ≡ seen_at (rest r) k → ⊥) → ⊥
-    symbol_kept k h i n ne = n ((s.changed k).1 (h, i, ne))
+    symbol_kept : (k : ℕ) → In k (are r) → In k (were r) → (In k c.changed → ⊥) → (seen_at (now r) k ≡ seen_at (rest r) k → ⊥) → ⊥
+    symbol_kept k h i n ne = n ((s.differs.changed k).1 (h, i, ne))
 
     not_other : (k : ℕ) → In k (are r) → In k (were r) → IsOther c k → ⊥
-    not_other k h i o = elim o [ inl g ↦ ((s.gone k).0 g).1 h | inr g ↦ ((s.came k).0 g).1 i ]
+    not_other k h i o = elim o [ inl g ↦ ((s.differs.gone k).0 g).1 h | inr g ↦ ((s.differs.came k).0 g).1 i ]
 
-    was_there : (k : ℕ) → In k (are r) → (In k c.came.items → ⊥) → In k (were r)
-    was_there k h n = elim (is_in k (were r)) [ inl i ↦ i | inr m ↦ absurd (n ((s.came k).1 (h, m))) ]
+    was_there : (k : ℕ) → In k (are r) → (In k c.came → ⊥) → In k (were r)
+    was_there k h n = elim (is_in k (were r)) [ inl i ↦ i | inr m ↦ absurd (n ((s.differs.came k).1 (h, m))) ]
 
     no_turn : (k : ℕ) → In k (are r) → In k (were r) → (In k turned → ⊥) → neighbours_in r.forest k ≡ neighbours_at seats k
     no_turn k h i n = elim (s.looked k h i) [
@@ -152,7 +152,7 @@ module _ (r : Repair) (seats : List Seat) (reads : Relations) (c : Changes) (oth
       ]
     ]
 
-    not_beside : (k : ℕ) → In k (are r) → In k (were r) → (In k turned → ⊥) → (In k beside → ⊥) → IsBeside r.forest c.changed.items k → ⊥
+    not_beside : (k : ℕ) → In k (are r) → In k (were r) → (In k turned → ⊥) → (In k beside → ⊥) → IsBeside r.forest c.changed k → ⊥
     not_beside k h i n m b = m ((f.beside_are k).1 (b, λ o. elim o [ inl p ↦ not_other k h i p | inr q ↦ n q ]))
 
     module _ (k : ℕ) (h : In k (are r)) (i : In k (were r)) (n : In k turned → ⊥) (m : In k beside → ⊥) where
@@ -190,9 +190,9 @@ module _ (r : Repair) (seats : List Seat) (reads : Relations) (c : Changes) (oth
             same = record { symbol = symbol; neighbours = same; left = keeps; right = keeps' };
           }))))
 
-    moved_found : (k : ℕ) → In k (were r) → (StandsStill r k → ⊥) → In k turned ⊎ (In k beside ⊎ In k c.gone.items)
+    moved_found : (k : ℕ) → In k (were r) → (StandsStill r k → ⊥) → In k turned ⊎ (In k beside ⊎ In k c.gone)
     moved_found k i ne = elim (is_in k (are r)) [
-      | inr n ↦ inr (inr ((s.gone k).1 (i, n)))
+      | inr n ↦ inr (inr ((s.differs.gone k).1 (i, n)))
       | inl h ↦ elim (is_in k turned) [
         | inl t ↦ inl t
         | inr n ↦ elim (is_in k beside) [ inl b ↦ inr (inl b) | inr m ↦ absurd (stands k h i n m ne) ]
@@ -209,21 +209,21 @@ module _ (r : Repair) (seats : List Seat) (reads : Relations) (c : Changes) (oth
         let same : asked.0 ≡ read.answer = same_Some asked.0 read.answer (sym asked.1 ∙ read.kept) in
         asked.2.among j (subst (λ a. In j (tags_read r.store a)) (sym same) read.among)
 
-    found_were : (j : ℕ) → In j (turned ++ (beside ++ c.gone.items)) → In j (were r) × (StandsStill r j → ⊥)
-    found_were j h = elim (In_append turned (beside ++ c.gone.items) j h) [
+    found_were : (j : ℕ) → In j (turned ++ (beside ++ c.gone)) → In j (were r) × (StandsStill r j → ⊥)
+    found_were j h = elim (In_append turned (beside ++ c.gone) j h) [
       | inl t ↦ (let u = (f.turned_are j).0 t in (was_there j (s.looked_are j u.0.looked_at) (λ e. u.1 (inr e)), turned_moved j u.0))
-      | inr o ↦ elim (In_append beside c.gone.items j o) [
+      | inr o ↦ elim (In_append beside c.gone j o) [
         | inl b ↦ (let u = (f.beside_are j).0 b in (was_there j (beside_there j u.0) (λ e. u.1 (inl (inr e))), beside_moved j u.0))
-        | inr g ↦ (((s.gone j).0 g).0, gone_moved j g)
+        | inr g ↦ (((s.differs.gone j).0 g).0, gone_moved j g)
       ]
     ]
 
-    among_found : (j : ℕ) → In j turned ⊎ (In j beside ⊎ In j c.gone.items) → In j (turned ++ (beside ++ c.gone.items))
+    among_found : (j : ℕ) → In j turned ⊎ (In j beside ⊎ In j c.gone) → In j (turned ++ (beside ++ c.gone))
     among_found j o = elim o [
-      | inl t ↦ In_left j turned (beside ++ c.gone.items) t
+      | inl t ↦ In_left j turned (beside ++ c.gone) t
       | inr q ↦ elim q [
-        | inl b ↦ In_right j turned (beside ++ c.gone.items) (In_left j beside c.gone.items b)
-        | inr g ↦ In_right j turned (beside ++ c.gone.items) (In_right j beside c.gone.items g)
+        | inl b ↦ In_right j turned (beside ++ c.gone) (In_left j beside c.gone b)
+        | inr g ↦ In_right j turned (beside ++ c.gone) (In_right j beside c.gone g)
       ]
     ]
 
@@ -245,7 +245,7 @@ module _ (r : Repair) (seats : List Seat) (reads : Relations) (c : Changes) (oth
     among_of k v h seen i (was_last le) = absurd (omega (arith, le, s.below))
     among_of k v h seen i (moved n) = elim (moved_found k i n) [
       | inl t ↦ inr (inr (inl t))
-      | inr o ↦ elim o [ inl b ↦ inr (inr (inr (inl b))) | inr g ↦ absurd (((s.gone k).0 g).1 h) ]
+      | inr o ↦ elim o [ inl b ↦ inr (inr (inr (inl b))) | inr g ↦ absurd (((s.differs.gone k).0 g).1 h) ]
     ]
     among_of k v h seen i (read_moved j read n) = inr (reader_found k j h i read n)
     among_of k v h seen i (other_rules e) = elim (s.rules k v h seen) [ inl o ↦ inl o | inr same ↦ absurd (not_both (has_same_rules r.old r.new r.level (names (now r) k) v) same e) ]
@@ -275,7 +275,7 @@ module _ (r : Repair) (seats : List Seat) (reads : Relations) (c : Changes) (oth
       λ a. (
         a.asks,
         elim (is_in k (were r)) [
-          | inr n ↦ inr (inl ((s.came k).1 (h, n)))
+          | inr n ↦ inr (inl ((s.differs.came k).1 (h, n)))
           | inl i ↦ among_of k a.asks.own h a.asks.is i a.differs
         ],
       ),
@@ -284,7 +284,7 @@ module _ (r : Repair) (seats : List Seat) (reads : Relations) (c : Changes) (oth
 
     pub there_are : (k : ℕ) → IsAmong c turned beside readers k → In k (are r)
     there_are k a = elim a [
-      | inl g ↦ ((s.came k).0 g).0
+      | inl g ↦ ((s.differs.came k).0 g).0
       | inr o ↦ elim o [
         | inl t ↦ s.looked_are k ((f.turned_are k).0 t).0.looked_at
         | inr q ↦ elim q [
@@ -298,19 +298,19 @@ module _ (r : Repair) (seats : List Seat) (reads : Relations) (c : Changes) (oth
         reader_there k u =
             let t = (f.readers_are k).0 u in
             let i = s.readers k t.0.node ((s.read k t.0.node).0 t.0.read) (found_were t.0.node t.0.among).0 in
-            elim (is_in k (are r)) [ inl h ↦ h | inr n ↦ absurd (t.1 (inl (inl ((s.gone k).1 (i, n))))) ]
+            elim (is_in k (are r)) [ inl h ↦ h | inr n ↦ absurd (t.1 (inl (inl ((s.differs.gone k).1 (i, n))))) ]
 
-    pub seated_are : (k : ℕ) → In k (are r) → (In k c.came.items → ⊥) → (In k turned → ⊥) → neighbours_in r.forest k ≡ neighbours_at seats k
+    pub seated_are : (k : ℕ) → In k (are r) → (In k c.came → ⊥) → (In k turned → ⊥) → neighbours_in r.forest k ≡ neighbours_at seats k
     seated_are k h g n = no_turn k h (was_there k h g) n
 
-pub found_asked : (r : Repair) (seats : List Seat) (reads : Relations) (c : Changes) (others turned beside readers : List ℕ) → SteppingNodes r seats reads c others → IsFound r.forest seats reads c turned beside readers
+pub found_asked : (r : Repair) (seats : List Seat) (reads : Relations) (c : LevelChanges) (others turned beside readers : List ℕ) → SteppingNodes r seats reads c others → IsFound r.forest seats reads c turned beside readers
     → (k : ℕ) → In k (are r) → IsCandidateNode r k ↔ (HasQuestion r k × (In k others ⊎ IsAmong c turned beside readers k))
 found_asked r seats reads c others turned beside readers s f = asked_are r seats reads c others s turned beside readers f
 
-pub found_there : (r : Repair) (seats : List Seat) (reads : Relations) (c : Changes) (others turned beside readers : List ℕ) → SteppingNodes r seats reads c others → IsFound r.forest seats reads c turned beside readers
+pub found_there : (r : Repair) (seats : List Seat) (reads : Relations) (c : LevelChanges) (others turned beside readers : List ℕ) → SteppingNodes r seats reads c others → IsFound r.forest seats reads c turned beside readers
     → (k : ℕ) → IsAmong c turned beside readers k → In k (are r)
 found_there r seats reads c others turned beside readers s f = there_are r seats reads c others s turned beside readers f
 
-pub found_seated : (r : Repair) (seats : List Seat) (reads : Relations) (c : Changes) (others turned beside readers : List ℕ) → SteppingNodes r seats reads c others → IsFound r.forest seats reads c turned beside readers
-    → (k : ℕ) → In k (are r) → (In k c.came.items → ⊥) → (In k turned → ⊥) → neighbours_in r.forest k ≡ neighbours_at seats k
+pub found_seated : (r : Repair) (seats : List Seat) (reads : Relations) (c : LevelChanges) (others turned beside readers : List ℕ) → SteppingNodes r seats reads c others → IsFound r.forest seats reads c turned beside readers
+    → (k : ℕ) → In k (are r) → (In k c.came → ⊥) → (In k turned → ⊥) → neighbours_in r.forest k ≡ neighbours_at seats k
 found_seated r seats reads c others turned beside readers s f = seated_are r seats reads c others s turned beside readers f

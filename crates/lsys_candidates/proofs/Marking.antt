@@ -5,7 +5,7 @@ use Rattle.lsys_forest.specs.Groves.{Grove, In, AreApart}
 use Rattle.lsys_forest.proofs.RowLemmas.{In_append, In_left, In_right}
 use Rattle.lsys_seats.specs.declared.seat.Seat.{Seat}
 use Rattle.lsys_seats.specs.Seats.{is_marked, SameSeats}
-use Rattle.lsys_candidates.specs.declared.changes.Changes.{Changes}
+use Rattle.lsys_candidates.specs.Found.{LevelChanges}
 use Rattle.lsys_candidates.specs.Finds.{Gathers, AllMarked, IsTurned, IsBeside, IsReader}
 use Rattle.lsys_candidates.specs.Found.{IsOther, IsFound}
 use Rattle.lsys_candidates.proofs.Spots.{is_in}
@@ -82,7 +82,7 @@ module _ (kind : ℕ → Type 0) (a b : List Seat) (ys : List ℕ) (g : Gathers 
   )
 
 -- the nodes that are gone were marked, and those that came
-pub others_marked : (a b c : List Seat) (changes : Changes) (gone came : List ℕ) → gone ≡ changes.gone.items → came ≡ changes.came.items → ((k : ℕ) → is_marked a k ≡ false)
+pub others_marked : (a b c : List Seat) (changes : LevelChanges) (gone came : List ℕ) → gone ≡ changes.gone → came ≡ changes.came → ((k : ℕ) → is_marked a k ≡ false)
     → ((k : ℕ) → (is_marked b k ≡ true) ↔ (In k gone ⊎ (is_marked a k ≡ true))) → ((k : ℕ) → (is_marked c k ≡ true) ↔ (In k came ⊎ (is_marked b k ≡ true))) → IsMarkedBy (IsOther changes) c
 others_marked a b c changes gone came eg ec clear first second k = (
   λ e. elim ((second k).0 e) [
@@ -118,23 +118,23 @@ module _ (reads : Relations) (a b c d : List Seat) (xs ys zs one two three : Lis
     ]
   ]
 
-module _ {A : Type 0} (f : Grove A) (reads : Relations) (changes : Changes) (s a b c d : List Seat) (turned beside readers : List ℕ) where
+module _ {A : Type 0} (f : Grove A) (reads : Relations) (changes : LevelChanges) (s a b c d : List Seat) (turned beside readers : List ℕ) where
   pub found_all : SameSeats s a → IsMarkedBy (IsOther changes) a
-      → Gathers (IsTurned f a changes.looked.items) a b [] turned → AllMarked (IsTurned f a changes.looked.items) b
-      → Gathers (IsBeside f changes.changed.items) b c [] beside → AllMarked (IsBeside f changes.changed.items) c
-      → Gathers (IsReader reads (turned ++ (beside ++ changes.gone.items))) c d [] readers → AllMarked (IsReader reads (turned ++ (beside ++ changes.gone.items))) d
+      → Gathers (IsTurned f a changes.looked) a b [] turned → AllMarked (IsTurned f a changes.looked) b
+      → Gathers (IsBeside f changes.changed) b c [] beside → AllMarked (IsBeside f changes.changed) c
+      → Gathers (IsReader reads (turned ++ (beside ++ changes.gone))) c d [] readers → AllMarked (IsReader reads (turned ++ (beside ++ changes.gone))) d
       → IsFound f s reads changes turned beside readers
   found_all same m g all h all' i all'' =
-      let m2 = marks_now (IsTurned f a changes.looked.items) a b turned g (IsOther changes) m in
-      let m3 = marks_now (IsBeside f changes.changed.items) b c beside h (λ k. IsOther changes k ⊎ In k turned) m2 in
-      let t = found_are (IsTurned f a changes.looked.items) a b turned g (IsOther changes) m all in
+      let m2 = marks_now (IsTurned f a changes.looked) a b turned g (IsOther changes) m in
+      let m3 = marks_now (IsBeside f changes.changed) b c beside h (λ k. IsOther changes k ⊎ In k turned) m2 in
+      let t = found_are (IsTurned f a changes.looked) a b turned g (IsOther changes) m all in
       record {
         turned_are = λ k. (
           λ e. (let u = (t k).0 e in (record { looked_at = u.0.looked_at; turned = λ n. u.0.turned (n ∙ sym (same k)) }, u.1)),
           λ e. (t k).1 (record { looked_at = e.0.looked_at; turned = λ n. e.0.turned (n ∙ same k) }, e.1),
         );
-        beside_are = found_are (IsBeside f changes.changed.items) b c beside h (λ k. IsOther changes k ⊎ In k turned) m2 all';
-        readers_are = found_are (IsReader reads (turned ++ (beside ++ changes.gone.items))) c d readers i (λ k. IsOther changes k ⊎ In k turned ⊎ In k beside) (λ k. (
+        beside_are = found_are (IsBeside f changes.changed) b c beside h (λ k. IsOther changes k ⊎ In k turned) m2 all';
+        readers_are = found_are (IsReader reads (turned ++ (beside ++ changes.gone))) c d readers i (λ k. IsOther changes k ⊎ In k turned ⊎ In k beside) (λ k. (
           λ e. elim ((m3 k).0 e) [
             | inl o ↦ elim o [ inl p ↦ inl p | inr q ↦ inr (inl q) ]
             | inr q ↦ inr (inr q)
@@ -144,9 +144,9 @@ module _ {A : Type 0} (f : Grove A) (reads : Relations) (changes : Changes) (s a
             | inr o ↦ elim o [ inl q ↦ inl (inr q) | inr q ↦ inr q ]
           ]),
         )) all'';
-        turned_once = found_once (IsTurned f a changes.looked.items) a b turned g;
-        beside_once = found_once (IsBeside f changes.changed.items) b c beside h;
-        readers_once = found_once (IsReader reads (turned ++ (beside ++ changes.gone.items))) c d readers i;
+        turned_once = found_once (IsTurned f a changes.looked) a b turned g;
+        beside_once = found_once (IsBeside f changes.changed) b c beside h;
+        readers_once = found_once (IsReader reads (turned ++ (beside ++ changes.gone))) c d readers i;
       }
 
 -- these are marked no more

@@ -13,41 +13,48 @@ use Rattle.lsys_seats.specs.declared.seat.Seat.{Seat}
 use Rattle.lsys_seats.specs.Neighbours.{neighbours_in, IsOnLevel}
 use Rattle.lsys_seats.specs.Seats.{neighbours_at, HasSeat}
 use Rattle.lsys_seats.specs.Standings.{seen_at, AreSeated}
-use Rattle.lsys_candidates.specs.declared.changes.Changes.{Changes}
 use Rattle.lsys_candidates.specs.Finds.{IsTurned, IsBeside, IsReader}
 use Rattle.lsys_candidates.specs.Repairs.{Repair, now, rest, root, were, are, SteppingSpots}
+
+-- How a level changed: the nodes that came, those that are gone, and those that stayed with another symbol; and those that were
+-- looked at, since they may have other neighbours, or another mate.
+pub record LevelChanges : Type 0 where
+  pub came : List ℕ
+  pub gone : List ℕ
+  pub changed : List ℕ
+  pub looked : List ℕ
 
 -- 1. the calls
 
 -- the nodes that came or are gone
-abbrev pub IsOther : Changes → ℕ → Type 0
-IsOther c k = In k c.gone.items ⊎ In k c.came.items
+abbrev pub IsOther : LevelChanges → ℕ → Type 0
+IsOther c k = In k c.gone ⊎ In k c.came
 
 -- those that changed and those that were looked at stand on complete levels
-pub record AreOnLevels {A : Type 0} (f : Grove A) (c : Changes) : Type 0 where
-  pub looked : (k : ℕ) → In k c.looked.items → IsOnLevel f k
-  pub changed : (k : ℕ) → In k c.changed.items → IsOnLevel f k
+pub record AreOnLevels {A : Type 0} (f : Grove A) (c : LevelChanges) : Type 0 where
+  pub looked : (k : ℕ) → In k c.looked → IsOnLevel f k
+  pub changed : (k : ℕ) → In k c.changed → IsOnLevel f k
 
 -- there is a seat for each node that may be found
-pub record HasRoom {A : Type 0} (f : Grove A) (reads : Relations) (c : Changes) (seats : List Seat) : Type 0 where
+pub record HasRoom {A : Type 0} (f : Grove A) (reads : Relations) (c : LevelChanges) (seats : List Seat) : Type 0 where
   pub others : (k : ℕ) → IsOther c k → HasSeat seats k
-  pub looked : (k : ℕ) → In k c.looked.items → HasSeat seats k
-  pub beside : (k : ℕ) → IsBeside f c.changed.items k → HasSeat seats k
+  pub looked : (k : ℕ) → In k c.looked → HasSeat seats k
+  pub beside : (k : ℕ) → IsBeside f c.changed k → HasSeat seats k
   pub readers : (k node : ℕ) → is_settled reads k node ≡ true → HasSeat seats k
 
 -- The nodes that were found, each once, and none that came or is gone: those that turned; of others, those that changed and those
 -- beside them; and of others, those whose answers read one of these, or one that is gone.
-pub record IsFound {A : Type 0} (f : Grove A) (seats : List Seat) (reads : Relations) (c : Changes) (turned beside readers : List ℕ) : Type 0 where
-  pub turned_are : (k : ℕ) → In k turned ↔ (IsTurned f seats c.looked.items k × (IsOther c k → ⊥))
-  pub beside_are : (k : ℕ) → In k beside ↔ (IsBeside f c.changed.items k × (IsOther c k ⊎ In k turned → ⊥))
-  pub readers_are : (k : ℕ) → In k readers ↔ (IsReader reads (turned ++ (beside ++ c.gone.items)) k × (IsOther c k ⊎ In k turned ⊎ In k beside → ⊥))
+pub record IsFound {A : Type 0} (f : Grove A) (seats : List Seat) (reads : Relations) (c : LevelChanges) (turned beside readers : List ℕ) : Type 0 where
+  pub turned_are : (k : ℕ) → In k turned ↔ (IsTurned f seats c.looked k × (IsOther c k → ⊥))
+  pub beside_are : (k : ℕ) → In k beside ↔ (IsBeside f c.changed k × (IsOther c k ⊎ In k turned → ⊥))
+  pub readers_are : (k : ℕ) → In k readers ↔ (IsReader reads (turned ++ (beside ++ c.gone)) k × (IsOther c k ⊎ In k turned ⊎ In k beside → ⊥))
   pub turned_once : AreApart turned
   pub beside_once : AreApart beside
   pub readers_once : AreApart readers
 
 -- one that came or was found
-abbrev pub IsAmong : Changes → List ℕ → List ℕ → List ℕ → ℕ → Type 0
-IsAmong c turned beside readers k = In k c.came.items ⊎ In k turned ⊎ In k beside ⊎ In k readers
+abbrev pub IsAmong : LevelChanges → List ℕ → List ℕ → List ℕ → ℕ → Type 0
+IsAmong c turned beside readers k = In k c.came ⊎ In k turned ⊎ In k beside ⊎ In k readers
 
 -- 2. the level
 
@@ -57,20 +64,29 @@ pub record HasOtherRules (r : Repair) (k : ℕ) : Type 0 where
   pub is : seen_at (now r) k ≡ Module own
   pub rules : has_same_rules r.old r.new r.level (names (now r) k) own ≡ false
 
--- Of a level of which the old system had the questions: these came, are gone, and have another symbol; and who has other neighbours,
--- or another mate, is among those that were looked at. The seats tell the neighbours of the last rest, and what is settled is what
--- its answers read. A module of the level has the rules that it had, or is among the others.
-pub record SteppingNodes (r : Repair) (seats : List Seat) (reads : Relations) (c : Changes) (others : List ℕ) : Type 0 where
+-- Of a level these nodes came, are gone, and have another symbol than at the last rest.
+pub record Differs (r : Repair) (c : LevelChanges) : Type 0 where
+  pub came : (k : ℕ) → In k c.came ↔ (In k (are r) × (In k (were r) → ⊥))
+  pub gone : (k : ℕ) → In k c.gone ↔ (In k (were r) × (In k (are r) → ⊥))
+  pub changed : (k : ℕ) → In k c.changed
+      ↔ (In k (are r) × In k (were r) × (seen_at (now r) k ≡ seen_at (rest r) k → ⊥))
+
+-- Of a level of which the old system had the questions it is told what differs; and who has other neighbours, or another mate, is
+-- among those that were looked at. The seats tell the neighbours of the last rest, and what is settled is what its answers read. A
+-- module of the level has the rules that it had, or is among the others.
+pub record SteppingNodes (r : Repair) (seats : List Seat) (reads : Relations) (c : LevelChanges)
+    (others : List ℕ) : Type 0 where
   pub spots : SteppingSpots r
   pub below : r.level < r.old.depth
-  pub came : (k : ℕ) → In k c.came.items ↔ (In k (are r) × (In k (were r) → ⊥))
-  pub gone : (k : ℕ) → In k c.gone.items ↔ (In k (were r) × (In k (are r) → ⊥))
-  pub changed : (k : ℕ) → In k c.changed.items ↔ (In k (are r) × In k (were r) × (seen_at (now r) k ≡ seen_at (rest r) k → ⊥))
-  pub looked : (k : ℕ) → In k (are r) → In k (were r) → In k c.looked.items ⊎ (neighbours_in r.forest k ≡ neighbours_at seats k)
-  pub looked_are : (k : ℕ) → In k c.looked.items → In k (are r)
+  pub differs : Differs r c
+  pub looked : (k : ℕ) → In k (are r) → In k (were r)
+      → In k c.looked ⊎ (neighbours_in r.forest k ≡ neighbours_at seats k)
+  pub looked_are : (k : ℕ) → In k c.looked → In k (are r)
   pub seated : AreSeated (rest r) (were r) seats
-  pub read : (reader seen : ℕ) → (is_settled reads reader seen ≡ true) ↔ HasRead (rest r) r.store reader seen
-  pub readers : (reader seen : ℕ) → HasRead (rest r) r.store reader seen → In seen (were r) → In reader (were r)
+  pub read : (reader seen : ℕ)
+      → (is_settled reads reader seen ≡ true) ↔ HasRead (rest r) r.store reader seen
+  pub readers : (reader seen : ℕ) → HasRead (rest r) r.store reader seen → In seen (were r)
+      → In reader (were r)
   pub rules : (k : ℕ) (v : ModuleValue) → In k (are r) → seen_at (now r) k ≡ Module v
       → In k others ⊎ (has_same_rules r.old r.new r.level (names (now r) k) v ≡ true)
   pub others_are : (k : ℕ) → In k others → In k (are r) × HasOtherRules r k

@@ -9,6 +9,7 @@ use lsys_forest::{Forest, Kept, NodeId};
 use lsys_reads::Reads;
 use lsys_seats::Seats;
 use std::alloc::AllocError;
+use std::marker::Model;
 
 /// How a level changed: which nodes came, which are gone, which of those that stayed have another symbol, and which were
 /// looked at since they may have other neighbours, or another mate.
@@ -18,6 +19,19 @@ pub struct Changes {
     pub gone: Vec<NodeId>,
     pub changed: Vec<NodeId>,
     pub looked: Vec<NodeId>,
+}
+
+impl Model for Changes {
+    ghost use Rattle.lsys_candidates.specs.Found.{LevelChanges};
+
+    ghost Value = { LevelChanges };
+
+    ghost view = { λ a. record {
+      came = a.came.items;
+      gone = a.gone.items;
+      changed = a.changed.items;
+      looked = a.looked.items;
+    } };
 }
 
 /// Finds the nodes of a level that may have another question, though their rules are the same: each once, and none that

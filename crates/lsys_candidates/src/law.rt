@@ -13,7 +13,7 @@ ghost use Rattle.lsys_kept.specs.Levels.{HasRead};
 ghost use Rattle.lsys_kept.specs.Meant.{IsCandidate};
 ghost use Rattle.lsys_candidates.specs.Repairs.{Repair, SteppingSpots, rest, were, are};
 ghost use Rattle.lsys_candidates.specs.Candidates.{HasQuestion, IsCandidateNode};
-ghost use Rattle.lsys_candidates.specs.declared.changes.Changes.{Changes};
+ghost use Rattle.lsys_candidates.specs.Found.{LevelChanges};
 ghost use Rattle.lsys_candidates.specs.Found.{IsFound, IsAmong, SteppingNodes, AreAnswersRight};
 
 /// The module at a place of a level is a candidate exactly where its node is one: where it asks something, and the level
@@ -31,23 +31,23 @@ pub fn law_of_candidates()
 ///
 /// [`find_nodes`]: crate::find_nodes
 pub fn law_of_found_nodes()
-    ensures asked { (r : Repair) (seats : List Seat) (reads : Relations) (c : Changes)
+    ensures asked { (r : Repair) (seats : List Seat) (reads : Relations) (c : LevelChanges)
         (others turned beside readers : List ℕ)
         → SteppingNodes r seats reads c others
         → IsFound r.forest seats reads c turned beside readers
         → (k : ℕ) → In k (are r)
         → IsCandidateNode r k
         ↔ (HasQuestion r k × (In k others ⊎ IsAmong c turned beside readers k)) }
-    ensures there { (r : Repair) (seats : List Seat) (reads : Relations) (c : Changes)
+    ensures there { (r : Repair) (seats : List Seat) (reads : Relations) (c : LevelChanges)
         (others turned beside readers : List ℕ)
         → SteppingNodes r seats reads c others
         → IsFound r.forest seats reads c turned beside readers
         → (k : ℕ) → IsAmong c turned beside readers k → In k (are r) }
-    ensures seated { (r : Repair) (seats : List Seat) (reads : Relations) (c : Changes)
+    ensures seated { (r : Repair) (seats : List Seat) (reads : Relations) (c : LevelChanges)
         (others turned beside readers : List ℕ)
         → SteppingNodes r seats reads c others
         → IsFound r.forest seats reads c turned beside readers
-        → (k : ℕ) → In k (are r) → (In k c.came.items → ⊥) → (In k turned → ⊥)
+        → (k : ℕ) → In k (are r) → (In k c.came → ⊥) → (In k turned → ⊥)
         → neighbours_in r.forest k ≡ neighbours_at seats k }
 {}
 

@@ -9,7 +9,7 @@ use Rattle.lsys_next.specs.Answers.{kept_successors}
 use Rattle.lsys_next.proofs.Replaced.{replaced}
 use Rattle.lsys_seats.specs.declared.seat.Seat.{Seat}
 use Rattle.lsys_seats.proofs.LookLemmas.{in_same, in_back}
-use Rattle.lsys_candidates.specs.declared.changes.Changes.{Changes}
+use Rattle.lsys_candidates.specs.Found.{LevelChanges}
 use Rattle.lsys_candidates.specs.Repairs.{Repair, SteppingSpots, rest, root, were, are}
 use Rattle.lsys_candidates.specs.Found.{IsFound, SteppingNodes}
 use Rattle.lsys_candidates.proofs.Spots.{is_in, sound_old, sound_new}
@@ -28,8 +28,8 @@ use Rattle.lsys_mates.proofs.TurnedLemmas.{family_kept, old_there, seats_told, s
 use Rattle.lsys_mates.specs.Turned.{AreTurnedBy}
 use Rattle.lsys_mates.proofs.LevelLemmas.{left_levels}
 
-pub found_turned : (r : Repair) (seats : List Seat) (reads : Relations) (c : Changes) (others turned beside readers all : List ℕ) → SteppingNodes r seats reads c others
-    → IsFound r.forest seats reads c turned beside readers → ((k : ℕ) → In k c.came.items ⊎ In k turned → S.In k all) → AreTurnedBy (rest r) r.forest r.level seats all
+pub found_turned : (r : Repair) (seats : List Seat) (reads : Relations) (c : LevelChanges) (others turned beside readers all : List ℕ) → SteppingNodes r seats reads c others
+    → IsFound r.forest seats reads c turned beside readers → ((k : ℕ) → In k c.came ⊎ In k turned → S.In k all) → AreTurnedBy (rest r) r.forest r.level seats all
 found_turned r seats reads c others turned beside readers all s f among = record {
   sound = sound_new r s.spots;
   seated = s.seated;
@@ -40,7 +40,7 @@ found_turned r seats reads c others turned beside readers all s f among = record
     there : (k : ℕ) → In k (are r) → (S.In k all → ⊥) → In k (were r)
     there k i away = elim (is_in k (were r)) [
       | inl h ↦ h
-      | inr none ↦ absurd (away (among k (inl ((s.came k).1 (i, none)))))
+      | inr none ↦ absurd (away (among k (inl ((s.differs.came k).1 (i, none)))))
     ]
 
 pub rested_levels : (r : Repair) → SteppingSpots r → r.level < r.old.depth → AreLeftLevels (rest r) (root r) r.level

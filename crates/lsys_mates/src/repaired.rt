@@ -10,7 +10,7 @@ ghost use Rattle.lsys_seats.specs.declared.seat.Seat.{Seat};
 ghost use Rattle.lsys_seats.specs.Neighbours.{neighbours_in};
 ghost use Rattle.lsys_seats.specs.Seats.{neighbours_at};
 ghost use Rattle.lsys_seats.specs.Standings.{AreSeated};
-ghost use Rattle.lsys_candidates.specs.declared.changes.Changes.{Changes};
+ghost use Rattle.lsys_candidates.specs.Found.{LevelChanges};
 ghost use Rattle.lsys_candidates.specs.Repairs.{Repair, SteppingSpots, rest, root};
 ghost use Rattle.lsys_candidates.specs.Found.{IsFound, SteppingNodes};
 ghost use Rattle.lsys_mates.specs.Below.{AreLeftLevels, AreLookedBelow};
@@ -20,11 +20,11 @@ ghost use Rattle.lsys_mates.specs.Remade.{IsNextMade};
 /// The nodes of a level that came, and those that were found to have turned, are those that are new or have another neighbour
 /// or another mate than their seats tell.
 pub fn law_of_found_turned()
-    ensures { (r : Repair) (seats : List Seat) (reads : Relations) (c : Changes)
+    ensures { (r : Repair) (seats : List Seat) (reads : Relations) (c : LevelChanges)
         (others turned beside readers all : List ℕ)
         → SteppingNodes r seats reads c others
         → IsFound r.forest seats reads c turned beside readers
-        → ((k : ℕ) → In k c.came.items ⊎ In k turned → seams.In k all)
+        → ((k : ℕ) → In k c.came ⊎ In k turned → seams.In k all)
         → AreTurnedBy (rest r) r.forest r.level seats all }
 {}
 
