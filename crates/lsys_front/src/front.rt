@@ -1,0 +1,50 @@
+//! What differs on a level.
+ghost use Rattle.std.specs.Prelude.{◌≡◌, []};
+ghost use Rattle.lsys_front.specs.Fronts.{Differences};
+
+use lsys_candidates::Changes;
+use lsys_forest::NodeId;
+use std::alloc::Global;
+use std::marker::Model;
+
+/// What differs on a level from that of the last rest.
+#[derive(Drop)]
+pub struct Front {
+    pub changes: Changes,
+    pub turned: Vec<NodeId>,
+    pub bare: Vec<NodeId>,
+}
+
+impl Model for Front {
+    ghost use Rattle.lsys_front.specs.Fronts.{Differences};
+
+    ghost Value = { Differences };
+
+    ghost view = { λ a. record {
+      changes = a.changes.now;
+      turned = a.turned.items;
+      bare = a.bare.items;
+    } };
+}
+
+impl Front {
+    /// Nothing differs. It takes no memory.
+    pub fn new(alloc: Global) -> Front
+        ensures { result ≡ record {
+            changes = record { came = []; gone = []; changed = []; looked = [] };
+            turned = [];
+            bare = [];
+        } }
+    {
+        Front {
+            changes: Changes {
+                came: Vec::new(alloc),
+                gone: Vec::new(alloc),
+                changed: Vec::new(alloc),
+                looked: Vec::new(alloc),
+            },
+            turned: Vec::new(alloc),
+            bare: Vec::new(alloc),
+        }
+    }
+}

@@ -1,0 +1,8 @@
+//! The front of a pass: what differs on the level that was made last from that of the last rest, and what becomes of it on the
+//! next one.
+#![tactic(auto)]
+
+mod front;
+mod law;
+
+pub use front::Front;
