@@ -123,7 +123,8 @@ fn beyond<A: Kept>(
 fn add(nodes: &mut Vec<NodeId>, node: Option<NodeId>) -> Result<(), AllocError>
     ensures added { OnOk result ((k : ℕ) → node ≡ Some k → In k nodes.new.items) }
     ensures keeps { OnOk result ((k : ℕ) → In k nodes.old.items → In k nodes.new.items) }
-    ensures only { OnOk result ((k : ℕ) → In k nodes.new.items → In k nodes.old.items ⊎ (node ≡ Some k)) }
+    ensures only { OnOk result ((k : ℕ) → In k nodes.new.items
+        → In k nodes.old.items ⊎ (node ≡ Some k)) }
 {
     if let Some(found) = node {
         nodes.push(found)?;
