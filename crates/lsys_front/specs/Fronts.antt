@@ -27,6 +27,14 @@ pub record Differences : Type 0 where
   pub turned : List ℕ
   pub bare : List ℕ
 
+-- nothing differs
+abbrev pub no_differences : Differences
+no_differences = record {
+  changes = record { came = []; gone = []; changed = []; looked = [] };
+  turned = [];
+  bare = [];
+}
+
 -- what is known of the level that was made last
 pub record IsFront (r : Repair) (seats : List Seat) (d : Differences) : Type 0 where
   pub differs : Differs r d.changes
