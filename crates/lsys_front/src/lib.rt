@@ -4,5 +4,7 @@
 
 mod front;
 mod law;
+mod looks;
 
 pub use front::Front;
+pub use looks::{law_of_found_fronts, law_of_next_looks, law_of_seat_room};

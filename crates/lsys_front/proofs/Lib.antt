@@ -1,0 +1,5 @@
+pub mod Standing
+pub mod Looking
+pub mod NextLooks
+pub mod FoundFronts
+pub mod Rooms
