@@ -59,8 +59,8 @@ pub record IsNext (r : Repair) (h : Grove Kept) (by : Successors) (ps : List Par
   pub root : h.root ≡ r.forest.root
   pub rest : rest_of h ≡ rest r
   pub sound : AreSound h.root (changes_in h) (now_of h)
-  pub renewals : AreRenewals r.new.numbering r.new.seed (now r) (now_of h) r.forest.root (r.level + 1)
-      by (nodes_in ps)
+  pub renewals : AreRenewals r.new.numbering r.new.seed (now r) (now_of h) r.forest.root
+      (r.level + 1) by (nodes_in ps)
   pub parents : (k : ℕ) → In k (nodes_in ps) → In k (are r)
   pub apart : AreApart (nodes_in ps)
   pub wants : AreToldBy by (now r) ps
