@@ -5,6 +5,8 @@
 mod differences;
 mod front;
 mod law;
+mod looks;
 
 pub use differences::{law_of_first_differences, law_of_next_differences};
 pub use front::Front;
+pub use looks::{law_of_found_fronts, law_of_next_looks, law_of_seat_room};
