@@ -59,12 +59,12 @@ pub record IsNext (r : Repair) (h : Grove Kept) (by : Successors) (ps : List Par
   pub root : h.root ≡ r.forest.root
   pub rest : rest_of h ≡ rest r
   pub sound : AreSound h.root (changes_in h) (now_of h)
-  pub renewals : AreRenewals r.new.numbering r.new.seed (now r) (now_of h) (root r) (r.level + 1)
-      by (nodes_in ps)
+  pub renewals : AreRenewals r.new.numbering r.new.seed (now r) (now_of h) r.forest.root
+      (r.level + 1) by (nodes_in ps)
   pub parents : (k : ℕ) → In k (nodes_in ps) → In k (are r)
   pub apart : AreApart (nodes_in ps)
   pub wants : AreToldBy by (now r) ps
-  pub told : TellsAllOf (now r) (now_of h) (nodes_in ps) nothing told
+  pub tells : TellsAllOf (now r) (now_of h) (nodes_in ps) nothing told
   pub gone : told.gone ≡ gone_of r.new.numbering (now r) ps
 
 -- What was told of the next level, as its changes: also the children of those that are gone are gone.
@@ -76,10 +76,10 @@ pub record IsTold (h : Grove Kept) (d : Differences) (told : Told) (c : LevelCha
 -- The first level, in the forest of the repair: the children of the root were made those of the axiom, and it was told what differs.
 pub record IsFirst (r : Repair) (by : Successors) (told : Told) : Type 0 where
   pub level : r.level ≡ 0
-  pub axiom : by (root r) ≡ r.new.axiom_string
+  pub «axiom» : by (root r) ≡ r.new.axiom_string
   pub renewals : AreRenewals r.new.numbering r.new.seed (rest r) (now r) (root r) 0
       by (root r ∷ [])
-  pub told : TellsAllOf (rest r) (now r) (root r ∷ []) nothing told
+  pub tells : TellsAllOf (rest r) (now r) (root r ∷ []) nothing told
   pub gone : told.gone ≡ nodes_without (rest r)
       (map number_told (wanted_symbols r.new.numbering r.new.axiom_string))
       (kids_in (rest r (root r)))

@@ -21,7 +21,7 @@ impl Model for Front {
     ghost Value = { Differences };
 
     ghost view = { λ a. record {
-      changes = a.changes.now;
+      changes = a.changes;
       turned = a.turned.items;
       bare = a.bare.items;
     } };
@@ -31,9 +31,9 @@ impl Front {
     /// Nothing differs. It takes no memory.
     pub fn new(alloc: Global) -> Front
         ensures { result ≡ record {
-            changes = record { came = []; gone = []; changed = []; looked = [] };
-            turned = [];
-            bare = [];
+          changes = record { came = []; gone = []; changed = []; looked = [] };
+          turned = [];
+          bare = [];
         } }
     {
         Front {
