@@ -4,5 +4,7 @@
 
 mod front;
 mod law;
+mod parents;
 
 pub use front::Front;
+pub use parents::{any_opens, count_kids, law_of_level_parents, law_of_next_symbols};

@@ -1,0 +1,3 @@
+pub mod LevelParents
+pub mod NextSymbols
+pub mod Gathered
