@@ -7,3 +7,6 @@ pub mod Looking
 pub mod NextLooks
 pub mod FoundFronts
 pub mod Rooms
+pub mod LevelParents
+pub mod NextSymbols
+pub mod Gathered
