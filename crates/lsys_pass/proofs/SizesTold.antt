@@ -24,7 +24,7 @@ opens_none [] t e = refl
 opens_none (y ∷ ys) zero e = absurd (none-some y (sym e))
 opens_none (y ∷ ys) (suc t) e = opens_none ys t e
 
-told_at : (xs : List Size) (i : ℕ) (b : Bool) (x : Size) → suc i ≡ length xs → slice_get xs i ≡ Some x → slice_set xs i (record { symbols = x.symbols; is_open = b }) ≡ with_open xs b
+pub told_at : (xs : List Size) (i : ℕ) (b : Bool) (x : Size) → suc i ≡ length xs → slice_get xs i ≡ Some x → slice_set xs i (record { symbols = x.symbols; is_open = b }) ≡ with_open xs b
 told_at [] i b x l e = absurd (none-some x e)
 told_at (y ∷ []) zero b x l e = ap (λ (n : ℕ). one n) (ap (λ (z : Size). z.symbols) (sym (same_Some y x e)))
   where

@@ -66,8 +66,10 @@ impl Sizes {
         ensures rest { self.new.rest.items ≡ self.old.rest.items }
         ensures made { self.new.made.items ≡ with_open self.old.made.items is_open }
     {
-        if let Some(last) = self.made.last_mut() {
-            last.is_open = is_open;
+        let made = &mut self.made[..];
+        let levels = made.len();
+        if levels > 0 {
+            made[levels - 1].is_open = is_open;
         }
     }
 
