@@ -2,7 +2,9 @@
 //! next one.
 #![tactic(auto)]
 
+mod differences;
 mod front;
 mod law;
 
+pub use differences::{law_of_first_differences, law_of_next_differences};
 pub use front::Front;
