@@ -1,7 +1,6 @@
 -- A level that was just made, and what becomes of it step by step until it is known who is asked on it.
 use Rattle.std.specs.Prelude.{◌≡◌, ◌<◌, ◌≤◌, ◌+◌, ◌⊎◌, ℕ, List, [], ◌∷◌, ◌++◌, length, Some, None, slice_get}
 use Rattle.lsys_match.specs.Kept.{Kept}
-use Rattle.lsys_forest.specs.Nodes.{Node}
 use Rattle.lsys_forest.specs.Groves.{In, AreApart}
 use Rattle.lsys_forest.specs.Rows.{level_nodes}
 use Rattle.lsys_kept.specs.Levels.{answer_at}
@@ -19,7 +18,7 @@ use Rattle.lsys_pass.specs.declared.state.PassState.TheVariants.{Level}
 use Rattle.lsys_pass.specs.Rests.{AreCountedLow}
 use Rattle.lsys_pass.specs.Stages.{Stage, was}
 use Rattle.lsys_pass.specs.Advances.{IsAskedTo, KeepsRest, StaysAbove, Advances, Ends}
-use Rattle.lsys_pass.specs.Passes.{PassView, stage_of, repair_of, HasFront, IsPass}
+use Rattle.lsys_pass.specs.Passes.{PassView, stage_of, repair_of, AllHaveSeats, HasFront, IsPass}
 use Rattle.lsys_pass.specs.Passes as P
 
 -- 1. a level that was asked
@@ -86,7 +85,7 @@ pub record IsMadeTo (v : PassView) (t : ℕ) : Type 0 where
   pub renewed_are : (k : ℕ) → In k v.renewed → (u : ℕ) × (u < t) × In k (row_of v u)
   pub faults : v.faults ≡ []
   pub pending : v.pending ≡ []
-  pub room : (k : ℕ) (n : Node Kept) → P.now v k ≡ Some n → HasSeat v.seats k
+  pub room : AllHaveSeats (P.now v) v.seats
 
 -- Who has other neighbours on level t than its seat tells, or another mate, is among those that were looked at.
 pub record WasLookedAt (v : PassView) (t : ℕ) : Type 0 where
@@ -122,4 +121,4 @@ pub record IsToAsk (v : PassView) (t : ℕ) : Type 0 where
 pub record IsLast (v : PassView) (t : ℕ) : Type 0 where
   pub lists : HasListsBefore (stage_of v) (t + 1)
   pub ends : Ends (stage_of v) t
-  pub room : (k : ℕ) (n : Node Kept) → P.now v k ≡ Some n → HasSeat v.seats k
+  pub room : AllHaveSeats (P.now v) v.seats
