@@ -59,8 +59,6 @@ pub record HasListsBefore (s : Stage) (t : ℕ) : Type 0 where
   pub fresh : (k : ℕ) (a : Kept) → answer_at s.now k ≡ Some a
       → In k s.renewed ⊎ (answer_at (was s) k ≡ Some a)
   pub dropped_apart : AreApart s.dropped
-  pub dropped_at : (k : ℕ) → In k s.dropped
-      → (u : ℕ) × (u < t) × In k (level_nodes (was s) s.root u)
   pub dropped_had : (k : ℕ) → In k s.dropped → answer_at (was s) k ≡ None → ⊥
   pub dropped_none : (k u : ℕ) → In k s.dropped → u < t → In k (level_nodes s.now s.root u)
       → answer_at s.now k ≡ None
@@ -73,6 +71,11 @@ pub record HasListsBefore (s : Stage) (t : ℕ) : Type 0 where
   pub moved_are : (k : ℕ) → In k s.moved
       → (u : ℕ) × (u < t) × In k (level_nodes s.now s.root u)
   pub room : (k : ℕ) → In k s.moved → HasSeat s.seats k
+
+-- those that are dropped stood on levels before level t
+abbrev pub AreDroppedBefore : Stage → ℕ → Type 0
+AreDroppedBefore s t =
+    (k : ℕ) → In k s.dropped → (u : ℕ) × (u < t) × In k (level_nodes (was s) s.root u)
 
 -- The nodes up to level t are the levels of the system that is being made, within the limit; what lies deeper is as it was. The answers
 -- on level t are those of the last rest, and new ones stand above it. Each node has a seat.
@@ -97,6 +100,7 @@ pub record WasLookedAt (v : PassView) (t : ℕ) : Type 0 where
 pub record IsFresh (v : PassView) (t : ℕ) : Type 0 where
   pub made : IsMadeTo v t
   pub lists : HasListsBefore (stage_of v) t
+  pub dropped : AreDroppedBefore (stage_of v) t
   pub differs : Differs (repair_of v t) v.front.changes
   pub gone_once : AreApart v.front.changes.gone
   pub bare : v.front.bare ≡ []
@@ -106,6 +110,7 @@ pub record IsFresh (v : PassView) (t : ℕ) : Type 0 where
 pub record HasFound (v : PassView) (t : ℕ) (beside readers : List ℕ) : Type 0 where
   pub made : IsMadeTo v t
   pub lists : HasListsBefore (stage_of v) (t + 1)
+  pub dropped : AreDroppedBefore (stage_of v) (t + 1)
   pub looks : WasLookedAt v t
   pub front : IsFront (repair_of v t) v.seats v.front
   pub found : IsFound v.forest v.seats v.reads v.front.changes v.front.turned beside readers
