@@ -21,10 +21,10 @@ use Rattle.lsys_front.specs.Fronts.{Differences, IsFront}
 -- In this forest the level of a repair has the same nodes, with the same symbols, and none that lost its answer.
 pub record KeepsLevel (r : Repair) (h : Grove Kept) : Type 0 where
   pub sound : IsSound h.root (changes_in h) (now_of h)
-  pub root : h.root ≡ root r
+  pub root : h.root ≡ r.forest.root
   pub rest : rest_of h ≡ rest r
   pub nodes : level_nodes (now_of h) h.root r.level ≡ are r
-  pub spots : level_spots (now_of h) h.root r.level ≡ level_spots (now r) (root r) r.level
+  pub spots : level_spots (now_of h) h.root r.level ≡ level_spots (now r) r.forest.root r.level
   pub seen : (k : ℕ) → seen_at (now_of h) k ≡ seen_at (now r) k
   pub bare : (k : ℕ) → answer_at (now_of h) k ≡ None → answer_at (now r) k ≡ None
 
