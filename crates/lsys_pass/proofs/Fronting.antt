@@ -1,5 +1,5 @@
 -- What is told of the level that was made last stays while only answers change.
-use Rattle.std.proofs.Common.{◌≡◌, ◌<◌, ◌≤◌, ℕ, List, [], ◌∷◌, ◌++◌, length, Some, None, sym, ap, ◌∙◌, subst, inl, inr, arith}
+use Rattle.std.proofs.Common.{◌≡◌, ◌<◌, ◌≤◌, ℕ, List, [], ◌∷◌, ◌++◌, length, None, sym, ap, ◌∙◌, subst, inl, inr, arith}
 use Rattle.std.specs.Prelude.{take, drop}
 use Rattle.std.proofs.lemmas.List.{length-append, take-append-le, drop-append-le}
 use Rattle.lsys_walks.specs.Stores.{Store}
@@ -11,7 +11,7 @@ use Rattle.lsys_forest.proofs.RowLemmas.{In_append}
 use Rattle.lsys_kept.specs.Levels.{answer_at}
 use Rattle.lsys_seats.specs.declared.seat.Seat.{Seat}
 use Rattle.lsys_seats.specs.Standings.{seen_at}
-use Rattle.lsys_candidates.specs.Repairs.{Repair, now, rest, root, were, are}
+use Rattle.lsys_candidates.specs.Repairs.{Repair, now, rest, were, are}
 use Rattle.lsys_mates.specs.Turned.{AreTurnedBy}
 use Rattle.lsys_mates.proofs.TurnedLemmas.{same_turned}
 use Rattle.lsys_front.specs.Fronts.{Differences, IsFront}
