@@ -1,0 +1,12 @@
+pub mod Rows
+pub mod Numbers
+pub mod Steps
+pub mod Differing
+pub mod Standing
+pub mod Looking
+pub mod NextLooks
+pub mod FoundFronts
+pub mod Rooms
+pub mod LevelParents
+pub mod NextSymbols
+pub mod Gathered
