@@ -2,7 +2,9 @@
 //! next one.
 #![tactic(auto)]
 
+mod ends;
 mod front;
 mod law;
 
+pub use ends::{add_children, drop_below, end_level};
 pub use front::Front;

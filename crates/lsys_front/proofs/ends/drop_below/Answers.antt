@@ -1,0 +1,27 @@
+use Rattle.std.proofs.Common.{◌≡◌, ◌++◌, rules, length, ap, ◌∙◌, sym, subst, inl, inr}
+use Rattle.std.specs.Prelude.{◌==◌}
+use Rattle.lsys_forest.specs.Groves.{In, now_of, IsLive}
+use Rattle.lsys_forest.specs.Rows.{kids_below}
+use Rattle.lsys_front.specs.Ends.{answered_in}
+use Rattle.lsys_front.proofs.Ending.{empty_if, rows_next, rows_end}
+use Rattle.lsys_front.proofs.ends.drop_below.Goals.{else-loop-test, then-loop-test+then-is_empty}
+use Rattle.lsys_front.proofs.ends.drop_below.Goals as goal
+
+pub loop-preserved : goal.loop-preserved
+loop-preserved g c =
+    let m = now_of c.args.forest.now in
+    let row = c.loop.row.items in
+    let kids : c.add_children.new.below.items ≡ kids_below m c.deref-in-loop.result.now = c.in_ok-add_children.ensures.below ∙ ap (λ l. l ++ kids_below m c.deref-in-loop.result.now) c.new-next.ensures.items in
+    record {
+      lives = λ k h. c.in_ok-add_children.ensures.lives k (subst (In k) kids h);
+      dropped = rows_next m c.args.levels c.loop.counter c.args.nodes.items row c.add_children.new.below.items c.args.dropped.now.items c.loop.dropped.items c.add_answered.new.dropped.items c.loop-test.true c.loop.invariant.dropped
+          (c.in_ok-add_answered.ensures.dropped ∙ ap (λ l. c.loop.dropped.items ++ answered_in m l) c.deref.ensures.value) (kids ∙ ap (kids_below m) c.deref-in-loop.ensures.value);
+    }
+
+pub returns : goal.returns
+returns g c = record {
+  dropped = rows_end (now_of c.args.forest.now) c.args.levels c.loop.counter c.args.nodes.items c.loop.row.items c.args.dropped.now.items c.loop.dropped.items (elim c.loop-test.branch [
+    | else-loop-test w ↦ inl w.loop-test.false
+    | then-loop-test+then-is_empty w ↦ (let none : w.is_empty.result ≡ (length c.loop.row.items == 0) = search rules in inr (empty_if c.loop.row.items w.is_empty.result none w.if-is_empty.true))
+  ]) c.loop.invariant.dropped;
+}
