@@ -8,14 +8,17 @@
 
 mod asks;
 mod changes;
+mod filters;
 mod finds;
 mod gather;
 mod law;
+mod module_key;
 mod order;
 mod others;
 
 pub use asks::{add_asked, has_question};
 pub use changes::{Changes, find_nodes};
+pub use gather::{gather_nodes, gather_tags};
 pub use law::{law_of_candidates, law_of_found_nodes, law_of_other_rules, law_of_readers};
 pub use order::in_order;
 pub use others::{LevelRules, add_others};

@@ -1,6 +1,6 @@
 -- The nodes of a last level, one after the other.
 use Rattle.std.proofs.Common.{◌≡◌, ◌⊎◌, ◌+◌, ◌-◌, ◌<◌, ◌≤◌, ℕ, zero, suc, take, List, [], ◌∷◌, ◌++◌, append_assoc, append-nil, length, slice_get, Option, Some, None, refl, sym, ap, ◌∙◌, subst, arith, inl, inr}
-use Rattle.std.specs.Prelude.{◌==◌, Bool, true, false, IsSome, option_map, filter}
+use Rattle.std.specs.Prelude.{◌==◌, Bool, true, IsSome, option_map}
 use Rattle.std.proofs.lemmas.Bool.{eqb-true}
 use Rattle.std.proofs.lemmas.List.Elements.{filter-append}
 use Rattle.lsys_forest.specs.Nodes.{Node, Nodes, put, with_kids, with_answer}
@@ -14,6 +14,9 @@ use Rattle.lsys_front.specs.Ends.{ended, AreEnded, is_answered, answered_in, row
 
 pub take_next : (xs : List ℕ) (i k : ℕ) → slice_get xs i ≡ Some k → take (i + 1) xs ≡ take i xs ++ k ∷ []
 take_next xs i k e = let n : i + 1 ≡ suc i = omega arith in ap (λ j. take j xs) n ∙ take_more xs i k e
+
+pub extended : (b kids list c : List ℕ) → c ≡ b ++ kids → kids ≡ list → c ≡ b ++ list
+extended b kids list c e f = e ∙ ap (λ (l : List ℕ). b ++ l) f
 
 module _ {A : Type 0} where
   -- 1. nodes

@@ -1,2 +1,14 @@
+pub mod Rows
+pub mod Numbers
+pub mod Steps
+pub mod Differing
+pub mod Standing
+pub mod Looking
+pub mod NextLooks
+pub mod FoundFronts
+pub mod Rooms
 pub mod Losing
 pub mod Ending
+pub mod RowsBelow
+pub mod Lasts
+pub mod LastLevels

@@ -1,5 +1,5 @@
 -- The nodes of a last level, and those that were below them.
-use Rattle.std.specs.Prelude.{◌≡◌, ◌++◌, ℕ, zero, suc, Bool, List, [], Option, None, is_some, option_map, filter}
+use Rattle.std.specs.Prelude.{◌≡◌, ◌++◌, ℕ, zero, suc, Bool, List, [], Some, None, is_some, option_map, filter}
 use Rattle.std.specs.Option.{option_and_then}
 use Rattle.lsys_forest.specs.Nodes.{Node, Nodes, with_kids, with_answer}
 use Rattle.lsys_forest.specs.Answers.{answer_of}
@@ -33,3 +33,7 @@ module _ {A : Type 0} where
   abbrev pub rows_from : Nodes A → ℕ → List ℕ → List ℕ
   rows_from m zero nodes = []
   rows_from m (suc n) nodes = nodes ++ rows_from m n (kids_below m nodes)
+
+  -- each of these nodes lives, so many steps below the root
+  abbrev pub AreDeep : Nodes A → ℕ → List ℕ → Type 0
+  AreDeep m depth nodes = (k : ℕ) → In k nodes → (n : Node A) × (m k ≡ Some n) × (n.depth ≡ depth)

@@ -2,9 +2,15 @@
 //! next one.
 #![tactic(auto)]
 
+mod differences;
 mod ends;
 mod front;
 mod law;
+mod looks;
 
-pub use ends::{add_children, drop_below, end_level};
+pub use differences::{law_of_first_differences, law_of_next_differences};
+pub use ends::{
+    add_children, drop_below, end_level, law_of_answered_rows, law_of_last_levels, law_of_lost_levels,
+};
 pub use front::Front;
+pub use looks::{law_of_found_fronts, law_of_next_looks, law_of_seat_room};

@@ -1,9 +1,7 @@
-use Rattle.std.proofs.Common.{◌≡◌, ◌++◌, ap, ◌∙◌, sym, subst, refl, Some, length, slice_get}
+use Rattle.std.proofs.Common.{◌≡◌, sym, subst, refl, Some, length, slice_get}
 use Rattle.std.proofs.lemmas.Option.{slice_get_read}
-use Rattle.lsys_forest.specs.Groves.{now_of, IsLive}
-use Rattle.lsys_forest.proofs.ChainLemmas.{take_whole}
+use Rattle.lsys_forest.specs.Groves.{IsLive}
 use Rattle.lsys_forest.proofs.WalkLemmas.{get_In}
-use Rattle.lsys_front.specs.Ends.{answered_in}
 use Rattle.lsys_front.proofs.ends.add_answered.Goals as goal
 
 pub keeps_answer-requires : goal.keeps_answer-requires

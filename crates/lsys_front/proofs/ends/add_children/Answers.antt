@@ -1,11 +1,10 @@
-use Rattle.std.proofs.Common.{◌≡◌, ◌++◌, ap, ◌∙◌, sym, subst, refl, Some, length, slice_get, append-nil}
+use Rattle.std.proofs.Common.{◌≡◌, ap, ◌∙◌, sym, refl, Some, length, slice_get, append-nil}
 use Rattle.std.proofs.lemmas.Option.{slice_get_read}
-use Rattle.lsys_forest.specs.Groves.{In, now_of, IsLive}
-use Rattle.lsys_forest.specs.Rows.{kids_in, kids_below}
+use Rattle.lsys_forest.specs.Groves.{now_of}
+use Rattle.lsys_forest.specs.Rows.{kids_in}
 use Rattle.lsys_forest.proofs.SoundLemmas.{some_of}
-use Rattle.lsys_forest.proofs.ChainLemmas.{take_whole}
 use Rattle.lsys_forest.proofs.WalkLemmas.{get_In}
-use Rattle.lsys_front.proofs.Ending.{below_more, kids_live}
+use Rattle.lsys_front.proofs.Ending.{below_more, extended, kids_live}
 use Rattle.lsys_front.proofs.ends.add_children.Goals as goal
 
 pub loop-node-init : goal.loop-node-init
@@ -32,6 +31,6 @@ loop-node-preserved g c =
     record {
       below =
           below_more m xs i x c.args.below.now.items c.loop-node.below.items c.extend_from_slice.new.self.items here c.loop-node.invariant.below
-          (c.in_ok-extend_from_slice.ensures.items ∙ ap (λ l. c.loop-node.below.items ++ l) (sym kids));
+          (extended c.loop-node.below.items c.children.result.now (kids_in (m x)) c.extend_from_slice.new.self.items c.in_ok-extend_from_slice.ensures.items (sym kids));
       lives = kids_live c.args.forest.now xs i x here c.children.result.now c.children.ensures.kids c.children.ensures.under lives c.loop-node.invariant.lives;
     }

@@ -1,7 +1,6 @@
-use Rattle.std.proofs.Common.{◌≡◌, ◌++◌, List, ap, ◌∙◌}
+use Rattle.std.proofs.Common.{◌++◌, List, ap, ◌∙◌}
 use Rattle.std.proofs.lemmas.Result.{on_ok_weaker}
 use Rattle.lsys_forest.specs.Groves.{now_of}
-use Rattle.lsys_forest.specs.Rows.{kids_in}
 use Rattle.lsys_forest.proofs.SoundLemmas.{some_of}
 use Rattle.lsys_front.proofs.Losing.{loses_on}
 use Rattle.lsys_front.proofs.Ending.{ended_one, kids_stay, lives_still}
