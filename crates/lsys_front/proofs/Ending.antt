@@ -15,6 +15,9 @@ use Rattle.lsys_front.specs.Ends.{ended, AreEnded, is_answered, answered_in, row
 pub take_next : (xs : List ℕ) (i k : ℕ) → slice_get xs i ≡ Some k → take (i + 1) xs ≡ take i xs ++ k ∷ []
 take_next xs i k e = let n : i + 1 ≡ suc i = omega arith in ap (λ j. take j xs) n ∙ take_more xs i k e
 
+pub begun : (b list c : List ℕ) → b ≡ [] → c ≡ b ++ list → c ≡ list
+begun b list c e f = f ∙ ap (λ (l : List ℕ). l ++ list) e
+
 pub extended : (b kids list c : List ℕ) → c ≡ b ++ kids → kids ≡ list → c ≡ b ++ list
 extended b kids list c e f = e ∙ ap (λ (l : List ℕ). b ++ l) f
 

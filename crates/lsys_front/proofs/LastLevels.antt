@@ -1,21 +1,20 @@
 -- The last level of a repair.
-use Rattle.std.proofs.Common.{◌≡◌, ◌↔◌, ◌+◌, ◌-◌, ℕ, [], length, refl, ap, ◌∙◌, arith, inl, inr}
-use Rattle.std.specs.Prelude.{IsSome}
+use Rattle.std.proofs.Common.{◌≡◌, ◌+◌, ◌-◌, ℕ, List, [], length, refl, ap, ◌∙◌, arith, inl, inr}
 use Rattle.std.specs.Option.{option_and_then}
 use Rattle.lsys_change.proofs.UpTo.{level_count}
 use Rattle.lsys_forest.specs.Nodes.{Nodes}
+use Rattle.lsys_forest.specs.Changes.{Change}
 use Rattle.lsys_forest.specs.Answers.{answer_of}
-use Rattle.lsys_forest.specs.Groves.{In, AreApart, IsSound, changes_in}
-use Rattle.lsys_forest.specs.Rows.{kids_below, level_nodes}
+use Rattle.lsys_forest.specs.Groves.{In, IsSound, changes_in}
 use Rattle.lsys_forest.proofs.SoundLemmas.{AreSound-now, AreSound-then}
 use Rattle.lsys_match.specs.Kept.{Kept}
 use Rattle.lsys_kept.specs.Meant.{meant_to}
 use Rattle.lsys_next.proofs.Above.{upper_levels}
 use Rattle.lsys_candidates.specs.Repairs.{Repair, SteppingSpots, now, rest, root, are}
 use Rattle.lsys_candidates.specs.Found.{LevelChanges}
-use Rattle.lsys_front.specs.Ends.{AreEnded, answered_in, row_below, rows_from}
-use Rattle.lsys_front.specs.LastLevels.{IsEnded, IsBehindAll, IsLastLevel, all_below, HadAnswerBelow}
-use Rattle.lsys_front.proofs.Lasts.{ended_upper, ended_kins, ended_stay, ended_nodes, ended_spots, ended_behind, ended_answers, ended_small, rows_below, answers_once, below_lives, gone_kids, had_one, had_it, bare_behind, bare_answers}
+use Rattle.lsys_front.specs.Ends.{AreEnded, answered_in, rows_from}
+use Rattle.lsys_front.specs.LastLevels.{IsEnded, IsBehindAll, IsLastLevel, all_below, HadAnswerBehind, HasAllBehind}
+use Rattle.lsys_front.proofs.Lasts.{ended_upper, ended_kins, ended_stay, ended_nodes, ended_spots, ended_behind, ended_answers, ended_small, rows_below, answers_once, below_lives, not_reached, gone_kids, HadOne, had_one, had_it, bare_behind, bare_answers}
 
 sound_now : (r : Repair) → SteppingSpots r → IsSound (root r) (changes_in r.forest) (now r)
 sound_now r s = AreSound-now (root r) (changes_in r.forest) (now r) s.sound
@@ -63,38 +62,41 @@ is_bare r s b =
 
 -- 2. what was behind it
 
-module _ (r : Repair) (c : LevelChanges) (m : Nodes Kept) (l : IsLastLevel r c) (e : AreEnded (now r) m (are r)) where
-  pub lost_below : (n k : ℕ) → In k (row_below m n (all_below r c)) ↔ In k (level_nodes (rest r) (root r) (r.level + 1 + n))
-  lost_below n k = rows_below (root r) (changes_in r.forest) (rest r) (now r) (sound_rest r l.spots) (sound_now r l.spots) l.spots.stay r.level l.deeper c.gone l.differs.gone l.gone_once m e n k
+pub has_behind : (r : Repair) (c : LevelChanges) (m : Nodes Kept) → IsLastLevel r c → AreEnded (now r) m (are r) → HasAllBehind r c m
+has_behind r c m l e = record {
+  rows = rows_below (root r) cs (rest r) (now r) quiet sound l.spots.stay r.level l.deeper c.gone l.differs.gone l.gone_once m e;
+  lives = below_lives (root r) cs (rest r) (now r) quiet sound l.spots.stay r.level l.deeper c.gone l.differs.gone l.gone_once m e;
+  unreached = not_reached (root r) cs (rest r) (now r) quiet sound l.spots.stay r.level l.deeper c.gone l.differs.gone l.gone_once m e;
+  answers = λ k. (λ h. had k (had_one (root r) cs (rest r) (now r) quiet sound l.spots.stay r.level l.deeper c.gone l.differs.gone l.gone_once m e (r.old.depth - r.level) k h), λ h. has k h);
+  answers_once = answers_once (root r) cs (rest r) (now r) quiet sound l.spots.stay r.level l.deeper c.gone l.differs.gone l.gone_once m e;
+  gone = gone_kids (root r) cs (rest r) (now r) quiet sound l.spots.stay r.level l.deeper c.gone l.differs.gone l.gone_once m e;
+}
+  where
+    cs : List (Change Kept)
+    cs = changes_in r.forest
 
-  pub lost_answers : (k : ℕ) → In k (answered_in m (rows_from m (r.old.depth - r.level) (all_below r c))) ↔ HadAnswerBelow r k
-  lost_answers k = (
-    λ h. (
-        let x = had_one (root r) (changes_in r.forest) (rest r) (now r) (sound_rest r l.spots) (sound_now r l.spots) l.spots.stay r.level l.deeper c.gone l.differs.gone l.gone_once m e (r.old.depth - r.level) k h in
-        record {
-          level = x.level;
-          behind = x.behind;
-          within = let b = x.behind in let w = x.within in omega (arith, b, w);
-          there = x.there;
-          answer = x.answer;
-          kept = x.kept;
-        }
-        ),
-    λ x. had_it (root r) (changes_in r.forest) (rest r) (now r) (sound_rest r l.spots) (sound_now r l.spots) l.spots.stay r.level l.deeper c.gone l.differs.gone l.gone_once m e (r.old.depth - r.level) k (record {
+    quiet : IsSound (root r) [] (rest r)
+    quiet = sound_rest r l.spots
+
+    sound : IsSound (root r) cs (now r)
+    sound = sound_now r l.spots
+
+    had : (k : ℕ) → HadOne (rest r) (root r) r.level (r.old.depth - r.level) k → HadAnswerBehind r k
+    had k x = record {
       level = x.level;
       behind = x.behind;
       within = let b = x.behind in let w = x.within in omega (arith, b, w);
       there = x.there;
       answer = x.answer;
       kept = x.kept;
-    }),
-  )
+    }
 
-  pub lost_once : (n : ℕ) → AreApart (answered_in m (rows_from m n (all_below r c)))
-  lost_once n = answers_once (root r) (changes_in r.forest) (rest r) (now r) (sound_rest r l.spots) (sound_now r l.spots) l.spots.stay r.level l.deeper c.gone l.differs.gone l.gone_once m e n
-
-  pub lost_lives : (k : ℕ) → In k (all_below r c) → IsSome (m k)
-  lost_lives k i = below_lives (root r) (changes_in r.forest) (rest r) (now r) (sound_rest r l.spots) (sound_now r l.spots) l.spots.stay r.level l.deeper c.gone l.differs.gone l.gone_once m e k i
-
-  pub lost_gone : kids_below m c.gone ≡ kids_below (now r) c.gone
-  lost_gone = gone_kids (root r) (changes_in r.forest) (rest r) (now r) (sound_rest r l.spots) (sound_now r l.spots) l.spots.stay r.level l.deeper c.gone l.differs.gone l.gone_once m e
+    has : (k : ℕ) → HadAnswerBehind r k → In k (answered_in m (rows_from m (r.old.depth - r.level) (all_below r c)))
+    has k x = had_it (root r) cs (rest r) (now r) quiet sound l.spots.stay r.level l.deeper c.gone l.differs.gone l.gone_once m e (r.old.depth - r.level) k (record {
+      level = x.level;
+      behind = x.behind;
+      within = let b = x.behind in let w = x.within in omega (arith, b, w);
+      there = x.there;
+      answer = x.answer;
+      kept = x.kept;
+    })

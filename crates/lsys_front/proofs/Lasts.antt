@@ -9,7 +9,7 @@ use Rattle.lsys_change.specs.Nodes.{Kin, Extends}
 use Rattle.lsys_forest.specs.Nodes.{Node, Nodes}
 use Rattle.lsys_forest.specs.Changes.{Change}
 use Rattle.lsys_forest.specs.Answers.{answer_of}
-use Rattle.lsys_forest.specs.Groves.{In, AreApart, IsSound}
+use Rattle.lsys_forest.specs.Groves.{In, AreApart, IsSound, ReachedIn, Reached}
 use Rattle.lsys_forest.specs.Rows.{flat, kids_in, kids_below, spot_in, level_nodes, level_spots}
 use Rattle.lsys_forest.proofs.LinkLemmas.{flat_same}
 use Rattle.lsys_forest.proofs.RowLemmas as rows
@@ -20,7 +20,7 @@ use Rattle.lsys_next.proofs.Depths.{on_level}
 use Rattle.lsys_next.proofs.Renewing.{in_cases}
 use Rattle.lsys_front.specs.Ends.{ended, AreEnded, is_answered, answered_in, row_below, rows_from, AreDeep}
 use Rattle.lsys_front.proofs.Rows.{in_flat}
-use Rattle.lsys_front.proofs.RowsBelow.{filter_in, in_filter, filter_apart, SameIn, row_level, rows_row, row_rows, below_apart, rows_apart, AgreeFrom, row_same, rows_same, answered, is_answered_by}
+use Rattle.lsys_front.proofs.RowsBelow.{filter_in, in_filter, filter_apart, SameIn, row_level, rows_row, row_rows, below_apart, deep_rows, rows_apart, AgreeFrom, row_same, rows_same, answered, is_answered_by}
 
 next_is : (u : ℕ) → u + 1 ≡ suc u
 next_is u = omega arith
@@ -50,6 +50,21 @@ module _ {A : Type 0} where
 
   pub none_behind : (m : Nodes A) (root u : ℕ) → ((k : ℕ) → In k (level_nodes m root u) → kids_in (m k) ≡ []) → level_nodes m root (u + 1) ≡ []
   none_behind m root u h = ap (level_nodes m root) (next_is u) ∙ flat_none (λ k. kids_in (m k)) (level_nodes m root u) h
+
+  later_none : (m : Nodes A) (root d t : ℕ) → level_nodes m root (d + 1) ≡ [] → level_nodes m root (suc (d + t)) ≡ []
+  later_none m root d zero e = let n : suc (d + 0) ≡ d + 1 = omega arith in ap (level_nodes m root) n ∙ e
+  later_none m root d (suc t) e =
+      let n : d + suc t ≡ suc (d + t) = omega arith in
+      ap (λ s. kids_below m (level_nodes m root s)) n ∙ ap (kids_below m) (later_none m root d t e)
+
+  -- behind a level without nodes there are none
+  none_later : (m : Nodes A) (root d v : ℕ) → d < v → level_nodes m root (d + 1) ≡ [] → level_nodes m root v ≡ []
+  none_later m root d v l e = let n : v ≡ suc (d + (v - (d + 1))) = omega (arith, l) in ap (level_nodes m root) n ∙ later_none m root d (v - (d + 1)) e
+
+  -- a node that is reached by steps is on the level of their number
+  reached_level : (m : Nodes A) (root d k : ℕ) → ReachedIn m root (suc d) k → In k (level_nodes m root d)
+  reached_level m root zero k h = subst (λ x. In k (kids_in x)) (sym h.3 ∙ ap m h.2) h.4
+  reached_level m root (suc d) k h = in_flat (λ q. kids_in (m q)) (level_nodes m root d) h.0 k (reached_level m root d h.0 h.2) (subst (λ x. In k (kids_in x)) (sym h.3) h.4)
 
   module _ (root : ℕ) (changes : List (Change A)) (old new : Nodes A) (sound : IsSound root changes old) (u : ℕ) (e : AreEnded old new (level_nodes old root u)) where
     -- a node that is less deep is not of the level
@@ -110,6 +125,15 @@ module _ {A : Type 0} where
     ]
 
   -- 2. what was behind the level
+
+  -- the node was on one of the levels behind this one, so many of them, and kept an answer
+  pub record HadOne (o : Nodes A) (root u n k : ℕ) : Type 0 where
+    pub level : ℕ
+    pub behind : u < level
+    pub within : level ≤ u + n
+    pub there : In k (level_nodes o root level)
+    pub answer : A
+    pub kept : option_and_then answer_of (o k) ≡ Some answer
 
   module _ (root : ℕ) (changes : List (Change A)) (o m : Nodes A) (quiet : IsSound root [] o) (sound : IsSound root changes m)
       (stay : Extends (kins o) (kins m)) (u : ℕ) (deep : KeepsDeeper o m (u + 1)) where
@@ -221,6 +245,37 @@ module _ {A : Type 0} where
             let d : p.0.depth ≡ t + 1 = p.2 in
             agree k p.0 p.1 (omega (arith, d, l))
 
+        -- a node of the rows is deep
+        is_deep : (n k : ℕ) → In k (rows_from new n below) → (p : Node A) × (o k ≡ Some p) × (u + 2 ≤ p.depth)
+        is_deep n k i = deep_rows root [] o quiet n (u + 2) below below_deep k (subst (In k) (rows_are n) i)
+
+        -- and no node of a level now
+        not_on_level : (n k v : ℕ) → In k (rows_from new n below) → In k (level_nodes new root v) → ⊥
+        not_on_level n k v i h = elim (cases_lt u v) [
+          | inl l ↦ subst (In k) (none_later new root u v l (ended_behind root changes m new sound u e)) h
+          | inr l ↦ (
+              let p = is_deep n k i in
+              let d : u + 2 ≤ p.0.depth = p.2 in
+              let is : m k ≡ Some p.0 = deep.deeper k p.0 p.1 (omega (arith, d)) in
+              let q = rows.level_depth root changes m sound v k (subst (In k) (ended_nodes root changes m new sound u e v l) h) in
+              let same : q.0.depth ≡ p.0.depth = ap (λ (y : Node A). y.depth) (same_Some q.0 p.0 (sym q.1 ∙ is)) in
+              let at : q.0.depth ≡ v + 1 = q.2 in
+              absurd (omega (arith, d, same, at, l))
+              )
+        ]
+
+        pub not_reached : (n k : ℕ) → In k (rows_from new n below) → Reached new root k → ⊥
+        not_reached n k i h = by h.0 h.1
+          where
+            by : (d : ℕ) → ReachedIn new root d k → ⊥
+            by zero at =
+                let p = is_deep n k i in
+                let d : u + 2 ≤ p.0.depth = p.2 in
+                let top : p.0.depth ≡ quiet.root_lives.0.depth = ap (λ (y : Node A). y.depth) (same_Some p.0 quiet.root_lives.0 (sym p.1 ∙ ap o at ∙ quiet.root_lives.1)) in
+                let z = quiet.root_lives.2 in
+                absurd (omega (arith, d, top, z))
+            by (suc d) at = not_on_level n k d i (reached_level new root d k at)
+
         pub answers_once : (n : ℕ) → AreApart (answered_in new (rows_from new n below))
         answers_once n = filter_apart (is_answered new) (rows_from new n below) (subst AreApart (sym (rows_are n)) (rows_apart root [] o quiet n (u + 2) below below_deep below_once))
 
@@ -230,16 +285,7 @@ module _ {A : Type 0} where
         pub gone_kids : kids_below new gone ≡ kids_below m gone
         gone_kids = flat_same (λ k. kids_in (new k)) (λ k. kids_in (m k)) gone (λ k i. ap (λ x. kids_in x) (e.others k ((gone_are k).0 i).1))
 
-        -- a node behind the level that kept an answer
-        pub record HadOne (n k : ℕ) : Type 0 where
-          pub level : ℕ
-          pub behind : u < level
-          pub within : level ≤ u + n
-          pub there : In k (level_nodes o root level)
-          pub answer : A
-          pub kept : option_and_then answer_of (o k) ≡ Some answer
-
-        pub had_one : (n k : ℕ) → In k (answered_in new (rows_from new n below)) → HadOne n k
+        pub had_one : (n k : ℕ) → In k (answered_in new (rows_from new n below)) → HadOne o root u n k
         had_one n k h =
             let f = filter_in (is_answered new) (rows_from new n below) k h in
             let r = rows_row new n below k f.0 in
@@ -255,7 +301,7 @@ module _ {A : Type 0} where
               kept = sym (ap (option_and_then answer_of) same) ∙ a.1;
             }
 
-        pub had_it : (n k : ℕ) → HadOne n k → In k (answered_in new (rows_from new n below))
+        pub had_it : (n k : ℕ) → HadOne o root u n k → In k (answered_in new (rows_from new n below))
         had_it n k h =
             let i : ℕ = h.level - (u + 1) in
             let level : h.level ≡ u + 1 + i = omega (arith, h.behind) in
@@ -265,18 +311,9 @@ module _ {A : Type 0} where
 
     -- 3. nothing was behind the level
 
-    later_none : (d t : ℕ) → level_nodes o root (d + 1) ≡ [] → level_nodes o root (suc (d + t)) ≡ []
-    later_none d zero e = let n : suc (d + 0) ≡ d + 1 = omega arith in ap (level_nodes o root) n ∙ e
-    later_none d (suc t) e =
-        let n : d + suc t ≡ suc (d + t) = omega arith in
-        ap (λ s. kids_below o (level_nodes o root s)) n ∙ ap (kids_below o) (later_none d t e)
-
-    none_later : (d v : ℕ) → d < v → level_nodes o root (d + 1) ≡ [] → level_nodes o root v ≡ []
-    none_later d v l e = let n : v ≡ suc (d + (v - (d + 1))) = omega (arith, l) in ap (level_nodes o root) n ∙ later_none d (v - (d + 1)) e
-
     bare_kids : (d : ℕ) → d ≤ u → level_nodes o root (d + 1) ≡ [] → (k : ℕ) → In k (level_nodes m root u) → kids_in (m k) ≡ []
     bare_kids d l e k i = elim (was_or_bare k i) [
-      | inl w ↦ kids_stay k w ∙ no_members (kids_in (o k)) (λ j h. (subst (In j) (none_later d (suc u) (omega (arith, l)) e) (in_flat (λ q. kids_in (o q)) (level_nodes o root u) k j w h)))
+      | inl w ↦ kids_stay k w ∙ no_members (kids_in (o k)) (λ j h. (subst (In j) (none_later o root d (suc u) (omega (arith, l)) e) (in_flat (λ q. kids_in (o q)) (level_nodes o root u) k j w h)))
       | inr b ↦ b.1
     ]
       where
@@ -291,7 +328,7 @@ module _ {A : Type 0} where
         → (k : ℕ) → In k (level_nodes m root u) → option_and_then answer_of (o k) ≡ None
     bare_answers d l e none k i = elim (was_or_bare k i) [
       | inl w ↦ elim (less_or_same d u l) [
-        | inl s ↦ absurd (subst (In k) (none_later d u s e) w)
+        | inl s ↦ absurd (subst (In k) (none_later o root d u s e) w)
         | inr s ↦ none k (subst (λ t. In k (level_nodes o root t)) (sym s) w)
       ]
       | inr b ↦ ap (option_and_then answer_of) b.0

@@ -7,7 +7,7 @@ use Rattle.lsys_forest.specs.Nodes.{Node, Nodes}
 use Rattle.lsys_forest.specs.Changes.{Change}
 use Rattle.lsys_forest.specs.Answers.{answer_of}
 use Rattle.lsys_forest.specs.Groves.{In, AreApart, IsSound}
-use Rattle.lsys_forest.specs.Rows.{flat, kids_in, kids_below, level_nodes}
+use Rattle.lsys_forest.specs.Rows.{kids_in, kids_below, level_nodes}
 use Rattle.lsys_forest.specs.Ranks.{parent_in}
 use Rattle.lsys_forest.proofs.LinkLemmas.{flat_same}
 use Rattle.lsys_forest.proofs.RowLemmas as rows

@@ -36,4 +36,5 @@ module _ {A : Type 0} where
 
   -- each of these nodes lives, so many steps below the root
   abbrev pub AreDeep : Nodes A → ℕ → List ℕ → Type 0
-  AreDeep m depth nodes = (k : ℕ) → In k nodes → (n : Node A) × (m k ≡ Some n) × (n.depth ≡ depth)
+  AreDeep m depth nodes =
+      (k : ℕ) → In k nodes → (n : Node A) × (m k ≡ Some n) × (n.depth ≡ depth)

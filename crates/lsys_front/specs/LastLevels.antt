@@ -1,7 +1,7 @@
 -- The last level that a repair makes, and what was on it and behind it at the last rest.
-use Rattle.std.specs.Prelude.{◌≡◌, ◌⊎◌, ◌+◌, ◌<◌, ◌≤◌, ◌++◌, ℕ, List, [], Some, None}
+use Rattle.std.specs.Prelude.{◌≡◌, ◌↔◌, ◌⊎◌, ◌+◌, ◌-◌, ◌<◌, ◌≤◌, ◌++◌, ℕ, List, [], Some, None, IsSome}
 use Rattle.lsys_forest.specs.Nodes.{Nodes}
-use Rattle.lsys_forest.specs.Groves.{In, AreApart}
+use Rattle.lsys_forest.specs.Groves.{In, AreApart, Reached}
 use Rattle.lsys_forest.specs.Rows.{kids_below, level_nodes, level_spots}
 use Rattle.lsys_match.specs.Kept.{Kept}
 use Rattle.lsys_kept.specs.Lineages.{kins}
@@ -10,6 +10,7 @@ use Rattle.lsys_kept.specs.Meant.{meant_to}
 use Rattle.lsys_next.specs.Renewals.{AreSmall, KeepsUpper, KeepsDeeper}
 use Rattle.lsys_candidates.specs.Repairs.{Repair, now, rest, root, are, SteppingSpots}
 use Rattle.lsys_candidates.specs.Found.{LevelChanges, Differs}
+use Rattle.lsys_front.specs.Ends.{answered_in, row_below, rows_from}
 
 -- 1. the level ends
 
@@ -28,8 +29,8 @@ pub record IsEnded (r : Repair) (m : Nodes Kept) : Type 0 where
   pub kin : (k : ℕ) → kins m k ≡ kins (now r) k
   pub small : AreSmall (now r) → AreSmall m
 
--- The old system had no level behind this one: then its nodes have no children, and they keep no answers, where the last rest kept
--- none on its last level, and each answer that is kept is that of the last rest.
+-- The old system has no level behind this one. At the last rest nothing was below its last level, whose nodes kept no answers; and a
+-- node of this level keeps the answer that it kept then, or none.
 pub record IsBehindAll (r : Repair) : Type 0 where
   pub deeper : KeepsDeeper (rest r) (now r) (r.level + 1)
   pub depth : r.old.depth ≤ r.level
@@ -53,10 +54,24 @@ abbrev pub all_below : Repair → LevelChanges → List ℕ
 all_below r c = kids_below (now r) (are r) ++ kids_below (now r) c.gone
 
 -- At the last rest the node was on a level behind this one, at most the last of the old system, and kept an answer.
-pub record HadAnswerBelow (r : Repair) (k : ℕ) : Type 0 where
+pub record HadAnswerBehind (r : Repair) (k : ℕ) : Type 0 where
   pub level : ℕ
   pub behind : r.level < level
   pub within : level ≤ r.old.depth
   pub there : In k (level_nodes (rest r) (root r) level)
   pub answer : Kept
   pub kept : answer_at (rest r) k ≡ Some answer
+
+-- By the nodes m, those children and the nodes below them, row by row, are the levels that were behind this one at the last rest.
+-- None of them is reached from the root. Down to the last level of the old system, those that keep an answer are those that kept
+-- one then. The children of the nodes that are gone are as they were.
+pub record HasAllBehind (r : Repair) (c : LevelChanges) (m : Nodes Kept) : Type 0 where
+  pub rows : (n k : ℕ) → In k (row_below m n (all_below r c))
+      ↔ In k (level_nodes (rest r) (root r) (r.level + 1 + n))
+  pub lives : (k : ℕ) → In k (all_below r c) → IsSome (m k)
+  pub unreached : (n k : ℕ) → In k (rows_from m n (all_below r c)) → Reached m (root r) k → ⊥
+  pub answers : (k : ℕ)
+      → In k (answered_in m (rows_from m (r.old.depth - r.level) (all_below r c)))
+      ↔ HadAnswerBehind r k
+  pub answers_once : (n : ℕ) → AreApart (answered_in m (rows_from m n (all_below r c)))
+  pub gone : kids_below m c.gone ≡ kids_below (now r) c.gone

@@ -1,15 +1,15 @@
 //! The last level of a system.
-ghost use Rattle.std.specs.Prelude.{◌≡◌, ◌↔◌, ◌≤◌, ◌<◌, ◌+◌, ◌-◌, ◌^◌, ◌++◌, ◌∷◌, ℕ, List, [], true, Some, None, OnOk, IsSome};
+ghost use Rattle.std.specs.Prelude.{◌≡◌, ◌↔◌, ◌≤◌, ◌<◌, ◌+◌, ◌^◌, ◌++◌, ◌∷◌, ℕ, List, [], true, Some, None, OnOk};
 ghost use Rattle.lsys_match.specs.Kept.{Kept as KeptValue};
 ghost use Rattle.lsys_forest.specs.Nodes.{Node, Nodes, put, with_kids, with_answer};
 ghost use Rattle.lsys_forest.specs.Changes.{Change};
 ghost use Rattle.lsys_forest.specs.Groves.{In, AreApart, IsSound, now_of, live_nodes, IsLive};
-ghost use Rattle.lsys_forest.specs.Rows.{kids_in, kids_below, level_nodes};
-ghost use Rattle.lsys_candidates.specs.Repairs.{Repair, SteppingSpots, now, rest, root, are};
+ghost use Rattle.lsys_forest.specs.Rows.{kids_in, kids_below};
+ghost use Rattle.lsys_candidates.specs.Repairs.{Repair, SteppingSpots, now, are};
 ghost use Rattle.lsys_candidates.specs.Found.{LevelChanges};
 ghost use Rattle.lsys_front.specs.Losses.{LosesOnly};
 ghost use Rattle.lsys_front.specs.Ends.{AreEnded, is_answered, answered_in, row_below, rows_from, AreDeep};
-ghost use Rattle.lsys_front.specs.LastLevels.{IsEnded, IsBehindAll, IsLastLevel, all_below, HadAnswerBelow};
+ghost use Rattle.lsys_front.specs.LastLevels.{IsEnded, IsBehindAll, IsLastLevel, HasAllBehind};
 
 use lsys_forest::{Forest, Kept, NodeId};
 use lsys_level::Tag;
@@ -118,8 +118,8 @@ fn keeps_answer<A: Kept>(forest: &Forest<A>, node: NodeId) -> bool
     forest.answer(node).is_some()
 }
 
-/// Those of these nodes that keep an answer come behind `dropped`, and then those below them, level by level, as many levels as
-/// told, that of these nodes among them. It stops at a level that has no nodes. The forest is only read.
+/// Those of these nodes that keep an answer come behind `dropped`, and then those of the nodes below them, level by level: of so
+/// many levels, that of these nodes among them. It stops at a level that has no nodes. The forest is only read.
 ///
 /// # Errors
 ///
@@ -192,8 +192,8 @@ pub fn add_children<A: Kept>(
     Ok(())
 }
 
-/// Those of some nodes that keep an answer are each of them that does, and none of them twice. The rows below some nodes have the
-/// nodes of each of so many rows; and where those nodes are apart, and of one depth, no row has a node of another one.
+/// Those of some nodes that keep an answer are among them, each once where each of the nodes is there once. Some nodes and those
+/// below them are the nodes of so many rows; and where those nodes are of one depth, no node is in two rows.
 pub fn law_of_answered_rows<A>()
     ensures answered { (m : Nodes A) (nodes : List ℕ) (k : ℕ)
         → In k (answered_in m nodes) ↔ (In k nodes × (is_answered m k ≡ true)) }
@@ -207,33 +207,13 @@ pub fn law_of_answered_rows<A>()
         → AreApart (rows_from m n nodes) }
 {}
 
-/// A level whose nodes lose their answers and their children is the last one. Where the old system had no level behind it, it is
-/// the last one as it is.
+/// A level whose nodes lose their answers and their children is the last one. Where the old system has no level behind it, it is
+/// the last one as it is. What was behind it at the last rest stays as it was, below its nodes and below those that are gone from
+/// it: so [`drop_below`] finds what kept an answer there, each node once.
 pub fn law_of_last_levels()
     ensures ended { (r : Repair) (m : Nodes KeptValue)
         → SteppingSpots r → AreEnded (now r) m (are r) → IsEnded r m }
     ensures bare { (r : Repair) → SteppingSpots r → IsBehindAll r → IsEnded r (now r) }
-{}
-
-/// What was behind a level that ends, level by level, is what is below its nodes and below those that are gone from it. It stays
-/// as it was: so what keeps an answer there, as many levels down as the old system had, is what kept one behind the level at the
-/// last rest, each node once.
-pub fn law_of_lost_levels()
-    ensures below { (r : Repair) (c : LevelChanges) (m : Nodes KeptValue)
-        → IsLastLevel r c → AreEnded (now r) m (are r)
-        → (n k : ℕ) → In k (row_below m n (all_below r c))
-        ↔ In k (level_nodes (rest r) (root r) (r.level + 1 + n)) }
-    ensures answers { (r : Repair) (c : LevelChanges) (m : Nodes KeptValue)
-        → IsLastLevel r c → AreEnded (now r) m (are r)
-        → (k : ℕ) → In k (answered_in m (rows_from m (r.old.depth - r.level) (all_below r c)))
-        ↔ HadAnswerBelow r k }
-    ensures once { (r : Repair) (c : LevelChanges) (m : Nodes KeptValue)
-        → IsLastLevel r c → AreEnded (now r) m (are r)
-        → (n : ℕ) → AreApart (answered_in m (rows_from m n (all_below r c))) }
-    ensures lives { (r : Repair) (c : LevelChanges) (m : Nodes KeptValue)
-        → IsLastLevel r c → AreEnded (now r) m (are r)
-        → (k : ℕ) → In k (all_below r c) → IsSome (m k) }
-    ensures gone { (r : Repair) (c : LevelChanges) (m : Nodes KeptValue)
-        → IsLastLevel r c → AreEnded (now r) m (are r)
-        → kids_below m c.gone ≡ kids_below (now r) c.gone }
+    ensures behind { (r : Repair) (c : LevelChanges) (m : Nodes KeptValue)
+        → IsLastLevel r c → AreEnded (now r) m (are r) → HasAllBehind r c m }
 {}
