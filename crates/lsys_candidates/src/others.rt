@@ -4,8 +4,8 @@ ghost use Rattle.lsys_spec.specs.Bodies.{group, table_at};
 ghost use Rattle.lsys_spec.specs.Meaning.{any_weight};
 ghost use Rattle.lsys_module.specs.Views.{module_name};
 ghost use Rattle.lsys_bodies.specs.Views.{production_of};
-ghost use Rattle.lsys_candidates.specs.Others.{IsOtherwise, AreAllAlike, HasOther, are_alike, bodies_of};
-ghost use Rattle.lsys_candidates.specs.Others.{is_alike_for, all_alike_for};
+ghost use Rattle.lsys_candidates.specs.Others.{IsOtherwise, AreAllAlike, HasOther};
+ghost use Rattle.lsys_candidates.specs.Others.{are_alike, bodies_of, is_alike_for, all_alike_for};
 ghost use Rattle.lsys_forest.specs.Groves.{In, IsLive, now_of};
 ghost use Rattle.lsys_candidates.specs.Asks.{AddsOf};
 
@@ -58,8 +58,8 @@ impl<'a> Model for LevelRules<'a> {
     ghost invariant = { λ a. (a.was ≡ asked_level a.old_system.now a.level)
         × (a.are ≡ asked_level a.new_system.now a.level)
         × (a.is_same_seed ≡ (a.old_system.now.seed == a.new_system.now.seed))
-        × (a.is_same_filter
-        ≡ same_filter (bodies.filter a.old_system.now a.level) (bodies.filter a.new_system.now a.level))
+        × (a.is_same_filter ≡ same_filter (bodies.filter a.old_system.now a.level)
+        (bodies.filter a.new_system.now a.level))
         × AreKnown a.known a.old_system.now a.new_system.now a.level };
 }
 

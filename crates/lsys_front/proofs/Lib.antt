@@ -12,3 +12,6 @@ pub mod Ending
 pub mod RowsBelow
 pub mod Lasts
 pub mod LastLevels
+pub mod LevelParents
+pub mod NextSymbols
+pub mod Gathered

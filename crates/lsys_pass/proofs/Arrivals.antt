@@ -14,7 +14,7 @@ use Rattle.lsys_next.specs.Nexts.{AreClosed}
 use Rattle.lsys_next.specs.Answers.{kept_successors}
 use Rattle.lsys_pass.specs.declared.sizes.Size.{Size}
 use Rattle.lsys_pass.specs.declared.state.PassState.TheVariants.{Level, Done, Failed}
-use Rattle.lsys_pass.specs.Sizes.{symbols_at, opens_at, HaveSizes, HaveSizesTo, SizesAt}
+use Rattle.lsys_pass.specs.Sizes.{symbols_at, opens_at, with_open, with_level, HaveSizes, HaveSizesTo, SizesAt}
 use Rattle.lsys_pass.specs.Stages.{IsStored}
 use Rattle.lsys_pass.specs.Passes.{PassView, stage_of, now, was, HoldsAt, IsStill, HasFront, FrontAt, IsPass}
 use Rattle.lsys_pass.specs.Advances.{IsAskedTo, KeepsRest, Makes, Begins, Advances, Ends}
@@ -38,15 +38,9 @@ failed v h = record {
 
 -- 2. the sizes of the levels that were made
 
--- the level that is the last of these is open, or not
-abbrev pub told : List Size → Bool → List Size
-told [] b = []
-told (x ∷ []) b = record { symbols = x.symbols; is_open = b } ∷ []
-told (x ∷ y ∷ xs) b = x ∷ told (y ∷ xs) b
-
 -- and one more level
 abbrev pub one_more : List Size → Bool → ℕ → List Size
-one_more xs b n = told xs b ++ record { symbols = n; is_open = false } ∷ []
+one_more xs b n = with_level (with_open xs b) n
 
 more_long : (xs : List Size) (b : Bool) (n : ℕ) → length (one_more xs b n) ≡ length xs + 1
 more_long [] b n = refl

@@ -27,4 +27,5 @@ pub mod Making
 pub mod Arrivals
 pub mod NextLengths
 pub mod Closedness
+pub mod SizesTold
 pub mod Repairing

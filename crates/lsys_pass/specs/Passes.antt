@@ -1,16 +1,16 @@
 -- What a contract sees of a pass, and what holds of it between calls.
-use Rattle.std.specs.Prelude.{◌≡◌, ◌<◌, ◌≤◌, ◌^◌, ℕ, false, List, [], length, take, drop}
+use Rattle.std.specs.Prelude.{◌≡◌, Some, ◌<◌, ◌≤◌, ◌^◌, ℕ, false, List, [], length, take, drop}
 use Rattle.lsys_spec.specs.Systems.{System}
 use Rattle.lsys_spec.specs.Questions.{questions}
 use Rattle.lsys_walks.specs.Stores.{Store}
 use Rattle.lsys_match.specs.Kept.{Kept}
 use Rattle.lsys_reads.specs.Relations.{Relations}
-use Rattle.lsys_forest.specs.Nodes.{Nodes}
+use Rattle.lsys_forest.specs.Nodes.{Node, Nodes}
 use Rattle.lsys_forest.specs.Groves.{Grove, In, now_of, rest_of, changes_in, live_nodes}
 use Rattle.lsys_forest.specs.Rows.{level_nodes}
 use Rattle.lsys_kept.specs.Meant.{meant}
 use Rattle.lsys_seats.specs.declared.seat.Seat.{Seat}
-use Rattle.lsys_seats.specs.Seats.{is_marked}
+use Rattle.lsys_seats.specs.Seats.{is_marked, HasSeat}
 use Rattle.lsys_candidates.specs.Repairs.{Repair}
 use Rattle.lsys_front.specs.Fronts.{Differences, IsFront}
 use Rattle.lsys_pass.specs.declared.state.PassState.{PassState}
@@ -103,6 +103,10 @@ repair_of v t = record {
   store = v.store;
 }
 
+-- each node that lives has a seat
+abbrev pub AllHaveSeats : Nodes Kept → List Seat → Type 0
+AllHaveSeats m seats = (k : ℕ) (n : Node Kept) → m k ≡ Some n → HasSeat seats k
+
 -- It is told what differs on level t, which was made last. Of the nodes with another answer those of the levels above it come first,
 -- and then its own.
 pub record HasFront (v : PassView) (t : ℕ) : Type 0 where
@@ -112,12 +116,13 @@ pub record HasFront (v : PassView) (t : ℕ) : Type 0 where
       → (u : ℕ) × (u < t) × In k (level_nodes (now v) v.forest.root u)
   pub here : (k : ℕ) → In k (drop v.first_renewed v.renewed)
       → In k (level_nodes (now v) v.forest.root t)
+  pub room : AllHaveSeats (now v) v.seats
 
 -- what is told where it stands
 abbrev pub FrontAt : PassView → PassState → Type 0
 FrontAt v Rest = Unit {0}
 FrontAt v (Level t) = HasFront v t
-FrontAt v Done = Unit {0}
+FrontAt v Done = AllHaveSeats (now v) v.seats
 FrontAt v Failed = Unit {0}
 
 -- what holds between calls; no node is marked then
@@ -130,3 +135,4 @@ pub record IsPass (v : PassView) : Type 0 where
   pub made_sized : SizesAt (now v) v.forest.root v.next.depth v.made v.state
   pub holds : HoldsAt (stage_of v) v.state
   pub front : FrontAt v v.state
+  pub room : AllHaveSeats (was v) v.seats
