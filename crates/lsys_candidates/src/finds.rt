@@ -5,7 +5,7 @@ ghost use Rattle.lsys_seats.specs.Neighbours.{IsOnLevel, neighbours_in};
 ghost use Rattle.lsys_seats.specs.Seats.{is_marked, HasSeat, SameSeats, KeepsSeats};
 ghost use Rattle.lsys_candidates.specs.Finds.{Gathers, AllMarked, IsTurned, IsBeside, IsReader, IsNear};
 
-use crate::gather::{gather, gather_any};
+use crate::gather::{gather, gather_any, gather_tags};
 use lsys_forest::{Forest, Kept, NodeId};
 use lsys_level::{LevelView, Tag};
 use lsys_reads::Reads;
@@ -146,19 +146,6 @@ pub(crate) fn find_readers(
 {
     for node in seen {
         gather_tags(seats, reads.readers_of(Tag(node.0)), readers)?;
-    }
-    Ok(())
-}
-
-/// Marks and adds the nodes with these tags.
-fn gather_tags(seats: &mut Seats, tags: &[Tag], nodes: &mut Vec<NodeId>) -> Result<(), AllocError>
-    requires room { (k : ℕ) → In k tags.now → HasSeat seats.old k }
-    ensures gathers { Gathers (λ k. In k tags.now) seats.old seats.new
-        nodes.old.items nodes.new.items }
-    ensures all { OnOk result (AllMarked (λ k. In k tags.now) seats.new) }
-{
-    for tag in tags {
-        gather(seats, NodeId(tag.0), nodes)?;
     }
     Ok(())
 }

@@ -1,9 +1,11 @@
 //! Nodes, each once.
 ghost use Rattle.std.specs.Prelude.{◌≡◌, ℕ, OnOk, true, Some};
+ghost use Rattle.lsys_forest.specs.Groves.{In};
 ghost use Rattle.lsys_seats.specs.Seats.{is_marked, HasSeat};
-ghost use Rattle.lsys_candidates.specs.Finds.{Gathers};
+ghost use Rattle.lsys_candidates.specs.Finds.{Gathers, AllMarked};
 
 use lsys_forest::NodeId;
+use lsys_level::Tag;
 use lsys_seats::Seats;
 use std::alloc::AllocError;
 
@@ -42,4 +44,48 @@ pub(crate) fn gather_any(
         Some(found) => gather(seats, found, nodes),
         None => Ok(()),
     }
+}
+
+/// Marks and adds these nodes. One that is marked stays out, so none is added twice.
+///
+/// It costs steps by the number of these.
+///
+/// # Errors
+///
+/// Want of memory. Those that were added then are marked, and no others.
+pub fn gather_nodes(
+    seats: &mut Seats,
+    these: &[NodeId],
+    nodes: &mut Vec<NodeId>,
+) -> Result<(), AllocError>
+    requires room { (k : ℕ) → In k these.now → HasSeat seats.old k }
+    ensures gathers { Gathers (λ k. In k these.now) seats.old seats.new
+        nodes.old.items nodes.new.items }
+    ensures all { OnOk result (AllMarked (λ k. In k these.now) seats.new) }
+{
+    for node in these {
+        gather(seats, *node, nodes)?;
+    }
+    Ok(())
+}
+
+/// The same of the nodes with these tags.
+///
+/// # Errors
+///
+/// Want of memory. Those that were added then are marked, and no others.
+pub fn gather_tags(
+    seats: &mut Seats,
+    tags: &[Tag],
+    nodes: &mut Vec<NodeId>,
+) -> Result<(), AllocError>
+    requires room { (k : ℕ) → In k tags.now → HasSeat seats.old k }
+    ensures gathers { Gathers (λ k. In k tags.now) seats.old seats.new
+        nodes.old.items nodes.new.items }
+    ensures all { OnOk result (AllMarked (λ k. In k tags.now) seats.new) }
+{
+    for tag in tags {
+        gather(seats, NodeId(tag.0), nodes)?;
+    }
+    Ok(())
 }

@@ -16,6 +16,7 @@ mod others;
 
 pub use asks::{add_asked, has_question};
 pub use changes::{Changes, find_nodes};
+pub use gather::{gather_nodes, gather_tags};
 pub use law::{law_of_candidates, law_of_found_nodes, law_of_other_rules, law_of_readers};
 pub use order::in_order;
 pub use others::{LevelRules, add_others};

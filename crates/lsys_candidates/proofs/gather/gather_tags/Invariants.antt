@@ -1,7 +1,7 @@
 use Rattle.std.proofs.Common.{take}
 use Rattle.lsys_forest.specs.Groves.{In}
 use Rattle.lsys_candidates.specs.Finds.{Gathers, AllMarked}
-use Rattle.lsys_candidates.proofs.finds.gather_tags.Given as goal
+use Rattle.lsys_candidates.proofs.gather.gather_tags.Given as goal
 
 abbrev pub invariant-loop-tag : goal.invariant-loop-tag
 invariant-loop-tag l = record {

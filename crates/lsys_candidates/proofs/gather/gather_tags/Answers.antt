@@ -5,7 +5,7 @@ use Rattle.lsys_seats.specs.Seats.{is_marked}
 use Rattle.lsys_seats.proofs.LevelLemmas.{got_in}
 use Rattle.lsys_seats.proofs.SeamLemmas.{in_taken_next, in_all_taken, none_taken}
 use Rattle.lsys_candidates.proofs.Gathering.{gathers_none, tags_next, still_marked}
-use Rattle.lsys_candidates.proofs.finds.gather_tags.Goals as goal
+use Rattle.lsys_candidates.proofs.gather.gather_tags.Goals as goal
 
 pub gather-requires : goal.gather-requires
 gather-requires c =
