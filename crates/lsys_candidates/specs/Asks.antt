@@ -24,3 +24,9 @@ ArePlaced place (x ∷ xs) = ((k : ℕ) → In k xs → place x < place k) × Ar
 -- the nodes as they come on their level, from the left
 abbrev pub AreInOrder : {A : Type 0} → Grove A → List ℕ → Type 0
 AreInOrder f nodes = ArePlaced (place_of_node f) nodes
+
+-- these are some of those, in order
+abbrev pub AreSome : List ℕ → List ℕ → Type 0
+AreSome [] ks = Unit {0}
+AreSome (j ∷ js) [] = ⊥
+AreSome (j ∷ js) (k ∷ ks) = ((j ≡ k) × AreSome js ks) ⊎ AreSome (j ∷ js) ks
