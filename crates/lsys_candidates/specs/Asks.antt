@@ -1,5 +1,5 @@
 -- Which of the found nodes are asked, and in which order.
-use Rattle.std.specs.Prelude.{◌≡◌, ◌<◌, ◌↔◌, ℕ, List, [], ◌∷◌, ◌++◌}
+use Rattle.std.specs.Prelude.{◌≡◌, ◌<◌, ◌⊎◌, ◌↔◌, ℕ, List, [], ◌∷◌, ◌++◌}
 use Rattle.lsys_forest.specs.Groves.{Grove, In, AreApart}
 use Rattle.lsys_forest.specs.Rows.{level_of_node, place_of_node, IsAtSpot}
 

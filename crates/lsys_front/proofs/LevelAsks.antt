@@ -31,10 +31,10 @@ module _ (r : Repair) (s : SteppingSpots r) (p k : ℕ) (there : slice_get (are 
 
   -- what is needed is a candidate
   no_need : (IsCandidateNode r k → ⊥) → IsNeeded r.old r.new r.limit r.level (level_of (now r) (root r) r.level) p → ⊥
-  no_need no n =
+  no_need not_one n =
       let t = seen_there r s p k n.line n.own there n.stands in
       not_both (is_needed (questions r.old (xs r s)) (module_question r.new r.level (is_level r s) p n.line n.own)) n.is
-      (ap (λ l. is_needed (questions r.old (xs r s)) (module_question r.new r.level (is_level r s) p l n.own)) t.0 ∙ unneeded r s p k there n.own t.1 n.rules no)
+      (ap (λ l. is_needed (questions r.old (xs r s)) (module_question r.new r.level (is_level r s) p l n.own)) t.0 ∙ unneeded r s p k there n.own t.1 n.rules not_one)
 
   abbrev IsSaid : Seen → Type 0
   IsSaid x = IsAnswered r.new r.level row r.store p k x (answer_at (now r) k)
@@ -46,7 +46,7 @@ module _ (r : Repair) (s : SteppingSpots r) (p k : ℕ) (there : slice_get (are 
       (subst (λ j. IsAnswered r.new r.level row r.store p j (seen_at (now r) k) (answer_at (now r) k)) (sym (tag_is k (now r k))) h)
 
   answered : (HasQuestion r k → answer_at (now r) k ≡ answer_at (rest r) k) → ((HasQuestion r k → ⊥) → answer_at (now r) k ≡ None) → (IsCandidateNode r k → ⊥) → IsSaid (seen_at (now r) k)
-  answered kept bare no = by (seen_at (now r) k) refl
+  answered kept bare not_one = by (seen_at (now r) k) refl
     where
       by : (x : Seen) → seen_at (now r) k ≡ x → IsSaid x
       by Push e = bare (λ a. let n : Push ≡ Module a.own = sym e ∙ a.is in cc)
@@ -59,7 +59,7 @@ module _ (r : Repair) (s : SteppingSpots r) (p k : ℕ) (there : slice_get (are 
               (bare (λ a. a.rules (ap (λ (w : ModuleValue). group r.new r.level w.name (length w.params)) (one_module a.own v (sym a.is ∙ e)) ∙ f)))
           by_rules (b ∷ bs) f =
               let rules : group r.new r.level v.name (length v.params) ≡ [] → ⊥ = λ g. let n : b ∷ bs ≡ [] = sym f ∙ g in cc in
-              keeps_right r s p k there v e rules no (answer_at (now r) k) (kept (record { own = v; is = e; rules = rules }))
+              keeps_right r s p k there v e rules not_one (answer_at (now r) k) (kept (record { own = v; is = e; rules = rules }))
 
 pub asks_level : (r : Repair) (pending : List ℕ) → SteppingSpots r
     → ((k : ℕ) → In k (are r) → HasQuestion r k → answer_at (now r) k ≡ answer_at (rest r) k)
@@ -68,8 +68,8 @@ pub asks_level : (r : Repair) (pending : List ℕ) → SteppingSpots r
     → (p k : ℕ) → slice_get (are r) p ≡ Some k → IsToAsk r pending p k ⊎ IsUnasked r pending p k
 asks_level r pending s kept bare is p k there = elim (is_in k pending) [
   | inl i ↦ (let c = ((is k).0 i).1 in
-      inl (record { pending = i; candidate = is_candidate r s p k there c; same = kept k (got_in (are r) p k there) c.asks }))
+      inl (record { among = i; candidate = is_candidate r s p k there c; same = kept k (got_in (are r) p k there) c.asks }))
   | inr n ↦ (let h = got_in (are r) p k there in
-      let no : IsCandidateNode r k → ⊥ = λ c. n ((is k).1 (h, c)) in
-      inr (record { done = n; answered = said r s p k there (answered r s p k there (kept k h) (bare k h) no); unneeded = no_need r s p k there no }))
+      let not_one : IsCandidateNode r k → ⊥ = λ c. n ((is k).1 (h, c)) in
+      inr (record { done = n; answered = said r s p k there (answered r s p k there (kept k h) (bare k h) not_one); unneeded = no_need r s p k there not_one }))
 ]

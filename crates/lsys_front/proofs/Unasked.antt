@@ -82,7 +82,7 @@ module _ (r : Repair) (s : SteppingSpots r) where
       s.new_levels.keys r.level p (spot_in k (now r k)) (omega (arith, new_long r s)) (spot_now p k there) ∙ ap (λ j. key_of r.new.seed (names (now r) j)) (tag_is k (now r k))
 
   module _ (p k : ℕ) (there : slice_get (are r) p ≡ Some k) (v : ModuleValue) (seen : seen_at (now r) k ≡ Module v)
-      (rules : group r.new r.level v.name (length v.params) ≡ [] → ⊥) (no : IsCandidateNode r k → ⊥) where
+      (rules : group r.new r.level v.name (length v.params) ≡ [] → ⊥) (not_one : IsCandidateNode r k → ⊥) where
     abbrev y : List Symbol
     y = is_level r s
 
@@ -97,7 +97,7 @@ module _ (r : Repair) (s : SteppingSpots r) where
     no_candidate : is_candidate_at r.old r.new (xs r s) r.level y q ≡ false
     no_candidate = elim (marked_or_not (is_candidate_at r.old r.new (xs r s) r.level y q)) [
       | inr e ↦ e
-      | inl e ↦ absurd (no (record { asks = record { own = v; is = seen; rules = rules }; differs = differs r s p k v there seen rules e }))
+      | inl e ↦ absurd (not_one (record { asks = record { own = v; is = seen; rules = rules }; differs = differs r s p k v there seen rules e }))
     ]
 
     pub unneeded : is_needed (questions r.old (xs r s)) q ≡ false

@@ -9,7 +9,7 @@ use Rattle.lsys_candidates.specs.Repairs.{Repair, now, rest, root}
 
 -- The node at a place of the level is still to be asked: its question is a candidate, and it has the answer that it had.
 pub record IsToAsk (r : Repair) (pending : List ℕ) (p k : ℕ) : Type 0 where
-  pub pending : In k pending
+  pub among : In k pending
   pub candidate : IsCandidate r.old r.new r.limit r.level p
   pub same : answer_at (now r) k ≡ answer_at (rest r) k
 
