@@ -21,7 +21,7 @@ impl Model for Front {
     ghost Value = { Differences };
 
     ghost view = { λ a. record {
-      changes = a.changes.now;
+      changes = a.changes;
       turned = a.turned.items;
       bare = a.bare.items;
     } };

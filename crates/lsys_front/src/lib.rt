@@ -2,7 +2,11 @@
 //! next one.
 #![tactic(auto)]
 
+mod asks;
 mod front;
 mod law;
+mod lost;
 
+pub use asks::{Found, law_of_levels_to_ask, law_of_pending};
 pub use front::Front;
+pub use lost::lose_answers;

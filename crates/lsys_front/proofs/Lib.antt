@@ -1,0 +1,6 @@
+pub mod Losing
+pub mod Renaming
+pub mod Retelling
+pub mod Unasked
+pub mod LevelAsks
+pub mod PendingNodes
