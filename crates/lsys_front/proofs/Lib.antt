@@ -4,3 +4,5 @@ pub mod Retelling
 pub mod Unasked
 pub mod LevelAsks
 pub mod PendingNodes
+pub mod LostAnswers
+pub mod Called

@@ -60,8 +60,10 @@ fn lose_answer<A: Kept>(
         (node ∷ []) bare.old.items bare.new.items dropped.old.items dropped.new.items }
     ensures only { LosesOnly forest.old forest.new }
     ensures notes { forest.old.spare_notes ≤ forest.new.spare_notes + 1 }
-    ensures bare { vec_capacity bare.old ≤ vec_capacity bare.new }
-    ensures dropped { vec_capacity dropped.old ≤ vec_capacity dropped.new }
+    ensures places { vec_len bare.new + vec_capacity bare.old
+        ≤ vec_len bare.old + vec_capacity bare.new + 1 }
+    ensures tags { vec_len dropped.new + vec_capacity dropped.old
+        ≤ vec_len dropped.old + vec_capacity dropped.new + 1 }
 {
     if !is_idle(forest, system, level, node) {
         return;
