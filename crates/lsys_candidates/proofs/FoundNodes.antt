@@ -35,7 +35,7 @@ same_or_not None (Some y) = inr (λ e. none-some y e)
 same_or_not (Some x) None = inr (λ e. none-some x (sym e))
 same_or_not (Some x) (Some y) = elim (cases_eq x y) [ inl e ↦ inl (ap Some e) | inr ne ↦ inr (λ e. ne (same_Some x y e)) ]
 
-same_neighbours : (a b : Neighbours) → (a ≡ b) ⊎ (a ≡ b → ⊥)
+pub same_neighbours : (a b : Neighbours) → (a ≡ b) ⊎ (a ≡ b → ⊥)
 same_neighbours a b = elim (same_or_not a.left b.left) [
   | inr n ↦ inr (λ e. n (ap (λ x. x.left) e))
   | inl l ↦ elim (same_or_not a.right b.right) [

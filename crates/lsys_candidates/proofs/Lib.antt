@@ -9,3 +9,6 @@ pub mod Merging
 pub mod FoundNodes
 pub mod Readers
 pub mod Alike
+pub mod Listed
+pub mod AllAlike
+pub mod KnownRules

@@ -5,3 +5,5 @@ pub mod Found
 pub mod Asks
 pub mod Merges
 pub mod Others
+pub mod Known
+pub mod Listed

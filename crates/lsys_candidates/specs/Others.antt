@@ -1,6 +1,7 @@
 -- Whether a level has other rules for the modules of a name than the old system has there.
-use Rattle.std.specs.Prelude.{◌≡◌, ◌==◌, ◌&&◌, ◌||◌, not, ℕ, Bool, false, List, length, map}
+use Rattle.std.specs.Prelude.{◌≡◌, ◌==◌, ◌&&◌, ◌||◌, not, ℕ, Bool, true, false, List, [], ◌∷◌, length, map, bytes_eq}
 use Rattle.lsys_syntax.specs.Strings.{ModuleName}
+use Rattle.lsys_syntax.specs.Rules.{Production}
 use Rattle.lsys_spec.specs.Systems.{System}
 use Rattle.lsys_spec.specs.Bodies.{Body, body_of, group, filter}
 use Rattle.lsys_spec.specs.Levels.{ModuleValue}
@@ -28,6 +29,27 @@ pub record RulesOf : Type 0 where
   pub old : System
   pub new : System
   pub level : ℕ
+
+-- no modules have other rules, whatever their name and however many parameters they have
+abbrev pub AreAllAlike : RulesOf → Type 0
+AreAllAlike r = (n : ModuleName) (arity : ℕ) → are_alike r.old r.new r.level n arity ≡ true
+
+-- the modules of some name and with so many parameters have other rules
+pub record HasOther (r : RulesOf) : Type 0 where
+  pub name : ModuleName
+  pub arity : ℕ
+  pub unlike : are_alike r.old r.new r.level name arity ≡ false
+
+-- a rule is of another table, or the modules that it is for have the rules that they had
+abbrev pub is_alike_for : RulesOf → List ℕ → Production → Bool
+is_alike_for r table p =
+    not (bytes_eq p.table table)
+    || are_alike r.old r.new r.level p.rule.name (length p.rule.formals)
+
+-- so of each of these rules
+abbrev pub all_alike_for : RulesOf → List ℕ → List Production → Bool
+all_alike_for r table [] = true
+all_alike_for r table (p ∷ ps) = is_alike_for r table p && all_alike_for r table ps
 
 -- what the bodies of rules mean
 abbrev pub bodies_of : List Rule → List Body

@@ -8,9 +8,11 @@
 
 mod asks;
 mod changes;
+mod filters;
 mod finds;
 mod gather;
 mod law;
+mod module_key;
 mod order;
 mod others;
 

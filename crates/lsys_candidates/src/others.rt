@@ -1,31 +1,38 @@
 //! Whether a level has other rules than before.
-ghost use Rattle.std.specs.Prelude.{◌≡◌, ◌↔◌, ◌∷◌, [], ℕ, IsTrue, OnOk};
-ghost use Rattle.lsys_spec.specs.Bodies.{group};
+ghost use Rattle.std.specs.Prelude.{◌≡◌, ◌↔◌, ◌∷◌, [], ℕ, false, IsTrue, IfOk, OnOk, map};
+ghost use Rattle.lsys_spec.specs.Bodies.{group, table_at};
 ghost use Rattle.lsys_spec.specs.Meaning.{any_weight};
 ghost use Rattle.lsys_module.specs.Views.{module_name};
-ghost use Rattle.lsys_candidates.specs.Others.{IsOtherwise, are_alike, bodies_of};
+ghost use Rattle.lsys_bodies.specs.Views.{production_of};
+ghost use Rattle.lsys_candidates.specs.Others.{IsOtherwise, AreAllAlike, HasOther};
+ghost use Rattle.lsys_candidates.specs.Others.{are_alike, bodies_of, is_alike_for, all_alike_for};
 ghost use Rattle.lsys_forest.specs.Groves.{In, IsLive, now_of};
 ghost use Rattle.lsys_candidates.specs.Asks.{AddsOf};
 
+use crate::filters::have_same_names;
+use crate::module_key::ModuleKey;
 use lsys_bodies::Rule;
 use lsys_forest::{Forest, Kept, NodeId};
 use lsys_level::Sight;
 use lsys_match::Asker;
 use lsys_rules::System;
-use lsys_text::Name;
+use lsys_text::{Name, Word};
 use std::alloc::{AllocError, Global};
+use std::collections::HashMap;
 use std::marker::Model;
 
-/// The rules of one level, by an old system and by a new one. What is told of the whole level is found once.
+/// The rules of one level, by an old system and by a new one. What is told of the whole level is found once, and what is
+/// told of a name with so many parameters is kept.
 #[derive(Drop)]
 pub struct LevelRules<'a> {
-    old: &'a System,
-    new: &'a System,
+    old_system: &'a System,
+    new_system: &'a System,
     level: u32,
     was: Asker<'a>,
     are: Asker<'a>,
     is_same_seed: bool,
     is_same_filter: bool,
+    known: HashMap<ModuleKey, bool>,
 }
 
 impl<'a> Model for LevelRules<'a> {
@@ -36,65 +43,166 @@ impl<'a> Model for LevelRules<'a> {
     ghost use Rattle.lsys_spec.specs.Standings.{same_filter};
     ghost use Rattle.lsys_match.specs.Asking.{asked_level};
     ghost use Rattle.lsys_candidates.specs.Others.{RulesOf};
+    ghost use Rattle.lsys_candidates.specs.Known.{AreKnown};
 
     ghost Value = { RulesOf };
 
     ghost coded = { Prim.hlevel (codes, expr_code) };
 
-    ghost view = { λ a. record { old = a.old.now; new = a.new.now; level = a.level } };
+    ghost view = { λ a. record {
+      old = a.old_system.now;
+      new = a.new_system.now;
+      level = a.level;
+    } };
 
-    ghost invariant = { λ a. (a.was ≡ asked_level a.old.now a.level)
-        × (a.are ≡ asked_level a.new.now a.level)
-        × (a.is_same_seed ≡ (a.old.now.seed == a.new.now.seed))
-        × (a.is_same_filter
-        ≡ same_filter (bodies.filter a.old.now a.level) (bodies.filter a.new.now a.level)) };
+    ghost invariant = { λ a. (a.was ≡ asked_level a.old_system.now a.level)
+        × (a.are ≡ asked_level a.new_system.now a.level)
+        × (a.is_same_seed ≡ (a.old_system.now.seed == a.new_system.now.seed))
+        × (a.is_same_filter ≡ same_filter (bodies.filter a.old_system.now a.level)
+        (bodies.filter a.new_system.now a.level))
+        × AreKnown a.known a.old_system.now a.new_system.now a.level };
 }
 
 impl<'a> LevelRules<'a> {
-    /// Of this level. Takes no memory.
-    pub fn new(alloc: Global, old: &'a System, new: &'a System, level: u32) -> LevelRules<'a>
-        ensures { result ≡ record { old = old.now; new = new.now; level = level } }
+    /// Of this level. It costs steps by the number of names that contexts pass over.
+    ///
+    /// # Errors
+    ///
+    /// Want of memory.
+    pub fn new(
+        alloc: Global,
+        old: &'a System,
+        new: &'a System,
+        level: u32,
+    ) -> Result<LevelRules<'a>, AllocError>
+        ensures { IfOk result (λ rules. rules
+            ≡ record { old = old.now; new = new.now; level = level }) }
     {
-        let was = Asker::new(alloc, old, level);
-        let are = Asker::new(alloc, new, level);
-        let is_same_filter = are.has_filter_of(&was);
-        LevelRules {
-            old,
-            new,
+        Ok(LevelRules {
+            old_system: old,
+            new_system: new,
             level,
-            was,
-            are,
+            was: Asker::new(alloc, old, level),
+            are: Asker::new(alloc, new, level),
             is_same_seed: old.seed() == new.seed(),
-            is_same_filter,
-        }
+            is_same_filter: have_same_names(alloc, old.filter(level), new.filter(level))?,
+            known: HashMap::new(alloc),
+        })
     }
 
     /// Whether modules with this name and so many parameters have the rules that they had: the same bodies, with the same seed
-    /// if one has a weight, and with the same modules passed over if one has a context.
-    pub fn are_alike(&self, name: Name, arity: usize) -> bool
+    /// if one has a weight, and with the same modules passed over if one has a context. The rules are compared once; later
+    /// it costs one look.
+    ///
+    /// # Errors
+    ///
+    /// Want of memory.
+    pub fn are_alike(&mut self, name: Name, arity: usize) -> Result<bool, AllocError>
+        ensures alike { IfOk result (λ alike. alike
+            ≡ are_alike self.old.old self.old.new self.old.level (module_name name) arity) }
+        ensures same { self.new ≡ self.old }
+    {
+        let key = ModuleKey { name, arity };
+        if let Some(known) = self.known.get(&key) {
+            return Ok(*known);
+        }
+        let alike = self.compare(name, arity);
+        self.known.insert(key, alike)?;
+        Ok(alike)
+    }
+
+    /// Whether no modules have other rules than they had, whatever their name and however many parameters they have. It
+    /// costs steps by the number of rules of both systems.
+    ///
+    /// # Errors
+    ///
+    /// Want of memory.
+    pub fn are_all_alike(&mut self) -> Result<bool, AllocError>
+        ensures alike { IfOk result (λ all. IsTrue all → AreAllAlike self.old) }
+        ensures other { IfOk result (λ all. all ≡ false → HasOther self.old) }
+        ensures same { self.new ≡ self.old }
+    {
+        let old = self.old_system;
+        let new = self.new_system;
+        Ok(self.are_alike_in(old)? && self.are_alike_in(new)?)
+    }
+
+    /// Whether the modules that a system has rules for, in the table of the level, have the rules that they had.
+    fn are_alike_in(&mut self, system: &System) -> Result<bool, AllocError>
+        ensures alike { IfOk result (λ all. all ≡ all_alike_for self.old
+            (table_at system.now.schedule self.old.level) system.now.rules) }
+        ensures same { self.new ≡ self.old }
+    {
+        let table = table_of(system, self.level);
+        all_alike_for(self, table, system.rules())
+    }
+
+    /// Whether such modules have the rules that they had, by a look at the rules.
+    fn compare(&self, name: Name, arity: usize) -> bool
         ensures { result
             ≡ are_alike self.now.old self.now.new self.now.level (module_name name) arity }
     {
         self.are.has_group_of(&self.was, name, arity)
-            && (!is_weighted(self.new, self.level, name, arity) || self.is_same_seed)
+            && (!is_weighted(self.new_system, self.level, name, arity) || self.is_same_seed)
             && (self.are.is_free(name, arity) || self.is_same_filter)
     }
 }
 
-/// Adds those of these nodes that are modules with other rules than they had.
+/// Whether the modules that these rules are for have the rules that they had; of the rules of this table alone.
+fn all_alike_for(
+    rules: &mut LevelRules<'_>,
+    table: Word,
+    these: &[Rule],
+) -> Result<bool, AllocError>
+    ensures alike { IfOk result (λ all. all
+        ≡ all_alike_for rules.old table (map production_of these.now)) }
+    ensures same { rules.new ≡ rules.old }
+{
+    for rule in these {
+        if !is_alike_for(rules, table, rule)? {
+            return Ok(false);
+        }
+    }
+    Ok(true)
+}
+
+/// The same of one rule.
+fn is_alike_for(rules: &mut LevelRules<'_>, table: Word, rule: &Rule) -> Result<bool, AllocError>
+    ensures alike { IfOk result (λ alike. alike
+        ≡ is_alike_for rules.old table (production_of rule.now)) }
+    ensures same { rules.new ≡ rules.old }
+{
+    if rule.table != table {
+        return Ok(true);
+    }
+    let predecessor = &rule.body.get().predecessor;
+    rules.are_alike(predecessor.name, predecessor.formals.len())
+}
+
+/// The table of a level.
+fn table_of(system: &System, level: u32) -> Word
+    ensures { result ≡ table_at system.now.schedule level }
+{
+    let schedule = system.schedule();
+    schedule[level as usize % schedule.len()]
+}
+
+/// Adds those of these nodes that are modules with other rules than they had. It costs a look for each, and the comparison
+/// of the rules of each name.
 ///
 /// # Errors
 ///
 /// Want of memory.
 pub fn add_others<A: Kept>(
-    rules: &LevelRules<'_>,
+    rules: &mut LevelRules<'_>,
     forest: &Forest<A>,
     nodes: &[NodeId],
     others: &mut Vec<NodeId>,
 ) -> Result<(), AllocError>
     requires { (k : ℕ) → In k nodes.now → IsLive forest.now k }
-    ensures { OnOk result (AddsOf (IsOtherwise rules.now (now_of forest.now)) nodes.now
+    ensures adds { OnOk result (AddsOf (IsOtherwise rules.old (now_of forest.now)) nodes.now
         others.old.items others.new.items) }
+    ensures same { rules.new ≡ rules.old }
 {
     for node in nodes {
         add_if_other(rules, forest, *node, others)?;
@@ -104,16 +212,17 @@ pub fn add_others<A: Kept>(
 
 /// Adds a node if it is a module with other rules.
 fn add_if_other<A: Kept>(
-    rules: &LevelRules<'_>,
+    rules: &mut LevelRules<'_>,
     forest: &Forest<A>,
     node: NodeId,
     others: &mut Vec<NodeId>,
 ) -> Result<(), AllocError>
     requires { IsLive forest.now node }
-    ensures { OnOk result (AddsOf (IsOtherwise rules.now (now_of forest.now)) (node ∷ [])
+    ensures adds { OnOk result (AddsOf (IsOtherwise rules.old (now_of forest.now)) (node ∷ [])
         others.old.items others.new.items) }
+    ensures same { rules.new ≡ rules.old }
 {
-    if !is_otherwise(rules, forest, node) {
+    if !is_otherwise(rules, forest, node)? {
         return Ok(());
     }
     others.push(node)?;
@@ -121,13 +230,19 @@ fn add_if_other<A: Kept>(
 }
 
 /// Whether a node is a module with other rules.
-fn is_otherwise<A: Kept>(rules: &LevelRules<'_>, forest: &Forest<A>, node: NodeId) -> bool
+fn is_otherwise<A: Kept>(
+    rules: &mut LevelRules<'_>,
+    forest: &Forest<A>,
+    node: NodeId,
+) -> Result<bool, AllocError>
     requires { IsLive forest.now node }
-    ensures { IsTrue result ↔ IsOtherwise rules.now (now_of forest.now) node }
+    ensures other { IfOk result (λ other. IsTrue other
+        ↔ IsOtherwise rules.old (now_of forest.now) node) }
+    ensures same { rules.new ≡ rules.old }
 {
     match forest.symbol(node) {
-        Sight::Push | Sight::Pop => false,
-        Sight::Module { name, params } => !rules.are_alike(name, params.len()),
+        Sight::Push | Sight::Pop => Ok(false),
+        Sight::Module { name, params } => Ok(!rules.are_alike(name, params.len())?),
     }
 }
 

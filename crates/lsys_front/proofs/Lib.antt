@@ -1,3 +1,15 @@
+pub mod Rows
+pub mod Numbers
+pub mod Steps
+pub mod Differing
+pub mod Standing
+pub mod Looking
+pub mod NextLooks
+pub mod FoundFronts
+pub mod Rooms
+pub mod LevelParents
+pub mod NextSymbols
+pub mod Gathered
 pub mod Losing
 pub mod Renaming
 pub mod Retelling

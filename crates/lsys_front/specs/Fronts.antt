@@ -1,8 +1,8 @@
 -- What differs on the level of a repair that was made last, and what becomes of it on the next.
-use Rattle.std.specs.Prelude.{◌≡◌, ◌⊎◌, ◌+◌, ◌++◌, ◌∷◌, ℕ, List, [], map, Some, None}
+use Rattle.std.specs.Prelude.{◌≡◌, ◌⊎◌, ◌+◌, ◌<◌, ◌++◌, ◌∷◌, ℕ, List, [], length, map, Some, None}
 use Rattle.lsys_match.specs.Kept.{Kept}
-use Rattle.lsys_forest.specs.Groves.{Grove, In, AreApart, AreSound, now_of, rest_of, changes_in}
-use Rattle.lsys_forest.specs.Rows.{kids_in, kids_below, level_nodes}
+use Rattle.lsys_forest.specs.Groves.{Grove, In, AreApart, AreSound, IsSound, now_of, rest_of, changes_in}
+use Rattle.lsys_forest.specs.Rows.{kids_in, kids_below, level_nodes, complete_levels}
 use Rattle.lsys_brood.specs.Children.{Told}
 use Rattle.lsys_brood.specs.Matches.{nodes_without}
 use Rattle.lsys_kept.specs.Levels.{answer_at}
@@ -14,7 +14,7 @@ use Rattle.lsys_repair.specs.Needs.{number_told, wanted_symbols}
 use Rattle.lsys_repair.specs.Made.{TellsAllOf, gone_of}
 use Rattle.lsys_seats.specs.declared.seat.Seat.{Seat}
 use Rattle.lsys_seats.specs.Looks.{LooksAround, LooksBeyond, LooksAtMate, LooksInto}
-use Rattle.lsys_candidates.specs.Repairs.{Repair, now, rest, root, were, are}
+use Rattle.lsys_candidates.specs.Repairs.{Repair, now, rest, root, are}
 use Rattle.lsys_candidates.specs.Found.{LevelChanges, Differs}
 use Rattle.lsys_mates.specs.Turned.{AreTurnedBy}
 
@@ -26,6 +26,14 @@ pub record Differences : Type 0 where
   pub changes : LevelChanges
   pub turned : List ℕ
   pub bare : List ℕ
+
+-- nothing differs
+abbrev pub no_differences : Differences
+no_differences = record {
+  changes = record { came = []; gone = []; changed = []; looked = [] };
+  turned = [];
+  bare = [];
+}
 
 -- what is known of the level that was made last
 pub record IsFront (r : Repair) (seats : List Seat) (d : Differences) : Type 0 where
@@ -59,12 +67,12 @@ pub record IsNext (r : Repair) (h : Grove Kept) (by : Successors) (ps : List Par
   pub root : h.root ≡ r.forest.root
   pub rest : rest_of h ≡ rest r
   pub sound : AreSound h.root (changes_in h) (now_of h)
-  pub renewals : AreRenewals r.new.numbering r.new.seed (now r) (now_of h) (root r) (r.level + 1)
-      by (nodes_in ps)
+  pub renewals : AreRenewals r.new.numbering r.new.seed (now r) (now_of h) r.forest.root
+      (r.level + 1) by (nodes_in ps)
   pub parents : (k : ℕ) → In k (nodes_in ps) → In k (are r)
   pub apart : AreApart (nodes_in ps)
   pub wants : AreToldBy by (now r) ps
-  pub told : TellsAllOf (now r) (now_of h) (nodes_in ps) nothing told
+  pub tells : TellsAllOf (now r) (now_of h) (nodes_in ps) nothing told
   pub gone : told.gone ≡ gone_of r.new.numbering (now r) ps
 
 -- What was told of the next level, as its changes: also the children of those that are gone are gone.
@@ -76,10 +84,10 @@ pub record IsTold (h : Grove Kept) (d : Differences) (told : Told) (c : LevelCha
 -- The first level, in the forest of the repair: the children of the root were made those of the axiom, and it was told what differs.
 pub record IsFirst (r : Repair) (by : Successors) (told : Told) : Type 0 where
   pub level : r.level ≡ 0
-  pub axiom : by (root r) ≡ r.new.axiom_string
+  pub «axiom» : by (root r) ≡ r.new.axiom_string
   pub renewals : AreRenewals r.new.numbering r.new.seed (rest r) (now r) (root r) 0
       by (root r ∷ [])
-  pub told : TellsAllOf (rest r) (now r) (root r ∷ []) nothing told
+  pub tells : TellsAllOf (rest r) (now r) (root r ∷ []) nothing told
   pub gone : told.gone ≡ nodes_without (rest r)
       (map number_told (wanted_symbols r.new.numbering r.new.axiom_string))
       (kids_in (rest r (root r)))
@@ -91,9 +99,15 @@ pub record IsToldFirst (told : Told) (c : LevelChanges) : Type 0 where
 
 -- 3. who is looked at
 
+-- these nodes stand on level t of a forest that hangs together, and the level is complete
+pub record StandOn {A : Type 0} (f : Grove A) (t : ℕ) (nodes : List ℕ) : Type 0 where
+  pub sound : IsSound f.root (changes_in f) (now_of f)
+  pub complete : t < length (complete_levels f)
+  pub among : (q : ℕ) → In q nodes → In q (level_nodes (now_of f) f.root t)
+
 -- By these nodes of a level, which are new or have other children, and those, which are new or have other neighbours or another mate,
 -- it was looked at nodes of the next level.
-pub record LooksBelow (h : Grove Kept) (touched turned looked : List ℕ) : Type 0 where
+pub record LooksBelow {A : Type 0} (h : Grove A) (touched turned looked : List ℕ) : Type 0 where
   pub around : (q : ℕ) → In q touched → LooksAround h q looked
   pub mates : (q : ℕ) → In q touched → LooksAtMate h q looked
   pub beyond : (q : ℕ) → In q turned → LooksBeyond h q looked

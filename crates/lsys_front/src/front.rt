@@ -1,6 +1,6 @@
 //! What differs on a level.
-ghost use Rattle.std.specs.Prelude.{◌≡◌, []};
-ghost use Rattle.lsys_front.specs.Fronts.{Differences};
+ghost use Rattle.std.specs.Prelude.{◌≡◌};
+ghost use Rattle.lsys_front.specs.Fronts.{no_differences};
 
 use lsys_candidates::Changes;
 use lsys_forest::NodeId;
@@ -30,11 +30,7 @@ impl Model for Front {
 impl Front {
     /// Nothing differs. It takes no memory.
     pub fn new(alloc: Global) -> Front
-        ensures { result ≡ record {
-            changes = record { came = []; gone = []; changed = []; looked = [] };
-            turned = [];
-            bare = [];
-        } }
+        ensures { result ≡ no_differences }
     {
         Front {
             changes: Changes {
@@ -46,5 +42,17 @@ impl Front {
             turned: Vec::new(alloc),
             bare: Vec::new(alloc),
         }
+    }
+
+    /// Nothing differs any more. It takes no memory.
+    pub fn clear(&mut self)
+        ensures { self.new ≡ no_differences }
+    {
+        self.changes.came.clear();
+        self.changes.gone.clear();
+        self.changes.changed.clear();
+        self.changes.looked.clear();
+        self.turned.clear();
+        self.bare.clear();
     }
 }

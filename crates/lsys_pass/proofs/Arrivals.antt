@@ -14,9 +14,9 @@ use Rattle.lsys_next.specs.Nexts.{AreClosed}
 use Rattle.lsys_next.specs.Answers.{kept_successors}
 use Rattle.lsys_pass.specs.declared.sizes.Size.{Size}
 use Rattle.lsys_pass.specs.declared.state.PassState.TheVariants.{Level, Done, Failed}
-use Rattle.lsys_pass.specs.Sizes.{symbols_at, opens_at, HaveSizes, HaveSizesTo, SizesAt}
+use Rattle.lsys_pass.specs.Sizes.{symbols_at, opens_at, with_open, with_level, HaveSizes, HaveSizesTo, SizesAt}
 use Rattle.lsys_pass.specs.Stages.{IsStored}
-use Rattle.lsys_pass.specs.Passes.{PassView, stage_of, now, was, HoldsAt, IsStill, IsPass}
+use Rattle.lsys_pass.specs.Passes.{PassView, stage_of, now, was, HoldsAt, IsStill, HasFront, FrontAt, IsPass}
 use Rattle.lsys_pass.specs.Advances.{IsAskedTo, KeepsRest, Makes, Begins, Advances, Ends}
 use Rattle.lsys_pass.proofs.Backing.{rests_at}
 use Rattle.lsys_pass.proofs.Sized.{closed_same}
@@ -33,19 +33,14 @@ failed v h = record {
   sized = h.sized;
   made_sized = tt;
   holds = rests_at (stage_of v) v.state h.holds;
+  front = tt;
 }
 
 -- 2. the sizes of the levels that were made
 
--- the level that is the last of these is open, or not
-abbrev pub told : List Size → Bool → List Size
-told [] b = []
-told (x ∷ []) b = record { symbols = x.symbols; is_open = b } ∷ []
-told (x ∷ y ∷ xs) b = x ∷ told (y ∷ xs) b
-
 -- and one more level
 abbrev pub one_more : List Size → Bool → ℕ → List Size
-one_more xs b n = told xs b ++ record { symbols = n; is_open = false } ∷ []
+one_more xs b n = with_level (with_open xs b) n
 
 more_long : (xs : List Size) (b : Bool) (n : ℕ) → length (one_more xs b n) ≡ length xs + 1
 more_long [] b n = refl
@@ -132,27 +127,27 @@ module _ (v v' : PassView) (h : IsPass v) (k : IsKept v v') where
       subst (HaveSizes (was v') v'.forest.root) (sym k.sizes)
       (subst (λ r. HaveSizes (was v') r v.sizes) (sym k.run.root) (subst (λ (m : Nodes Kept). HaveSizes m v.forest.root v.sizes) (sym k.run.was) h.sized))
 
-  pub come : HoldsAt (stage_of v') v'.state → SizesAt (now v') v'.forest.root v'.next.depth v'.made v'.state → IsPass v'
-  come holds made = record { stored = k.stored; few = k.few; unmarked = k.unmarked; counted = counted; sized = sized; made_sized = made; holds = holds }
+  pub come : HoldsAt (stage_of v') v'.state → SizesAt (now v') v'.forest.root v'.next.depth v'.made v'.state → FrontAt v' v'.state → IsPass v'
+  come holds made front = record { stored = k.stored; few = k.few; unmarked = k.unmarked; counted = counted; sized = sized; made_sized = made; holds = holds; front = front }
 
   -- it comes to the next level, or that is the last one
   module _ (t : ℕ) (asked : IsAskedTo (stage_of v) t) (x : Makes (stage_of v) (stage_of v') (suc t)) (made : HaveSizesTo (now v') v'.forest.root v'.made (suc t)) where
-    pub next_pass : v'.state ≡ Level (suc t) → Advances (stage_of v') (suc t) → IsPass v'
-    next_pass state a =
-        come (subst (HoldsAt (stage_of v')) (sym state) (starts (stage_of v) (stage_of v') t asked sound sound' x a)) (subst (SizesAt (now v') v'.forest.root v'.next.depth v'.made) (sym state) made)
+    pub next_pass : v'.state ≡ Level (suc t) → Advances (stage_of v') (suc t) → HasFront v' (suc t) → IsPass v'
+    next_pass state a f =
+        come (subst (HoldsAt (stage_of v')) (sym state) (starts (stage_of v) (stage_of v') t asked sound sound' x a)) (subst (SizesAt (now v') v'.forest.root v'.next.depth v'.made) (sym state) made) (subst (FrontAt v') (sym state) f)
 
     pub done_pass : v'.state ≡ Done → Ends (stage_of v') (suc t) → IsPass v'
     done_pass state e =
         come (subst (HoldsAt (stage_of v')) (sym state) (ends (stage_of v) (stage_of v') t asked sound sound' x e))
-        (subst (SizesAt (now v') v'.forest.root v'.next.depth v'.made) (sym state) (subst (HaveSizesTo (now v') v'.forest.root v'.made) (sym e.depth) made))
+        (subst (SizesAt (now v') v'.forest.root v'.next.depth v'.made) (sym state) (subst (HaveSizesTo (now v') v'.forest.root v'.made) (sym e.depth) made)) (subst (FrontAt v') (sym state) tt)
 
   -- it comes from the last rest to level 0
   module _ (still : IsStill (stage_of v)) (x : Begins (stage_of v) (stage_of v')) (made : HaveSizesTo (now v') v'.forest.root v'.made 0) where
-    pub first_pass : v'.state ≡ Level 0 → Advances (stage_of v') 0 → IsPass v'
-    first_pass state a =
-        come (subst (HoldsAt (stage_of v')) (sym state) (starts_first (stage_of v) (stage_of v') still x a)) (subst (SizesAt (now v') v'.forest.root v'.next.depth v'.made) (sym state) made)
+    pub first_pass : v'.state ≡ Level 0 → Advances (stage_of v') 0 → HasFront v' 0 → IsPass v'
+    first_pass state a f =
+        come (subst (HoldsAt (stage_of v')) (sym state) (starts_first (stage_of v) (stage_of v') still x a)) (subst (SizesAt (now v') v'.forest.root v'.next.depth v'.made) (sym state) made) (subst (FrontAt v') (sym state) f)
 
     pub first_done : v'.state ≡ Done → Ends (stage_of v') 0 → IsPass v'
     first_done state e =
         come (subst (HoldsAt (stage_of v')) (sym state) (starts_done (stage_of v) (stage_of v') still x e))
-        (subst (SizesAt (now v') v'.forest.root v'.next.depth v'.made) (sym state) (subst (HaveSizesTo (now v') v'.forest.root v'.made) (sym e.depth) made))
+        (subst (SizesAt (now v') v'.forest.root v'.next.depth v'.made) (sym state) (subst (HaveSizesTo (now v') v'.forest.root v'.made) (sym e.depth) made)) (subst (FrontAt v') (sym state) tt)

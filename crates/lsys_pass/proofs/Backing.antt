@@ -1,5 +1,6 @@
 -- A pass that is at rest again, and a new one.
-use Rattle.std.proofs.Common.{◌≡◌, ℕ, ◌<◌, ◌≤◌, ◌^◌, false, List, [], length, refl, sym, ap, ◌∙◌, subst, arith}
+use Rattle.std.proofs.Common.{◌≡◌, ℕ, ◌<◌, ◌≤◌, ◌^◌, false, List, [], length, Option, None, refl, sym, ap, ◌∙◌, subst, arith}
+use Rattle.std.specs.Option.{unwrap_or}
 use Rattle.lsys_spec.specs.Systems.{System, opening}
 use Rattle.lsys_spec.specs.Questions.{questions}
 use Rattle.lsys_walks.specs.Stores.{Store}
@@ -13,6 +14,7 @@ use Rattle.lsys_kept.specs.Meant.{meant}
 use Rattle.lsys_seats.specs.declared.seat.Seat.{Seat}
 use Rattle.lsys_seats.specs.Seats.{is_marked}
 use Rattle.lsys_pass.specs.declared.work.Work.{Work}
+use Rattle.lsys_pass.specs.Works.{IsCleared}
 use Rattle.lsys_pass.specs.declared.sizes.Sizes.{Sizes}
 use Rattle.lsys_pass.specs.declared.state.PassState.{PassState}
 use Rattle.lsys_pass.specs.declared.state.PassState.TheVariants.{Rest, Level, Done, Failed}
@@ -35,15 +37,6 @@ rests_at s Failed h = h
 pub held : (v : PassView) → IsPass v → AreMade run_in holds v.store (kept_in v.forest)
 held v h = are_made (now v) (changes_in v.forest) v.forest.root v.store h.stored
 
--- nothing is worked on
-pub record IsCleared (w : Work) : Type 0 where
-  pub pending : w.pending.items ≡ []
-  pub faults : w.faults.items ≡ []
-  pub renewed : w.renewed.items ≡ []
-  pub born : w.born ≡ 0
-  pub dropped : w.dropped.items ≡ []
-  pub moved : w.moved.items ≡ []
-
 -- at rest, with these parts
 abbrev pub resting : Grove Kept → Store → Relations → List Seat → Sizes → System → ℕ → Work → ℕ → PassView
 resting f st reads seats z system limit w answers = record {
@@ -61,8 +54,10 @@ resting f st reads seats z system limit w answers = record {
   faults = w.faults.items;
   renewed = w.renewed.items;
   born = w.born;
+  first_renewed = w.first_renewed;
   dropped = w.dropped.items;
   moved = w.moved.items;
+  front = w.front;
   answers = answers;
 }
 
@@ -93,7 +88,15 @@ is_resting f st reads seats z system limit w answers stored few unmarked counted
     dropped = clear.dropped;
     moved = clear.moved;
   };
+  front = tt;
 }
+
+-- it came to rest, and no other system is being made
+pub none_next : (f : Grove Kept) (st : Store) (rd : Relations) (seats : List Seat) (z : Sizes) (nx : Option System) (sys : System) (limit : ℕ) (state : PassState) (w : Work) (answers : ℕ) → nx ≡ None → state ≡ Rest
+    → IsPass (resting f st rd seats z sys limit w answers) → IsPass (record (resting f st rd seats z sys limit w answers) { next = unwrap_or nx sys; state = state })
+none_next f st rd seats z nx sys limit state w answers e r h =
+    subst (λ (p : PassState). IsPass (record (resting f st rd seats z sys limit w answers) { next = unwrap_or nx sys; state = p })) (sym r)
+    (subst (λ (o : Option System). IsPass (record (resting f st rd seats z sys limit w answers) { next = unwrap_or o sys })) (sym e) h)
 
 pub back_pass : (v : PassView) (f : Grove Kept) (st : Store) (reads : Relations) (z : Sizes) (w : Work) → IsPass v
     → now_of f ≡ rest_of v.forest → changes_in f ≡ [] → f.root ≡ v.forest.root → live_nodes f ≤ live_nodes v.forest

@@ -1,9 +1,9 @@
 -- A pass at its end.
-use Rattle.std.proofs.Common.{◌≡◌, ◌+◌, ◌<◌, ◌≤◌, ◌^◌, ◌&&◌, ◌||◌, ℕ, List, [], length, Option, Some, None, refl, sym, ap, ◌∙◌, subst, arith, slice_get}
+use Rattle.std.proofs.Common.{◌≡◌, ◌+◌, ◌<◌, ◌≤◌, ◌^◌, ◌&&◌, ◌||◌, ℕ, List, [], length, Some, refl, sym, ap, ◌∙◌, subst, arith, slice_get}
 use Rattle.std.specs.Prelude.{◌-◌, IsSome, not}
 use Rattle.lsys_pass.proofs.Before.{answer_lives}
 use Rattle.lsys_forest.proofs.RowLemmas.{level_apart}
-use Rattle.std.specs.Option.{option_and_then, unwrap_or}
+use Rattle.std.specs.Option.{option_and_then}
 use Rattle.lsys_spec.specs.Systems.{System}
 use Rattle.lsys_spec.specs.Levels.{level_balanced}
 use Rattle.lsys_spec.specs.Questions.{questions, need}
@@ -40,7 +40,8 @@ use Rattle.lsys_pass.specs.Stages.{IsStored, IsDone}
 use Rattle.lsys_pass.specs.Passes as P
 use Rattle.lsys_pass.specs.Passes.{PassView, stage_of, now, HoldsAt, IsPass}
 use Rattle.lsys_pass.proofs.Keepers.{stay_kept, only_node, all_made}
-use Rattle.lsys_pass.proofs.Backing.{IsCleared, resting, is_resting}
+use Rattle.lsys_pass.specs.Works.{IsCleared}
+use Rattle.lsys_pass.proofs.Backing.{resting, is_resting}
 use Rattle.lsys_pass.proofs.Asking.{Stands, stands, there_at}
 use Rattle.lsys_pass.proofs.Closing.{on_reached, closed_sound, closed_nodes, closed_spots, closed_reads, closed_rests, closed_neighbours}
 use Rattle.lsys_pass.proofs.Outcomes.{one_place}
@@ -191,8 +192,3 @@ module _ (v : PassView) (h : IsPass v) (state : v.state ≡ Done) where
 
   pub fits_count : (gone : ℕ) → gone ≡ length v.dropped → v.answers - gone + v.born < 2 ^ 64
   fits_count gone e = let b = total in let f = few_dropped in let n = few_questions in omega (arith, b, f, n, e)
-
--- no other system is being made
-pub none_next : (f : Grove Kept) (st : Store) (rd : Relations) (seats : List Seat) (z : Sizes) (nx : Option System) (sys : System) (limit : ℕ) (w : Work) (answers : ℕ) → nx ≡ None → IsPass (resting f st rd seats z sys limit w answers)
-    → IsPass (record (resting f st rd seats z sys limit w answers) { next = unwrap_or nx sys })
-none_next f st rd seats z nx sys limit w answers e h = subst (λ (o : Option System). IsPass (record (resting f st rd seats z sys limit w answers) { next = unwrap_or o sys })) (sym e) h

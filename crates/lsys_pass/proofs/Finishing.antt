@@ -246,7 +246,7 @@ module _ (s s' : Stage) (t : ℕ) (h : IsAskedTo s t) (sound : IsSound s.root s.
       dropped_done = a.ask.undropped;
       kept = kept_on;
       dropped_apart = x.drops.apart;
-      dropped_at = x.drops.at;
+      dropped_at = a.dropped_at;
       dropped_had = x.drops.had;
       lost = lost_on;
       fresh = λ k b e. elim (h.at.lists.fresh k b (x.above.same k b e)) [ inl i ↦ inl (subst (In k) (sym x.run.renewed) i) | inr f ↦ inr (was_answer k ∙ f) ];
@@ -363,7 +363,7 @@ module _ (s s' : Stage) (h : IsStill s) (x : Begins s s') where
       dropped_done = a.ask.undropped;
       kept = first_kept;
       dropped_apart = x.drops.apart;
-      dropped_at = x.drops.at;
+      dropped_at = a.dropped_at;
       dropped_had = x.drops.had;
       lost = first_lost;
       fresh = first_fresh;

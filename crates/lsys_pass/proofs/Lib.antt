@@ -11,6 +11,7 @@ pub mod Outcomes
 pub mod Reading
 pub mod Settling
 pub mod Waiting
+pub mod Fronting
 pub mod Stepped
 pub mod Moved
 pub mod Backing
@@ -26,3 +27,5 @@ pub mod Making
 pub mod Arrivals
 pub mod NextLengths
 pub mod Closedness
+pub mod SizesTold
+pub mod Repairing

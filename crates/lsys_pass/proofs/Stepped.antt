@@ -1,6 +1,9 @@
 -- A pass when a step is over.
-use Rattle.std.proofs.Common.{◌≡◌, ◌≢◌, ◌+◌, ◌≤◌, ℕ, Bool, List, [], ◌∷◌, ◌++◌, Option, Some, Ok, Err, Result, refl, sym, ap, ◌∙◌, subst, arith, cond}
+use Rattle.std.proofs.Common.{◌≡◌, ◌≢◌, ◌+◌, ◌≤◌, ℕ, Bool, List, [], ◌∷◌, ◌++◌, Option, Some, None, Ok, Err, Result, refl, sym, ap, ◌∙◌, subst, inl, inr, arith, cond}
 use Rattle.std.specs.Prelude.{is_none}
+use Rattle.std.proofs.lemmas.Bool.{cases_eq}
+use Rattle.std.proofs.lemmas.Option.{none-some}
+use Rattle.lsys_level.specs.Spots.{Spotted}
 use Rattle.lsys_walks.specs.Stores.{Store}
 use Rattle.lsys_match.specs.declared.asked.Asked.{Asked}
 use Rattle.lsys_match.specs.declared.asked.Asked.TheVariants.{Same, New}
@@ -10,10 +13,11 @@ use Rattle.lsys_match.specs.Kept.{Kept}
 use Rattle.lsys_match.specs.KeptAnswers.{StaysMade}
 use Rattle.lsys_match.specs.Asks.{IsMade, KeepsStore}
 use Rattle.lsys_match.proofs.Staying.{stays_kept}
-use Rattle.lsys_reads.specs.Relations.{Relations}
+use Rattle.lsys_reads.specs.Relations.{Relations, SettledStay}
 use Rattle.lsys_forest.specs.Nodes.{Nodes, put, with_answer}
 use Rattle.lsys_forest.specs.Changes.{Change, undone}
-use Rattle.lsys_forest.specs.Groves.{Grove, In, now_of, rest_of, changes_in, live_nodes}
+use Rattle.lsys_forest.specs.Groves.{Grove, In, IsSound, now_of, rest_of, changes_in, live_nodes}
+use Rattle.lsys_forest.proofs.SoundLemmas.{AreSound-now}
 use Rattle.lsys_forest.proofs.StockLemmas.{put_other}
 use Rattle.lsys_kept.specs.Levels.{level_of, answer_at}
 use Rattle.lsys_pass.specs.declared.fault.Faulted.{Faulted}
@@ -21,17 +25,20 @@ use Rattle.lsys_pass.specs.declared.state.PassState.TheVariants.{Level}
 use Rattle.lsys_pass.specs.declared.work.Work.{Work}
 use Rattle.lsys_pass.specs.Stages.{Stage, fault_in, IsStored, IsAtLevel}
 use Rattle.lsys_pass.specs.Passes as P
-use Rattle.lsys_pass.specs.Passes.{PassView, stage_of, now, HoldsAt, IsPass}
+use Rattle.lsys_pass.specs.Passes.{PassView, stage_of, now, HoldsAt, repair_of, HasFront, FrontAt, IsPass}
 use Rattle.lsys_pass.specs.Steps.{KeepsAnswers, KeepsOutcome, KeepsNothing}
 use Rattle.lsys_pass.specs.Moves.{StepsOver}
 use Rattle.lsys_pass.proofs.Keepers.{note_of, stored_set, stored_in}
-use Rattle.lsys_pass.proofs.Alike.{alike_put, nodes_alike, level_alike, put_again}
-use Rattle.lsys_pass.proofs.Stepping.{stepped, other_level}
+use Rattle.lsys_pass.proofs.Alike.{AreAlike, alike_put, nodes_alike, spots_alike, level_alike, put_again, answer_put, answer_other}
+use Rattle.lsys_pass.proofs.Stepping.{stepped, on_level, other_level}
+use Rattle.lsys_pass.proofs.Fronting.{KeepsLevel, front_stays, AreByLevel, one_here, by_same}
 use Rattle.lsys_pass.proofs.Sized.{made_stays}
 use Rattle.lsys_pass.specs.Sizes.{HaveSizes, HaveSizesTo, SizesAt}
 use Rattle.lsys_seats.proofs.LevelLemmas.{place_in}
-use Rattle.lsys_forest.specs.Rows.{level_nodes}
-use Rattle.lsys_pass.proofs.Asking.{IsSameForest, IsAsked, asked, at, made_now}
+use Rattle.lsys_seats.specs.Standings.{seen_at}
+use Rattle.lsys_front.specs.Fronts.{IsFront}
+use Rattle.lsys_forest.specs.Rows.{level_nodes, level_spots}
+use Rattle.lsys_pass.proofs.Asking.{IsSameForest, IsAsked, asked, at, made_now, same_sound, same_nodes, same_spots, sound_now}
 use Rattle.lsys_pass.proofs.Waiting.{stays_refused, level_waits}
 use Rattle.lsys_pass.proofs.Outcomes.{IsReplied, fault_behind, level_same, level_fault, level_new}
 
@@ -53,17 +60,31 @@ stored_same m m' cs cs' r r' st st' e1 e2 e3 e4 h =
 
 -- 2. the pass
 
-abbrev pub after : PassView → Grove Kept → Store → Relations → List ℕ → List Faulted → List ℕ → ℕ → List ℕ → List ℕ → PassView
-after v f st rd ps fs rn b ds mv =
-    record v { forest = f; store = st; reads = rd; pending = ps; faults = fs; renewed = rn; born = b; dropped = ds; moved = mv }
+-- with these nodes pending, and the other lists as they are here
+abbrev pub after : PassView → Grove Kept → Store → Relations → List ℕ → Work → PassView
+after v f st rd ps w = record v {
+  forest = f;
+  store = st;
+  reads = rd;
+  pending = ps;
+  faults = w.faults.items;
+  renewed = w.renewed.items;
+  born = w.born;
+  first_renewed = w.first_renewed;
+  dropped = w.dropped.items;
+  moved = w.moved.items;
+  front = w.front;
+}
 
 -- the lists of the pass, before and after what was kept, and after the node was taken off
 pub record HasWork (v : PassView) (w w' : Work) : Type 0 where
   pub faults : w.faults.items ≡ v.faults
   pub renewed : w.renewed.items ≡ v.renewed
   pub born : w.born ≡ v.born
+  pub first_renewed : w'.first_renewed ≡ v.first_renewed
   pub dropped : w'.dropped.items ≡ v.dropped
   pub moved : w'.moved.items ≡ v.moved
+  pub front : w'.front ≡ v.front
 
 pub record IsStepped (v v' : PassView) (node : ℕ) : Type 0 where
   pub pass : IsPass v'
@@ -78,7 +99,7 @@ module _ (v : PassView) (t : ℕ) (h : IsPass v) (state : v.state ≡ Level t) (
   s = stage_of v
 
   abbrev v' : PassView
-  v' = after v g' st' rd' ps w'.faults.items w'.renewed.items w'.born w'.dropped.items w'.moved.items
+  v' = after v g' st' rd' ps w'
 
   rest_same : rest_of g ≡ P.was v
   rest_same = ap (λ (cs : List (Change Kept)). undone cs (now_of g)) same.changes ∙ ap (undone (changes_in v.forest)) same.now
@@ -98,14 +119,51 @@ module _ (v : PassView) (t : ℕ) (h : IsPass v) (state : v.state ≡ Level t) (
       put_other (now v) node k (Some (with_answer o a.n)) (other_level s t node a.n a.front a.back a.next u p.0 k l p.1)
       )) made
 
+  -- what is told of the level stays
+  told : HasFront v t
+  told = subst (FrontAt v) state h.front
+
+  by_level : AreByLevel (level_nodes (now v) v.forest.root) t v.first_renewed v.renewed
+  by_level = record { within = told.within; before = told.before; here = told.here }
+
+  front_set : (o : Option Kept) (rn : List ℕ) → IsSound g'.root (changes_in g') (now_of g') → now_of g' ≡ set o → rest_of g' ≡ P.was v → g'.root ≡ v.forest.root → w'.renewed.items ≡ rn
+      → ((k : ℕ) → answer_at (set o) k ≡ None → answer_at (now v) k ≡ None) → AreByLevel (level_nodes (now v) v.forest.root) t v.first_renewed rn → HasFront v' t
+  front_set o rn sound nodes rest root renewed bare levels = record {
+    front = subst (IsFront (repair_of v' t) v.seats) (sym work.front) (front_stays (repair_of v t) g' st' keeps v.seats v.front told.front);
+    within = by.within;
+    before = by.before;
+    here = by.here;
+  }
+    where
+      alike : AreAlike (now v) (set o)
+      alike = alike_put (now v) node a.n o a.next.is
+
+      level : (u : ℕ) → level_nodes (now_of g') g'.root u ≡ level_nodes (now v) v.forest.root u
+      level u = ap (λ (m : Nodes Kept). level_nodes m g'.root u) nodes ∙ ap (λ r. level_nodes (set o) r u) root ∙ nodes_alike (now v) (set o) v.forest.root alike u
+
+      by : AreByLevel (level_nodes (now_of g') g'.root) t w'.first_renewed w'.renewed.items
+      by = by_same (level_nodes (now v) v.forest.root) (level_nodes (now_of g') g'.root) t v.first_renewed w'.first_renewed rn w'.renewed.items level work.first_renewed renewed levels
+
+      keeps : KeepsLevel (repair_of v t) g'
+      keeps = record {
+        sound = sound;
+        root = root;
+        rest = rest;
+        nodes = level t;
+        spots = ap (λ (m : Nodes Kept). level_spots m g'.root t) nodes ∙ ap (λ r. level_spots (set o) r t) root ∙ spots_alike (now v) (set o) v.forest.root alike t;
+        seen = λ k. ap (λ (m : Nodes Kept). seen_at m k) nodes ∙ ap (λ (f : ℕ → Spotted). (f k).seen) alike.spots;
+        bare = λ k e. bare k (sym (ap (λ (m : Nodes Kept). answer_at m k) nodes) ∙ e);
+      }
+
   -- from what the parts become to the pass
   over : (o : Option Kept) (fs : List Faulted) (rn : List ℕ) (b : ℕ) (rd : Relations) → ps ≡ a.front ++ a.back
       → now_of g' ≡ set o → rest_of g' ≡ P.was v → g'.root ≡ v.forest.root → st' ≡ st → rd' ≡ rd → w'.faults.items ≡ fs → w'.renewed.items ≡ rn → w'.born ≡ b
       → live_nodes g' ≤ live_nodes v.forest → IsStored (now_of g') (changes_in g') g'.root st'
       → ((k : ℕ) → k ≢ node → fault_in k fs ≡ fault_in k v.faults)
+      → ((k : ℕ) → answer_at (set o) k ≡ None → answer_at (now v) k ≡ None) → AreByLevel (level_nodes (now v) v.forest.root) t v.first_renewed rn
       → (undone (changes_in g') (set o) ≡ P.was v → IsAtLevel (stepped s (set o) (changes_in g') st rd (a.front ++ a.back) fs rn b) t)
       → IsStepped v v' node
-  over o fs rn b rd less nodes rest root store reads faults renewed born few stored others level = record {
+  over o fs rn b rd less nodes rest root store reads faults renewed born few stored others bare levels level = record {
     pass = record {
       stored = stored;
       few = (let f = h.few in omega (arith, few, f));
@@ -115,6 +173,7 @@ module _ (v : PassView) (t : ℕ) (h : IsPass v) (state : v.state ≡ Level t) (
       made_sized = subst (SizesAt (now_of g') g'.root v.next.depth v.made) (sym state) (subst (λ (m : Nodes Kept). HaveSizesTo m g'.root v.made t) (sym nodes) (subst (λ r. HaveSizesTo (set o) r v.made t) (sym root)
           (made_set o (subst (SizesAt (now v) v.forest.root v.next.depth v.made) state h.made_sized))));
       holds = subst (HoldsAt (stage_of v')) (sym state) (subst (λ (z : Stage). IsAtLevel z t) (sym whole) (level (ap (undone (changes_in g')) (sym nodes) ∙ rest)));
+      front = subst (FrontAt v') (sym state) (front_set o rn (AreSound-now g'.root (changes_in g') (now_of g') stored.sound) nodes rest root renewed bare levels);
     };
     steps = record {
       run = record { system = refl; next = refl; limit = refl; root = root; was = rest };
@@ -145,7 +204,7 @@ module _ (v : PassView) (t : ℕ) (h : IsPass v) (state : v.state ≡ Level t) (
       (let l = ap live_nodes k.forest in omega (arith, l, live))
       (stored_same (now v) (now_of g') (changes_in v.forest) (changes_in g') v.forest.root g'.root st st' (ap now_of k.forest ∙ same.now) (ap changes_in k.forest ∙ same.changes) (ap (λ (f : Grove Kept). f.root) k.forest ∙ same.root) k.store
       (stored_in (now v) (changes_in v.forest) v.forest.root v.store st stays h.stored))
-      others level
+      others (λ j e. sym (ap (λ (m : Nodes Kept). answer_at m j) again) ∙ e) by_level level
 
   module _ {L : Type 0} (p : ℕ) where
     pub over_all : (r : Result (Asked L) AskRefusal) → IsReplied s t node p st r → ps ≡ a.front ++ a.back
@@ -169,55 +228,86 @@ module _ (v : PassView) (t : ℕ) (h : IsPass v) (state : v.state ≡ Level t) (
         (stored_same (set (Some b)) (now_of g') (changes_in v.forest ++ note_of node a.n ∷ []) (changes_in g') v.forest.root g'.root st st' nodes changes root k.store
         (stored_set (now v) (changes_in v.forest) v.forest.root node a.n v.store st (answer_at (now v) node) b a.next.is r.store h.stored))
         (λ j ne. refl)
+        (λ j e. elim (cases_eq j node) [
+          | inl q ↦ absurd (none-some b (sym e ∙ answer_put (now v) node j a.n (Some b) q))
+          | inr ne ↦ sym (answer_other (now v) node j a.n (Some b) ne) ∙ e
+        ])
+        (one_here (level_nodes (now v) v.forest.root) t v.first_renewed v.renewed node (on_level s t node a.n a.front a.back a.next) by_level)
         (λ undo. level_new s t node a.n a.front a.back a.next (made_now v t h state) p st b r (changes_in g') rd' w'.born is_born undo k.read k.settled born_is (k.born ∙ ap (λ c. c + cond is_born 1 0) work.born))
 
 -- 3. nothing was kept
 
-module _ {L : Type 0} (v : PassView) (t : ℕ) (h : IsPass v) (state : v.state ≡ Level t) (g : Grove Kept) (same : IsSameForest v.forest g) (live : live_nodes g ≡ live_nodes v.forest) where
-  pub waits_pass : (g' : Grove Kept) (st : Store) (st' : Store) (rd' : Relations) (w w' : Work) (o : Option Kept) (r : Result (Asked L) AskRefusal) (ps : List ℕ) → HasWork v w w' → ps ≡ v.pending → KeepsStore v.store st o r
-      → KeepsNothing (record { forest = g; store = st; reads = v.reads; work = w }) (record { forest = g'; store = st'; reads = rd'; work = w' }) r
-      → IsPass (after v g' st' rd' ps w'.faults.items w'.renewed.items w'.born w'.dropped.items w'.moved.items)
-  waits_pass g' st st' rd' w w' o r ps work less keeps k = record {
-    stored = stored_same (now v) (now_of g') (changes_in v.forest) (changes_in g') v.forest.root g'.root st' st' nodes changes root refl (stored_in (now v) (changes_in v.forest) v.forest.root v.store st' stays h.stored);
-    few = (let f = h.few in let l = ap live_nodes k.forest in omega (arith, f, l, live));
+module _ (v : PassView) (t : ℕ) (h : IsPass v) (state : v.state ≡ Level t) where
+  -- the forest and the lists are what they were, and answers stay
+  kept_pass : (g : Grove Kept) (st : Store) (rd : Relations) (w : Work) (ps : List ℕ) → IsSameForest v.forest g → live_nodes g ≡ live_nodes v.forest
+      → ((a : Kept) → IsMade v.store a → StaysMade v.store st a) → SettledStay v.reads rd → rd.pending ≡ v.reads.pending → HasWork v w w → ps ≡ v.pending → IsPass (after v g st rd ps w)
+  kept_pass g st rd w ps same live stays settled quiet work less = record {
+    stored = stored_same (now v) (now_of g) (changes_in v.forest) (changes_in g) v.forest.root g.root st st same.now same.changes same.root refl (stored_in (now v) (changes_in v.forest) v.forest.root v.store st stays h.stored);
+    few = (let f = h.few in omega (arith, f, live));
     unmarked = h.unmarked;
     counted = h.counted;
-    sized = subst (λ (w : Nodes Kept). HaveSizes w g'.root v.sizes) (sym rest) (subst (λ r. HaveSizes (P.was v) r v.sizes) (sym root) h.sized);
-    made_sized = subst (SizesAt (now_of g') g'.root v.next.depth v.made) (sym state) (subst (λ (m : Nodes Kept). HaveSizesTo m g'.root v.made t) (sym nodes) (subst (λ r. HaveSizesTo (now v) r v.made t) (sym root)
+    sized = subst (λ (m : Nodes Kept). HaveSizes m g.root v.sizes) (sym rest) (subst (λ r. HaveSizes (P.was v) r v.sizes) (sym same.root) h.sized);
+    made_sized = subst (SizesAt (now_of g) g.root v.next.depth v.made) (sym state) (subst (λ (m : Nodes Kept). HaveSizesTo m g.root v.made t) (sym same.now) (subst (λ r. HaveSizesTo (now v) r v.made t) (sym same.root)
         (subst (SizesAt (now v) v.forest.root v.next.depth v.made) state h.made_sized)));
-    holds = subst (HoldsAt (stage_of (after v g' st' rd' ps w'.faults.items w'.renewed.items w'.born w'.dropped.items w'.moved.items))) (sym state)
-        (subst (λ (z : Stage). IsAtLevel z t) (sym whole) (level_waits (stage_of v) t st' rd' (made_now v t h state) stays k.settled k.read (at v t h state)));
+    holds = subst (HoldsAt (stage_of (after v g st rd ps w))) (sym state)
+        (subst (λ (z : Stage). IsAtLevel z t) (sym whole) (level_waits (stage_of v) t st rd (made_now v t h state) stays settled quiet (at v t h state)));
+    front = subst (FrontAt (after v g st rd ps w)) (sym state) (record {
+      front = subst (IsFront (repair_of (after v g st rd ps w) t) v.seats) (sym work.front) (front_stays (repair_of v t) g st same_level v.seats v.front told.front);
+      within = by.within;
+      before = by.before;
+      here = by.here;
+    });
   }
     where
-      nodes : now_of g' ≡ now v
-      nodes = ap now_of k.forest ∙ same.now
+      rest : rest_of g ≡ P.was v
+      rest = ap (λ (cs : List (Change Kept)). undone cs (now_of g)) same.changes ∙ ap (undone (changes_in v.forest)) same.now
 
-      changes : changes_in g' ≡ changes_in v.forest
-      changes = ap changes_in k.forest ∙ same.changes
-
-      root : g'.root ≡ v.forest.root
-      root = ap (λ (f : Grove Kept). f.root) k.forest ∙ same.root
-
-      rest : rest_of g' ≡ P.was v
-      rest = ap (λ (cs : List (Change Kept)). undone cs (now_of g')) changes ∙ ap (undone (changes_in v.forest)) nodes
-
-      stays : (a : Kept) → IsMade v.store a → StaysMade v.store st' a
-      stays = stays_refused v.store st st' o r keeps k.store
-
-      whole : ◌≡◌ {A = Stage} (stage_of (after v g' st' rd' ps w'.faults.items w'.renewed.items w'.born w'.dropped.items w'.moved.items)) (record (stage_of v) { store = st'; reads = rd' })
+      whole : ◌≡◌ {A = Stage} (stage_of (after v g st rd ps w)) (record (stage_of v) { store = st; reads = rd })
       whole = λ i. record (stage_of v) {
-        now = nodes i;
-        changes = changes i;
-        root = root i;
-        store = st';
-        reads = rd';
+        now = same.now i;
+        changes = same.changes i;
+        root = same.root i;
+        store = st;
+        reads = rd;
         pending = less i;
-        faults = (k.faults ∙ work.faults) i;
-        renewed = (k.renewed ∙ work.renewed) i;
-        born = (k.born ∙ work.born) i;
+        faults = work.faults i;
+        renewed = work.renewed i;
+        born = work.born i;
         dropped = work.dropped i;
         moved = work.moved i;
       }
+
+      told : HasFront v t
+      told = subst (FrontAt v) state h.front
+
+      by : AreByLevel (level_nodes (now_of g) g.root) t w.first_renewed w.renewed.items
+      by =
+          by_same (level_nodes (now v) v.forest.root) (level_nodes (now_of g) g.root) t v.first_renewed w.first_renewed v.renewed w.renewed.items (same_nodes v.forest g same) work.first_renewed work.renewed
+          (record { within = told.within; before = told.before; here = told.here })
+
+      same_level : KeepsLevel (repair_of v t) g
+      same_level = record {
+        sound = same_sound v.forest g same (sound_now v t h state);
+        root = same.root;
+        rest = rest;
+        nodes = same_nodes v.forest g same t;
+        spots = same_spots v.forest g same t;
+        seen = λ j. ap (λ (m : Nodes Kept). seen_at m j) same.now;
+        bare = λ j e. sym (ap (λ (m : Nodes Kept). answer_at m j) same.now) ∙ e;
+      }
+
+  module _ (g : Grove Kept) (same : IsSameForest v.forest g) (live : live_nodes g ≡ live_nodes v.forest) where
+    -- there is more room
+    pub roomy_pass : (w : Work) (ps : List ℕ) → HasWork v w w → ps ≡ v.pending → IsPass (after v g v.store v.reads ps w)
+    roomy_pass w ps work less = kept_pass g v.store v.reads w ps same live (λ a m. record { made = m; answer = refl }) (λ reader seen. refl) refl work less
+
+    pub waits_pass : {L : Type 0} (g' : Grove Kept) (st : Store) (st' : Store) (rd' : Relations) (w w' : Work) (o : Option Kept) (r : Result (Asked L) AskRefusal) (ps : List ℕ) → HasWork v w w' → ps ≡ v.pending → KeepsStore v.store st o r
+        → KeepsNothing (record { forest = g; store = st; reads = v.reads; work = w }) (record { forest = g'; store = st'; reads = rd'; work = w' }) r → IsPass (after v g' st' rd' ps w')
+    waits_pass g' st st' rd' w w' o r ps work less keeps k =
+        kept_pass g' st' rd' w' ps (record { now = ap now_of k.forest ∙ same.now; changes = ap changes_in k.forest ∙ same.changes; root = ap (λ (f : Grove Kept). f.root) k.forest ∙ same.root }) (ap live_nodes k.forest ∙ live)
+        (stays_refused v.store st st' o r keeps k.store) k.settled k.read
+        (record { faults = k.faults ∙ work.faults; renewed = k.renewed ∙ work.renewed; born = k.born ∙ work.born; first_renewed = work.first_renewed; dropped = work.dropped; moved = work.moved; front = work.front })
+        less
 
 pub steps_at : (v w v' : PassView) (node : ℕ) → v ≡ w → StepsOver v v' node → StepsOver w v' node
 steps_at v w v' node e = subst (λ (z : PassView). StepsOver z v' node) e

@@ -49,11 +49,10 @@ pub record StaysAbove (old new : Stage) (t : ℕ) : Type 0 where
   pub gone : (k : ℕ) (a : Kept) → answer_at old.now k ≡ Some a
       → In k new.dropped ⊎ (answer_at new.now k ≡ Some a)
 
--- Those that are dropped stay so; others may come, of the old level t, that had an answer.
+-- Those that are dropped stay so; others may come, that had an answer.
 pub record Drops (old new : Stage) (t : ℕ) : Type 0 where
   pub more : (k : ℕ) → In k old.dropped → In k new.dropped
   pub apart : AreApart new.dropped
-  pub at : (k : ℕ) → In k new.dropped → (u : ℕ) × (u ≤ t) × In k (level_nodes (was new) new.root u)
   pub had : (k : ℕ) → In k new.dropped → answer_at (was new) k ≡ None → ⊥
   pub none : (k u : ℕ) → In k new.dropped → u ≤ t → In k (level_nodes new.now new.root u)
       → answer_at new.now k ≡ None
@@ -91,10 +90,12 @@ pub record Begins (old new : Stage) : Type 0 where
   pub drops : Drops old new 0
   pub seats : HasSeats new 0
 
--- and it is one whose questions are to be asked
+-- and it is one whose questions are to be asked; none is dropped yet of the old levels behind it
 pub record Advances (s : Stage) (t : ℕ) : Type 0 where
   pub tree : HasTree s.now (was s) s.root s.next s.limit t
   pub ask : AreToAsk s t
+  pub dropped_at : (k : ℕ) → In k s.dropped
+      → (u : ℕ) × (u ≤ t) × In k (level_nodes (was s) s.root u)
 
 -- or it is the last one: its nodes have no answers and no children, and an answer that is still kept is reached or was dropped
 pub record Ends (s : Stage) (t : ℕ) : Type 0 where

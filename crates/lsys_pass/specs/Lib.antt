@@ -8,4 +8,5 @@ pub mod Steps
 pub mod Advances
 pub mod Moves
 pub mod Leftmost
+pub mod Fresh
 pub mod Sizes

@@ -1,15 +1,18 @@
 -- What a contract sees of a pass, and what holds of it between calls.
-use Rattle.std.specs.Prelude.{◌≡◌, ◌<◌, ◌^◌, ℕ, false, List, [], length}
+use Rattle.std.specs.Prelude.{◌≡◌, Some, ◌<◌, ◌≤◌, ◌^◌, ℕ, false, List, [], length, take, drop}
 use Rattle.lsys_spec.specs.Systems.{System}
 use Rattle.lsys_spec.specs.Questions.{questions}
 use Rattle.lsys_walks.specs.Stores.{Store}
 use Rattle.lsys_match.specs.Kept.{Kept}
 use Rattle.lsys_reads.specs.Relations.{Relations}
-use Rattle.lsys_forest.specs.Nodes.{Nodes}
-use Rattle.lsys_forest.specs.Groves.{Grove, now_of, rest_of, changes_in, live_nodes}
+use Rattle.lsys_forest.specs.Nodes.{Node, Nodes}
+use Rattle.lsys_forest.specs.Groves.{Grove, In, now_of, rest_of, changes_in, live_nodes}
+use Rattle.lsys_forest.specs.Rows.{level_nodes}
 use Rattle.lsys_kept.specs.Meant.{meant}
 use Rattle.lsys_seats.specs.declared.seat.Seat.{Seat}
-use Rattle.lsys_seats.specs.Seats.{is_marked}
+use Rattle.lsys_seats.specs.Seats.{is_marked, HasSeat}
+use Rattle.lsys_candidates.specs.Repairs.{Repair}
+use Rattle.lsys_front.specs.Fronts.{Differences, IsFront}
 use Rattle.lsys_pass.specs.declared.state.PassState.{PassState}
 use Rattle.lsys_pass.specs.declared.state.PassState.TheVariants.{Rest, Level, Done, Failed}
 use Rattle.lsys_pass.specs.declared.fault.Faulted.{Faulted}
@@ -19,8 +22,9 @@ use Rattle.lsys_pass.specs.Stages.{Stage, IsStored, Rests, IsAtLevel, IsDone}
 
 -- A pass: the forest, the store of its answers, and who read what; the seats of the last rest; the
 -- sizes of its levels, and of those that were made since; the system of the last rest, and the
--- one that is being made, which at rest is the same; the limit, and where the pass stands. Then the lists of a stage, and how many
--- questions the system of the last rest has.
+-- one that is being made, which at rest is the same; the limit, and where the pass stands. Then the lists of a stage, and where
+-- among those with another answer the nodes of its level begin; what differs on that level; and how many questions the system of
+-- the last rest has.
 pub record PassView : Type 0 where
   pub forest : Grove Kept
   pub store : Store
@@ -36,8 +40,10 @@ pub record PassView : Type 0 where
   pub faults : List Faulted
   pub renewed : List ℕ
   pub born : ℕ
+  pub first_renewed : ℕ
   pub dropped : List ℕ
   pub moved : List ℕ
+  pub front : Differences
   pub answers : ℕ
 
 abbrev pub stage_of : PassView → Stage
@@ -86,6 +92,39 @@ HoldsAt s (Level t) = IsAtLevel s t
 HoldsAt s Done = IsDone s
 HoldsAt s Failed = Rests s
 
+-- the repair of level t
+abbrev pub repair_of : PassView → ℕ → Repair
+repair_of v t = record {
+  old = v.system;
+  new = v.next;
+  limit = v.limit;
+  level = t;
+  forest = v.forest;
+  store = v.store;
+}
+
+-- each node that lives has a seat
+abbrev pub AllHaveSeats : Nodes Kept → List Seat → Type 0
+AllHaveSeats m seats = (k : ℕ) (n : Node Kept) → m k ≡ Some n → HasSeat seats k
+
+-- It is told what differs on level t, which was made last. Of the nodes with another answer those of the levels above it come first,
+-- and then its own.
+pub record HasFront (v : PassView) (t : ℕ) : Type 0 where
+  pub front : IsFront (repair_of v t) v.seats v.front
+  pub within : v.first_renewed ≤ length v.renewed
+  pub before : (k : ℕ) → In k (take v.first_renewed v.renewed)
+      → (u : ℕ) × (u < t) × In k (level_nodes (now v) v.forest.root u)
+  pub here : (k : ℕ) → In k (drop v.first_renewed v.renewed)
+      → In k (level_nodes (now v) v.forest.root t)
+  pub room : AllHaveSeats (now v) v.seats
+
+-- what is told where it stands
+abbrev pub FrontAt : PassView → PassState → Type 0
+FrontAt v Rest = Unit {0}
+FrontAt v (Level t) = HasFront v t
+FrontAt v Done = AllHaveSeats (now v) v.seats
+FrontAt v Failed = Unit {0}
+
 -- what holds between calls; no node is marked then
 pub record IsPass (v : PassView) : Type 0 where
   pub stored : IsStored (now v) (changes_in v.forest) v.forest.root v.store
@@ -95,3 +134,5 @@ pub record IsPass (v : PassView) : Type 0 where
   pub sized : HaveSizes (was v) v.forest.root v.sizes
   pub made_sized : SizesAt (now v) v.forest.root v.next.depth v.made v.state
   pub holds : HoldsAt (stage_of v) v.state
+  pub front : FrontAt v v.state
+  pub room : AllHaveSeats (was v) v.seats

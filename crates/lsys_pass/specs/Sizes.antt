@@ -1,5 +1,5 @@
 -- How long levels are, and on which of them a cut may reach what stands behind.
-use Rattle.std.specs.Prelude.{◌≡◌, ◌<◌, ◌≤◌, ◌+◌, ℕ, zero, suc, Bool, false, List, [], ◌∷◌, length, sum_by}
+use Rattle.std.specs.Prelude.{◌≡◌, ◌<◌, ◌≤◌, ◌+◌, ◌++◌, ℕ, zero, suc, Bool, false, List, [], ◌∷◌, length, sum_by}
 use Rattle.lsys_match.specs.Kept.{Kept}
 use Rattle.lsys_forest.specs.Nodes.{Nodes}
 use Rattle.lsys_forest.specs.Rows.{level_nodes}
@@ -24,6 +24,16 @@ opens_at (x ∷ xs) (suc t) = opens_at xs t
 -- how many symbols all of them have
 abbrev pub total_of : List Size → ℕ
 total_of sizes = sum_by (λ (x : Size). x.symbols) sizes
+
+-- of the last of these levels it is told whether it is open
+abbrev pub with_open : List Size → Bool → List Size
+with_open [] b = []
+with_open (x ∷ []) b = record { symbols = x.symbols; is_open = b } ∷ []
+with_open (x ∷ y ∷ xs) b = x ∷ with_open (y ∷ xs) b
+
+-- one more level, of so many symbols
+abbrev pub with_level : List Size → ℕ → List Size
+with_level xs n = xs ++ record { symbols = n; is_open = false } ∷ []
 
 -- They are the sizes of the nodes' levels: how many nodes each has; and where one isn't open, no cut among what replaces one of
 -- its nodes reaches what stands behind.

@@ -9,6 +9,7 @@ ghost use Rattle.lsys_pass.specs.declared.state.PassState.TheVariants.{Rest, Lev
 ghost use Rattle.lsys_pass.specs.Passes.{IsPass, stage_of};
 ghost use Rattle.lsys_pass.specs.Sizes.{total_of};
 ghost use Rattle.lsys_pass.specs.Advances.{IsAskedTo, symbols_wanted};
+ghost use Rattle.lsys_pass.specs.Works.{IsCleared};
 ghost use Rattle.lsys_pass.specs.Moves.{AtLevel, Fails, IsBack, IsRefusal, StepsOver, MovesOnce, Waits, Closes};
 
 use crate::keep::{answer_of, take_over, target};
@@ -74,8 +75,10 @@ impl<L: Ledger> Model for Pass<L> {
       faults = a.work.faults.items;
       renewed = a.work.renewed.items;
       born = a.work.born;
+      first_renewed = a.work.first_renewed;
       dropped = a.work.dropped.items;
       moved = a.work.moved.items;
+      front = a.work.front;
       answers = a.answers;
     } };
 
@@ -94,8 +97,10 @@ impl<L: Ledger> Model for Pass<L> {
       faults = a.work.faults.items;
       renewed = a.work.renewed.items;
       born = a.work.born;
+      first_renewed = a.work.first_renewed;
       dropped = a.work.dropped.items;
       moved = a.work.moved.items;
+      front = a.work.front;
       answers = a.answers;
     }) };
 }
@@ -253,8 +258,7 @@ impl<L: Ledger> Pass<L> {
         seat_all(&mut self.seats, &self.forest, &self.work.moved);
         self.sizes.keep();
         take_over(&mut self.next, &mut self.system);
-        self.work.clear();
-        self.state = PassState::Rest;
+        Self::come_to_rest(&mut self.work, &mut self.state);
         EditCount {
             asked: asked as u64,
             questions: self.answers as u64,
@@ -270,7 +274,15 @@ impl<L: Ledger> Pass<L> {
         self.reads.retract();
         self.sizes.forget();
         self.next = None;
-        self.work.clear();
-        self.state = PassState::Rest;
+        Self::come_to_rest(&mut self.work, &mut self.state);
+    }
+
+    /// Forgets what was worked on, and comes to rest. It takes no memory.
+    fn come_to_rest(work: &mut Work, state: &mut PassState)
+        ensures cleared { IsCleared work.new }
+        ensures rest { state.new ≡ Rest }
+    {
+        work.clear();
+        *state = PassState::Rest;
     }
 }

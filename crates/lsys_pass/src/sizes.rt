@@ -1,8 +1,9 @@
 //! How long the levels are.
-ghost use Rattle.std.specs.Prelude.{◌≡◌, ◌≤◌, ◌+◌, []};
-ghost use Rattle.lsys_pass.specs.Sizes.{total_of};
+ghost use Rattle.std.specs.Prelude.{◌≡◌, ◌≤◌, ◌+◌, [], OnOk};
+ghost use Rattle.lsys_pass.specs.Sizes.{total_of, symbols_at, opens_at, with_open, with_level};
 
-use std::alloc::Global;
+use crate::keep::push_in_room;
+use std::alloc::{AllocError, Global};
 use std::mem::swap;
 
 /// Of a level: how many symbols it has, and whether a cut among what replaces one of them reaches what stands behind it.
@@ -38,6 +39,58 @@ impl Sizes {
     {
         swap(&mut self.rest, &mut self.made);
         self.made.clear();
+    }
+
+    /// How many symbols a level had at the last rest; none, where it was not there.
+    pub(crate) fn symbols_of(&self, level: u32) -> usize
+        ensures { result ≡ symbols_at self.now.rest.items level }
+    {
+        match self.rest.get(level as usize) {
+            Some(size) => size.symbols,
+            None => 0,
+        }
+    }
+
+    /// Whether a cut on a level reached what stands behind it at the last rest; where the level was not there, none did.
+    pub(crate) fn was_open(&self, level: u32) -> bool
+        ensures { result ≡ opens_at self.now.rest.items level }
+    {
+        match self.rest.get(level as usize) {
+            Some(size) => size.is_open,
+            None => false,
+        }
+    }
+
+    /// Tells of the level that was made last whether a cut on it reaches what stands behind it. It takes no memory.
+    pub(crate) fn tell_open(&mut self, is_open: bool)
+        ensures rest { self.new.rest.items ≡ self.old.rest.items }
+        ensures made { self.new.made.items ≡ with_open self.old.made.items is_open }
+    {
+        let made = &mut self.made[..];
+        let levels = made.len();
+        if levels > 0 {
+            made[levels - 1].is_open = is_open;
+        }
+    }
+
+    /// Adds a level that was made, of so many symbols.
+    ///
+    /// # Errors
+    ///
+    /// Want of memory. The sizes stay then.
+    pub(crate) fn add(&mut self, symbols: usize) -> Result<(), AllocError>
+        ensures rest { self.new.rest.items ≡ self.old.rest.items }
+        ensures made { OnOk result (self.new.made.items ≡ with_level self.old.made.items symbols) }
+    {
+        self.made.reserve(1)?;
+        push_in_room(
+            &mut self.made,
+            Size {
+                symbols,
+                is_open: false,
+            },
+        );
+        Ok(())
     }
 
     /// Forgets the levels that were made. It takes no memory.

@@ -2,6 +2,7 @@ pub mod SeatLemmas
 pub mod LevelLemmas
 pub mod LawLemmas
 pub mod SeamLemmas
+pub mod AddedLemmas
 pub mod LookLemmas
 pub mod BranchLemmas
 pub mod MateLemmas

@@ -1,5 +1,5 @@
 -- Who is looked at on the next level: the nodes whose neighbours may be others.
-use Rattle.std.specs.Prelude.{◌≡◌, ◌++◌, ◌∷◌, [], ℕ, List, Some}
+use Rattle.std.specs.Prelude.{◌≡◌, ◌⊎◌, ◌+◌, ◌++◌, ◌∷◌, [], ℕ, List, Some}
 use Rattle.lsys_change.specs.Seams.{AreTouched, AreTurned, right_of, left_of}
 use Rattle.lsys_change.specs.Seams as seams
 use Rattle.lsys_forest.specs.Groves.{Grove, In, AreApart, now_of}
@@ -32,6 +32,16 @@ module _ {A : Type 0} where
   -- the children of a bracket
   pub record LooksInto (f : Grove A) (q : ℕ) (nodes : List ℕ) : Type 0 where
     pub branch : (k : ℕ) → IsBracket (spot_in q (now_of f q)).seen → In k (kids_in (now_of f q)) → In k nodes
+
+  -- the node stands on level t, and not on another
+  pub record IsOnLevelOf (f : Grove A) (t q : ℕ) : Type 0 where
+    pub level_is : level_of_node f q ≡ t
+    pub among : In q (level_nodes (now_of f) f.root t)
+
+  -- each of the new ones is one of the old ones, or a node of the level below level t
+  abbrev pub AddsBelow : Grove A → ℕ → List ℕ → List ℕ → Type 0
+  AddsBelow f t old new =
+      (k : ℕ) → In k new → In k old ⊎ In k (level_nodes (now_of f) f.root (t + 1))
 
   abbrev pub kids_of : Grove A → ℕ → List ℕ
   kids_of f k = kids_in (now_of f k)

@@ -3,7 +3,7 @@ ghost use Rattle.std.specs.Prelude.{ℕ, OnOk};
 ghost use Rattle.lsys_forest.specs.Groves.{In, IsLive, IsSound, changes_in, now_of};
 ghost use Rattle.lsys_forest.specs.Rows.{kids_in};
 ghost use Rattle.lsys_seats.specs.Neighbours.{IsOnLevel};
-ghost use Rattle.lsys_seats.specs.Looks.{LooksAtMate, LooksInto};
+ghost use Rattle.lsys_seats.specs.Looks.{LooksAtMate, LooksInto, IsOnLevelOf, AddsBelow};
 
 use lsys_forest::{Forest, Kept, NodeId};
 use lsys_level::{LevelView, Sight};
@@ -13,7 +13,7 @@ use std::alloc::AllocError;
 ///
 /// # Errors
 ///
-/// Want of memory. No node is taken away.
+/// Want of memory. No node is taken away, and only nodes of the next level are added.
 pub fn look_at_mates<A: Kept>(
     forest: &Forest<A>,
     touched: &[NodeId],
@@ -24,6 +24,8 @@ pub fn look_at_mates<A: Kept>(
     ensures looks { OnOk result ((q : ℕ) → In q touched.now
         → LooksAtMate forest.now q looked.new.items) }
     ensures keeps { OnOk result ((k : ℕ) → In k looked.old.items → In k looked.new.items) }
+    ensures below { OnOk result ((t : ℕ) → ((q : ℕ) → In q touched.now → IsOnLevelOf forest.now t q)
+        → AddsBelow forest.now t looked.old.items looked.new.items) }
 {
     for node in touched {
         at_mate(forest, *node, looked)?;
@@ -36,7 +38,7 @@ pub fn look_at_mates<A: Kept>(
 ///
 /// # Errors
 ///
-/// Want of memory. No node is taken away.
+/// Want of memory. No node is taken away, and only nodes of the next level are added.
 pub fn look_into_branches<A: Kept>(
     forest: &Forest<A>,
     turned: &[NodeId],
@@ -45,6 +47,8 @@ pub fn look_into_branches<A: Kept>(
     requires { (q : ℕ) → In q turned.now → IsLive forest.now q }
     ensures looks { OnOk result ((q : ℕ) → In q turned.now → LooksInto forest.now q looked.new.items) }
     ensures keeps { OnOk result ((k : ℕ) → In k looked.old.items → In k looked.new.items) }
+    ensures below { OnOk result ((t : ℕ) → ((q : ℕ) → In q turned.now → IsOnLevelOf forest.now t q)
+        → AddsBelow forest.now t looked.old.items looked.new.items) }
 {
     for node in turned {
         into_branch(forest, *node, looked)?;
@@ -62,6 +66,8 @@ fn at_mate<A: Kept>(
     requires sound { IsSound forest.now.root (changes_in forest.now) (now_of forest.now) }
     ensures looks { OnOk result (LooksAtMate forest.now node looked.new.items) }
     ensures keeps { OnOk result ((k : ℕ) → In k looked.old.items → In k looked.new.items) }
+    ensures below { OnOk result ((t : ℕ) → IsOnLevelOf forest.now t node
+        → AddsBelow forest.now t looked.old.items looked.new.items) }
 {
     match forest.sight(node) {
         Sight::Push | Sight::Pop => add_children(forest, forest.mate(node), looked),
@@ -78,6 +84,8 @@ fn into_branch<A: Kept>(
     requires { IsLive forest.now node }
     ensures looks { OnOk result (LooksInto forest.now node looked.new.items) }
     ensures keeps { OnOk result ((k : ℕ) → In k looked.old.items → In k looked.new.items) }
+    ensures below { OnOk result ((t : ℕ) → IsOnLevelOf forest.now t node
+        → AddsBelow forest.now t looked.old.items looked.new.items) }
 {
     match forest.symbol(node) {
         Sight::Push | Sight::Pop => add_children(forest, node, looked),
@@ -95,6 +103,8 @@ fn add_children<A: Kept>(
     ensures added { OnOk result ((k : ℕ) → In k (kids_in (now_of forest.now node))
         → In k looked.new.items) }
     ensures keeps { OnOk result ((k : ℕ) → In k looked.old.items → In k looked.new.items) }
+    ensures below { OnOk result ((t : ℕ) → IsOnLevelOf forest.now t node
+        → AddsBelow forest.now t looked.old.items looked.new.items) }
 {
     looked.extend_from_slice(forest.children(node))?;
     Ok(())

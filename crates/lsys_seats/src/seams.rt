@@ -1,8 +1,8 @@
 //! Nodes at a seam.
-ghost use Rattle.std.specs.Prelude.{◌≡◌, ◌++◌, ◌∷◌, ℕ, List, [], OnOk, Some};
+ghost use Rattle.std.specs.Prelude.{◌≡◌, ◌⊎◌, ◌++◌, ◌∷◌, ℕ, List, [], OnOk, Some};
 ghost use Rattle.lsys_forest.specs.Groves.{In, AreApart, now_of, IsLive};
 ghost use Rattle.lsys_forest.specs.Rows.{first_in, last_in, kids_below, level_with, IsAtSpot};
-ghost use Rattle.lsys_seats.specs.Looks.{LooksAround, LooksBeyond};
+ghost use Rattle.lsys_seats.specs.Looks.{LooksAround, LooksBeyond, IsOnLevelOf, AddsBelow};
 
 use lsys_forest::{Forest, Kept, NodeId};
 use lsys_level::LevelView;
@@ -41,7 +41,7 @@ pub fn first_behind<A: Kept>(forest: &Forest<A>, node: NodeId) -> Option<NodeId>
 ///
 /// # Errors
 ///
-/// Want of memory. No node is taken away.
+/// Want of memory. No node is taken away, and only nodes of the next level are added.
 pub fn look_around<A: Kept>(
     forest: &Forest<A>,
     touched: &[NodeId],
@@ -51,6 +51,8 @@ pub fn look_around<A: Kept>(
     requires lives { (q : ℕ) → In q touched.now → IsLive forest.now q }
     ensures looks { OnOk result ((q : ℕ) → In q touched.now → LooksAround forest.now q looked.new.items) }
     ensures keeps { OnOk result ((k : ℕ) → In k looked.old.items → In k looked.new.items) }
+    ensures below { OnOk result ((t : ℕ) → ((q : ℕ) → In q touched.now → IsOnLevelOf forest.now t q)
+        → AddsBelow forest.now t looked.old.items looked.new.items) }
 {
     for node in touched {
         around(forest, *node, looked)?;
@@ -63,7 +65,7 @@ pub fn look_around<A: Kept>(
 ///
 /// # Errors
 ///
-/// Want of memory. No node is taken away.
+/// Want of memory. No node is taken away, and only nodes of the next level are added.
 pub fn look_beyond<A: Kept>(
     forest: &Forest<A>,
     turned: &[NodeId],
@@ -72,6 +74,8 @@ pub fn look_beyond<A: Kept>(
     requires { (q : ℕ) → In q turned.now → IsAtSpot forest.now q }
     ensures looks { OnOk result ((q : ℕ) → In q turned.now → LooksBeyond forest.now q looked.new.items) }
     ensures keeps { OnOk result ((k : ℕ) → In k looked.old.items → In k looked.new.items) }
+    ensures below { OnOk result ((t : ℕ) → ((q : ℕ) → In q turned.now → IsOnLevelOf forest.now t q)
+        → AddsBelow forest.now t looked.old.items looked.new.items) }
 {
     for node in turned {
         beyond(forest, *node, looked)?;
@@ -89,6 +93,8 @@ fn around<A: Kept>(
     requires lives { IsLive forest.now node }
     ensures looks { OnOk result (LooksAround forest.now node looked.new.items) }
     ensures keeps { OnOk result ((k : ℕ) → In k looked.old.items → In k looked.new.items) }
+    ensures below { OnOk result ((t : ℕ) → IsOnLevelOf forest.now t node
+        → AddsBelow forest.now t looked.old.items looked.new.items) }
 {
     looked.extend_from_slice(forest.children(node))?;
     add(looked, last_before(forest, node))?;
@@ -105,6 +111,8 @@ fn beyond<A: Kept>(
     requires { IsAtSpot forest.now node }
     ensures looks { OnOk result (LooksBeyond forest.now node looked.new.items) }
     ensures keeps { OnOk result ((k : ℕ) → In k looked.old.items → In k looked.new.items) }
+    ensures below { OnOk result ((t : ℕ) → IsOnLevelOf forest.now t node
+        → AddsBelow forest.now t looked.old.items looked.new.items) }
 {
     add(looked, forest.last_below(node))?;
     add(looked, forest.first_below(node))?;
@@ -115,6 +123,8 @@ fn beyond<A: Kept>(
 fn add(nodes: &mut Vec<NodeId>, node: Option<NodeId>) -> Result<(), AllocError>
     ensures added { OnOk result ((k : ℕ) → node ≡ Some k → In k nodes.new.items) }
     ensures keeps { OnOk result ((k : ℕ) → In k nodes.old.items → In k nodes.new.items) }
+    ensures only { OnOk result ((k : ℕ) → In k nodes.new.items
+        → In k nodes.old.items ⊎ (node ≡ Some k)) }
 {
     if let Some(found) = node {
         nodes.push(found)?;

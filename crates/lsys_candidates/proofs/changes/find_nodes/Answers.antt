@@ -1,5 +1,6 @@
-use Rattle.std.proofs.Common.{◌⊎◌}
+use Rattle.std.proofs.Common.{◌⊎◌, ap, ◌∙◌}
 use Rattle.lsys_forest.specs.Groves.{In}
+use Rattle.lsys_candidates.specs.Found.{LevelChanges}
 use Rattle.lsys_candidates.proofs.Marking.{cleared_of, none_marked, in_turn}
 use Rattle.lsys_candidates.proofs.changes.find_nodes.Goals as goal
 
@@ -16,9 +17,9 @@ returns-clause-clear g c =
     let turned = c.find_marked-outcome.new.turned.items in
     let beside = c.find_marked-outcome.new.beside.items in
     let readers = c.find_marked-outcome.new.readers.items in
-    let first = cleared_of (λ k. In k came ⊎ (In k turned ⊎ (In k beside ⊎ (In k readers ⊎ ⊥)))) s0 s1 c.deref.result.now gone c.deref.ensures.value c.clear-4.ensures.cleared c.clear-4.ensures.others
+    let first = cleared_of (λ k. In k came ⊎ (In k turned ⊎ (In k beside ⊎ (In k readers ⊎ ⊥)))) s0 s1 c.deref.result.now gone (c.deref.ensures.value ∙ ap (λ (a : LevelChanges). a.gone) c.changes.view_is) c.clear-4.ensures.cleared c.clear-4.ensures.others
     (λ k e. in_turn (c.find_marked-outcome.ensures.marked k e)) in
-    let second = cleared_of (λ k. In k turned ⊎ (In k beside ⊎ (In k readers ⊎ ⊥))) s1 s2 c.deref-2.result.now came c.deref-2.ensures.value c.clear-5.ensures.cleared c.clear-5.ensures.others first in
+    let second = cleared_of (λ k. In k turned ⊎ (In k beside ⊎ (In k readers ⊎ ⊥))) s1 s2 c.deref-2.result.now came (c.deref-2.ensures.value ∙ ap (λ (a : LevelChanges). a.came) c.changes.view_is) c.clear-5.ensures.cleared c.clear-5.ensures.others first in
     let third = cleared_of (λ k. In k beside ⊎ (In k readers ⊎ ⊥)) s2 s3 c.deref-3.result.now turned c.deref-3.ensures.value c.clear-6.ensures.cleared c.clear-6.ensures.others second in
     let fourth = cleared_of (λ k. In k readers ⊎ ⊥) s3 s4 c.deref-4.result.now beside c.deref-4.ensures.value c.clear-7.ensures.cleared c.clear-7.ensures.others third in
     none_marked s5 (cleared_of (λ k. ⊥) s4 s5 c.deref-5.result.now readers c.deref-5.ensures.value c.clear-8.ensures.cleared c.clear-8.ensures.others fourth)

@@ -1,4 +1,4 @@
-use Rattle.std.proofs.Common.{◌≡◌, Some, length, slice_get, refl, sym, ap, ◌∙◌, inl, inr}
+use Rattle.std.proofs.Common.{◌≡◌, Some, length, slice_get, refl, ap, ◌∙◌, inl, inr}
 use Rattle.std.proofs.lemmas.Option.{slice_get_read}
 use Rattle.lsys_forest.specs.Groves.{In}
 use Rattle.lsys_seats.specs.Seats.{is_marked}

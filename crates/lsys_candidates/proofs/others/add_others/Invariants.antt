@@ -1,4 +1,4 @@
-use Rattle.std.proofs.Common.{take}
+use Rattle.std.proofs.Common.{◌≡◌, take}
 use Rattle.lsys_forest.specs.Groves.{now_of}
 use Rattle.lsys_candidates.specs.Others.{IsOtherwise}
 use Rattle.lsys_candidates.specs.Asks.{AddsOf}
@@ -6,5 +6,6 @@ use Rattle.lsys_candidates.proofs.others.add_others.Given as goal
 
 abbrev pub invariant-loop-node : goal.invariant-loop-node
 invariant-loop-node g l = record {
-  adds : AddsOf (IsOtherwise l.rules (now_of l.forest)) (take l.node-index l.nodes) l.fn.others.items l.others.items;
+  rules : l.rules ≡ l.fn.rules;
+  adds : AddsOf (IsOtherwise l.fn.rules (now_of l.forest)) (take l.node-index l.nodes) l.fn.others.items l.others.items;
 }

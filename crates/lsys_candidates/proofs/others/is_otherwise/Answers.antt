@@ -20,14 +20,16 @@ true_not : (b : Bool) → b ≡ false → not b ≡ true
 true_not false h = cc
 true_not true h = cc
 
-pub returns-in-Module : goal.returns-in-Module
-returns-in-Module g c =
+pub returns-in_ok-are_alike-in-Module-clause-other : goal.returns-in_ok-are_alike-in-Module-clause-other
+returns-in_ok-are_alike-in-Module-clause-other g c =
     let m = now_of c.args.forest.now in
     let k = c.args.node in
     let n = some_of (m k) c.requires in
     let r = c.args.rules.now in
     let own : ModuleValue = record { name = module_name c.in-Module.name; params = c.in-Module.params.now } in
-    let seen : seen_at m k ≡ Module own = ap (λ o. (spot_in k o).seen) n.1 ∙ sym (c.in-Module.ensures.seen n.0 n.1) in (
-      λ t. record { own = own; is = seen; rules = sym c.are_alike.ensures ∙ not_true c.are_alike.result t },
-      λ a. true_not c.are_alike.result (c.are_alike.ensures ∙ subst (λ (v : ModuleValue). are_alike r.old r.new r.level v.name (length v.params) ≡ false) (one_value a.own own (sym a.is ∙ seen)) a.rules),
+    let seen : seen_at m k ≡ Module own = ap (λ o. (spot_in k o).seen) n.1 ∙ sym (c.in-Module.ensures.seen n.0 n.1) in
+    let alike = c.in_ok-are_alike-in-Module.field-0 in
+    let is : alike ≡ are_alike r.old r.new r.level own.name (length own.params) = c.in_ok-are_alike-in-Module.ensures.alike in (
+      λ t. record { own = own; is = seen; rules = sym is ∙ not_true alike t },
+      λ a. true_not alike (is ∙ subst (λ (v : ModuleValue). are_alike r.old r.new r.level v.name (length v.params) ≡ false) (one_value a.own own (sym a.is ∙ seen)) a.rules),
     )

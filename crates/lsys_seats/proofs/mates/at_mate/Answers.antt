@@ -1,6 +1,7 @@
 use Rattle.std.proofs.Common.{Some, ap, ◌∙◌, inl, inr}
 use Rattle.lsys_level.specs.Views.{seen_of}
 use Rattle.lsys_module.specs.Views.{module_name}
+use Rattle.lsys_seats.proofs.AddedLemmas.{mate_on_level}
 use Rattle.lsys_seats.proofs.MateLemmas.{mate_lives, at_push, at_pop, at_module, on_ok}
 use Rattle.lsys_seats.proofs.mates.at_mate.Goals as goal
 
@@ -17,3 +18,6 @@ pub returns-in-Module-clause-looks : goal.returns-in-Module-clause-looks
 returns-in-Module-clause-looks g c =
     at_module c.args.forest.now c.args.node (record { name = module_name c.in-Module.name; params = c.in-Module.params.now }) c.args.looked.now.items c.requires.level
     (c.sight.ensures.seen ∙ ap (λ s. Some (seen_of s)) c.in-Module.is)
+
+pub returns-in-Push-clause-below : goal.returns-in-Push-clause-below
+returns-in-Push-clause-below g c = on_ok c.add_children.result (λ below t on. below t (mate_on_level c.args.forest.now t c.args.node c.mate.result c.requires.level c.mate.ensures.level c.mate.ensures.mate on)) c.add_children.ensures.below

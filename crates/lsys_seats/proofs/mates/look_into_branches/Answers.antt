@@ -7,7 +7,7 @@ use Rattle.lsys_seats.proofs.MateLemmas.{into_keep}
 use Rattle.lsys_seats.proofs.mates.look_into_branches.Goals as goal
 
 pub loop-node-init : goal.loop-node-init
-loop-node-init g c = record { looks = λ q t. absurd (none_taken c.args.turned.now q t); keeps = λ k h. h }
+loop-node-init g c = record { looks = λ q t. absurd (none_taken c.args.turned.now q t); keeps = λ k h. h; below = λ t on k h. inl h }
 
 pub into_branch-requires : goal.into_branch-requires
 into_branch-requires g c =
@@ -32,6 +32,7 @@ loop-node-preserved g c =
         | inr same ↦ subst (λ k. LooksInto f k new) (sym same) e.looks
       ];
       keeps = λ k h. e.keeps k (c.loop-node.invariant.keeps k h);
+      below = λ t on k h. elim (e.below t (on x (got_in xs i x here)) k h) [ inl before ↦ c.loop-node.invariant.below t on k before | inr added ↦ inr added ];
     }
 
 pub returns-clause-looks : goal.returns-clause-looks
@@ -39,3 +40,6 @@ returns-clause-looks g c = λ q h. c.loop-node.invariant.looks q (in_all_taken c
 
 pub returns-clause-keeps : goal.returns-clause-keeps
 returns-clause-keeps g c = c.loop-node.invariant.keeps
+
+pub returns-clause-below : goal.returns-clause-below
+returns-clause-below g c = c.loop-node.invariant.below

@@ -6,7 +6,7 @@ use Rattle.lsys_seats.proofs.SeamLemmas.{in_taken_next, in_all_taken, none_taken
 use Rattle.lsys_seats.proofs.seams.look_beyond.Goals as goal
 
 pub loop-node-init : goal.loop-node-init
-loop-node-init g c = record { looks = λ q t. absurd (none_taken c.args.turned.now q t); keeps = λ k h. h }
+loop-node-init g c = record { looks = λ q t. absurd (none_taken c.args.turned.now q t); keeps = λ k h. h; below = λ t on k h. inl h }
 
 pub beyond-requires : goal.beyond-requires
 beyond-requires g c =
@@ -31,6 +31,7 @@ loop-node-preserved g c =
         | inr same ↦ subst (λ k. LooksBeyond f k new) (sym same) e.looks
       ];
       keeps = λ k h. e.keeps k (c.loop-node.invariant.keeps k h);
+      below = λ t on k h. elim (e.below t (on x (got_in xs i x here)) k h) [ inl before ↦ c.loop-node.invariant.below t on k before | inr added ↦ inr added ];
     }
 
 pub returns-clause-looks : goal.returns-clause-looks
@@ -38,3 +39,6 @@ returns-clause-looks g c = λ q h. c.loop-node.invariant.looks q (in_all_taken c
 
 pub returns-clause-keeps : goal.returns-clause-keeps
 returns-clause-keeps g c = c.loop-node.invariant.keeps
+
+pub returns-clause-below : goal.returns-clause-below
+returns-clause-below g c = c.loop-node.invariant.below

@@ -1,8 +1,8 @@
 use Rattle.std.proofs.Common.{◌≡◌, ◌+◌, ◌-◌, length, ap, sym, ◌∙◌, subst, arith}
 use Rattle.lsys_forest.specs.Groves.{In}
 use Rattle.lsys_pass.specs.Passes.{PassView}
-use Rattle.lsys_pass.proofs.Backing.{held}
-use Rattle.lsys_pass.proofs.Closed.{done, few_dropped, fits_count, moved_levels, closed_pass, closed_counts, none_next}
+use Rattle.lsys_pass.proofs.Backing.{held, none_next}
+use Rattle.lsys_pass.proofs.Closed.{done, few_dropped, fits_count, moved_levels, closed_pass, closed_counts}
 use Rattle.lsys_pass.proofs.pass.Pass.close.Goals as goal
 
 pub overflow_sub-self : goal.overflow_sub-self
@@ -31,15 +31,15 @@ seat_all-requires-clause-room g c = λ k i.
 
 pub invariant_of-self : goal.invariant_of-self
 invariant_of-self g c =
-    none_next c.commit.new.self c.commit.new.store c.settle_reads.new.reads c.seat_all.new.seats c.keep.new.self c.take_over.new.next c.take_over.new.system c.self.inside.limit c.clear.new.self _ c.take_over.ensures.none
+    none_next c.commit.new.self c.commit.new.store c.settle_reads.new.reads c.seat_all.new.seats c.keep.new.self c.take_over.new.next c.take_over.new.system c.self.inside.limit c.come_to_rest.new.state c.come_to_rest.new.work _ c.take_over.ensures.none c.come_to_rest.ensures.rest
     (closed_pass _ c.self.invariant (ap (λ (v : PassView). v.state) c.self.view_is ∙ c.requires) c.commit.new.self c.commit.new.store
     (record { stay = c.commit.ensures.stay; only = c.commit.ensures.only; rest = c.commit.ensures.rest; root = c.commit.ensures.root; live = c.commit.ensures.spares.live; store = c.commit.ensures.store; still = c.commit.ensures.still })
-    c.settle_reads.new.reads c.seat_all.new.seats c.keep.new.self c.take_over.new.system c.clear.new.self _ c.take_over.ensures.system c.settle_reads.ensures.settled c.settle_reads.ensures.pending
+    c.settle_reads.new.reads c.seat_all.new.seats c.keep.new.self c.take_over.new.system c.come_to_rest.new.work _ c.take_over.ensures.system c.settle_reads.ensures.settled c.settle_reads.ensures.pending
     (λ k i. c.seat_all.ensures.seated k (subst (In k) (sym (c.deref.ensures.value ∙ ap (λ m. m.items) c.settle_reads.ensures.moved)) i))
     (λ k out. c.seat_all.ensures.others k (λ i. out (subst (In k) (c.deref.ensures.value ∙ ap (λ m. m.items) c.settle_reads.ensures.moved) i)))
     c.seat_all.ensures.marks
     (let l = c.len.ensures in let e : c.len.result ≡ length c.self.inside.work.dropped.items = omega (arith, l) in ap (λ n. c.self.inside.answers - n + c.self.inside.work.born) e)
-    (record { pending = c.clear.ensures.pending; faults = c.clear.ensures.faults; renewed = c.clear.ensures.renewed; born = c.clear.ensures.born; dropped = c.clear.ensures.dropped; moved = c.clear.ensures.moved }) c.keep.ensures.rest c.keep.ensures.made)
+    c.come_to_rest.ensures.cleared c.keep.ensures.rest c.keep.ensures.made)
 
 pub returns-clause-counts : goal.returns-clause-counts
 returns-clause-counts g c =

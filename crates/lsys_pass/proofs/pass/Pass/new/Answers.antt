@@ -5,4 +5,4 @@ pub invariant_of-result : goal.invariant_of-result
 invariant_of-result g c =
     new_pass _ _ _ _ c.new-5.result _ _ c.new-6.result (record { others = c.in_ok-new.ensures.root; alone = c.in_ok-new.ensures.alone }) c.in_ok-new.ensures.rest c.in_ok-new.ensures.live
     c.in_ok-opening.ensures c.new-3.ensures.settled c.new-3.ensures.pending c.new-4.ensures
-    (record { pending = c.new-6.ensures.pending; faults = c.new-6.ensures.faults; renewed = c.new-6.ensures.renewed; born = c.new-6.ensures.born; dropped = c.new-6.ensures.dropped; moved = c.new-6.ensures.moved }) c.new-5.ensures.rest c.new-5.ensures.made
+    c.new-6.ensures c.new-5.ensures.rest c.new-5.ensures.made
