@@ -94,7 +94,8 @@ impl Front {
         gather_nodes(seats, &self.changes.came, nodes)?;
         gather_nodes(seats, &self.turned, nodes)?;
         gather_nodes(seats, &found.beside, nodes)?;
-        gather_nodes(seats, &found.readers, nodes)
+        gather_nodes(seats, &found.readers, nodes)?;
+        Ok(())
     }
 }
 
