@@ -1,5 +1,5 @@
 -- Each node of a level that was made is asked, or its outcome is kept.
-use Rattle.std.proofs.Common.{◌≡◌, ◌⊎◌, ◌↔◌, ℕ, false, true, Option, Some, None, List, [], ◌∷◌, length, refl, ap, sym, ◌∙◌, subst, inl, inr}
+use Rattle.std.proofs.Common.{◌≡◌, ◌⊎◌, ◌↔◌, ℕ, Some, None, List, [], ◌∷◌, length, refl, ap, sym, ◌∙◌, subst, inl, inr}
 use Rattle.std.specs.Prelude.{slice_get}
 use Rattle.std.proofs.lemmas.Option.{same_Some}
 use Rattle.lsys_spec.specs.Bodies.{Body, group}
@@ -7,7 +7,6 @@ use Rattle.lsys_spec.specs.Levels.{ModuleValue}
 use Rattle.lsys_spec.specs.Questions.{questions, is_needed}
 use Rattle.lsys_change.specs.Passes.{module_question}
 use Rattle.lsys_level.specs.Spots.{Seen, Push, Pop, Module, Spotted}
-use Rattle.lsys_match.specs.Kept.{Kept}
 use Rattle.lsys_forest.specs.Groves.{In}
 use Rattle.lsys_forest.specs.Rows.{spot_in, level_spots}
 use Rattle.lsys_kept.specs.Levels.{IsAnswered, AnsweredAt, level_of, answer_at}

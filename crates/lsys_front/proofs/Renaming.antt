@@ -1,12 +1,12 @@
 -- What is read doesn't depend on what the lineages are: where a level has others, the same is read of it under those.
-use Rattle.std.proofs.Common.{◌≡◌, ◌+◌, ℕ, Bool, true, false, Option, Some, None, Result, Ok, Err, List, [], ◌∷◌, ◌++◌, map, take, length, refl, ap, sym, ◌∙◌, if◌then◌else◌}
+use Rattle.std.proofs.Common.{◌≡◌, ◌+◌, ℕ, Bool, true, false, Option, Some, None, Result, Ok, Err, List, [], ◌∷◌, ◌++◌, map, take, refl, ap, sym, ◌∙◌, if◌then◌else◌}
 use Rattle.std.specs.Prelude.{fold, drop, reverse, nat_lt}
 use Rattle.std.proofs.lemmas.List.{take-map, drop-map, length-map, map-append}
 use Rattle.lsys_syntax.specs.Strings.{ModuleName}
 use Rattle.lsys_spec.specs.Bodies.{Body, Pattern, Patterns, Done, OneOf, BranchOf}
 use Rattle.lsys_spec.specs.Levels.{ModuleValue, Symbol, Push, Pop, Module, lineage, Step, Passed, Around, OutOf, Reading, read, restored, way, Items, Nothing, One, Branch, Nest, at_root, in_branch, items_here, items_of, items_from, with_module, with_whole_branch, with_open_bracket}
-use Rattle.lsys_spec.specs.Walks.{Mark, deeper, Entry, Compared, Ignored, Out, Branched, Told, Found, before, followed, is_ignored, fits, behind, ahead, joined, or_passed, left_walk, right_walk}
-use Rattle.lsys_spec.specs.Choice.{Fault, TooFar, Outcome, No, Yes, Fails, Choice, Asking, Tried, none_tried, after_rule, right_after, contexts, next_contexts, fitting, outcome, decided, first_applying, Applying, found_with, all_applying, pick_among, choice}
+use Rattle.lsys_spec.specs.Walks.{Mark, deeper, Entry, Compared, Ignored, Out, Branched, Told, Found, before, followed, fits, behind, ahead, joined, or_passed, left_walk, right_walk}
+use Rattle.lsys_spec.specs.Choice.{Fault, TooFar, Outcome, No, Yes, Fails, Choice, Asking, Tried, none_tried, after_rule, right_after, next_contexts, fitting, outcome, decided, first_applying, Applying, found_with, all_applying, pick_among, choice}
 use Rattle.lsys_spec.proofs.Meetings.{met}
 
 module _ (f : List ℕ → List ℕ) where

@@ -1,5 +1,5 @@
 -- A node with a question that is no candidate keeps the right answer.
-use Rattle.std.proofs.Common.{◌≡◌, ◌<◌, ◌+◌, ℕ, zero, suc, Bool, true, false, Option, Some, None, List, [], ◌∷◌, length, map, refl, ap, sym, ◌∙◌, subst, inl, inr, arith}
+use Rattle.std.proofs.Common.{◌≡◌, ◌<◌, ℕ, false, Option, Some, None, List, [], ◌∷◌, length, map, refl, ap, sym, ◌∙◌, subst, inl, inr, arith}
 use Rattle.std.specs.Prelude.{get_or, slice_get, option_map}
 use Rattle.std.proofs.lemmas.Option.{none-some, same_Some, slice_get-map, get_or_from_slice_get}
 use Rattle.lsys_spec.specs.Draws.{key_of}
@@ -8,19 +8,18 @@ use Rattle.lsys_spec.specs.Levels.{ModuleValue, Symbol, lineage}
 use Rattle.lsys_spec.specs.Levels as L
 use Rattle.lsys_spec.specs.Questions.{Question, question, questions, question_at, is_needed}
 use Rattle.lsys_spec.specs.Standings.{is_candidate}
-use Rattle.lsys_spec.proofs.Needs.{IsAsked, IsFound, found_asked, all_asked, within_one}
+use Rattle.lsys_spec.proofs.Needs.{IsAsked, found_asked, all_asked, within_one}
 use Rattle.lsys_spec.proofs.Undisturbed.{choice_told, successor_told}
-use Rattle.lsys_level.specs.Spots.{Seen, Module, Spotted, with_lineage, named, seen_by, level_by}
+use Rattle.lsys_level.specs.Spots.{Module, Spotted, named, seen_by}
 use Rattle.lsys_level.specs.Tags.{StandsThere, NamesTell}
 use Rattle.lsys_match.specs.Kept.{Kept}
 use Rattle.lsys_match.specs.Answered.{place_chosen}
 use Rattle.lsys_match.specs.Asks.{IsAnswer, IsNamedAt, by_definition}
 use Rattle.lsys_match.specs.Stored.{answer_in}
-use Rattle.lsys_recall.specs.Recalled.{IsAnswerThere}
 use Rattle.lsys_change.specs.Passes.{module_question, is_candidate_at}
 use Rattle.lsys_change.proofs.Asked.{IsOld, not_needed}
 use Rattle.lsys_change.proofs.Faultless.{level_below}
-use Rattle.lsys_forest.specs.Nodes.{Node, Nodes}
+use Rattle.lsys_forest.specs.Nodes.{Nodes}
 use Rattle.lsys_forest.specs.Groves.{In}
 use Rattle.lsys_forest.specs.Rows.{spot_in, level_spots}
 use Rattle.lsys_kept.specs.Lineages.{names}

@@ -1,5 +1,5 @@
 -- Which nodes of a level that was made are asked, and which lost their answers.
-use Rattle.std.specs.Prelude.{◌≡◌, ◌≢◌, ◌⊎◌, ◌↔◌, ◌++◌, ℕ, List, None, IsSome, option_map}
+use Rattle.std.specs.Prelude.{◌≡◌, ◌⊎◌, ◌↔◌, ◌++◌, ℕ, List, None, IsSome, option_map}
 use Rattle.std.specs.Option.{option_and_then}
 use Rattle.lsys_spec.specs.Systems.{System}
 use Rattle.lsys_forest.specs.Nodes.{Nodes, with_answer}

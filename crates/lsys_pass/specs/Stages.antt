@@ -114,7 +114,7 @@ pub record IsSettled (s : Stage) (t p k : ℕ) : Type 0 where
   pub done : In k s.pending → ⊥
   pub outcome : IsOutcome s t p k
 
--- so it is with node k, at place p of level t
+-- the node at place p of level t has a question that the old system didn't answer
 abbrev pub IsNeededAt : Stage → ℕ → ℕ → Type 0
 IsNeededAt s t p = IsNeeded s.system s.next s.limit t (level_of s.now s.root t) p
 

@@ -1,4 +1,4 @@
-use Rattle.std.proofs.Common.{◌∷◌, ◌++◌, [], ap, ◌∙◌, arith}
+use Rattle.std.proofs.Common.{◌≡◌, ℕ, ◌∷◌, ◌++◌, [], subst, arith}
 use Rattle.lsys_forest.specs.Groves.{now_of}
 use Rattle.lsys_forest.proofs.SoundLemmas.{some_of}
 use Rattle.lsys_candidates.proofs.Gathering.{not_both}
@@ -16,9 +16,10 @@ returns-then-not-is_idle-clause-only g c = loses_none c.args.forest.now
 pub returns-clause-loses : goal.returns-clause-loses
 returns-clause-loses g c =
     let n = some_of (now_of c.args.forest.now c.args.node) c.requires.lives in
+    let dropped = subst (λ (k : ℕ). c.push_in_room-2.new.list.items ≡ c.args.dropped.now.items ++ k ∷ []) c.node.view_is c.push_in_room-2.ensures.pushed in
     loses_one c.args.system.now c.args.level (now_of c.args.forest.now) (now_of c.set_answer.new.self) c.args.node n.0
     c.args.bare.now.items c.push_in_room.new.list.items c.args.dropped.now.items c.push_in_room-2.new.list.items (c.is_idle.ensures.0 c.if-not-is_idle.false) n.1 (c.set_answer.ensures.set n.0 n.1).now c.push_in_room.ensures.pushed
-    (c.push_in_room-2.ensures.pushed ∙ ap (λ k. c.args.dropped.now.items ++ k ∷ []) c.node.view_is)
+    dropped
 
 pub returns-clause-only : goal.returns-clause-only
 returns-clause-only g c =

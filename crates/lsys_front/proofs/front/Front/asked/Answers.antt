@@ -30,7 +30,7 @@ returns-clause-are g c =
     c.new-asked.ensures.items c.in_ok-add_asked.ensures ks.items
     (λ k. (λ i. subst (In k) c.deref-3.ensures.value ((same k).0 i), λ i. (same k).1 (subst (In k) (sym c.deref-3.ensures.value) i)))
     (λ k h. subst (In k) (sym c.deref-2.ensures.value)
-        (called_all kind c.args.seats.now c.gather-outcome.new.seats c.new-nodes.result.items c.gather-outcome.new.nodes.items c.new-nodes.ensures.items c.gather-outcome.ensures.gathers c.requires.clear c.in_ok-outcome.ensures.all k h))
+    (called_all kind c.args.seats.now c.gather-outcome.new.seats c.new-nodes.result.items c.gather-outcome.new.nodes.items c.new-nodes.ensures.items c.gather-outcome.ensures.gathers c.requires.clear c.in_ok-outcome.ensures.all k h))
     ) c.in_order.ensures.same
 
 pub returns-clause-once : goal.returns-clause-once
