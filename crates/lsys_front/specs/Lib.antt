@@ -2,3 +2,4 @@ pub mod Fronts
 pub mod Losses
 pub mod Ends
 pub mod LastLevels
+pub mod Asks
