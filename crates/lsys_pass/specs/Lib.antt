@@ -9,4 +9,5 @@ pub mod Advances
 pub mod Moves
 pub mod Leftmost
 pub mod Fresh
+pub mod Others
 pub mod Sizes

@@ -4,6 +4,7 @@
 //! `specs/Moves.antt`.
 #![tactic(auto)]
 
+mod asked;
 mod fault;
 mod keep;
 mod outcome;

@@ -1,0 +1,2 @@
+-- Which nodes of a level are asked.
+use Rattle.std.proofs.Common.{◌≡◌}
