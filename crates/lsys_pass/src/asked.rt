@@ -1,9 +1,7 @@
 //! Who is asked on a level that was made.
-ghost use Rattle.std.specs.Prelude.{◌≡◌, ◌<◌, ◌≤◌, ◌^◌, ◌++◌, ℕ, length, IfOk, OnOk};
-ghost use Rattle.lsys_forest.specs.Groves.{In, AreSound, IsLive, now_of, changes_in, live_nodes};
+ghost use Rattle.std.specs.Prelude.{◌≡◌, ◌<◌, ◌≤◌, ◌^◌, ℕ, length, IfOk, OnOk};
+ghost use Rattle.lsys_forest.specs.Groves.{In};
 ghost use Rattle.lsys_forest.specs.Rows.{complete_levels};
-ghost use Rattle.lsys_front.specs.Losses.{LosesOnly};
-ghost use Rattle.lsys_front.specs.Asks.{Loses};
 ghost use Rattle.lsys_pass.specs.declared.state.PassState.TheVariants.{Failed};
 ghost use Rattle.lsys_pass.specs.Passes.{stage_of};
 ghost use Rattle.lsys_pass.specs.Moves.{SameRun};
@@ -13,11 +11,9 @@ ghost use Rattle.lsys_pass.specs.Others.{IsOthers};
 use crate::keep::target;
 use crate::pass::Pass;
 use lsys_candidates::{LevelRules, add_others};
-use lsys_forest::{Forest, Kept, NodeId};
-use lsys_front::{Found, lose_answers};
-use lsys_level::Tag;
+use lsys_forest::NodeId;
+use lsys_front::Found;
 use lsys_repair::list_level;
-use lsys_rules::System;
 use std::alloc::{AllocError, Global};
 use std::sync::ledger::Ledger;
 
@@ -51,13 +47,11 @@ impl<L: Ledger> Pass<L> {
     {
         let others = self.find_others(alloc, level)?;
         let system = target(&self.next, &self.system);
-        lose_level(
+        self.work.front.lose(
             &mut self.forest,
             system,
             level,
-            &self.work.front.changes.changed,
             &others,
-            &mut self.work.front.bare,
             &mut self.work.dropped,
         )?;
         self.work.pending = self.work.front.asked(
@@ -99,55 +93,4 @@ impl<L: Ledger> Pass<L> {
         }
         Ok(others)
     }
-}
-
-/// Takes the answers of those of these nodes, of both kinds, that have no question any more, by the rules of a level of a
-/// system. They come behind `bare`, and behind `dropped`.
-///
-/// # Errors
-///
-/// Want of memory. No answer is new then, and the last rest stays.
-fn lose_level<A: Kept>(
-    forest: &mut Forest<A>,
-    system: &System,
-    level: u32,
-    changed: &[NodeId],
-    others: &[NodeId],
-    bare: &mut Vec<NodeId>,
-    dropped: &mut Vec<Tag>,
-) -> Result<(), AllocError>
-    requires few { live_nodes forest.old < 2 ^ 32 }
-    requires changed { (k : ℕ) → In k changed.now → IsLive forest.old k }
-    requires others { (k : ℕ) → In k others.now → IsLive forest.old k }
-    ensures loses { OnOk result (Loses system.now level (now_of forest.old) (now_of forest.new)
-        (changed.now ++ others.now) bare.old.items bare.new.items
-        dropped.old.items dropped.new.items) }
-    ensures only { LosesOnly forest.old forest.new }
-    ensures sound { AreSound forest.new.root (changes_in forest.new) (now_of forest.new) }
-{
-    let lost = lose_both(forest, system, level, changed, others, bare, dropped);
-    forest.root();
-    lost
-}
-
-/// The same, but for what is known of a forest.
-fn lose_both<A: Kept>(
-    forest: &mut Forest<A>,
-    system: &System,
-    level: u32,
-    changed: &[NodeId],
-    others: &[NodeId],
-    bare: &mut Vec<NodeId>,
-    dropped: &mut Vec<Tag>,
-) -> Result<(), AllocError>
-    requires few { live_nodes forest.old < 2 ^ 32 }
-    requires changed { (k : ℕ) → In k changed.now → IsLive forest.old k }
-    requires others { (k : ℕ) → In k others.now → IsLive forest.old k }
-    ensures loses { OnOk result (Loses system.now level (now_of forest.old) (now_of forest.new)
-        (changed.now ++ others.now) bare.old.items bare.new.items
-        dropped.old.items dropped.new.items) }
-    ensures only { LosesOnly forest.old forest.new }
-{
-    lose_answers(forest, system, level, changed, bare, dropped)?;
-    lose_answers(forest, system, level, others, bare, dropped)
 }
