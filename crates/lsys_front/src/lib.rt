@@ -4,6 +4,7 @@
 
 mod differences;
 mod ends;
+mod first;
 mod front;
 mod law;
 mod looks;
