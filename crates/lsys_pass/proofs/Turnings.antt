@@ -1,11 +1,11 @@
 -- A level whose nodes that turned were found.
-use Rattle.std.proofs.Common.{◌≡◌, ◌⊎◌, ◌+◌, ◌<◌, ◌≤◌, ◌^◌, ℕ, true, false, List, [], ◌∷◌, ◌++◌, length, slice_get, Option, Some, None, Ok, Err, refl, sym, ap, ◌∙◌, subst, inl, inr, arith}
+use Rattle.std.proofs.Common.{◌≡◌, ◌⊎◌, ◌+◌, ◌<◌, ◌≤◌, ◌^◌, ℕ, true, false, List, [], ◌++◌, length, slice_get, Option, Some, None, Ok, Err, refl, sym, ap, ◌∙◌, subst, inl, inr, arith}
 use Rattle.std.specs.Prelude.{Result, IfOk, OnOk, is_some, option_map}
 use Rattle.std.proofs.lemmas.Bool.{cases_lt}
 use Rattle.std.proofs.lemmas.Option.{same_Some}
 use Rattle.lsys_change.specs.Nodes.{Kin}
 use Rattle.lsys_match.specs.Kept.{Kept}
-use Rattle.lsys_forest.specs.Nodes.{Node, Nodes}
+use Rattle.lsys_forest.specs.Nodes.{Nodes}
 use Rattle.lsys_forest.specs.Groves.{In, AreApart, IsLive, changes_in}
 use Rattle.lsys_forest.specs.Rows.{level_nodes}
 use Rattle.lsys_forest.proofs.RowLemmas.{In_append, In_left, In_right, apart_append, level_depth}
@@ -18,7 +18,7 @@ use Rattle.lsys_seats.specs.Seats.{neighbours_at, HasSeat, SameSeats, KeepsSeats
 use Rattle.lsys_seats.proofs.LevelLemmas.{got_in}
 use Rattle.lsys_seats.proofs.LookLemmas.{in_same, in_back}
 use Rattle.lsys_mates.proofs.TurnedLemmas.{told_in}
-use Rattle.lsys_candidates.specs.Repairs.{Repair, are}
+use Rattle.lsys_candidates.specs.Repairs.{are}
 use Rattle.lsys_candidates.specs.Found.{AreOnLevels, HasRoom, IsFound}
 use Rattle.lsys_candidates.proofs.Spots.{is_in, sound_old, sound_new}
 use Rattle.lsys_front.specs.Fronts.{Differences, IsFront}

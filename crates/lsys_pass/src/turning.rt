@@ -34,11 +34,11 @@ impl<L: Ledger> Pass<L> {
             → HasFound self.new t f.beside.items f.readers.items) }
         ensures goes { OnOk result ((t : ℕ) → Goes (stage_of self.old) (stage_of self.new) t) }
         ensures same { self.new ≡ record self.old {
-            seats = self.new.seats;
-            dropped = self.new.dropped;
-            moved = self.new.moved;
-            front = self.new.front;
-            first_renewed = self.new.first_renewed;
+          seats = self.new.seats;
+          dropped = self.new.dropped;
+          moved = self.new.moved;
+          front = self.new.front;
+          first_renewed = self.new.first_renewed;
         } }
         ensures seats { SameSeats self.old.seats self.new.seats }
         ensures keeps { KeepsSeats self.old.seats self.new.seats }

@@ -1,4 +1,4 @@
-use Rattle.std.proofs.Common.{rules, ◌≡◌, ◌<◌, refl, sym, ap, ◌∙◌, subst}
+use Rattle.std.proofs.Common.{rules, refl, sym, ap, ◌∙◌, subst}
 use Rattle.lsys_seats.specs.Seats.{HasSeat}
 use Rattle.lsys_pass.specs.Passes.{PassView}
 use Rattle.lsys_pass.specs.Fresh.{IsFresh}
@@ -55,7 +55,7 @@ returns g c =
     } in
     record {
       found = if_all r _ _ _ (on_all r _ _ _ _ new.dropped new.moved new.first (λ d m f. record { dropped = d; moved = m; first = f })) new.found
-      (λ e f found. turned_found _ _ c.note_turned.new.seats c.note_turned.new.self c.self.view_is same new.seats e f.beside.items f.readers.items c.self.invariant (ap (λ (z : PassView). z.state) c.self.view_is ∙ c.requires.failed) new.keeps found);
+          (λ e f found. turned_found _ _ c.note_turned.new.seats c.note_turned.new.self c.self.view_is same new.seats e f.beside.items f.readers.items c.self.invariant (ap (λ (z : PassView). z.state) c.self.view_is ∙ c.requires.failed) new.keeps found);
       goes = on_all r _ _ _ _ new.dropped new.moved new.first (λ d m f. turned_goes _ _ c.note_turned.new.seats c.note_turned.new.self c.self.view_is same new.seats (record { dropped = d; moved = m; first = f }));
       same = search rules;
       seats = search rules;
