@@ -7,10 +7,14 @@ pub mod Looking
 pub mod NextLooks
 pub mod FoundFronts
 pub mod Rooms
+pub mod Losing
+pub mod Ending
+pub mod RowsBelow
+pub mod Lasts
+pub mod LastLevels
 pub mod LevelParents
 pub mod NextSymbols
 pub mod Gathered
-pub mod Losing
 pub mod Renaming
 pub mod Retelling
 pub mod Unasked
