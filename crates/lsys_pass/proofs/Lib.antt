@@ -30,5 +30,6 @@ pub mod Closedness
 pub mod SizesTold
 pub mod Repairing
 pub mod Failing
+pub mod Turnings
 pub mod Askings
 pub mod Unanswered

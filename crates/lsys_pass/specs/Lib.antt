@@ -11,3 +11,4 @@ pub mod Leftmost
 pub mod Fresh
 pub mod Others
 pub mod Sizes
+pub mod Beginnings

@@ -12,9 +12,11 @@ mod pass;
 mod place;
 mod read;
 mod refusal;
+mod room;
 mod seating;
 mod sizes;
 mod state;
+mod turning;
 mod work;
 
 pub use fault::Faulted;
