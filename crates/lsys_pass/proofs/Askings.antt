@@ -1,9 +1,12 @@
 -- Who may have to be asked on a level that was made.
-use Rattle.std.proofs.Common.{◌≡◌, ◌⊎◌, ◌↔◌, ◌<◌, ◌≤◌, ◌^◌, ℕ, Bool, true, false, List, [], ◌∷◌, ◌++◌, length, Option, Some, None, refl, sym, ap, ◌∙◌, subst, inl, inr, arith}
+use Rattle.std.proofs.Common.{◌≡◌, ◌⊎◌, ◌↔◌, ◌<◌, ◌≤◌, ◌+◌, ◌^◌, ℕ, Bool, true, false, List, [], ◌∷◌, ◌++◌, length, Option, Some, None, refl, sym, ap, ◌∙◌, subst, inl, inr, arith}
 use Rattle.std.specs.Prelude.{◌-◌, IsSome, IsTrue, option_map, slice_get}
 use Rattle.std.proofs.lemmas.Bool.{cases_lt}
 use Rattle.std.proofs.lemmas.Option.{none-some, same_Some}
+use Rattle.lsys_spec.specs.Bodies.{Body, group}
 use Rattle.lsys_spec.specs.Levels.{ModuleValue}
+use Rattle.lsys_spec.specs.Equalities.{same_all, same_body}
+use Rattle.lsys_spec.proofs.Tests.{both}
 use Rattle.lsys_level.specs.Spots.{Module}
 use Rattle.lsys_change.specs.Nodes.{Kin}
 use Rattle.lsys_change.specs.Groups.{has_same_rules}
@@ -11,8 +14,8 @@ use Rattle.lsys_reads.specs.Relations.{Relations, is_settled}
 use Rattle.lsys_match.specs.Kept.{Kept}
 use Rattle.lsys_forest.specs.Nodes.{Node, Nodes}
 use Rattle.lsys_forest.specs.Groves.{Grove, In, IsLive, IsSound, now_of, changes_in}
-use Rattle.lsys_forest.specs.Rows.{depth_in, complete_levels, level_nodes, level_of_node, place_of_node}
-use Rattle.lsys_forest.proofs.RowLemmas.{In_append, level_depth}
+use Rattle.lsys_forest.specs.Rows.{complete_levels, level_nodes, place_of_node}
+use Rattle.lsys_forest.proofs.RowLemmas.{In_append, In_left, In_right, level_depth}
 use Rattle.lsys_forest.proofs.SoundLemmas.{AreSound-now, AreSound-then}
 use Rattle.lsys_kept.specs.Lineages.{kin_of, names}
 use Rattle.lsys_kept.specs.Levels.{answer_at, HasRead}
@@ -24,15 +27,19 @@ use Rattle.lsys_seats.proofs.LevelLemmas.{got_in, place_in}
 use Rattle.lsys_next.proofs.Depths.{on_level}
 use Rattle.lsys_candidates.specs.Repairs.{Repair, SteppingSpots, were, are}
 use Rattle.lsys_candidates.specs.Repairs as R
+use Rattle.lsys_candidates.specs.Candidates.{AsksOn}
 use Rattle.lsys_candidates.specs.Finds.{IsBeside, IsReader}
 use Rattle.lsys_candidates.specs.Found.{IsOther, IsAmong, HasOtherRules, SteppingNodes, AreAnswersRight}
-use Rattle.lsys_candidates.specs.Others.{are_alike, AreAllAlike, IsOtherwise}
+use Rattle.lsys_candidates.specs.Asks.{AddsOf}
+use Rattle.lsys_candidates.specs.Others.{RulesOf, are_alike, AreAllAlike, IsOtherwise}
 use Rattle.lsys_candidates.proofs.Alike.{alike_is}
 use Rattle.lsys_candidates.proofs.Gathering.{marked_or_not, not_both}
+use Rattle.lsys_candidates.proofs.Nodes.{has_asked}
 use Rattle.lsys_candidates.proofs.Readers.{reader_there}
 use Rattle.lsys_candidates.proofs.Spots.{is_in}
 use Rattle.lsys_front.specs.Asks.{MayBeAsked}
 use Rattle.lsys_front.proofs.Rooms.{before_in, complete_now}
+use Rattle.lsys_front.proofs.Standing.{at_level, live_at}
 use Rattle.lsys_pass.specs.Stages.{Rests}
 use Rattle.lsys_pass.specs.Passes.{PassView, stage_of, repair_of, IsPass}
 use Rattle.lsys_pass.specs.Passes as P
@@ -45,24 +52,38 @@ use Rattle.lsys_pass.proofs.Before.{answer_lives, placed, is_below}
 
 -- all nodes of a level of a pass live
 pub row_lives : (v : PassView) (t : ℕ) → IsPass v → (k : ℕ) → In k (row_of v t) → IsLive v.forest k
-row_lives v t h k i =
-    let d = level_depth v.forest.root (changes_in v.forest) (P.now v) (AreSound-now v.forest.root (changes_in v.forest) (P.now v) h.stored.sound) t k i in
-    subst IsSome (sym d.1) refl
+row_lives v t h k i = live_at v.forest t k (AreSound-now v.forest.root (changes_in v.forest) (P.now v) h.stored.sound) i
 
 pub others_all : (v : PassView) (t : ℕ) (others : List ℕ) → v.system.depth ≤ t → others ≡ row_of v t → IsOthers v t others
 others_all v t others l e = record { all = λ m. e; unlike = λ m. absurd (omega (arith, l, m)) }
 
-pub others_none : (v : PassView) (t : ℕ) (others : List ℕ) → t < v.system.depth → AreAllAlike (rules_of v t) → others ≡ [] → IsOthers v t others
-others_none v t others l alike e = record {
+pub others_none : (v : PassView) (t : ℕ) (rules : RulesOf) (others : List ℕ) → t < v.system.depth → rules ≡ rules_of v t → AreAllAlike rules → others ≡ [] → IsOthers v t others
+others_none v t rules others l same alike e = record {
   all = λ m. absurd (omega (arith, l, m));
   unlike = λ m k. (
     λ i. absurd (subst (In k) e i),
-    λ i. absurd (let o = i.1 in not_both (are_alike v.system v.next t o.own.name (length o.own.params)) (alike o.own.name (length o.own.params)) o.rules),
+    λ i. absurd (let o = i.1 in not_both (are_alike v.system v.next t o.own.name (length o.own.params)) (subst AreAllAlike same alike o.own.name (length o.own.params)) o.rules),
   );
 }
 
-pub others_some : (v : PassView) (t : ℕ) (others : List ℕ) → t < v.system.depth → ((k : ℕ) → In k others ↔ (In k (row_of v t) × IsOtherwise (rules_of v t) (P.now v) k)) → IsOthers v t others
-others_some v t others l e = record { all = λ m. absurd (omega (arith, l, m)); unlike = λ m. e }
+pub others_some : (v : PassView) (t : ℕ) (rules : RulesOf) (nodes old new others : List ℕ) → t < v.system.depth → rules ≡ rules_of v t → nodes ≡ row_of v t → old ≡ [] → others ≡ new
+    → AddsOf (IsOtherwise rules (P.now v)) nodes old new → IsOthers v t others
+others_some v t rules nodes old new others l same row none is a = record {
+  all = λ m. absurd (omega (arith, l, m));
+  unlike = λ m k. (
+    λ i. (let u = (a.are k).0 (subst (In k) whole i) in (subst (In k) row u.0, subst (λ (r : RulesOf). IsOtherwise r (P.now v) k) same u.1)),
+    λ u. subst (In k) (sym whole) ((a.are k).1 (subst (In k) (sym row) u.0, subst (λ (r : RulesOf). IsOtherwise r (P.now v) k) (sym same) u.1)),
+  );
+}
+  where
+    whole : others ≡ a.added
+    whole = is ∙ a.is ∙ ap (λ (xs : List ℕ). xs ++ a.added) none
+
+-- where the bodies of rules are the same, there are rules where there were
+rules_stay : (xs ys : List Body) → same_all same_body xs ys ≡ true → (xs ≡ [] → ⊥) → ys ≡ [] → ⊥
+rules_stay [] ys same some none = some refl
+rules_stay (x ∷ xs) [] same some none = cc
+rules_stay (x ∷ xs) (y ∷ ys) same some none = cc
 
 -- 2. who was found
 
@@ -78,9 +99,6 @@ module _ (v : PassView) (t : ℕ) (h : IsPass v) (beside readers : List ℕ) (f 
 
   pub is_complete : t < 2 ^ 32 → t < length (complete_levels v.forest)
   is_complete small = complete_now (repair_of v t) f.made.spots small
-
-  at_level : (k : ℕ) → In k (row_of v t) → level_of_node v.forest k ≡ t
-  at_level k i = let d = level_depth v.forest.root (changes_in v.forest) (P.now v) sound_now t k i in ap (λ o. depth_in o - 1) d.1 ∙ omega (arith, d.2)
 
   pub row_seats : (k : ℕ) → In k (row_of v t) → HasSeat v.seats k
   row_seats k i = let d = level_depth v.forest.root (changes_in v.forest) (P.now v) sound_now t k i in f.made.room k d.0 d.1
@@ -115,7 +133,7 @@ module _ (v : PassView) (t : ℕ) (h : IsPass v) (beside readers : List ℕ) (f 
 
   -- those beside a node that changed
   around_row : (j k : ℕ) → In j (row_of v t) → In k (level_around v.forest j) → In k (row_of v t)
-  around_row j k i around = subst (λ u. In k (level_nodes (P.now v) v.forest.root u)) (at_level j i) around
+  around_row j k i around = subst (λ u. In k (level_nodes (P.now v) v.forest.root u)) (at_level v.forest t j sound_now i) around
 
   beside_row : (k : ℕ) → IsBeside v.forest v.front.changes.changed k → In k (row_of v t)
   beside_row k b =
@@ -189,3 +207,32 @@ module _ (v : PassView) (t : ℕ) (h : IsPass v) (beside readers : List ℕ) (f 
         ];
         others_are = λ k i. (let u = (o.unlike below k).0 i in (u.0, record { own = u.1.own; is = u.1.is; rules = same_test k u.1.own ∙ u.1.rules }));
       }
+
+    -- a node of the level that keeps an answer without a question changed, or has other rules
+    pub must_lose : (k : ℕ) (a : Kept) → In k (row_of v t) → (AsksOn v.next t (P.now v) k → ⊥) → answer_at (P.now v) k ≡ Some a → In k (v.front.changes.changed ++ others)
+    must_lose k a i none e = elim (is_in k (v.front.changes.changed ++ others)) [
+      | inl there ↦ there
+      | inr out ↦ absurd (out (In_left k v.front.changes.changed others ((f.front.differs.changed k).1 (i, w.on, λ same. out (In_right k v.front.changes.changed others ((o.unlike w.below k).1 (i, other same)))))))
+    ]
+      where
+        was : answer_at (P.was v) k ≡ Some a
+        was = sym (f.made.answers k i) ∙ e
+
+        w : WasOn k
+        w = answer_was_on k a i was
+
+        p : (p : ℕ) × (slice_get (were (repair_of v t)) p ≡ Some k)
+        p = place_in k (were (repair_of v t)) w.on
+
+        q : (m : ModuleValue) × (seen_at (P.was v) k ≡ Module m) × (group v.system t m.name (length m.params) ≡ [] → ⊥)
+        q = has_asked (repair_of v t) f.made.spots w.below p.0 k a p.1 was
+
+        other : seen_at (P.now v) k ≡ seen_at (P.was v) k → IsOtherwise (rules_of v t) (P.now v) k
+        other same = record {
+          own = q.0;
+          is = same ∙ q.1;
+          rules = elim (marked_or_not (are_alike v.system v.next t q.0.name (length q.0.params))) [
+            | inl e ↦ absurd (none (record { own = q.0; is = same ∙ q.1; rules = rules_stay (group v.system t q.0.name (length q.0.params)) (group v.next t q.0.name (length q.0.params)) (both _ _ e).0 q.2 }))
+            | inr e ↦ e
+          ];
+        }

@@ -33,3 +33,4 @@ pub mod Failing
 pub mod Turnings
 pub mod Askings
 pub mod Unanswered
+pub mod Pendings
