@@ -1,9 +1,10 @@
 -- The nodes that are pending on a level where some lost their answers.
-use Rattle.std.proofs.Common.{◌≡◌, ◌⊎◌, ◌↔◌, ◌<◌, ◌≤◌, ◌+◌, ◌^◌, ℕ, List, length, Some, None, refl, sym, ap, ◌∙◌, subst, inl, inr, arith}
+use Rattle.std.proofs.Common.{◌≡◌, ◌⊎◌, ◌↔◌, ◌<◌, ◌≤◌, ◌+◌, ◌^◌, ◌++◌, ℕ, List, length, Some, None, refl, sym, ap, ◌∙◌, subst, inl, inr, arith}
 use Rattle.std.specs.Prelude.{slice_get}
 use Rattle.std.proofs.lemmas.Bool.{cases_lt}
+use Rattle.lsys_spec.specs.Systems.{System}
 use Rattle.lsys_match.specs.Kept.{Kept}
-use Rattle.lsys_forest.specs.Groves.{Grove, In, AreApart, IsSound, now_of, changes_in}
+use Rattle.lsys_forest.specs.Groves.{Grove, In, AreApart, AreSound, IsLive, IsSound, now_of, changes_in}
 use Rattle.lsys_forest.specs.Rows.{complete_levels}
 use Rattle.lsys_kept.specs.Levels.{answer_at}
 use Rattle.lsys_kept.specs.Meant.{IsCandidate}
@@ -14,19 +15,21 @@ use Rattle.lsys_candidates.specs.Repairs.{Repair, are}
 use Rattle.lsys_candidates.specs.Candidates.{AsksOn, HasQuestion, IsCandidateNode}
 use Rattle.lsys_candidates.specs.Asks.{AreInOrder}
 use Rattle.lsys_candidates.proofs.Nodes.{candidates_are}
-use Rattle.lsys_front.specs.Asks.{MayBeAsked, StandTogether}
+use Rattle.lsys_front.specs.Fronts.{Differences}
+use Rattle.lsys_front.specs.Losses.{LosesOnly}
+use Rattle.lsys_front.specs.Asks.{Loses, MayBeAsked, StandTogether}
 use Rattle.lsys_front.specs.Asks as F
 use Rattle.lsys_front.proofs.LevelAsks.{asks_level}
 use Rattle.lsys_front.proofs.PendingNodes.{pending_found, pending_all, pending_some}
 use Rattle.lsys_front.proofs.Rooms.{complete_now}
 use Rattle.lsys_front.proofs.Standing.{at_level, live_at, spot_at}
 use Rattle.lsys_pass.specs.Advances.{AreToAsk}
-use Rattle.lsys_pass.specs.Passes.{PassView, repair_of, IsPass}
+use Rattle.lsys_pass.specs.Passes.{PassView, stage_of, repair_of, IsPass}
 use Rattle.lsys_pass.specs.Passes as P
-use Rattle.lsys_pass.specs.Fresh.{row_of, HasFound, IsToAsk}
+use Rattle.lsys_pass.specs.Fresh.{row_of, Goes, HasFound, IsToAsk}
 use Rattle.lsys_pass.specs.Others.{IsOthers}
-use Rattle.lsys_pass.proofs.Askings.{may_row, row_seats, stepping_nodes}
-use Rattle.lsys_pass.proofs.Unanswered.{after, LosesAt, nodes_same, spots_now, sound_after, asks_back, asks_on, asked_kept, unasked_bare, tree, in_dropped, dropped_before, dropped_at, stage, lists, told}
+use Rattle.lsys_pass.proofs.Askings.{row_lives, is_complete, may_row, lost_row, row_seats, stepping_nodes}
+use Rattle.lsys_pass.proofs.Unanswered.{after, LosesAt, nodes_same, spots_now, sound_after, asks_back, asks_on, asked_kept, unasked_bare, tree, in_dropped, dropped_before, dropped_at, stage, lists, goes, told}
 
 module _ (v : PassView) (t : ℕ) (h : IsPass v) (beside readers : List ℕ) (f : HasFound v t beside readers) (others : List ℕ) (o : IsOthers v t others)
     (g : Grove Kept) (bare dropped : List ℕ) (l : LosesAt v t others g bare dropped) where
@@ -135,3 +138,88 @@ module _ (v : PassView) (t : ℕ) (h : IsPass v) (beside readers : List ℕ) (f 
         };
         front = told v t h beside readers f others o g bare dropped l seats same keeps pending;
       }
+
+-- 3. the same, as calls tell it
+
+-- A view of the pass, and another one that is it; others that were found, and these nodes, which are they; this system, which is made;
+-- and what became of the forest, of what is told of the level, and of those that are dropped.
+pub record IsLost (v w : PassView) (t : ℕ) (beside readers others : List ℕ) (s : System) (nodes : List ℕ) (g : Grove Kept) (d : Differences) (dropped : List ℕ) : Type 0 where
+  pub is : v ≡ w
+  pub found : HasFound w t beside readers
+  pub others_are : IsOthers w t others
+  pub nodes_are : nodes ≡ others
+  pub system : s ≡ v.next
+  pub loses : Loses s t (P.now v) (now_of g) (v.front.changes.changed ++ nodes) v.front.bare d.bare v.dropped dropped
+  pub only : LosesOnly v.forest g
+  pub sound : AreSound g.root (changes_in g) (now_of g)
+  pub changes : d.changes ≡ v.front.changes
+  pub turned : d.turned ≡ v.front.turned
+
+-- at the pass itself
+pub found_at : (v w : PassView) (t : ℕ) (beside readers : List ℕ) → v ≡ w → HasFound w t beside readers → HasFound v t beside readers
+found_at v w t beside readers e f = subst (λ (z : PassView). HasFound z t beside readers) (sym e) f
+
+pub others_at : (v w : PassView) (t : ℕ) (others nodes : List ℕ) → v ≡ w → nodes ≡ others → IsOthers w t others → IsOthers v t nodes
+others_at v w t others nodes e same o = subst (IsOthers v t) (sym same) (subst (λ (z : PassView). IsOthers z t others) (sym e) o)
+
+pub complete_at : (v w : PassView) (t : ℕ) (beside readers : List ℕ) → v ≡ w → IsPass v → HasFound w t beside readers → t < 2 ^ 32 → t < length (complete_levels w.forest)
+complete_at v w t beside readers e h f small = subst (λ (z : PassView). t < length (complete_levels z.forest)) e (is_complete v t h beside readers (found_at v w t beside readers e f) small)
+
+pub lives_at : (v w : PassView) (t : ℕ) (beside readers others nodes : List ℕ) → v ≡ w → nodes ≡ others → IsPass v → HasFound w t beside readers → IsOthers w t others
+    → (k : ℕ) → In k (v.front.changes.changed ++ nodes) → IsLive v.forest k
+lives_at v w t beside readers others nodes e same h f o k i = row_lives v t h k (lost_row v t h beside readers (found_at v w t beside readers e f) nodes (others_at v w t others nodes e same o) k i)
+
+module _ (v w : PassView) (t : ℕ) (h : IsPass v) (beside readers others : List ℕ) (s : System) (nodes : List ℕ) (g : Grove Kept) (d : Differences) (dropped : List ℕ)
+    (x : IsLost v w t beside readers others s nodes g d dropped) where
+  f : HasFound v t beside readers
+  f = found_at v w t beside readers x.is x.found
+
+  o : IsOthers v t others
+  o = others_at v w t others others x.is refl x.others_are
+
+  l : LosesAt v t others g d.bare dropped
+  l = record {
+    loses =
+        subst (λ (y : System). Loses y t (P.now v) (now_of g) (v.front.changes.changed ++ others) v.front.bare d.bare v.dropped dropped) x.system
+        (subst (λ (ns : List ℕ). Loses s t (P.now v) (now_of g) (v.front.changes.changed ++ ns) v.front.bare d.bare v.dropped dropped) x.nodes_are x.loses);
+    only = x.only;
+    sound = x.sound;
+  }
+
+  -- what is told of the level is as it was, but for those that lost their answers
+  but_bare : d ≡ record v.front { bare = d.bare }
+  but_bare = λ i. record { changes = x.changes i; turned = x.turned i; bare = d.bare }
+
+  module _ (these : List ℕ) (same_nodes : these ≡ others) where
+    may_same : (k : ℕ) → MayBeAsked d beside readers these k → MayBeAsked v.front beside readers others k
+    may_same k m = subst (λ (y : Differences). MayBeAsked y beside readers others k) but_bare (subst (λ (ns : List ℕ). MayBeAsked d beside readers ns k) same_nodes m)
+
+    may_too : (k : ℕ) → MayBeAsked v.front beside readers others k → MayBeAsked d beside readers these k
+    may_too k m = subst (λ (ns : List ℕ). MayBeAsked d beside readers ns k) (sym same_nodes) (subst (λ (y : Differences). MayBeAsked y beside readers others k) (sym but_bare) m)
+
+    pub together_at : t < 2 ^ 32 → StandTogether g (MayBeAsked d beside readers these)
+    together_at small =
+        let a = together v t h beside readers f others o g d.bare dropped l small in
+        record { level = a.level; lives = λ k m. a.lives k (may_same k m); spots = λ k m. a.spots k (may_same k m); levels = λ k m. a.levels k (may_same k m) }
+
+    pub seats_at : (k : ℕ) → MayBeAsked d beside readers these k → HasSeat v.seats k
+    seats_at k m = seats_there v t h beside readers f others o g d.bare dropped l k (may_same k m)
+
+    module _ (seats : List Seat) (same : SameSeats v.seats seats) (keeps : KeepsSeats v.seats seats) (pending : List ℕ) where
+      pub rows_at : (u : ℕ) → row_of (after v g d dropped seats pending) u ≡ row_of w u
+      rows_at u = nodes_same v t h beside readers f others o g d.bare dropped l u ∙ ap (λ (z : PassView). row_of z u) x.is
+
+      pub goes_at : Goes (stage_of w) (stage_of (after v g d dropped seats pending)) t
+      goes_at = subst (λ (z : PassView). Goes (stage_of z) (stage_of (after v g d dropped seats pending)) t) x.is (goes v t h beside readers f others o g d.bare dropped l seats same keeps pending)
+
+      pub asked_at : ((k : ℕ) → In k pending ↔ (AsksOn s t (now_of g) k × MayBeAsked d beside readers these k)) → AreApart pending → AreInOrder g pending
+          → t < w.next.depth → t < 2 ^ 32 → IsToAsk (after v g d dropped seats pending) t
+      asked_at are once order below small =
+          subst (λ (y : Differences). IsToAsk (after v g y dropped seats pending) t) (sym but_bare)
+          (is_to_ask v t h beside readers f others o g d.bare dropped l pending these_are once order seats same keeps (subst (λ (z : PassView). t < z.next.depth) (sym x.is) below) small)
+        where
+          these_are : (k : ℕ) → In k pending ↔ (AsksOn v.next t (now_of g) k × MayBeAsked v.front beside readers others k)
+          these_are k = (
+            λ i. (let u = (are k).0 i in (subst (λ (y : System). AsksOn y t (now_of g) k) x.system u.0, may_same k u.1)),
+            λ u. (are k).1 (subst (λ (y : System). AsksOn y t (now_of g) k) (sym x.system) u.0, may_too k u.1),
+          )
