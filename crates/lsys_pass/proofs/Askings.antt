@@ -1,8 +1,8 @@
 -- Who may have to be asked on a level that was made.
-use Rattle.std.proofs.Common.{◌≡◌, ◌⊎◌, ◌↔◌, ◌<◌, ◌≤◌, ◌+◌, ◌^◌, ℕ, Bool, true, false, List, [], ◌∷◌, ◌++◌, length, Option, Some, None, refl, sym, ap, ◌∙◌, subst, inl, inr, arith}
-use Rattle.std.specs.Prelude.{◌-◌, IsSome, IsTrue, option_map, slice_get}
+use Rattle.std.proofs.Common.{◌≡◌, ◌<◌, ◌≤◌, ◌+◌, ◌^◌, ℕ, true, List, [], ◌∷◌, ◌++◌, length, Some, refl, sym, ap, ◌∙◌, subst, inl, inr, arith}
+use Rattle.std.specs.Prelude.{option_map, slice_get}
 use Rattle.std.proofs.lemmas.Bool.{cases_lt}
-use Rattle.std.proofs.lemmas.Option.{none-some, same_Some}
+use Rattle.std.proofs.lemmas.Option.{same_Some}
 use Rattle.lsys_spec.specs.Bodies.{Body, group}
 use Rattle.lsys_spec.specs.Levels.{ModuleValue}
 use Rattle.lsys_spec.specs.Equalities.{same_all, same_body}
@@ -10,26 +10,23 @@ use Rattle.lsys_spec.proofs.Tests.{both}
 use Rattle.lsys_level.specs.Spots.{Module}
 use Rattle.lsys_change.specs.Nodes.{Kin}
 use Rattle.lsys_change.specs.Groups.{has_same_rules}
-use Rattle.lsys_reads.specs.Relations.{Relations, is_settled}
 use Rattle.lsys_match.specs.Kept.{Kept}
-use Rattle.lsys_forest.specs.Nodes.{Node, Nodes}
-use Rattle.lsys_forest.specs.Groves.{Grove, In, IsLive, IsSound, now_of, changes_in}
+use Rattle.lsys_forest.specs.Nodes.{Node}
+use Rattle.lsys_forest.specs.Groves.{In, IsLive, IsSound, changes_in}
 use Rattle.lsys_forest.specs.Rows.{complete_levels, level_nodes, place_of_node}
 use Rattle.lsys_forest.proofs.RowLemmas.{In_append, In_left, In_right, level_depth}
 use Rattle.lsys_forest.proofs.SoundLemmas.{AreSound-now, AreSound-then}
 use Rattle.lsys_kept.specs.Lineages.{kin_of, names}
-use Rattle.lsys_kept.specs.Levels.{answer_at, HasRead}
-use Rattle.lsys_seats.specs.declared.seat.Seat.{Seat}
-use Rattle.lsys_seats.specs.Neighbours.{level_around, neighbours_in}
+use Rattle.lsys_kept.specs.Levels.{answer_at}
+use Rattle.lsys_seats.specs.Neighbours.{level_around}
 use Rattle.lsys_seats.specs.Seats.{HasSeat}
 use Rattle.lsys_seats.specs.Standings.{seen_at}
 use Rattle.lsys_seats.proofs.LevelLemmas.{got_in, place_in}
 use Rattle.lsys_next.proofs.Depths.{on_level}
-use Rattle.lsys_candidates.specs.Repairs.{Repair, SteppingSpots, were, are}
-use Rattle.lsys_candidates.specs.Repairs as R
+use Rattle.lsys_candidates.specs.Repairs.{were}
 use Rattle.lsys_candidates.specs.Candidates.{AsksOn}
-use Rattle.lsys_candidates.specs.Finds.{IsBeside, IsReader}
-use Rattle.lsys_candidates.specs.Found.{IsOther, IsAmong, HasOtherRules, SteppingNodes, AreAnswersRight}
+use Rattle.lsys_candidates.specs.Finds.{IsBeside}
+use Rattle.lsys_candidates.specs.Found.{IsOther, IsAmong, SteppingNodes, AreAnswersRight}
 use Rattle.lsys_candidates.specs.Asks.{AddsOf}
 use Rattle.lsys_candidates.specs.Others.{RulesOf, are_alike, AreAllAlike, IsOtherwise}
 use Rattle.lsys_candidates.proofs.Alike.{alike_is}

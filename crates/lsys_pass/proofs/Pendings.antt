@@ -1,16 +1,15 @@
 -- The nodes that are pending on a level where some lost their answers.
-use Rattle.std.proofs.Common.{◌≡◌, ◌⊎◌, ◌↔◌, ◌<◌, ◌≤◌, ◌+◌, ◌^◌, ◌++◌, ℕ, List, length, Some, None, refl, sym, ap, ◌∙◌, subst, inl, inr, arith}
+use Rattle.std.proofs.Common.{◌≡◌, ◌⊎◌, ◌↔◌, ◌<◌, ◌^◌, ◌++◌, ℕ, List, length, Some, refl, sym, ap, ◌∙◌, subst, inl, inr, arith}
 use Rattle.std.specs.Prelude.{slice_get}
 use Rattle.std.proofs.lemmas.Bool.{cases_lt}
 use Rattle.lsys_spec.specs.Systems.{System}
 use Rattle.lsys_match.specs.Kept.{Kept}
 use Rattle.lsys_forest.specs.Groves.{Grove, In, AreApart, AreSound, IsLive, IsSound, now_of, changes_in}
 use Rattle.lsys_forest.specs.Rows.{complete_levels}
-use Rattle.lsys_kept.specs.Levels.{answer_at}
 use Rattle.lsys_kept.specs.Meant.{IsCandidate}
 use Rattle.lsys_seats.specs.declared.seat.Seat.{Seat}
 use Rattle.lsys_seats.specs.Seats.{HasSeat, SameSeats, KeepsSeats}
-use Rattle.lsys_seats.proofs.LevelLemmas.{got_in, place_in}
+use Rattle.lsys_seats.proofs.LevelLemmas.{place_in}
 use Rattle.lsys_candidates.specs.Repairs.{Repair, are}
 use Rattle.lsys_candidates.specs.Candidates.{AsksOn, HasQuestion, IsCandidateNode}
 use Rattle.lsys_candidates.specs.Asks.{AreInOrder}

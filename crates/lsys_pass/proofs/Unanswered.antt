@@ -1,5 +1,5 @@
 -- A level on which nodes lost the answers that they have no question for.
-use Rattle.std.proofs.Common.{◌≡◌, ◌⊎◌, ◌↔◌, ◌<◌, ◌≤◌, ◌+◌, ◌^◌, ℕ, false, List, [], ◌∷◌, ◌++◌, length, take, drop, Option, Some, None, Ok, refl, sym, ap, ◌∙◌, subst, inl, inr, arith}
+use Rattle.std.proofs.Common.{◌≡◌, ◌⊎◌, ◌<◌, ◌≤◌, ◌+◌, ◌^◌, ℕ, false, List, ◌++◌, Option, Some, None, refl, sym, ap, ◌∙◌, subst, inl, inr, arith}
 use Rattle.std.specs.Prelude.{IsSome, option_map, slice_get}
 use Rattle.std.specs.Option.{option_and_then}
 use Rattle.std.proofs.Math.Path.{fun_ext}
@@ -20,9 +20,9 @@ use Rattle.lsys_kept.specs.Levels.{AnsweredAt, HaveLevels, answer_at}
 use Rattle.lsys_kept.specs.Meant.{meant, meant_to}
 use Rattle.lsys_seats.specs.declared.seat.Seat.{Seat}
 use Rattle.lsys_seats.specs.Neighbours.{neighbours_on}
-use Rattle.lsys_seats.specs.Seats.{neighbours_at, is_marked, HasSeat, SameSeats, KeepsSeats}
+use Rattle.lsys_seats.specs.Seats.{is_marked, SameSeats, KeepsSeats}
 use Rattle.lsys_seats.specs.Standings.{seen_at}
-use Rattle.lsys_candidates.specs.Repairs.{Repair, SteppingSpots, were, are}
+use Rattle.lsys_candidates.specs.Repairs.{SteppingSpots, were}
 use Rattle.lsys_candidates.specs.Candidates.{AsksOn}
 use Rattle.lsys_candidates.proofs.Spots.{is_in}
 use Rattle.lsys_front.specs.Fronts.{Differences, IsFront}
@@ -36,7 +36,7 @@ use Rattle.lsys_pass.specs.Passes as P
 use Rattle.lsys_pass.specs.Fresh.{row_of, Goes, HasListsBefore, HasFound}
 use Rattle.lsys_pass.specs.Others.{IsOthers}
 use Rattle.lsys_pass.proofs.Alike.{AreAlike, IsFrom, nodes_alike, spots_alike, have_alike, neighbours_alike}
-use Rattle.lsys_pass.proofs.Askings.{sound_now, sound_was, row_seats, answer_was_on, lost_row, must_lose}
+use Rattle.lsys_pass.proofs.Askings.{sound_now, answer_was_on, lost_row, must_lose}
 use Rattle.lsys_pass.proofs.Failing.{stored_less, still_failed}
 use Rattle.lsys_pass.proofs.Fronting.{KeepsNodes, front_loses}
 

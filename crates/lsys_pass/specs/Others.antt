@@ -10,8 +10,8 @@ use Rattle.lsys_pass.specs.Fresh.{row_of}
 abbrev pub rules_of : PassView → ℕ → RulesOf
 rules_of v t = record { old = v.system; new = v.next; level = t }
 
--- Of the nodes of level t these are asked, whatever else differs: all of them, where there were no questions on it at the last
--- rest; else those that are modules with other rules.
+-- Of level t these nodes may have another question, whatever else differs: all of them, where the
+-- last rest had no questions there; else those that are modules with other rules.
 pub record IsOthers (v : PassView) (t : ℕ) (others : List ℕ) : Type 0 where
   pub all : v.system.depth ≤ t → others ≡ row_of v t
   pub unlike : t < v.system.depth → (k : ℕ) → In k others

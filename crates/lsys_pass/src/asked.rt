@@ -21,8 +21,8 @@ impl<L: Ledger> Pass<L> {
     /// Tells which nodes of a level are to be asked: those whose question may be another one than at the last rest. Nodes that
     /// have no question any more lose their answers, and are dropped.
     ///
-    /// It costs steps by the nodes that differ or were found, and by those with other rules; where there are any of those, also
-    /// by the nodes of the level.
+    /// It costs steps by the number of rules and by the nodes that differ or were found; and by all nodes of the level, where it
+    /// has other rules than at the last rest, or had no questions then.
     ///
     /// # Errors
     ///
@@ -69,8 +69,8 @@ impl<L: Ledger> Pass<L> {
     /// The nodes of a level that are modules with other rules than at the last rest; all of its nodes, where there were no
     /// questions on it then.
     ///
-    /// Where all rules of the level are the same it costs steps by the number of rules alone, and else by the nodes of the level
-    /// too.
+    /// Where all rules of the level are the same it costs steps by the number of rules alone; else also by the nodes of the
+    /// level.
     ///
     /// # Errors
     ///

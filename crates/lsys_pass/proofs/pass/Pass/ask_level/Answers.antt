@@ -1,4 +1,4 @@
-use Rattle.std.proofs.Common.{◌≡◌, ◌∙◌, ◌<◌, ◌≤◌, ◌↔◌, ◌^◌, ℕ, List, [], ◌++◌, length, refl, sym, ap, subst, arith}
+use Rattle.std.proofs.Common.{◌∙◌, refl, ap}
 use Rattle.lsys_pass.specs.Passes.{PassView}
 use Rattle.lsys_pass.proofs.Unanswered.{after_failed}
 use Rattle.lsys_pass.proofs.Pendings.{complete_at, lives_at, together_at, seats_at, rows_at, goes_at, asked_at}

@@ -1,10 +1,9 @@
-use Rattle.std.proofs.Common.{◌≡◌, ◌∙◌, ◌<◌, ◌≤◌, ℕ, List, [], ◌++◌, refl, sym, ap, subst, arith}
+use Rattle.std.proofs.Common.{◌∙◌, ◌<◌, ap, subst, arith}
 use Rattle.lsys_spec.specs.Systems.{System}
 use Rattle.lsys_forest.specs.Groves.{In}
-use Rattle.lsys_candidates.specs.Others.{RulesOf}
 use Rattle.lsys_pass.specs.Passes.{PassView}
-use Rattle.lsys_pass.specs.Others.{rules_of, IsOthers}
-use Rattle.lsys_pass.proofs.Askings.{row_lives, others_all, others_none, others_some}
+use Rattle.lsys_pass.specs.Others.{IsOthers}
+use Rattle.lsys_pass.proofs.Askings.{row_lives, others_none, others_some}
 use Rattle.lsys_pass.proofs.pass.Pass.find_others.Goals as goal
 use Rattle.lsys_pass.proofs.pass.Pass.find_others.Goals.{then-not-branch+in_ok-list_level-2+in_ok-add_others, else-not-branch}
 
