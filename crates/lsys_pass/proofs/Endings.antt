@@ -1,0 +1,2 @@
+-- The last level.
+use Rattle.std.proofs.Common.{◌≡◌}
