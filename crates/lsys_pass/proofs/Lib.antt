@@ -30,4 +30,5 @@ pub mod Closedness
 pub mod SizesTold
 pub mod Repairing
 pub mod Failing
+pub mod Ended
 pub mod Endings
