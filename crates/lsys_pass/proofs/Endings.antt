@@ -1,6 +1,6 @@
 -- A level that becomes the last one.
-use Rattle.std.proofs.Common.{◌≡◌, ◌⊎◌, ◌+◌, ◌-◌, ◌<◌, ◌≤◌, ◌^◌, ℕ, zero, suc, List, [], ◌∷◌, ◌++◌, length, map, Option, Some, None, Ok, refl, sym, ap, ◌∙◌, subst, inl, inr, arith, slice_get, append-nil}
-use Rattle.std.specs.Prelude.{IsSome, option_map}
+use Rattle.std.proofs.Common.{◌≡◌, ◌⊎◌, ◌+◌, ◌-◌, ◌<◌, ◌≤◌, ◌^◌, ℕ, zero, suc, List, [], ◌∷◌, ◌++◌, length, map, Option, Some, None, Result, Ok, Err, refl, sym, ap, ◌∙◌, subst, inl, inr, arith, slice_get, append-nil}
+use Rattle.std.specs.Prelude.{IsSome, OnOk, option_map}
 use Rattle.std.specs.Option.{option_and_then}
 use Rattle.std.proofs.Math.Path.{fun_ext}
 use Rattle.std.proofs.lemmas.Bool.{cases_lt}
@@ -14,11 +14,11 @@ use Rattle.lsys_level.specs.Spots.{Spotted, named}
 use Rattle.lsys_match.specs.Kept.{Kept}
 use Rattle.lsys_forest.specs.Nodes.{Node, Nodes}
 use Rattle.lsys_forest.specs.Changes.{Change}
-use Rattle.lsys_forest.specs.Groves.{Grove, In, AreApart, IsSound, ReachedIn, Reached, now_of, rest_of, changes_in}
-use Rattle.lsys_forest.specs.Rows.{first_in, kids_below, level_nodes, level_spots}
+use Rattle.lsys_forest.specs.Groves.{Grove, In, AreApart, AreSound, IsSound, IsLive, ReachedIn, Reached, now_of, rest_of, changes_in}
+use Rattle.lsys_forest.specs.Rows.{first_in, kids_below, level_nodes, level_spots, complete_levels}
 use Rattle.lsys_forest.proofs.RowLemmas.{In_append, In_left, In_right, apart_append, level_depth, level_apart}
 use Rattle.lsys_forest.proofs.SoundLemmas.{AreSound-now, AreSound-then}
-use Rattle.lsys_forest.proofs.WalkLemmas.{get_In}
+use Rattle.lsys_forest.proofs.ViewLemmas.{are_told}
 use Rattle.lsys_kept.specs.Lineages.{kin_of, kins}
 use Rattle.lsys_kept.specs.Levels.{HaveLevels, answer_at}
 use Rattle.lsys_kept.specs.Meant.{meant, meant_to}
@@ -32,6 +32,8 @@ use Rattle.lsys_front.specs.Ends.{ended, AreEnded, is_answered, answered_in, row
 use Rattle.lsys_front.specs.LastLevels.{IsEnded, IsBehindAll, IsLastLevel, HadAnswerBehind, HasAllBehind, all_below}
 use Rattle.lsys_front.proofs.RowsBelow.{filter_in, in_filter, filter_apart, answered, is_answered_by}
 use Rattle.lsys_front.proofs.LastLevels.{is_ended, is_bare, has_behind}
+use Rattle.lsys_front.specs.Losses.{LosesOnly}
+use Rattle.lsys_pass.specs.declared.state.PassState.TheVariants.{Failed}
 use Rattle.lsys_pass.specs.Lasts.{dropped_at_end}
 use Rattle.lsys_pass.specs.Rests.{IsResting}
 use Rattle.lsys_pass.specs.Stages.{Stage, Rests}
@@ -41,6 +43,7 @@ use Rattle.lsys_pass.specs.Fresh.{row_of, Goes, HasListsBefore, HasFound, IsLast
 use Rattle.lsys_pass.proofs.Backing.{rests_at}
 use Rattle.lsys_pass.proofs.Before.{reached_on, no_more, count_is, is_below, placed, answer_lives}
 use Rattle.lsys_pass.proofs.Closing.{on_reached}
+use Rattle.lsys_pass.proofs.Failing.{still_failed, stored_less}
 
 -- 1. the level ends
 
@@ -96,7 +99,7 @@ module _ (r : Repair) (c : LevelChanges) (f : Grove Kept) (l : IsLastLevel r c) 
         (filter_apart (is_answered (R.now r)) (are r) (level_apart (R.root r) (changes_in r.forest) (R.now r) sound r.level)) (all.answers_once (r.old.depth - r.level))
         (λ k i j. all.unreached (r.old.depth - r.level) k (filter_in (is_answered m) rows k j).0 (reached_here k (filter_in (is_answered (R.now r)) (are r) k i).0));
     dropped = λ k i. elim (In_append (answered_in (R.now r) (are r)) (answered_in m rows) k i) [
-      | inl a ↦ let q = filter_in (is_answered (R.now r)) (are r) k a in inl (q.0, answered (R.now r) k q.1)
+      | inl a ↦ let q = filter_in (is_answered (R.now r)) (are r) k a in let a = answered (R.now r) k q.1 in inl (q.0, a.0, a.1)
       | inr b ↦ inr ((all.answers k).0 b, all.unreached (r.old.depth - r.level) k (filter_in (is_answered m) rows k b).0)
     ];
     here = λ k a i is. In_left k (answered_in (R.now r) (are r)) (answered_in m rows) (in_filter (is_answered (R.now r)) (are r) k i (is_answered_by (R.now r) k a is));
@@ -218,7 +221,7 @@ module _ (v : PassView) (t : ℕ) (beside readers : List ℕ) (h : IsPass v) (fo
 
     dropped_two : (k : ℕ) → In k v.dropped → In k more → ⊥
     dropped_two k i j = elim (x.dropped k j) [
-      | inl q ↦ none-some q.1.0 (sym (found.lists.dropped_none k t i (omega arith) q.0) ∙ q.1.1)
+      | inl q ↦ none-some q.1 (sym (found.lists.dropped_none k t i (omega arith) q.0) ∙ q.2)
       | inr q ↦ (
           let d = found.dropped k i in
           let same : d.0 ≡ q.0.level = one_was d.0 q.0.level k d.2 q.0.there in
@@ -232,7 +235,7 @@ module _ (v : PassView) (t : ℕ) (beside readers : List ℕ) (h : IsPass v) (fo
     dropped_had k i none = elim (each_in k i) [
       | inl j ↦ found.lists.dropped_had k j (sym (was_same k) ∙ none)
       | inr j ↦ elim (x.dropped k j) [
-        | inl q ↦ none-some q.1.0 (sym none ∙ was_same k ∙ sym (found.made.answers k q.0) ∙ q.1.1)
+        | inl q ↦ none-some q.1 (sym none ∙ was_same k ∙ sym (found.made.answers k q.0) ∙ q.2)
         | inr q ↦ none-some q.0.answer (sym none ∙ was_same k ∙ q.0.kept)
       ]
     ]
@@ -396,3 +399,79 @@ module _ (v : PassView) (t : ℕ) (beside readers : List ℕ) (h : IsPass v) (fo
         ends = ends_at;
         room = λ k n e. let p = x.lived k n e in found.made.room k p.0 p.1;
       }
+
+-- 6. as another view of the pass tells it
+
+pub both_ok : {T E P Q R : Type 0} (r : Result T E) → (P → Q → R) → OnOk r P → OnOk r Q → OnOk r R
+both_ok (Ok x) f p q = f p q
+both_ok (Err e) f p q = tt
+
+some_kin : (o : Option (Node Kept)) (x : Kin) → option_map (λ (n : Node Kept). kin_of n) o ≡ Some x → IsSome o
+some_kin None x e = absurd (none-some x e)
+some_kin (Some n) x e = refl
+
+-- the level became the last one
+pub record ComesToEnd (v v' : PassView) (t : ℕ) : Type 0 where
+  pub last : IsLast v' t
+  pub goes : Goes (stage_of v) (stage_of v') t
+  pub rows : (u : ℕ) → u ≤ t → row_of v' u ≡ row_of v u
+
+module _ (w v : PassView) (same : w ≡ v) (h : IsPass w) (t : ℕ) (small : t < 2 ^ 32) (need : (beside : List ℕ) × (readers : List ℕ) × HasFound v t beside readers) where
+  found_by : HasFound w t need.0 need.1
+  found_by = subst (λ z. HasFound z t need.0 need.1) (sym same) need.2
+
+  depth_by : v.next.depth ≡ t → w.next.depth ≡ t
+  depth_by depth = ap (λ (z : PassView). z.next.depth) same ∙ depth
+
+  pub complete : t < length (complete_levels w.forest)
+  complete =
+      are_told w.forest t small
+      (λ u l. found_by.made.spots.new_levels.balanced u (let c = level_count w.next w.limit t (meant_to w.next w.limit t) found_by.made.spots.new_spelled found_by.made.spots.new_is in omega (arith, c, l)))
+
+  -- a node that is gone from the level lives
+  pub gone_live : (gone : List ℕ) → gone ≡ w.front.changes.gone → (k : ℕ) → In k gone → IsLive w.forest k
+  gone_live gone is k i =
+      let on = ((found_by.front.differs.gone k).0 (subst (In k) is i)).0 in
+      let p = level_depth w.forest.root [] (was w) (sound_was w t need.0 need.1 h found_by) t k on in
+      some_kin (now w k) (kin_of p.0) (found_by.made.spots.stay k (kin_of p.0) (ap (option_map (λ (n : Node Kept). kin_of n)) p.1))
+
+  pub bare_last : w.system.depth ≤ t → v.next.depth ≡ t → IsLast v t
+  bare_last l depth =
+      subst (λ z. IsLast z t) same
+      (is_last w t need.0 need.1 h found_by w.forest [] w.dropped (ends_bare (repair_of w t) found_by.made.spots (is_behind w t need.0 need.1 h found_by l)) (sym (append-nil w.dropped)) (depth_by depth) small)
+
+  module _ (f : Grove Kept) (ds : List ℕ) (loses : LosesOnly w.forest f) where
+    pub failed_still : v.state ≡ Failed → AreSound f.root (changes_in f) (now_of f) → IsPass (record w { forest = f; dropped = ds })
+    failed_still state sound = still_failed w (record w { forest = f; dropped = ds }) h (record {
+      failed = ap (λ (z : PassView). z.state) same ∙ state;
+      stored = stored_less w.forest f w.store sound loses h.stored;
+      few = let a = h.few in let b = loses.live in omega (arith, a, b);
+      unmarked = h.unmarked;
+      answers = refl;
+      sizes = refl;
+      run = record { system = refl; limit = refl; root = loses.root; was = loses.rest; store = refl; reads = refl; renewed = refl; born = refl; same_seats = λ k. refl };
+      seats = λ k has. has;
+    })
+
+    pub comes_to_end : (gone : List ℕ) (levels : ℕ) → gone ≡ w.front.changes.gone → levels ≡ w.system.depth - t → v.next.depth ≡ t → AreEnded (now w) (now_of f) (row_of w t)
+        → ds ≡ w.dropped ++ dropped_at_end (now w) (now_of f) (row_of w t) gone levels → ComesToEnd v (record w { forest = f; dropped = ds }) t
+    comes_to_end gone levels is behind depth e lists =
+        subst (λ z. ComesToEnd z (record w { forest = f; dropped = ds }) t) same (record {
+          last = is_last w t need.0 need.1 h found_by f more ds x more_are (depth_by depth) small;
+          goes = goes w t need.0 need.1 h found_by f more ds x more_are;
+          rows = rows_stay w t need.0 need.1 h found_by f more ds x more_are;
+        })
+      where
+        l : IsLastLevel (repair_of w t) w.front.changes
+        l = is_last_level w t need.0 need.1 h found_by
+
+        more : List ℕ
+        more = dropped_at_end (now w) (now_of f) (row_of w t) gone levels
+
+        x : EndsBy (repair_of w t) f more
+        x =
+            subst (EndsBy (repair_of w t) f)
+            (sym (ap (λ (ks : List ℕ). dropped_at_end (now w) (now_of f) (row_of w t) ks levels) is ∙ dropped_are (repair_of w t) w.front.changes f l e levels behind)) (ends_by (repair_of w t) w.front.changes f l e loses.root loses.rest)
+
+        more_are : ds ≡ w.dropped ++ more
+        more_are = lists
