@@ -1,4 +1,4 @@
-use Rattle.std.proofs.Common.{◌≡◌, ◌^◌, ◌<◌, ap, refl, sym, ◌∙◌, arith}
+use Rattle.std.proofs.Common.{arith}
 use Rattle.lsys_pass.proofs.Endings.{both_ok, complete, gone_live, bare_last, failed_still, comes_to_end}
 use Rattle.lsys_pass.proofs.pass.Pass.end_levels.Goals as goal
 
