@@ -13,7 +13,6 @@ use Rattle.lsys_change.proofs.UpTo.{level_count}
 use Rattle.lsys_level.specs.Spots.{Spotted, named}
 use Rattle.lsys_match.specs.Kept.{Kept}
 use Rattle.lsys_forest.specs.Nodes.{Node, Nodes}
-use Rattle.lsys_forest.specs.Changes.{Change}
 use Rattle.lsys_forest.specs.Groves.{Grove, In, AreApart, AreSound, IsSound, IsLive, ReachedIn, Reached, now_of, rest_of, changes_in}
 use Rattle.lsys_forest.specs.Rows.{first_in, kids_below, level_nodes, level_spots, complete_levels}
 use Rattle.lsys_forest.proofs.RowLemmas.{In_append, In_left, In_right, apart_append, level_depth, level_apart}
@@ -35,10 +34,9 @@ use Rattle.lsys_front.proofs.LastLevels.{is_ended, is_bare, has_behind}
 use Rattle.lsys_front.specs.Losses.{LosesOnly}
 use Rattle.lsys_pass.specs.declared.state.PassState.TheVariants.{Failed}
 use Rattle.lsys_pass.specs.Lasts.{dropped_at_end}
-use Rattle.lsys_pass.specs.Rests.{IsResting}
 use Rattle.lsys_pass.specs.Stages.{Stage, Rests}
-use Rattle.lsys_pass.specs.Advances.{KeepsRest, StaysAbove, Ends}
-use Rattle.lsys_pass.specs.Passes.{PassView, stage_of, now, was, repair_of, AllHaveSeats, IsPass}
+use Rattle.lsys_pass.specs.Advances.{KeepsRest, Ends}
+use Rattle.lsys_pass.specs.Passes.{PassView, stage_of, now, was, repair_of, IsPass}
 use Rattle.lsys_pass.specs.Fresh.{row_of, Goes, HasListsBefore, HasFound, IsLast}
 use Rattle.lsys_pass.proofs.Backing.{rests_at}
 use Rattle.lsys_pass.proofs.Before.{reached_on, no_more, count_is, is_below, placed, answer_lives}

@@ -1,4 +1,4 @@
-use Rattle.std.proofs.Common.{arith}
+use Rattle.std.proofs.Common.{◌-◌, arith}
 use Rattle.lsys_pass.proofs.Endings.{both_ok, complete, gone_live, bare_last, failed_still, comes_to_end}
 use Rattle.lsys_pass.proofs.pass.Pass.end_levels.Goals as goal
 
@@ -22,16 +22,16 @@ pub returns-clause-last : goal.returns-clause-last
 returns-clause-last g c =
     both_ok c.end_forest-ended.result
     (λ e d. (comes_to_end _ _ c.self.view_is c.self.invariant c.args.level c.ranges.level.fits c.requires.found c.end_forest-ended.new.forest c.end_forest-ended.new.dropped.items c.end_forest-ended.ensures.loses
-    c.gone_nodes.result.now _ c.gone_nodes.ensures (let n = c.depth-depth.ensures.depth in omega (arith, n)) c.requires.last e d).last) c.end_forest-ended.ensures.ended c.end_forest-ended.ensures.dropped
+    c.gone_nodes.result.now (c.depth-depth.result - c.args.level) c.gone_nodes.ensures (let n = c.depth-depth.ensures.depth in omega (arith, n)) c.requires.last e d).last) c.end_forest-ended.ensures.ended c.end_forest-ended.ensures.dropped
 
 pub returns-clause-goes : goal.returns-clause-goes
 returns-clause-goes g c =
     both_ok c.end_forest-ended.result
     (λ e d. (comes_to_end _ _ c.self.view_is c.self.invariant c.args.level c.ranges.level.fits c.requires.found c.end_forest-ended.new.forest c.end_forest-ended.new.dropped.items c.end_forest-ended.ensures.loses
-    c.gone_nodes.result.now _ c.gone_nodes.ensures (let n = c.depth-depth.ensures.depth in omega (arith, n)) c.requires.last e d).goes) c.end_forest-ended.ensures.ended c.end_forest-ended.ensures.dropped
+    c.gone_nodes.result.now (c.depth-depth.result - c.args.level) c.gone_nodes.ensures (let n = c.depth-depth.ensures.depth in omega (arith, n)) c.requires.last e d).goes) c.end_forest-ended.ensures.ended c.end_forest-ended.ensures.dropped
 
 pub returns-clause-rows : goal.returns-clause-rows
 returns-clause-rows g c =
     both_ok c.end_forest-ended.result
     (λ e d. (comes_to_end _ _ c.self.view_is c.self.invariant c.args.level c.ranges.level.fits c.requires.found c.end_forest-ended.new.forest c.end_forest-ended.new.dropped.items c.end_forest-ended.ensures.loses
-    c.gone_nodes.result.now _ c.gone_nodes.ensures (let n = c.depth-depth.ensures.depth in omega (arith, n)) c.requires.last e d).rows) c.end_forest-ended.ensures.ended c.end_forest-ended.ensures.dropped
+    c.gone_nodes.result.now (c.depth-depth.result - c.args.level) c.gone_nodes.ensures (let n = c.depth-depth.ensures.depth in omega (arith, n)) c.requires.last e d).rows) c.end_forest-ended.ensures.ended c.end_forest-ended.ensures.dropped
