@@ -29,3 +29,6 @@ pub mod NextLengths
 pub mod Closedness
 pub mod SizesTold
 pub mod Repairing
+pub mod Failing
+pub mod Ended
+pub mod Endings
