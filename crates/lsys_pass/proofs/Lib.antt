@@ -32,3 +32,4 @@ pub mod Repairing
 pub mod Failing
 pub mod Ended
 pub mod Endings
+pub mod Turnings

@@ -15,6 +15,7 @@ mod refusal;
 mod seating;
 mod sizes;
 mod state;
+mod turning;
 mod work;
 
 pub use fault::Faulted;
