@@ -12,6 +12,7 @@ mod pass;
 mod place;
 mod read;
 mod refusal;
+mod room;
 mod seating;
 mod sizes;
 mod state;
