@@ -11,4 +11,5 @@ pub mod Leftmost
 pub mod Fresh
 pub mod Others
 pub mod Sizes
+pub mod Lasts
 pub mod Beginnings

@@ -5,6 +5,7 @@
 #![tactic(auto)]
 
 mod asked;
+mod ending;
 mod fault;
 mod keep;
 mod outcome;
