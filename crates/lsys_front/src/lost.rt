@@ -70,7 +70,7 @@ impl Front {
 }
 
 /// The nodes of a forest hang together under the root, and did so at any time since the last rest.
-fn law_of_forests<A: Kept>(forest: &Forest<A>)
+pub fn law_of_forests<A: Kept>(forest: &Forest<A>)
     ensures { AreSound forest.now.root (changes_in forest.now) (now_of forest.now) }
 {
     forest.root();
