@@ -1,6 +1,7 @@
 -- A parent among others.
-use Rattle.std.proofs.Common.{◌≡◌, ◌+◌, ◌≤◌, ℕ, zero, suc, List, [], ◌∷◌, ◌++◌, Option, Some, take, drop, length, refl, sym, ap, ◌∙◌, subst, arith, inl, inr, slice_get, if◌then◌else◌}
+use Rattle.std.proofs.Common.{◌≡◌, ◌+◌, ◌≤◌, ℕ, zero, suc, List, [], ◌∷◌, ◌++◌, Option, Some, take, drop, length, refl, sym, ap, ◌∙◌, subst, arith, inl, inr, slice_get, sum_by, if◌then◌else◌}
 use Rattle.std.specs.Prelude.{IsSome, nat_eq}
+use Rattle.std.proofs.lemmas.List.Sums.{sum_by-cons}
 use Rattle.std.proofs.lemmas.Option.{none-some, same_Some}
 use Rattle.lsys_spec.specs.Draws.{number_base}
 use Rattle.lsys_forest.specs.Nodes.{Nodes}
@@ -31,6 +32,13 @@ drop_at xs i x e = at_suc xs i x e ∙ ap (λ n. x ∷ drop n xs) next
     at_suc [] (suc i) x e = absurd (none-some x e)
     at_suc (y ∷ xs) zero x e = ap (λ z. z ∷ xs) (same_Some y x e)
     at_suc (y ∷ xs) (suc i) x e = at_suc xs i x e
+
+-- the first so many have no more than all
+pub part_sum : {X : Type 0} (f : X → ℕ) (xs : List X) (i : ℕ) → sum_by f (take i xs) ≤ sum_by f xs
+part_sum f [] zero = omega arith
+part_sum f [] (suc i) = omega arith
+part_sum f (x ∷ xs) zero = omega arith
+part_sum f (x ∷ xs) (suc i) = let rest = part_sum f xs i in let a = sum_by-cons f x (take i xs) in let b = sum_by-cons f x xs in omega (arith, rest, a, b)
 
 pub drop_end : {X : Type 0} (xs : List X) (i : ℕ) → length xs ≤ i → drop i xs ≡ []
 drop_end [] zero l = refl
