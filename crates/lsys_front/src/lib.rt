@@ -9,6 +9,7 @@ mod front;
 mod law;
 mod looks;
 mod lost;
+mod next;
 mod parents;
 
 pub use asks::{Found, law_of_levels_to_ask, law_of_pending};
