@@ -29,3 +29,5 @@ pub mod NextLengths
 pub mod Closedness
 pub mod SizesTold
 pub mod Repairing
+pub mod Failing
+pub mod Turnings

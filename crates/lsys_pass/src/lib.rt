@@ -14,6 +14,7 @@ mod refusal;
 mod seating;
 mod sizes;
 mod state;
+mod turning;
 mod work;
 
 pub use fault::Faulted;

@@ -35,17 +35,17 @@ use std::sync::ledger::Ledger;
 /// A forest with the levels of a system, which an edit makes those of another system, level by level.
 #[derive(Drop)]
 pub struct Pass<L: Ledger> {
-    forest: Forest<KeptAnswer<L>>,
-    store: AnswerStore,
-    reads: Reads,
-    seats: Seats,
-    sizes: Sizes,
-    system: System,
-    next: Option<System>,
-    limit: u32,
-    state: PassState,
-    answers: usize,
-    work: Work,
+    pub(crate) forest: Forest<KeptAnswer<L>>,
+    pub(crate) store: AnswerStore,
+    pub(crate) reads: Reads,
+    pub(crate) seats: Seats,
+    pub(crate) sizes: Sizes,
+    pub(crate) system: System,
+    pub(crate) next: Option<System>,
+    pub(crate) limit: u32,
+    pub(crate) state: PassState,
+    pub(crate) answers: usize,
+    pub(crate) work: Work,
 }
 
 impl<L: Ledger> Model for Pass<L> {
@@ -116,11 +116,14 @@ impl<L: Ledger> Pass<L> {
         ensures system { IfOk result (λ p. p.system ≡ opening) }
         ensures limit { IfOk result (λ p. p.limit ≡ limit) }
     {
+        let forest = Forest::new(alloc)?;
+        let mut seats = Seats::new(alloc);
+        seats.make_room(forest.root())?;
         Ok(Pass {
-            forest: Forest::new(alloc)?,
+            forest,
             store: AnswerStore::new(alloc),
             reads: Reads::new(alloc),
-            seats: Seats::new(alloc),
+            seats,
             sizes: Sizes::new(alloc),
             system: System::opening(alloc)?,
             next: None,
