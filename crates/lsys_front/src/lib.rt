@@ -5,6 +5,7 @@
 mod asks;
 mod differences;
 mod ends;
+mod first;
 mod front;
 mod law;
 mod looks;

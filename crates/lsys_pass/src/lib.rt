@@ -11,6 +11,7 @@ mod pass;
 mod place;
 mod read;
 mod refusal;
+mod room;
 mod seating;
 mod sizes;
 mod state;
