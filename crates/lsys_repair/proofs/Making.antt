@@ -2,8 +2,7 @@
 use Rattle.std.proofs.Common.{◌≡◌, ◌⊎◌, ◌+◌, ◌<◌, ◌≤◌, ℕ, List, [], ◌∷◌, ◌++◌, Option, Some, None, map, take, drop, length, refl, sym, ap, ◌∙◌, subst, arith, inl, inr, slice_get, sum_by, append_assoc, append-nil}
 use Rattle.std.specs.Prelude.{ℤ, cond, not, if◌then◌else◌}
 use Rattle.std.specs.Option.{option_and_then}
-use Rattle.std.proofs.lemmas.Bool.{cases_eq}
-use Rattle.std.proofs.lemmas.Option.{none-some, same_Some}
+use Rattle.std.proofs.lemmas.Option.{same_Some}
 use Rattle.std.proofs.lemmas.List.Sums.{sum_by-cons, sum_by_push}
 use Rattle.lsys_syntax.specs.Commands.{Numbering}
 use Rattle.lsys_syntax.specs.Strings as S
@@ -24,16 +23,16 @@ use Rattle.lsys_wanted.specs.Wishes.{AreWanted}
 use Rattle.lsys_next.specs.Nexts.{Successors, wanted_count}
 use Rattle.lsys_next.specs.Renewals.{AreRenewals}
 use Rattle.lsys_next.specs.Answers.{kept_successor, kept_successors}
-use Rattle.lsys_next.proofs.Renewing.{in_cases, begins, goes_on, parent_stays}
+use Rattle.lsys_next.proofs.Renewing.{begins, goes_on, parent_stays}
 use Rattle.lsys_next.proofs.Lengths.{made_count}
 use Rattle.lsys_next.proofs.Wants.{all_made}
 use Rattle.lsys_next.proofs.Walks.{kids_stay}
 use Rattle.lsys_repair.specs.declared.parent.Parent.{Parent}
 use Rattle.lsys_repair.specs.Parents.{nodes_in, wants, AreToldBy, AreParents, HasParents}
 use Rattle.lsys_repair.specs.Needs.{number_told, wanted_symbols, need_for, need_at_parent, needs}
-use Rattle.lsys_repair.specs.Made.{IsBelow, IsRenewed, TellsAllOf, gone_at, gone_of}
+use Rattle.lsys_repair.specs.Made.{IsRenewed, TellsAllOf, gone_at, gone_of}
 use Rattle.lsys_repair.proofs.Needs.{numbers_wanted}
-use Rattle.lsys_repair.proofs.Telling.{where_same, none_told, self_stays, told_more}
+use Rattle.lsys_repair.proofs.Telling.{where_same, none_told, told_more}
 use Rattle.lsys_repair.proofs.Among.{among, drop_at, not_done, done_push, told_at, look, look_told}
 
 -- The children of the first so many were made, and there is room for those of the others.
@@ -44,7 +43,6 @@ pub record AreMadeSoFar (g : Numbering) (old now : Grove Kept) (before told : To
   pub spends : SpendsNeed old now (needs g (now_of old) (take i ps))
   pub tells : TellsAllOf (now_of old) (now_of now) (mirrored (nodes_in (take i ps))) before told
   pub gone : told.gone ≡ before.gone ++ gone_of g (now_of old) (take i ps)
-  pub born : (k : ℕ) (x : Node Kept) → now_of now k ≡ Some x → now_of old k ≡ None → IsBelow (now_of now) (mirrored (nodes_in (take i ps))) k
 
 pub none_made : (g : Numbering) (old : Grove Kept) (told : Told) (ps : List Parent) → HasRoomFor old told (needs g (now_of old) ps) → AreMadeSoFar g old old told told ps 0
 none_made g old told ps room = record {
@@ -53,7 +51,6 @@ none_made g old told ps room = record {
   spends = spends_none old;
   tells = none_told (now_of old) told;
   gone = sym (append-nil told.gone);
-  born = λ k x e f. absurd (none-some x (sym f ∙ e));
 }
 
 gone_push : (g : Numbering) (m : Nodes Kept) (ps : List Parent) (p : Parent) → gone_of g m (ps ++ p ∷ []) ≡ gone_of g m ps ++ gone_at g m p
@@ -191,22 +188,6 @@ module _ (g : Numbering) (old now : Grove Kept) (before told : Told) (ps : List 
         ∙ ap (λ (l : List ℕ). before.gone ++ l) (sym (gone_push g m (take i ps) p))
         ∙ ap (λ (qs : List Parent). before.gone ++ gone_of g m qs) (sym (take_next ps i p here))
 
-    -- the parents before it keep their children
-    still : (q : ℕ) → In q done → now_of new q ≡ now_of now q
-    still = self_stays g has.0 m (now_of now) (now_of new) old.root has.1 (look m ps) done (changes_in old) (changes_in now) p.node node r.children renewals sound sound_mid was is_now deep fresh kids_same r.renewed made_from
-
-    -- a node that is new is its child, or was new before and the child of a parent before it
-    born_next : (k : ℕ) (x : Node Kept) → now_of new k ≡ Some x → m k ≡ None → IsBelow (now_of new) (p.node ∷ done) k
-    born_next k x e f = elim (cases_eq k p.node) [
-      | inl own ↦ absurd (none-some node (sym f ∙ ap m own ∙ was))
-      | inr ne ↦ elim (in_cases k (kids_in (now_of new p.node))) [
-        | inl i ↦ (p.node, inl refl, i)
-        | inr out ↦
-            let b = h.born k x (sym (r.renewed.others k ne out) ∙ e) f in
-            (b.0, inr b.1, subst (λ (o : Option (Node Kept)). In k (kids_in o)) (sym (still b.0 b.1)) b.2)
-      ]
-    ]
-
     pub one_more : AreMadeSoFar g old new before after ps (i + 1)
     one_more = record {
       renewals = λ seed depth by a t. subst (λ (ks : List ℕ). AreRenewals g seed m (now_of new) old.root depth by ks) (sym done_next) (go_on seed depth by a t);
@@ -219,7 +200,6 @@ module _ (g : Numbering) (old now : Grove Kept) (before told : Told) (ps : List 
       };
       tells = subst (λ (ks : List ℕ). TellsAllOf m (now_of new) ks before after) (sym done_next) tells_next;
       gone = gone_next;
-      born = λ k x e f. subst (λ (ks : List ℕ). IsBelow (now_of new) ks k) (sym done_next) (born_next k x e f);
       spends = (let a = needs g m (take i ps) in let b = need_at_parent g m p in let c = needs g m (take (i + 1) ps) in
           spends_then old now new a.nodes a.params a.kids a.notes b.nodes b.params b.kids b.notes c.nodes c.params c.kids c.notes h.spends spent
           (let e = begun_parts (λ q. (need_at_parent g m q).nodes) in omega (arith, e)) (let e = begun_parts (λ q. (need_at_parent g m q).params) in omega (arith, e))

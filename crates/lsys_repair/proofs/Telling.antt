@@ -129,7 +129,7 @@ module _ {A : Type 0} where
     self_now : (q : ℕ) → In q done → (x : Node A) × (mid q ≡ Some x) × (x.depth ≡ depth)
     self_now q i = let y = h.parents q i in let x = alive q y.0 y.1 in (x.0, x.1, sym (ap (λ (z : Kin). z.depth) x.2) ∙ y.2)
 
-    pub self_stays : (q : ℕ) → In q done → new q ≡ mid q
+    self_stays : (q : ℕ) → In q done → new q ≡ mid q
     self_stays q i = let x = self_now q i in stays q x.0 x.1 (other_parent q i) (λ l. absurd (let d = kid_depth q x.0 x.1 l in omega (arith, x.2, d)))
 
     -- and so do its children, those that it had and those that it has

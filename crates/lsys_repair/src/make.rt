@@ -6,13 +6,13 @@ ghost use Rattle.lsys_forest.specs.Nodes.{Node};
 ghost use Rattle.lsys_forest.specs.Groves.{now_of, rest_of, changes_in, kept_in, live_nodes, IsLive, IsSound};
 ghost use Rattle.lsys_forest.specs.Rows.{mirrored};
 ghost use Rattle.lsys_reading.specs.Commands.{numbering_of};
-ghost use Rattle.lsys_brood.specs.Children.{IsNew, HasRoomFor, SpendsNeed};
+ghost use Rattle.lsys_brood.specs.Children.{HasRoomFor, SpendsNeed};
 ghost use Rattle.lsys_next.specs.Nexts.{Successors};
 ghost use Rattle.lsys_next.specs.Renewals.{AreRenewals};
 ghost use Rattle.lsys_next.specs.Answers.{kept_successors};
 ghost use Rattle.lsys_repair.specs.Parents.{nodes_in, HasParents, AreParents, AreToldBy};
 ghost use Rattle.lsys_repair.specs.Needs.{needs, need_at_parent};
-ghost use Rattle.lsys_repair.specs.Made.{IsBelow, IsRenewed, TellsAllOf, gone_of};
+ghost use Rattle.lsys_repair.specs.Made.{IsRenewed, TellsAllOf, gone_of};
 
 use crate::parent::{Parent, fill_for};
 use lsys_brood::{Brood, Changes};
@@ -23,8 +23,7 @@ use lsys_wanted::Wanted;
 use std::alloc::AllocError;
 use std::sync::ledger::Ledger;
 
-/// Makes the children of these parents, all of one depth, those that are wanted of them, and tells what differs. A node that
-/// is new is a child of one of them.
+/// Makes the children of these parents, all of one depth, those that are wanted of them, and tells what differs.
 ///
 /// # Errors
 ///
@@ -51,8 +50,6 @@ pub fn make_children<L: Ledger>(
         (mirrored (nodes_in parents.now)) changes.old changes.new) }
     ensures gone { OnOk result (changes.new.gone
         ≡ changes.old.gone ++ gone_of (numbering_of numbering) (now_of forest.old) parents.now) }
-    ensures born { OnOk result ((k : ℕ) → IsLive forest.new k → IsNew (now_of forest.old) k
-        → IsBelow (now_of forest.new) (mirrored (nodes_in parents.now)) k) }
     ensures spends { OnOk result (SpendsNeed forest.old forest.new
         (needs (numbering_of numbering) (now_of forest.old) parents.now)) }
     ensures few { live_nodes forest.new ≤ live_nodes forest.old

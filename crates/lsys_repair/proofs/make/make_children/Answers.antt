@@ -2,7 +2,6 @@ use Rattle.std.proofs.Common.{◌≡◌, List, Some, length, refl, ap, ◌∙◌
 use Rattle.std.proofs.lemmas.Option.{slice_get_read}
 use Rattle.lsys_forest.specs.Groves.{Grove, now_of, live_nodes}
 use Rattle.lsys_forest.specs.Rows.{mirrored}
-use Rattle.lsys_forest.proofs.SoundLemmas.{some_of}
 use Rattle.lsys_match.specs.Kept.{Kept}
 use Rattle.lsys_reading.specs.Commands.{numbering_of}
 use Rattle.lsys_brood.specs.Children.{SpendsNeed}
@@ -11,7 +10,7 @@ use Rattle.lsys_next.specs.Renewals.{AreRenewals}
 use Rattle.lsys_repair.specs.declared.parent.Parent.{Parent}
 use Rattle.lsys_repair.specs.Parents.{nodes_in}
 use Rattle.lsys_repair.specs.Needs.{need_at_parent, needs}
-use Rattle.lsys_repair.specs.Made.{IsBelow, TellsAllOf, gone_of}
+use Rattle.lsys_repair.specs.Made.{TellsAllOf, gone_of}
 use Rattle.lsys_repair.proofs.Among.{some_is, among, part_sum}
 use Rattle.lsys_repair.proofs.Making.{none_made, is_now, room_here, one_more, short_now}
 use Rattle.lsys_repair.proofs.make.make_children.Goals as goal
@@ -96,12 +95,6 @@ returns-in_err-make_one-clause-kept g c = c.make_one.ensures.kept ∙ c.loop-par
 
 pub returns-clause-kept : goal.returns-clause-kept
 returns-clause-kept g c = c.loop-parent.invariant.kept
-
-pub returns-clause-born : goal.returns-clause-born
-returns-clause-born g c = λ k lives new.
-    let n = some_of (now_of c.loop-parent.forest k) lives in
-    subst (λ (ps : List Parent). IsBelow (now_of c.loop-parent.forest) (mirrored (nodes_in ps)) k) (take_whole c.args.parents.now c.loop-parent.parent-index c.loop-parent-test.false)
-    (c.loop-parent.invariant.made.born k n.0 n.1 new)
 
 pub returns-clause-few : goal.returns-clause-few
 returns-clause-few g c =
