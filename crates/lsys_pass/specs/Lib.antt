@@ -11,3 +11,4 @@ pub mod Leftmost
 pub mod Fresh
 pub mod Sizes
 pub mod Beginnings
+pub mod Made

@@ -6,6 +6,7 @@
 
 mod fault;
 mod keep;
+mod level;
 mod outcome;
 mod pass;
 mod place;

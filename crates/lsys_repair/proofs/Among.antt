@@ -54,7 +54,7 @@ not_before (q ∷ ps) zero p a e h = h
 not_before (q ∷ ps) (suc i) p a e (inl h) = a.0 (subst (λ k. In k (nodes_in ps)) h (among ps i p e))
 not_before (q ∷ ps) (suc i) p a e (inr h) = not_before ps i p a.1 e h
 
-unmirrored : (ks : List ℕ) (k : ℕ) → In k (mirrored ks) → In k ks
+pub unmirrored : (ks : List ℕ) (k : ℕ) → In k (mirrored ks) → In k ks
 unmirrored [] k h = h
 unmirrored (x ∷ xs) k h = elim (rows.In_append (mirrored xs) (x ∷ []) k h) [
   | inl l ↦ inr (unmirrored xs k l)
