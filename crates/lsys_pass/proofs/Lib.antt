@@ -32,3 +32,4 @@ pub mod Repairing
 pub mod Failing
 pub mod Turnings
 pub mod Births
+pub mod Freshness

@@ -101,14 +101,7 @@ fn make_below<L: Ledger>(
 {
     let mut told = Changes::new(alloc);
     reserve_for(forest, &mut told, need)?;
-    let made = make_children(
-        forest,
-        system.lineage(),
-        parents,
-        wanted,
-        brood,
-        &mut told,
-    );
+    let made = make_children(forest, system.lineage(), parents, wanted, brood, &mut told);
     law_of_forests(forest);
     made?;
     Ok(told)
