@@ -1,6 +1,6 @@
 -- The children of parents, made where room was made for them.
-use Rattle.std.proofs.Common.{◌≡◌, ◌+◌, ◌<◌, ◌≤◌, ◌^◌, ℕ, List, [], refl, sym, ap, ◌∙◌, subst, inl, inr, arith}
-use Rattle.std.specs.Prelude.{◌↔◌, ◌⊎◌, ◌++◌}
+use Rattle.std.proofs.Common.{◌≡◌, ◌+◌, ◌<◌, ◌≤◌, ◌^◌, ℕ, List, [], sym, ap, ◌∙◌, subst, inl, inr, arith}
+use Rattle.std.specs.Prelude.{◌++◌}
 use Rattle.lsys_syntax.specs.Commands.{Numbering}
 use Rattle.lsys_match.specs.Kept.{Kept}
 use Rattle.lsys_forest.specs.Nodes.{Nodes}

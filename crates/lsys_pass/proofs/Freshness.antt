@@ -1,5 +1,5 @@
 -- A level that was made below one of which all was asked.
-use Rattle.std.proofs.Common.{◌≡◌, ◌⊎◌, ◌+◌, ◌<◌, ◌≤◌, ◌^◌, ℕ, suc, true, List, [], ◌∷◌, ◌++◌, length, slice_get, Option, Some, None, Ok, refl, sym, ap, ◌∙◌, subst, inl, inr, arith, sum_by}
+use Rattle.std.proofs.Common.{◌≡◌, ◌⊎◌, ◌+◌, ◌<◌, ◌≤◌, ℕ, suc, List, [], ◌++◌, length, slice_get, Option, Some, None, Ok, refl, sym, ap, ◌∙◌, subst, inl, inr, arith, sum_by}
 use Rattle.std.specs.Prelude.{◌-◌, IsSome, option_map}
 use Rattle.std.specs.Option.{option_and_then}
 use Rattle.std.proofs.lemmas.Bool.{cases_lt}
@@ -13,8 +13,8 @@ use Rattle.lsys_level.specs.Spots.{Spotted, level_by}
 use Rattle.lsys_match.specs.Kept.{Kept}
 use Rattle.lsys_forest.specs.Nodes.{Node, Nodes}
 use Rattle.lsys_forest.specs.Answers.{Keeper, answer_of}
-use Rattle.lsys_forest.specs.Groves.{Grove, In, IsLive, IsSound, now_of, rest_of, changes_in, kept_in}
-use Rattle.lsys_forest.specs.Rows.{kids_in, kids_below, level_nodes, level_spots, complete_levels, AreBalancedTo}
+use Rattle.lsys_forest.specs.Groves.{Grove, In, IsLive, IsSound, now_of, rest_of, changes_in}
+use Rattle.lsys_forest.specs.Rows.{kids_in, kids_below, level_nodes, level_spots, AreBalancedTo}
 use Rattle.lsys_forest.proofs.RowLemmas.{In_append, level_depth}
 use Rattle.lsys_forest.proofs.SoundLemmas.{some_of}
 use Rattle.lsys_forest.proofs.ViewLemmas.{are_told}
@@ -31,7 +31,7 @@ use Rattle.lsys_seats.specs.Looks.{AddsBelow}
 use Rattle.lsys_mates.specs.Turned.{IsSameLevel}
 use Rattle.lsys_mates.proofs.TurnedLemmas.{same_on}
 use Rattle.lsys_candidates.specs.Repairs.{Repair, SteppingSpots, were, are}
-use Rattle.lsys_candidates.specs.Found.{LevelChanges, Differs}
+use Rattle.lsys_candidates.specs.Found.{Differs}
 use Rattle.lsys_candidates.proofs.Spots.{is_in, sound_old, sound_new}
 use Rattle.lsys_next.specs.Nexts.{AreLevels, HaveWanted, wanted_count}
 use Rattle.lsys_next.specs.Answers.{kept_successors, AreAnswered}
@@ -46,13 +46,13 @@ use Rattle.lsys_repair.specs.Parents.{nodes_in}
 use Rattle.lsys_repair.specs.Needs.{needs}
 use Rattle.lsys_front.specs.Fronts.{Differences, IsFront, IsNext, IsTold, next_of, StandOn, LooksBelow}
 use Rattle.lsys_front.proofs.Differing.{kept_families, gone_each, next_differs}
-use Rattle.lsys_front.proofs.NextLooks.{next_sound, next_same, next_were, touched_are, next_looks}
+use Rattle.lsys_front.proofs.NextLooks.{next_sound, next_were, touched_are, next_looks}
 use Rattle.lsys_front.proofs.Rooms.{was_live}
 use Rattle.lsys_pass.specs.declared.sizes.Size.{Size}
 use Rattle.lsys_pass.specs.declared.state.PassState.TheVariants.{Level, Failed}
 use Rattle.lsys_pass.specs.Sizes.{total_of, with_level}
 use Rattle.lsys_pass.specs.Rests.{IsResting}
-use Rattle.lsys_pass.specs.Stages.{IsAtLevel, IsStored}
+use Rattle.lsys_pass.specs.Stages.{IsAtLevel}
 use Rattle.lsys_pass.specs.Advances.{KeepsRest, symbols_wanted}
 use Rattle.lsys_pass.specs.Passes.{PassView, stage_of, now, was, repair_of, IsPass}
 use Rattle.lsys_pass.specs.Made.{KeepsAnswers, MakesBelow}
