@@ -30,6 +30,8 @@ pub mod Closedness
 pub mod SizesTold
 pub mod Repairing
 pub mod Failing
+pub mod Ended
+pub mod Endings
 pub mod Turnings
 pub mod Births
 pub mod Freshness

@@ -10,5 +10,6 @@ pub mod Moves
 pub mod Leftmost
 pub mod Fresh
 pub mod Sizes
+pub mod Lasts
 pub mod Beginnings
 pub mod Made

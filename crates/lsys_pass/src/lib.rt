@@ -4,6 +4,7 @@
 //! `specs/Moves.antt`.
 #![tactic(auto)]
 
+mod ending;
 mod fault;
 mod keep;
 mod level;
