@@ -10,6 +10,7 @@ mod front;
 mod law;
 mod looks;
 mod lost;
+mod next;
 mod parents;
 mod turn;
 

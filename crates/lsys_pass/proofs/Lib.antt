@@ -36,3 +36,5 @@ pub mod Turnings
 pub mod Askings
 pub mod Unanswered
 pub mod Pendings
+pub mod Births
+pub mod Freshness

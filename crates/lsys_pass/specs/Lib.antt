@@ -13,3 +13,4 @@ pub mod Others
 pub mod Sizes
 pub mod Lasts
 pub mod Beginnings
+pub mod Made

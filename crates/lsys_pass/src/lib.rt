@@ -8,6 +8,7 @@ mod asked;
 mod ending;
 mod fault;
 mod keep;
+mod level;
 mod outcome;
 mod pass;
 mod place;
