@@ -1,5 +1,5 @@
 -- A level that was just made, and what becomes of it step by step until it is known who is asked on it.
-use Rattle.std.specs.Prelude.{◌≡◌, ◌<◌, ◌≤◌, ◌+◌, ◌⊎◌, ℕ, List, [], ◌∷◌, ◌++◌, length, Some, None, slice_get}
+use Rattle.std.specs.Prelude.{◌≡◌, ◌<◌, ◌≤◌, ◌+◌, ◌⊎◌, ℕ, suc, List, [], ◌∷◌, ◌++◌, length, Some, None, slice_get}
 use Rattle.lsys_match.specs.Kept.{Kept}
 use Rattle.lsys_forest.specs.Groves.{In, AreApart}
 use Rattle.lsys_forest.specs.Rows.{level_nodes}
@@ -18,7 +18,7 @@ use Rattle.lsys_pass.specs.declared.state.PassState.TheVariants.{Level}
 use Rattle.lsys_pass.specs.Rests.{AreCountedLow}
 use Rattle.lsys_pass.specs.Stages.{Stage, was}
 use Rattle.lsys_pass.specs.Advances.{IsAskedTo, KeepsRest, StaysAbove, Advances, Ends}
-use Rattle.lsys_pass.specs.Passes.{PassView, stage_of, repair_of, AllHaveSeats, HasFront, IsPass}
+use Rattle.lsys_pass.specs.Passes.{PassView, stage_of, repair_of, AllHaveSeats, IsStill, HasFront, IsPass}
 use Rattle.lsys_pass.specs.Passes as P
 
 -- 1. a level that was asked
@@ -127,3 +127,10 @@ pub record IsLast (v : PassView) (t : ℕ) : Type 0 where
   pub lists : HasListsBefore (stage_of v) (t + 1)
   pub ends : Ends (stage_of v) t
   pub room : AllHaveSeats (P.now v) v.seats
+
+-- 3. where a pass came from that made level t: the level before it, of which all was asked; or the last rest, for the first one
+pub data Origin (v : PassView) (t : ℕ) : Type 0 where
+  behind : (w : PassView) (u : ℕ) → t ≡ suc u → WasAsked w u → Goes (stage_of w) (stage_of v) t
+      → Origin v t
+  at_first : (w : PassView) → t ≡ 0 → IsStill (stage_of w)
+      → Goes (record (stage_of w) { next = v.next }) (stage_of v) t → Origin v t
