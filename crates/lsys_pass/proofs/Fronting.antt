@@ -1,5 +1,5 @@
 -- What is told of the level that was made last stays while only answers change.
-use Rattle.std.proofs.Common.{◌≡◌, ◌<◌, ◌≤◌, ℕ, List, [], ◌∷◌, ◌++◌, length, Some, None, sym, ap, ◌∙◌, subst, inl, inr, arith}
+use Rattle.std.proofs.Common.{◌≡◌, ◌<◌, ◌≤◌, ℕ, List, [], ◌∷◌, ◌++◌, length, None, sym, ap, ◌∙◌, subst, inl, inr, arith}
 use Rattle.std.specs.Prelude.{take, drop}
 use Rattle.std.proofs.lemmas.List.{length-append, take-append-le, drop-append-le}
 use Rattle.lsys_walks.specs.Stores.{Store}
@@ -11,7 +11,7 @@ use Rattle.lsys_forest.proofs.RowLemmas.{In_append}
 use Rattle.lsys_kept.specs.Levels.{answer_at}
 use Rattle.lsys_seats.specs.declared.seat.Seat.{Seat}
 use Rattle.lsys_seats.specs.Standings.{seen_at}
-use Rattle.lsys_candidates.specs.Repairs.{Repair, now, rest, root, were, are}
+use Rattle.lsys_candidates.specs.Repairs.{Repair, now, rest, were, are}
 use Rattle.lsys_mates.specs.Turned.{AreTurnedBy}
 use Rattle.lsys_mates.proofs.TurnedLemmas.{same_turned}
 use Rattle.lsys_front.specs.Fronts.{Differences, IsFront}
@@ -21,10 +21,10 @@ use Rattle.lsys_front.specs.Fronts.{Differences, IsFront}
 -- In this forest the level of a repair has the same nodes, with the same symbols, and none that lost its answer.
 pub record KeepsLevel (r : Repair) (h : Grove Kept) : Type 0 where
   pub sound : IsSound h.root (changes_in h) (now_of h)
-  pub root : h.root ≡ root r
+  pub root : h.root ≡ r.forest.root
   pub rest : rest_of h ≡ rest r
   pub nodes : level_nodes (now_of h) h.root r.level ≡ are r
-  pub spots : level_spots (now_of h) h.root r.level ≡ level_spots (now r) (root r) r.level
+  pub spots : level_spots (now_of h) h.root r.level ≡ level_spots (now r) r.forest.root r.level
   pub seen : (k : ℕ) → seen_at (now_of h) k ≡ seen_at (now r) k
   pub bare : (k : ℕ) → answer_at (now_of h) k ≡ None → answer_at (now r) k ≡ None
 

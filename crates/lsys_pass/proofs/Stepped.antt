@@ -13,7 +13,7 @@ use Rattle.lsys_match.specs.Kept.{Kept}
 use Rattle.lsys_match.specs.KeptAnswers.{StaysMade}
 use Rattle.lsys_match.specs.Asks.{IsMade, KeepsStore}
 use Rattle.lsys_match.proofs.Staying.{stays_kept}
-use Rattle.lsys_reads.specs.Relations.{Relations}
+use Rattle.lsys_reads.specs.Relations.{Relations, SettledStay}
 use Rattle.lsys_forest.specs.Nodes.{Nodes, put, with_answer}
 use Rattle.lsys_forest.specs.Changes.{Change, undone}
 use Rattle.lsys_forest.specs.Groves.{Grove, In, IsSound, now_of, rest_of, changes_in, live_nodes}
@@ -38,7 +38,7 @@ use Rattle.lsys_seats.proofs.LevelLemmas.{place_in}
 use Rattle.lsys_seats.specs.Standings.{seen_at}
 use Rattle.lsys_front.specs.Fronts.{IsFront}
 use Rattle.lsys_forest.specs.Rows.{level_nodes, level_spots}
-use Rattle.lsys_pass.proofs.Asking.{IsSameForest, IsAsked, asked, at, made_now, same_sound, sound_now}
+use Rattle.lsys_pass.proofs.Asking.{IsSameForest, IsAsked, asked, at, made_now, same_sound, same_nodes, same_spots, sound_now}
 use Rattle.lsys_pass.proofs.Waiting.{stays_refused, level_waits}
 use Rattle.lsys_pass.proofs.Outcomes.{IsReplied, fault_behind, level_same, level_fault, level_new}
 
@@ -237,85 +237,77 @@ module _ (v : PassView) (t : ℕ) (h : IsPass v) (state : v.state ≡ Level t) (
 
 -- 3. nothing was kept
 
-module _ {L : Type 0} (v : PassView) (t : ℕ) (h : IsPass v) (state : v.state ≡ Level t) (g : Grove Kept) (same : IsSameForest v.forest g) (live : live_nodes g ≡ live_nodes v.forest) where
-  pub waits_pass : (g' : Grove Kept) (st : Store) (st' : Store) (rd' : Relations) (w w' : Work) (o : Option Kept) (r : Result (Asked L) AskRefusal) (ps : List ℕ) → HasWork v w w' → ps ≡ v.pending → KeepsStore v.store st o r
-      → KeepsNothing (record { forest = g; store = st; reads = v.reads; work = w }) (record { forest = g'; store = st'; reads = rd'; work = w' }) r
-      → IsPass (after v g' st' rd' ps w')
-  waits_pass g' st st' rd' w w' o r ps work less keeps k = record {
-    stored = stored_same (now v) (now_of g') (changes_in v.forest) (changes_in g') v.forest.root g'.root st' st' nodes changes root refl (stored_in (now v) (changes_in v.forest) v.forest.root v.store st' stays h.stored);
-    few = (let f = h.few in let l = ap live_nodes k.forest in omega (arith, f, l, live));
+module _ (v : PassView) (t : ℕ) (h : IsPass v) (state : v.state ≡ Level t) where
+  -- the forest and the lists are what they were, and answers stay
+  kept_pass : (g : Grove Kept) (st : Store) (rd : Relations) (w : Work) (ps : List ℕ) → IsSameForest v.forest g → live_nodes g ≡ live_nodes v.forest
+      → ((a : Kept) → IsMade v.store a → StaysMade v.store st a) → SettledStay v.reads rd → rd.pending ≡ v.reads.pending → HasWork v w w → ps ≡ v.pending → IsPass (after v g st rd ps w)
+  kept_pass g st rd w ps same live stays settled quiet work less = record {
+    stored = stored_same (now v) (now_of g) (changes_in v.forest) (changes_in g) v.forest.root g.root st st same.now same.changes same.root refl (stored_in (now v) (changes_in v.forest) v.forest.root v.store st stays h.stored);
+    few = (let f = h.few in omega (arith, f, live));
     unmarked = h.unmarked;
     counted = h.counted;
-    sized = subst (λ (w : Nodes Kept). HaveSizes w g'.root v.sizes) (sym rest) (subst (λ r. HaveSizes (P.was v) r v.sizes) (sym root) h.sized);
-    made_sized = subst (SizesAt (now_of g') g'.root v.next.depth v.made) (sym state) (subst (λ (m : Nodes Kept). HaveSizesTo m g'.root v.made t) (sym nodes) (subst (λ r. HaveSizesTo (now v) r v.made t) (sym root)
+    sized = subst (λ (m : Nodes Kept). HaveSizes m g.root v.sizes) (sym rest) (subst (λ r. HaveSizes (P.was v) r v.sizes) (sym same.root) h.sized);
+    made_sized = subst (SizesAt (now_of g) g.root v.next.depth v.made) (sym state) (subst (λ (m : Nodes Kept). HaveSizesTo m g.root v.made t) (sym same.now) (subst (λ r. HaveSizesTo (now v) r v.made t) (sym same.root)
         (subst (SizesAt (now v) v.forest.root v.next.depth v.made) state h.made_sized)));
-    holds = subst (HoldsAt (stage_of (after v g' st' rd' ps w'))) (sym state)
-        (subst (λ (z : Stage). IsAtLevel z t) (sym whole) (level_waits (stage_of v) t st' rd' (made_now v t h state) stays k.settled k.read (at v t h state)));
-    front = subst (FrontAt (after v g' st' rd' ps w')) (sym state) told;
+    holds = subst (HoldsAt (stage_of (after v g st rd ps w))) (sym state)
+        (subst (λ (z : Stage). IsAtLevel z t) (sym whole) (level_waits (stage_of v) t st rd (made_now v t h state) stays settled quiet (at v t h state)));
+    front = subst (FrontAt (after v g st rd ps w)) (sym state) (record {
+      front = subst (IsFront (repair_of (after v g st rd ps w) t) v.seats) (sym work.front) (front_stays (repair_of v t) g st same_level v.seats v.front told.front);
+      within = by.within;
+      before = by.before;
+      here = by.here;
+    });
   }
     where
-      nodes : now_of g' ≡ now v
-      nodes = ap now_of k.forest ∙ same.now
+      rest : rest_of g ≡ P.was v
+      rest = ap (λ (cs : List (Change Kept)). undone cs (now_of g)) same.changes ∙ ap (undone (changes_in v.forest)) same.now
 
-      changes : changes_in g' ≡ changes_in v.forest
-      changes = ap changes_in k.forest ∙ same.changes
-
-      root : g'.root ≡ v.forest.root
-      root = ap (λ (f : Grove Kept). f.root) k.forest ∙ same.root
-
-      rest : rest_of g' ≡ P.was v
-      rest = ap (λ (cs : List (Change Kept)). undone cs (now_of g')) changes ∙ ap (undone (changes_in v.forest)) nodes
-
-      sound : IsSound g'.root (changes_in g') (now_of g')
-      sound = same_sound v.forest g' (record { now = nodes; changes = changes; root = root }) (sound_now v t h state)
-
-      was_told : HasFront v t
-      was_told = subst (FrontAt v) state h.front
-
-      level : (u : ℕ) → level_nodes (now_of g') g'.root u ≡ level_nodes (now v) v.forest.root u
-      level u = ap (λ (m : Nodes Kept). level_nodes m g'.root u) nodes ∙ ap (λ r. level_nodes (now v) r u) root
-
-      by : AreByLevel (level_nodes (now_of g') g'.root) t w'.first_renewed w'.renewed.items
-      by =
-          by_same (level_nodes (now v) v.forest.root) (level_nodes (now_of g') g'.root) t v.first_renewed w'.first_renewed v.renewed w'.renewed.items level work.first_renewed (k.renewed ∙ work.renewed)
-          (record { within = was_told.within; before = was_told.before; here = was_told.here })
-
-      keeps : KeepsLevel (repair_of v t) g'
-      keeps = record {
-        sound = sound;
-        root = root;
-        rest = rest;
-        nodes = level t;
-        spots = ap (λ (m : Nodes Kept). level_spots m g'.root t) nodes ∙ ap (λ r. level_spots (now v) r t) root;
-        seen = λ j. ap (λ (m : Nodes Kept). seen_at m j) nodes;
-        bare = λ j e. sym (ap (λ (m : Nodes Kept). answer_at m j) nodes) ∙ e;
-      }
-
-      told : HasFront (after v g' st' rd' ps w') t
-      told = record {
-        front = subst (IsFront (repair_of (after v g' st' rd' ps w') t) v.seats) (sym work.front) (front_stays (repair_of v t) g' st' keeps v.seats v.front was_told.front);
-        within = by.within;
-        before = by.before;
-        here = by.here;
-      }
-
-      stays : (a : Kept) → IsMade v.store a → StaysMade v.store st' a
-      stays = stays_refused v.store st st' o r keeps k.store
-
-      whole : ◌≡◌ {A = Stage} (stage_of (after v g' st' rd' ps w')) (record (stage_of v) { store = st'; reads = rd' })
+      whole : ◌≡◌ {A = Stage} (stage_of (after v g st rd ps w)) (record (stage_of v) { store = st; reads = rd })
       whole = λ i. record (stage_of v) {
-        now = nodes i;
-        changes = changes i;
-        root = root i;
-        store = st';
-        reads = rd';
+        now = same.now i;
+        changes = same.changes i;
+        root = same.root i;
+        store = st;
+        reads = rd;
         pending = less i;
-        faults = (k.faults ∙ work.faults) i;
-        renewed = (k.renewed ∙ work.renewed) i;
-        born = (k.born ∙ work.born) i;
+        faults = work.faults i;
+        renewed = work.renewed i;
+        born = work.born i;
         dropped = work.dropped i;
         moved = work.moved i;
       }
+
+      told : HasFront v t
+      told = subst (FrontAt v) state h.front
+
+      by : AreByLevel (level_nodes (now_of g) g.root) t w.first_renewed w.renewed.items
+      by =
+          by_same (level_nodes (now v) v.forest.root) (level_nodes (now_of g) g.root) t v.first_renewed w.first_renewed v.renewed w.renewed.items (same_nodes v.forest g same) work.first_renewed work.renewed
+          (record { within = told.within; before = told.before; here = told.here })
+
+      same_level : KeepsLevel (repair_of v t) g
+      same_level = record {
+        sound = same_sound v.forest g same (sound_now v t h state);
+        root = same.root;
+        rest = rest;
+        nodes = same_nodes v.forest g same t;
+        spots = same_spots v.forest g same t;
+        seen = λ j. ap (λ (m : Nodes Kept). seen_at m j) same.now;
+        bare = λ j e. sym (ap (λ (m : Nodes Kept). answer_at m j) same.now) ∙ e;
+      }
+
+  module _ (g : Grove Kept) (same : IsSameForest v.forest g) (live : live_nodes g ≡ live_nodes v.forest) where
+    -- there is more room
+    pub roomy_pass : (w : Work) (ps : List ℕ) → HasWork v w w → ps ≡ v.pending → IsPass (after v g v.store v.reads ps w)
+    roomy_pass w ps work less = kept_pass g v.store v.reads w ps same live (λ a m. record { made = m; answer = refl }) (λ reader seen. refl) refl work less
+
+    pub waits_pass : {L : Type 0} (g' : Grove Kept) (st : Store) (st' : Store) (rd' : Relations) (w w' : Work) (o : Option Kept) (r : Result (Asked L) AskRefusal) (ps : List ℕ) → HasWork v w w' → ps ≡ v.pending → KeepsStore v.store st o r
+        → KeepsNothing (record { forest = g; store = st; reads = v.reads; work = w }) (record { forest = g'; store = st'; reads = rd'; work = w' }) r → IsPass (after v g' st' rd' ps w')
+    waits_pass g' st st' rd' w w' o r ps work less keeps k =
+        kept_pass g' st' rd' w' ps (record { now = ap now_of k.forest ∙ same.now; changes = ap changes_in k.forest ∙ same.changes; root = ap (λ (f : Grove Kept). f.root) k.forest ∙ same.root }) (ap live_nodes k.forest ∙ live)
+        (stays_refused v.store st st' o r keeps k.store) k.settled k.read
+        (record { faults = k.faults ∙ work.faults; renewed = k.renewed ∙ work.renewed; born = k.born ∙ work.born; first_renewed = work.first_renewed; dropped = work.dropped; moved = work.moved; front = work.front })
+        less
 
 pub steps_at : (v w v' : PassView) (node : ℕ) → v ≡ w → StepsOver v v' node → StepsOver w v' node
 steps_at v w v' node e = subst (λ (z : PassView). StepsOver z v' node) e

@@ -1,4 +1,4 @@
-use Rattle.std.proofs.Common.{◌<◌, sym, ap, ◌∙◌, subst, arith}
+use Rattle.std.proofs.Common.{◌<◌, refl, sym, ap, ◌∙◌, subst, arith}
 use Rattle.std.specs.Prelude.{vec_len}
 use Rattle.std.specs.List.{remove}
 use Rattle.std.proofs.lemmas.Option.{slice_get_within}
@@ -7,7 +7,7 @@ use Rattle.lsys_pass.specs.Places.{AreInOrder}
 use Rattle.lsys_pass.specs.Passes.{PassView}
 use Rattle.lsys_pass.proofs.Asking.{in_order, lives, stands_now, has_question_by, made_if_any, taken_off, here_among, born_is}
 use Rattle.lsys_pass.proofs.Moved.{replied, counted, few_read, moves_once, moves_at, asks_renewed}
-use Rattle.lsys_pass.proofs.Stepped.{over_all, waits_pass, steps_at}
+use Rattle.lsys_pass.proofs.Stepped.{over_all, roomy_pass, waits_pass, steps_at}
 use Rattle.lsys_pass.proofs.pass.Pass.step.Goals as goal
 
 pub place_among-place-requires-clause-order : goal.place_among-place-requires-clause-order
@@ -100,3 +100,14 @@ pub returns-clause-few_read : goal.returns-clause-few_read
 returns-clause-few_read g c =
     few_read _ c.in-Level.level c.self.invariant c.in-Level.is c.args.node (subst (λ (v : PassView). In c.args.node v.pending) (sym c.self.view_is) c.requires.pending) c.reserve.new.self (record { now = c.reserve.ensures.now; changes = c.reserve.ensures.changes; root = c.reserve.ensures.root }) c.ask-outcome.result c.args.visited.now c.ask-outcome.new.visited
     (counted _ c.in-Level.level c.self.invariant c.in-Level.is c.args.node (subst (λ (v : PassView). In c.args.node v.pending) (sym c.self.view_is) c.requires.pending) c.reserve.new.self (record { now = c.reserve.ensures.now; changes = c.reserve.ensures.changes; root = c.reserve.ensures.root }) _ c.ask-outcome.result c.args.visited.now c.ask-outcome.new.visited c.target-system.ensures c.ask-outcome.ensures.visited)
+
+pub invariant_of-self : goal.invariant_of-self
+invariant_of-self g c =
+    roomy_pass _ c.in-Level.level c.self.invariant c.in-Level.is c.reserve.new.self (record { now = c.reserve.ensures.now; changes = c.reserve.ensures.changes; root = c.reserve.ensures.root }) c.reserve.ensures.others.live c.self.inside.work _
+    (record { faults = refl; renewed = refl; born = refl; first_renewed = refl; dropped = refl; moved = refl; front = refl }) refl
+
+pub invariant_of-self-in_err-reserve-2 : goal.invariant_of-self-in_err-reserve-2
+invariant_of-self-in_err-reserve-2 g c =
+    roomy_pass _ c.in-Level.level c.self.invariant c.in-Level.is c.reserve.new.self (record { now = c.reserve.ensures.now; changes = c.reserve.ensures.changes; root = c.reserve.ensures.root }) c.reserve.ensures.others.live c.reserve-2.new.self _
+    (record { faults = c.reserve-2.ensures.faults; renewed = c.reserve-2.ensures.renewed; born = c.reserve-2.ensures.born; first_renewed = c.reserve-2.ensures.others.first_renewed; dropped = ap (λ d. d.items) c.reserve-2.ensures.others.dropped; moved = ap (λ d. d.items) c.reserve-2.ensures.others.moved; front = c.reserve-2.ensures.others.front })
+    (ap (λ p. p.items) c.reserve-2.ensures.others.pending)
