@@ -7,6 +7,11 @@ pub mod Looking
 pub mod NextLooks
 pub mod FoundFronts
 pub mod Rooms
+pub mod Losing
+pub mod Ending
+pub mod RowsBelow
+pub mod Lasts
+pub mod LastLevels
 pub mod LevelParents
 pub mod NextSymbols
 pub mod Gathered

@@ -1,1 +1,4 @@
 pub mod Fronts
+pub mod Losses
+pub mod Ends
+pub mod LastLevels
