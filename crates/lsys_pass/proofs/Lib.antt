@@ -29,3 +29,5 @@ pub mod NextLengths
 pub mod Closedness
 pub mod SizesTold
 pub mod Repairing
+pub mod Going
+pub mod Coming

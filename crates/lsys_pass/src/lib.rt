@@ -5,6 +5,8 @@
 #![tactic(auto)]
 
 mod fault;
+mod next_level;
+mod stubs;
 mod keep;
 mod outcome;
 mod pass;

@@ -35,17 +35,17 @@ use std::sync::ledger::Ledger;
 /// A forest with the levels of a system, which an edit makes those of another system, level by level.
 #[derive(Drop)]
 pub struct Pass<L: Ledger> {
-    forest: Forest<KeptAnswer<L>>,
-    store: AnswerStore,
-    reads: Reads,
-    seats: Seats,
-    sizes: Sizes,
-    system: System,
-    next: Option<System>,
-    limit: u32,
-    state: PassState,
-    answers: usize,
-    work: Work,
+    pub(crate) forest: Forest<KeptAnswer<L>>,
+    pub(crate) store: AnswerStore,
+    pub(crate) reads: Reads,
+    pub(crate) seats: Seats,
+    pub(crate) sizes: Sizes,
+    pub(crate) system: System,
+    pub(crate) next: Option<System>,
+    pub(crate) limit: u32,
+    pub(crate) state: PassState,
+    pub(crate) answers: usize,
+    pub(crate) work: Work,
 }
 
 impl<L: Ledger> Model for Pass<L> {
@@ -140,7 +140,7 @@ impl<L: Ledger> Pass<L> {
     }
 
     /// Why its level has no next one, where faults were noted: the leftmost of them.
-    fn fault_refusal(&self, level: u32) -> Option<DeriveRefusal>
+    pub(crate) fn fault_refusal(&self, level: u32) -> Option<DeriveRefusal>
         requires state { self.now.state ≡ Level level }
         requires pending { self.now.pending ≡ [] }
         ensures { MatchOption result (self.now.faults ≡ [])
@@ -150,7 +150,7 @@ impl<L: Ledger> Pass<L> {
     }
 
     /// Why this level, which would be made next and have so many symbols, can't be; none where there is room for it.
-    fn limit_refusal(&self, level: u32, symbols: usize) -> Option<DeriveRefusal>
+    pub(crate) fn limit_refusal(&self, level: u32, symbols: usize) -> Option<DeriveRefusal>
         requires state { self.now.state ≡ Level (level - 1) }
         requires behind { 0 < level }
         requires asked { IsAskedTo (stage_of self.now) (level - 1) }
@@ -166,7 +166,7 @@ impl<L: Ledger> Pass<L> {
     }
 
     /// The new system has no levels, or memory was wanted: only to abandon it is left. It takes no memory.
-    fn fail(&mut self)
+    pub(crate) fn fail(&mut self)
         requires { AtLevel self.old.state }
         ensures fails { Fails self.old self.new }
     {

@@ -41,7 +41,7 @@ impl<L: Ledger> Pass<L> {
         self.fail();
         let parents = self.find_parents(alloc, level)?;
         let count = self.count_next(level, &parents)?;
-        self.within_limit(level + 1, count.symbols)?;
+        self.within_limit(level, count.symbols)?;
         self.make_level(alloc, level, &parents.list, &count.need, count.symbols)?;
         Ok(self.come_to(alloc, level + 1)?)
     }
@@ -57,7 +57,7 @@ impl<L: Ledger> Pass<L> {
         requires origin { Origin self.old level }
         requires sizes { HaveSizesTo (now self.old) self.old.forest.root self.old.made level }
         ensures run { SameRun self.old self.new }
-        ensures renewed { self.new.renewed ≡ self.old.renewed }
+        ensures renewed { OnOk result (self.new.renewed ≡ self.old.renewed) }
         ensures comes { OnOk result (IsNext self.old.next level self.new.state) }
         ensures fails { OnErr result (self.new.state ≡ Failed) }
     {
@@ -66,7 +66,7 @@ impl<L: Ledger> Pass<L> {
             self.ask_level(alloc, level, &found)?;
             self.state = PassState::Level(level);
         } else {
-            self.end_levels(alloc, level)?;
+            self.end_levels(alloc, level, &found)?;
             self.state = PassState::Done;
         }
         Ok(())

@@ -1,0 +1,167 @@
+//! Stubs.
+ghost use Rattle.std.specs.Prelude.{◌≡◌, ◌+◌, ◌<◌, ◌≤◌, ◌^◌, ℕ, [], false, length, IfOk, OnOk, OnErr, IfErr, map};
+ghost use Rattle.lsys_next.specs.Nexts.{AreClosed};
+ghost use Rattle.lsys_next.specs.Answers.{kept_successors};
+ghost use Rattle.lsys_repair.specs.Needs.{needs};
+ghost use Rattle.lsys_seats.specs.Seats.{SameSeats, KeepsSeats};
+ghost use Rattle.lsys_kept.specs.Levels.{answer_at};
+ghost use Rattle.lsys_pass.specs.declared.state.PassState.TheVariants.{Failed};
+ghost use Rattle.lsys_pass.specs.Sizes.{total_of, with_open, with_level};
+ghost use Rattle.lsys_pass.specs.Moves.{SameRun, IsRefusal};
+ghost use Rattle.lsys_pass.specs.Passes.{stage_of, now};
+ghost use Rattle.lsys_pass.specs.Advances.{symbols_wanted};
+ghost use Rattle.lsys_pass.specs.Fresh.{WasAsked, row_of, AreNextParents, IsFresh, HasFound, IsToAsk, IsLast, Goes};
+
+use crate::pass::Pass;
+use lsys_brood::Need;
+use lsys_forest::NodeId;
+use lsys_repair::Parent;
+use lsys_rewrite::DeriveRefusal;
+use std::alloc::{AllocError, Global};
+use std::sync::ledger::Ledger;
+
+#[derive(Drop)]
+pub(crate) struct Parents {
+    pub(crate) list: Vec<Parent>,
+    pub(crate) is_whole: bool,
+    pub(crate) is_open: bool,
+}
+
+#[derive(Clone, Copy, Drop)]
+pub(crate) struct NextCount {
+    pub(crate) need: Need,
+    pub(crate) symbols: usize,
+}
+
+#[derive(Drop)]
+pub(crate) struct Found {
+    pub(crate) beside: Vec<NodeId>,
+    pub(crate) readers: Vec<NodeId>,
+}
+
+impl<L: Ledger> Pass<L> {
+    pub(crate) fn find_parents(&mut self, alloc: Global, level: u32) -> Result<Parents, AllocError>
+        requires failed { self.old.state ≡ Failed }
+        requires asked { WasAsked self.old level }
+        ensures found { IfOk result (λ ps. AreNextParents self.new level ps.list.items) }
+        ensures closed { IfOk result (λ ps. ps.is_open ≡ false
+            → AreClosed (kept_successors (now self.new)) (row_of self.new level)) }
+        ensures asked { WasAsked self.new level }
+        ensures same { self.new ≡ record self.old { seats = self.new.seats; made = self.new.made } }
+        ensures seats { SameSeats self.old.seats self.new.seats }
+        ensures made { IfOk result (λ ps. self.new.made ≡ with_open self.old.made ps.is_open) }
+    {
+        let _ = alloc;
+        let _ = level;
+        unreachable!()
+    }
+
+    pub(crate) fn count_next(&mut self, level: u32, parents: &Parents) -> Result<NextCount, AllocError>
+        requires failed { self.old.state ≡ Failed }
+        requires asked { WasAsked self.old level }
+        requires found { AreNextParents self.old level parents.now.list.items }
+        ensures same { self.new ≡ self.old }
+        ensures need { IfOk result (λ n. n.need
+            ≡ needs self.old.next.numbering (now self.old) parents.now.list.items) }
+        ensures symbols { IfOk result (λ n. n.symbols ≡ symbols_wanted (stage_of self.old) level) }
+    {
+        let _ = level;
+        let _ = parents;
+        unreachable!()
+    }
+
+    pub(crate) fn within_limit(&self, level: u32, symbols: usize) -> Result<(), DeriveRefusal>
+        requires asked { WasAsked self.now level }
+        requires symbols { symbols ≡ symbols_wanted (stage_of self.now) level }
+        ensures within { OnOk result (total_of self.now.made + symbols ≤ self.now.limit) }
+        ensures refusal { IfErr result (IsRefusal self.now.next self.now.limit) }
+    {
+        let _ = level;
+        let _ = symbols;
+        unreachable!()
+    }
+
+    pub(crate) fn make_level(
+        &mut self,
+        alloc: Global,
+        level: u32,
+        parents: &[Parent],
+        need: &Need,
+        symbols: usize,
+    ) -> Result<(), AllocError>
+        requires failed { self.old.state ≡ Failed }
+        requires asked { WasAsked self.old level }
+        requires found { AreNextParents self.old level parents.now }
+        requires need { need.now ≡ needs self.old.next.numbering (now self.old) parents.now }
+        requires symbols { symbols ≡ symbols_wanted (stage_of self.old) level }
+        requires within { total_of self.old.made + symbols ≤ self.old.limit }
+        requires below { level < self.old.next.depth }
+        ensures fresh { OnOk result (IsFresh self.new (level + 1)) }
+        ensures goes { OnOk result (Goes (stage_of self.old) (stage_of self.new) (level + 1)) }
+        ensures made { OnOk result
+            (self.new.made ≡ with_level self.old.made (length (row_of self.new (level + 1)))) }
+        ensures run { SameRun self.old self.new }
+        ensures state { self.new.state ≡ Failed }
+    {
+        let _ = alloc;
+        let _ = level;
+        let _ = parents;
+        let _ = need;
+        let _ = symbols;
+        unreachable!()
+    }
+
+    pub(crate) fn find_turned(&mut self, level: u32) -> Result<Found, AllocError>
+        requires failed { self.old.state ≡ Failed }
+        requires fresh { IsFresh self.old level }
+        requires few { level < 2 ^ 32 }
+        ensures found { IfOk result (λ f. HasFound self.new level f.beside.items f.readers.items) }
+        ensures goes { OnOk result (Goes (stage_of self.old) (stage_of self.new) level) }
+        ensures same { self.new ≡ record self.old {
+            seats = self.new.seats;
+            dropped = self.new.dropped;
+            moved = self.new.moved;
+            front = self.new.front;
+            first_renewed = self.new.first_renewed;
+        } }
+    {
+        let _ = level;
+        unreachable!()
+    }
+
+    pub(crate) fn ask_level(&mut self, alloc: Global, level: u32, found: &Found) -> Result<(), AllocError>
+        requires failed { self.old.state ≡ Failed }
+        requires found { HasFound self.old level found.now.beside.items found.now.readers.items }
+        requires below { level < self.old.next.depth }
+        requires few { level < 2 ^ 32 }
+        ensures asked { OnOk result (IsToAsk self.new level) }
+        ensures goes { OnOk result (Goes (stage_of self.old) (stage_of self.new) level) }
+        ensures rows { OnOk result ((u : ℕ) → u ≤ level → row_of self.new u ≡ row_of self.old u) }
+        ensures made { self.new.made ≡ self.old.made }
+        ensures run { SameRun self.old self.new }
+        ensures state { self.new.state ≡ Failed }
+    {
+        let _ = alloc;
+        let _ = level;
+        let _ = found;
+        unreachable!()
+    }
+
+    pub(crate) fn end_levels(&mut self, alloc: Global, level: u32, found: &Found) -> Result<(), AllocError>
+        requires failed { self.old.state ≡ Failed }
+        requires found { HasFound self.old level found.now.beside.items found.now.readers.items }
+        requires last { self.old.next.depth ≡ level }
+        requires few { level < 2 ^ 32 }
+        ensures last { OnOk result (IsLast self.new level) }
+        ensures goes { OnOk result (Goes (stage_of self.old) (stage_of self.new) level) }
+        ensures rows { OnOk result ((u : ℕ) → u ≤ level → row_of self.new u ≡ row_of self.old u) }
+        ensures made { self.new.made ≡ self.old.made }
+        ensures run { SameRun self.old self.new }
+        ensures state { self.new.state ≡ Failed }
+    {
+        let _ = alloc;
+        let _ = level;
+        let _ = found;
+        unreachable!()
+    }
+}
