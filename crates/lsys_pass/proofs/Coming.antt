@@ -1,5 +1,6 @@
 -- A pass that comes to a level that was made, or ends with it.
 use Rattle.std.proofs.Common.{◌≡◌, ◌+◌, ◌<◌, ◌≤◌, ℕ, zero, suc, Bool, false, List, [], ◌∷◌, length, map, refl, sym, ap, ◌∙◌, subst, inl, inr, arith}
+use Rattle.lsys_spec.specs.Systems.{System}
 use Rattle.lsys_level.specs.Spots.{Spotted}
 use Rattle.lsys_match.specs.Kept.{Kept}
 use Rattle.lsys_forest.specs.Nodes.{Nodes}
@@ -13,7 +14,9 @@ use Rattle.lsys_pass.specs.declared.sizes.Size.{Size}
 use Rattle.lsys_pass.specs.declared.state.PassState.TheVariants.{Level, Done, Failed}
 use Rattle.lsys_pass.specs.Sizes.{symbols_at, opens_at, with_open, with_level, HaveSizesTo, SizesAt}
 use Rattle.lsys_pass.specs.Stages.{IsAtLevel, IsDone}
-use Rattle.lsys_pass.specs.Passes.{PassView, stage_of, now, AllHaveSeats, HasFront, IsPass}
+use Rattle.lsys_pass.specs.Passes.{PassView, stage_of, now, HoldsAt, HasFront, FrontAt, IsPass}
+use Rattle.lsys_pass.specs.Passes as P
+use Rattle.lsys_pass.specs.Moves.{SameRun, IsNext, Follows, Finishes}
 use Rattle.lsys_pass.specs.Advances.{Makes, Advances, Ends}
 use Rattle.lsys_pass.specs.Fresh.{WasAsked, row_of, Goes, HasListsBefore, IsToAsk, IsLast, Origin}
 use Rattle.lsys_pass.proofs.Sized.{closed_same}
@@ -120,3 +123,72 @@ sizes_next v v' t b g h closed e =
     let long : length (row_of v' (t + 1)) ≡ length (level_nodes (now v') v.forest.root (t + 1)) = ap (λ r. length (level_nodes (now v') r (t + 1))) root in
     let made = made_more (now v) (now v') v.forest.root v.made t b h nodes (λ u k l i. same_successor v v' (t + 1) g u k (within u l) i) closed in
     subst (λ r. HaveSizesTo (now v') r v'.made (t + 1)) (sym root) (subst (λ (xs : List Size). HaveSizesTo (now v') v.forest.root xs (t + 1)) (sym (e ∙ ap (with_level (with_open v.made b)) long)) made)
+
+-- 3. a level of which all was asked, when the pass has failed so far
+
+pub was_asked : (v v' : PassView) (t : ℕ) → IsPass v → v.state ≡ Level t → v.pending ≡ [] → v.faults ≡ [] → v' ≡ record v { state = Failed } → WasAsked v' t
+was_asked v v' t h state pending faults same = subst (λ (w : PassView). WasAsked w t) (sym same) (record {
+  pass = record {
+    stored = h.stored;
+    few = h.few;
+    unmarked = h.unmarked;
+    counted = h.counted;
+    sized = h.sized;
+    made_sized = subst (SizesAt (now v) v.forest.root v.next.depth v.made) state h.made_sized;
+    holds = subst (HoldsAt (stage_of v)) state h.holds;
+    front = again v t (subst (FrontAt v) state h.front);
+    room = h.room;
+  };
+  asked = record { at = subst (HoldsAt (stage_of v)) state h.holds; pending = pending; faults = faults };
+})
+  where
+    again : (v : PassView) (t : ℕ) → HasFront v t → HasFront (record (record v { state = Failed }) { state = Level t }) t
+    again v t x = record { front = x.front; within = x.within; before = x.before; here = x.here; room = x.room }
+
+-- it is made from a level of which all was asked
+pub from_behind : (v v' : PassView) (t : ℕ) → WasAsked v t → Goes (stage_of v) (stage_of v') (t + 1) → Origin v' (t + 1)
+from_behind v v' t a g = Origin.behind v t (omega arith) a g
+
+-- the sizes of its levels
+pub sizes_made : (v w v' : PassView) (t : ℕ) (b : Bool) → WasAsked v t → now w ≡ now v → w.forest.root ≡ v.forest.root → Goes (stage_of w) (stage_of v') (t + 1) → (b ≡ false → AreClosed (kept_successors (now w)) (row_of w t)) → v'.made ≡ with_level (with_open v.made b) (length (row_of v' (t + 1))) → HaveSizesTo (now v') v'.forest.root v'.made (t + 1)
+sizes_made v w v' t b a same root g closed e =
+    sizes_next (record w { made = v.made }) v' t b g
+    (subst (λ r. HaveSizesTo (now w) r v.made t) (sym root) (subst (λ (m : Nodes Kept). HaveSizesTo m v.forest.root v.made t) (sym same) a.pass.made_sized)) closed e
+
+-- 4. the last rest and both systems stay from call to call
+
+pub run_on : (u v w : PassView) → SameRun u v → SameRun v w → SameRun u w
+run_on u v w a b = record {
+  system = b.system ∙ a.system;
+  next = b.next ∙ a.next;
+  limit = b.limit ∙ a.limit;
+  root = b.root ∙ a.root;
+  was = b.was ∙ a.was;
+}
+
+pub run_same : (v w : PassView) → w ≡ v → SameRun v w
+run_same v w e = record {
+  system = ap (λ (y : PassView). y.system) e;
+  next = ap (λ (y : PassView). y.next) e;
+  limit = ap (λ (y : PassView). y.limit) e;
+  root = ap (λ (y : PassView). y.forest.root) e;
+  was = ap (λ (y : PassView). P.was y) e;
+}
+
+-- seats' marks and sizes don't matter
+pub run_part : (v w : PassView) → w ≡ record v { seats = w.seats; made = w.made } → SameRun v w
+run_part v w e = record {
+  system = ap (λ (y : PassView). y.system) e;
+  next = ap (λ (y : PassView). y.next) e;
+  limit = ap (λ (y : PassView). y.limit) e;
+  root = ap (λ (y : PassView). y.forest.root) e;
+  was = ap (λ (y : PassView). P.was y) e;
+}
+
+-- a level was finished
+pub finishes : (u v w : PassView) (t : ℕ) → u.state ≡ Level t → SameRun u v → v.renewed ≡ u.renewed → SameRun v w → w.renewed ≡ v.renewed → IsNext v.next (t + 1) w.state → Finishes u w
+finishes u v w t state a same b again next = record {
+  run = run_on u v w a b;
+  state = subst (λ s. Follows u.next s w.state) (sym state) (subst (λ (s : System). IsNext s (t + 1) w.state) a.next next);
+  renewed = again ∙ same;
+}

@@ -39,22 +39,31 @@ impl<L: Ledger> Pass<L> {
             return Err(refusal);
         }
         self.fail();
+        let depth = self.depth();
         let parents = self.find_parents(alloc, level)?;
         let count = self.count_next(level, &parents)?;
         self.within_limit(level, count.symbols)?;
         self.make_level(alloc, level, &parents.list, &count.need, count.symbols)?;
-        Ok(self.come_to(alloc, level + 1)?)
+        Ok(self.come_to(alloc, level + 1, depth)?)
     }
 
-    /// Comes to a level that was just made: finds who is asked on it, or ends the levels with it.
+    /// The depth of the system that is being made.
+    pub(crate) fn depth(&self) -> u32
+        ensures { result ≡ self.now.next.depth }
+    {
+        target(&self.next, &self.system).depth()
+    }
+
+    /// Comes to a level that was just made: finds who is asked on it, or ends the levels with it, where it is at the depth.
     ///
     /// # Errors
     ///
     /// Want of memory.
-    pub(crate) fn come_to(&mut self, alloc: Global, level: u32) -> Result<(), AllocError>
+    pub(crate) fn come_to(&mut self, alloc: Global, level: u32, depth: u32) -> Result<(), AllocError>
         requires failed { self.old.state ≡ Failed }
         requires fresh { IsFresh self.old level }
         requires origin { Origin self.old level }
+        requires depth { depth ≡ self.old.next.depth }
         requires sizes { HaveSizesTo (now self.old) self.old.forest.root self.old.made level }
         ensures run { SameRun self.old self.new }
         ensures renewed { OnOk result (self.new.renewed ≡ self.old.renewed) }
@@ -62,7 +71,7 @@ impl<L: Ledger> Pass<L> {
         ensures fails { OnErr result (self.new.state ≡ Failed) }
     {
         let found = self.find_turned(level)?;
-        if level < target(&self.next, &self.system).depth() {
+        if level < depth {
             self.ask_level(alloc, level, &found)?;
             self.state = PassState::Level(level);
         } else {

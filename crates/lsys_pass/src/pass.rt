@@ -5,7 +5,7 @@ ghost use Rattle.lsys_spec.specs.Questions.{questions};
 ghost use Rattle.lsys_match.specs.Derivations.{IsCount, Rises, most_read};
 ghost use Rattle.lsys_forest.specs.Groves.{In};
 ghost use Rattle.lsys_kept.specs.Meant.{meant};
-ghost use Rattle.lsys_pass.specs.declared.state.PassState.TheVariants.{Rest, Level, Done};
+ghost use Rattle.lsys_pass.specs.declared.state.PassState.TheVariants.{Rest, Level, Done, Failed};
 ghost use Rattle.lsys_pass.specs.Passes.{IsPass, stage_of};
 ghost use Rattle.lsys_pass.specs.Sizes.{total_of};
 ghost use Rattle.lsys_pass.specs.Advances.{IsAskedTo, symbols_wanted};
@@ -169,6 +169,7 @@ impl<L: Ledger> Pass<L> {
     pub(crate) fn fail(&mut self)
         requires { AtLevel self.old.state }
         ensures fails { Fails self.old self.new }
+        ensures same { self.new ≡ record self.old { state = Failed } }
     {
         self.state = PassState::Failed;
     }

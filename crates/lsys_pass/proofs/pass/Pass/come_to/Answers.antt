@@ -11,12 +11,12 @@ invariant_of-self g c =
     let v : PassView = c.args.self.now in
     let w : PassView = c.find_turned.new.self in
     let x : PassView = c.ask_level.new.self in
-    let here = sym c.self-then-level-depth.view_is in
+    let here = sym c.self.view_is in
     let found = c.in_ok-found.ensures.goes in
     let turned = sizes_stay v w c.args.level found c.requires.sizes (λ u l. ap (λ (y : PassView). row_of y u) c.find_turned.ensures.same) (ap (λ (y : PassView). y.made) c.find_turned.ensures.same) in
     let sizes = sizes_stay w x c.args.level c.in_ok-ask_level.ensures.goes turned c.in_ok-ask_level.ensures.rows c.ask_level.ensures.made in
     let goes = goes_on (stage_of v) (stage_of w) (stage_of x) c.args.level found c.in_ok-ask_level.ensures.goes in
-    level_pass v _ c.args.level c.self-then-level-depth.invariant (subst (λ (y : PassView). Goes (stage_of v) (stage_of y) c.args.level) here goes) c.requires.origin
+    level_pass v _ c.args.level c.self.invariant (subst (λ (y : PassView). Goes (stage_of v) (stage_of y) c.args.level) here goes) c.requires.origin
     (subst (λ (y : PassView). HaveSizesTo (now y) y.forest.root y.made c.args.level) here sizes) (subst (λ (y : PassView). IsToAsk y c.args.level) here c.in_ok-ask_level.ensures.asked)
 
 pub invariant_of-self-else-level-depth : goal.invariant_of-self-else-level-depth
