@@ -77,7 +77,7 @@ pub some_kept : (bs : List Body) (right : Kept → Type 0) (o : Option Kept) (a 
 some_kept [] right o a h e n = none-some a (sym h ∙ e)
 some_kept (b ∷ bs) right o a h e n = cc
 
-seen_back : (l : List ℕ) (e : Seen) → seen_by (with_lineage l e) ≡ e
+pub seen_back : (l : List ℕ) (e : Seen) → seen_by (with_lineage l e) ≡ e
 seen_back l Push = refl
 seen_back l Pop = refl
 seen_back l (Module m) = refl
@@ -103,14 +103,14 @@ not_true true e = absurd (let g : false ≡ true = e in cc)
 not_true false e = refl
 
 module _ (r : Repair) (s : SteppingSpots r) where
-  seen_there : (p k : ℕ) (l : List ℕ) (v : ModuleValue) → slice_get (are r) p ≡ Some k → slice_get (is_level r s) p ≡ Some (L.Module l v) → (l ≡ name r s k) × (seen_at (now r) k ≡ Module v)
+  pub seen_there : (p k : ℕ) (l : List ℕ) (v : ModuleValue) → slice_get (are r) p ≡ Some k → slice_get (is_level r s) p ≡ Some (L.Module l v) → (l ≡ name r s k) × (seen_at (now r) k ≡ Module v)
   seen_there p k l v there e =
       let same : named (name r s) (spot_in k ((now r) k)) ≡ L.Module l v = same_Some (named (name r s) (spot_in k ((now r) k))) (L.Module l v) (sym (symbol_at (name r s) (now r) (are r) p k there) ∙ e) in (
         sym (sym (lineage_named (name r s) k ((now r) k)) ∙ ap lineage same),
         sym (seen_back (name r s k) (spot_in k ((now r) k)).seen) ∙ ap seen_by (sym (named_by_number (name r s) k ((now r) k)) ∙ same),
       )
 
-  stands_now : (p k : ℕ) (v : ModuleValue) → slice_get (are r) p ≡ Some k → seen_at (now r) k ≡ Module v → slice_get (is_level r s) p ≡ Some (L.Module (name r s k) v)
+  pub stands_now : (p k : ℕ) (v : ModuleValue) → slice_get (are r) p ≡ Some k → seen_at (now r) k ≡ Module v → slice_get (is_level r s) p ≡ Some (L.Module (name r s k) v)
   stands_now p k v there e = symbol_at (name r s) (now r) (are r) p k there ∙ ap Some (named_by_number (name r s) k ((now r) k) ∙ ap (with_lineage (name r s k)) e)
 
   module _ (below : r.level < r.old.depth) where
@@ -126,7 +126,7 @@ module _ (r : Repair) (s : SteppingSpots r) where
     abbrev row : List Spotted
     row = level_spots (rest r) (root r) r.level
 
-    spot_there : (p k : ℕ) → slice_get (were r) p ≡ Some k → slice_get row p ≡ Some (spot_in k (rest r k))
+    pub spot_there : (p k : ℕ) → slice_get (were r) p ≡ Some k → slice_get row p ≡ Some (spot_in k (rest r k))
     spot_there p k there = slice_get-map (λ k. spot_in k (rest r k)) (were r) p ∙ ap (option_map (λ k. spot_in k (rest r k))) there
 
     node_there : (p : ℕ) (a : Spotted) → slice_get row p ≡ Some a → In a.tag (were r)
@@ -145,7 +145,7 @@ module _ (r : Repair) (s : SteppingSpots r) where
       pub read : any_disturbed x y question.trace ≡ any (is_disturbed x y) (map (name r s) (tags_read r.store a))
       pub among : (j : ℕ) → In j (tags_read r.store a) → In j (were r)
 
-    key_there : (p k : ℕ) → slice_get (were r) p ≡ Some k → (spot_in k (rest r k)).key ≡ key_of r.old.seed (name r s k)
+    pub key_there : (p k : ℕ) → slice_get (were r) p ≡ Some k → (spot_in k (rest r k)).key ≡ key_of r.old.seed (name r s k)
     key_there p k there =
         s.old_levels.keys r.level p (spot_in k (rest r k)) (omega (arith, old_long r s, below)) (spot_there p k there)
         ∙ ap (λ j. key_of r.old.seed (names (rest r) j)) (tag_is k (rest r k)) ∙ ap (key_of r.old.seed) (old_name r s k (got_in (were r) p k there))
@@ -174,7 +174,7 @@ module _ (r : Repair) (s : SteppingSpots r) where
               subst (λ j. In j (were r)) t.is (node_there t.place t.spot t.there));
         }
 
-    answered_as : (p k : ℕ) (e : Seen) → slice_get (were r) p ≡ Some k → seen_at (rest r) k ≡ e → IsAnswered r.old r.level row r.store p k e (answer_at (rest r) k)
+    pub answered_as : (p k : ℕ) (e : Seen) → slice_get (were r) p ≡ Some k → seen_at (rest r) k ≡ e → IsAnswered r.old r.level row r.store p k e (answer_at (rest r) k)
     answered_as p k e there seen =
         let h = s.answered p k below there (spot_in k (rest r k)) (spot_there p k there) in
         subst (λ j. IsAnswered r.old r.level row r.store p j e (answer_at (rest r) k)) (tag_is k (rest r k))
@@ -312,7 +312,7 @@ module _ (r : Repair) (s : SteppingSpots r) where
   level_is : level_to r.new r.limit r.level ≡ is_level r s
   level_is = sym (s.new_levels.each r.level (omega (arith, new_long r s)))
 
-  differs : (p k : ℕ) (v : ModuleValue) → slice_get (are r) p ≡ Some k → seen_at (now r) k ≡ Module v → (group r.new r.level v.name (length v.params) ≡ [] → ⊥)
+  pub differs : (p k : ℕ) (v : ModuleValue) → slice_get (are r) p ≡ Some k → seen_at (now r) k ≡ Module v → (group r.new r.level v.name (length v.params) ≡ [] → ⊥)
       → is_candidate_at r.old r.new (xs r s) r.level (is_level r s) (module_question r.new r.level (is_level r s) p (name r s k) v) ≡ true → MayDiffer r k v
   differs p k v there seen some is = elim (cases_lt r.level r.old.depth) [
     | inl below ↦ may_differ below p k v there seen some is

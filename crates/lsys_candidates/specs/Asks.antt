@@ -1,5 +1,5 @@
 -- Which of the found nodes are asked, and in which order.
-use Rattle.std.specs.Prelude.{◌≡◌, ◌<◌, ◌↔◌, ℕ, List, [], ◌∷◌, ◌++◌}
+use Rattle.std.specs.Prelude.{◌≡◌, ◌<◌, ◌⊎◌, ◌↔◌, ℕ, List, [], ◌∷◌, ◌++◌}
 use Rattle.lsys_forest.specs.Groves.{Grove, In, AreApart}
 use Rattle.lsys_forest.specs.Rows.{level_of_node, place_of_node, IsAtSpot}
 
@@ -24,3 +24,9 @@ ArePlaced place (x ∷ xs) = ((k : ℕ) → In k xs → place x < place k) × Ar
 -- the nodes as they come on their level, from the left
 abbrev pub AreInOrder : {A : Type 0} → Grove A → List ℕ → Type 0
 AreInOrder f nodes = ArePlaced (place_of_node f) nodes
+
+-- these are some of those, in order
+abbrev pub AreSome : List ℕ → List ℕ → Type 0
+AreSome [] ks = Unit {0}
+AreSome (j ∷ js) [] = ⊥
+AreSome (j ∷ js) (k ∷ ks) = ((j ≡ k) × AreSome js ks) ⊎ AreSome (j ∷ js) ks

@@ -15,3 +15,10 @@ pub mod LastLevels
 pub mod LevelParents
 pub mod NextSymbols
 pub mod Gathered
+pub mod Renaming
+pub mod Retelling
+pub mod Unasked
+pub mod LevelAsks
+pub mod PendingNodes
+pub mod LostAnswers
+pub mod Called

@@ -5,6 +5,7 @@ use Rattle.lsys_spec.specs.Bodies.{group}
 use Rattle.lsys_spec.specs.Levels.{ModuleValue, Module}
 use Rattle.lsys_spec.specs.Levels as L
 use Rattle.lsys_spec.specs.Meaning.{LevelRefusal, meaning, meaning_to}
+use Rattle.lsys_spec.specs.Questions.{questions, is_needed}
 use Rattle.lsys_change.specs.Passes.{module_question, is_candidate_at}
 
 -- the levels that a system has; none where it has none
@@ -31,3 +32,11 @@ pub record IsCandidate (old new : System) (limit t p : ℕ) : Type 0 where
   pub rules : group new t own.name (length own.params) ≡ [] → ⊥
   pub is : is_candidate_at old new (meant old limit) t (level_to new limit t)
       (module_question new t (level_to new limit t) p line own) ≡ true
+
+-- The module at place p of level t of a new system, which is y, has a question that the old system didn't answer.
+pub record IsNeeded (old new : System) (limit t : ℕ) (y : List L.Symbol) (p : ℕ) : Type 0 where
+  pub line : List ℕ
+  pub own : ModuleValue
+  pub stands : slice_get y p ≡ Some (Module line own)
+  pub rules : group new t own.name (length own.params) ≡ [] → ⊥
+  pub is : is_needed (questions old (meant old limit)) (module_question new t y p line own) ≡ true

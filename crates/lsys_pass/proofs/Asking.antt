@@ -22,9 +22,10 @@ use Rattle.lsys_forest.proofs.WalkLemmas.{get_In}
 use Rattle.lsys_seats.proofs.LevelLemmas.{index_cases}
 use Rattle.lsys_kept.specs.Levels.{answer_at}
 use Rattle.lsys_kept.specs.Meant.{meant_to}
+use Rattle.lsys_candidates.specs.Asks.{AreSome}
 use Rattle.lsys_pass.specs.declared.state.PassState.TheVariants.{Level}
 use Rattle.lsys_pass.specs.Places.{AreInOrder}
-use Rattle.lsys_pass.specs.Stages.{AreSome, IsAtLevel}
+use Rattle.lsys_pass.specs.Stages.{IsAtLevel}
 use Rattle.lsys_pass.specs.Passes.{PassView, stage_of, now, HoldsAt, IsPass}
 use Rattle.lsys_pass.proofs.Stores.{AllMade}
 use Rattle.lsys_pass.proofs.Stepping.{IsNext, some_in}

@@ -22,9 +22,9 @@ use Rattle.lsys_seats.specs.declared.seat.Seat.{Seat}
 use Rattle.lsys_seats.specs.Seats.{SameSeats}
 use Rattle.lsys_kept.specs.Lineages.{kin_of, kins, names}
 use Rattle.lsys_kept.specs.Levels.{AnsweredAt, AnsweredIn, level_of, answer_at, HasRead}
-use Rattle.lsys_kept.specs.Meant.{level_to}
+use Rattle.lsys_kept.specs.Meant.{level_to, IsNeeded}
 use Rattle.lsys_pass.specs.Rests.{IsResting}
-use Rattle.lsys_pass.specs.Stages.{Stage, was, Rests, fault_in, AreNoted, HasFault, OutcomeBy, IsNeeded, IsNeededAt, HasSeats, IsAtLevel, IsDone}
+use Rattle.lsys_pass.specs.Stages.{Stage, was, Rests, fault_in, AreNoted, HasFault, OutcomeBy, IsNeededAt, HasSeats, IsAtLevel, IsDone}
 use Rattle.lsys_pass.specs.Advances.{IsAskedTo, KeepsRest, Makes, Begins, Advances, Ends}
 use Rattle.lsys_pass.specs.Passes.{IsStill}
 use Rattle.lsys_pass.proofs.Stepping.{some_in}

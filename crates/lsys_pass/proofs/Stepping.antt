@@ -25,11 +25,12 @@ use Rattle.lsys_forest.proofs.StockLemmas.{put_other}
 use Rattle.lsys_forest.proofs.WalkLemmas.{get_In}
 use Rattle.lsys_kept.specs.Lineages.{kins}
 use Rattle.lsys_kept.specs.Levels.{AnsweredIn, AnsweredAt, level_of, answer_at, HasRead}
-use Rattle.lsys_kept.specs.Meant.{level_to}
+use Rattle.lsys_kept.specs.Meant.{level_to, IsNeeded}
+use Rattle.lsys_candidates.specs.Asks.{AreSome}
 use Rattle.lsys_seats.specs.Neighbours.{neighbours_on}
 use Rattle.lsys_pass.specs.declared.fault.Faulted.{Faulted}
 use Rattle.lsys_pass.specs.Rests.{AreCountedLow, IsResting}
-use Rattle.lsys_pass.specs.Stages.{Stage, was, Rests, fault_in, AreNoted, HasFault, OutcomeBy, IsOutcome, IsOpen, IsSettled, AreSome, IsNeeded, IsNeededAt, HasTree, HasAnswers, HasLists, HasNews, HasSeats, IsAtLevel}
+use Rattle.lsys_pass.specs.Stages.{Stage, was, Rests, fault_in, AreNoted, HasFault, OutcomeBy, IsOutcome, IsOpen, IsSettled, IsNeededAt, HasTree, HasAnswers, HasLists, HasNews, HasSeats, IsAtLevel}
 use Rattle.lsys_pass.proofs.Stores.{AllMade, AllStay, answered_stays, rest_stays}
 use Rattle.lsys_pass.proofs.Alike.{AreAlike, nodes_alike, spots_alike, level_alike, neighbours_alike, have_alike, alike_put, answer_put, answer_other, put_from}
 

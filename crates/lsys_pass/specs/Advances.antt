@@ -10,10 +10,11 @@ use Rattle.lsys_kept.specs.Lineages.{kins}
 use Rattle.lsys_kept.specs.Levels.{HaveLevels, AnsweredAt, answer_at}
 use Rattle.lsys_kept.specs.Meant.{meant, IsCandidate}
 use Rattle.lsys_seats.specs.Seats.{SameSeats}
+use Rattle.lsys_candidates.specs.Asks.{AreSome}
 use Rattle.lsys_next.specs.Nexts.{count_wanted}
 use Rattle.lsys_next.specs.Answers.{kept_successors}
 use Rattle.lsys_pass.specs.Rests.{AreCountedLow}
-use Rattle.lsys_pass.specs.Stages.{Stage, was, AreSome, IsNeededAt, HasTree, HasSeats, IsAtLevel}
+use Rattle.lsys_pass.specs.Stages.{Stage, was, IsNeededAt, HasTree, HasSeats, IsAtLevel}
 
 -- Level t was asked: nothing of it is pending, and it has no faults.
 pub record IsAskedTo (s : Stage) (t : ℕ) : Type 0 where

@@ -1,11 +1,9 @@
 -- What a pass keeps true while it makes the levels of another system.
 use Rattle.std.specs.Prelude.{◌≡◌, ◌<◌, ◌≤◌, ◌+◌, ◌^◌, ◌⊎◌, ◌↔◌, ℕ, true, List, [], ◌∷◌, length, count_by, is_none, Ok, Err, Option, Some, None, cond, nat_eq, slice_get}
 use Rattle.lsys_spec.specs.Systems.{System, WellSpelled}
-use Rattle.lsys_spec.specs.Bodies.{group}
 use Rattle.lsys_spec.specs.Levels.{ModuleValue, Module}
 use Rattle.lsys_spec.specs.Levels as L
 use Rattle.lsys_spec.specs.Meaning.{meaning, meaning_to, successor}
-use Rattle.lsys_spec.specs.Questions.{questions, is_needed}
 use Rattle.lsys_rewrite.specs.Faults.{fault_of}
 use Rattle.lsys_rewrite.specs.declared.refusal.FaultKind.{FaultKind}
 use Rattle.lsys_walks.specs.Stores.{Store}
@@ -13,7 +11,6 @@ use Rattle.lsys_match.specs.Kept.{Kept}
 use Rattle.lsys_match.specs.Asks.{IsMade}
 use Rattle.lsys_reads.specs.Relations.{Relations, is_pending}
 use Rattle.lsys_change.specs.Nodes.{AreOnce, Extends}
-use Rattle.lsys_change.specs.Passes.{module_question}
 use Rattle.lsys_forest.specs.Nodes.{Node, Nodes}
 use Rattle.lsys_forest.specs.Changes.{Change, undone}
 use Rattle.lsys_forest.specs.Answers.{Keeper, answers}
@@ -22,10 +19,11 @@ use Rattle.lsys_forest.specs.Rows.{level_nodes}
 use Rattle.lsys_kept.specs.Names.{RunName, holds}
 use Rattle.lsys_kept.specs.Lineages.{kins}
 use Rattle.lsys_kept.specs.Levels.{HaveLevels, AnsweredAt, level_of, answer_at, HasRead}
-use Rattle.lsys_kept.specs.Meant.{meant, meant_to, level_to, IsCandidate}
+use Rattle.lsys_kept.specs.Meant.{meant, meant_to, level_to, IsCandidate, IsNeeded}
 use Rattle.lsys_seats.specs.declared.seat.Seat.{Seat}
 use Rattle.lsys_seats.specs.Neighbours.{neighbours_on}
 use Rattle.lsys_seats.specs.Seats.{neighbours_at, HasSeat}
+use Rattle.lsys_candidates.specs.Asks.{AreSome}
 use Rattle.lsys_pass.specs.declared.fault.Faulted.{Faulted}
 use Rattle.lsys_pass.specs.Rests.{AreCountedLow, IsResting}
 
@@ -116,23 +114,9 @@ pub record IsSettled (s : Stage) (t p k : ℕ) : Type 0 where
   pub done : In k s.pending → ⊥
   pub outcome : IsOutcome s t p k
 
--- The module at place p of level t of a new system, which is y, has a question that the old system didn't answer.
-pub record IsNeeded (old new : System) (limit t : ℕ) (y : List L.Symbol) (p : ℕ) : Type 0 where
-  pub line : List ℕ
-  pub own : ModuleValue
-  pub stands : slice_get y p ≡ Some (Module line own)
-  pub rules : group new t own.name (length own.params) ≡ [] → ⊥
-  pub is : is_needed (questions old (meant old limit)) (module_question new t y p line own) ≡ true
-
--- so it is with node k, at place p of level t
+-- the node at place p of level t has a question that the old system didn't answer
 abbrev pub IsNeededAt : Stage → ℕ → ℕ → Type 0
 IsNeededAt s t p = IsNeeded s.system s.next s.limit t (level_of s.now s.root t) p
-
--- these are some of those, in order
-abbrev pub AreSome : List ℕ → List ℕ → Type 0
-AreSome [] ks = Unit {0}
-AreSome (j ∷ js) [] = ⊥
-AreSome (j ∷ js) (k ∷ ks) = ((j ≡ k) × AreSome js ks) ⊎ AreSome (j ∷ js) ks
 
 -- The nodes m up to level t are the levels of the system; what lies deeper is as it was in the nodes o of the last rest.
 pub record HasTree (m o : Nodes Kept) (root : ℕ) (new : System) (limit t : ℕ) : Type 0 where

@@ -1,0 +1,94 @@
+//! Answers that are lost with their questions.
+ghost use Rattle.std.specs.Prelude.{◌≡◌, ◌↔◌, ◌<◌, ◌≤◌, ◌+◌, ◌^◌, ◌++◌, ◌∷◌, ℕ, [], IsTrue, OnOk, OnErr, vec_len, vec_capacity};
+ghost use Rattle.lsys_forest.specs.Groves.{In, now_of, changes_in, live_nodes, IsLive};
+ghost use Rattle.lsys_front.specs.Losses.{LosesOnly};
+ghost use Rattle.lsys_front.specs.Asks.{IsIdle, Loses};
+
+use lsys_candidates::has_question;
+use lsys_forest::{Forest, Kept, NodeId};
+use lsys_level::Tag;
+use lsys_rules::System;
+use std::alloc::AllocError;
+
+/// Takes the answers of those of these nodes that have no question any more, by the rules of a level of a system. They come
+/// behind `bare`, and behind `dropped`.
+///
+/// # Errors
+///
+/// Want of memory. Nothing has changed then.
+pub fn lose_answers<A: Kept>(
+    forest: &mut Forest<A>,
+    system: &System,
+    level: u32,
+    nodes: &[NodeId],
+    bare: &mut Vec<NodeId>,
+    dropped: &mut Vec<Tag>,
+) -> Result<(), AllocError>
+    requires few { live_nodes forest.old < 2 ^ 32 }
+    requires lives { (k : ℕ) → In k nodes.now → IsLive forest.old k }
+    ensures loses { OnOk result (Loses system.now level (now_of forest.old) (now_of forest.new)
+        nodes.now bare.old.items bare.new.items dropped.old.items dropped.new.items) }
+    ensures only { LosesOnly forest.old forest.new }
+    ensures now { OnErr result (now_of forest.new ≡ now_of forest.old) }
+    ensures changes { OnErr result (changes_in forest.new ≡ changes_in forest.old) }
+    ensures bare { OnErr result (bare.new.items ≡ bare.old.items) }
+    ensures dropped { OnErr result (dropped.new.items ≡ dropped.old.items) }
+{
+    forest.reserve(0, 0, 0, nodes.len())?;
+    bare.reserve(nodes.len())?;
+    dropped.reserve(nodes.len())?;
+    for node in nodes {
+        lose_answer(forest, system, level, *node, bare, dropped);
+    }
+    Ok(())
+}
+
+/// The same for one node. It takes no memory.
+fn lose_answer<A: Kept>(
+    forest: &mut Forest<A>,
+    system: &System,
+    level: u32,
+    node: NodeId,
+    bare: &mut Vec<NodeId>,
+    dropped: &mut Vec<Tag>,
+)
+    requires lives { IsLive forest.old node }
+    requires notes { 0 < forest.old.spare_notes }
+    requires places { vec_len bare.old < vec_capacity bare.old }
+    requires tags { vec_len dropped.old < vec_capacity dropped.old }
+    ensures loses { Loses system.now level (now_of forest.old) (now_of forest.new)
+        (node ∷ []) bare.old.items bare.new.items dropped.old.items dropped.new.items }
+    ensures only { LosesOnly forest.old forest.new }
+    ensures notes { forest.old.spare_notes ≤ forest.new.spare_notes + 1 }
+    ensures places { vec_len bare.new + vec_capacity bare.old
+        ≤ vec_len bare.old + vec_capacity bare.new + 1 }
+    ensures tags { vec_len dropped.new + vec_capacity dropped.old
+        ≤ vec_len dropped.old + vec_capacity dropped.new + 1 }
+{
+    if !is_idle(forest, system, level, node) {
+        return;
+    }
+    forest.set_answer(node, None);
+    push_in_room(bare, node);
+    push_in_room(dropped, Tag(node.0));
+}
+
+/// Whether a node keeps an answer, and has no question.
+fn is_idle<A: Kept>(forest: &Forest<A>, system: &System, level: u32, node: NodeId) -> bool
+    requires { IsLive forest.now node }
+    ensures { IsTrue result ↔ IsIdle system.now level (now_of forest.now) node }
+{
+    forest.answer(node).is_some() && !has_question(system, level, forest, node)
+}
+
+/// Adds an item to a list that has room for it.
+fn push_in_room<T: Drop>(list: &mut Vec<T>, item: T)
+    requires { vec_len list.old < vec_capacity list.old }
+    ensures pushed { list.new.items ≡ list.old.items ++ item ∷ [] }
+    ensures capacity { vec_capacity list.old ≤ vec_capacity list.new }
+{
+    match list.push(item) {
+        Ok(()) => {}
+        Err(_) => unreachable!(),
+    }
+}
