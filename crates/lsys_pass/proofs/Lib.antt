@@ -31,3 +31,5 @@ pub mod SizesTold
 pub mod Repairing
 pub mod Going
 pub mod Coming
+pub mod SeenCases
+pub mod NextParents

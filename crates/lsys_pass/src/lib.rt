@@ -9,6 +9,7 @@ mod next_level;
 mod stubs;
 mod keep;
 mod outcome;
+mod parents;
 mod pass;
 mod place;
 mod read;

@@ -1,17 +1,14 @@
 //! Stubs.
 ghost use Rattle.std.specs.Prelude.{◌≡◌, ◌+◌, ◌<◌, ◌≤◌, ◌^◌, ℕ, [], false, length, IfOk, OnOk, OnErr, IfErr, map};
-ghost use Rattle.lsys_next.specs.Nexts.{AreClosed};
-ghost use Rattle.lsys_next.specs.Answers.{kept_successors};
 ghost use Rattle.lsys_repair.specs.Needs.{needs};
-ghost use Rattle.lsys_seats.specs.Seats.{SameSeats, KeepsSeats};
-ghost use Rattle.lsys_kept.specs.Levels.{answer_at};
 ghost use Rattle.lsys_pass.specs.declared.state.PassState.TheVariants.{Failed};
-ghost use Rattle.lsys_pass.specs.Sizes.{total_of, with_open, with_level};
+ghost use Rattle.lsys_pass.specs.Sizes.{total_of, with_level};
 ghost use Rattle.lsys_pass.specs.Moves.{SameRun, IsRefusal};
 ghost use Rattle.lsys_pass.specs.Passes.{stage_of, now};
 ghost use Rattle.lsys_pass.specs.Advances.{symbols_wanted};
 ghost use Rattle.lsys_pass.specs.Fresh.{WasAsked, row_of, AreNextParents, IsFresh, HasFound, IsToAsk, IsLast, Goes};
 
+use crate::parents::Parents;
 use crate::pass::Pass;
 use lsys_brood::Need;
 use lsys_forest::NodeId;
@@ -19,13 +16,6 @@ use lsys_repair::Parent;
 use lsys_rewrite::DeriveRefusal;
 use std::alloc::{AllocError, Global};
 use std::sync::ledger::Ledger;
-
-#[derive(Drop)]
-pub(crate) struct Parents {
-    pub(crate) list: Vec<Parent>,
-    pub(crate) is_whole: bool,
-    pub(crate) is_open: bool,
-}
 
 #[derive(Clone, Copy, Drop)]
 pub(crate) struct NextCount {
@@ -40,22 +30,6 @@ pub(crate) struct Found {
 }
 
 impl<L: Ledger> Pass<L> {
-    pub(crate) fn find_parents(&mut self, alloc: Global, level: u32) -> Result<Parents, AllocError>
-        requires failed { self.old.state ≡ Failed }
-        requires asked { WasAsked self.old level }
-        ensures found { IfOk result (λ ps. AreNextParents self.new level ps.list.items) }
-        ensures closed { IfOk result (λ ps. ps.is_open ≡ false
-            → AreClosed (kept_successors (now self.new)) (row_of self.new level)) }
-        ensures asked { WasAsked self.new level }
-        ensures same { self.new ≡ record self.old { seats = self.new.seats; made = self.new.made } }
-        ensures seats { SameSeats self.old.seats self.new.seats }
-        ensures made { IfOk result (λ ps. self.new.made ≡ with_open self.old.made ps.is_open) }
-    {
-        let _ = alloc;
-        let _ = level;
-        unreachable!()
-    }
-
     pub(crate) fn count_next(&mut self, level: u32, parents: &Parents) -> Result<NextCount, AllocError>
         requires failed { self.old.state ≡ Failed }
         requires asked { WasAsked self.old level }
