@@ -33,3 +33,7 @@ pub mod Going
 pub mod Coming
 pub mod SeenCases
 pub mod NextParents
+pub mod Failing
+pub mod Ended
+pub mod Endings
+pub mod Turnings

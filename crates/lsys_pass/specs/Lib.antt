@@ -10,3 +10,4 @@ pub mod Moves
 pub mod Leftmost
 pub mod Fresh
 pub mod Sizes
+pub mod Lasts

@@ -4,6 +4,7 @@
 //! `specs/Moves.antt`.
 #![tactic(auto)]
 
+mod ending;
 mod fault;
 mod next_level;
 mod stubs;
@@ -17,6 +18,7 @@ mod refusal;
 mod seating;
 mod sizes;
 mod state;
+mod turning;
 mod work;
 
 pub use fault::Faulted;
