@@ -37,3 +37,4 @@ pub mod Failing
 pub mod Ended
 pub mod Endings
 pub mod Turnings
+pub mod Marked

@@ -70,12 +70,12 @@ impl<L: Ledger> Pass<L> {
         ensures comes { OnOk result (IsNext self.old.next level self.new.state) }
         ensures fails { OnErr result (self.new.state ≡ Failed) }
     {
-        let found = self.find_turned(level)?;
+        let found = self.find_turned(alloc)?;
         if level < depth {
             self.ask_level(alloc, level, &found)?;
             self.state = PassState::Level(level);
         } else {
-            self.end_levels(alloc, level, &found)?;
+            self.end_levels(alloc, level)?;
             self.state = PassState::Done;
         }
         Ok(())

@@ -48,18 +48,32 @@ impl<L: Ledger> Pass<L> {
         ensures keeps { KeepsSeats self.old.seats self.new.seats }
         ensures made { IfOk result (λ ps. self.new.made ≡ with_open self.old.made ps.is_open) }
     {
-        let found = if self.is_other_level(level) {
-            None
-        } else {
-            let nodes = self.changed_nodes(alloc, level)?;
-            self.found_parents(alloc, level, &nodes)?
-        };
-        let parents = match found {
-            Some(parents) => parents,
-            None => self.walked_parents(alloc, level)?,
-        };
+        let parents = self.next_parents(alloc, level)?;
         self.sizes.tell_open(parents.is_open);
         Ok(parents)
+    }
+
+    /// The same, without telling whether the level is open.
+    fn next_parents(&mut self, alloc: Global, level: u32) -> Result<Parents, AllocError>
+        requires failed { self.old.state ≡ Failed }
+        requires asked { WasAsked self.old level }
+        ensures found { IfOk result (λ ps. AreNextParents self.new level ps.list.items) }
+        ensures either { IfOk result (λ ps. AreWalkedOrAlone self.new level ps.is_whole ps.list.items) }
+        ensures closed { IfOk result (λ ps. ps.is_open ≡ false
+            → AreClosed (kept_successors (now self.new)) (row_of self.new level)) }
+        ensures asked { WasAsked self.new level }
+        ensures same { self.new ≡ record self.old { seats = self.new.seats } }
+        ensures seats { SameSeats self.old.seats self.new.seats }
+        ensures keeps { KeepsSeats self.old.seats self.new.seats }
+    {
+        if self.is_other_level(level) {
+            return self.walked_parents(alloc, level);
+        }
+        let nodes = self.changed_nodes(alloc, level)?;
+        match self.found_parents(alloc, level, &nodes)? {
+            Some(parents) => Ok(parents),
+            None => self.walked_parents(alloc, level),
+        }
     }
 
     /// The nodes of the level whose children may be others, each once.
@@ -74,7 +88,8 @@ impl<L: Ledger> Pass<L> {
         ensures keeps { KeepsSeats self.old.seats self.new.seats }
     {
         let renewed = &self.work.renewed[self.work.first_renewed..];
-        self.work.front.parents(alloc, &mut self.seats, renewed)
+        let nodes = self.work.front.parents(alloc, &mut self.seats, renewed)?;
+        Ok(nodes)
     }
 
     /// They are the parents, where no cut among what replaces one of them reaches what stands behind it.
@@ -91,8 +106,8 @@ impl<L: Ledger> Pass<L> {
         ensures found { IfOk result (λ o. IfSome o (λ ps. AreNextParents self.now level ps.list.items)) }
         ensures either { IfOk result (λ o. IfSome o (λ ps.
             AreWalkedOrAlone self.now level ps.is_whole ps.list.items)) }
-        ensures closed { IfOk result (λ o. IfSome o (λ ps.
-            AreClosed (kept_successors (now self.now)) (row_of self.now level))) }
+        ensures closed { IfOk result (λ o. IfSome o (λ ps. ps.is_open ≡ false
+            → AreClosed (kept_successors (now self.now)) (row_of self.now level))) }
     {
         if any_opens(&self.forest, nodes) {
             return Ok(None);

@@ -6,12 +6,12 @@ ghost use Rattle.lsys_pass.specs.Sizes.{total_of, with_level};
 ghost use Rattle.lsys_pass.specs.Moves.{SameRun, IsRefusal};
 ghost use Rattle.lsys_pass.specs.Passes.{stage_of, now};
 ghost use Rattle.lsys_pass.specs.Advances.{symbols_wanted};
-ghost use Rattle.lsys_pass.specs.Fresh.{WasAsked, row_of, AreNextParents, IsFresh, HasFound, IsToAsk, IsLast, Goes};
+ghost use Rattle.lsys_pass.specs.Fresh.{WasAsked, row_of, AreNextParents, IsFresh, HasFound, IsToAsk, Goes};
 
 use crate::parents::Parents;
 use crate::pass::Pass;
 use lsys_brood::Need;
-use lsys_forest::NodeId;
+use lsys_front::Found;
 use lsys_repair::Parent;
 use lsys_rewrite::DeriveRefusal;
 use std::alloc::{AllocError, Global};
@@ -21,12 +21,6 @@ use std::sync::ledger::Ledger;
 pub(crate) struct NextCount {
     pub(crate) need: Need,
     pub(crate) symbols: usize,
-}
-
-#[derive(Drop)]
-pub(crate) struct Found {
-    pub(crate) beside: Vec<NodeId>,
-    pub(crate) readers: Vec<NodeId>,
 }
 
 impl<L: Ledger> Pass<L> {
@@ -85,48 +79,12 @@ impl<L: Ledger> Pass<L> {
         unreachable!()
     }
 
-    pub(crate) fn find_turned(&mut self, level: u32) -> Result<Found, AllocError>
-        requires failed { self.old.state ≡ Failed }
-        requires fresh { IsFresh self.old level }
-        requires few { level < 2 ^ 32 }
-        ensures found { IfOk result (λ f. HasFound self.new level f.beside.items f.readers.items) }
-        ensures goes { OnOk result (Goes (stage_of self.old) (stage_of self.new) level) }
-        ensures same { self.new ≡ record self.old {
-            seats = self.new.seats;
-            dropped = self.new.dropped;
-            moved = self.new.moved;
-            front = self.new.front;
-            first_renewed = self.new.first_renewed;
-        } }
-    {
-        let _ = level;
-        unreachable!()
-    }
-
     pub(crate) fn ask_level(&mut self, alloc: Global, level: u32, found: &Found) -> Result<(), AllocError>
         requires failed { self.old.state ≡ Failed }
         requires found { HasFound self.old level found.now.beside.items found.now.readers.items }
         requires below { level < self.old.next.depth }
         requires few { level < 2 ^ 32 }
         ensures asked { OnOk result (IsToAsk self.new level) }
-        ensures goes { OnOk result (Goes (stage_of self.old) (stage_of self.new) level) }
-        ensures rows { OnOk result ((u : ℕ) → u ≤ level → row_of self.new u ≡ row_of self.old u) }
-        ensures made { self.new.made ≡ self.old.made }
-        ensures run { SameRun self.old self.new }
-        ensures state { self.new.state ≡ Failed }
-    {
-        let _ = alloc;
-        let _ = level;
-        let _ = found;
-        unreachable!()
-    }
-
-    pub(crate) fn end_levels(&mut self, alloc: Global, level: u32, found: &Found) -> Result<(), AllocError>
-        requires failed { self.old.state ≡ Failed }
-        requires found { HasFound self.old level found.now.beside.items found.now.readers.items }
-        requires last { self.old.next.depth ≡ level }
-        requires few { level < 2 ^ 32 }
-        ensures last { OnOk result (IsLast self.new level) }
         ensures goes { OnOk result (Goes (stage_of self.old) (stage_of self.new) level) }
         ensures rows { OnOk result ((u : ℕ) → u ≤ level → row_of self.new u ≡ row_of self.old u) }
         ensures made { self.new.made ≡ self.old.made }

@@ -1,5 +1,7 @@
-use Rattle.std.proofs.Common.{◌≡◌, ◌<◌, ◌^◌, ℕ, List, None, length, sym, subst, ap, ◌∙◌}
-use Rattle.lsys_forest.specs.Groves.{In}
+use Rattle.std.proofs.Common.{◌≡◌, ◌<◌, ◌^◌, ◌++◌, ℕ, List, None, length, sym, subst, ap, ◌∙◌}
+use Rattle.lsys_match.specs.Kept.{Kept}
+use Rattle.lsys_forest.specs.Nodes.{Nodes}
+use Rattle.lsys_forest.specs.Groves.{In, now_of}
 use Rattle.lsys_forest.specs.Rows.{complete_levels}
 use Rattle.lsys_repair.specs.declared.parent.Parent.{Parent}
 use Rattle.lsys_repair.specs.Parents.{walked}
@@ -27,4 +29,9 @@ walk_parents-requires-clause-few g c =
     subst (λ (ks : List ℕ). length ks < 2 ^ 32) (sym (c.deref.ensures.value ∙ c.in_ok-list_level.ensures)) (few _ c.args.level a)
 
 pub returns-clause-found : goal.returns-clause-found
-returns-clause-found g c = ?
+returns-clause-found g c =
+    let v : PassView = c.args.self.now in
+    let m : Nodes Kept = now_of c.self.inside.forest in
+    let nodes = c.deref.ensures.value ∙ c.in_ok-list_level.ensures in
+    let list = c.in_ok-is_open.ensures.parents ∙ ap (λ (ps : List Parent). ps ++ walked m None c.deref.result.now) c.new-list.ensures.items ∙ ap (λ (ks : List ℕ). walked m None ks) nodes ∙ ap (λ (w : PassView). walked (now w) None (row_of w c.args.level)) c.self.view_is in
+    subst (λ (ps : List Parent). AreNextParents v c.args.level ps) (sym list) (walked_are v c.args.level c.requires.asked)
