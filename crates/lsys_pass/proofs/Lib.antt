@@ -38,3 +38,4 @@ pub mod Ended
 pub mod Endings
 pub mod Turnings
 pub mod Marked
+pub mod NextCounts

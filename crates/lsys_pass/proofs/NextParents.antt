@@ -54,7 +54,7 @@ module _ (m : Nodes Kept) (by : Successors) (j : ℕ) (js : List ℕ) (closed : 
   at_later : (k ≡ j → ⊥) → wanted_in m by None js k ≡ by k → wanted_in m by None (j ∷ js) k ≡ by k
   at_later ne h = ap (λ b. cond b (wanted_behind None (node_kind m j) (by j)) (behind k)) (same_not k j ne) ∙ ap (λ o. wanted_in m by o js k) (none_reached (node_kind m j) (is_open (by j)) closed) ∙ h
 
-wanted_alone : (m : Nodes Kept) (by : Successors) (ks : List ℕ) → AreClosed by ks → (k : ℕ) → In k ks → wanted_in m by None ks k ≡ by k
+pub wanted_alone : (m : Nodes Kept) (by : Successors) (ks : List ℕ) → AreClosed by ks → (k : ℕ) → In k ks → wanted_in m by None ks k ≡ by k
 wanted_alone m by [] closed k i = absurd i
 wanted_alone m by (j ∷ js) closed k (inl e) = at_first m by j js closed.0 k e
 wanted_alone m by (j ∷ js) closed k (inr i) = elim (cases_eq k j) [

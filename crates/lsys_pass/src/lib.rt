@@ -4,6 +4,7 @@
 //! `specs/Moves.antt`.
 #![tactic(auto)]
 
+mod symbols;
 mod ending;
 mod fault;
 mod next_level;

@@ -42,9 +42,10 @@ impl<L: Ledger> Pass<L> {
         let depth = self.depth();
         let parents = self.find_parents(alloc, level)?;
         let count = self.count_next(level, &parents)?;
-        self.within_limit(level, count.symbols)?;
+        let next = level + 1;
+        self.within_limit(next, count.symbols)?;
         self.make_level(alloc, level, &parents.list, &count.need, count.symbols)?;
-        Ok(self.come_to(alloc, level + 1, depth)?)
+        Ok(self.come_to(alloc, next, depth)?)
     }
 
     /// The depth of the system that is being made.

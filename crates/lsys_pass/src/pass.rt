@@ -18,9 +18,10 @@ use crate::place::place_among;
 use crate::read::settle_reads;
 use crate::refusal::first_fault;
 use crate::seating::seat_all;
-use crate::sizes::{Sizes, room_under};
+use crate::sizes::Sizes;
 use crate::state::PassState;
 use crate::work::Work;
+use lsys_brood::Brood;
 use lsys_forest::{Forest, NodeId};
 use lsys_kept::KeptAnswer;
 use lsys_match::{AnswerStore, Steps, ask};
@@ -28,6 +29,7 @@ use lsys_reads::Reads;
 use lsys_rewrite::{DeriveRefusal, EditCount};
 use lsys_rules::System;
 use lsys_seats::Seats;
+use lsys_wanted::Wanted;
 use std::alloc::{AllocError, Global};
 use std::marker::Model;
 use std::sync::ledger::Ledger;
@@ -46,6 +48,8 @@ pub struct Pass<L: Ledger> {
     pub(crate) state: PassState,
     pub(crate) answers: usize,
     pub(crate) work: Work,
+    pub(crate) wanted: Wanted,
+    pub(crate) brood: Brood,
 }
 
 impl<L: Ledger> Model for Pass<L> {
@@ -131,6 +135,8 @@ impl<L: Ledger> Pass<L> {
             state: PassState::Rest,
             answers: 0,
             work: Work::new(alloc),
+            wanted: Wanted::new(alloc),
+            brood: Brood::new(alloc),
         })
     }
 
@@ -150,22 +156,6 @@ impl<L: Ledger> Pass<L> {
             (IsRefusal self.now.next self.now.limit) }
     {
         first_fault(&self.forest, level, &self.work.faults)
-    }
-
-    /// Why this level, which would be made next and have so many symbols, can't be; none where there is room for it.
-    pub(crate) fn limit_refusal(&self, level: u32, symbols: usize) -> Option<DeriveRefusal>
-        requires state { self.now.state ≡ Level (level - 1) }
-        requires behind { 0 < level }
-        requires asked { IsAskedTo (stage_of self.now) (level - 1) }
-        requires symbols { symbols ≡ symbols_wanted (stage_of self.now) (level - 1) }
-        ensures { MatchOption result (total_of self.now.made + symbols ≤ self.now.limit)
-            (IsRefusal self.now.next self.now.limit) }
-    {
-        if symbols > room_under(self.limit, &self.sizes.made) {
-            Some(DeriveRefusal::Limit { level })
-        } else {
-            None
-        }
     }
 
     /// The new system has no levels, or memory was wanted: only to abandon it is left. It takes no memory.

@@ -42,10 +42,10 @@ impl Sizes {
     }
 
     /// How many symbols a level had at the last rest; none, where it was not there.
-    pub(crate) fn symbols_of(&self, level: u32) -> usize
+    pub(crate) fn symbols_of(&self, level: usize) -> usize
         ensures { result ≡ symbols_at self.now.rest.items level }
     {
-        match self.rest.get(level as usize) {
+        match self.rest.get(level) {
             Some(size) => size.symbols,
             None => 0,
         }

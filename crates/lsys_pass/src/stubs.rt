@@ -8,47 +8,14 @@ ghost use Rattle.lsys_pass.specs.Passes.{stage_of, now};
 ghost use Rattle.lsys_pass.specs.Advances.{symbols_wanted};
 ghost use Rattle.lsys_pass.specs.Fresh.{WasAsked, row_of, AreNextParents, IsFresh, HasFound, IsToAsk, Goes};
 
-use crate::parents::Parents;
 use crate::pass::Pass;
 use lsys_brood::Need;
 use lsys_front::Found;
 use lsys_repair::Parent;
-use lsys_rewrite::DeriveRefusal;
 use std::alloc::{AllocError, Global};
 use std::sync::ledger::Ledger;
 
-#[derive(Clone, Copy, Drop)]
-pub(crate) struct NextCount {
-    pub(crate) need: Need,
-    pub(crate) symbols: usize,
-}
-
 impl<L: Ledger> Pass<L> {
-    pub(crate) fn count_next(&mut self, level: u32, parents: &Parents) -> Result<NextCount, AllocError>
-        requires failed { self.old.state ≡ Failed }
-        requires asked { WasAsked self.old level }
-        requires found { AreNextParents self.old level parents.now.list.items }
-        ensures same { self.new ≡ self.old }
-        ensures need { IfOk result (λ n. n.need
-            ≡ needs self.old.next.numbering (now self.old) parents.now.list.items) }
-        ensures symbols { IfOk result (λ n. n.symbols ≡ symbols_wanted (stage_of self.old) level) }
-    {
-        let _ = level;
-        let _ = parents;
-        unreachable!()
-    }
-
-    pub(crate) fn within_limit(&self, level: u32, symbols: usize) -> Result<(), DeriveRefusal>
-        requires asked { WasAsked self.now level }
-        requires symbols { symbols ≡ symbols_wanted (stage_of self.now) level }
-        ensures within { OnOk result (total_of self.now.made + symbols ≤ self.now.limit) }
-        ensures refusal { IfErr result (IsRefusal self.now.next self.now.limit) }
-    {
-        let _ = level;
-        let _ = symbols;
-        unreachable!()
-    }
-
     pub(crate) fn make_level(
         &mut self,
         alloc: Global,
