@@ -29,6 +29,10 @@ pub mod NextLengths
 pub mod Closedness
 pub mod SizesTold
 pub mod Repairing
+pub mod Going
+pub mod Coming
+pub mod SeenCases
+pub mod NextParents
 pub mod Failing
 pub mod Ended
 pub mod Endings
@@ -38,3 +42,5 @@ pub mod Unanswered
 pub mod Pendings
 pub mod Births
 pub mod Freshness
+pub mod Marked
+pub mod NextCounts

@@ -91,7 +91,7 @@ fn end_forest<A: Kept>(
 }
 
 /// The nodes that are gone from a level.
-fn gone_nodes(front: &Front) -> &[NodeId]
+pub(crate) fn gone_nodes(front: &Front) -> &[NodeId]
     ensures { result.now ≡ front.now.changes.gone }
 {
     &front.changes.gone

@@ -5,11 +5,15 @@
 #![tactic(auto)]
 
 mod asked;
+mod symbols;
 mod ending;
 mod fault;
+mod next_level;
+mod stubs;
 mod keep;
 mod level;
 mod outcome;
+mod parents;
 mod pass;
 mod place;
 mod read;
