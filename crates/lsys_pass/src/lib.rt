@@ -9,7 +9,6 @@ mod symbols;
 mod ending;
 mod fault;
 mod next_level;
-mod stubs;
 mod keep;
 mod level;
 mod outcome;
