@@ -98,7 +98,7 @@ fn gone_nodes(front: &Front) -> &[NodeId]
 }
 
 /// The nodes of a forest hang together under the root, and did so at any time since the last rest.
-fn law_of_forests<A: Kept>(forest: &Forest<A>)
+pub(crate) fn law_of_forests<A: Kept>(forest: &Forest<A>)
     ensures { AreSound forest.now.root (changes_in forest.now) (now_of forest.now) }
 {
     forest.root();

@@ -12,12 +12,13 @@ ghost use Rattle.lsys_pass.specs.Moves.{SameRun};
 ghost use Rattle.lsys_pass.specs.Made.{KeepsAnswers, MakesBelow};
 ghost use Rattle.lsys_pass.specs.Fresh.{WasAsked, row_of, AreNextParents, IsFresh, Goes};
 
+use crate::ending::law_of_forests;
 use crate::keep::target;
 use crate::pass::Pass;
 use crate::room::reserve_for;
 use crate::seating::make_seats;
 use lsys_brood::{Brood, Changes, Need};
-use lsys_forest::{Forest, Kept};
+use lsys_forest::Forest;
 use lsys_kept::KeptAnswer;
 use lsys_repair::{Parent, make_children};
 use lsys_rules::System;
@@ -105,11 +106,4 @@ fn make_below<L: Ledger>(
     law_of_forests(forest);
     made?;
     Ok(told)
-}
-
-/// The nodes of a forest hang together under the root, and did so at any time since the last rest.
-fn law_of_forests<A: Kept>(forest: &Forest<A>)
-    ensures { AreSound forest.now.root (changes_in forest.now) (now_of forest.now) }
-{
-    forest.root();
 }
