@@ -31,3 +31,4 @@ pub mod SizesTold
 pub mod Repairing
 pub mod Failing
 pub mod Turnings
+pub mod Beginnings

@@ -4,6 +4,7 @@
 //! `specs/Moves.antt`.
 #![tactic(auto)]
 
+mod beginning;
 mod fault;
 mod keep;
 mod outcome;

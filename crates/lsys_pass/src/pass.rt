@@ -21,6 +21,7 @@ use crate::seating::seat_all;
 use crate::sizes::{Sizes, room_under};
 use crate::state::PassState;
 use crate::work::Work;
+use lsys_brood::Brood;
 use lsys_forest::{Forest, NodeId};
 use lsys_kept::KeptAnswer;
 use lsys_match::{AnswerStore, Steps, ask};
@@ -28,6 +29,7 @@ use lsys_reads::Reads;
 use lsys_rewrite::{DeriveRefusal, EditCount};
 use lsys_rules::System;
 use lsys_seats::Seats;
+use lsys_wanted::Wanted;
 use std::alloc::{AllocError, Global};
 use std::marker::Model;
 use std::sync::ledger::Ledger;
@@ -46,6 +48,8 @@ pub struct Pass<L: Ledger> {
     pub(crate) state: PassState,
     pub(crate) answers: usize,
     pub(crate) work: Work,
+    pub(crate) wanted: Wanted,
+    pub(crate) brood: Brood,
 }
 
 impl<L: Ledger> Model for Pass<L> {
@@ -131,6 +135,8 @@ impl<L: Ledger> Pass<L> {
             state: PassState::Rest,
             answers: 0,
             work: Work::new(alloc),
+            wanted: Wanted::new(alloc),
+            brood: Brood::new(alloc),
         })
     }
 
