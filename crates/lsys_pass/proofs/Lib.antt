@@ -30,5 +30,7 @@ pub mod Closedness
 pub mod SizesTold
 pub mod Repairing
 pub mod Failing
+pub mod Ended
+pub mod Endings
 pub mod Turnings
 pub mod Beginnings

@@ -5,6 +5,7 @@
 #![tactic(auto)]
 
 mod beginning;
+mod ending;
 mod fault;
 mod keep;
 mod outcome;
