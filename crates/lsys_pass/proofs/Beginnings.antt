@@ -34,13 +34,14 @@ use Rattle.lsys_repair.specs.Made.{TellsAllOf}
 use Rattle.lsys_front.specs.Fronts.{Differences, nothing, IsFirst, IsToldFirst}
 use Rattle.lsys_front.proofs.Differing.{first_differs, first_gone_each}
 use Rattle.lsys_pass.specs.declared.sizes.Size.{Size}
-use Rattle.lsys_pass.specs.declared.state.PassState.TheVariants.{Failed}
+use Rattle.lsys_pass.specs.declared.state.PassState.TheVariants.{Rest, Failed}
+use Rattle.lsys_pass.specs.Sizes.{with_level, symbols_at, HaveSizesTo}
 use Rattle.lsys_pass.specs.Rests.{IsResting}
 use Rattle.lsys_pass.specs.Stages.{IsStored}
 use Rattle.lsys_pass.specs.Advances.{KeepsRest, StaysAbove}
-use Rattle.lsys_pass.specs.Passes.{PassView, stage_of, now, IsStill, repair_of, IsPass}
+use Rattle.lsys_pass.specs.Passes.{PassView, stage_of, now, HoldsAt, IsStill, repair_of, IsPass}
 use Rattle.lsys_pass.specs.Passes as P
-use Rattle.lsys_pass.specs.Fresh.{Goes, HasListsBefore, IsMadeTo, WasLookedAt, IsFresh}
+use Rattle.lsys_pass.specs.Fresh.{row_of, Goes, HasListsBefore, IsMadeTo, IsFresh, Origin, at_first}
 use Rattle.lsys_pass.specs.Beginnings.{KeepsNodes, MakesFirst, WasStill}
 use Rattle.lsys_pass.proofs.Failing.{KeepsFailed, still_failed}
 use Rattle.lsys_pass.proofs.Making.{first_is, first_have, first_deeper}
@@ -289,3 +290,65 @@ module _ (v : PassView) (f : Grove Kept) (seats : List Seat) (sizes made : List 
       bare = bare;
       looks = record { looked = λ k i w. inl (subst (In k) (sym looked) i); looked_are = λ k i. subst (In k) looked i };
     }
+
+-- 5. from rest
+
+-- where the pass at a first level came from
+pub first_origin : (v w : PassView) → WasStill v → Goes (stage_of v) (stage_of w) 0 → Origin w 0
+first_origin v w h g = at_first (record v { state = Rest; next = v.system }) refl h.holds (record {
+  next = refl;
+  run = record {
+    system = g.run.system;
+    limit = g.run.limit;
+    root = g.run.root;
+    was = g.run.was;
+    store = g.run.store;
+    reads = g.run.reads;
+    renewed = g.run.renewed;
+    born = g.run.born;
+    same_seats = g.run.same_seats;
+  };
+  above = record {
+    nodes = g.above.nodes;
+    spots = g.above.spots;
+    names = g.above.names;
+    kept = g.above.kept;
+    same = g.above.same;
+    gone = g.above.gone;
+  };
+  more = g.more;
+})
+
+-- the sizes of the levels up to it
+pub first_sizes : (v : PassView) → v.made ≡ with_level [] (length (row_of v 0)) → HaveSizesTo (now v) v.forest.root v.made 0
+first_sizes v e = subst (λ (xs : List Size). HaveSizesTo (now v) v.forest.root xs 0) (sym e) (record {
+  count = refl;
+  symbols = λ u l. (let same : u ≡ 0 = omega (arith, l) in subst (λ w. symbols_at (with_level [] (length (row_of v 0))) w ≡ length (level_nodes (now v) v.forest.root w)) (sym same) refl);
+  closed = λ u l. absurd (omega (arith, l));
+})
+
+-- a pass at rest, as one that failed to make another system
+module _ (v : PassView) (h : IsPass v) (state : v.state ≡ Rest) where
+  was_still : IsStill (stage_of v)
+  was_still = subst (HoldsAt (stage_of v)) state h.holds
+
+  pub left_rest : (s : System) → IsPass (record v { next = s; state = Failed })
+  left_rest s = record {
+    stored = h.stored;
+    few = h.few;
+    unmarked = h.unmarked;
+    counted = h.counted;
+    sized = h.sized;
+    made_sized = tt;
+    holds = was_still.rest;
+    front = tt;
+    room = h.room;
+  }
+
+  pub still_left : (s : System) → WasStill (record v { next = s; state = Failed })
+  still_left s = subst IsPass (λ i. record v { state = state i; next = was_still.next i }) h
+
+  -- the nodes are those of the last rest
+  pub left_now : P.was v ≡ now v
+  left_now = ap (λ (cs : List (Change Kept)). undone cs (now v)) was_still.changes
+
