@@ -8,42 +8,39 @@ use Rattle.lsys_spec.specs.Systems.{System, WellSpelled}
 use Rattle.lsys_spec.specs.Cuts.{cut}
 use Rattle.lsys_spec.specs.Meaning.{children, meaning_to}
 use Rattle.lsys_change.specs.Nodes.{AreOnce}
-use Rattle.lsys_walks.specs.Stores.{Store}
 use Rattle.lsys_match.specs.Kept.{Kept}
-use Rattle.lsys_forest.specs.Nodes.{Node, Nodes}
+use Rattle.lsys_forest.specs.Nodes.{Nodes}
 use Rattle.lsys_forest.specs.Changes.{Change, undone}
 use Rattle.lsys_forest.specs.Answers.{Keeper}
 use Rattle.lsys_forest.specs.Groves.{Grove, In, AreApart, AreSound, IsSound, IsLive, now_of, rest_of, changes_in, live_nodes, kept_in}
 use Rattle.lsys_forest.specs.Rows.{kids_in, level_nodes}
 use Rattle.lsys_forest.proofs.SoundLemmas.{AreSound-now}
-use Rattle.lsys_kept.specs.Lineages.{kins, names}
+use Rattle.lsys_kept.specs.Lineages.{kins}
 use Rattle.lsys_kept.specs.Levels.{HaveLevels, answer_at}
 use Rattle.lsys_kept.specs.Meant.{meant_to}
 use Rattle.lsys_seats.specs.declared.seat.Seat.{Seat}
 use Rattle.lsys_seats.specs.Seats.{HasSeat, SameSeats, SameMarks, KeepsSeats}
 use Rattle.lsys_candidates.specs.Repairs.{SteppingSpots}
-use Rattle.lsys_candidates.specs.Found.{Differs}
 use Rattle.lsys_brood.specs.Matches.{nodes_without}
-use Rattle.lsys_brood.specs.Children.{Told}
+use Rattle.lsys_brood.specs.declared.need.Need.{Need}
+use Rattle.lsys_brood.specs.Children.{Told, HasRoomFor, SpendsNeed}
 use Rattle.lsys_next.specs.Nexts.{Successors, HasWanted, node_symbol, wanted_count}
 use Rattle.lsys_next.specs.Renewals.{AreSmall, AreAllUnder, AreRenewals, KeepsDeeper}
 use Rattle.lsys_next.proofs.Finishing.{answers_stay}
 use Rattle.lsys_next.proofs.Firsts.{name_root}
-use Rattle.lsys_repair.specs.Needs.{number_told, wanted_symbols}
+use Rattle.lsys_repair.specs.Needs.{number_told, wanted_symbols, need_for}
 use Rattle.lsys_repair.specs.Made.{TellsAllOf}
 use Rattle.lsys_front.specs.Fronts.{Differences, nothing, IsFirst, IsToldFirst}
 use Rattle.lsys_front.proofs.Differing.{first_differs, first_gone_each}
 use Rattle.lsys_pass.specs.declared.sizes.Size.{Size}
 use Rattle.lsys_pass.specs.declared.state.PassState.TheVariants.{Rest, Failed}
-use Rattle.lsys_pass.specs.Sizes.{with_level, symbols_at, HaveSizesTo}
 use Rattle.lsys_pass.specs.Rests.{IsResting}
-use Rattle.lsys_pass.specs.Stages.{IsStored}
-use Rattle.lsys_pass.specs.Advances.{KeepsRest, StaysAbove}
+use Rattle.lsys_pass.specs.Advances.{KeepsRest}
 use Rattle.lsys_pass.specs.Passes.{PassView, stage_of, now, HoldsAt, IsStill, repair_of, IsPass}
 use Rattle.lsys_pass.specs.Passes as P
-use Rattle.lsys_pass.specs.Fresh.{row_of, Goes, HasListsBefore, IsMadeTo, IsFresh, Origin, at_first}
-use Rattle.lsys_pass.specs.Beginnings.{KeepsNodes, MakesFirst, WasStill}
-use Rattle.lsys_pass.proofs.Failing.{KeepsFailed, still_failed}
+use Rattle.lsys_pass.specs.Fresh.{Goes, HasListsBefore, IsMadeTo, IsFresh, Origin, at_first}
+use Rattle.lsys_pass.specs.Beginnings.{MakesFirst, WasStill}
+use Rattle.lsys_pass.proofs.Failing.{still_failed}
 use Rattle.lsys_pass.proofs.Making.{first_is, first_have, first_deeper}
 
 -- 1. the children of the root
@@ -55,6 +52,20 @@ pub record Source : Type 0 where
   pub wanted : List (S.Symbol ℤ)
   pub old : Nodes Kept
   pub root : ℕ
+
+-- room for what they take, as other nodes tell it that are the same
+pub room_same : (g : Numbering) (zs : List (S.Symbol ℤ)) (m m' : Nodes Kept) (root root' : ℕ) (f : Grove Kept) (told : Told) (need : Need) → m' ≡ m → root' ≡ root → need ≡ need_for g m (kids_in (m root)) zs
+    → HasRoomFor f told need → HasRoomFor f told (need_for g m' (kids_in (m' root')) zs)
+room_same g zs m m' root root' f told need same top is h =
+    subst (λ (n : Need). HasRoomFor f told n) (is ∙ (λ i. need_for g (sym same i) (kids_in (sym same i (sym top i))) zs)) h
+
+-- of the nodes that came to live there were few enough
+pub few_live : (g : Numbering) (zs : List (S.Symbol ℤ)) (m m' : Nodes Kept) (root root' : ℕ) (old new : Grove Kept) (need : Need) → m' ≡ m → root' ≡ root → need ≡ need_for g m (kids_in (m root)) zs
+    → SpendsNeed old new (need_for g m' (kids_in (m' root')) zs) → live_nodes old + need.nodes < 2 ^ 32 → live_nodes new < 2 ^ 32
+few_live g zs m m' root root' old new need same top is h few =
+    let nodes : need.nodes ≡ (need_for g m' (kids_in (m' root')) zs).nodes = ap (λ (n : Need). n.nodes) (is ∙ (λ i. need_for g (sym same i) (kids_in (sym same i (sym top i))) zs)) in
+    let live = h.live in
+    omega (arith, nodes, live, few)
 
 -- they were made, and it was told what differs, behind what was told before
 pub record IsMadeOf (x : Source) (limit : ℕ) (m : Nodes Kept) (before told : Told) : Type 0 where
@@ -318,37 +329,3 @@ first_origin v w h g = at_first (record v { state = Rest; next = v.system }) ref
   };
   more = g.more;
 })
-
--- the sizes of the levels up to it
-pub first_sizes : (v : PassView) → v.made ≡ with_level [] (length (row_of v 0)) → HaveSizesTo (now v) v.forest.root v.made 0
-first_sizes v e = subst (λ (xs : List Size). HaveSizesTo (now v) v.forest.root xs 0) (sym e) (record {
-  count = refl;
-  symbols = λ u l. (let same : u ≡ 0 = omega (arith, l) in subst (λ w. symbols_at (with_level [] (length (row_of v 0))) w ≡ length (level_nodes (now v) v.forest.root w)) (sym same) refl);
-  closed = λ u l. absurd (omega (arith, l));
-})
-
--- a pass at rest, as one that failed to make another system
-module _ (v : PassView) (h : IsPass v) (state : v.state ≡ Rest) where
-  was_still : IsStill (stage_of v)
-  was_still = subst (HoldsAt (stage_of v)) state h.holds
-
-  pub left_rest : (s : System) → IsPass (record v { next = s; state = Failed })
-  left_rest s = record {
-    stored = h.stored;
-    few = h.few;
-    unmarked = h.unmarked;
-    counted = h.counted;
-    sized = h.sized;
-    made_sized = tt;
-    holds = was_still.rest;
-    front = tt;
-    room = h.room;
-  }
-
-  pub still_left : (s : System) → WasStill (record v { next = s; state = Failed })
-  still_left s = subst IsPass (λ i. record v { state = state i; next = was_still.next i }) h
-
-  -- the nodes are those of the last rest
-  pub left_now : P.was v ≡ now v
-  left_now = ap (λ (cs : List (Change Kept)). undone cs (now v)) was_still.changes
-

@@ -5,14 +5,11 @@ use Rattle.lsys_match.specs.Kept.{Kept}
 use Rattle.lsys_forest.specs.Nodes.{Nodes}
 use Rattle.lsys_forest.specs.Answers.{answers}
 use Rattle.lsys_forest.specs.Groves.{now_of}
-use Rattle.lsys_forest.specs.Rows.{kids_in}
-use Rattle.lsys_brood.specs.declared.need.Need.{Need}
-use Rattle.lsys_brood.specs.Children.{Told, HasRoomFor}
+use Rattle.lsys_brood.specs.Children.{Told}
 use Rattle.lsys_next.specs.Nexts.{wanted_count}
 use Rattle.lsys_next.specs.Renewals.{AreSmall, AreAllUnder}
 use Rattle.lsys_repair.specs.declared.count.Count.{Count}
-use Rattle.lsys_repair.specs.Needs.{need_for}
-use Rattle.lsys_pass.proofs.Beginnings.{Source, makes_first}
+use Rattle.lsys_pass.proofs.Beginnings.{makes_first, room_same, few_live}
 use Rattle.lsys_pass.proofs.beginning.make_first_nodes.Goals as goal
 
 pub make_first-requires-clause-small : goal.make_first-requires-clause-small
@@ -26,10 +23,10 @@ make_first-requires-clause-under g c =
 pub make_first-requires-clause-room : goal.make_first-requires-clause-room
 make_first-requires-clause-room g c =
     let e = c.reserve_for.ensures.nodes in
-    let numbering = numbering_of c.lineage-numbering.result in
-    let zs = string_of c.symbols-axiom.result.now in
-    subst (λ (need : Need). HasRoomFor c.reserve_for.new.forest c.reserve_for.new.told need)
-    (ap (λ (n : Count). n.need) c.in_ok-count.ensures ∙ (λ i. need_for numbering (sym e.now i) (kids_in (sym e.now i (sym e.root i))) zs)) c.in_ok-reserve_for.ensures.room
+    let f = c.args.forest.now in
+    let f' = c.reserve_for.new.forest in
+    room_same (numbering_of c.lineage-numbering.result) (string_of c.symbols-axiom.result.now) (now_of f) (now_of f') f.root f'.root f' c.reserve_for.new.told c.in_ok-count.count.need e.now e.root
+    (ap (λ (n : Count). n.need) c.in_ok-count.ensures) c.in_ok-reserve_for.ensures.room
 
 pub returns-clause-made : goal.returns-clause-made
 returns-clause-made g c =
@@ -67,10 +64,10 @@ returns-clause-made g c =
 pub returns-clause-few : goal.returns-clause-few
 returns-clause-few g c =
     let e = c.reserve_for.ensures.nodes in
-    let need = ap (λ (n : Count). n.need.nodes) c.in_ok-count.ensures ∙ (λ i. (need_for (numbering_of c.lineage-numbering.result) (sym e.now i) (kids_in (sym e.now i (sym e.root i))) (string_of c.symbols-axiom.result.now)).nodes) in
-    let few = c.in_ok-reserve_for.ensures.few in
-    let live = c.in_ok-make_first.ensures.spends.live in
-    omega (arith, need, few, live)
+    let f = c.args.forest.now in
+    let f' = c.reserve_for.new.forest in
+    few_live (numbering_of c.lineage-numbering.result) (string_of c.symbols-axiom.result.now) (now_of f) (now_of f') f.root f'.root f' c.make_first.new.forest c.in_ok-count.count.need e.now e.root
+    (ap (λ (n : Count). n.need) c.in_ok-count.ensures) c.in_ok-make_first.ensures.spends c.in_ok-reserve_for.ensures.few
 
 pub returns-clause-kept : goal.returns-clause-kept
 returns-clause-kept g c = let e = c.reserve_for.ensures.nodes in c.make_first.ensures.kept ∙ (λ i. answers (e.now i) (e.changes i))
