@@ -9,6 +9,8 @@ pub mod Advances
 pub mod Moves
 pub mod Leftmost
 pub mod Fresh
+pub mod Others
 pub mod Sizes
 pub mod Lasts
 pub mod Beginnings
+pub mod Made

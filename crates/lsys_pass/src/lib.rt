@@ -4,11 +4,15 @@
 //! `specs/Moves.antt`.
 #![tactic(auto)]
 
+mod asked;
 mod beginning;
 mod ending;
 mod fault;
 mod keep;
+mod level;
+mod next_level;
 mod outcome;
+mod parents;
 mod pass;
 mod place;
 mod read;
@@ -17,6 +21,7 @@ mod room;
 mod seating;
 mod sizes;
 mod state;
+mod symbols;
 mod turning;
 mod work;
 
