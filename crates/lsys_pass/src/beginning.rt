@@ -4,18 +4,19 @@ ghost use Rattle.lsys_change.specs.Nodes.{AreOnce};
 ghost use Rattle.lsys_forest.specs.Groves.{now_of, rest_of, kept_in, live_nodes};
 ghost use Rattle.lsys_kept.specs.Lineages.{kins};
 ghost use Rattle.lsys_next.specs.Renewals.{AreSmall, AreAllUnder};
-ghost use Rattle.lsys_pass.specs.declared.state.PassState.TheVariants.{Failed};
+ghost use Rattle.lsys_pass.specs.declared.state.PassState.TheVariants.{Rest, Failed};
 ghost use Rattle.lsys_pass.specs.Sizes.{with_level};
 ghost use Rattle.lsys_pass.specs.Passes.{stage_of};
-ghost use Rattle.lsys_pass.specs.Moves.{IsRefusal, SameRun};
+ghost use Rattle.lsys_pass.specs.Moves.{IsRefusal, SameRun, IsNext, IsBack};
 ghost use Rattle.lsys_pass.specs.Fresh.{row_of, Goes, IsFresh};
-ghost use Rattle.lsys_pass.specs.Beginnings.{KeepsNodes, MakesFirst, WasStill};
+ghost use Rattle.lsys_pass.specs.Beginnings.{Begun, KeepsNodes, MakesFirst, WasStill};
 
 use crate::keep::target;
 use crate::pass::Pass;
 use crate::refusal::first_refusal;
 use crate::room::reserve_for;
 use crate::seating::make_seats;
+use crate::state::PassState;
 use lsys_brood::{Brood, Changes};
 use lsys_forest::Forest;
 use lsys_front::Front;
@@ -28,13 +29,53 @@ use std::alloc::Global;
 use std::sync::ledger::Ledger;
 
 impl<L: Ledger> Pass<L> {
+    /// Begins to make the levels of another system, from rest: its first level is made, and those of its nodes that are to be
+    /// asked are found. It costs the nodes of that level, and of the one that was there.
+    ///
+    /// # Errors
+    ///
+    /// The limit, or want of memory. The pass is at rest again then, as it was, and the system is dropped.
+    pub fn begin(&mut self, alloc: Global, system: System) -> Result<(), DeriveRefusal>
+        requires state { self.old.state ≡ Rest }
+        ensures begins { OnOk result (Begun self.old self.new system) }
+        ensures back { OnErr result (IsBack self.old self.new) }
+        ensures refusal { IfErr result (IsRefusal system self.old.limit) }
+    {
+        self.next = Some(system);
+        self.state = PassState::Failed;
+        let begun = self.come_to_first(alloc);
+        if begun.is_err() {
+            self.abandon();
+        }
+        begun
+    }
+
+    /// Makes the first level of the system that is being made, and finds those of its nodes that are to be asked.
+    ///
+    /// # Errors
+    ///
+    /// The limit, or want of memory. The last rest stays then too.
+    fn come_to_first(&mut self, alloc: Global) -> Result<(), DeriveRefusal>
+        requires failed { self.old.state ≡ Failed }
+        requires still { WasStill self.old }
+        ensures comes { OnOk result (IsNext self.old.next 0 self.new.state) }
+        ensures renewed { OnOk result (self.new.renewed ≡ []) }
+        ensures fails { OnErr result (self.new.state ≡ Failed) }
+        ensures refusal { IfErr result (IsRefusal self.old.next self.old.limit) }
+        ensures run { SameRun self.old self.new }
+    {
+        let depth = self.depth();
+        self.make_first_level(alloc)?;
+        Ok(self.come_to(alloc, 0, depth)?)
+    }
+
     /// Makes the first level of the system that is being made: the children of the root. It costs these, and those that were
     /// there.
     ///
     /// # Errors
     ///
     /// The limit, or want of memory. The last rest stays then too.
-    pub(crate) fn make_first_level(&mut self, alloc: Global) -> Result<(), DeriveRefusal>
+    fn make_first_level(&mut self, alloc: Global) -> Result<(), DeriveRefusal>
         requires failed { self.old.state ≡ Failed }
         requires still { WasStill self.old }
         ensures fresh { OnOk result (IsFresh self.new 0) }
