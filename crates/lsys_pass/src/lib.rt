@@ -5,12 +5,12 @@
 #![tactic(auto)]
 
 mod asked;
-mod symbols;
+mod beginning;
 mod ending;
 mod fault;
-mod next_level;
 mod keep;
 mod level;
+mod next_level;
 mod outcome;
 mod parents;
 mod pass;
@@ -21,6 +21,7 @@ mod room;
 mod seating;
 mod sizes;
 mod state;
+mod symbols;
 mod turning;
 mod work;
 
