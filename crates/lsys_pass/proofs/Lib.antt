@@ -29,3 +29,6 @@ pub mod NextLengths
 pub mod Closedness
 pub mod SizesTold
 pub mod Repairing
+pub mod Spending
+pub mod Visiting
+pub mod Editing

@@ -10,3 +10,6 @@ pub mod Moves
 pub mod Leftmost
 pub mod Fresh
 pub mod Sizes
+pub mod Spent
+pub mod Edits
+pub mod Beginnings

@@ -4,6 +4,7 @@
 //! `specs/Moves.antt`.
 #![tactic(auto)]
 
+mod edit;
 mod fault;
 mod keep;
 mod outcome;
@@ -14,6 +15,7 @@ mod refusal;
 mod seating;
 mod sizes;
 mod state;
+mod stubs;
 mod work;
 
 pub use fault::Faulted;

@@ -1,0 +1,40 @@
+//! Stubs of what others write.
+ghost use Rattle.std.specs.Prelude.{◌≡◌, [], OnOk, OnErr, IfErr};
+ghost use Rattle.lsys_pass.specs.declared.state.PassState.TheVariants.{Rest};
+ghost use Rattle.lsys_pass.specs.Beginnings.{Begun};
+ghost use Rattle.lsys_pass.specs.Moves.{AtLevel, IsBack, Finishes, Fails, IsRefusal};
+ghost use Rattle.lsys_pass.specs.Spent.{AllPending};
+
+use crate::pass::Pass;
+use lsys_rewrite::DeriveRefusal;
+use lsys_rules::System;
+use std::alloc::Global;
+use std::sync::ledger::Ledger;
+
+impl<L: Ledger> Pass<L> {
+    /// Begins.
+    pub fn begin(&mut self, alloc: Global, system: System) -> Result<(), DeriveRefusal>
+        requires state { self.old.state ≡ Rest }
+        ensures begins { OnOk result (Begun self.old self.new system) }
+        ensures all { OnOk result (AllPending self.new self.new.state) }
+        ensures back { OnErr result (IsBack self.old self.new) }
+        ensures refusal { IfErr result (IsRefusal system self.old.limit) }
+    {
+        let _ = alloc;
+        let _ = system;
+        unreachable!()
+    }
+
+    /// Makes the next level.
+    pub fn finish_level(&mut self, alloc: Global) -> Result<(), DeriveRefusal>
+        requires state { AtLevel self.old.state }
+        requires pending { self.old.pending ≡ [] }
+        ensures finishes { OnOk result (Finishes self.old self.new) }
+        ensures all { OnOk result (AllPending self.new self.new.state) }
+        ensures fails { OnErr result (Fails self.old self.new) }
+        ensures refusal { IfErr result (IsRefusal self.old.next self.old.limit) }
+    {
+        let _ = alloc;
+        unreachable!()
+    }
+}
