@@ -32,3 +32,7 @@ pub mod Repairing
 pub mod Spending
 pub mod Visiting
 pub mod Editing
+pub mod Failing
+pub mod Ended
+pub mod Endings
+pub mod Turnings

@@ -12,4 +12,5 @@ pub mod Fresh
 pub mod Sizes
 pub mod Spent
 pub mod Edits
+pub mod Lasts
 pub mod Beginnings

@@ -5,6 +5,7 @@
 #![tactic(auto)]
 
 mod edit;
+mod ending;
 mod fault;
 mod keep;
 mod outcome;
@@ -12,10 +13,12 @@ mod pass;
 mod place;
 mod read;
 mod refusal;
+mod room;
 mod seating;
 mod sizes;
 mod state;
 mod stubs;
+mod turning;
 mod work;
 
 pub use fault::Faulted;
