@@ -1,5 +1,5 @@
 -- An edit by a pass.
-use Rattle.std.proofs.Common.{◌≡◌, ◌≢◌, ℕ, zero, suc, ◌+◌, ◌*◌, ◌-◌, ◌≤◌, ◌<◌, List, [], ◌∷◌, ◌++◌, length, Option, Some, None, refl, ap, sym, ◌∙◌, subst, arith, IfSome, slice_get}
+use Rattle.std.proofs.Common.{◌≡◌, ◌≢◌, ℕ, zero, suc, ◌+◌, ◌*◌, ◌-◌, ◌≤◌, ◌<◌, List, [], ◌∷◌, ◌++◌, length, Option, Some, None, Result, Ok, Err, refl, ap, sym, ◌∙◌, subst, arith, IfSome, OnErr, slice_get}
 use Rattle.std.specs.Prelude.{IsSome}
 use Rattle.std.proofs.lemmas.List.{length-append}
 use Rattle.std.proofs.lemmas.Option.{same_Some}
@@ -36,6 +36,10 @@ use Rattle.lsys_pass.proofs.Visiting.{stepped_visits, visits_first, finished_vis
 pub last_among : (o : Option ℕ) (xs ys : List ℕ) → o ≡ slice_get xs (length xs - 1) → xs ≡ ys → IfSome o (λ k. In k ys)
 last_among None xs ys e f = tt
 last_among (Some k) xs ys e f = subst (In k) f (get_In xs (length xs - 1) k (sym e))
+
+pub on_err : {A E P : Type 0} (r : Result A E) → P → OnErr r P
+on_err (Ok a) h = tt
+on_err (Err e) h = h
 
 pub same_run : (v : PassView) → SameRun v v
 same_run v = record { system = refl; next = refl; limit = refl; root = refl; was = refl }
