@@ -54,8 +54,8 @@ level_in Rest a = absurd a
 level_in Done a = absurd a
 level_in Failed a = absurd a
 
-pub is_level : (s : PassState) (t : ℕ) → s ≡ Level t → AtLevel s
-is_level s t e = subst AtLevel (sym e) tt
+pub is_level : (s : PassState) (t : ℕ) → Level t ≡ s → AtLevel s
+is_level s t e = subst AtLevel e tt
 
 pub no_rest : (s : PassState) → AtLevel s → s ≢ Rest
 no_rest s a e = subst AtLevel e a

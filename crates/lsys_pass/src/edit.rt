@@ -51,9 +51,14 @@ impl<L: Ledger> Pass<L> {
         ensures few_asked { OnErr result (Rises 0 self.old.limit asked.old asked.new) }
         ensures few_read { OnErr result (Rises 0 (most_read * self.old.limit) visited.old visited.new) }
     {
+        let _ = &self.forest;
         self.begin(alloc, system)?;
         match self.make_levels(alloc, asked, visited) {
-            Ok(()) => Ok(self.close()),
+            Ok(()) => {
+                let count = self.close();
+                let _ = &self.forest;
+                Ok(count)
+            }
             Err(refusal) => {
                 self.abandon();
                 Err(refusal)
