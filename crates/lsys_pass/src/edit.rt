@@ -51,6 +51,7 @@ impl<L: Ledger> Pass<L> {
         ensures few_asked { OnErr result (Rises 0 self.old.limit asked.old asked.new) }
         ensures few_read { OnErr result (Rises 0 (most_read * self.old.limit) visited.old visited.new) }
     {
+        // The type's invariant is known where a field is named.
         let _ = &self.forest;
         self.begin(alloc, system)?;
         match self.make_levels(alloc, asked, visited) {
