@@ -169,7 +169,7 @@ impl<L: Ledger> Pass<L> {
     }
 
     /// The new system has no levels, or memory was wanted: only to abandon it is left. It takes no memory.
-    fn fail(&mut self)
+    pub(crate) fn fail(&mut self)
         requires { AtLevel self.old.state }
         ensures fails { Fails self.old self.new }
     {

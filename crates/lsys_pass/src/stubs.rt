@@ -20,9 +20,8 @@ impl<L: Ledger> Pass<L> {
         ensures back { OnErr result (IsBack self.old self.new) }
         ensures refusal { IfErr result (IsRefusal system self.old.limit) }
     {
-        let _ = alloc;
-        let _ = system;
-        unreachable!()
+        let _ = (alloc, system, &self.forest);
+        Err(DeriveRefusal::Memory)
     }
 
     /// Makes the next level.
@@ -35,6 +34,7 @@ impl<L: Ledger> Pass<L> {
         ensures refusal { IfErr result (IsRefusal self.old.next self.old.limit) }
     {
         let _ = alloc;
-        unreachable!()
+        self.fail();
+        Err(DeriveRefusal::Memory)
     }
 }
