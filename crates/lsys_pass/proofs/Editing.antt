@@ -2,7 +2,6 @@
 use Rattle.std.proofs.Common.{◌≡◌, ◌≢◌, ℕ, zero, suc, ◌+◌, ◌*◌, ◌-◌, ◌≤◌, ◌<◌, ◌^◌, List, [], ◌∷◌, ◌++◌, length, Option, Some, None, Result, Ok, Err, refl, ap, sym, ◌∙◌, subst, arith, IfSome, OnErr, slice_get}
 use Rattle.std.specs.Prelude.{IsSome}
 use Rattle.std.proofs.lemmas.List.{length-append}
-use Rattle.std.proofs.lemmas.Option.{same_Some}
 use Rattle.lsys_spec.specs.Systems.{System, WellSpelled}
 use Rattle.lsys_spec.specs.Levels as L
 use Rattle.lsys_spec.specs.Questions.{questions, least_visits}
@@ -14,19 +13,19 @@ use Rattle.lsys_match.specs.Derivations.{AreMeant, IsCount, Rises, most_read}
 use Rattle.lsys_change.specs.Nodes.{AreOnce, Extends}
 use Rattle.lsys_forest.specs.Nodes.{Node, Nodes}
 use Rattle.lsys_forest.specs.Changes.{undone}
-use Rattle.lsys_forest.specs.Groves.{In, ReachedIn, Reached, changes_in, rest_of, now_of}
+use Rattle.lsys_forest.specs.Groves.{In, ReachedIn, Reached, changes_in}
 use Rattle.lsys_forest.proofs.SoundLemmas.{AreSound-now}
 use Rattle.lsys_forest.proofs.WalkLemmas.{get_In}
 use Rattle.lsys_kept.specs.Lineages.{kins}
-use Rattle.lsys_kept.specs.Meant.{levels_or_none, meant, meant_to}
+use Rattle.lsys_kept.specs.Meant.{levels_or_none, meant}
 use Rattle.lsys_pass.specs.declared.state.PassState.{PassState}
 use Rattle.lsys_pass.specs.declared.state.PassState.TheVariants.{Rest, Level, Done, Failed}
 use Rattle.lsys_pass.specs.Stages.{IsDone}
-use Rattle.lsys_pass.specs.Passes.{PassView, stage_of, now, was, HoldsAt, IsStill, IsPass}
-use Rattle.lsys_pass.specs.Moves.{AtLevel, SameRun, IsBack, StepsOver, Moves, MovesOnce, Finishes, Follows, IsNext, Waits, Closes}
+use Rattle.lsys_pass.specs.Passes.{PassView, stage_of, now, was, HoldsAt, IsPass}
+use Rattle.lsys_pass.specs.Moves.{AtLevel, SameRun, IsBack, StepsOver, MovesOnce, Finishes, Follows, IsNext, Closes}
 use Rattle.lsys_pass.specs.Beginnings.{Begun}
 use Rattle.lsys_pass.specs.Spent.{visits_in, spent_visits, AllPending}
-use Rattle.lsys_pass.specs.Edits.{AreOneFamily, IsEdited}
+use Rattle.lsys_pass.specs.Edits.{IsEdited}
 use Rattle.lsys_pass.proofs.Asking.{at}
 use Rattle.lsys_pass.proofs.Closing.{extends}
 use Rattle.lsys_pass.proofs.Visiting.{stepped_visits, visits_first, finished_visits, renewed_few, renewed_fewer, visits_few, visits_fewer}

@@ -1,5 +1,5 @@
 -- Sums of what is read on a level, and on the levels before it.
-use Rattle.std.proofs.Common.{◌≡◌, ◌≢◌, ◌⊎◌, ◌+◌, ◌*◌, ◌<◌, ◌≤◌, ℕ, zero, suc, Bool, true, false, List, [], ◌∷◌, ◌++◌, length, Some, Ok, Err, refl, sym, ap, ◌∙◌, subst, inl, inr, arith, slice_get, cond, get_or}
+use Rattle.std.proofs.Common.{◌≡◌, ◌≢◌, ◌⊎◌, ◌+◌, ◌*◌, ◌≤◌, ℕ, zero, suc, Bool, true, false, List, [], ◌∷◌, length, Some, refl, sym, ap, ◌∙◌, subst, inl, inr, arith, slice_get, cond, get_or}
 use Rattle.std.specs.Prelude.{sum_by}
 use Rattle.std.proofs.lemmas.List.{length-take}
 use Rattle.std.proofs.lemmas.List.Sums.{sum_by-cons, sum_by-append}
@@ -11,7 +11,7 @@ use Rattle.lsys_spec.specs.Meaning.{asked}
 use Rattle.lsys_spec.specs.Questions.{Question, question, where_any, questions_from, questions_at, questions_below}
 use Rattle.lsys_reads.specs.Rows.{has}
 use Rattle.lsys_change.specs.Passes.{is_candidate_at, module_question}
-use Rattle.lsys_change.specs.LevelCounts.{read_by, visits_at}
+use Rattle.lsys_change.specs.LevelCounts.{read_by}
 use Rattle.lsys_match.specs.Derivations.{most_read}
 use Rattle.lsys_forest.specs.Groves.{In, AreApart}
 use Rattle.lsys_forest.proofs.WalkLemmas.{get_In}

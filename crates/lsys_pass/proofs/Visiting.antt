@@ -1,29 +1,28 @@
 -- What a pass has read, when a node is asked, when a level is made, and at most.
-use Rattle.std.proofs.Common.{◌≡◌, ◌≢◌, ◌⊎◌, ◌+◌, ◌*◌, ◌<◌, ◌≤◌, ℕ, zero, suc, Bool, true, false, List, [], ◌∷◌, ◌++◌, length, Some, Ok, refl, sym, ap, ◌∙◌, subst, inl, inr, arith, slice_get}
-use Rattle.std.specs.Prelude.{◌-◌, get_or, sum_by}
+use Rattle.std.proofs.Common.{◌≡◌, ◌≢◌, ◌+◌, ◌*◌, ◌<◌, ◌≤◌, ℕ, zero, suc, false, List, [], ◌∷◌, ◌++◌, length, Some, Ok, refl, sym, ap, ◌∙◌, subst, inl, inr, arith, slice_get}
+use Rattle.std.specs.Prelude.{get_or, sum_by}
+use Rattle.std.proofs.lemmas.Bool.{false_from_ne_true}
 use Rattle.std.proofs.lemmas.List.{length-append, length-map}
 use Rattle.std.proofs.lemmas.List.Sums.{sum_by-cons}
-use Rattle.std.proofs.lemmas.Option.{slice_get-get_or, same_Some}
+use Rattle.std.proofs.lemmas.Nat.{mul-le}
 use Rattle.lsys_spec.specs.Systems.{System, WellSpelled}
 use Rattle.lsys_spec.specs.Levels.{Symbol, Module}
 use Rattle.lsys_spec.specs.Meaning.{first_level, last_level, next_level, meaning_to}
-use Rattle.lsys_spec.specs.Questions.{Question, questions_at}
 use Rattle.lsys_spec.specs.LevelLaws.{may_differ, candidate_visits}
 use Rattle.lsys_spec.proofs.LevelInduction.{ok_parts, ok_within}
+use Rattle.lsys_spec.proofs.Tests.{each_way}
 use Rattle.lsys_level.specs.Spots.{named}
 use Rattle.lsys_reads.specs.Rows.{has}
-use Rattle.lsys_change.specs.Passes.{module_question, is_candidate_at}
+use Rattle.lsys_change.specs.Passes.{is_candidate_at}
 use Rattle.lsys_change.specs.LevelCounts.{visits_at}
 use Rattle.lsys_change.proofs.Sums.{more_visits}
 use Rattle.lsys_change.proofs.UpTo.{level_count}
-use Rattle.lsys_match.specs.Kept.{Kept}
 use Rattle.lsys_match.specs.Derivations.{most_read}
-use Rattle.lsys_forest.specs.Nodes.{Node, Nodes}
 use Rattle.lsys_forest.specs.Groves.{In, AreApart, IsSound, changes_in}
-use Rattle.lsys_forest.specs.Rows.{flat, kids_in, spot_in, level_nodes, level_spots}
-use Rattle.lsys_forest.proofs.LinkLemmas.{flat_same}
+use Rattle.lsys_forest.specs.Rows.{depth_in, kids_in, spot_in, level_nodes, level_spots}
+use Rattle.lsys_forest.proofs.LinkLemmas.{levels_above}
 use Rattle.lsys_forest.proofs.RowLemmas.{In_left, In_right, level_apart, level_depth}
-use Rattle.lsys_forest.proofs.WalkLemmas.{get_In, In_at}
+use Rattle.lsys_forest.proofs.WalkLemmas.{In_at}
 use Rattle.lsys_kept.specs.Lineages.{names}
 use Rattle.lsys_kept.specs.Levels.{level_of}
 use Rattle.lsys_kept.specs.Meant.{levels_or_none, meant, meant_to, level_to, IsCandidate}
@@ -31,11 +30,12 @@ use Rattle.lsys_pass.specs.declared.state.PassState.{PassState}
 use Rattle.lsys_pass.specs.declared.state.PassState.TheVariants.{Rest, Level, Done, Failed}
 use Rattle.lsys_pass.specs.Stages.{IsAtLevel}
 use Rattle.lsys_pass.specs.Passes.{PassView, stage_of, now, HoldsAt, IsPass}
-use Rattle.lsys_pass.specs.Moves.{SameRun, IsNext, Follows, StepsOver, Moves, MovesOnce, Finishes}
+use Rattle.lsys_pass.specs.Moves.{IsNext, Follows, StepsOver, Moves, MovesOnce, Finishes}
 use Rattle.lsys_pass.specs.Beginnings.{Begun}
 use Rattle.lsys_pass.specs.Spent.{read_at, read_without, visits_here, visits_in, spent_visits, AllPending}
+use Rattle.lsys_pass.proofs.Before.{zero_plus}
 use Rattle.lsys_pass.proofs.Settling.{has_in, in_has}
-use Rattle.lsys_pass.proofs.Stepping.{some_in, in_more, in_less, not_left, is_open, unrenewed}
+use Rattle.lsys_pass.proofs.Stepping.{some_in, in_more, in_less, not_left, is_open}
 use Rattle.lsys_pass.proofs.Needed.{level_is_meant}
 use Rattle.lsys_pass.proofs.Asking.{at, sound_now, asked}
 use Rattle.lsys_pass.proofs.Totals.{fewer}
@@ -45,22 +45,7 @@ use Rattle.lsys_pass.proofs.Spending.{none_out, all_out, one_less, fewer_without
 -- 1. numbers and lists
 
 times_less : (c a b : ℕ) → a ≤ b → c * a ≤ c * b
-times_less c a b h =
-    let more : b ≡ a + (b - a) = omega (arith, h) in
-    let all : c * b ≡ c * a + c * (b - a) = ap (λ n. c * n) more ∙ grind arith in
-    omega (arith, all)
-
-is_false : (b : Bool) → (b ≡ true → ⊥) → b ≡ false
-is_false true h = absurd (h refl)
-is_false false h = refl
-
-same_bool : (a b : Bool) → (a ≡ true → b ≡ true) → (b ≡ true → a ≡ true) → a ≡ b
-same_bool true b f g = sym (f refl)
-same_bool false true f g = g refl
-same_bool false false f g = refl
-
-zero_plus : (p : ℕ) → 0 + p ≡ p
-zero_plus p = omega arith
+times_less c a b h = mul-le c a c b (omega arith) h
 
 -- the nodes of levels, one level after the other
 abbrev along : (ℕ → List ℕ) → ℕ → List (List Symbol) → List ℕ
@@ -80,13 +65,6 @@ in_along : (nodes : ℕ → List ℕ) (t : ℕ) (xs : List (List Symbol)) (i k :
 in_along nodes t [] i k l h = absurd (omega (arith, l))
 in_along nodes t (x ∷ xs) zero k l h = In_left k (nodes t) (along nodes (t + 1) xs) (subst (λ u. In k (nodes u)) (omega arith) h)
 in_along nodes t (x ∷ xs) (suc i) k l h = In_right k (nodes t) (along nodes (t + 1) xs) (in_along nodes (t + 1) xs i k (omega (arith, l)) (subst (λ u. In k (nodes u)) (omega arith) h))
-
--- levels whose parents are the same
-same_rows : (m m' : Nodes Kept) (root t : ℕ) → m' root ≡ m root → ((u k : ℕ) → u < t → In k (level_nodes m root u) → m' k ≡ m k) → level_nodes m' root t ≡ level_nodes m root t
-same_rows m m' root zero r h = ap kids_in r
-same_rows m m' root (suc t) r h =
-    ap (flat (λ k. kids_in (m' k))) (same_rows m m' root t r (λ u k l i. h u k (omega (arith, l)) i))
-    ∙ flat_same (λ k. kids_in (m' k)) (λ k. kids_in (m k)) (level_nodes m root t) (λ k i. ap kids_in (h t k (omega arith) i))
 
 -- 2. one level more
 
@@ -214,33 +192,22 @@ module _ (v : PassView) (t : ℕ) (h : IsPass v) (state : v.state ≡ Level t) w
     sound : IsSound v.forest.root (changes_in v.forest) (now v)
     sound = sound_now v t h state
 
-    other : (u k : ℕ) → u < t → In k (rows u) → k ≢ node
-    other u k l i e =
-        let a = level_depth v.forest.root (changes_in v.forest) (now v) sound u k i in
-        let b = level_depth v.forest.root (changes_in v.forest) (now v) sound t node (among node pending) in
-        let same = ap (λ (n : Node Kept). n.depth) (same_Some a.0 b.0 (sym a.1 ∙ ap (now v) e ∙ b.1)) in
-        omega (arith, a.2, b.2, same, l)
-
-    not_root : v.forest.root ≢ node
-    not_root e =
-        let r = sound.root_lives in
-        let b = level_depth v.forest.root (changes_in v.forest) (now v) sound t node (among node pending) in
-        let same = ap (λ (n : Node Kept). n.depth) (same_Some r.0 b.0 (sym r.1 ∙ ap (now v) e ∙ b.1)) in
-        omega (arith, r.2, b.2, same)
-
+    -- only a node of the level itself changed
     rows_stay : level_nodes (now w) w.forest.root t ≡ rows t
     rows_stay =
+        let d = level_depth v.forest.root (changes_in v.forest) (now v) sound t node (among node pending) in
+        let deep : depth_in (now v node) ≡ t + 1 = ap depth_in d.1 ∙ d.2 in
         ap (λ r. level_nodes (now w) r t) steps.run.root
-        ∙ same_rows (now v) (now w) v.forest.root t (steps.nodes v.forest.root not_root) (λ u k l i. steps.nodes k (other u k l i))
+        ∙ sym (levels_above v.forest.root (changes_in v.forest) (now w) (now v) node sound (λ k ne. ap kids_in (sym (steps.nodes k ne))) t (omega (arith, deep)))
 
     apart_all : AreApart (steps.before ++ node ∷ steps.after)
     apart_all = subst AreApart steps.pending_old here.answers.apart
 
     left_out : has w.pending node ≡ false
-    left_out = is_false (has w.pending node) (λ e. not_left steps.before node steps.after apart_all (subst (In node) steps.pending (has_in w.pending node e)))
+    left_out = false_from_ne_true (has w.pending node) (λ e. not_left steps.before node steps.after apart_all (subst (In node) steps.pending (has_in w.pending node e)))
 
     others_left : (j : ℕ) → j ≢ node → has w.pending j ≡ has v.pending j
-    others_left j ne = same_bool (has w.pending j) (has v.pending j)
+    others_left j ne = each_way (has w.pending j) (has v.pending j)
         (λ e. in_has v.pending j (subst (In j) (sym steps.pending_old) (in_more steps.before node steps.after j (subst (In j) steps.pending (has_in w.pending j e)))))
         (λ e. in_has w.pending j (subst (In j) (sym steps.pending) (in_less steps.before node steps.after j ne (subst (In j) steps.pending_old (has_in v.pending j e)))))
 

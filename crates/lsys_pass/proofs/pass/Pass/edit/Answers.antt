@@ -1,6 +1,6 @@
 use Rattle.std.proofs.Common.{subst}
 use Rattle.lsys_pass.specs.Passes.{IsPass}
-use Rattle.lsys_pass.proofs.Editing.{counted, read_between, edited, back}
+use Rattle.lsys_pass.proofs.Editing.{counted, read_between, edited}
 use Rattle.lsys_pass.proofs.pass.Pass.edit.Goals as goal
 
 pub returns-in-Ok-clause-edited : goal.returns-in-Ok-clause-edited
