@@ -1,5 +1,5 @@
 //! An edit: a pass makes the levels of another system, one after the other.
-ghost use Rattle.std.specs.Prelude.{◌≡◌, ◌≢◌, ◌+◌, ◌*◌, ◌≤◌, ℕ, List, [], length, IfOk, OnOk, OnErr, IfErr, IfSome, IfNone, Ok};
+ghost use Rattle.std.specs.Prelude.{◌≡◌, ◌≢◌, ◌+◌, ◌*◌, ◌≤◌, ℕ, List, [], length, IfOk, OnOk, OnErr, IfErr, IfSome, IfNone};
 ghost use Rattle.lsys_spec.specs.Levels as levels;
 ghost use Rattle.lsys_spec.specs.LevelLaws.{candidate_visits};
 ghost use Rattle.lsys_spec.specs.Questions.{least_visits, questions};
@@ -41,15 +41,19 @@ impl<L: Ledger> Pass<L> {
         ensures limit { self.new.limit ≡ self.old.limit }
         ensures edited { OnOk result (IsEdited self.old self.new system) }
         ensures refusal { IfErr result (IsRefusal system self.old.limit) }
-        ensures counted { (x y : List (List levels.Symbol)) → AreMeant self.old.system system self.old.limit x y
+        ensures counted { (x y : List (List levels.Symbol))
+            → AreMeant self.old.system system self.old.limit x y
             → IfOk result (IsCount (questions self.old.system x) (questions system y)) }
         ensures asked { IfOk result (λ count. asked.new ≡ asked.old + count.asked) }
-        ensures read { (x y : List (List levels.Symbol)) → AreMeant self.old.system system self.old.limit x y
-            → OnOk result (Rises (least_visits (questions self.old.system x) (questions system y))
+        ensures read { (x y : List (List levels.Symbol))
+            → AreMeant self.old.system system self.old.limit x y
+            → OnOk result (Rises
+            (least_visits (questions self.old.system x) (questions system y))
             (candidate_visits self.old.system system x y) visited.old visited.new) }
         ensures refused { OnErr result (IsBack self.old self.new) }
         ensures few_asked { OnErr result (Rises 0 self.old.limit asked.old asked.new) }
-        ensures few_read { OnErr result (Rises 0 (most_read * self.old.limit) visited.old visited.new) }
+        ensures few_read { OnErr result
+            (Rises 0 (most_read * self.old.limit) visited.old visited.new) }
     {
         // The type's invariant is known where a field is named.
         let _ = &self.forest;
