@@ -5,10 +5,15 @@
 #![tactic(auto)]
 
 mod edit;
+mod asked;
+mod symbols;
 mod ending;
 mod fault;
+mod next_level;
 mod keep;
+mod level;
 mod outcome;
+mod parents;
 mod pass;
 mod place;
 mod read;

@@ -2,7 +2,7 @@
 ghost use Rattle.std.specs.Prelude.{◌≡◌, [], OnOk, OnErr, IfErr};
 ghost use Rattle.lsys_pass.specs.declared.state.PassState.TheVariants.{Rest};
 ghost use Rattle.lsys_pass.specs.Beginnings.{Begun};
-ghost use Rattle.lsys_pass.specs.Moves.{AtLevel, IsBack, Finishes, Fails, IsRefusal};
+ghost use Rattle.lsys_pass.specs.Moves.{IsBack, IsRefusal};
 ghost use Rattle.lsys_pass.specs.Spent.{AllPending};
 
 use crate::pass::Pass;
@@ -21,20 +21,6 @@ impl<L: Ledger> Pass<L> {
         ensures refusal { IfErr result (IsRefusal system self.old.limit) }
     {
         let _ = (alloc, system, &self.forest);
-        Err(DeriveRefusal::Memory)
-    }
-
-    /// Makes the next level.
-    pub fn finish_level(&mut self, alloc: Global) -> Result<(), DeriveRefusal>
-        requires state { AtLevel self.old.state }
-        requires pending { self.old.pending ≡ [] }
-        ensures finishes { OnOk result (Finishes self.old self.new) }
-        ensures all { OnOk result (AllPending self.new self.new.state) }
-        ensures fails { OnErr result (Fails self.old self.new) }
-        ensures refusal { IfErr result (IsRefusal self.old.next self.old.limit) }
-    {
-        let _ = alloc;
-        self.fail();
         Err(DeriveRefusal::Memory)
     }
 }
