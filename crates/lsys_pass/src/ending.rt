@@ -96,13 +96,3 @@ pub(crate) fn gone_nodes(front: &Front) -> &[NodeId]
 {
     &front.changes.gone
 }
-<<<<<<< HEAD
-=======
-
-/// The nodes of a forest hang together under the root, and did so at any time since the last rest.
-pub(crate) fn law_of_forests<A: Kept>(forest: &Forest<A>)
-    ensures { AreSound forest.now.root (changes_in forest.now) (now_of forest.now) }
-{
-    forest.root();
-}
->>>>>>> 51fd21ad2b976c527b972496b885b87858adc4c4
