@@ -32,6 +32,7 @@ use Rattle.lsys_pass.specs.Stages.{IsAtLevel}
 use Rattle.lsys_pass.specs.Passes.{PassView, stage_of, now, HoldsAt, IsPass}
 use Rattle.lsys_pass.specs.Moves.{IsNext, Follows, StepsOver, Moves, MovesOnce, Finishes}
 use Rattle.lsys_pass.specs.Beginnings.{Begun}
+use Rattle.lsys_pass.specs.Fresh.{IsToAsk}
 use Rattle.lsys_pass.specs.Spent.{read_at, read_without, visits_here, visits_in, spent_visits, AllPending}
 use Rattle.lsys_pass.proofs.Before.{zero_plus}
 use Rattle.lsys_pass.proofs.Settling.{has_in, in_has}
@@ -281,3 +282,11 @@ finished_visits v w t h e none f g all =
   where
     by : System → System → ℕ → ℕ
     by old new limit = candidate_visits old new (meant old limit) (meant_to new limit t) + visits_at old new (meant old limit) t (level_to new limit t)
+
+-- 8. a level that was just made, as calls tell it
+
+pub all_to_ask : (u x w : PassView) (t : ℕ) → u ≡ x → IsToAsk x t → w ≡ record u { state = Level t } → AllPending w w.state
+all_to_ask u x w t e i f = subst (λ (z : PassView). AllPending z z.state) (sym f) (subst (λ (y : PassView). IsToAsk y t) (sym e) i).advances.ask.all
+
+pub none_to_ask : (w : PassView) (s : PassState) → w.state ≡ s → s ≡ Done → AllPending w w.state
+none_to_ask w s e f = subst (AllPending w) (sym (e ∙ f)) tt

@@ -4,14 +4,13 @@
 //! `specs/Moves.antt`.
 #![tactic(auto)]
 
-mod edit;
 mod asked;
-mod symbols;
+mod edit;
 mod ending;
 mod fault;
-mod next_level;
 mod keep;
 mod level;
+mod next_level;
 mod outcome;
 mod parents;
 mod pass;
@@ -23,6 +22,7 @@ mod seating;
 mod sizes;
 mod state;
 mod stubs;
+mod symbols;
 mod turning;
 mod work;
 
