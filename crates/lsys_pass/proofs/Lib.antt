@@ -40,6 +40,7 @@ pub mod Failing
 pub mod Ended
 pub mod Endings
 pub mod Turnings
+pub mod Beginnings
 pub mod Askings
 pub mod Unanswered
 pub mod Pendings

@@ -5,6 +5,7 @@
 #![tactic(auto)]
 
 mod asked;
+mod beginning;
 mod edit;
 mod ending;
 mod fault;
@@ -21,7 +22,6 @@ mod room;
 mod seating;
 mod sizes;
 mod state;
-mod stubs;
 mod symbols;
 mod turning;
 mod work;
