@@ -29,6 +29,9 @@ pub mod NextLengths
 pub mod Closedness
 pub mod SizesTold
 pub mod Repairing
+pub mod Spending
+pub mod Visiting
+pub mod Editing
 pub mod Going
 pub mod Coming
 pub mod SeenCases

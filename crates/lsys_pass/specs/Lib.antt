@@ -11,6 +11,8 @@ pub mod Leftmost
 pub mod Fresh
 pub mod Others
 pub mod Sizes
+pub mod Spent
+pub mod Edits
 pub mod Lasts
 pub mod Beginnings
 pub mod Made

@@ -6,6 +6,7 @@
 
 mod asked;
 mod beginning;
+mod edit;
 mod ending;
 mod fault;
 mod keep;
