@@ -10,3 +10,5 @@ pub mod Moves
 pub mod Leftmost
 pub mod Fresh
 pub mod Sizes
+pub mod Views
+pub mod Edits

@@ -4,6 +4,8 @@
 //! `specs/Moves.antt`.
 #![tactic(auto)]
 
+mod derivation;
+mod edit_stub;
 mod fault;
 mod keep;
 mod outcome;
@@ -11,11 +13,13 @@ mod pass;
 mod place;
 mod read;
 mod refusal;
+mod rest;
 mod seating;
 mod sizes;
 mod state;
 mod work;
 
+pub use derivation::ForestDerivation;
 pub use fault::Faulted;
 pub use pass::Pass;
 pub use sizes::Size;

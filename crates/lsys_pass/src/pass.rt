@@ -35,17 +35,17 @@ use std::sync::ledger::Ledger;
 /// A forest with the levels of a system, which an edit makes those of another system, level by level.
 #[derive(Drop)]
 pub struct Pass<L: Ledger> {
-    forest: Forest<KeptAnswer<L>>,
-    store: AnswerStore,
-    reads: Reads,
-    seats: Seats,
-    sizes: Sizes,
-    system: System,
-    next: Option<System>,
-    limit: u32,
-    state: PassState,
-    answers: usize,
-    work: Work,
+    pub(crate) forest: Forest<KeptAnswer<L>>,
+    pub(crate) store: AnswerStore,
+    pub(crate) reads: Reads,
+    pub(crate) seats: Seats,
+    pub(crate) sizes: Sizes,
+    pub(crate) system: System,
+    pub(crate) next: Option<System>,
+    pub(crate) limit: u32,
+    pub(crate) state: PassState,
+    pub(crate) answers: usize,
+    pub(crate) work: Work,
 }
 
 impl<L: Ledger> Model for Pass<L> {
