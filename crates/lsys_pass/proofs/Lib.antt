@@ -30,3 +30,4 @@ pub mod Closedness
 pub mod SizesTold
 pub mod Repairing
 pub mod Viewing
+pub mod Deriving

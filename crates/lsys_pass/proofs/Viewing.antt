@@ -61,7 +61,7 @@ found_at levels t p a own e =
     let f = found a.tag (level_at levels (level_in a.tag levels)) (stands_among levels t p a e) in
     own.apart (level_in a.tag levels) t (place_among a.tag levels) p f.0 a f.1 e f.2
 
-spot_told : (levels : List (List Spotted)) (t p : ℕ) → IsSpot levels t p → t < length levels
+pub spot_told : (levels : List (List Spotted)) (t p : ℕ) → IsSpot levels t p → t < length levels
 spot_told [] t p h = absurd (omega (arith, h))
 spot_told (x ∷ levels) zero p h = omega arith
 spot_told (x ∷ levels) (suc t) p h = let r = spot_told levels t p h in omega (arith, r)
@@ -95,7 +95,7 @@ module _ (f : Grove Kept) (n : ℕ) (levels : List (List Spotted)) (h : Shows f 
   pub row_is : (t : ℕ) → t < n → level_at levels t ≡ level_at all t
   row_is t l = ap (λ (xs : List (List Spotted)). level_at xs t) h.are ∙ get_or-take n all t [] l
 
-  there : (t p : ℕ) (a : Spotted) → spotted_at levels t p ≡ Some a → spotted_at all t p ≡ Some a
+  pub there : (t p : ℕ) (a : Spotted) → spotted_at levels t p ≡ Some a → spotted_at all t p ≡ Some a
   there t p a e = ap (λ (xs : List Spotted). slice_get xs p) (sym (row_is t (below t (spot_told levels t p (slice_get_within (level_at levels t) p a e))).0)) ∙ e
 
   pub own : HasOwnTags levels
@@ -109,7 +109,7 @@ module _ (f : Grove Kept) (n : ℕ) (levels : List (List Spotted)) (h : Shows f 
     pub at_spot : IsAtSpot f k
 
   -- a node of the level, at its place
-  node_there : (t p : ℕ) (a : Spotted) → t < length all → spotted_at all t p ≡ Some a → slice_get (level_nodes (now_of f) f.root t) p ≡ Some a.tag
+  pub node_there : (t p : ℕ) (a : Spotted) → t < length all → spotted_at all t p ≡ Some a → slice_get (level_nodes (now_of f) f.root t) p ≡ Some a.tag
   node_there t p a l e = by (slice_get row p) refl (sym (slice_get-map (λ i. spot_in i (now_of f i)) row p) ∙ ap (λ (x : List Spotted). slice_get x p) (sym (told_is f t l)) ∙ e)
     where
       row : List ℕ
