@@ -43,10 +43,10 @@ module _ (r : Repair) (s : SteppingSpots r) where
   lives_still : (k : ℕ) → IsSome (rest r k) → IsLive r.forest k
   lives_still k some = let n = some_of (rest r k) some in node_of_kin (now r k) (kin_of n.0) (s.stay k (kin_of n.0) (ap (option_map kin_of) n.1))
 
-  was_live : (k : ℕ) → In k (were r) → IsLive r.forest k
+  pub was_live : (k : ℕ) → In k (were r) → IsLive r.forest k
   was_live k i = let d = level_depth (root r) [] (rest r) (sound_old r s) r.level k i in lives_still k (subst IsSome (sym d.1) refl)
 
-  is_live : (k : ℕ) → In k (are r) → IsLive r.forest k
+  pub is_live : (k : ℕ) → In k (are r) → IsLive r.forest k
   is_live k i = live_at r.forest r.level k (sound_new r s) i
 
   around_live : (j k : ℕ) → In k (level_around r.forest j) → IsLive r.forest k

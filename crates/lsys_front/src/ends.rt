@@ -148,12 +148,12 @@ pub fn drop_below<A: Kept>(
     Ok(())
 }
 
-/// Those of these nodes that keep an answer come behind `dropped`.
+/// Those of these nodes that keep an answer come behind `dropped`. It costs steps by the number of the nodes.
 ///
 /// # Errors
 ///
 /// Want of memory.
-fn add_answered<A: Kept>(
+pub fn add_answered<A: Kept>(
     forest: &Forest<A>,
     nodes: &[NodeId],
     dropped: &mut Vec<Tag>,

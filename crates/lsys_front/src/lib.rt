@@ -5,15 +5,19 @@
 mod asks;
 mod differences;
 mod ends;
+mod first;
 mod front;
 mod law;
 mod looks;
 mod lost;
 mod parents;
+mod turn;
 
 pub use asks::{Found, law_of_levels_to_ask, law_of_pending};
 pub use differences::{law_of_first_differences, law_of_next_differences};
-pub use ends::{add_children, drop_below, end_level, law_of_answered_rows, law_of_last_levels};
+pub use ends::{
+    add_answered, add_children, drop_below, end_level, law_of_answered_rows, law_of_last_levels,
+};
 pub use front::Front;
 pub use looks::{law_of_found_fronts, law_of_next_looks, law_of_seat_room};
 pub use lost::lose_answers;

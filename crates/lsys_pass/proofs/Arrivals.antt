@@ -16,7 +16,7 @@ use Rattle.lsys_pass.specs.declared.sizes.Size.{Size}
 use Rattle.lsys_pass.specs.declared.state.PassState.TheVariants.{Level, Done, Failed}
 use Rattle.lsys_pass.specs.Sizes.{symbols_at, opens_at, with_open, with_level, HaveSizes, HaveSizesTo, SizesAt}
 use Rattle.lsys_pass.specs.Stages.{IsStored}
-use Rattle.lsys_pass.specs.Passes.{PassView, stage_of, now, was, HoldsAt, IsStill, HasFront, FrontAt, IsPass}
+use Rattle.lsys_pass.specs.Passes.{PassView, stage_of, now, was, HoldsAt, AllHaveSeats, IsStill, HasFront, FrontAt, IsPass}
 use Rattle.lsys_pass.specs.Advances.{IsAskedTo, KeepsRest, Makes, Begins, Advances, Ends}
 use Rattle.lsys_pass.proofs.Backing.{rests_at}
 use Rattle.lsys_pass.proofs.Sized.{closed_same}
@@ -34,6 +34,7 @@ failed v h = record {
   made_sized = tt;
   holds = rests_at (stage_of v) v.state h.holds;
   front = tt;
+  room = h.room;
 }
 
 -- 2. the sizes of the levels that were made
@@ -111,6 +112,7 @@ pub record IsKept (v v' : PassView) : Type 0 where
   pub answers : v'.answers ≡ v.answers
   pub sizes : v'.sizes ≡ v.sizes
   pub run : KeepsRest (stage_of v) (stage_of v')
+  pub room : AllHaveSeats (was v') v'.seats
 
 module _ (v v' : PassView) (h : IsPass v) (k : IsKept v v') where
   sound : IsSound v.forest.root (changes_in v.forest) (now v)
@@ -128,7 +130,7 @@ module _ (v v' : PassView) (h : IsPass v) (k : IsKept v v') where
       (subst (λ r. HaveSizes (was v') r v.sizes) (sym k.run.root) (subst (λ (m : Nodes Kept). HaveSizes m v.forest.root v.sizes) (sym k.run.was) h.sized))
 
   pub come : HoldsAt (stage_of v') v'.state → SizesAt (now v') v'.forest.root v'.next.depth v'.made v'.state → FrontAt v' v'.state → IsPass v'
-  come holds made front = record { stored = k.stored; few = k.few; unmarked = k.unmarked; counted = counted; sized = sized; made_sized = made; holds = holds; front = front }
+  come holds made front = record { stored = k.stored; few = k.few; unmarked = k.unmarked; counted = counted; sized = sized; made_sized = made; holds = holds; front = front; room = k.room }
 
   -- it comes to the next level, or that is the last one
   module _ (t : ℕ) (asked : IsAskedTo (stage_of v) t) (x : Makes (stage_of v) (stage_of v') (suc t)) (made : HaveSizesTo (now v') v'.forest.root v'.made (suc t)) where
@@ -136,10 +138,10 @@ module _ (v v' : PassView) (h : IsPass v) (k : IsKept v v') where
     next_pass state a f =
         come (subst (HoldsAt (stage_of v')) (sym state) (starts (stage_of v) (stage_of v') t asked sound sound' x a)) (subst (SizesAt (now v') v'.forest.root v'.next.depth v'.made) (sym state) made) (subst (FrontAt v') (sym state) f)
 
-    pub done_pass : v'.state ≡ Done → Ends (stage_of v') (suc t) → IsPass v'
-    done_pass state e =
+    pub done_pass : v'.state ≡ Done → Ends (stage_of v') (suc t) → AllHaveSeats (now v') v'.seats → IsPass v'
+    done_pass state e room =
         come (subst (HoldsAt (stage_of v')) (sym state) (ends (stage_of v) (stage_of v') t asked sound sound' x e))
-        (subst (SizesAt (now v') v'.forest.root v'.next.depth v'.made) (sym state) (subst (HaveSizesTo (now v') v'.forest.root v'.made) (sym e.depth) made)) (subst (FrontAt v') (sym state) tt)
+        (subst (SizesAt (now v') v'.forest.root v'.next.depth v'.made) (sym state) (subst (HaveSizesTo (now v') v'.forest.root v'.made) (sym e.depth) made)) (subst (FrontAt v') (sym state) room)
 
   -- it comes from the last rest to level 0
   module _ (still : IsStill (stage_of v)) (x : Begins (stage_of v) (stage_of v')) (made : HaveSizesTo (now v') v'.forest.root v'.made 0) where
@@ -147,7 +149,7 @@ module _ (v v' : PassView) (h : IsPass v) (k : IsKept v v') where
     first_pass state a f =
         come (subst (HoldsAt (stage_of v')) (sym state) (starts_first (stage_of v) (stage_of v') still x a)) (subst (SizesAt (now v') v'.forest.root v'.next.depth v'.made) (sym state) made) (subst (FrontAt v') (sym state) f)
 
-    pub first_done : v'.state ≡ Done → Ends (stage_of v') 0 → IsPass v'
-    first_done state e =
+    pub first_done : v'.state ≡ Done → Ends (stage_of v') 0 → AllHaveSeats (now v') v'.seats → IsPass v'
+    first_done state e room =
         come (subst (HoldsAt (stage_of v')) (sym state) (starts_done (stage_of v) (stage_of v') still x e))
-        (subst (SizesAt (now v') v'.forest.root v'.next.depth v'.made) (sym state) (subst (HaveSizesTo (now v') v'.forest.root v'.made) (sym e.depth) made)) (subst (FrontAt v') (sym state) tt)
+        (subst (SizesAt (now v') v'.forest.root v'.next.depth v'.made) (sym state) (subst (HaveSizesTo (now v') v'.forest.root v'.made) (sym e.depth) made)) (subst (FrontAt v') (sym state) room)

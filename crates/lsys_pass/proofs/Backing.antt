@@ -12,7 +12,7 @@ use Rattle.lsys_forest.specs.Groves.{Grove, now_of, rest_of, changes_in, live_no
 use Rattle.lsys_kept.specs.Names.{run_in, holds}
 use Rattle.lsys_kept.specs.Meant.{meant}
 use Rattle.lsys_seats.specs.declared.seat.Seat.{Seat}
-use Rattle.lsys_seats.specs.Seats.{is_marked}
+use Rattle.lsys_seats.specs.Seats.{is_marked, HasSeat}
 use Rattle.lsys_pass.specs.declared.work.Work.{Work}
 use Rattle.lsys_pass.specs.Works.{IsCleared}
 use Rattle.lsys_pass.specs.declared.sizes.Sizes.{Sizes}
@@ -20,12 +20,12 @@ use Rattle.lsys_pass.specs.declared.state.PassState.{PassState}
 use Rattle.lsys_pass.specs.declared.state.PassState.TheVariants.{Rest, Level, Done, Failed}
 use Rattle.lsys_pass.specs.Rests.{IsResting}
 use Rattle.lsys_pass.specs.Stages.{Stage, IsStored, Rests}
-use Rattle.lsys_pass.specs.Passes.{PassView, stage_of, now, was, HoldsAt, IsPass}
+use Rattle.lsys_pass.specs.Passes.{PassView, stage_of, now, was, HoldsAt, AllHaveSeats, IsPass}
 use Rattle.lsys_pass.specs.Sizes.{HaveSizes}
 use Rattle.lsys_pass.proofs.Stores.{AllStay, rest_stays}
 use Rattle.lsys_pass.proofs.Sized.{none_sized}
 use Rattle.lsys_pass.proofs.Keepers.{are_made, stay_kept, stored_rest}
-use Rattle.lsys_pass.proofs.Openings.{IsAlone, no_levels, alone_rests, alone_stored, opening_questions}
+use Rattle.lsys_pass.proofs.Openings.{IsAlone, only_root, no_levels, alone_rests, alone_stored, opening_questions}
 
 pub rests_at : (s : Stage) (state : PassState) → HoldsAt s state → Rests s
 rests_at s Rest h = h.rest
@@ -68,8 +68,8 @@ AreUnmarked seats = (k : ℕ) → is_marked seats k ≡ false
 pub is_resting : (f : Grove Kept) (st : Store) (reads : Relations) (seats : List Seat) (z : Sizes) (system : System) (limit : ℕ) (w : Work) (answers : ℕ)
     → IsStored (now_of f) (changes_in f) f.root st → live_nodes f < 2 ^ 32 → AreUnmarked seats → answers ≡ length (questions system (meant system limit))
     → IsResting system limit (rest_of f) f.root st reads seats → changes_in f ≡ [] → reads.pending ≡ [] → IsCleared w
-    → HaveSizes (rest_of f) f.root z.rest.items → z.made.items ≡ [] → IsPass (resting f st reads seats z system limit w answers)
-is_resting f st reads seats z system limit w answers stored few unmarked counted rest still quiet clear sized none = record {
+    → HaveSizes (rest_of f) f.root z.rest.items → z.made.items ≡ [] → AllHaveSeats (rest_of f) seats → IsPass (resting f st reads seats z system limit w answers)
+is_resting f st reads seats z system limit w answers stored few unmarked counted rest still quiet clear sized none room = record {
   stored = stored;
   few = few;
   unmarked = unmarked;
@@ -89,7 +89,13 @@ is_resting f st reads seats z system limit w answers stored few unmarked counted
     moved = clear.moved;
   };
   front = tt;
+  room = room;
 }
+
+-- the forest and the seats are told in other words
+pub same_resting : (f f' : Grove Kept) (st : Store) (reads : Relations) (seats seats' : List Seat) (z : Sizes) (system : System) (limit : ℕ) (w : Work) (answers : ℕ) → f' ≡ f → seats' ≡ seats
+    → IsPass (resting f st reads seats z system limit w answers) → IsPass (resting f' st reads seats' z system limit w answers)
+same_resting f f' st reads seats seats' z system limit w answers e d h = subst IsPass (λ i. resting (sym e i) st reads (sym d i) z system limit w answers) h
 
 -- it came to rest, and no other system is being made
 pub none_next : (f : Grove Kept) (st : Store) (rd : Relations) (seats : List Seat) (z : Sizes) (nx : Option System) (sys : System) (limit : ℕ) (state : PassState) (w : Work) (answers : ℕ) → nx ≡ None → state ≡ Rest
@@ -105,6 +111,7 @@ pub back_pass : (v : PassView) (f : Grove Kept) (st : Store) (reads : Relations)
 back_pass v f st reads z w h is still root live frees are settled quiet clear same none =
     is_resting f st reads v.seats z v.system v.limit w v.answers stored (let b = h.few in omega (arith, live, b)) h.unmarked h.counted rests still quiet clear
     (subst (HaveSizes (rest_of f) f.root) (sym same) (subst (λ k. HaveSizes (rest_of f) k v.sizes) (sym root) (subst (λ m. HaveSizes m v.forest.root v.sizes) (sym rest_is) h.sized))) none
+    (subst (λ m. AllHaveSeats m v.seats) (sym rest_is) h.room)
   where
     rest : IsResting v.system v.limit (was v) v.forest.root v.store v.reads v.seats
     rest = rests_at (stage_of v) v.state h.holds
@@ -131,9 +138,9 @@ back_pass v f st reads z w h is still root live frees are settled quiet clear sa
     rests = subst (λ k. IsResting v.system v.limit (rest_of f) k st reads v.seats) (sym root) (subst (λ m. IsResting v.system v.limit m v.forest.root st reads v.seats) (sym rest_is) was_rests)
 
 pub new_pass : (f : Grove Kept) (st : Store) (reads : Relations) (seats : List Seat) (z : Sizes) (system : System) (limit : ℕ) (w : Work)
-    → IsAlone (now_of f) f.root → changes_in f ≡ [] → live_nodes f ≡ 1 → system ≡ opening → reads.settled ≡ [] → reads.pending ≡ [] → AreUnmarked seats → IsCleared w → z.rest.items ≡ [] → z.made.items ≡ []
+    → IsAlone (now_of f) f.root → changes_in f ≡ [] → live_nodes f ≡ 1 → system ≡ opening → reads.settled ≡ [] → reads.pending ≡ [] → AreUnmarked seats → HasSeat seats f.root → IsCleared w → z.rest.items ≡ [] → z.made.items ≡ []
     → IsPass (resting f st reads seats z system limit w 0)
-new_pass f st reads seats z system limit w alone still live opens none quiet unmarked clear sizes made =
+new_pass f st reads seats z system limit w alone still live opens none quiet unmarked seated clear sizes made =
     is_resting f st reads seats z system limit w 0
     (subst (λ cs. IsStored (now_of f) cs f.root st) (sym still) (alone_stored (now_of f) f.root st alone)) (omega (arith, live)) unmarked
     (sym (ap (λ s. length (questions s (meant s limit))) opens ∙ ap length (opening_questions limit)))
@@ -141,3 +148,4 @@ new_pass f st reads seats z system limit w alone still live opens none quiet unm
     (subst (λ m. IsResting opening limit m f.root st reads seats) (sym (ap (λ cs. undone cs (now_of f)) still)) (alone_rests (now_of f) f.root limit st reads seats alone none)))
     still quiet clear
     (subst (HaveSizes (rest_of f) f.root) (sym sizes) (subst (λ m. HaveSizes m f.root []) (sym (ap (λ cs. undone cs (now_of f)) still)) (none_sized (now_of f) f.root (λ t. no_levels (now_of f) f.root t alone)))) made
+    (λ k n e. subst (HasSeat seats) (sym (only_root (now_of f) f.root k n alone (sym (ap (λ cs. undone cs (now_of f) k) still) ∙ e)).0) seated)

@@ -130,7 +130,7 @@ kept_rules (b ∷ bs) right o a e h =
     (λ f. cc, subst right same h.2)
 
 module _ (s : System) (limit : ℕ) (m : Nodes Kept) (root : ℕ) (store : Store) (reads : Relations) (seats : List Seat) (r : IsResting s limit m root store reads seats) where
-  count_is : length (meant s limit) ≡ s.depth + 1
+  pub count_is : length (meant s limit) ≡ s.depth + 1
   count_is = level_count s limit s.depth (meant s limit) r.spelled r.is
 
   -- none is kept past the levels that have questions

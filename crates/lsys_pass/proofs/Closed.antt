@@ -26,7 +26,7 @@ use Rattle.lsys_forest.proofs.StockLemmas.{stored_of}
 use Rattle.lsys_forest.proofs.WalkLemmas.{get_In}
 use Rattle.lsys_seats.specs.declared.seat.Seat.{Seat}
 use Rattle.lsys_seats.specs.Neighbours.{neighbours_in, neighbours_on, IsOnLevel}
-use Rattle.lsys_seats.specs.Seats.{neighbours_at, SameMarks}
+use Rattle.lsys_seats.specs.Seats.{neighbours_at, SameMarks, KeepsSeats}
 use Rattle.lsys_kept.specs.Names.{run_in, holds}
 use Rattle.lsys_kept.specs.Levels.{answer_at}
 use Rattle.lsys_kept.specs.Meant.{meant}
@@ -38,12 +38,12 @@ use Rattle.lsys_pass.proofs.Sized.{sized_stays, all_sized}
 use Rattle.lsys_pass.specs.Rests.{IsResting}
 use Rattle.lsys_pass.specs.Stages.{IsStored, IsDone}
 use Rattle.lsys_pass.specs.Passes as P
-use Rattle.lsys_pass.specs.Passes.{PassView, stage_of, now, HoldsAt, IsPass}
+use Rattle.lsys_pass.specs.Passes.{PassView, stage_of, now, HoldsAt, AllHaveSeats, FrontAt, IsPass}
 use Rattle.lsys_pass.proofs.Keepers.{stay_kept, only_node, all_made}
 use Rattle.lsys_pass.specs.Works.{IsCleared}
 use Rattle.lsys_pass.proofs.Backing.{resting, is_resting}
 use Rattle.lsys_pass.proofs.Asking.{Stands, stands, there_at}
-use Rattle.lsys_pass.proofs.Closing.{on_reached, closed_sound, closed_nodes, closed_spots, closed_reads, closed_rests, closed_neighbours}
+use Rattle.lsys_pass.proofs.Closing.{on_reached, lived, closed_sound, closed_nodes, closed_spots, closed_reads, closed_rests, closed_neighbours}
 use Rattle.lsys_pass.proofs.Outcomes.{one_place}
 use Rattle.lsys_pass.proofs.Totals.{answers_count, dropped_few, renewed_needed, new_count, new_nodes, has_answer, passing_apart, all}
 
@@ -149,9 +149,9 @@ module _ (v : PassView) (h : IsPass v) (state : v.state ≡ Done) where
 
     pub closed_pass : (rd' : Relations) (seats' : List Seat) (z : Sizes) (sys : System) (w : Work) (answers' : ℕ) → sys ≡ v.next
         → ((reader seen : ℕ) → is_settled rd' reader seen ≡ ((not (has v.renewed reader) && (not (has v.dropped reader) && is_settled v.reads reader seen)) || is_pending v.reads reader seen)) → rd'.pending ≡ []
-        → ((k : ℕ) → In k v.moved → neighbours_at seats' k ≡ neighbours_in f' k) → ((k : ℕ) → (In k v.moved → ⊥) → neighbours_at seats' k ≡ neighbours_at v.seats k) → SameMarks v.seats seats'
+        → ((k : ℕ) → In k v.moved → neighbours_at seats' k ≡ neighbours_in f' k) → ((k : ℕ) → (In k v.moved → ⊥) → neighbours_at seats' k ≡ neighbours_at v.seats k) → SameMarks v.seats seats' → KeepsSeats v.seats seats'
         → answers' ≡ v.answers - length v.dropped + v.born → IsCleared w → z.rest.items ≡ v.made → z.made.items ≡ [] → IsPass (resting f' st' rd' seats' z sys v.limit w answers')
-    closed_pass rd' seats' z sys w answers' e settled quiet seated others marks count clear sizes none =
+    closed_pass rd' seats' z sys w answers' e settled quiet seated others marks keeps count clear sizes none =
         is_resting f' st' rd' seats' z sys v.limit w answers' stored (let f = h.few in let l = c.live in omega (arith, f, l)) (λ k. marks k ∙ h.unmarked k)
         (count ∙ counts ∙ ap (λ (z : System). length (questions z (meant z v.limit))) (sym e))
         (subst (λ (z : System). IsResting z v.limit (rest_of f') f'.root st' rd' seats') (sym e)
@@ -159,7 +159,14 @@ module _ (v : PassView) (h : IsPass v) (state : v.state ≡ Done) where
         (subst (λ (m : Nodes Kept). IsResting v.next v.limit m v.forest.root st' rd' seats') (sym (ap (λ (cs : List (Change Kept)). undone cs m') c.rest)) rests)))
         c.rest quiet clear
         (subst (HaveSizes (rest_of f') f'.root) (sym sizes) (subst (λ r. HaveSizes (rest_of f') r v.made) (sym c.root) (subst (λ (m : Nodes Kept). HaveSizes m v.forest.root v.made) (sym (ap (λ (cs : List (Change Kept)). undone cs m') c.rest)) sized_all))) none
+        (subst (λ (m : Nodes Kept). AllHaveSeats m seats') (sym (ap (λ (cs : List (Change Kept)). undone cs m') c.rest)) have_seats)
       where
+        room_at : AllHaveSeats (now v) v.seats
+        room_at = subst (FrontAt v) state h.front
+
+        have_seats : AllHaveSeats m' seats'
+        have_seats k n e = keeps k (room_at k n (lived (now v) m' v.forest.root (changes_in v.forest) sound c.stay c.only k n e))
+
         made_at : HaveSizesTo (now v) v.forest.root v.made v.next.depth
         made_at = subst (SizesAt (now v) v.forest.root v.next.depth v.made) state h.made_sized
 

@@ -87,7 +87,7 @@ rest_seats s limit m root store reads seats seats' same h = record {
   seated = λ t p k e. same k ∙ h.seated t p k e;
 }
 
-rest_made : (s s' : Stage) → KeepsRest s s' → Rests s → Rests s'
+pub rest_made : (s s' : Stage) → KeepsRest s s' → Rests s → Rests s'
 rest_made s s' run h =
     subst (λ r. IsResting s'.system s'.limit (was s') s'.root s'.store r s'.seats) (sym run.reads)
     (subst (λ st. IsResting s'.system s'.limit (was s') s'.root st s.reads s'.seats) (sym run.store)

@@ -31,3 +31,7 @@ pub mod SizesTold
 pub mod Repairing
 pub mod Viewing
 pub mod Deriving
+pub mod Failing
+pub mod Ended
+pub mod Endings
+pub mod Turnings

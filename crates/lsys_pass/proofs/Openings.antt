@@ -37,7 +37,7 @@ pub record IsAlone (m : Nodes Kept) (root : ℕ) : Type 0 where
   pub others : (k : ℕ) → k ≢ root → m k ≡ None
   pub alone : m root ≡ Some (root_node root)
 
-only_root : (m : Nodes Kept) (root k : ℕ) (n : Node Kept) → IsAlone m root → m k ≡ Some n → (k ≡ root) × (n ≡ root_node root)
+pub only_root : (m : Nodes Kept) (root k : ℕ) (n : Node Kept) → IsAlone m root → m k ≡ Some n → (k ≡ root) × (n ≡ root_node root)
 only_root m root k n h e = elim (cases_eq k root) [
   | inl s ↦ (s, same_Some n (root_node root) (sym e ∙ ap m s ∙ h.alone))
   | inr ne ↦ absurd (none-some n (sym (h.others k ne) ∙ e))

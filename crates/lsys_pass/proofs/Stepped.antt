@@ -25,11 +25,11 @@ use Rattle.lsys_pass.specs.declared.state.PassState.TheVariants.{Level}
 use Rattle.lsys_pass.specs.declared.work.Work.{Work}
 use Rattle.lsys_pass.specs.Stages.{Stage, fault_in, IsStored, IsAtLevel}
 use Rattle.lsys_pass.specs.Passes as P
-use Rattle.lsys_pass.specs.Passes.{PassView, stage_of, now, HoldsAt, repair_of, HasFront, FrontAt, IsPass}
+use Rattle.lsys_pass.specs.Passes.{PassView, stage_of, now, HoldsAt, repair_of, AllHaveSeats, HasFront, FrontAt, IsPass}
 use Rattle.lsys_pass.specs.Steps.{KeepsAnswers, KeepsOutcome, KeepsNothing}
 use Rattle.lsys_pass.specs.Moves.{StepsOver}
 use Rattle.lsys_pass.proofs.Keepers.{note_of, stored_set, stored_in}
-use Rattle.lsys_pass.proofs.Alike.{AreAlike, alike_put, nodes_alike, spots_alike, level_alike, put_again, answer_put, answer_other}
+use Rattle.lsys_pass.proofs.Alike.{AreAlike, alike_put, nodes_alike, spots_alike, level_alike, put_again, put_from, answer_put, answer_other}
 use Rattle.lsys_pass.proofs.Stepping.{stepped, on_level, other_level}
 use Rattle.lsys_pass.proofs.Fronting.{KeepsLevel, front_stays, AreByLevel, one_here, by_same}
 use Rattle.lsys_pass.proofs.Sized.{made_stays}
@@ -133,6 +133,7 @@ module _ (v : PassView) (t : ℕ) (h : IsPass v) (state : v.state ≡ Level t) (
     within = by.within;
     before = by.before;
     here = by.here;
+    room = subst (λ (m : Nodes Kept). AllHaveSeats m v.seats) (sym nodes) (λ k x e. let f = put_from (now v) node a.n o a.next.is k x e in told.room k f.node f.is);
   }
     where
       alike : AreAlike (now v) (set o)
@@ -174,6 +175,7 @@ module _ (v : PassView) (t : ℕ) (h : IsPass v) (state : v.state ≡ Level t) (
           (made_set o (subst (SizesAt (now v) v.forest.root v.next.depth v.made) state h.made_sized))));
       holds = subst (HoldsAt (stage_of v')) (sym state) (subst (λ (z : Stage). IsAtLevel z t) (sym whole) (level (ap (undone (changes_in g')) (sym nodes) ∙ rest)));
       front = subst (FrontAt v') (sym state) (front_set o rn (AreSound-now g'.root (changes_in g') (now_of g') stored.sound) nodes rest root renewed bare levels);
+      room = subst (λ (m : Nodes Kept). AllHaveSeats m v.seats) (sym rest) h.room;
     };
     steps = record {
       run = record { system = refl; next = refl; limit = refl; root = root; was = rest };
@@ -256,7 +258,9 @@ module _ (v : PassView) (t : ℕ) (h : IsPass v) (state : v.state ≡ Level t) w
       within = by.within;
       before = by.before;
       here = by.here;
+      room = subst (λ (m : Nodes Kept). AllHaveSeats m v.seats) (sym same.now) told.room;
     });
+    room = subst (λ (m : Nodes Kept). AllHaveSeats m v.seats) (sym rest) h.room;
   }
     where
       rest : rest_of g ≡ P.was v

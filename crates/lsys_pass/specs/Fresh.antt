@@ -1,5 +1,5 @@
 -- A level that was just made, and what becomes of it step by step until it is known who is asked on it.
-use Rattle.std.specs.Prelude.{◌≡◌, ◌<◌, ◌≤◌, ◌+◌, ◌⊎◌, ℕ, suc, List, [], ◌∷◌, ◌++◌, length, Some, None, slice_get}
+use Rattle.std.specs.Prelude.{◌≡◌, ◌<◌, ◌≤◌, ◌+◌, ◌⊎◌, ℕ, suc, List, [], length, Some, None, slice_get}
 use Rattle.lsys_match.specs.Kept.{Kept}
 use Rattle.lsys_forest.specs.Groves.{In, AreApart}
 use Rattle.lsys_forest.specs.Rows.{level_nodes}
@@ -96,13 +96,15 @@ pub record WasLookedAt (v : PassView) (t : ℕ) : Type 0 where
       → In k v.front.changes.looked ⊎ (neighbours_in v.forest k ≡ neighbours_at v.seats k)
   pub looked_are : (k : ℕ) → In k v.front.changes.looked → In k (row_of v t)
 
--- It is known what differs on level t from the last rest.
+-- It is known what differs on level t from the last rest. Those that are gone from it keep the answers that they had.
 pub record IsFresh (v : PassView) (t : ℕ) : Type 0 where
   pub made : IsMadeTo v t
   pub lists : HasListsBefore (stage_of v) t
   pub dropped : AreDroppedBefore (stage_of v) t
   pub differs : Differs (repair_of v t) v.front.changes
   pub gone_once : AreApart v.front.changes.gone
+  pub gone_keep : (k : ℕ) → In k v.front.changes.gone
+      → answer_at (P.now v) k ≡ answer_at (P.was v) k
   pub bare : v.front.bare ≡ []
   pub looks : WasLookedAt v t
 

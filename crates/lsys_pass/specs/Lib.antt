@@ -12,3 +12,5 @@ pub mod Fresh
 pub mod Sizes
 pub mod Views
 pub mod Edits
+pub mod Lasts
+pub mod Beginnings

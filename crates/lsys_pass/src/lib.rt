@@ -6,6 +6,7 @@
 
 mod derivation;
 mod edit_stub;
+mod ending;
 mod fault;
 mod keep;
 mod outcome;
@@ -14,9 +15,11 @@ mod place;
 mod read;
 mod refusal;
 mod rest;
+mod room;
 mod seating;
 mod sizes;
 mod state;
+mod turning;
 mod work;
 
 pub use derivation::ForestDerivation;

@@ -116,11 +116,14 @@ impl<L: Ledger> Pass<L> {
         ensures system { IfOk result (λ p. p.system ≡ opening) }
         ensures limit { IfOk result (λ p. p.limit ≡ limit) }
     {
+        let forest = Forest::new(alloc)?;
+        let mut seats = Seats::new(alloc);
+        seats.make_room(forest.root())?;
         Ok(Pass {
-            forest: Forest::new(alloc)?,
+            forest,
             store: AnswerStore::new(alloc),
             reads: Reads::new(alloc),
-            seats: Seats::new(alloc),
+            seats,
             sizes: Sizes::new(alloc),
             system: System::opening(alloc)?,
             next: None,

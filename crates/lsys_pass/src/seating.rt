@@ -1,11 +1,12 @@
 //! Seats of many nodes.
-ghost use Rattle.std.specs.Prelude.{◌≡◌, ℕ};
-ghost use Rattle.lsys_forest.specs.Groves.{In};
+ghost use Rattle.std.specs.Prelude.{◌≡◌, ℕ, OnOk};
+ghost use Rattle.lsys_forest.specs.Groves.{In, IsLive};
 ghost use Rattle.lsys_seats.specs.Neighbours.{neighbours_in, IsOnLevel};
-ghost use Rattle.lsys_seats.specs.Seats.{neighbours_at, HasSeat, SameMarks};
+ghost use Rattle.lsys_seats.specs.Seats.{neighbours_at, HasSeat, SameSeats, SameMarks, KeepsSeats};
 
 use lsys_forest::{Forest, Kept, NodeId};
 use lsys_seats::Seats;
+use std::alloc::AllocError;
 
 /// Sets the seats of these nodes: each tells who is beside its node now. It takes no memory.
 pub(crate) fn seat_all<A: Kept>(seats: &mut Seats, forest: &Forest<A>, nodes: &[NodeId])
@@ -16,8 +17,26 @@ pub(crate) fn seat_all<A: Kept>(seats: &mut Seats, forest: &Forest<A>, nodes: &[
     ensures others { (k : ℕ) → (In k nodes.now → ⊥)
         → neighbours_at seats.new k ≡ neighbours_at seats.old k }
     ensures marks { SameMarks seats.old seats.new }
+    ensures keeps { KeepsSeats seats.old seats.new }
 {
     for node in nodes {
         seats.seat(forest, *node);
+    }
+}
+
+/// Makes a seat for each node of a forest that has none: one that tells of nobody, not marked. All else stays.
+///
+/// # Errors
+///
+/// Want of memory. What the seats tell, and the marks, stay then too.
+pub(crate) fn make_seats<A: Kept>(seats: &mut Seats, forest: &Forest<A>) -> Result<(), AllocError>
+    ensures seats { SameSeats seats.old seats.new }
+    ensures marks { SameMarks seats.old seats.new }
+    ensures keeps { KeepsSeats seats.old seats.new }
+    ensures room { OnOk result ((k : ℕ) → IsLive forest.now k → HasSeat seats.new k) }
+{
+    match u32::try_from(forest.numbers().saturating_sub(1)) {
+        Ok(last) => seats.make_room(NodeId(last)),
+        Err(_) => Err(AllocError),
     }
 }

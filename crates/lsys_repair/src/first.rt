@@ -1,5 +1,5 @@
 //! The children of the root, which are the first level.
-ghost use Rattle.std.specs.Prelude.{◌≡◌, ◌≤◌, ◌++◌, ◌∷◌, [], ℕ, length, map, IfOk, OnOk};
+ghost use Rattle.std.specs.Prelude.{◌≡◌, ◌≤◌, ◌++◌, ◌∷◌, [], ℕ, length, map, IfOk, OnOk, OnErr};
 ghost use Rattle.lsys_spec.specs.Draws.{number_base};
 ghost use Rattle.lsys_change.specs.Nodes.{AreOnce};
 ghost use Rattle.lsys_module.specs.Views.{string_of};
@@ -90,6 +90,7 @@ pub fn make_first<L: Ledger>(
     ensures rest { rest_of forest.new ≡ rest_of forest.old }
     ensures root { forest.new.root ≡ forest.old.root }
     ensures kept { kept_in forest.new ≡ kept_in forest.old }
+    ensures stays { OnErr result ((forest.new ≡ forest.old) × (changes.new ≡ changes.old)) }
 {
     let root = forest.root();
     wanted.fill(numbering, seed, symbols)?;

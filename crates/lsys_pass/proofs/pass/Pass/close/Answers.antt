@@ -37,7 +37,7 @@ invariant_of-self g c =
     c.settle_reads.new.reads c.seat_all.new.seats c.keep.new.self c.take_over.new.system c.come_to_rest.new.work _ c.take_over.ensures.system c.settle_reads.ensures.settled c.settle_reads.ensures.pending
     (λ k i. c.seat_all.ensures.seated k (subst (In k) (sym (c.deref.ensures.value ∙ ap (λ m. m.items) c.settle_reads.ensures.moved)) i))
     (λ k out. c.seat_all.ensures.others k (λ i. out (subst (In k) (c.deref.ensures.value ∙ ap (λ m. m.items) c.settle_reads.ensures.moved) i)))
-    c.seat_all.ensures.marks
+    c.seat_all.ensures.marks c.seat_all.ensures.keeps
     (let l = c.len.ensures in let e : c.len.result ≡ length c.self.inside.work.dropped.items = omega (arith, l) in ap (λ n. c.self.inside.answers - n + c.self.inside.work.born) e)
     c.come_to_rest.ensures.cleared c.keep.ensures.rest c.keep.ensures.made)
 

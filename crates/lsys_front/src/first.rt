@@ -1,0 +1,44 @@
+//! The front of the first level.
+ghost use Rattle.std.specs.Prelude.{◌≡◌, [], IfOk};
+ghost use Rattle.lsys_forest.specs.Groves.{AreSound, now_of, changes_in};
+ghost use Rattle.lsys_forest.specs.Rows.{level_nodes};
+ghost use Rattle.lsys_front.specs.Fronts.{IsToldFirst};
+
+use crate::front::Front;
+use lsys_brood::Changes as Told;
+use lsys_candidates::Changes;
+use lsys_forest::{Forest, Kept};
+use std::alloc::{AllocError, Global};
+
+impl Front {
+    /// What differs on the first level, by what was told when the children of the root were made. All its nodes are looked at.
+    /// The forest is sound.
+    ///
+    /// # Errors
+    ///
+    /// Want of memory.
+    pub fn first<A: Kept>(
+        alloc: Global,
+        forest: &Forest<A>,
+        told: &Told,
+    ) -> Result<Front, AllocError>
+        ensures told { IfOk result (λ front. IsToldFirst told.now front.changes) }
+        ensures looked { IfOk result (λ front. front.changes.looked
+            ≡ level_nodes (now_of forest.now) forest.now.root 0) }
+        ensures turned { IfOk result (λ front. front.turned ≡ []) }
+        ensures bare { IfOk result (λ front. front.bare ≡ []) }
+        ensures sound { AreSound forest.now.root (changes_in forest.now) (now_of forest.now) }
+    {
+        let root = forest.root();
+        Ok(Front {
+            changes: Changes {
+                came: Vec::from_slice(alloc, told.added())?,
+                gone: Vec::from_slice(alloc, told.gone())?,
+                changed: Vec::from_slice(alloc, told.changed())?,
+                looked: Vec::from_slice(alloc, forest.children(root))?,
+            },
+            turned: Vec::new(alloc),
+            bare: Vec::new(alloc),
+        })
+    }
+}

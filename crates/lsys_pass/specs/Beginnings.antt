@@ -1,0 +1,51 @@
+-- The first level of another system, made from a pass at rest.
+use Rattle.std.specs.Prelude.{◌≡◌, ◌≤◌, ◌∷◌, [], ℕ, map}
+use Rattle.lsys_spec.specs.Systems.{System}
+use Rattle.lsys_match.specs.Kept.{Kept}
+use Rattle.lsys_forest.specs.Nodes.{Nodes}
+use Rattle.lsys_forest.specs.Groves.{Grove, now_of, changes_in, live_nodes}
+use Rattle.lsys_forest.specs.Rows.{kids_in}
+use Rattle.lsys_brood.specs.Matches.{nodes_without}
+use Rattle.lsys_brood.specs.Children.{Told}
+use Rattle.lsys_next.specs.Nexts.{wanted_count}
+use Rattle.lsys_next.specs.Renewals.{AreRenewals}
+use Rattle.lsys_repair.specs.Needs.{number_told, wanted_symbols}
+use Rattle.lsys_repair.specs.Made.{TellsAllOf}
+use Rattle.lsys_front.specs.Fronts.{nothing}
+use Rattle.lsys_pass.specs.declared.state.PassState.TheVariants.{Rest}
+use Rattle.lsys_pass.specs.Passes.{PassView, now, was, IsPass}
+use Rattle.lsys_pass.specs.Moves.{IsNext}
+
+-- 1. the forest
+
+-- the nodes stay, with their journal, and no other number of them lives
+pub record KeepsNodes {A : Type 0} (old new : Grove A) : Type 0 where
+  pub now : now_of new ≡ now_of old
+  pub changes : changes_in new ≡ changes_in old
+  pub root : new.root ≡ old.root
+  pub live : live_nodes new ≡ live_nodes old
+
+-- The children of the root were made those of the axiom of a system, which are no more than the limit, and it was told what differs.
+pub record MakesFirst (s : System) (limit : ℕ) (old new : Nodes Kept) (root : ℕ)
+    (told : Told) : Type 0 where
+  pub children : AreRenewals s.numbering s.seed old new root 0 (λ k. s.axiom_string) (root ∷ [])
+  pub tells : TellsAllOf old new (root ∷ []) nothing told
+  pub gone : told.gone ≡ nodes_without old
+      (map number_told (wanted_symbols s.numbering s.axiom_string)) (kids_in (old root))
+  pub within : wanted_count s.numbering s.axiom_string ≤ limit
+
+-- 2. the pass
+
+-- it was at rest, and nothing changed since
+abbrev pub WasStill : PassView → Type 0
+WasStill v = IsPass (record v { state = Rest; next = v.system })
+
+-- It left its rest to make this system, and has its first level, or is done where that is the last one. No answer is new.
+pub record Begun (old new : PassView) (s : System) : Type 0 where
+  pub next : new.next ≡ s
+  pub system : new.system ≡ old.system
+  pub limit : new.limit ≡ old.limit
+  pub root : new.forest.root ≡ old.forest.root
+  pub was : was new ≡ now old
+  pub state : IsNext s 0 new.state
+  pub renewed : new.renewed ≡ []
