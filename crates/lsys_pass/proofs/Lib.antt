@@ -35,3 +35,4 @@ pub mod Failing
 pub mod Ended
 pub mod Endings
 pub mod Turnings
+pub mod Derived
