@@ -120,3 +120,7 @@ system_if_ok v w s (Err e) ok = tt
 pub same_if_err : (v w : PassView) (r : Result EditCount DeriveRefusal) → IsPass v → v.state ≡ Rest → OnErr r (IsBack v w) → OnErr r (view_of w ≡ view_of v)
 same_if_err v w (Ok n) h q err = tt
 same_if_err v w (Err e) h q err = back_view v w h q err
+
+pub told_if_ok : {A E : Type 0} (P : Type 0) (r : Result A E) → OnOk r P → IfOk r (λ a. P)
+told_if_ok P (Ok a) p = p
+told_if_ok P (Err e) p = tt

@@ -1,5 +1,5 @@
 //! A stub of an edit by a pass.
-ghost use Rattle.std.specs.Prelude.{◌≡◌, ◌*◌, ◌≤◌, ℕ, List, IfOk, OnOk, OnErr, IfErr};
+ghost use Rattle.std.specs.Prelude.{◌≡◌, ◌+◌, ◌*◌, ◌≤◌, ℕ, List, IfOk, OnOk, OnErr, IfErr};
 ghost use Rattle.lsys_spec.specs.Levels as levels;
 ghost use Rattle.lsys_spec.specs.LevelLaws.{candidate_visits};
 ghost use Rattle.lsys_spec.specs.Questions.{least_visits, questions};
@@ -39,7 +39,7 @@ impl<L: Ledger> Pass<L> {
         ensures few_asked { OnErr result (Rises 0 self.old.limit asked.old asked.new) }
         ensures few_read { OnErr result (Rises 0 (most_read * self.old.limit) visited.old visited.new) }
     {
-        let _ = (alloc, asked, visited, system, &self.state);
+        let _ = (alloc, &*asked, &*visited, system, &self.state);
         Err(DeriveRefusal::Memory)
     }
 }
