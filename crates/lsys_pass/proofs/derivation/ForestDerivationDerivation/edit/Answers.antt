@@ -1,10 +1,10 @@
-use Rattle.std.proofs.Common.{◌≡◌, List, ap, ◌∙◌, subst}
+use Rattle.std.proofs.Common.{◌≡◌, List, subst}
 use Rattle.std.specs.Prelude.{IfOk, OnErr}
 use Rattle.lsys_spec.specs.Levels.{Symbol}
 use Rattle.lsys_spec.specs.LevelLaws.{candidate_visits}
 use Rattle.lsys_spec.specs.Questions.{questions, least_visits}
 use Rattle.lsys_match.specs.Derivations.{AreMeant, IsOutcome, KeepsTags, Rises}
-use Rattle.lsys_pass.specs.Views.{ForestView, IsQuiet, levels_of, view_of}
+use Rattle.lsys_pass.specs.Views.{ForestView, levels_of, view_of}
 use Rattle.lsys_pass.proofs.Derived.{quiet_after, outcome_is, tags_if_ok, same_if_err, told_if_ok}
 use Rattle.lsys_pass.proofs.derivation.ForestDerivationDerivation.edit.Goals as goal
 

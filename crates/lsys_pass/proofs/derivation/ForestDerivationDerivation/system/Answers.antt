@@ -1,4 +1,4 @@
-use Rattle.std.proofs.Common.{◌≡◌, ap, ◌∙◌, subst}
+use Rattle.std.proofs.Common.{subst}
 use Rattle.lsys_match.specs.Derivations.{IsDerived}
 use Rattle.lsys_pass.specs.Views.{ForestView}
 use Rattle.lsys_pass.proofs.Deriving.{derived}

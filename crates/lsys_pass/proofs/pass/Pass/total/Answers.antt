@@ -1,5 +1,4 @@
 use Rattle.std.proofs.Common.{◌≤◌, sym, ap, subst}
-use Rattle.lsys_pass.specs.declared.sizes.Size.{Size}
 use Rattle.lsys_pass.specs.Sizes.{total_of}
 use Rattle.lsys_pass.proofs.Deriving.{under_limit}
 use Rattle.lsys_pass.proofs.pass.Pass.total.Goals as goal
