@@ -197,14 +197,19 @@ module _ (v : PassView) (h : IsPass v) (q : IsQuiet v) where
   pub derived : IsDerived v.system v.limit (levels_of v)
   derived = record { meant = xs; is = r.is; view = stands_for }
 
+  -- behind the last level there are no nodes
+  pub none_behind : (t : ℕ) → v.system.depth + 1 ≤ t → level_nodes (now v) v.forest.root t ≡ []
+  none_behind t g = none_past v.system v.limit (now v) v.forest.root v.store v.reads v.seats r t (let c = levels_many in omega (arith, c, g))
+
+  pub nodes_at : (t : ℕ) → t < v.system.depth + 1 → length (level_nodes (now v) v.forest.root t) ≡ length (level_at (levels_of v) t)
+  nodes_at t l = sym (length-map (level_nodes (now v) v.forest.root t) (λ k. spot_in k (now v k))) ∙ sym (ap (length {A = Spotted}) (told_at t l))
+
   -- its sizes tell how many symbols there are
   pub total_is : total_of v.sizes ≡ sum_by length (levels_of v)
   total_is = same_sums v.sizes (levels_of v) (λ t. h.sized.symbols t ∙ ap (λ (m : Nodes Kept). length (level_nodes m v.forest.root t)) (was_now v h q.state) ∙ long t)
     where
       long : (t : ℕ) → length (level_nodes (now v) v.forest.root t) ≡ length (level_at (levels_of v) t)
       long t = elim (cases_lt t (v.system.depth + 1)) [
-        | inl l ↦ sym (length-map (level_nodes (now v) v.forest.root t) (λ k. spot_in k (now v k))) ∙ sym (ap (length {A = Spotted}) (told_at t l))
-        | inr g ↦
-            ap (length {A = ℕ}) (none_past v.system v.limit (now v) v.forest.root v.store v.reads v.seats r t (let c = levels_many in omega (arith, c, g)))
-            ∙ sym (ap (length {A = Spotted}) (none_at t g))
+        | inl l ↦ nodes_at t l
+        | inr g ↦ ap (length {A = ℕ}) (none_behind t g) ∙ sym (ap (length {A = Spotted}) (none_at t g))
       ]

@@ -36,3 +36,4 @@ pub mod Ended
 pub mod Endings
 pub mod Turnings
 pub mod Derived
+pub mod Holding

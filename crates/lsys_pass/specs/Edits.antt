@@ -3,16 +3,7 @@ use Rattle.std.specs.Prelude.{◌≡◌, ◌<◌, ◌^◌, ℕ}
 use Rattle.lsys_spec.specs.Systems.{System}
 use Rattle.lsys_change.specs.Nodes.{Kins, AreOnce, Extends}
 use Rattle.lsys_kept.specs.Lineages.{kins}
-use Rattle.lsys_pass.specs.declared.state.PassState.{PassState}
-use Rattle.lsys_pass.specs.declared.state.PassState.TheVariants.{Rest, Level, Done, Failed}
 use Rattle.lsys_pass.specs.Passes.{PassView, now}
-
--- it has begun, and nothing was refused
-abbrev pub IsUnderWay : PassState → Type 0
-IsUnderWay (Level t) = Unit {0}
-IsUnderWay Done = Unit {0}
-IsUnderWay Rest = ⊥
-IsUnderWay Failed = ⊥
 
 -- The nodes of two views belong together: all that live in either have a parent and a number each, the same in both, and no two
 -- have one parent and one number.
@@ -22,7 +13,8 @@ pub record AreOneFamily (old new : Kins) (root : ℕ) : Type 0 where
   pub old_in : Extends old all
   pub new_in : Extends new all
 
--- It has the levels of this system now. A node that stays has the parent and the number that it had.
+-- It has the levels of this system now, which are fewer than a number of 32 bits can count. A node that stays has the parent and
+-- the number that it had.
 pub record IsEdited (old new : PassView) (s : System) : Type 0 where
   pub system : new.system ≡ s
   pub small : new.system.depth < 2 ^ 32

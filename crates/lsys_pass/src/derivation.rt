@@ -1,4 +1,8 @@
 //! A derivation whose levels stand in a forest.
+ghost use Rattle.std.specs.Prelude.{◌≡◌, ◌+◌, List, Ok, length, sum_by};
+ghost use Rattle.lsys_spec.specs.Levels as levels;
+ghost use Rattle.lsys_spec.specs.Meaning.{meaning};
+ghost use Rattle.lsys_spec.specs.Questions.{questions};
 ghost use Rattle.lsys_pass.specs.Views.{level_in, place_among};
 
 use crate::pass::Pass;
@@ -31,6 +35,30 @@ impl<L: Ledger> Model for ForestDerivation<L> {
     ghost view = { λ a. view_of a.pass };
 
     ghost invariant = { λ a. IsQuiet a.pass };
+}
+
+/// How much a derivation keeps.
+#[derive(Clone, Copy, PartialEq, Eq, Debug, Drop)]
+pub struct Held {
+    /// The nodes of its forest.
+    pub nodes: u64,
+    /// The answers that its nodes keep.
+    pub answers: u64,
+}
+
+impl<L: Ledger> ForestDerivation<L> {
+    /// How much it keeps: a node for each symbol of the levels, and the root, and an answer for each question of the system.
+    /// So what an edit made superfluous is gone. It costs no step.
+    pub fn held(&self) -> Held
+        ensures nodes { result.nodes ≡ sum_by length self.now.levels + 1 }
+        ensures answers { (x : List (List levels.Symbol)) → meaning self.now.system self.now.limit ≡ Ok x
+            → result.answers ≡ length (questions self.now.system x) }
+    {
+        Held {
+            nodes: self.pass.forest().live() as u64,
+            answers: self.pass.answers() as u64,
+        }
+    }
 }
 
 /// The levels of the system, from the axiom to the depth. A symbol's tag is the number of its node.

@@ -22,7 +22,7 @@ mod state;
 mod turning;
 mod work;
 
-pub use derivation::ForestDerivation;
+pub use derivation::{ForestDerivation, Held};
 pub use fault::Faulted;
 pub use pass::Pass;
 pub use sizes::Size;

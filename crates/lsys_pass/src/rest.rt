@@ -34,4 +34,12 @@ impl<L: Ledger> Pass<L> {
     {
         self.limit as usize - room_under(self.limit, &self.sizes.rest)
     }
+
+    /// How many answers its nodes keep at rest. It costs no step.
+    pub(crate) fn answers(&self) -> usize
+        ensures answers { result ≡ self.now.answers }
+        ensures pass { IsPass self.now }
+    {
+        self.answers
+    }
 }
