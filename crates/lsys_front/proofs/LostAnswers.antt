@@ -1,5 +1,5 @@
 -- Which nodes lose their answers, one after the other.
-use Rattle.std.proofs.Common.{◌≡◌, ◌+◌, ℕ, Option, Some, None, List, [], ◌∷◌, ◌++◌, take, refl, sym, ap, ◌∙◌, subst, inl, inr, append_assoc, arith}
+use Rattle.std.proofs.Common.{◌≡◌, ◌↔◌, ◌⊎◌, ◌+◌, ℕ, Option, Some, None, List, [], ◌∷◌, ◌++◌, take, refl, sym, ap, ◌∙◌, subst, inl, inr, append_assoc, arith}
 use Rattle.std.specs.Prelude.{IsSome, slice_get, option_map}
 use Rattle.std.specs.Option.{option_and_then}
 use Rattle.std.proofs.lemmas.List.{append-nil}
@@ -73,33 +73,32 @@ module _ {A : Type 0} (s : System) (t : ℕ) where
     others = λ k h. ap (λ (m : Nodes A). m k) same;
   }
 
-  -- 2. and then another
+  -- 2. and then others
 
-  module _ (a b c : Nodes A) (nodes : List ℕ) (i x : ℕ) (b0 b1 b2 d0 d1 d2 : List ℕ) (there : slice_get nodes i ≡ Some x)
-      (one : Loses s t a b (take i nodes) b0 b1 d0 d1) (two : Loses s t b c (x ∷ []) b1 b2 d1 d2) where
+  module _ (a b c : Nodes A) (xs ys zs : List ℕ) (b0 b1 b2 d0 d1 d2 : List ℕ) (all : (k : ℕ) → In k zs ↔ (In k xs ⊎ In k ys))
+      (one : Loses s t a b xs b0 b1 d0 d1) (two : Loses s t b c ys b1 b2 d1 d2) where
     not_both : (k : ℕ) → In k one.lost → In k two.lost → ⊥
     not_both k h g = not_again a b k (one.here k h) ((two.are k).0 g).1
 
     was_other : (k : ℕ) → In k two.lost → b k ≡ a k
     was_other k g = one.others k (λ h. not_both k h g)
 
-    pub loses_next : Loses s t a c (take (i + 1) nodes) b0 b2 d0 d2
-    loses_next = record {
+    loses_then : Loses s t a c zs b0 b2 d0 d2
+    loses_then = record {
       lost = one.lost ++ two.lost;
       bare_is = two.bare_is ∙ ap (λ l. l ++ two.lost) one.bare_is ∙ append_assoc b0 one.lost two.lost;
       dropped_is = two.dropped_is ∙ ap (λ l. l ++ two.lost) one.dropped_is ∙ append_assoc d0 one.lost two.lost;
       apart = apart_append one.lost two.lost one.apart two.apart not_both;
       are = λ k. (
         λ h. elim (In_append one.lost two.lost k h) [
-          | inl j ↦ (let u = (one.are k).0 j in (taken_more nodes i k u.0, u.1))
-          | inr j ↦ (let u = (two.are k).0 j in
-              (subst (λ y. In y (take (i + 1) nodes)) (sym (one_of k x u.0)) (taken_own nodes i x there), idle_as b a k (sym (was_other k j)) u.1))
+          | inl j ↦ (let u = (one.are k).0 j in ((all k).1 (inl u.0), u.1))
+          | inr j ↦ (let u = (two.are k).0 j in ((all k).1 (inr u.0), idle_as b a k (sym (was_other k j)) u.1))
         ],
         λ u. elim (is_in k one.lost) [
           | inl j ↦ In_left k one.lost two.lost j
-          | inr n ↦ In_right k one.lost two.lost (elim (in_taken_next nodes i x k there u.0) [
-            | inl before ↦ absurd (n ((one.are k).1 (before, u.1)))
-            | inr e ↦ (two.are k).1 (inl e, idle_as a b k (one.others k n) u.1)
+          | inr n ↦ In_right k one.lost two.lost (elim ((all k).0 u.0) [
+            | inl i ↦ absurd (n ((one.are k).1 (i, u.1)))
+            | inr i ↦ (two.are k).1 (i, idle_as a b k (one.others k n) u.1)
           ])
         ],
       );
@@ -109,6 +108,25 @@ module _ {A : Type 0} (s : System) (t : ℕ) where
       ];
       others = λ k h. two.others k (λ j. h (In_right k one.lost two.lost j)) ∙ one.others k (λ j. h (In_left k one.lost two.lost j));
     }
+
+  -- of two lists
+  pub loses_both : (a b c : Nodes A) (xs ys : List ℕ) (b0 b1 b2 d0 d1 d2 : List ℕ) → Loses s t a b xs b0 b1 d0 d1 → Loses s t b c ys b1 b2 d1 d2
+      → Loses s t a c (xs ++ ys) b0 b2 d0 d2
+  loses_both a b c xs ys b0 b1 b2 d0 d1 d2 one two =
+      loses_then a b c xs ys (xs ++ ys) b0 b1 b2 d0 d1 d2 (λ k. (In_append xs ys k, λ o. elim o [ inl i ↦ In_left k xs ys i | inr i ↦ In_right k xs ys i ])) one two
+
+  -- of one node more of a list
+  pub loses_next : (a b c : Nodes A) (nodes : List ℕ) (i x : ℕ) (b0 b1 b2 d0 d1 d2 : List ℕ) → slice_get nodes i ≡ Some x
+      → Loses s t a b (take i nodes) b0 b1 d0 d1 → Loses s t b c (x ∷ []) b1 b2 d1 d2 → Loses s t a c (take (i + 1) nodes) b0 b2 d0 d2
+  loses_next a b c nodes i x b0 b1 b2 d0 d1 d2 there one two =
+      loses_then a b c (take i nodes) (x ∷ []) (take (i + 1) nodes) b0 b1 b2 d0 d1 d2
+      (λ k. (
+        λ h. elim (in_taken_next nodes i x k there h) [ inl before ↦ inl before | inr e ↦ inr (inl e) ],
+        λ o. elim o [
+          | inl h ↦ taken_more nodes i k h
+          | inr e ↦ subst (λ y. In y (take (i + 1) nodes)) (sym (one_of k x e)) (taken_own nodes i x there)
+        ],
+      )) one two
 
   -- who was lost lives as before
   pub lives_on : (a b : Nodes A) (nodes bare bare' dropped dropped' : List ℕ) → Loses s t a b nodes bare bare' dropped dropped' → (k : ℕ) → IsSome (a k) → IsSome (b k)

@@ -37,7 +37,7 @@ no_sum (k ∷ ks) = let rest = no_sum ks in omega (arith, sum_by-cons (λ (k : �
 behind : (m : Nodes Kept) (top t : ℕ) → length (level_nodes m top (t + 1)) ≡ sum_by (kids_at m) (level_nodes m top t)
 behind m top t = let next : t + 1 ≡ suc t = omega arith in ap (λ u. length (level_nodes m top u)) next ∙ below_count m (level_nodes m top t)
 
-had_sum : (m : Nodes Kept) (ps : List Parent) → had_by_all m ps ≡ sum_by (kids_at m) (nodes_in ps)
+pub had_sum : (m : Nodes Kept) (ps : List Parent) → had_by_all m ps ≡ sum_by (kids_at m) (nodes_in ps)
 had_sum m [] = refl
 had_sum m (p ∷ ps) = let rest = had_sum m ps in omega (arith, sum_by-cons (had_by m) p ps, sum_by-cons (kids_at m) p.node (nodes_in ps), rest)
 

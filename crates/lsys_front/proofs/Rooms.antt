@@ -26,7 +26,7 @@ use Rattle.lsys_candidates.specs.Found.{LevelChanges, Differs, AreOnLevels, HasR
 use Rattle.lsys_candidates.proofs.Spots.{sound_old, sound_new, new_long}
 use Rattle.lsys_front.proofs.Standing.{live_at, spot_at}
 
-before_in : (xs : List ℕ) (q j : ℕ) → node_before xs q ≡ Some j → In j xs
+pub before_in : (xs : List ℕ) (q j : ℕ) → node_before xs q ≡ Some j → In j xs
 before_in xs zero j e = absurd (none-some j e)
 before_in xs (suc p) j e = got_in xs p j e
 

@@ -10,6 +10,7 @@ mod front;
 mod law;
 mod looks;
 mod lost;
+mod next;
 mod parents;
 mod turn;
 
@@ -20,5 +21,5 @@ pub use ends::{
 };
 pub use front::Front;
 pub use looks::{law_of_found_fronts, law_of_next_looks, law_of_seat_room};
-pub use lost::lose_answers;
+pub use lost::{law_of_forests, lose_answers};
 pub use parents::{any_opens, count_kids, law_of_level_parents, law_of_next_symbols};

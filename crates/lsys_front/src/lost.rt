@@ -1,14 +1,80 @@
 //! Answers that are lost with their questions.
 ghost use Rattle.std.specs.Prelude.{◌≡◌, ◌↔◌, ◌<◌, ◌≤◌, ◌+◌, ◌^◌, ◌++◌, ◌∷◌, ℕ, [], IsTrue, OnOk, OnErr, vec_len, vec_capacity};
-ghost use Rattle.lsys_forest.specs.Groves.{In, now_of, changes_in, live_nodes, IsLive};
+ghost use Rattle.lsys_forest.specs.Groves.{In, AreSound, now_of, changes_in, live_nodes, IsLive};
 ghost use Rattle.lsys_front.specs.Losses.{LosesOnly};
 ghost use Rattle.lsys_front.specs.Asks.{IsIdle, Loses};
 
+use crate::front::Front;
 use lsys_candidates::has_question;
 use lsys_forest::{Forest, Kept, NodeId};
 use lsys_level::Tag;
 use lsys_rules::System;
 use std::alloc::AllocError;
+
+impl Front {
+    /// Takes the answers of the nodes of the level that have no question any more, by its rules: of those that changed, and of
+    /// others. They come behind those that lost theirs before, and behind `dropped`.
+    ///
+    /// It costs steps by the number of these nodes.
+    ///
+    /// # Errors
+    ///
+    /// Want of memory. No answer is new then, and the last rest stays.
+    pub fn lose<A: Kept>(
+        &mut self,
+        forest: &mut Forest<A>,
+        system: &System,
+        level: u32,
+        others: &[NodeId],
+        dropped: &mut Vec<Tag>,
+    ) -> Result<(), AllocError>
+        requires few { live_nodes forest.old < 2 ^ 32 }
+        requires lives { (k : ℕ) → In k (self.old.changes.changed ++ others.now)
+            → IsLive forest.old k }
+        ensures loses { OnOk result (Loses system.now level
+            (now_of forest.old) (now_of forest.new) (self.old.changes.changed ++ others.now)
+            self.old.bare self.new.bare dropped.old.items dropped.new.items) }
+        ensures only { LosesOnly forest.old forest.new }
+        ensures sound { AreSound forest.new.root (changes_in forest.new) (now_of forest.new) }
+        ensures changes { self.new.changes ≡ self.old.changes }
+        ensures turned { self.new.turned ≡ self.old.turned }
+    {
+        let lost = self.lose_both(forest, system, level, others, dropped);
+        law_of_forests(forest);
+        lost
+    }
+
+    /// The same of both, one kind after the other.
+    fn lose_both<A: Kept>(
+        &mut self,
+        forest: &mut Forest<A>,
+        system: &System,
+        level: u32,
+        others: &[NodeId],
+        dropped: &mut Vec<Tag>,
+    ) -> Result<(), AllocError>
+        requires few { live_nodes forest.old < 2 ^ 32 }
+        requires lives { (k : ℕ) → In k (self.old.changes.changed ++ others.now)
+            → IsLive forest.old k }
+        ensures loses { OnOk result (Loses system.now level
+            (now_of forest.old) (now_of forest.new) (self.old.changes.changed ++ others.now)
+            self.old.bare self.new.bare dropped.old.items dropped.new.items) }
+        ensures only { LosesOnly forest.old forest.new }
+        ensures changes { self.new.changes ≡ self.old.changes }
+        ensures turned { self.new.turned ≡ self.old.turned }
+    {
+        let changed = &self.changes.changed;
+        lose_answers(forest, system, level, changed, &mut self.bare, dropped)?;
+        lose_answers(forest, system, level, others, &mut self.bare, dropped)
+    }
+}
+
+/// The nodes of a forest hang together under the root, and did so at any time since the last rest.
+pub fn law_of_forests<A: Kept>(forest: &Forest<A>)
+    ensures { AreSound forest.now.root (changes_in forest.now) (now_of forest.now) }
+{
+    forest.root();
+}
 
 /// Takes the answers of those of these nodes that have no question any more, by the rules of a level of a system. They come
 /// behind `bare`, and behind `dropped`.

@@ -116,7 +116,7 @@ module _ {A : Type 0} where
   -- 4. levels that are the same
 
   -- neighbours are told by the nodes and their spots alone
-  same_on : (f h : Grove A) (t i : ℕ) → IsSameLevel f h t
+  pub same_on : (f h : Grove A) (t i : ℕ) → IsSameLevel f h t
       → neighbours_on (now_of h) (level_nodes (now_of h) h.root t) i ≡ neighbours_on (now_of f) (level_nodes (now_of f) f.root t) i
   same_on f h t i e =
       let mate : mate_on (now_of h) (level_nodes (now_of h) h.root t) i ≡ mate_on (now_of f) (level_nodes (now_of f) f.root t) i = ap (λ x. mate_by (level_by (λ k. k ∷ []) x) i) e.spots in

@@ -1,5 +1,5 @@
 -- What is told of the level that was made last stays while only answers change.
-use Rattle.std.proofs.Common.{◌≡◌, ◌<◌, ◌≤◌, ℕ, List, [], ◌∷◌, ◌++◌, length, None, sym, ap, ◌∙◌, subst, inl, inr, arith}
+use Rattle.std.proofs.Common.{◌≡◌, ◌<◌, ◌≤◌, ℕ, List, [], ◌∷◌, ◌++◌, length, Some, None, sym, ap, ◌∙◌, subst, inl, inr, arith}
 use Rattle.std.specs.Prelude.{take, drop}
 use Rattle.std.proofs.lemmas.List.{length-append, take-append-le, drop-append-le}
 use Rattle.lsys_walks.specs.Stores.{Store}
@@ -18,7 +18,16 @@ use Rattle.lsys_front.specs.Fronts.{Differences, IsFront}
 
 -- 1. what differs
 
--- In this forest the level of a repair has the same nodes, with the same symbols, and none that lost its answer.
+-- In this forest the level of a repair has the same nodes, with the same symbols.
+pub record KeepsNodes (r : Repair) (h : Grove Kept) : Type 0 where
+  pub sound : IsSound h.root (changes_in h) (now_of h)
+  pub root : h.root ≡ r.forest.root
+  pub rest : rest_of h ≡ rest r
+  pub nodes : level_nodes (now_of h) h.root r.level ≡ are r
+  pub spots : level_spots (now_of h) h.root r.level ≡ level_spots (now r) r.forest.root r.level
+  pub seen : (k : ℕ) → seen_at (now_of h) k ≡ seen_at (now r) k
+
+-- and none lost its answer
 pub record KeepsLevel (r : Repair) (h : Grove Kept) : Type 0 where
   pub sound : IsSound h.root (changes_in h) (now_of h)
   pub root : h.root ≡ r.forest.root
@@ -28,7 +37,7 @@ pub record KeepsLevel (r : Repair) (h : Grove Kept) : Type 0 where
   pub seen : (k : ℕ) → seen_at (now_of h) k ≡ seen_at (now r) k
   pub bare : (k : ℕ) → answer_at (now_of h) k ≡ None → answer_at (now r) k ≡ None
 
-module _ (r : Repair) (h : Grove Kept) (st : Store) (x : KeepsLevel r h) where
+module _ (r : Repair) (h : Grove Kept) (st : Store) (x : KeepsNodes r h) where
   abbrev r' : Repair
   r' = record r { forest = h; store = st }
 
@@ -53,8 +62,11 @@ module _ (r : Repair) (h : Grove Kept) (st : Store) (x : KeepsLevel r h) where
   rest_answer : (k : ℕ) → answer_at (rest r') k ≡ answer_at (rest r) k
   rest_answer k = ap (λ (m : Nodes Kept). answer_at m k) x.rest
 
-  pub front_stays : (seats : List Seat) (d : Differences) → IsFront r seats d → IsFront (record r { forest = h; store = st }) seats d
-  front_stays seats d f = record {
+  -- of some it is told that they lost their answers
+  pub front_loses : (seats : List Seat) (d : Differences) (bare : List ℕ) → IsFront r seats d → ((k : ℕ) → In k bare → In k (are r))
+      → ((k : ℕ) (a : Kept) → In k (are r) → answer_at (rest r) k ≡ Some a → answer_at (now_of h) k ≡ None → In k bare)
+      → IsFront (record r { forest = h; store = st }) seats (record d { bare = bare })
+  front_loses seats d bare f within all = record {
     differs = record {
       came = λ k. (
         λ i. let w = (f.differs.came k).0 i in (are_on k w.0, λ j. w.1 (were_back k j)),
@@ -74,9 +86,13 @@ module _ (r : Repair) (h : Grove Kept) (st : Store) (x : KeepsLevel r h) where
         subst (λ (m : Nodes Kept). AreTurnedBy m h r.level seats (d.changes.came ++ d.turned)) (sym x.rest)
         (same_turned (rest r) r.forest h r.level seats (d.changes.came ++ d.turned) x.sound (record { root = x.root; nodes = x.nodes; spots = x.spots }) f.turned);
     turned_are = λ k i. are_on k (f.turned_are k i);
-    bare_are = λ k i. are_on k (f.bare_are k i);
-    bare = λ k a i e n. f.bare k a (are_back k i) (sym (rest_answer k) ∙ e) (x.bare k n);
+    bare_are = λ k i. are_on k (within k i);
+    bare = λ k a i e n. all k a (are_back k i) (sym (rest_answer k) ∙ e) n;
   }
+
+pub front_stays : (r : Repair) (h : Grove Kept) (st : Store) → KeepsLevel r h → (seats : List Seat) (d : Differences) → IsFront r seats d → IsFront (record r { forest = h; store = st }) seats d
+front_stays r h st x seats d f =
+    front_loses r h st (record { sound = x.sound; root = x.root; rest = x.rest; nodes = x.nodes; spots = x.spots; seen = x.seen }) seats d d.bare f f.bare_are (λ k a i e n. f.bare k a i e (x.bare k n))
 
 -- 2. the nodes with another answer
 

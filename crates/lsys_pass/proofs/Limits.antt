@@ -23,6 +23,7 @@ use Rattle.lsys_pass.specs.Sizes.{symbols_at, total_of, HaveSizesTo, SizesAt}
 use Rattle.lsys_pass.specs.Stages.{Stage}
 use Rattle.lsys_pass.specs.Passes.{PassView, stage_of, now, IsPass}
 use Rattle.lsys_pass.specs.Advances.{IsAskedTo, symbols_wanted}
+use Rattle.lsys_pass.specs.Fresh.{WasAsked}
 use Rattle.lsys_pass.proofs.Asking.{sound_now}
 use Rattle.lsys_pass.proofs.Finishing.{all_answered}
 
@@ -115,3 +116,11 @@ over_at v w t e h state a n is l =
 
 pub within_at : (v w : PassView) (n : ℕ) → v ≡ w → total_of v.made + n ≤ v.limit → total_of w.made + n ≤ w.limit
 within_at v w n e l = subst (λ (z : PassView). total_of z.made + n ≤ z.limit) e l
+
+-- 4. a level of which all was asked
+
+pub total_asked : (v : PassView) (t : ℕ) → WasAsked v t → total_of v.made ≤ v.limit
+total_asked v t a = total_within (record v { state = Level t }) t a.pass refl a.asked
+
+pub over_asked : (v : PassView) (t : ℕ) → WasAsked v t → (n : ℕ) → n ≡ symbols_wanted (stage_of v) t → v.limit < total_of v.made + n → meaning v.next v.limit ≡ Err (OverLimit (t + 1))
+over_asked v t a n e l = over_next (record v { state = Level t }) t a.pass refl a.asked n e l

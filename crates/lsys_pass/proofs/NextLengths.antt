@@ -31,7 +31,7 @@ no_sum f (y ∷ ys) h = let c = sum_by-cons f y ys in let one = h y (inl refl) i
 sum_around : (f : ℕ → ℕ) (b : List ℕ) (x : ℕ) (a : List ℕ) → sum_by f (b ++ x ∷ a) ≡ f x + sum_by f (b ++ a)
 sum_around f b x a = let one = sum_by-append f b (x ∷ a) in let two = sum_by-cons f x a in let three = sum_by-append f b a in omega (arith, one, two, three)
 
-same_sum : (f g : ℕ → ℕ) (xs : List ℕ) → ((x : ℕ) → In x xs → f x ≡ g x) → sum_by f xs ≡ sum_by g xs
+pub same_sum : (f g : ℕ → ℕ) (xs : List ℕ) → ((x : ℕ) → In x xs → f x ≡ g x) → sum_by f xs ≡ sum_by g xs
 same_sum f g [] h = refl
 same_sum f g (x ∷ xs) h =
     let c = sum_by-cons f x xs in

@@ -1,20 +1,21 @@
 -- A level that was just made, and what becomes of it step by step until it is known who is asked on it.
-use Rattle.std.specs.Prelude.{◌≡◌, ◌<◌, ◌≤◌, ◌+◌, ◌⊎◌, ℕ, suc, List, [], length, Some, None, slice_get}
+use Rattle.std.specs.Prelude.{◌≡◌, ◌<◌, ◌≤◌, ◌+◌, ◌⊎◌, ℕ, suc, Bool, true, false, map, drop, List, [], ◌∷◌, ◌++◌, length, Some, None, slice_get}
 use Rattle.lsys_match.specs.Kept.{Kept}
 use Rattle.lsys_forest.specs.Groves.{In, AreApart}
 use Rattle.lsys_forest.specs.Rows.{level_nodes}
 use Rattle.lsys_kept.specs.Levels.{answer_at}
 use Rattle.lsys_seats.specs.Neighbours.{neighbours_on, neighbours_in}
 use Rattle.lsys_seats.specs.Seats.{neighbours_at, HasSeat}
-use Rattle.lsys_next.specs.Nexts.{Successors, HasWanted, wanted_in}
+use Rattle.lsys_next.specs.Nexts.{Successors, AreClosed, HasWanted, wanted_in}
 use Rattle.lsys_next.specs.Answers.{kept_successors}
 use Rattle.lsys_next.specs.Renewals.{KeepsDeeper}
 use Rattle.lsys_repair.specs.declared.parent.Parent.{Parent}
-use Rattle.lsys_repair.specs.Parents.{nodes_in, AreParents, AreToldBy}
+use Rattle.lsys_repair.specs.Parents.{nodes_in, AreParents, AreToldBy, walked, whole}
 use Rattle.lsys_candidates.specs.Repairs.{SteppingSpots}
 use Rattle.lsys_candidates.specs.Found.{Differs, IsFound}
-use Rattle.lsys_front.specs.Fronts.{IsFront}
+use Rattle.lsys_front.specs.Fronts.{IsFront, MayHaveOthers}
 use Rattle.lsys_pass.specs.declared.state.PassState.TheVariants.{Level}
+use Rattle.lsys_pass.specs.Sizes.{opens_at}
 use Rattle.lsys_pass.specs.Rests.{AreCountedLow}
 use Rattle.lsys_pass.specs.Stages.{Stage, was}
 use Rattle.lsys_pass.specs.Advances.{IsAskedTo, KeepsRest, StaysAbove, Advances, Ends}
@@ -36,6 +37,17 @@ row_of v t = level_nodes (P.now v) v.forest.root t
 abbrev pub wanted_of : PassView → ℕ → Successors
 wanted_of v t = wanted_in (P.now v) (kept_successors (P.now v)) None (row_of v t)
 
+-- a node of the level may have other children than at the last rest
+abbrev pub IsChanged : PassView → ℕ → Type 0
+IsChanged v k = MayHaveOthers v.front (drop v.first_renewed v.renewed) k
+
+-- The level was not the last one, keys and lineages are the same, and no cut on it reached what stood behind it.
+pub record IsSameLevel (v : PassView) (t : ℕ) : Type 0 where
+  pub below : t < v.system.depth
+  pub seed : v.next.seed ≡ v.system.seed
+  pub numbering : v.next.numbering ≡ v.system.numbering
+  pub closed : opens_at v.sizes t ≡ false
+
 -- These are parents of level t, and it is told what is wanted of each; all other nodes of the level have the children that are
 -- wanted of them.
 pub record AreNextParents (v : PassView) (t : ℕ) (ps : List Parent) : Type 0 where
@@ -44,6 +56,13 @@ pub record AreNextParents (v : PassView) (t : ℕ) (ps : List Parent) : Type 0 w
   pub wants : AreToldBy (wanted_of v t) (P.now v) ps
   pub others : (k : ℕ) → In k (row_of v t) → In k (nodes_in ps)
       ⊎ HasWanted v.next.numbering v.next.seed (P.now v) k (wanted_of v t k)
+
+-- They are all nodes of the level, as a walk tells them; or some of them, none of them cut off, where no cut reaches what stands
+-- behind one of the level.
+abbrev pub AreWalkedOrAlone : PassView → ℕ → Bool → List Parent → Type 0
+AreWalkedOrAlone v t true ps = ps ≡ walked (P.now v) None (row_of v t)
+AreWalkedOrAlone v t false ps =
+    AreClosed (kept_successors (P.now v)) (row_of v t) × (ps ≡ map whole (nodes_in ps))
 
 -- 2. the next level
 

@@ -9,8 +9,10 @@ pub mod Advances
 pub mod Moves
 pub mod Leftmost
 pub mod Fresh
+pub mod Others
 pub mod Sizes
 pub mod Views
 pub mod Edits
 pub mod Lasts
 pub mod Beginnings
+pub mod Made

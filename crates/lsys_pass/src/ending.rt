@@ -1,6 +1,6 @@
 //! The last level of a system.
 ghost use Rattle.std.specs.Prelude.{◌≡◌, ◌≤◌, ◌<◌, ◌^◌, ◌++◌, ℕ, List, length, OnOk};
-ghost use Rattle.lsys_forest.specs.Groves.{In, IsSound, AreSound, now_of, changes_in, live_nodes, IsLive};
+ghost use Rattle.lsys_forest.specs.Groves.{In, IsSound, now_of, changes_in, live_nodes, IsLive};
 ghost use Rattle.lsys_forest.specs.Rows.{level_nodes, complete_levels};
 ghost use Rattle.lsys_front.specs.Losses.{LosesOnly};
 ghost use Rattle.lsys_front.specs.Ends.{AreEnded};
@@ -12,7 +12,7 @@ ghost use Rattle.lsys_pass.specs.Lasts.{dropped_at_end};
 
 use crate::pass::Pass;
 use lsys_forest::{Forest, Kept, NodeId};
-use lsys_front::{Front, add_children, drop_below, end_level};
+use lsys_front::{Front, add_children, drop_below, end_level, law_of_forests};
 use lsys_level::Tag;
 use lsys_repair::list_level;
 use std::alloc::{AllocError, Global};
@@ -91,15 +91,8 @@ fn end_forest<A: Kept>(
 }
 
 /// The nodes that are gone from a level.
-fn gone_nodes(front: &Front) -> &[NodeId]
+pub(crate) fn gone_nodes(front: &Front) -> &[NodeId]
     ensures { result.now ≡ front.now.changes.gone }
 {
     &front.changes.gone
-}
-
-/// The nodes of a forest hang together under the root, and did so at any time since the last rest.
-fn law_of_forests<A: Kept>(forest: &Forest<A>)
-    ensures { AreSound forest.now.root (changes_in forest.now) (now_of forest.now) }
-{
-    forest.root();
 }

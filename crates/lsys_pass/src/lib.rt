@@ -6,10 +6,15 @@
 
 mod derivation;
 mod edit_stub;
+mod asked;
+mod symbols;
 mod ending;
 mod fault;
+mod next_level;
 mod keep;
+mod level;
 mod outcome;
+mod parents;
 mod pass;
 mod place;
 mod read;

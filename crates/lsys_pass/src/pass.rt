@@ -5,7 +5,7 @@ ghost use Rattle.lsys_spec.specs.Questions.{questions};
 ghost use Rattle.lsys_match.specs.Derivations.{IsCount, Rises, most_read};
 ghost use Rattle.lsys_forest.specs.Groves.{In};
 ghost use Rattle.lsys_kept.specs.Meant.{meant};
-ghost use Rattle.lsys_pass.specs.declared.state.PassState.TheVariants.{Rest, Level, Done};
+ghost use Rattle.lsys_pass.specs.declared.state.PassState.TheVariants.{Rest, Level, Done, Failed};
 ghost use Rattle.lsys_pass.specs.Passes.{IsPass, stage_of};
 ghost use Rattle.lsys_pass.specs.Sizes.{total_of};
 ghost use Rattle.lsys_pass.specs.Advances.{IsAskedTo, symbols_wanted};
@@ -18,9 +18,10 @@ use crate::place::place_among;
 use crate::read::settle_reads;
 use crate::refusal::first_fault;
 use crate::seating::seat_all;
-use crate::sizes::{Sizes, room_under};
+use crate::sizes::Sizes;
 use crate::state::PassState;
 use crate::work::Work;
+use lsys_brood::Brood;
 use lsys_forest::{Forest, NodeId};
 use lsys_kept::KeptAnswer;
 use lsys_match::{AnswerStore, Steps, ask};
@@ -28,6 +29,7 @@ use lsys_reads::Reads;
 use lsys_rewrite::{DeriveRefusal, EditCount};
 use lsys_rules::System;
 use lsys_seats::Seats;
+use lsys_wanted::Wanted;
 use std::alloc::{AllocError, Global};
 use std::marker::Model;
 use std::sync::ledger::Ledger;
@@ -46,6 +48,8 @@ pub struct Pass<L: Ledger> {
     pub(crate) state: PassState,
     pub(crate) answers: usize,
     pub(crate) work: Work,
+    pub(crate) wanted: Wanted,
+    pub(crate) brood: Brood,
 }
 
 impl<L: Ledger> Model for Pass<L> {
@@ -131,6 +135,8 @@ impl<L: Ledger> Pass<L> {
             state: PassState::Rest,
             answers: 0,
             work: Work::new(alloc),
+            wanted: Wanted::new(alloc),
+            brood: Brood::new(alloc),
         })
     }
 
@@ -143,7 +149,7 @@ impl<L: Ledger> Pass<L> {
     }
 
     /// Why its level has no next one, where faults were noted: the leftmost of them.
-    fn fault_refusal(&self, level: u32) -> Option<DeriveRefusal>
+    pub(crate) fn fault_refusal(&self, level: u32) -> Option<DeriveRefusal>
         requires state { self.now.state ≡ Level level }
         requires pending { self.now.pending ≡ [] }
         ensures { MatchOption result (self.now.faults ≡ [])
@@ -152,26 +158,11 @@ impl<L: Ledger> Pass<L> {
         first_fault(&self.forest, level, &self.work.faults)
     }
 
-    /// Why this level, which would be made next and have so many symbols, can't be; none where there is room for it.
-    fn limit_refusal(&self, level: u32, symbols: usize) -> Option<DeriveRefusal>
-        requires state { self.now.state ≡ Level (level - 1) }
-        requires behind { 0 < level }
-        requires asked { IsAskedTo (stage_of self.now) (level - 1) }
-        requires symbols { symbols ≡ symbols_wanted (stage_of self.now) (level - 1) }
-        ensures { MatchOption result (total_of self.now.made + symbols ≤ self.now.limit)
-            (IsRefusal self.now.next self.now.limit) }
-    {
-        if symbols > room_under(self.limit, &self.sizes.made) {
-            Some(DeriveRefusal::Limit { level })
-        } else {
-            None
-        }
-    }
-
     /// The new system has no levels, or memory was wanted: only to abandon it is left. It takes no memory.
-    fn fail(&mut self)
+    pub(crate) fn fail(&mut self)
         requires { AtLevel self.old.state }
         ensures fails { Fails self.old self.new }
+        ensures same { self.new ≡ record self.old { state = Failed } }
     {
         self.state = PassState::Failed;
     }

@@ -1,5 +1,5 @@
 //! How long the levels are.
-ghost use Rattle.std.specs.Prelude.{◌≡◌, ◌≤◌, ◌+◌, [], OnOk};
+ghost use Rattle.std.specs.Prelude.{◌≡◌, ◌≤◌, ◌+◌, [], length, OnOk};
 ghost use Rattle.lsys_pass.specs.Sizes.{total_of, symbols_at, opens_at, with_open, with_level};
 
 use crate::keep::push_in_room;
@@ -42,10 +42,10 @@ impl Sizes {
     }
 
     /// How many symbols a level had at the last rest; none, where it was not there.
-    pub(crate) fn symbols_of(&self, level: u32) -> usize
+    pub(crate) fn symbols_of(&self, level: usize) -> usize
         ensures { result ≡ symbols_at self.now.rest.items level }
     {
-        match self.rest.get(level as usize) {
+        match self.rest.get(level) {
             Some(size) => size.symbols,
             None => 0,
         }
@@ -66,11 +66,7 @@ impl Sizes {
         ensures rest { self.new.rest.items ≡ self.old.rest.items }
         ensures made { self.new.made.items ≡ with_open self.old.made.items is_open }
     {
-        let made = &mut self.made[..];
-        let levels = made.len();
-        if levels > 0 {
-            made[levels - 1].is_open = is_open;
-        }
+        set_last(&mut self.made, is_open);
     }
 
     /// Adds a level that was made, of so many symbols.
@@ -112,4 +108,15 @@ pub(crate) fn room_under(limit: u32, sizes: &[Size]) -> usize
         room -= size.symbols;
     }
     room
+}
+
+/// Tells of the last of these levels, if there is one, whether it is open.
+fn set_last(sizes: &mut [Size], is_open: bool)
+    ensures set { sizes.new ≡ with_open sizes.old is_open }
+    ensures many { length sizes.new ≡ length sizes.old }
+{
+    let levels = sizes.len();
+    if levels > 0 {
+        sizes[levels - 1].is_open = is_open;
+    }
 }

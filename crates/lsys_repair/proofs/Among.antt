@@ -1,6 +1,7 @@
 -- A parent among others.
-use Rattle.std.proofs.Common.{◌≡◌, ◌+◌, ◌≤◌, ℕ, zero, suc, List, [], ◌∷◌, ◌++◌, Option, Some, take, drop, length, refl, sym, ap, ◌∙◌, subst, arith, inl, inr, slice_get, if◌then◌else◌}
+use Rattle.std.proofs.Common.{◌≡◌, ◌+◌, ◌≤◌, ℕ, zero, suc, List, [], ◌∷◌, ◌++◌, Option, Some, take, drop, length, refl, sym, ap, ◌∙◌, subst, arith, inl, inr, slice_get, sum_by, if◌then◌else◌}
 use Rattle.std.specs.Prelude.{IsSome, nat_eq}
+use Rattle.std.proofs.lemmas.List.Sums.{sum_by-cons}
 use Rattle.std.proofs.lemmas.Option.{none-some, same_Some}
 use Rattle.lsys_spec.specs.Draws.{number_base}
 use Rattle.lsys_forest.specs.Nodes.{Nodes}
@@ -32,6 +33,13 @@ drop_at xs i x e = at_suc xs i x e ∙ ap (λ n. x ∷ drop n xs) next
     at_suc (y ∷ xs) zero x e = ap (λ z. z ∷ xs) (same_Some y x e)
     at_suc (y ∷ xs) (suc i) x e = at_suc xs i x e
 
+-- the first so many have no more than all
+pub part_sum : {X : Type 0} (f : X → ℕ) (xs : List X) (i : ℕ) → sum_by f (take i xs) ≤ sum_by f xs
+part_sum f [] zero = omega arith
+part_sum f [] (suc i) = omega arith
+part_sum f (x ∷ xs) zero = omega arith
+part_sum f (x ∷ xs) (suc i) = let rest = part_sum f xs i in let a = sum_by-cons f x (take i xs) in let b = sum_by-cons f x xs in omega (arith, rest, a, b)
+
 pub drop_end : {X : Type 0} (xs : List X) (i : ℕ) → length xs ≤ i → drop i xs ≡ []
 drop_end [] zero l = refl
 drop_end [] (suc i) l = refl
@@ -46,7 +54,7 @@ not_before (q ∷ ps) zero p a e h = h
 not_before (q ∷ ps) (suc i) p a e (inl h) = a.0 (subst (λ k. In k (nodes_in ps)) h (among ps i p e))
 not_before (q ∷ ps) (suc i) p a e (inr h) = not_before ps i p a.1 e h
 
-unmirrored : (ks : List ℕ) (k : ℕ) → In k (mirrored ks) → In k ks
+pub unmirrored : (ks : List ℕ) (k : ℕ) → In k (mirrored ks) → In k ks
 unmirrored [] k h = h
 unmirrored (x ∷ xs) k h = elim (rows.In_append (mirrored xs) (x ∷ []) k h) [
   | inl l ↦ inr (unmirrored xs k l)

@@ -42,8 +42,10 @@ pub fn count_children<L: Ledger>(
     requires parents { HasParents (now_of forest.now) forest.now.root (nodes_in parents.now) }
     requires few { length parents.now ≤ 2 ^ 32 }
     requires had { had_by_all (now_of forest.now) parents.now ≤ 2 ^ 32 }
-    ensures { IfOk result (λ count. count
+    ensures count { IfOk result (λ count. count
         ≡ count_of (numbering_of numbering) (now_of forest.now) parents.now) }
+    ensures few { IfOk result (λ count.
+        IsSmall (length parents.now) (had_by_all (now_of forest.now) parents.now) count) }
 {
     let mut count = NONE;
     for parent in parents {

@@ -1,9 +1,9 @@
 //! The children of some parents are made.
-ghost use Rattle.std.specs.Prelude.{◌≡◌, ◌≤◌, ◌++◌, ℕ, Some, OnOk, length};
+ghost use Rattle.std.specs.Prelude.{◌≡◌, ◌+◌, ◌≤◌, ◌++◌, ℕ, Some, OnOk, OnErr, length};
 ghost use Rattle.lsys_spec.specs.Draws.{number_base};
 ghost use Rattle.lsys_match.specs.Kept.{Kept};
 ghost use Rattle.lsys_forest.specs.Nodes.{Node};
-ghost use Rattle.lsys_forest.specs.Groves.{now_of, rest_of, changes_in, kept_in, IsLive, IsSound};
+ghost use Rattle.lsys_forest.specs.Groves.{now_of, rest_of, changes_in, kept_in, live_nodes, IsLive, IsSound};
 ghost use Rattle.lsys_forest.specs.Rows.{mirrored};
 ghost use Rattle.lsys_reading.specs.Commands.{numbering_of};
 ghost use Rattle.lsys_brood.specs.Children.{HasRoomFor, SpendsNeed};
@@ -27,7 +27,8 @@ use std::sync::ledger::Ledger;
 ///
 /// # Errors
 ///
-/// Want of memory, which may come between two parents. The last rest, and who keeps which answer, stay then too.
+/// Want of memory, which may come between two parents. The last rest, and who keeps which answer, stay then too; and no more
+/// nodes came to live than were counted.
 pub fn make_children<L: Ledger>(
     forest: &mut Forest<KeptAnswer<L>>,
     numbering: Numbering,
@@ -51,6 +52,8 @@ pub fn make_children<L: Ledger>(
         ≡ changes.old.gone ++ gone_of (numbering_of numbering) (now_of forest.old) parents.now) }
     ensures spends { OnOk result (SpendsNeed forest.old forest.new
         (needs (numbering_of numbering) (now_of forest.old) parents.now)) }
+    ensures few { live_nodes forest.new ≤ live_nodes forest.old
+        + (needs (numbering_of numbering) (now_of forest.old) parents.now).nodes }
     ensures rest { rest_of forest.new ≡ rest_of forest.old }
     ensures root { forest.new.root ≡ forest.old.root }
     ensures kept { kept_in forest.new ≡ kept_in forest.old }
@@ -62,6 +65,10 @@ pub fn make_children<L: Ledger>(
 }
 
 /// Makes the children of one parent.
+///
+/// # Errors
+///
+/// Want of memory. The forest stays then.
 fn make_one<L: Ledger>(
     forest: &mut Forest<KeptAnswer<L>>,
     numbering: Numbering,
@@ -82,6 +89,7 @@ fn make_one<L: Ledger>(
     ensures rest { rest_of forest.new ≡ rest_of forest.old }
     ensures root { forest.new.root ≡ forest.old.root }
     ensures kept { kept_in forest.new ≡ kept_in forest.old }
+    ensures refused { OnErr result (forest.new ≡ forest.old) }
 {
     let node = parent.node;
     fill_for(wanted, forest, numbering, parent)?;

@@ -1,11 +1,12 @@
-use Rattle.std.proofs.Common.{◌≡◌, ◌+◌, Some, take, length, refl, sym, ap, ◌∙◌, arith, slice_get}
+use Rattle.std.proofs.Common.{◌≡◌, ◌+◌, ◌≤◌, List, Some, take, length, refl, sym, ap, ◌∙◌, subst, arith, slice_get}
 use Rattle.std.proofs.lemmas.Option.{slice_get_read}
 use Rattle.std.proofs.lemmas.List.Sums.{sum_by_push, sum_by-take-le}
 use Rattle.lsys_forest.specs.Groves.{now_of}
 use Rattle.lsys_reading.specs.Commands.{numbering_of}
 use Rattle.lsys_brood.proofs.MatchLemmas.{take_next, take_whole}
 use Rattle.lsys_repair.specs.declared.count.Count.{Count}
-use Rattle.lsys_repair.specs.Needs.{had_by, had_by_all, count_of, with_count}
+use Rattle.lsys_repair.specs.declared.parent.Parent.{Parent}
+use Rattle.lsys_repair.specs.Needs.{IsSmall, had_by, had_by_all, count_of, with_count}
 use Rattle.lsys_repair.proofs.Needs.{count_push, small_push}
 use Rattle.lsys_repair.proofs.Among.{parent_lives, parent_short}
 use Rattle.lsys_repair.proofs.count.count_children.Goals as goal
@@ -57,5 +58,15 @@ loop-parent-preserved g c =
       small = small_push i (had_by_all m (take i ps)) (had_by_all m (take (i + 1) ps)) c.loop-parent.count c.in_ok-one.one c.both-count.result c.loop-parent.invariant.small c.in_ok-one.ensures.few c.both-count.ensures (omega (arith, sum, had));
     }
 
-pub returns : goal.returns
-returns g c = c.loop-parent.invariant.count ∙ ap (count_of (numbering_of c.args.numbering) (now_of c.args.forest.now)) (take_whole c.args.parents.now c.loop-parent.parent-index c.loop-parent-test.false)
+pub returns-clause-count : goal.returns-clause-count
+returns-clause-count g c = c.loop-parent.invariant.count ∙ ap (count_of (numbering_of c.args.numbering) (now_of c.args.forest.now)) (take_whole c.args.parents.now c.loop-parent.parent-index c.loop-parent-test.false)
+
+pub returns-clause-few : goal.returns-clause-few
+returns-clause-few g c =
+    let ps = c.args.parents.now in
+    let i = c.loop-parent.parent-index in
+    let m = now_of c.args.forest.now in
+    let end = c.loop-parent-test.false in
+    let last : i ≤ length ps = c.loop-parent.auto.parent-index-end in
+    let all : i ≡ length ps = omega (arith, end, last) in
+    subst (λ n. IsSmall n (had_by_all m ps) c.loop-parent.count) all (subst (λ (qs : List Parent). IsSmall i (had_by_all m qs) c.loop-parent.count) (take_whole ps i end) c.loop-parent.invariant.small)

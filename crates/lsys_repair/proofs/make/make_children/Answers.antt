@@ -1,16 +1,17 @@
-use Rattle.std.proofs.Common.{◌≡◌, List, Some, length, refl, ap, ◌∙◌, ◌++◌, subst, slice_get}
+use Rattle.std.proofs.Common.{◌≡◌, List, Some, length, refl, ap, ◌∙◌, ◌++◌, subst, slice_get, arith}
 use Rattle.std.proofs.lemmas.Option.{slice_get_read}
-use Rattle.lsys_forest.specs.Groves.{now_of}
+use Rattle.lsys_forest.specs.Groves.{Grove, now_of, live_nodes}
 use Rattle.lsys_forest.specs.Rows.{mirrored}
+use Rattle.lsys_match.specs.Kept.{Kept}
 use Rattle.lsys_reading.specs.Commands.{numbering_of}
 use Rattle.lsys_brood.specs.Children.{SpendsNeed}
 use Rattle.lsys_brood.proofs.MatchLemmas.{take_whole}
 use Rattle.lsys_next.specs.Renewals.{AreRenewals}
 use Rattle.lsys_repair.specs.declared.parent.Parent.{Parent}
 use Rattle.lsys_repair.specs.Parents.{nodes_in}
-use Rattle.lsys_repair.specs.Needs.{needs}
+use Rattle.lsys_repair.specs.Needs.{need_at_parent, needs}
 use Rattle.lsys_repair.specs.Made.{TellsAllOf, gone_of}
-use Rattle.lsys_repair.proofs.Among.{some_is, among}
+use Rattle.lsys_repair.proofs.Among.{some_is, among, part_sum}
 use Rattle.lsys_repair.proofs.Making.{none_made, is_now, room_here, one_more, short_now}
 use Rattle.lsys_repair.proofs.make.make_children.Goals as goal
 
@@ -94,3 +95,16 @@ returns-in_err-make_one-clause-kept g c = c.make_one.ensures.kept ∙ c.loop-par
 
 pub returns-clause-kept : goal.returns-clause-kept
 returns-clause-kept g c = c.loop-parent.invariant.kept
+
+pub returns-clause-few : goal.returns-clause-few
+returns-clause-few g c =
+    let f = c.args.forest.now in
+    let e = ap (λ (ps : List Parent). (needs (numbering_of c.args.numbering) (now_of f) ps).nodes) (take_whole c.args.parents.now c.loop-parent.parent-index c.loop-parent-test.false) in
+    omega (arith, e, c.loop-parent.invariant.made.spends.live)
+
+pub returns-in_err-make_one-clause-few : goal.returns-in_err-make_one-clause-few
+returns-in_err-make_one-clause-few g c =
+    let f = c.args.forest.now in
+    let e = ap (λ (g : Grove Kept). live_nodes g) c.in_err-make_one.ensures.refused in
+    let less = part_sum (λ (p : Parent). (need_at_parent (numbering_of c.args.numbering) (now_of f) p).nodes) c.args.parents.now c.loop-parent.parent-index in
+    omega (arith, e, less, c.loop-parent.invariant.made.spends.live)

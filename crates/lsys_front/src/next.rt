@@ -1,0 +1,53 @@
+//! The front of the next level.
+ghost use Rattle.std.specs.Prelude.{◌≡◌, ◌++◌, ℕ, [], IfOk};
+ghost use Rattle.lsys_forest.specs.Groves.{In, IsLive};
+ghost use Rattle.lsys_seats.specs.Looks.{AddsBelow};
+ghost use Rattle.lsys_front.specs.Fronts.{IsTold, StandOn, LooksBelow};
+
+use crate::ends::add_children;
+use crate::front::Front;
+use lsys_brood::Changes;
+use lsys_forest::Forest;
+use lsys_kept::KeptAnswer;
+use std::alloc::{AllocError, Global};
+use std::sync::ledger::Ledger;
+
+impl Front {
+    /// The front of the next level, of which it was told what became of the children that were made: how it changed, and who is
+    /// looked at there. Who turned isn't known yet, and no node lost its answer.
+    ///
+    /// It costs steps by the nodes that are told, by those that came to this level, are gone from it or turned, and their
+    /// children, and by how far it is to the next children beside them.
+    ///
+    /// # Errors
+    ///
+    /// Want of memory.
+    pub fn next<L: Ledger>(
+        &self,
+        alloc: Global,
+        forest: &Forest<KeptAnswer<L>>,
+        told: &Changes,
+    ) -> Result<Front, AllocError>
+        requires lives { (k : ℕ) → In k self.now.changes.gone → IsLive forest.now k }
+        requires level { (t : ℕ) × StandOn forest.now t
+            (told.now.touched ++ (self.now.changes.came ++ self.now.turned)) }
+        ensures told { IfOk result (λ next. IsTold forest.now self.now told.now next.changes) }
+        ensures looks { IfOk result (λ next. LooksBelow forest.now
+            (told.now.touched ++ self.now.changes.came)
+            (self.now.changes.came ++ self.now.turned) next.changes.looked) }
+        ensures below { IfOk result (λ next. (t : ℕ) → StandOn forest.now t
+            (told.now.touched ++ (self.now.changes.came ++ self.now.turned))
+            → AddsBelow forest.now t [] next.changes.looked) }
+        ensures turned { IfOk result (λ next. next.turned ≡ []) }
+        ensures bare { IfOk result (λ next. next.bare ≡ []) }
+    {
+        let mut next = Front::new(alloc);
+        let changes = &mut next.changes;
+        changes.came.extend_from_slice(told.added())?;
+        changes.changed.extend_from_slice(told.changed())?;
+        changes.gone.extend_from_slice(told.gone())?;
+        add_children(forest, &self.changes.gone, &mut changes.gone)?;
+        self.look_below(forest, told.touched(), &mut changes.looked)?;
+        Ok(next)
+    }
+}

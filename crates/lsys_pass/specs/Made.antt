@@ -1,0 +1,29 @@
+-- The children of some parents, made in a forest.
+use Rattle.std.specs.Prelude.{◌≡◌, ◌<◌, ◌^◌, ℕ, List}
+use Rattle.lsys_syntax.specs.Commands.{Numbering}
+use Rattle.lsys_match.specs.Kept.{Kept}
+use Rattle.lsys_forest.specs.Groves.{Grove, AreSound, now_of, rest_of, changes_in, kept_in, live_nodes}
+use Rattle.lsys_brood.specs.Children.{Told}
+use Rattle.lsys_next.specs.Nexts.{Successors}
+use Rattle.lsys_next.specs.Renewals.{AreRenewals}
+use Rattle.lsys_repair.specs.declared.parent.Parent.{Parent}
+use Rattle.lsys_repair.specs.Parents.{nodes_in, AreParents, AreToldBy}
+use Rattle.lsys_repair.specs.Made.{TellsAllOf, gone_of}
+use Rattle.lsys_front.specs.Fronts.{nothing}
+
+-- The last rest stays, and who keeps which answer. The nodes hang together, and each has a number.
+pub record KeepsAnswers (old new : Grove Kept) : Type 0 where
+  pub rest : rest_of new ≡ rest_of old
+  pub root : new.root ≡ old.root
+  pub kept : kept_in new ≡ kept_in old
+  pub sound : AreSound new.root (changes_in new) (now_of new)
+  pub few : live_nodes new < 2 ^ 32
+
+-- The children of these parents were made those that are wanted of them, and it was told what differs.
+pub record MakesBelow (g : Numbering) (old new : Grove Kept) (ps : List Parent)
+    (told : Told) : Type 0 where
+  pub renewals : (seed depth : ℕ) (by : Successors)
+      → AreParents seed depth (now_of old) old.root (nodes_in ps) → AreToldBy by (now_of old) ps
+      → AreRenewals g seed (now_of old) (now_of new) old.root depth by (nodes_in ps)
+  pub tells : TellsAllOf (now_of old) (now_of new) (nodes_in ps) nothing told
+  pub gone : told.gone ≡ gone_of g (now_of old) ps

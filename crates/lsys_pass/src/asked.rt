@@ -1,0 +1,96 @@
+//! Who is asked on a level that was made.
+ghost use Rattle.std.specs.Prelude.{◌≡◌, ◌<◌, ◌≤◌, ◌^◌, ℕ, length, IfOk, OnOk};
+ghost use Rattle.lsys_forest.specs.Groves.{In};
+ghost use Rattle.lsys_forest.specs.Rows.{complete_levels};
+ghost use Rattle.lsys_pass.specs.declared.state.PassState.TheVariants.{Failed};
+ghost use Rattle.lsys_pass.specs.Passes.{stage_of};
+ghost use Rattle.lsys_pass.specs.Moves.{SameRun};
+ghost use Rattle.lsys_pass.specs.Fresh.{row_of, HasFound, Goes, IsToAsk};
+ghost use Rattle.lsys_pass.specs.Others.{IsOthers};
+
+use crate::keep::target;
+use crate::pass::Pass;
+use lsys_candidates::{LevelRules, add_others};
+use lsys_forest::NodeId;
+use lsys_front::Found;
+use lsys_repair::list_level;
+use std::alloc::{AllocError, Global};
+use std::sync::ledger::Ledger;
+
+impl<L: Ledger> Pass<L> {
+    /// Tells which nodes of a level are to be asked: those whose question may be another one than at the last rest. Nodes that
+    /// have no question any more lose their answers, and are dropped.
+    ///
+    /// It costs steps by the number of rules and by the nodes that differ or were found; and by all nodes of the level, where it
+    /// has other rules than at the last rest, or had no questions then.
+    ///
+    /// # Errors
+    ///
+    /// Want of memory. The last rest stays.
+    pub(crate) fn ask_level(
+        &mut self,
+        alloc: Global,
+        level: u32,
+        found: &Found,
+    ) -> Result<(), AllocError>
+        requires failed { self.old.state ≡ Failed }
+        requires found { HasFound self.old level found.now.beside.items found.now.readers.items }
+        requires below { level < self.old.next.depth }
+        requires few { level < 2 ^ 32 }
+        ensures asked { OnOk result (IsToAsk self.new level) }
+        ensures goes { OnOk result (Goes (stage_of self.old) (stage_of self.new) level) }
+        ensures rows { OnOk result
+            ((u : ℕ) → u ≤ level → row_of self.new u ≡ row_of self.old u) }
+        ensures made { self.new.made ≡ self.old.made }
+        ensures run { SameRun self.old self.new }
+        ensures state { self.new.state ≡ Failed }
+    {
+        let others = self.find_others(alloc, level)?;
+        let system = target(&self.next, &self.system);
+        self.work.front.lose(
+            &mut self.forest,
+            system,
+            level,
+            &others,
+            &mut self.work.dropped,
+        )?;
+        self.work.pending = self.work.front.asked(
+            alloc,
+            system,
+            level,
+            &self.forest,
+            &mut self.seats,
+            found,
+            &others,
+        )?;
+        Ok(())
+    }
+
+    /// The nodes of a level that are modules with other rules than at the last rest; all of its nodes, where there were no
+    /// questions on it then.
+    ///
+    /// Where all rules of the level are the same it costs steps by the number of rules alone; else also by the nodes of the
+    /// level.
+    ///
+    /// # Errors
+    ///
+    /// Want of memory.
+    fn find_others(&self, alloc: Global, level: u32) -> Result<Vec<NodeId>, AllocError>
+        requires complete { level < length (complete_levels self.now.forest) }
+        ensures others { IfOk result (λ others. IsOthers self.now level others.items) }
+    {
+        let mut others = Vec::new(alloc);
+        if level >= self.system.depth() {
+            list_level(&self.forest, level, &mut others)?;
+            return Ok(others);
+        }
+        let system = target(&self.next, &self.system);
+        let mut rules = LevelRules::new(alloc, &self.system, system, level)?;
+        if !rules.are_all_alike()? {
+            let mut nodes = Vec::new(alloc);
+            list_level(&self.forest, level, &mut nodes)?;
+            add_others(&mut rules, &self.forest, &nodes, &mut others)?;
+        }
+        Ok(others)
+    }
+}

@@ -1,0 +1,109 @@
+//! The next level is made.
+ghost use Rattle.std.specs.Prelude.{◌≡◌, ◌≤◌, ◌<◌, ◌+◌, ◌^◌, ℕ, length, IfOk, OnOk};
+ghost use Rattle.lsys_forest.specs.Groves.{AreSound, now_of, changes_in, live_nodes};
+ghost use Rattle.lsys_kept.specs.Levels.{answer_at};
+ghost use Rattle.lsys_repair.specs.Parents.{nodes_in, HasParents};
+ghost use Rattle.lsys_repair.specs.Needs.{needs};
+ghost use Rattle.lsys_pass.specs.declared.state.PassState.TheVariants.{Failed};
+ghost use Rattle.lsys_pass.specs.Sizes.{total_of, with_level};
+ghost use Rattle.lsys_pass.specs.Advances.{symbols_wanted};
+ghost use Rattle.lsys_pass.specs.Passes.{stage_of, now};
+ghost use Rattle.lsys_pass.specs.Moves.{SameRun};
+ghost use Rattle.lsys_pass.specs.Made.{KeepsAnswers, MakesBelow};
+ghost use Rattle.lsys_pass.specs.Fresh.{WasAsked, row_of, AreNextParents, IsFresh, Goes};
+
+use crate::keep::target;
+use crate::pass::Pass;
+use crate::room::reserve_for;
+use crate::seating::make_seats;
+use lsys_brood::{Brood, Changes, Need};
+use lsys_forest::Forest;
+use lsys_front::law_of_forests;
+use lsys_kept::KeptAnswer;
+use lsys_repair::{Parent, make_children};
+use lsys_rules::System;
+use lsys_wanted::Wanted;
+use std::alloc::{AllocError, Global};
+use std::sync::ledger::Ledger;
+
+impl<L: Ledger> Pass<L> {
+    /// Makes the next level, where it is told which nodes of this one want other children, what it takes to make them, and how
+    /// many symbols the next level has then. It is known afterwards how it differs from that of the last rest, and who may stand
+    /// beside others; and each node has a seat.
+    ///
+    /// It costs steps by the parents and their children, by the nodes that came to this level, are gone from it or turned, and
+    /// by how far it is to the next children beside them.
+    ///
+    /// # Errors
+    ///
+    /// Want of memory. The last rest stays then too.
+    pub(crate) fn make_level(
+        &mut self,
+        alloc: Global,
+        level: u32,
+        parents: &[Parent],
+        need: &Need,
+        symbols: usize,
+    ) -> Result<(), AllocError>
+        requires failed { self.old.state ≡ Failed }
+        requires asked { WasAsked self.old level }
+        requires found { AreNextParents self.old level parents.now }
+        requires need { need.now ≡ needs self.old.next.numbering (now self.old) parents.now }
+        requires symbols { symbols ≡ symbols_wanted (stage_of self.old) level }
+        requires within { total_of self.old.made + symbols ≤ self.old.limit }
+        requires below { level < self.old.next.depth }
+        ensures fresh { OnOk result (IsFresh self.new (level + 1)) }
+        ensures goes { OnOk result (Goes (stage_of self.old) (stage_of self.new) (level + 1)) }
+        ensures made { OnOk result
+            (self.new.made ≡ with_level self.old.made (length (row_of self.new (level + 1)))) }
+        ensures answers { OnOk result
+            ((k : ℕ) → answer_at (now self.new) k ≡ answer_at (now self.old) k) }
+        ensures run { SameRun self.old self.new }
+        ensures state { self.new.state ≡ Failed }
+    {
+        let told = make_below(
+            alloc,
+            &mut self.forest,
+            target(&self.next, &self.system),
+            parents,
+            need,
+            &mut self.wanted,
+            &mut self.brood,
+        )?;
+        let front = self.work.front.next(alloc, &self.forest, &told)?;
+        make_seats(&mut self.seats, &self.forest)?;
+        self.sizes.add(symbols)?;
+        self.work.front = front;
+        Ok(())
+    }
+}
+
+/// Makes the children of these parents, as many as were counted, those that are wanted of them, and tells what differs.
+///
+/// # Errors
+///
+/// Want of memory. The last rest, and who keeps which answer, stay then too.
+fn make_below<L: Ledger>(
+    alloc: Global,
+    forest: &mut Forest<KeptAnswer<L>>,
+    system: &System,
+    parents: &[Parent],
+    need: &Need,
+    wanted: &mut Wanted,
+    brood: &mut Brood,
+) -> Result<Changes, AllocError>
+    requires sound { AreSound forest.old.root (changes_in forest.old) (now_of forest.old) }
+    requires few { live_nodes forest.old < 2 ^ 32 }
+    requires parents { HasParents (now_of forest.old) forest.old.root (nodes_in parents.now) }
+    requires need { need.now ≡ needs system.now.numbering (now_of forest.old) parents.now }
+    ensures made { IfOk result (λ told.
+        MakesBelow system.now.numbering forest.old forest.new parents.now told) }
+    ensures keeps { KeepsAnswers forest.old forest.new }
+{
+    let mut told = Changes::new(alloc);
+    reserve_for(forest, &mut told, need)?;
+    let made = make_children(forest, system.lineage(), parents, wanted, brood, &mut told);
+    law_of_forests(forest);
+    made?;
+    Ok(told)
+}

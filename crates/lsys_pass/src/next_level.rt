@@ -1,0 +1,84 @@
+//! A level is finished, and the next one is made.
+ghost use Rattle.std.specs.Prelude.{◌≡◌, ◌+◌, [], OnOk, OnErr, IfErr};
+ghost use Rattle.lsys_pass.specs.declared.state.PassState.TheVariants.{Failed};
+ghost use Rattle.lsys_pass.specs.Moves.{AtLevel, SameRun, IsNext, Finishes, Fails, IsRefusal};
+ghost use Rattle.lsys_pass.specs.Passes.{now};
+ghost use Rattle.lsys_pass.specs.Sizes.{HaveSizesTo};
+ghost use Rattle.lsys_pass.specs.Fresh.{IsFresh, Origin};
+
+use crate::keep::target;
+use crate::pass::Pass;
+use crate::state::PassState;
+use lsys_rewrite::DeriveRefusal;
+use std::alloc::{AllocError, Global};
+use std::sync::ledger::Ledger;
+
+impl<L: Ledger> Pass<L> {
+    /// Makes the next level, where all nodes of this one were asked: from what the answers that are kept put in their places.
+    /// It costs steps by the nodes with other answers or other symbols, by who stands beside them and by who read them; it goes
+    /// along a whole level only where its rules, the seed or the lineages are others, a cut on it reaches what stands behind, or
+    /// it was the last one or is.
+    ///
+    /// # Errors
+    ///
+    /// The leftmost fault of the level; else the limit, where the next level passes it; else want of memory. The pass has failed
+    /// then: only to abandon it is left.
+    pub fn finish_level(&mut self, alloc: Global) -> Result<(), DeriveRefusal>
+        requires state { AtLevel self.old.state }
+        requires pending { self.old.pending ≡ [] }
+        ensures finishes { OnOk result (Finishes self.old self.new) }
+        ensures fails { OnErr result (Fails self.old self.new) }
+        ensures refusal { IfErr result (IsRefusal self.old.next self.old.limit) }
+    {
+        let level = match self.state {
+            PassState::Level(level) => level,
+            _ => unreachable!(),
+        };
+        if let Some(refusal) = self.fault_refusal(level) {
+            self.fail();
+            return Err(refusal);
+        }
+        self.fail();
+        let depth = self.depth();
+        let parents = self.find_parents(alloc, level)?;
+        let count = self.count_next(level, &parents)?;
+        let next = level + 1;
+        self.within_limit(next, count.symbols)?;
+        self.make_level(alloc, level, &parents.list, &count.need, count.symbols)?;
+        Ok(self.come_to(alloc, next, depth)?)
+    }
+
+    /// The depth of the system that is being made.
+    pub(crate) fn depth(&self) -> u32
+        ensures { result ≡ self.now.next.depth }
+    {
+        target(&self.next, &self.system).depth()
+    }
+
+    /// Comes to a level that was just made: finds who is asked on it, or ends the levels with it, where it is at the depth.
+    ///
+    /// # Errors
+    ///
+    /// Want of memory.
+    pub(crate) fn come_to(&mut self, alloc: Global, level: u32, depth: u32) -> Result<(), AllocError>
+        requires failed { self.old.state ≡ Failed }
+        requires fresh { IsFresh self.old level }
+        requires origin { Origin self.old level }
+        requires depth { depth ≡ self.old.next.depth }
+        requires sizes { HaveSizesTo (now self.old) self.old.forest.root self.old.made level }
+        ensures run { SameRun self.old self.new }
+        ensures renewed { OnOk result (self.new.renewed ≡ self.old.renewed) }
+        ensures comes { OnOk result (IsNext self.old.next level self.new.state) }
+        ensures fails { OnErr result (self.new.state ≡ Failed) }
+    {
+        let found = self.find_turned(alloc)?;
+        if level < depth {
+            self.ask_level(alloc, level, &found)?;
+            self.state = PassState::Level(level);
+        } else {
+            self.end_levels(alloc, level)?;
+            self.state = PassState::Done;
+        }
+        Ok(())
+    }
+}
