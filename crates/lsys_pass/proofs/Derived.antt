@@ -26,7 +26,7 @@ use Rattle.lsys_pass.specs.declared.state.PassState.TheVariants.{Rest}
 use Rattle.lsys_pass.specs.Passes.{PassView, now, IsPass}
 use Rattle.lsys_pass.specs.Moves.{IsBack, IsRefusal}
 use Rattle.lsys_pass.specs.Edits.{IsEdited}
-use Rattle.lsys_pass.specs.Views.{levels_of, view_of, IsQuiet}
+use Rattle.lsys_pass.specs.Views.{nodes_of_levels, levels_of, view_of, IsQuiet}
 use Rattle.lsys_pass.proofs.Deriving.{was_now, rest_now, node_of, lineage_is, derived}
 
 -- 1. tags
@@ -92,10 +92,14 @@ back_view v w h q b = λ i. record {
   system = b.system i;
   limit = b.limit i;
   levels = take ((b.system i).depth + 1) (same i);
+  nodes = nodes_of_levels (nodes i) (b.root i) ((b.system i).depth + 1);
 }
   where
+    nodes : now w ≡ now v
+    nodes = b.now ∙ was_now v h q
+
     same : complete_levels w.forest ≡ complete_levels v.forest
-    same = levels_by v.forest w.forest (b.now ∙ was_now v h q) b.root
+    same = levels_by v.forest w.forest nodes b.root
 
 pub quiet_after : (v w : PassView) (s : System) (r : Result EditCount DeriveRefusal) → IsQuiet v → w.state ≡ Rest → OnOk r (IsEdited v w s) → OnErr r (IsBack v w) → IsQuiet w
 quiet_after v w s (Ok n) q e ok err = record { state = e; small = ok.small }

@@ -25,12 +25,13 @@ pub struct ForestDerivation<L: Ledger> {
 
 impl<L: Ledger> Model for ForestDerivation<L> {
     ghost use Rattle.std.specs.Coded.{codes};
+    ghost use Rattle.lsys_expr.specs.Codes.{expression_code};
     ghost use Rattle.lsys_rules.specs.Codes.{expr_code};
     ghost use Rattle.lsys_pass.specs.Views.{ForestView, view_of, IsQuiet};
 
     ghost Value = { ForestView };
 
-    ghost coded = { Prim.hlevel (codes, expr_code) };
+    ghost coded = { Prim.hlevel (codes, expression_code, expr_code) };
 
     ghost view = { λ a. view_of a.pass };
 

@@ -4,15 +4,14 @@
 //! `specs/Moves.antt`.
 #![tactic(auto)]
 
+mod asked;
 mod derivation;
 mod edit_stub;
-mod asked;
-mod symbols;
 mod ending;
 mod fault;
-mod next_level;
 mod keep;
 mod level;
+mod next_level;
 mod outcome;
 mod parents;
 mod pass;
@@ -24,6 +23,7 @@ mod room;
 mod seating;
 mod sizes;
 mod state;
+mod symbols;
 mod turning;
 mod work;
 

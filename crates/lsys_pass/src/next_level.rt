@@ -60,7 +60,12 @@ impl<L: Ledger> Pass<L> {
     /// # Errors
     ///
     /// Want of memory.
-    pub(crate) fn come_to(&mut self, alloc: Global, level: u32, depth: u32) -> Result<(), AllocError>
+    pub(crate) fn come_to(
+        &mut self,
+        alloc: Global,
+        level: u32,
+        depth: u32,
+    ) -> Result<(), AllocError>
         requires failed { self.old.state ≡ Failed }
         requires fresh { IsFresh self.old level }
         requires origin { Origin self.old level }
