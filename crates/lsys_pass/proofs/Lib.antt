@@ -41,6 +41,7 @@ pub mod Endings
 pub mod Turnings
 pub mod Derived
 pub mod Holding
+pub mod Beginnings
 pub mod Askings
 pub mod Unanswered
 pub mod Pendings

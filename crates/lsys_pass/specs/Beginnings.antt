@@ -1,6 +1,6 @@
 -- The first level of another system, made from a pass at rest.
 use Rattle.std.specs.Prelude.{◌≡◌, ◌≤◌, ◌∷◌, [], ℕ, map}
-use Rattle.lsys_spec.specs.Systems.{System}
+use Rattle.lsys_spec.specs.Systems.{System, WellSpelled}
 use Rattle.lsys_match.specs.Kept.{Kept}
 use Rattle.lsys_forest.specs.Nodes.{Nodes}
 use Rattle.lsys_forest.specs.Groves.{Grove, now_of, changes_in, live_nodes}
@@ -28,6 +28,7 @@ pub record KeepsNodes {A : Type 0} (old new : Grove A) : Type 0 where
 -- The children of the root were made those of the axiom of a system, which are no more than the limit, and it was told what differs.
 pub record MakesFirst (s : System) (limit : ℕ) (old new : Nodes Kept) (root : ℕ)
     (told : Told) : Type 0 where
+  pub spelled : WellSpelled s
   pub children : AreRenewals s.numbering s.seed old new root 0 (λ k. s.axiom_string) (root ∷ [])
   pub tells : TellsAllOf old new (root ∷ []) nothing told
   pub gone : told.gone ≡ nodes_without old

@@ -7,6 +7,7 @@
 mod asked;
 mod derivation;
 mod edit_stub;
+mod beginning;
 mod ending;
 mod fault;
 mod keep;

@@ -24,7 +24,8 @@ pub(crate) fn seat_all<A: Kept>(seats: &mut Seats, forest: &Forest<A>, nodes: &[
     }
 }
 
-/// Makes a seat for each node of a forest that has none: one that tells of nobody, not marked. All else stays.
+/// Makes a seat for each node of a forest that has none: one that tells of nobody, not marked. All else stays. There are
+/// then seats for all nodes that the forest has room for.
 ///
 /// # Errors
 ///

@@ -1,4 +1,4 @@
-use Rattle.std.proofs.Common.{◌≡◌, ◌+◌, ◌<◌, false, length, List, sym, subst, ap, ◌∙◌, arith}
+use Rattle.std.proofs.Common.{◌≡◌, ◌+◌, ◌-◌, ◌<◌, false, length, List, sym, subst, ap, ◌∙◌, arith}
 use Rattle.lsys_next.specs.Nexts.{AreClosed}
 use Rattle.lsys_next.specs.Answers.{kept_successors}
 use Rattle.lsys_repair.specs.declared.parent.Parent.{Parent}
@@ -17,8 +17,15 @@ find_parents-requires-clause-asked g c =
     was_asked c.args.self.now c.fail-2.new.self c.in-Level.level (subst (λ (v : PassView). IsPass v) c.self.view_is c.self.invariant) (ap (λ (v : PassView). v.state) (sym c.self.view_is) ∙ c.in-Level.is) c.requires.pending c.in_default-fault_refusal.ensures
     c.fail-2.ensures.same
 
+pub within_limit-requires-clause-asked : goal.within_limit-requires-clause-asked
+within_limit-requires-clause-asked g c =
+    let same : c.in-Level.level ≡ c.in-Level.level + 1 - 1 = omega arith in
+    subst (λ t. WasAsked c.count_next.new.self t) same (subst (λ (v : PassView). WasAsked v c.in-Level.level) (sym c.count_next.ensures.same) c.find_parents.ensures.asked)
+
 pub within_limit-requires-clause-symbols : goal.within_limit-requires-clause-symbols
-within_limit-requires-clause-symbols g c = c.in_ok-count.ensures.symbols ∙ ap (λ (v : PassView). symbols_wanted (stage_of v) c.in-Level.level) (sym c.count_next.ensures.same)
+within_limit-requires-clause-symbols g c =
+    let same : c.in-Level.level ≡ c.in-Level.level + 1 - 1 = omega arith in
+    c.in_ok-count.ensures.symbols ∙ ap (λ (v : PassView). symbols_wanted (stage_of v) c.in-Level.level) (sym c.count_next.ensures.same) ∙ ap (λ t. symbols_wanted (stage_of c.count_next.new.self) t) same
 
 pub make_level-requires-clause-need : goal.make_level-requires-clause-need
 make_level-requires-clause-need g c =
@@ -28,8 +35,8 @@ make_level-requires-clause-need g c =
 pub make_level-requires-clause-symbols : goal.make_level-requires-clause-symbols
 make_level-requires-clause-symbols g c = c.in_ok-count.ensures.symbols ∙ ap (λ (v : PassView). symbols_wanted (stage_of v) c.in-Level.level) (sym c.count_next.ensures.same)
 
-pub overflow_add-level : goal.overflow_add-level
-overflow_add-level g c =
+pub overflow_add-next : goal.overflow_add-next
+overflow_add-next g c =
     let v : PassView = c.args.self.now in
     let a : WasAsked c.fail-2.new.self c.in-Level.level = was_asked v c.fail-2.new.self c.in-Level.level (subst (λ (v : PassView). IsPass v) c.self.view_is c.self.invariant) (ap (λ (v : PassView). v.state) (sym c.self.view_is) ∙ c.in-Level.is) c.requires.pending c.in_default-fault_refusal.ensures c.fail-2.ensures.same in
     let below : c.in-Level.level < c.fail-2.new.self.next.depth = a.asked.at.tree.below in

@@ -1,0 +1,143 @@
+//! The first level of another system.
+ghost use Rattle.std.specs.Prelude.{◌≡◌, ◌<◌, ◌^◌, [], length, IfOk, IfErr, OnOk, OnErr};
+ghost use Rattle.lsys_change.specs.Nodes.{AreOnce};
+ghost use Rattle.lsys_forest.specs.Groves.{now_of, rest_of, kept_in, live_nodes};
+ghost use Rattle.lsys_kept.specs.Lineages.{kins};
+ghost use Rattle.lsys_next.specs.Renewals.{AreSmall, AreAllUnder};
+ghost use Rattle.lsys_pass.specs.declared.state.PassState.TheVariants.{Rest, Failed};
+ghost use Rattle.lsys_pass.specs.Sizes.{with_level};
+ghost use Rattle.lsys_pass.specs.Passes.{stage_of};
+ghost use Rattle.lsys_pass.specs.Moves.{IsRefusal, SameRun, IsNext, IsBack};
+ghost use Rattle.lsys_pass.specs.Fresh.{row_of, Goes, IsFresh};
+ghost use Rattle.lsys_pass.specs.Beginnings.{Begun, KeepsNodes, MakesFirst, WasStill};
+
+use crate::keep::target;
+use crate::pass::Pass;
+use crate::refusal::first_refusal;
+use crate::room::reserve_for;
+use crate::seating::make_seats;
+use crate::state::PassState;
+use lsys_brood::{Brood, Changes};
+use lsys_forest::Forest;
+use lsys_front::Front;
+use lsys_kept::KeptAnswer;
+use lsys_repair::{count_first, make_first};
+use lsys_rewrite::DeriveRefusal;
+use lsys_rules::System;
+use lsys_wanted::Wanted;
+use std::alloc::Global;
+use std::sync::ledger::Ledger;
+
+impl<L: Ledger> Pass<L> {
+    /// Begins to make the levels of another system, from rest: its first level is made, and those of its nodes that are to be
+    /// asked are found. It costs the nodes of that level, and of the one that was there.
+    ///
+    /// # Errors
+    ///
+    /// The limit, or want of memory. The pass is at rest again then, as it was, and the system is dropped.
+    pub fn begin(&mut self, alloc: Global, system: System) -> Result<(), DeriveRefusal>
+        requires state { self.old.state ≡ Rest }
+        ensures begins { OnOk result (Begun self.old self.new system) }
+        ensures back { OnErr result (IsBack self.old self.new) }
+        ensures refusal { IfErr result (IsRefusal system self.old.limit) }
+    {
+        self.next = Some(system);
+        self.state = PassState::Failed;
+        let begun = self.come_to_first(alloc);
+        if begun.is_err() {
+            self.abandon();
+        }
+        begun
+    }
+
+    /// Makes the first level of the system that is being made, and finds those of its nodes that are to be asked.
+    ///
+    /// # Errors
+    ///
+    /// The limit, or want of memory. The last rest stays then too.
+    fn come_to_first(&mut self, alloc: Global) -> Result<(), DeriveRefusal>
+        requires failed { self.old.state ≡ Failed }
+        requires still { WasStill self.old }
+        ensures comes { OnOk result (IsNext self.old.next 0 self.new.state) }
+        ensures renewed { OnOk result (self.new.renewed ≡ []) }
+        ensures fails { OnErr result (self.new.state ≡ Failed) }
+        ensures refusal { IfErr result (IsRefusal self.old.next self.old.limit) }
+        ensures run { SameRun self.old self.new }
+    {
+        let depth = self.depth();
+        self.make_first_level(alloc)?;
+        Ok(self.come_to(alloc, 0, depth)?)
+    }
+
+    /// Makes the first level of the system that is being made: the children of the root. It costs these, and those that were
+    /// there.
+    ///
+    /// # Errors
+    ///
+    /// The limit, or want of memory. The last rest stays then too.
+    fn make_first_level(&mut self, alloc: Global) -> Result<(), DeriveRefusal>
+        requires failed { self.old.state ≡ Failed }
+        requires still { WasStill self.old }
+        ensures fresh { OnOk result (IsFresh self.new 0) }
+        ensures goes { OnOk result (Goes (stage_of self.old) (stage_of self.new) 0) }
+        ensures made { OnOk result
+            (self.new.made ≡ with_level [] (length (row_of self.new 0))) }
+        ensures refusal { IfErr result (IsRefusal self.old.next self.old.limit) }
+        ensures run { SameRun self.old self.new }
+        ensures state { self.new.state ≡ Failed }
+    {
+        let told = make_first_nodes(
+            alloc,
+            &mut self.forest,
+            target(&self.next, &self.system),
+            self.limit,
+            &mut self.wanted,
+            &mut self.brood,
+        )?;
+        let front = Front::first(alloc, &self.forest, &told)?;
+        make_seats(&mut self.seats, &self.forest)?;
+        self.sizes.add(front.changes.looked.len())?;
+        self.work.front = front;
+        Ok(())
+    }
+}
+
+/// Makes the children of the root of a forest those of the axiom of a system, where these are no more than the limit, and
+/// tells what differs.
+///
+/// # Errors
+///
+/// The limit, or want of memory. The nodes stay then.
+fn make_first_nodes<L: Ledger>(
+    alloc: Global,
+    forest: &mut Forest<KeptAnswer<L>>,
+    system: &System,
+    limit: u32,
+    wanted: &mut Wanted,
+    brood: &mut Brood,
+) -> Result<Changes, DeriveRefusal>
+    requires once { AreOnce (kins (now_of forest.old)) forest.old.root }
+    requires small { AreSmall (now_of forest.old) }
+    requires under { AreAllUnder (now_of forest.old) forest.old.root forest.old.root }
+    requires few { live_nodes forest.old < 2 ^ 32 }
+    ensures made { IfOk result (λ told. MakesFirst system.now limit (now_of forest.old)
+        (now_of forest.new) forest.old.root told) }
+    ensures refusal { IfErr result (IsRefusal system.now limit) }
+    ensures stays { OnErr result (KeepsNodes forest.old forest.new) }
+    ensures few { live_nodes forest.new < 2 ^ 32 }
+    ensures rest { rest_of forest.new ≡ rest_of forest.old }
+    ensures root { forest.new.root ≡ forest.old.root }
+    ensures kept { kept_in forest.new ≡ kept_in forest.old }
+{
+    let numbering = system.lineage();
+    let seed = system.seed();
+    let axiom = system.axiom().symbols();
+    let count = count_first(forest, numbering, seed, axiom, wanted, brood)?;
+    if let Some(refusal) = first_refusal(limit, count.wanted) {
+        return Err(refusal);
+    }
+    let mut told = Changes::new(alloc);
+    reserve_for(forest, &mut told, &count.need)?;
+    make_first(forest, numbering, seed, axiom, wanted, brood, &mut told)?;
+    Ok(told)
+}
