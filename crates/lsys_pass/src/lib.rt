@@ -5,9 +5,9 @@
 #![tactic(auto)]
 
 mod asked;
+mod beginning;
 mod derivation;
 mod edit_stub;
-mod beginning;
 mod ending;
 mod fault;
 mod keep;
