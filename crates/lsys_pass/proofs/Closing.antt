@@ -121,7 +121,7 @@ module _ (m m' : Nodes Kept) (root : ℕ) (changes : List (Change Kept)) (sound 
   closed_reached zero k h = h
   closed_reached (suc d) k h = (h.0, h.1, closed_reached d h.0 h.2, stay h.0 (d, h.2) ∙ h.3, h.4)
 
-  extends : Extends (kins m') (kins m)
+  pub extends : Extends (kins m') (kins m)
   extends k n e = by (m' k) refl e
     where
       by : (o : Option (Node Kept)) → m' k ≡ o → option_map kin_of o ≡ Some n → kins m k ≡ Some n

@@ -31,6 +31,9 @@ pub mod SizesTold
 pub mod Repairing
 pub mod Viewing
 pub mod Deriving
+pub mod Spending
+pub mod Visiting
+pub mod Editing
 pub mod Going
 pub mod Coming
 pub mod SeenCases

@@ -6,6 +6,7 @@ use Rattle.lsys_spec.specs.Systems.{System}
 use Rattle.lsys_match.specs.Kept.{Kept}
 use Rattle.lsys_forest.specs.Groves.{Grove, In, AreApart, AreSound, IsLive, IsSound, now_of, changes_in}
 use Rattle.lsys_forest.specs.Rows.{complete_levels}
+use Rattle.lsys_forest.proofs.WalkLemmas.{get_In}
 use Rattle.lsys_kept.specs.Meant.{IsCandidate}
 use Rattle.lsys_seats.specs.declared.seat.Seat.{Seat}
 use Rattle.lsys_seats.specs.Seats.{HasSeat, SameSeats, KeepsSeats}
@@ -121,6 +122,7 @@ module _ (v : PassView) (t : ℕ) (h : IsPass v) (beside readers : List ℕ) (f 
           | inl a ↦ inl (a.among, a.candidate, a.same)
           | inr u ↦ inr (u.done, u.answered, u.unneeded)
         ];
+        all = λ p k e x. (pending_now k).1 (get_In (are r') p k e, (candidates_are r' (spots_now v t h beside readers f others o g bare dropped l) p k e).0 x);
         in_order = pending_some g t pending (sound_after v t h beside readers f others o g bare dropped l) order (λ k i. ((pending_now k).0 i).0);
         apart = once;
         faults = f.made.faults;

@@ -171,7 +171,7 @@ module _ (s : System) (limit : ℕ) (m : Nodes Kept) (root : ℕ) (store : Store
           in_passing all t p.0 k (names m k) v below p.1 (spot t p.0 k d.0 p.1 d.1 ∙ ap (λ y. Some (with_lineage (names m k) y)) f) kept.0 refl
 
 -- some of a list, none twice, are no more
-fewer : (xs ys : List ℕ) → AreApart xs → ((k : ℕ) → In k xs → In k ys) → length xs ≤ length ys
+pub fewer : (xs ys : List ℕ) → AreApart xs → ((k : ℕ) → In k xs → In k ys) → length xs ≤ length ys
 fewer [] ys a f = omega arith
 fewer (x ∷ xs) ys a f =
     let s = In_split x ys (f x (inl refl)) in

@@ -61,13 +61,15 @@ pub record Drops (old new : Stage) (t : ℕ) : Type 0 where
       → In k new.dropped ⊎ In k (level_nodes new.now new.root t)
 
 -- Of each node of level t it is known whether it is to be asked: it is a candidate, with the answer that it had, or its
--- answer is right as it is.
+-- answer is right as it is. All candidates are to be asked.
 pub record AreToAsk (s : Stage) (t : ℕ) : Type 0 where
   pub each : (p k : ℕ) → slice_get (level_nodes s.now s.root t) p ≡ Some k
       → (In k s.pending × IsCandidate s.system s.next s.limit t p
       × (answer_at s.now k ≡ answer_at (was s) k))
       ⊎ ((In k s.pending → ⊥) × AnsweredAt s.next t s.now s.root s.store p k
       × (IsNeededAt s t p → ⊥))
+  pub all : (p k : ℕ) → slice_get (level_nodes s.now s.root t) p ≡ Some k
+      → IsCandidate s.system s.next s.limit t p → In k s.pending
   pub in_order : AreSome s.pending (level_nodes s.now s.root t)
   pub apart : AreApart s.pending
   pub faults : s.faults ≡ []

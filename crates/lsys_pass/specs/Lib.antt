@@ -12,6 +12,7 @@ pub mod Fresh
 pub mod Others
 pub mod Sizes
 pub mod Views
+pub mod Spent
 pub mod Edits
 pub mod Lasts
 pub mod Beginnings

@@ -10,6 +10,7 @@ ghost use Rattle.lsys_pass.specs.Passes.{stage_of};
 ghost use Rattle.lsys_pass.specs.Moves.{IsRefusal, SameRun, IsNext, IsBack};
 ghost use Rattle.lsys_pass.specs.Fresh.{row_of, Goes, IsFresh};
 ghost use Rattle.lsys_pass.specs.Beginnings.{Begun, KeepsNodes, MakesFirst, WasStill};
+ghost use Rattle.lsys_pass.specs.Spent.{AllPending};
 
 use crate::keep::target;
 use crate::pass::Pass;
@@ -38,6 +39,7 @@ impl<L: Ledger> Pass<L> {
     pub fn begin(&mut self, alloc: Global, system: System) -> Result<(), DeriveRefusal>
         requires state { self.old.state ≡ Rest }
         ensures begins { OnOk result (Begun self.old self.new system) }
+        ensures all { OnOk result (AllPending self.new self.new.state) }
         ensures back { OnErr result (IsBack self.old self.new) }
         ensures refusal { IfErr result (IsRefusal system self.old.limit) }
     {
@@ -59,6 +61,7 @@ impl<L: Ledger> Pass<L> {
         requires failed { self.old.state ≡ Failed }
         requires still { WasStill self.old }
         ensures comes { OnOk result (IsNext self.old.next 0 self.new.state) }
+        ensures all { OnOk result (AllPending self.new self.new.state) }
         ensures renewed { OnOk result (self.new.renewed ≡ []) }
         ensures fails { OnErr result (self.new.state ≡ Failed) }
         ensures refusal { IfErr result (IsRefusal self.old.next self.old.limit) }

@@ -7,7 +7,7 @@
 mod asked;
 mod beginning;
 mod derivation;
-mod edit_stub;
+mod edit;
 mod ending;
 mod fault;
 mod keep;

@@ -5,6 +5,7 @@ ghost use Rattle.lsys_pass.specs.Moves.{AtLevel, SameRun, IsNext, Finishes, Fail
 ghost use Rattle.lsys_pass.specs.Passes.{now};
 ghost use Rattle.lsys_pass.specs.Sizes.{HaveSizesTo};
 ghost use Rattle.lsys_pass.specs.Fresh.{IsFresh, Origin};
+ghost use Rattle.lsys_pass.specs.Spent.{AllPending};
 
 use crate::keep::target;
 use crate::pass::Pass;
@@ -27,6 +28,7 @@ impl<L: Ledger> Pass<L> {
         requires state { AtLevel self.old.state }
         requires pending { self.old.pending ≡ [] }
         ensures finishes { OnOk result (Finishes self.old self.new) }
+        ensures all { OnOk result (AllPending self.new self.new.state) }
         ensures fails { OnErr result (Fails self.old self.new) }
         ensures refusal { IfErr result (IsRefusal self.old.next self.old.limit) }
     {
@@ -74,6 +76,7 @@ impl<L: Ledger> Pass<L> {
         ensures run { SameRun self.old self.new }
         ensures renewed { OnOk result (self.new.renewed ≡ self.old.renewed) }
         ensures comes { OnOk result (IsNext self.old.next level self.new.state) }
+        ensures all { OnOk result (AllPending self.new self.new.state) }
         ensures fails { OnErr result (self.new.state ≡ Failed) }
     {
         let found = self.find_turned(alloc)?;

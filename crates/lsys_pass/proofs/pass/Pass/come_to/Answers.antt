@@ -1,9 +1,12 @@
-use Rattle.std.proofs.Common.{sym, subst, ap}
+use Rattle.std.proofs.Common.{refl, sym, subst, ap}
+use Rattle.lsys_pass.specs.declared.state.PassState.TheVariants.{Done}
 use Rattle.lsys_pass.specs.Sizes.{HaveSizesTo}
 use Rattle.lsys_pass.specs.Passes.{PassView, stage_of, now}
 use Rattle.lsys_pass.specs.Fresh.{row_of, Goes, IsToAsk, IsLast}
 use Rattle.lsys_pass.proofs.Going.{goes_on}
+use Rattle.lsys_pass.proofs.Visiting.{all_to_ask, none_to_ask}
 use Rattle.lsys_pass.proofs.Coming.{level_pass, done_pass, sizes_stay}
+use Rattle.lsys_pass.proofs.pass.Pass.come_to.Goals.{then-level-depth+in_ok-ask_level, else-level-depth+in_ok-end_levels}
 use Rattle.lsys_pass.proofs.pass.Pass.come_to.Goals as goal
 
 pub invariant_of-self : goal.invariant_of-self
@@ -31,3 +34,9 @@ invariant_of-self-else-level-depth g c =
     let goes = goes_on (stage_of v) (stage_of w) (stage_of x) c.args.level found c.in_ok-end_levels.ensures.goes in
     done_pass v _ c.args.level c.self-else-level-depth.invariant (subst (λ (y : PassView). Goes (stage_of v) (stage_of y) c.args.level) here goes) c.requires.origin
     (subst (λ (y : PassView). HaveSizesTo (now y) y.forest.root y.made c.args.level) here sizes) (subst (λ (y : PassView). IsLast y c.args.level) here c.in_ok-end_levels.ensures.last)
+
+pub returns-clause-all : goal.returns-clause-all
+returns-clause-all g c = elim c.if-level-depth.branch [
+  | then-level-depth+in_ok-ask_level w ↦ all_to_ask _ w.ask_level.new.self c.if-level-depth.self c.args.level w.self.view_is w.in_ok-ask_level.ensures.asked w.self-is
+  | else-level-depth+in_ok-end_levels w ↦ none_to_ask c.if-level-depth.self Done (ap (λ (v : PassView). v.state) w.self-is) refl
+]

@@ -1,0 +1,147 @@
+//! An edit: a pass makes the levels of another system, one after the other.
+ghost use Rattle.std.specs.Prelude.{◌≡◌, ◌≢◌, ◌+◌, ◌*◌, ◌≤◌, ℕ, List, [], length, IfOk, OnOk, OnErr, IfErr, IfSome, IfNone};
+ghost use Rattle.lsys_spec.specs.Levels as levels;
+ghost use Rattle.lsys_spec.specs.LevelLaws.{candidate_visits};
+ghost use Rattle.lsys_spec.specs.Questions.{least_visits, questions};
+ghost use Rattle.lsys_match.specs.Derivations.{AreMeant, IsCount, Rises, most_read};
+ghost use Rattle.lsys_forest.specs.Groves.{In};
+ghost use Rattle.lsys_pass.specs.declared.state.PassState.TheVariants.{Rest, Done};
+ghost use Rattle.lsys_pass.specs.Passes.{IsPass};
+ghost use Rattle.lsys_pass.specs.Moves.{AtLevel, SameRun, IsBack, IsNext, IsRefusal};
+ghost use Rattle.lsys_pass.specs.Spent.{AllPending, spent_visits};
+ghost use Rattle.lsys_pass.specs.Edits.{IsEdited};
+
+use crate::pass::Pass;
+use crate::state::PassState;
+use lsys_forest::NodeId;
+use lsys_match::Steps;
+use lsys_rewrite::{DeriveRefusal, EditCount};
+use lsys_rules::System;
+use std::alloc::{AllocError, Global};
+use std::sync::ledger::Ledger;
+
+impl<L: Ledger> Pass<L> {
+    /// Makes the levels of another system, and tells how many questions were new and how many there are. `asked` rises by the
+    /// new questions, and `visited` by the entries that were read for the candidates. It costs steps by these entries, by the
+    /// nodes that come, go or change, by who stands beside them and by who read them.
+    ///
+    /// # Errors
+    ///
+    /// Why the system has no levels under the limit, or want of memory. The pass is at rest then as before, at most as many
+    /// questions were asked as the limit has symbols, and at most 1,025 entries were read for each.
+    pub(crate) fn edit<V: Ledger>(
+        &mut self,
+        alloc: Global,
+        system: System,
+        asked: &mut Steps<L>,
+        visited: &mut Steps<V>,
+    ) -> Result<EditCount, DeriveRefusal>
+        requires rest { self.old.state ≡ Rest }
+        ensures rest { self.new.state ≡ Rest }
+        ensures limit { self.new.limit ≡ self.old.limit }
+        ensures edited { OnOk result (IsEdited self.old self.new system) }
+        ensures refusal { IfErr result (IsRefusal system self.old.limit) }
+        ensures counted { (x y : List (List levels.Symbol))
+            → AreMeant self.old.system system self.old.limit x y
+            → IfOk result (IsCount (questions self.old.system x) (questions system y)) }
+        ensures asked { IfOk result (λ count. asked.new ≡ asked.old + count.asked) }
+        ensures read { (x y : List (List levels.Symbol))
+            → AreMeant self.old.system system self.old.limit x y
+            → OnOk result (Rises
+            (least_visits (questions self.old.system x) (questions system y))
+            (candidate_visits self.old.system system x y) visited.old visited.new) }
+        ensures refused { OnErr result (IsBack self.old self.new) }
+        ensures few_asked { OnErr result (Rises 0 self.old.limit asked.old asked.new) }
+        ensures few_read { OnErr result
+            (Rises 0 (most_read * self.old.limit) visited.old visited.new) }
+    {
+        // The type's invariant is known where a field is named.
+        let _ = &self.forest;
+        self.begin(alloc, system)?;
+        match self.make_levels(alloc, asked, visited) {
+            Ok(()) => {
+                let count = self.close();
+                let _ = &self.forest;
+                Ok(count)
+            }
+            Err(refusal) => {
+                self.abandon();
+                Err(refusal)
+            }
+        }
+    }
+
+    /// Makes all levels, from the first one on, which was made, and of which nothing was asked yet.
+    ///
+    /// # Errors
+    ///
+    /// Why the system has no levels under the limit, or want of memory. Only to abandon the pass is left.
+    fn make_levels<V: Ledger>(
+        &mut self,
+        alloc: Global,
+        asked: &mut Steps<L>,
+        visited: &mut Steps<V>,
+    ) -> Result<(), DeriveRefusal>
+        requires first { IsNext self.old.next 0 self.old.state }
+        requires pending { AllPending self.old self.old.state }
+        requires renewed { self.old.renewed ≡ [] }
+        ensures run { SameRun self.old self.new }
+        ensures pass { OnOk result (IsPass self.new) }
+        ensures done { OnOk result (self.new.state ≡ Done) }
+        ensures asks { OnOk result (asked.new ≡ asked.old + length self.new.renewed) }
+        ensures visits { OnOk result (visited.new ≡ visited.old + spent_visits self.new) }
+        ensures refusal { IfErr result (IsRefusal self.old.next self.old.limit) }
+        ensures other { OnErr result (self.new.state ≢ Rest) }
+        ensures few_asked { OnErr result (Rises 0 self.old.limit asked.old asked.new) }
+        ensures few_read { OnErr result
+            (Rises 0 (most_read * self.old.limit) visited.old visited.new) }
+    {
+        while let PassState::Level(_) = self.state() {
+            self.ask_pending(alloc, asked, visited)?;
+            self.finish_level(alloc)?;
+        }
+        Ok(())
+    }
+
+    /// Asks all nodes that are pending, the last one first.
+    ///
+    /// # Errors
+    ///
+    /// Want of memory.
+    fn ask_pending<V: Ledger>(
+        &mut self,
+        alloc: Global,
+        asked: &mut Steps<L>,
+        visited: &mut Steps<V>,
+    ) -> Result<(), AllocError>
+        requires state { AtLevel self.old.state }
+        ensures run { SameRun self.old self.new }
+        ensures state { self.new.state ≡ self.old.state }
+        ensures pass { OnOk result (IsPass self.new) }
+        ensures none { OnOk result (self.new.pending ≡ []) }
+        ensures asks { OnOk result
+            (asked.new + length self.old.renewed ≡ asked.old + length self.new.renewed) }
+        ensures visits { OnOk result
+            (visited.new + spent_visits self.old ≡ visited.old + spent_visits self.new) }
+        ensures from_asked { asked.old ≤ asked.new }
+        ensures few_asked { OnErr result
+            (asked.new + length self.old.renewed ≤ asked.old + self.old.limit) }
+        ensures from_read { visited.old ≤ visited.new }
+        ensures few_read { OnErr result
+            (visited.new + spent_visits self.old ≤ visited.old + most_read * self.old.limit) }
+    {
+        while let Some(node) = self.last_pending() {
+            self.step(alloc, node, asked, visited)?;
+        }
+        Ok(())
+    }
+
+    /// The last node that is pending.
+    fn last_pending(&self) -> Option<NodeId>
+        ensures some { IfSome result (λ node. In node self.now.pending) }
+        ensures none { IfNone result (self.now.pending ≡ []) }
+        ensures pass { IsPass self.now }
+    {
+        self.work.pending.last().copied()
+    }
+}
