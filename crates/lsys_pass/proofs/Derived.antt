@@ -1,26 +1,22 @@
 -- What an edit of a pass does to the derivation that is seen of it.
-use Rattle.std.proofs.Common.{◌≡◌, ◌↔◌, ◌+◌, ◌<◌, ◌^◌, ℕ, List, take, slice_get, Option, Some, Result, Ok, Err, sym, ap, ap₂, ◌∙◌, subst, arith}
+use Rattle.std.proofs.Common.{◌≡◌, ◌↔◌, ◌+◌, ◌<◌, ◌^◌, ℕ, List, take, Some, Result, Ok, Err, sym, ap, ap₂, ◌∙◌, subst, arith}
 use Rattle.std.specs.Prelude.{OnOk, OnErr, IfErr, IfOk, option_map}
-use Rattle.std.proofs.lemmas.Option.{same_Some}
 use Rattle.lsys_spec.specs.Systems.{System}
 use Rattle.lsys_spec.specs.Levels.{Symbol, lineage}
-use Rattle.lsys_spec.specs.Meaning.{meaning}
-use Rattle.lsys_change.specs.Nodes.{Kin, Kins, naming}
+use Rattle.lsys_change.specs.Nodes.{Kin, naming}
 use Rattle.lsys_change.proofs.Lineages.{stays, tags}
 use Rattle.lsys_rewrite.specs.declared.count.EditCount.{EditCount}
 use Rattle.lsys_rewrite.specs.declared.refusal.DeriveRefusal.{DeriveRefusal}
 use Rattle.lsys_rewrite.specs.declared.refusal.DeriveRefusal.TheVariants.{Fault, Limit, Memory}
 use Rattle.lsys_level.specs.Spots.{Spotted, spotted_at}
-use Rattle.lsys_match.specs.Kept.{Kept}
 use Rattle.lsys_match.specs.Derivations.{AreMeant, IsDerived, IsOutcome, KeepsTags, symbol_at}
-use Rattle.lsys_forest.specs.Nodes.{Node}
 use Rattle.lsys_forest.specs.Groves.{changes_in}
 use Rattle.lsys_forest.specs.Rows.{level_nodes, complete_levels}
 use Rattle.lsys_forest.proofs.RowLemmas.{level_depth}
 use Rattle.lsys_forest.proofs.SoundLemmas.{AreSound-now}
 use Rattle.lsys_forest.proofs.ViewLemmas.{levels_by}
 use Rattle.lsys_forest.proofs.WalkLemmas.{get_In}
-use Rattle.lsys_kept.specs.Lineages.{kin_of, kins, names}
+use Rattle.lsys_kept.specs.Lineages.{kin_of, kins}
 use Rattle.lsys_kept.specs.Meant.{levels_or_none, meant}
 use Rattle.lsys_pass.specs.declared.state.PassState.TheVariants.{Rest}
 use Rattle.lsys_pass.specs.Passes.{PassView, now, IsPass}

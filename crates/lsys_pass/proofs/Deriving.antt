@@ -1,5 +1,5 @@
 -- A pass at rest has the levels of its system.
-use Rattle.std.proofs.Common.{◌≡◌, ◌+◌, ◌-◌, ◌<◌, ◌≤◌, ℕ, zero, suc, List, [], ◌∷◌, length, map, take, get_or, slice_get, Option, Some, None, Ok, refl, sym, ap, ◌∙◌, subst, inl, inr, arith}
+use Rattle.std.proofs.Common.{◌≡◌, ◌+◌, ◌-◌, ◌<◌, ◌≤◌, ℕ, suc, List, [], ◌∷◌, length, map, get_or, slice_get, Some, refl, sym, ap, ◌∙◌, subst, inl, inr, arith}
 use Rattle.std.specs.Prelude.{sum_by}
 use Rattle.std.proofs.lemmas.Bool.{cases_lt}
 use Rattle.std.proofs.lemmas.List.{length-map, length-take-le, get_or_past}
@@ -8,28 +8,24 @@ use Rattle.std.proofs.lemmas.Option.{slice_get_within}
 use Rattle.lsys_spec.specs.Draws.{key_of}
 use Rattle.lsys_spec.specs.Systems.{System}
 use Rattle.lsys_spec.specs.Levels.{Symbol, lineage, plain}
-use Rattle.lsys_spec.specs.Meaning.{meaning}
 use Rattle.lsys_change.proofs.UpTo.{level_count}
 use Rattle.lsys_level.specs.Spots.{Seen, Push, Pop, Module, Spotted, with_lineage, named, level_by, level_at, spotted_at}
 use Rattle.lsys_match.specs.Kept.{Kept}
 use Rattle.lsys_match.specs.Derivations.{StandsFor, IsDerived, symbol_at}
 use Rattle.lsys_walks.specs.Stores.{Store}
 use Rattle.lsys_reads.specs.Relations.{Relations}
-use Rattle.lsys_forest.specs.Nodes.{Node, Nodes}
+use Rattle.lsys_forest.specs.Nodes.{Nodes}
 use Rattle.lsys_forest.specs.Changes.{Change, undone}
-use Rattle.lsys_forest.specs.Groves.{changes_in}
 use Rattle.lsys_forest.specs.Rows.{spot_in, level_nodes, level_spots, complete_levels, AreBalancedTo}
 use Rattle.lsys_forest.proofs.ViewLemmas.{are_told, told_is}
 use Rattle.lsys_seats.specs.declared.seat.Seat.{Seat}
 use Rattle.lsys_seats.proofs.LevelLemmas.{lineage_at}
 use Rattle.lsys_kept.specs.Lineages.{names}
-use Rattle.lsys_kept.specs.Levels.{level_of}
 use Rattle.lsys_kept.specs.Meant.{meant}
 use Rattle.lsys_pass.specs.declared.sizes.Size.{Size}
 use Rattle.lsys_pass.specs.declared.state.PassState.TheVariants.{Rest}
 use Rattle.lsys_pass.specs.Rests.{IsResting}
 use Rattle.lsys_pass.specs.Sizes.{symbols_at, total_of, HaveSizes}
-use Rattle.lsys_pass.specs.Stages.{Stage}
 use Rattle.lsys_pass.specs.Passes.{PassView, stage_of, now, was, IsStill, HoldsAt, IsPass}
 use Rattle.lsys_pass.specs.Views.{levels_of, view_of, IsQuiet}
 use Rattle.lsys_pass.proofs.Backing.{rests_at}

@@ -1,20 +1,18 @@
 -- How many nodes live in a pass at rest.
-use Rattle.std.proofs.Common.{◌≡◌, ◌≢◌, ◌⊎◌, ◌+◌, ◌<◌, ◌≤◌, ℕ, zero, suc, List, [], ◌∷◌, ◌++◌, length, map, take, get_or, slice_get, cond, Option, Some, None, refl, sym, ap, ◌∙◌, subst, inl, inr, arith}
+use Rattle.std.proofs.Common.{◌≡◌, ◌⊎◌, ◌+◌, ◌<◌, ◌≤◌, ℕ, zero, suc, List, [], ◌∷◌, ◌++◌, length, take, get_or, cond, Option, Some, None, refl, sym, ap, ◌∙◌, subst, inl, inr, arith}
 use Rattle.std.specs.Prelude.{is_some, count_by, sum_by, option_map}
 use Rattle.std.proofs.lemmas.Bool.{cases_lt}
-use Rattle.std.proofs.lemmas.List.{length-append, length-map, take_all}
+use Rattle.std.proofs.lemmas.List.{length-append, take_all}
 use Rattle.std.proofs.lemmas.List.Sums.{sum_by-cons, sum_by_more}
 use Rattle.std.proofs.lemmas.Option.{none-some, same_Some}
-use Rattle.lsys_spec.specs.Levels.{Symbol}
-use Rattle.lsys_level.specs.Spots.{Spotted, level_at}
+use Rattle.lsys_level.specs.Spots.{Spotted}
 use Rattle.lsys_match.specs.Kept.{Kept}
-use Rattle.lsys_forest.specs.declared.node.Stored.{Stored}
 use Rattle.lsys_forest.specs.Nodes.{Node, Nodes}
 use Rattle.lsys_forest.specs.Changes.{Change}
-use Rattle.lsys_forest.specs.Slots.{slot_at, live_slots}
+use Rattle.lsys_forest.specs.Slots.{slot_at}
 use Rattle.lsys_forest.specs.Stocks.{row_at, node_of}
-use Rattle.lsys_forest.specs.Groves.{In, AreApart, IsSound, Reached, ReachedIn, changes_in, live_nodes}
-use Rattle.lsys_forest.specs.Rows.{spot_in, level_nodes}
+use Rattle.lsys_forest.specs.Groves.{In, AreApart, IsSound, ReachedIn, changes_in, live_nodes}
+use Rattle.lsys_forest.specs.Rows.{level_nodes}
 use Rattle.lsys_forest.proofs.RowLemmas.{In_append, In_left, In_right, apart_append, level_depth, level_apart}
 use Rattle.lsys_forest.proofs.SoundLemmas.{AreSound-now}
 use Rattle.lsys_forest.proofs.StockLemmas.{stored_of}

@@ -1,15 +1,15 @@
 -- The levels of a derivation are those of its forest.
-use Rattle.std.proofs.Common.{◌≡◌, ◌+◌, ◌<◌, ◌≤◌, ℕ, zero, suc, Bool, true, false, List, [], ◌∷◌, length, map, take, get_or, cond, slice_get, Option, Some, None, refl, sym, ap, ◌∙◌, subst, arith}
+use Rattle.std.proofs.Common.{◌≡◌, ◌+◌, ◌<◌, ℕ, zero, suc, Bool, true, false, List, [], ◌∷◌, length, take, cond, slice_get, Option, Some, None, refl, sym, ap, ◌∙◌, subst, arith}
 use Rattle.std.specs.Prelude.{nat_lt, option_map, MatchOption}
 use Rattle.std.proofs.lemmas.Bool.Decides.{nat_tests}
-use Rattle.std.proofs.lemmas.List.{length-map, get_or-take, get_or_past}
+use Rattle.std.proofs.lemmas.List.{length-map, get_or-take}
 use Rattle.std.proofs.lemmas.Option.{none-some, same_Some, slice_get-map, slice_get_within}
-use Rattle.lsys_level.specs.Spots.{Seen, Spotted, IsSpot, IsBracketAt, IsMate, level_at, spotted_at}
+use Rattle.lsys_level.specs.Spots.{Spotted, IsSpot, IsBracketAt, IsMate, level_at, spotted_at}
 use Rattle.lsys_level.specs.Tags.{HasOwnTags}
 use Rattle.lsys_match.specs.Kept.{Kept}
 use Rattle.lsys_forest.specs.Nodes.{Node}
 use Rattle.lsys_forest.specs.Groves.{Grove, IsSound, now_of, changes_in}
-use Rattle.lsys_forest.specs.Rows.{spot_in, level_nodes, level_spots, complete_levels, level_of_node, place_of_node, IsAtSpot}
+use Rattle.lsys_forest.specs.Rows.{spot_in, level_nodes, complete_levels, level_of_node, place_of_node, IsAtSpot}
 use Rattle.lsys_forest.proofs.RowLemmas.{get_split}
 use Rattle.lsys_forest.proofs.SoundLemmas.{AreSound-now}
 use Rattle.lsys_forest.proofs.ViewLemmas.{node_at, spot_of, told_is, spotted_is, own_tags}
