@@ -29,6 +29,8 @@ pub mod NextLengths
 pub mod Closedness
 pub mod SizesTold
 pub mod Repairing
+pub mod Viewing
+pub mod Deriving
 pub mod Spending
 pub mod Visiting
 pub mod Editing
@@ -40,6 +42,8 @@ pub mod Failing
 pub mod Ended
 pub mod Endings
 pub mod Turnings
+pub mod Derived
+pub mod Holding
 pub mod Beginnings
 pub mod Askings
 pub mod Unanswered

@@ -11,6 +11,7 @@ pub mod Leftmost
 pub mod Fresh
 pub mod Others
 pub mod Sizes
+pub mod Views
 pub mod Spent
 pub mod Edits
 pub mod Lasts

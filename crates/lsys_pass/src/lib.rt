@@ -6,6 +6,7 @@
 
 mod asked;
 mod beginning;
+mod derivation;
 mod edit;
 mod ending;
 mod fault;
@@ -18,6 +19,7 @@ mod pass;
 mod place;
 mod read;
 mod refusal;
+mod rest;
 mod room;
 mod seating;
 mod sizes;
@@ -26,6 +28,7 @@ mod symbols;
 mod turning;
 mod work;
 
+pub use derivation::{ForestDerivation, Held};
 pub use fault::Faulted;
 pub use pass::Pass;
 pub use sizes::Size;

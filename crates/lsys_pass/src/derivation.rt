@@ -1,0 +1,139 @@
+//! A derivation whose levels stand in a forest.
+ghost use Rattle.std.specs.Prelude.{◌≡◌, ◌+◌, List, Ok, length, sum_by};
+ghost use Rattle.lsys_spec.specs.Levels as levels;
+ghost use Rattle.lsys_spec.specs.Meaning.{meaning};
+ghost use Rattle.lsys_spec.specs.Questions.{questions};
+ghost use Rattle.lsys_pass.specs.Views.{level_in, place_among};
+
+use crate::pass::Pass;
+use crate::state::PassState;
+use lsys_forest::NodeId;
+use lsys_level::{LevelView, Sight, Tag};
+use lsys_match::{Derivation, Steps};
+use lsys_rewrite::{DeriveRefusal, EditCount};
+use lsys_rules::System;
+use std::alloc::{AllocError, Global};
+use std::marker::Model;
+use std::sync::ledger::Ledger;
+
+/// A system with its levels, which stand in a forest, and the answers to all their questions. An edit repairs the levels in
+/// place, and touches only what comes, goes or changes, or may have another answer.
+#[derive(Drop)]
+pub struct ForestDerivation<L: Ledger> {
+    pass: Pass<L>,
+}
+
+impl<L: Ledger> Model for ForestDerivation<L> {
+    ghost use Rattle.std.specs.Coded.{codes};
+    ghost use Rattle.lsys_expr.specs.Codes.{expression_code};
+    ghost use Rattle.lsys_rules.specs.Codes.{expr_code};
+    ghost use Rattle.lsys_pass.specs.Views.{ForestView, view_of, IsQuiet};
+
+    ghost Value = { ForestView };
+
+    ghost coded = { Prim.hlevel (codes, expression_code, expr_code) };
+
+    ghost view = { λ a. view_of a.pass };
+
+    ghost invariant = { λ a. IsQuiet a.pass };
+}
+
+/// How much a derivation keeps.
+#[derive(Clone, Copy, PartialEq, Eq, Debug, Drop)]
+pub struct Held {
+    /// The nodes of its forest.
+    pub nodes: u64,
+    /// The answers that its nodes keep.
+    pub answers: u64,
+}
+
+impl<L: Ledger> ForestDerivation<L> {
+    /// How much it keeps: a node for each symbol of the levels, and the root, and an answer for each question of the system.
+    /// So what an edit made superfluous is gone. It costs no step.
+    pub fn held(&self) -> Held
+        ensures nodes { result.nodes ≡ sum_by length self.now.levels + 1 }
+        ensures answers { (x : List (List levels.Symbol)) → meaning self.now.system self.now.limit ≡ Ok x
+            → result.answers ≡ length (questions self.now.system x) }
+    {
+        Held {
+            nodes: self.pass.forest().live() as u64,
+            answers: self.pass.answers() as u64,
+        }
+    }
+}
+
+/// The levels of the system, from the axiom to the depth. A symbol's tag is the number of its node.
+impl<L: Ledger> LevelView for ForestDerivation<L> {
+    type Spot = NodeId;
+
+    ghost levels = { λ v. v.levels };
+
+    ghost level_of = { λ v spot. level_in spot v.levels };
+
+    ghost place_of = { λ v spot. place_among spot v.levels };
+
+    fn first(&self, level: u32) -> Option<NodeId> {
+        self.pass.forest().first(level)
+    }
+
+    fn left(&self, spot: NodeId) -> Option<NodeId> {
+        self.pass.forest().left(spot)
+    }
+
+    fn right(&self, spot: NodeId) -> Option<NodeId> {
+        self.pass.forest().right(spot)
+    }
+
+    fn mate(&self, spot: NodeId) -> NodeId {
+        self.pass.forest().mate(spot)
+    }
+
+    fn sight(&self, spot: NodeId) -> Sight<'_> {
+        self.pass.forest().sight(spot)
+    }
+
+    fn tag(&self, spot: NodeId) -> Tag {
+        self.pass.forest().tag(spot)
+    }
+
+    fn key(&self, spot: NodeId) -> u64 {
+        self.pass.forest().key(spot)
+    }
+}
+
+impl<L: Ledger> Derivation<L> for ForestDerivation<L> {
+    ghost use Rattle.lsys_spec.specs.LevelLaws.{candidate_visits};
+
+    ghost system_of = { λ d. d.system };
+
+    ghost limit_of = { λ d. d.limit };
+
+    ghost visits = { candidate_visits };
+
+    fn start(alloc: Global, limit: u32) -> Result<ForestDerivation<L>, AllocError> {
+        Ok(ForestDerivation {
+            pass: Pass::new(alloc, limit)?,
+        })
+    }
+
+    fn system(&self) -> &System {
+        self.pass.system()
+    }
+
+    fn total(&self) -> u64 {
+        self.pass.total() as u64
+    }
+
+    fn edit<V: Ledger>(
+        &mut self,
+        alloc: Global,
+        system: System,
+        asked: &mut Steps<L>,
+        visited: &mut Steps<V>,
+    ) -> Result<EditCount, DeriveRefusal> {
+        prove!(matches!(self.pass.state(), PassState::Rest));
+        let result = self.pass.edit(alloc, system, asked, visited);
+        prove!(matches!(self.pass.state(), PassState::Rest));
+        result
+    }
+}
