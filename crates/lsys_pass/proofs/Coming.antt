@@ -1,18 +1,18 @@
 -- A pass that comes to a level that was made, or ends with it.
-use Rattle.std.proofs.Common.{◌≡◌, ◌+◌, ◌<◌, ◌≤◌, ℕ, zero, suc, Bool, false, List, [], ◌∷◌, length, map, refl, sym, ap, ◌∙◌, subst, inl, inr, arith}
+use Rattle.std.proofs.Common.{◌≡◌, ◌+◌, ◌<◌, ◌≤◌, ℕ, Bool, false, List, [], ◌∷◌, length, map, sym, ap, ◌∙◌, subst, inl, inr, arith}
 use Rattle.lsys_spec.specs.Systems.{System}
 use Rattle.lsys_level.specs.Spots.{Spotted}
 use Rattle.lsys_match.specs.Kept.{Kept}
 use Rattle.lsys_forest.specs.Nodes.{Nodes}
 use Rattle.lsys_forest.specs.Groves.{In, IsSound, changes_in}
-use Rattle.lsys_forest.specs.Rows.{spot_in, level_nodes, level_spots}
+use Rattle.lsys_forest.specs.Rows.{spot_in, level_nodes}
 use Rattle.lsys_forest.proofs.SoundLemmas.{AreSound-now}
 use Rattle.lsys_kept.specs.Levels.{answer_at}
 use Rattle.lsys_next.specs.Nexts.{AreClosed}
 use Rattle.lsys_next.specs.Answers.{kept_successor, kept_successors}
 use Rattle.lsys_pass.specs.declared.sizes.Size.{Size}
 use Rattle.lsys_pass.specs.declared.state.PassState.TheVariants.{Level, Done, Failed}
-use Rattle.lsys_pass.specs.Sizes.{symbols_at, opens_at, with_open, with_level, HaveSizesTo, SizesAt}
+use Rattle.lsys_pass.specs.Sizes.{with_open, with_level, HaveSizesTo, SizesAt}
 use Rattle.lsys_pass.specs.Stages.{IsAtLevel, IsDone}
 use Rattle.lsys_pass.specs.Passes.{PassView, stage_of, now, HoldsAt, HasFront, FrontAt, IsPass}
 use Rattle.lsys_pass.specs.Passes as P

@@ -1,5 +1,5 @@
 -- From one step of making a level to the next, and the level as it is made then.
-use Rattle.std.proofs.Common.{◌≡◌, ◌+◌, ◌<◌, ◌≤◌, ℕ, List, sym, ◌∙◌, subst, inl, inr, arith}
+use Rattle.std.proofs.Common.{◌+◌, ℕ, sym, ◌∙◌, subst, inl, inr, arith}
 use Rattle.lsys_spec.specs.Systems.{System}
 use Rattle.lsys_forest.specs.Groves.{In}
 use Rattle.lsys_pass.specs.Stages.{Stage, HasSeats}

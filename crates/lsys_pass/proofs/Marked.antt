@@ -9,11 +9,11 @@ use Rattle.lsys_mates.specs.Turned.{AreTurnedBy}
 use Rattle.lsys_forest.specs.Groves.{Grove}
 use Rattle.lsys_forest.specs.Nodes.{Nodes}
 use Rattle.lsys_pass.specs.declared.sizes.Size.{Size}
-use Rattle.lsys_pass.specs.declared.state.PassState.TheVariants.{Level, Failed}
+use Rattle.lsys_pass.specs.declared.state.PassState.TheVariants.{Failed}
 use Rattle.lsys_pass.specs.Sizes.{symbols_at, opens_at, with_open, HaveSizesTo}
-use Rattle.lsys_pass.specs.Stages.{Stage, HasSeats, IsAtLevel}
+use Rattle.lsys_pass.specs.Stages.{IsAtLevel}
 use Rattle.lsys_pass.specs.Advances.{KeepsRest}
-use Rattle.lsys_pass.specs.Passes.{PassView, stage_of, now, was, repair_of, HasFront, IsPass}
+use Rattle.lsys_pass.specs.Passes.{PassView, stage_of, now, repair_of, IsPass}
 use Rattle.lsys_pass.specs.Fresh.{WasAsked}
 use Rattle.lsys_pass.proofs.Finishing.{rest_made}
 use Rattle.lsys_pass.proofs.Failing.{still_failed}

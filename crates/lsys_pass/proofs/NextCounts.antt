@@ -1,11 +1,11 @@
 -- How many symbols the next level will have.
-use Rattle.std.proofs.Common.{◌≡◌, ◌+◌, ◌-◌, ◌<◌, ◌≤◌, ◌^◌, ℕ, suc, true, false, List, [], ◌∷◌, length, map, Some, None, refl, sym, ap, ◌∙◌, subst, inl, inr, arith, sum_by, cond, ◌⊎◌}
+use Rattle.std.proofs.Common.{◌≡◌, ◌+◌, ◌<◌, ◌≤◌, ◌^◌, ℕ, suc, true, false, List, [], ◌∷◌, length, map, Some, None, refl, sym, ap, ◌∙◌, subst, inl, inr, arith, sum_by, cond, ◌⊎◌}
 use Rattle.std.specs.Prelude.{IsSome, option_map, Bool, Option}
 use Rattle.std.proofs.lemmas.List.Sums.{sum_by-cons}
 use Rattle.std.proofs.lemmas.Option.{none-some}
 use Rattle.lsys_match.specs.Kept.{Kept}
 use Rattle.lsys_forest.specs.Nodes.{Node, Nodes}
-use Rattle.lsys_forest.specs.Groves.{In, AreApart, IsSound, IsLive, changes_in}
+use Rattle.lsys_forest.specs.Groves.{In, AreApart, IsLive, changes_in}
 use Rattle.lsys_forest.specs.Rows.{kids_in, level_nodes}
 use Rattle.lsys_forest.proofs.RowLemmas.{level_depth, level_apart}
 use Rattle.lsys_forest.proofs.DepthLemmas.{fits}
@@ -13,23 +13,23 @@ use Rattle.lsys_forest.proofs.StockLemmas.{stored_of}
 use Rattle.lsys_change.specs.Nodes.{Kin}
 use Rattle.lsys_kept.specs.Lineages.{kin_of}
 use Rattle.lsys_reads.specs.Rows.{has}
-use Rattle.lsys_next.specs.Nexts.{Successors, HasWanted, AreClosed}
+use Rattle.lsys_next.specs.Nexts.{HasWanted, AreClosed}
 use Rattle.lsys_next.specs.Answers.{kept_successors}
 use Rattle.lsys_next.proofs.Lengths.{below_count, other_sums}
 use Rattle.lsys_repair.specs.declared.parent.Parent.{Parent}
 use Rattle.lsys_repair.specs.Parents.{nodes_in, AreToldBy, walked, whole}
 use Rattle.lsys_repair.specs.Needs.{had_by_all, wanted_of_all}
 use Rattle.lsys_repair.proofs.Walked.{whole_told}
-use Rattle.lsys_candidates.specs.Repairs.{Repair, rest, root, were, are}
+use Rattle.lsys_candidates.specs.Repairs.{Repair}
 use Rattle.lsys_candidates.proofs.Spots.{sound_old}
 use Rattle.lsys_front.proofs.NextSymbols.{left, by_parents, by_walk, had_sum}
 use Rattle.lsys_pass.specs.Sizes.{symbols_at}
 use Rattle.lsys_pass.specs.Passes.{PassView, stage_of, repair_of}
 use Rattle.lsys_pass.specs.Passes as P
 use Rattle.lsys_pass.specs.Advances.{symbols_wanted}
-use Rattle.lsys_pass.specs.Fresh.{WasAsked, row_of, wanted_of, AreNextParents, AreWalkedOrAlone}
+use Rattle.lsys_pass.specs.Fresh.{WasAsked, row_of, AreNextParents, AreWalkedOrAlone}
 use Rattle.lsys_pass.proofs.Settling.{has_in, in_has}
-use Rattle.lsys_pass.proofs.NextParents.{spots, deeper, sound, node_at, wanted_alone}
+use Rattle.lsys_pass.proofs.NextParents.{spots, deeper, sound, wanted_alone}
 
 abbrev pub kids_at : Nodes Kept → ℕ → ℕ
 kids_at m k = length (kids_in (m k))

@@ -1,16 +1,15 @@
 -- Which nodes of a level that was asked are the parents of the next one.
-use Rattle.std.proofs.Common.{◌≡◌, ◌⊎◌, ◌+◌, ◌++◌, ◌<◌, ◌≤◌, ◌^◌, ℕ, zero, suc, Bool, true, false, List, [], ◌∷◌, length, take, drop, map, Option, Some, None, refl, sym, ap, ◌∙◌, subst, inl, inr, arith, slice_get, cond}
+use Rattle.std.proofs.Common.{◌≡◌, ◌⊎◌, ◌+◌, ◌++◌, ◌<◌, ◌≤◌, ◌^◌, ℕ, zero, suc, false, List, [], ◌∷◌, length, take, drop, map, Some, None, refl, sym, ap, ◌∙◌, subst, inl, inr, arith, slice_get, cond}
 use Rattle.std.specs.Prelude.{nat_eq, ℤ, IsSome}
 use Rattle.lsys_syntax.specs.Strings as S
 use Rattle.std.proofs.lemmas.Bool.{cases_eq}
 use Rattle.std.proofs.lemmas.Option.{none-some, same_Some}
 use Rattle.lsys_spec.specs.Draws.{number_base}
-use Rattle.lsys_spec.specs.Systems.{System}
 use Rattle.lsys_change.specs.Children.{is_open}
 use Rattle.lsys_match.specs.Kept.{Kept}
 use Rattle.lsys_forest.specs.Nodes.{Node, Nodes}
 use Rattle.lsys_forest.specs.Groves.{In, AreApart, IsSound, IsLive, changes_in}
-use Rattle.lsys_forest.specs.Rows.{level_nodes, complete_levels}
+use Rattle.lsys_forest.specs.Rows.{complete_levels}
 use Rattle.lsys_forest.proofs.RowLemmas.{level_depth, level_apart}
 use Rattle.lsys_forest.proofs.DepthLemmas.{fits}
 use Rattle.lsys_forest.proofs.StockLemmas.{stored_of}
@@ -18,22 +17,20 @@ use Rattle.lsys_kept.specs.Levels.{answer_at, AnsweredAt}
 use Rattle.lsys_seats.specs.Seats.{HasSeat}
 use Rattle.lsys_seats.specs.Standings.{seen_at}
 use Rattle.lsys_next.specs.Nexts.{Successors, AreClosed, HasWanted, node_kind, wanted_in, wanted_behind}
-use Rattle.lsys_next.specs.Renewals.{AreSmall, KeepsDeeper}
+use Rattle.lsys_next.specs.Renewals.{KeepsDeeper}
 use Rattle.lsys_next.specs.Answers.{kept_successors}
 use Rattle.lsys_next.proofs.Walks.{same_yes, same_not, none_reached}
 use Rattle.lsys_change.specs.Kinds.{reached}
 use Rattle.lsys_repair.specs.declared.parent.Parent.{Parent}
-use Rattle.lsys_repair.specs.Parents.{nodes_in, AreParents, AreToldBy, walked, whole}
+use Rattle.lsys_repair.specs.Parents.{AreParents, AreToldBy, walked, whole}
 use Rattle.lsys_repair.proofs.Walked.{walked_nodes, walked_told, whole_nodes}
-use Rattle.lsys_candidates.specs.Repairs.{Repair, SteppingSpots, were, are}
-use Rattle.lsys_candidates.specs.Repairs as R
+use Rattle.lsys_candidates.specs.Repairs.{Repair, SteppingSpots, were}
 use Rattle.lsys_candidates.proofs.Spots.{is_in}
 use Rattle.lsys_front.specs.Fronts.{MayHaveOthers}
 use Rattle.lsys_front.proofs.Rooms.{complete_now}
 use Rattle.lsys_front.proofs.LevelParents.{are_parents, had_still, all_closed}
 use Rattle.lsys_pass.specs.declared.state.PassState.TheVariants.{Level}
 use Rattle.lsys_pass.specs.Sizes.{opens_at}
-use Rattle.lsys_pass.specs.Stages.{HasTree}
 use Rattle.lsys_pass.specs.Passes.{PassView, stage_of, repair_of, HasFront, IsPass}
 use Rattle.lsys_pass.specs.Passes as P
 use Rattle.lsys_pass.specs.Fresh.{WasAsked, row_of, wanted_of, AreNextParents}

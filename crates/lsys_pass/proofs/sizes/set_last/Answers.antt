@@ -1,4 +1,4 @@
-use Rattle.std.proofs.Common.{◌≡◌, ◌+◌, ◌-◌, ◌<◌, suc, false, List, length, arith}
+use Rattle.std.proofs.Common.{◌-◌, ◌<◌, false, List, length, arith}
 use Rattle.std.specs.Prelude.{slice_index_or}
 use Rattle.std.proofs.lemmas.Option.{slice_get-get_or}
 use Rattle.lsys_pass.specs.declared.sizes.Size.{Size}

@@ -1,10 +1,9 @@
-use Rattle.std.proofs.Common.{◌≡◌, ◌-◌, ◌+◌, ◌*◌, ◌^◌, ◌<◌, ◌≤◌, ℕ, List, length, sum_by, sym, subst, ap, ◌∙◌, arith}
-use Rattle.lsys_forest.specs.Groves.{In, IsLive, now_of}
+use Rattle.std.proofs.Common.{◌≡◌, ◌+◌, ◌^◌, ◌≤◌, ℕ, List, sum_by, sym, subst, ap, ◌∙◌, arith}
+use Rattle.lsys_forest.specs.Groves.{In, now_of}
 use Rattle.lsys_repair.specs.declared.count.Count.{Count}
 use Rattle.lsys_repair.specs.Needs.{had_by_all, wanted_of_all}
 use Rattle.lsys_pass.specs.Sizes.{symbols_at}
-use Rattle.lsys_pass.specs.Passes.{PassView, stage_of, now}
-use Rattle.lsys_pass.specs.Advances.{symbols_wanted}
+use Rattle.lsys_pass.specs.Passes.{PassView, now}
 use Rattle.lsys_pass.specs.Fresh.{WasAsked}
 use Rattle.lsys_pass.proofs.NextCounts.{kids_at, gone_lives, gone_few, left_of, few_was, few_parents, walked_symbols, alone_symbols, is_walked, is_alone}
 use Rattle.lsys_pass.proofs.pass.Pass.next_symbols.Goals as goal

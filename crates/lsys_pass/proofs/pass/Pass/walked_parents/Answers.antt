@@ -1,13 +1,12 @@
-use Rattle.std.proofs.Common.{◌≡◌, ◌<◌, ◌^◌, ◌++◌, ℕ, List, None, length, sym, subst, ap, ◌∙◌}
+use Rattle.std.proofs.Common.{◌<◌, ◌^◌, ◌++◌, ℕ, List, None, length, sym, subst, ap, ◌∙◌}
 use Rattle.lsys_match.specs.Kept.{Kept}
 use Rattle.lsys_forest.specs.Nodes.{Nodes}
 use Rattle.lsys_forest.specs.Groves.{In, now_of}
-use Rattle.lsys_forest.specs.Rows.{complete_levels}
 use Rattle.lsys_repair.specs.declared.parent.Parent.{Parent}
 use Rattle.lsys_repair.specs.Parents.{walked}
 use Rattle.lsys_pass.specs.Passes.{PassView, now}
 use Rattle.lsys_pass.specs.Fresh.{WasAsked, row_of, AreNextParents}
-use Rattle.lsys_pass.proofs.NextParents.{complete, few, level_lives, short, walked_are, lives_at}
+use Rattle.lsys_pass.proofs.NextParents.{complete, few, short, walked_are, lives_at}
 use Rattle.lsys_pass.proofs.pass.Pass.walked_parents.Goals as goal
 
 pub list_level-requires : goal.list_level-requires
