@@ -26,3 +26,4 @@ pub mod Making
 pub mod Arrivals
 pub mod NextLengths
 pub mod Closedness
+pub mod Queued

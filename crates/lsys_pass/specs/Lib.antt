@@ -9,3 +9,4 @@ pub mod Advances
 pub mod Moves
 pub mod Leftmost
 pub mod Sizes
+pub mod Queues

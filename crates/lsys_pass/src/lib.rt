@@ -9,6 +9,7 @@ mod keep;
 mod outcome;
 mod pass;
 mod place;
+mod queue;
 mod read;
 mod refusal;
 mod seating;
