@@ -2,11 +2,11 @@
 use Rattle.std.proofs.Common.{◌≡◌, ◌≢◌, ◌<◌, ◌≤◌, ◌+◌, ◌-◌, ◌/◌, ℕ, zero, suc, List, [], ◌∷◌, ◌++◌, length, take, drop, map, Option, Some, None, slice_get, slice_index_or, refl, sym, ap, ◌∙◌, subst, arith, drop-cons, slice_set, append_assoc, length-append, length-drop}
 use Rattle.std.specs.List.{remove, cons_option}
 use Rattle.std.proofs.Math.Seq.{drop-append-add}
-use Rattle.std.proofs.lemmas.List.{take-append-drop, take_all, take_at, drop_all, append-nil, take-set, drop-set, take_more, length-take-le}
+use Rattle.std.proofs.lemmas.List.{take-append-drop, take_all, take_at, drop_all, append-nil, take-set, drop-set, take_more, take-map, drop-map, length-map, length-take-le}
 use borrow.Rule.Slice.PartMut.{put_mid}
 use Rattle.std.proofs.lemmas.List.Edits.{remove-append_left, remove-append_right, length-remove}
 use Rattle.std.proofs.lemmas.List.Elements.{filter_map-append}
-use Rattle.std.proofs.lemmas.Option.{none-some, same_Some, slice_get_read, slice_get-get_or}
+use Rattle.std.proofs.lemmas.Option.{none-some, same_Some, slice_get_read, slice_get-get_or, slice_get_within}
 use Rattle.lsys_pass.specs.declared.queue.Slot.{Slot}
 use Rattle.lsys_pass.specs.Queues.{those_left, slot_of, AreCounted, InHalves}
 
@@ -19,12 +19,12 @@ some_slot : (part : List Slot) (i : ℕ) → i < length (those_left part) → 0 
 some_slot [] i h = absurd (omega (arith, h))
 some_slot (s ∷ part) i h = omega arith
 
-get_left : (xs ys : List ℕ) (i k : ℕ) → slice_get xs i ≡ Some k → slice_get (xs ++ ys) i ≡ Some k
+get_left : {A : Type 0} (xs ys : List A) (i : ℕ) (k : A) → slice_get xs i ≡ Some k → slice_get (xs ++ ys) i ≡ Some k
 get_left [] ys i k h = absurd (none-some k h)
 get_left (x ∷ xs) ys zero k h = h
 get_left (x ∷ xs) ys (suc i) k h = get_left xs ys i k h
 
-get_right : (xs ys : List ℕ) (i j k : ℕ) → length xs + j ≡ i → slice_get ys j ≡ Some k → slice_get (xs ++ ys) i ≡ Some k
+get_right : {A : Type 0} (xs ys : List A) (i j : ℕ) (k : A) → length xs + j ≡ i → slice_get ys j ≡ Some k → slice_get (xs ++ ys) i ≡ Some k
 get_right [] ys i j k e h = let same : i ≡ j = omega (arith, e) in ap (slice_get ys) same ∙ h
 get_right (x ∷ xs) ys zero j k e h = absurd (omega (arith, e))
 get_right (x ∷ xs) ys (suc i) j k e h = get_right xs ys i j k (omega (arith, e)) h
@@ -123,10 +123,6 @@ pub record IsTaken (old new : List Slot) (place : ℕ) : Type 0 where
   pub counted : AreCounted new
   pub left : those_left new ≡ remove (those_left old) place
 
-get_here : (xs : List Slot) (s : Slot) (ys : List Slot) → slice_get (xs ++ s ∷ ys) (length xs) ≡ Some s
-get_here [] s ys = refl
-get_here (x ∷ xs) s ys = get_here xs s ys
-
 -- slots before a middle one and behind it
 joined : (n : ℕ) (before : List Slot) (s : Slot) (behind : List Slot) → n / 2 < n → length before ≡ n / 2 → length behind ≡ n - (n / 2 + 1) → s.gone + length (those_left before) ≡ n / 2
     → AreCounted before → AreCounted behind → AreCounted (before ++ s ∷ behind)
@@ -138,9 +134,10 @@ joined n before s behind within one two count front back =
     let first : take (length all / 2) all ≡ before = take_at before (s ∷ behind) (length all / 2) (one ∙ sym half) in
     let rest : drop (length all / 2 + 1) all ≡ behind = ap (λ (k : ℕ). drop (k + 1) all) (half ∙ sym one) ∙ drop-append-add before (s ∷ behind) 1 in
     InHalves
+    {part = all}
     (λ t at.
-        let same : t ≡ s = same_Some t s (sym at ∙ ap (slice_get all) (half ∙ sym one) ∙ get_here before s behind) in
-        ap (λ (x : Slot). x.gone + length (those_left (take (length all / 2) all))) same ∙ ap (λ (xs : List Slot). s.gone + length (those_left xs)) first ∙ count ∙ sym half)
+    let same : t ≡ s = same_Some t s (sym at ∙ ap (slice_get all) (half ∙ sym one) ∙ get_right before (s ∷ behind) (length before) 0 s (omega arith) refl) in
+    ap (λ (x : Slot). x.gone + length (those_left (take (length all / 2) all))) same ∙ ap (λ (xs : List Slot). s.gone + length (those_left xs)) first ∙ count ∙ sym half)
     (λ _. subst AreCounted (sym first) front)
     (λ _. subst AreCounted (sym rest) back)
 
@@ -258,3 +255,39 @@ taken_behind_none part s place fresh h is node above size counted left =
     (ap (λ (o : Option ℕ). before ++ cons_option o (those_left fresh)) node ∙ ap (λ (xs : List ℕ). before ++ xs) left
     ∙ ap (λ (i : ℕ). before ++ remove rest i) (sym next) ∙ sym (remove-append_right before rest (length before) place refl (omega (arith, count, above)))
     ∙ ap (λ (xs : List ℕ). remove xs place) (sym (left_where part s None h node)))
+
+-- 5. a queue that is filled
+
+those_fresh : (nodes : List ℕ) → those_left (map slot_of nodes) ≡ nodes
+those_fresh [] = refl
+those_fresh (k ∷ nodes) = ap (λ (ks : List ℕ). k ∷ ks) (those_fresh nodes)
+
+none_gone_yet : (nodes : List ℕ) (i : ℕ) (s : Slot) → slice_get (map slot_of nodes) i ≡ Some s → s.gone ≡ 0
+none_gone_yet [] i s h = absurd (none-some s h)
+none_gone_yet (k ∷ nodes) zero s h = ap (λ (x : Slot). x.gone) (sym (same_Some _ _ h))
+none_gone_yet (k ∷ nodes) (suc i) s h = none_gone_yet nodes i s h
+
+fresh_counted : (n : ℕ) (nodes : List ℕ) → length nodes < n → AreCounted (map slot_of nodes)
+fresh_counted zero nodes h = absurd (omega (arith, h))
+fresh_counted (suc n) nodes h =
+    let part = map slot_of nodes in
+    let size = length-map nodes slot_of in
+    let first = take-map slot_of (length part / 2) nodes in
+    let rest = drop-map slot_of (length part / 2 + 1) nodes in
+    InHalves
+    {part = part}
+    (λ (s : Slot) (at : slice_get part (length part / 2) ≡ Some s).
+    let none = none_gone_yet nodes (length part / 2) s at in
+    let some = slice_get_within part (length part / 2) s at in
+    let front = ap (λ (xs : List Slot). length (those_left xs)) first ∙ ap length (those_fresh (take (length part / 2) nodes)) in
+    let fits = length-take-le (length part / 2) nodes (omega (arith, size, some)) in
+    omega (arith, none, front, fits))
+    (λ some. let fits = length-take-le (length part / 2) nodes (omega (arith, size, some)) in subst AreCounted (sym first) (fresh_counted n (take (length part / 2) nodes) (omega (arith, h, some, size, fits))))
+    (λ some. let fits = length-drop (length part / 2 + 1) nodes in subst AreCounted (sym rest) (fresh_counted n (drop (length part / 2 + 1) nodes) (omega (arith, h, some, size, fits))))
+
+pub record IsFilled (slots : List Slot) (nodes : List ℕ) : Type 0 where
+  pub counted : AreCounted slots
+  pub left : those_left slots ≡ nodes
+
+pub filled : (slots : List Slot) (nodes : List ℕ) → slots ≡ map slot_of nodes → IsFilled slots nodes
+filled slots nodes is = record { counted = subst AreCounted (sym is) (fresh_counted (suc (length nodes)) nodes (omega arith)); left = ap those_left is ∙ those_fresh nodes }

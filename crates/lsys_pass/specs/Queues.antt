@@ -11,12 +11,15 @@ those_left slots = filter_map (λ (s : Slot). s.node) slots
 abbrev pub slot_of : ℕ → Slot
 slot_of node = record { node = Some node; gone = 0 }
 
--- Of a part that isn't empty: the slot in its middle knows how many before it are gone, and those before it and those behind it
--- are such parts too.
+-- the slot in the middle of a part knows how many before it are gone
+abbrev pub KnowsGone : List Slot → Type 0
+KnowsGone part =
+    (s : Slot) → slice_get part (length part / 2) ≡ Some s
+    → s.gone + length (those_left (take (length part / 2) part)) ≡ length part / 2
+
+-- so it is in a part, and if it isn't empty, among those before its middle and among those behind it
 pub data AreCounted : List Slot → Type 0 where
-  InHalves : {part : List Slot}
-      → ((s : Slot) → slice_get part (length part / 2) ≡ Some s
-          → s.gone + length (those_left (take (length part / 2) part)) ≡ length part / 2)
+  InHalves : {part : List Slot} → KnowsGone part
       → (0 < length part → AreCounted (take (length part / 2) part))
       → (0 < length part → AreCounted (drop (length part / 2 + 1) part))
       → AreCounted part

@@ -9,7 +9,7 @@ use lsys_forest::{Forest, Kept, NodeId};
 use std::alloc::{AllocError, Global};
 use std::marker::Model;
 
-/// A node until it is taken off. It stands in the middle of a part of a queue, of which it knows how many of those before it are
+/// A node until it is taken off. It stands in the middle of a part of a queue, and knows how many of those before it there are
 /// gone.
 #[derive(Clone, Copy, Drop)]
 struct Slot {
@@ -37,7 +37,8 @@ impl Model for Queue {
 
     ghost view = { λ q. those_left q.slots.items };
 
-    ghost invariant = { λ q. AreCounted q.slots.items × (q.left ≡ length (those_left q.slots.items)) };
+    ghost invariant = { λ q.
+        AreCounted q.slots.items × (q.left ≡ length (those_left q.slots.items)) };
 }
 
 impl Queue {
@@ -51,7 +52,7 @@ impl Queue {
         }
     }
 
-    /// These nodes take the place of the others.
+    /// These nodes take the place of the others. It costs a step for each.
     ///
     /// # Errors
     ///
@@ -73,7 +74,7 @@ impl Queue {
         self.left = 0;
     }
 
-    /// How many nodes it has, at once.
+    /// How many nodes it has. It costs one step.
     pub(crate) fn len(&self) -> usize
         ensures { result ≡ length self.now }
     {
@@ -88,7 +89,8 @@ impl Queue {
         nth_among(&self.slots, place)
     }
 
-    /// At which place a node stands, where the nodes are in order on one complete level. It is found by halves.
+    /// At which place a node stands, where the nodes are in order on one complete level. It is found by halves: as many nodes as
+    /// a logarithm are looked up and compared.
     pub(crate) fn place_of<A: Kept>(&self, forest: &Forest<A>, node: NodeId) -> usize
         requires order { AreInOrder forest.now self.now }
         requires among { In node self.now }
@@ -121,7 +123,13 @@ impl Queue {
 fn slots_of(alloc: Global, nodes: &[NodeId]) -> Result<Vec<Slot>, AllocError>
     ensures { IfOk result (λ slots. slots.items ≡ map slot_of nodes.now) }
 {
-    nodes.iter().map(|node| Slot { node: Some(*node), gone: 0 }).collect(alloc)
+    nodes
+        .iter()
+        .map(|node| Slot {
+            node: Some(*node),
+            gone: 0,
+        })
+        .collect(alloc)
 }
 
 /// The node at a place among those that a part has left.

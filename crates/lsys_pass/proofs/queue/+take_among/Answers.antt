@@ -1,6 +1,4 @@
-use Rattle.std.proofs.Common.{rules, arith, ap}
-use Rattle.std.specs.Prelude.{None}
-use Rattle.lsys_pass.specs.declared.queue.Slot.{Slot}
+use Rattle.std.proofs.Common.{rules, arith}
 use Rattle.lsys_pass.proofs.Queued.{halved, behind_some, behind_none, more_gone, none_gone, front_within, taken_front, taken_here, taken_behind_some, taken_behind_none}
 use Rattle.lsys_pass.proofs.queue.+take_among.Goals as goal
 
