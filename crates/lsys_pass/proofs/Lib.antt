@@ -52,3 +52,4 @@ pub mod Births
 pub mod Freshness
 pub mod Marked
 pub mod NextCounts
+pub mod Queued

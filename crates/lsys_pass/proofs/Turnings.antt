@@ -270,7 +270,7 @@ module _ (v : PassView) (t : ℕ) (h : IsPass v) (failed : v.state ≡ Failed) (
 abbrev pub with_work : PassView → List Seat → Work → PassView
 with_work v seats work = record v {
   seats = seats;
-  pending = work.pending.items;
+  pending = work.pending;
   faults = work.faults.items;
   renewed = work.renewed.items;
   born = work.born;
@@ -282,7 +282,7 @@ with_work v seats work = record v {
 
 -- the lists that stay, whether memory was wanted or not
 pub record KeepsLists (v : PassView) (work : Work) : Type 0 where
-  pub pending : work.pending.items ≡ v.pending
+  pub pending : work.pending ≡ v.pending
   pub faults : work.faults.items ≡ v.faults
   pub renewed : work.renewed.items ≡ v.renewed
   pub born : work.born ≡ v.born

@@ -17,3 +17,4 @@ pub mod Edits
 pub mod Lasts
 pub mod Beginnings
 pub mod Made
+pub mod Queues

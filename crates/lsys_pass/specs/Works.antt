@@ -18,7 +18,7 @@ pub record OthersStay (old new : Work) : Type 0 where
 
 -- nothing is worked on
 pub record IsCleared (w : Work) : Type 0 where
-  pub pending : w.pending.items ≡ []
+  pub pending : w.pending ≡ []
   pub faults : w.faults.items ≡ []
   pub renewed : w.renewed.items ≡ []
   pub born : w.born ≡ 0

@@ -54,7 +54,7 @@ impl<L: Ledger> Pass<L> {
             &others,
             &mut self.work.dropped,
         )?;
-        self.work.pending = self.work.front.asked(
+        let pending = self.work.front.asked(
             alloc,
             system,
             level,
@@ -63,7 +63,7 @@ impl<L: Ledger> Pass<L> {
             found,
             &others,
         )?;
-        Ok(())
+        self.work.pending.set(&pending)
     }
 
     /// The nodes of a level that are modules with other rules than at the last rest; all of its nodes, where there were no

@@ -136,12 +136,15 @@ impl<L: Ledger> Pass<L> {
         Ok(())
     }
 
-    /// The last node that is pending.
+    /// The last node that is pending. It costs a logarithm.
     fn last_pending(&self) -> Option<NodeId>
         ensures some { IfSome result (λ node. In node self.now.pending) }
         ensures none { IfNone result (self.now.pending ≡ []) }
         ensures pass { IsPass self.now }
     {
-        self.work.pending.last().copied()
+        match self.work.pending.len() {
+            0 => None,
+            count => Some(self.work.pending.nth(count - 1)),
+        }
     }
 }

@@ -16,7 +16,7 @@ mod next_level;
 mod outcome;
 mod parents;
 mod pass;
-mod place;
+mod queue;
 mod read;
 mod refusal;
 mod rest;

@@ -14,7 +14,6 @@ ghost use Rattle.lsys_pass.specs.Moves.{AtLevel, Fails, IsBack, IsRefusal, Steps
 
 use crate::keep::{answer_of, take_over, target};
 use crate::outcome::keep_outcome;
-use crate::place::place_among;
 use crate::read::settle_reads;
 use crate::refusal::first_fault;
 use crate::seating::seat_all;
@@ -75,7 +74,7 @@ impl<L: Ledger> Model for Pass<L> {
       next = unwrap_or a.next a.system;
       limit = a.limit;
       state = a.state;
-      pending = a.work.pending.items;
+      pending = a.work.pending;
       faults = a.work.faults.items;
       renewed = a.work.renewed.items;
       born = a.work.born;
@@ -97,7 +96,7 @@ impl<L: Ledger> Model for Pass<L> {
       next = unwrap_or a.next a.system;
       limit = a.limit;
       state = a.state;
-      pending = a.work.pending.items;
+      pending = a.work.pending;
       faults = a.work.faults.items;
       renewed = a.work.renewed.items;
       born = a.work.born;
@@ -174,17 +173,17 @@ impl<L: Ledger> Pass<L> {
         self.work.pending.len()
     }
 
-    /// One of them, counted from the left.
+    /// One of them, counted from the left. It costs a logarithm.
     pub fn nth_pending(&self, place: usize) -> NodeId
         requires { place < length self.now.pending }
         ensures { slice_get self.now.pending place ≡ Some result }
     {
-        self.work.pending[place]
+        self.work.pending.nth(place)
     }
 
     /// Asks a node that is pending: its answer is kept, or its fault is noted. Then it is pending no more. Nodes may be asked in
-    /// any order: one costs what is read for it, and to be found among those that are pending; to take the last one off costs
-    /// nothing, any other one moves those behind it.
+    /// any order: one costs what is read for it, and to be found among those that are pending, where as many nodes as a logarithm
+    /// are looked up and compared; to take it off costs a logarithm, wherever it stands.
     ///
     /// # Errors
     ///
@@ -213,7 +212,7 @@ impl<L: Ledger> Pass<L> {
         };
         self.forest.reserve(0, 0, 0, 1)?;
         self.work.reserve()?;
-        let place = place_among(&self.forest, &self.work.pending, node);
+        let place = self.work.pending.place_of(&self.forest, node);
         let system = target(&self.next, &self.system);
         let old = answer_of(&self.forest, node);
         let is_born = old.is_none();
@@ -231,7 +230,7 @@ impl<L: Ledger> Pass<L> {
             is_born,
             outcome,
         )?;
-        self.work.pending.remove(place);
+        self.work.pending.take(place);
         Ok(())
     }
 

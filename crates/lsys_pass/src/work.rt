@@ -4,6 +4,7 @@ ghost use Rattle.lsys_pass.specs.Works.{HasRoom, OthersStay, IsCleared};
 
 use crate::fault::Faulted;
 use crate::keep::push_in_room;
+use crate::queue::Queue;
 use lsys_forest::NodeId;
 use lsys_front::Front;
 use lsys_level::Tag;
@@ -15,7 +16,7 @@ use std::alloc::{AllocError, Global};
 /// had an answer and have none any more; those that moved; and what differs on the level.
 #[derive(Drop)]
 pub(crate) struct Work {
-    pub(crate) pending: Vec<NodeId>,
+    pub(crate) pending: Queue,
     pub(crate) faults: Vec<Faulted>,
     pub(crate) renewed: Vec<Tag>,
     pub(crate) born: usize,
@@ -31,7 +32,7 @@ impl Work {
         ensures { IsCleared result }
     {
         Work {
-            pending: Vec::new(alloc),
+            pending: Queue::new(alloc),
             faults: Vec::new(alloc),
             renewed: Vec::new(alloc),
             born: 0,

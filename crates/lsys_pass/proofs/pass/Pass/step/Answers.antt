@@ -1,5 +1,4 @@
-use Rattle.std.proofs.Common.{◌<◌, refl, sym, ap, ◌∙◌, subst, arith}
-use Rattle.std.specs.Prelude.{vec_len}
+use Rattle.std.proofs.Common.{◌<◌, length, refl, sym, ap, ◌∙◌, subst}
 use Rattle.std.specs.List.{remove}
 use Rattle.std.proofs.lemmas.Option.{slice_get_within}
 use Rattle.lsys_forest.specs.Groves.{In}
@@ -10,9 +9,9 @@ use Rattle.lsys_pass.proofs.Moved.{replied, counted, few_read, moves_once, moves
 use Rattle.lsys_pass.proofs.Stepped.{over_all, roomy_pass, waits_pass, steps_at}
 use Rattle.lsys_pass.proofs.pass.Pass.step.Goals as goal
 
-pub place_among-place-requires-clause-order : goal.place_among-place-requires-clause-order
-place_among-place-requires-clause-order g c =
-    subst (AreInOrder c.reserve.new.self) (sym (c.deref.ensures.value ∙ ap (λ p. p.items) c.reserve-2.ensures.others.pending))
+pub place_of-place-requires-clause-order : goal.place_of-place-requires-clause-order
+place_of-place-requires-clause-order g c =
+    subst (AreInOrder c.reserve.new.self) (sym (c.reserve-2.ensures.others.pending))
     (in_order _ c.in-Level.level c.self.invariant c.in-Level.is c.reserve.new.self (record { now = c.reserve.ensures.now; changes = c.reserve.ensures.changes; root = c.reserve.ensures.root }))
 
 pub answer_of-old-requires : goal.answer_of-old-requires
@@ -48,28 +47,27 @@ keep_outcome-requires-clause-lives g c =
 pub invariant_of-self-in_err-keep_outcome : goal.invariant_of-self-in_err-keep_outcome
 invariant_of-self-in_err-keep_outcome g c =
     waits_pass _ c.in-Level.level c.self.invariant c.in-Level.is c.reserve.new.self (record { now = c.reserve.ensures.now; changes = c.reserve.ensures.changes; root = c.reserve.ensures.root }) c.reserve.ensures.others.live
-    c.keep_outcome.new.forest c.ask-outcome.new.store c.keep_outcome.new.store c.keep_outcome.new.reads c.reserve-2.new.self c.keep_outcome.new.work _ c.ask-outcome.result c.keep_outcome.new.work.pending.items
+    c.keep_outcome.new.forest c.ask-outcome.new.store c.keep_outcome.new.store c.keep_outcome.new.reads c.reserve-2.new.self c.keep_outcome.new.work _ c.ask-outcome.result c.keep_outcome.new.work.pending
     (record { faults = c.reserve-2.ensures.faults; renewed = c.reserve-2.ensures.renewed; born = c.reserve-2.ensures.born; first_renewed = c.keep_outcome.ensures.others.first_renewed ∙ c.reserve-2.ensures.others.first_renewed; dropped = ap (λ d. d.items) (c.keep_outcome.ensures.others.dropped ∙ c.reserve-2.ensures.others.dropped); moved = ap (λ d. d.items) (c.keep_outcome.ensures.others.moved ∙ c.reserve-2.ensures.others.moved); front = c.keep_outcome.ensures.others.front ∙ c.reserve-2.ensures.others.front })
-    (ap (λ p. p.items) (c.keep_outcome.ensures.others.pending ∙ c.reserve-2.ensures.others.pending)) c.ask-outcome.ensures.store c.in_err-keep_outcome.ensures.refused
+    (c.keep_outcome.ensures.others.pending ∙ c.reserve-2.ensures.others.pending) c.ask-outcome.ensures.store c.in_err-keep_outcome.ensures.refused
 
 pub returns-in_err-keep_outcome-clause-few_read : goal.returns-in_err-keep_outcome-clause-few_read
 returns-in_err-keep_outcome-clause-few_read g c =
     few_read _ c.in-Level.level c.self.invariant c.in-Level.is c.args.node (subst (λ (v : PassView). In c.args.node v.pending) (sym c.self.view_is) c.requires.pending) c.reserve.new.self (record { now = c.reserve.ensures.now; changes = c.reserve.ensures.changes; root = c.reserve.ensures.root }) c.ask-outcome.result c.args.visited.now c.ask-outcome.new.visited
     (counted _ c.in-Level.level c.self.invariant c.in-Level.is c.args.node (subst (λ (v : PassView). In c.args.node v.pending) (sym c.self.view_is) c.requires.pending) c.reserve.new.self (record { now = c.reserve.ensures.now; changes = c.reserve.ensures.changes; root = c.reserve.ensures.root }) _ c.ask-outcome.result c.args.visited.now c.ask-outcome.new.visited c.target-system.ensures c.ask-outcome.ensures.visited)
 
-pub remove-requires : goal.remove-requires
-remove-requires g c =
-    let within = slice_get_within c.deref.result.now c.place_among-place.result c.args.node c.place_among-place.ensures in
-    subst (λ p. c.place_among-place.result < vec_len p) (sym c.keep_outcome.ensures.others.pending) (let l = c.deref.ensures.len in omega (arith, within, l))
+pub take-requires : goal.take-requires
+take-requires g c =
+    subst (λ ps. c.place_of-place.result < length ps) (sym c.keep_outcome.ensures.others.pending) (slice_get_within c.reserve-2.new.self.pending c.place_of-place.result c.args.node c.place_of-place.ensures)
 
 pub invariant_of-self-2 : goal.invariant_of-self-2
 invariant_of-self-2 g c =
     (over_all _ c.in-Level.level c.self.invariant c.in-Level.is c.args.node (subst (λ (v : PassView). In c.args.node v.pending) (sym c.self.view_is) c.requires.pending) c.reserve.new.self (record { now = c.reserve.ensures.now; changes = c.reserve.ensures.changes; root = c.reserve.ensures.root }) c.reserve.ensures.others.live
     c.ask-outcome.new.store c.keep_outcome.new.forest c.keep_outcome.new.store c.keep_outcome.new.reads c.reserve-2.new.self c.keep_outcome.new.work
     (record { faults = c.reserve-2.ensures.faults; renewed = c.reserve-2.ensures.renewed; born = c.reserve-2.ensures.born; first_renewed = c.keep_outcome.ensures.others.first_renewed ∙ c.reserve-2.ensures.others.first_renewed; dropped = ap (λ d. d.items) (c.keep_outcome.ensures.others.dropped ∙ c.reserve-2.ensures.others.dropped); moved = ap (λ d. d.items) (c.keep_outcome.ensures.others.moved ∙ c.reserve-2.ensures.others.moved); front = c.keep_outcome.ensures.others.front ∙ c.reserve-2.ensures.others.front })
-    c.is_none-is_born.result (born_is _ c.answer_of-old.result _ _ _ _ c.is_none-is_born.ensures c.answer_of-old.ensures c.reserve.ensures.now) c.remove.new.self.items _ c.ask-outcome.result
+    c.is_none-is_born.result (born_is _ c.answer_of-old.result _ _ _ _ c.is_none-is_born.ensures c.answer_of-old.ensures c.reserve.ensures.now) c.take.new.self _ c.ask-outcome.result
     (replied _ c.in-Level.level c.self.invariant c.in-Level.is c.args.node (subst (λ (v : PassView). In c.args.node v.pending) (sym c.self.view_is) c.requires.pending) c.reserve.new.self (record { now = c.reserve.ensures.now; changes = c.reserve.ensures.changes; root = c.reserve.ensures.root }) _ c.ask-outcome.new.store _ c.ask-outcome.result c.target-system.ensures c.answer_of-old.ensures c.ask-outcome.ensures.answered c.ask-outcome.ensures.store)
-    (c.remove.ensures.items ∙ ap (λ ps. remove ps.items c.place_among-place.result) (c.keep_outcome.ensures.others.pending ∙ c.reserve-2.ensures.others.pending) ∙ taken_off _ c.in-Level.level c.self.invariant c.in-Level.is c.args.node (subst (λ (v : PassView). In c.args.node v.pending) (sym c.self.view_is) c.requires.pending) c.place_among-place.result (here_among _ _ _ _ c.place_among-place.ensures (c.deref.ensures.value ∙ ap (λ p. p.items) c.reserve-2.ensures.others.pending)))
+    (c.take.ensures ∙ ap (λ ps. remove ps c.place_of-place.result) (c.keep_outcome.ensures.others.pending ∙ c.reserve-2.ensures.others.pending) ∙ taken_off _ c.in-Level.level c.self.invariant c.in-Level.is c.args.node (subst (λ (v : PassView). In c.args.node v.pending) (sym c.self.view_is) c.requires.pending) c.place_of-place.result (here_among _ _ _ _ c.place_of-place.ensures (c.reserve-2.ensures.others.pending)))
     c.in_ok-keep_outcome.ensures.kept).pass
 
 pub returns-clause-steps : goal.returns-clause-steps
@@ -78,9 +76,9 @@ returns-clause-steps g c =
     (over_all _ c.in-Level.level c.self.invariant c.in-Level.is c.args.node (subst (λ (v : PassView). In c.args.node v.pending) (sym c.self.view_is) c.requires.pending) c.reserve.new.self (record { now = c.reserve.ensures.now; changes = c.reserve.ensures.changes; root = c.reserve.ensures.root }) c.reserve.ensures.others.live
     c.ask-outcome.new.store c.keep_outcome.new.forest c.keep_outcome.new.store c.keep_outcome.new.reads c.reserve-2.new.self c.keep_outcome.new.work
     (record { faults = c.reserve-2.ensures.faults; renewed = c.reserve-2.ensures.renewed; born = c.reserve-2.ensures.born; first_renewed = c.keep_outcome.ensures.others.first_renewed ∙ c.reserve-2.ensures.others.first_renewed; dropped = ap (λ d. d.items) (c.keep_outcome.ensures.others.dropped ∙ c.reserve-2.ensures.others.dropped); moved = ap (λ d. d.items) (c.keep_outcome.ensures.others.moved ∙ c.reserve-2.ensures.others.moved); front = c.keep_outcome.ensures.others.front ∙ c.reserve-2.ensures.others.front })
-    c.is_none-is_born.result (born_is _ c.answer_of-old.result _ _ _ _ c.is_none-is_born.ensures c.answer_of-old.ensures c.reserve.ensures.now) c.remove.new.self.items _ c.ask-outcome.result
+    c.is_none-is_born.result (born_is _ c.answer_of-old.result _ _ _ _ c.is_none-is_born.ensures c.answer_of-old.ensures c.reserve.ensures.now) c.take.new.self _ c.ask-outcome.result
     (replied _ c.in-Level.level c.self.invariant c.in-Level.is c.args.node (subst (λ (v : PassView). In c.args.node v.pending) (sym c.self.view_is) c.requires.pending) c.reserve.new.self (record { now = c.reserve.ensures.now; changes = c.reserve.ensures.changes; root = c.reserve.ensures.root }) _ c.ask-outcome.new.store _ c.ask-outcome.result c.target-system.ensures c.answer_of-old.ensures c.ask-outcome.ensures.answered c.ask-outcome.ensures.store)
-    (c.remove.ensures.items ∙ ap (λ ps. remove ps.items c.place_among-place.result) (c.keep_outcome.ensures.others.pending ∙ c.reserve-2.ensures.others.pending) ∙ taken_off _ c.in-Level.level c.self.invariant c.in-Level.is c.args.node (subst (λ (v : PassView). In c.args.node v.pending) (sym c.self.view_is) c.requires.pending) c.place_among-place.result (here_among _ _ _ _ c.place_among-place.ensures (c.deref.ensures.value ∙ ap (λ p. p.items) c.reserve-2.ensures.others.pending)))
+    (c.take.ensures ∙ ap (λ ps. remove ps c.place_of-place.result) (c.keep_outcome.ensures.others.pending ∙ c.reserve-2.ensures.others.pending) ∙ taken_off _ c.in-Level.level c.self.invariant c.in-Level.is c.args.node (subst (λ (v : PassView). In c.args.node v.pending) (sym c.self.view_is) c.requires.pending) c.place_of-place.result (here_among _ _ _ _ c.place_of-place.ensures (c.reserve-2.ensures.others.pending)))
     c.in_ok-keep_outcome.ensures.kept).steps
 
 pub returns-clause-renewed : goal.returns-clause-renewed
@@ -110,4 +108,4 @@ pub invariant_of-self-in_err-reserve-2 : goal.invariant_of-self-in_err-reserve-2
 invariant_of-self-in_err-reserve-2 g c =
     roomy_pass _ c.in-Level.level c.self.invariant c.in-Level.is c.reserve.new.self (record { now = c.reserve.ensures.now; changes = c.reserve.ensures.changes; root = c.reserve.ensures.root }) c.reserve.ensures.others.live c.reserve-2.new.self _
     (record { faults = c.reserve-2.ensures.faults; renewed = c.reserve-2.ensures.renewed; born = c.reserve-2.ensures.born; first_renewed = c.reserve-2.ensures.others.first_renewed; dropped = ap (λ d. d.items) c.reserve-2.ensures.others.dropped; moved = ap (λ d. d.items) c.reserve-2.ensures.others.moved; front = c.reserve-2.ensures.others.front })
-    (ap (λ p. p.items) c.reserve-2.ensures.others.pending)
+    c.reserve-2.ensures.others.pending

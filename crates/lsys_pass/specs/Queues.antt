@@ -1,0 +1,25 @@
+-- Nodes that are still to be asked, and how many are gone.
+use Rattle.std.specs.Prelude.{◌≡◌, ◌<◌, ◌+◌, ◌/◌, ℕ, List, Some, length, take, drop, slice_get}
+use Rattle.std.specs.List.{filter_map}
+use Rattle.lsys_pass.specs.declared.queue.Slot.{Slot}
+
+-- the nodes that weren't taken off, in order
+abbrev pub those_left : List Slot → List ℕ
+those_left slots = filter_map (λ (s : Slot). s.node) slots
+
+-- the slot of a node, before which none is gone
+abbrev pub slot_of : ℕ → Slot
+slot_of node = record { node = Some node; gone = 0 }
+
+-- the slot in the middle of a part knows how many before it are gone
+abbrev pub KnowsGone : List Slot → Type 0
+KnowsGone part =
+    (s : Slot) → slice_get part (length part / 2) ≡ Some s
+    → s.gone + length (those_left (take (length part / 2) part)) ≡ length part / 2
+
+-- so it is in a part, and if it isn't empty, among those before its middle and among those behind it
+pub data AreCounted : List Slot → Type 0 where
+  InHalves : {part : List Slot} → KnowsGone part
+      → (0 < length part → AreCounted (take (length part / 2) part))
+      → (0 < length part → AreCounted (drop (length part / 2 + 1) part))
+      → AreCounted part

@@ -1,0 +1,173 @@
+//! Nodes that are still to be asked.
+ghost use Rattle.std.specs.Prelude.{◌≡◌, ◌<◌, ℕ, List, [], Some, IfOk, OnOk, OnErr, length, map, slice_get};
+ghost use Rattle.std.specs.List.{remove};
+ghost use Rattle.lsys_forest.specs.Groves.{In};
+ghost use Rattle.lsys_pass.specs.Places.{AreInOrder};
+ghost use Rattle.lsys_pass.specs.Queues.{AreCounted, those_left, slot_of};
+
+use lsys_forest::{Forest, Kept, NodeId};
+use std::alloc::{AllocError, Global};
+use std::marker::Model;
+
+/// A node until it is taken off. It stands in the middle of a part of a queue, and knows how many of those before it there are
+/// gone.
+#[derive(Clone, Copy, Drop)]
+struct Slot {
+    node: Option<NodeId>,
+    gone: usize,
+}
+
+/// Nodes in order, from which any can be taken off at the cost of a logarithm: each slot is in the middle of a part, and those
+/// before it and those behind it are parts again.
+#[derive(Drop)]
+pub(crate) struct Queue {
+    slots: Vec<Slot>,
+    left: usize,
+}
+
+impl Model for Queue {
+    ghost use Rattle.std.specs.Prelude.{◌≡◌, ℕ, List, length};
+    ghost use Rattle.std.specs.Coded.{coded_list, coded_ℕ};
+
+    ghost Value = { List ℕ };
+
+    ghost coded = { coded_list coded_ℕ };
+
+    ghost use Rattle.lsys_pass.specs.Queues.{AreCounted, those_left};
+
+    ghost view = { λ q. those_left q.slots.items };
+
+    ghost invariant = { λ q.
+        AreCounted q.slots.items × (q.left ≡ length (those_left q.slots.items)) };
+}
+
+impl Queue {
+    /// Of no nodes. It takes no memory.
+    pub(crate) fn new(alloc: Global) -> Queue
+        ensures { result ≡ [] }
+    {
+        Queue {
+            slots: Vec::new(alloc),
+            left: 0,
+        }
+    }
+
+    /// These nodes take the place of the others. It costs a step for each.
+    ///
+    /// # Errors
+    ///
+    /// Want of memory. The others stay.
+    pub(crate) fn set(&mut self, nodes: &[NodeId]) -> Result<(), AllocError>
+        ensures ok { OnOk result (self.new ≡ nodes.now) }
+        ensures err { OnErr result (self.new ≡ self.old) }
+    {
+        self.slots = slots_of(*self.slots.allocator(), nodes)?;
+        self.left = nodes.len();
+        Ok(())
+    }
+
+    /// Forgets all nodes. It takes no memory.
+    pub(crate) fn clear(&mut self)
+        ensures { self.new ≡ [] }
+    {
+        self.slots.clear();
+        self.left = 0;
+    }
+
+    /// How many nodes it has. It costs one step.
+    pub(crate) fn len(&self) -> usize
+        ensures { result ≡ length self.now }
+    {
+        self.left
+    }
+
+    /// The node at a place. It costs a logarithm.
+    pub(crate) fn nth(&self, place: usize) -> NodeId
+        requires { place < length self.now }
+        ensures { slice_get self.now place ≡ Some result }
+    {
+        nth_among(&self.slots, place)
+    }
+
+    /// At which place a node stands, where the nodes are in order on one complete level. It is found by halves: as many nodes as
+    /// a logarithm are looked up and compared.
+    pub(crate) fn place_of<A: Kept>(&self, forest: &Forest<A>, node: NodeId) -> usize
+        requires order { AreInOrder forest.now self.now }
+        requires among { In node self.now }
+        ensures { slice_get self.now result ≡ Some node }
+    {
+        let mut first = 0;
+        let mut end = self.left;
+        while first < end {
+            let middle = first + (end - first) / 2;
+            if forest.is_before(self.nth(middle), node) {
+                first = middle + 1;
+            } else {
+                end = middle;
+            }
+        }
+        first
+    }
+
+    /// Takes the node at a place off. It costs a logarithm, and takes no memory.
+    pub(crate) fn take(&mut self, place: usize)
+        requires { place < length self.old }
+        ensures { self.new ≡ remove self.old place }
+    {
+        take_among(&mut self.slots, place);
+        self.left -= 1;
+    }
+}
+
+/// Slots of these nodes, of which none is gone.
+fn slots_of(alloc: Global, nodes: &[NodeId]) -> Result<Vec<Slot>, AllocError>
+    ensures { IfOk result (λ slots. slots.items ≡ map slot_of nodes.now) }
+{
+    nodes
+        .iter()
+        .map(|node| Slot {
+            node: Some(*node),
+            gone: 0,
+        })
+        .collect(alloc)
+}
+
+/// The node at a place among those that a part has left.
+fn nth_among(part: &[Slot], place: usize) -> NodeId
+    requires counted { AreCounted part.now }
+    requires within { place < length (those_left part.now) }
+    ensures { slice_get (those_left part.now) place ≡ Some result }
+{
+    let middle = part.len() / 2;
+    let slot = part[middle];
+    let before = middle - slot.gone;
+    if place < before {
+        return nth_among(&part[..middle], place);
+    }
+    match slot.node {
+        Some(node) if place == before => node,
+        Some(_) => nth_among(&part[middle + 1..], place - before - 1),
+        None => nth_among(&part[middle + 1..], place - before),
+    }
+}
+
+/// Takes the node at a place off those that a part has left.
+fn take_among(part: &mut [Slot], place: usize)
+    requires counted { AreCounted part.old }
+    requires within { place < length (those_left part.old) }
+    ensures counted { AreCounted part.new }
+    ensures left { those_left part.new ≡ remove (those_left part.old) place }
+{
+    let middle = part.len() / 2;
+    let slot = part[middle];
+    let before = middle - slot.gone;
+    if place < before {
+        part[middle].gone += 1;
+        return take_among(&mut part[..middle], place);
+    }
+    match slot.node {
+        Some(_) if place == before => part[middle].node = None,
+        Some(_) => take_among(&mut part[middle + 1..], place - before - 1),
+        None => take_among(&mut part[middle + 1..], place - before),
+    }
+}
