@@ -1,5 +1,5 @@
 -- An edit by a pass.
-use Rattle.std.proofs.Common.{◌≡◌, ◌≢◌, ℕ, zero, suc, ◌+◌, ◌*◌, ◌-◌, ◌≤◌, ◌<◌, ◌^◌, List, [], ◌∷◌, ◌++◌, length, Option, Some, None, Result, Ok, Err, refl, ap, sym, ◌∙◌, subst, arith, IfSome, OnErr, slice_get}
+use Rattle.std.proofs.Common.{◌≡◌, ◌≢◌, ℕ, zero, suc, ◌+◌, ◌*◌, ◌-◌, ◌≤◌, ◌<◌, ◌^◌, List, [], ◌∷◌, ◌++◌, length, Option, Some, None, Result, Ok, Err, refl, ap, sym, ◌∙◌, subst, arith, OnErr}
 use Rattle.std.specs.Prelude.{IsSome}
 use Rattle.std.proofs.lemmas.List.{length-append}
 use Rattle.lsys_spec.specs.Systems.{System, WellSpelled}
@@ -15,7 +15,6 @@ use Rattle.lsys_forest.specs.Nodes.{Node, Nodes}
 use Rattle.lsys_forest.specs.Changes.{undone}
 use Rattle.lsys_forest.specs.Groves.{In, ReachedIn, Reached, changes_in}
 use Rattle.lsys_forest.proofs.SoundLemmas.{AreSound-now}
-use Rattle.lsys_forest.proofs.WalkLemmas.{get_In}
 use Rattle.lsys_kept.specs.Lineages.{kins}
 use Rattle.lsys_kept.specs.Meant.{levels_or_none, meant}
 use Rattle.lsys_pass.specs.declared.state.PassState.{PassState}
@@ -31,10 +30,6 @@ use Rattle.lsys_pass.proofs.Closing.{extends}
 use Rattle.lsys_pass.proofs.Visiting.{stepped_visits, visits_first, finished_visits, renewed_few, renewed_fewer, visits_few, visits_fewer}
 
 -- 1. lists and states
-
-pub last_among : (o : Option ℕ) (xs ys : List ℕ) → o ≡ slice_get xs (length xs - 1) → xs ≡ ys → IfSome o (λ k. In k ys)
-last_among None xs ys e f = tt
-last_among (Some k) xs ys e f = subst (In k) f (get_In xs (length xs - 1) k (sym e))
 
 pub on_err : {A E P : Type 0} (r : Result A E) → P → OnErr r P
 on_err (Ok a) h = tt

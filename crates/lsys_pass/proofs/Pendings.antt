@@ -213,13 +213,14 @@ module _ (v w : PassView) (t : ℕ) (h : IsPass v) (beside readers others : List
       pub goes_at : Goes (stage_of w) (stage_of (after v g d dropped seats pending)) t
       goes_at = subst (λ (z : PassView). Goes (stage_of z) (stage_of (after v g d dropped seats pending)) t) x.is (goes v t h beside readers f others o g d.bare dropped l seats same keeps pending)
 
-      pub asked_at : ((k : ℕ) → In k pending ↔ (AsksOn s t (now_of g) k × MayBeAsked d beside readers these k)) → AreApart pending → AreInOrder g pending
+      pub asked_at : (asked : List ℕ) → pending ≡ asked → ((k : ℕ) → In k asked ↔ (AsksOn s t (now_of g) k × MayBeAsked d beside readers these k)) → AreApart asked → AreInOrder g asked
           → t < w.next.depth → t < 2 ^ 32 → IsToAsk (after v g d dropped seats pending) t
-      asked_at are once order below small =
-          subst (λ (y : Differences). IsToAsk (after v g y dropped seats pending) t) (sym but_bare)
-          (is_to_ask v t h beside readers f others o g d.bare dropped l pending these_are once order seats same keeps (subst (λ (z : PassView). t < z.next.depth) (sym x.is) below) small)
+      asked_at asked filled are once order below small =
+          subst (λ (ps : List ℕ). IsToAsk (after v g d dropped seats ps) t) (sym filled)
+          (subst (λ (y : Differences). IsToAsk (after v g y dropped seats asked) t) (sym but_bare)
+          (is_to_ask v t h beside readers f others o g d.bare dropped l asked these_are once order seats same keeps (subst (λ (z : PassView). t < z.next.depth) (sym x.is) below) small))
         where
-          these_are : (k : ℕ) → In k pending ↔ (AsksOn v.next t (now_of g) k × MayBeAsked v.front beside readers others k)
+          these_are : (k : ℕ) → In k asked ↔ (AsksOn v.next t (now_of g) k × MayBeAsked v.front beside readers others k)
           these_are k = (
             λ i. (let u = (are k).0 i in (subst (λ (y : System). AsksOn y t (now_of g) k) x.system u.0, may_same k u.1)),
             λ u. (are k).1 (subst (λ (y : System). AsksOn y t (now_of g) k) (sym x.system) u.0, may_too k u.1),

@@ -63,7 +63,8 @@ impl<L: Ledger> Pass<L> {
             found,
             &others,
         )?;
-        self.work.pending.set(&pending)
+        self.work.pending.set(&pending)?;
+        Ok(())
     }
 
     /// The nodes of a level that are modules with other rules than at the last rest; all of its nodes, where there were no

@@ -18,8 +18,8 @@ invariant_of-self g c =
     after_failed _ c.lose.new.forest c.lose.new.self c.lose.new.dropped.items c.self.inside.seats c.self.inside.work.pending c.self.invariant (ap (λ (v : PassView). v.state) c.self.view_is ∙ c.requires.failed)
     c.lose.ensures.sound c.lose.ensures.only c.self.invariant.unmarked (λ k. refl) (λ k i. i)
 
-pub asked-pending-requires-clause-level : goal.asked-pending-requires-clause-level
-asked-pending-requires-clause-level g c =
+pub asked-requires-clause-level : goal.asked-requires-clause-level
+asked-requires-clause-level g c =
     together_at _ c.args.self.now c.args.level c.self.invariant c.args.found.now.beside.items c.args.found.now.readers.items c.in_ok-others.others.items c.target-system.result.now c.deref.result.now c.lose.new.forest c.lose.new.self c.lose.new.dropped.items (record {
       is = c.self.view_is;
       found = c.requires.found;
@@ -33,8 +33,8 @@ asked-pending-requires-clause-level g c =
       turned = c.lose.ensures.turned;
     }) c.deref-2.result.now c.deref-2.ensures.value c.requires.few
 
-pub asked-pending-requires-clause-room : goal.asked-pending-requires-clause-room
-asked-pending-requires-clause-room g c = λ k m.
+pub asked-requires-clause-room : goal.asked-requires-clause-room
+asked-requires-clause-room g c = λ k m.
     seats_at _ c.args.self.now c.args.level c.self.invariant c.args.found.now.beside.items c.args.found.now.readers.items c.in_ok-others.others.items c.target-system.result.now c.deref.result.now c.lose.new.forest c.lose.new.self c.lose.new.dropped.items (record {
       is = c.self.view_is;
       found = c.requires.found;
@@ -48,15 +48,20 @@ asked-pending-requires-clause-room g c = λ k m.
       turned = c.lose.ensures.turned;
     }) c.deref-2.result.now c.deref-2.ensures.value k m
 
-pub invariant_of-self-in_err-self-inside : goal.invariant_of-self-in_err-self-inside
-invariant_of-self-in_err-self-inside g c =
-    after_failed _ c.lose.new.forest c.lose.new.self c.lose.new.dropped.items c.asked-pending.new.seats c.self.inside.work.pending c.self.invariant (ap (λ (v : PassView). v.state) c.self.view_is ∙ c.requires.failed)
-    c.lose.ensures.sound c.lose.ensures.only c.asked-pending.ensures.clear c.asked-pending.ensures.seats c.asked-pending.ensures.keeps
+pub invariant_of-self-in_err-pending : goal.invariant_of-self-in_err-pending
+invariant_of-self-in_err-pending g c =
+    after_failed _ c.lose.new.forest c.lose.new.self c.lose.new.dropped.items c.asked.new.seats c.self.inside.work.pending c.self.invariant (ap (λ (v : PassView). v.state) c.self.view_is ∙ c.requires.failed)
+    c.lose.ensures.sound c.lose.ensures.only c.asked.ensures.clear c.asked.ensures.seats c.asked.ensures.keeps
+
+pub invariant_of-self-in_err-set : goal.invariant_of-self-in_err-set
+invariant_of-self-in_err-set g c =
+    after_failed _ c.lose.new.forest c.lose.new.self c.lose.new.dropped.items c.asked.new.seats c.set.new.self c.self.invariant (ap (λ (v : PassView). v.state) c.self.view_is ∙ c.requires.failed)
+    c.lose.ensures.sound c.lose.ensures.only c.asked.ensures.clear c.asked.ensures.seats c.asked.ensures.keeps
 
 pub invariant_of-self-2 : goal.invariant_of-self-2
 invariant_of-self-2 g c =
-    after_failed _ c.lose.new.forest c.lose.new.self c.lose.new.dropped.items c.asked-pending.new.seats c.in_ok-self-inside.field-0.items c.self.invariant (ap (λ (v : PassView). v.state) c.self.view_is ∙ c.requires.failed)
-    c.lose.ensures.sound c.lose.ensures.only c.asked-pending.ensures.clear c.asked-pending.ensures.seats c.asked-pending.ensures.keeps
+    after_failed _ c.lose.new.forest c.lose.new.self c.lose.new.dropped.items c.asked.new.seats c.set.new.self c.self.invariant (ap (λ (v : PassView). v.state) c.self.view_is ∙ c.requires.failed)
+    c.lose.ensures.sound c.lose.ensures.only c.asked.ensures.clear c.asked.ensures.seats c.asked.ensures.keeps
 
 pub returns-clause-rows : goal.returns-clause-rows
 returns-clause-rows g c = λ u less.
@@ -72,7 +77,7 @@ returns-clause-rows g c = λ u less.
       changes = c.lose.ensures.changes;
       turned = c.lose.ensures.turned;
     })
-    c.deref-2.result.now c.deref-2.ensures.value c.asked-pending.new.seats c.asked-pending.ensures.seats c.asked-pending.ensures.keeps c.in_ok-self-inside.field-0.items u
+    c.deref-2.result.now c.deref-2.ensures.value c.asked.new.seats c.asked.ensures.seats c.asked.ensures.keeps c.set.new.self u
 
 pub returns-clause-goes : goal.returns-clause-goes
 returns-clause-goes g c =
@@ -88,7 +93,7 @@ returns-clause-goes g c =
       changes = c.lose.ensures.changes;
       turned = c.lose.ensures.turned;
     })
-    c.deref-2.result.now c.deref-2.ensures.value c.asked-pending.new.seats c.asked-pending.ensures.seats c.asked-pending.ensures.keeps c.in_ok-self-inside.field-0.items
+    c.deref-2.result.now c.deref-2.ensures.value c.asked.new.seats c.asked.ensures.seats c.asked.ensures.keeps c.set.new.self
 
 pub returns-clause-asked : goal.returns-clause-asked
 returns-clause-asked g c =
@@ -104,5 +109,5 @@ returns-clause-asked g c =
       changes = c.lose.ensures.changes;
       turned = c.lose.ensures.turned;
     })
-    c.deref-2.result.now c.deref-2.ensures.value c.asked-pending.new.seats c.asked-pending.ensures.seats c.asked-pending.ensures.keeps c.in_ok-self-inside.field-0.items c.in_ok-pending.ensures.are c.in_ok-pending.ensures.once
-    c.in_ok-pending.ensures.order c.requires.below c.requires.few
+    c.deref-2.result.now c.deref-2.ensures.value c.asked.new.seats c.asked.ensures.seats c.asked.ensures.keeps c.set.new.self c.in_ok-pending.pending.items (c.in_ok-set.ensures.ok ∙ c.deref-3.ensures.value)
+    c.in_ok-pending.ensures.are c.in_ok-pending.ensures.once c.in_ok-pending.ensures.order c.requires.below c.requires.few

@@ -1,7 +1,9 @@
-use Rattle.std.proofs.Common.{ap, ◌∙◌}
+use Rattle.std.proofs.Common.{subst}
+use Rattle.lsys_forest.specs.Groves.{In}
+use Rattle.lsys_forest.proofs.WalkLemmas.{get_In}
 use Rattle.lsys_pass.specs.Passes.{PassView}
-use Rattle.lsys_pass.proofs.Editing.{last_among}
 use Rattle.lsys_pass.proofs.pass.Pass.last_pending.Goals as goal
 
-pub returns-clause-some : goal.returns-clause-some
-returns-clause-some g c = last_among _ _ _ (c.copied.ensures ∙ c.last.ensures.value) (c.deref.ensures.value ∙ ap (λ (v : PassView). v.pending) c.self.view_is)
+pub returns-in_default-clause-some : goal.returns-in_default-clause-some
+returns-in_default-clause-some g c =
+    subst (λ (v : PassView). In c.nth.result v.pending) c.self.view_is (get_In c.self.inside.work.pending _ c.nth.result c.nth.ensures)
