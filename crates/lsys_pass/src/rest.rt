@@ -12,7 +12,7 @@ use std::sync::ledger::Ledger;
 
 impl<L: Ledger> Pass<L> {
     /// The forest, in which at rest the levels stand. It costs no step.
-    pub(crate) fn forest(&self) -> &Forest<KeptAnswer<L>>
+    pub fn forest(&self) -> &Forest<KeptAnswer<L>>
         ensures forest { result.now ≡ self.now.forest }
         ensures pass { IsPass self.now }
     {
@@ -20,7 +20,7 @@ impl<L: Ledger> Pass<L> {
     }
 
     /// The system of the last rest. It costs no step.
-    pub(crate) fn system(&self) -> &System
+    pub fn system(&self) -> &System
         ensures system { result.now ≡ self.now.system }
         ensures pass { IsPass self.now }
     {
