@@ -1,5 +1,4 @@
 //! Edits, each with its reply.
-ghost use Rattle.std.specs.Prelude.{◌≡◌};
 
 use crate::scripts::has_replies;
 use std::test::Fail;

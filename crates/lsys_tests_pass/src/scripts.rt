@@ -1,7 +1,7 @@
 //! Scripts whose edits a pass makes.
-ghost use Rattle.std.specs.Prelude.{◌≡◌, ◌≢◌, ◌<◌, [], length, OnOk, OnErr};
-ghost use Rattle.lsys_pass.specs.declared.state.PassState.TheVariants.{Rest, Done};
-ghost use Rattle.lsys_pass.specs.Moves.{AtLevel, IsNext};
+ghost use Rattle.std.specs.Prelude.{◌≡◌, ◌<◌, [], OnOk};
+ghost use Rattle.lsys_pass.specs.declared.state.PassState.TheVariants.{Rest};
+ghost use Rattle.lsys_pass.specs.Moves.{AtLevel};
 
 use crate::orders::Order;
 use lsys_io::{Buffered, MemorySink};
@@ -98,8 +98,17 @@ fn edit<L: Ledger, V: Ledger>(
 fn reply(alloc: Global, edited: Result<EditCount, DeriveRefusal>) -> Result<String, AllocError> {
     match edited {
         Ok(count) => format!(in alloc; "ok {}/{}", count.asked, count.questions),
-        Err(DeriveRefusal::Fault { kind, level, module }) => {
-            format!(in alloc; "refused fault {} level {level} module {module}", kind.word())
+        Err(
+            DeriveRefusal::Fault {
+                kind,
+                level,
+                module,
+            },
+        ) => {
+            format!(in alloc;
+                "refused fault {} level {level} module {module}",
+                kind.word()
+            )
         }
         Err(DeriveRefusal::Limit { level }) => format!(in alloc; "refused limit level {level}"),
         Err(DeriveRefusal::Memory) => Err(AllocError),
@@ -160,7 +169,14 @@ fn is_played<L: Ledger, V: Ledger>(
     let mut pass = Pass::<L>::new(alloc, 1000)?;
     let mut order = order;
     for (line, reply) in script {
-        let found = answered(alloc, &mut pass, *line, &mut order, &mut asked, &mut visited)?;
+        let found = answered(
+            alloc,
+            &mut pass,
+            *line,
+            &mut order,
+            &mut asked,
+            &mut visited,
+        )?;
         assert!(rt; found.as_slice() == reply.as_bytes(), "{line:?}");
     }
     Ok(())
@@ -172,7 +188,11 @@ pub(crate) fn has_replies(
     alloc: Global,
     script: &[(&str, &str)],
 ) -> Result<(), Fail> {
-    for order in [Order::FromLeft, Order::FromRight, Order::ByChance(88172645463325252)] {
+    for order in [
+        Order::FromLeft,
+        Order::FromRight,
+        Order::ByChance(88172645463325252),
+    ] {
         is_played::<Brand, Brand>(rt, alloc, script, order, Blank::new(1), Blank::new(1))?;
     }
     Ok(())
