@@ -1,6 +1,9 @@
 -- Nodes by their numbers.
 use Rattle.std.proofs.Common.{◌≡◌, ◌≢◌, ◌+◌, ◌≤◌, ◌||◌, ◌&&◌, ℕ, zero, suc, Bool, true, false, not, List, [], ◌∷◌, ◌++◌, length, map, take, slice_get, Option, Some, None, refl, sym, ap, ◌∙◌, arith, inl, inr, subst}
 use Rattle.std.specs.Prelude.{cond, is_some, nat_eq, IsSome}
+use Rattle.std.specs.Map.{lookup}
+use Rattle.std.specs.HashMap.{HashMap, get, hash_map_len}
+use Rattle.std.proofs.Math.Bool.{or-true}
 use Rattle.std.proofs.lemmas.Bool.{cases_eq, eq-eqb, ne_eqb}
 use Rattle.std.proofs.lemmas.Option.{none-some}
 use Rattle.lsys_brood.specs.declared.number.Number.{Number}
@@ -147,6 +150,15 @@ module _ {A : Type 0} where
       ap (λ b. cond b (x ∷ nodes_where f m xs) (nodes_where f m xs)) (h x (inl refl))
       ∙ ap (λ l. cond (g (number_of m x)) (x ∷ l) l) (where_same f g m xs (λ k i. h k (inr i)))
 
+  pub where_in : (test : Number → Bool) (m : Nodes A) (xs : List ℕ) (k : ℕ) → In k (nodes_where test m xs) → In k xs
+  where_in test m [] k h = h
+  where_in test m (x ∷ xs) k h = by (test (number_of m x)) (where_in test m xs k) h
+    where
+      by : (b : Bool) → (In k (nodes_where test m xs) → In k xs) → In k (cond b (x ∷ nodes_where test m xs) (nodes_where test m xs)) → In k (x ∷ xs)
+      by true f (inl e) = inl e
+      by true f (inr i) = inr (f i)
+      by false f i = inr (f i)
+
   -- what is found, and what is left
   pub matched : (m : Nodes A) (ks : List ℕ) (qs : List Number) (before after : Number → Option ℕ) (found : List (Option ℕ)) (gone : List ℕ)
       → ((q : Number) → before q ≡ node_numbered m ks q) → found ≡ map before qs → ((q : Number) → after q ≡ cond (has_number qs q) None (before q))
@@ -208,3 +220,82 @@ taken_next first now next qs at x found result apart here was is left = record {
       ∙ ap (λ b. cond b None (first q)) (sym (has_push (take at qs) x q))
       ∙ ap (λ l. cond (has_number l q) None (first q)) (sym (take_next qs at x here));
 }
+
+-- 5. nodes that have the numbers that are wanted, in order
+
+none_behind : (o : Option ℕ) → some_or o None ≡ o
+none_behind None = refl
+none_behind (Some k) = refl
+
+module _ {A : Type 0} where
+  numbered_none : (m : Nodes A) (xs : List ℕ) (q : Number) → has_number (map (number_of m) xs) q ≡ false → node_numbered m xs q ≡ None
+  numbered_none m [] q h = refl
+  numbered_none m (x ∷ xs) q h =
+      let o = or_false (same_number (number_of m x) q) (has_number (map (number_of m) xs) q) h in
+      ap (λ u. some_or u (cond (same_number (number_of m x) q) (Some x) None)) (numbered_none m xs q o.1)
+      ∙ ap (λ b. cond b (Some x) None) o.0
+
+  found_behind : (m : Nodes A) (k : ℕ) (ks : List ℕ) (qs : List Number) → has_number qs (number_of m k) ≡ false → map (node_numbered m (k ∷ ks)) qs ≡ map (node_numbered m ks) qs
+  found_behind m k ks [] h = refl
+  found_behind m k ks (q ∷ qs) h =
+      let o = or_false (same_number q (number_of m k)) (has_number qs (number_of m k)) h in
+      let e : node_numbered m (k ∷ ks) q ≡ node_numbered m ks q =
+      ap (λ b. some_or (node_numbered m ks q) (cond b (Some k) None)) (same_sym (number_of m k) q ∙ o.0)
+      ∙ none_behind (node_numbered m ks q) in
+      ap (λ u. u ∷ map (node_numbered m (k ∷ ks)) qs) e ∙ ap (λ l. node_numbered m ks q ∷ l) (found_behind m k ks qs o.1)
+
+  found_same : (m : Nodes A) (ks : List ℕ) → AreApart (map (number_of m) ks) → map (node_numbered m ks) (map (number_of m) ks) ≡ map Some ks
+  found_same m [] a = refl
+  found_same m (k ∷ ks) a =
+      let q = number_of m k in
+      let here : node_numbered m (k ∷ ks) q ≡ Some k =
+      ap (λ u. some_or u (cond (same_number q q) (Some k) None)) (numbered_none m ks q a.0)
+      ∙ ap (λ b. cond b (Some k) None) (same_self q) in
+      ap (λ u. u ∷ map (node_numbered m (k ∷ ks)) (map (number_of m) ks)) here
+      ∙ ap (λ l. Some k ∷ l) (found_behind m k ks (map (number_of m) ks) a.0 ∙ found_same m ks a.1)
+
+  has_own : (m : Nodes A) (xs : List ℕ) (k : ℕ) → In k xs → has_number (map (number_of m) xs) (number_of m k) ≡ true
+  has_own m [] k h = absurd h
+  has_own m (x ∷ xs) k (inl e) =
+      ap (λ y. same_number (number_of m y) (number_of m k) || has_number (map (number_of m) xs) (number_of m k)) (sym e)
+      ∙ ap (λ b. b || has_number (map (number_of m) xs) (number_of m k)) (same_self (number_of m k))
+  has_own m (x ∷ xs) k (inr i) =
+      ap (λ b. same_number (number_of m x) (number_of m k) || b) (has_own m xs k i)
+      ∙ or-true (same_number (number_of m x) (number_of m k))
+
+  none_without : (m : Nodes A) (qs : List Number) (xs : List ℕ) → ((k : ℕ) → In k xs → has_number qs (number_of m k) ≡ true) → nodes_without m qs xs ≡ []
+  none_without m qs [] h = refl
+  none_without m qs (x ∷ xs) h =
+      ap (λ b. cond (not b) (x ∷ nodes_without m qs xs) (nodes_without m qs xs)) (h x (inl refl))
+      ∙ none_without m qs xs (λ k i. h k (inr i))
+
+  -- all are found, and none is left
+  pub same_matched : (m : Nodes A) (ks : List ℕ) (qs : List Number) (found : List (Option ℕ)) (gone : List ℕ)
+      → AreApart qs → map (number_of m) ks ≡ qs → found ≡ map Some ks → gone ≡ [] → same_match found gone (match_of m ks qs)
+  same_matched m ks qs found gone apart same f g =
+      let a : AreApart (map (number_of m) ks) = subst AreApart (sym same) apart in
+      let e : found ≡ map (node_numbered m ks) qs = f ∙ sym (found_same m ks a) ∙ ap (map (node_numbered m ks)) same in
+      let h : gone ≡ nodes_without m qs ks = g ∙ sym (none_without m qs ks (λ k i. subst (λ l. has_number l (number_of m k) ≡ true) same (has_own m ks k i))) in
+      λ i. record { found = e i; gone = h i }
+
+  -- one step of the comparison
+  pub same_next : (m : Nodes A) (ks : List ℕ) (qs : List Number) (at k : ℕ) (q : Number) → slice_get ks at ≡ Some k → slice_get qs at ≡ Some q → number_of m k ≡ q
+      → map (number_of m) (take at ks) ≡ take at qs → map (number_of m) (take (at + 1) ks) ≡ take (at + 1) qs
+  same_next m ks qs at k q here there is was =
+      ap (map (number_of m)) (take_next ks at k here)
+      ∙ map_push (number_of m) (take at ks) k
+      ∙ ap (λ l. l ++ number_of m k ∷ []) was
+      ∙ ap (λ x. take at qs ++ x ∷ []) is
+      ∙ sym (take_next qs at q there)
+
+pub not_false : (b : Bool) → not b ≡ false → b ≡ true
+not_false true h = refl
+not_false false h = sym h
+
+-- a map of nothing finds nothing
+pub nothing_found : {X S : Type 0} (m : HashMap Number X S) (q : Number) → hash_map_len m ≡ 0 → get same_number m q ≡ None
+nothing_found {X = X} m q h = by m.entries h
+  where
+    by : (xs : List (Number × X)) → length xs ≡ 0 → lookup (same_number q) xs ≡ None
+    by [] e = refl
+    by (x ∷ xs) e = absurd (omega (arith, e))

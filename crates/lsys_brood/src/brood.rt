@@ -1,5 +1,5 @@
 //! The children of a node, as they are wanted.
-ghost use Rattle.std.specs.Prelude.{◌≡◌, ◌≢◌, ◌++◌, ◌∷◌, ◌+◌, ◌≤◌, ◌^◌, ℕ, [], OnOk, OnErr, IfOk, map, cond, length, Some, None, is_some};
+ghost use Rattle.std.specs.Prelude.{◌≡◌, ◌≢◌, ◌++◌, ◌∷◌, ◌+◌, ◌≤◌, ◌^◌, ℕ, [], OnOk, OnErr, IfOk, IsTrue, map, cond, length, Some, None, is_some};
 ghost use Rattle.std.specs.HashMap.{get};
 ghost use Rattle.lsys_forest.specs.Nodes.{Node};
 ghost use Rattle.lsys_forest.specs.Groves.{Grove, In, now_of, rest_of, changes_in, kept_in, IsLive, IsSound, Spends};
@@ -67,9 +67,13 @@ impl Brood {
         ensures sound { OnOk result (IsSound forest.now.root (changes_in forest.now) (now_of forest.now)) }
     {
         let kids = forest.children(parent);
+        if have_numbers(forest, kids, wanted) {
+            return find_same(kids, &mut self.found, &mut self.gone);
+        }
         enter_all(&mut self.by_number, forest, kids)?;
         take_all(&mut self.by_number, wanted, &mut self.found)?;
         find_left(&self.by_number, forest, kids, &mut self.gone)?;
+        take_out(&mut self.by_number, forest, &self.gone);
         Ok(())
     }
 
@@ -171,6 +175,40 @@ fn number<A: Kept>(forest: &Forest<A>, node: NodeId) -> Number
     Number { code, count }
 }
 
+/// Whether these nodes have the numbers of these children, in order.
+fn have_numbers<A: Kept>(forest: &Forest<A>, kids: &[NodeId], wanted: &[Child]) -> bool
+    requires kids { (k : ℕ) → In k kids.now → IsLive forest.now k × (k ≢ forest.now.root) }
+    ensures { IsTrue result
+        → map (number_of (now_of forest.now)) kids.now ≡ numbers_of wanted.now }
+{
+    if kids.len() != wanted.len() {
+        return false;
+    }
+    for place in 0..kids.len() {
+        if number(forest, kids[place]) != wanted[place].number {
+            return false;
+        }
+    }
+    true
+}
+
+/// Finds all of these nodes, and none is left.
+fn find_same(
+    kids: &[NodeId],
+    found: &mut Vec<Option<NodeId>>,
+    gone: &mut Vec<NodeId>,
+) -> Result<(), AllocError>
+    ensures found { OnOk result (found.new.items ≡ map Some kids.now) }
+    ensures gone { gone.new.items ≡ [] }
+{
+    gone.clear();
+    found.clear();
+    for kid in kids {
+        found.push(Some(*kid))?;
+    }
+    Ok(())
+}
+
 /// Adds a node to those that are found by their numbers.
 fn enter(
     nodes: &mut HashMap<Number, NodeId>,
@@ -184,12 +222,15 @@ fn enter(
     Ok(())
 }
 
-/// Takes out the node that has this number, if there is one.
+/// Takes out the node that has this number, if there is one. Where there are no nodes it looks at nothing.
 fn take(nodes: &mut HashMap<Number, NodeId>, number: Number) -> Option<NodeId>
     ensures taken { result ≡ get same_number nodes.old number }
     ensures left { (q : Number) → get same_number nodes.new q
         ≡ cond (same_number number q) None (get same_number nodes.old q) }
 {
+    if nodes.is_empty() {
+        return None;
+    }
     nodes.remove(&number)
 }
 
@@ -200,7 +241,7 @@ fn has(nodes: &HashMap<Number, NodeId>, number: Number) -> bool
     nodes.contains_key(&number)
 }
 
-/// Enters these nodes by their numbers, and no others.
+/// Enters these nodes by their numbers, and no others. Where there are others they cost the room that they once took.
 fn enter_all<A: Kept>(
     nodes: &mut HashMap<Number, NodeId>,
     forest: &Forest<A>,
@@ -210,7 +251,9 @@ fn enter_all<A: Kept>(
     ensures { OnOk result ((q : Number) → get same_number nodes.new q
         ≡ node_numbered (now_of forest.now) kids.now q) }
 {
-    nodes.clear();
+    if !nodes.is_empty() {
+        nodes.clear();
+    }
     for kid in kids {
         enter(nodes, number(forest, *kid), *kid)?;
     }
@@ -252,6 +295,15 @@ fn find_left<A: Kept>(
         put_left(nodes, number(forest, *kid), *kid, gone)?;
     }
     Ok(())
+}
+
+/// Takes out these nodes by their numbers.
+fn take_out<A: Kept>(nodes: &mut HashMap<Number, NodeId>, forest: &Forest<A>, gone: &[NodeId])
+    requires gone { (k : ℕ) → In k gone.now → IsLive forest.now k × (k ≢ forest.now.root) }
+{
+    for node in gone {
+        take(nodes, number(forest, *node));
+    }
 }
 
 /// Puts a node behind the others if its number was not taken out.

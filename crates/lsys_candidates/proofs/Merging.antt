@@ -219,3 +219,33 @@ module _ {A : Type 0} (f : Grove A) (xs : List ℕ) (j : ℕ) (l : AreOnOneLevel
       λ h. elim ((same k).0 h) [ inl u ↦ in_take xs j k ((ls k).0 u) | inr u ↦ in_drop xs j k (in_rest k u) ],
       λ h. (same k).1 (elim (in_parts xs j k h) [ inl u ↦ inl ((ls k).1 u) | inr u ↦ inr ((rs k).1 (subst (In k) (sym (rest_all xs j)) u)) ]),
     )
+
+-- 6. a list that stands in order already
+
+-- each of the first ones is at a lower place than the next
+abbrev pub AreStepped : (ℕ → ℕ) → List ℕ → ℕ → Type 0
+AreStepped p xs n = (j k x : ℕ) → j + 1 < n → slice_get xs j ≡ Some k → slice_get xs (j + 1) ≡ Some x → p k < p x
+
+pub stepped_one : (p : ℕ → ℕ) (xs : List ℕ) → AreStepped p xs 1
+stepped_one p xs j k x less here next = absurd (omega (arith, less))
+
+pub stepped_next : (p : ℕ → ℕ) (xs : List ℕ) (n y z : ℕ) → AreStepped p xs n → 0 < n → slice_get xs (n - 1) ≡ Some y → slice_get xs n ≡ Some z → p y < p z → AreStepped p xs (n + 1)
+stepped_next p xs n y z h some one two before j k x less here next = elim (cases_lt (j + 1) n) [
+  | inl within ↦ h j k x within here next
+  | inr last ↦
+      let e : j + 1 ≡ n = omega (arith, less, last) in
+      let d : j ≡ n - 1 = omega (arith, e) in
+      let first : y ≡ k = same_Some y k (sym one ∙ sym (ap (slice_get xs) d) ∙ here) in
+      let second : z ≡ x = same_Some z x (sym two ∙ sym (ap (slice_get xs) e) ∙ next) in
+      subst (λ k. p k < p x) first (subst (λ x. p y < p x) second before)
+]
+
+pub all_stepped : (p : ℕ → ℕ) (xs : List ℕ) (n : ℕ) → length xs ≤ n → AreStepped p xs n → ArePlaced p xs
+all_stepped p [] n long h = tt
+all_stepped p (y ∷ []) n long h = (λ k i. absurd i, tt)
+all_stepped p (y ∷ (z ∷ zs)) n long h =
+    let first : p y < p z = h 0 y z (omega (arith, long)) refl refl in
+    let rest : ArePlaced p (z ∷ zs) = all_stepped p (z ∷ zs) (n - 1) (omega (arith, long)) (λ j k x less here next.
+    let e : suc j + 1 ≡ suc (j + 1) = omega arith in
+    h (suc j) k x (omega (arith, less)) here (ap (slice_get (y ∷ (z ∷ zs))) e ∙ next)) in
+    (λ k i. elim i [ inl e ↦ subst (λ k. p y < p k) (sym e) first | inr j ↦ omega (arith, first, rest.0 k j) ], rest)

@@ -1,5 +1,5 @@
 //! Nodes of a level in order.
-ghost use Rattle.std.specs.Prelude.{◌≡◌, ◌<◌, ◌≤◌, ◌↔◌, ◌⊎◌, ℕ, IfOk, OnOk, OnErr, Some, [], length, slice_get};
+ghost use Rattle.std.specs.Prelude.{◌≡◌, ◌<◌, ◌≤◌, ◌↔◌, ◌⊎◌, ℕ, IsTrue, IfOk, OnOk, OnErr, Some, [], length, slice_get};
 ghost use Rattle.lsys_forest.specs.Groves.{In, AreApart};
 ghost use Rattle.lsys_forest.specs.Rows.{place_of_node};
 ghost use Rattle.lsys_candidates.specs.Asks.{AreOnOneLevel, AreInOrder};
@@ -8,13 +8,55 @@ ghost use Rattle.lsys_candidates.specs.Merges.{AreMergeable, AreMerged};
 use lsys_forest::{Forest, Kept, NodeId};
 use std::alloc::{AllocError, Global};
 
-/// These nodes of one complete level, none of them twice, in the order in which they come on it. It costs comparisons by
-/// their number and its logarithm.
+/// These nodes of one complete level, none of them twice, in the order in which they come on it. Where they stand in order
+/// already it costs a comparison for each; else comparisons by their number and its logarithm.
 ///
 /// # Errors
 ///
 /// Want of memory.
 pub fn in_order<A: Kept>(
+    alloc: Global,
+    forest: &Forest<A>,
+    nodes: &[NodeId],
+) -> Result<Vec<NodeId>, AllocError>
+    requires level { AreOnOneLevel forest.now nodes.now }
+    requires apart { AreApart nodes.now }
+    ensures same { IfOk result (λ found. (k : ℕ) → In k found.items ↔ In k nodes.now) }
+    ensures order { IfOk result (λ found. AreInOrder forest.now found.items) }
+{
+    if is_in_order(forest, nodes) {
+        return copied(alloc, nodes);
+    }
+    sorted(alloc, forest, nodes)
+}
+
+/// Whether these nodes of one complete level stand in order already.
+fn is_in_order<A: Kept>(forest: &Forest<A>, nodes: &[NodeId]) -> bool
+    requires level { AreOnOneLevel forest.now nodes.now }
+    ensures { IsTrue result → AreInOrder forest.now nodes.now }
+{
+    let mut next = 1;
+    while next < nodes.len() {
+        let before = next - 1;
+        if !forest.is_before(nodes[before], nodes[next]) {
+            return false;
+        }
+        next += 1;
+    }
+    true
+}
+
+/// The same nodes once more.
+fn copied(alloc: Global, nodes: &[NodeId]) -> Result<Vec<NodeId>, AllocError>
+    ensures { IfOk result (λ found. found.items ≡ nodes.now) }
+{
+    let mut found = Vec::new(alloc);
+    found.extend_from_slice(nodes)?;
+    Ok(found)
+}
+
+/// The same as `in_order`, by halves that are merged.
+fn sorted<A: Kept>(
     alloc: Global,
     forest: &Forest<A>,
     nodes: &[NodeId],
@@ -30,8 +72,8 @@ pub fn in_order<A: Kept>(
         return Ok(found);
     }
     let half = nodes.len() / 2;
-    let left = in_order(alloc, forest, &nodes[..half])?;
-    let right = in_order(alloc, forest, &nodes[half..])?;
+    let left = sorted(alloc, forest, &nodes[..half])?;
+    let right = sorted(alloc, forest, &nodes[half..])?;
     merge(forest, &left, &right, &mut found)?;
     Ok(found)
 }

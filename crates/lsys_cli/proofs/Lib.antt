@@ -1,5 +1,6 @@
 pub mod Feeds
 pub mod Appending
+pub mod Working
 pub mod Replying
 pub mod SoFar
 pub mod Endings

@@ -8,7 +8,8 @@ use Rattle.lsys_words.specs.declared.Options.{Options}
 use Rattle.std.specs.Option.{IfSome}
 use Rattle.lsys_words.specs.Words.{HasLimit, options_by}
 use Rattle.lsys_words.proofs.Bounds.{bounded}
-use Rattle.lsys_cli.specs.Ends.{OfScript, Ends, IsWithin, WroteWithin, replies, within_limit}
+use Rattle.lsys_spec.specs.Costs.{Visits}
+use Rattle.lsys_cli.specs.Ends.{OfScript, Ends, IsWithin, Seen, WroteWithin, replies, within_limit}
 use Rattle.lsys_cli.specs.Programs.{IsComplete, OfSample, OnSample, OnScript, script_of}
 use Rattle.lsys_cli.specs.declared.status.Status.{Status}
 use Rattle.lsys_cli.specs.declared.status.Status.TheVariants.{Done, Refused, Usage, ReadFault, WriteFault, Memory, TooLong}
@@ -16,8 +17,8 @@ use Rattle.lsys_cli.specs.declared.status.Status.TheVariants.{Done, Refused, Usa
 -- 1. a sample
 
 -- but for a read fault, nothing is said of what is left
-pub other_left : (limit : ℕ) (script left left' w now : Option (List ℕ)) (status : Status) → status ≢ ReadFault → Ends limit script left w now status → Ends limit script left' w now status
-other_left limit script left left' w now status n e = record {
+pub other_left : (visits : Visits) (limit : ℕ) (script left left' : Option (List ℕ)) (w now : Seen) (status : Status) → status ≢ ReadFault → Ends visits limit script left w now status → Ends visits limit script left' w now status
+other_left visits limit script left left' w now status n e = record {
   done = e.done;
   refused = e.refused;
   memory = e.memory;
@@ -27,19 +28,19 @@ other_left limit script left left' w now status n e = record {
   no_usage = e.no_usage;
 }
 
-pub of_sample : (limit n : ℕ) (script : List ℕ) (told : Option (List ℕ)) (J U : Type 0) (left w now : Option (List ℕ)) (status : Status) → script ≡ sample n → status ≢ ReadFault
-    → told ≡ Some script → (J → U) → (((status ≡ Memory) × J) ⊎ Ends limit told left w now status)
-    → ((status ≡ Memory) × U) ⊎ ((left' : Option (List ℕ)) → Ends limit (Some (sample n)) left' w now status)
-of_sample limit n script told J U left w now status e r t k (inl h) = inl (h.0, k h.1)
-of_sample limit n script told J U left w now status e r t k (inr h) =
-    inr (λ left'. other_left limit (Some (sample n)) left left' w now status r (subst (λ s. Ends limit s left w now status) (t ∙ ap Some e) h))
+pub of_sample : (visits : Visits) (limit n : ℕ) (script : List ℕ) (told : Option (List ℕ)) (J U : Type 0) (left : Option (List ℕ)) (w now : Seen) (status : Status) → script ≡ sample n → status ≢ ReadFault
+    → told ≡ Some script → (J → U) → (((status ≡ Memory) × J) ⊎ Ends visits limit told left w now status)
+    → ((status ≡ Memory) × U) ⊎ ((left' : Option (List ℕ)) → Ends visits limit (Some (sample n)) left' w now status)
+of_sample visits limit n script told J U left w now status e r t k (inl h) = inl (h.0, k h.1)
+of_sample visits limit n script told J U left w now status e r t k (inr h) =
+    inr (λ left'. other_left visits limit (Some (sample n)) left left' w now status r (subst (λ s. Ends visits limit s left w now status) (t ∙ ap Some e) h))
 
-pub by_sample : (o : Options) (n : ℕ) (J U : Type 0) (told left w now : Option (List ℕ)) (status : Status) → o.sample ≡ Some n → (J → U)
-    → (((status ≡ Memory) × J) ⊎ ((left' : Option (List ℕ)) → Ends o.limit (Some (sample n)) left' w now status))
-    → ((status ≡ Memory) × U) ⊎ Ends o.limit (script_of o told) left w now status
-by_sample o n J U told left w now status e k (inl h) = inl (h.0, k h.1)
-by_sample o n J U told left w now status e k (inr h) =
-    let P : Option ℕ → Type 0 = λ s. Ends o.limit (elim s [ None ↦ told | Some m ↦ Some (sample m) ]) left w now status in
+pub by_sample : (visits : Visits) (o : Options) (n : ℕ) (J U : Type 0) (told left : Option (List ℕ)) (w now : Seen) (status : Status) → o.sample ≡ Some n → (J → U)
+    → (((status ≡ Memory) × J) ⊎ ((left' : Option (List ℕ)) → Ends visits o.limit (Some (sample n)) left' w now status))
+    → ((status ≡ Memory) × U) ⊎ Ends visits o.limit (script_of o told) left w now status
+by_sample visits o n J U told left w now status e k (inl h) = inl (h.0, k h.1)
+by_sample visits o n J U told left w now status e k (inr h) =
+    let P : Option ℕ → Type 0 = λ s. Ends visits o.limit (elim s [ None ↦ told | Some m ↦ Some (sample m) ]) left w now status in
     inr (subst P (sym e) (h left))
 
 -- 2. replies without `refused memory`
@@ -76,41 +77,41 @@ apart : {P : Type 0} (b : Bool) → b ≡ true → b ≡ false → P
 apart true e f = cc
 apart false e f = cc
 
-too_long : (limit : ℕ) (w now : Option (List ℕ)) (script : List ℕ) → WroteWithin limit w now script → IsWithin limit script none → (b : Bool) (h : WroteWithin limit w now script)
-    → any_memory (replies limit (whole_lines (within_limit script)) h.lines.lacks) ≡ b → IsComplete TooLong limit w now script
-too_long limit w now script x within true h e = inr (inr (refl, record { lacks = h.lines.lacks; written = h.lines.written; memories = e }))
-too_long limit w now script x (inl short) false h e = absurd (omega (arith, short, h.past))
-too_long limit w now script x (inr quit) false h e =
+too_long : (visits : Visits) (limit : ℕ) (w now : Seen) (script : List ℕ) → WroteWithin visits limit w now script → IsWithin limit script none → (b : Bool) (h : WroteWithin visits limit w now script)
+    → any_memory (replies limit (whole_lines (within_limit script)) h.lines.lacks) ≡ b → IsComplete TooLong limit w.written now.written script
+too_long visits limit w now script x within true h e = inr (inr (refl, record { lacks = h.lines.lacks; written = h.lines.written; memories = e }))
+too_long visits limit w now script x (inl short) false h e = absurd (omega (arith, short, h.past))
+too_long visits limit w now script x (inr quit) false h e =
     let same = ample limit h.lines.lacks 1 _ _ e in
     apart (any_end (replies limit (whole_lines (within_limit script)) none)) quit (ap any_end (sym same) ∙ h.lines.no_quit)
 
-pub complete : (limit : ℕ) (script : List ℕ) (left w now : Option (List ℕ)) (status : Status) → Ends limit (Some script) left w now status → status ≢ ReadFault → status ≢ WriteFault
-    → IsWithin limit script none → any_refusal (replies limit script none) ≡ false → IsComplete status limit w now script
-complete limit script left w now Done e r f within unrefused = inl refl
-complete limit script left w now Refused e r f within unrefused = apart (any_refusal (replies limit script none)) (e.refused refl).refusals unrefused
-complete limit script left w now Usage e r f within unrefused = absurd (e.no_usage refl)
-complete limit script left w now ReadFault e r f within unrefused = absurd (r refl)
-complete limit script left w now WriteFault e r f within unrefused = absurd (f refl)
-complete limit script left w now Memory e r f within unrefused = inr (inl refl)
-complete limit script left w now TooLong e r f within unrefused =
-    let h = e.too_long refl in too_long limit w now script h within (any_memory (replies limit (whole_lines (within_limit script)) h.lines.lacks)) h refl
+pub complete : (visits : Visits) (limit : ℕ) (script : List ℕ) (left : Option (List ℕ)) (w now : Seen) (status : Status) → Ends visits limit (Some script) left w now status → status ≢ ReadFault → status ≢ WriteFault
+    → IsWithin limit script none → any_refusal (replies limit script none) ≡ false → IsComplete status limit w.written now.written script
+complete visits limit script left w now Done e r f within unrefused = inl refl
+complete visits limit script left w now Refused e r f within unrefused = apart (any_refusal (replies limit script none)) (e.refused refl).refusals unrefused
+complete visits limit script left w now Usage e r f within unrefused = absurd (e.no_usage refl)
+complete visits limit script left w now ReadFault e r f within unrefused = absurd (r refl)
+complete visits limit script left w now WriteFault e r f within unrefused = absurd (f refl)
+complete visits limit script left w now Memory e r f within unrefused = inr (inl refl)
+complete visits limit script left w now TooLong e r f within unrefused =
+    let h = e.too_long refl in too_long visits limit w now script h within (any_memory (replies limit (whole_lines (within_limit script)) h.lines.lacks)) h refl
 
 -- 4. by the words
 
 pub limit_of : (words : List (List ℕ)) (o : Options) → Some o ≡ options_by words → HasLimit o
 limit_of words o e = subst (λ (p : Option Options). IfSome p HasLimit) (sym e) (bounded words)
 
-pub completes : (words : List (List ℕ)) (o : Options) (told left w now : Option (List ℕ)) (status : Status) (U : Type 0) → Some o ≡ options_by words
-    → ((status ≡ Memory) × U) ⊎ Ends o.limit (script_of o told) left w now status → status ≢ ReadFault → status ≢ WriteFault
-    → OnScript (options_by words) told (λ limit script. IsWithin limit script none → any_refusal (replies limit script none) ≡ false → IsComplete status limit w now script)
-completes words o told left w now status U e h r f =
-    subst (λ (p : Option Options). OnScript p told (λ limit script. IsWithin limit script none → any_refusal (replies limit script none) ≡ false → IsComplete status limit w now script)) e (at (script_of o told) h)
+pub completes : (visits : Visits) (words : List (List ℕ)) (o : Options) (told left : Option (List ℕ)) (w now : Seen) (status : Status) (U : Type 0) → Some o ≡ options_by words
+    → ((status ≡ Memory) × U) ⊎ Ends visits o.limit (script_of o told) left w now status → status ≢ ReadFault → status ≢ WriteFault
+    → OnScript (options_by words) told (λ limit script. IsWithin limit script none → any_refusal (replies limit script none) ≡ false → IsComplete status limit w.written now.written script)
+completes visits words o told left w now status U e h r f =
+    subst (λ (p : Option Options). OnScript p told (λ limit script. IsWithin limit script none → any_refusal (replies limit script none) ≡ false → IsComplete status limit w.written now.written script)) e (at (script_of o told) h)
   where
-    at : (s : Option (List ℕ)) → ((status ≡ Memory) × U) ⊎ Ends o.limit s left w now status
-        → OfScript s (λ script. IsWithin o.limit script none → any_refusal (replies o.limit script none) ≡ false → IsComplete status o.limit w now script)
+    at : (s : Option (List ℕ)) → ((status ≡ Memory) × U) ⊎ Ends visits o.limit s left w now status
+        → OfScript s (λ script. IsWithin o.limit script none → any_refusal (replies o.limit script none) ≡ false → IsComplete status o.limit w.written now.written script)
     at None k = tt
     at (Some script) (inl k) = λ within unrefused. inr (inl k.0)
-    at (Some script) (inr k) = complete o.limit script left w now status k r f
+    at (Some script) (inr k) = complete visits o.limit script left w now status k r f
 
 -- 5. no memory to begin with
 

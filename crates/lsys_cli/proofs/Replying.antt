@@ -1,5 +1,5 @@
 -- A reply that was put is that of the whole line, its CR still there.
-use Rattle.std.proofs.Common.{◌≡◌, ◌==◌, ◌∷◌, if◌then◌else◌, ◌≤◌, ◌<◌, ◌&&◌, not, ℕ, Bool, true, false, Option, Some, None, Ok, Err, List, [], ◌++◌, length, codes, refl, ap, sym, ◌∙◌, subst, arith}
+use Rattle.std.proofs.Common.{◌≡◌, ◌==◌, ◌∷◌, if◌then◌else◌, ◌≤◌, ◌<◌, ◌&&◌, not, ℕ, Bool, true, false, Option, None, Ok, Err, List, [], ◌++◌, length, codes, refl, ap, sym, ◌∙◌, subst, arith}
 use Rattle.std.specs.Io.KnownBytes.{Appends}
 use Rattle.std.proofs.lemmas.Bool.Decides.{nat_tests}
 use Rattle.lsys_io.specs.Writes.{AppendsFront}
@@ -9,28 +9,35 @@ use Rattle.lsys_syntax.specs.Lines.{without_cr}
 use Rattle.lsys_syntax.specs.Limits.{most_line_bytes}
 use Rattle.lsys_spec.specs.Refusals.{Reply, line_feed, refused, is_long, is_passed_over}
 use Rattle.lsys_spec.specs.Replies.{bare_reply, bare_spelled}
-use Rattle.lsys_desks.specs.Desks.{Desk, DeskLine, DeskReply, answered, bare_asks, desk_memory_or, desk_reply, desk_reply_or_memory, reply_by}
+use Rattle.lsys_desks.specs.Desks.{Desk, DeskLine, DeskReply, answered, bare_asks, desk_memory_or, desk_reply_or_memory, reply_by}
 use Rattle.lsys_session.specs.Answers.{may_lack, refuses, lacks_memory, ends_session}
-use Rattle.lsys_desk.specs.Answers.{Answers, answer_or_memory, line_answer}
-use Rattle.lsys_cli.specs.Runs.{AnswersLong}
+use Rattle.lsys_spec.specs.Costs.{Visits}
+use Rattle.lsys_laws.specs.Sessions.{HasLevels}
+use Rattle.lsys_desks.specs.Costs.{desk_line_cost, line_leads}
+use Rattle.lsys_session.specs.Answers.{Counters}
+use Rattle.lsys_desk.specs.Answers.{Answers, TellsLead, answer_or_memory, is_led, leads_to, line_answer}
+use Rattle.lsys_cli.specs.Ends.{Seen, Worked}
+use Rattle.lsys_cli.specs.Runs.{AnswersLong, CountsLine}
 use Rattle.lsys_session.specs.declared.outcome.Outcome.{Outcome}
 use Rattle.lsys_cli.proofs.Appending.{goes_out}
+use Rattle.lsys_cli.proofs.Working.{leads_nowhere, leads_same, long_cost, stays_worked, worked_line}
 
 -- the reply to a whole line, or `refused memory`
 pub record IsReply (limit : ℕ) (d : Desk) (line : List ℕ) (lacks : Bool) (r : DeskReply) : Type 0 where
   pub is : r ≡ desk_reply_or_memory limit lacks d line
   pub honest : lacks ≡ true → r.reply.is_memory ≡ true
 
--- it was put, and its desk is kept
-pub record Replied (limit : ℕ) (d : Desk) (line : List ℕ) (old now : Option (List ℕ)) (after : Desk) (o : Outcome) : Type 0 where
+-- it was put, its desk is kept, and the counters rose within its cost
+pub record Replied (visits : Visits) (limit : ℕ) (d : Desk) (line : List ℕ) (old now : Seen) (after : Desk) (o : Outcome) : Type 0 where
   pub lacks : Bool
   pub answer : DeskReply
   pub is : IsReply limit d line lacks answer
-  pub put : Appends old now answer.reply.text
+  pub put : Appends old.written now.written answer.reply.text
   pub next : after ≡ answer.next
   pub refusal : answer.reply.is_refusal ≡ refuses o
   pub memory : answer.reply.is_memory ≡ lacks_memory o
   pub ends : answer.reply.ends ≡ ends_session o
+  pub worked : HasLevels limit d.system → Worked limit (desk_line_cost visits limit lacks d line) old.counters now.counters
 
 -- the sink failed at it
 pub record Broke (limit : ℕ) (d : Desk) (line : List ℕ) (old now : Option (List ℕ)) : Type 0 where
@@ -51,6 +58,9 @@ without_cr_short (b ∷ c ∷ bytes) = omega (arith, without_cr_short (c ∷ byt
 short : (line : List ℕ) → length line ≤ most_line_bytes → is_long line ≡ false
 short line h = grind (arith, nat_tests)
 
+bare_short : (line : List ℕ) → length line ≤ most_line_bytes → is_long (without_cr line) ≡ false
+bare_short line h = short (without_cr line) (omega (arith, h, without_cr_short line))
+
 -- a line that isn't long, and what is told of it
 bare_at : (limit : ℕ) (d : Desk) (lacks long long' passed : Bool) (asks : Option DeskLine) (r whole : Reply) (spelled : Option Command) → long ≡ false → long' ≡ false
     → desk_memory_or (lacks && (not long' && not passed)) d (reply_by limit d (elim long' [ true ↦ None | false ↦ asks ]) (elim long' [ true ↦ r | false ↦ whole ]) (elim long' [ true ↦ None | false ↦ spelled ]))
@@ -70,18 +80,19 @@ pub told_reply : (limit : ℕ) (d : Desk) (line bare : List ℕ) (lacks : Bool) 
 told_reply limit d line bare lacks r h b e = record {
   is =
       let not_long : is_long line ≡ false = short line h in
-      let bare_short : is_long (without_cr line) ≡ false = short (without_cr line) (omega (arith, h, without_cr_short line)) in
       let P : List ℕ → Type 0 = λ t. r ≡ desk_reply_or_memory limit (lacks && may_lack t) d line in
       subst P (sym b) (e ∙ ap (λ t. answer_or_memory limit d t lacks) b
       ∙ bare_at limit d lacks (is_long line) (is_long (without_cr line)) (is_passed_over (without_cr line)) (bare_asks (without_cr line)) (refused d.system (codes "syntax long"))
-      (bare_reply limit d.system (without_cr line)) (bare_spelled (without_cr line)) not_long bare_short);
+      (bare_reply limit d.system (without_cr line)) (bare_spelled (without_cr line)) not_long (bare_short line h));
   honest = is_honest (lacks && may_lack bare) d r (line_answer limit d bare) e;
 }
 
+long : (line : List ℕ) → most_line_bytes < length line → is_long line ≡ true
+long line h = grind (arith, nat_tests)
+
 pub long_reply : (limit : ℕ) (d : Desk) (line : List ℕ) → most_line_bytes < length line → IsReply limit d line false (answered (refused d.system (codes "syntax long")) d)
 long_reply limit d line h =
-    let long : is_long line ≡ true = grind (arith, nat_tests) in
-    record { is = go (is_long line) long; honest = λ e. cc }
+    record { is = go (is_long line) (long line h); honest = λ e. cc }
   where
     go : (b : Bool) → b ≡ true → answered (refused d.system (codes "syntax long")) d
         ≡ reply_by limit d (elim b [ true ↦ None | false ↦ bare_asks (without_cr line) ]) (elim b [ true ↦ refused d.system (codes "syntax long") | false ↦ bare_reply limit d.system (without_cr line) ])
@@ -89,10 +100,11 @@ long_reply limit d line h =
     go true e = refl
     go false e = cc
 
--- what a desk said of a line that is told
-pub told_line : {K : Type 0} (written : K → Option (List ℕ)) (faults : K → ℕ) (sink sink' : K) (held : List ℕ) (limit : ℕ) (d after : Desk) (line bare : List ℕ) (o : Outcome)
-    → length line ≤ most_line_bytes → bare ≡ without_cr line → Answers written faults sink sink' held limit d after bare (Ok o) → Replied limit d line (written sink) (written sink') after o
-told_line written faults sink sink' held limit d after line bare o h b a = record {
+-- what a desk said of a line that is told, and how it moved the counters
+pub told_line : {K : Type 0} (written : K → Option (List ℕ)) (faults : K → ℕ) (sink sink' : K) (held : List ℕ) (visits : Visits) (limit : ℕ) (d after : Desk) (line bare : List ℕ) (o : Outcome) (before now : Counters)
+    → length line ≤ most_line_bytes → bare ≡ without_cr line → Answers written faults sink sink' held limit d after bare (Ok o) → CountsLine visits limit d after bare before now (Ok o)
+    → Replied visits limit d line (record { written = written sink; counters = before }) (record { written = written sink'; counters = now }) after o
+told_line written faults sink sink' held visits limit d after line bare o before now h b a c = record {
   lacks = a.lacks && may_lack bare;
   answer = a.answer;
   is = told_reply limit d line bare a.lacks a.answer h b a.is;
@@ -101,6 +113,10 @@ told_line written faults sink sink' held limit d after line bare o h b a = recor
   refusal = a.gives.became.refusal;
   memory = a.gives.became.memory;
   ends = a.gives.became.end;
+  worked = λ levels.
+      let same : leads_to d bare ≡ line_leads d line = leads_same d line bare (short line h) (bare_short line h) b in
+      worked_line visits limit d after line (a.lacks && may_lack bare) (is_led d.system bare) a.answer o before now levels (told_reply limit d line bare a.lacks a.answer h b a.is).is
+      a.gives.became.refusal a.gives.became.memory a.gives.next (subst (λ t. TellsLead t o) same c.leads) (λ e. leads_nowhere d bare (same ∙ e)) c.counts;
 }
 
 pub told_broke : {K : Type 0} (written : K → Option (List ℕ)) (faults : K → ℕ) (sink sink' : K) (held : List ℕ) (limit : ℕ) (d after : Desk) (line bare : List ℕ) (e : Failed)
@@ -112,9 +128,10 @@ told_broke written faults sink sink' held limit d after line bare e h b a = reco
   front = a.gives.put.writes_front;
 }
 
-pub long_line : {K : Type 0} (written : K → Option (List ℕ)) (faults : K → ℕ) (sink sink' : K) (held : List ℕ) (limit : ℕ) (d after : Desk) (line : List ℕ) (o : Outcome)
-    → most_line_bytes < length line → AnswersLong written faults sink sink' held d after (Ok o) → Replied limit d line (written sink) (written sink') after o
-long_line written faults sink sink' held limit d after line o h a = record {
+pub long_line : {K : Type 0} (written : K → Option (List ℕ)) (faults : K → ℕ) (sink sink' : K) (held : List ℕ) (visits : Visits) (limit : ℕ) (d after : Desk) (line : List ℕ) (o : Outcome) (before now : Counters)
+    → most_line_bytes < length line → AnswersLong written faults sink sink' held d after (Ok o) → now ≡ before
+    → Replied visits limit d line (record { written = written sink; counters = before }) (record { written = written sink'; counters = now }) after o
+long_line written faults sink sink' held visits limit d after line o before now h a stays = record {
   lacks = false;
   answer = answered (refused d.system (codes "syntax long")) d;
   is = long_reply limit d line h;
@@ -123,6 +140,7 @@ long_line written faults sink sink' held limit d after line o h a = record {
   refusal = ap refuses (sym a.says.outcome);
   memory = ap lacks_memory (sym a.says.outcome);
   ends = ap ends_session (sym a.says.outcome);
+  worked = λ levels. subst (λ c. Worked limit c before now) (sym (long_cost visits limit d line (long line h))) (stays_worked limit before now stays);
 }
 
 pub long_broke : {K : Type 0} (written : K → Option (List ℕ)) (faults : K → ℕ) (sink sink' : K) (held : List ℕ) (limit : ℕ) (d after : Desk) (line : List ℕ) (e : Failed)

@@ -11,11 +11,13 @@ use Rattle.lsys_io.specs.declared.lines.Stage.{Stage}
 use Rattle.lsys_io.specs.declared.lines.Stage.TheVariants as stages
 use Rattle.lsys_io.specs.declared.lines.LineRead.{LineRead}
 use Rattle.lsys_io.specs.declared.lines.LineRead.TheVariants as reads
-use Rattle.lsys_io.specs.LineAnswers.{OnLine, OnLong, OnNoEnd}
+use Rattle.lsys_io.specs.LineAnswers.{OnEnd, OnLine, OnLong, OnNoEnd}
 use Rattle.lsys_desks.specs.Desks.{Desk, opening_desk}
-use Rattle.lsys_cli.specs.Ends.{Ends}
+use Rattle.lsys_spec.specs.Costs.{Visits}
+use Rattle.lsys_session.specs.Answers.{Counters}
+use Rattle.lsys_cli.specs.Ends.{Ends, Seen}
 use Rattle.lsys_session.specs.Answers.{refuses, lacks_memory, ends_session}
-use Rattle.lsys_cli.specs.Runs.{AnswersRead, status_of}
+use Rattle.lsys_cli.specs.Runs.{AnswersRead, CountsRead, status_of}
 use Rattle.lsys_session.specs.declared.outcome.Outcome.{Outcome}
 use Rattle.lsys_session.specs.declared.outcome.Outcome.TheVariants as outcomes
 use Rattle.lsys_cli.specs.declared.status.Status.TheVariants.{ReadFault, WriteFault, TooLong}
@@ -24,12 +26,12 @@ use Rattle.lsys_cli.proofs.SoFar.{Running, Finished, begin, line_more, line_last
 use Rattle.lsys_cli.proofs.Endings.{finished_ends, untold_ends, past_limit, read_fault_at, broke_at, of_read_fault, of_write_fault, of_too_long}
 
 -- Where a run stands, as far as the source tells: it goes on, or all its lines are answered.
-abbrev pub SoFar : ℕ → Option (List ℕ) → Stage → Option (List ℕ) → Option (List ℕ) → Option (List ℕ) → Desk → Bool → Bool → ℕ → Type 0
-SoFar limit None stage rest old now d refused memory taken = Unit {0}
-SoFar limit (Some script) stages.Going None old now d refused memory taken = ⊥
-SoFar limit (Some script) stages.Going (Some rest) old now d refused memory taken = Running limit script rest old now d refused memory taken
-SoFar limit (Some script) stages.Ended rest old now d refused memory taken = Finished limit script old now refused memory
-SoFar limit (Some script) (stages.Refused why) rest old now d refused memory taken = ⊥
+abbrev pub SoFar : Visits → ℕ → Option (List ℕ) → Stage → Option (List ℕ) → Seen → Seen → Desk → Bool → Bool → ℕ → Type 0
+SoFar visits limit None stage rest old now d refused memory taken = Unit {0}
+SoFar visits limit (Some script) stages.Going None old now d refused memory taken = ⊥
+SoFar visits limit (Some script) stages.Going (Some rest) old now d refused memory taken = Running visits limit script rest old now d refused memory taken
+SoFar visits limit (Some script) stages.Ended rest old now d refused memory taken = Finished visits limit script old now refused memory
+SoFar visits limit (Some script) (stages.Refused why) rest old now d refused memory taken = ⊥
 
 -- 1. what was read and answered
 
@@ -41,10 +43,10 @@ abbrev pub LongLine : Reading → Reading → Option (List ℕ) → Option (List
 LongLine old new lo ln = (line : List ℕ) × TakesLine old new lo ln line × (most_line_bytes < length line)
 
 -- a line was read, and its reply put
-pub record Turned (limit : ℕ) (old new : Reading) (lo ln now now' : Option (List ℕ)) (d after : Desk) (o : Outcome) : Type 0 where
+pub record Turned (visits : Visits) (limit : ℕ) (old new : Reading) (lo ln : Option (List ℕ)) (now now' : Seen) (d after : Desk) (o : Outcome) : Type 0 where
   pub line : List ℕ
   pub taken : TakesLine old new lo ln line
-  pub replied : Replied limit d line now now' after o
+  pub replied : Replied visits limit d line now now' after o
 
 -- or the sink failed at it
 pub record Stuck (limit : ℕ) (old new : Reading) (lo ln now now' : Option (List ℕ)) (d : Desk) : Type 0 where
@@ -52,14 +54,15 @@ pub record Stuck (limit : ℕ) (old new : Reading) (lo ln now now' : Option (Lis
   pub taken : TakesLine old new lo ln line
   pub broke : Broke limit d line now now'
 
-pub turned : {K : Type 0} (written : K → Option (List ℕ)) (faults : K → ℕ) (sink sink' : K) (held : List ℕ) (read : LineRead) (limit : ℕ) (old new : Reading) (lo ln : Option (List ℕ)) (d after : Desk) (bare : List ℕ) (o : Outcome)
+pub turned : {K : Type 0} (written : K → Option (List ℕ)) (faults : K → ℕ) (sink sink' : K) (held : List ℕ) (read : LineRead) (visits : Visits) (limit : ℕ) (old new : Reading) (lo ln : Option (List ℕ)) (d after : Desk) (bare : List ℕ) (o : Outcome) (before now : Counters)
     → read ≢ reads.End → OnLine (Ok read) (ToldLine old new lo ln) → OnLong (Ok read) (LongLine old new lo ln) → bare ≡ new.line
-    → AnswersRead written faults sink sink' held read limit d after bare (Ok o) → Turned limit old new lo ln (written sink) (written sink') d after o
-turned written faults sink sink' held reads.Line limit old new lo ln d after bare o e (line, t, short, is) u b a =
-    record { line = line; taken = t; replied = told_line written faults sink sink' held limit d after line bare o short (b ∙ is) a }
-turned written faults sink sink' held reads.Long limit old new lo ln d after bare o e t (line, u, long) b a =
-    record { line = line; taken = u; replied = long_line written faults sink sink' held limit d after line o long a }
-turned written faults sink sink' held reads.End limit old new lo ln d after bare o e t u b a = absurd (e refl)
+    → AnswersRead written faults sink sink' held read limit d after bare (Ok o) → CountsRead visits read limit d after bare before now (Ok o)
+    → Turned visits limit old new lo ln (record { written = written sink; counters = before }) (record { written = written sink'; counters = now }) d after o
+turned written faults sink sink' held reads.Line visits limit old new lo ln d after bare o before now e (line, t, short, is) u b a c =
+    record { line = line; taken = t; replied = told_line written faults sink sink' held visits limit d after line bare o before now short (b ∙ is) a c }
+turned written faults sink sink' held reads.Long visits limit old new lo ln d after bare o before now e t (line, u, long) b a c =
+    record { line = line; taken = u; replied = long_line written faults sink sink' held visits limit d after line o before now long a c }
+turned written faults sink sink' held reads.End visits limit old new lo ln d after bare o before now e t u b a c = absurd (e refl)
 
 pub stuck : {K : Type 0} (written : K → Option (List ℕ)) (faults : K → ℕ) (sink sink' : K) (held : List ℕ) (read : LineRead) (limit : ℕ) (old new : Reading) (lo ln : Option (List ℕ)) (d after : Desk) (bare : List ℕ) (failed : Failed)
     → read ≢ reads.End → OnLine (Ok read) (ToldLine old new lo ln) → OnLong (Ok read) (LongLine old new lo ln) → bare ≡ new.line
@@ -73,152 +76,152 @@ stuck written faults sink sink' held reads.End limit old new lo ln d after bare 
 -- 2. the next turn
 
 -- a line that goes on
-more_at : (limit : ℕ) (script : Option (List ℕ)) (stage : Stage) (rest rest' w now now' : Option (List ℕ)) (d next : Desk) (refused memory : Bool) (taken taken' : ℕ) (line : List ℕ) (o : Outcome)
-    → SoFar limit script stages.Going rest w now d refused memory taken
+more_at : (visits : Visits) (limit : ℕ) (script : Option (List ℕ)) (stage : Stage) (rest rest' : Option (List ℕ)) (w now now' : Seen) (d next : Desk) (refused memory : Bool) (taken taken' : ℕ) (line : List ℕ) (o : Outcome)
+    → SoFar visits limit script stages.Going rest w now d refused memory taken
     → has_lf line ≡ false → Consumes rest rest' (with_end stage line) → HasFirstLine rest rest' line → taken' ≡ taken + length (with_end stage line) → IsNotRefused stage
-    → (stage ≡ stages.Ended → rest' ≡ Some []) → taken' ≤ most_script_bytes → Replied limit d line now now' next o → ends_session o ≡ false
-    → SoFar limit script stage rest' w now' next (refused || refuses o) (memory || lacks_memory o) taken'
-more_at limit None stage rest rest' w now now' d next refused memory taken taken' line o k n b f t g l small a z = tt
-more_at limit (Some script) stage None rest' w now now' d next refused memory taken taken' line o k n b f t g l small a z = absurd k
-more_at limit (Some script) stage (Some rest) None w now now' d next refused memory taken taken' line o k n b f t g l small a z = absurd b
-more_at limit (Some script) stages.Going (Some rest) (Some rest') w now now' d next refused memory taken taken' line o k n b f t g l small a z =
-    let P : List ℕ → Type 0 = λ r. Running limit script r w now d refused memory taken in
-    line_more limit script line rest' w now now' d next refused memory taken taken' o (subst P b k) n t a z
-more_at limit (Some script) stages.Ended (Some rest) (Some rest') w now now' d next refused memory taken taken' line o k n b f t g l small a z =
+    → (stage ≡ stages.Ended → rest' ≡ Some []) → taken' ≤ most_script_bytes → Replied visits limit d line now now' next o → ends_session o ≡ false
+    → SoFar visits limit script stage rest' w now' next (refused || refuses o) (memory || lacks_memory o) taken'
+more_at visits limit None stage rest rest' w now now' d next refused memory taken taken' line o k n b f t g l small a z = tt
+more_at visits limit (Some script) stage None rest' w now now' d next refused memory taken taken' line o k n b f t g l small a z = absurd k
+more_at visits limit (Some script) stage (Some rest) None w now now' d next refused memory taken taken' line o k n b f t g l small a z = absurd b
+more_at visits limit (Some script) stages.Going (Some rest) (Some rest') w now now' d next refused memory taken taken' line o k n b f t g l small a z =
+    let P : List ℕ → Type 0 = λ r. Running visits limit script r w now d refused memory taken in
+    line_more visits limit script line rest' w now now' d next refused memory taken taken' o (subst P b k) n t a z
+more_at visits limit (Some script) stages.Ended (Some rest) (Some rest') w now now' d next refused memory taken taken' line o k n b f t g l small a z =
     let at_end : rest ≡ line = b ∙ ap (λ x. line ++ x) (some_is (l refl)) ∙ append-nil line in
-    let P : List ℕ → Type 0 = λ r. Running limit script r w now d refused memory taken in
+    let P : List ℕ → Type 0 = λ r. Running visits limit script r w now d refused memory taken in
     let one : lines_of line ≡ line ∷ [] = ap lines_of (sym at_end) ∙ f ∙ ap (λ x. line ∷ lines_of x) (some_is (l refl)) in
-    line_last limit script line w now now' d next refused memory taken o (subst P at_end k) one (omega (arith, t, small)) a z
+    line_last visits limit script line w now now' d next refused memory taken o (subst P at_end k) one (omega (arith, t, small)) a z
   where
     some_is : {a b : List ℕ} → Some a ≡ Some b → a ≡ b
     some_is e = cc
-more_at limit (Some script) (stages.Refused why) (Some rest) (Some rest') w now now' d next refused memory taken taken' line o k n b f t g l small a z = absurd g
+more_at visits limit (Some script) (stages.Refused why) (Some rest) (Some rest') w now now' d next refused memory taken taken' line o k n b f t g l small a z = absurd g
 
 -- where the end was seen, nothing remains
 ended : (new : Reading) (ln : Option (List ℕ)) → new.stage ≡ stages.Ended → remaining new ln ≡ Some []
 ended new ln e = ap (λ (st : Stage). elim st [ stages.Going ↦ prepend_known new.held ln | stages.Ended ↦ Some [] | stages.Refused refusal ↦ prepend_known new.held ln ]) e
 
-going : (limit : ℕ) (script w now : Option (List ℕ)) (old : Reading) (lo : Option (List ℕ)) (d : Desk) (refused memory : Bool) → old.stage ≡ stages.Going
-    → SoFar limit script old.stage (remaining old lo) w now d refused memory old.taken → SoFar limit script stages.Going (remaining old lo) w now d refused memory old.taken
-going limit script w now old lo d refused memory e k = subst (λ (st : Stage). SoFar limit script st (remaining old lo) w now d refused memory old.taken) e k
+going : (visits : Visits) (limit : ℕ) (script : Option (List ℕ)) (w now : Seen) (old : Reading) (lo : Option (List ℕ)) (d : Desk) (refused memory : Bool) → old.stage ≡ stages.Going
+    → SoFar visits limit script old.stage (remaining old lo) w now d refused memory old.taken → SoFar visits limit script stages.Going (remaining old lo) w now d refused memory old.taken
+going visits limit script w now old lo d refused memory e k = subst (λ (st : Stage). SoFar visits limit script st (remaining old lo) w now d refused memory old.taken) e k
 
-pub goes_on : (limit limit' : ℕ) (script lo ln w now now' : Option (List ℕ)) (old new : Reading) (d next : Desk) (refused memory refused' memory' : Bool) (o : Outcome)
+pub goes_on : (visits : Visits) (limit limit' : ℕ) (script lo ln : Option (List ℕ)) (w now now' : Seen) (old new : Reading) (d next : Desk) (refused memory refused' memory' : Bool) (o : Outcome)
     → limit' ≡ limit → old.stage ≡ stages.Going → new.taken ≤ most_script_bytes → refused' ≡ refused || refuses o → memory' ≡ memory || lacks_memory o
-    → SoFar limit script old.stage (remaining old lo) w now d refused memory old.taken → Turned limit' old new lo ln now now' d next o → ends_session o ≡ false
-    → SoFar limit script new.stage (remaining new ln) w now' next refused' memory' new.taken
-goes_on limit limit' script lo ln w now now' old new d next refused memory refused' memory' o l e small f m k t z =
-    let a : Replied limit d t.line now now' next o = subst (λ n. Replied n d t.line now now' next o) l t.replied in
-    let P : Bool → Type 0 = λ b. SoFar limit script new.stage (remaining new ln) w now' next b memory' new.taken in
-    let Q : Bool → Type 0 = λ b. SoFar limit script new.stage (remaining new ln) w now' next (refused || refuses o) b new.taken in
-    subst P (sym f) (subst Q (sym m) (more_at limit script new.stage (remaining old lo) (remaining new ln) w now now' d next refused memory old.taken new.taken t.line o
-    (going limit script w now old lo d refused memory e k) t.taken.no_lf t.taken.bytes t.taken.first t.taken.counted t.taken.goes_on (ended new ln) small a z))
+    → SoFar visits limit script old.stage (remaining old lo) w now d refused memory old.taken → Turned visits limit' old new lo ln now now' d next o → ends_session o ≡ false
+    → SoFar visits limit script new.stage (remaining new ln) w now' next refused' memory' new.taken
+goes_on visits limit limit' script lo ln w now now' old new d next refused memory refused' memory' o l e small f m k t z =
+    let a : Replied visits limit d t.line now now' next o = subst (λ n. Replied visits n d t.line now now' next o) l t.replied in
+    let P : Bool → Type 0 = λ b. SoFar visits limit script new.stage (remaining new ln) w now' next b memory' new.taken in
+    let Q : Bool → Type 0 = λ b. SoFar visits limit script new.stage (remaining new ln) w now' next (refused || refuses o) b new.taken in
+    subst P (sym f) (subst Q (sym m) (more_at visits limit script new.stage (remaining old lo) (remaining new ln) w now now' d next refused memory old.taken new.taken t.line o
+    (going visits limit script w now old lo d refused memory e k) t.taken.no_lf t.taken.bytes t.taken.first t.taken.counted t.taken.goes_on (ended new ln) small a z))
 
 -- 3. ends
 
-quit_at : (limit : ℕ) (script : Option (List ℕ)) (stage : Stage) (rest rest' left w now now' : Option (List ℕ)) (d next : Desk) (refused memory : Bool) (taken taken' : ℕ) (line : List ℕ) (o : Outcome)
-    → SoFar limit script stages.Going rest w now d refused memory taken
+quit_at : (visits : Visits) (limit : ℕ) (script : Option (List ℕ)) (stage : Stage) (rest rest' left : Option (List ℕ)) (w now now' : Seen) (d next : Desk) (refused memory : Bool) (taken taken' : ℕ) (line : List ℕ) (o : Outcome)
+    → SoFar visits limit script stages.Going rest w now d refused memory taken
     → has_lf line ≡ false → Consumes rest rest' (with_end stage line) → HasFirstLine rest rest' line → taken' ≡ taken + length (with_end stage line) → IsNotRefused stage
-    → (stage ≡ stages.Ended → rest' ≡ Some []) → taken' ≤ most_script_bytes → Replied limit d line now now' next o → ends_session o ≡ true
-    → Ends limit script left w now' (status_of (refused || refuses o) (memory || lacks_memory o))
-quit_at limit None stage rest rest' left w now now' d next refused memory taken taken' line o k n b f t g l small a z = untold_ends limit left w now' (refused || refuses o) (memory || lacks_memory o)
-quit_at limit (Some script) stage None rest' left w now now' d next refused memory taken taken' line o k n b f t g l small a z = absurd k
-quit_at limit (Some script) stage (Some rest) None left w now now' d next refused memory taken taken' line o k n b f t g l small a z = absurd b
-quit_at limit (Some script) stages.Going (Some rest) (Some rest') left w now now' d next refused memory taken taken' line o k n b f t g l small a z =
-    let P : List ℕ → Type 0 = λ r. Running limit script r w now d refused memory taken in
-    finished_ends limit script left w now' (refused || refuses o) (memory || lacks_memory o)
-    (quit_within limit script line rest' w now now' d next refused memory taken o (subst P b k) n (omega (arith, t, small)) a z)
-quit_at limit (Some script) stages.Ended (Some rest) (Some rest') left w now now' d next refused memory taken taken' line o k n b f t g l small a z =
+    → (stage ≡ stages.Ended → rest' ≡ Some []) → taken' ≤ most_script_bytes → Replied visits limit d line now now' next o → ends_session o ≡ true
+    → Ends visits limit script left w now' (status_of (refused || refuses o) (memory || lacks_memory o))
+quit_at visits limit None stage rest rest' left w now now' d next refused memory taken taken' line o k n b f t g l small a z = untold_ends visits limit left w now' (refused || refuses o) (memory || lacks_memory o)
+quit_at visits limit (Some script) stage None rest' left w now now' d next refused memory taken taken' line o k n b f t g l small a z = absurd k
+quit_at visits limit (Some script) stage (Some rest) None left w now now' d next refused memory taken taken' line o k n b f t g l small a z = absurd b
+quit_at visits limit (Some script) stages.Going (Some rest) (Some rest') left w now now' d next refused memory taken taken' line o k n b f t g l small a z =
+    let P : List ℕ → Type 0 = λ r. Running visits limit script r w now d refused memory taken in
+    finished_ends visits limit script left w now' (refused || refuses o) (memory || lacks_memory o)
+    (quit_within visits limit script line rest' w now now' d next refused memory taken o (subst P b k) n (omega (arith, t, small)) a z)
+quit_at visits limit (Some script) stages.Ended (Some rest) (Some rest') left w now now' d next refused memory taken taken' line o k n b f t g l small a z =
     let at_end : rest ≡ line = b ∙ ap (λ x. line ++ x) (some_is (l refl)) ∙ append-nil line in
-    let P : List ℕ → Type 0 = λ r. Running limit script r w now d refused memory taken in
+    let P : List ℕ → Type 0 = λ r. Running visits limit script r w now d refused memory taken in
     let one : lines_of line ≡ line ∷ [] = ap lines_of (sym at_end) ∙ f ∙ ap (λ x. line ∷ lines_of x) (some_is (l refl)) in
-    finished_ends limit script left w now' (refused || refuses o) (memory || lacks_memory o)
-    (quit_last limit script line w now now' d next refused memory taken o (subst P at_end k) one (omega (arith, t, small)) a z)
+    finished_ends visits limit script left w now' (refused || refuses o) (memory || lacks_memory o)
+    (quit_last visits limit script line w now now' d next refused memory taken o (subst P at_end k) one (omega (arith, t, small)) a z)
   where
     some_is : {a b : List ℕ} → Some a ≡ Some b → a ≡ b
     some_is e = cc
-quit_at limit (Some script) (stages.Refused why) (Some rest) (Some rest') left w now now' d next refused memory taken taken' line o k n b f t g l small a z = absurd g
+quit_at visits limit (Some script) (stages.Refused why) (Some rest) (Some rest') left w now now' d next refused memory taken taken' line o k n b f t g l small a z = absurd g
 
-pub quits : (limit limit' : ℕ) (script lo ln w now now' : Option (List ℕ)) (old new : Reading) (d next : Desk) (refused memory refused' memory' : Bool) (o : Outcome)
+pub quits : (visits : Visits) (limit limit' : ℕ) (script lo ln : Option (List ℕ)) (w now now' : Seen) (old new : Reading) (d next : Desk) (refused memory refused' memory' : Bool) (o : Outcome)
     → limit' ≡ limit → old.stage ≡ stages.Going → new.taken ≤ most_script_bytes → refused' ≡ refused || refuses o → memory' ≡ memory || lacks_memory o
-    → SoFar limit script old.stage (remaining old lo) w now d refused memory old.taken → Turned limit' old new lo ln now now' d next o → ends_session o ≡ true
-    → Ends limit script ln w now' (status_of refused' memory')
-quits limit limit' script lo ln w now now' old new d next refused memory refused' memory' o l e small f m k t z =
-    let a : Replied limit d t.line now now' next o = subst (λ n. Replied n d t.line now now' next o) l t.replied in
-    let P : Bool → Type 0 = λ b. Ends limit script ln w now' (status_of b memory') in
-    let Q : Bool → Type 0 = λ b. Ends limit script ln w now' (status_of (refused || refuses o) b) in
-    subst P (sym f) (subst Q (sym m) (quit_at limit script new.stage (remaining old lo) (remaining new ln) ln w now now' d next refused memory old.taken new.taken t.line o
-    (going limit script w now old lo d refused memory e k) t.taken.no_lf t.taken.bytes t.taken.first t.taken.counted t.taken.goes_on (ended new ln) small a z))
+    → SoFar visits limit script old.stage (remaining old lo) w now d refused memory old.taken → Turned visits limit' old new lo ln now now' d next o → ends_session o ≡ true
+    → Ends visits limit script ln w now' (status_of refused' memory')
+quits visits limit limit' script lo ln w now now' old new d next refused memory refused' memory' o l e small f m k t z =
+    let a : Replied visits limit d t.line now now' next o = subst (λ n. Replied visits n d t.line now now' next o) l t.replied in
+    let P : Bool → Type 0 = λ b. Ends visits limit script ln w now' (status_of b memory') in
+    let Q : Bool → Type 0 = λ b. Ends visits limit script ln w now' (status_of (refused || refuses o) b) in
+    subst P (sym f) (subst Q (sym m) (quit_at visits limit script new.stage (remaining old lo) (remaining new ln) ln w now now' d next refused memory old.taken new.taken t.line o
+    (going visits limit script w now old lo d refused memory e k) t.taken.no_lf t.taken.bytes t.taken.first t.taken.counted t.taken.goes_on (ended new ln) small a z))
 
-pub ends : (limit : ℕ) (script : Option (List ℕ)) (stage : Stage) (rest left w now : Option (List ℕ)) (d : Desk) (refused memory : Bool) (taken : ℕ)
-    → SoFar limit script stage rest w now d refused memory taken → IsAtEnd rest → taken ≤ most_script_bytes → Ends limit script left w now (status_of refused memory)
-ends limit None stage rest left w now d refused memory taken k e small = untold_ends limit left w now refused memory
-ends limit (Some script) stages.Going None left w now d refused memory taken k e small = absurd k
-ends limit (Some script) stages.Going (Some rest) left w now d refused memory taken k e small =
-    let P : List ℕ → Type 0 = λ r. Running limit script r w now d refused memory taken in
-    finished_ends limit script left w now refused memory (no_more limit script w now d refused memory taken (subst P e k) small)
-ends limit (Some script) stages.Ended rest left w now d refused memory taken k e small = finished_ends limit script left w now refused memory k
-ends limit (Some script) (stages.Refused why) rest left w now d refused memory taken k e small = absurd k
+pub ends : (visits : Visits) (limit : ℕ) (script : Option (List ℕ)) (stage : Stage) (rest left : Option (List ℕ)) (w now : Seen) (d : Desk) (refused memory : Bool) (taken : ℕ)
+    → SoFar visits limit script stage rest w now d refused memory taken → IsAtEnd rest → taken ≤ most_script_bytes → Ends visits limit script left w now (status_of refused memory)
+ends visits limit None stage rest left w now d refused memory taken k e small = untold_ends visits limit left w now refused memory
+ends visits limit (Some script) stages.Going None left w now d refused memory taken k e small = absurd k
+ends visits limit (Some script) stages.Going (Some rest) left w now d refused memory taken k e small =
+    let P : List ℕ → Type 0 = λ r. Running visits limit script r w now d refused memory taken in
+    finished_ends visits limit script left w now refused memory (no_more visits limit script w now d refused memory taken (subst P e k) small)
+ends visits limit (Some script) stages.Ended rest left w now d refused memory taken k e small = finished_ends visits limit script left w now refused memory k
+ends visits limit (Some script) (stages.Refused why) rest left w now d refused memory taken k e small = absurd k
 
-past_at : (limit : ℕ) (script rest left w now : Option (List ℕ)) (d : Desk) (refused memory : Bool) (taken : ℕ)
-    → SoFar limit script stages.Going rest w now d refused memory taken → taken ≤ most_script_bytes → IfSome rest (PassesLimit taken) → Ends limit script left w now TooLong
-past_at limit None rest left w now d refused memory taken k small p = of_too_long limit None left w now tt
-past_at limit (Some script) None left w now d refused memory taken k small p = absurd k
-past_at limit (Some script) (Some rest) left w now d refused memory taken k small p = of_too_long limit (Some script) left w now (past_limit limit script rest w now d refused memory taken k small p)
+past_at : (visits : Visits) (limit : ℕ) (script rest left : Option (List ℕ)) (w now : Seen) (d : Desk) (refused memory : Bool) (taken : ℕ)
+    → SoFar visits limit script stages.Going rest w now d refused memory taken → taken ≤ most_script_bytes → IfSome rest (PassesLimit taken) → Ends visits limit script left w now TooLong
+past_at visits limit None rest left w now d refused memory taken k small p = of_too_long visits limit None left w now tt
+past_at visits limit (Some script) None left w now d refused memory taken k small p = absurd k
+past_at visits limit (Some script) (Some rest) left w now d refused memory taken k small p = of_too_long visits limit (Some script) left w now (past_limit visits limit script rest w now d refused memory taken k small p)
 
-pub too_long : (limit : ℕ) (script lo ln w now : Option (List ℕ)) (old : Reading) (d : Desk) (refused memory : Bool) → old.stage ≡ stages.Going → old.taken ≤ most_script_bytes
-    → SoFar limit script old.stage (remaining old lo) w now d refused memory old.taken → IfSome (remaining old lo) (PassesLimit old.taken) → Ends limit script ln w now TooLong
-too_long limit script lo ln w now old d refused memory e small k p =
-    past_at limit script (remaining old lo) ln w now d refused memory old.taken (going limit script w now old lo d refused memory e k) small p
+pub too_long : (visits : Visits) (limit : ℕ) (script lo ln : Option (List ℕ)) (w now : Seen) (old : Reading) (d : Desk) (refused memory : Bool) → old.stage ≡ stages.Going → old.taken ≤ most_script_bytes
+    → SoFar visits limit script old.stage (remaining old lo) w now d refused memory old.taken → IfSome (remaining old lo) (PassesLimit old.taken) → Ends visits limit script ln w now TooLong
+too_long visits limit script lo ln w now old d refused memory e small k p =
+    past_at visits limit script (remaining old lo) ln w now d refused memory old.taken (going visits limit script w now old lo d refused memory e k) small p
 
-fault_at : (limit : ℕ) (script lo ln w now : Option (List ℕ)) (held given : List ℕ) (d : Desk) (refused memory : Bool) (taken : ℕ)
-    → SoFar limit script stages.Going (prepend_known held lo) w now d refused memory taken → Consumes lo ln given → has_lf (held ++ given) ≡ false → taken + length (held ++ given) ≤ most_script_bytes
-    → Ends limit script ln w now ReadFault
-fault_at limit None lo ln w now held given d refused memory taken k c n small = of_read_fault limit None ln w now tt
-fault_at limit (Some script) None ln w now held given d refused memory taken k c n small = absurd k
-fault_at limit (Some script) (Some left) None w now held given d refused memory taken k c n small = absurd c
-fault_at limit (Some script) (Some left) (Some left') w now held given d refused memory taken k c n small =
-    of_read_fault limit (Some script) (Some left') w now (read_fault_at limit script (held ++ left) (Some left') w now d refused memory taken k (held ++ given)
+fault_at : (visits : Visits) (limit : ℕ) (script lo ln : Option (List ℕ)) (w now : Seen) (held given : List ℕ) (d : Desk) (refused memory : Bool) (taken : ℕ)
+    → SoFar visits limit script stages.Going (prepend_known held lo) w now d refused memory taken → Consumes lo ln given → has_lf (held ++ given) ≡ false → taken + length (held ++ given) ≤ most_script_bytes
+    → Ends visits limit script ln w now ReadFault
+fault_at visits limit None lo ln w now held given d refused memory taken k c n small = of_read_fault visits limit None ln w now tt
+fault_at visits limit (Some script) None ln w now held given d refused memory taken k c n small = absurd k
+fault_at visits limit (Some script) (Some left) None w now held given d refused memory taken k c n small = absurd c
+fault_at visits limit (Some script) (Some left) (Some left') w now held given d refused memory taken k c n small =
+    of_read_fault visits limit (Some script) (Some left') w now (read_fault_at visits limit script (held ++ left) (Some left') w now d refused memory taken k (held ++ given)
     (ap (λ t. held ++ t) c ∙ sym (append_assoc held given left')) n small)
 
-pub read_fault : (limit : ℕ) (script lo ln w now : Option (List ℕ)) (old : Reading) (d : Desk) (refused memory : Bool) → old.stage ≡ stages.Going
-    → SoFar limit script old.stage (remaining old lo) w now d refused memory old.taken → LeavesNoLine old lo ln → Ends limit script ln w now ReadFault
-read_fault limit script lo ln w now old d refused memory e k h =
+pub read_fault : (visits : Visits) (limit : ℕ) (script lo ln : Option (List ℕ)) (w now : Seen) (old : Reading) (d : Desk) (refused memory : Bool) → old.stage ≡ stages.Going
+    → SoFar visits limit script old.stage (remaining old lo) w now d refused memory old.taken → LeavesNoLine old lo ln → Ends visits limit script ln w now ReadFault
+read_fault visits limit script lo ln w now old d refused memory e k h =
     let is : remaining old lo ≡ prepend_known old.held lo =
     ap (λ (st : Stage). elim st [ stages.Going ↦ prepend_known old.held lo | stages.Ended ↦ Some [] | stages.Refused refusal ↦ prepend_known old.held lo ]) e in
-    let P : Option (List ℕ) → Type 0 = λ r. SoFar limit script stages.Going r w now d refused memory old.taken in
-    fault_at limit script lo ln w now old.held h.given d refused memory old.taken (subst P is (going limit script w now old lo d refused memory e k)) h.taken h.no_lf h.within
+    let P : Option (List ℕ) → Type 0 = λ r. SoFar visits limit script stages.Going r w now d refused memory old.taken in
+    fault_at visits limit script lo ln w now old.held h.given d refused memory old.taken (subst P is (going visits limit script w now old lo d refused memory e k)) h.taken h.no_lf h.within
 
-stuck_at : (limit : ℕ) (script rest rest' left w now now' : Option (List ℕ)) (d : Desk) (refused memory : Bool) (taken : ℕ) (line : List ℕ)
-    → SoFar limit script stages.Going rest w now d refused memory taken → HasFirstLine rest rest' line → Broke limit d line now now' → Ends limit script left w now' WriteFault
-stuck_at limit None rest rest' left w now now' d refused memory taken line k f b = of_write_fault limit None left w now' tt
-stuck_at limit (Some script) None rest' left w now now' d refused memory taken line k f b = absurd k
-stuck_at limit (Some script) (Some rest) None left w now now' d refused memory taken line k f b = absurd f
-stuck_at limit (Some script) (Some rest) (Some rest') left w now now' d refused memory taken line k f b =
-    of_write_fault limit (Some script) left w now' (broke_at limit script rest line (lines_of rest') w now now' d refused memory taken k f b)
+stuck_at : (visits : Visits) (limit : ℕ) (script rest rest' left : Option (List ℕ)) (w now now' : Seen) (d : Desk) (refused memory : Bool) (taken : ℕ) (line : List ℕ)
+    → SoFar visits limit script stages.Going rest w now d refused memory taken → HasFirstLine rest rest' line → Broke limit d line now.written now'.written → Ends visits limit script left w now' WriteFault
+stuck_at visits limit None rest rest' left w now now' d refused memory taken line k f b = of_write_fault visits limit None left w now' tt
+stuck_at visits limit (Some script) None rest' left w now now' d refused memory taken line k f b = absurd k
+stuck_at visits limit (Some script) (Some rest) None left w now now' d refused memory taken line k f b = absurd f
+stuck_at visits limit (Some script) (Some rest) (Some rest') left w now now' d refused memory taken line k f b =
+    of_write_fault visits limit (Some script) left w now' (broke_at visits limit script rest line (lines_of rest') w now now' d refused memory taken k f b)
 
-pub write_fault : (limit limit' : ℕ) (script lo ln w now now' : Option (List ℕ)) (old new : Reading) (d : Desk) (refused memory : Bool) → limit' ≡ limit → old.stage ≡ stages.Going
-    → SoFar limit script old.stage (remaining old lo) w now d refused memory old.taken → Stuck limit' old new lo ln now now' d → Ends limit script ln w now' WriteFault
-write_fault limit limit' script lo ln w now now' old new d refused memory l e k t =
-    let b : Broke limit d t.line now now' = subst (λ n. Broke n d t.line now now') l t.broke in
-    stuck_at limit script (remaining old lo) (remaining new ln) ln w now now' d refused memory old.taken t.line (going limit script w now old lo d refused memory e k) t.taken.first b
+pub write_fault : (visits : Visits) (limit limit' : ℕ) (script lo ln : Option (List ℕ)) (w now now' : Seen) (old new : Reading) (d : Desk) (refused memory : Bool) → limit' ≡ limit → old.stage ≡ stages.Going
+    → SoFar visits limit script old.stage (remaining old lo) w now d refused memory old.taken → Stuck limit' old new lo ln now.written now'.written d → Ends visits limit script ln w now' WriteFault
+write_fault visits limit limit' script lo ln w now now' old new d refused memory l e k t =
+    let b : Broke limit d t.line now.written now'.written = subst (λ n. Broke n d t.line now.written now'.written) l t.broke in
+    stuck_at visits limit script (remaining old lo) (remaining new ln) ln w now now' d refused memory old.taken t.line (going visits limit script w now old lo d refused memory e k) t.taken.first b
 
 -- 4. the beginning
 
 abbrev pub fresh : Reading
 fresh = record { held = []; taken = 0; line = []; stage = stages.Going }
 
-begin_at : (limit : ℕ) (left w : Option (List ℕ)) → SoFar limit left stages.Going (prepend_known [] left) w w opening_desk false false 0
-begin_at limit None w = tt
-begin_at limit (Some script) w = begin limit script w
+begin_at : (visits : Visits) (limit : ℕ) (left : Option (List ℕ)) (w : Seen) → SoFar visits limit left stages.Going (prepend_known [] left) w w opening_desk false false 0
+begin_at visits limit None w = tt
+begin_at visits limit (Some script) w = begin visits limit script w
 
-pub begins : (limit : ℕ) (reader : Reading) (d : Desk) (left w : Option (List ℕ)) (refused memory : Bool) → reader ≡ fresh → d ≡ opening_desk → refused ≡ false → memory ≡ false
-    → SoFar limit left reader.stage (remaining reader left) w w d refused memory reader.taken
-begins limit reader d left w refused memory e q f m =
-    let P : Reading → Type 0 = λ r. SoFar limit left r.stage (remaining r left) w w d refused memory r.taken in
-    let Q : Desk → Type 0 = λ t. SoFar limit left stages.Going (prepend_known [] left) w w t refused memory 0 in
-    let R : Bool → Type 0 = λ b. SoFar limit left stages.Going (prepend_known [] left) w w opening_desk b memory 0 in
-    let S : Bool → Type 0 = λ b. SoFar limit left stages.Going (prepend_known [] left) w w opening_desk false b 0 in
-    subst P (sym e) (subst Q (sym q) (subst R (sym f) (subst S (sym m) (begin_at limit left w))))
+pub begins : (visits : Visits) (limit : ℕ) (reader : Reading) (d : Desk) (left : Option (List ℕ)) (w : Seen) (refused memory : Bool) → reader ≡ fresh → d ≡ opening_desk → refused ≡ false → memory ≡ false
+    → SoFar visits limit left reader.stage (remaining reader left) w w d refused memory reader.taken
+begins visits limit reader d left w refused memory e q f m =
+    let P : Reading → Type 0 = λ r. SoFar visits limit left r.stage (remaining r left) w w d refused memory r.taken in
+    let Q : Desk → Type 0 = λ t. SoFar visits limit left stages.Going (prepend_known [] left) w w t refused memory 0 in
+    let R : Bool → Type 0 = λ b. SoFar visits limit left stages.Going (prepend_known [] left) w w opening_desk b memory 0 in
+    let S : Bool → Type 0 = λ b. SoFar visits limit left stages.Going (prepend_known [] left) w w opening_desk false b 0 in
+    subst P (sym e) (subst Q (sym q) (subst R (sym f) (subst S (sym m) (begin_at visits limit left w))))
 
 pub begins_going : (reader : Reading) → reader ≡ fresh → IsNotRefused reader.stage
 begins_going reader e = let P : Reading → Type 0 = λ r. IsNotRefused r.stage in subst P (sym e) tt
@@ -244,3 +247,8 @@ pub unless_end : {P : Type 0} (read : LineRead) → read ≢ reads.End → OnNoE
 unless_end reads.Line e h = h
 unless_end reads.Long e h = h
 unless_end reads.End e h = absurd (e refl)
+
+pub at_end : {P : Type 0} (read : LineRead) → read ≡ reads.End → OnEnd (Ok read) P → P
+at_end reads.Line e h = cc
+at_end reads.Long e h = cc
+at_end reads.End e h = h

@@ -4,10 +4,16 @@ use Rattle.std.specs.declared.option.Option.{Option}
 use Rattle.std.specs.Io.KnownBytes.{Appends}
 use Rattle.lsys_spec.specs.Output.{output_text, any_memory, whole_lines}
 use Rattle.lsys_spec.specs.Samples.{sample}
+use Rattle.lsys_spec.specs.Costs.{Visits}
+use Rattle.lsys_spec.specs.LevelLaws.{candidate_visits}
 use Rattle.lsys_words.specs.declared.Options.{Options}
 use Rattle.lsys_cli.specs.Ends.{OfScript, replies, within_limit}
 use Rattle.lsys_cli.specs.declared.status.Status.{Status}
 use Rattle.lsys_cli.specs.declared.status.Status.TheVariants.{Done, Memory, TooLong}
+
+-- the most entries that the program reads for an edit: those of the candidates' traces
+abbrev pub most_visits : Visits
+most_visits = candidate_visits
 
 -- nothing was written, and no question asked
 abbrev pub UntouchedSink : {K : Type 0} → K → K → ℕ → ℕ → ℕ → ℕ → Type 0

@@ -1,12 +1,14 @@
--- What becomes of a line that was read, and the status of a run that read its script to the end.
-use Rattle.std.specs.Prelude.{◌≡◌, ℕ, Bool, true, false, Result, List}
+-- What becomes of a line that was read, how the counters move at it, and the status of a run that read its script to the end.
+use Rattle.std.specs.Prelude.{◌≡◌, ℕ, Bool, true, false, Result, IfOk, List}
 use Rattle.std.specs.declared.option.Option.{Option}
 use Rattle.lsys_io.specs.declared.Failed.{Failed}
 use Rattle.lsys_io.specs.declared.lines.LineRead.{LineRead}
 use Rattle.lsys_io.specs.declared.lines.LineRead.TheVariants as reads
 use Rattle.lsys_spec.specs.Refusals.{refused}
+use Rattle.lsys_spec.specs.Costs.{Visits}
 use Rattle.lsys_desks.specs.Desks.{Desk}
-use Rattle.lsys_desk.specs.Answers.{Answers}
+use Rattle.lsys_desk.specs.Answers.{Answers, TellsLead, is_led, leads_to}
+use Rattle.lsys_session.specs.Answers.{Counters, Counts}
 use Rattle.lsys_session.specs.Requests.{refusal_line}
 use Rattle.lsys_session.specs.Sessions.{Says}
 use Rattle.lsys_rules.specs.declared.refusal.Refusal.TheVariants as refusals
@@ -31,3 +33,14 @@ abbrev pub AnswersRead : {K : Type 0} → (K → Option (List ℕ)) → (K → �
 AnswersRead written faults sink_old sink_new held reads.Line limit old new line result = Answers written faults sink_old sink_new held limit old new line result
 AnswersRead written faults sink_old sink_new held reads.Long limit old new line result = AnswersLong written faults sink_old sink_new held old new result
 AnswersRead written faults sink_old sink_new held reads.End limit old new line result = Unit {0}
+
+-- how the counters move at a line that is told, and whether it is accepted
+pub record CountsLine (visits : Visits) (limit : ℕ) (old new : Desk) (line : List ℕ) (before after : Counters) (result : Result Outcome Failed) : Type 0 where
+  pub counts : Counts visits limit (is_led old.system line) old.system new.system before after result
+  pub leads : IfOk result (TellsLead (leads_to old line))
+
+-- likewise; at a line that is too long they stay
+abbrev pub CountsRead : Visits → LineRead → ℕ → Desk → Desk → List ℕ → Counters → Counters → Result Outcome Failed → Type 0
+CountsRead visits reads.Line limit old new line before after result = CountsLine visits limit old new line before after result
+CountsRead visits reads.Long limit old new line before after result = after ≡ before
+CountsRead visits reads.End limit old new line before after result = Unit {0}

@@ -8,17 +8,17 @@ ghost use Rattle.std.specs.Prelude.{◌≡◌, ◌≢◌, ◌↔◌, ◌⊎◌, 
 ghost use Rattle.lsys_io.specs.Causes.{Rose};
 ghost use Rattle.lsys_spec.specs.Output.{any_refusal, none};
 ghost use Rattle.lsys_words.specs.Words.{options_by, texts};
-ghost use Rattle.lsys_cli.specs.Ends.{IsWithin, WroteFront, WroteGiven, WroteLacking, WroteOutput, WroteWithin, replies};
-ghost use Rattle.lsys_cli.specs.Programs.{IsComplete, OnSample, OnScript, Untouched};
+ghost use Rattle.lsys_cli.specs.Ends.{IsWithin, WroteFront, WroteGiven, WroteLacking, WroteOutput, WroteWithin, replies, seen};
+ghost use Rattle.lsys_cli.specs.Programs.{IsComplete, OnSample, OnScript, Untouched, most_visits};
 
 mod run;
 mod script;
 mod status;
 mod words;
 
-use lsys_flat::Levels;
 use lsys_io::{Sink, Source};
 use lsys_match::Steps;
+use lsys_pass::ForestDerivation;
 use lsys_words::options_of;
 use script::run_by;
 pub use status::Status;
@@ -32,6 +32,10 @@ pub use words::status_without_words;
 ///
 /// The clauses on the script and on what was written say something where the source and the sink tell their bytes. The same
 /// body runs over ends that don't: it is generic in them, so it can't tell them apart.
+///
+/// `asked` counts the questions that are asked, `visited` the entries that are read for them. Over the lines whose replies
+/// were written both rise within the cost of these lines: by at least what their accepted edits need, and at most by that and
+/// the entries of the candidates' traces, and a bound by the limit for each refusal of levels or for want of memory.
 ///
 /// Each clause holds whatever ends are handed in, also those that fail at any later call. So nothing is read behind a heeded
 /// `quit`: were that read to fail, no status could be answered.
@@ -51,24 +55,29 @@ pub fn lsys<S: Source, K: Sink, L: Ledger, V: Ledger>(
 
     // The script was read to its end or to a heeded `quit`, and its output was written; or there was no memory to begin.
     ensures done { result ≡ Status.Done → OnScript (options_by (texts words.now)) (S.left source.old)
-        (λ limit. WroteOutput limit false (K.written sink.old) (K.written sink.new)) }
+        (λ limit. WroteOutput most_visits limit false
+        (seen K.written sink.old asked.old visited.old) (seen K.written sink.new asked.new visited.new)) }
     ensures refused { result ≡ Status.Refused → OnScript (options_by (texts words.now)) (S.left source.old)
-        (λ limit. WroteOutput limit true (K.written sink.old) (K.written sink.new)) }
+        (λ limit. WroteOutput most_visits limit true
+        (seen K.written sink.old asked.old visited.old) (seen K.written sink.new asked.new visited.new)) }
     ensures memory { result ≡ Status.Memory
         → Untouched source.old source.new sink.old sink.new asked.old asked.new visited.old visited.new
         ⊎ OnScript (options_by (texts words.now)) (S.left source.old)
-        (λ limit. WroteLacking limit (K.written sink.old) (K.written sink.new)) }
+        (λ limit. WroteLacking most_visits limit
+        (seen K.written sink.old asked.old visited.old) (seen K.written sink.new asked.new visited.new)) }
 
     // The other ends: what was written then, and their causes.
     ensures read_fault { result ≡ Status.ReadFault → OnScript (options_by (texts words.now)) (S.left source.old)
-        (λ limit. WroteGiven limit (S.left source.new) (K.written sink.old) (K.written sink.new)) }
+        (λ limit. WroteGiven most_visits limit (S.left source.new)
+        (seen K.written sink.old asked.old visited.old) (seen K.written sink.new asked.new visited.new)) }
     ensures read_fault_only_where_rose { result ≡ Status.ReadFault → Rose (S.faults source.old) (S.faults source.new) }
     ensures read_fault_only_where_read { result ≡ Status.ReadFault → OnSample (options_by (texts words.now)) ⊥ }
     ensures write_fault { result ≡ Status.WriteFault → OnScript (options_by (texts words.now)) (S.left source.old)
         (λ limit. WroteFront limit (K.written sink.old) (K.written sink.new)) }
     ensures write_fault_only_where_rose { result ≡ Status.WriteFault → Rose (K.faults sink.old) (K.faults sink.new) }
     ensures too_long { result ≡ Status.TooLong → OnScript (options_by (texts words.now)) (S.left source.old)
-        (λ limit. WroteWithin limit (K.written sink.old) (K.written sink.new)) }
+        (λ limit. WroteWithin most_visits limit
+        (seen K.written sink.old asked.old visited.old) (seen K.written sink.new asked.new visited.new)) }
 
     // No failure is passed over.
     ensures no_read_fault_passed_over { result ≢ Status.ReadFault → S.faults source.new ≡ S.faults source.old }
@@ -84,7 +93,7 @@ pub fn lsys<S: Source, K: Sink, L: Ledger, V: Ledger>(
 {
     match options_of(alloc, words) {
         Ok(Some(options)) => {
-            run_by::<S, K, L, V, Levels<L>>(alloc, options, source, sink, asked, visited)
+            run_by::<S, K, L, V, ForestDerivation<L>>(alloc, options, source, sink, asked, visited)
         }
         Ok(None) => Status::Usage,
         Err(_) => Status::Memory,

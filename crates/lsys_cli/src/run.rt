@@ -5,8 +5,8 @@ ghost use Rattle.lsys_io.specs.declared.lines.Stage.TheVariants.{Going};
 ghost use Rattle.lsys_desk.specs.Views.{desk_on};
 ghost use Rattle.lsys_desks.specs.Desks.{opening_desk};
 ghost use Rattle.lsys_session.specs.Answers.{refuses, lacks_memory};
-ghost use Rattle.lsys_cli.specs.Ends.{Ends};
-ghost use Rattle.lsys_cli.specs.Runs.{status_of, AnswersRead};
+ghost use Rattle.lsys_cli.specs.Ends.{Ends, seen};
+ghost use Rattle.lsys_cli.specs.Runs.{status_of, AnswersRead, CountsRead};
 
 use crate::status::Status;
 use lsys_desk::Desk;
@@ -76,8 +76,8 @@ pub fn run<S: Source, K: Sink, L: Ledger, V: Ledger, D: Derivation<L> + Drop>(
     requires opening { desk_on D.system_of desk.old ≡ opening_desk }
     requires empty { out.old ≡ [] }
     requires fresh { reader.old ≡ record { held = []; taken = 0; line = []; stage = Going } }
-    ensures ends { Ends (D.limit_of desk.old.derivation) (S.left source.old) (S.left source.new)
-        (K.written sink.old) (K.written sink.new) result }
+    ensures ends { Ends D.visits (D.limit_of desk.old.derivation) (S.left source.old) (S.left source.new)
+        (seen K.written sink.old asked.old visited.old) (seen K.written sink.new asked.new visited.new) result }
     ensures read_fault_only_where_rose { result ≡ Status.ReadFault → Rose (S.faults source.old) (S.faults source.new) }
     ensures write_fault_only_where_rose { result ≡ Status.WriteFault → Rose (K.faults sink.old) (K.faults sink.new) }
     ensures no_read_fault_passed_over { result ≢ Status.ReadFault → S.faults source.new ≡ S.faults source.old }
@@ -118,6 +118,10 @@ fn answer_line<K: Sink, L: Ledger, V: Ledger, D: Derivation<L> + Drop>(
     requires empty { out.old ≡ [] }
     ensures replies { AnswersRead K.written K.faults sink.old sink.new out.new read
         (D.limit_of desk.old.derivation) (desk_on D.system_of desk.old) (desk_on D.system_of desk.new) line.now result }
+    ensures counts { CountsRead D.visits read (D.limit_of desk.old.derivation)
+        (desk_on D.system_of desk.old) (desk_on D.system_of desk.new) line.now
+        (record { asked = asked.old; visited = visited.old })
+        (record { asked = asked.new; visited = visited.new }) result }
     ensures limit { D.limit_of desk.new.derivation ≡ D.limit_of desk.old.derivation }
     ensures empty { out.new ≡ [] }
     ensures failed_only_where_rose { OnErr result (Rose (K.faults sink.old) (K.faults sink.new)) }

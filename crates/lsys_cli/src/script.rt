@@ -4,7 +4,7 @@ ghost use Rattle.std.specs.declared.option.Option.{Option};
 ghost use Rattle.lsys_io.specs.Causes.{Rose};
 ghost use Rattle.lsys_spec.specs.Samples as samples;
 ghost use Rattle.lsys_words.specs.Words.{HasLimit};
-ghost use Rattle.lsys_cli.specs.Ends.{Ends};
+ghost use Rattle.lsys_cli.specs.Ends.{Ends, seen};
 ghost use Rattle.lsys_cli.specs.Programs.{OfSample, Untouched, UntouchedSink, script_of};
 
 use crate::run::run;
@@ -29,8 +29,8 @@ pub fn run_by<S: Source, K: Sink, L: Ledger, V: Ledger, D: Derivation<L> + Drop>
     requires { HasLimit options }
     ensures ends { ((result ≡ Status.Memory)
         × Untouched source.old source.new sink.old sink.new asked.old asked.new visited.old visited.new)
-        ⊎ Ends options.limit (script_of options (S.left source.old)) (S.left source.new)
-        (K.written sink.old) (K.written sink.new) result }
+        ⊎ Ends D.visits options.limit (script_of options (S.left source.old)) (S.left source.new)
+        (seen K.written sink.old asked.old visited.old) (seen K.written sink.new asked.new visited.new) result }
     ensures sample { OfSample options.sample ((source.new ≡ source.old) × (result ≢ Status.ReadFault)) }
     ensures read_fault_only_where_rose { result ≡ Status.ReadFault → Rose (S.faults source.old) (S.faults source.new) }
     ensures write_fault_only_where_rose { result ≡ Status.WriteFault → Rose (K.faults sink.old) (K.faults sink.new) }
@@ -62,8 +62,8 @@ fn run_sample<K: Sink, L: Ledger, V: Ledger, D: Derivation<L> + Drop>(
 ) -> Status
     requires { limit ≤ 1000000 }
     ensures ends { ((result ≡ Status.Memory) × UntouchedSink sink.old sink.new asked.old asked.new visited.old visited.new)
-        ⊎ ((left : Option (List ℕ)) → Ends limit (Some (samples.sample number)) left
-        (K.written sink.old) (K.written sink.new) result) }
+        ⊎ ((left : Option (List ℕ)) → Ends D.visits limit (Some (samples.sample number)) left
+        (seen K.written sink.old asked.old visited.old) (seen K.written sink.new asked.new visited.new) result) }
     ensures no_read_fault { result ≢ Status.ReadFault }
     ensures write_fault_only_where_rose { result ≡ Status.WriteFault → Rose (K.faults sink.old) (K.faults sink.new) }
     ensures no_write_fault_passed_over { result ≢ Status.WriteFault → K.faults sink.new ≡ K.faults sink.old }
@@ -88,7 +88,8 @@ fn run_script<S: Source, K: Sink, L: Ledger, V: Ledger, D: Derivation<L> + Drop>
     requires { limit ≤ 1000000 }
     ensures ends { ((result ≡ Status.Memory)
         × Untouched source.old source.new sink.old sink.new asked.old asked.new visited.old visited.new)
-        ⊎ Ends limit (S.left source.old) (S.left source.new) (K.written sink.old) (K.written sink.new) result }
+        ⊎ Ends D.visits limit (S.left source.old) (S.left source.new)
+        (seen K.written sink.old asked.old visited.old) (seen K.written sink.new asked.new visited.new) result }
     ensures read_fault_only_where_rose { result ≡ Status.ReadFault → Rose (S.faults source.old) (S.faults source.new) }
     ensures write_fault_only_where_rose { result ≡ Status.WriteFault → Rose (K.faults sink.old) (K.faults sink.new) }
     ensures no_read_fault_passed_over { result ≢ Status.ReadFault → S.faults source.new ≡ S.faults source.old }

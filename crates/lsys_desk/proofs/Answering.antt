@@ -76,7 +76,7 @@ same_reply : (d : Desk) (b : Bool) (r : Reply) (spelled : Option Command) → (d
 same_reply d true r spelled = refl
 same_reply d false r spelled = refl
 
-refusal_refuses : (e : Refusal) → refuses (refusal_outcome e) ≡ true
+pub refusal_refuses : (e : Refusal) → refuses (refusal_outcome e) ≡ true
 refusal_refuses refusals.Memory = refl
 refusal_refuses (refusals.Byte n) = refl
 refusal_refuses refusals.LongLine = refl

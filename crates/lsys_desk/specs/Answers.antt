@@ -1,14 +1,17 @@
 -- What a desk answers, where memory may be wanting.
-use Rattle.std.specs.Prelude.{◌≡◌, ℕ, Bool, true, false, ◌&&◌, Option, Some, None, Result, IfOk, List, []}
+use Rattle.std.specs.Prelude.{◌≡◌, ℕ, Bool, true, false, ◌&&◌, Option, Some, None, is_some, Result, IfOk, List, []}
 use Rattle.lsys_io.specs.Writes.{Puts}
 use Rattle.lsys_io.specs.declared.Failed.{Failed}
 use Rattle.lsys_spec.specs.Systems.{System}
 use Rattle.lsys_spec.specs.Refusals.{Reply, is_long}
 use Rattle.lsys_spec.specs.Replies.{edited, levels_of}
+use Rattle.lsys_spec.specs.Costs.{edit_by}
 use Rattle.lsys_history.specs.Timelines.{Timeline}
 use Rattle.lsys_desks.specs.Desks.{Desk, DeskLine, DeskReply, bare_asks, desk_memory_or, led, reply_by}
+use Rattle.lsys_desks.specs.Costs.{leads_by}
 use Rattle.lsys_session.specs.Answers.{ends_session, is_derived, lacks_memory, line_reply, line_spelled, may_lack, refuses}
 use Rattle.lsys_session.specs.declared.outcome.Outcome.{Outcome}
+use Rattle.lsys_session.specs.declared.outcome.Outcome.TheVariants as outcomes
 
 -- 1. replies to lines without their LF and CR
 
@@ -61,3 +64,17 @@ step_answer limit d to steps = led d (edited limit d.system to (levels_of limit 
 -- any levels are asked for.
 abbrev pub is_led : System → List ℕ → Bool
 is_led s line = elim (line_asks line) [ None ↦ is_derived s line | Some asked ↦ false ]
+
+-- 4. where a line leads
+
+-- the system that a line leads the desk to, by an edit, an undo or a redo
+abbrev pub leads_to : Desk → List ℕ → Option System
+leads_to d line = leads_by d (line_asks line) (edit_by d.system (line_spelled line))
+
+abbrev pub is_accepted : Outcome → Bool
+is_accepted outcomes.Accepted = true
+is_accepted o = false
+
+-- What isn't refused is accepted exactly where it leads to a system.
+abbrev pub TellsLead : Option System → Outcome → Type 0
+TellsLead next o = refuses o ≡ false → is_accepted o ≡ is_some next

@@ -1,11 +1,13 @@
 //! Desks: one line after another.
-ghost use Rattle.std.specs.Prelude.{◌≡◌, ◌≤◌, [], None, true, false, length, IfOk};
+ghost use Rattle.std.specs.Prelude.{◌≡◌, ◌≤◌, [], None, Some, true, false, length, IfOk};
 ghost use Rattle.lsys_syntax.specs.Limits.{most_line_bytes};
 ghost use Rattle.lsys_laws.specs.Sessions.{HasLevels};
+ghost use Rattle.lsys_spec.specs.Costs.{edit_by};
+ghost use Rattle.lsys_desks.specs.Costs.{own_leads};
 ghost use Rattle.lsys_desks.specs.Desks.{EachKept, bare_asks, opening_desk, own_reply};
 ghost use Rattle.lsys_desks.specs.Desks as desks;
-ghost use Rattle.lsys_session.specs.Answers.{Counts, is_derived};
-ghost use Rattle.lsys_desk.specs.Answers.{Answers, GivesOrLacks, is_led, step_answer};
+ghost use Rattle.lsys_session.specs.Answers.{Counts, is_derived, line_spelled};
+ghost use Rattle.lsys_desk.specs.Answers.{Answers, GivesOrLacks, TellsLead, is_led, leads_to, step_answer};
 ghost use Rattle.lsys_desk.specs.Steps.{CanStep, steps_by};
 ghost use Rattle.lsys_desk.specs.Views.{desk_line_of, desk_on};
 
@@ -67,7 +69,7 @@ impl<L: Ledger, D: Derivation<L>> Desk<L, D> {
     ///
     /// An accepted edit asks the questions that are new, and so does an undo or a redo, as an edit from the present system to
     /// the one that it leads to. An edit whose levels are refused or for which memory is wanting asks at most as many as the
-    /// limit has symbols; nothing else asks any.
+    /// limit has symbols; nothing else asks any. A line that isn't refused is accepted exactly where it leads to a system.
     ///
     /// # Errors
     ///
@@ -93,6 +95,7 @@ impl<L: Ledger, D: Derivation<L>> Desk<L, D> {
             (D.system_of self.old.derivation) (D.system_of self.new.derivation)
             (record { asked = asked.old; visited = visited.old })
             (record { asked = asked.new; visited = visited.new }) result }
+        ensures leads { IfOk result (TellsLead (leads_to (desk_on D.system_of self.old) line.now)) }
     {
         if line.len() > MOST_LINE_BYTES {
             return refuse(out, sink, Refusal::LongLine);
@@ -126,6 +129,8 @@ impl<L: Ledger, D: Derivation<L>> Desk<L, D> {
             (D.system_of self.old.derivation) (D.system_of self.new.derivation)
             (record { asked = asked.old; visited = visited.old })
             (record { asked = asked.new; visited = visited.new }) result }
+        ensures leads { IfOk result
+            (TellsLead (edit_by (D.system_of self.old.derivation) (line_spelled line.now))) }
     {
         let request = match request_of(alloc, self.session.system(), line) {
             Ok(request) => request,
@@ -159,6 +164,8 @@ impl<L: Ledger, D: Derivation<L>> Desk<L, D> {
             (D.system_of self.old.derivation) (D.system_of self.new.derivation)
             (record { asked = asked.old; visited = visited.old })
             (record { asked = asked.new; visited = visited.new }) result }
+        ensures leads { IfOk result
+            (TellsLead (own_leads (desk_on D.system_of self.old) (desk_line_of line))) }
     {
         match line {
             DeskLine::Undo => self.undo(alloc, out, sink, asked, visited),
@@ -188,6 +195,8 @@ impl<L: Ledger, D: Derivation<L>> Desk<L, D> {
             (D.system_of self.old.derivation) (D.system_of self.new.derivation)
             (record { asked = asked.old; visited = visited.old })
             (record { asked = asked.new; visited = visited.new }) result }
+        ensures leads { IfOk result
+            (TellsLead (own_leads (desk_on D.system_of self.old) desks.undo)) }
     {
         let Some(last) = self.history.last() else {
             return say(out, sink, b"refused undo\n", Outcome::Refused);
@@ -218,6 +227,8 @@ impl<L: Ledger, D: Derivation<L>> Desk<L, D> {
             (D.system_of self.old.derivation) (D.system_of self.new.derivation)
             (record { asked = asked.old; visited = visited.old })
             (record { asked = asked.new; visited = visited.new }) result }
+        ensures leads { IfOk result
+            (TellsLead (own_leads (desk_on D.system_of self.old) desks.redo)) }
     {
         let Some(next) = self.history.next() else {
             return say(out, sink, b"refused redo\n", Outcome::Refused);
@@ -252,6 +263,7 @@ impl<L: Ledger, D: Derivation<L>> Desk<L, D> {
             (D.system_of self.old.derivation) (D.system_of self.new.derivation)
             (record { asked = asked.old; visited = visited.old })
             (record { asked = asked.new; visited = visited.new }) result }
+        ensures leads { IfOk result (TellsLead (Some system)) }
     {
         let Ok(present) = self.session.system().clone() else {
             return refuse(out, sink, Refusal::Memory);

@@ -5,7 +5,7 @@ use Rattle.std.specs.Option.{option_and_then}
 use Rattle.std.proofs.lemmas.Bool.{cases_eq}
 use Rattle.std.proofs.lemmas.Grind.{common_steps}
 use Rattle.std.proofs.lemmas.Option.{none-some}
-use Rattle.lsys_region.proofs.ListLemmas.{slice_get-push_cases}
+use Rattle.lsys_region.proofs.ListLemmas.{slice_get-push_old, slice_get-push_new, slice_get-push_cases}
 use Rattle.lsys_forest.specs.Nodes.{Node, Nodes, put, with_answer}
 use Rattle.lsys_forest.specs.Changes.{Change, OldAnswer}
 use Rattle.lsys_forest.specs.Answers.{Keeper, AtNode, AtChange, answer_of, old_answer, answers}
@@ -55,13 +55,14 @@ source_once node last (AtChange i) (AtChange j) a b e = elim (source_cases node 
 
 module _ {A : Type 0} where
   pub keeps_same : (kept : Keeper → Option A) → KeepsOld kept kept
-  keeps_same kept = record { from = λ h. h; came = λ h a e. e; apart = λ h i a b e f same. same }
+  keeps_same kept = record { from = λ h. h; came = λ h a e. e; apart = λ h i a b e f same. same; still = λ h a e. (h, e) }
 
   pub keeps_on : (old mid new : Keeper → Option A) → KeepsOld old mid → KeepsOld mid new → KeepsOld old new
   keeps_on old mid new one two = record {
     from = λ h. one.from (two.from h);
     came = λ h a e. one.came (two.from h) a (two.came h a e);
     apart = λ h i a b e f same. two.apart h i a b e f (one.apart (two.from h) (two.from i) a b (two.came h a e) (two.came i b f) same);
+    still = λ h a e. let k = one.still h a e in two.still k.0 a k.1;
   }
 
   -- 2. the answer of a node is taken
@@ -101,12 +102,30 @@ module _ {A : Type 0} where
         ]
       ]
 
+  -- each answer that was kept is kept still
+  kept_still : (m : Nodes A) (changes : List (Change A)) (node : ℕ) (n : Node A) → m node ≡ Some n → (h : Keeper) (a : A) → answers m changes h ≡ Some a
+      → (i : Keeper) × (answers (put m node (Some (with_answer None n))) (changes ++ note_of node n ∷ []) i ≡ Some a)
+  kept_still m changes node n is (AtNode k) a e = elim (cases_eq k node) [
+    | inl s ↦ (
+      AtChange (length changes),
+      ap (option_and_then old_answer) (slice_get-push_new changes (note_of node n)) ∙ sym (ap (option_and_then answer_of) (ap m s ∙ is)) ∙ e,
+    )
+    | inr ne ↦ (AtNode k, ap (option_and_then answer_of) (put_other m node k (Some (with_answer None n)) ne) ∙ e)
+  ]
+  kept_still m changes node n is (AtChange i) a e = go (slice_get changes i) refl e
+    where
+      go : (o : Option (Change A)) → slice_get changes i ≡ o → option_and_then old_answer o ≡ Some a
+          → (j : Keeper) × (answers (put m node (Some (with_answer None n))) (changes ++ note_of node n ∷ []) j ≡ Some a)
+      go None f g = absurd (none-some a g)
+      go (Some x) f g = (AtChange i, ap (option_and_then old_answer) (slice_get-push_old changes i x (note_of node n) f) ∙ g)
+
   pub keeps_others : (m : Nodes A) (changes : List (Change A)) (node : ℕ) (n : Node A) → m node ≡ Some n
       → KeepsOld (answers m changes) (answers (put m node (Some (with_answer None n))) (changes ++ note_of node n ∷ []))
   keeps_others m changes node n is = record {
     from = source node (length changes);
     came = λ h a e. (is_other m changes node n is h a e).was;
     apart = λ h i a b e f same. source_once node (length changes) h i (is_other m changes node n is h a e).other (is_other m changes node n is i b f).other same;
+    still = kept_still m changes node n is;
   }
 
   -- 3. forests

@@ -4,12 +4,14 @@ use Rattle.lsys_forest.specs.Answers.{Keeper}
 use Rattle.lsys_forest.specs.Groves.{Grove, rest_of, kept_in, live_nodes}
 
 module _ {A : Type 0} where
-  -- Each answer that is kept was kept before, by the same keeper or by another one; and no two keepers have one of those.
+  -- Each answer that is kept was kept before, by the same keeper or by another one, and no two keepers have one of those;
+  -- and none is lost.
   pub record KeepsOld (old new : Keeper → Option A) : Type 0 where
     pub from : Keeper → Keeper
     pub came : (h : Keeper) (a : A) → new h ≡ Some a → old (from h) ≡ Some a
     pub apart : (h i : Keeper) (a b : A) → new h ≡ Some a → new i ≡ Some b
         → from h ≡ from i → h ≡ i
+    pub still : (h : Keeper) (a : A) → old h ≡ Some a → (i : Keeper) × (new i ≡ Some a)
 
   -- No answer is new and no node came, and the last rest stays.
   pub record LosesOnly (old new : Grove A) : Type 0 where

@@ -14,4 +14,4 @@ pub use image::Image;
 pub use law::law_of_images;
 pub use part::Part;
 pub use refusal::ImageRefusal;
-pub use walk::part_of;
+pub use walk::{Walk, part_of};

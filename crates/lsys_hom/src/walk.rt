@@ -18,9 +18,10 @@ use std::marker::Model;
 /// The greatest number of symbols that an image may have.
 const MOST_SYMBOLS: u32 = 1_000_000;
 
-/// The way along a level, from left to right.
+/// The way along a level, from left to right. Contracts see what is still to come of the level's image, and how many symbols of the
+/// level are left. It takes no memory.
 #[derive(Drop)]
-pub(crate) struct Walk<'a, W: LevelView> {
+pub struct Walk<'a, W: LevelView> {
     view: &'a W,
     rules: &'a [HomRule],
     /// Where the next symbol stands.
@@ -46,8 +47,8 @@ impl<'a, W: LevelView> Model for Walk<'a, W> {
 }
 
 impl<'a, W: LevelView> Walk<'a, W> {
-    /// At the left end of a level.
-    pub(crate) fn new(view: &'a W, rules: &'a [HomRule], level: u32) -> Walk<'a, W>
+    /// At the left end of a level. A level has at most `u32::MAX` symbols, as each level within a limit has.
+    pub fn new(view: &'a W, rules: &'a [HomRule], level: u32) -> Walk<'a, W>
         requires level { level < length (W.levels view.now) }
         requires few { length (level_at (W.levels view.now) level) ≤ u32.MAX }
         ensures { result.coming ≡ coming_from (map homomorphism_of rules.now) 0 0
@@ -79,7 +80,11 @@ impl<'a, W: LevelView> Walk<'a, W> {
     }
 
     /// Passes one symbol of the level, and tells its image; None at the level's end.
-    fn pass(&mut self) -> Result<Option<Part<'a>>, ImageRefusal>
+    ///
+    /// # Errors
+    ///
+    /// The symbol's refusal of the image. It isn't passed.
+    pub fn pass(&mut self) -> Result<Option<Part<'a>>, ImageRefusal>
         ensures { IsPassed self.old self.new result }
     {
         let Some(spot) = self.spot else {

@@ -17,3 +17,4 @@ pub use nesting::image_nesting;
 pub use refusal::PictureRefusal;
 pub use segments::segments_text;
 pub use svg::svg_text;
+pub use way::Way;

@@ -25,7 +25,7 @@ pub(crate) enum Step {
 
 /// A way over an image. Contracts see what is still to come of the image, and how many of its modules were passed.
 #[derive(Drop)]
-pub(crate) struct Way<'a, W: LevelView> {
+pub struct Way<'a, W: LevelView> {
     image: Image<'a, W>,
     modules: u32,
 }
@@ -44,11 +44,7 @@ impl<'a, W: LevelView> Model for Way<'a, W> {
 
 impl<'a, W: LevelView> Way<'a, W> {
     /// At the start of the last level's image, and the turtle at its start.
-    pub(crate) fn new<T: Lattice>(
-        view: &'a W,
-        system: &'a System,
-        turtle: &mut Turtle<T>,
-    ) -> Way<'a, W>
+    pub fn new<T: Lattice>(view: &'a W, system: &'a System, turtle: &mut Turtle<T>) -> Way<'a, W>
         requires last { HasLast system.now (W.levels view.now) }
         requires room { image_nesting system.now (W.levels view.now) ≤ turtle.old.room }
         ensures drawing { drawing T.shape result turtle.new.turtle ≡ last_drawing T.shape system.now (W.levels view.now) }
@@ -67,7 +63,7 @@ impl<'a, W: LevelView> Way<'a, W> {
     /// # Errors
     ///
     /// The image's refusal, and else the first module that would lead too far. Never `Failed`.
-    pub(crate) fn next<T: Lattice>(
+    pub fn next<T: Lattice>(
         &mut self,
         turtle: &mut Turtle<T>,
     ) -> Result<Option<Segment>, PictureRefusal>

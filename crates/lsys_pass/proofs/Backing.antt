@@ -9,7 +9,7 @@ use Rattle.lsys_reads.specs.Relations.{Relations, SettledStay}
 use Rattle.lsys_forest.specs.Changes.{undone}
 use Rattle.lsys_forest.specs.Answers.{answers, kept_by, AreMade, FreesAllBut}
 use Rattle.lsys_forest.specs.Groves.{Grove, now_of, rest_of, changes_in, live_nodes, kept_in}
-use Rattle.lsys_kept.specs.Names.{run_in, holds}
+use Rattle.lsys_kept.specs.Names.{RunName, run_in, holds}
 use Rattle.lsys_kept.specs.Meant.{meant}
 use Rattle.lsys_seats.specs.declared.seat.Seat.{Seat}
 use Rattle.lsys_seats.specs.Seats.{is_marked, HasSeat}
@@ -123,7 +123,7 @@ back_pass v f st reads z w h is still root live frees are settled quiet clear sa
     made = subst (λ m. AreMade run_in holds st (answers m [])) is (subst (λ cs. AreMade run_in holds st (answers (now_of f) cs)) still are)
 
     was_stored : IsStored (was v) [] v.forest.root st
-    was_stored = stored_rest (now v) (changes_in v.forest) v.forest.root v.store st h.stored rest.made stays made
+    was_stored = stored_rest (now v) (changes_in v.forest) v.forest.root v.store st h.stored rest.made stays made frees
 
     stored : IsStored (now_of f) (changes_in f) f.root st
     stored = subst (λ k. IsStored (now_of f) (changes_in f) k st) (sym root) (subst (λ cs. IsStored (now_of f) cs v.forest.root st) (sym still) (subst (λ m. IsStored m [] v.forest.root st) (sym is) was_stored))
@@ -138,11 +138,11 @@ back_pass v f st reads z w h is still root live frees are settled quiet clear sa
     rests = subst (λ k. IsResting v.system v.limit (rest_of f) k st reads v.seats) (sym root) (subst (λ m. IsResting v.system v.limit m v.forest.root st reads v.seats) (sym rest_is) was_rests)
 
 pub new_pass : (f : Grove Kept) (st : Store) (reads : Relations) (seats : List Seat) (z : Sizes) (system : System) (limit : ℕ) (w : Work)
-    → IsAlone (now_of f) f.root → changes_in f ≡ [] → live_nodes f ≡ 1 → system ≡ opening → reads.settled ≡ [] → reads.pending ≡ [] → AreUnmarked seats → HasSeat seats f.root → IsCleared w → z.rest.items ≡ [] → z.made.items ≡ []
+    → IsAlone (now_of f) f.root → ((r : RunName) → run_in st r ≡ None) → changes_in f ≡ [] → live_nodes f ≡ 1 → system ≡ opening → reads.settled ≡ [] → reads.pending ≡ [] → AreUnmarked seats → HasSeat seats f.root → IsCleared w → z.rest.items ≡ [] → z.made.items ≡ []
     → IsPass (resting f st reads seats z system limit w 0)
-new_pass f st reads seats z system limit w alone still live opens none quiet unmarked seated clear sizes made =
+new_pass f st reads seats z system limit w alone bare still live opens none quiet unmarked seated clear sizes made =
     is_resting f st reads seats z system limit w 0
-    (subst (λ cs. IsStored (now_of f) cs f.root st) (sym still) (alone_stored (now_of f) f.root st alone)) (omega (arith, live)) unmarked
+    (subst (λ cs. IsStored (now_of f) cs f.root st) (sym still) (alone_stored (now_of f) f.root st alone bare)) (omega (arith, live)) unmarked
     (sym (ap (λ s. length (questions s (meant s limit))) opens ∙ ap length (opening_questions limit)))
     (subst (λ s. IsResting s limit (rest_of f) f.root st reads seats) (sym opens)
     (subst (λ m. IsResting opening limit m f.root st reads seats) (sym (ap (λ cs. undone cs (now_of f)) still)) (alone_rests (now_of f) f.root limit st reads seats alone none)))

@@ -11,7 +11,8 @@ use Rattle.lsys_change.specs.Nodes.{AreOnce}
 use Rattle.lsys_match.specs.Kept.{Kept}
 use Rattle.lsys_forest.specs.Nodes.{Nodes}
 use Rattle.lsys_forest.specs.Changes.{Change, undone}
-use Rattle.lsys_forest.specs.Answers.{Keeper}
+use Rattle.lsys_forest.specs.Answers.{Keeper, IsHeld}
+use Rattle.lsys_kept.specs.Names.{run_in, holds}
 use Rattle.lsys_forest.specs.Groves.{Grove, In, AreApart, AreSound, IsSound, IsLive, now_of, rest_of, changes_in, live_nodes, kept_in}
 use Rattle.lsys_forest.specs.Rows.{kids_in, level_nodes}
 use Rattle.lsys_forest.proofs.SoundLemmas.{AreSound-now}
@@ -161,6 +162,7 @@ module _ (v : PassView) (f : Grove Kept) (seats : List Seat) (sizes made : List 
       sound = b.sound;
       made = λ k a e. h.stored.made k a (ap (λ (q : Keeper → Option Kept). q k) (sym b.kept) ∙ e);
       once = λ i j a c r e g held other. h.stored.once i j a c r (ap (λ (q : Keeper → Option Kept). q i) (sym b.kept) ∙ e) (ap (λ (q : Keeper → Option Kept). q j) (sym b.kept) ∙ g) held other;
+      freed = λ r not. h.stored.freed r (subst (λ (q : Keeper → Option Kept). IsHeld run_in holds q r → ⊥) b.kept not);
     };
     few = b.few;
     unmarked = λ k. s.marks k ∙ h.unmarked k;

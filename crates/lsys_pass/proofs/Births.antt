@@ -131,3 +131,25 @@ module _ (f f' : Grove Kept) (same : KeepsNodes f f') where
     tells = told_of (nodes_in ps) (now_of f) (now_of h) before after t c a (subst (λ (m : Nodes Kept). TellsAllOf m (now_of h) (mirrored (nodes_in ps)) before after) same.now tells);
     gone = gone ∙ ap (λ (ks : List ℕ). ks ++ gone_of g (now_of f') ps) none ∙ ap (λ (m : Nodes Kept). gone_of g m ps) same.now ∙ ap (λ (n : Numbering). gone_of n (now_of f) ps) e;
   }
+
+-- 4. and then its levels were linked
+
+module _ (f g h : Grove Kept) (same : KeepsNodes g h) where
+  pub linked_keeps : KeepsAnswers f g → KeepsAnswers f h
+  linked_keeps k =
+      let l = keeps_roomy g h same k.sound k.few in
+      record {
+        rest = l.rest ∙ k.rest;
+        root = l.root ∙ k.root;
+        kept = l.kept ∙ k.kept;
+        sound = l.sound;
+        few = l.few;
+      }
+
+  pub linked_made : (n : Numbering) (ps : List Parent) (told : Told) → MakesBelow n f g ps told → MakesBelow n f h ps told
+  linked_made n ps told m = record {
+    renewals = λ seed depth by are says.
+        subst (λ (k : Nodes Kept). AreRenewals n seed (now_of f) k f.root depth by (nodes_in ps)) (sym same.now) (m.renewals seed depth by are says);
+    tells = subst (λ (k : Nodes Kept). TellsAllOf (now_of f) k (nodes_in ps) nothing told) (sym same.now) m.tells;
+    gone = m.gone;
+  }

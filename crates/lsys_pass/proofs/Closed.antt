@@ -39,7 +39,7 @@ use Rattle.lsys_pass.specs.Rests.{IsResting}
 use Rattle.lsys_pass.specs.Stages.{IsStored, IsDone}
 use Rattle.lsys_pass.specs.Passes as P
 use Rattle.lsys_pass.specs.Passes.{PassView, stage_of, now, HoldsAt, AllHaveSeats, FrontAt, IsPass}
-use Rattle.lsys_pass.proofs.Keepers.{stay_kept, only_node, all_made}
+use Rattle.lsys_pass.proofs.Keepers.{stay_kept, freed_all, only_node, all_made}
 use Rattle.lsys_pass.specs.Works.{IsCleared}
 use Rattle.lsys_pass.proofs.Backing.{resting, is_resting}
 use Rattle.lsys_pass.proofs.Asking.{Stands, stands, there_at}
@@ -130,6 +130,7 @@ module _ (v : PassView) (h : IsPass v) (state : v.state ≡ Done) where
       sound = AreSound-rest v.forest.root m' sound';
       made = λ k a e. let n = only_node m' k a e in (stays n.0 a n.1).made;
       once = λ k i a b r e g ha hb. still.once k i a b r e g ha hb;
+      freed = freed_all (kept_in v.forest) (kept_by m') v.store st' c.store h.stored.freed;
     }))
       where
         still : AreMade run_in holds st' (answers m' [])

@@ -51,4 +51,5 @@ stored_less f g store sound loses h = record {
   sound = sound;
   made = λ j a e. h.made (loses.kept.from j) a (loses.kept.came j a e);
   once = λ i j a b r e e' held held'. loses.kept.apart i j a b e e' (h.once (loses.kept.from i) (loses.kept.from j) a b r (loses.kept.came i a e) (loses.kept.came j b e') held held');
+  freed = λ r not. h.freed r (λ of. not (let k = loses.kept.still of.0 of.1 of.2 in (k.0, of.1, k.1, of.3)));
 }

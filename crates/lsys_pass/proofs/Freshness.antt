@@ -12,7 +12,8 @@ use Rattle.lsys_change.proofs.UpTo.{level_count}
 use Rattle.lsys_level.specs.Spots.{Spotted, level_by}
 use Rattle.lsys_match.specs.Kept.{Kept}
 use Rattle.lsys_forest.specs.Nodes.{Node, Nodes}
-use Rattle.lsys_forest.specs.Answers.{Keeper, answer_of}
+use Rattle.lsys_forest.specs.Answers.{Keeper, answer_of, IsHeld}
+use Rattle.lsys_kept.specs.Names.{run_in, holds}
 use Rattle.lsys_forest.specs.Groves.{Grove, In, IsLive, IsSound, now_of, rest_of, changes_in}
 use Rattle.lsys_forest.specs.Rows.{kids_in, kids_below, level_nodes, level_spots, AreBalancedTo}
 use Rattle.lsys_forest.proofs.RowLemmas.{In_append, level_depth}
@@ -409,6 +410,7 @@ made_failed v h seats sizes made d pass failed keeps same marks kept stay = stil
     sound = keeps.sound;
     made = λ i b e. pass.stored.made i b (ap (λ (f : Keeper → Option Kept). f i) (sym keeps.kept) ∙ e);
     once = λ i j b c run e f. pass.stored.once i j b c run (ap (λ (f : Keeper → Option Kept). f i) (sym keeps.kept) ∙ e) (ap (λ (f : Keeper → Option Kept). f j) (sym keeps.kept) ∙ f);
+    freed = λ run not. pass.stored.freed run (subst (λ (f : Keeper → Option Kept). IsHeld run_in holds f run → ⊥) keeps.kept not);
   };
   few = keeps.few;
   unmarked = λ k. marks k ∙ pass.unmarked k;

@@ -1,24 +1,25 @@
 -- Who keeps which answer, after one is set and after all changes are undone.
 use Rattle.std.proofs.Common.{◌≡◌, ◌≢◌, ◌⊎◌, ℕ, List, [], ◌∷◌, ◌++◌, length, Option, Some, None, refl, sym, ap, ◌∙◌, subst, arith, inl, inr}
-use Rattle.std.specs.Prelude.{ℤ, IsSome, cond, nat_eq, slice_get, option_map}
+use Rattle.std.specs.Prelude.{ℤ, IsSome, IfSome, cond, nat_eq, slice_get, option_map}
 use Rattle.std.specs.Option.{option_and_then}
 use Rattle.std.proofs.lemmas.Bool.{cases_eq}
 use Rattle.std.proofs.lemmas.Grind.{common_steps}
 use Rattle.std.proofs.lemmas.Option.{none-some, same_Some}
 use Rattle.lsys_region.specs.Pool.{Pool, list_at, list_of, IsLive}
-use Rattle.lsys_region.proofs.ListLemmas.{slice_get-push_cases}
+use Rattle.lsys_region.proofs.ListLemmas.{slice_get-push_old, slice_get-push_new, slice_get-push_cases}
 use Rattle.lsys_walks.specs.declared.entry.Entry.{Entry}
-use Rattle.lsys_walks.specs.Stores.{Store}
+use Rattle.lsys_walks.specs.Stores.{Store, AreGone, OtherTracesStay}
 use Rattle.lsys_match.specs.Kept.{Kept}
-use Rattle.lsys_match.specs.Asks.{IsMade, IsNew}
+use Rattle.lsys_match.specs.Stored.{runs_of}
+use Rattle.lsys_match.specs.Asks.{IsMade, IsNew, StaysAsKept}
 use Rattle.lsys_match.specs.KeptAnswers.{HoldOwnRuns, StaysMade}
 use Rattle.lsys_match.proofs.Staying.{stays_made, own_runs, stays_new}
 use Rattle.lsys_forest.specs.Nodes.{Node, Nodes, put, with_answer}
 use Rattle.lsys_forest.specs.Changes.{Change, OldAnswer, undone}
-use Rattle.lsys_forest.specs.Answers.{Keeper, AtNode, AtChange, answer_of, old_answer, answers, kept_by, AreMade, FreesAllBut}
+use Rattle.lsys_forest.specs.Answers.{Keeper, AtNode, AtChange, answer_of, old_answer, answers, kept_by, IsHeld, AreMade, FreesAllBut}
 use Rattle.lsys_forest.proofs.StockLemmas.{put_same, put_other}
 use Rattle.lsys_forest.proofs.SoundLemmas.{IsSet, set_answer, set_sound, set_back, AreSound-push, AreSound-rest, AreSound-now, AreSound-then}
-use Rattle.lsys_kept.specs.Names.{RunName, InTraces, InValues, Entries, Values, run_in, holds}
+use Rattle.lsys_kept.specs.Names.{RunName, RunList, InTraces, InValues, Entries, Values, run_in, holds}
 use Rattle.lsys_kept.specs.Levels.{answer_at}
 use Rattle.lsys_pass.specs.Stages.{IsStored}
 use Rattle.lsys_pass.proofs.Stores.{AllMade, AllStay}
@@ -99,6 +100,28 @@ came m changes node n a is (AtChange i) b e = go (slice_get (changes ++ note_of 
       ]
     ]
 
+-- each answer that was kept is kept still
+kept_still : (m : Nodes Kept) (changes : List (Change Kept)) (node : ℕ) (n : Node Kept) (a : Kept) → m node ≡ Some n → (h : Keeper) (b : Kept)
+    → answers m changes h ≡ Some b → (i : Keeper) × (answers (put m node (Some (with_answer (Some a) n))) (changes ++ note_of node n ∷ []) i ≡ Some b)
+kept_still m changes node n a is (AtNode k) b e = elim (cases_eq k node) [
+  | inl s ↦ (
+    AtChange (length changes),
+    ap (option_and_then old_answer) (slice_get-push_new changes (note_of node n)) ∙ sym (ap (option_and_then answer_of) (ap m s ∙ is)) ∙ e,
+  )
+  | inr ne ↦ (AtNode k, ap (option_and_then answer_of) (put_other m node k (Some (with_answer (Some a) n)) ne) ∙ e)
+]
+kept_still m changes node n a is (AtChange i) b e = go (slice_get changes i) refl e
+  where
+    go : (o : Option (Change Kept)) → slice_get changes i ≡ o → option_and_then old_answer o ≡ Some b
+        → (j : Keeper) × (answers (put m node (Some (with_answer (Some a) n))) (changes ++ note_of node n ∷ []) j ≡ Some b)
+    go None f g = absurd (none-some b g)
+    go (Some x) f g = (AtChange i, ap (option_and_then old_answer) (slice_get-push_old changes i x (note_of node n) f) ∙ g)
+
+-- a run that the answer doesn't hold is live or not as it was
+other_run : (old new : Store) (a : Kept) → OtherTracesStay old new (runs_of a) → (r : RunName) → (holds a r → ⊥) → run_in new r ≡ run_in old r
+other_run old new a others (InTraces n) not = ap (option_map (λ xs. Entries xs)) (others.0 (Some n) (λ e. not (sym e)))
+other_run old new a others (InValues n) not = ap (option_map (λ xs. Values xs)) (others.1 (Some n) (λ e. not (sym e)))
+
 no_run : (a b : Kept) → HoldOwnRuns a b → (r : RunName) → holds a r → holds b r → ⊥
 no_run a b own (InTraces n) h i = own.entries n h i
 no_run a b own (InValues n) h i = own.values n h i
@@ -113,6 +136,9 @@ stored_set m changes root node n old new asked a is news h = record {
       (set_sound root changes (note_of node n) m node n (with_answer (Some a) n) set (AreSound-now root changes m h.sound)) h.sound;
   made = λ k b e. made_by k b (came m changes node n a is k b e);
   once = λ k i b c r e f hb hc. once_by k i b c r (came m changes node n a is k b e) (came m changes node n a is i c f) hb hc;
+  freed = λ r not.
+      other_run old new a news.others r (λ of. not (AtNode node, a, ap (option_and_then answer_of) (put_same m node node (Some (with_answer (Some a) n)) refl), of))
+      ∙ h.freed r (λ of. not (let k = kept_still m changes node n a is of.0 of.1 of.2 in (k.0, of.1, k.1, of.3)));
 }
   where
     set : IsSet root changes (note_of node n) m node n (with_answer (Some a) n)
@@ -131,13 +157,52 @@ stored_set m changes root node n old new asked a is news h = record {
     once_by k i b c r (is_old e f) (is_old e' f') hb hc =
         source_once node (length changes) k i e e' (h.once (source node (length changes) k) (source node (length changes) i) b c r f f' hb hc)
 
+-- no run comes to live
+abbrev pub NoneComes : Store → Store → Type 0
+NoneComes old new = (r : RunName) → run_in old r ≡ None → run_in new r ≡ None
+
+pub none_kept : (old new : Store) → StaysAsKept old new → NoneComes old new
+none_kept old new stays (InTraces n) e = ap (λ slots. option_map (λ xs. Entries xs) (option_and_then (λ slot. slot.list) (slice_get slots n))) stays.traces.runs ∙ e
+none_kept old new stays (InValues n) e = ap (λ slots. option_map (λ xs. Values xs) (option_and_then (λ slot. slot.list) (slice_get slots n))) stays.values.runs ∙ e
+
+-- where the runs of an answer came to live, and are gone again
+pub none_back : (old mid new : Store) (a : Kept) → OtherTracesStay old mid (runs_of a) → AreGone new (runs_of a) → OtherTracesStay mid new (runs_of a)
+    → NoneComes old new
+none_back old mid new a came gone others (InTraces n) e = by a.entries refl
+  where
+    other : (a.entries ≡ Some n → ⊥) → run_in new (InTraces n) ≡ None
+    other ne = other_run mid new a others (InTraces n) ne ∙ other_run old mid a came (InTraces n) ne ∙ e
+
+    by : (o : Option ℕ) → a.entries ≡ o → run_in new (InTraces n) ≡ None
+    by None f = other (λ g. none-some n (sym f ∙ g))
+    by (Some j) f = elim (cases_eq j n) [
+      | inl s ↦
+          let is : a.entries ≡ Some n = f ∙ ap (λ k. Some k) s in
+          ap (option_map (λ xs. Entries xs)) (subst (λ (o : Option ℕ). IfSome o (λ k. list_at new.traces k ≡ None)) is gone.0)
+      | inr ne ↦ other (λ g. ne (same_Some j n (sym f ∙ g)))
+    ]
+none_back old mid new a came gone others (InValues n) e = by a.values refl
+  where
+    other : (a.values ≡ Some n → ⊥) → run_in new (InValues n) ≡ None
+    other ne = other_run mid new a others (InValues n) ne ∙ other_run old mid a came (InValues n) ne ∙ e
+
+    by : (o : Option ℕ) → a.values ≡ o → run_in new (InValues n) ≡ None
+    by None f = other (λ g. none-some n (sym f ∙ g))
+    by (Some j) f = elim (cases_eq j n) [
+      | inl s ↦
+          let is : a.values ≡ Some n = f ∙ ap (λ k. Some k) s in
+          ap (option_map (λ xs. Values xs)) (subst (λ (o : Option ℕ). IfSome o (λ k. list_at new.values k ≡ None)) is gone.1)
+      | inr ne ↦ other (λ g. ne (same_Some j n (sym f ∙ g)))
+    ]
+
 -- nothing changes but the store
 pub stored_in : (m : Nodes Kept) (changes : List (Change Kept)) (root : ℕ) (old new : Store)
-    → ((a : Kept) → IsMade old a → StaysMade old new a) → IsStored m changes root old → IsStored m changes root new
-stored_in m changes root old new stays h = record {
+    → ((a : Kept) → IsMade old a → StaysMade old new a) → NoneComes old new → IsStored m changes root old → IsStored m changes root new
+stored_in m changes root old new stays none h = record {
   sound = h.sound;
   made = λ k a e. (stays a (h.made k a e)).made;
   once = h.once;
+  freed = λ r not. none r (h.freed r not);
 }
 
 pub all_made : (m : Nodes Kept) (changes : List (Change Kept)) (root : ℕ) (store : Store) → IsStored m changes root store → AllMade m store
@@ -152,7 +217,7 @@ some_run f (Some a) h = refl
 live_at : {T : Type 0} (pool : Pool T) (run : Option ℕ) (n : ℕ) → run ≡ Some n → IsLive pool run → IsSome (list_at pool n)
 live_at pool run n e h = subst (λ r. IsLive pool r) e h
 
-live_run : (s : Store) (a : Kept) → IsMade s a → (r : RunName) → holds a r → IsSome (run_in s r)
+pub live_run : (s : Store) (a : Kept) → IsMade s a → (r : RunName) → holds a r → IsSome (run_in s r)
 live_run s a h (InTraces n) e = some_run (λ xs. Entries xs) (list_at s.traces n) (live_at s.traces a.entries n e h.live.0)
 live_run s a h (InValues n) e = some_run (λ xs. Values xs) (list_at s.values n) (live_at s.values a.values n e h.live.1)
 
@@ -197,15 +262,28 @@ stay_kept m held old new made frees k a e =
     let same : (r : RunName) → holds a r → run_in new r ≡ run_in old r = λ r h. frees.kept_runs r (AtNode k, a, e, h) in
     stays_made old new a (same_entries old new a same) (same_values old new a same) (made k a e)
 
+-- where all runs but these were given back, a run that is none of these isn't live
+pub freed_all : (held kept : Keeper → Option Kept) (old new : Store) → FreesAllBut run_in holds held kept old new
+    → ((r : RunName) → (IsHeld run_in holds held r → ⊥) → run_in old r ≡ None)
+    → (r : RunName) → (IsHeld run_in holds kept r → ⊥) → run_in new r ≡ None
+freed_all held kept old new frees all r not = by (run_in new r) refl
+  where
+    by : (o : Option RunList) → run_in new r ≡ o → run_in new r ≡ None
+    by None e = e
+    by (Some x) e =
+        let none : IsHeld run_in holds held r → ⊥ = λ is. none-some x (sym (frees.freed r is not) ∙ e) in
+        absurd (none-some x (sym (frees.others r none ∙ all r none) ∙ e))
+
 pub only_node : (m : Nodes Kept) (h : Keeper) (a : Kept) → answers m [] h ≡ Some a → (k : ℕ) × (answer_at m k ≡ Some a)
 only_node m (AtNode k) a e = (k, e)
 only_node m (AtChange i) a e = absurd (none-some a e)
 
 pub stored_rest : (m : Nodes Kept) (changes : List (Change Kept)) (root : ℕ) (old new : Store) → IsStored m changes root old
     → AllMade (undone changes m) old → AllStay (undone changes m) old new → AreMade run_in holds new (answers (undone changes m) [])
-    → IsStored (undone changes m) [] root new
-stored_rest m changes root old new h made stays are = record {
+    → FreesAllBut run_in holds (answers m changes) (kept_by (undone changes m)) old new → IsStored (undone changes m) [] root new
+stored_rest m changes root old new h made stays are frees = record {
   sound = AreSound-rest root (undone changes m) (AreSound-then root changes m h.sound);
   made = λ k a e. let n = only_node (undone changes m) k a e in (stays n.0 a n.1).made;
   once = λ k i a b r e f ha hb. are.once k i a b r e f ha hb;
+  freed = freed_all (answers m changes) (kept_by (undone changes m)) old new frees h.freed;
 }

@@ -15,6 +15,7 @@ pub mod Fronting
 pub mod Stepped
 pub mod Moved
 pub mod Backing
+pub mod Runs
 pub mod Closing
 pub mod Counting
 pub mod Totals

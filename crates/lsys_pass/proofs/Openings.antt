@@ -1,6 +1,6 @@
 -- A pass at rest: the opening system, and the last rest.
 use Rattle.std.proofs.Common.{◌≡◌, ◌≢◌, ℕ, zero, suc, ◌<◌, true, false, List, [], ◌∷◌, map, length, Option, Some, None, refl, sym, ap, ◌∙◌, subst, inl, inr, arith}
-use Rattle.std.specs.Prelude.{Ok, nat_lt, slice_get, get_or, option_map}
+use Rattle.std.specs.Prelude.{ℤ, Ok, nat_lt, slice_get, get_or, option_map}
 use Rattle.std.specs.Option.{option_and_then}
 use Rattle.std.proofs.lemmas.Bool.{cases_eq}
 use Rattle.std.proofs.lemmas.Option.{none-some, same_Some}
@@ -13,6 +13,8 @@ use Rattle.lsys_laws.proofs.KeptPlain.{opening_well}
 use Rattle.lsys_spec.specs.Levels.{Symbol, level_balanced}
 use Rattle.lsys_level.specs.Spots.{level_by}
 use Rattle.lsys_reads.specs.Rows.{has}
+use Rattle.lsys_region.specs.Pool.{Pool, empty_pool, list_at}
+use Rattle.lsys_walks.specs.declared.entry.Entry.{Entry}
 use Rattle.lsys_walks.specs.Stores.{Store}
 use Rattle.lsys_match.specs.Kept.{Kept}
 use Rattle.lsys_reads.specs.Relations.{Relations, is_settled}
@@ -23,6 +25,7 @@ use Rattle.lsys_forest.specs.Groves.{AreKids, HasFew, IsSound}
 use Rattle.lsys_forest.specs.Rows.{kids_in, kids_below, spot_in, level_nodes, level_spots}
 use Rattle.lsys_forest.proofs.SoundLemmas.{AreSound-rest}
 use Rattle.lsys_seats.specs.declared.seat.Seat.{Seat}
+use Rattle.lsys_kept.specs.Names.{RunName, InTraces, InValues, Entries, Values, run_in}
 use Rattle.lsys_kept.specs.Lineages.{kin_of, kins, names}
 use Rattle.lsys_kept.specs.Levels.{answer_at}
 use Rattle.lsys_kept.specs.Meant.{meant}
@@ -122,11 +125,17 @@ alone_rests m root limit store reads seats h none = record {
         by zero = refl
         by (suc u) = refl
 
-pub alone_stored : (m : Nodes Kept) (root : ℕ) (store : Store) → IsAlone m root → IsStored m [] root store
-alone_stored m root store h = record {
+-- no run of a new store is live
+pub none_live : (store : Store) → store.traces ≡ empty_pool → store.values ≡ empty_pool → (r : RunName) → run_in store r ≡ None
+none_live store traces values (InTraces n) = ap (λ (p : Pool Entry). option_map (λ xs. Entries xs) (list_at p n)) traces
+none_live store traces values (InValues n) = ap (λ (p : Pool ℤ). option_map (λ xs. Values xs) (list_at p n)) values
+
+pub alone_stored : (m : Nodes Kept) (root : ℕ) (store : Store) → IsAlone m root → ((r : RunName) → run_in store r ≡ None) → IsStored m [] root store
+alone_stored m root store h bare = record {
   sound = AreSound-rest root m (alone_sound m root h);
   made = λ k a e. absurd (none k a e);
   once = λ k i a b r e f ha hb. absurd (none k a e);
+  freed = λ r not. bare r;
 }
   where
     none : (k : Keeper) (a : Kept) → answers m [] k ≡ Some a → ⊥

@@ -28,7 +28,7 @@ use Rattle.lsys_pass.specs.Passes as P
 use Rattle.lsys_pass.specs.Passes.{PassView, stage_of, now, HoldsAt, repair_of, AllHaveSeats, HasFront, FrontAt, IsPass}
 use Rattle.lsys_pass.specs.Steps.{KeepsAnswers, KeepsOutcome, KeepsNothing}
 use Rattle.lsys_pass.specs.Moves.{StepsOver}
-use Rattle.lsys_pass.proofs.Keepers.{note_of, stored_set, stored_in}
+use Rattle.lsys_pass.proofs.Keepers.{note_of, NoneComes, none_kept, stored_set, stored_in}
 use Rattle.lsys_pass.proofs.Alike.{AreAlike, alike_put, nodes_alike, spots_alike, level_alike, put_again, put_from, answer_put, answer_other}
 use Rattle.lsys_pass.proofs.Stepping.{stepped, on_level, other_level}
 use Rattle.lsys_pass.proofs.Fronting.{KeepsLevel, front_stays, AreByLevel, one_here, by_same}
@@ -39,7 +39,7 @@ use Rattle.lsys_seats.specs.Standings.{seen_at}
 use Rattle.lsys_front.specs.Fronts.{IsFront}
 use Rattle.lsys_forest.specs.Rows.{level_nodes, level_spots}
 use Rattle.lsys_pass.proofs.Asking.{IsSameForest, IsAsked, asked, at, made_now, same_sound, same_nodes, same_spots, sound_now}
-use Rattle.lsys_pass.proofs.Waiting.{stays_refused, level_waits}
+use Rattle.lsys_pass.proofs.Waiting.{stays_refused, none_refused, level_waits}
 use Rattle.lsys_pass.proofs.Outcomes.{IsReplied, fault_behind, level_same, level_fault, level_new}
 
 -- 1. the parts of a stage, one by one
@@ -198,25 +198,25 @@ module _ (v : PassView) (t : ℕ) (h : IsPass v) (state : v.state ≡ Level t) (
 
   -- no answer is new
   still : (fs : List Faulted) → ps ≡ a.front ++ a.back → KeepsAnswers (record { forest = g; store = st; reads = v.reads; work = w }) (record { forest = g'; store = st'; reads = rd'; work = w' }) → w'.faults.items ≡ fs
-      → ((b : Kept) → IsMade v.store b → StaysMade v.store st b) → ((k : ℕ) → k ≢ node → fault_in k fs ≡ fault_in k v.faults)
+      → ((b : Kept) → IsMade v.store b → StaysMade v.store st b) → NoneComes v.store st → ((k : ℕ) → k ≢ node → fault_in k fs ≡ fault_in k v.faults)
       → (undone (changes_in g') (set a.n.answer) ≡ P.was v → IsAtLevel (stepped s (set a.n.answer) (changes_in g') st v.reads (a.front ++ a.back) fs v.renewed v.born) t) → IsStepped v v' node
-  still fs less k faults stays others level =
+  still fs less k faults stays none others level =
       over a.n.answer fs v.renewed v.born v.reads less
       (ap now_of k.forest ∙ same.now ∙ sym again) (ap rest_of k.forest ∙ rest_same) (ap (λ (f : Grove Kept). f.root) k.forest ∙ same.root) k.store k.reads faults (k.renewed ∙ work.renewed) (k.born ∙ work.born)
       (let l = ap live_nodes k.forest in omega (arith, l, live))
       (stored_same (now v) (now_of g') (changes_in v.forest) (changes_in g') v.forest.root g'.root st st' (ap now_of k.forest ∙ same.now) (ap changes_in k.forest ∙ same.changes) (ap (λ (f : Grove Kept). f.root) k.forest ∙ same.root) k.store
-      (stored_in (now v) (changes_in v.forest) v.forest.root v.store st stays h.stored))
+      (stored_in (now v) (changes_in v.forest) v.forest.root v.store st stays none h.stored))
       others (λ j e. sym (ap (λ (m : Nodes Kept). answer_at m j) again) ∙ e) by_level level
 
   module _ {L : Type 0} (p : ℕ) where
     pub over_all : (r : Result (Asked L) AskRefusal) → IsReplied s t node p st r → ps ≡ a.front ++ a.back
         → KeepsOutcome node is_born (record { forest = g; store = st; reads = v.reads; work = w }) (record { forest = g'; store = st'; reads = rd'; work = w' }) r → IsStepped v v' node
     over_all (Ok Same) r less k =
-        still v.faults less k.0 (k.1 ∙ work.faults) (λ b m. stays_kept v.store st b r.store m) (λ j ne. refl)
+        still v.faults less k.0 (k.1 ∙ work.faults) (λ b m. stays_kept v.store st b r.store m) (none_kept v.store st r.store) (λ j ne. refl)
         (level_same s t node a.n a.front a.back a.next (made_now v t h state) p st r (changes_in g'))
     over_all (Err (refusals.Fault kind)) r less k =
         still (v.faults ++ record { node = node; kind = kind } ∷ []) less k.0 (k.1 ∙ ap (λ (fs : List Faulted). fs ++ record { node = node; kind = kind } ∷ []) work.faults) (λ b m. stays_kept v.store st b r.store m)
-        (λ j ne. fault_behind j v.faults (record { node = node; kind = kind }) ne)
+        (none_kept v.store st r.store) (λ j ne. fault_behind j v.faults (record { node = node; kind = kind }) ne)
         (level_fault s t node a.n a.front a.back a.next (made_now v t h state) p st kind r (changes_in g'))
     over_all (Err refusals.Memory) r less k = absurd k
     over_all (Ok (New b)) r less k =
@@ -242,9 +242,9 @@ module _ (v : PassView) (t : ℕ) (h : IsPass v) (state : v.state ≡ Level t) (
 module _ (v : PassView) (t : ℕ) (h : IsPass v) (state : v.state ≡ Level t) where
   -- the forest and the lists are what they were, and answers stay
   kept_pass : (g : Grove Kept) (st : Store) (rd : Relations) (w : Work) (ps : List ℕ) → IsSameForest v.forest g → live_nodes g ≡ live_nodes v.forest
-      → ((a : Kept) → IsMade v.store a → StaysMade v.store st a) → SettledStay v.reads rd → rd.pending ≡ v.reads.pending → HasWork v w w → ps ≡ v.pending → IsPass (after v g st rd ps w)
-  kept_pass g st rd w ps same live stays settled quiet work less = record {
-    stored = stored_same (now v) (now_of g) (changes_in v.forest) (changes_in g) v.forest.root g.root st st same.now same.changes same.root refl (stored_in (now v) (changes_in v.forest) v.forest.root v.store st stays h.stored);
+      → ((a : Kept) → IsMade v.store a → StaysMade v.store st a) → NoneComes v.store st → SettledStay v.reads rd → rd.pending ≡ v.reads.pending → HasWork v w w → ps ≡ v.pending → IsPass (after v g st rd ps w)
+  kept_pass g st rd w ps same live stays none settled quiet work less = record {
+    stored = stored_same (now v) (now_of g) (changes_in v.forest) (changes_in g) v.forest.root g.root st st same.now same.changes same.root refl (stored_in (now v) (changes_in v.forest) v.forest.root v.store st stays none h.stored);
     few = (let f = h.few in omega (arith, f, live));
     unmarked = h.unmarked;
     counted = h.counted;
@@ -303,13 +303,13 @@ module _ (v : PassView) (t : ℕ) (h : IsPass v) (state : v.state ≡ Level t) w
   module _ (g : Grove Kept) (same : IsSameForest v.forest g) (live : live_nodes g ≡ live_nodes v.forest) where
     -- there is more room
     pub roomy_pass : (w : Work) (ps : List ℕ) → HasWork v w w → ps ≡ v.pending → IsPass (after v g v.store v.reads ps w)
-    roomy_pass w ps work less = kept_pass g v.store v.reads w ps same live (λ a m. record { made = m; answer = refl }) (λ reader seen. refl) refl work less
+    roomy_pass w ps work less = kept_pass g v.store v.reads w ps same live (λ a m. record { made = m; answer = refl }) (λ r e. e) (λ reader seen. refl) refl work less
 
     pub waits_pass : {L : Type 0} (g' : Grove Kept) (st : Store) (st' : Store) (rd' : Relations) (w w' : Work) (o : Option Kept) (r : Result (Asked L) AskRefusal) (ps : List ℕ) → HasWork v w w' → ps ≡ v.pending → KeepsStore v.store st o r
         → KeepsNothing (record { forest = g; store = st; reads = v.reads; work = w }) (record { forest = g'; store = st'; reads = rd'; work = w' }) r → IsPass (after v g' st' rd' ps w')
     waits_pass g' st st' rd' w w' o r ps work less keeps k =
         kept_pass g' st' rd' w' ps (record { now = ap now_of k.forest ∙ same.now; changes = ap changes_in k.forest ∙ same.changes; root = ap (λ (f : Grove Kept). f.root) k.forest ∙ same.root }) (ap live_nodes k.forest ∙ live)
-        (stays_refused v.store st st' o r keeps k.store) k.settled k.read
+        (stays_refused v.store st st' o r keeps k.store) (none_refused v.store st st' o r keeps k.store) k.settled k.read
         (record { faults = k.faults ∙ work.faults; renewed = k.renewed ∙ work.renewed; born = k.born ∙ work.born; first_renewed = work.first_renewed; dropped = work.dropped; moved = work.moved; front = work.front })
         less
 

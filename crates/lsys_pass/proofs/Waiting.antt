@@ -16,6 +16,7 @@ use Rattle.lsys_kept.specs.Levels.{AnsweredAt, answer_at}
 use Rattle.lsys_kept.specs.Meant.{level_to}
 use Rattle.lsys_pass.specs.Stages.{Stage, was, fault_in, HasFault, OutcomeBy, IsOpen, IsSettled, IsAtLevel}
 use Rattle.lsys_pass.specs.Steps.{ReleasesNew}
+use Rattle.lsys_pass.proofs.Keepers.{NoneComes, none_kept, none_back}
 use Rattle.lsys_pass.proofs.Stores.{AllMade, AllStay, answered_stays, rest_stays, read_on, read_back}
 
 -- the answers of nodes stay, whatever came of the one that was asked for
@@ -24,8 +25,13 @@ stays_refused old mid new o (Ok Same) k e a m = subst (λ z. StaysMade old z a) 
 stays_refused old mid new o (Err f) k e a m = subst (λ z. StaysMade old z a) (sym e) (stays_kept old mid a k m)
 stays_refused old mid new o (Ok (New b)) k e a m =
     let first = stays_new old mid o a b k m in
-    let then = stays_released mid new a b e (own_runs old mid o a b k m) first.made in
+    let then = stays_released mid new a b e.1 (own_runs old mid o a b k m) first.made in
     record { made = then.made; answer = then.answer ∙ first.answer }
+
+pub none_refused : {L : Type 0} (old mid new : Store) (o : Option Kept) (r : Result (Asked L) AskRefusal) → KeepsStore old mid o r → ReleasesNew mid new r → NoneComes old new
+none_refused old mid new o (Ok Same) k e = subst (NoneComes old) (sym e) (none_kept old mid k)
+none_refused old mid new o (Err f) k e = subst (NoneComes old) (sym e) (none_kept old mid k)
+none_refused old mid new o (Ok (New b)) k e = none_back old mid new b k.others e.0 e.1
 
 outcome_by : (q : Option FaultKind) (A A' : Type 0) (F : FaultKind → Type 0) → (A → A') → OutcomeBy q A F → OutcomeBy q A' F
 outcome_by None A A' F f a = f a

@@ -1,5 +1,5 @@
 -- What a contract sees of a pass, and what holds of it between calls.
-use Rattle.std.specs.Prelude.{◌≡◌, Some, ◌<◌, ◌≤◌, ◌^◌, ℕ, false, List, [], length, take, drop}
+use Rattle.std.specs.Prelude.{◌≡◌, Some, None, IsSome, ◌<◌, ◌≤◌, ◌^◌, ℕ, false, List, [], length, take, drop}
 use Rattle.lsys_spec.specs.Systems.{System}
 use Rattle.lsys_spec.specs.Questions.{questions}
 use Rattle.lsys_walks.specs.Stores.{Store}
@@ -8,6 +8,8 @@ use Rattle.lsys_reads.specs.Relations.{Relations}
 use Rattle.lsys_forest.specs.Nodes.{Node, Nodes}
 use Rattle.lsys_forest.specs.Groves.{Grove, In, now_of, rest_of, changes_in, live_nodes}
 use Rattle.lsys_forest.specs.Rows.{level_nodes}
+use Rattle.lsys_kept.specs.Names.{RunName, run_in, holds}
+use Rattle.lsys_kept.specs.Levels.{answer_at}
 use Rattle.lsys_kept.specs.Meant.{meant}
 use Rattle.lsys_seats.specs.declared.seat.Seat.{Seat}
 use Rattle.lsys_seats.specs.Seats.{is_marked, HasSeat}
@@ -124,6 +126,13 @@ FrontAt v Rest = Unit {0}
 FrontAt v (Level t) = HasFront v t
 FrontAt v Done = AllHaveSeats (now v) v.seats
 FrontAt v Failed = Unit {0}
+
+-- the runs of the store that are live are those that answers of nodes hold
+pub record HasOwnRuns (v : PassView) : Type 0 where
+  pub live : (k : ℕ) (a : Kept) (r : RunName) → answer_at (now v) k ≡ Some a → holds a r
+      → IsSome (run_in v.store r)
+  pub only : (r : RunName) → ((k : ℕ) (a : Kept) → answer_at (now v) k ≡ Some a → holds a r → ⊥)
+      → run_in v.store r ≡ None
 
 -- what holds between calls; no node is marked then
 pub record IsPass (v : PassView) : Type 0 where

@@ -13,10 +13,10 @@ use Rattle.lsys_reads.specs.Relations.{Relations, is_pending}
 use Rattle.lsys_change.specs.Nodes.{AreOnce, Extends}
 use Rattle.lsys_forest.specs.Nodes.{Node, Nodes}
 use Rattle.lsys_forest.specs.Changes.{Change, undone}
-use Rattle.lsys_forest.specs.Answers.{Keeper, answers}
+use Rattle.lsys_forest.specs.Answers.{Keeper, answers, IsHeld}
 use Rattle.lsys_forest.specs.Groves.{In, AreApart, AreSound, Reached}
 use Rattle.lsys_forest.specs.Rows.{level_nodes}
-use Rattle.lsys_kept.specs.Names.{RunName, holds}
+use Rattle.lsys_kept.specs.Names.{RunName, run_in, holds}
 use Rattle.lsys_kept.specs.Lineages.{kins}
 use Rattle.lsys_kept.specs.Levels.{HaveLevels, AnsweredAt, level_of, answer_at, HasRead}
 use Rattle.lsys_kept.specs.Meant.{meant, meant_to, level_to, IsCandidate, IsNeeded}
@@ -56,12 +56,13 @@ was s = undone s.changes s.now
 -- 1. at any time
 
 -- The nodes hang together, as they are and as they were. Each answer that is kept now, or was at any time since the last rest, was
--- made with the store, and no two hold one run.
+-- made with the store, no two hold one run, and a run that none of them holds isn't live.
 pub record IsStored (m : Nodes Kept) (changes : List (Change Kept)) (root : ℕ) (store : Store) : Type 0 where
   pub sound : AreSound root changes m
   pub made : (h : Keeper) (a : Kept) → answers m changes h ≡ Some a → IsMade store a
   pub once : (h i : Keeper) (a b : Kept) (r : RunName) → answers m changes h ≡ Some a → answers m changes i ≡ Some b
       → holds a r → holds b r → h ≡ i
+  pub freed : (r : RunName) → (IsHeld run_in holds (answers m changes) r → ⊥) → run_in store r ≡ None
 
 -- the forest of the last rest
 abbrev pub Rests : Stage → Type 0

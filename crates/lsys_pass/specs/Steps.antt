@@ -1,6 +1,6 @@
 -- What becomes of the parts of a pass when one node was asked.
 use Rattle.std.specs.Prelude.{◌≡◌, ◌≤◌, ◌+◌, ◌++◌, ◌∷◌, [], ℕ, Bool, Result, Ok, Err, Some, if◌then◌else◌}
-use Rattle.lsys_walks.specs.Stores.{Store, AreLive, OtherTracesStay}
+use Rattle.lsys_walks.specs.Stores.{Store, AreLive, AreGone, OtherTracesStay}
 use Rattle.lsys_match.specs.declared.asked.Asked.{Asked}
 use Rattle.lsys_match.specs.declared.asked.Asked.TheVariants.{Same, New}
 use Rattle.lsys_match.specs.declared.refusal.AskRefusal.{AskRefusal}
@@ -65,7 +65,7 @@ module _ {L : Type 0} where
 
   -- a new answer was released; else nothing changed in the store
   abbrev pub ReleasesNew : Store → Store → Result (Asked L) AskRefusal → Type 0
-  ReleasesNew old new (Ok (New a)) = OtherTracesStay old new (runs_of a)
+  ReleasesNew old new (Ok (New a)) = AreGone new (runs_of a) × OtherTracesStay old new (runs_of a)
   ReleasesNew old new (Ok Same) = new ≡ old
   ReleasesNew old new (Err e) = new ≡ old
 

@@ -1,13 +1,15 @@
 //! A derivation whose levels stand in a forest.
-ghost use Rattle.std.specs.Prelude.{◌≡◌, ◌+◌, List, Ok, length, sum_by};
+ghost use Rattle.std.specs.Prelude.{◌≡◌, ◌+◌, List, Ok, length, sum_by, take};
 ghost use Rattle.lsys_spec.specs.Levels as levels;
 ghost use Rattle.lsys_spec.specs.Meaning.{meaning};
 ghost use Rattle.lsys_spec.specs.Questions.{questions};
+ghost use Rattle.lsys_forest.specs.Rows.{complete_levels};
 ghost use Rattle.lsys_pass.specs.Views.{level_in, place_among};
 
 use crate::pass::Pass;
 use crate::state::PassState;
-use lsys_forest::NodeId;
+use lsys_forest::{Forest, NodeId};
+use lsys_kept::KeptAnswer;
 use lsys_level::{LevelView, Sight, Tag};
 use lsys_match::{Derivation, Steps};
 use lsys_rewrite::{DeriveRefusal, EditCount};
@@ -48,6 +50,13 @@ pub struct Held {
 }
 
 impl<L: Ledger> ForestDerivation<L> {
+    /// The forest in which the levels stand: its levels, up to the system's depth. It costs no step.
+    pub fn forest(&self) -> &Forest<KeptAnswer<L>>
+        ensures { take (self.now.system.depth + 1) (complete_levels result.now) ≡ self.now.levels }
+    {
+        self.pass.forest()
+    }
+
     /// How much it keeps: a node for each symbol of the levels, and the root, and an answer for each question of the system.
     /// So what an edit made superfluous is gone. It costs no step.
     pub fn held(&self) -> Held

@@ -1,7 +1,7 @@
 //! What is kept of a question.
 ghost use Rattle.std.specs.Prelude.{◌≡◌, ◌<◌, ◌++◌, ◌∷◌, [], None, Some, OnOk, OnErr, option_map, vec_len, vec_capacity};
 ghost use Rattle.std.specs.Option.{unwrap_or};
-ghost use Rattle.lsys_walks.specs.Stores.{AreLive, OtherTracesStay};
+ghost use Rattle.lsys_walks.specs.Stores.{AreGone, AreLive, OtherTracesStay};
 ghost use Rattle.lsys_match.specs.Kept.{Kept as KeptValue};
 ghost use Rattle.lsys_match.specs.Stored.{runs_of};
 ghost use Rattle.lsys_reads.specs.Relations.{SettledStay};
@@ -77,7 +77,8 @@ pub(crate) fn keep<L: Ledger>(
         (reads.new.pending ≡ reads.old.pending ++ pairs_of node (tags_read store.old answer)) }
     ensures settled { SettledStay reads.old reads.new }
     ensures stays { OnErr result (forest.new ≡ forest.old) }
-    ensures released { OnErr result (OtherTracesStay store.old store.new (runs_of answer)) }
+    ensures released { OnErr result (AreGone store.new (runs_of answer)) }
+    ensures others { OnErr result (OtherTracesStay store.old store.new (runs_of answer)) }
     ensures unread { OnErr result (reads.new.pending ≡ reads.old.pending) }
 {
     match add_reads(reads, Tag(node.0), answer.trace(store)) {

@@ -9,6 +9,7 @@ ghost use Rattle.lsys_pass.specs.Sizes.{total_of, with_level};
 ghost use Rattle.lsys_pass.specs.Advances.{symbols_wanted};
 ghost use Rattle.lsys_pass.specs.Passes.{stage_of, now};
 ghost use Rattle.lsys_pass.specs.Moves.{SameRun};
+ghost use Rattle.lsys_pass.specs.Beginnings.{KeepsNodes};
 ghost use Rattle.lsys_pass.specs.Made.{KeepsAnswers, MakesBelow};
 ghost use Rattle.lsys_pass.specs.Fresh.{WasAsked, row_of, AreNextParents, IsFresh, Goes};
 
@@ -16,8 +17,10 @@ use crate::keep::target;
 use crate::pass::Pass;
 use crate::room::reserve_for;
 use crate::seating::make_seats;
+use crate::sizes::Sizes;
 use lsys_brood::{Brood, Changes, Need};
-use lsys_forest::Forest;
+use lsys_candidates::LevelRules;
+use lsys_forest::{Forest, Kept};
 use lsys_front::law_of_forests;
 use lsys_kept::KeptAnswer;
 use lsys_repair::{Parent, make_children};
@@ -32,7 +35,8 @@ impl<L: Ledger> Pass<L> {
     /// beside others; and each node has a seat.
     ///
     /// It costs steps by the parents and their children, by the nodes that came to this level, are gone from it or turned, and
-    /// by how far it is to the next children beside them.
+    /// by how far it is to the next children beside them; and by the rules of the next level. Where that level is a busy one it
+    /// costs a step for each node of the levels so far that is not linked, and no step is far then.
     ///
     /// # Errors
     ///
@@ -61,15 +65,28 @@ impl<L: Ledger> Pass<L> {
         ensures run { SameRun self.old self.new }
         ensures state { self.new.state ≡ Failed }
     {
+        let system = target(&self.next, &self.system);
+        let next = level.saturating_add(1);
+        let many = parents.len();
+        let busy = is_busy(
+            alloc,
+            &self.system,
+            system,
+            &self.sizes,
+            next,
+            many,
+            symbols,
+        )?;
         let told = make_below(
             alloc,
             &mut self.forest,
-            target(&self.next, &self.system),
+            system,
             parents,
             need,
             &mut self.wanted,
             &mut self.brood,
         )?;
+        link_busy(&mut self.forest, next, busy);
         let front = self.work.front.next(alloc, &self.forest, &told)?;
         make_seats(&mut self.seats, &self.forest)?;
         self.sizes.add(symbols)?;
@@ -106,4 +123,51 @@ fn make_below<L: Ledger>(
     law_of_forests(forest);
     made?;
     Ok(told)
+}
+
+/// Whether so many nodes of a level are looked at that it pays to link it. A level is walked along where it is asked and was not,
+/// or was asked and is not, or has other rules than at the last rest. And each of so many parents on the level above may lead to
+/// climbs that take as many steps as there are levels, there and back. It costs steps by the number of levels, and of rules.
+///
+/// # Errors
+///
+/// Want of memory.
+fn is_busy(
+    alloc: Global,
+    old: &System,
+    new: &System,
+    sizes: &Sizes,
+    level: u32,
+    parents: usize,
+    symbols: usize,
+) -> Result<bool, AllocError> {
+    let is_asked = level < new.depth();
+    let climbs = parents.saturating_mul(2).saturating_mul(level as usize);
+    if is_asked != (level < old.depth()) || climbs >= total_with(sizes, symbols) {
+        return Ok(true);
+    }
+    if !is_asked {
+        return Ok(false);
+    }
+    let mut rules = LevelRules::new(alloc, old, new, level)?;
+    Ok(!rules.are_all_alike()?)
+}
+
+/// How many symbols the levels have that were made, and a next one of so many.
+fn total_with(sizes: &Sizes, symbols: usize) -> usize {
+    let mut total = symbols;
+    for size in &sizes.made {
+        total = total.saturating_add(size.symbols);
+    }
+    total
+}
+
+/// Links the nodes of the levels up to this one to their neighbours, where it is a busy one: who stands beside a node is one
+/// look then. It takes no memory.
+fn link_busy<A: Kept>(forest: &mut Forest<A>, level: u32, busy: bool)
+    ensures { KeepsNodes forest.old forest.new }
+{
+    if busy {
+        forest.link(level);
+    }
 }

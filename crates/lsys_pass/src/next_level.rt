@@ -17,8 +17,8 @@ use std::sync::ledger::Ledger;
 impl<L: Ledger> Pass<L> {
     /// Makes the next level, where all nodes of this one were asked: from what the answers that are kept put in their places.
     /// It costs steps by the nodes with other answers or other symbols, by who stands beside them and by who read them; it goes
-    /// along a whole level only where its rules, the seed or the lineages are others, a cut on it reaches what stands behind, or
-    /// it was the last one or is.
+    /// along a whole level only where its rules, the seed or the lineages are others, a cut on it reaches what stands behind, it
+    /// was the last one or is, or so many of its nodes have other children that this costs no more.
     ///
     /// # Errors
     ///

@@ -6,7 +6,7 @@ ghost use Rattle.lsys_match.specs.Derivations.{IsCount, Rises, most_read};
 ghost use Rattle.lsys_forest.specs.Groves.{In};
 ghost use Rattle.lsys_kept.specs.Meant.{meant};
 ghost use Rattle.lsys_pass.specs.declared.state.PassState.TheVariants.{Rest, Level, Done, Failed};
-ghost use Rattle.lsys_pass.specs.Passes.{IsPass, stage_of};
+ghost use Rattle.lsys_pass.specs.Passes.{HasOwnRuns, IsPass, stage_of};
 ghost use Rattle.lsys_pass.specs.Sizes.{total_of};
 ghost use Rattle.lsys_pass.specs.Advances.{IsAskedTo, symbols_wanted};
 ghost use Rattle.lsys_pass.specs.Works.{IsCleared};
@@ -234,8 +234,8 @@ impl<L: Ledger> Pass<L> {
         Ok(())
     }
 
-    /// Keeps the new levels, as those of the last rest, and tells how many questions were new, and how many there are. It takes
-    /// no memory.
+    /// Keeps the new levels, as those of the last rest, and tells how many questions were new, and how many there are. What no
+    /// answer of a node holds is given back. It takes no memory.
     pub fn close(&mut self) -> EditCount
         requires { self.old.state ≡ Done }
         ensures closes { Closes self.old self.new }
@@ -243,6 +243,7 @@ impl<L: Ledger> Pass<L> {
             (questions self.old.system (meant self.old.system self.old.limit))
             (questions self.old.next (meant self.old.next self.old.limit)) result }
         ensures asked { result.asked ≡ length self.old.renewed }
+        ensures runs { HasOwnRuns self.new }
     {
         let asked = self.work.renewed.len();
         self.answers = self.answers - self.work.dropped.len() + self.work.born;
@@ -258,10 +259,12 @@ impl<L: Ledger> Pass<L> {
         }
     }
 
-    /// Goes back to the last rest, node for node; the new system is dropped. It takes no memory.
+    /// Goes back to the last rest, node for node; the new system is dropped, and the new answers are given back. It takes no
+    /// memory.
     pub fn abandon(&mut self)
         requires { self.old.state ≢ Rest }
         ensures back { IsBack self.old self.new }
+        ensures runs { HasOwnRuns self.new }
     {
         self.forest.rollback(&mut self.store);
         self.reads.retract();

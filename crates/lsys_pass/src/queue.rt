@@ -89,8 +89,8 @@ impl Queue {
         nth_among(&self.slots, place)
     }
 
-    /// At which place a node stands, where the nodes are in order on one complete level. It is found by halves: as many nodes as
-    /// a logarithm are looked up and compared.
+    /// At which place a node stands, where the nodes are in order on one complete level. The last one is looked at first; else
+    /// it is found by halves: as many nodes as a logarithm are looked up and compared.
     pub(crate) fn place_of<A: Kept>(&self, forest: &Forest<A>, node: NodeId) -> usize
         requires order { AreInOrder forest.now self.now }
         requires among { In node self.now }
@@ -98,6 +98,9 @@ impl Queue {
     {
         let mut first = 0;
         let mut end = self.left;
+        if end > 0 && self.nth(end - 1) == node {
+            return end - 1;
+        }
         while first < end {
             let middle = first + (end - first) / 2;
             if forest.is_before(self.nth(middle), node) {

@@ -1,13 +1,11 @@
-//! Tests of the program over sources and sinks in memory, and of the ends.
+//! Tests of the program over sources and sinks in memory: its words, its sizes, and ends that fail.
 //!
 //! Tests stand in crates of their own, so that no crate below is proved a second time with its tests.
 #![tactic(auto)]
 
 #[cfg(test)]
-mod edits;
+mod failing;
 #[cfg(test)]
-mod ends;
+mod sizes;
 #[cfg(test)]
-mod program;
-#[cfg(test)]
-mod versions;
+mod words;

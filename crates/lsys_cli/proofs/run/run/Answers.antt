@@ -1,15 +1,16 @@
 use Rattle.std.proofs.Common.{◌≡◌, ◌≢◌, rules, ◌∙◌, refl, ap, sym, subst}
 use Rattle.lsys_io.specs.declared.lines.LineRead.TheVariants.{End}
-use Rattle.lsys_cli.specs.Ends.{Ends}
+use Rattle.lsys_io.specs.Reading.{remaining}
+use Rattle.lsys_cli.specs.Ends.{Ends, seen}
 use Rattle.lsys_session.specs.Answers.{ends_session}
 use Rattle.lsys_desk.specs.Views.{desk_on}
 use Rattle.lsys_session.specs.declared.outcome.Outcome.TheVariants.{Quit}
-use Rattle.lsys_cli.proofs.Turns.{begins, begins_going, begins_within, turned, stuck, goes_on, quits, too_long, read_fault, write_fault, no_end, read_goes_on, unless_end}
+use Rattle.lsys_cli.proofs.Turns.{begins, begins_going, begins_within, turned, stuck, goes_on, quits, too_long, read_fault, write_fault, no_end, read_goes_on, unless_end, at_end, ends}
 use Rattle.lsys_cli.proofs.run.run.Goals as goal
 
 pub lines-init : goal.lines-init
 lines-init g c = record {
-  far = begins (g.D.Derivation.limit_of c.args.desk.now.derivation) c.args.reader.now (desk_on g.D.Derivation.system_of c.args.desk.now) (g.S.Source.left c.args.source.now) (g.K.Sink.written c.args.sink.now)
+  far = begins g.D.Derivation.visits (g.D.Derivation.limit_of c.args.desk.now.derivation) c.args.reader.now (desk_on g.D.Derivation.system_of c.args.desk.now) (g.S.Source.left c.args.source.now) (seen g.K.Sink.written c.args.sink.now c.args.asked.now c.args.visited.now)
       c.new-tally.result.refused c.new-tally.result.memory c.requires.fresh c.requires.opening c.new-tally.ensures.refused c.new-tally.ensures.memory;
   limit = refl;
   empty = c.requires.empty;
@@ -22,16 +23,28 @@ lines-init g c = record {
 pub returns-in-Err-ReadFault-clause-ends : goal.returns-in-Err-ReadFault-clause-ends
 returns-in-Err-ReadFault-clause-ends g c =
     let going = c.in-Err-ReadFault.ensures.was_going c.lines.invariant.going in
-    read_fault (g.D.Derivation.limit_of c.args.desk.now.derivation) (g.S.Source.left c.args.source.now) (g.S.Source.left c.lines.source) (g.S.Source.left c.next_line.new.source)
-    (g.K.Sink.written c.args.sink.now) (g.K.Sink.written c.lines.sink) c.lines.reader (desk_on g.D.Derivation.system_of c.lines.desk) c.lines.tally.refused c.lines.tally.memory
+    read_fault g.D.Derivation.visits (g.D.Derivation.limit_of c.args.desk.now.derivation) (g.S.Source.left c.args.source.now) (g.S.Source.left c.lines.source) (g.S.Source.left c.next_line.new.source)
+    (seen g.K.Sink.written c.args.sink.now c.args.asked.now c.args.visited.now) (seen g.K.Sink.written c.lines.sink c.lines.asked c.lines.visited) c.lines.reader (desk_on g.D.Derivation.system_of c.lines.desk) c.lines.tally.refused c.lines.tally.memory
     going c.lines.invariant.far (rw c.in-Err-ReadFault.field-0-is at (c.in-Err-ReadFault.ensures.read_fault_leaves_no_line going))
 
 pub returns-in-Err-TooLong-clause-ends : goal.returns-in-Err-TooLong-clause-ends
 returns-in-Err-TooLong-clause-ends g c =
     let going = c.in-Err-TooLong.ensures.was_going c.lines.invariant.going in
-    too_long (g.D.Derivation.limit_of c.args.desk.now.derivation) (g.S.Source.left c.args.source.now) (g.S.Source.left c.lines.source) (g.S.Source.left c.next_line.new.source)
-    (g.K.Sink.written c.args.sink.now) (g.K.Sink.written c.lines.sink) c.lines.reader (desk_on g.D.Derivation.system_of c.lines.desk) c.lines.tally.refused c.lines.tally.memory
+    too_long g.D.Derivation.visits (g.D.Derivation.limit_of c.args.desk.now.derivation) (g.S.Source.left c.args.source.now) (g.S.Source.left c.lines.source) (g.S.Source.left c.next_line.new.source)
+    (seen g.K.Sink.written c.args.sink.now c.args.asked.now c.args.visited.now) (seen g.K.Sink.written c.lines.sink c.lines.asked c.lines.visited) c.lines.reader (desk_on g.D.Derivation.system_of c.lines.desk) c.lines.tally.refused c.lines.tally.memory
     going c.lines.invariant.within c.lines.invariant.far (rw c.in-Err-TooLong.field-0-is at (c.in-Err-TooLong.ensures.too_long_only_past_limit going))
+
+pub returns-then-eq-clause-ends : goal.returns-then-eq-clause-ends
+returns-then-eq-clause-ends g c =
+    let at : c.in-Ok.read ≡ End = search rules in
+    let limit = g.D.Derivation.limit_of c.args.desk.now.derivation in
+    let script = g.S.Source.left c.args.source.now in
+    let left = g.S.Source.left c.next_line.new.source in
+    let start = seen g.K.Sink.written c.args.sink.now c.args.asked.now c.args.visited.now in
+    let now = seen g.K.Sink.written c.lines.sink c.lines.asked c.lines.visited in
+    subst (Ends g.D.Derivation.visits limit script left start now) (sym c.status.ensures)
+    (ends g.D.Derivation.visits limit script c.lines.reader.stage (remaining c.lines.reader (g.S.Source.left c.lines.source)) left start now (desk_on g.D.Derivation.system_of c.lines.desk)
+    c.lines.tally.refused c.lines.tally.memory c.lines.reader.taken c.lines.invariant.far (at_end c.in-Ok.read at c.in-Ok.ensures.end_only_where_none_left) c.lines.invariant.within)
 
 pub returns-in_default-clause-ends : goal.returns-in_default-clause-ends
 returns-in_default-clause-ends g c =
@@ -40,8 +53,8 @@ returns-in_default-clause-ends g c =
     let broke = stuck g.K.Sink.written g.K.Sink.faults c.lines.sink c.answer_line.new.sink c.answer_line.new.out c.in-Ok.read (g.D.Derivation.limit_of c.lines.desk.derivation) c.lines.reader c.next_line.new.self
     (g.S.Source.left c.lines.source) (g.S.Source.left c.next_line.new.source) (desk_on g.D.Derivation.system_of c.lines.desk) (desk_on g.D.Derivation.system_of c.answer_line.new.desk) c.line.result.now c.in_default.field-0
     not_end c.in-Ok.ensures.line c.in-Ok.ensures.long c.line.ensures c.in_default.ensures.replies in
-    write_fault (g.D.Derivation.limit_of c.args.desk.now.derivation) (g.D.Derivation.limit_of c.lines.desk.derivation) (g.S.Source.left c.args.source.now) (g.S.Source.left c.lines.source) (g.S.Source.left c.next_line.new.source)
-    (g.K.Sink.written c.args.sink.now) (g.K.Sink.written c.lines.sink) (g.K.Sink.written c.answer_line.new.sink) c.lines.reader c.next_line.new.self (desk_on g.D.Derivation.system_of c.lines.desk)
+    write_fault g.D.Derivation.visits (g.D.Derivation.limit_of c.args.desk.now.derivation) (g.D.Derivation.limit_of c.lines.desk.derivation) (g.S.Source.left c.args.source.now) (g.S.Source.left c.lines.source) (g.S.Source.left c.next_line.new.source)
+    (seen g.K.Sink.written c.args.sink.now c.args.asked.now c.args.visited.now) (seen g.K.Sink.written c.lines.sink c.lines.asked c.lines.visited) (seen g.K.Sink.written c.answer_line.new.sink c.answer_line.new.asked c.answer_line.new.visited) c.lines.reader c.next_line.new.self (desk_on g.D.Derivation.system_of c.lines.desk)
     c.lines.tally.refused c.lines.tally.memory c.lines.invariant.limit going c.lines.invariant.far broke
 
 pub returns-then-eq-2-clause-ends : goal.returns-then-eq-2-clause-ends
@@ -49,14 +62,15 @@ returns-then-eq-2-clause-ends g c =
     let not_end : c.in-Ok.read ≢ End = search rules in
     let quit : c.in-Ok-answer_line.outcome ≡ Quit = search rules in
     let going = unless_end c.in-Ok.read not_end (c.in-Ok.ensures.was_going c.lines.invariant.going) in
-    let turn = turned g.K.Sink.written g.K.Sink.faults c.lines.sink c.answer_line.new.sink c.answer_line.new.out c.in-Ok.read (g.D.Derivation.limit_of c.lines.desk.derivation) c.lines.reader c.next_line.new.self
+    let turn = turned g.K.Sink.written g.K.Sink.faults c.lines.sink c.answer_line.new.sink c.answer_line.new.out c.in-Ok.read g.D.Derivation.visits (g.D.Derivation.limit_of c.lines.desk.derivation) c.lines.reader c.next_line.new.self
     (g.S.Source.left c.lines.source) (g.S.Source.left c.next_line.new.source) (desk_on g.D.Derivation.system_of c.lines.desk) (desk_on g.D.Derivation.system_of c.answer_line.new.desk) c.line.result.now c.in-Ok-answer_line.outcome
-    not_end c.in-Ok.ensures.line c.in-Ok.ensures.long c.line.ensures c.in-Ok-answer_line.ensures.replies in
-    let done = quits (g.D.Derivation.limit_of c.args.desk.now.derivation) (g.D.Derivation.limit_of c.lines.desk.derivation) (g.S.Source.left c.args.source.now) (g.S.Source.left c.lines.source) (g.S.Source.left c.next_line.new.source)
-    (g.K.Sink.written c.args.sink.now) (g.K.Sink.written c.lines.sink) (g.K.Sink.written c.answer_line.new.sink) c.lines.reader c.next_line.new.self (desk_on g.D.Derivation.system_of c.lines.desk) (desk_on g.D.Derivation.system_of c.answer_line.new.desk)
+    (record { asked = c.lines.asked; visited = c.lines.visited }) (record { asked = c.answer_line.new.asked; visited = c.answer_line.new.visited })
+    not_end c.in-Ok.ensures.line c.in-Ok.ensures.long c.line.ensures c.in-Ok-answer_line.ensures.replies c.in-Ok-answer_line.ensures.counts in
+    let done = quits g.D.Derivation.visits (g.D.Derivation.limit_of c.args.desk.now.derivation) (g.D.Derivation.limit_of c.lines.desk.derivation) (g.S.Source.left c.args.source.now) (g.S.Source.left c.lines.source) (g.S.Source.left c.next_line.new.source)
+    (seen g.K.Sink.written c.args.sink.now c.args.asked.now c.args.visited.now) (seen g.K.Sink.written c.lines.sink c.lines.asked c.lines.visited) (seen g.K.Sink.written c.answer_line.new.sink c.answer_line.new.asked c.answer_line.new.visited) c.lines.reader c.next_line.new.self (desk_on g.D.Derivation.system_of c.lines.desk) (desk_on g.D.Derivation.system_of c.answer_line.new.desk)
     c.lines.tally.refused c.lines.tally.memory c.with-tally.result.refused c.with-tally.result.memory c.in-Ok-answer_line.outcome c.lines.invariant.limit going c.next_line.ensures.within
     c.with-tally.ensures.refused c.with-tally.ensures.memory c.lines.invariant.far turn (ap ends_session quit) in
-    subst (Ends (g.D.Derivation.limit_of c.args.desk.now.derivation) (g.S.Source.left c.args.source.now) (g.S.Source.left c.next_line.new.source) (g.K.Sink.written c.args.sink.now) (g.K.Sink.written c.answer_line.new.sink))
+    subst (Ends g.D.Derivation.visits (g.D.Derivation.limit_of c.args.desk.now.derivation) (g.S.Source.left c.args.source.now) (g.S.Source.left c.next_line.new.source) (seen g.K.Sink.written c.args.sink.now c.args.asked.now c.args.visited.now) (seen g.K.Sink.written c.answer_line.new.sink c.answer_line.new.asked c.answer_line.new.visited))
     (sym c.status-then-eq-2.ensures) done
 
 pub lines-preserved : goal.lines-preserved
@@ -64,12 +78,13 @@ lines-preserved g c =
     let not_end : c.in-Ok.read ≢ End = search rules in
     let not_quit : c.in-Ok-answer_line.outcome ≢ Quit = search rules in
     let going = unless_end c.in-Ok.read not_end (c.in-Ok.ensures.was_going c.lines.invariant.going) in
-    let turn = turned g.K.Sink.written g.K.Sink.faults c.lines.sink c.answer_line.new.sink c.answer_line.new.out c.in-Ok.read (g.D.Derivation.limit_of c.lines.desk.derivation) c.lines.reader c.next_line.new.self
+    let turn = turned g.K.Sink.written g.K.Sink.faults c.lines.sink c.answer_line.new.sink c.answer_line.new.out c.in-Ok.read g.D.Derivation.visits (g.D.Derivation.limit_of c.lines.desk.derivation) c.lines.reader c.next_line.new.self
     (g.S.Source.left c.lines.source) (g.S.Source.left c.next_line.new.source) (desk_on g.D.Derivation.system_of c.lines.desk) (desk_on g.D.Derivation.system_of c.answer_line.new.desk) c.line.result.now c.in-Ok-answer_line.outcome
-    not_end c.in-Ok.ensures.line c.in-Ok.ensures.long c.line.ensures c.in-Ok-answer_line.ensures.replies in
+    (record { asked = c.lines.asked; visited = c.lines.visited }) (record { asked = c.answer_line.new.asked; visited = c.answer_line.new.visited })
+    not_end c.in-Ok.ensures.line c.in-Ok.ensures.long c.line.ensures c.in-Ok-answer_line.ensures.replies c.in-Ok-answer_line.ensures.counts in
     record {
-      far = goes_on (g.D.Derivation.limit_of c.args.desk.now.derivation) (g.D.Derivation.limit_of c.lines.desk.derivation) (g.S.Source.left c.args.source.now) (g.S.Source.left c.lines.source) (g.S.Source.left c.next_line.new.source)
-          (g.K.Sink.written c.args.sink.now) (g.K.Sink.written c.lines.sink) (g.K.Sink.written c.answer_line.new.sink) c.lines.reader c.next_line.new.self (desk_on g.D.Derivation.system_of c.lines.desk) (desk_on g.D.Derivation.system_of c.answer_line.new.desk)
+      far = goes_on g.D.Derivation.visits (g.D.Derivation.limit_of c.args.desk.now.derivation) (g.D.Derivation.limit_of c.lines.desk.derivation) (g.S.Source.left c.args.source.now) (g.S.Source.left c.lines.source) (g.S.Source.left c.next_line.new.source)
+          (seen g.K.Sink.written c.args.sink.now c.args.asked.now c.args.visited.now) (seen g.K.Sink.written c.lines.sink c.lines.asked c.lines.visited) (seen g.K.Sink.written c.answer_line.new.sink c.answer_line.new.asked c.answer_line.new.visited) c.lines.reader c.next_line.new.self (desk_on g.D.Derivation.system_of c.lines.desk) (desk_on g.D.Derivation.system_of c.answer_line.new.desk)
           c.lines.tally.refused c.lines.tally.memory c.with-tally.result.refused c.with-tally.result.memory c.in-Ok-answer_line.outcome c.lines.invariant.limit going c.next_line.ensures.within
           c.with-tally.ensures.refused c.with-tally.ensures.memory c.lines.invariant.far turn (no_end c.in-Ok-answer_line.outcome not_quit);
       limit = c.answer_line.ensures.limit ∙ c.lines.invariant.limit;

@@ -1,9 +1,14 @@
-use Rattle.std.proofs.Common.{◌∙◌}
+use Rattle.std.proofs.Common.{◌∙◌, refl}
 use Rattle.lsys_session.proofs.Answering.{short_by}
 use Rattle.lsys_session.specs.declared.outcome.Outcome.TheVariants as outcomes
 use Rattle.lsys_desk.specs.Views.{desk_line_of, desk_on}
 use Rattle.lsys_desk.proofs.Answering.{by_desk, for_length, for_memory, long_by, short_asks}
 use Rattle.lsys_desk.proofs.Counting.{led_own, led_session, stay}
+use Rattle.lsys_desk.specs.Answers.{leads_to}
+use Rattle.lsys_desk.proofs.Telling.{desk_leads, refusal_tells, session_leads, tells_same}
+use Rattle.lsys_desks.specs.Costs.{own_leads}
+use Rattle.lsys_spec.specs.Costs.{edit_by}
+use Rattle.lsys_session.specs.Answers.{line_spelled}
 use Rattle.lsys_desk.proofs.desk.Desk.command.Goals as goal
 
 -- 1. a line that is too long
@@ -64,3 +69,23 @@ pub returns-in-Err-clause-counts : goal.returns-in-Err-clause-counts
 returns-in-Err-clause-counts g c =
     stay g.D.Derivation.visits (g.D.Derivation.limit_of c.args.self.now.derivation) (g.D.Derivation.system_of c.args.self.now.derivation) (record { asked = c.args.asked.now; visited = c.args.visited.now })
     _ outcomes.Memory c.refuse-in-Err.result tt c.refuse-in-Err.ensures.outcome
+
+-- 5. where it leads
+
+pub returns-then-line-gt-MOST_LINE_BYTES-clause-leads : goal.returns-then-line-gt-MOST_LINE_BYTES-clause-leads
+returns-then-line-gt-MOST_LINE_BYTES-clause-leads g c = refusal_tells (leads_to (desk_on g.D.Derivation.system_of c.args.self.now) c.args.line.now) outcomes.Refused c.refuse.result refl c.refuse.ensures.outcome
+
+pub returns-in-Ok-None-clause-leads : goal.returns-in-Ok-None-clause-leads
+returns-in-Ok-None-clause-leads g c =
+    let d = desk_on g.D.Derivation.system_of c.args.self.now in
+    let none = short_asks c.args.line.now (short_by c.args.line.now c.if-line-gt-MOST_LINE_BYTES.false) ∙ (rw c.in-Ok-None.field-0-is at c.in-Ok-None.ensures.asks) in
+    tells_same (edit_by d.system (line_spelled c.args.line.now)) (leads_to d c.args.line.now) c.session_line.result (session_leads d c.args.line.now none) c.session_line.ensures.leads
+
+pub returns-in-Ok-Some-clause-leads : goal.returns-in-Ok-Some-clause-leads
+returns-in-Ok-Some-clause-leads g c =
+    let d = desk_on g.D.Derivation.system_of c.args.self.now in
+    let asked = short_asks c.args.line.now (short_by c.args.line.now c.if-line-gt-MOST_LINE_BYTES.false) ∙ (rw c.in-Ok-Some.field-0-is at c.in-Ok-Some.ensures.asks) in
+    tells_same (own_leads d (desk_line_of c.in-Ok-Some.line)) (leads_to d c.args.line.now) c.own_line.result (desk_leads d c.args.line.now (desk_line_of c.in-Ok-Some.line) asked) c.own_line.ensures.leads
+
+pub returns-in-Err-clause-leads : goal.returns-in-Err-clause-leads
+returns-in-Err-clause-leads g c = refusal_tells (leads_to (desk_on g.D.Derivation.system_of c.args.self.now) c.args.line.now) outcomes.Memory c.refuse-in-Err.result refl c.refuse-in-Err.ensures.outcome

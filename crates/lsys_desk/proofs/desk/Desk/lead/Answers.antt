@@ -1,4 +1,4 @@
-use Rattle.std.proofs.Common.{◌≡◌, ◌∙◌, Ok, ap, subst, sym, true}
+use Rattle.std.proofs.Common.{◌≡◌, ◌∙◌, Ok, Some, ap, refl, subst, sym, true}
 use Rattle.lsys_laws.specs.Sessions.{HasLevels}
 use Rattle.lsys_session.specs.Answers.{Counts}
 use Rattle.lsys_session.specs.declared.outcome.Outcome.TheVariants as outcomes
@@ -8,6 +8,7 @@ use Rattle.lsys_desk.specs.Views.{Bench, bench, desk_on}
 use Rattle.lsys_desk.proofs.Leading.{lacking, step_failed, step_taken}
 use Rattle.lsys_desk.proofs.Counting.{stay}
 use Rattle.lsys_desk.proofs.Keeping.{steps_kept}
+use Rattle.lsys_desk.proofs.Telling.{refusal_tells, unrefused_tells}
 use Rattle.lsys_desk.proofs.desk.Desk.lead.Goals as goal
 
 -- 1. no memory to keep the present system
@@ -88,3 +89,13 @@ returns-clause-counts g c =
     (λ (b : Bench _). Counts g.D.Derivation.visits (g.D.Derivation.limit_of b.derivation) true (g.D.Derivation.system_of b.derivation) (g.D.Derivation.system_of c.restore.new.self)
     (record { asked = c.args.asked.now; visited = c.args.visited.now }) (record { asked = c.restore.new.asked; visited = c.restore.new.visited }) (Ok c.in_ok-outcome.outcome))
     c.self.view_is c.in_ok-outcome.ensures.counts
+
+-- 4. where it leads
+
+pub returns-in_default-clause-leads : goal.returns-in_default-clause-leads
+returns-in_default-clause-leads g c = refusal_tells (Some c.args.system) outcomes.Memory c.refuse.result refl c.refuse.ensures.outcome
+
+pub returns-clause-leads : goal.returns-clause-leads
+returns-clause-leads g c =
+    let leads = c.in_ok-outcome.ensures.leads in
+    unrefused_tells (Some c.args.system) outcomes.Accepted leads.reply (Ok c.in_ok-outcome.outcome) refl leads.says.outcome

@@ -1,13 +1,15 @@
-use Rattle.std.proofs.Common.{false}
+use Rattle.std.proofs.Common.{None, ap, false, refl}
 use Rattle.lsys_spec.specs.Refusals.{Reply}
 use Rattle.lsys_spec.specs.Output.{memory_or}
 use Rattle.lsys_session.specs.Given.{unless_refused}
 use Rattle.lsys_session.specs.declared.outcome.Outcome.TheVariants as outcomes
 use Rattle.lsys_growth_laws.specs.Growth.{growth_at}
 use Rattle.lsys_desks.specs.Desks.{growth_reply}
-use Rattle.lsys_desk.specs.Views.{Bench, bench, desk_on}
+use Rattle.lsys_desk.specs.Views.{Bench, bench, desk_line_of, desk_on}
 use Rattle.lsys_desk.proofs.Leading.{growth_told}
 use Rattle.lsys_desk.proofs.Counting.{printed_quiet, stay}
+use Rattle.lsys_desks.specs.Costs.{own_leads}
+use Rattle.lsys_desk.proofs.Telling.{tells_same, unrefused_tells}
 use Rattle.lsys_desk.proofs.desk.Desk.own_line.Goals as goal
 
 pub returns-in-Growth-clause-gives : goal.returns-in-Growth-clause-gives
@@ -25,3 +27,10 @@ returns-in-Growth-clause-counts g c =
     let reply : Reply = memory_or c.answer_growth.ensures.lacks c.system.result.now (growth_reply c.system.result.now (growth_at c.system.result.now c.in-Growth.level)) in
     stay g.D.Derivation.visits (g.D.Derivation.limit_of c.args.self.now.derivation) (g.D.Derivation.system_of c.args.self.now.derivation) (record { asked = c.args.asked.now; visited = c.args.visited.now })
     false (unless_refused outcomes.Printed reply) c.answer_growth.result (printed_quiet reply) c.answer_growth.ensures.says.outcome
+
+pub returns-in-Growth-clause-leads : goal.returns-in-Growth-clause-leads
+returns-in-Growth-clause-leads g c =
+    let d = desk_on g.D.Derivation.system_of c.args.self.now in
+    let reply : Reply = memory_or c.answer_growth.ensures.lacks c.system.result.now (growth_reply c.system.result.now (growth_at c.system.result.now c.in-Growth.level)) in
+    tells_same None (own_leads d (desk_line_of c.args.line)) c.answer_growth.result (ap (λ l. own_leads d (desk_line_of l)) c.in-Growth.is)
+    (unrefused_tells None outcomes.Printed reply c.answer_growth.result refl c.answer_growth.ensures.says.outcome)

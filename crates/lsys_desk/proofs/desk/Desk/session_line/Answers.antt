@@ -1,4 +1,4 @@
-use Rattle.std.proofs.Common.{◌∙◌, Ok, Err, ap, subst}
+use Rattle.std.proofs.Common.{◌∙◌, Ok, Err, None, Some, ap, subst}
 use Rattle.lsys_spec.specs.Systems.{System}
 use Rattle.lsys_session.specs.Answers.{is_derived}
 use Rattle.lsys_session.specs.Requests.{IsRequest}
@@ -8,6 +8,11 @@ use Rattle.lsys_session.proofs.Answering.{short_by}
 use Rattle.lsys_desk.specs.Views.{Bench, bench, desk_on}
 use Rattle.lsys_desk.proofs.Answering.{by_edit, by_query, by_refusal, no_edit, short_asks}
 use Rattle.lsys_desk.proofs.Counting.{derived_so, refusal_quiet, stay}
+use Rattle.lsys_spec.specs.Costs.{edit_by}
+use Rattle.lsys_session.specs.Answers.{line_spelled}
+use Rattle.lsys_session.specs.Given.{done, given}
+use Rattle.lsys_desk.proofs.Answering.{refusal_refuses}
+use Rattle.lsys_desk.proofs.Telling.{done_unaccepted, edit_leads, query_leads, refusal_tells, tells_same, unrefused_tells}
 use Rattle.lsys_desk.proofs.desk.Desk.session_line.Goals as goal
 
 -- 1. a line that is refused by itself
@@ -76,3 +81,27 @@ returns-in_default-clause-counts g c =
     let short = short_by c.args.line.now c.requires.short in
     let asked : IsRequest s c.args.line.now (Ok c.in-Ok.request) = subst (λ (t : System). IsRequest t c.args.line.now (Ok c.in-Ok.request)) c.system.ensures.system c.in-Ok.ensures in
     rw (← c.self.view_is) (rw (derived_so s c.args.line.now c.in-Ok.request short asked) c.answer.ensures.counts)
+
+-- 4. where it leads
+
+pub returns-in-Err-clause-leads : goal.returns-in-Err-clause-leads
+returns-in-Err-clause-leads g c = refusal_tells (edit_by (g.D.Derivation.system_of c.args.self.now.derivation) (line_spelled c.args.line.now)) (refusal_outcome c.in-Err.refusal) c.refuse.result (refusal_refuses c.in-Err.refusal) c.refuse.ensures.outcome
+
+pub returns-in-Edit-clause-leads : goal.returns-in-Edit-clause-leads
+returns-in-Edit-clause-leads g c =
+    let s = g.D.Derivation.system_of c.args.self.now.derivation in
+    let short = short_by c.args.line.now c.requires.short in
+    let asked : IsRequest s c.args.line.now (Ok (Edit c.in-Edit.next)) =
+    rw c.in-Edit.is at (subst (λ (t : System). IsRequest t c.args.line.now (Ok c.in-Ok.request)) (c.system.ensures.system ∙ ap (λ (b : Bench _). g.D.Derivation.system_of b.derivation) c.self.view_is) c.in-Ok.ensures) in
+    tells_same (Some c.in-Edit.next) (edit_by s (line_spelled c.args.line.now)) c.lead.result (edit_leads s c.in-Edit.next c.args.line.now short asked) c.lead.ensures.leads
+
+pub returns-in_default-clause-leads : goal.returns-in_default-clause-leads
+returns-in_default-clause-leads g c =
+    let s = g.D.Derivation.system_of c.self.inside.session in
+    let short = short_by c.args.line.now c.requires.short in
+    let r = c.in-Ok.request in
+    let asked : IsRequest s c.args.line.now (Ok r) = subst (λ (t : System). IsRequest t c.args.line.now (Ok r)) c.system.ensures.system c.in-Ok.ensures in
+    let no_edits = no_edit r c.in_default.not-Edit in
+    let gives = c.answer.ensures.gives in
+    rw (← c.self.view_is) (tells_same None (edit_by s (line_spelled c.args.line.now)) c.answer.result (query_leads s c.args.line.now r short asked no_edits)
+    (unrefused_tells None (done r) (given (g.D.Derivation.limit_of c.self.inside.session) s r gives.lacks) c.answer.result (done_unaccepted r no_edits) gives.says.outcome))

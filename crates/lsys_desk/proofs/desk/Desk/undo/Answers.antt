@@ -1,4 +1,4 @@
-use Rattle.std.proofs.Common.{◌≡◌, ◌∙◌, Some, ap, sym, false}
+use Rattle.std.proofs.Common.{◌≡◌, ◌∙◌, Some, ap, refl, sym, false}
 use Rattle.lsys_spec.specs.Systems.{System}
 use Rattle.lsys_history.specs.Timelines.{nearest}
 use Rattle.lsys_laws.specs.Sessions.{HasLevels}
@@ -9,6 +9,7 @@ use Rattle.lsys_desk.specs.declared.step.Step.TheVariants.{Undo}
 use Rattle.lsys_desk.proofs.Leading.{lacking, no_undo, undo_leads}
 use Rattle.lsys_desk.proofs.Counting.{not_refused, stay}
 use Rattle.lsys_desk.proofs.Keeping.{nearest_kept, some_nearest}
+use Rattle.lsys_desk.proofs.Telling.{refusal_tells, tells_same}
 use Rattle.lsys_desk.proofs.desk.Desk.undo.Goals as goal
 
 -- 1. nothing is kept there
@@ -59,3 +60,16 @@ returns-in-Ok-clause-counts g c =
     not_refused limit (desk_on g.D.Derivation.system_of c.args.self.now) c.in-Ok.last (steps_by Undo c.args.self.now.steps (g.D.Derivation.system_of c.args.self.now.derivation))
     (desk_on g.D.Derivation.system_of c.lead.new.self) (rw (← c.self.view_is) kept) g.D.Derivation.visits (g.D.Derivation.system_of c.lead.new.self.derivation)
     (record { asked = c.args.asked.now; visited = c.args.visited.now }) (record { asked = c.lead.new.asked; visited = c.lead.new.visited }) c.lead.result c.lead.ensures.gives c.lead.ensures.counts
+
+-- 4. where it leads
+
+pub returns-in_default-clause-leads : goal.returns-in_default-clause-leads
+returns-in_default-clause-leads g c = refusal_tells (nearest c.args.self.now.steps.past) outcomes.Refused c.say.result refl c.say.ensures.outcome
+
+pub returns-in-Err-clause-leads : goal.returns-in-Err-clause-leads
+returns-in-Err-clause-leads g c = refusal_tells (nearest c.args.self.now.steps.past) outcomes.Memory c.refuse.result refl c.refuse.ensures.outcome
+
+pub returns-in-Ok-clause-leads : goal.returns-in-Ok-clause-leads
+returns-in-Ok-clause-leads g c =
+    let there : Some c.in-Ok.last ≡ nearest c.args.self.now.steps.past = ap (λ (s : System). Some s) c.in-Ok.ensures.cases ∙ c.in-Some.ensures ∙ ap (λ (b : Bench _). nearest b.steps.past) c.self.view_is in
+    tells_same (Some c.in-Ok.last) (nearest c.args.self.now.steps.past) c.lead.result (sym there) c.lead.ensures.leads

@@ -3,6 +3,7 @@ use Rattle.lsys_forest.specs.Groves.{In}
 use Rattle.lsys_pass.specs.Passes.{PassView}
 use Rattle.lsys_pass.proofs.Backing.{held, none_next}
 use Rattle.lsys_pass.proofs.Closed.{done, few_dropped, fits_count, moved_levels, closed_pass, closed_counts}
+use Rattle.lsys_pass.proofs.Runs.{runs_at_rest}
 use Rattle.lsys_pass.proofs.pass.Pass.close.Goals as goal
 
 pub overflow_sub-self : goal.overflow_sub-self
@@ -45,3 +46,17 @@ pub returns-clause-counts : goal.returns-clause-counts
 returns-clause-counts g c =
     closed_counts _ c.self.invariant (ap (λ (v : PassView). v.state) c.self.view_is ∙ c.requires) c.args.self.now c.len-asked.result _ c.self.view_is (let l = c.len-asked.ensures in omega (arith, l))
     (let l = c.len.ensures in let e : c.len.result ≡ length c.self.inside.work.dropped.items = omega (arith, l) in ap (λ n. c.self.inside.answers - n + c.self.inside.work.born) e)
+
+pub returns-clause-runs : goal.returns-clause-runs
+returns-clause-runs g c =
+    runs_at_rest _
+    (none_next c.commit.new.self c.commit.new.store c.settle_reads.new.reads c.seat_all.new.seats c.keep.new.self c.take_over.new.next c.take_over.new.system c.self.inside.limit c.come_to_rest.new.state c.come_to_rest.new.work _ c.take_over.ensures.none c.come_to_rest.ensures.rest
+    (closed_pass _ c.self.invariant (ap (λ (v : PassView). v.state) c.self.view_is ∙ c.requires) c.commit.new.self c.commit.new.store
+    (record { stay = c.commit.ensures.stay; only = c.commit.ensures.only; rest = c.commit.ensures.rest; root = c.commit.ensures.root; live = c.commit.ensures.spares.live; store = c.commit.ensures.store; still = c.commit.ensures.still })
+    c.settle_reads.new.reads c.seat_all.new.seats c.keep.new.self c.take_over.new.system c.come_to_rest.new.work _ c.take_over.ensures.system c.settle_reads.ensures.settled c.settle_reads.ensures.pending
+    (λ k i. c.seat_all.ensures.seated k (subst (In k) (sym (c.deref.ensures.value ∙ ap (λ m. m.items) c.settle_reads.ensures.moved)) i))
+    (λ k out. c.seat_all.ensures.others k (λ i. out (subst (In k) (c.deref.ensures.value ∙ ap (λ m. m.items) c.settle_reads.ensures.moved) i)))
+    c.seat_all.ensures.marks c.seat_all.ensures.keeps
+    (let l = c.len.ensures in let e : c.len.result ≡ length c.self.inside.work.dropped.items = omega (arith, l) in ap (λ n. c.self.inside.answers - n + c.self.inside.work.born) e)
+    c.come_to_rest.ensures.cleared c.keep.ensures.rest c.keep.ensures.made))
+    c.come_to_rest.ensures.rest

@@ -1,59 +1,60 @@
 use Rattle.std.proofs.Common.{refl, ap, ◌∙◌}
 use Rattle.lsys_pass.specs.Passes.{PassView}
 use Rattle.lsys_pass.proofs.Freshness.{made_failed, need_at, lives_at, stands_at, answers_at, made_at, fresh_at, goes_at}
+use Rattle.lsys_pass.proofs.Births.{linked_keeps, linked_made}
 use Rattle.lsys_pass.proofs.pass.Pass.make_level.Goals as goal
 
 pub make_below-requires-clause-need : goal.make_below-requires-clause-need
-make_below-requires-clause-need g c = need_at _ _ c.args.level c.self.view_is c.requires.asked c.args.parents.now c.requires.found _ c.target.ensures _ c.requires.need
+make_below-requires-clause-need g c = need_at _ _ c.args.level c.self.view_is c.requires.asked c.args.parents.now c.requires.found _ c.target-system.ensures _ c.requires.need
 
 pub invariant_of-self : goal.invariant_of-self
 invariant_of-self g c = made_failed _ _ _ _ _ _ c.self.invariant (ap (λ (z : PassView). z.state) c.self.view_is ∙ c.requires.failed) c.make_below.ensures.keeps (λ k. refl) (λ k. refl) (λ k i. i) refl
 
 pub next-requires-clause-lives : goal.next-requires-clause-lives
 next-requires-clause-lives g c =
-    lives_at _ _ c.args.level c.self.view_is c.requires.asked c.args.parents.now c.requires.found _ c.target.ensures _ _ c.make_below.ensures.keeps c.in_ok-told.ensures.made
+    lives_at _ _ c.args.level c.self.view_is c.requires.asked c.args.parents.now c.requires.found _ c.target-system.ensures _ _ (linked_keeps _ _ _ c.link_busy.ensures c.make_below.ensures.keeps) (linked_made _ _ _ c.link_busy.ensures _ _ _ c.in_ok-told.ensures.made)
 
 pub next-requires-clause-level : goal.next-requires-clause-level
 next-requires-clause-level g c =
-    (c.args.level, stands_at _ _ c.args.level c.self.view_is c.requires.asked c.args.parents.now c.requires.found _ c.target.ensures _ _ c.make_below.ensures.keeps c.in_ok-told.ensures.made)
+    (c.args.level, stands_at _ _ c.args.level c.self.view_is c.requires.asked c.args.parents.now c.requires.found _ c.target-system.ensures _ _ (linked_keeps _ _ _ c.link_busy.ensures c.make_below.ensures.keeps) (linked_made _ _ _ c.link_busy.ensures _ _ _ c.in_ok-told.ensures.made))
 
 pub invariant_of-self-in_err-front : goal.invariant_of-self-in_err-front
-invariant_of-self-in_err-front g c = made_failed _ _ _ _ _ _ c.self.invariant (ap (λ (z : PassView). z.state) c.self.view_is ∙ c.requires.failed) c.make_below.ensures.keeps (λ k. refl) (λ k. refl) (λ k i. i) refl
+invariant_of-self-in_err-front g c = made_failed _ _ _ _ _ _ c.self.invariant (ap (λ (z : PassView). z.state) c.self.view_is ∙ c.requires.failed) (linked_keeps _ _ _ c.link_busy.ensures c.make_below.ensures.keeps) (λ k. refl) (λ k. refl) (λ k i. i) refl
 
 pub invariant_of-self-in_err-make_seats : goal.invariant_of-self-in_err-make_seats
 invariant_of-self-in_err-make_seats g c =
     let seats = c.make_seats.ensures in
-    made_failed _ _ _ _ _ _ c.self.invariant (ap (λ (z : PassView). z.state) c.self.view_is ∙ c.requires.failed) c.make_below.ensures.keeps seats.seats seats.marks seats.keeps refl
+    made_failed _ _ _ _ _ _ c.self.invariant (ap (λ (z : PassView). z.state) c.self.view_is ∙ c.requires.failed) (linked_keeps _ _ _ c.link_busy.ensures c.make_below.ensures.keeps) seats.seats seats.marks seats.keeps refl
 
 pub invariant_of-self-in_err-add : goal.invariant_of-self-in_err-add
 invariant_of-self-in_err-add g c =
     let seats = c.make_seats.ensures in
-    made_failed _ _ _ _ _ _ c.self.invariant (ap (λ (z : PassView). z.state) c.self.view_is ∙ c.requires.failed) c.make_below.ensures.keeps seats.seats seats.marks seats.keeps c.add.ensures.rest
+    made_failed _ _ _ _ _ _ c.self.invariant (ap (λ (z : PassView). z.state) c.self.view_is ∙ c.requires.failed) (linked_keeps _ _ _ c.link_busy.ensures c.make_below.ensures.keeps) seats.seats seats.marks seats.keeps c.add.ensures.rest
 
 pub invariant_of-self-2 : goal.invariant_of-self-2
 invariant_of-self-2 g c =
     let seats = c.make_seats.ensures in
-    made_failed _ _ _ _ _ _ c.self.invariant (ap (λ (z : PassView). z.state) c.self.view_is ∙ c.requires.failed) c.make_below.ensures.keeps seats.seats seats.marks seats.keeps c.add.ensures.rest
+    made_failed _ _ _ _ _ _ c.self.invariant (ap (λ (z : PassView). z.state) c.self.view_is ∙ c.requires.failed) (linked_keeps _ _ _ c.link_busy.ensures c.make_below.ensures.keeps) seats.seats seats.marks seats.keeps c.add.ensures.rest
 
 pub returns-clause-fresh : goal.returns-clause-fresh
 returns-clause-fresh g c =
     let seats = c.in_ok-make_seats.ensures in
     let front = c.in_ok-front.ensures in
-    fresh_at _ _ c.args.level c.self.view_is c.requires.asked c.args.parents.now c.requires.found _ c.target.ensures _ _ c.make_below.ensures.keeps c.in_ok-told.ensures.made
+    fresh_at _ _ c.args.level c.self.view_is c.requires.asked c.args.parents.now c.requires.found _ c.target-system.ensures _ _ (linked_keeps _ _ _ c.link_busy.ensures c.make_below.ensures.keeps) (linked_made _ _ _ c.link_busy.ensures _ _ _ c.in_ok-told.ensures.made)
     c.args.symbols c.requires.symbols c.requires.within _ _ _ _ seats.seats seats.keeps seats.room front.bare front.told front.looks front.below c.requires.below
 
 pub returns-clause-goes : goal.returns-clause-goes
 returns-clause-goes g c =
     let seats = c.in_ok-make_seats.ensures in
     let front = c.in_ok-front.ensures in
-    goes_at _ _ c.args.level c.self.view_is c.requires.asked c.args.parents.now c.requires.found _ c.target.ensures _ _ c.make_below.ensures.keeps c.in_ok-told.ensures.made
+    goes_at _ _ c.args.level c.self.view_is c.requires.asked c.args.parents.now c.requires.found _ c.target-system.ensures _ _ (linked_keeps _ _ _ c.link_busy.ensures c.make_below.ensures.keeps) (linked_made _ _ _ c.link_busy.ensures _ _ _ c.in_ok-told.ensures.made)
     c.args.symbols c.requires.symbols c.requires.within c.make_seats.new.seats c.add.new.self.rest.items c.add.new.self.made.items c.in_ok-front.front seats.seats seats.keeps seats.room front.bare front.told front.looks front.below c.requires.below
 
 pub returns-clause-made : goal.returns-clause-made
 returns-clause-made g c =
-    made_at _ _ c.args.level c.self.view_is c.requires.asked c.args.parents.now c.requires.found _ c.target.ensures _ _ c.make_below.ensures.keeps c.in_ok-told.ensures.made
+    made_at _ _ c.args.level c.self.view_is c.requires.asked c.args.parents.now c.requires.found _ c.target-system.ensures _ _ (linked_keeps _ _ _ c.link_busy.ensures c.make_below.ensures.keeps) (linked_made _ _ _ c.link_busy.ensures _ _ _ c.in_ok-told.ensures.made)
     c.args.symbols c.requires.symbols c.requires.within _ c.in_ok-add.ensures.made
 
 pub returns-clause-answers : goal.returns-clause-answers
 returns-clause-answers g c =
-    answers_at _ _ c.args.level c.self.view_is c.requires.asked c.args.parents.now c.requires.found _ c.target.ensures _ _ c.make_below.ensures.keeps c.in_ok-told.ensures.made
+    answers_at _ _ c.args.level c.self.view_is c.requires.asked c.args.parents.now c.requires.found _ c.target-system.ensures _ _ (linked_keeps _ _ _ c.link_busy.ensures c.make_below.ensures.keeps) (linked_made _ _ _ c.link_busy.ensures _ _ _ c.in_ok-told.ensures.made)

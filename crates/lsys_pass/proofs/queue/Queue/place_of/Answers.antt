@@ -3,10 +3,13 @@ use Rattle.lsys_forest.proofs.WalkLemmas.{get_In, In_at}
 use Rattle.lsys_pass.proofs.queue.Queue.place_of.Goals as goal
 
 pub is_before-requires-clause-one : goal.is_before-requires-clause-one
-is_before-requires-clause-one g c = c.requires.order.spots c.nth.result (get_In c.args.self.now _ c.nth.result c.nth.ensures)
+is_before-requires-clause-one g c = c.requires.order.spots c.nth-in-loop-first.result (get_In c.args.self.now _ c.nth-in-loop-first.result c.nth-in-loop-first.ensures)
+
+pub is_before-requires-clause-two : goal.is_before-requires-clause-two
+is_before-requires-clause-two g c = c.requires.order.spots c.args.node c.requires.among
 
 pub is_before-requires-clause-level : goal.is_before-requires-clause-level
-is_before-requires-clause-level g c = c.requires.order.level c.args.node c.nth.result c.requires.among (get_In c.args.self.now _ c.nth.result c.nth.ensures)
+is_before-requires-clause-level g c = c.requires.order.level c.args.node c.nth-in-loop-first.result c.requires.among (get_In c.args.self.now _ c.nth-in-loop-first.result c.nth-in-loop-first.ensures)
 
 pub returns : goal.returns
 returns g c =

@@ -1,0 +1,93 @@
+//! Sinks in memory, and what is buffered before them.
+use lsys_io::{Buffered, Failed, MemorySink, NeverSink, Sink, send_all};
+use std::alloc::Global;
+use std::process::Abort;
+use std::test::Fail;
+
+#[test]
+fn a_sink_takes_what_it_has_room_for(rt: HostRuntime) -> Result<(), Fail> {
+    let mut sink = MemorySink::new(rt.alloc(), 10, 3, Vec::new(rt.alloc()))?;
+    assert_eq!(rt; send_all(&mut sink, b"abcdefgh"), Ok(()));
+    assert_eq!(rt; sink.bytes(), b"abcdefgh".as_slice());
+    assert_eq!(rt; send_all(&mut sink, b"ijk"), Err(Failed));
+    assert_eq!(rt; sink.bytes(), b"abcdefghij".as_slice());
+    Ok(())
+}
+
+#[test]
+fn a_sink_fails_at_the_call_that_it_is_told(rt: HostRuntime) -> Result<(), Fail> {
+    let mut sink = MemorySink::new(rt.alloc(), 10, 10, vec![in rt.alloc(); 1]?)?;
+    assert_eq!(rt; send_all(&mut sink, b"ab"), Err(Failed));
+    assert_eq!(rt; send_all(&mut sink, b"cd"), Ok(()));
+    assert_eq!(rt; sink.bytes(), b"cd".as_slice());
+    Ok(())
+}
+
+#[test]
+fn a_sink_that_never_fails_counts(rt: HostRuntime) -> Result<(), Fail> {
+    let mut sink = NeverSink::new();
+    assert_eq!(rt; send_all(&mut sink, b"abc"), Ok(()));
+    assert_eq!(rt; sink.count(), 3);
+    Ok(())
+}
+
+/// Puts bytes by `out`, which takes them, and keeps them in `expected`.
+fn is_put(
+    rt: &impl Abort,
+    out: &mut Buffered,
+    sink: &mut MemorySink,
+    expected: &mut Vec<u8>,
+    bytes: &[u8],
+) -> Result<(), Fail> {
+    assert_eq!(rt; out.put(sink, bytes), Ok(()));
+    expected.extend_from_slice(bytes)?;
+    Ok(())
+}
+
+fn numbers_in_text() -> &'static [(i128, &'static str)] {
+    &[
+        (0, "0"),
+        (-1, "-1"),
+        (i128::MAX, "170141183460469231731687303715884105727"),
+        (i128::MIN, "-170141183460469231731687303715884105728"),
+    ]
+}
+
+/// Puts numbers by `out`, which takes them, and keeps their texts in `expected`.
+fn numbers_are_put(
+    rt: &impl Abort,
+    out: &mut Buffered,
+    sink: &mut MemorySink,
+    expected: &mut Vec<u8>,
+) -> Result<(), Fail> {
+    for (number, text) in numbers_in_text() {
+        assert_eq!(rt; out.put_number(sink, *number), Ok(()));
+        expected.extend_from_slice(text.as_bytes())?;
+    }
+    Ok(())
+}
+
+#[test]
+fn buffered_bytes_come_in_order(rt: HostRuntime) -> Result<(), Fail> {
+    let mut sink = MemorySink::new(rt.alloc(), 20_000, 1000, Vec::new(rt.alloc()))?;
+    let mut expected = Vec::new(rt.alloc());
+    let mut out = Buffered::new(rt.alloc())?;
+    for _ in 0..1000 {
+        is_put(&rt, &mut out, &mut sink, &mut expected, b"lines")?;
+    }
+    let long = vec![in rt.alloc(); b'x'; 5000]?;
+    is_put(&rt, &mut out, &mut sink, &mut expected, &long)?;
+    numbers_are_put(&rt, &mut out, &mut sink, &mut expected)?;
+    assert_eq!(rt; out.flush(&mut sink), Ok(()));
+    assert_eq!(rt; sink.bytes(), expected.as_slice());
+    fails_at_its_flush(&rt, rt.alloc(), &mut out)
+}
+
+/// A sink that fails at its first call is told of where what is buffered is flushed.
+fn fails_at_its_flush(rt: &impl Abort, alloc: Global, out: &mut Buffered) -> Result<(), Fail> {
+    let mut sink = MemorySink::new(alloc, 20_000, 1000, vec![in alloc; 1]?)?;
+    assert_eq!(rt; out.put(&mut sink, b"a"), Ok(()));
+    assert_eq!(rt; out.flush(&mut sink), Err(Failed));
+    assert!(rt; sink.bytes().is_empty());
+    Ok(())
+}

@@ -1,0 +1,58 @@
+//! Images and scripts of the largest size, and larger ones.
+use lsys_cli::Status;
+use lsys_io::{MemorySink, MemorySource, NeverSource};
+use lsys_tests_runs::{ran_by, status_of};
+use std::alloc::{AllocError, Global};
+use std::process::Abort;
+use std::test::Fail;
+
+/// A script whose image has 8,000 times so many symbols.
+fn script_of_images(alloc: Global, symbols: usize) -> Result<Vec<u8>, AllocError> {
+    let mut script = Vec::from_slice(alloc, b"axiom ")?;
+    script.extend_from_slice(&vec![in alloc; b'A'; 1000]?)?;
+    script.extend_from_slice(b"\nproduction d: A => AA\ndepth 3\nhom h: A => ")?;
+    script.extend_from_slice(&vec![in alloc; b'F'; symbols]?)?;
+    script.extend_from_slice(b"\nsegments\n")?;
+    Ok(script)
+}
+
+const IMAGE_EDITS: &str = "ok 0/0\nok 0/0\nok 7000/7000\nok 0/7000\n";
+
+#[test]
+fn an_image_that_is_too_large(rt: HostRuntime) -> Result<(), Fail> {
+    let script = script_of_images(rt.alloc(), 126)?;
+    let (status, written) = ran_by(rt.alloc(), &[], script.as_slice())?;
+    assert_eq!(rt; status, Status::Refused);
+    let expected = format!(in rt.alloc(); "{IMAGE_EDITS}refused image\n")?;
+    assert_eq!(rt; written.as_slice(), expected.as_bytes());
+    Ok(())
+}
+
+#[test]
+fn the_largest_image(rt: HostRuntime) -> Result<(), Fail> {
+    let script = script_of_images(rt.alloc(), 125)?;
+    let mut source = NeverSource::new(script);
+    let mut sink = MemorySink::new(rt.alloc(), 65_536, 65_536, Vec::new(rt.alloc()))?;
+    let status = status_of(rt.alloc(), &[], &mut source, &mut sink)?;
+    assert_eq!(rt; status, Status::WriteFault);
+    let expected = format!(in rt.alloc(); "{IMAGE_EDITS}segments 1000000\n0 0 0 0 1 0 1\n")?;
+    assert!(rt; sink.bytes().starts_with(expected.as_bytes()));
+    Ok(())
+}
+
+/// A script of so many empty lines ends so.
+fn ends_so(rt: &impl Abort, alloc: Global, bytes: usize, expected: Status) -> Result<(), Fail> {
+    let feeds = vec![in alloc; b'\n'; bytes]?;
+    let mut source = MemorySource::new(feeds, 65_536, Vec::new(alloc));
+    let mut sink = MemorySink::new(alloc, 16, 8, Vec::new(alloc))?;
+    let status = status_of(alloc, &[], &mut source, &mut sink)?;
+    assert_eq!(rt; status, expected);
+    assert!(rt; sink.bytes().is_empty());
+    Ok(())
+}
+
+#[test]
+fn a_script_has_at_most_16_777_216_bytes(rt: HostRuntime) -> Result<(), Fail> {
+    ends_so(&rt, rt.alloc(), 16_777_216, Status::Done)?;
+    ends_so(&rt, rt.alloc(), 16_777_217, Status::TooLong)
+}

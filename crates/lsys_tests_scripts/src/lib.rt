@@ -1,0 +1,23 @@
+//! Scripts with their replies, for the tests of all that answers scripts.
+#![tactic(auto)]
+
+mod drawing;
+mod editing;
+mod limits;
+mod versioned;
+
+pub use drawing::pictures;
+pub use editing::edits;
+pub use limits::{algae, limited};
+pub use versioned::versions;
+
+/// A script, and what is written for it.
+#[derive(Clone, Copy)]
+pub struct Script {
+    /// What it shows.
+    pub name: &'static str,
+    /// Its lines.
+    pub text: &'static str,
+    /// The replies to them.
+    pub replies: &'static str,
+}
