@@ -56,20 +56,24 @@ pub fn lsys<S: Source, K: Sink, L: Ledger, V: Ledger>(
     // The script was read to its end or to a heeded `quit`, and its output was written; or there was no memory to begin.
     ensures done { result ≡ Status.Done → OnScript (options_by (texts words.now)) (S.left source.old)
         (λ limit. WroteOutput most_visits limit false
-        (seen K.written sink.old asked.old visited.old) (seen K.written sink.new asked.new visited.new)) }
+        (seen K.written sink.old asked.old visited.old)
+        (seen K.written sink.new asked.new visited.new)) }
     ensures refused { result ≡ Status.Refused → OnScript (options_by (texts words.now)) (S.left source.old)
         (λ limit. WroteOutput most_visits limit true
-        (seen K.written sink.old asked.old visited.old) (seen K.written sink.new asked.new visited.new)) }
+        (seen K.written sink.old asked.old visited.old)
+        (seen K.written sink.new asked.new visited.new)) }
     ensures memory { result ≡ Status.Memory
         → Untouched source.old source.new sink.old sink.new asked.old asked.new visited.old visited.new
         ⊎ OnScript (options_by (texts words.now)) (S.left source.old)
         (λ limit. WroteLacking most_visits limit
-        (seen K.written sink.old asked.old visited.old) (seen K.written sink.new asked.new visited.new)) }
+        (seen K.written sink.old asked.old visited.old)
+        (seen K.written sink.new asked.new visited.new)) }
 
     // The other ends: what was written then, and their causes.
     ensures read_fault { result ≡ Status.ReadFault → OnScript (options_by (texts words.now)) (S.left source.old)
         (λ limit. WroteGiven most_visits limit (S.left source.new)
-        (seen K.written sink.old asked.old visited.old) (seen K.written sink.new asked.new visited.new)) }
+        (seen K.written sink.old asked.old visited.old)
+        (seen K.written sink.new asked.new visited.new)) }
     ensures read_fault_only_where_rose { result ≡ Status.ReadFault → Rose (S.faults source.old) (S.faults source.new) }
     ensures read_fault_only_where_read { result ≡ Status.ReadFault → OnSample (options_by (texts words.now)) ⊥ }
     ensures write_fault { result ≡ Status.WriteFault → OnScript (options_by (texts words.now)) (S.left source.old)
@@ -77,7 +81,8 @@ pub fn lsys<S: Source, K: Sink, L: Ledger, V: Ledger>(
     ensures write_fault_only_where_rose { result ≡ Status.WriteFault → Rose (K.faults sink.old) (K.faults sink.new) }
     ensures too_long { result ≡ Status.TooLong → OnScript (options_by (texts words.now)) (S.left source.old)
         (λ limit. WroteWithin most_visits limit
-        (seen K.written sink.old asked.old visited.old) (seen K.written sink.new asked.new visited.new)) }
+        (seen K.written sink.old asked.old visited.old)
+        (seen K.written sink.new asked.new visited.new)) }
 
     // No failure is passed over.
     ensures no_read_fault_passed_over { result ≢ Status.ReadFault → S.faults source.new ≡ S.faults source.old }

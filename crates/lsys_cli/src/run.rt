@@ -76,8 +76,10 @@ pub fn run<S: Source, K: Sink, L: Ledger, V: Ledger, D: Derivation<L> + Drop>(
     requires opening { desk_on D.system_of desk.old ≡ opening_desk }
     requires empty { out.old ≡ [] }
     requires fresh { reader.old ≡ record { held = []; taken = 0; line = []; stage = Going } }
-    ensures ends { Ends D.visits (D.limit_of desk.old.derivation) (S.left source.old) (S.left source.new)
-        (seen K.written sink.old asked.old visited.old) (seen K.written sink.new asked.new visited.new) result }
+    ensures ends { Ends D.visits (D.limit_of desk.old.derivation)
+        (S.left source.old) (S.left source.new)
+        (seen K.written sink.old asked.old visited.old)
+        (seen K.written sink.new asked.new visited.new) result }
     ensures read_fault_only_where_rose { result ≡ Status.ReadFault → Rose (S.faults source.old) (S.faults source.new) }
     ensures write_fault_only_where_rose { result ≡ Status.WriteFault → Rose (K.faults sink.old) (K.faults sink.new) }
     ensures no_read_fault_passed_over { result ≢ Status.ReadFault → S.faults source.new ≡ S.faults source.old }

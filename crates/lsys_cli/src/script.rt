@@ -30,7 +30,8 @@ pub fn run_by<S: Source, K: Sink, L: Ledger, V: Ledger, D: Derivation<L> + Drop>
     ensures ends { ((result ≡ Status.Memory)
         × Untouched source.old source.new sink.old sink.new asked.old asked.new visited.old visited.new)
         ⊎ Ends D.visits options.limit (script_of options (S.left source.old)) (S.left source.new)
-        (seen K.written sink.old asked.old visited.old) (seen K.written sink.new asked.new visited.new) result }
+        (seen K.written sink.old asked.old visited.old)
+        (seen K.written sink.new asked.new visited.new) result }
     ensures sample { OfSample options.sample ((source.new ≡ source.old) × (result ≢ Status.ReadFault)) }
     ensures read_fault_only_where_rose { result ≡ Status.ReadFault → Rose (S.faults source.old) (S.faults source.new) }
     ensures write_fault_only_where_rose { result ≡ Status.WriteFault → Rose (K.faults sink.old) (K.faults sink.new) }
@@ -63,7 +64,8 @@ fn run_sample<K: Sink, L: Ledger, V: Ledger, D: Derivation<L> + Drop>(
     requires { limit ≤ 1000000 }
     ensures ends { ((result ≡ Status.Memory) × UntouchedSink sink.old sink.new asked.old asked.new visited.old visited.new)
         ⊎ ((left : Option (List ℕ)) → Ends D.visits limit (Some (samples.sample number)) left
-        (seen K.written sink.old asked.old visited.old) (seen K.written sink.new asked.new visited.new) result) }
+        (seen K.written sink.old asked.old visited.old)
+        (seen K.written sink.new asked.new visited.new) result) }
     ensures no_read_fault { result ≢ Status.ReadFault }
     ensures write_fault_only_where_rose { result ≡ Status.WriteFault → Rose (K.faults sink.old) (K.faults sink.new) }
     ensures no_write_fault_passed_over { result ≢ Status.WriteFault → K.faults sink.new ≡ K.faults sink.old }
@@ -89,7 +91,8 @@ fn run_script<S: Source, K: Sink, L: Ledger, V: Ledger, D: Derivation<L> + Drop>
     ensures ends { ((result ≡ Status.Memory)
         × Untouched source.old source.new sink.old sink.new asked.old asked.new visited.old visited.new)
         ⊎ Ends D.visits limit (S.left source.old) (S.left source.new)
-        (seen K.written sink.old asked.old visited.old) (seen K.written sink.new asked.new visited.new) result }
+        (seen K.written sink.old asked.old visited.old)
+        (seen K.written sink.new asked.new visited.new) result }
     ensures read_fault_only_where_rose { result ≡ Status.ReadFault → Rose (S.faults source.old) (S.faults source.new) }
     ensures write_fault_only_where_rose { result ≡ Status.WriteFault → Rose (K.faults sink.old) (K.faults sink.new) }
     ensures no_read_fault_passed_over { result ≢ Status.ReadFault → S.faults source.new ≡ S.faults source.old }

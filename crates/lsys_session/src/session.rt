@@ -98,6 +98,13 @@ impl<L: Ledger, D: Derivation<L>> Session<L, D> {
         self.derivation.system()
     }
 
+    /// The derivation that it keeps.
+    pub fn derivation(&self) -> &D
+        ensures { result.now ≡ self.now }
+    {
+        &self.derivation
+    }
+
     /// Goes on from another system, as an edit that leads to it: it is accepted where it has its levels under the limit, and
     /// else refused as such an edit is.
     ///
