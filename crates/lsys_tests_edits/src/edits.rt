@@ -1,7 +1,9 @@
 //! Scripts are answered as they should be.
 use lsys_cli::Status;
 use lsys_tests_runs::ran_by;
-use lsys_tests_scripts::{Script, algae, edits, limited, pictures, versions};
+use lsys_tests_scripts::{
+    Script, algae, edits, hostile_lines, limited, pictures, refusals, steps, versions,
+};
 use std::alloc::Global;
 use std::process::Abort;
 use std::test::Fail;
@@ -41,6 +43,26 @@ fn are_answered(rt: &impl Abort, alloc: Global, scripts: &[Script]) -> Result<()
 fn systems_that_are_edited(rt: HostRuntime) -> Result<(), Fail> {
     is_answered(&rt, rt.alloc(), &[], &algae())?;
     are_answered(&rt, rt.alloc(), edits())
+}
+
+#[test]
+fn derivation_steps(rt: HostRuntime) -> Result<(), Fail> {
+    are_answered(&rt, rt.alloc(), steps())
+}
+
+#[test]
+fn refused_lines(rt: HostRuntime) -> Result<(), Fail> {
+    are_answered(&rt, rt.alloc(), refusals())
+}
+
+#[test]
+fn hostile_lines_are_refused(rt: HostRuntime) -> Result<(), Fail> {
+    for (line, reply) in hostile_lines() {
+        let (status, written) = ran_by(rt.alloc(), &[], line)?;
+        assert_eq!(rt; written.as_slice(), reply.as_bytes(), "{line:?}");
+        assert_eq!(rt; status, Status::Refused, "{line:?}");
+    }
+    Ok(())
 }
 
 #[test]

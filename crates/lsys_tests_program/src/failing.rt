@@ -2,7 +2,7 @@
 use lsys_cli::Status;
 use lsys_io::{MemorySink, MemorySource, NeverSink, NeverSource};
 use lsys_tests_runs::status_of;
-use lsys_tests_scripts::algae;
+use lsys_tests_scripts::{algae, hostile_lines};
 use std::alloc::{AllocError, Global};
 use std::process::Abort;
 use std::test::Fail;
@@ -11,11 +11,11 @@ use std::test::Fail;
 /// most, and they fail at these calls; at a call 0 neither fails.
 fn ran_failing(
     alloc: Global,
-    script: &str,
+    script: &[u8],
     read: u64,
     write: u64,
 ) -> Result<(Status, Vec<u8>), AllocError> {
-    let bytes = Vec::from_slice(alloc, script.as_bytes())?;
+    let bytes = Vec::from_slice(alloc, script)?;
     let mut source = MemorySource::new(bytes, 8, vec![in alloc; read]?);
     let mut sink = MemorySink::new(alloc, 4096, 4, vec![in alloc; write]?)?;
     let status = status_of(alloc, &[], &mut source, &mut sink)?;
@@ -31,7 +31,7 @@ fn is_failing(
     expected: Status,
     replies: &str,
 ) -> Result<(), Fail> {
-    let (status, written) = ran_failing(alloc, script, calls.0, calls.1)?;
+    let (status, written) = ran_failing(alloc, script.as_bytes(), calls.0, calls.1)?;
     assert_eq!(rt; status, expected, "{script:?}");
     assert_eq!(rt; written.as_slice(), replies.as_bytes(), "{script:?}");
     Ok(())
@@ -57,45 +57,117 @@ fn failing_ends(rt: HostRuntime) -> Result<(), Fail> {
     Ok(())
 }
 
-/// A run on the script of algae whose ends fail at these calls ends so, and writes so many bytes of the replies.
+/// A run on a script whose ends fail at these calls ends so, and writes so many bytes of the replies.
 fn is_cut_off(
     rt: &impl Abort,
     alloc: Global,
+    script: &[u8],
+    replies: &[u8],
     calls: (u64, u64),
     expected: Status,
     count: usize,
 ) -> Result<(), Fail> {
-    let (status, written) = ran_failing(alloc, algae().text, calls.0, calls.1)?;
+    let (status, written) = ran_failing(alloc, script, calls.0, calls.1)?;
     assert_eq!(rt; status, expected, "{calls:?}");
     assert_eq!(rt; written.len(), count, "{calls:?}");
-    assert!(rt; algae().replies.as_bytes().starts_with(written.as_slice()));
+    assert!(rt; replies.starts_with(written.as_slice()), "{calls:?}");
     Ok(())
 }
 
-/// The source gives 8 bytes a call and fails at one call after another: the replies to the whole lines before are written.
-#[test]
-fn a_source_that_fails_at_each_call(rt: HostRuntime) -> Result<(), Fail> {
-    let written_before = &[0, 7, 7, 7, 14, 14, 14, 21, 30, 44][..];
-    for (place, count) in written_before.iter().enumerate() {
+/// The source gives 8 bytes a call and fails at one call after another, until a run ends as without a fault: so many bytes
+/// are written each time, the replies to the whole lines before.
+fn fails_at_each_read(
+    rt: &impl Abort,
+    alloc: Global,
+    script: &[u8],
+    replies: &[u8],
+    counts: &[usize],
+    end: Status,
+) -> Result<(), Fail> {
+    for (place, count) in counts.iter().enumerate() {
         let calls = (place as u64 + 1, 0);
-        is_cut_off(&rt, rt.alloc(), calls, Status::ReadFault, *count)?;
+        is_cut_off(rt, alloc, script, replies, calls, Status::ReadFault, *count)?;
     }
-    let (status, _) = ran_failing(rt.alloc(), algae().text, 11, 0)?;
-    assert_eq!(rt; status, Status::Done);
-    Ok(())
+    let calls = (counts.len() as u64 + 1, 0);
+    is_cut_off(rt, alloc, script, replies, calls, end, replies.len())
 }
 
-/// The sink takes 4 bytes a call and fails at one call after another: a front of the replies is written.
-#[test]
-fn a_sink_that_fails_at_each_call(rt: HostRuntime) -> Result<(), Fail> {
-    let written_before = &[0, 4, 7, 11, 14, 18, 21, 25, 29, 30, 34, 38, 42][..];
-    for (place, count) in written_before.iter().enumerate() {
+/// The sink takes 4 bytes a call at most and fails at one call after another, until a run ends as without a fault: so many
+/// bytes are written each time.
+fn fails_at_each_write(
+    rt: &impl Abort,
+    alloc: Global,
+    script: &[u8],
+    replies: &[u8],
+    counts: &[usize],
+    end: Status,
+) -> Result<(), Fail> {
+    for (place, count) in counts.iter().enumerate() {
         let calls = (0, place as u64 + 1);
-        is_cut_off(&rt, rt.alloc(), calls, Status::WriteFault, *count)?;
+        is_cut_off(
+            rt,
+            alloc,
+            script,
+            replies,
+            calls,
+            Status::WriteFault,
+            *count,
+        )?;
     }
-    let (status, _) = ran_failing(rt.alloc(), algae().text, 0, 14)?;
-    assert_eq!(rt; status, Status::Done);
-    Ok(())
+    let calls = (0, counts.len() as u64 + 1);
+    is_cut_off(rt, alloc, script, replies, calls, end, replies.len())
+}
+
+/// How many bytes of the replies to algae are written before each read.
+fn algae_by_reads() -> &'static [usize] {
+    &[0, 7, 7, 7, 14, 14, 14, 21, 30, 44]
+}
+
+/// How many bytes of the replies to algae are written before each write.
+fn algae_by_writes() -> &'static [usize] {
+    &[0, 4, 7, 11, 14, 18, 21, 25, 29, 30, 34, 38, 42]
+}
+
+#[test]
+fn algae_with_an_end_that_fails_at_each_call(rt: HostRuntime) -> Result<(), Fail> {
+    let script = algae().text.as_bytes();
+    let replies = algae().replies.as_bytes();
+    let (reads, writes) = (algae_by_reads(), algae_by_writes());
+    fails_at_each_read(&rt, rt.alloc(), script, replies, reads, Status::Done)?;
+    fails_at_each_write(&rt, rt.alloc(), script, replies, writes, Status::Done)
+}
+
+/// How many bytes of the replies to the hostile lines are written before each read.
+fn hostile_by_reads() -> &'static [usize] {
+    &[0, 22, 22, 44, 44, 68, 91, 114, 114, 137, 137, 137, 160]
+}
+
+/// How many bytes of the replies to the hostile lines are written before each write.
+fn hostile_by_writes() -> &'static [usize] {
+    &[
+        0, 4, 8, 12, 16, 20, 22, 26, 30, 34, 38, 42, 44, 48, 52, 56, 60, 64, 68, 72, 76, 80, 84,
+        88, 91, 95, 99, 103, 107, 111, 114, 118, 122, 126, 130, 134, 137, 141, 145, 149, 153, 157,
+    ]
+}
+
+/// The hostile lines as a script, and the replies to it.
+fn hostile_script(alloc: Global) -> Result<(Vec<u8>, Vec<u8>), AllocError> {
+    let mut script = Vec::new(alloc);
+    let mut replies = Vec::new(alloc);
+    for (line, reply) in hostile_lines() {
+        script.extend_from_slice(line)?;
+        script.push(b'\n')?;
+        replies.extend_from_slice(reply.as_bytes())?;
+    }
+    Ok((script, replies))
+}
+
+#[test]
+fn hostile_lines_with_an_end_that_fails_at_each_call(rt: HostRuntime) -> Result<(), Fail> {
+    let (script, replies) = hostile_script(rt.alloc())?;
+    let (reads, writes) = (hostile_by_reads(), hostile_by_writes());
+    fails_at_each_read(&rt, rt.alloc(), &script, &replies, reads, Status::Refused)?;
+    fails_at_each_write(&rt, rt.alloc(), &script, &replies, writes, Status::Refused)
 }
 
 #[test]

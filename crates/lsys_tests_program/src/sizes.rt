@@ -2,19 +2,10 @@
 use lsys_cli::Status;
 use lsys_io::{MemorySink, MemorySource, NeverSource};
 use lsys_tests_runs::{ran_by, status_of};
-use std::alloc::{AllocError, Global};
+use lsys_tests_scripts::{long_lines, script_of_images};
+use std::alloc::Global;
 use std::process::Abort;
 use std::test::Fail;
-
-/// A script whose image has 8,000 times so many symbols.
-fn script_of_images(alloc: Global, symbols: usize) -> Result<Vec<u8>, AllocError> {
-    let mut script = Vec::from_slice(alloc, b"axiom ")?;
-    script.extend_from_slice(&vec![in alloc; b'A'; 1000]?)?;
-    script.extend_from_slice(b"\nproduction d: A => AA\ndepth 3\nhom h: A => ")?;
-    script.extend_from_slice(&vec![in alloc; b'F'; symbols]?)?;
-    script.extend_from_slice(b"\nsegments\n")?;
-    Ok(script)
-}
 
 const IMAGE_EDITS: &str = "ok 0/0\nok 0/0\nok 7000/7000\nok 0/7000\n";
 
@@ -37,6 +28,18 @@ fn the_largest_image(rt: HostRuntime) -> Result<(), Fail> {
     assert_eq!(rt; status, Status::WriteFault);
     let expected = format!(in rt.alloc(); "{IMAGE_EDITS}segments 1000000\n0 0 0 0 1 0 1\n")?;
     assert!(rt; sink.bytes().starts_with(expected.as_bytes()));
+    Ok(())
+}
+
+#[test]
+fn the_longest_line_and_a_longer_one(rt: HostRuntime) -> Result<(), Fail> {
+    let script = long_lines(rt.alloc())?;
+    let (status, written) = ran_by(rt.alloc(), &[], script.as_slice())?;
+    assert_eq!(rt; status, Status::Refused);
+    assert_eq!(rt;
+        written.as_slice(),
+        b"refused syntax long\nok 0/0\n".as_slice()
+    );
     Ok(())
 }
 

@@ -29,5 +29,25 @@ pub fn pictures() -> &'static [Script] {
             text: "axiom F(1000000000)\nsegments",
             replies: "ok 0/0\nsegments 1\n0 0 0 0 1000000000 0 1\n",
         },
+        Script {
+            name: "homomorphism",
+            text: "axiom AA\nhom h: A => F(2)+\nsegments\n",
+            replies: "ok 0/0\nok 0/0\nsegments 2\n0 0 0 0 2 0 1\n0 2 0 -2 2 0 1\n",
+        },
+        Script {
+            name: "the hexagonal lattice",
+            text: "lattice hexagonal\naxiom F+F+F+F+F+F\nsegments\n",
+            replies: "ok 0/0\nok 0/0\nsegments 6\n0 0 0 1 0 0 1\n1 0 0 1 1 0 1\n1 1 0 0 2 0 1\n0 2 0 -1 2 0 1\n-1 2 0 -1 1 0 1\n-1 1 0 0 0 0 1\n",
+        },
+        Script {
+            name: "the cubic lattice",
+            text: "lattice cubic\naxiom F&F^F\nsegments\n",
+            replies: "ok 0/0\nok 0/0\nsegments 3\n0 0 0 0 1 0 1\n0 1 0 0 1 -1 1\n0 1 -1 0 2 -1 1\n",
+        },
+        Script {
+            name: "the first step of the quadratic Koch island",
+            text: "axiom F-F-F-F\nproduction f: F => F-F+F+FF-F-F+F\ndepth 1\nsegments\n",
+            replies: "ok 0/0\nok 0/0\nok 4/4\nsegments 32\n0 0 0 0 1 0 1\n0 1 0 1 1 0 1\n1 1 0 1 2 0 1\n1 2 0 0 2 0 1\n0 2 0 -1 2 0 1\n-1 2 0 -1 3 0 1\n-1 3 0 0 3 0 1\n0 3 0 0 4 0 1\n0 4 0 1 4 0 1\n1 4 0 1 3 0 1\n1 3 0 2 3 0 1\n2 3 0 2 4 0 1\n2 4 0 2 5 0 1\n2 5 0 3 5 0 1\n3 5 0 3 4 0 1\n3 4 0 4 4 0 1\n4 4 0 4 3 0 1\n4 3 0 3 3 0 1\n3 3 0 3 2 0 1\n3 2 0 4 2 0 1\n4 2 0 5 2 0 1\n5 2 0 5 1 0 1\n5 1 0 4 1 0 1\n4 1 0 4 0 0 1\n4 0 0 3 0 0 1\n3 0 0 3 1 0 1\n3 1 0 2 1 0 1\n2 1 0 2 0 0 1\n2 0 0 2 -1 0 1\n2 -1 0 1 -1 0 1\n1 -1 0 1 0 0 1\n1 0 0 0 0 0 1\n",
+        },
     ]
 }

@@ -3,12 +3,18 @@
 
 mod drawing;
 mod editing;
+mod generated;
 mod limits;
+mod refusing;
+mod stepping;
 mod versioned;
 
 pub use drawing::pictures;
 pub use editing::edits;
+pub use generated::{long_lines, script_of_images};
 pub use limits::{algae, limited};
+pub use refusing::{hostile_lines, refusals};
+pub use stepping::steps;
 pub use versioned::versions;
 
 /// A script, and what is written for it.
