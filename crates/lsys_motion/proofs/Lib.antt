@@ -1,0 +1,13 @@
+pub mod Seeing
+pub mod Small
+pub mod Finding
+pub mod Holding
+pub mod Steps
+pub mod Surveying
+pub mod Telling
+pub mod Ending
+pub mod Lasts
+pub mod Keeping
+pub mod Passing
+pub mod Starting
+pub mod Posing
