@@ -1,13 +1,13 @@
 use Rattle.lsys_tests_derivations.proofs.both.written_over_both.Given as goal
 
 abbrev pub ghosts-written_over_lists-L-Ledger : goal.ghosts-written_over_lists-L-Ledger
-ghosts-written_over_lists-L-Ledger g a = record { name = a.asked.name; parts = a.asked.parts }
+ghosts-written_over_lists-L-Ledger a = record { name = a.asked.name; parts = a.asked.parts }
 
 abbrev pub ghosts-written_over_lists-V-Ledger : goal.ghosts-written_over_lists-V-Ledger
-ghosts-written_over_lists-V-Ledger g a = record { name = a.visited.name; parts = a.visited.parts }
+ghosts-written_over_lists-V-Ledger a = record { name = a.visited.name; parts = a.visited.parts }
 
 abbrev pub ghosts-written_over_a_forest-L-Ledger : goal.ghosts-written_over_a_forest-L-Ledger
-ghosts-written_over_a_forest-L-Ledger g a = record { name = a.asked.name; parts = a.asked.parts }
+ghosts-written_over_a_forest-L-Ledger a = record { name = a.asked.name; parts = a.asked.parts }
 
 abbrev pub ghosts-written_over_a_forest-V-Ledger : goal.ghosts-written_over_a_forest-V-Ledger
-ghosts-written_over_a_forest-V-Ledger g a = record { name = a.visited.name; parts = a.visited.parts }
+ghosts-written_over_a_forest-V-Ledger a = record { name = a.visited.name; parts = a.visited.parts }
