@@ -20,7 +20,9 @@ JUNK = ["axiom F_aF_b", "axiom A()", "axiom A(9223372036854775808)", "axiom A(-9
         "production p: A : 1 : 1 => B", "production p: A @ 1 @ 1 => B", "production p: A @ 1 : 1 => B", "production p: % => B", "production p: [A] => B",
         "production p: A(x,x) => B", "production p: A(x) => B(y)", "production p: A(x) : 1<x<3 => B", "production a b c: A => B",
         "hom h: A < B => C", "hom h: A @ 1 => C", "hom h: A => B%", "hom main h: A => B", "hom h: A(x) => F(x%2)", "hom h", "hom h:",
-        "undo x", "redo 1", "undo undo", "undo;", "Undo", "growth", "growth x", "growth 1 2", "growth -1", "growth 18446744073709551616", "string 65", "string -1", "string string", "segments 1", "svg 2", "show all", "lattice", "lattice triangular", "lattice square cubic",
+        "undo x", "redo 1", "undo undo", "undo;", "Undo", "growth", "growth x", "growth 1 2", "growth -1", "growth 18446744073709551616",
+        "bounds 1", "bounds x", "bounds bounds", "bounds;", "Bounds", "at", "at x", "at 1 2", "at -1", "at at", "at 18446744073709551616",
+        "string 65", "string -1", "string string", "segments 1", "svg 2", "show all", "lattice", "lattice triangular", "lattice square cubic",
         "seed", "seed -1", "seed 18446744073709551616", "seed 18446744073709551615", "ignore [", "ignore A(1)", "ignore %", "schedule",
         "version", "version 0", "version 3", "version 1", "version 18446744073709551615", "version 2 2", "ignoring", "ignoring main", "ignoring main A",
         "ignoring main: A(1)", "ignoring main winter: A", "consider main: %", "consider :", "consider summer: A", "common", "common main main", "common main:",
@@ -231,9 +233,12 @@ class Writer:
     def growth(self):
         return "growth %d" % self.rng.choice([0, 1, 2, 3, 5, 8, 40, 100, 1000, 2**64 - 1])
 
+    def at(self):
+        return "at %d" % self.rng.choice([0, 1, 1, 2, 2, 3, 4, 5, 6, 8, 10, 13, 20, 40, 100, 1000, 10**6, 10**6 + 1, 2**32, 2**64 - 1])
+
     def broken(self):
         """A line with one byte more, less or other, or without its end."""
-        line = self.rng.choice([self.axiom, self.production, self.production, self.hom, self.ignore, self.schedule, self.depth, self.level])()
+        line = self.rng.choice([self.axiom, self.production, self.production, self.hom, self.ignore, self.schedule, self.depth, self.level, self.at])()
         place = self.rng.randrange(len(line))
         byte = self.rng.choice(BYTES)
         return self.rng.choice([line[:place] + byte + line[place:], line[:place] + line[place + 1:], line[:place] + byte + line[place + 1:], line[:place]])
@@ -264,7 +269,7 @@ class Writer:
             ";" + "x" * (65535 + more)])
 
     KINDS = {"axiom": 12, "production": 30, "hom": 6, "drop": 2, "ignore": 4, "own": 3, "common": 1, "lineage": 2, "version": 1, "schedule": 3, "seed": 3, "lattice": 4, "depth": 10, "string": 14, "level": 6,
-             "segments": 6, "svg": 4, "show": 3, "undo": 5, "redo": 3, "growth": 3, "broken": 8, "junk": 3, "edge": 1, "passed": 2, "quit": 0.5}
+             "segments": 6, "svg": 4, "show": 3, "undo": 5, "redo": 3, "bounds": 3, "at": 5, "growth": 3, "broken": 8, "junk": 3, "edge": 1, "passed": 2, "quit": 0.5}
 
     def line(self):
         kind = self.rng.choices(list(self.KINDS), list(self.KINDS.values()))[0]
@@ -272,7 +277,7 @@ class Writer:
             return self.rng.choice(JUNK)
         if kind == "passed":
             return self.rng.choice(["", " ", "\t \t", ";", "; note", ";axiom B\xff"])
-        return kind if kind in ("string", "segments", "svg", "show", "undo", "redo", "quit") else getattr(self, kind)()
+        return kind if kind in ("string", "segments", "svg", "show", "bounds", "undo", "redo", "quit") else getattr(self, kind)()
 
     def lines(self):
         if self.often(0.005):

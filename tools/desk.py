@@ -305,7 +305,7 @@ class Desk:
         """The reply to a query that is no line of the script."""
         line = as_bytes(asked["line"])
         if b"\n" in line or key_of(line) is None or not is_query(line):
-            raise Wrong("only queries are asked here: string, string N, segments, svg, show, growth N", 400)
+            raise Wrong("only queries are asked here: string, string N, segments, svg, show, bounds, at N, growth N", 400)
         with self.changed:
             def asked_of_all():
                 self.session.stand_at()

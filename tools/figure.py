@@ -9,8 +9,8 @@ import subprocess
 from replies import Lines, caret_below, commands_of, refusal, reply_from
 
 # Lines that only print, and are left out where only the figure is wanted.
-QUERIES = (b"string", b"segments", b"svg", b"show")
-NUMBERED = (b"string", b"growth")
+QUERIES = (b"string", b"segments", b"svg", b"show", b"bounds")
+NUMBERED = (b"string", b"at", b"growth")
 HALF, HEIGHT = 0.5, math.sqrt(3) / 2
 # Where a place of a lattice is in space, and where it is drawn in the plane, upwards; a step has the length 1.
 SPACE = {"square": lambda x, y, z: (x, y, 0), "hexagonal": lambda x, y, z: (x + HALF * y, HEIGHT * y, 0), "cubic": lambda x, y, z: (x, y, z)}

@@ -3,7 +3,7 @@ import re
 
 LONGEST_LINE = 65536
 # The replies that name a column, and hold it as their last word.
-AT_COLUMN = re.compile(rb"refused (?:syntax (?:byte|token|deep)|name|duplicate|mixed|label|table|level|many) (\d+)$")
+AT_COLUMN = re.compile(rb"refused (?:syntax (?:byte|token|deep)|name|duplicate|mixed|label|table|level|many|place) (\d+)$")
 # The first words of replies of many lines, and the beginnings of their last ones.
 LAST_LINES = [((b"<svg ",), b"</svg>"), ((b"lattice ", b"version "), b"depth ")]
 # Behind the first line of a growth as many letters are counted as stand there; no other reply begins like these lines.

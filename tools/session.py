@@ -7,7 +7,7 @@ from replies import LONGEST_LINE, Lines, is_command, reply_from
 # What an edit of this word is worth again that a script no longer has. A version is never taken back.
 OPENING = {"axiom": b"axiom", "ignore": b"ignore", "schedule": b"schedule main", "seed": b"seed 0", "depth": b"depth 0",
            "lattice": b"lattice square", "lineage": b"lineage places"}
-QUERIES = ("string", "segments", "svg", "show", "growth")
+QUERIES = ("string", "segments", "svg", "show", "bounds", "at", "growth")
 STEPS = (b"undo", b"redo")
 # So many systems are kept to go back or on to.
 MOST_STEPS = 32

@@ -2,7 +2,7 @@
 // refusal says in plain words. What a script means only the program says.
 
 export const EDITS = ["axiom", "production", "drop", "ignore", "schedule", "seed", "depth", "lattice", "hom", "version", "ignoring", "consider", "common", "lineage"];
-export const QUERIES = ["string", "segments", "svg", "show", "growth"];
+export const QUERIES = ["string", "segments", "svg", "show", "bounds", "at", "growth"];
 export const STEPS = ["undo", "redo"];
 export const COMMANDS = [...EDITS, ...QUERIES, ...STEPS, "quit"];
 const RULES = ["production", "hom"];
@@ -73,7 +73,7 @@ export function greatestDepth(lines) {
     return lines.some(line => /^[ \t]*version[ \t]+0*2[ \t]*$/.test(line)) ? 256 : 64;
 }
 
-const COLUMN = /^refused (?:syntax (?:byte|token|deep)|name|duplicate|mixed|label|table|level|many|version) (\d+)$/;
+const COLUMN = /^refused (?:syntax (?:byte|token|deep)|name|duplicate|mixed|label|table|level|many|version|place) (\d+)$/;
 
 // The column of bytes that a refusal names, from 1, or 0.
 export function columnOf(reply) {
@@ -115,6 +115,7 @@ const MEANINGS = [
     [/^refused limit/, "the levels would be too large together"],
     [/^refused image/, "the picture would have more than 1,000,000 symbols"],
     [/^refused far/, "the picture would reach too far"],
+    [/^refused place/, "the image has fewer symbols than this"],
     [/^refused undo/, "no system is kept that stands before this one"],
     [/^refused redo/, "nothing was undone since the last edit"],
     [/^refused growth/, "only where every module of a letter is rewritten alike is its growth known"],

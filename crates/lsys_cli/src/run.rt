@@ -9,9 +9,9 @@ ghost use Rattle.lsys_cli.specs.Ends.{Ends, seen};
 ghost use Rattle.lsys_cli.specs.Runs.{status_of, AnswersRead, CountsRead};
 
 use crate::status::Status;
-use lsys_desk::Desk;
+use lsys_desk::{Desk, HasMotions};
 use lsys_io::{Buffered, Failed, LineRead, LineReader, LineRefusal, Sink, Source};
-use lsys_match::{Derivation, Steps};
+use lsys_match::Steps;
 use lsys_rules::Refusal;
 use lsys_session::{Outcome, refuse};
 use std::alloc::Global;
@@ -63,7 +63,7 @@ impl Tally {
 }
 
 /// Answers the lines of the source to its end or to `quit`.
-pub fn run<S: Source, K: Sink, L: Ledger, V: Ledger, D: Derivation<L> + Drop>(
+pub fn run<S: Source, K: Sink, L: Ledger, V: Ledger, D: HasMotions<L> + Drop>(
     alloc: Global,
     desk: &mut Desk<L, D>,
     reader: &mut LineReader,
@@ -107,7 +107,7 @@ pub fn run<S: Source, K: Sink, L: Ledger, V: Ledger, D: Derivation<L> + Drop>(
 }
 
 /// Answers a line that was read, and puts the reply.
-fn answer_line<K: Sink, L: Ledger, V: Ledger, D: Derivation<L> + Drop>(
+fn answer_line<K: Sink, L: Ledger, V: Ledger, D: HasMotions<L> + Drop>(
     alloc: Global,
     desk: &mut Desk<L, D>,
     read: LineRead,

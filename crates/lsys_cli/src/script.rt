@@ -9,16 +9,16 @@ ghost use Rattle.lsys_cli.specs.Programs.{OfSample, Untouched, UntouchedSink, sc
 
 use crate::run::run;
 use crate::status::Status;
-use lsys_desk::Desk;
+use lsys_desk::{Desk, HasMotions};
 use lsys_io::{Buffered, LineReader, NeverSource, Sink, Source};
-use lsys_match::{Derivation, Steps};
+use lsys_match::Steps;
 use lsys_sample::sample;
 use lsys_words::Options;
 use std::alloc::Global;
 use std::sync::ledger::Ledger;
 
 /// Runs the script that the options name.
-pub fn run_by<S: Source, K: Sink, L: Ledger, V: Ledger, D: Derivation<L> + Drop>(
+pub fn run_by<S: Source, K: Sink, L: Ledger, V: Ledger, D: HasMotions<L> + Drop>(
     alloc: Global,
     options: Options,
     source: &mut S,
@@ -53,7 +53,7 @@ pub fn run_by<S: Source, K: Sink, L: Ledger, V: Ledger, D: Derivation<L> + Drop>
 }
 
 /// Runs a sample.
-fn run_sample<K: Sink, L: Ledger, V: Ledger, D: Derivation<L> + Drop>(
+fn run_sample<K: Sink, L: Ledger, V: Ledger, D: HasMotions<L> + Drop>(
     alloc: Global,
     limit: u32,
     number: u64,
@@ -79,7 +79,7 @@ fn run_sample<K: Sink, L: Ledger, V: Ledger, D: Derivation<L> + Drop>(
 }
 
 /// Runs what the source has left.
-fn run_script<S: Source, K: Sink, L: Ledger, V: Ledger, D: Derivation<L> + Drop>(
+fn run_script<S: Source, K: Sink, L: Ledger, V: Ledger, D: HasMotions<L> + Drop>(
     alloc: Global,
     limit: u32,
     source: &mut S,

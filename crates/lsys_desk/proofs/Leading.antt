@@ -7,14 +7,18 @@ use Rattle.lsys_io.specs.declared.Failed.{Failed}
 use Rattle.lsys_spec.specs.Systems.{System}
 use Rattle.lsys_spec.specs.Levels as L
 use Rattle.lsys_spec.specs.Refusals.{Reply, refused, refused_memory}
-use Rattle.lsys_spec.specs.Replies.{edited, levels_of}
+use Rattle.lsys_spec.specs.Pictures.{Turtle}
+use Rattle.lsys_spec.specs.Replies.{edited, levels_of, shown}
 use Rattle.lsys_spec.specs.Output.{memory_or}
 use Rattle.lsys_history.specs.Timelines as timelines
 use Rattle.lsys_growth_laws.specs.Growth.{Census, GrowthFault, growth_at}
-use Rattle.lsys_desks.specs.Desks.{Desk, DeskReply, answered, desk, desk_memory_or, growth, growth_reply, led, own_reply, redo, stepped, undo}
+use Rattle.lsys_effects.specs.Bounds.{bounds_text, turtle_behind}
+use Rattle.lsys_effects.specs.Bounds as pictures
+use Rattle.lsys_desks.specs.Desks.{Desk, DeskReply, answered, asked_of, at, bounds, bounds_reply, desk, desk_memory_or, growth, growth_reply, led, own_reply, place_reply, redo, stepped, turtle_reply, undo}
 use Rattle.lsys_rules.specs.declared.refusal.Refusal.TheVariants as refusals
 use Rattle.lsys_session.specs.Requests.{refusal_line}
 use Rattle.lsys_session.specs.Sessions.{Says}
+use Rattle.lsys_session.specs.Answers.{ends_session, lacks_memory, refuses}
 use Rattle.lsys_session.specs.Given.{Leads, Prints, unless_refused}
 use Rattle.lsys_session.specs.declared.outcome.Outcome.{Outcome}
 use Rattle.lsys_session.specs.declared.outcome.Outcome.TheVariants as outcomes
@@ -82,7 +86,46 @@ module _ {K : Type 0} (written : K → Option (List ℕ)) (faults : K → ℕ) (
   pub growth_told : (limit level : ℕ) → Prints written faults a b held d.system (growth_reply d.system (growth_at d.system level)) result → GivesOrLacks written faults a b held d (own_reply limit d (growth level)) d result
   growth_told limit level p = record { lacks = p.lacks; gives = told p.lacks (growth_at d.system level) p.says }
 
--- 4. a step
+  -- 4. a picture
+
+  flags : (m r : Bool) → m ≡ false → let o : Outcome = elim m [ true ↦ outcomes.Memory | false ↦ elim r [ true ↦ outcomes.Refused | false ↦ outcomes.Printed ] ] in
+      (r ≡ refuses o) × (m ≡ lacks_memory o) × (false ≡ ends_session o)
+  flags true r e = cc
+  flags false true e = (refl, refl, refl)
+  flags false false e = (refl, refl, refl)
+
+  queried : (asked : Reply) → asked.is_memory ≡ false → asked.ends ≡ false → Prints written faults a b held d.system asked result → GivesOrLacks written faults a b held d (answered asked d) d result
+  queried asked m e p = record { lacks = p.lacks; gives = by p.lacks p.says }
+    where
+      by : (lacks : Bool) → Says written faults a b held (memory_or lacks d.system asked).text (unless_refused outcomes.Printed (memory_or lacks d.system asked)) result
+          → Gives written faults a b held (desk_memory_or lacks d (answered asked d)) d result
+      by true says = stays (answered (refused_memory d.system) d) outcomes.Memory says refl (record { refusal = refl; memory = refl; end = refl })
+      by false says =
+          let f = flags asked.is_memory asked.is_refusal m in
+          stays (answered asked d) (unless_refused outcomes.Printed asked) says refl (record { refusal = f.0; memory = f.1; end = e ∙ f.2 })
+
+  shown_plain : {A : Type 0} (text : A → List ℕ) (r : Result A (List ℕ)) → ((shown d.system text r).is_memory ≡ false) × ((shown d.system text r).ends ≡ false)
+  shown_plain text (Ok x) = (refl, refl)
+  shown_plain text (Err why) = (refl, refl)
+
+  turtle_plain : (column : ℕ) (r : Result (Option Turtle) (List ℕ)) → ((turtle_reply d.system column r).is_memory ≡ false) × ((turtle_reply d.system column r).ends ≡ false)
+  turtle_plain column (Ok (Some t)) = (refl, refl)
+  turtle_plain column (Ok None) = (refl, refl)
+  turtle_plain column (Err why) = (refl, refl)
+
+  pub bounds_told : (limit : ℕ) → Prints written faults a b held d.system (bounds_reply d.system (levels_of limit d.system)) result
+      → GivesOrLacks written faults a b held d (own_reply limit d bounds) d result
+  bounds_told limit p =
+      let plain = shown_plain bounds_text (asked_of (pictures.bounds d.system) (levels_of limit d.system)) in
+      queried (bounds_reply d.system (levels_of limit d.system)) plain.0 plain.1 p
+
+  pub place_told : (limit n column : ℕ) → Prints written faults a b held d.system (place_reply d.system n column (levels_of limit d.system)) result
+      → GivesOrLacks written faults a b held d (own_reply limit d (at n column)) d result
+  place_told limit n column p =
+      let plain = turtle_plain column (asked_of (λ x. turtle_behind d.system x n) (levels_of limit d.system)) in
+      queried (place_reply d.system n column (levels_of limit d.system)) plain.0 plain.1 p
+
+-- 5. a step
 
 module _ {K : Type 0} (written : K → Option (List ℕ)) (faults : K → ℕ) (a b : K) (held : List ℕ) (limit : ℕ) (d : Desk) (to : System) (step : Step) where
   abbrev steps : timelines.Timeline System

@@ -5,3 +5,4 @@ pub mod Keeping
 pub mod Telling
 pub mod CountTexts
 pub mod Growing
+pub mod Motioned

@@ -1,4 +1,5 @@
 pub mod Steps
 pub mod Views
+pub mod Motions
 pub mod Answers
 pub mod Growing

@@ -3,21 +3,25 @@ ghost use Rattle.std.specs.Prelude.{◌≡◌, ◌≤◌, [], None, Some, true, 
 ghost use Rattle.lsys_syntax.specs.Limits.{most_line_bytes};
 ghost use Rattle.lsys_laws.specs.Sessions.{HasLevels};
 ghost use Rattle.lsys_spec.specs.Costs.{edit_by};
+ghost use Rattle.lsys_spec.specs.Replies.{levels_of};
 ghost use Rattle.lsys_desks.specs.Costs.{own_leads};
-ghost use Rattle.lsys_desks.specs.Desks.{EachKept, bare_asks, opening_desk, own_reply};
+ghost use Rattle.lsys_desks.specs.Desks.{EachKept, bare_asks, bounds_reply, opening_desk, own_reply, place_reply};
 ghost use Rattle.lsys_desks.specs.Desks as desks;
 ghost use Rattle.lsys_session.specs.Answers.{Counts, is_derived, line_spelled};
+ghost use Rattle.lsys_session.specs.Given.{Prints};
 ghost use Rattle.lsys_desk.specs.Answers.{Answers, GivesOrLacks, TellsLead, is_led, leads_to, step_answer};
 ghost use Rattle.lsys_desk.specs.Steps.{CanStep, steps_by};
 ghost use Rattle.lsys_desk.specs.Views.{desk_line_of, desk_on};
 
 use crate::desk_line::{DeskLine, desk_line};
 use crate::growth_reply::answer_growth;
+use crate::kept_motions::{HasMotions, KeptMotions, motions_after};
+use crate::picture_reply::{answer_bounds, answer_place};
 use crate::sayings::say;
 use crate::step::{Step, take_step};
 use lsys_history::History;
 use lsys_io::{Buffered, Failed, Sink};
-use lsys_match::{Derivation, Steps};
+use lsys_match::Steps;
 use lsys_rules::{Refusal, System};
 use lsys_session::{MOST_LINE_BYTES, Outcome, Request, Session, refuse, request_of};
 use std::alloc::{AllocError, Global};
@@ -26,17 +30,21 @@ use std::sync::ledger::Ledger;
 
 /// A session with the systems that edits led away from and those that were undone, at most 32 in all, each of which has its
 /// levels under the session's limit. Contracts see the derivation that is kept, and these systems.
+///
+/// The motions of the last level's picture are made where a line first asks for them, and kept until an edit is accepted.
 #[derive(Drop)]
-pub struct Desk<L: Ledger, D: Derivation<L>> {
+pub struct Desk<L: Ledger, D: HasMotions<L>> {
     session: Session<L, D>,
     history: History<System>,
+    motions: Option<KeptMotions>,
 }
 
-impl<L: Ledger, D: Derivation<L>> Model for Desk<L, D> {
+impl<L: Ledger, D: HasMotions<L>> Model for Desk<L, D> {
     ghost use Rattle.std.specs.Coded.{codes};
     ghost use Rattle.lsys_laws.specs.Sessions.{HasLevels};
     ghost use Rattle.lsys_rules.specs.Codes.{expr_code};
     ghost use Rattle.lsys_desks.specs.Desks.{EachKept};
+    ghost use Rattle.lsys_desk.specs.Motions.{AreKept};
     ghost use Rattle.lsys_desk.specs.Views.{Bench, bench};
 
     ghost Value = { Bench D };
@@ -45,10 +53,11 @@ impl<L: Ledger, D: Derivation<L>> Model for Desk<L, D> {
 
     ghost view = { λ d. bench d.session d.history };
 
-    ghost invariant = { λ d. EachKept (HasLevels (D.limit_of d.session)) d.history };
+    ghost invariant = { λ d. EachKept (HasLevels (D.limit_of d.session)) d.history
+        × AreKept (D.limit_of d.session) (D.system_of d.session) d.motions };
 }
 
-impl<L: Ledger, D: Derivation<L>> Desk<L, D> {
+impl<L: Ledger, D: HasMotions<L>> Desk<L, D> {
     /// The opening system with its level, under a limit of at most 1,000,000 symbols, and nothing kept beside it.
     ///
     /// # Errors
@@ -62,6 +71,7 @@ impl<L: Ledger, D: Derivation<L>> Desk<L, D> {
         Ok(Desk {
             history: History::new(alloc)?,
             session: Session::start(alloc, limit)?,
+            motions: None,
         })
     }
 
@@ -173,7 +183,55 @@ impl<L: Ledger, D: Derivation<L>> Desk<L, D> {
             DeskLine::Growth { level } => {
                 answer_growth(alloc, self.session.system(), level, out, sink)
             }
+            DeskLine::Bounds => self.tell_bounds(alloc, out, sink),
+            DeskLine::At { place, column } => self.tell_place(alloc, place, column, out, sink),
         }
+    }
+
+    // Tells how far the picture of the last level reaches.
+    fn tell_bounds<K: Sink>(
+        &mut self,
+        alloc: Global,
+        out: &mut Buffered,
+        sink: &mut K,
+    ) -> Result<Outcome, Failed>
+        requires { out.old ≡ [] }
+        ensures prints { let s = D.system_of self.old.derivation in
+            Prints K.written K.faults sink.old sink.new out.new s
+            (bounds_reply s (levels_of (D.limit_of self.old.derivation) s)) result }
+        ensures stays { self.new ≡ self.old }
+        ensures kept { EachKept (HasLevels (D.limit_of self.new.derivation)) self.new.steps }
+    {
+        let derivation = self.session.derivation();
+        answer_bounds(alloc, derivation, &mut self.motions, out, sink)
+    }
+
+    // Tells where the picture's turtle stands behind so many symbols of the image. The number stands at a column.
+    fn tell_place<K: Sink>(
+        &mut self,
+        alloc: Global,
+        place: u64,
+        column: u32,
+        out: &mut Buffered,
+        sink: &mut K,
+    ) -> Result<Outcome, Failed>
+        requires { out.old ≡ [] }
+        ensures prints { let s = D.system_of self.old.derivation in
+            Prints K.written K.faults sink.old sink.new out.new s
+            (place_reply s place column (levels_of (D.limit_of self.old.derivation) s)) result }
+        ensures stays { self.new ≡ self.old }
+        ensures kept { EachKept (HasLevels (D.limit_of self.new.derivation)) self.new.steps }
+    {
+        let derivation = self.session.derivation();
+        answer_place(
+            alloc,
+            derivation,
+            &mut self.motions,
+            place,
+            column,
+            out,
+            sink,
+        )
     }
 
     // Goes back to the nearest system of the past.
@@ -268,9 +326,11 @@ impl<L: Ledger, D: Derivation<L>> Desk<L, D> {
         let Ok(present) = self.session.system().clone() else {
             return refuse(out, sink, Refusal::Memory);
         };
+        let motions = self.motions.take();
         let outcome = self
             .session
             .restore(alloc, system, out, sink, asked, visited)?;
+        self.motions = motions_after(outcome, motions);
         take_step(&mut self.history, step, outcome, present);
         Ok(outcome)
     }

@@ -1,8 +1,8 @@
 //! Lines that ask something of a desk.
-ghost use Rattle.std.specs.Prelude.{◌≡◌, ◌≤◌, ◌&&◌, false, map, length, bytes_eq, codes, IfOk, OnErr, option_map};
+ghost use Rattle.std.specs.Prelude.{◌≡◌, ◌<◌, ◌≤◌, ◌+◌, ◌&&◌, ℕ, All, false, map, length, bytes_eq, codes, IfOk, OnErr, option_map};
 ghost use Rattle.lsys_syntax.specs.Limits.{most_line_bytes};
 ghost use Rattle.lsys_spec.specs.Refusals.{is_passed_over};
-ghost use Rattle.lsys_text.specs.Tokens.{kind_of, token_of};
+ghost use Rattle.lsys_text.specs.Tokens.{IsWithin, kind_of, token_of};
 ghost use Rattle.lsys_desks.specs.Desks.{bare_asks, kind_asks, number_asks, tokens_ask, two_kinds_ask, word_asks};
 ghost use Rattle.lsys_desk.specs.Views.{desk_line_of};
 
@@ -19,6 +19,10 @@ pub(crate) enum DeskLine {
     Redo,
     /// To count the letters of a level.
     Growth { level: u64 },
+    /// To tell how far the picture reaches.
+    Bounds,
+    /// To tell where the picture's turtle stands behind so many symbols of the image. The number stands at this column.
+    At { place: u64, column: u32 },
 }
 
 /// What a line of at most 65,536 bytes, without its LF and CR, asks of a desk. One that is passed over asks nothing.
@@ -43,11 +47,12 @@ pub(crate) fn desk_line(alloc: Global, line: &[u8]) -> Result<Option<DeskLine>, 
 
 // What a line with these tokens asks.
 fn asked_by(found: &[Token]) -> Option<DeskLine>
+    requires { (most : ℕ) × All (IsWithin most) found.now }
     ensures { tokens_ask (map token_of found.now) ≡ option_map desk_line_of result }
 {
     match found {
         [word] => asked_alone(word.kind),
-        [word, number] => asked_with(word.kind, number.kind),
+        [word, number] => asked_with(word.kind, *number),
         _ => None,
     }
 }
@@ -69,29 +74,38 @@ fn asked_by_word(word: Word) -> Option<DeskLine>
         Some(DeskLine::Undo)
     } else if is_spelled(word, b"redo") {
         Some(DeskLine::Redo)
+    } else if is_spelled(word, b"bounds") {
+        Some(DeskLine::Bounds)
     } else {
         None
     }
 }
 
-// What two tokens ask.
-fn asked_with(first: TokenKind, second: TokenKind) -> Option<DeskLine>
-    ensures { two_kinds_ask (kind_of first) (kind_of second) ≡ option_map desk_line_of result }
+// What a token of this kind and one behind it ask.
+fn asked_with(first: TokenKind, second: Token) -> Option<DeskLine>
+    requires { second.start < second.end }
+    ensures { two_kinds_ask (kind_of first) (kind_of second.kind) (second.start + 1) ≡ option_map desk_line_of result }
 {
     let TokenKind::Word(word) = first else {
         return None;
     };
-    let TokenKind::Number(level) = second else {
+    let TokenKind::Number(number) = second.kind else {
         return None;
     };
-    asked_of_level(word, level)
+    asked_of_number(word, number, second.start + 1)
 }
 
-fn asked_of_level(word: Word, level: u64) -> Option<DeskLine>
-    ensures { number_asks word level ≡ option_map desk_line_of result }
+// What a word asks with a number at this column.
+fn asked_of_number(word: Word, number: u64, column: u32) -> Option<DeskLine>
+    ensures { number_asks word number column ≡ option_map desk_line_of result }
 {
     if is_spelled(word, b"growth") {
-        Some(DeskLine::Growth { level })
+        Some(DeskLine::Growth { level: number })
+    } else if is_spelled(word, b"at") {
+        Some(DeskLine::At {
+            place: number,
+            column,
+        })
     } else {
         None
     }

@@ -10,6 +10,7 @@ use Rattle.lsys_spec.specs.Systems.{System}
 use Rattle.lsys_spec.specs.Edits.{Refusal, refusal, changed}
 use Rattle.lsys_spec.specs.Levels as L
 use Rattle.lsys_spec.specs.Meaning.{LevelRefusal, meaning}
+use Rattle.lsys_spec.specs.Pictures.{Turtle}
 use Rattle.lsys_spec.specs.Questions.{questions, need}
 use Rattle.lsys_spec.specs.Refusals.{Reply, refused, said, line_feed, derivation_text, is_long, is_passed_over, column_at}
 use Rattle.lsys_spec.specs.Replies.{reply, edited, levels_of, or_text, is_query, shown, picture_of, accepted, command_reply, verdict_reply, tokens_reply, bare_reply, bare_spelled, spelled_by, spelled_command, count_line, questions_of}
@@ -18,9 +19,11 @@ use Rattle.lsys_spec.specs.Costs.{Cost, Visits, no_cost, one_refusal, ◌and◌,
 use Rattle.lsys_spec.proofs.CostSums.{and_assoc}
 use Rattle.lsys_laws.specs.Sessions.{HasLevels}
 use Rattle.lsys_laws.proofs.KeptLevels.{reply_levels}
+use Rattle.lsys_effects.specs.Bounds.{bounds_text, turtle_behind}
+use Rattle.lsys_effects.specs.Bounds as pictures
 use Rattle.lsys_growth_laws.specs.Growth.{Census, GrowthFault, growth_at}
 use Rattle.lsys_history.specs.Timelines as timelines
-use Rattle.lsys_desks.specs.Desks.{Desk, DeskLine, DeskReply, desk, undo, redo, growth, answered, led, stepped, growth_reply, own_reply, reply_by, session_reply, desk_reply, desk_line, desk_memory_or, desk_reply_or_memory, HasNoDeskLine}
+use Rattle.lsys_desks.specs.Desks.{Desk, DeskLine, DeskReply, desk, undo, redo, growth, bounds, at, answered, asked_of, led, stepped, growth_reply, turtle_reply, own_reply, reply_by, session_reply, desk_reply, desk_line, desk_memory_or, desk_reply_or_memory, HasNoDeskLine}
 use Rattle.lsys_desks.specs.Costs.{cost_followed, desk_costs_from, desk_line_cost, lead_cost, leads_by, line_leads, own_leads}
 
 -- 1. what a session replies
@@ -126,10 +129,17 @@ of_growth : (s : System) (g : Result Census GrowthFault) → (growth_reply s g).
 of_growth s (Ok c) = refl
 of_growth s (Err f) = refl
 
+of_turtle : (s : System) (column : ℕ) (r : Result (Option Turtle) (List ℕ)) → (turtle_reply s column r).is_memory ≡ false
+of_turtle s column (Ok (Some t)) = refl
+of_turtle s column (Ok None) = refl
+of_turtle s column (Err why) = refl
+
 of_own : (limit : ℕ) (d : Desk) (asked : DeskLine) → IsReplyOf limit d.system (own_reply limit d asked).reply (own_leads d asked)
 of_own limit d undo = of_step limit d (codes "undo") (timelines.undone d.steps d.system) (timelines.nearest d.steps.past)
 of_own limit d redo = of_step limit d (codes "redo") (timelines.redone d.steps d.system) (timelines.nearest d.steps.future)
 of_own limit d (growth level) = of_growth d.system (growth_at d.system level)
+of_own limit d bounds = shown_ample limit d.system bounds_text (asked_of (pictures.bounds d.system) (levels_of limit d.system))
+of_own limit d (at n column) = of_turtle d.system column (asked_of (λ x. turtle_behind d.system x n) (levels_of limit d.system))
 
 of_asked : (limit : ℕ) (d : Desk) (line : List ℕ) (asked : Option DeskLine) → IsReplyOf limit d.system (reply_by limit d asked (reply limit d.system line) (spelled_command line)).reply (leads_by d asked (edited_system d.system line))
 of_asked limit d line None = of_line limit d.system line
@@ -151,10 +161,21 @@ next_growth : (s : System) (g : Result Census GrowthFault) → s ≡ (growth_rep
 next_growth s (Ok c) = refl
 next_growth s (Err f) = refl
 
+next_shown : {A : Type 0} (s : System) (text : A → List ℕ) (r : Result A (List ℕ)) → s ≡ (shown s text r).next
+next_shown s text (Ok a) = refl
+next_shown s text (Err why) = refl
+
+next_turtle : (s : System) (column : ℕ) (r : Result (Option Turtle) (List ℕ)) → s ≡ (turtle_reply s column r).next
+next_turtle s column (Ok (Some t)) = refl
+next_turtle s column (Ok None) = refl
+next_turtle s column (Err why) = refl
+
 next_own : (limit : ℕ) (d : Desk) (asked : DeskLine) → (own_reply limit d asked).next.system ≡ (own_reply limit d asked).reply.next
 next_own limit d undo = next_step limit d (codes "undo") (timelines.undone d.steps d.system) (timelines.nearest d.steps.past)
 next_own limit d redo = next_step limit d (codes "redo") (timelines.redone d.steps d.system) (timelines.nearest d.steps.future)
 next_own limit d (growth level) = next_growth d.system (growth_at d.system level)
+next_own limit d bounds = next_shown d.system bounds_text (asked_of (pictures.bounds d.system) (levels_of limit d.system))
+next_own limit d (at n column) = next_turtle d.system column (asked_of (λ x. turtle_behind d.system x n) (levels_of limit d.system))
 
 next_asked : (limit : ℕ) (d : Desk) (asked : Option DeskLine) (r : Reply) (spelled : Option Command) → (reply_by limit d asked r spelled).next.system ≡ (reply_by limit d asked r spelled).reply.next
 next_asked limit d None r spelled = refl
@@ -252,6 +273,8 @@ own_levels : (limit : ℕ) (d : Desk) (asked : DeskLine) → HasLevels limit d.s
 own_levels limit d undo old = step_levels limit d (codes "undo") (timelines.undone d.steps d.system) (timelines.nearest d.steps.past) old
 own_levels limit d redo old = step_levels limit d (codes "redo") (timelines.redone d.steps d.system) (timelines.nearest d.steps.future) old
 own_levels limit d (growth level) old = old
+own_levels limit d bounds old = old
+own_levels limit d (at n column) old = old
 
 asked_levels : (limit : ℕ) (d : Desk) (line : List ℕ) (asked : Option DeskLine) → HasLevels limit d.system → HasLevels limit (reply_by limit d asked (reply limit d.system line) (spelled_command line)).next.system
 asked_levels limit d line None old = reply_levels limit d.system line old

@@ -5,7 +5,7 @@ use Rattle.lsys_spec.specs.Systems.{System}
 use Rattle.lsys_spec.specs.Output.{may_lack_memory}
 use Rattle.lsys_spec.specs.Costs.{Cost, Visits, ◌and◌, cost_to, edited_system, no_cost, one_refusal}
 use Rattle.lsys_history.specs.Timelines as timelines
-use Rattle.lsys_desks.specs.Desks.{Desk, DeskLine, DeskReply, undo, redo, growth, desk_line, desk_reply_or_memory, opening_desk}
+use Rattle.lsys_desks.specs.Desks.{Desk, DeskLine, DeskReply, undo, redo, growth, bounds, at, desk_line, desk_reply_or_memory, opening_desk}
 
 -- 1. one line
 
@@ -14,6 +14,8 @@ abbrev pub own_leads : Desk → DeskLine → Option System
 own_leads d undo = timelines.nearest d.steps.past
 own_leads d redo = timelines.nearest d.steps.future
 own_leads d (growth level) = None
+own_leads d bounds = None
+own_leads d (at n column) = None
 
 -- a line that asks nothing of the desk leads to the system that its edit makes, where it is one
 abbrev pub leads_by : Desk → Option DeskLine → Option System → Option System

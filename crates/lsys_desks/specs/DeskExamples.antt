@@ -2,7 +2,7 @@
 use Rattle.std.specs.Prelude.{◌≡◌, ℕ, List, [], ◌∷◌, ◌++◌, codes, map, None, Some, refl}
 use Rattle.std.specs.Fmt.{digits}
 use Rattle.lsys_spec.specs.Output.{none, output_text}
-use Rattle.lsys_desks.specs.Desks.{desk_line, desk_out, undo, redo, growth}
+use Rattle.lsys_desks.specs.Desks.{desk_line, desk_out, undo, redo, growth, bounds, at}
 
 abbrev run : List ℕ → List ℕ
 run script = output_text (desk_out 100000 script none)
@@ -18,6 +18,12 @@ pub growth_lines :
     map desk_line (codes "growth 5" ∷ codes "\tgrowth  007 " ∷ codes "growth" ∷ codes "growth 5 6" ∷ codes "growth A" ∷ codes "growth 18446744073709551616" ∷ codes "undo 1" ∷ [])
     ≡ Some (growth 5) ∷ Some (growth 7) ∷ None ∷ None ∷ None ∷ None ∷ None ∷ []
 growth_lines = refl
+
+-- a number's column is that of its first digit
+pub picture_lines :
+    map desk_line (codes "bounds" ∷ codes "at 2" ∷ codes "\tat  007 " ∷ codes "bounds 1" ∷ codes "at" ∷ codes "at A" ∷ codes "at 1 2" ∷ [])
+    ≡ Some bounds ∷ Some (at 2 4) ∷ Some (at 7 6) ∷ None ∷ None ∷ None ∷ None ∷ []
+picture_lines = refl
 
 -- at the opening nothing is kept
 pub nothing_to_undo :
@@ -45,3 +51,10 @@ pub letters_of_levels :
     ≡ codes "ok 0/0\nok 0/0\nok 0/0\ngrowth 13\nA 8\nB 5\nok 0/0\ngrowth 3\nA 1\nB 2\nok 0/0\nok 0/0\nrefused growth\n"
 unfolding digits
 letters_of_levels = refl
+
+-- a move without a segment isn't in the bounds, and a place past the last symbol is refused by its column
+pub pictures_told :
+    run (codes "axiom F+fFF\nbounds\nat 2\nat 0\nat 5\nat  6\n")
+    ≡ codes "ok 0/0\nbounds -3 0 0 1 0 0\nat 0 1 0 -1 0 0 1\nat 0 0 0 0 1 0 1\nat -3 1 0 -1 0 0 1\nrefused place 5\n"
+unfolding digits
+pictures_told = refl

@@ -1,12 +1,17 @@
 -- A desk: a system with those that edits led away from and those that were undone. What it answers a line, and a script.
-use Rattle.std.specs.Prelude.{◌≡◌, ℕ, ◌+◌, Bool, true, false, not, ◌&&◌, nat_lt, length, Option, Some, None, Result, Ok, Err, All, List, [], ◌∷◌, codes, bytes_eq, if◌then◌else◌}
+use Rattle.std.specs.Prelude.{◌≡◌, ℕ, ◌+◌, Bool, true, false, not, ◌&&◌, nat_lt, length, Option, Some, None, Result, Ok, Err, All, List, [], ◌∷◌, codes, bytes_eq, option_map, if◌then◌else◌}
 use Rattle.lsys_syntax.specs.Lines.{lines_of, without_cr}
 use Rattle.lsys_syntax.specs.Tokens.{Token, Kind, Word, Number, tokens}
 use Rattle.lsys_syntax.specs.Commands.{Command}
 use Rattle.lsys_spec.specs.Systems.{System, opening}
-use Rattle.lsys_spec.specs.Refusals.{Reply, said, refused, refused_memory, is_long, is_passed_over}
-use Rattle.lsys_spec.specs.Replies.{reply, edited, levels_of, is_query, spelled_command}
+use Rattle.lsys_spec.specs.Levels.{Symbol}
+use Rattle.lsys_spec.specs.Meaning.{last_level}
+use Rattle.lsys_spec.specs.Pictures.{Pose, PictureRefusal, Turtle}
+use Rattle.lsys_spec.specs.Refusals.{Reply, said, refused, refused_memory, is_long, is_passed_over, with_number}
+use Rattle.lsys_spec.specs.Replies.{reply, edited, levels_of, is_query, or_text, picture_refusal_text, shown, spelled_command}
 use Rattle.lsys_spec.specs.Output.{may_lack_memory, whole_lines}
+use Rattle.lsys_effects.specs.Bounds.{bounds_text, pose_text, turtle_behind}
+use Rattle.lsys_effects.specs.Bounds as pictures
 use Rattle.lsys_growth_laws.specs.Growth.{Census, GrowthFault, growth_at, growth_text, growth_fault_text}
 use Rattle.lsys_history.specs.Timelines as timelines
 
@@ -17,26 +22,33 @@ pub data DeskLine : Type 0 where
   undo : DeskLine
   redo : DeskLine
   growth : ℕ → DeskLine
+  bounds : DeskLine
+  at : ℕ → ℕ → DeskLine  -- how many symbols, and the column of this number
 
 abbrev pub word_asks : List ℕ → Option DeskLine
-word_asks text = if bytes_eq text (codes "undo") then Some undo else if bytes_eq text (codes "redo") then Some redo else None
+word_asks text =
+    if bytes_eq text (codes "undo") then Some undo else if bytes_eq text (codes "redo") then Some redo
+    else if bytes_eq text (codes "bounds") then Some bounds else None
 
 abbrev pub kind_asks : Kind → Option DeskLine
 kind_asks (Word text) = word_asks text
 kind_asks k = None
 
-abbrev pub number_asks : List ℕ → ℕ → Option DeskLine
-number_asks text n = if bytes_eq text (codes "growth") then Some (growth n) else None
+-- a word, and a number at a column
+abbrev pub number_asks : List ℕ → ℕ → ℕ → Option DeskLine
+number_asks text n column =
+    if bytes_eq text (codes "growth") then Some (growth n) else if bytes_eq text (codes "at") then Some (at n column) else None
 
-abbrev pub two_kinds_ask : Kind → Kind → Option DeskLine
-two_kinds_ask (Word text) (Number n) = number_asks text n
-two_kinds_ask k l = None
+-- two kinds, of which the second stands at a column
+abbrev pub two_kinds_ask : Kind → Kind → ℕ → Option DeskLine
+two_kinds_ask (Word text) (Number n) column = number_asks text n column
+two_kinds_ask k l column = None
 
 -- Desk lines are told by their tokens: one that has more of them than it should is none, and goes to the session.
 abbrev pub tokens_ask : List Token → Option DeskLine
 tokens_ask [] = None
 tokens_ask (t ∷ []) = kind_asks t.kind
-tokens_ask (t ∷ u ∷ []) = two_kinds_ask t.kind u.kind
+tokens_ask (t ∷ u ∷ []) = two_kinds_ask t.kind u.kind (u.start + 1)
 tokens_ask (t ∷ u ∷ v ∷ ts) = None
 
 abbrev pub read_asks : Result (List Token) ℕ → Option DeskLine
@@ -86,12 +98,36 @@ abbrev pub growth_reply : System → Result Census GrowthFault → Reply
 growth_reply s (Ok c) = said s (growth_text c)
 growth_reply s (Err f) = refused s (growth_fault_text f)
 
--- the desk's own reply: an undo steps to the nearest of the past, a redo to the nearest of those that were undone, and growth
--- counts the letters of a level
+-- what is asked of the picture of the last level, or the text of the refusal
+abbrev pub asked_of : {A : Type 0} → (List Symbol → Result A PictureRefusal) → Result (List (List Symbol)) (List ℕ) → Result A (List ℕ)
+asked_of ask (Ok levels) = or_text picture_refusal_text (ask (last_level levels))
+asked_of ask (Err why) = Err why
+
+-- how far the picture reaches
+abbrev pub bounds_reply : System → Result (List (List Symbol)) (List ℕ) → Reply
+bounds_reply s levels = shown s bounds_text (asked_of (pictures.bounds s) levels)
+
+-- where a turtle stands; a number that is past the image's symbols is refused by its column
+abbrev pub pose_reply : System → ℕ → Option Pose → Reply
+pose_reply s column (Some p) = said s (pose_text p)
+pose_reply s column None = refused s (with_number (codes "place") column)
+
+abbrev pub turtle_reply : System → ℕ → Result (Option Turtle) (List ℕ) → Reply
+turtle_reply s column (Ok o) = pose_reply s column (option_map (λ t. t.pose) o)
+turtle_reply s column (Err why) = refused s why
+
+-- where the picture's turtle stands behind the first n symbols of the image
+abbrev pub place_reply : System → ℕ → ℕ → Result (List (List Symbol)) (List ℕ) → Reply
+place_reply s n column levels = turtle_reply s column (asked_of (λ x. turtle_behind s x n) levels)
+
+-- the desk's own reply: an undo steps to the nearest of the past, a redo to the nearest of those that were undone, growth
+-- counts the letters of a level, and the others ask of the picture of the last level
 abbrev pub own_reply : ℕ → Desk → DeskLine → DeskReply
 own_reply limit d undo = stepped limit d (codes "undo") (timelines.undone d.steps d.system) (timelines.nearest d.steps.past)
 own_reply limit d redo = stepped limit d (codes "redo") (timelines.redone d.steps d.system) (timelines.nearest d.steps.future)
 own_reply limit d (growth level) = answered (growth_reply d.system (growth_at d.system level)) d
+own_reply limit d bounds = answered (bounds_reply d.system (levels_of limit d.system)) d
+own_reply limit d (at n column) = answered (place_reply d.system n column (levels_of limit d.system)) d
 
 abbrev pub is_edit : Option Command → Bool
 is_edit None = false

@@ -14,7 +14,8 @@ mod svg;
 mod way;
 
 pub use nesting::image_nesting;
+pub use numbers::{put_unsigned, put_wide};
 pub use refusal::PictureRefusal;
-pub use segments::segments_text;
+pub use segments::{put_place, segments_text};
 pub use svg::svg_text;
 pub use way::Way;

@@ -16,12 +16,12 @@ pub(crate) fn put_signed<K: Sink>(
     out.put_number(sink, i128::from(*value))
 }
 
-/// Puts a number that isn't negative.
-pub(crate) fn put_unsigned<K: Sink>(
-    out: &mut Buffered,
-    sink: &mut K,
-    value: u32,
-) -> Result<(), Failed>
+/// Puts a number that isn't negative, in decimal.
+///
+/// # Errors
+///
+/// The sink failed; a front of what was held and of the number was written then.
+pub fn put_unsigned<K: Sink>(out: &mut Buffered, sink: &mut K, value: u32) -> Result<(), Failed>
     ensures { Puts K.written K.faults sink.old sink.new out.old out.new (decimal value) result }
 {
     out.put_number(sink, i128::from(value))
@@ -56,7 +56,12 @@ fn side(least: &i64, greatest: &i64) -> i128
     i128::from(*greatest) - i128::from(*least) + 20
 }
 
-fn put_wide<K: Sink>(out: &mut Buffered, sink: &mut K, value: &i128) -> Result<(), Failed>
+/// Puts a number of many bits in decimal, with `-` before a negative one.
+///
+/// # Errors
+///
+/// The sink failed; a front of what was held and of the number was written then.
+pub fn put_wide<K: Sink>(out: &mut Buffered, sink: &mut K, value: &i128) -> Result<(), Failed>
     ensures { Puts K.written K.faults sink.old sink.new out.old out.new (signed_decimal value.now) result }
 {
     out.put_number(sink, *value)

@@ -99,8 +99,12 @@ fn put_segment<K: Sink>(out: &mut Buffered, sink: &mut K, segment: &Segment) -> 
     out.put(sink, b"\n")
 }
 
-// Puts a place.
-fn put_place<K: Sink>(out: &mut Buffered, sink: &mut K, place: &Place) -> Result<(), Failed>
+/// Puts a place by its three coordinates.
+///
+/// # Errors
+///
+/// The sink failed; a front of what was held and of the text was written then.
+pub fn put_place<K: Sink>(out: &mut Buffered, sink: &mut K, place: &Place) -> Result<(), Failed>
     ensures { Puts K.written K.faults sink.old sink.new out.old out.new (place_text (vector_of place.now)) result }
 {
     put_signed(out, sink, &place.x)?;

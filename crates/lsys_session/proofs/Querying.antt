@@ -96,6 +96,10 @@ module _ (limit : ℕ) (s : System) (levels : List (List Spotted)) (d : IsDerive
   last_named =
       (levelled.names s limit d.meant levels d.is d.view.depth d.view.tags d.view.strings).level s.depth ∙ sym (levelled.last_level_is s limit d.meant d.is)
 
+  -- what is true of the last level by every naming is true of the level that is meant
+  pub last_meant : (P : List L.Symbol → Type 0) → ((naming : ℕ → List ℕ) → P (last_level naming s levels)) → P (M.last_level d.meant)
+  last_meant P h = subst P last_named (h naming)
+
   picture_asked : (kind : Picture) → reply_to limit s (picture_request kind) ≡ picture_reply kind s (picture s (M.last_level d.meant))
   picture_asked pictures.Segments = ap (λ o. shown s segments_text (picture_of s o)) (meant_levels limit s d.meant d.is)
   picture_asked pictures.Svg = ap (λ o. shown s (svg_text s.lattice) (picture_of s o)) (meant_levels limit s d.meant d.is)

@@ -12,5 +12,5 @@ mod session;
 pub use line::is_without_command;
 pub use outcome::Outcome;
 pub use request::{Request, request_of};
-pub use sayings::refuse;
+pub use sayings::{refuse, refuse_far, refuse_image};
 pub use session::{MOST_LINE_BYTES, Session};

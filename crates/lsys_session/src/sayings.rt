@@ -116,7 +116,7 @@ pub(crate) fn print_line<K: Sink>(
 /// # Errors
 ///
 /// The sink failed; a front of the reply was written then.
-pub(crate) fn refuse_image<K: Sink>(
+pub fn refuse_image<K: Sink>(
     out: &mut Buffered,
     sink: &mut K,
     refusal: ImageRefusal,
@@ -134,11 +134,7 @@ pub(crate) fn refuse_image<K: Sink>(
 /// # Errors
 ///
 /// The sink failed; a front of the reply was written then.
-pub(crate) fn refuse_far<K: Sink>(
-    out: &mut Buffered,
-    sink: &mut K,
-    place: u32,
-) -> Result<Outcome, Failed>
+pub fn refuse_far<K: Sink>(out: &mut Buffered, sink: &mut K, place: u32) -> Result<Outcome, Failed>
     requires { out.old ≡ [] }
     ensures { Says K.written K.faults sink.old sink.new out.new (picture_line (Far place)) Refused result }
 {

@@ -1,5 +1,5 @@
 //! Sessions: one line after another.
-ghost use Rattle.std.specs.Prelude.{◌≡◌, ◌≤◌, [], true, IfOk};
+ghost use Rattle.std.specs.Prelude.{◌≡◌, ◌≤◌, [], false, true, IfOk};
 ghost use Rattle.lsys_spec.specs.Systems.{opening};
 ghost use Rattle.lsys_session.specs.Answers.{Answers, Counts, is_derived};
 ghost use Rattle.lsys_session.specs.Given.{Gives, IsKept, IsWithin, Leads, is_edit, level_number, picture_request};
@@ -98,9 +98,10 @@ impl<L: Ledger, D: Derivation<L>> Session<L, D> {
         self.derivation.system()
     }
 
-    /// The derivation that it keeps.
+    /// The derivation that it keeps. Its system has its levels under the session's limit.
     pub fn derivation(&self) -> &D
-        ensures { result.now ≡ self.now }
+        ensures same { result.now ≡ self.now }
+        ensures kept { IsKept (D.limit_of self.now) (D.system_of self.now) }
     {
         &self.derivation
     }
@@ -135,7 +136,7 @@ impl<L: Ledger, D: Derivation<L>> Session<L, D> {
 
     /// Answers what a line asks of the present system: puts the reply, and goes on from its system.
     ///
-    /// The counters rise as at the line.
+    /// The counters rise as at the line. What is no edit leaves the session as it was.
     ///
     /// # Errors
     ///
@@ -154,6 +155,7 @@ impl<L: Ledger, D: Derivation<L>> Session<L, D> {
         ensures gives { Gives K.written K.faults sink.old sink.new out.new (D.limit_of self.old)
             (D.system_of self.old) (D.system_of self.new) request result }
         ensures limit { D.limit_of self.new ≡ D.limit_of self.old }
+        ensures stays { is_edit request ≡ false → self.new ≡ self.old }
         ensures counts { Counts D.visits (D.limit_of self.old) (is_edit request)
             (D.system_of self.old) (D.system_of self.new) (record { asked = asked.old; visited = visited.old })
             (record { asked = asked.new; visited = visited.new }) result }

@@ -2,7 +2,8 @@
 use lsys_cli::Status;
 use lsys_tests_runs::ran_by;
 use lsys_tests_scripts::{
-    Script, algae, edits, hostile_lines, limited, pictures, refusals, steps, versions,
+    Script, algae, bounds_and_places, edits, hostile_lines, limited, pictures, refusals, steps,
+    versions,
 };
 use std::alloc::Global;
 use std::process::Abort;
@@ -73,6 +74,11 @@ fn own_lists_and_lineages_by_names(rt: HostRuntime) -> Result<(), Fail> {
 #[test]
 fn pictures_and_refused_ones(rt: HostRuntime) -> Result<(), Fail> {
     are_answered(&rt, rt.alloc(), pictures())
+}
+
+#[test]
+fn bounds_and_places_of_pictures(rt: HostRuntime) -> Result<(), Fail> {
+    are_answered(&rt, rt.alloc(), bounds_and_places())
 }
 
 #[test]

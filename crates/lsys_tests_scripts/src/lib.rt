@@ -9,7 +9,7 @@ mod refusing;
 mod stepping;
 mod versioned;
 
-pub use drawing::pictures;
+pub use drawing::{bounds_and_places, pictures};
 pub use editing::edits;
 pub use generated::{long_lines, script_of_images};
 pub use limits::{algae, limited};

@@ -7,7 +7,7 @@ syn case match
 
 " A comment begins a line.
 syn match lsysComment /^;.*/ contains=@Spell
-syn match lsysCommand /^[ \t]*\%(axiom\|production\|drop\|ignore\|ignoring\|consider\|common\|schedule\|seed\|depth\|lattice\|lineage\|version\|hom\|string\|segments\|svg\|show\|growth\|undo\|redo\|quit\)\>/
+syn match lsysCommand /^[ \t]*\%(axiom\|production\|drop\|ignore\|ignoring\|consider\|common\|schedule\|seed\|depth\|lattice\|lineage\|version\|hom\|string\|segments\|svg\|show\|bounds\|at\|growth\|undo\|redo\|quit\)\>/
 " Words that only stand behind these commands.
 syn match lsysSetting /\%(^[ \t]*\%(lattice\|lineage\)[ \t]\+\)\@<=\%(square\|hexagonal\|cubic\|places\|names\)\>/
 " A label, and the table before it.

@@ -8,6 +8,8 @@ use Rattle.lsys_desk.specs.Views.{Bench, bench, desk_on}
 use Rattle.lsys_desk.proofs.Leading.{lacking, step_failed, step_taken}
 use Rattle.lsys_desk.proofs.Counting.{stay}
 use Rattle.lsys_desk.proofs.Keeping.{steps_kept}
+use Rattle.lsys_desk.proofs.Motioned.{after_step}
+use Rattle.lsys_desk.specs.Motions.{AreKept, motions_after}
 use Rattle.lsys_desk.proofs.Telling.{refusal_tells, unrefused_tells}
 use Rattle.lsys_desk.proofs.desk.Desk.lead.Goals as goal
 
@@ -18,7 +20,7 @@ returns-in_default-clause-gives g c =
     lacking g.K.Sink.written g.K.Sink.faults c.args.sink.now c.refuse.new.sink c.refuse.new.out (desk_on g.D.Derivation.system_of c.args.self.now) c.refuse.result _ c.refuse.ensures
 
 pub returns-in_default-clause-kept : goal.returns-in_default-clause-kept
-returns-in_default-clause-kept g c = rw (← c.self.view_is) c.self.invariant
+returns-in_default-clause-kept g c = rw (← c.self.view_is) c.self.invariant.0
 
 pub returns-in_default-clause-counts : goal.returns-in_default-clause-counts
 returns-in_default-clause-counts g c =
@@ -28,7 +30,7 @@ returns-in_default-clause-counts g c =
 -- 2. the sink failed
 
 pub invariant_of-self : goal.invariant_of-self
-invariant_of-self g c = rw c.in_err-outcome.ensures.limit c.self.invariant
+invariant_of-self g c = (rw c.in_err-outcome.ensures.limit c.self.invariant.0, rw c.take-motions.ensures.after tt)
 
 pub returns-in_err-outcome-clause-gives : goal.returns-in_err-outcome-clause-gives
 returns-in_err-outcome-clause-gives g c =
@@ -46,7 +48,7 @@ pub returns-in_err-outcome-clause-limit : goal.returns-in_err-outcome-clause-lim
 returns-in_err-outcome-clause-limit g c = rw (← c.self.view_is) c.in_err-outcome.ensures.limit
 
 pub returns-in_err-outcome-clause-kept : goal.returns-in_err-outcome-clause-kept
-returns-in_err-outcome-clause-kept g c = rw c.in_err-outcome.ensures.limit c.self.invariant
+returns-in_err-outcome-clause-kept g c = rw c.in_err-outcome.ensures.limit c.self.invariant.0
 
 -- 3. the outcome
 
@@ -55,14 +57,20 @@ take_step-requires g c = subst (λ (b : Bench _). CanStep c.args.step b.steps) (
 
 pub invariant_of-self-2 : goal.invariant_of-self-2
 invariant_of-self-2 g c =
-    rw (c.take_step.ensures, c.in_ok-outcome.ensures.limit)
-    (steps_kept (HasLevels (g.D.Derivation.limit_of c.self.inside.session)) c.in_ok-outcome.outcome c.args.step c.self.inside.history c.in-Ok.present c.self.invariant
-    (subst (HasLevels (g.D.Derivation.limit_of c.self.inside.session)) (sym (c.in-Ok.ensures.cases ∙ c.system.ensures.system)) c.system.ensures.kept.levels))
+    let limit = g.D.Derivation.limit_of c.self.inside.session in
+    let motions : AreKept limit (g.D.Derivation.system_of c.restore.new.self) (motions_after c.in_ok-outcome.outcome c.self.inside.motions) =
+    after_step limit (g.D.Derivation.system_of c.self.inside.session) c.args.system g.K.Sink.written g.K.Sink.faults c.args.sink.now c.restore.new.sink c.restore.new.out (g.D.Derivation.system_of c.restore.new.self)
+    c.in_ok-outcome.outcome c.self.inside.motions c.in_ok-outcome.ensures.leads c.self.invariant.1 in (
+      rw (c.take_step.ensures, c.in_ok-outcome.ensures.limit)
+          (steps_kept (HasLevels limit) c.in_ok-outcome.outcome c.args.step c.self.inside.history c.in-Ok.present c.self.invariant.0
+          (subst (HasLevels limit) (sym (c.in-Ok.ensures.cases ∙ c.system.ensures.system)) c.system.ensures.kept.levels)),
+      rw (c.motions_after.ensures, c.take-motions.ensures.value, c.in_ok-outcome.ensures.limit) motions,
+    )
 
 pub returns-clause-kept : goal.returns-clause-kept
 returns-clause-kept g c =
     rw (c.take_step.ensures, c.in_ok-outcome.ensures.limit)
-    (steps_kept (HasLevels (g.D.Derivation.limit_of c.self.inside.session)) c.in_ok-outcome.outcome c.args.step c.self.inside.history c.in-Ok.present c.self.invariant
+    (steps_kept (HasLevels (g.D.Derivation.limit_of c.self.inside.session)) c.in_ok-outcome.outcome c.args.step c.self.inside.history c.in-Ok.present c.self.invariant.0
     (subst (HasLevels (g.D.Derivation.limit_of c.self.inside.session)) (sym (c.in-Ok.ensures.cases ∙ c.system.ensures.system)) c.system.ensures.kept.levels))
 
 pub returns-clause-gives : goal.returns-clause-gives

@@ -20,7 +20,7 @@ returns-in_default-clause-gives g c =
     (c.in_default.ensures ∙ ap (λ (b : Bench _). nearest b.steps.future) c.self.view_is) c.say.ensures
 
 pub returns-in_default-clause-kept : goal.returns-in_default-clause-kept
-returns-in_default-clause-kept g c = rw (← c.self.view_is) c.self.invariant
+returns-in_default-clause-kept g c = rw (← c.self.view_is) c.self.invariant.0
 
 pub returns-in_default-clause-counts : goal.returns-in_default-clause-counts
 returns-in_default-clause-counts g c =
@@ -34,7 +34,7 @@ returns-in-Err-clause-gives g c =
     lacking g.K.Sink.written g.K.Sink.faults c.args.sink.now c.refuse.new.sink c.refuse.new.out (desk_on g.D.Derivation.system_of c.args.self.now) c.refuse.result _ c.refuse.ensures
 
 pub returns-in-Err-clause-kept : goal.returns-in-Err-clause-kept
-returns-in-Err-clause-kept g c = rw (← c.self.view_is) c.self.invariant
+returns-in-Err-clause-kept g c = rw (← c.self.view_is) c.self.invariant.0
 
 pub returns-in-Err-clause-counts : goal.returns-in-Err-clause-counts
 returns-in-Err-clause-counts g c =
@@ -56,7 +56,7 @@ pub returns-in-Ok-clause-counts : goal.returns-in-Ok-clause-counts
 returns-in-Ok-clause-counts g c =
     let limit = g.D.Derivation.limit_of c.args.self.now.derivation in
     let there : nearest c.self.inside.history.future ≡ Some c.in-Ok.next = sym (ap (λ (s : System). Some s) c.in-Ok.ensures.cases ∙ c.in-Some.ensures) in
-    let kept : HasLevels (g.D.Derivation.limit_of c.self.inside.session) c.in-Ok.next = nearest_kept (HasLevels (g.D.Derivation.limit_of c.self.inside.session)) c.self.inside.history.future c.in-Ok.next c.self.invariant.future there in
+    let kept : HasLevels (g.D.Derivation.limit_of c.self.inside.session) c.in-Ok.next = nearest_kept (HasLevels (g.D.Derivation.limit_of c.self.inside.session)) c.self.inside.history.future c.in-Ok.next c.self.invariant.0.future there in
     not_refused limit (desk_on g.D.Derivation.system_of c.args.self.now) c.in-Ok.next (steps_by Redo c.args.self.now.steps (g.D.Derivation.system_of c.args.self.now.derivation))
     (desk_on g.D.Derivation.system_of c.lead.new.self) (rw (← c.self.view_is) kept) g.D.Derivation.visits (g.D.Derivation.system_of c.lead.new.self.derivation)
     (record { asked = c.args.asked.now; visited = c.args.visited.now }) (record { asked = c.lead.new.asked; visited = c.lead.new.visited }) c.lead.result c.lead.ensures.gives c.lead.ensures.counts

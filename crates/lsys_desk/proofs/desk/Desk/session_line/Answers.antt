@@ -26,7 +26,7 @@ returns-in-Err-clause-answers g c =
     c.in-Err.refusal c.refuse.result (short_by c.args.line.now c.requires.short) c.requires.other asked c.refuse.ensures
 
 pub returns-in-Err-clause-kept : goal.returns-in-Err-clause-kept
-returns-in-Err-clause-kept g c = rw (← c.self.view_is) c.self.invariant
+returns-in-Err-clause-kept g c = rw (← c.self.view_is) c.self.invariant.0
 
 pub returns-in-Err-clause-counts : goal.returns-in-Err-clause-counts
 returns-in-Err-clause-counts g c =
@@ -59,7 +59,7 @@ pub answer-requires-clause-level : goal.answer-requires-clause-level
 answer-requires-clause-level g c = rw c.system.ensures.system at c.in-Ok.ensures.1
 
 pub invariant_of-self : goal.invariant_of-self
-invariant_of-self g c = rw c.answer.ensures.limit c.self.invariant
+invariant_of-self g c = rw (c.answer.ensures.stays (no_edit c.in-Ok.request c.in_default.not-Edit)) c.self.invariant
 
 pub returns-in_default-clause-answers : goal.returns-in_default-clause-answers
 returns-in_default-clause-answers g c =
@@ -73,7 +73,7 @@ pub returns-in_default-clause-limit : goal.returns-in_default-clause-limit
 returns-in_default-clause-limit g c = rw (← c.self.view_is) c.answer.ensures.limit
 
 pub returns-in_default-clause-kept : goal.returns-in_default-clause-kept
-returns-in_default-clause-kept g c = rw c.answer.ensures.limit c.self.invariant
+returns-in_default-clause-kept g c = rw c.answer.ensures.limit c.self.invariant.0
 
 pub returns-in_default-clause-counts : goal.returns-in_default-clause-counts
 returns-in_default-clause-counts g c =

@@ -1,0 +1,5 @@
+use Rattle.std.proofs.Common.{length}
+use Rattle.lsys_desk.proofs.desk_line.desk_line.Goals as goal
+
+pub asked_by-requires : goal.asked_by-requires
+asked_by-requires c = (length c.args.line.now, rw c.deref.ensures.value c.in-Ok.ensures.places)

@@ -1,0 +1,77 @@
+-- What a desk keeps of the picture of the last level, and what it tells of it.
+use Rattle.std.specs.Prelude.{◌≡◌, ℕ, ℤ, Option, Some, None, Result, Ok, Err, List, ◌∷◌, ◌++◌, codes}
+use Rattle.std.specs.Fmt.{signed_decimal}
+use Rattle.lsys_spec.specs.Systems.{System}
+use Rattle.lsys_spec.specs.Levels.{Symbol}
+use Rattle.lsys_spec.specs.Meaning.{meaning, last_level}
+use Rattle.lsys_spec.specs.Pictures.{NoImage, Pose}
+use Rattle.lsys_spec.specs.Pictures as pictures
+use Rattle.lsys_spec.specs.Refusals.{line_feed, with_number}
+use Rattle.lsys_effects.specs.Bounds.{pose_text}
+use Rattle.lsys_effects.specs.Extents.{Extents}
+use Rattle.lsys_hom.specs.Refusals.{refusal_of}
+use Rattle.lsys_motion.specs.Told.{Told, told}
+use Rattle.lsys_motion.specs.Refusals.{IsAnswer}
+use Rattle.lsys_motion.specs.declared.refusal.MotionRefusal.{MotionRefusal}
+use Rattle.lsys_motion.specs.declared.refusal.MotionRefusal.TheVariants.{Image, Far, Memory}
+use Rattle.lsys_rules.specs.declared.refusal.Refusal.TheVariants as refusals
+use Rattle.lsys_session.specs.Given.{picture_line}
+use Rattle.lsys_session.specs.Requests.{refusal_line}
+use Rattle.lsys_session.specs.declared.outcome.Outcome.{Outcome}
+use Rattle.lsys_session.specs.declared.outcome.Outcome.TheVariants as outcomes
+use Rattle.lsys_desk.specs.declared.kept_motions.KeptMotions.{KeptMotions}
+use Rattle.lsys_desk.specs.declared.kept_motions.KeptMotions.TheVariants.{Square, Hexagonal, Cubic}
+
+-- 1. what is kept
+
+abbrev pub told_by : KeptMotions → Told
+told_by (Square t) = t
+told_by (Hexagonal t) = t
+told_by (Cubic t) = t
+
+abbrev pub told_in : Result KeptMotions MotionRefusal → Result Told MotionRefusal
+told_in (Ok m) = Ok (told_by m)
+told_in (Err e) = Err e
+
+-- this is told of the picture of the last level; or it is refused as the picture is, or there was no memory for it
+abbrev pub IsTold : ℕ → System → Result Told MotionRefusal → Type 0
+IsTold limit s r = (levels : List (List Symbol)) → meaning s limit ≡ Ok levels → IsAnswer (told s (last_level levels)) r
+
+-- the motions that are kept, if any, are those of the picture of the last level
+abbrev pub AreKept : ℕ → System → Option KeptMotions → Type 0
+AreKept limit s None = Unit {0}
+AreKept limit s (Some m) = IsTold limit s (Ok (told_by m))
+
+-- they are kept until an edit is accepted
+abbrev pub motions_after : Outcome → Option KeptMotions → Option KeptMotions
+motions_after outcomes.Accepted m = None
+motions_after o m = m
+
+-- 2. what is said of it
+
+abbrev pub motion_line : MotionRefusal → List ℕ
+motion_line (Image e) = picture_line (NoImage (refusal_of e))
+motion_line (Far n) = picture_line (pictures.Far n)
+motion_line Memory = refusal_line refusals.Memory
+
+abbrev pub motion_outcome : MotionRefusal → Outcome
+motion_outcome Memory = outcomes.Memory
+motion_outcome e = outcomes.Refused
+
+-- two values, with a blank between them
+abbrev pub span_text : ℤ → ℤ → List ℕ
+span_text low high = signed_decimal low ++ 32 ∷ signed_decimal high
+
+-- the least and the greatest value of each measure
+abbrev pub spans_text : Extents → List ℕ
+spans_text e =
+    codes "bounds " ++ (span_text e.low.x e.high.x ++ 32 ∷ (span_text e.low.y e.high.y ++ 32 ∷ (span_text e.low.z e.high.z ++ line_feed)))
+
+-- a turtle's pose; or the refusal of a number that stands at a column
+abbrev pub pose_line : ℕ → Option Pose → List ℕ
+pose_line column (Some p) = pose_text p
+pose_line column None = codes "refused " ++ (with_number (codes "place") column ++ line_feed)
+
+abbrev pub pose_outcome : Option Pose → Outcome
+pose_outcome (Some p) = outcomes.Printed
+pose_outcome None = outcomes.Refused

@@ -1,0 +1,121 @@
+//! The motions of the picture of the last level, which a desk keeps.
+ghost use Rattle.std.specs.Prelude.{◌≡◌, ℕ, List, None};
+ghost use Rattle.lsys_spec.specs.Systems as spec;
+ghost use Rattle.lsys_lattice.specs.Wide.{extents_of};
+ghost use Rattle.lsys_match.specs.Derivations.{IsDerived};
+ghost use Rattle.lsys_out.specs.Drawings.{last_level};
+ghost use Rattle.lsys_out.specs.Nesting.{HasLast};
+ghost use Rattle.lsys_out.specs.Shown.{on_lattice};
+ghost use Rattle.lsys_motion.specs.Refusals.{IsAnswer};
+ghost use Rattle.lsys_motion.specs.Told.{told};
+ghost use Rattle.lsys_session.specs.Given.{IsKept};
+ghost use Rattle.lsys_desk.specs.Motions.{AreKept, IsTold, motions_after, told_by, told_in};
+
+use lsys_lattice::{Cubic, Extents, Hexagonal, Lattice, Square};
+use lsys_match::Derivation;
+use lsys_motion::{MotionRefusal, Motions};
+use lsys_pass::ForestDerivation;
+use lsys_reading::LatticeName;
+use lsys_session::Outcome;
+use std::alloc::Global;
+use std::sync::ledger::Ledger;
+
+/// A derivation from which the motions of its last level's picture are made.
+pub trait HasMotions<L: Ledger>: Derivation<L> {
+    /// The motions of the picture on the lattice `T`, which stands in place of the system's.
+    ///
+    /// # Errors
+    ///
+    /// The image's refusal; then the first module that would lead too far; or want of memory.
+    fn motions<T: Lattice>(&self, alloc: Global) -> Result<Motions<T>, MotionRefusal>
+        requires { HasLast (Self.system_of self.now) (Self.levels self.now) }
+        ensures { (naming : ℕ → List ℕ) → let s = Self.system_of self.now in
+            IsAnswer (told (on_lattice T.shape s) (last_level naming s (Self.levels self.now))) result };
+}
+
+impl<L: Ledger> HasMotions<L> for ForestDerivation<L> {
+    fn motions<T: Lattice>(&self, alloc: Global) -> Result<Motions<T>, MotionRefusal> {
+        Motions::new(alloc, self.forest(), self.system())
+    }
+}
+
+/// The motions of a picture, on the lattice that its system names.
+#[derive(Drop)]
+pub(crate) enum KeptMotions {
+    Square(Motions<Square>),
+    Hexagonal(Motions<Hexagonal>),
+    Cubic(Motions<Cubic>),
+}
+
+impl KeptMotions {
+    /// How far the picture reaches.
+    pub(crate) fn bounds(&self) -> Extents
+        ensures { extents_of result ≡ (told_by self.now).bounds }
+    {
+        match self {
+            KeptMotions::Square(motions) => motions.bounds(),
+            KeptMotions::Hexagonal(motions) => motions.bounds(),
+            KeptMotions::Cubic(motions) => motions.bounds(),
+        }
+    }
+}
+
+/// Takes the motions that are kept, or makes them.
+///
+/// # Errors
+///
+/// The picture's refusal, or want of memory.
+pub(crate) fn take_motions<L: Ledger, D: HasMotions<L>>(
+    alloc: Global,
+    derivation: &D,
+    kept: &mut Option<KeptMotions>,
+) -> Result<KeptMotions, MotionRefusal>
+    requires session { IsKept (D.limit_of derivation.now) (D.system_of derivation.now) }
+    requires kept { AreKept (D.limit_of derivation.now) (D.system_of derivation.now) kept.old }
+    ensures told { IsTold (D.limit_of derivation.now) (D.system_of derivation.now) (told_in result) }
+    ensures none { kept.new ≡ None }
+{
+    match kept.take() {
+        Some(motions) => Ok(motions),
+        None => made_motions(alloc, derivation),
+    }
+}
+
+/// What is kept behind an edit with this outcome.
+pub(crate) fn motions_after(outcome: Outcome, kept: Option<KeptMotions>) -> Option<KeptMotions>
+    ensures { result ≡ motions_after outcome kept }
+{
+    if outcome == Outcome::Accepted {
+        None
+    } else {
+        kept
+    }
+}
+
+// The motions of the picture on its system's lattice.
+fn made_motions<L: Ledger, D: HasMotions<L>>(
+    alloc: Global,
+    derivation: &D,
+) -> Result<KeptMotions, MotionRefusal>
+    requires { IsKept (D.limit_of derivation.now) (D.system_of derivation.now) }
+    ensures { IsTold (D.limit_of derivation.now) (D.system_of derivation.now) (told_in result) }
+{
+    match derivation.system().lattice() {
+        LatticeName::Square => Ok(KeptMotions::Square(motions_on(alloc, derivation)?)),
+        LatticeName::Hexagonal => Ok(KeptMotions::Hexagonal(motions_on(alloc, derivation)?)),
+        LatticeName::Cubic => Ok(KeptMotions::Cubic(motions_on(alloc, derivation)?)),
+    }
+}
+
+// The motions of the picture on the lattice `T`, which is its system's.
+fn motions_on<T: Lattice, L: Ledger, D: HasMotions<L>>(
+    alloc: Global,
+    derivation: &D,
+) -> Result<Motions<T>, MotionRefusal>
+    requires kept { IsKept (D.limit_of derivation.now) (D.system_of derivation.now) }
+    requires levels { IsDerived (D.system_of derivation.now) (D.limit_of derivation.now) (D.levels derivation.now) }
+    requires lattice { T.shape ≡ (D.system_of derivation.now).lattice }
+    ensures { IsTold (D.limit_of derivation.now) (D.system_of derivation.now) result }
+{
+    derivation.motions(alloc)
+}
