@@ -148,7 +148,40 @@ fn answered<L: Ledger, V: Ledger>(
     Vec::from_slice(alloc, reply(alloc, edited)?.as_bytes())
 }
 
+/// The reply of a pass to a line is this one.
+fn is_answered<L: Ledger, V: Ledger>(
+    rt: &impl Abort,
+    alloc: Global,
+    pass: &mut Pass<L>,
+    row: (&str, &str),
+    order: &mut Order,
+    asked: &mut Steps<L>,
+    visited: &mut Steps<V>,
+) -> Result<(), Fail> {
+    let (line, reply) = row;
+    let found = answered(alloc, pass, line, order, asked, visited)?;
+    assert!(rt; found.as_slice() == reply.as_bytes(), "{line:?}");
+    Ok(())
+}
+
 /// The reply of a pass to each line of a script is the one beside it.
+fn are_answered<L: Ledger, V: Ledger>(
+    rt: &impl Abort,
+    alloc: Global,
+    pass: &mut Pass<L>,
+    script: &[(&str, &str)],
+    order: Order,
+    asked: &mut Steps<L>,
+    visited: &mut Steps<V>,
+) -> Result<(), Fail> {
+    let mut order = order;
+    for (line, reply) in script {
+        is_answered(rt, alloc, pass, (*line, *reply), &mut order, asked, visited)?;
+    }
+    Ok(())
+}
+
+/// The reply of a new pass to each line of a script is the one beside it.
 fn is_played<L: Ledger, V: Ledger>(
     rt: &impl Abort,
     alloc: Global,
@@ -167,19 +200,15 @@ fn is_played<L: Ledger, V: Ledger>(
     let mut asked = Steps::<L>::open(asked);
     let mut visited = Steps::<V>::open(visited);
     let mut pass = Pass::<L>::new(alloc, 1000)?;
-    let mut order = order;
-    for (line, reply) in script {
-        let found = answered(
-            alloc,
-            &mut pass,
-            *line,
-            &mut order,
-            &mut asked,
-            &mut visited,
-        )?;
-        assert!(rt; found.as_slice() == reply.as_bytes(), "{line:?}");
-    }
-    Ok(())
+    are_answered(
+        rt,
+        alloc,
+        &mut pass,
+        script,
+        order,
+        &mut asked,
+        &mut visited,
+    )
 }
 
 /// Each line of a script has the reply beside it, in whatever order nodes are asked.
