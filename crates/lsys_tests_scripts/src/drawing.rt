@@ -56,6 +56,16 @@ pub fn pictures() -> &'static [Script] {
 pub fn bounds_and_places() -> &'static [Script] {
     &[
         Script {
+            name: "places behind each symbol of a homomorphism",
+            text: "axiom AA\nhom h: A => F(2)+\nat 0\nat 1\nat 2\nat 3\nat 4\nat 5\n",
+            replies: "ok 0/0\nok 0/0\nat 0 0 0 0 1 0 1\nat 0 2 0 0 1 0 1\nat 0 2 0 -1 0 0 1\nat -2 2 0 -1 0 0 1\nat -2 2 0 0 -1 0 1\nrefused place 4\n",
+        },
+        Script {
+            name: "places around a hexagon",
+            text: "lattice hexagonal\naxiom F+F+F+F+F+F\nat 3\nat 11\nat 12\n",
+            replies: "ok 0/0\nok 0/0\nat 1 1 0 0 1 0 1\nat 0 0 0 1 -1 0 1\nrefused place 4\n",
+        },
+        Script {
             name: "moves and branches in bounds and places",
             text: "axiom F[+F]Ff(7)\nbounds\nat 0\nat 5\nat 7\nat 8\n",
             replies: "ok 0/0\nbounds -1 0 0 2 0 0\nat 0 0 0 0 1 0 1\nat 0 1 0 0 1 0 1\nat 0 9 0 0 1 0 1\nrefused place 4\n",
