@@ -3,3 +3,4 @@ pub mod Built
 pub mod Building
 pub mod Filters
 pub mod Same
+pub mod BuiltParts

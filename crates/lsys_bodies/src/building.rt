@@ -3,10 +3,11 @@ ghost use Rattle.std.specs.Prelude.{◌≡◌, ◌≤◌, length, map, IfOk};
 ghost use Rattle.std.specs.Option.{option_map};
 ghost use Rattle.lsys_text.specs.Tokens.{kinds_of, name_of};
 ghost use Rattle.lsys_reading.specs.Spans.{expr_at, option_at, IsSpan, AreSpans, ConditionIsSpan};
-ghost use Rattle.lsys_reading.specs.Images.{params_at, image_at, images_at, ImageIsAt, ImagesAreAt};
+ghost use Rattle.lsys_reading.specs.Images.{ImageIsAt, ImagesAreAt};
 ghost use Rattle.lsys_reading.specs.RuleLines.{rule_at, IsRuleLine};
 ghost use Rattle.lsys_bodies.specs.Views.{spelled, tree_of, template_symbol, template_of, written, production_of, homomorphism_of};
-ghost use Rattle.lsys_bodies.specs.Building.{IsKnown, AreKnown, OptionIsKnown, SymbolIsKnown, StringIsKnown, CanBuild, tree_at, image_tree, production_at, homomorphism_at};
+ghost use Rattle.lsys_bodies.specs.Building.{IsKnown, AreKnown, OptionIsKnown, SymbolIsKnown, StringIsKnown, CanBuild, production_at, homomorphism_at};
+ghost use Rattle.lsys_bodies.specs.BuiltParts.{image_in, images_in, optional_tree, span_tree, template_at, MeanImages, expressions_in, optional_span_tree, trees_at};
 
 use crate::body::{Body, SharedBody, Template};
 use crate::patterns::{all_formals, left_context, pattern, right_context};
@@ -86,7 +87,7 @@ fn optional(
     requires known { OptionIsKnown (map name_of formals.now) (option_at (kinds_of tokens.now) span) }
     requires few { length formals.now ≤ 256 }
     ensures spelled { IfOk result (λ o. option_map spelled o ≡ option_at (kinds_of tokens.now) span) }
-    ensures tree { IfOk result (λ o. option_map tree_of o ≡ option_map (tree_at (map name_of formals.now) (kinds_of tokens.now)) span) }
+    ensures tree { IfOk result (λ o. optional_tree o ≡ optional_span_tree formals.now tokens.now span) }
 {
     match span {
         Some(span) => Ok(Some(expression(alloc, tokens, span, formals)?)),
@@ -101,10 +102,10 @@ fn templates(
     formals: &[Name],
 ) -> Result<Vec<Template>, AllocError>
     requires spans { ImagesAreAt (kinds_of tokens.now) images.now }
-    requires known { StringIsKnown (map name_of formals.now) (images_at (kinds_of tokens.now) images.now) }
+    requires known { StringIsKnown (map name_of formals.now) (images_in tokens.now images.now) }
     requires few { length formals.now ≤ 256 }
-    ensures spelled { IfOk result (λ v. map template_symbol v.items ≡ images_at (kinds_of tokens.now) images.now) }
-    ensures trees { IfOk result (λ v. map template_of v.items ≡ map (image_tree (map name_of formals.now) (kinds_of tokens.now)) images.now) }
+    ensures spelled { IfOk result (λ v. map template_symbol v.items ≡ images_in tokens.now images.now) }
+    ensures trees { IfOk result (λ v. MeanImages formals.now tokens.now images.now v.items) }
 {
     let mut templates = Vec::with_capacity(alloc, images.len())?;
     for image in images {
@@ -120,10 +121,10 @@ fn template(
     formals: &[Name],
 ) -> Result<Template, AllocError>
     requires spans { ImageIsAt (kinds_of tokens.now) image.now }
-    requires known { SymbolIsKnown (map name_of formals.now) (image_at (kinds_of tokens.now) image.now) }
+    requires known { SymbolIsKnown (map name_of formals.now) (image_in tokens.now image.now) }
     requires few { length formals.now ≤ 256 }
-    ensures spelled { IfOk result (λ t. template_symbol t ≡ image_at (kinds_of tokens.now) image.now) }
-    ensures trees { IfOk result (λ t. template_of t ≡ image_tree (map name_of formals.now) (kinds_of tokens.now) image.now) }
+    ensures spelled { IfOk result (λ t. template_symbol t ≡ image_in tokens.now image.now) }
+    ensures trees { IfOk result (λ t. template_of t ≡ template_at formals.now tokens.now image.now) }
 {
     match image {
         Image::Module(module) => Ok(Template::Module {
@@ -143,10 +144,10 @@ fn params(
     formals: &[Name],
 ) -> Result<Vec<Expr>, AllocError>
     requires spans { AreSpans (kinds_of tokens.now) spans.now }
-    requires known { AreKnown (map name_of formals.now) (params_at (kinds_of tokens.now) spans.now) }
+    requires known { AreKnown (map name_of formals.now) (expressions_in tokens.now spans.now) }
     requires few { length formals.now ≤ 256 }
-    ensures spelled { IfOk result (λ v. map spelled v.items ≡ params_at (kinds_of tokens.now) spans.now) }
-    ensures trees { IfOk result (λ v. map tree_of v.items ≡ map (tree_at (map name_of formals.now) (kinds_of tokens.now)) spans.now) }
+    ensures spelled { IfOk result (λ v. map spelled v.items ≡ expressions_in tokens.now spans.now) }
+    ensures trees { IfOk result (λ v. map tree_of v.items ≡ trees_at formals.now tokens.now spans.now) }
 {
     let mut params = Vec::with_capacity(alloc, spans.len())?;
     for span in spans {
@@ -165,7 +166,7 @@ fn expression(
     requires known { IsKnown (map name_of formals.now) (expr_at (kinds_of tokens.now) span) }
     requires few { length formals.now ≤ 256 }
     ensures spelled { IfOk result (λ x. x.spelled ≡ expr_at (kinds_of tokens.now) span) }
-    ensures tree { IfOk result (λ x. x.tree ≡ tree_at (map name_of formals.now) (kinds_of tokens.now) span) }
+    ensures tree { IfOk result (λ x. x.tree ≡ span_tree formals.now tokens.now span) }
 {
     build_expr(alloc, tokens, span.from, span.to, formals)
 }

@@ -1,14 +1,12 @@
 //! Contexts and predecessors, built from a rule's line.
-ghost use Rattle.std.specs.Prelude.{◌≡◌, ◌++◌, List, map, IfOk, OnOk};
+ghost use Rattle.std.specs.Prelude.{◌≡◌, List, map, IfOk, OnOk};
 ghost use Rattle.lsys_syntax.specs.Tokens.{Kind};
 ghost use Rattle.lsys_syntax.specs.Strings.{EachOf};
 ghost use Rattle.lsys_syntax.specs.Rules.{IsPattern};
-ghost use Rattle.lsys_syntax.specs.Checks.{all_formals, rule_formals};
-ghost use Rattle.lsys_text.specs.Tokens.{name_of};
 ghost use Rattle.lsys_reading.specs.Patterns.{pattern_of};
 ghost use Rattle.lsys_reading.specs.Heads.{patterns_of};
-ghost use Rattle.lsys_reading.specs.RuleLines.{rule_at};
 ghost use Rattle.lsys_bodies.specs.Views.{pattern_symbol, item_symbol};
+ghost use Rattle.lsys_bodies.specs.BuiltParts.{AddsFormalsOf, AreRuleFormals};
 
 use crate::body::{Item, Pattern};
 use lsys_reading::{Pattern as ContextSymbol, PatternModule, RuleLine};
@@ -70,7 +68,7 @@ pub(crate) fn pattern(alloc: Global, symbol: &PatternModule) -> Result<Pattern, 
 
 /// The formals of a rule, by their places: those of the left context, the predecessor's and those of the right context.
 pub(crate) fn all_formals(alloc: Global, line: &RuleLine) -> Result<Vec<Name>, AllocError>
-    ensures { (ks : List Kind) → IfOk result (λ v. map name_of v.items ≡ rule_formals (rule_at ks line.now)) }
+    ensures { (ks : List Kind) → IfOk result (λ v. AreRuleFormals ks line.now v.items) }
 {
     let mut formals = Vec::new(alloc);
     add_formals(&mut formals, &line.left)?;
@@ -81,7 +79,7 @@ pub(crate) fn all_formals(alloc: Global, line: &RuleLine) -> Result<Vec<Name>, A
 
 // Adds the formals of a context.
 fn add_formals(formals: &mut Vec<Name>, symbols: &[ContextSymbol]) -> Result<(), AllocError>
-    ensures { OnOk result (map name_of formals.new.items ≡ map name_of formals.old.items ++ all_formals (patterns_of symbols.now)) }
+    ensures { OnOk result (AddsFormalsOf symbols.now formals.old.items formals.new.items) }
 {
     for symbol in symbols {
         if let ContextSymbol::Module(module) = symbol {

@@ -1,6 +1,5 @@
 //! Whether two bodies are the same.
 ghost use Rattle.std.specs.Prelude.{◌≡◌, true, map};
-ghost use Rattle.std.specs.Option.{option_map};
 ghost use Rattle.lsys_syntax.specs.Strings.{balanced};
 ghost use Rattle.lsys_spec.specs.Systems.{same_name};
 ghost use Rattle.lsys_spec.specs.Bodies.{body_of, innermost};
@@ -9,6 +8,7 @@ ghost use Rattle.lsys_module.specs.Views.{module_name};
 ghost use Rattle.lsys_bodies.specs.Built.{IsBuilt};
 ghost use Rattle.lsys_bodies.specs.Same.{same_item};
 ghost use Rattle.lsys_bodies.specs.Views.{body_value, item_symbol, nest, pattern_of, template_of, tree_of, written};
+ghost use Rattle.lsys_bodies.specs.BuiltParts.{optional_tree};
 
 use crate::body::{Body, Item, Pattern, SharedBody, Template};
 use lsys_expr::{Expr, same_expr};
@@ -93,7 +93,7 @@ fn same_item(one: &Item, other: &Item) -> bool
 }
 
 fn same_option(one: &Option<Expr>, other: &Option<Expr>) -> bool
-    ensures { result ≡ same_option same_tree (option_map tree_of one.now) (option_map tree_of other.now) }
+    ensures { result ≡ same_option same_tree (optional_tree one.now) (optional_tree other.now) }
 {
     match (one, other) {
         (None, None) => true,

@@ -10,7 +10,8 @@ use Rattle.lsys_brood.specs.declared.child.Child.{Child}
 use Rattle.lsys_brood.specs.declared.number.Number.{Number}
 use Rattle.lsys_brood.specs.Matches.{AreApart, has_number, node_numbered, nodes_where, nodes_without, number_of}
 use Rattle.lsys_brood.specs.Children.{numbers_of, need_at, HasRoomFor, SpendsNeed, AreRenewed, TellsOf, AreMade, AreWhole, born, renewed, Told, Tells, TellsAll, IsNew, HasTurned, KeepsSymbol, KeepsKind, KeepsChildren, births, notes_for, params_for}
-use Rattle.lsys_brood.specs.Steps.{KindsTell, TellsNodes, CanPlace, CanPlaceAll, IsPlaced, ArePlaced, IsMatched, Found, FoundOnce}
+use Rattle.lsys_brood.specs.Steps.{KindsTell, TellsNodes, CanPlace, CanPlaceAll, IsPlaced, IsMatched, Found, FoundOnce}
+use Rattle.lsys_brood.proofs.Placing.{ArePlaced}
 use Rattle.lsys_brood.proofs.MatchLemmas.{take_next}
 use Rattle.lsys_brood.proofs.StepLemmas.{found_there, found_before, whole_there, births_within, notes_within, params_within, tells_all_keep}
 use Rattle.lsys_brood.proofs.PlacedLemmas.{some_of, set_is, set_other, spends_none, spends_then, made_from, made_keep, turned_keep, keeps_keep, kinds_keep, placed_next}

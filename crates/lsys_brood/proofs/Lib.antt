@@ -2,4 +2,5 @@ pub mod MatchLemmas
 pub mod StepLemmas
 pub mod PlacedLemmas
 pub mod FoundLemmas
+pub mod Placing
 pub mod AllLemmas

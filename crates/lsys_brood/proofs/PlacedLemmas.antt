@@ -13,7 +13,8 @@ use Rattle.lsys_forest.specs.Nodes.{Node, Nodes, put, with_seen, with_key}
 use Rattle.lsys_forest.specs.Groves.{Grove, In, now_of, IsLive, Sets, Spends}
 use Rattle.lsys_brood.specs.declared.child.Child.{Child}
 use Rattle.lsys_brood.specs.Children.{AreMade, IsMade, born, Told, IsNew, HasTurned, KeepsSymbol, KeepsKind, seen_at, kind_at, bracket_kind, births, notes_for, params_for}
-use Rattle.lsys_brood.specs.Steps.{KindsTell, ChangesAt, ChangesAmong, TellsNodes, IsPlaced, ArePlaced, Found}
+use Rattle.lsys_brood.specs.Steps.{KindsTell, ChangesAt, ChangesAmong, TellsNodes, IsPlaced, Found}
+use Rattle.lsys_brood.proofs.Placing.{ArePlaced}
 use Rattle.lsys_brood.proofs.StepLemmas.{in_push, in_old, in_new, apart_push, births_push, notes_push, params_push, tells_all_keep, tells_push, tells_one, tells_alone}
 
 module _ {A : Type 0} where

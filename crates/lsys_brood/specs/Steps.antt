@@ -85,12 +85,11 @@ module _ {A : Type 0} where
     pub spends : Spends old new (births (o ∷ [])) (list_room (params_in w.symbol)) 0 (notes_for (o ∷ []))
 
   -- the first so many children were placed
-  pub record ArePlaced (old new : Grove A) (parent : ℕ) (ws : List Child) (os : List (Option ℕ)) (ks : List ℕ) (before after : Told) (kinds : Bool) : Type 0 where
+  pub record HavePlaces (old new : Grove A) (parent : ℕ) (ws : List Child)
+      (os : List (Option ℕ)) (ks : List ℕ) : Type 0 where
     pub made : (p : Node A) → now_of old parent ≡ Some p → AreMade (now_of old) (now_of new) parent (p.depth + 1) ws os ks
     pub apart : AreApart ks
     pub other : In parent ks → ⊥
     pub long : length ks ≡ length ws
     pub changes : ChangesAmong old new ks
     pub spends : Spends old new (births os) (params_for ws) 0 (notes_for os)
-    pub told : TellsNodes (now_of old) (now_of new) ks before after
-    pub kinds_tell : KindsTell (now_of old) (now_of new) ks kinds

@@ -1,12 +1,12 @@
 //! The children of a node, as they are wanted.
-ghost use Rattle.std.specs.Prelude.{◌≡◌, ◌≢◌, ◌++◌, ◌∷◌, ◌+◌, ◌≤◌, ◌^◌, ℕ, [], OnOk, OnErr, IfOk, IsTrue, map, cond, length, Some, None, is_some};
+ghost use Rattle.std.specs.Prelude.{◌≡◌, ◌≢◌, ◌++◌, ◌+◌, ◌≤◌, ℕ, [], OnOk, OnErr, IfOk, IsTrue, map, length, Some, None, is_some};
 ghost use Rattle.std.specs.HashMap.{get};
-ghost use Rattle.lsys_forest.specs.Nodes.{Node};
-ghost use Rattle.lsys_forest.specs.Groves.{Grove, In, now_of, rest_of, changes_in, kept_in, IsLive, IsSound, Spends};
-ghost use Rattle.lsys_forest.specs.Rows.{kids_in};
+ghost use Rattle.lsys_forest.specs.Groves.{In, now_of, rest_of, changes_in, kept_in, IsLive, IsSound};
 ghost use Rattle.lsys_brood.specs.declared.number.Number.{Number};
-ghost use Rattle.lsys_brood.specs.Matches.{same_number, has_number, AreApart, number_of, node_numbered, nodes_where, match_of};
-ghost use Rattle.lsys_brood.specs.Children.{numbers_of, AreWhole, IsFew, need_at, HasRoomFor, SpendsNeed, AreRenewed, TellsOf};
+ghost use Rattle.lsys_brood.specs.Matches.{same_number, AreApart, number_of};
+ghost use Rattle.lsys_brood.specs.Children.{numbers_of, AreWhole, IsFew};
+ghost use Rattle.lsys_brood.specs.Families.{HasRoomToRenew, IsNeedFor, MatchesKids, RenewsKids, SpendsNeedOf, TellsIfDone};
+ghost use Rattle.lsys_brood.specs.Numbered.{HoldsKids, SetsNumber, TakesOut, kids_remaining, node_if_left, nodes_found};
 
 use crate::changes::Changes;
 use crate::child::Child;
@@ -62,8 +62,7 @@ impl Brood {
     ) -> Result<(), AllocError>
         requires lives { IsLive forest.now parent }
         requires apart { AreApart (numbers_of wanted.now) }
-        ensures matched { OnOk result ((n : Node A) → now_of forest.now parent ≡ Some n
-            → self.new ≡ match_of (now_of forest.now) n.kids (numbers_of wanted.now)) }
+        ensures matched { OnOk result (MatchesKids forest.now parent wanted.now self.new) }
         ensures sound { OnOk result (IsSound forest.now.root (changes_in forest.now) (now_of forest.now)) }
     {
         let kids = forest.children(parent);
@@ -93,10 +92,8 @@ impl Brood {
         requires lives { IsLive forest.now parent }
         requires apart { AreApart (numbers_of wanted.now) }
         requires few { length wanted.now ≤ 4096 }
-        ensures matched { OnOk result ((n : Node A) → now_of forest.now parent ≡ Some n
-            → self.new ≡ match_of (now_of forest.now) n.kids (numbers_of wanted.now)) }
-        ensures need { IfOk result (λ need. (n : Node A) → now_of forest.now parent ≡ Some n
-            → need ≡ need_at (now_of forest.now) n.kids wanted.now) }
+        ensures matched { OnOk result (MatchesKids forest.now parent wanted.now self.new) }
+        ensures need { IfOk result (IsNeedFor forest.now parent wanted.now) }
         ensures few { IfOk result (λ need. IsFew need) }
     {
         self.find(forest, parent, wanted)?;
@@ -120,19 +117,14 @@ impl Brood {
         requires lives { IsLive forest.old parent }
         requires apart { AreApart (numbers_of wanted.now) }
         requires whole { AreWhole wanted.now }
-        requires room { (n : Node A) → now_of forest.old parent ≡ Some n
-            → HasRoomFor forest.old changes.old (need_at (now_of forest.old) n.kids wanted.now) }
-        ensures children { OnOk result ((n : Node A) → now_of forest.old parent ≡ Some n
-            → AreRenewed (now_of forest.old) (now_of forest.new) parent n wanted.now (kids_in (now_of forest.new parent))) }
-        ensures told { OnOk result ((n : Node A) → now_of forest.old parent ≡ Some n
-            → TellsOf (now_of forest.old) (now_of forest.new) parent n wanted.now
-            (kids_in (now_of forest.new parent)) changes.old changes.new) }
+        requires room { HasRoomToRenew forest.old parent wanted.now changes.old }
+        ensures children { OnOk result (RenewsKids forest.old forest.new parent wanted.now) }
+        ensures told { TellsIfDone forest.old forest.new parent wanted.now changes.old changes.new result }
         ensures rest { rest_of forest.new ≡ rest_of forest.old }
         ensures root { forest.new.root ≡ forest.old.root }
         ensures sound { OnOk result (IsSound forest.old.root (changes_in forest.old) (now_of forest.old)) }
         ensures kept { kept_in forest.new ≡ kept_in forest.old }
-        ensures spends { OnOk result ((n : Node A) → now_of forest.old parent ≡ Some n
-            → SpendsNeed forest.old forest.new (need_at (now_of forest.old) n.kids wanted.now)) }
+        ensures spends { OnOk result (SpendsNeedOf forest.old forest.new parent wanted.now) }
         ensures refused { OnErr result ((forest.new ≡ forest.old) × (changes.new ≡ changes.old)) }
     {
         self.find(forest, parent, wanted)?;
@@ -215,8 +207,7 @@ fn enter(
     number: Number,
     node: NodeId,
 ) -> Result<(), AllocError>
-    ensures { OnOk result ((q : Number) → get same_number nodes.new q
-        ≡ cond (same_number number q) (Some node) (get same_number nodes.old q)) }
+    ensures { OnOk result (SetsNumber nodes.old nodes.new number (Some node)) }
 {
     nodes.insert(number, node)?;
     Ok(())
@@ -225,8 +216,7 @@ fn enter(
 /// Takes out the node that has this number, if there is one. Where there are no nodes it looks at nothing.
 fn take(nodes: &mut HashMap<Number, NodeId>, number: Number) -> Option<NodeId>
     ensures taken { result ≡ get same_number nodes.old number }
-    ensures left { (q : Number) → get same_number nodes.new q
-        ≡ cond (same_number number q) None (get same_number nodes.old q) }
+    ensures left { SetsNumber nodes.old nodes.new number None }
 {
     if nodes.is_empty() {
         return None;
@@ -248,8 +238,7 @@ fn enter_all<A: Kept>(
     kids: &[NodeId],
 ) -> Result<(), AllocError>
     requires kids { (k : ℕ) → In k kids.now → IsLive forest.now k × (k ≢ forest.now.root) }
-    ensures { OnOk result ((q : Number) → get same_number nodes.new q
-        ≡ node_numbered (now_of forest.now) kids.now q) }
+    ensures { OnOk result (HoldsKids nodes.new forest.now kids.now) }
 {
     if !nodes.is_empty() {
         nodes.clear();
@@ -267,10 +256,8 @@ fn take_all(
     found: &mut Vec<Option<NodeId>>,
 ) -> Result<(), AllocError>
     requires apart { AreApart (numbers_of wanted.now) }
-    ensures found { OnOk result (found.new.items
-        ≡ map (get same_number nodes.old) (numbers_of wanted.now)) }
-    ensures left { OnOk result ((q : Number) → get same_number nodes.new q
-        ≡ cond (has_number (numbers_of wanted.now) q) None (get same_number nodes.old q)) }
+    ensures found { OnOk result (found.new.items ≡ nodes_found nodes.old wanted.now) }
+    ensures left { OnOk result (TakesOut nodes.old nodes.new (numbers_of wanted.now)) }
 {
     found.clear();
     for child in wanted {
@@ -287,8 +274,7 @@ fn find_left<A: Kept>(
     gone: &mut Vec<NodeId>,
 ) -> Result<(), AllocError>
     requires kids { (k : ℕ) → In k kids.now → IsLive forest.now k × (k ≢ forest.now.root) }
-    ensures { OnOk result (gone.new.items
-        ≡ nodes_where (λ q. is_some (get same_number nodes.now q)) (now_of forest.now) kids.now) }
+    ensures { OnOk result (gone.new.items ≡ kids_remaining nodes.now forest.now kids.now) }
 {
     gone.clear();
     for kid in kids {
@@ -313,8 +299,7 @@ fn put_left(
     node: NodeId,
     gone: &mut Vec<NodeId>,
 ) -> Result<(), AllocError>
-    ensures { OnOk result (gone.new.items
-        ≡ gone.old.items ++ cond (is_some (get same_number nodes.now number)) (node ∷ []) []) }
+    ensures { OnOk result (gone.new.items ≡ gone.old.items ++ node_if_left nodes.now number node) }
 {
     if has(nodes, number) {
         gone.push(node)?;

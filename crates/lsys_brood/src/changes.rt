@@ -1,6 +1,7 @@
 //! What is told of the step from one level to the next.
 ghost use Rattle.std.specs.Prelude.{◌≡◌, ◌+◌, ◌<◌, ◌≤◌, ◌++◌, ◌∷◌, [], length, OnOk, vec_len, vec_capacity};
 ghost use Rattle.lsys_brood.specs.Children.{Told};
+ghost use Rattle.lsys_brood.specs.Telling.{nothing_told, with_added, with_changed, with_gone, with_touched};
 
 use lsys_forest::NodeId;
 use std::alloc::{AllocError, Global};
@@ -36,7 +37,7 @@ impl Model for Changes {
 impl Changes {
     /// Nothing is told. It takes no memory.
     pub fn new(alloc: Global) -> Changes
-        ensures { result ≡ record { touched = []; changed = []; added = []; gone = []; room = result.room } }
+        ensures { result ≡ nothing_told result.room }
     {
         Changes {
             touched: Vec::new(alloc),
@@ -64,7 +65,7 @@ impl Changes {
 
     /// Tells nothing any more, and keeps the room. It takes no memory.
     pub fn clear(&mut self)
-        ensures lists { self.new ≡ record { touched = []; changed = []; added = []; gone = []; room = self.new.room } }
+        ensures lists { self.new ≡ nothing_told self.new.room }
         ensures keeps { self.old.room ≤ self.new.room }
     {
         self.touched.clear();
@@ -104,7 +105,7 @@ impl Changes {
     /// Tells that a node has other children. It takes no memory.
     pub(crate) fn tell_touched(&mut self, node: NodeId)
         requires { 0 < self.old.room }
-        ensures told { self.new ≡ record self.old { touched = self.old.touched ++ node ∷ []; room = self.new.room } }
+        ensures told { self.new ≡ with_touched self.old node self.new.room }
         ensures room { self.old.room ≤ self.new.room + 1 }
     {
         push(&mut self.touched, node);
@@ -113,7 +114,7 @@ impl Changes {
     /// Tells that a node has another symbol. It takes no memory.
     pub(crate) fn tell_changed(&mut self, node: NodeId)
         requires { 0 < self.old.room }
-        ensures told { self.new ≡ record self.old { changed = self.old.changed ++ node ∷ []; room = self.new.room } }
+        ensures told { self.new ≡ with_changed self.old node self.new.room }
         ensures room { self.old.room ≤ self.new.room + 1 }
     {
         push(&mut self.changed, node);
@@ -122,7 +123,7 @@ impl Changes {
     /// Tells that a node is new. It takes no memory.
     pub(crate) fn tell_added(&mut self, node: NodeId)
         requires { 0 < self.old.room }
-        ensures told { self.new ≡ record self.old { added = self.old.added ++ node ∷ []; room = self.new.room } }
+        ensures told { self.new ≡ with_added self.old node self.new.room }
         ensures room { self.old.room ≤ self.new.room + 1 }
     {
         push(&mut self.added, node);
@@ -131,7 +132,7 @@ impl Changes {
     /// Tells that nodes are children no more. It takes no memory.
     pub fn tell_gone(&mut self, nodes: &[NodeId])
         requires { length nodes.now ≤ self.old.room }
-        ensures told { self.new ≡ record self.old { gone = self.old.gone ++ nodes.now; room = self.new.room } }
+        ensures told { self.new ≡ with_gone self.old nodes.now self.new.room }
         ensures room { self.old.room ≤ self.new.room + length nodes.now }
     {
         match self.gone.extend_from_slice(nodes) {

@@ -1,15 +1,14 @@
 //! The step for one parent.
-ghost use Rattle.std.specs.Prelude.{◌≡◌, ◌≢◌, ◌↔◌, ◌+◌, ◌≤◌, ◌<◌, ◌&&◌, ℕ, Bool, List, [], ◌∷◌, ◌++◌, length, IsTrue, true, false, Some, None, vec_capacity};
+ghost use Rattle.std.specs.Prelude.{◌≡◌, ◌≢◌, ◌+◌, ◌≤◌, ◌<◌, [], ◌∷◌, ◌++◌, length, IsTrue, true, false, Some, None, vec_capacity};
 ghost use Rattle.lsys_module.specs.declared.symbol.Symbol.TheVariants.{Cut};
 ghost use Rattle.lsys_level.specs.Places.{seen_in, params_in};
-ghost use Rattle.lsys_level.specs.Views.{seen_of};
 ghost use Rattle.lsys_region.specs.Rooms.{list_room};
-ghost use Rattle.lsys_forest.specs.Nodes.{Node, with_seen, with_key, with_kids};
-ghost use Rattle.lsys_forest.specs.Groves.{now_of, rest_of, changes_in, IsLive, IsSound, spare_params, spare_kids, kept_in, AreKids, Sets, Spends};
-ghost use Rattle.lsys_forest.specs.Rows.{kids_in};
+ghost use Rattle.lsys_forest.specs.Nodes.{with_seen, with_key, with_kids};
+ghost use Rattle.lsys_forest.specs.Groves.{now_of, rest_of, changes_in, IsLive, IsSound, spare_params, spare_kids, kept_in, AreKids, Spends};
 ghost use Rattle.lsys_brood.specs.Matches.{AreApart};
-ghost use Rattle.lsys_brood.specs.Children.{bracket_kind, numbers_of, AreWhole, need_at, HasRoomFor, SpendsNeed, AreRenewed, TellsOf};
-ghost use Rattle.lsys_brood.specs.Steps.{IsPlaced, TellsNodes, ArePlaced, CanPlace, CanPlaceAll, KindsTell, IsMatched};
+ghost use Rattle.lsys_brood.specs.Children.{numbers_of, AreWhole};
+ghost use Rattle.lsys_brood.specs.Steps.{IsPlaced, HavePlaces, CanPlace, CanPlaceAll, KindsTell};
+ghost use Rattle.lsys_brood.specs.Families.{AreMatchedKids, FlagFallsByKind, HasRoomToRenew, RenewsKids, SetsBy, SpendsNeedOf, TellsEach, TellsKids, TellsKind, TellsNode, TellsOtherKids};
 
 use crate::changes::{Changes, push};
 use crate::child::Child;
@@ -21,8 +20,7 @@ use lsys_module::Symbol;
 fn has_kind<A: Kept>(forest: &Forest<A>, node: NodeId, symbol: &Symbol) -> bool
     requires lives { IsLive forest.now node }
     requires whole { symbol.now ≢ Cut }
-    ensures { (n : Node A) → now_of forest.now node ≡ Some n
-        → IsTrue result ↔ (bracket_kind (seen_in symbol.now) ≡ bracket_kind n.seen) }
+    ensures { TellsKind forest.now node symbol.now result }
 {
     match forest.symbol(node) {
         Sight::Push => matches!(symbol, Symbol::Push),
@@ -41,7 +39,7 @@ fn bear<A: Kept>(
     requires { CanPlace forest.old parent child.now None changes.old }
     ensures placed { IsPlaced forest.old forest.new parent child.now None result }
     ensures kept { kept_in forest.new ≡ kept_in forest.old }
-    ensures told { TellsNodes (now_of forest.old) (now_of forest.new) (result ∷ []) changes.old changes.new }
+    ensures told { TellsNode forest.old forest.new result changes.old changes.new }
 {
     let node = forest.add(
         parent,
@@ -67,11 +65,10 @@ fn renew_symbol<A: Kept>(
     requires notes { 0 < forest.old.spare_notes }
     requires room { list_room (params_in symbol.now) ≤ spare_params forest.old }
     requires told { 0 < changes.old.room }
-    ensures set { (n : Node A) → now_of forest.old node ≡ Some n
-        → Sets forest.old forest.new node (with_seen (seen_in symbol.now) n) }
+    ensures set { SetsBy forest.old forest.new node (with_seen (seen_in symbol.now)) }
     ensures spends { Spends forest.old forest.new 0 (list_room (params_in symbol.now)) 0 1 }
     ensures kept { kept_in forest.new ≡ kept_in forest.old }
-    ensures told { TellsNodes (now_of forest.old) (now_of forest.new) (node ∷ []) changes.old changes.new }
+    ensures told { TellsNode forest.old forest.new node changes.old changes.new }
 {
     if !forest.has_symbol(node, symbol) {
         forest.set_symbol(node, symbol);
@@ -84,8 +81,7 @@ fn renew_key<A: Kept>(forest: &mut Forest<A>, node: NodeId, key: u64)
     requires lives { IsLive forest.old node }
     requires other { node ≢ forest.old.root }
     requires notes { 0 < forest.old.spare_notes }
-    ensures set { (n : Node A) → now_of forest.old node ≡ Some n
-        → Sets forest.old forest.new node (with_key key n) }
+    ensures set { SetsBy forest.old forest.new node (with_key key) }
     ensures spends { Spends forest.old forest.new 0 0 0 1 }
     ensures kept { kept_in forest.new ≡ kept_in forest.old }
 {
@@ -106,7 +102,7 @@ fn renew<A: Kept>(
     requires { CanPlace forest.old parent child.now (Some node) changes.old }
     ensures placed { IsPlaced forest.old forest.new parent child.now (Some node) node }
     ensures kept { kept_in forest.new ≡ kept_in forest.old }
-    ensures told { TellsNodes (now_of forest.old) (now_of forest.new) (node ∷ []) changes.old changes.new }
+    ensures told { TellsNode forest.old forest.new node changes.old changes.new }
     ensures kind { KindsTell (now_of forest.old) (now_of forest.new) (node ∷ []) result }
 {
     let keeps_kind = has_kind(forest, node, &child.symbol);
@@ -128,9 +124,8 @@ fn place<A: Kept>(
     requires { CanPlace forest.old parent child.now found changes.old }
     ensures placed { IsPlaced forest.old forest.new parent child.now found result }
     ensures kept { kept_in forest.new ≡ kept_in forest.old }
-    ensures told { TellsNodes (now_of forest.old) (now_of forest.new) (result ∷ []) changes.old changes.new }
-    ensures kinds { (kind : Bool) × (keep_kinds.new ≡ (keep_kinds.old && kind))
-        × KindsTell (now_of forest.old) (now_of forest.new) (result ∷ []) kind }
+    ensures told { TellsNode forest.old forest.new result changes.old changes.new }
+    ensures kinds { FlagFallsByKind forest.old forest.new result keep_kinds.old keep_kinds.new }
     ensures other { result ≢ parent }
 {
     match found {
@@ -154,7 +149,9 @@ fn place_all<A: Kept>(
     requires room { CanPlaceAll forest.old parent wanted.now found.now changes.old }
     requires empty { nodes.old.items ≡ [] }
     requires places { length wanted.now ≤ vec_capacity nodes.old }
-    ensures placed { ArePlaced forest.old forest.new parent wanted.now found.now nodes.new.items changes.old changes.new result }
+    ensures placed { HavePlaces forest.old forest.new parent wanted.now found.now nodes.new.items }
+    ensures told { TellsEach forest.old forest.new nodes.new.items changes.old changes.new }
+    ensures kinds { KindsTell (now_of forest.old) (now_of forest.new) nodes.new.items result }
     ensures kept { kept_in forest.new ≡ kept_in forest.old }
 {
     let mut keep_kinds = true;
@@ -178,12 +175,10 @@ fn set_list<A: Kept>(forest: &mut Forest<A>, node: NodeId, kids: &[NodeId]) -> b
     requires kids { AreKids (now_of forest.old) forest.old.root node kids.now }
     requires notes { 0 < forest.old.spare_notes }
     requires room { list_room kids.now ≤ spare_kids forest.old }
-    ensures set { (n : Node A) → now_of forest.old node ≡ Some n
-        → Sets forest.old forest.new node (with_kids kids.now n) }
+    ensures set { SetsBy forest.old forest.new node (with_kids kids.now) }
     ensures spends { Spends forest.old forest.new 0 0 (list_room kids.now) 1 }
     ensures kept { kept_in forest.new ≡ kept_in forest.old }
-    ensures had { (n : Node A) → now_of forest.old node ≡ Some n
-        → (IsTrue result → n.kids ≢ kids.now) × (result ≡ false → n.kids ≡ kids.now) }
+    ensures had { TellsOtherKids forest.old node kids.now result }
 {
     if forest.children(node) == kids {
         return false;
@@ -205,24 +200,18 @@ pub(crate) fn renew_all<A: Kept>(
 )
     requires sound { IsSound forest.old.root (changes_in forest.old) (now_of forest.old) }
     requires lives { IsLive forest.old parent }
-    requires matched { (n : Node A) → now_of forest.old parent ≡ Some n
-        → IsMatched (now_of forest.old) n.kids wanted.now found.now gone.now }
+    requires matched { AreMatchedKids forest.old parent wanted.now found.now gone.now }
     requires apart { AreApart (numbers_of wanted.now) }
     requires whole { AreWhole wanted.now }
-    requires room { (n : Node A) → now_of forest.old parent ≡ Some n
-        → HasRoomFor forest.old changes.old (need_at (now_of forest.old) n.kids wanted.now) }
+    requires room { HasRoomToRenew forest.old parent wanted.now changes.old }
     requires empty { nodes.old.items ≡ [] }
     requires places { length wanted.now ≤ vec_capacity nodes.old }
-    ensures children { (n : Node A) → now_of forest.old parent ≡ Some n
-        → AreRenewed (now_of forest.old) (now_of forest.new) parent n wanted.now (kids_in (now_of forest.new parent)) }
-    ensures told { (n : Node A) → now_of forest.old parent ≡ Some n
-        → TellsOf (now_of forest.old) (now_of forest.new) parent n wanted.now
-        (kids_in (now_of forest.new parent)) changes.old changes.new }
+    ensures children { RenewsKids forest.old forest.new parent wanted.now }
+    ensures told { TellsKids forest.old forest.new parent wanted.now changes.old changes.new }
     ensures rest { rest_of forest.new ≡ rest_of forest.old }
     ensures root { forest.new.root ≡ forest.old.root }
     ensures kept { kept_in forest.new ≡ kept_in forest.old }
-    ensures spends { (n : Node A) → now_of forest.old parent ≡ Some n
-        → SpendsNeed forest.old forest.new (need_at (now_of forest.old) n.kids wanted.now) }
+    ensures spends { SpendsNeedOf forest.old forest.new parent wanted.now }
 {
     let keep_kinds = place_all(forest, parent, wanted, found, nodes, changes);
     let had_others = set_list(forest, parent, nodes);

@@ -13,7 +13,7 @@ use Rattle.lsys_spec.specs.Meaning.{any_weight, key_for}
 use Rattle.lsys_spec.specs.Equalities.{same_number, same_option, same_tree, same_pattern, same_patterns, same_template, same_all, same_body}
 use Rattle.lsys_spec.specs.Standings.{free, same_filter}
 use Rattle.lsys_change.specs.Groups.{module_rules, has_same_rules}
-use Rattle.lsys_keys.proofs.Keys.{key_back}
+use Rattle.lsys_change.proofs.Keys.{key_back}
 use Rattle.lsys_candidates.specs.Others.{are_alike, bodies_of}
 
 -- 1. groups with the same bodies have weights both or neither

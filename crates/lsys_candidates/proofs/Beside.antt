@@ -4,9 +4,9 @@ use Rattle.std.specs.Prelude.{MatchOption}
 use Rattle.lsys_level.specs.Spots.{level_at}
 use Rattle.lsys_forest.specs.Groves.{Grove}
 use Rattle.lsys_forest.specs.Rows.{complete_levels, level_of_node, place_of_node}
-use Rattle.lsys_seats.specs.Neighbours.{neighbours_in, IsOnLevel}
-use Rattle.lsys_seats.proofs.SeatLemmas.{told_other, told_own}
-use Rattle.lsys_seats.proofs.LevelLemmas.{left_is, left_none, right_is, right_none}
+use Rattle.lsys_kept.specs.Neighbours.{neighbours_in, IsOnLevel}
+use Rattle.lsys_kept.proofs.SeatLemmas.{told_other, told_own}
+use Rattle.lsys_kept.proofs.LevelLemmas.{left_is, left_none, right_is, right_none}
 
 module _ {A : Type 0} where
   pub left_told : (f : Grove A) (k : ℕ) (o : Option ℕ) → IsOnLevel f k

@@ -13,11 +13,11 @@ use Rattle.lsys_forest.proofs.RowLemmas.{level_depth, In_append, In_left, In_rig
 use Rattle.lsys_kept.specs.Lineages.{names}
 use Rattle.lsys_kept.specs.Levels.{HasRead, tags_read}
 use Rattle.lsys_change.specs.Groups.{has_same_rules}
-use Rattle.lsys_seats.specs.declared.seat.Seat.{Seat}
-use Rattle.lsys_seats.specs.Neighbours.{Neighbours, neighbours_on, neighbours_in}
-use Rattle.lsys_seats.specs.Seats.{neighbours_at}
-use Rattle.lsys_seats.specs.Standings.{seen_at}
-use Rattle.lsys_seats.proofs.LevelLemmas.{got_in, place_in, get_index, index_less, symbol_at}
+use Rattle.lsys_kept.specs.declared.seat.Seat.{Seat}
+use Rattle.lsys_kept.specs.Neighbours.{Neighbours, neighbours_on, neighbours_in}
+use Rattle.lsys_kept.specs.Seats.{neighbours_at}
+use Rattle.lsys_kept.specs.Standings.{seen_at}
+use Rattle.lsys_kept.proofs.LevelLemmas.{got_in, place_in, get_index, index_less, symbol_at}
 use Rattle.lsys_candidates.specs.Found.{LevelChanges}
 use Rattle.lsys_candidates.specs.Finds.{IsTurned, IsBeside}
 use Rattle.lsys_candidates.specs.Found.{IsOther, IsFound, IsAmong, SteppingNodes}

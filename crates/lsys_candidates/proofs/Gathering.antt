@@ -5,15 +5,15 @@ use Rattle.std.specs.Prelude.{◌==◌, slice_get}
 use Rattle.std.proofs.lemmas.Bool.{cases_eq, eqb-true}
 use Rattle.lsys_spec.proofs.Tests.{one_of, or_first, or_later}
 use Rattle.std.proofs.lemmas.Option.{none-some, same_Some}
-use Rattle.lsys_seats.proofs.LevelLemmas.{got_in}
-use Rattle.lsys_seats.proofs.SeamLemmas.{in_taken_next}
+use Rattle.lsys_kept.proofs.LevelLemmas.{got_in}
+use Rattle.lsys_kept.proofs.SeamLemmas.{in_taken_next}
 use Rattle.lsys_reads.specs.Rows.{has}
 use Rattle.lsys_reads.specs.Relations.{Relations, is_settled}
 use Rattle.lsys_forest.specs.Groves.{Grove, In}
 use Rattle.lsys_forest.proofs.RowLemmas.{In_append, In_left, In_right, apart_append}
-use Rattle.lsys_seats.specs.declared.seat.Seat.{Seat}
-use Rattle.lsys_seats.specs.Neighbours.{neighbours_in}
-use Rattle.lsys_seats.specs.Seats.{is_marked, SameSeats, KeepsSeats}
+use Rattle.lsys_kept.specs.declared.seat.Seat.{Seat}
+use Rattle.lsys_kept.specs.Neighbours.{neighbours_in}
+use Rattle.lsys_kept.specs.Seats.{is_marked, SameSeats, KeepsSeats}
 use Rattle.lsys_candidates.specs.Finds.{Gathers, IsTurned, IsNear, IsBeside, IsReader}
 
 pub marked_or_not : (b : Bool) → (b ≡ true) ⊎ (b ≡ false)

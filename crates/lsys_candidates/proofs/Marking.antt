@@ -3,8 +3,8 @@ use Rattle.std.proofs.Common.{◌≡◌, ◌⊎◌, ◌↔◌, ℕ, true, false,
 use Rattle.lsys_reads.specs.Relations.{Relations}
 use Rattle.lsys_forest.specs.Groves.{Grove, In, AreApart}
 use Rattle.lsys_forest.proofs.RowLemmas.{In_append, In_left, In_right}
-use Rattle.lsys_seats.specs.declared.seat.Seat.{Seat}
-use Rattle.lsys_seats.specs.Seats.{is_marked, SameSeats}
+use Rattle.lsys_kept.specs.declared.seat.Seat.{Seat}
+use Rattle.lsys_kept.specs.Seats.{is_marked, SameSeats}
 use Rattle.lsys_candidates.specs.Found.{LevelChanges}
 use Rattle.lsys_candidates.specs.Finds.{Gathers, AllMarked, IsTurned, IsBeside, IsReader}
 use Rattle.lsys_candidates.specs.Found.{IsOther, IsFound}

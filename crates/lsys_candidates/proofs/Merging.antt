@@ -7,9 +7,9 @@ use Rattle.std.proofs.lemmas.Option.{none-some, same_Some}
 use Rattle.lsys_forest.specs.Groves.{Grove, In, AreApart}
 use Rattle.lsys_forest.specs.Rows.{level_of_node, place_of_node, IsAtSpot}
 use Rattle.lsys_forest.proofs.RowLemmas.{In_append, In_left, In_right}
-use Rattle.lsys_seats.specs.Neighbours.{level_around}
-use Rattle.lsys_seats.proofs.LevelLemmas.{there_is, got_in}
-use Rattle.lsys_seats.proofs.SeamLemmas.{in_taken_next, in_all_taken, none_taken}
+use Rattle.lsys_kept.specs.Neighbours.{level_around}
+use Rattle.lsys_kept.proofs.LevelLemmas.{there_is, got_in}
+use Rattle.lsys_kept.proofs.SeamLemmas.{in_taken_next, in_all_taken, none_taken}
 use Rattle.lsys_candidates.specs.Asks.{AreOnOneLevel, ArePlaced, AreInOrder}
 use Rattle.lsys_candidates.specs.Merges.{AreMergeable, AreMerged}
 use Rattle.lsys_candidates.proofs.Gathering.{taken_own, taken_more}

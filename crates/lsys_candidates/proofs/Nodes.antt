@@ -18,9 +18,9 @@ use Rattle.lsys_walks.specs.Noted.{Noted, Compared, Ignored, Out, Branched, entr
 use Rattle.lsys_walks.specs.Agreements.{HasTag}
 use Rattle.lsys_match.specs.Kept.{Kept}
 use Rattle.lsys_match.specs.Stored.{trace_in, answer_in}
-use Rattle.lsys_recall.specs.Recalled.{IsAnswerThere}
-use Rattle.lsys_recall.specs.Traced.{IsTraceAt}
-use Rattle.lsys_recall.proofs.Standing.{stands_there}
+use Rattle.lsys_match.specs.Recalled.{IsAnswerThere}
+use Rattle.lsys_match.specs.Traced.{IsTraceAt}
+use Rattle.lsys_match.proofs.Standing.{stands_there}
 use Rattle.lsys_change.specs.Passes.{module_question, is_candidate_at}
 use Rattle.lsys_change.specs.Groups.{has_same_rules}
 use Rattle.lsys_change.proofs.Found.{old_candidate, all_read}
@@ -32,8 +32,8 @@ use Rattle.lsys_forest.proofs.RowLemmas.{In_append}
 use Rattle.lsys_kept.specs.Lineages.{names}
 use Rattle.lsys_kept.specs.Levels.{IsRight, IsKeptFor, IsAnswered, answer_at, tags_named, tags_read, HasRead}
 use Rattle.lsys_kept.specs.Meant.{level_to, IsCandidate}
-use Rattle.lsys_seats.specs.Standings.{seen_at}
-use Rattle.lsys_seats.proofs.LevelLemmas.{named_by_number, lineage_named, symbol_at, got_in, place_in}
+use Rattle.lsys_kept.specs.Standings.{seen_at}
+use Rattle.lsys_kept.proofs.LevelLemmas.{named_by_number, lineage_named, symbol_at, got_in, place_in}
 use Rattle.lsys_candidates.specs.Repairs.{Repair, now, rest, root, were, are, SteppingSpots}
 use Rattle.lsys_candidates.specs.Candidates.{StandsStill, MayDiffer, was_last, moved, read_moved, other_rules, IsCandidateNode}
 use Rattle.lsys_candidates.proofs.AskedThere.{asked_there}

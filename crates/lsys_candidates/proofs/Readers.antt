@@ -8,16 +8,16 @@ use Rattle.lsys_spec.specs.Questions.{Question}
 use Rattle.lsys_level.specs.Spots.{Seen, Push, Pop, Module, Spotted}
 use Rattle.lsys_match.specs.Kept.{Kept}
 use Rattle.lsys_match.specs.Stored.{trace_in, answer_in}
-use Rattle.lsys_recall.specs.Recalled.{IsAnswerThere}
-use Rattle.lsys_recall.specs.Traced.{IsTraceAt}
-use Rattle.lsys_recall.proofs.Standing.{stands_there}
+use Rattle.lsys_match.specs.Recalled.{IsAnswerThere}
+use Rattle.lsys_match.specs.Traced.{IsTraceAt}
+use Rattle.lsys_match.proofs.Standing.{stands_there}
 use Rattle.lsys_forest.specs.Nodes.{Node}
 use Rattle.lsys_forest.specs.Groves.{In, IsSound, changes_in}
 use Rattle.lsys_forest.specs.Rows.{spot_in, level_nodes, level_spots}
 use Rattle.lsys_forest.proofs.RowLemmas.{level_depth}
 use Rattle.lsys_kept.specs.Levels.{IsRight, IsAnswered, answer_at, tags_read, HasRead}
-use Rattle.lsys_seats.specs.Standings.{seen_at}
-use Rattle.lsys_seats.proofs.LevelLemmas.{got_in}
+use Rattle.lsys_kept.specs.Standings.{seen_at}
+use Rattle.lsys_kept.proofs.LevelLemmas.{got_in}
 use Rattle.lsys_candidates.specs.Repairs.{Repair, rest, root, were}
 use Rattle.lsys_candidates.specs.Found.{IsRightAnswer, AreAnswersRight}
 use Rattle.lsys_candidates.proofs.Nodes.{kept_for, some_kept, tags_in, tag_is}

@@ -19,11 +19,11 @@ use Rattle.lsys_forest.proofs.RowLemmas.{level_depth}
 use Rattle.lsys_match.specs.Kept.{Kept}
 use Rattle.lsys_kept.specs.Lineages.{kin_of, kins, names}
 use Rattle.lsys_kept.specs.Meant.{meant, meant_to}
-use Rattle.lsys_seats.specs.Standings.{seating_of, AreOldAndNew, StandsAsBefore}
-use Rattle.lsys_seats.specs.Neighbours.{neighbours_on}
-use Rattle.lsys_seats.proofs.LevelLemmas.{named_by_number}
-use Rattle.lsys_seats.proofs.LawLemmas.{among, still_tell, same_seat}
-use Rattle.lsys_seats.proofs.LookLemmas.{in_back}
+use Rattle.lsys_kept.specs.Standings.{seating_of, AreOldAndNew, StandsAsBefore}
+use Rattle.lsys_kept.specs.Neighbours.{neighbours_on}
+use Rattle.lsys_kept.proofs.LevelLemmas.{named_by_number}
+use Rattle.lsys_kept.proofs.LawLemmas.{among, still_tell, same_seat}
+use Rattle.lsys_kept.proofs.LookLemmas.{in_back}
 use Rattle.lsys_candidates.specs.Repairs.{Repair, now, rest, root, were, are, SteppingSpots}
 use Rattle.lsys_candidates.specs.Candidates.{StandsStill}
 

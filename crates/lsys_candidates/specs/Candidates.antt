@@ -6,8 +6,8 @@ use Rattle.lsys_spec.specs.Levels.{ModuleValue}
 use Rattle.lsys_level.specs.Spots.{Module}
 use Rattle.lsys_change.specs.Groups.{has_same_rules}
 use Rattle.lsys_forest.specs.Nodes.{Nodes}
-use Rattle.lsys_seats.specs.Neighbours.{neighbours_on}
-use Rattle.lsys_seats.specs.Standings.{seen_at, StandsAsBefore}
+use Rattle.lsys_kept.specs.Neighbours.{neighbours_on}
+use Rattle.lsys_kept.specs.Standings.{seen_at, StandsAsBefore}
 use Rattle.lsys_kept.specs.Lineages.{names}
 use Rattle.lsys_kept.specs.Levels.{HasRead}
 use Rattle.lsys_candidates.specs.Repairs.{Repair, now, rest, were, are}

@@ -1,5 +1,7 @@
 -- What is known of a level before its nodes are found, and which are.
-use Rattle.std.specs.Prelude.{◌≡◌, ◌<◌, ◌⊎◌, ◌↔◌, ℕ, true, false, List, ◌++◌, Some, slice_get}
+use Rattle.std.specs.Prelude.{◌≡◌, ◌<◌, ◌⊎◌, ◌↔◌, ℕ, true, false, List, ◌++◌, Some, slice_get, Vec}
+use Rattle.std.specs.declared.alloc.Global.{Global}
+use Rattle.lsys_syntax.specs.Calls.{Lent}
 use Rattle.lsys_spec.specs.Levels.{ModuleValue}
 use Rattle.lsys_level.specs.Spots.{Module}
 use Rattle.lsys_reads.specs.Relations.{Relations, is_settled}
@@ -9,10 +11,10 @@ use Rattle.lsys_forest.specs.Rows.{level_nodes}
 use Rattle.lsys_match.specs.Kept.{Kept}
 use Rattle.lsys_kept.specs.Lineages.{names}
 use Rattle.lsys_kept.specs.Levels.{HasRead, AnsweredAt, answer_at}
-use Rattle.lsys_seats.specs.declared.seat.Seat.{Seat}
-use Rattle.lsys_seats.specs.Neighbours.{neighbours_in, IsOnLevel}
-use Rattle.lsys_seats.specs.Seats.{neighbours_at, HasSeat}
-use Rattle.lsys_seats.specs.Standings.{seen_at, AreSeated}
+use Rattle.lsys_kept.specs.declared.seat.Seat.{Seat}
+use Rattle.lsys_kept.specs.Neighbours.{neighbours_in, IsOnLevel}
+use Rattle.lsys_kept.specs.Seats.{neighbours_at, HasSeat}
+use Rattle.lsys_kept.specs.Standings.{seen_at, AreSeated}
 use Rattle.lsys_candidates.specs.Finds.{IsTurned, IsBeside, IsReader}
 use Rattle.lsys_candidates.specs.Repairs.{Repair, now, rest, root, were, are, SteppingSpots}
 
@@ -51,6 +53,12 @@ pub record IsFound {A : Type 0} (f : Grove A) (seats : List Seat) (reads : Relat
   pub turned_once : AreApart turned
   pub beside_once : AreApart beside
   pub readers_once : AreApart readers
+
+-- likewise where a call is lent seats and the lists of what was found
+abbrev pub FindsIn : {A : Type 0} → Grove A → Lent (List Seat) → Relations → LevelChanges
+    → Lent (Vec ℕ Global) → Lent (Vec ℕ Global) → Lent (Vec ℕ Global) → Type 0
+FindsIn f seats reads c turned beside readers =
+    IsFound f seats.entry.now reads c turned.exit.now.items beside.exit.now.items readers.exit.now.items
 
 -- one that came or was found
 abbrev pub IsAmong : LevelChanges → List ℕ → List ℕ → List ℕ → ℕ → Type 0

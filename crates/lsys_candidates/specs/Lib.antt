@@ -7,3 +7,6 @@ pub mod Merges
 pub mod Others
 pub mod Known
 pub mod Listed
+pub mod FoundCandidates
+pub mod AddedNodes
+pub mod Gatherings

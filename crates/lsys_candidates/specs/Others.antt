@@ -3,16 +3,17 @@ use Rattle.std.specs.Prelude.{◌≡◌, ◌==◌, ◌&&◌, ◌||◌, not, ℕ,
 use Rattle.lsys_syntax.specs.Strings.{ModuleName}
 use Rattle.lsys_syntax.specs.Rules.{Production}
 use Rattle.lsys_spec.specs.Systems.{System}
-use Rattle.lsys_spec.specs.Bodies.{Body, body_of, group, filter}
+use Rattle.lsys_spec.specs.Bodies.{Body, body_of, group, filter, table_at}
 use Rattle.lsys_spec.specs.Levels.{ModuleValue}
 use Rattle.lsys_spec.specs.Meaning.{any_weight}
 use Rattle.lsys_spec.specs.Equalities.{same_all, same_body}
 use Rattle.lsys_spec.specs.Standings.{free, same_filter}
+use Rattle.lsys_module.specs.Views.{module_name}
 use Rattle.lsys_level.specs.Spots.{Module}
 use Rattle.lsys_bodies.specs.declared.rule.Rule.{Rule}
-use Rattle.lsys_bodies.specs.Views.{rule_of}
+use Rattle.lsys_bodies.specs.Views.{rule_of, production_of}
 use Rattle.lsys_forest.specs.Nodes.{Nodes}
-use Rattle.lsys_seats.specs.Standings.{seen_at}
+use Rattle.lsys_kept.specs.Standings.{seen_at}
 
 -- The modules of this name and so many parameters have the same bodies on level t; the seed is the same, if one has a weight; and
 -- contexts pass over the same modules, if one has a context. No lineage is looked at.
@@ -29,6 +30,10 @@ pub record RulesOf : Type 0 where
   pub old : System
   pub new : System
   pub level : ℕ
+
+-- whether the modules of the name with this text and so many parameters have the rules that they had
+abbrev pub alike_named : RulesOf → List ℕ → ℕ → Bool
+alike_named r name arity = are_alike r.old r.new r.level (module_name name) arity
 
 -- no modules have other rules, whatever their name and however many parameters they have
 abbrev pub AreAllAlike : RulesOf → Type 0
@@ -50,6 +55,14 @@ is_alike_for r table p =
 abbrev pub all_alike_for : RulesOf → List ℕ → List Production → Bool
 all_alike_for r table [] = true
 all_alike_for r table (p ∷ ps) = is_alike_for r table p && all_alike_for r table ps
+
+-- and of those of a system, in its table of the level
+abbrev pub all_alike_in : RulesOf → System → Bool
+all_alike_in r s = all_alike_for r (table_at s.schedule r.level) s.rules
+
+-- the productions that rules stand for
+abbrev pub productions : List Rule → List Production
+productions rules = map production_of rules
 
 -- what the bodies of rules mean
 abbrev pub bodies_of : List Rule → List Body

@@ -4,7 +4,7 @@ ghost use Rattle.lsys_spec.specs.Bodies.{group};
 ghost use Rattle.lsys_module.specs.Views.{module_name};
 ghost use Rattle.lsys_forest.specs.Groves.{In, IsLive, now_of};
 ghost use Rattle.lsys_candidates.specs.Candidates.{AsksOn};
-ghost use Rattle.lsys_candidates.specs.Asks.{AddsOf};
+ghost use Rattle.lsys_candidates.specs.AddedNodes.{AddsAsked};
 
 use lsys_forest::{Forest, Kept, NodeId};
 use lsys_level::Sight;
@@ -25,8 +25,7 @@ pub fn add_asked<A: Kept>(
     asked: &mut Vec<NodeId>,
 ) -> Result<(), AllocError>
     requires { (k : ℕ) → In k nodes.now → IsLive forest.now k }
-    ensures { OnOk result (AddsOf (AsksOn system.now level (now_of forest.now)) nodes.now
-        asked.old.items asked.new.items) }
+    ensures { OnOk result (AddsAsked system.now level forest.now nodes.now asked.old asked.new) }
 {
     for node in nodes {
         add_if_asked(system, level, forest, *node, asked)?;
@@ -43,8 +42,7 @@ fn add_if_asked<A: Kept>(
     asked: &mut Vec<NodeId>,
 ) -> Result<(), AllocError>
     requires { IsLive forest.now node }
-    ensures { OnOk result (AddsOf (AsksOn system.now level (now_of forest.now)) (node ∷ [])
-        asked.old.items asked.new.items) }
+    ensures { OnOk result (AddsAsked system.now level forest.now (node ∷ []) asked.old asked.new) }
 {
     if !has_question(system, level, forest, node) {
         return Ok(());

@@ -1,13 +1,13 @@
 //! Who may have another question than before.
-ghost use Rattle.std.specs.Prelude.{◌≡◌, ◌⊎◌, ℕ, OnOk, true, false, []};
-ghost use Rattle.lsys_forest.specs.Groves.{In};
-ghost use Rattle.lsys_seats.specs.Seats.{is_marked, SameSeats, SameMarks, KeepsSeats};
-ghost use Rattle.lsys_candidates.specs.Found.{IsOther, AreOnLevels, HasRoom, IsFound};
+ghost use Rattle.std.specs.Prelude.{◌≡◌, ℕ, OnOk, false, []};
+ghost use Rattle.lsys_kept.specs.Seats.{is_marked, SameSeats, KeepsSeats};
+ghost use Rattle.lsys_candidates.specs.Found.{AreOnLevels, HasRoom, FindsIn};
+ghost use Rattle.lsys_candidates.specs.Gatherings.{MarksOnlyFound};
 
 use crate::finds::{find_beside, find_readers, find_turned, mark_all};
 use lsys_forest::{Forest, Kept, NodeId};
+use lsys_kept::Seats;
 use lsys_reads::Reads;
-use lsys_seats::Seats;
 use std::alloc::AllocError;
 use std::marker::Model;
 
@@ -58,8 +58,7 @@ pub fn find_nodes<A: Kept>(
     requires levels { AreOnLevels forest.now changes.now }
     requires room { HasRoom forest.now reads.now changes.now seats.old }
     requires clear { (k : ℕ) → is_marked seats.old k ≡ false }
-    ensures found { OnOk result (IsFound forest.now seats.old reads.now changes.now
-        turned.new.items beside.new.items readers.new.items) }
+    ensures found { OnOk result (FindsIn forest.now seats reads.now changes.now turned beside readers) }
     ensures clear { (k : ℕ) → is_marked seats.new k ≡ false }
     ensures seats { SameSeats seats.old seats.new }
     ensures keeps { KeepsSeats seats.old seats.new }
@@ -92,10 +91,8 @@ fn find_marked<A: Kept>(
     requires turned { turned.old.items ≡ [] }
     requires beside { beside.old.items ≡ [] }
     requires readers { readers.old.items ≡ [] }
-    ensures found { OnOk result (IsFound forest.now seats.old reads.now changes.now
-        turned.new.items beside.new.items readers.new.items) }
-    ensures marked { (k : ℕ) → is_marked seats.new k ≡ true → IsOther changes.now k
-        ⊎ In k turned.new.items ⊎ In k beside.new.items ⊎ In k readers.new.items }
+    ensures found { OnOk result (FindsIn forest.now seats reads.now changes.now turned beside readers) }
+    ensures marked { MarksOnlyFound changes.now seats.new turned.new beside.new readers.new }
     ensures seats { SameSeats seats.old seats.new }
     ensures keeps { KeepsSeats seats.old seats.new }
 {

@@ -1,12 +1,10 @@
 //! Whether contexts pass over the same modules.
-ghost use Rattle.std.specs.Prelude.{◌≡◌, ◌++◌, ◌∷◌, List, [], IfOk, OnOk, map};
-ghost use Rattle.lsys_syntax.specs.Strings.{ModuleName};
-ghost use Rattle.lsys_spec.specs.Meaning.{ignores};
-ghost use Rattle.lsys_spec.specs.Standings.{all_ignored, same_filter, same_kind};
+ghost use Rattle.std.specs.Prelude.{◌≡◌, IfOk, OnOk, map};
+ghost use Rattle.lsys_spec.specs.Standings.{same_filter, same_kind};
 ghost use Rattle.lsys_module.specs.Views.{module_name};
 ghost use Rattle.lsys_reading.specs.Commands.{list_kind_of};
 ghost use Rattle.lsys_bodies.specs.Filters.{filter_of};
-ghost use Rattle.lsys_candidates.specs.Listed.{HasNames};
+ghost use Rattle.lsys_candidates.specs.Listed.{HasNames, are_all_listed, AddsName, TellsListed};
 
 use lsys_bodies::Filter;
 use lsys_rules::ListKind;
@@ -48,8 +46,7 @@ fn is_same_kind(one: ListKind, two: ListKind) -> bool
 
 /// Each of the first names is among the others.
 fn are_listed(alloc: Global, names: &[Name], others: &[Name]) -> Result<bool, AllocError>
-    ensures { IfOk result (λ all. all
-        ≡ all_ignored (map module_name names.now) (map module_name others.now)) }
+    ensures { IfOk result (λ all. all ≡ are_all_listed names.now others.now) }
 {
     let listed = listed_names(alloc, others)?;
     Ok(names.iter().all(|name| is_listed(&listed, *name)))
@@ -68,8 +65,7 @@ fn listed_names(alloc: Global, names: &[Name]) -> Result<HashSet<Name>, AllocErr
 
 /// Adds a name to a set of names.
 fn list_name(listed: &mut HashSet<Name>, name: Name) -> Result<(), AllocError>
-    ensures { OnOk result ((names : List ModuleName) → HasNames listed.old names
-        → HasNames listed.new (names ++ module_name name ∷ [])) }
+    ensures { OnOk result (AddsName listed.old listed.new name) }
 {
     name.law_of_names();
     listed.insert(name)?;
@@ -78,8 +74,7 @@ fn list_name(listed: &mut HashSet<Name>, name: Name) -> Result<(), AllocError>
 
 /// Whether a name is in a set of names.
 fn is_listed(listed: &HashSet<Name>, name: Name) -> bool
-    ensures { (names : List ModuleName) → HasNames listed.now names
-        → result ≡ ignores names (module_name name) }
+    ensures { TellsListed listed.now name result }
 {
     name.law_of_names();
     listed.contains(&name)

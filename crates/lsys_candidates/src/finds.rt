@@ -1,22 +1,22 @@
 //! Nodes of a level that are found, each once.
-ghost use Rattle.std.specs.Prelude.{◌≡◌, ◌↔◌, ◌⊎◌, ◌∷◌, [], ℕ, OnOk, true, Some};
-ghost use Rattle.lsys_forest.specs.Groves.{In, IsLive};
-ghost use Rattle.lsys_seats.specs.Neighbours.{IsOnLevel, neighbours_in};
-ghost use Rattle.lsys_seats.specs.Seats.{is_marked, HasSeat, SameSeats, KeepsSeats};
-ghost use Rattle.lsys_candidates.specs.Finds.{Gathers, AllMarked, IsTurned, IsBeside, IsReader, IsNear};
+ghost use Rattle.std.specs.Prelude.{◌≡◌, ◌∷◌, [], ℕ, OnOk};
+ghost use Rattle.lsys_forest.specs.Groves.{In};
+ghost use Rattle.lsys_kept.specs.Neighbours.{IsOnLevel, neighbours_in};
+ghost use Rattle.lsys_kept.specs.Seats.{HasSeat, SameSeats, KeepsSeats};
+ghost use Rattle.lsys_candidates.specs.Finds.{AllMarked, IsTurned, IsBeside, IsReader, IsNear};
+ghost use Rattle.lsys_candidates.specs.Gatherings.{MarksThese, GathersTurned, GathersBeside, GathersNear, GathersReaders};
 
 use crate::gather::{gather, gather_any, gather_tags};
 use lsys_forest::{Forest, Kept, NodeId};
+use lsys_kept::Seats;
 use lsys_level::{LevelView, Tag};
 use lsys_reads::Reads;
-use lsys_seats::Seats;
 use std::alloc::AllocError;
 
 /// Marks these nodes. It takes no memory.
 pub(crate) fn mark_all(seats: &mut Seats, nodes: &[NodeId])
     requires room { (k : ℕ) → In k nodes.now → HasSeat seats.old k }
-    ensures marks { (k : ℕ) → (is_marked seats.new k ≡ true)
-        ↔ (In k nodes.now ⊎ (is_marked seats.old k ≡ true)) }
+    ensures marks { MarksThese nodes.now seats.old seats.new }
     ensures seats { SameSeats seats.old seats.new }
     ensures keeps { KeepsSeats seats.old seats.new }
 {
@@ -39,8 +39,7 @@ pub(crate) fn find_turned<A: Kept>(
 ) -> Result<(), AllocError>
     requires levels { (k : ℕ) → In k looked.now → IsOnLevel forest.now k }
     requires room { (k : ℕ) → In k looked.now → HasSeat seats.old k }
-    ensures gathers { Gathers (IsTurned forest.now seats.old looked.now)
-        seats.old seats.new turned.old.items turned.new.items }
+    ensures gathers { GathersTurned forest.now looked.now seats.old seats.new turned.old turned.new }
     ensures all { OnOk result (AllMarked (IsTurned forest.now seats.old looked.now) seats.new) }
 {
     for node in looked {
@@ -58,8 +57,7 @@ fn gather_turned<A: Kept>(
 ) -> Result<(), AllocError>
     requires level { IsOnLevel forest.now node }
     requires room { HasSeat seats.old node }
-    ensures gathers { Gathers (IsTurned forest.now seats.old (node ∷ []))
-        seats.old seats.new turned.old.items turned.new.items }
+    ensures gathers { GathersTurned forest.now (node ∷ []) seats.old seats.new turned.old turned.new }
     ensures all { OnOk result (AllMarked (IsTurned forest.now seats.old (node ∷ [])) seats.new) }
 {
     if seats.is_seated(forest, node) {
@@ -82,8 +80,7 @@ pub(crate) fn find_beside<A: Kept>(
 ) -> Result<(), AllocError>
     requires levels { (k : ℕ) → In k changed.now → IsOnLevel forest.now k }
     requires room { (k : ℕ) → IsBeside forest.now changed.now k → HasSeat seats.old k }
-    ensures gathers { Gathers (IsBeside forest.now changed.now)
-        seats.old seats.new beside.old.items beside.new.items }
+    ensures gathers { GathersBeside forest.now changed.now seats.old seats.new beside.old beside.new }
     ensures all { OnOk result (AllMarked (IsBeside forest.now changed.now) seats.new) }
 {
     for node in changed {
@@ -101,8 +98,7 @@ fn gather_near<A: Kept>(
 ) -> Result<(), AllocError>
     requires level { IsOnLevel forest.now node }
     requires room { (k : ℕ) → IsNear forest.now node k → HasSeat seats.old k }
-    ensures gathers { Gathers (IsNear forest.now node)
-        seats.old seats.new beside.old.items beside.new.items }
+    ensures gathers { GathersNear forest.now node seats.old seats.new beside.old beside.new }
     ensures all { OnOk result (AllMarked (IsNear forest.now node) seats.new) }
 {
     gather(seats, node, beside)?;
@@ -140,8 +136,7 @@ pub(crate) fn find_readers(
     readers: &mut Vec<NodeId>,
 ) -> Result<(), AllocError>
     requires room { (k : ℕ) → IsReader reads.now seen.now k → HasSeat seats.old k }
-    ensures gathers { Gathers (IsReader reads.now seen.now)
-        seats.old seats.new readers.old.items readers.new.items }
+    ensures gathers { GathersReaders reads.now seen.now seats.old seats.new readers.old readers.new }
     ensures all { OnOk result (AllMarked (IsReader reads.now seen.now) seats.new) }
 {
     for node in seen {

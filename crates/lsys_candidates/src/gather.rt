@@ -1,12 +1,13 @@
 //! Nodes, each once.
 ghost use Rattle.std.specs.Prelude.{◌≡◌, ℕ, OnOk, true, Some};
 ghost use Rattle.lsys_forest.specs.Groves.{In};
-ghost use Rattle.lsys_seats.specs.Seats.{is_marked, HasSeat};
-ghost use Rattle.lsys_candidates.specs.Finds.{Gathers, AllMarked};
+ghost use Rattle.lsys_kept.specs.Seats.{is_marked, HasSeat};
+ghost use Rattle.lsys_candidates.specs.Finds.{AllMarked};
+ghost use Rattle.lsys_candidates.specs.Gatherings.{GathersInto};
 
 use lsys_forest::NodeId;
+use lsys_kept::Seats;
 use lsys_level::Tag;
-use lsys_seats::Seats;
 use std::alloc::AllocError;
 
 /// Marks a node, and adds it if it had no mark.
@@ -16,7 +17,7 @@ pub(crate) fn gather(
     nodes: &mut Vec<NodeId>,
 ) -> Result<(), AllocError>
     requires { HasSeat seats.old node }
-    ensures gathers { Gathers (λ k. k ≡ node) seats.old seats.new nodes.old.items nodes.new.items }
+    ensures gathers { GathersInto (λ k. k ≡ node) seats.old seats.new nodes.old nodes.new }
     ensures marked { OnOk result (is_marked seats.new node ≡ true) }
 {
     nodes.reserve(1)?;
@@ -36,8 +37,7 @@ pub(crate) fn gather_any(
     nodes: &mut Vec<NodeId>,
 ) -> Result<(), AllocError>
     requires { (k : ℕ) → node ≡ Some k → HasSeat seats.old k }
-    ensures gathers { Gathers (λ k. node ≡ Some k) seats.old seats.new
-        nodes.old.items nodes.new.items }
+    ensures gathers { GathersInto (λ k. node ≡ Some k) seats.old seats.new nodes.old nodes.new }
     ensures marked { OnOk result ((k : ℕ) → node ≡ Some k → is_marked seats.new k ≡ true) }
 {
     match node {
@@ -59,8 +59,7 @@ pub fn gather_nodes(
     nodes: &mut Vec<NodeId>,
 ) -> Result<(), AllocError>
     requires room { (k : ℕ) → In k these.now → HasSeat seats.old k }
-    ensures gathers { Gathers (λ k. In k these.now) seats.old seats.new
-        nodes.old.items nodes.new.items }
+    ensures gathers { GathersInto (λ k. In k these.now) seats.old seats.new nodes.old nodes.new }
     ensures all { OnOk result (AllMarked (λ k. In k these.now) seats.new) }
 {
     for node in these {
@@ -80,8 +79,7 @@ pub fn gather_tags(
     nodes: &mut Vec<NodeId>,
 ) -> Result<(), AllocError>
     requires room { (k : ℕ) → In k tags.now → HasSeat seats.old k }
-    ensures gathers { Gathers (λ k. In k tags.now) seats.old seats.new
-        nodes.old.items nodes.new.items }
+    ensures gathers { GathersInto (λ k. In k tags.now) seats.old seats.new nodes.old nodes.new }
     ensures all { OnOk result (AllMarked (λ k. In k tags.now) seats.new) }
 {
     for tag in tags {

@@ -1,9 +1,8 @@
 //! Nodes of a level in order.
-ghost use Rattle.std.specs.Prelude.{◌≡◌, ◌<◌, ◌≤◌, ◌↔◌, ◌⊎◌, ℕ, IsTrue, IfOk, OnOk, OnErr, Some, [], length, slice_get};
+ghost use Rattle.std.specs.Prelude.{◌≡◌, ◌<◌, ◌↔◌, ◌⊎◌, ℕ, IsTrue, IfOk, OnOk, [], length};
 ghost use Rattle.lsys_forest.specs.Groves.{In, AreApart};
-ghost use Rattle.lsys_forest.specs.Rows.{place_of_node};
 ghost use Rattle.lsys_candidates.specs.Asks.{AreOnOneLevel, AreInOrder};
-ghost use Rattle.lsys_candidates.specs.Merges.{AreMergeable, AreMerged};
+ghost use Rattle.lsys_candidates.specs.Merges.{AreMergeable, AreMergedIn, IsBeforeNext};
 
 use lsys_forest::{Forest, Kept, NodeId};
 use std::alloc::{AllocError, Global};
@@ -114,13 +113,9 @@ fn add_before<A: Kept>(
 ) -> Result<usize, AllocError>
     requires both { AreMergeable forest.now left.now right.now }
     requires within { i < length left.now }
-    requires merged { AreMerged (place_of_node forest.now) left.now right.now i start
-        merged.old.items }
-    ensures merged { IfOk result (λ j.
-        AreMerged (place_of_node forest.now) left.now right.now i j merged.new.items) }
-    ensures next { IfOk result (λ j. (k x : ℕ) → slice_get left.now i ≡ Some k
-        → slice_get right.now j ≡ Some x
-        → place_of_node forest.now k < place_of_node forest.now x) }
+    requires merged { AreMergedIn forest.now left.now right.now i start merged.old.items }
+    ensures merged { IfOk result (λ j. AreMergedIn forest.now left.now right.now i j merged.new.items) }
+    ensures next { IfOk result (λ j. IsBeforeNext forest.now left.now right.now i j) }
 {
     let node = left[i];
     let mut j = start;

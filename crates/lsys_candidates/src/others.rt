@@ -1,13 +1,12 @@
 //! Whether a level has other rules than before.
-ghost use Rattle.std.specs.Prelude.{◌≡◌, ◌↔◌, ◌∷◌, [], ℕ, false, IsTrue, IfOk, OnOk, map};
+ghost use Rattle.std.specs.Prelude.{◌≡◌, ◌↔◌, ◌∷◌, [], ℕ, false, IsTrue, IfOk, OnOk};
 ghost use Rattle.lsys_spec.specs.Bodies.{group, table_at};
 ghost use Rattle.lsys_spec.specs.Meaning.{any_weight};
 ghost use Rattle.lsys_module.specs.Views.{module_name};
 ghost use Rattle.lsys_bodies.specs.Views.{production_of};
-ghost use Rattle.lsys_candidates.specs.Others.{IsOtherwise, AreAllAlike, HasOther};
-ghost use Rattle.lsys_candidates.specs.Others.{are_alike, bodies_of, is_alike_for, all_alike_for};
+ghost use Rattle.lsys_candidates.specs.Others.{IsOtherwise, AreAllAlike, HasOther, alike_named, all_alike_in, productions, bodies_of, is_alike_for, all_alike_for};
 ghost use Rattle.lsys_forest.specs.Groves.{In, IsLive, now_of};
-ghost use Rattle.lsys_candidates.specs.Asks.{AddsOf};
+ghost use Rattle.lsys_candidates.specs.AddedNodes.{AddsOthers};
 
 use crate::filters::have_same_names;
 use crate::module_key::ModuleKey;
@@ -98,8 +97,7 @@ impl<'a> LevelRules<'a> {
     ///
     /// Want of memory.
     pub fn are_alike(&mut self, name: Name, arity: usize) -> Result<bool, AllocError>
-        ensures alike { IfOk result (λ alike. alike
-            ≡ are_alike self.old.old self.old.new self.old.level (module_name name) arity) }
+        ensures alike { IfOk result (λ alike. alike ≡ alike_named self.old name arity) }
         ensures same { self.new ≡ self.old }
     {
         let key = ModuleKey { name, arity };
@@ -129,8 +127,7 @@ impl<'a> LevelRules<'a> {
 
     /// Whether the modules that a system has rules for, in the table of the level, have the rules that they had.
     fn are_alike_in(&mut self, system: &System) -> Result<bool, AllocError>
-        ensures alike { IfOk result (λ all. all ≡ all_alike_for self.old
-            (table_at system.now.schedule self.old.level) system.now.rules) }
+        ensures alike { IfOk result (λ all. all ≡ all_alike_in self.old system.now) }
         ensures same { self.new ≡ self.old }
     {
         let table = table_of(system, self.level);
@@ -139,8 +136,7 @@ impl<'a> LevelRules<'a> {
 
     /// Whether such modules have the rules that they had, by a look at the rules.
     fn compare(&self, name: Name, arity: usize) -> bool
-        ensures { result
-            ≡ are_alike self.now.old self.now.new self.now.level (module_name name) arity }
+        ensures { result ≡ alike_named self.now name arity }
     {
         self.are.has_group_of(&self.was, name, arity)
             && (!is_weighted(self.new_system, self.level, name, arity) || self.is_same_seed)
@@ -154,8 +150,7 @@ fn all_alike_for(
     table: Word,
     these: &[Rule],
 ) -> Result<bool, AllocError>
-    ensures alike { IfOk result (λ all. all
-        ≡ all_alike_for rules.old table (map production_of these.now)) }
+    ensures alike { IfOk result (λ all. all ≡ all_alike_for rules.old table (productions these.now)) }
     ensures same { rules.new ≡ rules.old }
 {
     for rule in these {
@@ -168,8 +163,7 @@ fn all_alike_for(
 
 /// The same of one rule.
 fn is_alike_for(rules: &mut LevelRules<'_>, table: Word, rule: &Rule) -> Result<bool, AllocError>
-    ensures alike { IfOk result (λ alike. alike
-        ≡ is_alike_for rules.old table (production_of rule.now)) }
+    ensures alike { IfOk result (λ same. same ≡ is_alike_for rules.old table (production_of rule.now)) }
     ensures same { rules.new ≡ rules.old }
 {
     if rule.table != table {
@@ -200,8 +194,7 @@ pub fn add_others<A: Kept>(
     others: &mut Vec<NodeId>,
 ) -> Result<(), AllocError>
     requires { (k : ℕ) → In k nodes.now → IsLive forest.now k }
-    ensures adds { OnOk result (AddsOf (IsOtherwise rules.old (now_of forest.now)) nodes.now
-        others.old.items others.new.items) }
+    ensures adds { OnOk result (AddsOthers rules.old forest.now nodes.now others.old others.new) }
     ensures same { rules.new ≡ rules.old }
 {
     for node in nodes {
@@ -218,8 +211,7 @@ fn add_if_other<A: Kept>(
     others: &mut Vec<NodeId>,
 ) -> Result<(), AllocError>
     requires { IsLive forest.now node }
-    ensures adds { OnOk result (AddsOf (IsOtherwise rules.old (now_of forest.now)) (node ∷ [])
-        others.old.items others.new.items) }
+    ensures adds { OnOk result (AddsOthers rules.old forest.now (node ∷ []) others.old others.new) }
     ensures same { rules.new ≡ rules.old }
 {
     if !is_otherwise(rules, forest, node)? {
@@ -236,8 +228,7 @@ fn is_otherwise<A: Kept>(
     node: NodeId,
 ) -> Result<bool, AllocError>
     requires { IsLive forest.now node }
-    ensures other { IfOk result (λ other. IsTrue other
-        ↔ IsOtherwise rules.old (now_of forest.now) node) }
+    ensures other { IfOk result (λ is. IsTrue is ↔ IsOtherwise rules.old (now_of forest.now) node) }
     ensures same { rules.new ≡ rules.old }
 {
     match forest.symbol(node) {

@@ -13,3 +13,4 @@ pub mod Lineages
 pub mod Untouched
 pub mod Families
 pub mod Still
+pub mod Keys

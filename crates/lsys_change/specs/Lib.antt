@@ -7,3 +7,11 @@ pub mod Seams
 pub mod Mates
 pub mod Seats
 pub mod Nodes
+pub mod FoundCandidates
+pub mod GrownLevels
+pub mod AddedVisits
+pub mod KeptMates
+pub mod NodeNames
+pub mod Neighbours
+pub mod StillNodes
+pub mod Seeds

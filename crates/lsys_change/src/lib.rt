@@ -10,3 +10,6 @@ pub mod mates;
 pub mod nodes;
 pub mod seams;
 pub mod seats;
+mod seeds;
+
+pub use seeds::law_of_seeds;

@@ -1,9 +1,12 @@
 -- A search for the first unknown name, piece by piece.
 use Rattle.std.specs.Prelude.{◌≡◌, ℕ, ◌+◌, false, Option, Some, Result, Ok, Err, List, ◌++◌, length, map, IfOk}
+use Rattle.lsys_syntax.specs.Tokens.{Kind}
 use Rattle.lsys_syntax.specs.Pieces.{Piece, kinds_of}
 use Rattle.lsys_syntax.specs.Checks.{unknown_place}
 use Rattle.lsys_text.specs.Tokens.{name_of}
+use Rattle.lsys_reading.specs.declared.span.Span.{Span}
 use Rattle.lsys_checks.specs.Formals.{Numbered}
+use Rattle.lsys_checks.specs.SpanPieces.{marked_span}
 use Rattle.lsys_checks.specs.declared.formals.FormalNames.{FormalNames}
 
 -- how many tokens
@@ -20,3 +23,7 @@ pub record Searches (x : FormalNames) (n : ℕ) (ps : List Piece) (result : Resu
   pub place : IfOk result (λ m. m ≡ n + count ps)
   pub same : (fs : List (List ℕ)) → Numbered fs x.numbers → (qs : List Piece)
       → unknown_place (map name_of fs) false n (ps ++ qs) ≡ found_or result (λ m. unknown_place (map name_of fs) false m qs)
+
+-- the same of the expression at a span, where there is one, behind any mark
+abbrev pub SearchesSpan : FormalNames → ℕ → List Kind → Option Span → Result ℕ ℕ → Type 0
+SearchesSpan x n ks span result = (mark : Kind) → Searches x n (marked_span mark ks span) result

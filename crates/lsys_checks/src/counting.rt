@@ -1,9 +1,10 @@
 //! Counting the tokens, symbols and parameters of a rule.
-ghost use Rattle.std.specs.Prelude.{◌≡◌, ◌≤◌, ◌<◌, ◌+◌, ℕ, List, [], ◌∷◌, ◌++◌, length, map, IfOk};
+ghost use Rattle.std.specs.Prelude.{◌≡◌, ◌≤◌, ◌<◌, ◌+◌, [], ◌∷◌, IfOk};
 ghost use Rattle.lsys_syntax.specs.Limits.{most_params, most_rule_tokens, most_successor_symbols};
 ghost use Rattle.lsys_syntax.specs.Tokens.{Kind};
-ghost use Rattle.lsys_syntax.specs.Pieces.{a_param, a_symbol, expr_begins, expr_ends, note, token};
-ghost use Rattle.lsys_checks.specs.Counting.{Counting, CountsOn, IsOneMore, counts_with, inside_passes, next_passes};
+ghost use Rattle.lsys_syntax.specs.Pieces.{a_param, a_symbol, note, token};
+ghost use Rattle.lsys_checks.specs.Counting.{Counting, IsOneMore, counts_with, inside_passes, next_passes, counts_of};
+ghost use Rattle.lsys_checks.specs.CountedParts.{CountsExpression, CountsParam};
 
 use crate::counter::Counter;
 
@@ -66,8 +67,7 @@ impl Counter {
 
     // A parameter of so many tokens behind a mark.
     pub(crate) fn param(self, size: usize) -> Result<Counter, usize>
-        ensures { (k : Kind) (ks : List Kind) → length ks ≡ size
-            → Counting self (token k ∷ note a_param ∷ note expr_begins ∷ (map token ks ++ note expr_ends ∷ [])) result }
+        ensures { CountsParam self size result }
     {
         let marked = self.mark()?;
         marked.tokens_inside(marked.params + 1, size)
@@ -75,8 +75,7 @@ impl Counter {
 
     // An expression of so many tokens that is no parameter.
     pub(crate) fn expression(self, size: usize) -> Result<Counter, usize>
-        ensures { (ks : List Kind) → length ks ≡ size
-            → Counting self (note expr_begins ∷ (map token ks ++ note expr_ends ∷ [])) result }
+        ensures { CountsExpression (counts_of self) size result }
     {
         self.tokens_inside(self.params, size)
     }
@@ -84,8 +83,7 @@ impl Counter {
     // The tokens of an expression, where so many parameters are counted.
     fn tokens_inside(self, params: usize, size: usize) -> Result<Counter, usize>
         requires few { params ≤ most_params + 1 }
-        ensures { (ks : List Kind) → length ks ≡ size
-            → CountsOn (counts_with self self.symbols params) (note expr_begins ∷ (map token ks ++ note expr_ends ∷ [])) result }
+        ensures { CountsExpression (counts_with self self.symbols params) size result }
     {
         let mut tokens = self.tokens;
         for done in 0..size {

@@ -1,16 +1,11 @@
 //! The formals of a rule, and the first one that stands earlier.
-ghost use Rattle.std.specs.Prelude.{◌≡◌, ◌≤◌, ℕ, List, ◌+◌, [], ◌∷◌, length, map, not, IfOk, OnOk, Some, None, if◌then◌else◌};
+ghost use Rattle.std.specs.Prelude.{◌≡◌, ◌≤◌, ◌+◌, [], ◌∷◌, IfOk, OnOk, Some, None, if◌then◌else◌};
 ghost use Rattle.lsys_syntax.specs.Tokens.{Kind};
-ghost use Rattle.lsys_syntax.specs.Pieces.{kinds_of, token, note, a_symbol};
-ghost use Rattle.lsys_syntax.specs.Strings.{params_pieces, more_pieces, symbol_pieces, string_pieces};
-ghost use Rattle.lsys_syntax.specs.Rules.{formal_pieces, left_pieces, right_pieces};
-ghost use Rattle.lsys_syntax.specs.Checks.{is_unknown, rule_repeated};
-ghost use Rattle.lsys_text.specs.Tokens.{kind_of, name_of};
-ghost use Rattle.lsys_reading.specs.Patterns.{pattern_of};
-ghost use Rattle.lsys_reading.specs.Heads.{patterns_of};
-ghost use Rattle.lsys_reading.specs.RuleLines.{rule_at};
-ghost use Rattle.lsys_reading.specs.declared.rule.RuleLine.{RuleLine};
-ghost use Rattle.lsys_checks.specs.Formals.{Adds, AreFormalNames, first_of, formals_in, head_pieces, marked_formal, symbol_formals, Numbered};
+ghost use Rattle.lsys_checks.specs.Formals.{Adds, AreFormalNames, first_of, head_pieces, marked_formal};
+ghost use Rattle.lsys_checks.specs.FoundNames.{IsFirstRepeated, TellsUnknown};
+ghost use Rattle.lsys_checks.specs.PatternPieces.{formals_pieces, left_context, more_formals_pieces, pattern_pieces, pieces_in, right_context};
+ghost use Rattle.lsys_checks.specs.Searching.{count};
+ghost use Rattle.lsys_checks.specs.AddedFormals.{AddsModule, AddsPattern, AddsPatterns};
 
 use lsys_reading::{Pattern, RuleLine};
 use lsys_text::{Name, TokenKind};
@@ -35,7 +30,7 @@ impl FormalNames {
     ///
     /// Want of memory.
     pub fn of(alloc: Global, from: usize, rule: &RuleLine) -> Result<FormalNames, AllocError>
-        requires room { from + length (kinds_of (head_pieces rule.now)) ≤ usize.MAX }
+        requires room { from + count (head_pieces rule.now) ≤ usize.MAX }
         ensures { IfOk result (λ names. AreFormalNames from rule.now names) }
     {
         let mut names = FormalNames {
@@ -51,15 +46,14 @@ impl FormalNames {
 
     /// The token of the first formal of the rule's contexts and predecessor that stands earlier among them.
     pub fn repeated(&self) -> Option<usize>
-        ensures { (from : ℕ) (rule : RuleLine) (kinds : List Kind) → AreFormalNames from rule self.now
-            → result ≡ rule_repeated from (rule_at kinds rule) }
+        ensures { IsFirstRepeated self.now result }
     {
         self.repeated
     }
 
     // Whether a token is a name and no formal.
     pub(crate) fn is_unknown(&self, kind: TokenKind) -> bool
-        ensures { (fs : List (List ℕ)) → Numbered fs self.now.numbers → result ≡ is_unknown (map name_of fs) (kind_of kind) }
+        ensures { TellsUnknown self.now kind result }
     {
         match kind {
             TokenKind::Name(name) => !self.numbers.contains(&name.number()),
@@ -69,8 +63,8 @@ impl FormalNames {
 
     // Those of a left context.
     fn add_left(&mut self, symbols: &[Pattern]) -> Result<(), AllocError>
-        requires room { self.old.end + length (kinds_of (left_pieces (patterns_of symbols.now))) ≤ usize.MAX }
-        ensures { OnOk result (Adds self.old (formals_in symbols.now) (left_pieces (patterns_of symbols.now)) self.new) }
+        requires room { self.old.end + count (left_context symbols.now) ≤ usize.MAX }
+        ensures { OnOk result (AddsPatterns self.old symbols.now (left_context symbols.now) self.new) }
     {
         if symbols.is_empty() {
             return Ok(());
@@ -82,8 +76,8 @@ impl FormalNames {
 
     // Those of a right context.
     fn add_right(&mut self, symbols: &[Pattern]) -> Result<(), AllocError>
-        requires room { self.old.end + length (kinds_of (right_pieces (patterns_of symbols.now))) ≤ usize.MAX }
-        ensures { OnOk result (Adds self.old (formals_in symbols.now) (right_pieces (patterns_of symbols.now)) self.new) }
+        requires room { self.old.end + count (right_context symbols.now) ≤ usize.MAX }
+        ensures { OnOk result (AddsPatterns self.old symbols.now (right_context symbols.now) self.new) }
     {
         if symbols.is_empty() {
             return Ok(());
@@ -93,8 +87,8 @@ impl FormalNames {
     }
 
     fn add_patterns(&mut self, symbols: &[Pattern]) -> Result<(), AllocError>
-        requires room { self.old.end + length (kinds_of (string_pieces formal_pieces (patterns_of symbols.now))) ≤ usize.MAX }
-        ensures { OnOk result (Adds self.old (formals_in symbols.now) (string_pieces formal_pieces (patterns_of symbols.now)) self.new) }
+        requires room { self.old.end + count (pieces_in symbols.now) ≤ usize.MAX }
+        ensures { OnOk result (AddsPatterns self.old symbols.now (pieces_in symbols.now) self.new) }
     {
         for symbol in symbols {
             self.add_pattern(symbol)?;
@@ -103,8 +97,8 @@ impl FormalNames {
     }
 
     fn add_pattern(&mut self, symbol: &Pattern) -> Result<(), AllocError>
-        requires room { self.old.end + length (kinds_of (symbol_pieces formal_pieces (pattern_of symbol.now))) ≤ usize.MAX }
-        ensures { OnOk result (Adds self.old (symbol_formals symbol.now) (symbol_pieces formal_pieces (pattern_of symbol.now)) self.new) }
+        requires room { self.old.end + count (pattern_pieces symbol.now) ≤ usize.MAX }
+        ensures { OnOk result (AddsPattern self.old symbol.now self.new) }
     {
         if let Pattern::Module(module) = symbol {
             return self.add_module(&module.formals);
@@ -115,8 +109,8 @@ impl FormalNames {
 
     // A name, and the formals behind it.
     fn add_module(&mut self, formals: &[Name]) -> Result<(), AllocError>
-        requires room { self.old.end + 1 + length (kinds_of (params_pieces formal_pieces (map name_of formals.now))) ≤ usize.MAX }
-        ensures { (k : Kind) → OnOk result (Adds self.old formals.now (note a_symbol ∷ token k ∷ params_pieces formal_pieces (map name_of formals.now)) self.new) }
+        requires room { self.old.end + 1 + count (formals_pieces formals.now) ≤ usize.MAX }
+        ensures { (k : Kind) → OnOk result (AddsModule self.old k formals.now self.new) }
     {
         self.end += 1;
         if formals.is_empty() {
@@ -129,8 +123,8 @@ impl FormalNames {
 
     // Formals, each behind a mark.
     fn add_formals(&mut self, formals: &[Name]) -> Result<(), AllocError>
-        requires room { self.old.end + length (kinds_of (more_pieces formal_pieces (map name_of formals.now))) ≤ usize.MAX }
-        ensures { OnOk result (Adds self.old formals.now (more_pieces formal_pieces (map name_of formals.now)) self.new) }
+        requires room { self.old.end + count (more_formals_pieces formals.now) ≤ usize.MAX }
+        ensures { OnOk result (Adds self.old formals.now (more_formals_pieces formals.now) self.new) }
     {
         for formal in formals {
             self.add_formal(*formal)?;

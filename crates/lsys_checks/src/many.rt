@@ -1,19 +1,10 @@
 //! The limits of a rule.
-ghost use Rattle.std.specs.Prelude.{◌≡◌, ◌≤◌, ◌+◌, ◌-◌, ◌∷◌, ℕ, List, map};
+ghost use Rattle.std.specs.Prelude.{◌≡◌, ◌≤◌, ◌+◌, ◌-◌};
 ghost use Rattle.lsys_syntax.specs.Limits.{most_rule_tokens};
 ghost use Rattle.lsys_syntax.specs.Tokens.{Kind};
-ghost use Rattle.lsys_syntax.specs.Pieces.{a_symbol, note, token};
-ghost use Rattle.lsys_syntax.specs.Expressions.{expr_pieces};
-ghost use Rattle.lsys_syntax.specs.Strings.{more_pieces, params_pieces, string_pieces, symbol_pieces};
-ghost use Rattle.lsys_syntax.specs.Rules.{formal_pieces, left_pieces, option_pieces, right_pieces, rule_pieces, successor_pieces};
-ghost use Rattle.lsys_syntax.specs.Checks.{rule_counts, rule_many};
-ghost use Rattle.lsys_text.specs.Tokens.{name_of};
-ghost use Rattle.lsys_reading.specs.Patterns.{pattern_of};
-ghost use Rattle.lsys_reading.specs.Heads.{patterns_of};
-ghost use Rattle.lsys_reading.specs.Spans.{AreSpans, ConditionIsSpan, option_at};
-ghost use Rattle.lsys_reading.specs.Images.{ImageIsAt, ImagesAreAt, image_at, images_at, params_at};
-ghost use Rattle.lsys_reading.specs.RuleLines.{IsRuleLine, rule_at};
-ghost use Rattle.lsys_checks.specs.Counting.{Counting, CountsOn};
+ghost use Rattle.lsys_checks.specs.Counting.{Counting};
+ghost use Rattle.lsys_checks.specs.CountedParts.{CountsImage, CountsImages, CountsModule, CountsRule, CountsSpan, CountsSpans, CountsSuccessor, IsFirstPastLimits};
+ghost use Rattle.lsys_checks.specs.PatternPieces.{left_context, module_pieces, more_formals_pieces, pattern_pieces, pieces_in, right_context};
 
 use crate::counter::Counter;
 use lsys_reading::{Image, Pattern, RuleLine, Span};
@@ -31,7 +22,7 @@ const MOST_SUCCESSOR_SYMBOLS: usize = 128;
 /// The first token of the rule at which one of its limits is passed, where its first one has number `from`.
 pub fn first_many(from: usize, rule: &RuleLine) -> Option<usize>
     requires room { from + most_rule_tokens ≤ usize.MAX }
-    ensures { (kinds : List Kind) → IsRuleLine kinds rule.now → result ≡ rule_many from (rule_at kinds rule.now) }
+    ensures { IsFirstPastLimits from rule.now result }
 {
     match count_rule(rule) {
         Ok(_) => None,
@@ -43,7 +34,7 @@ pub fn first_many(from: usize, rule: &RuleLine) -> Option<usize>
 
 // All of a rule.
 fn count_rule(rule: &RuleLine) -> Result<Counter, usize>
-    ensures { (ks : List Kind) → IsRuleLine ks rule.now → CountsOn rule_counts (rule_pieces (rule_at ks rule.now)) result }
+    ensures { CountsRule rule.now result }
 {
     let start = Counter {
         tokens: 0,
@@ -62,7 +53,7 @@ fn count_rule(rule: &RuleLine) -> Result<Counter, usize>
 
 // Formals, each behind a mark.
 fn count_formals(counter: Counter, formals: &[Name]) -> Result<Counter, usize>
-    ensures { Counting counter (more_pieces formal_pieces (map name_of formals.now)) result }
+    ensures { Counting counter (more_formals_pieces formals.now) result }
 {
     let mut counted = counter;
     for _formal in formals {
@@ -73,7 +64,7 @@ fn count_formals(counter: Counter, formals: &[Name]) -> Result<Counter, usize>
 
 // A name, and the formals behind it.
 fn count_module(counter: Counter, formals: &[Name]) -> Result<Counter, usize>
-    ensures { (k : Kind) → Counting counter (note a_symbol ∷ token k ∷ params_pieces formal_pieces (map name_of formals.now)) result }
+    ensures { (k : Kind) → Counting counter (module_pieces k formals.now) result }
 {
     let named = counter.symbol()?;
     if formals.is_empty() {
@@ -84,7 +75,7 @@ fn count_module(counter: Counter, formals: &[Name]) -> Result<Counter, usize>
 }
 
 fn count_pattern(counter: Counter, symbol: &Pattern) -> Result<Counter, usize>
-    ensures { Counting counter (symbol_pieces formal_pieces (pattern_of symbol.now)) result }
+    ensures { Counting counter (pattern_pieces symbol.now) result }
 {
     match symbol {
         Pattern::Module(module) => count_module(counter, &module.formals),
@@ -94,7 +85,7 @@ fn count_pattern(counter: Counter, symbol: &Pattern) -> Result<Counter, usize>
 }
 
 fn count_patterns(counter: Counter, symbols: &[Pattern]) -> Result<Counter, usize>
-    ensures { Counting counter (string_pieces formal_pieces (patterns_of symbols.now)) result }
+    ensures { Counting counter (pieces_in symbols.now) result }
 {
     let mut counted = counter;
     for symbol in symbols {
@@ -112,7 +103,7 @@ fn size(span: Span) -> usize
 
 // An expression behind a mark, where there is one.
 fn count_option(counter: Counter, span: Option<Span>) -> Result<Counter, usize>
-    ensures { (k : Kind) (ks : List Kind) → ConditionIsSpan ks span → Counting counter (option_pieces k (option_at ks span)) result }
+    ensures { CountsSpan counter span result }
 {
     match span {
         Some(span) => {
@@ -125,7 +116,7 @@ fn count_option(counter: Counter, span: Option<Span>) -> Result<Counter, usize>
 
 // Parameters, each behind a mark.
 fn count_params(counter: Counter, params: &[Span]) -> Result<Counter, usize>
-    ensures { (ks : List Kind) → AreSpans ks params.now → Counting counter (more_pieces expr_pieces (params_at ks params.now)) result }
+    ensures { CountsSpans counter params.now result }
 {
     let mut counted = counter;
     for param in params {
@@ -135,7 +126,7 @@ fn count_params(counter: Counter, params: &[Span]) -> Result<Counter, usize>
 }
 
 fn count_image(counter: Counter, image: &Image) -> Result<Counter, usize>
-    ensures { (ks : List Kind) → ImageIsAt ks image.now → Counting counter (symbol_pieces expr_pieces (image_at ks image.now)) result }
+    ensures { CountsImage counter image.now result }
 {
     match image {
         Image::Module(module) => count_image_module(counter, &module.params),
@@ -147,8 +138,7 @@ fn count_image(counter: Counter, image: &Image) -> Result<Counter, usize>
 
 // A name, and the parameters behind it.
 fn count_image_module(counter: Counter, params: &[Span]) -> Result<Counter, usize>
-    ensures { (k : Kind) (ks : List Kind) → AreSpans ks params.now
-        → Counting counter (note a_symbol ∷ token k ∷ params_pieces expr_pieces (params_at ks params.now)) result }
+    ensures { CountsModule counter params.now result }
 {
     let named = counter.symbol()?;
     if params.is_empty() {
@@ -159,7 +149,7 @@ fn count_image_module(counter: Counter, params: &[Span]) -> Result<Counter, usiz
 }
 
 fn count_images(counter: Counter, images: &[Image]) -> Result<Counter, usize>
-    ensures { (ks : List Kind) → ImagesAreAt ks images.now → Counting counter (string_pieces expr_pieces (images_at ks images.now)) result }
+    ensures { CountsImages counter images.now result }
 {
     let mut counted = counter;
     for image in images {
@@ -170,7 +160,7 @@ fn count_images(counter: Counter, images: &[Image]) -> Result<Counter, usize>
 
 // A left context, and the mark behind it.
 fn count_left(counter: Counter, symbols: &[Pattern]) -> Result<Counter, usize>
-    ensures { Counting counter (left_pieces (patterns_of symbols.now)) result }
+    ensures { Counting counter (left_context symbols.now) result }
 {
     if symbols.is_empty() {
         return Ok(counter);
@@ -181,7 +171,7 @@ fn count_left(counter: Counter, symbols: &[Pattern]) -> Result<Counter, usize>
 
 // A right context, and the mark before it.
 fn count_right(counter: Counter, symbols: &[Pattern]) -> Result<Counter, usize>
-    ensures { Counting counter (right_pieces (patterns_of symbols.now)) result }
+    ensures { Counting counter (right_context symbols.now) result }
 {
     if symbols.is_empty() {
         return Ok(counter);
@@ -191,7 +181,7 @@ fn count_right(counter: Counter, symbols: &[Pattern]) -> Result<Counter, usize>
 }
 
 fn count_successor(counter: Counter, images: &[Image]) -> Result<Counter, usize>
-    ensures { (ks : List Kind) → ImagesAreAt ks images.now → Counting counter (successor_pieces (images_at ks images.now)) result }
+    ensures { CountsSuccessor counter images.now result }
 {
     if images.is_empty() {
         return Ok(counter);

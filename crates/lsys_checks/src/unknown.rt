@@ -1,17 +1,15 @@
 //! Names in the expressions of a rule that are no formals of it.
-ghost use Rattle.std.specs.Prelude.{◌≡◌, ◌≤◌, ◌+◌, ℕ, map};
-ghost use Rattle.lsys_syntax.specs.Tokens.{Colon, Kind};
-ghost use Rattle.lsys_syntax.specs.Pieces.{Piece};
+ghost use Rattle.std.specs.Prelude.{◌≤◌, ◌+◌};
+ghost use Rattle.lsys_syntax.specs.Tokens.{Colon};
 ghost use Rattle.lsys_syntax.specs.Expressions.{expr_pieces};
-ghost use Rattle.lsys_syntax.specs.Strings.{more_pieces, string_pieces, symbol_pieces};
-ghost use Rattle.lsys_syntax.specs.Rules.{option_pieces};
-ghost use Rattle.lsys_syntax.specs.Checks.{rule_unknown};
 ghost use Rattle.lsys_text.specs.Tokens.{kinds_of};
-ghost use Rattle.lsys_reading.specs.Spans.{AreSpans, ConditionIsSpan, IsSpan, expr_at, option_at};
-ghost use Rattle.lsys_reading.specs.Images.{ImageIsAt, ImagesAreAt, image_at, images_at, params_at};
-ghost use Rattle.lsys_reading.specs.RuleLines.{IsRuleLine, rule_at};
-ghost use Rattle.lsys_checks.specs.Formals.{AreFormalNames, rest_pieces};
-ghost use Rattle.lsys_checks.specs.Searching.{Searches, count};
+ghost use Rattle.lsys_reading.specs.Spans.{AreSpans, ConditionIsSpan, IsSpan, expr_at};
+ghost use Rattle.lsys_reading.specs.Images.{ImageIsAt, ImagesAreAt};
+ghost use Rattle.lsys_reading.specs.RuleLines.{IsRuleLine};
+ghost use Rattle.lsys_checks.specs.Formals.{rest_pieces};
+ghost use Rattle.lsys_checks.specs.Searching.{Searches, count, SearchesSpan};
+ghost use Rattle.lsys_checks.specs.FoundNames.{IsFirstUnknown};
+ghost use Rattle.lsys_checks.specs.SpanPieces.{image_pieces, images_pieces, marked_span, more_spans};
 
 use crate::formals::FormalNames;
 use lsys_reading::{Image, RuleLine, Span};
@@ -21,8 +19,7 @@ use lsys_text::Token;
 pub fn unknown_name(tokens: &[Token], rule: &RuleLine, formals: &FormalNames) -> Option<usize>
     requires expressions { IsRuleLine (kinds_of tokens.now) rule.now }
     requires room { formals.now.end + count (rest_pieces (kinds_of tokens.now) rule.now) ≤ usize.MAX }
-    ensures { (from : ℕ) → AreFormalNames from rule.now formals.now
-        → result ≡ rule_unknown from (rule_at (kinds_of tokens.now) rule.now) }
+    ensures { IsFirstUnknown (kinds_of tokens.now) rule.now formals.now result }
 {
     search_rest(tokens, rule, formals).err()
 }
@@ -47,8 +44,8 @@ fn search_option(
     span: Option<Span>,
 ) -> Result<usize, usize>
     requires span { ConditionIsSpan (kinds_of tokens.now) span }
-    requires room { place + count (option_pieces Colon (option_at (kinds_of tokens.now) span)) ≤ usize.MAX }
-    ensures { (k : Kind) → Searches formals.now place (option_pieces k (option_at (kinds_of tokens.now) span)) result }
+    requires room { place + count (marked_span Colon (kinds_of tokens.now) span) ≤ usize.MAX }
+    ensures { SearchesSpan formals.now place (kinds_of tokens.now) span result }
 {
     match span {
         Some(span) => search_expression(tokens, formals, place + 1, span),
@@ -84,8 +81,8 @@ fn search_params(
     params: &[Span],
 ) -> Result<usize, usize>
     requires spans { AreSpans (kinds_of tokens.now) params.now }
-    requires room { place + count (more_pieces expr_pieces (params_at (kinds_of tokens.now) params.now)) ≤ usize.MAX }
-    ensures { Searches formals.now place (more_pieces expr_pieces (params_at (kinds_of tokens.now) params.now)) result }
+    requires room { place + count (more_spans (kinds_of tokens.now) params.now) ≤ usize.MAX }
+    ensures { Searches formals.now place (more_spans (kinds_of tokens.now) params.now) result }
 {
     let mut end = place;
     for param in params {
@@ -101,8 +98,8 @@ fn search_image(
     image: &Image,
 ) -> Result<usize, usize>
     requires expressions { ImageIsAt (kinds_of tokens.now) image.now }
-    requires room { place + count (symbol_pieces expr_pieces (image_at (kinds_of tokens.now) image.now)) ≤ usize.MAX }
-    ensures { Searches formals.now place (symbol_pieces expr_pieces (image_at (kinds_of tokens.now) image.now)) result }
+    requires room { place + count (image_pieces (kinds_of tokens.now) image.now) ≤ usize.MAX }
+    ensures { Searches formals.now place (image_pieces (kinds_of tokens.now) image.now) result }
 {
     match image {
         Image::Module(module) if !module.params.is_empty() => {
@@ -120,8 +117,8 @@ fn search_images(
     images: &[Image],
 ) -> Result<usize, usize>
     requires expressions { ImagesAreAt (kinds_of tokens.now) images.now }
-    requires room { place + count (string_pieces expr_pieces (images_at (kinds_of tokens.now) images.now)) ≤ usize.MAX }
-    ensures { Searches formals.now place (string_pieces expr_pieces (images_at (kinds_of tokens.now) images.now)) result }
+    requires room { place + count (images_pieces (kinds_of tokens.now) images.now) ≤ usize.MAX }
+    ensures { Searches formals.now place (images_pieces (kinds_of tokens.now) images.now) result }
 {
     let mut end = place;
     for image in images {

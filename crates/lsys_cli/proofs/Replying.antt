@@ -15,7 +15,7 @@ use Rattle.lsys_spec.specs.Costs.{Visits}
 use Rattle.lsys_laws.specs.Sessions.{HasLevels}
 use Rattle.lsys_desks.specs.Costs.{desk_line_cost, line_leads}
 use Rattle.lsys_session.specs.Answers.{Counters}
-use Rattle.lsys_desk.specs.Answers.{Answers, TellsLead, answer_or_memory, is_led, leads_to, line_answer}
+use Rattle.lsys_desk.specs.Answers.{WasReplied, TellsLead, answer_or_memory, is_led, leads_to, line_answer}
 use Rattle.lsys_cli.specs.Ends.{Seen, Worked}
 use Rattle.lsys_cli.specs.Runs.{AnswersLong, CountsLine}
 use Rattle.lsys_session.specs.declared.outcome.Outcome.{Outcome}
@@ -102,7 +102,7 @@ long_reply limit d line h =
 
 -- what a desk said of a line that is told, and how it moved the counters
 pub told_line : {K : Type 0} (written : K → Option (List ℕ)) (faults : K → ℕ) (sink sink' : K) (held : List ℕ) (visits : Visits) (limit : ℕ) (d after : Desk) (line bare : List ℕ) (o : Outcome) (before now : Counters)
-    → length line ≤ most_line_bytes → bare ≡ without_cr line → Answers written faults sink sink' held limit d after bare (Ok o) → CountsLine visits limit d after bare before now (Ok o)
+    → length line ≤ most_line_bytes → bare ≡ without_cr line → WasReplied written faults sink sink' held limit d after bare (Ok o) → CountsLine visits limit d after bare before now (Ok o)
     → Replied visits limit d line (record { written = written sink; counters = before }) (record { written = written sink'; counters = now }) after o
 told_line written faults sink sink' held visits limit d after line bare o before now h b a c = record {
   lacks = a.lacks && may_lack bare;
@@ -120,7 +120,7 @@ told_line written faults sink sink' held visits limit d after line bare o before
 }
 
 pub told_broke : {K : Type 0} (written : K → Option (List ℕ)) (faults : K → ℕ) (sink sink' : K) (held : List ℕ) (limit : ℕ) (d after : Desk) (line bare : List ℕ) (e : Failed)
-    → length line ≤ most_line_bytes → bare ≡ without_cr line → Answers written faults sink sink' held limit d after bare (Err e) → Broke limit d line (written sink) (written sink')
+    → length line ≤ most_line_bytes → bare ≡ without_cr line → WasReplied written faults sink sink' held limit d after bare (Err e) → Broke limit d line (written sink) (written sink')
 told_broke written faults sink sink' held limit d after line bare e h b a = record {
   lacks = a.lacks && may_lack bare;
   answer = a.answer;

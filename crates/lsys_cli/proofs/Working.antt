@@ -17,7 +17,7 @@ use Rattle.lsys_desks.specs.Desks.{Desk, DeskLine, DeskReply, bare_asks, desk_me
 use Rattle.lsys_desks.specs.Costs.{desk_line_cost, leads_by, line_leads}
 use Rattle.lsys_desks.proofs.Spending.{IsReplyOf, next_system, of_desk}
 use Rattle.lsys_match.specs.Derivations.{Rises}
-use Rattle.lsys_session.specs.Answers.{Counters, Counts, Few, Needed, is_derived, is_unrefused, lacks_memory, leads_on, line_spelled, refuses}
+use Rattle.lsys_session.specs.Answers.{Counters, WasCounted, Few, Needed, is_derived, is_unrefused, lacks_memory, leads_on, line_spelled, refuses}
 use Rattle.lsys_session.specs.declared.outcome.Outcome.{Outcome}
 use Rattle.lsys_session.specs.declared.outcome.Outcome.TheVariants as outcomes
 use Rattle.lsys_desk.specs.Answers.{TellsLead, is_led, leads_to, line_asks}
@@ -103,7 +103,7 @@ module _ (visits : Visits) (limit : ℕ) (s next : System) (before then : Counte
 
 module _ (visits : Visits) (limit : ℕ) (s after : System) (before then : Counters) (derived : Bool) where
   abbrev Moved : Outcome → Type 0
-  Moved o = Counts visits limit derived s after before then (Ok o)
+  Moved o = WasCounted visits limit derived s after before then (Ok o)
 
   -- refused for want of memory
   at_memory : (o : Outcome) → true ≡ lacks_memory o → Moved o → Worked limit one_refusal before then
@@ -115,7 +115,7 @@ module _ (visits : Visits) (limit : ℕ) (s after : System) (before then : Count
   at_memory outcomes.Quit e c = cc
 
   unmoved : derived ≡ false → Moved outcomes.Refused → then ≡ before
-  unmoved e c = subst (λ x. Counts visits limit x s after before then (Ok outcomes.Refused)) e c
+  unmoved e c = subst (λ x. WasCounted visits limit x s after before then (Ok outcomes.Refused)) e c
 
   -- it leads nowhere
   at_none : (o : Outcome) → false ≡ lacks_memory o → TellsLead None o → derived ≡ false → Moved o → Worked limit no_cost before then
@@ -143,7 +143,7 @@ module _ (visits : Visits) (limit : ℕ) (s after : System) (before then : Count
   at_refusal outcomes.Printed next xs e r m c = cc
   at_refusal outcomes.Refused next xs e r m c = by derived c
     where
-      by : (b : Bool) → Counts visits limit b s after before then (Ok outcomes.Refused) → Worked limit one_refusal before then
+      by : (b : Bool) → WasCounted visits limit b s after before then (Ok outcomes.Refused) → Worked limit one_refusal before then
       by true h = few_worked limit before then h
       by false h = stays_refused limit before then h
   at_refusal outcomes.Memory next xs e r m c = cc
@@ -167,7 +167,7 @@ module _ (visits : Visits) (limit : ℕ) (s after : System) (before then : Count
 -- a line that may be refused for want of memory
 worked_at : (visits : Visits) (limit : ℕ) (d after : Desk) (line : List ℕ) (b derived : Bool) (r : DeskReply) (o : Outcome) (before then : Counters) → HasLevels limit d.system
     → r ≡ desk_memory_or b d (desk_reply limit d line) → r.reply.is_refusal ≡ refuses o → r.reply.is_memory ≡ lacks_memory o → after ≡ r.next → TellsLead (line_leads d line) o
-    → (line_leads d line ≡ None → derived ≡ false) → Counts visits limit derived d.system after.system before then (Ok o)
+    → (line_leads d line ≡ None → derived ≡ false) → WasCounted visits limit derived d.system after.system before then (Ok o)
     → Worked limit (elim b [ true ↦ one_refusal | false ↦ cost_to visits limit d.system (line_leads d line) ]) before then
 worked_at visits limit d after line true derived r o before then x e f m a t q c =
     at_memory visits limit d.system after.system before then derived o (ap (λ (u : DeskReply). u.reply.is_memory) (sym e) ∙ m) c
@@ -178,7 +178,7 @@ worked_at visits limit d after line false derived r o before then x e f m a t q 
 
 pub worked_line : (visits : Visits) (limit : ℕ) (d after : Desk) (line : List ℕ) (lacks derived : Bool) (r : DeskReply) (o : Outcome) (before then : Counters) → HasLevels limit d.system
     → r ≡ desk_memory_or (lacks && may_lack_memory line) d (desk_reply limit d line) → r.reply.is_refusal ≡ refuses o → r.reply.is_memory ≡ lacks_memory o → after ≡ r.next → TellsLead (line_leads d line) o
-    → (line_leads d line ≡ None → derived ≡ false) → Counts visits limit derived d.system after.system before then (Ok o)
+    → (line_leads d line ≡ None → derived ≡ false) → WasCounted visits limit derived d.system after.system before then (Ok o)
     → Worked limit (desk_line_cost visits limit lacks d line) before then
 worked_line visits limit d after line lacks derived r o before then = worked_at visits limit d after line (lacks && may_lack_memory line) derived r o before then
 

@@ -2,3 +2,4 @@ pub mod Statuses
 pub mod Ends
 pub mod Programs
 pub mod Runs
+pub mod Calls

@@ -6,6 +6,7 @@ use Rattle.lsys_spec.specs.Output.{output_text, any_memory, whole_lines}
 use Rattle.lsys_spec.specs.Samples.{sample}
 use Rattle.lsys_spec.specs.Costs.{Visits}
 use Rattle.lsys_spec.specs.LevelLaws.{candidate_visits}
+use Rattle.lsys_words.specs.Words.{options_by}
 use Rattle.lsys_words.specs.declared.Options.{Options}
 use Rattle.lsys_cli.specs.Ends.{OfScript, replies, within_limit}
 use Rattle.lsys_cli.specs.declared.status.Status.{Status}
@@ -41,6 +42,10 @@ OfSample (Some n) P = P
 abbrev pub OnSample : Option Options → Type 0 → Type 0
 OnSample None P = Unit {0}
 OnSample (Some o) P = OfSample o.sample P
+
+-- the words name no sample, or are outside of the grammar
+abbrev pub NamesNoSample : List (List ℕ) → Type 0
+NamesNoSample words = OnSample (options_by words) ⊥
 
 -- The replies to the whole lines of some bytes were written, and one of them is `refused memory`.
 pub record LacksLines (limit : ℕ) (written_old written_new : Option (List ℕ)) (bytes : List ℕ) : Type 0 where

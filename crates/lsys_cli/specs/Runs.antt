@@ -7,10 +7,10 @@ use Rattle.lsys_io.specs.declared.lines.LineRead.TheVariants as reads
 use Rattle.lsys_spec.specs.Refusals.{refused}
 use Rattle.lsys_spec.specs.Costs.{Visits}
 use Rattle.lsys_desks.specs.Desks.{Desk}
-use Rattle.lsys_desk.specs.Answers.{Answers, TellsLead, is_led, leads_to}
-use Rattle.lsys_session.specs.Answers.{Counters, Counts}
+use Rattle.lsys_desk.specs.Answers.{WasReplied, TellsLead, is_led, leads_to}
+use Rattle.lsys_session.specs.Answers.{Counters, WasCounted}
 use Rattle.lsys_session.specs.Requests.{refusal_line}
-use Rattle.lsys_session.specs.Sessions.{Says}
+use Rattle.lsys_session.specs.Sessions.{WasSaid}
 use Rattle.lsys_rules.specs.declared.refusal.Refusal.TheVariants as refusals
 use Rattle.lsys_session.specs.declared.outcome.Outcome.{Outcome}
 use Rattle.lsys_session.specs.declared.outcome.Outcome.TheVariants as outcomes
@@ -25,18 +25,18 @@ status_of false false = Done
 
 -- the line is refused as too long, and changes nothing
 pub record AnswersLong {K : Type 0} (written : K → Option (List ℕ)) (faults : K → ℕ) (sink_old sink_new : K) (held : List ℕ) (old new : Desk) (result : Result Outcome Failed) : Type 0 where
-  pub says : Says written faults sink_old sink_new held (refusal_line refusals.LongLine) outcomes.Refused result
+  pub says : WasSaid written faults sink_old sink_new held (refusal_line refusals.LongLine) outcomes.Refused result
   pub stays : new ≡ old
 
 -- the reply to a line that is told, or to one that is too long
 abbrev pub AnswersRead : {K : Type 0} → (K → Option (List ℕ)) → (K → ℕ) → K → K → List ℕ → LineRead → ℕ → Desk → Desk → List ℕ → Result Outcome Failed → Type 0
-AnswersRead written faults sink_old sink_new held reads.Line limit old new line result = Answers written faults sink_old sink_new held limit old new line result
+AnswersRead written faults sink_old sink_new held reads.Line limit old new line result = WasReplied written faults sink_old sink_new held limit old new line result
 AnswersRead written faults sink_old sink_new held reads.Long limit old new line result = AnswersLong written faults sink_old sink_new held old new result
 AnswersRead written faults sink_old sink_new held reads.End limit old new line result = Unit {0}
 
 -- how the counters move at a line that is told, and whether it is accepted
 pub record CountsLine (visits : Visits) (limit : ℕ) (old new : Desk) (line : List ℕ) (before after : Counters) (result : Result Outcome Failed) : Type 0 where
-  pub counts : Counts visits limit (is_led old.system line) old.system new.system before after result
+  pub counts : WasCounted visits limit (is_led old.system line) old.system new.system before after result
   pub leads : IfOk result (TellsLead (leads_to old line))
 
 -- likewise; at a line that is too long they stay

@@ -4,12 +4,11 @@
 //! or a sample. Each line of the script is answered before the next one is waited for, and the run ends with a status.
 #![tactic(auto)]
 
-ghost use Rattle.std.specs.Prelude.{◌≡◌, ◌≢◌, ◌↔◌, ◌⊎◌, None, true, false};
-ghost use Rattle.lsys_io.specs.Causes.{Rose};
-ghost use Rattle.lsys_spec.specs.Output.{any_refusal, none};
+ghost use Rattle.std.specs.Prelude.{◌≡◌, ◌≢◌, ◌↔◌, None};
 ghost use Rattle.lsys_words.specs.Words.{options_by, texts};
-ghost use Rattle.lsys_cli.specs.Ends.{IsWithin, WroteFront, WroteGiven, WroteLacking, WroteOutput, WroteWithin, replies, seen};
-ghost use Rattle.lsys_cli.specs.Programs.{IsComplete, OnSample, OnScript, Untouched, most_visits};
+ghost use Rattle.lsys_cli.specs.Programs.{OnSample, NamesNoSample};
+ghost use Rattle.lsys_io.specs.Calls.{HasRisen, HasStayed};
+ghost use Rattle.lsys_cli.specs.Calls.{TouchesNothing, IfDone, IfRefused, IfMemory, IfReadFault, IfWriteFault, IfTooLong, IfWell};
 
 mod run;
 mod script;
@@ -49,52 +48,29 @@ pub fn lsys<S: Source, K: Sink, L: Ledger, V: Ledger>(
 ) -> Status
     // The words.
     ensures usage { (result ≡ Status.Usage) ↔ (options_by (texts words.now) ≡ None) }
-    ensures usage_touches_nothing { result ≡ Status.Usage
-        → Untouched source.old source.new sink.old sink.new asked.old asked.new visited.old visited.new }
+    ensures usage_touches_nothing { result ≡ Status.Usage → TouchesNothing source sink asked visited }
     ensures sample_reads_nothing { OnSample (options_by (texts words.now)) (source.new ≡ source.old) }
 
     // The script was read to its end or to a heeded `quit`, and its output was written; or there was no memory to begin.
-    ensures done { result ≡ Status.Done → OnScript (options_by (texts words.now)) (S.left source.old)
-        (λ limit. WroteOutput most_visits limit false
-        (seen K.written sink.old asked.old visited.old)
-        (seen K.written sink.new asked.new visited.new)) }
-    ensures refused { result ≡ Status.Refused → OnScript (options_by (texts words.now)) (S.left source.old)
-        (λ limit. WroteOutput most_visits limit true
-        (seen K.written sink.old asked.old visited.old)
-        (seen K.written sink.new asked.new visited.new)) }
-    ensures memory { result ≡ Status.Memory
-        → Untouched source.old source.new sink.old sink.new asked.old asked.new visited.old visited.new
-        ⊎ OnScript (options_by (texts words.now)) (S.left source.old)
-        (λ limit. WroteLacking most_visits limit
-        (seen K.written sink.old asked.old visited.old)
-        (seen K.written sink.new asked.new visited.new)) }
+    ensures done { IfDone words.now S.Source source K.Sink sink asked visited result }
+    ensures refused { IfRefused words.now S.Source source K.Sink sink asked visited result }
+    ensures memory { IfMemory words.now S.Source source K.Sink sink asked visited result }
 
     // The other ends: what was written then, and their causes.
-    ensures read_fault { result ≡ Status.ReadFault → OnScript (options_by (texts words.now)) (S.left source.old)
-        (λ limit. WroteGiven most_visits limit (S.left source.new)
-        (seen K.written sink.old asked.old visited.old)
-        (seen K.written sink.new asked.new visited.new)) }
-    ensures read_fault_only_where_rose { result ≡ Status.ReadFault → Rose (S.faults source.old) (S.faults source.new) }
-    ensures read_fault_only_where_read { result ≡ Status.ReadFault → OnSample (options_by (texts words.now)) ⊥ }
-    ensures write_fault { result ≡ Status.WriteFault → OnScript (options_by (texts words.now)) (S.left source.old)
-        (λ limit. WroteFront limit (K.written sink.old) (K.written sink.new)) }
-    ensures write_fault_only_where_rose { result ≡ Status.WriteFault → Rose (K.faults sink.old) (K.faults sink.new) }
-    ensures too_long { result ≡ Status.TooLong → OnScript (options_by (texts words.now)) (S.left source.old)
-        (λ limit. WroteWithin most_visits limit
-        (seen K.written sink.old asked.old visited.old)
-        (seen K.written sink.new asked.new visited.new)) }
+    ensures read_fault { IfReadFault words.now S.Source source K.Sink sink asked visited result }
+    ensures read_fault_only_where_rose { result ≡ Status.ReadFault → HasRisen S.faults source }
+    ensures read_fault_only_where_read { result ≡ Status.ReadFault → NamesNoSample (texts words.now) }
+    ensures write_fault { IfWriteFault words.now S.Source source K.Sink sink result }
+    ensures write_fault_only_where_rose { result ≡ Status.WriteFault → HasRisen K.faults sink }
+    ensures too_long { IfTooLong words.now S.Source source K.Sink sink asked visited result }
 
     // No failure is passed over.
-    ensures no_read_fault_passed_over { result ≢ Status.ReadFault → S.faults source.new ≡ S.faults source.old }
-    ensures no_write_fault_passed_over { result ≢ Status.WriteFault → K.faults sink.new ≡ K.faults sink.old }
+    ensures no_read_fault_passed_over { result ≢ Status.ReadFault → HasStayed S.faults source }
+    ensures no_write_fault_passed_over { result ≢ Status.WriteFault → HasStayed K.faults sink }
 
     // Where neither end failed, the script is within its length and nothing in its output is a refusal, the run is done, or
     // want of memory was said.
-    ensures complete { (Rose (S.faults source.old) (S.faults source.new) → ⊥)
-        → (Rose (K.faults sink.old) (K.faults sink.new) → ⊥)
-        → OnScript (options_by (texts words.now)) (S.left source.old) (λ limit script. IsWithin limit script none
-        → any_refusal (replies limit script none) ≡ false
-        → IsComplete result limit (K.written sink.old) (K.written sink.new) script) }
+    ensures complete { IfWell words.now S.Source source K.Sink sink result }
 {
     match options_of(alloc, words) {
         Ok(Some(options)) => {

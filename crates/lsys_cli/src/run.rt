@@ -1,12 +1,12 @@
 //! The loop over the lines of a script.
-ghost use Rattle.std.specs.Prelude.{◌≡◌, ℕ, List, [], ◌≤◌, ◌≢◌, ◌||◌, true, false, OnOk, OnErr};
-ghost use Rattle.lsys_io.specs.Causes.{Rose};
+ghost use Rattle.std.specs.Prelude.{◌≡◌, [], ◌≢◌, ◌||◌, false, OnOk, OnErr};
 ghost use Rattle.lsys_io.specs.declared.lines.Stage.TheVariants.{Going};
 ghost use Rattle.lsys_desk.specs.Views.{desk_on};
 ghost use Rattle.lsys_desks.specs.Desks.{opening_desk};
 ghost use Rattle.lsys_session.specs.Answers.{refuses, lacks_memory};
-ghost use Rattle.lsys_cli.specs.Ends.{Ends, seen};
-ghost use Rattle.lsys_cli.specs.Runs.{status_of, AnswersRead, CountsRead};
+ghost use Rattle.lsys_cli.specs.Runs.{status_of};
+ghost use Rattle.lsys_io.specs.Calls.{HasRisen, HasStayed};
+ghost use Rattle.lsys_cli.specs.Calls.{RunsAt, Heeds, CountsIt};
 
 use crate::status::Status;
 use lsys_desk::{Desk, HasMotions};
@@ -76,14 +76,11 @@ pub fn run<S: Source, K: Sink, L: Ledger, V: Ledger, D: HasMotions<L> + Drop>(
     requires opening { desk_on D.system_of desk.old ≡ opening_desk }
     requires empty { out.old ≡ [] }
     requires fresh { reader.old ≡ record { held = []; taken = 0; line = []; stage = Going } }
-    ensures ends { Ends D.visits (D.limit_of desk.old.derivation)
-        (S.left source.old) (S.left source.new)
-        (seen K.written sink.old asked.old visited.old)
-        (seen K.written sink.new asked.new visited.new) result }
-    ensures read_fault_only_where_rose { result ≡ Status.ReadFault → Rose (S.faults source.old) (S.faults source.new) }
-    ensures write_fault_only_where_rose { result ≡ Status.WriteFault → Rose (K.faults sink.old) (K.faults sink.new) }
-    ensures no_read_fault_passed_over { result ≢ Status.ReadFault → S.faults source.new ≡ S.faults source.old }
-    ensures no_write_fault_passed_over { result ≢ Status.WriteFault → K.faults sink.new ≡ K.faults sink.old }
+    ensures ends { RunsAt D.visits D.limit_of desk S.Source source K.Sink sink asked visited result }
+    ensures read_fault_only_where_rose { result ≡ Status.ReadFault → HasRisen S.faults source }
+    ensures write_fault_only_where_rose { result ≡ Status.WriteFault → HasRisen K.faults sink }
+    ensures no_read_fault_passed_over { result ≢ Status.ReadFault → HasStayed S.faults source }
+    ensures no_write_fault_passed_over { result ≢ Status.WriteFault → HasStayed K.faults sink }
 {
     let mut tally = Tally::new();
     'lines: loop {
@@ -118,16 +115,12 @@ fn answer_line<K: Sink, L: Ledger, V: Ledger, D: HasMotions<L> + Drop>(
     visited: &mut Steps<V>,
 ) -> Result<Outcome, Failed>
     requires empty { out.old ≡ [] }
-    ensures replies { AnswersRead K.written K.faults sink.old sink.new out.new read
-        (D.limit_of desk.old.derivation) (desk_on D.system_of desk.old) (desk_on D.system_of desk.new) line.now result }
-    ensures counts { CountsRead D.visits read (D.limit_of desk.old.derivation)
-        (desk_on D.system_of desk.old) (desk_on D.system_of desk.new) line.now
-        (record { asked = asked.old; visited = visited.old })
-        (record { asked = asked.new; visited = visited.new }) result }
+    ensures heeds { Heeds read line.now K.Sink sink out D.limit_of D.system_of desk result }
+    ensures counts { CountsIt read line.now D.visits D.limit_of D.system_of desk asked visited result }
     ensures limit { D.limit_of desk.new.derivation ≡ D.limit_of desk.old.derivation }
     ensures empty { out.new ≡ [] }
-    ensures failed_only_where_rose { OnErr result (Rose (K.faults sink.old) (K.faults sink.new)) }
-    ensures ok_leaves_count { OnOk result (K.faults sink.new ≡ K.faults sink.old) }
+    ensures failed_only_where_rose { OnErr result (HasRisen K.faults sink) }
+    ensures ok_leaves_count { OnOk result (HasStayed K.faults sink) }
 {
     match read {
         LineRead::Line => desk.command(alloc, line, out, sink, asked, visited),

@@ -1,19 +1,16 @@
 //! A run over a script: the one that is read, or a sample.
-ghost use Rattle.std.specs.Prelude.{◌≡◌, ◌≢◌, ◌≤◌, ◌⊎◌, ℕ, List, Some};
-ghost use Rattle.std.specs.declared.option.Option.{Option};
-ghost use Rattle.lsys_io.specs.Causes.{Rose};
-ghost use Rattle.lsys_spec.specs.Samples as samples;
+ghost use Rattle.std.specs.Prelude.{◌≡◌, ◌≢◌, ◌≤◌, Some};
 ghost use Rattle.lsys_words.specs.Words.{HasLimit};
-ghost use Rattle.lsys_cli.specs.Ends.{Ends, seen};
-ghost use Rattle.lsys_cli.specs.Programs.{OfSample, Untouched, UntouchedSink, script_of};
+ghost use Rattle.lsys_cli.specs.Programs.{OfSample};
+ghost use Rattle.lsys_io.specs.Calls.{HasRisen, HasStayed};
+ghost use Rattle.lsys_cli.specs.Calls.{Runs, RunsBy, RunsSample};
 
 use crate::run::run;
 use crate::status::Status;
 use lsys_desk::{Desk, HasMotions};
 use lsys_io::{Buffered, LineReader, NeverSource, Sink, Source};
 use lsys_match::Steps;
-use lsys_sample::sample;
-use lsys_words::Options;
+use lsys_words::{Options, sample};
 use std::alloc::Global;
 use std::sync::ledger::Ledger;
 
@@ -27,16 +24,12 @@ pub fn run_by<S: Source, K: Sink, L: Ledger, V: Ledger, D: HasMotions<L> + Drop>
     visited: &mut Steps<V>,
 ) -> Status
     requires { HasLimit options }
-    ensures ends { ((result ≡ Status.Memory)
-        × Untouched source.old source.new sink.old sink.new asked.old asked.new visited.old visited.new)
-        ⊎ Ends D.visits options.limit (script_of options (S.left source.old)) (S.left source.new)
-        (seen K.written sink.old asked.old visited.old)
-        (seen K.written sink.new asked.new visited.new) result }
+    ensures ends { RunsBy D.visits options S.Source source K.Sink sink asked visited result }
     ensures sample { OfSample options.sample ((source.new ≡ source.old) × (result ≢ Status.ReadFault)) }
-    ensures read_fault_only_where_rose { result ≡ Status.ReadFault → Rose (S.faults source.old) (S.faults source.new) }
-    ensures write_fault_only_where_rose { result ≡ Status.WriteFault → Rose (K.faults sink.old) (K.faults sink.new) }
-    ensures no_read_fault_passed_over { result ≢ Status.ReadFault → S.faults source.new ≡ S.faults source.old }
-    ensures no_write_fault_passed_over { result ≢ Status.WriteFault → K.faults sink.new ≡ K.faults sink.old }
+    ensures read_fault_only_where_rose { result ≡ Status.ReadFault → HasRisen S.faults source }
+    ensures write_fault_only_where_rose { result ≡ Status.WriteFault → HasRisen K.faults sink }
+    ensures no_read_fault_passed_over { result ≢ Status.ReadFault → HasStayed S.faults source }
+    ensures no_write_fault_passed_over { result ≢ Status.WriteFault → HasStayed K.faults sink }
     ensures no_usage { result ≢ Status.Usage }
 {
     match options.sample {
@@ -62,13 +55,10 @@ fn run_sample<K: Sink, L: Ledger, V: Ledger, D: HasMotions<L> + Drop>(
     visited: &mut Steps<V>,
 ) -> Status
     requires { limit ≤ 1000000 }
-    ensures ends { ((result ≡ Status.Memory) × UntouchedSink sink.old sink.new asked.old asked.new visited.old visited.new)
-        ⊎ ((left : Option (List ℕ)) → Ends D.visits limit (Some (samples.sample number)) left
-        (seen K.written sink.old asked.old visited.old)
-        (seen K.written sink.new asked.new visited.new) result) }
+    ensures ends { RunsSample D.visits limit number K.Sink sink asked visited result }
     ensures no_read_fault { result ≢ Status.ReadFault }
-    ensures write_fault_only_where_rose { result ≡ Status.WriteFault → Rose (K.faults sink.old) (K.faults sink.new) }
-    ensures no_write_fault_passed_over { result ≢ Status.WriteFault → K.faults sink.new ≡ K.faults sink.old }
+    ensures write_fault_only_where_rose { result ≡ Status.WriteFault → HasRisen K.faults sink }
+    ensures no_write_fault_passed_over { result ≢ Status.WriteFault → HasStayed K.faults sink }
     ensures no_usage { result ≢ Status.Usage }
 {
     let Ok(script) = sample(alloc, number) else {
@@ -88,15 +78,11 @@ fn run_script<S: Source, K: Sink, L: Ledger, V: Ledger, D: HasMotions<L> + Drop>
     visited: &mut Steps<V>,
 ) -> Status
     requires { limit ≤ 1000000 }
-    ensures ends { ((result ≡ Status.Memory)
-        × Untouched source.old source.new sink.old sink.new asked.old asked.new visited.old visited.new)
-        ⊎ Ends D.visits limit (S.left source.old) (S.left source.new)
-        (seen K.written sink.old asked.old visited.old)
-        (seen K.written sink.new asked.new visited.new) result }
-    ensures read_fault_only_where_rose { result ≡ Status.ReadFault → Rose (S.faults source.old) (S.faults source.new) }
-    ensures write_fault_only_where_rose { result ≡ Status.WriteFault → Rose (K.faults sink.old) (K.faults sink.new) }
-    ensures no_read_fault_passed_over { result ≢ Status.ReadFault → S.faults source.new ≡ S.faults source.old }
-    ensures no_write_fault_passed_over { result ≢ Status.WriteFault → K.faults sink.new ≡ K.faults sink.old }
+    ensures ends { Runs D.visits limit S.Source source K.Sink sink asked visited result }
+    ensures read_fault_only_where_rose { result ≡ Status.ReadFault → HasRisen S.faults source }
+    ensures write_fault_only_where_rose { result ≡ Status.WriteFault → HasRisen K.faults sink }
+    ensures no_read_fault_passed_over { result ≢ Status.ReadFault → HasStayed S.faults source }
+    ensures no_write_fault_passed_over { result ≢ Status.WriteFault → HasStayed K.faults sink }
     ensures no_usage { result ≢ Status.Usage }
 {
     let Ok(mut reader) = LineReader::new(alloc) else {

@@ -5,19 +5,19 @@ use Rattle.std.proofs.lemmas.Bool.Decides.{nat_tests}
 use Rattle.lsys_syntax.specs.Limits.{most_line_bytes}
 use Rattle.lsys_syntax.specs.Commands.{Command}
 use Rattle.lsys_syntax.specs.Tokens.{tokens}
-use Rattle.lsys_io.specs.Writes.{Puts}
+use Rattle.lsys_io.specs.Writes.{WasPut}
 use Rattle.lsys_io.specs.declared.Failed.{Failed}
 use Rattle.lsys_spec.specs.Systems.{System}
 use Rattle.lsys_spec.specs.Levels as L
 use Rattle.lsys_spec.specs.Refusals.{Reply, refused, refused_memory, is_long, is_passed_over}
 use Rattle.lsys_spec.specs.Replies.{bare_reply, bare_spelled, edited, levels_of}
 use Rattle.lsys_spec.specs.Output.{memory_or}
-use Rattle.lsys_history.specs.Timelines as timelines
+use Rattle.lsys_desks.specs.Timelines as timelines
 use Rattle.lsys_desks.specs.Desks.{Desk, DeskLine, answered, bare_asks, desk, desk_memory_or, is_edit, led, own_reply, read_asks, reply_by, session_reply}
 use Rattle.lsys_rules.specs.declared.refusal.Refusal.{Refusal}
 use Rattle.lsys_rules.specs.declared.refusal.Refusal.TheVariants as refusals
 use Rattle.lsys_session.specs.Requests.{IsRequest, IsAskedBy, refusal_line}
-use Rattle.lsys_session.specs.Sessions.{Says, refusal_outcome}
+use Rattle.lsys_session.specs.Sessions.{WasSaid, refusal_outcome}
 use Rattle.lsys_session.specs.Given as given
 use Rattle.lsys_session.specs.Answers.{line_reply, line_spelled, may_lack, refuses}
 use Rattle.lsys_session.specs.Answers as session
@@ -26,7 +26,7 @@ use Rattle.lsys_session.specs.declared.outcome.Outcome.TheVariants as outcomes
 use Rattle.lsys_session.specs.declared.request.Request.{Request}
 use Rattle.lsys_session.specs.declared.request.Request.TheVariants.{Nothing, Edit, String, Segments, Svg, Show, Quit}
 use Rattle.lsys_session.proofs.Answering.{answered as answered_request, answered_refusal, not_long, spelled_so, may_spelled}
-use Rattle.lsys_desk.specs.Answers.{Answers, Became, GivesOrLacks, line_answer, line_asks, step_answer}
+use Rattle.lsys_desk.specs.Answers.{WasReplied, Became, WasServedOrLacked, line_answer, line_asks, step_answer}
 use Rattle.lsys_desk.proofs.Leading.{stays}
 
 -- 1. what a line asks
@@ -130,7 +130,7 @@ quietly limit s line o reply e (inr p) = inr p
 
 module _ {K : Type 0} (written : K → Option (List ℕ)) (faults : K → ℕ) (a b : K) (held : List ℕ) (limit : ℕ) (d : Desk) (line : List ℕ) where
   by_session : (after : System) (result : Result Outcome Failed) → line_asks line ≡ None → IfOk result (IsQuiet line)
-      → session.Answers written faults a b held limit d.system after line result → Answers written faults a b held limit d (desk after d.steps) line result
+      → session.WasAnswered written faults a b held limit d.system after line result → WasReplied written faults a b held limit d (desk after d.steps) line result
   by_session after (Ok o) none quiet s =
       let lacks = s.lacks && may_lack line in
       let r = line_reply limit d.system line in
@@ -142,7 +142,7 @@ module _ {K : Type 0} (written : K → Option (List ℕ)) (faults : K → ℕ) (
         answer = desk_memory_or lacks d (session_reply d r spelled);
         is = ap (λ asked. desk_memory_or lacks d (reply_by limit d asked r spelled)) (sym none);
         gives = record {
-          put = subst (λ (q : Reply). Puts written faults a b [] held q.text (Ok o)) said s.put;
+          put = subst (λ (q : Reply). WasPut written faults a b [] held q.text (Ok o)) said s.put;
           empty = s.empty;
           next = ap (λ (t : System). desk t d.steps) (s.next ∙ ap (λ (q : Reply). q.next) s.is) ∙ sym (steady d lacks r spelled steady_by);
           became = subst (λ (q : Reply). Became q o) said (record { refusal = s.became.refusal; memory = s.became.memory; end = s.became.end });
@@ -158,7 +158,7 @@ module _ {K : Type 0} (written : K → Option (List ℕ)) (faults : K → ℕ) (
         answer = desk_memory_or lacks d (session_reply d r spelled);
         is = ap (λ asked. desk_memory_or lacks d (reply_by limit d asked r spelled)) (sym none);
         gives = record {
-          put = subst (λ (q : Reply). Puts written faults a b [] held q.text (Err failed)) said s.put;
+          put = subst (λ (q : Reply). WasPut written faults a b [] held q.text (Err failed)) said s.put;
           empty = s.empty;
           next = tt;
           became = tt;
@@ -166,12 +166,12 @@ module _ {K : Type 0} (written : K → Option (List ℕ)) (faults : K → ℕ) (
       }
 
   pub by_query : (r : Request) (after : System) (result : Result Outcome Failed) → is_long line ≡ false → bare_asks line ≡ None → IsRequest d.system line (Ok r) → given.is_edit r ≡ false
-      → given.Gives written faults a b held limit d.system after r result → Answers written faults a b held limit d (desk after d.steps) line result
+      → given.WasGiven written faults a b held limit d.system after r result → WasReplied written faults a b held limit d (desk after d.steps) line result
   by_query r after result short none q n g =
       by_session after result (short_asks line short ∙ none) (quiet_query d.system line r result short q n) (answered_request written faults a b held limit d.system line result after r short q g)
 
   pub by_refusal : (e : Refusal) (result : Result Outcome Failed) → is_long line ≡ false → bare_asks line ≡ None → IsRequest d.system line (Err e)
-      → Says written faults a b held (refusal_line e) (refusal_outcome e) result → Answers written faults a b held limit d (desk d.system d.steps) line result
+      → WasSaid written faults a b held (refusal_line e) (refusal_outcome e) result → WasReplied written faults a b held limit d (desk d.system d.steps) line result
   by_refusal e result short none q says =
       by_session d.system result (short_asks line short ∙ none) (quiet_refusal line e result says.outcome) (answered_refusal written faults a b held limit d.system line result e short q says)
 
@@ -185,7 +185,7 @@ module _ {K : Type 0} (written : K → Option (List ℕ)) (faults : K → ℕ) (
   led_is next (Err why) spelled e = refl
 
   pub by_edit : (next : System) (new : Desk) (result : Result Outcome Failed) → is_long line ≡ false → line_asks line ≡ None → IsRequest d.system line (Ok (Edit next))
-      → GivesOrLacks written faults a b held d (step_answer limit d next (timelines.edited d.steps d.system)) new result → Answers written faults a b held limit d new line result
+      → WasServedOrLacked written faults a b held d (step_answer limit d next (timelines.edited d.steps d.system)) new result → WasReplied written faults a b held limit d new line result
   by_edit next new result short none (replies, there, (c, spells, edits, unrefused, changed)) g =
       let r = line_reply limit d.system line in
       let spelled : line_spelled line ≡ Some c = spelled_so line short ∙ spells in
@@ -205,7 +205,7 @@ module _ {K : Type 0} (written : K → Option (List ℕ)) (faults : K → ℕ) (
   -- 4. the desk's own lines
 
   pub by_desk : (asked : DeskLine) (new : Desk) (result : Result Outcome Failed) → is_long line ≡ false → bare_asks line ≡ Some asked
-      → GivesOrLacks written faults a b held d (own_reply limit d asked) new result → Answers written faults a b held limit d new line result
+      → WasServedOrLacked written faults a b held d (own_reply limit d asked) new result → WasReplied written faults a b held limit d new line result
   by_desk asked new result short e g =
       let r = line_reply limit d.system line in
       record {
@@ -219,8 +219,8 @@ module _ {K : Type 0} (written : K → Option (List ℕ)) (faults : K → ℕ) (
 
   -- 5. lines at which nothing is asked
 
-  pub for_memory : (result : Result Outcome Failed) → is_long line ≡ false → is_passed_over line ≡ false → Says written faults a b held (refusal_line refusals.Memory) outcomes.Memory result
-      → Answers written faults a b held limit d d line result
+  pub for_memory : (result : Result Outcome Failed) → is_long line ≡ false → is_passed_over line ≡ false → WasSaid written faults a b held (refusal_line refusals.Memory) outcomes.Memory result
+      → WasReplied written faults a b held limit d d line result
   for_memory result short told says = record {
     lacks = true;
     answer = answered (refused_memory d.system) d;
@@ -234,8 +234,8 @@ module _ {K : Type 0} (written : K → Option (List ℕ)) (faults : K → ℕ) (
   long_answer true e = refl
   long_answer false e = cc
 
-  pub for_length : (result : Result Outcome Failed) → is_long line ≡ true → Says written faults a b held (refusal_line refusals.LongLine) outcomes.Refused result
-      → Answers written faults a b held limit d d line result
+  pub for_length : (result : Result Outcome Failed) → is_long line ≡ true → WasSaid written faults a b held (refusal_line refusals.LongLine) outcomes.Refused result
+      → WasReplied written faults a b held limit d d line result
   for_length result long says = record {
     lacks = false;
     answer = answered (refused d.system (codes "syntax long")) d;

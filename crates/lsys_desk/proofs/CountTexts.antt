@@ -3,7 +3,7 @@ use Rattle.std.proofs.Common.{◌≡◌, ◌<◌, ◌+◌, ℕ, List, [], ◌∷
 use Rattle.std.specs.Prelude.{flat_map}
 use Rattle.std.proofs.lemmas.List.{take-append-drop, map-append}
 use Rattle.std.proofs.lemmas.List.Concat.{flat_map-append}
-use Rattle.lsys_growth_laws.specs.Growth.{count_line}
+use Rattle.lsys_matrix.specs.Growth.{count_line}
 use Rattle.lsys_growth.specs.Views.{count_of}
 use Rattle.lsys_growth.specs.declared.answer.Count.{Count}
 use Rattle.lsys_module.proofs.PrintedTexts.{map-more}

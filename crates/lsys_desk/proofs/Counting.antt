@@ -9,19 +9,19 @@ use Rattle.lsys_spec.specs.Edits as edits
 use Rattle.lsys_spec.specs.Levels as L
 use Rattle.lsys_spec.specs.Refusals.{Reply, derivation_text, is_long}
 use Rattle.lsys_spec.specs.Replies.{edited, levels_of, or_text}
-use Rattle.lsys_history.specs.Timelines.{Timeline}
+use Rattle.lsys_desks.specs.Timelines.{Timeline}
 use Rattle.lsys_desks.specs.Desks.{Desk, DeskLine, desk_memory_or, led}
 use Rattle.lsys_rules.specs.declared.refusal.Refusal.{Refusal}
 use Rattle.lsys_rules.specs.declared.refusal.Refusal.TheVariants as refusals
 use Rattle.lsys_session.specs.Requests.{IsAskedBy, IsRequest}
 use Rattle.lsys_session.specs.Sessions.{refusal_outcome}
-use Rattle.lsys_session.specs.Answers.{Counters, Counts, Few, is_derived, is_unrefused, leads_on, line_spelled}
+use Rattle.lsys_session.specs.Answers.{Counters, WasCounted, Few, is_derived, is_unrefused, leads_on, line_spelled}
 use Rattle.lsys_session.specs.Given.{is_edit, unless_refused}
 use Rattle.lsys_session.specs.declared.outcome.Outcome.{Outcome}
 use Rattle.lsys_session.specs.declared.outcome.Outcome.TheVariants as outcomes
 use Rattle.lsys_session.specs.declared.request.Request.{Request}
 use Rattle.lsys_session.specs.declared.request.Request.TheVariants.{Nothing, Edit, String, Segments, Svg, Show, Quit}
-use Rattle.lsys_desk.specs.Answers.{Became, GivesOrLacks, is_led, line_asks, step_answer}
+use Rattle.lsys_desk.specs.Answers.{Became, WasServedOrLacked, is_led, line_asks, step_answer}
 use Rattle.lsys_desk.proofs.Answering.{asked_by_line}
 
 -- 1. counters that stay
@@ -49,7 +49,7 @@ module _ (visits : System → System → List (List L.Symbol) → List (List L.S
   few : Few limit counters counters
   few = record { asked = record { from = omega arith; to = omega arith }; visited = record { from = omega arith; to = omega arith } }
 
-  quiet : (derived : Bool) (o : Outcome) → IsQuiet o → Counts visits limit derived s s counters counters (Ok o)
+  quiet : (derived : Bool) (o : Outcome) → IsQuiet o → WasCounted visits limit derived s s counters counters (Ok o)
   quiet derived outcomes.Skipped q = refl
   quiet derived outcomes.Accepted q = absurd q
   quiet derived outcomes.Printed q = refl
@@ -58,7 +58,7 @@ module _ (visits : System → System → List (List L.Symbol) → List (List L.S
   quiet derived outcomes.Memory q = few
   quiet derived outcomes.Quit q = refl
 
-  pub stay : (derived : Bool) (became : Outcome) (result : Result Outcome Failed) → IsQuiet became → IfOk result (λ o. o ≡ became) → Counts visits limit derived s s counters counters result
+  pub stay : (derived : Bool) (became : Outcome) (result : Result Outcome Failed) → IsQuiet became → IfOk result (λ o. o ≡ became) → WasCounted visits limit derived s s counters counters result
   stay derived became (Ok o) q e = quiet derived o (subst IsQuiet (sym e) q)
   stay derived became (Err failed) q e = tt
 
@@ -101,7 +101,7 @@ unrefused limit d to steps false (Err why) levels e h = cc
 
 module _ {K : Type 0} {written : K → Option (List ℕ)} {faults : K → ℕ} {a b : K} {held : List ℕ} (limit : ℕ) (d : Desk) (to : System) (steps : Timeline System) (new : Desk) (there : HasLevels limit to) where
   pub not_refused : (visits : System → System → List (List L.Symbol) → List (List L.Symbol) → ℕ) (after : System) (before then : Counters) (result : Result Outcome Failed)
-      → GivesOrLacks written faults a b held d (step_answer limit d to steps) new result → Counts visits limit true d.system after before then result → Counts visits limit false d.system after before then result
+      → WasServedOrLacked written faults a b held d (step_answer limit d to steps) new result → WasCounted visits limit true d.system after before then result → WasCounted visits limit false d.system after before then result
   not_refused visits after before then (Ok outcomes.Skipped) g c = c
   not_refused visits after before then (Ok outcomes.Accepted) g c = c
   not_refused visits after before then (Ok outcomes.Printed) g c = c

@@ -4,7 +4,7 @@ use Rattle.std.specs.Prelude.{All}
 use Rattle.std.proofs.lemmas.List.Elements.{All-push, All-nil, All-drop, All-take, All-get_or}
 use Rattle.std.proofs.lemmas.Option.{slice_get_within, get_or_from_slice_get}
 use Rattle.lsys_spec.specs.Systems.{System}
-use Rattle.lsys_history.specs.Timelines.{Timeline, most_kept, nearest, nothing_kept}
+use Rattle.lsys_desks.specs.Timelines.{Timeline, most_kept, nearest, nothing_kept}
 use Rattle.lsys_desks.specs.Desks.{EachKept}
 use Rattle.lsys_session.specs.declared.outcome.Outcome.{Outcome}
 use Rattle.lsys_session.specs.declared.outcome.Outcome.TheVariants as outcomes

@@ -1,7 +1,7 @@
 -- What is said where a desk goes from one system to another.
 use Rattle.std.proofs.Common.{◌≡◌, ℕ, Bool, true, false, Option, Some, None, Result, Ok, Err, List, [], refl, sym, ap, ◌∙◌, subst}
 use Rattle.std.specs.Prelude.{IfOk, IsErr, codes}
-use Rattle.lsys_io.specs.Writes.{Puts}
+use Rattle.lsys_io.specs.Writes.{WasPut}
 use Rattle.lsys_io.proofs.Puts.{puts_refused}
 use Rattle.lsys_io.specs.declared.Failed.{Failed}
 use Rattle.lsys_spec.specs.Systems.{System}
@@ -10,19 +10,19 @@ use Rattle.lsys_spec.specs.Refusals.{Reply, refused, refused_memory}
 use Rattle.lsys_spec.specs.Pictures.{Turtle}
 use Rattle.lsys_spec.specs.Replies.{edited, levels_of, shown}
 use Rattle.lsys_spec.specs.Output.{memory_or}
-use Rattle.lsys_history.specs.Timelines as timelines
-use Rattle.lsys_growth_laws.specs.Growth.{Census, GrowthFault, growth_at}
-use Rattle.lsys_effects.specs.Bounds.{bounds_text, turtle_behind}
-use Rattle.lsys_effects.specs.Bounds as pictures
+use Rattle.lsys_desks.specs.Timelines as timelines
+use Rattle.lsys_matrix.specs.Growth.{Census, GrowthFault, growth_at}
+use Rattle.lsys_lattice.specs.Bounds.{bounds_text, turtle_behind}
+use Rattle.lsys_lattice.specs.Bounds as pictures
 use Rattle.lsys_desks.specs.Desks.{Desk, DeskReply, answered, asked_of, at, bounds, bounds_reply, desk, desk_memory_or, growth, growth_reply, led, own_reply, place_reply, redo, stepped, turtle_reply, undo}
 use Rattle.lsys_rules.specs.declared.refusal.Refusal.TheVariants as refusals
 use Rattle.lsys_session.specs.Requests.{refusal_line}
-use Rattle.lsys_session.specs.Sessions.{Says}
+use Rattle.lsys_session.specs.Sessions.{WasSaid}
 use Rattle.lsys_session.specs.Answers.{ends_session, lacks_memory, refuses}
-use Rattle.lsys_session.specs.Given.{Leads, Prints, unless_refused}
+use Rattle.lsys_session.specs.Given.{WasLed, WasPrinted, unless_refused}
 use Rattle.lsys_session.specs.declared.outcome.Outcome.{Outcome}
 use Rattle.lsys_session.specs.declared.outcome.Outcome.TheVariants as outcomes
-use Rattle.lsys_desk.specs.Answers.{Became, Gives, GivesOrLacks, step_answer}
+use Rattle.lsys_desk.specs.Answers.{Became, WasServed, WasServedOrLacked, step_answer}
 use Rattle.lsys_desk.specs.Steps.{steps_after, steps_by}
 use Rattle.lsys_desk.specs.declared.step.Step.{Step}
 
@@ -39,7 +39,7 @@ same_desk s t h k e f = rw (e, f) refl
 
 module _ {K : Type 0} (written : K → Option (List ℕ)) (faults : K → ℕ) (a b : K) (held : List ℕ) (d : Desk) (result : Result Outcome Failed) where
   -- a reply that leaves the desk as it was
-  pub stays : (answer : DeskReply) (o : Outcome) → Says written faults a b held answer.reply.text o result → answer.next ≡ d → Became answer.reply o → Gives written faults a b held answer d result
+  pub stays : (answer : DeskReply) (o : Outcome) → WasSaid written faults a b held answer.reply.text o result → answer.next ≡ d → Became answer.reply o → WasServed written faults a b held answer d result
   stays answer o says same became = record {
     put = says.put;
     empty = says.empty;
@@ -47,7 +47,7 @@ module _ {K : Type 0} (written : K → Option (List ℕ)) (faults : K → ℕ) (
     became = became_so result says.outcome became;
   }
 
-  pub lacking : (answer : DeskReply) → Says written faults a b held (refusal_line refusals.Memory) outcomes.Memory result → GivesOrLacks written faults a b held d answer d result
+  pub lacking : (answer : DeskReply) → WasSaid written faults a b held (refusal_line refusals.Memory) outcomes.Memory result → WasServedOrLacked written faults a b held d answer d result
   lacking answer says = record {
     lacks = true;
     gives = stays (answered (refused_memory d.system) d) outcomes.Memory says refl (record { refusal = refl; memory = refl; end = refl });
@@ -55,35 +55,35 @@ module _ {K : Type 0} (written : K → Option (List ℕ)) (faults : K → ℕ) (
 
   -- 1. an undo or a redo that leads nowhere
 
-  pub no_undo : (limit : ℕ) → None ≡ timelines.nearest d.steps.past → Says written faults a b held (codes "refused undo\n") outcomes.Refused result → GivesOrLacks written faults a b held d (own_reply limit d undo) d result
+  pub no_undo : (limit : ℕ) → None ≡ timelines.nearest d.steps.past → WasSaid written faults a b held (codes "refused undo\n") outcomes.Refused result → WasServedOrLacked written faults a b held d (own_reply limit d undo) d result
   no_undo limit e says =
-      subst (λ o. GivesOrLacks written faults a b held d (stepped limit d (codes "undo") (timelines.undone d.steps d.system) o) d result) e
+      subst (λ o. WasServedOrLacked written faults a b held d (stepped limit d (codes "undo") (timelines.undone d.steps d.system) o) d result) e
       (record { lacks = false; gives = stays (answered (refused d.system (codes "undo")) d) outcomes.Refused says refl (record { refusal = refl; memory = refl; end = refl }) })
 
-  pub no_redo : (limit : ℕ) → None ≡ timelines.nearest d.steps.future → Says written faults a b held (codes "refused redo\n") outcomes.Refused result → GivesOrLacks written faults a b held d (own_reply limit d redo) d result
+  pub no_redo : (limit : ℕ) → None ≡ timelines.nearest d.steps.future → WasSaid written faults a b held (codes "refused redo\n") outcomes.Refused result → WasServedOrLacked written faults a b held d (own_reply limit d redo) d result
   no_redo limit e says =
-      subst (λ o. GivesOrLacks written faults a b held d (stepped limit d (codes "redo") (timelines.redone d.steps d.system) o) d result) e
+      subst (λ o. WasServedOrLacked written faults a b held d (stepped limit d (codes "redo") (timelines.redone d.steps d.system) o) d result) e
       (record { lacks = false; gives = stays (answered (refused d.system (codes "redo")) d) outcomes.Refused says refl (record { refusal = refl; memory = refl; end = refl }) })
 
   -- 2. an undo or a redo that leads to the nearest system
 
-  pub undo_leads : (limit : ℕ) (s : System) (new : Desk) → Some s ≡ timelines.nearest d.steps.past → GivesOrLacks written faults a b held d (step_answer limit d s (timelines.undone d.steps d.system)) new result
-      → GivesOrLacks written faults a b held d (own_reply limit d undo) new result
-  undo_leads limit s new e g = subst (λ o. GivesOrLacks written faults a b held d (stepped limit d (codes "undo") (timelines.undone d.steps d.system) o) new result) e g
+  pub undo_leads : (limit : ℕ) (s : System) (new : Desk) → Some s ≡ timelines.nearest d.steps.past → WasServedOrLacked written faults a b held d (step_answer limit d s (timelines.undone d.steps d.system)) new result
+      → WasServedOrLacked written faults a b held d (own_reply limit d undo) new result
+  undo_leads limit s new e g = subst (λ o. WasServedOrLacked written faults a b held d (stepped limit d (codes "undo") (timelines.undone d.steps d.system) o) new result) e g
 
-  pub redo_leads : (limit : ℕ) (s : System) (new : Desk) → Some s ≡ timelines.nearest d.steps.future → GivesOrLacks written faults a b held d (step_answer limit d s (timelines.redone d.steps d.system)) new result
-      → GivesOrLacks written faults a b held d (own_reply limit d redo) new result
-  redo_leads limit s new e g = subst (λ o. GivesOrLacks written faults a b held d (stepped limit d (codes "redo") (timelines.redone d.steps d.system) o) new result) e g
+  pub redo_leads : (limit : ℕ) (s : System) (new : Desk) → Some s ≡ timelines.nearest d.steps.future → WasServedOrLacked written faults a b held d (step_answer limit d s (timelines.redone d.steps d.system)) new result
+      → WasServedOrLacked written faults a b held d (own_reply limit d redo) new result
+  redo_leads limit s new e g = subst (λ o. WasServedOrLacked written faults a b held d (stepped limit d (codes "redo") (timelines.redone d.steps d.system) o) new result) e g
 
   -- 3. growth
 
-  told : (lacks : Bool) (g : Result Census GrowthFault) → Says written faults a b held (memory_or lacks d.system (growth_reply d.system g)).text (unless_refused outcomes.Printed (memory_or lacks d.system (growth_reply d.system g))) result
-      → Gives written faults a b held (desk_memory_or lacks d (answered (growth_reply d.system g) d)) d result
+  told : (lacks : Bool) (g : Result Census GrowthFault) → WasSaid written faults a b held (memory_or lacks d.system (growth_reply d.system g)).text (unless_refused outcomes.Printed (memory_or lacks d.system (growth_reply d.system g))) result
+      → WasServed written faults a b held (desk_memory_or lacks d (answered (growth_reply d.system g) d)) d result
   told true g says = stays (answered (refused_memory d.system) d) outcomes.Memory says refl (record { refusal = refl; memory = refl; end = refl })
   told false (Ok c) says = stays (answered (growth_reply d.system (Ok c)) d) outcomes.Printed says refl (record { refusal = refl; memory = refl; end = refl })
   told false (Err f) says = stays (answered (growth_reply d.system (Err f)) d) outcomes.Refused says refl (record { refusal = refl; memory = refl; end = refl })
 
-  pub growth_told : (limit level : ℕ) → Prints written faults a b held d.system (growth_reply d.system (growth_at d.system level)) result → GivesOrLacks written faults a b held d (own_reply limit d (growth level)) d result
+  pub growth_told : (limit level : ℕ) → WasPrinted written faults a b held d.system (growth_reply d.system (growth_at d.system level)) result → WasServedOrLacked written faults a b held d (own_reply limit d (growth level)) d result
   growth_told limit level p = record { lacks = p.lacks; gives = told p.lacks (growth_at d.system level) p.says }
 
   -- 4. a picture
@@ -94,11 +94,11 @@ module _ {K : Type 0} (written : K → Option (List ℕ)) (faults : K → ℕ) (
   flags false true e = (refl, refl, refl)
   flags false false e = (refl, refl, refl)
 
-  queried : (asked : Reply) → asked.is_memory ≡ false → asked.ends ≡ false → Prints written faults a b held d.system asked result → GivesOrLacks written faults a b held d (answered asked d) d result
+  queried : (asked : Reply) → asked.is_memory ≡ false → asked.ends ≡ false → WasPrinted written faults a b held d.system asked result → WasServedOrLacked written faults a b held d (answered asked d) d result
   queried asked m e p = record { lacks = p.lacks; gives = by p.lacks p.says }
     where
-      by : (lacks : Bool) → Says written faults a b held (memory_or lacks d.system asked).text (unless_refused outcomes.Printed (memory_or lacks d.system asked)) result
-          → Gives written faults a b held (desk_memory_or lacks d (answered asked d)) d result
+      by : (lacks : Bool) → WasSaid written faults a b held (memory_or lacks d.system asked).text (unless_refused outcomes.Printed (memory_or lacks d.system asked)) result
+          → WasServed written faults a b held (desk_memory_or lacks d (answered asked d)) d result
       by true says = stays (answered (refused_memory d.system) d) outcomes.Memory says refl (record { refusal = refl; memory = refl; end = refl })
       by false says =
           let f = flags asked.is_memory asked.is_refusal m in
@@ -113,14 +113,14 @@ module _ {K : Type 0} (written : K → Option (List ℕ)) (faults : K → ℕ) (
   turtle_plain column (Ok None) = (refl, refl)
   turtle_plain column (Err why) = (refl, refl)
 
-  pub bounds_told : (limit : ℕ) → Prints written faults a b held d.system (bounds_reply d.system (levels_of limit d.system)) result
-      → GivesOrLacks written faults a b held d (own_reply limit d bounds) d result
+  pub bounds_told : (limit : ℕ) → WasPrinted written faults a b held d.system (bounds_reply d.system (levels_of limit d.system)) result
+      → WasServedOrLacked written faults a b held d (own_reply limit d bounds) d result
   bounds_told limit p =
       let plain = shown_plain bounds_text (asked_of (pictures.bounds d.system) (levels_of limit d.system)) in
       queried (bounds_reply d.system (levels_of limit d.system)) plain.0 plain.1 p
 
-  pub place_told : (limit n column : ℕ) → Prints written faults a b held d.system (place_reply d.system n column (levels_of limit d.system)) result
-      → GivesOrLacks written faults a b held d (own_reply limit d (at n column)) d result
+  pub place_told : (limit n column : ℕ) → WasPrinted written faults a b held d.system (place_reply d.system n column (levels_of limit d.system)) result
+      → WasServedOrLacked written faults a b held d (own_reply limit d (at n column)) d result
   place_told limit n column p =
       let plain = turtle_plain column (asked_of (λ x. turtle_behind d.system x n) (levels_of limit d.system)) in
       queried (place_reply d.system n column (levels_of limit d.system)) plain.0 plain.1 p
@@ -132,8 +132,8 @@ module _ {K : Type 0} (written : K → Option (List ℕ)) (faults : K → ℕ) (
   steps = steps_by step d.steps d.system
 
   led_so : (lacks : Bool) (x : Result (List (List L.Symbol)) (List ℕ)) (o : Outcome) (new : System) (h : timelines.Timeline System) → let r = memory_or lacks d.system (edited limit d.system to x) in
-      Says written faults a b held r.text (unless_refused outcomes.Accepted r) (Ok o) → new ≡ r.next → h ≡ steps_after o step d.steps d.system
-      → Gives written faults a b held (desk_memory_or lacks d (led d (edited limit d.system to x) steps)) (desk new h) (Ok o)
+      WasSaid written faults a b held r.text (unless_refused outcomes.Accepted r) (Ok o) → new ≡ r.next → h ≡ steps_after o step d.steps d.system
+      → WasServed written faults a b held (desk_memory_or lacks d (led d (edited limit d.system to x) steps)) (desk new h) (Ok o)
   led_so true x o new h says n e = record {
     put = says.put;
     empty = says.empty;
@@ -153,12 +153,12 @@ module _ {K : Type 0} (written : K → Option (List ℕ)) (faults : K → ℕ) (
     became = subst (Became (edited limit d.system to (Ok levels))) (sym says.outcome) (record { refusal = refl; memory = refl; end = refl });
   }
 
-  pub step_taken : (o : Outcome) (new : System) (h : timelines.Timeline System) → Leads written faults a b held limit d.system to new (Ok o) → h ≡ steps_after o step d.steps d.system
-      → GivesOrLacks written faults a b held d (step_answer limit d to steps) (desk new h) (Ok o)
+  pub step_taken : (o : Outcome) (new : System) (h : timelines.Timeline System) → WasLed written faults a b held limit d.system to new (Ok o) → h ≡ steps_after o step d.steps d.system
+      → WasServedOrLacked written faults a b held d (step_answer limit d to steps) (desk new h) (Ok o)
   step_taken o new h l e =
       let r = memory_or l.lacks d.system (edited limit d.system to (levels_of limit to)) in
-      let says : Says written faults a b held r.text (unless_refused outcomes.Accepted r) (Ok o) =
-      subst (λ (q : Reply). Says written faults a b held q.text (unless_refused outcomes.Accepted q) (Ok o)) l.is l.says in
+      let says : WasSaid written faults a b held r.text (unless_refused outcomes.Accepted r) (Ok o) =
+      subst (λ (q : Reply). WasSaid written faults a b held q.text (unless_refused outcomes.Accepted q) (Ok o)) l.is l.says in
       record { lacks = l.lacks; gives = led_so l.lacks (levels_of limit to) o new h says (l.next ∙ ap (λ (q : Reply). q.next) l.is) e }
 
   same_text : (lacks : Bool) (x : Result (List (List L.Symbol)) (List ℕ)) → (memory_or lacks d.system (edited limit d.system to x)).text ≡ (desk_memory_or lacks d (led d (edited limit d.system to x) steps)).reply.text
@@ -167,13 +167,13 @@ module _ {K : Type 0} (written : K → Option (List ℕ)) (faults : K → ℕ) (
   same_text false (Err why) = refl
 
   -- the sink failed at it
-  pub step_failed : (failed : Failed) (middle : System) (new : Desk) (result : Result Outcome Failed) → IsErr result → Leads written faults a b held limit d.system to middle (Err failed)
-      → GivesOrLacks written faults a b held d (step_answer limit d to steps) new result
+  pub step_failed : (failed : Failed) (middle : System) (new : Desk) (result : Result Outcome Failed) → IsErr result → WasLed written faults a b held limit d.system to middle (Err failed)
+      → WasServedOrLacked written faults a b held d (step_answer limit d to steps) new result
   step_failed failed middle new (Ok o) is l = cc
   step_failed failed middle new (Err f) is l = record {
     lacks = l.lacks;
     gives = record {
-      put = subst (λ (text : List ℕ). Puts {A = Outcome} written faults a b [] held text (Err f)) (ap (λ (q : Reply). q.text) l.is ∙ same_text l.lacks (levels_of limit to)) (puts_refused {B = Outcome} {result = Err f} refl l.says.put);
+      put = subst (λ (text : List ℕ). WasPut {A = Outcome} written faults a b [] held text (Err f)) (ap (λ (q : Reply). q.text) l.is ∙ same_text l.lacks (levels_of limit to)) (puts_refused {B = Outcome} {result = Err f} refl l.says.put);
       empty = l.says.empty;
       next = tt;
       became = tt;

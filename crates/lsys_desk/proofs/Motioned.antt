@@ -15,8 +15,8 @@ use Rattle.lsys_spec.specs.Pictures as pictures
 use Rattle.lsys_spec.specs.Refusals.{Reply, said, refused, line_feed, derivation_text}
 use Rattle.lsys_spec.specs.Replies.{edited, levels_of, or_text, picture_refusal_text, shown}
 use Rattle.lsys_spec.specs.Output.{memory_or}
-use Rattle.lsys_effects.specs.Bounds.{bounds, bounds_of, bounds_text, travelled, turtle_at, turtle_behind}
-use Rattle.lsys_effects.specs.Extents.{Extents}
+use Rattle.lsys_lattice.specs.Bounds.{bounds, bounds_of, bounds_text, travelled, turtle_at, turtle_behind}
+use Rattle.lsys_lattice.specs.Extents.{Extents}
 use Rattle.lsys_hom.specs.Refusals.{refusal_of}
 use Rattle.lsys_level.specs.Spots.{Spotted}
 use Rattle.lsys_match.specs.Derivations.{IsDerived}
@@ -28,8 +28,8 @@ use Rattle.lsys_motion.specs.declared.refusal.MotionRefusal.{MotionRefusal}
 use Rattle.lsys_motion.specs.declared.refusal.MotionRefusal.TheVariants.{Image, Far, Memory}
 use Rattle.lsys_motion.proofs.Lasts.{told_bounds, told_turtles}
 use Rattle.lsys_desks.specs.Desks.{asked_of, bounds_reply, place_reply, pose_reply, turtle_reply}
-use Rattle.lsys_session.specs.Given.{Leads, Prints, unless_refused}
-use Rattle.lsys_session.specs.Sessions.{Says}
+use Rattle.lsys_session.specs.Given.{WasLed, WasPrinted, unless_refused}
+use Rattle.lsys_session.specs.Sessions.{WasSaid}
 use Rattle.lsys_session.specs.declared.outcome.Outcome.{Outcome}
 use Rattle.lsys_session.specs.declared.outcome.Outcome.TheVariants as outcomes
 use Rattle.lsys_session.proofs.Querying.{last_meant}
@@ -88,36 +88,36 @@ module _ (limit : ℕ) (s : System) (levels : List (List Symbol)) (is : meaning 
 -- 2. what is said
 
 module _ {K : Type 0} (written : K → Option (List ℕ)) (faults : K → ℕ) (a b : K) (held : List ℕ) (limit : ℕ) (s : System) (there : HasLevels limit s) (result : Result Outcome Failed) where
-  so : (reply asked : Reply) → asked ≡ reply → Prints written faults a b held s reply result → Prints written faults a b held s asked result
-  so reply asked e p = subst (λ r. Prints written faults a b held s r result) (sym e) p
+  so : (reply asked : Reply) → asked ≡ reply → WasPrinted written faults a b held s reply result → WasPrinted written faults a b held s asked result
+  so reply asked e p = subst (λ r. WasPrinted written faults a b held s r result) (sym e) p
 
   refused_so : (asked : Reply) (e : MotionRefusal) → ((r : PictureRefusal) → told s (last_level there.0) ≡ Err r → asked ≡ refused s (picture_refusal_text r))
-      → IsAnswer {A = Told} (told s (last_level there.0)) (Err e) → Says written faults a b held (motion_line e) (motion_outcome e) result → Prints written faults a b held s asked result
+      → IsAnswer {A = Told} (told s (last_level there.0)) (Err e) → WasSaid written faults a b held (motion_line e) (motion_outcome e) result → WasPrinted written faults a b held s asked result
   refused_so asked (Image e) away h says = so (refused s (picture_refusal_text (NoImage (refusal_of e)))) asked (away (NoImage (refusal_of e)) h) (record { lacks = false; says = says })
   refused_so asked (Far n) away h says = so (refused s (picture_refusal_text (pictures.Far n))) asked (away (pictures.Far n) h) (record { lacks = false; says = says })
   refused_so asked Memory away h says = record { lacks = true; says = says }
 
-  pub bounds_refused : (e : MotionRefusal) → IsTold limit s (Err e) → Says written faults a b held (motion_line e) (motion_outcome e) result
-      → Prints written faults a b held s (bounds_reply s (levels_of limit s)) result
+  pub bounds_refused : (e : MotionRefusal) → IsTold limit s (Err e) → WasSaid written faults a b held (motion_line e) (motion_outcome e) result
+      → WasPrinted written faults a b held s (bounds_reply s (levels_of limit s)) result
   bounds_refused e h says = refused_so (bounds_reply s (levels_of limit s)) e (bounds_no limit s there.0 there.1) (h there.0 there.1) says
 
-  pub place_refused : (n column : ℕ) (e : MotionRefusal) → IsTold limit s (Err e) → Says written faults a b held (motion_line e) (motion_outcome e) result
-      → Prints written faults a b held s (place_reply s n column (levels_of limit s)) result
+  pub place_refused : (n column : ℕ) (e : MotionRefusal) → IsTold limit s (Err e) → WasSaid written faults a b held (motion_line e) (motion_outcome e) result
+      → WasPrinted written faults a b held s (place_reply s n column (levels_of limit s)) result
   place_refused n column e h says = refused_so (place_reply s n column (levels_of limit s)) e (place_no limit s there.0 there.1 n column) (h there.0 there.1) says
 
-  pub bounds_printed : (t : Told) → IsTold limit s (Ok t) → Says written faults a b held (spans_text t.bounds) outcomes.Printed result
-      → Prints written faults a b held s (bounds_reply s (levels_of limit s)) result
+  pub bounds_printed : (t : Told) → IsTold limit s (Ok t) → WasSaid written faults a b held (spans_text t.bounds) outcomes.Printed result
+      → WasPrinted written faults a b held s (bounds_reply s (levels_of limit s)) result
   bounds_printed t h says =
       so (said s (bounds_text t.bounds)) (bounds_reply s (levels_of limit s)) (bounds_so limit s there.0 there.1 t (h there.0 there.1))
-      (record { lacks = false; says = subst (λ text. Says written faults a b held text outcomes.Printed result) (spans_are t.bounds) says })
+      (record { lacks = false; says = subst (λ text. WasSaid written faults a b held text outcomes.Printed result) (spans_are t.bounds) says })
 
-  pose_printed : (column : ℕ) (p : Option Pose) → Says written faults a b held (pose_line column p) (pose_outcome p) result → Prints written faults a b held s (pose_reply s column p) result
+  pose_printed : (column : ℕ) (p : Option Pose) → WasSaid written faults a b held (pose_line column p) (pose_outcome p) result → WasPrinted written faults a b held s (pose_reply s column p) result
   pose_printed column (Some p) says = record { lacks = false; says = says }
   pose_printed column None says = record { lacks = false; says = says }
 
   pub place_printed : (n column : ℕ) (t : Told) → IsTold limit s (Ok t)
-      → Says written faults a b held (pose_line column (slice_get t.poses n)) (pose_outcome (slice_get t.poses n)) result
-      → Prints written faults a b held s (place_reply s n column (levels_of limit s)) result
+      → WasSaid written faults a b held (pose_line column (slice_get t.poses n)) (pose_outcome (slice_get t.poses n)) result
+      → WasPrinted written faults a b held s (place_reply s n column (levels_of limit s)) result
   place_printed n column t h says =
       so (pose_reply s column (slice_get t.poses n)) (place_reply s n column (levels_of limit s)) (place_so limit s there.0 there.1 n column t (h there.0 there.1))
       (pose_printed column (slice_get t.poses n) says)
@@ -141,6 +141,6 @@ module _ (limit : ℕ) (old to : System) where
   after_by false (Ok levels) o new m e n k = subst (λ p. AreKept limit new (motions_after p m)) (sym e) tt
 
   pub after_step : {K : Type 0} (written : K → Option (List ℕ)) (faults : K → ℕ) (a b : K) (held : List ℕ) (new : System) (o : Outcome) (m : Option KeptMotions)
-      → Leads written faults a b held limit old to new (Ok o) → AreKept limit old m → AreKept limit new (motions_after o m)
+      → WasLed written faults a b held limit old to new (Ok o) → AreKept limit old m → AreKept limit new (motions_after o m)
   after_step written faults a b held new o m l k =
       after_by l.lacks (levels_of limit to) o new m (l.says.outcome ∙ ap (unless_refused outcomes.Accepted) l.is) (l.next ∙ ap (λ (q : Reply). q.next) l.is) k

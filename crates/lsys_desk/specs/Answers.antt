@@ -1,12 +1,12 @@
 -- What a desk answers, where memory may be wanting.
 use Rattle.std.specs.Prelude.{◌≡◌, ℕ, Bool, true, false, ◌&&◌, Option, Some, None, is_some, Result, IfOk, List, []}
-use Rattle.lsys_io.specs.Writes.{Puts}
+use Rattle.lsys_io.specs.Writes.{WasPut}
 use Rattle.lsys_io.specs.declared.Failed.{Failed}
 use Rattle.lsys_spec.specs.Systems.{System}
 use Rattle.lsys_spec.specs.Refusals.{Reply, is_long}
 use Rattle.lsys_spec.specs.Replies.{edited, levels_of}
 use Rattle.lsys_spec.specs.Costs.{edit_by}
-use Rattle.lsys_history.specs.Timelines.{Timeline}
+use Rattle.lsys_desks.specs.Timelines.{Timeline}
 use Rattle.lsys_desks.specs.Desks.{Desk, DeskLine, DeskReply, bare_asks, desk_memory_or, led, reply_by}
 use Rattle.lsys_desks.specs.Costs.{leads_by}
 use Rattle.lsys_session.specs.Answers.{ends_session, is_derived, lacks_memory, line_reply, line_spelled, may_lack, refuses}
@@ -35,24 +35,24 @@ pub record Became (reply : Reply) (o : Outcome) : Type 0 where
   pub end : reply.ends ≡ ends_session o
 
 -- A reply was put whole, and its desk is kept; or the sink failed, and a front of the reply was written.
-pub record Gives {K : Type 0} (written : K → Option (List ℕ)) (faults : K → ℕ) (sink_old sink_new : K) (held : List ℕ) (answer : DeskReply) (new : Desk) (result : Result Outcome Failed) : Type 0 where
-  pub put : Puts written faults sink_old sink_new [] held answer.reply.text result
+pub record WasServed {K : Type 0} (written : K → Option (List ℕ)) (faults : K → ℕ) (sink_old sink_new : K) (held : List ℕ) (answer : DeskReply) (new : Desk) (result : Result Outcome Failed) : Type 0 where
+  pub put : WasPut written faults sink_old sink_new [] held answer.reply.text result
   pub empty : held ≡ []
   pub next : IfOk result (λ o. new ≡ answer.next)
   pub became : IfOk result (Became answer.reply)
 
 -- This reply, or `refused memory`, was put whole, and its desk is kept; or the sink failed, and a front of the reply was written.
-pub record GivesOrLacks {K : Type 0} (written : K → Option (List ℕ)) (faults : K → ℕ) (sink_old sink_new : K) (held : List ℕ) (old : Desk) (answer : DeskReply) (new : Desk) (result : Result Outcome Failed) : Type 0 where
+pub record WasServedOrLacked {K : Type 0} (written : K → Option (List ℕ)) (faults : K → ℕ) (sink_old sink_new : K) (held : List ℕ) (old : Desk) (answer : DeskReply) (new : Desk) (result : Result Outcome Failed) : Type 0 where
   pub lacks : Bool
-  pub gives : Gives written faults sink_old sink_new held (desk_memory_or lacks old answer) new result
+  pub gives : WasServed written faults sink_old sink_new held (desk_memory_or lacks old answer) new result
 
 -- The definitions' reply to the line, or `refused memory`, was put whole, and its desk is kept; or the sink failed, and a front of
 -- the reply was written.
-pub record Answers {K : Type 0} (written : K → Option (List ℕ)) (faults : K → ℕ) (sink_old sink_new : K) (held : List ℕ) (limit : ℕ) (old new : Desk) (line : List ℕ) (result : Result Outcome Failed) : Type 0 where
+pub record WasReplied {K : Type 0} (written : K → Option (List ℕ)) (faults : K → ℕ) (sink_old sink_new : K) (held : List ℕ) (limit : ℕ) (old new : Desk) (line : List ℕ) (result : Result Outcome Failed) : Type 0 where
   pub lacks : Bool
   pub answer : DeskReply
   pub is : answer ≡ answer_or_memory limit old line lacks
-  pub gives : Gives written faults sink_old sink_new held answer new result
+  pub gives : WasServed written faults sink_old sink_new held answer new result
 
 -- the reply of the step that leads to a system
 abbrev pub step_answer : ℕ → Desk → System → Timeline System → DeskReply

@@ -3,3 +3,4 @@ pub mod Views
 pub mod Motions
 pub mod Answers
 pub mod Growing
+pub mod Calls

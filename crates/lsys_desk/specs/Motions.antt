@@ -2,14 +2,18 @@
 use Rattle.std.specs.Prelude.{◌≡◌, ℕ, ℤ, Option, Some, None, Result, Ok, Err, List, ◌∷◌, ◌++◌, codes}
 use Rattle.std.specs.Fmt.{signed_decimal}
 use Rattle.lsys_spec.specs.Systems.{System}
+use Rattle.lsys_spec.specs.Lattices.{Lattice}
 use Rattle.lsys_spec.specs.Levels.{Symbol}
 use Rattle.lsys_spec.specs.Meaning.{meaning, last_level}
 use Rattle.lsys_spec.specs.Pictures.{NoImage, Pose}
 use Rattle.lsys_spec.specs.Pictures as pictures
 use Rattle.lsys_spec.specs.Refusals.{line_feed, with_number}
-use Rattle.lsys_effects.specs.Bounds.{pose_text}
-use Rattle.lsys_effects.specs.Extents.{Extents}
+use Rattle.lsys_lattice.specs.Bounds.{pose_text}
+use Rattle.lsys_lattice.specs.Extents.{Extents}
 use Rattle.lsys_hom.specs.Refusals.{refusal_of}
+use Rattle.lsys_level.specs.Spots.{Spotted}
+use Rattle.lsys_out.specs.Drawings as drawings
+use Rattle.lsys_out.specs.Shown.{on_lattice}
 use Rattle.lsys_motion.specs.Told.{Told, told}
 use Rattle.lsys_motion.specs.Refusals.{IsAnswer}
 use Rattle.lsys_motion.specs.declared.refusal.MotionRefusal.{MotionRefusal}
@@ -75,3 +79,7 @@ pose_line column None = codes "refused " ++ (with_number (codes "place") column 
 abbrev pub pose_outcome : Option Pose → Outcome
 pose_outcome (Some p) = outcomes.Printed
 pose_outcome None = outcomes.Refused
+
+-- the motions of the picture of a system's last level on a lattice, or why there are none
+abbrev pub AreMotionsOn : Lattice → System → List (List Spotted) → Result Told MotionRefusal → Type 0
+AreMotionsOn l s levels result = (naming : ℕ → List ℕ) → IsAnswer (told (on_lattice l s) (drawings.last_level naming s levels)) result

@@ -1,7 +1,7 @@
 -- What becomes of the systems that are kept where a desk goes from one to another.
 use Rattle.std.specs.Prelude.{◌≢◌, []}
 use Rattle.lsys_spec.specs.Systems.{System}
-use Rattle.lsys_history.specs.Timelines.{Timeline, edited, redone, undone}
+use Rattle.lsys_desks.specs.Timelines.{Timeline, edited, redone, undone}
 use Rattle.lsys_session.specs.declared.outcome.Outcome.{Outcome}
 use Rattle.lsys_session.specs.declared.outcome.Outcome.TheVariants.{Accepted}
 use Rattle.lsys_desk.specs.declared.step.Step.{Step}

@@ -1,7 +1,11 @@
 -- The desk of the code as that of the definitions.
+use Rattle.std.specs.Prelude.{◌+◌, Option}
 use Rattle.lsys_spec.specs.Systems.{System}
-use Rattle.lsys_history.specs.Timelines.{Timeline}
-use Rattle.lsys_desks.specs.Desks.{Desk, desk}
+use Rattle.lsys_text.specs.Tokens.{kind_of}
+use Rattle.lsys_text.specs.declared.token_kind.Token.{Token}
+use Rattle.lsys_text.specs.declared.token_kind.TokenKind.{TokenKind}
+use Rattle.lsys_desks.specs.Timelines.{Timeline}
+use Rattle.lsys_desks.specs.Desks.{Desk, desk, two_kinds_ask}
 use Rattle.lsys_desks.specs.Desks as desks
 use Rattle.lsys_desk.specs.declared.desk_line.DeskLine.{DeskLine}
 use Rattle.lsys_desk.specs.declared.desk_line.DeskLine.TheVariants.{Undo, Redo, Growth, Bounds, At}
@@ -13,6 +17,10 @@ desk_line_of Redo = desks.redo
 desk_line_of (Growth level) = desks.growth level
 desk_line_of Bounds = desks.bounds
 desk_line_of (At place column) = desks.at place column
+
+-- what a token of this kind and one behind it ask
+abbrev pub asked_by_two : TokenKind → Token → Option desks.DeskLine
+asked_by_two first second = two_kinds_ask (kind_of first) (kind_of second.kind) (second.start + 1)
 
 -- what contracts see of a desk: the derivation of its system, and the steps that led there
 pub record Bench (D : Type 0) : Type 0 where

@@ -2,16 +2,13 @@
 ghost use Rattle.std.specs.Prelude.{◌≡◌, ◌≤◌, [], None, Some, true, false, length, IfOk};
 ghost use Rattle.lsys_syntax.specs.Limits.{most_line_bytes};
 ghost use Rattle.lsys_laws.specs.Sessions.{HasLevels};
-ghost use Rattle.lsys_spec.specs.Costs.{edit_by};
-ghost use Rattle.lsys_spec.specs.Replies.{levels_of};
 ghost use Rattle.lsys_desks.specs.Costs.{own_leads};
-ghost use Rattle.lsys_desks.specs.Desks.{EachKept, bare_asks, bounds_reply, opening_desk, own_reply, place_reply};
+ghost use Rattle.lsys_desks.specs.Desks.{EachKept, bare_asks, opening_desk};
 ghost use Rattle.lsys_desks.specs.Desks as desks;
-ghost use Rattle.lsys_session.specs.Answers.{Counts, is_derived, line_spelled};
-ghost use Rattle.lsys_session.specs.Given.{Prints};
-ghost use Rattle.lsys_desk.specs.Answers.{Answers, GivesOrLacks, TellsLead, is_led, leads_to, step_answer};
-ghost use Rattle.lsys_desk.specs.Steps.{CanStep, steps_by};
-ghost use Rattle.lsys_desk.specs.Views.{desk_line_of, desk_on};
+ghost use Rattle.lsys_desk.specs.Answers.{TellsLead, leads_to};
+ghost use Rattle.lsys_desk.specs.Steps.{CanStep};
+ghost use Rattle.lsys_desk.specs.Views.{desk_on};
+ghost use Rattle.lsys_desk.specs.Calls.{Replies, Serves, SaysBounds, ServesAt, KeepsLevels, edit_spelled, own_lead, CountsStep, CountsLed, CountsOther, Goes, ServesLine};
 
 use crate::desk_line::{DeskLine, desk_line};
 use crate::growth_reply::answer_growth;
@@ -19,7 +16,7 @@ use crate::kept_motions::{HasMotions, KeptMotions, motions_after};
 use crate::picture_reply::{answer_bounds, answer_place};
 use crate::sayings::say;
 use crate::step::{Step, take_step};
-use lsys_history::History;
+use lsys_desks::History;
 use lsys_io::{Buffered, Failed, Sink};
 use lsys_match::Steps;
 use lsys_rules::{Refusal, System};
@@ -95,16 +92,10 @@ impl<L: Ledger, D: HasMotions<L>> Desk<L, D> {
         visited: &mut Steps<V>,
     ) -> Result<Outcome, Failed>
         requires { out.old ≡ [] }
-        ensures answers { Answers K.written K.faults sink.old sink.new out.new (D.limit_of self.old.derivation)
-            (desk_on D.system_of self.old) (desk_on D.system_of self.new) line.now result }
+        ensures answers { Replies K.Sink sink out D.limit_of D.system_of self line.now result }
         ensures limit { D.limit_of self.new.derivation ≡ D.limit_of self.old.derivation }
-        ensures kept { EachKept (HasLevels (D.limit_of self.old.derivation)) self.old.steps
-            → EachKept (HasLevels (D.limit_of self.new.derivation)) self.new.steps }
-        ensures counts { Counts D.visits (D.limit_of self.old.derivation)
-            (is_led (D.system_of self.old.derivation) line.now)
-            (D.system_of self.old.derivation) (D.system_of self.new.derivation)
-            (record { asked = asked.old; visited = visited.old })
-            (record { asked = asked.new; visited = visited.new }) result }
+        ensures kept { KeepsLevels D.limit_of self }
+        ensures counts { CountsLed D.visits D.limit_of D.system_of self asked visited line.now result }
         ensures leads { IfOk result (TellsLead (leads_to (desk_on D.system_of self.old) line.now)) }
     {
         if line.len() > MOST_LINE_BYTES {
@@ -130,17 +121,11 @@ impl<L: Ledger, D: HasMotions<L>> Desk<L, D> {
         requires empty { out.old ≡ [] }
         requires short { length line.now ≤ most_line_bytes }
         requires other { bare_asks line.now ≡ None }
-        ensures answers { Answers K.written K.faults sink.old sink.new out.new (D.limit_of self.old.derivation)
-            (desk_on D.system_of self.old) (desk_on D.system_of self.new) line.now result }
+        ensures answers { Replies K.Sink sink out D.limit_of D.system_of self line.now result }
         ensures limit { D.limit_of self.new.derivation ≡ D.limit_of self.old.derivation }
         ensures kept { EachKept (HasLevels (D.limit_of self.new.derivation)) self.new.steps }
-        ensures counts { Counts D.visits (D.limit_of self.old.derivation)
-            (is_derived (D.system_of self.old.derivation) line.now)
-            (D.system_of self.old.derivation) (D.system_of self.new.derivation)
-            (record { asked = asked.old; visited = visited.old })
-            (record { asked = asked.new; visited = visited.new }) result }
-        ensures leads { IfOk result
-            (TellsLead (edit_by (D.system_of self.old.derivation) (line_spelled line.now))) }
+        ensures counts { CountsOther D.visits D.limit_of D.system_of self asked visited line.now result }
+        ensures leads { IfOk result (TellsLead (edit_spelled (D.system_of self.old.derivation) line.now)) }
     {
         let request = match request_of(alloc, self.session.system(), line) {
             Ok(request) => request,
@@ -165,17 +150,11 @@ impl<L: Ledger, D: HasMotions<L>> Desk<L, D> {
         visited: &mut Steps<V>,
     ) -> Result<Outcome, Failed>
         requires { out.old ≡ [] }
-        ensures gives { GivesOrLacks K.written K.faults sink.old sink.new out.new (desk_on D.system_of self.old)
-            (own_reply (D.limit_of self.old.derivation) (desk_on D.system_of self.old) (desk_line_of line))
-            (desk_on D.system_of self.new) result }
+        ensures gives { ServesLine K.Sink sink out D.limit_of D.system_of self line result }
         ensures limit { D.limit_of self.new.derivation ≡ D.limit_of self.old.derivation }
         ensures kept { EachKept (HasLevels (D.limit_of self.new.derivation)) self.new.steps }
-        ensures counts { Counts D.visits (D.limit_of self.old.derivation) false
-            (D.system_of self.old.derivation) (D.system_of self.new.derivation)
-            (record { asked = asked.old; visited = visited.old })
-            (record { asked = asked.new; visited = visited.new }) result }
-        ensures leads { IfOk result
-            (TellsLead (own_leads (desk_on D.system_of self.old) (desk_line_of line))) }
+        ensures counts { CountsStep D.visits D.limit_of D.system_of self asked visited false result }
+        ensures leads { IfOk result (TellsLead (own_lead D.system_of self.old line)) }
     {
         match line {
             DeskLine::Undo => self.undo(alloc, out, sink, asked, visited),
@@ -196,9 +175,7 @@ impl<L: Ledger, D: HasMotions<L>> Desk<L, D> {
         sink: &mut K,
     ) -> Result<Outcome, Failed>
         requires { out.old ≡ [] }
-        ensures prints { let s = D.system_of self.old.derivation in
-            Prints K.written K.faults sink.old sink.new out.new s
-            (bounds_reply s (levels_of (D.limit_of self.old.derivation) s)) result }
+        ensures prints { SaysBounds K.Sink sink out D.limit_of D.system_of self.old.derivation result }
         ensures stays { self.new ≡ self.old }
         ensures kept { EachKept (HasLevels (D.limit_of self.new.derivation)) self.new.steps }
     {
@@ -216,9 +193,7 @@ impl<L: Ledger, D: HasMotions<L>> Desk<L, D> {
         sink: &mut K,
     ) -> Result<Outcome, Failed>
         requires { out.old ≡ [] }
-        ensures prints { let s = D.system_of self.old.derivation in
-            Prints K.written K.faults sink.old sink.new out.new s
-            (place_reply s place column (levels_of (D.limit_of self.old.derivation) s)) result }
+        ensures prints { ServesAt place column K.Sink sink out D.limit_of D.system_of self result }
         ensures stays { self.new ≡ self.old }
         ensures kept { EachKept (HasLevels (D.limit_of self.new.derivation)) self.new.steps }
     {
@@ -244,15 +219,10 @@ impl<L: Ledger, D: HasMotions<L>> Desk<L, D> {
         visited: &mut Steps<V>,
     ) -> Result<Outcome, Failed>
         requires { out.old ≡ [] }
-        ensures gives { GivesOrLacks K.written K.faults sink.old sink.new out.new (desk_on D.system_of self.old)
-            (own_reply (D.limit_of self.old.derivation) (desk_on D.system_of self.old) desks.undo)
-            (desk_on D.system_of self.new) result }
+        ensures gives { Serves K.Sink sink out D.limit_of D.system_of self desks.undo result }
         ensures limit { D.limit_of self.new.derivation ≡ D.limit_of self.old.derivation }
         ensures kept { EachKept (HasLevels (D.limit_of self.new.derivation)) self.new.steps }
-        ensures counts { Counts D.visits (D.limit_of self.old.derivation) false
-            (D.system_of self.old.derivation) (D.system_of self.new.derivation)
-            (record { asked = asked.old; visited = visited.old })
-            (record { asked = asked.new; visited = visited.new }) result }
+        ensures counts { CountsStep D.visits D.limit_of D.system_of self asked visited false result }
         ensures leads { IfOk result
             (TellsLead (own_leads (desk_on D.system_of self.old) desks.undo)) }
     {
@@ -276,15 +246,10 @@ impl<L: Ledger, D: HasMotions<L>> Desk<L, D> {
         visited: &mut Steps<V>,
     ) -> Result<Outcome, Failed>
         requires { out.old ≡ [] }
-        ensures gives { GivesOrLacks K.written K.faults sink.old sink.new out.new (desk_on D.system_of self.old)
-            (own_reply (D.limit_of self.old.derivation) (desk_on D.system_of self.old) desks.redo)
-            (desk_on D.system_of self.new) result }
+        ensures gives { Serves K.Sink sink out D.limit_of D.system_of self desks.redo result }
         ensures limit { D.limit_of self.new.derivation ≡ D.limit_of self.old.derivation }
         ensures kept { EachKept (HasLevels (D.limit_of self.new.derivation)) self.new.steps }
-        ensures counts { Counts D.visits (D.limit_of self.old.derivation) false
-            (D.system_of self.old.derivation) (D.system_of self.new.derivation)
-            (record { asked = asked.old; visited = visited.old })
-            (record { asked = asked.new; visited = visited.new }) result }
+        ensures counts { CountsStep D.visits D.limit_of D.system_of self asked visited false result }
         ensures leads { IfOk result
             (TellsLead (own_leads (desk_on D.system_of self.old) desks.redo)) }
     {
@@ -311,16 +276,10 @@ impl<L: Ledger, D: HasMotions<L>> Desk<L, D> {
     ) -> Result<Outcome, Failed>
         requires empty { out.old ≡ [] }
         requires there { CanStep step self.old.steps }
-        ensures gives { GivesOrLacks K.written K.faults sink.old sink.new out.new (desk_on D.system_of self.old)
-            (step_answer (D.limit_of self.old.derivation) (desk_on D.system_of self.old) system
-            (steps_by step self.old.steps (D.system_of self.old.derivation)))
-            (desk_on D.system_of self.new) result }
+        ensures gives { Goes step system K.Sink sink out D.limit_of D.system_of self result }
         ensures limit { D.limit_of self.new.derivation ≡ D.limit_of self.old.derivation }
         ensures kept { EachKept (HasLevels (D.limit_of self.new.derivation)) self.new.steps }
-        ensures counts { Counts D.visits (D.limit_of self.old.derivation) true
-            (D.system_of self.old.derivation) (D.system_of self.new.derivation)
-            (record { asked = asked.old; visited = visited.old })
-            (record { asked = asked.new; visited = visited.new }) result }
+        ensures counts { CountsStep D.visits D.limit_of D.system_of self asked visited true result }
         ensures leads { IfOk result (TellsLead (Some system)) }
     {
         let Ok(present) = self.session.system().clone() else {

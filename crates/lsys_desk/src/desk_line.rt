@@ -1,10 +1,10 @@
 //! Lines that ask something of a desk.
-ghost use Rattle.std.specs.Prelude.{◌≡◌, ◌<◌, ◌≤◌, ◌+◌, ◌&&◌, ℕ, All, false, map, length, bytes_eq, codes, IfOk, OnErr, option_map};
+ghost use Rattle.std.specs.Prelude.{◌≡◌, ◌<◌, ◌≤◌, ◌+◌, ℕ, All, false, map, length, bytes_eq, IfOk, OnErr, option_map};
 ghost use Rattle.lsys_syntax.specs.Limits.{most_line_bytes};
 ghost use Rattle.lsys_spec.specs.Refusals.{is_passed_over};
 ghost use Rattle.lsys_text.specs.Tokens.{IsWithin, kind_of, token_of};
-ghost use Rattle.lsys_desks.specs.Desks.{bare_asks, kind_asks, number_asks, tokens_ask, two_kinds_ask, word_asks};
-ghost use Rattle.lsys_desk.specs.Views.{desk_line_of};
+ghost use Rattle.lsys_desks.specs.Desks.{bare_asks, kind_asks, number_asks, tokens_ask, word_asks};
+ghost use Rattle.lsys_desk.specs.Views.{desk_line_of, asked_by_two};
 
 use lsys_session::is_without_command;
 use lsys_text::{TextRefusal, Token, TokenKind, Word, tokens};
@@ -84,7 +84,7 @@ fn asked_by_word(word: Word) -> Option<DeskLine>
 // What a token of this kind and one behind it ask.
 fn asked_with(first: TokenKind, second: Token) -> Option<DeskLine>
     requires { second.start < second.end }
-    ensures { two_kinds_ask (kind_of first) (kind_of second.kind) (second.start + 1) ≡ option_map desk_line_of result }
+    ensures { asked_by_two first second ≡ option_map desk_line_of result }
 {
     let TokenKind::Word(word) = first else {
         return None;

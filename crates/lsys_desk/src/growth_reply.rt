@@ -1,15 +1,14 @@
 //! Replies to lines that ask for the growth of a system.
 ghost use Rattle.std.specs.Prelude.{◌≡◌, ◌<◌, [], decimal, flat_map, map};
-ghost use Rattle.lsys_io.specs.Writes.{Puts};
+ghost use Rattle.lsys_io.specs.Putting.{Puts};
 ghost use Rattle.lsys_module.specs.Views.{module_name};
 ghost use Rattle.lsys_spec.specs.Systems.{module_name_text};
-ghost use Rattle.lsys_growth_laws.specs.Growth.{count_line, growth_at, growth_text};
+ghost use Rattle.lsys_matrix.specs.Growth.{count_line, growth_at, growth_text};
 ghost use Rattle.lsys_growth.specs.Views.{IsAnswer, count_of};
-ghost use Rattle.lsys_desks.specs.Desks.{growth_reply};
-ghost use Rattle.lsys_session.specs.Given.{Prints};
-ghost use Rattle.lsys_session.specs.Sessions.{Says};
 ghost use Rattle.lsys_session.specs.declared.outcome.Outcome.TheVariants.{Printed};
 ghost use Rattle.lsys_desk.specs.Growing.{growth_line, growth_outcome};
+ghost use Rattle.lsys_session.specs.Calls.{Says};
+ghost use Rattle.lsys_desk.specs.Calls.{SaysGrowth};
 
 use crate::sayings::{finish, say};
 use itoa::Buffer;
@@ -35,8 +34,7 @@ pub(crate) fn answer_growth<K: Sink>(
     sink: &mut K,
 ) -> Result<Outcome, Failed>
     requires { out.old ≡ [] }
-    ensures { Prints K.written K.faults sink.old sink.new out.new system.now
-        (growth_reply system.now (growth_at system.now level)) result }
+    ensures { SaysGrowth K.Sink sink out system.now level result }
 {
     match counted_growth::<Brand>(alloc, system, level, Blank::new(1)) {
         Ok(growth) => print_growth(out, sink, &growth),
@@ -67,7 +65,7 @@ fn refuse_growth<K: Sink>(
     refusal: GrowthRefusal,
 ) -> Result<Outcome, Failed>
     requires { out.old ≡ [] }
-    ensures { Says K.written K.faults sink.old sink.new out.new (growth_line refusal) (growth_outcome refusal) result }
+    ensures { Says K.Sink sink out (growth_line refusal) (growth_outcome refusal) result }
 {
     match refusal {
         GrowthRefusal::Class => say(out, sink, b"refused growth\n", Outcome::Refused),
@@ -84,7 +82,7 @@ fn print_growth<K: Sink>(
     growth: &Growth,
 ) -> Result<Outcome, Failed>
     requires { out.old ≡ [] }
-    ensures { Says K.written K.faults sink.old sink.new out.new (growth_text growth.now) Printed result }
+    ensures { Says K.Sink sink out (growth_text growth.now) Printed result }
 {
     put_growth(out, sink, growth)?;
     finish(out, sink)?;
@@ -93,7 +91,7 @@ fn print_growth<K: Sink>(
 
 // Puts the length of a level and the counts of its letters, each on a line of its own.
 fn put_growth<K: Sink>(out: &mut Buffered, sink: &mut K, growth: &Growth) -> Result<(), Failed>
-    ensures { Puts K.written K.faults sink.old sink.new out.old out.new (growth_text growth.now) result }
+    ensures { Puts K.Sink sink out (growth_text growth.now) result }
 {
     out.put(sink, b"growth ")?;
     put_wide_number(out, sink, growth.length())?;
@@ -102,7 +100,7 @@ fn put_growth<K: Sink>(out: &mut Buffered, sink: &mut K, growth: &Growth) -> Res
 }
 
 fn put_counts<K: Sink>(out: &mut Buffered, sink: &mut K, counts: &[Count]) -> Result<(), Failed>
-    ensures { Puts K.written K.faults sink.old sink.new out.old out.new (flat_map count_line (map count_of counts.now)) result }
+    ensures { Puts K.Sink sink out (flat_map count_line (map count_of counts.now)) result }
 {
     for count in counts {
         put_count(out, sink, count)?;
@@ -112,7 +110,7 @@ fn put_counts<K: Sink>(out: &mut Buffered, sink: &mut K, counts: &[Count]) -> Re
 
 // Puts how often a letter stands in the level.
 fn put_count<K: Sink>(out: &mut Buffered, sink: &mut K, count: &Count) -> Result<(), Failed>
-    ensures { Puts K.written K.faults sink.old sink.new out.old out.new (count_line (count_of count.now)) result }
+    ensures { Puts K.Sink sink out (count_line (count_of count.now)) result }
 {
     put_letter(out, sink, count.name)?;
     out.put(sink, b" ")?;
@@ -121,7 +119,7 @@ fn put_count<K: Sink>(out: &mut Buffered, sink: &mut K, count: &Count) -> Result
 }
 
 fn put_letter<K: Sink>(out: &mut Buffered, sink: &mut K, name: Name) -> Result<(), Failed>
-    ensures { Puts K.written K.faults sink.old sink.new out.old out.new (module_name_text (module_name name)) result }
+    ensures { Puts K.Sink sink out (module_name_text (module_name name)) result }
 {
     let text = name.text();
     let bytes = text.as_bytes();
@@ -129,7 +127,7 @@ fn put_letter<K: Sink>(out: &mut Buffered, sink: &mut K, name: Name) -> Result<(
 }
 
 fn put_wide_number<K: Sink>(out: &mut Buffered, sink: &mut K, number: u128) -> Result<(), Failed>
-    ensures { Puts K.written K.faults sink.old sink.new out.old out.new (decimal number) result }
+    ensures { Puts K.Sink sink out (decimal number) result }
 {
     let mut digits = Buffer::new();
     out.put(sink, digits.format(number).as_bytes())

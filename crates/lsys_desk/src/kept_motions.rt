@@ -1,15 +1,11 @@
 //! The motions of the picture of the last level, which a desk keeps.
-ghost use Rattle.std.specs.Prelude.{◌≡◌, ℕ, List, None};
-ghost use Rattle.lsys_spec.specs.Systems as spec;
+ghost use Rattle.std.specs.Prelude.{◌≡◌, None};
 ghost use Rattle.lsys_lattice.specs.Wide.{extents_of};
-ghost use Rattle.lsys_match.specs.Derivations.{IsDerived};
-ghost use Rattle.lsys_out.specs.Drawings.{last_level};
 ghost use Rattle.lsys_out.specs.Nesting.{HasLast};
-ghost use Rattle.lsys_out.specs.Shown.{on_lattice};
-ghost use Rattle.lsys_motion.specs.Refusals.{IsAnswer};
 ghost use Rattle.lsys_motion.specs.Told.{told};
 ghost use Rattle.lsys_session.specs.Given.{IsKept};
-ghost use Rattle.lsys_desk.specs.Motions.{AreKept, IsTold, motions_after, told_by, told_in};
+ghost use Rattle.lsys_desk.specs.Motions.{AreKept, IsTold, motions_after, told_by, told_in, AreMotionsOn};
+ghost use Rattle.lsys_desk.specs.Calls.{HasItsLevels};
 
 use lsys_lattice::{Cubic, Extents, Hexagonal, Lattice, Square};
 use lsys_match::Derivation;
@@ -29,8 +25,7 @@ pub trait HasMotions<L: Ledger>: Derivation<L> {
     /// The image's refusal; then the first module that would lead too far; or want of memory.
     fn motions<T: Lattice>(&self, alloc: Global) -> Result<Motions<T>, MotionRefusal>
         requires { HasLast (Self.system_of self.now) (Self.levels self.now) }
-        ensures { (naming : ℕ → List ℕ) → let s = Self.system_of self.now in
-            IsAnswer (told (on_lattice T.shape s) (last_level naming s (Self.levels self.now))) result };
+        ensures { AreMotionsOn T.shape (Self.system_of self.now) (Self.levels self.now) result };
 }
 
 impl<L: Ledger> HasMotions<L> for ForestDerivation<L> {
@@ -113,7 +108,7 @@ fn motions_on<T: Lattice, L: Ledger, D: HasMotions<L>>(
     derivation: &D,
 ) -> Result<Motions<T>, MotionRefusal>
     requires kept { IsKept (D.limit_of derivation.now) (D.system_of derivation.now) }
-    requires levels { IsDerived (D.system_of derivation.now) (D.limit_of derivation.now) (D.levels derivation.now) }
+    requires levels { HasItsLevels D.limit_of D.system_of D.levels derivation.now }
     requires lattice { T.shape ≡ (D.system_of derivation.now).lattice }
     ensures { IsTold (D.limit_of derivation.now) (D.system_of derivation.now) result }
 {

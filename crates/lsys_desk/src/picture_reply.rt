@@ -1,15 +1,14 @@
 //! Replies to lines that ask how far the picture of the last level reaches, or where its turtle stands.
-ghost use Rattle.std.specs.Prelude.{◌≡◌, [], None, slice_get};
-ghost use Rattle.lsys_io.specs.Writes.{Puts};
+ghost use Rattle.std.specs.Prelude.{◌≡◌, [], None};
+ghost use Rattle.lsys_io.specs.Putting.{Puts};
 ghost use Rattle.lsys_spec.specs.PictureTexts.{place_text};
-ghost use Rattle.lsys_spec.specs.Replies.{levels_of};
-ghost use Rattle.lsys_effects.specs.Bounds.{pose_text};
+ghost use Rattle.lsys_lattice.specs.Bounds.{pose_text};
 ghost use Rattle.lsys_lattice.specs.Wide.{extents_of};
-ghost use Rattle.lsys_desks.specs.Desks.{bounds_reply, place_reply};
-ghost use Rattle.lsys_session.specs.Given.{IsKept, Prints};
-ghost use Rattle.lsys_session.specs.Sessions.{Says};
+ghost use Rattle.lsys_session.specs.Given.{IsKept};
 ghost use Rattle.lsys_session.specs.declared.outcome.Outcome.TheVariants.{Printed, Refused};
-ghost use Rattle.lsys_desk.specs.Motions.{AreKept, motion_line, motion_outcome, pose_line, pose_outcome, span_text, spans_text, told_by};
+ghost use Rattle.lsys_desk.specs.Motions.{AreKept, motion_line, motion_outcome, pose_line, span_text, spans_text, told_by};
+ghost use Rattle.lsys_session.specs.Calls.{Says};
+ghost use Rattle.lsys_desk.specs.Calls.{SaysBounds, SaysAt, SaysPose};
 
 use crate::kept_motions::{HasMotions, KeptMotions, take_motions};
 use crate::sayings::finish;
@@ -37,9 +36,7 @@ pub(crate) fn answer_bounds<K: Sink, L: Ledger, D: HasMotions<L>>(
     requires empty { out.old ≡ [] }
     requires session { IsKept (D.limit_of derivation.now) (D.system_of derivation.now) }
     requires kept { AreKept (D.limit_of derivation.now) (D.system_of derivation.now) kept.old }
-    ensures prints { let s = D.system_of derivation.now in
-        Prints K.written K.faults sink.old sink.new out.new s
-        (bounds_reply s (levels_of (D.limit_of derivation.now) s)) result }
+    ensures prints { SaysBounds K.Sink sink out D.limit_of D.system_of derivation.now result }
     ensures kept { AreKept (D.limit_of derivation.now) (D.system_of derivation.now) kept.new }
 {
     let motions = match take_motions(alloc, derivation, kept) {
@@ -69,9 +66,7 @@ pub(crate) fn answer_place<K: Sink, L: Ledger, D: HasMotions<L>>(
     requires empty { out.old ≡ [] }
     requires session { IsKept (D.limit_of derivation.now) (D.system_of derivation.now) }
     requires kept { AreKept (D.limit_of derivation.now) (D.system_of derivation.now) kept.old }
-    ensures prints { let s = D.system_of derivation.now in
-        Prints K.written K.faults sink.old sink.new out.new s
-        (place_reply s place column (levels_of (D.limit_of derivation.now) s)) result }
+    ensures prints { SaysAt place column K.Sink sink out D.limit_of D.system_of derivation.now result }
     ensures kept { AreKept (D.limit_of derivation.now) (D.system_of derivation.now) kept.new }
 {
     let motions = match take_motions(alloc, derivation, kept) {
@@ -90,8 +85,7 @@ fn refuse_motions<K: Sink>(
     refusal: MotionRefusal,
 ) -> Result<Outcome, Failed>
     requires { out.old ≡ [] }
-    ensures { Says K.written K.faults sink.old sink.new out.new
-        (motion_line refusal) (motion_outcome refusal) result }
+    ensures { Says K.Sink sink out (motion_line refusal) (motion_outcome refusal) result }
 {
     match refusal {
         MotionRefusal::Image(refusal) => refuse_image(out, sink, refusal),
@@ -107,8 +101,7 @@ fn print_bounds<K: Sink>(
     bounds: Extents,
 ) -> Result<Outcome, Failed>
     requires { out.old ≡ [] }
-    ensures { Says K.written K.faults sink.old sink.new out.new
-        (spans_text (extents_of bounds)) Printed result }
+    ensures { Says K.Sink sink out (spans_text (extents_of bounds)) Printed result }
 {
     put_bounds(out, sink, bounds)?;
     finish(out, sink)?;
@@ -117,7 +110,7 @@ fn print_bounds<K: Sink>(
 
 // Puts the least and the greatest value of each measure.
 fn put_bounds<K: Sink>(out: &mut Buffered, sink: &mut K, bounds: Extents) -> Result<(), Failed>
-    ensures { Puts K.written K.faults sink.old sink.new out.old out.new
+    ensures { Puts K.Sink sink out
         (spans_text (extents_of bounds)) result }
 {
     out.put(sink, b"bounds ")?;
@@ -136,7 +129,7 @@ fn put_span<K: Sink>(
     low: &i128,
     high: &i128,
 ) -> Result<(), Failed>
-    ensures { Puts K.written K.faults sink.old sink.new out.old out.new (span_text low.now high.now) result }
+    ensures { Puts K.Sink sink out (span_text low.now high.now) result }
 {
     put_wide(out, sink, low)?;
     out.put(sink, b" ")?;
@@ -152,9 +145,7 @@ fn print_kept_place<K: Sink>(
     sink: &mut K,
 ) -> Result<Outcome, Failed>
     requires { out.old ≡ [] }
-    ensures { let pose = slice_get (told_by motions.now).poses place in
-        Says K.written K.faults sink.old sink.new out.new
-        (pose_line column pose) (pose_outcome pose) result }
+    ensures { SaysPose K.Sink sink out column (told_by motions.now).poses place result }
 {
     match motions {
         KeptMotions::Square(motions) => print_place(motions, place, column, out, sink),
@@ -171,9 +162,7 @@ fn print_place<T: Lattice, K: Sink>(
     sink: &mut K,
 ) -> Result<Outcome, Failed>
     requires { out.old ≡ [] }
-    ensures { let pose = slice_get motions.now.poses place in
-        Says K.written K.faults sink.old sink.new out.new
-        (pose_line column pose) (pose_outcome pose) result }
+    ensures { SaysPose K.Sink sink out column motions.now.poses place result }
 {
     if place > u64::from(motions.len()) {
         return refuse_place(out, sink, column);
@@ -184,7 +173,7 @@ fn print_place<T: Lattice, K: Sink>(
 // Refuses a number that stands at a column.
 fn refuse_place<K: Sink>(out: &mut Buffered, sink: &mut K, column: u32) -> Result<Outcome, Failed>
     requires { out.old ≡ [] }
-    ensures { Says K.written K.faults sink.old sink.new out.new (pose_line column None) Refused result }
+    ensures { Says K.Sink sink out (pose_line column None) Refused result }
 {
     put_no_place(out, sink, column)?;
     finish(out, sink)?;
@@ -193,7 +182,7 @@ fn refuse_place<K: Sink>(out: &mut Buffered, sink: &mut K, column: u32) -> Resul
 
 // Puts the refusal of a number that stands at a column.
 fn put_no_place<K: Sink>(out: &mut Buffered, sink: &mut K, column: u32) -> Result<(), Failed>
-    ensures { Puts K.written K.faults sink.old sink.new out.old out.new (pose_line column None) result }
+    ensures { Puts K.Sink sink out (pose_line column None) result }
 {
     out.put(sink, b"refused place ")?;
     put_unsigned(out, sink, column)?;
@@ -207,7 +196,7 @@ fn print_pose<T: Lattice, K: Sink>(
     pose: &Pose<T>,
 ) -> Result<Outcome, Failed>
     requires { out.old ≡ [] }
-    ensures { Says K.written K.faults sink.old sink.new out.new (pose_text pose.now) Printed result }
+    ensures { Says K.Sink sink out (pose_text pose.now) Printed result }
 {
     put_pose(out, sink, pose)?;
     finish(out, sink)?;
@@ -220,7 +209,7 @@ fn put_pose<T: Lattice, K: Sink>(
     sink: &mut K,
     pose: &Pose<T>,
 ) -> Result<(), Failed>
-    ensures { Puts K.written K.faults sink.old sink.new out.old out.new (pose_text pose.now) result }
+    ensures { Puts K.Sink sink out (pose_text pose.now) result }
 {
     out.put(sink, b"at ")?;
     put_place(out, sink, &pose.place)?;
@@ -237,7 +226,7 @@ fn put_heading<T: Lattice, K: Sink>(
     sink: &mut K,
     frame: T::Frame,
 ) -> Result<(), Failed>
-    ensures { Puts K.written K.faults sink.old sink.new out.old out.new
+    ensures { Puts K.Sink sink out
         (place_text (T.frame_of frame).heading) result }
 {
     let heading = T::heading(frame);

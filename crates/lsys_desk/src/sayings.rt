@@ -1,7 +1,7 @@
 //! Replies that are put whole.
 ghost use Rattle.std.specs.Prelude.{◌≡◌, []};
-ghost use Rattle.lsys_io.specs.Writes.{Puts};
-ghost use Rattle.lsys_session.specs.Sessions.{Says};
+ghost use Rattle.lsys_io.specs.Putting.{Puts};
+ghost use Rattle.lsys_session.specs.Calls.{Says};
 
 use lsys_io::{Buffered, Failed, Sink};
 use lsys_session::Outcome;
@@ -18,7 +18,7 @@ pub(crate) fn say<K: Sink>(
     outcome: Outcome,
 ) -> Result<Outcome, Failed>
     requires { out.old ≡ [] }
-    ensures { Says K.written K.faults sink.old sink.new out.new text.now outcome result }
+    ensures { Says K.Sink sink out text.now outcome result }
 {
     out.put(sink, text)?;
     finish(out, sink)?;
@@ -31,7 +31,7 @@ pub(crate) fn say<K: Sink>(
 ///
 /// The sink failed; a front of what was held was written then.
 pub(crate) fn finish<K: Sink>(out: &mut Buffered, sink: &mut K) -> Result<(), Failed>
-    ensures put { Puts K.written K.faults sink.old sink.new out.old out.new [] result }
+    ensures put { Puts K.Sink sink out [] result }
     ensures empty { out.new ≡ [] }
 {
     out.flush(sink)

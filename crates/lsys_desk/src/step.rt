@@ -2,7 +2,7 @@
 ghost use Rattle.std.specs.Prelude.{◌≡◌};
 ghost use Rattle.lsys_desk.specs.Steps.{CanStep, steps_after};
 
-use lsys_history::History;
+use lsys_desks::History;
 use lsys_rules::System;
 use lsys_session::Outcome;
 

@@ -19,10 +19,10 @@ use Rattle.lsys_spec.specs.Costs.{Cost, Visits, no_cost, one_refusal, ◌and◌,
 use Rattle.lsys_spec.proofs.CostSums.{and_assoc}
 use Rattle.lsys_laws.specs.Sessions.{HasLevels}
 use Rattle.lsys_laws.proofs.KeptLevels.{reply_levels}
-use Rattle.lsys_effects.specs.Bounds.{bounds_text, turtle_behind}
-use Rattle.lsys_effects.specs.Bounds as pictures
-use Rattle.lsys_growth_laws.specs.Growth.{Census, GrowthFault, growth_at}
-use Rattle.lsys_history.specs.Timelines as timelines
+use Rattle.lsys_lattice.specs.Bounds.{bounds_text, turtle_behind}
+use Rattle.lsys_lattice.specs.Bounds as pictures
+use Rattle.lsys_matrix.specs.Growth.{Census, GrowthFault, growth_at}
+use Rattle.lsys_desks.specs.Timelines as timelines
 use Rattle.lsys_desks.specs.Desks.{Desk, DeskLine, DeskReply, desk, undo, redo, growth, bounds, at, answered, asked_of, led, stepped, growth_reply, turtle_reply, own_reply, reply_by, session_reply, desk_reply, desk_line, desk_memory_or, desk_reply_or_memory, HasNoDeskLine}
 use Rattle.lsys_desks.specs.Costs.{cost_followed, desk_costs_from, desk_line_cost, lead_cost, leads_by, line_leads, own_leads}
 

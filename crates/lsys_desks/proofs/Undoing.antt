@@ -9,7 +9,7 @@ use Rattle.lsys_spec.specs.Refusals.{Reply, refused_memory}
 use Rattle.lsys_spec.specs.Replies.{reply, spelled_command}
 use Rattle.lsys_spec.specs.Output.{may_lack_memory, memory_or, followed, replies_from}
 use Rattle.lsys_laws.specs.Sessions.{HasLevels}
-use Rattle.lsys_history.specs.Timelines.{Timeline, timeline, nearest, others, edited, undone, redone, most_kept}
+use Rattle.lsys_desks.specs.Timelines.{Timeline, timeline, nearest, others, edited, undone, redone, most_kept}
 use Rattle.lsys_desks.specs.Desks.{Desk, desk, answered, own_reply, session_reply, reply_by, stepped, steps_behind, is_edit, undo, redo, desk_memory_or, desk_followed, desk_replies_from, HasNoDeskLine}
 
 -- 1. lines that aren't the desk's

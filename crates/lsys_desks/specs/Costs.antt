@@ -4,7 +4,7 @@ use Rattle.lsys_syntax.specs.Lines.{lines_of}
 use Rattle.lsys_spec.specs.Systems.{System}
 use Rattle.lsys_spec.specs.Output.{may_lack_memory}
 use Rattle.lsys_spec.specs.Costs.{Cost, Visits, ◌and◌, cost_to, edited_system, no_cost, one_refusal}
-use Rattle.lsys_history.specs.Timelines as timelines
+use Rattle.lsys_desks.specs.Timelines as timelines
 use Rattle.lsys_desks.specs.Desks.{Desk, DeskLine, DeskReply, undo, redo, growth, bounds, at, desk_line, desk_reply_or_memory, opening_desk}
 
 -- 1. one line

@@ -10,10 +10,10 @@ use Rattle.lsys_spec.specs.Pictures.{Pose, PictureRefusal, Turtle}
 use Rattle.lsys_spec.specs.Refusals.{Reply, said, refused, refused_memory, is_long, is_passed_over, with_number}
 use Rattle.lsys_spec.specs.Replies.{reply, edited, levels_of, is_query, or_text, picture_refusal_text, shown, spelled_command}
 use Rattle.lsys_spec.specs.Output.{may_lack_memory, whole_lines}
-use Rattle.lsys_effects.specs.Bounds.{bounds_text, pose_text, turtle_behind}
-use Rattle.lsys_effects.specs.Bounds as pictures
-use Rattle.lsys_growth_laws.specs.Growth.{Census, GrowthFault, growth_at, growth_text, growth_fault_text}
-use Rattle.lsys_history.specs.Timelines as timelines
+use Rattle.lsys_lattice.specs.Bounds.{bounds_text, pose_text, turtle_behind}
+use Rattle.lsys_lattice.specs.Bounds as pictures
+use Rattle.lsys_matrix.specs.Growth.{Census, GrowthFault, growth_at, growth_text, growth_fault_text}
+use Rattle.lsys_desks.specs.Timelines as timelines
 
 -- 1. desk lines
 

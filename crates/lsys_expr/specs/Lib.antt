@@ -11,3 +11,5 @@ pub mod InsideLevels
 pub mod Roles
 pub mod Scanning
 pub mod Scanned
+pub mod ReadSteps
+pub mod ScanSteps

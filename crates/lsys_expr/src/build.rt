@@ -1,17 +1,12 @@
 //! Expressions from their tokens.
-ghost use Rattle.std.specs.Prelude.{◌≡◌, ◌≤◌, length, map, false, None, Some, IfOk, OnOk, IsSome, List};
-ghost use Rattle.std.specs.Option.{option_map};
+ghost use Rattle.std.specs.Prelude.{◌≡◌, ◌≤◌, length, map, false, None, Some, IfOk, OnOk, IsSome};
 ghost use Rattle.lsys_syntax.specs.Checks.{is_unknown};
 ghost use Rattle.lsys_syntax.specs.ExpressionPlaces.{read_expr};
-ghost use Rattle.lsys_syntax.specs.RuleMachine.{small};
 ghost use Rattle.lsys_spec.specs.Values.{expr_tree};
-ghost use Rattle.lsys_syntax.specs.Tokens.{NameText};
-ghost use Rattle.lsys_text.specs.Tokens.{kind_of, mark_kind};
-ghost use Rattle.lsys_expr.specs.Frames.{behind_operand, follower, next_reading, with_operand};
-ghost use Rattle.lsys_expr.specs.InsideExpr.{spelled_by};
+ghost use Rattle.lsys_text.specs.Tokens.{kind_of};
 ghost use Rattle.lsys_expr.specs.Parts.{names_of, part_of, unknown_in};
-ghost use Rattle.lsys_expr.specs.Stacks.{frames_of};
 ghost use Rattle.lsys_expr.specs.Trees.{tree_of};
+ghost use Rattle.lsys_expr.specs.ReadSteps.{spelled_tree, reading_behind, operand_reading, follower_reading, IsReadBehind, IsReadOperand, IsReadFollower, CanBeginFrame, BeginsFrame};
 
 use crate::constant::Constant;
 use crate::expr::Expr;
@@ -65,7 +60,7 @@ fn parse(alloc: Global, kinds: &[TokenKind], formals: &[Name]) -> Result<Tree, A
     requires spelled { IsSome (read_expr (map kind_of kinds.now)) }
     requires known { unknown_in formals.now (map kind_of kinds.now) ≡ None }
     requires few { length formals.now ≤ 256 }
-    ensures { IfOk result (λ tree. tree_of tree ≡ expr_tree (names_of formals.now) (spelled_by kinds.now)) }
+    ensures { IfOk result (λ tree. tree_of tree ≡ spelled_tree formals.now kinds.now) }
 {
     let mut frames = Vec::new(alloc);
     let mut operand = None;
@@ -85,10 +80,10 @@ fn read_token(
     frames: &mut Vec<Frame>,
     formals: &[Name],
 ) -> Result<Option<Tree>, AllocError>
-    requires possible { IsSome (next_reading (names_of formals.now) (small (kind_of kind)) (option_map tree_of operand) (frames_of frames.old.items)) }
+    requires possible { IsSome (reading_behind formals.now kind operand frames.old.items) }
     requires known { is_unknown (names_of formals.now) (kind_of kind) ≡ false }
     requires few { length formals.now ≤ 256 }
-    ensures { IfOk result (λ read. next_reading (names_of formals.now) (small (kind_of kind)) (option_map tree_of operand) (frames_of frames.old.items) ≡ Some (option_map tree_of read, frames_of frames.new.items)) }
+    ensures { IfOk result (IsReadBehind formals.now kind operand frames.old.items frames.new.items) }
 {
     match operand {
         None => read_operand(kind, frames, formals),
@@ -103,10 +98,10 @@ fn read_operand(
     frames: &mut Vec<Frame>,
     formals: &[Name],
 ) -> Result<Option<Tree>, AllocError>
-    requires possible { IsSome (with_operand (names_of formals.now) (small (kind_of kind)) (frames_of frames.old.items)) }
+    requires possible { IsSome (operand_reading formals.now kind frames.old.items) }
     requires known { is_unknown (names_of formals.now) (kind_of kind) ≡ false }
     requires few { length formals.now ≤ 256 }
-    ensures { IfOk result (λ operand. with_operand (names_of formals.now) (small (kind_of kind)) (frames_of frames.old.items) ≡ Some (option_map tree_of operand, frames_of frames.new.items)) }
+    ensures { IfOk result (IsReadOperand formals.now kind frames.old.items frames.new.items) }
 {
     match kind {
         TokenKind::Number(number) => Ok(Some(Tree::Constant(Constant::new(number)))),
@@ -120,8 +115,8 @@ fn read_operand(
 }
 
 fn begin_frame(byte: u8, frames: &mut Vec<Frame>) -> Result<(), AllocError>
-    requires { (formals : List NameText) × IsSome (with_operand formals (small (mark_kind byte)) (frames_of frames.old.items)) }
-    ensures { OnOk result ((formals : List NameText) → with_operand formals (small (mark_kind byte)) (frames_of frames.old.items) ≡ Some (None, frames_of frames.new.items)) }
+    requires { CanBeginFrame byte frames.old.items }
+    ensures { OnOk result (BeginsFrame byte frames.old.items frames.new.items) }
 {
     match byte {
         b'(' => push(frames, Frame::Parentheses),
@@ -139,8 +134,8 @@ fn read_follower(
     operand: Tree,
     frames: &mut Vec<Frame>,
 ) -> Result<Option<Tree>, AllocError>
-    requires { IsSome (behind_operand (follower (small (kind_of kind))) (tree_of operand) (frames_of frames.old.items)) }
-    ensures { IfOk result (λ read. behind_operand (follower (small (kind_of kind))) (tree_of operand) (frames_of frames.old.items) ≡ Some (option_map tree_of read, frames_of frames.new.items)) }
+    requires { IsSome (follower_reading kind operand frames.old.items) }
+    ensures { IfOk result (IsReadFollower kind operand frames.old.items frames.new.items) }
 {
     match what_follows(kind) {
         Some(Follower::Operator(operator)) => {

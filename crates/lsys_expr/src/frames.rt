@@ -1,10 +1,11 @@
 //! What an operand is part of, while an expression is read.
-ghost use Rattle.std.specs.Prelude.{◌≡◌, ◌∷◌, ◌<◌, IfOk, IfSome, OnOk, true, drop, nat_lt, vec_len};
-ghost use Rattle.std.specs.Option.{option_map, option_map_or, option_copied};
+ghost use Rattle.std.specs.Prelude.{◌≡◌, ◌∷◌, ◌<◌, IfOk, IfSome, OnOk, true, drop, vec_len};
+ghost use Rattle.std.specs.Option.{option_map, option_copied};
 ghost use Rattle.lsys_text.specs.Tokens.{kind_of, mark_kind};
-ghost use Rattle.lsys_expr.specs.Frames.{follower, left_strength, operator_strength, reduced, strength, whole};
-ghost use Rattle.lsys_expr.specs.Stacks.{frame_of, frames_of, follower_of, IsTaken};
+ghost use Rattle.lsys_expr.specs.Frames.{follower, left_strength, operator_strength, strength, whole};
+ghost use Rattle.lsys_expr.specs.Stacks.{frame_of, frames_of, follower_of};
 ghost use Rattle.lsys_expr.specs.Trees.{operator_of, tree_of};
+ghost use Rattle.lsys_expr.specs.ReadSteps.{IsReduced, TakesStronger, is_weaker};
 
 use crate::operators::Operator;
 use crate::tree::Tree;
@@ -147,7 +148,7 @@ pub(crate) fn reduce(
     operand: Tree,
     least: u8,
 ) -> Result<Tree, AllocError>
-    ensures { IfOk result (λ tree. (tree_of tree, frames_of frames.new.items) ≡ reduced least (tree_of operand) (frames_of frames.old.items)) }
+    ensures { IfOk result (IsReduced least operand frames.old.items frames.new.items) }
 {
     let mut tree = operand;
     while let Some(frame) = take_stronger(frames, least) {
@@ -157,7 +158,7 @@ pub(crate) fn reduce(
 }
 
 fn take_stronger(frames: &mut Vec<Frame>, least: u8) -> Option<Frame>
-    ensures taken { IsTaken least (frames_of frames.old.items) (frames_of frames.new.items) (option_map frame_of result) }
+    ensures taken { TakesStronger least frames.old.items frames.new.items result }
     ensures fewer { IfSome result (λ _. vec_len frames.new < vec_len frames.old) }
 {
     if is_weak(frames.last(), least) {
@@ -167,7 +168,7 @@ fn take_stronger(frames: &mut Vec<Frame>, least: u8) -> Option<Frame>
 }
 
 fn is_weak(innermost: Option<&Frame>, least: u8) -> bool
-    ensures { result ≡ option_map_or (λ f. nat_lt (strength (frame_of f)) least) (option_copied innermost.entry) true }
+    ensures { result ≡ is_weaker least (option_copied innermost.entry) }
 {
     match innermost {
         Some(frame) => frame.strength() < least,

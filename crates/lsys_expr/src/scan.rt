@@ -1,15 +1,14 @@
 //! How far tokens are an expression.
 ghost use Rattle.std.specs.Prelude.{◌≡◌, ◌≤◌, length, drop, true, false};
-ghost use Rattle.lsys_syntax.specs.Tokens.{Kind};
 ghost use Rattle.lsys_syntax.specs.ExpressionMachine as machine;
 ghost use Rattle.lsys_syntax.specs.ExpressionPlaces.{extent};
-ghost use Rattle.lsys_syntax.specs.RuleMachine.{small};
 ghost use Rattle.lsys_syntax.specs.Sentences.{AreTokens};
-ghost use Rattle.lsys_text.specs.Tokens.{kind_of, kinds_of};
+ghost use Rattle.lsys_text.specs.Tokens.{kinds_of};
 ghost use Rattle.lsys_expr.specs.Levels.{is_inside};
 ghost use Rattle.lsys_expr.specs.Roles.{Begins, Follows};
-ghost use Rattle.lsys_expr.specs.Scanning.{IsKept, IsTaken, IsOpened, IsEnded};
+ghost use Rattle.lsys_expr.specs.Scanning.{IsKept, IsOpened};
 ghost use Rattle.lsys_expr.specs.Scanned.{IsExtent, IsPlaced, place_of};
+ghost use Rattle.lsys_expr.specs.ScanSteps.{TakesKind, GoesOnWith, GoesToOperand, IsWholeIf};
 
 use crate::levels::Levels;
 use crate::roles::{Begin, Follow, begin_of, follow_of};
@@ -94,8 +93,7 @@ impl Scan {
 
     // Goes on with a token.
     fn take(&mut self, kind: TokenKind) -> Outcome
-        ensures { (s : machine.State) → IsKept self.old.awaited self.old.levels s
-            → IsTaken self.new.awaited self.new.levels result s (machine.step s (small (kind_of kind))) }
+        ensures { TakesKind kind self.old self.new result }
     {
         match self.awaited {
             Awaited::Operand => self.begin(begin_of(kind)),
@@ -108,8 +106,7 @@ impl Scan {
     // Goes on where an operand is due.
     fn begin(&mut self, begin: Begin) -> Outcome
         requires { self.old.awaited ≡ Awaited.Operand }
-        ensures { (s : machine.State) (t : Kind) → IsKept self.old.awaited self.old.levels s → Begins begin t
-            → IsTaken self.new.awaited self.new.levels result s (machine.step s t) }
+        ensures { GoesOnWith (Begins begin) self.old self.new result }
     {
         match begin {
             Begin::Whole => {
@@ -129,8 +126,7 @@ impl Scan {
     // Goes on behind an operand.
     fn follow(&mut self, follow: Follow) -> Outcome
         requires { self.old.awaited ≡ Awaited.Operator }
-        ensures { (s : machine.State) (t : Kind) → IsKept self.old.awaited self.old.levels s → Follows follow t
-            → IsTaken self.new.awaited self.new.levels result s (machine.step s t) }
+        ensures { GoesOnWith (Follows follow) self.old self.new result }
     {
         match follow {
             Follow::Power => self.open_prefix(),
@@ -174,7 +170,7 @@ impl Scan {
 
     // Goes on behind the first `&` or `|` of two.
     fn second(&mut self, is_second: bool) -> Outcome
-        ensures yes { is_second ≡ true → (result ≡ Outcome.Goes) × (self.new ≡ record { awaited = Awaited.Operand; levels = self.old.levels }) }
+        ensures yes { is_second ≡ true → GoesToOperand self.old self.new result }
         ensures none { is_second ≡ false → result ≡ Outcome.Stops }
     {
         if is_second {
@@ -205,7 +201,7 @@ impl Scan {
 
     // Whether the tokens are a whole expression.
     fn is_whole(&self) -> bool
-        ensures { (s : machine.State) → IsKept self.now.awaited self.now.levels s → IsEnded result (machine.end_step s) }
+        ensures { IsWholeIf result self.now }
     {
         matches!(self.awaited, Awaited::Operator) && !self.levels.is_inside()
     }

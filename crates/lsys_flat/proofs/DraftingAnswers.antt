@@ -5,11 +5,11 @@ use Rattle.lsys_walks.specs.Stores.{Store}
 use Rattle.lsys_match.specs.Kept.{Kept}
 use Rattle.lsys_match.specs.KeptAnswers.{HoldOwnRuns}
 use Rattle.lsys_match.specs.Asks.{IsMade}
-use Rattle.lsys_counts.specs.Slots.{slot_at}
-use Rattle.lsys_counts.specs.Counted.{slots_in, all_slots_in}
-use Rattle.lsys_keeping.specs.Answers.{AreMade, answer_at, level_of}
-use Rattle.lsys_round.specs.Rounds.{AreMadeAt, AreNew, StayMade}
-use Rattle.lsys_round.proofs.News.{all_stay, stay_then, told_still}
+use Rattle.lsys_flat.specs.Slots.{slot_at}
+use Rattle.lsys_flat.specs.Counted.{slots_in, all_slots_in}
+use Rattle.lsys_flat.specs.Answers.{AreMade, answer_at, level_of}
+use Rattle.lsys_flat.specs.Rounds.{AreMadeAt, AreNew, StayMade}
+use Rattle.lsys_flat.proofs.News.{all_stay, stay_then, told_still}
 use Rattle.lsys_flat.specs.Drafts.{AreAllNew}
 
 -- 1. lists of levels

@@ -7,10 +7,10 @@ use Rattle.lsys_level.specs.Spots.{Spotted, level_at}
 use Rattle.lsys_walks.specs.Stores.{Store}
 use Rattle.lsys_match.specs.Kept.{Kept}
 use Rattle.lsys_rewrite.specs.declared.refusal.DeriveRefusal.{DeriveRefusal}
-use Rattle.lsys_offspring.specs.declared.level.Level.{Level}
-use Rattle.lsys_revision.specs.Revised.{Revised}
-use Rattle.lsys_counts.specs.Slots.{filled}
-use Rattle.lsys_round.specs.Rounds.{AreNew, IsAt, IsFinished, IsRound, IsRow, Rounded, told}
+use Rattle.lsys_flat.specs.declared.level.Level.{Level}
+use Rattle.lsys_flat.specs.Revised.{Revised}
+use Rattle.lsys_flat.specs.Slots.{filled}
+use Rattle.lsys_flat.specs.Rounds.{AreNew, IsAt, IsFinished, IsRound, IsRow, Rounded, told}
 use Rattle.lsys_flat.specs.Drafts.{Drafted, HasAsked}
 
 pub map_set : {A B : Type 0} (f : A → B) (xs : List A) (i : ℕ) (x : A) → map f (set xs i x) ≡ set (map f xs) i (f x)

@@ -14,14 +14,14 @@ use Rattle.lsys_rewrite.specs.declared.refusal.DeriveRefusal.{DeriveRefusal}
 use Rattle.lsys_module.specs.Views.{string_of}
 use Rattle.lsys_module.specs.declared.symbol.Symbol.{Symbol as Code}
 use Rattle.lsys_level.specs.Spots.{Spotted}
-use Rattle.lsys_offspring.specs.Grown.{Making, IsGrown, IsMade, nothing_made}
-use Rattle.lsys_round.proofs.Beginning.{none_grown}
-use Rattle.lsys_offspring.specs.declared.level.Level.{Level}
-use Rattle.lsys_offspring.proofs.Limiting.{begins_over}
-use Rattle.lsys_pairing.specs.Origins.{root}
-use Rattle.lsys_revision.specs.Lines.{Line}
-use Rattle.lsys_revision.specs.Revised.{AreOldLevels, IsNext, IsRevised, Revised}
-use Rattle.lsys_counts.specs.Counted.{all_slots_in}
+use Rattle.lsys_flat.specs.Grown.{Making, IsGrown, IsMade, nothing_made}
+use Rattle.lsys_flat.proofs.Beginning.{none_grown}
+use Rattle.lsys_flat.specs.declared.level.Level.{Level}
+use Rattle.lsys_flat.proofs.Limiting.{begins_over}
+use Rattle.lsys_flat.specs.Origins.{root}
+use Rattle.lsys_flat.specs.Lines.{Line}
+use Rattle.lsys_flat.specs.Revised.{AreOldLevels, IsNext, IsRevised, Revised}
+use Rattle.lsys_flat.specs.Counted.{all_slots_in}
 use Rattle.lsys_flat.specs.Drafts.{AreOlds, CanAdd, Drafted, HasFound, IsAdded, IsDraft, IsEmpty, IsLonger, IsRefusal}
 use Rattle.lsys_flat.proofs.Depths.{within}
 use Rattle.lsys_flat.proofs.DraftingLevels.{begins, is_next, same_length}

@@ -9,9 +9,9 @@ use Rattle.lsys_spec.specs.Levels.{Symbol, plain}
 use Rattle.lsys_spec.specs.Meaning.{LevelRefusal, first_level, next_level, last_level, within_limit, meaning_to}
 use Rattle.lsys_module.specs.Views.{string_of}
 use Rattle.lsys_module.specs.declared.symbol.Symbol.{Symbol as Code}
-use Rattle.lsys_offspring.specs.Grown.{HasSymbols}
-use Rattle.lsys_offspring.specs.declared.level.Level.{Level}
-use Rattle.lsys_revision.specs.Revised.{IsNext, above_level}
+use Rattle.lsys_flat.specs.Grown.{HasSymbols}
+use Rattle.lsys_flat.specs.declared.level.Level.{Level}
+use Rattle.lsys_flat.specs.Revised.{IsNext, above_level}
 use Rattle.lsys_flat.proofs.Depths.{level_grown, within}
 
 -- 1. meanings, level by level

@@ -16,26 +16,26 @@ use Rattle.lsys_match.specs.Kept.{Kept}
 use Rattle.lsys_match.specs.Derivations.{Rises, most_read}
 use Rattle.lsys_match.specs.TagQuestions.{TagAnswer}
 use Rattle.lsys_laws.specs.KeptQuestions.{places_in, question_here}
-use Rattle.lsys_pairing.specs.Origins.{root}
+use Rattle.lsys_flat.specs.Origins.{root}
 use Rattle.std.proofs.lemmas.Option.{slice_get_within}
 use Rattle.lsys_rewrite.specs.Faults.{fault_of}
 use Rattle.lsys_rewrite.specs.declared.refusal.DeriveRefusal.{DeriveRefusal}
 use Rattle.lsys_rewrite.specs.declared.refusal.DeriveRefusal.TheVariants as refusals
-use Rattle.lsys_offspring.specs.Grown.{HasSymbols, IsMade}
-use Rattle.lsys_offspring.specs.Steps.{AreReplaced}
-use Rattle.lsys_offspring.specs.declared.level.Level.{Level}
-use Rattle.lsys_offspring.proofs.Limiting.{goes_over, refused}
-use Rattle.lsys_revision.specs.Lines.{Line}
-use Rattle.lsys_revision.specs.Revised.{IsNext, IsRevised, above_level, all_spots, tags_of}
-use Rattle.lsys_revision.proofs.Below.{level_short}
-use Rattle.lsys_revision.proofs.Together.{named_together}
-use Rattle.lsys_counts.specs.Slots.{AreAllFound, IsFound, slot_at, slot_of}
-use Rattle.lsys_counts.specs.Counted.{AreFoundAt, all_slots_in, slots_in}
-use Rattle.lsys_counts.proofs.Growing.{more_found}
-use Rattle.lsys_counts.proofs.Visits.{level_visits, more_questions}
-use Rattle.lsys_keeping.specs.Answers.{AreMade, level_of}
-use Rattle.lsys_round.specs.Rounds.{AreNew, AskedTo, CanAsk, HasRead, IsAt, IsNoRound, IsRow, Rounded, entries_of, told}
-use Rattle.lsys_round.proofs.News.{told_still}
+use Rattle.lsys_flat.specs.Grown.{HasSymbols, IsMade}
+use Rattle.lsys_flat.specs.Steps.{AreReplaced}
+use Rattle.lsys_flat.specs.declared.level.Level.{Level}
+use Rattle.lsys_flat.proofs.Limiting.{goes_over, refused}
+use Rattle.lsys_flat.specs.Lines.{Line}
+use Rattle.lsys_flat.specs.Revised.{IsNext, IsRevised, above_level, all_spots, tags_of}
+use Rattle.lsys_flat.proofs.Below.{level_short}
+use Rattle.lsys_flat.proofs.Together.{named_together}
+use Rattle.lsys_flat.specs.Slots.{AreAllFound, IsFound, slot_at, slot_of}
+use Rattle.lsys_flat.specs.Counted.{AreFoundAt, all_slots_in, slots_in}
+use Rattle.lsys_flat.proofs.Growing.{more_found}
+use Rattle.lsys_flat.proofs.Visits.{level_visits, more_questions}
+use Rattle.lsys_flat.specs.Answers.{AreMade, level_of}
+use Rattle.lsys_flat.specs.Rounds.{AreNew, AskedTo, CanAsk, HasRead, IsAt, IsNoRound, IsRow, Rounded, entries_of, told}
+use Rattle.lsys_flat.proofs.News.{told_still}
 use Rattle.lsys_flat.specs.Drafts.{AreAllNew, CanAdd, Drafted, IsAdded, IsDraft, IsLonger, IsRefusal}
 use Rattle.lsys_flat.proofs.Depths.{within}
 use Rattle.lsys_flat.proofs.Showing.{all_length, row_of, row_length}

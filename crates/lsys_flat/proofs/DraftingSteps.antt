@@ -12,15 +12,15 @@ use Rattle.lsys_match.specs.Kept.{Kept}
 use Rattle.lsys_match.specs.Derivations.{Rises, most_read}
 use Rattle.lsys_match.specs.TagQuestions.{TagAnswer}
 use Rattle.lsys_rewrite.specs.declared.refusal.DeriveRefusal.{DeriveRefusal}
-use Rattle.lsys_offspring.specs.Grown.{IsMade}
-use Rattle.lsys_offspring.specs.declared.level.Level.{Level}
-use Rattle.lsys_revision.specs.Lines.{Line}
+use Rattle.lsys_flat.specs.Grown.{IsMade}
+use Rattle.lsys_flat.specs.declared.level.Level.{Level}
+use Rattle.lsys_flat.specs.Lines.{Line}
 use Rattle.lsys_rewrite.specs.declared.count.EditCount.{EditCount}
-use Rattle.lsys_counts.specs.Slots.{AreAllFound, filled}
-use Rattle.lsys_counts.specs.Counted.{all_slots_in}
-use Rattle.lsys_keeping.specs.Answers.{AreMade, level_of}
-use Rattle.lsys_round.specs.Rounds.{AskedTo, StayMade, IsAt, IsNoRound, IsRound, Rounded, told}
-use Rattle.lsys_round.proofs.News.{filled_most}
+use Rattle.lsys_flat.specs.Slots.{AreAllFound, filled}
+use Rattle.lsys_flat.specs.Counted.{all_slots_in}
+use Rattle.lsys_flat.specs.Answers.{AreMade, level_of}
+use Rattle.lsys_flat.specs.Rounds.{AskedTo, StayMade, IsAt, IsNoRound, IsRound, Rounded, told}
+use Rattle.lsys_flat.proofs.News.{filled_most}
 use Rattle.lsys_flat.specs.Drafts.{AreAllNew, AreOlds, CanAdd, IsEmpty, IsPlanned, Drafted, HasAsked, HasFound, IsAdded, IsDraft, IsRefusal}
 use Rattle.lsys_flat.proofs.Depths.{within}
 use Rattle.lsys_flat.proofs.DraftingAnswers.{more_new, set_level}

@@ -9,29 +9,29 @@ use Rattle.lsys_spec.specs.Meaning.{meaning}
 use Rattle.lsys_spec.specs.Questions.{questions, least_visits}
 use Rattle.lsys_laws.proofs.KeptPlain.{opening_well}
 use Rattle.lsys_level.specs.Spots.{Spotted}
-use Rattle.lsys_pairing.specs.Origins.{root}
-use Rattle.lsys_pairing.specs.Tagged.{AgreeAll, all_tagged}
+use Rattle.lsys_flat.specs.Origins.{root}
+use Rattle.lsys_flat.specs.Tagged.{AgreeAll, all_tagged}
 use Rattle.lsys_walks.specs.Stores.{Store}
 use Rattle.lsys_match.specs.Kept.{Kept}
 use Rattle.lsys_match.specs.KeptAnswers.{HoldOwnRuns}
 use Rattle.lsys_match.specs.Derivations.{AreMeant, IsCount, IsDerived, KeepsTags, Rises, StandsFor}
 use Rattle.lsys_rewrite.specs.declared.count.EditCount.{EditCount}
-use Rattle.lsys_revision.specs.Lines.{Line}
-use Rattle.lsys_revision.specs.Revised.{AreNamedTogether, AreOldLevels, all_spots, tags_of}
-use Rattle.lsys_keeping.specs.Answers.{AllStayMade, AreMade, AreOwn, AreOwnBeside, CanTakeOver, all_moved, answer_at}
-use Rattle.lsys_counts.specs.Slots.{AreAllFound, AreAllSlots, filled}
-use Rattle.lsys_counts.specs.Counted.{AreCounted, AreKeyed, all_slots_in, slots_in}
-use Rattle.lsys_counts.proofs.Keys.{all_keyed}
-use Rattle.lsys_counts.proofs.Levels.{counted_news, counted_all}
-use Rattle.lsys_counts.proofs.Moves.{levels_alike, all_can_move}
-use Rattle.lsys_counts.proofs.Slots.{all_slots, all_moved_map, filled_map, told_stay}
-use Rattle.lsys_counts.proofs.Visits.{least_within}
-use Rattle.lsys_revision.proofs.Adding.{across, next_olds}
-use Rattle.lsys_revision.proofs.Together.{named_together}
+use Rattle.lsys_flat.specs.Lines.{Line}
+use Rattle.lsys_flat.specs.Revised.{AreNamedTogether, AreOldLevels, all_spots, tags_of}
+use Rattle.lsys_flat.specs.Answers.{AllStayMade, AreMade, AreOwn, AreOwnBeside, CanTakeOver, all_moved, answer_at}
+use Rattle.lsys_flat.specs.Slots.{AreAllFound, AreAllSlots, filled}
+use Rattle.lsys_flat.specs.Counted.{AreCounted, AreKeyed, all_slots_in, slots_in}
+use Rattle.lsys_flat.proofs.Keys.{all_keyed}
+use Rattle.lsys_flat.proofs.CountedLevels.{counted_news, counted_all}
+use Rattle.lsys_flat.proofs.Moves.{levels_alike, all_can_move}
+use Rattle.lsys_flat.proofs.Slots.{all_slots, all_moved_map, filled_map, told_stay}
+use Rattle.lsys_flat.proofs.Visits.{least_within}
+use Rattle.lsys_flat.proofs.Adding.{across, next_olds}
+use Rattle.lsys_flat.proofs.Together.{named_together}
 use Rattle.lsys_flat.proofs.Depths.{within}
 use Rattle.lsys_flat.proofs.Showing.{keeps_tags, rows_total, stands_for, tags_total}
 use Rattle.lsys_match.specs.Stored.{answer_in}
-use Rattle.lsys_round.specs.Rounds.{StayMade, entries_of}
+use Rattle.lsys_flat.specs.Rounds.{StayMade, entries_of}
 use Rattle.lsys_flat.specs.Derived.{IsKept}
 use Rattle.lsys_flat.specs.Drafts.{AreAllNew, AreOlds, IsPlanned}
 

@@ -9,15 +9,15 @@ use Rattle.lsys_spec.specs.Levels as L
 use Rattle.lsys_spec.specs.Levels.{Symbol, lineage, plain}
 use Rattle.lsys_level.specs.Spots.{Seen, Push, Pop, Module, Spotted, with_lineage, named, level_by, level_at, seen_by}
 use Rattle.lsys_match.specs.Derivations.{StandsFor, KeepsTags, symbol_at}
-use Rattle.lsys_pairing.specs.Origins.{root}
-use Rattle.lsys_pairing.specs.Tagged.{Tagged, all_tagged, Agree, AgreeAll}
-use Rattle.lsys_pairing.proofs.Agreeing.{In, each_in, in_old}
-use Rattle.lsys_pairing.proofs.Owning.{StandsAt, stands_at, own_tags}
-use Rattle.lsys_revision.specs.Lines.{Line, AreLines, line_of}
-use Rattle.lsys_revision.specs.declared.ancestry.Ancestry.{Ancestry}
-use Rattle.lsys_revision.specs.Revised.{AreOldLevels, all_spots, spots_by, tags_of}
-use Rattle.lsys_revision.proofs.Seeing.{spots_have}
-use Rattle.lsys_round.specs.Rounds.{IsRow}
+use Rattle.lsys_flat.specs.Origins.{root}
+use Rattle.lsys_flat.specs.Tagged.{Tagged, all_tagged, Agree, AgreeAll}
+use Rattle.lsys_flat.proofs.Agreeing.{In, each_in, in_old}
+use Rattle.lsys_flat.proofs.Owning.{StandsAt, stands_at, own_tags}
+use Rattle.lsys_flat.specs.Lines.{Line, AreLines, line_of}
+use Rattle.lsys_flat.specs.declared.ancestry.Ancestry.{Ancestry}
+use Rattle.lsys_flat.specs.Revised.{AreOldLevels, all_spots, spots_by, tags_of}
+use Rattle.lsys_flat.proofs.Seeing.{spots_have}
+use Rattle.lsys_flat.specs.Rounds.{IsRow}
 
 -- 1. one level
 

@@ -8,12 +8,12 @@ use Rattle.lsys_level.specs.Spots.{Spotted}
 use Rattle.lsys_walks.specs.Stores.{Store}
 use Rattle.lsys_match.specs.Kept.{Kept}
 use Rattle.lsys_match.specs.TagQuestions.{TagAnswer}
-use Rattle.lsys_revision.specs.Lines.{Line}
-use Rattle.lsys_revision.specs.Revised.{AreOldLevels, all_spots, tags_of}
-use Rattle.lsys_counts.specs.Slots.{AreAllSlots}
-use Rattle.lsys_keeping.specs.Answers.{AreMade, AreOwn}
-use Rattle.lsys_counts.specs.Counted.{all_slots_in}
-use Rattle.lsys_round.specs.Rounds.{entries_of}
+use Rattle.lsys_flat.specs.Lines.{Line}
+use Rattle.lsys_flat.specs.Revised.{AreOldLevels, all_spots, tags_of}
+use Rattle.lsys_flat.specs.Slots.{AreAllSlots}
+use Rattle.lsys_flat.specs.Answers.{AreMade, AreOwn}
+use Rattle.lsys_flat.specs.Counted.{all_slots_in}
+use Rattle.lsys_flat.specs.Rounds.{entries_of}
 
 -- the system, the limit, what is seen of the levels, where their symbols come from with their tags, and for each symbol below the last level the answer to its question
 pub record Derived : Type 0 where

@@ -14,14 +14,14 @@ use Rattle.lsys_rewrite.specs.declared.refusal.DeriveRefusal.{DeriveRefusal}
 use Rattle.lsys_rewrite.specs.declared.refusal.DeriveRefusal.TheVariants as refusals
 use Rattle.lsys_rewrite.specs.declared.count.EditCount.{EditCount}
 use Rattle.lsys_level.specs.Spots.{Spotted, level_at}
-use Rattle.lsys_revision.specs.Lines.{Line}
-use Rattle.lsys_revision.specs.Revised.{Revised, AreOldLevels, CanAdd as CanAddLevel, IsNext, IsRevised}
-use Rattle.lsys_counts.specs.Slots.{AreAllFound, filled}
-use Rattle.lsys_counts.specs.Counted.{all_slots_in}
-use Rattle.lsys_keeping.specs.Answers.{AreMade, AreOwn, answer_at}
-use Rattle.lsys_round.specs.Rounds.{AreNew, IsAt, IsFinished, IsRound, IsRow, Rounded, StayMade, entries_of, told}
+use Rattle.lsys_flat.specs.Lines.{Line}
+use Rattle.lsys_flat.specs.Revised.{Revised, AreOldLevels, CanAdd as CanAddLevel, IsNext, IsRevised}
+use Rattle.lsys_flat.specs.Slots.{AreAllFound, filled}
+use Rattle.lsys_flat.specs.Counted.{all_slots_in}
+use Rattle.lsys_flat.specs.Answers.{AreMade, AreOwn, answer_at}
+use Rattle.lsys_flat.specs.Rounds.{AreNew, IsAt, IsFinished, IsRound, IsRow, Rounded, StayMade, entries_of, told}
 use Rattle.lsys_laws.specs.Sessions.{IsWell}
-use Rattle.lsys_offspring.specs.declared.level.Level.{Level}
+use Rattle.lsys_flat.specs.declared.level.Level.{Level}
 
 -- The new levels; for each symbol below the last its new answer, or the place from which an old one is taken over; how many symbols the next level may have; how many answers are new, and how many questions there are.
 pub record Drafted : Type 0 where

@@ -6,19 +6,16 @@ ghost use Rattle.lsys_match.specs.Derivations.{Rises, most_read};
 ghost use Rattle.lsys_laws.specs.Sessions.{IsWell};
 ghost use Rattle.lsys_level.specs.Spots.{level_at};
 ghost use Rattle.lsys_match.specs.Kept.{Kept};
-ghost use Rattle.lsys_revision.specs.Lines.{Line, line_of};
-ghost use Rattle.lsys_counts.specs.Slots.{filled};
-ghost use Rattle.lsys_keeping.specs.Answers.{level_of, lists_of, AreMade, AreOwn, OthersStayMade};
-ghost use Rattle.lsys_round.specs.Rounds.{AreMadeAt, CanAsk, StayMade};
+ghost use Rattle.lsys_flat.specs.Lines.{Line, line_of};
+ghost use Rattle.lsys_flat.specs.Slots.{filled};
+ghost use Rattle.lsys_flat.specs.Answers.{level_of, lists_of, AreMade, AreOwn, OthersStayMade};
+ghost use Rattle.lsys_flat.specs.Rounds.{AreMadeAt, CanAsk, StayMade};
 ghost use Rattle.lsys_flat.specs.Drafts.{AreAllNew, AreOlds, CanAdd, CanBegin, CanComplete, CanGoOn, HasAsked, HasFound, IsAdded, IsDraft, IsEmpty, IsRefusal};
 
 use crate::plan::{Olds, Plan};
-use lsys_keeping::release_all;
+use crate::{Ancestry, Beside, Level, NextLevel, Revision, Round, release_all};
 use lsys_match::{Answer, AnswerStore, Steps};
-use lsys_offspring::{Level, NextLevel};
-use lsys_revision::{Ancestry, Revision};
 use lsys_rewrite::{DeriveRefusal, EditCount};
-use lsys_round::{Beside, Round};
 use lsys_rules::System;
 use std::alloc::{AllocError, Global};
 use std::marker::Model;
@@ -39,7 +36,7 @@ pub(crate) struct Draft<'a, L: Ledger> {
 impl<'a, L: Ledger> Model for Draft<'a, L> {
     ghost use Rattle.std.specs.Coded.{codes};
     ghost use Rattle.lsys_expr.specs.Codes.{expression_code};
-    ghost use Rattle.lsys_keeping.specs.Answers.{lists_of};
+    ghost use Rattle.lsys_flat.specs.Answers.{lists_of};
     ghost use Rattle.lsys_flat.specs.Drafts.{Drafted};
 
     ghost Value = { Drafted };

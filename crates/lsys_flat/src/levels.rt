@@ -1,14 +1,13 @@
 //! The derivation.
 ghost use Rattle.std.specs.Prelude.{◌≡◌, ◌≤◌, length, map, sum_by};
-ghost use Rattle.lsys_revision.specs.Lines.{line_of};
-ghost use Rattle.lsys_revision.specs.Revised.{tags_of};
+ghost use Rattle.lsys_flat.specs.Lines.{line_of};
+ghost use Rattle.lsys_flat.specs.Revised.{tags_of};
 
 use crate::plan::{Olds, planned};
-use lsys_keeping::take_over;
+use crate::{Ancestry, take_over};
 use lsys_level::{FlatLevels, FlatSpot, LevelView, Sight, Tag};
 use lsys_match::{Answer, AnswerStore, Derivation, Steps};
 use lsys_module::SymbolList;
-use lsys_revision::Ancestry;
 use lsys_rewrite::{DeriveRefusal, EditCount};
 use lsys_rules::System;
 use std::alloc::{AllocError, Global};
@@ -32,9 +31,9 @@ impl<L: Ledger> Model for Levels<L> {
     ghost use Rattle.std.specs.Prelude.{map};
     ghost use Rattle.std.specs.Coded.{codes};
     ghost use Rattle.lsys_rules.specs.Codes.{expr_code};
-    ghost use Rattle.lsys_revision.specs.Lines.{line_of};
-    ghost use Rattle.lsys_keeping.specs.Answers.{lists_of};
-    ghost use Rattle.lsys_counts.specs.Counted.{all_slots_in};
+    ghost use Rattle.lsys_flat.specs.Lines.{line_of};
+    ghost use Rattle.lsys_flat.specs.Answers.{lists_of};
+    ghost use Rattle.lsys_flat.specs.Counted.{all_slots_in};
     ghost use Rattle.lsys_flat.specs.Codes.{right_code, tree_code};
     ghost use Rattle.lsys_flat.specs.Derived.{Derived, IsKept};
 

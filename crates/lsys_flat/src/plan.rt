@@ -2,16 +2,15 @@
 ghost use Rattle.std.specs.Prelude.{◌≡◌, ◌+◌, ◌*◌, ℕ, List, IfErr, IfOk, OnErr, OnOk, map};
 ghost use Rattle.lsys_spec.specs.Levels as levels;
 ghost use Rattle.lsys_match.specs.Derivations.{Rises, most_read};
-ghost use Rattle.lsys_revision.specs.Lines.{line_of};
-ghost use Rattle.lsys_keeping.specs.Answers.{lists_of};
-ghost use Rattle.lsys_round.specs.Rounds.{StayMade};
+ghost use Rattle.lsys_flat.specs.Lines.{line_of};
+ghost use Rattle.lsys_flat.specs.Answers.{lists_of};
+ghost use Rattle.lsys_flat.specs.Rounds.{StayMade};
 ghost use Rattle.lsys_flat.specs.Drafts.{AreAllNew, AreOlds, IsPlanned, IsRefusal};
 
 use crate::draft::Draft;
-use lsys_keeping::release_all;
+use crate::{Ancestry, release_all};
 use lsys_level::FlatLevels;
 use lsys_match::{Answer, AnswerStore, Steps};
-use lsys_revision::Ancestry;
 use lsys_rewrite::{DeriveRefusal, EditCount};
 use lsys_rules::System;
 use std::alloc::Global;

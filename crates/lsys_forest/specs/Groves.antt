@@ -2,9 +2,9 @@
 use Rattle.std.specs.Prelude.{◌≡◌, ◌≢◌, ◌⊎◌, ◌+◌, ◌<◌, ◌≤◌, ◌^◌, ℕ, zero, suc, List, [], ◌∷◌, ◌++◌, length, Option, Some, IsSome}
 use Rattle.lsys_level.specs.Spots.{Seen, Push, Pop, Module}
 use Rattle.lsys_forest.specs.Slots.{live_slots}
-use Rattle.lsys_forest.specs.Nodes.{Node, Nodes, put}
-use Rattle.lsys_forest.specs.Changes.{Change, undone}
-use Rattle.lsys_forest.specs.Answers.{Keeper, answers}
+use Rattle.lsys_forest.specs.Nodes.{Node, Nodes, put, new_node}
+use Rattle.lsys_forest.specs.Changes.{Change, OldAnswer, undone}
+use Rattle.lsys_forest.specs.Answers.{Keeper, answers, kept_by, FreesAllBut}
 use Rattle.lsys_forest.specs.Stocks.{Stock, nodes_of, changes_of, looked}
 
 -- A forest: its nodes, and what they were before each change since the last rest; its root; and how many nodes and changes
@@ -124,6 +124,32 @@ module _ {A : Type 0} where
     pub now : now_of new ≡ put (now_of old) k (Some node)
     pub rest : rest_of new ≡ rest_of old
     pub root : new.root ≡ old.root
+
+  -- the node that lives at a number became what this makes of it, and nothing else changed
+  abbrev pub Alters : Grove A → Grove A → ℕ → (Node A → Node A) → Type 0
+  Alters old new k become = (n : Node A) → now_of old k ≡ Some n → Sets old new k (become n)
+
+  -- a node came under this parent, with these names and this symbol, and nothing else changed
+  abbrev pub AddsNode : Grove A → Grove A → ℕ → ℕ → ℕ → ℕ → Seen → ℕ → Type 0
+  AddsNode old new k parent code count seen key =
+      (p : Node A) → now_of old parent ≡ Some p
+      → Sets old new k (new_node parent code count (p.depth + 1) seen key)
+
+  -- one change more tells the answer that the node at a number kept
+  abbrev pub NotesAnswer : Grove A → Grove A → ℕ → Type 0
+  NotesAnswer old new k =
+      (n : Node A) → now_of old k ≡ Some n
+      → changes_in new ≡ changes_in old ++ record { node = k; before = OldAnswer n.answer } ∷ []
+
+  -- each node that is reached from the root stays
+  abbrev pub KeepsReached : Grove A → Grove A → Type 0
+  KeepsReached old new = (k : ℕ) → Reached (now_of old) old.root k → now_of new k ≡ now_of old k
+
+  -- of the runs that the answers of a forest hold, exactly those that these nodes hold stay live
+  abbrev pub FreesAllBesides : {Store Name Run : Type 0} → (Store → Name → Option Run)
+      → (A → Name → Type 0) → Grove A → Nodes A → Store → Store → Type 0
+  FreesAllBesides run_at holds f m old new =
+      FreesAllBut run_at holds (kept_in f) (kept_by m) old new
 
   -- the spares fell by at most so much, no more than so many nodes came to live, and numbers are below what they were below
   pub record Spends (old new : Grove A) (nodes params kids notes : ℕ) : Type 0 where

@@ -1,5 +1,5 @@
 -- Nodes, by their numbers.
-use Rattle.std.specs.Prelude.{ℕ, ℤ, List, [], Option, None, cond, nat_eq, option_map}
+use Rattle.std.specs.Prelude.{◌≡◌, ℕ, ℤ, List, [], Option, Some, None, cond, nat_eq, option_map}
 use Rattle.lsys_module.specs.Views.{module_name}
 use Rattle.lsys_level.specs.Spots.{Seen, Push, Pop, Module}
 use Rattle.lsys_forest.specs.declared.node.Kind.{Kind}
@@ -51,3 +51,20 @@ module _ {A : Type 0} where
 
   abbrev pub with_answer : Option A → Node A → Node A
   with_answer x n = record n { answer = x }
+
+  -- a node of this parent, with these names and this symbol, without children and answer
+  abbrev pub new_node : ℕ → ℕ → ℕ → ℕ → Seen → ℕ → Node A
+  new_node parent code count depth seen key = record {
+    parent = parent;
+    code = code;
+    count = count;
+    depth = depth;
+    seen = seen;
+    key = key;
+    kids = [];
+    answer = None;
+  }
+
+  -- this holds of the node at a number, if one lives there
+  abbrev pub ForNode : Nodes A → ℕ → (Node A → Type 0) → Type 0
+  ForNode m k IsSo = (n : Node A) → m k ≡ Some n → IsSo n

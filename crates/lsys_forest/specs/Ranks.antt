@@ -1,5 +1,5 @@
 -- Where nodes stand among the children of their parents, and on their levels.
-use Rattle.std.specs.Prelude.{◌≡◌, ◌≢◌, ◌⊎◌, ◌<◌, ℕ, List, ◌∷◌, ◌++◌, Option, Some, None, slice_get}
+use Rattle.std.specs.Prelude.{◌≡◌, ◌≢◌, ◌⊎◌, ◌<◌, ℕ, List, ◌∷◌, ◌++◌, Option, Some, None, IsSome, slice_get}
 use Rattle.lsys_forest.specs.declared.node.Footing.{Footing}
 use Rattle.lsys_forest.specs.declared.walk.Way.{Way}
 use Rattle.lsys_forest.specs.declared.walk.Way.TheVariants.{Left, Right}
@@ -7,6 +7,7 @@ use Rattle.lsys_forest.specs.Slots.{footing_at, rank_at, link_at}
 use Rattle.lsys_forest.specs.Nodes.{Node, Nodes}
 use Rattle.lsys_forest.specs.Rows.{first_in, mirrored, oriented, level_nodes}
 use Rattle.lsys_forest.specs.Groves.{In, AreApart}
+use Rattle.lsys_forest.specs.Stocks.{Stock, nodes_of}
 
 -- each node of a row is linked to its neighbours there
 abbrev pub AreChained : List ℕ → List Footing → Type 0
@@ -36,6 +37,18 @@ pub record LinksRow (old new : List Footing) (before : Option ℕ) (kids : List 
       → footing_at new k ≡ footing_at old k
   pub ranks : (k : ℕ) → rank_at new k ≡ rank_at old k
 
+-- each rank stays that is not at one of these numbers
+abbrev pub KeepsOtherRanks : List ℕ → List Footing → List Footing → Type 0
+KeepsOtherRanks kids old new = (k : ℕ) → (In k kids → ⊥) → rank_at new k ≡ rank_at old k
+
+-- each link stays
+abbrev pub KeepsLinks : List Footing → List Footing → Type 0
+KeepsLinks old new = (way : Way) (k : ℕ) → link_at way new k ≡ link_at way old k
+
+-- something is at this number, if it is one, and it is not among these
+abbrev pub IsApartFrom : {X : Type 0} → (ℕ → Option X) → List ℕ → Option ℕ → Type 0
+IsApartFrom at kids before = (k : ℕ) → before ≡ Some k → IsSome (at k) × (In k kids → ⊥)
+
 module _ {A : Type 0} where
   abbrev pub parent_in : Option (Node A) → ℕ
   parent_in None = 0
@@ -51,3 +64,9 @@ module _ {A : Type 0} where
       (t k : ℕ) (way : Way) (before after : List ℕ) → t < linked
       → oriented way (level_nodes m root t) ≡ before ++ k ∷ after
       → link_at way footings k ≡ first_in after
+
+  -- the children of a node came to have their ranks, where those of all others had them
+  abbrev pub RanksKidsOf : ℕ → Stock A → Stock A → Type 0
+  RanksKidsOf k old new =
+      (before : Nodes A) → ((j : ℕ) → j ≢ k → nodes_of old j ≡ before j)
+      → AreRanked before old.footings → AreRanked (nodes_of old) new.footings

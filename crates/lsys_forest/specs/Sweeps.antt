@@ -1,5 +1,5 @@
 -- How the nodes that are reached no more are removed.
-use Rattle.std.specs.Prelude.{◌≡◌, ◌≢◌, ◌⊎◌, ◌+◌, ◌≤◌, ℕ, List, [], length, Some, None, IsSome}
+use Rattle.std.specs.Prelude.{◌≡◌, ◌≢◌, ◌⊎◌, ◌+◌, ◌≤◌, ℕ, Bool, false, IsTrue, List, [], ◌∷◌, length, Some, None, IsSome}
 use Rattle.lsys_forest.specs.declared.node.Footing.{Footing}
 use Rattle.lsys_forest.specs.Slots.{footing_at, live_slots}
 use Rattle.lsys_forest.specs.Nodes.{Node, Nodes}
@@ -31,6 +31,30 @@ module _ {A : Type 0} where
   -- the nodes in `left` were looked at, whatever the forest was first
   abbrev pub SweepsLeft : ℕ → Stock A → Stock A → List ℕ → Type 0
   SweepsLeft root old new left = (first : Nodes A) (before : List (Change A)) (stood : List Footing) → IsSound root before first → IsSweptOf first stood root old left → IsSweptOf first stood root new []
+
+  -- one node was looked at, whatever the forest was first
+  abbrev pub SweepsOne : ℕ → Stock A → Stock A → ℕ → Type 0
+  SweepsOne root old new k =
+      (left : List ℕ) (first : Nodes A) (before : List (Change A)) (stood : List Footing)
+      → IsSound root before first
+      → IsSweptOf first stood root old (k ∷ left) → IsSweptOf first stood root new left
+
+  -- the node is not fast, if the answer is yes
+  abbrev pub IsLooseIf : Bool → Stock A → ℕ → Type 0
+  IsLooseIf answer t k =
+      (n : Node A) → IsTrue answer → nodes_of t k ≡ Some n
+      → AreRanked (nodes_of t) t.footings → IsFast (nodes_of t) k n → ⊥
+
+  -- the node is fast, if the answer is no
+  abbrev pub IsFastUnless : Bool → Stock A → ℕ → Type 0
+  IsFastUnless answer t k =
+      (n : Node A) → answer ≡ false → nodes_of t k ≡ Some n → IsFast (nodes_of t) k n
+
+  -- the first node lacks the second among its children, if the answer is no
+  abbrev pub LacksKidUnless : Bool → Stock A → ℕ → ℕ → Type 0
+  LacksKidUnless answer t parent k =
+      (p : Node A) → answer ≡ false → AreRanked (nodes_of t) t.footings
+      → nodes_of t parent ≡ Some p → In k p.kids → ⊥
 
   -- a node that is removed makes place for the change that tells its children
   pub record KeepsPlaces (old new : Stock A) : Type 0 where

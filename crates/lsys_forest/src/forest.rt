@@ -1,18 +1,20 @@
 //! The forest.
-ghost use Rattle.std.specs.Prelude.{◌↔◌, List, ◌∷◌, ◌++◌, ◌≡◌, ◌≢◌, ◌+◌, ◌<◌, ◌≤◌, ◌^◌, ℕ, [], None, Some, IfOk, OnOk, IsTrue, false, option_copied, length, max};
+ghost use Rattle.std.specs.Prelude.{◌↔◌, ◌≡◌, ◌≢◌, ◌+◌, ◌<◌, ◌≤◌, ◌^◌, ℕ, [], None, Some, IfOk, OnOk, IsTrue, false, option_copied, length, max};
 ghost use Rattle.lsys_module.specs.declared.symbol.Symbol.TheVariants.{Cut};
 ghost use Rattle.lsys_level.specs.Places.{seen_in, params_in};
 ghost use Rattle.lsys_level.specs.Views.{seen_of, HasFewParams};
 ghost use Rattle.lsys_region.specs.Rooms.{list_room};
-ghost use Rattle.lsys_forest.specs.Nodes.{Node, root_node, with_seen, with_key, with_kids, with_answer};
+ghost use Rattle.lsys_forest.specs.Nodes.{Node, root_node, with_seen, with_key, with_kids, with_answer, ForNode};
 ghost use Rattle.lsys_forest.specs.Slots.{live_slots};
-ghost use Rattle.lsys_forest.specs.Changes.{Change, OldAnswer, undone};
-ghost use Rattle.lsys_forest.specs.Stocks.{nodes_of, changes_of, KeepsRoom, Undoes, dropped};
-ghost use Rattle.lsys_forest.specs.Answers.{answers, kept_by, IsMade, Releases, AreMade, Follows, FreesAllBut};
-ghost use Rattle.lsys_forest.specs.Rows.{first_in, last_in, oriented, flat, kids_that_way, kids_below, complete_levels, level_of_node, place_of_node, IsAtSpot, level_with};
+ghost use Rattle.lsys_forest.specs.Changes.{undone};
+ghost use Rattle.lsys_forest.specs.Stocks.{nodes_of, changes_of, KeepsRoom};
+ghost use Rattle.lsys_forest.specs.Answers.{AreMade};
+ghost use Rattle.lsys_forest.specs.Rows.{oriented, complete_levels, level_of_node, place_of_node, IsAtSpot, level_with};
 ghost use Rattle.lsys_forest.specs.Mates.{mate_way};
 ghost use Rattle.lsys_forest.specs.Ranks.{AreRanked, AreLinked};
-ghost use Rattle.lsys_forest.specs.Groves.{now_of, rest_of, IsAtRest, IsLive, live_nodes, numbers_in, spare_params, spare_kids, kept_in, changes_in, IsSound, AreSound, Reached, AreKids, Sets, Spends, KeepsSpares};
+ghost use Rattle.lsys_forest.specs.Groves.{now_of, rest_of, IsAtRest, IsLive, live_nodes, numbers_in, spare_params, spare_kids, kept_in, changes_in, IsSound, AreSound, Reached, AreKids, Spends, KeepsSpares, Alters, AddsNode, NotesAnswer, KeepsReached, FreesAllBesides};
+ghost use Rattle.lsys_forest.specs.LastChange.{answers_in, StaysUnchanged, UndoDropsMade, GoesBack, StoreFollows};
+ghost use Rattle.lsys_forest.specs.Neighbours.{IsNextIn, IsChildFrom, IsFirstBelow, IsLastBelow};
 
 use crate::kept::Kept;
 use crate::link::link_levels;
@@ -131,16 +133,7 @@ impl<A: Kept> Forest<A> {
         requires notes { 0 < self.old.spare_notes }
         requires params { list_room (params_in symbol.now) ≤ spare_params self.old }
         ensures new { now_of self.old result ≡ None }
-        ensures added { (p : Node A) → now_of self.old parent ≡ Some p → Sets self.old self.new result (record {
-          parent = parent;
-          code = code;
-          count = count;
-          depth = p.depth + 1;
-          seen = seen_in symbol.now;
-          key = key;
-          kids = [];
-          answer = None;
-        }) }
+        ensures added { AddsNode self.old self.new result parent code count (seen_in symbol.now) key }
         ensures kept { kept_in self.new ≡ kept_in self.old }
         ensures spends { Spends self.old self.new 1 (list_room (params_in symbol.now)) 0 1 }
     {
@@ -160,7 +153,7 @@ impl<A: Kept> Forest<A> {
         requires kids { AreKids (now_of self.old) self.old.root node kids.now }
         requires notes { 0 < self.old.spare_notes }
         requires room { list_room kids.now ≤ spare_kids self.old }
-        ensures set { (n : Node A) → now_of self.old node ≡ Some n → Sets self.old self.new node (with_kids kids.now n) }
+        ensures set { Alters self.old self.new node (with_kids kids.now) }
         ensures kept { kept_in self.new ≡ kept_in self.old }
         ensures spends { Spends self.old self.new 0 0 (list_room kids.now) 1 }
     {
@@ -177,8 +170,7 @@ impl<A: Kept> Forest<A> {
         requires whole { symbol.now ≢ Cut }
         requires notes { 0 < self.old.spare_notes }
         requires room { list_room (params_in symbol.now) ≤ spare_params self.old }
-        ensures set { (n : Node A) → now_of self.old node ≡ Some n
-            → Sets self.old self.new node (with_seen (seen_in symbol.now) n) }
+        ensures set { Alters self.old self.new node (with_seen (seen_in symbol.now)) }
         ensures kept { kept_in self.new ≡ kept_in self.old }
         ensures spends { Spends self.old self.new 0 (list_room (params_in symbol.now)) 0 1 }
     {
@@ -191,7 +183,7 @@ impl<A: Kept> Forest<A> {
         requires lives { IsLive self.old node }
         requires other { node ≢ self.old.root }
         requires notes { 0 < self.old.spare_notes }
-        ensures set { (n : Node A) → now_of self.old node ≡ Some n → Sets self.old self.new node (with_key key n) }
+        ensures set { Alters self.old self.new node (with_key key) }
         ensures kept { kept_in self.new ≡ kept_in self.old }
         ensures spends { Spends self.old self.new 0 0 0 1 }
     {
@@ -203,11 +195,8 @@ impl<A: Kept> Forest<A> {
     pub fn set_answer(&mut self, node: NodeId, answer: Option<A>)
         requires lives { IsLive self.old node }
         requires notes { 0 < self.old.spare_notes }
-        ensures set { (n : Node A) → now_of self.old node ≡ Some n
-            → Sets self.old self.new node (with_answer answer n) }
-        ensures noted { (n : Node A) → now_of self.old node ≡ Some n
-            → changes_in self.new
-            ≡ changes_in self.old ++ record { node = node; before = OldAnswer n.answer } ∷ [] }
+        ensures set { Alters self.old self.new node (with_answer answer) }
+        ensures noted { NotesAnswer self.old self.new node }
         ensures spends { Spends self.old self.new 0 0 0 1 }
     {
         self.spare_notes -= 1;
@@ -290,8 +279,7 @@ impl<A: Kept> Forest<A> {
     pub fn has_symbol(&self, node: NodeId, symbol: &Symbol) -> bool
         requires lives { IsLive self.now node }
         requires whole { symbol.now ≢ Cut }
-        ensures { (n : Node A) → now_of self.now node ≡ Some n
-            → IsTrue result ↔ (n.seen ≡ seen_in symbol.now) }
+        ensures { ForNode (now_of self.now) node (λ n. IsTrue result ↔ (n.seen ≡ seen_in symbol.now)) }
     {
         is_seen(self.symbol(node), symbol)
     }
@@ -308,8 +296,7 @@ impl<A: Kept> Forest<A> {
     pub fn number(&self, node: NodeId) -> (u64, u32)
         requires lives { IsLive self.now node }
         requires other { node ≢ self.now.root }
-        ensures { (n : Node A) → now_of self.now node ≡ Some n
-            → (result.0 ≡ n.code) × (result.1 ≡ n.count) }
+        ensures { ForNode (now_of self.now) node (λ n. (result.0 ≡ n.code) × (result.1 ≡ n.count)) }
     {
         match self.parts.get(node) {
             Some(found) => (found.code, found.count),
@@ -325,7 +312,7 @@ impl<A: Kept> Forest<A> {
         ensures rest { IsAtRest self.new }
         ensures root { self.new.root ≡ self.old.root }
         ensures spares { Spends self.old self.new 0 0 0 0 }
-        ensures store { FreesAllBut A.run_at A.Holds (kept_in self.old) (kept_by (rest_of self.old)) store.old store.new }
+        ensures store { FreesAllBesides A.run_at A.Holds self.old (rest_of self.old) store.old store.new }
         ensures still { AreMade A.run_at A.Holds store.new (kept_in self.new) }
     {
         undo_all(&mut self.parts, self.root, &mut self.linked, store);
@@ -335,12 +322,12 @@ impl<A: Kept> Forest<A> {
     /// are given back, with the runs of all answers that are kept no more. It takes no memory.
     pub fn commit(&mut self, store: &mut A::Store)
         requires made { AreMade A.run_at A.Holds store.old (kept_in self.old) }
-        ensures stay { (k : ℕ) → Reached (now_of self.old) self.old.root k → now_of self.new k ≡ now_of self.old k }
+        ensures stay { KeepsReached self.old self.new }
         ensures only { (k : ℕ) → IsLive self.new k → Reached (now_of self.old) self.old.root k }
         ensures rest { IsAtRest self.new }
         ensures root { self.new.root ≡ self.old.root }
         ensures spares { Spends self.old self.new 0 0 0 0 }
-        ensures store { FreesAllBut A.run_at A.Holds (kept_in self.old) (kept_by (now_of self.new)) store.old store.new }
+        ensures store { FreesAllBesides A.run_at A.Holds self.old (now_of self.new) store.old store.new }
         ensures still { AreMade A.run_at A.Holds store.new (kept_in self.new) }
     {
         sweep_all(&mut self.parts, self.root, store);
@@ -361,8 +348,7 @@ impl<A: Kept> Forest<A> {
     /// The first child of the nodes of a complete level from this one on; none where they have no children.
     pub fn first_below(&self, spot: NodeId) -> Option<NodeId>
         requires { IsAtSpot self.now spot }
-        ensures { (before after : List ℕ) → level_with self.now spot ≡ before ++ spot ∷ after
-            → result ≡ first_in (kids_below (now_of self.now) (spot ∷ after)) }
+        ensures { IsFirstBelow self.now spot result }
     {
         self.child_from(spot, Way::Right)
     }
@@ -370,8 +356,7 @@ impl<A: Kept> Forest<A> {
     /// The last child of the nodes of a complete level up to this one; none where they have no children.
     pub fn last_below(&self, spot: NodeId) -> Option<NodeId>
         requires { IsAtSpot self.now spot }
-        ensures { (before after : List ℕ) → level_with self.now spot ≡ before ++ spot ∷ after
-            → result ≡ last_in (kids_below (now_of self.now) (before ++ spot ∷ [])) }
+        ensures { IsLastBelow self.now spot result }
     {
         self.child_from(spot, Way::Left)
     }
@@ -379,8 +364,7 @@ impl<A: Kept> Forest<A> {
     /// The node next to one of a complete level, that way.
     fn beside(&self, spot: NodeId, way: Way) -> Option<NodeId>
         requires { IsAtSpot self.now spot }
-        ensures beside { (before after : List ℕ)
-            → oriented way (level_with self.now spot) ≡ before ++ spot ∷ after → result ≡ first_in after }
+        ensures beside { IsNextIn (oriented way (level_with self.now spot)) spot result }
         ensures sound { IsSound self.now.root (changes_in self.now) (now_of self.now) }
     {
         beside(
@@ -396,9 +380,7 @@ impl<A: Kept> Forest<A> {
     /// The first child of the nodes of a complete level from one of them on, that way.
     fn child_from(&self, spot: NodeId, way: Way) -> Option<NodeId>
         requires { IsAtSpot self.now spot }
-        ensures { (before after : List ℕ)
-            → oriented way (level_with self.now spot) ≡ before ++ spot ∷ after
-            → result ≡ first_in (flat (kids_that_way way (now_of self.now)) (spot ∷ after)) }
+        ensures { IsChildFrom way self.now spot result }
     {
         first_child(
             &self.parts,
@@ -509,7 +491,7 @@ fn undo_all<A: Kept>(parts: &mut Parts<A>, root: NodeId, linked: &mut u32, store
     requires sound { AreSound root (changes_of parts.old) (nodes_of parts.old) }
     requires ranked { AreRanked (nodes_of parts.old) parts.old.footings }
     requires linked { AreLinked (nodes_of parts.old) root parts.old.footings linked.old }
-    requires made { AreMade A.run_at A.Holds store.old (answers (nodes_of parts.old) (changes_of parts.old)) }
+    requires made { AreMade A.run_at A.Holds store.old (answers_in parts.old) }
     ensures nodes { nodes_of parts.new ≡ undone (changes_of parts.old) (nodes_of parts.old) }
     ensures empty { changes_of parts.new ≡ [] }
     ensures short { length parts.new.notes ≡ 0 }
@@ -517,9 +499,8 @@ fn undo_all<A: Kept>(parts: &mut Parts<A>, root: NodeId, linked: &mut u32, store
     ensures room { KeepsRoom parts.old parts.new }
     ensures ranked { AreRanked (nodes_of parts.new) parts.new.footings }
     ensures linked { AreLinked (nodes_of parts.new) root parts.new.footings linked.new }
-    ensures made { AreMade A.run_at A.Holds store.new (answers (nodes_of parts.new) (changes_of parts.new)) }
-    ensures freed { Follows A.run_at A.Holds (answers (nodes_of parts.old) (changes_of parts.old)) store.old
-        (answers (nodes_of parts.new) (changes_of parts.new)) store.new }
+    ensures made { AreMade A.run_at A.Holds store.new (answers_in parts.new) }
+    ensures freed { StoreFollows A.run_at A.Holds parts.old store.old parts.new store.new }
 {
     while undo_one(parts, root, linked, store) {}
 }
@@ -534,11 +515,9 @@ fn undo_one<A: Kept>(
     requires sound { AreSound root (changes_of parts.old) (nodes_of parts.old) }
     requires ranked { AreRanked (nodes_of parts.old) parts.old.footings }
     requires linked { AreLinked (nodes_of parts.old) root parts.old.footings linked.old }
-    requires made { (c : Change A) (earlier : List (Change A)) → changes_of parts.old ≡ earlier ++ c ∷ []
-        → IsMade A.run_at A.Holds store.old (dropped c (nodes_of parts.old)) }
-    ensures undone { IsTrue result → (c : Change A) × Undoes parts.old parts.new c
-        × Releases A.run_at A.Holds (dropped c (nodes_of parts.old)) store.old store.new }
-    ensures none { result ≡ false → (changes_of parts.old ≡ []) × (parts.new ≡ parts.old) × (store.new ≡ store.old) }
+    requires made { UndoDropsMade A.run_at A.Holds parts.old store.old }
+    ensures undone { IsTrue result → GoesBack A.run_at A.Holds parts.old parts.new store.old store.new }
+    ensures none { result ≡ false → StaysUnchanged parts.old parts.new store.old store.new }
     ensures ranked { AreRanked (nodes_of parts.new) parts.new.footings }
     ensures linked { AreLinked (nodes_of parts.new) root parts.new.footings linked.new }
 {

@@ -1,8 +1,8 @@
 //! Lists in one region, whose runs are held here and at nodes.
-ghost use Rattle.std.specs.Prelude.{◌≡◌, ◌+◌, ◌<◌, ◌≤◌, ◌++◌, ◌∷◌, [], ℕ, length, List, Some, None, IfSome, IfNone, Option, OnOk};
+ghost use Rattle.std.specs.Prelude.{◌≡◌, ◌+◌, ◌<◌, ◌≤◌, ◌++◌, ◌∷◌, [], ℕ, length, List, Some, IfSome, IfNone, Option, OnOk};
 ghost use Rattle.lsys_region.specs.Pool.{list_of, IsLive};
 ghost use Rattle.lsys_region.specs.Rooms.{list_room};
-ghost use Rattle.lsys_forest.specs.Shelves.{shown, shelf_of, IsOwner, IsPlaced, IsFreed};
+ghost use Rattle.lsys_forest.specs.Shelves.{shown, IsOwner, IsPlaced, IsFreed, OnShelf, KeepsPastAndHand, PutsBehindPast};
 ghost use Rattle.lsys_forest.specs.Stocks.{DropsLast, TakesLastUp, PutsDown};
 
 use lsys_region::{Region, Run};
@@ -54,7 +54,7 @@ impl<T: Copy> Lists<T> {
     ///
     /// Want of memory. The lists stay.
     pub(crate) fn reserve(&mut self, past: usize, cells: usize) -> Result<(), AllocError>
-        ensures kept { self.new ≡ record self.old { pool = self.new.pool; past_places = self.new.past_places } }
+        ensures kept { KeepsPastAndHand self.old self.new }
         ensures pool { self.new.pool ≡ record self.old.pool { spare = self.new.pool.spare } }
         ensures spare { OnOk result (cells ≤ self.new.pool.spare) }
         ensures places { OnOk result (past ≤ self.new.past_places) }
@@ -105,10 +105,7 @@ impl<T: Copy> Lists<T> {
     /// Puts a run behind the past ones. It takes no memory.
     pub(crate) fn push(&mut self, run: Run)
         requires { length self.old.past < self.old.past_places }
-        ensures pushed { self.new ≡ record self.old {
-          past = self.old.past ++ run ∷ [];
-          past_places = self.new.past_places;
-        } }
+        ensures pushed { PutsBehindPast run self.old self.new }
         ensures places { self.old.past_places ≤ self.new.past_places }
     {
         match self.past.push(run) {
@@ -130,8 +127,7 @@ impl<T: Copy> Lists<T> {
     pub(crate) fn drop_past(&mut self)
         requires owned { (now : List (Option ℕ)) × IsOwner self.old now }
         ensures owned { (now : List (Option ℕ)) → IsOwner self.old now → IsOwner self.new now }
-        ensures dropped { (now : List (Option ℕ)) → IsOwner self.old now
-            → DropsLast (shelf_of self.old now) (shelf_of self.new now) }
+        ensures dropped { OnShelf DropsLast self.old self.new }
     {
         if let Some(run) = self.past.pop() {
             self.region.free(run);
@@ -142,8 +138,7 @@ impl<T: Copy> Lists<T> {
     pub(crate) fn take_up(&mut self)
         requires owned { (now : List (Option ℕ)) × IsOwner self.old now }
         ensures owned { (now : List (Option ℕ)) → IsOwner self.old now → IsOwner self.new now }
-        ensures taken { (now : List (Option ℕ)) → IsOwner self.old now
-            → TakesLastUp (shelf_of self.old now) (shelf_of self.new now) }
+        ensures taken { OnShelf TakesLastUp self.old self.new }
     {
         if let Some(run) = self.past.pop() {
             let before = mem::replace(&mut self.hand, run);
@@ -155,8 +150,7 @@ impl<T: Copy> Lists<T> {
     pub(crate) fn put_down(&mut self)
         requires owned { (now : List (Option ℕ)) × IsOwner self.old now }
         ensures owned { (now : List (Option ℕ)) → IsOwner self.old now → IsOwner self.new now }
-        ensures put { (now : List (Option ℕ)) → IsOwner self.old now
-            → PutsDown (shelf_of self.old now) (shelf_of self.new now) }
+        ensures put { OnShelf PutsDown self.old self.new }
     {
         let run = self.region.place(&[]);
         let before = mem::replace(&mut self.hand, run);

@@ -1,14 +1,14 @@
 //! The lists that nodes have: their runs stand at the nodes.
 ghost use Rattle.std.specs.Prelude.{◌≡◌, ◌≢◌, ◌+◌, ◌<◌, ◌≤◌, ◌^◌, ℕ, [], length, IsSome, None, Some, slice_get, slice_set};
-ghost use Rattle.std.specs.Option.{option_and_then};
 ghost use Rattle.lsys_region.specs.Rooms.{list_room};
-ghost use Rattle.lsys_forest.specs.declared.walk.Way.{Way};
-ghost use Rattle.lsys_forest.specs.Shelves.{shelf_of, IsOwner};
-ghost use Rattle.lsys_forest.specs.Slots.{slot_at, footing_at, rank_at, link_at, no_footing, live_slots};
+ghost use Rattle.lsys_forest.specs.Shelves.{IsOwner};
+ghost use Rattle.lsys_forest.specs.Slots.{slot_at, rank_at, no_footing, live_slots};
 ghost use Rattle.lsys_forest.specs.Answers.{IsMade, Releases};
-ghost use Rattle.lsys_forest.specs.Stocks.{slot_answer, Adds, Swaps, Restores, Clears};
+ghost use Rattle.lsys_forest.specs.Stocks.{Adds, Swaps, Clears};
 ghost use Rattle.lsys_forest.specs.Groves.{In, AreApart};
-ghost use Rattle.lsys_forest.specs.Ranks.{Joins, LinksRow};
+ghost use Rattle.lsys_forest.specs.Ranks.{Joins, LinksRow, KeepsOtherRanks, KeepsLinks, IsApartFrom};
+ghost use Rattle.lsys_forest.specs.NodeLists.{OnParams, OnKids, RestoresAt, kept_answer};
+ghost use Rattle.lsys_forest.specs.SlotChanges.{KeepsOtherFootings};
 
 use crate::kept::{Kept, release_one};
 use crate::lists::Lists;
@@ -27,8 +27,7 @@ pub(crate) fn swap_params<A: Drop>(
     requires room { list_room list.now ≤ lists.old.pool.spare }
     requires place { length lists.old.past < lists.old.past_places }
     ensures owned { IsOwner lists.new table.new.param_runs }
-    ensures swapped { Swaps node list.now
-        (shelf_of lists.old table.old.param_runs) (shelf_of lists.new table.new.param_runs) }
+    ensures swapped { OnParams (Swaps node list.now) lists.old table.old lists.new table.new }
     ensures table { table.new ≡ record table.old { param_runs = table.new.param_runs } }
 {
     let run = lists.place(list);
@@ -48,8 +47,7 @@ pub(crate) fn swap_kids<A: Drop>(
     requires room { list_room list.now ≤ lists.old.pool.spare }
     requires place { length lists.old.past < lists.old.past_places }
     ensures owned { IsOwner lists.new table.new.kid_runs }
-    ensures swapped { Swaps node list.now
-        (shelf_of lists.old table.old.kid_runs) (shelf_of lists.new table.new.kid_runs) }
+    ensures swapped { OnKids (Swaps node list.now) lists.old table.old lists.new table.new }
     ensures table { table.new ≡ record table.old { kid_runs = table.new.kid_runs } }
 {
     let run = lists.place(list);
@@ -61,8 +59,7 @@ pub(crate) fn swap_kids<A: Drop>(
 pub(crate) fn restore_params<A: Drop>(table: &mut Table<A>, lists: &mut Lists<i64>, node: NodeId)
     requires owned { IsOwner lists.old table.old.param_runs }
     ensures owned { IsOwner lists.new table.new.param_runs }
-    ensures restored { Restores (slot_at table.old.slots node) node
-        (shelf_of lists.old table.old.param_runs) (shelf_of lists.new table.new.param_runs) }
+    ensures restored { OnParams (RestoresAt table.old node) lists.old table.old lists.new table.new }
     ensures table { table.new ≡ record table.old { param_runs = table.new.param_runs } }
 {
     if let Some(run) = lists.pop() {
@@ -75,8 +72,7 @@ pub(crate) fn restore_params<A: Drop>(table: &mut Table<A>, lists: &mut Lists<i6
 pub(crate) fn restore_kids<A: Drop>(table: &mut Table<A>, lists: &mut Lists<NodeId>, node: NodeId)
     requires owned { IsOwner lists.old table.old.kid_runs }
     ensures owned { IsOwner lists.new table.new.kid_runs }
-    ensures restored { Restores (slot_at table.old.slots node) node
-        (shelf_of lists.old table.old.kid_runs) (shelf_of lists.new table.new.kid_runs) }
+    ensures restored { OnKids (RestoresAt table.old node) lists.old table.old lists.new table.new }
     ensures table { table.new ≡ record table.old { kid_runs = table.new.kid_runs } }
 {
     if let Some(run) = lists.pop() {
@@ -102,13 +98,13 @@ pub(crate) fn insert<A: Drop>(
     ensures vacant { slot_at table.old.slots result ≡ None }
     ensures here { slot_at table.new.slots result ≡ Some node }
     ensures others { (j : ℕ) → j ≢ result → slot_at table.new.slots j ≡ slot_at table.old.slots j }
-    ensures footings { (j : ℕ) → j ≢ result → footing_at table.new.footings j ≡ footing_at table.old.footings j }
+    ensures footings { KeepsOtherFootings result table.old.footings table.new.footings }
     ensures live { live_slots table.new.slots ≡ live_slots table.old.slots + 1 }
     ensures capacity { table.new.capacity ≡ table.old.capacity }
     ensures params { IsOwner params.new table.new.param_runs }
     ensures kids { IsOwner kids.new table.new.kid_runs }
-    ensures has_params { Adds result list.now (shelf_of params.old table.old.param_runs) (shelf_of params.new table.new.param_runs) }
-    ensures no_kids { Adds result [] (shelf_of kids.old table.old.kid_runs) (shelf_of kids.new table.new.kid_runs) }
+    ensures has_params { OnParams (Adds result list.now) params.old table.old params.new table.new }
+    ensures no_kids { OnKids (Adds result []) kids.old table.old kids.new table.new }
 {
     let entry = Entry {
         node,
@@ -140,8 +136,8 @@ pub(crate) fn take_out<A: Drop>(
     ensures capacity { table.new.capacity ≡ table.old.capacity }
     ensures params { IsOwner params.new table.new.param_runs }
     ensures kids { IsOwner kids.new table.new.kid_runs }
-    ensures no_params { Clears node (shelf_of params.old table.old.param_runs) (shelf_of params.new table.new.param_runs) }
-    ensures no_kids { Swaps node [] (shelf_of kids.old table.old.kid_runs) (shelf_of kids.new table.new.kid_runs) }
+    ensures no_params { OnParams (Clears node) params.old table.old params.new table.new }
+    ensures no_kids { OnKids (Swaps node []) kids.old table.old kids.new table.new }
 {
     let Some(removed) = table.remove(node) else {
         unreachable!()
@@ -161,16 +157,15 @@ pub(crate) fn clear<A: Kept>(
 )
     requires params { IsOwner params.old table.old.param_runs }
     requires kids { IsOwner kids.old table.old.kid_runs }
-    requires made { IsMade A.run_at A.Holds store.old (option_and_then slot_answer (slot_at table.old.slots node)) }
+    requires made { IsMade A.run_at A.Holds store.old (kept_answer table.old node) }
     ensures slots { table.new.slots ≡ slice_set table.old.slots node None }
     ensures footings { table.new.footings ≡ slice_set table.old.footings node no_footing }
     ensures capacity { table.new.capacity ≡ table.old.capacity }
     ensures params { IsOwner params.new table.new.param_runs }
     ensures kids { IsOwner kids.new table.new.kid_runs }
-    ensures no_params { Clears node (shelf_of params.old table.old.param_runs) (shelf_of params.new table.new.param_runs) }
-    ensures no_kids { Clears node (shelf_of kids.old table.old.kid_runs) (shelf_of kids.new table.new.kid_runs) }
-    ensures released { Releases A.run_at A.Holds (option_and_then slot_answer (slot_at table.old.slots node))
-        store.old store.new }
+    ensures no_params { OnParams (Clears node) params.old table.old params.new table.new }
+    ensures no_kids { OnKids (Clears node) kids.old table.old kids.new table.new }
+    ensures released { Releases A.run_at A.Holds (kept_answer table.old node) store.old store.new }
 {
     if let Some(entry) = table.remove(node) {
         params.free(entry.params);
@@ -184,10 +179,8 @@ pub(crate) fn number<A: Drop>(table: &mut Table<A>, kids: &[NodeId])
     requires apart { AreApart kids.now }
     requires live { (k : ℕ) → In k kids.now → IsSome (slot_at table.old.slots k) }
     ensures stands { (i k : ℕ) → slice_get kids.now i ≡ Some k → rank_at table.new.footings k ≡ i }
-    ensures others { (k : ℕ) → (In k kids.now → ⊥)
-        → rank_at table.new.footings k ≡ rank_at table.old.footings k }
-    ensures links { (way : Way) (k : ℕ)
-        → link_at way table.new.footings k ≡ link_at way table.old.footings k }
+    ensures others { KeepsOtherRanks kids.now table.old.footings table.new.footings }
+    ensures links { KeepsLinks table.old.footings table.new.footings }
     ensures table { table.new ≡ record table.old { footings = table.new.footings } }
 {
     for place in 0..kids.len() {
@@ -203,8 +196,7 @@ pub(crate) fn link_row<A: Drop>(
 ) -> Option<NodeId>
     requires apart { AreApart kids.now }
     requires live { (k : ℕ) → In k kids.now → IsSome (slot_at table.old.slots k) }
-    requires before { (k : ℕ) → before ≡ Some k
-        → IsSome (slot_at table.old.slots k) × (In k kids.now → ⊥) }
+    requires before { IsApartFrom (slot_at table.old.slots) kids.now before }
     ensures row { LinksRow table.old.footings table.new.footings before kids.now result }
     ensures table { table.new ≡ record table.old { footings = table.new.footings } }
 {

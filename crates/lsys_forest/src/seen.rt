@@ -1,10 +1,11 @@
 //! Symbols that are seen.
 ghost use Rattle.std.specs.Prelude.{◌≡◌, ◌≢◌, ◌↔◌, IsTrue};
 ghost use Rattle.lsys_module.specs.declared.symbol.Symbol.TheVariants.{Cut};
-ghost use Rattle.lsys_module.specs.Views.{module_name};
 ghost use Rattle.lsys_level.specs.Spots.{Module};
 ghost use Rattle.lsys_level.specs.Places.{seen_in};
 ghost use Rattle.lsys_level.specs.Views.{seen_of};
+ghost use Rattle.lsys_forest.specs.Nodes.{seen_as};
+ghost use Rattle.lsys_forest.specs.declared.node.Kind.TheVariants as kinds;
 
 use lsys_level::Sight;
 use lsys_module::Symbol;
@@ -25,8 +26,7 @@ pub(crate) fn is_seen(sight: Sight<'_>, symbol: &Symbol) -> bool
 /// Whether a symbol is a module of this name with these parameters.
 fn is_module(name: Name, params: &[i64], symbol: &Symbol) -> bool
     requires { symbol.now ≢ Cut }
-    ensures { IsTrue result
-        ↔ (Module (record { name = module_name name; params = params.now }) ≡ seen_in symbol.now) }
+    ensures { IsTrue result ↔ (seen_as (kinds.Module name) params.now ≡ seen_in symbol.now) }
 {
     match symbol {
         Symbol::Module(module) => name == module.name && params == module.params.values(),

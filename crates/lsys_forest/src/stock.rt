@@ -7,15 +7,20 @@ ghost use Rattle.lsys_region.specs.Rooms.{list_room};
 ghost use Rattle.lsys_forest.specs.declared.node.Kind.TheVariants.{Push};
 ghost use Rattle.lsys_forest.specs.declared.node.Stored.{Stored};
 ghost use Rattle.lsys_forest.specs.declared.walk.Way.{Way};
-ghost use Rattle.lsys_forest.specs.Shelves.{shelf_of, IsOwner};
+ghost use Rattle.lsys_forest.specs.Shelves.{IsOwner, OnShelf};
 ghost use Rattle.lsys_forest.specs.Slots.{slot_at, rank_at, link_at, live_slots};
 ghost use Rattle.lsys_forest.specs.Answers.{old_answer, IsMade, Releases};
-ghost use Rattle.lsys_forest.specs.Groves.{In, HasFew, IsSound};
-ghost use Rattle.lsys_forest.specs.Nodes.{Node, Nodes, root_node, put, with_seen, with_key, with_kids, with_answer};
-ghost use Rattle.lsys_forest.specs.Changes.{Change, KeepsKids, Missing, OldSeen, OldKey, OldKids, OldAnswer};
-ghost use Rattle.lsys_forest.specs.Stocks.{nodes_of, changes_of, row_at, Journals, KeepsRoom, KeepsFootings, dropped, Undoes, TakesUp, Removes, undone_slots, undone_footings, UndoesParams, UndoesKids, dropped_slot, DropsParams, TakesKids, noted_answer, named, named_by, kid_lists};
-ghost use Rattle.lsys_forest.specs.Ranks.{AreRanked, LinksRow};
-ghost use Rattle.lsys_forest.specs.Rows.{depth_in, kids_in};
+ghost use Rattle.lsys_forest.specs.Groves.{HasFew, IsSound};
+ghost use Rattle.lsys_forest.specs.Nodes.{Node, root_node, put, ForNode};
+ghost use Rattle.lsys_forest.specs.Changes.{KeepsKids, Missing};
+ghost use Rattle.lsys_forest.specs.Stocks.{nodes_of, changes_of, row_at, KeepsRoom, KeepsFootings, undone_slots, undone_footings, DropsParams, TakesKids, noted_answer, named, named_by, kid_lists};
+ghost use Rattle.lsys_forest.specs.Ranks.{LinksRow, KeepsLinks, IsApartFrom, RanksKidsOf};
+ghost use Rattle.lsys_forest.specs.Rows.{depth_in};
+ghost use Rattle.lsys_forest.specs.LastChange.{ForLastChange, StaysUnchanged, UndoDropsMade, GoesBack, TakesOneUp, RemovesNode};
+ghost use Rattle.lsys_forest.specs.Journaled.{JournalsSymbol, JournalsKey, JournalsAnswer, JournalsKids, JournalsBirth};
+ghost use Rattle.lsys_forest.specs.NodeLists.{UndoesNotedParams, UndoesNotedKids, dropped_by_note};
+ghost use Rattle.lsys_forest.specs.SlotChanges.{stored_root};
+ghost use Rattle.lsys_forest.specs.Neighbours.{kids_kept};
 
 use crate::kept::{Kept, release_one};
 use crate::lists::Lists;
@@ -146,10 +151,8 @@ impl<A: Drop> Parts<A> {
 
     /// The node whose children the last change set, if it set children.
     pub(crate) fn last_family(&self) -> Option<NodeId>
-        ensures some { IfSome result (λ k. (c : Change A) (earlier : List (Change A))
-            → changes_of self.now ≡ earlier ++ c ∷ [] → c.node ≡ k) }
-        ensures none { IfNone result ((c : Change A) (earlier : List (Change A))
-            → changes_of self.now ≡ earlier ++ c ∷ [] → KeepsKids c.before) }
+        ensures some { IfSome result (λ k. ForLastChange self.now (λ c. c.node ≡ k)) }
+        ensures none { IfNone result (ForLastChange self.now (λ c. KeepsKids c.before)) }
     {
         match self.notes.last() {
             Some(note) => family_of(note),
@@ -271,17 +274,7 @@ impl<A: Drop> Parts<A> {
         requires room { list_room (params_in symbol.now) ≤ self.old.param_room }
         ensures vacant { nodes_of self.old result ≡ None }
         ensures few { HasFew (seen_in symbol.now) }
-        ensures added { Journals self.old self.new result (Some (record {
-          parent = parent;
-          code = code;
-          count = count;
-          depth = depth;
-          seen = seen_in symbol.now;
-          key = key;
-          kids = [];
-          answer = None;
-        }))
-            Missing 1 (list_room (params_in symbol.now)) 0 }
+        ensures added { JournalsBirth self.old self.new result parent code count depth symbol.now key }
     {
         let stored = Stored {
             parent,
@@ -316,8 +309,7 @@ impl<A: Drop> Parts<A> {
         requires place { length self.old.notes < self.old.places }
         requires room { list_room (params_in symbol.now) ≤ self.old.param_room }
         ensures few { HasFew (seen_in symbol.now) }
-        ensures set { (n : Node A) → nodes_of self.old node ≡ Some n → Journals self.old self.new node
-            (Some (with_seen (seen_in symbol.now) n)) (OldSeen n.seen) 0 (list_room (params_in symbol.now)) 0 }
+        ensures set { JournalsSymbol self.old self.new node symbol.now }
     {
         let Some(kind) = self.table.swap_kind(node, kind_of(symbol)) else {
             unreachable!()
@@ -336,8 +328,7 @@ impl<A: Drop> Parts<A> {
     pub(crate) fn set_key(&mut self, node: NodeId, key: u64)
         requires lives { IsSome (nodes_of self.old node) }
         requires place { length self.old.notes < self.old.places }
-        ensures { (n : Node A) → nodes_of self.old node ≡ Some n → Journals self.old self.new node
-            (Some (with_key key n)) (OldKey n.key) 0 0 0 }
+        ensures { JournalsKey self.old self.new node key }
     {
         let Some(before) = self.table.swap_key(node, key) else {
             unreachable!()
@@ -355,8 +346,7 @@ impl<A: Drop> Parts<A> {
     pub(crate) fn set_answer(&mut self, node: NodeId, answer: Option<A>)
         requires lives { IsSome (nodes_of self.old node) }
         requires place { length self.old.notes < self.old.places }
-        ensures { (n : Node A) → nodes_of self.old node ≡ Some n → Journals self.old self.new node
-            (Some (with_answer answer n)) (OldAnswer n.answer) 0 0 0 }
+        ensures { JournalsAnswer self.old self.new node answer }
     {
         let before = self.table.swap_answer(node, answer);
         push_note(
@@ -373,8 +363,7 @@ impl<A: Drop> Parts<A> {
         requires lives { IsSome (nodes_of self.old node) }
         requires place { length self.old.notes < self.old.places }
         requires room { list_room kids.now ≤ self.old.kid_room }
-        ensures { (n : Node A) → nodes_of self.old node ≡ Some n → Journals self.old self.new node
-            (Some (with_kids kids.now n)) (OldKids n.kids) 0 0 (list_room kids.now) }
+        ensures { JournalsKids self.old self.new node kids.now }
     {
         swap_kids(&mut self.table, &mut self.kids, node, kids);
         push_note(
@@ -390,10 +379,8 @@ impl<A: Drop> Parts<A> {
     pub(crate) fn rerank(&mut self, node: NodeId)
         requires { (root : ℕ) × IsSound root (changes_of self.old) (nodes_of self.old) }
         ensures same { self.new ≡ record self.old { footings = self.new.footings } }
-        ensures ranked { (before : Nodes A) → ((j : ℕ) → j ≢ node → nodes_of self.old j ≡ before j)
-            → AreRanked before self.old.footings → AreRanked (nodes_of self.old) self.new.footings }
-        ensures links { (way : Way) (j : ℕ)
-            → link_at way self.new.footings j ≡ link_at way self.old.footings j }
+        ensures ranked { RanksKidsOf node self.old self.new }
+        ensures links { KeepsLinks self.old.footings self.new.footings }
     {
         if let Some(run) = self.table.kids(node) {
             let kids = self.kids.read(run);
@@ -404,11 +391,9 @@ impl<A: Drop> Parts<A> {
     /// Links the children of a node to one another, the first of them behind `before`, and answers the last.
     pub(crate) fn link_kids(&mut self, node: NodeId, before: Option<NodeId>) -> Option<NodeId>
         requires sound { (root : ℕ) × IsSound root (changes_of self.old) (nodes_of self.old) }
-        requires before { (k : ℕ) → before ≡ Some k
-            → IsSome (nodes_of self.old k) × (In k (kids_in (nodes_of self.old node)) → ⊥) }
+        requires before { IsApartFrom (nodes_of self.old) (kids_kept self.old node) before }
         ensures same { self.new ≡ record self.old { footings = self.new.footings } }
-        ensures row { LinksRow self.old.footings self.new.footings before
-            (kids_in (nodes_of self.old node)) result }
+        ensures row { LinksRow self.old.footings self.new.footings before (kids_kept self.old node) result }
     {
         match self.table.kids(node) {
             Some(run) => {
@@ -424,11 +409,9 @@ impl<A: Kept> Parts<A> {
     /// Undoes the last change, and tells whether there was one. An answer that is kept no more is released. It takes no
     /// memory.
     pub(crate) fn undo_last(&mut self, store: &mut A::Store) -> bool
-        requires made { (c : Change A) (earlier : List (Change A)) → changes_of self.old ≡ earlier ++ c ∷ []
-            → IsMade A.run_at A.Holds store.old (dropped c (nodes_of self.old)) }
-        ensures undone { IsTrue result → (c : Change A) × Undoes self.old self.new c
-            × Releases A.run_at A.Holds (dropped c (nodes_of self.old)) store.old store.new }
-        ensures none { result ≡ false → (changes_of self.old ≡ []) × (self.new ≡ self.old) × (store.new ≡ store.old) }
+        requires made { UndoDropsMade A.run_at A.Holds self.old store.old }
+        ensures undone { IsTrue result → GoesBack A.run_at A.Holds self.old self.new store.old store.new }
+        ensures none { result ≡ false → StaysUnchanged self.old self.new store.old store.new }
         ensures footings { KeepsFootings (nodes_of self.new) self.old self.new }
     {
         match self.notes.pop() {
@@ -449,11 +432,9 @@ impl<A: Kept> Parts<A> {
     /// Takes up the last change, if there is one, and answers which nodes it names. An answer that it kept is released.
     /// It takes no memory.
     pub(crate) fn take_last(&mut self, store: &mut A::Store) -> Option<Look>
-        requires made { (c : Change A) (earlier : List (Change A)) → changes_of self.old ≡ earlier ++ c ∷ []
-            → IsMade A.run_at A.Holds store.old (old_answer c) }
-        ensures taken { IfSome result (λ look. (c : Change A) × TakesUp self.old self.new c look
-            × Releases A.run_at A.Holds (old_answer c) store.old store.new) }
-        ensures none { IfNone result ((changes_of self.old ≡ []) × (self.new ≡ self.old) × (store.new ≡ store.old)) }
+        requires made { ForLastChange self.old (λ c. IsMade A.run_at A.Holds store.old (old_answer c)) }
+        ensures taken { IfSome result (TakesOneUp A.run_at A.Holds self.old self.new store.old store.new) }
+        ensures none { IfNone result (StaysUnchanged self.old self.new store.old store.new) }
     {
         match self.notes.pop() {
             Some(note) => Some(take_note(&mut self.params, &mut self.kids, note, store)),
@@ -465,9 +446,8 @@ impl<A: Kept> Parts<A> {
     pub(crate) fn remove(&mut self, node: NodeId, store: &mut A::Store)
         requires lives { IsSome (nodes_of self.old node) }
         requires place { length self.old.notes < self.old.places }
-        requires made { (n : Node A) → nodes_of self.old node ≡ Some n → IsMade A.run_at A.Holds store.old n.answer }
-        ensures { (n : Node A) → nodes_of self.old node ≡ Some n → Removes self.old self.new node n
-            × Releases A.run_at A.Holds n.answer store.old store.new }
+        requires made { ForNode (nodes_of self.old) node (λ n. IsMade A.run_at A.Holds store.old n.answer) }
+        ensures { RemovesNode A.run_at A.Holds self.old self.new node store.old store.new }
     {
         let removed = take_out(&mut self.table, &mut self.params, &mut self.kids, node);
         push_note(
@@ -514,18 +494,15 @@ fn undo_note<A: Kept>(
 )
     requires params { IsOwner params.old table.old.param_runs }
     requires kids { IsOwner kids.old table.old.kid_runs }
-    requires made { IsMade A.run_at A.Holds store.old (dropped_slot note.was (slot_at table.old.slots note.node)) }
+    requires made { IsMade A.run_at A.Holds store.old (dropped_by_note table.old note) }
     ensures slots { table.new.slots ≡ undone_slots note.was note.node table.old.slots }
     ensures footings { table.new.footings ≡ undone_footings note.was note.node table.old.footings }
     ensures capacity { table.new.capacity ≡ table.old.capacity }
     ensures params { IsOwner params.new table.new.param_runs }
     ensures kids { IsOwner kids.new table.new.kid_runs }
-    ensures old_params { UndoesParams note.was (slot_at table.old.slots note.node) note.node
-        (shelf_of params.old table.old.param_runs) (shelf_of params.new table.new.param_runs) }
-    ensures old_kids { UndoesKids note.was (slot_at table.old.slots note.node) note.node
-        (shelf_of kids.old table.old.kid_runs) (shelf_of kids.new table.new.kid_runs) }
-    ensures released { Releases A.run_at A.Holds (dropped_slot note.was (slot_at table.old.slots note.node))
-        store.old store.new }
+    ensures old_params { UndoesNotedParams note params.old table.old params.new table.new }
+    ensures old_kids { UndoesNotedKids note kids.old table.old kids.new table.new }
+    ensures released { Releases A.run_at A.Holds (dropped_by_note table.old note) store.old store.new }
 {
     let Note { node, was } = note;
     match was {
@@ -554,10 +531,8 @@ fn take_note<A: Kept>(
     requires made { IsMade A.run_at A.Holds store.old (noted_answer note.was) }
     ensures params { (now : List (Option ℕ)) → IsOwner params.old now → IsOwner params.new now }
     ensures kids { (now : List (Option ℕ)) → IsOwner kids.old now → IsOwner kids.new now }
-    ensures old_params { (now : List (Option ℕ)) → IsOwner params.old now
-        → DropsParams note.was (shelf_of params.old now) (shelf_of params.new now) }
-    ensures old_kids { (now : List (Option ℕ)) → IsOwner kids.old now
-        → TakesKids note.was (shelf_of kids.old now) (shelf_of kids.new now) }
+    ensures old_params { OnShelf (DropsParams note.was) params.old params.new }
+    ensures old_kids { OnShelf (TakesKids note.was) kids.old kids.new }
     ensures released { Releases A.run_at A.Holds (noted_answer note.was) store.old store.new }
     ensures named { (hand : List ℕ) → named_by result hand ≡ named note.was note.node hand }
 {
@@ -582,15 +557,7 @@ fn take_note<A: Kept>(
 
 /// The root as it is kept.
 fn root_stored<A>() -> Stored<A>
-    ensures { result ≡ record {
-      parent = 0;
-      code = 0;
-      count = 0;
-      depth = 0;
-      kind = Push;
-      key = 0;
-      answer = None;
-    } }
+    ensures { result ≡ stored_root }
 {
     Stored {
         parent: NodeId(0),

@@ -1,14 +1,13 @@
 //! The removal of nodes that are reached no more.
-ghost use Rattle.std.specs.Prelude.{◌≡◌, ◌↔◌, slice_get, ◌+◌, ◌≤◌, ℕ, ◌∷◌, [], length, List, false, Some, IsSome, IsTrue};
-ghost use Rattle.lsys_forest.specs.declared.node.Footing.{Footing};
+ghost use Rattle.std.specs.Prelude.{◌≡◌, ◌↔◌, slice_get, ◌+◌, ◌≤◌, [], length, false, Some, IsSome, IsTrue};
 ghost use Rattle.lsys_forest.specs.Slots.{live_slots};
-ghost use Rattle.lsys_forest.specs.Nodes.{Node, Nodes};
-ghost use Rattle.lsys_forest.specs.Changes.{Change};
-ghost use Rattle.lsys_forest.specs.Answers.{answers, AreMade, Follows};
+ghost use Rattle.lsys_forest.specs.Nodes.{Node};
+ghost use Rattle.lsys_forest.specs.Answers.{AreMade};
 ghost use Rattle.lsys_forest.specs.Stocks.{nodes_of, changes_of, named_by, KeepsRoom, KeepsFootings};
 ghost use Rattle.lsys_forest.specs.Groves.{In, IsSound};
 ghost use Rattle.lsys_forest.specs.Ranks.{AreRanked};
-ghost use Rattle.lsys_forest.specs.Sweeps.{IsFast, IsSwept, IsSweptOf, SweepsLeft, KeepsPlaces};
+ghost use Rattle.lsys_forest.specs.Sweeps.{IsSwept, SweepsLeft, KeepsPlaces, SweepsOne, IsLooseIf, IsFastUnless, LacksKidUnless};
+ghost use Rattle.lsys_forest.specs.LastChange.{answers_in, StoreFollows};
 
 use crate::kept::Kept;
 use crate::node::NodeId;
@@ -19,10 +18,8 @@ use crate::walk::kid_at;
 /// Whether the node lives, and is not among the children of its parent.
 pub(crate) fn is_loose<A: Kept>(parts: &Parts<A>, node: NodeId) -> bool
     ensures lives { IsTrue result → IsSome (nodes_of parts.now node) }
-    ensures apart { (n : Node A) → IsTrue result → nodes_of parts.now node ≡ Some n
-        → AreRanked (nodes_of parts.now) parts.now.footings → IsFast (nodes_of parts.now) node n → ⊥ }
-    ensures linked { (n : Node A) → result ≡ false → nodes_of parts.now node ≡ Some n
-        → IsFast (nodes_of parts.now) node n }
+    ensures apart { IsLooseIf result parts.now node }
+    ensures linked { IsFastUnless result parts.now node }
 {
     match parts.get(node) {
         Some(found) => !has_kid(parts, found.parent, node),
@@ -33,8 +30,7 @@ pub(crate) fn is_loose<A: Kept>(parts: &Parts<A>, node: NodeId) -> bool
 /// Whether the first node lives, and has the second among its children.
 fn has_kid<A: Kept>(parts: &Parts<A>, parent: NodeId, node: NodeId) -> bool
     ensures has { IsTrue result → (p : Node A) × (nodes_of parts.now parent ≡ Some p) × In node p.kids }
-    ensures lacks { (p : Node A) → result ≡ false → AreRanked (nodes_of parts.now) parts.now.footings
-        → nodes_of parts.now parent ≡ Some p → In node p.kids → ⊥ }
+    ensures lacks { LacksKidUnless result parts.now parent node }
 {
     match parts.get(parent) {
         Some(_) => stands_at(parts.kids(parent), node, parts.rank(node)),
@@ -55,14 +51,11 @@ fn stands_at(kids: &[NodeId], node: NodeId, place: usize) -> bool
 /// Removes the node if it is loose, and notes its children.
 fn sweep<A: Kept>(parts: &mut Parts<A>, root: NodeId, node: NodeId, store: &mut A::Store)
     requires places { length parts.old.notes + live_slots parts.old.slots ≤ parts.old.places }
-    requires made { AreMade A.run_at A.Holds store.old (answers (nodes_of parts.old) (changes_of parts.old)) }
-    ensures swept { (left : List ℕ) (first : Nodes A) (before : List (Change A)) (stood : List Footing)
-        → IsSound root before first
-        → IsSweptOf first stood root parts.old (node ∷ left) → IsSweptOf first stood root parts.new left }
+    requires made { AreMade A.run_at A.Holds store.old (answers_in parts.old) }
+    ensures swept { SweepsOne root parts.old parts.new node }
     ensures keeps { KeepsPlaces parts.old parts.new }
-    ensures made { AreMade A.run_at A.Holds store.new (answers (nodes_of parts.new) (changes_of parts.new)) }
-    ensures freed { Follows A.run_at A.Holds (answers (nodes_of parts.old) (changes_of parts.old)) store.old
-        (answers (nodes_of parts.new) (changes_of parts.new)) store.new }
+    ensures made { AreMade A.run_at A.Holds store.new (answers_in parts.new) }
+    ensures freed { StoreFollows A.run_at A.Holds parts.old store.old parts.new store.new }
 {
     if node != root && is_loose(parts, node) {
         parts.remove(node, store);
@@ -72,12 +65,11 @@ fn sweep<A: Kept>(parts: &mut Parts<A>, root: NodeId, node: NodeId, store: &mut 
 /// Sweeps the children in hand.
 fn sweep_hand<A: Kept>(parts: &mut Parts<A>, root: NodeId, store: &mut A::Store)
     requires places { length parts.old.notes + live_slots parts.old.slots ≤ parts.old.places }
-    requires made { AreMade A.run_at A.Holds store.old (answers (nodes_of parts.old) (changes_of parts.old)) }
+    requires made { AreMade A.run_at A.Holds store.old (answers_in parts.old) }
     ensures swept { SweepsLeft root parts.old parts.new parts.old.hand }
     ensures keeps { KeepsPlaces parts.old parts.new }
-    ensures made { AreMade A.run_at A.Holds store.new (answers (nodes_of parts.new) (changes_of parts.new)) }
-    ensures freed { Follows A.run_at A.Holds (answers (nodes_of parts.old) (changes_of parts.old)) store.old
-        (answers (nodes_of parts.new) (changes_of parts.new)) store.new }
+    ensures made { AreMade A.run_at A.Holds store.new (answers_in parts.new) }
+    ensures freed { StoreFollows A.run_at A.Holds parts.old store.old parts.new store.new }
 {
     for place in 0..parts.in_hand().len() {
         let kid = parts.in_hand()[place];
@@ -88,12 +80,11 @@ fn sweep_hand<A: Kept>(parts: &mut Parts<A>, root: NodeId, store: &mut A::Store)
 /// Sweeps the nodes that a change names.
 fn sweep_looked<A: Kept>(parts: &mut Parts<A>, root: NodeId, look: Look, store: &mut A::Store)
     requires places { length parts.old.notes + live_slots parts.old.slots ≤ parts.old.places }
-    requires made { AreMade A.run_at A.Holds store.old (answers (nodes_of parts.old) (changes_of parts.old)) }
+    requires made { AreMade A.run_at A.Holds store.old (answers_in parts.old) }
     ensures swept { SweepsLeft root parts.old parts.new (named_by look parts.old.hand) }
     ensures keeps { KeepsPlaces parts.old parts.new }
-    ensures made { AreMade A.run_at A.Holds store.new (answers (nodes_of parts.new) (changes_of parts.new)) }
-    ensures freed { Follows A.run_at A.Holds (answers (nodes_of parts.old) (changes_of parts.old)) store.old
-        (answers (nodes_of parts.new) (changes_of parts.new)) store.new }
+    ensures made { AreMade A.run_at A.Holds store.new (answers_in parts.new) }
+    ensures freed { StoreFollows A.run_at A.Holds parts.old store.old parts.new store.new }
 {
     match look {
         Look::Node(node) => sweep(parts, root, node, store),
@@ -107,7 +98,7 @@ pub(crate) fn sweep_all<A: Kept>(parts: &mut Parts<A>, root: NodeId, store: &mut
     requires places { length parts.old.notes + live_slots parts.old.slots ≤ parts.old.places }
     requires sound { IsSound root (changes_of parts.old) (nodes_of parts.old) }
     requires ranked { AreRanked (nodes_of parts.old) parts.old.footings }
-    requires made { AreMade A.run_at A.Holds store.old (answers (nodes_of parts.old) (changes_of parts.old)) }
+    requires made { AreMade A.run_at A.Holds store.old (answers_in parts.old) }
     ensures swept { IsSwept (nodes_of parts.old) root (nodes_of parts.new) [] [] }
     ensures footings { KeepsFootings (nodes_of parts.new) parts.old parts.new }
     ensures ranked { AreRanked (nodes_of parts.new) parts.new.footings }
@@ -115,9 +106,8 @@ pub(crate) fn sweep_all<A: Kept>(parts: &mut Parts<A>, root: NodeId, store: &mut
     ensures short { length parts.new.notes ≡ 0 }
     ensures live { live_slots parts.new.slots ≤ live_slots parts.old.slots }
     ensures room { KeepsRoom parts.old parts.new }
-    ensures made { AreMade A.run_at A.Holds store.new (answers (nodes_of parts.new) (changes_of parts.new)) }
-    ensures freed { Follows A.run_at A.Holds (answers (nodes_of parts.old) (changes_of parts.old)) store.old
-        (answers (nodes_of parts.new) (changes_of parts.new)) store.new }
+    ensures made { AreMade A.run_at A.Holds store.new (answers_in parts.new) }
+    ensures freed { StoreFollows A.run_at A.Holds parts.old store.old parts.new store.new }
 {
     while let Some(look) = parts.take_last(store) {
         sweep_looked(parts, root, look, store);

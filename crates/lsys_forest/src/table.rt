@@ -1,9 +1,10 @@
 //! Nodes by their numbers.
-ghost use Rattle.std.specs.Prelude.{◌≡◌, ◌≢◌, ◌↔◌, IsTrue, ◌+◌, ◌<◌, ◌≤◌, ◌^◌, ℕ, [], None, OnOk, Some, IsSome, option_map, option_copied, slice_set, slice_index_or};
+ghost use Rattle.std.specs.Prelude.{◌≡◌, ◌↔◌, IsTrue, ◌+◌, ◌<◌, ◌≤◌, ◌^◌, ℕ, None, OnOk, Some, IsSome, option_map, option_copied};
 ghost use Rattle.slab.specs.Slab.{Slab, get};
 ghost use Rattle.lsys_forest.specs.Shelves.{run_at};
 ghost use Rattle.lsys_forest.specs.declared.node.Entry.{Entry};
-ghost use Rattle.lsys_forest.specs.Slots.{slot_at, footing_at, rank_at, link_at, live_slots, change_slot, change_run, change_footing, run_before, run_after, kind_set, key_set, answer_set, answer_before, node_in, param_run_in, kid_run_in, change_entry, node_set, params_set, kids_set, footing_set, rank_set, right_set, links_set, no_footing, Puts, StandsAt};
+ghost use Rattle.lsys_forest.specs.Slots.{slot_at, rank_at, link_at, live_slots, run_after, kind_set, key_set, answer_set, answer_before, node_in, node_set, params_set, kids_set, footing_set, rank_set, right_set, links_set, Puts, StandsAt};
+ghost use Rattle.lsys_forest.specs.SlotChanges.{KeepsOtherFootings, empty_table, param_run_at, kid_run_at, param_run_or, kid_run_or, entry_params_or, entry_kids_or, Vacates, ChangesSlot, ChangesParamRun, ChangesKidRun, ChangesFooting, FootingBecomes, ChangesEntry};
 
 use crate::node::{Entry, Kind, NodeId, Stored};
 use crate::walk::Way;
@@ -33,7 +34,7 @@ impl<A> Model for Table<A> {
 impl<A: Drop> Table<A> {
     /// No nodes. It takes no memory.
     pub(crate) fn new(alloc: Global) -> Table<A>
-        ensures { result ≡ record { slots = []; param_runs = []; kid_runs = []; footings = []; next = 0; capacity = 0 } }
+        ensures { result ≡ empty_table }
     {
         Table {
             nodes: Slab::new(alloc),
@@ -86,7 +87,7 @@ impl<A: Drop> Table<A> {
 
     /// The run of a node's parameters, if the node lives.
     pub(crate) fn params(&self, number: NodeId) -> Option<&Run>
-        ensures { option_copied result ≡ option_map (λ s. run_at self.now.param_runs number) (slot_at self.now.slots number) }
+        ensures { option_copied result ≡ param_run_at self.now number }
     {
         match self.nodes.get(number.0 as usize) {
             Some(entry) => Some(&entry.params),
@@ -96,7 +97,7 @@ impl<A: Drop> Table<A> {
 
     /// The run of a node's children, if the node lives.
     pub(crate) fn kids(&self, number: NodeId) -> Option<&Run>
-        ensures { option_copied result ≡ option_map (λ s. run_at self.now.kid_runs number) (slot_at self.now.slots number) }
+        ensures { option_copied result ≡ kid_run_at self.now number }
     {
         match self.nodes.get(number.0 as usize) {
             Some(entry) => Some(&entry.kids),
@@ -150,13 +151,7 @@ impl<A: Drop> Table<A> {
     /// Removes a node, and answers it if it lived. It takes no memory.
     pub(crate) fn remove(&mut self, number: NodeId) -> Option<Entry<A>>
         ensures was { StandsAt self.old number result }
-        ensures gone { self.new ≡ record self.old {
-          slots = slice_set self.old.slots number None;
-          param_runs = slice_set self.old.param_runs number None;
-          kid_runs = slice_set self.old.kid_runs number None;
-          footings = slice_set self.old.footings number no_footing;
-          next = self.new.next;
-        } }
+        ensures gone { Vacates number self.old self.new }
     {
         self.nodes.try_remove(number.0 as usize)
     }
@@ -164,9 +159,7 @@ impl<A: Drop> Table<A> {
     /// Sets a symbol without its parameters, and answers the one before.
     pub(crate) fn swap_kind(&mut self, number: NodeId, kind: Kind) -> Option<Kind>
         ensures before { result ≡ option_map (λ s. s.kind) (slot_at self.old.slots number) }
-        ensures changed { self.new ≡ record self.old {
-          slots = change_slot (kind_set kind) self.old.slots number;
-        } }
+        ensures changed { ChangesSlot (kind_set kind) number self.old self.new }
     {
         change_kind(&mut self.nodes, number, kind)
     }
@@ -174,9 +167,7 @@ impl<A: Drop> Table<A> {
     /// Sets a key, and answers the one before.
     pub(crate) fn swap_key(&mut self, number: NodeId, key: u64) -> Option<u64>
         ensures before { result ≡ option_map (λ s. s.key) (slot_at self.old.slots number) }
-        ensures changed { self.new ≡ record self.old {
-          slots = change_slot (key_set key) self.old.slots number;
-        } }
+        ensures changed { ChangesSlot (key_set key) number self.old self.new }
     {
         change_key(&mut self.nodes, number, key)
     }
@@ -184,19 +175,15 @@ impl<A: Drop> Table<A> {
     /// Sets an answer, and answers the one before; where no node lives, the answer comes back.
     pub(crate) fn swap_answer(&mut self, number: NodeId, answer: Option<A>) -> Option<A>
         ensures before { result ≡ answer_before (slot_at self.old.slots number) answer }
-        ensures changed { self.new ≡ record self.old {
-          slots = change_slot (answer_set answer) self.old.slots number;
-        } }
+        ensures changed { ChangesSlot (answer_set answer) number self.old self.new }
     {
         change_answer(&mut self.nodes, number, answer)
     }
 
     /// Sets the run of a node's parameters, and answers the one before; where no node lives, the run comes back.
     pub(crate) fn swap_params(&mut self, number: NodeId, run: Run) -> Run
-        ensures before { result ≡ run_before (slot_at self.old.slots number) (run_at self.old.param_runs number) run }
-        ensures changed { self.new ≡ record self.old {
-          param_runs = change_run (slot_at self.old.slots number) self.old.param_runs number run;
-        } }
+        ensures before { result ≡ param_run_or self.old number run }
+        ensures changed { ChangesParamRun number run self.old self.new }
         ensures here { run_at self.new.param_runs number ≡ run_after (slot_at self.old.slots number) run }
     {
         change_params(&mut self.nodes, number, run)
@@ -204,10 +191,8 @@ impl<A: Drop> Table<A> {
 
     /// Sets the run of a node's children, and answers the one before; where no node lives, the run comes back.
     pub(crate) fn swap_kids(&mut self, number: NodeId, run: Run) -> Run
-        ensures before { result ≡ run_before (slot_at self.old.slots number) (run_at self.old.kid_runs number) run }
-        ensures changed { self.new ≡ record self.old {
-          kid_runs = change_run (slot_at self.old.slots number) self.old.kid_runs number run;
-        } }
+        ensures before { result ≡ kid_run_or self.old number run }
+        ensures changed { ChangesKidRun number run self.old self.new }
         ensures here { run_at self.new.kid_runs number ≡ run_after (slot_at self.old.slots number) run }
     {
         change_kids(&mut self.nodes, number, run)
@@ -215,13 +200,8 @@ impl<A: Drop> Table<A> {
 
     /// Sets the rank of a node, if it lives.
     pub(crate) fn set_rank(&mut self, number: NodeId, rank: usize)
-        ensures changed { self.new ≡ record self.old {
-          footings = change_footing (rank_set rank) (slot_at self.old.slots number)
-              self.old.footings number;
-        } }
-        ensures here { IsSome (slot_at self.old.slots number)
-            → footing_at self.new.footings number
-            ≡ rank_set rank (footing_at self.old.footings number) }
+        ensures changed { ChangesFooting (rank_set rank) number self.old self.new }
+        ensures here { FootingBecomes (rank_set rank) number self.old self.new }
     {
         change_rank(&mut self.nodes, number, rank);
     }
@@ -229,11 +209,8 @@ impl<A: Drop> Table<A> {
     /// Links a node to its right neighbour, if it lives.
     pub(crate) fn set_right(&mut self, number: NodeId, right: Option<NodeId>)
         ensures same { self.new ≡ record self.old { footings = self.new.footings } }
-        ensures here { IsSome (slot_at self.old.slots number)
-            → footing_at self.new.footings number
-            ≡ right_set right (footing_at self.old.footings number) }
-        ensures others { (j : ℕ) → j ≢ number
-            → footing_at self.new.footings j ≡ footing_at self.old.footings j }
+        ensures here { FootingBecomes (right_set right) number self.old self.new }
+        ensures others { KeepsOtherFootings number self.old.footings self.new.footings }
     {
         change_right(&mut self.nodes, number, right);
     }
@@ -241,11 +218,8 @@ impl<A: Drop> Table<A> {
     /// Links a node to its neighbours, if it lives.
     pub(crate) fn set_links(&mut self, number: NodeId, left: Option<NodeId>, right: Option<NodeId>)
         ensures same { self.new ≡ record self.old { footings = self.new.footings } }
-        ensures here { IsSome (slot_at self.old.slots number)
-            → footing_at self.new.footings number
-            ≡ links_set left right (footing_at self.old.footings number) }
-        ensures others { (j : ℕ) → j ≢ number
-            → footing_at self.new.footings j ≡ footing_at self.old.footings j }
+        ensures here { FootingBecomes (links_set left right) number self.old self.new }
+        ensures others { KeepsOtherFootings number self.old.footings self.new.footings }
     {
         change_links(&mut self.nodes, number, left, right);
     }
@@ -254,9 +228,7 @@ impl<A: Drop> Table<A> {
 /// Sets a symbol without its parameters, and answers the one before.
 fn change_kind<A: Drop>(nodes: &mut Slab<Entry<A>>, number: NodeId, kind: Kind) -> Option<Kind>
     ensures before { result ≡ option_map (λ e. e.node.kind) (get nodes.old number) }
-    ensures changed { nodes.new ≡ record nodes.old {
-      slots = change_entry (node_set (kind_set kind)) nodes.old.slots number;
-    } }
+    ensures changed { ChangesEntry (node_set (kind_set kind)) number nodes.old nodes.new }
 {
     match nodes.get_mut(number.0 as usize) {
         Some(entry) => Some(mem::replace(&mut entry.node.kind, kind)),
@@ -267,9 +239,7 @@ fn change_kind<A: Drop>(nodes: &mut Slab<Entry<A>>, number: NodeId, kind: Kind) 
 /// Sets a key, and answers the one before.
 fn change_key<A: Drop>(nodes: &mut Slab<Entry<A>>, number: NodeId, key: u64) -> Option<u64>
     ensures before { result ≡ option_map (λ e. e.node.key) (get nodes.old number) }
-    ensures changed { nodes.new ≡ record nodes.old {
-      slots = change_entry (node_set (key_set key)) nodes.old.slots number;
-    } }
+    ensures changed { ChangesEntry (node_set (key_set key)) number nodes.old nodes.new }
 {
     match nodes.get_mut(number.0 as usize) {
         Some(entry) => Some(mem::replace(&mut entry.node.key, key)),
@@ -284,9 +254,7 @@ fn change_answer<A: Drop>(
     answer: Option<A>,
 ) -> Option<A>
     ensures before { result ≡ answer_before (node_in (get nodes.old number)) answer }
-    ensures changed { nodes.new ≡ record nodes.old {
-      slots = change_entry (node_set (answer_set answer)) nodes.old.slots number;
-    } }
+    ensures changed { ChangesEntry (node_set (answer_set answer)) number nodes.old nodes.new }
 {
     match nodes.get_mut(number.0 as usize) {
         Some(entry) => mem::replace(&mut entry.node.answer, answer),
@@ -296,10 +264,8 @@ fn change_answer<A: Drop>(
 
 /// Sets the run of a node's parameters, and answers the one before; where no node lives, the run comes back.
 fn change_params<A: Drop>(nodes: &mut Slab<Entry<A>>, number: NodeId, run: Run) -> Run
-    ensures before { result ≡ run_before (get nodes.old number) (param_run_in (get nodes.old number)) run }
-    ensures changed { nodes.new ≡ record nodes.old {
-      slots = change_entry (params_set run) nodes.old.slots number;
-    } }
+    ensures before { result ≡ entry_params_or (get nodes.old number) run }
+    ensures changed { ChangesEntry (params_set run) number nodes.old nodes.new }
 {
     match nodes.get_mut(number.0 as usize) {
         Some(entry) => mem::replace(&mut entry.params, run),
@@ -309,10 +275,8 @@ fn change_params<A: Drop>(nodes: &mut Slab<Entry<A>>, number: NodeId, run: Run) 
 
 /// Sets the run of a node's children, and answers the one before; where no node lives, the run comes back.
 fn change_kids<A: Drop>(nodes: &mut Slab<Entry<A>>, number: NodeId, run: Run) -> Run
-    ensures before { result ≡ run_before (get nodes.old number) (kid_run_in (get nodes.old number)) run }
-    ensures changed { nodes.new ≡ record nodes.old {
-      slots = change_entry (kids_set run) nodes.old.slots number;
-    } }
+    ensures before { result ≡ entry_kids_or (get nodes.old number) run }
+    ensures changed { ChangesEntry (kids_set run) number nodes.old nodes.new }
 {
     match nodes.get_mut(number.0 as usize) {
         Some(entry) => mem::replace(&mut entry.kids, run),
@@ -322,9 +286,7 @@ fn change_kids<A: Drop>(nodes: &mut Slab<Entry<A>>, number: NodeId, run: Run) ->
 
 /// Sets the rank of a node, if it lives.
 fn change_rank<A: Drop>(nodes: &mut Slab<Entry<A>>, number: NodeId, rank: usize)
-    ensures { nodes.new ≡ record nodes.old {
-      slots = change_entry (footing_set (rank_set rank)) nodes.old.slots number;
-    } }
+    ensures { ChangesEntry (footing_set (rank_set rank)) number nodes.old nodes.new }
 {
     if let Some(entry) = nodes.get_mut(number.0 as usize) {
         entry.footing.rank = rank;
@@ -333,9 +295,7 @@ fn change_rank<A: Drop>(nodes: &mut Slab<Entry<A>>, number: NodeId, rank: usize)
 
 /// Links a node to its right neighbour, if it lives.
 fn change_right<A: Drop>(nodes: &mut Slab<Entry<A>>, number: NodeId, right: Option<NodeId>)
-    ensures { nodes.new ≡ record nodes.old {
-      slots = change_entry (footing_set (right_set right)) nodes.old.slots number;
-    } }
+    ensures { ChangesEntry (footing_set (right_set right)) number nodes.old nodes.new }
 {
     if let Some(entry) = nodes.get_mut(number.0 as usize) {
         entry.footing.right = right;
@@ -349,9 +309,7 @@ fn change_links<A: Drop>(
     left: Option<NodeId>,
     right: Option<NodeId>,
 )
-    ensures { nodes.new ≡ record nodes.old {
-      slots = change_entry (footing_set (links_set left right)) nodes.old.slots number;
-    } }
+    ensures { ChangesEntry (footing_set (links_set left right)) number nodes.old nodes.new }
 {
     if let Some(entry) = nodes.get_mut(number.0 as usize) {
         entry.footing.left = left;

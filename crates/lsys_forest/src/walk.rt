@@ -1,13 +1,12 @@
 //! Walks along a level.
-ghost use Rattle.std.specs.Prelude.{◌≡◌, ◌↔◌, IsTrue, ◌+◌, ◌-◌, ◌<◌, ℕ, ◌∷◌, ◌++◌, [], ◌^◌, List, length, Some, None, IfSome, slice_get, true};
+ghost use Rattle.std.specs.Prelude.{◌≡◌, ◌↔◌, IsTrue, ◌+◌, ◌-◌, ◌<◌, ◌^◌, length, Some, None, IfSome, slice_get};
 ghost use Rattle.lsys_forest.specs.Stocks.{nodes_of, changes_of};
 ghost use Rattle.lsys_forest.specs.Groves.{In, AreApart, IsSound};
-ghost use Rattle.lsys_spec.specs.Levels.{level_balanced};
-ghost use Rattle.lsys_level.specs.Spots.{level_by};
 ghost use Rattle.lsys_forest.specs.Slots.{live_slots};
 ghost use Rattle.lsys_forest.specs.Ranks.{AreRanked, AreLinked, parent_in};
 ghost use Rattle.lsys_forest.specs.Mates.{nested, IsBracketThat, IsMateThat};
-ghost use Rattle.lsys_forest.specs.Rows.{first_in, index_in, oriented, flat, kids_that_way, level_nodes, level_spots};
+ghost use Rattle.lsys_forest.specs.Rows.{first_in, oriented, level_nodes};
+ghost use Rattle.lsys_forest.specs.Neighbours.{IsNextIn, IsNextToPlace, ComesBefore, nodes_at_depth, IsBalancedLevel, IsFirstKidFrom};
 
 use crate::kept::Kept;
 use crate::node::{Kind, NodeId};
@@ -24,8 +23,7 @@ pub(crate) enum Way {
 fn next_to(kids: &[NodeId], place: usize, way: Way) -> Option<NodeId>
     requires within { place < length kids.now }
     requires apart { AreApart kids.now }
-    ensures { (node : ℕ) (before after : List ℕ) → slice_get kids.now place ≡ Some node
-        → oriented way kids.now ≡ before ++ node ∷ after → result ≡ first_in after }
+    ensures { IsNextToPlace way kids.now place result }
 {
     match way {
         Way::Left => {
@@ -70,8 +68,7 @@ pub(crate) fn beside<A: Kept>(
     requires linked { AreLinked (nodes_of parts.now) root parts.now.footings linked }
     requires below { 0 < depth }
     requires among { In node (level_nodes (nodes_of parts.now) root (depth - 1)) }
-    ensures { (before after : List ℕ) → oriented way (level_nodes (nodes_of parts.now) root (depth - 1)) ≡ before ++ node ∷ after
-        → result ≡ first_in after }
+    ensures { IsNextIn (oriented way (nodes_at_depth parts.now root depth)) node result }
 {
     if depth <= linked {
         return parts.link(node, way);
@@ -109,12 +106,8 @@ pub(crate) fn first_child<A: Kept>(
     requires ranked { AreRanked (nodes_of parts.now) parts.now.footings }
     requires linked { AreLinked (nodes_of parts.now) root parts.now.footings linked }
     requires below { 0 < depth }
-    requires among { IfSome start (λ node.
-        In node (level_nodes (nodes_of parts.now) root (depth - 1))) }
-    ensures { (before after : List ℕ)
-        → oriented way (level_nodes (nodes_of parts.now) root (depth - 1)) ≡ before ++ after
-        → start ≡ first_in after
-        → result ≡ first_in (flat (kids_that_way way (nodes_of parts.now)) after) }
+    requires among { IfSome start (λ node. In node (nodes_at_depth parts.now root depth)) }
+    ensures { IsFirstKidFrom way parts.now (nodes_at_depth parts.now root depth) start result }
 {
     let mut at = start;
     while let Some(above) = at {
@@ -172,9 +165,9 @@ pub(crate) fn mate_of<A: Kept>(
     requires numbers { live_slots parts.now.slots < 2 ^ 32 }
     requires below { 0 < depth }
     requires among { In node (level_nodes (nodes_of parts.now) root (depth - 1)) }
-    requires balanced { level_balanced 0 (level_by (λ tag. []) (level_spots (nodes_of parts.now) root (depth - 1))) ≡ true }
+    requires balanced { IsBalancedLevel (nodes_of parts.now) root (depth - 1) }
     requires bracket { IsBracketThat way (nodes_of parts.now node) }
-    ensures { IsMateThat way (nodes_of parts.now) (level_nodes (nodes_of parts.now) root (depth - 1)) node result }
+    ensures { IsMateThat way (nodes_of parts.now) (nodes_at_depth parts.now root depth) node result }
 {
     let mut inside = 0;
     let mut at = beside(parts, root, node, depth, linked, way);
@@ -211,8 +204,7 @@ pub(crate) fn is_before<A: Kept>(
     requires below { 0 < depth }
     requires one { In one (level_nodes (nodes_of parts.now) root (depth - 1)) }
     requires two { In two (level_nodes (nodes_of parts.now) root (depth - 1)) }
-    ensures { IsTrue result ↔ (index_in one (level_nodes (nodes_of parts.now) root (depth - 1))
-        < index_in two (level_nodes (nodes_of parts.now) root (depth - 1))) }
+    ensures { IsTrue result ↔ ComesBefore (nodes_at_depth parts.now root depth) one two }
 {
     let parent = parent_of(parts, one);
     let other = parent_of(parts, two);

@@ -2,8 +2,8 @@
 use Rattle.std.proofs.Common.{◌≡◌, ◌↔◌, ℕ, false, List, [], ◌∷◌, ◌++◌, sym, subst, inl, inr, arith}
 use Rattle.lsys_spec.specs.Systems.{System}
 use Rattle.lsys_forest.specs.Groves.{Grove, In, AreApart, now_of}
-use Rattle.lsys_seats.specs.declared.seat.Seat.{Seat}
-use Rattle.lsys_seats.specs.Seats.{is_marked}
+use Rattle.lsys_kept.specs.declared.seat.Seat.{Seat}
+use Rattle.lsys_kept.specs.Seats.{is_marked}
 use Rattle.lsys_candidates.specs.Asks.{AddsOf, AreOnOneLevel, ArePlaced}
 use Rattle.lsys_candidates.specs.Candidates.{AsksOn}
 use Rattle.lsys_candidates.specs.Finds.{Gathers, AllMarked}

@@ -11,13 +11,13 @@ use Rattle.lsys_forest.proofs.SoundLemmas.{AreSound-now}
 use Rattle.lsys_brood.specs.Matches.{nodes_without}
 use Rattle.lsys_brood.specs.Children.{Told, KeepsChildren}
 use Rattle.lsys_match.specs.Kept.{Kept}
-use Rattle.lsys_seats.specs.declared.seat.Seat.{Seat}
-use Rattle.lsys_seats.specs.Standings.{seen_at}
-use Rattle.lsys_next.specs.Nexts.{Successors}
-use Rattle.lsys_next.specs.Renewals.{KeepsDeeper}
-use Rattle.lsys_next.proofs.Above.{upper_nodes}
-use Rattle.lsys_next.proofs.Depths.{still, on_level}
-use Rattle.lsys_next.proofs.Renewing.{keeps_upper}
+use Rattle.lsys_kept.specs.declared.seat.Seat.{Seat}
+use Rattle.lsys_kept.specs.Standings.{seen_at}
+use Rattle.lsys_repair.specs.Nexts.{Successors}
+use Rattle.lsys_repair.specs.Renewals.{KeepsDeeper}
+use Rattle.lsys_repair.proofs.Above.{upper_nodes}
+use Rattle.lsys_repair.proofs.Depths.{still, on_level}
+use Rattle.lsys_repair.proofs.Renewing.{keeps_upper}
 use Rattle.lsys_repair.specs.declared.parent.Parent.{Parent}
 use Rattle.lsys_repair.specs.Parents.{nodes_in, AreToldBy}
 use Rattle.lsys_repair.specs.Needs.{number_told, wanted_symbols}

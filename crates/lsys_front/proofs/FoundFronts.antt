@@ -5,16 +5,16 @@ use Rattle.lsys_reads.specs.Relations.{Relations}
 use Rattle.lsys_forest.specs.Groves.{In, AreApart}
 use Rattle.lsys_forest.proofs.RowLemmas.{In_left, In_right}
 use Rattle.lsys_kept.specs.Levels.{answer_at}
-use Rattle.lsys_seats.specs.declared.seat.Seat.{Seat}
-use Rattle.lsys_seats.specs.Neighbours.{neighbours_in}
-use Rattle.lsys_seats.specs.Seats.{neighbours_at}
-use Rattle.lsys_seats.specs.Standings.{AreSeated}
-use Rattle.lsys_seats.proofs.LookLemmas.{in_same, in_back}
+use Rattle.lsys_kept.specs.declared.seat.Seat.{Seat}
+use Rattle.lsys_kept.specs.Neighbours.{neighbours_in}
+use Rattle.lsys_kept.specs.Seats.{neighbours_at}
+use Rattle.lsys_kept.specs.Standings.{AreSeated}
+use Rattle.lsys_kept.proofs.LookLemmas.{in_same, in_back}
 use Rattle.lsys_candidates.specs.Repairs.{Repair, SteppingSpots, now, rest, were, are}
 use Rattle.lsys_candidates.specs.Found.{LevelChanges, Differs, IsFound}
 use Rattle.lsys_candidates.proofs.Spots.{is_in, sound_new}
 use Rattle.lsys_candidates.proofs.FoundNodes.{same_neighbours}
-use Rattle.lsys_mates.specs.Turned.{AreTurnedBy}
+use Rattle.lsys_front.specs.Turned.{AreTurnedBy}
 use Rattle.lsys_front.specs.Fronts.{IsFront}
 
 module _ (r : Repair) (seats : List Seat) (reads : Relations) (c : LevelChanges) (turned beside readers : List ℕ)

@@ -1,8 +1,8 @@
 -- Nodes whose children may be others, each once.
 use Rattle.std.proofs.Common.{◌≡◌, ◌↔◌, ℕ, false, List, [], sym, subst, inl, inr}
 use Rattle.lsys_forest.specs.Groves.{In}
-use Rattle.lsys_seats.specs.declared.seat.Seat.{Seat}
-use Rattle.lsys_seats.specs.Seats.{is_marked}
+use Rattle.lsys_kept.specs.declared.seat.Seat.{Seat}
+use Rattle.lsys_kept.specs.Seats.{is_marked}
 use Rattle.lsys_candidates.specs.Finds.{Gathers, AllMarked}
 use Rattle.lsys_candidates.proofs.Gathering.{gathers_kind, gathers_next, still_marked}
 use Rattle.lsys_candidates.proofs.Marking.{found_kind, kind_found}

@@ -9,7 +9,7 @@ use Rattle.lsys_forest.specs.Groves.{In, IsSound, changes_in}
 use Rattle.lsys_forest.proofs.SoundLemmas.{AreSound-now, AreSound-then}
 use Rattle.lsys_match.specs.Kept.{Kept}
 use Rattle.lsys_kept.specs.Meant.{meant_to}
-use Rattle.lsys_next.proofs.Above.{upper_levels}
+use Rattle.lsys_repair.proofs.Above.{upper_levels}
 use Rattle.lsys_candidates.specs.Repairs.{Repair, SteppingSpots, now, rest, root, are}
 use Rattle.lsys_candidates.specs.Found.{LevelChanges}
 use Rattle.lsys_front.specs.Ends.{AreEnded, answered_in, rows_from}

@@ -14,10 +14,10 @@ use Rattle.lsys_forest.specs.Rows.{flat, kids_in, kids_below, spot_in, level_nod
 use Rattle.lsys_forest.proofs.LinkLemmas.{flat_same}
 use Rattle.lsys_forest.proofs.RowLemmas as rows
 use Rattle.lsys_kept.specs.Lineages.{kin_of, kins}
-use Rattle.lsys_next.specs.Renewals.{AreSmall, KeepsUpper, KeepsDeeper}
-use Rattle.lsys_next.proofs.Above.{upper_nodes, upper_spots}
-use Rattle.lsys_next.proofs.Depths.{on_level}
-use Rattle.lsys_next.proofs.Renewing.{in_cases}
+use Rattle.lsys_repair.specs.Renewals.{AreSmall, KeepsUpper, KeepsDeeper}
+use Rattle.lsys_repair.proofs.Above.{upper_nodes, upper_spots}
+use Rattle.lsys_repair.proofs.Depths.{on_level}
+use Rattle.lsys_repair.proofs.Renewing.{in_cases}
 use Rattle.lsys_front.specs.Ends.{ended, AreEnded, is_answered, answered_in, row_below, rows_from, AreDeep}
 use Rattle.lsys_front.proofs.Rows.{in_flat}
 use Rattle.lsys_front.proofs.RowsBelow.{filter_in, in_filter, filter_apart, SameIn, row_level, rows_row, row_rows, below_apart, deep_rows, rows_apart, AgreeFrom, row_same, rows_same, answered, is_answered_by}

@@ -11,8 +11,8 @@ use Rattle.lsys_forest.specs.Groves.{In}
 use Rattle.lsys_forest.specs.Rows.{spot_in, level_spots}
 use Rattle.lsys_kept.specs.Levels.{IsAnswered, AnsweredAt, level_of, answer_at}
 use Rattle.lsys_kept.specs.Meant.{IsNeeded}
-use Rattle.lsys_seats.specs.Standings.{seen_at}
-use Rattle.lsys_seats.proofs.LevelLemmas.{got_in}
+use Rattle.lsys_kept.specs.Standings.{seen_at}
+use Rattle.lsys_kept.proofs.LevelLemmas.{got_in}
 use Rattle.lsys_candidates.specs.Repairs.{Repair, now, root, rest, are, SteppingSpots}
 use Rattle.lsys_candidates.specs.Candidates.{HasQuestion, IsCandidateNode}
 use Rattle.lsys_candidates.proofs.Gathering.{not_both}

@@ -11,21 +11,21 @@ use Rattle.lsys_forest.specs.Nodes.{Node}
 use Rattle.lsys_forest.specs.Groves.{In, AreApart, changes_in}
 use Rattle.lsys_forest.specs.Rows.{spot_in, level_spots}
 use Rattle.lsys_forest.proofs.RowLemmas.{level_depth}
-use Rattle.lsys_seats.specs.Standings.{seen_at}
-use Rattle.lsys_seats.proofs.LevelLemmas.{got_in, place_in}
+use Rattle.lsys_kept.specs.Standings.{seen_at}
+use Rattle.lsys_kept.proofs.LevelLemmas.{got_in, place_in}
 use Rattle.lsys_kept.specs.Lineages.{names}
 use Rattle.lsys_kept.specs.Levels.{level_of, AnsweredAt, answer_at}
 use Rattle.lsys_candidates.specs.Repairs.{Repair, SteppingSpots, now, rest, root, were, are}
 use Rattle.lsys_candidates.proofs.Spots.{sound_old, sound_new, old_long, new_long}
-use Rattle.lsys_next.specs.Nexts.{Successors, node_symbol, HasWanted, AreClosed}
-use Rattle.lsys_next.specs.Renewals.{AreSmall, KeepsDeeper}
-use Rattle.lsys_next.specs.Answers.{kept_successor, kept_successors}
-use Rattle.lsys_next.proofs.Nexts.{tag_of}
-use Rattle.lsys_next.proofs.Depths.{same_kids, all_under}
-use Rattle.lsys_next.proofs.Families.{level_families}
-use Rattle.lsys_next.proofs.Replaced.{replaced, replacement_short}
-use Rattle.lsys_next.proofs.Walks.{each_alone}
-use Rattle.lsys_next.proofs.Wants.{same_children}
+use Rattle.lsys_repair.specs.Nexts.{Successors, node_symbol, HasWanted, AreClosed}
+use Rattle.lsys_repair.specs.Renewals.{AreSmall, KeepsDeeper}
+use Rattle.lsys_repair.specs.Answers.{kept_successor, kept_successors}
+use Rattle.lsys_repair.proofs.Nexts.{tag_of}
+use Rattle.lsys_repair.proofs.Depths.{same_kids, all_under}
+use Rattle.lsys_repair.proofs.Families.{level_families}
+use Rattle.lsys_repair.proofs.Replaced.{replaced, replacement_short}
+use Rattle.lsys_repair.proofs.Walks.{each_alone}
+use Rattle.lsys_repair.proofs.Wants.{same_children}
 use Rattle.lsys_repair.specs.Parents.{IsParent, AreParents}
 
 -- 1. parents

@@ -22,3 +22,8 @@ pub mod LevelAsks
 pub mod PendingNodes
 pub mod LostAnswers
 pub mod Called
+pub mod LeftLemmas
+pub mod BelowLemmas
+pub mod LevelLemmas
+pub mod TurnedLemmas
+pub mod RepairedLemmas

@@ -2,9 +2,9 @@
 use Rattle.std.proofs.Common.{◌≡◌, ◌++◌, ℕ, List, inl, inr, subst}
 use Rattle.lsys_forest.specs.Groves.{Grove, In}
 use Rattle.lsys_forest.proofs.RowLemmas.{In_append}
-use Rattle.lsys_seats.specs.Looks.{LooksAround, LooksBeyond, LooksAtMate, LooksInto, IsOnLevelOf, AddsBelow}
-use Rattle.lsys_seats.proofs.SeamLemmas.{around_keep, beyond_keep}
-use Rattle.lsys_seats.proofs.MateLemmas.{mate_keep, into_keep}
+use Rattle.lsys_kept.specs.Looks.{LooksAround, LooksBeyond, LooksAtMate, LooksInto, IsOnLevelOf, AddsBelow}
+use Rattle.lsys_kept.proofs.SeamLemmas.{around_keep, beyond_keep}
+use Rattle.lsys_kept.proofs.MateLemmas.{mate_keep, into_keep}
 use Rattle.lsys_front.specs.Fronts.{StandOn, LooksBelow}
 use Rattle.lsys_front.proofs.Standing.{stand_left, stand_right, stand_levels}
 

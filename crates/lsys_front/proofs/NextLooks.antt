@@ -8,22 +8,22 @@ use Rattle.lsys_forest.specs.Rows.{level_nodes, level_spots, level_of_node}
 use Rattle.lsys_forest.proofs.RowLemmas.{In_append}
 use Rattle.lsys_brood.specs.Children.{Told, KeepsChildren}
 use Rattle.lsys_kept.specs.Levels.{level_of}
-use Rattle.lsys_next.specs.Nexts.{Successors, AreLevels, node_symbol}
-use Rattle.lsys_next.specs.Renewals.{KeepsUpper}
-use Rattle.lsys_next.proofs.Renewing.{keeps_upper}
-use Rattle.lsys_next.proofs.Above.{upper_nodes, upper_spots}
+use Rattle.lsys_repair.specs.Nexts.{Successors, AreLevels, node_symbol}
+use Rattle.lsys_repair.specs.Renewals.{KeepsUpper}
+use Rattle.lsys_repair.proofs.Renewing.{keeps_upper}
+use Rattle.lsys_repair.proofs.Above.{upper_nodes, upper_spots}
 use Rattle.lsys_repair.specs.declared.parent.Parent.{Parent}
 use Rattle.lsys_repair.specs.Parents.{nodes_in}
-use Rattle.lsys_seats.specs.declared.seat.Seat.{Seat}
-use Rattle.lsys_seats.specs.Neighbours.{neighbours_in}
-use Rattle.lsys_seats.specs.Seats.{neighbours_at}
-use Rattle.lsys_seats.specs.Standings.{AreSeated}
-use Rattle.lsys_seats.proofs.LookLemmas.{in_same, in_back}
+use Rattle.lsys_kept.specs.declared.seat.Seat.{Seat}
+use Rattle.lsys_kept.specs.Neighbours.{neighbours_in}
+use Rattle.lsys_kept.specs.Seats.{neighbours_at}
+use Rattle.lsys_kept.specs.Standings.{AreSeated}
+use Rattle.lsys_kept.proofs.LookLemmas.{in_same, in_back}
 use Rattle.lsys_candidates.specs.Repairs.{Repair, SteppingSpots, now, rest, root, were, are}
 use Rattle.lsys_candidates.proofs.Spots.{sound_new}
-use Rattle.lsys_mates.specs.Turned.{IsSameLevel}
-use Rattle.lsys_mates.specs.Remade.{IsNextMade}
-use Rattle.lsys_mates.proofs.RepairedLemmas.{remade_looked}
+use Rattle.lsys_front.specs.Turned.{IsSameLevel}
+use Rattle.lsys_front.specs.Remade.{IsNextMade}
+use Rattle.lsys_front.proofs.RepairedLemmas.{remade_looked}
 use Rattle.lsys_front.specs.Fronts.{Differences, IsFront, next_of, IsNext, LooksBelow}
 use Rattle.lsys_front.proofs.Standing.{at_level}
 

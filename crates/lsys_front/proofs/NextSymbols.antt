@@ -14,11 +14,11 @@ use Rattle.lsys_kept.specs.Lineages.{kin_of}
 use Rattle.lsys_candidates.specs.Found.{LevelChanges, Differs}
 use Rattle.lsys_candidates.specs.Repairs.{Repair, SteppingSpots, now, rest, root, were, are}
 use Rattle.lsys_candidates.proofs.Spots.{is_in, sound_old, sound_new}
-use Rattle.lsys_next.specs.Nexts.{Successors, HasWanted, AreClosed, wanted_in, wanted_count, count_wanted}
-use Rattle.lsys_next.specs.Renewals.{KeepsDeeper}
-use Rattle.lsys_next.specs.Answers.{kept_successors}
-use Rattle.lsys_next.proofs.Depths.{on_level}
-use Rattle.lsys_next.proofs.Lengths.{kids_count, below_count, alone_count, other_sums}
+use Rattle.lsys_repair.specs.Nexts.{Successors, HasWanted, AreClosed, wanted_in, wanted_count, count_wanted}
+use Rattle.lsys_repair.specs.Renewals.{KeepsDeeper}
+use Rattle.lsys_repair.specs.Answers.{kept_successors}
+use Rattle.lsys_repair.proofs.Depths.{on_level}
+use Rattle.lsys_repair.proofs.Lengths.{kids_count, below_count, alone_count, other_sums}
 use Rattle.lsys_repair.specs.declared.parent.Parent.{Parent}
 use Rattle.lsys_repair.specs.Parents.{nodes_in, walked, AreToldBy}
 use Rattle.lsys_repair.specs.Needs.{had_by, had_by_all, wanted_of, wanted_of_all}

@@ -6,8 +6,8 @@ use Rattle.lsys_match.specs.Kept.{Kept}
 use Rattle.lsys_forest.specs.Groves.{Grove, In, IsSound, now_of, changes_in}
 use Rattle.lsys_forest.specs.Rows.{depth_in, index_in, level_nodes, level_of_node, place_of_node}
 use Rattle.lsys_forest.proofs.RowLemmas.{level_depth}
-use Rattle.lsys_seats.specs.declared.seat.Seat.{Seat}
-use Rattle.lsys_seats.proofs.LevelLemmas.{index_cases}
+use Rattle.lsys_kept.specs.declared.seat.Seat.{Seat}
+use Rattle.lsys_kept.proofs.LevelLemmas.{index_cases}
 use Rattle.lsys_candidates.specs.Repairs.{Repair, are}
 use Rattle.lsys_candidates.specs.Candidates.{was_last, HasQuestion, IsCandidateNode}
 use Rattle.lsys_candidates.specs.Found.{LevelChanges, SteppingNodes, IsFound, IsAmong}

@@ -22,9 +22,9 @@ use Rattle.lsys_walks.specs.Agreements.{Names, HasTag}
 use Rattle.lsys_match.specs.Answered.{place_chosen}
 use Rattle.lsys_match.specs.Asks.{IsAnswer, IsNamedAt, by_definition}
 use Rattle.lsys_match.specs.TagQuestions.{TagAnswer, question_by}
-use Rattle.lsys_recall.specs.Traced.{IsOwn, IsTraceAt}
-use Rattle.lsys_recall.specs.Recalled.{IsAnswerThere}
-use Rattle.lsys_recall.proofs.Standing.{apart_by, own_line, apart, stands_there}
+use Rattle.lsys_match.specs.Traced.{IsOwn, IsTraceAt}
+use Rattle.lsys_match.specs.Recalled.{IsAnswerThere}
+use Rattle.lsys_match.proofs.Standing.{apart_by, own_line, apart, stands_there}
 use Rattle.lsys_front.proofs.Renaming.{symbol_as, entry_as, told_as, asked_as}
 
 -- 1. by a naming a level is the one of which each lineage is a tag, with other lineages

@@ -16,10 +16,10 @@ use Rattle.lsys_forest.proofs.SoundLemmas.{some_of}
 use Rattle.lsys_forest.proofs.ViewLemmas.{are_told}
 use Rattle.lsys_kept.specs.Lineages.{kin_of}
 use Rattle.lsys_kept.specs.Levels.{HasRead}
-use Rattle.lsys_seats.specs.declared.seat.Seat.{Seat}
-use Rattle.lsys_seats.specs.Neighbours.{IsOnLevel, level_around}
-use Rattle.lsys_seats.specs.Seats.{HasSeat}
-use Rattle.lsys_seats.proofs.LevelLemmas.{got_in}
+use Rattle.lsys_kept.specs.declared.seat.Seat.{Seat}
+use Rattle.lsys_kept.specs.Neighbours.{IsOnLevel, level_around}
+use Rattle.lsys_kept.specs.Seats.{HasSeat}
+use Rattle.lsys_kept.proofs.LevelLemmas.{got_in}
 use Rattle.lsys_candidates.specs.Repairs.{Repair, SteppingSpots, now, rest, root, were, are}
 use Rattle.lsys_candidates.specs.Finds.{IsBeside}
 use Rattle.lsys_candidates.specs.Found.{LevelChanges, Differs, AreOnLevels, HasRoom}

@@ -6,7 +6,7 @@ use Rattle.lsys_forest.specs.Groves.{Grove, In, IsLive, IsSound, changes_in, now
 use Rattle.lsys_forest.specs.Rows.{depth_in, level_nodes, complete_levels, level_of_node, place_of_node, IsAtSpot}
 use Rattle.lsys_forest.proofs.RowLemmas.{In_left, In_right, In_split, level_depth}
 use Rattle.lsys_forest.proofs.ViewLemmas.{is_spot}
-use Rattle.lsys_seats.specs.Looks.{IsOnLevelOf}
+use Rattle.lsys_kept.specs.Looks.{IsOnLevelOf}
 use Rattle.lsys_front.specs.Fronts.{StandOn}
 
 module _ {A : Type 0} where

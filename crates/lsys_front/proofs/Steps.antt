@@ -17,11 +17,11 @@ use Rattle.lsys_brood.specs.declared.child.Child.{Child}
 use Rattle.lsys_brood.specs.Matches.{has_number, number_in, number_of, nodes_without}
 use Rattle.lsys_brood.specs.Children.{born, renewed, seen_in_node, kind_in_node, IsNew, HasTurned, KeepsChildren}
 use Rattle.lsys_kept.specs.Lineages.{kin_of, kins, names}
-use Rattle.lsys_seats.specs.Standings.{seen_at}
-use Rattle.lsys_next.specs.Nexts.{Successors, node_symbol}
-use Rattle.lsys_next.specs.Renewals.{Renewal, stayed, relisted, turned, came, AreRenewals, KeepsDeeper}
-use Rattle.lsys_next.proofs.Nexts.{lineage_at}
-use Rattle.lsys_next.proofs.Renewing.{in_cases, parent_stays}
+use Rattle.lsys_kept.specs.Standings.{seen_at}
+use Rattle.lsys_repair.specs.Nexts.{Successors, node_symbol}
+use Rattle.lsys_repair.specs.Renewals.{Renewal, stayed, relisted, turned, came, AreRenewals, KeepsDeeper}
+use Rattle.lsys_repair.proofs.Nexts.{lineage_at}
+use Rattle.lsys_repair.proofs.Renewing.{in_cases, parent_stays}
 use Rattle.lsys_repair.specs.Made.{IsBelow}
 use Rattle.lsys_repair.specs.Needs.{number_told, wanted_symbols}
 use Rattle.lsys_front.proofs.Numbers.{own_number, told_below, lineages_told, has_told, told_has}

@@ -24,8 +24,8 @@ use Rattle.lsys_forest.specs.Groves.{In}
 use Rattle.lsys_forest.specs.Rows.{spot_in, level_spots}
 use Rattle.lsys_kept.specs.Lineages.{names}
 use Rattle.lsys_kept.specs.Levels.{IsRight, IsKeptFor, answer_at}
-use Rattle.lsys_seats.specs.Standings.{seen_at}
-use Rattle.lsys_seats.proofs.LevelLemmas.{named_by_number, lineage_named, symbol_at, got_in}
+use Rattle.lsys_kept.specs.Standings.{seen_at}
+use Rattle.lsys_kept.proofs.LevelLemmas.{named_by_number, lineage_named, symbol_at, got_in}
 use Rattle.lsys_candidates.specs.Repairs.{Repair, now, rest, root, were, are, SteppingSpots}
 use Rattle.lsys_candidates.specs.Candidates.{IsCandidateNode}
 use Rattle.lsys_candidates.proofs.Gathering.{marked_or_not}

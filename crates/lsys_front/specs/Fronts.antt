@@ -6,17 +6,17 @@ use Rattle.lsys_forest.specs.Rows.{kids_in, kids_below, level_nodes, complete_le
 use Rattle.lsys_brood.specs.Children.{Told}
 use Rattle.lsys_brood.specs.Matches.{nodes_without}
 use Rattle.lsys_kept.specs.Levels.{answer_at}
-use Rattle.lsys_next.specs.Nexts.{Successors}
-use Rattle.lsys_next.specs.Renewals.{AreRenewals}
+use Rattle.lsys_repair.specs.Nexts.{Successors}
+use Rattle.lsys_repair.specs.Renewals.{AreRenewals}
 use Rattle.lsys_repair.specs.declared.parent.Parent.{Parent}
 use Rattle.lsys_repair.specs.Parents.{nodes_in, AreToldBy}
 use Rattle.lsys_repair.specs.Needs.{number_told, wanted_symbols}
 use Rattle.lsys_repair.specs.Made.{TellsAllOf, gone_of}
-use Rattle.lsys_seats.specs.declared.seat.Seat.{Seat}
-use Rattle.lsys_seats.specs.Looks.{LooksAround, LooksBeyond, LooksAtMate, LooksInto}
+use Rattle.lsys_kept.specs.declared.seat.Seat.{Seat}
+use Rattle.lsys_kept.specs.Looks.{LooksAround, LooksBeyond, LooksAtMate, LooksInto}
 use Rattle.lsys_candidates.specs.Repairs.{Repair, now, rest, root, are}
 use Rattle.lsys_candidates.specs.Found.{LevelChanges, Differs}
-use Rattle.lsys_mates.specs.Turned.{AreTurnedBy}
+use Rattle.lsys_front.specs.Turned.{AreTurnedBy}
 
 -- 1. a front
 

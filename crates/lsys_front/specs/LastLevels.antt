@@ -7,7 +7,7 @@ use Rattle.lsys_match.specs.Kept.{Kept}
 use Rattle.lsys_kept.specs.Lineages.{kins}
 use Rattle.lsys_kept.specs.Levels.{HaveLevels, answer_at}
 use Rattle.lsys_kept.specs.Meant.{meant_to}
-use Rattle.lsys_next.specs.Renewals.{AreSmall, KeepsUpper, KeepsDeeper}
+use Rattle.lsys_repair.specs.Renewals.{AreSmall, KeepsUpper, KeepsDeeper}
 use Rattle.lsys_candidates.specs.Repairs.{Repair, now, rest, root, are, SteppingSpots}
 use Rattle.lsys_candidates.specs.Found.{LevelChanges, Differs}
 use Rattle.lsys_front.specs.Ends.{answered_in, row_below, rows_from}

@@ -1,5 +1,6 @@
 -- Answers that are kept no more.
-use Rattle.std.specs.Prelude.{◌≡◌, ◌≤◌, Option, Some}
+use Rattle.std.specs.Prelude.{◌≡◌, ◌≤◌, ◌+◌, Option, Some, Vec, vec_len, vec_capacity}
+use Rattle.std.specs.declared.alloc.Global.{Global}
 use Rattle.lsys_forest.specs.Answers.{Keeper}
 use Rattle.lsys_forest.specs.Groves.{Grove, rest_of, kept_in, live_nodes}
 
@@ -19,3 +20,8 @@ module _ {A : Type 0} where
     pub rest : rest_of new ≡ rest_of old
     pub root : new.root ≡ old.root
     pub live : live_nodes new ≤ live_nodes old
+
+  -- of the places of a list that were free at most one is taken
+  abbrev pub TakesOnePlace : Vec A Global → Vec A Global → Type 0
+  TakesOnePlace old new =
+      vec_len new + vec_capacity old ≤ vec_len old + vec_capacity new + 1

@@ -1,15 +1,14 @@
 //! The last level of a system.
-ghost use Rattle.std.specs.Prelude.{◌≡◌, ◌↔◌, ◌≤◌, ◌<◌, ◌+◌, ◌^◌, ◌++◌, ◌∷◌, ℕ, List, [], true, Some, None, OnOk};
-ghost use Rattle.lsys_match.specs.Kept.{Kept as KeptValue};
-ghost use Rattle.lsys_forest.specs.Nodes.{Node, Nodes, put, with_kids, with_answer};
-ghost use Rattle.lsys_forest.specs.Changes.{Change};
-ghost use Rattle.lsys_forest.specs.Groves.{In, AreApart, IsSound, now_of, live_nodes, IsLive};
-ghost use Rattle.lsys_forest.specs.Rows.{kids_in, kids_below};
-ghost use Rattle.lsys_candidates.specs.Repairs.{Repair, SteppingSpots, now, are};
-ghost use Rattle.lsys_candidates.specs.Found.{LevelChanges};
+ghost use Rattle.std.specs.Prelude.{◌≡◌, ◌≤◌, ◌<◌, ◌+◌, ◌^◌, ◌++◌, ◌∷◌, ℕ, [], OnOk};
+ghost use Rattle.lsys_forest.specs.Groves.{In, AreApart, now_of, live_nodes, IsLive};
+ghost use Rattle.lsys_kept.specs.Looks.{kids_of};
+ghost use Rattle.lsys_candidates.specs.Repairs.{Repair, SteppingSpots, now};
 ghost use Rattle.lsys_front.specs.Losses.{LosesOnly};
-ghost use Rattle.lsys_front.specs.Ends.{AreEnded, is_answered, answered_in, row_below, rows_from, AreDeep};
-ghost use Rattle.lsys_front.specs.LastLevels.{IsEnded, IsBehindAll, IsLastLevel, HasAllBehind};
+ghost use Rattle.lsys_front.specs.Ends.{AreEnded, is_answered};
+ghost use Rattle.lsys_front.specs.LastLevels.{IsEnded, IsBehindAll};
+ghost use Rattle.lsys_front.specs.AnsweredRows.{AnsweredAreThoseThatKeep, AnsweredAreApart, NodesBelowAreInRows, RowsOfADepthAreApart};
+ghost use Rattle.lsys_front.specs.EndedLevels.{EndedLevelIsTheLast, EndedLevelHasAllBehind};
+ghost use Rattle.lsys_front.specs.Dropped.{AddsKids, DropsOf, LosesAnswer, LosesChildren, DropsRows, KidsLive};
 
 use lsys_forest::{Forest, Kept, NodeId};
 use lsys_level::Tag;
@@ -31,10 +30,8 @@ pub fn end_level<A: Kept>(
     requires lives { (k : ℕ) → In k nodes.now → IsLive forest.old k }
     requires apart { AreApart nodes.now }
     ensures ended { OnOk result (AreEnded (now_of forest.old) (now_of forest.new) nodes.now) }
-    ensures below { OnOk result (below.new.items
-        ≡ below.old.items ++ kids_below (now_of forest.old) nodes.now) }
-    ensures dropped { OnOk result (dropped.new.items
-        ≡ dropped.old.items ++ answered_in (now_of forest.old) nodes.now) }
+    ensures below { OnOk result (AddsKids forest.old nodes.now below.old below.new) }
+    ensures dropped { OnOk result (DropsOf forest.old nodes.now dropped.old dropped.new) }
     ensures loses { LosesOnly forest.old forest.new }
 {
     forest.reserve(0, 0, 0, nodes.len() * 2)?;
@@ -54,10 +51,8 @@ fn end_node<A: Kept>(
     requires lives { IsLive forest.old node }
     requires notes { 2 ≤ forest.old.spare_notes }
     ensures ended { OnOk result (AreEnded (now_of forest.old) (now_of forest.new) (node ∷ [])) }
-    ensures below { OnOk result (below.new.items
-        ≡ below.old.items ++ kids_in (now_of forest.old node)) }
-    ensures dropped { OnOk result (dropped.new.items
-        ≡ dropped.old.items ++ answered_in (now_of forest.old) (node ∷ [])) }
+    ensures below { OnOk result (below.new.items ≡ below.old.items ++ kids_of forest.old node) }
+    ensures dropped { OnOk result (DropsOf forest.old (node ∷ []) dropped.old dropped.new) }
     ensures loses { LosesOnly forest.old forest.new }
     ensures notes { forest.old.spare_notes ≤ forest.new.spare_notes + 2 }
 {
@@ -73,10 +68,8 @@ fn take_answer<A: Kept>(
 ) -> Result<(), AllocError>
     requires lives { IsLive forest.old node }
     requires notes { 0 < forest.old.spare_notes }
-    ensures taken { OnOk result ((n : Node A) → now_of forest.old node ≡ Some n
-        → now_of forest.new ≡ put (now_of forest.old) node (Some (with_answer None n))) }
-    ensures dropped { OnOk result (dropped.new.items
-        ≡ dropped.old.items ++ answered_in (now_of forest.old) (node ∷ [])) }
+    ensures taken { OnOk result (LosesAnswer forest.old forest.new node) }
+    ensures dropped { OnOk result (DropsOf forest.old (node ∷ []) dropped.old dropped.new) }
     ensures loses { LosesOnly forest.old forest.new }
     ensures notes { forest.old.spare_notes ≤ forest.new.spare_notes + 1 }
 {
@@ -95,10 +88,8 @@ fn take_children<A: Kept>(
 ) -> Result<(), AllocError>
     requires lives { IsLive forest.old node }
     requires notes { 0 < forest.old.spare_notes }
-    ensures taken { OnOk result ((n : Node A) → now_of forest.old node ≡ Some n
-        → now_of forest.new ≡ put (now_of forest.old) node (Some (with_kids [] n))) }
-    ensures below { OnOk result (below.new.items
-        ≡ below.old.items ++ kids_in (now_of forest.old node)) }
+    ensures taken { OnOk result (LosesChildren forest.old forest.new node) }
+    ensures below { OnOk result (below.new.items ≡ below.old.items ++ kids_of forest.old node) }
     ensures loses { LosesOnly forest.old forest.new }
     ensures notes { forest.old.spare_notes ≤ forest.new.spare_notes + 1 }
 {
@@ -132,8 +123,7 @@ pub fn drop_below<A: Kept>(
     dropped: &mut Vec<Tag>,
 ) -> Result<(), AllocError>
     requires lives { (k : ℕ) → In k nodes.items → IsLive forest.now k }
-    ensures dropped { OnOk result (dropped.new.items ≡ dropped.old.items
-        ++ answered_in (now_of forest.now) (rows_from (now_of forest.now) levels nodes.items)) }
+    ensures dropped { OnOk result (DropsRows forest.now levels nodes.items dropped.old dropped.new) }
 {
     let mut row = nodes;
     for _ in 0..levels {
@@ -159,8 +149,7 @@ pub fn add_answered<A: Kept>(
     dropped: &mut Vec<Tag>,
 ) -> Result<(), AllocError>
     requires lives { (k : ℕ) → In k nodes.now → IsLive forest.now k }
-    ensures dropped { OnOk result (dropped.new.items
-        ≡ dropped.old.items ++ answered_in (now_of forest.now) nodes.now) }
+    ensures dropped { OnOk result (DropsOf forest.now nodes.now dropped.old dropped.new) }
 {
     for node in nodes {
         if keeps_answer(forest, *node) {
@@ -181,10 +170,8 @@ pub fn add_children<A: Kept>(
     below: &mut Vec<NodeId>,
 ) -> Result<(), AllocError>
     requires lives { (k : ℕ) → In k nodes.now → IsLive forest.now k }
-    ensures below { OnOk result (below.new.items
-        ≡ below.old.items ++ kids_below (now_of forest.now) nodes.now) }
-    ensures lives { OnOk result ((k : ℕ) → In k (kids_below (now_of forest.now) nodes.now)
-        → IsLive forest.now k) }
+    ensures below { OnOk result (AddsKids forest.now nodes.now below.old below.new) }
+    ensures lives { OnOk result (KidsLive forest.now nodes.now) }
 {
     for node in nodes {
         below.extend_from_slice(forest.children(*node))?;
@@ -195,25 +182,17 @@ pub fn add_children<A: Kept>(
 /// Those of some nodes that keep an answer are among them, each once where each of the nodes is there once. Some nodes and those
 /// below them are the nodes of so many rows; and where those nodes are of one depth, no node is in two rows.
 pub fn law_of_answered_rows<A>()
-    ensures answered { (m : Nodes A) (nodes : List ℕ) (k : ℕ)
-        → In k (answered_in m nodes) ↔ (In k nodes × (is_answered m k ≡ true)) }
-    ensures answered_once { (m : Nodes A) (nodes : List ℕ)
-        → AreApart nodes → AreApart (answered_in m nodes) }
-    ensures rows { (m : Nodes A) (n : ℕ) (nodes : List ℕ) (k : ℕ)
-        → In k (rows_from m n nodes) ↔ ((i : ℕ) × (i < n) × In k (row_below m i nodes)) }
-    ensures rows_once { (root : ℕ) (changes : List (Change A)) (m : Nodes A) (n depth : ℕ)
-        (nodes : List ℕ)
-        → IsSound root changes m → AreDeep m depth nodes → AreApart nodes
-        → AreApart (rows_from m n nodes) }
+    ensures answered { AnsweredAreThoseThatKeep A }
+    ensures answered_once { AnsweredAreApart A }
+    ensures rows { NodesBelowAreInRows A }
+    ensures rows_once { RowsOfADepthAreApart A }
 {}
 
 /// A level whose nodes lose their answers and their children is the last one. Where the old system has no level behind it, it is
 /// the last one as it is. What was behind it at the last rest stays as it was, below its nodes and below those that are gone from
 /// it: so [`drop_below`] finds what kept an answer there, each node once.
 pub fn law_of_last_levels()
-    ensures ended { (r : Repair) (m : Nodes KeptValue)
-        → SteppingSpots r → AreEnded (now r) m (are r) → IsEnded r m }
+    ensures ended { EndedLevelIsTheLast }
     ensures bare { (r : Repair) → SteppingSpots r → IsBehindAll r → IsEnded r (now r) }
-    ensures behind { (r : Repair) (c : LevelChanges) (m : Nodes KeptValue)
-        → IsLastLevel r c → AreEnded (now r) m (are r) → HasAllBehind r c m }
+    ensures behind { EndedLevelHasAllBehind }
 {}

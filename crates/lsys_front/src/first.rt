@@ -1,8 +1,8 @@
 //! The front of the first level.
 ghost use Rattle.std.specs.Prelude.{◌≡◌, [], IfOk};
 ghost use Rattle.lsys_forest.specs.Groves.{AreSound, now_of, changes_in};
-ghost use Rattle.lsys_forest.specs.Rows.{level_nodes};
 ghost use Rattle.lsys_front.specs.Fronts.{IsToldFirst};
+ghost use Rattle.lsys_front.specs.LooksFrom.{first_nodes};
 
 use crate::front::Front;
 use lsys_brood::Changes as Told;
@@ -23,8 +23,7 @@ impl Front {
         told: &Told,
     ) -> Result<Front, AllocError>
         ensures told { IfOk result (λ front. IsToldFirst told.now front.changes) }
-        ensures looked { IfOk result (λ front. front.changes.looked
-            ≡ level_nodes (now_of forest.now) forest.now.root 0) }
+        ensures looked { IfOk result (λ front. front.changes.looked ≡ first_nodes forest.now) }
         ensures turned { IfOk result (λ front. front.turned ≡ []) }
         ensures bare { IfOk result (λ front. front.bare ≡ []) }
         ensures sound { AreSound forest.now.root (changes_in forest.now) (now_of forest.now) }

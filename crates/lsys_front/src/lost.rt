@@ -1,8 +1,9 @@
 //! Answers that are lost with their questions.
 ghost use Rattle.std.specs.Prelude.{◌≡◌, ◌↔◌, ◌<◌, ◌≤◌, ◌+◌, ◌^◌, ◌++◌, ◌∷◌, ℕ, [], IsTrue, OnOk, OnErr, vec_len, vec_capacity};
 ghost use Rattle.lsys_forest.specs.Groves.{In, AreSound, now_of, changes_in, live_nodes, IsLive};
-ghost use Rattle.lsys_front.specs.Losses.{LosesOnly};
-ghost use Rattle.lsys_front.specs.Asks.{IsIdle, Loses};
+ghost use Rattle.lsys_front.specs.Losses.{LosesOnly, TakesOnePlace};
+ghost use Rattle.lsys_front.specs.Asks.{IsIdle};
+ghost use Rattle.lsys_front.specs.LostAnswers.{LosesIn, LosesBoth};
 
 use crate::front::Front;
 use lsys_candidates::has_question;
@@ -31,9 +32,7 @@ impl Front {
         requires few { live_nodes forest.old < 2 ^ 32 }
         requires lives { (k : ℕ) → In k (self.old.changes.changed ++ others.now)
             → IsLive forest.old k }
-        ensures loses { OnOk result (Loses system.now level
-            (now_of forest.old) (now_of forest.new) (self.old.changes.changed ++ others.now)
-            self.old.bare self.new.bare dropped.old.items dropped.new.items) }
+        ensures loses { OnOk result (LosesBoth system.now level forest self others.now dropped) }
         ensures only { LosesOnly forest.old forest.new }
         ensures sound { AreSound forest.new.root (changes_in forest.new) (now_of forest.new) }
         ensures changes { self.new.changes ≡ self.old.changes }
@@ -56,9 +55,7 @@ impl Front {
         requires few { live_nodes forest.old < 2 ^ 32 }
         requires lives { (k : ℕ) → In k (self.old.changes.changed ++ others.now)
             → IsLive forest.old k }
-        ensures loses { OnOk result (Loses system.now level
-            (now_of forest.old) (now_of forest.new) (self.old.changes.changed ++ others.now)
-            self.old.bare self.new.bare dropped.old.items dropped.new.items) }
+        ensures loses { OnOk result (LosesBoth system.now level forest self others.now dropped) }
         ensures only { LosesOnly forest.old forest.new }
         ensures changes { self.new.changes ≡ self.old.changes }
         ensures turned { self.new.turned ≡ self.old.turned }
@@ -92,8 +89,7 @@ pub fn lose_answers<A: Kept>(
 ) -> Result<(), AllocError>
     requires few { live_nodes forest.old < 2 ^ 32 }
     requires lives { (k : ℕ) → In k nodes.now → IsLive forest.old k }
-    ensures loses { OnOk result (Loses system.now level (now_of forest.old) (now_of forest.new)
-        nodes.now bare.old.items bare.new.items dropped.old.items dropped.new.items) }
+    ensures loses { OnOk result (LosesIn system.now level forest nodes.now bare dropped) }
     ensures only { LosesOnly forest.old forest.new }
     ensures now { OnErr result (now_of forest.new ≡ now_of forest.old) }
     ensures changes { OnErr result (changes_in forest.new ≡ changes_in forest.old) }
@@ -122,14 +118,11 @@ fn lose_answer<A: Kept>(
     requires notes { 0 < forest.old.spare_notes }
     requires places { vec_len bare.old < vec_capacity bare.old }
     requires tags { vec_len dropped.old < vec_capacity dropped.old }
-    ensures loses { Loses system.now level (now_of forest.old) (now_of forest.new)
-        (node ∷ []) bare.old.items bare.new.items dropped.old.items dropped.new.items }
+    ensures loses { LosesIn system.now level forest (node ∷ []) bare dropped }
     ensures only { LosesOnly forest.old forest.new }
     ensures notes { forest.old.spare_notes ≤ forest.new.spare_notes + 1 }
-    ensures places { vec_len bare.new + vec_capacity bare.old
-        ≤ vec_len bare.old + vec_capacity bare.new + 1 }
-    ensures tags { vec_len dropped.new + vec_capacity dropped.old
-        ≤ vec_len dropped.old + vec_capacity dropped.new + 1 }
+    ensures places { TakesOnePlace bare.old bare.new }
+    ensures tags { TakesOnePlace dropped.old dropped.new }
 {
     if !is_idle(forest, system, level, node) {
         return;

@@ -1,8 +1,8 @@
 //! The front of the next level.
 ghost use Rattle.std.specs.Prelude.{◌≡◌, ◌++◌, ℕ, [], IfOk};
 ghost use Rattle.lsys_forest.specs.Groves.{In, IsLive};
-ghost use Rattle.lsys_seats.specs.Looks.{AddsBelow};
-ghost use Rattle.lsys_front.specs.Fronts.{IsTold, StandOn, LooksBelow};
+ghost use Rattle.lsys_front.specs.Fronts.{IsTold, StandOn};
+ghost use Rattle.lsys_front.specs.LooksFrom.{moved_in, LooksFrom, LooksOnlyBelow};
 
 use crate::ends::add_children;
 use crate::front::Front;
@@ -29,15 +29,10 @@ impl Front {
         told: &Changes,
     ) -> Result<Front, AllocError>
         requires lives { (k : ℕ) → In k self.now.changes.gone → IsLive forest.now k }
-        requires level { (t : ℕ) × StandOn forest.now t
-            (told.now.touched ++ (self.now.changes.came ++ self.now.turned)) }
+        requires level { (t : ℕ) × StandOn forest.now t (told.now.touched ++ moved_in self.now) }
         ensures told { IfOk result (λ next. IsTold forest.now self.now told.now next.changes) }
-        ensures looks { IfOk result (λ next. LooksBelow forest.now
-            (told.now.touched ++ self.now.changes.came)
-            (self.now.changes.came ++ self.now.turned) next.changes.looked) }
-        ensures below { IfOk result (λ next. (t : ℕ) → StandOn forest.now t
-            (told.now.touched ++ (self.now.changes.came ++ self.now.turned))
-            → AddsBelow forest.now t [] next.changes.looked) }
+        ensures looks { IfOk result (λ n. LooksFrom forest.now self.now told.now.touched n.changes.looked) }
+        ensures below { IfOk result (λ next. LooksOnlyBelow forest.now self.now told.now next.changes) }
         ensures turned { IfOk result (λ next. next.turned ≡ []) }
         ensures bare { IfOk result (λ next. next.bare ≡ []) }
     {

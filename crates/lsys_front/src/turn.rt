@@ -1,14 +1,15 @@
 //! Which nodes of a level turned.
 ghost use Rattle.std.specs.Prelude.{◌≡◌, ℕ, false, IfOk};
-ghost use Rattle.lsys_seats.specs.Seats.{is_marked, SameSeats, KeepsSeats};
-ghost use Rattle.lsys_candidates.specs.Found.{AreOnLevels, HasRoom, IsFound};
+ghost use Rattle.lsys_kept.specs.Seats.{is_marked, SameSeats, KeepsSeats};
+ghost use Rattle.lsys_candidates.specs.Found.{AreOnLevels, HasRoom};
+ghost use Rattle.lsys_front.specs.Askable.{FindsTurned};
 
 use crate::asks::Found;
 use crate::front::Front;
 use lsys_candidates::find_nodes;
 use lsys_forest::{Forest, Kept};
+use lsys_kept::Seats;
 use lsys_reads::Reads;
-use lsys_seats::Seats;
 use std::alloc::{AllocError, Global};
 
 impl Front {
@@ -31,8 +32,7 @@ impl Front {
         requires levels { AreOnLevels forest.now self.old.changes }
         requires room { HasRoom forest.now reads.now self.old.changes seats.old }
         requires clear { (k : ℕ) → is_marked seats.old k ≡ false }
-        ensures found { IfOk result (λ f. IsFound forest.now seats.old reads.now self.old.changes
-            self.new.turned f.beside.items f.readers.items) }
+        ensures found { IfOk result (FindsTurned forest.now seats.old reads.now self.old self.new) }
         ensures changes { self.new.changes ≡ self.old.changes }
         ensures bare { self.new.bare ≡ self.old.bare }
         ensures clear { (k : ℕ) → is_marked seats.new k ≡ false }

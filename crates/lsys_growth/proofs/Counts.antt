@@ -17,8 +17,8 @@ use Rattle.lsys_bodies.specs.declared.body.Template.{Template}
 use Rattle.lsys_bodies.specs.Views.{production_of, rule_of, template_symbol}
 use Rattle.lsys_matrix.specs.Capped.{cap, capped, value_of}
 use Rattle.lsys_matrix.specs.Matrices.{place, IsRow, IsMatrix, Square}
-use Rattle.lsys_growth_laws.specs.Growth.{letter_count}
-use Rattle.lsys_growth_laws.specs.Counts.{branch_count, count_at, bare, given, given_in, given_at, step_matrix}
+use Rattle.lsys_matrix.specs.Growth.{letter_count}
+use Rattle.lsys_matrix.specs.Counts.{branch_count, count_at, bare, given, given_in, given_at, step_matrix}
 use Rattle.lsys_growth.specs.Counting.{count_of_what, AddsCounts, alone, given_for}
 
 bare_letters : {P : Type 0} (n : ModuleName) (xs : List (S.Symbol P)) → letter_count n (bare {Q = ℤ} xs) ≡ letter_count n xs

@@ -8,8 +8,8 @@ use Rattle.lsys_matrix.specs.Sums.{run, repeated, steps_product}
 use Rattle.lsys_matrix.specs.Matrices.{Square, IsRow, IsMatrix, IsRowTimes, IsProduct}
 use Rattle.lsys_matrix.proofs.Powers.{StandsFor, steps_stand, run_whole}
 use Rattle.lsys_matrix.proofs.Squaring.{times_row, times_matrix}
-use Rattle.lsys_growth_laws.specs.Counts.{step_matrix, first_counts, counts_after}
-use Rattle.lsys_growth_laws.proofs.Told.{steps_again}
+use Rattle.lsys_matrix.specs.Counts.{step_matrix, first_counts, counts_after}
+use Rattle.lsys_matrix.proofs.Told.{steps_again}
 use Rattle.lsys_growth.specs.Steps.{turn_matrix, AfterTurns, AfterSteps}
 
 -- one more step of a turn

@@ -13,9 +13,9 @@ use Rattle.lsys_matrix.specs.Capped.{cap, capped}
 use Rattle.lsys_matrix.specs.Sums.{sum_to}
 use Rattle.lsys_matrix.specs.Matrices.{place, IsRow}
 use Rattle.lsys_matrix.proofs.Stopping.{capped_plus, capped_twice, sum_capped}
-use Rattle.lsys_growth_laws.specs.Growth.{in_class, letters, most_letters, LetterCount, Census, stands, counted, outside_class, over_letters, over_numbers, growth_at, level_counted, level_on}
-use Rattle.lsys_growth_laws.specs.Counts.{told_length, paired, told_census, counts_after}
-use Rattle.lsys_growth_laws.proofs.Told.{HasBrackets, level_told}
+use Rattle.lsys_matrix.specs.Growth.{in_class, letters, most_letters, LetterCount, Census, stands, counted, outside_class, over_letters, over_numbers, growth_at, level_counted, level_on}
+use Rattle.lsys_matrix.specs.Counts.{told_length, paired, told_census, counts_after}
+use Rattle.lsys_matrix.proofs.Told.{HasBrackets, level_told}
 use Rattle.lsys_growth.specs.Steps.{IsLevelRow}
 
 pub counted_short : (c : Census) → c.symbols < cap → counted c ≡ Ok c

@@ -2,8 +2,8 @@
 use Rattle.std.specs.Prelude.{◌≡◌, ◌++◌, ℕ, Option, Some, None, Ok, Err, List, [], ◌∷◌, Vec, filter, map}
 use Rattle.std.specs.declared.alloc.Global.{Global}
 use Rattle.lsys_syntax.specs.Strings.{ModuleName}
-use Rattle.lsys_growth_laws.specs.Growth.{Census, counted, over_numbers, stands}
-use Rattle.lsys_growth_laws.specs.Counts.{told_census}
+use Rattle.lsys_matrix.specs.Growth.{Census, counted, over_numbers, stands}
+use Rattle.lsys_matrix.specs.Counts.{told_census}
 use Rattle.lsys_growth.specs.declared.answer.Count.{Count}
 use Rattle.lsys_growth.specs.Views.{count_of}
 

@@ -1,10 +1,12 @@
 -- Rows and matrices of the code: of the axiom, of steps, of turns, and of levels.
-use Rattle.std.specs.Prelude.{ℕ, suc, ◌-◌, Option, List, length}
+use Rattle.std.specs.Prelude.{ℕ, suc, ◌+◌, ◌-◌, ◌*◌, ◌/◌, ◌^◌, ◌<◌, ◌≤◌, Option, List, Vec, length, map}
+use Rattle.std.specs.declared.alloc.Global.{Global}
 use Rattle.lsys_syntax.specs.Strings.{ModuleName}
 use Rattle.lsys_spec.specs.Systems.{System}
+use Rattle.lsys_module.specs.Views.{module_name}
 use Rattle.lsys_matrix.specs.Sums.{run, repeated, steps_product}
 use Rattle.lsys_matrix.specs.Matrices.{Square, IsRow, IsMatrix}
-use Rattle.lsys_growth_laws.specs.Counts.{first_counts, counts_after, step_matrix}
+use Rattle.lsys_matrix.specs.Counts.{first_counts, counts_after, step_matrix}
 
 -- a place for each letter, and one for `[`
 abbrev pub width : List ModuleName → ℕ
@@ -36,3 +38,29 @@ AfterTurns s ns turns first r = (v : ℕ → ℕ) → IsRow (width ns) v first �
 -- the same, of single steps from level 0 on
 abbrev pub AfterSteps : System → List ModuleName → ℕ → List (Option ℕ) → List (Option ℕ) → Type 0
 AfterSteps s ns steps first r = (v : ℕ → ℕ) → IsRow (width ns) v first → IsRow (width ns) (run (width ns) (step_matrix s ns) 0 steps v) r
+
+-- so it is with rows of the code, whose letters are these names
+abbrev pub AfterTurnsOf : System → List (List ℕ) → ℕ → Vec (Option ℕ) Global
+    → Vec (Option ℕ) Global → Type 0
+AfterTurnsOf s letters turns first r =
+    AfterTurns s (map module_name letters) turns first.items r.items
+
+abbrev pub AfterStepsOf : System → List (List ℕ) → ℕ → Vec (Option ℕ) Global
+    → Vec (Option ℕ) Global → Type 0
+AfterStepsOf s letters steps first r =
+    AfterSteps s (map module_name letters) steps first.items r.items
+
+-- how many products are made at most: by the schedule, and by how often the number of turns halves
+abbrev pub FewProductsForTurns : System → ℕ → ℕ → ℕ → Type 0
+FewProductsForTurns s turns before after =
+    (k : ℕ) → turns < 2 ^ k → after ≤ before + (length s.schedule + k)
+
+-- for the row of a level
+abbrev pub FewProductsForLevel : System → ℕ → ℕ → ℕ → Type 0
+FewProductsForLevel s t before after = FewProductsForTurns s (t / length s.schedule) before after
+
+-- for two rows
+abbrev pub FewProductsForGrowth : System → ℕ → ℕ → ℕ → Type 0
+FewProductsForGrowth s t before after =
+    (k : ℕ) → t / length s.schedule < 2 ^ k
+    → after ≤ before + (2 * k + 2 * length s.schedule)

@@ -1,7 +1,7 @@
 -- The answers of the code as those of the definitions.
 use Rattle.std.specs.Prelude.{◌≡◌, ℕ, Result, Ok, Err, List, map}
 use Rattle.lsys_module.specs.Views.{module_name}
-use Rattle.lsys_growth_laws.specs.Growth.{LetterCount, Census, GrowthFault, outside_class, over_letters, over_numbers}
+use Rattle.lsys_matrix.specs.Growth.{LetterCount, Census, GrowthFault, outside_class, over_letters, over_numbers}
 use Rattle.lsys_growth.specs.declared.answer.Count.{Count}
 use Rattle.lsys_growth.specs.declared.refusal.GrowthRefusal.{GrowthRefusal}
 use Rattle.lsys_growth.specs.declared.refusal.GrowthRefusal.TheVariants.{Class, Letters, Overflow, Memory}

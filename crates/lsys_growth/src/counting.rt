@@ -1,9 +1,8 @@
 //! Rows of counts.
-ghost use Rattle.std.specs.Prelude.{◌≡◌, ◌≤◌, OnOk, length, map, slice_get};
+ghost use Rattle.std.specs.Prelude.{◌≡◌, ◌≤◌, OnOk, map, slice_get};
 ghost use Rattle.std.specs.Option.{option_map};
 ghost use Rattle.lsys_module.specs.Views.{module_name, string_of};
-ghost use Rattle.lsys_bodies.specs.Views.{template_symbol};
-ghost use Rattle.lsys_growth.specs.Counting.{AddsCounts, alone, count_of_what, is_counted};
+ghost use Rattle.lsys_growth.specs.Counting.{count_of_what, is_counted, AddsAlone, AddsString, AddsTemplates, count_alone, count_in_templates};
 
 use crate::letters::same_name;
 use lsys_bodies::Template;
@@ -17,9 +16,7 @@ pub(crate) fn push_axiom(
     letters: &[Name],
     symbols: &[Symbol],
 ) -> Result<(), AllocError>
-    ensures { OnOk result
-        (AddsCounts (map module_name letters.now) (string_of symbols.now)
-        entries.old.items entries.new.items) }
+    ensures { OnOk result (AddsString letters.now symbols.now entries.old entries.new) }
 {
     for place in 0..letters.len() + 1 {
         let times = times_in_axiom(symbols, letter_at(letters, place));
@@ -34,9 +31,7 @@ pub(crate) fn push_successor(
     letters: &[Name],
     templates: &[Template],
 ) -> Result<(), AllocError>
-    ensures { OnOk result
-        (AddsCounts (map module_name letters.now) (map template_symbol templates.now)
-        entries.old.items entries.new.items) }
+    ensures { OnOk result (AddsTemplates letters.now templates.now entries.old entries.new) }
 {
     for place in 0..letters.len() + 1 {
         let times = times_in_successor(templates, letter_at(letters, place));
@@ -51,9 +46,7 @@ pub(crate) fn push_alone(
     letters: &[Name],
     symbol: &Option<Name>,
 ) -> Result<(), AllocError>
-    ensures { OnOk result
-        (AddsCounts (map module_name letters.now) (alone (option_map module_name symbol.now))
-        entries.old.items entries.new.items) }
+    ensures { OnOk result (AddsAlone letters.now symbol.now entries.old entries.new) }
 {
     for place in 0..letters.len() + 1 {
         let times = times_alone(symbol, letter_at(letters, place));
@@ -85,8 +78,7 @@ fn times_in_axiom(symbols: &[Symbol], letter: Option<Name>) -> usize
 }
 
 fn times_in_successor(templates: &[Template], letter: Option<Name>) -> usize
-    ensures { result
-        ≡ count_of_what (option_map module_name letter) (map template_symbol templates.now) }
+    ensures { result ≡ count_in_templates letter templates.now }
 {
     let mut times = 0;
     for template in templates {
@@ -101,9 +93,7 @@ fn times_in_successor(templates: &[Template], letter: Option<Name>) -> usize
 }
 
 fn times_alone(symbol: &Option<Name>, letter: Option<Name>) -> usize
-    ensures times { result
-        ≡ count_of_what (option_map module_name letter)
-        (alone (option_map module_name symbol.now)) }
+    ensures times { result ≡ count_alone letter symbol.now }
     ensures once { result ≤ 1 }
 {
     let is_counted = match symbol {

@@ -1,12 +1,13 @@
 //! The letters of a level, counted.
-ghost use Rattle.std.specs.Prelude.{◌≡◌, ◌≤◌, ◌<◌, ◌+◌, ◌*◌, ◌/◌, ◌^◌, ℕ, suc, Some, IfOk, OnOk, length, map};
+ghost use Rattle.std.specs.Prelude.{◌≡◌, ◌<◌, ◌*◌, suc, Some, IfOk, OnOk, length, map};
 ghost use Rattle.lsys_module.specs.Views.{module_name};
 ghost use Rattle.lsys_matrix.specs.Capped.{cap, capped, value_of};
 ghost use Rattle.lsys_matrix.specs.Matrices.{place};
-ghost use Rattle.lsys_growth_laws.specs.Growth.{growth_at};
-ghost use Rattle.lsys_growth_laws.specs.Counts.{told_length};
+ghost use Rattle.lsys_matrix.specs.Growth.{growth_at};
+ghost use Rattle.lsys_matrix.specs.Counts.{told_length};
 ghost use Rattle.lsys_growth.specs.Views.{IsAnswer};
 ghost use Rattle.lsys_growth.specs.Census.{AddsCount, IsCensus};
+ghost use Rattle.lsys_growth.specs.Steps.{FewProductsForGrowth};
 
 use crate::answer::{Count, Growth};
 use crate::class::is_in_class;
@@ -33,8 +34,7 @@ pub fn growth<P: Ledger>(
     products: &mut Steps<P>,
 ) -> Result<Growth, GrowthRefusal>
     ensures answer { IsAnswer result (growth_at system.now level) }
-    ensures count { (k : ℕ) → level / length system.now.schedule < 2 ^ k
-        → products.new ≤ products.old + (2 * k + 2 * length system.now.schedule) }
+    ensures count { FewProductsForGrowth system.now level products.old products.new }
 {
     if !is_in_class(system) {
         return Err(GrowthRefusal::Class);

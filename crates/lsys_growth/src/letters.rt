@@ -1,10 +1,10 @@
 //! The letters of a system.
 ghost use Rattle.std.specs.Prelude.{◌≡◌, ◌≤◌, ◌∷◌, [], IfOk, length, map};
-ghost use Rattle.lsys_spec.specs.Systems.{comes_before, same_name, module_name_text};
+ghost use Rattle.lsys_spec.specs.Systems.{comes_before, same_name};
 ghost use Rattle.lsys_module.specs.Views.{module_name, string_of};
-ghost use Rattle.lsys_bodies.specs.Views.{production_of, rule_of, template_symbol};
-ghost use Rattle.lsys_growth_laws.specs.Growth.{all_rule_names, among, letters, most_letters, names, rule_names};
-ghost use Rattle.lsys_growth.specs.Letters.{AreLettersOf, HasPut, letters_in, place_in};
+ghost use Rattle.lsys_bodies.specs.Views.{rule_of};
+ghost use Rattle.lsys_matrix.specs.Growth.{among, letters, most_letters, names, rule_names};
+ghost use Rattle.lsys_growth.specs.Letters.{AreLettersOf, place_in, PutsNames, letter_before, names_in_rules, names_in_templates};
 
 use lsys_bodies::{Rule, Template};
 use lsys_module::Symbol;
@@ -32,9 +32,7 @@ pub(crate) fn letters(alloc: Global, system: &System) -> Result<Option<Vec<Name>
 // Puts the names of the rules' predecessors and successors to the others. False where there would be more than 63.
 fn put_rules(letters: &mut Vec<Name>, rules: &[Rule]) -> Result<bool, AllocError>
     requires { length letters.old.items ≤ most_letters }
-    ensures { IfOk result
-        (HasPut (letters_in letters.old) (all_rule_names (map production_of rules.now))
-        (letters_in letters.new)) }
+    ensures { IfOk result (PutsNames letters.old (names_in_rules rules.now) letters.new) }
 {
     for rule in rules {
         if !put_rule(letters, rule)? {
@@ -46,8 +44,7 @@ fn put_rules(letters: &mut Vec<Name>, rules: &[Rule]) -> Result<bool, AllocError
 
 fn put_rule(letters: &mut Vec<Name>, rule: &Rule) -> Result<bool, AllocError>
     requires { length letters.old.items ≤ most_letters }
-    ensures { IfOk result
-        (HasPut (letters_in letters.old) (rule_names (rule_of rule.now)) (letters_in letters.new)) }
+    ensures { IfOk result (PutsNames letters.old (rule_names (rule_of rule.now)) letters.new) }
 {
     let body = rule.body.get();
     if !put_name(letters, body.predecessor.name)? {
@@ -58,8 +55,7 @@ fn put_rule(letters: &mut Vec<Name>, rule: &Rule) -> Result<bool, AllocError>
 
 fn put_axiom(letters: &mut Vec<Name>, symbols: &[Symbol]) -> Result<bool, AllocError>
     requires { length letters.old.items ≤ most_letters }
-    ensures { IfOk result
-        (HasPut (letters_in letters.old) (names (string_of symbols.now)) (letters_in letters.new)) }
+    ensures { IfOk result (PutsNames letters.old (names (string_of symbols.now)) letters.new) }
 {
     for symbol in symbols {
         if let Symbol::Module(module) = symbol {
@@ -73,9 +69,7 @@ fn put_axiom(letters: &mut Vec<Name>, symbols: &[Symbol]) -> Result<bool, AllocE
 
 fn put_successor(letters: &mut Vec<Name>, templates: &[Template]) -> Result<bool, AllocError>
     requires { length letters.old.items ≤ most_letters }
-    ensures { IfOk result
-        (HasPut (letters_in letters.old) (names (map template_symbol templates.now))
-        (letters_in letters.new)) }
+    ensures { IfOk result (PutsNames letters.old (names_in_templates templates.now) letters.new) }
 {
     for template in templates {
         if let Template::Module { name, .. } = template {
@@ -90,8 +84,7 @@ fn put_successor(letters: &mut Vec<Name>, templates: &[Template]) -> Result<bool
 // Puts a name to the others, unless it is one of them or would be the 64th.
 fn put_name(letters: &mut Vec<Name>, name: Name) -> Result<bool, AllocError>
     requires { length letters.old.items ≤ most_letters }
-    ensures { IfOk result
-        (HasPut (letters_in letters.old) (module_name name ∷ []) (letters_in letters.new)) }
+    ensures { IfOk result (PutsNames letters.old (module_name name ∷ []) letters.new) }
 {
     if is_among(letters, name) {
         return Ok(true);
@@ -128,8 +121,7 @@ fn place_of(letters: &[Name], name: Name) -> usize
 }
 
 fn comes_before(one: Name, other: Name) -> bool
-    ensures { result
-        ≡ comes_before (module_name_text (module_name one)) (module_name_text (module_name other)) }
+    ensures { result ≡ letter_before (module_name one) (module_name other) }
 {
     one.text().as_bytes() < other.text().as_bytes()
 }

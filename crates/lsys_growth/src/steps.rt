@@ -1,7 +1,7 @@
 //! Many steps.
-ghost use Rattle.std.specs.Prelude.{◌≡◌, ◌≤◌, ◌<◌, ◌+◌, ◌/◌, ◌^◌, ℕ, IfOk, length, map};
+ghost use Rattle.std.specs.Prelude.{◌≡◌, ◌≤◌, ◌<◌, ◌+◌, ◌/◌, IfOk, length, map};
 ghost use Rattle.lsys_module.specs.Views.{module_name};
-ghost use Rattle.lsys_growth.specs.Steps.{AfterSteps, AfterTurns, IsAxiomRow, IsLevelRow, IsTurn, width};
+ghost use Rattle.lsys_growth.specs.Steps.{IsAxiomRow, IsLevelRow, IsTurn, width, AfterTurnsOf, FewProductsForLevel, FewProductsForTurns, AfterStepsOf};
 
 use crate::counting::push_axiom;
 use crate::tables::step;
@@ -21,8 +21,7 @@ pub(crate) fn level_row<P: Ledger>(
 ) -> Result<Vec<Option<u128>>, AllocError>
     ensures row { IfOk result (λ r.
         IsLevelRow system.now (map module_name letters.now) level r.items) }
-    ensures count { (k : ℕ) → level / length system.now.schedule < 2 ^ k
-        → products.new ≤ products.old + (length system.now.schedule + k) }
+    ensures count { FewProductsForLevel system.now level products.old products.new }
 {
     let turn_length = system.schedule().len() as u64;
     let first = axiom_row(alloc, system, letters)?;
@@ -52,10 +51,8 @@ fn after_turns<P: Ledger>(
     products: &mut Steps<P>,
 ) -> Result<Vec<Option<u128>>, AllocError>
     requires { length first.items ≡ width (map module_name letters.now) }
-    ensures row { IfOk result (λ r.
-        AfterTurns system.now (map module_name letters.now) turns first.items r.items) }
-    ensures count { (k : ℕ) → turns < 2 ^ k
-        → products.new ≤ products.old + (length system.now.schedule + k) }
+    ensures row { IfOk result (AfterTurnsOf system.now letters.now turns first) }
+    ensures count { FewProductsForTurns system.now turns products.old products.new }
 {
     if turns == 0 {
         return Ok(first);
@@ -91,8 +88,7 @@ fn after_steps(
     steps: u32,
 ) -> Result<Vec<Option<u128>>, AllocError>
     requires { length first.items ≡ width (map module_name letters.now) }
-    ensures { IfOk result (λ r.
-        AfterSteps system.now (map module_name letters.now) steps first.items r.items) }
+    ensures { IfOk result (AfterStepsOf system.now letters.now steps first) }
 {
     let mut row = first;
     for level in 0..steps {

@@ -1,11 +1,9 @@
 //! The matrices of steps.
-ghost use Rattle.std.specs.Prelude.{◌≡◌, ◌≤◌, ◌<◌, true, IfOk, OnOk, filter, length, map};
-ghost use Rattle.std.specs.Option.{option_map};
-ghost use Rattle.lsys_spec.specs.Bodies.{is_for, table_at};
+ghost use Rattle.std.specs.Prelude.{◌≡◌, ◌≤◌, ◌<◌, true, IfOk, OnOk, length, map};
 ghost use Rattle.lsys_module.specs.Views.{module_name};
 ghost use Rattle.lsys_bodies.specs.Views.{production_of};
-ghost use Rattle.lsys_growth_laws.specs.Growth.{in_class, letters, most_letters};
-ghost use Rattle.lsys_growth.specs.Counting.{AddsCounts, given_for};
+ghost use Rattle.lsys_matrix.specs.Growth.{in_class, letters, most_letters};
+ghost use Rattle.lsys_growth.specs.Counting.{AddsGiven, letter_rules};
 ghost use Rattle.lsys_growth.specs.Steps.{IsStep};
 
 use crate::counting::{letter_at, push_alone, push_successor};
@@ -79,10 +77,7 @@ fn push_given(
     level: u32,
     letter: Option<Name>,
 ) -> Result<(), AllocError>
-    ensures { OnOk result
-        (AddsCounts (map module_name letters.now)
-        (given_for system.now level (option_map module_name letter))
-        entries.old.items entries.new.items) }
+    ensures { OnOk result (AddsGiven letters.now system.now level letter entries.old entries.new) }
 {
     let Some(name) = letter else {
         return push_alone(entries, letters, &None);
@@ -95,8 +90,7 @@ fn push_given(
 
 // The rules of a level's table for a letter without parameters, in the order in which they are tried.
 fn rules_for<'a>(system: &'a System, level: u32, name: Name) -> &'a [Rule]
-    ensures { map production_of result.now
-        ≡ filter (is_for (table_at system.now.schedule level) (module_name name) 0) system.now.rules }
+    ensures { map production_of result.now ≡ letter_rules system.now level name }
 {
     match system.group(level, name, 0) {
         Some(group) => group.rules(),

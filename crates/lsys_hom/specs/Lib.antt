@@ -3,3 +3,4 @@ pub mod Refusals
 pub mod Parts
 pub mod Calls
 pub mod Ways
+pub mod CallsInTurn

@@ -9,14 +9,17 @@ use Rattle.lsys_spec.specs.Bodies.{body_of}
 use Rattle.lsys_spec.specs.Levels.{ModuleValue}
 use Rattle.lsys_spec.specs.Meaning.{filled}
 use Rattle.lsys_spec.specs.Images as meaning
-use Rattle.lsys_spec.specs.Images.{for_module}
+use Rattle.lsys_spec.specs.Images.{for_module, image_of}
 use Rattle.lsys_expr.specs.Answers.{arith_of}
 use Rattle.lsys_expr.specs.declared.arith.Arith as code
 use Rattle.lsys_module.specs.Views.{module_name, symbol_of}
 use Rattle.lsys_module.specs.declared.symbol.Symbol.{Symbol}
 use Rattle.lsys_syntax.specs.Smalls.{HaveFewParams}
-use Rattle.lsys_bodies.specs.Views.{template_of, template_symbol, written}
+use Rattle.lsys_bodies.specs.Views.{homomorphism_of, template_of, template_symbol, written}
 use Rattle.lsys_bodies.specs.declared.body.Body.{Body}
+use Rattle.lsys_bodies.specs.declared.rule.HomRule.{HomRule}
+use Rattle.lsys_level.specs.Spots.{Seen, with_lineage}
+use Rattle.lsys_hom.specs.Coming.{symbol_image}
 use Rattle.lsys_hom.specs.Refusals.{refusal_of}
 use Rattle.lsys_hom.specs.declared.refusal.ImageRefusal.{ImageRefusal}
 use Rattle.lsys_hom.specs.declared.part.Part.{Part}
@@ -36,6 +39,10 @@ abbrev pub image_by : ModuleValue → Result (Option (Bor Body)) code.Arith → 
 image_by m (Ok None) = Ok (S.Module m.name m.params ∷ [])
 image_by m (Ok (Some b)) = filled (body_of (written b.now)).successor m.params
 image_by m (Err e) = Err (arith_of e)
+
+-- this is the rule that is found for a module, or none, or the fault
+abbrev pub IsRuleFor : List HomRule → ModuleValue → Result (Option (Bor Body)) code.Arith → Type 0
+IsRuleFor rules m r = image_of (map homomorphism_of rules) m ≡ image_by m r
 
 -- the fault alone
 abbrev pub fault_in : {A : Type 0} → Result A Arith → Result (Unit {0}) Arith
@@ -76,3 +83,9 @@ IsPart r (Err e) = r ≡ Err (refusal_of e)
 abbrev pub IsTaken : List (S.Symbol ℤ) → List (S.Symbol ℤ) → Option Symbol → Type 0
 IsTaken old new (Some s) = old ≡ symbol_of s ∷ new
 IsTaken old new None = (old ≡ []) × (new ≡ [])
+
+-- the image of what is seen, kept, where n modules of the level and k symbols of the image stand
+-- before
+abbrev pub IsPartOf : List HomRule → ℕ → ℕ → Seen → Result Part ImageRefusal → Type 0
+IsPartOf rules n k x r =
+    IsPart (symbol_image (map homomorphism_of rules) n k (with_lineage [] x)) r

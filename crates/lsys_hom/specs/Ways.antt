@@ -1,10 +1,12 @@
 -- The way along a level: what is still to come of its image, and how many of its symbols are left.
-use Rattle.std.specs.Prelude.{◌≡◌, ◌==◌, Bool, false, ℕ, ◌+◌, ◌<◌, ◌≤◌, ◌^◌, Option, Some, None, List, [], ◌++◌, Result, Ok, Err, length, drop, option_map}
+use Rattle.std.specs.Prelude.{◌≡◌, ◌==◌, Bool, false, ℕ, ◌+◌, ◌<◌, ◌≤◌, ◌^◌, Option, Some, None, List, [], ◌++◌, Result, Ok, Err, length, drop, map, option_map}
 use Rattle.lsys_syntax.specs.Limits.{most_image_symbols}
-use Rattle.lsys_spec.specs.Systems.{Homomorphism}
+use Rattle.lsys_spec.specs.Systems.{Homomorphism, System}
 use Rattle.lsys_spec.specs.Levels as L
 use Rattle.lsys_level.specs.Spots.{Spotted, IsSpot, level_at, level_by}
-use Rattle.lsys_hom.specs.Coming.{Coming, coming_from, ended}
+use Rattle.lsys_bodies.specs.Views.{homomorphism_of}
+use Rattle.lsys_bodies.specs.declared.rule.HomRule.{HomRule}
+use Rattle.lsys_hom.specs.Coming.{Coming, coming, coming_from, ended}
 use Rattle.lsys_hom.specs.Parts.{IsSound, symbols_of}
 use Rattle.lsys_hom.specs.Refusals.{refusal_of}
 use Rattle.lsys_hom.specs.declared.part.Part.{Part}
@@ -13,6 +15,14 @@ use Rattle.lsys_hom.specs.declared.refusal.ImageRefusal.{ImageRefusal}
 -- the symbols, all without lineages
 abbrev pub bare : List Spotted → List L.Symbol
 bare x = level_by (λ tag. []) x
+
+-- what comes of the image of a level by these rules
+abbrev pub coming_by : List HomRule → List Spotted → Coming
+coming_by rules x = coming_from (map homomorphism_of rules) 0 0 (bare x)
+
+-- it comes, whatever the lineages of the symbols are
+abbrev pub ComesFrom : System → List Spotted → Coming → Type 0
+ComesFrom s x c = (naming : ℕ → List ℕ) → c ≡ coming s (level_by naming x)
 
 -- the level and the place of a spot
 abbrev pub at : {S : Type 0} → (S → ℕ) → (S → ℕ) → Option S → Option (ℕ × ℕ)

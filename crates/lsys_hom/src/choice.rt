@@ -1,11 +1,10 @@
 //! Which rule a module's image is made by.
-ghost use Rattle.std.specs.Prelude.{◌≡◌, map};
-ghost use Rattle.lsys_spec.specs.Images.{image_of};
+ghost use Rattle.std.specs.Prelude.{◌≡◌};
 ghost use Rattle.lsys_spec.specs.Systems.{same_name};
 ghost use Rattle.lsys_expr.specs.Answers.{answer_of};
 ghost use Rattle.lsys_module.specs.Views.{module_name};
 ghost use Rattle.lsys_bodies.specs.Views.{homomorphism_of};
-ghost use Rattle.lsys_hom.specs.Parts.{applies, image_by, module_with};
+ghost use Rattle.lsys_hom.specs.Parts.{applies, module_with, IsRuleFor};
 
 use lsys_bodies::{HomRule, SharedBody};
 use lsys_expr::{Arith, holds};
@@ -17,8 +16,7 @@ pub(crate) fn body_for<'a>(
     name: Name,
     params: &[i64],
 ) -> Result<Option<&'a SharedBody>, Arith>
-    ensures { let m = module_with name params.now in
-        image_of (map homomorphism_of rules.now) m ≡ image_by m result }
+    ensures { IsRuleFor rules.now (module_with name params.now) result }
 {
     for rule in rules {
         if applies(rule, name, params)? {

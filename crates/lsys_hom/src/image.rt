@@ -1,8 +1,8 @@
 //! The image of a level.
-ghost use Rattle.std.specs.Prelude.{◌≡◌, ◌<◌, ◌≤◌, ℕ, List, length};
-ghost use Rattle.lsys_level.specs.Spots.{level_at, level_by};
+ghost use Rattle.std.specs.Prelude.{◌<◌, ◌≤◌, length};
+ghost use Rattle.lsys_level.specs.Spots.{level_at};
 ghost use Rattle.lsys_hom.specs.Calls.{IsNext};
-ghost use Rattle.lsys_hom.specs.Coming.{coming};
+ghost use Rattle.lsys_hom.specs.Ways.{ComesFrom};
 
 use crate::part::Part;
 use crate::refusal::ImageRefusal;
@@ -38,8 +38,7 @@ impl<'a, W: LevelView> Image<'a, W> {
     pub fn new(view: &'a W, system: &'a System, level: u32) -> Image<'a, W>
         requires level { level < length (W.levels view.now) }
         requires few { length (level_at (W.levels view.now) level) ≤ u32.MAX }
-        ensures { (naming : ℕ → List ℕ) →
-            result ≡ coming system.now (level_by naming (level_at (W.levels view.now) level)) }
+        ensures { ComesFrom system.now (level_at (W.levels view.now) level) result }
     {
         Image {
             walk: Walk::new(view, system.hom_rules(), level),

@@ -4,9 +4,9 @@ ghost use Rattle.lsys_syntax.specs.Limits.{most_image_symbols};
 ghost use Rattle.lsys_bodies.specs.Views.{homomorphism_of};
 ghost use Rattle.lsys_level.specs.Views.{HasFewParams, seen_of};
 ghost use Rattle.lsys_level.specs.Spots.{level_at, with_lineage};
-ghost use Rattle.lsys_hom.specs.Coming.{coming_from, modules_behind, symbol_image};
-ghost use Rattle.lsys_hom.specs.Parts.{IsPart};
-ghost use Rattle.lsys_hom.specs.Ways.{AreSound, IsFound, IsPassed, bare, is_empty};
+ghost use Rattle.lsys_hom.specs.Coming.{modules_behind};
+ghost use Rattle.lsys_hom.specs.Parts.{IsPartOf};
+ghost use Rattle.lsys_hom.specs.Ways.{AreSound, IsFound, IsPassed, is_empty, coming_by};
 
 use crate::part::Part;
 use crate::refusal::ImageRefusal;
@@ -51,8 +51,7 @@ impl<'a, W: LevelView> Walk<'a, W> {
     pub fn new(view: &'a W, rules: &'a [HomRule], level: u32) -> Walk<'a, W>
         requires level { level < length (W.levels view.now) }
         requires few { length (level_at (W.levels view.now) level) ≤ u32.MAX }
-        ensures { result.coming ≡ coming_from (map homomorphism_of rules.now) 0 0
-            (bare (level_at (W.levels view.now) level)) }
+        ensures { result.coming ≡ coming_by rules.now (level_at (W.levels view.now) level) }
     {
         Walk {
             view,
@@ -141,8 +140,7 @@ pub fn part_of<'a>(
     requires few { HasFewParams sight }
     requires modules { modules < u32.MAX }
     requires symbols { symbols ≤ most_image_symbols }
-    ensures { let s = with_lineage [] (seen_of sight.entry) in
-        IsPart (symbol_image (map homomorphism_of rules.now) modules symbols s) result }
+    ensures { IsPartOf rules.now modules symbols (seen_of sight.entry) result }
 {
     let part = match sight {
         Sight::Push => Part::Single(Symbol::Push),

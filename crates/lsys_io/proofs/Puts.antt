@@ -7,7 +7,7 @@ use Rattle.std.proofs.Math.Seq.{take-append-add}
 use Rattle.std.proofs.lemmas.List.{append_cancel_left, take-append-le, length-take-le, take_all}
 use Rattle.lsys_io.specs.declared.Failed.{Failed}
 use Rattle.lsys_io.specs.Causes.{Rose}
-use Rattle.lsys_io.specs.Writes.{AppendsFront, Puts}
+use Rattle.lsys_io.specs.Writes.{AppendsFront, WasPut}
 
 -- a front of bytes is one of more bytes
 pub front_of_more : (a b : Option (List ℕ)) (bytes more : List ℕ) → AppendsFront a b bytes → AppendsFront a b (bytes ++ more)
@@ -42,7 +42,7 @@ front_then (Some x) (Some y) (Some z) held behind text more put f g = (
 )
 
 -- nothing was put
-pub puts_nothing : {K A : Type 0} {written : K → Option (List ℕ)} {faults : K → ℕ} {sink : K} {held : List ℕ} {answer : A} → Puts written faults sink sink held held [] (Ok answer)
+pub puts_nothing : {K A : Type 0} {written : K → Option (List ℕ)} {faults : K → ℕ} {sink : K} {held : List ℕ} {answer : A} → WasPut written faults sink sink held held [] (Ok answer)
 puts_nothing {written = written} {sink = sink} {held = held} = record {
   put = Appends-nil (append_known (written sink) held);
   writes_front = (0, omega arith, Appends-nil (written sink));
@@ -54,8 +54,8 @@ puts_nothing {written = written} {sink = sink} {held = held} = record {
 
 -- a text was put, and then another one, or the sink failed at that
 pub puts_then : {K A B : Type 0} {written : K → Option (List ℕ)} {faults : K → ℕ} {sink_old sink_mid sink_new : K} {held_old held_mid held_new text more : List ℕ} {answer : A} {result : Result B Failed}
-    → Puts written faults sink_old sink_mid held_old held_mid text (Ok answer) → Puts written faults sink_mid sink_new held_mid held_new more result
-    → Puts written faults sink_old sink_new held_old held_new (text ++ more) result
+    → WasPut written faults sink_old sink_mid held_old held_mid text (Ok answer) → WasPut written faults sink_mid sink_new held_mid held_new more result
+    → WasPut written faults sink_old sink_new held_old held_new (text ++ more) result
 puts_then {written = written} {sink_old = s} {sink_mid = t} {sink_new = u} {held_old = held_old} {held_mid = held_mid} {held_new = held_new} {text = text} {more = more} {result = Ok x} p q = record {
   put = Appends-trans (append_known (written s) held_old) (append_known (written t) held_mid) (append_known (written u) held_new) text more p.put q.put;
   writes_front = front_then (written s) (written t) (written u) held_old held_mid text more p.put p.writes_front q.writes_front;
@@ -75,7 +75,7 @@ puts_then {written = written} {sink_old = s} {sink_mid = t} {sink_new = u} {held
 
 -- the sink failed, whatever would have been answered else
 pub puts_refused : {K A B : Type 0} {written : K → Option (List ℕ)} {faults : K → ℕ} {sink_old sink_new : K} {held_old held_new text : List ℕ} {failed : Failed} {result : Result B Failed}
-    → IsErr result → Puts {A = A} written faults sink_old sink_new held_old held_new text (Err failed) → Puts written faults sink_old sink_new held_old held_new text result
+    → IsErr result → WasPut {A = A} written faults sink_old sink_new held_old held_new text (Err failed) → WasPut written faults sink_old sink_new held_old held_new text result
 puts_refused {result = Ok x} is p = absurd (true≢false (sym is))
 puts_refused {result = Err e} is p = record {
   put = tt;
@@ -87,7 +87,7 @@ puts_refused {result = Err e} is p = record {
 }
 
 more_unwritten : {K A : Type 0} {written : K → Option (List ℕ)} {faults : K → ℕ} {sink_old sink_new : K} {held_old held_new text : List ℕ} {failed : Failed} (more : List ℕ)
-    → Puts {A = A} written faults sink_old sink_new held_old held_new text (Err failed) → Puts {A = A} written faults sink_old sink_new held_old held_new (text ++ more) (Err failed)
+    → WasPut {A = A} written faults sink_old sink_new held_old held_new text (Err failed) → WasPut {A = A} written faults sink_old sink_new held_old held_new (text ++ more) (Err failed)
 more_unwritten {written = written} {sink_old = s} {sink_new = t} {held_old = held_old} {text = text} more p = record {
   put = tt;
   writes_front = rw (sym (append_assoc held_old text more)) (front_of_more (written s) (written t) (held_old ++ text) more p.writes_front);
@@ -99,12 +99,12 @@ more_unwritten {written = written} {sink_old = s} {sink_new = t} {held_old = hel
 
 -- the sink failed before more was put
 pub puts_failed : {K A B : Type 0} {written : K → Option (List ℕ)} {faults : K → ℕ} {sink_old sink_new : K} {held_old held_new text : List ℕ} {failed : Failed} {result : Result B Failed} (more : List ℕ)
-    → IsErr result → Puts {A = A} written faults sink_old sink_new held_old held_new text (Err failed) → Puts written faults sink_old sink_new held_old held_new (text ++ more) result
+    → IsErr result → WasPut {A = A} written faults sink_old sink_new held_old held_new text (Err failed) → WasPut written faults sink_old sink_new held_old held_new (text ++ more) result
 puts_failed more is p = puts_refused is (more_unwritten more p)
 
 -- what was put doesn't depend on what is answered beside it
 pub puts_answering : {K A B : Type 0} {written : K → Option (List ℕ)} {faults : K → ℕ} {sink_old sink_new : K} {held_old held_new text : List ℕ} {answer : A} {other : B}
-    → Puts written faults sink_old sink_new held_old held_new text (Ok answer) → Puts written faults sink_old sink_new held_old held_new text (Ok other)
+    → WasPut written faults sink_old sink_new held_old held_new text (Ok answer) → WasPut written faults sink_old sink_new held_old held_new text (Ok other)
 puts_answering p = record {
   put = p.put;
   writes_front = p.writes_front;
@@ -126,7 +126,7 @@ known_only (Some x) None bytes h = absurd h
 known_only (Some x) (Some y) bytes h = append-nil y ∙ h ∙ ap (λ t. t ++ bytes) (sym (append-nil x))
 
 flushed : {K : Type 0} (written : K → Option (List ℕ)) (faults : K → ℕ) (sink_old sink_new : K) (held : List ℕ) → Appends (written sink_old) (written sink_new) held → faults sink_new ≡ faults sink_old
-    → Puts {A = Unit {0}} written faults sink_old sink_new held [] [] (Ok tt)
+    → WasPut {A = Unit {0}} written faults sink_old sink_new held [] [] (Ok tt)
 flushed written faults s t held h count = record {
   put = held_written (written s) (written t) held h;
   writes_front = (length held, omega (arith, length-append held []), rw (take-append-le (length held) held [] (omega arith), take_all (length held) held (omega arith)) h);
@@ -139,7 +139,7 @@ flushed written faults s t held h count = record {
 sent : {K : Type 0} (written : K → Option (List ℕ)) (faults : K → ℕ) (sink_old sink_new : K) (bytes : List ℕ) (result : Result (Unit {0}) Failed)
     → OnOk result (Appends (written sink_old) (written sink_new) bytes) → OnErr result (AppendsFront (written sink_old) (written sink_new) bytes)
     → faults sink_old ≤ faults sink_new → OnErr result (Rose (faults sink_old) (faults sink_new)) → OnOk result (faults sink_new ≡ faults sink_old)
-    → Puts written faults sink_old sink_new [] [] bytes result
+    → WasPut written faults sink_old sink_new [] [] bytes result
 sent written faults s t bytes (Ok x) put front never rose same = record {
   put = known_only (written s) (written t) bytes put;
   writes_front = (length bytes, omega arith, rw (take_all (length bytes) bytes (omega arith)) put);
@@ -162,6 +162,6 @@ pub puts_sent : {K : Type 0} (written : K → Option (List ℕ)) (faults : K →
     → Appends (written sink_old) (written sink_mid) held → faults sink_mid ≡ faults sink_old
     → OnOk result (Appends (written sink_mid) (written sink_new) bytes) → OnErr result (AppendsFront (written sink_mid) (written sink_new) bytes)
     → faults sink_mid ≤ faults sink_new → OnErr result (Rose (faults sink_mid) (faults sink_new)) → OnOk result (faults sink_new ≡ faults sink_mid)
-    → Puts written faults sink_old sink_new held [] bytes result
+    → WasPut written faults sink_old sink_new held [] bytes result
 puts_sent written faults s t u held bytes result before count put front never rose same =
     puts_then (flushed written faults s t held before count) (sent written faults t u bytes result put front never rose same)

@@ -1,3 +1,4 @@
+pub mod Calls
 pub mod Causes
 pub mod Writes
 pub mod Memory
@@ -6,3 +7,5 @@ pub mod Reading
 pub mod LineAnswers
 pub mod Gathering
 pub mod Standard
+pub mod LineCalls
+pub mod Putting

@@ -1,9 +1,10 @@
 // A buffer before a sink.
-ghost use Rattle.std.specs.Prelude.{◌≡◌, ℕ, List, [], ◌++◌, ◌≤◌, IfOk, OnOk, OnErr};
+ghost use Rattle.std.specs.Prelude.{◌≡◌, ℕ, List, [], ◌≤◌, IfOk, OnOk, OnErr};
 ghost use Rattle.std.specs.Fmt.{signed_decimal};
-ghost use Rattle.std.specs.Io.KnownBytes.{Appends, append_known};
+ghost use Rattle.std.specs.Io.KnownBytes.{Appends};
 ghost use Rattle.lsys_io.specs.Causes.{Rose};
-ghost use Rattle.lsys_io.specs.Writes.{AppendsFront, Puts};
+ghost use Rattle.lsys_io.specs.Writes.{WritesFront};
+ghost use Rattle.lsys_io.specs.Putting.{Puts};
 
 use super::{Failed, Sink, send_all};
 use itoa::Buffer;
@@ -42,7 +43,7 @@ impl Buffered {
     /// Puts the bytes behind those held, and writes where there is no room.
     #[tactic(auto, using(crate::proofs::Known::front_behind))]
     pub fn put<K: Sink>(&mut self, sink: &mut K, bytes: &[u8]) -> Result<(), Failed>
-        ensures { Puts K.written K.faults sink.old sink.new self.old self.new bytes.now result }
+        ensures { Puts K.Sink sink self bytes.now result }
     {
         if bytes.len() > ROOM - self.held.len() {
             self.flush(sink)?;
@@ -58,7 +59,7 @@ impl Buffered {
 
     /// Puts the number in decimal, with `-` before a negative one.
     pub fn put_number<K: Sink>(&mut self, sink: &mut K, n: i128) -> Result<(), Failed>
-        ensures { Puts K.written K.faults sink.old sink.new self.old self.new (signed_decimal n) result }
+        ensures { Puts K.Sink sink self (signed_decimal n) result }
     {
         let mut digits = Buffer::new();
         self.put(sink, digits.format(n).as_bytes())
@@ -67,7 +68,7 @@ impl Buffered {
     /// Writes the bytes held.
     pub fn flush<K: Sink>(&mut self, sink: &mut K) -> Result<(), Failed>
         ensures written { OnOk result (Appends (K.written sink.old) (K.written sink.new) self.old) }
-        ensures failed_writes_front { OnErr result (AppendsFront (K.written sink.old) (K.written sink.new) self.old) }
+        ensures failed_writes_front { OnErr result (WritesFront K.written sink self.old) }
         ensures holds_nothing { self.new ≡ [] }
 
         ensures never_falls { K.faults sink.old ≤ K.faults sink.new }

@@ -1,11 +1,10 @@
 // The bytes of one line, gathered piece after piece.
-ghost use Rattle.std.specs.Prelude.{◌≡◌, ℕ, ◌+◌, ◌-◌, ◌^◌, List, [], ◌++◌, ◌<◌, ◌≤◌, ◌≢◌, slice_index, length, take, true, false, IfOk, IfErr, OnOk, IfSome, IfNone, vec_len, vec_capacity};
-ghost use Rattle.std.specs.Io.KnownBytes.{Consumes, IsAtEnd};
+ghost use Rattle.std.specs.Prelude.{◌≡◌, ℕ, ◌+◌, ◌-◌, ◌^◌, [], ◌<◌, ◌≤◌, ◌≢◌, slice_index, length, true, false, IfOk, IfErr, OnOk, IfSome, IfNone, vec_len, vec_capacity};
+ghost use Rattle.std.specs.Io.KnownBytes.{IsAtEnd};
 ghost use Rattle.lsys_syntax.specs.Lines.{without_cr};
-ghost use Rattle.lsys_io.specs.Causes.{Rose};
 ghost use Rattle.lsys_io.specs.Feeds.{has_lf};
 ghost use Rattle.lsys_syntax.specs.Limits.{most_line_bytes};
-ghost use Rattle.lsys_io.specs.Gathering.{Absorbs, Gathers, Stops, IfFault, Finishes};
+ghost use Rattle.lsys_io.specs.Gathering.{Finishes, AbsorbsFrom, CountsFault, GathersGiven, KeepsPart, PassesRoom, StopsGiven};
 
 use super::{Failed, Source};
 use crate::lines::{LineRead, LineRefusal};
@@ -40,7 +39,7 @@ fn keep(line: &mut Vec<u8>, count: usize, part: &[u8])
     requires capacity { most_line_bytes ≤ vec_capacity line.old }
     requires before { vec_len line.old ≤ count }
     requires fits { count + length part.now < 2 ^ 64 }
-    ensures kept { count + length part.now ≤ most_line_bytes → line.new.items ≡ line.old.items ++ part.now }
+    ensures kept { KeepsPart count part.now line.old.items line.new.items }
     ensures before { vec_len line.new ≤ count + length part.now }
     ensures capacity { most_line_bytes ≤ vec_capacity line.new }
 {
@@ -58,8 +57,8 @@ fn absorb(pieces: &mut Pieces, line: &mut Vec<u8>, count: usize, room: usize) ->
     requires before { vec_len line.old ≤ count }
     requires within { count ≤ room }
     requires fits { room < 2 ^ 63 }
-    ensures absorbs { IfSome result (Absorbs pieces.old pieces.new line.old.items line.new.items count room) }
-    ensures past { IfNone result ((room - count < length pieces.old) × (has_lf (take (room - count) pieces.old) ≡ false)) }
+    ensures absorbs { IfSome result (AbsorbsFrom pieces line.old.items line.new.items count room) }
+    ensures past { IfNone result (PassesRoom (room - count) pieces.old) }
     ensures before { IfSome result (λ gathered. vec_len line.new ≤ gathered.count) }
     ensures capacity { most_line_bytes ≤ vec_capacity line.new }
 {
@@ -89,15 +88,15 @@ pub(crate) fn gather<S: Source>(
     requires empty { line.old.items ≡ [] }
     requires capacity { most_line_bytes ≤ vec_capacity line.old }
     requires fits { room < 2 ^ 63 }
-    ensures gathers { IfOk result (λ gathered. (given : List ℕ) × Consumes (S.left source.old) (S.left source.new) given × Gathers (pieces.old ++ given) pieces.new line.new.items room gathered) }
+    ensures gathers { IfOk result (GathersGiven S.left source pieces line.new.items room) }
     ensures ended { IfOk result (λ gathered. gathered.whole ≡ false → IsAtEnd (S.left source.new)) }
-    ensures stops { IfErr result (λ refusal. (given : List ℕ) × Consumes (S.left source.old) (S.left source.new) given × Stops (pieces.old ++ given) room refusal) }
+    ensures stops { IfErr result (StopsGiven S.left source pieces room) }
     ensures no_read_while_held { has_lf pieces.old ≡ true → source.new ≡ source.old }
     ensures capacity { most_line_bytes ≤ vec_capacity line.new }
 
     ensures never_falls { S.faults source.old ≤ S.faults source.new }
     ensures ok_leaves_count { OnOk result (S.faults source.new ≡ S.faults source.old) }
-    ensures refused_count { IfErr result (λ refusal. IfFault refusal (Rose (S.faults source.old) (S.faults source.new)) (S.faults source.new ≡ S.faults source.old)) }
+    ensures refused_count { IfErr result (CountsFault S.faults source) }
 {
     let mut count = 0;
     'bytes: loop {

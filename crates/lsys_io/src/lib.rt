@@ -9,7 +9,7 @@ ghost use Rattle.std.specs.Prelude.{◌≡◌, ℕ, List, ◌<◌, ◌≤◌, le
 ghost use Rattle.std.specs.declared.option.Option.{Option};
 ghost use Rattle.std.specs.Io.KnownBytes.{Consumes, Appends, Keeps, IsAtEnd};
 ghost use Rattle.lsys_io.specs.Causes.{Rose};
-ghost use Rattle.lsys_io.specs.Writes.{AppendsFront};
+ghost use Rattle.lsys_io.specs.Writes.{WritesFront, WritesSoMany};
 
 mod buffered;
 mod gathering;
@@ -61,7 +61,7 @@ pub trait Sink {
         requires { 0 < length piece.now }
         ensures bound { IfOk result (λ n. n ≤ length piece.now) }
         ensures some { IfOk result (λ n. 0 < n) }
-        ensures appends { IfOk result (λ n. Appends (written self.old) (written self.new) (take n piece.now)) }
+        ensures appends { IfOk result (WritesSoMany written self piece.now) }
         ensures failed_writes_nothing { OnErr result (Keeps (written self.old) (written self.new)) }
 
         ensures never_falls { faults self.old ≤ faults self.new }
@@ -72,7 +72,7 @@ pub trait Sink {
 /// Writes all the bytes.
 pub fn send_all<K: Sink>(sink: &mut K, bytes: &[u8]) -> Result<(), Failed>
     ensures sent { OnOk result (Appends (K.written sink.old) (K.written sink.new) bytes.now) }
-    ensures failed_writes_front { OnErr result (AppendsFront (K.written sink.old) (K.written sink.new) bytes.now) }
+    ensures failed_writes_front { OnErr result (WritesFront K.written sink bytes.now) }
 
     ensures never_falls { K.faults sink.old ≤ K.faults sink.new }
     ensures failed_only_where_rose { OnErr result (Rose (K.faults sink.old) (K.faults sink.new)) }

@@ -1,12 +1,11 @@
 // Lines from a source.
-ghost use Rattle.std.specs.Prelude.{◌≡◌, ℕ, List, [], ◌<◌, ◌≤◌, length, true, Some, IfOk, IfSome};
+ghost use Rattle.std.specs.Prelude.{◌≡◌, [], ◌<◌, ◌≤◌, true, Some, IfOk};
 ghost use Rattle.std.specs.Io.KnownBytes.{IsAtEnd};
-ghost use Rattle.lsys_syntax.specs.Lines.{without_cr};
-ghost use Rattle.lsys_io.specs.Causes.{Rose};
 ghost use Rattle.lsys_io.specs.Feeds.{has_lf};
 ghost use Rattle.lsys_syntax.specs.Limits.{most_line_bytes, most_script_bytes};
-ghost use Rattle.lsys_io.specs.Reading.{remaining, IsNotRefused, TakesLine, PassesLimit, LeavesNoLine};
-ghost use Rattle.lsys_io.specs.LineAnswers.{last_answer, OnLine, OnLong, OnTaken, OnEnd, OnReadFault, OnTooLong, OnNoFault, OnNoLine, OnNoEnd, OnLast};
+ghost use Rattle.lsys_io.specs.Reading.{remaining, IsNotRefused};
+ghost use Rattle.lsys_io.specs.LineAnswers.{last_answer, OnLine, OnLong, OnTaken, OnEnd, OnNoFault, OnNoLine, OnNoEnd, OnLast};
+ghost use Rattle.lsys_io.specs.LineCalls.{DropsLine, FaultLeavesNoLine, FaultWhereRose, LastAnswerStays, TellsLine, TooLongPastLimit, script_start};
 
 use super::Source;
 use crate::gathering::{LINE_LIMIT, finish, gather};
@@ -76,7 +75,7 @@ impl Model for LineReader {
 impl LineReader {
     /// A reader at the start of a script, with all its buffers.
     pub fn new(alloc: Global) -> Result<LineReader, AllocError>
-        ensures { IfOk result (λ reader. reader ≡ record { held = []; taken = 0; line = []; stage = Stage.Going }) }
+        ensures { IfOk result (λ reader. reader ≡ script_start) }
     {
         Ok(LineReader {
             pieces: Pieces::new(alloc)?,
@@ -95,11 +94,11 @@ impl LineReader {
 
     /// Reads the next line. After `End` or a refusal every later call answers the same and reads nothing.
     pub fn next_line<S: Source>(&mut self, source: &mut S) -> Result<LineRead, LineRefusal>
-        ensures line { OnLine result ((line : List ℕ) × TakesLine self.old self.new (S.left source.old) (S.left source.new) line × (length line ≤ most_line_bytes) × (self.new.line ≡ without_cr line)) }
-        ensures long { OnLong result ((line : List ℕ) × TakesLine self.old self.new (S.left source.old) (S.left source.new) line × (most_line_bytes < length line)) }
+        ensures line { OnLine result (TellsLine S.left self source) }
+        ensures long { OnLong result (DropsLine S.left self source) }
         ensures end_only_where_none_left { OnEnd result (IsAtEnd (remaining self.old (S.left source.old))) }
-        ensures too_long_only_past_limit { self.old.stage ≡ Stage.Going → OnTooLong result (IfSome (remaining self.old (S.left source.old)) (PassesLimit self.old.taken)) }
-        ensures read_fault_leaves_no_line { self.old.stage ≡ Stage.Going → OnReadFault result (LeavesNoLine self.old (S.left source.old) (S.left source.new)) }
+        ensures too_long_only_past_limit { TooLongPastLimit S.left self source result }
+        ensures read_fault_leaves_no_line { FaultLeavesNoLine S.left self source result }
         ensures else_tells_no_line { OnNoLine result (self.new.line ≡ []) }
 
         // Each line takes a byte, and the lines together stay within the limit.
@@ -109,12 +108,12 @@ impl LineReader {
 
         // The end and a refusal stay.
         ensures stops { OnLast result (last_answer self.new.stage ≡ Some result) }
-        ensures stays { IfSome (last_answer self.old.stage) (λ answer. (result ≡ answer) × (self.new ≡ record self.old { line = [] }) × (source.new ≡ source.old)) }
+        ensures stays { LastAnswerStays self source result }
         ensures was_going { IsNotRefused self.old.stage → OnNoEnd result (self.old.stage ≡ Stage.Going) }
 
         ensures no_read_while_line_held { has_lf self.old.held ≡ true → source.new ≡ source.old }
         ensures never_falls { S.faults source.old ≤ S.faults source.new }
-        ensures read_fault_only_where_rose { self.old.stage ≡ Stage.Going → OnReadFault result (Rose (S.faults source.old) (S.faults source.new)) }
+        ensures read_fault_only_where_rose { FaultWhereRose S.faults self source result }
         ensures else_leaves_count { OnNoFault result (S.faults source.new ≡ S.faults source.old) }
     {
         self.line.clear();

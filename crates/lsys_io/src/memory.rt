@@ -1,6 +1,7 @@
 // A source and a sink over memory, which fail at the calls that they are told.
-ghost use Rattle.std.specs.Prelude.{◌≡◌, ℕ, ◌+◌, ◌-◌, ◌^◌, List, [], ◌++◌, ◌<◌, ◌≤◌, ◌↔◌, length, drop, take, min, IfOk, OnOk, OnErr, IsErr, Contains, IsTrue, ◌⊎◌};
+ghost use Rattle.std.specs.Prelude.{◌≡◌, ◌+◌, [], ◌++◌, ◌<◌, ◌≤◌, ◌↔◌, length, drop, take, IfOk, OnOk, OnErr, IsErr, Contains, IsTrue};
 ghost use Rattle.lsys_io.specs.Causes.{counted};
+ghost use Rattle.lsys_io.specs.Memory.{HasSameLimits, IsListedOrFull, amount_given, amount_taken, uncalled_input, uncalled_output};
 
 use super::{Failed, Sink, Source};
 use std::alloc::{AllocError, Global};
@@ -32,7 +33,7 @@ impl MemorySource {
     /// The source of these bytes; `piece` is at least 1.
     pub fn new(bytes: Vec<u8>, piece: usize, failing: Vec<u64>) -> MemorySource
         requires { 0 < piece }
-        ensures { result ≡ record { left = bytes.items; piece = piece; failing = failing.items; calls = 0; faults = 0 } }
+        ensures { result ≡ uncalled_input bytes.items piece failing.items }
     {
         MemorySource {
             bytes,
@@ -55,7 +56,7 @@ impl Source for MemorySource {
     fn read(&mut self, into: &mut [u8]) -> Result<usize, Failed>
         requires { 0 < length into.old }
         ensures fails_exactly_at_listed { IsErr result ↔ Contains self.old.failing (self.old.calls + 1) }
-        ensures amount { IfOk result (λ n. n ≡ min self.old.piece (min (length into.new) (length self.old.left))) }
+        ensures amount { IfOk result (λ n. n ≡ amount_given self.old into.new) }
         ensures gives { IfOk result (λ n. self.old.left ≡ take n into.new ++ self.new.left) }
         ensures none_at_end { IfOk result (λ n. n ≡ 0 → self.new.left ≡ []) }
         ensures failed_takes_nothing { OnErr result (self.new.left ≡ self.old.left) }
@@ -123,7 +124,7 @@ impl MemorySink {
         failing: Vec<u64>,
     ) -> Result<MemorySink, AllocError>
         requires { 0 < piece }
-        ensures { IfOk result (λ sink. sink ≡ record { written = []; room = room; piece = piece; failing = failing.items; calls = 0; faults = 0 }) }
+        ensures { IfOk result (λ sink. sink ≡ uncalled_output room piece failing.items) }
     {
         Ok(MemorySink {
             bytes: Vec::with_capacity(alloc, room)?,
@@ -152,8 +153,8 @@ impl Sink for MemorySink {
 
     fn write(&mut self, piece: &[u8]) -> Result<usize, Failed>
         requires { 0 < length piece.now }
-        ensures fails_exactly_at_listed_or_full { IsErr result ↔ (Contains self.old.failing (self.old.calls + 1) ⊎ (self.old.room ≤ length self.old.written)) }
-        ensures amount { IfOk result (λ n. n ≡ min self.old.piece (min (length piece.now) (self.old.room - length self.old.written))) }
+        ensures fails_exactly_at_listed_or_full { IsErr result ↔ IsListedOrFull self.old }
+        ensures amount { IfOk result (λ n. n ≡ amount_taken self.old piece.now) }
         ensures some { IfOk result (λ n. 0 < n) }
         ensures appends { IfOk result (λ n. self.new.written ≡ self.old.written ++ take n piece.now) }
         ensures failed_writes_nothing { OnErr result (self.new.written ≡ self.old.written) }
@@ -162,7 +163,7 @@ impl Sink for MemorySink {
         ensures never_falls { self.old.faults ≤ self.new.faults }
         ensures fault_counted { OnErr result (self.new.faults ≡ counted self.old.faults) }
         ensures ok_leaves_count { OnOk result (self.new.faults ≡ self.old.faults) }
-        ensures stays { (self.new.room ≡ self.old.room) × (self.new.piece ≡ self.old.piece) × (self.new.failing ≡ self.old.failing) }
+        ensures stays { HasSameLimits self.old self.new }
     {
         let listed = fails_now(&mut self.calls, &self.failing);
         let count = self

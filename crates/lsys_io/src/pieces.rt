@@ -1,7 +1,7 @@
 // The piece that was read last, and what of it is left.
-ghost use Rattle.std.specs.Prelude.{◌≡◌, ℕ, List, [], ◌++◌, ◌<◌, ◌≤◌, length, drop, true, false, IfOk, OnOk, OnErr};
-ghost use Rattle.std.specs.Io.KnownBytes.{Consumes, Keeps, IsAtEnd};
+ghost use Rattle.std.specs.Prelude.{◌≡◌, ℕ, List, [], ◌<◌, ◌≤◌, length, drop, true, false, IfOk, OnOk, OnErr};
 ghost use Rattle.lsys_io.specs.Causes.{Rose};
+ghost use Rattle.lsys_io.specs.Gathering.{GivesNothing, HoldsMore, IsDrained};
 
 use super::{Failed, Source};
 use std::alloc::{AllocError, Global};
@@ -55,11 +55,11 @@ impl Pieces {
 
     /// Reads the next piece where nothing is held. False is the end of the input.
     pub fn fill<S: Source>(&mut self, source: &mut S) -> Result<bool, Failed>
-        ensures read { OnOk result ((given : List ℕ) × Consumes (S.left source.old) (S.left source.new) given × (self.new ≡ self.old ++ given)) }
+        ensures read { OnOk result (HoldsMore S.left source self) }
         ensures no_read_while_held { 0 < length self.old → source.new ≡ source.old }
         ensures some { IfOk result (λ some. some ≡ true → 0 < length self.new) }
-        ensures none_at_end { IfOk result (λ some. some ≡ false → (self.new ≡ []) × IsAtEnd (S.left source.new)) }
-        ensures failed_takes_nothing { OnErr result ((self.old ≡ []) × Keeps (S.left source.old) (S.left source.new)) }
+        ensures none_at_end { IfOk result (λ some. some ≡ false → IsDrained S.left source self) }
+        ensures failed_takes_nothing { OnErr result (GivesNothing S.left source self) }
 
         ensures never_falls { S.faults source.old ≤ S.faults source.new }
         ensures failed_only_where_rose { OnErr result (Rose (S.faults source.old) (S.faults source.new)) }

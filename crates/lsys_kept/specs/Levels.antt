@@ -12,7 +12,7 @@ use Rattle.lsys_walks.specs.Noted.{Noted, Compared, Ignored, Out, Branched}
 use Rattle.lsys_match.specs.Kept.{Kept}
 use Rattle.lsys_match.specs.Stored.{answer_in, trace_in}
 use Rattle.lsys_match.specs.Asks.{IsMade}
-use Rattle.lsys_recall.specs.Recalled.{IsAnswerThere}
+use Rattle.lsys_match.specs.Recalled.{IsAnswerThere}
 use Rattle.lsys_forest.specs.Nodes.{Nodes}
 use Rattle.lsys_forest.specs.Answers.{answer_of}
 use Rattle.lsys_forest.specs.Groves.{In}

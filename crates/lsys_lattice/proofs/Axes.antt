@@ -8,9 +8,9 @@ use Rattle.std.proofs.lemmas.Bool.Decides.{Decides-int_eq}
 use Rattle.std.proofs.lemmas.List.Sums.{AllPass-from_list_all}
 use Rattle.lsys_spec.specs.Lattices.{Vector, vector, cubic, Frame, frames, IsUpright}
 use Rattle.lsys_spec.proofs.Tests.{both}
-use Rattle.lsys_effects.specs.Rotations.{carried, measures, plus}
-use Rattle.lsys_effects.specs.Extents.{Extents, least, greatest, extents}
-use Rattle.lsys_effects.proofs.Ranges.{least_same, greatest_same, least_opposite, greatest_opposite}
+use Rattle.lsys_lattice.specs.Rotations.{carried, measures, plus}
+use Rattle.lsys_lattice.specs.Extents.{Extents, least, greatest, extents}
+use Rattle.lsys_lattice.proofs.Ranges.{least_same, greatest_same, least_opposite, greatest_opposite}
 use Rattle.lsys_lattice.specs.Wide.{least_by, greatest_by}
 use Rattle.lsys_lattice.proofs.Reach.{reach, same_reach}
 

@@ -3,9 +3,9 @@ use Rattle.std.proofs.Common.{◌≡◌, List, map, sym, arith}
 use Rattle.std.specs.Prelude.{ℤ, neg_ℤ}
 use Rattle.std.proofs.lemmas.Int.{ints}
 use Rattle.lsys_spec.specs.Lattices.{Vector, vector, square, hexagonal}
-use Rattle.lsys_effects.specs.Rotations.{carried, measures}
-use Rattle.lsys_effects.specs.Extents.{Extents, least, greatest, extents}
-use Rattle.lsys_effects.proofs.Ranges.{least_same, greatest_same, least_opposite, greatest_opposite}
+use Rattle.lsys_lattice.specs.Rotations.{carried, measures}
+use Rattle.lsys_lattice.specs.Extents.{Extents, least, greatest, extents}
+use Rattle.lsys_lattice.proofs.Ranges.{least_same, greatest_same, least_opposite, greatest_opposite}
 use Rattle.lsys_lattice.specs.FlatFrames.{square_frame, hexagonal_frame}
 use Rattle.lsys_lattice.specs.declared.square.SquareFrame.TheVariants as squares
 use Rattle.lsys_lattice.specs.declared.hexagonal.HexagonalFrame.TheVariants as hexagons

@@ -2,7 +2,7 @@
 use Rattle.std.specs.Prelude.{ℕ, ◌<◌, ◌^◌, ℤ, pos, negsuc, neg_ℤ, unsigned_abs, if◌then◌else◌}
 use Rattle.std.specs.Ordering.{int_eq}
 use Rattle.lsys_spec.specs.Lattices.{Vector, vector}
-use Rattle.lsys_effects.specs.Extents.{Extents}
+use Rattle.lsys_lattice.specs.Extents.{Extents}
 use Rattle.lsys_lattice.specs.declared.wide.Vector.{Vector as Wide}
 use Rattle.lsys_lattice.specs.declared.wide.Extents.{Extents as WideExtents}
 use Rattle.lsys_lattice.specs.declared.wide.Span.{Span}

@@ -2,7 +2,7 @@
 
 ghost use Rattle.std.specs.Prelude.{◌≡◌};
 ghost use Rattle.lsys_spec.specs.Lattices.{cubic, turn_left};
-ghost use Rattle.lsys_effects.specs.Rotations.{carried, plus};
+ghost use Rattle.lsys_lattice.specs.Rotations.{carried, plus};
 ghost use Rattle.lsys_lattice.specs.Directions.{along};
 ghost use Rattle.lsys_lattice.specs.Wide.{IsBelow, wide_of};
 ghost use Rattle.lsys_lattice.specs.CubicFrames.{cubic_frame, cubic_faithful};

@@ -2,7 +2,7 @@
 
 ghost use Rattle.std.specs.Prelude.{◌≡◌, ◌<◌, ◌^◌, unsigned_abs};
 ghost use Rattle.lsys_spec.specs.Lattices.{frame, IsUpright, opposite};
-ghost use Rattle.lsys_effects.specs.Rotations.{scaled};
+ghost use Rattle.lsys_lattice.specs.Rotations.{scaled};
 ghost use Rattle.lsys_lattice.specs.Directions.{along};
 ghost use Rattle.lsys_lattice.specs.Views.{vector_of};
 ghost use Rattle.lsys_lattice.specs.Wide.{AreBelow, IsBelow, IsShort, extents_of, shared, wide_of};

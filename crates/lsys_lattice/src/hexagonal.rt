@@ -1,9 +1,8 @@
 //! The hexagonal lattice.
 
 ghost use Rattle.std.specs.Prelude.{◌≡◌};
-ghost use Rattle.lsys_spec.specs.Lattices.{hexagonal, turn_left};
+ghost use Rattle.lsys_spec.specs.Lattices.{hexagonal, turn_left, all_turned, sixth_left, sixth_right};
 ghost use Rattle.lsys_spec.proofs.Turns.{turned_back, full_turn_back};
-ghost use Rattle.lsys_spec.specs.Lattices.{all_turned, sixth_left, sixth_right};
 ghost use Rattle.lsys_lattice.specs.FlatFrames.{hexagonal_frame, hexagonal_upright, hexagonal_known, hexagonal_faithful};
 
 use crate::{Extents, Lattice, Place, Turn, Vector};

@@ -1,4 +1,5 @@
-//! Lattices: the frames in which a turtle stands, its turns and headings, and the projection of places.
+//! Lattices: the frames in which a turtle stands, its turns and headings, and the projection of places. Laws of what strings do to
+//! turtles on them: `effects` of strings and of their parts, and `motions`, by which the turtle anywhere in a picture is told.
 //!
 //! A frame can hold nothing but a frame that turns lead to: 4 on the square, 6 on the hexagonal and 24 on the cubic
 //! lattice.
@@ -8,20 +9,30 @@ ghost use Rattle.std.specs.Prelude.{◌≡◌, Contains};
 ghost use Rattle.lsys_spec.specs.Lattices.{Frame, frames, IsUpright, first_frame, full_turn, inverse, projected, times, turn_by, turned, IsWithin, turn_left};
 ghost use Rattle.lsys_spec.specs.Lattices.{Lattice as Kind};
 ghost use Rattle.lsys_spec.specs.Lattices.{Turn as SpecTurn};
-ghost use Rattle.lsys_effects.specs.Extents.{AreCarried};
-ghost use Rattle.lsys_effects.specs.Rotations.{carried, followed, measures};
+ghost use Rattle.lsys_lattice.specs.Extents.{AreCarried};
+ghost use Rattle.lsys_lattice.specs.Rotations.{carried, followed, measures};
 ghost use Rattle.lsys_lattice.specs.Views.{turn_of, vector_of};
 ghost use Rattle.lsys_lattice.specs.Wide.{AreBelow, IsBelow, extents_of, wide_of};
 
 mod cubic;
 mod cubic_frame;
+mod effects;
 mod hexagonal;
+mod motions;
 mod square;
 mod wide;
 
 pub use cubic::Cubic;
 pub use cubic_frame::CubicFrame;
+pub use effects::{
+    law_of_bounds, law_of_carrying, law_of_effects, law_of_following, law_of_free_turtles,
+    law_of_nodes, law_of_parts,
+};
 pub use hexagonal::{Hexagonal, HexagonalFrame};
+pub use motions::{
+    law_of_carried_extents, law_of_courses, law_of_descendants, law_of_far_modules, law_of_fronts,
+    law_of_image_parts, law_of_motions, law_of_strides,
+};
 pub use square::{Square, SquareFrame};
 pub use wide::{Extents, Vector};
 

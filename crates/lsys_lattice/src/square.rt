@@ -1,9 +1,8 @@
 //! The square lattice.
 
 ghost use Rattle.std.specs.Prelude.{◌≡◌};
-ghost use Rattle.lsys_spec.specs.Lattices.{square, turn_left};
+ghost use Rattle.lsys_spec.specs.Lattices.{square, turn_left, all_turned, quarter_left, quarter_right};
 ghost use Rattle.lsys_spec.proofs.Turns.{turned_back, full_turn_back};
-ghost use Rattle.lsys_spec.specs.Lattices.{all_turned, quarter_left, quarter_right};
 ghost use Rattle.lsys_lattice.specs.FlatFrames.{square_frame, square_upright, square_known, square_faithful};
 
 use crate::{Extents, Lattice, Place, Turn, Vector};

@@ -20,3 +20,11 @@ pub mod WordExamples
 pub mod DefinitionExamples
 pub mod LawExamples
 pub mod KeptQuestions
+pub mod LastingSystems
+pub mod FirstFaults
+pub mod KnownQuestions
+pub mod DrawnPictures
+pub mod ToldReplies
+pub mod ScriptLines
+pub mod TakenBack
+pub mod ReadStrings

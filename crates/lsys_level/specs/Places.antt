@@ -1,15 +1,15 @@
 -- The kept symbols, as a view tells them.
 use Rattle.std.specs.Prelude.{◌≡◌, ℕ, ℤ, ◌+◌, ◌<◌, ◌≤◌, Bool, true, false, Some, List, [], ◌∷◌, map, length, take, drop, slice_get}
-use Rattle.lsys_spec.specs.Levels.{AreMates}
+use Rattle.lsys_spec.specs.Levels.{AreMates, plain}
 use Rattle.lsys_spec.specs.Levels as L
 use Rattle.lsys_syntax.specs.Strings.{plus}
-use Rattle.lsys_module.specs.Views.{module_name}
+use Rattle.lsys_module.specs.Views.{module_name, string_of}
 use Rattle.lsys_module.specs.declared.symbol.Symbol.{Symbol}
 use Rattle.lsys_module.specs.declared.symbol.Symbol.TheVariants as symbols
 use Rattle.lsys_level.specs.declared.place.Kind.{Kind}
 use Rattle.lsys_level.specs.declared.place.Kind.TheVariants as kinds
 use Rattle.lsys_level.specs.declared.place.Place.{Place}
-use Rattle.lsys_level.specs.Spots.{Seen, Push, Pop, Module, Spotted, with_lineage, IsMate, IsBracket}
+use Rattle.lsys_level.specs.Spots.{Seen, Push, Pop, Module, Spotted, with_lineage, level_by, IsMate, IsBracket}
 
 -- what is seen of a symbol; a level has no cut, which would be passed over like a module
 abbrev pub seen_in : Symbol → Seen
@@ -79,3 +79,15 @@ AllFit values (a ∷ more) = Fits values a × AllFit values more
 pub record IsRow (places : List Place) (values : List ℤ) : Type 0 where
   pub fit : AllFit values places
   pub mates : (p : ℕ) (a : Place) → slice_get places p ≡ Some a → IsBracket (spotted values a).seen → IsMate (map (spotted values) places) p a.link
+
+-- a bracket as it is kept
+abbrev pub bracket_place : Kind → ℕ → ℕ → ℕ → Place
+bracket_place kind mate t k =
+    record { key = k; name = 43 ∷ []; link = mate; tag = t; arity = 0; kind = kind }
+
+-- the string of a level is that of the symbols that it was made of
+abbrev pub SpotsShowTheSymbols : Type 0
+SpotsShowTheSymbols =
+    (naming : ℕ → List ℕ) (symbols : List Symbol) (tags keys : List ℕ) → has_cut symbols ≡ false
+    → length tags ≡ length symbols → length keys ≡ length symbols
+    → map plain (level_by naming (spots_of symbols tags keys)) ≡ string_of symbols

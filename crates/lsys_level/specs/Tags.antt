@@ -40,3 +40,15 @@ pub record StandsThere (k : ℕ) (row : List Spotted) : Type 0 where
 -- a tag of the old level and one of the new are equal where their names are
 abbrev pub NamesTell : (ℕ → List ℕ) → List Spotted → List Spotted → Type 0
 NamesTell naming old new = (k m : ℕ) → StandsThere k old → StandsThere m new → naming k ≡ naming m → k ≡ m
+
+-- two tags are equal exactly where level and lineage are, by any naming that makes levels of the lists
+abbrev pub OwnTagsTell : Type 0
+OwnTagsTell =
+    (naming : ℕ → List ℕ) (x : List (List Spotted)) → HasOwnTags x → NamesLevels naming x
+    → TagsTell naming x
+
+-- where the strings are those of some levels, one naming makes the lists those levels
+abbrev pub ShownLevelsAreNamed : Type 0
+ShownLevelsAreNamed =
+    (x : List (List L.Symbol)) (spots : List (List Spotted)) → HasOwnTags spots
+    → ShowsLevels x spots → IsNamed x spots

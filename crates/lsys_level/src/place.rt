@@ -1,7 +1,7 @@
 //! A symbol as it is kept.
-ghost use Rattle.std.specs.Prelude.{◌≡◌, ◌≢◌, ◌≤◌, ◌∷◌, [], length};
+ghost use Rattle.std.specs.Prelude.{◌≡◌, ◌≢◌, ◌≤◌, [], length};
 ghost use Rattle.lsys_module.specs.declared.symbol.Symbol.TheVariants.{Cut};
-ghost use Rattle.lsys_level.specs.Places.{params_in, place_of};
+ghost use Rattle.lsys_level.specs.Places.{params_in, place_of, bracket_place};
 
 use crate::tag::Tag;
 use lsys_module::Symbol;
@@ -57,7 +57,7 @@ impl Place {
     }
 
     fn bracket(kind: Kind, mate: usize, tag: Tag, key: u64) -> Place
-        ensures { result ≡ record { key = key; name = 43 ∷ []; link = mate; tag = tag; arity = 0; kind = kind } }
+        ensures { result ≡ bracket_place kind mate tag key }
     {
         Place {
             key,

@@ -1,8 +1,9 @@
 //! The trait that each representation of levels meets.
-ghost use Rattle.std.specs.Prelude.{◌≡◌, ℕ, List, ◌+◌, ◌<◌, length, option_map, Some, MatchOption};
-ghost use Rattle.lsys_level.specs.Spots.{Spotted, level_at, spotted_at, IsSpot, IsBracketAt, IsMate};
+ghost use Rattle.std.specs.Prelude.{◌≡◌, ℕ, List, ◌<◌, length};
+ghost use Rattle.lsys_level.specs.Spots.{Spotted, IsSpot};
 ghost use Rattle.lsys_level.specs.Tags.{HasOwnTags};
-ghost use Rattle.lsys_level.specs.Views.{seen_of, HasFewParams};
+ghost use Rattle.lsys_level.specs.Views.{HasFewParams};
+ghost use Rattle.lsys_level.specs.ViewAnswers.{IsFirstSpot, IsLeftOf, IsRightOf, HasBracket, IsMateOf, ShowsAt, IsTagAt, IsKeyAt};
 
 use crate::sight::Sight;
 use crate::tag::Tag;
@@ -23,47 +24,39 @@ pub trait LevelView {
     /// The leftmost spot of a level; none where it is empty.
     fn first(&self, level: u32) -> Option<Self::Spot>
         requires { level < length (levels self.now) }
-        ensures { let x = level_at (levels self.now) level in MatchOption result (length x ≡ 0)
-            (λ s. (level_of self.now s ≡ level) × (place_of self.now s ≡ 0) × (0 < length x)) };
+        ensures { IsFirstSpot (levels self.now) (level_of self.now) (place_of self.now) level result };
 
     /// The spot to the left; none at the left end.
     fn left(&self, spot: Self::Spot) -> Option<Self::Spot>
         requires { IsSpot (levels self.now) (level_of self.now spot) (place_of self.now spot) }
-        ensures { let t = level_of self.now spot in let p = place_of self.now spot in MatchOption result (p ≡ 0)
-            (λ s. (level_of self.now s ≡ t) × (place_of self.now s + 1 ≡ p)) };
+        ensures { IsLeftOf (level_of self.now) (place_of self.now) spot result };
 
     /// The spot to the right; none at the right end.
     fn right(&self, spot: Self::Spot) -> Option<Self::Spot>
         requires { IsSpot (levels self.now) (level_of self.now spot) (place_of self.now spot) }
-        ensures { let t = level_of self.now spot in let p = place_of self.now spot in
-            let x = level_at (levels self.now) t in MatchOption result (p + 1 ≡ length x)
-            (λ s. (level_of self.now s ≡ t) × (place_of self.now s ≡ p + 1) × (place_of self.now s < length x)) };
+        ensures { IsRightOf (levels self.now) (level_of self.now) (place_of self.now) spot result };
 
     /// The bracket that ends or begins the same branch.
     fn mate(&self, spot: Self::Spot) -> Self::Spot
         requires spot { IsSpot (levels self.now) (level_of self.now spot) (place_of self.now spot) }
-        requires bracket { IsBracketAt (level_at (levels self.now) (level_of self.now spot)) (place_of self.now spot) }
+        requires bracket { HasBracket (levels self.now) (level_of self.now spot) (place_of self.now spot) }
         ensures level { level_of self.now result ≡ level_of self.now spot }
-        ensures mate { IsMate (level_at (levels self.now) (level_of self.now spot))
-            (place_of self.now spot) (place_of self.now result) };
+        ensures mate { IsMateOf (levels self.now) (level_of self.now) (place_of self.now) spot result };
 
     /// The symbol. A module has at most eight parameters.
     fn sight(&self, spot: Self::Spot) -> Sight<'_>
         requires { IsSpot (levels self.now) (level_of self.now spot) (place_of self.now spot) }
         ensures few { HasFewParams result }
-        ensures seen { option_map (λ s. s.seen)
-            (spotted_at (levels self.now) (level_of self.now spot) (place_of self.now spot)) ≡ Some (seen_of result) };
+        ensures seen { ShowsAt (levels self.now) (level_of self.now spot) (place_of self.now spot) result };
 
     /// The symbol's tag, which no other spot has.
     fn tag(&self, spot: Self::Spot) -> Tag
         requires { IsSpot (levels self.now) (level_of self.now spot) (place_of self.now spot) }
-        ensures tag { option_map (λ s. s.tag)
-            (spotted_at (levels self.now) (level_of self.now spot) (place_of self.now spot)) ≡ Some result }
+        ensures tag { IsTagAt (levels self.now) (level_of self.now spot) (place_of self.now spot) result }
         ensures own { HasOwnTags (levels self.now) };
 
     /// The symbol's key.
     fn key(&self, spot: Self::Spot) -> u64
         requires { IsSpot (levels self.now) (level_of self.now spot) (place_of self.now spot) }
-        ensures { option_map (λ s. s.key)
-            (spotted_at (levels self.now) (level_of self.now spot) (place_of self.now spot)) ≡ Some result };
+        ensures { IsKeyAt (levels self.now) (level_of self.now spot) (place_of self.now spot) result };
 }

@@ -1,10 +1,12 @@
 -- What is asked of the module at a place of a level.
 use Rattle.std.specs.Prelude.{◌≡◌, ℕ, Bool, List, [], Option, Some, None, length, slice_get, if◌then◌else◌}
 use Rattle.lsys_spec.specs.Systems.{System}
-use Rattle.lsys_spec.specs.Bodies.{group, filter}
+use Rattle.lsys_spec.specs.Bodies.{Body, group, filter}
 use Rattle.lsys_spec.specs.Levels.{ModuleValue}
 use Rattle.lsys_spec.specs.Walks.{Told}
 use Rattle.lsys_spec.specs.Choice.{Choice}
+use Rattle.lsys_spec.specs.Equalities.{same_all, same_body}
+use Rattle.lsys_module.specs.Views.{module_name}
 use Rattle.lsys_bodies.specs.Filters.{filter_of}
 use Rattle.lsys_level.specs.Spots.{Spotted, Module}
 use Rattle.lsys_walks.specs.Views.{module_of}
@@ -20,6 +22,15 @@ pub record AskedLevel : Type 0 where
 
 abbrev pub asked_level : System → ℕ → AskedLevel
 asked_level s t = record { system = s; level = t }
+
+-- the bodies for modules with this name and so many parameters
+abbrev pub group_at : AskedLevel → List ℕ → ℕ → List Body
+group_at q name arity = group q.system q.level (module_name name) arity
+
+-- the other one has the same bodies for them, in order
+abbrev pub same_group : AskedLevel → AskedLevel → List ℕ → ℕ → Bool
+same_group other q name arity =
+    same_all same_body (group_at other name arity) (group_at q name arity)
 
 -- a module stands at place p
 pub record IsModuleAt (row : List Spotted) (p : ℕ) : Type 0 where

@@ -1,5 +1,6 @@
 -- What asking answers, by the definitions.
-use Rattle.std.specs.Prelude.{◌≡◌, ℕ, ℤ, List, length, Option, Some, None, Result, Ok, Err, slice_get}
+use Rattle.std.specs.Prelude.{◌≡◌, ℕ, ℤ, List, length, Option, Some, None, Result, Ok, Err, slice_get, option_map, IfOk}
+use Rattle.std.specs.Borrow.{Bor}
 use Rattle.std.specs.Option.{IsSomeAnd}
 use Rattle.lsys_syntax.specs.Strings as S
 use Rattle.lsys_spec.specs.Draws.{key_of}
@@ -74,6 +75,10 @@ abbrev pub IsMadeIfAny : Store → Option Kept → Type 0
 IsMadeIfAny s None = Unit {0}
 IsMadeIfAny s (Some a) = IsMade s a
 
+-- the answer that is lent, where one is
+abbrev pub kept_lent : Option (Bor Kept) → Option Kept
+kept_lent old = option_map (λ a. a.now) old
+
 -- the trace of the old answer, where its question is this one but for the trace
 abbrev pub IsTraceFor : Store → Option Kept → Posed → Option (List Noted) → Type 0
 IsTraceFor s None d None = Unit {0}
@@ -93,6 +98,12 @@ pub record IsPlaced (before after : Store) (runs : TraceRuns) (entries : List En
   pub placed : Holds after runs entries values
   pub fresh : AreFresh before runs entries values
   pub others : OtherTracesStay before after runs
+
+-- this trace is kept with these parameters, but for want of memory
+abbrev pub KeepsTrace : {E : Type 0} → Store → Store → List Entry → List ℤ → Result TraceRuns E
+    → Type 0
+KeepsTrace before after entries values r =
+    IfOk r (λ runs. IsPlaced before after runs entries values)
 
 -- This answer is kept: its runs are live, and weren't before, and all other runs stay.
 pub record IsKept (before after : Store) (meant : TagAnswer) (a : Kept) : Type 0 where

@@ -1,11 +1,12 @@
 -- What every derivation keeps true, and what an edit does to one.
-use Rattle.std.specs.Prelude.{◌≡◌, ◌↔◌, ◌+◌, ◌≤◌, ℕ, List, [], length, Result, Ok, Err, Some, Option, slice_get, slice_index_or}
+use Rattle.std.specs.Prelude.{◌≡◌, ◌↔◌, ◌+◌, ◌≤◌, ℕ, List, [], length, Result, Ok, Err, Some, Option, slice_get, slice_index_or, IfOk}
 use Rattle.lsys_spec.specs.Draws.{key_of}
 use Rattle.lsys_spec.specs.Systems.{System}
 use Rattle.lsys_spec.specs.Levels as L
 use Rattle.lsys_spec.specs.Levels.{lineage}
 use Rattle.lsys_spec.specs.Meaning.{meaning, most_entries, FaultAt, OverLimit}
-use Rattle.lsys_spec.specs.Questions.{Question, need}
+use Rattle.lsys_spec.specs.Questions.{Question, least_visits, need, questions}
+use Rattle.lsys_level.specs.declared.view.LevelView.{Ghosts as LevelViewOf}
 use Rattle.lsys_level.specs.Spots.{Spotted, spotted_at}
 use Rattle.lsys_level.specs.Tags.{HasOwnTags, ShowsLevels}
 use Rattle.lsys_rewrite.specs.Faults.{fault_of}
@@ -64,3 +65,27 @@ pub record Rises (least most before after : ℕ) : Type 0 where
 -- the most that is read for a question, before it is too far
 abbrev pub most_read : ℕ
 most_read = most_entries + 1
+
+-- 3. an edit of a derivation, whose representation tells its system, its limit and its levels
+
+-- where both systems have levels, symbols that stay keep their tags
+abbrev pub KeepsMeantTags : {D P A E : Type 0} → (D → System) → (D → ℕ) → LevelViewOf D P
+    → D → System → D → Result A E → Type 0
+KeepsMeantTags system_of limit_of W old s new r =
+    (x y : List (List L.Symbol)) → AreMeant (system_of old) s (limit_of old) x y
+    → IfOk r (λ _. KeepsTags x y (W.levels old) (W.levels new))
+
+-- it counts the questions that it asked, and those that the new system has
+abbrev pub CountsMeant : {E : Type 0} → System → System → ℕ → Result EditCount E → Type 0
+CountsMeant old new limit r =
+    (x y : List (List L.Symbol)) → AreMeant old new limit x y
+    → IfOk r (IsCount (questions old x) (questions new y))
+
+-- it reads at least the entries of the new traces, and at most those that the representation names
+abbrev pub ReadsMeant : {D A E : Type 0} → (D → System) → (D → ℕ)
+    → (System → System → List (List L.Symbol) → List (List L.Symbol) → ℕ)
+    → D → System → ℕ → ℕ → Result A E → Type 0
+ReadsMeant system_of limit_of visits old s before after r =
+    (x y : List (List L.Symbol)) → AreMeant (system_of old) s (limit_of old) x y
+    → IfOk r (λ _. Rises (least_visits (questions (system_of old) x) (questions s y))
+    (visits (system_of old) s x y) before after)

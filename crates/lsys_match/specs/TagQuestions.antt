@@ -1,5 +1,5 @@
 -- Questions and answers told by tags: a tag stands for a level and a lineage.
-use Rattle.std.specs.Prelude.{◌≡◌, ℕ, ℤ, true, List, Option, length, if◌then◌else◌, Some, None}
+use Rattle.std.specs.Prelude.{◌≡◌, ℕ, ℤ, true, List, Option, length, if◌then◌else◌, Some, None, MatchOption}
 use Rattle.lsys_syntax.specs.Strings as S
 use Rattle.lsys_spec.specs.Systems.{System}
 use Rattle.lsys_spec.specs.Bodies.{Body, group}
@@ -48,3 +48,7 @@ pub record IsSamePosed (a b : Posed) : Type 0 where
   pub own : a.own ≡ b.own
   pub bodies : same_all same_body a.bodies b.bodies ≡ true
   pub key : a.key ≡ b.key
+
+-- it is there where the same is posed, and only there
+abbrev pub IsThereIfSame : {T : Type 0} → Posed → Posed → Option T → Type 0
+IsThereIfSame a b o = MatchOption o (IsSamePosed a b → ⊥) (λ _. IsSamePosed a b)

@@ -10,7 +10,7 @@ use Rattle.lsys_module.specs.declared.symbol.Symbol.{Symbol}
 use Rattle.lsys_rewrite.specs.Faults.{fault_of}
 use Rattle.lsys_rewrite.specs.declared.refusal.FaultKind.{FaultKind}
 use Rattle.lsys_walks.specs.Noted.{Noted}
-use Rattle.lsys_walks.specs.Views.{arities, decoded}
+use Rattle.lsys_walks.specs.Views.{arities, decoded, module_of}
 use Rattle.lsys_match.specs.declared.choice.Choice.{Choice}
 use Rattle.lsys_match.specs.declared.refusal.AskRefusal.{AskRefusal}
 use Rattle.lsys_match.specs.declared.refusal.AskRefusal.TheVariants.{Fault, Memory}
@@ -18,10 +18,14 @@ use Rattle.lsys_match.specs.declared.told.OldTrace.{OldTrace}
 use Rattle.lsys_match.specs.declared.told.Told.{Told as CodeTold}
 use Rattle.lsys_match.specs.declared.told.Told.TheVariants.{Same, Other}
 use Rattle.lsys_match.specs.declared.told.Reply.{Reply}
+use Rattle.lsys_match.specs.declared.posed.Posed.{Posed as CodePosed}
+use Rattle.lsys_match.specs.Groups.{rules_of}
+use Rattle.lsys_match.specs.Sites.{Site}
+use Rattle.lsys_match.specs.Asking.{posed_by, told_for}
 use Rattle.lsys_match.specs.Choices.{choice_by}
 use Rattle.lsys_match.specs.Tries.{entries_by}
 use Rattle.lsys_match.specs.TagQuestions.{Posed, TagAnswer}
-use Rattle.lsys_match.specs.Answered.{IsAnswerTo, trace_told}
+use Rattle.lsys_match.specs.Answered.{Counts, IsAnswerTo, trace_told}
 
 -- the choice, where these are the values of the chosen rule's formals
 abbrev pub choice_at : Option ℕ → List ℤ → choice.Choice
@@ -42,13 +46,22 @@ IsSuccessor bs m chosen values (Ok symbols) = successor_by bs m (choice_at chose
 IsSuccessor bs m chosen values (Err (Fault k)) = successor_by bs m (choice_at chosen values) ≡ Err (fault_of k)
 IsSuccessor bs m chosen values (Err Memory) = Unit {0}
 
+-- the successor of what is posed, where this is chosen
+abbrev pub IsSuccessorOf : CodePosed → Option ℕ → List ℤ → Result (List Symbol) AskRefusal → Type 0
+IsSuccessorOf q chosen values r =
+    let own = module_of q.name q.params.now in IsSuccessor (rules_of q.group) own chosen values r
+
 -- these symbols, or the refusal
 abbrev pub replaced_by : List Symbol → Result Unit AskRefusal → Result (List Symbol) AskRefusal
 replaced_by symbols (Ok _) = Ok symbols
 replaced_by symbols (Err e) = Err e
 
+-- what was read, by a trace with its parameters
+abbrev pub noted_by : OldTrace → List Noted
+noted_by t = decoded t.entries.now t.values.now
+
 abbrev pub old_trace : Option OldTrace → Option (List Noted)
-old_trace o = option_map (λ t. decoded t.entries.now t.values.now) o
+old_trace o = option_map (λ t. noted_by t) o
 
 -- it is the old trace, where there is one
 abbrev pub IsBeside : Option (List Noted) → List Noted → Type 0
@@ -69,3 +82,15 @@ IsTelling told d old (Ok Same) = (was : List Noted) × (old ≡ Some was) × ((n
 IsTelling told d old (Ok (Other r)) = (old ≡ Some r.trace → ⊥) × IsAnswerTo told (answer_of d r)
 IsTelling told d old (Err (Fault k)) = (naming : ℕ → List ℕ) → successor_by d.bodies d.own (told naming).answer ≡ Err (fault_of k)
 IsTelling told d old (Err Memory) = Unit {0}
+
+-- this is told of what is posed at a site
+abbrev pub IsTellingOf : CodePosed → Site → Option OldTrace → Result CodeTold AskRefusal → Type 0
+IsTellingOf q site old r =
+    let posed = posed_by q in
+    IsTelling (λ naming. told_for naming site posed) posed (old_trace old) r
+
+-- by every naming of the tags so many entries were read as are told
+abbrev pub CountsTold : CodePosed → Site → ℕ → ℕ → Result CodeTold AskRefusal → Type 0
+CountsTold q site before after r =
+    (naming : ℕ → List ℕ)
+    → Counts (length (trace_told (told_for naming site (posed_by q)))) before after r

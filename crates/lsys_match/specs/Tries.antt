@@ -11,6 +11,9 @@ use Rattle.lsys_walks.specs.Noted.{Noted, entry_by}
 use Rattle.lsys_walks.specs.declared.walked.Walked.{Walked}
 use Rattle.lsys_walks.specs.declared.walked.Walked.TheVariants as walked
 use Rattle.lsys_walks.specs.Walked.{ReadsFront}
+use Rattle.lsys_walks.specs.Readings.{Read}
+use Rattle.lsys_bodies.specs.declared.body.Body.{Body as CodeBody}
+use Rattle.lsys_match.specs.Groups.{meant}
 use Rattle.lsys_match.specs.Sites.{Site, rule_told}
 use Rattle.lsys_match.specs.declared.outcome.Outcome.{Outcome}
 use Rattle.lsys_match.specs.declared.outcome.Outcome.TheVariants as code
@@ -43,9 +46,13 @@ entries_by naming ns = map (entry_by naming) ns
 abbrev pub tried_so_far : ℕ → List Noted → Tried
 tried_so_far place old = record { place = place; read = length old }
 
+-- the outcome of a rule whose contexts match, where these are the values of its formals
+abbrev pub judged_by : Body → List ℤ → choice.Outcome
+judged_by b values = outcome_of (judged b.condition values) values
+
 -- the outcome of a rule whose walks ended so, where these are the values of its formals
 abbrev pub decided_by : Walked → Body → List ℤ → choice.Outcome
-decided_by walked.Found b values = outcome_of (judged b.condition values) values
+decided_by walked.Found b values = judged_by b values
 decided_by walked.Missed b values = choice.No
 decided_by walked.TooFar b values = choice.Fails choice.TooFar
 
@@ -54,6 +61,11 @@ abbrev pub Tries : {E : Type 0} → Site → ℕ → Body → List Noted → Lis
 Tries s place b old new values r =
     (naming : ℕ → List ℕ) → let d = tried_so_far place old in
     IfOk r (λ o. IsTried (rule_told naming s d b) d b (entries_by naming old) (entries_by naming new) (outcome_by o values))
+
+-- the rule is tried, from one reading to the next
+abbrev pub TriesRule : {E : Type 0} → Site → ℕ → CodeBody → Read → Read → List ℤ
+    → Result Outcome E → Type 0
+TriesRule s place b old new values r = Tries s place (meant b) old.read new.read values r
 
 -- before memory was wanting a front of it was read
 abbrev pub TriesFront : {E : Type 0} → Site → ℕ → Body → List Noted → List Noted → Result Outcome E → Type 0

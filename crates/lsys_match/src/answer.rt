@@ -1,12 +1,12 @@
 //! Answers to questions.
-ghost use Rattle.std.specs.Prelude.{◌≡◌, ◌↔◌, IsTrue, IfSome, MatchOption, Some, drop};
+ghost use Rattle.std.specs.Prelude.{◌≡◌, ◌↔◌, IsTrue, IfSome, Some, drop};
 ghost use Rattle.lsys_region.specs.Pool.{list_of};
 ghost use Rattle.lsys_walks.specs.Stores.{AreLive, AreGone, OtherTracesStay};
-ghost use Rattle.lsys_walks.specs.Views.{decoded, module_of};
+ghost use Rattle.lsys_walks.specs.Views.{module_of};
 ghost use Rattle.lsys_match.specs.Asking.{posed_by};
 ghost use Rattle.lsys_match.specs.Stored.{runs_of, values_in, posed_in, trace_in, HasParams};
-ghost use Rattle.lsys_match.specs.TagQuestions.{IsSamePosed};
-ghost use Rattle.lsys_match.specs.Telling.{HasFittingParams};
+ghost use Rattle.lsys_match.specs.TagQuestions.{IsThereIfSame};
+ghost use Rattle.lsys_match.specs.Telling.{HasFittingParams, noted_by};
 
 use crate::posed::Posed;
 use crate::told::OldTrace;
@@ -109,9 +109,8 @@ impl<L: Ledger> Answer<L> {
     ) -> Option<OldTrace<'s>>
         requires live { AreLive store.now (runs_of self.now) }
         requires params { HasParams store.now self.now }
-        ensures posed { MatchOption result (IsSamePosed (posed_in store.now self.now) (posed_by posed.now) → ⊥)
-            (λ _. IsSamePosed (posed_in store.now self.now) (posed_by posed.now)) }
-        ensures trace { IfSome result (λ t. decoded t.entries.now t.values.now ≡ trace_in store.now self.now) }
+        ensures posed { IsThereIfSame (posed_in store.now self.now) (posed_by posed.now) result }
+        ensures trace { IfSome result (λ t. noted_by t ≡ trace_in store.now self.now) }
         ensures fitting { HasFittingParams result }
     {
         let (own, values) = store.values(&self.runs).split_at(self.arity as usize);

@@ -1,12 +1,11 @@
 //! Who asks about the modules of a level.
-ghost use Rattle.std.specs.Prelude.{◌≡◌, ◌<◌, length, map, IfSome};
+ghost use Rattle.std.specs.Prelude.{◌≡◌, ◌<◌, length, IfSome};
 ghost use Rattle.lsys_laws.specs.Sessions.{IsWell};
 ghost use Rattle.lsys_spec.specs.Bodies.{filter, group};
-ghost use Rattle.lsys_spec.specs.Equalities.{same_all, same_body};
 ghost use Rattle.lsys_spec.specs.Standings.{free};
 ghost use Rattle.lsys_bodies.specs.Filters.{filter_of};
 ghost use Rattle.lsys_module.specs.Views.{module_name};
-ghost use Rattle.lsys_match.specs.Asking.{asked_level};
+ghost use Rattle.lsys_match.specs.Asking.{asked_level, same_group};
 ghost use Rattle.lsys_match.specs.Groups.{rules_found, rules_of};
 
 use crate::group::Group;
@@ -78,9 +77,7 @@ impl<'a> Asker<'a> {
     /// Whether modules with this name and so many parameters have the same group on the level of another one who asks: the
     /// same bodies, in order, or none on both.
     pub fn has_group_of(&self, other: &Asker<'_>, name: Name, arity: usize) -> bool
-        ensures { let theirs = group other.now.system other.now.level (module_name name) arity in
-            let ours = group self.now.system self.now.level (module_name name) arity in
-            result ≡ same_all same_body theirs ours }
+        ensures { result ≡ same_group other.now self.now name arity }
     {
         let Some(theirs) = other.group(name, arity) else {
             return self.group(name, arity).is_none();

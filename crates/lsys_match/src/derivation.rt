@@ -1,9 +1,8 @@
 //! What each representation of a derivation meets.
 ghost use Rattle.std.specs.Prelude.{◌≡◌, ◌+◌, ◌*◌, ◌≤◌, ℕ, List, IfOk, OnErr, length, sum_by};
 ghost use Rattle.lsys_spec.specs.Levels as levels;
-ghost use Rattle.lsys_spec.specs.Questions.{least_visits, questions};
 ghost use Rattle.lsys_spec.specs.Systems as spec;
-ghost use Rattle.lsys_match.specs.Derivations.{AreMeant, IsCount, IsDerived, IsOutcome, KeepsTags, Rises, most_read};
+ghost use Rattle.lsys_match.specs.Derivations.{IsDerived, IsOutcome, Rises, most_read, CountsMeant, KeepsMeantTags, ReadsMeant};
 
 use crate::steps::Steps;
 use lsys_level::LevelView;
@@ -61,14 +60,10 @@ pub trait Derivation<L: Ledger>: LevelView + Sized {
         ensures outcome { IsOutcome system (limit_of self.old) (Self.levels self.new) result }
         ensures system { IfOk result (λ _. system_of self.new ≡ system) }
         ensures limit { limit_of self.new ≡ limit_of self.old }
-        ensures tags { (x y : List (List levels.Symbol)) → AreMeant (system_of self.old) system (limit_of self.old) x y
-            → IfOk result (λ _. KeepsTags x y (Self.levels self.old) (Self.levels self.new)) }
-        ensures counted { (x y : List (List levels.Symbol)) → AreMeant (system_of self.old) system (limit_of self.old) x y
-            → IfOk result (IsCount (questions (system_of self.old) x) (questions system y)) }
+        ensures tags { KeepsMeantTags system_of limit_of Self.LevelView self.old system self.new result }
+        ensures counted { CountsMeant (system_of self.old) system (limit_of self.old) result }
         ensures asked { IfOk result (λ count. asked.new ≡ asked.old + count.asked) }
-        ensures read { (x y : List (List levels.Symbol)) → AreMeant (system_of self.old) system (limit_of self.old) x y
-            → IfOk result (λ _. Rises (least_visits (questions (system_of self.old) x) (questions system y))
-            (visits (system_of self.old) system x y) visited.old visited.new) }
+        ensures read { ReadsMeant system_of limit_of visits self.old system visited.old visited.new result }
         ensures refused { OnErr result (self.new ≡ self.old) }
         ensures few_asked { OnErr result (Rises 0 (limit_of self.old) asked.old asked.new) }
         ensures few_read { OnErr result (Rises 0 (most_read * limit_of self.old) visited.old visited.new) };

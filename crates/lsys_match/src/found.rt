@@ -1,9 +1,8 @@
 //! The rules of a group with weights that apply.
-ghost use Rattle.std.specs.Prelude.{◌≡◌, ◌++◌, ◌∷◌, [], IfOk, OnErr, Ok, map};
-ghost use Rattle.lsys_spec.specs.Choice.{found_with, not_negative, picked, weighed, weights, within_total};
-ghost use Rattle.lsys_match.specs.Choices.{applying, applying_of, choice_by, found_or, weight_by};
+ghost use Rattle.std.specs.Prelude.{◌≡◌, [], IfOk, OnErr, Ok, map};
+ghost use Rattle.lsys_spec.specs.Choice.{not_negative, picked, weighed, weights};
+ghost use Rattle.lsys_match.specs.Choices.{applying, applying_of, choice_by, weight_by, AddsWithinTotal, ConsidersRule};
 ghost use Rattle.lsys_match.specs.Groups.{meant};
-ghost use Rattle.lsys_match.specs.Tries.{outcome_by};
 
 use crate::choice::Choice;
 use crate::outcome::Outcome;
@@ -66,7 +65,7 @@ impl Found {
         outcome: Outcome,
         bound: &[i64],
     ) -> Result<Option<FaultKind>, AllocError>
-        ensures found { IfOk result (λ k. found_with self.old place (meant body.now) (outcome_by outcome bound.now) ≡ found_or self.new k) }
+        ensures found { ConsidersRule self.old place body.now outcome bound.now self.new result }
         ensures refused { OnErr result (outcome ≡ Outcome.Yes) }
     {
         match outcome {
@@ -86,7 +85,7 @@ impl Found {
         weight: u64,
         bound: &[i64],
     ) -> Result<Option<FaultKind>, AllocError>
-        ensures { IfOk result (λ k. within_total (self.old ++ applying place bound.now weight ∷ []) ≡ found_or self.new k) }
+        ensures { AddsWithinTotal self.old (applying place bound.now weight) self.new result }
     {
         if weight > GREATEST_WEIGHT - self.total {
             return Ok(Some(FaultKind::WeightTotal));

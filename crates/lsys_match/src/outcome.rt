@@ -1,9 +1,7 @@
 //! What trying a rule answers.
 ghost use Rattle.std.specs.Prelude.{◌≡◌};
-ghost use Rattle.lsys_spec.specs.Choice.{outcome_of};
-ghost use Rattle.lsys_spec.specs.Values.{judged};
 ghost use Rattle.lsys_bodies.specs.Views.{body_value};
-ghost use Rattle.lsys_match.specs.Tries.{outcome_by};
+ghost use Rattle.lsys_match.specs.Tries.{outcome_by, judged_by};
 
 use lsys_bodies::Body;
 use lsys_expr::holds;
@@ -22,7 +20,7 @@ pub(crate) enum Outcome {
 
 // Of a rule whose contexts match, with these values of its formals.
 pub(crate) fn judge(body: &Body, bound: &[i64]) -> Outcome
-    ensures { outcome_by result bound.now ≡ outcome_of (judged (body_value body.now).condition bound.now) bound.now }
+    ensures { outcome_by result bound.now ≡ judged_by (body_value body.now) bound.now }
 {
     let Some(condition) = &body.condition else {
         return Outcome::Yes;

@@ -1,14 +1,14 @@
 //! What is asked of a module, but for what is read.
-ghost use Rattle.std.specs.Prelude.{◌≡◌, ◌≤◌, length, option_map, IfNone, IfSome};
+ghost use Rattle.std.specs.Prelude.{◌≡◌, ◌≤◌, length, IfNone, IfSome};
 ghost use Rattle.lsys_laws.specs.Sessions.{IsWell};
 ghost use Rattle.lsys_spec.specs.Bodies.{filter};
 ghost use Rattle.lsys_spec.specs.Meaning.{any_weight};
 ghost use Rattle.lsys_bodies.specs.Filters.{filter_of};
-ghost use Rattle.lsys_level.specs.Spots.{IsSpot, level_at, spotted_at};
-ghost use Rattle.lsys_walks.specs.Views.{module_of};
+ghost use Rattle.lsys_level.specs.Spots.{IsSpot};
 ghost use Rattle.lsys_match.specs.Groups.{rules_of};
-ghost use Rattle.lsys_match.specs.Asking.{HasQuestion, IsPosedAt, key_if, posed_by};
-ghost use Rattle.lsys_match.specs.Telling.{IsSuccessor, replaced_by};
+ghost use Rattle.lsys_match.specs.Asking.{key_if, posed_by};
+ghost use Rattle.lsys_match.specs.Telling.{replaced_by, IsSuccessorOf};
+ghost use Rattle.lsys_match.specs.AskedSpots.{HasQuestionAt, IsPosedOf, key_at};
 
 use crate::asker::Asker;
 use crate::group::Group;
@@ -39,15 +39,9 @@ impl<'a> Posed<'a> {
         asker: &Asker<'a>,
     ) -> Option<Posed<'a>>
         requires spot { IsSpot (W.levels view.now) (W.level_of view.now spot) (W.place_of view.now spot) }
-        ensures none { let x = level_at (W.levels view.now) (W.level_of view.now spot) in
-            IfNone result (HasQuestion asker.now.system asker.now.level x
-            (W.place_of view.now spot) → ⊥) }
-        ensures some { let x = level_at (W.levels view.now) (W.level_of view.now spot) in
-            IfSome result (λ q. HasQuestion asker.now.system asker.now.level x
-            (W.place_of view.now spot)) }
-        ensures posed { let x = level_at (W.levels view.now) (W.level_of view.now spot) in
-            IfSome result (λ q. IsPosedAt asker.now.system asker.now.level x
-            (W.place_of view.now spot) (posed_by q)) }
+        ensures none { IfNone result (HasQuestionAt asker.now W.LevelView view.now spot → ⊥) }
+        ensures some { IfSome result (λ _. HasQuestionAt asker.now W.LevelView view.now spot) }
+        ensures posed { IfSome result (λ q. IsPosedOf asker.now W.LevelView view.now spot (posed_by q)) }
         ensures filter { IfSome result
             (λ q. filter_of q.filter ≡ filter asker.now.system asker.now.level) }
         ensures well { IfSome result (λ _. IsWell asker.now.system) }
@@ -77,8 +71,7 @@ impl<'a> Posed<'a> {
         bound: &[i64],
     ) -> Result<SymbolList, AskRefusal>
         requires { length self.now.params.now ≤ 8 }
-        ensures { let own = module_of self.now.name self.now.params.now in
-            IsSuccessor (rules_of self.now.group) own chosen bound.now result }
+        ensures { IsSuccessorOf self.now chosen bound.now result }
     {
         self.replace(symbols, chosen, bound)?;
         Ok(symbols.clone()?)
@@ -92,9 +85,7 @@ impl<'a> Posed<'a> {
         bound: &[i64],
     ) -> Result<(), AskRefusal>
         requires { length self.now.params.now ≤ 8 }
-        ensures { let own = module_of self.now.name self.now.params.now in
-            IsSuccessor (rules_of self.now.group) own chosen bound.now
-            (replaced_by symbols.new result) }
+        ensures { IsSuccessorOf self.now chosen bound.now (replaced_by symbols.new result) }
     {
         symbols.truncate(0);
         let Some(place) = chosen else {
@@ -115,9 +106,7 @@ impl<'a> Posed<'a> {
 // The key of the module at a spot, where its group has weights.
 fn key_for<W: LevelView>(view: &W, spot: W::Spot, group: &Group<'_>) -> Option<u64>
     requires { IsSpot (W.levels view.now) (W.level_of view.now spot) (W.place_of view.now spot) }
-    ensures { let here = spotted_at (W.levels view.now) (W.level_of view.now spot)
-        (W.place_of view.now spot) in
-        result ≡ key_if (any_weight (rules_of group.now)) (option_map (λ s. s.key) here) }
+    ensures { result ≡ key_if (any_weight (rules_of group.now)) (key_at W.LevelView view.now spot) }
 {
     if group.is_weighted() {
         Some(view.key(spot))

@@ -1,15 +1,14 @@
 //! Questions.
-ghost use Rattle.std.specs.Prelude.{◌≡◌, ◌+◌, ◌++◌, ◌≤◌, ℕ, List, length, option_map, IfNone, IfOk, IfSome, MatchOption, OnErr};
+ghost use Rattle.std.specs.Prelude.{◌≡◌, ◌+◌, ◌++◌, ◌≤◌, length, option_map, IfNone, IfOk, IfSome, OnErr};
 ghost use Rattle.lsys_laws.specs.Sessions.{IsWell};
 ghost use Rattle.lsys_spec.specs.Bodies.{filter};
-ghost use Rattle.lsys_spec.specs.Levels.{ModuleValue};
 ghost use Rattle.lsys_spec.specs.Meaning.{most_entries};
 ghost use Rattle.lsys_bodies.specs.Filters.{filter_of};
-ghost use Rattle.lsys_level.specs.Spots.{IsSpot, level_at, level_by};
-ghost use Rattle.lsys_match.specs.Answered.{Counts};
-ghost use Rattle.lsys_match.specs.Asking.{HasQuestion, IsPosedAt, posed_by};
-ghost use Rattle.lsys_match.specs.Asks.{IsAnswered, IsKept, IsMadeIfAny, IsNamedAt, IsPlaced, IsTraceFor, KeepsStore, StaysAsKept, asked_if_any, by_definition, news};
+ghost use Rattle.lsys_level.specs.Spots.{IsSpot};
+ghost use Rattle.lsys_match.specs.Asking.{asked_level, posed_by};
+ghost use Rattle.lsys_match.specs.Asks.{IsKept, IsMadeIfAny, IsTraceFor, KeepsStore, StaysAsKept, asked_if_any, news, KeepsTrace, kept_lent};
 ghost use Rattle.lsys_match.specs.Telling.{HasFittingParams, answer_of, old_trace};
+ghost use Rattle.lsys_match.specs.AskedSpots.{AnswersAt, Scans, AnswersTo, CountsNews, IsAskedAt, IsPosedOf, KeepsStoreIfAny, MayAnswer, MayScan, ScansFor};
 
 use crate::answer::Answer;
 use crate::asked::Asked;
@@ -54,16 +53,10 @@ pub fn ask<'a, W: LevelView, L: Ledger, V: Ledger>(
 ) -> Result<Asked<L>, AskRefusal>
     requires spot { IsSpot (W.levels view.now) (W.level_of view.now spot) (W.place_of view.now spot) }
     requires level { W.level_of view.now spot ≡ level }
-    requires module { HasQuestion system.now level (level_at (W.levels view.now) level) (W.place_of view.now spot) }
+    requires module { IsAskedAt (asked_level system.now level) W.LevelView view.now spot }
     requires made { IsMadeIfAny store.old (option_map (λ a. a.now) old) }
-    ensures answered { let x = level_at (W.levels view.now) level in let p = W.place_of view.now spot in
-        (naming : ℕ → List ℕ) (tag : ℕ) (m : ModuleValue) → IsNamedAt naming system.now.seed x p tag m
-        → IsAnswered naming (by_definition system.now level (level_by naming x) p (naming tag) m)
-        store.new (option_map (λ a. a.now) old.entry) result }
-    ensures visited { let x = level_at (W.levels view.now) level in let p = W.place_of view.now spot in
-        (naming : ℕ → List ℕ) (tag : ℕ) (m : ModuleValue) → IsNamedAt naming system.now.seed x p tag m
-        → Counts (length (by_definition system.now level (level_by naming x) p (naming tag) m).question.trace)
-        visited.old visited.new result }
+    ensures answered { AnswersAt system.now level W.LevelView view.now spot store.new old.entry result }
+    ensures visited { Scans system.now level W.LevelView view.now spot visited.old visited.new result }
     ensures asked { asked.new ≡ asked.old + news result }
     ensures store { KeepsStore store.old store.new (option_map (λ a. a.now) old.entry) result }
 {
@@ -97,32 +90,13 @@ impl<'a> Asker<'a> {
         requires level { W.level_of view.now spot ≡ self.old.level }
         requires made { IsMadeIfAny store.old (option_map (λ a. a.now) old) }
         ensures same { self.new ≡ self.old }
-        ensures none { let x = level_at (W.levels view.now) self.old.level in
-            IfNone (asked_if_any result) (HasQuestion self.old.system self.old.level x
-            (W.place_of view.now spot) → ⊥) }
-        ensures some { let x = level_at (W.levels view.now) self.old.level in
-            IfSome (asked_if_any result) (λ _. HasQuestion self.old.system self.old.level x
-            (W.place_of view.now spot)) }
-        ensures answered { let x = level_at (W.levels view.now) self.old.level in
-            let p = W.place_of view.now spot in
-            (naming : ℕ → List ℕ) (tag : ℕ) (m : ModuleValue)
-            → IsNamedAt naming self.old.system.seed x p tag m
-            → IfSome (asked_if_any result) (IsAnswered naming
-            (by_definition self.old.system self.old.level (level_by naming x) p (naming tag) m)
-            store.new (option_map (λ a. a.now) old.entry)) }
-        ensures visited { let x = level_at (W.levels view.now) self.old.level in
-            let p = W.place_of view.now spot in
-            (naming : ℕ → List ℕ) (tag : ℕ) (m : ModuleValue)
-            → IsNamedAt naming self.old.system.seed x p tag m
-            → IfSome (asked_if_any result) (Counts (length
-            (by_definition self.old.system self.old.level (level_by naming x) p
-            (naming tag) m).question.trace)
-            visited.old visited.new) }
+        ensures none { IfNone (asked_if_any result) (IsAskedAt self.old W.LevelView view.now spot → ⊥) }
+        ensures some { IfSome (asked_if_any result) (λ _. IsAskedAt self.old W.LevelView view.now spot) }
+        ensures answered { MayAnswer self.old W.LevelView view.now spot store.new old.entry result }
+        ensures visited { MayScan self.old W.LevelView view.now spot visited.old visited.new result }
         ensures unread { IfNone (asked_if_any result) (visited.new ≡ visited.old) }
-        ensures asked { MatchOption (asked_if_any result) (asked.new ≡ asked.old)
-            (λ r. asked.new ≡ asked.old + news r) }
-        ensures store { MatchOption (asked_if_any result) (store.new ≡ store.old)
-            (KeepsStore store.old store.new (option_map (λ a. a.now) old.entry)) }
+        ensures asked { CountsNews asked.old asked.new result }
+        ensures store { KeepsStoreIfAny store.old store.new old.entry result }
     {
         let Some(posed) = Posed::at(view, spot, self) else {
             return Ok(None);
@@ -149,28 +123,13 @@ impl<'a> Asker<'a> {
             (W.place_of view.now spot) }
         requires level { W.level_of view.now spot ≡ self.old.level }
         requires made { IsMadeIfAny store.old (option_map (λ a. a.now) old) }
-        requires posed { let x = level_at (W.levels view.now) (W.level_of view.now spot) in
-            IsPosedAt self.old.system self.old.level x (W.place_of view.now spot)
-            (posed_by posed.now) }
+        requires posed { IsPosedOf self.old W.LevelView view.now spot (posed_by posed.now) }
         requires filter { filter_of posed.now.filter ≡ filter self.old.system self.old.level }
         requires well { IsWell self.old.system }
         requires few { length posed.now.params.now ≤ 8 }
         ensures same { self.new ≡ self.old }
-        ensures answered { let x = level_at (W.levels view.now) self.old.level in
-            let p = W.place_of view.now spot in
-            (naming : ℕ → List ℕ) (tag : ℕ) (m : ModuleValue)
-            → IsNamedAt naming self.old.system.seed x p tag m
-            → IsAnswered naming (by_definition self.old.system self.old.level
-            (level_by naming x) p (naming tag) m)
-            store.new (option_map (λ a. a.now) old.entry) result }
-        ensures visited { let x = level_at (W.levels view.now) self.old.level in
-            let p = W.place_of view.now spot in
-            (naming : ℕ → List ℕ) (tag : ℕ) (m : ModuleValue)
-            → IsNamedAt naming self.old.system.seed x p tag m
-            → Counts (length
-            (by_definition self.old.system self.old.level (level_by naming x) p
-            (naming tag) m).question.trace)
-            visited.old visited.new result }
+        ensures answered { AnswersTo self.old W.LevelView view.now spot store.new old.entry result }
+        ensures visited { ScansFor self.old W.LevelView view.now spot visited.old visited.new result }
         ensures asked { asked.new ≡ asked.old + news result }
         ensures store { KeepsStore store.old store.new (option_map (λ a. a.now) old.entry) result }
     {
@@ -193,7 +152,7 @@ fn trace_for<'s, L: Ledger>(
     posed: &Posed<'_>,
 ) -> Option<OldTrace<'s>>
     requires { IsMadeIfAny store.now (option_map (λ a. a.now) old) }
-    ensures trace { IsTraceFor store.now (option_map (λ a. a.now) old.entry) (posed_by posed.now) (old_trace result) }
+    ensures trace { IsTraceFor store.now (kept_lent old.entry) (posed_by posed.now) (old_trace result) }
     ensures fitting { HasFittingParams result }
 {
     match old {
@@ -211,7 +170,7 @@ fn keep<L: Ledger>(
 ) -> Result<Answer<L>, AllocError>
     requires few { length posed.now.params.now ≤ 8 }
     requires entries { length reply.trace ≤ most_entries + 1 }
-    ensures kept { IfOk result (λ a. IsKept store.old store.new (answer_of (posed_by posed.now) reply) a) }
+    ensures kept { IfOk result (IsKept store.old store.new (answer_of (posed_by posed.now) reply)) }
     ensures refused { OnErr result (StaysAsKept store.old store.new) }
 {
     let group = posed.group.share()?;
@@ -239,8 +198,7 @@ fn place(
     own: &[i64],
     read: &[i64],
 ) -> Result<TraceRuns, AllocError>
-    ensures placed { IfOk result (λ r. IsPlaced store.old store.new r entries.now
-        (own.now ++ read.now)) }
+    ensures placed { KeepsTrace store.old store.new entries.now (own.now ++ read.now) result }
     ensures refused { OnErr result (StaysAsKept store.old store.new) }
 {
     if read.is_empty() {
@@ -261,7 +219,7 @@ fn place_list(
     entries: &[Entry],
     values: &[i64],
 ) -> Result<TraceRuns, AllocError>
-    ensures placed { IfOk result (λ r. IsPlaced store.old store.new r entries.now values.now) }
+    ensures placed { KeepsTrace store.old store.new entries.now values.now result }
     ensures refused { OnErr result (StaysAsKept store.old store.new) }
 {
     store.reserve(room(entries.len()), room(values.len()))?;

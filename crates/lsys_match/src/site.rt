@@ -5,11 +5,9 @@ ghost use Rattle.lsys_level.specs.Spots.{IsSpot, level_at};
 ghost use Rattle.lsys_walks.specs.Views.{module_of};
 ghost use Rattle.lsys_spec.specs.Meaning.{most_entries};
 ghost use Rattle.lsys_bodies.specs.Views.{body_value};
-ghost use Rattle.lsys_spec.specs.Choice.{none_tried};
-ghost use Rattle.lsys_match.specs.Groups.{meant, rules_of};
-ghost use Rattle.lsys_match.specs.Sites.{first_told, all_told, choice_told};
-ghost use Rattle.lsys_match.specs.Choices.{Chooses, ChoosesFront, Finds, FindsFront};
-ghost use Rattle.lsys_match.specs.Tries.{Tries, TriesFront, decided_by, outcome_by};
+ghost use Rattle.lsys_match.specs.Groups.{meant};
+ghost use Rattle.lsys_match.specs.Choices.{ChoosesByKey, ChoosesFirst, ChoosesFirstFront, ChoosesFrontByKey, FindsAll, FindsAllFront};
+ghost use Rattle.lsys_match.specs.Tries.{TriesFront, decided_by, outcome_by, TriesRule};
 
 use crate::choice::Choice;
 use crate::found::Found;
@@ -86,7 +84,7 @@ impl<'a, W: LevelView> Site<'a, W> {
         visited: &mut Counter<V>,
     ) -> Result<Outcome, AllocError>
         requires room { length trace.old.read ≤ most_entries }
-        ensures tried { Tries self.now place (meant body.now) trace.old.read trace.new.read bound.new.items result }
+        ensures tried { TriesRule self.now place body.now trace.old trace.new bound.new.items result }
         ensures refused { TriesFront self.now place (meant body.now) trace.old.read trace.new.read result }
         ensures few { OnErr result (length trace.new.read ≤ most_entries) }
         ensures same { trace.new.old ≡ trace.old.old }
@@ -116,8 +114,8 @@ impl<'a, W: LevelView> Site<'a, W> {
         visited: &mut Counter<V>,
     ) -> Result<Choice, AllocError>
         requires unread { trace.old.read ≡ [] }
-        ensures chosen { Chooses (λ naming. first_told naming self.now none_tried (rules_of group.now)) trace.new.read bound.new.items result }
-        ensures refused { ChoosesFront (λ naming. first_told naming self.now none_tried (rules_of group.now)) trace.new.read result }
+        ensures chosen { ChoosesFirst self.now group.now trace.new.read bound.new.items result }
+        ensures refused { ChoosesFirstFront self.now group.now trace.new.read result }
         ensures few { OnErr result (length trace.new.read ≤ most_entries) }
         ensures same { trace.new.old ≡ trace.old.old }
         ensures counted { visited.new ≡ visited.old + length trace.new.read }
@@ -145,8 +143,8 @@ impl<'a, W: LevelView> Site<'a, W> {
     ) -> Result<Option<FaultKind>, AllocError>
         requires unread { trace.old.read ≡ [] }
         requires none { found.old ≡ [] }
-        ensures found { Finds (λ naming. all_told naming self.now none_tried (Ok []) (rules_of group.now)) trace.new.read found.new result }
-        ensures refused { FindsFront (λ naming. all_told naming self.now none_tried (Ok []) (rules_of group.now)) trace.new.read result }
+        ensures found { FindsAll self.now group.now trace.new.read found.new result }
+        ensures refused { FindsAllFront self.now group.now trace.new.read result }
         ensures few { OnErr result (length trace.new.read ≤ most_entries) }
         ensures whole { IfOk result (λ k. k ≡ None → length trace.new.read ≤ most_entries) }
         ensures same { trace.new.old ≡ trace.old.old }
@@ -176,8 +174,8 @@ impl<'a, W: LevelView> Site<'a, W> {
         visited: &mut Counter<V>,
     ) -> Result<Choice, AllocError>
         requires unread { trace.old.read ≡ [] }
-        ensures chosen { Chooses (λ naming. choice_told naming self.now (Some key) (rules_of group.now)) trace.new.read bound.new.items result }
-        ensures refused { ChoosesFront (λ naming. choice_told naming self.now (Some key) (rules_of group.now)) trace.new.read result }
+        ensures chosen { ChoosesByKey self.now (Some key) group.now trace.new.read bound.new.items result }
+        ensures refused { ChoosesFrontByKey self.now (Some key) group.now trace.new.read result }
         ensures few { OnErr result (length trace.new.read ≤ most_entries) }
         ensures same { trace.new.old ≡ trace.old.old }
         ensures counted { visited.new ≡ visited.old + length trace.new.read }
@@ -201,8 +199,8 @@ impl<'a, W: LevelView> Site<'a, W> {
         visited: &mut Counter<V>,
     ) -> Result<Choice, AllocError>
         requires unread { trace.old.read ≡ [] }
-        ensures chosen { Chooses (λ naming. choice_told naming self.now key (rules_of group.now)) trace.new.read bound.new.items result }
-        ensures refused { ChoosesFront (λ naming. choice_told naming self.now key (rules_of group.now)) trace.new.read result }
+        ensures chosen { ChoosesByKey self.now key group.now trace.new.read bound.new.items result }
+        ensures refused { ChoosesFrontByKey self.now key group.now trace.new.read result }
         ensures few { OnErr result (length trace.new.read ≤ most_entries) }
         ensures same { trace.new.old ≡ trace.old.old }
         ensures counted { visited.new ≡ visited.old + length trace.new.read }

@@ -1,9 +1,9 @@
 //! What is read and chosen for a question.
-ghost use Rattle.std.specs.Prelude.{◌≡◌, ◌↔◌, ◌≤◌, ℕ, List, [], length, IsTrue, Some};
-ghost use Rattle.lsys_level.specs.Spots.{IsSpot, level_at};
-ghost use Rattle.lsys_match.specs.Asking.{posed_by, site_of, told_for};
-ghost use Rattle.lsys_match.specs.Answered.{Counts, trace_told};
-ghost use Rattle.lsys_match.specs.Telling.{HasFittingParams, IsBeside, IsPlaceOf, IsTelling, old_trace};
+ghost use Rattle.std.specs.Prelude.{◌≡◌, ◌↔◌, ◌≤◌, [], length, IsTrue, Some};
+ghost use Rattle.lsys_level.specs.Spots.{IsSpot};
+ghost use Rattle.lsys_match.specs.Asking.{posed_by};
+ghost use Rattle.lsys_match.specs.Telling.{HasFittingParams, IsBeside, IsPlaceOf, old_trace, CountsTold, IsTellingOf};
+ghost use Rattle.lsys_match.specs.AskedSpots.{CountsToldAt, IsTellingAt};
 
 use crate::choice::Choice;
 use crate::posed::Posed;
@@ -55,14 +55,8 @@ impl<'a> Posed<'a> {
         requires spot { IsSpot (W.levels view.now) (W.level_of view.now spot) (W.place_of view.now spot) }
         requires few { length self.now.params.now ≤ 8 }
         requires old { HasFittingParams old }
-        ensures told { let x = level_at (W.levels view.now) (W.level_of view.now spot) in
-            let site = site_of self.now x (W.place_of view.now spot) in
-            let posed = posed_by self.now in
-            IsTelling (λ naming. told_for naming site posed) posed (old_trace old.entry) result }
-        ensures visited { let x = level_at (W.levels view.now) (W.level_of view.now spot) in
-            let site = site_of self.now x (W.place_of view.now spot) in
-            (naming : ℕ → List ℕ)
-            → Counts (length (trace_told (told_for naming site (posed_by self.now)))) visited.old visited.new result }
+        ensures told { IsTellingAt self.now W.LevelView view.now spot old.entry result }
+        ensures visited { CountsToldAt self.now W.LevelView view.now spot visited.old visited.new result }
     {
         let site = Site::new(view, spot, self.name, self.params, self.filter);
         self.tell(alloc, &site, old, scratch, visited)
@@ -80,10 +74,8 @@ impl<'a> Posed<'a> {
         requires site { site.now.own ≡ (posed_by self.now).own }
         requires few { length self.now.params.now ≤ 8 }
         requires old { HasFittingParams old }
-        ensures told { let posed = posed_by self.now in
-            IsTelling (λ naming. told_for naming site.now posed) posed (old_trace old.entry) result }
-        ensures visited { (naming : ℕ → List ℕ)
-            → Counts (length (trace_told (told_for naming site.now (posed_by self.now)))) visited.old visited.new result }
+        ensures told { IsTellingOf self.now site.now old.entry result }
+        ensures visited { CountsTold self.now site.now visited.old visited.new result }
     {
         let mut trace = beside(old, alloc);
         let choice = site.choose(

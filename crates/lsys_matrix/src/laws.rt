@@ -1,11 +1,7 @@
 //! The law of turns.
-ghost use Rattle.std.specs.Prelude.{◌≡◌, ◌<◌, ◌+◌, ◌*◌, ℕ};
-ghost use Rattle.lsys_matrix.specs.Sums.{row_by, run, repeated};
+ghost use Rattle.lsys_matrix.specs.Turns.{WholeTurnsArePowers};
 
 /// Where the matrices come round again after n steps, whole turns are powers of the matrix of one turn.
 pub fn law_of_turns()
-    ensures { (k n : ℕ) (a : ℕ → ℕ → ℕ → ℕ) (b : ℕ → ℕ → ℕ)
-        → ((t i j : ℕ) → a (t + n) i j ≡ a t i j)
-        → ((v : ℕ → ℕ) (j : ℕ) → row_by k v b j ≡ run k a 0 n v j)
-        → (q : ℕ) (v : ℕ → ℕ) (j : ℕ) → j < k → run k a 0 (n * q) v j ≡ repeated k b q v j }
+    ensures { WholeTurnsArePowers }
 {}

@@ -10,6 +10,7 @@ use Rattle.lsys_syntax.specs.Checks.{axiom_many}
 use Rattle.lsys_spec.specs.Edits.{values_of}
 use Rattle.lsys_text.specs.declared.token_kind.Token.{Token}
 use Rattle.lsys_text.specs.Tokens.{IsWithin, kind_of}
+use Rattle.lsys_module.specs.declared.symbol.Module.{Module as CodeModule}
 use Rattle.lsys_module.specs.declared.symbol.Symbol.{Symbol as CodeSymbol}
 use Rattle.lsys_module.specs.declared.refusal.StringRefusal.{StringRefusal}
 use Rattle.lsys_module.specs.declared.refusal.StringRefusal.TheVariants.{TooMany, Memory}
@@ -120,6 +121,16 @@ part_of (parts.Named name) ys = named ys (module_name name)
 part_of (parts.NumberDue m) ys = number_due ys (module_name m.name) m.params
 part_of (parts.MinusRead m) ys = minus_read ys (module_name m.name) m.params
 part_of (parts.NumberRead m) ys = number_read ys (module_name m.name) m.params
+
+-- the last module goes on so with a token, where a number or a sign was due
+abbrev pub IsPartBehindDue : CodeModule → Glyph → Part → Type 0
+IsPartBehindDue m g part =
+    (ys : List (Symbol ℤ)) → due_step ys (module_name m.name) m.params g ≡ Some (part_of part ys)
+
+-- the last module goes on so with a token behind a sign
+abbrev pub IsPartBehindMinus : CodeModule → Glyph → Part → Type 0
+IsPartBehindMinus m g part =
+    (ys : List (Symbol ℤ)) → minus_step ys (module_name m.name) m.params g ≡ Some (part_of part ys)
 
 -- what was read, as the code keeps it
 abbrev pub draft_of : Builder → Draft

@@ -5,7 +5,7 @@ use Rattle.lsys_text.specs.declared.token_kind.Token.{Token}
 use Rattle.lsys_text.specs.declared.refusals.PlaceRefusal.{PlaceRefusal}
 use Rattle.lsys_text.specs.declared.refusals.PlaceRefusal.TheVariants as refusals
 use Rattle.lsys_text.specs.Tokens.{kinds_of}
-use Rattle.lsys_laws.specs.StringPlaces.{BeginsString}
+use Rattle.lsys_laws.specs.StringPlaces.{BeginsString, IsString}
 
 -- the place of the token that is refused
 abbrev pub refused_place : PlaceRefusal → ℕ
@@ -15,6 +15,10 @@ refused_place (refusals.Deep place) = place
 -- the tokens from a place on
 abbrev pub kinds_from : ℕ → List Token → List Kind
 kinds_from from tokens = drop from (kinds_of tokens)
+
+-- those are a string
+abbrev pub IsStringFrom : ℕ → List Token → Type 0
+IsStringFrom from tokens = IsString (kinds_from from tokens)
 
 -- the tokens from a place on up to another
 abbrev pub kinds_between : ℕ → ℕ → List Token → List Kind

@@ -1,12 +1,11 @@
 //! Strings from tokens.
-ghost use Rattle.std.specs.Prelude.{◌≡◌, ◌<◌, ◌≤◌, ◌+◌, ◌^◌, ℤ, List, [], ◌∷◌, ◌++◌, length, IsSome, IsTrue, OnOk, IfOk};
-ghost use Rattle.lsys_syntax.specs.Strings as S;
+ghost use Rattle.std.specs.Prelude.{◌≡◌, ◌<◌, ◌≤◌, ◌+◌, ◌^◌, [], ◌∷◌, ◌++◌, length, IsSome, IsTrue, OnOk, IfOk};
 ghost use Rattle.lsys_syntax.specs.Strings.{negative};
 ghost use Rattle.lsys_syntax.specs.Sentences.{IsToken, AreTokens};
 ghost use Rattle.lsys_text.specs.Tokens.{kind_of, kinds_of};
-ghost use Rattle.lsys_module.specs.Views.{module_name, symbol_of, string_of};
+ghost use Rattle.lsys_module.specs.Views.{module_name, string_of};
 ghost use Rattle.lsys_module.specs.Scanning.{string_verdict, IsString, glyph_of};
-ghost use Rattle.lsys_module.specs.Building.{AreOfLine, IsBuilt, CanTake, IsTaken, draft_of, draft_end, whole, due_step, minus_step, part_of, is_name, kind_name};
+ghost use Rattle.lsys_module.specs.Building.{AreOfLine, IsBuilt, CanTake, IsTaken, draft_of, draft_end, due_step, minus_step, is_name, kind_name, IsPartBehindDue, IsPartBehindMinus};
 
 use crate::glyph::Glyph;
 use crate::params::Params;
@@ -196,7 +195,7 @@ fn bare(name: Name) -> Module
 fn behind_due(last: Module, glyph: Glyph) -> Part
     requires few { length last.params < 8 }
     requires goes_on { IsSome (due_step [] (module_name last.name) last.params glyph) }
-    ensures { (ys : List (S.Symbol ℤ)) → due_step ys (module_name last.name) last.params glyph ≡ Some (part_of result ys) }
+    ensures { IsPartBehindDue last glyph result }
 {
     match glyph {
         Glyph::Number(number) => Part::NumberRead(Module {
@@ -211,7 +210,7 @@ fn behind_due(last: Module, glyph: Glyph) -> Part
 // Behind a number that follows a sign.
 fn behind_minus(last: Module, glyph: Glyph) -> Part
     requires { IsSome (minus_step [] (module_name last.name) last.params glyph) }
-    ensures { (ys : List (S.Symbol ℤ)) → minus_step ys (module_name last.name) last.params glyph ≡ Some (part_of result ys) }
+    ensures { IsPartBehindMinus last glyph result }
 {
     match glyph {
         Glyph::Number(number) => Part::NumberRead(Module {

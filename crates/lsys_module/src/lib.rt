@@ -1,14 +1,11 @@
 //! Modules with parameters, and strings of them: kept in place, read from tokens and printed.
 #![tactic(auto)]
 
-ghost use Rattle.std.specs.Prelude.{◌≡◌, ℕ, ℤ, List, true, Some};
+ghost use Rattle.std.specs.Prelude.{◌≡◌, ℤ, List};
 ghost use Rattle.lsys_syntax.specs.Strings as strings;
-ghost use Rattle.lsys_syntax.specs.Strings.{AreSymbols, balanced, string_text};
-ghost use Rattle.lsys_syntax.specs.Commands.{set_axiom};
-ghost use Rattle.lsys_syntax.specs.LineMachine.{sentence};
 ghost use Rattle.lsys_spec.specs.Systems.{written};
 ghost use Rattle.lsys_spec.specs.Edits.{values_of};
-ghost use Rattle.lsys_module.specs.ReadBack.{text_verdict};
+ghost use Rattle.lsys_module.specs.ReadBack.{PrintedStringsAreRead};
 
 mod build;
 mod glyph;
@@ -32,7 +29,6 @@ pub use symbol_list::SymbolList;
 /// A law of printed strings: a string whose brackets are balanced is printed so that its text, wherever it stands in a
 /// line of names, is read as the tokens of a string, and that string has the same values.
 pub fn law_of_printed_strings()
-    ensures read { (symbols : List (strings.Symbol ℤ)) (start place : ℕ) → AreSymbols symbols → balanced 0 symbols ≡ true
-        → text_verdict start place (string_text symbols) ≡ Some (sentence (set_axiom (written symbols))) }
+    ensures read { PrintedStringsAreRead }
     ensures values { (symbols : List (strings.Symbol ℤ)) → values_of (written symbols) ≡ symbols }
 {}

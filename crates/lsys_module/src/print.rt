@@ -1,10 +1,11 @@
 //! Strings as they are printed.
-ghost use Rattle.std.specs.Prelude.{◌≡◌, ◌∷◌, Bool, false, IfOk};
+ghost use Rattle.std.specs.Prelude.{◌≡◌, ◌∷◌, false, IfOk};
 ghost use Rattle.lsys_syntax.specs.Pieces.{text_of};
 ghost use Rattle.lsys_syntax.specs.Strings.{AreSymbols, string_text, ends_in_name, value_pieces};
-ghost use Rattle.lsys_io.specs.Writes.{Puts};
+ghost use Rattle.lsys_io.specs.Putting.{Puts};
 ghost use Rattle.lsys_module.specs.Views.{module_name, module_of, symbol_of, string_of};
-ghost use Rattle.lsys_module.specs.Printing.{gap_text, name_behind, params_text, more_text, symbol_behind, runs_on_after};
+ghost use Rattle.lsys_module.specs.Printing.{gap_text, name_behind, params_text, more_text, runs_on_after};
+ghost use Rattle.lsys_module.specs.PrintedValues.{module_behind, value_behind};
 
 use crate::symbol::{Module, Symbol};
 use crate::symbol_list::SymbolList;
@@ -25,7 +26,7 @@ pub fn print_string<K: Sink>(
     sink: &mut K,
     symbols: &SymbolList,
 ) -> Result<(), Failed>
-    ensures put { Puts K.written K.faults sink.old sink.new out.old out.new (string_text (string_of symbols.now)) result }
+    ensures put { Puts K.Sink sink out (string_text (string_of symbols.now)) result }
     ensures forms { AreSymbols (string_of symbols.now) }
 {
     let mut runs_on = false;
@@ -43,7 +44,7 @@ fn put_symbol<K: Sink>(
     symbol: &Symbol,
     runs_on: bool,
 ) -> Result<bool, Failed>
-    ensures put { Puts K.written K.faults sink.old sink.new out.old out.new (symbol_behind value_pieces runs_on (symbol_of symbol.now)) result }
+    ensures put { Puts K.Sink sink out (value_behind runs_on symbol.now) result }
     ensures runs_on { IfOk result (λ more. more ≡ ends_in_name (symbol_of symbol.now)) }
 {
     match symbol {
@@ -56,7 +57,7 @@ fn put_symbol<K: Sink>(
 
 // Puts a mark, which never runs on.
 fn put_mark<K: Sink>(out: &mut Buffered, sink: &mut K, mark: &[u8]) -> Result<bool, Failed>
-    ensures put { Puts K.written K.faults sink.old sink.new out.old out.new mark.now result }
+    ensures put { Puts K.Sink sink out mark.now result }
     ensures runs_on { IfOk result (λ more. more ≡ false) }
 {
     out.put(sink, mark)?;
@@ -70,7 +71,7 @@ fn put_module<K: Sink>(
     whole: &Module,
     runs_on: bool,
 ) -> Result<bool, Failed>
-    ensures put { Puts K.written K.faults sink.old sink.new out.old out.new (symbol_behind value_pieces runs_on (module_of whole.now)) result }
+    ensures put { Puts K.Sink sink out (module_behind runs_on whole.now) result }
     ensures runs_on { IfOk result (λ more. more ≡ ends_in_name (module_of whole.now)) }
 {
     let long = put_name(out, sink, whole.name, runs_on)?;
@@ -91,7 +92,7 @@ pub fn put_name<K: Sink>(
     name: Name,
     runs_on: bool,
 ) -> Result<bool, Failed>
-    ensures put { Puts K.written K.faults sink.old sink.new out.old out.new (name_behind runs_on (module_name name)) result }
+    ensures put { Puts K.Sink sink out (name_behind runs_on (module_name name)) result }
     ensures runs_on { IfOk result (λ more. more ≡ runs_on_after (module_name name)) }
 {
     let text = name.text();
@@ -109,7 +110,7 @@ fn put_gap<K: Sink>(
     runs_on: bool,
     letter: bool,
 ) -> Result<(), Failed>
-    ensures { Puts K.written K.faults sink.old sink.new out.old out.new (gap_text runs_on letter) result }
+    ensures { Puts K.Sink sink out (gap_text runs_on letter) result }
 {
     if runs_on && letter {
         return out.put(sink, b" ");
@@ -120,7 +121,7 @@ fn put_gap<K: Sink>(
 // Puts parameters, in parentheses where there are any.
 #[tactic(auto, using(lsys_io::proofs::Puts::puts_then, lsys_io::proofs::Puts::puts_failed, lsys_io::proofs::Puts::puts_nothing))]
 fn put_params<K: Sink>(out: &mut Buffered, sink: &mut K, values: &[i64]) -> Result<(), Failed>
-    ensures { Puts K.written K.faults sink.old sink.new out.old out.new (params_text value_pieces values.now) result }
+    ensures { Puts K.Sink sink out (params_text value_pieces values.now) result }
 {
     let Some((first, others)) = values.split_first() else {
         return Ok(());
@@ -133,7 +134,7 @@ fn put_params<K: Sink>(out: &mut Buffered, sink: &mut K, values: &[i64]) -> Resu
 
 // Puts parameters, each behind a comma.
 fn put_more<K: Sink>(out: &mut Buffered, sink: &mut K, values: &[i64]) -> Result<(), Failed>
-    ensures { Puts K.written K.faults sink.old sink.new out.old out.new (more_text value_pieces values.now) result }
+    ensures { Puts K.Sink sink out (more_text value_pieces values.now) result }
 {
     for value in values {
         put_next(out, sink, value)?;
@@ -144,7 +145,7 @@ fn put_more<K: Sink>(out: &mut Buffered, sink: &mut K, values: &[i64]) -> Result
 // Puts a parameter behind a comma.
 #[tactic(auto, using(lsys_io::proofs::Puts::puts_then, lsys_io::proofs::Puts::puts_failed))]
 fn put_next<K: Sink>(out: &mut Buffered, sink: &mut K, value: &i64) -> Result<(), Failed>
-    ensures { Puts K.written K.faults sink.old sink.new out.old out.new (44 ∷ text_of (value_pieces value.now)) result }
+    ensures { Puts K.Sink sink out (44 ∷ text_of (value_pieces value.now)) result }
 {
     out.put(sink, b",")?;
     put_value(out, sink, value)
@@ -152,7 +153,7 @@ fn put_next<K: Sink>(out: &mut Buffered, sink: &mut K, value: &i64) -> Result<()
 
 // Puts a parameter.
 fn put_value<K: Sink>(out: &mut Buffered, sink: &mut K, value: &i64) -> Result<(), Failed>
-    ensures { Puts K.written K.faults sink.old sink.new out.old out.new (text_of (value_pieces value.now)) result }
+    ensures { Puts K.Sink sink out (text_of (value_pieces value.now)) result }
 {
     out.put_number(sink, i128::from(*value))
 }

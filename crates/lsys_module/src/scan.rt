@@ -2,8 +2,7 @@
 ghost use Rattle.std.specs.Prelude.{◌≡◌, ◌<◌, ◌≤◌, ◌+◌, length, IfErr, IfSome, OnErr, OnOk};
 ghost use Rattle.lsys_syntax.specs.Sentences.{AreTokens};
 ghost use Rattle.lsys_text.specs.Tokens.{kinds_of};
-ghost use Rattle.lsys_laws.specs.StringPlaces.{IsString};
-ghost use Rattle.lsys_module.specs.Places.{BeginsBefore, kinds_from, NoneGoesOn, refused_place};
+ghost use Rattle.lsys_module.specs.Places.{BeginsBefore, NoneGoesOn, refused_place, IsStringFrom};
 ghost use Rattle.lsys_module.specs.Scanning.{string_verdict, IsScanned, between_step, param_step, progress_step, may_end};
 
 use crate::glyph::Glyph;
@@ -39,8 +38,8 @@ pub(crate) struct Progress {
 pub fn scan_string(tokens: &[Token], from: usize) -> Result<(), PlaceRefusal>
     requires { from ≤ length tokens.now }
     ensures verdict { IsScanned (string_verdict from tokens.now) result }
-    ensures string { AreTokens (kinds_of tokens.now) → OnOk result (IsString (kinds_from from tokens.now)) }
-    ensures no_string { OnErr result (IsString (kinds_from from tokens.now) → ⊥) }
+    ensures string { AreTokens (kinds_of tokens.now) → OnOk result (IsStringFrom from tokens.now) }
+    ensures no_string { OnErr result (IsStringFrom from tokens.now → ⊥) }
     ensures behind { IfErr result (λ refusal. from ≤ refused_place refusal) }
     ensures within { IfErr result (λ refusal. refused_place refusal ≤ length tokens.now) }
     ensures before { AreTokens (kinds_of tokens.now) → IfErr result (BeginsBefore from tokens.now) }

@@ -5,9 +5,9 @@ use Rattle.std.proofs.lemmas.List.{append-nil}
 use Rattle.lsys_syntax.specs.Strings as S
 use Rattle.lsys_spec.specs.Lattices.{Lattice}
 use Rattle.lsys_spec.specs.Pictures.{Segment, segments_of}
-use Rattle.lsys_effects.specs.Effects.{walked, at_start}
-use Rattle.lsys_effects.specs.Free.{pose_of}
-use Rattle.lsys_motion_laws.proofs.Fronts.{stand_there}
+use Rattle.lsys_lattice.specs.Effects.{walked, at_start}
+use Rattle.lsys_lattice.specs.Free.{pose_of}
+use Rattle.lsys_lattice.proofs.Fronts.{stand_there}
 use Rattle.lsys_motion.specs.Told.{poses_of}
 use Rattle.lsys_motion.specs.Pieces.{all_poses, poses_before, IsNear, IsNearTo, IsInReach}
 use Rattle.lsys_motion.specs.Trees.{pieces_of, stands_of}

@@ -3,9 +3,9 @@ use Rattle.std.proofs.Common.{◌≡◌, ◌≤◌, ◌<◌, ◌+◌, ◌-◌, �
 use Rattle.std.proofs.lemmas.Bool.Decides.{nat_tests}
 use Rattle.std.proofs.lemmas.List.{append-nil, length-map}
 use Rattle.lsys_spec.specs.Lattices.{Lattice}
-use Rattle.lsys_effects.specs.Effects.{Stand, at_start, stand_from}
-use Rattle.lsys_effects.specs.Free.{pose_of}
-use Rattle.lsys_motion_laws.proofs.Fronts.{stand_there}
+use Rattle.lsys_lattice.specs.Effects.{Stand, at_start, stand_from}
+use Rattle.lsys_lattice.specs.Free.{pose_of}
+use Rattle.lsys_lattice.proofs.Fronts.{stand_there}
 use Rattle.lsys_motion.specs.Pieces.{Piece, found, pose_at, poses_before, IsNear, IsNearTo}
 use Rattle.lsys_motion.specs.Trees.{Trees, none, symbol, tree, stands_of, pieces_of, AreNear}
 use Rattle.lsys_motion.proofs.Seeing.{seen_twice}

@@ -3,7 +3,7 @@ use Rattle.std.proofs.Common.{◌≡◌, ◌≤◌, ◌<◌, ◌+◌, ◌-◌, �
 use Rattle.std.proofs.lemmas.List.{append-nil, length-map, map-append, map-id}
 use Rattle.std.proofs.Math.Seq.{set-append_seam}
 use Rattle.lsys_spec.specs.Lattices.{Lattice}
-use Rattle.lsys_effects.specs.Effects.{Stand, at_start, stand_from}
+use Rattle.lsys_lattice.specs.Effects.{Stand, at_start, stand_from}
 use Rattle.lsys_motion.specs.Pieces.{Piece, IsNear}
 use Rattle.lsys_motion.specs.Trees.{Trees, none, symbol, tree, stands_of, pieces_of, beside, AreNear}
 use Rattle.lsys_motion.specs.Keepers.{Mark, through, up, unended, HoldsIn, Holds}

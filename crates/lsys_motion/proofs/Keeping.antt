@@ -5,7 +5,7 @@ use Rattle.std.proofs.lemmas.Bool.Decides.{nat_tests}
 use Rattle.lsys_syntax.specs.Strings as S
 use Rattle.lsys_spec.specs.Lattices.{Lattice, frames}
 use Rattle.lsys_spec.proofs.Tests.{both}
-use Rattle.lsys_effects.specs.Effects.{at_start}
+use Rattle.lsys_lattice.specs.Effects.{at_start}
 use Rattle.lsys_motion.specs.Keepers.{Mark, Keeper, noted, acted, begun, branched, restored, is_piece, has_piece, heres, HasTaken, StaysNear, empty, IsUnderway, Keeps, IsBusy, CanEnd, Ends, HasSome}
 use Rattle.lsys_motion.specs.Trees.{none}
 use Rattle.lsys_motion.proofs.Steps.{IsLast, length-heres, push_taken, cut_taken, module_taken, pop_taken, begun_underway, last_numbered, ended_taken, ended_small, ended_underway, left_taken}

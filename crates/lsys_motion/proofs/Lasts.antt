@@ -11,10 +11,10 @@ use Rattle.lsys_spec.specs.Levels.{Symbol, level_balanced}
 use Rattle.lsys_spec.specs.Lattices.{Lattice}
 use Rattle.lsys_spec.specs.Images.{ImageRefusal, image}
 use Rattle.lsys_spec.specs.Pictures.{Pose, Turtle, Segment, PictureRefusal, or_far, or_no_image, picture, segments_of}
-use Rattle.lsys_effects.specs.Effects.{Walker, walked, stepped, at_start}
-use Rattle.lsys_effects.specs.Free.{pose_of, turtle_of}
-use Rattle.lsys_effects.specs.Bounds.{bounds, bounds_of, turtle_after, turtle_at, turtle_behind}
-use Rattle.lsys_effects.proofs.Freely.{turtle_there, none_too_far}
+use Rattle.lsys_lattice.specs.Effects.{Walker, walked, stepped, at_start}
+use Rattle.lsys_lattice.specs.Free.{pose_of, turtle_of}
+use Rattle.lsys_lattice.specs.Bounds.{bounds, bounds_of, turtle_after, turtle_at, turtle_behind}
+use Rattle.lsys_lattice.proofs.Freely.{turtle_there, none_too_far}
 use Rattle.lsys_level.specs.Spots.{Spotted, level_at, level_by}
 use Rattle.lsys_out.specs.Drawings.{last_level}
 use Rattle.lsys_out.specs.Nesting.{HasLast}

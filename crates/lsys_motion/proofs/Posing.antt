@@ -2,8 +2,8 @@
 use Rattle.std.proofs.Common.{◌≡◌, ◌≢◌, ◌≤◌, ◌<◌, ◌+◌, ℕ, zero, suc, Some, List, [], ◌∷◌, ◌++◌, length, length-append, slice_get, refl, ap, ◌∙◌, arith}
 use Rattle.lsys_spec.specs.Lattices.{Lattice}
 use Rattle.lsys_spec.specs.Pictures.{Pose}
-use Rattle.lsys_effects.specs.Effects.{Stand}
-use Rattle.lsys_effects.specs.Free.{pose_of}
+use Rattle.lsys_lattice.specs.Effects.{Stand}
+use Rattle.lsys_lattice.specs.Free.{pose_of}
 use Rattle.lsys_motion.specs.Pieces.{Piece, pose_at, poses_before, all_poses}
 
 length-poses : (l : Lattice) (ps : List Piece) (n count : ℕ) → length (poses_before l ps n count) ≡ count

@@ -7,11 +7,11 @@ use Rattle.lsys_spec.specs.Systems.{Each}
 use Rattle.lsys_spec.specs.Lattices.{Lattice, Vector, Frame, frames}
 use Rattle.lsys_spec.specs.Pictures.{act, origin}
 use Rattle.lsys_spec.proofs.Turns.{same_vector}
-use Rattle.lsys_effects.specs.Rotations.{plus, scaled, carried}
-use Rattle.lsys_effects.specs.Effects.{Stand, Walker, walker, done, stepped, at_start, width_after, stand_from, walker_from}
-use Rattle.lsys_effects.proofs.Carrying.{carried-plus, carried-scaled, carried-followed, followed-followed, followed-start}
-use Rattle.lsys_effects.proofs.Turning.{followed-known}
-use Rattle.lsys_effects.proofs.Moving.{walked_from}
+use Rattle.lsys_lattice.specs.Rotations.{plus, scaled, carried}
+use Rattle.lsys_lattice.specs.Effects.{Stand, Walker, walker, done, stepped, at_start, width_after, stand_from, walker_from}
+use Rattle.lsys_lattice.proofs.Carrying.{carried-plus, carried-scaled, carried-followed, followed-followed, followed-start}
+use Rattle.lsys_lattice.proofs.Turning.{followed-known}
+use Rattle.lsys_lattice.proofs.Moving.{walked_from}
 use Rattle.lsys_motion.specs.Keepers.{Mark, through, up, out_of, outward}
 
 -- 1. one stand

@@ -9,11 +9,11 @@ use Rattle.lsys_syntax.specs.Limits.{greatest_coordinate}
 use Rattle.lsys_spec.specs.Lattices.{Lattice, square, hexagonal, cubic, Vector, Frame, frames, first_frame, IsWithin}
 use Rattle.lsys_spec.proofs.Frames.{frame_eq, frame_decides}
 use Rattle.lsys_spec.proofs.Tests.{both}
-use Rattle.lsys_effects.specs.Rotations.{carried, followed}
-use Rattle.lsys_effects.specs.Effects.{Stand, stand_from}
-use Rattle.lsys_effects.proofs.Carrying.{carried-start, carried-followed}
-use Rattle.lsys_effects.proofs.Ring.{times_neg}
-use Rattle.lsys_motion_laws.proofs.Rows.{of_frame}
+use Rattle.lsys_lattice.specs.Rotations.{carried, followed}
+use Rattle.lsys_lattice.specs.Effects.{Stand, stand_from}
+use Rattle.lsys_lattice.proofs.Carrying.{carried-start, carried-followed}
+use Rattle.lsys_lattice.proofs.Ring.{times_neg}
+use Rattle.lsys_lattice.proofs.Rows.{of_frame}
 use Rattle.lsys_motion.specs.Pieces.{IsNear}
 use Rattle.lsys_motion.specs.Keepers.{IsSmall}
 

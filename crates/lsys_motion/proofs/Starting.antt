@@ -4,8 +4,8 @@ use Rattle.std.specs.Prelude.{ℤ}
 use Rattle.lsys_syntax.specs.Strings as S
 use Rattle.lsys_spec.specs.Systems.{Homomorphism, System}
 use Rattle.lsys_spec.specs.Lattices.{Lattice}
-use Rattle.lsys_effects.specs.Extents.{Extents}
-use Rattle.lsys_effects.specs.Effects.{Stand}
+use Rattle.lsys_lattice.specs.Extents.{Extents}
+use Rattle.lsys_lattice.specs.Effects.{Stand}
 use Rattle.lsys_spec.specs.Pictures.{Pose}
 use Rattle.lsys_level.specs.Spots.{Spotted, level_at}
 use Rattle.lsys_hom.specs.Coming.{Coming, coming_from}

@@ -6,8 +6,8 @@ use Rattle.std.proofs.Math.Seq.{take-append_seam}
 use Rattle.lsys_syntax.specs.Strings as S
 use Rattle.lsys_spec.specs.Lattices.{Lattice, frames}
 use Rattle.lsys_spec.specs.Pictures.{act}
-use Rattle.lsys_effects.specs.Effects.{Stand, Walker, walker, done, stepped, walked, at_start, stand_from}
-use Rattle.lsys_motion_laws.proofs.Fronts.{first_known, stand_there, walked-append}
+use Rattle.lsys_lattice.specs.Effects.{Stand, Walker, walker, done, stepped, walked, at_start, stand_from}
+use Rattle.lsys_lattice.proofs.Fronts.{first_known, stand_there, walked-append}
 use Rattle.lsys_motion.specs.Pieces.{Piece, IsNear}
 use Rattle.lsys_motion.specs.Trees.{none, symbol}
 use Rattle.lsys_motion.specs.Keepers.{Mark, Keeper, IsSmall, noted, begun, branched, acted, closed, left_branch, restored, is_piece, has_piece, up, through, out_of, outward, heres, Holds, HasTaken, IsUnderway}

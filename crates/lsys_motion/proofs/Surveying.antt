@@ -4,10 +4,10 @@ use Rattle.std.specs.Prelude.{ℤ}
 use Rattle.std.specs.Int.{int_min, int_max}
 use Rattle.lsys_spec.specs.Lattices.{Lattice, Vector, vector}
 use Rattle.lsys_spec.specs.Pictures.{Segment, origin}
-use Rattle.lsys_effects.specs.Rotations.{measures}
-use Rattle.lsys_effects.specs.Extents.{Extents, extents}
-use Rattle.lsys_effects.specs.Free.{ends_of}
-use Rattle.lsys_effects.specs.Bounds.{bounds_of}
+use Rattle.lsys_lattice.specs.Rotations.{measures}
+use Rattle.lsys_lattice.specs.Extents.{Extents, extents}
+use Rattle.lsys_lattice.specs.Free.{ends_of}
+use Rattle.lsys_lattice.specs.Bounds.{bounds_of}
 use Rattle.lsys_lattice.specs.Wide.{extents_of}
 use Rattle.lsys_lattice.specs.declared.wide.Extents.{Extents as WideExtents}
 use Rattle.lsys_out.specs.Drawings.{Drawing, IsStopped, finished, with_first}

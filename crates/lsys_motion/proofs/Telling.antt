@@ -9,10 +9,10 @@ use Rattle.lsys_spec.specs.Values.{◌and_then◌}
 use Rattle.lsys_spec.specs.Lattices.{Lattice, Vector, IsWithin}
 use Rattle.lsys_spec.specs.Images.{ImageRefusal}
 use Rattle.lsys_spec.specs.Pictures.{Act, draws, moves, turns, widens, rests, act, Pose, Turtle, Stepped, Segment, PictureRefusal, is_far, modules_to, or_far, or_no_image, picture, segments_of, turtle_step}
-use Rattle.lsys_effects.specs.Effects.{Stand, Walker, walker, done, stepped, walked, at_start}
-use Rattle.lsys_effects.specs.Free.{pose_of, turtle_of, leads_far, goes_far, first_far}
-use Rattle.lsys_effects.specs.Bounds.{bounds_of, gone_on}
-use Rattle.lsys_effects.proofs.Freely.{turtle_there, none_too_far}
+use Rattle.lsys_lattice.specs.Effects.{Stand, Walker, walker, done, stepped, walked, at_start}
+use Rattle.lsys_lattice.specs.Free.{pose_of, turtle_of, leads_far, goes_far, first_far}
+use Rattle.lsys_lattice.specs.Bounds.{bounds_of, gone_on}
+use Rattle.lsys_lattice.proofs.Freely.{turtle_there, none_too_far}
 use Rattle.lsys_level.specs.Spots.{Spotted, level_at}
 use Rattle.lsys_hom.specs.Coming.{Coming, coming, whole}
 use Rattle.lsys_hom.proofs.Named.{coming_named}

@@ -4,7 +4,9 @@ use Rattle.lsys_syntax.specs.Strings as S
 use Rattle.lsys_spec.specs.Systems.{Each}
 use Rattle.lsys_spec.specs.Lattices.{Lattice, IsWithin, frames}
 use Rattle.lsys_spec.specs.Pictures.{act}
-use Rattle.lsys_effects.specs.Effects.{Stand, Walker, done, walker, walked, stepped, at_start, stand_from, walker_from}
+use Rattle.lsys_lattice.specs.Effects.{Stand, Walker, done, walker, walked, stepped, at_start, stand_from, walker_from}
+use Rattle.lsys_module.specs.Views.{module_name}
+use Rattle.lsys_module.specs.declared.symbol.Module.{Module}
 use Rattle.lsys_motion.specs.Pieces.{Piece, single, IsNear}
 use Rattle.lsys_motion.specs.Trees.{Trees, stands_of, pieces_of, AreNear}
 
@@ -38,6 +40,10 @@ unended h = record { symbols = 0; pieces = 1; start = h }
 -- the turtle does what a module has it do
 abbrev pub acted : Lattice → S.ModuleName → List ℤ → Keeper → Keeper
 acted l n ps k = record k { here = done l (act n ps) k.here }
+
+-- behind a module the place is still small
+abbrev pub StaysSmall : Lattice → Module → Keeper → Type 0
+StaysSmall l m k = let k' = acted l (module_name m.name) m.params k in IsSmall k'.here
 
 -- of no symbol
 abbrev pub empty : Lattice → Keeper

@@ -5,3 +5,4 @@ pub mod Trees
 pub mod Keepers
 pub mod Going
 pub mod Surveys
+pub mod LastLevels

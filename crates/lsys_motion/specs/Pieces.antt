@@ -3,8 +3,8 @@ use Rattle.std.specs.Prelude.{ℕ, zero, suc, ◌<◌, ◌-◌, ◌==◌, nat_lt
 use Rattle.lsys_syntax.specs.Limits.{greatest_coordinate}
 use Rattle.lsys_spec.specs.Lattices.{Lattice, IsWithin}
 use Rattle.lsys_spec.specs.Pictures.{Pose}
-use Rattle.lsys_effects.specs.Effects.{Stand, at_start, stand_from}
-use Rattle.lsys_effects.specs.Free.{pose_of}
+use Rattle.lsys_lattice.specs.Effects.{Stand, at_start, stand_from}
+use Rattle.lsys_lattice.specs.Free.{pose_of}
 
 -- A piece stands before those that are in it. One symbol is a piece with none in it.
 pub record Piece : Type 0 where

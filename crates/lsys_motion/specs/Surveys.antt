@@ -4,10 +4,10 @@ use Rattle.std.specs.Int.{int_min, int_max}
 use Rattle.lsys_spec.specs.Lattices.{Lattice, Vector}
 use Rattle.lsys_spec.specs.Pictures.{Segment}
 use Rattle.lsys_spec.specs.Pictures as P
-use Rattle.lsys_effects.specs.Rotations.{measures}
-use Rattle.lsys_effects.specs.Extents.{Extents}
-use Rattle.lsys_effects.specs.Bounds.{bounds_of}
-use Rattle.lsys_motion_laws.specs.Motions.{each_of}
+use Rattle.lsys_lattice.specs.Rotations.{measures}
+use Rattle.lsys_lattice.specs.Extents.{Extents}
+use Rattle.lsys_lattice.specs.Bounds.{bounds_of}
+use Rattle.lsys_lattice.specs.Motions.{each_of}
 use Rattle.lsys_lattice.specs.Wide.{extents_of}
 use Rattle.lsys_lattice.specs.declared.wide.Extents.{Extents as WideExtents}
 use Rattle.lsys_out.specs.Drawings.{Drawing, IsRefusal}

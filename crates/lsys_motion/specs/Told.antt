@@ -1,13 +1,13 @@
 -- What kept motions tell of a picture: how far it reaches, and where its turtle stands behind so many symbols of the image.
-use Rattle.std.specs.Prelude.{ℤ, Option, Some, None, Result, Ok, List, [], ◌∷◌}
+use Rattle.std.specs.Prelude.{ℤ, Option, Some, None, Result, Ok, Err, List, [], ◌∷◌, ℕ, ◌≡◌, option_map, slice_get}
 use Rattle.lsys_syntax.specs.Strings as S
 use Rattle.lsys_spec.specs.Systems.{System}
 use Rattle.lsys_spec.specs.Values.{◌and_then◌}
 use Rattle.lsys_spec.specs.Levels as L
 use Rattle.lsys_spec.specs.Lattices.{Lattice}
-use Rattle.lsys_spec.specs.Pictures.{Pose, Turtle, Stepped, PictureRefusal, at_start, turtle_step}
-use Rattle.lsys_effects.specs.Extents.{Extents}
-use Rattle.lsys_effects.specs.Bounds.{bounds_of, travelled}
+use Rattle.lsys_spec.specs.Pictures.{Pose, Turtle, Stepped, PictureRefusal, at_start, picture, turtle_step}
+use Rattle.lsys_lattice.specs.Extents.{Extents}
+use Rattle.lsys_lattice.specs.Bounds.{bounds, bounds_of, travelled, turtle_behind}
 
 pub record Told : Type 0 where
   pub bounds : Extents  -- of the origin and both ends of each segment
@@ -28,3 +28,21 @@ poses_of l ys = poses_from l (at_start l) ys
 -- of a level's picture; refused as the picture is
 abbrev pub told : System → List L.Symbol → Result Told PictureRefusal
 told s x = travelled s x and_then λ way. Ok (record { bounds = bounds_of s.lattice way.1; poses = poses_of s.lattice way.0 })
+
+-- what is told of a picture: its bounds
+abbrev pub TellsBounds : Type 0
+TellsBounds =
+    (s : System) (x : List L.Symbol) (t : Told) → told s x ≡ Ok t → bounds s x ≡ Ok t.bounds
+
+-- the pose of its turtle behind any number of symbols
+abbrev pub TellsTurtles : Type 0
+TellsTurtles =
+    (s : System) (x : List L.Symbol) (t : Told) (n : ℕ) → told s x ≡ Ok t
+    → (turtle_behind s x n and_then λ o. Ok (option_map (λ u. u.pose) o))
+    ≡ Ok (slice_get t.poses n)
+
+-- and it is refused as the picture is
+abbrev pub IsRefusedAsPicture : Type 0
+IsRefusedAsPicture =
+    (s : System) (x : List L.Symbol) (r : PictureRefusal)
+    → told s x ≡ Err r → picture s x ≡ Err r

@@ -1,7 +1,7 @@
 -- Pieces as trees, each with those that are in it.
 use Rattle.std.specs.Prelude.{suc, List, [], ◌∷◌, ◌++◌, length, map}
 use Rattle.lsys_spec.specs.Lattices.{Lattice}
-use Rattle.lsys_effects.specs.Effects.{Stand, stand_from}
+use Rattle.lsys_lattice.specs.Effects.{Stand, stand_from}
 use Rattle.lsys_motion.specs.Pieces.{Piece, single, IsNear}
 
 -- side by side

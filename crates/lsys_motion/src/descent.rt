@@ -1,6 +1,6 @@
 //! The way down to a symbol.
 ghost use Rattle.std.specs.Prelude.{◌≡◌, drop};
-ghost use Rattle.lsys_effects.specs.Effects.{at_start};
+ghost use Rattle.lsys_lattice.specs.Effects.{at_start};
 ghost use Rattle.lsys_motion.specs.Pieces.{IsNear, IsNearTo, found};
 
 use crate::piece::Piece;

@@ -1,7 +1,7 @@
 //! The image of the last level is taken, part by part, as the nodes of a forest group it.
 ghost use Rattle.std.specs.Prelude.{IfOk, ◌≡◌, [], None};
 ghost use Rattle.lsys_forest.specs.Groves.{IsLive};
-ghost use Rattle.lsys_motion.specs.Going.{IsGoing, GoesOn};
+ghost use Rattle.lsys_motion.specs.Going.{IsGoing, GoesOn, GoesOnAlong};
 
 use crate::keeper::Keeper;
 use lsys_forest::{Forest, Kept, NodeId};
@@ -61,8 +61,7 @@ pub(crate) fn take_rest<T: Lattice, W: LevelView>(
     keeper: &mut Keeper<T>,
 ) -> Result<(), AllocError>
     requires { IsGoing T.shape walk.old.coming keeper.old }
-    ensures goes { IfOk result (λ _. GoesOn T.shape walk.old.coming keeper.old
-        walk.new.coming keeper.new) }
+    ensures goes { IfOk result (λ _. GoesOnAlong T.shape walk.old keeper.old walk.new keeper.new) }
     ensures all { IfOk result (λ _. walk.new.coming.symbols ≡ []) }
 {
     'parts: loop {

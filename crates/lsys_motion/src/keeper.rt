@@ -3,9 +3,7 @@ ghost use Rattle.std.specs.Prelude.{◌≡◌, ◌<◌, ◌∷◌, [], IfOk, IsT
 ghost use Rattle.lsys_spec.specs.Lattices.{frames};
 ghost use Rattle.lsys_module.specs.Views.{module_name, symbol_of};
 ghost use Rattle.lsys_hom.specs.Parts.{IsSound, symbols_of};
-ghost use Rattle.lsys_motion.specs.Keepers.{CanEnd, Ends, HasNext, HasSome, IsClear, IsSmall};
-ghost use Rattle.lsys_motion.specs.Keepers.{KeepsTaken, Takes, acted, begun, branched, empty};
-ghost use Rattle.lsys_motion.specs.Keepers.{has_piece, noted, restored};
+ghost use Rattle.lsys_motion.specs.Keepers.{CanEnd, Ends, HasNext, HasSome, IsClear, StaysSmall, KeepsTaken, Takes, acted, begun, branched, empty, has_piece, noted, restored};
 
 use crate::mark::Mark;
 use crate::piece::Piece;
@@ -105,8 +103,7 @@ impl<T: Lattice> Keeper<T> {
 
     /// Behind a module.
     fn act(&mut self, symbol: &Module)
-        requires { let k = acted T.shape (module_name symbol.now.name) symbol.now.params self.old in
-            IsSmall k.here }
+        requires { StaysSmall T.shape symbol.now self.old }
         ensures { self.new
             ≡ acted T.shape (module_name symbol.now.name) symbol.now.params self.old }
     {

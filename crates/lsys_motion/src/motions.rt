@@ -1,15 +1,13 @@
 //! Kept motions.
-ghost use Rattle.std.specs.Prelude.{◌≡◌, ◌<◌, ◌+◌, ℕ, List, [], Err, None, Some, IfOk, length, slice_get};
+ghost use Rattle.std.specs.Prelude.{◌≡◌, ◌<◌, ◌+◌, [], Err, None, Some, IfOk, length, slice_get};
 ghost use Rattle.lsys_spec.specs.Pictures as P;
-ghost use Rattle.lsys_effects.specs.Bounds.{bounds_of};
 ghost use Rattle.lsys_lattice.specs.Wide.{extents_of};
 ghost use Rattle.lsys_forest.specs.Rows.{complete_levels};
-ghost use Rattle.lsys_out.specs.Drawings.{IsRefusal, last_drawing, last_image, last_level};
+ghost use Rattle.lsys_out.specs.Drawings.{IsRefusal, last_drawing};
 ghost use Rattle.lsys_out.specs.Nesting.{HasLast};
-ghost use Rattle.lsys_out.specs.Shown.{on_lattice};
-ghost use Rattle.lsys_motion.specs.Told.{Told, poses_of, told};
-ghost use Rattle.lsys_motion.specs.Keepers.{HasTaken};
+ghost use Rattle.lsys_motion.specs.Told.{Told};
 ghost use Rattle.lsys_motion.specs.Refusals.{IsAnswer};
+ghost use Rattle.lsys_motion.specs.LastLevels.{HasTakenLast, TellsLast, last_bounds, last_told};
 
 use crate::descent::stand_before;
 use crate::going::{take_below, take_rest};
@@ -66,9 +64,7 @@ impl<T: Lattice> Motions<T> {
         system: &System,
     ) -> Result<Motions<T>, MotionRefusal>
         requires { HasLast system.now (complete_levels forest.now) }
-        ensures { (naming : ℕ → List ℕ) → let levels = complete_levels forest.now in
-            let last = last_level naming system.now levels in
-            IsAnswer (told (on_lattice T.shape system.now) last) result }
+        ensures { TellsLast T.shape system.now (complete_levels forest.now) result }
     {
         let mut turtle: Turtle<T> = match Turtle::new(alloc, image_nesting(forest, system)) {
             Ok(turtle) => turtle,
@@ -136,12 +132,8 @@ fn kept<T: Lattice, A: Kept>(
 ) -> Result<Motions<T>, AllocError>
     requires last { HasLast system.now (complete_levels forest.now) }
     requires drawn { (last_drawing T.shape system.now (complete_levels forest.now)).refusal ≡ None }
-    requires bounds { let drawing = last_drawing T.shape system.now (complete_levels forest.now) in
-        extents_of bounds ≡ bounds_of T.shape drawing.segments }
-    ensures { IfOk result (λ m. let levels = complete_levels forest.now in m ≡ record {
-      bounds = bounds_of T.shape (last_drawing T.shape system.now levels).segments;
-      poses = poses_of T.shape (last_image system.now levels).symbols;
-    }) }
+    requires bounds { extents_of bounds ≡ last_bounds T.shape system.now (complete_levels forest.now) }
+    ensures { IfOk result (λ m. m ≡ last_told T.shape system.now (complete_levels forest.now)) }
 {
     let keeper = taken(alloc, forest, system)?;
     let (pieces, symbols, end) = keeper.into_parts();
@@ -161,9 +153,7 @@ fn taken<T: Lattice, A: Kept>(
 ) -> Result<Keeper<T>, AllocError>
     requires last { HasLast system.now (complete_levels forest.now) }
     requires drawn { (last_drawing T.shape system.now (complete_levels forest.now)).refusal ≡ None }
-    ensures taken { IfOk result (λ k.
-        let image = (last_image system.now (complete_levels forest.now)).symbols in
-        HasTaken T.shape image image k) }
+    ensures taken { IfOk result (HasTakenLast T.shape system.now (complete_levels forest.now)) }
     ensures none { IfOk result (λ k. k.marks ≡ []) }
 {
     let mut keeper = Keeper::new(alloc);

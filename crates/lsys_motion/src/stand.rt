@@ -1,9 +1,9 @@
 //! Where a turtle stands, seen from elsewhere.
 ghost use Rattle.std.specs.Prelude.{◌≡◌, ◌≤◌, ◌^◌, ℤ, ◌+ℤ◌, ◌*ℤ◌, unsigned_abs, Contains};
 ghost use Rattle.lsys_spec.specs.Lattices.{IsWithin, frames};
-ghost use Rattle.lsys_effects.specs.Rotations.{plus};
-ghost use Rattle.lsys_effects.specs.Effects.{ahead, at_start, done, stand_from};
-ghost use Rattle.lsys_effects.specs.Free.{pose_of};
+ghost use Rattle.lsys_lattice.specs.Rotations.{plus};
+ghost use Rattle.lsys_lattice.specs.Effects.{ahead, at_start, done, stand_from};
+ghost use Rattle.lsys_lattice.specs.Free.{pose_of};
 ghost use Rattle.lsys_turtle.specs.Ways.{act_of};
 ghost use Rattle.lsys_lattice.specs.Views.{vector_of};
 ghost use Rattle.lsys_lattice.specs.Wide.{wide_of};
@@ -27,7 +27,7 @@ pub(crate) struct Stand<T: Lattice> {
 impl<T: Lattice> Model for Stand<T> {
     ghost use Rattle.std.specs.Prelude.{◌^◌};
     ghost use Rattle.lsys_spec.specs.Lattices.{IsWithin};
-    ghost use Rattle.lsys_effects.specs.Effects as E;
+    ghost use Rattle.lsys_lattice.specs.Effects as E;
     ghost use Rattle.lsys_lattice.specs.Views.{vector_of};
 
     ghost Value = { E.Stand };

@@ -6,10 +6,11 @@ use Rattle.lsys_spec.specs.Lattices.{Lattice}
 use Rattle.lsys_spec.specs.Images as I
 use Rattle.lsys_spec.specs.Levels as L
 use Rattle.lsys_spec.specs.Pictures.{Turtle, Stepped, Segment, PictureRefusal, NoImage, Far, at_start, modules_to, turtle_step}
+use Rattle.lsys_syntax.specs.Calls.{Lent}
 use Rattle.lsys_level.specs.Spots.{Spotted, level_at, level_by}
 use Rattle.lsys_hom.specs.Coming.{Coming, coming}
 use Rattle.lsys_hom.specs.Refusals.{refusal_of}
-use Rattle.lsys_turtle.specs.Ways.{IsReached, segment_of}
+use Rattle.lsys_turtle.specs.Ways.{IsReached, Walker, segment_of}
 use Rattle.lsys_turtle.specs.declared.segment.Segment.{Segment as CodeSegment}
 use Rattle.lsys_out.specs.declared.refusal.PictureRefusal.{PictureRefusal as Refusal}
 use Rattle.lsys_out.specs.declared.refusal.PictureRefusal.TheVariants as refusals
@@ -71,6 +72,10 @@ last_image s levels = coming s (last_level (λ tag. []) s levels)
 abbrev pub last_drawing : Lattice → System → List (List Spotted) → Drawing
 last_drawing l s levels = drawing l (record { image = last_image s levels; modules = 0 }) (at_start l)
 
+-- all of the last level's picture on a lattice is still to come of the way and the turtle
+abbrev pub BeginsDrawing : Lattice → Way → Turtle → System → List (List Spotted) → Type 0
+BeginsDrawing l w t s levels = drawing l w t ≡ last_drawing l s levels
+
 -- the refusal that the code answers
 abbrev pub IsRefusal : PictureRefusal → Refusal → Type 0
 IsRefusal r (refusals.Image e) = r ≡ NoImage (refusal_of e)
@@ -88,11 +93,21 @@ IsStepped old new (Ok (steps.Drawn g)) = old ≡ with_first (segment_of g) new
 IsStepped old new (Ok steps.End) = old ≡ finished
 IsStepped old new (Err e) = IsStopped old e
 
+-- the same of a call that is lent the way and the turtle
+abbrev pub Steps : Lattice → Lent Way → Lent Walker → Result Step Refusal → Type 0
+Steps l way turtle result =
+    IsStepped (drawing l way.entry.now turtle.entry.now.turtle) (drawing l way.exit.now turtle.exit.now.turtle) result
+
 -- symbols are passed up to one that gives a segment
 abbrev pub IsNext : Drawing → Drawing → Result (Option CodeSegment) Refusal → Type 0
 IsNext old new (Ok (Some g)) = old ≡ with_first (segment_of g) new
 IsNext old new (Ok None) = old ≡ finished
 IsNext old new (Err e) = IsStopped old e
+
+-- the same of a call that is lent the way and the turtle
+abbrev pub GoesToNext : Lattice → Lent Way → Lent Walker → Result (Option CodeSegment) Refusal → Type 0
+GoesToNext l way turtle result =
+    IsNext (drawing l way.entry.now turtle.entry.now.turtle) (drawing l way.exit.now turtle.exit.now.turtle) result
 
 -- what holds where the way goes on
 abbrev pub OnStep : Result Step Refusal → Type 0 → Type 0

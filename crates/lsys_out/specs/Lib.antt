@@ -3,3 +3,4 @@ pub mod Nesting
 pub mod Boxes
 pub mod Shown
 pub mod Lines
+pub mod LastPictures

@@ -1,5 +1,5 @@
 -- The texts of pictures by the parts in which they are put.
-use Rattle.std.specs.Prelude.{ℕ, ℤ, List, [], ◌∷◌, ◌++◌, codes, decimal}
+use Rattle.std.specs.Prelude.{ℕ, ℤ, pos, ◌+ℤ◌, ◌-ℤ◌, List, [], ◌∷◌, ◌++◌, codes, decimal}
 use Rattle.std.specs.Fmt.{signed_decimal}
 use Rattle.lsys_spec.specs.Lattices.{Lattice, projected}
 use Rattle.lsys_spec.specs.Pictures.{Box, Segment}
@@ -13,6 +13,10 @@ abbrev pub head_line : Box → List ℕ
 head_line b =
     codes "<svg xmlns=\"http://www.w3.org/2000/svg\" viewBox=\"" ++ (signed_decimal b.x ++ 32 ∷ (signed_decimal b.y
     ++ 32 ∷ (signed_decimal b.width ++ 32 ∷ (signed_decimal b.height ++ codes "\">\n"))))
+
+-- a side of the box around points that have these least and greatest coordinates, with a margin of 10
+abbrev pub side_text : ℤ → ℤ → List ℕ
+side_text least greatest = signed_decimal (greatest -ℤ least +ℤ pos 20)
 
 -- a coordinate and the quotation mark behind it, behind what stands before
 abbrev pub coordinate_behind : List ℕ → ℤ → List ℕ

@@ -3,7 +3,7 @@ use Rattle.std.specs.Prelude.{◌≡◌, ℕ, Option, Result, Ok, Err, List}
 use Rattle.lsys_spec.specs.Systems.{System}
 use Rattle.lsys_spec.specs.Lattices.{Lattice}
 use Rattle.lsys_spec.specs.Pictures.{Segment, PictureRefusal}
-use Rattle.lsys_io.specs.Writes.{Puts}
+use Rattle.lsys_io.specs.Writes.{WasPut}
 use Rattle.lsys_io.specs.declared.Failed.{Failed}
 use Rattle.lsys_out.specs.Drawings.{IsRefusal}
 use Rattle.lsys_out.specs.declared.refusal.PictureRefusal.{PictureRefusal as Refusal}
@@ -18,7 +18,7 @@ pub record PutsPicture {K A : Type 0} (written : K → Option (List ℕ)) (fault
     (text : List Segment → List ℕ) (result : Result A Failed) : Type 0 where
   pub segments : List Segment
   pub drawn : picture ≡ Ok segments
-  pub put : Puts written faults sink_old sink_new held_old held_new (text segments) result
+  pub put : WasPut written faults sink_old sink_new held_old held_new (text segments) result
 
 -- the picture is refused, and nothing was put
 pub record RefusesPicture {K : Type 0} (sink_old sink_new : K) (held_old held_new : List ℕ) (picture : Result (List Segment) PictureRefusal) (e : Refusal) : Type 0 where

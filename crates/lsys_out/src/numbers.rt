@@ -1,7 +1,8 @@
 //! Numbers in texts.
 ghost use Rattle.std.specs.Prelude.{◌≡◌, pos, ◌+ℤ◌, ◌-ℤ◌, decimal};
 ghost use Rattle.std.specs.Fmt.{signed_decimal};
-ghost use Rattle.lsys_io.specs.Writes.{Puts};
+ghost use Rattle.lsys_io.specs.Putting.{Puts};
+ghost use Rattle.lsys_out.specs.Lines.{side_text};
 
 use lsys_io::{Buffered, Failed, Sink};
 
@@ -11,7 +12,7 @@ pub(crate) fn put_signed<K: Sink>(
     sink: &mut K,
     value: &i64,
 ) -> Result<(), Failed>
-    ensures { Puts K.written K.faults sink.old sink.new out.old out.new (signed_decimal value.now) result }
+    ensures { Puts K.Sink sink out (signed_decimal value.now) result }
 {
     out.put_number(sink, i128::from(*value))
 }
@@ -22,7 +23,7 @@ pub(crate) fn put_signed<K: Sink>(
 ///
 /// The sink failed; a front of what was held and of the number was written then.
 pub fn put_unsigned<K: Sink>(out: &mut Buffered, sink: &mut K, value: u32) -> Result<(), Failed>
-    ensures { Puts K.written K.faults sink.old sink.new out.old out.new (decimal value) result }
+    ensures { Puts K.Sink sink out (decimal value) result }
 {
     out.put_number(sink, i128::from(value))
 }
@@ -33,7 +34,7 @@ pub(crate) fn put_corner<K: Sink>(
     sink: &mut K,
     least: &i64,
 ) -> Result<(), Failed>
-    ensures { Puts K.written K.faults sink.old sink.new out.old out.new (signed_decimal (least.now -ℤ pos 10)) result }
+    ensures { Puts K.Sink sink out (signed_decimal (least.now -ℤ pos 10)) result }
 {
     out.put_number(sink, i128::from(*least) - 10)
 }
@@ -45,7 +46,7 @@ pub(crate) fn put_side<K: Sink>(
     least: &i64,
     greatest: &i64,
 ) -> Result<(), Failed>
-    ensures { Puts K.written K.faults sink.old sink.new out.old out.new (signed_decimal (greatest.now -ℤ least.now +ℤ pos 20)) result }
+    ensures { Puts K.Sink sink out (side_text least.now greatest.now) result }
 {
     put_wide(out, sink, &side(least, greatest))
 }
@@ -62,7 +63,7 @@ fn side(least: &i64, greatest: &i64) -> i128
 ///
 /// The sink failed; a front of what was held and of the number was written then.
 pub fn put_wide<K: Sink>(out: &mut Buffered, sink: &mut K, value: &i128) -> Result<(), Failed>
-    ensures { Puts K.written K.faults sink.old sink.new out.old out.new (signed_decimal value.now) result }
+    ensures { Puts K.Sink sink out (signed_decimal value.now) result }
 {
     out.put_number(sink, *value)
 }

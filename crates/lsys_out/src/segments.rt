@@ -1,15 +1,13 @@
 //! A picture as a list of its segments.
-ghost use Rattle.std.specs.Prelude.{◌≡◌, ◌≤◌, ℕ, List, None, length};
-ghost use Rattle.lsys_spec.specs.Pictures.{picture};
-ghost use Rattle.lsys_spec.specs.PictureTexts as texts;
+ghost use Rattle.std.specs.Prelude.{◌≡◌, ◌≤◌, None, length};
 ghost use Rattle.lsys_spec.specs.PictureTexts.{place_text, segment_line};
-ghost use Rattle.lsys_io.specs.Writes.{Puts};
+ghost use Rattle.lsys_io.specs.Putting.{Puts};
 ghost use Rattle.lsys_lattice.specs.Views.{vector_of};
 ghost use Rattle.lsys_turtle.specs.Ways.{segment_of};
-ghost use Rattle.lsys_out.specs.Drawings.{last_drawing, last_level};
+ghost use Rattle.lsys_out.specs.Drawings.{last_drawing};
 ghost use Rattle.lsys_out.specs.Lines.{count_line};
 ghost use Rattle.lsys_out.specs.Nesting.{HasLast, image_nesting};
-ghost use Rattle.lsys_out.specs.Shown.{Shows, on_lattice};
+ghost use Rattle.lsys_out.specs.LastPictures.{PutsList, WritesList};
 
 use crate::numbers::{put_signed, put_unsigned};
 use crate::refusal::PictureRefusal;
@@ -39,8 +37,7 @@ pub fn segments_text<T: Lattice, W: LevelView, K: Sink>(
 ) -> Result<(), PictureRefusal>
     requires last { HasLast system.now (W.levels view.now) }
     requires room { image_nesting system.now (W.levels view.now) ≤ turtle.old.room }
-    ensures shows { (naming : ℕ → List ℕ) → Shows K.written K.faults sink.old sink.new out.old out.new
-        (picture (on_lattice T.shape system.now) (last_level naming system.now (W.levels view.now))) texts.segments_text result }
+    ensures shows { PutsList K.Sink sink out T.shape system.now (W.levels view.now) result }
     ensures room { turtle.new.room ≡ turtle.old.room }
 {
     let count = survey_picture(view, system, turtle)?.count;
@@ -63,8 +60,7 @@ fn put_segments<T: Lattice, W: LevelView, K: Sink>(
     requires room { image_nesting system.now (W.levels view.now) ≤ turtle.old.room }
     requires drawn { (last_drawing T.shape system.now (W.levels view.now)).refusal ≡ None }
     requires count { count ≡ length (last_drawing T.shape system.now (W.levels view.now)).segments }
-    ensures put { Puts K.written K.faults sink.old sink.new out.old out.new
-        (texts.segments_text (last_drawing T.shape system.now (W.levels view.now)).segments) result }
+    ensures put { WritesList K.Sink sink out T.shape system.now (W.levels view.now) result }
     ensures room { turtle.new.room ≡ turtle.old.room }
 {
     put_count(out, sink, count)?;
@@ -80,7 +76,7 @@ fn put_segments<T: Lattice, W: LevelView, K: Sink>(
 
 // Puts the first line.
 fn put_count<K: Sink>(out: &mut Buffered, sink: &mut K, count: u32) -> Result<(), Failed>
-    ensures { Puts K.written K.faults sink.old sink.new out.old out.new (count_line count) result }
+    ensures { Puts K.Sink sink out (count_line count) result }
 {
     out.put(sink, b"segments ")?;
     put_unsigned(out, sink, count)?;
@@ -89,7 +85,7 @@ fn put_count<K: Sink>(out: &mut Buffered, sink: &mut K, count: u32) -> Result<()
 
 // Puts the line of a segment.
 fn put_segment<K: Sink>(out: &mut Buffered, sink: &mut K, segment: &Segment) -> Result<(), Failed>
-    ensures { Puts K.written K.faults sink.old sink.new out.old out.new (segment_line (segment_of segment.now)) result }
+    ensures { Puts K.Sink sink out (segment_line (segment_of segment.now)) result }
 {
     put_place(out, sink, &segment.from)?;
     out.put(sink, b" ")?;
@@ -105,7 +101,7 @@ fn put_segment<K: Sink>(out: &mut Buffered, sink: &mut K, segment: &Segment) -> 
 ///
 /// The sink failed; a front of what was held and of the text was written then.
 pub fn put_place<K: Sink>(out: &mut Buffered, sink: &mut K, place: &Place) -> Result<(), Failed>
-    ensures { Puts K.written K.faults sink.old sink.new out.old out.new (place_text (vector_of place.now)) result }
+    ensures { Puts K.Sink sink out (place_text (vector_of place.now)) result }
 {
     put_signed(out, sink, &place.x)?;
     out.put(sink, b" ")?;

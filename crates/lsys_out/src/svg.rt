@@ -1,15 +1,12 @@
 //! A picture as SVG.
-ghost use Rattle.std.specs.Prelude.{◌≡◌, ◌≤◌, ℕ, ℤ, List, None};
-ghost use Rattle.std.specs.Fmt.{signed_decimal};
-ghost use Rattle.lsys_spec.specs.Pictures.{box, picture};
-ghost use Rattle.lsys_spec.specs.PictureTexts as texts;
-ghost use Rattle.lsys_io.specs.Writes.{Puts};
+ghost use Rattle.std.specs.Prelude.{◌≡◌, ◌≤◌, None};
+ghost use Rattle.lsys_io.specs.Putting.{Puts};
 ghost use Rattle.lsys_turtle.specs.Ways.{IsReached, segment_of};
 ghost use Rattle.lsys_out.specs.Boxes.{box_of};
-ghost use Rattle.lsys_out.specs.Drawings.{last_drawing, last_level};
+ghost use Rattle.lsys_out.specs.Drawings.{last_drawing};
 ghost use Rattle.lsys_out.specs.Lines.{coordinate_behind, drawn_line, head_line, line_between, stroke_text};
 ghost use Rattle.lsys_out.specs.Nesting.{HasLast, image_nesting};
-ghost use Rattle.lsys_out.specs.Shown.{Shows, on_lattice};
+ghost use Rattle.lsys_out.specs.LastPictures.{DrawsSvg, WritesSvg, last_box};
 
 use crate::extent::Extent;
 use crate::numbers::{put_corner, put_side, put_signed, put_unsigned};
@@ -40,8 +37,7 @@ pub fn svg_text<T: Lattice, W: LevelView, K: Sink>(
 ) -> Result<(), PictureRefusal>
     requires last { HasLast system.now (W.levels view.now) }
     requires room { image_nesting system.now (W.levels view.now) ≤ turtle.old.room }
-    ensures shows { (naming : ℕ → List ℕ) → Shows K.written K.faults sink.old sink.new out.old out.new
-        (picture (on_lattice T.shape system.now) (last_level naming system.now (W.levels view.now))) (texts.svg_text T.shape) result }
+    ensures shows { DrawsSvg K.Sink sink out T.shape system.now (W.levels view.now) result }
     ensures room { turtle.new.room ≡ turtle.old.room }
 {
     let extent = survey_picture(view, system, turtle)?.extent;
@@ -63,9 +59,8 @@ fn put_svg<T: Lattice, W: LevelView, K: Sink>(
     requires last { HasLast system.now (W.levels view.now) }
     requires room { image_nesting system.now (W.levels view.now) ≤ turtle.old.room }
     requires drawn { (last_drawing T.shape system.now (W.levels view.now)).refusal ≡ None }
-    requires framed { box_of extent ≡ box T.shape (last_drawing T.shape system.now (W.levels view.now)).segments }
-    ensures put { Puts K.written K.faults sink.old sink.new out.old out.new
-        (texts.svg_text T.shape (last_drawing T.shape system.now (W.levels view.now)).segments) result }
+    requires framed { box_of extent ≡ last_box T.shape system.now (W.levels view.now) }
+    ensures put { WritesSvg K.Sink sink out T.shape system.now (W.levels view.now) result }
     ensures room { turtle.new.room ≡ turtle.old.room }
 {
     put_head(out, sink, &extent)?;
@@ -81,7 +76,7 @@ fn put_svg<T: Lattice, W: LevelView, K: Sink>(
 
 // Puts the first line.
 fn put_head<K: Sink>(out: &mut Buffered, sink: &mut K, extent: &Extent) -> Result<(), Failed>
-    ensures { Puts K.written K.faults sink.old sink.new out.old out.new (head_line (box_of extent.now)) result }
+    ensures { Puts K.Sink sink out (head_line (box_of extent.now)) result }
 {
     out.put(
         sink,
@@ -104,7 +99,7 @@ fn put_line<T: Lattice, K: Sink>(
     segment: &Segment,
 ) -> Result<(), Failed>
     requires { IsReached segment.now }
-    ensures { Puts K.written K.faults sink.old sink.new out.old out.new (drawn_line T.shape (segment_of segment.now)) result }
+    ensures { Puts K.Sink sink out (drawn_line T.shape (segment_of segment.now)) result }
 {
     let from = T::project(segment.from);
     let to = T::project(segment.to);
@@ -119,7 +114,7 @@ fn put_ends<K: Sink>(
     to: &(i64, i64),
     width: u32,
 ) -> Result<(), Failed>
-    ensures { Puts K.written K.faults sink.old sink.new out.old out.new (line_between from.now to.now width) result }
+    ensures { Puts K.Sink sink out (line_between from.now to.now width) result }
 {
     put_coordinate(out, sink, b"<line x1=\"", &from.0)?;
     put_coordinate(out, sink, b" y1=\"", &from.1)?;
@@ -136,7 +131,7 @@ fn put_coordinate<K: Sink>(
     before: &[u8],
     value: &i64,
 ) -> Result<(), Failed>
-    ensures { Puts K.written K.faults sink.old sink.new out.old out.new (coordinate_behind before.now value.now) result }
+    ensures { Puts K.Sink sink out (coordinate_behind before.now value.now) result }
 {
     out.put(sink, before)?;
     put_signed(out, sink, value)?;
@@ -145,7 +140,7 @@ fn put_coordinate<K: Sink>(
 
 // Puts the colour and the width as attributes.
 fn put_stroke<K: Sink>(out: &mut Buffered, sink: &mut K, width: u32) -> Result<(), Failed>
-    ensures { Puts K.written K.faults sink.old sink.new out.old out.new (stroke_text width) result }
+    ensures { Puts K.Sink sink out (stroke_text width) result }
 {
     out.put(sink, b" stroke=\"black\" stroke-width=\"")?;
     put_unsigned(out, sink, width)?;

@@ -1,8 +1,8 @@
 //! A turtle's way over an image.
-ghost use Rattle.std.specs.Prelude.{◌≡◌, ◌<◌, ◌≤◌, length, Option};
+ghost use Rattle.std.specs.Prelude.{◌≡◌, ◌<◌, ◌≤◌, length};
 ghost use Rattle.lsys_spec.specs.Pictures.{modules_to};
 ghost use Rattle.lsys_module.specs.Views.{symbol_of};
-ghost use Rattle.lsys_out.specs.Drawings.{IsNext, IsStepped, IsStopped, OnNext, OnStep, drawing, far_or, last_drawing, stopped};
+ghost use Rattle.lsys_out.specs.Drawings.{IsStopped, OnNext, OnStep, far_or, stopped, BeginsDrawing, GoesToNext, Steps};
 ghost use Rattle.lsys_out.specs.Nesting.{CanGo, HasLast, image_nesting};
 
 use crate::refusal::PictureRefusal;
@@ -47,7 +47,7 @@ impl<'a, W: LevelView> Way<'a, W> {
     pub fn new<T: Lattice>(view: &'a W, system: &'a System, turtle: &mut Turtle<T>) -> Way<'a, W>
         requires last { HasLast system.now (W.levels view.now) }
         requires room { image_nesting system.now (W.levels view.now) ≤ turtle.old.room }
-        ensures drawing { drawing T.shape result turtle.new.turtle ≡ last_drawing T.shape system.now (W.levels view.now) }
+        ensures drawing { BeginsDrawing T.shape result turtle.new.turtle system.now (W.levels view.now) }
         ensures can_go { CanGo result.image.symbols turtle.new }
         ensures room { turtle.new.room ≡ turtle.old.room }
     {
@@ -68,7 +68,7 @@ impl<'a, W: LevelView> Way<'a, W> {
         turtle: &mut Turtle<T>,
     ) -> Result<Option<Segment>, PictureRefusal>
         requires can_go { CanGo self.old.image.symbols turtle.old }
-        ensures next { IsNext (drawing T.shape self.old turtle.old.turtle) (drawing T.shape self.new turtle.new.turtle) result }
+        ensures next { GoesToNext T.shape self turtle result }
         ensures can_go { OnNext result (CanGo self.new.image.symbols turtle.new) }
         ensures fewer { OnNext result (length self.new.image.symbols < length self.old.image.symbols) }
         ensures room { turtle.new.room ≡ turtle.old.room }
@@ -85,7 +85,7 @@ impl<'a, W: LevelView> Way<'a, W> {
     /// Passes one symbol of the image.
     fn step<T: Lattice>(&mut self, turtle: &mut Turtle<T>) -> Result<Step, PictureRefusal>
         requires can_go { CanGo self.old.image.symbols turtle.old }
-        ensures stepped { IsStepped (drawing T.shape self.old turtle.old.turtle) (drawing T.shape self.new turtle.new.turtle) result }
+        ensures stepped { Steps T.shape self turtle result }
         ensures can_go { OnStep result (CanGo self.new.image.symbols turtle.new) }
         ensures fewer { OnStep result (length self.new.image.symbols < length self.old.image.symbols) }
         ensures room { turtle.new.room ≡ turtle.old.room }

@@ -19,7 +19,7 @@ use Rattle.lsys_forest.specs.Rows.{first_in, flat, kids_in, spot_in, level_nodes
 use Rattle.lsys_forest.proofs.StockLemmas.{put_same, put_other}
 use Rattle.lsys_kept.specs.Lineages.{kin_of, kins, names}
 use Rattle.lsys_kept.specs.Levels.{level_of, HaveLevels, answer_at}
-use Rattle.lsys_seats.specs.Neighbours.{Neighbours, neighbours_on}
+use Rattle.lsys_kept.specs.Neighbours.{Neighbours, neighbours_on}
 
 pub record AreAlike (m m' : Nodes Kept) : Type 0 where
   pub kids : ◌≡◌ {A = ℕ → List ℕ} (λ k. kids_in (m' k)) (λ k. kids_in (m k))

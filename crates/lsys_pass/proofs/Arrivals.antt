@@ -9,9 +9,9 @@ use Rattle.lsys_forest.specs.Groves.{In, IsSound, changes_in, live_nodes}
 use Rattle.lsys_forest.specs.Rows.{level_nodes}
 use Rattle.lsys_forest.proofs.SoundLemmas.{AreSound-now}
 use Rattle.lsys_kept.specs.Meant.{meant}
-use Rattle.lsys_seats.specs.Seats.{is_marked}
-use Rattle.lsys_next.specs.Nexts.{AreClosed}
-use Rattle.lsys_next.specs.Answers.{kept_successors}
+use Rattle.lsys_kept.specs.Seats.{is_marked}
+use Rattle.lsys_repair.specs.Nexts.{AreClosed}
+use Rattle.lsys_repair.specs.Answers.{kept_successors}
 use Rattle.lsys_pass.specs.declared.sizes.Size.{Size}
 use Rattle.lsys_pass.specs.declared.state.PassState.TheVariants.{Level, Done, Failed}
 use Rattle.lsys_pass.specs.Sizes.{symbols_at, opens_at, with_open, with_level, HaveSizes, HaveSizesTo, SizesAt}

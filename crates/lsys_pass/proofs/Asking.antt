@@ -19,7 +19,7 @@ use Rattle.lsys_forest.proofs.RowLemmas.{In_split, get_split, same_sides, level_
 use Rattle.lsys_forest.proofs.SoundLemmas.{AreSound-now, AreSound-then}
 use Rattle.lsys_forest.proofs.ViewLemmas.{is_spot, are_told, told_is}
 use Rattle.lsys_forest.proofs.WalkLemmas.{get_In}
-use Rattle.lsys_seats.proofs.LevelLemmas.{index_cases}
+use Rattle.lsys_kept.proofs.LevelLemmas.{index_cases}
 use Rattle.lsys_kept.specs.Levels.{answer_at}
 use Rattle.lsys_kept.specs.Meant.{meant_to}
 use Rattle.lsys_candidates.specs.Asks.{AreSome}

@@ -18,11 +18,11 @@ use Rattle.lsys_forest.proofs.RowLemmas.{In_append, In_left, In_right, level_dep
 use Rattle.lsys_forest.proofs.SoundLemmas.{AreSound-now, AreSound-then}
 use Rattle.lsys_kept.specs.Lineages.{kin_of, names}
 use Rattle.lsys_kept.specs.Levels.{answer_at}
-use Rattle.lsys_seats.specs.Neighbours.{level_around}
-use Rattle.lsys_seats.specs.Seats.{HasSeat}
-use Rattle.lsys_seats.specs.Standings.{seen_at}
-use Rattle.lsys_seats.proofs.LevelLemmas.{got_in, place_in}
-use Rattle.lsys_next.proofs.Depths.{on_level}
+use Rattle.lsys_kept.specs.Neighbours.{level_around}
+use Rattle.lsys_kept.specs.Seats.{HasSeat}
+use Rattle.lsys_kept.specs.Standings.{seen_at}
+use Rattle.lsys_kept.proofs.LevelLemmas.{got_in, place_in}
+use Rattle.lsys_repair.proofs.Depths.{on_level}
 use Rattle.lsys_candidates.specs.Repairs.{were}
 use Rattle.lsys_candidates.specs.Candidates.{AsksOn}
 use Rattle.lsys_candidates.specs.Finds.{IsBeside}

@@ -11,8 +11,8 @@ use Rattle.lsys_forest.specs.Answers.{answers, kept_by, AreMade, FreesAllBut}
 use Rattle.lsys_forest.specs.Groves.{Grove, now_of, rest_of, changes_in, live_nodes, kept_in}
 use Rattle.lsys_kept.specs.Names.{RunName, run_in, holds}
 use Rattle.lsys_kept.specs.Meant.{meant}
-use Rattle.lsys_seats.specs.declared.seat.Seat.{Seat}
-use Rattle.lsys_seats.specs.Seats.{is_marked, HasSeat}
+use Rattle.lsys_kept.specs.declared.seat.Seat.{Seat}
+use Rattle.lsys_kept.specs.Seats.{is_marked, HasSeat}
 use Rattle.lsys_pass.specs.declared.work.Work.{Work}
 use Rattle.lsys_pass.specs.Works.{IsCleared}
 use Rattle.lsys_pass.specs.declared.sizes.Sizes.{Sizes}

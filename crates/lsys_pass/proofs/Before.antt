@@ -20,7 +20,7 @@ use Rattle.lsys_change.proofs.UpTo.{level_count, grown_to}
 use Rattle.lsys_match.specs.Kept.{Kept}
 use Rattle.lsys_match.specs.Stored.{answer_in}
 use Rattle.lsys_walks.specs.Stores.{Store}
-use Rattle.lsys_recall.specs.Recalled.{IsAnswerThere}
+use Rattle.lsys_match.specs.Recalled.{IsAnswerThere}
 use Rattle.lsys_level.specs.Spots.{Seen, Spotted}
 use Rattle.lsys_level.specs.Spots as S
 use Rattle.lsys_forest.specs.Nodes.{Node, Nodes}
@@ -31,7 +31,7 @@ use Rattle.lsys_forest.proofs.RowLemmas.{In_left, In_right}
 use Rattle.lsys_forest.proofs.WalkLemmas.{In_at}
 use Rattle.lsys_kept.specs.Levels.{IsKeptFor, IsRight, IsAnswered, answer_at}
 use Rattle.lsys_kept.specs.Meant.{meant}
-use Rattle.lsys_seats.specs.declared.seat.Seat.{Seat}
+use Rattle.lsys_kept.specs.declared.seat.Seat.{Seat}
 use Rattle.lsys_reads.specs.Relations.{Relations}
 use Rattle.lsys_pass.specs.Rests.{IsResting}
 

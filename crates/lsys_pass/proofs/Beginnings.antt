@@ -19,16 +19,16 @@ use Rattle.lsys_forest.proofs.SoundLemmas.{AreSound-now}
 use Rattle.lsys_kept.specs.Lineages.{kins}
 use Rattle.lsys_kept.specs.Levels.{HaveLevels, answer_at}
 use Rattle.lsys_kept.specs.Meant.{meant_to}
-use Rattle.lsys_seats.specs.declared.seat.Seat.{Seat}
-use Rattle.lsys_seats.specs.Seats.{HasSeat, SameSeats, SameMarks, KeepsSeats}
+use Rattle.lsys_kept.specs.declared.seat.Seat.{Seat}
+use Rattle.lsys_kept.specs.Seats.{HasSeat, SameSeats, SameMarks, KeepsSeats}
 use Rattle.lsys_candidates.specs.Repairs.{SteppingSpots}
 use Rattle.lsys_brood.specs.Matches.{nodes_without}
 use Rattle.lsys_brood.specs.declared.need.Need.{Need}
 use Rattle.lsys_brood.specs.Children.{Told, HasRoomFor, SpendsNeed}
-use Rattle.lsys_next.specs.Nexts.{Successors, HasWanted, node_symbol, wanted_count}
-use Rattle.lsys_next.specs.Renewals.{AreSmall, AreAllUnder, AreRenewals, KeepsDeeper}
-use Rattle.lsys_next.proofs.Finishing.{answers_stay}
-use Rattle.lsys_next.proofs.Firsts.{name_root}
+use Rattle.lsys_repair.specs.Nexts.{Successors, HasWanted, node_symbol, wanted_count}
+use Rattle.lsys_repair.specs.Renewals.{AreSmall, AreAllUnder, AreRenewals, KeepsDeeper}
+use Rattle.lsys_repair.proofs.Finishing.{answers_stay}
+use Rattle.lsys_repair.proofs.Firsts.{name_root}
 use Rattle.lsys_repair.specs.Needs.{number_told, wanted_symbols, need_for}
 use Rattle.lsys_repair.specs.Made.{TellsAllOf}
 use Rattle.lsys_front.specs.Fronts.{Differences, nothing, IsFirst, IsToldFirst}

@@ -24,9 +24,9 @@ use Rattle.lsys_forest.proofs.DepthLemmas.{fits}
 use Rattle.lsys_forest.proofs.SoundLemmas.{AreSound-now, AreSound-rest, AreSound-then}
 use Rattle.lsys_forest.proofs.StockLemmas.{stored_of}
 use Rattle.lsys_forest.proofs.WalkLemmas.{get_In}
-use Rattle.lsys_seats.specs.declared.seat.Seat.{Seat}
-use Rattle.lsys_seats.specs.Neighbours.{neighbours_in, neighbours_on, IsOnLevel}
-use Rattle.lsys_seats.specs.Seats.{neighbours_at, SameMarks, KeepsSeats}
+use Rattle.lsys_kept.specs.declared.seat.Seat.{Seat}
+use Rattle.lsys_kept.specs.Neighbours.{neighbours_in, neighbours_on, IsOnLevel}
+use Rattle.lsys_kept.specs.Seats.{neighbours_at, SameMarks, KeepsSeats}
 use Rattle.lsys_kept.specs.Names.{run_in, holds}
 use Rattle.lsys_kept.specs.Levels.{answer_at}
 use Rattle.lsys_kept.specs.Meant.{meant}

@@ -12,12 +12,12 @@ use Rattle.lsys_forest.specs.Groves.{In, IsSound, changes_in}
 use Rattle.lsys_forest.specs.Rows.{spot_in, level_nodes}
 use Rattle.lsys_forest.proofs.RowLemmas.{level_depth}
 use Rattle.lsys_forest.proofs.SoundLemmas.{AreSound-then}
-use Rattle.lsys_seats.proofs.LevelLemmas.{place_in}
+use Rattle.lsys_kept.proofs.LevelLemmas.{place_in}
 use Rattle.lsys_kept.specs.Lineages.{kin_of}
 use Rattle.lsys_kept.specs.Levels.{answer_at}
-use Rattle.lsys_next.specs.Nexts.{Successors, AreClosed}
-use Rattle.lsys_next.specs.Answers.{kept_successor, kept_successors}
-use Rattle.lsys_next.proofs.Depths.{on_level}
+use Rattle.lsys_repair.specs.Nexts.{Successors, AreClosed}
+use Rattle.lsys_repair.specs.Answers.{kept_successor, kept_successors}
+use Rattle.lsys_repair.proofs.Depths.{on_level}
 use Rattle.lsys_pass.specs.declared.state.PassState.TheVariants.{Level}
 use Rattle.lsys_pass.specs.Sizes.{opens_at}
 use Rattle.lsys_pass.specs.Passes.{PassView, now, was, IsPass}

@@ -28,9 +28,9 @@ use Rattle.lsys_forest.proofs.WalkLemmas.{get_In}
 use Rattle.lsys_kept.specs.Lineages.{kin_of, kins, names}
 use Rattle.lsys_kept.specs.Levels.{HaveLevels, AnsweredAt, AnsweredIn, level_of, answer_at, tags_read, HasRead}
 use Rattle.lsys_kept.specs.Meant.{meant}
-use Rattle.lsys_seats.specs.declared.seat.Seat.{Seat}
-use Rattle.lsys_seats.specs.Neighbours.{Neighbours, neighbours_on}
-use Rattle.lsys_seats.specs.Seats.{neighbours_at}
+use Rattle.lsys_kept.specs.declared.seat.Seat.{Seat}
+use Rattle.lsys_kept.specs.Neighbours.{Neighbours, neighbours_on}
+use Rattle.lsys_kept.specs.Seats.{neighbours_at}
 use Rattle.lsys_pass.specs.Rests.{IsResting}
 use Rattle.lsys_pass.specs.Stages.{Stage, was, IsDone}
 use Rattle.lsys_pass.proofs.Stores.{answered_stays, tags_stay}

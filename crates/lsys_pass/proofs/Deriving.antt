@@ -18,8 +18,8 @@ use Rattle.lsys_forest.specs.Nodes.{Nodes}
 use Rattle.lsys_forest.specs.Changes.{Change, undone}
 use Rattle.lsys_forest.specs.Rows.{spot_in, level_nodes, level_spots, complete_levels, AreBalancedTo}
 use Rattle.lsys_forest.proofs.ViewLemmas.{are_told, told_is}
-use Rattle.lsys_seats.specs.declared.seat.Seat.{Seat}
-use Rattle.lsys_seats.proofs.LevelLemmas.{lineage_at}
+use Rattle.lsys_kept.specs.declared.seat.Seat.{Seat}
+use Rattle.lsys_kept.proofs.LevelLemmas.{lineage_at}
 use Rattle.lsys_kept.specs.Lineages.{names}
 use Rattle.lsys_kept.specs.Meant.{meant}
 use Rattle.lsys_pass.specs.declared.sizes.Size.{Size}

@@ -21,9 +21,9 @@ use Rattle.lsys_forest.proofs.ViewLemmas.{are_told}
 use Rattle.lsys_kept.specs.Lineages.{kin_of, kins}
 use Rattle.lsys_kept.specs.Levels.{HaveLevels, answer_at}
 use Rattle.lsys_kept.specs.Meant.{meant, meant_to}
-use Rattle.lsys_seats.specs.Neighbours.{Neighbours, neighbours_on}
-use Rattle.lsys_seats.specs.Seats.{neighbours_at}
-use Rattle.lsys_next.proofs.Renewing.{in_cases}
+use Rattle.lsys_kept.specs.Neighbours.{Neighbours, neighbours_on}
+use Rattle.lsys_kept.specs.Seats.{neighbours_at}
+use Rattle.lsys_repair.proofs.Renewing.{in_cases}
 use Rattle.lsys_candidates.specs.Repairs.{Repair, are}
 use Rattle.lsys_candidates.specs.Repairs as R
 use Rattle.lsys_candidates.specs.Found.{LevelChanges}

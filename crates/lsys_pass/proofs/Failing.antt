@@ -7,7 +7,7 @@ use Rattle.lsys_match.specs.Kept.{Kept}
 use Rattle.lsys_forest.specs.Nodes.{Nodes}
 use Rattle.lsys_forest.specs.Groves.{Grove, AreSound, now_of, changes_in, live_nodes}
 use Rattle.lsys_kept.specs.Meant.{meant}
-use Rattle.lsys_seats.specs.Seats.{is_marked, KeepsSeats}
+use Rattle.lsys_kept.specs.Seats.{is_marked, KeepsSeats}
 use Rattle.lsys_front.specs.Losses.{LosesOnly}
 use Rattle.lsys_pass.specs.declared.state.PassState.TheVariants.{Failed}
 use Rattle.lsys_pass.specs.Sizes.{HaveSizes, SizesAt}

@@ -24,24 +24,24 @@ use Rattle.lsys_brood.specs.Children.{Told, KeepsChildren}
 use Rattle.lsys_kept.specs.Lineages.{kin_of, kins}
 use Rattle.lsys_kept.specs.Levels.{HaveLevels, AnsweredAt, answer_at}
 use Rattle.lsys_kept.specs.Meant.{meant, meant_to}
-use Rattle.lsys_seats.specs.declared.seat.Seat.{Seat}
-use Rattle.lsys_seats.specs.Neighbours.{neighbours_in}
-use Rattle.lsys_seats.specs.Seats.{neighbours_at, HasSeat, SameSeats, SameMarks, KeepsSeats}
-use Rattle.lsys_seats.specs.Standings.{AreSeated}
-use Rattle.lsys_seats.specs.Looks.{AddsBelow}
-use Rattle.lsys_mates.specs.Turned.{IsSameLevel}
-use Rattle.lsys_mates.proofs.TurnedLemmas.{same_on}
+use Rattle.lsys_kept.specs.declared.seat.Seat.{Seat}
+use Rattle.lsys_kept.specs.Neighbours.{neighbours_in}
+use Rattle.lsys_kept.specs.Seats.{neighbours_at, HasSeat, SameSeats, SameMarks, KeepsSeats}
+use Rattle.lsys_kept.specs.Standings.{AreSeated}
+use Rattle.lsys_kept.specs.Looks.{AddsBelow}
+use Rattle.lsys_front.specs.Turned.{IsSameLevel}
+use Rattle.lsys_front.proofs.TurnedLemmas.{same_on}
 use Rattle.lsys_candidates.specs.Repairs.{Repair, SteppingSpots, were, are}
 use Rattle.lsys_candidates.specs.Found.{Differs}
 use Rattle.lsys_candidates.proofs.Spots.{is_in, sound_old, sound_new}
-use Rattle.lsys_next.specs.Nexts.{AreLevels, HaveWanted, wanted_count}
-use Rattle.lsys_next.specs.Answers.{kept_successors, AreAnswered}
-use Rattle.lsys_next.specs.Renewals.{AreRenewals, KeepsDeeper}
-use Rattle.lsys_next.proofs.Above.{upper_levels}
-use Rattle.lsys_next.proofs.Finishing.{answered_level, answers_above}
-use Rattle.lsys_next.proofs.Lengths.{kids_count, below_count}
-use Rattle.lsys_next.proofs.Renewing.{keeps_upper, parent_stays}
-use Rattle.lsys_next.proofs.Walks.{level_walked}
+use Rattle.lsys_repair.specs.Nexts.{AreLevels, HaveWanted, wanted_count}
+use Rattle.lsys_repair.specs.Answers.{kept_successors, AreAnswered}
+use Rattle.lsys_repair.specs.Renewals.{AreRenewals, KeepsDeeper}
+use Rattle.lsys_repair.proofs.Above.{upper_levels}
+use Rattle.lsys_repair.proofs.Finishing.{answered_level, answers_above}
+use Rattle.lsys_repair.proofs.Lengths.{kids_count, below_count}
+use Rattle.lsys_repair.proofs.Renewing.{keeps_upper, parent_stays}
+use Rattle.lsys_repair.proofs.Walks.{level_walked}
 use Rattle.lsys_repair.specs.declared.parent.Parent.{Parent}
 use Rattle.lsys_repair.specs.Parents.{nodes_in}
 use Rattle.lsys_repair.specs.Needs.{needs}

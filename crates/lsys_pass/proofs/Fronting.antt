@@ -9,11 +9,11 @@ use Rattle.lsys_forest.specs.Groves.{Grove, In, IsSound, now_of, rest_of, change
 use Rattle.lsys_forest.specs.Rows.{level_nodes, level_spots}
 use Rattle.lsys_forest.proofs.RowLemmas.{In_append}
 use Rattle.lsys_kept.specs.Levels.{answer_at}
-use Rattle.lsys_seats.specs.declared.seat.Seat.{Seat}
-use Rattle.lsys_seats.specs.Standings.{seen_at}
+use Rattle.lsys_kept.specs.declared.seat.Seat.{Seat}
+use Rattle.lsys_kept.specs.Standings.{seen_at}
 use Rattle.lsys_candidates.specs.Repairs.{Repair, now, rest, were, are}
-use Rattle.lsys_mates.specs.Turned.{AreTurnedBy}
-use Rattle.lsys_mates.proofs.TurnedLemmas.{same_turned}
+use Rattle.lsys_front.specs.Turned.{AreTurnedBy}
+use Rattle.lsys_front.proofs.TurnedLemmas.{same_turned}
 use Rattle.lsys_front.specs.Fronts.{Differences, IsFront}
 
 -- 1. what differs

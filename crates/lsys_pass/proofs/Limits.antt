@@ -14,9 +14,9 @@ use Rattle.lsys_forest.specs.Rows.{spot_in, level_nodes, level_spots}
 use Rattle.lsys_forest.proofs.RowLemmas.{level_apart}
 use Rattle.lsys_kept.specs.Lineages.{names}
 use Rattle.lsys_kept.specs.Meant.{meant_to}
-use Rattle.lsys_next.specs.Answers.{kept_successors, AreAnswered}
-use Rattle.lsys_next.proofs.Finishing.{answered_level}
-use Rattle.lsys_next.proofs.Lengths.{over_count}
+use Rattle.lsys_repair.specs.Answers.{kept_successors, AreAnswered}
+use Rattle.lsys_repair.proofs.Finishing.{answered_level}
+use Rattle.lsys_repair.proofs.Lengths.{over_count}
 use Rattle.lsys_pass.specs.declared.sizes.Size.{Size}
 use Rattle.lsys_pass.specs.declared.state.PassState.TheVariants.{Level}
 use Rattle.lsys_pass.specs.Sizes.{symbols_at, total_of, HaveSizesTo, SizesAt}

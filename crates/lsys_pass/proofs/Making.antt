@@ -10,14 +10,14 @@ use Rattle.lsys_forest.specs.Rows.{level_nodes, level_spots}
 use Rattle.lsys_kept.specs.Lineages.{kins}
 use Rattle.lsys_kept.specs.Levels.{HaveLevels, answer_at}
 use Rattle.lsys_kept.specs.Meant.{meant_to}
-use Rattle.lsys_next.specs.Nexts.{Successors, HasWanted, HaveWanted}
-use Rattle.lsys_next.specs.Answers.{kept_successors, AreAnswered}
-use Rattle.lsys_next.specs.Renewals.{AreRenewals, KeepsUpper, KeepsDeeper}
-use Rattle.lsys_next.proofs.Finishing.{finished_meant, finished_levels, answers_stay, deeper_now}
-use Rattle.lsys_next.proofs.Renewing.{keeps_upper}
-use Rattle.lsys_next.proofs.Above.{upper_nodes, upper_spots}
-use Rattle.lsys_next.proofs.Depths.{still}
-use Rattle.lsys_next.proofs.Firsts.{first_meant, first_levels}
+use Rattle.lsys_repair.specs.Nexts.{Successors, HasWanted, HaveWanted}
+use Rattle.lsys_repair.specs.Answers.{kept_successors, AreAnswered}
+use Rattle.lsys_repair.specs.Renewals.{AreRenewals, KeepsUpper, KeepsDeeper}
+use Rattle.lsys_repair.proofs.Finishing.{finished_meant, finished_levels, answers_stay, deeper_now}
+use Rattle.lsys_repair.proofs.Renewing.{keeps_upper}
+use Rattle.lsys_repair.proofs.Above.{upper_nodes, upper_spots}
+use Rattle.lsys_repair.proofs.Depths.{still}
+use Rattle.lsys_repair.proofs.Firsts.{first_meant, first_levels}
 use Rattle.lsys_pass.specs.Stages.{HasTree}
 
 -- what lies deeper is as it was

@@ -1,11 +1,11 @@
 -- A pass whose seats were marked and cleared again, or of whose last level it was told whether it is open.
 use Rattle.std.proofs.Common.{◌≡◌, ◌+◌, ◌<◌, ◌≤◌, ℕ, zero, suc, Bool, false, List, [], ◌∷◌, length, take, drop, ◌-◌, refl, sym, ap, ◌∙◌, subst, inl, inr, arith}
 use Rattle.lsys_match.specs.Kept.{Kept}
-use Rattle.lsys_seats.specs.declared.seat.Seat.{Seat}
-use Rattle.lsys_seats.specs.Seats.{is_marked, SameSeats, KeepsSeats}
+use Rattle.lsys_kept.specs.declared.seat.Seat.{Seat}
+use Rattle.lsys_kept.specs.Seats.{is_marked, SameSeats, KeepsSeats}
 use Rattle.lsys_candidates.specs.Repairs.{Repair, rest}
 use Rattle.lsys_front.specs.Fronts.{Differences, IsFront}
-use Rattle.lsys_mates.specs.Turned.{AreTurnedBy}
+use Rattle.lsys_front.specs.Turned.{AreTurnedBy}
 use Rattle.lsys_forest.specs.Groves.{Grove}
 use Rattle.lsys_forest.specs.Nodes.{Nodes}
 use Rattle.lsys_pass.specs.declared.sizes.Size.{Size}

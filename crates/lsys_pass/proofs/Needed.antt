@@ -20,8 +20,8 @@ use Rattle.lsys_walks.specs.Stores.{Store}
 use Rattle.lsys_match.specs.Kept.{Kept}
 use Rattle.lsys_match.specs.Stored.{answer_in, question_in}
 use Rattle.lsys_match.specs.Asks.{IsAnswer, IsNamedAt, by_definition}
-use Rattle.lsys_recall.specs.Recalled.{IsAnswerThere, asked_there}
-use Rattle.lsys_recall.proofs.Same.{same_answers}
+use Rattle.lsys_match.specs.Recalled.{IsAnswerThere, asked_there}
+use Rattle.lsys_match.proofs.Same.{same_answers}
 use Rattle.lsys_forest.specs.Nodes.{Node, Nodes}
 use Rattle.lsys_forest.specs.Groves.{In}
 use Rattle.lsys_forest.specs.Rows.{spot_in, level_nodes, level_spots}

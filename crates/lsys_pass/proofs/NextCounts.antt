@@ -13,9 +13,9 @@ use Rattle.lsys_forest.proofs.StockLemmas.{stored_of}
 use Rattle.lsys_change.specs.Nodes.{Kin}
 use Rattle.lsys_kept.specs.Lineages.{kin_of}
 use Rattle.lsys_reads.specs.Rows.{has}
-use Rattle.lsys_next.specs.Nexts.{HasWanted, AreClosed}
-use Rattle.lsys_next.specs.Answers.{kept_successors}
-use Rattle.lsys_next.proofs.Lengths.{below_count, other_sums}
+use Rattle.lsys_repair.specs.Nexts.{HasWanted, AreClosed}
+use Rattle.lsys_repair.specs.Answers.{kept_successors}
+use Rattle.lsys_repair.proofs.Lengths.{below_count, other_sums}
 use Rattle.lsys_repair.specs.declared.parent.Parent.{Parent}
 use Rattle.lsys_repair.specs.Parents.{nodes_in, AreToldBy, walked, whole}
 use Rattle.lsys_repair.specs.Needs.{had_by_all, wanted_of_all}

@@ -11,10 +11,10 @@ use Rattle.lsys_forest.specs.Rows.{kids_in, level_nodes}
 use Rattle.lsys_forest.proofs.RowLemmas.{In_append, In_left, In_right, In_split, apart_append, level_apart, level_depth}
 use Rattle.lsys_forest.proofs.SoundLemmas.{AreSound-then}
 use Rattle.lsys_kept.specs.Lineages.{kin_of}
-use Rattle.lsys_next.specs.Nexts.{HasWanted, wanted_in, wanted_count}
-use Rattle.lsys_next.specs.Answers.{kept_successors}
-use Rattle.lsys_next.proofs.Lengths.{kids_count, below_count, other_sums}
-use Rattle.lsys_next.proofs.Depths.{on_level}
+use Rattle.lsys_repair.specs.Nexts.{HasWanted, wanted_in, wanted_count}
+use Rattle.lsys_repair.specs.Answers.{kept_successors}
+use Rattle.lsys_repair.proofs.Lengths.{kids_count, below_count, other_sums}
+use Rattle.lsys_repair.proofs.Depths.{on_level}
 use Rattle.lsys_pass.specs.declared.state.PassState.TheVariants.{Level}
 use Rattle.lsys_pass.specs.Sizes.{symbols_at}
 use Rattle.lsys_pass.specs.Passes.{PassView, stage_of, now, was, IsPass}

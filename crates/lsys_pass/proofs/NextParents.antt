@@ -14,12 +14,12 @@ use Rattle.lsys_forest.proofs.RowLemmas.{level_depth, level_apart}
 use Rattle.lsys_forest.proofs.DepthLemmas.{fits}
 use Rattle.lsys_forest.proofs.StockLemmas.{stored_of}
 use Rattle.lsys_kept.specs.Levels.{answer_at, AnsweredAt}
-use Rattle.lsys_seats.specs.Seats.{HasSeat}
-use Rattle.lsys_seats.specs.Standings.{seen_at}
-use Rattle.lsys_next.specs.Nexts.{Successors, AreClosed, HasWanted, node_kind, wanted_in, wanted_behind}
-use Rattle.lsys_next.specs.Renewals.{KeepsDeeper}
-use Rattle.lsys_next.specs.Answers.{kept_successors}
-use Rattle.lsys_next.proofs.Walks.{same_yes, same_not, none_reached}
+use Rattle.lsys_kept.specs.Seats.{HasSeat}
+use Rattle.lsys_kept.specs.Standings.{seen_at}
+use Rattle.lsys_repair.specs.Nexts.{Successors, AreClosed, HasWanted, node_kind, wanted_in, wanted_behind}
+use Rattle.lsys_repair.specs.Renewals.{KeepsDeeper}
+use Rattle.lsys_repair.specs.Answers.{kept_successors}
+use Rattle.lsys_repair.proofs.Walks.{same_yes, same_not, none_reached}
 use Rattle.lsys_change.specs.Kinds.{reached}
 use Rattle.lsys_repair.specs.declared.parent.Parent.{Parent}
 use Rattle.lsys_repair.specs.Parents.{AreParents, AreToldBy, walked, whole}

@@ -24,7 +24,7 @@ use Rattle.lsys_forest.specs.Answers.{Keeper, AtNode, AtChange, answer_of, answe
 use Rattle.lsys_forest.specs.Groves.{AreKids, HasFew, IsSound}
 use Rattle.lsys_forest.specs.Rows.{kids_in, kids_below, spot_in, level_nodes, level_spots}
 use Rattle.lsys_forest.proofs.SoundLemmas.{AreSound-rest}
-use Rattle.lsys_seats.specs.declared.seat.Seat.{Seat}
+use Rattle.lsys_kept.specs.declared.seat.Seat.{Seat}
 use Rattle.lsys_kept.specs.Names.{RunName, InTraces, InValues, Entries, Values, run_in}
 use Rattle.lsys_kept.specs.Lineages.{kin_of, kins, names}
 use Rattle.lsys_kept.specs.Levels.{answer_at}

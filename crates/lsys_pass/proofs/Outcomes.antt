@@ -25,7 +25,7 @@ use Rattle.lsys_match.specs.KeptAnswers.{StaysMade}
 use Rattle.lsys_match.specs.Stored.{answer_in}
 use Rattle.lsys_match.specs.Asks.{IsMade, IsAnswer, IsAnswered, IsNamedAt, KeepsStore, by_definition}
 use Rattle.lsys_match.proofs.Staying.{stays_new, stays_kept}
-use Rattle.lsys_recall.specs.Recalled.{IsAnswerThere}
+use Rattle.lsys_match.specs.Recalled.{IsAnswerThere}
 use Rattle.lsys_reads.specs.Relations.{Relations, is_pending, pairs_have, SettledStay}
 use Rattle.lsys_forest.specs.Nodes.{Node, Nodes, put, with_answer}
 use Rattle.lsys_forest.specs.Changes.{Change, undone}

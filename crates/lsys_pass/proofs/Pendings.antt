@@ -8,9 +8,9 @@ use Rattle.lsys_forest.specs.Groves.{Grove, In, AreApart, AreSound, IsLive, IsSo
 use Rattle.lsys_forest.specs.Rows.{complete_levels}
 use Rattle.lsys_forest.proofs.WalkLemmas.{get_In}
 use Rattle.lsys_kept.specs.Meant.{IsCandidate}
-use Rattle.lsys_seats.specs.declared.seat.Seat.{Seat}
-use Rattle.lsys_seats.specs.Seats.{HasSeat, SameSeats, KeepsSeats}
-use Rattle.lsys_seats.proofs.LevelLemmas.{place_in}
+use Rattle.lsys_kept.specs.declared.seat.Seat.{Seat}
+use Rattle.lsys_kept.specs.Seats.{HasSeat, SameSeats, KeepsSeats}
+use Rattle.lsys_kept.proofs.LevelLemmas.{place_in}
 use Rattle.lsys_candidates.specs.Repairs.{Repair, are}
 use Rattle.lsys_candidates.specs.Candidates.{AsksOn, HasQuestion, IsCandidateNode}
 use Rattle.lsys_candidates.specs.Asks.{AreInOrder}

@@ -24,11 +24,11 @@ use Rattle.lsys_forest.proofs.WalkLemmas.{get_In}
 use Rattle.lsys_brood.specs.Children.{bracket_kind}
 use Rattle.lsys_kept.specs.Levels.{AnsweredAt, level_of}
 use Rattle.lsys_kept.specs.Meant.{meant_to, level_to}
-use Rattle.lsys_next.specs.Nexts.{node_symbol, count_kind, module_nodes, HasFirstFault}
-use Rattle.lsys_next.specs.Answers.{kept_successors}
-use Rattle.lsys_next.proofs.Nexts.{level_symbols}
-use Rattle.lsys_next.proofs.Replaced.{replaced}
-use Rattle.lsys_next.proofs.Refused.{fault_next}
+use Rattle.lsys_repair.specs.Nexts.{node_symbol, count_kind, module_nodes, HasFirstFault}
+use Rattle.lsys_repair.specs.Answers.{kept_successors}
+use Rattle.lsys_repair.proofs.Nexts.{level_symbols}
+use Rattle.lsys_repair.proofs.Replaced.{replaced}
+use Rattle.lsys_repair.proofs.Refused.{fault_next}
 use Rattle.lsys_pass.specs.declared.fault.Faulted.{Faulted}
 use Rattle.lsys_pass.specs.declared.state.PassState.TheVariants.{Level}
 use Rattle.lsys_pass.specs.Leftmost.{AreOnLevel, IsFirstAt, IsFirstFault, is_one, modules_before}

@@ -8,10 +8,10 @@ use Rattle.lsys_forest.specs.Nodes.{Node, Nodes}
 use Rattle.lsys_forest.specs.Groves.{In, AreSound, changes_in}
 use Rattle.lsys_forest.specs.Rows.{level_nodes}
 use Rattle.lsys_kept.specs.Levels.{answer_at}
-use Rattle.lsys_seats.specs.declared.seat.Seat.{Seat}
+use Rattle.lsys_kept.specs.declared.seat.Seat.{Seat}
 use Rattle.lsys_candidates.specs.Repairs.{Repair, SteppingSpots, rest, root}
 use Rattle.lsys_candidates.specs.Repairs as R
-use Rattle.lsys_next.specs.Renewals.{KeepsDeeper}
+use Rattle.lsys_repair.specs.Renewals.{KeepsDeeper}
 use Rattle.lsys_pass.specs.declared.state.PassState.TheVariants.{Level}
 use Rattle.lsys_pass.specs.Rests.{IsResting}
 use Rattle.lsys_pass.specs.Stages.{Stage, was, IsStored, HasTree, HasLists, IsAtLevel}

@@ -8,8 +8,8 @@ use Rattle.lsys_forest.specs.Nodes.{Nodes}
 use Rattle.lsys_forest.specs.Groves.{In}
 use Rattle.lsys_forest.specs.Rows.{spot_in, level_nodes}
 use Rattle.lsys_kept.specs.Levels.{answer_at}
-use Rattle.lsys_next.specs.Nexts.{Successors, AreClosed}
-use Rattle.lsys_next.specs.Answers.{kept_successor, kept_successors}
+use Rattle.lsys_repair.specs.Nexts.{Successors, AreClosed}
+use Rattle.lsys_repair.specs.Answers.{kept_successor, kept_successors}
 use Rattle.lsys_pass.specs.declared.sizes.Size.{Size}
 use Rattle.lsys_pass.specs.Sizes.{symbols_at, opens_at, HaveSizes, HaveSizesTo}
 use Rattle.lsys_pass.proofs.Before.{no_more}

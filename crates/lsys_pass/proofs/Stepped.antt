@@ -34,8 +34,8 @@ use Rattle.lsys_pass.proofs.Stepping.{stepped, on_level, other_level}
 use Rattle.lsys_pass.proofs.Fronting.{KeepsLevel, front_stays, AreByLevel, one_here, by_same}
 use Rattle.lsys_pass.proofs.Sized.{made_stays}
 use Rattle.lsys_pass.specs.Sizes.{HaveSizes, HaveSizesTo, SizesAt}
-use Rattle.lsys_seats.proofs.LevelLemmas.{place_in}
-use Rattle.lsys_seats.specs.Standings.{seen_at}
+use Rattle.lsys_kept.proofs.LevelLemmas.{place_in}
+use Rattle.lsys_kept.specs.Standings.{seen_at}
 use Rattle.lsys_front.specs.Fronts.{IsFront}
 use Rattle.lsys_forest.specs.Rows.{level_nodes, level_spots}
 use Rattle.lsys_pass.proofs.Asking.{IsSameForest, IsAsked, asked, at, made_now, same_sound, same_nodes, same_spots, sound_now}

@@ -27,7 +27,7 @@ use Rattle.lsys_kept.specs.Lineages.{kins}
 use Rattle.lsys_kept.specs.Levels.{AnsweredIn, AnsweredAt, level_of, answer_at, HasRead}
 use Rattle.lsys_kept.specs.Meant.{level_to, IsNeeded}
 use Rattle.lsys_candidates.specs.Asks.{AreSome}
-use Rattle.lsys_seats.specs.Neighbours.{neighbours_on}
+use Rattle.lsys_kept.specs.Neighbours.{neighbours_on}
 use Rattle.lsys_pass.specs.declared.fault.Faulted.{Faulted}
 use Rattle.lsys_pass.specs.Rests.{AreCountedLow, IsResting}
 use Rattle.lsys_pass.specs.Stages.{Stage, was, Rests, fault_in, AreNoted, HasFault, OutcomeBy, IsOutcome, IsOpen, IsSettled, IsNeededAt, HasTree, HasAnswers, HasLists, HasNews, HasSeats, IsAtLevel}

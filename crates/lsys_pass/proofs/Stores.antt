@@ -10,12 +10,12 @@ use Rattle.lsys_match.specs.Kept.{Kept}
 use Rattle.lsys_match.specs.TagQuestions.{TagAnswer}
 use Rattle.lsys_match.specs.KeptAnswers.{StaysMade}
 use Rattle.lsys_match.specs.Asks.{IsMade}
-use Rattle.lsys_recall.specs.Recalled.{IsAnswerThere}
+use Rattle.lsys_match.specs.Recalled.{IsAnswerThere}
 use Rattle.lsys_reads.specs.Relations.{Relations, SettledStay}
 use Rattle.lsys_forest.specs.Nodes.{Nodes}
 use Rattle.lsys_forest.specs.Groves.{In}
 use Rattle.lsys_forest.specs.Rows.{level_spots}
-use Rattle.lsys_seats.specs.declared.seat.Seat.{Seat}
+use Rattle.lsys_kept.specs.declared.seat.Seat.{Seat}
 use Rattle.lsys_kept.specs.Levels.{IsRight, IsKeptFor, IsAnswered, AnsweredIn, answer_at, tags_named, tags_read, HasRead}
 use Rattle.lsys_pass.specs.Rests.{IsResting}
 

@@ -12,12 +12,12 @@ use Rattle.lsys_forest.proofs.RowLemmas.{In_append, In_left, In_right, apart_app
 use Rattle.lsys_forest.proofs.SoundLemmas.{some_of}
 use Rattle.lsys_kept.specs.Lineages.{kin_of, kins}
 use Rattle.lsys_kept.specs.Levels.{answer_at}
-use Rattle.lsys_seats.specs.declared.seat.Seat.{Seat}
-use Rattle.lsys_seats.specs.Neighbours.{neighbours_on}
-use Rattle.lsys_seats.specs.Seats.{neighbours_at, HasSeat, SameSeats, KeepsSeats}
-use Rattle.lsys_seats.proofs.LevelLemmas.{got_in}
-use Rattle.lsys_seats.proofs.LookLemmas.{in_same, in_back}
-use Rattle.lsys_mates.proofs.TurnedLemmas.{told_in}
+use Rattle.lsys_kept.specs.declared.seat.Seat.{Seat}
+use Rattle.lsys_kept.specs.Neighbours.{neighbours_on}
+use Rattle.lsys_kept.specs.Seats.{neighbours_at, HasSeat, SameSeats, KeepsSeats}
+use Rattle.lsys_kept.proofs.LevelLemmas.{got_in}
+use Rattle.lsys_kept.proofs.LookLemmas.{in_same, in_back}
+use Rattle.lsys_front.proofs.TurnedLemmas.{told_in}
 use Rattle.lsys_candidates.specs.Repairs.{are}
 use Rattle.lsys_candidates.specs.Found.{AreOnLevels, HasRoom, IsFound}
 use Rattle.lsys_candidates.proofs.Spots.{is_in, sound_old, sound_new}

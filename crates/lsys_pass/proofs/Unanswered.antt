@@ -18,10 +18,10 @@ use Rattle.lsys_forest.proofs.SoundLemmas.{AreSound-now}
 use Rattle.lsys_kept.specs.Lineages.{kin_of, kins}
 use Rattle.lsys_kept.specs.Levels.{AnsweredAt, HaveLevels, answer_at}
 use Rattle.lsys_kept.specs.Meant.{meant, meant_to}
-use Rattle.lsys_seats.specs.declared.seat.Seat.{Seat}
-use Rattle.lsys_seats.specs.Neighbours.{neighbours_on}
-use Rattle.lsys_seats.specs.Seats.{is_marked, SameSeats, KeepsSeats}
-use Rattle.lsys_seats.specs.Standings.{seen_at}
+use Rattle.lsys_kept.specs.declared.seat.Seat.{Seat}
+use Rattle.lsys_kept.specs.Neighbours.{neighbours_on}
+use Rattle.lsys_kept.specs.Seats.{is_marked, SameSeats, KeepsSeats}
+use Rattle.lsys_kept.specs.Standings.{seen_at}
 use Rattle.lsys_candidates.specs.Repairs.{SteppingSpots, were}
 use Rattle.lsys_candidates.specs.Candidates.{AsksOn}
 use Rattle.lsys_candidates.proofs.Spots.{is_in}

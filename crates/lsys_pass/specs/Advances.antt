@@ -9,10 +9,10 @@ use Rattle.lsys_forest.specs.Rows.{level_nodes, level_spots}
 use Rattle.lsys_kept.specs.Lineages.{kins}
 use Rattle.lsys_kept.specs.Levels.{HaveLevels, AnsweredAt, answer_at}
 use Rattle.lsys_kept.specs.Meant.{meant, IsCandidate}
-use Rattle.lsys_seats.specs.Seats.{SameSeats}
+use Rattle.lsys_kept.specs.Seats.{SameSeats}
 use Rattle.lsys_candidates.specs.Asks.{AreSome}
-use Rattle.lsys_next.specs.Nexts.{count_wanted}
-use Rattle.lsys_next.specs.Answers.{kept_successors}
+use Rattle.lsys_repair.specs.Nexts.{count_wanted}
+use Rattle.lsys_repair.specs.Answers.{kept_successors}
 use Rattle.lsys_pass.specs.Rests.{AreCountedLow}
 use Rattle.lsys_pass.specs.Stages.{Stage, was, IsNeededAt, HasTree, HasSeats, IsAtLevel}
 

@@ -1,20 +1,21 @@
 -- The first level of another system, made from a pass at rest.
-use Rattle.std.specs.Prelude.{◌≡◌, ◌≤◌, ◌∷◌, [], ℕ, map}
+use Rattle.std.specs.Prelude.{◌≡◌, ◌≤◌, ◌∷◌, [], ℕ, map, Option, MatchOption}
 use Rattle.lsys_spec.specs.Systems.{System, WellSpelled}
+use Rattle.lsys_rewrite.specs.declared.refusal.DeriveRefusal.{DeriveRefusal}
 use Rattle.lsys_match.specs.Kept.{Kept}
 use Rattle.lsys_forest.specs.Nodes.{Nodes}
 use Rattle.lsys_forest.specs.Groves.{Grove, now_of, changes_in, live_nodes}
 use Rattle.lsys_forest.specs.Rows.{kids_in}
 use Rattle.lsys_brood.specs.Matches.{nodes_without}
 use Rattle.lsys_brood.specs.Children.{Told}
-use Rattle.lsys_next.specs.Nexts.{wanted_count}
-use Rattle.lsys_next.specs.Renewals.{AreRenewals}
+use Rattle.lsys_repair.specs.Nexts.{wanted_count}
+use Rattle.lsys_repair.specs.Renewals.{AreRenewals}
 use Rattle.lsys_repair.specs.Needs.{number_told, wanted_symbols}
 use Rattle.lsys_repair.specs.Made.{TellsAllOf}
 use Rattle.lsys_front.specs.Fronts.{nothing}
 use Rattle.lsys_pass.specs.declared.state.PassState.TheVariants.{Rest}
 use Rattle.lsys_pass.specs.Passes.{PassView, now, was, IsPass}
-use Rattle.lsys_pass.specs.Moves.{IsNext}
+use Rattle.lsys_pass.specs.Moves.{IsNext, IsRefusal}
 
 -- 1. the forest
 
@@ -34,6 +35,15 @@ pub record MakesFirst (s : System) (limit : ℕ) (old new : Nodes Kept) (root : 
   pub gone : told.gone ≡ nodes_without old
       (map number_told (wanted_symbols s.numbering s.axiom_string)) (kids_in (old root))
   pub within : wanted_count s.numbering s.axiom_string ≤ limit
+
+abbrev pub MakesFirstIn : System → ℕ → Grove Kept → Grove Kept → Told → Type 0
+MakesFirstIn s limit old new told = MakesFirst s limit (now_of old) (now_of new) old.root told
+
+-- so many symbols are within the limit; or a system is refused that has so many on its first level
+abbrev pub RefusesLongAxiom : ℕ → ℕ → Option DeriveRefusal → Type 0
+RefusesLongAxiom limit symbols r =
+    (s : System) → symbols ≡ wanted_count s.numbering s.axiom_string
+    → MatchOption r (symbols ≤ limit) (IsRefusal s limit)
 
 -- 2. the pass
 

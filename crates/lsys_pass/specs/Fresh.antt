@@ -4,18 +4,18 @@ use Rattle.lsys_match.specs.Kept.{Kept}
 use Rattle.lsys_forest.specs.Groves.{In, AreApart}
 use Rattle.lsys_forest.specs.Rows.{level_nodes}
 use Rattle.lsys_kept.specs.Levels.{answer_at}
-use Rattle.lsys_seats.specs.Neighbours.{neighbours_on, neighbours_in}
-use Rattle.lsys_seats.specs.Seats.{neighbours_at, HasSeat}
-use Rattle.lsys_next.specs.Nexts.{Successors, AreClosed, HasWanted, wanted_in}
-use Rattle.lsys_next.specs.Answers.{kept_successors}
-use Rattle.lsys_next.specs.Renewals.{KeepsDeeper}
+use Rattle.lsys_kept.specs.Neighbours.{neighbours_on, neighbours_in}
+use Rattle.lsys_kept.specs.Seats.{neighbours_at, HasSeat}
+use Rattle.lsys_repair.specs.Nexts.{Successors, AreClosed, HasWanted, wanted_in}
+use Rattle.lsys_repair.specs.Answers.{kept_successors}
+use Rattle.lsys_repair.specs.Renewals.{KeepsDeeper}
 use Rattle.lsys_repair.specs.declared.parent.Parent.{Parent}
 use Rattle.lsys_repair.specs.Parents.{nodes_in, AreParents, AreToldBy, walked, whole}
 use Rattle.lsys_candidates.specs.Repairs.{SteppingSpots}
 use Rattle.lsys_candidates.specs.Found.{Differs, IsFound}
 use Rattle.lsys_front.specs.Fronts.{IsFront, MayHaveOthers}
 use Rattle.lsys_pass.specs.declared.state.PassState.TheVariants.{Level}
-use Rattle.lsys_pass.specs.Sizes.{opens_at}
+use Rattle.lsys_pass.specs.Sizes.{opens_at, with_level}
 use Rattle.lsys_pass.specs.Rests.{AreCountedLow}
 use Rattle.lsys_pass.specs.Stages.{Stage, was}
 use Rattle.lsys_pass.specs.Advances.{IsAskedTo, KeepsRest, StaysAbove, Advances, Ends}
@@ -63,6 +63,10 @@ abbrev pub AreWalkedOrAlone : PassView → ℕ → Bool → List Parent → Type
 AreWalkedOrAlone v t true ps = ps ≡ walked (P.now v) None (row_of v t)
 AreWalkedOrAlone v t false ps =
     AreClosed (kept_successors (P.now v)) (row_of v t) × (ps ≡ map whole (nodes_in ps))
+
+-- no cut on the level reaches what stands behind it, unless the level is open
+abbrev pub IsClosedUnless : PassView → ℕ → Bool → Type 0
+IsClosedUnless v t is_open = is_open ≡ false → AreClosed (kept_successors (P.now v)) (row_of v t)
 
 -- 2. the next level
 
@@ -136,6 +140,24 @@ pub record HasFound (v : PassView) (t : ℕ) (beside readers : List ℕ) : Type 
   pub front : IsFront (repair_of v t) v.seats v.front
   pub found : IsFound v.forest v.seats v.reads v.front.changes v.front.turned beside readers
   pub first : v.first_renewed ≡ length v.renewed
+
+-- so many symbols the level has that was made
+abbrev pub SizesLevel : PassView → PassView → ℕ → Type 0
+SizesLevel old new t = new.made ≡ with_level old.made (length (row_of new t))
+
+-- where a level was just made, it is found who turned, and who else may have another question
+abbrev pub FindsTurned : PassView → PassView → List ℕ → List ℕ → Type 0
+FindsTurned old new beside readers = (t : ℕ) → IsFresh old t → HasFound new t beside readers
+
+-- only seats changed, what is dropped, what moved, and what differs on the level
+abbrev pub TurnsOnly : PassView → PassView → Type 0
+TurnsOnly old new = new ≡ record old {
+  seats = new.seats;
+  dropped = new.dropped;
+  moved = new.moved;
+  front = new.front;
+  first_renewed = new.first_renewed;
+}
 
 -- it is known who is asked
 pub record IsToAsk (v : PassView) (t : ℕ) : Type 0 where

@@ -1,6 +1,7 @@
 -- The leftmost of some nodes, and the number of a module on its level.
 use Rattle.std.specs.Prelude.{◌≡◌, ◌+◌, ◌≤◌, ℕ, zero, suc, List, [], ◌∷◌, slice_get, Some}
 use Rattle.lsys_level.specs.Spots.{Seen, Push, Pop, Module, Spotted, level_at}
+use Rattle.lsys_level.specs.declared.view.LevelView.{Ghosts as LevelViewOf}
 use Rattle.lsys_forest.specs.Groves.{Grove}
 use Rattle.lsys_forest.specs.Rows.{complete_levels, level_of_node, place_of_node, IsAtSpot}
 use Rattle.lsys_rewrite.specs.declared.refusal.FaultKind.{FaultKind}
@@ -19,6 +20,11 @@ abbrev pub modules_before : List Spotted → ℕ → ℕ
 modules_before xs zero = 0
 modules_before [] (suc p) = 0
 modules_before (x ∷ xs) (suc p) = is_one x.seen + modules_before xs p
+
+-- how many stand before a spot of a view, on its level
+abbrev pub modules_at : {V P : Type 0} → LevelViewOf V P → V → P → ℕ
+modules_at W view spot =
+    modules_before (level_at (W.levels view) (W.level_of view spot)) (W.place_of view spot)
 
 module _ {A : Type 0} where
   -- the nodes that have a fault stand on one complete level

@@ -18,3 +18,5 @@ pub mod Lasts
 pub mod Beginnings
 pub mod Made
 pub mod Queues
+pub mod NextParents
+pub mod SeatedAnew

@@ -4,8 +4,8 @@ use Rattle.lsys_syntax.specs.Commands.{Numbering}
 use Rattle.lsys_match.specs.Kept.{Kept}
 use Rattle.lsys_forest.specs.Groves.{Grove, AreSound, now_of, rest_of, changes_in, kept_in, live_nodes}
 use Rattle.lsys_brood.specs.Children.{Told}
-use Rattle.lsys_next.specs.Nexts.{Successors}
-use Rattle.lsys_next.specs.Renewals.{AreRenewals}
+use Rattle.lsys_repair.specs.Nexts.{Successors}
+use Rattle.lsys_repair.specs.Renewals.{AreRenewals}
 use Rattle.lsys_repair.specs.declared.parent.Parent.{Parent}
 use Rattle.lsys_repair.specs.Parents.{nodes_in, AreParents, AreToldBy}
 use Rattle.lsys_repair.specs.Made.{TellsAllOf, gone_of}

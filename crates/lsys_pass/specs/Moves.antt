@@ -7,6 +7,8 @@ use Rattle.lsys_spec.specs.Questions.{Question, questions, is_needed}
 use Rattle.lsys_rewrite.specs.Faults.{fault_of}
 use Rattle.lsys_rewrite.specs.declared.refusal.DeriveRefusal.{DeriveRefusal}
 use Rattle.lsys_rewrite.specs.declared.refusal.DeriveRefusal.TheVariants.{Fault, Limit, Memory}
+use Rattle.lsys_rewrite.specs.declared.count.EditCount.{EditCount}
+use Rattle.lsys_match.specs.Derivations.{IsCount}
 use Rattle.lsys_match.specs.Asks.{ByDefinition, by_definition}
 use Rattle.lsys_reads.specs.Relations.{SettledStay}
 use Rattle.lsys_forest.specs.Groves.{Reached}
@@ -91,6 +93,11 @@ Moves v Failed node by = Unit {0}
 abbrev pub MovesOnce : PassView → ℕ → (ℕ → ℕ → Type 0) → Type 0
 MovesOnce v node by = Moves v v.state node by
 
+-- both counters are moved by this
+abbrev pub MovesBoth : PassView → ℕ → ℕ → ℕ → ℕ → ℕ → Type 0
+MovesBoth v node asked asked' visited visited' =
+    MovesOnce v node (λ asks reads. (asked' ≡ asked + asks) × (visited' ≡ visited + reads))
+
 -- 2. why a system has no levels
 
 -- the fault or the limit that the definitions tell; want of memory says nothing
@@ -135,3 +142,9 @@ pub record Closes (old new : PassView) : Type 0 where
   pub limit : new.limit ≡ old.limit
   pub root : new.forest.root ≡ old.forest.root
   pub nodes : (k : ℕ) → Reached (now old) old.forest.root k → now new k ≡ now old k
+
+-- it counts the questions of the new system, and those that the old one didn't answer
+abbrev pub CountsBoth : PassView → EditCount → Type 0
+CountsBoth v count =
+    IsCount (questions v.system (meant v.system v.limit)) (questions v.next (meant v.next v.limit))
+    count

@@ -11,8 +11,8 @@ use Rattle.lsys_forest.specs.Rows.{level_nodes}
 use Rattle.lsys_kept.specs.Names.{RunName, run_in, holds}
 use Rattle.lsys_kept.specs.Levels.{answer_at}
 use Rattle.lsys_kept.specs.Meant.{meant}
-use Rattle.lsys_seats.specs.declared.seat.Seat.{Seat}
-use Rattle.lsys_seats.specs.Seats.{is_marked, HasSeat}
+use Rattle.lsys_kept.specs.declared.seat.Seat.{Seat}
+use Rattle.lsys_kept.specs.Seats.{is_marked, HasSeat}
 use Rattle.lsys_candidates.specs.Repairs.{Repair}
 use Rattle.lsys_front.specs.Fronts.{Differences, IsFront}
 use Rattle.lsys_pass.specs.declared.state.PassState.{PassState}

@@ -1,6 +1,8 @@
 -- What the entries of a trace name, as pairs of a reader and what it saw.
-use Rattle.std.specs.Prelude.{◌≡◌, ◌++◌, ℕ, List, [], map, flat_map}
+use Rattle.std.specs.Prelude.{◌≡◌, ◌++◌, ℕ, List, [], map, flat_map, not, ◌&&◌, ◌||◌}
 use Rattle.lsys_reads.specs.declared.Pair.{Pair}
+use Rattle.lsys_reads.specs.Relations.{Relations, is_pending, is_settled}
+use Rattle.lsys_reads.specs.Rows.{has}
 use Rattle.lsys_walks.specs.declared.entry.Entry.{Entry}
 use Rattle.lsys_walks.specs.Views.{noted_of}
 use Rattle.lsys_kept.specs.Levels.{tags_named}
@@ -23,3 +25,16 @@ pairs_of reader tags = map (pair_of reader) tags
 pub record ComesBehind (old new : List Pair) : Type 0 where
   pub more : List Pair
   pub is : new ≡ old ++ more
+
+-- what a reader saw is pending, behind what was
+abbrev pub AddsPairs : Relations → Relations → ℕ → List ℕ → Type 0
+AddsPairs old new reader tags = new.pending ≡ old.pending ++ pairs_of reader tags
+
+-- Settled is what was pending, and what was settled of readers that have no new answer and were not
+-- dropped.
+abbrev pub SettlesReads : Relations → Relations → List ℕ → List ℕ → Type 0
+SettlesReads old new renewed dropped =
+    (reader seen : ℕ)
+    → is_settled new reader seen
+    ≡ ((not (has renewed reader) && (not (has dropped reader) && is_settled old reader seen))
+    || is_pending old reader seen)

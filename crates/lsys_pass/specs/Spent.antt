@@ -1,9 +1,10 @@
 -- What a pass has read since the last rest.
-use Rattle.std.specs.Prelude.{◌≡◌, ◌+◌, ℕ, List, [], ◌∷◌, Some, slice_get, if◌then◌else◌}
+use Rattle.std.specs.Prelude.{◌≡◌, ◌+◌, ◌*◌, ◌≤◌, length, ℕ, List, [], ◌∷◌, Some, slice_get, if◌then◌else◌}
 use Rattle.lsys_spec.specs.Systems.{System}
 use Rattle.lsys_spec.specs.Levels.{Symbol}
 use Rattle.lsys_spec.specs.Questions.{questions_from}
 use Rattle.lsys_spec.specs.LevelLaws.{candidate_visits}
+use Rattle.lsys_match.specs.Derivations.{most_read}
 use Rattle.lsys_reads.specs.Rows.{has}
 use Rattle.lsys_change.specs.Passes.{is_candidate_at}
 use Rattle.lsys_change.specs.LevelCounts.{read_by}
@@ -60,3 +61,20 @@ AllPending v (Level t) =
 AllPending v Rest = Unit {0}
 AllPending v Done = Unit {0}
 AllPending v Failed = Unit {0}
+
+-- 4. what counters rise by
+
+-- by one for each new answer, and by the entries that are read
+abbrev pub AsksRenewed : PassView → PassView → ℕ → ℕ → Type 0
+AsksRenewed old new before after = after + length old.renewed ≡ before + length new.renewed
+
+abbrev pub VisitsSpent : PassView → PassView → ℕ → ℕ → Type 0
+VisitsSpent old new before after = after + spent_visits old ≡ before + spent_visits new
+
+-- since the last rest at most by one for each symbol within the limit, and by the most that is read
+-- for it
+abbrev pub AsksWithin : PassView → ℕ → ℕ → Type 0
+AsksWithin old before after = after + length old.renewed ≤ before + old.limit
+
+abbrev pub VisitsWithin : PassView → ℕ → ℕ → Type 0
+VisitsWithin old before after = after + spent_visits old ≤ before + most_read * old.limit

@@ -20,9 +20,9 @@ use Rattle.lsys_kept.specs.Names.{RunName, run_in, holds}
 use Rattle.lsys_kept.specs.Lineages.{kins}
 use Rattle.lsys_kept.specs.Levels.{HaveLevels, AnsweredAt, level_of, answer_at, HasRead}
 use Rattle.lsys_kept.specs.Meant.{meant, meant_to, level_to, IsCandidate, IsNeeded}
-use Rattle.lsys_seats.specs.declared.seat.Seat.{Seat}
-use Rattle.lsys_seats.specs.Neighbours.{neighbours_on}
-use Rattle.lsys_seats.specs.Seats.{neighbours_at, HasSeat}
+use Rattle.lsys_kept.specs.declared.seat.Seat.{Seat}
+use Rattle.lsys_kept.specs.Neighbours.{neighbours_on}
+use Rattle.lsys_kept.specs.Seats.{neighbours_at, HasSeat}
 use Rattle.lsys_candidates.specs.Asks.{AreSome}
 use Rattle.lsys_pass.specs.declared.fault.Faulted.{Faulted}
 use Rattle.lsys_pass.specs.Rests.{AreCountedLow, IsResting}

@@ -1,5 +1,6 @@
 -- What becomes of the parts of a pass when one node was asked.
 use Rattle.std.specs.Prelude.{◌≡◌, ◌≤◌, ◌+◌, ◌++◌, ◌∷◌, [], ℕ, Bool, Result, Ok, Err, Some, if◌then◌else◌}
+use Rattle.lsys_syntax.specs.Calls.{Lent}
 use Rattle.lsys_walks.specs.Stores.{Store, AreLive, AreGone, OtherTracesStay}
 use Rattle.lsys_match.specs.declared.asked.Asked.{Asked}
 use Rattle.lsys_match.specs.declared.asked.Asked.TheVariants.{Same, New}
@@ -22,6 +23,10 @@ pub record TakesAnswer (old new : Grove Kept) (k : ℕ) (n : Node Kept) (a : Kep
       ≡ changes_in old ++ record { node = k; before = OldAnswer n.answer } ∷ []
   pub live : live_nodes new ≤ live_nodes old
 
+abbrev pub TakesAnswerAt : Grove Kept → Grove Kept → ℕ → Kept → Type 0
+TakesAnswerAt old new k a =
+    (n : Node Kept) → now_of old k ≡ Some n → TakesAnswer old new k n a
+
 -- what a step works on
 pub record Parts : Type 0 where
   pub forest : Grove Kept
@@ -29,10 +34,12 @@ pub record Parts : Type 0 where
   pub reads : Relations
   pub work : Work
 
+abbrev pub parts_of : Grove Kept → Store → Relations → Work → Parts
+parts_of f s r w = record { forest = f; store = s; reads = r; work = w }
+
 -- The node keeps a new answer. What it read is pending, and it is among those that were renewed.
 pub record KeepsNew (node : ℕ) (is_born : Bool) (old new : Parts) (a : Kept) : Type 0 where
-  pub kept : (n : Node Kept) → now_of old.forest node ≡ Some n
-      → TakesAnswer old.forest new.forest node n a
+  pub kept : TakesAnswerAt old.forest new.forest node a
   pub store : new.store ≡ old.store
   pub read : new.reads.pending ≡ old.reads.pending ++ pairs_of node (tags_read old.store a)
   pub settled : SettledStay old.reads new.reads
@@ -77,3 +84,18 @@ module _ {L : Type 0} where
     pub renewed : new.work.renewed.items ≡ old.work.renewed.items
     pub born : new.work.born ≡ old.work.born
     pub faults : new.work.faults.items ≡ old.work.faults.items
+
+  -- both, of the parts that a call is lent
+  abbrev pub KeepsOutcomeIn : ℕ → Bool → Lent (Grove Kept) → Lent Store → Lent Relations → Lent Work
+      → Result (Asked L) AskRefusal → Type 0
+  KeepsOutcomeIn node is_born forest store reads work outcome =
+      KeepsOutcome node is_born
+      (parts_of forest.entry.now store.entry.now reads.entry.now work.entry.now)
+      (parts_of forest.exit.now store.exit.now reads.exit.now work.exit.now) outcome
+
+  abbrev pub KeepsNothingIn : Lent (Grove Kept) → Lent Store → Lent Relations → Lent Work
+      → Result (Asked L) AskRefusal → Type 0
+  KeepsNothingIn forest store reads work outcome =
+      KeepsNothing
+      (parts_of forest.entry.now store.entry.now reads.entry.now work.entry.now)
+      (parts_of forest.exit.now store.exit.now reads.exit.now work.exit.now) outcome

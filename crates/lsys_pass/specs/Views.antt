@@ -1,6 +1,9 @@
 -- What a contract sees of a derivation whose levels stand in a forest.
-use Rattle.std.specs.Prelude.{◌≡◌, ◌<◌, ◌+◌, ◌^◌, ℕ, zero, suc, List, [], ◌∷◌, ◌++◌, Option, length, map, take, cond, nat_lt}
+use Rattle.std.specs.Prelude.{◌≡◌, ◌<◌, ◌+◌, ◌^◌, ℕ, zero, suc, List, [], ◌∷◌, ◌++◌, Option, length, map, take, cond, nat_lt, Ok}
 use Rattle.lsys_spec.specs.Systems.{System}
+use Rattle.lsys_spec.specs.Levels.{Symbol}
+use Rattle.lsys_spec.specs.Meaning.{meaning}
+use Rattle.lsys_spec.specs.Questions.{questions}
 use Rattle.lsys_level.specs.Spots.{Spotted, level_at}
 use Rattle.lsys_match.specs.Kept.{Kept}
 use Rattle.lsys_forest.specs.Nodes.{Node, Nodes}
@@ -60,3 +63,8 @@ view_of v = record {
 pub record IsQuiet (v : PassView) : Type 0 where
   pub state : v.state ≡ Rest
   pub small : v.system.depth < 2 ^ 32
+
+-- so many questions the levels have that the system means
+abbrev pub CountsAnswered : ForestView → ℕ → Type 0
+CountsAnswered v n =
+    (x : List (List Symbol)) → meaning v.system v.limit ≡ Ok x → n ≡ length (questions v.system x)

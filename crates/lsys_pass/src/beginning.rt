@@ -3,13 +3,13 @@ ghost use Rattle.std.specs.Prelude.{◌≡◌, ◌<◌, ◌^◌, [], length, IfO
 ghost use Rattle.lsys_change.specs.Nodes.{AreOnce};
 ghost use Rattle.lsys_forest.specs.Groves.{now_of, rest_of, kept_in, live_nodes};
 ghost use Rattle.lsys_kept.specs.Lineages.{kins};
-ghost use Rattle.lsys_next.specs.Renewals.{AreSmall, AreAllUnder};
+ghost use Rattle.lsys_repair.specs.Renewals.{AreSmall, AreAllUnder};
 ghost use Rattle.lsys_pass.specs.declared.state.PassState.TheVariants.{Rest, Failed};
 ghost use Rattle.lsys_pass.specs.Sizes.{with_level};
 ghost use Rattle.lsys_pass.specs.Passes.{stage_of};
 ghost use Rattle.lsys_pass.specs.Moves.{IsRefusal, SameRun, IsNext, IsBack};
 ghost use Rattle.lsys_pass.specs.Fresh.{row_of, Goes, IsFresh};
-ghost use Rattle.lsys_pass.specs.Beginnings.{Begun, KeepsNodes, MakesFirst, WasStill};
+ghost use Rattle.lsys_pass.specs.Beginnings.{Begun, KeepsNodes, WasStill, MakesFirstIn};
 ghost use Rattle.lsys_pass.specs.Spent.{AllPending};
 
 use crate::keep::target;
@@ -123,8 +123,7 @@ fn make_first_nodes<L: Ledger>(
     requires small { AreSmall (now_of forest.old) }
     requires under { AreAllUnder (now_of forest.old) forest.old.root forest.old.root }
     requires few { live_nodes forest.old < 2 ^ 32 }
-    ensures made { IfOk result (λ told. MakesFirst system.now limit (now_of forest.old)
-        (now_of forest.new) forest.old.root told) }
+    ensures made { IfOk result (MakesFirstIn system.now limit forest.old forest.new) }
     ensures refusal { IfErr result (IsRefusal system.now limit) }
     ensures stays { OnErr result (KeepsNodes forest.old forest.new) }
     ensures few { live_nodes forest.new < 2 ^ 32 }

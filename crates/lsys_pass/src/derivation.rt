@@ -1,10 +1,7 @@
 //! A derivation whose levels stand in a forest.
-ghost use Rattle.std.specs.Prelude.{◌≡◌, ◌+◌, List, Ok, length, sum_by, take};
-ghost use Rattle.lsys_spec.specs.Levels as levels;
-ghost use Rattle.lsys_spec.specs.Meaning.{meaning};
-ghost use Rattle.lsys_spec.specs.Questions.{questions};
+ghost use Rattle.std.specs.Prelude.{◌≡◌, ◌+◌, Ok, length, sum_by, take};
 ghost use Rattle.lsys_forest.specs.Rows.{complete_levels};
-ghost use Rattle.lsys_pass.specs.Views.{level_in, place_among};
+ghost use Rattle.lsys_pass.specs.Views.{level_in, place_among, CountsAnswered};
 
 use crate::pass::Pass;
 use crate::state::PassState;
@@ -61,8 +58,7 @@ impl<L: Ledger> ForestDerivation<L> {
     /// So what an edit made superfluous is gone. It costs no step.
     pub fn held(&self) -> Held
         ensures nodes { result.nodes ≡ sum_by length self.now.levels + 1 }
-        ensures answers { (x : List (List levels.Symbol)) → meaning self.now.system self.now.limit ≡ Ok x
-            → result.answers ≡ length (questions self.now.system x) }
+        ensures answers { CountsAnswered self.now result.answers }
     {
         Held {
             nodes: self.pass.forest().live() as u64,

@@ -1,15 +1,12 @@
 //! An edit: a pass makes the levels of another system, one after the other.
-ghost use Rattle.std.specs.Prelude.{◌≡◌, ◌≢◌, ◌+◌, ◌*◌, ◌≤◌, ℕ, List, [], length, IfOk, OnOk, OnErr, IfErr, IfSome, IfNone};
-ghost use Rattle.lsys_spec.specs.Levels as levels;
-ghost use Rattle.lsys_spec.specs.LevelLaws.{candidate_visits};
-ghost use Rattle.lsys_spec.specs.Questions.{least_visits, questions};
-ghost use Rattle.lsys_match.specs.Derivations.{AreMeant, IsCount, Rises, most_read};
+ghost use Rattle.std.specs.Prelude.{◌≡◌, ◌≢◌, ◌+◌, ◌*◌, ◌≤◌, [], length, IfOk, OnOk, OnErr, IfErr, IfSome, IfNone};
+ghost use Rattle.lsys_match.specs.Derivations.{Rises, most_read};
 ghost use Rattle.lsys_forest.specs.Groves.{In};
 ghost use Rattle.lsys_pass.specs.declared.state.PassState.TheVariants.{Rest, Done};
 ghost use Rattle.lsys_pass.specs.Passes.{IsPass};
 ghost use Rattle.lsys_pass.specs.Moves.{AtLevel, SameRun, IsBack, IsNext, IsRefusal};
-ghost use Rattle.lsys_pass.specs.Spent.{AllPending, spent_visits};
-ghost use Rattle.lsys_pass.specs.Edits.{IsEdited};
+ghost use Rattle.lsys_pass.specs.Spent.{AllPending, spent_visits, AsksRenewed, AsksWithin, VisitsSpent, VisitsWithin};
+ghost use Rattle.lsys_pass.specs.Edits.{IsEdited, CountsEdited, ReadsEdited};
 
 use crate::pass::Pass;
 use crate::state::PassState;
@@ -41,15 +38,9 @@ impl<L: Ledger> Pass<L> {
         ensures limit { self.new.limit ≡ self.old.limit }
         ensures edited { OnOk result (IsEdited self.old self.new system) }
         ensures refusal { IfErr result (IsRefusal system self.old.limit) }
-        ensures counted { (x y : List (List levels.Symbol))
-            → AreMeant self.old.system system self.old.limit x y
-            → IfOk result (IsCount (questions self.old.system x) (questions system y)) }
+        ensures counted { CountsEdited self.old.system system self.old.limit result }
         ensures asked { IfOk result (λ count. asked.new ≡ asked.old + count.asked) }
-        ensures read { (x y : List (List levels.Symbol))
-            → AreMeant self.old.system system self.old.limit x y
-            → OnOk result (Rises
-            (least_visits (questions self.old.system x) (questions system y))
-            (candidate_visits self.old.system system x y) visited.old visited.new) }
+        ensures read { ReadsEdited self.old.system system self.old.limit visited.old visited.new result }
         ensures refused { OnErr result (IsBack self.old self.new) }
         ensures few_asked { OnErr result (Rises 0 self.old.limit asked.old asked.new) }
         ensures few_read { OnErr result
@@ -119,16 +110,12 @@ impl<L: Ledger> Pass<L> {
         ensures state { self.new.state ≡ self.old.state }
         ensures pass { OnOk result (IsPass self.new) }
         ensures none { OnOk result (self.new.pending ≡ []) }
-        ensures asks { OnOk result
-            (asked.new + length self.old.renewed ≡ asked.old + length self.new.renewed) }
-        ensures visits { OnOk result
-            (visited.new + spent_visits self.old ≡ visited.old + spent_visits self.new) }
+        ensures asks { OnOk result (AsksRenewed self.old self.new asked.old asked.new) }
+        ensures visits { OnOk result (VisitsSpent self.old self.new visited.old visited.new) }
         ensures from_asked { asked.old ≤ asked.new }
-        ensures few_asked { OnErr result
-            (asked.new + length self.old.renewed ≤ asked.old + self.old.limit) }
+        ensures few_asked { OnErr result (AsksWithin self.old asked.old asked.new) }
         ensures from_read { visited.old ≤ visited.new }
-        ensures few_read { OnErr result
-            (visited.new + spent_visits self.old ≤ visited.old + most_read * self.old.limit) }
+        ensures few_read { OnErr result (VisitsWithin self.old visited.old visited.new) }
     {
         while let Some(node) = self.last_pending() {
             self.step(alloc, node, asked, visited)?;

@@ -1,14 +1,13 @@
 //! The last level of a system.
-ghost use Rattle.std.specs.Prelude.{◌≡◌, ◌≤◌, ◌<◌, ◌^◌, ◌++◌, ℕ, List, length, OnOk};
+ghost use Rattle.std.specs.Prelude.{◌≡◌, ◌≤◌, ◌<◌, ◌^◌, ℕ, List, length, OnOk};
 ghost use Rattle.lsys_forest.specs.Groves.{In, IsSound, now_of, changes_in, live_nodes, IsLive};
-ghost use Rattle.lsys_forest.specs.Rows.{level_nodes, complete_levels};
+ghost use Rattle.lsys_forest.specs.Rows.{complete_levels};
 ghost use Rattle.lsys_front.specs.Losses.{LosesOnly};
-ghost use Rattle.lsys_front.specs.Ends.{AreEnded};
 ghost use Rattle.lsys_pass.specs.declared.state.PassState.TheVariants.{Failed};
 ghost use Rattle.lsys_pass.specs.Passes.{stage_of};
 ghost use Rattle.lsys_pass.specs.Moves.{SameRun};
 ghost use Rattle.lsys_pass.specs.Fresh.{row_of, HasFound, Goes, IsLast};
-ghost use Rattle.lsys_pass.specs.Lasts.{dropped_at_end};
+ghost use Rattle.lsys_pass.specs.Lasts.{AreEndedOn, DropsOn};
 
 use crate::pass::Pass;
 use lsys_forest::{Forest, Kept, NodeId};
@@ -75,11 +74,8 @@ fn end_forest<A: Kept>(
     requires few { live_nodes forest.old < 2 ^ 32 }
     requires level { level < length (complete_levels forest.old) }
     requires lives { (k : ℕ) → In k gone.now → IsLive forest.old k }
-    ensures ended { OnOk result (AreEnded (now_of forest.old) (now_of forest.new)
-        (level_nodes (now_of forest.old) forest.old.root level)) }
-    ensures dropped { OnOk result (dropped.new.items ≡ dropped.old.items
-        ++ dropped_at_end (now_of forest.old) (now_of forest.new)
-        (level_nodes (now_of forest.old) forest.old.root level) gone.now levels_behind) }
+    ensures ended { OnOk result (AreEndedOn forest.old forest.new level) }
+    ensures dropped { OnOk result (DropsOn forest level gone.now levels_behind dropped) }
     ensures loses { LosesOnly forest.old forest.new }
 {
     let mut nodes = Vec::new(alloc);

@@ -2,14 +2,12 @@
 ghost use Rattle.std.specs.Prelude.{◌≡◌, ◌<◌, ◌++◌, ◌∷◌, [], None, Some, OnOk, OnErr, option_map, vec_len, vec_capacity};
 ghost use Rattle.std.specs.Option.{unwrap_or};
 ghost use Rattle.lsys_walks.specs.Stores.{AreGone, AreLive, OtherTracesStay};
-ghost use Rattle.lsys_match.specs.Kept.{Kept as KeptValue};
 ghost use Rattle.lsys_match.specs.Stored.{runs_of};
 ghost use Rattle.lsys_reads.specs.Relations.{SettledStay};
-ghost use Rattle.lsys_forest.specs.Nodes.{Node};
 ghost use Rattle.lsys_forest.specs.Groves.{now_of, IsLive};
 ghost use Rattle.lsys_kept.specs.Levels.{answer_at, tags_read};
-ghost use Rattle.lsys_pass.specs.Read.{pairs_of};
-ghost use Rattle.lsys_pass.specs.Steps.{TakesAnswer};
+ghost use Rattle.lsys_pass.specs.Read.{AddsPairs};
+ghost use Rattle.lsys_pass.specs.Steps.{TakesAnswerAt};
 
 use crate::read::add_reads;
 use lsys_forest::{Forest, NodeId};
@@ -70,11 +68,9 @@ pub(crate) fn keep<L: Ledger>(
     requires lives { IsLive forest.old node }
     requires notes { 0 < forest.old.spare_notes }
     requires live { AreLive store.old (runs_of answer) }
-    ensures kept { OnOk result ((n : Node KeptValue) → now_of forest.old node ≡ Some n
-        → TakesAnswer forest.old forest.new node n answer) }
+    ensures kept { OnOk result (TakesAnswerAt forest.old forest.new node answer) }
     ensures store { OnOk result (store.new ≡ store.old) }
-    ensures read { OnOk result
-        (reads.new.pending ≡ reads.old.pending ++ pairs_of node (tags_read store.old answer)) }
+    ensures read { OnOk result (AddsPairs reads.old reads.new node (tags_read store.old answer)) }
     ensures settled { SettledStay reads.old reads.new }
     ensures stays { OnErr result (forest.new ≡ forest.old) }
     ensures released { OnErr result (AreGone store.new (runs_of answer)) }

@@ -1,17 +1,17 @@
 //! The next level is made.
-ghost use Rattle.std.specs.Prelude.{◌≡◌, ◌≤◌, ◌<◌, ◌+◌, ◌^◌, ℕ, length, IfOk, OnOk};
+ghost use Rattle.std.specs.Prelude.{◌≡◌, ◌≤◌, ◌<◌, ◌+◌, ◌^◌, ℕ, IfOk, OnOk};
 ghost use Rattle.lsys_forest.specs.Groves.{AreSound, now_of, changes_in, live_nodes};
 ghost use Rattle.lsys_kept.specs.Levels.{answer_at};
 ghost use Rattle.lsys_repair.specs.Parents.{nodes_in, HasParents};
 ghost use Rattle.lsys_repair.specs.Needs.{needs};
 ghost use Rattle.lsys_pass.specs.declared.state.PassState.TheVariants.{Failed};
-ghost use Rattle.lsys_pass.specs.Sizes.{total_of, with_level};
+ghost use Rattle.lsys_pass.specs.Sizes.{total_of};
 ghost use Rattle.lsys_pass.specs.Advances.{symbols_wanted};
 ghost use Rattle.lsys_pass.specs.Passes.{stage_of, now};
 ghost use Rattle.lsys_pass.specs.Moves.{SameRun};
 ghost use Rattle.lsys_pass.specs.Beginnings.{KeepsNodes};
 ghost use Rattle.lsys_pass.specs.Made.{KeepsAnswers, MakesBelow};
-ghost use Rattle.lsys_pass.specs.Fresh.{WasAsked, row_of, AreNextParents, IsFresh, Goes};
+ghost use Rattle.lsys_pass.specs.Fresh.{WasAsked, AreNextParents, IsFresh, Goes, SizesLevel};
 
 use crate::keep::target;
 use crate::pass::Pass;
@@ -58,8 +58,7 @@ impl<L: Ledger> Pass<L> {
         requires below { level < self.old.next.depth }
         ensures fresh { OnOk result (IsFresh self.new (level + 1)) }
         ensures goes { OnOk result (Goes (stage_of self.old) (stage_of self.new) (level + 1)) }
-        ensures made { OnOk result
-            (self.new.made ≡ with_level self.old.made (length (row_of self.new (level + 1)))) }
+        ensures made { OnOk result (SizesLevel self.old self.new (level + 1)) }
         ensures answers { OnOk result
             ((k : ℕ) → answer_at (now self.new) k ≡ answer_at (now self.old) k) }
         ensures run { SameRun self.old self.new }
@@ -113,8 +112,7 @@ fn make_below<L: Ledger>(
     requires few { live_nodes forest.old < 2 ^ 32 }
     requires parents { HasParents (now_of forest.old) forest.old.root (nodes_in parents.now) }
     requires need { need.now ≡ needs system.now.numbering (now_of forest.old) parents.now }
-    ensures made { IfOk result (λ told.
-        MakesBelow system.now.numbering forest.old forest.new parents.now told) }
+    ensures made { IfOk result (MakesBelow system.now.numbering forest.old forest.new parents.now) }
     ensures keeps { KeepsAnswers forest.old forest.new }
 {
     let mut told = Changes::new(alloc);

@@ -1,8 +1,8 @@
 //! What is kept when a node was asked.
-ghost use Rattle.std.specs.Prelude.{◌≡◌, ◌<◌, ◌≤◌, length, OnOk, OnErr};
+ghost use Rattle.std.specs.Prelude.{◌<◌, ◌≤◌, length, OnOk, OnErr};
 ghost use Rattle.lsys_forest.specs.Groves.{IsLive};
 ghost use Rattle.lsys_pass.specs.Works.{HasRoom, OthersStay};
-ghost use Rattle.lsys_pass.specs.Steps.{IsLiveIfNew, KeepsOutcome, KeepsNothing};
+ghost use Rattle.lsys_pass.specs.Steps.{IsLiveIfNew, KeepsOutcomeIn, KeepsNothingIn};
 
 use crate::keep::keep;
 use crate::work::Work;
@@ -32,14 +32,8 @@ pub(crate) fn keep_outcome<L: Ledger>(
     requires live { IsLiveIfNew store.old outcome }
     requires room { HasRoom work.old }
     requires few { work.old.born ≤ length work.old.renewed.items }
-    ensures kept { OnOk result (KeepsOutcome node is_born
-        (record { forest = forest.old; store = store.old; reads = reads.old; work = work.old })
-        (record { forest = forest.new; store = store.new; reads = reads.new; work = work.new })
-        outcome) }
-    ensures refused { OnErr result (KeepsNothing
-        (record { forest = forest.old; store = store.old; reads = reads.old; work = work.old })
-        (record { forest = forest.new; store = store.new; reads = reads.new; work = work.new })
-        outcome) }
+    ensures kept { OnOk result (KeepsOutcomeIn node is_born forest store reads work outcome) }
+    ensures refused { OnErr result (KeepsNothingIn forest store reads work outcome) }
     ensures others { OthersStay work.old work.new }
 {
     match outcome {

@@ -1,14 +1,12 @@
 //! The parents whose children are made.
-ghost use Rattle.std.specs.Prelude.{◌≡◌, ◌↔◌, ◌+◌, ◌<◌, ◌≤◌, ℕ, true, false, map, length, None, IfOk, IfSome, IsTrue, OnOk, IfErr};
+ghost use Rattle.std.specs.Prelude.{◌≡◌, ◌↔◌, ◌<◌, ℕ, true, false, map, None, IfOk, IfSome};
 ghost use Rattle.lsys_forest.specs.Groves.{In, AreApart};
-ghost use Rattle.lsys_next.specs.Nexts.{AreClosed};
-ghost use Rattle.lsys_next.specs.Answers.{kept_successors};
-ghost use Rattle.lsys_repair.specs.Parents.{nodes_in, walked, whole};
-ghost use Rattle.lsys_seats.specs.Seats.{SameSeats, KeepsSeats};
+ghost use Rattle.lsys_repair.specs.Parents.{whole};
+ghost use Rattle.lsys_kept.specs.Seats.{SameSeats, KeepsSeats};
 ghost use Rattle.lsys_pass.specs.declared.state.PassState.TheVariants.{Failed};
 ghost use Rattle.lsys_pass.specs.Sizes.{with_open};
-ghost use Rattle.lsys_pass.specs.Passes.{now};
-ghost use Rattle.lsys_pass.specs.Fresh.{WasAsked, row_of, IsChanged, IsSameLevel, AreNextParents, AreWalkedOrAlone};
+ghost use Rattle.lsys_pass.specs.Fresh.{WasAsked, IsChanged, IsSameLevel, AreNextParents, AreWalkedOrAlone, IsClosedUnless};
+ghost use Rattle.lsys_pass.specs.NextParents.{AreWholeOrAlone};
 
 use crate::keep::target;
 use crate::pass::Pass;
@@ -40,8 +38,7 @@ impl<L: Ledger> Pass<L> {
         requires asked { WasAsked self.old level }
         ensures found { IfOk result (λ ps. AreNextParents self.new level ps.list.items) }
         ensures either { IfOk result (λ ps. AreWalkedOrAlone self.new level ps.is_whole ps.list.items) }
-        ensures closed { IfOk result (λ ps. ps.is_open ≡ false
-            → AreClosed (kept_successors (now self.new)) (row_of self.new level)) }
+        ensures closed { IfOk result (λ ps. IsClosedUnless self.new level ps.is_open) }
         ensures asked { WasAsked self.new level }
         ensures same { self.new ≡ record self.old { seats = self.new.seats; made = self.new.made } }
         ensures seats { SameSeats self.old.seats self.new.seats }
@@ -59,8 +56,7 @@ impl<L: Ledger> Pass<L> {
         requires asked { WasAsked self.old level }
         ensures found { IfOk result (λ ps. AreNextParents self.new level ps.list.items) }
         ensures either { IfOk result (λ ps. AreWalkedOrAlone self.new level ps.is_whole ps.list.items) }
-        ensures closed { IfOk result (λ ps. ps.is_open ≡ false
-            → AreClosed (kept_successors (now self.new)) (row_of self.new level)) }
+        ensures closed { IfOk result (λ ps. IsClosedUnless self.new level ps.is_open) }
         ensures asked { WasAsked self.new level }
         ensures same { self.new ≡ record self.old { seats = self.new.seats } }
         ensures seats { SameSeats self.old.seats self.new.seats }
@@ -104,10 +100,8 @@ impl<L: Ledger> Pass<L> {
         requires once { AreApart nodes.now }
         requires same { IsSameLevel self.now level }
         ensures found { IfOk result (λ o. IfSome o (λ ps. AreNextParents self.now level ps.list.items)) }
-        ensures either { IfOk result (λ o. IfSome o (λ ps.
-            AreWalkedOrAlone self.now level ps.is_whole ps.list.items)) }
-        ensures closed { IfOk result (λ o. IfSome o (λ ps. ps.is_open ≡ false
-            → AreClosed (kept_successors (now self.now)) (row_of self.now level))) }
+        ensures either { IfOk result (λ o. IfSome o (AreWholeOrAlone self.now level)) }
+        ensures closed { IfOk result (λ o. IfSome o (λ ps. IsClosedUnless self.now level ps.is_open)) }
     {
         if any_opens(&self.forest, nodes) {
             return Ok(None);
@@ -124,8 +118,7 @@ impl<L: Ledger> Pass<L> {
         requires asked { WasAsked self.now level }
         ensures found { IfOk result (λ ps. AreNextParents self.now level ps.list.items) }
         ensures either { IfOk result (λ ps. AreWalkedOrAlone self.now level ps.is_whole ps.list.items) }
-        ensures closed { IfOk result (λ ps. ps.is_open ≡ false
-            → AreClosed (kept_successors (now self.now)) (row_of self.now level)) }
+        ensures closed { IfOk result (λ ps. IsClosedUnless self.now level ps.is_open) }
     {
         let mut nodes = Vec::new(alloc);
         list_level(&self.forest, level, &mut nodes)?;

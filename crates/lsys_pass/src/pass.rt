@@ -1,16 +1,14 @@
 //! The pass.
-ghost use Rattle.std.specs.Prelude.{◌≡◌, ◌+◌, ◌-◌, ◌<◌, ◌≤◌, ◌≢◌, [], length, slice_get, Some, MatchOption, IfOk, OnOk, OnErr};
+ghost use Rattle.std.specs.Prelude.{◌≡◌, ◌+◌, ◌-◌, ◌<◌, ◌≢◌, [], length, slice_get, Some, MatchOption, IfOk, OnOk, OnErr};
 ghost use Rattle.lsys_spec.specs.Systems.{opening};
 ghost use Rattle.lsys_spec.specs.Questions.{questions};
-ghost use Rattle.lsys_match.specs.Derivations.{IsCount, Rises, most_read};
+ghost use Rattle.lsys_match.specs.Derivations.{Rises, most_read};
 ghost use Rattle.lsys_forest.specs.Groves.{In};
-ghost use Rattle.lsys_kept.specs.Meant.{meant};
 ghost use Rattle.lsys_pass.specs.declared.state.PassState.TheVariants.{Rest, Level, Done, Failed};
-ghost use Rattle.lsys_pass.specs.Passes.{HasOwnRuns, IsPass, stage_of};
-ghost use Rattle.lsys_pass.specs.Sizes.{total_of};
-ghost use Rattle.lsys_pass.specs.Advances.{IsAskedTo, symbols_wanted};
+ghost use Rattle.lsys_pass.specs.Passes.{HasOwnRuns, IsPass};
 ghost use Rattle.lsys_pass.specs.Works.{IsCleared};
-ghost use Rattle.lsys_pass.specs.Moves.{AtLevel, Fails, IsBack, IsRefusal, StepsOver, MovesOnce, Waits, Closes};
+ghost use Rattle.lsys_pass.specs.Moves.{AtLevel, Fails, IsBack, IsRefusal, StepsOver, Waits, Closes, CountsBoth, MovesBoth};
+ghost use Rattle.lsys_pass.specs.Spent.{AsksRenewed};
 
 use crate::keep::{answer_of, take_over, target};
 use crate::outcome::keep_outcome;
@@ -22,12 +20,11 @@ use crate::state::PassState;
 use crate::work::Work;
 use lsys_brood::Brood;
 use lsys_forest::{Forest, NodeId};
-use lsys_kept::KeptAnswer;
+use lsys_kept::{KeptAnswer, Seats};
 use lsys_match::{AnswerStore, Steps, ask};
 use lsys_reads::Reads;
 use lsys_rewrite::{DeriveRefusal, EditCount};
 use lsys_rules::System;
-use lsys_seats::Seats;
 use lsys_wanted::Wanted;
 use std::alloc::{AllocError, Global};
 use std::marker::Model;
@@ -198,10 +195,8 @@ impl<L: Ledger> Pass<L> {
         requires state { AtLevel self.old.state }
         requires pending { In node self.old.pending }
         ensures steps { OnOk result (StepsOver self.old self.new node) }
-        ensures renewed { OnOk result
-            (asked.new + length self.old.renewed ≡ asked.old + length self.new.renewed) }
-        ensures moves { OnOk result (MovesOnce self.old node
-            (λ asks reads. (asked.new ≡ asked.old + asks) × (visited.new ≡ visited.old + reads))) }
+        ensures renewed { OnOk result (AsksRenewed self.old self.new asked.old asked.new) }
+        ensures moves { OnOk result (MovesBoth self.old node asked.old asked.new visited.old visited.new) }
         ensures waits { OnErr result (Waits self.old self.new) }
         ensures few_asked { Rises 0 1 asked.old asked.new }
         ensures few_read { Rises 0 most_read visited.old visited.new }
@@ -239,9 +234,7 @@ impl<L: Ledger> Pass<L> {
     pub fn close(&mut self) -> EditCount
         requires { self.old.state ≡ Done }
         ensures closes { Closes self.old self.new }
-        ensures counts { IsCount
-            (questions self.old.system (meant self.old.system self.old.limit))
-            (questions self.old.next (meant self.old.next self.old.limit)) result }
+        ensures counts { CountsBoth self.old result }
         ensures asked { result.asked ≡ length self.old.renewed }
         ensures runs { HasOwnRuns self.new }
     {

@@ -1,8 +1,7 @@
 //! What an answer read.
-ghost use Rattle.std.specs.Prelude.{◌≡◌, ◌++◌, ◌&&◌, ◌||◌, not, ℕ, [], OnOk, OnErr};
-ghost use Rattle.lsys_reads.specs.Rows.{has};
-ghost use Rattle.lsys_reads.specs.Relations.{SettledStay, is_settled, is_pending};
-ghost use Rattle.lsys_pass.specs.Read.{entry_tags, entries_tags, pairs_of, ComesBehind};
+ghost use Rattle.std.specs.Prelude.{◌≡◌, [], OnOk, OnErr};
+ghost use Rattle.lsys_reads.specs.Relations.{SettledStay};
+ghost use Rattle.lsys_pass.specs.Read.{entry_tags, entries_tags, ComesBehind, AddsPairs, SettlesReads};
 
 use crate::work::Work;
 use lsys_level::Tag;
@@ -17,8 +16,7 @@ use std::alloc::AllocError;
 /// Want of memory. Both relations stay then.
 pub(crate) fn add_reads(reads: &mut Reads, reader: Tag, entries: &[Entry]) -> Result<(), AllocError>
     ensures settled { SettledStay reads.old reads.new }
-    ensures ok { OnOk result
-        (reads.new.pending ≡ reads.old.pending ++ pairs_of reader (entries_tags entries.now)) }
+    ensures ok { OnOk result (AddsPairs reads.old reads.new reader (entries_tags entries.now)) }
     ensures err { OnErr result (reads.new.pending ≡ reads.old.pending) }
 {
     let pairs = reads.pending();
@@ -32,10 +30,7 @@ pub(crate) fn add_reads(reads: &mut Reads, reader: Tag, entries: &[Entry]) -> Re
 /// Who read what, when a pass ends: what those read that were dropped is forgotten, and what those read that were renewed is what
 /// is pending. It takes no memory.
 pub(crate) fn settle_reads(reads: &mut Reads, work: &mut Work)
-    ensures settled { (reader seen : ℕ) → is_settled reads.new reader seen
-        ≡ ((not (has work.old.renewed.items reader)
-        && (not (has work.old.dropped.items reader) && is_settled reads.old reader seen))
-        || is_pending reads.old reader seen) }
+    ensures settled { SettlesReads reads.old reads.new work.old.renewed.items work.old.dropped.items }
     ensures pending { reads.new.pending ≡ [] }
     ensures moved { work.new.moved ≡ work.old.moved }
 {
@@ -49,8 +44,7 @@ pub(crate) fn settle_reads(reads: &mut Reads, work: &mut Work)
 fn add_entries(reads: &mut Reads, reader: Tag, entries: &[Entry]) -> Result<(), AllocError>
     ensures settled { SettledStay reads.old reads.new }
     ensures behind { ComesBehind reads.old.pending reads.new.pending }
-    ensures ok { OnOk result
-        (reads.new.pending ≡ reads.old.pending ++ pairs_of reader (entries_tags entries.now)) }
+    ensures ok { OnOk result (AddsPairs reads.old reads.new reader (entries_tags entries.now)) }
 {
     for entry in entries {
         add_entry(reads, reader, entry)?;
@@ -62,8 +56,7 @@ fn add_entries(reads: &mut Reads, reader: Tag, entries: &[Entry]) -> Result<(), 
 fn add_entry(reads: &mut Reads, reader: Tag, entry: &Entry) -> Result<(), AllocError>
     ensures settled { SettledStay reads.old reads.new }
     ensures behind { ComesBehind reads.old.pending reads.new.pending }
-    ensures ok { OnOk result
-        (reads.new.pending ≡ reads.old.pending ++ pairs_of reader (entry_tags entry.now)) }
+    ensures ok { OnOk result (AddsPairs reads.old reads.new reader (entry_tags entry.now)) }
 {
     reads.add(reader, entry.tag)?;
     if entry.kind == EntryKind::Branch {

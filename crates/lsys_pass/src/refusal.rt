@@ -3,10 +3,8 @@ ghost use Rattle.std.specs.Prelude.{◌≡◌, ◌⊎◌, ◌+◌, ◌<◌, ◌�
 ghost use Rattle.lsys_forest.specs.Rows.{IsAtSpot, complete_levels, level_of_node, place_of_node};
 ghost use Rattle.lsys_level.specs.Spots.{IsSpot, level_at};
 ghost use Rattle.lsys_level.specs.Views.{seen_of};
-ghost use Rattle.lsys_spec.specs.Systems.{System};
-ghost use Rattle.lsys_next.specs.Nexts.{wanted_count};
-ghost use Rattle.lsys_pass.specs.Moves.{IsRefusal};
-ghost use Rattle.lsys_pass.specs.Leftmost.{AreOnLevel, IsLeftmost, IsFirstFault, is_one, modules_before};
+ghost use Rattle.lsys_pass.specs.Leftmost.{AreOnLevel, IsLeftmost, IsFirstFault, is_one, modules_at};
+ghost use Rattle.lsys_pass.specs.Beginnings.{RefusesLongAxiom};
 
 use crate::fault::Faulted;
 use lsys_forest::{Forest, Kept};
@@ -34,8 +32,7 @@ pub(crate) fn first_fault<A: Kept>(
 
 /// Why level 0, which would have so many symbols, can't be made; none where there is room for it.
 pub(crate) fn first_refusal(limit: u32, symbols: usize) -> Option<DeriveRefusal>
-    ensures { (s : System) → symbols ≡ wanted_count s.numbering s.axiom_string
-        → MatchOption result (symbols ≤ limit) (IsRefusal s limit) }
+    ensures { RefusesLongAxiom limit symbols result }
 {
     if symbols > limit as usize {
         Some(DeriveRefusal::Limit { level: 0 })
@@ -76,8 +73,7 @@ fn first_of<A: Kept>(forest: &Forest<A>, one: Faulted, two: Faulted) -> Faulted
 fn module_number<W: LevelView>(view: &W, spot: W::Spot) -> u32
     requires spot { IsSpot (W.levels view.now) (W.level_of view.now spot) (W.place_of view.now spot) }
     requires few { W.place_of view.now spot + 1 < 2 ^ 32 }
-    ensures { result
-        ≡ modules_before (level_at (W.levels view.now) (W.level_of view.now spot)) (W.place_of view.now spot) + 1 }
+    ensures { result ≡ modules_at W.LevelView view.now spot + 1 }
 {
     let mut number = 1;
     let mut at = view.left(spot);

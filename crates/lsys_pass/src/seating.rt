@@ -1,11 +1,12 @@
 //! Seats of many nodes.
 ghost use Rattle.std.specs.Prelude.{◌≡◌, ℕ, OnOk};
 ghost use Rattle.lsys_forest.specs.Groves.{In, IsLive};
-ghost use Rattle.lsys_seats.specs.Neighbours.{neighbours_in, IsOnLevel};
-ghost use Rattle.lsys_seats.specs.Seats.{neighbours_at, HasSeat, SameSeats, SameMarks, KeepsSeats};
+ghost use Rattle.lsys_kept.specs.Neighbours.{neighbours_in, IsOnLevel};
+ghost use Rattle.lsys_kept.specs.Seats.{neighbours_at, HasSeat, SameSeats, SameMarks, KeepsSeats};
+ghost use Rattle.lsys_pass.specs.SeatedAnew.{KeepsOtherSeats};
 
 use lsys_forest::{Forest, Kept, NodeId};
-use lsys_seats::Seats;
+use lsys_kept::Seats;
 use std::alloc::AllocError;
 
 /// Sets the seats of these nodes: each tells who is beside its node now. It takes no memory.
@@ -14,8 +15,7 @@ pub(crate) fn seat_all<A: Kept>(seats: &mut Seats, forest: &Forest<A>, nodes: &[
     requires room { (k : ℕ) → In k nodes.now → HasSeat seats.old k }
     ensures seated { (k : ℕ) → In k nodes.now
         → neighbours_at seats.new k ≡ neighbours_in forest.now k }
-    ensures others { (k : ℕ) → (In k nodes.now → ⊥)
-        → neighbours_at seats.new k ≡ neighbours_at seats.old k }
+    ensures others { KeepsOtherSeats seats.old seats.new nodes.now }
     ensures marks { SameMarks seats.old seats.new }
     ensures keeps { KeepsSeats seats.old seats.new }
 {

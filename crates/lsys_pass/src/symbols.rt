@@ -1,12 +1,11 @@
 //! How long the next level will be.
-ghost use Rattle.std.specs.Prelude.{◌≡◌, ◌-◌, ◌+◌, ◌<◌, ◌≤◌, length, IfOk, OnOk, IfErr};
-ghost use Rattle.lsys_forest.specs.Groves.{live_nodes};
-ghost use Rattle.lsys_repair.specs.Needs.{IsSmall, count_of, had_by_all, needs};
+ghost use Rattle.std.specs.Prelude.{◌≡◌, ◌-◌, ◌+◌, ◌<◌, ◌≤◌, IfOk, OnOk, IfErr};
 ghost use Rattle.lsys_pass.specs.Sizes.{total_of};
 ghost use Rattle.lsys_pass.specs.Moves.{IsRefusal};
-ghost use Rattle.lsys_pass.specs.Passes.{stage_of, now};
+ghost use Rattle.lsys_pass.specs.Passes.{stage_of};
 ghost use Rattle.lsys_pass.specs.Advances.{symbols_wanted};
 ghost use Rattle.lsys_pass.specs.Fresh.{WasAsked, AreNextParents, AreWalkedOrAlone};
+ghost use Rattle.lsys_pass.specs.NextParents.{IsSmallCount, count_for, needs_of};
 
 use crate::ending::gone_nodes;
 use crate::keep::target;
@@ -44,8 +43,7 @@ impl<L: Ledger> Pass<L> {
         requires either { AreWalkedOrAlone self.old level parents.now.is_whole
             parents.now.list.items }
         ensures same { self.new ≡ self.old }
-        ensures need { IfOk result (λ n. n.need
-            ≡ needs self.old.next.numbering (now self.old) parents.now.list.items) }
+        ensures need { IfOk result (λ n. n.need ≡ needs_of self.old parents.now) }
         ensures symbols { IfOk result (λ n. n.symbols ≡ symbols_wanted (stage_of self.old) level) }
     {
         let numbering = target(&self.next, &self.system).lineage();
@@ -68,10 +66,8 @@ impl<L: Ledger> Pass<L> {
         requires found { AreNextParents self.now level parents.now.list.items }
         requires either { AreWalkedOrAlone self.now level parents.now.is_whole
             parents.now.list.items }
-        requires count { count.now
-            ≡ count_of self.now.next.numbering (now self.now) parents.now.list.items }
-        requires few { IsSmall (length parents.now.list.items)
-            (had_by_all (now self.now) parents.now.list.items) count.now }
+        requires count { count.now ≡ count_for self.now parents.now }
+        requires few { IsSmallCount self.now parents.now count.now }
         ensures { result ≡ symbols_wanted (stage_of self.now) level }
     {
         if parents.is_whole {

@@ -1,19 +1,19 @@
 //! Which nodes of a level turned, and who else on it may have another question.
-ghost use Rattle.std.specs.Prelude.{◌≡◌, ◌<◌, ◌^◌, ◌++◌, ℕ, false, length, IfOk, OnOk};
-ghost use Rattle.lsys_forest.specs.Groves.{In, IsLive, now_of};
-ghost use Rattle.lsys_seats.specs.Seats.{is_marked, SameSeats, KeepsSeats};
-ghost use Rattle.lsys_candidates.specs.Found.{AreOnLevels, HasRoom, IsFound};
-ghost use Rattle.lsys_front.specs.Ends.{answered_in};
+ghost use Rattle.std.specs.Prelude.{◌≡◌, ◌<◌, ◌^◌, ℕ, false, length, IfOk, OnOk};
+ghost use Rattle.lsys_forest.specs.Groves.{In, IsLive};
+ghost use Rattle.lsys_kept.specs.Seats.{is_marked, SameSeats, KeepsSeats};
+ghost use Rattle.lsys_candidates.specs.Found.{AreOnLevels, HasRoom};
 ghost use Rattle.lsys_pass.specs.declared.state.PassState.TheVariants.{Failed};
 ghost use Rattle.lsys_pass.specs.Passes.{stage_of};
-ghost use Rattle.lsys_pass.specs.Fresh.{Goes, IsFresh, HasFound};
+ghost use Rattle.lsys_pass.specs.Fresh.{Goes, IsFresh, FindsTurned, TurnsOnly};
+ghost use Rattle.lsys_pass.specs.Works.{DropsGone, IsFoundBy, MovesTurned};
 
 use crate::pass::Pass;
 use crate::work::Work;
 use lsys_forest::{Forest, Kept};
 use lsys_front::{Found, add_answered};
+use lsys_kept::Seats;
 use lsys_reads::Reads;
-use lsys_seats::Seats;
 use std::alloc::{AllocError, Global};
 use std::sync::ledger::Ledger;
 
@@ -30,16 +30,9 @@ impl<L: Ledger> Pass<L> {
     pub(crate) fn find_turned(&mut self, alloc: Global) -> Result<Found, AllocError>
         requires failed { self.old.state ≡ Failed }
         requires fresh { (t : ℕ) × (t < 2 ^ 32) × IsFresh self.old t }
-        ensures found { IfOk result (λ f. (t : ℕ) → IsFresh self.old t
-            → HasFound self.new t f.beside.items f.readers.items) }
+        ensures found { IfOk result (λ f. FindsTurned self.old self.new f.beside.items f.readers.items) }
         ensures goes { OnOk result ((t : ℕ) → Goes (stage_of self.old) (stage_of self.new) t) }
-        ensures same { self.new ≡ record self.old {
-          seats = self.new.seats;
-          dropped = self.new.dropped;
-          moved = self.new.moved;
-          front = self.new.front;
-          first_renewed = self.new.first_renewed;
-        } }
+        ensures same { TurnsOnly self.old self.new }
         ensures seats { SameSeats self.old.seats self.new.seats }
         ensures keeps { KeepsSeats self.old.seats self.new.seats }
     {
@@ -66,12 +59,9 @@ impl Work {
         requires levels { AreOnLevels forest.now self.old.front.changes }
         requires room { HasRoom forest.now reads.now self.old.front.changes seats.old }
         requires clear { (k : ℕ) → is_marked seats.old k ≡ false }
-        ensures found { IfOk result (λ f. IsFound forest.now seats.old reads.now
-            self.old.front.changes self.new.front.turned f.beside.items f.readers.items) }
-        ensures dropped { OnOk result (self.new.dropped.items ≡ self.old.dropped.items
-            ++ answered_in (now_of forest.now) self.old.front.changes.gone) }
-        ensures moved { OnOk result (self.new.moved.items ≡ self.old.moved.items
-            ++ (self.old.front.changes.came ++ self.new.front.turned)) }
+        ensures found { IfOk result (IsFoundBy forest.now seats.old reads.now self.old self.new) }
+        ensures dropped { OnOk result (DropsGone forest.now self.old self.new) }
+        ensures moved { OnOk result (MovesTurned self.old self.new) }
         ensures first { OnOk result (self.new.first_renewed ≡ length self.old.renewed.items) }
         ensures changes { self.new.front.changes ≡ self.old.front.changes }
         ensures bare { self.new.front.bare ≡ self.old.front.bare }

@@ -1,6 +1,6 @@
 //! What a pass works on.
 ghost use Rattle.std.specs.Prelude.{◌≡◌, ◌≤◌, ◌+◌, ◌++◌, ◌∷◌, [], length, if◌then◌else◌, OnOk};
-ghost use Rattle.lsys_pass.specs.Works.{HasRoom, OthersStay, IsCleared};
+ghost use Rattle.lsys_pass.specs.Works.{HasRoom, OthersStay, IsCleared, faulted};
 
 use crate::fault::Faulted;
 use crate::keep::push_in_room;
@@ -75,8 +75,7 @@ impl Work {
     /// A node has this fault. It takes no memory.
     pub(crate) fn note(&mut self, node: NodeId, kind: FaultKind)
         requires room { HasRoom self.old }
-        ensures faults { self.new.faults.items
-            ≡ self.old.faults.items ++ record { node = node; kind = kind } ∷ [] }
+        ensures faults { self.new.faults.items ≡ self.old.faults.items ++ faulted node kind ∷ [] }
         ensures renewed { self.new.renewed.items ≡ self.old.renewed.items }
         ensures born { self.new.born ≡ self.old.born }
         ensures others { OthersStay self.old self.new }

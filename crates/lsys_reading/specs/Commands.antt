@@ -1,9 +1,9 @@
 -- The command that tokens spell, by the parts that they are.
-use Rattle.std.specs.Prelude.{◌≡◌, List, [], map}
+use Rattle.std.specs.Prelude.{◌≡◌, Result, List, [], map}
 use Rattle.lsys_syntax.specs.Tokens.{Kind}
 use Rattle.lsys_syntax.specs.Strings.{Symbol, Signed}
 use Rattle.lsys_syntax.specs.Commands as spec
-use Rattle.lsys_syntax.specs.LineMachine.{InAxiom, Symbols, Verdict, sentence}
+use Rattle.lsys_syntax.specs.LineMachine.{State, InAxiom, Symbols, Whole, Verdict, sentence}
 use Rattle.lsys_module.specs.Views.{module_name}
 use Rattle.lsys_reading.specs.declared.parts.LatticeName.{LatticeName}
 use Rattle.lsys_reading.specs.declared.parts.LatticeName.TheVariants as lattices
@@ -14,7 +14,8 @@ use Rattle.lsys_reading.specs.declared.parts.Numbering.TheVariants as numberings
 use Rattle.lsys_reading.specs.declared.parts.Parts.{Parts}
 use Rattle.lsys_reading.specs.declared.parts.Parts.TheVariants.{Axiom, Production, Drop, Ignore, Schedule, Seed, Depth, Lattice, Homomorphism, String, Segments, Svg, Show, Quit, Version, Own, Common, Lineage}
 use Rattle.lsys_reading.specs.RuleLines.{rule_at, IsRuleLine}
-use Rattle.lsys_reading.specs.Lines.{line_at}
+use Rattle.lsys_reading.specs.declared.refusal.PartRefusal.{PartRefusal}
+use Rattle.lsys_reading.specs.Lines.{line_at, IsRest}
 
 abbrev pub lattice_of : LatticeName → spec.Lattice
 lattice_of lattices.Square = spec.square
@@ -58,6 +59,14 @@ parts_command ks (Version n) = spec.set_version n
 parts_command ks (Own o) = spec.set_own (list_kind_of o.kind) o.table (map module_name o.names.items)
 parts_command ks (Common t) = spec.drop_own t
 parts_command ks (Lineage g) = spec.set_numbering (numbering_of g)
+
+-- Behind the word of a line, where the reading is in this state, stand the parts of a command.
+abbrev pub IsCommandRest : List Kind → State → Result Parts PartRefusal → Type 0
+IsCommandRest ks s result = IsRest ks 1 s (parts_command ks) result
+
+-- Behind the word of a command that is this word alone the line ends.
+abbrev pub IsCommandEnd : List Kind → Parts → Result Parts PartRefusal → Type 0
+IsCommandEnd ks parts result = IsCommandRest ks (Whole (parts_command ks parts)) result
 
 -- An axiom's string is one, and every expression of a rule stands at its span.
 abbrev pub AreParts : List Kind → Parts → Type 0

@@ -98,3 +98,7 @@ IsSymbolRead st ks at result = (m : Form) (p : Part) (r : List (S.Symbol NameTex
 abbrev pub ArePatternsRead : Section → List Kind → ℕ → Result PatternsRead PartRefusal → Type 0
 ArePatternsRead s ks at result = (m : Form) (p : Part) → IsSection s m p
     → IsRead m ks at (at_state (Formals p [])) (λ x. x.end) (λ x. after_symbols p (so_far x.symbols.items)) result
+
+-- so many branches are told as are open behind the symbols that were read
+abbrev pub CountsBranches : PatternsRead → Type 0
+CountsBranches x = x.branches ≡ open_in (reversed (map pattern_of x.symbols.items))

@@ -1,10 +1,10 @@
 //! The rest of each command behind its word.
 ghost use Rattle.std.specs.Prelude.{◌≡◌, ◌≤◌, [], IfOk};
-ghost use Rattle.lsys_syntax.specs.LineMachine.{of_ignored, VersionDue, TableDue, CommonDue, NumberingDue, InAxiom, Symbols, ProductionDue, DropDue, SeedDue, DepthDue, InNames, ScheduleDue, LatticeDue, LabelDue, StringRead, Whole, Fresh};
+ghost use Rattle.lsys_syntax.specs.LineMachine.{of_ignored, VersionDue, TableDue, CommonDue, NumberingDue, InAxiom, Symbols, ProductionDue, DropDue, SeedDue, DepthDue, InNames, ScheduleDue, LatticeDue, LabelDue, StringRead, Fresh};
 ghost use Rattle.lsys_reading.specs.Tokens.{kinds_in, size};
 ghost use Rattle.lsys_reading.specs.Lines.{IsPart, IsRest, AreNames};
 ghost use Rattle.lsys_reading.specs.Words.{word_state};
-ghost use Rattle.lsys_reading.specs.Commands.{list_kind_of, parts_command, AreParts};
+ghost use Rattle.lsys_reading.specs.Commands.{list_kind_of, parts_command, AreParts, IsCommandRest, IsCommandEnd};
 
 use crate::form::Form;
 use crate::heading::{homomorphism_heading, production_heading, table_heading};
@@ -41,7 +41,7 @@ fn command(line: &LineTokens) -> Result<CommandWord, PartRefusal>
 // What stands behind this word.
 fn parts_behind(alloc: Global, line: &LineTokens, word: CommandWord) -> Result<Parts, PartRefusal>
     requires { 1 ≤ size line.now }
-    ensures rest { IsRest (kinds_in line.now) 1 (word_state word) (parts_command (kinds_in line.now)) result }
+    ensures rest { IsCommandRest (kinds_in line.now) (word_state word) result }
     ensures parts { IfOk result (AreParts (kinds_in line.now)) }
 {
     match word {
@@ -70,7 +70,7 @@ fn parts_behind(alloc: Global, line: &LineTokens, word: CommandWord) -> Result<P
 // Behind `axiom`: a string, whose parameters are numbers.
 fn axiom(line: &LineTokens) -> Result<Parts, PartRefusal>
     requires { 1 ≤ size line.now }
-    ensures rest { IsRest (kinds_in line.now) 1 (InAxiom (Symbols [])) (parts_command (kinds_in line.now)) result }
+    ensures rest { IsCommandRest (kinds_in line.now) (InAxiom (Symbols [])) result }
     ensures parts { IfOk result (AreParts (kinds_in line.now)) }
 {
     match scan_string(&line.tokens, 1) {
@@ -81,7 +81,7 @@ fn axiom(line: &LineTokens) -> Result<Parts, PartRefusal>
 
 // Behind `production`: a table, where it is written, a label, a colon and a rule.
 fn production(alloc: Global, line: &LineTokens) -> Result<Parts, PartRefusal>
-    ensures rest { IsRest (kinds_in line.now) 1 ProductionDue (parts_command (kinds_in line.now)) result }
+    ensures rest { IsCommandRest (kinds_in line.now) ProductionDue result }
     ensures parts { IfOk result (AreParts (kinds_in line.now)) }
 {
     let heading = production_heading(line)?;
@@ -95,7 +95,7 @@ fn production(alloc: Global, line: &LineTokens) -> Result<Parts, PartRefusal>
 
 // Behind `hom`: a label, a colon and a rule.
 fn homomorphism(alloc: Global, line: &LineTokens) -> Result<Parts, PartRefusal>
-    ensures rest { IsRest (kinds_in line.now) 1 LabelDue (parts_command (kinds_in line.now)) result }
+    ensures rest { IsCommandRest (kinds_in line.now) LabelDue result }
     ensures parts { IfOk result (AreParts (kinds_in line.now)) }
 {
     let heading = homomorphism_heading(line)?;
@@ -109,7 +109,7 @@ fn homomorphism(alloc: Global, line: &LineTokens) -> Result<Parts, PartRefusal>
 
 // Behind `drop`: a label.
 fn drop(line: &LineTokens) -> Result<Parts, PartRefusal>
-    ensures rest { IsRest (kinds_in line.now) 1 DropDue (parts_command (kinds_in line.now)) result }
+    ensures rest { IsCommandRest (kinds_in line.now) DropDue result }
     ensures parts { IfOk result (AreParts (kinds_in line.now)) }
 {
     Ok(Parts::Drop(last_word(line)?))
@@ -117,7 +117,7 @@ fn drop(line: &LineTokens) -> Result<Parts, PartRefusal>
 
 // Behind `seed`: a number.
 fn seed(line: &LineTokens) -> Result<Parts, PartRefusal>
-    ensures rest { IsRest (kinds_in line.now) 1 SeedDue (parts_command (kinds_in line.now)) result }
+    ensures rest { IsCommandRest (kinds_in line.now) SeedDue result }
     ensures parts { IfOk result (AreParts (kinds_in line.now)) }
 {
     Ok(Parts::Seed(last_number(line)?))
@@ -125,7 +125,7 @@ fn seed(line: &LineTokens) -> Result<Parts, PartRefusal>
 
 // Behind `depth`: a number.
 fn depth(line: &LineTokens) -> Result<Parts, PartRefusal>
-    ensures rest { IsRest (kinds_in line.now) 1 DepthDue (parts_command (kinds_in line.now)) result }
+    ensures rest { IsCommandRest (kinds_in line.now) DepthDue result }
     ensures parts { IfOk result (AreParts (kinds_in line.now)) }
 {
     Ok(Parts::Depth(last_number(line)?))
@@ -150,7 +150,7 @@ fn names(alloc: Global, line: &LineTokens, from: usize) -> Result<Vec<Name>, Par
 // Behind `ignore`: names.
 fn ignore(alloc: Global, line: &LineTokens) -> Result<Parts, PartRefusal>
     requires { 1 ≤ size line.now }
-    ensures rest { IsRest (kinds_in line.now) 1 (InNames of_ignored []) (parts_command (kinds_in line.now)) result }
+    ensures rest { IsCommandRest (kinds_in line.now) (InNames of_ignored []) result }
     ensures parts { IfOk result (AreParts (kinds_in line.now)) }
 {
     Ok(Parts::Ignore(names(alloc, line, 1)?))
@@ -158,7 +158,7 @@ fn ignore(alloc: Global, line: &LineTokens) -> Result<Parts, PartRefusal>
 
 // Behind `ignoring` or `consider`: a table, a colon and names.
 fn own(alloc: Global, line: &LineTokens, kind: ListKind) -> Result<Parts, PartRefusal>
-    ensures rest { IsRest (kinds_in line.now) 1 (TableDue (list_kind_of kind)) (parts_command (kinds_in line.now)) result }
+    ensures rest { IsCommandRest (kinds_in line.now) (TableDue (list_kind_of kind)) result }
     ensures parts { IfOk result (AreParts (kinds_in line.now)) }
 {
     let table = table_heading(line)?;
@@ -168,7 +168,7 @@ fn own(alloc: Global, line: &LineTokens, kind: ListKind) -> Result<Parts, PartRe
 
 // Behind `common`: a table.
 fn common(line: &LineTokens) -> Result<Parts, PartRefusal>
-    ensures rest { IsRest (kinds_in line.now) 1 CommonDue (parts_command (kinds_in line.now)) result }
+    ensures rest { IsCommandRest (kinds_in line.now) CommonDue result }
     ensures parts { IfOk result (AreParts (kinds_in line.now)) }
 {
     Ok(Parts::Common(last_word(line)?))
@@ -176,7 +176,7 @@ fn common(line: &LineTokens) -> Result<Parts, PartRefusal>
 
 // Behind `version`: a number.
 fn version(line: &LineTokens) -> Result<Parts, PartRefusal>
-    ensures rest { IsRest (kinds_in line.now) 1 VersionDue (parts_command (kinds_in line.now)) result }
+    ensures rest { IsCommandRest (kinds_in line.now) VersionDue result }
     ensures parts { IfOk result (AreParts (kinds_in line.now)) }
 {
     Ok(Parts::Version(last_number(line)?))
@@ -184,7 +184,7 @@ fn version(line: &LineTokens) -> Result<Parts, PartRefusal>
 
 // Behind `lineage`: the name of a numbering.
 fn lineage(line: &LineTokens) -> Result<Parts, PartRefusal>
-    ensures rest { IsRest (kinds_in line.now) 1 NumberingDue (parts_command (kinds_in line.now)) result }
+    ensures rest { IsCommandRest (kinds_in line.now) NumberingDue result }
     ensures parts { IfOk result (AreParts (kinds_in line.now)) }
 {
     match numbering_name(word(line, 1)?) {
@@ -198,7 +198,7 @@ fn lineage(line: &LineTokens) -> Result<Parts, PartRefusal>
 
 // Behind `schedule`: words, one at least.
 fn schedule(alloc: Global, line: &LineTokens) -> Result<Parts, PartRefusal>
-    ensures rest { IsRest (kinds_in line.now) 1 ScheduleDue (parts_command (kinds_in line.now)) result }
+    ensures rest { IsCommandRest (kinds_in line.now) ScheduleDue result }
     ensures parts { IfOk result (AreParts (kinds_in line.now)) }
 {
     let first = word(line, 1)?;
@@ -216,7 +216,7 @@ fn schedule(alloc: Global, line: &LineTokens) -> Result<Parts, PartRefusal>
 
 // Behind `lattice`: the name of one.
 fn lattice(line: &LineTokens) -> Result<Parts, PartRefusal>
-    ensures rest { IsRest (kinds_in line.now) 1 LatticeDue (parts_command (kinds_in line.now)) result }
+    ensures rest { IsCommandRest (kinds_in line.now) LatticeDue result }
     ensures parts { IfOk result (AreParts (kinds_in line.now)) }
 {
     match lattice_name(word(line, 1)?) {
@@ -230,7 +230,7 @@ fn lattice(line: &LineTokens) -> Result<Parts, PartRefusal>
 
 // Behind `string`: a level's number, or nothing.
 fn string(line: &LineTokens) -> Result<Parts, PartRefusal>
-    ensures rest { IsRest (kinds_in line.now) 1 StringRead (parts_command (kinds_in line.now)) result }
+    ensures rest { IsCommandRest (kinds_in line.now) StringRead result }
     ensures parts { IfOk result (AreParts (kinds_in line.now)) }
 {
     if line.len() <= 1 {
@@ -241,7 +241,7 @@ fn string(line: &LineTokens) -> Result<Parts, PartRefusal>
 
 // Behind the word of a command that is this word alone: nothing.
 fn alone(line: &LineTokens, parts: Parts) -> Result<Parts, PartRefusal>
-    ensures end { IsRest (kinds_in line.now) 1 (Whole (parts_command (kinds_in line.now) parts)) (parts_command (kinds_in line.now)) result }
+    ensures end { IsCommandEnd (kinds_in line.now) parts result }
     ensures parts { IfOk result (λ p. p ≡ parts) }
 {
     end(line, 1)?;

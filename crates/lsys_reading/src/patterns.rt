@@ -1,8 +1,7 @@
 //! Symbols with formals: the contexts of a rule, and its predecessor.
-ghost use Rattle.std.specs.Prelude.{◌≡◌, ◌≤◌, ◌<◌, length, map, IfOk, IfSome};
-ghost use Rattle.lsys_syntax.specs.RuleMachine.{reversed, open_in};
+ghost use Rattle.std.specs.Prelude.{◌≡◌, ◌≤◌, ◌<◌, IfOk, IfSome};
 ghost use Rattle.lsys_reading.specs.Tokens.{kinds_in, size};
-ghost use Rattle.lsys_reading.specs.Patterns.{pattern_of, takes_name, opening_of, branches_behind, IsModuleRead, IsSymbolRead, ArePatternsRead};
+ghost use Rattle.lsys_reading.specs.Patterns.{pattern_of, takes_name, opening_of, branches_behind, IsModuleRead, IsSymbolRead, ArePatternsRead, CountsBranches};
 
 use crate::formals::{FormalsRead, formals};
 use crate::glyph::{Glyph, peek};
@@ -181,7 +180,7 @@ pub(crate) fn patterns(
 ) -> Result<PatternsRead, PartRefusal>
     requires within { at ≤ size line.now }
     ensures read { ArePatternsRead section (kinds_in line.now) at result }
-    ensures branches { IfOk result (λ x. x.branches ≡ open_in (reversed (map pattern_of x.symbols.items))) }
+    ensures branches { IfOk result CountsBranches }
     ensures place { IfOk result (λ x. (at ≤ x.end) × (x.end ≤ size line.now)) }
 {
     let mut symbols = Vec::new(alloc);

@@ -1,8 +1,6 @@
 //! The places of a line's tokens.
-ghost use Rattle.std.specs.Prelude.{◌≡◌, [], drop, MatchOption};
-ghost use Rattle.lsys_text.specs.Tokens.{kind_of};
-ghost use Rattle.lsys_syntax.specs.RulePoints.{Here};
-ghost use Rattle.lsys_reading.specs.Tokens.{kinds_in, size, column_in};
+ghost use Rattle.std.specs.Prelude.{◌≡◌, MatchOption};
+ghost use Rattle.lsys_reading.specs.Tokens.{size, column_in, HasTokenAt, EndsBy};
 ghost use Rattle.lsys_reading.specs.Refusals.{refusal_in};
 
 use crate::line_tokens::LineTokens;
@@ -12,7 +10,7 @@ use lsys_text::Token;
 impl LineTokens {
     // The token at a place.
     pub(crate) fn at(&self, place: usize) -> Option<&Token>
-        ensures { MatchOption result (drop place (kinds_in self.now) ≡ []) (λ t. Here (kinds_in self.now) place (kind_of t.now.kind)) }
+        ensures { MatchOption result (EndsBy self.now place) (λ t. HasTokenAt self.now place t.now.kind) }
     {
         self.tokens.get(place)
     }

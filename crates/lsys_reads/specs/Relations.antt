@@ -1,5 +1,5 @@
 -- What a contract sees of two relations between readers and what they saw.
-use Rattle.std.specs.Prelude.{◌≡◌, ◌≢◌, ℕ, ◌+◌, List, [], ◌∷◌, map, slice_index_or, Bool, ◌||◌, ◌&&◌, ◌==◌, cond, true, false, refl}
+use Rattle.std.specs.Prelude.{◌≡◌, ◌≢◌, ℕ, ◌+◌, List, [], ◌∷◌, ◌++◌, map, slice_index_or, Bool, ◌||◌, ◌&&◌, not, ◌==◌, cond, true, false, refl}
 use Rattle.std.specs.Coded.{Coded, code_by, coded×, coded_ℕ, coded_list}
 use Rattle.lsys_reads.specs.declared.Pair.{Pair}
 use Rattle.lsys_reads.specs.Rows.{Row, row_at, has, AreRising, OtherRowsStay}
@@ -67,3 +67,30 @@ pub record Forgets (s r s' r' : List Row) (reader : ℕ) (gone : List ℕ) : Typ
   pub owed_reader : (tag : ℕ) → (row_at r' tag).owed ≡ (row_at r tag).owed
   pub rising_seen : AreRising s'
   pub rising_reader : AreRising r'
+
+-- so do the pending pairs
+abbrev pub PendingStay : Relations → Relations → Type 0
+PendingStay old new = (reader seen : ℕ) → is_pending new reader seen ≡ is_pending old reader seen
+
+-- one pair more is pending, the last
+abbrev pub AddsPending : ℕ → ℕ → Relations → Relations → Type 0
+AddsPending reader seen old new =
+    new.pending ≡ old.pending ++ record { reader = reader; seen = seen } ∷ []
+
+-- the pairs of the readers in `gone` are settled no more, and no others change
+abbrev pub ForgetsGone : List ℕ → Relations → Relations → Type 0
+ForgetsGone gone old new =
+    (reader seen : ℕ) → is_settled new reader seen
+    ≡ (not (has gone reader) && is_settled old reader seen)
+
+-- the pairs that were pending are settled too
+abbrev pub SettlesPending : Relations → Relations → Type 0
+SettlesPending old new =
+    (reader seen : ℕ) → is_settled new reader seen
+    ≡ (is_settled old reader seen || is_pending old reader seen)
+
+-- the pairs of the readers in `gone` are settled no more, and those that were pending are
+abbrev pub SettlesGone : List ℕ → Relations → Relations → Type 0
+SettlesGone gone old new =
+    (reader seen : ℕ) → is_settled new reader seen
+    ≡ ((not (has gone reader) && is_settled old reader seen) || is_pending old reader seen)

@@ -8,9 +8,9 @@
 mod row;
 mod table;
 
-ghost use Rattle.std.specs.Prelude.{◌≡◌, ℕ, ◌+◌, ◌<◌, ◌++◌, ◌∷◌, List, [], ◌||◌, ◌&&◌, not, Bool, true, false, length, take, OnOk, OnErr, IfNone, IfSome};
+ghost use Rattle.std.specs.Prelude.{◌≡◌, ℕ, ◌++◌, ◌∷◌, [], length, take, OnOk, OnErr, IfNone, IfSome};
 ghost use Rattle.lsys_reads.specs.Rows.{has, IsRising, AreRising, row_at};
-ghost use Rattle.lsys_reads.specs.Relations.{is_settled, is_pending, SettledStay, Covers, Forgets};
+ghost use Rattle.lsys_reads.specs.Relations.{is_settled, SettledStay, Covers, Forgets, AddsPending, SettlesGone, ForgetsGone, SettlesPending, PendingStay};
 
 use lsys_level::Tag;
 use std::alloc::{AllocError, Global};
@@ -66,8 +66,7 @@ impl Reads {
     /// Want of memory. Then both relations stay.
     pub fn add(&mut self, reader: Tag, seen: Tag) -> Result<(), AllocError>
         ensures settled { SettledStay self.old self.new }
-        ensures ok { OnOk result
-            (self.new.pending ≡ self.old.pending ++ record { reader = reader; seen = seen } ∷ []) }
+        ensures ok { OnOk result (AddsPending reader seen self.old self.new) }
         ensures err { OnErr result (self.new.pending ≡ self.old.pending) }
     {
         self.pending.reserve(1)?;
@@ -142,8 +141,7 @@ impl Reads {
     /// each for itself; where there may be more, the row is gone through once for all, in steps by its length and the
     /// logarithm of that. So if the readers in `gone` rise; else a row may be gone through for each of them.
     pub fn settle(&mut self, gone: &[Tag])
-        ensures settled { (reader seen : ℕ) → is_settled self.new reader seen
-            ≡ ((not (has gone.now reader) && is_settled self.old reader seen) || is_pending self.old reader seen) }
+        ensures settled { SettlesGone gone.now self.old self.new }
         ensures pending { self.new.pending ≡ [] }
     {
         self.forget(gone);
@@ -153,8 +151,7 @@ impl Reads {
     /// Takes all pairs of the readers in `gone` out of the settled ones. It takes no memory. [`Reads::settle`] tells what it
     /// costs.
     pub fn forget(&mut self, gone: &[Tag])
-        ensures settled { (reader seen : ℕ) → is_settled self.new reader seen
-            ≡ (not (has gone.now reader) && is_settled self.old reader seen) }
+        ensures settled { ForgetsGone gone.now self.old self.new }
         ensures pending { self.new.pending ≡ self.old.pending }
     {
         let mut rest = gone;
@@ -166,8 +163,7 @@ impl Reads {
 
     /// Settles all pending pairs, those of the lowest reader first: so each comes to the end of what its row got.
     fn settle_pending(&mut self)
-        ensures settled { (reader seen : ℕ) → is_settled self.new reader seen
-            ≡ (is_settled self.old reader seen || is_pending self.old reader seen) }
+        ensures settled { SettlesPending self.old self.new }
         ensures pending { self.new.pending ≡ [] }
     {
         self.sort_falling();
@@ -180,7 +176,7 @@ impl Reads {
     /// Sorts the pending pairs by their readers, the highest first.
     fn sort_falling(&mut self)
         ensures settled { SettledStay self.old self.new }
-        ensures pending { (reader seen : ℕ) → is_pending self.new reader seen ≡ is_pending self.old reader seen }
+        ensures pending { PendingStay self.old self.new }
     {
         self.pending
             .sort_unstable_by_key(|pair| Reverse(pair.reader));

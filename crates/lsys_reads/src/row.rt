@@ -2,8 +2,8 @@
 //!
 //! A change moves the tags behind it. Where many changes may come to one row, it is gone through once for all of them:
 //! what comes is put at the end until the last that is owed, and what goes is taken out together.
-ghost use Rattle.std.specs.Prelude.{◌≡◌, ℕ, ◌+◌, ◌<◌, ◌++◌, ◌∷◌, length, [], ◌||◌, ◌&&◌, ◌==◌, not, OnOk, OnErr, IfNone, IfSome, true, false};
-ghost use Rattle.lsys_reads.specs.Rows.{Row, empty_row, IsRising, has, Sweeps};
+ghost use Rattle.std.specs.Prelude.{◌≡◌, ℕ, ◌+◌, ◌<◌, ◌++◌, ◌∷◌, length, [], ◌||◌, ◌&&◌, ◌==◌, OnOk, OnErr, IfNone, IfSome, true, false};
+ghost use Rattle.lsys_reads.specs.Rows.{Row, empty_row, IsRising, has, Sweeps, LosesTag};
 
 use lsys_level::Tag;
 use std::alloc::{AllocError, Global};
@@ -166,7 +166,7 @@ impl Row {
     /// Takes the tag out, if it is there.
     fn cut(&mut self, tag: Tag)
         requires rising { IsRising self.old.tags }
-        ensures tags { (q : ℕ) → has self.new.tags q ≡ (not (tag == q) && has self.old.tags q) }
+        ensures tags { LosesTag tag self.old.tags self.new.tags }
         ensures owed { self.new.owed ≡ self.old.owed }
         ensures rising { IsRising self.new.tags }
     {
@@ -192,7 +192,7 @@ impl Row {
         ensures none { IfNone result (self.old.tags ≡ []) }
         ensures same { IfNone result (self.new ≡ self.old) }
         ensures some { IfSome result (λ tag. has self.old.tags tag ≡ true) }
-        ensures tags { IfSome result (λ tag. (q : ℕ) → has self.new.tags q ≡ (not (tag == q) && has self.old.tags q)) }
+        ensures tags { IfSome result (λ tag. LosesTag tag self.old.tags self.new.tags) }
         ensures shorter { IfSome result (λ tag. length self.new.tags < length self.old.tags) }
         ensures owed { self.new.owed ≡ self.old.owed }
         ensures rising { IsRising self.new.tags }

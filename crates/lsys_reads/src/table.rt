@@ -1,6 +1,6 @@
 //! The rows by their tags.
-ghost use Rattle.std.specs.Prelude.{◌≡◌, ℕ, ◌+◌, ◌<◌, List, [], length, OnOk, OnErr, IfNone, IfSome, true};
-ghost use Rattle.lsys_reads.specs.Rows.{Row, row_at, has, IsRising, SameRows, Cuts, SweepsRow, Puts, Reserves};
+ghost use Rattle.std.specs.Prelude.{◌≡◌, ◌<◌, List, [], length, OnOk, OnErr, IfNone, IfSome, true};
+ghost use Rattle.lsys_reads.specs.Rows.{Row, row_at, has, IsRising, SameRows, Cuts, SweepsRow, Puts, Reserves, RowShrinks};
 
 use crate::row::Row;
 use lsys_level::Tag;
@@ -96,7 +96,7 @@ impl Table {
         ensures same { IfNone result (self.new ≡ self.old) }
         ensures some { IfSome result (λ other. has (row_at self.old tag).tags other ≡ true) }
         ensures tags { IfSome result (λ other. Cuts self.old self.new tag other) }
-        ensures shorter { IfSome result (λ other. length (row_at self.new tag).tags < length (row_at self.old tag).tags) }
+        ensures shorter { IfSome result (λ other. RowShrinks tag self.old self.new) }
         ensures rising { IsRising (row_at self.new tag).tags }
     {
         if self.rows.len() <= tag.0 as usize {

@@ -72,6 +72,10 @@ module _ {T : Type 0} where
     pub given : list ≢ [] → free_for new list ≡ free_for old list + 1
     pub others : OtherRoomsStay old new list
 
+  -- of the list of a live run room was given back
+  abbrev pub GivesBackRun : Option ℕ → Pool T → Pool T → Type 0
+  GivesBackRun run old new = (list : List T) → list_of old run ≡ Some list → GivesBack old new list
+
 -- how a slot and a pool are stored
 abbrev pub slot_code : {T : Type 0} → Coded T → Coded (Slot T)
 slot_code {T} code =

@@ -12,8 +12,8 @@
 mod class;
 mod table;
 
-ghost use Rattle.std.specs.Prelude.{◌≡◌, ◌≢◌, ℕ, ◌+◌, ◌<◌, ◌≤◌, List, length, max, Some, None, IfSome, IsOk, OnOk, OnErr, vec_capacity};
-ghost use Rattle.lsys_region.specs.Pool.{empty_pool, list_at, list_of, IsLive, IsFresh, OthersStay, OtherRoomsStay, free_for, Reuses, Grows, GivesBack};
+ghost use Rattle.std.specs.Prelude.{◌≡◌, ℕ, ◌+◌, ◌<◌, ◌≤◌, length, max, Some, None, IfSome, IsOk, OnOk, OnErr, vec_capacity};
+ghost use Rattle.lsys_region.specs.Pool.{empty_pool, list_at, list_of, IsLive, IsFresh, OthersStay, OtherRoomsStay, free_for, Reuses, Grows, GivesBackRun};
 ghost use Rattle.lsys_region.specs.Layout.{IsAppended, IsWritten};
 ghost use Rattle.lsys_region.specs.Rooms.{list_room};
 
@@ -151,7 +151,7 @@ impl<T: Copy> Region<T> {
         ensures others { OthersStay self.old self.new run }
         ensures size { self.new.size ≡ self.old.size }
         ensures spare { self.new.spare ≡ self.old.spare }
-        ensures given_back { (list : List T) → list_of self.old run ≡ Some list → GivesBack self.old self.new list }
+        ensures given_back { GivesBackRun run self.old self.new }
     {
         if let Some(number) = run.number {
             self.table.release(number);

@@ -9,9 +9,9 @@ use Rattle.lsys_forest.specs.Groves.{In, AreApart}
 use Rattle.lsys_forest.specs.Rows.{mirrored}
 use Rattle.lsys_forest.proofs.RowLemmas as rows
 use Rattle.lsys_match.specs.Kept.{Kept}
-use Rattle.lsys_next.specs.Nexts.{Successors}
-use Rattle.lsys_next.specs.Answers.{kept_successors}
-use Rattle.lsys_next.proofs.Walks.{same_yes, same_not}
+use Rattle.lsys_repair.specs.Nexts.{Successors}
+use Rattle.lsys_repair.specs.Answers.{kept_successors}
+use Rattle.lsys_repair.proofs.Walks.{same_yes, same_not}
 use Rattle.lsys_repair.specs.declared.parent.Parent.{Parent}
 use Rattle.lsys_repair.specs.Parents.{nodes_in, wants, AreToldBy, HasParents}
 

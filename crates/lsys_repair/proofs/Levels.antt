@@ -15,14 +15,14 @@ use Rattle.lsys_forest.specs.Rows.{spot_in, level_nodes}
 use Rattle.lsys_forest.proofs.RowLemmas as rows
 use Rattle.lsys_kept.specs.Levels.{level_of, HaveLevels, answer_at}
 use Rattle.lsys_kept.specs.Meant.{meant_to}
-use Rattle.lsys_next.specs.Nexts.{Successors, node_symbol, AreClosed, wanted_in, HaveNext}
-use Rattle.lsys_next.specs.Renewals.{Renewal, stayed, relisted, turned, came, KeepsUpper}
-use Rattle.lsys_next.specs.Answers.{kept_successor, kept_successors}
-use Rattle.lsys_next.proofs.Above.{upper_nodes, upper_levels, upper_answers}
-use Rattle.lsys_next.proofs.Nexts.{next_meant, next_levels}
-use Rattle.lsys_next.proofs.Renewing.{keeps_upper}
-use Rattle.lsys_next.proofs.Replaced.{replaced}
-use Rattle.lsys_next.proofs.Walks.{level_alone, level_walked}
+use Rattle.lsys_repair.specs.Nexts.{Successors, node_symbol, AreClosed, wanted_in, HaveNext}
+use Rattle.lsys_repair.specs.Renewals.{Renewal, stayed, relisted, turned, came, KeepsUpper}
+use Rattle.lsys_repair.specs.Answers.{kept_successor, kept_successors}
+use Rattle.lsys_repair.proofs.Above.{upper_nodes, upper_levels, upper_answers}
+use Rattle.lsys_repair.proofs.Nexts.{next_meant, next_levels}
+use Rattle.lsys_repair.proofs.Renewing.{keeps_upper}
+use Rattle.lsys_repair.proofs.Replaced.{replaced}
+use Rattle.lsys_repair.proofs.Walks.{level_alone, level_walked}
 use Rattle.lsys_repair.specs.Levels.{AreLevelsTo, AreAnsweredTo, IsLevelMade}
 
 pub answers_stay : (s : System) (t root : ℕ) (old new : Nodes Kept) (by : Successors) (done : List ℕ) → IsLevelMade s old new root t by done → (k : ℕ) → answer_at new k ≡ answer_at old k

@@ -8,3 +8,15 @@ pub mod Walked
 pub mod Cutting
 pub mod Walking
 pub mod Listed
+pub mod Nexts
+pub mod Above
+pub mod Wants
+pub mod Renewing
+pub mod Walks
+pub mod Refused
+pub mod Firsts
+pub mod Replaced
+pub mod Families
+pub mod Lengths
+pub mod Finishing
+pub mod Depths

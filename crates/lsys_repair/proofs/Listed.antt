@@ -7,7 +7,7 @@ use Rattle.lsys_level.specs.Spots.{level_at}
 use Rattle.lsys_forest.specs.Groves.{Grove, now_of}
 use Rattle.lsys_forest.specs.Rows.{complete_levels, level_nodes, level_of_node, place_of_node, index_in, spot_in}
 use Rattle.lsys_forest.proofs.ViewLemmas.{told_is}
-use Rattle.lsys_seats.proofs.LevelLemmas.{get_index}
+use Rattle.lsys_kept.proofs.LevelLemmas.{get_index}
 
 module _ {A : Type 0} where
   -- the nodes of a level

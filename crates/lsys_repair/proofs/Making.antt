@@ -20,13 +20,13 @@ use Rattle.lsys_brood.proofs.PlacedLemmas.{spends_none, spends_then}
 use Rattle.lsys_match.specs.Kept.{Kept}
 use Rattle.lsys_kept.specs.Lineages.{names}
 use Rattle.lsys_wanted.specs.Wishes.{AreWanted}
-use Rattle.lsys_next.specs.Nexts.{Successors, wanted_count}
-use Rattle.lsys_next.specs.Renewals.{AreRenewals}
-use Rattle.lsys_next.specs.Answers.{kept_successor, kept_successors}
-use Rattle.lsys_next.proofs.Renewing.{begins, goes_on, parent_stays}
-use Rattle.lsys_next.proofs.Lengths.{made_count}
-use Rattle.lsys_next.proofs.Wants.{all_made}
-use Rattle.lsys_next.proofs.Walks.{kids_stay}
+use Rattle.lsys_repair.specs.Nexts.{Successors, wanted_count}
+use Rattle.lsys_repair.specs.Renewals.{AreRenewals}
+use Rattle.lsys_repair.specs.Answers.{kept_successor, kept_successors}
+use Rattle.lsys_repair.proofs.Renewing.{begins, goes_on, parent_stays}
+use Rattle.lsys_repair.proofs.Lengths.{made_count}
+use Rattle.lsys_repair.proofs.Wants.{all_made}
+use Rattle.lsys_repair.proofs.Walks.{kids_stay}
 use Rattle.lsys_repair.specs.declared.parent.Parent.{Parent}
 use Rattle.lsys_repair.specs.Parents.{nodes_in, wants, AreToldBy, AreParents, HasParents}
 use Rattle.lsys_repair.specs.Needs.{number_told, wanted_symbols, need_for, need_at_parent, needs}

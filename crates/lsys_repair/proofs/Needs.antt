@@ -20,9 +20,9 @@ use Rattle.lsys_brood.specs.Matches.{node_numbered}
 use Rattle.lsys_brood.specs.Children.{numbers_of, births, notes_for, params_for, need_at, IsFew}
 use Rattle.lsys_match.specs.Kept.{Kept}
 use Rattle.lsys_wanted.specs.Wishes.{child_number, child_symbol, AreWanted}
-use Rattle.lsys_next.specs.Nexts.{wanted_count}
-use Rattle.lsys_next.specs.Answers.{kept_successors}
-use Rattle.lsys_next.proofs.Lengths.{made_count}
+use Rattle.lsys_repair.specs.Nexts.{wanted_count}
+use Rattle.lsys_repair.specs.Answers.{kept_successors}
+use Rattle.lsys_repair.proofs.Lengths.{made_count}
 use Rattle.lsys_repair.specs.declared.parent.Parent.{Parent}
 use Rattle.lsys_repair.specs.declared.count.Count.{Count}
 use Rattle.lsys_repair.specs.Parents.{wants}

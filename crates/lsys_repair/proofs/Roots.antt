@@ -16,11 +16,11 @@ use Rattle.lsys_brood.specs.Matches.{nodes_without}
 use Rattle.lsys_brood.specs.Children.{Told, numbers_of, need_at, AreRenewed, TellsOf}
 use Rattle.lsys_wanted.specs.Wishes.{AreWanted}
 use Rattle.lsys_kept.specs.Lineages.{kins}
-use Rattle.lsys_next.specs.Renewals.{AreSmall, AreAllUnder, AreRenewals}
-use Rattle.lsys_next.proofs.Firsts.{name_root}
-use Rattle.lsys_next.proofs.Lengths.{made_count}
-use Rattle.lsys_next.proofs.Renewing.{begins, goes_on}
-use Rattle.lsys_next.proofs.Wants.{all_made}
+use Rattle.lsys_repair.specs.Renewals.{AreSmall, AreAllUnder, AreRenewals}
+use Rattle.lsys_repair.proofs.Firsts.{name_root}
+use Rattle.lsys_repair.proofs.Lengths.{made_count}
+use Rattle.lsys_repair.proofs.Renewing.{begins, goes_on}
+use Rattle.lsys_repair.proofs.Wants.{all_made}
 use Rattle.lsys_repair.specs.Needs.{number_told, wanted_symbols, need_for, count_below}
 use Rattle.lsys_repair.specs.Made.{TellsAllOf}
 use Rattle.lsys_repair.proofs.Needs.{need_is, numbers_wanted}

@@ -14,9 +14,9 @@ use Rattle.lsys_brood.specs.declared.child.Child.{Child}
 use Rattle.lsys_brood.specs.Matches.{number_in, nodes_where}
 use Rattle.lsys_brood.specs.Children.{Told, Tells, TellsAll, IsNew, HasTurned, KeepsSymbol, KeepsChildren, AreRenewed, TellsOf, seen_in_node, kind_in_node}
 use Rattle.lsys_kept.specs.Lineages.{kin_of}
-use Rattle.lsys_next.specs.Nexts.{Successors}
-use Rattle.lsys_next.specs.Renewals.{AreRenewals}
-use Rattle.lsys_next.proofs.Renewing.{in_cases}
+use Rattle.lsys_repair.specs.Nexts.{Successors}
+use Rattle.lsys_repair.specs.Renewals.{AreRenewals}
+use Rattle.lsys_repair.proofs.Renewing.{in_cases}
 use Rattle.lsys_repair.specs.Made.{IsBelow, TellsAllOf}
 
 -- 1. lists

@@ -7,9 +7,9 @@ use Rattle.lsys_change.specs.Children.{is_open}
 use Rattle.lsys_forest.specs.Nodes.{Nodes}
 use Rattle.lsys_forest.specs.Groves.{In, AreApart}
 use Rattle.lsys_match.specs.Kept.{Kept}
-use Rattle.lsys_next.specs.Nexts.{Successors, node_kind, wanted_behind, wanted_in}
-use Rattle.lsys_next.specs.Answers.{kept_successors}
-use Rattle.lsys_next.proofs.Walks.{same_yes, same_not}
+use Rattle.lsys_repair.specs.Nexts.{Successors, node_kind, wanted_behind, wanted_in}
+use Rattle.lsys_repair.specs.Answers.{kept_successors}
+use Rattle.lsys_repair.proofs.Walks.{same_yes, same_not}
 use Rattle.lsys_repair.specs.Parents.{nodes_in, AreToldBy, walked, whole}
 
 pub walked_nodes : (m : Nodes Kept) (o : Option ℕ) (ks : List ℕ) → nodes_in (walked m o ks) ≡ ks

@@ -10,8 +10,8 @@ use Rattle.lsys_forest.specs.Nodes.{Node, Nodes}
 use Rattle.lsys_forest.specs.Rows.{spot_in}
 use Rattle.lsys_brood.specs.Children.{bracket_kind}
 use Rattle.lsys_match.specs.Kept.{Kept}
-use Rattle.lsys_next.specs.Nexts.{AreClosed, node_kind}
-use Rattle.lsys_next.specs.Answers.{kept_successors}
+use Rattle.lsys_repair.specs.Nexts.{AreClosed, node_kind}
+use Rattle.lsys_repair.specs.Answers.{kept_successors}
 use Rattle.lsys_repair.specs.declared.parent.Parent.{Parent}
 use Rattle.lsys_repair.specs.Parents.{walked}
 

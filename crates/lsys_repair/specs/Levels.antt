@@ -9,8 +9,8 @@ use Rattle.lsys_forest.specs.Groves.{In}
 use Rattle.lsys_forest.specs.Rows.{level_nodes}
 use Rattle.lsys_kept.specs.Levels.{HaveLevels, AnsweredAt}
 use Rattle.lsys_kept.specs.Meant.{meant_to}
-use Rattle.lsys_next.specs.Nexts.{Successors, HasWanted}
-use Rattle.lsys_next.specs.Renewals.{AreRenewals}
+use Rattle.lsys_repair.specs.Nexts.{Successors, HasWanted}
+use Rattle.lsys_repair.specs.Renewals.{AreRenewals}
 
 -- the nodes are the levels of a system up to level t, which are within the limit
 pub record AreLevelsTo (s : System) (limit t : ℕ) (m : Nodes Kept) (root : ℕ) : Type 0 where

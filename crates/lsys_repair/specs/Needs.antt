@@ -14,7 +14,7 @@ use Rattle.lsys_brood.specs.declared.need.Need.{Need}
 use Rattle.lsys_brood.specs.Matches.{node_numbered}
 use Rattle.lsys_brood.specs.Children.{births, notes_for}
 use Rattle.lsys_match.specs.Kept.{Kept}
-use Rattle.lsys_next.specs.Nexts.{wanted_count}
+use Rattle.lsys_repair.specs.Nexts.{wanted_count}
 use Rattle.lsys_repair.specs.declared.parent.Parent.{Parent}
 use Rattle.lsys_repair.specs.declared.count.Count.{Count}
 use Rattle.lsys_repair.specs.Parents.{wants}

@@ -9,9 +9,9 @@ use Rattle.lsys_forest.specs.Nodes.{Node, Nodes}
 use Rattle.lsys_forest.specs.Groves.{In, AreApart}
 use Rattle.lsys_kept.specs.Lineages.{kins, names}
 use Rattle.lsys_match.specs.Kept.{Kept}
-use Rattle.lsys_next.specs.Nexts.{Successors, node_kind}
-use Rattle.lsys_next.specs.Renewals.{AreSmall, AreAllUnder}
-use Rattle.lsys_next.specs.Answers.{kept_successors}
+use Rattle.lsys_repair.specs.Nexts.{Successors, node_kind}
+use Rattle.lsys_repair.specs.Renewals.{AreSmall, AreAllUnder}
+use Rattle.lsys_repair.specs.Answers.{kept_successors}
 use Rattle.lsys_repair.specs.declared.parent.Parent.{Parent}
 
 abbrev pub node_in : Parent → ℕ

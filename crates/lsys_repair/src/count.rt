@@ -1,13 +1,12 @@
 //! What the steps for some parents take.
-ghost use Rattle.std.specs.Prelude.{◌≡◌, ◌≤◌, ◌^◌, ℕ, length, IfOk};
+ghost use Rattle.std.specs.Prelude.{◌≡◌, ◌≤◌, ◌^◌, length, IfOk};
 ghost use Rattle.lsys_spec.specs.Draws.{number_base};
 ghost use Rattle.lsys_forest.specs.Groves.{now_of, IsLive};
-ghost use Rattle.lsys_forest.specs.Rows.{kids_in};
 ghost use Rattle.lsys_reading.specs.Commands.{numbering_of};
-ghost use Rattle.lsys_next.specs.Nexts.{wanted_count};
-ghost use Rattle.lsys_next.specs.Answers.{kept_successors};
-ghost use Rattle.lsys_repair.specs.Parents.{nodes_in, HasParents, wants};
-ghost use Rattle.lsys_repair.specs.Needs.{IsSmall, count_at, with_count, count_of, had_by_all};
+ghost use Rattle.lsys_repair.specs.Answers.{kept_successors};
+ghost use Rattle.lsys_repair.specs.Parents.{nodes_in, HasParents};
+ghost use Rattle.lsys_repair.specs.Needs.{IsSmall, with_count, had_by_all};
+ghost use Rattle.lsys_repair.specs.Counts.{CountsAll, IsSmallFor, CountsOne, AreAddable};
 
 use crate::parent::{Parent, fill_for};
 use lsys_brood::{Brood, Need};
@@ -42,10 +41,8 @@ pub fn count_children<L: Ledger>(
     requires parents { HasParents (now_of forest.now) forest.now.root (nodes_in parents.now) }
     requires few { length parents.now ≤ 2 ^ 32 }
     requires had { had_by_all (now_of forest.now) parents.now ≤ 2 ^ 32 }
-    ensures count { IfOk result (λ count. count
-        ≡ count_of (numbering_of numbering) (now_of forest.now) parents.now) }
-    ensures few { IfOk result (λ count.
-        IsSmall (length parents.now) (had_by_all (now_of forest.now) parents.now) count) }
+    ensures count { IfOk result (CountsAll (numbering_of numbering) (now_of forest.now) parents.now) }
+    ensures few { IfOk result (IsSmallFor (now_of forest.now) parents.now) }
 {
     let mut count = NONE;
     for parent in parents {
@@ -65,8 +62,7 @@ fn count_one<L: Ledger>(
 ) -> Result<Count, AllocError>
     requires lives { IsLive forest.now parent.node }
     requires short { length (kept_successors (now_of forest.now) parent.node) ≤ number_base }
-    ensures count { IfOk result (λ count. count
-        ≡ count_at (numbering_of numbering) (now_of forest.now) parent) }
+    ensures count { IfOk result (CountsOne (numbering_of numbering) (now_of forest.now) parent) }
     ensures few { IfOk result (λ count. IsSmall 1 count.had count) }
 {
     let node = parent.node;
@@ -95,8 +91,7 @@ const NONE: Count = Count {
 
 /// Both together.
 fn both(one: &Count, more: &Count) -> Count
-    requires { (n : ℕ) × (h : ℕ) × IsSmall n h one.now × IsSmall 1 more.now.had more.now
-        × (n ≤ 2 ^ 32) × (h ≤ 2 ^ 32) × (more.now.had ≤ 2 ^ 32) }
+    requires { AreAddable one.now more.now }
     ensures { result ≡ with_count one.now more.now }
 {
     Count {

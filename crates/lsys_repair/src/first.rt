@@ -1,17 +1,12 @@
 //! The children of the root, which are the first level.
-ghost use Rattle.std.specs.Prelude.{◌≡◌, ◌≤◌, ◌++◌, ◌∷◌, [], ℕ, length, map, IfOk, OnOk, OnErr};
+ghost use Rattle.std.specs.Prelude.{◌≡◌, ◌≤◌, length, IfOk, OnOk, OnErr};
 ghost use Rattle.lsys_spec.specs.Draws.{number_base};
 ghost use Rattle.lsys_change.specs.Nodes.{AreOnce};
-ghost use Rattle.lsys_module.specs.Views.{string_of};
 ghost use Rattle.lsys_forest.specs.Groves.{now_of, rest_of, kept_in};
-ghost use Rattle.lsys_forest.specs.Rows.{kids_in};
-ghost use Rattle.lsys_reading.specs.Commands.{numbering_of};
-ghost use Rattle.lsys_brood.specs.Matches.{nodes_without};
-ghost use Rattle.lsys_brood.specs.Children.{HasRoomFor, SpendsNeed};
+ghost use Rattle.lsys_brood.specs.Children.{HasRoomFor};
 ghost use Rattle.lsys_kept.specs.Lineages.{kins};
-ghost use Rattle.lsys_next.specs.Renewals.{AreSmall, AreAllUnder, AreRenewals};
-ghost use Rattle.lsys_repair.specs.Needs.{need_for, number_told, wanted_symbols, count_below};
-ghost use Rattle.lsys_repair.specs.Made.{TellsAllOf};
+ghost use Rattle.lsys_repair.specs.Renewals.{AreSmall, AreAllUnder};
+ghost use Rattle.lsys_repair.specs.RootChildren.{CountsRoot, need_of_root, IsRootRenewed, TellsOfRoot, GoneFromRoot, SpendsForRoot};
 
 use crate::count::Count;
 use lsys_brood::{Brood, Changes};
@@ -38,9 +33,7 @@ pub fn count_first<L: Ledger>(
     brood: &mut Brood,
 ) -> Result<Count, AllocError>
     requires short { length symbols.now ≤ number_base }
-    ensures { IfOk result (λ count. count
-        ≡ count_below (numbering_of numbering) (now_of forest.now) forest.now.root
-        (string_of symbols.now)) }
+    ensures { IfOk result (CountsRoot numbering forest.now symbols.now) }
 {
     let root = forest.root();
     wanted.fill(numbering, seed, symbols)?;
@@ -72,21 +65,11 @@ pub fn make_first<L: Ledger>(
     requires once { AreOnce (kins (now_of forest.old)) forest.old.root }
     requires small { AreSmall (now_of forest.old) }
     requires under { AreAllUnder (now_of forest.old) forest.old.root forest.old.root }
-    requires room { HasRoomFor forest.old changes.old
-        (need_for (numbering_of numbering) (now_of forest.old)
-        (kids_in (now_of forest.old forest.old.root)) (string_of symbols.now)) }
-    ensures children { OnOk result (AreRenewals (numbering_of numbering) seed
-        (now_of forest.old) (now_of forest.new)
-        forest.old.root 0 (λ k. string_of symbols.now) (forest.old.root ∷ [])) }
-    ensures told { OnOk result (TellsAllOf (now_of forest.old) (now_of forest.new)
-        (forest.old.root ∷ []) changes.old changes.new) }
-    ensures gone { OnOk result (changes.new.gone
-        ≡ changes.old.gone ++ nodes_without (now_of forest.old)
-        (map number_told (wanted_symbols (numbering_of numbering) (string_of symbols.now)))
-        (kids_in (now_of forest.old forest.old.root))) }
-    ensures spends { OnOk result (SpendsNeed forest.old forest.new
-        (need_for (numbering_of numbering) (now_of forest.old)
-        (kids_in (now_of forest.old forest.old.root)) (string_of symbols.now))) }
+    requires room { HasRoomFor forest.old changes.old (need_of_root numbering forest.old symbols.now) }
+    ensures children { OnOk result (IsRootRenewed numbering seed forest.old forest.new symbols.now) }
+    ensures told { OnOk result (TellsOfRoot forest.old forest.new changes.old changes.new) }
+    ensures gone { OnOk result (GoneFromRoot numbering forest.old symbols.now changes.old changes.new) }
+    ensures spends { OnOk result (SpendsForRoot numbering forest.old forest.new symbols.now) }
     ensures rest { rest_of forest.new ≡ rest_of forest.old }
     ensures root { forest.new.root ≡ forest.old.root }
     ensures kept { kept_in forest.new ≡ kept_in forest.old }

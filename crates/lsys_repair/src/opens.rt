@@ -4,7 +4,7 @@ ghost use Rattle.lsys_spec.specs.Draws.{number_base};
 ghost use Rattle.lsys_change.specs.Children.{is_open};
 ghost use Rattle.lsys_module.specs.Views.{string_of};
 ghost use Rattle.lsys_forest.specs.Groves.{now_of, IsLive};
-ghost use Rattle.lsys_next.specs.Answers.{kept_successors};
+ghost use Rattle.lsys_repair.specs.Answers.{kept_successors};
 
 use lsys_forest::{Forest, NodeId};
 use lsys_kept::KeptAnswer;

@@ -1,13 +1,9 @@
 //! Parents, and what is wanted of them.
-ghost use Rattle.std.specs.Prelude.{◌≡◌, ◌≤◌, ◌∷◌, [], length, OnOk};
+ghost use Rattle.std.specs.Prelude.{◌≤◌, length, OnOk};
 ghost use Rattle.lsys_spec.specs.Draws.{number_base};
 ghost use Rattle.lsys_forest.specs.Groves.{now_of, IsLive};
-ghost use Rattle.lsys_forest.specs.Rows.{spot_in};
-ghost use Rattle.lsys_reading.specs.Commands.{numbering_of};
-ghost use Rattle.lsys_wanted.specs.Wishes.{AreWanted, itself};
-ghost use Rattle.lsys_next.specs.Nexts.{node_key};
-ghost use Rattle.lsys_next.specs.Answers.{kept_successors};
-ghost use Rattle.lsys_repair.specs.Parents.{wants};
+ghost use Rattle.lsys_repair.specs.Answers.{kept_successors};
+ghost use Rattle.lsys_repair.specs.WantedOf.{WantsOf, WantsWhole, WantsItself};
 
 use lsys_forest::{Forest, NodeId};
 use lsys_kept::KeptAnswer;
@@ -38,9 +34,7 @@ pub(crate) fn fill_for<L: Ledger>(
 ) -> Result<(), AllocError>
     requires lives { IsLive forest.now parent.node }
     requires short { length (kept_successors (now_of forest.now) parent.node) ≤ number_base }
-    ensures wanted { OnOk result (AreWanted (numbering_of numbering)
-        (node_key (now_of forest.now) parent.node)
-        (wants (now_of forest.now) parent) wanted.new.children) }
+    ensures wanted { OnOk result (WantsOf numbering forest.now parent wanted.new.children) }
 {
     if parent.is_cut {
         return wanted.fill(numbering, forest.key_of(parent.node), &[]);
@@ -57,9 +51,7 @@ fn fill_whole<L: Ledger>(
 ) -> Result<(), AllocError>
     requires lives { IsLive forest.now node }
     requires short { length (kept_successors (now_of forest.now) node) ≤ number_base }
-    ensures wanted { OnOk result (AreWanted (numbering_of numbering)
-        (node_key (now_of forest.now) node)
-        (kept_successors (now_of forest.now) node) wanted.new.children) }
+    ensures wanted { OnOk result (WantsWhole numbering forest.now node wanted.new.children) }
 {
     match forest.symbol(node) {
         Sight::Push | Sight::Pop => fill_itself(wanted, forest, numbering, node),
@@ -82,9 +74,7 @@ fn fill_itself<L: Ledger>(
     node: NodeId,
 ) -> Result<(), AllocError>
     requires lives { IsLive forest.now node }
-    ensures wanted { OnOk result (AreWanted (numbering_of numbering)
-        (node_key (now_of forest.now) node)
-        (itself (spot_in node (now_of forest.now node)).seen ∷ []) wanted.new.children) }
+    ensures wanted { OnOk result (WantsItself numbering forest.now node wanted.new.children) }
 {
     let symbol = symbol_seen(forest.symbol(node));
     wanted.fill_itself(numbering, forest.key_of(node), &symbol)

@@ -1,13 +1,10 @@
 //! The nodes of a level as parents, from the left.
-ghost use Rattle.std.specs.Prelude.{◌≡◌, ◌≤◌, ◌<◌, ◌+◌, ◌^◌, ◌++◌, ℕ, true, false, if◌then◌else◌, None, IfOk, IfSome, OnOk, length};
-ghost use Rattle.lsys_spec.specs.Draws.{number_base};
+ghost use Rattle.std.specs.Prelude.{◌≡◌, ◌≤◌, ◌<◌, ◌+◌, ◌^◌, ℕ, true, false, if◌then◌else◌, None, IfOk, IfSome, OnOk, length};
 ghost use Rattle.lsys_change.specs.Kinds.{stays, reached};
 ghost use Rattle.lsys_level.specs.Views.{seen_of};
 ghost use Rattle.lsys_forest.specs.Groves.{In, now_of, IsLive};
 ghost use Rattle.lsys_brood.specs.Children.{bracket_kind};
-ghost use Rattle.lsys_next.specs.Nexts.{AreClosed};
-ghost use Rattle.lsys_next.specs.Answers.{kept_successors};
-ghost use Rattle.lsys_repair.specs.Parents.{walked};
+ghost use Rattle.lsys_repair.specs.WalkedParents.{HaveShortSuccessors, AreWalked, NoneReaches};
 
 use crate::opens::is_open;
 use crate::parent::Parent;
@@ -29,13 +26,10 @@ pub fn walk_parents<L: Ledger>(
     parents: &mut Vec<Parent>,
 ) -> Result<bool, AllocError>
     requires lives { (k : ℕ) → In k nodes.now → IsLive forest.now k }
-    requires short { (k : ℕ) → In k nodes.now
-        → length (kept_successors (now_of forest.now) k) ≤ number_base }
+    requires short { HaveShortSuccessors (now_of forest.now) nodes.now }
     requires few { length nodes.now < 2 ^ 32 }
-    ensures parents { OnOk result (parents.new.items
-        ≡ parents.old.items ++ walked (now_of forest.now) None nodes.now) }
-    ensures closed { IfOk result (λ opens. opens ≡ false
-        → AreClosed (kept_successors (now_of forest.now)) nodes.now) }
+    ensures parents { OnOk result (AreWalked forest.now nodes.now parents.old parents.new) }
+    ensures closed { IfOk result (λ opens. opens ≡ false → NoneReaches (now_of forest.now) nodes.now) }
 {
     let mut any_opens = false;
     let mut cutting = None;

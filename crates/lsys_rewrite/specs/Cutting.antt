@@ -1,8 +1,8 @@
 -- Cuts of strings whose symbols have no lineages.
-use Rattle.std.specs.Prelude.{◌≡◌, ℕ, zero, suc, ℤ, Bool, true, false, Option, Some, None, List, [], ◌∷◌, map}
+use Rattle.std.specs.Prelude.{◌≡◌, ℕ, zero, suc, ℤ, Bool, true, false, Option, Some, None, List, [], ◌∷◌, map, not, length, ◌<◌, slice_index_or}
 use Rattle.lsys_syntax.specs.Strings as S
 use Rattle.lsys_spec.specs.Levels.{plain}
-use Rattle.lsys_spec.specs.Cuts.{Raw, Plain, Cut}
+use Rattle.lsys_spec.specs.Cuts.{Raw, Plain, Cut, cut, is_cut_off}
 use Rattle.lsys_module.specs.declared.symbol.Symbol.{Symbol}
 use Rattle.lsys_module.specs.Views.{string_of}
 
@@ -44,3 +44,14 @@ cutting_behind (Some n) s = Some n
 abbrev pub marks_from : Option ℕ → List (S.Symbol ℤ) → List Bool
 marks_from cutting [] = []
 marks_from cutting (s ∷ xs) = stays cutting s ∷ marks_from (cutting_behind cutting s) xs
+
+-- whatever lineages the symbols have: those are marked that aren't cut off
+abbrev pub MarksKept : List Symbol → List Bool → Type 0
+MarksKept symbols kept =
+    (x : List Raw) → AreOf x symbols
+    → (p : ℕ) → p < length symbols
+    → slice_index_or kept p false ≡ not (is_cut_off x p)
+
+-- what cuts leave of symbols
+abbrev pub IsCutOf : List Symbol → List Symbol → Type 0
+IsCutOf symbols left = (x : List Raw) → AreOf x symbols → map plain (cut x) ≡ string_of left

@@ -1,11 +1,16 @@
 -- What a successor becomes, as the code answers it.
-use Rattle.std.specs.Prelude.{◌≡◌, ℤ, Result, Ok, Err, List, [], ◌∷◌, ◌++◌, length, take}
+use Rattle.std.specs.Prelude.{◌≡◌, ℤ, Result, Ok, Err, List, [], ◌∷◌, ◌++◌, length, take, map}
 use Rattle.lsys_syntax.specs.Strings as S
 use Rattle.lsys_spec.specs.Values as meaning
+use Rattle.lsys_spec.specs.Bodies.{body_of}
+use Rattle.lsys_spec.specs.Meaning.{filled}
 use Rattle.lsys_expr.specs.Answers.{arith_of}
 use Rattle.lsys_expr.specs.declared.arith.Arith as code
 use Rattle.lsys_module.specs.Views.{symbol_of, string_of}
 use Rattle.lsys_module.specs.declared.symbol.Symbol.{Symbol}
+use Rattle.lsys_bodies.specs.declared.body.Body.{Body}
+use Rattle.lsys_bodies.specs.declared.body.Template.{Template}
+use Rattle.lsys_bodies.specs.Views.{template_of, written}
 use Rattle.lsys_rewrite.specs.declared.refusal.FillRefusal.{FillRefusal}
 use Rattle.lsys_rewrite.specs.declared.refusal.FillRefusal.TheVariants.{Arith, Memory}
 
@@ -31,3 +36,10 @@ IsAddedFront r old new (Err Memory) = take (length old) new ≡ old
 abbrev pub IsSymbol : Result (List (S.Symbol ℤ)) meaning.Arith → Result Symbol code.Arith → Type 0
 IsSymbol r (Ok s) = r ≡ Ok (symbol_of s ∷ [])
 IsSymbol r (Err e) = r ≡ Err (arith_of e)
+
+-- what the definitions make of the successor of a body, and of templates
+abbrev pub successor_filled : Body → List ℤ → Result (List (S.Symbol ℤ)) meaning.Arith
+successor_filled b bound = filled (body_of (written b)).successor bound
+
+abbrev pub templates_filled : List Template → List ℤ → Result (List (S.Symbol ℤ)) meaning.Arith
+templates_filled templates bound = filled (map template_of templates) bound

@@ -1,10 +1,7 @@
 //! Cuts.
-ghost use Rattle.std.specs.Prelude.{◌≡◌, ◌<◌, ℕ, List, false, not, length, map, IfSome, slice_index_or};
-ghost use Rattle.lsys_spec.specs.Levels.{plain};
-ghost use Rattle.lsys_spec.specs.Cuts as meaning;
-ghost use Rattle.lsys_spec.specs.Cuts.{Raw, is_cut_off};
-ghost use Rattle.lsys_module.specs.Views.{string_of, symbol_of};
-ghost use Rattle.lsys_rewrite.specs.Cutting.{AreOf, cutting_behind, marked, stays};
+ghost use Rattle.std.specs.Prelude.{◌≡◌, ◌<◌, false, length, IfSome};
+ghost use Rattle.lsys_module.specs.Views.{symbol_of};
+ghost use Rattle.lsys_rewrite.specs.Cutting.{cutting_behind, marked, stays, IsCutOf, MarksKept};
 
 use lsys_module::{Symbol, SymbolList};
 
@@ -15,10 +12,9 @@ use lsys_module::{Symbol, SymbolList};
 /// is taken.
 pub fn cut(symbols: &mut SymbolList, kept: &mut [bool])
     requires places { length kept.old ≡ length symbols.old }
-    ensures kept { (x : List Raw) → AreOf x symbols.old → (p : ℕ) → p < length symbols.old
-        → slice_index_or kept.new p false ≡ not (is_cut_off x p) }
+    ensures kept { MarksKept symbols.old kept.new }
     ensures left { symbols.new ≡ marked kept.new symbols.old }
-    ensures cut { (x : List Raw) → AreOf x symbols.old → map plain (meaning.cut x) ≡ string_of symbols.new }
+    ensures cut { IsCutOf symbols.old symbols.new }
 {
     let mut len = 0;
     let mut cutting = None;

@@ -4,8 +4,8 @@ ghost use Rattle.lsys_spec.specs.Bodies.{body_of};
 ghost use Rattle.lsys_spec.specs.Meaning.{filled, filled_params};
 ghost use Rattle.lsys_expr.specs.Answers.{answer_of};
 ghost use Rattle.lsys_syntax.specs.Smalls.{HaveFewParams};
-ghost use Rattle.lsys_bodies.specs.Views.{rule_of, template_of, template_symbol, tree_of, written};
-ghost use Rattle.lsys_rewrite.specs.Filled.{IsAdded, IsAddedFront, IsFilled, IsSymbol};
+ghost use Rattle.lsys_bodies.specs.Views.{rule_of, template_of, template_symbol, tree_of};
+ghost use Rattle.lsys_rewrite.specs.Filled.{IsAdded, IsAddedFront, IsFilled, IsSymbol, successor_filled, templates_filled};
 
 use crate::refusal::FillRefusal;
 use lsys_bodies::{Rule, SharedBody, Template};
@@ -36,7 +36,7 @@ pub fn fill_into(
     body: &SharedBody,
     bound: &[i64],
 ) -> Result<(), FillRefusal>
-    ensures { IsAdded (filled (body_of (written body.now)).successor bound.now) symbols.old symbols.new result }
+    ensures { IsAdded (successor_filled body.now bound.now) symbols.old symbols.new result }
 {
     let len = symbols.len();
     let added = add_front(symbols, body.successor(), bound);
@@ -53,7 +53,7 @@ fn add_front(
     bound: &[i64],
 ) -> Result<(), FillRefusal>
     requires { HaveFewParams (map template_symbol templates.now) }
-    ensures { IsAddedFront (filled (map template_of templates.now) bound.now) symbols.old symbols.new result }
+    ensures { IsAddedFront (templates_filled templates.now bound.now) symbols.old symbols.new result }
 {
     for template in templates {
         symbols.push(fill_template(template, bound)?)?;

@@ -1,8 +1,8 @@
 -- What refuses a command, as the definitions have it.
-use Rattle.std.specs.Prelude.{◌≡◌, ℕ, Bool, not, ◌&&◌, bytes_eq, length, List, if◌then◌else◌, Option, option_map}
+use Rattle.std.specs.Prelude.{◌≡◌, ℕ, Bool, not, ◌&&◌, ◌||◌, bytes_eq, length, List, if◌then◌else◌, Option, option_map}
 use Rattle.lsys_syntax.specs.Rules.{Production}
 use Rattle.lsys_spec.specs.Edits.{Why, Refusal, wrong_version, unknown_name, duplicate, mixed, wrong_label, wrong_table, wrong_level, many, same_label}
-use Rattle.lsys_spec.specs.Systems.{clash, is_weighted}
+use Rattle.lsys_spec.specs.Systems.{any, clash, is_weighted, main}
 use Rattle.lsys_module.specs.Views.{module_name}
 use Rattle.lsys_rules.specs.declared.faults.Cause.{Cause}
 use Rattle.lsys_rules.specs.declared.faults.Cause.TheVariants as causes
@@ -29,6 +29,10 @@ Tells fault told = option_map refusal_of fault ≡ told
 -- a rule of the table under another label
 abbrev pub labelled_else : List ℕ → List ℕ → Production → Bool
 labelled_else label table q = not (bytes_eq q.label label) && bytes_eq q.table table
+
+-- the word is neither `main` nor the table of a rule under another label
+abbrev pub is_lost_without : List ℕ → List Production → List ℕ → Bool
+is_lost_without label rules word = not (bytes_eq word main || any (labelled_else label word) rules)
 
 -- the rule has the label of p, and another table
 abbrev pub elsewhere : Production → Production → Bool

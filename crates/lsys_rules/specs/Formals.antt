@@ -1,6 +1,9 @@
 -- The formals that a command keeps of its rule.
-use Rattle.std.specs.Prelude.{◌+◌, Option, Some, None}
+use Rattle.std.specs.Prelude.{◌+◌, Option, Some, None, List}
 use Rattle.lsys_spec.specs.Edits.{label_place}
+use Rattle.lsys_text.specs.Tokens.{kinds_of}
+use Rattle.lsys_text.specs.declared.token_kind.Token.{Token}
+use Rattle.lsys_reading.specs.Parted.{IsParted}
 use Rattle.lsys_reading.specs.declared.parts.Parts.{Parts}
 use Rattle.lsys_reading.specs.declared.parts.Parts.TheVariants.{Production, Homomorphism}
 use Rattle.lsys_checks.specs.Formals.{AreFormalNames}
@@ -13,3 +16,7 @@ HasFormals (Production l) None = ⊥
 HasFormals (Homomorphism l) (Some x) = AreFormalNames 3 l.rule x
 HasFormals (Homomorphism l) None = ⊥
 HasFormals p o = Unit {0}
+
+-- those of the rule that the tokens spell, where they spell one
+abbrev pub HasFormalsOf : List Token → Option FormalNames → Type 0
+HasFormalsOf ts names = (p : Parts) → IsParted (kinds_of ts) p → HasFormals p names

@@ -1,5 +1,6 @@
 -- The groups of some rules: those of a table that are for a letter with a number of parameters.
-use Rattle.std.specs.Prelude.{◌≡◌, ℕ, Bool, ◌&&◌, ◌==◌, Option, Some, None, List, [], ◌∷◌, ◌++◌, bytes_eq, filter, if◌then◌else◌}
+use Rattle.std.specs.Prelude.{◌≡◌, ℕ, Bool, ◌&&◌, ◌==◌, Option, Some, None, List, [], ◌∷◌, ◌++◌, bytes_eq, filter, option_map, if◌then◌else◌}
+use denote.Ref.{Bor}
 use Rattle.std.specs.HashMap.{HashMap, get}
 use Rattle.lsys_spec.specs.Bodies.{is_for}
 use Rattle.lsys_text.specs.Packed.{packed}
@@ -20,6 +21,10 @@ key_of table name arity = record { table = table; name = packed name; arity = ar
 abbrev pub rules_of : Option (List Rule) → List Rule
 rules_of None = []
 rules_of (Some rules) = rules
+
+-- the rules of a group that was looked for; none where there is no group
+abbrev pub found_rules : Option (Bor (List Rule)) → List Rule
+found_rules o = rules_of (option_map (λ g. g.now) o)
 
 -- the rules of a group
 abbrev pub rules_at : {S : Type 0} → HashMap GroupKey SharedGroup S → GroupKey → List Rule

@@ -12,3 +12,8 @@ pub mod Parsing
 pub mod Changes
 pub mod Applying
 pub mod Showing
+pub mod RuleTexts
+pub mod ScriptLines
+pub mod WrittenCommands
+pub mod RuleRefusals
+pub mod LevelGroups

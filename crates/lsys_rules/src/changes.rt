@@ -2,21 +2,20 @@
 ghost use Rattle.std.specs.Prelude.{◌≡◌, ◌≤◌, ℕ, None, [], List, IfOk, OnOk, length, map};
 ghost use Rattle.lsys_syntax.specs.Limits.{greatest_version, most_depth_of_two};
 ghost use Rattle.lsys_syntax.specs.Checks.{axiom_many};
-ghost use Rattle.lsys_syntax.specs.Commands.{drop_rule, put_homomorphism, put_production, set_axiom, set_ignored, set_own, set_schedule, drop_own};
-ghost use Rattle.lsys_syntax.specs.LineMachine.{sentence};
+ghost use Rattle.lsys_syntax.specs.Commands.{drop_rule, set_axiom, set_ignored, set_schedule, drop_own};
 ghost use Rattle.lsys_syntax.specs.Tokens.{Kind};
 ghost use Rattle.lsys_syntax.specs.Sentences.{AreTokens};
-ghost use Rattle.lsys_spec.specs.Edits.{changed, once, refusal, values_of};
-ghost use Rattle.lsys_spec.specs.Meaning.{ignores};
+ghost use Rattle.lsys_spec.specs.Edits.{once, refusal, values_of};
 ghost use Rattle.lsys_text.specs.Tokens.{kinds_of};
 ghost use Rattle.lsys_module.specs.Building.{AreOfLine};
 ghost use Rattle.lsys_module.specs.Views.{module_name, string_of};
-ghost use Rattle.lsys_reading.specs.Commands.{axiom_verdict, list_kind_of, parts_command, string_in};
+ghost use Rattle.lsys_reading.specs.Commands.{parts_command};
 ghost use Rattle.lsys_reading.specs.Parted.{command_of, IsParted};
-ghost use Rattle.lsys_reading.specs.RuleLines.{IsRuleLine, rule_at};
+ghost use Rattle.lsys_reading.specs.RuleLines.{IsRuleLine};
 ghost use Rattle.lsys_bodies.specs.Building.{CanBuild};
-ghost use Rattle.lsys_rules.specs.Changes.{IsPlainEdit, with_name};
+ghost use Rattle.lsys_rules.specs.Changes.{IsPlainEdit, AddsNameOnce, Changes};
 ghost use Rattle.lsys_rules.specs.Systems.{system_of};
+ghost use Rattle.lsys_rules.specs.WrittenCommands.{SpellsAxiom, written_axiom, written_homomorphism, written_list, written_production, written_rule};
 
 use crate::names::is_among;
 use crate::own_list::OwnList;
@@ -38,7 +37,7 @@ pub(crate) fn changed(
     requires line { AreOfLine tokens.now }
     requires parted { IsParted (kinds_of tokens.now) edit.now }
     requires accepted { refusal (system_of parts.now) (command_of tokens.now) ≡ None }
-    ensures { IfOk result (λ next. system_of next ≡ changed (system_of parts.now) (command_of tokens.now)) }
+    ensures { Changes parts.now (command_of tokens.now) result }
 {
     match edit {
         Parts::Axiom => with_axiom(alloc, parts, tokens),
@@ -58,7 +57,7 @@ fn with_plain(parts: &SystemParts, edit: &Parts) -> Result<SystemParts, AllocErr
     requires plain { IsPlainEdit edit.now }
     requires depth { (n : ℕ) → edit.now ≡ Parts.Depth n → n ≤ most_depth_of_two }
     requires version { (n : ℕ) → edit.now ≡ Parts.Version n → n ≤ greatest_version }
-    ensures { (ks : List Kind) → IfOk result (λ next. system_of next ≡ changed (system_of parts.now) (parts_command ks edit.now)) }
+    ensures { (ks : List Kind) → Changes parts.now (parts_command ks edit.now) result }
 {
     let mut next = parts.clone()?;
     match edit {
@@ -80,9 +79,9 @@ fn with_axiom(
     requires place { 1 ≤ length tokens.now }
     requires forms { AreTokens (kinds_of tokens.now) }
     requires line { AreOfLine tokens.now }
-    requires string { axiom_verdict (kinds_of tokens.now) ≡ sentence (set_axiom (string_in (axiom_verdict (kinds_of tokens.now)))) }
-    requires few { axiom_many 1 (string_in (axiom_verdict (kinds_of tokens.now))) ≡ None }
-    ensures { IfOk result (λ next. system_of next ≡ changed (system_of parts.now) (set_axiom (string_in (axiom_verdict (kinds_of tokens.now))))) }
+    requires string { SpellsAxiom tokens.now }
+    requires few { axiom_many 1 (written_axiom tokens.now) ≡ None }
+    ensures { Changes parts.now (set_axiom (written_axiom tokens.now)) result }
 {
     let axiom = built_string(alloc, tokens)?;
     let mut next = parts.clone()?;
@@ -95,9 +94,9 @@ fn built_string(alloc: Global, tokens: &[Token]) -> Result<SymbolList, AllocErro
     requires place { 1 ≤ length tokens.now }
     requires forms { AreTokens (kinds_of tokens.now) }
     requires line { AreOfLine tokens.now }
-    requires string { axiom_verdict (kinds_of tokens.now) ≡ sentence (set_axiom (string_in (axiom_verdict (kinds_of tokens.now)))) }
-    requires few { axiom_many 1 (string_in (axiom_verdict (kinds_of tokens.now))) ≡ None }
-    ensures { IfOk result (λ symbols. string_of symbols ≡ values_of (string_in (axiom_verdict (kinds_of tokens.now)))) }
+    requires string { SpellsAxiom tokens.now }
+    requires few { axiom_many 1 (written_axiom tokens.now) ≡ None }
+    ensures { IfOk result (λ symbols. string_of symbols ≡ values_of (written_axiom tokens.now)) }
 {
     match build_string(alloc, tokens, 1) {
         Ok(symbols) => Ok(symbols),
@@ -113,9 +112,8 @@ fn with_production(
     labeled: &LabeledRule,
 ) -> Result<SystemParts, AllocError>
     requires line { IsRuleLine (kinds_of tokens.now) labeled.now.rule }
-    requires checked { CanBuild (rule_at (kinds_of tokens.now) labeled.now.rule) }
-    ensures { IfOk result (λ next. system_of next
-        ≡ changed (system_of parts.now) (put_production labeled.now.table labeled.now.label (rule_at (kinds_of tokens.now) labeled.now.rule))) }
+    requires checked { CanBuild (written_rule tokens.now labeled.now.rule) }
+    ensures { Changes parts.now (written_production tokens.now labeled.now) result }
 {
     let rule = build_rule(alloc, tokens, labeled)?;
     let rules = parts.rules.with(alloc, rule)?;
@@ -131,9 +129,8 @@ fn with_hom_rule(
     labeled: &LabeledRule,
 ) -> Result<SystemParts, AllocError>
     requires line { IsRuleLine (kinds_of tokens.now) labeled.now.rule }
-    requires checked { CanBuild (rule_at (kinds_of tokens.now) labeled.now.rule) }
-    ensures { IfOk result (λ next. system_of next
-        ≡ changed (system_of parts.now) (put_homomorphism labeled.now.label (rule_at (kinds_of tokens.now) labeled.now.rule))) }
+    requires checked { CanBuild (written_rule tokens.now labeled.now.rule) }
+    ensures { Changes parts.now (written_homomorphism tokens.now labeled.now) result }
 {
     let rule = build_hom_rule(alloc, tokens, labeled)?;
     let homs = parts.homs.with(alloc, rule)?;
@@ -143,7 +140,7 @@ fn with_hom_rule(
 }
 
 fn without_rule(alloc: Global, parts: &SystemParts, label: Word) -> Result<SystemParts, AllocError>
-    ensures { IfOk result (λ next. system_of next ≡ changed (system_of parts.now) (drop_rule label)) }
+    ensures { Changes parts.now (drop_rule label) result }
 {
     let rules = parts.rules.without(alloc, label)?;
     let homs = parts.homs.without(alloc, label)?;
@@ -158,7 +155,7 @@ fn with_schedule(
     parts: &SystemParts,
     words: &[Word],
 ) -> Result<SystemParts, AllocError>
-    ensures { IfOk result (λ next. system_of next ≡ changed (system_of parts.now) (set_schedule words.now)) }
+    ensures { Changes parts.now (set_schedule words.now) result }
 {
     let schedule = Vec::from_slice(alloc, words)?;
     let mut next = parts.clone()?;
@@ -171,7 +168,7 @@ fn with_ignored(
     parts: &SystemParts,
     names: &[Name],
 ) -> Result<SystemParts, AllocError>
-    ensures { IfOk result (λ next. system_of next ≡ changed (system_of parts.now) (set_ignored (map module_name names.now))) }
+    ensures { Changes parts.now (set_ignored (map module_name names.now)) result }
 {
     let ignored = once(alloc, names)?;
     let mut next = parts.clone()?;
@@ -180,8 +177,7 @@ fn with_ignored(
 }
 
 fn with_own(alloc: Global, parts: &SystemParts, list: &ReadList) -> Result<SystemParts, AllocError>
-    ensures { IfOk result (λ next. system_of next
-        ≡ changed (system_of parts.now) (set_own (list_kind_of list.now.kind) list.now.table (map module_name list.now.names.items))) }
+    ensures { Changes parts.now (written_list list.now) result }
 {
     let names = once(alloc, &list.names)?;
     let own = parts
@@ -193,7 +189,7 @@ fn with_own(alloc: Global, parts: &SystemParts, list: &ReadList) -> Result<Syste
 }
 
 fn without_own(alloc: Global, parts: &SystemParts, table: Word) -> Result<SystemParts, AllocError>
-    ensures { IfOk result (λ next. system_of next ≡ changed (system_of parts.now) (drop_own table)) }
+    ensures { Changes parts.now (drop_own table) result }
 {
     let own = parts.own.without(alloc, table)?;
     let mut next = parts.clone()?;
@@ -214,8 +210,7 @@ fn once(alloc: Global, names: &[Name]) -> Result<Vec<Name>, AllocError>
 
 // Adds a name, unless it stands there.
 fn add_once(kept: &mut Vec<Name>, name: Name) -> Result<(), AllocError>
-    ensures { OnOk result (map module_name kept.new.items
-        ≡ with_name (ignores (map module_name kept.old.items) (module_name name)) (map module_name kept.old.items) (module_name name)) }
+    ensures { OnOk result (AddsNameOnce kept.old.items kept.new.items name) }
 {
     if !is_among(kept, name) {
         kept.push(name)?;

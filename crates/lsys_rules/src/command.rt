@@ -1,15 +1,14 @@
 //! Commands.
-ghost use Rattle.std.specs.Prelude.{◌≡◌, ◌≤◌, ◌+◌, All, IfOk};
+ghost use Rattle.std.specs.Prelude.{◌≡◌, ◌≤◌, All, IfOk};
 ghost use Rattle.lsys_syntax.specs.Limits.{most_line_bytes};
 ghost use Rattle.lsys_syntax.specs.Sentences.{AreTokens};
 ghost use Rattle.lsys_text.specs.Tokens.{kinds_of, IsWithin};
 ghost use Rattle.lsys_module.specs.Building.{AreOfLine};
 ghost use Rattle.lsys_reading.specs.Parted.{command_of, IsParted};
 ghost use Rattle.lsys_reading.specs.Parsing.{column_of, kind_of_command};
-ghost use Rattle.lsys_rules.specs.Formals.{HasFormals};
+ghost use Rattle.lsys_rules.specs.Formals.{HasFormalsOf};
 ghost use Rattle.lsys_rules.specs.Parsing.{IsParsed};
-ghost use Rattle.lsys_spec.specs.Edits.{label_place};
-ghost use Rattle.lsys_reading.specs.declared.parts.Parts.{Parts};
+ghost use Rattle.lsys_rules.specs.WrittenCommands.{rule_place};
 
 use crate::refusal::Refusal;
 use lsys_checks::FormalNames;
@@ -68,7 +67,7 @@ fn formals(
 ) -> Result<Option<FormalNames>, AllocError>
     requires forms { AreTokens (kinds_of tokens.now) }
     requires parts { IsParted (kinds_of tokens.now) parts.now }
-    ensures { IfOk result (λ names. (p : Parts) → IsParted (kinds_of tokens.now) p → HasFormals p names) }
+    ensures { IfOk result (HasFormalsOf tokens.now) }
 {
     match parts {
         Parts::Production(labeled) => {
@@ -82,7 +81,7 @@ fn formals(
 
 // The number of the first token of a production's rule.
 pub(crate) fn production_place(labeled: &LabeledRule) -> usize
-    ensures { result ≡ label_place labeled.now.table + 2 }
+    ensures { result ≡ rule_place labeled.now }
 {
     if labeled.table.is_some() { 4 } else { 3 }
 }
@@ -113,7 +112,7 @@ impl Command {
 
     // The formals of its rule, where it has one.
     pub(crate) fn formals(&self) -> &Option<FormalNames>
-        ensures { (p : Parts) → IsParted (kinds_of self.now.tokens) p → HasFormals p result.now }
+        ensures { HasFormalsOf self.now.tokens result.now }
     {
         &self.formals
     }

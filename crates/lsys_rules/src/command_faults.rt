@@ -1,15 +1,14 @@
 //! What refuses a command.
-ghost use Rattle.std.specs.Prelude.{◌≡◌, ◌≤◌, length};
+ghost use Rattle.std.specs.Prelude.{◌≤◌, length};
 ghost use Rattle.lsys_syntax.specs.Checks.{axiom_many};
-ghost use Rattle.lsys_syntax.specs.Commands.{set_axiom};
-ghost use Rattle.lsys_syntax.specs.LineMachine.{sentence};
 ghost use Rattle.lsys_syntax.specs.Sentences.{AreTokens};
 ghost use Rattle.lsys_spec.specs.Edits.{many, refusal, refused_at};
 ghost use Rattle.lsys_text.specs.Tokens.{kinds_of};
-ghost use Rattle.lsys_reading.specs.Commands.{axiom_verdict, parts_command, string_in};
+ghost use Rattle.lsys_reading.specs.Commands.{parts_command};
 ghost use Rattle.lsys_reading.specs.Parted.{command_of, IsParted};
 ghost use Rattle.lsys_rules.specs.Faults.{Tells};
 ghost use Rattle.lsys_rules.specs.Formals.{HasFormals};
+ghost use Rattle.lsys_rules.specs.WrittenCommands.{SpellsAxiom, written_axiom};
 
 use crate::command::Command;
 use crate::edit_faults::{
@@ -67,8 +66,8 @@ fn parts_fault(
 fn axiom_fault(tokens: &[Token]) -> Option<Fault>
     requires place { 1 ≤ length tokens.now }
     requires forms { AreTokens (kinds_of tokens.now) }
-    requires string { axiom_verdict (kinds_of tokens.now) ≡ sentence (set_axiom (string_in (axiom_verdict (kinds_of tokens.now)))) }
-    ensures { Tells result (refused_at (axiom_many 1 (string_in (axiom_verdict (kinds_of tokens.now)))) many) }
+    requires string { SpellsAxiom tokens.now }
+    ensures { Tells result (refused_at (axiom_many 1 (written_axiom tokens.now)) many) }
 {
     let place = first_many(tokens, 1)?;
     Some(Fault {

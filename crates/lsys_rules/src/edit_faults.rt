@@ -1,11 +1,11 @@
 //! What refuses the edits and queries that are no rules.
-ghost use Rattle.std.specs.Prelude.{◌≡◌, ◌+◌, ◌||◌, ◌∷◌, [], not, length, map, nat_lt, bytes_eq};
-ghost use Rattle.lsys_syntax.specs.Limits.{most_ignored, most_schedule_words};
-ghost use Rattle.lsys_spec.specs.Edits.{common_refusal, drop_refusal, first_place, later_refusal, level_refusal, loses_table, many, own_refusal, refused_at, refused_if, schedule_refusal, untabled, version_refusal, without_rule, wrong_table, wrong_version};
-ghost use Rattle.lsys_spec.specs.Systems.{Apart, any, depth_bound, is_table, main};
+ghost use Rattle.std.specs.Prelude.{◌≡◌, not, length, map, nat_lt, bytes_eq};
+ghost use Rattle.lsys_spec.specs.Edits.{common_refusal, drop_refusal, first_place, later_refusal, level_refusal, loses_table, many, own_refusal, refused_if, schedule_refusal, version_refusal, without_rule, wrong_table, wrong_version};
+ghost use Rattle.lsys_spec.specs.Systems.{Apart, any, depth_bound, is_table};
 ghost use Rattle.lsys_module.specs.Views.{module_name};
 ghost use Rattle.lsys_bodies.specs.Views.{production_of};
-ghost use Rattle.lsys_rules.specs.Faults.{Tells, labelled_else};
+ghost use Rattle.lsys_rules.specs.Faults.{Tells, labelled_else, is_lost_without};
+ghost use Rattle.lsys_rules.specs.RuleRefusals.{ignored_refusal};
 
 use crate::faults::{Cause, Fault};
 use crate::labelled::{has_hom_rule, has_rule};
@@ -19,7 +19,7 @@ use lsys_text::{Name, Word};
 
 /// What refuses these names, behind a line's first token.
 pub(crate) fn ignore_fault(names: &[Name]) -> Option<Fault>
-    ensures { Tells result (refused_if (nat_lt most_ignored (length names.now)) many (most_ignored + 1)) }
+    ensures { Tells result (ignored_refusal (length names.now)) }
 {
     too_many_if(names.len() > MOST_IGNORED, MOST_IGNORED + 1)
 }
@@ -182,7 +182,7 @@ fn loses_table(rules: &[Rule], label: Word, words: &[Word]) -> bool
 
 // Whether a word is neither `main` nor the table of a rule under another label.
 fn is_lost(rules: &[Rule], label: Word, word: Word) -> bool
-    ensures { result ≡ not (bytes_eq word main || any (labelled_else label word) (map production_of rules.now)) }
+    ensures { result ≡ is_lost_without label (map production_of rules.now) word }
 {
     !(word == Word::from_text(b"main") || has_other(rules, label, word))
 }

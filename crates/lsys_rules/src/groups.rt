@@ -1,9 +1,8 @@
 //! The groups of rules: which rules of a table are for a letter with a number of parameters.
 ghost use Rattle.std.specs.Prelude.{◌≡◌, ◌++◌, ◌∷◌, [], IfOk, OnOk, length};
-ghost use Rattle.std.specs.Option.{option_map};
 ghost use Rattle.lsys_text.specs.Packed.{packed};
 ghost use Rattle.lsys_text.specs.Texts.{IsNameBytes};
-ghost use Rattle.lsys_rules.specs.Groups.{AreGroups, HasRule, rules_at, rules_of};
+ghost use Rattle.lsys_rules.specs.Groups.{AreGroups, HasRule, rules_at, rules_of, found_rules};
 
 use crate::shared_group::SharedGroup;
 use lsys_bodies::Rule;
@@ -85,7 +84,7 @@ fn with_rule(
 
 // The rules of a group; none where there is no rule for it.
 pub(crate) fn rules_at(groups: &Groups, key: GroupKey) -> Option<&SharedGroup>
-    ensures { rules_of (option_map (λ g. g.now) result) ≡ rules_at groups.now key }
+    ensures { found_rules result ≡ rules_at groups.now key }
 {
     groups.get(&key)
 }

@@ -1,18 +1,19 @@
 //! What refuses a rule.
-ghost use Rattle.std.specs.Prelude.{◌≡◌, ◌≤◌, ◌+◌, ℕ, false, List, length, map, nat_lt, bytes_eq};
-ghost use Rattle.lsys_syntax.specs.Limits.{most_rules, most_tables};
+ghost use Rattle.std.specs.Prelude.{◌≡◌, ◌≤◌, ◌+◌, List, length, map, nat_lt};
+ghost use Rattle.lsys_syntax.specs.Limits.{most_tables};
 ghost use Rattle.lsys_syntax.specs.Tokens.{Kind};
-ghost use Rattle.lsys_syntax.specs.Rules.{Production, rule_pieces};
-ghost use Rattle.lsys_syntax.specs.Checks.{rule_many, rule_repeated, rule_unknown};
-ghost use Rattle.lsys_spec.specs.Systems.{Homomorphism, any, is_table, tables, with_table};
-ghost use Rattle.lsys_spec.specs.Edits.{or_else, refused_at, refused_if, unknown_name, duplicate, mixed, wrong_label, many, label_place, production_refusal, homomorphism_refusal, put, put_hom, stands_elsewhere};
+ghost use Rattle.lsys_syntax.specs.Rules.{Production};
+ghost use Rattle.lsys_spec.specs.Systems.{Homomorphism, any, tables};
+ghost use Rattle.lsys_spec.specs.Edits.{label_place};
 ghost use Rattle.lsys_text.specs.Tokens.{kinds_of};
-ghost use Rattle.lsys_reading.specs.RuleLines.{rule_at, IsRuleLine};
-ghost use Rattle.lsys_bodies.specs.Building.{production_at, homomorphism_at};
-ghost use Rattle.lsys_bodies.specs.Views.{production_of, homomorphism_of};
+ghost use Rattle.lsys_reading.specs.RuleLines.{IsRuleLine};
+ghost use Rattle.lsys_bodies.specs.Building.{production_at};
+ghost use Rattle.lsys_bodies.specs.Views.{production_of};
 ghost use Rattle.lsys_checks.specs.Formals.{AreFormalNames, rest_pieces};
 ghost use Rattle.lsys_checks.specs.Searching.{count};
 ghost use Rattle.lsys_rules.specs.Faults.{Tells, mixes, elsewhere, IsNewcomer, one_unless};
+ghost use Rattle.lsys_rules.specs.RuleRefusals.{AsNewcomer, TellsLimit, TellsNames, TellsNumber, group_refusal, is_hom_too_many, is_one_too_many, rule_size, with_table_once, spelled_refusal, spelled_hom_refusal};
+ghost use Rattle.lsys_rules.specs.WrittenCommands.{rule_place};
 
 use crate::faults::{Cause, Fault};
 use crate::labelled::{has_hom_rule, has_rule};
@@ -33,9 +34,9 @@ pub(crate) fn production_fault(
     names: &FormalNames,
 ) -> Option<Fault>
     requires line { IsRuleLine (kinds_of tokens.now) labeled.now.rule }
-    requires names { AreFormalNames (label_place labeled.now.table + 2) labeled.now.rule names.now }
-    requires room { label_place labeled.now.table + 2 + count (rule_pieces (rule_at (kinds_of tokens.now) labeled.now.rule)) ≤ usize.MAX }
-    ensures { Tells result (production_refusal system.now (label_place labeled.now.table) (production_at (kinds_of tokens.now) labeled.now)) }
+    requires names { AreFormalNames (rule_place labeled.now) labeled.now.rule names.now }
+    requires room { rule_place labeled.now + rule_size tokens.now labeled.now.rule ≤ usize.MAX }
+    ensures { Tells result (spelled_refusal system.now tokens.now labeled.now) }
 {
     let label = first_token(labeled.table);
     if let Some(fault) = own_fault(tokens, &labeled.rule, names) {
@@ -65,9 +66,7 @@ fn first_token(table: Option<Word>) -> usize
 fn own_fault(tokens: &[Token], rule: &RuleLine, names: &FormalNames) -> Option<Fault>
     requires line { IsRuleLine (kinds_of tokens.now) rule.now }
     requires room { names.now.end + count (rest_pieces (kinds_of tokens.now) rule.now) ≤ usize.MAX }
-    ensures { (from : ℕ) → AreFormalNames from rule.now names.now
-        → Tells result (or_else (refused_at (rule_unknown from (rule_at (kinds_of tokens.now) rule.now)) unknown_name)
-        (refused_at (rule_repeated from (rule_at (kinds_of tokens.now) rule.now)) duplicate)) }
+    ensures { TellsNames tokens.now rule.now names.now result }
 {
     if let Some(place) = unknown_name(tokens, rule, names) {
         return Some(Fault {
@@ -85,7 +84,7 @@ fn own_fault(tokens: &[Token], rule: &RuleLine, names: &FormalNames) -> Option<F
 // The limit that a rule passes.
 fn limit_fault(from: usize, rule: &RuleLine) -> Option<Fault>
     requires room { from ≤ 4 }
-    ensures { (ks : List Kind) → IsRuleLine ks rule.now → Tells result (refused_at (rule_many from (rule_at ks rule.now)) many) }
+    ensures { TellsLimit from rule.now result }
 {
     let place = first_many(from, rule)?;
     Some(Fault {
@@ -119,7 +118,7 @@ impl Newcomer {
 
     // Whether the rule would be in a group with this one, and only one of both has a weight.
     fn clashes_with(&self, rule: &Rule) -> bool
-        ensures { (p : Production) → IsNewcomer p self.now → result ≡ mixes p (production_of rule.now) }
+        ensures { AsNewcomer self.now (λ p. result ≡ mixes p (production_of rule.now)) }
     {
         let body = rule.body.get();
         rule.label != self.label
@@ -132,8 +131,7 @@ impl Newcomer {
 
 // What refuses a production for the rules that there are: it would mix its group, or its label stands elsewhere.
 fn group_fault(system: &System, label: usize, newcomer: &Newcomer) -> Option<Fault>
-    ensures { (p : Production) → IsNewcomer p newcomer.now
-        → Tells result (or_else (refused_if (any (mixes p) system.now.rules) mixed label) (refused_if (stands_elsewhere system.now p) wrong_label label)) }
+    ensures { AsNewcomer newcomer.now (λ p. Tells result (group_refusal system.now label p)) }
 {
     if is_mixed(system.rules(), newcomer) {
         return Some(Fault {
@@ -153,7 +151,7 @@ fn group_fault(system: &System, label: usize, newcomer: &Newcomer) -> Option<Fau
 }
 
 fn is_mixed(rules: &[Rule], newcomer: &Newcomer) -> bool
-    ensures { (p : Production) → IsNewcomer p newcomer.now → result ≡ any (mixes p) (map production_of rules.now) }
+    ensures { AsNewcomer newcomer.now (λ p. result ≡ any (mixes p) (map production_of rules.now)) }
 {
     for rule in rules {
         if newcomer.clashes_with(rule) {
@@ -165,7 +163,7 @@ fn is_mixed(rules: &[Rule], newcomer: &Newcomer) -> bool
 
 // Whether some rule has the label, and another table.
 fn has_label_elsewhere(rules: &[Rule], newcomer: &Newcomer) -> bool
-    ensures { (p : Production) → IsNewcomer p newcomer.now → result ≡ any (elsewhere p) (map production_of rules.now) }
+    ensures { AsNewcomer newcomer.now (λ p. result ≡ any (elsewhere p) (map production_of rules.now)) }
 {
     for rule in rules {
         if rule.label == newcomer.label && rule.table != newcomer.table {
@@ -177,9 +175,7 @@ fn has_label_elsewhere(rules: &[Rule], newcomer: &Newcomer) -> bool
 
 // What refuses a production for the number of tables or of rules, where its label has no other table.
 fn number_fault(system: &System, label: usize, newcomer: &Newcomer) -> Option<Fault>
-    ensures { (p : Production) → IsNewcomer p newcomer.now → any (elsewhere p) system.now.rules ≡ false
-        → Tells result (or_else (refused_if (nat_lt most_tables (length (tables (put p system.now.rules)))) many 1)
-        (refused_if (nat_lt most_rules (length (put p system.now.rules) + length system.now.homomorphisms)) many label)) }
+    ensures { AsNewcomer newcomer.now (TellsNumber system.now label result) }
 {
     if makes_many_tables(system, newcomer.table) {
         return Some(Fault {
@@ -198,7 +194,7 @@ fn number_fault(system: &System, label: usize, newcomer: &Newcomer) -> Option<Fa
 
 // Whether there would be too many tables with a rule of this one.
 fn makes_many_tables(system: &System, table: Word) -> bool
-    ensures { result ≡ nat_lt most_tables (length (with_table (is_table (tables system.now.rules) table) (tables system.now.rules) table)) }
+    ensures { result ≡ nat_lt most_tables (length (with_table_once (tables system.now.rules) table)) }
 {
     let tables = system.tables();
     tables.len() + one_unless(is_table(tables, table)) > MOST_TABLES
@@ -207,7 +203,7 @@ fn makes_many_tables(system: &System, table: Word) -> bool
 // Whether there would be too many rules with a production under this label.
 fn makes_many_rules(system: &System, label: Word) -> bool
     ensures { (p : Production) → label ≡ p.label
-        → result ≡ nat_lt most_rules (length (put p system.now.rules) + length system.now.homomorphisms) }
+        → result ≡ is_one_too_many p system.now }
 {
     let rules = system.rules();
     rules.len() + system.hom_rules().len() + one_unless(has_rule(rules, label)) > MOST_RULES
@@ -216,7 +212,7 @@ fn makes_many_rules(system: &System, label: Word) -> bool
 // Whether there would be too many rules with one of the homomorphism under this label.
 fn makes_many_homs(system: &System, label: Word) -> bool
     ensures { (h : Homomorphism) → label ≡ h.label
-        → result ≡ nat_lt most_rules (length system.now.rules + length (put_hom h system.now.homomorphisms)) }
+        → result ≡ is_hom_too_many h system.now }
 {
     let rules = system.hom_rules();
     rules.len() + system.rules().len() + one_unless(has_hom_rule(rules, label)) > MOST_RULES
@@ -238,8 +234,8 @@ pub(crate) fn homomorphism_fault(
 ) -> Option<Fault>
     requires line { IsRuleLine (kinds_of tokens.now) labeled.now.rule }
     requires names { AreFormalNames 3 labeled.now.rule names.now }
-    requires room { 3 + count (rule_pieces (rule_at (kinds_of tokens.now) labeled.now.rule)) ≤ usize.MAX }
-    ensures { Tells result (homomorphism_refusal system.now (homomorphism_at (kinds_of tokens.now) labeled.now)) }
+    requires room { 3 + rule_size tokens.now labeled.now.rule ≤ usize.MAX }
+    ensures { Tells result (spelled_hom_refusal system.now tokens.now labeled.now) }
 {
     if let Some(fault) = own_fault(tokens, &labeled.rule, names) {
         return Some(fault);

@@ -1,13 +1,12 @@
 //! The productions of a system, in the order in which they are tried.
-ghost use Rattle.std.specs.Prelude.{◌≡◌, [], IfOk, OnOk, map, filter};
-ghost use Rattle.std.specs.Option.{option_map};
-ghost use Rattle.lsys_spec.specs.Systems.{is_table, tables, with_table};
-ghost use Rattle.lsys_spec.specs.Bodies.{is_for};
+ghost use Rattle.std.specs.Prelude.{◌≡◌, [], IfOk, OnOk, map};
+ghost use Rattle.lsys_spec.specs.Systems.{is_table, tables};
 ghost use Rattle.lsys_spec.specs.Edits.{put, without_rule};
-ghost use Rattle.lsys_module.specs.Views.{module_name};
 ghost use Rattle.lsys_bodies.specs.Views.{production_of};
-ghost use Rattle.lsys_rules.specs.Groups.{rules_of};
+ghost use Rattle.lsys_rules.specs.Groups.{found_rules};
 ghost use Rattle.lsys_rules.specs.InsideRules.{Own, productions_in};
+ghost use Rattle.lsys_rules.specs.RuleRefusals.{with_table_once};
+ghost use Rattle.lsys_rules.specs.LevelGroups.{table_rules};
 
 use crate::groups::{GroupKey, Groups, groups_of, rules_at};
 use crate::shared_group::SharedGroup;
@@ -122,8 +121,7 @@ impl RuleTable {
     /// The group of a table for modules of this name and number of parameters; none where the table has no rule for them.
     /// A look-up costs the same however many rules there are.
     pub fn group(&self, table: Word, name: Name, arity: usize) -> Option<&SharedGroup>
-        ensures { map production_of (rules_of (option_map (λ g. g.now) result))
-            ≡ filter (is_for table (module_name name) arity) self.now }
+        ensures { map production_of (found_rules result) ≡ table_rules self.now table name arity }
     {
         rules_at(&self.rules.groups, GroupKey::new(table, name, arity))
     }
@@ -160,7 +158,7 @@ fn tables_of(alloc: Global, rules: &[Rule]) -> Result<Vec<Word>, AllocError>
 
 // Adds a table, unless it stands there.
 fn add_table(tables: &mut Vec<Word>, table: Word) -> Result<(), AllocError>
-    ensures { OnOk result (tables.new.items ≡ with_table (is_table tables.old.items table) tables.old.items table) }
+    ensures { OnOk result (tables.new.items ≡ with_table_once tables.old.items table) }
 {
     if !is_table(tables, table) {
         tables.push(table)?;

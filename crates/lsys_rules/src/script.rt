@@ -1,14 +1,13 @@
 //! A system as a script.
 ghost use Rattle.std.specs.Prelude.{◌++◌, ◌∷◌, [], map, decimal};
-ghost use Rattle.lsys_syntax.specs.Commands.{list_word, set_axiom, set_depth, set_ignored, set_lattice, set_schedule, set_seed, words_pieces};
+ghost use Rattle.lsys_syntax.specs.Commands.{list_word, set_depth, set_lattice, set_schedule, set_seed, words_pieces};
 ghost use Rattle.lsys_syntax.specs.Pieces.{text_of};
-ghost use Rattle.lsys_spec.specs.Shown.{as_put, as_put_homomorphism, as_set_own, numbering_commands, script_of, show_text};
-ghost use Rattle.lsys_spec.specs.Systems.{written};
-ghost use Rattle.lsys_io.specs.Writes.{Puts};
-ghost use Rattle.lsys_module.specs.Views.{module_name, string_of};
+ghost use Rattle.lsys_spec.specs.Shown.{as_set_own, script_of, show_text};
+ghost use Rattle.lsys_io.specs.Putting.{Puts};
+ghost use Rattle.lsys_module.specs.Views.{module_name};
 ghost use Rattle.lsys_reading.specs.Commands.{lattice_of, list_kind_of, numbering_of};
-ghost use Rattle.lsys_bodies.specs.Views.{homomorphism_of, production_of};
 ghost use Rattle.lsys_rules.specs.Showing.{line_of, listed_text, names_text, version_lines};
+ghost use Rattle.lsys_rules.specs.ScriptLines.{axiom_line, homomorphism_lines, ignored_line, numbering_lines, production_lines};
 
 use crate::own_list::OwnList;
 use crate::show_rules::{put_decimal, put_hom_rule, put_rule, put_word};
@@ -25,7 +24,7 @@ use lsys_text::{Name, Word};
 ///
 /// The sink failed; a front of what was held and of the script was written then.
 pub fn show<K: Sink>(system: &System, out: &mut Buffered, sink: &mut K) -> Result<(), Failed>
-    ensures { Puts K.written K.faults sink.old sink.new out.old out.new (show_text system.now) result }
+    ensures { Puts K.Sink sink out (show_text system.now) result }
 {
     put_version(out, sink, system.version(), system.lineage())?;
     put_lattice(out, sink, system.lattice())?;
@@ -46,7 +45,7 @@ fn put_version<K: Sink>(
     version: u32,
     numbering: Numbering,
 ) -> Result<(), Failed>
-    ensures { Puts K.written K.faults sink.old sink.new out.old out.new (version_lines version (numbering_of numbering)) result }
+    ensures { Puts K.Sink sink out (version_lines version (numbering_of numbering)) result }
 {
     if version == 1 {
         return Ok(());
@@ -61,7 +60,7 @@ fn put_numbering<K: Sink>(
     sink: &mut K,
     numbering: Numbering,
 ) -> Result<(), Failed>
-    ensures { Puts K.written K.faults sink.old sink.new out.old out.new (script_of (numbering_commands (numbering_of numbering))) result }
+    ensures { Puts K.Sink sink out (numbering_lines numbering) result }
 {
     match numbering {
         Numbering::ByPlace => Ok(()),
@@ -74,7 +73,7 @@ fn put_lattice<K: Sink>(
     sink: &mut K,
     lattice: LatticeName,
 ) -> Result<(), Failed>
-    ensures { Puts K.written K.faults sink.old sink.new out.old out.new (line_of (set_lattice (lattice_of lattice))) result }
+    ensures { Puts K.Sink sink out (line_of (set_lattice (lattice_of lattice))) result }
 {
     match lattice {
         LatticeName::Square => out.put(sink, b"lattice square\n"),
@@ -84,13 +83,13 @@ fn put_lattice<K: Sink>(
 }
 
 fn put_seed<K: Sink>(out: &mut Buffered, sink: &mut K, seed: u64) -> Result<(), Failed>
-    ensures { Puts K.written K.faults sink.old sink.new out.old out.new (line_of (set_seed seed)) result }
+    ensures { Puts K.Sink sink out (line_of (set_seed seed)) result }
 {
     put_number_line(out, sink, b"seed ", seed)
 }
 
 fn put_depth<K: Sink>(out: &mut Buffered, sink: &mut K, depth: u32) -> Result<(), Failed>
-    ensures { Puts K.written K.faults sink.old sink.new out.old out.new (line_of (set_depth depth)) result }
+    ensures { Puts K.Sink sink out (line_of (set_depth depth)) result }
 {
     put_number_line(out, sink, b"depth ", u64::from(depth))
 }
@@ -102,7 +101,7 @@ fn put_number_line<K: Sink>(
     word: &[u8],
     number: u64,
 ) -> Result<(), Failed>
-    ensures { Puts K.written K.faults sink.old sink.new out.old out.new (word.now ++ (decimal number ++ 10 ∷ [])) result }
+    ensures { Puts K.Sink sink out (word.now ++ (decimal number ++ 10 ∷ [])) result }
 {
     out.put(sink, word)?;
     put_decimal(out, sink, number)?;
@@ -110,7 +109,7 @@ fn put_number_line<K: Sink>(
 }
 
 fn put_axiom<K: Sink>(out: &mut Buffered, sink: &mut K, symbols: &SymbolList) -> Result<(), Failed>
-    ensures { Puts K.written K.faults sink.old sink.new out.old out.new (line_of (set_axiom (written (string_of symbols.now)))) result }
+    ensures { Puts K.Sink sink out (axiom_line symbols.now) result }
 {
     if symbols.is_empty() {
         return out.put(sink, b"axiom\n");
@@ -121,7 +120,7 @@ fn put_axiom<K: Sink>(out: &mut Buffered, sink: &mut K, symbols: &SymbolList) ->
 }
 
 fn put_ignored<K: Sink>(out: &mut Buffered, sink: &mut K, names: &[Name]) -> Result<(), Failed>
-    ensures { Puts K.written K.faults sink.old sink.new out.old out.new (line_of (set_ignored (map module_name names.now))) result }
+    ensures { Puts K.Sink sink out (ignored_line names.now) result }
 {
     if names.is_empty() {
         return out.put(sink, b"ignore\n");
@@ -133,7 +132,7 @@ fn put_ignored<K: Sink>(out: &mut Buffered, sink: &mut K, names: &[Name]) -> Res
 
 // Puts names, each behind a blank where it needs one.
 fn put_names<K: Sink>(out: &mut Buffered, sink: &mut K, names: &[Name]) -> Result<(), Failed>
-    ensures { Puts K.written K.faults sink.old sink.new out.old out.new (names_text (map module_name names.now)) result }
+    ensures { Puts K.Sink sink out (names_text (map module_name names.now)) result }
 {
     let mut runs_on = false;
     for name in names {
@@ -143,7 +142,7 @@ fn put_names<K: Sink>(out: &mut Buffered, sink: &mut K, names: &[Name]) -> Resul
 }
 
 fn put_rules<K: Sink>(out: &mut Buffered, sink: &mut K, rules: &[Rule]) -> Result<(), Failed>
-    ensures { Puts K.written K.faults sink.old sink.new out.old out.new (script_of (map as_put (map production_of rules.now))) result }
+    ensures { Puts K.Sink sink out (production_lines rules.now) result }
 {
     for rule in rules {
         put_rule(out, sink, rule)?;
@@ -152,7 +151,7 @@ fn put_rules<K: Sink>(out: &mut Buffered, sink: &mut K, rules: &[Rule]) -> Resul
 }
 
 fn put_hom_rules<K: Sink>(out: &mut Buffered, sink: &mut K, rules: &[HomRule]) -> Result<(), Failed>
-    ensures { Puts K.written K.faults sink.old sink.new out.old out.new (script_of (map as_put_homomorphism (map homomorphism_of rules.now))) result }
+    ensures { Puts K.Sink sink out (homomorphism_lines rules.now) result }
 {
     for rule in rules {
         put_hom_rule(out, sink, rule)?;
@@ -161,7 +160,7 @@ fn put_hom_rules<K: Sink>(out: &mut Buffered, sink: &mut K, rules: &[HomRule]) -
 }
 
 fn put_own_lists<K: Sink>(out: &mut Buffered, sink: &mut K, lists: &[OwnList]) -> Result<(), Failed>
-    ensures { Puts K.written K.faults sink.old sink.new out.old out.new (script_of (map as_set_own lists.now)) result }
+    ensures { Puts K.Sink sink out (script_of (map as_set_own lists.now)) result }
 {
     for list in lists {
         put_own_list(out, sink, list)?;
@@ -170,7 +169,7 @@ fn put_own_lists<K: Sink>(out: &mut Buffered, sink: &mut K, lists: &[OwnList]) -
 }
 
 fn put_own_list<K: Sink>(out: &mut Buffered, sink: &mut K, list: &OwnList) -> Result<(), Failed>
-    ensures { Puts K.written K.faults sink.old sink.new out.old out.new (line_of (as_set_own list.now)) result }
+    ensures { Puts K.Sink sink out (line_of (as_set_own list.now)) result }
 {
     let filter = list.filter();
     put_list_word(out, sink, filter.kind)?;
@@ -179,7 +178,7 @@ fn put_own_list<K: Sink>(out: &mut Buffered, sink: &mut K, list: &OwnList) -> Re
 }
 
 fn put_list_word<K: Sink>(out: &mut Buffered, sink: &mut K, kind: ListKind) -> Result<(), Failed>
-    ensures { Puts K.written K.faults sink.old sink.new out.old out.new (list_word (list_kind_of kind)) result }
+    ensures { Puts K.Sink sink out (list_word (list_kind_of kind)) result }
 {
     match kind {
         ListKind::Ignore => out.put(sink, b"ignoring"),
@@ -189,7 +188,7 @@ fn put_list_word<K: Sink>(out: &mut Buffered, sink: &mut K, kind: ListKind) -> R
 
 // Puts a colon and the names behind it, up to the line's end.
 fn put_listed<K: Sink>(out: &mut Buffered, sink: &mut K, names: &[Name]) -> Result<(), Failed>
-    ensures { Puts K.written K.faults sink.old sink.new out.old out.new (listed_text (map module_name names.now)) result }
+    ensures { Puts K.Sink sink out (listed_text (map module_name names.now)) result }
 {
     if names.is_empty() {
         return out.put(sink, b":\n");
@@ -200,7 +199,7 @@ fn put_listed<K: Sink>(out: &mut Buffered, sink: &mut K, names: &[Name]) -> Resu
 }
 
 fn put_schedule<K: Sink>(out: &mut Buffered, sink: &mut K, words: &[Word]) -> Result<(), Failed>
-    ensures { Puts K.written K.faults sink.old sink.new out.old out.new (line_of (set_schedule words.now)) result }
+    ensures { Puts K.Sink sink out (line_of (set_schedule words.now)) result }
 {
     out.put(sink, b"schedule")?;
     put_words(out, sink, words)?;
@@ -209,7 +208,7 @@ fn put_schedule<K: Sink>(out: &mut Buffered, sink: &mut K, words: &[Word]) -> Re
 
 // Puts words, each behind a blank.
 fn put_words<K: Sink>(out: &mut Buffered, sink: &mut K, words: &[Word]) -> Result<(), Failed>
-    ensures { Puts K.written K.faults sink.old sink.new out.old out.new (text_of (words_pieces words.now)) result }
+    ensures { Puts K.Sink sink out (text_of (words_pieces words.now)) result }
 {
     for word in words {
         put_next_word(out, sink, *word)?;
@@ -218,7 +217,7 @@ fn put_words<K: Sink>(out: &mut Buffered, sink: &mut K, words: &[Word]) -> Resul
 }
 
 fn put_next_word<K: Sink>(out: &mut Buffered, sink: &mut K, word: Word) -> Result<(), Failed>
-    ensures { Puts K.written K.faults sink.old sink.new out.old out.new (32 ∷ word) result }
+    ensures { Puts K.Sink sink out (32 ∷ word) result }
 {
     out.put(sink, b" ")?;
     put_word(out, sink, word)

@@ -1,17 +1,13 @@
 //! A rule as it is written.
-ghost use Rattle.std.specs.Prelude.{◌≡◌, ◌++◌, ◌∷◌, [], All, IfOk, decimal, false, map};
-ghost use Rattle.std.specs.Option.{option_map};
+ghost use Rattle.std.specs.Prelude.{◌≡◌, ◌∷◌, All, IfOk, decimal, false, map};
 ghost use Rattle.lsys_syntax.specs.Pieces.{text_of, token_text};
-ghost use Rattle.lsys_syntax.specs.Strings.{Module, ends_in_name, string_pieces, symbol_pieces};
+ghost use Rattle.lsys_syntax.specs.Strings.{ends_in_name};
 ghost use Rattle.lsys_syntax.specs.Expressions.{expr_pieces};
-ghost use Rattle.lsys_syntax.specs.Rules.{formal_pieces, left_pieces, right_pieces, rule_pieces, successor_pieces};
-ghost use Rattle.lsys_spec.specs.Shown.{as_put, as_put_homomorphism};
-ghost use Rattle.lsys_io.specs.Writes.{Puts};
-ghost use Rattle.lsys_text.specs.Tokens.{kind_of, name_of, IsMarkByte};
-ghost use Rattle.lsys_module.specs.Printing.{more_text, params_text, symbol_behind};
-ghost use Rattle.lsys_module.specs.Views.{module_name};
-ghost use Rattle.lsys_bodies.specs.Views.{homomorphism_of, item_symbol, pattern_symbol, production_of, spelled, template_symbol, written};
-ghost use Rattle.lsys_rules.specs.Showing.{expr_behind, kinds_text, line_of};
+ghost use Rattle.lsys_io.specs.Putting.{Puts};
+ghost use Rattle.lsys_text.specs.Tokens.{kind_of, IsMarkByte};
+ghost use Rattle.lsys_bodies.specs.Views.{item_symbol, pattern_symbol, template_symbol};
+ghost use Rattle.lsys_rules.specs.Showing.{kinds_text};
+ghost use Rattle.lsys_rules.specs.RuleTexts.{body_text, expression_behind, formal_text, formals_text, homomorphism_line, image_behind, image_symbol, item_behind, items_text, labelled_line, left_text, more_formals_text, more_parameters_text, parameters_text, pattern_behind, patterns_text, predecessor_text, production_line, right_text, successor_text, template_behind, templates_text};
 
 use lsys_bodies::{Body, HomRule, Item, Pattern, Rule, Template};
 use lsys_expr::Expr;
@@ -21,7 +17,7 @@ use lsys_text::{Name, TokenKind, Word};
 
 /// Puts a production on a line.
 pub(crate) fn put_rule<K: Sink>(out: &mut Buffered, sink: &mut K, rule: &Rule) -> Result<(), Failed>
-    ensures { Puts K.written K.faults sink.old sink.new out.old out.new (line_of (as_put (production_of rule.now))) result }
+    ensures { Puts K.Sink sink out (production_line rule.now) result }
 {
     out.put(sink, b"production ")?;
     put_word(out, sink, rule.table)?;
@@ -35,7 +31,7 @@ pub(crate) fn put_hom_rule<K: Sink>(
     sink: &mut K,
     rule: &HomRule,
 ) -> Result<(), Failed>
-    ensures { Puts K.written K.faults sink.old sink.new out.old out.new (line_of (as_put_homomorphism (homomorphism_of rule.now))) result }
+    ensures { Puts K.Sink sink out (homomorphism_line rule.now) result }
 {
     out.put(sink, b"hom ")?;
     put_labelled(out, sink, rule.label, rule.body.get())
@@ -48,7 +44,7 @@ fn put_labelled<K: Sink>(
     label: Word,
     body: &Body,
 ) -> Result<(), Failed>
-    ensures { Puts K.written K.faults sink.old sink.new out.old out.new (label ++ (58 ∷ 32 ∷ (text_of (rule_pieces (written body.now)) ++ 10 ∷ []))) result }
+    ensures { Puts K.Sink sink out (labelled_line label body.now) result }
 {
     put_word(out, sink, label)?;
     out.put(sink, b": ")?;
@@ -58,14 +54,14 @@ fn put_labelled<K: Sink>(
 
 /// Puts a word.
 pub(crate) fn put_word<K: Sink>(out: &mut Buffered, sink: &mut K, word: Word) -> Result<(), Failed>
-    ensures { Puts K.written K.faults sink.old sink.new out.old out.new word result }
+    ensures { Puts K.Sink sink out word result }
 {
     let text = word.text();
     out.put(sink, text.as_bytes())
 }
 
 fn put_body<K: Sink>(out: &mut Buffered, sink: &mut K, body: &Body) -> Result<(), Failed>
-    ensures { Puts K.written K.faults sink.old sink.new out.old out.new (text_of (rule_pieces (written body.now))) result }
+    ensures { Puts K.Sink sink out (body_text body.now) result }
 {
     put_left(out, sink, &body.left)?;
     put_predecessor(out, sink, &body.predecessor)?;
@@ -78,7 +74,7 @@ fn put_body<K: Sink>(out: &mut Buffered, sink: &mut K, body: &Body) -> Result<()
 
 // Puts a left context and the mark behind it, where there is one.
 fn put_left<K: Sink>(out: &mut Buffered, sink: &mut K, patterns: &[Pattern]) -> Result<(), Failed>
-    ensures { Puts K.written K.faults sink.old sink.new out.old out.new (text_of (left_pieces (map pattern_symbol patterns.now))) result }
+    ensures { Puts K.Sink sink out (left_text patterns.now) result }
 {
     if patterns.is_empty() {
         return Ok(());
@@ -92,7 +88,7 @@ fn put_patterns<K: Sink>(
     sink: &mut K,
     patterns: &[Pattern],
 ) -> Result<(), Failed>
-    ensures { Puts K.written K.faults sink.old sink.new out.old out.new (text_of (string_pieces formal_pieces (map pattern_symbol patterns.now))) result }
+    ensures { Puts K.Sink sink out (patterns_text patterns.now) result }
 {
     let mut runs_on = false;
     for pattern in patterns {
@@ -106,7 +102,7 @@ fn put_predecessor<K: Sink>(
     sink: &mut K,
     pattern: &Pattern,
 ) -> Result<(), Failed>
-    ensures { Puts K.written K.faults sink.old sink.new out.old out.new (text_of (symbol_pieces formal_pieces (pattern_symbol pattern.now))) result }
+    ensures { Puts K.Sink sink out (predecessor_text pattern.now) result }
 {
     put_pattern(out, sink, pattern, false)?;
     Ok(())
@@ -119,7 +115,7 @@ fn put_pattern<K: Sink>(
     pattern: &Pattern,
     runs_on: bool,
 ) -> Result<bool, Failed>
-    ensures put { Puts K.written K.faults sink.old sink.new out.old out.new (symbol_behind formal_pieces runs_on (pattern_symbol pattern.now)) result }
+    ensures put { Puts K.Sink sink out (pattern_behind runs_on pattern.now) result }
     ensures runs_on { IfOk result (λ more. more ≡ ends_in_name (pattern_symbol pattern.now)) }
 {
     let long = put_name(out, sink, pattern.name, runs_on)?;
@@ -129,7 +125,7 @@ fn put_pattern<K: Sink>(
 
 // Puts formals, in parentheses where there are any.
 fn put_formals<K: Sink>(out: &mut Buffered, sink: &mut K, formals: &[Name]) -> Result<(), Failed>
-    ensures { Puts K.written K.faults sink.old sink.new out.old out.new (params_text formal_pieces (map name_of formals.now)) result }
+    ensures { Puts K.Sink sink out (formals_text formals.now) result }
 {
     let Some((first, others)) = formals.split_first() else {
         return Ok(());
@@ -146,7 +142,7 @@ fn put_more_formals<K: Sink>(
     sink: &mut K,
     formals: &[Name],
 ) -> Result<(), Failed>
-    ensures { Puts K.written K.faults sink.old sink.new out.old out.new (more_text formal_pieces (map name_of formals.now)) result }
+    ensures { Puts K.Sink sink out (more_formals_text formals.now) result }
 {
     for formal in formals {
         put_next_formal(out, sink, formal)?;
@@ -155,14 +151,14 @@ fn put_more_formals<K: Sink>(
 }
 
 fn put_next_formal<K: Sink>(out: &mut Buffered, sink: &mut K, formal: &Name) -> Result<(), Failed>
-    ensures { Puts K.written K.faults sink.old sink.new out.old out.new (44 ∷ text_of (formal_pieces (name_of formal.now))) result }
+    ensures { Puts K.Sink sink out (44 ∷ formal_text formal.now) result }
 {
     out.put(sink, b",")?;
     put_formal(out, sink, formal)
 }
 
 fn put_formal<K: Sink>(out: &mut Buffered, sink: &mut K, formal: &Name) -> Result<(), Failed>
-    ensures { Puts K.written K.faults sink.old sink.new out.old out.new (text_of (formal_pieces (name_of formal.now))) result }
+    ensures { Puts K.Sink sink out (formal_text formal.now) result }
 {
     let text = formal.text();
     out.put(sink, text.as_bytes())
@@ -170,7 +166,7 @@ fn put_formal<K: Sink>(out: &mut Buffered, sink: &mut K, formal: &Name) -> Resul
 
 // Puts a right context and the mark before it, where there is one.
 fn put_right<K: Sink>(out: &mut Buffered, sink: &mut K, items: &[Item]) -> Result<(), Failed>
-    ensures { Puts K.written K.faults sink.old sink.new out.old out.new (text_of (right_pieces (map item_symbol items.now))) result }
+    ensures { Puts K.Sink sink out (right_text items.now) result }
 {
     if items.is_empty() {
         return Ok(());
@@ -180,7 +176,7 @@ fn put_right<K: Sink>(out: &mut Buffered, sink: &mut K, items: &[Item]) -> Resul
 }
 
 fn put_items<K: Sink>(out: &mut Buffered, sink: &mut K, items: &[Item]) -> Result<(), Failed>
-    ensures { Puts K.written K.faults sink.old sink.new out.old out.new (text_of (string_pieces formal_pieces (map item_symbol items.now))) result }
+    ensures { Puts K.Sink sink out (items_text items.now) result }
 {
     let mut runs_on = false;
     for item in items {
@@ -195,7 +191,7 @@ fn put_item<K: Sink>(
     item: &Item,
     runs_on: bool,
 ) -> Result<bool, Failed>
-    ensures put { Puts K.written K.faults sink.old sink.new out.old out.new (symbol_behind formal_pieces runs_on (item_symbol item.now)) result }
+    ensures put { Puts K.Sink sink out (item_behind runs_on item.now) result }
     ensures runs_on { IfOk result (λ more. more ≡ ends_in_name (item_symbol item.now)) }
 {
     match item {
@@ -207,7 +203,7 @@ fn put_item<K: Sink>(
 
 // Puts a mark, which never runs on.
 fn put_mark<K: Sink>(out: &mut Buffered, sink: &mut K, mark: &[u8]) -> Result<bool, Failed>
-    ensures put { Puts K.written K.faults sink.old sink.new out.old out.new mark.now result }
+    ensures put { Puts K.Sink sink out mark.now result }
     ensures runs_on { IfOk result (λ more. more ≡ false) }
 {
     out.put(sink, mark)?;
@@ -221,7 +217,7 @@ fn put_option<K: Sink>(
     mark: &[u8],
     expr: &Option<Expr>,
 ) -> Result<(), Failed>
-    ensures { Puts K.written K.faults sink.old sink.new out.old out.new (expr_behind mark.now (option_map spelled expr.now)) result }
+    ensures { Puts K.Sink sink out (expression_behind mark.now expr.now) result }
 {
     match expr {
         Some(expr) => {
@@ -237,7 +233,7 @@ fn put_successor<K: Sink>(
     sink: &mut K,
     templates: &[Template],
 ) -> Result<(), Failed>
-    ensures { Puts K.written K.faults sink.old sink.new out.old out.new (text_of (successor_pieces (map template_symbol templates.now))) result }
+    ensures { Puts K.Sink sink out (successor_text templates.now) result }
 {
     if templates.is_empty() {
         return Ok(());
@@ -251,7 +247,7 @@ fn put_templates<K: Sink>(
     sink: &mut K,
     templates: &[Template],
 ) -> Result<(), Failed>
-    ensures { Puts K.written K.faults sink.old sink.new out.old out.new (text_of (string_pieces expr_pieces (map template_symbol templates.now))) result }
+    ensures { Puts K.Sink sink out (templates_text templates.now) result }
 {
     let mut runs_on = false;
     for template in templates {
@@ -266,7 +262,7 @@ fn put_template<K: Sink>(
     template: &Template,
     runs_on: bool,
 ) -> Result<bool, Failed>
-    ensures put { Puts K.written K.faults sink.old sink.new out.old out.new (symbol_behind expr_pieces runs_on (template_symbol template.now)) result }
+    ensures put { Puts K.Sink sink out (template_behind runs_on template.now) result }
     ensures runs_on { IfOk result (λ more. more ≡ ends_in_name (template_symbol template.now)) }
 {
     match template {
@@ -285,8 +281,8 @@ fn put_image<K: Sink>(
     params: &[Expr],
     runs_on: bool,
 ) -> Result<bool, Failed>
-    ensures put { Puts K.written K.faults sink.old sink.new out.old out.new (symbol_behind expr_pieces runs_on (Module (module_name name) (map spelled params.now))) result }
-    ensures runs_on { IfOk result (λ more. more ≡ ends_in_name (Module (module_name name) (map spelled params.now))) }
+    ensures put { Puts K.Sink sink out (image_behind runs_on name params.now) result }
+    ensures runs_on { IfOk result (λ more. more ≡ ends_in_name (image_symbol name params.now)) }
 {
     let long = put_name(out, sink, name, runs_on)?;
     put_params(out, sink, params)?;
@@ -295,7 +291,7 @@ fn put_image<K: Sink>(
 
 // Puts parameters, in parentheses where there are any.
 fn put_params<K: Sink>(out: &mut Buffered, sink: &mut K, params: &[Expr]) -> Result<(), Failed>
-    ensures { Puts K.written K.faults sink.old sink.new out.old out.new (params_text expr_pieces (map spelled params.now)) result }
+    ensures { Puts K.Sink sink out (parameters_text params.now) result }
 {
     let Some((first, others)) = params.split_first() else {
         return Ok(());
@@ -308,7 +304,7 @@ fn put_params<K: Sink>(out: &mut Buffered, sink: &mut K, params: &[Expr]) -> Res
 
 // Puts parameters, each behind a comma.
 fn put_more_params<K: Sink>(out: &mut Buffered, sink: &mut K, params: &[Expr]) -> Result<(), Failed>
-    ensures { Puts K.written K.faults sink.old sink.new out.old out.new (more_text expr_pieces (map spelled params.now)) result }
+    ensures { Puts K.Sink sink out (more_parameters_text params.now) result }
 {
     for param in params {
         put_next_param(out, sink, param)?;
@@ -317,14 +313,14 @@ fn put_more_params<K: Sink>(out: &mut Buffered, sink: &mut K, params: &[Expr]) -
 }
 
 fn put_next_param<K: Sink>(out: &mut Buffered, sink: &mut K, param: &Expr) -> Result<(), Failed>
-    ensures { Puts K.written K.faults sink.old sink.new out.old out.new (44 ∷ text_of (expr_pieces param.now.spelled)) result }
+    ensures { Puts K.Sink sink out (44 ∷ text_of (expr_pieces param.now.spelled)) result }
 {
     out.put(sink, b",")?;
     put_expr(out, sink, param)
 }
 
 fn put_expr<K: Sink>(out: &mut Buffered, sink: &mut K, expr: &Expr) -> Result<(), Failed>
-    ensures { Puts K.written K.faults sink.old sink.new out.old out.new (text_of (expr_pieces expr.now.spelled)) result }
+    ensures { Puts K.Sink sink out (text_of (expr_pieces expr.now.spelled)) result }
 {
     put_kinds(out, sink, expr.kinds())
 }
@@ -332,7 +328,7 @@ fn put_expr<K: Sink>(out: &mut Buffered, sink: &mut K, expr: &Expr) -> Result<()
 // Puts tokens of an expression, one directly behind another.
 fn put_kinds<K: Sink>(out: &mut Buffered, sink: &mut K, kinds: &[TokenKind]) -> Result<(), Failed>
     requires { All IsMarkByte kinds.now }
-    ensures { Puts K.written K.faults sink.old sink.new out.old out.new (kinds_text (map kind_of kinds.now)) result }
+    ensures { Puts K.Sink sink out (kinds_text (map kind_of kinds.now)) result }
 {
     for kind in kinds {
         put_kind(out, sink, *kind)?;
@@ -342,7 +338,7 @@ fn put_kinds<K: Sink>(out: &mut Buffered, sink: &mut K, kinds: &[TokenKind]) -> 
 
 fn put_kind<K: Sink>(out: &mut Buffered, sink: &mut K, kind: TokenKind) -> Result<(), Failed>
     requires { IsMarkByte kind }
-    ensures { Puts K.written K.faults sink.old sink.new out.old out.new (token_text (kind_of kind)) result }
+    ensures { Puts K.Sink sink out (token_text (kind_of kind)) result }
 {
     match kind {
         TokenKind::Word(word) => put_word(out, sink, word),
@@ -364,7 +360,7 @@ pub(crate) fn put_decimal<K: Sink>(
     sink: &mut K,
     number: u64,
 ) -> Result<(), Failed>
-    ensures { Puts K.written K.faults sink.old sink.new out.old out.new (decimal number) result }
+    ensures { Puts K.Sink sink out (decimal number) result }
 {
     out.put_number(sink, i128::from(number))
 }

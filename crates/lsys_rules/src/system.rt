@@ -1,18 +1,18 @@
 //! Systems.
-ghost use Rattle.std.specs.Prelude.{◌≡◌, ◌≤◌, ◌<◌, IfOk, IfSome, filter, length, map, slice_get};
-ghost use Rattle.std.specs.Option.{option_map};
+ghost use Rattle.std.specs.Prelude.{◌≡◌, ◌≤◌, IfOk, IfSome, length, map, slice_get};
 ghost use Rattle.lsys_syntax.specs.Limits.{greatest_version, most_rules};
 ghost use Rattle.lsys_spec.specs.Systems.{depth_bound, opening, tables};
 ghost use Rattle.lsys_spec.specs.Bodies as bodies;
-ghost use Rattle.lsys_spec.specs.Bodies.{body_of, group, is_for, table_at};
+ghost use Rattle.lsys_spec.specs.Bodies.{table_at};
 ghost use Rattle.lsys_spec.specs.Meaning.{ignored_by};
 ghost use Rattle.lsys_laws.specs.Sessions.{IsWell};
 ghost use Rattle.lsys_module.specs.Views.{module_name, string_of};
 ghost use Rattle.lsys_reading.specs.Commands.{lattice_of, numbering_of};
 ghost use Rattle.lsys_bodies.specs.Filters.{filter_of};
-ghost use Rattle.lsys_bodies.specs.Views.{homomorphism_of, production_of, rule_of};
-ghost use Rattle.lsys_rules.specs.Groups.{rules_of};
+ghost use Rattle.lsys_bodies.specs.Views.{homomorphism_of, production_of};
+ghost use Rattle.lsys_rules.specs.Groups.{found_rules};
 ghost use Rattle.lsys_rules.specs.Systems.{system_of};
+ghost use Rattle.lsys_rules.specs.LevelGroups.{level_bodies, level_rules, rule_body, found_body, found_production};
 
 use crate::hom_table::HomTable;
 use crate::own_list::OwnList;
@@ -216,10 +216,8 @@ impl System {
     /// such modules, in the order in which they are tried. None where the table has no rule for them. A look-up costs the
     /// same however many rules there are.
     pub fn group(&self, level: u32, name: Name, arity: usize) -> Option<&SharedGroup>
-        ensures rules { map production_of (rules_of (option_map (λ g. g.now) result))
-            ≡ filter (is_for (table_at self.now.schedule level) (module_name name) arity) self.now.rules }
-        ensures bodies { map (λ r. body_of (rule_of r)) (rules_of (option_map (λ g. g.now) result))
-            ≡ group self.now level (module_name name) arity }
+        ensures rules { map production_of (found_rules result) ≡ level_rules self.now level name arity }
+        ensures bodies { map rule_body (found_rules result) ≡ level_bodies self.now level name arity }
         ensures few { IfSome result (λ g. length g.now ≤ most_rules) }
         ensures well { IsWell self.now }
     {
@@ -237,10 +235,9 @@ impl System {
     /// The rule at a place, from 0, of the group of a level for modules with this name and number of parameters. None past
     /// the group's end.
     pub fn group_rule(&self, level: u32, name: Name, arity: usize, place: usize) -> Option<&Rule>
-        ensures rule { option_map (λ r. production_of r.now) result
-            ≡ slice_get (filter (is_for (table_at self.now.schedule level) (module_name name) arity) self.now.rules) place }
-        ensures body { option_map (λ r. body_of (rule_of r.now)) result
-            ≡ slice_get (group self.now level (module_name name) arity) place }
+        ensures rule { found_production result
+            ≡ slice_get (level_rules self.now level name arity) place }
+        ensures body { found_body result ≡ slice_get (level_bodies self.now level name arity) place }
     {
         let group = self.group(level, name, arity)?;
         group.rules().get(place)

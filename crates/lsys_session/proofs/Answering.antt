@@ -15,9 +15,9 @@ use Rattle.lsys_syntax.specs.Tokens.{tokens}
 use Rattle.lsys_rules.specs.declared.refusal.Refusal.{Refusal}
 use Rattle.lsys_rules.specs.declared.refusal.Refusal.TheVariants as refusals
 use Rattle.lsys_session.specs.Requests.{IsRequest, IsAskedBy, reply_to, refusal_line, refusal_text}
-use Rattle.lsys_session.specs.Sessions.{Says, refusal_outcome}
-use Rattle.lsys_session.specs.Answers.{line_reply, may_lack, reply_or_memory, line_spelled, Became, Answers}
-use Rattle.lsys_session.specs.Given.{is_something, given, done, unless_refused, Gives}
+use Rattle.lsys_session.specs.Sessions.{WasSaid, refusal_outcome}
+use Rattle.lsys_session.specs.Answers.{line_reply, may_lack, reply_or_memory, line_spelled, Became, WasAnswered}
+use Rattle.lsys_session.specs.Given.{is_something, given, done, unless_refused, WasGiven}
 use Rattle.lsys_session.specs.declared.outcome.Outcome.{Outcome}
 use Rattle.lsys_session.specs.declared.outcome.Outcome.TheVariants as outcomes
 use Rattle.lsys_session.specs.declared.request.Request.{Request}
@@ -118,7 +118,7 @@ module _ (limit : ℕ) (s : System) (line : List ℕ) (short : is_long line ≡ 
   given_is Quit false e h = plainly Quit e
 
 module _ {K : Type 0} (written : K → Option (List ℕ)) (faults : K → ℕ) (a b : K) (held : List ℕ) (limit : ℕ) (s : System) (line : List ℕ) (result : Result Outcome Failed) where
-  pub answered : (new : System) (r : Request) → is_long line ≡ false → IsRequest s line (Ok r) → Gives written faults a b held limit s new r result → Answers written faults a b held limit s new line result
+  pub answered : (new : System) (r : Request) → is_long line ≡ false → IsRequest s line (Ok r) → WasGiven written faults a b held limit s new r result → WasAnswered written faults a b held limit s new line result
   answered new r short q g = record {
     lacks = g.lacks && is_something r;
     reply = given limit s r g.lacks;
@@ -131,8 +131,8 @@ module _ {K : Type 0} (written : K → Option (List ℕ)) (faults : K → ℕ) (
 
   -- 3. lines that are refused by themselves
 
-  refused_so : (why : List ℕ) → line_reply limit s line ≡ refused s why → Says written faults a b held (codes "refused " ++ why ++ line_feed) outcomes.Refused result
-      → Answers written faults a b held limit s s line result
+  refused_so : (why : List ℕ) → line_reply limit s line ≡ refused s why → WasSaid written faults a b held (codes "refused " ++ why ++ line_feed) outcomes.Refused result
+      → WasAnswered written faults a b held limit s s line result
   refused_so why e said = record {
     lacks = false;
     reply = refused s why;
@@ -143,7 +143,7 @@ module _ {K : Type 0} (written : K → Option (List ℕ)) (faults : K → ℕ) (
     became = became_so result said.outcome (record { refusal = refl; memory = refl; end = refl; spells = tt });
   }
 
-  lacking_memory : may_lack line ≡ true → Says written faults a b held (codes "refused memory" ++ line_feed) outcomes.Memory result → Answers written faults a b held limit s s line result
+  lacking_memory : may_lack line ≡ true → WasSaid written faults a b held (codes "refused memory" ++ line_feed) outcomes.Memory result → WasAnswered written faults a b held limit s s line result
   lacking_memory e said = record {
     lacks = true;
     reply = refused_memory s;
@@ -154,7 +154,7 @@ module _ {K : Type 0} (written : K → Option (List ℕ)) (faults : K → ℕ) (
     became = became_so result said.outcome (memory_became s (line_spelled line));
   }
 
-  pub answered_refusal : (e : Refusal) → is_long line ≡ false → IsRequest s line (Err e) → Says written faults a b held (refusal_line e) (refusal_outcome e) result → Answers written faults a b held limit s s line result
+  pub answered_refusal : (e : Refusal) → is_long line ≡ false → IsRequest s line (Err e) → WasSaid written faults a b held (refusal_line e) (refusal_outcome e) result → WasAnswered written faults a b held limit s s line result
   answered_refusal refusals.Memory short q said = lacking_memory (may line short q) said
   answered_refusal (refusals.Byte n) short q said = refused_so (refusal_text (refusals.Byte n)) (not_long limit s line short ∙ q limit) said
   answered_refusal refusals.LongLine short q said = refused_so (refusal_text refusals.LongLine) (not_long limit s line short ∙ q limit) said

@@ -15,9 +15,9 @@ use Rattle.lsys_rewrite.specs.declared.refusal.DeriveRefusal.TheVariants.{Fault,
 use Rattle.lsys_level.specs.Spots.{Spotted}
 use Rattle.lsys_match.specs.Derivations.{AreMeant, IsCount, IsDerived, IsOutcome, Rises, most_read}
 use Rattle.lsys_session.specs.Requests.{reply_to, count_text, derivation_line}
-use Rattle.lsys_session.specs.Sessions.{Says, derivation_outcome}
-use Rattle.lsys_session.specs.Answers.{Counters, Needed, Few, Counts}
-use Rattle.lsys_session.specs.Given.{given, done, unless_refused, Gives}
+use Rattle.lsys_session.specs.Sessions.{WasSaid, derivation_outcome}
+use Rattle.lsys_session.specs.Answers.{Counters, Needed, Few, WasCounted}
+use Rattle.lsys_session.specs.Given.{given, done, unless_refused, WasGiven}
 use Rattle.lsys_session.specs.declared.outcome.Outcome.{Outcome}
 use Rattle.lsys_session.specs.declared.outcome.Outcome.TheVariants as outcomes
 use Rattle.lsys_session.specs.declared.request.Request.{Request}
@@ -31,10 +31,10 @@ if_ok (Err f) p = tt
 
 -- the reply that was put is the one to be given
 pub gives_so : {K : Type 0} {written : K → Option (List ℕ)} {faults : K → ℕ} {a b : K} {held : List ℕ} {limit : ℕ} {old new : System} {r : Request} {result : Result Outcome Failed} (lacks : Bool) (reply : Reply)
-    → given limit old r lacks ≡ reply → Says written faults a b held reply.text (unless_refused (done r) reply) result → new ≡ reply.next → Gives written faults a b held limit old new r result
+    → given limit old r lacks ≡ reply → WasSaid written faults a b held reply.text (unless_refused (done r) reply) result → new ≡ reply.next → WasGiven written faults a b held limit old new r result
 gives_so {written = written} {faults = faults} {a = a} {b = b} {held = held} {new = new} {r = r} {result = result} lacks reply e said n = record {
   lacks = lacks;
-  says = subst (λ (q : Reply). Says written faults a b held q.text (unless_refused (done r) q) result) (sym e) said;
+  says = subst (λ (q : Reply). WasSaid written faults a b held q.text (unless_refused (done r) q) result) (sym e) said;
   next = subst (λ (q : Reply). IfOk result (λ o. new ≡ q.next)) (sym e) (if_ok result n);
 }
 
@@ -54,17 +54,17 @@ counted_line old new count c =
 module _ {K : Type 0} (written : K → Option (List ℕ)) (faults : K → ℕ) (a b : K) (held : List ℕ) (limit : ℕ) (s new next : System) (result : Result Outcome Failed) where
   pub edit_accepted : (xs : List (List L.Symbol)) (levels : List (List Spotted)) (count : EditCount) → meaning s limit ≡ Ok xs → IsDerived next limit levels
       → ((x y : List (List L.Symbol)) → AreMeant s next limit x y → IsCount (questions s x) (questions next y) count) → new ≡ next
-      → Says written faults a b held (count_text count) outcomes.Accepted result → Gives written faults a b held limit s new (Edit next) result
+      → WasSaid written faults a b held (count_text count) outcomes.Accepted result → WasGiven written faults a b held limit s new (Edit next) result
   edit_accepted xs levels count h d counts n says =
       let ys = d.meant in
       let line = counted_line (questions s xs) (questions next ys) count (counts xs ys (record { before = h; after = d.is })) in
-      gives_so false (said next (count_line (questions s xs) (questions next ys))) (accepted_reply limit s next xs ys h d.is) (subst (λ text. Says written faults a b held text outcomes.Accepted result) line says) n
+      gives_so false (said next (count_line (questions s xs) (questions next ys))) (accepted_reply limit s next xs ys h d.is) (subst (λ text. WasSaid written faults a b held text outcomes.Accepted result) line says) n
 
-  refused_for : (why : List ℕ) → levels_of limit next ≡ Err why → new ≡ s → Says written faults a b held (codes "refused " ++ why ++ line_feed) outcomes.Refused result → Gives written faults a b held limit s new (Edit next) result
+  refused_for : (why : List ℕ) → levels_of limit next ≡ Err why → new ≡ s → WasSaid written faults a b held (codes "refused " ++ why ++ line_feed) outcomes.Refused result → WasGiven written faults a b held limit s new (Edit next) result
   refused_for why e n says = gives_so false (refused s why) (ap (edited limit s next) e) says n
 
-  pub edit_refused : (e : DeriveRefusal) (levels : List (List Spotted)) → IsOutcome next limit levels (Err e) → new ≡ s → Says written faults a b held (derivation_line e) (derivation_outcome e) result
-      → Gives written faults a b held limit s new (Edit next) result
+  pub edit_refused : (e : DeriveRefusal) (levels : List (List Spotted)) → IsOutcome next limit levels (Err e) → new ≡ s → WasSaid written faults a b held (derivation_line e) (derivation_outcome e) result
+      → WasGiven written faults a b held limit s new (Edit next) result
   edit_refused (Fault kind t n) levels o same says = refused_for (derivation_text (FaultAt (fault_of kind) t n)) (ap (or_text derivation_text) o) same says
   edit_refused (Limit t) levels o same says = refused_for (derivation_text (OverLimit t)) (ap (or_text derivation_text) o) same says
   edit_refused Memory levels o same says = gives_so true (refused_memory s) refl says same
@@ -86,7 +86,7 @@ module _ (visits : System → System → List (List L.Symbol) → List (List L.S
       → ((x y : List (List L.Symbol)) → AreMeant s next limit x y → IsCount (questions s x) (questions next y) count)
       → after.asked ≡ before.asked + count.asked
       → ((x y : List (List L.Symbol)) → AreMeant s next limit x y → Rises (least_visits (questions s x) (questions next y)) (visits s next x y) before.visited after.visited)
-      → new ≡ next → IfOk result (λ o. o ≡ outcomes.Accepted) → Counts visits limit true s new before after result
+      → new ≡ next → IfOk result (λ o. o ≡ outcomes.Accepted) → WasCounted visits limit true s new before after result
   edit_counted xs levels count (Err f) h d counts asked read n o = tt
   edit_counted xs levels count (Ok outcome) h d counts asked read n o =
       let ys = d.meant in
@@ -98,9 +98,9 @@ module _ (visits : System → System → List (List L.Symbol) → List (List L.S
         asked = asked ∙ ap (λ n. before.asked + n) (counts xs ys meant).asked;
         visited = read xs ys meant;
       } in
-      subst (λ q. Counts visits limit true s new before after (Ok q)) (sym o) (subst (λ t. Needed visits limit s t before after) (sym n) needed)
+      subst (λ q. WasCounted visits limit true s new before after (Ok q)) (sym o) (subst (λ t. Needed visits limit s t before after) (sym n) needed)
 
-  few_counted : (outcome : Outcome) → IsRefusal outcome → Few limit before after → Counts visits limit true s new before after (Ok outcome)
+  few_counted : (outcome : Outcome) → IsRefusal outcome → Few limit before after → WasCounted visits limit true s new before after (Ok outcome)
   few_counted outcomes.Refused i f = f
   few_counted outcomes.Memory i f = f
   few_counted outcomes.Skipped i f = absurd i
@@ -109,6 +109,6 @@ module _ (visits : System → System → List (List L.Symbol) → List (List L.S
   few_counted outcomes.Quit i f = absurd i
 
   pub edit_few : (e : DeriveRefusal) (result : Result Outcome Failed) → Rises 0 limit before.asked after.asked → Rises 0 (most_read * limit) before.visited after.visited
-      → IfOk result (λ o. o ≡ derivation_outcome e) → Counts visits limit true s new before after result
+      → IfOk result (λ o. o ≡ derivation_outcome e) → WasCounted visits limit true s new before after result
   edit_few e (Err f) asked read o = tt
   edit_few e (Ok outcome) asked read o = few_counted outcome (subst IsRefusal (sym o) (derivation_refuses e)) (record { asked = asked; visited = read })

@@ -2,7 +2,7 @@
 use Rattle.std.proofs.Common.{◌≡◌, ◌≤◌, ◌<◌, ℕ, Bool, true, false, ◌++◌, Option, Some, None, Result, Ok, Err, List, [], length, map, codes, refl, sym, ap, ◌∙◌, subst, arith}
 use Rattle.std.specs.Prelude.{IfOk, IsErr, slice_index_or}
 use Rattle.lsys_io.specs.declared.Failed.{Failed}
-use Rattle.lsys_io.specs.Writes.{Puts}
+use Rattle.lsys_io.specs.Writes.{WasPut}
 use Rattle.lsys_syntax.specs.Strings.{string_text}
 use Rattle.lsys_spec.specs.Systems.{System}
 use Rattle.lsys_spec.specs.Lattices.{Lattice}
@@ -29,8 +29,8 @@ use Rattle.lsys_out.specs.Shown.{on_lattice, Shows, RefusesPicture}
 use Rattle.lsys_out.specs.declared.refusal.PictureRefusal.{PictureRefusal as Refusal}
 use Rattle.lsys_out.specs.declared.refusal.PictureRefusal.TheVariants as refusals
 use Rattle.lsys_session.specs.Requests.{HasLevel, reply_to}
-use Rattle.lsys_session.specs.Sessions.{Says}
-use Rattle.lsys_session.specs.Given.{IsKept, IsWithin, level_number, unless_refused, Gives, Prints, picture_text, picture_reply, picture_line, picture_request}
+use Rattle.lsys_session.specs.Sessions.{WasSaid}
+use Rattle.lsys_session.specs.Given.{IsKept, IsWithin, level_number, unless_refused, WasGiven, WasPrinted, picture_text, picture_reply, picture_line, picture_request}
 use Rattle.lsys_session.specs.declared.outcome.Outcome.{Outcome}
 use Rattle.lsys_session.specs.declared.outcome.Outcome.TheVariants as outcomes
 use Rattle.lsys_session.specs.declared.pictures.Picture.{Picture}
@@ -70,13 +70,13 @@ module _ (limit : ℕ) (s : System) (levels : List (List Spotted)) (d : IsDerive
   string_reply t = ap (shown s (string_line t)) (meant_levels limit s d.meant d.is)
 
   pub level_given : {K : Type 0} (written : K → Option (List ℕ)) (faults : K → ℕ) (a b : K) (held : List ℕ) (t : Option ℕ) (symbols : List Symbol) (result : Result Outcome Failed)
-      → IsCopy (spots.level_at levels (level_number s.depth t)) symbols → Says written faults a b held (string_text (string_of symbols) ++ line_feed) outcomes.Printed result
-      → Gives written faults a b held limit s s (String t) result
+      → IsCopy (spots.level_at levels (level_number s.depth t)) symbols → WasSaid written faults a b held (string_text (string_of symbols) ++ line_feed) outcomes.Printed result
+      → WasGiven written faults a b held limit s s (String t) result
   level_given written faults a b held t symbols result copy says =
-      gives_so false (said s (string_line t d.meant)) (string_reply t) (subst (λ text. Says written faults a b held text outcomes.Printed result) (copied_line t symbols copy) says) refl
+      gives_so false (said s (string_line t d.meant)) (string_reply t) (subst (λ text. WasSaid written faults a b held text outcomes.Printed result) (copied_line t symbols copy) says) refl
 
   pub level_lacking : {K : Type 0} (written : K → Option (List ℕ)) (faults : K → ℕ) (a b : K) (held : List ℕ) (t : Option ℕ) (result : Result Outcome Failed)
-      → Says written faults a b held (codes "refused memory" ++ line_feed) outcomes.Memory result → Gives written faults a b held limit s s (String t) result
+      → WasSaid written faults a b held (codes "refused memory" ++ line_feed) outcomes.Memory result → WasGiven written faults a b held limit s s (String t) result
   level_lacking written faults a b held t result says = gives_so true (refused_memory s) refl says refl
 
   -- 2. pictures
@@ -105,16 +105,16 @@ module _ (limit : ℕ) (s : System) (levels : List (List Spotted)) (d : IsDerive
   picture_asked pictures.Svg = ap (λ o. shown s (svg_text s.lattice) (picture_of s o)) (meant_levels limit s d.meant d.is)
 
   pub picture_given : {K : Type 0} (written : K → Option (List ℕ)) (faults : K → ℕ) (a b : K) (held : List ℕ) (kind : Picture) (result : Result Outcome Failed)
-      → ((naming : ℕ → List ℕ) → Prints written faults a b held s (picture_reply kind s (picture s (last_level naming s levels))) result)
-      → Gives written faults a b held limit s s (picture_request kind) result
+      → ((naming : ℕ → List ℕ) → WasPrinted written faults a b held s (picture_reply kind s (picture s (last_level naming s levels))) result)
+      → WasGiven written faults a b held limit s s (picture_request kind) result
   picture_given written faults a b held kind result prints =
-      let p : Prints written faults a b held s (picture_reply kind s (picture s (M.last_level d.meant))) result =
-      subst (λ x. Prints written faults a b held s (picture_reply kind s (picture s x)) result) last_named (prints naming) in
+      let p : WasPrinted written faults a b held s (picture_reply kind s (picture s (M.last_level d.meant))) result =
+      subst (λ x. WasPrinted written faults a b held s (picture_reply kind s (picture s x)) result) last_named (prints naming) in
       given_by kind result (picture_reply kind s (picture s (M.last_level d.meant))) (picture_asked kind) (shown_stays s (picture_text kind s.lattice) (or_text picture_refusal_text (picture s (M.last_level d.meant)))) p.lacks p.says
     where
       given_by : (kind : Picture) (result : Result Outcome Failed) (reply : Reply) → reply_to limit s (picture_request kind) ≡ reply → s ≡ reply.next → (lacks : Bool)
-          → Says written faults a b held (memory_or lacks s reply).text (unless_refused outcomes.Printed (memory_or lacks s reply)) result
-          → Gives written faults a b held limit s s (picture_request kind) result
+          → WasSaid written faults a b held (memory_or lacks s reply).text (unless_refused outcomes.Printed (memory_or lacks s reply)) result
+          → WasGiven written faults a b held limit s s (picture_request kind) result
       given_by pictures.Segments result reply e n true says = gives_so true (refused_memory s) refl says refl
       given_by pictures.Segments result reply e n false says = gives_so false reply e says n
       given_by pictures.Svg result reply e n true says = gives_so true (refused_memory s) refl says refl
@@ -124,9 +124,9 @@ module _ (limit : ℕ) (s : System) (levels : List (List Spotted)) (d : IsDerive
 
 -- the reply that was put is the one to be printed
 prints_so : {K : Type 0} {written : K → Option (List ℕ)} {faults : K → ℕ} {a b : K} {held : List ℕ} {s : System} {asked : Reply} {result : Result Outcome Failed} (lacks : Bool) (reply : Reply)
-    → memory_or lacks s asked ≡ reply → Says written faults a b held reply.text (unless_refused outcomes.Printed reply) result → Prints written faults a b held s asked result
+    → memory_or lacks s asked ≡ reply → WasSaid written faults a b held reply.text (unless_refused outcomes.Printed reply) result → WasPrinted written faults a b held s asked result
 prints_so {written = written} {faults = faults} {a = a} {b = b} {held = held} {result = result} lacks reply e says =
-    record { lacks = lacks; says = subst (λ (r : Reply). Says written faults a b held r.text (unless_refused outcomes.Printed r) result) (sym e) says }
+    record { lacks = lacks; says = subst (λ (r : Reply). WasSaid written faults a b held r.text (unless_refused outcomes.Printed r) result) (sym e) says }
 
 pub shows_own : {K : Type 0} (written : K → Option (List ℕ)) (faults : K → ℕ) (a b : K) (held_old held_new : List ℕ) (kind : Picture) (l : Lattice) (s : System) (x : List L.Symbol)
     (r : Result (Unit {0}) Refusal) → l ≡ s.lattice → Shows written faults a b held_old held_new (picture (on_lattice l s) x) (picture_text kind l) r
@@ -135,29 +135,29 @@ shows_own written faults a b held_old held_new kind l s x r e h =
     subst (λ l. Shows written faults a b held_old held_new (picture (on_lattice l s) x) (picture_text kind l) r) e h
 
 module _ {K : Type 0} (written : K → Option (List ℕ)) (faults : K → ℕ) (a b : K) (held : List ℕ) (kind : Picture) (s : System) (p : Result (List Segment) PictureRefusal) (result : Result Outcome Failed) where
-  pub picture_printed : {m : K} {held_mid : List ℕ} → Shows written faults a m [] held_mid p (picture_text kind s.lattice) (Ok tt) → Puts written faults m b held_mid held [] result → held ≡ []
-      → IfOk result (λ o. o ≡ outcomes.Printed) → Prints written faults a b held s (picture_reply kind s p) result
+  pub picture_printed : {m : K} {held_mid : List ℕ} → Shows written faults a m [] held_mid p (picture_text kind s.lattice) (Ok tt) → WasPut written faults m b held_mid held [] result → held ≡ []
+      → IfOk result (λ o. o ≡ outcomes.Printed) → WasPrinted written faults a b held s (picture_reply kind s p) result
   picture_printed q f e o =
       prints_so false (said s (picture_text kind s.lattice q.segments)) (ap (picture_reply kind s) q.drawn) (record { put = puts_out q.put f; empty = e; outcome = o })
 
   refused_as : {m : K} {held_mid : List ℕ} {e : Refusal} (r : PictureRefusal) → RefusesPicture a m [] held_mid p e → ((q : PictureRefusal) → IsRefusal q e → q ≡ r)
-      → Says written faults m b held (picture_line r) outcomes.Refused result → Prints written faults a b held s (picture_reply kind s p) result
+      → WasSaid written faults m b held (picture_line r) outcomes.Refused result → WasPrinted written faults a b held s (picture_reply kind s p) result
   refused_as r q same says =
       let is : q.refusal ≡ r = same q.refusal q.is in
-      prints_so false (refused s (picture_refusal_text r)) (ap (picture_reply kind s) (q.refused ∙ ap Err is)) (subst (λ k. Says written faults k b held (picture_line r) outcomes.Refused result) q.sink_stays says)
+      prints_so false (refused s (picture_refusal_text r)) (ap (picture_reply kind s) (q.refused ∙ ap Err is)) (subst (λ k. WasSaid written faults k b held (picture_line r) outcomes.Refused result) q.sink_stays says)
 
   pub picture_has_no_image : {m : K} {held_mid : List ℕ} (e : ImageRefusal) → Shows written faults a m [] held_mid p (picture_text kind s.lattice) (Err (refusals.Image e))
-      → Says written faults m b held (picture_line (NoImage (refusal_of e))) outcomes.Refused result → Prints written faults a b held s (picture_reply kind s p) result
+      → WasSaid written faults m b held (picture_line (NoImage (refusal_of e))) outcomes.Refused result → WasPrinted written faults a b held s (picture_reply kind s p) result
   picture_has_no_image e q says = refused_as (NoImage (refusal_of e)) q (λ q h. h) says
 
   pub picture_goes_far : {m : K} {held_mid : List ℕ} (n : ℕ) → Shows written faults a m [] held_mid p (picture_text kind s.lattice) (Err (refusals.Far n))
-      → Says written faults m b held (picture_line (Far n)) outcomes.Refused result → Prints written faults a b held s (picture_reply kind s p) result
+      → WasSaid written faults m b held (picture_line (Far n)) outcomes.Refused result → WasPrinted written faults a b held s (picture_reply kind s p) result
   picture_goes_far n q says = refused_as (Far n) q (λ q h. h) says
 
-  pub picture_failed : Shows written faults a b [] held p (picture_text kind s.lattice) (Err refusals.Failed) → IsErr result → Prints written faults a b held s (picture_reply kind s p) result
+  pub picture_failed : Shows written faults a b [] held p (picture_text kind s.lattice) (Err refusals.Failed) → IsErr result → WasPrinted written faults a b held s (picture_reply kind s p) result
   picture_failed q is =
       let d = q.1 in
       prints_so false (said s (picture_text kind s.lattice d.segments)) (ap (picture_reply kind s) d.drawn) (says_failed is d.put d.put.failed_holds_nothing)
 
-  pub picture_lacks : Says written faults a b held (codes "refused memory" ++ line_feed) outcomes.Memory result → Prints written faults a b held s (picture_reply kind s p) result
+  pub picture_lacks : WasSaid written faults a b held (codes "refused memory" ++ line_feed) outcomes.Memory result → WasPrinted written faults a b held s (picture_reply kind s p) result
   picture_lacks says = prints_so true (refused_memory s) refl says

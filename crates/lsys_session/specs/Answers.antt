@@ -1,6 +1,6 @@
 -- What a session answers a line, and how its counters move.
 use Rattle.std.specs.Prelude.{◌≡◌, ℕ, ◌+◌, ◌*◌, Bool, true, false, not, ◌&&◌, Option, Some, None, Result, Ok, Err, IfOk, List, [], codes}
-use Rattle.lsys_io.specs.Writes.{Puts}
+use Rattle.lsys_io.specs.Writes.{WasPut}
 use Rattle.lsys_io.specs.declared.Failed.{Failed}
 use Rattle.lsys_syntax.specs.Commands.{Command}
 use Rattle.lsys_spec.specs.Systems.{System}
@@ -62,12 +62,12 @@ pub record Became (spelled : Option Command) (reply : Reply) (o : Outcome) : Typ
 
 -- The definitions' reply to the line, or `refused memory`, was put whole, and the session goes on from its system; or the
 -- sink failed, and a front of the reply was written.
-pub record Answers {K : Type 0} (written : K → Option (List ℕ)) (faults : K → ℕ) (sink_old sink_new : K) (held : List ℕ) (limit : ℕ) (old new : System) (line : List ℕ) (result : Result Outcome Failed)
+pub record WasAnswered {K : Type 0} (written : K → Option (List ℕ)) (faults : K → ℕ) (sink_old sink_new : K) (held : List ℕ) (limit : ℕ) (old new : System) (line : List ℕ) (result : Result Outcome Failed)
     : Type 0 where
   pub lacks : Bool
   pub reply : Reply
   pub is : reply ≡ reply_or_memory limit old line lacks
-  pub put : Puts written faults sink_old sink_new [] held reply.text result
+  pub put : WasPut written faults sink_old sink_new [] held reply.text result
   pub empty : held ≡ []
   pub next : IfOk result (λ o. new ≡ reply.next)
   pub became : IfOk result (Became (line_spelled line) reply)
@@ -111,9 +111,9 @@ CountsRefused limit false before after = after ≡ before
 
 -- Counters rise by what an accepted edit needs, and somewhat where its levels are refused or memory is wanting; else they
 -- stay. `derived` tells whether a refusal is that of levels. Where the sink failed, nothing is said.
-abbrev pub Counts : (System → System → List (List Symbol) → List (List Symbol) → ℕ) → ℕ → Bool → System → System → Counters → Counters → Result Outcome Failed → Type 0
-Counts visits limit derived old new before after (Ok outcomes.Accepted) = Needed visits limit old new before after
-Counts visits limit derived old new before after (Ok outcomes.Memory) = Few limit before after
-Counts visits limit derived old new before after (Ok outcomes.Refused) = CountsRefused limit derived before after
-Counts visits limit derived old new before after (Ok o) = after ≡ before
-Counts visits limit derived old new before after (Err e) = Unit {0}
+abbrev pub WasCounted : (System → System → List (List Symbol) → List (List Symbol) → ℕ) → ℕ → Bool → System → System → Counters → Counters → Result Outcome Failed → Type 0
+WasCounted visits limit derived old new before after (Ok outcomes.Accepted) = Needed visits limit old new before after
+WasCounted visits limit derived old new before after (Ok outcomes.Memory) = Few limit before after
+WasCounted visits limit derived old new before after (Ok outcomes.Refused) = CountsRefused limit derived before after
+WasCounted visits limit derived old new before after (Ok o) = after ≡ before
+WasCounted visits limit derived old new before after (Err e) = Unit {0}

@@ -2,15 +2,20 @@
 use Rattle.std.specs.Prelude.{◌≡◌, ◌≤◌, ℕ, Some, None, Bool, true, false, ◌&&◌, ◌++◌, Option, Result, IfOk, List, codes}
 use Rattle.lsys_io.specs.declared.Failed.{Failed}
 use Rattle.lsys_laws.specs.Sessions.{IsWell, HasLevels}
+use Rattle.lsys_syntax.specs.Strings.{string_text}
 use Rattle.lsys_spec.specs.Systems.{System}
 use Rattle.lsys_spec.specs.Lattices.{Lattice}
-use Rattle.lsys_spec.specs.Pictures.{Segment, PictureRefusal}
+use Rattle.lsys_spec.specs.Pictures.{Segment, PictureRefusal, NoImage}
 use Rattle.lsys_spec.specs.PictureTexts.{segments_text, svg_text}
 use Rattle.lsys_spec.specs.Refusals.{Reply, line_feed}
 use Rattle.lsys_spec.specs.Replies.{shown, or_text, picture_refusal_text, edited, levels_of}
 use Rattle.lsys_spec.specs.Output.{memory_or}
+use Rattle.lsys_module.specs.Views.{string_of}
+use Rattle.lsys_module.specs.declared.symbol.Symbol.{Symbol}
+use Rattle.lsys_hom.specs.Refusals.{refusal_of}
+use Rattle.lsys_hom.specs.declared.refusal.ImageRefusal.{ImageRefusal}
 use Rattle.lsys_session.specs.Requests.{reply_to}
-use Rattle.lsys_session.specs.Sessions.{Says}
+use Rattle.lsys_session.specs.Sessions.{WasSaid}
 use Rattle.lsys_session.specs.declared.outcome.Outcome.{Outcome}
 use Rattle.lsys_session.specs.declared.outcome.Outcome.TheVariants as outcomes
 use Rattle.lsys_session.specs.declared.pictures.Picture.{Picture}
@@ -52,26 +57,26 @@ abbrev pub unless_refused : Outcome → Reply → Outcome
 unless_refused o r = elim r.is_memory [ true ↦ outcomes.Memory | false ↦ elim r.is_refusal [ true ↦ outcomes.Refused | false ↦ o ] ]
 
 -- the reply to the request, or `refused memory`, was put whole, and the new system is the reply's
-pub record Gives {K : Type 0} (written : K → Option (List ℕ)) (faults : K → ℕ) (sink_old sink_new : K) (held : List ℕ) (limit : ℕ) (old new : System) (request : Request) (result : Result Outcome Failed)
+pub record WasGiven {K : Type 0} (written : K → Option (List ℕ)) (faults : K → ℕ) (sink_old sink_new : K) (held : List ℕ) (limit : ℕ) (old new : System) (request : Request) (result : Result Outcome Failed)
     : Type 0 where
   pub lacks : Bool
-  pub says : Says written faults sink_old sink_new held (given limit old request lacks).text (unless_refused (done request) (given limit old request lacks)) result
+  pub says : WasSaid written faults sink_old sink_new held (given limit old request lacks).text (unless_refused (done request) (given limit old request lacks)) result
   pub next : IfOk result (λ o. new ≡ (given limit old request lacks).next)
 
 -- The reply of the edit that leads to this system, or `refused memory`, was put whole, and the session goes on from the reply's system; or the sink failed, and a front of the reply was written.
-pub record Leads {K : Type 0} (written : K → Option (List ℕ)) (faults : K → ℕ) (sink_old sink_new : K) (held : List ℕ) (limit : ℕ) (old to new : System) (result : Result Outcome Failed) : Type 0 where
+pub record WasLed {K : Type 0} (written : K → Option (List ℕ)) (faults : K → ℕ) (sink_old sink_new : K) (held : List ℕ) (limit : ℕ) (old to new : System) (result : Result Outcome Failed) : Type 0 where
   pub lacks : Bool
   pub reply : Reply
   pub is : reply ≡ memory_or lacks old (edited limit old to (levels_of limit to))
-  pub says : Says written faults sink_old sink_new held reply.text (unless_refused outcomes.Accepted reply) result
+  pub says : WasSaid written faults sink_old sink_new held reply.text (unless_refused outcomes.Accepted reply) result
   pub next : IfOk result (λ o. new ≡ reply.next)
 
 -- 3. queries
 
 -- this reply, or `refused memory`, was put whole
-pub record Prints {K : Type 0} (written : K → Option (List ℕ)) (faults : K → ℕ) (sink_old sink_new : K) (held : List ℕ) (s : System) (reply : Reply) (result : Result Outcome Failed) : Type 0 where
+pub record WasPrinted {K : Type 0} (written : K → Option (List ℕ)) (faults : K → ℕ) (sink_old sink_new : K) (held : List ℕ) (s : System) (reply : Reply) (result : Result Outcome Failed) : Type 0 where
   pub lacks : Bool
-  pub says : Says written faults sink_old sink_new held (memory_or lacks s reply).text (unless_refused outcomes.Printed (memory_or lacks s reply)) result
+  pub says : WasSaid written faults sink_old sink_new held (memory_or lacks s reply).text (unless_refused outcomes.Printed (memory_or lacks s reply)) result
 
 -- what asks for a picture
 abbrev pub picture_request : Picture → Request
@@ -99,3 +104,11 @@ picture_reply kind s p = shown s (picture_text kind s.lattice) (or_text picture_
 -- a picture's refusal
 abbrev pub picture_line : PictureRefusal → List ℕ
 picture_line r = codes "refused " ++ picture_refusal_text r ++ line_feed
+
+-- of a level that has no image
+abbrev pub no_image_line : ImageRefusal → List ℕ
+no_image_line r = picture_line (NoImage (refusal_of r))
+
+-- of a level that is printed
+abbrev pub level_line : List Symbol → List ℕ
+level_line symbols = string_text (string_of symbols) ++ line_feed

@@ -4,9 +4,10 @@ use Rattle.lsys_syntax.specs.Tokens.{tokens}
 use Rattle.lsys_syntax.specs.LineMachine.{sentence, verdict}
 use Rattle.lsys_spec.specs.Systems as spec
 use Rattle.lsys_spec.specs.Edits as edits
-use Rattle.lsys_spec.specs.Refusals.{Reply, said, refused, session_end, is_passed_over, line_feed, derivation_text}
+use Rattle.lsys_spec.specs.Refusals.{Reply, said, refused, session_end, is_passed_over, line_feed, derivation_text, fault_word, with_number}
 use Rattle.lsys_spec.specs.Meaning.{FaultAt, OverLimit}
 use Rattle.lsys_rewrite.specs.Faults.{fault_of}
+use Rattle.lsys_rewrite.specs.declared.refusal.FaultKind.{FaultKind}
 use Rattle.lsys_rewrite.specs.declared.count.EditCount.{EditCount}
 use Rattle.lsys_rewrite.specs.declared.refusal.DeriveRefusal.{DeriveRefusal}
 use Rattle.lsys_rewrite.specs.declared.refusal.DeriveRefusal.TheVariants as derive
@@ -73,6 +74,13 @@ cause_text derive.Memory = codes "memory"
 
 abbrev pub derivation_line : DeriveRefusal → List ℕ
 derivation_line r = codes "refused " ++ cause_text r ++ line_feed
+
+-- a module's fault, and one at its image
+abbrev pub fault_text : FaultKind → ℕ → ℕ → List ℕ
+fault_text kind level place = derivation_text (FaultAt (fault_of kind) level place)
+
+abbrev pub image_fault_text : FaultKind → ℕ → List ℕ
+image_fault_text kind place = codes "fault " ++ fault_word (fault_of kind) ++ with_number (codes " image") place
 
 -- of an accepted edit: how many questions were asked, and how many there are
 abbrev pub count_text : EditCount → List ℕ

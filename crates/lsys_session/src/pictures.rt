@@ -1,10 +1,7 @@
 //! Pictures of the last level, on the lattice that the system names.
-ghost use Rattle.std.specs.Prelude.{◌≡◌, ◌≤◌, ℕ, List, []};
-ghost use Rattle.lsys_spec.specs.Pictures.{picture};
-ghost use Rattle.lsys_out.specs.Drawings.{last_level};
+ghost use Rattle.std.specs.Prelude.{◌≡◌, ◌≤◌, []};
 ghost use Rattle.lsys_out.specs.Nesting.{HasLast, image_nesting};
-ghost use Rattle.lsys_out.specs.Shown.{Shows, on_lattice};
-ghost use Rattle.lsys_session.specs.Given.{Prints, picture_reply, picture_text};
+ghost use Rattle.lsys_session.specs.Calls.{PrintsPicture, DrawsKind};
 
 use crate::outcome::Outcome;
 use crate::sayings::{end_print, refuse, refuse_far, refuse_image};
@@ -41,8 +38,7 @@ pub(crate) fn print_picture<W: LevelView, K: Sink>(
 ) -> Result<Outcome, Failed>
     requires empty { out.old ≡ [] }
     requires last { HasLast system.now (W.levels view.now) }
-    ensures { (naming : ℕ → List ℕ) → Prints K.written K.faults sink.old sink.new out.new system.now
-        (picture_reply kind system.now (picture system.now (last_level naming system.now (W.levels view.now)))) result }
+    ensures { PrintsPicture kind K.Sink sink out system.now (W.levels view.now) result }
 {
     match system.lattice() {
         LatticeName::Square => print_on::<Square, W, K>(alloc, kind, view, system, out, sink),
@@ -63,8 +59,7 @@ fn print_on<T: Lattice, W: LevelView, K: Sink>(
     requires empty { out.old ≡ [] }
     requires last { HasLast system.now (W.levels view.now) }
     requires lattice { T.shape ≡ system.now.lattice }
-    ensures { (naming : ℕ → List ℕ) → Prints K.written K.faults sink.old sink.new out.new system.now
-        (picture_reply kind system.now (picture system.now (last_level naming system.now (W.levels view.now)))) result }
+    ensures { PrintsPicture kind K.Sink sink out system.now (W.levels view.now) result }
 {
     let mut turtle = match Turtle::<T>::new(alloc, image_nesting(view, system)) {
         Ok(turtle) => turtle,
@@ -89,9 +84,7 @@ fn put_picture<T: Lattice, W: LevelView, K: Sink>(
 ) -> Result<(), PictureRefusal>
     requires last { HasLast system.now (W.levels view.now) }
     requires room { image_nesting system.now (W.levels view.now) ≤ turtle.old.room }
-    ensures { (naming : ℕ → List ℕ) → Shows K.written K.faults sink.old sink.new out.old out.new
-        (picture (on_lattice T.shape system.now) (last_level naming system.now (W.levels view.now)))
-        (picture_text kind T.shape) result }
+    ensures { DrawsKind kind K.Sink sink out T.shape system.now (W.levels view.now) result }
 {
     match kind {
         Picture::Segments => segments_text(view, system, turtle, out, sink),

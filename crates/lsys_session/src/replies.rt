@@ -1,15 +1,12 @@
 //! The texts of replies.
-ghost use Rattle.std.specs.Prelude.{◌≡◌, ◌++◌, ◌∷◌, [], codes, decimal};
-ghost use Rattle.lsys_io.specs.Writes.{Puts};
-ghost use Rattle.lsys_spec.specs.Refusals.{with_number};
-ghost use Rattle.lsys_session.specs.Requests.{cause_text, column_text, count_text, derivation_line, refusal_column, refusal_line, refusal_text, refusal_words};
+ghost use Rattle.std.specs.Prelude.{◌≡◌, ◌∷◌, [], decimal};
+ghost use Rattle.lsys_io.specs.Putting.{Puts};
+ghost use Rattle.lsys_spec.specs.Refusals.{with_number, fault_word, image_text};
+ghost use Rattle.lsys_session.specs.Requests.{cause_text, column_text, count_text, derivation_line, refusal_column, refusal_line, refusal_text, refusal_words, fault_text, image_fault_text};
 ghost use Rattle.lsys_rewrite.specs.Faults.{fault_of};
-ghost use Rattle.lsys_spec.specs.Meaning.{FaultAt};
-ghost use Rattle.lsys_spec.specs.Refusals.{derivation_text, fault_word};
-ghost use Rattle.lsys_spec.specs.Pictures.{Far, NoImage};
-ghost use Rattle.lsys_spec.specs.Refusals.{image_text};
+ghost use Rattle.lsys_spec.specs.Pictures.{Far};
 ghost use Rattle.lsys_hom.specs.Refusals.{refusal_of};
-ghost use Rattle.lsys_session.specs.Given.{picture_line};
+ghost use Rattle.lsys_session.specs.Given.{picture_line, no_image_line};
 
 use lsys_hom::ImageRefusal;
 use lsys_io::{Buffered, Failed, Sink};
@@ -26,7 +23,7 @@ pub(crate) fn put_refusal<K: Sink>(
     sink: &mut K,
     refusal: Refusal,
 ) -> Result<(), Failed>
-    ensures { Puts K.written K.faults sink.old sink.new out.old out.new (refusal_line refusal) result }
+    ensures { Puts K.Sink sink out (refusal_line refusal) result }
 {
     out.put(sink, b"refused ")?;
     put_cause(out, sink, refusal)?;
@@ -35,7 +32,7 @@ pub(crate) fn put_refusal<K: Sink>(
 
 // Puts why a command is refused.
 fn put_cause<K: Sink>(out: &mut Buffered, sink: &mut K, refusal: Refusal) -> Result<(), Failed>
-    ensures { Puts K.written K.faults sink.old sink.new out.old out.new (refusal_text refusal) result }
+    ensures { Puts K.Sink sink out (refusal_text refusal) result }
 {
     out.put(sink, words_of(refusal))?;
     put_column(out, sink, column_of(refusal))
@@ -43,7 +40,7 @@ fn put_cause<K: Sink>(out: &mut Buffered, sink: &mut K, refusal: Refusal) -> Res
 
 // Puts a blank and the column, where there is one.
 fn put_column<K: Sink>(out: &mut Buffered, sink: &mut K, column: Option<u32>) -> Result<(), Failed>
-    ensures { Puts K.written K.faults sink.old sink.new out.old out.new (column_text column) result }
+    ensures { Puts K.Sink sink out (column_text column) result }
 {
     match column {
         None => Ok(()),
@@ -53,20 +50,20 @@ fn put_column<K: Sink>(out: &mut Buffered, sink: &mut K, column: Option<u32>) ->
 
 // Puts a blank and a number.
 fn put_blank_number<K: Sink>(out: &mut Buffered, sink: &mut K, number: u32) -> Result<(), Failed>
-    ensures { Puts K.written K.faults sink.old sink.new out.old out.new (32 ∷ decimal number) result }
+    ensures { Puts K.Sink sink out (32 ∷ decimal number) result }
 {
     out.put(sink, b" ")?;
     put_number(out, sink, number)
 }
 
 fn put_number<K: Sink>(out: &mut Buffered, sink: &mut K, number: u32) -> Result<(), Failed>
-    ensures { Puts K.written K.faults sink.old sink.new out.old out.new (decimal number) result }
+    ensures { Puts K.Sink sink out (decimal number) result }
 {
     out.put_number(sink, i128::from(number))
 }
 
 fn put_large_number<K: Sink>(out: &mut Buffered, sink: &mut K, number: u64) -> Result<(), Failed>
-    ensures { Puts K.written K.faults sink.old sink.new out.old out.new (decimal number) result }
+    ensures { Puts K.Sink sink out (decimal number) result }
 {
     out.put_number(sink, i128::from(number))
 }
@@ -122,7 +119,7 @@ pub(crate) fn put_no_levels<K: Sink>(
     sink: &mut K,
     refusal: DeriveRefusal,
 ) -> Result<(), Failed>
-    ensures { Puts K.written K.faults sink.old sink.new out.old out.new (derivation_line refusal) result }
+    ensures { Puts K.Sink sink out (derivation_line refusal) result }
 {
     out.put(sink, b"refused ")?;
     put_why(out, sink, refusal)?;
@@ -131,7 +128,7 @@ pub(crate) fn put_no_levels<K: Sink>(
 
 // Puts why a system has no levels.
 fn put_why<K: Sink>(out: &mut Buffered, sink: &mut K, refusal: DeriveRefusal) -> Result<(), Failed>
-    ensures { Puts K.written K.faults sink.old sink.new out.old out.new (cause_text refusal) result }
+    ensures { Puts K.Sink sink out (cause_text refusal) result }
 {
     match refusal {
         DeriveRefusal::Fault {
@@ -152,7 +149,7 @@ fn put_fault<K: Sink>(
     level: u32,
     place: u32,
 ) -> Result<(), Failed>
-    ensures { Puts K.written K.faults sink.old sink.new out.old out.new (derivation_text (FaultAt (fault_of kind) level place)) result }
+    ensures { Puts K.Sink sink out (fault_text kind level place) result }
 {
     out.put(sink, b"fault ")?;
     put_kind(out, sink, kind)?;
@@ -161,7 +158,7 @@ fn put_fault<K: Sink>(
 }
 
 fn put_kind<K: Sink>(out: &mut Buffered, sink: &mut K, kind: FaultKind) -> Result<(), Failed>
-    ensures { Puts K.written K.faults sink.old sink.new out.old out.new (fault_word (fault_of kind)) result }
+    ensures { Puts K.Sink sink out (fault_word (fault_of kind)) result }
 {
     out.put(sink, kind.word().as_bytes())
 }
@@ -173,7 +170,7 @@ fn put_numbered<K: Sink>(
     words: &[u8],
     number: u32,
 ) -> Result<(), Failed>
-    ensures { Puts K.written K.faults sink.old sink.new out.old out.new (with_number words.now number) result }
+    ensures { Puts K.Sink sink out (with_number words.now number) result }
 {
     out.put(sink, words)?;
     put_blank_number(out, sink, number)
@@ -189,7 +186,7 @@ pub(crate) fn put_no_image<K: Sink>(
     sink: &mut K,
     refusal: ImageRefusal,
 ) -> Result<(), Failed>
-    ensures { Puts K.written K.faults sink.old sink.new out.old out.new (picture_line (NoImage (refusal_of refusal))) result }
+    ensures { Puts K.Sink sink out (no_image_line refusal) result }
 {
     out.put(sink, b"refused ")?;
     put_image(out, sink, refusal)?;
@@ -198,7 +195,7 @@ pub(crate) fn put_no_image<K: Sink>(
 
 // Puts why a level has no image.
 fn put_image<K: Sink>(out: &mut Buffered, sink: &mut K, refusal: ImageRefusal) -> Result<(), Failed>
-    ensures { Puts K.written K.faults sink.old sink.new out.old out.new (image_text (refusal_of refusal)) result }
+    ensures { Puts K.Sink sink out (image_text (refusal_of refusal)) result }
 {
     match refusal {
         ImageRefusal::Arith { kind, module } => {
@@ -215,7 +212,7 @@ fn put_image_fault<K: Sink>(
     kind: FaultKind,
     place: u32,
 ) -> Result<(), Failed>
-    ensures { Puts K.written K.faults sink.old sink.new out.old out.new (codes "fault " ++ fault_word (fault_of kind) ++ with_number (codes " image") place) result }
+    ensures { Puts K.Sink sink out (image_fault_text kind place) result }
 {
     out.put(sink, b"fault ")?;
     put_kind(out, sink, kind)?;
@@ -228,7 +225,7 @@ fn put_image_fault<K: Sink>(
 ///
 /// The sink failed; a front of what was held and of the reply was written then.
 pub(crate) fn put_far<K: Sink>(out: &mut Buffered, sink: &mut K, place: u32) -> Result<(), Failed>
-    ensures { Puts K.written K.faults sink.old sink.new out.old out.new (picture_line (Far place)) result }
+    ensures { Puts K.Sink sink out (picture_line (Far place)) result }
 {
     out.put(sink, b"refused ")?;
     put_numbered(out, sink, b"far", place)?;
@@ -245,7 +242,7 @@ pub(crate) fn put_count<K: Sink>(
     sink: &mut K,
     count: EditCount,
 ) -> Result<(), Failed>
-    ensures { Puts K.written K.faults sink.old sink.new out.old out.new (count_text count) result }
+    ensures { Puts K.Sink sink out (count_text count) result }
 {
     out.put(sink, b"ok ")?;
     put_large_number(out, sink, count.asked)?;
@@ -260,7 +257,7 @@ pub(crate) fn put_count<K: Sink>(
 ///
 /// The sink failed; a front of what was held was written then.
 pub(crate) fn finish<K: Sink>(out: &mut Buffered, sink: &mut K) -> Result<(), Failed>
-    ensures put { Puts K.written K.faults sink.old sink.new out.old out.new [] result }
+    ensures put { Puts K.Sink sink out [] result }
     ensures empty { out.new ≡ [] }
 {
     out.flush(sink)

@@ -1,16 +1,13 @@
 //! Replies that are put whole: all that is held is written behind each.
-ghost use Rattle.std.specs.Prelude.{◌≡◌, ◌++◌, [], IfOk, codes};
-ghost use Rattle.lsys_spec.specs.Refusals.{line_feed};
+ghost use Rattle.std.specs.Prelude.{◌≡◌, [], IfOk};
 ghost use Rattle.lsys_spec.specs.Shown.{show_text};
-ghost use Rattle.lsys_syntax.specs.Strings.{string_text};
-ghost use Rattle.lsys_module.specs.Views.{string_of};
-ghost use Rattle.lsys_session.specs.Requests.{count_text, derivation_line, refusal_line};
-ghost use Rattle.lsys_session.specs.Sessions.{Says, derivation_outcome, refusal_outcome};
+ghost use Rattle.lsys_session.specs.Requests.{count_text, refusal_line};
+ghost use Rattle.lsys_session.specs.Sessions.{refusal_outcome};
 ghost use Rattle.lsys_session.specs.declared.outcome.Outcome.TheVariants.{Accepted, Printed, Refused};
-ghost use Rattle.lsys_io.specs.Writes.{Puts};
-ghost use Rattle.lsys_spec.specs.Pictures.{Far, NoImage};
-ghost use Rattle.lsys_hom.specs.Refusals.{refusal_of};
-ghost use Rattle.lsys_session.specs.Given.{picture_line};
+ghost use Rattle.lsys_io.specs.Putting.{Puts};
+ghost use Rattle.lsys_spec.specs.Pictures.{Far};
+ghost use Rattle.lsys_session.specs.Given.{picture_line, no_image_line, level_line};
+ghost use Rattle.lsys_session.specs.Calls.{Says, SaysNoLevels};
 
 use crate::outcome::{Outcome, of_derivation, of_refusal};
 use crate::replies::{finish, put_count, put_far, put_no_image, put_no_levels, put_refusal};
@@ -31,7 +28,7 @@ pub fn refuse<K: Sink>(
     refusal: Refusal,
 ) -> Result<Outcome, Failed>
     requires { out.old ≡ [] }
-    ensures { Says K.written K.faults sink.old sink.new out.new (refusal_line refusal) (refusal_outcome refusal) result }
+    ensures { Says K.Sink sink out (refusal_line refusal) (refusal_outcome refusal) result }
 {
     put_refusal(out, sink, refusal)?;
     finish(out, sink)?;
@@ -49,7 +46,7 @@ pub(crate) fn refuse_edit<K: Sink>(
     refusal: DeriveRefusal,
 ) -> Result<Outcome, Failed>
     requires { out.old ≡ [] }
-    ensures { Says K.written K.faults sink.old sink.new out.new (derivation_line refusal) (derivation_outcome refusal) result }
+    ensures { SaysNoLevels K.Sink sink out refusal result }
 {
     put_no_levels(out, sink, refusal)?;
     finish(out, sink)?;
@@ -67,7 +64,7 @@ pub(crate) fn accept<K: Sink>(
     count: EditCount,
 ) -> Result<Outcome, Failed>
     requires { out.old ≡ [] }
-    ensures { Says K.written K.faults sink.old sink.new out.new (count_text count) Accepted result }
+    ensures { Says K.Sink sink out (count_text count) Accepted result }
 {
     put_count(out, sink, count)?;
     finish(out, sink)?;
@@ -85,7 +82,7 @@ pub(crate) fn show_system<K: Sink>(
     system: &System,
 ) -> Result<Outcome, Failed>
     requires { out.old ≡ [] }
-    ensures { Says K.written K.faults sink.old sink.new out.new (show_text system.now) Printed result }
+    ensures { Says K.Sink sink out (show_text system.now) Printed result }
 {
     show(system, out, sink)?;
     finish(out, sink)?;
@@ -103,7 +100,7 @@ pub(crate) fn print_line<K: Sink>(
     symbols: &SymbolList,
 ) -> Result<Outcome, Failed>
     requires { out.old ≡ [] }
-    ensures { Says K.written K.faults sink.old sink.new out.new (string_text (string_of symbols.now) ++ line_feed) Printed result }
+    ensures { Says K.Sink sink out (level_line symbols.now) Printed result }
 {
     print_string(out, sink, symbols)?;
     out.put(sink, b"\n")?;
@@ -122,7 +119,7 @@ pub fn refuse_image<K: Sink>(
     refusal: ImageRefusal,
 ) -> Result<Outcome, Failed>
     requires { out.old ≡ [] }
-    ensures { Says K.written K.faults sink.old sink.new out.new (picture_line (NoImage (refusal_of refusal))) Refused result }
+    ensures { Says K.Sink sink out (no_image_line refusal) Refused result }
 {
     put_no_image(out, sink, refusal)?;
     finish(out, sink)?;
@@ -136,7 +133,7 @@ pub fn refuse_image<K: Sink>(
 /// The sink failed; a front of the reply was written then.
 pub fn refuse_far<K: Sink>(out: &mut Buffered, sink: &mut K, place: u32) -> Result<Outcome, Failed>
     requires { out.old ≡ [] }
-    ensures { Says K.written K.faults sink.old sink.new out.new (picture_line (Far place)) Refused result }
+    ensures { Says K.Sink sink out (picture_line (Far place)) Refused result }
 {
     put_far(out, sink, place)?;
     finish(out, sink)?;
@@ -149,7 +146,7 @@ pub fn refuse_far<K: Sink>(out: &mut Buffered, sink: &mut K, place: u32) -> Resu
 ///
 /// The sink failed; a front of what was held was written then.
 pub(crate) fn end_print<K: Sink>(out: &mut Buffered, sink: &mut K) -> Result<Outcome, Failed>
-    ensures put { Puts K.written K.faults sink.old sink.new out.old out.new [] result }
+    ensures put { Puts K.Sink sink out [] result }
     ensures empty { out.new ≡ [] }
     ensures outcome { IfOk result (λ o. o ≡ Printed) }
 {

@@ -1,10 +1,10 @@
 //! Sessions: one line after another.
 ghost use Rattle.std.specs.Prelude.{◌≡◌, ◌≤◌, [], false, true, IfOk};
 ghost use Rattle.lsys_spec.specs.Systems.{opening};
-ghost use Rattle.lsys_session.specs.Answers.{Answers, Counts, is_derived};
-ghost use Rattle.lsys_session.specs.Given.{Gives, IsKept, IsWithin, Leads, is_edit, level_number, picture_request};
+ghost use Rattle.lsys_session.specs.Given.{IsKept, IsWithin, is_edit, level_number};
 ghost use Rattle.lsys_session.specs.Requests.{HasLevel};
-ghost use Rattle.lsys_session.specs.declared.request.Request.TheVariants as requests;
+ghost use Rattle.lsys_session.specs.declared.request.Request.TheVariants.{Edit, String};
+ghost use Rattle.lsys_session.specs.Calls.{Quotes, Gives, Answers, Leads, Counts, CountsRequest, CountsAtLine, TellsPicture};
 
 use crate::outcome::Outcome;
 use crate::pictures::{Picture, print_picture};
@@ -74,12 +74,9 @@ impl<L: Ledger, D: Derivation<L>> Session<L, D> {
         visited: &mut Steps<V>,
     ) -> Result<Outcome, Failed>
         requires { out.old ≡ [] }
-        ensures answers { Answers K.written K.faults sink.old sink.new out.new (D.limit_of self.old)
-            (D.system_of self.old) (D.system_of self.new) line.now result }
+        ensures answers { Answers K.Sink sink out D.limit_of D.system_of self line.now result }
         ensures limit { D.limit_of self.new ≡ D.limit_of self.old }
-        ensures counts { Counts D.visits (D.limit_of self.old) (is_derived (D.system_of self.old) line.now)
-            (D.system_of self.old) (D.system_of self.new) (record { asked = asked.old; visited = visited.old })
-            (record { asked = asked.new; visited = visited.new }) result }
+        ensures counts { CountsAtLine D.visits D.limit_of D.system_of self asked visited line.now result }
     {
         if line.len() > MOST_LINE_BYTES {
             return refuse(out, sink, Refusal::LongLine);
@@ -124,12 +121,9 @@ impl<L: Ledger, D: Derivation<L>> Session<L, D> {
         visited: &mut Steps<V>,
     ) -> Result<Outcome, Failed>
         requires { out.old ≡ [] }
-        ensures leads { Leads K.written K.faults sink.old sink.new out.new (D.limit_of self.old)
-            (D.system_of self.old) system (D.system_of self.new) result }
+        ensures leads { Leads K.Sink sink out D.limit_of D.system_of self system result }
         ensures limit { D.limit_of self.new ≡ D.limit_of self.old }
-        ensures counts { Counts D.visits (D.limit_of self.old) true
-            (D.system_of self.old) (D.system_of self.new) (record { asked = asked.old; visited = visited.old })
-            (record { asked = asked.new; visited = visited.new }) result }
+        ensures counts { Counts D.visits D.limit_of D.system_of self asked visited true result }
     {
         self.edit(alloc, system, out, sink, asked, visited)
     }
@@ -152,13 +146,10 @@ impl<L: Ledger, D: Derivation<L>> Session<L, D> {
     ) -> Result<Outcome, Failed>
         requires empty { out.old ≡ [] }
         requires level { HasLevel (D.system_of self.old) request }
-        ensures gives { Gives K.written K.faults sink.old sink.new out.new (D.limit_of self.old)
-            (D.system_of self.old) (D.system_of self.new) request result }
+        ensures gives { Gives K.Sink sink out D.limit_of D.system_of self request result }
         ensures limit { D.limit_of self.new ≡ D.limit_of self.old }
         ensures stays { is_edit request ≡ false → self.new ≡ self.old }
-        ensures counts { Counts D.visits (D.limit_of self.old) (is_edit request)
-            (D.system_of self.old) (D.system_of self.new) (record { asked = asked.old; visited = visited.old })
-            (record { asked = asked.new; visited = visited.new }) result }
+        ensures counts { CountsRequest D.visits D.limit_of D.system_of self asked visited request result }
     {
         match request {
             Request::Nothing => Ok(Outcome::Skipped),
@@ -182,12 +173,9 @@ impl<L: Ledger, D: Derivation<L>> Session<L, D> {
         visited: &mut Steps<V>,
     ) -> Result<Outcome, Failed>
         requires { out.old ≡ [] }
-        ensures gives { Gives K.written K.faults sink.old sink.new out.new (D.limit_of self.old)
-            (D.system_of self.old) (D.system_of self.new) (requests.Edit next) result }
+        ensures gives { Gives K.Sink sink out D.limit_of D.system_of self (Edit next) result }
         ensures limit { D.limit_of self.new ≡ D.limit_of self.old }
-        ensures counts { Counts D.visits (D.limit_of self.old) true
-            (D.system_of self.old) (D.system_of self.new) (record { asked = asked.old; visited = visited.old })
-            (record { asked = asked.new; visited = visited.new }) result }
+        ensures counts { Counts D.visits D.limit_of D.system_of self asked visited true result }
     {
         match self.derivation.edit(alloc, next, asked, visited) {
             Ok(count) => accept(out, sink, count),
@@ -204,9 +192,8 @@ impl<L: Ledger, D: Derivation<L>> Session<L, D> {
         sink: &mut K,
     ) -> Result<Outcome, Failed>
         requires empty { out.old ≡ [] }
-        requires level { HasLevel (D.system_of self.now) (requests.String level) }
-        ensures { Gives K.written K.faults sink.old sink.new out.new (D.limit_of self.now)
-            (D.system_of self.now) (D.system_of self.now) (requests.String level) result }
+        requires level { HasLevel (D.system_of self.now) (String level) }
+        ensures { Quotes K.Sink sink out D.limit_of D.system_of self.now (String level) result }
     {
         let depth = self.derivation.system().depth();
         match copy_level(alloc, &self.derivation, number_of(level, depth)) {
@@ -224,8 +211,7 @@ impl<L: Ledger, D: Derivation<L>> Session<L, D> {
         sink: &mut K,
     ) -> Result<Outcome, Failed>
         requires { out.old ≡ [] }
-        ensures { Gives K.written K.faults sink.old sink.new out.new (D.limit_of self.now)
-            (D.system_of self.now) (D.system_of self.now) (picture_request kind) result }
+        ensures { TellsPicture K.Sink sink out D.limit_of D.system_of self.now kind result }
     {
         let system = self.derivation.system();
         print_picture(alloc, kind, &self.derivation, system, out, sink)

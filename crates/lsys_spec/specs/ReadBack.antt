@@ -4,7 +4,7 @@ use Rattle.lsys_syntax.specs.Lines.{lines_of, without_cr}
 use Rattle.lsys_syntax.specs.Tokens.{Token, tokens}
 use Rattle.lsys_syntax.specs.Commands.{Command}
 use Rattle.lsys_syntax.specs.LineMachine.{parse_command}
-use Rattle.lsys_spec.specs.Systems.{System, opening}
+use Rattle.lsys_spec.specs.Systems.{System, opening, Each, WellFormed, WellSpelled}
 use Rattle.lsys_spec.specs.Edits.{Refusal, apply}
 use Rattle.lsys_spec.specs.Shown.{show_text}
 use Rattle.lsys_spec.specs.Refusals.{is_passed_over}
@@ -39,3 +39,9 @@ IsReadBack s = read_lines (Some opening) (lines_of (show_text s)) ≡ Some s
 -- A line that a session reads as it stands: no CR at its end, not blank, and no comment.
 abbrev pub IsPlainLine : List ℕ → Type 0
 IsPlainLine line = (without_cr line ≡ line) × (is_passed_over line ≡ false)
+
+-- a session reads the lines that are printed of a system as they stand
+abbrev pub ShownLinesArePlain : Type 0
+ShownLinesArePlain =
+    (system : System) → WellFormed system → WellSpelled system
+    → Each IsPlainLine (lines_of (show_text system))

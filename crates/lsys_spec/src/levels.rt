@@ -1,12 +1,11 @@
 //! Laws of the cut, and of levels.
 
-ghost use Rattle.std.specs.Prelude.{◌≡◌, ◌+◌, ℕ, true, Some, List, map, length, slice_get, ◌↔◌};
-ghost use Rattle.lsys_syntax.specs.Strings.{IsModuleName};
-ghost use Rattle.lsys_syntax.specs.Commands.{by_place};
+ghost use Rattle.std.specs.Prelude.{◌≡◌, ℕ, true, List, map, ◌↔◌};
 ghost use Rattle.lsys_spec.specs.Systems.{System, WellSpelled};
-ghost use Rattle.lsys_spec.specs.Levels.{ModuleValue, Symbol, Module, lineage, level_balanced, IsLevel};
-ghost use Rattle.lsys_spec.specs.Cuts.{Raw, Plain, raw_balanced, cut, IsCutOff, is_cut_off, kept, Rising, Distinct};
+ghost use Rattle.lsys_spec.specs.Levels.{Symbol, level_balanced, IsLevel};
+ghost use Rattle.lsys_spec.specs.Cuts.{Raw, Plain, raw_balanced, cut, IsCutOff, is_cut_off, kept, Distinct};
 ghost use Rattle.lsys_spec.specs.LevelLaws.{HasBalance, AtEachLevel};
+ghost use Rattle.lsys_spec.specs.EachLevel.{LineagesRiseByPlaces, LineagesAreAsLongAsTheirLevelIsDeep, ModulesHaveNamesOfTheLanguage};
 
 /// What a cut leaves of a balanced string is balanced.
 pub fn law_of_balanced_cuts()
@@ -36,12 +35,9 @@ pub fn law_of_mates()
 pub fn law_of_levels()
     ensures spelled { (s : System) → WellSpelled s → HasBalance s }
     ensures balance { (s : System) → HasBalance s → AtEachLevel s (λ t x. level_balanced 0 x ≡ true) }
-    ensures rise { (s : System) → HasBalance s → s.numbering ≡ by_place → AtEachLevel s (λ t x. Rising x) }
+    ensures rise { LineagesRiseByPlaces }
     ensures distinct { (s : System) → HasBalance s → AtEachLevel s (λ t x. Distinct x) }
     ensures mates { (s : System) → HasBalance s → AtEachLevel s (λ t x. IsLevel x) }
-    ensures generations { (s : System) → HasBalance s
-        → AtEachLevel s (λ t x. (p : ℕ) (a : Symbol) → slice_get x p ≡ Some a → length (lineage a) ≡ t + 1) }
-    ensures names { (s : System) → WellSpelled s
-        → AtEachLevel s (λ t x. (p : ℕ) (l : List ℕ) (m : ModuleValue)
-        → slice_get x p ≡ Some (Module l m) → IsModuleName m.name) }
+    ensures generations { LineagesAreAsLongAsTheirLevelIsDeep }
+    ensures names { ModulesHaveNamesOfTheLanguage }
 {}

@@ -1,9 +1,7 @@
 //! The law of `show`.
 
-ghost use Rattle.lsys_syntax.specs.Lines.{lines_of};
-ghost use Rattle.lsys_spec.specs.Systems.{System, Each, WellFormed, WellSpelled};
-ghost use Rattle.lsys_spec.specs.Shown.{show_text};
-ghost use Rattle.lsys_spec.specs.ReadBack.{IsReadBack, IsPlainLine};
+ghost use Rattle.lsys_spec.specs.Systems.{System, WellFormed, WellSpelled};
+ghost use Rattle.lsys_spec.specs.ReadBack.{IsReadBack, ShownLinesArePlain};
 ghost use Rattle.lsys_spec.specs.ShownSample.{full_system};
 
 /// The law of `show`: for each well-formed and well-spelled system, the lines that `show` prints, read as tokens, parsed and applied
@@ -15,6 +13,6 @@ ghost use Rattle.lsys_spec.specs.ShownSample.{full_system};
 /// asked by the reader of lines alone, and is no part of this law.
 pub fn law_of_show()
     ensures read_back { (system : System) → WellFormed system → WellSpelled system → IsReadBack system }
-    ensures plain { (system : System) → WellFormed system → WellSpelled system → Each IsPlainLine (lines_of (show_text system)) }
+    ensures plain { ShownLinesArePlain }
     ensures example { WellFormed full_system × WellSpelled full_system }
 {}

@@ -18,3 +18,8 @@ pub mod Sentences
 pub mod Examples
 pub mod RulePoints
 pub mod Former
+pub mod PrintedTokens
+pub mod SentencePlaces
+pub mod FoundExpressions
+pub mod FormerSentences
+pub mod Calls

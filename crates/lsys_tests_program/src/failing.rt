@@ -1,7 +1,7 @@
 //! Runs whose ends fail, and on ends that never do.
+use crate::status_of;
 use lsys_cli::Status;
 use lsys_io::{MemorySink, MemorySource, NeverSink, NeverSource};
-use lsys_tests_runs::status_of;
 use lsys_tests_scripts::{algae, hostile_lines};
 use std::alloc::{AllocError, Global};
 use std::process::Abort;

@@ -1,7 +1,7 @@
 //! Images and scripts of the largest size, and larger ones.
+use crate::{ran_by, status_of};
 use lsys_cli::Status;
 use lsys_io::{MemorySink, MemorySource, NeverSource};
-use lsys_tests_runs::{ran_by, status_of};
 use lsys_tests_scripts::{long_lines, script_of_images};
 use std::alloc::Global;
 use std::process::Abort;

@@ -1,7 +1,7 @@
 //! The words of the command line, and the codes of the statuses.
+use crate::{ran_by, status_of};
 use lsys_cli::Status;
 use lsys_io::{MemorySink, MemorySource};
-use lsys_tests_runs::{ran_by, status_of};
 use lsys_tests_scripts::algae;
 use std::alloc::Global;
 use std::process::Abort;

@@ -1,11 +1,12 @@
 -- What the functions that look for one token answer.
-use Rattle.std.specs.Prelude.{◌≡◌, ℕ, zero, ◌+◌, ◌++◌, drop, map, Result, Ok, Err, Bool, false, List, [], ◌∷◌, Option, None, Some}
+use Rattle.std.specs.Prelude.{◌≡◌, ◌<◌, ◌≤◌, ℕ, zero, ◌+◌, ◌-◌, ◌++◌, length, drop, map, Result, Ok, Err, Bool, false, List, [], ◌∷◌, Option, None, Some, IfSome}
 use Rattle.lsys_syntax.specs.Tokens as syntax
 use Rattle.lsys_text.specs.declared.scan.Mode.{Mode}
 use Rattle.lsys_text.specs.declared.scan.Mode.TheVariants.{First, Words, UntilColon, Modules}
 use Rattle.lsys_text.specs.declared.scan.Lexeme.{Lexeme}
 use Rattle.lsys_text.specs.declared.scan.Cursor.{Cursor}
 use Rattle.lsys_text.specs.declared.token_kind.Token.{Token}
+use Rattle.lsys_text.specs.declared.token_kind.TokenKind.{TokenKind}
 use Rattle.lsys_text.specs.declared.refusals.TextRefusal.{TextRefusal}
 use Rattle.lsys_text.specs.declared.refusals.TextRefusal.TheVariants.{Byte, Memory}
 use Rattle.lsys_text.specs.Tokens.{kind_of, token_of}
@@ -60,3 +61,23 @@ IsStep line old c new (Ok None) = reading line old c ≡ Ok (map token_of new)
 IsStep line old c new (Ok (Some next)) = reading line old c ≡ reading line new next
 IsStep line old c new (Err (Byte column)) = reading line old c ≡ Err column
 IsStep line old c new (Err Memory) = Unit {0}
+
+-- the longest number at the front of a text that begins with a digit
+abbrev pub front_number : List ℕ → syntax.Kind × ℕ
+front_number bytes =
+    let digits = syntax.front syntax.is_digit bytes in
+    (syntax.number_kind digits, length digits - 1)
+
+-- the longest word at the front of a text that begins with a letter
+abbrev pub front_word : List ℕ → syntax.Kind × ℕ
+front_word bytes =
+    let word = syntax.front syntax.is_word_byte bytes in
+    (syntax.word_kind word, length word - 1)
+
+-- where the line goes on, if it does, is behind the cursor and within the line
+abbrev pub IsFurther : List ℕ → Cursor → Option Cursor → Type 0
+IsFurther line old next = IfSome next (λ c. (old.place < c.place) × (c.place ≤ length line))
+
+-- the line goes on in the mode behind a token of this kind
+abbrev pub IsModeBehind : Mode → TokenKind → Cursor → Type 0
+IsModeBehind mode kind next = mode_of next.mode ≡ syntax.next_mode (mode_of mode) (kind_of kind)

@@ -1,12 +1,12 @@
 //! The token at the front of a text, and the mode behind it.
-ghost use Rattle.std.specs.Prelude.{◌≡◌, ℕ, ◌+◌, ◌-◌, ◌*◌, ◌^◌, ◌<◌, ◌≤◌, ◌++◌, ◌∷◌, [], length, All, option_map, OnOk, OnErr, IfOk, IfSome, IsTrue, SomeIff};
+ghost use Rattle.std.specs.Prelude.{◌≡◌, ◌+◌, ◌-◌, ◌*◌, ◌^◌, ◌<◌, ◌≤◌, ◌++◌, ◌∷◌, [], length, All, option_map, OnOk, OnErr, IfOk, IfSome, IsTrue, SomeIff};
 ghost use Rattle.std.specs.List.{prefix_len};
 ghost use Rattle.std.specs.Str.Parse.{digits_value};
 ghost use Rattle.lsys_syntax.specs.Limits.{most_line_bytes};
-ghost use Rattle.lsys_syntax.specs.Tokens.{is_blank, is_digit, is_letter, is_alphanumeric, is_word_byte, front, number_kind, word_kind, after_word, next_mode, name_tail, name_with};
+ghost use Rattle.lsys_syntax.specs.Tokens.{is_blank, is_digit, is_letter, is_alphanumeric, is_word_byte, after_word, next_mode, name_tail, name_with};
 ghost use Rattle.lsys_syntax.specs.Pieces.{Every};
 ghost use Rattle.lsys_text.specs.Tokens.{kind_of, IsMarkByte, HasMarkByte, is_mark, IsWithin};
-ghost use Rattle.lsys_text.specs.Scans.{mode_of, lexeme_of, begins_with, first_token, first_name, first_mark, placed, IsStep};
+ghost use Rattle.lsys_text.specs.Scans.{mode_of, lexeme_of, begins_with, first_token, first_name, first_mark, placed, IsStep, front_number, front_word, IsFurther, IsModeBehind};
 
 use crate::names::{Name, Word};
 use crate::refusals::TextRefusal;
@@ -63,7 +63,7 @@ pub fn push_token(
     requires marks { All HasMarkByte found.old.items }
     requires places { All (IsWithin (length line.now)) found.old.items }
     ensures step { IsStep line.now found.old.items cursor found.new.items result }
-    ensures within { IfOk result (λ next. IfSome next (λ c. (cursor.place < c.place) × (c.place ≤ length line.now))) }
+    ensures within { IfOk result (IsFurther line.now cursor) }
     ensures marks { All HasMarkByte found.new.items }
     ensures places { All (IsWithin (length line.now)) found.new.items }
     ensures one { length found.new.items ≤ length found.old.items + 1 }
@@ -91,7 +91,7 @@ fn push_lexeme(
     requires { start + lexeme.more < most_line_bytes }
     ensures added { OnOk result (found.new.items ≡ found.old.items ++ placed lexeme start ∷ []) }
     ensures place { IfOk result (λ next. next.place ≡ start + 1 + lexeme.more) }
-    ensures mode { IfOk result (λ next. mode_of next.mode ≡ next_mode (mode_of mode) (kind_of lexeme.kind)) }
+    ensures mode { IfOk result (IsModeBehind mode lexeme.kind) }
     ensures refused { OnErr result (found.new.items ≡ found.old.items) }
 {
     let place = start + 1 + lexeme.more;
@@ -171,7 +171,7 @@ fn mode_behind_word(word: Word) -> Mode
 // The number at the front of a text.
 fn number_at(text: &[u8]) -> Lexeme
     requires { IsTrue (begins_with is_digit text.now) }
-    ensures number { let digits = front is_digit text.now in lexeme_of result ≡ (number_kind digits, length digits - 1) }
+    ensures number { lexeme_of result ≡ front_number text.now }
     ensures within { result.more < length text.now }
     ensures mark { IsMarkByte result.kind }
 {
@@ -216,7 +216,7 @@ fn with_digit(value: u64, digit: u8) -> Option<u64>
 // The word at the front of a text.
 fn word_at(text: &[u8]) -> Lexeme
     requires { IsTrue (begins_with is_letter text.now) }
-    ensures word { let word = front is_word_byte text.now in lexeme_of result ≡ (word_kind word, length word - 1) }
+    ensures word { lexeme_of result ≡ front_word text.now }
     ensures within { result.more < length text.now }
     ensures mark { IsMarkByte result.kind }
 {

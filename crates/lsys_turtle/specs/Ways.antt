@@ -1,8 +1,8 @@
 -- A turtle of the code as that of the definitions, and what a step of it answers.
-use Rattle.std.specs.Prelude.{◌≡◌, ℕ, ℤ, pos, Bool, true, false, Option, Some, None, Result, Ok, Err, List, ◌<◌, ◌≤◌, ◌+◌, ◌-◌, length, option_map, nat_lt, unsigned_abs, if◌then◌else◌}
+use Rattle.std.specs.Prelude.{◌≡◌, ℕ, ℤ, pos, Bool, true, false, Option, Some, None, Result, Ok, Err, List, ◌<◌, ◌≤◌, ◌+◌, ◌-◌, length, option_map, nat_lt, unsigned_abs, if◌then◌else◌, MatchResult}
 use Rattle.lsys_syntax.specs.Strings as S
 use Rattle.lsys_syntax.specs.Limits.{greatest_coordinate}
-use Rattle.lsys_spec.specs.Lattices.{Lattice, Vector, vector, IsWithin}
+use Rattle.lsys_spec.specs.Lattices.{Lattice, Turn, Vector, vector, IsWithin, turn_by}
 use Rattle.lsys_spec.specs.Pictures as P
 use Rattle.lsys_lattice.specs.Views.{vector_of, turn_of}
 use Rattle.lsys_turtle.specs.declared.act.Act.{Act}
@@ -22,6 +22,10 @@ segment_of g = record { from = vector_of g.from; to = vector_of g.to; width = g.
 abbrev pub stepped_of : Result (Option Segment) Far → P.Turtle → Option P.Stepped
 stepped_of (Ok g) t = Some (record { turtle = t; segment = option_map segment_of g })
 stepped_of (Err far) t = None
+
+-- the step is that of the definitions, from one turtle to the next
+abbrev pub IsStepOf : Lattice → S.Symbol ℤ → Walker → Walker → Result (Option Segment) Far → Type 0
+IsStepOf l s old new r = P.turtle_step l s old.turtle ≡ stepped_of r new.turtle
 
 -- both ends of a segment can be projected
 pub record IsReached (g : Segment) : Type 0 where
@@ -45,6 +49,10 @@ saved_after S.Push n = n + 1
 saved_after S.Pop n = n - 1
 saved_after s n = n
 
+-- so many are saved
+abbrev pub SavesAsMany : S.Symbol ℤ → Walker → Walker → Type 0
+SavesAsMany s old new = length new.turtle.saved ≡ saved_after s (length old.turtle.saved)
+
 abbrev pub act_of : Act → P.Act
 act_of (Draws n) = P.draws n
 act_of (Moves n) = P.moves n
@@ -64,3 +72,14 @@ place_in_reach v = if P.is_far v then None else Some v
 abbrev pub vector_from : Option ℤ → Option ℤ → Option ℤ → Option Vector
 vector_from (Some x) (Some y) (Some z) = Some (vector x y z)
 vector_from x y z = None
+
+-- a pose, turned where it is
+abbrev pub pose_turned : Lattice → Turn → ℤ → P.Pose → P.Pose
+pose_turned l kind count p = record p { frame = turn_by l kind count p.frame }
+
+-- it goes so many steps ahead, or stays where that is too far
+abbrev pub GoesUnlessFar : {T E : Type 0} → ℤ → P.Pose → P.Pose → Result T E → Type 0
+GoesUnlessFar steps old new r =
+    let ahead = P.place_ahead steps old in
+    MatchResult r (λ _. (P.is_far ahead ≡ false) × (new ≡ record old { place = ahead }))
+    (λ _. (P.is_far ahead ≡ true) × (new ≡ old))

@@ -1,10 +1,10 @@
 //! Where a turtle stands.
-ghost use Rattle.std.specs.Prelude.{◌≡◌, ◌≤◌, ◌+ℤ◌, ◌*ℤ◌, true, false, option_map, unsigned_abs, MatchResult};
+ghost use Rattle.std.specs.Prelude.{◌≡◌, ◌≤◌, ◌+ℤ◌, ◌*ℤ◌, option_map, unsigned_abs};
 ghost use Rattle.lsys_syntax.specs.Limits.{greatest_coordinate};
-ghost use Rattle.lsys_spec.specs.Pictures.{at_start, is_far, place_ahead};
+ghost use Rattle.lsys_spec.specs.Pictures.{at_start, place_ahead};
 ghost use Rattle.lsys_spec.specs.Lattices.{IsWithin, turn_by};
 ghost use Rattle.lsys_lattice.specs.Views.{vector_of, turn_of};
-ghost use Rattle.lsys_turtle.specs.Ways.{in_reach, place_in_reach, vector_from};
+ghost use Rattle.lsys_turtle.specs.Ways.{in_reach, place_in_reach, vector_from, GoesUnlessFar, pose_turned};
 
 use crate::segment::Far;
 use lsys_lattice::{Lattice, Place, Turn, turn_by};
@@ -108,9 +108,7 @@ impl<T: Lattice> Pose<T> {
 
     /// Moves so many steps ahead; where that is too far, it stays.
     pub(crate) fn go(&mut self, steps: i64) -> Result<(), Far>
-        ensures gone { MatchResult result
-            (λ _. (is_far (place_ahead steps self.old) ≡ false) × (self.new ≡ record self.old { place = place_ahead steps self.old }))
-            (λ _. (is_far (place_ahead steps self.old) ≡ true) × (self.new ≡ self.old)) }
+        ensures gone { GoesUnlessFar steps self.old self.new result }
     {
         match self.ahead(steps) {
             Some(place) => {
@@ -123,7 +121,7 @@ impl<T: Lattice> Pose<T> {
 
     /// Turns so many times, the other way where the count is negative.
     pub(crate) fn turn(&mut self, kind: Turn, count: i64)
-        ensures { self.new ≡ record self.old { frame = turn_by T.shape (turn_of kind) count self.old.frame } }
+        ensures { self.new ≡ pose_turned T.shape (turn_of kind) count self.old }
     {
         self.frame = turn_by::<T>(self.frame, kind, count);
     }

@@ -1,8 +1,8 @@
 //! The turtle itself.
-ghost use Rattle.std.specs.Prelude.{◌≡◌, ◌<◌, ◌≤◌, ◌∷◌, length, OnErr, OnOk, IfOk};
-ghost use Rattle.lsys_spec.specs.Pictures.{acted, at_start, draws, pose_restored, turtle_step};
+ghost use Rattle.std.specs.Prelude.{◌≡◌, ◌<◌, ◌≤◌, ◌∷◌, length, OnErr, IfOk};
+ghost use Rattle.lsys_spec.specs.Pictures.{acted, at_start, draws, pose_restored};
 ghost use Rattle.lsys_module.specs.Views.{symbol_of};
-ghost use Rattle.lsys_turtle.specs.Ways.{CanStep, IsReached, OnSegment, act_of, saved_after, stepped_of};
+ghost use Rattle.lsys_turtle.specs.Ways.{CanStep, IsReached, OnSegment, act_of, stepped_of, IsStepOf, SavesAsMany};
 
 use crate::act::Act;
 use crate::pose::Pose;
@@ -62,8 +62,8 @@ impl<T: Lattice> Turtle<T> {
     /// move would lead to a coordinate past 1,000,000,000 in magnitude; the turtle stays then.
     pub fn step(&mut self, symbol: &Symbol) -> Result<Option<Segment>, Far>
         requires ready { CanStep (symbol_of symbol.now) self.old }
-        ensures stepped { turtle_step T.shape (symbol_of symbol.now) self.old.turtle ≡ stepped_of result self.new.turtle }
-        ensures saved { length self.new.turtle.saved ≡ saved_after (symbol_of symbol.now) (length self.old.turtle.saved) }
+        ensures stepped { IsStepOf T.shape (symbol_of symbol.now) self.old self.new result }
+        ensures saved { SavesAsMany (symbol_of symbol.now) self.old self.new }
         ensures room { self.new.room ≡ self.old.room }
         ensures stays { OnErr result (self.new ≡ self.old) }
         ensures reached { OnSegment result IsReached }

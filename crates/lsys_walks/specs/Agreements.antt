@@ -1,8 +1,9 @@
 -- Two lists of what was read, by tags and by lineages.
-use Rattle.std.specs.Prelude.{◌≡◌, ◌↔◌, ◌⊎◌, ℕ, Bool, false, List, [], ◌∷◌, ◌==◌, ◌&&◌}
+use Rattle.std.specs.Prelude.{◌≡◌, ◌↔◌, ◌⊎◌, ℕ, Bool, true, false, List, [], ◌∷◌, map, ◌==◌, ◌&&◌}
 use Rattle.lsys_syntax.specs.Strings.{IsModuleName}
-use Rattle.lsys_spec.specs.Equalities.{same_all, same_mark, same_module}
-use Rattle.lsys_walks.specs.Noted.{Noted, Compared, Ignored, Out, Branched}
+use Rattle.lsys_spec.specs.Systems.{Each}
+use Rattle.lsys_spec.specs.Equalities.{same_all, same_mark, same_module, same_entry}
+use Rattle.lsys_walks.specs.Noted.{Noted, Compared, Ignored, Out, Branched, entry_by}
 
 -- equality of what was read, as a test by tags
 abbrev pub same_noted : Noted → Noted → Bool
@@ -37,3 +38,26 @@ NamedNoted (Compared d t m) = IsModuleName m.name
 NamedNoted (Ignored d t m) = IsModuleName m.name
 NamedNoted (Out d t) = Unit {0}
 NamedNoted (Branched d o c) = Unit {0}
+
+-- where tags agree, the traces are equal by tags exactly where they are by lineages
+abbrev pub TracesAgreeByTags : Type 0
+TracesAgreeByTags =
+    (before after : ℕ → List ℕ) (old new : List Noted)
+    → AgreeTags before after old new
+    → (old ≡ new) ↔ (map (entry_by before) old ≡ map (entry_by after) new)
+
+-- the test by tags is then the test by lineages
+abbrev pub TestsAgreeByTags : Type 0
+TestsAgreeByTags =
+    (before after : ℕ → List ℕ) (old new : List Noted)
+    → AgreeTags before after old new
+    → same_trace old new
+    ≡ same_all same_entry (map (entry_by before) old) (map (entry_by after) new)
+
+-- the test by lineages then tells whether traces are equal, where their names are those of the language
+abbrev pub TestsTellTraces : Type 0
+TestsTellTraces =
+    (before after : ℕ → List ℕ) (old new : List Noted)
+    → AgreeTags before after old new → Each NamedNoted old → Each NamedNoted new
+    → (same_all same_entry (map (entry_by before) old) (map (entry_by after) new) ≡ true)
+    ↔ (old ≡ new)

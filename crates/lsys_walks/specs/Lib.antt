@@ -6,3 +6,4 @@ pub mod Items
 pub mod Agreements
 pub mod Readings
 pub mod Stores
+pub mod SpotReads

@@ -34,3 +34,10 @@ arities (e ∷ es) = e.arity + arities es
 abbrev pub decoded : List Entry → List ℤ → List Noted
 decoded [] values = []
 decoded (e ∷ es) values = noted_of e (take e.arity values) ∷ decoded es (drop e.arity values)
+
+-- what was read at a module that was compared, or that was ignored
+abbrev pub compared_of : Mark → ℕ → List ℕ → List ℤ → Noted
+compared_of d tag name params = Compared (mark_of d) tag (module_of name params)
+
+abbrev pub ignored_of : Mark → ℕ → List ℕ → List ℤ → Noted
+ignored_of d tag name params = Ignored (mark_of d) tag (module_of name params)

@@ -1,10 +1,9 @@
 //! The reads of a rule.
 ghost use Rattle.std.specs.Prelude.{◌≡◌, ◌+◌, ◌≤◌, length, OnErr};
-ghost use Rattle.lsys_spec.specs.Levels.{ModuleValue};
 ghost use Rattle.lsys_spec.specs.Meaning.{most_entries};
-ghost use Rattle.lsys_level.specs.Spots.{IsSpot, level_at};
+ghost use Rattle.lsys_level.specs.Spots.{IsSpot};
 ghost use Rattle.lsys_bodies.specs.Built.{IsBuilt};
-ghost use Rattle.lsys_walks.specs.Walked.{rule_told, IsWalk, IsFrontOfWalk, AreKept};
+ghost use Rattle.lsys_walks.specs.SpotReads.{WalksContexts, BeginsContexts};
 
 use crate::counter::Counter;
 use crate::left::left_reads;
@@ -42,14 +41,8 @@ pub fn context_reads<'a, W: LevelView, V: Ledger>(
     requires spot { IsSpot (W.levels view.now) (W.level_of view.now spot) (W.place_of view.now spot) }
     requires built { IsBuilt body.now }
     requires room { length trace.old.read ≤ most_entries }
-    ensures told { let x = level_at (W.levels view.now) (W.level_of view.now spot) in
-        (m : ModuleValue) → m.params ≡ own.now
-        → IsWalk (rule_told filter.entry rule body.now m (W.place_of view.now spot)) x
-        trace.old.read trace.new.read (AreKept bound.new.items) result }
-    ensures refused { let x = level_at (W.levels view.now) (W.level_of view.now spot) in
-        (m : ModuleValue) → m.params ≡ own.now
-        → IsFrontOfWalk (rule_told filter.entry rule body.now m (W.place_of view.now spot)) x
-        trace.old.read trace.new.read result }
+    ensures told { WalksContexts W.LevelView view spot filter rule body.now own.now trace bound result }
+    ensures refused { BeginsContexts W.LevelView view spot filter rule body.now own.now trace result }
     ensures few { OnErr result (length trace.new.read ≤ most_entries) }
     ensures same { trace.new.old ≡ trace.old.old }
     ensures counted { visited.new + length trace.old.read ≡ visited.old + length trace.new.read }

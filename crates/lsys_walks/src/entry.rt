@@ -1,7 +1,7 @@
 //! Entries of a trace.
 ghost use Rattle.std.specs.Prelude.{◌≡◌, ◌≤◌, [], length};
 ghost use Rattle.lsys_walks.specs.Noted as noted;
-ghost use Rattle.lsys_walks.specs.Views.{module_of, noted_of, mark_of};
+ghost use Rattle.lsys_walks.specs.Views.{noted_of, mark_of, compared_of, ignored_of};
 
 use crate::mark::Mark;
 use lsys_level::Tag;
@@ -79,7 +79,7 @@ impl Entry {
     pub(crate) fn compared(mark: Mark, tag: Tag, name: Name, params: &[i64]) -> Entry
         requires { length params.now ≤ 8 }
         ensures arity { result.arity ≡ length params.now }
-        ensures noted { noted_of result params.now ≡ noted.Compared (mark_of mark) tag (module_of name params.now) }
+        ensures noted { noted_of result params.now ≡ compared_of mark tag name params.now }
     {
         Entry {
             kind: EntryKind::Compared,
@@ -96,7 +96,7 @@ impl Entry {
     pub(crate) fn ignored(mark: Mark, tag: Tag, name: Name, params: &[i64]) -> Entry
         requires { length params.now ≤ 8 }
         ensures arity { result.arity ≡ length params.now }
-        ensures noted { noted_of result params.now ≡ noted.Ignored (mark_of mark) tag (module_of name params.now) }
+        ensures noted { noted_of result params.now ≡ ignored_of mark tag name params.now }
     {
         Entry {
             kind: EntryKind::Ignored,

@@ -1,7 +1,6 @@
 //! The items of a right context.
 ghost use Rattle.std.specs.Prelude.{◌≡◌, ◌+◌, ◌<◌, ◌≤◌, length, slice_get, Some};
-ghost use Rattle.lsys_spec.specs.Bodies.{BranchOf};
-ghost use Rattle.lsys_walks.specs.Items.{patterns_from};
+ghost use Rattle.lsys_walks.specs.Items.{EndsBranch};
 
 use lsys_bodies::Item;
 
@@ -10,8 +9,7 @@ pub(crate) fn behind(items: &[Item], at: usize) -> usize
     requires { slice_get items.now at ≡ Some Item.Push }
     ensures later { at < result }
     ensures within { result ≤ length items.now }
-    ensures branch { let from = patterns_from items.now in
-        from at ≡ BranchOf (from (at + 1)) (from result) }
+    ensures branch { EndsBranch items.now at result }
 {
     let mut place = at + 1;
     let mut inside = 0usize;

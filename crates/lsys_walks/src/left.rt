@@ -1,8 +1,8 @@
 //! The walk to the left.
 ghost use Rattle.std.specs.Prelude.{◌≡◌, ◌+◌, ◌≤◌, ◌++◌, length, reverse, OnOk, OnErr};
 ghost use Rattle.lsys_spec.specs.Meaning.{most_entries};
-ghost use Rattle.lsys_level.specs.Spots.{IsSpot, level_at};
-ghost use Rattle.lsys_walks.specs.Walked.{left_told, IsWalk, IsFrontOfWalk, KeptReversed};
+ghost use Rattle.lsys_level.specs.Spots.{IsSpot};
+ghost use Rattle.lsys_walks.specs.SpotReads.{WalksLeft, BeginsLeftWalk};
 
 use crate::counter::Counter;
 use crate::entry::Entry;
@@ -42,12 +42,8 @@ pub fn left_reads<'a, W: LevelView, V: Ledger>(
 ) -> Result<Walked, AllocError>
     requires spot { IsSpot (W.levels view.now) (W.level_of view.now spot) (W.place_of view.now spot) }
     requires room { length trace.old.read ≤ most_entries }
-    ensures told { let x = level_at (W.levels view.now) (W.level_of view.now spot) in
-        let walk = left_told filter.entry mark patterns.now (W.place_of view.now spot) in
-        IsWalk walk x trace.old.read trace.new.read (KeptReversed bound.old.items bound.new.items) result }
-    ensures refused { let x = level_at (W.levels view.now) (W.level_of view.now spot) in
-        let walk = left_told filter.entry mark patterns.now (W.place_of view.now spot) in
-        IsFrontOfWalk walk x trace.old.read trace.new.read result }
+    ensures told { WalksLeft W.LevelView view spot filter mark patterns.now trace bound result }
+    ensures refused { BeginsLeftWalk W.LevelView view spot filter mark patterns.now trace result }
     ensures few { OnErr result (length trace.new.read ≤ most_entries) }
     ensures same { trace.new.old ≡ trace.old.old }
     ensures counted { visited.new + length trace.old.read ≡ visited.old + length trace.new.read }

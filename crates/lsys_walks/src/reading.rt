@@ -1,8 +1,8 @@
 //! A trace that is read beside an old one: nothing is written while they agree.
-ghost use Rattle.std.specs.Prelude.{◌≡◌, ◌↔◌, ◌+◌, ◌<◌, ◌++◌, ◌∷◌, [], length, true, false, IsTrue, IfOk, IsOk, OnOk, OnErr};
+ghost use Rattle.std.specs.Prelude.{◌≡◌, ◌↔◌, ◌+◌, ◌<◌, [], length, true, false, IsTrue, IfOk, IsOk, OnOk, OnErr};
 ghost use Rattle.lsys_spec.specs.Meaning.{most_entries};
-ghost use Rattle.lsys_walks.specs.Views.{noted_of, decoded, arities};
-ghost use Rattle.lsys_walks.specs.Readings.{IsFront};
+ghost use Rattle.lsys_walks.specs.Views.{decoded, arities};
+ghost use Rattle.lsys_walks.specs.Readings.{IsFront, read_with, AddsEntry};
 
 use crate::alike::is_alike;
 use crate::counter::Counter;
@@ -87,9 +87,9 @@ impl<'a> Reading<'a> {
     fn passes(&mut self, entry: &Entry, params: &[i64]) -> bool
         requires { length params.now ≡ entry.now.arity }
         ensures old { self.new.old ≡ self.old.old }
-        ensures passed { IsTrue result → (self.new.read ≡ self.old.read ++ noted_of entry.now params.now ∷ []) × (self.new.agrees ≡ true) }
+        ensures passed { IsTrue result → AddsEntry self.old self.new entry.now params.now true }
         ensures left { result ≡ false → self.new ≡ self.old }
-        ensures exact { IsTrue result ↔ IsFront (self.old.read ++ noted_of entry.now params.now ∷ []) self.old.old }
+        ensures exact { IsTrue result ↔ IsFront (read_with self.old entry.now params.now) self.old.old }
     {
         if !self.agrees || self.place >= self.entries.len() {
             return false;
@@ -107,9 +107,9 @@ impl<'a> Reading<'a> {
     /// Adds an entry to what was read, which from now on is written.
     fn write(&mut self, entry: Entry, params: &[i64]) -> Result<(), AllocError>
         requires arity { length params.now ≡ entry.arity }
-        requires left { IsFront (self.old.read ++ noted_of entry params.now ∷ []) self.old.old → ⊥ }
+        requires left { IsFront (read_with self.old entry params.now) self.old.old → ⊥ }
         ensures old { self.new.old ≡ self.old.old }
-        ensures added { OnOk result ((self.new.read ≡ self.old.read ++ noted_of entry params.now ∷ []) × (self.new.agrees ≡ false)) }
+        ensures added { OnOk result (AddsEntry self.old self.new entry params.now false) }
         ensures refused { OnErr result (self.new ≡ self.old) }
     {
         if !self.agrees {
@@ -169,9 +169,9 @@ impl<'a> Reading<'a> {
     ) -> Result<bool, AllocError>
         requires { length params.now ≡ entry.arity }
         ensures old { self.new.old ≡ self.old.old }
-        ensures added { IfOk result (λ far. self.new.read ≡ self.old.read ++ noted_of entry params.now ∷ []) }
+        ensures added { IfOk result (λ far. self.new.read ≡ read_with self.old entry params.now) }
         ensures far { IfOk result (λ far. IsTrue far ↔ (most_entries < length self.new.read)) }
-        ensures free { IsFront (self.old.read ++ noted_of entry params.now ∷ []) self.old.old → IsOk result }
+        ensures free { IsFront (read_with self.old entry params.now) self.old.old → IsOk result }
         ensures refused { OnErr result (self.new.read ≡ self.old.read) }
         ensures unchanged { OnErr result (self.new ≡ self.old) }
         ensures counted { visited.new + length self.old.read ≡ visited.old + length self.new.read }

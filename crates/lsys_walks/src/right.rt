@@ -1,8 +1,8 @@
 //! The walk to the right.
 ghost use Rattle.std.specs.Prelude.{◌≡◌, ◌+◌, ◌-◌, ◌<◌, ◌≤◌, length, take, OnErr};
 ghost use Rattle.lsys_spec.specs.Meaning.{most_entries};
-ghost use Rattle.lsys_level.specs.Spots.{IsSpot, level_at};
-ghost use Rattle.lsys_walks.specs.Walked.{right_told, IsWalk, IsFrontOfWalk, KeptInOrder};
+ghost use Rattle.lsys_level.specs.Spots.{IsSpot};
+ghost use Rattle.lsys_walks.specs.SpotReads.{WalksRight, BeginsRightWalk};
 
 use crate::counter::Counter;
 use crate::entry::Entry;
@@ -48,12 +48,8 @@ pub fn right_reads<'a, W: LevelView, V: Ledger>(
     requires first { first ≤ length items.now }
     requires depth { mark.depth + (length items.now - first) < 256 }
     requires room { length trace.old.read ≤ most_entries }
-    ensures told { let x = level_at (W.levels view.now) (W.level_of view.now spot) in
-        let walk = right_told filter.entry mark items.now first (W.place_of view.now spot) in
-        IsWalk walk x trace.old.read trace.new.read (KeptInOrder bound.old.items bound.new.items) result }
-    ensures refused { let x = level_at (W.levels view.now) (W.level_of view.now spot) in
-        let walk = right_told filter.entry mark items.now first (W.place_of view.now spot) in
-        IsFrontOfWalk walk x trace.old.read trace.new.read result }
+    ensures told { WalksRight W.LevelView view spot filter mark items.now first trace bound result }
+    ensures refused { BeginsRightWalk W.LevelView view spot filter mark items.now first trace result }
     ensures few { OnErr result (length trace.new.read ≤ most_entries) }
     ensures front { take (length bound.old.items) bound.new.items ≡ bound.old.items }
     ensures same { trace.new.old ≡ trace.old.old }

@@ -1,10 +1,14 @@
 -- The symbols of a successor, one behind the other: their numbers, and the children that they are.
-use Rattle.std.specs.Prelude.{◌≡◌, ◌+◌, ◌*◌, ◌<◌, ◌==◌, ℕ, Bool, List, [], ◌∷◌, length, count_by, nat_eq, cond}
+use Rattle.std.specs.Prelude.{◌≡◌, ◌+◌, ◌*◌, ◌<◌, ◌==◌, ℕ, Bool, List, [], ◌∷◌, ◌++◌, Option, Vec, length, count_by, nat_eq, cond}
+use Rattle.std.specs.declared.alloc.Global.{Global}
 use Rattle.std.specs.HashMap.{get}
 use Rattle.std.specs.Map.{count_at}
 use Rattle.lsys_syntax.specs.Commands.{Numbering, by_place, by_name}
 use Rattle.lsys_spec.specs.Draws.{number_base, child_key_of}
 use Rattle.lsys_reading.specs.declared.parts.Numbering.TheVariants as code
+use Rattle.lsys_reading.specs.Commands.{numbering_of}
+use Rattle.lsys_rewrite.specs.Cutting.{stays}
+use Rattle.lsys_module.specs.Views.{symbol_of}
 use Rattle.lsys_module.specs.declared.symbol.Symbol.{Symbol}
 use Rattle.lsys_brood.specs.declared.number.Number.{Number}
 use Rattle.lsys_brood.specs.declared.child.Child.{Child}
@@ -27,12 +31,29 @@ child_of key number s = record {
 abbrev pub child_if : Bool → Child → List Child
 child_if b w = cond b (w ∷ []) []
 
+-- a symbol's child is put behind the others, if it stays where so much is being cut off
+abbrev pub PutsChildIfLeft : Vec Child Global → Vec Child Global → Option ℕ → ℕ → Number → Symbol
+    → Type 0
+PutsChildIfLeft old new cutting key number s =
+    new.items ≡ old.items ++ child_if (stays cutting (symbol_of s)) (child_of key number s)
+
 -- n symbols were numbered, with these codes
 pub record IsBehind (n : ℕ) (before : List ℕ) (a : Numbers) : Type 0 where
   pub symbols : a.symbols ≡ n
   pub length : length before ≡ n
   pub counts : a.numbering ≡ code.ByName
       → (c : ℕ) → count_at (get nat_eq a.counts) c ≡ count_by (λ d. d == c) before
+
+-- this is the number of the next symbol, which has this code
+abbrev pub IsNumberOf : Numbers → ℕ → Number → Type 0
+IsNumberOf a c number =
+    (n : ℕ) (before : List ℕ) → IsBehind n before a
+    → number ≡ numbered_at (numbering_of a.numbering) n before c
+
+-- one symbol more was numbered, with this code
+abbrev pub GoesBehind : Numbers → Numbers → ℕ → Type 0
+GoesBehind old new c =
+    (n : ℕ) (before : List ℕ) → IsBehind n before old → IsBehind (n + 1) (c ∷ before) new
 
 -- fewer were numbered than there are numbers for a code
 abbrev pub AreFew : Numbers → Type 0

@@ -10,6 +10,8 @@ use Rattle.lsys_spec.specs.Cuts.{cut}
 use Rattle.lsys_spec.specs.Meaning.{children}
 use Rattle.lsys_level.specs.Spots.{Seen, with_lineage}
 use Rattle.lsys_level.specs.Places.{seen_in}
+use Rattle.lsys_reading.specs.declared.parts.Numbering.{Numbering as CodeNumbering}
+use Rattle.lsys_reading.specs.Commands.{numbering_of}
 use Rattle.lsys_brood.specs.declared.child.Child.{Child}
 use Rattle.lsys_brood.specs.Matches.{AreApart}
 use Rattle.lsys_brood.specs.Children.{numbers_of, AreWhole}
@@ -37,6 +39,10 @@ pub record AreWanted (g : Numbering) (key : ℕ) (zs : List (S.Symbol ℤ))
   pub apart : AreApart (numbers_of ws)
   pub small : Each (λ w. w.number.count < number_base) ws
   pub few : length ws ≤ length zs
+
+-- these are wanted by a numbering of the code
+abbrev pub IsWishFor : CodeNumbering → ℕ → List (S.Symbol ℤ) → Wish → Type 0
+IsWishFor g key zs w = AreWanted (numbering_of g) key zs w.children
 
 -- what is seen, as a symbol of a successor
 abbrev pub itself : Seen → S.Symbol ℤ

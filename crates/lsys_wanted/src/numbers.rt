@@ -1,10 +1,8 @@
 //! The numbers of the symbols of a successor.
-ghost use Rattle.std.specs.Prelude.{◌≡◌, ◌∷◌, ◌+◌, ◌<◌, ℕ, List, [], IfOk, OnOk, length};
-ghost use Rattle.lsys_spec.specs.Draws.{number_base};
+ghost use Rattle.std.specs.Prelude.{◌≡◌, ◌+◌, ◌<◌, [], IfOk, OnOk};
 ghost use Rattle.lsys_spec.specs.Numbers.{code_of};
 ghost use Rattle.lsys_module.specs.Views.{symbol_of};
-ghost use Rattle.lsys_reading.specs.Commands.{numbering_of};
-ghost use Rattle.lsys_wanted.specs.Counts.{numbered_at, IsBehind, AreFew};
+ghost use Rattle.lsys_wanted.specs.Counts.{IsBehind, AreFew, GoesBehind, IsNumberOf};
 
 use lsys_brood::Number;
 use lsys_module::Symbol;
@@ -45,13 +43,8 @@ impl Numbers {
     /// The number of the next symbol, among those of one parent. Whether it is cut off does not matter.
     pub(crate) fn next(&mut self, symbol: &Symbol) -> Result<Number, AllocError>
         requires few { AreFew self.old }
-        ensures number { IfOk result (λ number. (n : ℕ) (before : List ℕ)
-            → IsBehind n before self.old
-            → number
-            ≡ numbered_at (numbering_of self.old.numbering) n before
-            (code_of (symbol_of symbol.now))) }
-        ensures behind { OnOk result ((n : ℕ) (before : List ℕ) → IsBehind n before self.old
-            → IsBehind (n + 1) (code_of (symbol_of symbol.now) ∷ before) self.new) }
+        ensures number { IfOk result (IsNumberOf self.old (code_of (symbol_of symbol.now))) }
+        ensures behind { OnOk result (GoesBehind self.old self.new (code_of (symbol_of symbol.now))) }
         ensures numbering { self.new.numbering ≡ self.old.numbering }
     {
         let place = self.symbols;

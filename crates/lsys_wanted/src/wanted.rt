@@ -1,14 +1,13 @@
 //! The children that a successor wants.
-ghost use Rattle.std.specs.Prelude.{◌≡◌, ◌≢◌, ◌<◌, ◌≤◌, ◌++◌, ◌∷◌, false, [], length, OnOk};
+ghost use Rattle.std.specs.Prelude.{◌≡◌, ◌≢◌, ◌<◌, ◌≤◌, ◌∷◌, false, [], length, OnOk};
 ghost use Rattle.lsys_spec.specs.Draws.{number_base};
 ghost use Rattle.lsys_change.specs.Children.{is_open};
 ghost use Rattle.lsys_level.specs.Views.{seen_of, HasFewParams};
 ghost use Rattle.lsys_module.specs.declared.symbol.Symbol.TheVariants.{Cut};
 ghost use Rattle.lsys_module.specs.Views.{symbol_of, string_of};
-ghost use Rattle.lsys_reading.specs.Commands.{numbering_of};
 ghost use Rattle.lsys_rewrite.specs.Cutting.{stays};
-ghost use Rattle.lsys_wanted.specs.Wishes.{AreWanted, itself};
-ghost use Rattle.lsys_wanted.specs.Counts.{child_of, child_if};
+ghost use Rattle.lsys_wanted.specs.Wishes.{itself, IsWishFor};
+ghost use Rattle.lsys_wanted.specs.Counts.{PutsChildIfLeft};
 
 use crate::numbers::Numbers;
 use lsys_brood::{Child, Number};
@@ -62,8 +61,7 @@ impl Wanted {
         successor: &[Symbol],
     ) -> Result<(), AllocError>
         requires few { length successor.now ≤ number_base }
-        ensures wanted { OnOk result
-            (AreWanted (numbering_of numbering) key (string_of successor.now) self.new.children) }
+        ensures wanted { OnOk result (IsWishFor numbering key (string_of successor.now) self.new) }
         ensures cuts { OnOk result (self.new.is_open ≡ is_open (string_of successor.now)) }
     {
         self.numbers.begin(numbering);
@@ -90,8 +88,7 @@ impl Wanted {
         symbol: &Symbol,
     ) -> Result<(), AllocError>
         requires whole { symbol.now ≢ Cut }
-        ensures wanted { OnOk result
-            (AreWanted (numbering_of numbering) key (symbol_of symbol.now ∷ []) self.new.children) }
+        ensures wanted { OnOk result (IsWishFor numbering key (symbol_of symbol.now ∷ []) self.new) }
         ensures cuts { OnOk result (self.new.is_open ≡ false) }
     {
         self.fill(numbering, key, &[*symbol])
@@ -121,9 +118,7 @@ fn put_child(
     symbol: &Symbol,
 ) -> Result<(), AllocError>
     requires small { number.count < number_base }
-    ensures { OnOk result (children.new.items
-        ≡ children.old.items
-        ++ child_if (stays cutting (symbol_of symbol.now)) (child_of key number symbol.now)) }
+    ensures { OnOk result (PutsChildIfLeft children.old children.new cutting key number symbol.now) }
 {
     if stays(cutting, symbol) {
         children.push(Child {

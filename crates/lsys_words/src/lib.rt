@@ -1,4 +1,4 @@
-//! The words of the program's command line.
+//! The words of the program's command line, and the scripts of samples, which they name.
 //!
 //! A list of words is in the grammar where it consists of these options, each at most once and in either order:
 //! `--limit N` or the one word `--limit=N`, with N from 1 to 1,000,000; `--sample N` or the one word `--sample=N`, with N
@@ -9,9 +9,11 @@ ghost use Rattle.std.specs.Prelude.{◌≡◌, ℕ, IfErr, IfOk, IfSome, List, i
 ghost use Rattle.lsys_words.specs.Words.{HasLimit, options_by, texts};
 
 mod reading;
+mod samples;
 mod setting;
 
 use reading::{matches_of, options_in};
+pub use samples::sample;
 use setting::is_in_grammar;
 use std::alloc::{AllocError, Global};
 

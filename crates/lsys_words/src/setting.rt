@@ -110,7 +110,7 @@ fn in_two(word: &str) -> (&str, Option<&str>)
 
 /// The option at the front of some words, and the words behind it.
 fn first_setting(words: &[String]) -> Option<(Setting, &[String])>
-    ensures { MatchOption result (IsFirst (texts words.now) None) (λ p. IsFirst (texts words.now) (Some (p.0, texts p.1.now))) }
+    ensures { IsFirst (texts words.now) (option_map (λ p. (p.0, texts p.1.now)) result) }
 {
     let (word, words) = words.split_first()?;
     let (name, attached) = in_two(word.as_str());

@@ -1,7 +1,7 @@
 use Rattle.std.proofs.Common.{◌≡◌, ◌<◌, ◌+◌, Bool, List, ℕ, [], ◌∷◌, ◌++◌, length, take, slice_get, Option, Some, refl, sym, ◌∙◌, subst, arith}
 use Rattle.std.proofs.lemmas.Option.{slice_get_read}
 use Rattle.lsys_brood.specs.declared.child.Child.{Child}
-use Rattle.lsys_brood.specs.Steps.{ArePlaced}
+use Rattle.lsys_brood.proofs.Placing.{ArePlaced, places_of}
 use Rattle.lsys_brood.proofs.MatchLemmas.{take_whole}
 use Rattle.lsys_brood.proofs.AllLemmas.{take_short, placed_start, can_place_next, all_next}
 use Rattle.lsys_brood.proofs.renew.place_all.Goals as goal
@@ -69,5 +69,13 @@ returns-clause-placed g c =
     let os = c.args.found.now in
     let ks = c.loop-at.nodes.items in
     let i = c.loop-at.at in
+    let placed =
     subst (λ (us : List (Option ℕ)). ArePlaced f now parent ws us ks c.args.changes.now c.loop-at.changes c.loop-at.keep_kinds) (take_whole os i (omega (arith, c.requires.room.long, c.loop-at-test.false)))
-    (subst (λ (us : List Child). ArePlaced f now parent us (take i os) ks c.args.changes.now c.loop-at.changes c.loop-at.keep_kinds) (take_whole ws i c.loop-at-test.false) c.loop-at.invariant.placed)
+    (subst (λ (us : List Child). ArePlaced f now parent us (take i os) ks c.args.changes.now c.loop-at.changes c.loop-at.keep_kinds) (take_whole ws i c.loop-at-test.false) c.loop-at.invariant.placed) in
+    places_of f now parent ws os ks c.args.changes.now c.loop-at.changes c.loop-at.keep_kinds placed
+
+pub returns-clause-told : goal.returns-clause-told
+returns-clause-told g c = c.loop-at.invariant.placed.told
+
+pub returns-clause-kinds : goal.returns-clause-kinds
+returns-clause-kinds g c = c.loop-at.invariant.placed.kinds_tell

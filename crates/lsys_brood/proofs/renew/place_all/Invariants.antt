@@ -1,6 +1,6 @@
 use Rattle.std.proofs.Common.{◌≡◌, ◌≤◌, length, take, vec_capacity}
 use Rattle.lsys_forest.specs.Groves.{kept_in}
-use Rattle.lsys_brood.specs.Steps.{ArePlaced}
+use Rattle.lsys_brood.proofs.Placing.{ArePlaced}
 use Rattle.lsys_brood.proofs.renew.place_all.Given as goal
 
 abbrev pub invariant-loop-at : goal.invariant-loop-at

@@ -2,7 +2,7 @@ use Rattle.std.proofs.Common.{List, ℕ, length, sym, ap, ◌∙◌, subst, arit
 use Rattle.lsys_region.specs.Rooms.{room_of}
 use Rattle.lsys_forest.specs.Groves.{now_of}
 use Rattle.lsys_brood.specs.Children.{numbers_of, notes_for, AreRenewed, TellsOf}
-use Rattle.lsys_brood.specs.Steps.{ArePlaced}
+use Rattle.lsys_brood.proofs.Placing.{ArePlaced, placed_of}
 use Rattle.lsys_brood.proofs.PlacedLemmas.{some_of}
 use Rattle.lsys_brood.proofs.AllLemmas.{can_place_all, placed_kids, without_short, Ends, kids_now, renewed_all, told_all, spends_all}
 use Rattle.lsys_brood.proofs.renew.renew_all.Goals as goal
@@ -24,7 +24,8 @@ set_list-had_others-requires-clause-kids g c =
     let t' = c.place_all-keep_kinds.new.changes in
     let ks = c.deref.result.now in
     let p = some_of (now_of f parent) c.requires.lives in
-    let placed = subst (λ (l : List ℕ). ArePlaced f now parent ws os l t t' a) (sym c.deref.ensures.value) c.place_all-keep_kinds.ensures.placed in
+    let placed = subst (λ (l : List ℕ). ArePlaced f now parent ws os l t t' a) (sym c.deref.ensures.value)
+    (placed_of f now parent ws os _ t t' a c.place_all-keep_kinds.ensures.placed c.place_all-keep_kinds.ensures.told c.place_all-keep_kinds.ensures.kinds) in
     placed_kids f now parent ws os ks gone t t' a c.requires.sound c.requires.lives c.requires.matched placed
 
 pub set_list-had_others-requires-clause-notes : goal.set_list-had_others-requires-clause-notes
@@ -47,7 +48,8 @@ set_list-had_others-requires-clause-room g c =
     let t' = c.place_all-keep_kinds.new.changes in
     let ks = c.deref.result.now in
     let p = some_of (now_of f parent) c.requires.lives in
-    let placed = subst (λ (l : List ℕ). ArePlaced f now parent ws os l t t' a) (sym c.deref.ensures.value) c.place_all-keep_kinds.ensures.placed in
+    let placed = subst (λ (l : List ℕ). ArePlaced f now parent ws os l t t' a) (sym c.deref.ensures.value)
+    (placed_of f now parent ws os _ t t' a c.place_all-keep_kinds.ensures.placed c.place_all-keep_kinds.ensures.told c.place_all-keep_kinds.ensures.kinds) in
     omega (arith, (c.requires.room p.0 p.1).kids, placed.spends.kids_left, ap room_of placed.long)
 
 pub tell_family-requires : goal.tell_family-requires
@@ -63,7 +65,8 @@ tell_family-requires g c =
     let t' = c.place_all-keep_kinds.new.changes in
     let ks = c.deref.result.now in
     let p = some_of (now_of f parent) c.requires.lives in
-    let placed = subst (λ (l : List ℕ). ArePlaced f now parent ws os l t t' a) (sym c.deref.ensures.value) c.place_all-keep_kinds.ensures.placed in
+    let placed = subst (λ (l : List ℕ). ArePlaced f now parent ws os l t t' a) (sym c.deref.ensures.value)
+    (placed_of f now parent ws os _ t t' a c.place_all-keep_kinds.ensures.placed c.place_all-keep_kinds.ensures.told c.place_all-keep_kinds.ensures.kinds) in
     omega (arith, (c.requires.room p.0 p.1).told, placed.told.room, placed.long)
 
 pub tell_gone-requires : goal.tell_gone-requires
@@ -79,7 +82,8 @@ tell_gone-requires g c =
     let t' = c.place_all-keep_kinds.new.changes in
     let ks = c.deref.result.now in
     let p = some_of (now_of f parent) c.requires.lives in
-    let placed = subst (λ (l : List ℕ). ArePlaced f now parent ws os l t t' a) (sym c.deref.ensures.value) c.place_all-keep_kinds.ensures.placed in
+    let placed = subst (λ (l : List ℕ). ArePlaced f now parent ws os l t t' a) (sym c.deref.ensures.value)
+    (placed_of f now parent ws os _ t t' a c.place_all-keep_kinds.ensures.placed c.place_all-keep_kinds.ensures.told c.place_all-keep_kinds.ensures.kinds) in
     omega (arith, (c.requires.room p.0 p.1).told, placed.told.room, placed.long, c.tell_family.ensures.room, ap length (c.requires.matched p.0 p.1).left, without_short (now_of f) (numbers_of ws) p.0.kids)
 
 pub returns-clause-children : goal.returns-clause-children
@@ -95,7 +99,8 @@ returns-clause-children g c = λ n is.
     let t' = c.place_all-keep_kinds.new.changes in
     let ks = c.deref.result.now in
     let p = some_of (now_of f parent) c.requires.lives in
-    let placed = subst (λ (l : List ℕ). ArePlaced f now parent ws os l t t' a) (sym c.deref.ensures.value) c.place_all-keep_kinds.ensures.placed in
+    let placed = subst (λ (l : List ℕ). ArePlaced f now parent ws os l t t' a) (sym c.deref.ensures.value)
+    (placed_of f now parent ws os _ t t' a c.place_all-keep_kinds.ensures.placed c.place_all-keep_kinds.ensures.told c.place_all-keep_kinds.ensures.kinds) in
     let new = c.set_list-had_others.new.forest in
     let had = c.set_list-had_others.result in
     let set = c.set_list-had_others.ensures in
@@ -131,7 +136,8 @@ returns-clause-told g c = λ n is.
     let t' = c.place_all-keep_kinds.new.changes in
     let ks = c.deref.result.now in
     let p = some_of (now_of f parent) c.requires.lives in
-    let placed = subst (λ (l : List ℕ). ArePlaced f now parent ws os l t t' a) (sym c.deref.ensures.value) c.place_all-keep_kinds.ensures.placed in
+    let placed = subst (λ (l : List ℕ). ArePlaced f now parent ws os l t t' a) (sym c.deref.ensures.value)
+    (placed_of f now parent ws os _ t t' a c.place_all-keep_kinds.ensures.placed c.place_all-keep_kinds.ensures.told c.place_all-keep_kinds.ensures.kinds) in
     let new = c.set_list-had_others.new.forest in
     let had = c.set_list-had_others.result in
     let set = c.set_list-had_others.ensures in
@@ -167,7 +173,8 @@ returns-clause-spends g c = λ n is.
     let t' = c.place_all-keep_kinds.new.changes in
     let ks = c.deref.result.now in
     let p = some_of (now_of f parent) c.requires.lives in
-    let placed = subst (λ (l : List ℕ). ArePlaced f now parent ws os l t t' a) (sym c.deref.ensures.value) c.place_all-keep_kinds.ensures.placed in
+    let placed = subst (λ (l : List ℕ). ArePlaced f now parent ws os l t t' a) (sym c.deref.ensures.value)
+    (placed_of f now parent ws os _ t t' a c.place_all-keep_kinds.ensures.placed c.place_all-keep_kinds.ensures.told c.place_all-keep_kinds.ensures.kinds) in
     let new = c.set_list-had_others.new.forest in
     let had = c.set_list-had_others.result in
     let set = c.set_list-had_others.ensures in

@@ -1,7 +1,7 @@
 use Rattle.std.proofs.Common.{◌≡◌, Some, length, slice_get, refl}
 use Rattle.std.proofs.lemmas.Option.{slice_get_read}
 use Rattle.lsys_forest.specs.Groves.{now_of}
-use Rattle.lsys_seats.proofs.LevelLemmas.{got_in}
+use Rattle.lsys_kept.proofs.LevelLemmas.{got_in}
 use Rattle.lsys_candidates.specs.Candidates.{AsksOn}
 use Rattle.lsys_candidates.proofs.Adding.{adds_start, adds_next, adds_all}
 use Rattle.lsys_candidates.proofs.asks.add_asked.Goals as goal

@@ -1,7 +1,7 @@
 use Rattle.std.proofs.Common.{◌≡◌, Some, length, slice_get, refl, subst, inl, inr}
 use Rattle.std.proofs.lemmas.Option.{slice_get_read}
-use Rattle.lsys_seats.proofs.LevelLemmas.{got_in}
-use Rattle.lsys_seats.proofs.SeamLemmas.{in_taken_next, in_all_taken, none_taken}
+use Rattle.lsys_kept.proofs.LevelLemmas.{got_in}
+use Rattle.lsys_kept.proofs.SeamLemmas.{in_taken_next, in_all_taken, none_taken}
 use Rattle.lsys_candidates.specs.Finds.{IsBeside, IsNear}
 use Rattle.lsys_candidates.proofs.Gathering.{gathers_none, beside_next, still_marked}
 use Rattle.lsys_candidates.proofs.finds.find_beside.Goals as goal

@@ -2,8 +2,8 @@ use Rattle.std.proofs.Common.{◌≡◌, true, Some, length, slice_get, refl, sy
 use Rattle.std.proofs.lemmas.Option.{slice_get_read}
 use Rattle.lsys_forest.specs.Groves.{In}
 use Rattle.lsys_reads.specs.Relations.{is_settled}
-use Rattle.lsys_seats.proofs.LevelLemmas.{got_in}
-use Rattle.lsys_seats.proofs.SeamLemmas.{in_taken_next, in_all_taken, none_taken}
+use Rattle.lsys_kept.proofs.LevelLemmas.{got_in}
+use Rattle.lsys_kept.proofs.SeamLemmas.{in_taken_next, in_all_taken, none_taken}
 use Rattle.lsys_candidates.specs.Finds.{IsReader}
 use Rattle.lsys_candidates.proofs.Gathering.{in_has, has_in, gathers_none, readers_next, still_marked}
 use Rattle.lsys_candidates.proofs.finds.find_readers.Goals as goal

@@ -1,5 +1,5 @@
 use Rattle.std.proofs.Common.{◌≡◌, Some, refl, sym, ap, ◌∙◌, inl, inr}
-use Rattle.lsys_seats.specs.Seats.{is_marked}
+use Rattle.lsys_kept.specs.Seats.{is_marked}
 use Rattle.lsys_candidates.specs.Finds.{IsNear}
 use Rattle.lsys_candidates.proofs.Gathering.{gathers_kind, gathers_next, still_marked, all_near}
 use Rattle.lsys_candidates.proofs.finds.gather_near.Goals as goal

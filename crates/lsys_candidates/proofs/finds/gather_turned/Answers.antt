@@ -1,6 +1,6 @@
 use Rattle.std.proofs.Common.{◌≡◌, ◌∷◌, [], subst, inl, true, false}
-use Rattle.lsys_seats.specs.Neighbours.{neighbours_in}
-use Rattle.lsys_seats.specs.Seats.{neighbours_at}
+use Rattle.lsys_kept.specs.Neighbours.{neighbours_in}
+use Rattle.lsys_kept.specs.Seats.{neighbours_at}
 use Rattle.lsys_candidates.specs.Finds.{IsTurned}
 use Rattle.lsys_candidates.proofs.Gathering.{gathers_kind}
 use Rattle.lsys_candidates.proofs.finds.gather_turned.Goals as goal

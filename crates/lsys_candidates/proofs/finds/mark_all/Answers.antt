@@ -1,6 +1,6 @@
 use Rattle.std.proofs.Common.{◌≡◌, Some, length, slice_get, refl, ◌∙◌}
 use Rattle.std.proofs.lemmas.Option.{slice_get_read}
-use Rattle.lsys_seats.proofs.LevelLemmas.{got_in}
+use Rattle.lsys_kept.proofs.LevelLemmas.{got_in}
 use Rattle.lsys_candidates.proofs.Gathering.{marks_next}
 use Rattle.lsys_candidates.proofs.finds.mark_all.Goals as goal
 

@@ -1,6 +1,6 @@
 use Rattle.std.proofs.Common.{◌≡◌, ◌↔◌, ◌⊎◌, ℕ, true, take}
 use Rattle.lsys_forest.specs.Groves.{In}
-use Rattle.lsys_seats.specs.Seats.{is_marked, SameSeats, KeepsSeats}
+use Rattle.lsys_kept.specs.Seats.{is_marked, SameSeats, KeepsSeats}
 use Rattle.lsys_candidates.proofs.finds.mark_all.Given as goal
 
 abbrev pub invariant-loop-node : goal.invariant-loop-node

@@ -1,5 +1,5 @@
 use Rattle.std.proofs.Common.{◌≡◌, true, false, sym, subst, inl, inr}
-use Rattle.lsys_seats.specs.Seats.{is_marked}
+use Rattle.lsys_kept.specs.Seats.{is_marked}
 use Rattle.lsys_candidates.specs.Finds.{Gathers}
 use Rattle.lsys_candidates.proofs.Gathering.{marked_or_not, gathers_old}
 use Rattle.lsys_candidates.proofs.gather.gather.Goals as goal

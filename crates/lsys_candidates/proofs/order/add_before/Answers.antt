@@ -1,7 +1,7 @@
 use Rattle.std.proofs.Common.{◌≡◌, ◌<◌, ◌+◌, Some, true, false, length, slice_get, refl, sym, ◌∙◌, subst, arith}
 use Rattle.std.proofs.lemmas.Option.{slice_get_read, slice_get_within, same_Some}
 use Rattle.lsys_forest.specs.Rows.{place_of_node}
-use Rattle.lsys_seats.proofs.LevelLemmas.{got_in}
+use Rattle.lsys_kept.proofs.LevelLemmas.{got_in}
 use Rattle.lsys_candidates.specs.Merges.{AreMerged}
 use Rattle.lsys_candidates.proofs.Merging.{add_right, not_before}
 use Rattle.lsys_candidates.proofs.order.add_before.Goals as goal

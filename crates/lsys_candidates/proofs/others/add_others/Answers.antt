@@ -1,7 +1,7 @@
 use Rattle.std.proofs.Common.{◌≡◌, Some, length, slice_get, [], ◌∷◌, refl, ◌∙◌, subst}
 use Rattle.std.proofs.lemmas.Option.{slice_get_read}
 use Rattle.lsys_forest.specs.Groves.{now_of}
-use Rattle.lsys_seats.proofs.LevelLemmas.{got_in}
+use Rattle.lsys_kept.proofs.LevelLemmas.{got_in}
 use Rattle.lsys_candidates.specs.Others.{RulesOf, IsOtherwise}
 use Rattle.lsys_candidates.specs.Asks.{AddsOf}
 use Rattle.lsys_candidates.proofs.Adding.{adds_start, adds_next, adds_all}

@@ -5,7 +5,7 @@ use Rattle.lsys_level.specs.Spots.{Module}
 use Rattle.lsys_forest.specs.Groves.{now_of}
 use Rattle.lsys_forest.specs.Rows.{spot_in}
 use Rattle.lsys_forest.proofs.SoundLemmas.{some_of}
-use Rattle.lsys_seats.specs.Standings.{seen_at}
+use Rattle.lsys_kept.specs.Standings.{seen_at}
 use Rattle.lsys_candidates.specs.Others.{are_alike}
 use Rattle.lsys_candidates.proofs.others.is_otherwise.Goals as goal
 

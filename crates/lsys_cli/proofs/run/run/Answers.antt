@@ -52,7 +52,7 @@ returns-in_default-clause-ends g c =
     let going = unless_end c.in-Ok.read not_end (c.in-Ok.ensures.was_going c.lines.invariant.going) in
     let broke = stuck g.K.Sink.written g.K.Sink.faults c.lines.sink c.answer_line.new.sink c.answer_line.new.out c.in-Ok.read (g.D.Derivation.limit_of c.lines.desk.derivation) c.lines.reader c.next_line.new.self
     (g.S.Source.left c.lines.source) (g.S.Source.left c.next_line.new.source) (desk_on g.D.Derivation.system_of c.lines.desk) (desk_on g.D.Derivation.system_of c.answer_line.new.desk) c.line.result.now c.in_default.field-0
-    not_end c.in-Ok.ensures.line c.in-Ok.ensures.long c.line.ensures c.in_default.ensures.replies in
+    not_end c.in-Ok.ensures.line c.in-Ok.ensures.long c.line.ensures c.in_default.ensures.heeds in
     write_fault g.D.Derivation.visits (g.D.Derivation.limit_of c.args.desk.now.derivation) (g.D.Derivation.limit_of c.lines.desk.derivation) (g.S.Source.left c.args.source.now) (g.S.Source.left c.lines.source) (g.S.Source.left c.next_line.new.source)
     (seen g.K.Sink.written c.args.sink.now c.args.asked.now c.args.visited.now) (seen g.K.Sink.written c.lines.sink c.lines.asked c.lines.visited) (seen g.K.Sink.written c.answer_line.new.sink c.answer_line.new.asked c.answer_line.new.visited) c.lines.reader c.next_line.new.self (desk_on g.D.Derivation.system_of c.lines.desk)
     c.lines.tally.refused c.lines.tally.memory c.lines.invariant.limit going c.lines.invariant.far broke
@@ -65,7 +65,7 @@ returns-then-eq-2-clause-ends g c =
     let turn = turned g.K.Sink.written g.K.Sink.faults c.lines.sink c.answer_line.new.sink c.answer_line.new.out c.in-Ok.read g.D.Derivation.visits (g.D.Derivation.limit_of c.lines.desk.derivation) c.lines.reader c.next_line.new.self
     (g.S.Source.left c.lines.source) (g.S.Source.left c.next_line.new.source) (desk_on g.D.Derivation.system_of c.lines.desk) (desk_on g.D.Derivation.system_of c.answer_line.new.desk) c.line.result.now c.in-Ok-answer_line.outcome
     (record { asked = c.lines.asked; visited = c.lines.visited }) (record { asked = c.answer_line.new.asked; visited = c.answer_line.new.visited })
-    not_end c.in-Ok.ensures.line c.in-Ok.ensures.long c.line.ensures c.in-Ok-answer_line.ensures.replies c.in-Ok-answer_line.ensures.counts in
+    not_end c.in-Ok.ensures.line c.in-Ok.ensures.long c.line.ensures c.in-Ok-answer_line.ensures.heeds c.in-Ok-answer_line.ensures.counts in
     let done = quits g.D.Derivation.visits (g.D.Derivation.limit_of c.args.desk.now.derivation) (g.D.Derivation.limit_of c.lines.desk.derivation) (g.S.Source.left c.args.source.now) (g.S.Source.left c.lines.source) (g.S.Source.left c.next_line.new.source)
     (seen g.K.Sink.written c.args.sink.now c.args.asked.now c.args.visited.now) (seen g.K.Sink.written c.lines.sink c.lines.asked c.lines.visited) (seen g.K.Sink.written c.answer_line.new.sink c.answer_line.new.asked c.answer_line.new.visited) c.lines.reader c.next_line.new.self (desk_on g.D.Derivation.system_of c.lines.desk) (desk_on g.D.Derivation.system_of c.answer_line.new.desk)
     c.lines.tally.refused c.lines.tally.memory c.with-tally.result.refused c.with-tally.result.memory c.in-Ok-answer_line.outcome c.lines.invariant.limit going c.next_line.ensures.within
@@ -81,7 +81,7 @@ lines-preserved g c =
     let turn = turned g.K.Sink.written g.K.Sink.faults c.lines.sink c.answer_line.new.sink c.answer_line.new.out c.in-Ok.read g.D.Derivation.visits (g.D.Derivation.limit_of c.lines.desk.derivation) c.lines.reader c.next_line.new.self
     (g.S.Source.left c.lines.source) (g.S.Source.left c.next_line.new.source) (desk_on g.D.Derivation.system_of c.lines.desk) (desk_on g.D.Derivation.system_of c.answer_line.new.desk) c.line.result.now c.in-Ok-answer_line.outcome
     (record { asked = c.lines.asked; visited = c.lines.visited }) (record { asked = c.answer_line.new.asked; visited = c.answer_line.new.visited })
-    not_end c.in-Ok.ensures.line c.in-Ok.ensures.long c.line.ensures c.in-Ok-answer_line.ensures.replies c.in-Ok-answer_line.ensures.counts in
+    not_end c.in-Ok.ensures.line c.in-Ok.ensures.long c.line.ensures c.in-Ok-answer_line.ensures.heeds c.in-Ok-answer_line.ensures.counts in
     record {
       far = goes_on g.D.Derivation.visits (g.D.Derivation.limit_of c.args.desk.now.derivation) (g.D.Derivation.limit_of c.lines.desk.derivation) (g.S.Source.left c.args.source.now) (g.S.Source.left c.lines.source) (g.S.Source.left c.next_line.new.source)
           (seen g.K.Sink.written c.args.sink.now c.args.asked.now c.args.visited.now) (seen g.K.Sink.written c.lines.sink c.lines.asked c.lines.visited) (seen g.K.Sink.written c.answer_line.new.sink c.answer_line.new.asked c.answer_line.new.visited) c.lines.reader c.next_line.new.self (desk_on g.D.Derivation.system_of c.lines.desk) (desk_on g.D.Derivation.system_of c.answer_line.new.desk)

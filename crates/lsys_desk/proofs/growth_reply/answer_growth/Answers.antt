@@ -1,4 +1,4 @@
-use Rattle.lsys_growth_laws.specs.Growth.{growth_at}
+use Rattle.lsys_matrix.specs.Growth.{growth_at}
 use Rattle.lsys_desk.proofs.Growing.{growth_printed, growth_refused}
 use Rattle.lsys_desk.proofs.growth_reply.answer_growth.Goals as goal
 

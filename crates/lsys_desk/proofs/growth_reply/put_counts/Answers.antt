@@ -2,7 +2,7 @@ use Rattle.std.proofs.Common.{◌+◌, drop, map}
 use Rattle.std.specs.Prelude.{flat_map}
 use Rattle.std.proofs.lemmas.List.{take_all}
 use Rattle.lsys_io.proofs.Puts.{puts_nothing, puts_then, puts_failed}
-use Rattle.lsys_growth_laws.specs.Growth.{count_line}
+use Rattle.lsys_matrix.specs.Growth.{count_line}
 use Rattle.lsys_growth.specs.Views.{count_of}
 use Rattle.lsys_desk.proofs.CountTexts.{counts-step, counts-rest}
 use Rattle.lsys_desk.proofs.growth_reply.put_counts.Goals as goal

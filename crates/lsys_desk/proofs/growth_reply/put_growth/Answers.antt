@@ -1,7 +1,7 @@
 use Rattle.std.proofs.Common.{◌++◌}
 use Rattle.std.specs.Prelude.{decimal, flat_map}
 use Rattle.lsys_spec.specs.Refusals.{line_feed}
-use Rattle.lsys_growth_laws.specs.Growth.{count_line}
+use Rattle.lsys_matrix.specs.Growth.{count_line}
 use Rattle.lsys_io.proofs.Puts.{puts_then, puts_failed}
 use Rattle.lsys_desk.proofs.growth_reply.put_growth.Goals as goal
 

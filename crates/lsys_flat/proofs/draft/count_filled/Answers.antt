@@ -1,5 +1,5 @@
 use Rattle.std.proofs.Common.{arith}
-use Rattle.lsys_round.proofs.News.{filled_most}
+use Rattle.lsys_flat.proofs.News.{filled_most}
 use Rattle.lsys_flat.proofs.draft.count_filled.Goals as goal
 
 pub overflow_add-count : goal.overflow_add-count

@@ -1,5 +1,5 @@
 use Rattle.std.proofs.Common.{◌≡◌, ◌+◌, drop}
-use Rattle.lsys_counts.specs.Slots.{filled}
+use Rattle.lsys_flat.specs.Slots.{filled}
 use Rattle.lsys_flat.proofs.draft.count_filled.Given as goal
 
 abbrev pub invariant-loop-slot : goal.invariant-loop-slot

@@ -1,8 +1,8 @@
 use Rattle.std.proofs.Common.{◌≡◌, ◌≤◌, ◌+◌, take, length, map, sym, ap, ◌∙◌, arith, take_all, get_or}
 use Rattle.std.specs.Prelude.{sum_by}
 use Rattle.std.proofs.lemmas.List.Sums.{sum_by_more, sum_by_more_le}
-use Rattle.lsys_revision.specs.Lines.{line_of}
-use Rattle.lsys_revision.specs.Revised.{tags_of}
+use Rattle.lsys_flat.specs.Lines.{line_of}
+use Rattle.lsys_flat.specs.Revised.{tags_of}
 use Rattle.lsys_flat.proofs.Showing.{tags_in, tags_sum}
 use Rattle.lsys_flat.proofs.levels.total_of.Goals as goal
 

@@ -1,6 +1,6 @@
 use Rattle.std.proofs.Common.{map, arith}
-use Rattle.lsys_keeping.specs.Answers.{lists_of}
-use Rattle.lsys_revision.specs.Lines.{line_of}
+use Rattle.lsys_flat.specs.Answers.{lists_of}
+use Rattle.lsys_flat.specs.Lines.{line_of}
 use Rattle.lsys_flat.proofs.DraftingSteps.{few_filled, is_planned}
 use Rattle.lsys_flat.proofs.plan.planned.Goals as goal
 

@@ -3,8 +3,8 @@ use Rattle.std.proofs.lemmas.Option.{slice_get_read}
 use Rattle.lsys_change.specs.Children.{is_open}
 use Rattle.lsys_forest.specs.Groves.{now_of}
 use Rattle.lsys_forest.proofs.WalkLemmas.{get_In}
-use Rattle.lsys_seats.proofs.SeamLemmas.{in_taken_next, in_all_taken, none_taken}
-use Rattle.lsys_next.specs.Answers.{kept_successors}
+use Rattle.lsys_kept.proofs.SeamLemmas.{in_taken_next, in_all_taken, none_taken}
+use Rattle.lsys_repair.specs.Answers.{kept_successors}
 use Rattle.lsys_front.proofs.parents.any_opens.Goals as goal
 
 pub loop-node-init : goal.loop-node-init

@@ -2,7 +2,7 @@ use Rattle.std.proofs.Common.{◌≡◌, List, ℕ, true, map, sym, subst, ◌�
 use Rattle.std.specs.Prelude.{Option, Some}
 use Rattle.lsys_module.specs.Views.{module_name}
 use Rattle.lsys_matrix.specs.Matrices.{place}
-use Rattle.lsys_growth_laws.specs.Growth.{in_class}
+use Rattle.lsys_matrix.specs.Growth.{in_class}
 use Rattle.lsys_growth.specs.Letters.{AreLettersOf}
 use Rattle.lsys_growth.specs.Steps.{IsLevelRow}
 use Rattle.lsys_growth.specs.Census.{IsCensus}

@@ -2,7 +2,7 @@ use Rattle.std.proofs.Common.{List, ℕ, map, subst, ◌∙◌, arith}
 use Rattle.std.specs.Prelude.{Option}
 use Rattle.lsys_module.specs.Views.{module_name}
 use Rattle.lsys_matrix.specs.Matrices.{IsRowTimes}
-use Rattle.lsys_growth_laws.specs.Counts.{step_matrix}
+use Rattle.lsys_matrix.specs.Counts.{step_matrix}
 use Rattle.lsys_growth.specs.Steps.{width, AfterSteps}
 use Rattle.lsys_growth.proofs.Stepping.{next_run}
 use Rattle.lsys_growth.proofs.steps.after_steps.Goals as goal

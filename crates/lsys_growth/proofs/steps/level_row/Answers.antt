@@ -1,6 +1,6 @@
 use Rattle.std.proofs.Common.{◌≡◌, ◌<◌, ℕ, map, ap, subst, length, ◌/◌, ◌%◌}
 use Rattle.lsys_module.specs.Views.{module_name}
-use Rattle.lsys_growth_laws.specs.Counts.{first_counts}
+use Rattle.lsys_matrix.specs.Counts.{first_counts}
 use Rattle.lsys_growth.specs.Steps.{IsLevelRow, AfterSteps, AfterTurns}
 use Rattle.lsys_growth.proofs.Stepping.{level_row}
 use Rattle.lsys_growth.proofs.Results.{if_ok}

@@ -1,6 +1,6 @@
 use Rattle.std.proofs.Common.{map, ◌∙◌, arith}
 use Rattle.lsys_module.specs.Views.{module_name}
-use Rattle.lsys_growth_laws.specs.Counts.{step_matrix}
+use Rattle.lsys_matrix.specs.Counts.{step_matrix}
 use Rattle.lsys_growth.specs.Steps.{width}
 use Rattle.lsys_growth.proofs.Stepping.{next_product}
 use Rattle.lsys_growth.proofs.steps.turn.Goals as goal

@@ -2,7 +2,7 @@ use Rattle.std.proofs.Common.{◌≡◌, ◌+◌, ◌-◌, ◌≤◌, map}
 use Rattle.lsys_module.specs.Views.{module_name}
 use Rattle.lsys_matrix.specs.Sums.{steps_product}
 use Rattle.lsys_matrix.specs.Matrices.{IsMatrix}
-use Rattle.lsys_growth_laws.specs.Counts.{step_matrix}
+use Rattle.lsys_matrix.specs.Counts.{step_matrix}
 use Rattle.lsys_growth.specs.Steps.{width}
 use Rattle.lsys_growth.proofs.steps.turn.Given as goal
 

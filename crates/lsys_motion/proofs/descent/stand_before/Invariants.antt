@@ -1,5 +1,5 @@
 use Rattle.std.proofs.Common.{◌≡◌, length}
-use Rattle.lsys_effects.specs.Effects.{at_start}
+use Rattle.lsys_lattice.specs.Effects.{at_start}
 use Rattle.lsys_motion.specs.Pieces.{IsNear, IsNearTo, found}
 use Rattle.lsys_motion.proofs.descent.stand_before.Given as goal
 

@@ -1,4 +1,4 @@
-use Rattle.lsys_effects.specs.Bounds.{bounds_of}
+use Rattle.lsys_lattice.specs.Bounds.{bounds_of}
 use Rattle.lsys_lattice.specs.Wide.{extents_of}
 use Rattle.lsys_forest.specs.Rows.{complete_levels}
 use Rattle.lsys_out.specs.Drawings.{last_drawing, last_image}

@@ -6,8 +6,8 @@ use Rattle.lsys_forest.specs.Nodes.{Nodes}
 use Rattle.lsys_forest.specs.Answers.{answers}
 use Rattle.lsys_forest.specs.Groves.{now_of}
 use Rattle.lsys_brood.specs.Children.{Told}
-use Rattle.lsys_next.specs.Nexts.{wanted_count}
-use Rattle.lsys_next.specs.Renewals.{AreSmall, AreAllUnder}
+use Rattle.lsys_repair.specs.Nexts.{wanted_count}
+use Rattle.lsys_repair.specs.Renewals.{AreSmall, AreAllUnder}
 use Rattle.lsys_repair.specs.declared.count.Count.{Count}
 use Rattle.lsys_pass.proofs.Beginnings.{makes_first, room_same, few_live}
 use Rattle.lsys_pass.proofs.beginning.make_first_nodes.Goals as goal

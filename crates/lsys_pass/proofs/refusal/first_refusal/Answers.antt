@@ -1,5 +1,5 @@
 use Rattle.std.proofs.Common.{arith}
-use Rattle.lsys_next.proofs.Lengths.{over_first_count}
+use Rattle.lsys_repair.proofs.Lengths.{over_first_count}
 use Rattle.lsys_pass.proofs.refusal.first_refusal.Goals as goal
 
 pub returns-then-symbols-limit : goal.returns-then-symbols-limit

@@ -4,7 +4,7 @@ use Rattle.lsys_reading.specs.Commands.{numbering_of}
 use Rattle.lsys_brood.specs.declared.child.Child.{Child}
 use Rattle.lsys_brood.proofs.PlacedLemmas.{some_of}
 use Rattle.lsys_wanted.specs.Wishes.{AreWanted}
-use Rattle.lsys_next.specs.Nexts.{node_key}
+use Rattle.lsys_repair.specs.Nexts.{node_key}
 use Rattle.lsys_repair.specs.Parents.{wants}
 use Rattle.lsys_repair.proofs.Needs.{counted, few_counted, wants_short}
 use Rattle.lsys_repair.proofs.count.count_one.Goals as goal

@@ -6,7 +6,7 @@ use Rattle.lsys_match.specs.Kept.{Kept}
 use Rattle.lsys_reading.specs.Commands.{numbering_of}
 use Rattle.lsys_brood.specs.Children.{SpendsNeed}
 use Rattle.lsys_brood.proofs.MatchLemmas.{take_whole}
-use Rattle.lsys_next.specs.Renewals.{AreRenewals}
+use Rattle.lsys_repair.specs.Renewals.{AreRenewals}
 use Rattle.lsys_repair.specs.declared.parent.Parent.{Parent}
 use Rattle.lsys_repair.specs.Parents.{nodes_in}
 use Rattle.lsys_repair.specs.Needs.{need_at_parent, needs}

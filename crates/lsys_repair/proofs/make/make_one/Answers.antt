@@ -8,7 +8,7 @@ use Rattle.lsys_brood.specs.declared.need.Need.{Need}
 use Rattle.lsys_brood.specs.declared.child.Child.{Child}
 use Rattle.lsys_brood.specs.Children.{HasRoomFor, SpendsNeed}
 use Rattle.lsys_wanted.specs.Wishes.{AreWanted}
-use Rattle.lsys_next.specs.Nexts.{node_key}
+use Rattle.lsys_repair.specs.Nexts.{node_key}
 use Rattle.lsys_repair.specs.Parents.{wants}
 use Rattle.lsys_repair.proofs.Needs.{need_there}
 use Rattle.lsys_repair.proofs.make.make_one.Goals as goal

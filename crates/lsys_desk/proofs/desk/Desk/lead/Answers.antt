@@ -1,8 +1,8 @@
 use Rattle.std.proofs.Common.{◌≡◌, ◌∙◌, Ok, Some, ap, refl, subst, sym, true}
 use Rattle.lsys_laws.specs.Sessions.{HasLevels}
-use Rattle.lsys_session.specs.Answers.{Counts}
+use Rattle.lsys_session.specs.Answers.{WasCounted}
 use Rattle.lsys_session.specs.declared.outcome.Outcome.TheVariants as outcomes
-use Rattle.lsys_desk.specs.Answers.{GivesOrLacks, step_answer}
+use Rattle.lsys_desk.specs.Answers.{WasServedOrLacked, step_answer}
 use Rattle.lsys_desk.specs.Steps.{CanStep, steps_after, steps_by}
 use Rattle.lsys_desk.specs.Views.{Bench, bench, desk_on}
 use Rattle.lsys_desk.proofs.Leading.{lacking, step_failed, step_taken}
@@ -37,7 +37,7 @@ returns-in_err-outcome-clause-gives g c =
     let before : Bench _ = bench c.self.inside.session c.self.inside.history in
     let after : Bench _ = bench c.restore.new.self c.self.inside.history in
     subst
-    (λ (b : Bench _). GivesOrLacks g.K.Sink.written g.K.Sink.faults c.args.sink.now c.restore.new.sink c.restore.new.out (desk_on g.D.Derivation.system_of b)
+    (λ (b : Bench _). WasServedOrLacked g.K.Sink.written g.K.Sink.faults c.args.sink.now c.restore.new.sink c.restore.new.out (desk_on g.D.Derivation.system_of b)
     (step_answer (g.D.Derivation.limit_of b.derivation) (desk_on g.D.Derivation.system_of b) c.args.system (steps_by c.args.step b.steps (g.D.Derivation.system_of b.derivation)))
     (desk_on g.D.Derivation.system_of after) c.from_residual.result)
     c.self.view_is
@@ -81,7 +81,7 @@ returns-clause-gives g c =
     c.take_step.ensures ∙ ap (steps_after c.in_ok-outcome.outcome c.args.step c.self.inside.history) (c.in-Ok.ensures.cases ∙ c.system.ensures.system) in
     let after : Bench _ = bench c.restore.new.self c.take_step.new.history in
     subst
-    (λ (b : Bench _). GivesOrLacks g.K.Sink.written g.K.Sink.faults c.args.sink.now c.restore.new.sink c.restore.new.out (desk_on g.D.Derivation.system_of b)
+    (λ (b : Bench _). WasServedOrLacked g.K.Sink.written g.K.Sink.faults c.args.sink.now c.restore.new.sink c.restore.new.out (desk_on g.D.Derivation.system_of b)
     (step_answer (g.D.Derivation.limit_of b.derivation) (desk_on g.D.Derivation.system_of b) c.args.system (steps_by c.args.step b.steps (g.D.Derivation.system_of b.derivation)))
     (desk_on g.D.Derivation.system_of after) (Ok c.in_ok-outcome.outcome))
     c.self.view_is
@@ -94,7 +94,7 @@ returns-clause-limit g c = rw (← c.self.view_is) c.in_ok-outcome.ensures.limit
 pub returns-clause-counts : goal.returns-clause-counts
 returns-clause-counts g c =
     subst
-    (λ (b : Bench _). Counts g.D.Derivation.visits (g.D.Derivation.limit_of b.derivation) true (g.D.Derivation.system_of b.derivation) (g.D.Derivation.system_of c.restore.new.self)
+    (λ (b : Bench _). WasCounted g.D.Derivation.visits (g.D.Derivation.limit_of b.derivation) true (g.D.Derivation.system_of b.derivation) (g.D.Derivation.system_of c.restore.new.self)
     (record { asked = c.args.asked.now; visited = c.args.visited.now }) (record { asked = c.restore.new.asked; visited = c.restore.new.visited }) (Ok c.in_ok-outcome.outcome))
     c.self.view_is c.in_ok-outcome.ensures.counts
 

@@ -4,7 +4,7 @@ use Rattle.lsys_spec.specs.Replies.{levels_of}
 use Rattle.lsys_spec.specs.Output.{memory_or}
 use Rattle.lsys_session.specs.Given.{unless_refused}
 use Rattle.lsys_session.specs.declared.outcome.Outcome.TheVariants as outcomes
-use Rattle.lsys_growth_laws.specs.Growth.{growth_at}
+use Rattle.lsys_matrix.specs.Growth.{growth_at}
 use Rattle.lsys_desks.specs.Desks.{bounds_reply, growth_reply, place_reply}
 use Rattle.lsys_desk.specs.Views.{Bench, bench, desk_line_of, desk_on}
 use Rattle.lsys_desk.proofs.Leading.{bounds_told, growth_told, place_told}

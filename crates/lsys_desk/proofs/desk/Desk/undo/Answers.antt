@@ -1,6 +1,6 @@
 use Rattle.std.proofs.Common.{◌≡◌, ◌∙◌, Some, ap, refl, sym, false}
 use Rattle.lsys_spec.specs.Systems.{System}
-use Rattle.lsys_history.specs.Timelines.{nearest}
+use Rattle.lsys_desks.specs.Timelines.{nearest}
 use Rattle.lsys_laws.specs.Sessions.{HasLevels}
 use Rattle.lsys_session.specs.declared.outcome.Outcome.TheVariants as outcomes
 use Rattle.lsys_desk.specs.Steps.{steps_by}

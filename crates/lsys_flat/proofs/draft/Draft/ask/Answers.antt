@@ -1,10 +1,10 @@
 use Rattle.std.proofs.Common.{◌≡◌, length, set, ap, ◌∙◌, subst, arith}
 use Rattle.std.specs.Prelude.{OnOk}
 use Rattle.lsys_level.specs.Spots.{level_at}
-use Rattle.lsys_round.specs.Rounds.{Rounded}
-use Rattle.lsys_counts.specs.Slots.{filled}
-use Rattle.lsys_keeping.specs.Answers.{lists_of}
-use Rattle.lsys_round.proofs.News.{filled_most}
+use Rattle.lsys_flat.specs.Rounds.{Rounded}
+use Rattle.lsys_flat.specs.Slots.{filled}
+use Rattle.lsys_flat.specs.Answers.{lists_of}
+use Rattle.lsys_flat.proofs.News.{filled_most}
 use Rattle.lsys_flat.specs.Drafts.{Drafted}
 use Rattle.lsys_flat.proofs.DraftingAsked.{has_asked, kept_is, map_set}
 use Rattle.lsys_flat.proofs.draft.Draft.ask.Goals as goal

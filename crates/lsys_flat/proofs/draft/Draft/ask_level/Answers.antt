@@ -1,8 +1,8 @@
 use Rattle.std.proofs.Common.{rules, ◌≡◌, ◌+◌, Err, map, refl, sym, subst}
 use Rattle.lsys_level.specs.Spots.{level_at}
-use Rattle.lsys_keeping.specs.Answers.{level_of, lists_of}
-use Rattle.lsys_revision.specs.Lines.{line_of}
-use Rattle.lsys_round.specs.Rounds.{CanAsk}
+use Rattle.lsys_flat.specs.Answers.{level_of, lists_of}
+use Rattle.lsys_flat.specs.Lines.{line_of}
+use Rattle.lsys_flat.specs.Rounds.{CanAsk}
 use Rattle.lsys_flat.specs.Drafts.{Drafted}
 use Rattle.lsys_flat.proofs.DraftingAnswers.{level_made}
 use Rattle.lsys_flat.proofs.DraftingNext.{can_ask}

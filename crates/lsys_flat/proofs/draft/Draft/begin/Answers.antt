@@ -1,8 +1,8 @@
 use Rattle.std.proofs.Common.{length, ap, ◌∙◌, arith}
 use Rattle.lsys_module.specs.Views.{string_of}
-use Rattle.lsys_offspring.specs.Grown.{nothing_made}
-use Rattle.lsys_offspring.proofs.Short.{axiom_short}
-use Rattle.lsys_round.proofs.Settled.{string_length}
+use Rattle.lsys_flat.specs.Grown.{nothing_made}
+use Rattle.lsys_flat.proofs.Short.{axiom_short}
+use Rattle.lsys_flat.proofs.Settled.{string_length}
 use Rattle.lsys_flat.specs.Drafts.{Drafted}
 use Rattle.lsys_flat.proofs.DraftingFirst.{axiom_made, can_begin, begun, begun_found, begun_refused}
 use Rattle.lsys_flat.proofs.draft.Draft.begin.Goals as goal

@@ -1,7 +1,7 @@
 use Rattle.std.proofs.Common.{rules, ◌≡◌, ◌*◌, Err, map, sym, subst, arith}
-use Rattle.lsys_keeping.specs.Answers.{lists_of}
+use Rattle.lsys_flat.specs.Answers.{lists_of}
 use Rattle.lsys_match.specs.Derivations.{Rises, most_read}
-use Rattle.lsys_revision.specs.Lines.{line_of}
+use Rattle.lsys_flat.specs.Lines.{line_of}
 use Rattle.lsys_flat.specs.Drafts.{IsRefusal}
 use Rattle.lsys_flat.proofs.DraftingNext.{few_before}
 use Rattle.lsys_flat.proofs.DraftingSteps.{olds_still, same_limit}

@@ -2,9 +2,9 @@ use Rattle.std.proofs.Common.{◌≡◌, ◌+◌, ℕ, List, map}
 use Rattle.std.specs.Prelude.{sum_by}
 use Rattle.lsys_spec.specs.Levels as levels
 use Rattle.lsys_laws.specs.Sessions.{IsWell}
-use Rattle.lsys_counts.specs.Slots.{filled}
-use Rattle.lsys_keeping.specs.Answers.{lists_of}
-use Rattle.lsys_revision.specs.Lines.{line_of}
+use Rattle.lsys_flat.specs.Slots.{filled}
+use Rattle.lsys_flat.specs.Answers.{lists_of}
+use Rattle.lsys_flat.specs.Lines.{line_of}
 use Rattle.lsys_flat.specs.Drafts.{AreAllNew, AreOlds, HasFound, IsDraft, IsEmpty}
 use Rattle.lsys_flat.proofs.draft.Draft.complete.Given as goal
 

@@ -2,9 +2,9 @@ use Rattle.std.proofs.Common.{◌≡◌, List, map, sym, ap, ◌∙◌, subst}
 use Rattle.lsys_spec.specs.Levels as L
 use Rattle.lsys_spec.specs.Questions.{questions, least_visits}
 use Rattle.lsys_match.specs.Derivations.{IsDerived, AreMeant, IsCount, KeepsTags, Rises}
-use Rattle.lsys_revision.specs.Lines.{line_of}
-use Rattle.lsys_keeping.specs.Answers.{CanTakeOver, all_moved, lists_of}
-use Rattle.lsys_round.specs.Rounds.{entries_of}
+use Rattle.lsys_flat.specs.Lines.{line_of}
+use Rattle.lsys_flat.specs.Answers.{CanTakeOver, all_moved, lists_of}
+use Rattle.lsys_flat.specs.Rounds.{entries_of}
 use Rattle.lsys_flat.proofs.Keeping.{IsEdit, edited, kept_same, same_told, on_err, can_take, kept_after, derived_after, tags_after, count_after, read_after}
 use Rattle.lsys_flat.proofs.levels.LevelsDerivation.edit.Given.{Over}
 use Rattle.lsys_flat.proofs.levels.LevelsDerivation.edit.Goals.{After-as_slice-3}

@@ -1,8 +1,8 @@
 use Rattle.std.proofs.Common.{◌≡◌, [], ◌∷◌, ◌++◌, map, sym, ap, ◌∙◌, subst}
 use Rattle.lsys_spec.specs.Systems.{opening}
 use Rattle.lsys_level.specs.Places.{spots_of}
-use Rattle.lsys_revision.specs.Lines.{line_of}
-use Rattle.lsys_keeping.specs.Answers.{lists_of}
+use Rattle.lsys_flat.specs.Lines.{line_of}
+use Rattle.lsys_flat.specs.Answers.{lists_of}
 use Rattle.lsys_flat.specs.Derived.{IsKept}
 use Rattle.lsys_flat.proofs.Keeping.{opens}
 use Rattle.lsys_flat.proofs.levels.LevelsDerivation.start.Goals as goal

@@ -1,7 +1,7 @@
 use Rattle.std.proofs.Common.{◌≤◌, length, map, sym, ap, ◌∙◌, subst}
 use Rattle.std.specs.Prelude.{sum_by}
-use Rattle.lsys_revision.specs.Lines.{line_of}
-use Rattle.lsys_revision.specs.Revised.{tags_of}
+use Rattle.lsys_flat.specs.Lines.{line_of}
+use Rattle.lsys_flat.specs.Revised.{tags_of}
 use Rattle.lsys_flat.proofs.Keeping.{all_tags, few_tags}
 use Rattle.lsys_flat.proofs.levels.LevelsDerivation.total.Goals as goal
 

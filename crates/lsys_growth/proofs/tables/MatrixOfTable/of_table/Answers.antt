@@ -1,5 +1,5 @@
 use Rattle.std.proofs.Common.{◌<◌, length, ap, subst, arith}
-use Rattle.lsys_growth_laws.specs.Growth.{letters, most_letters}
+use Rattle.lsys_matrix.specs.Growth.{letters, most_letters}
 use Rattle.lsys_growth.specs.Letters.{AreLettersOf}
 use Rattle.lsys_growth.proofs.tables.MatrixOfTable.of_table.Goals as goal
 

@@ -2,7 +2,7 @@ use Rattle.std.proofs.Common.{◌≡◌, ◌∙◌, ap, arith}
 use Rattle.std.specs.Prelude.{ℤ, neg_ℤ}
 use Rattle.std.proofs.lemmas.Int.{ints}
 use Rattle.lsys_spec.specs.Lattices.{Vector}
-use Rattle.lsys_effects.specs.Rotations.{plus, scaled}
+use Rattle.lsys_lattice.specs.Rotations.{plus, scaled}
 use Rattle.lsys_lattice.specs.Directions.{along}
 use Rattle.lsys_lattice.proofs.cubic.CubicLattice.carry.Goals as goal
 

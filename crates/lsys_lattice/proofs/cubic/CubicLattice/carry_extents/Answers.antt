@@ -1,8 +1,8 @@
 use Rattle.std.proofs.Common.{◌≡◌, ◌∙◌, ap}
 use Rattle.std.specs.Prelude.{ℤ, neg_ℤ}
 use Rattle.lsys_spec.specs.Lattices.{Vector}
-use Rattle.lsys_effects.specs.Rotations.{plus}
-use Rattle.lsys_effects.specs.Extents.{Extents}
+use Rattle.lsys_lattice.specs.Rotations.{plus}
+use Rattle.lsys_lattice.specs.Extents.{Extents}
 use Rattle.lsys_lattice.specs.CubicFrames.{cubic_frame}
 use Rattle.lsys_lattice.specs.CubicTable.{upright_known}
 use Rattle.lsys_lattice.specs.Directions.{along}

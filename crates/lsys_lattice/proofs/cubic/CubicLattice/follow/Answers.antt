@@ -2,8 +2,8 @@ use Rattle.std.proofs.Common.{◌≡◌, ◌∙◌, sym, subst}
 use Rattle.lsys_spec.specs.Lattices.{cubic, Vector, Frame, IsUpright}
 use Rattle.lsys_spec.proofs.Frames.{upright_among}
 use Rattle.lsys_spec.proofs.Turns.{same_frame}
-use Rattle.lsys_effects.specs.Rotations.{followed}
-use Rattle.lsys_effects.proofs.Turning.{followed-known}
+use Rattle.lsys_lattice.specs.Rotations.{followed}
+use Rattle.lsys_lattice.proofs.Turning.{followed-known}
 use Rattle.lsys_lattice.specs.CubicFrames.{cubic_frame}
 use Rattle.lsys_lattice.specs.CubicTable.{upright_known}
 use Rattle.lsys_lattice.proofs.cubic.CubicLattice.follow.Goals as goal

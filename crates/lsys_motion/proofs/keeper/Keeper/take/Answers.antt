@@ -1,7 +1,7 @@
 use Rattle.std.proofs.Common.{◌≡◌, ◌∷◌, sym, ap, subst, ◌∙◌}
 use Rattle.lsys_syntax.specs.Strings as S
 use Rattle.lsys_spec.specs.Pictures.{act}
-use Rattle.lsys_effects.specs.Effects.{done}
+use Rattle.lsys_lattice.specs.Effects.{done}
 use Rattle.lsys_module.specs.Views.{module_name, symbol_of}
 use Rattle.lsys_motion.specs.Keepers.{Keeper, acted, IsBusy, IsClear, IsSmall, Keeps, noted}
 use Rattle.lsys_motion.proofs.Steps.{module_small}

@@ -1,7 +1,7 @@
 use Rattle.std.proofs.Common.{◌≡◌, ◌∙◌, ◌+◌, Some, ap, length, sym, slice_get, arith}
 use Rattle.lsys_spec.specs.Pictures.{Pose}
-use Rattle.lsys_effects.specs.Effects.{at_start}
-use Rattle.lsys_effects.specs.Free.{pose_of}
+use Rattle.lsys_lattice.specs.Effects.{at_start}
+use Rattle.lsys_lattice.specs.Free.{pose_of}
 use Rattle.lsys_motion.specs.Told.{Told}
 use Rattle.lsys_motion.specs.Pieces.{found}
 use Rattle.lsys_motion.proofs.Posing.{length-all, pose_last, pose_before}

@@ -1,7 +1,7 @@
 use Rattle.std.proofs.Common.{subst}
 use Rattle.std.specs.Prelude.{Contains}
 use Rattle.lsys_spec.specs.Lattices.{frames}
-use Rattle.lsys_effects.specs.Effects.{Stand}
+use Rattle.lsys_lattice.specs.Effects.{Stand}
 use Rattle.lsys_motion.proofs.stand.Stand.again.Goals as goal
 
 pub returns-clause-known : goal.returns-clause-known

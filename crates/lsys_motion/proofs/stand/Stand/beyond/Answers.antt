@@ -1,8 +1,8 @@
 use Rattle.std.proofs.Common.{◌≡◌, ℕ, Option, Some, None, refl, ap, ap₂, ◌∙◌}
 use Rattle.std.specs.Option.{option_or}
 use Rattle.lsys_spec.specs.Lattices.{Vector, Frame}
-use Rattle.lsys_effects.specs.Rotations.{plus, carried}
-use Rattle.lsys_effects.specs.Effects.{Stand, width_after, stand_from}
+use Rattle.lsys_lattice.specs.Rotations.{plus, carried}
+use Rattle.lsys_lattice.specs.Effects.{Stand, width_after, stand_from}
 use Rattle.lsys_lattice.specs.Views.{vector_of}
 use Rattle.lsys_motion.proofs.stand.Stand.beyond.Goals as goal
 

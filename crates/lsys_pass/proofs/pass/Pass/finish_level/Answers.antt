@@ -1,6 +1,6 @@
 use Rattle.std.proofs.Common.{◌≡◌, ◌+◌, ◌-◌, ◌<◌, false, length, List, sym, subst, ap, ◌∙◌, arith}
-use Rattle.lsys_next.specs.Nexts.{AreClosed}
-use Rattle.lsys_next.specs.Answers.{kept_successors}
+use Rattle.lsys_repair.specs.Nexts.{AreClosed}
+use Rattle.lsys_repair.specs.Answers.{kept_successors}
 use Rattle.lsys_repair.specs.declared.parent.Parent.{Parent}
 use Rattle.lsys_repair.specs.Needs.{needs}
 use Rattle.lsys_pass.specs.declared.sizes.Size.{Size}

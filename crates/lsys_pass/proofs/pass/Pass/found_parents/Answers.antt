@@ -1,7 +1,7 @@
 use Rattle.std.proofs.Common.{◌≡◌, ℕ, List, false, map, sym, subst, ap, ◌∙◌}
 use Rattle.lsys_change.specs.Children.{is_open}
 use Rattle.lsys_forest.specs.Groves.{In}
-use Rattle.lsys_next.specs.Answers.{kept_successors}
+use Rattle.lsys_repair.specs.Answers.{kept_successors}
 use Rattle.lsys_repair.specs.declared.parent.Parent.{Parent}
 use Rattle.lsys_repair.specs.Parents.{nodes_in, whole}
 use Rattle.lsys_repair.proofs.Walked.{whole_nodes}

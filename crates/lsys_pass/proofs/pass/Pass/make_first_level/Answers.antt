@@ -1,7 +1,7 @@
 use Rattle.std.proofs.Common.{refl, sym, ap, ◌∙◌, subst}
 use Rattle.lsys_spec.specs.Systems.{System}
 use Rattle.lsys_forest.specs.Groves.{now_of}
-use Rattle.lsys_next.specs.Renewals.{AreSmall, AreAllUnder}
+use Rattle.lsys_repair.specs.Renewals.{AreSmall, AreAllUnder}
 use Rattle.lsys_pass.specs.Passes.{PassView, now}
 use Rattle.lsys_pass.specs.Beginnings.{MakesFirst, WasStill}
 use Rattle.lsys_pass.proofs.Beginnings.{was_small, was_under, seats_stay, failed_still, first_fresh, first_goes}

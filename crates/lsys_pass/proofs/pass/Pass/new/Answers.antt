@@ -1,5 +1,5 @@
 use Rattle.std.proofs.Common.{◌∙◌, subst}
-use Rattle.lsys_seats.specs.Seats.{HasSeat}
+use Rattle.lsys_kept.specs.Seats.{HasSeat}
 use Rattle.lsys_pass.proofs.Openings.{none_live}
 use Rattle.lsys_pass.proofs.Backing.{same_resting, new_pass}
 use Rattle.lsys_pass.proofs.pass.Pass.new.Goals as goal

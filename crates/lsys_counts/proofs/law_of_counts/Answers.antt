@@ -1,8 +1,0 @@
-use Rattle.lsys_counts.proofs.Levels.{counted_news, counted_all}
-use Rattle.lsys_counts.proofs.law_of_counts.Goals as goal
-
-pub returns-clause-need : goal.returns-clause-need
-returns-clause-need c = counted_news
-
-pub returns-clause-all : goal.returns-clause-all
-returns-clause-all c = counted_all

@@ -1,5 +1,0 @@
-use Rattle.lsys_effects.proofs.Nodes.{part_below}
-use Rattle.lsys_effects.proofs.law_of_nodes.Goals as goal
-
-pub returns : goal.returns
-returns c s t before part behind y b = part_below s b t before part behind y

@@ -1,7 +1,0 @@
-pub mod Rotations
-pub mod Effects
-pub mod Nodes
-pub mod Extents
-pub mod Free
-pub mod Bounds
-pub mod BoundsExamples

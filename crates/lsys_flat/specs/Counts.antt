@@ -1,0 +1,24 @@
+-- Where children come from, by their places or by their names.
+use Rattle.std.specs.Prelude.{◌≡◌, ◌<◌, ◌==◌, ℕ, List, length, count_by, nat_eq}
+use Rattle.std.specs.HashMap.{get}
+use Rattle.std.specs.Map.{count_at}
+use Rattle.lsys_syntax.specs.Commands.{Numbering, by_place, by_name}
+use Rattle.lsys_spec.specs.Draws.{number_base}
+use Rattle.lsys_reading.specs.declared.parts.Numbering.TheVariants as code
+use Rattle.lsys_flat.specs.declared.origin.Origin.{Origin}
+use Rattle.lsys_flat.specs.declared.numbers.Numbers.{Numbers}
+
+-- the child with this code, behind n children with these codes
+abbrev pub origin_at : Numbering → ℕ → ℕ → List ℕ → ℕ → Origin
+origin_at by_place parent n before code = record { parent = parent; code = 0; count = n }
+origin_at by_name parent n before code = record { parent = parent; code = code; count = count_by (λ c. c == code) before }
+
+-- n children were numbered, with these codes
+pub record IsBehind (n : ℕ) (before : List ℕ) (a : Numbers) : Type 0 where
+  pub children : a.children ≡ n
+  pub length : length before ≡ n
+  pub counts : a.numbering ≡ code.ByName → (c : ℕ) → count_at (get nat_eq a.counts) c ≡ count_by (λ d. d == c) before
+
+-- fewer were numbered than there are numbers for a code
+abbrev pub AreFew : Numbers → Type 0
+AreFew a = (n : ℕ) × (before : List ℕ) × IsBehind n before a × (n < number_base)

@@ -1,0 +1,77 @@
+//! The level that is being made of the one before it.
+ghost use Rattle.std.specs.Prelude.{◌≡◌, ◌+◌, ◌<◌, ◌≤◌, ◌^◌, ◌++◌, ℕ, List, length, OnOk, Some, slice_get};
+ghost use Rattle.lsys_spec.specs.Draws.{number_base, key_of};
+ghost use Rattle.lsys_spec.specs.Levels as levels;
+ghost use Rattle.lsys_spec.specs.Levels.{lineage};
+ghost use Rattle.lsys_spec.specs.Cuts.{Raw};
+ghost use Rattle.lsys_spec.specs.Meaning.{children};
+ghost use Rattle.lsys_module.specs.Views.{string_of};
+ghost use Rattle.lsys_reading.specs.Commands.{numbering_of};
+ghost use Rattle.lsys_flat.specs.Grown.{nothing_made, IsGrown, IsMade};
+
+use crate::level::Level;
+use crate::made::Made;
+use crate::numbers::Numbers;
+use lsys_module::Symbol;
+use lsys_reading::Numbering;
+use std::alloc::{AllocError, Global};
+use std::marker::Model;
+
+/// The level behind a level, as far as the symbols of this one were replaced.
+#[derive(Drop)]
+pub struct NextLevel {
+    numbers: Numbers,
+    made: Made,
+}
+
+impl Model for NextLevel {
+    ghost use Rattle.lsys_reading.specs.Commands.{numbering_of};
+    ghost use Rattle.lsys_flat.specs.Grown.{Making};
+
+    ghost Value = { Making };
+
+    ghost view = { λ a. record { numbering = numbering_of a.numbers.numbering; grown = a.made } };
+}
+
+impl NextLevel {
+    /// No symbol was replaced yet. The level may have `room` symbols. Takes no memory.
+    pub fn new(alloc: Global, numbering: Numbering, room: usize) -> NextLevel
+        ensures { result ≡ nothing_made (numbering_of numbering) room }
+    {
+        NextLevel {
+            numbers: Numbers::new(alloc, numbering),
+            made: Made::new(alloc, room),
+        }
+    }
+
+    /// Adds what replaces the next symbol of the level before, which has this key: as its children, by their places or by
+    /// their names.
+    ///
+    /// Level 0 is what replaces one symbol whose key is the seed by the axiom.
+    ///
+    /// # Errors
+    ///
+    /// Want of memory. The level is of no use then.
+    pub fn add_children(&mut self, key: u64, successor: &[Symbol]) -> Result<(), AllocError>
+        requires parents { self.old.grown.parents + 1 < 2 ^ 32 }
+        requires few { length successor.now ≤ number_base }
+        ensures added { OnOk result ((seed : ℕ) (above : List levels.Symbol) (raw : List Raw) (parent : levels.Symbol)
+            → IsGrown seed above raw self.old.grown → slice_get above self.old.grown.parents ≡ Some parent
+            → key ≡ key_of seed (lineage parent)
+            → IsGrown seed above (raw ++ children self.old.numbering (lineage parent) (string_of successor.now)) self.new.grown) }
+        ensures parents { OnOk result (self.new.grown.parents ≡ self.old.grown.parents + 1) }
+        ensures room { OnOk result (self.new.grown.room ≡ self.old.grown.room) }
+        ensures numbering { OnOk result (self.new.numbering ≡ self.old.numbering) }
+    {
+        self.made.add_children(&mut self.numbers, key, successor)
+    }
+
+    /// The level, where it has room.
+    pub fn finish(self) -> Option<Level>
+        ensures { (seed : ℕ) (above : List levels.Symbol) (raw : List Raw)
+            → IsGrown seed above raw self.grown
+            → IsMade seed above raw self.grown.room result }
+    {
+        self.made.finish()
+    }
+}

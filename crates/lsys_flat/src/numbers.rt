@@ -1,0 +1,74 @@
+//! Where children come from.
+ghost use Rattle.std.specs.Prelude.{◌≡◌, ◌∷◌, ◌+◌, ℕ, List, [], IfOk, OnOk};
+ghost use Rattle.lsys_spec.specs.Numbers.{code_of};
+ghost use Rattle.lsys_module.specs.Views.{symbol_of};
+ghost use Rattle.lsys_reading.specs.Commands.{numbering_of};
+ghost use Rattle.lsys_flat.specs.Counts.{origin_at, IsBehind, AreFew};
+
+use crate::Origin;
+use lsys_module::Symbol;
+use lsys_reading::Numbering;
+use std::alloc::{AllocError, Global};
+use std::collections::HashMap;
+
+/// What tells the children of a symbol, one after another, from each other.
+#[derive(Drop)]
+pub(crate) struct Numbers {
+    pub(crate) numbering: Numbering,
+    // how many children there were
+    pub(crate) children: u32,
+    // by names, how many of each code
+    pub(crate) counts: HashMap<u64, u32>,
+}
+
+impl Numbers {
+    /// Takes no memory.
+    pub(crate) fn new(alloc: Global, numbering: Numbering) -> Numbers
+        ensures { result.numbering ≡ numbering }
+    {
+        Numbers {
+            numbering,
+            children: 0,
+            counts: HashMap::new(alloc),
+        }
+    }
+
+    /// Begins with the children of another symbol.
+    pub(crate) fn begin(&mut self)
+        ensures behind { IsBehind 0 [] self.new }
+        ensures numbering { self.new.numbering ≡ self.old.numbering }
+    {
+        self.children = 0;
+        self.counts.clear();
+    }
+
+    /// Where the next child comes from, of the parent at this place.
+    pub(crate) fn next(&mut self, parent: u32, child: &Symbol) -> Result<Origin, AllocError>
+        requires few { AreFew self.old }
+        ensures origin { IfOk result (λ origin. (n : ℕ) (before : List ℕ) → IsBehind n before self.old
+            → origin ≡ origin_at (numbering_of self.old.numbering) parent n before (code_of (symbol_of child.now))) }
+        ensures behind { OnOk result ((n : ℕ) (before : List ℕ) → IsBehind n before self.old
+            → IsBehind (n + 1) (code_of (symbol_of child.now) ∷ before) self.new) }
+        ensures numbering { self.new.numbering ≡ self.old.numbering }
+    {
+        let place = self.children;
+        self.children += 1;
+        match self.numbering {
+            Numbering::ByPlace => Ok(Origin {
+                parent,
+                code: 0,
+                count: place,
+            }),
+            Numbering::ByName => {
+                let code = child.code();
+                let count = self.counts.get(&code).copied().unwrap_or(0);
+                self.counts.insert(code, count + 1)?;
+                Ok(Origin {
+                    parent,
+                    code,
+                    count,
+                })
+            }
+        }
+    }
+}

@@ -1,0 +1,149 @@
+//! New levels beside old ones.
+ghost use Rattle.std.specs.Prelude.{◌≡◌, ◌+◌, ◌++◌, ◌∷◌, ◌<◌, ◌^◌, ℕ, true, List, [], length, map, sum_by, slice_index_or, IfOk, OnOk};
+ghost use Rattle.lsys_spec.specs.Levels as levels;
+ghost use Rattle.lsys_level.specs.Spots.{Spotted};
+ghost use Rattle.lsys_flat.specs.Lines.{line_of, no_line};
+ghost use Rattle.lsys_flat.specs.Revised.{AreOldLevels, CanAdd, IsNext, IsRevised};
+
+use crate::ancestry::Ancestry;
+use crate::{Level, TagSupply, pair};
+use lsys_level::{FlatLevels, Tag};
+use std::alloc::{AllocError, Global};
+use std::marker::Model;
+
+/// The levels of a changed system, as far as they were made, beside the old ones.
+#[derive(Drop)]
+pub struct Revision<'a> {
+    olds: &'a [Ancestry],
+    view: FlatLevels,
+    ancestries: Vec<Ancestry>,
+    supply: TagSupply,
+    mates: Vec<Option<u32>>,
+    alloc: Global,
+}
+
+impl<'a> Model for Revision<'a> {
+    ghost use Rattle.std.specs.Prelude.{map};
+    ghost use Rattle.lsys_flat.specs.Lines.{line_of};
+    ghost use Rattle.lsys_flat.specs.Revised.{Revised};
+
+    ghost Value = { Revised };
+
+    ghost view = { λ a. record {
+      old_lines = map line_of a.olds.now;
+      view = a.view;
+      lines = map line_of a.ancestries.items;
+      supply = a.supply;
+      mates = a.mates.items;
+    } };
+}
+
+impl<'a> Revision<'a> {
+    /// No new level was made yet. The tags of the old levels are in use.
+    ///
+    /// # Errors
+    ///
+    /// Want of memory.
+    pub fn new(alloc: Global, olds: &'a [Ancestry]) -> Result<Revision<'a>, AllocError>
+        ensures begun { IfOk result (λ r. (seed : ℕ) (xs : List (List levels.Symbol))
+            → AreOldLevels xs (map line_of olds.now)
+            → IsRevised seed xs [] r) }
+        ensures olds { IfOk result (λ r. r.old_lines ≡ map line_of olds.now) }
+    {
+        let mut supply = TagSupply::new(alloc);
+        for ancestry in olds {
+            supply.mark_all(ancestry.tags.as_slice())?;
+        }
+        let mut mates = Vec::new(alloc);
+        mates.push(Some(0))?;
+        Ok(Revision {
+            olds,
+            view: FlatLevels::new(alloc),
+            ancestries: Vec::new(alloc),
+            supply,
+            mates,
+            alloc,
+        })
+    }
+
+    /// Adds the next level: what the derivation step gave of the level before, or of the axiom.
+    ///
+    /// # Errors
+    ///
+    /// Want of memory. The revision is of no use then.
+    pub fn add_level(&mut self, level: Level) -> Result<(), AllocError>
+        requires { CanAdd self.old level }
+        ensures added { OnOk result ((seed : ℕ) (xs ys : List (List levels.Symbol)) (y : List levels.Symbol)
+            → IsRevised seed xs ys self.old → IsNext seed xs ys y level
+            → IsRevised seed xs (ys ++ y ∷ []) self.new) }
+        ensures olds { self.new.old_lines ≡ self.old.old_lines }
+        ensures above { OnOk result ((row : List Spotted) × (self.new.view ≡ self.old.view ++ row ∷ [])) }
+    {
+        let none = Ancestry {
+            origins: Vec::new(self.alloc),
+            tags: Vec::new(self.alloc),
+        };
+        let old = line_at(self.olds, self.ancestries.len(), &none);
+        let mates = pair(
+            self.alloc,
+            old.origins.as_slice(),
+            level.origins.as_slice(),
+            self.mates.as_slice(),
+        )?;
+        let tags = self
+            .supply
+            .name_level(self.alloc, mates.as_slice(), old.tags.as_slice())?;
+        self.view.push_level(
+            level.symbols,
+            copy_of(self.alloc, tags.as_slice())?,
+            level.keys,
+        )?;
+        self.ancestries.push(Ancestry {
+            origins: level.origins,
+            tags,
+        })?;
+        self.mates = mates;
+        Ok(())
+    }
+
+    /// The new levels.
+    pub fn view(&self) -> &FlatLevels
+        ensures { result.now ≡ self.now.view }
+    {
+        &self.view
+    }
+
+    /// For each symbol of the last new level the place of the old symbol of its lineage, where there is one.
+    pub fn mates(&self) -> &[Option<u32>]
+        ensures { result.now ≡ self.now.mates }
+    {
+        self.mates.as_slice()
+    }
+
+    /// The new levels, with what is kept beside their symbols.
+    pub fn finish(self) -> (FlatLevels, Vec<Ancestry>)
+        ensures view { result.0 ≡ self.entry.view }
+        ensures lines { map line_of result.1.items ≡ self.entry.lines }
+    {
+        (self.view, self.ancestries)
+    }
+}
+
+// The old level, or the empty one where there are no more.
+fn line_at<'b>(old: &'b [Ancestry], level: usize, none: &'b Ancestry) -> &'b Ancestry
+    requires { line_of none.now ≡ no_line }
+    ensures { line_of result.now ≡ slice_index_or (map line_of old.now) level no_line }
+{
+    match old.get(level) {
+        Some(line) => line,
+        None => none,
+    }
+}
+
+fn copy_of(alloc: Global, tags: &[Tag]) -> Result<Vec<Tag>, AllocError>
+    ensures { IfOk result (λ copy. copy.items ≡ tags.now) }
+{
+    let mut copy = Vec::with_capacity(alloc, tags.len())?;
+    copy.extend_from_slice(tags)?;
+    Ok(copy)
+}

@@ -1,3 +1,0 @@
-pub mod Walks
-pub mod Freed
-pub mod Moved

@@ -1,5 +1,0 @@
-use Rattle.lsys_keeping.proofs.Freed.{ReleasingAll}
-use Rattle.lsys_keeping.proofs.release.release_all.Given as goal
-
-abbrev pub invariant-loop-answers : goal.invariant-loop-answers
-invariant-loop-answers g l = ReleasingAll l.fn.store l.store l.fn.levels.items l.yielded l.answers-iterator.rest.items l.answers-iterator.rest.len

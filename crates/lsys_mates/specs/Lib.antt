@@ -1,4 +1,0 @@
-pub mod Generations
-pub mod Below
-pub mod Turned
-pub mod Remade

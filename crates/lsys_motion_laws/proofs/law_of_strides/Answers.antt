@@ -1,8 +1,0 @@
-use Rattle.lsys_motion_laws.proofs.Strides.{led_there, course_inside}
-use Rattle.lsys_motion_laws.proofs.law_of_strides.Goals as goal
-
-pub returns-clause-effect : goal.returns-clause-effect
-returns-clause-effect c = led_there
-
-pub returns-clause-inside : goal.returns-clause-inside
-returns-clause-inside c = course_inside

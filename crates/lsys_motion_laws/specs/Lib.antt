@@ -1,4 +1,0 @@
-pub mod Motions
-pub mod Courses
-pub mod Far
-pub mod Images

@@ -1,4 +1,0 @@
-pub mod Stepping
-pub mod Limiting
-pub mod Growing
-pub mod Short

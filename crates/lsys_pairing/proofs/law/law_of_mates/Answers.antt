@@ -1,5 +1,0 @@
-use Rattle.lsys_pairing.proofs.Apart.{mates_apart}
-use Rattle.lsys_pairing.proofs.law.law_of_mates.Goals as goal
-
-pub returns : goal.returns
-returns c x y places r m = mates_apart x y places r m

@@ -1,5 +1,0 @@
-use Rattle.lsys_pairing.proofs.Lookups.{AreFront}
-use Rattle.lsys_pairing.proofs.places.sorted.Given as goal
-
-abbrev pub invariant-loop-place : goal.invariant-loop-place
-invariant-loop-place l = AreFront l.old l.all.items l.place

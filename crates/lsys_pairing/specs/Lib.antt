@@ -1,5 +1,0 @@
-pub mod Origins
-pub mod Lookups
-pub mod Moves
-pub mod Supplies
-pub mod Tagged

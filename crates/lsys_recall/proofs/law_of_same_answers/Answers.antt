@@ -1,5 +1,0 @@
-use Rattle.lsys_recall.proofs.Same.{same_answers}
-use Rattle.lsys_recall.proofs.law_of_same_answers.Goals as goal
-
-pub returns : goal.returns
-returns c old new t x y p q tag tag' m n a b naming h g f u v = same_answers old new t x y p q tag tag' m n a b naming h g f u v

@@ -1,5 +1,0 @@
-use Rattle.lsys_recall.proofs.Standing.{stands_there}
-use Rattle.lsys_recall.proofs.law_of_trace_tags.Goals as goal
-
-pub returns : goal.returns
-returns c s t bs row p tag m trace h k i = stands_there s t bs row p tag m trace h k i

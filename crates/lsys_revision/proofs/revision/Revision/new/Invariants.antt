@@ -1,8 +1,0 @@
-use Rattle.std.proofs.Common.{[], take, map}
-use Rattle.lsys_pairing.specs.Supplies.{MarksAll}
-use Rattle.lsys_revision.specs.Lines.{line_of}
-use Rattle.lsys_revision.proofs.Marking.{all_tags}
-use Rattle.lsys_revision.proofs.revision.Revision.new.Given as goal
-
-abbrev pub invariant-loop-ancestry : goal.invariant-loop-ancestry
-invariant-loop-ancestry l = MarksAll (all_tags (map line_of (take l.ancestry-index l.olds))) (record { used = []; next = 0 }) l.supply

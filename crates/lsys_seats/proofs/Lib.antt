@@ -1,9 +1,0 @@
-pub mod SeatLemmas
-pub mod LevelLemmas
-pub mod LawLemmas
-pub mod SeamLemmas
-pub mod AddedLemmas
-pub mod LookLemmas
-pub mod BranchLemmas
-pub mod MateLemmas
-pub mod LookedLemmas

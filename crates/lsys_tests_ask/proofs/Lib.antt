@@ -1,2 +1,0 @@
-mod Viewed
-mod Asking

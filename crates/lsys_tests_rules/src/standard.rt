@@ -1,0 +1,106 @@
+//! The ends of std's readers and writers.
+use crate::read_lines::answers;
+use lsys_io::{Failed, Sink, Source, StdSink, StdSource, send_all};
+use std::io;
+use std::io::{Read, Write};
+use std::test::Fail;
+
+/// A reader that always fails.
+#[derive(Drop)]
+struct Broken;
+
+impl Read for Broken {
+    fn read(&mut self, _into: &mut [u8]) -> io::Result<usize> {
+        Err(io::Error::from(io::ErrorKind::Other))
+    }
+}
+
+#[test]
+fn lines_of_a_reader(rt: HostRuntime) -> Result<(), Fail> {
+    let mut source = StdSource::new(b"a\nb".as_slice());
+    let text = answers(rt.alloc(), &mut source, 3)?;
+    assert_eq!(rt; text.as_slice(), b"<a><b>end ".as_slice());
+    let mut source = StdSource::new(Broken);
+    let text = answers(rt.alloc(), &mut source, 2)?;
+    assert_eq!(rt; text.as_slice(), b"fault fault ".as_slice());
+    Ok(())
+}
+
+#[test]
+fn bytes_into_a_writer(rt: HostRuntime) {
+    let mut written = [0u8; 4];
+    let mut sink = StdSink::new(written.as_mut_slice());
+    assert_eq!(rt; send_all(&mut sink, b"abc"), Ok(()));
+    assert_eq!(rt; send_all(&mut sink, b"de"), Err(Failed));
+    drop(sink);
+    assert_eq!(rt; written, *b"abcd");
+}
+
+/// A writer that takes two bytes a call, counts its flushes, and fails at each of them from the second on.
+#[derive(Drop)]
+struct Counting<'a> {
+    flushes: &'a mut u32,
+}
+
+impl Write for Counting<'_> {
+    fn write(&mut self, bytes: &[u8]) -> io::Result<usize> {
+        Ok(bytes.len().min(2))
+    }
+
+    fn flush(&mut self) -> io::Result<()> {
+        *self.flushes = self.flushes.saturating_add(1);
+        if *self.flushes < 2 {
+            Ok(())
+        } else {
+            Err(io::Error::from(io::ErrorKind::Other))
+        }
+    }
+}
+
+#[test]
+fn each_write_is_flushed_and_a_flush_that_fails_is_a_fault(rt: HostRuntime) -> Result<(), Fail> {
+    let mut flushes = 0;
+    let mut sink = StdSink::new(Counting {
+        flushes: &mut flushes,
+    });
+    assert_eq!(rt; sink.write(b"abc"), Ok(2));
+    assert_eq!(rt; send_all(&mut sink, b"abc"), Err(Failed));
+    drop(sink);
+    assert_eq!(rt; flushes, 2);
+    Ok(())
+}
+
+/// A reader that fails once and then gives a byte at each call.
+#[derive(Drop)]
+struct Recovering {
+    failed: bool,
+}
+
+impl Read for Recovering {
+    fn read(&mut self, into: &mut [u8]) -> io::Result<usize> {
+        if !self.failed {
+            self.failed = true;
+            return Err(io::Error::from(io::ErrorKind::Other));
+        }
+        match into.first_mut() {
+            Some(first) => {
+                *first = b'a';
+                Ok(1)
+            }
+            None => Ok(0),
+        }
+    }
+}
+
+#[test]
+fn a_read_that_failed_is_told_and_not_tried_again(rt: HostRuntime) -> Result<(), Fail> {
+    let mut source = StdSource::new(Recovering { failed: false });
+    let mut bytes = [0u8; 2];
+    assert_eq!(rt; source.read(bytes.as_mut_slice()), Err(Failed));
+    assert_eq!(rt; source.read(bytes.as_mut_slice()), Ok(1));
+    assert_eq!(rt; bytes, [b'a', 0]);
+    let mut source = StdSource::new(Recovering { failed: false });
+    let text = answers(rt.alloc(), &mut source, 2)?;
+    assert_eq!(rt; text.as_slice(), b"fault fault ".as_slice());
+    Ok(())
+}

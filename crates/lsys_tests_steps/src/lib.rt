@@ -1,5 +1,0 @@
-//! Tests of one derivation step (scratch crate).
-#![tactic(auto)]
-
-#[cfg(test)]
-mod steps;
