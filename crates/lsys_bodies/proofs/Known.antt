@@ -12,7 +12,7 @@ use Rattle.lsys_reading.specs.declared.images.Image.{Image}
 use Rattle.lsys_reading.specs.declared.patterns.Pattern.{Pattern}
 use Rattle.lsys_reading.specs.declared.patterns.Pattern.TheVariants as patterns
 use Rattle.lsys_reading.specs.declared.patterns.PatternModule.{PatternModule}
-use Rattle.lsys_reading.specs.Patterns.{pattern_of}
+use Rattle.lsys_reading.specs.Patterns.{symbol_read}
 use Rattle.lsys_reading.specs.Heads.{patterns_of}
 use Rattle.lsys_reading.specs.Spans.{part, expr_at, IsSpan, AreSpans}
 use Rattle.lsys_reading.specs.Images.{params_at, image_at, images_at, ImageIsAt, ImagesAreAt}
@@ -58,13 +58,13 @@ known-item fs ks (y ∷ xs) zero x a h e = subst (λ z. SymbolIsKnown fs (image_
 known-item fs ks (y ∷ xs) (suc i) x a h e = known-item fs ks xs i x a.1 (omega arith) e
 
 -- a symbol of a left context is a module
-pub module-item : (xs : List Pattern) (i : ℕ) (x : Pattern) → EachOf IsPattern (patterns_of xs) → i < length xs → x ≡ get_or xs i x → IsPattern (pattern_of x)
+pub module-item : (xs : List Pattern) (i : ℕ) (x : Pattern) → EachOf IsPattern (patterns_of xs) → i < length xs → x ≡ get_or xs i x → IsPattern (symbol_read x)
 module-item [] i x a h e = absurd (omega arith)
-module-item (y ∷ xs) zero x a h e = subst (λ z. IsPattern (pattern_of z)) (sym e) a.0
+module-item (y ∷ xs) zero x a h e = subst (λ z. IsPattern (symbol_read z)) (sym e) a.0
 module-item (y ∷ xs) (suc i) x a h e = module-item xs i x a.1 (omega arith) e
 
 -- one that is another symbol isn't there
-pub not-a-module : (x : Pattern) → ((m : PatternModule) → x ≡ patterns.Module m → ⊥) → IsPattern (pattern_of x) → ⊥
+pub not-a-module : (x : Pattern) → ((m : PatternModule) → x ≡ patterns.Module m → ⊥) → IsPattern (symbol_read x) → ⊥
 not-a-module (patterns.Module m) none h = none m refl
 not-a-module patterns.Push none h = h
 not-a-module patterns.Pop none h = h

@@ -19,13 +19,13 @@ use Rattle.lsys_bodies.specs.declared.body.Item.TheVariants as items
 use Rattle.lsys_bodies.specs.declared.body.Body.{Body}
 use Rattle.lsys_syntax.specs.Smalls.{IsSmall}
 use Rattle.lsys_bodies.specs.Built.{IsBuilt}
-use Rattle.lsys_bodies.specs.Views.{pattern_symbol, pattern_of, item_symbol, nest, tree_of, template_of, written, body_value}
+use Rattle.lsys_bodies.specs.Views.{pattern_symbol, as_pattern, item_symbol, nest, tree_in, template_of, as_rule, body_value}
 use Rattle.lsys_bodies.specs.Building.{CanBuild, symbol_tree}
 
-pub pattern-means : (p : Pattern) → spec.pattern_of (module_name p.name) (map name_of p.formals.items) ≡ pattern_of p
+pub pattern-means : (p : Pattern) → spec.pattern_of (module_name p.name) (map name_of p.formals.items) ≡ as_pattern p
 pattern-means p = ap (λ n. record { name = module_name p.name; arity = n }) (length-map p.formals.items name_of)
 
-pub left-means : (ps : List Pattern) → left_patterns (map pattern_symbol ps) ≡ map pattern_of ps
+pub left-means : (ps : List Pattern) → left_patterns (map pattern_symbol ps) ≡ map as_pattern ps
 left-means [] = refl
 left-means (p ∷ ps) = λ i. pattern-means p i ∷ left-means ps i
 
@@ -45,19 +45,19 @@ templates-mean fs (S.Cut ∷ xs) = ap (λ t. S.Cut ∷ t) (templates-mean fs xs)
 
 -- The parts of a rule, as they are written; the expressions' trees are those that the definitions give.
 pub record IsMade (b : Body) (r : R.Rule) : Type 0 where
-  pub rule : written b ≡ r
-  pub condition : option_map tree_of b.condition ≡ option_map (expr_tree (rule_formals r)) r.condition
-  pub weight : option_map tree_of b.weight ≡ option_map (expr_tree (rule_formals r)) r.weight
+  pub rule : as_rule b ≡ r
+  pub condition : option_map tree_in b.condition ≡ option_map (expr_tree (rule_formals r)) r.condition
+  pub weight : option_map tree_in b.weight ≡ option_map (expr_tree (rule_formals r)) r.weight
   pub successor : map template_of b.successor.items ≡ map (symbol_tree (rule_formals r)) r.successor
 
-means : (b : Body) (r : R.Rule) → IsMade b r → body_of (written b) ≡ body_value b
+means : (b : Body) (r : R.Rule) → IsMade b r → body_of (as_rule b) ≡ body_value b
 means b r h =
-    let condition : option_map (expr_tree (rule_formals (written b))) (written b).condition ≡ option_map tree_of b.condition =
+    let condition : option_map (expr_tree (rule_formals (as_rule b))) (as_rule b).condition ≡ option_map tree_in b.condition =
     ap (λ (q : R.Rule). option_map (expr_tree (rule_formals q)) q.condition) h.rule ∙ sym h.condition in
-    let weight : option_map (expr_tree (rule_formals (written b))) (written b).weight ≡ option_map tree_of b.weight =
+    let weight : option_map (expr_tree (rule_formals (as_rule b))) (as_rule b).weight ≡ option_map tree_in b.weight =
     ap (λ (q : R.Rule). option_map (expr_tree (rule_formals q)) q.weight) h.rule ∙ sym h.weight in
-    let successor : templates (rule_formals (written b)) (written b).successor ≡ map template_of b.successor.items =
-    templates-mean (rule_formals (written b)) (written b).successor ∙ ap (λ (q : R.Rule). map (symbol_tree (rule_formals q)) q.successor) h.rule ∙ sym h.successor in
+    let successor : templates (rule_formals (as_rule b)) (as_rule b).successor ≡ map template_of b.successor.items =
+    templates-mean (rule_formals (as_rule b)) (as_rule b).successor ∙ ap (λ (q : R.Rule). map (symbol_tree (rule_formals q)) q.successor) h.rule ∙ sym h.successor in
     λ i. record {
       left = left-means b.left.items i;
       own = pattern-means b.predecessor i;

@@ -5,7 +5,7 @@ use Rattle.lsys_spec.specs.Bodies.{Pattern, Done, PatternNest, outermost, within
 use Rattle.lsys_spec.specs.Equalities.{same_all, same_pattern, same_patterns}
 use Rattle.lsys_bodies.specs.declared.body.Item.{Item}
 use Rattle.lsys_bodies.specs.declared.body.Item.TheVariants as items
-use Rattle.lsys_bodies.specs.Views.{pattern_of, item_symbol, nest}
+use Rattle.lsys_bodies.specs.Views.{as_pattern, item_symbol, nest}
 use Rattle.lsys_bodies.specs.Same.{same_item}
 
 -- how many brackets end branches that began before
@@ -30,7 +30,7 @@ closers-opened k (within p (within r n)) h = cc
 balanced-closers : (k : ℕ) (xs : List Item) → balanced k (map item_symbol xs) ≡ true → closers (nest xs) ≡ k
 balanced-closers zero [] h = refl
 balanced-closers (suc k) [] h = absurd (search (rules))
-balanced-closers k (items.Pattern p ∷ xs) h = closers-pattern (pattern_of p) (nest xs) ∙ balanced-closers k xs h
+balanced-closers k (items.Pattern p ∷ xs) h = closers-pattern (as_pattern p) (nest xs) ∙ balanced-closers k xs h
 balanced-closers k (items.Push ∷ xs) h = closers-opened k (nest xs) (balanced-closers (suc k) xs h)
 balanced-closers zero (items.Pop ∷ xs) h = cc
 balanced-closers (suc k) (items.Pop ∷ xs) h = ap suc (balanced-closers k xs h)
@@ -112,19 +112,19 @@ pattern-opened q (within p n) (within r (within s m)) = refl
 
 same-nests : (j k : ℕ) (xs ys : List Item) → balanced j (map item_symbol xs) ≡ true → balanced k (map item_symbol ys) ≡ true → same_nest (nest xs) (nest ys) ≡ same_all same_item xs ys
 same-nests j k [] [] h g = refl
-same-nests j k [] (items.Pattern q ∷ ys) h g = pattern-done (pattern_of q) (nest ys)
+same-nests j k [] (items.Pattern q ∷ ys) h g = pattern-done (as_pattern q) (nest ys)
 same-nests j k [] (items.Push ∷ ys) h g = opened-done (nest ys)
 same-nests j k [] (items.Pop ∷ ys) h g = refl
-same-nests j k (items.Pattern p ∷ xs) [] h g = done-pattern (pattern_of p) (nest xs)
-same-nests j k (items.Pattern p ∷ xs) (items.Pattern q ∷ ys) h g = same-pattern (pattern_of p) (pattern_of q) (nest xs) (nest ys) ∙ ap (λ b. same_pattern (pattern_of p) (pattern_of q) && b) (same-nests j k xs ys h g)
-same-nests j k (items.Pattern p ∷ xs) (items.Push ∷ ys) h g = opened-pattern (pattern_of p) (nest xs) (nest ys)
-same-nests j k (items.Pattern p ∷ xs) (items.Pop ∷ ys) h g = within-pattern (pattern_of p) (nest ys) (nest xs)
+same-nests j k (items.Pattern p ∷ xs) [] h g = done-pattern (as_pattern p) (nest xs)
+same-nests j k (items.Pattern p ∷ xs) (items.Pattern q ∷ ys) h g = same-pattern (as_pattern p) (as_pattern q) (nest xs) (nest ys) ∙ ap (λ b. same_pattern (as_pattern p) (as_pattern q) && b) (same-nests j k xs ys h g)
+same-nests j k (items.Pattern p ∷ xs) (items.Push ∷ ys) h g = opened-pattern (as_pattern p) (nest xs) (nest ys)
+same-nests j k (items.Pattern p ∷ xs) (items.Pop ∷ ys) h g = within-pattern (as_pattern p) (nest ys) (nest xs)
 same-nests j k (items.Push ∷ xs) [] h g = done-opened (nest xs)
-same-nests j k (items.Push ∷ xs) (items.Pattern q ∷ ys) h g = pattern-opened (pattern_of q) (nest ys) (nest xs)
+same-nests j k (items.Push ∷ xs) (items.Pattern q ∷ ys) h g = pattern-opened (as_pattern q) (nest ys) (nest xs)
 same-nests j k (items.Push ∷ xs) (items.Push ∷ ys) h g = same-opened j k (nest xs) (nest ys) (balanced-closers (suc j) xs h) (balanced-closers (suc k) ys g) ∙ same-nests (suc j) (suc k) xs ys h g
 same-nests j k (items.Push ∷ xs) (items.Pop ∷ ys) h g = within-opened (nest ys) (nest xs)
 same-nests j k (items.Pop ∷ xs) [] h g = refl
-same-nests j k (items.Pop ∷ xs) (items.Pattern q ∷ ys) h g = pattern-within (pattern_of q) (nest xs) (nest ys)
+same-nests j k (items.Pop ∷ xs) (items.Pattern q ∷ ys) h g = pattern-within (as_pattern q) (nest xs) (nest ys)
 same-nests j k (items.Pop ∷ xs) (items.Push ∷ ys) h g = opened-within (nest xs) (nest ys)
 same-nests zero k (items.Pop ∷ xs) (items.Pop ∷ ys) h g = cc
 same-nests (suc j) zero (items.Pop ∷ xs) (items.Pop ∷ ys) h g = cc

@@ -5,7 +5,7 @@ use Rattle.lsys_syntax.specs.Strings.{Symbol}
 use Rattle.lsys_syntax.specs.Expressions.{Expr}
 use Rattle.lsys_syntax.specs.Checks.{all_formals, rule_formals}
 use Rattle.lsys_spec.specs.Values.{Tree}
-use Rattle.lsys_text.specs.Tokens.{kinds_of, name_of}
+use Rattle.lsys_text.specs.Tokens.{kind_row, name_of}
 use Rattle.lsys_text.specs.declared.token_kind.Token.{Token}
 use Rattle.lsys_expr.specs.Expression.{Expression}
 use Rattle.lsys_reading.specs.Heads.{patterns_of}
@@ -16,18 +16,18 @@ use Rattle.lsys_reading.specs.declared.patterns.Pattern.{Pattern}
 use Rattle.lsys_reading.specs.declared.rule.RuleLine.{RuleLine}
 use Rattle.lsys_reading.specs.declared.span.Span.{Span}
 use Rattle.lsys_bodies.specs.Building.{image_tree, tree_at}
-use Rattle.lsys_bodies.specs.Views.{template_of, tree_of}
+use Rattle.lsys_bodies.specs.Views.{template_of, tree_in}
 use Rattle.lsys_bodies.specs.declared.body.Template.{Template}
 
 -- 1. expressions
 
 -- the tree of the expression at a span, with these formals
 abbrev pub span_tree : List (List ℕ) → List Token → Span → Tree
-span_tree fs ts s = tree_at (map name_of fs) (kinds_of ts) s
+span_tree fs ts s = tree_at (map name_of fs) (kind_row ts) s
 
 -- the tree of an expression, where there is one
 abbrev pub optional_tree : Option Expression → Option Tree
-optional_tree o = option_map tree_of o
+optional_tree o = option_map tree_in o
 
 -- the same of the expression at a span, where there is one
 abbrev pub optional_span_tree : List (List ℕ) → List Token → Option Span → Option Tree
@@ -39,20 +39,20 @@ trees_at fs ts ss = map (span_tree fs ts) ss
 
 -- the expressions at these spans, as they are spelled
 abbrev pub expressions_in : List Token → List Span → List Expr
-expressions_in ts ss = params_at (kinds_of ts) ss
+expressions_in ts ss = params_at (kind_row ts) ss
 
 -- 2. symbols of a successor
 
 -- as it is spelled
 abbrev pub image_in : List Token → Image → Symbol Expr
-image_in ts x = image_at (kinds_of ts) x
+image_in ts x = image_at (kind_row ts) x
 
 abbrev pub images_in : List Token → List Image → List (Symbol Expr)
-images_in ts xs = images_at (kinds_of ts) xs
+images_in ts xs = images_at (kind_row ts) xs
 
 -- its expressions as trees, with these formals
 abbrev pub template_at : List (List ℕ) → List Token → Image → Symbol Tree
-template_at fs ts x = image_tree (map name_of fs) (kinds_of ts) x
+template_at fs ts x = image_tree (map name_of fs) (kind_row ts) x
 
 -- these templates mean the symbols at these places
 abbrev pub MeanImages : List (List ℕ) → List Token → List Image → List Template → Type 0

@@ -23,14 +23,14 @@ use Rattle.lsys_bodies.specs.declared.rule.HomRule.{HomRule}
 -- 1. how a rule is written
 
 -- the syntax tree of an expression
-abbrev pub spelled : Expression → Expr
-spelled e = e.spelled
+abbrev pub expr_in : Expression → Expr
+expr_in e = e.spelled
 
-abbrev pub formals_of : Pattern → List NameText
-formals_of p = map name_of p.formals.items
+abbrev pub pattern_formals : Pattern → List NameText
+pattern_formals p = map name_of p.formals.items
 
 abbrev pub pattern_symbol : Pattern → S.Symbol NameText
-pattern_symbol p = S.Module (module_name p.name) (formals_of p)
+pattern_symbol p = S.Module (module_name p.name) (pattern_formals p)
 
 abbrev pub item_symbol : Item → S.Symbol NameText
 item_symbol items.Push = S.Push
@@ -41,40 +41,40 @@ abbrev pub template_symbol : Template → S.Symbol Expr
 template_symbol templates.Push = S.Push
 template_symbol templates.Pop = S.Pop
 template_symbol templates.Cut = S.Cut
-template_symbol (templates.Module name params) = S.Module (module_name name) (map spelled params.items)
+template_symbol (templates.Module name params) = S.Module (module_name name) (map expr_in params.items)
 
-abbrev pub written : Body → R.Rule
-written b = record {
+abbrev pub as_rule : Body → R.Rule
+as_rule b = record {
   left = map pattern_symbol b.left.items;
   name = module_name b.predecessor.name;
-  formals = formals_of b.predecessor;
+  formals = pattern_formals b.predecessor;
   right = map item_symbol b.right.items;
-  condition = option_map spelled b.condition;
-  weight = option_map spelled b.weight;
+  condition = option_map expr_in b.condition;
+  weight = option_map expr_in b.weight;
   successor = map template_symbol b.successor.items;
 }
 
 abbrev pub rule_of : Rule → R.Rule
-rule_of r = written r.body
+rule_of r = as_rule r.body
 
-abbrev pub production_of : Rule → R.Production
-production_of r = record { table = r.table; label = r.label; rule = rule_of r }
+abbrev pub as_production : Rule → R.Production
+as_production r = record { table = r.table; label = r.label; rule = rule_of r }
 
 abbrev pub homomorphism_of : HomRule → Homomorphism
-homomorphism_of r = record { label = r.label; rule = written r.body }
+homomorphism_of r = record { label = r.label; rule = as_rule r.body }
 
 -- 2. what a body means
 
-abbrev pub tree_of : Expression → Tree
-tree_of e = e.tree
+abbrev pub tree_in : Expression → Tree
+tree_in e = e.tree
 
-abbrev pub pattern_of : Pattern → spec.Pattern
-pattern_of p = record { name = module_name p.name; arity = length p.formals.items }
+abbrev pub as_pattern : Pattern → spec.Pattern
+as_pattern p = record { name = module_name p.name; arity = length p.formals.items }
 
 -- the patterns that items are, and behind each bracket that ends their branch the patterns around it
 abbrev pub nest : List Item → PatternNest
 nest [] = outermost Done
-nest (items.Pattern p ∷ xs) = with_pattern (pattern_of p) (nest xs)
+nest (items.Pattern p ∷ xs) = with_pattern (as_pattern p) (nest xs)
 nest (items.Push ∷ xs) = opened (nest xs)
 nest (items.Pop ∷ xs) = within Done (nest xs)
 
@@ -82,14 +82,14 @@ abbrev pub template_of : Template → S.Symbol Tree
 template_of templates.Push = S.Push
 template_of templates.Pop = S.Pop
 template_of templates.Cut = S.Cut
-template_of (templates.Module name params) = S.Module (module_name name) (map tree_of params.items)
+template_of (templates.Module name params) = S.Module (module_name name) (map tree_in params.items)
 
 abbrev pub body_value : Body → spec.Body
 body_value b = record {
-  left = map pattern_of b.left.items;
-  own = pattern_of b.predecessor;
+  left = map as_pattern b.left.items;
+  own = as_pattern b.predecessor;
   right = innermost (nest b.right.items);
-  condition = option_map tree_of b.condition;
-  weight = option_map tree_of b.weight;
+  condition = option_map tree_in b.condition;
+  weight = option_map tree_in b.weight;
   successor = map template_of b.successor.items;
 }

@@ -3,7 +3,7 @@ ghost use Rattle.std.specs.Prelude.{◌≡◌, map};
 ghost use Rattle.std.specs.Option.{option_map};
 ghost use Rattle.lsys_spec.specs.Bodies.{innermost, body_of};
 ghost use Rattle.lsys_syntax.specs.Smalls.{HaveFewParams};
-ghost use Rattle.lsys_bodies.specs.Views.{pattern_of, nest, template_symbol, template_of, written};
+ghost use Rattle.lsys_bodies.specs.Views.{as_pattern, nest, template_symbol, template_of, as_rule};
 
 use crate::body::{Item, Pattern, SharedBody, Template};
 use lsys_expr::Expr;
@@ -11,7 +11,7 @@ use lsys_expr::Expr;
 impl Pattern {
     /// How many parameters a module has that fits: at most 8 where the pattern is one of a body.
     pub fn arity(&self) -> usize
-        ensures { result ≡ (pattern_of self.now).arity }
+        ensures { result ≡ (as_pattern self.now).arity }
     {
         self.formals.len()
     }
@@ -20,42 +20,42 @@ impl Pattern {
 impl SharedBody {
     /// The patterns of the left context, at most 8, the nearest one last.
     pub fn left(&self) -> &[Pattern]
-        ensures { map pattern_of result.now ≡ (body_of (written self.now)).left }
+        ensures { map as_pattern result.now ≡ (body_of (as_rule self.now)).left }
     {
         &self.get().left
     }
 
     /// The pattern of what is replaced.
     pub fn predecessor(&self) -> &Pattern
-        ensures { pattern_of result.now ≡ (body_of (written self.now)).own }
+        ensures { as_pattern result.now ≡ (body_of (as_rule self.now)).own }
     {
         &self.get().predecessor
     }
 
     /// The items of the right context, at most 16 and balanced, the nearest one first.
     pub fn right(&self) -> &[Item]
-        ensures { innermost (nest result.now) ≡ (body_of (written self.now)).right }
+        ensures { innermost (nest result.now) ≡ (body_of (as_rule self.now)).right }
     {
         &self.get().right
     }
 
     /// The condition, where there is one.
     pub fn condition(&self) -> Option<&Expr>
-        ensures { option_map (λ e. e.now.tree) result ≡ (body_of (written self.now)).condition }
+        ensures { option_map (λ e. e.now.tree) result ≡ (body_of (as_rule self.now)).condition }
     {
         self.get().condition.as_ref()
     }
 
     /// The weight, where there is one.
     pub fn weight(&self) -> Option<&Expr>
-        ensures { option_map (λ e. e.now.tree) result ≡ (body_of (written self.now)).weight }
+        ensures { option_map (λ e. e.now.tree) result ≡ (body_of (as_rule self.now)).weight }
     {
         self.get().weight.as_ref()
     }
 
     /// The templates of the successor, at most 128 and balanced; each has at most 8 parameters.
     pub fn successor(&self) -> &[Template]
-        ensures means { map template_of result.now ≡ (body_of (written self.now)).successor }
+        ensures means { map template_of result.now ≡ (body_of (as_rule self.now)).successor }
         ensures few { HaveFewParams (map template_symbol result.now) }
     {
         &self.get().successor

@@ -1,11 +1,11 @@
 //! Rules built from the places of their parts.
 ghost use Rattle.std.specs.Prelude.{◌≡◌, ◌≤◌, length, map, IfOk};
 ghost use Rattle.std.specs.Option.{option_map};
-ghost use Rattle.lsys_text.specs.Tokens.{kinds_of, name_of};
+ghost use Rattle.lsys_text.specs.Tokens.{kind_row, name_of};
 ghost use Rattle.lsys_reading.specs.Spans.{expr_at, option_at, IsSpan, AreSpans, ConditionIsSpan};
 ghost use Rattle.lsys_reading.specs.Images.{ImageIsAt, ImagesAreAt};
 ghost use Rattle.lsys_reading.specs.RuleLines.{rule_at, IsRuleLine};
-ghost use Rattle.lsys_bodies.specs.Views.{spelled, tree_of, template_symbol, template_of, written, production_of, homomorphism_of};
+ghost use Rattle.lsys_bodies.specs.Views.{expr_in, tree_in, template_symbol, template_of, as_rule, as_production, homomorphism_of};
 ghost use Rattle.lsys_bodies.specs.Building.{IsKnown, AreKnown, OptionIsKnown, SymbolIsKnown, StringIsKnown, CanBuild, production_at, homomorphism_at};
 ghost use Rattle.lsys_bodies.specs.BuiltParts.{image_in, images_in, optional_tree, span_tree, template_at, MeanImages, expressions_in, optional_span_tree, trees_at};
 
@@ -27,9 +27,9 @@ pub fn build_rule(
     tokens: &[Token],
     labeled: &LabeledRule,
 ) -> Result<Rule, AllocError>
-    requires line { IsRuleLine (kinds_of tokens.now) labeled.now.rule }
-    requires checked { CanBuild (rule_at (kinds_of tokens.now) labeled.now.rule) }
-    ensures { IfOk result (λ r. production_of r ≡ production_at (kinds_of tokens.now) labeled.now) }
+    requires line { IsRuleLine (kind_row tokens.now) labeled.now.rule }
+    requires checked { CanBuild (rule_at (kind_row tokens.now) labeled.now.rule) }
+    ensures { IfOk result (λ r. as_production r ≡ production_at (kind_row tokens.now) labeled.now) }
 {
     Ok(Rule {
         table: labeled.table.unwrap_or(Word::from_text(b"main")),
@@ -48,9 +48,9 @@ pub fn build_hom_rule(
     tokens: &[Token],
     labeled: &LabeledRule,
 ) -> Result<HomRule, AllocError>
-    requires line { IsRuleLine (kinds_of tokens.now) labeled.now.rule }
-    requires checked { CanBuild (rule_at (kinds_of tokens.now) labeled.now.rule) }
-    ensures { IfOk result (λ r. homomorphism_of r ≡ homomorphism_at (kinds_of tokens.now) labeled.now) }
+    requires line { IsRuleLine (kind_row tokens.now) labeled.now.rule }
+    requires checked { CanBuild (rule_at (kind_row tokens.now) labeled.now.rule) }
+    ensures { IfOk result (λ r. homomorphism_of r ≡ homomorphism_at (kind_row tokens.now) labeled.now) }
 {
     Ok(HomRule {
         label: labeled.label,
@@ -60,9 +60,9 @@ pub fn build_hom_rule(
 
 // The body of the rule of a line.
 fn build_body(alloc: Global, tokens: &[Token], line: &RuleLine) -> Result<SharedBody, AllocError>
-    requires line { IsRuleLine (kinds_of tokens.now) line.now }
-    requires checked { CanBuild (rule_at (kinds_of tokens.now) line.now) }
-    ensures { IfOk result (λ b. written b ≡ rule_at (kinds_of tokens.now) line.now) }
+    requires line { IsRuleLine (kind_row tokens.now) line.now }
+    requires checked { CanBuild (rule_at (kind_row tokens.now) line.now) }
+    ensures { IfOk result (λ b. as_rule b ≡ rule_at (kind_row tokens.now) line.now) }
 {
     let formals = all_formals(alloc, line)?;
     let body = Body {
@@ -83,10 +83,10 @@ fn optional(
     span: Option<Span>,
     formals: &[Name],
 ) -> Result<Option<Expr>, AllocError>
-    requires span { ConditionIsSpan (kinds_of tokens.now) span }
-    requires known { OptionIsKnown (map name_of formals.now) (option_at (kinds_of tokens.now) span) }
+    requires span { ConditionIsSpan (kind_row tokens.now) span }
+    requires known { OptionIsKnown (map name_of formals.now) (option_at (kind_row tokens.now) span) }
     requires few { length formals.now ≤ 256 }
-    ensures spelled { IfOk result (λ o. option_map spelled o ≡ option_at (kinds_of tokens.now) span) }
+    ensures spelled { IfOk result (λ o. option_map expr_in o ≡ option_at (kind_row tokens.now) span) }
     ensures tree { IfOk result (λ o. optional_tree o ≡ optional_span_tree formals.now tokens.now span) }
 {
     match span {
@@ -101,7 +101,7 @@ fn templates(
     images: &[Image],
     formals: &[Name],
 ) -> Result<Vec<Template>, AllocError>
-    requires spans { ImagesAreAt (kinds_of tokens.now) images.now }
+    requires spans { ImagesAreAt (kind_row tokens.now) images.now }
     requires known { StringIsKnown (map name_of formals.now) (images_in tokens.now images.now) }
     requires few { length formals.now ≤ 256 }
     ensures spelled { IfOk result (λ v. map template_symbol v.items ≡ images_in tokens.now images.now) }
@@ -120,7 +120,7 @@ fn template(
     image: &Image,
     formals: &[Name],
 ) -> Result<Template, AllocError>
-    requires spans { ImageIsAt (kinds_of tokens.now) image.now }
+    requires spans { ImageIsAt (kind_row tokens.now) image.now }
     requires known { SymbolIsKnown (map name_of formals.now) (image_in tokens.now image.now) }
     requires few { length formals.now ≤ 256 }
     ensures spelled { IfOk result (λ t. template_symbol t ≡ image_in tokens.now image.now) }
@@ -143,11 +143,11 @@ fn params(
     spans: &[Span],
     formals: &[Name],
 ) -> Result<Vec<Expr>, AllocError>
-    requires spans { AreSpans (kinds_of tokens.now) spans.now }
+    requires spans { AreSpans (kind_row tokens.now) spans.now }
     requires known { AreKnown (map name_of formals.now) (expressions_in tokens.now spans.now) }
     requires few { length formals.now ≤ 256 }
-    ensures spelled { IfOk result (λ v. map spelled v.items ≡ expressions_in tokens.now spans.now) }
-    ensures trees { IfOk result (λ v. map tree_of v.items ≡ trees_at formals.now tokens.now spans.now) }
+    ensures spelled { IfOk result (λ v. map expr_in v.items ≡ expressions_in tokens.now spans.now) }
+    ensures trees { IfOk result (λ v. map tree_in v.items ≡ trees_at formals.now tokens.now spans.now) }
 {
     let mut params = Vec::with_capacity(alloc, spans.len())?;
     for span in spans {
@@ -162,10 +162,10 @@ fn expression(
     span: Span,
     formals: &[Name],
 ) -> Result<Expr, AllocError>
-    requires span { IsSpan (kinds_of tokens.now) span }
-    requires known { IsKnown (map name_of formals.now) (expr_at (kinds_of tokens.now) span) }
+    requires span { IsSpan (kind_row tokens.now) span }
+    requires known { IsKnown (map name_of formals.now) (expr_at (kind_row tokens.now) span) }
     requires few { length formals.now ≤ 256 }
-    ensures spelled { IfOk result (λ x. x.spelled ≡ expr_at (kinds_of tokens.now) span) }
+    ensures spelled { IfOk result (λ x. x.spelled ≡ expr_at (kind_row tokens.now) span) }
     ensures tree { IfOk result (λ x. x.tree ≡ span_tree formals.now tokens.now span) }
 {
     build_expr(alloc, tokens, span.from, span.to, formals)

@@ -3,7 +3,7 @@ ghost use Rattle.std.specs.Prelude.{◌≡◌, List, map, IfOk, OnOk};
 ghost use Rattle.lsys_syntax.specs.Tokens.{Kind};
 ghost use Rattle.lsys_syntax.specs.Strings.{EachOf};
 ghost use Rattle.lsys_syntax.specs.Rules.{IsPattern};
-ghost use Rattle.lsys_reading.specs.Patterns.{pattern_of};
+ghost use Rattle.lsys_reading.specs.Patterns.{symbol_read};
 ghost use Rattle.lsys_reading.specs.Heads.{patterns_of};
 ghost use Rattle.lsys_bodies.specs.Views.{pattern_symbol, item_symbol};
 ghost use Rattle.lsys_bodies.specs.BuiltParts.{AddsFormalsOf, AreRuleFormals};
@@ -46,7 +46,7 @@ pub(crate) fn right_context(
 }
 
 fn item(alloc: Global, symbol: &ContextSymbol) -> Result<Item, AllocError>
-    ensures { IfOk result (λ x. item_symbol x ≡ pattern_of symbol.now) }
+    ensures { IfOk result (λ x. item_symbol x ≡ symbol_read symbol.now) }
 {
     match symbol {
         ContextSymbol::Module(module) => Ok(Item::Pattern(pattern(alloc, module)?)),

@@ -7,7 +7,7 @@ ghost use Rattle.lsys_spec.specs.Equalities.{same_all, same_body, same_option, s
 ghost use Rattle.lsys_module.specs.Views.{module_name};
 ghost use Rattle.lsys_bodies.specs.Built.{IsBuilt};
 ghost use Rattle.lsys_bodies.specs.Same.{same_item};
-ghost use Rattle.lsys_bodies.specs.Views.{body_value, item_symbol, nest, pattern_of, template_of, tree_of, written};
+ghost use Rattle.lsys_bodies.specs.Views.{body_value, item_symbol, nest, as_pattern, template_of, tree_in, as_rule};
 ghost use Rattle.lsys_bodies.specs.BuiltParts.{optional_tree};
 
 use crate::body::{Body, Item, Pattern, SharedBody, Template};
@@ -18,7 +18,7 @@ impl SharedBody {
     /// Whether both bodies are the same: what they mean, and not how their formals are called. It stops at the first
     /// difference.
     pub fn same(&self, other: &SharedBody) -> bool
-        ensures { result ≡ same_body (body_of (written self.now)) (body_of (written other.now)) }
+        ensures { result ≡ same_body (body_of (as_rule self.now)) (body_of (as_rule other.now)) }
     {
         same_body(self.get(), other.get())
     }
@@ -38,7 +38,7 @@ fn same_body(one: &Body, other: &Body) -> bool
 }
 
 fn same_patterns(one: &[Pattern], other: &[Pattern]) -> bool
-    ensures { result ≡ same_all same_pattern (map pattern_of one.now) (map pattern_of other.now) }
+    ensures { result ≡ same_all same_pattern (map as_pattern one.now) (map as_pattern other.now) }
 {
     let Some((first, more)) = one.split_first() else {
         return other.is_empty();
@@ -50,7 +50,7 @@ fn same_patterns(one: &[Pattern], other: &[Pattern]) -> bool
 }
 
 fn same_pattern(one: &Pattern, other: &Pattern) -> bool
-    ensures { result ≡ same_pattern (pattern_of one.now) (pattern_of other.now) }
+    ensures { result ≡ same_pattern (as_pattern one.now) (as_pattern other.now) }
 {
     same_name(one.name, other.name) && one.formals.len() == other.formals.len()
 }
@@ -133,7 +133,7 @@ fn same_template(one: &Template, other: &Template) -> bool
 }
 
 fn same_params(one: &[Expr], other: &[Expr]) -> bool
-    ensures { result ≡ same_all same_tree (map tree_of one.now) (map tree_of other.now) }
+    ensures { result ≡ same_all same_tree (map tree_in one.now) (map tree_in other.now) }
 {
     let Some((first, more)) = one.split_first() else {
         return other.is_empty();

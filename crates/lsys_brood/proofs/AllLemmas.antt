@@ -2,15 +2,16 @@
 use Rattle.std.proofs.Common.{◌≡◌, ◌≢◌, IsTrue, ◌+◌, ◌≤◌, ◌&&◌, ℕ, zero, suc, Bool, true, false, List, [], ◌∷◌, ◌++◌, length, map, take, slice_get, Option, Some, None, refl, sym, ap, ◌∙◌, arith, inl, inr, subst}
 use Rattle.std.specs.Prelude.{IsSome, cond, not}
 use Rattle.std.proofs.lemmas.Option.{none-some, same_Some}
+use Rattle.lsys_spec.specs.Rows.{In}
 use Rattle.lsys_region.specs.Rooms.{list_room, room_of}
 use Rattle.lsys_forest.specs.Nodes.{Node, Nodes, with_kids}
-use Rattle.lsys_forest.specs.Groves.{Grove, In, AreKids, IsUnder, IsSound, now_of, changes_in, IsLive, Sets, Spends}
+use Rattle.lsys_forest.specs.Groves.{Grove, AreKids, IsUnder, IsRooted, now_of, changes_in, IsLive, Sets, Spends}
 use Rattle.lsys_forest.specs.Rows.{kids_in}
 use Rattle.lsys_brood.specs.declared.child.Child.{Child}
 use Rattle.lsys_brood.specs.declared.number.Number.{Number}
-use Rattle.lsys_brood.specs.Matches.{AreApart, has_number, node_numbered, nodes_where, nodes_without, number_of}
-use Rattle.lsys_brood.specs.Children.{numbers_of, need_at, HasRoomFor, SpendsNeed, AreRenewed, TellsOf, AreMade, AreWhole, born, renewed, Told, Tells, TellsAll, IsNew, HasTurned, KeepsSymbol, KeepsKind, KeepsChildren, births, notes_for, params_for}
-use Rattle.lsys_brood.specs.Steps.{KindsTell, TellsNodes, CanPlace, CanPlaceAll, IsPlaced, IsMatched, Found, FoundOnce}
+use Rattle.lsys_brood.specs.Matches.{AreDifferent, has_number, node_numbered, nodes_where, nodes_without, number_of}
+use Rattle.lsys_brood.specs.Children.{numbers_of, need_at, HasRoomFor, SpendsNeed, AreRenewed, TellsOf, AreFoundOrBorn, AreWhole, born, renewed, ToldNodes, TellsIf, TellsAll, IsNewNode, HasTurned, KeepsSymbol, KeepsKind, KeepsChildren, births, notes_for, params_for}
+use Rattle.lsys_brood.specs.Steps.{KindsTell, TellsNodes, CanPlace, CanPlaceAll, IsPlaced, IsMatched, WasFound, FoundOnce}
 use Rattle.lsys_brood.proofs.Placing.{ArePlaced}
 use Rattle.lsys_brood.proofs.MatchLemmas.{take_next}
 use Rattle.lsys_brood.proofs.StepLemmas.{found_there, found_before, whole_there, births_within, notes_within, params_within, tells_all_keep}
@@ -47,7 +48,7 @@ without_short m qs ks = where_short (λ q. not (has_number qs q)) m ks
 module _ {A : Type 0} where
   -- 1. the loop
 
-  pub placed_start : (f : Grove A) (parent : ℕ) (ws : List Child) (os : List (Option ℕ)) (ks : List ℕ) (t : Told) → ks ≡ [] → ArePlaced f f parent (take 0 ws) (take 0 os) ks t t true
+  pub placed_start : (f : Grove A) (parent : ℕ) (ws : List Child) (os : List (Option ℕ)) (ks : List ℕ) (t : ToldNodes) → ks ≡ [] → ArePlaced f f parent (take 0 ws) (take 0 os) ks t t true
   placed_start f parent ws os ks t none =
       subst (λ us. ArePlaced f f parent us (take 0 os) ks t t true) (sym (take_none ws))
       (subst (λ us. ArePlaced f f parent [] us ks t t true) (sym (take_none os))
@@ -63,7 +64,7 @@ module _ {A : Type 0} where
       })))
 
   -- an old child that is placed next is none of those before
-  not_before : (f now : Grove A) (parent : ℕ) (ws : List Child) (os : List (Option ℕ)) (ks : List ℕ) (t t' : Told) (a : Bool) (i k : ℕ) → CanPlaceAll f parent ws os t → ArePlaced f now parent (take i ws) (take i os) ks t t' a
+  not_before : (f now : Grove A) (parent : ℕ) (ws : List Child) (os : List (Option ℕ)) (ks : List ℕ) (t t' : ToldNodes) (a : Bool) (i k : ℕ) → CanPlaceAll f parent ws os t → ArePlaced f now parent (take i ws) (take i os) ks t t' a
       → slice_get os i ≡ Some (Some k) → In k ks → ⊥
   not_before f now parent ws os ks t t' a i k all placed here h =
       let p = some_of (now_of f parent) all.parent_lives in
@@ -72,7 +73,7 @@ module _ {A : Type 0} where
         | inr none ↦ absurd (grind (arith, none, (all.found k (found_there os i k here)).lives))
       ]
 
-  pub can_place_next : (f now : Grove A) (parent : ℕ) (ws : List Child) (os : List (Option ℕ)) (ks : List ℕ) (t t' : Told) (a : Bool) (i : ℕ) (w : Child) (o : Option ℕ) → CanPlaceAll f parent ws os t
+  pub can_place_next : (f now : Grove A) (parent : ℕ) (ws : List Child) (os : List (Option ℕ)) (ks : List ℕ) (t t' : ToldNodes) (a : Bool) (i : ℕ) (w : Child) (o : Option ℕ) → CanPlaceAll f parent ws os t
       → ArePlaced f now parent (take i ws) (take i os) ks t t' a → slice_get ws i ≡ Some w → slice_get os i ≡ Some o → CanPlace now parent w o t'
   can_place_next f now parent ws os ks t t' a i w o all placed here found = record {
     parent_lives = subst IsSome (sym (placed.changes.others parent placed.other)) all.parent_lives;
@@ -91,7 +92,7 @@ module _ {A : Type 0} where
         };
   }
 
-  pub all_next : (f now new : Grove A) (parent : ℕ) (ws : List Child) (os : List (Option ℕ)) (ks : List ℕ) (t t' t'' : Told) (a b : Bool) (i : ℕ) (w : Child) (o : Option ℕ) (k : ℕ) → CanPlaceAll f parent ws os t
+  pub all_next : (f now new : Grove A) (parent : ℕ) (ws : List Child) (os : List (Option ℕ)) (ks : List ℕ) (t t' t'' : ToldNodes) (a b : Bool) (i : ℕ) (w : Child) (o : Option ℕ) (k : ℕ) → CanPlaceAll f parent ws os t
       → ArePlaced f now parent (take i ws) (take i os) ks t t' a → slice_get ws i ≡ Some w → slice_get os i ≡ Some o → k ≢ parent
       → IsPlaced now new parent w o k → TellsNodes (now_of now) (now_of new) (k ∷ []) t' t'' → KindsTell (now_of now) (now_of new) (k ∷ []) b
       → ArePlaced f new parent (take (i + 1) ws) (take (i + 1) os) (ks ++ k ∷ []) t t'' (a && b)
@@ -103,8 +104,8 @@ module _ {A : Type 0} where
 
   -- 2. before it
 
-  pub can_place_all : (f : Grove A) (parent : ℕ) (ws : List Child) (os : List (Option ℕ)) (gone : List ℕ) (t : Told) → IsSound f.root (changes_in f) (now_of f) → IsLive f parent
-      → ((p : Node A) → now_of f parent ≡ Some p → IsMatched (now_of f) p.kids ws os gone) → AreApart (numbers_of ws) → AreWhole ws
+  pub can_place_all : (f : Grove A) (parent : ℕ) (ws : List Child) (os : List (Option ℕ)) (gone : List ℕ) (t : ToldNodes) → IsRooted f.root (changes_in f) (now_of f) → IsLive f parent
+      → ((p : Node A) → now_of f parent ≡ Some p → IsMatched (now_of f) p.kids ws os gone) → AreDifferent (numbers_of ws) → AreWhole ws
       → ((p : Node A) → now_of f parent ≡ Some p → HasRoomFor f t (need_at (now_of f) p.kids ws)) → CanPlaceAll f parent ws os t
   can_place_all f parent ws os gone t sound lives matched apart whole room =
       let p = some_of (now_of f parent) lives in
@@ -119,12 +120,12 @@ module _ {A : Type 0} where
         notes = omega (arith, r.notes, ap notes_for is);
         told = omega (arith, r.told);
         once = subst FoundOnce (sym is) (found_once (now_of f) p.0.kids (numbers_of ws) apart);
-        found = λ k h. found_old f parent p.0 (numbers_of ws) sound p.1 k (subst (Found k) is h);
+        found = λ k h. found_old f parent p.0 (numbers_of ws) sound p.1 k (subst (WasFound k) is h);
       }
 
   -- 3. behind it
 
-  under_made : (m n : Nodes A) (root parent depth : ℕ) (ws : List Child) (os : List (Option ℕ)) (ks : List ℕ) → AreMade m n parent depth ws os ks → IsSome (m root) → ((k : ℕ) → Found k os → IsUnder m root parent k)
+  under_made : (m n : Nodes A) (root parent depth : ℕ) (ws : List Child) (os : List (Option ℕ)) (ks : List ℕ) → AreFoundOrBorn m n parent depth ws os ks → IsSome (m root) → ((k : ℕ) → WasFound k os → IsUnder m root parent k)
       → (k : ℕ) → In k ks → IsUnder n root parent k
   under_made m n root parent depth [] [] [] made lives under k h = absurd h
   under_made m n root parent depth (w ∷ ws) (None ∷ os) (j ∷ ks) made lives under k (inl e) = record {
@@ -148,7 +149,7 @@ module _ {A : Type 0} where
   under_made m n root parent depth (w ∷ ws) [] ks made lives under k h = absurd made
   under_made m n root parent depth (w ∷ ws) (o ∷ os) [] made lives under k h = absurd made
 
-  pub placed_kids : (f now : Grove A) (parent : ℕ) (ws : List Child) (os : List (Option ℕ)) (ks gone : List ℕ) (t t' : Told) (a : Bool) → IsSound f.root (changes_in f) (now_of f) → IsLive f parent
+  pub placed_kids : (f now : Grove A) (parent : ℕ) (ws : List Child) (os : List (Option ℕ)) (ks gone : List ℕ) (t t' : ToldNodes) (a : Bool) → IsRooted f.root (changes_in f) (now_of f) → IsLive f parent
       → ((p : Node A) → now_of f parent ≡ Some p → IsMatched (now_of f) p.kids ws os gone) → ArePlaced f now parent ws os ks t t' a → AreKids (now_of now) now.root parent ks
   placed_kids f now parent ws os ks gone t t' a sound lives matched placed =
       let p = some_of (now_of f parent) lives in
@@ -157,12 +158,12 @@ module _ {A : Type 0} where
       record {
         under = λ k h. subst (λ r. IsUnder (now_of now) r parent k) (sym placed.changes.root)
             (under_made (now_of f) (now_of now) f.root parent (p.0.depth + 1) ws os ks (placed.made p.0 p.1) (subst IsSome (sym root.1) refl)
-            (λ i found. (sound.own parent p.0 p.1).under i (found_has (now_of f) p.0.kids (numbers_of ws) i (subst (Found i) is found)).0) k h);
+            (λ i found. (sound.own parent p.0 p.1).under i (found_has (now_of f) p.0.kids (numbers_of ws) i (subst (WasFound i) is found)).0) k h);
         apart = placed.apart;
       }
 
   -- what the last steps tell
-  pub record Ends (f now new : Grove A) (parent : ℕ) (gone ks : List ℕ) (t' t'' after : Told) (had kinds : Bool) : Type 0 where
+  pub record Ends (f now new : Grove A) (parent : ℕ) (gone ks : List ℕ) (t' t'' after : ToldNodes) (had kinds : Bool) : Type 0 where
     pub set : (n : Node A) → now_of now parent ≡ Some n → Sets now new parent (with_kids ks n)
     pub spends : Spends now new 0 0 (list_room ks) 1
     pub had_others : (n : Node A) → now_of now parent ≡ Some n → (IsTrue had → n.kids ≢ ks) × (had ≡ false → n.kids ≡ ks)
@@ -176,7 +177,7 @@ module _ {A : Type 0} where
     pub last : after ≡ record t'' { gone = t''.gone ++ gone; room = after.room }
     pub last_room : t''.room ≤ after.room + length gone
 
-  module _ (f now new : Grove A) (parent : ℕ) (ws : List Child) (os : List (Option ℕ)) (ks gone : List ℕ) (t t' t'' after : Told) (had kinds : Bool) (sound : IsSound f.root (changes_in f) (now_of f)) (p : Node A) (is : now_of f parent ≡ Some p)
+  module _ (f now new : Grove A) (parent : ℕ) (ws : List Child) (os : List (Option ℕ)) (ks gone : List ℕ) (t t' t'' after : ToldNodes) (had kinds : Bool) (sound : IsRooted f.root (changes_in f) (now_of f)) (p : Node A) (is : now_of f parent ≡ Some p)
       (matched : IsMatched (now_of f) p.kids ws os gone) (placed : ArePlaced f now parent ws os ks t t' kinds) (ends : Ends f now new parent gone ks t' t'' after had kinds) where
     is_now : now_of now parent ≡ Some p
     is_now = placed.changes.others parent placed.other ∙ is
@@ -192,7 +193,7 @@ module _ {A : Type 0} where
 
     pub renewed_all : AreRenewed (now_of f) (now_of new) parent p ws ks
     renewed_all =
-        let made = subst (λ us. AreMade (now_of f) (now_of new) parent (p.depth + 1) ws us ks) matched.found
+        let made = subst (λ us. AreFoundOrBorn (now_of f) (now_of new) parent (p.depth + 1) ws us ks) matched.found
         (made_keep (now_of f) (now_of now) (now_of new) parent (p.depth + 1) ws os ks (λ j h. same j (apart j h)) (placed.made p is)) in
         record {
           list = list_is;
@@ -210,11 +211,11 @@ module _ {A : Type 0} where
     -- a node whose kind changed was one of the children
     was_kid : (k : ℕ) → In k ks → (KeepsKind (now_of f) (now_of now) k → ⊥) → In k p.kids
     was_kid k h turn = elim (made_from (now_of f) (now_of now) parent (p.depth + 1) ws os ks (placed.made p is) k h) [
-      | inl found ↦ (found_has (now_of f) p.kids (numbers_of ws) k (subst (Found k) matched.found found)).0
+      | inl found ↦ (found_has (now_of f) p.kids (numbers_of ws) k (subst (WasFound k) matched.found found)).0
       | inr none ↦ absurd (turn (λ n there. absurd (none-some n (sym none ∙ there))))
     ]
 
-    touched : (a b : Bool) → had ≡ a → kinds ≡ b → Tells (λ k. KeepsChildren (now_of f) (now_of new) k → ⊥) (KeepsChildren (now_of f) (now_of new)) parent t'.touched t''.touched
+    touched : (a b : Bool) → had ≡ a → kinds ≡ b → TellsIf (λ k. KeepsChildren (now_of f) (now_of new) k → ⊥) (KeepsChildren (now_of f) (now_of new)) parent t'.touched t''.touched
     touched true b e g = inl (λ keep. (ends.had_others p is_now).0 e (sym kids_were ∙ sym keep.list ∙ kids_now), ends.others e)
     touched false false e g =
         let turn = placed.kinds_tell.turn g in
@@ -236,13 +237,13 @@ module _ {A : Type 0} where
 
     pub told_all : TellsOf (now_of f) (now_of new) parent p ws ks t after
     told_all = record {
-      touched = subst (λ b. Tells (λ k. KeepsChildren (now_of f) (now_of new) k → ⊥) (KeepsChildren (now_of f) (now_of new)) parent b after.touched) placed.told.touched
-          (subst (Tells (λ k. KeepsChildren (now_of f) (now_of new) k → ⊥) (KeepsChildren (now_of f) (now_of new)) parent t'.touched) (sym (ap (λ (x : Told). x.touched) ends.last)) (touched had kinds refl refl));
-      changed = subst (TellsAll (HasTurned (now_of f) (now_of new)) (KeepsSymbol (now_of f) (now_of new)) ks t.changed) (sym (ap (λ (x : Told). x.changed) ends.last ∙ ends.changed))
+      touched = subst (λ b. TellsIf (λ k. KeepsChildren (now_of f) (now_of new) k → ⊥) (KeepsChildren (now_of f) (now_of new)) parent b after.touched) placed.told.touched
+          (subst (TellsIf (λ k. KeepsChildren (now_of f) (now_of new) k → ⊥) (KeepsChildren (now_of f) (now_of new)) parent t'.touched) (sym (ap (λ (x : ToldNodes). x.touched) ends.last)) (touched had kinds refl refl));
+      changed = subst (TellsAll (HasTurned (now_of f) (now_of new)) (KeepsSymbol (now_of f) (now_of new)) ks t.changed) (sym (ap (λ (x : ToldNodes). x.changed) ends.last ∙ ends.changed))
           (tells_all_keep (HasTurned (now_of f) (now_of now)) (KeepsSymbol (now_of f) (now_of now)) (HasTurned (now_of f) (now_of new)) (KeepsSymbol (now_of f) (now_of new)) ks t.changed t'.changed
           (λ j h. turned_keep (now_of f) (now_of now) (now_of f) (now_of new) j refl (same j (apart j h))) (λ j h. keeps_keep (now_of f) (now_of now) (now_of f) (now_of new) j refl (same j (apart j h))) placed.told.changed);
-      added = subst (TellsAll (IsNew (now_of f)) (λ k. IsSome (now_of f k)) ks t.added) (sym (ap (λ (x : Told). x.added) ends.last ∙ ends.added)) placed.told.added;
-      gone = ap (λ (x : Told). x.gone) ends.last ∙ ap (λ l. l ++ gone) (ends.gone_same ∙ placed.told.gone) ∙ ap (λ l. t.gone ++ l) matched.left;
+      added = subst (TellsAll (IsNewNode (now_of f)) (λ k. IsSome (now_of f k)) ks t.added) (sym (ap (λ (x : ToldNodes). x.added) ends.last ∙ ends.added)) placed.told.added;
+      gone = ap (λ (x : ToldNodes). x.gone) ends.last ∙ ap (λ l. l ++ gone) (ends.gone_same ∙ placed.told.gone) ∙ ap (λ l. t.gone ++ l) matched.left;
       room = omega (arith, placed.told.room, placed.long, ends.room, ends.last_room, ap length matched.left, without_short (now_of f) (numbers_of ws) p.kids);
     }
 

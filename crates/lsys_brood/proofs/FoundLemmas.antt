@@ -3,13 +3,14 @@ use Rattle.std.proofs.Common.{◌≡◌, ◌≤◌, ◌&&◌, ◌||◌, ℕ, zer
 use Rattle.std.specs.Prelude.{cond, IsSome, nat_eq}
 use Rattle.std.proofs.lemmas.Bool.{cases_eq, ne_eqb}
 use Rattle.std.proofs.lemmas.Option.{none-some, same_Some}
+use Rattle.lsys_spec.specs.Rows.{In}
 use Rattle.lsys_forest.specs.Nodes.{Node, Nodes}
-use Rattle.lsys_forest.specs.Groves.{Grove, In, now_of, changes_in, IsSound}
+use Rattle.lsys_forest.specs.Groves.{Grove, now_of, changes_in, IsRooted}
 use Rattle.lsys_brood.specs.declared.number.Number.{Number}
 use Rattle.lsys_brood.specs.declared.child.Child.{Child}
-use Rattle.lsys_brood.specs.Matches.{same_number, has_number, AreApart, some_or, number_in, number_of, node_numbered}
-use Rattle.lsys_brood.specs.Children.{numbers_of, AreMade, IsMade}
-use Rattle.lsys_brood.specs.Steps.{Found, FoundOnce, IsOldChild}
+use Rattle.lsys_brood.specs.Matches.{same_child_number, has_number, AreDifferent, some_or, node_number, number_of, node_numbered}
+use Rattle.lsys_brood.specs.Children.{numbers_of, AreFoundOrBorn, IsFoundOrBorn}
+use Rattle.lsys_brood.specs.Steps.{WasFound, FoundOnce, IsOldChild}
 
 eq_is : (a b : ℕ) → nat_eq a b ≡ true → a ≡ b
 eq_is a b h = elim (cases_eq a b) [ inl e ↦ e | inr ne ↦ absurd (grind (arith, h, ne_eqb a b ne)) ]
@@ -18,7 +19,7 @@ both : (a b : Bool) → (a && b) ≡ true → (a ≡ true) × (b ≡ true)
 both true b h = (refl, h)
 both false b h = absurd (grind (arith, h))
 
-pub same_is : (a b : Number) → same_number a b ≡ true → a ≡ b
+pub same_is : (a b : Number) → same_child_number a b ≡ true → a ≡ b
 same_is a b h =
     let e = both (nat_eq a.code b.code) (nat_eq a.count b.count) h in
     let code = eq_is a.code b.code e.0 in
@@ -37,28 +38,28 @@ numbers_long (w ∷ ws) (suc i) h = omega (arith, numbers_long ws i (omega (arit
 
 module _ {A : Type 0} where
   -- a node that is found is one of these, and has the number
-  pub numbered_is : (m : Nodes A) (ks : List ℕ) (q : Number) (k : ℕ) → node_numbered m ks q ≡ Some k → In k ks × (same_number (number_of m k) q ≡ true)
+  pub numbered_is : (m : Nodes A) (ks : List ℕ) (q : Number) (k : ℕ) → node_numbered m ks q ≡ Some k → In k ks × (same_child_number (number_of m k) q ≡ true)
   numbered_is m [] q k h = absurd (none-some k h)
-  numbered_is m (x ∷ ks) q k h = go (node_numbered m ks q) (same_number (number_of m x) q) refl (numbered_is m ks q k) h
+  numbered_is m (x ∷ ks) q k h = go (node_numbered m ks q) (same_child_number (number_of m x) q) refl (numbered_is m ks q k) h
     where
-      go : (o : Option ℕ) (b : Bool) → same_number (number_of m x) q ≡ b → (o ≡ Some k → In k ks × (same_number (number_of m k) q ≡ true)) → some_or o (cond b (Some x) None) ≡ Some k → In k (x ∷ ks) × (same_number (number_of m k) q ≡ true)
+      go : (o : Option ℕ) (b : Bool) → same_child_number (number_of m x) q ≡ b → (o ≡ Some k → In k ks × (same_child_number (number_of m k) q ≡ true)) → some_or o (cond b (Some x) None) ≡ Some k → In k (x ∷ ks) × (same_child_number (number_of m k) q ≡ true)
       go (Some j) b f later h = let r = later h in (inr r.0, r.1)
-      go None true f later h = let same = same_Some x k h in (inl (sym same), subst (λ i. same_number (number_of m i) q ≡ true) same f)
+      go None true f later h = let same = same_Some x k h in (inl (sym same), subst (λ i. same_child_number (number_of m i) q ≡ true) same f)
       go None false f later h = absurd (none-some k h)
 
-  pub found_has : (m : Nodes A) (ks : List ℕ) (qs : List Number) (k : ℕ) → Found k (map (node_numbered m ks) qs) → In k ks × (has_number qs (number_of m k) ≡ true)
+  pub found_has : (m : Nodes A) (ks : List ℕ) (qs : List Number) (k : ℕ) → WasFound k (map (node_numbered m ks) qs) → In k ks × (has_number qs (number_of m k) ≡ true)
   found_has m ks [] k h = absurd h
   found_has m ks (q ∷ qs) k (inl e) =
       let r = numbered_is m ks q k e in
       let same = same_is (number_of m k) q r.1 in
-      (r.0, grind (arith, subst (λ (x : Number). same_number x (number_of m k) ≡ true) same (subst (λ (x : Number). same_number (number_of m k) x ≡ true) (sym same) r.1)))
-  found_has m ks (q ∷ qs) k (inr h) = let r = found_has m ks qs k h in (r.0, or_right (same_number q (number_of m k)) r.1)
+      (r.0, grind (arith, subst (λ (x : Number). same_child_number x (number_of m k) ≡ true) same (subst (λ (x : Number). same_child_number (number_of m k) x ≡ true) (sym same) r.1)))
+  found_has m ks (q ∷ qs) k (inr h) = let r = found_has m ks qs k h in (r.0, or_right (same_child_number q (number_of m k)) r.1)
     where
       or_right : (a : Bool) {b : Bool} → b ≡ true → (a || b) ≡ true
       or_right true h = refl
       or_right false h = h
 
-  pub found_once : (m : Nodes A) (ks : List ℕ) (qs : List Number) → AreApart qs → FoundOnce (map (node_numbered m ks) qs)
+  pub found_once : (m : Nodes A) (ks : List ℕ) (qs : List Number) → AreDifferent qs → FoundOnce (map (node_numbered m ks) qs)
   found_once m ks [] apart = tt
   found_once m ks (q ∷ qs) apart = (
     λ j here later.
@@ -69,7 +70,7 @@ module _ {A : Type 0} where
   )
 
   -- an old child is neither its parent nor the root
-  pub found_old : (f : Grove A) (parent : ℕ) (p : Node A) (qs : List Number) → IsSound f.root (changes_in f) (now_of f) → now_of f parent ≡ Some p → (k : ℕ) → Found k (map (node_numbered (now_of f) p.kids) qs) → IsOldChild f parent k
+  pub found_old : (f : Grove A) (parent : ℕ) (p : Node A) (qs : List Number) → IsRooted f.root (changes_in f) (now_of f) → now_of f parent ≡ Some p → (k : ℕ) → WasFound k (map (node_numbered (now_of f) p.kids) qs) → IsOldChild f parent k
   found_old f parent p qs sound is k found =
       let m = now_of f in
       let u = (sound.own parent p is).under k (found_has m p.kids qs k found).0 in
@@ -87,15 +88,15 @@ module _ {A : Type 0} where
       }
 
   -- each child has the number that is wanted
-  pub made_named : (m n : Nodes A) (parent depth : ℕ) (kids : List ℕ) (ws : List Child) (ks : List ℕ) → AreMade m n parent depth ws (map (node_numbered m kids) (numbers_of ws)) ks → map (number_of n) ks ≡ numbers_of ws
+  pub made_named : (m n : Nodes A) (parent depth : ℕ) (kids : List ℕ) (ws : List Child) (ks : List ℕ) → AreFoundOrBorn m n parent depth ws (map (node_numbered m kids) (numbers_of ws)) ks → map (number_of n) ks ≡ numbers_of ws
   made_named m n parent depth kids [] [] made = refl
   made_named m n parent depth kids [] (k ∷ ks) made = absurd made
   made_named m n parent depth kids (w ∷ ws) [] made = absurd made
   made_named m n parent depth kids (w ∷ ws) (k ∷ ks) made =
       ap (λ (q : Number). q ∷ map (number_of n) ks) (one (node_numbered m kids w.number) refl made.0) ∙ ap (λ (qs : List Number). w.number ∷ qs) (made_named m n parent depth kids ws ks made.1)
     where
-      one : (o : Option ℕ) → node_numbered m kids w.number ≡ o → IsMade m n parent depth w o k → number_of n k ≡ w.number
-      one None e made = ap (λ (x : Option (Node A)). number_in x) made.is
+      one : (o : Option ℕ) → node_numbered m kids w.number ≡ o → IsFoundOrBorn m n parent depth w o k → number_of n k ≡ w.number
+      one None e made = ap (λ (x : Option (Node A)). node_number x) made.is
       one (Some j) e made =
           let old = same_is (number_of m j) w.number (numbered_is m kids w.number j e).1 in
-          ap (λ (x : Option (Node A)). number_in x) made.is ∙ sym (ap (λ (x : Option (Node A)). number_in x) made.was) ∙ ap (number_of m) made.same ∙ old
+          ap (λ (x : Option (Node A)). node_number x) made.is ∙ sym (ap (λ (x : Option (Node A)). node_number x) made.was) ∙ ap (number_of m) made.same ∙ old

@@ -6,10 +6,11 @@ use Rattle.std.specs.HashMap.{HashMap, get, hash_map_len}
 use Rattle.std.proofs.Math.Bool.{or-true}
 use Rattle.std.proofs.lemmas.Bool.{cases_eq, eq-eqb, ne_eqb}
 use Rattle.std.proofs.lemmas.Option.{none-some}
+use Rattle.lsys_spec.specs.Rows.{In}
 use Rattle.lsys_brood.specs.declared.number.Number.{Number}
 use Rattle.lsys_forest.specs.Nodes.{Node, Nodes}
-use Rattle.lsys_forest.specs.Groves.{Grove, In, now_of, changes_in, IsLive, IsSound}
-use Rattle.lsys_brood.specs.Matches.{same_number, has_number, AreApart, some_or, number_of, node_numbered, nodes_where, nodes_without, Matched, match_of}
+use Rattle.lsys_forest.specs.Groves.{Grove, now_of, changes_in, IsLive, IsRooted}
+use Rattle.lsys_brood.specs.Matches.{same_child_number, has_number, AreDifferent, some_or, number_of, node_numbered, nodes_where, nodes_without, Matched, match_of}
 
 -- 1. lists
 
@@ -51,34 +52,34 @@ eq_sym a b = elim (cases_eq a b) [
 eq_same : (a : ℕ) → nat_eq a a ≡ true
 eq_same a = eq-eqb a a refl
 
-pub same_sym : (a b : Number) → same_number a b ≡ same_number b a
+pub same_sym : (a b : Number) → same_child_number a b ≡ same_child_number b a
 same_sym a b = ap (λ x. x && nat_eq a.count b.count) (eq_sym a.code b.code) ∙ ap (λ y. nat_eq b.code a.code && y) (eq_sym a.count b.count)
 
-pub same_self : (a : Number) → same_number a a ≡ true
+pub same_self : (a : Number) → same_child_number a a ≡ true
 same_self a = ap (λ x. x && nat_eq a.count a.count) (eq_same a.code) ∙ eq_same a.count
 
 or_false : (a b : Bool) → (a || b) ≡ false → (a ≡ false) × (b ≡ false)
 or_false true b h = cc
 or_false false b h = (refl, h)
 
-has_there : (xs : List Number) (i : ℕ) (x y : Number) → slice_get xs i ≡ Some y → has_number xs x ≡ false → same_number y x ≡ false
+has_there : (xs : List Number) (i : ℕ) (x y : Number) → slice_get xs i ≡ Some y → has_number xs x ≡ false → same_child_number y x ≡ false
 has_there [] i x y h n = absurd (none-some y h)
-has_there (z ∷ xs) zero x y h n = let e : z ≡ y = cc in ap (λ z. same_number z x) (sym e) ∙ (or_false (same_number z x) (has_number xs x) n).0
-has_there (z ∷ xs) (suc i) x y h n = has_there xs i x y h (or_false (same_number z x) (has_number xs x) n).1
+has_there (z ∷ xs) zero x y h n = let e : z ≡ y = cc in ap (λ z. same_child_number z x) (sym e) ∙ (or_false (same_child_number z x) (has_number xs x) n).0
+has_there (z ∷ xs) (suc i) x y h n = has_there xs i x y h (or_false (same_child_number z x) (has_number xs x) n).1
 
 -- none before has the number of one that stands once
-pub apart_before : (xs : List Number) (i : ℕ) (y : Number) → AreApart xs → slice_get xs i ≡ Some y → has_number (take i xs) y ≡ false
+pub apart_before : (xs : List Number) (i : ℕ) (y : Number) → AreDifferent xs → slice_get xs i ≡ Some y → has_number (take i xs) y ≡ false
 apart_before [] i y a h = absurd (none-some y h)
 apart_before (x ∷ xs) zero y a h = refl
 apart_before (x ∷ xs) (suc i) y a h = ap (λ b. b || has_number (take i xs) y) (same_sym x y ∙ has_there xs i x y h a.0) ∙ apart_before xs i y a.1 h
 
-pub has_push : (xs : List Number) (x q : Number) → has_number (xs ++ x ∷ []) q ≡ (has_number xs q || same_number x q)
-has_push [] x q = or_none (same_number x q)
+pub has_push : (xs : List Number) (x q : Number) → has_number (xs ++ x ∷ []) q ≡ (has_number xs q || same_child_number x q)
+has_push [] x q = or_none (same_child_number x q)
   where
     or_none : (b : Bool) → (b || false) ≡ b
     or_none true = refl
     or_none false = refl
-has_push (y ∷ xs) x q = ap (λ b. same_number y q || b) (has_push xs x q) ∙ or_assoc (same_number y q) (has_number xs q) (same_number x q)
+has_push (y ∷ xs) x q = ap (λ b. same_child_number y q || b) (has_push xs x q) ∙ or_assoc (same_child_number y q) (has_number xs q) (same_child_number x q)
   where
     or_assoc : (a b c : Bool) → (a || (b || c)) ≡ ((a || b) || c)
     or_assoc true b c = refl
@@ -104,15 +105,15 @@ abbrev pub same_match : List (Option ℕ) → List ℕ → Matched → Type 0
 same_match found gone m = record { found = found; gone = gone } ≡ m
 
 module _ {A : Type 0} where
-  pub numbered_push : (m : Nodes A) (xs : List ℕ) (k : ℕ) (q : Number) → node_numbered m (xs ++ k ∷ []) q ≡ cond (same_number (number_of m k) q) (Some k) (node_numbered m xs q)
-  numbered_push m [] k q = by (same_number (number_of m k) q)
+  pub numbered_push : (m : Nodes A) (xs : List ℕ) (k : ℕ) (q : Number) → node_numbered m (xs ++ k ∷ []) q ≡ cond (same_child_number (number_of m k) q) (Some k) (node_numbered m xs q)
+  numbered_push m [] k q = by (same_child_number (number_of m k) q)
     where
       by : (b : Bool) → some_or None (cond b (Some k) None) ≡ cond b (Some k) None
       by true = refl
       by false = refl
   numbered_push m (x ∷ xs) k q =
-      ap (λ o. some_or o (cond (same_number (number_of m x) q) (Some x) None)) (numbered_push m xs k q)
-      ∙ by (same_number (number_of m k) q) (node_numbered m xs q) (cond (same_number (number_of m x) q) (Some x) None)
+      ap (λ o. some_or o (cond (same_child_number (number_of m x) q) (Some x) None)) (numbered_push m xs k q)
+      ∙ by (same_child_number (number_of m k) q) (node_numbered m xs q) (cond (same_child_number (number_of m x) q) (Some x) None)
     where
       by : (b : Bool) (o p : Option ℕ) → some_or (cond b (Some k) o) p ≡ cond b (Some k) (some_or o p)
       by true o p = refl
@@ -122,13 +123,13 @@ module _ {A : Type 0} where
   pub numbered_some : (m : Nodes A) (xs : List ℕ) (k : ℕ) → In k xs → is_some (node_numbered m xs (number_of m k)) ≡ true
   numbered_some m [] k h = absurd h
   numbered_some m (x ∷ xs) k (inl e) =
-      ap (λ b. is_some (some_or (node_numbered m xs (number_of m k)) (cond b (Some x) None))) (ap (λ x. same_number (number_of m x) (number_of m k)) (sym e) ∙ same_self (number_of m k))
+      ap (λ b. is_some (some_or (node_numbered m xs (number_of m k)) (cond b (Some x) None))) (ap (λ x. same_child_number (number_of m x) (number_of m k)) (sym e) ∙ same_self (number_of m k))
       ∙ by (node_numbered m xs (number_of m k))
     where
       by : (o : Option ℕ) → is_some (some_or o (Some x)) ≡ true
       by None = refl
       by (Some j) = refl
-  numbered_some m (x ∷ xs) k (inr h) = by (node_numbered m xs (number_of m k)) (cond (same_number (number_of m x) (number_of m k)) (Some x) None) (numbered_some m xs k h)
+  numbered_some m (x ∷ xs) k (inr h) = by (node_numbered m xs (number_of m k)) (cond (same_child_number (number_of m x) (number_of m k)) (Some x) None) (numbered_some m xs k h)
     where
       by : (o p : Option ℕ) → is_some o ≡ true → is_some (some_or o p) ≡ true
       by None p h = cc
@@ -173,7 +174,7 @@ module _ {A : Type 0} where
       λ i. record { found = e i; gone = h i }
 
   -- the children of a live node live, and none is the root
-  pub kids_live : (f : Grove A) (parent : ℕ) (kids : List ℕ) → IsSound f.root (changes_in f) (now_of f) → IsLive f parent → ((n : Node A) → now_of f parent ≡ Some n → kids ≡ n.kids)
+  pub kids_live : (f : Grove A) (parent : ℕ) (kids : List ℕ) → IsRooted f.root (changes_in f) (now_of f) → IsLive f parent → ((n : Node A) → now_of f parent ≡ Some n → kids ≡ n.kids)
       → (k : ℕ) → In k kids → IsLive f k × (k ≢ f.root)
   kids_live f parent kids sound lives told k among =
       let n = some_of (now_of f parent) lives in
@@ -184,11 +185,11 @@ module _ {A : Type 0} where
   -- 4. one step of each loop
 
   pub entered_next : (m : Nodes A) (ks : List ℕ) (at k : ℕ) (number q : Number) (old new : Option ℕ) → slice_get ks at ≡ Some k
-      → new ≡ cond (same_number number q) (Some k) old → number ≡ number_of m k → old ≡ node_numbered m (take at ks) q → new ≡ node_numbered m (take (at + 1) ks) q
+      → new ≡ cond (same_child_number number q) (Some k) old → number ≡ number_of m k → old ≡ node_numbered m (take at ks) q → new ≡ node_numbered m (take (at + 1) ks) q
   entered_next m ks at k number q old new here is named was =
       is
-      ∙ ap (λ n. cond (same_number n q) (Some k) old) named
-      ∙ ap (cond (same_number (number_of m k) q) (Some k)) was
+      ∙ ap (λ n. cond (same_child_number n q) (Some k) old) named
+      ∙ ap (cond (same_child_number (number_of m k) q) (Some k)) was
       ∙ sym (numbered_push m (take at ks) k q)
       ∙ ap (λ l. node_numbered m l q) (sym (take_next ks at k here))
 
@@ -205,8 +206,8 @@ pub record IsTaken (first now : Number → Option ℕ) (qs : List Number) (at : 
   pub found : told ≡ map first (take at qs)
   pub left : (q : Number) → now q ≡ cond (has_number (take at qs) q) None (first q)
 
-pub taken_next : (first now next : Number → Option ℕ) (qs : List Number) (at : ℕ) (x : Number) (found : List (Option ℕ)) (result : Option ℕ) → AreApart qs → slice_get qs at ≡ Some x
-    → IsTaken first now qs at found → result ≡ now x → ((q : Number) → next q ≡ cond (same_number x q) None (now q)) → IsTaken first next qs (at + 1) (found ++ result ∷ [])
+pub taken_next : (first now next : Number → Option ℕ) (qs : List Number) (at : ℕ) (x : Number) (found : List (Option ℕ)) (result : Option ℕ) → AreDifferent qs → slice_get qs at ≡ Some x
+    → IsTaken first now qs at found → result ≡ now x → ((q : Number) → next q ≡ cond (same_child_number x q) None (now q)) → IsTaken first next qs (at + 1) (found ++ result ∷ [])
 taken_next first now next qs at x found result apart here was is left = record {
   found =
       ap (λ l. l ++ result ∷ []) was.found
@@ -215,8 +216,8 @@ taken_next first now next qs at x found result apart here was is left = record {
       ∙ ap (map first) (sym (take_next qs at x here));
   left = λ q.
       left q
-      ∙ ap (cond (same_number x q) None) (was.left q)
-      ∙ taken_push (has_number (take at qs) q) (same_number x q) (first q)
+      ∙ ap (cond (same_child_number x q) None) (was.left q)
+      ∙ taken_push (has_number (take at qs) q) (same_child_number x q) (first q)
       ∙ ap (λ b. cond b None (first q)) (sym (has_push (take at qs) x q))
       ∙ ap (λ l. cond (has_number l q) None (first q)) (sym (take_next qs at x here));
 }
@@ -231,25 +232,25 @@ module _ {A : Type 0} where
   numbered_none : (m : Nodes A) (xs : List ℕ) (q : Number) → has_number (map (number_of m) xs) q ≡ false → node_numbered m xs q ≡ None
   numbered_none m [] q h = refl
   numbered_none m (x ∷ xs) q h =
-      let o = or_false (same_number (number_of m x) q) (has_number (map (number_of m) xs) q) h in
-      ap (λ u. some_or u (cond (same_number (number_of m x) q) (Some x) None)) (numbered_none m xs q o.1)
+      let o = or_false (same_child_number (number_of m x) q) (has_number (map (number_of m) xs) q) h in
+      ap (λ u. some_or u (cond (same_child_number (number_of m x) q) (Some x) None)) (numbered_none m xs q o.1)
       ∙ ap (λ b. cond b (Some x) None) o.0
 
   found_behind : (m : Nodes A) (k : ℕ) (ks : List ℕ) (qs : List Number) → has_number qs (number_of m k) ≡ false → map (node_numbered m (k ∷ ks)) qs ≡ map (node_numbered m ks) qs
   found_behind m k ks [] h = refl
   found_behind m k ks (q ∷ qs) h =
-      let o = or_false (same_number q (number_of m k)) (has_number qs (number_of m k)) h in
+      let o = or_false (same_child_number q (number_of m k)) (has_number qs (number_of m k)) h in
       let e : node_numbered m (k ∷ ks) q ≡ node_numbered m ks q =
       ap (λ b. some_or (node_numbered m ks q) (cond b (Some k) None)) (same_sym (number_of m k) q ∙ o.0)
       ∙ none_behind (node_numbered m ks q) in
       ap (λ u. u ∷ map (node_numbered m (k ∷ ks)) qs) e ∙ ap (λ l. node_numbered m ks q ∷ l) (found_behind m k ks qs o.1)
 
-  found_same : (m : Nodes A) (ks : List ℕ) → AreApart (map (number_of m) ks) → map (node_numbered m ks) (map (number_of m) ks) ≡ map Some ks
+  found_same : (m : Nodes A) (ks : List ℕ) → AreDifferent (map (number_of m) ks) → map (node_numbered m ks) (map (number_of m) ks) ≡ map Some ks
   found_same m [] a = refl
   found_same m (k ∷ ks) a =
       let q = number_of m k in
       let here : node_numbered m (k ∷ ks) q ≡ Some k =
-      ap (λ u. some_or u (cond (same_number q q) (Some k) None)) (numbered_none m ks q a.0)
+      ap (λ u. some_or u (cond (same_child_number q q) (Some k) None)) (numbered_none m ks q a.0)
       ∙ ap (λ b. cond b (Some k) None) (same_self q) in
       ap (λ u. u ∷ map (node_numbered m (k ∷ ks)) (map (number_of m) ks)) here
       ∙ ap (λ l. Some k ∷ l) (found_behind m k ks (map (number_of m) ks) a.0 ∙ found_same m ks a.1)
@@ -257,11 +258,11 @@ module _ {A : Type 0} where
   has_own : (m : Nodes A) (xs : List ℕ) (k : ℕ) → In k xs → has_number (map (number_of m) xs) (number_of m k) ≡ true
   has_own m [] k h = absurd h
   has_own m (x ∷ xs) k (inl e) =
-      ap (λ y. same_number (number_of m y) (number_of m k) || has_number (map (number_of m) xs) (number_of m k)) (sym e)
+      ap (λ y. same_child_number (number_of m y) (number_of m k) || has_number (map (number_of m) xs) (number_of m k)) (sym e)
       ∙ ap (λ b. b || has_number (map (number_of m) xs) (number_of m k)) (same_self (number_of m k))
   has_own m (x ∷ xs) k (inr i) =
-      ap (λ b. same_number (number_of m x) (number_of m k) || b) (has_own m xs k i)
-      ∙ or-true (same_number (number_of m x) (number_of m k))
+      ap (λ b. same_child_number (number_of m x) (number_of m k) || b) (has_own m xs k i)
+      ∙ or-true (same_child_number (number_of m x) (number_of m k))
 
   none_without : (m : Nodes A) (qs : List Number) (xs : List ℕ) → ((k : ℕ) → In k xs → has_number qs (number_of m k) ≡ true) → nodes_without m qs xs ≡ []
   none_without m qs [] h = refl
@@ -271,9 +272,9 @@ module _ {A : Type 0} where
 
   -- all are found, and none is left
   pub same_matched : (m : Nodes A) (ks : List ℕ) (qs : List Number) (found : List (Option ℕ)) (gone : List ℕ)
-      → AreApart qs → map (number_of m) ks ≡ qs → found ≡ map Some ks → gone ≡ [] → same_match found gone (match_of m ks qs)
+      → AreDifferent qs → map (number_of m) ks ≡ qs → found ≡ map Some ks → gone ≡ [] → same_match found gone (match_of m ks qs)
   same_matched m ks qs found gone apart same f g =
-      let a : AreApart (map (number_of m) ks) = subst AreApart (sym same) apart in
+      let a : AreDifferent (map (number_of m) ks) = subst AreDifferent (sym same) apart in
       let e : found ≡ map (node_numbered m ks) qs = f ∙ sym (found_same m ks a) ∙ ap (map (node_numbered m ks)) same in
       let h : gone ≡ nodes_without m qs ks = g ∙ sym (none_without m qs ks (λ k i. subst (λ l. has_number l (number_of m k) ≡ true) same (has_own m ks k i))) in
       λ i. record { found = e i; gone = h i }
@@ -293,9 +294,9 @@ not_false true h = refl
 not_false false h = sym h
 
 -- a map of nothing finds nothing
-pub nothing_found : {X S : Type 0} (m : HashMap Number X S) (q : Number) → hash_map_len m ≡ 0 → get same_number m q ≡ None
+pub nothing_found : {X S : Type 0} (m : HashMap Number X S) (q : Number) → hash_map_len m ≡ 0 → get same_child_number m q ≡ None
 nothing_found {X = X} m q h = by m.entries h
   where
-    by : (xs : List (Number × X)) → length xs ≡ 0 → lookup (same_number q) xs ≡ None
+    by : (xs : List (Number × X)) → length xs ≡ 0 → lookup (same_child_number q) xs ≡ None
     by [] e = refl
     by (x ∷ xs) e = absurd (omega (arith, e))

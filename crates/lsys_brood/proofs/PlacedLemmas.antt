@@ -5,22 +5,23 @@ use Rattle.std.proofs.Math.Path.{fun_ext}
 use Rattle.std.proofs.lemmas.Bool.{cases_eq}
 use Rattle.std.proofs.lemmas.List.{length_push}
 use Rattle.std.proofs.lemmas.Option.{none-some, same_Some}
+use Rattle.lsys_spec.specs.Rows.{In}
 use Rattle.lsys_level.specs.Spots.{Seen}
 use Rattle.lsys_level.specs.Places.{seen_in, params_in}
 use Rattle.lsys_region.specs.Rooms.{list_room}
 use Rattle.lsys_forest.proofs.StockLemmas.{put_same, put_other}
-use Rattle.lsys_forest.specs.Nodes.{Node, Nodes, put, with_seen, with_key}
-use Rattle.lsys_forest.specs.Groves.{Grove, In, now_of, IsLive, Sets, Spends}
+use Rattle.lsys_forest.specs.Nodes.{Node, Nodes, with_node, with_seen, with_key}
+use Rattle.lsys_forest.specs.Groves.{Grove, now_of, IsLive, Sets, Spends}
 use Rattle.lsys_brood.specs.declared.child.Child.{Child}
-use Rattle.lsys_brood.specs.Children.{AreMade, IsMade, born, Told, IsNew, HasTurned, KeepsSymbol, KeepsKind, seen_at, kind_at, bracket_kind, births, notes_for, params_for}
-use Rattle.lsys_brood.specs.Steps.{KindsTell, ChangesAt, ChangesAmong, TellsNodes, IsPlaced, Found}
+use Rattle.lsys_brood.specs.Children.{AreFoundOrBorn, IsFoundOrBorn, born, ToldNodes, IsNewNode, HasTurned, KeepsSymbol, KeepsKind, seen_if_any, kind_at, bracket_kind, births, notes_for, params_for}
+use Rattle.lsys_brood.specs.Steps.{KindsTell, ChangesAt, ChangesAmong, TellsNodes, IsPlaced, WasFound}
 use Rattle.lsys_brood.proofs.Placing.{ArePlaced}
 use Rattle.lsys_brood.proofs.StepLemmas.{in_push, in_old, in_new, apart_push, births_push, notes_push, params_push, tells_all_keep, tells_push, tells_one, tells_alone}
 
 module _ {A : Type 0} where
   -- 1. one node
 
-  pub put_here : (m : Nodes A) (k : ℕ) (v : Option (Node A)) → m k ≡ v → put m k v ≡ m
+  pub put_here : (m : Nodes A) (k : ℕ) (v : Option (Node A)) → m k ≡ v → with_node m k v ≡ m
   put_here m k v is = fun_ext (λ j. elim (cases_eq j k) [
     | inl e ↦ put_same m k j v e ∙ sym is ∙ ap m (sym e)
     | inr ne ↦ put_other m k j v ne
@@ -84,22 +85,22 @@ module _ {A : Type 0} where
       }
 
   -- another symbol is told
-  pub turned_told : (f g : Grove A) (k : ℕ) (s : Seen) (before after : Told) → IsLive f k → ((n : Node A) → now_of f k ≡ Some n → Sets f g k (with_seen s n)) → ((n : Node A) → now_of f k ≡ Some n → n.seen ≢ s)
+  pub turned_told : (f g : Grove A) (k : ℕ) (s : Seen) (before after : ToldNodes) → IsLive f k → ((n : Node A) → now_of f k ≡ Some n → Sets f g k (with_seen s n)) → ((n : Node A) → now_of f k ≡ Some n → n.seen ≢ s)
       → after ≡ record before { changed = before.changed ++ k ∷ []; room = after.room } → before.room ≤ after.room + 1 → TellsNodes (now_of f) (now_of g) (k ∷ []) before after
   turned_told f g k s before after lives sets other told room =
       let n = some_of (now_of f k) lives in
-      let is : seen_at (now_of g) k ≡ Some s = ap (option_map (λ (x : Node A). x.seen)) (set_is f g k (with_seen s n.0) (sets n.0 n.1)) in
+      let is : seen_if_any (now_of g) k ≡ Some s = ap (option_map (λ (x : Node A). x.seen)) (set_is f g k (with_seen s n.0) (sets n.0 n.1)) in
       record {
-        touched = ap (λ (t : Told). t.touched) told;
+        touched = ap (λ (t : ToldNodes). t.touched) told;
         changed = tells_alone (HasTurned (now_of f) (now_of g)) (KeepsSymbol (now_of f) (now_of g)) k before.changed after.changed
-            (inl (record { node = n.0; was = n.1; other = λ e. other n.0 n.1 (same_Some n.0.seen s (sym e ∙ is)) }, ap (λ (t : Told). t.changed) told));
-        added = tells_alone (IsNew (now_of f)) (λ j. IsSome (now_of f j)) k before.added after.added (inr (lives, ap (λ (t : Told). t.added) told));
-        gone = ap (λ (t : Told). t.gone) told;
+            (inl (record { node = n.0; was = n.1; other = λ e. other n.0 n.1 (same_Some n.0.seen s (sym e ∙ is)) }, ap (λ (t : ToldNodes). t.changed) told));
+        added = tells_alone (IsNewNode (now_of f)) (λ j. IsSome (now_of f j)) k before.added after.added (inr (lives, ap (λ (t : ToldNodes). t.added) told));
+        gone = ap (λ (t : ToldNodes). t.gone) told;
         room = room;
       }
 
   -- the key does not matter
-  pub key_told : (m n n' : Nodes A) (k : ℕ) (before after : Told) → seen_at n' k ≡ seen_at n k → TellsNodes m n (k ∷ []) before after → TellsNodes m n' (k ∷ []) before after
+  pub key_told : (m n n' : Nodes A) (k : ℕ) (before after : ToldNodes) → seen_if_any n' k ≡ seen_if_any n k → TellsNodes m n (k ∷ []) before after → TellsNodes m n' (k ∷ []) before after
   key_told m n n' k before after same told = record {
     touched = told.touched;
     changed = tells_all_keep (HasTurned m n) (KeepsSymbol m n) (HasTurned m n') (KeepsSymbol m n') (k ∷ []) before.changed after.changed
@@ -110,11 +111,11 @@ module _ {A : Type 0} where
     room = told.room;
   }
     where
-      at : (j : ℕ) → In j (k ∷ []) → seen_at n' j ≡ seen_at n j
-      at j (inl e) = ap (seen_at n') e ∙ same ∙ ap (seen_at n) (sym e)
+      at : (j : ℕ) → In j (k ∷ []) → seen_if_any n' j ≡ seen_if_any n j
+      at j (inl e) = ap (seen_if_any n') e ∙ same ∙ ap (seen_if_any n) (sym e)
       at j (inr h) = absurd h
 
-  pub kind_tells : (m n : Nodes A) (k : ℕ) (x : Node A) (s : Seen) (flag : Bool) → m k ≡ Some x → seen_at n k ≡ Some s → (IsTrue flag ↔ (bracket_kind s ≡ bracket_kind x.seen)) → KindsTell m n (k ∷ []) flag
+  pub kind_tells : (m n : Nodes A) (k : ℕ) (x : Node A) (s : Seen) (flag : Bool) → m k ≡ Some x → seen_if_any n k ≡ Some s → (IsTrue flag ↔ (bracket_kind s ≡ bracket_kind x.seen)) → KindsTell m n (k ∷ []) flag
   kind_tells m n k x s flag was is tells = record {
     keep = λ t j h y there.
         let same = ap m (sym (alone j h)) ∙ there in
@@ -133,7 +134,7 @@ module _ {A : Type 0} where
 
   -- 2. nodes that were made live
 
-  pub made_live : (m n : Nodes A) (parent depth : ℕ) (ws : List Child) (os : List (Option ℕ)) (ks : List ℕ) → AreMade m n parent depth ws os ks → (k : ℕ) → In k ks → IsSome (n k)
+  pub made_live : (m n : Nodes A) (parent depth : ℕ) (ws : List Child) (os : List (Option ℕ)) (ks : List ℕ) → AreFoundOrBorn m n parent depth ws os ks → (k : ℕ) → In k ks → IsSome (n k)
   made_live m n parent depth [] [] [] made k h = absurd h
   made_live m n parent depth (w ∷ ws) (None ∷ os) (j ∷ ks) made k (inl e) = subst (λ i. IsSome (n i)) (sym e) (subst IsSome (sym made.0.is) refl)
   made_live m n parent depth (w ∷ ws) (Some i ∷ os) (j ∷ ks) made k (inl e) = subst (λ i. IsSome (n i)) (sym e) (subst IsSome (sym made.0.is) refl)
@@ -144,7 +145,7 @@ module _ {A : Type 0} where
   made_live m n parent depth (w ∷ ws) (o ∷ os) [] made k h = absurd made
 
   -- each was found, or is new
-  pub made_from : (m n : Nodes A) (parent depth : ℕ) (ws : List Child) (os : List (Option ℕ)) (ks : List ℕ) → AreMade m n parent depth ws os ks → (k : ℕ) → In k ks → Found k os ⊎ (m k ≡ None)
+  pub made_from : (m n : Nodes A) (parent depth : ℕ) (ws : List Child) (os : List (Option ℕ)) (ks : List ℕ) → AreFoundOrBorn m n parent depth ws os ks → (k : ℕ) → In k ks → WasFound k os ⊎ (m k ≡ None)
   made_from m n parent depth [] [] [] made k h = absurd h
   made_from m n parent depth (w ∷ ws) (None ∷ os) (j ∷ ks) made k (inl e) = inr (ap m e ∙ made.0.vacant)
   made_from m n parent depth (w ∷ ws) (Some i ∷ os) (j ∷ ks) made k (inl e) = inl (inl (ap Some (sym (e ∙ made.0.same))))
@@ -157,12 +158,12 @@ module _ {A : Type 0} where
   made_from m n parent depth (w ∷ ws) [] ks made k h = absurd made
   made_from m n parent depth (w ∷ ws) (o ∷ os) [] made k h = absurd made
 
-  made_one : (m n m' n' : Nodes A) (parent depth : ℕ) (w : Child) (o : Option ℕ) (k : ℕ) → m' k ≡ m k → n' k ≡ n k → IsMade m n parent depth w o k → IsMade m' n' parent depth w o k
+  made_one : (m n m' n' : Nodes A) (parent depth : ℕ) (w : Child) (o : Option ℕ) (k : ℕ) → m' k ≡ m k → n' k ≡ n k → IsFoundOrBorn m n parent depth w o k → IsFoundOrBorn m' n' parent depth w o k
   made_one m n m' n' parent depth w None k a b made = record { vacant = a ∙ made.vacant; is = b ∙ made.is }
   made_one m n m' n' parent depth w (Some i) k a b made = record { same = made.same; node = made.node; was = a ∙ made.was; is = b ∙ made.is }
 
   -- they stay made while they stay what they are
-  pub made_keep : (m n n' : Nodes A) (parent depth : ℕ) (ws : List Child) (os : List (Option ℕ)) (ks : List ℕ) → ((k : ℕ) → In k ks → n' k ≡ n k) → AreMade m n parent depth ws os ks → AreMade m n' parent depth ws os ks
+  pub made_keep : (m n n' : Nodes A) (parent depth : ℕ) (ws : List Child) (os : List (Option ℕ)) (ks : List ℕ) → ((k : ℕ) → In k ks → n' k ≡ n k) → AreFoundOrBorn m n parent depth ws os ks → AreFoundOrBorn m n' parent depth ws os ks
   made_keep m n n' parent depth [] [] [] same made = made
   made_keep m n n' parent depth (w ∷ ws) (o ∷ os) (k ∷ ks) same made = (made_one m n m n' parent depth w o k refl (same k (inl refl)) made.0, made_keep m n n' parent depth ws os ks (λ j h. same j (inr h)) made.1)
   made_keep m n n' parent depth [] [] (j ∷ ks) same made = absurd made
@@ -170,8 +171,8 @@ module _ {A : Type 0} where
   made_keep m n n' parent depth (w ∷ ws) [] ks same made = absurd made
   made_keep m n n' parent depth (w ∷ ws) (o ∷ os) [] same made = absurd made
 
-  made_push : (m n : Nodes A) (parent depth : ℕ) (ws : List Child) (os : List (Option ℕ)) (ks : List ℕ) (w : Child) (o : Option ℕ) (k : ℕ) → AreMade m n parent depth ws os ks → IsMade m n parent depth w o k
-      → AreMade m n parent depth (ws ++ w ∷ []) (os ++ o ∷ []) (ks ++ k ∷ [])
+  made_push : (m n : Nodes A) (parent depth : ℕ) (ws : List Child) (os : List (Option ℕ)) (ks : List ℕ) (w : Child) (o : Option ℕ) (k : ℕ) → AreFoundOrBorn m n parent depth ws os ks → IsFoundOrBorn m n parent depth w o k
+      → AreFoundOrBorn m n parent depth (ws ++ w ∷ []) (os ++ o ∷ []) (ks ++ k ∷ [])
   made_push m n parent depth [] [] [] w o k made one = (one, tt)
   made_push m n parent depth (v ∷ ws) (i ∷ os) (j ∷ ks) w o k made one = (made.0, made_push m n parent depth ws os ks w o k made.1 one)
   made_push m n parent depth [] [] (j ∷ ks) w o k made one = absurd made
@@ -186,15 +187,15 @@ module _ {A : Type 0} where
     pub out : In k ks → ⊥
     pub was : now_of now k ≡ now_of first k
 
-  pub fresh_of : (first now new : Grove A) (parent : ℕ) (p : Node A) (ws : List Child) (os : List (Option ℕ)) (ks : List ℕ) (w : Child) (o : Option ℕ) (k : ℕ) → AreMade (now_of first) (now_of now) parent (p.depth + 1) ws os ks
-      → ChangesAmong first now ks → ((j : ℕ) → o ≡ Some j → (Found j os → ⊥) × IsSome (now_of first j)) → IsMade (now_of now) (now_of new) parent (p.depth + 1) w o k → IsFresh first now ks k
+  pub fresh_of : (first now new : Grove A) (parent : ℕ) (p : Node A) (ws : List Child) (os : List (Option ℕ)) (ks : List ℕ) (w : Child) (o : Option ℕ) (k : ℕ) → AreFoundOrBorn (now_of first) (now_of now) parent (p.depth + 1) ws os ks
+      → ChangesAmong first now ks → ((j : ℕ) → o ≡ Some j → (WasFound j os → ⊥) × IsSome (now_of first j)) → IsFoundOrBorn (now_of now) (now_of new) parent (p.depth + 1) w o k → IsFresh first now ks k
   fresh_of first now new parent p ws os ks w None k made changes once one =
       let out : In k ks → ⊥ = λ h. absurd (grind (arith, made_live (now_of first) (now_of now) parent (p.depth + 1) ws os ks made k h, one.vacant)) in
       record { out = out; was = changes.others k out }
   fresh_of first now new parent p ws os ks w (Some j) k made changes once one =
       let o = once j refl in
       let out : In k ks → ⊥ = λ h. elim (made_from (now_of first) (now_of now) parent (p.depth + 1) ws os ks made k h) [
-        | inl f ↦ o.0 (subst (λ i. Found i os) one.same f)
+        | inl f ↦ o.0 (subst (λ i. WasFound i os) one.same f)
         | inr e ↦ absurd (grind (arith, o.1, sym (ap (now_of first) one.same) ∙ e))
       ] in
       record { out = out; was = changes.others k out }
@@ -230,8 +231,8 @@ module _ {A : Type 0} where
   }
 
   -- one child more was placed
-  pub placed_next : (first now new : Grove A) (parent : ℕ) (ws : List Child) (os : List (Option ℕ)) (ks : List ℕ) (w : Child) (o : Option ℕ) (k : ℕ) (before between after : Told) (a b : Bool)
-      → IsLive first parent → ((j : ℕ) → o ≡ Some j → (Found j os → ⊥) × IsSome (now_of first j)) → k ≢ parent
+  pub placed_next : (first now new : Grove A) (parent : ℕ) (ws : List Child) (os : List (Option ℕ)) (ks : List ℕ) (w : Child) (o : Option ℕ) (k : ℕ) (before between after : ToldNodes) (a b : Bool)
+      → IsLive first parent → ((j : ℕ) → o ≡ Some j → (WasFound j os → ⊥) × IsSome (now_of first j)) → k ≢ parent
       → ArePlaced first now parent ws os ks before between a → IsPlaced now new parent w o k → TellsNodes (now_of now) (now_of new) (k ∷ []) between after → KindsTell (now_of now) (now_of new) (k ∷ []) b
       → ArePlaced first new parent (ws ++ w ∷ []) (os ++ o ∷ []) (ks ++ k ∷ []) before after (a && b)
   placed_next first now new parent ws os ks w o k before between after a b lives once ne was here told kinds =
@@ -262,9 +263,9 @@ module _ {A : Type 0} where
               (tells_one (HasTurned m n') (KeepsSymbol m n') k between.changed after.changed
               (tells_all_keep (HasTurned n n') (KeepsSymbol n n') (HasTurned m n') (KeepsSymbol m n') (k ∷ []) between.changed after.changed
               (λ j h. turned_keep n n' m n' j (sym (was_at j h fresh.was)) refl) (λ j h. keeps_keep n n' m n' j (sym (was_at j h fresh.was)) refl) told.changed));
-          added = tells_push (IsNew m) (λ j. IsSome (m j)) ks k before.added between.added after.added was.told.added
-              (tells_one (IsNew m) (λ j. IsSome (m j)) k between.added after.added
-              (tells_all_keep (IsNew n) (λ j. IsSome (n j)) (IsNew m) (λ j. IsSome (m j)) (k ∷ []) between.added after.added
+          added = tells_push (IsNewNode m) (λ j. IsSome (m j)) ks k before.added between.added after.added was.told.added
+              (tells_one (IsNewNode m) (λ j. IsSome (m j)) k between.added after.added
+              (tells_all_keep (IsNewNode n) (λ j. IsSome (n j)) (IsNewNode m) (λ j. IsSome (m j)) (k ∷ []) between.added after.added
               (λ j h x. sym (was_at j h fresh.was) ∙ x) (λ j h x. subst IsSome (was_at j h fresh.was) x) told.added));
           gone = told.gone ∙ was.told.gone;
           room = omega (arith, was.told.room, told.room, length_push ks k);

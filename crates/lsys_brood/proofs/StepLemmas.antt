@@ -1,13 +1,13 @@
 -- One child after the other is placed.
 use Rattle.std.proofs.Common.{◌≡◌, ◌≢◌, ◌⊎◌, ◌+◌, ◌≤◌, ℕ, zero, suc, List, [], ◌∷◌, ◌++◌, take, slice_get, Option, Some, None, refl, sym, ap, arith, inl, inr, subst}
 use Rattle.std.proofs.lemmas.Option.{none-some, same_Some}
+use Rattle.lsys_spec.specs.Rows.{In, AreApart}
 use Rattle.lsys_module.specs.declared.symbol.Symbol.TheVariants.{Cut}
 use Rattle.lsys_level.specs.Places.{params_in}
 use Rattle.lsys_region.specs.Rooms.{list_room}
-use Rattle.lsys_forest.specs.Groves.{In, AreApart}
 use Rattle.lsys_brood.specs.declared.child.Child.{Child}
-use Rattle.lsys_brood.specs.Children.{AreWhole, Tells, TellsAll, births, notes_for, params_for}
-use Rattle.lsys_brood.specs.Steps.{Found, FoundOnce}
+use Rattle.lsys_brood.specs.Children.{AreWhole, TellsIf, TellsAll, births, notes_for, params_for}
+use Rattle.lsys_brood.specs.Steps.{WasFound, FoundOnce}
 
 -- 1. lists
 
@@ -33,20 +33,20 @@ apart_push (y ∷ xs) x apart out = (
   apart_push xs x apart.1 (λ h. out (inr h)),
 )
 
-pub found_take : (os : List (Option ℕ)) (i j : ℕ) → Found j (take i os) → Found j os
+pub found_take : (os : List (Option ℕ)) (i j : ℕ) → WasFound j (take i os) → WasFound j os
 found_take [] zero j h = absurd h
 found_take [] (suc i) j h = absurd h
 found_take (o ∷ os) zero j h = absurd h
 found_take (o ∷ os) (suc i) j (inl e) = inl e
 found_take (o ∷ os) (suc i) j (inr h) = inr (found_take os i j h)
 
-pub found_there : (os : List (Option ℕ)) (i j : ℕ) → slice_get os i ≡ Some (Some j) → Found j os
+pub found_there : (os : List (Option ℕ)) (i j : ℕ) → slice_get os i ≡ Some (Some j) → WasFound j os
 found_there [] i j h = absurd (none-some (Some j) h)
 found_there (o ∷ os) zero j h = inl (same_Some o (Some j) h)
 found_there (o ∷ os) (suc i) j h = inr (found_there os i j h)
 
 -- none before is the one found at a place
-pub found_before : (os : List (Option ℕ)) (i j : ℕ) → FoundOnce os → slice_get os i ≡ Some (Some j) → Found j (take i os) → ⊥
+pub found_before : (os : List (Option ℕ)) (i j : ℕ) → FoundOnce os → slice_get os i ≡ Some (Some j) → WasFound j (take i os) → ⊥
 found_before [] i j once here h = none-some (Some j) here
 found_before (o ∷ os) zero j once here h = h
 found_before (o ∷ os) (suc i) j once here (inl e) = once.0 j e (found_there os i j here)
@@ -97,7 +97,7 @@ params_within (v ∷ ws) (suc i) w h = omega (arith, params_within ws i w h)
 -- 3. what is told
 
 module _ (P Q P' Q' : ℕ → Type 0) where
-  tells_keep : (k : ℕ) (before after : List ℕ) → (P k → P' k) → (Q k → Q' k) → Tells P Q k before after → Tells P' Q' k before after
+  tells_keep : (k : ℕ) (before after : List ℕ) → (P k → P' k) → (Q k → Q' k) → TellsIf P Q k before after → TellsIf P' Q' k before after
   tells_keep k before after p q (inl h) = inl (p h.0, h.1)
   tells_keep k before after p q (inr h) = inr (q h.0, h.1)
 
@@ -106,12 +106,12 @@ module _ (P Q P' Q' : ℕ → Type 0) where
   tells_all_keep (k ∷ ks) before after p q h = (h.0, tells_keep k before h.0 (p k (inl refl)) (q k (inl refl)) h.1, tells_all_keep ks h.0 after (λ j i. p j (inr i)) (λ j i. q j (inr i)) h.2)
 
 module _ (P Q : ℕ → Type 0) where
-  pub tells_push : (ks : List ℕ) (k : ℕ) (before between after : List ℕ) → TellsAll P Q ks before between → Tells P Q k between after → TellsAll P Q (ks ++ k ∷ []) before after
-  tells_push [] k before between after h t = (after, subst (λ b. Tells P Q k b after) h t, refl)
+  pub tells_push : (ks : List ℕ) (k : ℕ) (before between after : List ℕ) → TellsAll P Q ks before between → TellsIf P Q k between after → TellsAll P Q (ks ++ k ∷ []) before after
+  tells_push [] k before between after h t = (after, subst (λ b. TellsIf P Q k b after) h t, refl)
   tells_push (j ∷ ks) k before between after h t = (h.0, h.1, tells_push ks k h.0 between after h.2 t)
 
-  pub tells_one : (k : ℕ) (before after : List ℕ) → TellsAll P Q (k ∷ []) before after → Tells P Q k before after
-  tells_one k before after h = subst (Tells P Q k before) (sym h.2) h.1
+  pub tells_one : (k : ℕ) (before after : List ℕ) → TellsAll P Q (k ∷ []) before after → TellsIf P Q k before after
+  tells_one k before after h = subst (TellsIf P Q k before) (sym h.2) h.1
 
-  pub tells_alone : (k : ℕ) (before after : List ℕ) → Tells P Q k before after → TellsAll P Q (k ∷ []) before after
+  pub tells_alone : (k : ℕ) (before after : List ℕ) → TellsIf P Q k before after → TellsAll P Q (k ∷ []) before after
   tells_alone k before after t = (after, t, refl)

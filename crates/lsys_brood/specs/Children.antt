@@ -1,12 +1,13 @@
 -- The children of one parent, before they are renewed and after it.
 use Rattle.std.specs.Prelude.{◌≡◌, ◌≢◌, ◌⊎◌, ◌+◌, ◌≤◌, ◌^◌, ℕ, List, [], ◌∷◌, ◌++◌, length, map, Option, Some, None, IsSome, option_map}
+use Rattle.lsys_spec.specs.Rows.{In}
 use Rattle.lsys_module.specs.declared.symbol.Symbol.TheVariants.{Cut}
 use Rattle.lsys_level.specs.Spots.{Seen, Push, Pop, Module}
 use Rattle.lsys_level.specs.Places.{seen_in, params_in}
 use Rattle.lsys_region.specs.Rooms.{room_of, list_room}
 use Rattle.lsys_change.specs.Kinds.{BracketKind, Opens, Closes, Neither}
 use Rattle.lsys_forest.specs.Nodes.{Node, Nodes, with_kids}
-use Rattle.lsys_forest.specs.Groves.{Grove, In, spare_params, spare_kids, Spends}
+use Rattle.lsys_forest.specs.Groves.{Grove, spare_params, spare_kids, Spends}
 use Rattle.lsys_forest.specs.Rows.{kids_in}
 use Rattle.lsys_brood.specs.declared.number.Number.{Number}
 use Rattle.lsys_brood.specs.declared.child.Child.{Child}
@@ -15,12 +16,12 @@ use Rattle.lsys_brood.specs.Matches.{node_numbered, nodes_without, number_of}
 
 -- 1. what is wanted
 
-abbrev pub number_in : Child → Number
-number_in w = w.number
+abbrev pub wanted_number : Child → Number
+wanted_number w = w.number
 
 -- the numbers of the wanted children, in order
 abbrev pub numbers_of : List Child → List Number
-numbers_of ws = map number_in ws
+numbers_of ws = map wanted_number ws
 
 -- no child is a cut
 abbrev pub AreWhole : List Child → Type 0
@@ -76,25 +77,25 @@ module _ {A : Type 0} where
   kind_in_node n = bracket_kind n.seen
 
   -- what is seen of a node that lives, and its kind
-  abbrev pub seen_at : Nodes A → ℕ → Option Seen
-  seen_at m k = option_map seen_in_node (m k)
+  abbrev pub seen_if_any : Nodes A → ℕ → Option Seen
+  seen_if_any m k = option_map seen_in_node (m k)
 
   abbrev pub kind_at : Nodes A → ℕ → Option BracketKind
   kind_at m k = option_map kind_in_node (m k)
 
   -- the node is new
-  abbrev pub IsNew : Nodes A → ℕ → Type 0
-  IsNew old k = old k ≡ None
+  abbrev pub IsNewNode : Nodes A → ℕ → Type 0
+  IsNewNode old k = old k ≡ None
 
   -- the node lived, and has another symbol
   pub record HasTurned (old new : Nodes A) (k : ℕ) : Type 0 where
     pub node : Node A
     pub was : old k ≡ Some node
-    pub other : seen_at new k ≢ Some node.seen
+    pub other : seen_if_any new k ≢ Some node.seen
 
   -- if the node lived, it has the symbol that it had; and it is of the kind that it was
   abbrev pub KeepsSymbol : Nodes A → Nodes A → ℕ → Type 0
-  KeepsSymbol old new k = (n : Node A) → old k ≡ Some n → seen_at new k ≡ Some n.seen
+  KeepsSymbol old new k = (n : Node A) → old k ≡ Some n → seen_if_any new k ≡ Some n.seen
 
   abbrev pub KeepsKind : Nodes A → Nodes A → ℕ → Type 0
   KeepsKind old new k = (n : Node A) → old k ≡ Some n → kind_at new k ≡ Some (bracket_kind n.seen)
@@ -127,28 +128,28 @@ module _ {A : Type 0} where
     pub vacant : old k ≡ None
     pub is : new k ≡ Some (born parent depth w)
 
-  pub record IsKept (old new : Nodes A) (w : Child) (found k : ℕ) : Type 0 where
+  pub record IsFoundChild (old new : Nodes A) (w : Child) (found k : ℕ) : Type 0 where
     pub same : k ≡ found
     pub node : Node A
     pub was : old k ≡ Some node
     pub is : new k ≡ Some (renewed w node)
 
   -- the node is the one that was found, with this symbol and this key, or a new one
-  abbrev pub IsMade : Nodes A → Nodes A → ℕ → ℕ → Child → Option ℕ → ℕ → Type 0
-  IsMade old new parent depth w None k = IsBorn old new parent depth w k
-  IsMade old new parent depth w (Some found) k = IsKept old new w found k
+  abbrev pub IsFoundOrBorn : Nodes A → Nodes A → ℕ → ℕ → Child → Option ℕ → ℕ → Type 0
+  IsFoundOrBorn old new parent depth w None k = IsBorn old new parent depth w k
+  IsFoundOrBorn old new parent depth w (Some found) k = IsFoundChild old new w found k
 
   -- so each of them, in order
-  abbrev pub AreMade : Nodes A → Nodes A → ℕ → ℕ → List Child → List (Option ℕ) → List ℕ → Type 0
-  AreMade old new parent depth [] [] [] = Unit {0}
-  AreMade old new parent depth (w ∷ ws) (o ∷ os) (k ∷ ks) = IsMade old new parent depth w o k × AreMade old new parent depth ws os ks
-  AreMade old new parent depth ws os ks = ⊥
+  abbrev pub AreFoundOrBorn : Nodes A → Nodes A → ℕ → ℕ → List Child → List (Option ℕ) → List ℕ → Type 0
+  AreFoundOrBorn old new parent depth [] [] [] = Unit {0}
+  AreFoundOrBorn old new parent depth (w ∷ ws) (o ∷ os) (k ∷ ks) = IsFoundOrBorn old new parent depth w o k × AreFoundOrBorn old new parent depth ws os ks
+  AreFoundOrBorn old new parent depth ws os ks = ⊥
 
   -- The nodes ks are the children that were wanted of a parent, which was p: each is the old child of that number, or a new
   -- node where there was none. All other nodes stay.
   pub record AreRenewed (old new : Nodes A) (parent : ℕ) (p : Node A) (ws : List Child) (ks : List ℕ) : Type 0 where
     pub list : new parent ≡ Some (with_kids ks p)
-    pub made : AreMade old new parent (p.depth + 1) ws (map (node_numbered old p.kids) (numbers_of ws)) ks
+    pub made : AreFoundOrBorn old new parent (p.depth + 1) ws (map (node_numbered old p.kids) (numbers_of ws)) ks
     pub named : map (number_of new) ks ≡ numbers_of ws
     pub others : (j : ℕ) → j ≢ parent → (In j ks → ⊥) → new j ≡ old j
 
@@ -156,7 +157,7 @@ module _ {A : Type 0} where
 
 -- The nodes that are told: those with other children, or with children of other kinds; those with another symbol; the new
 -- ones; those that are children no more. In each list so many more find room.
-pub record Told : Type 0 where
+pub record ToldNodes : Type 0 where
   pub touched : List ℕ
   pub changed : List ℕ
   pub added : List ℕ
@@ -165,20 +166,20 @@ pub record Told : Type 0 where
 
 module _ (P Q : ℕ → Type 0) where
   -- the node was told if it is so, and it was not if it is otherwise
-  abbrev pub Tells : ℕ → List ℕ → List ℕ → Type 0
-  Tells k before after = (P k × (after ≡ before ++ k ∷ [])) ⊎ (Q k × (after ≡ before))
+  abbrev pub TellsIf : ℕ → List ℕ → List ℕ → Type 0
+  TellsIf k before after = (P k × (after ≡ before ++ k ∷ [])) ⊎ (Q k × (after ≡ before))
 
   -- of these nodes, in order, those that are so were told, and those that are otherwise were not
   abbrev pub TellsAll : List ℕ → List ℕ → List ℕ → Type 0
   TellsAll [] before after = after ≡ before
-  TellsAll (k ∷ ks) before after = (between : List ℕ) × Tells k before between × TellsAll ks between after
+  TellsAll (k ∷ ks) before after = (between : List ℕ) × TellsIf k before between × TellsAll ks between after
 
 module _ {A : Type 0} where
   -- what is told of the children of a parent, which was p
-  pub record TellsOf (old new : Nodes A) (parent : ℕ) (p : Node A) (ws : List Child) (ks : List ℕ) (before after : Told) : Type 0 where
-    pub touched : Tells (λ k. KeepsChildren old new k → ⊥) (KeepsChildren old new) parent before.touched after.touched
+  pub record TellsOf (old new : Nodes A) (parent : ℕ) (p : Node A) (ws : List Child) (ks : List ℕ) (before after : ToldNodes) : Type 0 where
+    pub touched : TellsIf (λ k. KeepsChildren old new k → ⊥) (KeepsChildren old new) parent before.touched after.touched
     pub changed : TellsAll (HasTurned old new) (KeepsSymbol old new) ks before.changed after.changed
-    pub added : TellsAll (IsNew old) (λ k. IsSome (old k)) ks before.added after.added
+    pub added : TellsAll (IsNewNode old) (λ k. IsSome (old k)) ks before.added after.added
     pub gone : after.gone ≡ before.gone ++ nodes_without old (numbers_of ws) p.kids
     pub room : before.room ≤ after.room + (length ws + length p.kids + 1)
 
@@ -191,7 +192,7 @@ module _ {A : Type 0} where
   SpendsNeed old new need = Spends old new need.nodes need.params need.kids need.notes
 
   -- there is room for this in a forest, and in the lists that are told
-  pub record HasRoomFor (f : Grove A) (t : Told) (need : Need) : Type 0 where
+  pub record HasRoomFor (f : Grove A) (t : ToldNodes) (need : Need) : Type 0 where
     pub nodes : need.nodes ≤ f.spare_nodes
     pub params : need.params ≤ spare_params f
     pub kids : need.kids ≤ spare_kids f

@@ -8,7 +8,7 @@ use Rattle.lsys_forest.specs.Rows.{kids_in}
 use Rattle.lsys_brood.specs.declared.child.Child.{Child}
 use Rattle.lsys_brood.specs.declared.need.Need.{Need}
 use Rattle.lsys_brood.specs.Matches.{Matched, match_of}
-use Rattle.lsys_brood.specs.Children.{AreRenewed, HasRoomFor, SpendsNeed, TellsOf, Told, bracket_kind, need_at, numbers_of}
+use Rattle.lsys_brood.specs.Children.{AreRenewed, HasRoomFor, SpendsNeed, TellsOf, ToldNodes, bracket_kind, need_at, numbers_of}
 use Rattle.lsys_brood.specs.Steps.{IsMatched, KindsTell, TellsNodes}
 
 module _ {A : Type 0} where
@@ -30,7 +30,7 @@ module _ {A : Type 0} where
       (n : Node A) → now_of f parent ≡ Some n → need ≡ need_at (now_of f) n.kids ws
 
   -- there is room for the step
-  abbrev pub HasRoomToRenew : Grove A → ℕ → List Child → Told → Type 0
+  abbrev pub HasRoomToRenew : Grove A → ℕ → List Child → ToldNodes → Type 0
   HasRoomToRenew f parent ws t =
       (n : Node A) → now_of f parent ≡ Some n → HasRoomFor f t (need_at (now_of f) n.kids ws)
 
@@ -47,13 +47,13 @@ module _ {A : Type 0} where
       → AreRenewed (now_of old) (now_of new) parent n ws (kids_in (now_of new parent))
 
   -- what differs is told
-  abbrev pub TellsKids : Grove A → Grove A → ℕ → List Child → Told → Told → Type 0
+  abbrev pub TellsKids : Grove A → Grove A → ℕ → List Child → ToldNodes → ToldNodes → Type 0
   TellsKids old new parent ws before after =
       (n : Node A) → now_of old parent ≡ Some n
       → TellsOf (now_of old) (now_of new) parent n ws (kids_in (now_of new parent)) before after
 
   -- it is told, but for want of memory
-  abbrev pub TellsIfDone : {T E : Type 0} → Grove A → Grove A → ℕ → List Child → Told → Told
+  abbrev pub TellsIfDone : {T E : Type 0} → Grove A → Grove A → ℕ → List Child → ToldNodes → ToldNodes
       → Result T E → Type 0
   TellsIfDone old new parent ws before after r = OnOk r (TellsKids old new parent ws before after)
 
@@ -76,10 +76,10 @@ module _ {A : Type 0} where
   SetsBy old new k change = (n : Node A) → now_of old k ≡ Some n → Sets old new k (change n)
 
   -- what is told of nodes, in order, and of one
-  abbrev pub TellsEach : Grove A → Grove A → List ℕ → Told → Told → Type 0
+  abbrev pub TellsEach : Grove A → Grove A → List ℕ → ToldNodes → ToldNodes → Type 0
   TellsEach old new ks before after = TellsNodes (now_of old) (now_of new) ks before after
 
-  abbrev pub TellsNode : Grove A → Grove A → ℕ → Told → Told → Type 0
+  abbrev pub TellsNode : Grove A → Grove A → ℕ → ToldNodes → ToldNodes → Type 0
   TellsNode old new k before after = TellsEach old new (k ∷ []) before after
 
   -- a flag falls where a node is not of the kind that it was

@@ -3,18 +3,18 @@ use Rattle.std.specs.Prelude.{◌≡◌, ◌&&◌, ◌||◌, ℕ, Bool, false, n
 use Rattle.lsys_brood.specs.declared.number.Number.{Number}
 use Rattle.lsys_forest.specs.Nodes.{Node, Nodes}
 
-abbrev pub same_number : Number → Number → Bool
-same_number a b = nat_eq a.code b.code && nat_eq a.count b.count
+abbrev pub same_child_number : Number → Number → Bool
+same_child_number a b = nat_eq a.code b.code && nat_eq a.count b.count
 
 -- the number is among these
 abbrev pub has_number : List Number → Number → Bool
 has_number [] q = false
-has_number (x ∷ xs) q = same_number x q || has_number xs q
+has_number (x ∷ xs) q = same_child_number x q || has_number xs q
 
 -- no number stands twice
-abbrev pub AreApart : List Number → Type 0
-AreApart [] = Unit {0}
-AreApart (x ∷ xs) = (has_number xs x ≡ false) × AreApart xs
+abbrev pub AreDifferent : List Number → Type 0
+AreDifferent [] = Unit {0}
+AreDifferent (x ∷ xs) = (has_number xs x ≡ false) × AreDifferent xs
 
 -- Children that are wanted, matched with the old ones: of each wanted one the old one of its number, if there is one; and the
 -- old ones of other numbers.
@@ -27,19 +27,19 @@ some_or None o = o
 some_or (Some k) o = Some k
 
 module _ {A : Type 0} where
-  abbrev pub number_in : Option (Node A) → Number
-  number_in None = record { code = 0; count = 0 }
-  number_in (Some n) = record { code = n.code; count = n.count }
+  abbrev pub node_number : Option (Node A) → Number
+  node_number None = record { code = 0; count = 0 }
+  node_number (Some n) = record { code = n.code; count = n.count }
 
   -- the number of a node, which with its parent names it
   abbrev pub number_of : Nodes A → ℕ → Number
-  number_of m k = number_in (m k)
+  number_of m k = node_number (m k)
 
   -- of these nodes the one that has this number (the last one; children of one parent have it once)
   abbrev pub node_numbered : Nodes A → List ℕ → Number → Option ℕ
   node_numbered m [] q = None
   node_numbered m (k ∷ ks) q =
-      some_or (node_numbered m ks q) (cond (same_number (number_of m k) q) (Some k) None)
+      some_or (node_numbered m ks q) (cond (same_child_number (number_of m k) q) (Some k) None)
 
   -- those of these nodes whose number passes the test
   abbrev pub nodes_where : (Number → Bool) → Nodes A → List ℕ → List ℕ

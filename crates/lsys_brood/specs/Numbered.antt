@@ -4,28 +4,28 @@ use Rattle.std.specs.HashMap.{HashMap, get}
 use Rattle.lsys_forest.specs.Groves.{Grove, now_of}
 use Rattle.lsys_brood.specs.declared.child.Child.{Child}
 use Rattle.lsys_brood.specs.declared.number.Number.{Number}
-use Rattle.lsys_brood.specs.Matches.{has_number, node_numbered, nodes_where, same_number}
+use Rattle.lsys_brood.specs.Matches.{has_number, node_numbered, nodes_where, same_child_number}
 use Rattle.lsys_brood.specs.Children.{numbers_of}
 
 module _ {S : Type 0} where
   -- this node, or none, has a number, and others have theirs
   abbrev pub SetsNumber : HashMap Number ℕ S → HashMap Number ℕ S → Number → Option ℕ → Type 0
   SetsNumber old new number o =
-      (q : Number) → get same_number new q ≡ cond (same_number number q) o (get same_number old q)
+      (q : Number) → get same_child_number new q ≡ cond (same_child_number number q) o (get same_child_number old q)
 
   -- these numbers are taken out, and others stay
   abbrev pub TakesOut : HashMap Number ℕ S → HashMap Number ℕ S → List Number → Type 0
   TakesOut old new numbers =
       (q : Number)
-      → get same_number new q ≡ cond (has_number numbers q) None (get same_number old q)
+      → get same_child_number new q ≡ cond (has_number numbers q) None (get same_child_number old q)
 
   -- of each child that is wanted the node that has its number, if there is one
   abbrev pub nodes_found : HashMap Number ℕ S → List Child → List (Option ℕ)
-  nodes_found nodes wanted = map (get same_number nodes) (numbers_of wanted)
+  nodes_found nodes wanted = map (get same_child_number nodes) (numbers_of wanted)
 
   -- a node has this number
   abbrev pub is_left : HashMap Number ℕ S → Number → Bool
-  is_left nodes q = is_some (get same_number nodes q)
+  is_left nodes q = is_some (get same_child_number nodes q)
 
   -- of these nodes those whose numbers are left
   abbrev pub kids_remaining : {A : Type 0} → HashMap Number ℕ S → Grove A → List ℕ → List ℕ
@@ -38,4 +38,4 @@ module _ {S : Type 0} where
   -- just these nodes are found by their numbers
   abbrev pub HoldsKids : {A : Type 0} → HashMap Number ℕ S → Grove A → List ℕ → Type 0
   HoldsKids nodes f kids =
-      (q : Number) → get same_number nodes q ≡ node_numbered (now_of f) kids q
+      (q : Number) → get same_child_number nodes q ≡ node_numbered (now_of f) kids q

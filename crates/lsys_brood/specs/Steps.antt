@@ -1,23 +1,24 @@
 -- The steps by which the children of one parent are renewed.
 use Rattle.std.specs.Prelude.{◌≡◌, ◌≢◌, ◌⊎◌, ◌+◌, ◌≤◌, ℕ, Bool, true, false, List, [], ◌∷◌, length, map, Option, Some, IsSome}
+use Rattle.lsys_spec.specs.Rows.{In, AreApart}
 use Rattle.lsys_module.specs.declared.symbol.Symbol.TheVariants.{Cut}
 use Rattle.lsys_level.specs.Places.{params_in}
 use Rattle.lsys_region.specs.Rooms.{list_room}
 use Rattle.lsys_forest.specs.Nodes.{Node, Nodes}
-use Rattle.lsys_forest.specs.Groves.{Grove, In, AreApart, now_of, rest_of, IsLive, spare_params, Spends}
+use Rattle.lsys_forest.specs.Groves.{Grove, now_of, rest_of, IsLive, spare_params, Spends}
 use Rattle.lsys_brood.specs.declared.child.Child.{Child}
 use Rattle.lsys_brood.specs.Matches.{node_numbered, nodes_without}
-use Rattle.lsys_brood.specs.Children.{numbers_of, AreMade, AreWhole, Told, TellsAll, IsNew, HasTurned, KeepsSymbol, KeepsKind, births, notes_for, params_for}
+use Rattle.lsys_brood.specs.Children.{numbers_of, AreFoundOrBorn, AreWhole, ToldNodes, TellsAll, IsNewNode, HasTurned, KeepsSymbol, KeepsKind, births, notes_for, params_for}
 
 -- one of these was found
-abbrev pub Found : ℕ → List (Option ℕ) → Type 0
-Found j [] = ⊥
-Found j (o ∷ os) = (o ≡ Some j) ⊎ Found j os
+abbrev pub WasFound : ℕ → List (Option ℕ) → Type 0
+WasFound j [] = ⊥
+WasFound j (o ∷ os) = (o ≡ Some j) ⊎ WasFound j os
 
 -- none was found twice
 abbrev pub FoundOnce : List (Option ℕ) → Type 0
 FoundOnce [] = Unit {0}
-FoundOnce (o ∷ os) = ((j : ℕ) → o ≡ Some j → Found j os → ⊥) × FoundOnce os
+FoundOnce (o ∷ os) = ((j : ℕ) → o ≡ Some j → WasFound j os → ⊥) × FoundOnce os
 
 -- an old node that may be renewed: it lives, and is neither the parent nor the root
 pub record IsOldChild {A : Type 0} (f : Grove A) (parent k : ℕ) : Type 0 where
@@ -44,10 +45,10 @@ module _ {A : Type 0} where
     pub root : new.root ≡ old.root
 
   -- what is told of these nodes: which have another symbol, and which are new
-  pub record TellsNodes (old new : Nodes A) (ks : List ℕ) (before after : Told) : Type 0 where
+  pub record TellsNodes (old new : Nodes A) (ks : List ℕ) (before after : ToldNodes) : Type 0 where
     pub touched : after.touched ≡ before.touched
     pub changed : TellsAll (HasTurned old new) (KeepsSymbol old new) ks before.changed after.changed
-    pub added : TellsAll (IsNew old) (λ k. IsSome (old k)) ks before.added after.added
+    pub added : TellsAll (IsNewNode old) (λ k. IsSome (old k)) ks before.added after.added
     pub gone : after.gone ≡ before.gone
     pub room : before.room ≤ after.room + length ks
 
@@ -57,7 +58,7 @@ module _ {A : Type 0} where
     pub left : gone ≡ nodes_without m (numbers_of ws) kids
 
   -- there is room for one child
-  pub record CanPlace (f : Grove A) (parent : ℕ) (w : Child) (o : Option ℕ) (t : Told) : Type 0 where
+  pub record CanPlace (f : Grove A) (parent : ℕ) (w : Child) (o : Option ℕ) (t : ToldNodes) : Type 0 where
     pub parent_lives : IsLive f parent
     pub whole : w.symbol ≢ Cut
     pub nodes : births (o ∷ []) ≤ f.spare_nodes
@@ -67,7 +68,7 @@ module _ {A : Type 0} where
     pub found : (k : ℕ) → o ≡ Some k → IsOldChild f parent k
 
   -- there is room for all of them; of the old ones none was found twice
-  pub record CanPlaceAll (f : Grove A) (parent : ℕ) (ws : List Child) (os : List (Option ℕ)) (t : Told) : Type 0 where
+  pub record CanPlaceAll (f : Grove A) (parent : ℕ) (ws : List Child) (os : List (Option ℕ)) (t : ToldNodes) : Type 0 where
     pub parent_lives : IsLive f parent
     pub whole : AreWhole ws
     pub long : length os ≡ length ws
@@ -76,18 +77,18 @@ module _ {A : Type 0} where
     pub notes : notes_for os ≤ f.spare_notes
     pub told : length ws ≤ t.room
     pub once : FoundOnce os
-    pub found : (k : ℕ) → Found k os → IsOldChild f parent k
+    pub found : (k : ℕ) → WasFound k os → IsOldChild f parent k
 
   -- one child was placed
   pub record IsPlaced (old new : Grove A) (parent : ℕ) (w : Child) (o : Option ℕ) (k : ℕ) : Type 0 where
-    pub made : (p : Node A) → now_of old parent ≡ Some p → AreMade (now_of old) (now_of new) parent (p.depth + 1) (w ∷ []) (o ∷ []) (k ∷ [])
+    pub made : (p : Node A) → now_of old parent ≡ Some p → AreFoundOrBorn (now_of old) (now_of new) parent (p.depth + 1) (w ∷ []) (o ∷ []) (k ∷ [])
     pub changes : ChangesAt old new k
     pub spends : Spends old new (births (o ∷ [])) (list_room (params_in w.symbol)) 0 (notes_for (o ∷ []))
 
   -- the first so many children were placed
   pub record HavePlaces (old new : Grove A) (parent : ℕ) (ws : List Child)
       (os : List (Option ℕ)) (ks : List ℕ) : Type 0 where
-    pub made : (p : Node A) → now_of old parent ≡ Some p → AreMade (now_of old) (now_of new) parent (p.depth + 1) ws os ks
+    pub made : (p : Node A) → now_of old parent ≡ Some p → AreFoundOrBorn (now_of old) (now_of new) parent (p.depth + 1) ws os ks
     pub apart : AreApart ks
     pub other : In parent ks → ⊥
     pub long : length ks ≡ length ws

@@ -1,9 +1,10 @@
 //! The children of a node, as they are wanted.
 ghost use Rattle.std.specs.Prelude.{◌≡◌, ◌≢◌, ◌++◌, ◌+◌, ◌≤◌, ℕ, [], OnOk, OnErr, IfOk, IsTrue, map, length, Some, None, is_some};
 ghost use Rattle.std.specs.HashMap.{get};
-ghost use Rattle.lsys_forest.specs.Groves.{In, now_of, rest_of, changes_in, kept_in, IsLive, IsSound};
+ghost use Rattle.lsys_spec.specs.Rows.{In};
+ghost use Rattle.lsys_forest.specs.Groves.{now_of, rest_of, changes_in, kept_in, IsLive, IsRooted};
 ghost use Rattle.lsys_brood.specs.declared.number.Number.{Number};
-ghost use Rattle.lsys_brood.specs.Matches.{same_number, AreApart, number_of};
+ghost use Rattle.lsys_brood.specs.Matches.{same_child_number, AreDifferent, number_of};
 ghost use Rattle.lsys_brood.specs.Children.{numbers_of, AreWhole, IsFew};
 ghost use Rattle.lsys_brood.specs.Families.{HasRoomToRenew, IsNeedFor, MatchesKids, RenewsKids, SpendsNeedOf, TellsIfDone};
 ghost use Rattle.lsys_brood.specs.Numbered.{HoldsKids, SetsNumber, TakesOut, kids_remaining, node_if_left, nodes_found};
@@ -61,9 +62,9 @@ impl Brood {
         wanted: &[Child],
     ) -> Result<(), AllocError>
         requires lives { IsLive forest.now parent }
-        requires apart { AreApart (numbers_of wanted.now) }
+        requires apart { AreDifferent (numbers_of wanted.now) }
         ensures matched { OnOk result (MatchesKids forest.now parent wanted.now self.new) }
-        ensures sound { OnOk result (IsSound forest.now.root (changes_in forest.now) (now_of forest.now)) }
+        ensures sound { OnOk result (IsRooted forest.now.root (changes_in forest.now) (now_of forest.now)) }
     {
         let kids = forest.children(parent);
         if have_numbers(forest, kids, wanted) {
@@ -90,7 +91,7 @@ impl Brood {
         wanted: &[Child],
     ) -> Result<Need, AllocError>
         requires lives { IsLive forest.now parent }
-        requires apart { AreApart (numbers_of wanted.now) }
+        requires apart { AreDifferent (numbers_of wanted.now) }
         requires few { length wanted.now ≤ 4096 }
         ensures matched { OnOk result (MatchesKids forest.now parent wanted.now self.new) }
         ensures need { IfOk result (IsNeedFor forest.now parent wanted.now) }
@@ -115,14 +116,14 @@ impl Brood {
         changes: &mut Changes,
     ) -> Result<(), AllocError>
         requires lives { IsLive forest.old parent }
-        requires apart { AreApart (numbers_of wanted.now) }
+        requires apart { AreDifferent (numbers_of wanted.now) }
         requires whole { AreWhole wanted.now }
         requires room { HasRoomToRenew forest.old parent wanted.now changes.old }
         ensures children { OnOk result (RenewsKids forest.old forest.new parent wanted.now) }
         ensures told { TellsIfDone forest.old forest.new parent wanted.now changes.old changes.new result }
         ensures rest { rest_of forest.new ≡ rest_of forest.old }
         ensures root { forest.new.root ≡ forest.old.root }
-        ensures sound { OnOk result (IsSound forest.old.root (changes_in forest.old) (now_of forest.old)) }
+        ensures sound { OnOk result (IsRooted forest.old.root (changes_in forest.old) (now_of forest.old)) }
         ensures kept { kept_in forest.new ≡ kept_in forest.old }
         ensures spends { OnOk result (SpendsNeedOf forest.old forest.new parent wanted.now) }
         ensures refused { OnErr result ((forest.new ≡ forest.old) × (changes.new ≡ changes.old)) }
@@ -215,7 +216,7 @@ fn enter(
 
 /// Takes out the node that has this number, if there is one. Where there are no nodes it looks at nothing.
 fn take(nodes: &mut HashMap<Number, NodeId>, number: Number) -> Option<NodeId>
-    ensures taken { result ≡ get same_number nodes.old number }
+    ensures taken { result ≡ get same_child_number nodes.old number }
     ensures left { SetsNumber nodes.old nodes.new number None }
 {
     if nodes.is_empty() {
@@ -226,7 +227,7 @@ fn take(nodes: &mut HashMap<Number, NodeId>, number: Number) -> Option<NodeId>
 
 /// Whether there is a node that has this number.
 fn has(nodes: &HashMap<Number, NodeId>, number: Number) -> bool
-    ensures { result ≡ is_some (get same_number nodes.now number) }
+    ensures { result ≡ is_some (get same_child_number nodes.now number) }
 {
     nodes.contains_key(&number)
 }
@@ -255,7 +256,7 @@ fn take_all(
     wanted: &[Child],
     found: &mut Vec<Option<NodeId>>,
 ) -> Result<(), AllocError>
-    requires apart { AreApart (numbers_of wanted.now) }
+    requires apart { AreDifferent (numbers_of wanted.now) }
     ensures found { OnOk result (found.new.items ≡ nodes_found nodes.old wanted.now) }
     ensures left { OnOk result (TakesOut nodes.old nodes.new (numbers_of wanted.now)) }
 {

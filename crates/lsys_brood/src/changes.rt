@@ -1,6 +1,6 @@
 //! What is told of the step from one level to the next.
 ghost use Rattle.std.specs.Prelude.{◌≡◌, ◌+◌, ◌<◌, ◌≤◌, ◌++◌, ◌∷◌, [], length, OnOk, vec_len, vec_capacity};
-ghost use Rattle.lsys_brood.specs.Children.{Told};
+ghost use Rattle.lsys_brood.specs.Children.{ToldNodes};
 ghost use Rattle.lsys_brood.specs.Telling.{nothing_told, with_added, with_changed, with_gone, with_touched};
 
 use lsys_forest::NodeId;
@@ -20,9 +20,9 @@ pub struct Changes {
 
 impl Model for Changes {
     ghost use Rattle.std.specs.Prelude.{◌-◌, length, min, vec_capacity};
-    ghost use Rattle.lsys_brood.specs.Children.{Told};
+    ghost use Rattle.lsys_brood.specs.Children.{ToldNodes};
 
-    ghost Value = { Told };
+    ghost Value = { ToldNodes };
 
     ghost view = { λ a. record {
       touched = a.touched.items;

@@ -4,8 +4,8 @@ ghost use Rattle.lsys_module.specs.declared.symbol.Symbol.TheVariants.{Cut};
 ghost use Rattle.lsys_level.specs.Places.{seen_in, params_in};
 ghost use Rattle.lsys_region.specs.Rooms.{list_room};
 ghost use Rattle.lsys_forest.specs.Nodes.{with_seen, with_key, with_kids};
-ghost use Rattle.lsys_forest.specs.Groves.{now_of, rest_of, changes_in, IsLive, IsSound, spare_params, spare_kids, kept_in, AreKids, Spends};
-ghost use Rattle.lsys_brood.specs.Matches.{AreApart};
+ghost use Rattle.lsys_forest.specs.Groves.{now_of, rest_of, changes_in, IsLive, IsRooted, spare_params, spare_kids, kept_in, AreKids, Spends};
+ghost use Rattle.lsys_brood.specs.Matches.{AreDifferent};
 ghost use Rattle.lsys_brood.specs.Children.{numbers_of, AreWhole};
 ghost use Rattle.lsys_brood.specs.Steps.{IsPlaced, HavePlaces, CanPlace, CanPlaceAll, KindsTell};
 ghost use Rattle.lsys_brood.specs.Families.{AreMatchedKids, FlagFallsByKind, HasRoomToRenew, RenewsKids, SetsBy, SpendsNeedOf, TellsEach, TellsKids, TellsKind, TellsNode, TellsOtherKids};
@@ -198,10 +198,10 @@ pub(crate) fn renew_all<A: Kept>(
     nodes: &mut Vec<NodeId>,
     changes: &mut Changes,
 )
-    requires sound { IsSound forest.old.root (changes_in forest.old) (now_of forest.old) }
+    requires sound { IsRooted forest.old.root (changes_in forest.old) (now_of forest.old) }
     requires lives { IsLive forest.old parent }
     requires matched { AreMatchedKids forest.old parent wanted.now found.now gone.now }
-    requires apart { AreApart (numbers_of wanted.now) }
+    requires apart { AreDifferent (numbers_of wanted.now) }
     requires whole { AreWhole wanted.now }
     requires room { HasRoomToRenew forest.old parent wanted.now changes.old }
     requires empty { nodes.old.items ≡ [] }

@@ -14,7 +14,7 @@ use Rattle.lsys_spec.specs.Equalities.{same_number, same_option, same_tree, same
 use Rattle.lsys_spec.specs.Standings.{free, same_filter}
 use Rattle.lsys_change.specs.Groups.{module_rules, has_same_rules}
 use Rattle.lsys_change.proofs.Keys.{key_back}
-use Rattle.lsys_candidates.specs.Others.{are_alike, bodies_of}
+use Rattle.lsys_candidates.specs.Others.{are_alike, meant_bodies}
 
 -- 1. groups with the same bodies have weights both or neither
 
@@ -53,7 +53,7 @@ or_else : (a b c : Bool) → b ≡ c → (a || b) ≡ (elim a [ true ↦ true | 
 or_else true b c h = refl
 or_else false b c h = h
 
-pub weights_among : (rs : List Rule) → list_any (λ r. is_some (body_of (rule_of r)).weight) rs ≡ any_weight (bodies_of rs)
+pub weights_among : (rs : List Rule) → list_any (λ r. is_some (body_of (rule_of r)).weight) rs ≡ any_weight (meant_bodies rs)
 weights_among [] = refl
 weights_among (r ∷ rs) = or_else (is_some (body_of (rule_of r)).weight) _ _ (weights_among rs)
 

@@ -10,7 +10,7 @@ use Rattle.lsys_spec.specs.Equalities.{same_all, same_body}
 use Rattle.lsys_spec.specs.Standings.{free, same_filter}
 use Rattle.lsys_laws.proofs.Aparts.{bytes_eq_true}
 use Rattle.lsys_bodies.specs.declared.rule.Rule.{Rule}
-use Rattle.lsys_bodies.specs.Views.{production_of}
+use Rattle.lsys_bodies.specs.Views.{as_production}
 use Rattle.lsys_bodies.proofs.Loops.{drop-here}
 use Rattle.lsys_candidates.specs.Others.{RulesOf, AreAllAlike, HasOther, are_alike, is_alike_for, all_alike_for}
 
@@ -99,7 +99,7 @@ told_new r q s a b e f is k =
 
 -- 4. rules that are gone through
 
-pub next_alike : (r : RulesOf) (table : List ℕ) (rs : List Rule) (i : ℕ) (x : Rule) (b : Bool) → i < length rs → x ≡ get_or rs i x → b ≡ is_alike_for r table (production_of x)
-    → all_alike_for r table (map production_of (drop i rs)) ≡ (b && all_alike_for r table (map production_of (drop (i + 1) rs)))
+pub next_alike : (r : RulesOf) (table : List ℕ) (rs : List Rule) (i : ℕ) (x : Rule) (b : Bool) → i < length rs → x ≡ get_or rs i x → b ≡ is_alike_for r table (as_production x)
+    → all_alike_for r table (map as_production (drop i rs)) ≡ (b && all_alike_for r table (map as_production (drop (i + 1) rs)))
 next_alike r table rs i x b h is e =
-    ap (λ xs. all_alike_for r table (map production_of xs)) (drop-here rs i x h is) ∙ ap (λ a. a && all_alike_for r table (map production_of (drop (i + 1) rs))) (sym e)
+    ap (λ xs. all_alike_for r table (map as_production xs)) (drop-here rs i x h is) ∙ ap (λ a. a && all_alike_for r table (map as_production (drop (i + 1) rs))) (sym e)

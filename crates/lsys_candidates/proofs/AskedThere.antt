@@ -4,7 +4,7 @@ use Rattle.std.specs.Prelude.{◌==◌, ◌&&◌, slice_get}
 use Rattle.std.proofs.lemmas.Option.{none-some, same_Some}
 use Rattle.lsys_spec.specs.Systems.{System}
 use Rattle.lsys_spec.specs.Bodies.{Body, group}
-use Rattle.lsys_spec.specs.Levels.{ModuleValue, Symbol, Push, Pop, Module, lineage, IsLevel}
+use Rattle.lsys_spec.specs.Levels.{ModuleValue, LevelSymbol, Push, Pop, Module, lineage, IsLevel}
 use Rattle.lsys_spec.specs.Equalities.{same_lineage}
 use Rattle.lsys_spec.specs.Questions.{Question, question, where_any, questions_from, questions_at, questions_below, questions, question_at}
 use Rattle.lsys_spec.proofs.Equal.{same_lineage_refl}
@@ -47,7 +47,7 @@ hit_own : (t : ℕ) (l : List ℕ) (bs : List Body) (q : Question) (qs : List Qu
 hit_own t l [] q qs n e f = absurd (n refl)
 hit_own t l (b ∷ bs) q qs n e f = hit_first t l q qs e f
 
-hit_from : (s : System) (t : ℕ) (x : List Symbol) (p : ℕ) (ms : List Symbol) (i : ℕ) (l : List ℕ) (m : ModuleValue)
+hit_from : (s : System) (t : ℕ) (x : List LevelSymbol) (p : ℕ) (ms : List LevelSymbol) (i : ℕ) (l : List ℕ) (m : ModuleValue)
     → slice_get ms i ≡ Some (Module l m) → (group s t m.name (length m.params) ≡ [] → ⊥) → IsHit t l (questions_from s t x p ms)
 hit_from s t x p [] i l m h n = absurd (none-some (Module l m) h)
 hit_from s t x p (Push k ∷ ms) zero l m h n = absurd (let e : Push k ≡ Module l m = same_Some (Push k) (Module l m) h in cc)
@@ -63,7 +63,7 @@ hit_from s t x p (Pop k ∷ ms) (suc i) l m h n = hit_from s t x (p + 1) ms i l 
 hit_from s t x p (Module k v ∷ ms) (suc i) l m h n =
     hit_any t l (group s t v.name (length v.params)) (question s t (group s t v.name (length v.params)) x p k v) (questions_from s t x (p + 1) ms) (hit_from s t x (p + 1) ms i l m h n)
 
-hit_below : (s : System) (u : ℕ) (xs : List (List Symbol)) (i t : ℕ) (x : List Symbol) (p : ℕ) (l : List ℕ) (m : ModuleValue) → u + i ≡ t → slice_get xs i ≡ Some x → i + 1 < length xs
+hit_below : (s : System) (u : ℕ) (xs : List (List LevelSymbol)) (i t : ℕ) (x : List LevelSymbol) (p : ℕ) (l : List ℕ) (m : ModuleValue) → u + i ≡ t → slice_get xs i ≡ Some x → i + 1 < length xs
     → slice_get x p ≡ Some (Module l m) → (group s t m.name (length m.params) ≡ [] → ⊥) → IsHit t l (questions_below s u xs)
 hit_below s u [] i t x p l m e g b h n = absurd (omega (arith, b))
 hit_below s u (y ∷ []) i t x p l m e g b h n = absurd (omega (arith, b))
@@ -75,7 +75,7 @@ hit_below s u (y ∷ z ∷ xs) zero t x p l m e g b h n =
 hit_below s u (y ∷ z ∷ xs) (suc i) t x p l m e g b h n =
     hit_right t l (questions_at s u y) (questions_below s (u + 1) (z ∷ xs)) (hit_below s (u + 1) (z ∷ xs) i t x p l m (omega (arith, e)) g (omega (arith, b)) h n)
 
-pub asked_there : (s : System) (xs : List (List Symbol)) (t : ℕ) (x : List Symbol) (p : ℕ) (l : List ℕ) (m : ModuleValue) → IsLevel x → slice_get xs t ≡ Some x → t + 1 < length xs
+pub asked_there : (s : System) (xs : List (List LevelSymbol)) (t : ℕ) (x : List LevelSymbol) (p : ℕ) (l : List ℕ) (m : ModuleValue) → IsLevel x → slice_get xs t ≡ Some x → t + 1 < length xs
     → slice_get x p ≡ Some (Module l m) → (group s t m.name (length m.params) ≡ [] → ⊥)
     → question_at t l (questions s xs) ≡ Some (question s t (group s t m.name (length m.params)) x p l m)
 asked_there s xs t x p l m level g b h n = by (question_at t l (questions s xs)) refl

@@ -3,11 +3,12 @@ use Rattle.std.proofs.Common.{false, ◌≡◌, ◌⊎◌, ◌↔◌, ◌+◌, �
 use Rattle.std.specs.Prelude.{slice_get}
 use Rattle.std.proofs.lemmas.Bool.{cases_eq}
 use Rattle.std.proofs.lemmas.Option.{none-some, same_Some}
+use Rattle.lsys_spec.specs.Rows.{In}
 use Rattle.lsys_spec.specs.Levels.{ModuleValue}
 use Rattle.lsys_level.specs.Spots.{Module, named}
 use Rattle.lsys_reads.specs.Relations.{Relations}
 use Rattle.lsys_change.specs.Seams.{node_before}
-use Rattle.lsys_forest.specs.Groves.{In, changes_in}
+use Rattle.lsys_forest.specs.Groves.{changes_in}
 use Rattle.lsys_forest.specs.Rows.{depth_in, index_in, spot_in, level_nodes, level_of_node}
 use Rattle.lsys_forest.proofs.RowLemmas.{level_depth, In_append, In_left, In_right}
 use Rattle.lsys_kept.specs.Lineages.{names}
@@ -22,7 +23,7 @@ use Rattle.lsys_candidates.specs.Found.{LevelChanges}
 use Rattle.lsys_candidates.specs.Finds.{IsTurned, IsBeside}
 use Rattle.lsys_candidates.specs.Found.{IsOther, IsFound, IsAmong, SteppingNodes}
 use Rattle.lsys_candidates.specs.Repairs.{Repair, now, rest, root, were, are}
-use Rattle.lsys_candidates.specs.Candidates.{StandsStill, MayDiffer, was_last, moved, read_moved, other_rules, HasQuestion, IsCandidateNode}
+use Rattle.lsys_candidates.specs.Candidates.{IsUndisturbed, MayDiffer, was_last, moved, read_moved, other_rules, AsksNow, IsCandidateNode}
 use Rattle.lsys_candidates.proofs.Gathering.{not_both}
 use Rattle.lsys_candidates.proofs.Spots.{is_in, sound_new, name, new_is_level, old_is_level}
 use Rattle.lsys_candidates.proofs.Nodes.{was_asked, has_asked}
@@ -78,15 +79,15 @@ module _ (r : Repair) (seats : List Seat) (reads : Relations) (c : LevelChanges)
       ap (λ xs. neighbours_on (now r) xs (index_in k xs)) level ∙ ap (neighbours_on (now r) (are r)) (place_is k p h)
 
   -- of a node that stands still
-  still_seated : (k : ℕ) → StandsStill r k → neighbours_in r.forest k ≡ neighbours_at seats k
+  still_seated : (k : ℕ) → IsUndisturbed r k → neighbours_in r.forest k ≡ neighbours_at seats k
   still_seated k t = neighbours_are k t.new_place t.is_there ∙ t.same.neighbours ∙ sym (s.seated t.old_place k t.was_there)
 
   -- 3. what was found does not stand still
 
-  turned_moved : (k : ℕ) → IsTurned r.forest seats c.looked k → StandsStill r k → ⊥
+  turned_moved : (k : ℕ) → IsTurned r.forest seats c.looked k → IsUndisturbed r k → ⊥
   turned_moved k t still = t.turned (still_seated k still)
 
-  changed_moved : (j k : ℕ) → In j c.changed → StandsStill r k → (neighbours_in r.forest j).left ≡ Some k → ⊥
+  changed_moved : (j k : ℕ) → In j c.changed → IsUndisturbed r k → (neighbours_in r.forest j).left ≡ Some k → ⊥
   changed_moved j k h t e =
       let ch = (s.differs.changed j).0 h in
       let q = place_in j (are r) ch.0 in
@@ -95,7 +96,7 @@ module _ (r : Repair) (seats : List Seat) (reads : Relations) (c : LevelChanges)
       let right : slice_get (are r) (t.new_place + 1) ≡ Some j = ap (slice_get (are r)) (ap (λ n. n + 1) (sym place) ∙ sym b.1) ∙ q.1 in
       ch.2 (t.same.right j (sym (ap (λ n. n.right) t.same.neighbours) ∙ right))
 
-  changed_moves : (j k : ℕ) → In j c.changed → StandsStill r k → (neighbours_in r.forest j).right ≡ Some k → ⊥
+  changed_moves : (j k : ℕ) → In j c.changed → IsUndisturbed r k → (neighbours_in r.forest j).right ≡ Some k → ⊥
   changed_moves j k h t e =
       let ch = (s.differs.changed j).0 h in
       let q = place_in j (are r) ch.0 in
@@ -104,7 +105,7 @@ module _ (r : Repair) (seats : List Seat) (reads : Relations) (c : LevelChanges)
       let left : node_before (are r) t.new_place ≡ Some j = ap (node_before (are r)) (sym place) ∙ is_before (are r) q.0 j q.1 in
       ch.2 (t.same.left j (sym (ap (λ n. n.left) t.same.neighbours) ∙ left))
 
-  beside_moved : (k : ℕ) → IsBeside r.forest c.changed k → StandsStill r k → ⊥
+  beside_moved : (k : ℕ) → IsBeside r.forest c.changed k → IsUndisturbed r k → ⊥
   beside_moved k b t = elim b.near [
     | inl e ↦ ((s.differs.changed b.node).0 b.among).2 (subst (λ k. seen_at (now r) k ≡ seen_at (rest r) k) e t.same.symbol)
     | inr o ↦ elim o [
@@ -113,10 +114,10 @@ module _ (r : Repair) (seats : List Seat) (reads : Relations) (c : LevelChanges)
     ]
   ]
 
-  gone_moved : (k : ℕ) → In k c.gone → StandsStill r k → ⊥
+  gone_moved : (k : ℕ) → In k c.gone → IsUndisturbed r k → ⊥
   gone_moved k h t = ((s.differs.gone k).0 h).1 (got_in (are r) t.new_place k t.is_there)
 
-  came_moved : (k : ℕ) → In k c.came → StandsStill r k → ⊥
+  came_moved : (k : ℕ) → In k c.came → IsUndisturbed r k → ⊥
   came_moved k h t = ((s.differs.came k).0 h).1 (got_in (were r) t.old_place k t.was_there)
 
   beside_there : (k : ℕ) → IsBeside r.forest c.changed k → In k (are r)
@@ -176,7 +177,7 @@ module _ (r : Repair) (seats : List Seat) (reads : Relations) (c : LevelChanges)
           (λ e. go (λ j e'. subst (λ j. seen_at (now r) j ≡ seen_at (rest r) j) (same_Some x j (sym l ∙ e')) e))
 
       -- so it stands still
-      stands : (StandsStill r k → ⊥) → ⊥
+      stands : (IsUndisturbed r k → ⊥) → ⊥
       stands ne =
           let q = place_in k (are r) h in
           let p = place_in k (were r) i in
@@ -190,7 +191,7 @@ module _ (r : Repair) (seats : List Seat) (reads : Relations) (c : LevelChanges)
             same = record { symbol = symbol; neighbours = same; left = keeps; right = keeps' };
           }))))
 
-    moved_found : (k : ℕ) → In k (were r) → (StandsStill r k → ⊥) → In k turned ⊎ (In k beside ⊎ In k c.gone)
+    moved_found : (k : ℕ) → In k (were r) → (IsUndisturbed r k → ⊥) → In k turned ⊎ (In k beside ⊎ In k c.gone)
     moved_found k i ne = elim (is_in k (are r)) [
       | inr n ↦ inr (inr ((s.differs.gone k).1 (i, n)))
       | inl h ↦ elim (is_in k turned) [
@@ -209,7 +210,7 @@ module _ (r : Repair) (seats : List Seat) (reads : Relations) (c : LevelChanges)
         let same : asked.0 ≡ read.answer = same_Some asked.0 read.answer (sym asked.1 ∙ read.kept) in
         asked.2.among j (subst (λ a. In j (tags_read r.store a)) (sym same) read.among)
 
-    found_were : (j : ℕ) → In j (turned ++ (beside ++ c.gone)) → In j (were r) × (StandsStill r j → ⊥)
+    found_were : (j : ℕ) → In j (turned ++ (beside ++ c.gone)) → In j (were r) × (IsUndisturbed r j → ⊥)
     found_were j h = elim (In_append turned (beside ++ c.gone) j h) [
       | inl t ↦ (let u = (f.turned_are j).0 t in (was_there j (s.looked_are j u.0.looked_at) (λ e. u.1 (inr e)), turned_moved j u.0))
       | inr o ↦ elim (In_append beside c.gone j o) [
@@ -227,7 +228,7 @@ module _ (r : Repair) (seats : List Seat) (reads : Relations) (c : LevelChanges)
       ]
     ]
 
-    reader_found : (k j : ℕ) → In k (are r) → In k (were r) → HasRead (rest r) r.store k j → (StandsStill r j → ⊥) → IsAmong c turned beside readers k
+    reader_found : (k j : ℕ) → In k (are r) → In k (were r) → HasRead (rest r) r.store k j → (IsUndisturbed r j → ⊥) → IsAmong c turned beside readers k
     reader_found k j h i read ne = elim (is_in k turned) [
       | inl t ↦ inr (inl t)
       | inr n ↦ elim (is_in k beside) [
@@ -270,7 +271,7 @@ module _ (r : Repair) (seats : List Seat) (reads : Relations) (c : LevelChanges)
         let h = (s.others_are k o).1 in
         other_rules (subst (λ v. has_same_rules r.old r.new r.level (names (now r) k) v ≡ false) (one_value h.own v (sym h.is ∙ seen)) h.rules)
 
-    pub asked_are : (k : ℕ) → In k (are r) → IsCandidateNode r k ↔ (HasQuestion r k × (In k others ⊎ IsAmong c turned beside readers k))
+    pub asked_are : (k : ℕ) → In k (are r) → IsCandidateNode r k ↔ (AsksNow r k × (In k others ⊎ IsAmong c turned beside readers k))
     asked_are k h = (
       λ a. (
         a.asks,
@@ -304,7 +305,7 @@ module _ (r : Repair) (seats : List Seat) (reads : Relations) (c : LevelChanges)
     seated_are k h g n = no_turn k h (was_there k h g) n
 
 pub found_asked : (r : Repair) (seats : List Seat) (reads : Relations) (c : LevelChanges) (others turned beside readers : List ℕ) → SteppingNodes r seats reads c others → IsFound r.forest seats reads c turned beside readers
-    → (k : ℕ) → In k (are r) → IsCandidateNode r k ↔ (HasQuestion r k × (In k others ⊎ IsAmong c turned beside readers k))
+    → (k : ℕ) → In k (are r) → IsCandidateNode r k ↔ (AsksNow r k × (In k others ⊎ IsAmong c turned beside readers k))
 found_asked r seats reads c others turned beside readers s f = asked_are r seats reads c others s turned beside readers f
 
 pub found_there : (r : Repair) (seats : List Seat) (reads : Relations) (c : LevelChanges) (others turned beside readers : List ℕ) → SteppingNodes r seats reads c others → IsFound r.forest seats reads c turned beside readers

@@ -5,16 +5,17 @@ use Rattle.std.specs.Prelude.{◌==◌, slice_get}
 use Rattle.std.proofs.lemmas.Bool.{cases_eq, eqb-true}
 use Rattle.lsys_spec.proofs.Tests.{one_of, or_first, or_later}
 use Rattle.std.proofs.lemmas.Option.{none-some, same_Some}
+use Rattle.lsys_spec.specs.Rows.{In}
 use Rattle.lsys_kept.proofs.LevelLemmas.{got_in}
 use Rattle.lsys_kept.proofs.SeamLemmas.{in_taken_next}
 use Rattle.lsys_reads.specs.Rows.{has}
 use Rattle.lsys_reads.specs.Relations.{Relations, is_settled}
-use Rattle.lsys_forest.specs.Groves.{Grove, In}
+use Rattle.lsys_forest.specs.Groves.{Grove}
 use Rattle.lsys_forest.proofs.RowLemmas.{In_append, In_left, In_right, apart_append}
 use Rattle.lsys_kept.specs.declared.seat.Seat.{Seat}
 use Rattle.lsys_kept.specs.Neighbours.{neighbours_in}
 use Rattle.lsys_kept.specs.Seats.{is_marked, SameSeats, KeepsSeats}
-use Rattle.lsys_candidates.specs.Finds.{Gathers, IsTurned, IsNear, IsBeside, IsReader}
+use Rattle.lsys_candidates.specs.Finds.{Gathers, IsTurned, IsAtOrBeside, IsBeside, IsReader}
 
 pub marked_or_not : (b : Bool) → (b ≡ true) ⊎ (b ≡ false)
 marked_or_not true = inl refl
@@ -144,15 +145,15 @@ module _ {A : Type 0} where
       own k (inl e) = subst (λ j. In j us) (sym e) (got_in us i x here)
       own k (inr n) = absurd n
 
-  pub beside_next : (f : Grove A) (a b c : List Seat) (xs ys zs us : List ℕ) (i x : ℕ) → slice_get us i ≡ Some x → Gathers (IsBeside f us) a b xs ys → Gathers (IsNear f x) b c ys zs → Gathers (IsBeside f us) a c xs zs
-  beside_next f a b c xs ys zs us i x here g h = gathers_next (IsBeside f us) (IsNear f x) a b c xs ys zs (λ k t. record { node = x; among = got_in us i x here; near = t }) g h
+  pub beside_next : (f : Grove A) (a b c : List Seat) (xs ys zs us : List ℕ) (i x : ℕ) → slice_get us i ≡ Some x → Gathers (IsBeside f us) a b xs ys → Gathers (IsAtOrBeside f x) b c ys zs → Gathers (IsBeside f us) a c xs zs
+  beside_next f a b c xs ys zs us i x here g h = gathers_next (IsBeside f us) (IsAtOrBeside f x) a b c xs ys zs (λ k t. record { node = x; among = got_in us i x here; near = t }) g h
 
   -- a node, and those beside it
   pub all_near : (f : Grove A) (node : ℕ) (a b c d : List Seat) (xs ys zs ws : List ℕ) (left right : Option ℕ) → left ≡ (neighbours_in f node).left → right ≡ (neighbours_in f node).right
-      → Gathers (λ k. k ≡ node) a b xs ys → Gathers (λ k. left ≡ Some k) b c ys zs → Gathers (λ k. right ≡ Some k) c d zs ws → Gathers (IsNear f node) a d xs ws
+      → Gathers (λ k. k ≡ node) a b xs ys → Gathers (λ k. left ≡ Some k) b c ys zs → Gathers (λ k. right ≡ Some k) c d zs ws → Gathers (IsAtOrBeside f node) a d xs ws
   all_near f node a b c d xs ys zs ws left right l r g h i =
-      gathers_next (IsNear f node) (λ k. right ≡ Some k) a c d xs zs ws (λ k e. inr (inr (sym r ∙ e)))
-      (gathers_next (IsNear f node) (λ k. left ≡ Some k) a b c xs ys zs (λ k e. inr (inl (sym l ∙ e))) (gathers_kind (λ k. k ≡ node) (IsNear f node) a b xs ys (λ k e. inl e) g) h) i
+      gathers_next (IsAtOrBeside f node) (λ k. right ≡ Some k) a c d xs zs ws (λ k e. inr (inr (sym r ∙ e)))
+      (gathers_next (IsAtOrBeside f node) (λ k. left ≡ Some k) a b c xs ys zs (λ k e. inr (inl (sym l ∙ e))) (gathers_kind (λ k. k ≡ node) (IsAtOrBeside f node) a b xs ys (λ k e. inl e) g) h) i
 
 pub readers_next : (reads : Relations) (a b c : List Seat) (xs ys zs us tags : List ℕ) (i x : ℕ) → slice_get us i ≡ Some x → ((k : ℕ) → has tags k ≡ is_settled reads k x)
     → Gathers (IsReader reads us) a b xs ys → Gathers (λ k. In k tags) b c ys zs → Gathers (IsReader reads us) a c xs zs

@@ -9,13 +9,13 @@ use Rattle.lsys_laws.proofs.Aparts.{bytes_eq_true}
 use Rattle.lsys_module.specs.Views.{module_name}
 use Rattle.lsys_candidates.specs.declared.module_key.ModuleKey.{ModuleKey}
 use Rattle.lsys_candidates.specs.Others.{are_alike}
-use Rattle.lsys_candidates.specs.Known.{same_key, AreKnown}
+use Rattle.lsys_candidates.specs.Known.{same_module_key, KnowsAlike}
 
 both : (x y : Bool) → (x && y) ≡ true → (x ≡ true) × (y ≡ true)
 both true y h = (refl, h)
 both false y h = cc
 
-one_key : (a b : ModuleKey) → same_key a b ≡ true → a ≡ b
+one_key : (a b : ModuleKey) → same_module_key a b ≡ true → a ≡ b
 one_key a b h =
     let t = both (bytes_eq a.name b.name) _ h in
     let name : a.name ≡ b.name = bytes_eq_true a.name b.name t.0 in
@@ -24,18 +24,18 @@ one_key a b h =
 
 module _ {S : Type 0} (m n : HashMap ModuleKey Bool S) (old new : System) (t : ℕ) where
   -- nothing is kept
-  pub none_known : m.entries ≡ [] → AreKnown m old new t
-  none_known e key alike h = absurd (none-some alike (sym (ap (lookup (same_key key)) e) ∙ h))
+  pub none_known : m.entries ≡ [] → KnowsAlike m old new t
+  none_known e key alike h = absurd (none-some alike (sym (ap (lookup (same_module_key key)) e) ∙ h))
 
   -- nothing more is kept
-  pub same_known : n.entries ≡ m.entries → AreKnown m old new t → AreKnown n old new t
-  same_known e known key alike h = known key alike (sym (ap (lookup (same_key key)) e) ∙ h)
+  pub same_known : n.entries ≡ m.entries → KnowsAlike m old new t → KnowsAlike n old new t
+  same_known e known key alike h = known key alike (sym (ap (lookup (same_module_key key)) e) ∙ h)
 
   -- one answer more is kept
-  pub more_known : (key : ModuleKey) (alike : Bool) → ((q : ModuleKey) → get same_key n q ≡ cond (same_key key q) (Some alike) (get same_key m q))
-      → alike ≡ are_alike old new t (module_name key.name) key.arity → AreKnown m old new t → AreKnown n old new t
-  more_known key alike put is known q b h = by (same_key key q) refl (sym (put q) ∙ h)
+  pub more_known : (key : ModuleKey) (alike : Bool) → ((q : ModuleKey) → get same_module_key n q ≡ cond (same_module_key key q) (Some alike) (get same_module_key m q))
+      → alike ≡ are_alike old new t (module_name key.name) key.arity → KnowsAlike m old new t → KnowsAlike n old new t
+  more_known key alike put is known q b h = by (same_module_key key q) refl (sym (put q) ∙ h)
     where
-      by : (s : Bool) → same_key key q ≡ s → cond s (Some alike) (get same_key m q) ≡ Some b → b ≡ are_alike old new t (module_name q.name) q.arity
+      by : (s : Bool) → same_module_key key q ≡ s → cond s (Some alike) (get same_module_key m q) ≡ Some b → b ≡ are_alike old new t (module_name q.name) q.arity
       by true e k = sym (same_Some alike b k) ∙ is ∙ ap (λ (a : ModuleKey). are_alike old new t (module_name a.name) a.arity) (one_key key q e)
       by false e k = known q b k

@@ -7,25 +7,25 @@ use Rattle.lsys_laws.proofs.Aparts.{bytes_eq_true}
 use Rattle.std.proofs.lemmas.Slice.Eq.{bytes_eq-Decides}
 use Rattle.lsys_syntax.specs.Strings.{ModuleName}
 use Rattle.lsys_syntax.specs.Commands.{ListKind}
-use Rattle.lsys_spec.specs.Walks.{any}
+use Rattle.lsys_spec.specs.Walks.{any_holds}
 use Rattle.lsys_spec.specs.Meaning.{ignores}
 use Rattle.lsys_spec.specs.Standings.{all_ignored, same_ignored, same_kind}
 use Rattle.lsys_spec.specs.Systems.{module_name_text, same_name}
 use Rattle.lsys_text.specs.Texts.{IsNameBytes}
 use Rattle.lsys_module.specs.Views.{module_name}
 use Rattle.lsys_module.proofs.Names.{same_name-module_name}
-use Rattle.lsys_candidates.specs.Listed.{HasNames}
+use Rattle.lsys_candidates.specs.Listed.{ListsNames}
 use Rattle.lsys_rules.proofs.Grouping.{take_here, map_more}
 
 -- 1. one more name
 
-any_last : {A : Type 0} (p : A → Bool) (xs : List A) (x : A) → any p (xs ++ x ∷ []) ≡ (p x || any p xs)
+any_last : {A : Type 0} (p : A → Bool) (xs : List A) (x : A) → any_holds p (xs ++ x ∷ []) ≡ (p x || any_holds p xs)
 any_last p [] x = by (p x)
   where
     by : (b : Bool) → (elim b [ true ↦ true | false ↦ false ]) ≡ (b || false)
     by true = refl
     by false = refl
-any_last p (y ∷ ys) x = by (p y) (p x) (any p (ys ++ x ∷ [])) (any p ys) (any_last p ys x)
+any_last p (y ∷ ys) x = by (p y) (p x) (any_holds p (ys ++ x ∷ [])) (any_holds p ys) (any_last p ys x)
   where
     by : (a b c d : Bool) → c ≡ (b || d) → (elim a [ true ↦ true | false ↦ c ]) ≡ (b || (elim a [ true ↦ true | false ↦ d ]))
     by true true c d h = refl
@@ -36,7 +36,7 @@ module _ {S : Type 0} (old new : HashSet (List ℕ) S) where
   -- a set with one name more
   pub one_more : (name : List ℕ) (names : List ModuleName) → IsNameBytes name
       → ((text : List ℕ) → contains bytes_eq new text ≡ cond (bytes_eq name text) true (contains bytes_eq old text))
-      → HasNames old names → HasNames new (names ++ module_name name ∷ [])
+      → ListsNames old names → ListsNames new (names ++ module_name name ∷ [])
   one_more name names h put has text k =
       put text ∙ by (bytes_eq name text) (contains bytes_eq old text)
       ∙ ap₂ (λ s c. s || c) (sym (same_name-module_name name text h k)) (has text k)
@@ -47,15 +47,15 @@ module _ {S : Type 0} (old new : HashSet (List ℕ) S) where
       by false c = refl
 
 -- an empty set
-pub no_names : {S : Type 0} (set : HashSet (List ℕ) S) → set.keys ≡ [] → HasNames set []
+pub no_names : {S : Type 0} (set : HashSet (List ℕ) S) → set.keys ≡ [] → ListsNames set []
 no_names set e text k = ap (list_any (bytes_eq text)) e
 
 -- one more of the names is in the set
 pub next_name : {S : Type 0} (old new : HashSet (List ℕ) S) (names : List (List ℕ)) (i : ℕ) (x : List ℕ) → i < length names → x ≡ get_or names i x
-    → ((ns : List ModuleName) → HasNames old ns → HasNames new (ns ++ module_name x ∷ []))
-    → HasNames old (map module_name (take i names)) → HasNames new (map module_name (take (i + 1) names))
+    → ((ns : List ModuleName) → ListsNames old ns → ListsNames new (ns ++ module_name x ∷ []))
+    → ListsNames old (map module_name (take i names)) → ListsNames new (map module_name (take (i + 1) names))
 next_name old new names i x h e put has =
-    subst (HasNames new) (sym (ap (map module_name) (take_here names i x h e) ∙ map_more module_name (take i names) x)) (put (map module_name (take i names)) has)
+    subst (ListsNames new) (sym (ap (map module_name) (take_here names i x h e) ∙ map_more module_name (take i names) x)) (put (map module_name (take i names)) has)
 
 -- 2. the same names in order
 

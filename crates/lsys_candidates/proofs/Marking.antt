@@ -1,7 +1,8 @@
 -- Who is found, by what is marked.
 use Rattle.std.proofs.Common.{◌≡◌, ◌⊎◌, ◌↔◌, ℕ, true, false, List, [], ◌++◌, sym, ◌∙◌, subst, inl, inr}
+use Rattle.lsys_spec.specs.Rows.{In, AreApart}
 use Rattle.lsys_reads.specs.Relations.{Relations}
-use Rattle.lsys_forest.specs.Groves.{Grove, In, AreApart}
+use Rattle.lsys_forest.specs.Groves.{Grove}
 use Rattle.lsys_forest.proofs.RowLemmas.{In_append, In_left, In_right}
 use Rattle.lsys_kept.specs.declared.seat.Seat.{Seat}
 use Rattle.lsys_kept.specs.Seats.{is_marked, SameSeats}

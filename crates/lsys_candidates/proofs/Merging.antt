@@ -4,7 +4,8 @@ use Rattle.std.specs.Prelude.{slice_get}
 use Rattle.std.proofs.lemmas.Bool.{cases_lt}
 use Rattle.lsys_candidates.proofs.Adding.{take_all}
 use Rattle.std.proofs.lemmas.Option.{none-some, same_Some}
-use Rattle.lsys_forest.specs.Groves.{Grove, In, AreApart}
+use Rattle.lsys_spec.specs.Rows.{In, AreApart}
+use Rattle.lsys_forest.specs.Groves.{Grove}
 use Rattle.lsys_forest.specs.Rows.{level_of_node, place_of_node, IsAtSpot}
 use Rattle.lsys_forest.proofs.RowLemmas.{In_append, In_left, In_right}
 use Rattle.lsys_kept.specs.Neighbours.{level_around}

@@ -3,11 +3,12 @@ use Rattle.std.proofs.Common.{◌≡◌, ◌<◌, ◌||◌, ℕ, Bool, true, fal
 use Rattle.std.specs.Prelude.{◌↔◌, not, flat_map, get_or, slice_get, option_map}
 use Rattle.std.proofs.lemmas.Bool.{cases_lt}
 use Rattle.std.proofs.lemmas.Option.{none-some, same_Some, slice_get-map, get_or_from_slice_get}
+use Rattle.lsys_spec.specs.Rows.{In}
 use Rattle.lsys_spec.specs.Draws.{key_of}
 use Rattle.lsys_spec.specs.Bodies.{Body, group}
-use Rattle.lsys_spec.specs.Levels.{ModuleValue, Symbol, lineage}
+use Rattle.lsys_spec.specs.Levels.{ModuleValue, LevelSymbol, lineage}
 use Rattle.lsys_spec.specs.Levels as L
-use Rattle.lsys_spec.specs.Walks.{lineages_named, any}
+use Rattle.lsys_spec.specs.Walks.{lineages_named, any_holds}
 use Rattle.lsys_spec.specs.Equalities.{same_all, same_body}
 use Rattle.lsys_spec.specs.Questions.{Question, question, questions, question_at}
 use Rattle.lsys_spec.specs.Standings.{is_disturbed, any_disturbed, touched_there}
@@ -26,16 +27,15 @@ use Rattle.lsys_change.specs.Groups.{has_same_rules}
 use Rattle.lsys_change.proofs.Found.{old_candidate, all_read}
 use Rattle.lsys_change.proofs.Asked.{none_last}
 use Rattle.lsys_forest.specs.Nodes.{Node}
-use Rattle.lsys_forest.specs.Groves.{In}
 use Rattle.lsys_forest.specs.Rows.{spot_in, level_spots}
 use Rattle.lsys_forest.proofs.RowLemmas.{In_append}
 use Rattle.lsys_kept.specs.Lineages.{names}
-use Rattle.lsys_kept.specs.Levels.{IsRight, IsKeptFor, IsAnswered, answer_at, tags_named, tags_read, HasRead}
+use Rattle.lsys_kept.specs.Levels.{IsRight, IsKeptFor, IsAnsweredRight, answer_at, tags_named, tags_read, HasRead}
 use Rattle.lsys_kept.specs.Meant.{level_to, IsCandidate}
 use Rattle.lsys_kept.specs.Standings.{seen_at}
 use Rattle.lsys_kept.proofs.LevelLemmas.{named_by_number, lineage_named, symbol_at, got_in, place_in}
 use Rattle.lsys_candidates.specs.Repairs.{Repair, now, rest, root, were, are, SteppingSpots}
-use Rattle.lsys_candidates.specs.Candidates.{StandsStill, MayDiffer, was_last, moved, read_moved, other_rules, IsCandidateNode}
+use Rattle.lsys_candidates.specs.Candidates.{IsUndisturbed, MayDiffer, was_last, moved, read_moved, other_rules, IsCandidateNode}
 use Rattle.lsys_candidates.proofs.AskedThere.{asked_there}
 use Rattle.lsys_candidates.proofs.Gathering.{marked_or_not, not_both}
 use Rattle.lsys_candidates.proofs.Spots.{is_in, xs, ys, name, was_level, is_level, still_is, old_there, old_within, old_is_level, old_long, new_long, new_there, old_name, old_and_new, one_node}
@@ -86,14 +86,14 @@ pub tag_is : (k : ℕ) (o : Option (Node Kept)) → (spot_in k o).tag ≡ k
 tag_is k None = refl
 tag_is k (Some n) = refl
 
-any_in : (p : List ℕ → Bool) (f : ℕ → List ℕ) (ks : List ℕ) (k : ℕ) → In k ks → p (f k) ≡ true → any p (map f ks) ≡ true
+any_in : (p : List ℕ → Bool) (f : ℕ → List ℕ) (ks : List ℕ) (k : ℕ) → In k ks → p (f k) ≡ true → any_holds p (map f ks) ≡ true
 any_in p f [] k h e = absurd h
-any_in p f (x ∷ ks) k (inl i) e = any_is p (f x) (map f ks) ∙ or_first (p (f x)) (any p (map f ks)) (ap (λ k. p (f k)) (sym i) ∙ e)
-any_in p f (x ∷ ks) k (inr h) e = any_is p (f x) (map f ks) ∙ or_later (p (f x)) (any p (map f ks)) (any_in p f ks k h e)
+any_in p f (x ∷ ks) k (inl i) e = any_is p (f x) (map f ks) ∙ or_first (p (f x)) (any_holds p (map f ks)) (ap (λ k. p (f k)) (sym i) ∙ e)
+any_in p f (x ∷ ks) k (inr h) e = any_is p (f x) (map f ks) ∙ or_later (p (f x)) (any_holds p (map f ks)) (any_in p f ks k h e)
 
-in_any : (p : List ℕ → Bool) (f : ℕ → List ℕ) (ks : List ℕ) → any p (map f ks) ≡ true → (k : ℕ) × In k ks × (p (f k) ≡ true)
+in_any : (p : List ℕ → Bool) (f : ℕ → List ℕ) (ks : List ℕ) → any_holds p (map f ks) ≡ true → (k : ℕ) × In k ks × (p (f k) ≡ true)
 in_any p f [] e = absurd (let g : false ≡ true = e in cc)
-in_any p f (x ∷ ks) e = elim (one_of (p (f x)) (any p (map f ks)) (sym (any_is p (f x) (map f ks)) ∙ e)) [
+in_any p f (x ∷ ks) e = elim (one_of (p (f x)) (any_holds p (map f ks)) (sym (any_is p (f x) (map f ks)) ∙ e)) [
   | inl h ↦ (x, inl refl, h)
   | inr h ↦ (let r = in_any p f ks h in (r.0, inr r.1, r.2))
 ]
@@ -114,10 +114,10 @@ module _ (r : Repair) (s : SteppingSpots r) where
   stands_now p k v there e = symbol_at (name r s) (now r) (are r) p k there ∙ ap Some (named_by_number (name r s) k ((now r) k) ∙ ap (with_lineage (name r s k)) e)
 
   module _ (below : r.level < r.old.depth) where
-    abbrev x : List Symbol
+    abbrev x : List LevelSymbol
     x = was_level r s
 
-    abbrev y : List Symbol
+    abbrev y : List LevelSymbol
     y = is_level r s
 
     stood : (p k : ℕ) (v : ModuleValue) → slice_get (were r) p ≡ Some k → seen_at (rest r) k ≡ Module v → slice_get x p ≡ Some (L.Module (name r s k) v)
@@ -142,7 +142,7 @@ module _ (r : Repair) (s : SteppingSpots r) where
     pub record WasAsked (k : ℕ) (a : Kept) : Type 0 where
       pub question : Question
       pub found : question_at r.level (name r s k) (questions r.old (xs r s)) ≡ Some question
-      pub read : any_disturbed x y question.trace ≡ any (is_disturbed x y) (map (name r s) (tags_read r.store a))
+      pub read : any_disturbed x y question.trace ≡ any_holds (is_disturbed x y) (map (name r s) (tags_read r.store a))
       pub among : (j : ℕ) → In j (tags_read r.store a) → In j (were r)
 
     pub key_there : (p k : ℕ) → slice_get (were r) p ≡ Some k → (spot_in k (rest r k)).key ≡ key_of r.old.seed (name r s k)
@@ -169,16 +169,16 @@ module _ (r : Repair) (s : SteppingSpots r) where
         record {
           question = q;
           found = asked_there r.old (xs r s) r.level x p (name r s k) v (old_is_level r s below) (old_there r s below) (old_within r s below) (stood p k v there seen) some;
-          read = all_read x y q.trace ∙ ap (λ es. any (is_disturbed x y) (flat_map lineages_named es)) (sym trace) ∙ ap (any (is_disturbed x y)) (lineages_told (name r s) (trace_in r.store a));
+          read = all_read x y q.trace ∙ ap (λ es. any_holds (is_disturbed x y) (flat_map lineages_named es)) (sym trace) ∙ ap (any_holds (is_disturbed x y)) (lineages_told (name r s) (trace_in r.store a));
           among = λ j h. (let t = stands_there r.old r.level (group r.old r.level v.name (length v.params)) row p k v (trace_in r.store a) traced j (tags_in j (trace_in r.store a) h) in
               subst (λ j. In j (were r)) t.is (node_there t.place t.spot t.there));
         }
 
-    pub answered_as : (p k : ℕ) (e : Seen) → slice_get (were r) p ≡ Some k → seen_at (rest r) k ≡ e → IsAnswered r.old r.level row r.store p k e (answer_at (rest r) k)
+    pub answered_as : (p k : ℕ) (e : Seen) → slice_get (were r) p ≡ Some k → seen_at (rest r) k ≡ e → IsAnsweredRight r.old r.level row r.store p k e (answer_at (rest r) k)
     answered_as p k e there seen =
         let h = s.answered p k below there (spot_in k (rest r k)) (spot_there p k there) in
-        subst (λ j. IsAnswered r.old r.level row r.store p j e (answer_at (rest r) k)) (tag_is k (rest r k))
-        (subst (λ e. IsAnswered r.old r.level row r.store p (spot_in k (rest r k)).tag e (answer_at (rest r) k)) seen h)
+        subst (λ j. IsAnsweredRight r.old r.level row r.store p j e (answer_at (rest r) k)) (tag_is k (rest r k))
+        (subst (λ e. IsAnsweredRight r.old r.level row r.store p (spot_in k (rest r k)).tag e (answer_at (rest r) k)) seen h)
 
     -- a module with a group was asked
     pub was_asked : (p k : ℕ) (v : ModuleValue) → slice_get (were r) p ≡ Some k → seen_at (rest r) k ≡ Module v → (group r.old r.level v.name (length v.params) ≡ [] → ⊥)
@@ -208,13 +208,13 @@ module _ (r : Repair) (s : SteppingSpots r) where
     same_test : (k : ℕ) → is_disturbed (get_or (xs r s) r.level []) (get_or (ys r s) r.level []) (name r s k) ≡ is_disturbed x y (name r s k)
     same_test k = ap (λ x. is_disturbed x (get_or (ys r s) r.level []) (name r s k)) old_is ∙ ap (λ y. is_disturbed x y (name r s k)) new_is
 
-    pub still : (k : ℕ) → In k (were r) → is_disturbed x y (name r s k) ≡ false → StandsStill r k
+    pub still : (k : ℕ) → In k (were r) → is_disturbed x y (name r s k) ≡ false → IsUndisturbed r k
     still k h e = (still_is r s below k h).0 (same_test k ∙ e)
 
-    pub disturbed : (k : ℕ) → In k (were r) → (StandsStill r k → ⊥) → is_disturbed x y (name r s k) ≡ true
+    pub disturbed : (k : ℕ) → In k (were r) → (IsUndisturbed r k → ⊥) → is_disturbed x y (name r s k) ≡ true
     disturbed k h n = elim (marked_or_not (is_disturbed x y (name r s k))) [ inl e ↦ e | inr e ↦ absurd (n (still k h e)) ]
 
-    pub not_still : (k : ℕ) → In k (were r) → is_disturbed x y (name r s k) ≡ true → StandsStill r k → ⊥
+    pub not_still : (k : ℕ) → In k (were r) → is_disturbed x y (name r s k) ≡ true → IsUndisturbed r k → ⊥
     not_still k h e t = not_both (is_disturbed x y (name r s k)) e (sym (same_test k) ∙ (still_is r s below k h).1 t)
 
     -- 4. candidates
@@ -242,7 +242,7 @@ module _ (r : Repair) (s : SteppingSpots r) where
         let asked = was_asked t.old_place k v t.was_there old (same_groups k v rules some) in
         let w = asked.2 in
         let all = sym (test p k v w.question there seen w.found) ∙ is in
-        let reads : any (is_disturbed x y) (map (name r s) (tags_read r.store asked.0)) ≡ true = elim (one_of (is_disturbed x y (name r s k)) _ all) [
+        let reads : any_holds (is_disturbed x y) (map (name r s) (tags_read r.store asked.0)) ≡ true = elim (one_of (is_disturbed x y (name r s k)) _ all) [
           | inl d ↦ absurd (not_both (is_disturbed x y (name r s k)) d e)
           | inr o ↦ elim (one_of (any_disturbed x y w.question.trace) _ o) [
             | inl d ↦ sym w.read ∙ d
@@ -274,7 +274,7 @@ module _ (r : Repair) (s : SteppingSpots r) where
         let stands : slice_get x a.place ≡ Some (L.Module a.parents a.value) = ap (λ x. slice_get x a.place) (sym level) ∙ a.stands in
         by a.place (L.Module a.parents a.value) stands (f.lineages ∙ ap (λ (q : Question). lineage q.own) a.is) (slice_get (were r) a.place) refl
       where
-        by : (p' : ℕ) (l : Symbol) → slice_get x p' ≡ Some l → name r s k ≡ lineage l → (o : Option ℕ) → slice_get (were r) p' ≡ o → In k (were r)
+        by : (p' : ℕ) (l : LevelSymbol) → slice_get x p' ≡ Some l → name r s k ≡ lineage l → (o : Option ℕ) → slice_get (were r) p' ≡ o → In k (were r)
         by p' l stands own None e = absurd (none-some l (sym (slice_get-map (named (name r s)) row p' ∙ ap (option_map (named (name r s))) (slice_get-map (λ k. spot_in k (rest r k)) (were r) p' ∙ ap (option_map (λ k. spot_in k (rest r k))) e)) ∙ stands))
         by p' l stands own (Some j) e =
             let same : named (name r s) (spot_in j (rest r j)) ≡ l = same_Some (named (name r s) (spot_in j (rest r j))) l (sym (symbol_at (name r s) (rest r) (were r) p' j e) ∙ stands) in
@@ -282,7 +282,7 @@ module _ (r : Repair) (s : SteppingSpots r) where
             let one : k ≡ j = one_node r s k j (got_in (are r) p k there) i (own ∙ ap lineage (sym same) ∙ lineage_named (name r s) j (rest r j)) in
             subst (λ j. In j (were r)) (sym one) i
 
-    read_there : (k : ℕ) (was : Question) → In k (were r) → question_at r.level (name r s k) (questions r.old (xs r s)) ≡ Some was → (j : ℕ) → HasRead (rest r) r.store k j → (StandsStill r j → ⊥) → any_disturbed x y was.trace ≡ true
+    read_there : (k : ℕ) (was : Question) → In k (were r) → question_at r.level (name r s k) (questions r.old (xs r s)) ≡ Some was → (j : ℕ) → HasRead (rest r) r.store k j → (IsUndisturbed r j → ⊥) → any_disturbed x y was.trace ≡ true
     read_there k was h e j read n =
         let p = place_in k (were r) h in
         let v = has_asked p.0 k read.answer p.1 read.kept in

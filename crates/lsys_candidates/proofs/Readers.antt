@@ -2,6 +2,7 @@
 use Rattle.std.proofs.Common.{◌≡◌, ℕ, List, [], length, Option, Some, None, refl, sym, ap, ◌∙◌, subst, arith}
 use Rattle.std.specs.Prelude.{slice_get, option_map}
 use Rattle.std.proofs.lemmas.Option.{none-some, same_Some, slice_get-map}
+use Rattle.lsys_spec.specs.Rows.{In}
 use Rattle.lsys_spec.specs.Bodies.{group}
 use Rattle.lsys_spec.specs.Levels.{ModuleValue}
 use Rattle.lsys_spec.specs.Questions.{Question}
@@ -12,10 +13,10 @@ use Rattle.lsys_match.specs.Recalled.{IsAnswerThere}
 use Rattle.lsys_match.specs.Traced.{IsTraceAt}
 use Rattle.lsys_match.proofs.Standing.{stands_there}
 use Rattle.lsys_forest.specs.Nodes.{Node}
-use Rattle.lsys_forest.specs.Groves.{In, IsSound, changes_in}
+use Rattle.lsys_forest.specs.Groves.{IsRooted, changes_in}
 use Rattle.lsys_forest.specs.Rows.{spot_in, level_nodes, level_spots}
 use Rattle.lsys_forest.proofs.RowLemmas.{level_depth}
-use Rattle.lsys_kept.specs.Levels.{IsRight, IsAnswered, answer_at, tags_read, HasRead}
+use Rattle.lsys_kept.specs.Levels.{IsRight, IsAnsweredRight, answer_at, tags_read, HasRead}
 use Rattle.lsys_kept.specs.Standings.{seen_at}
 use Rattle.lsys_kept.proofs.LevelLemmas.{got_in}
 use Rattle.lsys_candidates.specs.Repairs.{Repair, rest, root, were}
@@ -41,11 +42,11 @@ module _ (r : Repair) (h : AreAnswersRight r) (k seen : ℕ) (read : HasRead (re
           let same : spot_in j (rest r j) ≡ a = same_Some (spot_in j (rest r j)) a (sym (spot_there p j n) ∙ e) in
           subst (λ j. In j (level_nodes (rest r) (root r) here.level)) (sym (tag_is j (rest r j)) ∙ ap (λ (a : Spotted). a.tag) same) (got_in (level_nodes (rest r) (root r) here.level) p j n)
 
-  answered_as : (e : Seen) → seen_at (rest r) k ≡ e → IsAnswered r.old here.level row r.store here.place k e (answer_at (rest r) k)
+  answered_as : (e : Seen) → seen_at (rest r) k ≡ e → IsAnsweredRight r.old here.level row r.store here.place k e (answer_at (rest r) k)
   answered_as e is =
       let a = here.answered (spot_in k (rest r k)) (spot_there here.place k here.there) in
-      subst (λ j. IsAnswered r.old here.level row r.store here.place j e (answer_at (rest r) k)) (tag_is k (rest r k))
-      (subst (λ e. IsAnswered r.old here.level row r.store here.place (spot_in k (rest r k)).tag e (answer_at (rest r) k)) is a)
+      subst (λ j. IsAnsweredRight r.old here.level row r.store here.place j e (answer_at (rest r) k)) (tag_is k (rest r k))
+      (subst (λ e. IsAnsweredRight r.old here.level row r.store here.place (spot_in k (rest r k)).tag e (answer_at (rest r) k)) is a)
 
   -- what the answer of a module read is on its level
   of_module : (v : ModuleValue) → seen_at (rest r) k ≡ Module v → In seen (level_nodes (rest r) (root r) here.level)
@@ -76,7 +77,7 @@ module _ (r : Repair) (h : AreAnswersRight r) (k seen : ℕ) (read : HasRead (re
 pub reader_there : (r : Repair) → AreAnswersRight r → (reader seen : ℕ) → HasRead (rest r) r.store reader seen → In seen (were r) → In reader (were r)
 reader_there r h k seen read there =
     let here = h.kept k read.answer read.kept in
-    let sound : IsSound (root r) [] (rest r) = h.sound [] (changes_in r.forest) refl in
+    let sound : IsRooted (root r) [] (rest r) = h.sound [] (changes_in r.forest) refl in
     let a = level_depth (root r) [] (rest r) sound here.level seen (seen_there r h k seen read) in
     let b = level_depth (root r) [] (rest r) sound r.level seen there in
     let one : a.0 ≡ b.0 = same_Some a.0 b.0 (sym a.1 ∙ b.1) in

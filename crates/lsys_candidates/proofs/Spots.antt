@@ -4,7 +4,8 @@ use Rattle.std.specs.Prelude.{◌↔◌, get_or, slice_get, option_map}
 use Rattle.std.proofs.lemmas.Bool.{cases_eq}
 use Rattle.std.proofs.lemmas.List.{append-nil}
 use Rattle.std.proofs.lemmas.Option.{slice_get-get_or}
-use Rattle.lsys_spec.specs.Levels.{Symbol, IsLevel}
+use Rattle.lsys_spec.specs.Rows.{In}
+use Rattle.lsys_spec.specs.Levels.{LevelSymbol, IsLevel}
 use Rattle.lsys_spec.specs.Standings.{is_disturbed}
 use Rattle.lsys_spec.proofs.Needs.{Derived, derived}
 use Rattle.lsys_level.specs.Spots.{named, with_lineage}
@@ -12,20 +13,19 @@ use Rattle.lsys_change.specs.Seats as C
 use Rattle.lsys_change.proofs.Lineages.{apart, stays}
 use Rattle.lsys_change.proofs.UpTo.{derived_to, level_count}
 use Rattle.lsys_forest.specs.Nodes.{Nodes}
-use Rattle.lsys_forest.specs.Groves.{In, IsSound, changes_in}
+use Rattle.lsys_forest.specs.Groves.{IsRooted, changes_in}
 use Rattle.lsys_forest.specs.Rows.{spot_in}
 use Rattle.lsys_forest.specs.Mates.{seen_level}
 use Rattle.lsys_forest.proofs.RowLemmas.{level_depth}
 use Rattle.lsys_match.specs.Kept.{Kept}
 use Rattle.lsys_kept.specs.Lineages.{kin_of, kins, names}
-use Rattle.lsys_kept.specs.Meant.{meant, meant_to}
+use Rattle.lsys_kept.specs.Meant.{levels_meant, meant_to}
 use Rattle.lsys_kept.specs.Standings.{seating_of, AreOldAndNew, StandsAsBefore}
 use Rattle.lsys_kept.specs.Neighbours.{neighbours_on}
 use Rattle.lsys_kept.proofs.LevelLemmas.{named_by_number}
 use Rattle.lsys_kept.proofs.LawLemmas.{among, still_tell, same_seat}
-use Rattle.lsys_kept.proofs.LookLemmas.{in_back}
 use Rattle.lsys_candidates.specs.Repairs.{Repair, now, rest, root, were, are, SteppingSpots}
-use Rattle.lsys_candidates.specs.Candidates.{StandsStill}
+use Rattle.lsys_candidates.specs.Candidates.{IsUndisturbed}
 
 pub is_in : (k : ℕ) (xs : List ℕ) → (In k xs) ⊎ (In k xs → ⊥)
 is_in k [] = inr (λ h. h)
@@ -39,13 +39,13 @@ renamed : (m : Nodes Kept) (one two : ℕ → List ℕ) (xs : List ℕ) → ((k 
 renamed m one two [] h = refl
 renamed m one two (x ∷ xs) h =
     let head : named one (spot_in x (m x)) ≡ named two (spot_in x (m x)) = named_by_number one x (m x) ∙ ap (λ l. with_lineage l (spot_in x (m x)).seen) (h x (inl refl)) ∙ sym (named_by_number two x (m x)) in
-    ap (λ (s : Symbol). s ∷ seen_level one m xs) head ∙ ap (λ (l : List Symbol). named two (spot_in x (m x)) ∷ l) (renamed m one two xs (λ k i. h k (inr i)))
+    ap (λ (s : LevelSymbol). s ∷ seen_level one m xs) head ∙ ap (λ (l : List LevelSymbol). named two (spot_in x (m x)) ∷ l) (renamed m one two xs (λ k i. h k (inr i)))
 
 module _ (r : Repair) (s : SteppingSpots r) where
-  pub sound_old : IsSound (root r) [] (rest r)
+  pub sound_old : IsRooted (root r) [] (rest r)
   sound_old = s.sound [] (changes_in r.forest) refl
 
-  pub sound_new : IsSound (root r) (changes_in r.forest) (now r)
+  pub sound_new : IsRooted (root r) (changes_in r.forest) (now r)
   sound_new = s.sound (changes_in r.forest) [] (sym (append-nil (changes_in r.forest)))
 
   abbrev pub name : ℕ → List ℕ
@@ -62,16 +62,16 @@ module _ (r : Repair) (s : SteppingSpots r) where
       let b = level_depth (root r) [] (rest r) sound_old r.level j g in
       apart (kins (now r)) (root r) i j (kin_of a.0) (kin_of b.0) s.once_now (ap (option_map kin_of) a.1) (s.stay j (kin_of b.0) (ap (option_map kin_of) b.1)) (a.2 ∙ sym b.2) e
 
-  abbrev pub xs : List (List Symbol)
-  xs = meant r.old r.limit
+  abbrev pub xs : List (List LevelSymbol)
+  xs = levels_meant r.old r.limit
 
-  abbrev pub ys : List (List Symbol)
+  abbrev pub ys : List (List LevelSymbol)
   ys = meant_to r.new r.limit r.level
 
-  abbrev pub was_level : List Symbol
+  abbrev pub was_level : List LevelSymbol
   was_level = seen_level name (rest r) (were r)
 
-  abbrev pub is_level : List Symbol
+  abbrev pub is_level : List LevelSymbol
   is_level = seen_level name (now r) (are r)
 
   pub old_long : length xs ≡ r.old.depth + 1
@@ -125,7 +125,7 @@ module _ (r : Repair) (s : SteppingSpots r) where
     }
 
     -- a node of the old level is disturbed exactly where it does not stand there as it stood
-    pub still_is : (k : ℕ) → In k (were r) → (is_disturbed (get_or xs r.level []) (get_or ys r.level []) (name k) ≡ false) ↔ StandsStill r k
+    pub still_is : (k : ℕ) → In k (were r) → (is_disturbed (get_or xs r.level []) (get_or ys r.level []) (name k) ≡ false) ↔ IsUndisturbed r k
     still_is k h = (
       λ e. (let t = tell.0 e in
           record {
@@ -145,7 +145,7 @@ module _ (r : Repair) (s : SteppingSpots r) where
     )
       where
         tell : (is_disturbed (get_or xs r.level []) (get_or ys r.level []) (name k) ≡ false) ↔ C.StandsStill (seating_of name (rest r) (were r)) (seating_of name (now r) (are r)) k
-        tell = still_tell r.old r.new xs ys r.level name (rest r) (now r) (were r) (are r) old_and_new k (in_back k (were r) h)
+        tell = still_tell r.old r.new xs ys r.level name (rest r) (now r) (were r) (are r) old_and_new k h
 
         seats : (p q : ℕ) → slice_get (were r) p ≡ Some k → slice_get (are r) q ≡ Some k
             → C.IsSameSeat (seating_of name (rest r) (were r)) (seating_of name (now r) (are r)) p q k ↔ StandsAsBefore (rest r) (now r) (neighbours_on (rest r) (were r) p) (neighbours_on (now r) (are r) q) k

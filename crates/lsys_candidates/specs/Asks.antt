@@ -1,6 +1,7 @@
 -- Which of the found nodes are asked, and in which order.
 use Rattle.std.specs.Prelude.{◌≡◌, ◌<◌, ◌⊎◌, ◌↔◌, ℕ, List, [], ◌∷◌, ◌++◌}
-use Rattle.lsys_forest.specs.Groves.{Grove, In, AreApart}
+use Rattle.lsys_spec.specs.Rows.{In, AreApart}
+use Rattle.lsys_forest.specs.Groves.{Grove}
 use Rattle.lsys_forest.specs.Rows.{level_of_node, place_of_node, IsAtSpot}
 
 -- of these nodes those of this kind were added to a list

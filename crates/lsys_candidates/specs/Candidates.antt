@@ -21,15 +21,15 @@ pub record Remains {A : Type 0} (o m : Nodes A) (was are : List ℕ) (k : ℕ) :
   pub is_there : slice_get are new_place ≡ Some k
   pub same : StandsAsBefore o m (neighbours_on o was old_place) (neighbours_on m are new_place) k
 
-abbrev pub StandsStill : Repair → ℕ → Type 0
-StandsStill r k = Remains (rest r) (now r) (were r) (are r) k
+abbrev pub IsUndisturbed : Repair → ℕ → Type 0
+IsUndisturbed r k = Remains (rest r) (now r) (were r) (are r) k
 
 -- Why the module v of node k may have another question than before: the level was the last one, and nothing was asked there; the
 -- node does not stand there as it stood; one that its old answer read does not; or it has other rules.
 pub data MayDiffer (r : Repair) (k : ℕ) (v : ModuleValue) : Type 0 where
   was_last : r.old.depth ≤ r.level → MayDiffer r k v
-  moved : (StandsStill r k → ⊥) → MayDiffer r k v
-  read_moved : (j : ℕ) → HasRead (rest r) r.store k j → (StandsStill r j → ⊥) → MayDiffer r k v
+  moved : (IsUndisturbed r k → ⊥) → MayDiffer r k v
+  read_moved : (j : ℕ) → HasRead (rest r) r.store k j → (IsUndisturbed r j → ⊥) → MayDiffer r k v
   other_rules : has_same_rules r.old r.new r.level (names (now r) k) v ≡ false → MayDiffer r k v
 
 -- the node is a module with a question, by the rules of level t of a system
@@ -38,10 +38,10 @@ pub record AsksOn {A : Type 0} (s : System) (t : ℕ) (m : Nodes A) (k : ℕ) : 
   pub is : seen_at m k ≡ Module own
   pub rules : group s t own.name (length own.params) ≡ [] → ⊥
 
-abbrev pub HasQuestion : Repair → ℕ → Type 0
-HasQuestion r k = AsksOn r.new r.level (now r) k
+abbrev pub AsksNow : Repair → ℕ → Type 0
+AsksNow r k = AsksOn r.new r.level (now r) k
 
 -- that may be another one than before
 pub record IsCandidateNode (r : Repair) (k : ℕ) : Type 0 where
-  pub asks : HasQuestion r k
+  pub asks : AsksNow r k
   pub differs : MayDiffer r k asks.own

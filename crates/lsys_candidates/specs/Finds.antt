@@ -1,7 +1,8 @@
 -- Nodes that are found on a level, each once.
 use Rattle.std.specs.Prelude.{◌≡◌, ◌⊎◌, ℕ, true, false, List, ◌++◌, Some}
+use Rattle.lsys_spec.specs.Rows.{In, AreApart}
 use Rattle.lsys_reads.specs.Relations.{Relations, is_settled}
-use Rattle.lsys_forest.specs.Groves.{Grove, In, AreApart}
+use Rattle.lsys_forest.specs.Groves.{Grove}
 use Rattle.lsys_kept.specs.declared.seat.Seat.{Seat}
 use Rattle.lsys_kept.specs.Neighbours.{neighbours_in}
 use Rattle.lsys_kept.specs.Seats.{neighbours_at, is_marked, SameSeats, KeepsSeats}
@@ -33,14 +34,14 @@ pub record IsTurned {A : Type 0} (f : Grove A) (seats : List Seat) (looked : Lis
   pub turned : neighbours_in f k ≡ neighbours_at seats k → ⊥
 
 -- the node itself, or one beside it
-abbrev pub IsNear : {A : Type 0} → Grove A → ℕ → ℕ → Type 0
-IsNear f node k = (k ≡ node) ⊎ ((neighbours_in f node).left ≡ Some k) ⊎ ((neighbours_in f node).right ≡ Some k)
+abbrev pub IsAtOrBeside : {A : Type 0} → Grove A → ℕ → ℕ → Type 0
+IsAtOrBeside f node k = (k ≡ node) ⊎ ((neighbours_in f node).left ≡ Some k) ⊎ ((neighbours_in f node).right ≡ Some k)
 
 -- a changed one, or one beside it
 pub record IsBeside {A : Type 0} (f : Grove A) (changed : List ℕ) (k : ℕ) : Type 0 where
   pub node : ℕ
   pub among : In node changed
-  pub near : IsNear f node k
+  pub near : IsAtOrBeside f node k
 
 -- one whose answer, as settled, read one of these
 pub record IsReader (reads : Relations) (nodes : List ℕ) (k : ℕ) : Type 0 where

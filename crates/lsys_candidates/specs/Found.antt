@@ -1,12 +1,13 @@
 -- What is known of a level before its nodes are found, and which are.
 use Rattle.std.specs.Prelude.{◌≡◌, ◌<◌, ◌⊎◌, ◌↔◌, ℕ, true, false, List, ◌++◌, Some, slice_get, Vec}
 use Rattle.std.specs.declared.alloc.Global.{Global}
+use Rattle.lsys_spec.specs.Rows.{In, AreApart}
 use Rattle.lsys_syntax.specs.Calls.{Lent}
 use Rattle.lsys_spec.specs.Levels.{ModuleValue}
 use Rattle.lsys_level.specs.Spots.{Module}
 use Rattle.lsys_reads.specs.Relations.{Relations, is_settled}
 use Rattle.lsys_change.specs.Groups.{has_same_rules}
-use Rattle.lsys_forest.specs.Groves.{Grove, In, AreApart, AreSound, changes_in}
+use Rattle.lsys_forest.specs.Groves.{Grove, AreSound, changes_in}
 use Rattle.lsys_forest.specs.Rows.{level_nodes}
 use Rattle.lsys_match.specs.Kept.{Kept}
 use Rattle.lsys_kept.specs.Lineages.{names}
@@ -38,7 +39,7 @@ pub record AreOnLevels {A : Type 0} (f : Grove A) (c : LevelChanges) : Type 0 wh
   pub changed : (k : ℕ) → In k c.changed → IsOnLevel f k
 
 -- there is a seat for each node that may be found
-pub record HasRoom {A : Type 0} (f : Grove A) (reads : Relations) (c : LevelChanges) (seats : List Seat) : Type 0 where
+pub record HasSeatsForFound {A : Type 0} (f : Grove A) (reads : Relations) (c : LevelChanges) (seats : List Seat) : Type 0 where
   pub others : (k : ℕ) → IsOther c k → HasSeat seats k
   pub looked : (k : ℕ) → In k c.looked → HasSeat seats k
   pub beside : (k : ℕ) → IsBeside f c.changed k → HasSeat seats k

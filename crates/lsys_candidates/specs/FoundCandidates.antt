@@ -1,17 +1,17 @@
 -- Which nodes of a level are candidates, by those that were found.
 use Rattle.std.specs.Prelude.{◌≡◌, ◌↔◌, ◌⊎◌, ◌^◌, ◌<◌, ℕ, List, length, slice_get, Some}
+use Rattle.lsys_spec.specs.Rows.{In}
 use Rattle.lsys_spec.specs.Systems.{System}
 use Rattle.lsys_spec.specs.Levels.{ModuleValue}
 use Rattle.lsys_change.specs.Groups.{has_same_rules}
 use Rattle.lsys_reads.specs.Relations.{Relations}
-use Rattle.lsys_forest.specs.Groves.{In}
 use Rattle.lsys_kept.specs.Levels.{HasRead}
 use Rattle.lsys_kept.specs.Meant.{IsCandidate}
 use Rattle.lsys_kept.specs.declared.seat.Seat.{Seat}
 use Rattle.lsys_kept.specs.Neighbours.{neighbours_in}
 use Rattle.lsys_kept.specs.Seats.{neighbours_at}
 use Rattle.lsys_candidates.specs.Repairs.{Repair, rest, were, are, SteppingSpots}
-use Rattle.lsys_candidates.specs.Candidates.{HasQuestion, IsCandidateNode}
+use Rattle.lsys_candidates.specs.Candidates.{AsksNow, IsCandidateNode}
 use Rattle.lsys_candidates.specs.Found.{IsFound, IsAmong, SteppingNodes, LevelChanges, AreAnswersRight}
 use Rattle.lsys_candidates.specs.Others.{are_alike}
 
@@ -30,7 +30,7 @@ FoundNodesAreCandidates =
     → IsFound r.forest seats reads c turned beside readers
     → (k : ℕ) → In k (are r)
     → IsCandidateNode r k
-    ↔ (HasQuestion r k × (In k others ⊎ IsAmong c turned beside readers k))
+    ↔ (AsksNow r k × (In k others ⊎ IsAmong c turned beside readers k))
 
 -- All found nodes are on the level.
 abbrev pub FoundNodesAreThere : Type 0

@@ -1,11 +1,12 @@
 -- Nodes of one kind, found among others: each was marked, and added to a list.
 use Rattle.std.specs.Prelude.{◌≡◌, ◌⊎◌, ◌↔◌, ℕ, true, List, Vec}
 use Rattle.std.specs.declared.alloc.Global.{Global}
+use Rattle.lsys_spec.specs.Rows.{In}
 use Rattle.lsys_reads.specs.Relations.{Relations}
-use Rattle.lsys_forest.specs.Groves.{Grove, In}
+use Rattle.lsys_forest.specs.Groves.{Grove}
 use Rattle.lsys_kept.specs.declared.seat.Seat.{Seat}
 use Rattle.lsys_kept.specs.Seats.{is_marked}
-use Rattle.lsys_candidates.specs.Finds.{Gathers, IsTurned, IsNear, IsBeside, IsReader}
+use Rattle.lsys_candidates.specs.Finds.{Gathers, IsTurned, IsAtOrBeside, IsBeside, IsReader}
 use Rattle.lsys_candidates.specs.Found.{LevelChanges, IsOther}
 
 -- nodes of this kind were marked and added
@@ -35,7 +36,7 @@ module _ {A : Type 0} where
   abbrev pub GathersNear : Grove A → ℕ → List Seat → List Seat
       → Vec ℕ Global → Vec ℕ Global → Type 0
   GathersNear f node before after old new =
-      Gathers (IsNear f node) before after old.items new.items
+      Gathers (IsAtOrBeside f node) before after old.items new.items
 
   -- those that changed, and those beside them
   abbrev pub GathersBeside : Grove A → List ℕ → List Seat → List Seat

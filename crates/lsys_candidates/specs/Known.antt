@@ -6,11 +6,11 @@ use Rattle.lsys_module.specs.Views.{module_name}
 use Rattle.lsys_candidates.specs.declared.module_key.ModuleKey.{ModuleKey}
 use Rattle.lsys_candidates.specs.Others.{are_alike}
 
-abbrev pub same_key : ModuleKey → ModuleKey → Bool
-same_key a b = bytes_eq a.name b.name && (a.arity == b.arity)
+abbrev pub same_module_key : ModuleKey → ModuleKey → Bool
+same_module_key a b = bytes_eq a.name b.name && (a.arity == b.arity)
 
 -- each answer that is kept is whether such modules have the rules that they had
-abbrev pub AreKnown : {S : Type 0} → HashMap ModuleKey Bool S → System → System → ℕ → Type 0
-AreKnown known old new t =
-    (key : ModuleKey) (alike : Bool) → get same_key known key ≡ Some alike
+abbrev pub KnowsAlike : {S : Type 0} → HashMap ModuleKey Bool S → System → System → ℕ → Type 0
+KnowsAlike known old new t =
+    (key : ModuleKey) (alike : Bool) → get same_module_key known key ≡ Some alike
     → alike ≡ are_alike old new t (module_name key.name) key.arity

@@ -1,6 +1,7 @@
 -- Two lists of nodes that are being merged.
 use Rattle.std.specs.Prelude.{◌≡◌, ◌<◌, ◌≤◌, ◌⊎◌, ◌↔◌, ℕ, List, length, take, Some, slice_get}
-use Rattle.lsys_forest.specs.Groves.{Grove, In}
+use Rattle.lsys_spec.specs.Rows.{In}
+use Rattle.lsys_forest.specs.Groves.{Grove}
 use Rattle.lsys_forest.specs.Rows.{level_of_node, place_of_node, IsAtSpot}
 use Rattle.lsys_candidates.specs.Asks.{AreInOrder, ArePlaced}
 

@@ -11,7 +11,7 @@ use Rattle.lsys_spec.specs.Standings.{free, same_filter}
 use Rattle.lsys_module.specs.Views.{module_name}
 use Rattle.lsys_level.specs.Spots.{Module}
 use Rattle.lsys_bodies.specs.declared.rule.Rule.{Rule}
-use Rattle.lsys_bodies.specs.Views.{rule_of, production_of}
+use Rattle.lsys_bodies.specs.Views.{rule_of, as_production}
 use Rattle.lsys_forest.specs.Nodes.{Nodes}
 use Rattle.lsys_kept.specs.Standings.{seen_at}
 
@@ -62,11 +62,11 @@ all_alike_in r s = all_alike_for r (table_at s.schedule r.level) s.rules
 
 -- the productions that rules stand for
 abbrev pub productions : List Rule → List Production
-productions rules = map production_of rules
+productions rules = map as_production rules
 
 -- what the bodies of rules mean
-abbrev pub bodies_of : List Rule → List Body
-bodies_of rs = map (λ r. body_of (rule_of r)) rs
+abbrev pub meant_bodies : List Rule → List Body
+meant_bodies rs = map (λ r. body_of (rule_of r)) rs
 
 -- a node is a module whose rules on the level are others
 pub record IsOtherwise {A : Type 0} (r : RulesOf) (m : Nodes A) (k : ℕ) : Type 0 where

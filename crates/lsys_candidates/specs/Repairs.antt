@@ -10,7 +10,7 @@ use Rattle.lsys_forest.specs.Groves.{Grove, AreSound, now_of, rest_of, changes_i
 use Rattle.lsys_forest.specs.Rows.{level_nodes}
 use Rattle.lsys_kept.specs.Lineages.{kins}
 use Rattle.lsys_kept.specs.Levels.{HaveLevels, AnsweredAt}
-use Rattle.lsys_kept.specs.Meant.{meant, meant_to}
+use Rattle.lsys_kept.specs.Meant.{levels_meant, meant_to}
 
 -- The system of the last rest, and the one that is being made; the limit; the number of the level; the forest, and the store of its
 -- answers.
@@ -45,9 +45,9 @@ pub record SteppingSpots (r : Repair) : Type 0 where
   pub sound : AreSound (root r) (changes_in r.forest) (now r)
   pub old_spelled : WellSpelled r.old
   pub new_spelled : WellSpelled r.new
-  pub old_is : meaning r.old r.limit ≡ Ok (meant r.old r.limit)
+  pub old_is : meaning r.old r.limit ≡ Ok (levels_meant r.old r.limit)
   pub new_is : meaning_to r.new r.limit r.level ≡ Ok (meant_to r.new r.limit r.level)
-  pub old_levels : HaveLevels (rest r) (root r) r.old.seed (meant r.old r.limit)
+  pub old_levels : HaveLevels (rest r) (root r) r.old.seed (levels_meant r.old r.limit)
   pub new_levels : HaveLevels (now r) (root r) r.new.seed (meant_to r.new r.limit r.level)
   pub once : AreOnce (kins (rest r)) (root r)
   pub once_now : AreOnce (kins (now r)) (root r)

@@ -1,8 +1,9 @@
 //! Which nodes have a question.
 ghost use Rattle.std.specs.Prelude.{◌≡◌, ◌↔◌, ◌∷◌, ℕ, IsTrue, OnOk, []};
+ghost use Rattle.lsys_spec.specs.Rows.{In};
 ghost use Rattle.lsys_spec.specs.Bodies.{group};
 ghost use Rattle.lsys_module.specs.Views.{module_name};
-ghost use Rattle.lsys_forest.specs.Groves.{In, IsLive, now_of};
+ghost use Rattle.lsys_forest.specs.Groves.{IsLive, now_of};
 ghost use Rattle.lsys_candidates.specs.Candidates.{AsksOn};
 ghost use Rattle.lsys_candidates.specs.AddedNodes.{AddsAsked};
 

@@ -1,7 +1,7 @@
 //! Who may have another question than before.
 ghost use Rattle.std.specs.Prelude.{◌≡◌, ℕ, OnOk, false, []};
 ghost use Rattle.lsys_kept.specs.Seats.{is_marked, SameSeats, KeepsSeats};
-ghost use Rattle.lsys_candidates.specs.Found.{AreOnLevels, HasRoom, FindsIn};
+ghost use Rattle.lsys_candidates.specs.Found.{AreOnLevels, HasSeatsForFound, FindsIn};
 ghost use Rattle.lsys_candidates.specs.Gatherings.{MarksOnlyFound};
 
 use crate::finds::{find_beside, find_readers, find_turned, mark_all};
@@ -56,7 +56,7 @@ pub fn find_nodes<A: Kept>(
     readers: &mut Vec<NodeId>,
 ) -> Result<(), AllocError>
     requires levels { AreOnLevels forest.now changes.now }
-    requires room { HasRoom forest.now reads.now changes.now seats.old }
+    requires room { HasSeatsForFound forest.now reads.now changes.now seats.old }
     requires clear { (k : ℕ) → is_marked seats.old k ≡ false }
     ensures found { OnOk result (FindsIn forest.now seats reads.now changes.now turned beside readers) }
     ensures clear { (k : ℕ) → is_marked seats.new k ≡ false }
@@ -86,7 +86,7 @@ fn find_marked<A: Kept>(
     readers: &mut Vec<NodeId>,
 ) -> Result<(), AllocError>
     requires levels { AreOnLevels forest.now changes.now }
-    requires room { HasRoom forest.now reads.now changes.now seats.old }
+    requires room { HasSeatsForFound forest.now reads.now changes.now seats.old }
     requires clear { (k : ℕ) → is_marked seats.old k ≡ false }
     requires turned { turned.old.items ≡ [] }
     requires beside { beside.old.items ≡ [] }

@@ -4,7 +4,7 @@ ghost use Rattle.lsys_spec.specs.Standings.{same_filter, same_kind};
 ghost use Rattle.lsys_module.specs.Views.{module_name};
 ghost use Rattle.lsys_reading.specs.Commands.{list_kind_of};
 ghost use Rattle.lsys_bodies.specs.Filters.{filter_of};
-ghost use Rattle.lsys_candidates.specs.Listed.{HasNames, are_all_listed, AddsName, TellsListed};
+ghost use Rattle.lsys_candidates.specs.Listed.{ListsNames, are_all_listed, AddsName, TellsListed};
 
 use lsys_bodies::Filter;
 use lsys_rules::ListKind;
@@ -54,7 +54,7 @@ fn are_listed(alloc: Global, names: &[Name], others: &[Name]) -> Result<bool, Al
 
 /// The set of these names.
 fn listed_names(alloc: Global, names: &[Name]) -> Result<HashSet<Name>, AllocError>
-    ensures { IfOk result (λ listed. HasNames listed (map module_name names.now)) }
+    ensures { IfOk result (λ listed. ListsNames listed (map module_name names.now)) }
 {
     let mut listed = HashSet::new(alloc);
     for name in names {

@@ -1,9 +1,9 @@
 //! Nodes of a level that are found, each once.
 ghost use Rattle.std.specs.Prelude.{◌≡◌, ◌∷◌, [], ℕ, OnOk};
-ghost use Rattle.lsys_forest.specs.Groves.{In};
+ghost use Rattle.lsys_spec.specs.Rows.{In};
 ghost use Rattle.lsys_kept.specs.Neighbours.{IsOnLevel, neighbours_in};
 ghost use Rattle.lsys_kept.specs.Seats.{HasSeat, SameSeats, KeepsSeats};
-ghost use Rattle.lsys_candidates.specs.Finds.{AllMarked, IsTurned, IsBeside, IsReader, IsNear};
+ghost use Rattle.lsys_candidates.specs.Finds.{AllMarked, IsTurned, IsBeside, IsReader, IsAtOrBeside};
 ghost use Rattle.lsys_candidates.specs.Gatherings.{MarksThese, GathersTurned, GathersBeside, GathersNear, GathersReaders};
 
 use crate::gather::{gather, gather_any, gather_tags};
@@ -97,9 +97,9 @@ fn gather_near<A: Kept>(
     beside: &mut Vec<NodeId>,
 ) -> Result<(), AllocError>
     requires level { IsOnLevel forest.now node }
-    requires room { (k : ℕ) → IsNear forest.now node k → HasSeat seats.old k }
+    requires room { (k : ℕ) → IsAtOrBeside forest.now node k → HasSeat seats.old k }
     ensures gathers { GathersNear forest.now node seats.old seats.new beside.old beside.new }
-    ensures all { OnOk result (AllMarked (IsNear forest.now node) seats.new) }
+    ensures all { OnOk result (AllMarked (IsAtOrBeside forest.now node) seats.new) }
 {
     gather(seats, node, beside)?;
     gather_any(seats, left_of(forest, node), beside)?;

@@ -1,6 +1,6 @@
 //! Nodes, each once.
 ghost use Rattle.std.specs.Prelude.{◌≡◌, ℕ, OnOk, true, Some};
-ghost use Rattle.lsys_forest.specs.Groves.{In};
+ghost use Rattle.lsys_spec.specs.Rows.{In};
 ghost use Rattle.lsys_kept.specs.Seats.{is_marked, HasSeat};
 ghost use Rattle.lsys_candidates.specs.Finds.{AllMarked};
 ghost use Rattle.lsys_candidates.specs.Gatherings.{GathersInto};

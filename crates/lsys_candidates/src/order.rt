@@ -1,6 +1,6 @@
 //! Nodes of a level in order.
 ghost use Rattle.std.specs.Prelude.{◌≡◌, ◌<◌, ◌↔◌, ◌⊎◌, ℕ, IsTrue, IfOk, OnOk, [], length};
-ghost use Rattle.lsys_forest.specs.Groves.{In, AreApart};
+ghost use Rattle.lsys_spec.specs.Rows.{In, AreApart};
 ghost use Rattle.lsys_candidates.specs.Asks.{AreOnOneLevel, AreInOrder};
 ghost use Rattle.lsys_candidates.specs.Merges.{AreMergeable, AreMergedIn, IsBeforeNext};
 

@@ -1,11 +1,12 @@
 //! Whether a level has other rules than before.
 ghost use Rattle.std.specs.Prelude.{◌≡◌, ◌↔◌, ◌∷◌, [], ℕ, false, IsTrue, IfOk, OnOk};
+ghost use Rattle.lsys_spec.specs.Rows.{In};
 ghost use Rattle.lsys_spec.specs.Bodies.{group, table_at};
 ghost use Rattle.lsys_spec.specs.Meaning.{any_weight};
 ghost use Rattle.lsys_module.specs.Views.{module_name};
-ghost use Rattle.lsys_bodies.specs.Views.{production_of};
-ghost use Rattle.lsys_candidates.specs.Others.{IsOtherwise, AreAllAlike, HasOther, alike_named, all_alike_in, productions, bodies_of, is_alike_for, all_alike_for};
-ghost use Rattle.lsys_forest.specs.Groves.{In, IsLive, now_of};
+ghost use Rattle.lsys_bodies.specs.Views.{as_production};
+ghost use Rattle.lsys_candidates.specs.Others.{IsOtherwise, AreAllAlike, HasOther, alike_named, all_alike_in, productions, meant_bodies, is_alike_for, all_alike_for};
+ghost use Rattle.lsys_forest.specs.Groves.{IsLive, now_of};
 ghost use Rattle.lsys_candidates.specs.AddedNodes.{AddsOthers};
 
 use crate::filters::have_same_names;
@@ -42,7 +43,7 @@ impl<'a> Model for LevelRules<'a> {
     ghost use Rattle.lsys_spec.specs.Standings.{same_filter};
     ghost use Rattle.lsys_match.specs.Asking.{asked_level};
     ghost use Rattle.lsys_candidates.specs.Others.{RulesOf};
-    ghost use Rattle.lsys_candidates.specs.Known.{AreKnown};
+    ghost use Rattle.lsys_candidates.specs.Known.{KnowsAlike};
 
     ghost Value = { RulesOf };
 
@@ -59,7 +60,7 @@ impl<'a> Model for LevelRules<'a> {
         × (a.is_same_seed ≡ (a.old_system.now.seed == a.new_system.now.seed))
         × (a.is_same_filter ≡ same_filter (bodies.filter a.old_system.now a.level)
         (bodies.filter a.new_system.now a.level))
-        × AreKnown a.known a.old_system.now a.new_system.now a.level };
+        × KnowsAlike a.known a.old_system.now a.new_system.now a.level };
 }
 
 impl<'a> LevelRules<'a> {
@@ -163,7 +164,7 @@ fn all_alike_for(
 
 /// The same of one rule.
 fn is_alike_for(rules: &mut LevelRules<'_>, table: Word, rule: &Rule) -> Result<bool, AllocError>
-    ensures alike { IfOk result (λ same. same ≡ is_alike_for rules.old table (production_of rule.now)) }
+    ensures alike { IfOk result (λ same. same ≡ is_alike_for rules.old table (as_production rule.now)) }
     ensures same { rules.new ≡ rules.old }
 {
     if rule.table != table {
@@ -249,7 +250,7 @@ fn is_weighted(system: &System, level: u32, name: Name, arity: usize) -> bool
 
 /// Whether one of these rules has a weight.
 fn have_weights(rules: &[Rule]) -> bool
-    ensures { result ≡ any_weight (bodies_of rules.now) }
+    ensures { result ≡ any_weight (meant_bodies rules.now) }
 {
     rules.iter().any(|rule| rule.body.weight().is_some())
 }

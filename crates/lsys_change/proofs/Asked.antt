@@ -3,7 +3,7 @@ use Rattle.std.proofs.Common.{◌≡◌, ℕ, ◌+◌, ◌<◌, ◌≤◌, false
 use Rattle.std.specs.Prelude.{get_or, slice_get}
 use Rattle.std.proofs.lemmas.Option.{get_or_from_slice_get}
 use Rattle.lsys_spec.specs.Systems.{System}
-use Rattle.lsys_spec.specs.Levels.{Symbol, Module, lineage}
+use Rattle.lsys_spec.specs.Levels.{LevelSymbol, Module, lineage}
 use Rattle.lsys_spec.specs.Questions.{Question, questions, same_question, question_at, differs, is_needed}
 use Rattle.lsys_spec.specs.Standings.{place_of}
 use Rattle.lsys_spec.proofs.Standings.{place_found}
@@ -12,12 +12,12 @@ use Rattle.lsys_spec.proofs.Needs.{IsAsked, all_asked, IsFound, found_asked, Der
 use Rattle.lsys_spec.proofs.Tests.{not_false}
 use Rattle.lsys_change.proofs.Faultless.{level_below}
 
-pub record IsOld (old : System) (xs : List (List Symbol)) (q : Question) : Type 0 where
+pub record IsOld (old : System) (xs : List (List LevelSymbol)) (q : Question) : Type 0 where
   pub was : Question
   pub found : question_at q.level (lineage q.own) (questions old xs) ≡ Some was
   pub same : was ≡ q
 
-pub not_needed : (old new : System) (xs ys : List (List Symbol)) → Derived old xs → Derived new ys → (q : Question) → IsAsked new ys q → is_needed (questions old xs) q ≡ false → IsOld old xs q
+pub not_needed : (old new : System) (xs ys : List (List LevelSymbol)) → Derived old xs → Derived new ys → (q : Question) → IsAsked new ys q → is_needed (questions old xs) q ≡ false → IsOld old xs q
 not_needed old new xs ys dx dy q b h = by (question_at q.level (lineage q.own) (questions old xs)) refl h
   where
     by : (o : Option Question) → question_at q.level (lineage q.own) (questions old xs) ≡ o → differs q o ≡ false → IsOld old xs q
@@ -28,7 +28,7 @@ not_needed old new xs ys dx dy q b h = by (question_at q.level (lineage q.own) (
 
 -- where the old system asked, there is a level behind, and the symbol stood there
 
-pub none_last : (s : System) (xs : List (List Symbol)) (t : ℕ) (l : List ℕ) → length xs ≤ t + 1 → question_at t l (questions s xs) ≡ None
+pub none_last : (s : System) (xs : List (List LevelSymbol)) (t : ℕ) (l : List ℕ) → length xs ≤ t + 1 → question_at t l (questions s xs) ≡ None
 none_last s xs t l h = by (question_at t l (questions s xs)) refl
   where
     by : (o : Option Question) → question_at t l (questions s xs) ≡ o → question_at t l (questions s xs) ≡ None
@@ -37,7 +37,7 @@ none_last s xs t l h = by (question_at t l (questions s xs)) refl
         let f : IsFound s xs t l q = found_asked s xs t l (questions s xs) q (all_asked s xs) e in
         let b : q.level + 1 < length xs = level_below s xs t l q e in absurd (omega (arith, h, b, f.level))
 
-pub none_came : (s : System) (xs : List (List Symbol)) (t : ℕ) (l : List ℕ) → place_of l (get_or xs t []) ≡ None → question_at t l (questions s xs) ≡ None
+pub none_came : (s : System) (xs : List (List LevelSymbol)) (t : ℕ) (l : List ℕ) → place_of l (get_or xs t []) ≡ None → question_at t l (questions s xs) ≡ None
 none_came s xs t l h = by (question_at t l (questions s xs)) refl
   where
     by : (o : Option Question) → question_at t l (questions s xs) ≡ o → question_at t l (questions s xs) ≡ None

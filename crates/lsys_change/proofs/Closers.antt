@@ -1,9 +1,9 @@
 -- Which bracket ends a branch, level by level.
 use Rattle.std.proofs.Common.{◌≡◌, ℕ, zero, suc, ◌+◌, ◌<◌, Bool, true, false, cond, List, [], ◌∷◌, ◌++◌, length, map, drop, Option, Some, None, inl, inr, refl, ap, sym, ◌∙◌, subst, arith}
 use Rattle.std.specs.Prelude.{option_map, slice_get}
-use Rattle.lsys_spec.specs.Levels.{Symbol, Push, Pop, Module, close_of, AreMates}
-use Rattle.lsys_change.specs.Kinds.{BracketKind, Opens, Closes, Neither, kind_of, stays, reached}
-use Rattle.lsys_change.specs.Seams.{In}
+use Rattle.lsys_spec.specs.Rows.{In}
+use Rattle.lsys_spec.specs.Levels.{LevelSymbol, Push, Pop, Module, close_of, AreMates}
+use Rattle.lsys_change.specs.Kinds.{BracketKind, Opens, Closes, Neither, kind_of_symbol, stays, reached}
 use Rattle.lsys_change.specs.Mates.{closing, closer, AgreeOn, balancing, AreBalanced, AreOwn, below, AreMatesAmong, AreMatesThere}
 
 pub record Found (o : Option ℕ) : Type 0 where
@@ -150,13 +150,13 @@ ends_below kind own cuts ps r w e =
 
 -- 4. the level of which these are the nodes
 
-record IsClosed (symbol : ℕ → Symbol) (n : ℕ) (ks : List ℕ) (r : ℕ) : Type 0 where
+record IsClosed (symbol : ℕ → LevelSymbol) (n : ℕ) (ks : List ℕ) (r : ℕ) : Type 0 where
   pub place : ℕ
   pub there : slice_get ks place ≡ Some r
   pub is : close_of n (map symbol ks) ≡ Some place
 
-one_node : (symbol : ℕ → Symbol) (k : ℕ) (ks : List ℕ) (n r : ℕ) (s : Symbol) → ((m : ℕ) → closer (λ k. kind_of (symbol k)) m ks ≡ Some r → IsClosed symbol m ks r)
-    → closing (kind_of s) n k (λ m. closer (λ k. kind_of (symbol k)) m ks) ≡ Some r
+one_node : (symbol : ℕ → LevelSymbol) (k : ℕ) (ks : List ℕ) (n r : ℕ) (s : LevelSymbol) → ((m : ℕ) → closer (λ k. kind_of_symbol (symbol k)) m ks ≡ Some r → IsClosed symbol m ks r)
+    → closing (kind_of_symbol s) n k (λ m. closer (λ k. kind_of_symbol (symbol k)) m ks) ≡ Some r
     → (i : ℕ) × (slice_get (k ∷ ks) i ≡ Some r) × (close_of n (s ∷ map symbol ks) ≡ Some i)
 one_node symbol k ks n r (Module l m) ih e =
     let c = ih n e in
@@ -169,7 +169,7 @@ one_node symbol k ks (suc n) r (Pop l) ih e =
     let c = ih n e in
     let i : c.place + 1 ≡ suc c.place = omega arith in (suc c.place, c.there, ap (option_map (λ q. q + 1)) c.is ∙ ap (λ q. Some q) i)
 
-closed : (symbol : ℕ → Symbol) (n : ℕ) (ks : List ℕ) (r : ℕ) → closer (λ k. kind_of (symbol k)) n ks ≡ Some r → IsClosed symbol n ks r
+closed : (symbol : ℕ → LevelSymbol) (n : ℕ) (ks : List ℕ) (r : ℕ) → closer (λ k. kind_of_symbol (symbol k)) n ks ≡ Some r → IsClosed symbol n ks r
 closed symbol n [] r e = cc
 closed symbol n (k ∷ ks) r e =
     let c = one_node symbol k ks n r (symbol k) (λ m i. closed symbol m ks r i) e in record { place = c.0; there = c.1; is = c.2 }
@@ -186,20 +186,20 @@ drop_behind : {A : Type 0} (xs : List A) (k : A) (ys : List A) → drop (length 
 drop_behind [] k ys = refl
 drop_behind (x ∷ xs) k ys = let e : suc (length xs) + 1 ≡ suc (length xs + 1) = omega arith in ap (λ n. drop n (x ∷ (xs ++ k ∷ ys))) e ∙ drop_behind xs k ys
 
-map_around : (f : ℕ → Symbol) (xs : List ℕ) (k : ℕ) (ys : List ℕ) → map f (xs ++ k ∷ ys) ≡ map f xs ++ f k ∷ map f ys
+map_around : (f : ℕ → LevelSymbol) (xs : List ℕ) (k : ℕ) (ys : List ℕ) → map f (xs ++ k ∷ ys) ≡ map f xs ++ f k ∷ map f ys
 map_around f [] k ys = refl
 map_around f (x ∷ xs) k ys = ap (λ zs. f x ∷ zs) (map_around f xs k ys)
 
-map_long : (f : ℕ → Symbol) (xs : List ℕ) → length (map f xs) ≡ length xs
+map_long : (f : ℕ → LevelSymbol) (xs : List ℕ) → length (map f xs) ≡ length xs
 map_long f [] = refl
 map_long f (x ∷ xs) = ap (λ n. suc n) (map_long f xs)
 
-pub on_level : (symbol : ℕ → Symbol) (before : List ℕ) (k : ℕ) (after l : List ℕ) (r : ℕ) → symbol k ≡ Push l → closer (λ k. kind_of (symbol k)) 0 after ≡ Some r
+pub on_level : (symbol : ℕ → LevelSymbol) (before : List ℕ) (k : ℕ) (after l : List ℕ) (r : ℕ) → symbol k ≡ Push l → closer (λ k. kind_of_symbol (symbol k)) 0 after ≡ Some r
     → (q : ℕ) × (slice_get (before ++ k ∷ after) q ≡ Some r) × AreMates (map symbol (before ++ k ∷ after)) (length before) q
 on_level symbol before k after l r h e =
     let c : IsClosed symbol 0 after r = closed symbol 0 after r e in
     let n : length (map symbol before) ≡ length before = map_long symbol before in
-    let x : List Symbol = map symbol before ++ symbol k ∷ map symbol after in
+    let x : List LevelSymbol = map symbol before ++ symbol k ∷ map symbol after in
     let w : map symbol (before ++ k ∷ after) ≡ x = map_around symbol before k after in
     let there : slice_get x (length before) ≡ Some (Push l) = ap (slice_get x) (sym n) ∙ get_here (map symbol before) (symbol k) (map symbol after) ∙ ap (λ s. Some s) h in
     let behind : drop (length before + 1) x ≡ map symbol after = ap (λ n. drop (n + 1) x) (sym n) ∙ drop_behind (map symbol before) (symbol k) (map symbol after) in
@@ -207,10 +207,10 @@ on_level symbol before k after l r h e =
     record { opens = (l, there); closes = ap (λ y. option_map (λ n. length before + 1 + n) (close_of 0 y)) behind ∙ ap (option_map (λ n. length before + 1 + n)) c.is } in
     (length before + 1 + c.place, get_behind before k after c.place ∙ c.there, subst (λ x. AreMates x (length before) (length before + 1 + c.place)) (sym w) mates)
 
-pub there : (symbol : ℕ → Symbol) (ks : List ℕ) (k j : ℕ) → AreMatesAmong (λ k. kind_of (symbol k)) ks k j → AreMatesThere symbol ks k j
+pub there : (symbol : ℕ → LevelSymbol) (ks : List ℕ) (k j : ℕ) → AreMatesAmong (λ k. kind_of_symbol (symbol k)) ks k j → AreMatesThere symbol ks k j
 there symbol ks k j m = by (symbol k) refl
   where
-    by : (a : Symbol) → symbol k ≡ a → AreMatesThere symbol ks k j
+    by : (a : LevelSymbol) → symbol k ≡ a → AreMatesThere symbol ks k j
     by (Push l) e =
         let r = on_level symbol m.before k m.after l j e m.closes in
         record {
@@ -220,5 +220,5 @@ there symbol ks k j m = by (symbol k) refl
           closes = ap (λ ks. slice_get ks r.0) m.whole ∙ r.1;
           mates = subst (λ ks. AreMates (map symbol ks) (length m.before) r.0) (sym m.whole) r.2;
         }
-    by (Pop l) e = let f : Closes ≡ Opens = ap kind_of (sym e) ∙ m.opens in cc
-    by (Module l v) e = let f : Neither ≡ Opens = ap kind_of (sym e) ∙ m.opens in cc
+    by (Pop l) e = let f : Closes ≡ Opens = ap kind_of_symbol (sym e) ∙ m.opens in cc
+    by (Module l v) e = let f : Neither ≡ Opens = ap kind_of_symbol (sym e) ∙ m.opens in cc

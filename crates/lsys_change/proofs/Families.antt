@@ -1,7 +1,7 @@
 -- Mates of a level and of the level above it.
 use Rattle.std.proofs.Common.{◌≡◌, ◌⊎◌, inl, inr, ℕ, zero, suc, Bool, true, false, cond, List, [], ◌∷◌, ◌++◌, append_assoc, Option, Some, None, refl, ap, sym, ◌∙◌, subst, arith}
+use Rattle.lsys_spec.specs.Rows.{In, AreApart}
 use Rattle.lsys_change.specs.Kinds.{BracketKind, Opens, Closes, Neither, stays, reached}
-use Rattle.lsys_change.specs.Seams.{In, AreApart}
 use Rattle.lsys_change.specs.Mates.{closing, closer, AgreeOn, AreBalanced, AreOwn, below, AreMatesAmong, Generation, next_nodes, IsGeneration, AreMatesFrom, of_module, of_mates}
 use Rattle.lsys_change.proofs.Joints.{in_back, in_middle, in_either, IsSplit, split}
 use Rattle.lsys_change.proofs.Closers.{Found, open_before, closes, inside, ends_below}

@@ -4,8 +4,8 @@ use Rattle.std.specs.Prelude.{not, flat_map, get_or, slice_get}
 use Rattle.std.proofs.lemmas.Option.{get_or_from_slice_get}
 use Rattle.lsys_spec.specs.Systems.{System}
 use Rattle.lsys_spec.specs.Bodies.{Body, filter}
-use Rattle.lsys_spec.specs.Levels.{ModuleValue, Symbol, Push, Module, lineage}
-use Rattle.lsys_spec.specs.Walks.{Entry, lineages_named, any}
+use Rattle.lsys_spec.specs.Levels.{ModuleValue, LevelSymbol, Push, Module, lineage}
+use Rattle.lsys_spec.specs.Walks.{Entry, lineages_named, any_holds}
 use Rattle.lsys_spec.specs.Meaning.{any_weight, key_for}
 use Rattle.lsys_spec.specs.Draws.{key_of}
 use Rattle.lsys_spec.specs.Equalities.{same_number, same_option, same_all, same_symbol, same_body}
@@ -30,7 +30,7 @@ parts true false false filters = refl
 parts false key true filters = refl
 parts false key false filters = refl
 
-pub found_candidate : (old new : System) (xs ys : List (List Symbol)) → Derived old xs → Derived new ys → (t : ℕ) (x y : List Symbol) → slice_get xs t ≡ Some x → slice_get ys t ≡ Some y
+pub found_candidate : (old new : System) (xs ys : List (List LevelSymbol)) → Derived old xs → Derived new ys → (t : ℕ) (x y : List LevelSymbol) → slice_get xs t ≡ Some x → slice_get ys t ≡ Some y
     → (p : ℕ) (l : List ℕ) (m : ModuleValue) (was : Question) → slice_get y p ≡ Some (Module l m) → question_at t l (questions old xs) ≡ Some was
     → is_touched old new x y was (module_question new t y p l m) ≡ is_disturbed x y l || (any_disturbed x y was.trace || not (has_same_rules old new t l m))
 found_candidate old new xs ys dx dy t x y gx gy p l m was stands found = by (is_disturbed x y l) refl
@@ -91,16 +91,16 @@ or_grouped : (a b c : Bool) → a || (b || c) ≡ (a || b) || c
 or_grouped true b c = refl
 or_grouped false b c = refl
 
-any_append : {A : Type 0} (p : A → Bool) (xs ys : List A) → any p (xs ++ ys) ≡ any p xs || any p ys
+any_append : {A : Type 0} (p : A → Bool) (xs ys : List A) → any_holds p (xs ++ ys) ≡ any_holds p xs || any_holds p ys
 any_append p [] ys = refl
 any_append p (x ∷ xs) ys =
-    any_is p x (xs ++ ys) ∙ ap (λ b. p x || b) (any_append p xs ys) ∙ or_grouped (p x) (any p xs) (any p ys) ∙ sym (ap (λ b. b || any p ys) (any_is p x xs))
+    any_is p x (xs ++ ys) ∙ ap (λ b. p x || b) (any_append p xs ys) ∙ or_grouped (p x) (any_holds p xs) (any_holds p ys) ∙ sym (ap (λ b. b || any_holds p ys) (any_is p x xs))
 
-any_of_any : {A B : Type 0} (p : B → Bool) (f : A → List B) (xs : List A) → any (λ x. any p (f x)) xs ≡ any p (flat_map f xs)
+any_of_any : {A B : Type 0} (p : B → Bool) (f : A → List B) (xs : List A) → any_holds (λ x. any_holds p (f x)) xs ≡ any_holds p (flat_map f xs)
 any_of_any p f [] = refl
-any_of_any p f (x ∷ xs) = any_is (λ x. any p (f x)) x xs ∙ ap (λ b. any p (f x) || b) (any_of_any p f xs) ∙ sym (any_append p (f x) (flat_map f xs))
+any_of_any p f (x ∷ xs) = any_is (λ x. any_holds p (f x)) x xs ∙ ap (λ b. any_holds p (f x) || b) (any_of_any p f xs) ∙ sym (any_append p (f x) (flat_map f xs))
 
-pub all_read : (x y : List Symbol) (es : List Entry) → any_disturbed x y es ≡ any (is_disturbed x y) (flat_map lineages_named es)
+pub all_read : (x y : List LevelSymbol) (es : List Entry) → any_disturbed x y es ≡ any_holds (is_disturbed x y) (flat_map lineages_named es)
 all_read x y es = any_of_any (is_disturbed x y) lineages_named es
 
 -- the same rules, by name and arity
@@ -127,7 +127,7 @@ rules_stay old new t l m s =
     (and_true (same_option same_number (key_for old l was) (key_for new l are)) _ (ap (λ k. same_option same_number k (key_for new l are)) key ∙ same_option_refl same_number same_number_refl (key_for new l are)) s.filters)
 
 -- the test of a candidate that the old system asked
-pub old_candidate : (old new : System) (xs ys : List (List Symbol)) (t : ℕ) (x y : List Symbol) (p : ℕ) (l : List ℕ) (m : ModuleValue) (was : Question)
+pub old_candidate : (old new : System) (xs ys : List (List LevelSymbol)) (t : ℕ) (x y : List LevelSymbol) (p : ℕ) (l : List ℕ) (m : ModuleValue) (was : Question)
     → AreMeantTo old new xs ys t → slice_get xs t ≡ Some x → IsModuleAt ys t y p l m → question_at t l (questions old xs) ≡ Some was
     → is_candidate_at old new xs t y (module_question new t y p l m) ≡ is_disturbed x y l || (any_disturbed x y was.trace || not (has_same_rules old new t l m))
 old_candidate old new xs ys t x y p l m was w gx a found =

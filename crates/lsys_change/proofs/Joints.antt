@@ -2,7 +2,8 @@
 use Rattle.std.proofs.Common.{◌≡◌, ◌⊎◌, inl, inr, ℕ, List, [], ◌∷◌, ◌++◌, append_assoc, append-nil, eq-eqb, Some, None, Bool, true, false, cond, refl, ap, sym, ◌∙◌, subst}
 use Rattle.std.specs.Prelude.{nat_eq}
 use Rattle.std.proofs.lemmas.Bool.{eqb-true}
-use Rattle.lsys_change.specs.Seams.{first_in, last_in, flat, In, AreApart, right_of, AreTouched, AreTurned, IsRightSeam, child_of_touched, before_touched, up_to_turned}
+use Rattle.lsys_spec.specs.Rows.{first_in, last_in, flat, In, AreApart}
+use Rattle.lsys_change.specs.Seams.{right_of, AreTouched, AreTurned, IsRightSeam, child_of_touched, before_touched, up_to_turned}
 
 -- 1. lists
 

@@ -1,11 +1,11 @@
 -- Which levels a system has does not depend on the limit under which they were made.
 use Rattle.std.proofs.Common.{◌≡◌, ℕ, zero, suc, Ok, List, [], ◌∷◌, ◌++◌, ap, sym, ◌∙◌}
 use Rattle.lsys_spec.specs.Systems.{System}
-use Rattle.lsys_spec.specs.Levels.{Symbol}
+use Rattle.lsys_spec.specs.Levels.{LevelSymbol}
 use Rattle.lsys_spec.specs.Meaning.{first_level, next_level, last_level, meaning_to}
 use Rattle.lsys_spec.proofs.LevelInduction.{ok_parts, ok_within}
 
-pub same_levels : (s : System) (limit limit' t : ℕ) (xs ys : List (List Symbol)) → meaning_to s limit t ≡ Ok xs → meaning_to s limit' t ≡ Ok ys → xs ≡ ys
+pub same_levels : (s : System) (limit limit' t : ℕ) (xs ys : List (List LevelSymbol)) → meaning_to s limit t ≡ Ok xs → meaning_to s limit' t ≡ Ok ys → xs ≡ ys
 same_levels s limit limit' zero xs ys h k = sym (ok_within limit 0 (first_level s ∷ []) xs h) ∙ ok_within limit' 0 (first_level s ∷ []) ys k
 same_levels s limit limit' (suc t) xs ys h k =
     let a = ok_parts (meaning_to s limit t) _ xs h in

@@ -3,7 +3,7 @@ use Rattle.std.proofs.Common.{◌≡◌, ℕ, zero, suc, ◌+◌, List, [], ◌�
 use Rattle.std.specs.Prelude.{◌≢◌, ◌↔◌, nat_eq, length}
 use Rattle.std.proofs.lemmas.Bool.{eqb-true}
 use Rattle.std.proofs.lemmas.List.{length_push}
-use Rattle.lsys_change.specs.Nodes.{Kin, Kins, parent_in, number_in, depth_in, lineage_in, naming, AreOnce, Extends}
+use Rattle.lsys_change.specs.Nodes.{Kin, Kins, kin_parent, number_in, kin_depth, lineage_in, naming, AreOnce, Extends}
 
 same_some : {A : Type 0} (a b : A) → Some a ≡ Some b → a ≡ b
 same_some a b h = cc
@@ -36,13 +36,13 @@ not_root m root k n d h e f g =
 apart_at : (m : Kins) (root d j k : ℕ) (a b : Kin) → AreOnce m root → m j ≡ Some a → m k ≡ Some b → a.depth ≡ d → b.depth ≡ d → lineage_in m d j ≡ lineage_in m d k → j ≡ k
 apart_at m root zero j k a b h e f i i' l = at_root m root j a h e i ∙ sym (at_root m root k b h f i')
 apart_at m root (suc d) j k a b h e f i i' l =
-    let r = push_parts (lineage_in m d (parent_in (m j))) (lineage_in m d (parent_in (m k))) (number_in (m j)) (number_in (m k)) l in
+    let r = push_parts (lineage_in m d (kin_parent (m j))) (lineage_in m d (kin_parent (m k))) (number_in (m j)) (number_in (m k)) l in
     let other = not_root m root j a d h e i in
     let other' = not_root m root k b d h f i' in
     let p = h.held j a e other in
     let q = h.held k b f other' in
-    let up : parent_in (m j) ≡ a.parent = ap parent_in e in
-    let up' : parent_in (m k) ≡ b.parent = ap parent_in f in
+    let up : kin_parent (m j) ≡ a.parent = ap kin_parent e in
+    let up' : kin_parent (m k) ≡ b.parent = ap kin_parent f in
     let above : lineage_in m d a.parent ≡ lineage_in m d b.parent = ap (lineage_in m d) (sym up) ∙ r.0 ∙ ap (lineage_in m d) up' in
     let n : p.0.depth ≡ d = omega (arith, p.2, i) in
     let n' : q.0.depth ≡ d = omega (arith, q.2, i') in
@@ -51,8 +51,8 @@ apart_at m root (suc d) j k a b h e f i i' l =
 
 pub apart : (m : Kins) (root j k : ℕ) (a b : Kin) → AreOnce m root → m j ≡ Some a → m k ≡ Some b → a.depth ≡ b.depth → naming m j ≡ naming m k → j ≡ k
 apart m root j k a b h e f d l =
-    let i : depth_in (m j) ≡ a.depth = ap depth_in e in
-    let i' : depth_in (m k) ≡ a.depth = ap depth_in f ∙ sym d in
+    let i : kin_depth (m j) ≡ a.depth = ap kin_depth e in
+    let i' : kin_depth (m k) ≡ a.depth = ap kin_depth f ∙ sym d in
     apart_at m root a.depth j k a b h e f refl (sym d) (sym (ap (λ d. lineage_in m d j) i) ∙ l ∙ ap (λ d. lineage_in m d k) i')
 
 stays_at : (m m' : Kins) (root d k : ℕ) (a : Kin) → AreOnce m root → Extends m m' → m k ≡ Some a → a.depth ≡ d → lineage_in m' d k ≡ lineage_in m d k
@@ -61,22 +61,22 @@ stays_at m m' root (suc d) k a h x e i =
     let p = h.held k a e (not_root m root k a d h e i) in
     let n : p.0.depth ≡ d = omega (arith, p.2, i) in
     let same : m' k ≡ m k = x k a e ∙ sym e in
-    let above : lineage_in m' d (parent_in (m k)) ≡ lineage_in m d (parent_in (m k)) =
-    subst (λ q. lineage_in m' d q ≡ lineage_in m d q) (sym (ap parent_in e)) (stays_at m m' root d a.parent p.0 h x p.1 n) in
-    ap (λ n. lineage_in m' d (parent_in n) ++ number_in n ∷ []) same ∙ ap (λ l. l ++ number_in (m k) ∷ []) above
+    let above : lineage_in m' d (kin_parent (m k)) ≡ lineage_in m d (kin_parent (m k)) =
+    subst (λ q. lineage_in m' d q ≡ lineage_in m d q) (sym (ap kin_parent e)) (stays_at m m' root d a.parent p.0 h x p.1 n) in
+    ap (λ n. lineage_in m' d (kin_parent n) ++ number_in n ∷ []) same ∙ ap (λ l. l ++ number_in (m k) ∷ []) above
 
 pub stays : (m m' : Kins) (root k : ℕ) (a : Kin) → AreOnce m root → Extends m m' → m k ≡ Some a → naming m' k ≡ naming m k
 stays m m' root k a h x e =
-    let i : depth_in (m' k) ≡ a.depth = ap depth_in (x k a e) in
-    let i' : depth_in (m k) ≡ a.depth = ap depth_in e in
+    let i : kin_depth (m' k) ≡ a.depth = ap kin_depth (x k a e) in
+    let i' : kin_depth (m k) ≡ a.depth = ap kin_depth e in
     ap (λ d. lineage_in m' d k) i ∙ stays_at m m' root a.depth k a h x e refl ∙ sym (ap (λ d. lineage_in m d k) i')
 
 pub child : (m : Kins) (root k : ℕ) (n : Kin) → AreOnce m root → m k ≡ Some n → k ≢ root → naming m k ≡ naming m n.parent ++ n.number ∷ []
 child m root k n h e other =
     let p = h.held k n e other in
-    let above : depth_in (m n.parent) ≡ p.0.depth = ap depth_in p.1 in
-    let deep : depth_in (m k) ≡ suc p.0.depth = ap depth_in e ∙ omega (arith, p.2) in
-    ap (λ d. lineage_in m d k) deep ∙ ap (λ a. lineage_in m p.0.depth (parent_in a) ++ number_in a ∷ []) e
+    let above : kin_depth (m n.parent) ≡ p.0.depth = ap kin_depth p.1 in
+    let deep : kin_depth (m k) ≡ suc p.0.depth = ap kin_depth e ∙ omega (arith, p.2) in
+    ap (λ d. lineage_in m d k) deep ∙ ap (λ a. lineage_in m p.0.depth (kin_parent a) ++ number_in a ∷ []) e
     ∙ sym (ap (λ d. lineage_in m d n.parent ++ n.number ∷ []) above)
 
 pub tags : (m m' : Kins) (root j k : ℕ) (a b : Kin) → AreOnce m root → AreOnce m' root → Extends m m' → m j ≡ Some a → m' k ≡ Some b

@@ -1,7 +1,8 @@
 -- Whose left neighbour stays: seen from the right to the left, it is the right one.
 use Rattle.std.proofs.Common.{◌≡◌, ◌⊎◌, inl, inr, ℕ, zero, suc, ◌+◌, List, [], ◌∷◌, ◌++◌, append_assoc, append-nil, take, drop, Some, refl, ap, sym, ◌∙◌, subst, arith}
 use Rattle.std.specs.Prelude.{slice_get}
-use Rattle.lsys_change.specs.Seams.{first_in, last_in, mirrored, flat, In, AreApart, right_of, left_of, node_before, AreTouched, AreTurned, IsRightSeam, child_of_touched, before_touched, up_to_turned, IsLeftSeam, kid_of_touched, behind_touched, from_turned}
+use Rattle.lsys_spec.specs.Rows.{first_in, last_in, mirrored, flat, In, AreApart}
+use Rattle.lsys_change.specs.Seams.{right_of, left_of, node_before, AreTouched, AreTurned, IsRightSeam, child_of_touched, before_touched, up_to_turned, IsLeftSeam, kid_of_touched, behind_touched, from_turned}
 use Rattle.lsys_change.proofs.Joints.{in_front, in_back, flat_append, last_push, next_there, seamed}
 
 -- 1. lists from the right to the left

@@ -1,23 +1,24 @@
 -- Standings by the numbers of neighbours and mates.
 use Rattle.std.proofs.Common.{◌≡◌, ℕ, zero, suc, ◌+◌, false, List, [], ◌∷◌, map, Option, Some, None, refl, ap, sym, ◌∙◌, subst, inl, inr}
 use Rattle.std.specs.Prelude.{◌↔◌, slice_get, option_map}
+use Rattle.lsys_spec.specs.Rows.{In}
 use Rattle.lsys_spec.specs.Systems.{System}
-use Rattle.lsys_spec.specs.Levels.{Symbol, Push, Pop, Module, lineage}
+use Rattle.lsys_spec.specs.Levels.{LevelSymbol, Push, Pop, Module, lineage}
 use Rattle.lsys_spec.specs.Standings.{Standing, standing, standing_of, place_of, before_place, mate_at, mate_ahead, mate_behind, Settled, is_disturbed}
 use Rattle.lsys_spec.proofs.Around.{ends_at, items_push, way_pop}
 use Rattle.lsys_spec.proofs.Standings.{place_is, place_told}
-use Rattle.lsys_change.specs.Seams.{In, node_before}
-use Rattle.lsys_change.specs.Seats.{Seating, seated, IsSeating, AreSeatings, IsSameSeat, StandsStill, AreSeated}
+use Rattle.lsys_change.specs.Seams.{node_before}
+use Rattle.lsys_change.specs.Seats.{Seating, seated, IsSeating, AreSeatings, IsSameSeat, StandsStill, AreLevelSeatings}
 use Rattle.lsys_change.proofs.UpTo.{disturbed_to}
 
 -- 1. symbols by their nodes
 
-get_map : (f : ℕ → Symbol) (ks : List ℕ) (p : ℕ) → slice_get (map f ks) p ≡ option_map f (slice_get ks p)
+get_map : (f : ℕ → LevelSymbol) (ks : List ℕ) (p : ℕ) → slice_get (map f ks) p ≡ option_map f (slice_get ks p)
 get_map f [] p = refl
 get_map f (k ∷ ks) zero = refl
 get_map f (k ∷ ks) (suc p) = get_map f ks p
 
-before_map : (f : ℕ → Symbol) (ks : List ℕ) (p : ℕ) → before_place (map f ks) p ≡ option_map f (node_before ks p)
+before_map : (f : ℕ → LevelSymbol) (ks : List ℕ) (p : ℕ) → before_place (map f ks) p ≡ option_map f (node_before ks p)
 before_map f ks zero = refl
 before_map f ks (suc p) = get_map f ks p
 
@@ -36,12 +37,12 @@ place_in k (x ∷ ks) (inl e) = (0, ap (λ x. Some x) (sym e))
 place_in k (x ∷ ks) (inr h) = let r = place_in k ks h in (suc r.0, r.1)
 
 -- the node of a symbol
-pub record IsNodeOf (s : Seating) (p : ℕ) (a : Symbol) : Type 0 where
+pub record IsNodeOf (s : Seating) (p : ℕ) (a : LevelSymbol) : Type 0 where
   pub node : ℕ
   pub there : slice_get s.nodes p ≡ Some node
   pub is : s.symbol node ≡ a
 
-pub node_of : (s : Seating) (p : ℕ) (a : Symbol) → slice_get (seated s) p ≡ Some a → IsNodeOf s p a
+pub node_of : (s : Seating) (p : ℕ) (a : LevelSymbol) → slice_get (seated s) p ≡ Some a → IsNodeOf s p a
 node_of s p a h = by (slice_get s.nodes p) refl
   where
     by : (o : Option ℕ) → slice_get s.nodes p ≡ o → IsNodeOf s p a
@@ -62,16 +63,16 @@ record IsMateTold (name : ℕ → List ℕ) (s : Seating) (p k : ℕ) : Type 0 w
 mate_told : (name : ℕ → List ℕ) (s : Seating) → IsSeating name s → (p k : ℕ) → slice_get s.nodes p ≡ Some k → IsMateTold name s p k
 mate_told name s h p k there = by (s.symbol k) refl
   where
-    x : List Symbol
+    x : List LevelSymbol
     x = seated s
 
-    found : (a : Symbol) (r : ℕ) (l : List ℕ) → s.symbol k ≡ a → mate_at x p (Some a) ≡ Some l → s.mate k ≡ Some r → name r ≡ l → In r s.nodes → IsMateTold name s p k
+    found : (a : LevelSymbol) (r : ℕ) (l : List ℕ) → s.symbol k ≡ a → mate_at x p (Some a) ≡ Some l → s.mate k ≡ Some r → name r ≡ l → In r s.nodes → IsMateTold name s p k
     found a r l e m f n i = record {
       told = ap (λ a. mate_at x p (Some a)) e ∙ m ∙ ap (λ l. Some l) (sym n) ∙ sym (ap (option_map name) f);
       among = λ j g. let same : r ≡ j = let u : Some r ≡ Some j = sym f ∙ g in cc in subst (λ j. In j s.nodes) same i;
     }
 
-    by : (a : Symbol) → s.symbol k ≡ a → IsMateTold name s p k
+    by : (a : LevelSymbol) → s.symbol k ≡ a → IsMateTold name s p k
     by (Module l m) e = record {
       told = ap (λ a. mate_at x p (Some a)) e ∙ sym (ap (option_map name) (h.modules k l m (got_in s.nodes p k there) e));
       among = λ r g. absurd (let u : None ≡ Some r = sym (h.modules k l m (got_in s.nodes p k there) e) ∙ g in cc);
@@ -111,7 +112,7 @@ same_nodes name old new a (Some j) (Some i) u v h =
     let f : i ≡ j = a.apart i j (v i refl) (u j refl) l in
     record { node = ap (λ i. Some i) f; symbol = λ k g. let s : j ≡ k = cc in subst (λ k. new.symbol k ≡ old.symbol k) s (sym (ap new.symbol f) ∙ e) }
 
-same_symbols : (was are : ℕ → Symbol) (o n : Option ℕ) → n ≡ o → ((j : ℕ) → o ≡ Some j → are j ≡ was j) → option_map are n ≡ option_map was o
+same_symbols : (was are : ℕ → LevelSymbol) (o n : Option ℕ) → n ≡ o → ((j : ℕ) → o ≡ Some j → are j ≡ was j) → option_map are n ≡ option_map was o
 same_symbols was are o n e h = ap (option_map are) e ∙ by o h
   where
     by : (o : Option ℕ) → ((j : ℕ) → o ≡ Some j → are j ≡ was j) → option_map are o ≡ option_map was o
@@ -133,10 +134,10 @@ seats : (name : ℕ → List ℕ) (old new : Seating) → AreSeatings name old n
     → (standing (seated new) q ≡ standing (seated old) p) ↔ IsSameSeat old new p q k
 seats name old new a p q k hp hq = (to, from)
   where
-    x : List Symbol
+    x : List LevelSymbol
     x = seated old
 
-    y : List Symbol
+    y : List LevelSymbol
     y = seated new
 
     old_here : slice_get x p ≡ Some (old.symbol k)
@@ -222,7 +223,7 @@ settled name old new a k i = (to, from)
         let r = seats name old new a s.old_place s.new_place k s.was_there s.is_there in
         standing_at name new a.after s.new_place k s.is_there ∙ ap (λ t. Some t) (r.1 s.same) ∙ sym (standing_at name old a.before s.old_place k s.was_there)
 
-pub seat_told : (old new : System) (xs ys : List (List Symbol)) (t : ℕ) (name : ℕ → List ℕ) (was are : Seating) → AreSeated old new xs ys t name was are → (k : ℕ) → In k was.nodes
+pub seat_told : (old new : System) (xs ys : List (List LevelSymbol)) (t : ℕ) (name : ℕ → List ℕ) (was are : Seating) → AreLevelSeatings old new xs ys t name was are → (k : ℕ) → In k was.nodes
     → (is_disturbed (seated was) (seated are) (name k) ≡ false) ↔ StandsStill was are k
 seat_told old new xs ys t name was are a k i =
     let d = disturbed_to old new xs ys t a.meant t (seated was) (seated are) a.old_level a.new_level (name k) in

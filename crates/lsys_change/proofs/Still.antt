@@ -1,7 +1,8 @@
 -- Who isn't looked at stands still.
 use Rattle.std.proofs.Common.{◌≡◌, ◌⊎◌, inl, inr, ℕ, ◌+◌, List, Some, ap, sym, ◌∙◌, subst}
 use Rattle.std.specs.Prelude.{slice_get}
-use Rattle.lsys_change.specs.Seams.{flat, In, AreApart, right_of, left_of, node_before, AreTouched, AreTurned, IsRightSeam, IsLeftSeam}
+use Rattle.lsys_spec.specs.Rows.{flat, In, AreApart}
+use Rattle.lsys_change.specs.Seams.{right_of, left_of, node_before, AreTouched, AreTurned, IsRightSeam, IsLeftSeam}
 use Rattle.lsys_change.specs.Seats.{Seating, StandsStill, AreSameSymbols}
 use Rattle.lsys_change.proofs.Joints.{seamed}
 use Rattle.lsys_change.proofs.Mirrors.{seamed_left, right_neighbour, left_neighbour}

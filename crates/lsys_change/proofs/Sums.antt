@@ -5,14 +5,14 @@ use Rattle.std.proofs.lemmas.List.{append-nil}
 use Rattle.std.proofs.lemmas.List.Sums.{sum_by-cons, sum_by-append}
 use Rattle.lsys_spec.specs.Systems.{System, Each}
 use Rattle.lsys_spec.specs.Bodies.{Body, group}
-use Rattle.lsys_spec.specs.Levels.{Symbol, Push, Pop, Module}
+use Rattle.lsys_spec.specs.Levels.{LevelSymbol, Push, Pop, Module}
 use Rattle.lsys_spec.specs.Questions.{Question, question, where_any, questions_from, questions_at, questions_below, questions, is_needed}
 use Rattle.lsys_spec.specs.LevelLaws.{may_differ}
 use Rattle.lsys_change.specs.Passes.{is_candidate_at}
 use Rattle.lsys_change.proofs.Faultless.{IsBelow, below}
 
 -- one level more
-pub more_questions : (s : System) (n : ℕ) (xs : List (List Symbol)) (y : List Symbol) (i t : ℕ) → length xs ≡ i + 1 → n + i ≡ t → questions_below s n (xs ++ y ∷ []) ≡ questions_below s n xs ++ questions_at s t (get_or xs i [])
+pub more_questions : (s : System) (n : ℕ) (xs : List (List LevelSymbol)) (y : List LevelSymbol) (i t : ℕ) → length xs ≡ i + 1 → n + i ≡ t → questions_below s n (xs ++ y ∷ []) ≡ questions_below s n xs ++ questions_at s t (get_or xs i [])
 more_questions s n [] y i t e f = absurd (omega (arith, e))
 more_questions s n (x ∷ []) y zero t e f = let k : n ≡ t = omega (arith, f) in append-nil (questions_at s n x) ∙ ap (λ n. questions_at s n x) k
 more_questions s n (x ∷ []) y (suc i) t e f = absurd (omega (arith, e))
@@ -39,23 +39,23 @@ any_of : (t : ℕ) (bs : List Body) (q : Question) (qs : List Question) → IsOf
 any_of t [] q qs h k = k
 any_of t (b ∷ bs) q qs h k = (h, k)
 
-of_level : (s : System) (t : ℕ) (x : List Symbol) (p : ℕ) (rest : List Symbol) → Each (IsOf t) (questions_from s t x p rest)
+of_level : (s : System) (t : ℕ) (x : List LevelSymbol) (p : ℕ) (rest : List LevelSymbol) → Each (IsOf t) (questions_from s t x p rest)
 of_level s t x p [] = tt
 of_level s t x p (Push l ∷ rest) = of_level s t x (p + 1) rest
 of_level s t x p (Pop l ∷ rest) = of_level s t x (p + 1) rest
 of_level s t x p (Module l m ∷ rest) =
     let bs : List Body = group s t m.name (length m.params) in any_of t bs (question s t bs x p l m) (questions_from s t x (p + 1) rest) refl (of_level s t x (p + 1) rest)
 
-get_front : (ys : List (List Symbol)) (z : List Symbol) (u : ℕ) → u < length ys → get_or (ys ++ z ∷ []) u [] ≡ get_or ys u []
+get_front : (ys : List (List LevelSymbol)) (z : List LevelSymbol) (u : ℕ) → u < length ys → get_or (ys ++ z ∷ []) u [] ≡ get_or ys u []
 get_front [] z u h = absurd (omega (arith, h))
 get_front (y ∷ ys) z zero h = refl
 get_front (y ∷ ys) z (suc u) h = get_front ys z u (omega (arith, h))
 
-pub more_visits : (w : Question → ℕ) (old new : System) (xs ys : List (List Symbol)) (z : List Symbol) (t : ℕ) → length ys ≡ t + 1
+pub more_visits : (w : Question → ℕ) (old new : System) (xs ys : List (List LevelSymbol)) (z : List LevelSymbol) (t : ℕ) → length ys ≡ t + 1
     → over w (may_differ old new xs (ys ++ z ∷ [])) (questions new (ys ++ z ∷ [])) ≡ over w (may_differ old new xs ys) (questions new ys) + over w (is_candidate_at old new xs t (get_or ys t [])) (questions_at new t (get_or ys t []))
 more_visits w old new xs ys z t e =
     let new_test : Question → Bool = may_differ old new xs (ys ++ z ∷ []) in
-    let level : List Symbol = get_or ys t [] in
+    let level : List LevelSymbol = get_or ys t [] in
     ap (over w new_test) (more_questions new 0 ys z t t e (omega arith))
     ∙ sum_by-append (λ q. cond (new_test q) (w q) 0) (questions new ys) (questions_at new t level)
     ∙ ap (λ n. n + over w new_test (questions_at new t level))
@@ -70,7 +70,7 @@ more_visits w old new xs ys z t e =
     here q h =
         ap (λ u. is_candidate_at old new xs u (get_or (ys ++ z ∷ []) u []) q) h ∙ ap (λ y. is_candidate_at old new xs t y q) (get_front ys z t (omega (arith, e)))
 
-pub more_needs : (w : Question → ℕ) (olds : List Question) (new : System) (ys : List (List Symbol)) (z : List Symbol) (t : ℕ) → length ys ≡ t + 1
+pub more_needs : (w : Question → ℕ) (olds : List Question) (new : System) (ys : List (List LevelSymbol)) (z : List LevelSymbol) (t : ℕ) → length ys ≡ t + 1
     → over w (is_needed olds) (questions new (ys ++ z ∷ [])) ≡ over w (is_needed olds) (questions new ys) + over w (is_needed olds) (questions_at new t (get_or ys t []))
 more_needs w olds new ys z t e =
     ap (over w (is_needed olds)) (more_questions new 0 ys z t t e (omega arith)) ∙ sum_by-append (λ q. cond (is_needed olds q) (w q) 0) (questions new ys) (questions_at new t (get_or ys t []))

@@ -1,15 +1,15 @@
 -- Whose mate a bracket is, on the level below and after a change.
 use Rattle.std.specs.Prelude.{ℕ, List, ◌≡◌, ◌++◌, ◌∷◌, Some, Bool, None, []}
-use Rattle.lsys_spec.specs.Levels.{Symbol}
-use Rattle.lsys_change.specs.Kinds.{kind_of, BracketKind, Opens, Neither}
+use Rattle.lsys_spec.specs.Rows.{In}
+use Rattle.lsys_spec.specs.Levels.{LevelSymbol}
+use Rattle.lsys_change.specs.Kinds.{kind_of_symbol, BracketKind, Opens, Neither}
 use Rattle.lsys_change.specs.Mates.{AreMatesAmong, AreMatesThere, closer, AgreeOn, AreBalanced, AreOwn, below, Generation, AreMatesBelow, IsGeneration, AreMatesFrom, next_nodes, AreMatesOn}
-use Rattle.lsys_change.specs.Seams.{In}
 
 -- nodes that are mates by their kinds are mates in the level of their symbols
 abbrev pub MatesAreToldByKinds : Type 0
 MatesAreToldByKinds =
-    (symbol : ℕ → Symbol) (ks : List ℕ) (k j : ℕ)
-    → AreMatesAmong (λ k. kind_of (symbol k)) ks k j → AreMatesThere symbol ks k j
+    (symbol : ℕ → LevelSymbol) (ks : List ℕ) (k j : ℕ)
+    → AreMatesAmong (λ k. kind_of_symbol (symbol k)) ks k j → AreMatesThere symbol ks k j
 
 -- a branch that begins among balanced nodes ends at one of them, and at the same while the kinds
 -- behind its beginning are the same, whatever stands behind these nodes

@@ -1,6 +1,6 @@
 -- Brackets and modules alike, and which of the children of a level stay where cuts reach from one symbol's to the next's.
 use Rattle.std.specs.Prelude.{ℕ, zero, suc, Bool, true, false, Option, Some, None, if◌then◌else◌}
-use Rattle.lsys_spec.specs.Levels.{Symbol, Push, Pop, Module}
+use Rattle.lsys_spec.specs.Levels.{LevelSymbol, Push, Pop, Module}
 
 -- whether a symbol begins a branch, ends one, or is a module
 pub data BracketKind : Type 0 where
@@ -8,10 +8,10 @@ pub data BracketKind : Type 0 where
   Closes : BracketKind
   Neither : BracketKind
 
-abbrev pub kind_of : Symbol → BracketKind
-kind_of (Push l) = Opens
-kind_of (Pop l) = Closes
-kind_of (Module l m) = Neither
+abbrev pub kind_of_symbol : LevelSymbol → BracketKind
+kind_of_symbol (Push l) = Opens
+kind_of_symbol (Pop l) = Closes
+kind_of_symbol (Module l m) = Neither
 
 -- Where a branch is being cut off, a number says how many branches are open in what is cut off: a symbol's children stay
 -- where none is, and those of the bracket that ends it.

@@ -1,7 +1,7 @@
 -- Which bracket ends a branch, in a level and in the level below it, whose nodes are told by their numbers and kinds.
 use Rattle.std.specs.Prelude.{◌≡◌, ℕ, zero, suc, Bool, List, [], ◌∷◌, ◌++◌, map, slice_get, Option, Some, None, if◌then◌else◌}
-use Rattle.lsys_spec.specs.Levels.{Symbol, AreMates}
-use Rattle.lsys_change.specs.Seams.{In, AreApart}
+use Rattle.lsys_spec.specs.Rows.{In, AreApart}
+use Rattle.lsys_spec.specs.Levels.{LevelSymbol, AreMates}
 use Rattle.lsys_change.specs.Kinds.{BracketKind, Opens, Closes, Neither, stays, reached}
 
 -- the bracket that ends the branch that is being read, where n branches inside it are open
@@ -52,7 +52,7 @@ pub record AreMatesAmong (kind : ℕ → BracketKind) (ks : List ℕ) (k j : ℕ
   pub closes : closer kind 0 after ≡ Some j
 
 -- in the level of nodes with these symbols they stand at places that are mates
-pub record AreMatesThere (symbol : ℕ → Symbol) (ks : List ℕ) (k j : ℕ) : Type 0 where
+pub record AreMatesThere (symbol : ℕ → LevelSymbol) (ks : List ℕ) (k j : ℕ) : Type 0 where
   pub place : ℕ
   pub end : ℕ
   pub opens : slice_get ks place ≡ Some k

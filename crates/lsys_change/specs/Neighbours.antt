@@ -1,6 +1,7 @@
 -- Whose neighbours are others, on the next level.
 use Rattle.std.specs.Prelude.{◌≡◌, ◌⊎◌, ℕ, List, ◌+◌, Some, slice_get}
-use Rattle.lsys_change.specs.Seams.{flat, In, right_of, AreTouched, AreTurned, IsRightSeam, left_of, IsLeftSeam, AreApart, node_before}
+use Rattle.lsys_spec.specs.Rows.{flat, In, AreApart}
+use Rattle.lsys_change.specs.Seams.{right_of, AreTouched, AreTurned, IsRightSeam, left_of, IsLeftSeam, node_before}
 
 -- a node's right neighbour is the one from before, or the node is at a seam
 abbrev pub RightNeighboursStayAwayFromSeams : Type 0

@@ -12,26 +12,26 @@ pub record Kin : Type 0 where
 abbrev pub Kins : Type 0
 Kins = ℕ → Option Kin
 
-abbrev pub parent_in : Option Kin → ℕ
-parent_in None = 0
-parent_in (Some n) = n.parent
+abbrev pub kin_parent : Option Kin → ℕ
+kin_parent None = 0
+kin_parent (Some n) = n.parent
 
 abbrev pub number_in : Option Kin → ℕ
 number_in None = 0
 number_in (Some n) = n.number
 
-abbrev pub depth_in : Option Kin → ℕ
-depth_in None = 0
-depth_in (Some n) = n.depth
+abbrev pub kin_depth : Option Kin → ℕ
+kin_depth None = 0
+kin_depth (Some n) = n.depth
 
 -- the numbers on the last so many steps down to a node
 abbrev pub lineage_in : Kins → ℕ → ℕ → List ℕ
 lineage_in m zero k = []
-lineage_in m (suc d) k = lineage_in m d (parent_in (m k)) ++ number_in (m k) ∷ []
+lineage_in m (suc d) k = lineage_in m d (kin_parent (m k)) ++ number_in (m k) ∷ []
 
 -- the lineage of a node: the root has the empty one
 abbrev pub naming : Kins → ℕ → List ℕ
-naming m k = lineage_in m (depth_in (m k)) k
+naming m k = lineage_in m (kin_depth (m k)) k
 
 -- each live node but the root has a live parent, one step nearer to the root; and no two have one parent and one number
 pub record AreOnce (m : Kins) (root : ℕ) : Type 0 where

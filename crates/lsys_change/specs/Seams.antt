@@ -1,35 +1,8 @@
 -- Two levels of nodes, one below the other, before a change and after it, and whose neighbours may be others then.
 use Rattle.std.specs.Prelude.{◌≡◌, ◌⊎◌, ℕ, zero, suc, List, [], ◌∷◌, ◌++◌, Option, Some, None, cond, nat_eq, slice_get}
+use Rattle.lsys_spec.specs.Rows.{first_in, last_in, mirrored, flat, In, AreApart}
 
 -- 1. nodes in a row, by their numbers
-
-abbrev pub first_in : List ℕ → Option ℕ
-first_in [] = None
-first_in (x ∷ xs) = Some x
-
-abbrev pub last_in : List ℕ → Option ℕ
-last_in [] = None
-last_in (x ∷ []) = Some x
-last_in (x ∷ y ∷ xs) = last_in (y ∷ xs)
-
--- from the right to the left
-abbrev pub mirrored : List ℕ → List ℕ
-mirrored [] = []
-mirrored (x ∷ xs) = mirrored xs ++ x ∷ []
-
--- the children of nodes, where each has these
-abbrev pub flat : (ℕ → List ℕ) → List ℕ → List ℕ
-flat f [] = []
-flat f (x ∷ xs) = f x ++ flat f xs
-
-abbrev pub In : ℕ → List ℕ → Type 0
-In k [] = ⊥
-In k (x ∷ xs) = (k ≡ x) ⊎ In k xs
-
--- no number stands twice
-abbrev pub AreApart : List ℕ → Type 0
-AreApart [] = Unit {0}
-AreApart (x ∷ xs) = (In x xs → ⊥) × AreApart xs
 
 -- the number that stands behind this one; none also where this one is not among them
 abbrev pub right_of : ℕ → List ℕ → Option ℕ

@@ -1,20 +1,21 @@
 -- How a node stands beside others, in an old level and in a new one, told by the numbers of its neighbours and its mate.
 use Rattle.std.specs.Prelude.{◌≡◌, ◌+◌, ℕ, true, List, map, flat_map, Option, Some, None, slice_get}
+use Rattle.lsys_spec.specs.Rows.{In}
 use Rattle.lsys_spec.specs.Systems.{System, Each}
-use Rattle.lsys_spec.specs.Levels.{ModuleValue, Symbol, Module, lineage, AreMates, IsLevel}
+use Rattle.lsys_spec.specs.Levels.{ModuleValue, LevelSymbol, Module, lineage, AreMates, IsLevel}
 use Rattle.lsys_spec.specs.Walks.{Entry, lineages_named}
 use Rattle.lsys_change.specs.Passes.{AreMeantTo}
 use Rattle.lsys_change.specs.Groups.{has_same_rules}
-use Rattle.lsys_change.specs.Seams.{In, right_of, left_of, node_before}
+use Rattle.lsys_change.specs.Seams.{right_of, left_of, node_before}
 
 -- a level's nodes in order, and of each its symbol, and the number of its mate, if it is a bracket
 pub record Seating : Type 0 where
   pub nodes : List ℕ
-  pub symbol : ℕ → Symbol
+  pub symbol : ℕ → LevelSymbol
   pub mate : ℕ → Option ℕ
 
 -- the level
-abbrev pub seated : Seating → List Symbol
+abbrev pub seated : Seating → List LevelSymbol
 seated s = map s.symbol s.nodes
 
 -- The nodes are a level, of the lineages that these names tell, and the mates are its mates.
@@ -59,7 +60,7 @@ pub record AreSameSymbols (old new : Seating) (k : ℕ) : Type 0 where
   pub right : (j : ℕ) → right_of k new.nodes ≡ Some j → new.symbol j ≡ old.symbol j
 
 -- the seatings of level t, where the old system means the levels xs, and the new one the levels ys up to this
-pub record AreSeated (old new : System) (xs ys : List (List Symbol)) (t : ℕ)
+pub record AreLevelSeatings (old new : System) (xs ys : List (List LevelSymbol)) (t : ℕ)
     (name : ℕ → List ℕ) (was are : Seating) : Type 0 where
   pub meant : AreMeantTo old new xs ys t
   pub seatings : AreSeatings name was are

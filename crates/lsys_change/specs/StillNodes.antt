@@ -1,11 +1,12 @@
 -- Which nodes stand still, told by symbols, by candidates and by seams.
 use Rattle.std.specs.Prelude.{◌↔◌, ℕ, List, ◌≡◌, false, Some, slice_get, ◌⊎◌}
+use Rattle.lsys_spec.specs.Rows.{In, flat}
 use Rattle.lsys_spec.specs.Standings.{Settled, is_disturbed}
 use Rattle.lsys_spec.specs.Systems.{System}
-use Rattle.lsys_spec.specs.Levels.{Symbol, ModuleValue, Module}
+use Rattle.lsys_spec.specs.Levels.{LevelSymbol, ModuleValue, Module}
 use Rattle.lsys_spec.specs.Questions.{Question, questions, question_at}
-use Rattle.lsys_change.specs.Seams.{In, flat, right_of, left_of, AreTouched, AreTurned, IsRightSeam, IsLeftSeam}
-use Rattle.lsys_change.specs.Seats.{Seating, seated, AreSeatings, StandsStill, AreSeated, AreNodesRead, IsUntouchedNode, AreSameSymbols}
+use Rattle.lsys_change.specs.Seams.{right_of, left_of, AreTouched, AreTurned, IsRightSeam, IsLeftSeam}
+use Rattle.lsys_change.specs.Seats.{Seating, seated, AreSeatings, StandsStill, AreLevelSeatings, AreNodesRead, IsUntouchedNode, AreSameSymbols}
 use Rattle.lsys_change.specs.Passes.{module_question, is_candidate_at}
 
 -- a symbol of the old level is settled exactly where its node stands still
@@ -18,8 +19,8 @@ SettledNodesStandStill =
 -- the test of disturbed symbols says no to a lineage exactly where its node stands still
 abbrev pub UndisturbedNodesStandStill : Type 0
 UndisturbedNodesStandStill =
-    (old new : System) (xs ys : List (List Symbol)) (t : ℕ)
-    (name : ℕ → List ℕ) (was are : Seating) → AreSeated old new xs ys t name was are
+    (old new : System) (xs ys : List (List LevelSymbol)) (t : ℕ)
+    (name : ℕ → List ℕ) (was are : Seating) → AreLevelSeatings old new xs ys t name was are
     → (k : ℕ) → In k was.nodes
     → (is_disturbed (seated was) (seated are) (name k) ≡ false) ↔ StandsStill was are k
 
@@ -27,8 +28,8 @@ UndisturbedNodesStandStill =
 -- still, and its module has the same rules
 abbrev pub UntouchedNodesAreNoCandidates : Type 0
 UntouchedNodesAreNoCandidates =
-    (old new : System) (xs ys : List (List Symbol)) (t : ℕ)
-    (name : ℕ → List ℕ) (was are : Seating) → AreSeated old new xs ys t name was are
+    (old new : System) (xs ys : List (List LevelSymbol)) (t : ℕ)
+    (name : ℕ → List ℕ) (was are : Seating) → AreLevelSeatings old new xs ys t name was are
     → (p k : ℕ) (l : List ℕ) (m : ModuleValue) (q : Question) (reads : List ℕ)
     → slice_get are.nodes p ≡ Some k → are.symbol k ≡ Module l m
     → question_at t l (questions old xs) ≡ Some q

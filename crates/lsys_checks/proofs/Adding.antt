@@ -14,10 +14,10 @@ use Rattle.lsys_text.specs.Tokens.{name_of}
 use Rattle.lsys_text.specs.Packed.{packed, unpacked}
 use Rattle.lsys_text.specs.Texts.{IsNameBytes}
 use Rattle.lsys_text.proofs.Kept.{name-kept}
-use Rattle.lsys_reading.specs.Patterns.{pattern_of}
+use Rattle.lsys_reading.specs.Patterns.{symbol_read}
 use Rattle.lsys_reading.specs.Heads.{patterns_of}
 use Rattle.lsys_reading.specs.declared.patterns.Pattern.{Pattern}
-use Rattle.lsys_checks.specs.Formals.{Numbered, first_of, repeated_with, Adds, symbol_formals, formals_in, marked_formal}
+use Rattle.lsys_checks.specs.Formals.{Numbered, first_some, repeated_with, Adds, symbol_formals, formals_in, marked_formal}
 use Rattle.lsys_checks.specs.declared.formals.FormalNames.{FormalNames}
 
 -- 1. names and their numbers
@@ -59,14 +59,14 @@ formal-more (g ∷ fs) f y = rw (formal-more fs f y) (sym (or-assoc (bytes_eq (n
 
 -- 2. one formal
 
-first-found : (o : Option ℕ) (t : Bool) (p : ℕ) (r : Option ℕ) → first_of o (cond t (Some p) r) ≡ first_of (first_of o (cond (not t) None (Some p))) r
+first-found : (o : Option ℕ) (t : Bool) (p : ℕ) (r : Option ℕ) → first_some o (cond t (Some p) r) ≡ first_some (first_some o (cond (not t) None (Some p))) r
 first-found None true p r = refl
 first-found None false p r = refl
 first-found (Some n) t p r = refl
 
 pub adds-formal : (a b : FormalNames) (f : List ℕ) (k : Kind) (is_new : Bool) → IsNameBytes f → is_new ≡ not (contains nat_cmp a.numbers (packed f))
     → ((q : ℕ) → contains nat_cmp b.numbers q ≡ cond (is_eq (nat_cmp (packed f) q)) true (contains nat_cmp a.numbers q))
-    → b.repeated ≡ first_of a.repeated (cond is_new None (Some (a.end + 1))) → b.end ≡ a.end + 2
+    → b.repeated ≡ first_some a.repeated (cond is_new None (Some (a.end + 1))) → b.end ≡ a.end + 2
     → Adds a (f ∷ []) (token k ∷ note a_param ∷ token (Name (name_of f)) ∷ []) b
 adds-formal a b f k is_new form new updates repeated place = record {
   place = place;
@@ -88,11 +88,11 @@ adds-formal a b f k is_new form new updates repeated place = record {
       ∙ ap (λ fs. repeated_place fs false (a.end + 1 + 1) qs) (sym (names-append before (f ∷ [])))
       ∙ ap (λ n. repeated_place (map name_of (before ++ f ∷ [])) false n qs) here in
       let known : is_formal (seen ++ []) (name_of f) ≡ contains nat_cmp a.numbers (packed f) = ap (λ fs. is_formal fs (name_of f)) (append-nil seen) ∙ sym (h.known f form) in
-      ap (λ r. first_of a.repeated (cond (is_formal (seen ++ []) (name_of f)) (Some (a.end + 1)) r)) later
-      ∙ ap (λ t. first_of a.repeated (cond t (Some (a.end + 1)) rest)) known
+      ap (λ r. first_some a.repeated (cond (is_formal (seen ++ []) (name_of f)) (Some (a.end + 1)) r)) later
+      ∙ ap (λ t. first_some a.repeated (cond t (Some (a.end + 1)) rest)) known
       ∙ first-found a.repeated (contains nat_cmp a.numbers (packed f)) (a.end + 1) rest
-      ∙ ap (λ t. first_of (first_of a.repeated (cond t None (Some (a.end + 1)))) rest) (sym new)
-      ∙ ap (λ o. first_of o rest) (sym repeated);
+      ∙ ap (λ t. first_some (first_some a.repeated (cond t None (Some (a.end + 1)))) rest) (sym new)
+      ∙ ap (λ o. first_some o rest) (sym repeated);
 }
 
 -- 3. pieces behind one another
@@ -124,8 +124,8 @@ module _ {a : FormalNames} where
     place = place;
     kept = λ before n. subst (Numbered (before ++ [])) (sym numbers) (subst (λ all. Numbered all a.numbers) (sym (append-nil before)) n);
     same = λ before n qs.
-        ap (first_of a.repeated) (same (map name_of before) qs)
-        ∙ ap (λ o. first_of o (repeated_place (map name_of before) false b.end qs)) (sym repeated)
+        ap (first_some a.repeated) (same (map name_of before) qs)
+        ∙ ap (λ o. first_some o (repeated_place (map name_of before) false b.end qs)) (sym repeated)
         ∙ ap (λ all. repeated_with b all qs) (sym (append-nil before));
   }
 
@@ -189,15 +189,15 @@ pub more-end : {a m : FormalNames} (fs : List (List ℕ)) (ps : List Piece) (xs 
 more-end {a} {m} fs ps xs i l h = goes-done fs ps (subst (λ ys. Goes a fs ps m ys (more ys)) (drop_all i xs l) h)
 
 pub pattern-step : {a m n : FormalNames} (fs : List (List ℕ)) (ps : List Piece) (xs : List Pattern) (i : ℕ) (x : Pattern) → i < length xs → x ≡ get_or xs i x
-    → Goes a fs ps m (formals_in (drop i xs)) (pieces (drop i xs)) → Adds m (symbol_formals x) (symbol_pieces formal_pieces (pattern_of x)) n
+    → Goes a fs ps m (formals_in (drop i xs)) (pieces (drop i xs)) → Adds m (symbol_formals x) (symbol_pieces formal_pieces (symbol_read x)) n
     → Goes a fs ps n (formals_in (drop (i + 1) xs)) (pieces (drop (i + 1) xs))
 pattern-step {a} {m} fs ps xs i x l e h k =
     let rest = drop (i + 1) xs in
-    let between = gap (ends_in_name (pattern_of x)) (begins_with_letter (patterns_of rest)) in
+    let between = gap (ends_in_name (symbol_read x)) (begins_with_letter (patterns_of rest)) in
     goes-more fs [] (formals_in rest) ps between (pieces rest)
-    (goes-more fs (symbol_formals x) (formals_in rest) ps (symbol_pieces formal_pieces (pattern_of x)) (between ++ pieces rest)
+    (goes-more fs (symbol_formals x) (formals_in rest) ps (symbol_pieces formal_pieces (symbol_read x)) (between ++ pieces rest)
     (subst (λ ys. Goes a fs ps m (formals_in ys) (pieces ys)) (drop-item xs i x l e) h) k)
-    (adds-gap (ends_in_name (pattern_of x)) (begins_with_letter (patterns_of rest)))
+    (adds-gap (ends_in_name (symbol_read x)) (begins_with_letter (patterns_of rest)))
 
 pub pattern-end : {a m : FormalNames} (fs : List (List ℕ)) (ps : List Piece) (xs : List Pattern) (i : ℕ) → length xs ≤ i
     → Goes a fs ps m (formals_in (drop i xs)) (pieces (drop i xs)) → Adds a fs ps m
@@ -205,12 +205,12 @@ pattern-end {a} {m} fs ps xs i l h = goes-done fs ps (subst (λ ys. Goes a fs ps
 
 -- the tokens of the next symbol
 pub pattern-room : (xs : List Pattern) (i : ℕ) (x : Pattern) (n all : ℕ) → i < length xs → x ≡ get_or xs i x → n + length (kinds_of (pieces (drop i xs))) ≡ all
-    → n + length (kinds_of (symbol_pieces formal_pieces (pattern_of x))) ≤ all
+    → n + length (kinds_of (symbol_pieces formal_pieces (symbol_read x))) ≤ all
 pattern-room xs i x n all l e h =
     let rest = drop (i + 1) xs in
-    let between = gap (ends_in_name (pattern_of x)) (begins_with_letter (patterns_of rest)) in
-    let h2 : n + length (kinds_of (symbol_pieces formal_pieces (pattern_of x) ++ (between ++ pieces rest))) ≡ all = subst (λ ys. n + length (kinds_of (pieces ys)) ≡ all) (drop-item xs i x l e) h in
-    omega (arith, h2, count-append (symbol_pieces formal_pieces (pattern_of x)) (between ++ pieces rest))
+    let between = gap (ends_in_name (symbol_read x)) (begins_with_letter (patterns_of rest)) in
+    let h2 : n + length (kinds_of (symbol_pieces formal_pieces (symbol_read x) ++ (between ++ pieces rest))) ≡ all = subst (λ ys. n + length (kinds_of (pieces ys)) ≡ all) (drop-item xs i x l e) h in
+    omega (arith, h2, count-append (symbol_pieces formal_pieces (symbol_read x)) (between ++ pieces rest))
 
 -- 5. the parts of a rule
 

@@ -14,7 +14,7 @@ use Rattle.lsys_reading.specs.Spans.{option_at}
 use Rattle.lsys_reading.specs.Images.{images_at}
 use Rattle.lsys_reading.specs.RuleLines.{rule_at}
 use Rattle.lsys_reading.specs.declared.rule.RuleLine.{RuleLine}
-use Rattle.lsys_checks.specs.Formals.{Numbered, first_of, Adds, AreFormalNames, formals_in, formals_at, head_pieces, rest_pieces}
+use Rattle.lsys_checks.specs.Formals.{Numbered, first_some, Adds, AreFormalNames, formals_in, formals_at, head_pieces, rest_pieces}
 use Rattle.lsys_checks.specs.declared.formals.FormalNames.{FormalNames}
 use Rattle.lsys_checks.proofs.Adding.{count-append, adds-trans, adds-note}
 
@@ -95,7 +95,7 @@ head-count r =
     let right = right_pieces (patterns_of r.right.items) in
     omega (arith, count-append left (predecessor_pieces (module_name r.predecessor.name) (formals_of r.predecessor) ++ right), count-append params right)
 
-first-none : (o : Option ℕ) → first_of o None ≡ o
+first-none : (o : Option ℕ) → first_some o None ≡ o
 first-none None = refl
 first-none (Some n) = refl
 
@@ -120,9 +120,9 @@ formal-names from r a b c d empty none place h i j =
       repeated = λ ks.
           sym (ap (repeated_place [] false from) (head-rest ks r)
           ∙ ap (λ n. repeated_place [] false n (head_pieces r ++ rest_pieces ks r)) (sym place)
-          ∙ ap (λ o. first_of o (repeated_place [] false a.end (head_pieces r ++ rest_pieces ks r))) (sym none)
+          ∙ ap (λ o. first_some o (repeated_place [] false a.end (head_pieces r ++ rest_pieces ks r))) (sym none)
           ∙ all.same [] before (rest_pieces ks r)
-          ∙ ap (first_of d.repeated) (quiet-rest ks r (map name_of (formals_at r)) d.end)
+          ∙ ap (first_some d.repeated) (quiet-rest ks r (map name_of (formals_at r)) d.end)
           ∙ first-none d.repeated);
       place = all.place ∙ ap (λ n. n + length (kinds_of (head_pieces r))) place;
     }

@@ -67,7 +67,7 @@ module _ {x : FormalNames} where
 pub record Passes (x : FormalNames) (n : ℕ) (ts : List Token) (m : ℕ) (us : List Token) : Type 0 where
   pub place : m + length us ≡ n + length ts
   pub same : (fs : List (List ℕ)) → Numbered fs x.numbers → (qs : List Piece)
-      → unknown_place (map name_of fs) true n (map token (text.kinds_of ts) ++ qs) ≡ unknown_place (map name_of fs) true m (map token (text.kinds_of us) ++ qs)
+      → unknown_place (map name_of fs) true n (map token (text.kind_row ts) ++ qs) ≡ unknown_place (map name_of fs) true m (map token (text.kind_row us) ++ qs)
 
 pub passes-none : (x : FormalNames) (n : ℕ) (ts : List Token) → Passes x n ts n ts
 passes-none x n ts = record { place = refl; same = λ fs known qs. refl }
@@ -84,17 +84,17 @@ module _ {x : FormalNames} {n m : ℕ} (ts us : List Token) (i : ℕ) (t : Token
     place = omega (arith, next.place);
     same = λ fs known qs.
         next.same fs known qs
-        ∙ ap (λ b. cond b (Some m) (unknown_place (map name_of fs) true (m + 1) (map token (text.kinds_of (drop (i + 1) us)) ++ qs))) (sym (k fs known));
+        ∙ ap (λ b. cond b (Some m) (unknown_place (map name_of fs) true (m + 1) (map token (text.kind_row (drop (i + 1) us)) ++ qs))) (sym (k fs known));
   }
 
   pub passes-found : ((fs : List (List ℕ)) → Numbered fs x.numbers → true ≡ is_unknown (map name_of fs) (kind_of t.kind))
-      → (fs : List (List ℕ)) → Numbered fs x.numbers → (qs : List Piece) → unknown_place (map name_of fs) true n (map token (text.kinds_of ts) ++ qs) ≡ Some m
+      → (fs : List (List ℕ)) → Numbered fs x.numbers → (qs : List Piece) → unknown_place (map name_of fs) true n (map token (text.kind_row ts) ++ qs) ≡ Some m
   passes-found k fs known qs =
       next.same fs known qs
-      ∙ ap (λ b. cond b (Some m) (unknown_place (map name_of fs) true (m + 1) (map token (text.kinds_of (drop (i + 1) us)) ++ qs))) (sym (k fs known))
+      ∙ ap (λ b. cond b (Some m) (unknown_place (map name_of fs) true (m + 1) (map token (text.kind_row (drop (i + 1) us)) ++ qs))) (sym (k fs known))
 
 -- the tokens of a span
-pub span-tokens : (ts : List Token) (s : Span) → IsSpan (text.kinds_of ts) s → text.kinds_of (take (s.to - s.from) (drop s.from ts)) ≡ expr_kinds (expr_at (text.kinds_of ts) s)
+pub span-tokens : (ts : List Token) (s : Span) → IsSpan (text.kind_row ts) s → text.kind_row (take (s.to - s.from) (drop s.from ts)) ≡ expr_kinds (expr_at (text.kind_row ts) s)
 span-tokens ts s h =
     let kind : Token → Kind = λ t. kind_of t.kind in
     sym (h.kinds ∙ (ap (take (s.to - s.from)) (drop-map kind s.from ts) ∙ take-map kind (s.to - s.from) (drop s.from ts)))
@@ -111,27 +111,27 @@ expr-count e =
     let same : length (kinds_of (map token (expr_kinds e))) ≡ length (expr_kinds e) = ap length (kinds-tokens (expr_kinds e)) in
     omega (arith, same, count-append (map token (expr_kinds e)) (note expr_ends ∷ []))
 
-length-kinds : (ts : List Token) → length (text.kinds_of ts) ≡ length ts
+length-kinds : (ts : List Token) → length (text.kind_row ts) ≡ length ts
 length-kinds [] = refl
 length-kinds (t ∷ ts) = omega (arith, length-kinds ts)
 
-pub expr-length : (e : Expr) (ts : List Token) → text.kinds_of ts ≡ expr_kinds e → length ts ≡ count (expr_pieces e)
+pub expr-length : (e : Expr) (ts : List Token) → text.kind_row ts ≡ expr_kinds e → length ts ≡ count (expr_pieces e)
 expr-length e ts same = sym (length-kinds ts) ∙ ap length same ∙ sym (expr-count e)
 
-pub searches-expr : {x : FormalNames} {n m : ℕ} (e : Expr) (ts : List Token) (i : ℕ) → text.kinds_of ts ≡ expr_kinds e → length ts ≤ i → Passes x n ts m (drop i ts) → Searches x n (expr_pieces e) (Ok m)
+pub searches-expr : {x : FormalNames} {n m : ℕ} (e : Expr) (ts : List Token) (i : ℕ) → text.kind_row ts ≡ expr_kinds e → length ts ≤ i → Passes x n ts m (drop i ts) → Searches x n (expr_pieces e) (Ok m)
 searches-expr {x = x} {n = n} {m = m} e ts i same l h =
     let all : Passes x n ts m [] = subst (Passes x n ts m) (drop_all i ts l) h in
     record {
       place = omega (arith, all.place, expr-length e ts same);
-      same = λ fs known qs. expr-from (map name_of fs) n e (text.kinds_of ts) qs same ∙ all.same fs known (note expr_ends ∷ qs);
+      same = λ fs known qs. expr-from (map name_of fs) n e (text.kind_row ts) qs same ∙ all.same fs known (note expr_ends ∷ qs);
     }
 
-pub searches-expr_found : {x : FormalNames} {n m : ℕ} (e : Expr) (ts : List Token) → text.kinds_of ts ≡ expr_kinds e
-    → ((fs : List (List ℕ)) → Numbered fs x.numbers → (qs : List Piece) → unknown_place (map name_of fs) true n (map token (text.kinds_of ts) ++ qs) ≡ Some m)
+pub searches-expr_found : {x : FormalNames} {n m : ℕ} (e : Expr) (ts : List Token) → text.kind_row ts ≡ expr_kinds e
+    → ((fs : List (List ℕ)) → Numbered fs x.numbers → (qs : List Piece) → unknown_place (map name_of fs) true n (map token (text.kind_row ts) ++ qs) ≡ Some m)
     → Searches x n (expr_pieces e) (Err m)
 searches-expr_found {n = n} e ts same h = record {
   place = tt;
-  same = λ fs known qs. expr-from (map name_of fs) n e (text.kinds_of ts) qs same ∙ h fs known (note expr_ends ∷ qs);
+  same = λ fs known qs. expr-from (map name_of fs) n e (text.kind_row ts) qs same ∙ h fs known (note expr_ends ∷ qs);
 }
 
 -- 3. loops

@@ -49,13 +49,13 @@ marked_formal k x = token k ∷ note a_param ∷ token (Name (name_of x)) ∷ []
 pub record Numbered (fs : List (List ℕ)) (numbers : BTreeSet ℕ) : Type 0 where
   pub known : (x : List ℕ) → IsNameBytes x → contains nat_cmp numbers (packed x) ≡ is_formal (map name_of fs) (name_of x)
 
-abbrev pub first_of : Option ℕ → Option ℕ → Option ℕ
-first_of None o = o
-first_of (Some n) o = Some n
+abbrev pub first_some : Option ℕ → Option ℕ → Option ℕ
+first_some None o = o
+first_some (Some n) o = Some n
 
 -- where the first formal that stands earlier is, if these pieces follow
 abbrev pub repeated_with : FormalNames → List (List ℕ) → List Piece → Option ℕ
-repeated_with x fs ps = first_of x.repeated (repeated_place (map name_of fs) false x.end ps)
+repeated_with x fs ps = first_some x.repeated (repeated_place (map name_of fs) false x.end ps)
 
 -- Behind these pieces, which have these formals, the names are b.
 pub record Adds (a : FormalNames) (fs : List (List ℕ)) (ps : List Piece) (b : FormalNames) : Type 0 where

@@ -6,7 +6,7 @@ use Rattle.lsys_syntax.specs.Strings.{more_pieces, params_pieces, string_pieces,
 use Rattle.lsys_syntax.specs.Rules.{formal_pieces, left_pieces, right_pieces}
 use Rattle.lsys_text.specs.Tokens.{name_of}
 use Rattle.lsys_reading.specs.Heads.{patterns_of}
-use Rattle.lsys_reading.specs.Patterns.{pattern_of}
+use Rattle.lsys_reading.specs.Patterns.{symbol_read}
 use Rattle.lsys_reading.specs.declared.patterns.Pattern.{Pattern}
 
 -- formals, in parentheses where there are any
@@ -22,7 +22,7 @@ abbrev pub module_pieces : Kind → List (List ℕ) → List Piece
 module_pieces k fs = note a_symbol ∷ token k ∷ formals_pieces fs
 
 abbrev pub pattern_pieces : Pattern → List Piece
-pattern_pieces x = symbol_pieces formal_pieces (pattern_of x)
+pattern_pieces x = symbol_pieces formal_pieces (symbol_read x)
 
 -- those of all these patterns
 abbrev pub pieces_in : List Pattern → List Piece

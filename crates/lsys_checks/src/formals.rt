@@ -1,7 +1,7 @@
 //! The formals of a rule, and the first one that stands earlier.
 ghost use Rattle.std.specs.Prelude.{◌≡◌, ◌≤◌, ◌+◌, [], ◌∷◌, IfOk, OnOk, Some, None, if◌then◌else◌};
 ghost use Rattle.lsys_syntax.specs.Tokens.{Kind};
-ghost use Rattle.lsys_checks.specs.Formals.{Adds, AreFormalNames, first_of, head_pieces, marked_formal};
+ghost use Rattle.lsys_checks.specs.Formals.{Adds, AreFormalNames, first_some, head_pieces, marked_formal};
 ghost use Rattle.lsys_checks.specs.FoundNames.{IsFirstRepeated, TellsUnknown};
 ghost use Rattle.lsys_checks.specs.PatternPieces.{formals_pieces, left_context, more_formals_pieces, pattern_pieces, pieces_in, right_context};
 ghost use Rattle.lsys_checks.specs.Searching.{count};
@@ -146,7 +146,7 @@ impl FormalNames {
 
 // The first token of a formal that stands earlier, where one may stand at a place.
 fn first_repeated(found: Option<usize>, is_new: bool, place: usize) -> Option<usize>
-    ensures { result ≡ first_of found (if is_new then None else Some place) }
+    ensures { result ≡ first_some found (if is_new then None else Some place) }
 {
     match found {
         Some(earlier) => Some(earlier),

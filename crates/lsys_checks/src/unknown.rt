@@ -2,7 +2,7 @@
 ghost use Rattle.std.specs.Prelude.{◌≤◌, ◌+◌};
 ghost use Rattle.lsys_syntax.specs.Tokens.{Colon};
 ghost use Rattle.lsys_syntax.specs.Expressions.{expr_pieces};
-ghost use Rattle.lsys_text.specs.Tokens.{kinds_of};
+ghost use Rattle.lsys_text.specs.Tokens.{kind_row};
 ghost use Rattle.lsys_reading.specs.Spans.{AreSpans, ConditionIsSpan, IsSpan, expr_at};
 ghost use Rattle.lsys_reading.specs.Images.{ImageIsAt, ImagesAreAt};
 ghost use Rattle.lsys_reading.specs.RuleLines.{IsRuleLine};
@@ -17,9 +17,9 @@ use lsys_text::Token;
 
 /// The first name of the rule's expressions that is no formal of it, by the number of its token.
 pub fn unknown_name(tokens: &[Token], rule: &RuleLine, formals: &FormalNames) -> Option<usize>
-    requires expressions { IsRuleLine (kinds_of tokens.now) rule.now }
-    requires room { formals.now.end + count (rest_pieces (kinds_of tokens.now) rule.now) ≤ usize.MAX }
-    ensures { IsFirstUnknown (kinds_of tokens.now) rule.now formals.now result }
+    requires expressions { IsRuleLine (kind_row tokens.now) rule.now }
+    requires room { formals.now.end + count (rest_pieces (kind_row tokens.now) rule.now) ≤ usize.MAX }
+    ensures { IsFirstUnknown (kind_row tokens.now) rule.now formals.now result }
 {
     search_rest(tokens, rule, formals).err()
 }
@@ -27,9 +27,9 @@ pub fn unknown_name(tokens: &[Token], rule: &RuleLine, formals: &FormalNames) ->
 // Each search answers the place behind what it searched, or the first unknown name.
 
 fn search_rest(tokens: &[Token], rule: &RuleLine, formals: &FormalNames) -> Result<usize, usize>
-    requires expressions { IsRuleLine (kinds_of tokens.now) rule.now }
-    requires room { formals.now.end + count (rest_pieces (kinds_of tokens.now) rule.now) ≤ usize.MAX }
-    ensures { Searches formals.now formals.now.end (rest_pieces (kinds_of tokens.now) rule.now) result }
+    requires expressions { IsRuleLine (kind_row tokens.now) rule.now }
+    requires room { formals.now.end + count (rest_pieces (kind_row tokens.now) rule.now) ≤ usize.MAX }
+    ensures { Searches formals.now formals.now.end (rest_pieces (kind_row tokens.now) rule.now) result }
 {
     let place = search_option(tokens, formals, formals.end, rule.condition)?;
     let place = search_option(tokens, formals, place, rule.weight)?;
@@ -43,9 +43,9 @@ fn search_option(
     place: usize,
     span: Option<Span>,
 ) -> Result<usize, usize>
-    requires span { ConditionIsSpan (kinds_of tokens.now) span }
-    requires room { place + count (marked_span Colon (kinds_of tokens.now) span) ≤ usize.MAX }
-    ensures { SearchesSpan formals.now place (kinds_of tokens.now) span result }
+    requires span { ConditionIsSpan (kind_row tokens.now) span }
+    requires room { place + count (marked_span Colon (kind_row tokens.now) span) ≤ usize.MAX }
+    ensures { SearchesSpan formals.now place (kind_row tokens.now) span result }
 {
     match span {
         Some(span) => search_expression(tokens, formals, place + 1, span),
@@ -59,9 +59,9 @@ fn search_expression(
     place: usize,
     span: Span,
 ) -> Result<usize, usize>
-    requires span { IsSpan (kinds_of tokens.now) span }
-    requires room { place + count (expr_pieces (expr_at (kinds_of tokens.now) span)) ≤ usize.MAX }
-    ensures { Searches formals.now place (expr_pieces (expr_at (kinds_of tokens.now) span)) result }
+    requires span { IsSpan (kind_row tokens.now) span }
+    requires room { place + count (expr_pieces (expr_at (kind_row tokens.now) span)) ≤ usize.MAX }
+    ensures { Searches formals.now place (expr_pieces (expr_at (kind_row tokens.now) span)) result }
 {
     let mut end = place;
     for token in &tokens[span.from..span.to] {
@@ -80,9 +80,9 @@ fn search_params(
     place: usize,
     params: &[Span],
 ) -> Result<usize, usize>
-    requires spans { AreSpans (kinds_of tokens.now) params.now }
-    requires room { place + count (more_spans (kinds_of tokens.now) params.now) ≤ usize.MAX }
-    ensures { Searches formals.now place (more_spans (kinds_of tokens.now) params.now) result }
+    requires spans { AreSpans (kind_row tokens.now) params.now }
+    requires room { place + count (more_spans (kind_row tokens.now) params.now) ≤ usize.MAX }
+    ensures { Searches formals.now place (more_spans (kind_row tokens.now) params.now) result }
 {
     let mut end = place;
     for param in params {
@@ -97,9 +97,9 @@ fn search_image(
     place: usize,
     image: &Image,
 ) -> Result<usize, usize>
-    requires expressions { ImageIsAt (kinds_of tokens.now) image.now }
-    requires room { place + count (image_pieces (kinds_of tokens.now) image.now) ≤ usize.MAX }
-    ensures { Searches formals.now place (image_pieces (kinds_of tokens.now) image.now) result }
+    requires expressions { ImageIsAt (kind_row tokens.now) image.now }
+    requires room { place + count (image_pieces (kind_row tokens.now) image.now) ≤ usize.MAX }
+    ensures { Searches formals.now place (image_pieces (kind_row tokens.now) image.now) result }
 {
     match image {
         Image::Module(module) if !module.params.is_empty() => {
@@ -116,9 +116,9 @@ fn search_images(
     place: usize,
     images: &[Image],
 ) -> Result<usize, usize>
-    requires expressions { ImagesAreAt (kinds_of tokens.now) images.now }
-    requires room { place + count (images_pieces (kinds_of tokens.now) images.now) ≤ usize.MAX }
-    ensures { Searches formals.now place (images_pieces (kinds_of tokens.now) images.now) result }
+    requires expressions { ImagesAreAt (kind_row tokens.now) images.now }
+    requires room { place + count (images_pieces (kind_row tokens.now) images.now) ≤ usize.MAX }
+    ensures { Searches formals.now place (images_pieces (kind_row tokens.now) images.now) result }
 {
     let mut end = place;
     for image in images {

@@ -16,7 +16,7 @@ use Rattle.lsys_laws.specs.Sessions.{HasLevels}
 use Rattle.lsys_desks.specs.Costs.{desk_line_cost, line_leads}
 use Rattle.lsys_session.specs.Answers.{Counters}
 use Rattle.lsys_desk.specs.Answers.{WasReplied, TellsLead, answer_or_memory, is_led, leads_to, line_answer}
-use Rattle.lsys_cli.specs.Ends.{Seen, Worked}
+use Rattle.lsys_cli.specs.Ends.{RunView, Worked}
 use Rattle.lsys_cli.specs.Runs.{AnswersLong, CountsLine}
 use Rattle.lsys_session.specs.declared.outcome.Outcome.{Outcome}
 use Rattle.lsys_cli.proofs.Appending.{goes_out}
@@ -28,7 +28,7 @@ pub record IsReply (limit : ℕ) (d : Desk) (line : List ℕ) (lacks : Bool) (r 
   pub honest : lacks ≡ true → r.reply.is_memory ≡ true
 
 -- it was put, its desk is kept, and the counters rose within its cost
-pub record Replied (visits : Visits) (limit : ℕ) (d : Desk) (line : List ℕ) (old now : Seen) (after : Desk) (o : Outcome) : Type 0 where
+pub record Replied (visits : Visits) (limit : ℕ) (d : Desk) (line : List ℕ) (old now : RunView) (after : Desk) (o : Outcome) : Type 0 where
   pub lacks : Bool
   pub answer : DeskReply
   pub is : IsReply limit d line lacks answer

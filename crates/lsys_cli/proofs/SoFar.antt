@@ -17,7 +17,7 @@ use Rattle.lsys_desks.specs.Costs.{cost_followed, desk_cost, desk_costs_from, de
 use Rattle.lsys_desks.proofs.Spending.{and_none, line_levels}
 use Rattle.lsys_desks.specs.Desks.{Desk, DeskReply, desk_followed, desk_out, desk_replies_from, desk_reply_or_memory, opening_desk}
 use Rattle.std.proofs.Math.Seq.{take-append-add}
-use Rattle.lsys_cli.specs.Ends.{IsWithin, Seen, Worked, within_limit}
+use Rattle.lsys_cli.specs.Ends.{IsScriptWithin, RunView, Worked, script_front}
 use Rattle.lsys_session.specs.Answers.{refuses, lacks_memory, ends_session}
 use Rattle.lsys_session.specs.declared.outcome.Outcome.{Outcome}
 use Rattle.lsys_cli.proofs.Appending.{then, nothing}
@@ -33,7 +33,7 @@ Agrees n answered M = (k : ℕ) → k < n → M k ≡ answered k
 
 -- to the lines before this number, and which of them lacked memory; what was written, which kinds of refusal there were, and
 -- what the lines cost
-pub record Given (limit : ℕ) (old now : Seen) (refused memory : Bool) : Type 0 where
+pub record Given (limit : ℕ) (old now : RunView) (refused memory : Bool) : Type 0 where
   pub number : ℕ
   pub answered : ℕ → Bool
   pub replies : List Reply
@@ -44,7 +44,7 @@ pub record Given (limit : ℕ) (old now : Seen) (refused memory : Bool) : Type 0
   pub cost : Cost
   pub worked : Worked limit cost old.counters now.counters
 
-none_given : (limit : ℕ) (old : Seen) → Given limit old old false false
+none_given : (limit : ℕ) (old : RunView) → Given limit old old false false
 none_given limit old = record {
   number = 1;
   answered = none;
@@ -100,7 +100,7 @@ not_lacking true r h e = sym (h refl) ∙ e
 not_lacking false r h e = refl
 
 -- one reply more
-pub more_given : (visits : Visits) (limit : ℕ) (d next : Desk) (line : List ℕ) (old now now' : Seen) (refused memory : Bool) (o : Outcome) → HasLevels limit d.system → Given limit old now refused memory → Replied visits limit d line now now' next o
+pub more_given : (visits : Visits) (limit : ℕ) (d next : Desk) (line : List ℕ) (old now now' : RunView) (refused memory : Bool) (o : Outcome) → HasLevels limit d.system → Given limit old now refused memory → Replied visits limit d line now now' next o
     → Given limit old now' (refused || refuses o) (memory || lacks_memory o)
 more_given visits limit d next line old now now' refused memory o levels g a = record {
   number = g.number + 1;
@@ -209,7 +209,7 @@ next_levels limit d next line b r is n levels =
 -- 3. where a run stands
 
 -- The lines at the script's front were answered, none of them by an end, and the rest is still to come.
-pub record Running (visits : Visits) (limit : ℕ) (script rest : List ℕ) (old now : Seen) (d : Desk) (refused memory : Bool) (taken : ℕ) : Type 0 where
+pub record Running (visits : Visits) (limit : ℕ) (script rest : List ℕ) (old now : RunView) (d : Desk) (refused memory : Bool) (taken : ℕ) : Type 0 where
   pub given : Given limit old now refused memory
   pub front : List ℕ
   pub split : script ≡ front ++ rest
@@ -220,12 +220,12 @@ pub record Running (visits : Visits) (limit : ℕ) (script rest : List ℕ) (old
   pub goes_on : any_end given.replies ≡ false
 
 -- All lines up to the script's end, or up to a heeded `quit`, were answered.
-pub record Finished (visits : Visits) (limit : ℕ) (script : List ℕ) (old now : Seen) (refused memory : Bool) : Type 0 where
+pub record Finished (visits : Visits) (limit : ℕ) (script : List ℕ) (old now : RunView) (refused memory : Bool) : Type 0 where
   pub given : Given limit old now refused memory
   pub told : ToldAll visits limit given.number given.answered given.replies given.cost script
-  pub within : (M : ℕ → Bool) → Agrees given.number given.answered M → IsWithin limit script M
+  pub within : (M : ℕ → Bool) → Agrees given.number given.answered M → IsScriptWithin limit script M
 
-pub begin : (visits : Visits) (limit : ℕ) (script : List ℕ) (old : Seen) → Running visits limit script script old old opening_desk false false 0
+pub begin : (visits : Visits) (limit : ℕ) (script : List ℕ) (old : RunView) → Running visits limit script script old old opening_desk false false 0
 unfolding none_given
 begin visits limit script old = record {
   given = none_given limit old;
@@ -239,7 +239,7 @@ begin visits limit script old = record {
 }
 
 -- a line with its LF
-pub line_more : (visits : Visits) (limit : ℕ) (script line after : List ℕ) (old now now' : Seen) (d next : Desk) (refused memory : Bool) (taken taken' : ℕ) (o : Outcome)
+pub line_more : (visits : Visits) (limit : ℕ) (script line after : List ℕ) (old now now' : RunView) (d next : Desk) (refused memory : Bool) (taken taken' : ℕ) (o : Outcome)
     → Running visits limit script ((line ++ 10 ∷ []) ++ after) old now d refused memory taken → has_lf line ≡ false → taken' ≡ taken + length (line ++ 10 ∷ [])
     → Replied visits limit d line now now' next o → ends_session o ≡ false
     → Running visits limit script after old now' next (refused || refuses o) (memory || lacks_memory o) taken'
@@ -268,7 +268,7 @@ script_length limit script line front taken split count small = omega (arith, ap
 
 -- the front of the script within its limit, where a line ends there
 cut_behind : (script line after front : List ℕ) (taken : ℕ) → script ≡ front ++ ((line ++ 10 ∷ []) ++ after) → length front ≡ taken → taken + length (line ++ 10 ∷ []) ≤ most_script_bytes
-    → within_limit script ≡ front ++ (line ++ 10 ∷ take (most_script_bytes - (taken + length (line ++ 10 ∷ []))) after)
+    → script_front script ≡ front ++ (line ++ 10 ∷ take (most_script_bytes - (taken + length (line ++ 10 ∷ []))) after)
 cut_behind script line after front taken split count small =
     let n = most_script_bytes - (taken + length (line ++ 10 ∷ [])) in
     let sum : most_script_bytes ≡ length front + (length (line ++ 10 ∷ []) + n) = omega (arith, count, small) in
@@ -290,7 +290,7 @@ last_told visits limit script line d n answered given cost next b r told is e go
     told_no_more visits limit script M (given ++ r.reply ∷ []) (cost and desk_line_cost visits limit b d line) (told_more visits limit n answered given cost script d next line [] b r told is e goes M agree)
 
 -- the last line, which has no LF
-pub line_last : (visits : Visits) (limit : ℕ) (script line : List ℕ) (old now now' : Seen) (d next : Desk) (refused memory : Bool) (taken : ℕ) (o : Outcome)
+pub line_last : (visits : Visits) (limit : ℕ) (script line : List ℕ) (old now now' : RunView) (d next : Desk) (refused memory : Bool) (taken : ℕ) (o : Outcome)
     → Running visits limit script line old now d refused memory taken → lines_of line ≡ line ∷ [] → taken + length line ≤ most_script_bytes
     → Replied visits limit d line now now' next o → ends_session o ≡ false
     → Finished visits limit script old now' (refused || refuses o) (memory || lacks_memory o)
@@ -304,7 +304,7 @@ line_last visits limit script line old now now' d next refused memory taken o k 
 }
 
 -- a heeded `quit` with its LF
-pub quit_within : (visits : Visits) (limit : ℕ) (script line after : List ℕ) (old now now' : Seen) (d next : Desk) (refused memory : Bool) (taken : ℕ) (o : Outcome)
+pub quit_within : (visits : Visits) (limit : ℕ) (script line after : List ℕ) (old now now' : RunView) (d next : Desk) (refused memory : Bool) (taken : ℕ) (o : Outcome)
     → Running visits limit script ((line ++ 10 ∷ []) ++ after) old now d refused memory taken → has_lf line ≡ false → taken + length (line ++ 10 ∷ []) ≤ most_script_bytes
     → Replied visits limit d line now now' next o → ends_session o ≡ true
     → Finished visits limit script old now' (refused || refuses o) (memory || lacks_memory o)
@@ -315,7 +315,7 @@ quit_within visits limit script line after old now now' d next refused memory ta
       let P : List ℕ → Type 0 = λ t. ToldAll visits limit (k.given.number + 1) (with_answer k.given.number a.lacks k.given.answered) (k.given.replies ++ a.answer.reply ∷ []) (k.given.cost and desk_line_cost visits limit a.lacks d line) t in
       subst P (sym (k.split ∙ ap (λ t. k.front ++ t) (append_assoc line (10 ∷ []) after))) (all after);
   within = λ M agree.
-      let cut : within_limit script ≡ k.front ++ (line ++ 10 ∷ take (most_script_bytes - (taken + length (line ++ 10 ∷ []))) after) = cut_behind script line after k.front taken k.split k.counted small in
+      let cut : script_front script ≡ k.front ++ (line ++ 10 ∷ take (most_script_bytes - (taken + length (line ++ 10 ∷ []))) after) = cut_behind script line after k.front taken k.split k.counted small in
       let whole = ap whole_lines cut ∙ k.whole (line ++ 10 ∷ take (most_script_bytes - (taken + length (line ++ 10 ∷ []))) after)
       ∙ ap (λ t. k.front ++ t) (whole_to_feed line (take (most_script_bytes - (taken + length (line ++ 10 ∷ []))) after)) in
       inr (ap (λ t. any_end (desk_out limit t M)) whole ∙ ap any_end (all (whole_lines (take (most_script_bytes - (taken + length (line ++ 10 ∷ []))) after)) M agree).replies
@@ -329,7 +329,7 @@ quit_within visits limit script line after old now now' d next refused memory ta
         (subst Q (first_line line more no_lf) (k.told (line ++ 10 ∷ more))) a.is (a.ends ∙ e)
 
 -- and without
-pub quit_last : (visits : Visits) (limit : ℕ) (script line : List ℕ) (old now now' : Seen) (d next : Desk) (refused memory : Bool) (taken : ℕ) (o : Outcome)
+pub quit_last : (visits : Visits) (limit : ℕ) (script line : List ℕ) (old now now' : RunView) (d next : Desk) (refused memory : Bool) (taken : ℕ) (o : Outcome)
     → Running visits limit script line old now d refused memory taken → lines_of line ≡ line ∷ [] → taken + length line ≤ most_script_bytes
     → Replied visits limit d line now now' next o → ends_session o ≡ true
     → Finished visits limit script old now' (refused || refuses o) (memory || lacks_memory o)
@@ -343,7 +343,7 @@ quit_last visits limit script line old now now' d next refused memory taken o k 
 }
 
 -- no byte is left behind the lines
-pub no_more : (visits : Visits) (limit : ℕ) (script : List ℕ) (old now : Seen) (d : Desk) (refused memory : Bool) (taken : ℕ)
+pub no_more : (visits : Visits) (limit : ℕ) (script : List ℕ) (old now : RunView) (d : Desk) (refused memory : Bool) (taken : ℕ)
     → Running visits limit script [] old now d refused memory taken → taken ≤ most_script_bytes → Finished visits limit script old now refused memory
 no_more visits limit script old now d refused memory taken k small = record {
   given = k.given;

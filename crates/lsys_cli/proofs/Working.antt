@@ -10,7 +10,7 @@ use Rattle.lsys_spec.specs.Questions.{questions, need, least_visits}
 use Rattle.lsys_spec.specs.Refusals.{Reply, derivation_text, is_long}
 use Rattle.lsys_spec.specs.Replies.{bare_spelled, edited, is_query, or_text}
 use Rattle.lsys_spec.specs.Output.{may_lack_memory}
-use Rattle.lsys_spec.specs.Costs.{Cost, Visits, ◌and◌, cost_to, edit_by, edit_cost, no_cost, one_refusal, unless_refused}
+use Rattle.lsys_spec.specs.Costs.{Cost, Visits, ◌and◌, cost_to, edit_by, edit_cost, no_cost, one_refusal, changed_unless_refused}
 use Rattle.lsys_spec.proofs.CostSums.{both_within}
 use Rattle.lsys_laws.specs.Sessions.{HasLevels}
 use Rattle.lsys_desks.specs.Desks.{Desk, DeskLine, DeskReply, bare_asks, desk_memory_or, desk_reply}
@@ -80,11 +80,11 @@ worked_then limit a b x y z h k = record {
 
 -- 2. an edit, an undo or a redo
 
-same_levels : (s : System) (limit : ℕ) (xs ys : List (List L.Symbol)) → meaning s limit ≡ Ok xs → meaning s limit ≡ Ok ys → xs ≡ ys
+same_levels : (s : System) (limit : ℕ) (xs ys : List (List L.LevelSymbol)) → meaning s limit ≡ Ok xs → meaning s limit ≡ Ok ys → xs ≡ ys
 same_levels s limit xs ys e f = let both : Ok xs ≡ Ok ys = sym e ∙ f in cc
 
 module _ (visits : Visits) (limit : ℕ) (s next : System) (before then : Counters) where
-  needed_so : (xs ys : List (List L.Symbol)) → Needed visits limit s next before then → meaning s limit ≡ Ok xs → meaning next limit ≡ Ok ys
+  needed_so : (xs ys : List (List L.LevelSymbol)) → Needed visits limit s next before then → meaning s limit ≡ Ok xs → meaning next limit ≡ Ok ys
       → Worked limit (edit_cost visits s next (Ok xs) (Ok ys)) before then
   needed_so xs ys h x y =
       let a : h.levels ≡ xs = same_levels s limit h.levels xs h.meant.before x in
@@ -127,7 +127,7 @@ module _ (visits : Visits) (limit : ℕ) (s after : System) (before then : Count
   at_none outcomes.Quit m t d c = stays_worked limit before then c
 
   -- it leads to a system that has levels
-  at_levels : (o : Outcome) (next : System) (xs ys : List (List L.Symbol)) → false ≡ refuses o → TellsLead (Some next) o → after ≡ next → meaning s limit ≡ Ok xs → meaning next limit ≡ Ok ys
+  at_levels : (o : Outcome) (next : System) (xs ys : List (List L.LevelSymbol)) → false ≡ refuses o → TellsLead (Some next) o → after ≡ next → meaning s limit ≡ Ok xs → meaning next limit ≡ Ok ys
       → Moved o → Worked limit (edit_cost visits s next (Ok xs) (Ok ys)) before then
   at_levels outcomes.Skipped next xs ys r t a x y c = let no : false ≡ true = t refl in cc
   at_levels outcomes.Accepted next xs ys r t a x y c = needed_so visits limit s next before then xs ys (subst (λ q. Needed visits limit s q before then) a c) x y
@@ -137,7 +137,7 @@ module _ (visits : Visits) (limit : ℕ) (s after : System) (before then : Count
   at_levels outcomes.Quit next xs ys r t a x y c = let no : false ≡ true = t refl in cc
 
   -- to one that has none
-  at_refusal : (o : Outcome) (next : System) (xs : List (List L.Symbol)) (e : LevelRefusal) → true ≡ refuses o → false ≡ lacks_memory o → Moved o → Worked limit (edit_cost visits s next (Ok xs) (Err e)) before then
+  at_refusal : (o : Outcome) (next : System) (xs : List (List L.LevelSymbol)) (e : LevelRefusal) → true ≡ refuses o → false ≡ lacks_memory o → Moved o → Worked limit (edit_cost visits s next (Ok xs) (Err e)) before then
   at_refusal outcomes.Skipped next xs e r m c = cc
   at_refusal outcomes.Accepted next xs e r m c = cc
   at_refusal outcomes.Printed next xs e r m c = cc
@@ -149,7 +149,7 @@ module _ (visits : Visits) (limit : ℕ) (s after : System) (before then : Count
   at_refusal outcomes.Memory next xs e r m c = cc
   at_refusal outcomes.Quit next xs e r m c = cc
 
-  at_meant : (o : Outcome) (next : System) (xs : List (List L.Symbol)) (m : Result (List (List L.Symbol)) LevelRefusal) (r : Reply) → meaning s limit ≡ Ok xs → meaning next limit ≡ m
+  at_meant : (o : Outcome) (next : System) (xs : List (List L.LevelSymbol)) (m : Result (List (List L.LevelSymbol)) LevelRefusal) (r : Reply) → meaning s limit ≡ Ok xs → meaning next limit ≡ m
       → r ≡ edited limit s next (or_text derivation_text m) → r.is_refusal ≡ refuses o → r.is_memory ≡ lacks_memory o → after ≡ r.next → TellsLead (Some next) o
       → Moved o → Worked limit (edit_cost visits s next (Ok xs) m) before then
   at_meant o next xs (Ok ys) r x y e f m a t c =
@@ -197,7 +197,7 @@ leads_same d line bare e f b = ap (leads_to d) b ∙ leads_at d (is_long line) (
 none_there : {A : Type 0} (a : A) → Some a ≡ None → ⊥
 none_there a e = cc
 
-not_derived : (s : System) (c : Command) (q : Bool) (r : Option edits.Refusal) → ◌≡◌ {A = Option System} (elim q [ true ↦ None | false ↦ unless_refused s c r ]) None → (not q && is_unrefused r) ≡ false
+not_derived : (s : System) (c : Command) (q : Bool) (r : Option edits.Refusal) → ◌≡◌ {A = Option System} (elim q [ true ↦ None | false ↦ changed_unless_refused s c r ]) None → (not q && is_unrefused r) ≡ false
 not_derived s c true r e = refl
 not_derived s c false (Some r) e = refl
 not_derived s c false None e = absurd (none_there (edits.changed s c) e)

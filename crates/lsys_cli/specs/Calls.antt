@@ -17,18 +17,18 @@ use Rattle.lsys_words.specs.declared.Options.{Options}
 use Rattle.lsys_session.specs.Calls.{counters}
 use Rattle.lsys_session.specs.declared.outcome.Outcome.{Outcome}
 use Rattle.lsys_desk.specs.Views.{Bench, desk_on}
-use Rattle.lsys_cli.specs.Ends.{Ends, IsWithin, Seen, WroteFront, WroteGiven, WroteLacking, WroteOutput, WroteWithin, replies, seen}
-use Rattle.lsys_cli.specs.Programs.{IsComplete, OnScript, Untouched, UntouchedSink, most_visits, script_of}
+use Rattle.lsys_cli.specs.Ends.{Ends, IsScriptWithin, RunView, WroteFront, WroteGiven, WroteLacking, WroteOutput, WroteWithin, replies, seen}
+use Rattle.lsys_cli.specs.Programs.{IsComplete, OnScript, Untouched, UntouchedSink, most_visits, script_run}
 use Rattle.lsys_cli.specs.Runs.{AnswersRead, CountsRead}
 use Rattle.lsys_cli.specs.declared.status.Status.{Status}
 use Rattle.lsys_cli.specs.declared.status.Status.TheVariants.{Done, Refused, Memory, ReadFault, WriteFault, TooLong}
 
 -- 1. what is seen of a run: what was written and how far its counters are, before and after
 
-abbrev pub seen_before : {K : Type 0} → (K → Option (List ℕ)) → Lent K → Lent ℕ → Lent ℕ → Seen
+abbrev pub seen_before : {K : Type 0} → (K → Option (List ℕ)) → Lent K → Lent ℕ → Lent ℕ → RunView
 seen_before written sink asked visited = seen written sink.entry.now asked.entry.now visited.entry.now
 
-abbrev pub seen_after : {K : Type 0} → (K → Option (List ℕ)) → Lent K → Lent ℕ → Lent ℕ → Seen
+abbrev pub seen_after : {K : Type 0} → (K → Option (List ℕ)) → Lent K → Lent ℕ → Lent ℕ → RunView
 seen_after written sink asked visited = seen written sink.exit.now asked.exit.now visited.exit.now
 
 -- nothing was written, and no question asked
@@ -84,7 +84,7 @@ IfTooLong words S source K sink asked visited status =
 abbrev pub IfWell : {A S K : Type 0} → List (String A) → SourceOf S → Lent S → SinkOf K → Lent K → Status → Type 0
 IfWell words S source K sink status =
     (HasRisen S.faults source → ⊥) → (HasRisen K.faults sink → ⊥)
-    → OnScript (options_by (texts words)) (S.left source.entry.now) (λ limit script. IsWithin limit script none
+    → OnScript (options_by (texts words)) (S.left source.entry.now) (λ limit script. IsScriptWithin limit script none
     → any_refusal (replies limit script none) ≡ false
     → IsComplete status limit (K.written sink.entry.now) (K.written sink.exit.now) script)
 
@@ -100,7 +100,7 @@ Runs visits limit S source K sink asked visited status =
 abbrev pub RunsBy : {S K : Type 0} → Visits → Options → SourceOf S → Lent S → SinkOf K → Lent K → Lent ℕ → Lent ℕ → Status → Type 0
 RunsBy visits options S source K sink asked visited status =
     ((status ≡ Memory) × TouchesNothing source sink asked visited)
-    ⊎ Ends visits options.limit (script_of options (S.left source.entry.now)) (S.left source.exit.now)
+    ⊎ Ends visits options.limit (script_run options (S.left source.entry.now)) (S.left source.exit.now)
     (seen_before K.written sink asked visited) (seen_after K.written sink asked visited) status
 
 -- likewise a sample, whatever is left of what isn't read

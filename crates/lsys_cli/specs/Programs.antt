@@ -8,7 +8,7 @@ use Rattle.lsys_spec.specs.Costs.{Visits}
 use Rattle.lsys_spec.specs.LevelLaws.{candidate_visits}
 use Rattle.lsys_words.specs.Words.{options_by}
 use Rattle.lsys_words.specs.declared.Options.{Options}
-use Rattle.lsys_cli.specs.Ends.{OfScript, replies, within_limit}
+use Rattle.lsys_cli.specs.Ends.{OfScript, replies, script_front}
 use Rattle.lsys_cli.specs.declared.status.Status.{Status}
 use Rattle.lsys_cli.specs.declared.status.Status.TheVariants.{Done, Memory, TooLong}
 
@@ -26,13 +26,13 @@ Untouched source_old source_new sink_old sink_new asked_old asked_new visited_ol
     (source_new ≡ source_old) × UntouchedSink sink_old sink_new asked_old asked_new visited_old visited_new
 
 -- the script that is run: a sample, or what the source has left, where it tells it
-abbrev pub script_of : Options → Option (List ℕ) → Option (List ℕ)
-script_of o left = elim (o.sample) [ None ↦ left | Some n ↦ Some (sample n) ]
+abbrev pub script_run : Options → Option (List ℕ) → Option (List ℕ)
+script_run o left = elim (o.sample) [ None ↦ left | Some n ↦ Some (sample n) ]
 
 -- of the limit that the words name and of the script, where the words are in the grammar and the script is told
 abbrev pub OnScript : Option Options → Option (List ℕ) → (ℕ → List ℕ → Type 0) → Type 0
 OnScript None left P = Unit {0}
-OnScript (Some o) left P = OfScript (script_of o left) (P o.limit)
+OnScript (Some o) left P = OfScript (script_run o left) (P o.limit)
 
 -- where the words name a sample
 abbrev pub OfSample : Option ℕ → Type 0 → Type 0
@@ -56,4 +56,4 @@ pub record LacksLines (limit : ℕ) (written_old written_new : Option (List ℕ)
 -- The run is done, or want of memory was said: by the status, or by a reply, maybe to the `quit` behind which the script is too long.
 abbrev pub IsComplete : Status → ℕ → Option (List ℕ) → Option (List ℕ) → List ℕ → Type 0
 IsComplete status limit written_old written_new script =
-    (status ≡ Done) ⊎ ((status ≡ Memory) ⊎ ((status ≡ TooLong) × LacksLines limit written_old written_new (within_limit script)))
+    (status ≡ Done) ⊎ ((status ≡ Memory) ⊎ ((status ≡ TooLong) × LacksLines limit written_old written_new (script_front script)))

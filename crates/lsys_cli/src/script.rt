@@ -1,5 +1,6 @@
 //! A run over a script: the one that is read, or a sample.
 ghost use Rattle.std.specs.Prelude.{◌≡◌, ◌≢◌, ◌≤◌, Some};
+ghost use Rattle.lsys_syntax.specs.Limits.{greatest_module_limit};
 ghost use Rattle.lsys_words.specs.Words.{HasLimit};
 ghost use Rattle.lsys_cli.specs.Programs.{OfSample};
 ghost use Rattle.lsys_io.specs.Calls.{HasRisen, HasStayed};
@@ -54,7 +55,7 @@ fn run_sample<K: Sink, L: Ledger, V: Ledger, D: HasMotions<L> + Drop>(
     asked: &mut Steps<L>,
     visited: &mut Steps<V>,
 ) -> Status
-    requires { limit ≤ 1000000 }
+    requires { limit ≤ greatest_module_limit }
     ensures ends { RunsSample D.visits limit number K.Sink sink asked visited result }
     ensures no_read_fault { result ≢ Status.ReadFault }
     ensures write_fault_only_where_rose { result ≡ Status.WriteFault → HasRisen K.faults sink }
@@ -77,7 +78,7 @@ fn run_script<S: Source, K: Sink, L: Ledger, V: Ledger, D: HasMotions<L> + Drop>
     asked: &mut Steps<L>,
     visited: &mut Steps<V>,
 ) -> Status
-    requires { limit ≤ 1000000 }
+    requires { limit ≤ greatest_module_limit }
     ensures ends { Runs D.visits limit S.Source source K.Sink sink asked visited result }
     ensures read_fault_only_where_rose { result ≡ Status.ReadFault → HasRisen S.faults source }
     ensures write_fault_only_where_rose { result ≡ Status.WriteFault → HasRisen K.faults sink }

@@ -13,7 +13,7 @@ use Rattle.lsys_spec.specs.Refusals.{Reply, refused, refused_memory, is_long, is
 use Rattle.lsys_spec.specs.Replies.{bare_reply, bare_spelled, edited, levels_of}
 use Rattle.lsys_spec.specs.Output.{memory_or}
 use Rattle.lsys_desks.specs.Timelines as timelines
-use Rattle.lsys_desks.specs.Desks.{Desk, DeskLine, answered, bare_asks, desk, desk_memory_or, is_edit, led, own_reply, read_asks, reply_by, session_reply}
+use Rattle.lsys_desks.specs.Desks.{Desk, DeskLine, answered, bare_asks, desk, desk_memory_or, spells_edit, led, own_reply, read_asks, reply_by, session_reply}
 use Rattle.lsys_rules.specs.declared.refusal.Refusal.{Refusal}
 use Rattle.lsys_rules.specs.declared.refusal.Refusal.TheVariants as refusals
 use Rattle.lsys_session.specs.Requests.{IsRequest, IsAskedBy, refusal_line}
@@ -66,11 +66,11 @@ still_refused : (x y : Bool) (h k : timelines.Timeline System) → x ≡ true �
 still_refused true y h k e = refl
 still_refused false y h k e = cc
 
-steady : (d : Desk) (b : Bool) (r : Reply) (spelled : Option Command) → ((memory_or b d.system r).is_refusal ≡ true) ⊎ (is_edit spelled ≡ false)
+steady : (d : Desk) (b : Bool) (r : Reply) (spelled : Option Command) → ((memory_or b d.system r).is_refusal ≡ true) ⊎ (spells_edit spelled ≡ false)
     → (desk_memory_or b d (session_reply d r spelled)).next ≡ desk (memory_or b d.system r).next d.steps
 steady d true r spelled e = refl
-steady d false r spelled (inl e) = ap (desk r.next) (still_refused r.is_refusal (is_edit spelled) (timelines.edited d.steps d.system) d.steps e)
-steady d false r spelled (inr e) = ap (desk r.next) (still r.is_refusal (is_edit spelled) (timelines.edited d.steps d.system) d.steps e)
+steady d false r spelled (inl e) = ap (desk r.next) (still_refused r.is_refusal (spells_edit spelled) (timelines.after_edit d.steps d.system) d.steps e)
+steady d false r spelled (inr e) = ap (desk r.next) (still r.is_refusal (spells_edit spelled) (timelines.after_edit d.steps d.system) d.steps e)
 
 same_reply : (d : Desk) (b : Bool) (r : Reply) (spelled : Option Command) → (desk_memory_or b d (session_reply d r spelled)).reply ≡ memory_or b d.system r
 same_reply d true r spelled = refl
@@ -93,20 +93,20 @@ refusal_refuses (refusals.TooMany n) = refl
 
 -- the line is refused, or spells no edit
 abbrev IsQuiet : List ℕ → Outcome → Type 0
-IsQuiet line o = (refuses o ≡ true) ⊎ (is_edit (line_spelled line) ≡ false)
+IsQuiet line o = (refuses o ≡ true) ⊎ (spells_edit (line_spelled line) ≡ false)
 
 quiet_refusal : (line : List ℕ) (e : Refusal) (result : Result Outcome Failed) → IfOk result (λ o. o ≡ refusal_outcome e) → IfOk result (IsQuiet line)
 quiet_refusal line e (Ok o) h = inl (ap refuses h ∙ refusal_refuses e)
 quiet_refusal line e (Err f) h = tt
 
-spells_none : (s : System) (spelled : Option Command) (r : Request) → given.is_edit r ≡ false → IsAskedBy s spelled r → is_edit spelled ≡ false
-spells_none s spelled Nothing n h = ap is_edit h
+spells_none : (s : System) (spelled : Option Command) (r : Request) → given.is_edit r ≡ false → IsAskedBy s spelled r → spells_edit spelled ≡ false
+spells_none s spelled Nothing n h = ap spells_edit h
 spells_none s spelled (Edit next) n h = cc
-spells_none s spelled (String t) n (c, e, q) = ap is_edit e ∙ ap not q
-spells_none s spelled Segments n (c, e, q) = ap is_edit e ∙ ap not q
-spells_none s spelled Svg n (c, e, q) = ap is_edit e ∙ ap not q
-spells_none s spelled Show n (c, e, q) = ap is_edit e ∙ ap not q
-spells_none s spelled Quit n (c, e, q) = ap is_edit e ∙ ap not q
+spells_none s spelled (String t) n (c, e, q) = ap spells_edit e ∙ ap not q
+spells_none s spelled Segments n (c, e, q) = ap spells_edit e ∙ ap not q
+spells_none s spelled Svg n (c, e, q) = ap spells_edit e ∙ ap not q
+spells_none s spelled Show n (c, e, q) = ap spells_edit e ∙ ap not q
+spells_none s spelled Quit n (c, e, q) = ap spells_edit e ∙ ap not q
 
 pub no_edit : (r : Request) → ((next : System) → r ≡ Edit next → ⊥) → given.is_edit r ≡ false
 no_edit Nothing n = refl
@@ -136,7 +136,7 @@ module _ {K : Type 0} (written : K → Option (List ℕ)) (faults : K → ℕ) (
       let r = line_reply limit d.system line in
       let spelled = line_spelled line in
       let said : s.reply ≡ (desk_memory_or lacks d (session_reply d r spelled)).reply = s.is ∙ sym (same_reply d lacks r spelled) in
-      let steady_by = subst (λ (q : Reply). (q.is_refusal ≡ true) ⊎ (is_edit spelled ≡ false)) s.is (quietly limit d.system line o s.reply s.became.refusal quiet) in
+      let steady_by = subst (λ (q : Reply). (q.is_refusal ≡ true) ⊎ (spells_edit spelled ≡ false)) s.is (quietly limit d.system line o s.reply s.became.refusal quiet) in
       record {
         lacks = s.lacks;
         answer = desk_memory_or lacks d (session_reply d r spelled);
@@ -177,23 +177,23 @@ module _ {K : Type 0} (written : K → Option (List ℕ)) (faults : K → ℕ) (
 
   -- 3. edits
 
-  led_is : (next : System) (x : Result (List (List L.Symbol)) (List ℕ)) (spelled : Option Command) → is_edit spelled ≡ true
-      → led d (edited limit d.system next x) (timelines.edited d.steps d.system) ≡ session_reply d (edited limit d.system next x) spelled
+  led_is : (next : System) (x : Result (List (List L.LevelSymbol)) (List ℕ)) (spelled : Option Command) → spells_edit spelled ≡ true
+      → led d (edited limit d.system next x) (timelines.after_edit d.steps d.system) ≡ session_reply d (edited limit d.system next x) spelled
   led_is next (Ok levels) spelled e =
       let r = edited limit d.system next (Ok levels) in
-      sym (ap (λ y. answered r (desk next (elim y [ true ↦ timelines.edited d.steps d.system | false ↦ d.steps ]))) e)
+      sym (ap (λ y. answered r (desk next (elim y [ true ↦ timelines.after_edit d.steps d.system | false ↦ d.steps ]))) e)
   led_is next (Err why) spelled e = refl
 
   pub by_edit : (next : System) (new : Desk) (result : Result Outcome Failed) → is_long line ≡ false → line_asks line ≡ None → IsRequest d.system line (Ok (Edit next))
-      → WasServedOrLacked written faults a b held d (step_answer limit d next (timelines.edited d.steps d.system)) new result → WasReplied written faults a b held limit d new line result
+      → WasServedOrLacked written faults a b held d (step_answer limit d next (timelines.after_edit d.steps d.system)) new result → WasReplied written faults a b held limit d new line result
   by_edit next new result short none (replies, there, (c, spells, edits, unrefused, changed)) g =
       let r = line_reply limit d.system line in
       let spelled : line_spelled line ≡ Some c = spelled_so line short ∙ spells in
-      let is_one : is_edit (line_spelled line) ≡ true = ap is_edit spelled ∙ ap not edits in
+      let is_one : spells_edit (line_spelled line) ≡ true = ap spells_edit spelled ∙ ap not edits in
       let replied : edited limit d.system next (levels_of limit next) ≡ r = sym (not_long limit d.system line short ∙ replies limit) in
       record {
         lacks = g.lacks;
-        answer = desk_memory_or g.lacks d (step_answer limit d next (timelines.edited d.steps d.system));
+        answer = desk_memory_or g.lacks d (step_answer limit d next (timelines.after_edit d.steps d.system));
         is =
             ap (desk_memory_or g.lacks d) (led_is next (levels_of limit next) (line_spelled line) is_one
             ∙ ap (λ q. session_reply d q (line_spelled line)) replied

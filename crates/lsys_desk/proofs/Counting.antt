@@ -16,7 +16,7 @@ use Rattle.lsys_rules.specs.declared.refusal.Refusal.TheVariants as refusals
 use Rattle.lsys_session.specs.Requests.{IsAskedBy, IsRequest}
 use Rattle.lsys_session.specs.Sessions.{refusal_outcome}
 use Rattle.lsys_session.specs.Answers.{Counters, WasCounted, Few, is_derived, is_unrefused, leads_on, line_spelled}
-use Rattle.lsys_session.specs.Given.{is_edit, unless_refused}
+use Rattle.lsys_session.specs.Given.{is_edit, outcome_by_reply}
 use Rattle.lsys_session.specs.declared.outcome.Outcome.{Outcome}
 use Rattle.lsys_session.specs.declared.outcome.Outcome.TheVariants as outcomes
 use Rattle.lsys_session.specs.declared.request.Request.{Request}
@@ -45,7 +45,7 @@ refusal_quiet (refusals.Table n) = tt
 refusal_quiet (refusals.Level n) = tt
 refusal_quiet (refusals.TooMany n) = tt
 
-module _ (visits : System → System → List (List L.Symbol) → List (List L.Symbol) → ℕ) (limit : ℕ) (s : System) (counters : Counters) where
+module _ (visits : System → System → List (List L.LevelSymbol) → List (List L.LevelSymbol) → ℕ) (limit : ℕ) (s : System) (counters : Counters) where
   few : Few limit counters counters
   few = record { asked = record { from = omega arith; to = omega arith }; visited = record { from = omega arith; to = omega arith } }
 
@@ -68,7 +68,7 @@ quiet_unless true refused = tt
 quiet_unless false true = tt
 quiet_unless false false = tt
 
-pub printed_quiet : (r : Reply) → IsQuiet (unless_refused outcomes.Printed r)
+pub printed_quiet : (r : Reply) → IsQuiet (outcome_by_reply outcomes.Printed r)
 printed_quiet r = quiet_unless r.is_memory r.is_refusal
 
 -- 2. lines of a session
@@ -93,14 +93,14 @@ led_own s line asked e = ap (λ o. elim o [ None ↦ is_derived s line | Some as
 
 -- 3. steps to systems that have their levels
 
-unrefused : (limit : ℕ) (d : Desk) (to : System) (steps : Timeline System) (lacks : Bool) (x : Result (List (List L.Symbol)) (List ℕ)) (levels : List (List L.Symbol)) → x ≡ Ok levels
+unrefused : (limit : ℕ) (d : Desk) (to : System) (steps : Timeline System) (lacks : Bool) (x : Result (List (List L.LevelSymbol)) (List ℕ)) (levels : List (List L.LevelSymbol)) → x ≡ Ok levels
     → Became (desk_memory_or lacks d (led d (edited limit d.system to x) steps)).reply outcomes.Refused → ⊥
 unrefused limit d to steps true x levels e h = let no : true ≡ false = h.memory in cc
 unrefused limit d to steps false (Ok xs) levels e h = let no : false ≡ true = h.refusal in cc
 unrefused limit d to steps false (Err why) levels e h = cc
 
 module _ {K : Type 0} {written : K → Option (List ℕ)} {faults : K → ℕ} {a b : K} {held : List ℕ} (limit : ℕ) (d : Desk) (to : System) (steps : Timeline System) (new : Desk) (there : HasLevels limit to) where
-  pub not_refused : (visits : System → System → List (List L.Symbol) → List (List L.Symbol) → ℕ) (after : System) (before then : Counters) (result : Result Outcome Failed)
+  pub not_refused : (visits : System → System → List (List L.LevelSymbol) → List (List L.LevelSymbol) → ℕ) (after : System) (before then : Counters) (result : Result Outcome Failed)
       → WasServedOrLacked written faults a b held d (step_answer limit d to steps) new result → WasCounted visits limit true d.system after before then result → WasCounted visits limit false d.system after before then result
   not_refused visits after before then (Ok outcomes.Skipped) g c = c
   not_refused visits after before then (Ok outcomes.Accepted) g c = c

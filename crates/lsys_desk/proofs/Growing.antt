@@ -3,7 +3,7 @@ use Rattle.std.proofs.Common.{◌≡◌, ℕ, Option, Result, Ok, Err, List, fal
 use Rattle.lsys_io.specs.declared.Failed.{Failed}
 use Rattle.lsys_spec.specs.Systems.{System}
 use Rattle.lsys_matrix.specs.Growth.{Census, GrowthFault, growth_text}
-use Rattle.lsys_growth.specs.Views.{IsAnswer}
+use Rattle.lsys_growth.specs.Views.{IsGrowthAnswer}
 use Rattle.lsys_growth.specs.declared.refusal.GrowthRefusal.{GrowthRefusal}
 use Rattle.lsys_growth.specs.declared.refusal.GrowthRefusal.TheVariants.{Class, Letters, Overflow, Memory}
 use Rattle.lsys_desks.specs.Desks.{growth_reply}
@@ -20,7 +20,7 @@ module _ {K : Type 0} (written : K → Option (List ℕ)) (faults : K → ℕ) (
   pub growth_printed : (c : Census) (result : Result Outcome Failed) → g ≡ Ok c → WasSaid written faults a b held (growth_text c) Printed result → WasPrinted written faults a b held s (growth_reply s g) result
   growth_printed c result e says = so (Ok c) result e (record { lacks = false; says = says })
 
-  pub growth_refused : (r : GrowthRefusal) (result : Result Outcome Failed) → IsAnswer (Err r) g → WasSaid written faults a b held (growth_line r) (growth_outcome r) result
+  pub growth_refused : (r : GrowthRefusal) (result : Result Outcome Failed) → IsGrowthAnswer (Err r) g → WasSaid written faults a b held (growth_line r) (growth_outcome r) result
       → WasPrinted written faults a b held s (growth_reply s g) result
   growth_refused Class result e says = so _ result e (record { lacks = false; says = says })
   growth_refused Letters result e says = so _ result e (record { lacks = false; says = says })

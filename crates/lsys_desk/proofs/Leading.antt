@@ -14,12 +14,12 @@ use Rattle.lsys_desks.specs.Timelines as timelines
 use Rattle.lsys_matrix.specs.Growth.{Census, GrowthFault, growth_at}
 use Rattle.lsys_lattice.specs.Bounds.{bounds_text, turtle_behind}
 use Rattle.lsys_lattice.specs.Bounds as pictures
-use Rattle.lsys_desks.specs.Desks.{Desk, DeskReply, answered, asked_of, at, bounds, bounds_reply, desk, desk_memory_or, growth, growth_reply, led, own_reply, place_reply, redo, stepped, turtle_reply, undo}
+use Rattle.lsys_desks.specs.Desks.{Desk, DeskReply, answered, asked_of, at, bounds, bounds_reply, desk, desk_memory_or, growth, growth_reply, led, own_reply, place_reply, redo, stepped_to, turtle_reply, undo}
 use Rattle.lsys_rules.specs.declared.refusal.Refusal.TheVariants as refusals
 use Rattle.lsys_session.specs.Requests.{refusal_line}
 use Rattle.lsys_session.specs.Sessions.{WasSaid}
 use Rattle.lsys_session.specs.Answers.{ends_session, lacks_memory, refuses}
-use Rattle.lsys_session.specs.Given.{WasLed, WasPrinted, unless_refused}
+use Rattle.lsys_session.specs.Given.{WasLed, WasPrinted, outcome_by_reply}
 use Rattle.lsys_session.specs.declared.outcome.Outcome.{Outcome}
 use Rattle.lsys_session.specs.declared.outcome.Outcome.TheVariants as outcomes
 use Rattle.lsys_desk.specs.Answers.{Became, WasServed, WasServedOrLacked, step_answer}
@@ -57,27 +57,27 @@ module _ {K : Type 0} (written : K → Option (List ℕ)) (faults : K → ℕ) (
 
   pub no_undo : (limit : ℕ) → None ≡ timelines.nearest d.steps.past → WasSaid written faults a b held (codes "refused undo\n") outcomes.Refused result → WasServedOrLacked written faults a b held d (own_reply limit d undo) d result
   no_undo limit e says =
-      subst (λ o. WasServedOrLacked written faults a b held d (stepped limit d (codes "undo") (timelines.undone d.steps d.system) o) d result) e
+      subst (λ o. WasServedOrLacked written faults a b held d (stepped_to limit d (codes "undo") (timelines.after_undo d.steps d.system) o) d result) e
       (record { lacks = false; gives = stays (answered (refused d.system (codes "undo")) d) outcomes.Refused says refl (record { refusal = refl; memory = refl; end = refl }) })
 
   pub no_redo : (limit : ℕ) → None ≡ timelines.nearest d.steps.future → WasSaid written faults a b held (codes "refused redo\n") outcomes.Refused result → WasServedOrLacked written faults a b held d (own_reply limit d redo) d result
   no_redo limit e says =
-      subst (λ o. WasServedOrLacked written faults a b held d (stepped limit d (codes "redo") (timelines.redone d.steps d.system) o) d result) e
+      subst (λ o. WasServedOrLacked written faults a b held d (stepped_to limit d (codes "redo") (timelines.redone d.steps d.system) o) d result) e
       (record { lacks = false; gives = stays (answered (refused d.system (codes "redo")) d) outcomes.Refused says refl (record { refusal = refl; memory = refl; end = refl }) })
 
   -- 2. an undo or a redo that leads to the nearest system
 
-  pub undo_leads : (limit : ℕ) (s : System) (new : Desk) → Some s ≡ timelines.nearest d.steps.past → WasServedOrLacked written faults a b held d (step_answer limit d s (timelines.undone d.steps d.system)) new result
+  pub undo_leads : (limit : ℕ) (s : System) (new : Desk) → Some s ≡ timelines.nearest d.steps.past → WasServedOrLacked written faults a b held d (step_answer limit d s (timelines.after_undo d.steps d.system)) new result
       → WasServedOrLacked written faults a b held d (own_reply limit d undo) new result
-  undo_leads limit s new e g = subst (λ o. WasServedOrLacked written faults a b held d (stepped limit d (codes "undo") (timelines.undone d.steps d.system) o) new result) e g
+  undo_leads limit s new e g = subst (λ o. WasServedOrLacked written faults a b held d (stepped_to limit d (codes "undo") (timelines.after_undo d.steps d.system) o) new result) e g
 
   pub redo_leads : (limit : ℕ) (s : System) (new : Desk) → Some s ≡ timelines.nearest d.steps.future → WasServedOrLacked written faults a b held d (step_answer limit d s (timelines.redone d.steps d.system)) new result
       → WasServedOrLacked written faults a b held d (own_reply limit d redo) new result
-  redo_leads limit s new e g = subst (λ o. WasServedOrLacked written faults a b held d (stepped limit d (codes "redo") (timelines.redone d.steps d.system) o) new result) e g
+  redo_leads limit s new e g = subst (λ o. WasServedOrLacked written faults a b held d (stepped_to limit d (codes "redo") (timelines.redone d.steps d.system) o) new result) e g
 
   -- 3. growth
 
-  told : (lacks : Bool) (g : Result Census GrowthFault) → WasSaid written faults a b held (memory_or lacks d.system (growth_reply d.system g)).text (unless_refused outcomes.Printed (memory_or lacks d.system (growth_reply d.system g))) result
+  told : (lacks : Bool) (g : Result Census GrowthFault) → WasSaid written faults a b held (memory_or lacks d.system (growth_reply d.system g)).text (outcome_by_reply outcomes.Printed (memory_or lacks d.system (growth_reply d.system g))) result
       → WasServed written faults a b held (desk_memory_or lacks d (answered (growth_reply d.system g) d)) d result
   told true g says = stays (answered (refused_memory d.system) d) outcomes.Memory says refl (record { refusal = refl; memory = refl; end = refl })
   told false (Ok c) says = stays (answered (growth_reply d.system (Ok c)) d) outcomes.Printed says refl (record { refusal = refl; memory = refl; end = refl })
@@ -97,12 +97,12 @@ module _ {K : Type 0} (written : K → Option (List ℕ)) (faults : K → ℕ) (
   queried : (asked : Reply) → asked.is_memory ≡ false → asked.ends ≡ false → WasPrinted written faults a b held d.system asked result → WasServedOrLacked written faults a b held d (answered asked d) d result
   queried asked m e p = record { lacks = p.lacks; gives = by p.lacks p.says }
     where
-      by : (lacks : Bool) → WasSaid written faults a b held (memory_or lacks d.system asked).text (unless_refused outcomes.Printed (memory_or lacks d.system asked)) result
+      by : (lacks : Bool) → WasSaid written faults a b held (memory_or lacks d.system asked).text (outcome_by_reply outcomes.Printed (memory_or lacks d.system asked)) result
           → WasServed written faults a b held (desk_memory_or lacks d (answered asked d)) d result
       by true says = stays (answered (refused_memory d.system) d) outcomes.Memory says refl (record { refusal = refl; memory = refl; end = refl })
       by false says =
           let f = flags asked.is_memory asked.is_refusal m in
-          stays (answered asked d) (unless_refused outcomes.Printed asked) says refl (record { refusal = f.0; memory = f.1; end = e ∙ f.2 })
+          stays (answered asked d) (outcome_by_reply outcomes.Printed asked) says refl (record { refusal = f.0; memory = f.1; end = e ∙ f.2 })
 
   shown_plain : {A : Type 0} (text : A → List ℕ) (r : Result A (List ℕ)) → ((shown d.system text r).is_memory ≡ false) × ((shown d.system text r).ends ≡ false)
   shown_plain text (Ok x) = (refl, refl)
@@ -131,8 +131,8 @@ module _ {K : Type 0} (written : K → Option (List ℕ)) (faults : K → ℕ) (
   abbrev steps : timelines.Timeline System
   steps = steps_by step d.steps d.system
 
-  led_so : (lacks : Bool) (x : Result (List (List L.Symbol)) (List ℕ)) (o : Outcome) (new : System) (h : timelines.Timeline System) → let r = memory_or lacks d.system (edited limit d.system to x) in
-      WasSaid written faults a b held r.text (unless_refused outcomes.Accepted r) (Ok o) → new ≡ r.next → h ≡ steps_after o step d.steps d.system
+  led_so : (lacks : Bool) (x : Result (List (List L.LevelSymbol)) (List ℕ)) (o : Outcome) (new : System) (h : timelines.Timeline System) → let r = memory_or lacks d.system (edited limit d.system to x) in
+      WasSaid written faults a b held r.text (outcome_by_reply outcomes.Accepted r) (Ok o) → new ≡ r.next → h ≡ steps_after o step d.steps d.system
       → WasServed written faults a b held (desk_memory_or lacks d (led d (edited limit d.system to x) steps)) (desk new h) (Ok o)
   led_so true x o new h says n e = record {
     put = says.put;
@@ -157,11 +157,11 @@ module _ {K : Type 0} (written : K → Option (List ℕ)) (faults : K → ℕ) (
       → WasServedOrLacked written faults a b held d (step_answer limit d to steps) (desk new h) (Ok o)
   step_taken o new h l e =
       let r = memory_or l.lacks d.system (edited limit d.system to (levels_of limit to)) in
-      let says : WasSaid written faults a b held r.text (unless_refused outcomes.Accepted r) (Ok o) =
-      subst (λ (q : Reply). WasSaid written faults a b held q.text (unless_refused outcomes.Accepted q) (Ok o)) l.is l.says in
+      let says : WasSaid written faults a b held r.text (outcome_by_reply outcomes.Accepted r) (Ok o) =
+      subst (λ (q : Reply). WasSaid written faults a b held q.text (outcome_by_reply outcomes.Accepted q) (Ok o)) l.is l.says in
       record { lacks = l.lacks; gives = led_so l.lacks (levels_of limit to) o new h says (l.next ∙ ap (λ (q : Reply). q.next) l.is) e }
 
-  same_text : (lacks : Bool) (x : Result (List (List L.Symbol)) (List ℕ)) → (memory_or lacks d.system (edited limit d.system to x)).text ≡ (desk_memory_or lacks d (led d (edited limit d.system to x) steps)).reply.text
+  same_text : (lacks : Bool) (x : Result (List (List L.LevelSymbol)) (List ℕ)) → (memory_or lacks d.system (edited limit d.system to x)).text ≡ (desk_memory_or lacks d (led d (edited limit d.system to x) steps)).reply.text
   same_text true x = refl
   same_text false (Ok levels) = refl
   same_text false (Err why) = refl

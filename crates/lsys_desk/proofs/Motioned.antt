@@ -8,7 +8,7 @@ use Rattle.lsys_laws.specs.Sessions.{HasLevels}
 use Rattle.lsys_spec.specs.Systems.{System}
 use Rattle.lsys_spec.specs.Values.{◌and_then◌}
 use Rattle.lsys_spec.specs.Lattices.{Lattice}
-use Rattle.lsys_spec.specs.Levels.{Symbol}
+use Rattle.lsys_spec.specs.Levels.{LevelSymbol}
 use Rattle.lsys_spec.specs.Meaning.{meaning, last_level}
 use Rattle.lsys_spec.specs.Pictures.{Pose, Turtle, Segment, NoImage, PictureRefusal}
 use Rattle.lsys_spec.specs.Pictures as pictures
@@ -22,19 +22,19 @@ use Rattle.lsys_level.specs.Spots.{Spotted}
 use Rattle.lsys_match.specs.Derivations.{IsDerived}
 use Rattle.lsys_out.specs.Drawings as out
 use Rattle.lsys_out.specs.Shown.{on_lattice}
-use Rattle.lsys_motion.specs.Told.{Told, poses_of, told}
-use Rattle.lsys_motion.specs.Refusals.{IsAnswer}
+use Rattle.lsys_motion.specs.Told.{Track, poses_of, told}
+use Rattle.lsys_motion.specs.Refusals.{IsAsTold}
 use Rattle.lsys_motion.specs.declared.refusal.MotionRefusal.{MotionRefusal}
 use Rattle.lsys_motion.specs.declared.refusal.MotionRefusal.TheVariants.{Image, Far, Memory}
 use Rattle.lsys_motion.proofs.Lasts.{told_bounds, told_turtles}
 use Rattle.lsys_desks.specs.Desks.{asked_of, bounds_reply, place_reply, pose_reply, turtle_reply}
-use Rattle.lsys_session.specs.Given.{WasLed, WasPrinted, unless_refused}
+use Rattle.lsys_session.specs.Given.{WasLed, WasPrinted, outcome_by_reply}
 use Rattle.lsys_session.specs.Sessions.{WasSaid}
 use Rattle.lsys_session.specs.declared.outcome.Outcome.{Outcome}
 use Rattle.lsys_session.specs.declared.outcome.Outcome.TheVariants as outcomes
 use Rattle.lsys_session.proofs.Querying.{last_meant}
 use Rattle.lsys_desk.specs.declared.kept_motions.KeptMotions.{KeptMotions}
-use Rattle.lsys_desk.specs.Motions.{AreKept, IsTold, motion_line, motion_outcome, motions_after, pose_line, pose_outcome, span_text, spans_text}
+use Rattle.lsys_desk.specs.Motions.{AreKept, IsTrackOf, motion_line, motion_outcome, motions_after, pose_line, pose_outcome, span_text, spans_text}
 
 -- 1. replies about a picture
 
@@ -54,7 +54,7 @@ Way = List (S.Symbol ℤ) × List Segment
 
 -- where nothing is told, there is no way over the image
 no_way : (l : Lattice) (q : Result Way PictureRefusal) (r : PictureRefusal)
-    → (q and_then λ way. Ok (let t : Told = record { bounds = bounds_of l way.1; poses = poses_of l way.0 } in t)) ≡ Err r → q ≡ Err r
+    → (q and_then λ way. Ok (let t : Track = record { bounds = bounds_of l way.1; poses = poses_of l way.0 } in t)) ≡ Err r → q ≡ Err r
 no_way l (Ok way) r h = cc
 no_way l (Err e) r h = let same : e ≡ r = cc in ap (λ (x : PictureRefusal). Err x) same
 
@@ -63,11 +63,11 @@ turtle_so : (s : System) (column : ℕ) (q : Result (Option Turtle) PictureRefus
 turtle_so s column (Ok o) p h = let same : option_map (λ (u : Turtle). u.pose) o ≡ p = cc in ap (pose_reply s column) same
 turtle_so s column (Err e) p h = cc
 
-module _ (limit : ℕ) (s : System) (levels : List (List Symbol)) (is : meaning s limit ≡ Ok levels) where
-  asked_so : {A : Type 0} (ask : List Symbol → Result A PictureRefusal) → asked_of ask (levels_of limit s) ≡ or_text picture_refusal_text (ask (last_level levels))
+module _ (limit : ℕ) (s : System) (levels : List (List LevelSymbol)) (is : meaning s limit ≡ Ok levels) where
+  asked_so : {A : Type 0} (ask : List LevelSymbol → Result A PictureRefusal) → asked_of ask (levels_of limit s) ≡ or_text picture_refusal_text (ask (last_level levels))
   asked_so ask = ap (λ m. asked_of ask (or_text derivation_text m)) is
 
-  pub bounds_so : (t : Told) → told s (last_level levels) ≡ Ok t → bounds_reply s (levels_of limit s) ≡ said s (bounds_text t.bounds)
+  pub bounds_so : (t : Track) → told s (last_level levels) ≡ Ok t → bounds_reply s (levels_of limit s) ≡ said s (bounds_text t.bounds)
   bounds_so t h = ap (shown s bounds_text) (asked_so (bounds s) ∙ ap (or_text picture_refusal_text) (told_bounds s (last_level levels) t h))
 
   pub bounds_no : (r : PictureRefusal) → told s (last_level levels) ≡ Err r → bounds_reply s (levels_of limit s) ≡ refused s (picture_refusal_text r)
@@ -75,7 +75,7 @@ module _ (limit : ℕ) (s : System) (levels : List (List Symbol)) (is : meaning 
       ap (shown s bounds_text) (asked_so (bounds s)
       ∙ ap (λ (w : Result Way PictureRefusal). or_text picture_refusal_text (w and_then λ way. Ok (bounds_of s.lattice way.1))) (no_way s.lattice (travelled s (last_level levels)) r h))
 
-  pub place_so : (n column : ℕ) (t : Told) → told s (last_level levels) ≡ Ok t → place_reply s n column (levels_of limit s) ≡ pose_reply s column (slice_get t.poses n)
+  pub place_so : (n column : ℕ) (t : Track) → told s (last_level levels) ≡ Ok t → place_reply s n column (levels_of limit s) ≡ pose_reply s column (slice_get t.poses n)
   place_so n column t h =
       ap (turtle_reply s column) (asked_so (λ x. turtle_behind s x n))
       ∙ turtle_so s column (turtle_behind s (last_level levels) n) (slice_get t.poses n) (told_turtles s (last_level levels) t n h)
@@ -92,20 +92,20 @@ module _ {K : Type 0} (written : K → Option (List ℕ)) (faults : K → ℕ) (
   so reply asked e p = subst (λ r. WasPrinted written faults a b held s r result) (sym e) p
 
   refused_so : (asked : Reply) (e : MotionRefusal) → ((r : PictureRefusal) → told s (last_level there.0) ≡ Err r → asked ≡ refused s (picture_refusal_text r))
-      → IsAnswer {A = Told} (told s (last_level there.0)) (Err e) → WasSaid written faults a b held (motion_line e) (motion_outcome e) result → WasPrinted written faults a b held s asked result
+      → IsAsTold {A = Track} (told s (last_level there.0)) (Err e) → WasSaid written faults a b held (motion_line e) (motion_outcome e) result → WasPrinted written faults a b held s asked result
   refused_so asked (Image e) away h says = so (refused s (picture_refusal_text (NoImage (refusal_of e)))) asked (away (NoImage (refusal_of e)) h) (record { lacks = false; says = says })
   refused_so asked (Far n) away h says = so (refused s (picture_refusal_text (pictures.Far n))) asked (away (pictures.Far n) h) (record { lacks = false; says = says })
   refused_so asked Memory away h says = record { lacks = true; says = says }
 
-  pub bounds_refused : (e : MotionRefusal) → IsTold limit s (Err e) → WasSaid written faults a b held (motion_line e) (motion_outcome e) result
+  pub bounds_refused : (e : MotionRefusal) → IsTrackOf limit s (Err e) → WasSaid written faults a b held (motion_line e) (motion_outcome e) result
       → WasPrinted written faults a b held s (bounds_reply s (levels_of limit s)) result
   bounds_refused e h says = refused_so (bounds_reply s (levels_of limit s)) e (bounds_no limit s there.0 there.1) (h there.0 there.1) says
 
-  pub place_refused : (n column : ℕ) (e : MotionRefusal) → IsTold limit s (Err e) → WasSaid written faults a b held (motion_line e) (motion_outcome e) result
+  pub place_refused : (n column : ℕ) (e : MotionRefusal) → IsTrackOf limit s (Err e) → WasSaid written faults a b held (motion_line e) (motion_outcome e) result
       → WasPrinted written faults a b held s (place_reply s n column (levels_of limit s)) result
   place_refused n column e h says = refused_so (place_reply s n column (levels_of limit s)) e (place_no limit s there.0 there.1 n column) (h there.0 there.1) says
 
-  pub bounds_printed : (t : Told) → IsTold limit s (Ok t) → WasSaid written faults a b held (spans_text t.bounds) outcomes.Printed result
+  pub bounds_printed : (t : Track) → IsTrackOf limit s (Ok t) → WasSaid written faults a b held (spans_text t.bounds) outcomes.Printed result
       → WasPrinted written faults a b held s (bounds_reply s (levels_of limit s)) result
   bounds_printed t h says =
       so (said s (bounds_text t.bounds)) (bounds_reply s (levels_of limit s)) (bounds_so limit s there.0 there.1 t (h there.0 there.1))
@@ -115,7 +115,7 @@ module _ {K : Type 0} (written : K → Option (List ℕ)) (faults : K → ℕ) (
   pose_printed column (Some p) says = record { lacks = false; says = says }
   pose_printed column None says = record { lacks = false; says = says }
 
-  pub place_printed : (n column : ℕ) (t : Told) → IsTold limit s (Ok t)
+  pub place_printed : (n column : ℕ) (t : Track) → IsTrackOf limit s (Ok t)
       → WasSaid written faults a b held (pose_line column (slice_get t.poses n)) (pose_outcome (slice_get t.poses n)) result
       → WasPrinted written faults a b held s (place_reply s n column (levels_of limit s)) result
   place_printed n column t h says =
@@ -124,18 +124,18 @@ module _ {K : Type 0} (written : K → Option (List ℕ)) (faults : K → ℕ) (
 
 -- 3. what is made
 
-pub told_own : (limit : ℕ) (s : System) (levels : List (List Spotted)) (l : Lattice) (r : Result Told MotionRefusal) → IsDerived s limit levels → l ≡ s.lattice
-    → ((naming : ℕ → List ℕ) → IsAnswer (told (on_lattice l s) (out.last_level naming s levels)) r) → IsTold limit s r
+pub told_own : (limit : ℕ) (s : System) (levels : List (List Spotted)) (l : Lattice) (r : Result Track MotionRefusal) → IsDerived s limit levels → l ≡ s.lattice
+    → ((naming : ℕ → List ℕ) → IsAsTold (told (on_lattice l s) (out.last_symbols naming s levels)) r) → IsTrackOf limit s r
 told_own limit s levels l r d e h xs is =
-    let same : d.meant ≡ xs = (let both : ◌≡◌ {A = Result (List (List Symbol)) _} (Ok d.meant) (Ok xs) = sym d.is ∙ is in cc) in
-    subst (λ (ys : List (List Symbol)). IsAnswer (told s (last_level ys)) r) same
-    (last_meant limit s levels d (λ x. IsAnswer (told s x) r) (λ naming. subst (λ (l : Lattice). IsAnswer (told (on_lattice l s) (out.last_level naming s levels)) r) e (h naming)))
+    let same : d.meant ≡ xs = (let both : ◌≡◌ {A = Result (List (List LevelSymbol)) _} (Ok d.meant) (Ok xs) = sym d.is ∙ is in cc) in
+    subst (λ (ys : List (List LevelSymbol)). IsAsTold (told s (last_level ys)) r) same
+    (last_meant limit s levels d (λ x. IsAsTold (told s x) r) (λ naming. subst (λ (l : Lattice). IsAsTold (told (on_lattice l s) (out.last_symbols naming s levels)) r) e (h naming)))
 
 -- 4. what is kept behind a step
 
 module _ (limit : ℕ) (old to : System) where
-  after_by : (lacks : Bool) (x : Result (List (List Symbol)) (List ℕ)) (o : Outcome) (new : System) (m : Option KeptMotions) → let r = memory_or lacks old (edited limit old to x) in
-      o ≡ unless_refused outcomes.Accepted r → new ≡ r.next → AreKept limit old m → AreKept limit new (motions_after o m)
+  after_by : (lacks : Bool) (x : Result (List (List LevelSymbol)) (List ℕ)) (o : Outcome) (new : System) (m : Option KeptMotions) → let r = memory_or lacks old (edited limit old to x) in
+      o ≡ outcome_by_reply outcomes.Accepted r → new ≡ r.next → AreKept limit old m → AreKept limit new (motions_after o m)
   after_by true x o new m e n k = subst (λ p. AreKept limit new (motions_after p m)) (sym e) (subst (λ (t : System). AreKept limit t m) (sym n) k)
   after_by false (Err why) o new m e n k = subst (λ p. AreKept limit new (motions_after p m)) (sym e) (subst (λ (t : System). AreKept limit t m) (sym n) k)
   after_by false (Ok levels) o new m e n k = subst (λ p. AreKept limit new (motions_after p m)) (sym e) tt
@@ -143,4 +143,4 @@ module _ (limit : ℕ) (old to : System) where
   pub after_step : {K : Type 0} (written : K → Option (List ℕ)) (faults : K → ℕ) (a b : K) (held : List ℕ) (new : System) (o : Outcome) (m : Option KeptMotions)
       → WasLed written faults a b held limit old to new (Ok o) → AreKept limit old m → AreKept limit new (motions_after o m)
   after_step written faults a b held new o m l k =
-      after_by l.lacks (levels_of limit to) o new m (l.says.outcome ∙ ap (unless_refused outcomes.Accepted) l.is) (l.next ∙ ap (λ (q : Reply). q.next) l.is) k
+      after_by l.lacks (levels_of limit to) o new m (l.says.outcome ∙ ap (outcome_by_reply outcomes.Accepted) l.is) (l.next ∙ ap (λ (q : Reply). q.next) l.is) k

@@ -13,7 +13,7 @@ use Rattle.lsys_desks.specs.Desks.{Desk, DeskLine}
 use Rattle.lsys_desks.specs.Costs.{leads_by, own_leads}
 use Rattle.lsys_session.specs.Requests.{IsAskedBy, IsRequest}
 use Rattle.lsys_session.specs.Answers.{line_spelled, refuses}
-use Rattle.lsys_session.specs.Given.{done, is_edit, unless_refused}
+use Rattle.lsys_session.specs.Given.{request_outcome, is_edit, outcome_by_reply}
 use Rattle.lsys_session.specs.declared.outcome.Outcome.{Outcome}
 use Rattle.lsys_session.specs.declared.outcome.Outcome.TheVariants as outcomes
 use Rattle.lsys_session.specs.declared.request.Request.{Request}
@@ -37,11 +37,11 @@ unless_tells next o false true e f = cc
 unless_tells next o false false e f = e
 
 -- what became of something that isn't refused, or a refusal
-pub unrefused_tells : (next : Option System) (o : Outcome) (reply : Reply) (result : Result Outcome Failed) → is_accepted o ≡ is_some next → IfOk result (λ p. p ≡ unless_refused o reply) → IfOk result (TellsLead next)
+pub unrefused_tells : (next : Option System) (o : Outcome) (reply : Reply) (result : Result Outcome Failed) → is_accepted o ≡ is_some next → IfOk result (λ p. p ≡ outcome_by_reply o reply) → IfOk result (TellsLead next)
 unrefused_tells next o reply (Ok p) e h = subst (TellsLead next) (sym h) (unless_tells next o reply.is_memory reply.is_refusal e)
 unrefused_tells next o reply (Err f) e h = tt
 
-pub done_unaccepted : (r : Request) → is_edit r ≡ false → is_accepted (done r) ≡ false
+pub done_unaccepted : (r : Request) → is_edit r ≡ false → is_accepted (request_outcome r) ≡ false
 done_unaccepted Nothing n = refl
 done_unaccepted (Edit next) n = cc
 done_unaccepted (String t) n = refl
@@ -53,7 +53,7 @@ done_unaccepted Quit n = refl
 -- 2. what a line asks of the session
 
 by_query : (s : System) (spelled : Option Command) (c : Command) → spelled ≡ Some c → is_query c ≡ true → edit_by s spelled ≡ None
-by_query s spelled c e q = ap (edit_by s) e ∙ ap (λ b. elim b [ true ↦ None | false ↦ costs.unless_refused s c (edits.refusal s c) ]) q
+by_query s spelled c e q = ap (edit_by s) e ∙ ap (λ b. elim b [ true ↦ None | false ↦ costs.changed_unless_refused s c (edits.refusal s c) ]) q
 
 asked_leads : (s : System) (spelled : Option Command) (r : Request) → is_edit r ≡ false → IsAskedBy s spelled r → edit_by s spelled ≡ None
 asked_leads s spelled Nothing n h = ap (edit_by s) h
@@ -69,8 +69,8 @@ query_leads s line r short q n = asked_leads s (line_spelled line) r n (asked_by
 
 edit_asked : (s next : System) (spelled : Option Command) → IsAskedBy s spelled (Edit next) → edit_by s spelled ≡ Some next
 edit_asked s next spelled (c, e, q, u, changed) =
-    ap (edit_by s) e ∙ ap (λ b. elim b [ true ↦ None | false ↦ costs.unless_refused s c (edits.refusal s c) ]) q
-    ∙ ap (costs.unless_refused s c) u ∙ ap (λ (t : System). Some t) (sym changed)
+    ap (edit_by s) e ∙ ap (λ b. elim b [ true ↦ None | false ↦ costs.changed_unless_refused s c (edits.refusal s c) ]) q
+    ∙ ap (costs.changed_unless_refused s c) u ∙ ap (λ (t : System). Some t) (sym changed)
 
 pub edit_leads : (s next : System) (line : List ℕ) → is_long line ≡ false → IsRequest s line (Ok (Edit next)) → edit_by s (line_spelled line) ≡ Some next
 edit_leads s next line short q = edit_asked s next (line_spelled line) (asked_by_line s line (Edit next) short q)

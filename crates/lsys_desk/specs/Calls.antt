@@ -39,8 +39,8 @@ Serves K sink out limit_of system_of self asked result =
     (own_reply (limit_of self.entry.now.derivation) (desk_on system_of self.entry.now) asked) (desk_on system_of self.exit.now) result
 
 -- the reply of a step that leads to a system, or `refused memory`
-abbrev pub Goes : {K D : Type 0} → Step → System → SinkOf K → Lent K → Lent (List ℕ) → (D → ℕ) → (D → System) → Lent (Bench D) → Result Outcome Failed → Type 0
-Goes step to K sink out limit_of system_of self result =
+abbrev pub ServesStep : {K D : Type 0} → Step → System → SinkOf K → Lent K → Lent (List ℕ) → (D → ℕ) → (D → System) → Lent (Bench D) → Result Outcome Failed → Type 0
+ServesStep step to K sink out limit_of system_of self result =
     WasServedOrLacked K.written K.faults sink.entry.now sink.exit.now out.exit.now (desk_on system_of self.entry.now)
     (step_answer (limit_of self.entry.now.derivation) (desk_on system_of self.entry.now) to
     (steps_by step self.entry.now.steps (system_of self.entry.now.derivation)))

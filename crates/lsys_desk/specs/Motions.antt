@@ -3,7 +3,7 @@ use Rattle.std.specs.Prelude.{◌≡◌, ℕ, ℤ, Option, Some, None, Result, O
 use Rattle.std.specs.Fmt.{signed_decimal}
 use Rattle.lsys_spec.specs.Systems.{System}
 use Rattle.lsys_spec.specs.Lattices.{Lattice}
-use Rattle.lsys_spec.specs.Levels.{Symbol}
+use Rattle.lsys_spec.specs.Levels.{LevelSymbol}
 use Rattle.lsys_spec.specs.Meaning.{meaning, last_level}
 use Rattle.lsys_spec.specs.Pictures.{NoImage, Pose}
 use Rattle.lsys_spec.specs.Pictures as pictures
@@ -14,8 +14,8 @@ use Rattle.lsys_hom.specs.Refusals.{refusal_of}
 use Rattle.lsys_level.specs.Spots.{Spotted}
 use Rattle.lsys_out.specs.Drawings as drawings
 use Rattle.lsys_out.specs.Shown.{on_lattice}
-use Rattle.lsys_motion.specs.Told.{Told, told}
-use Rattle.lsys_motion.specs.Refusals.{IsAnswer}
+use Rattle.lsys_motion.specs.Told.{Track, told}
+use Rattle.lsys_motion.specs.Refusals.{IsAsTold}
 use Rattle.lsys_motion.specs.declared.refusal.MotionRefusal.{MotionRefusal}
 use Rattle.lsys_motion.specs.declared.refusal.MotionRefusal.TheVariants.{Image, Far, Memory}
 use Rattle.lsys_rules.specs.declared.refusal.Refusal.TheVariants as refusals
@@ -28,23 +28,23 @@ use Rattle.lsys_desk.specs.declared.kept_motions.KeptMotions.TheVariants.{Square
 
 -- 1. what is kept
 
-abbrev pub told_by : KeptMotions → Told
+abbrev pub told_by : KeptMotions → Track
 told_by (Square t) = t
 told_by (Hexagonal t) = t
 told_by (Cubic t) = t
 
-abbrev pub told_in : Result KeptMotions MotionRefusal → Result Told MotionRefusal
+abbrev pub told_in : Result KeptMotions MotionRefusal → Result Track MotionRefusal
 told_in (Ok m) = Ok (told_by m)
 told_in (Err e) = Err e
 
 -- this is told of the picture of the last level; or it is refused as the picture is, or there was no memory for it
-abbrev pub IsTold : ℕ → System → Result Told MotionRefusal → Type 0
-IsTold limit s r = (levels : List (List Symbol)) → meaning s limit ≡ Ok levels → IsAnswer (told s (last_level levels)) r
+abbrev pub IsTrackOf : ℕ → System → Result Track MotionRefusal → Type 0
+IsTrackOf limit s r = (levels : List (List LevelSymbol)) → meaning s limit ≡ Ok levels → IsAsTold (told s (last_level levels)) r
 
 -- the motions that are kept, if any, are those of the picture of the last level
 abbrev pub AreKept : ℕ → System → Option KeptMotions → Type 0
 AreKept limit s None = Unit {0}
-AreKept limit s (Some m) = IsTold limit s (Ok (told_by m))
+AreKept limit s (Some m) = IsTrackOf limit s (Ok (told_by m))
 
 -- they are kept until an edit is accepted
 abbrev pub motions_after : Outcome → Option KeptMotions → Option KeptMotions
@@ -81,5 +81,5 @@ pose_outcome (Some p) = outcomes.Printed
 pose_outcome None = outcomes.Refused
 
 -- the motions of the picture of a system's last level on a lattice, or why there are none
-abbrev pub AreMotionsOn : Lattice → System → List (List Spotted) → Result Told MotionRefusal → Type 0
-AreMotionsOn l s levels result = (naming : ℕ → List ℕ) → IsAnswer (told (on_lattice l s) (drawings.last_level naming s levels)) result
+abbrev pub AreMotionsOn : Lattice → System → List (List Spotted) → Result Track MotionRefusal → Type 0
+AreMotionsOn l s levels result = (naming : ℕ → List ℕ) → IsAsTold (told (on_lattice l s) (drawings.last_symbols naming s levels)) result

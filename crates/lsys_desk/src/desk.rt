@@ -1,14 +1,14 @@
 //! Desks: one line after another.
 ghost use Rattle.std.specs.Prelude.{◌≡◌, ◌≤◌, [], None, Some, true, false, length, IfOk};
-ghost use Rattle.lsys_syntax.specs.Limits.{most_line_bytes};
+ghost use Rattle.lsys_syntax.specs.Limits.{most_line_bytes, greatest_module_limit};
 ghost use Rattle.lsys_laws.specs.Sessions.{HasLevels};
 ghost use Rattle.lsys_desks.specs.Costs.{own_leads};
 ghost use Rattle.lsys_desks.specs.Desks.{EachKept, bare_asks, opening_desk};
 ghost use Rattle.lsys_desks.specs.Desks as desks;
 ghost use Rattle.lsys_desk.specs.Answers.{TellsLead, leads_to};
-ghost use Rattle.lsys_desk.specs.Steps.{CanStep};
+ghost use Rattle.lsys_desk.specs.Steps.{LeadsSomewhere};
 ghost use Rattle.lsys_desk.specs.Views.{desk_on};
-ghost use Rattle.lsys_desk.specs.Calls.{Replies, Serves, SaysBounds, ServesAt, KeepsLevels, edit_spelled, own_lead, CountsStep, CountsLed, CountsOther, Goes, ServesLine};
+ghost use Rattle.lsys_desk.specs.Calls.{Replies, Serves, SaysBounds, ServesAt, KeepsLevels, edit_spelled, own_lead, CountsStep, CountsLed, CountsOther, ServesStep, ServesLine};
 
 use crate::desk_line::{DeskLine, desk_line};
 use crate::growth_reply::answer_growth;
@@ -61,7 +61,7 @@ impl<L: Ledger, D: HasMotions<L>> Desk<L, D> {
     ///
     /// Want of memory.
     pub fn start(alloc: Global, limit: u32) -> Result<Desk<L, D>, AllocError>
-        requires { limit ≤ 1000000 }
+        requires { limit ≤ greatest_module_limit }
         ensures desk { IfOk result (λ d. desk_on D.system_of d ≡ opening_desk) }
         ensures limit { IfOk result (λ d. D.limit_of d.derivation ≡ limit) }
     {
@@ -275,8 +275,8 @@ impl<L: Ledger, D: HasMotions<L>> Desk<L, D> {
         visited: &mut Steps<V>,
     ) -> Result<Outcome, Failed>
         requires empty { out.old ≡ [] }
-        requires there { CanStep step self.old.steps }
-        ensures gives { Goes step system K.Sink sink out D.limit_of D.system_of self result }
+        requires there { LeadsSomewhere step self.old.steps }
+        ensures gives { ServesStep step system K.Sink sink out D.limit_of D.system_of self result }
         ensures limit { D.limit_of self.new.derivation ≡ D.limit_of self.old.derivation }
         ensures kept { EachKept (HasLevels (D.limit_of self.new.derivation)) self.new.steps }
         ensures counts { CountsStep D.visits D.limit_of D.system_of self asked visited true result }

@@ -2,7 +2,7 @@
 ghost use Rattle.std.specs.Prelude.{◌≡◌, ◌<◌, ◌≤◌, ◌+◌, ℕ, All, false, map, length, bytes_eq, IfOk, OnErr, option_map};
 ghost use Rattle.lsys_syntax.specs.Limits.{most_line_bytes};
 ghost use Rattle.lsys_spec.specs.Refusals.{is_passed_over};
-ghost use Rattle.lsys_text.specs.Tokens.{IsWithin, kind_of, token_of};
+ghost use Rattle.lsys_text.specs.Tokens.{LiesInLine, kind_of, token_of};
 ghost use Rattle.lsys_desks.specs.Desks.{bare_asks, kind_asks, number_asks, tokens_ask, word_asks};
 ghost use Rattle.lsys_desk.specs.Views.{desk_line_of, asked_by_two};
 
@@ -47,7 +47,7 @@ pub(crate) fn desk_line(alloc: Global, line: &[u8]) -> Result<Option<DeskLine>, 
 
 // What a line with these tokens asks.
 fn asked_by(found: &[Token]) -> Option<DeskLine>
-    requires { (most : ℕ) × All (IsWithin most) found.now }
+    requires { (most : ℕ) × All (LiesInLine most) found.now }
     ensures { tokens_ask (map token_of found.now) ≡ option_map desk_line_of result }
 {
     match found {

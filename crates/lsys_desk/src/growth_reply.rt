@@ -3,8 +3,8 @@ ghost use Rattle.std.specs.Prelude.{◌≡◌, ◌<◌, [], decimal, flat_map, m
 ghost use Rattle.lsys_io.specs.Putting.{Puts};
 ghost use Rattle.lsys_module.specs.Views.{module_name};
 ghost use Rattle.lsys_spec.specs.Systems.{module_name_text};
-ghost use Rattle.lsys_matrix.specs.Growth.{count_line, growth_at, growth_text};
-ghost use Rattle.lsys_growth.specs.Views.{IsAnswer, count_of};
+ghost use Rattle.lsys_matrix.specs.Growth.{letter_line, growth_at, growth_text};
+ghost use Rattle.lsys_growth.specs.Views.{IsGrowthAnswer, count_of};
 ghost use Rattle.lsys_session.specs.declared.outcome.Outcome.TheVariants.{Printed};
 ghost use Rattle.lsys_desk.specs.Growing.{growth_line, growth_outcome};
 ghost use Rattle.lsys_session.specs.Calls.{Says};
@@ -52,7 +52,7 @@ fn counted_growth<P: Ledger>(
     requires name { products.name ≡ P.name }
     requires parts { products.parts ≡ P.parts }
     requires some { 0 < products.parts }
-    ensures { IsAnswer result (growth_at system.now level) }
+    ensures { IsGrowthAnswer result (growth_at system.now level) }
 {
     let mut products = Steps::<P>::open(products);
     growth(alloc, system, level, &mut products)
@@ -100,7 +100,7 @@ fn put_growth<K: Sink>(out: &mut Buffered, sink: &mut K, growth: &Growth) -> Res
 }
 
 fn put_counts<K: Sink>(out: &mut Buffered, sink: &mut K, counts: &[Count]) -> Result<(), Failed>
-    ensures { Puts K.Sink sink out (flat_map count_line (map count_of counts.now)) result }
+    ensures { Puts K.Sink sink out (flat_map letter_line (map count_of counts.now)) result }
 {
     for count in counts {
         put_count(out, sink, count)?;
@@ -110,7 +110,7 @@ fn put_counts<K: Sink>(out: &mut Buffered, sink: &mut K, counts: &[Count]) -> Re
 
 // Puts how often a letter stands in the level.
 fn put_count<K: Sink>(out: &mut Buffered, sink: &mut K, count: &Count) -> Result<(), Failed>
-    ensures { Puts K.Sink sink out (count_line (count_of count.now)) result }
+    ensures { Puts K.Sink sink out (letter_line (count_of count.now)) result }
 {
     put_letter(out, sink, count.name)?;
     out.put(sink, b" ")?;

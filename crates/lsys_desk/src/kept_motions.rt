@@ -3,8 +3,8 @@ ghost use Rattle.std.specs.Prelude.{◌≡◌, None};
 ghost use Rattle.lsys_lattice.specs.Wide.{extents_of};
 ghost use Rattle.lsys_out.specs.Nesting.{HasLast};
 ghost use Rattle.lsys_motion.specs.Told.{told};
-ghost use Rattle.lsys_session.specs.Given.{IsKept};
-ghost use Rattle.lsys_desk.specs.Motions.{AreKept, IsTold, motions_after, told_by, told_in, AreMotionsOn};
+ghost use Rattle.lsys_session.specs.Given.{IsWellUnder};
+ghost use Rattle.lsys_desk.specs.Motions.{AreKept, IsTrackOf, motions_after, told_by, told_in, AreMotionsOn};
 ghost use Rattle.lsys_desk.specs.Calls.{HasItsLevels};
 
 use lsys_lattice::{Cubic, Extents, Hexagonal, Lattice, Square};
@@ -65,9 +65,9 @@ pub(crate) fn take_motions<L: Ledger, D: HasMotions<L>>(
     derivation: &D,
     kept: &mut Option<KeptMotions>,
 ) -> Result<KeptMotions, MotionRefusal>
-    requires session { IsKept (D.limit_of derivation.now) (D.system_of derivation.now) }
+    requires session { IsWellUnder (D.limit_of derivation.now) (D.system_of derivation.now) }
     requires kept { AreKept (D.limit_of derivation.now) (D.system_of derivation.now) kept.old }
-    ensures told { IsTold (D.limit_of derivation.now) (D.system_of derivation.now) (told_in result) }
+    ensures told { IsTrackOf (D.limit_of derivation.now) (D.system_of derivation.now) (told_in result) }
     ensures none { kept.new ≡ None }
 {
     match kept.take() {
@@ -92,8 +92,8 @@ fn made_motions<L: Ledger, D: HasMotions<L>>(
     alloc: Global,
     derivation: &D,
 ) -> Result<KeptMotions, MotionRefusal>
-    requires { IsKept (D.limit_of derivation.now) (D.system_of derivation.now) }
-    ensures { IsTold (D.limit_of derivation.now) (D.system_of derivation.now) (told_in result) }
+    requires { IsWellUnder (D.limit_of derivation.now) (D.system_of derivation.now) }
+    ensures { IsTrackOf (D.limit_of derivation.now) (D.system_of derivation.now) (told_in result) }
 {
     match derivation.system().lattice() {
         LatticeName::Square => Ok(KeptMotions::Square(motions_on(alloc, derivation)?)),
@@ -107,10 +107,10 @@ fn motions_on<T: Lattice, L: Ledger, D: HasMotions<L>>(
     alloc: Global,
     derivation: &D,
 ) -> Result<Motions<T>, MotionRefusal>
-    requires kept { IsKept (D.limit_of derivation.now) (D.system_of derivation.now) }
+    requires kept { IsWellUnder (D.limit_of derivation.now) (D.system_of derivation.now) }
     requires levels { HasItsLevels D.limit_of D.system_of D.levels derivation.now }
     requires lattice { T.shape ≡ (D.system_of derivation.now).lattice }
-    ensures { IsTold (D.limit_of derivation.now) (D.system_of derivation.now) result }
+    ensures { IsTrackOf (D.limit_of derivation.now) (D.system_of derivation.now) result }
 {
     derivation.motions(alloc)
 }

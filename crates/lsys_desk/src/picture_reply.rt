@@ -4,7 +4,7 @@ ghost use Rattle.lsys_io.specs.Putting.{Puts};
 ghost use Rattle.lsys_spec.specs.PictureTexts.{place_text};
 ghost use Rattle.lsys_lattice.specs.Bounds.{pose_text};
 ghost use Rattle.lsys_lattice.specs.Wide.{extents_of};
-ghost use Rattle.lsys_session.specs.Given.{IsKept};
+ghost use Rattle.lsys_session.specs.Given.{IsWellUnder};
 ghost use Rattle.lsys_session.specs.declared.outcome.Outcome.TheVariants.{Printed, Refused};
 ghost use Rattle.lsys_desk.specs.Motions.{AreKept, motion_line, motion_outcome, pose_line, span_text, spans_text, told_by};
 ghost use Rattle.lsys_session.specs.Calls.{Says};
@@ -34,7 +34,7 @@ pub(crate) fn answer_bounds<K: Sink, L: Ledger, D: HasMotions<L>>(
     sink: &mut K,
 ) -> Result<Outcome, Failed>
     requires empty { out.old ≡ [] }
-    requires session { IsKept (D.limit_of derivation.now) (D.system_of derivation.now) }
+    requires session { IsWellUnder (D.limit_of derivation.now) (D.system_of derivation.now) }
     requires kept { AreKept (D.limit_of derivation.now) (D.system_of derivation.now) kept.old }
     ensures prints { SaysBounds K.Sink sink out D.limit_of D.system_of derivation.now result }
     ensures kept { AreKept (D.limit_of derivation.now) (D.system_of derivation.now) kept.new }
@@ -64,7 +64,7 @@ pub(crate) fn answer_place<K: Sink, L: Ledger, D: HasMotions<L>>(
     sink: &mut K,
 ) -> Result<Outcome, Failed>
     requires empty { out.old ≡ [] }
-    requires session { IsKept (D.limit_of derivation.now) (D.system_of derivation.now) }
+    requires session { IsWellUnder (D.limit_of derivation.now) (D.system_of derivation.now) }
     requires kept { AreKept (D.limit_of derivation.now) (D.system_of derivation.now) kept.old }
     ensures prints { SaysAt place column K.Sink sink out D.limit_of D.system_of derivation.now result }
     ensures kept { AreKept (D.limit_of derivation.now) (D.system_of derivation.now) kept.new }

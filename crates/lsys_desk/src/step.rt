@@ -1,6 +1,6 @@
 //! Which way a desk goes from one system to another.
 ghost use Rattle.std.specs.Prelude.{◌≡◌};
-ghost use Rattle.lsys_desk.specs.Steps.{CanStep, steps_after};
+ghost use Rattle.lsys_desk.specs.Steps.{LeadsSomewhere, steps_after};
 
 use lsys_desks::History;
 use lsys_rules::System;
@@ -24,7 +24,7 @@ pub(crate) fn take_step(
     outcome: Outcome,
     present: System,
 )
-    requires { CanStep step history.old }
+    requires { LeadsSomewhere step history.old }
     ensures { history.new ≡ steps_after outcome step history.old present }
 {
     if outcome != Outcome::Accepted {

@@ -15,7 +15,7 @@ use Rattle.lsys_spec.specs.Questions.{questions, need}
 use Rattle.lsys_spec.specs.Refusals.{Reply, refused, said, line_feed, derivation_text, is_long, is_passed_over, column_at}
 use Rattle.lsys_spec.specs.Replies.{reply, edited, levels_of, or_text, is_query, shown, picture_of, accepted, command_reply, verdict_reply, tokens_reply, bare_reply, bare_spelled, spelled_by, spelled_command, count_line, questions_of}
 use Rattle.lsys_spec.specs.Output.{may_lack_memory, memory_or}
-use Rattle.lsys_spec.specs.Costs.{Cost, Visits, no_cost, one_refusal, ◌and◌, cost_to, edit_by, edit_cost, unless_refused, edited_system, line_cost, costs_from}
+use Rattle.lsys_spec.specs.Costs.{Cost, Visits, no_cost, one_refusal, ◌and◌, cost_to, edit_by, edit_cost, changed_unless_refused, edited_system, line_cost, costs_from}
 use Rattle.lsys_spec.proofs.CostSums.{and_assoc}
 use Rattle.lsys_laws.specs.Sessions.{HasLevels}
 use Rattle.lsys_laws.proofs.KeptLevels.{reply_levels}
@@ -23,7 +23,7 @@ use Rattle.lsys_lattice.specs.Bounds.{bounds_text, turtle_behind}
 use Rattle.lsys_lattice.specs.Bounds as pictures
 use Rattle.lsys_matrix.specs.Growth.{Census, GrowthFault, growth_at}
 use Rattle.lsys_desks.specs.Timelines as timelines
-use Rattle.lsys_desks.specs.Desks.{Desk, DeskLine, DeskReply, desk, undo, redo, growth, bounds, at, answered, asked_of, led, stepped, growth_reply, turtle_reply, own_reply, reply_by, session_reply, desk_reply, desk_line, desk_memory_or, desk_reply_or_memory, HasNoDeskLine}
+use Rattle.lsys_desks.specs.Desks.{Desk, DeskLine, DeskReply, desk, undo, redo, growth, bounds, at, answered, asked_of, led, stepped_to, growth_reply, turtle_reply, own_reply, reply_by, session_reply, desk_reply, desk_line, desk_memory_or, desk_reply_or_memory, HasNoDeskLine}
 use Rattle.lsys_desks.specs.Costs.{cost_followed, desk_costs_from, desk_line_cost, lead_cost, leads_by, line_leads, own_leads}
 
 -- 1. what a session replies
@@ -76,11 +76,11 @@ module _ (limit : ℕ) (s : System) where
   of_accepted (commands.set_numbering n) true e = cc
   of_accepted (commands.set_numbering n) false e = refl
 
-  none_refused : (b : Bool) (c : Command) (r : Refusal) → ◌≡◌ {A = Option System} (elim b [ true ↦ None | false ↦ unless_refused s c (Some r) ]) None
+  none_refused : (b : Bool) (c : Command) (r : Refusal) → ◌≡◌ {A = Option System} (elim b [ true ↦ None | false ↦ changed_unless_refused s c (Some r) ]) None
   none_refused true c r = refl
   none_refused false c r = refl
 
-  of_command : (column : ℕ → ℕ) (c : Command) (o : Option Refusal) → IsReplyOf limit s (command_reply limit s column c o) (elim (is_query c) [ true ↦ None | false ↦ unless_refused s c o ])
+  of_command : (column : ℕ → ℕ) (c : Command) (o : Option Refusal) → IsReplyOf limit s (command_reply limit s column c o) (elim (is_query c) [ true ↦ None | false ↦ changed_unless_refused s c o ])
   of_command column c None = of_accepted c (is_query c) refl
   of_command column c (Some r) = subst (IsReplyOf limit s (command_reply limit s column c (Some r))) (sym (none_refused (is_query c) c r)) refl
 
@@ -121,7 +121,7 @@ led_reply d r h = by r.is_refusal
     by true = refl
     by false = refl
 
-of_step : (limit : ℕ) (d : Desk) (word : List ℕ) (h : timelines.Timeline System) (o : Option System) → IsReplyOf limit d.system (stepped limit d word h o).reply o
+of_step : (limit : ℕ) (d : Desk) (word : List ℕ) (h : timelines.Timeline System) (o : Option System) → IsReplyOf limit d.system (stepped_to limit d word h o).reply o
 of_step limit d word h None = refl
 of_step limit d word h (Some s) = led_reply d (edited limit d.system s (levels_of limit s)) h
 
@@ -135,7 +135,7 @@ of_turtle s column (Ok None) = refl
 of_turtle s column (Err why) = refl
 
 of_own : (limit : ℕ) (d : Desk) (asked : DeskLine) → IsReplyOf limit d.system (own_reply limit d asked).reply (own_leads d asked)
-of_own limit d undo = of_step limit d (codes "undo") (timelines.undone d.steps d.system) (timelines.nearest d.steps.past)
+of_own limit d undo = of_step limit d (codes "undo") (timelines.after_undo d.steps d.system) (timelines.nearest d.steps.past)
 of_own limit d redo = of_step limit d (codes "redo") (timelines.redone d.steps d.system) (timelines.nearest d.steps.future)
 of_own limit d (growth level) = of_growth d.system (growth_at d.system level)
 of_own limit d bounds = shown_ample limit d.system bounds_text (asked_of (pictures.bounds d.system) (levels_of limit d.system))
@@ -149,11 +149,11 @@ pub of_desk : (limit : ℕ) (d : Desk) (line : List ℕ) → IsReplyOf limit d.s
 of_desk limit d line = of_asked limit d line (desk_line line)
 
 -- the system behind a reply is that of its desk
-next_led : (limit : ℕ) (d : Desk) (s : System) (h : timelines.Timeline System) (x : Result (List (List L.Symbol)) (List ℕ)) → (led d (edited limit d.system s x) h).next.system ≡ (led d (edited limit d.system s x) h).reply.next
+next_led : (limit : ℕ) (d : Desk) (s : System) (h : timelines.Timeline System) (x : Result (List (List L.LevelSymbol)) (List ℕ)) → (led d (edited limit d.system s x) h).next.system ≡ (led d (edited limit d.system s x) h).reply.next
 next_led limit d s h (Ok levels) = refl
 next_led limit d s h (Err why) = refl
 
-next_step : (limit : ℕ) (d : Desk) (word : List ℕ) (h : timelines.Timeline System) (o : Option System) → (stepped limit d word h o).next.system ≡ (stepped limit d word h o).reply.next
+next_step : (limit : ℕ) (d : Desk) (word : List ℕ) (h : timelines.Timeline System) (o : Option System) → (stepped_to limit d word h o).next.system ≡ (stepped_to limit d word h o).reply.next
 next_step limit d word h None = refl
 next_step limit d word h (Some s) = next_led limit d s h (levels_of limit s)
 
@@ -171,7 +171,7 @@ next_turtle s column (Ok None) = refl
 next_turtle s column (Err why) = refl
 
 next_own : (limit : ℕ) (d : Desk) (asked : DeskLine) → (own_reply limit d asked).next.system ≡ (own_reply limit d asked).reply.next
-next_own limit d undo = next_step limit d (codes "undo") (timelines.undone d.steps d.system) (timelines.nearest d.steps.past)
+next_own limit d undo = next_step limit d (codes "undo") (timelines.after_undo d.steps d.system) (timelines.nearest d.steps.past)
 next_own limit d redo = next_step limit d (codes "redo") (timelines.redone d.steps d.system) (timelines.nearest d.steps.future)
 next_own limit d (growth level) = next_growth d.system (growth_at d.system level)
 next_own limit d bounds = next_shown d.system bounds_text (asked_of (pictures.bounds d.system) (levels_of limit d.system))
@@ -188,7 +188,7 @@ pub led_to : (limit : ℕ) (d : Desk) (line : List ℕ) (next : System) → line
 led_to limit d line next e = subst (IsReplyOf limit d.system (desk_reply limit d line).reply) e (of_desk limit d line)
 
 -- the number that the reply tells
-pub told_need : (visits : Visits) (limit : ℕ) (d : Desk) (line : List ℕ) (next : System) (xs ys : List (List L.Symbol)) → line_leads d line ≡ Some next → meaning d.system limit ≡ Ok xs → meaning next limit ≡ Ok ys
+pub told_need : (visits : Visits) (limit : ℕ) (d : Desk) (line : List ℕ) (next : System) (xs ys : List (List L.LevelSymbol)) → line_leads d line ≡ Some next → meaning d.system limit ≡ Ok xs → meaning next limit ≡ Ok ys
     → (desk_reply limit d line).reply.text ≡ codes "ok " ++ (decimal (lead_cost visits limit d line).need ++ 47 ∷ (decimal (length (questions next ys)) ++ line_feed))
 told_need visits limit d line next xs ys e x y =
     ap (λ (r : Reply). r.text) (led_to limit d line next e ∙ ap (λ m. edited limit d.system next (or_text derivation_text m)) y)
@@ -254,7 +254,7 @@ former_costs visits limit M n d (line ∷ lines) h =
 
 -- 5. levels
 
-edited_levels : (limit : ℕ) (s next : System) (m : Result (List (List L.Symbol)) LevelRefusal) → meaning next limit ≡ m → HasLevels limit s → HasLevels limit (edited limit s next (or_text derivation_text m)).next
+edited_levels : (limit : ℕ) (s next : System) (m : Result (List (List L.LevelSymbol)) LevelRefusal) → meaning next limit ≡ m → HasLevels limit s → HasLevels limit (edited limit s next (or_text derivation_text m)).next
 edited_levels limit s next (Ok ys) e h = (ys, e)
 edited_levels limit s next (Err r) e h = h
 
@@ -265,12 +265,12 @@ led_levels limit d r h old new = by r.is_refusal
     by true = old
     by false = new
 
-step_levels : (limit : ℕ) (d : Desk) (word : List ℕ) (h : timelines.Timeline System) (o : Option System) → HasLevels limit d.system → HasLevels limit (stepped limit d word h o).next.system
+step_levels : (limit : ℕ) (d : Desk) (word : List ℕ) (h : timelines.Timeline System) (o : Option System) → HasLevels limit d.system → HasLevels limit (stepped_to limit d word h o).next.system
 step_levels limit d word h None old = old
 step_levels limit d word h (Some s) old = led_levels limit d (edited limit d.system s (levels_of limit s)) h old (edited_levels limit d.system s (meaning s limit) refl old)
 
 own_levels : (limit : ℕ) (d : Desk) (asked : DeskLine) → HasLevels limit d.system → HasLevels limit (own_reply limit d asked).next.system
-own_levels limit d undo old = step_levels limit d (codes "undo") (timelines.undone d.steps d.system) (timelines.nearest d.steps.past) old
+own_levels limit d undo old = step_levels limit d (codes "undo") (timelines.after_undo d.steps d.system) (timelines.nearest d.steps.past) old
 own_levels limit d redo old = step_levels limit d (codes "redo") (timelines.redone d.steps d.system) (timelines.nearest d.steps.future) old
 own_levels limit d (growth level) old = old
 own_levels limit d bounds old = old

@@ -4,7 +4,7 @@ use Rattle.lsys_syntax.specs.Lines.{lines_of}
 use Rattle.lsys_spec.specs.Systems.{System}
 use Rattle.lsys_spec.specs.Replies.{edited, levels_of, reply}
 use Rattle.lsys_spec.specs.Costs.{Visits, line_cost, script_cost, Cost, ◌and◌}
-use Rattle.lsys_spec.specs.Levels.{Symbol}
+use Rattle.lsys_spec.specs.Levels.{LevelSymbol}
 use Rattle.lsys_spec.specs.Meaning.{meaning}
 use Rattle.lsys_spec.specs.Questions.{questions}
 use Rattle.lsys_spec.specs.Refusals.{line_feed}
@@ -22,7 +22,7 @@ LinesThatLeadReplyAsEdits =
 abbrev pub LeadCostsAreTold : Type 0
 LeadCostsAreTold =
     (visits : Visits) (limit : ℕ) (d : Desk) (line : List ℕ) (next : System)
-    (xs ys : List (List Symbol)) → line_leads d line ≡ Some next
+    (xs ys : List (List LevelSymbol)) → line_leads d line ≡ Some next
     → meaning d.system limit ≡ Ok xs → meaning next limit ≡ Ok ys
     → let asked = (lead_cost visits limit d line).need in
     let all = length (questions next ys) in (desk_reply limit d line).reply.text

@@ -4,7 +4,7 @@ use Rattle.lsys_syntax.specs.Lines.{lines_of, without_cr}
 use Rattle.lsys_syntax.specs.Tokens.{Token, Kind, Word, Number, tokens}
 use Rattle.lsys_syntax.specs.Commands.{Command}
 use Rattle.lsys_spec.specs.Systems.{System, opening}
-use Rattle.lsys_spec.specs.Levels.{Symbol}
+use Rattle.lsys_spec.specs.Levels.{LevelSymbol}
 use Rattle.lsys_spec.specs.Meaning.{last_level}
 use Rattle.lsys_spec.specs.Pictures.{Pose, PictureRefusal, Turtle}
 use Rattle.lsys_spec.specs.Refusals.{Reply, said, refused, refused_memory, is_long, is_passed_over, with_number}
@@ -89,9 +89,9 @@ abbrev pub led : Desk → Reply → timelines.Timeline System → DeskReply
 led d r steps = elim r.is_refusal [ true ↦ answered r d | false ↦ answered r (desk r.next steps) ]
 
 -- A step to this system. Where there is none, the step is refused by its word, and the desk stays.
-abbrev pub stepped : ℕ → Desk → List ℕ → timelines.Timeline System → Option System → DeskReply
-stepped limit d word steps None = answered (refused d.system word) d
-stepped limit d word steps (Some s) = led d (edited limit d.system s (levels_of limit s)) steps
+abbrev pub stepped_to : ℕ → Desk → List ℕ → timelines.Timeline System → Option System → DeskReply
+stepped_to limit d word steps None = answered (refused d.system word) d
+stepped_to limit d word steps (Some s) = led d (edited limit d.system s (levels_of limit s)) steps
 
 -- how the letters of a level of a system are told, or why they aren't
 abbrev pub growth_reply : System → Result Census GrowthFault → Reply
@@ -99,12 +99,12 @@ growth_reply s (Ok c) = said s (growth_text c)
 growth_reply s (Err f) = refused s (growth_fault_text f)
 
 -- what is asked of the picture of the last level, or the text of the refusal
-abbrev pub asked_of : {A : Type 0} → (List Symbol → Result A PictureRefusal) → Result (List (List Symbol)) (List ℕ) → Result A (List ℕ)
+abbrev pub asked_of : {A : Type 0} → (List LevelSymbol → Result A PictureRefusal) → Result (List (List LevelSymbol)) (List ℕ) → Result A (List ℕ)
 asked_of ask (Ok levels) = or_text picture_refusal_text (ask (last_level levels))
 asked_of ask (Err why) = Err why
 
 -- how far the picture reaches
-abbrev pub bounds_reply : System → Result (List (List Symbol)) (List ℕ) → Reply
+abbrev pub bounds_reply : System → Result (List (List LevelSymbol)) (List ℕ) → Reply
 bounds_reply s levels = shown s bounds_text (asked_of (pictures.bounds s) levels)
 
 -- where a turtle stands; a number that is past the image's symbols is refused by its column
@@ -117,25 +117,25 @@ turtle_reply s column (Ok o) = pose_reply s column (option_map (λ t. t.pose) o)
 turtle_reply s column (Err why) = refused s why
 
 -- where the picture's turtle stands behind the first n symbols of the image
-abbrev pub place_reply : System → ℕ → ℕ → Result (List (List Symbol)) (List ℕ) → Reply
+abbrev pub place_reply : System → ℕ → ℕ → Result (List (List LevelSymbol)) (List ℕ) → Reply
 place_reply s n column levels = turtle_reply s column (asked_of (λ x. turtle_behind s x n) levels)
 
 -- the desk's own reply: an undo steps to the nearest of the past, a redo to the nearest of those that were undone, growth
 -- counts the letters of a level, and the others ask of the picture of the last level
 abbrev pub own_reply : ℕ → Desk → DeskLine → DeskReply
-own_reply limit d undo = stepped limit d (codes "undo") (timelines.undone d.steps d.system) (timelines.nearest d.steps.past)
-own_reply limit d redo = stepped limit d (codes "redo") (timelines.redone d.steps d.system) (timelines.nearest d.steps.future)
+own_reply limit d undo = stepped_to limit d (codes "undo") (timelines.after_undo d.steps d.system) (timelines.nearest d.steps.past)
+own_reply limit d redo = stepped_to limit d (codes "redo") (timelines.redone d.steps d.system) (timelines.nearest d.steps.future)
 own_reply limit d (growth level) = answered (growth_reply d.system (growth_at d.system level)) d
 own_reply limit d bounds = answered (bounds_reply d.system (levels_of limit d.system)) d
 own_reply limit d (at n column) = answered (place_reply d.system n column (levels_of limit d.system)) d
 
-abbrev pub is_edit : Option Command → Bool
-is_edit None = false
-is_edit (Some c) = not (is_query c)
+abbrev pub spells_edit : Option Command → Bool
+spells_edit None = false
+spells_edit (Some c) = not (is_query c)
 
 -- the steps behind the session's reply to a line that spells this: an accepted edit leads away from the system
 abbrev pub steps_behind : Desk → Reply → Option Command → timelines.Timeline System
-steps_behind d r spelled = elim (not r.is_refusal && is_edit spelled) [ true ↦ timelines.edited d.steps d.system | false ↦ d.steps ]
+steps_behind d r spelled = elim (not r.is_refusal && spells_edit spelled) [ true ↦ timelines.after_edit d.steps d.system | false ↦ d.steps ]
 
 abbrev pub session_reply : Desk → Reply → Option Command → DeskReply
 session_reply d r spelled = answered r (desk r.next (steps_behind d r spelled))

@@ -7,7 +7,7 @@ use Rattle.lsys_spec.specs.Output.{out, whole_lines, IsFront}
 use Rattle.lsys_spec.specs.Systems.{System}
 use Rattle.lsys_spec.specs.Refusals.{Reply}
 use Rattle.lsys_laws.specs.Sessions.{HasLevels}
-use Rattle.lsys_desks.specs.Desks.{HasNoDeskLine, desk_out, numbers_of_whole, Desk, own_reply, undo, redo, is_edit, session_reply, desk_reply_or_memory}
+use Rattle.lsys_desks.specs.Desks.{HasNoDeskLine, desk_out, numbers_of_whole, Desk, own_reply, undo, redo, spells_edit, session_reply, desk_reply_or_memory}
 
 -- a script without desk lines is answered as without a desk
 abbrev pub WithoutDeskLinesNothingChanges : Type 0
@@ -45,14 +45,14 @@ RedoGivesBackTheDesk =
 abbrev pub UndoneEditsAreAccepted : Type 0
 UndoneEditsAreAccepted =
     (limit : ℕ) (d : Desk) (r : Reply) (c : Command) → HasLevels limit d.system
-    → r.is_refusal ≡ false → is_edit (Some c) ≡ true
+    → r.is_refusal ≡ false → spells_edit (Some c) ≡ true
     → (own_reply limit (session_reply d r (Some c)).next undo).reply.is_refusal ≡ false
 
 -- and leads back to the system before the edit
 abbrev pub UndoneEditsLeadBack : Type 0
 UndoneEditsLeadBack =
     (limit : ℕ) (d : Desk) (r : Reply) (c : Command) → HasLevels limit d.system
-    → r.is_refusal ≡ false → is_edit (Some c) ≡ true
+    → r.is_refusal ≡ false → spells_edit (Some c) ≡ true
     → (own_reply limit (session_reply d r (Some c)).next undo).next.system ≡ d.system
 
 -- a line leaves a desk whose system has its levels such a desk,

@@ -30,12 +30,12 @@ module _ {X : Type 0} where
   others xs = take (length xs - 1) xs
 
   -- An edit leads away from the value: it is the nearest of the past, in which the last 32 are kept, and what was undone is forgotten.
-  abbrev pub edited : Timeline X → X → Timeline X
-  edited h x = let past = h.past ++ x ∷ [] in timeline (drop (length past - most_kept) past) []
+  abbrev pub after_edit : Timeline X → X → Timeline X
+  after_edit h x = let past = h.past ++ x ∷ [] in timeline (drop (length past - most_kept) past) []
 
   -- An undo leads from the present value to the nearest of the past.
-  abbrev pub undone : Timeline X → X → Timeline X
-  undone h present = timeline (others h.past) (h.future ++ present ∷ [])
+  abbrev pub after_undo : Timeline X → X → Timeline X
+  after_undo h present = timeline (others h.past) (h.future ++ present ∷ [])
 
   -- A redo leads from the present value to the nearest of those that were undone.
   abbrev pub redone : Timeline X → X → Timeline X

@@ -1,6 +1,6 @@
 //! The values that an undo and a redo lead back to.
 ghost use Rattle.std.specs.Prelude.{◌≡◌, ◌≢◌, [], Some, IfOk, option_copied};
-ghost use Rattle.lsys_desks.specs.Timelines.{edited, nearest, nothing_kept, redone, undone};
+ghost use Rattle.lsys_desks.specs.Timelines.{after_edit, nearest, nothing_kept, redone, after_undo};
 
 use circular_buffer::HeapCircularBuffer;
 use std::alloc::{AllocError, Global};
@@ -54,7 +54,7 @@ impl<T: Drop> History<T> {
     /// Keeps the value from which an edit led away. Of 33 earlier ones the first is dropped, and what was undone is
     /// forgotten.
     pub fn keep(&mut self, old: T)
-        ensures { self.new ≡ edited self.old old }
+        ensures { self.new ≡ after_edit self.old old }
     {
         self.past.push_back(old);
         self.future.clear();
@@ -78,7 +78,7 @@ impl<T: Drop> History<T> {
     pub fn step_back(&mut self, present: T) -> T
         requires { self.old.past ≢ [] }
         ensures value { nearest self.old.past ≡ Some result }
-        ensures steps { self.new ≡ undone self.old present }
+        ensures steps { self.new ≡ after_undo self.old present }
     {
         let last = self.past.pop_back();
         self.future.push_back(present);

@@ -3,47 +3,47 @@ use Rattle.std.proofs.Common.{◌≡◌, ℕ, ◌<◌, ◌≤◌, true, false, n
 use Rattle.std.proofs.lemmas.Bool.Decides.{nat_tests}
 use Rattle.lsys_syntax.specs.Tokens.{NameText}
 use Rattle.lsys_syntax.specs.Expressions.{Expr, And, Rel, Sum, Term, Unary, negated, inverted, only_atom, raised, Atom}
-use Rattle.lsys_syntax.specs.ExpressionMachine.{InUnary, negating, inverting, raising, in_term, InTerm, first_unary, next_unary, InSum, first_term, next_term, InRel, first_sum, second_sum, InAnd, first_rel, next_rel, InExpr, first_and, next_and, Around, no_parens, in_parens, State, Due, Have, HalfAnd, HalfOr, Done, Stop, AfterUnary, term_with, around_term, sum_with, around_sum, rel_with, around_rel, and_with, around_and, expr_with, around_expr, after_unary, after_operand}
+use Rattle.lsys_syntax.specs.ExpressionMachine.{InUnary, negating, inverting, raising, in_term, InTerm, first_unary, next_unary, InSum, first_term, next_term, InRel, first_sum, second_sum, InAnd, first_rel, next_rel, InExpr, first_and, next_and, Around, no_parens, in_parens, ExpressionState, Due, Have, HalfAnd, HalfOr, Done, Stop, AfterUnary, term_with, around_term, sum_with, around_sum, rel_with, around_rel, and_with, around_and, expr_with, around_expr, after_unary, after_operand}
 use Rattle.lsys_spec.specs.Values.{Tree, sum_of, product_of, power_of, comparison, expr_tree, and_tree, rel_tree, sum_tree, term_tree, unary_tree, atom_tree}
 use Rattle.lsys_expr.specs.Frames as F
-use Rattle.lsys_expr.specs.Frames.{Frame, Reading, strength, whole, reduced, next_reading}
+use Rattle.lsys_expr.specs.Frames.{OperandFrame, ExpressionReading, strength, enclosed, reduced, next_reading}
 
 module _ (fs : List NameText) where
   -- 1. the frames of a context
 
   abbrev mutual
-    pub unary_frames : InUnary → List Frame
+    pub unary_frames : InUnary → List OperandFrame
     unary_frames (negating k) = F.negation ∷ unary_frames k
     unary_frames (inverting k) = F.inversion ∷ unary_frames k
     unary_frames (raising a k) = F.binary power_of (atom_tree fs a) ∷ unary_frames k
     unary_frames (in_term k) = term_frames k
 
-    pub term_frames : InTerm → List Frame
+    pub term_frames : InTerm → List OperandFrame
     term_frames (first_unary k) = sum_frames k
     term_frames (next_unary t op k) = F.binary (product_of op) (term_tree fs t) ∷ sum_frames k
 
-    pub sum_frames : InSum → List Frame
+    pub sum_frames : InSum → List OperandFrame
     sum_frames (first_term k) = rel_frames k
     sum_frames (next_term s op k) = F.binary (sum_of op) (sum_tree fs s) ∷ rel_frames k
 
-    pub rel_frames : InRel → List Frame
+    pub rel_frames : InRel → List OperandFrame
     rel_frames (first_sum k) = and_frames k
     rel_frames (second_sum l op k) = F.binary (comparison op) (sum_tree fs l) ∷ and_frames k
 
-    pub and_frames : InAnd → List Frame
+    pub and_frames : InAnd → List OperandFrame
     and_frames (first_rel k) = expr_frames k
     and_frames (next_rel a k) = F.both (and_tree fs a) ∷ expr_frames k
 
-    pub expr_frames : InExpr → List Frame
+    pub expr_frames : InExpr → List OperandFrame
     expr_frames (first_and k) = around_frames k
     expr_frames (next_and e k) = F.either (expr_tree fs e) ∷ around_frames k
 
-    pub around_frames : Around → List Frame
+    pub around_frames : Around → List OperandFrame
     around_frames no_parens = []
     around_frames (in_parens k) = F.parentheses ∷ unary_frames k
 
   -- what a state holds
-  abbrev pub reading_of : State → Reading
+  abbrev pub reading_of : ExpressionState → ExpressionReading
   reading_of (Due k) = (None, unary_frames k)
   reading_of (Have a k) = (Some (atom_tree fs a), unary_frames k)
   reading_of (HalfAnd a k) = (None, F.both (and_tree fs a) ∷ expr_frames k)
@@ -53,7 +53,7 @@ module _ (fs : List NameText) where
 
   -- 2. frames that are too weak are left
 
-  left : (l : ℕ) (t : Tree) (f : Frame) (k : List Frame) → strength f < l → reduced l t (f ∷ k) ≡ (t, f ∷ k)
+  left : (l : ℕ) (t : Tree) (f : OperandFrame) (k : List OperandFrame) → strength f < l → reduced l t (f ∷ k) ≡ (t, f ∷ k)
   left l t f k h = let e : nat_le l (strength f) ≡ false = grind (arith, nat_tests, h) in rw e refl
 
   -- rule by rule, from the outermost: frames that are weaker than l
@@ -89,7 +89,7 @@ module _ (fs : List NameText) where
 
   -- 3. frames that are strong enough take their operand
 
-  taken : (l : ℕ) (t : Tree) (f : Frame) (k : List Frame) → l ≤ strength f → reduced l t (f ∷ k) ≡ reduced l (whole f t) k
+  taken : (l : ℕ) (t : Tree) (f : OperandFrame) (k : List OperandFrame) → l ≤ strength f → reduced l t (f ∷ k) ≡ reduced l (enclosed f t) k
   taken l t f k h = let e : nat_le l (strength f) ≡ true = grind (arith, nat_tests, h) in rw e refl
 
   -- an operand with its prefixes and powers, and what that is part of

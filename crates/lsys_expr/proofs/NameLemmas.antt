@@ -8,7 +8,7 @@ use Rattle.lsys_syntax.specs.Tokens.{Kind}
 use Rattle.lsys_spec.specs.Values.{formal_place}
 use Rattle.lsys_text.specs.Tokens.{kind_of, name_of}
 use Rattle.lsys_text.specs.declared.token_kind.Token.{Token}
-use Rattle.lsys_expr.specs.Parts.{names_of, part_of, unknown_in}
+use Rattle.lsys_expr.specs.Parts.{names_of, stretch, unknown_in}
 
 -- a formal has this name
 abbrev pub is_same : List ℕ → List ℕ → Bool
@@ -51,7 +51,7 @@ position-map g p xs =
 
 -- the first unknown name, by the tokens themselves
 pub unknown_by_token : (formals : List (List ℕ)) (tokens : List Token) (from to : ℕ)
-    → position (λ t. is_unknown (names_of formals) (kind_of t.kind)) (take (to - from) (drop from tokens)) ≡ unknown_in formals (part_of from to tokens)
+    → position (λ t. is_unknown (names_of formals) (kind_of t.kind)) (take (to - from) (drop from tokens)) ≡ unknown_in formals (stretch from to tokens)
 unknown_by_token formals tokens from to =
     let kind : Token → Kind = λ t. kind_of t.kind in
     sym (position-map kind (is_unknown (names_of formals)) (take (to - from) (drop from tokens)))

@@ -11,6 +11,6 @@ arith_of DivideByZero = meaning.DivideByZero
 arith_of NegativePower = meaning.NegativePower
 
 -- an answer, its fault as that of the definitions
-abbrev pub answer_of : {A : Type 0} → Result A Arith → Result A meaning.Arith
-answer_of (Ok x) = Ok x
-answer_of (Err e) = Err (arith_of e)
+abbrev pub as_meant : {A : Type 0} → Result A Arith → Result A meaning.Arith
+as_meant (Ok x) = Ok x
+as_meant (Err e) = Err (arith_of e)

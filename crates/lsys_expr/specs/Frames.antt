@@ -5,13 +5,13 @@ use Rattle.lsys_syntax.specs.Expressions.{multiply, divide, remainder, add, subt
 use Rattle.lsys_spec.specs.Values.{Operator, sum_of, product_of, power_of, comparison, Tree, Constant, Formal, Negation, Inversion, Binary, Both, Either, formal_place}
 
 -- What an operand is part of, with the tree that stands before it there.
-pub data Frame : Type 0 where
-  negation : Frame
-  inversion : Frame
-  binary : Operator → Tree → Frame
-  both : Tree → Frame
-  either : Tree → Frame
-  parentheses : Frame
+pub data OperandFrame : Type 0 where
+  negation : OperandFrame
+  inversion : OperandFrame
+  binary : Operator → Tree → OperandFrame
+  both : Tree → OperandFrame
+  either : Tree → OperandFrame
+  parentheses : OperandFrame
 
 -- how strongly an operator binds
 abbrev pub operator_strength : Operator → ℕ
@@ -21,7 +21,7 @@ operator_strength (sum_of op) = 4
 operator_strength (comparison op) = 3
 
 -- how strongly a frame holds its operand
-abbrev pub strength : Frame → ℕ
+abbrev pub strength : OperandFrame → ℕ
 strength negation = 6
 strength inversion = 6
 strength (binary op t) = operator_strength op
@@ -35,18 +35,18 @@ left_strength power_of = 7
 left_strength op = operator_strength op
 
 -- a frame with its operand
-abbrev pub whole : Frame → Tree → Tree
-whole negation t = Negation t
-whole inversion t = Inversion t
-whole (binary op u) t = Binary op u t
-whole (both u) t = Both u t
-whole (either u) t = Either u t
-whole parentheses t = t
+abbrev pub enclosed : OperandFrame → Tree → Tree
+enclosed negation t = Negation t
+enclosed inversion t = Inversion t
+enclosed (binary op u) t = Binary op u t
+enclosed (both u) t = Both u t
+enclosed (either u) t = Either u t
+enclosed parentheses t = t
 
 -- an operand with the innermost frames of at least this strength, and the frames around it
-abbrev pub reduced : ℕ → Tree → List Frame → Tree × List Frame
+abbrev pub reduced : ℕ → Tree → List OperandFrame → Tree × List OperandFrame
 reduced least t [] = (t, [])
-reduced least t (f ∷ fs) = if nat_le least (strength f) then reduced least (whole f t) fs else (t, f ∷ fs)
+reduced least t (f ∷ fs) = if nat_le least (strength f) then reduced least (enclosed f t) fs else (t, f ∷ fs)
 
 -- what may stand behind an operand
 pub data Follower : Type 0 where
@@ -74,24 +74,24 @@ follower RightParen = Some closing
 follower k = None
 
 -- Between two tokens: the operand that was read, if none is due, and the frames.
-abbrev pub Reading : Type 0
-Reading = Option Tree × List Frame
+abbrev pub ExpressionReading : Type 0
+ExpressionReading = Option Tree × List OperandFrame
 
 -- an operand without its parentheses
-abbrev pub closed : Tree → List Frame → Option Reading
-closed t (parentheses ∷ fs) = Some (Some t, fs)
-closed t fs = None
+abbrev pub without_parentheses : Tree → List OperandFrame → Option ExpressionReading
+without_parentheses t (parentheses ∷ fs) = Some (Some t, fs)
+without_parentheses t fs = None
 
 -- the reading behind a token, where an operand was read
-abbrev pub behind_operand : Option Follower → Tree → List Frame → Option Reading
+abbrev pub behind_operand : Option Follower → Tree → List OperandFrame → Option ExpressionReading
 behind_operand None t fs = None
 behind_operand (Some (operator op)) t fs = Some (None, binary op (reduced (left_strength op) t fs).0 ∷ (reduced (left_strength op) t fs).1)
 behind_operand (Some half_and) t fs = Some (None, both (reduced 2 t fs).0 ∷ (reduced 2 t fs).1)
 behind_operand (Some half_or) t fs = Some (None, either (reduced 1 t fs).0 ∷ (reduced 1 t fs).1)
-behind_operand (Some closing) t fs = closed (reduced 1 t fs).0 (reduced 1 t fs).1
+behind_operand (Some closing) t fs = without_parentheses (reduced 1 t fs).0 (reduced 1 t fs).1
 
 -- The reading behind a token, where an operand is due. The second half of && and || changes nothing.
-abbrev pub with_operand : List NameText → Kind → List Frame → Option Reading
+abbrev pub with_operand : List NameText → Kind → List OperandFrame → Option ExpressionReading
 with_operand formals (Number n) fs = Some (Some (Constant n), fs)
 with_operand formals (Name x) fs = Some (Some (Formal (formal_place formals x)), fs)
 with_operand formals LeftParen fs = Some (None, parentheses ∷ fs)
@@ -102,6 +102,6 @@ with_operand formals Bar fs = Some (None, fs)
 with_operand formals k fs = None
 
 -- the reading behind a token
-abbrev pub next_reading : List NameText → Kind → Option Tree → List Frame → Option Reading
+abbrev pub next_reading : List NameText → Kind → Option Tree → List OperandFrame → Option ExpressionReading
 next_reading formals k None fs = with_operand formals k fs
 next_reading formals k (Some t) fs = behind_operand (follower k) t fs

@@ -10,13 +10,13 @@ use Rattle.lsys_expr.specs.Expression.{Expression}
 use Rattle.lsys_expr.specs.Trees.{tree_of}
 
 -- the expression that some kinds spell
-abbrev pub spelled_by : List TokenKind → syntax.Expr
-spelled_by kinds = unwrap_or (read_expr (map kind_of kinds)) any_expr
+abbrev pub expression_spelled : List TokenKind → syntax.Expr
+expression_spelled kinds = unwrap_or (read_expr (map kind_of kinds)) any_expr
 
 -- what the kinds spell, and what the tree computes
 abbrev pub expression_of : Inside → Expression
-expression_of a = record { spelled = spelled_by a.kinds.items; tree = tree_of a.tree }
+expression_of a = record { spelled = expression_spelled a.kinds.items; tree = tree_of a.tree }
 
 -- the kinds are the tokens of the expression that they spell
-abbrev pub IsSpelled : Inside → Type 0
-IsSpelled a = syntax.expr_kinds (spelled_by a.kinds.items) ≡ map kind_of a.kinds.items
+abbrev pub SpellsExpression : Inside → Type 0
+SpellsExpression a = syntax.expr_kinds (expression_spelled a.kinds.items) ≡ map kind_of a.kinds.items

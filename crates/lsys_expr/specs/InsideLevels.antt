@@ -5,11 +5,11 @@ use Rattle.lsys_expr.specs.declared.levels.Levels.TheInside.{Inside}
 use Rattle.lsys_expr.specs.Levels.{outer_nesting}
 
 -- the innermost, and the last ones of the array
-abbrev pub levels_of : Inside → List Level
-levels_of a = a.innermost ∷ drop a.first a.outer
+abbrev pub inside_levels : Inside → List Level
+inside_levels a = a.innermost ∷ drop a.first a.outer
 
 -- the array has room for all that may be open, which is counted
-pub record AreSound (a : Inside) : Type 0 where
+pub record CountsOpen (a : Inside) : Type 0 where
   pub places : length a.outer ≡ 32
   pub within : a.first ≤ 32
   pub counted : a.open ≡ outer_nesting (drop a.first a.outer) + a.innermost.prefixes

@@ -12,14 +12,14 @@ outer_nesting [] = 0
 outer_nesting (l ∷ ls) = outer_nesting ls + l.prefixes + 1
 
 -- how many are open at it
-abbrev pub nesting : List Level → ℕ
-nesting [] = 0
-nesting (l ∷ ls) = outer_nesting ls + l.prefixes
+abbrev pub inner_nesting : List Level → ℕ
+inner_nesting [] = 0
+inner_nesting (l ∷ ls) = outer_nesting ls + l.prefixes
 
 -- with one more prefix or power
-abbrev pub deeper : List Level → List Level
-deeper [] = []
-deeper (l ∷ ls) = record { prefixes = l.prefixes + 1; compared = l.compared } ∷ ls
+abbrev pub with_prefix : List Level → List Level
+with_prefix [] = []
+with_prefix (l ∷ ls) = record { prefixes = l.prefixes + 1; compared = l.compared } ∷ ls
 
 -- with none
 abbrev pub shallow : List Level → List Level

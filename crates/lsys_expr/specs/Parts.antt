@@ -4,11 +4,11 @@ use Rattle.std.specs.Option.{option_map}
 use Rattle.lsys_syntax.specs.Tokens.{NameText, Kind}
 use Rattle.lsys_syntax.specs.Checks.{is_unknown}
 use Rattle.lsys_text.specs.declared.token_kind.Token.{Token}
-use Rattle.lsys_text.specs.Tokens.{kinds_of, name_of}
+use Rattle.lsys_text.specs.Tokens.{kind_row, name_of}
 
 -- the kinds of the tokens from one place up to another
-abbrev pub part_of : ℕ → ℕ → List Token → List Kind
-part_of from to tokens = take (to - from) (drop from (kinds_of tokens))
+abbrev pub stretch : ℕ → ℕ → List Token → List Kind
+stretch from to tokens = take (to - from) (drop from (kind_row tokens))
 
 -- the names that formals are, from their texts
 abbrev pub names_of : List (List ℕ) → List NameText

@@ -8,33 +8,33 @@ use Rattle.lsys_text.specs.declared.token_kind.TokenKind.{TokenKind}
 use Rattle.lsys_text.specs.Tokens.{kind_of, mark_kind}
 use Rattle.lsys_expr.specs.declared.frames.Frame.{Frame}
 use Rattle.lsys_expr.specs.declared.tree.Tree.{Tree}
-use Rattle.lsys_expr.specs.Frames.{Reading, strength, reduced, follower, behind_operand, with_operand, next_reading}
-use Rattle.lsys_expr.specs.InsideExpr.{spelled_by}
+use Rattle.lsys_expr.specs.Frames.{ExpressionReading, strength, reduced, follower, behind_operand, with_operand, next_reading}
+use Rattle.lsys_expr.specs.InsideExpr.{expression_spelled}
 use Rattle.lsys_expr.specs.Parts.{names_of}
-use Rattle.lsys_expr.specs.Stacks.{frame_of, frames_of, IsTaken}
+use Rattle.lsys_expr.specs.Stacks.{frame_of, frames_of, IsTakenOff}
 use Rattle.lsys_expr.specs.Trees.{tree_of}
 
 -- the tree that tokens spell, with these formals
 abbrev pub spelled_tree : List (List ℕ) → List TokenKind → meaning.Tree
-spelled_tree formals kinds = meaning.expr_tree (names_of formals) (spelled_by kinds)
+spelled_tree formals kinds = meaning.expr_tree (names_of formals) (expression_spelled kinds)
 
 -- the operand that was read, if none is due, and the frames, as the code keeps them
-abbrev pub reading_of : Option Tree → List Frame → Reading
+abbrev pub reading_of : Option Tree → List Frame → ExpressionReading
 reading_of operand frames = (option_map tree_of operand, frames_of frames)
 
 -- the reading behind a token
-abbrev pub reading_behind : List (List ℕ) → TokenKind → Option Tree → List Frame → Option Reading
+abbrev pub reading_behind : List (List ℕ) → TokenKind → Option Tree → List Frame → Option ExpressionReading
 reading_behind formals kind operand frames =
     next_reading (names_of formals) (small (kind_of kind)) (option_map tree_of operand)
     (frames_of frames)
 
 -- the reading behind a token where an operand is due
-abbrev pub operand_reading : List (List ℕ) → TokenKind → List Frame → Option Reading
+abbrev pub operand_reading : List (List ℕ) → TokenKind → List Frame → Option ExpressionReading
 operand_reading formals kind frames =
     with_operand (names_of formals) (small (kind_of kind)) (frames_of frames)
 
 -- the reading behind a token where an operand was read
-abbrev pub follower_reading : TokenKind → Tree → List Frame → Option Reading
+abbrev pub follower_reading : TokenKind → Tree → List Frame → Option ExpressionReading
 follower_reading kind operand frames =
     behind_operand (follower (small (kind_of kind))) (tree_of operand) (frames_of frames)
 
@@ -73,7 +73,7 @@ IsReduced least operand old new tree =
 -- the innermost frame was taken off, if it is at least this strong
 abbrev pub TakesStronger : ℕ → List Frame → List Frame → Option Frame → Type 0
 TakesStronger least old new taken =
-    IsTaken least (frames_of old) (frames_of new) (option_map frame_of taken)
+    IsTakenOff least (frames_of old) (frames_of new) (option_map frame_of taken)
 
 -- the frame holds its operand less strongly than this, or there is none
 abbrev pub is_weaker : ℕ → Option Frame → Bool

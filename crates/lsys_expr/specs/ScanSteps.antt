@@ -9,19 +9,19 @@ use Rattle.lsys_expr.specs.declared.scan.Awaited.TheVariants.{Operand}
 use Rattle.lsys_expr.specs.declared.scan.Outcome.{Outcome}
 use Rattle.lsys_expr.specs.declared.scan.Outcome.TheVariants.{Goes}
 use Rattle.lsys_expr.specs.declared.scan.Scan.{Scan}
-use Rattle.lsys_expr.specs.Scanning.{IsKept, IsTaken, IsEnded}
+use Rattle.lsys_expr.specs.Scanning.{IsSeenWithin, IsTokenOutcome, IsEnded}
 
 -- a token of this kind was taken
 abbrev pub TakesKind : TokenKind → Scan → Scan → Outcome → Type 0
 TakesKind kind old new outcome =
-    (s : machine.State) → IsKept old.awaited old.levels s
-    → IsTaken new.awaited new.levels outcome s (machine.step s (small (kind_of kind)))
+    (s : machine.ExpressionState) → IsSeenWithin old.awaited old.levels s
+    → IsTokenOutcome new.awaited new.levels outcome s (machine.step s (small (kind_of kind)))
 
 -- a token was taken of which this holds
 abbrev pub GoesOnWith : (Kind → Type 0) → Scan → Scan → Outcome → Type 0
 GoesOnWith IsSo old new outcome =
-    (s : machine.State) (t : Kind) → IsKept old.awaited old.levels s → IsSo t
-    → IsTaken new.awaited new.levels outcome s (machine.step s t)
+    (s : machine.ExpressionState) (t : Kind) → IsSeenWithin old.awaited old.levels s → IsSo t
+    → IsTokenOutcome new.awaited new.levels outcome s (machine.step s t)
 
 -- the scan goes on, and awaits an operand
 abbrev pub GoesToOperand : Scan → Scan → Outcome → Type 0
@@ -31,4 +31,4 @@ GoesToOperand old new outcome =
 -- an expression ends with the last token, if the answer is yes
 abbrev pub IsWholeIf : Bool → Scan → Type 0
 IsWholeIf answer scan =
-    (s : machine.State) → IsKept scan.awaited scan.levels s → IsEnded answer (machine.end_step s)
+    (s : machine.ExpressionState) → IsSeenWithin scan.awaited scan.levels s → IsEnded answer (machine.end_step s)

@@ -33,13 +33,13 @@ pub record TooDeepAt (ks : List Kind) (d : ℕ) : Type 0 where
   pub only_deep : BeginsAnyExpression (take (suc d) ks)
 
 -- what stands before the place that is answered, and what goes on with the token there
-abbrev pub IsPlaced : ℕ → List Kind → Result ℕ PlaceRefusal → Type 0
-IsPlaced from ks (Ok place) = (d : ℕ) × (place ≡ from + d) × EndsAt ks d
-IsPlaced from ks (Err (Token place)) = (d : ℕ) × (place ≡ from + d) × StopsAt ks d
-IsPlaced from ks (Err (Deep place)) = (d : ℕ) × (place ≡ from + d) × TooDeepAt ks d
+abbrev pub IsEndPlace : ℕ → List Kind → Result ℕ PlaceRefusal → Type 0
+IsEndPlace from ks (Ok place) = (d : ℕ) × (place ≡ from + d) × EndsAt ks d
+IsEndPlace from ks (Err (Token place)) = (d : ℕ) × (place ≡ from + d) × StopsAt ks d
+IsEndPlace from ks (Err (Deep place)) = (d : ℕ) × (place ≡ from + d) × TooDeepAt ks d
 
 -- the place that is answered
-abbrev pub place_of : Result ℕ PlaceRefusal → ℕ
-place_of (Ok place) = place
-place_of (Err (Token place)) = place
-place_of (Err (Deep place)) = place
+abbrev pub place_answered : Result ℕ PlaceRefusal → ℕ
+place_answered (Ok place) = place
+place_answered (Err (Token place)) = place
+place_answered (Err (Deep place)) = place

@@ -8,7 +8,7 @@ use Rattle.lsys_expr.specs.declared.frames.Follower.{Follower}
 use Rattle.lsys_expr.specs.declared.frames.Follower.TheVariants.{Operator, And, Or, Close}
 
 -- the frame that the code's frame stands for
-abbrev pub frame_of : Frame → reading.Frame
+abbrev pub frame_of : Frame → reading.OperandFrame
 frame_of Negation = reading.negation
 frame_of Inversion = reading.inversion
 frame_of (Binary op t) = reading.binary (operator_of op) (tree_of t)
@@ -17,7 +17,7 @@ frame_of (Either t) = reading.either (tree_of t)
 frame_of Parentheses = reading.parentheses
 
 -- the frames of a stack, whose last item is the innermost
-abbrev pub frames_of : List Frame → List reading.Frame
+abbrev pub frames_of : List Frame → List reading.OperandFrame
 frames_of items = reverse (map frame_of items)
 
 -- what may stand behind an operand, as the code says it
@@ -28,11 +28,11 @@ follower_of Or = reading.half_or
 follower_of Close = reading.closing
 
 -- the innermost frame holds its operand less strongly than this
-abbrev pub IsWeak : ℕ → List reading.Frame → Type 0
+abbrev pub IsWeak : ℕ → List reading.OperandFrame → Type 0
 IsWeak least [] = Unit {0}
 IsWeak least (f ∷ fs) = reading.strength f < least
 
 -- The innermost frame is taken off, if it is at least this strong.
-abbrev pub IsTaken : ℕ → List reading.Frame → List reading.Frame → Option reading.Frame → Type 0
-IsTaken least old new None = (new ≡ old) × IsWeak least old
-IsTaken least old new (Some f) = (old ≡ f ∷ new) × (least ≤ reading.strength f)
+abbrev pub IsTakenOff : ℕ → List reading.OperandFrame → List reading.OperandFrame → Option reading.OperandFrame → Type 0
+IsTakenOff least old new None = (new ≡ old) × IsWeak least old
+IsTakenOff least old new (Some f) = (old ≡ f ∷ new) × (least ≤ reading.strength f)

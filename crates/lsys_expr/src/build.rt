@@ -4,7 +4,7 @@ ghost use Rattle.lsys_syntax.specs.Checks.{is_unknown};
 ghost use Rattle.lsys_syntax.specs.ExpressionPlaces.{read_expr};
 ghost use Rattle.lsys_spec.specs.Values.{expr_tree};
 ghost use Rattle.lsys_text.specs.Tokens.{kind_of};
-ghost use Rattle.lsys_expr.specs.Parts.{names_of, part_of, unknown_in};
+ghost use Rattle.lsys_expr.specs.Parts.{names_of, stretch, unknown_in};
 ghost use Rattle.lsys_expr.specs.Trees.{tree_of};
 ghost use Rattle.lsys_expr.specs.ReadSteps.{spelled_tree, reading_behind, operand_reading, follower_reading, IsReadBehind, IsReadOperand, IsReadFollower, CanBeginFrame, BeginsFrame};
 
@@ -33,10 +33,10 @@ pub fn build_expr(
 ) -> Result<Expr, AllocError>
     requires order { from ≤ to }
     requires within { to ≤ length tokens.now }
-    requires spelled { IsSome (read_expr (part_of from to tokens.now)) }
-    requires known { unknown_in formals.now (part_of from to tokens.now) ≡ None }
+    requires spelled { IsSome (read_expr (stretch from to tokens.now)) }
+    requires known { unknown_in formals.now (stretch from to tokens.now) ≡ None }
     requires few { length formals.now ≤ 256 }
-    ensures spelled { IfOk result (λ x. read_expr (part_of from to tokens.now) ≡ Some x.spelled) }
+    ensures spelled { IfOk result (λ x. read_expr (stretch from to tokens.now) ≡ Some x.spelled) }
     ensures tree { IfOk result (λ x. x.tree ≡ expr_tree (names_of formals.now) x.spelled) }
 {
     let kinds = kinds_in(alloc, &tokens[from..to])?;

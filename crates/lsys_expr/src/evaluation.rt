@@ -1,7 +1,7 @@
 //! Values of expressions.
 ghost use Rattle.std.specs.Prelude.{◌≡◌, Some};
 ghost use Rattle.lsys_spec.specs.Values.{value, judged};
-ghost use Rattle.lsys_expr.specs.Answers.{answer_of};
+ghost use Rattle.lsys_expr.specs.Answers.{as_meant};
 ghost use Rattle.lsys_expr.specs.Trees.{tree_of};
 
 use crate::arith::Arith;
@@ -17,7 +17,7 @@ use crate::tree::Tree;
 /// The first fault that is met. Operands are evaluated from left to right, and the right side of `&&`
 /// and `||` only where the left doesn't decide.
 pub fn eval(expr: &Expr, bound: &[i64]) -> Result<i64, Arith>
-    ensures { answer_of result ≡ value expr.now.tree bound.now }
+    ensures { as_meant result ≡ value expr.now.tree bound.now }
 {
     tree_value(expr.tree(), bound)
 }
@@ -28,13 +28,13 @@ pub fn eval(expr: &Expr, bound: &[i64]) -> Result<i64, Arith>
 ///
 /// As `eval`.
 pub fn holds(expr: &Expr, bound: &[i64]) -> Result<bool, Arith>
-    ensures { answer_of result ≡ judged (Some expr.now.tree) bound.now }
+    ensures { as_meant result ≡ judged (Some expr.now.tree) bound.now }
 {
     Ok(eval(expr, bound)? != 0)
 }
 
 fn tree_value(tree: &Tree, bound: &[i64]) -> Result<i64, Arith>
-    ensures { answer_of result ≡ value (tree_of tree.now) bound.now }
+    ensures { as_meant result ≡ value (tree_of tree.now) bound.now }
 {
     match tree {
         Tree::Constant(number) => Ok(number.value()),

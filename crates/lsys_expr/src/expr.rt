@@ -3,7 +3,7 @@ ghost use Rattle.std.specs.Prelude.{◌≡◌, map};
 ghost use Rattle.lsys_syntax.specs.Expressions.{expr_kinds};
 ghost use Rattle.lsys_spec.specs.Equalities.{same_tree};
 ghost use Rattle.lsys_text.specs.Tokens.{kind_of};
-ghost use Rattle.lsys_expr.specs.InsideExpr.{spelled_by};
+ghost use Rattle.lsys_expr.specs.InsideExpr.{expression_spelled};
 ghost use Rattle.lsys_expr.specs.Trees.{tree_of};
 
 use crate::tree::Tree;
@@ -25,17 +25,17 @@ impl Model for Expr {
 
     ghost coded = { expression_code };
 
-    ghost use Rattle.lsys_expr.specs.InsideExpr.{expression_of, IsSpelled};
+    ghost use Rattle.lsys_expr.specs.InsideExpr.{expression_of, SpellsExpression};
 
     ghost view = { expression_of };
 
-    ghost invariant = { IsSpelled };
+    ghost invariant = { SpellsExpression };
 }
 
 impl Expr {
     pub(crate) fn new(kinds: Vec<TokenKind>, tree: Tree) -> Expr
-        requires { expr_kinds (spelled_by kinds.items) ≡ map kind_of kinds.items }
-        ensures spelled { result.spelled ≡ spelled_by kinds.items }
+        requires { expr_kinds (expression_spelled kinds.items) ≡ map kind_of kinds.items }
+        ensures spelled { result.spelled ≡ expression_spelled kinds.items }
         ensures tree { result.tree ≡ tree_of tree }
     {
         Expr { kinds, tree }

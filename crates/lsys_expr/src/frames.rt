@@ -2,7 +2,7 @@
 ghost use Rattle.std.specs.Prelude.{◌≡◌, ◌∷◌, ◌<◌, IfOk, IfSome, OnOk, true, drop, vec_len};
 ghost use Rattle.std.specs.Option.{option_map, option_copied};
 ghost use Rattle.lsys_text.specs.Tokens.{kind_of, mark_kind};
-ghost use Rattle.lsys_expr.specs.Frames.{follower, left_strength, operator_strength, strength, whole};
+ghost use Rattle.lsys_expr.specs.Frames.{follower, left_strength, operator_strength, strength, enclosed};
 ghost use Rattle.lsys_expr.specs.Stacks.{frame_of, frames_of, follower_of};
 ghost use Rattle.lsys_expr.specs.Trees.{operator_of, tree_of};
 ghost use Rattle.lsys_expr.specs.ReadSteps.{IsReduced, TakesStronger, is_weaker};
@@ -61,7 +61,7 @@ impl Frame {
 
     /// The whole that its operand completes.
     fn around(self, alloc: Global, operand: Tree) -> Result<Tree, AllocError>
-        ensures { IfOk result (λ tree. tree_of tree ≡ whole (frame_of self) (tree_of operand)) }
+        ensures { IfOk result (λ tree. tree_of tree ≡ enclosed (frame_of self) (tree_of operand)) }
     {
         if let Frame::Parentheses = self {
             return Ok(operand);

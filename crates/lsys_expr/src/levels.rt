@@ -1,6 +1,6 @@
 //! What is open around an operand.
 ghost use Rattle.std.specs.Prelude.{◌≡◌, ◌<◌, ◌≤◌, ◌∷◌, [], drop, true, false};
-ghost use Rattle.lsys_expr.specs.Levels.{fresh, nesting, deeper, shallow, comparing, cleared, is_compared, is_inside};
+ghost use Rattle.lsys_expr.specs.Levels.{fresh, inner_nesting, with_prefix, shallow, comparing, cleared, is_compared, is_inside};
 
 use std::marker::Model;
 
@@ -38,18 +38,18 @@ impl Model for Levels {
 
     ghost Value = { List Level };
 
-    ghost use Rattle.lsys_expr.specs.InsideLevels.{levels_of, AreSound};
+    ghost use Rattle.lsys_expr.specs.InsideLevels.{inside_levels, CountsOpen};
 
-    ghost view = { levels_of };
+    ghost view = { inside_levels };
 
-    ghost invariant = { AreSound };
+    ghost invariant = { CountsOpen };
 }
 
 impl Levels {
     /// The outermost level alone.
     pub(crate) fn new() -> Levels
         ensures levels { result ≡ fresh ∷ [] }
-        ensures within { nesting result ≤ 32 }
+        ensures within { inner_nesting result ≤ 32 }
     {
         Levels {
             innermost: Level::FRESH,
@@ -61,8 +61,8 @@ impl Levels {
 
     /// Whether no more may be opened.
     pub(crate) fn is_full(&self) -> bool
-        ensures full { result ≡ true → nesting self.now ≡ 32 }
-        ensures room { result ≡ false → nesting self.now < 32 }
+        ensures full { result ≡ true → inner_nesting self.now ≡ 32 }
+        ensures room { result ≡ false → inner_nesting self.now < 32 }
     {
         self.open == MOST_OPEN
     }
@@ -76,9 +76,9 @@ impl Levels {
 
     /// Opens a parenthesis.
     pub(crate) fn open_parenthesis(&mut self)
-        requires { nesting self.old < 32 }
+        requires { inner_nesting self.old < 32 }
         ensures levels { self.new ≡ fresh ∷ self.old }
-        ensures within { nesting self.new ≤ 32 }
+        ensures within { inner_nesting self.new ≤ 32 }
     {
         self.first -= 1;
         self.outer[self.first] = self.innermost;
@@ -90,7 +90,7 @@ impl Levels {
     pub(crate) fn close_parenthesis(&mut self)
         requires { is_inside self.old ≡ true }
         ensures levels { self.new ≡ drop 1 self.old }
-        ensures within { nesting self.new ≤ 32 }
+        ensures within { inner_nesting self.new ≤ 32 }
     {
         self.open -= self.innermost.prefixes + 1;
         self.innermost = self.outer[self.first];
@@ -99,9 +99,9 @@ impl Levels {
 
     /// Opens a prefix or a power.
     pub(crate) fn open_prefix(&mut self)
-        requires { nesting self.old < 32 }
-        ensures levels { self.new ≡ deeper self.old }
-        ensures within { nesting self.new ≤ 32 }
+        requires { inner_nesting self.old < 32 }
+        ensures levels { self.new ≡ with_prefix self.old }
+        ensures within { inner_nesting self.new ≤ 32 }
     {
         self.innermost.prefixes += 1;
         self.open += 1;
@@ -110,7 +110,7 @@ impl Levels {
     /// Ends the prefixes and powers of the innermost level.
     pub(crate) fn end_prefixes(&mut self)
         ensures levels { self.new ≡ shallow self.old }
-        ensures within { nesting self.new ≤ 32 }
+        ensures within { inner_nesting self.new ≤ 32 }
     {
         self.open -= self.innermost.prefixes;
         self.innermost.prefixes = 0;
@@ -126,7 +126,7 @@ impl Levels {
     /// Ends the prefixes and powers of the innermost level, at a comparison.
     pub(crate) fn compare(&mut self)
         ensures levels { self.new ≡ comparing self.old }
-        ensures within { nesting self.new ≤ 32 }
+        ensures within { inner_nesting self.new ≤ 32 }
     {
         self.end_prefixes();
         self.innermost.compared = true;
@@ -135,7 +135,7 @@ impl Levels {
     /// Ends what was read at the innermost level, at `&&` or `||`.
     pub(crate) fn clear(&mut self)
         ensures levels { self.new ≡ cleared self.old }
-        ensures within { nesting self.new ≤ 32 }
+        ensures within { inner_nesting self.new ≤ 32 }
     {
         self.end_prefixes();
         self.innermost.compared = false;

@@ -4,7 +4,7 @@ ghost use Rattle.lsys_syntax.specs.Checks.{is_formal, is_unknown};
 ghost use Rattle.lsys_syntax.specs.Pieces.{name_text};
 ghost use Rattle.lsys_spec.specs.Values.{formal_place};
 ghost use Rattle.lsys_text.specs.Tokens.{kind_of, name_of};
-ghost use Rattle.lsys_expr.specs.Parts.{counted_from, names_of, part_of, unknown_in};
+ghost use Rattle.lsys_expr.specs.Parts.{counted_from, names_of, stretch, unknown_in};
 
 use lsys_text::{Name, Token, TokenKind};
 
@@ -12,7 +12,7 @@ use lsys_text::{Name, Token, TokenKind};
 pub fn check_names(tokens: &[Token], from: usize, to: usize, formals: &[Name]) -> Option<usize>
     requires order { from ≤ to }
     requires within { to ≤ length tokens.now }
-    ensures { result ≡ counted_from from (unknown_in formals.now (part_of from to tokens.now)) }
+    ensures { result ≡ counted_from from (unknown_in formals.now (stretch from to tokens.now)) }
 {
     let place = tokens[from..to]
         .iter()

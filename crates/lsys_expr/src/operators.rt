@@ -4,7 +4,7 @@ ghost use Rattle.std.specs.Int.{int_pow};
 ghost use Rattle.lsys_syntax.specs.Expressions.{add, subtract, multiply, divide, remainder, equal, unequal, less, at_most, greater, at_least};
 ghost use Rattle.lsys_spec.specs.Values.{applied, exact, power, power_of, product_of, sum_of, comparison, relates, truth, is_zero, int_same};
 ghost use Rattle.lsys_spec.specs.Equalities.{same_operator};
-ghost use Rattle.lsys_expr.specs.Answers.{answer_of};
+ghost use Rattle.lsys_expr.specs.Answers.{as_meant};
 ghost use Rattle.lsys_expr.specs.Trees.{operator_of};
 
 use crate::arith::Arith;
@@ -36,7 +36,7 @@ impl Operator {
 
     /// The operator's result on two values, or its fault.
     pub(crate) fn apply(self, x: i64, y: i64) -> Result<i64, Arith>
-        ensures { answer_of result ≡ applied (operator_of self) x y }
+        ensures { as_meant result ≡ applied (operator_of self) x y }
     {
         match self {
             Operator::Add => x.checked_add(y).ok_or(Arith::Overflow),
@@ -69,7 +69,7 @@ fn equals(x: i64, y: i64) -> bool
 }
 
 fn quotient(x: i64, y: i64) -> Result<i64, Arith>
-    ensures { answer_of result ≡ applied (product_of divide) x y }
+    ensures { as_meant result ≡ applied (product_of divide) x y }
 {
     if y == 0 {
         return Err(Arith::DivideByZero);
@@ -78,7 +78,7 @@ fn quotient(x: i64, y: i64) -> Result<i64, Arith>
 }
 
 fn remainder(x: i64, y: i64) -> Result<i64, Arith>
-    ensures { answer_of result ≡ applied (product_of remainder) x y }
+    ensures { as_meant result ≡ applied (product_of remainder) x y }
 {
     if y == 0 {
         return Err(Arith::DivideByZero);
@@ -87,7 +87,7 @@ fn remainder(x: i64, y: i64) -> Result<i64, Arith>
 }
 
 fn raised(x: i64, y: i64) -> Result<i64, Arith>
-    ensures { answer_of result ≡ power x y }
+    ensures { as_meant result ≡ power x y }
 {
     if y < 0 {
         return Err(Arith::NegativePower);
@@ -101,7 +101,7 @@ fn raised(x: i64, y: i64) -> Result<i64, Arith>
 // From 64 on, the powers of 0, 1 and -1 alone fit.
 fn raised_high(x: i64, y: i64) -> Result<i64, Arith>
     requires { pos 64 ≤ℤ y }
-    ensures { answer_of result ≡ power x y }
+    ensures { as_meant result ≡ power x y }
 {
     if x == 0 || x == 1 {
         return Ok(x);

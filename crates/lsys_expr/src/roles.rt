@@ -2,7 +2,7 @@
 ghost use Rattle.std.specs.Prelude.{◌≡◌};
 ghost use Rattle.lsys_syntax.specs.RuleMachine.{small};
 ghost use Rattle.lsys_text.specs.Tokens.{kind_of, mark_kind};
-ghost use Rattle.lsys_expr.specs.Roles.{Begins, Follows};
+ghost use Rattle.lsys_expr.specs.Roles.{BeginsAs, FollowsAs};
 
 use lsys_text::TokenKind;
 
@@ -36,7 +36,7 @@ pub(crate) enum Follow {
 
 /// What a token is where an operand is due.
 pub(crate) fn begin_of(kind: TokenKind) -> Begin
-    ensures { Begins result (small (kind_of kind)) }
+    ensures { BeginsAs result (small (kind_of kind)) }
 {
     match kind {
         TokenKind::Name(_) => Begin::Whole,
@@ -47,7 +47,7 @@ pub(crate) fn begin_of(kind: TokenKind) -> Begin
 }
 
 fn mark_begin(byte: u8) -> Begin
-    ensures { Begins result (mark_kind byte) }
+    ensures { BeginsAs result (mark_kind byte) }
 {
     match byte {
         b'(' => Begin::Parenthesis,
@@ -58,7 +58,7 @@ fn mark_begin(byte: u8) -> Begin
 
 /// What a token does behind an operand.
 pub(crate) fn follow_of(kind: TokenKind) -> Follow
-    ensures { Follows result (small (kind_of kind)) }
+    ensures { FollowsAs result (small (kind_of kind)) }
 {
     match kind {
         TokenKind::Equal | TokenKind::Unequal | TokenKind::AtMost | TokenKind::AtLeast => {
@@ -70,7 +70,7 @@ pub(crate) fn follow_of(kind: TokenKind) -> Follow
 }
 
 fn mark_follow(byte: u8) -> Follow
-    ensures { Follows result (mark_kind byte) }
+    ensures { FollowsAs result (mark_kind byte) }
 {
     match byte {
         b'^' => Follow::Power,

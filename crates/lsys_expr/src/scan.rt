@@ -3,11 +3,11 @@ ghost use Rattle.std.specs.Prelude.{◌≡◌, ◌≤◌, length, drop, true, fa
 ghost use Rattle.lsys_syntax.specs.ExpressionMachine as machine;
 ghost use Rattle.lsys_syntax.specs.ExpressionPlaces.{extent};
 ghost use Rattle.lsys_syntax.specs.Sentences.{AreTokens};
-ghost use Rattle.lsys_text.specs.Tokens.{kinds_of};
+ghost use Rattle.lsys_text.specs.Tokens.{kind_row};
 ghost use Rattle.lsys_expr.specs.Levels.{is_inside};
-ghost use Rattle.lsys_expr.specs.Roles.{Begins, Follows};
-ghost use Rattle.lsys_expr.specs.Scanning.{IsKept, IsOpened};
-ghost use Rattle.lsys_expr.specs.Scanned.{IsExtent, IsPlaced, place_of};
+ghost use Rattle.lsys_expr.specs.Roles.{BeginsAs, FollowsAs};
+ghost use Rattle.lsys_expr.specs.Scanning.{IsSeenWithin, IsOpened};
+ghost use Rattle.lsys_expr.specs.Scanned.{IsExtent, IsEndPlace, place_answered};
 ghost use Rattle.lsys_expr.specs.ScanSteps.{TakesKind, GoesOnWith, GoesToOperand, IsWholeIf};
 
 use crate::levels::Levels;
@@ -23,12 +23,12 @@ use lsys_text::{PlaceRefusal, Token, TokenKind};
 /// `Token` with this place where these tokens are no expression. `Deep` with it where an expression
 /// of a greater nesting goes on with the token there.
 pub fn scan_expr(tokens: &[Token], from: usize) -> Result<usize, PlaceRefusal>
-    requires forms { AreTokens (kinds_of tokens.now) }
+    requires forms { AreTokens (kind_row tokens.now) }
     requires within { from ≤ length tokens.now }
-    ensures extent { IsExtent from (extent (drop from (kinds_of tokens.now))) result }
-    ensures place { IsPlaced from (drop from (kinds_of tokens.now)) result }
-    ensures from { from ≤ place_of result }
-    ensures end { place_of result ≤ length tokens.now }
+    ensures extent { IsExtent from (extent (drop from (kind_row tokens.now))) result }
+    ensures place { IsEndPlace from (drop from (kind_row tokens.now)) result }
+    ensures from { from ≤ place_answered result }
+    ensures end { place_answered result ≤ length tokens.now }
 {
     let mut scan = Scan::new();
     for (ahead, token) in tokens[from..].iter().enumerate() {
@@ -83,7 +83,7 @@ pub(crate) struct Scan {
 
 impl Scan {
     fn new() -> Scan
-        ensures { IsKept result.awaited result.levels (machine.start_expr machine.no_parens) }
+        ensures { IsSeenWithin result.awaited result.levels (machine.start_expr machine.no_parens) }
     {
         Scan {
             awaited: Awaited::Operand,
@@ -106,7 +106,7 @@ impl Scan {
     // Goes on where an operand is due.
     fn begin(&mut self, begin: Begin) -> Outcome
         requires { self.old.awaited ≡ Awaited.Operand }
-        ensures { GoesOnWith (Begins begin) self.old self.new result }
+        ensures { GoesOnWith (BeginsAs begin) self.old self.new result }
     {
         match begin {
             Begin::Whole => {
@@ -126,7 +126,7 @@ impl Scan {
     // Goes on behind an operand.
     fn follow(&mut self, follow: Follow) -> Outcome
         requires { self.old.awaited ≡ Awaited.Operator }
-        ensures { GoesOnWith (Follows follow) self.old self.new result }
+        ensures { GoesOnWith (FollowsAs follow) self.old self.new result }
     {
         match follow {
             Follow::Power => self.open_prefix(),

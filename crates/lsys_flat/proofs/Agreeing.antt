@@ -2,7 +2,7 @@
 use Rattle.std.proofs.Common.{◌≡◌, ℕ, zero, suc, ◌+◌, ◌≤◌, Bool, true, false, Option, Some, None, List, [], ◌∷◌, ◌++◌, get_or, refl, sym, ap, ◌∙◌, subst, arith, inl, inr, ◌⊎◌}
 use Rattle.std.specs.Prelude.{slice_get}
 use Rattle.lsys_spec.specs.Systems.{Each}
-use Rattle.lsys_spec.specs.Levels.{Symbol, lineage}
+use Rattle.lsys_spec.specs.Levels.{LevelSymbol, lineage}
 use Rattle.lsys_spec.specs.Standings.{place_of}
 use Rattle.lsys_spec.specs.Cuts.{Distinct, WithAll}
 use Rattle.lsys_laws.specs.KeptQuestions.{places_in}
@@ -123,14 +123,14 @@ old_all old marks from h u ds c =
 
 -- 2. the levels of an edit are a chain
 
-pub in_tagged : (t : ℕ) (x : List Symbol) (ks : List ℕ) (j : ℕ) (s : Symbol) (k : ℕ) → slice_get x j ≡ Some s → slice_get ks j ≡ Some k → In (record { level = t; line = lineage s; tag = k }) (tagged t x ks)
+pub in_tagged : (t : ℕ) (x : List LevelSymbol) (ks : List ℕ) (j : ℕ) (s : LevelSymbol) (k : ℕ) → slice_get x j ≡ Some s → slice_get ks j ≡ Some k → In (record { level = t; line = lineage s; tag = k }) (tagged t x ks)
 in_tagged t [] ks j s k g e = cc
 in_tagged t (u ∷ x) [] j s k g e = cc
 in_tagged t (u ∷ x) (m ∷ ks) zero s k g e =
     let a : u ≡ s = cc in let b : m ≡ k = cc in inl (λ i. record { level = t; line = lineage (a i); tag = b i })
 in_tagged t (u ∷ x) (m ∷ ks) (suc j) s k g e = inr (in_tagged t x ks j s k g e)
 
-pub in_old : (xs : List (List Symbol)) (kss : List (List ℕ)) (n i t j : ℕ) (s : Symbol) (k : ℕ) → n + i ≡ t → slice_get (get_or xs i []) j ≡ Some s → slice_get (get_or kss i []) j ≡ Some k
+pub in_old : (xs : List (List LevelSymbol)) (kss : List (List ℕ)) (n i t j : ℕ) (s : LevelSymbol) (k : ℕ) → n + i ≡ t → slice_get (get_or xs i []) j ≡ Some s → slice_get (get_or kss i []) j ≡ Some k
     → In (record { level = t; line = lineage s; tag = k }) (all_tagged n xs kss)
 in_old [] kss n i t j s k e g f = cc
 in_old (x ∷ xs) [] n i t j s k e g f = cc
@@ -140,13 +140,13 @@ in_old (x ∷ xs) (ks ∷ kss) n zero t j s k e g f =
 in_old (x ∷ xs) (ks ∷ kss) n (suc i) t j s k e g f =
     in_append _ (tagged n x ks) (all_tagged (n + 1) xs kss) (inr (in_old xs kss (n + 1) i t j s k (omega (arith, e)) g f))
 
-tagged_in : (t : ℕ) (x : List Symbol) (ks : List ℕ) (o : Tagged) → In o (tagged t x ks) → (o.level ≡ t) × (j : ℕ) × (s : Symbol) × (slice_get x j ≡ Some s) × (lineage s ≡ o.line)
+tagged_in : (t : ℕ) (x : List LevelSymbol) (ks : List ℕ) (o : Tagged) → In o (tagged t x ks) → (o.level ≡ t) × (j : ℕ) × (s : LevelSymbol) × (slice_get x j ≡ Some s) × (lineage s ≡ o.line)
 tagged_in t [] ks o i = absurd i
 tagged_in t (u ∷ x) [] o i = absurd i
 tagged_in t (u ∷ x) (m ∷ ks) o (inl e) = (sym (ap (λ o. o.level) e), 0, u, refl, ap (λ o. o.line) e)
 tagged_in t (u ∷ x) (m ∷ ks) o (inr i) = let r = tagged_in t x ks o i in (r.0, suc r.1, r.2, r.3, r.4)
 
-from_level : (n : ℕ) (xs : List (List Symbol)) (kss : List (List ℕ)) (o : Tagged) → In o (all_tagged n xs kss) → n ≤ o.level
+from_level : (n : ℕ) (xs : List (List LevelSymbol)) (kss : List (List ℕ)) (o : Tagged) → In o (all_tagged n xs kss) → n ≤ o.level
 from_level n [] kss o i = absurd i
 from_level n (x ∷ xs) [] o i = absurd i
 from_level n (x ∷ xs) (ks ∷ kss) o i = by (λ k. from_level (n + 1) xs kss o k) (append_in o (tagged n x ks) (all_tagged (n + 1) xs kss) i)
@@ -155,33 +155,33 @@ from_level n (x ∷ xs) (ks ∷ kss) o i = by (λ k. from_level (n + 1) xs kss o
     by more (inl k) = let r = tagged_in n x ks o k in omega (arith, r.0)
     by more (inr k) = omega (arith, more k)
 
-stands_in : (xs : List (List Symbol)) (kss : List (List ℕ)) (n i : ℕ) (o : Tagged) → In o (all_tagged n xs kss) → n + i ≡ o.level → (j : ℕ) × (s : Symbol) × (slice_get (get_or xs i []) j ≡ Some s) × (lineage s ≡ o.line)
+stands_in : (xs : List (List LevelSymbol)) (kss : List (List ℕ)) (n i : ℕ) (o : Tagged) → In o (all_tagged n xs kss) → n + i ≡ o.level → (j : ℕ) × (s : LevelSymbol) × (slice_get (get_or xs i []) j ≡ Some s) × (lineage s ≡ o.line)
 stands_in [] kss n i o h e = absurd h
 stands_in (x ∷ xs) [] n i o h e = absurd h
 stands_in (x ∷ xs) (ks ∷ kss) n zero o h e = by (append_in o (tagged n x ks) (all_tagged (n + 1) xs kss) h)
   where
-    by : In o (tagged n x ks) ⊎ In o (all_tagged (n + 1) xs kss) → (j : ℕ) × (s : Symbol) × (slice_get x j ≡ Some s) × (lineage s ≡ o.line)
+    by : In o (tagged n x ks) ⊎ In o (all_tagged (n + 1) xs kss) → (j : ℕ) × (s : LevelSymbol) × (slice_get x j ≡ Some s) × (lineage s ≡ o.line)
     by (inl k) = let r = tagged_in n x ks o k in (r.1, r.2, r.3, r.4)
     by (inr k) = absurd (let l = from_level (n + 1) xs kss o k in omega (arith, l, e))
 stands_in (x ∷ xs) (ks ∷ kss) n (suc i) o h e = by (λ k. stands_in xs kss (n + 1) i o k (omega (arith, e))) (append_in o (tagged n x ks) (all_tagged (n + 1) xs kss) h)
   where
-    by : (In o (all_tagged (n + 1) xs kss) → (j : ℕ) × (s : Symbol) × (slice_get (get_or xs i []) j ≡ Some s) × (lineage s ≡ o.line)) → In o (tagged n x ks) ⊎ In o (all_tagged (n + 1) xs kss)
-        → (j : ℕ) × (s : Symbol) × (slice_get (get_or xs i []) j ≡ Some s) × (lineage s ≡ o.line)
+    by : (In o (all_tagged (n + 1) xs kss) → (j : ℕ) × (s : LevelSymbol) × (slice_get (get_or xs i []) j ≡ Some s) × (lineage s ≡ o.line)) → In o (tagged n x ks) ⊎ In o (all_tagged (n + 1) xs kss)
+        → (j : ℕ) × (s : LevelSymbol) × (slice_get (get_or xs i []) j ≡ Some s) × (lineage s ≡ o.line)
     by more (inl k) = absurd (let r = tagged_in n x ks o k in omega (arith, r.0, e))
     by more (inr k) = more k
 
-pub distinct_at : (xs : List (List Symbol)) (t : ℕ) → Each Distinct xs → Distinct (get_or xs t [])
+pub distinct_at : (xs : List (List LevelSymbol)) (t : ℕ) → Each Distinct xs → Distinct (get_or xs t [])
 distinct_at [] t h = tt
 distinct_at (x ∷ xs) zero h = h.0
 distinct_at (x ∷ xs) (suc t) h = distinct_at xs t h.1
 
 -- a symbol is apart from those behind it
-apart_level : (t : ℕ) (a : List ℕ) (k : ℕ) (y : List Symbol) (ks : List ℕ) → WithAll Unlike a y → Each (λ e. Same (record { level = t; line = a; tag = k }) e → ⊥) (tagged t y ks)
+apart_level : (t : ℕ) (a : List ℕ) (k : ℕ) (y : List LevelSymbol) (ks : List ℕ) → WithAll Unlike a y → Each (λ e. Same (record { level = t; line = a; tag = k }) e → ⊥) (tagged t y ks)
 apart_level t a k [] ks h = tt
 apart_level t a k (s ∷ y) [] h = tt
 apart_level t a k (s ∷ y) (m ∷ ks) h = (λ e. h.0 e.1, apart_level t a k y ks h.1)
 
-chain_level : (xs : List (List Symbol)) (olds : List (List ℕ)) (marks : List Bool) → Each Distinct xs → (t from : ℕ) (y : List Symbol) (ks : List ℕ) (to : ℕ) → Distinct y
+chain_level : (xs : List (List LevelSymbol)) (olds : List (List ℕ)) (marks : List Bool) → Each Distinct xs → (t from : ℕ) (y : List LevelSymbol) (ks : List ℕ) (to : ℕ) → Distinct y
     → AreNamed (get_or olds t []) marks (places_in (get_or xs t []) y) from ks to → (rest : List Tagged) → Each (λ e. t + 1 ≤ e.level) rest → Chain (all_tagged 0 xs olds) marks to rest
     → Chain (all_tagged 0 xs olds) marks from (tagged t y ks ++ rest)
 chain_level xs olds marks r t from [] [] to h n rest l c = subst (λ n. Chain (all_tagged 0 xs olds) marks n rest) (sym n) c
@@ -223,7 +223,7 @@ chain_level xs olds marks r t from (s ∷ y) (k ∷ ks) to h n rest l c = by (λ
         let u = place_told (lineage s) (get_or xs t []) j e in
         (apart, inl ((record { level = t; line = lineage u.0; tag = k }, in_old xs olds 0 t t j u.0 k (omega arith) u.1 n.0, (refl, u.2), refl), more from n.1))
 
-pub all_chained : (xs : List (List Symbol)) (olds : List (List ℕ)) (marks : List Bool) → Each Distinct xs → (t from : ℕ) (ys : List (List Symbol)) (kss : List (List ℕ)) → Each Distinct ys
+pub all_chained : (xs : List (List LevelSymbol)) (olds : List (List ℕ)) (marks : List Bool) → Each Distinct xs → (t from : ℕ) (ys : List (List LevelSymbol)) (kss : List (List ℕ)) → Each Distinct ys
     → AllNamed xs olds marks t from ys kss → Chain (all_tagged 0 xs olds) marks from (all_tagged t ys kss)
 all_chained xs olds marks r t from [] kss h n = tt
 all_chained xs olds marks r t from (y ∷ ys) [] h n = tt

@@ -2,23 +2,23 @@
 use Rattle.std.proofs.Common.{◌≡◌, ℕ, Option, Some, None, List, refl, sym, ap, ◌∙◌}
 use Rattle.std.specs.Prelude.{slice_get, option_map}
 use Rattle.std.proofs.lemmas.Option.{slice_get-map}
-use Rattle.lsys_spec.specs.Levels.{Symbol, lineage}
+use Rattle.lsys_spec.specs.Levels.{LevelSymbol, lineage}
 use Rattle.lsys_spec.specs.Standings.{place_of}
 use Rattle.lsys_spec.specs.Cuts.{Distinct}
 use Rattle.lsys_spec.proofs.Rising.{distinct_apart}
 use Rattle.lsys_spec.proofs.Standings.{place_told}
 use Rattle.lsys_laws.specs.KeptQuestions.{places_in}
-use Rattle.lsys_flat.specs.Moves.{AreApart, AreOfMates}
+use Rattle.lsys_flat.specs.Moves.{AreTakenOnce, AreOfMates}
 
 -- the symbol that has its mate at a place
-mated : (x y : List Symbol) (p j : ℕ) → slice_get (places_in x y) p ≡ Some (Some j) → (s : Symbol) × (slice_get y p ≡ Some s) × (place_of (lineage s) x ≡ Some j)
+mated : (x y : List LevelSymbol) (p j : ℕ) → slice_get (places_in x y) p ≡ Some (Some j) → (s : LevelSymbol) × (slice_get y p ≡ Some s) × (place_of (lineage s) x ≡ Some j)
 mated x y p j g = by (slice_get y p) refl (sym (slice_get-map (λ s. place_of (lineage s) x) y p) ∙ g)
   where
-    by : (o : Option Symbol) → slice_get y p ≡ o → option_map (λ s. place_of (lineage s) x) (slice_get y p) ≡ Some (Some j) → (s : Symbol) × (slice_get y p ≡ Some s) × (place_of (lineage s) x ≡ Some j)
+    by : (o : Option LevelSymbol) → slice_get y p ≡ o → option_map (λ s. place_of (lineage s) x) (slice_get y p) ≡ Some (Some j) → (s : LevelSymbol) × (slice_get y p ≡ Some s) × (place_of (lineage s) x ≡ Some j)
     by None e h = let no : None ≡ Some (Some j) = sym (ap (option_map (λ s. place_of (lineage s) x)) e) ∙ h in cc
     by (Some s) e h = let same : Some (place_of (lineage s) x) ≡ Some (Some j) = sym (ap (option_map (λ s. place_of (lineage s) x)) e) ∙ h in (s, e, cc)
 
-pub mates_apart : (x y : List Symbol) (places : List (Option ℕ)) → Distinct y → AreOfMates (places_in x y) places → AreApart places
+pub mates_apart : (x y : List LevelSymbol) (places : List (Option ℕ)) → Distinct y → AreOfMates (places_in x y) places → AreTakenOnce places
 mates_apart x y places r m p q j f g =
     let a = mated x y p j (m p j f) in
     let b = mated x y q j (m q j g) in

@@ -4,22 +4,22 @@ use Rattle.std.specs.Prelude.{slice_get}
 use Rattle.lsys_syntax.specs.Commands.{Numbering}
 use Rattle.lsys_spec.specs.Systems.{System}
 use Rattle.lsys_spec.specs.Values.{◌and_then◌}
-use Rattle.lsys_spec.specs.Levels.{Symbol}
+use Rattle.lsys_spec.specs.Levels.{LevelSymbol}
 use Rattle.lsys_spec.specs.Cuts.{Raw}
 use Rattle.lsys_spec.specs.Meaning.{LevelRefusal, children_from}
 use Rattle.lsys_level.specs.Spots.{Spotted}
 use Rattle.lsys_walks.specs.Stores.{Store}
 use Rattle.lsys_match.specs.TagQuestions.{TagAnswer}
 use Rattle.lsys_flat.specs.Grown.{IsGrown, nothing_grown}
-use Rattle.lsys_flat.specs.Steps.{AreReplaced}
-use Rattle.lsys_flat.specs.Rounds.{AreNew, AskedTo, IsAt, Rounded, nothing_asked}
+use Rattle.lsys_flat.specs.Steps.{ReplacedTo}
+use Rattle.lsys_flat.specs.Rounds.{AreNew, AskedTo, IsAt, Rounded, nothing_asked, inquiry}
 use Rattle.lsys_flat.proofs.News.{all_stay}
 
 nothing_before : {E : Type 0} (r : Result (List Raw) E) → (r and_then λ more. Ok ([] ++ more)) ≡ r
 nothing_before (Ok raw) = refl
 nothing_before (Err e) = refl
 
-pub none_grown : (seed : ℕ) (x : List Symbol) (room : ℕ) → IsGrown seed x [] (nothing_grown room)
+pub none_grown : (seed : ℕ) (x : List LevelSymbol) (room : ℕ) → IsGrown seed x [] (nothing_grown room)
 none_grown seed x room = record {
   holds = λ e. record { cutting = refl; symbols = record { string = refl; children = tt; keys = refl }; within = omega arith };
   over = λ e. cc;
@@ -36,7 +36,7 @@ none_new s = record {
 pub none_at : (g : Numbering) (room : ℕ) → IsAt 0 (nothing_asked g room)
 none_at g room = record { each_fresh = refl; each_taken = refl; parents = refl; modules = omega arith; questions = refl; few = omega arith }
 
-pub none_asked : (s : System) (t : ℕ) (row : List Spotted) (x : List Symbol) (olds : List (Option TagAnswer)) (mates : List (Option ℕ)) (store : Store) (room v : ℕ) → AskedTo s t row x olds mates store (nothing_asked s.numbering room) v v 0
+pub none_asked : (s : System) (t : ℕ) (row : List Spotted) (x : List LevelSymbol) (olds : List (Option TagAnswer)) (mates : List (Option ℕ)) (store : Store) (room v : ℕ) → AskedTo (inquiry s t row x olds mates) store (nothing_asked s.numbering room) v v 0
 none_asked s t row x olds mates store room v = record {
   raw = [];
   replaced = record { told = nothing_before (children_from s t x 0 0 x) };

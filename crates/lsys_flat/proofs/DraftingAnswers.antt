@@ -5,9 +5,9 @@ use Rattle.lsys_walks.specs.Stores.{Store}
 use Rattle.lsys_match.specs.Kept.{Kept}
 use Rattle.lsys_match.specs.KeptAnswers.{HoldOwnRuns}
 use Rattle.lsys_match.specs.Asks.{IsMade}
-use Rattle.lsys_flat.specs.Slots.{slot_at}
+use Rattle.lsys_flat.specs.Slots.{slot_by_place}
 use Rattle.lsys_flat.specs.Counted.{slots_in, all_slots_in}
-use Rattle.lsys_flat.specs.Answers.{AreMade, answer_at, level_of}
+use Rattle.lsys_flat.specs.Answers.{AreMadeWith, answer_on_level, at_level}
 use Rattle.lsys_flat.specs.Rounds.{AreMadeAt, AreNew, StayMade}
 use Rattle.lsys_flat.proofs.News.{all_stay, stay_then, told_still}
 use Rattle.lsys_flat.specs.Drafts.{AreAllNew}
@@ -20,13 +20,13 @@ set_level (x ∷ fresh) f zero e = absurd (omega (arith, e))
 set_level (x ∷ fresh) f (suc t) e = ap (λ xs. x ∷ xs) (set_level fresh f t (omega (arith, e)))
 
 -- an answer of the levels is one of those before, or one of the last
-where_at : (fresh : List (List (Option Kept))) (f : List (Option Kept)) (t p : ℕ) (a : Kept) → answer_at (fresh ++ f ∷ []) t p ≡ Some a → ((t < length fresh) × (answer_at fresh t p ≡ Some a)) ⊎ ((t ≡ length fresh) × (slot_at f p ≡ Some a))
+where_at : (fresh : List (List (Option Kept))) (f : List (Option Kept)) (t p : ℕ) (a : Kept) → answer_on_level (fresh ++ f ∷ []) t p ≡ Some a → ((t < length fresh) × (answer_on_level fresh t p ≡ Some a)) ⊎ ((t ≡ length fresh) × (slot_by_place f p ≡ Some a))
 where_at [] f zero p a h = inr (refl, h)
 where_at [] f (suc t) p a h = cc
 where_at (x ∷ fresh) f zero p a h = inl (omega arith, h)
 where_at (x ∷ fresh) f (suc t) p a h = by (where_at fresh f t p a h)
   where
-    by : ((t < length fresh) × (answer_at fresh t p ≡ Some a)) ⊎ ((t ≡ length fresh) × (slot_at f p ≡ Some a)) → ((suc t < length (x ∷ fresh)) × (answer_at (x ∷ fresh) (suc t) p ≡ Some a)) ⊎ ((suc t ≡ length (x ∷ fresh)) × (slot_at f p ≡ Some a))
+    by : ((t < length fresh) × (answer_on_level fresh t p ≡ Some a)) ⊎ ((t ≡ length fresh) × (slot_by_place f p ≡ Some a)) → ((suc t < length (x ∷ fresh)) × (answer_on_level (x ∷ fresh) (suc t) p ≡ Some a)) ⊎ ((suc t ≡ length (x ∷ fresh)) × (slot_by_place f p ≡ Some a))
     by (inl g) = inl (omega (arith, g.0), g.1)
     by (inr g) = inr (ap suc g.0, g.1)
 
@@ -51,29 +51,29 @@ more_new begin mid after fresh f h g = record {
   stay = stay_then begin mid after h.stay g.stay;
 }
   where
-    made : (t p : ℕ) (a : Kept) → ((t < length fresh) × (answer_at fresh t p ≡ Some a)) ⊎ ((t ≡ length fresh) × (slot_at f p ≡ Some a)) → IsMade after a
+    made : (t p : ℕ) (a : Kept) → ((t < length fresh) × (answer_on_level fresh t p ≡ Some a)) ⊎ ((t ≡ length fresh) × (slot_by_place f p ≡ Some a)) → IsMade after a
     made t p a (inl w) = (g.stay.each a (h.made.each t p a w.1)).made
     made t p a (inr w) = g.made.each p a w.1
 
-    own : (t p u q : ℕ) (a b : Kept) → ((t < length fresh) × (answer_at fresh t p ≡ Some a)) ⊎ ((t ≡ length fresh) × (slot_at f p ≡ Some a)) → ((u < length fresh) × (answer_at fresh u q ≡ Some b)) ⊎ ((u ≡ length fresh) × (slot_at f q ≡ Some b))
+    own : (t p u q : ℕ) (a b : Kept) → ((t < length fresh) × (answer_on_level fresh t p ≡ Some a)) ⊎ ((t ≡ length fresh) × (slot_by_place f p ≡ Some a)) → ((u < length fresh) × (answer_on_level fresh u q ≡ Some b)) ⊎ ((u ≡ length fresh) × (slot_by_place f q ≡ Some b))
         → (t ≡ u → p ≡ q → ⊥) → HoldOwnRuns a b
     own t p u q a b (inl v) (inl w) n = h.own.each t p u q a b v.1 w.1 n
     own t p u q a b (inl v) (inr w) n = own_sym b a (g.beside q b a w.1 (h.made.each t p a v.1))
     own t p u q a b (inr v) (inl w) n = g.beside p a b v.1 (h.made.each u q b w.1)
     own t p u q a b (inr v) (inr w) n = g.own p q a b v.1 w.1 (λ e. n (v.0 ∙ sym w.0) e)
 
-    beside : (t p : ℕ) (a b : Kept) → ((t < length fresh) × (answer_at fresh t p ≡ Some a)) ⊎ ((t ≡ length fresh) × (slot_at f p ≡ Some a)) → IsMade begin b → HoldOwnRuns a b
+    beside : (t p : ℕ) (a b : Kept) → ((t < length fresh) × (answer_on_level fresh t p ≡ Some a)) ⊎ ((t ≡ length fresh) × (slot_by_place f p ≡ Some a)) → IsMade begin b → HoldOwnRuns a b
     beside t p a b (inl w) m = h.beside t p a b w.1 m
     beside t p a b (inr w) m = g.beside p a b w.1 (h.stay.each b m).made
 
 -- 3. what is told of them
 
-pub slots_at : (s : Store) (kept : List (List (Option Kept))) (t : ℕ) → get_or (all_slots_in s kept) t [] ≡ slots_in s (level_of kept t)
+pub slots_at : (s : Store) (kept : List (List (Option Kept))) (t : ℕ) → get_or (all_slots_in s kept) t [] ≡ slots_in s (at_level kept t)
 slots_at s [] t = refl
 slots_at s (x ∷ kept) zero = refl
 slots_at s (x ∷ kept) (suc t) = slots_at s kept t
 
-pub slots_still : (s t : Store) (kept : List (List (Option Kept))) → StayMade s t → AreMade s kept → all_slots_in t kept ≡ all_slots_in s kept
+pub slots_still : (s t : Store) (kept : List (List (Option Kept))) → StayMade s t → AreMadeWith s kept → all_slots_in t kept ≡ all_slots_in s kept
 slots_still s t [] h m = refl
 slots_still s t (x ∷ kept) h m =
     let one = told_still s t x h (record { each = λ p a e. m.each zero p a e }) in
@@ -83,5 +83,5 @@ slots_still s t (x ∷ kept) h m =
 pub slots_more : (s : Store) (kept : List (List (Option Kept))) (f : List (Option Kept)) → all_slots_in s (kept ++ f ∷ []) ≡ all_slots_in s kept ++ slots_in s f ∷ []
 slots_more s kept f = map-append (slots_in s) kept (f ∷ [])
 
-pub level_made : (s : Store) (kept : List (List (Option Kept))) (t : ℕ) → AreMade s kept → AreMadeAt s (level_of kept t)
+pub level_made : (s : Store) (kept : List (List (Option Kept))) (t : ℕ) → AreMadeWith s kept → AreMadeAt s (at_level kept t)
 level_made s kept t m = record { each = λ p a e. m.each t p a e }

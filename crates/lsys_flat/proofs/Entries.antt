@@ -4,7 +4,7 @@ use Rattle.std.specs.Prelude.{slice_get}
 use Rattle.std.proofs.lemmas.List.Sums.{sum_by-cons}
 use Rattle.lsys_spec.specs.Systems.{System}
 use Rattle.lsys_spec.specs.Bodies.{Body, group}
-use Rattle.lsys_spec.specs.Levels.{Symbol, Push, Pop, Module}
+use Rattle.lsys_spec.specs.Levels.{LevelSymbol, Push, Pop, Module}
 use Rattle.lsys_spec.specs.Questions.{Question, question, where_any, questions_from, questions_at}
 use Rattle.lsys_laws.specs.KeptQuestions.{where_grouped, question_here}
 use Rattle.lsys_flat.proofs.Naming.{drop_there}
@@ -13,7 +13,7 @@ use Rattle.lsys_match.specs.declared.refusal.AskRefusal.TheVariants as refusals
 use Rattle.lsys_flat.specs.declared.found.Found.{Found}
 use Rattle.lsys_flat.specs.declared.found.Found.TheVariants as found
 use Rattle.lsys_flat.specs.Replaced.{IsAsked}
-use Rattle.lsys_flat.specs.Rounds.{entries_of, HasRead}
+use Rattle.lsys_flat.specs.Rounds.{entries_of, ReadsAtMost}
 
 -- the entries of a question that there may be
 abbrev pub entries_if : Option Question → ℕ
@@ -24,14 +24,14 @@ one_more : (bs : List Body) (q : Question) (qs : List Question) → entries_of (
 one_more [] q qs = omega arith
 one_more (b ∷ bs) q qs = sum_by-cons (λ q. length q.trace) q qs
 
-first : (s : System) (t : ℕ) (x : List Symbol) (p : ℕ) (a : Symbol) (rest : List Symbol) → entries_of (questions_from s t x p (a ∷ rest)) ≡ entries_if (question_here s t x p a) + entries_of (questions_from s t x (p + 1) rest)
+first : (s : System) (t : ℕ) (x : List LevelSymbol) (p : ℕ) (a : LevelSymbol) (rest : List LevelSymbol) → entries_of (questions_from s t x p (a ∷ rest)) ≡ entries_if (question_here s t x p a) + entries_of (questions_from s t x (p + 1) rest)
 first s t x p (Push l) rest = omega arith
 first s t x p (Pop l) rest = omega arith
 first s t x p (Module l m) rest =
     let bs = group s t m.name (length m.params) in one_more bs (question s t bs x p l m) (questions_from s t x (p + 1) rest)
 
 -- the entries from place p on are those of the question there and those behind it
-pub entries_here : (s : System) (t : ℕ) (x : List Symbol) (p : ℕ) (a : Symbol) → slice_get x p ≡ Some a
+pub entries_here : (s : System) (t : ℕ) (x : List LevelSymbol) (p : ℕ) (a : LevelSymbol) → slice_get x p ≡ Some a
     → entries_of (questions_from s t x p (drop p x)) ≡ entries_if (question_here s t x p a) + entries_of (questions_from s t x (p + 1) (drop (p + 1) x))
 entries_here s t x p a e = ap (λ rest. entries_of (questions_from s t x p rest)) (drop_there x p a e) ∙ first s t x p a (drop (p + 1) x)
 
@@ -45,7 +45,7 @@ read_ok (Some q) v w found.Stays h = absurd h
 read_ok (Some q) v w found.Same h = h
 read_ok (Some q) v w (found.New b) h = h
 
-pub read_err : (L : Type 0) (o : Option Question) (v w : ℕ) (e : AskRefusal) → IsAsked {L = L} o v w (Err e) → HasRead (entries_if o) v w
+pub read_err : (L : Type 0) (o : Option Question) (v w : ℕ) (e : AskRefusal) → IsAsked {L = L} o v w (Err e) → ReadsAtMost (entries_if o) v w
 read_err L None v w e h = absurd h
 read_err L (Some q) v w (refusals.Fault k) h = (omega (arith, h), omega (arith, h))
 read_err L (Some q) v w refusals.Memory h = h

@@ -4,6 +4,7 @@ use Rattle.std.specs.Prelude.{slice_get, fold}
 use Rattle.std.proofs.lemmas.Bool.{eqb-true, eqb-false}
 use Rattle.std.proofs.lemmas.List.Sums.{count_by-le-length}
 use Rattle.std.proofs.lemmas.List.{map-append, length-map, drop_all}
+use Rattle.lsys_spec.specs.Morphisms.{raw_plain}
 use Rattle.lsys_spec.specs.Draws.{number_base, axiom_key_of, child_key_of, key_of}
 use Rattle.lsys_spec.specs.Levels as L
 use Rattle.lsys_spec.specs.Levels.{Push, Pop, Module, lineage, plain}
@@ -15,21 +16,21 @@ use Rattle.lsys_syntax.specs.Commands.{Numbering, by_place, by_name}
 use Rattle.lsys_module.specs.Views.{symbol_of, string_of}
 use Rattle.lsys_module.specs.declared.symbol.Symbol.{Symbol}
 use Rattle.lsys_module.specs.declared.symbol.Symbol.TheVariants as code
-use Rattle.lsys_rewrite.specs.Cutting.{raw_plain, stays, cutting_behind}
+use Rattle.lsys_rewrite.specs.Cutting.{symbol_stays, cutting_behind}
 use Rattle.lsys_flat.specs.declared.origin.Origin.{Origin}
 use Rattle.lsys_flat.proofs.Naming.{drop_there}
-use Rattle.lsys_flat.specs.Origins.{number_of, IsChild, AreChildren}
+use Rattle.lsys_flat.specs.Origins.{origin_number, IsChild, AreChildren}
 use Rattle.lsys_flat.specs.declared.numbers.Numbers.{Numbers}
-use Rattle.lsys_flat.specs.Counts.{origin_at, IsBehind}
-use Rattle.lsys_flat.specs.Grown.{Grown, with_symbol, where_room, with_child, with_children, cutting_after, HasSymbols, Holds, IsGrown}
+use Rattle.lsys_flat.specs.Counts.{origin_at, HasNumbered}
+use Rattle.lsys_flat.specs.Grown.{Grown, grown_by_symbol, where_room, with_child, with_children, cutting_behind_all, HasSymbols, HoldsCut, IsGrown}
 
 -- 1. one symbol more, cut
 
-after_more : (o : Option ℕ) (x : List Raw) (r : Raw) → cutting_after o (x ++ r ∷ []) ≡ cutting_behind (cutting_after o x) (raw_plain r)
+after_more : (o : Option ℕ) (x : List Raw) (r : Raw) → cutting_behind_all o (x ++ r ∷ []) ≡ cutting_behind (cutting_behind_all o x) (raw_plain r)
 after_more o [] r = refl
 after_more o (s ∷ x) r = after_more (cutting_behind o (raw_plain s)) x r
 
-cut_more : (o : Option ℕ) (x : List Raw) (r : Raw) → cut_on o (x ++ r ∷ []) ≡ cut_on o x ++ cut_on (cutting_after o x) (r ∷ [])
+cut_more : (o : Option ℕ) (x : List Raw) (r : Raw) → cut_on o (x ++ r ∷ []) ≡ cut_on o x ++ cut_on (cutting_behind_all o x) (r ∷ [])
 cut_more None [] r = refl
 cut_more (Some n) [] r = refl
 cut_more None (Cut l ∷ x) r = cut_more (Some 0) x r
@@ -46,7 +47,7 @@ cut_more (Some (suc n)) (Plain (Push l) ∷ x) r = cut_more (Some (suc (suc n)))
 cut_more (Some (suc n)) (Plain (Pop l) ∷ x) r = cut_more (Some n) x r
 
 -- what stays of one symbol
-stayed : (o : Option ℕ) (r : Raw) → stays o (raw_plain r) ≡ true → (a : L.Symbol) × (r ≡ Plain a) × (cut_on o (r ∷ []) ≡ a ∷ [])
+stayed : (o : Option ℕ) (r : Raw) → symbol_stays o (raw_plain r) ≡ true → (a : L.LevelSymbol) × (r ≡ Plain a) × (cut_on o (r ∷ []) ≡ a ∷ [])
 stayed None (Cut l) h = cc
 stayed None (Plain (Module l m)) h = (Module l m, refl, refl)
 stayed None (Plain (Push l)) h = (Push l, refl, refl)
@@ -60,7 +61,7 @@ stayed (Some (suc n)) (Plain (Module l m)) h = cc
 stayed (Some (suc n)) (Plain (Push l)) h = cc
 stayed (Some (suc n)) (Plain (Pop l)) h = cc
 
-passed : (o : Option ℕ) (r : Raw) → stays o (raw_plain r) ≡ false → cut_on o (r ∷ []) ≡ []
+passed : (o : Option ℕ) (r : Raw) → symbol_stays o (raw_plain r) ≡ false → cut_on o (r ∷ []) ≡ []
 passed None (Cut l) h = refl
 passed None (Plain (Module l m)) h = cc
 passed None (Plain (Push l)) h = cc
@@ -76,7 +77,7 @@ passed (Some (suc n)) (Plain (Pop l)) h = refl
 
 -- 2. one child more
 
-children_more : (above : List L.Symbol) (os : List Origin) (y : List L.Symbol) (o : Origin) (a : L.Symbol) → AreChildren above os y → IsChild above o a → AreChildren above (os ++ o ∷ []) (y ++ a ∷ [])
+children_more : (above : List L.LevelSymbol) (os : List Origin) (y : List L.LevelSymbol) (o : Origin) (a : L.LevelSymbol) → AreChildren above os y → IsChild above o a → AreChildren above (os ++ o ∷ []) (y ++ a ∷ [])
 children_more above [] [] o a h c = (c, tt)
 children_more above [] (s ∷ y) o a h c = absurd h
 children_more above (p ∷ os) [] o a h c = absurd h
@@ -90,35 +91,35 @@ child_key : (seed : ℕ) (l : List ℕ) (n : ℕ) → key_of seed (l ++ n ∷ []
 child_key seed [] n = refl
 child_key seed (place ∷ below) n = last_key (axiom_key_of seed place) below n
 
-more_symbols : (seed : ℕ) (above y : List L.Symbol) (symbols : List Symbol) (origins : List Origin) (keys : List ℕ) (parent a : L.Symbol) (o : Origin) (key : ℕ) (s : Symbol) → HasSymbols seed above y symbols origins keys
-    → plain a ≡ symbol_of s → lineage a ≡ lineage parent ++ number_of o ∷ [] → o.count < number_base → slice_get above o.parent ≡ Some parent → key ≡ key_of seed (lineage parent)
-    → HasSymbols seed above (y ++ a ∷ []) (symbols ++ s ∷ []) (origins ++ o ∷ []) (keys ++ child_key_of key (number_of o) ∷ [])
+more_symbols : (seed : ℕ) (above y : List L.LevelSymbol) (symbols : List Symbol) (origins : List Origin) (keys : List ℕ) (parent a : L.LevelSymbol) (o : Origin) (key : ℕ) (s : Symbol) → HasSymbols seed above y symbols origins keys
+    → plain a ≡ symbol_of s → lineage a ≡ lineage parent ++ origin_number o ∷ [] → o.count < number_base → slice_get above o.parent ≡ Some parent → key ≡ key_of seed (lineage parent)
+    → HasSymbols seed above (y ++ a ∷ []) (symbols ++ s ∷ []) (origins ++ o ∷ []) (keys ++ child_key_of key (origin_number o) ∷ [])
 more_symbols seed above y symbols origins keys parent a o key s h e l small g k = record {
   string = map-append plain y (a ∷ []) ∙ (λ i. h.string i ++ e i ∷ []) ∙ sym (map-append symbol_of symbols (s ∷ []));
   children = children_more above origins y o a h.children (record { parent = parent; there = g; number = l; small = small });
   keys =
-      let own : key_of seed (lineage a) ≡ child_key_of key (number_of o) = ap (key_of seed) l ∙ child_key seed (lineage parent) (number_of o) ∙ ap (λ k. child_key_of k (number_of o)) (sym k) in
+      let own : key_of seed (lineage a) ≡ child_key_of key (origin_number o) = ap (key_of seed) l ∙ child_key seed (lineage parent) (origin_number o) ∙ ap (λ k. child_key_of k (origin_number o)) (sym k) in
       (λ i. h.keys i ++ sym own i ∷ []) ∙ sym (map-append (λ s. key_of seed (lineage s)) y (a ∷ []));
 }
 
-module _ (seed : ℕ) (above : List L.Symbol) (raw : List Raw) (g : Grown) (parent : L.Symbol) (o : Origin) (key : ℕ) (s : Symbol) (r : Raw) (h : IsGrown seed above raw g) (e : raw_plain r ≡ symbol_of s)
-    (l : raw_lineage r ≡ lineage parent ++ number_of o ∷ []) (small : o.count < number_base) (there : slice_get above o.parent ≡ Some parent) (k : key ≡ key_of seed (lineage parent)) where
+module _ (seed : ℕ) (above : List L.LevelSymbol) (raw : List Raw) (g : Grown) (parent : L.LevelSymbol) (o : Origin) (key : ℕ) (s : Symbol) (r : Raw) (h : IsGrown seed above raw g) (e : raw_plain r ≡ symbol_of s)
+    (l : raw_lineage r ≡ lineage parent ++ origin_number o ∷ []) (small : o.count < number_base) (there : slice_get above o.parent ≡ Some parent) (k : key ≡ key_of seed (lineage parent)) where
   longer : g.room < length (cut raw) → g.room < length (cut (raw ++ r ∷ []))
-  longer n = omega (arith, ap length (cut_more None raw r), length-append (cut raw) (cut_on (cutting_after None raw) (r ∷ [])))
+  longer n = omega (arith, ap length (cut_more None raw r), length-append (cut raw) (cut_on (cutting_behind_all None raw) (r ∷ [])))
 
   behind : Grown
   behind = record g { cutting = cutting_behind g.cutting (symbol_of s) }
 
-  cutting_now : g.cutting ≡ cutting_after None raw → cutting_behind g.cutting (symbol_of s) ≡ cutting_after None (raw ++ r ∷ [])
+  cutting_now : g.cutting ≡ cutting_behind_all None raw → cutting_behind g.cutting (symbol_of s) ≡ cutting_behind_all None (raw ++ r ∷ [])
   cutting_now c = (λ i. cutting_behind (c i) (sym e i)) ∙ sym (after_more None raw r)
 
-  left_now : (xs : List L.Symbol) → g.cutting ≡ cutting_after None raw → cut_on g.cutting (r ∷ []) ≡ xs → cut (raw ++ r ∷ []) ≡ cut raw ++ xs
+  left_now : (xs : List L.LevelSymbol) → g.cutting ≡ cutting_behind_all None raw → cut_on g.cutting (r ∷ []) ≡ xs → cut (raw ++ r ∷ []) ≡ cut raw ++ xs
   left_now xs c d = cut_more None raw r ∙ ap (λ o. cut raw ++ cut_on o (r ∷ [])) (sym c) ∙ ap (λ ys. cut raw ++ ys) d
 
-  passes : stays g.cutting (symbol_of s) ≡ false → g.fits ≡ true → IsGrown seed above (raw ++ r ∷ []) (record g { cutting = cutting_behind g.cutting (symbol_of s) })
+  passes : symbol_stays g.cutting (symbol_of s) ≡ false → g.fits ≡ true → IsGrown seed above (raw ++ r ∷ []) (record g { cutting = cutting_behind g.cutting (symbol_of s) })
   passes b f =
-      let was : Holds seed above raw g = h.holds f in
-      let same : cut (raw ++ r ∷ []) ≡ cut raw = left_now [] was.cutting (passed g.cutting r (ap (stays g.cutting) e ∙ b)) ∙ append-nil (cut raw) in
+      let was : HoldsCut seed above raw g = h.holds f in
+      let same : cut (raw ++ r ∷ []) ≡ cut raw = left_now [] was.cutting (passed g.cutting r (ap (symbol_stays g.cutting) e ∙ b)) ∙ append-nil (cut raw) in
       record {
         holds = λ i. record {
           cutting = cutting_now was.cutting;
@@ -128,14 +129,14 @@ module _ (seed : ℕ) (above : List L.Symbol) (raw : List Raw) (g : Grown) (pare
         over = λ i. let no : true ≡ false = sym f ∙ i in cc;
       }
 
-  stays_on : stays g.cutting (symbol_of s) ≡ true → g.fits ≡ true → IsGrown seed above (raw ++ r ∷ []) (where_room o key s (record g { cutting = cutting_behind g.cutting (symbol_of s) }))
+  stays_on : symbol_stays g.cutting (symbol_of s) ≡ true → g.fits ≡ true → IsGrown seed above (raw ++ r ∷ []) (where_room o key s (record g { cutting = cutting_behind g.cutting (symbol_of s) }))
   stays_on b f = by (length g.symbols == g.room) refl
     where
-      was : Holds seed above raw g
+      was : HoldsCut seed above raw g
       was = h.holds f
 
-      it : (a : L.Symbol) × (r ≡ Plain a) × (cut_on g.cutting (r ∷ []) ≡ a ∷ [])
-      it = stayed g.cutting r (ap (stays g.cutting) e ∙ b)
+      it : (a : L.LevelSymbol) × (r ≡ Plain a) × (cut_on g.cutting (r ∷ []) ≡ a ∷ [])
+      it = stayed g.cutting r (ap (symbol_stays g.cutting) e ∙ b)
 
       whole : cut (raw ++ r ∷ []) ≡ cut raw ++ it.0 ∷ []
       whole = left_now (it.0 ∷ []) was.cutting it.2
@@ -147,7 +148,7 @@ module _ (seed : ℕ) (above : List L.Symbol) (raw : List Raw) (g : Grown) (pare
       size = ap length whole ∙ length-append (cut raw) (it.0 ∷ [])
 
       by : (b : Bool) → length g.symbols == g.room ≡ b
-          → IsGrown seed above (raw ++ r ∷ []) (cond b (record g { cutting = cutting_behind g.cutting (symbol_of s); fits = false }) (with_symbol o key s (record g { cutting = cutting_behind g.cutting (symbol_of s) })))
+          → IsGrown seed above (raw ++ r ∷ []) (cond b (record g { cutting = cutting_behind g.cutting (symbol_of s); fits = false }) (grown_by_symbol o key s (record g { cutting = cutting_behind g.cutting (symbol_of s) })))
       by true full = record {
         holds = λ i. cc;
         over = λ i. let all : length g.symbols ≡ g.room = eqb-true (length g.symbols) g.room full in omega (arith, all, count, size);
@@ -155,7 +156,7 @@ module _ (seed : ℕ) (above : List L.Symbol) (raw : List Raw) (g : Grown) (pare
       by false room = record {
         holds = λ i. record {
           cutting = cutting_now was.cutting;
-          symbols = subst (λ y. HasSymbols seed above y (g.symbols ++ s ∷ []) (g.origins ++ o ∷ []) (g.keys ++ child_key_of key (number_of o) ∷ [])) (sym whole)
+          symbols = subst (λ y. HasSymbols seed above y (g.symbols ++ s ∷ []) (g.origins ++ o ∷ []) (g.keys ++ child_key_of key (origin_number o) ∷ [])) (sym whole)
               (more_symbols seed above (cut raw) g.symbols g.origins g.keys parent it.0 o key s was.symbols (sym (ap raw_plain it.1) ∙ e) (sym (ap raw_lineage it.1) ∙ l) small there k);
           within = let other : length g.symbols ≡ g.room → ⊥ = eqb-false (length g.symbols) g.room room in let few : length (cut raw) ≤ g.room = was.within in omega (arith, other, few, count, size);
         };
@@ -165,15 +166,15 @@ module _ (seed : ℕ) (above : List L.Symbol) (raw : List Raw) (g : Grown) (pare
   pub child_grown : IsGrown seed above (raw ++ r ∷ []) (with_child o key s g)
   child_grown = by g.fits refl
     where
-      by_stays : g.fits ≡ true → (b : Bool) → stays g.cutting (symbol_of s) ≡ b
+      by_stays : g.fits ≡ true → (b : Bool) → symbol_stays g.cutting (symbol_of s) ≡ b
           → IsGrown seed above (raw ++ r ∷ []) (cond b (where_room o key s (record g { cutting = cutting_behind g.cutting (symbol_of s) })) (record g { cutting = cutting_behind g.cutting (symbol_of s) }))
       by_stays f true b = stays_on b f
       by_stays f false b = passes b f
 
       by : (b : Bool) → g.fits ≡ b
           → IsGrown seed above (raw ++ r ∷ [])
-          (cond b (cond (stays g.cutting (symbol_of s)) (where_room o key s (record g { cutting = cutting_behind g.cutting (symbol_of s) })) (record g { cutting = cutting_behind g.cutting (symbol_of s) })) g)
-      by true f = by_stays f (stays g.cutting (symbol_of s)) refl
+          (cond b (cond (symbol_stays g.cutting (symbol_of s)) (where_room o key s (record g { cutting = cutting_behind g.cutting (symbol_of s) })) (record g { cutting = cutting_behind g.cutting (symbol_of s) })) g)
+      by true f = by_stays f (symbol_stays g.cutting (symbol_of s)) refl
       by false f = record {
         holds = λ i. let no : false ≡ true = sym f ∙ i in cc;
         over = λ i. longer (h.over i);
@@ -187,7 +188,7 @@ born_plain l code.Pop = refl
 born_plain l code.Cut = refl
 born_plain l (code.Module m) = refl
 
-same_number : (g : Numbering) (parent n : ℕ) (before : List ℕ) (c : ℕ) → number_at g n before c ≡ number_of (origin_at g parent n before c)
+same_number : (g : Numbering) (parent n : ℕ) (before : List ℕ) (c : ℕ) → number_at g n before c ≡ origin_number (origin_at g parent n before c)
 same_number by_place parent n before c = omega arith
 same_number by_name parent n before c = refl
 
@@ -202,7 +203,7 @@ same_parent : (g : Numbering) (parent n : ℕ) (before : List ℕ) (c : ℕ) →
 same_parent by_place parent n before c = refl
 same_parent by_name parent n before c = refl
 
-module _ (g : Numbering) (seed : ℕ) (above : List L.Symbol) (place key : ℕ) (parent : L.Symbol) (there : slice_get above place ≡ Some parent) (k : key ≡ key_of seed (lineage parent)) where
+module _ (g : Numbering) (seed : ℕ) (above : List L.LevelSymbol) (place key : ℕ) (parent : L.LevelSymbol) (there : slice_get above place ≡ Some parent) (k : key ≡ key_of seed (lineage parent)) where
   pub children_grown : (n : ℕ) (before : List ℕ) (ss : List Symbol) (raw : List Raw) (made : Grown) → length before ≡ n → n + length ss ≤ number_base → IsGrown seed above raw made
       → IsGrown seed above (raw ++ numbered g n before (lineage parent) (string_of ss)) (with_children g place key n before ss made)
   children_grown n before [] raw made e few h = subst (λ x. IsGrown seed above x made) (sym (append-nil raw)) h
@@ -211,16 +212,16 @@ module _ (g : Numbering) (seed : ℕ) (above : List L.Symbol) (place key : ℕ) 
       let l : List ℕ = lineage parent ++ number_at g n before c ∷ [] in
       let r : Raw = raw_of l (symbol_of s) in
       let o : Origin = origin_at g place n before c in
-      let number : raw_lineage r ≡ lineage parent ++ number_of o ∷ [] = born_lineage l (symbol_of s) ∙ ap (λ i. lineage parent ++ i ∷ []) (same_number g place n before c) in
+      let number : raw_lineage r ≡ lineage parent ++ origin_number o ∷ [] = born_lineage l (symbol_of s) ∙ ap (λ i. lineage parent ++ i ∷ []) (same_number g place n before c) in
       let small : o.count < number_base = small_count g place n before c e (omega (arith, few)) in
       subst (λ x. IsGrown seed above x (with_children g place key n before (s ∷ ss) made)) (append_assoc raw (r ∷ []) (numbered g (n + 1) (c ∷ before) (lineage parent) (string_of ss)))
       (children_grown (n + 1) (c ∷ before) ss (raw ++ r ∷ []) (with_child o key s made) (omega (arith, e)) (omega (arith, few))
       (child_grown seed above raw made parent o key s r h (born_plain l s) number small (ap (slice_get above) (same_parent g place n before c) ∙ there) k))
 
 -- one parent more
-pub one_parent : (seed : ℕ) (above : List L.Symbol) (raw : List Raw) (g : Grown) (n : ℕ) → IsGrown seed above raw g → IsGrown seed above raw (record g { parents = n })
+pub one_parent : (seed : ℕ) (above : List L.LevelSymbol) (raw : List Raw) (g : Grown) (n : ℕ) → IsGrown seed above raw g → IsGrown seed above raw (record g { parents = n })
 one_parent seed above raw g n h = record {
-  holds = λ f. let was : Holds seed above raw g = h.holds f in record { cutting = was.cutting; symbols = was.symbols; within = was.within };
+  holds = λ f. let was : HoldsCut seed above raw g = h.holds f in record { cutting = was.cutting; symbols = was.symbols; within = was.within };
   over = h.over;
 }
 
@@ -231,12 +232,12 @@ all_added g parent key n before ss now whole l e = ap (λ rest. with_children g 
 -- the children that were added, and what is left to add
 pub record AreAdded (g : Numbering) (parent key : ℕ) (ss : List Symbol) (first : Grown) (place : ℕ) (numbers : Numbers) (made : Grown) : Type 0 where
   pub before : List ℕ
-  pub behind : IsBehind place before numbers
+  pub behind : HasNumbered place before numbers
   pub told : with_children g parent key place before (drop place ss) made ≡ with_children g parent key 0 [] ss first
 
 pub one_added : (g : Numbering) (parent key : ℕ) (ss : List Symbol) (first : Grown) (place : ℕ) (numbers after : Numbers) (made now : Grown) (s : Symbol) (o : Origin) → AreAdded g parent key ss first place numbers made
-    → slice_get ss place ≡ Some s → ((n : ℕ) (before : List ℕ) → IsBehind n before numbers → o ≡ origin_at g parent n before (code_of (symbol_of s)))
-    → ((n : ℕ) (before : List ℕ) → IsBehind n before numbers → IsBehind (n + 1) (code_of (symbol_of s) ∷ before) after) → now ≡ with_child o key s made → AreAdded g parent key ss first (place + 1) after now
+    → slice_get ss place ≡ Some s → ((n : ℕ) (before : List ℕ) → HasNumbered n before numbers → o ≡ origin_at g parent n before (code_of (symbol_of s)))
+    → ((n : ℕ) (before : List ℕ) → HasNumbered n before numbers → HasNumbered (n + 1) (code_of (symbol_of s) ∷ before) after) → now ≡ with_child o key s made → AreAdded g parent key ss first (place + 1) after now
 one_added g parent key ss first place numbers after made now s o h there origin behind child = record {
   before = code_of (symbol_of s) ∷ h.before;
   behind = behind place h.before h.behind;
@@ -246,6 +247,6 @@ one_added g parent key ss first place numbers after made now s o h there origin 
 }
 
 pub small_origin : (g : Numbering) (parent key : ℕ) (ss : List Symbol) (first : Grown) (place : ℕ) (numbers : Numbers) (made : Grown) (s : Symbol) (o : Origin) → AreAdded g parent key ss first place numbers made → place < number_base
-    → ((n : ℕ) (before : List ℕ) → IsBehind n before numbers → o ≡ origin_at g parent n before (code_of (symbol_of s))) → o.count < number_base
+    → ((n : ℕ) (before : List ℕ) → HasNumbered n before numbers → o ≡ origin_at g parent n before (code_of (symbol_of s))) → o.count < number_base
 small_origin g parent key ss first place numbers made s o h l origin =
     subst (λ o. o.count < number_base) (sym (origin place h.before h.behind)) (small_count g parent place h.before (code_of (symbol_of s)) h.behind.length l)

@@ -11,7 +11,7 @@ use Rattle.lsys_match.specs.KeptAnswers.{HoldOwnRuns, StaysMade}
 use Rattle.lsys_match.specs.Stored.{runs_of}
 use Rattle.lsys_match.proofs.Staying.{stays_made}
 use Rattle.lsys_flat.proofs.Walks.{Walk, begun_walk, next_walk, done_walk, here_in, same_in, map_walk}
-use Rattle.lsys_flat.specs.Answers.{lists_of, level_of, answer_at, AreMade, AreOwn, AreReleased, OthersStayMade}
+use Rattle.lsys_flat.specs.Answers.{lists_of, at_level, answer_on_level, AreMadeWith, AllHoldOwnRuns, AreReleased, OthersStayMade}
 
 -- the answers that P tells are let go, and all other runs stay
 pub record Freed (before after : Store) (P : Kept → Type 0) : Type 0 where
@@ -104,8 +104,8 @@ pub record IsFront (slots front : List (Option Kept)) : Type 0 where
   pub same : (p : ℕ) → p < length front → get_or front p None ≡ get_or slots p None
 
 pub record IsOwnLevel (s : Store) (slots : List (Option Kept)) : Type 0 where
-  pub made : AreMade s (slots ∷ [])
-  pub own : AreOwn (slots ∷ [])
+  pub made : AreMadeWith s (slots ∷ [])
+  pub own : AllHoldOwnRuns (slots ∷ [])
 
 module _ (before mid : Store) (slots front : List (Option Kept)) (b : Kept) (owns : IsOwnLevel before slots) (is : IsFront slots front) (here : get_or slots (length front) None ≡ Some b) (h : Freed before mid (InSlots front)) where
   own_behind : (a : Kept) → InSlots front a → HoldOwnRuns a b
@@ -144,12 +144,12 @@ none_freed before mid front h =
 -- 4. those of all levels
 
 abbrev pub InLevels : List (List (Option Kept)) → Kept → Type 0
-InLevels kept a = (t : ℕ) × InSlots (level_of kept t) a
+InLevels kept a = (t : ℕ) × InSlots (at_level kept t) a
 
 pub none_in_levels : (a : Kept) → InLevels [] a → ⊥
 none_in_levels a h = none_in a h.1
 
-level_within : (kept : List (List (Option Kept))) (t p : ℕ) (a : Kept) → answer_at kept t p ≡ Some a → t < length kept
+level_within : (kept : List (List (Option Kept))) (t p : ℕ) (a : Kept) → answer_on_level kept t p ≡ Some a → t < length kept
 level_within [] t p a e = let no : None ≡ Some a = e in cc
 level_within (k ∷ kept) zero p a e = omega arith
 level_within (k ∷ kept) (suc t) p a e = let r : t < length kept = level_within kept t p a e in omega (arith, r)
@@ -160,16 +160,16 @@ in_more front slots a h = (h.0, subst (λ s. InSlots s a) (sym (get_or_append_le
 in_last : (front : List (List (Option Kept))) (slots : List (Option Kept)) (a : Kept) → InSlots slots a → InLevels (front ++ slots ∷ []) a
 in_last front slots a h = (length front, subst (λ s. InSlots s a) (sym (get_or_push front slots [] (length front) refl)) h)
 
-at_more : (front : List (List (Option Kept))) (slots : List (Option Kept)) (t p : ℕ) (a : Kept) → answer_at (front ++ slots ∷ []) t p ≡ Some a → InLevels front a ⊎ InSlots slots a
+at_more : (front : List (List (Option Kept))) (slots : List (Option Kept)) (t p : ℕ) (a : Kept) → answer_on_level (front ++ slots ∷ []) t p ≡ Some a → InLevels front a ⊎ InSlots slots a
 at_more [] slots zero p a e = inr (p, e)
 at_more [] slots (suc t) p a e = let no : None ≡ Some a = e in cc
 at_more (f ∷ front) slots zero p a e = inl (0, (p, e))
 at_more (f ∷ front) slots (suc t) p a e = elim (at_more front slots t p a e) [ inl h ↦ inl (suc h.0, h.1) | inr g ↦ inr g ]
 
 pub record AreFront (kept front : List (List (Option Kept))) : Type 0 where
-  pub same : (t : ℕ) → t < length front → level_of front t ≡ level_of kept t
+  pub same : (t : ℕ) → t < length front → at_level front t ≡ at_level kept t
 
-of_one : (slots : List (Option Kept)) (t p : ℕ) (a : Kept) → answer_at (slots ∷ []) t p ≡ Some a → (t ≡ 0) × (get_or slots p None ≡ Some a)
+of_one : (slots : List (Option Kept)) (t p : ℕ) (a : Kept) → answer_on_level (slots ∷ []) t p ≡ Some a → (t ≡ 0) × (get_or slots p None ≡ Some a)
 of_one slots zero p a e = (refl, e)
 of_one slots (suc t) p a e = let no : None ≡ Some a = e in cc
 
@@ -197,8 +197,8 @@ released_all before after kept h = record {
 pub others_stay : (before after : Store) (kept : List (List (Option Kept))) → Freed before after (InLevels kept) → OthersStayMade before after kept
 others_stay before after kept h = record { each = λ a made own. stays_freed before after (InLevels kept) a h (λ b k. own k.0 k.1.0 b k.1.1) made }
 
-module _ (before mid : Store) (kept front : List (List (Option Kept))) (slots : List (Option Kept)) (made : AreMade before kept) (own : AreOwn kept) (is : AreFront kept front) (here : level_of kept (length front) ≡ slots) (h : Freed before mid (InLevels front)) where
-  there : (p : ℕ) (b : Kept) → get_or slots p None ≡ Some b → answer_at kept (length front) p ≡ Some b
+module _ (before mid : Store) (kept front : List (List (Option Kept))) (slots : List (Option Kept)) (made : AreMadeWith before kept) (own : AllHoldOwnRuns kept) (is : AreFront kept front) (here : at_level kept (length front) ≡ slots) (h : Freed before mid (InLevels front)) where
+  there : (p : ℕ) (b : Kept) → get_or slots p None ≡ Some b → answer_on_level kept (length front) p ≡ Some b
   there p b e = ap (λ (s : List (Option Kept)). get_or s p None) here ∙ e
 
   own_level_behind : (a b : Kept) → InLevels front a → InSlots slots b → HoldOwnRuns a b
@@ -206,14 +206,14 @@ module _ (before mid : Store) (kept front : List (List (Option Kept))) (slots : 
       let t : k.0 < length front = level_within front k.0 k.1.0 a k.1.1 in
       own.each k.0 k.1.0 (length front) l.0 a b (ap (λ (s : List (Option Kept)). get_or s k.1.0 None) (sym (is.same k.0 t)) ∙ k.1.1) (there l.0 b l.1) (λ e f. omega (arith, t, e))
 
-  pub level_made : AreMade mid (slots ∷ [])
+  pub level_made : AreMadeWith mid (slots ∷ [])
   level_made = record {
     each = λ t p a e.
         let r = of_one slots t p a e in
         (stays_freed before mid (InLevels front) a h (λ b k. own_level_behind b a k (p, r.1)) (made.each (length front) p a (there p a r.1))).made;
   }
 
-  pub level_own : AreOwn (slots ∷ [])
+  pub level_own : AllHoldOwnRuns (slots ∷ [])
   level_own = record {
     each = λ t p u q a b e f apart.
         let r = of_one slots t p a e in
@@ -287,20 +287,20 @@ module _ (before mid : Store) (levels front rest : List (Vec (Option Kept) Globa
     pub others_made : OthersStayMade before mid (lists_of levels)
     others_made = others_stay before mid (lists_of levels) all_freed
 
-  module _ (made : AreMade before (lists_of levels)) (own : AreOwn (lists_of levels)) (x : Vec (Option Kept) Global) (rest' : List (Vec (Option Kept) Global)) (len' : ℕ) (e : rest ≡ x ∷ rest') (f : len' + 1 ≡ len) where
+  module _ (made : AreMadeWith before (lists_of levels)) (own : AllHoldOwnRuns (lists_of levels)) (x : Vec (Option Kept) Global) (rest' : List (Vec (Option Kept) Global)) (len' : ℕ) (e : rest ≡ x ∷ rest') (f : len' + 1 ≡ len) where
     lists : Walk (lists_of levels) (lists_of front) (lists_of rest) len
     lists = map_walk (λ (v : Vec (Option Kept) Global). v.items) levels front rest len h.walk
 
     front_levels : AreFront (lists_of levels) (lists_of front)
     front_levels = record { same = λ t k. same_in (lists_of levels) (lists_of front) (lists_of rest) len [] t lists k }
 
-    here_level : level_of (lists_of levels) (length (lists_of front)) ≡ x.items
+    here_level : at_level (lists_of levels) (length (lists_of front)) ≡ x.items
     here_level = here_in (lists_of levels) (lists_of front) (lists_of rest) len x.items (lists_of rest') [] lists (ap lists_of e)
 
-    pub made_here : AreMade mid (x.items ∷ [])
+    pub made_here : AreMadeWith mid (x.items ∷ [])
     made_here = level_made before mid (lists_of levels) (lists_of front) x.items made own front_levels here_level h.freed
 
-    pub own_here : AreOwn (x.items ∷ [])
+    pub own_here : AllHoldOwnRuns (x.items ∷ [])
     own_here = level_own before mid (lists_of levels) (lists_of front) x.items made own front_levels here_level h.freed
 
     pub past_level : (after : Store) → AreReleased mid after (x.items ∷ []) → ReleasingAll before after levels (front ++ x ∷ []) rest' len'

@@ -15,7 +15,7 @@ use Rattle.std.proofs.lemmas.Cmp.{nat_cmp_total, on_total, then_total, ranked, t
 use Rattle.std.proofs.lemmas.List.Sorted.{searchable_from_sorted, All-permutation, Contains-permutation}
 use Rattle.lsys_flat.specs.declared.origin.Origin.{Origin}
 use Rattle.lsys_flat.specs.declared.places.Placed.{Placed}
-use Rattle.lsys_flat.specs.Lookups.{origin_cmp, IsPlaceOf, AreOf, StandsAt, StandsNowhere}
+use Rattle.lsys_flat.specs.Lookups.{origin_cmp, IsPlaceOf, ArePlacesOf, StandsAt, StandsNowhere}
 
 origins_ordered : IsTotalOrder origin_cmp
 origins_ordered = then_total (on_total (λ (o : Origin). o.parent) nat_cmp_total) (then_total (on_total (λ (o : Origin). o.code) nat_cmp_total) (on_total (λ (o : Origin). o.count) nat_cmp_total))
@@ -69,7 +69,7 @@ front_more old placed i o h g = record {
   ];
 }
 
-pub front_sorted : (old : List Origin) (placed sorted : List Placed) (i : ℕ) → AreFront old placed i → length old ≤ i → IsPermutation placed sorted → IsSortedByKey (λ p. p.origin) origin_cmp sorted → AreOf old sorted
+pub front_sorted : (old : List Origin) (placed sorted : List Placed) (i : ℕ) → AreFront old placed i → length old ≤ i → IsPermutation placed sorted → IsSortedByKey (λ p. p.origin) origin_cmp sorted → ArePlacesOf old sorted
 front_sorted old placed sorted i h l m s = record {
   each = All-permutation (λ p. slice_get old p.place ≡ Some p.origin) placed sorted m h.each;
   whole = λ p o e. Contains-permutation placed sorted _ m (h.whole p o (let k : p < length old = slice_get_within old p o e in omega (arith, k, l)) e);
@@ -77,6 +77,6 @@ front_sorted old placed sorted i h l m s = record {
 }
 
 -- what a search among the sorted ones tells of the old level
-pub looked_up : (old : List Origin) (ps : List Placed) (o : Origin) (r : Option ℕ) → AreOf old ps → IfSome r (StandsAt ps o) → IfNone r (StandsNowhere ps o) → IsPlaceOf old o r
+pub looked_up : (old : List Origin) (ps : List Placed) (o : Origin) (r : Option ℕ) → ArePlacesOf old ps → IfSome r (StandsAt ps o) → IfNone r (StandsNowhere ps o) → IsPlaceOf old o r
 looked_up old ps o (Some p) h some none = let x : Placed = record { origin = o; place = p } in subst (λ (x : Placed). slice_get old x.place ≡ Some x.origin) some.2 (h.each some.0 x some.1)
 looked_up old ps o None h some none = λ p e. none p (h.whole p o e)

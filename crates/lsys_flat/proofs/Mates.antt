@@ -4,14 +4,14 @@ use Rattle.std.specs.Prelude.{slice_get, option_map}
 use Rattle.std.proofs.lemmas.Option.{slice_get-map}
 use Rattle.std.proofs.lemmas.List.{length-map}
 use Rattle.lsys_spec.specs.Draws.{number_base}
-use Rattle.lsys_spec.specs.Levels.{Symbol, lineage}
+use Rattle.lsys_spec.specs.Levels.{LevelSymbol, lineage}
 use Rattle.lsys_spec.specs.Standings.{place_of}
 use Rattle.lsys_spec.specs.Cuts.{Distinct}
 use Rattle.lsys_spec.proofs.Standings.{place_told}
 use Rattle.lsys_flat.specs.declared.origin.Origin.{Origin}
 use Rattle.lsys_laws.specs.KeptQuestions.{places_in}
 use Rattle.lsys_laws.proofs.Lineages.{last_number, place_none, place_is}
-use Rattle.lsys_flat.specs.Origins.{number_of, IsChild, AreChildren}
+use Rattle.lsys_flat.specs.Origins.{origin_number, IsChild, AreChildren}
 use Rattle.lsys_flat.specs.Lookups.{IsPlaceOf}
 
 take_more : {A : Type 0} (xs : List A) (i : ℕ) (x : A) → slice_get xs i ≡ Some x → take (suc i) xs ≡ take i xs ++ x ∷ []
@@ -24,14 +24,14 @@ one_value o a b e k = cc
 
 -- the symbol at a place, and where it comes from
 
-pub child_at : (a : List Symbol) (os : List Origin) (x : List Symbol) → AreChildren a os x → (p : ℕ) (s : Symbol) → slice_get x p ≡ Some s → (o : Origin) × (slice_get os p ≡ Some o) × IsChild a o s
+pub child_at : (a : List LevelSymbol) (os : List Origin) (x : List LevelSymbol) → AreChildren a os x → (p : ℕ) (s : LevelSymbol) → slice_get x p ≡ Some s → (o : Origin) × (slice_get os p ≡ Some o) × IsChild a o s
 child_at a [] [] h p s g = cc
 child_at a [] (t ∷ x) h p s g = absurd h
 child_at a (o ∷ os) [] h p s g = absurd h
 child_at a (o ∷ os) (t ∷ x) h zero s g = let e : t ≡ s = cc in (o, refl, subst (IsChild a o) e h.0)
 child_at a (o ∷ os) (t ∷ x) h (suc p) s g = child_at a os x h.1 p s g
 
-pub child_from : (a : List Symbol) (os : List Origin) (x : List Symbol) → AreChildren a os x → (p : ℕ) (o : Origin) → slice_get os p ≡ Some o → (s : Symbol) × (slice_get x p ≡ Some s) × IsChild a o s
+pub child_from : (a : List LevelSymbol) (os : List Origin) (x : List LevelSymbol) → AreChildren a os x → (p : ℕ) (o : Origin) → slice_get os p ≡ Some o → (s : LevelSymbol) × (slice_get x p ≡ Some s) × IsChild a o s
 child_from a [] [] h p o g = cc
 child_from a [] (t ∷ x) h p o g = absurd h
 child_from a (u ∷ os) [] h p o g = absurd h
@@ -42,24 +42,24 @@ codes_same : (c d i j : ℕ) → i < number_base → j < number_base → number_
 codes_same c d i j k l e = (omega (arith, k, l, e), omega (arith, k, l, e))
 
 -- two levels, and those above them
-pub record Two (a b x y : List Symbol) (old new : List Origin) (above : List (Option ℕ)) : Type 0 where
+pub record Two (a b x y : List LevelSymbol) (old new : List Origin) (above : List (Option ℕ)) : Type 0 where
   pub above_distinct : Distinct a
   pub old_distinct : Distinct x
   pub old_children : AreChildren a old x
   pub new_children : AreChildren b new y
   pub paired : above ≡ places_in a b
 
-told_more : (x y : List Symbol) (i : ℕ) (mates : List (Option ℕ)) (t : Symbol) (mate : Option ℕ) → mates ≡ take i (places_in x y) → slice_get y i ≡ Some t → place_of (lineage t) x ≡ mate
+told_more : (x y : List LevelSymbol) (i : ℕ) (mates : List (Option ℕ)) (t : LevelSymbol) (mate : Option ℕ) → mates ≡ take i (places_in x y) → slice_get y i ≡ Some t → place_of (lineage t) x ≡ mate
     → mates ++ mate ∷ [] ≡ take (i + 1) (places_in x y)
 told_more x y i mates t mate e g k =
     ap (λ m. m ++ mate ∷ []) e ∙ sym (rw add-one (take_more (places_in x y) i mate (slice_get-map (λ s. place_of (lineage s) x) y i ∙ ap (option_map (λ s. place_of (lineage s) x)) g ∙ ap Some k)))
 
-above_is : (a b : List Symbol) (above : List (Option ℕ)) (p : ℕ) (r : Symbol) (m : Option ℕ) → above ≡ places_in a b → slice_get b p ≡ Some r → slice_get above p ≡ Some m → place_of (lineage r) a ≡ m
+above_is : (a b : List LevelSymbol) (above : List (Option ℕ)) (p : ℕ) (r : LevelSymbol) (m : Option ℕ) → above ≡ places_in a b → slice_get b p ≡ Some r → slice_get above p ≡ Some m → place_of (lineage r) a ≡ m
 above_is a b above p r m e g k =
     one_value (slice_get above p) (place_of (lineage r) a) m (ap (λ l. slice_get l p) e ∙ slice_get-map (λ s. place_of (lineage s) a) b p ∙ ap (option_map (λ s. place_of (lineage s) a)) g) k
 
 -- a symbol whose parent is new is new
-pub lone : (a b x y : List Symbol) (old new : List Origin) (above : List (Option ℕ)) → Two a b x y old new above → (i : ℕ) (mates : List (Option ℕ)) (o : Origin)
+pub lone : (a b x y : List LevelSymbol) (old new : List Origin) (above : List (Option ℕ)) → Two a b x y old new above → (i : ℕ) (mates : List (Option ℕ)) (o : Origin)
     → mates ≡ take i (places_in x y) → slice_get new i ≡ Some o → slice_get above o.parent ≡ Some None → mates ++ None ∷ [] ≡ take (i + 1) (places_in x y)
 lone a b x y old new above h i mates o w g k =
     let n = child_from b new y h.new_children i o g in
@@ -75,25 +75,25 @@ abbrev pub below : ℕ → Origin → Origin
 below k o = record o { parent = k }
 
 -- a symbol whose parent is kept: the child of its parent's mate with its number, if there is one
-pub kept : (a b x y : List Symbol) (old new : List Origin) (above : List (Option ℕ)) → Two a b x y old new above → (i k : ℕ) (mates : List (Option ℕ)) (o : Origin) (mate : Option ℕ)
+pub kept : (a b x y : List LevelSymbol) (old new : List Origin) (above : List (Option ℕ)) → Two a b x y old new above → (i k : ℕ) (mates : List (Option ℕ)) (o : Origin) (mate : Option ℕ)
     → mates ≡ take i (places_in x y) → slice_get new i ≡ Some o → slice_get above o.parent ≡ Some (Some k) → IsPlaceOf old (below k o) mate
     → mates ++ mate ∷ [] ≡ take (i + 1) (places_in x y)
 kept a b x y old new above h i k mates o mate w g j place = told_more x y i mates n.0 mate w n.1 (found mate place)
   where
-    n : (s : Symbol) × (slice_get y i ≡ Some s) × IsChild b o s
+    n : (s : LevelSymbol) × (slice_get y i ≡ Some s) × IsChild b o s
     n = child_from b new y h.new_children i o g
 
     -- its parent in the old level above
-    up : (r : Symbol) × (slice_get a k ≡ Some r) × (lineage r ≡ lineage n.2.parent)
+    up : (r : LevelSymbol) × (slice_get a k ≡ Some r) × (lineage r ≡ lineage n.2.parent)
     up = place_told (lineage n.2.parent) a k (above_is a b above o.parent n.2.parent (Some k) h.paired n.2.there j)
 
-    own : lineage n.0 ≡ lineage up.0 ++ number_of o ∷ []
-    own = n.2.number ∙ ap (λ l. l ++ number_of o ∷ []) (sym up.2)
+    own : lineage n.0 ≡ lineage up.0 ++ origin_number o ∷ []
+    own = n.2.number ∙ ap (λ l. l ++ origin_number o ∷ []) (sym up.2)
 
     -- an old symbol of the same lineage has the same parent, code and count
-    same : (s : Symbol) (u : Origin) → IsChild a u s → lineage s ≡ lineage n.0 → u ≡ below k o
+    same : (s : LevelSymbol) (u : Origin) → IsChild a u s → lineage s ≡ lineage n.0 → u ≡ below k o
     same s u c e =
-        let l = last_number (lineage c.parent) (lineage up.0) (number_of u) (number_of o) (sym c.number ∙ e ∙ own) in
+        let l = last_number (lineage c.parent) (lineage up.0) (origin_number u) (origin_number o) (sym c.number ∙ e ∙ own) in
         let here : place_of (lineage up.0) a ≡ Some u.parent = place_is a h.above_distinct u.parent c.parent (lineage up.0) c.there l.0 in
         let there : place_of (lineage up.0) a ≡ Some k = place_is a h.above_distinct k up.0 (lineage up.0) up.1 refl in
         let d = codes_same u.code o.code u.count o.count c.small n.2.small l.1 in
@@ -103,16 +103,16 @@ kept a b x y old new above h i k mates o mate w g j place = told_more x y i mate
     found (Some m) e =
         let v = child_from a old x h.old_children m (below k o) e in
         let parent : v.2.parent ≡ up.0 = one_value (slice_get a k) v.2.parent up.0 v.2.there up.1 in
-        place_is x h.old_distinct m v.0 (lineage n.0) v.1 (v.2.number ∙ ap (λ r. lineage r ++ number_of o ∷ []) parent ∙ sym own)
+        place_is x h.old_distinct m v.0 (lineage n.0) v.1 (v.2.number ∙ ap (λ r. lineage r ++ origin_number o ∷ []) parent ∙ sym own)
     found None e = place_none x (lineage n.0) (λ p s f q. let m = child_at a old x h.old_children p s f in e p (m.1 ∙ ap Some (same s m.0 m.2 q)))
 
-pub children_length : (a : List Symbol) (os : List Origin) (x : List Symbol) → AreChildren a os x → length os ≡ length x
+pub children_length : (a : List LevelSymbol) (os : List Origin) (x : List LevelSymbol) → AreChildren a os x → length os ≡ length x
 children_length a [] [] h = refl
 children_length a [] (s ∷ x) h = absurd h
 children_length a (o ∷ os) [] h = absurd h
 children_length a (o ∷ os) (s ∷ x) h = ap suc (children_length a os x h.1)
 
-pub ended : (a b x y : List Symbol) (old new : List Origin) (above : List (Option ℕ)) (i : ℕ) (mates : List (Option ℕ)) → Two a b x y old new above
+pub ended : (a b x y : List LevelSymbol) (old new : List Origin) (above : List (Option ℕ)) (i : ℕ) (mates : List (Option ℕ)) → Two a b x y old new above
     → (Two a b x y old new above → mates ≡ take i (places_in x y)) → length new ≤ i → mates ≡ places_in x y
 ended a b x y old new above i mates h w l =
     w h ∙ take_all i (places_in x y) (let e = children_length b new y h.new_children in let f = length-map y (λ s. place_of (lineage s) x) in omega (arith, l, e, f))

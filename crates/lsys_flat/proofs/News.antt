@@ -8,8 +8,8 @@ use Rattle.lsys_match.specs.Stored.{answer_in}
 use Rattle.lsys_match.specs.Asks.{IsMade, IsNew, StaysAsKept}
 use Rattle.lsys_match.specs.TagQuestions.{TagAnswer}
 use Rattle.lsys_match.proofs.Staying.{own_runs, stays_kept, stays_new}
-use Rattle.lsys_flat.specs.Slots.{slot_at, slot_of, filled}
-use Rattle.lsys_flat.specs.Rounds.{AreMadeAt, StayMade, AreNew, told}
+use Rattle.lsys_flat.specs.Slots.{slot_by_place, slot_where_told, filled_slots}
+use Rattle.lsys_flat.specs.Rounds.{AreMadeAt, StayMade, AreNew, answers_told}
 
 -- 1. stores, one after another
 
@@ -34,7 +34,7 @@ pub made_still : (s t : Store) (slots : List (Option Kept)) → StayMade s t →
 made_still s t slots h g = record { each = λ p a e. (h.each a (g.each p a e)).made }
 
 -- what is told of answers stays
-pub told_still : (s t : Store) (slots : List (Option Kept)) → StayMade s t → AreMadeAt s slots → told t slots ≡ told s slots
+pub told_still : (s t : Store) (slots : List (Option Kept)) → StayMade s t → AreMadeAt s slots → answers_told t slots ≡ answers_told s slots
 told_still s t [] h g = refl
 told_still s t (None ∷ slots) h g = ap (λ xs. None ∷ xs) (told_still s t slots h (record { each = λ p a e. g.each (suc p) a e }))
 told_still s t (Some a ∷ slots) h g =
@@ -44,25 +44,25 @@ told_still s t (Some a ∷ slots) h g =
 
 -- 2. at a place
 
-pub slot_told : (s : Store) (slots : List (Option Kept)) (p : ℕ) → slot_at (told s slots) p ≡ option_map (answer_in s) (slot_at slots p)
+pub slot_told : (s : Store) (slots : List (Option Kept)) (p : ℕ) → slot_by_place (answers_told s slots) p ≡ option_map (answer_in s) (slot_by_place slots p)
 slot_told s [] p = refl
 slot_told s (o ∷ slots) zero = refl
 slot_told s (o ∷ slots) (suc p) = slot_told s slots p
 
-pub old_told : (s : Store) (slots : List (Option Kept)) (o : Option ℕ) → slot_of (told s slots) o ≡ option_map (answer_in s) (slot_of slots o)
+pub old_told : (s : Store) (slots : List (Option Kept)) (o : Option ℕ) → slot_where_told (answers_told s slots) o ≡ option_map (answer_in s) (slot_where_told slots o)
 old_told s slots None = refl
 old_told s slots (Some j) = slot_told s slots j
 
-pub slot_before : {A : Type 0} (slots : List (Option A)) (o : Option A) (q : ℕ) → q < length slots → slot_at (slots ++ o ∷ []) q ≡ slot_at slots q
+pub slot_before : {A : Type 0} (slots : List (Option A)) (o : Option A) (q : ℕ) → q < length slots → slot_by_place (slots ++ o ∷ []) q ≡ slot_by_place slots q
 slot_before [] o q h = absurd (omega (arith, h))
 slot_before (a ∷ slots) o zero h = refl
 slot_before (a ∷ slots) o (suc q) h = slot_before slots o q (omega (arith, h))
 
-pub slot_last : {A : Type 0} (slots : List (Option A)) (o : Option A) → slot_at (slots ++ o ∷ []) (length slots) ≡ o
+pub slot_last : {A : Type 0} (slots : List (Option A)) (o : Option A) → slot_by_place (slots ++ o ∷ []) (length slots) ≡ o
 slot_last [] o = refl
 slot_last (a ∷ slots) o = slot_last slots o
 
-pub slot_past : {A : Type 0} (slots : List (Option A)) (o : Option A) (q : ℕ) → length slots < q → slot_at (slots ++ o ∷ []) q ≡ None
+pub slot_past : {A : Type 0} (slots : List (Option A)) (o : Option A) (q : ℕ) → length slots < q → slot_by_place (slots ++ o ∷ []) q ≡ None
 slot_past [] o zero h = absurd (omega (arith, h))
 slot_past [] o (suc q) h = refl
 slot_past (a ∷ slots) o zero h = absurd (omega (arith, h))
@@ -73,25 +73,25 @@ set_last [] o p h = ap (λ p. set (None ∷ []) p o) (sym h)
 set_last (a ∷ slots) o zero h = absurd (omega (arith, h))
 set_last (a ∷ slots) o (suc p) h = ap (λ xs. a ∷ xs) (set_last slots o p (omega (arith, h)))
 
-pub filled_more : {A : Type 0} (slots : List (Option A)) (o : Option A) → filled (slots ++ o ∷ []) ≡ filled slots + filled (o ∷ [])
+pub filled_more : {A : Type 0} (slots : List (Option A)) (o : Option A) → filled_slots (slots ++ o ∷ []) ≡ filled_slots slots + filled_slots (o ∷ [])
 filled_more [] o = omega arith
 filled_more (None ∷ slots) o = filled_more slots o
 filled_more (Some a ∷ slots) o = let more = filled_more slots o in omega (arith, more)
 
-pub filled_most : {A : Type 0} (slots : List (Option A)) → filled slots ≤ length slots
+pub filled_most : {A : Type 0} (slots : List (Option A)) → filled_slots slots ≤ length slots
 filled_most [] = omega arith
 filled_most (None ∷ slots) = let more = filled_most slots in omega (arith, more)
 filled_most (Some a ∷ slots) = let more = filled_most slots in omega (arith, more)
 
 -- 3. one more answer, or none
 
-where_is : {A : Type 0} (slots : List (Option A)) (o : Option A) (q : ℕ) (a : A) → slot_at (slots ++ o ∷ []) q ≡ Some a → ((q < length slots) × (slot_at slots q ≡ Some a)) ⊎ ((q ≡ length slots) × (o ≡ Some a))
+where_is : {A : Type 0} (slots : List (Option A)) (o : Option A) (q : ℕ) (a : A) → slot_by_place (slots ++ o ∷ []) q ≡ Some a → ((q < length slots) × (slot_by_place slots q ≡ Some a)) ⊎ ((q ≡ length slots) × (o ≡ Some a))
 where_is [] o zero a h = inr (refl, h)
 where_is [] o (suc q) a h = cc
 where_is (b ∷ slots) o zero a h = inl (omega arith, h)
 where_is (b ∷ slots) o (suc q) a h = by (where_is slots o q a h)
   where
-    by : ((q < length slots) × (slot_at slots q ≡ Some a)) ⊎ ((q ≡ length slots) × (o ≡ Some a)) → ((suc q < length (b ∷ slots)) × (slot_at (b ∷ slots) (suc q) ≡ Some a)) ⊎ ((suc q ≡ length (b ∷ slots)) × (o ≡ Some a))
+    by : ((q < length slots) × (slot_by_place slots q ≡ Some a)) ⊎ ((q ≡ length slots) × (o ≡ Some a)) → ((suc q < length (b ∷ slots)) × (slot_by_place (b ∷ slots) (suc q) ≡ Some a)) ⊎ ((suc q ≡ length (b ∷ slots)) × (o ≡ Some a))
     by (inl g) = inl (omega (arith, g.0), g.1)
     by (inr g) = inr (ap suc g.0, g.1)
 
@@ -111,10 +111,10 @@ none_more begin s fresh g = record {
   stay = g.stay;
 }
   where
-    there : (p : ℕ) (a : Kept) → slot_at (fresh ++ None ∷ []) p ≡ Some a → slot_at fresh p ≡ Some a
+    there : (p : ℕ) (a : Kept) → slot_by_place (fresh ++ None ∷ []) p ≡ Some a → slot_by_place fresh p ≡ Some a
     there p a e = by (where_is fresh None p a e)
       where
-        by : ((p < length fresh) × (slot_at fresh p ≡ Some a)) ⊎ ((p ≡ length fresh) × (None ≡ Some a)) → slot_at fresh p ≡ Some a
+        by : ((p < length fresh) × (slot_by_place fresh p ≡ Some a)) ⊎ ((p ≡ length fresh) × (None ≡ Some a)) → slot_by_place fresh p ≡ Some a
         by (inl h) = h.1
         by (inr h) = let no = h.1 in cc
 
@@ -129,16 +129,16 @@ one_new begin s t fresh old b h g = record {
   stay = stay_then begin s t g.stay (stay_new s t old b h);
 }
   where
-    made : (p : ℕ) (a : Kept) → (((p < length fresh) × (slot_at fresh p ≡ Some a)) ⊎ ((p ≡ length fresh) × (Some b ≡ Some a))) → IsMade t a
+    made : (p : ℕ) (a : Kept) → (((p < length fresh) × (slot_by_place fresh p ≡ Some a)) ⊎ ((p ≡ length fresh) × (Some b ≡ Some a))) → IsMade t a
     made p a (inl w) = (stays_new s t old a b h (g.made.each p a w.1)).made
     made p a (inr w) = let same : b ≡ a = let e = w.1 in cc in subst (IsMade t) same h.made
 
-    own : (p q : ℕ) (a c : Kept) → (((p < length fresh) × (slot_at fresh p ≡ Some a)) ⊎ ((p ≡ length fresh) × (Some b ≡ Some a))) → (((q < length fresh) × (slot_at fresh q ≡ Some c)) ⊎ ((q ≡ length fresh) × (Some b ≡ Some c))) → (p ≡ q → ⊥) → HoldOwnRuns a c
+    own : (p q : ℕ) (a c : Kept) → (((p < length fresh) × (slot_by_place fresh p ≡ Some a)) ⊎ ((p ≡ length fresh) × (Some b ≡ Some a))) → (((q < length fresh) × (slot_by_place fresh q ≡ Some c)) ⊎ ((q ≡ length fresh) × (Some b ≡ Some c))) → (p ≡ q → ⊥) → HoldOwnRuns a c
     own p q a c (inl v) (inl w) n = g.own p q a c v.1 w.1 n
     own p q a c (inl v) (inr w) n = let same : b ≡ c = let e = w.1 in cc in subst (HoldOwnRuns a) same (own_sym b a (own_runs s t old a b h (g.made.each p a v.1)))
     own p q a c (inr v) (inl w) n = let same : b ≡ a = let e = v.1 in cc in subst (λ a. HoldOwnRuns a c) same (own_runs s t old c b h (g.made.each q c w.1))
     own p q a c (inr v) (inr w) n = absurd (n (v.0 ∙ sym w.0))
 
-    beside : (p : ℕ) (a c : Kept) → (((p < length fresh) × (slot_at fresh p ≡ Some a)) ⊎ ((p ≡ length fresh) × (Some b ≡ Some a))) → IsMade begin c → HoldOwnRuns a c
+    beside : (p : ℕ) (a c : Kept) → (((p < length fresh) × (slot_by_place fresh p ≡ Some a)) ⊎ ((p ≡ length fresh) × (Some b ≡ Some a))) → IsMade begin c → HoldOwnRuns a c
     beside p a c (inl w) m = g.beside p a c w.1 m
     beside p a c (inr w) m = let same : b ≡ a = let e = w.1 in cc in subst (λ a. HoldOwnRuns a c) same (own_runs s t old c b h (g.stay.each c m).made)

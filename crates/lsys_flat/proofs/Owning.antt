@@ -3,7 +3,7 @@ use Rattle.std.proofs.Common.{◌≡◌, ℕ, zero, suc, ◌<◌, Some, List, []
 use Rattle.std.specs.Prelude.{slice_get, option_map}
 use Rattle.std.proofs.lemmas.Option.{slice_get-map, slice_get_within, slice_get-get_or}
 use Rattle.lsys_spec.specs.Systems.{Each}
-use Rattle.lsys_spec.specs.Levels.{Symbol, Push, lineage}
+use Rattle.lsys_spec.specs.Levels.{LevelSymbol, Push, lineage}
 use Rattle.lsys_spec.specs.Cuts.{Distinct}
 use Rattle.lsys_spec.proofs.Rising.{distinct_apart}
 use Rattle.lsys_level.specs.Spots.{Spotted}
@@ -12,12 +12,12 @@ use Rattle.lsys_flat.specs.Tagged.{Tagged, all_tagged, Agree, AgreeAll, HaveTags
 use Rattle.lsys_flat.proofs.Agreeing.{In, each_in, in_old, distinct_at}
 
 -- a symbol of the levels, with the tag that stands at a spot
-pub record StandsAt (ys : List (List Symbol)) (tags : List (List ℕ)) (t p tag : ℕ) : Type 0 where
-  pub symbol : Symbol
+pub record StandsAt (ys : List (List LevelSymbol)) (tags : List (List ℕ)) (t p tag : ℕ) : Type 0 where
+  pub symbol : LevelSymbol
   pub there : slice_get (get_or ys t []) p ≡ Some symbol
   pub has_tag : slice_get (get_or tags t []) p ≡ Some tag
 
-pub stands_at : (ys : List (List Symbol)) (tags : List (List ℕ)) (xs : List (List Spotted)) → HaveTags ys tags xs → (t p : ℕ) (a : Spotted) → slice_get (get_or xs t []) p ≡ Some a → StandsAt ys tags t p a.tag
+pub stands_at : (ys : List (List LevelSymbol)) (tags : List (List ℕ)) (xs : List (List Spotted)) → HaveTags ys tags xs → (t p : ℕ) (a : Spotted) → slice_get (get_or xs t []) p ≡ Some a → StandsAt ys tags t p a.tag
 stands_at [] [] [] h t p a g = cc
 stands_at (y ∷ ys) (ks ∷ tags) (x ∷ xs) h zero p a g =
     let l : p < length x = slice_get_within x p a g in
@@ -30,7 +30,7 @@ stands_at (y ∷ ys) (ks ∷ tags) (x ∷ xs) h (suc t) p a g =
     let r = stands_at ys tags xs h.2 t p a g in record { symbol = r.symbol; there = r.there; has_tag = r.has_tag }
 stands_at ys tags xs h t p a g = absurd h
 
-pub own_tags : (ys : List (List Symbol)) (tags : List (List ℕ)) (spots : List (List Spotted)) → Each Distinct ys → AgreeAll (all_tagged 0 ys tags) (all_tagged 0 ys tags) → HaveTags ys tags spots → HasOwnTags spots
+pub own_tags : (ys : List (List LevelSymbol)) (tags : List (List ℕ)) (spots : List (List Spotted)) → Each Distinct ys → AgreeAll (all_tagged 0 ys tags) (all_tagged 0 ys tags) → HaveTags ys tags spots → HasOwnTags spots
 own_tags ys tags spots r agree h = record { apart = λ t u p q a b f g e. by t u p q a b e (stands_at ys tags spots h t p a f) (stands_at ys tags spots h u q b g) }
   where
     by : (t u p q : ℕ) (a b : Spotted) → a.tag ≡ b.tag → StandsAt ys tags t p a.tag → StandsAt ys tags u q b.tag → (t ≡ u) × (p ≡ q)

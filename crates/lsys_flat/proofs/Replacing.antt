@@ -8,12 +8,12 @@ use Rattle.lsys_spec.specs.Draws.{key_of}
 use Rattle.lsys_spec.specs.Systems.{System}
 use Rattle.lsys_spec.specs.Bodies.{Body, group}
 use Rattle.lsys_spec.specs.Levels as L
-use Rattle.lsys_spec.specs.Levels.{Symbol, ModuleValue, plain, lineage}
-use Rattle.lsys_spec.specs.Meaning.{asked as asked_of, successor_by, successor}
+use Rattle.lsys_spec.specs.Levels.{LevelSymbol, ModuleValue, plain, lineage}
+use Rattle.lsys_spec.specs.Meaning.{asked as asked_of, successor_by, successor, replacement}
 use Rattle.lsys_spec.specs.Questions.{Question, question}
 use Rattle.lsys_laws.specs.KeptQuestions.{where_grouped, question_here}
 use Rattle.lsys_level.specs.Spots.{Module, Spotted, level_by, seen_by}
-use Rattle.lsys_match.specs.Answered.{Counts}
+use Rattle.lsys_match.specs.Answered.{CountsEntries}
 use Rattle.lsys_match.specs.Asking.{HasQuestion}
 use Rattle.lsys_match.specs.Asks.{ByDefinition, IsAnswer, IsAnswered, IsNamedAt, KeepsStore, asked_if_any, by_definition, news}
 use Rattle.lsys_match.specs.Kept.{Kept}
@@ -24,7 +24,6 @@ use Rattle.lsys_match.specs.declared.refusal.AskRefusal.{AskRefusal}
 use Rattle.lsys_match.specs.declared.refusal.AskRefusal.TheVariants as refusals
 use Rattle.lsys_walks.specs.Stores.{Store}
 use Rattle.lsys_module.specs.Views.{string_of}
-use Rattle.lsys_flat.specs.Steps.{replacement}
 use Rattle.lsys_flat.specs.Replaced.{IsAsked, IsRecalled, IsSymbolAt, IsReplaced, KeepsFound, found_news, found_of}
 
 some_and : {A : Type 0} (P Q : A → Type 0) (o : Option A) → ((a : A) → P a → Q a) → IsSomeAnd o P → IsSomeAnd o Q
@@ -33,19 +32,19 @@ some_and P Q (Some a) f h = f a h
 
 -- 1. a symbol without a question
 
-none_chosen : (s : System) (t : ℕ) (x : List Symbol) (p : ℕ) (l : List ℕ) (m : ModuleValue) → group s t m.name (length m.params) ≡ [] → successor s t x p l m ≡ Ok (S.Module m.name m.params ∷ [])
+none_chosen : (s : System) (t : ℕ) (x : List LevelSymbol) (p : ℕ) (l : List ℕ) (m : ModuleValue) → group s t m.name (length m.params) ≡ [] → successor s t x p l m ≡ Ok (S.Module m.name m.params ∷ [])
 none_chosen s t x p l m e = ap (λ bs. successor_by bs m (asked_of s t bs x p l m).answer) e
 
 -- it is a bracket, or there are no rules for it
-abbrev IsUnruled : System → ℕ → Symbol → Type 0
+abbrev IsUnruled : System → ℕ → LevelSymbol → Type 0
 IsUnruled s t a = (m : ModuleValue) → seen_by a ≡ Module m → group s t m.name (length m.params) ≡ []
 
-unruled_stays : (s : System) (t : ℕ) (x : List Symbol) (p : ℕ) (a : Symbol) → IsUnruled s t a → replacement s t x p a ≡ Ok (plain a ∷ [])
+unruled_stays : (s : System) (t : ℕ) (x : List LevelSymbol) (p : ℕ) (a : LevelSymbol) → IsUnruled s t a → replacement s t x p a ≡ Ok (plain a ∷ [])
 unruled_stays s t x p (L.Push l) h = refl
 unruled_stays s t x p (L.Pop l) h = refl
 unruled_stays s t x p (L.Module l m) h = none_chosen s t x p l m (h m refl)
 
-unruled_asks_none : (s : System) (t : ℕ) (x : List Symbol) (p : ℕ) (a : Symbol) → IsUnruled s t a → question_here s t x p a ≡ None
+unruled_asks_none : (s : System) (t : ℕ) (x : List LevelSymbol) (p : ℕ) (a : LevelSymbol) → IsUnruled s t a → question_here s t x p a ≡ None
 unruled_asks_none s t x p (L.Push l) h = refl
 unruled_asks_none s t x p (L.Pop l) h = refl
 unruled_asks_none s t x p (L.Module l m) h = ap (λ bs. where_grouped bs (question s t bs x p l m)) (h m refl)
@@ -53,12 +52,12 @@ unruled_asks_none s t x p (L.Module l m) h = ap (λ bs. where_grouped bs (questi
 -- 2. a module with a question
 
 -- a module's replacement is its successor
-ruled : (s : System) (t : ℕ) (x : List Symbol) (p : ℕ) (a : Symbol) (m : ModuleValue) → seen_by a ≡ Module m → replacement s t x p a ≡ successor s t x p (lineage a) m
+ruled : (s : System) (t : ℕ) (x : List LevelSymbol) (p : ℕ) (a : LevelSymbol) (m : ModuleValue) → seen_by a ≡ Module m → replacement s t x p a ≡ successor s t x p (lineage a) m
 ruled s t x p (L.Push l) m e = cc
 ruled s t x p (L.Pop l) m e = cc
 ruled s t x p (L.Module l k) m e = let same : k ≡ m = cc in ap (λ m. successor s t x p l m) same
 
-ruled_asks : (s : System) (t : ℕ) (x : List Symbol) (p : ℕ) (a : Symbol) (m : ModuleValue) → seen_by a ≡ Module m → (group s t m.name (length m.params) ≡ [] → ⊥)
+ruled_asks : (s : System) (t : ℕ) (x : List LevelSymbol) (p : ℕ) (a : LevelSymbol) (m : ModuleValue) → seen_by a ≡ Module m → (group s t m.name (length m.params) ≡ [] → ⊥)
     → question_here s t x p a ≡ Some (by_definition s t x p (lineage a) m).question
 ruled_asks s t x p (L.Push l) m e h = cc
 ruled_asks s t x p (L.Pop l) m e h = cc
@@ -73,8 +72,8 @@ ruled_asks s t x p (L.Module l k) m e h =
 
 -- 3. a symbol at its place
 
-module _ (naming : ℕ → List ℕ) (s : System) (t : ℕ) (row : List Spotted) (p : ℕ) (a : Symbol) (h : IsSymbolAt naming s.seed row p a) where
-  abbrev x : List Symbol
+module _ (naming : ℕ → List ℕ) (s : System) (t : ℕ) (row : List Spotted) (p : ℕ) (a : LevelSymbol) (h : IsSymbolAt naming s.seed row p a) where
+  abbrev x : List LevelSymbol
   x = level_by naming row
 
   abbrev d : ModuleValue → ByDefinition
@@ -112,7 +111,7 @@ module _ (naming : ℕ → List ℕ) (s : System) (t : ℕ) (row : List Spotted)
   replaced_as store old (Err refusals.Memory) n q f = tt
 
   pub visited_as : {L : Type 0} (before after : ℕ) (r : Result (Option (Asked L)) AskRefusal) → IfNone (asked_if_any r) (HasQuestion s t row p → ⊥) → IfSome (asked_if_any r) (λ _. HasQuestion s t row p) → IfNone (asked_if_any r) (after ≡ before)
-      → ((tag : ℕ) (m : ModuleValue) → IsNamedAt naming s.seed row p tag m → IfSome (asked_if_any r) (Counts {T = Asked L} (length (by_definition s t x p (naming tag) m).question.trace) before after))
+      → ((tag : ℕ) (m : ModuleValue) → IsNamedAt naming s.seed row p tag m → IfSome (asked_if_any r) (CountsEntries {T = Asked L} (length (by_definition s t x p (naming tag) m).question.trace) before after))
       → IsAsked (question_here s t x p a) before after (found_of r)
   visited_as {L} before after (Ok None) n q same f = subst (λ o. IsAsked {L = L} o before after (found_of (Ok None))) (sym (unruled_asks_none s t x p a (unasked n))) same
   visited_as {L} before after (Ok (Some asked.Same)) n q same f = subst (λ o. IsAsked {L = L} o before after (found_of (Ok (Some asked.Same)))) (sym (is_asked q)) (f h.tag q.here.own (named_there q.here.own (seen_asked q)))

@@ -5,12 +5,12 @@ use Rattle.std.proofs.lemmas.Option.{slice_get-map, slice_get_within}
 use Rattle.lsys_syntax.specs.Strings as S
 use Rattle.lsys_spec.specs.Draws.{key_of}
 use Rattle.lsys_spec.specs.Levels as L
-use Rattle.lsys_spec.specs.Levels.{Symbol, ModuleValue, lineage, plain}
+use Rattle.lsys_spec.specs.Levels.{LevelSymbol, ModuleValue, lineage, plain}
 use Rattle.lsys_level.specs.Spots.{Seen, Push, Pop, Module, Spotted, with_lineage, named, level_by, seen_by}
 use Rattle.lsys_match.specs.Asks.{IsNamedAt}
-use Rattle.lsys_flat.specs.Steps.{counted}
+use Rattle.lsys_flat.specs.Steps.{modules_up_to}
 use Rattle.lsys_flat.specs.Replaced.{IsSymbolAt}
-use Rattle.lsys_flat.specs.Rounds.{IsRow, alone, modules_in}
+use Rattle.lsys_flat.specs.Rounds.{ShowsLevel, seen_alone, seen_modules}
 
 seen_with : (l : List ℕ) (e : Seen) → seen_by (with_lineage l e) ≡ e
 seen_with l Push = refl
@@ -23,7 +23,7 @@ line_with l Pop = refl
 line_with l (Module m) = refl
 
 -- the spot of a symbol
-pub spot_of : (naming : ℕ → List ℕ) (row : List Spotted) (x : List Symbol) (p : ℕ) (a : Symbol) → level_by naming row ≡ x → slice_get x p ≡ Some a → (b : Spotted) × (slice_get row p ≡ Some b) × (b.seen ≡ seen_by a) × (naming b.tag ≡ lineage a)
+pub spot_of : (naming : ℕ → List ℕ) (row : List Spotted) (x : List LevelSymbol) (p : ℕ) (a : LevelSymbol) → level_by naming row ≡ x → slice_get x p ≡ Some a → (b : Spotted) × (slice_get row p ≡ Some b) × (b.seen ≡ seen_by a) × (naming b.tag ≡ lineage a)
 spot_of naming row x p a e h = by (slice_get row p) refl (sym (slice_get-map (named naming) row p) ∙ ap (λ y. slice_get y p) e ∙ h)
   where
     by : (o : Option Spotted) → slice_get row p ≡ o → option_map (named naming) o ≡ Some a → (b : Spotted) × (slice_get row p ≡ Some b) × (b.seen ≡ seen_by a) × (naming b.tag ≡ lineage a)
@@ -32,7 +32,7 @@ spot_of naming row x p a e h = by (slice_get row p) refl (sym (slice_get-map (na
         let same : with_lineage (naming b.tag) b.seen ≡ a = cc in
         (b, f, sym (seen_with (naming b.tag) b.seen) ∙ ap seen_by same, sym (line_with (naming b.tag) b.seen) ∙ ap lineage same)
 
-pub symbol_there : (naming : ℕ → List ℕ) (seed : ℕ) (row : List Spotted) (x : List Symbol) (p : ℕ) (a : Symbol) → IsRow naming seed row x → slice_get x p ≡ Some a → IsSymbolAt naming seed row p a
+pub symbol_there : (naming : ℕ → List ℕ) (seed : ℕ) (row : List Spotted) (x : List LevelSymbol) (p : ℕ) (a : LevelSymbol) → ShowsLevel naming seed row x → slice_get x p ≡ Some a → IsSymbolAt naming seed row p a
 symbol_there naming seed row x p a h e =
     let b = spot_of naming row x p a h.string e in
     let key : b.0.key ≡ key_of seed (lineage a) = h.keys p b.0 b.1 ∙ ap (key_of seed) b.3 in
@@ -42,20 +42,20 @@ length_level : (naming : ℕ → List ℕ) (row : List Spotted) → length (leve
 length_level naming [] = refl
 length_level naming (b ∷ row) = ap suc (length_level naming row)
 
-pub row_length : (naming : ℕ → List ℕ) (seed : ℕ) (row : List Spotted) (x : List Symbol) → IsRow naming seed row x → length x ≡ length row
+pub row_length : (naming : ℕ → List ℕ) (seed : ℕ) (row : List Spotted) (x : List LevelSymbol) → ShowsLevel naming seed row x → length x ≡ length row
 row_length naming seed row x h = ap length (sym h.string) ∙ length_level naming row
 
 -- the key that is seen
-pub key_there : (naming : ℕ → List ℕ) (seed : ℕ) (row : List Spotted) (p : ℕ) (a : Symbol) (key : ℕ) → IsSymbolAt naming seed row p a → option_map (λ s. s.key) (slice_get row p) ≡ Some key → key ≡ key_of seed (lineage a)
+pub key_there : (naming : ℕ → List ℕ) (seed : ℕ) (row : List Spotted) (p : ℕ) (a : LevelSymbol) (key : ℕ) → IsSymbolAt naming seed row p a → option_map (λ s. s.key) (slice_get row p) ≡ Some key → key ≡ key_of seed (lineage a)
 key_there naming seed row p a key h e =
     let both : Some key ≡ Some (key_of seed (lineage a)) = sym e ∙ ap (option_map (λ s. s.key)) h.here in cc
 
-pub alone_plain : (a : Symbol) → alone (seen_by a) ≡ plain a ∷ []
+pub alone_plain : (a : LevelSymbol) → seen_alone (seen_by a) ≡ plain a ∷ []
 alone_plain (L.Push l) = refl
 alone_plain (L.Pop l) = refl
 alone_plain (L.Module l m) = refl
 
-pub counted_seen : (a : Symbol) (n : ℕ) → counted a n ≡ n + modules_in (seen_by a)
+pub counted_seen : (a : LevelSymbol) (n : ℕ) → modules_up_to a n ≡ n + seen_modules (seen_by a)
 counted_seen (L.Push l) n = omega arith
 counted_seen (L.Pop l) n = omega arith
 counted_seen (L.Module l m) n = refl

@@ -3,12 +3,13 @@ use Rattle.std.proofs.Common.{◌≡◌, ℕ, suc, ◌+◌, ◌<◌, ◌≤◌, 
 use Rattle.std.specs.Prelude.{ℤ, slice_get, option_map}
 use Rattle.std.proofs.lemmas.Option.{slice_get-get_or}
 use Rattle.std.proofs.lemmas.List.{length_push}
+use Rattle.lsys_spec.specs.Meaning.{replacement}
 use Rattle.lsys_syntax.specs.Limits.{most_successor_symbols}
 use Rattle.lsys_syntax.specs.Strings as S
 use Rattle.lsys_spec.specs.Draws.{number_base}
 use Rattle.lsys_spec.specs.Systems.{System, WellFormed}
 use Rattle.lsys_spec.specs.Draws.{key_of}
-use Rattle.lsys_spec.specs.Levels.{Symbol, lineage}
+use Rattle.lsys_spec.specs.Levels.{LevelSymbol, lineage}
 use Rattle.lsys_spec.specs.Levels as levels
 use Rattle.lsys_spec.specs.Choice.{Fault}
 use Rattle.lsys_level.specs.Spots.{Seen, Push, Pop, Module, Spotted, level_by, seen_by}
@@ -19,13 +20,12 @@ use Rattle.lsys_match.specs.Kept.{Kept}
 use Rattle.lsys_match.specs.declared.answer.Answer.{Answer}
 use Rattle.lsys_match.specs.declared.refusal.AskRefusal.{AskRefusal}
 use Rattle.lsys_flat.specs.Grown.{Making}
-use Rattle.lsys_flat.specs.Steps.{replacement}
 use Rattle.lsys_flat.proofs.Short.{replacement_short}
 use Rattle.lsys_flat.specs.declared.found.Found.{Found}
 use Rattle.lsys_flat.specs.declared.found.Found.TheVariants as found
 use Rattle.lsys_flat.specs.Replaced.{IsSymbolAt, IsReplaced, KeepsFound, found_news}
-use Rattle.lsys_flat.specs.Slots.{filled, slot_at, slot_of}
-use Rattle.lsys_flat.specs.Rounds.{AreNew, CanAsk, HasOld, IsAt, IsRow, Rounded, StayMade, fresh_found, modules_found, modules_in, questions_found, settled, string_found, taken_found}
+use Rattle.lsys_flat.specs.Slots.{filled_slots, slot_by_place, slot_where_told}
+use Rattle.lsys_flat.specs.Rounds.{AreNew, CanAsk, HasOld, IsAt, ShowsLevel, Rounded, StayMade, fresh_found, modules_found, seen_modules, questions_found, settled, string_found, taken_found}
 use Rattle.lsys_flat.proofs.Seen.{spot_of, symbol_there, row_length}
 use Rattle.lsys_flat.proofs.News.{all_stay, stay_kept, stay_new, none_more, none_new, one_new, set_last, filled_more}
 use Rattle.lsys_flat.proofs.Going.{string_here}
@@ -41,15 +41,15 @@ new_found L begin mid after fresh fresh_now p old f n keeps is h = subst (AreNew
     by found.Same k = none_more begin after fresh (none_new begin mid after fresh (stay_kept mid after k) h)
     by (found.New b) k = one_new begin mid after fresh old b k h
 
-one_filled : (L : Type 0) (f : Found L) → filled (fresh_found f ∷ []) ≡ found_news {L = L} (Ok f)
+one_filled : (L : Type 0) (f : Found L) → filled_slots (fresh_found f ∷ []) ≡ found_news {L = L} (Ok f)
 one_filled L found.Stays = refl
 one_filled L found.Same = refl
 one_filled L (found.New b) = refl
 
 pub asked_found : (L : Type 0) (fresh fresh_now : List (Option Kept)) (p v w : ℕ) (f : Found L) → length fresh ≡ p → fresh_now ≡ set (fresh ++ None ∷ []) p (fresh_found f) → w ≡ v + found_news {L = L} (Ok f)
-    → w + filled fresh ≡ v + filled fresh_now
+    → w + filled_slots fresh ≡ v + filled_slots fresh_now
 asked_found L fresh fresh_now p v w f n is e =
-    let more = ap filled (is ∙ set_last fresh (fresh_found f) p n) ∙ filled_more fresh (fresh_found f) in
+    let more = ap filled_slots (is ∙ set_last fresh (fresh_found f) p n) ∙ filled_more fresh (fresh_found f) in
     let one = one_filled L f in
     omega (arith, e, more, one)
 
@@ -62,7 +62,7 @@ modules_most L (Module m) found.Stays = omega arith
 modules_most L e found.Same = omega arith
 modules_most L e (found.New b) = omega arith
 
-questions_filled : (L : Type 0) (olds : List (Option Kept)) (mate : Option ℕ) (old : Option Kept) (f : Found L) → old ≡ slot_of olds mate → HasOld old f → questions_found f ≡ filled (fresh_found f ∷ []) + filled (taken_found mate f ∷ [])
+questions_filled : (L : Type 0) (olds : List (Option Kept)) (mate : Option ℕ) (old : Option Kept) (f : Found L) → old ≡ slot_where_told olds mate → HasOld old f → questions_found f ≡ filled_slots (fresh_found f ∷ []) + filled_slots (taken_found mate f ∷ [])
 questions_filled L olds mate old found.Stays is h = refl
 questions_filled L olds None None found.Same is h = absurd h
 questions_filled L olds None (Some o) found.Same is h = cc
@@ -75,14 +75,14 @@ questions_most L found.Same = omega arith
 questions_most L (found.New b) = omega arith
 
 pub at_next : (L : Type 0) (p : ℕ) (e : Seen) (olds : List (Option Kept)) (mate : Option ℕ) (old : Option Kept) (f : Found L) (next : Making) (r opened now : Rounded) → IsAt p r → opened ≡ record r { fresh = r.fresh ++ None ∷ []; taken = r.taken ++ None ∷ [] }
-    → now ≡ settled p e mate f next opened → next.grown.parents ≡ r.next.grown.parents + 1 → old ≡ slot_of olds mate → HasOld old f → IsAt (p + 1) now
+    → now ≡ settled p e mate f next opened → next.grown.parents ≡ r.next.grown.parents + 1 → old ≡ slot_where_told olds mate → HasOld old f → IsAt (p + 1) now
 at_next L p e olds mate old f next r opened now at is_opened is parents is_old has = subst (IsAt (p + 1)) (sym (is ∙ ap (settled p e mate f next) is_opened)) (record {
   each_fresh = ap length fresh ∙ length_push r.fresh (fresh_found f) ∙ ap (λ n. n + 1) at.each_fresh;
   each_taken = ap length taken ∙ length_push r.taken (taken_found mate f) ∙ ap (λ n. n + 1) at.each_taken;
   parents = parents ∙ ap (λ n. n + 1) at.parents;
   modules = omega (arith, at.modules, modules_most L e f);
   questions =
-      omega (arith, at.questions, questions_filled L olds mate old f is_old has, ap filled fresh ∙ filled_more r.fresh (fresh_found f), ap filled taken ∙ filled_more r.taken (taken_found mate f));
+      omega (arith, at.questions, questions_filled L olds mate old f is_old has, ap filled_slots fresh ∙ filled_more r.fresh (fresh_found f), ap filled_slots taken ∙ filled_more r.taken (taken_found mate f));
   few = omega (arith, at.few, questions_most L f);
 })
   where
@@ -101,7 +101,7 @@ spot_at row p h =
 -- by some naming this symbol stands there, of which this is seen
 pub record StandsHere (seed : ℕ) (row : List Spotted) (p : ℕ) (b : Spotted) : Type 0 where
   pub naming : ℕ → List ℕ
-  pub symbol : Symbol
+  pub symbol : LevelSymbol
   pub here : IsSymbolAt naming seed row p symbol
   pub seen : b.seen ≡ seen_by symbol
 
@@ -113,10 +113,10 @@ stands_here s row mates p b h e l =
     let here = symbol_there h.naming s.seed row h.level p a h.is there in
     record { naming = h.naming; symbol = a; here = here; seen = let both = sym e ∙ here.here in let same : b ≡ record { seen = seen_by a; tag = here.tag; key = key_of s.seed (lineage a) } = cc in ap (λ (b : Spotted). b.seen) same }
 
-string_short : (n : ℕ) (s : System) (t : ℕ) (x : List Symbol) (p : ℕ) (a : Symbol) (ys : List (S.Symbol ℤ)) → WellFormed s → replacement s t x p a ≡ Ok ys → length ys ≤ number_base
+string_short : (n : ℕ) (s : System) (t : ℕ) (x : List LevelSymbol) (p : ℕ) (a : LevelSymbol) (ys : List (S.Symbol ℤ)) → WellFormed s → replacement s t x p a ≡ Ok ys → length ys ≤ number_base
 string_short n s t x p a ys w h = let short = replacement_short s w t x p a ys h in omega (arith, short)
 
-pub has_old : (L : Type 0) (r : Result (List (S.Symbol ℤ)) Fault) (a : Symbol) (old : Option Kept) (f : Found L) → IsReplaced r a old (Ok f) → HasOld old f
+pub has_old : (L : Type 0) (r : Result (List (S.Symbol ℤ)) Fault) (a : LevelSymbol) (old : Option Kept) (f : Found L) → IsReplaced r a old (Ok f) → HasOld old f
 has_old L r a None found.Same h = absurd h
 has_old L r a (Some o) found.Same h = tt
 has_old L r a None found.Stays h = tt
@@ -124,7 +124,7 @@ has_old L r a (Some o) found.Stays h = tt
 has_old L r a None (found.New b) h = tt
 has_old L r a (Some o) (found.New b) h = tt
 
-pub short_found : (L : Type 0) (s : System) (t : ℕ) (x : List Symbol) (p : ℕ) (a : Symbol) (e : Seen) (old : Option Kept) (f : Found L) → WellFormed s → e ≡ seen_by a → IsReplaced (replacement s t x p a) a old (Ok f) → length (string_found e old f) ≤ number_base
+pub short_found : (L : Type 0) (s : System) (t : ℕ) (x : List LevelSymbol) (p : ℕ) (a : LevelSymbol) (e : Seen) (old : Option Kept) (f : Found L) → WellFormed s → e ≡ seen_by a → IsReplaced (replacement s t x p a) a old (Ok f) → length (string_found e old f) ≤ number_base
 short_found L s t x p a e old f w is h =
     subst (λ e. length (string_found e old f) ≤ number_base) (sym is) (string_short 0 s t x p a (string_found (seen_by a) old f) w (string_here (replacement s t x p a) a old f h))
 

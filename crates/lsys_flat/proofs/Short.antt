@@ -11,14 +11,13 @@ use Rattle.lsys_syntax.specs.Checks.{rule_formals, rule_many}
 use Rattle.lsys_spec.specs.Systems.{System, Each, WellFormed, written}
 use Rattle.lsys_spec.specs.Values.{Tree}
 use Rattle.lsys_spec.specs.Bodies.{Body, body_of, templates, is_for, group_in, group, table_at}
-use Rattle.lsys_spec.specs.Levels.{ModuleValue, Symbol, Push, Pop, Module}
+use Rattle.lsys_spec.specs.Levels.{ModuleValue, LevelSymbol, Push, Pop, Module}
 use Rattle.lsys_spec.specs.Choice.{Choice, NoRule, Chosen, Failed}
-use Rattle.lsys_spec.specs.Meaning.{asked, filled_params, filled, filled_at, successor_by}
+use Rattle.lsys_spec.specs.Meaning.{asked, filled_params, filled, filled_at, successor_by, replacement}
 use Rattle.lsys_spec.proofs.LevelInduction.{ok_parts, ok_as_fault}
 use Rattle.lsys_syntax.proofs.Wide.{is-small}
 use Rattle.lsys_spec.proofs.Applied.{written-back}
 use Rattle.lsys_spec.proofs.Shorts.{values_short}
-use Rattle.lsys_flat.specs.Steps.{replacement}
 
 pub axiom_short : (s : System) → WellFormed s → length s.axiom_string ≤ most_axiom_symbols
 axiom_short s w = subst (λ xs. length xs ≤ most_axiom_symbols) (written-back s.axiom_string) (values_short 0 (written s.axiom_string) w.axiom_short)
@@ -74,7 +73,7 @@ choice_short bs m NoRule ys h k = one_symbol (S.Module m.name m.params) ys cc
 choice_short bs m (Chosen g values) ys h k = chosen_short bs g values ys h k
 choice_short bs m (Failed f) ys h k = cc
 
-pub replacement_short : (s : System) → WellFormed s → (t : ℕ) (x : List Symbol) (p : ℕ) (a : Symbol) (ys : List (S.Symbol ℤ)) → replacement s t x p a ≡ Ok ys → length ys ≤ most_successor_symbols
+pub replacement_short : (s : System) → WellFormed s → (t : ℕ) (x : List LevelSymbol) (p : ℕ) (a : LevelSymbol) (ys : List (S.Symbol ℤ)) → replacement s t x p a ≡ Ok ys → length ys ≤ most_successor_symbols
 replacement_short s w t x p (Push l) ys h = one_symbol S.Push ys cc
 replacement_short s w t x p (Pop l) ys h = one_symbol S.Pop ys cc
 replacement_short s w t x p (Module l m) ys h =

@@ -4,7 +4,7 @@ use Rattle.std.specs.Prelude.{slice_get}
 use Rattle.std.proofs.lemmas.Option.{slice_get_within}
 use Rattle.std.proofs.lemmas.List.{ext_get_or, get_or-set_other, get_or-set_same}
 use Rattle.std.proofs.lemmas.Bool.{cases_order}
-use Rattle.lsys_flat.specs.Moves.{moved, AreApart, AreLeft}
+use Rattle.lsys_flat.specs.Moves.{moved, AreTakenOnce, AreSwapped}
 
 pub moved_length : {A : Type 0} (olds ns : List (Option A)) (ks : List (Option ℕ)) → length (moved olds ns ks) ≡ length ns
 moved_length olds [] ks = refl
@@ -61,7 +61,7 @@ stays olds0 ns0 ks place olds ns h g =
     by_taken p j v (inr (inl e)) l = h.taken p j e v
     by_taken p j v (inr (inr e)) l = absurd (omega (arith, e, l))
 
-pub goes : {A : Type 0} (olds0 ns0 : List (Option A)) (ks : List (Option ℕ)) (place j : ℕ) (olds ns : List (Option A)) (o : Option A) → Going olds0 ns0 ks place olds ns → AreApart ks → length ns0 ≡ length ks → place < length ns → j < length olds → o ≡ get_or ns place None
+pub goes : {A : Type 0} (olds0 ns0 : List (Option A)) (ks : List (Option ℕ)) (place j : ℕ) (olds ns : List (Option A)) (o : Option A) → Going olds0 ns0 ks place olds ns → AreTakenOnce ks → length ns0 ≡ length ks → place < length ns → j < length olds → o ≡ get_or ns place None
     → slice_get ks place ≡ Some (Some j) → Going olds0 ns0 ks (place + 1) (set olds j o) (set ns place (get_or olds j None))
 goes olds0 ns0 ks place j olds ns o h apart same within room was g =
     record {
@@ -92,7 +92,7 @@ pub gone : {A : Type 0} (olds0 ns0 : List (Option A)) (ks : List (Option ℕ)) (
 gone olds0 ns0 ks place olds ns h e l =
     ext_get_or None ns (moved olds0 ns0 ks) (h.same_new ∙ sym (moved_length olds0 ns0 ks)) (λ i k. h.front i (omega (arith, k, h.same_new, e, l)))
 
-pub left : {A : Type 0} (olds0 ns0 : List (Option A)) (ks : List (Option ℕ)) (place : ℕ) (olds ns : List (Option A)) → Going olds0 ns0 ks place olds ns → length ks ≤ place → AreLeft olds0 ns0 ks olds
+pub left : {A : Type 0} (olds0 ns0 : List (Option A)) (ks : List (Option ℕ)) (place : ℕ) (olds ns : List (Option A)) → Going olds0 ns0 ks place olds ns → length ks ≤ place → AreSwapped olds0 ns0 ks olds
 left olds0 ns0 ks place olds ns h l = record {
   same = h.same_old;
   taken = λ p j g. h.taken p j (let k : p < length ks = slice_get_within ks p (Some j) g in omega (arith, k, l)) g;

@@ -3,14 +3,14 @@ use Rattle.std.proofs.Common.{◌≡◌, ℕ, zero, suc, ◌+◌, ◌<◌, ◌�
 use Rattle.std.proofs.lemmas.Bool.{eqb-true}
 use Rattle.std.proofs.lemmas.List.{get_or-set_other, get_or-set_same}
 use Rattle.std.proofs.lemmas.List.Sums.{sum_by-cons, sum_by_push}
-use Rattle.lsys_flat.specs.Supplies.{Supply, in_use, marked, MarksTag, MarksAll, KeepsMarks}
+use Rattle.lsys_flat.specs.Supplies.{Supply, in_use, tags_used, MarksTag, MarksAll, KeepsMarks}
 use Rattle.lsys_spec.specs.Systems.{Each}
 use Rattle.lsys_spec.proofs.Tests.{or_later}
 
-marked_cons : (b : Bool) (used : List Bool) → marked (b ∷ used) ≡ cond b 1 0 + marked used
+marked_cons : (b : Bool) (used : List Bool) → tags_used (b ∷ used) ≡ cond b 1 0 + tags_used used
 marked_cons b used = sum_by-cons (λ b. cond b 1 0) b used
 
-one_mark : (used : List Bool) (n : ℕ) → marked (set used n true) ≤ marked used + 1
+one_mark : (used : List Bool) (n : ℕ) → tags_used (set used n true) ≤ tags_used used + 1
 one_mark [] n = omega arith
 one_mark (b ∷ used) zero = omega (arith, marked_cons b used, marked_cons true used)
 one_mark (b ∷ used) (suc n) = omega (arith, marked_cons b used, marked_cons b (set used n true), one_mark used n)
@@ -18,7 +18,7 @@ one_mark (b ∷ used) (suc n) = omega (arith, marked_cons b used, marked_cons b 
 -- room for marks, in which no tag is in use
 pub record HasMoreRoom (old new : Supply) : Type 0 where
   pub marks : KeepsMarks old new
-  pub same : marked new.used ≡ marked old.used
+  pub same : tags_used new.used ≡ tags_used old.used
 
 pub as_it_was : (s : Supply) → HasMoreRoom s s
 as_it_was s = record { marks = record { used = λ k. refl; next = refl }; same = refl }

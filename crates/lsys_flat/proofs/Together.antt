@@ -6,13 +6,13 @@ use Rattle.std.proofs.lemmas.Option.{slice_get-map}
 use Rattle.lsys_spec.specs.Draws.{key_of}
 use Rattle.lsys_spec.specs.Systems.{Each}
 use Rattle.lsys_spec.specs.Levels as L
-use Rattle.lsys_spec.specs.Levels.{Symbol, lineage, ModuleValue}
-use Rattle.lsys_level.specs.Spots.{Module, with_lineage, named, level_by, level_at, seen_by}
+use Rattle.lsys_spec.specs.Levels.{LevelSymbol, lineage, ModuleValue}
+use Rattle.lsys_level.specs.Spots.{Module, with_lineage, named, level_by, spots_at, seen_by}
 use Rattle.lsys_level.specs.Tags.{StandsThere}
 use Rattle.lsys_flat.specs.Tagged.{Tagged, tagged, all_tagged, Agree, AgreeAll}
 use Rattle.lsys_flat.proofs.Agreeing.{In, each_in, each_of, in_append, append_in, in_old}
 use Rattle.lsys_flat.proofs.Owning.{stands_at}
-use Rattle.lsys_flat.specs.Lines.{Line, AreLines}
+use Rattle.lsys_flat.specs.Lines.{Descent, AreLines}
 use Rattle.lsys_flat.specs.Revised.{Revised, tags_of, spots_by, all_spots, AreNamedTogether, IsKeyed, IsRevised}
 use Rattle.lsys_flat.proofs.Seeing.{spots_have}
 use Rattle.lsys_flat.proofs.Adding.{across, next_olds}
@@ -53,12 +53,12 @@ together old new h g k = each_of (λ a. Each (Agree a) (old ++ new)) (old ++ new
 
 -- 3. levels by a naming
 
-with_own : (s : Symbol) → with_lineage (lineage s) (seen_by s) ≡ s
+with_own : (s : LevelSymbol) → with_lineage (lineage s) (seen_by s) ≡ s
 with_own (L.Push l) = refl
 with_own (L.Pop l) = refl
 with_own (L.Module l m) = refl
 
-level_named : (naming : ℕ → List ℕ) (seed t : ℕ) (x : List Symbol) (ks : List ℕ) → length ks ≡ length x → ((a : Tagged) → In a (tagged t x ks) → naming a.tag ≡ a.line) → level_by naming (spots_by seed x ks) ≡ x
+level_named : (naming : ℕ → List ℕ) (seed t : ℕ) (x : List LevelSymbol) (ks : List ℕ) → length ks ≡ length x → ((a : Tagged) → In a (tagged t x ks) → naming a.tag ≡ a.line) → level_by naming (spots_by seed x ks) ≡ x
 level_named naming seed t [] ks e f = refl
 level_named naming seed t (s ∷ x) [] e f = absurd (omega (arith, e))
 level_named naming seed t (s ∷ x) (k ∷ ks) e f =
@@ -66,7 +66,7 @@ level_named naming seed t (s ∷ x) (k ∷ ks) e f =
     let rest = level_named naming seed t x ks (omega (arith, e)) (λ a i. f a (inr i)) in
     λ i. head i ∷ rest i
 
-levels_named : (naming : ℕ → List ℕ) (seed u : ℕ) (above : List Symbol) (xs : List (List Symbol)) (ls : List Line) → AreLines above xs ls
+levels_named : (naming : ℕ → List ℕ) (seed u : ℕ) (above : List LevelSymbol) (xs : List (List LevelSymbol)) (ls : List Descent) → AreLines above xs ls
     → ((a : Tagged) → In a (all_tagged u xs (tags_of ls)) → naming a.tag ≡ a.line) → (t : ℕ) → level_by naming (get_or (all_spots seed xs (tags_of ls)) t []) ≡ get_or xs t []
 levels_named naming seed u above [] [] h f t = refl
 levels_named naming seed u above [] (l ∷ ls) h f t = absurd h
@@ -76,13 +76,13 @@ levels_named naming seed u above (x ∷ xs) (l ∷ ls) h f (suc t) =
     levels_named naming seed (u + 1) x xs ls h.2 (λ a i. f a (in_append a (tagged u x l.tags) (all_tagged (u + 1) xs (tags_of ls)) (inr i))) t
 
 -- a spot of a level as a tagged symbol
-spot_in : (seed : ℕ) (above : List Symbol) (xs : List (List Symbol)) (ls : List Line) → AreLines above xs ls → (t k : ℕ) → StandsThere k (level_at (all_spots seed xs (tags_of ls)) t)
+spot_in : (seed : ℕ) (above : List LevelSymbol) (xs : List (List LevelSymbol)) (ls : List Descent) → AreLines above xs ls → (t k : ℕ) → StandsThere k (spots_at (all_spots seed xs (tags_of ls)) t)
     → (line : List ℕ) × In (record { level = t; line = line; tag = k }) (all_tagged 0 xs (tags_of ls))
 spot_in seed above xs ls h t k w =
     let s = stands_at xs (tags_of ls) (all_spots seed xs (tags_of ls)) (spots_have seed above xs ls h) t w.place w.spot w.there in
     (lineage s.symbol, in_old xs (tags_of ls) 0 t t w.place s.symbol k (omega arith) s.there (s.has_tag ∙ ap (λ k. Some k) w.is))
 
-pub named_together : (before seed : ℕ) (xs ys : List (List Symbol)) (r : Revised) → IsRevised seed xs ys r → AreNamedTogether xs ys (all_spots before xs (tags_of r.old_lines)) r.view
+pub named_together : (before seed : ℕ) (xs ys : List (List LevelSymbol)) (r : Revised) → IsRevised seed xs ys r → AreNamedTogether xs ys (all_spots before xs (tags_of r.old_lines)) r.view
 named_together before seed xs ys r h = record {
   naming = name_of (all_tagged 0 xs (tags_of r.old_lines) ++ all_tagged 0 ys (tags_of r.lines));
   old_levels = levels_named (name_of (all_tagged 0 xs (tags_of r.old_lines) ++ all_tagged 0 ys (tags_of r.lines))) before 0 _ xs r.old_lines h.olds.lines (λ a i. told a (in_append a (all_tagged 0 xs (tags_of r.old_lines)) (all_tagged 0 ys (tags_of r.lines)) (inl i)));
@@ -91,7 +91,7 @@ named_together before seed xs ys r h = record {
       ∙ levels_named (name_of (all_tagged 0 xs (tags_of r.old_lines) ++ all_tagged 0 ys (tags_of r.lines))) seed 0 _ ys r.lines h.lines (λ a i. told a (in_append a (all_tagged 0 xs (tags_of r.old_lines)) (all_tagged 0 ys (tags_of r.lines)) (inr i))) t;
   across = λ t k m v w e.
       let i = spot_in before _ xs r.old_lines h.olds.lines t k v in
-      let j = spot_in seed _ ys r.lines h.lines t m (subst (λ v. StandsThere m (level_at v t)) h.view w) in
+      let j = spot_in seed _ ys r.lines h.lines t m (subst (λ v. StandsThere m (spots_at v t)) h.view w) in
       let a : Tagged = record { level = t; line = i.0; tag = k } in
       let b : Tagged = record { level = t; line = j.0; tag = m } in
       let all : Agree a b = each_in (Agree a) (all_tagged 0 ys (tags_of r.lines)) b (each_in (λ a. Each (Agree a) (all_tagged 0 ys (tags_of r.lines))) (all_tagged 0 xs (tags_of r.old_lines)) a (across seed xs ys r h) i.1) j.1 in
@@ -108,7 +108,7 @@ named_together before seed xs ys r h = record {
 
 -- 4. keys
 
-spot_of : (seed : ℕ) (y : List Symbol) (ks : List ℕ) → length ks ≡ length y → (p : ℕ) (s : Symbol) → slice_get y p ≡ Some s
+spot_of : (seed : ℕ) (y : List LevelSymbol) (ks : List ℕ) → length ks ≡ length y → (p : ℕ) (s : LevelSymbol) → slice_get y p ≡ Some s
     → (k : ℕ) × (slice_get (spots_by seed y ks) p ≡ Some (record { seen = seen_by s; tag = k; key = key_of seed (lineage s) }))
 spot_of seed [] ks e p s g = cc
 spot_of seed (a ∷ y) [] e p s g = absurd (omega (arith, e))
@@ -116,7 +116,7 @@ spot_of seed (a ∷ y) (k ∷ ks) e zero s g =
     let same : a ≡ s = cc in (k, ap (λ a. Some (record { seen = seen_by a; tag = k; key = key_of seed (lineage a) })) same)
 spot_of seed (a ∷ y) (k ∷ ks) e (suc p) s g = spot_of seed y ks (omega (arith, e)) p s g
 
-spot_there : (seed : ℕ) (above : List Symbol) (ys : List (List Symbol)) (ls : List Line) → AreLines above ys ls → (t p : ℕ) (s : Symbol) → slice_get (get_or ys t []) p ≡ Some s
+spot_there : (seed : ℕ) (above : List LevelSymbol) (ys : List (List LevelSymbol)) (ls : List Descent) → AreLines above ys ls → (t p : ℕ) (s : LevelSymbol) → slice_get (get_or ys t []) p ≡ Some s
     → (k : ℕ) × (slice_get (get_or (all_spots seed ys (tags_of ls)) t []) p ≡ Some (record { seen = seen_by s; tag = k; key = key_of seed (lineage s) }))
 spot_there seed above [] [] h t p s g = cc
 spot_there seed above [] (l ∷ ls) h t p s g = absurd h
@@ -124,13 +124,13 @@ spot_there seed above (y ∷ ys) [] h t p s g = absurd h
 spot_there seed above (y ∷ ys) (l ∷ ls) h zero p s g = spot_of seed y l.tags h.1 p s g
 spot_there seed above (y ∷ ys) (l ∷ ls) h (suc t) p s g = spot_there seed y ys ls h.2 t p s g
 
-pub keyed : (seed : ℕ) (xs ys : List (List Symbol)) (r : Revised) → IsRevised seed xs ys r → (naming : ℕ → List ℕ) (t p : ℕ) (l : List ℕ) (m : ModuleValue)
-    → level_by naming (level_at r.view t) ≡ get_or ys t [] → slice_get (get_or ys t []) p ≡ Some (L.Module l m) → IsKeyed naming seed (level_at r.view t) p l m
+pub keyed : (seed : ℕ) (xs ys : List (List LevelSymbol)) (r : Revised) → IsRevised seed xs ys r → (naming : ℕ → List ℕ) (t p : ℕ) (l : List ℕ) (m : ModuleValue)
+    → level_by naming (spots_at r.view t) ≡ get_or ys t [] → slice_get (get_or ys t []) p ≡ Some (L.Module l m) → IsKeyed naming seed (spots_at r.view t) p l m
 keyed seed xs ys r h naming t p l m e g =
     let s = spot_there seed _ ys r.lines h.lines t p (L.Module l m) g in
-    let there : slice_get (level_at r.view t) p ≡ Some (record { seen = Module m; tag = s.0; key = key_of seed l }) = ap (λ v. slice_get (level_at v t) p) h.view ∙ s.1 in
+    let there : slice_get (spots_at r.view t) p ≡ Some (record { seen = Module m; tag = s.0; key = key_of seed l }) = ap (λ v. slice_get (spots_at v t) p) h.view ∙ s.1 in
     let name : naming s.0 ≡ l =
     let both : Some (L.Module (naming s.0) m) ≡ Some (L.Module l m) =
-    sym (slice_get-map (named naming) (level_at r.view t) p ∙ ap (option_map (named naming)) there) ∙ ap (λ x. slice_get x p) e ∙ g in
+    sym (slice_get-map (named naming) (spots_at r.view t) p ∙ ap (option_map (named naming)) there) ∙ ap (λ x. slice_get x p) e ∙ g in
     cc in
     record { tag = s.0; here = there ∙ ap (λ l. Some (record { seen = Module m; tag = s.0; key = key_of seed l })) (sym name); line = name }

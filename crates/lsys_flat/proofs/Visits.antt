@@ -5,7 +5,7 @@ use Rattle.std.proofs.lemmas.List.{append-nil, length-take}
 use Rattle.std.proofs.lemmas.List.Sums.{sum_by-cons}
 use Rattle.lsys_spec.specs.Systems.{System}
 use Rattle.lsys_spec.specs.Bodies.{Body, group}
-use Rattle.lsys_spec.specs.Levels.{ModuleValue, Symbol, Push, Pop, Module}
+use Rattle.lsys_spec.specs.Levels.{ModuleValue, LevelSymbol, Push, Pop, Module}
 use Rattle.lsys_spec.specs.Meaning.{asked, most_entries}
 use Rattle.lsys_spec.specs.Questions.{Question, question, where_any, questions_from, questions_at, questions_below, is_needed, least_visits}
 
@@ -31,10 +31,10 @@ any_length : (bs : List Body) (q : Question) (qs : List Question) → length (wh
 any_length [] q qs = omega arith
 any_length (b ∷ bs) q qs = omega arith
 
-short_trace : (s : System) (t : ℕ) (bs : List Body) (x : List Symbol) (p : ℕ) (l : List ℕ) (m : ModuleValue) → length (question s t bs x p l m).trace ≤ most_entries + 1
+short_trace : (s : System) (t : ℕ) (bs : List Body) (x : List LevelSymbol) (p : ℕ) (l : List ℕ) (m : ModuleValue) → length (question s t bs x p l m).trace ≤ most_entries + 1
 short_trace s t bs x p l m = omega (arith, length-take (most_entries + 1) (asked s t bs x p l m).entries)
 
-pub level_visits : (s : System) (t : ℕ) (x : List Symbol) (p : ℕ) (rest : List Symbol) → sum_by (λ q. length q.trace) (questions_from s t x p rest) ≤ (most_entries + 1) * length rest
+pub level_visits : (s : System) (t : ℕ) (x : List LevelSymbol) (p : ℕ) (rest : List LevelSymbol) → sum_by (λ q. length q.trace) (questions_from s t x p rest) ≤ (most_entries + 1) * length rest
 level_visits s t x p [] = omega arith
 level_visits s t x p (Push l ∷ rest) = let r : sum_by (λ q. length q.trace) (questions_from s t x (p + 1) rest) ≤ (most_entries + 1) * length rest = level_visits s t x (p + 1) rest in omega (arith, r)
 level_visits s t x p (Pop l ∷ rest) = let r : sum_by (λ q. length q.trace) (questions_from s t x (p + 1) rest) ≤ (most_entries + 1) * length rest = level_visits s t x (p + 1) rest in omega (arith, r)
@@ -44,7 +44,7 @@ level_visits s t x p (Module l m ∷ rest) =
     let one = any_sum (λ (q : Question). length q.trace) bs (question s t bs x p l m) (questions_from s t x (p + 1) rest) in
     omega (arith, r, one, short_trace s t bs x p l m)
 
-pub level_few : (s : System) (t : ℕ) (x : List Symbol) (p : ℕ) (rest : List Symbol) → length (questions_from s t x p rest) ≤ length rest
+pub level_few : (s : System) (t : ℕ) (x : List LevelSymbol) (p : ℕ) (rest : List LevelSymbol) → length (questions_from s t x p rest) ≤ length rest
 level_few s t x p [] = omega arith
 level_few s t x p (Push l ∷ rest) = let r : length (questions_from s t x (p + 1) rest) ≤ length rest = level_few s t x (p + 1) rest in omega (arith, r)
 level_few s t x p (Pop l ∷ rest) = let r : length (questions_from s t x (p + 1) rest) ≤ length rest = level_few s t x (p + 1) rest in omega (arith, r)
@@ -54,7 +54,7 @@ level_few s t x p (Module l m ∷ rest) =
     let one = any_length bs (question s t bs x p l m) (questions_from s t x (p + 1) rest) in
     omega (arith, r, one)
 
-pub more_questions : (s : System) (n : ℕ) (xs : List (List Symbol)) (y : List Symbol) (i t : ℕ) → length xs ≡ i + 1 → n + i ≡ t → questions_below s n (xs ++ y ∷ []) ≡ questions_below s n xs ++ questions_at s t (get_or xs i [])
+pub more_questions : (s : System) (n : ℕ) (xs : List (List LevelSymbol)) (y : List LevelSymbol) (i t : ℕ) → length xs ≡ i + 1 → n + i ≡ t → questions_below s n (xs ++ y ∷ []) ≡ questions_below s n xs ++ questions_at s t (get_or xs i [])
 more_questions s n [] y i t e f = absurd (omega (arith, e))
 more_questions s n (x ∷ []) y zero t e f = let k : n ≡ t = omega (arith, f) in append-nil (questions_at s n x) ∙ ap (λ n. questions_at s n x) k
 more_questions s n (x ∷ []) y (suc i) t e f = absurd (omega (arith, e))

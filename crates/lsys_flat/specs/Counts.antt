@@ -1,9 +1,13 @@
 -- Where children come from, by their places or by their names.
-use Rattle.std.specs.Prelude.{◌≡◌, ◌<◌, ◌==◌, ℕ, List, length, count_by, nat_eq}
+use Rattle.std.specs.Prelude.{◌≡◌, ◌<◌, ◌+◌, ◌==◌, ℕ, List, ◌∷◌, length, count_by, nat_eq}
 use Rattle.std.specs.HashMap.{get}
 use Rattle.std.specs.Map.{count_at}
 use Rattle.lsys_syntax.specs.Commands.{Numbering, by_place, by_name}
 use Rattle.lsys_spec.specs.Draws.{number_base}
+use Rattle.lsys_spec.specs.Numbers.{code_of}
+use Rattle.lsys_module.specs.Views.{symbol_of}
+use Rattle.lsys_module.specs.declared.symbol.Symbol.{Symbol}
+use Rattle.lsys_reading.specs.Commands.{numbering_of}
 use Rattle.lsys_reading.specs.declared.parts.Numbering.TheVariants as code
 use Rattle.lsys_flat.specs.declared.origin.Origin.{Origin}
 use Rattle.lsys_flat.specs.declared.numbers.Numbers.{Numbers}
@@ -14,11 +18,20 @@ origin_at by_place parent n before code = record { parent = parent; code = 0; co
 origin_at by_name parent n before code = record { parent = parent; code = code; count = count_by (λ c. c == code) before }
 
 -- n children were numbered, with these codes
-pub record IsBehind (n : ℕ) (before : List ℕ) (a : Numbers) : Type 0 where
+pub record HasNumbered (n : ℕ) (before : List ℕ) (a : Numbers) : Type 0 where
   pub children : a.children ≡ n
   pub length : length before ≡ n
   pub counts : a.numbering ≡ code.ByName → (c : ℕ) → count_at (get nat_eq a.counts) c ≡ count_by (λ d. d == c) before
 
 -- fewer were numbered than there are numbers for a code
-abbrev pub AreFew : Numbers → Type 0
-AreFew a = (n : ℕ) × (before : List ℕ) × IsBehind n before a × (n < number_base)
+abbrev pub HasNumbersLeft : Numbers → Type 0
+HasNumbersLeft a = (n : ℕ) × (before : List ℕ) × HasNumbered n before a × (n < number_base)
+
+-- the next child comes from there, of the parent at this place
+abbrev pub IsNextOrigin : Numbers → ℕ → Symbol → Origin → Type 0
+IsNextOrigin a parent child origin =
+    (n : ℕ) (before : List ℕ) → HasNumbered n before a → origin ≡ origin_at (numbering_of a.numbering) parent n before (code_of (symbol_of child))
+
+-- it is counted behind the others
+abbrev pub CountsChild : Symbol → Numbers → Numbers → Type 0
+CountsChild child old new = (n : ℕ) (before : List ℕ) → HasNumbered n before old → HasNumbered (n + 1) (code_of (symbol_of child) ∷ before) new

@@ -16,3 +16,6 @@ pub mod Slots
 pub mod Counted
 pub mod Rounds
 pub mod Replaced
+pub mod Besides
+pub mod Plans
+pub mod Laws

@@ -17,14 +17,14 @@ IsPlaceOf old o (Some p) = slice_get old p ≡ Some o
 IsPlaceOf old o None = (p : ℕ) → slice_get old p ≡ Some o → ⊥
 
 -- these are the origins with their places, in order
-pub record AreOf (old : List Origin) (placed : List Placed) : Type 0 where
+pub record ArePlacesOf (old : List Origin) (placed : List Placed) : Type 0 where
   pub each : All (λ p. slice_get old p.place ≡ Some p.origin) placed
   pub whole : (p : ℕ) (o : Origin) → slice_get old p ≡ Some o → Contains placed (record { origin = o; place = p })
   pub order : IsSortedByKey (λ p. p.origin) origin_cmp placed
 
 -- they were sorted, unless there are none
 abbrev pub AreSorted : List Origin → List Placed → Type 0
-AreSorted old placed = 0 < length placed → AreOf old placed
+AreSorted old placed = 0 < length placed → ArePlacesOf old placed
 
 abbrev pub StandsAt : List Placed → Origin → ℕ → Type 0
 StandsAt placed o p = Contains placed (record { origin = o; place = p })

@@ -3,7 +3,7 @@ use Rattle.std.specs.Prelude.{◌≡◌, ◌≤◌, ◌+◌, ℕ, ℤ, List, [],
 use Rattle.std.specs.Option.{IsSomeAnd}
 use Rattle.lsys_syntax.specs.Strings as S
 use Rattle.lsys_spec.specs.Draws.{key_of}
-use Rattle.lsys_spec.specs.Levels.{Symbol, plain, lineage}
+use Rattle.lsys_spec.specs.Levels.{LevelSymbol, plain, lineage}
 use Rattle.lsys_spec.specs.Choice.{Fault}
 use Rattle.lsys_spec.specs.Questions.{Question}
 use Rattle.lsys_module.specs.Views.{string_of}
@@ -21,7 +21,7 @@ use Rattle.lsys_match.specs.declared.asked.Asked.{Asked}
 use Rattle.lsys_match.specs.declared.asked.Asked.TheVariants as asked
 
 -- This symbol stands at place p, by a naming of the tags, with the key of its lineage.
-pub record IsSymbolAt (naming : ℕ → List ℕ) (seed : ℕ) (row : List Spotted) (p : ℕ) (a : Symbol) : Type 0 where
+pub record IsSymbolAt (naming : ℕ → List ℕ) (seed : ℕ) (row : List Spotted) (p : ℕ) (a : LevelSymbol) : Type 0 where
   pub tag : ℕ
   pub here : slice_get row p ≡ Some (record { seen = seen_by a; tag = tag; key = key_of seed (lineage a) })
   pub line : naming tag ≡ lineage a
@@ -34,7 +34,7 @@ found_of (Ok (Some (asked.New b))) = Ok (New b)
 found_of (Err e) = Err e
 
 -- The symbol itself replaces it, or the successor of the old answer or of the new one; or this is its fault.
-abbrev pub IsReplaced : {L : Type 0} → Result (List (S.Symbol ℤ)) Fault → Symbol → Option Kept → Result (Found L) AskRefusal → Type 0
+abbrev pub IsReplaced : {L : Type 0} → Result (List (S.Symbol ℤ)) Fault → LevelSymbol → Option Kept → Result (Found L) AskRefusal → Type 0
 IsReplaced r a old (Ok Stays) = r ≡ Ok (plain a ∷ [])
 IsReplaced r a old (Ok Same) = IsSomeAnd old (λ o. r ≡ Ok (string_of o.successor))
 IsReplaced r a old (Ok (New b)) = r ≡ Ok (string_of b.successor)

@@ -1,53 +1,53 @@
 -- New levels beside old ones.
-use Rattle.std.specs.Prelude.{◌≡◌, ◌<◌, ◌≤◌, ◌+◌, ◌^◌, ℕ, zero, suc, true, Option, Some, List, [], ◌∷◌, length, map, sum_by, slice_get, slice_index_or}
+use Rattle.std.specs.Prelude.{◌≡◌, ◌<◌, ◌≤◌, ◌+◌, ◌^◌, ℕ, zero, suc, true, Option, Some, List, [], ◌∷◌, ◌++◌, length, map, sum_by, slice_get, slice_index_or}
 use Rattle.lsys_spec.specs.Draws.{key_of}
 use Rattle.lsys_spec.specs.Systems.{Each}
 use Rattle.lsys_spec.specs.Levels as L
-use Rattle.lsys_spec.specs.Levels.{Symbol, lineage, level_balanced}
+use Rattle.lsys_spec.specs.Levels.{LevelSymbol, lineage, level_balanced}
 use Rattle.lsys_spec.specs.Cuts.{Distinct}
-use Rattle.lsys_level.specs.Spots.{Module, Spotted, seen_by, level_by, level_at}
+use Rattle.lsys_level.specs.Spots.{Module, Spotted, seen_by, level_by, spots_at}
 use Rattle.lsys_laws.specs.KeptQuestions.{places_in}
-use Rattle.lsys_flat.specs.Origins.{root}
-use Rattle.lsys_flat.specs.Supplies.{Supply, in_use, taken, AreNamed}
+use Rattle.lsys_flat.specs.Origins.{root_level}
+use Rattle.lsys_flat.specs.Supplies.{Supply, in_use, tags_held, AreNamed}
 use Rattle.lsys_level.specs.Tags.{NamesTell}
 use Rattle.lsys_flat.specs.Tagged.{all_tagged, AgreeAll}
 use Rattle.lsys_flat.specs.Grown.{HasSymbols}
 use Rattle.lsys_flat.specs.declared.level.Level.{Level}
-use Rattle.lsys_flat.specs.Lines.{Line, AreLines}
+use Rattle.lsys_flat.specs.Lines.{Descent, AreLines}
 
 pub record Revised : Type 0 where
-  pub old_lines : List Line
+  pub old_lines : List Descent
   pub view : List (List Spotted)
-  pub lines : List Line
+  pub lines : List Descent
   pub supply : Supply
   pub mates : List (Option ℕ)
 
-abbrev pub tags_of : List Line → List (List ℕ)
+abbrev pub tags_of : List Descent → List (List ℕ)
 tags_of ls = map (λ l. l.tags) ls
 
 -- 1. the old levels
 
 -- Each lineage stands once in a level, tags are equal exactly where level and lineage are, and the symbols are fewer than numbers have.
-pub record AreOldLevels (xs : List (List Symbol)) (old : List Line) : Type 0 where
+pub record AreOldLevels (xs : List (List LevelSymbol)) (old : List Descent) : Type 0 where
   pub distinct : Each Distinct xs
-  pub lines : AreLines root xs old
+  pub lines : AreLines root_level xs old
   pub agree : AgreeAll (all_tagged 0 xs (tags_of old)) (all_tagged 0 xs (tags_of old))
 
 -- 2. the new ones
 
 -- a level with these tags, and with its keys by a seed
-abbrev pub spots_by : ℕ → List Symbol → List ℕ → List Spotted
+abbrev pub spots_by : ℕ → List LevelSymbol → List ℕ → List Spotted
 spots_by seed [] ks = []
 spots_by seed (s ∷ x) [] = []
 spots_by seed (s ∷ x) (k ∷ ks) = record { seen = seen_by s; tag = k; key = key_of seed (lineage s) } ∷ spots_by seed x ks
 
-abbrev pub all_spots : ℕ → List (List Symbol) → List (List ℕ) → List (List Spotted)
+abbrev pub all_spots : ℕ → List (List LevelSymbol) → List (List ℕ) → List (List Spotted)
 all_spots seed [] kss = []
 all_spots seed (y ∷ ys) [] = []
 all_spots seed (y ∷ ys) (ks ∷ kss) = spots_by seed y ks ∷ all_spots seed ys kss
 
 -- New levels, the first of which is level t, were named one after another beside the old ones; and the number from which tags are given then.
-abbrev pub AreAllNamed : List (List Symbol) → List (List ℕ) → Supply → ℕ → ℕ → List (List Symbol) → List (List ℕ) → Type 0
+abbrev pub AreAllNamed : List (List LevelSymbol) → List (List ℕ) → Supply → ℕ → ℕ → List (List LevelSymbol) → List (List ℕ) → Type 0
 AreAllNamed xs olds s t from [] [] = from ≡ s.next
 AreAllNamed xs olds s t from [] (ks ∷ kss) = ⊥
 AreAllNamed xs olds s t from (y ∷ ys) [] = ⊥
@@ -55,44 +55,53 @@ AreAllNamed xs olds s t from (y ∷ ys) (ks ∷ kss) =
     (to : ℕ) × AreNamed (slice_index_or olds t []) s.used (places_in (slice_index_or xs t []) y) from ks to × AreAllNamed xs olds s (t + 1) to ys kss
 
 -- the level above level t, of which the others are these
-abbrev pub above_level : List (List Symbol) → ℕ → List Symbol
-above_level xs zero = root
+abbrev pub above_level : List (List LevelSymbol) → ℕ → List LevelSymbol
+above_level xs zero = root_level
 above_level xs (suc t) = slice_index_or xs t []
 
-pub record IsRevised (seed : ℕ) (xs ys : List (List Symbol)) (r : Revised) : Type 0 where
+pub record IsRevised (seed : ℕ) (xs ys : List (List LevelSymbol)) (r : Revised) : Type 0 where
   pub olds : AreOldLevels xs r.old_lines
   pub in_use : Each (λ a. in_use r.supply.used a.tag ≡ true) (all_tagged 0 xs (tags_of r.old_lines))
   pub distinct : Each Distinct ys
-  pub lines : AreLines root ys r.lines
+  pub lines : AreLines root_level ys r.lines
   pub view : r.view ≡ all_spots seed ys (tags_of r.lines)
   pub named : AreAllNamed xs (tags_of r.old_lines) r.supply 0 0 ys (tags_of r.lines)
   pub mates : r.mates ≡ places_in (above_level xs (length ys)) (above_level ys (length ys))
-  pub few : taken r.supply ≤ sum_by length xs + sum_by length ys
+  pub few : tags_held r.supply ≤ sum_by length xs + sum_by length ys
 
 -- the next level: balanced, each lineage stands there once, and its symbols come from the last one; and there are numbers enough
-pub record IsNext (seed : ℕ) (xs ys : List (List Symbol)) (y : List Symbol) (level : Level) : Type 0 where
+pub record IsNextLevel (seed : ℕ) (xs ys : List (List LevelSymbol)) (y : List LevelSymbol) (level : Level) : Type 0 where
   pub distinct : Distinct y
   pub balanced : level_balanced 0 y ≡ true
   pub symbols : HasSymbols seed (above_level ys (length ys)) y level.symbols level.origins.items level.keys.items
   pub few : sum_by length xs + sum_by length ys + length y < 2 ^ 32
 
+-- no level was made yet beside those of which this is kept
+abbrev pub IsBegunBeside : List Descent → Revised → Type 0
+IsBegunBeside old r = (seed : ℕ) (xs : List (List LevelSymbol)) → AreOldLevels xs old → IsRevised seed xs [] r
+
+-- the next level was added
+abbrev pub GrowsByLevel : Level → Revised → Revised → Type 0
+GrowsByLevel level old new =
+    (seed : ℕ) (xs ys : List (List LevelSymbol)) (y : List LevelSymbol) → IsRevised seed xs ys old → IsNextLevel seed xs ys y level → IsRevised seed xs (ys ++ y ∷ []) new
+
 -- by some seed and levels this is the next level
 pub record CanAdd (r : Revised) (level : Level) : Type 0 where
   pub seed : ℕ
-  pub xs : List (List Symbol)
-  pub ys : List (List Symbol)
-  pub y : List Symbol
+  pub xs : List (List LevelSymbol)
+  pub ys : List (List LevelSymbol)
+  pub y : List LevelSymbol
   pub so_far : IsRevised seed xs ys r
-  pub next : IsNext seed xs ys y level
+  pub next : IsNextLevel seed xs ys y level
 
 -- 3. by one naming of the tags
 
 -- One naming makes the old levels of what was seen of them, and the new ones of what is seen; and on each level the tags of both are equal where their names are.
-pub record AreNamedTogether (xs ys : List (List Symbol)) (old new : List (List Spotted)) : Type 0 where
+pub record AreNamedTogether (xs ys : List (List LevelSymbol)) (old new : List (List Spotted)) : Type 0 where
   pub naming : ℕ → List ℕ
-  pub old_levels : (t : ℕ) → level_by naming (level_at old t) ≡ slice_index_or xs t []
-  pub new_levels : (t : ℕ) → level_by naming (level_at new t) ≡ slice_index_or ys t []
-  pub across : (t : ℕ) → NamesTell naming (level_at old t) (level_at new t)
+  pub old_levels : (t : ℕ) → level_by naming (spots_at old t) ≡ slice_index_or xs t []
+  pub new_levels : (t : ℕ) → level_by naming (spots_at new t) ≡ slice_index_or ys t []
+  pub across : (t : ℕ) → NamesTell naming (spots_at old t) (spots_at new t)
 
 -- the module m stands at place p; its tag names its lineage l, of which it has the key
 pub record IsKeyed (naming : ℕ → List ℕ) (seed : ℕ) (row : List Spotted) (p : ℕ) (l : List ℕ) (m : L.ModuleValue) : Type 0 where

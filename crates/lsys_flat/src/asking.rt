@@ -1,12 +1,9 @@
 //! What replaces one symbol of a level.
-ghost use Rattle.std.specs.Prelude.{◌≡◌, ◌+◌, ◌<◌, ℕ, List, length, option_map};
-ghost use Rattle.lsys_spec.specs.Levels.{ModuleValue, Symbol};
-ghost use Rattle.lsys_level.specs.Spots.{level_at, level_by};
+ghost use Rattle.std.specs.Prelude.{◌≡◌, ◌+◌, ◌<◌, length};
 ghost use Rattle.lsys_match.specs.Asking.{asked_level};
-ghost use Rattle.lsys_match.specs.Asks.{IsMadeIfAny, IsNamedAt, by_definition};
-ghost use Rattle.lsys_flat.specs.Steps.{replacement};
-ghost use Rattle.lsys_laws.specs.KeptQuestions.{question_here};
-ghost use Rattle.lsys_flat.specs.Replaced.{IsAsked, IsRecalled, IsReplaced, IsSymbolAt, KeepsFound, found_news, found_of};
+ghost use Rattle.lsys_match.specs.Asks.{IsMadeIfAny, kept_lent};
+ghost use Rattle.lsys_flat.specs.Replaced.{KeepsFound, found_news, found_of};
+ghost use Rattle.lsys_flat.specs.Besides.{row_beside, IsReadBeside, IsRecalledBeside, IsReplacedBeside};
 
 use crate::beside::Beside;
 use crate::found::Found;
@@ -32,30 +29,14 @@ pub(crate) fn ask_at<'a, L: Ledger, V: Ledger>(
     visited: &mut Steps<V>,
 ) -> Result<Found<L>, AskRefusal>
     requires asker { asker.old ≡ asked_level beside.now.system.now beside.now.level }
-    requires place { place < length (level_at beside.now.view.now beside.now.level) }
-    requires made { IsMadeIfAny store.old (option_map (λ a. a.now) old) }
+    requires place { place < length (row_beside beside.now) }
+    requires made { IsMadeIfAny store.old (kept_lent old) }
     ensures same { asker.new ≡ asker.old }
-    ensures replaced { let row = level_at beside.now.view.now beside.now.level in
-        (naming : ℕ → List ℕ) (a : Symbol)
-        → IsSymbolAt naming beside.now.system.now.seed row place a
-        → IsReplaced (replacement beside.now.system.now beside.now.level
-        (level_by naming row) place a) a
-        (option_map (λ a. a.now) old.entry) result }
-    ensures answered { let row = level_at beside.now.view.now beside.now.level in
-        (naming : ℕ → List ℕ) (tag : ℕ) (m : ModuleValue)
-        → IsNamedAt naming beside.now.system.now.seed row place tag m
-        → IsRecalled naming
-        (by_definition beside.now.system.now beside.now.level (level_by naming row) place
-        (naming tag) m) store.new
-        (option_map (λ a. a.now) old.entry) result }
-    ensures visited { let row = level_at beside.now.view.now beside.now.level in
-        (naming : ℕ → List ℕ) (a : Symbol)
-        → IsSymbolAt naming beside.now.system.now.seed row place a
-        → IsAsked (question_here beside.now.system.now beside.now.level
-        (level_by naming row) place a)
-        visited.old visited.new result }
+    ensures replaced { IsReplacedBeside beside.now place old.entry result }
+    ensures answered { IsRecalledBeside beside.now place old.entry store.new result }
+    ensures visited { IsReadBeside beside.now place visited result }
     ensures asked { asked.new ≡ asked.old + found_news result }
-    ensures store { KeepsFound store.old store.new (option_map (λ a. a.now) old.entry) result }
+    ensures store { KeepsFound store.old store.new (kept_lent old.entry) result }
 {
     let spot = FlatSpot {
         level: beside.level,

@@ -1,6 +1,7 @@
 //! A new level beside the old one.
-ghost use Rattle.std.specs.Prelude.{◌≡◌, ◌<◌, length, option_map};
-ghost use Rattle.lsys_flat.specs.Slots.{slot_at, slot_of};
+ghost use Rattle.std.specs.Prelude.{◌≡◌, ◌<◌, length};
+ghost use Rattle.lsys_match.specs.Asks.{kept_lent};
+ghost use Rattle.lsys_flat.specs.Besides.{old_beside};
 
 use lsys_level::FlatLevels;
 use lsys_match::Answer;
@@ -22,7 +23,7 @@ impl<'a, L: Ledger> Beside<'a, L> {
     // What was kept at the old place of the symbol.
     pub(crate) fn old(&self, place: usize) -> Option<&Answer<L>>
         requires { place < length self.now.mates.now }
-        ensures { option_map (λ a. a.now) result ≡ slot_of self.now.olds.now (slot_at self.now.mates.now place) }
+        ensures { kept_lent result ≡ old_beside self.now place }
     {
         let Some(from) = self.mates[place] else {
             return None;

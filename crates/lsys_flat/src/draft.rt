@@ -1,16 +1,14 @@
 //! New levels, planned beside old ones.
-ghost use Rattle.std.specs.Prelude.{◌≡◌, ◌+◌, ◌++◌, ◌∷◌, [], ◌<◌, ◌≤◌, ◌*◌, ◌^◌, ℕ, List, Option, IfErr, IfOk, OnErr, OnOk, length, map, sum_by};
-ghost use Rattle.lsys_spec.specs.Levels as levels;
-ghost use Rattle.lsys_walks.specs.Stores.{Store};
-ghost use Rattle.lsys_match.specs.Derivations.{Rises, most_read};
+ghost use Rattle.std.specs.Prelude.{◌≡◌, ◌+◌, [], ◌<◌, ◌≤◌, ◌^◌, List, IfOk, OnErr, OnOk, length, map, sum_by};
+ghost use Rattle.lsys_syntax.specs.Limits.{greatest_module_limit};
 ghost use Rattle.lsys_laws.specs.Sessions.{IsWell};
-ghost use Rattle.lsys_level.specs.Spots.{level_at};
-ghost use Rattle.lsys_match.specs.Kept.{Kept};
-ghost use Rattle.lsys_flat.specs.Lines.{Line, line_of};
-ghost use Rattle.lsys_flat.specs.Slots.{filled};
-ghost use Rattle.lsys_flat.specs.Answers.{level_of, lists_of, AreMade, AreOwn, OthersStayMade};
+ghost use Rattle.lsys_level.specs.Spots.{spots_at};
+ghost use Rattle.lsys_flat.specs.Lines.{Descent, line_of};
+ghost use Rattle.lsys_flat.specs.Slots.{filled_slots};
+ghost use Rattle.lsys_flat.specs.Answers.{at_level, lists_of, AreMadeWith, AllHoldOwnRuns, OthersStayMade};
 ghost use Rattle.lsys_flat.specs.Rounds.{AreMadeAt, CanAsk, StayMade};
-ghost use Rattle.lsys_flat.specs.Drafts.{AreAllNew, AreOlds, CanAdd, CanBegin, CanComplete, CanGoOn, HasAsked, HasFound, IsAdded, IsDraft, IsEmpty, IsRefusal};
+ghost use Rattle.lsys_flat.specs.Drafts.{with_level_open, AreAllNew, CanAddNext, CanBegin, CanComplete, HasAskedLevels, IsLevelAdded, IsEmpty};
+ghost use Rattle.lsys_flat.specs.Plans.{lines_kept, answers_kept, AllStayNew, AsksFew, AsksFewBeside, AsksLevel, BeginsDraft, CanAskLevel, CompletesDraft, CountsNew, DraftsNext, EndsDraft, ReadsFewBeside, RefusesLevels};
 
 use crate::plan::{Olds, Plan};
 use crate::{Ancestry, Beside, Level, NextLevel, Revision, Round, release_all};
@@ -82,19 +80,15 @@ impl<'a, L: Ledger> Draft<'a, L> {
         asked: &mut Steps<L>,
         visited: &mut Steps<V>,
     ) -> Result<(), DeriveRefusal>
-        requires { CanComplete (map line_of olds.now.ancestries.now) (lists_of olds.now.answers.now) store.old self.old }
-        ensures completed { (limit : ℕ) (xs : List (List levels.Symbol))
-            → IsEmpty limit (map line_of olds.now.ancestries.now) self.old
-            → AreOlds limit xs (map line_of olds.now.ancestries.now) (lists_of olds.now.answers.now) store.old
-            → OnOk result (IsDraft system.now limit xs (map line_of olds.now.ancestries.now)
-            (lists_of olds.now.answers.now) store.old store.new visited.old visited.new system.now.depth self.new) }
-        ensures found { OnOk result (HasFound system.now.depth self.new) }
+        requires { CanComplete (lines_kept olds.now) (answers_kept olds.now) store.old self.old }
+        ensures completed { CompletesDraft olds.now system.now self store visited result }
+        ensures found { OnOk result (HasAskedLevels system.now.depth self.new) }
         ensures well { OnOk result (IsWell system.now) }
         ensures new { AreAllNew store.old store.new self.new.fresh }
-        ensures asked { asked.new ≡ asked.old + sum_by filled self.new.fresh }
-        ensures refused { (limit : ℕ) → IsEmpty limit (map line_of olds.now.ancestries.now) self.old → IfErr result (IsRefusal system.now limit) }
-        ensures few_asked { (limit : ℕ) → IsEmpty limit (map line_of olds.now.ancestries.now) self.old → sum_by length self.new.fresh ≤ limit }
-        ensures few_read { (limit : ℕ) → IsEmpty limit (map line_of olds.now.ancestries.now) self.old → OnErr result (Rises 0 (most_read * limit) visited.old visited.new) }
+        ensures asked { asked.new ≡ asked.old + sum_by filled_slots self.new.fresh }
+        ensures refused { RefusesLevels (lines_kept olds.now) system.now self.old result }
+        ensures few_asked { AsksFewBeside (lines_kept olds.now) self }
+        ensures few_read { ReadsFewBeside (lines_kept olds.now) self.old visited result }
     {
         self.begin(system)?;
         for level in 0..system.depth() {
@@ -106,15 +100,10 @@ impl<'a, L: Ledger> Draft<'a, L> {
     // Level 0 is what the cut leaves of the axiom.
     fn begin(&mut self, system: &System) -> Result<(), DeriveRefusal>
         requires { CanBegin self.old }
-        ensures begun { (limit : ℕ) (old_lines : List Line) (xs : List (List levels.Symbol))
-            (kept : List (List (Option Kept))) (begin : Store) (before : ℕ)
-            → IsEmpty limit old_lines self.old → AreOlds limit xs old_lines kept begin
-            → OnOk result (IsDraft system.now limit xs old_lines kept begin begin before before 0 self.new) }
-        ensures found { (limit : ℕ) (old_lines : List Line) → IsEmpty limit old_lines self.old
-            → OnOk result (HasFound 0 self.new) }
+        ensures begun { BeginsDraft system.now self result }
+        ensures found { OnOk result (HasAskedLevels 0 self.new) }
         ensures fresh { self.new.fresh ≡ self.old.fresh }
-        ensures refused { (limit : ℕ) (old_lines : List Line) → IsEmpty limit old_lines self.old
-            → IfErr result (IsRefusal system.now limit) }
+        ensures refused { (old_lines : List Descent) → RefusesLevels old_lines system.now self.old result }
         ensures well { IsWell system.now }
     {
         let mut axiom = NextLevel::new(self.alloc, system.lineage(), self.room);
@@ -132,26 +121,14 @@ impl<'a, L: Ledger> Draft<'a, L> {
         asked: &mut Steps<L>,
         visited: &mut Steps<V>,
     ) -> Result<(), DeriveRefusal>
-        requires { (limit : ℕ) × CanGoOn system.now limit (map line_of olds.now.ancestries.now) (lists_of olds.now.answers.now) store.old visited.old level self.old }
-        ensures going { (limit : ℕ) (xs : List (List levels.Symbol)) (begin : Store) (before : ℕ)
-            → AreOlds limit xs (map line_of olds.now.ancestries.now) (lists_of olds.now.answers.now) begin
-            → AreAllNew begin store.old self.old.fresh
-            → IsDraft system.now limit xs (map line_of olds.now.ancestries.now) (lists_of olds.now.answers.now)
-            begin store.old before visited.old level self.old
-            → OnOk result (IsDraft system.now limit xs (map line_of olds.now.ancestries.now)
-            (lists_of olds.now.answers.now) begin store.new before visited.new (level + 1) self.new) }
-        ensures refused { (limit : ℕ) (xs : List (List levels.Symbol)) (begin : Store) (before : ℕ)
-            → IsDraft system.now limit xs (map line_of olds.now.ancestries.now) (lists_of olds.now.answers.now)
-            begin store.old before visited.old level self.old
-            → IfErr result (λ e. IsRefusal system.now limit e × Rises 0 (most_read * limit) before visited.new) }
-        ensures found { OnOk result (HasFound (level + 1) self.new) }
+        requires { CanAskLevel olds.now system.now store.old visited.old level self.old }
+        ensures going { DraftsNext olds.now system.now level self store visited result }
+        ensures refused { EndsDraft olds.now system.now level self store visited result }
+        ensures found { OnOk result (HasAskedLevels (level + 1) self.new) }
         ensures stay { StayMade store.old store.new }
-        ensures new { (begin : Store) → AreAllNew begin store.old self.old.fresh → AreAllNew begin store.new self.new.fresh }
-        ensures asked { asked.new + sum_by filled self.old.fresh ≡ asked.old + sum_by filled self.new.fresh }
-        ensures few { (limit : ℕ) (xs : List (List levels.Symbol)) (begin : Store) (before : ℕ)
-            → IsDraft system.now limit xs (map line_of olds.now.ancestries.now) (lists_of olds.now.answers.now)
-            begin store.old before visited.old level self.old
-            → sum_by length self.new.fresh ≤ limit }
+        ensures new { AllStayNew store self }
+        ensures asked { CountsNew asked self }
+        ensures few { AsksFew olds.now system.now level self store visited }
     {
         self.open()?;
         let (done, next) = self.ask(olds, system, level, store, asked, visited);
@@ -161,7 +138,7 @@ impl<'a, L: Ledger> Draft<'a, L> {
 
     // Makes room for what is found out about the next level.
     fn open(&mut self) -> Result<(), AllocError>
-        ensures opened { OnOk result (self.new ≡ record self.old { fresh = self.old.fresh ++ [] ∷ []; taken = self.old.taken ++ [] ∷ [] }) }
+        ensures opened { OnOk result (self.new ≡ with_level_open self.old) }
         ensures refused { OnErr result (self.new.fresh ≡ self.old.fresh) }
     {
         self.taken.push(Vec::new(self.alloc))?;
@@ -179,14 +156,13 @@ impl<'a, L: Ledger> Draft<'a, L> {
         asked: &mut Steps<L>,
         visited: &mut Steps<V>,
     ) -> (Result<(), DeriveRefusal>, Option<Level>)
-        requires level { CanAsk system.now (level_at self.old.revised.view level) self.old.revised.mates }
-        requires made { AreMadeAt store.old (level_of (lists_of olds.now.answers.now) level) }
+        requires level { CanAsk system.now (spots_at self.old.revised.view level) self.old.revised.mates }
+        requires made { AreMadeAt store.old (at_level (answers_kept olds.now) level) }
         requires fresh { level < length self.old.fresh }
         requires taken { level < length self.old.taken }
-        requires asked { self.old.asked ≤ 1000000 }
-        requires all { self.old.all ≤ 1000000 }
-        ensures { HasAsked system.now level (level_of (lists_of olds.now.answers.now) level) store.old store.new
-            visited.old visited.new asked.old asked.new self.old self.new result.0 result.1 }
+        requires asked { self.old.asked ≤ greatest_module_limit }
+        requires all { self.old.all ≤ greatest_module_limit }
+        ensures { AsksLevel olds.now system.now level self store asked visited result.0 result.1 }
     {
         let none = Vec::new(self.alloc);
         let beside = Beside {
@@ -208,8 +184,8 @@ impl<'a, L: Ledger> Draft<'a, L> {
 
     // Adds the next level, where there is room for it.
     fn add_level(&mut self, level: u32, next: Option<Level>) -> Result<(), DeriveRefusal>
-        requires { CanAdd self.old next }
-        ensures added { IsAdded level next self.old self.new result }
+        requires { CanAddNext self.old next }
+        ensures added { IsLevelAdded level next self.old self.new result }
         ensures fresh { self.new.fresh ≡ self.old.fresh }
     {
         let Some(next) = next else {
@@ -244,8 +220,8 @@ impl<'a, L: Ledger> Draft<'a, L> {
 
     /// Lets all new answers go.
     pub(crate) fn release(self, store: &mut AnswerStore)
-        requires made { AreMade store.old self.fresh }
-        requires own { AreOwn self.fresh }
+        requires made { AreMadeWith store.old self.fresh }
+        requires own { AllHoldOwnRuns self.fresh }
         ensures { OthersStayMade store.old store.new self.entry.fresh }
     {
         release_all(store, self.fresh);
@@ -259,7 +235,7 @@ fn answers_at<'b, L: Ledger>(
     none: &'b Vec<Option<Answer<L>>>,
 ) -> &'b [Option<Answer<L>>]
     requires { none.now.items ≡ [] }
-    ensures { result.now ≡ level_of (lists_of answers.now) level }
+    ensures { result.now ≡ at_level (lists_of answers.now) level }
 {
     match answers.get(level) {
         Some(level) => level.as_slice(),
@@ -270,7 +246,7 @@ fn answers_at<'b, L: Ledger>(
 // How many answers there are.
 fn count_filled<L: Ledger>(slots: &[Option<Answer<L>>]) -> u64
     requires { length slots.now < 2 ^ 32 }
-    ensures { result ≡ filled slots.now }
+    ensures { result ≡ filled_slots slots.now }
 {
     let mut count = 0;
     for slot in slots {

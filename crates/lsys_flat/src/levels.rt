@@ -1,5 +1,6 @@
 //! The derivation.
 ghost use Rattle.std.specs.Prelude.{◌≡◌, ◌≤◌, length, map, sum_by};
+ghost use Rattle.lsys_syntax.specs.Limits.{greatest_module_limit};
 ghost use Rattle.lsys_flat.specs.Lines.{line_of};
 ghost use Rattle.lsys_flat.specs.Revised.{tags_of};
 
@@ -35,7 +36,7 @@ impl<L: Ledger> Model for Levels<L> {
     ghost use Rattle.lsys_flat.specs.Answers.{lists_of};
     ghost use Rattle.lsys_flat.specs.Counted.{all_slots_in};
     ghost use Rattle.lsys_flat.specs.Codes.{right_code, tree_code};
-    ghost use Rattle.lsys_flat.specs.Derived.{Derived, IsKept};
+    ghost use Rattle.lsys_flat.specs.Derived.{Derived, IsDerivation};
 
     ghost Value = { Derived };
 
@@ -49,7 +50,7 @@ impl<L: Ledger> Model for Levels<L> {
       answers = all_slots_in a.store (lists_of a.answers.items);
     } };
 
-    ghost invariant = { λ a. IsKept a.system a.limit a.view (map line_of a.ancestries.items) (lists_of a.answers.items) a.store };
+    ghost invariant = { λ a. IsDerivation a.system a.limit a.view (map line_of a.ancestries.items) (lists_of a.answers.items) a.store };
 }
 
 impl<L: Ledger> LevelView for Levels<L> {
@@ -157,7 +158,7 @@ impl<L: Ledger> Derivation<L> for Levels<L> {
 
 // How many tags there are: one for each symbol.
 fn total_of(ancestries: &[Ancestry]) -> u64
-    requires { sum_by length (tags_of (map line_of ancestries.now)) ≤ 1000000 }
+    requires { sum_by length (tags_of (map line_of ancestries.now)) ≤ greatest_module_limit }
     ensures { result ≡ sum_by length (tags_of (map line_of ancestries.now)) }
 {
     let mut total = 0;

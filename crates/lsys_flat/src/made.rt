@@ -1,13 +1,7 @@
 //! What is kept of the children of a level's symbols.
-ghost use Rattle.std.specs.Prelude.{◌≡◌, ◌+◌, ◌*◌, ◌<◌, ◌≤◌, ◌^◌, ◌++◌, ℕ, List, length, IfSome, OnOk, Some, slice_get};
-ghost use Rattle.lsys_spec.specs.Draws.{number_base, key_of};
-ghost use Rattle.lsys_spec.specs.Levels as levels;
-ghost use Rattle.lsys_spec.specs.Levels.{lineage};
-ghost use Rattle.lsys_spec.specs.Cuts.{Raw};
-ghost use Rattle.lsys_spec.specs.Meaning.{children};
-ghost use Rattle.lsys_module.specs.Views.{string_of};
-ghost use Rattle.lsys_reading.specs.Commands.{numbering_of};
-ghost use Rattle.lsys_flat.specs.Grown.{nothing_grown, with_child, IsGrown, IsMade};
+ghost use Rattle.std.specs.Prelude.{◌≡◌, ◌+◌, ◌*◌, ◌<◌, ◌≤◌, ◌^◌, length, IfSome, OnOk};
+ghost use Rattle.lsys_spec.specs.Draws.{number_base};
+ghost use Rattle.lsys_flat.specs.Grown.{nothing_grown, with_child, AddsByNumbers, IsFinished};
 
 use crate::Origin;
 use crate::level::Level;
@@ -81,10 +75,7 @@ impl Made {
     ) -> Result<(), AllocError>
         requires parents { self.old.parents + 1 < 2 ^ 32 }
         requires few { length successor.now ≤ number_base }
-        ensures added { OnOk result ((seed : ℕ) (above : List levels.Symbol) (raw : List Raw) (parent : levels.Symbol)
-            → IsGrown seed above raw self.old → slice_get above self.old.parents ≡ Some parent
-            → key ≡ key_of seed (lineage parent)
-            → IsGrown seed above (raw ++ children (numbering_of numbers.old.numbering) (lineage parent) (string_of successor.now)) self.new) }
+        ensures added { OnOk result (AddsByNumbers key successor.now numbers self) }
         ensures parents { OnOk result (self.new.parents ≡ self.old.parents + 1) }
         ensures room { OnOk result (self.new.room ≡ self.old.room) }
         ensures numbering { OnOk result (numbers.new.numbering ≡ numbers.old.numbering) }
@@ -127,9 +118,7 @@ impl Made {
 
     /// The level, where it has room.
     pub(crate) fn finish(self) -> Option<Level>
-        ensures { (seed : ℕ) (above : List levels.Symbol) (raw : List Raw)
-            → IsGrown seed above raw self
-            → IsMade seed above raw self.room result }
+        ensures { IsFinished self result }
     {
         if !self.fits {
             return None;

@@ -1,17 +1,17 @@
 //! What was kept of old symbols.
 ghost use Rattle.std.specs.Prelude.{◌≡◌, ◌<◌, length, set, get_or, None};
-ghost use Rattle.lsys_flat.specs.Moves.{moved, AreApart, AreBelow, AreLeft};
+ghost use Rattle.lsys_flat.specs.Moves.{moved, AreTakenOnce, AreWithin, AreSwapped};
 
 use std::mem::swap;
 
 /// Takes what was kept at old places over to the new places that tell them, in exchange for what is new there. Takes no
 /// memory.
 pub fn move_kept<A>(old: &mut [Option<A>], new: &mut [Option<A>], places: &[Option<u32>])
-    requires apart { AreApart places.now }
-    requires within { AreBelow (length old.old) places.now }
+    requires apart { AreTakenOnce places.now }
+    requires within { AreWithin (length old.old) places.now }
     requires each { length new.old ≡ length places.now }
     ensures moved { new.new ≡ moved old.old new.old places.now }
-    ensures left { AreLeft old.old new.old places.now old.new }
+    ensures left { AreSwapped old.old new.old places.now old.new }
 {
     for place in 0..places.len() {
         if let Some(from) = places[place] {

@@ -1,13 +1,9 @@
 //! The level that is being made of the one before it.
-ghost use Rattle.std.specs.Prelude.{◌≡◌, ◌+◌, ◌<◌, ◌≤◌, ◌^◌, ◌++◌, ℕ, List, length, OnOk, Some, slice_get};
-ghost use Rattle.lsys_spec.specs.Draws.{number_base, key_of};
-ghost use Rattle.lsys_spec.specs.Levels as levels;
-ghost use Rattle.lsys_spec.specs.Levels.{lineage};
-ghost use Rattle.lsys_spec.specs.Cuts.{Raw};
-ghost use Rattle.lsys_spec.specs.Meaning.{children};
+ghost use Rattle.std.specs.Prelude.{◌≡◌, ◌+◌, ◌<◌, ◌≤◌, ◌^◌, length, OnOk};
+ghost use Rattle.lsys_spec.specs.Draws.{number_base};
 ghost use Rattle.lsys_module.specs.Views.{string_of};
 ghost use Rattle.lsys_reading.specs.Commands.{numbering_of};
-ghost use Rattle.lsys_flat.specs.Grown.{nothing_made, IsGrown, IsMade};
+ghost use Rattle.lsys_flat.specs.Grown.{nothing_made, AddsChildren, IsFinished};
 
 use crate::level::Level;
 use crate::made::Made;
@@ -55,10 +51,7 @@ impl NextLevel {
     pub fn add_children(&mut self, key: u64, successor: &[Symbol]) -> Result<(), AllocError>
         requires parents { self.old.grown.parents + 1 < 2 ^ 32 }
         requires few { length successor.now ≤ number_base }
-        ensures added { OnOk result ((seed : ℕ) (above : List levels.Symbol) (raw : List Raw) (parent : levels.Symbol)
-            → IsGrown seed above raw self.old.grown → slice_get above self.old.grown.parents ≡ Some parent
-            → key ≡ key_of seed (lineage parent)
-            → IsGrown seed above (raw ++ children self.old.numbering (lineage parent) (string_of successor.now)) self.new.grown) }
+        ensures added { OnOk result (AddsChildren key (string_of successor.now) self.old self.new) }
         ensures parents { OnOk result (self.new.grown.parents ≡ self.old.grown.parents + 1) }
         ensures room { OnOk result (self.new.grown.room ≡ self.old.grown.room) }
         ensures numbering { OnOk result (self.new.numbering ≡ self.old.numbering) }
@@ -68,9 +61,7 @@ impl NextLevel {
 
     /// The level, where it has room.
     pub fn finish(self) -> Option<Level>
-        ensures { (seed : ℕ) (above : List levels.Symbol) (raw : List Raw)
-            → IsGrown seed above raw self.grown
-            → IsMade seed above raw self.grown.room result }
+        ensures { IsFinished self.grown result }
     {
         self.made.finish()
     }

@@ -1,9 +1,6 @@
 //! Where children come from.
-ghost use Rattle.std.specs.Prelude.{◌≡◌, ◌∷◌, ◌+◌, ℕ, List, [], IfOk, OnOk};
-ghost use Rattle.lsys_spec.specs.Numbers.{code_of};
-ghost use Rattle.lsys_module.specs.Views.{symbol_of};
-ghost use Rattle.lsys_reading.specs.Commands.{numbering_of};
-ghost use Rattle.lsys_flat.specs.Counts.{origin_at, IsBehind, AreFew};
+ghost use Rattle.std.specs.Prelude.{◌≡◌, [], IfOk, OnOk};
+ghost use Rattle.lsys_flat.specs.Counts.{CountsChild, HasNumbered, HasNumbersLeft, IsNextOrigin};
 
 use crate::Origin;
 use lsys_module::Symbol;
@@ -35,7 +32,7 @@ impl Numbers {
 
     /// Begins with the children of another symbol.
     pub(crate) fn begin(&mut self)
-        ensures behind { IsBehind 0 [] self.new }
+        ensures behind { HasNumbered 0 [] self.new }
         ensures numbering { self.new.numbering ≡ self.old.numbering }
     {
         self.children = 0;
@@ -44,11 +41,9 @@ impl Numbers {
 
     /// Where the next child comes from, of the parent at this place.
     pub(crate) fn next(&mut self, parent: u32, child: &Symbol) -> Result<Origin, AllocError>
-        requires few { AreFew self.old }
-        ensures origin { IfOk result (λ origin. (n : ℕ) (before : List ℕ) → IsBehind n before self.old
-            → origin ≡ origin_at (numbering_of self.old.numbering) parent n before (code_of (symbol_of child.now))) }
-        ensures behind { OnOk result ((n : ℕ) (before : List ℕ) → IsBehind n before self.old
-            → IsBehind (n + 1) (code_of (symbol_of child.now) ∷ before) self.new) }
+        requires few { HasNumbersLeft self.old }
+        ensures origin { IfOk result (IsNextOrigin self.old parent child.now) }
+        ensures behind { OnOk result (CountsChild child.now self.old self.new) }
         ensures numbering { self.new.numbering ≡ self.old.numbering }
     {
         let place = self.children;

@@ -1,11 +1,8 @@
 //! The old symbols of the lineages of new ones.
-ghost use Rattle.std.specs.Prelude.{◌≡◌, ◌<◌, ◌^◌, List, length, IfOk};
+ghost use Rattle.std.specs.Prelude.{◌≡◌, ◌<◌, ◌^◌, length, IfOk};
 ghost use Rattle.std.specs.List.{All};
-ghost use Rattle.lsys_spec.specs.Levels.{Symbol};
-ghost use Rattle.lsys_spec.specs.Cuts.{Distinct};
-ghost use Rattle.lsys_laws.specs.KeptQuestions.{places_in};
-ghost use Rattle.lsys_flat.specs.Origins.{AreChildren};
-ghost use Rattle.lsys_flat.specs.Moves.{AreBelow};
+ghost use Rattle.lsys_flat.specs.Origins.{ArePaired};
+ghost use Rattle.lsys_flat.specs.Moves.{AreWithin};
 
 use crate::origin::Origin;
 use crate::places::Places;
@@ -28,10 +25,8 @@ pub fn pair(
     requires parents { All (λ o. o.parent < length above.now) new.now }
     requires few { length old.now < 2 ^ 32 }
     ensures each { IfOk result (λ mates. length mates.items ≡ length new.now) }
-    ensures within { IfOk result (λ mates. AreBelow (length old.now) mates.items) }
-    ensures paired { IfOk result (λ mates. (a b x y : List Symbol) → Distinct a → Distinct x
-        → AreChildren a old.now x → AreChildren b new.now y → above.now ≡ places_in a b
-        → mates.items ≡ places_in x y) }
+    ensures within { IfOk result (λ mates. AreWithin (length old.now) mates.items) }
+    ensures paired { IfOk result (λ mates. ArePaired old.now new.now above.now mates.items) }
 {
     let mut places = Places::new(alloc);
     let mut mates = Vec::with_capacity(alloc, new.len())?;

@@ -2,7 +2,7 @@
 ghost use Rattle.std.specs.Prelude.{◌≡◌, ◌<◌, ◌^◌, [], length, IfOk, OnOk, IfSome, IfNone};
 ghost use Rattle.std.specs.List.{Contains};
 ghost use Rattle.std.specs.List.Sorted.{IsSortedByKey};
-ghost use Rattle.lsys_flat.specs.Lookups.{origin_cmp, IsPlaceOf, AreOf, AreSorted, StandsAt, StandsNowhere};
+ghost use Rattle.lsys_flat.specs.Lookups.{origin_cmp, IsPlaceOf, ArePlacesOf, AreSorted, StandsAt, StandsNowhere};
 
 use crate::origin::Origin;
 use std::alloc::{AllocError, Global};
@@ -79,7 +79,7 @@ impl Places {
 // The symbols of an old level in the order of their origins.
 fn sorted(alloc: Global, old: &[Origin]) -> Result<Vec<Placed>, AllocError>
     requires few { length old.now < 2 ^ 32 }
-    ensures { IfOk result (λ all. AreOf old.now all.items) }
+    ensures { IfOk result (λ all. ArePlacesOf old.now all.items) }
 {
     let mut all = Vec::with_capacity(alloc, old.len())?;
     for place in 0..old.len() {

@@ -1,11 +1,10 @@
 //! All levels of a changed system, planned beside the old ones.
-ghost use Rattle.std.specs.Prelude.{◌≡◌, ◌+◌, ◌*◌, ℕ, List, IfErr, IfOk, OnErr, OnOk, map};
-ghost use Rattle.lsys_spec.specs.Levels as levels;
-ghost use Rattle.lsys_match.specs.Derivations.{Rises, most_read};
-ghost use Rattle.lsys_flat.specs.Lines.{line_of};
+ghost use Rattle.std.specs.Prelude.{◌≡◌, ◌+◌, ◌*◌, IfErr, IfOk, OnErr};
+ghost use Rattle.lsys_match.specs.Derivations.{Rises, most_read, IsLevelRefusal};
 ghost use Rattle.lsys_flat.specs.Answers.{lists_of};
 ghost use Rattle.lsys_flat.specs.Rounds.{StayMade};
-ghost use Rattle.lsys_flat.specs.Drafts.{AreAllNew, AreOlds, IsPlanned, IsRefusal};
+ghost use Rattle.lsys_flat.specs.Drafts.{AreAllNew};
+ghost use Rattle.lsys_flat.specs.Plans.{CanPlan, PlansLevels};
 
 use crate::draft::Draft;
 use crate::{Ancestry, release_all};
@@ -49,16 +48,12 @@ pub(crate) fn planned<L: Ledger, V: Ledger>(
     asked: &mut Steps<L>,
     visited: &mut Steps<V>,
 ) -> Result<Plan<L>, DeriveRefusal>
-    requires { (xs : List (List levels.Symbol)) × AreOlds limit xs (map line_of olds.now.ancestries.now) (lists_of olds.now.answers.now) store.old }
-    ensures planned { (xs : List (List levels.Symbol))
-        → AreOlds limit xs (map line_of olds.now.ancestries.now) (lists_of olds.now.answers.now) store.old
-        → IfOk result (λ p. IsPlanned system.now limit xs (map line_of olds.now.ancestries.now)
-        (lists_of olds.now.answers.now) store.old store.new visited.old visited.new p.view
-        (map line_of p.ancestries.items) (lists_of p.fresh.items) (lists_of p.taken.items) p.count) }
+    requires { CanPlan olds.now limit store.old }
+    ensures planned { PlansLevels olds.now limit system.now store visited result }
     ensures new { IfOk result (λ p. AreAllNew store.old store.new (lists_of p.fresh.items)) }
     ensures asked { IfOk result (λ p. asked.new ≡ asked.old + p.count.asked) }
     ensures stay { OnErr result (StayMade store.old store.new) }
-    ensures refused { IfErr result (IsRefusal system.now limit) }
+    ensures refused { IfErr result (IsLevelRefusal system.now limit) }
     ensures few_asked { OnErr result (Rises 0 limit asked.old asked.new) }
     ensures few_read { OnErr result (Rises 0 (most_read * limit) visited.old visited.new) }
 {

@@ -1,9 +1,8 @@
 //! New levels beside old ones.
-ghost use Rattle.std.specs.Prelude.{◌≡◌, ◌+◌, ◌++◌, ◌∷◌, ◌<◌, ◌^◌, ℕ, true, List, [], length, map, sum_by, slice_index_or, IfOk, OnOk};
-ghost use Rattle.lsys_spec.specs.Levels as levels;
+ghost use Rattle.std.specs.Prelude.{◌≡◌, ◌++◌, ◌∷◌, List, [], map, slice_index_or, IfOk, OnOk};
 ghost use Rattle.lsys_level.specs.Spots.{Spotted};
 ghost use Rattle.lsys_flat.specs.Lines.{line_of, no_line};
-ghost use Rattle.lsys_flat.specs.Revised.{AreOldLevels, CanAdd, IsNext, IsRevised};
+ghost use Rattle.lsys_flat.specs.Revised.{CanAdd, GrowsByLevel, IsBegunBeside};
 
 use crate::ancestry::Ancestry;
 use crate::{Level, TagSupply, pair};
@@ -45,9 +44,7 @@ impl<'a> Revision<'a> {
     ///
     /// Want of memory.
     pub fn new(alloc: Global, olds: &'a [Ancestry]) -> Result<Revision<'a>, AllocError>
-        ensures begun { IfOk result (λ r. (seed : ℕ) (xs : List (List levels.Symbol))
-            → AreOldLevels xs (map line_of olds.now)
-            → IsRevised seed xs [] r) }
+        ensures begun { IfOk result (IsBegunBeside (map line_of olds.now)) }
         ensures olds { IfOk result (λ r. r.old_lines ≡ map line_of olds.now) }
     {
         let mut supply = TagSupply::new(alloc);
@@ -73,9 +70,7 @@ impl<'a> Revision<'a> {
     /// Want of memory. The revision is of no use then.
     pub fn add_level(&mut self, level: Level) -> Result<(), AllocError>
         requires { CanAdd self.old level }
-        ensures added { OnOk result ((seed : ℕ) (xs ys : List (List levels.Symbol)) (y : List levels.Symbol)
-            → IsRevised seed xs ys self.old → IsNext seed xs ys y level
-            → IsRevised seed xs (ys ++ y ∷ []) self.new) }
+        ensures added { OnOk result (GrowsByLevel level self.old self.new) }
         ensures olds { self.new.old_lines ≡ self.old.old_lines }
         ensures above { OnOk result ((row : List Spotted) × (self.new.view ≡ self.old.view ++ row ∷ [])) }
     {

@@ -1,15 +1,15 @@
 //! All symbols of a level, asked about and replaced.
-ghost use Rattle.std.specs.Prelude.{◌≡◌, ◌+◌, ◌++◌, ◌∷◌, [], ◌<◌, ◌≤◌, ◌^◌, ℕ, List, None, Some, OnOk, OnErr, length, option_map, set};
+ghost use Rattle.std.specs.Prelude.{◌≡◌, ◌+◌, ◌<◌, ◌≤◌, ◌^◌, Some, OnOk, OnErr, length, set};
 ghost use Rattle.lsys_spec.specs.Draws.{number_base};
-ghost use Rattle.lsys_spec.specs.Levels as levels;
-ghost use Rattle.lsys_level.specs.Spots.{Spotted, level_at, spotted_at};
 ghost use Rattle.lsys_level.specs.Views.{seen_of, HasFewParams};
 ghost use Rattle.lsys_module.specs.Views.{string_of};
 ghost use Rattle.lsys_reading.specs.Commands.{numbering_of};
-ghost use Rattle.lsys_walks.specs.Stores.{Store};
 ghost use Rattle.lsys_match.specs.Asking.{asked_level};
-ghost use Rattle.lsys_flat.specs.Slots.{filled, slot_at};
-ghost use Rattle.lsys_flat.specs.Rounds.{alone, fresh_found, modules_in, nothing_asked, refusal_at, settled, string_found, told, AreMadeAt, AreNew, AskedTo, CanAsk, HasOld, IsAt, IsFinished, IsOpened, IsRound, IsRow, Replaces, StayMade};
+ghost use Rattle.lsys_match.specs.Asks.{kept_lent};
+ghost use Rattle.lsys_flat.specs.Grown.{IsFinished};
+ghost use Rattle.lsys_flat.specs.Slots.{filled_slots};
+ghost use Rattle.lsys_flat.specs.Rounds.{seen_alone, fresh_found, nothing_asked, derive_refusal_at, with_next_open, with_stayed, with_taken, with_put, AreMadeAt, AreNew, HasOld, IsAt, AwaitsAnswer, StayMade};
+ghost use Rattle.lsys_flat.specs.Besides.{row_beside, AsksAll, AsksNext, CanAskBeside, EndsRound, IsShortBeside, ReplacesBeside, ReplacesNext, SettlesBeside, StayNew};
 
 use crate::asking::ask_at;
 use crate::beside::Beside;
@@ -93,17 +93,13 @@ impl<L: Ledger> Round<L> {
         visited: &mut Steps<V>,
     ) -> Result<(), DeriveRefusal>
         requires new { self.old ≡ nothing_asked beside.now.system.now.numbering self.old.next.grown.room }
-        requires level { let row = level_at beside.now.view.now beside.now.level in
-            CanAsk beside.now.system.now row beside.now.mates.now }
+        requires level { CanAskBeside beside.now }
         requires made { AreMadeAt store.old beside.now.olds.now }
-        ensures round { let row = level_at beside.now.view.now beside.now.level in
-            (naming : ℕ → List ℕ) (x : List levels.Symbol) → IsRow naming beside.now.system.now.seed row x
-            → IsRound beside.now.system.now beside.now.level row x (told store.old beside.now.olds.now)
-            beside.now.mates.now store.new self.new visited.old visited.new result }
-        ensures whole { OnOk result (IsAt (length (level_at beside.now.view.now beside.now.level)) self.new) }
+        ensures round { AsksAll beside.now store self visited result }
+        ensures whole { OnOk result (IsAt (length (row_beside beside.now)) self.new) }
         ensures new { AreNew store.old store.new self.new.fresh }
-        ensures each { length self.new.fresh ≤ length (level_at beside.now.view.now beside.now.level) }
-        ensures asked { asked.new ≡ asked.old + filled self.new.fresh }
+        ensures each { length self.new.fresh ≤ length (row_beside beside.now) }
+        ensures asked { asked.new ≡ asked.old + filled_slots self.new.fresh }
         ensures room { OnOk result (self.new.next.grown.room ≡ self.old.next.grown.room) }
     {
         self.reserve(beside.mates.len())?;
@@ -150,33 +146,18 @@ impl<L: Ledger> Round<L> {
     ) -> Result<(), DeriveRefusal>
         requires asker { asker.old ≡ asked_level beside.now.system.now beside.now.level }
         requires next { IsAt place self.old }
-        requires place { place < length (level_at beside.now.view.now beside.now.level) }
-        requires level { let row = level_at beside.now.view.now beside.now.level in
-            CanAsk beside.now.system.now row beside.now.mates.now }
+        requires place { place < length (row_beside beside.now) }
+        requires level { CanAskBeside beside.now }
         requires made { AreMadeAt store.old beside.now.olds.now }
         ensures same { asker.new ≡ asker.old }
         ensures next { OnOk result (IsAt (place + 1) self.new) }
         ensures stay { StayMade store.old store.new }
-        ensures new { (begin : Store) → AreNew begin store.old self.old.fresh → AreNew begin store.new self.new.fresh }
+        ensures new { StayNew store self }
         ensures each { length self.new.fresh ≤ place + 1 }
-        ensures asked { asked.new + filled self.old.fresh ≡ asked.old + filled self.new.fresh }
+        ensures asked { asked.new + filled_slots self.old.fresh ≡ asked.old + filled_slots self.new.fresh }
         ensures room { OnOk result (self.new.next.grown.room ≡ self.old.next.grown.room) }
-        ensures going { let row = level_at beside.now.view.now beside.now.level in
-            (begin : Store) (before : ℕ) (naming : ℕ → List ℕ) (x : List levels.Symbol)
-            → IsRow naming beside.now.system.now.seed row x
-            → AreMadeAt begin beside.now.olds.now
-            → AreNew begin store.old self.old.fresh
-            → AskedTo beside.now.system.now beside.now.level row x (told begin beside.now.olds.now)
-            beside.now.mates.now store.old self.old before visited.old place
-            → OnOk result (AskedTo beside.now.system.now beside.now.level row x (told begin beside.now.olds.now)
-            beside.now.mates.now store.new self.new before visited.new (place + 1)) }
-        ensures refused { let row = level_at beside.now.view.now beside.now.level in
-            (begin : Store) (before : ℕ) (naming : ℕ → List ℕ) (x : List levels.Symbol)
-            → IsRow naming beside.now.system.now.seed row x
-            → AskedTo beside.now.system.now beside.now.level row x (told begin beside.now.olds.now)
-            beside.now.mates.now store.old self.old before visited.old place
-            → OnErr result (IsRound beside.now.system.now beside.now.level row x (told begin beside.now.olds.now)
-            beside.now.mates.now store.new self.new before visited.new result) }
+        ensures going { AsksNext beside.now place store self visited result }
+        ensures refused { EndsRound beside.now place store self visited result }
     {
         self.open()?;
         let old = beside.old(place);
@@ -196,18 +177,13 @@ impl<L: Ledger> Round<L> {
         old: Option<&Answer<L>>,
         found: Found<L>,
     ) -> Result<(), AllocError>
-        requires opened { IsOpened place self.old }
-        requires place { place < length (level_at beside.now.view.now beside.now.level) }
+        requires opened { AwaitsAnswer place self.old }
+        requires place { place < length (row_beside beside.now) }
         requires mate { place < length beside.now.mates.now }
-        requires old { HasOld (option_map (λ a. a.now) old) found }
-        requires short { (b : Spotted) → spotted_at beside.now.view.now beside.now.level place ≡ Some b
-            → length (string_found b.seen (option_map (λ a. a.now) old) found) ≤ number_base }
-        ensures replaced { (b : Spotted) → spotted_at beside.now.view.now beside.now.level place ≡ Some b
-            → OnOk result (Replaces b.key (string_found b.seen (option_map (λ a. a.now) old.entry) found)
-            self.old.next self.new.next) }
-        ensures settled { (b : Spotted) → spotted_at beside.now.view.now beside.now.level place ≡ Some b
-            → OnOk result (self.new ≡ settled place b.seen (slot_at beside.now.mates.now place) found
-            self.new.next self.old) }
+        requires old { HasOld (kept_lent old) found }
+        requires short { IsShortBeside beside.now place old found }
+        ensures replaced { ReplacesBeside beside.now place old.entry found self result }
+        ensures settled { SettlesBeside beside.now place found self result }
         ensures fresh { self.new.fresh ≡ set self.old.fresh place (fresh_found found) }
     {
         let spot = FlatSpot {
@@ -227,7 +203,7 @@ impl<L: Ledger> Round<L> {
 
     // Nothing is found out about the next symbol yet.
     fn open(&mut self) -> Result<(), AllocError>
-        ensures opened { OnOk result (self.new ≡ record self.old { fresh = self.old.fresh ++ None ∷ []; taken = self.old.taken ++ None ∷ [] }) }
+        ensures opened { OnOk result (self.new ≡ with_next_open self.old) }
         ensures refused { OnErr result (self.new.fresh ≡ self.old.fresh) }
     {
         self.taken.push(None)?;
@@ -238,7 +214,7 @@ impl<L: Ledger> Round<L> {
     // Why the system has no levels, where the next symbol is a module that can't be replaced, or memory is wanting.
     fn refusal(&self, level: u32, refusal: AskRefusal) -> DeriveRefusal
         requires { self.now.modules + 1 < 2 ^ 32 }
-        ensures { result ≡ refusal_at level self.now.modules refusal }
+        ensures { result ≡ derive_refusal_at level self.now.modules refusal }
     {
         match refusal {
             AskRefusal::Fault { kind } => DeriveRefusal::Fault {
@@ -255,8 +231,8 @@ impl<L: Ledger> Round<L> {
         requires parents { self.old.next.grown.parents + 1 < 2 ^ 32 }
         requires modules { self.old.modules + 1 < 2 ^ 32 }
         requires few { HasFewParams sight }
-        ensures replaced { OnOk result (Replaces key (alone (seen_of sight.entry)) self.old.next self.new.next) }
-        ensures rest { OnOk result (self.new ≡ record self.old { next = self.new.next; modules = self.old.modules + modules_in (seen_of sight.entry) }) }
+        ensures replaced { OnOk result (ReplacesNext key (seen_alone (seen_of sight.entry)) self) }
+        ensures rest { OnOk result (self.new ≡ with_stayed (seen_of sight.entry) self.new.next self.old) }
         ensures fresh { self.new.fresh ≡ self.old.fresh }
     {
         match sight {
@@ -284,8 +260,8 @@ impl<L: Ledger> Round<L> {
         requires questions { self.old.questions + 1 < 2 ^ 32 }
         requires place { place < length self.old.taken }
         requires short { length old.now.successor ≤ number_base }
-        ensures replaced { OnOk result (Replaces key (string_of old.now.successor) self.old.next self.new.next) }
-        ensures rest { OnOk result (self.new ≡ record self.old { next = self.new.next; taken = set self.old.taken place from; modules = self.old.modules + 1; questions = self.old.questions + 1 }) }
+        ensures replaced { OnOk result (ReplacesNext key (string_of old.now.successor) self) }
+        ensures rest { OnOk result (self.new ≡ with_taken place from self.new.next self.old) }
         ensures fresh { self.new.fresh ≡ self.old.fresh }
     {
         self.modules += 1;
@@ -301,8 +277,8 @@ impl<L: Ledger> Round<L> {
         requires questions { self.old.questions + 1 < 2 ^ 32 }
         requires place { place < length self.old.fresh }
         requires short { length answer.successor ≤ number_base }
-        ensures replaced { OnOk result (Replaces key (string_of answer.successor) self.old.next self.new.next) }
-        ensures rest { OnOk result (self.new ≡ record self.old { next = self.new.next; fresh = set self.old.fresh place (Some answer); modules = self.old.modules + 1; questions = self.old.questions + 1 }) }
+        ensures replaced { OnOk result (ReplacesNext key (string_of answer.successor) self) }
+        ensures rest { OnOk result (self.new ≡ with_put place answer self.new.next self.old) }
         ensures fresh { self.new.fresh ≡ set self.old.fresh place (Some answer) }
     {
         self.modules += 1;

@@ -1,7 +1,7 @@
 //! The tags of new levels.
 ghost use Rattle.std.specs.Prelude.{◌≡◌, ◌+◌, ◌<◌, ◌≤◌, ◌^◌, [], length, false, IfOk, OnOk, OnErr};
-ghost use Rattle.lsys_flat.specs.Moves.{AreBelow};
-ghost use Rattle.lsys_flat.specs.Supplies.{in_use, given, marked, taken, MarksTag, MarksAll, KeepsMarks, AreNamed};
+ghost use Rattle.lsys_flat.specs.Moves.{AreWithin};
+ghost use Rattle.lsys_flat.specs.Supplies.{in_use, tags_given, tags_used, tags_held, MarksTag, MarksAll, KeepsMarks, GivesTags};
 
 use lsys_level::Tag;
 use std::alloc::{AllocError, Global};
@@ -79,10 +79,10 @@ impl TagSupply {
         mates: &[Option<u32>],
         old: &[Tag],
     ) -> Result<Vec<Tag>, AllocError>
-        requires within { AreBelow (length old.now) mates.now }
-        requires room { taken self.old + length mates.now < 2 ^ 32 }
-        ensures named { IfOk result (λ tags. AreNamed old.now self.old.used mates.now self.old.next tags.items self.new.next) }
-        ensures taken { OnOk result (taken self.new ≤ taken self.old + length mates.now) }
+        requires within { AreWithin (length old.now) mates.now }
+        requires room { tags_held self.old + length mates.now < 2 ^ 32 }
+        ensures named { IfOk result (λ tags. GivesTags mates.now old.now self.old self.new tags.items) }
+        ensures taken { OnOk result (tags_held self.new ≤ tags_held self.old + length mates.now) }
         ensures used { self.new.used ≡ self.old.used }
     {
         let mut tags = Vec::with_capacity(alloc, mates.len())?;
@@ -98,11 +98,11 @@ impl TagSupply {
 
     // The next tag that isn't in use.
     fn give(&mut self) -> Tag
-        requires room { taken self.old + 1 < 2 ^ 32 }
+        requires room { tags_held self.old + 1 < 2 ^ 32 }
         ensures onward { self.old.next ≤ result }
         ensures free { in_use self.old.used result ≡ false }
         ensures after { self.new.next ≡ result + 1 }
-        ensures one { taken self.new ≡ taken self.old + 1 }
+        ensures one { tags_held self.new ≡ tags_held self.old + 1 }
         ensures used { self.new.used ≡ self.old.used }
     {
         let tag = free_from(self.used.as_slice(), self.next);
@@ -113,10 +113,10 @@ impl TagSupply {
 
 // The least number from `next` on that isn't marked.
 fn free_from(used: &[bool], next: u32) -> u32
-    requires { given used.now next + marked used.now < 2 ^ 32 }
+    requires { tags_given used.now next + tags_used used.now < 2 ^ 32 }
     ensures onward { next ≤ result }
     ensures free { in_use used.now result ≡ false }
-    ensures same { given used.now result ≡ given used.now next }
+    ensures same { tags_given used.now result ≡ tags_given used.now next }
 {
     let mut tag = next;
     while (tag as usize) < used.len() && used[tag as usize] {

@@ -1,6 +1,6 @@
 //! Answers that are taken over to new levels.
-ghost use Rattle.std.specs.Prelude.{◌≡◌, ℕ, length};
-ghost use Rattle.lsys_flat.specs.Answers.{lists_of, level_of, all_moved, AllStayMade, AreAllLeft, AreOwn, CanMove, CanTakeOver, OthersAreGone};
+ghost use Rattle.std.specs.Prelude.{◌≡◌, length};
+ghost use Rattle.lsys_flat.specs.Answers.{lists_of, AllStayMade, AreAllLeft, AreAllMoved, AllHoldOwnRuns, CanAllMove, CanTakeOver, OthersAreGone};
 
 use crate::move_kept;
 use crate::release::release_all;
@@ -17,10 +17,9 @@ pub fn take_over<L: Ledger>(
     taken: &[Vec<Option<u32>>],
 ) -> Vec<Vec<Option<Answer<L>>>>
     requires { CanTakeOver store.old (lists_of olds.items) (lists_of fresh.items) (lists_of taken.now) }
-    ensures moved { lists_of result.items
-        ≡ all_moved (lists_of olds.items) (lists_of fresh.items) (lists_of taken.now) }
+    ensures moved { AreAllMoved olds.items fresh.items taken.now result.items }
     ensures made { AllStayMade store.old store.new (lists_of result.items) }
-    ensures own { AreOwn (lists_of result.items) }
+    ensures own { AllHoldOwnRuns (lists_of result.items) }
     ensures gone { OthersAreGone store.new (lists_of olds.items) (lists_of taken.now) }
 {
     move_all(olds.as_mut_slice(), fresh.as_mut_slice(), taken);
@@ -35,10 +34,8 @@ fn move_all<L: Ledger>(
     taken: &[Vec<Option<u32>>],
 )
     requires levels { length (lists_of fresh.old) ≡ length (lists_of taken.now) }
-    requires places { (t : ℕ) → CanMove (level_of (lists_of olds.old) t) (level_of (lists_of fresh.old) t)
-        (level_of (lists_of taken.now) t) }
-    ensures moved { lists_of fresh.new
-        ≡ all_moved (lists_of olds.old) (lists_of fresh.old) (lists_of taken.now) }
+    requires places { CanAllMove (lists_of olds.old) (lists_of fresh.old) (lists_of taken.now) }
+    ensures moved { AreAllMoved olds.old fresh.old taken.now fresh.new }
     ensures left { AreAllLeft (lists_of olds.old) (lists_of taken.now) (lists_of olds.new) }
 {
     for level in 0..min(olds.len(), fresh.len()) {

@@ -12,9 +12,9 @@ use Rattle.lsys_forest.specs.declared.note.Was.TheVariants as was
 use Rattle.lsys_forest.specs.Shelves.{Shelf}
 use Rattle.lsys_forest.specs.Slots.{slot_at, no_footing, footing_at, live_slots, kind_set, key_set, answer_set, answer_before}
 use Rattle.lsys_forest.specs.Nodes.{Node, Nodes, change, seen_as, with_seen, with_key, with_kids, with_answer}
-use Rattle.lsys_forest.specs.Changes.{KeepsKids, Before, Missing, OldSeen, OldKey, OldKids, OldAnswer, Change, undo}
+use Rattle.lsys_forest.specs.Changes.{KeepsKids, Previous, Missing, OldSeen, OldKey, OldKids, OldAnswer, Change, undo}
 use Rattle.lsys_forest.specs.Answers.{answer_of, old_answer}
-use Rattle.lsys_forest.specs.Stocks.{row_at, where_some, first_of, before_of, params_left, kids_left, node_of, told, param_lists, kid_lists, param_count, kid_count, IsStock, UndoesParams, UndoesKids, undone_slots, undone_footings, slot_answer, dropped_slot, dropped, looked, DropsParams, TakesKids, noted_answer, named}
+use Rattle.lsys_forest.specs.Stocks.{row_at, where_some, first_of, before_of, params_left, kids_left, node_of, changes_told, param_lists, kid_lists, param_count, kid_count, IsStock, UndoesParams, UndoesKids, undone_slots, undone_footings, slot_answer, dropped_slot, dropped, looked, DropsParams, TakesKids, noted_answer, nodes_named}
 use Rattle.lsys_forest.proofs.SlotLemmas.{live_change, live_gone, slot_some}
 use Rattle.lsys_forest.proofs.TableLemmas.{get_set_other, get_cleared}
 use Rattle.lsys_forest.proofs.StockLemmas.{change_there, change_other, shown_nodes, lives_stored, AgreeBut, nodes_put, told_plain, told_param, told_kid, param_count_push, kid_count_push}
@@ -44,7 +44,7 @@ module _ {A : Type 0} where
     pub before : c.before ≡ before_of n.was params kids
 
   -- the last change is told by the last note
-  pub told_last : (notes : List (Note A)) (ps : List (List ℤ)) (ks : List (List ℕ)) (i : ℕ) (n : Note A) (earlier : List (Change A)) (c : Change A) → i + 1 ≡ length notes → slice_get notes i ≡ Some n → told notes ps ks ≡ earlier ++ c ∷ [] → IsToldBy n c
+  pub told_last : (notes : List (Note A)) (ps : List (List ℤ)) (ks : List (List ℕ)) (i : ℕ) (n : Note A) (earlier : List (Change A)) (c : Change A) → i + 1 ≡ length notes → slice_get notes i ≡ Some n → changes_told notes ps ks ≡ earlier ++ c ∷ [] → IsToldBy n c
   told_last [] ps ks i n earlier c long here e = absurd (omega (arith, long))
   told_last (m ∷ []) ps ks zero n [] c long here e =
       let change : Change A = record { node = m.node; before = before_of m.was (first_of ps) (first_of ks) } in
@@ -61,7 +61,7 @@ module _ {A : Type 0} where
   told_last (m ∷ o ∷ notes) ps ks zero n earlier c long here e = absurd (omega (arith, long))
   told_last (m ∷ o ∷ notes) ps ks (suc i) n [] c long here e = let none : ⊥ = cc in absurd none
   told_last (m ∷ o ∷ notes) ps ks (suc i) n (d ∷ earlier) c long here e =
-      let f : told (o ∷ notes) (params_left m.was ps) (kids_left m.was ks) ≡ earlier ++ c ∷ [] = cc in
+      let f : changes_told (o ∷ notes) (params_left m.was ps) (kids_left m.was ks) ≡ earlier ++ c ∷ [] = cc in
       told_last (o ∷ notes) (params_left m.was ps) (kids_left m.was ks) i n earlier c (omega (arith, long)) here f
 
   pub keeps_kids : (w : Was A) (params : List ℤ) (kids : List ℕ) → kid_lists w ≡ 0 → KeepsKids (before_of w params kids)
@@ -73,12 +73,12 @@ module _ {A : Type 0} where
 
   -- the node whose children the last change set
   pub family_is : (node : Option ℕ) (n : Note A) (changes : List (Change A)) → IfSome node (λ k. n.node ≡ k) → ((c : Change A) (earlier : List (Change A)) → changes ≡ earlier ++ c ∷ [] → IsToldBy n c) → IfSome node (λ k. (c : Change A) (earlier : List (Change A)) → changes ≡ earlier ++ c ∷ [] → c.node ≡ k)
-  family_is None n changes is told = tt
-  family_is (Some k) n changes is told = λ c earlier were. (told c earlier were).node ∙ is
+  family_is None n changes is changes_told = tt
+  family_is (Some k) n changes is changes_told = λ c earlier were. (changes_told c earlier were).node ∙ is
 
   pub family_none : (node : Option ℕ) (n : Note A) (changes : List (Change A)) → IfNone node (kid_lists n.was ≡ 0) → ((c : Change A) (earlier : List (Change A)) → changes ≡ earlier ++ c ∷ [] → IsToldBy n c) → IfNone node ((c : Change A) (earlier : List (Change A)) → changes ≡ earlier ++ c ∷ [] → KeepsKids c.before)
-  family_none None n changes is told = λ c earlier were. (let t = told c earlier were in subst KeepsKids (sym t.before) (keeps_kids n.was t.params t.kids is))
-  family_none (Some k) n changes is told = tt
+  family_none None n changes is changes_told = λ c earlier were. (let t = changes_told c earlier were in subst KeepsKids (sym t.before) (keeps_kids n.was t.params t.kids is))
+  family_none (Some k) n changes is changes_told = tt
 
   -- one node changed, in its slot or in its lists
   pub nodes_change : (f : Stored A → Stored A) (g : Node A → Node A) (k : ℕ) (slots slots' : List (Option (Stored A))) (params params' : List (List ℤ)) (kids kids' : List (List ℕ)) → AgreeBut k slots slots' params params' kids kids' → slot_at slots' k ≡ option_map f (slot_at slots k) → ((s : Stored A) → slot_at slots k ≡ Some s → node_of (row_at params' k) (row_at kids' k) (f s) ≡ g (node_of (row_at params k) (row_at kids k) s)) → shown_nodes slots' params' kids' ≡ change g (shown_nodes slots params kids) k
@@ -98,7 +98,7 @@ module _ {A : Type 0} where
   pub record Undone (slots slots' : List (Option (Stored A))) (p p' : Shelf ℤ) (q q' : Shelf ℕ) (notes : List (Note A)) (k : ℕ) (w : Was A) : Type 0 where
     pub last : Change A
     pub sound : IsStock notes p'.past q'.past
-    pub told_is : told (notes ++ record { node = k; was = w } ∷ []) p.past q.past ≡ told notes p'.past q'.past ++ last ∷ []
+    pub told_is : changes_told (notes ++ record { node = k; was = w } ∷ []) p.past q.past ≡ changes_told notes p'.past q'.past ++ last ∷ []
     pub nodes : shown_nodes slots' p'.current q'.current ≡ undo last (shown_nodes slots p.current q.current)
     pub live : live_slots slots' ≤ live_slots slots
     pub answer : dropped last (shown_nodes slots p.current q.current) ≡ dropped_slot w (slot_at slots k)
@@ -138,7 +138,7 @@ module _ {A : Type 0} where
       record {
         last = record { node = k; before = Missing };
         sound = IsStock-pop notes n p.past p'.past q.past q'.past (let e = ap length pp in omega (arith, e)) (let e = ap length qp in omega (arith, e)) is;
-        told_is = told_plain notes n p.past q.past pl ql ∙ ap (λ (x : List (List ℤ)). told notes x q.past ++ record { node = k; before = Missing } ∷ []) (sym pp) ∙ ap (λ (x : List (List ℕ)). told notes p'.past x ++ record { node = k; before = Missing } ∷ []) (sym qp);
+        told_is = told_plain notes n p.past q.past pl ql ∙ ap (λ (x : List (List ℤ)). changes_told notes x q.past ++ record { node = k; before = Missing } ∷ []) (sym pp) ∙ ap (λ (x : List (List ℕ)). changes_told notes p'.past x ++ record { node = k; before = Missing } ∷ []) (sym qp);
         nodes = nodes_put k slots slots' p.current p'.current q.current q'.current None (record {
           slots_same = λ j ne. ap (λ (x : List (Option (Stored A))). slot_at x j) sl ∙ get_set_other slots k j None None ne;
           params_same = pu.comes.others;
@@ -163,7 +163,7 @@ module _ {A : Type 0} where
       subst (λ (r : Shelf ℕ). Undone slots slots' p p' q r notes k (was.Kind x)) (sym qu) (record {
         last = record { node = k; before = OldSeen (seen_as x end.1) };
         sound = IsStock-pop notes n p.past p'.past q.past q.past (let e = ap length pp in omega (arith, e, pl, end.3)) (omega arith) is;
-        told_is = ap (λ (y : List (List ℤ)). told (notes ++ n ∷ []) y q.past) end.2 ∙ told_param notes n end.0 end.1 q.past end.3 ql ∙ ap (λ (y : List (List ℤ)). told notes y q.past ++ record { node = k; before = OldSeen (seen_as x end.1) } ∷ []) (sym pp);
+        told_is = ap (λ (y : List (List ℤ)). changes_told (notes ++ n ∷ []) y q.past) end.2 ∙ told_param notes n end.0 end.1 q.past end.3 ql ∙ ap (λ (y : List (List ℤ)). changes_told notes y q.past ++ record { node = k; before = OldSeen (seen_as x end.1) } ∷ []) (sym pp);
         nodes = nodes_change (kind_set x) (with_seen (seen_as x end.1)) k slots slots' p.current p'.current q.current q.current (record {
           slots_same = λ j ne. ap (λ (y : List (Option (Stored A))). slot_at y j) sl ∙ change_other (kind_set x) slots k j ne;
           params_same = restored.0.others;
@@ -208,7 +208,7 @@ module _ {A : Type 0} where
       subst (λ (r : Shelf ℤ). Undone slots slots' p r q q' notes k was.Kids) (sym pu) (record {
         last = record { node = k; before = OldKids end.1 };
         sound = IsStock-pop notes n p.past p.past q.past q'.past (omega arith) (let e = ap length qp in omega (arith, e, ql, end.3)) is;
-        told_is = ap (told (notes ++ n ∷ []) p.past) end.2 ∙ told_kid notes n p.past end.0 end.1 pl end.3 ∙ ap (λ (y : List (List ℕ)). told notes p.past y ++ record { node = k; before = OldKids end.1 } ∷ []) (sym qp);
+        told_is = ap (changes_told (notes ++ n ∷ []) p.past) end.2 ∙ told_kid notes n p.past end.0 end.1 pl end.3 ∙ ap (λ (y : List (List ℕ)). changes_told notes p.past y ++ record { node = k; before = OldKids end.1 } ∷ []) (sym qp);
         nodes = nodes_change (λ s. s) (with_kids end.1) k slots slots' p.current p.current q.current q'.current (record {
           slots_same = λ j ne. ap (λ (y : List (Option (Stored A))). slot_at y j) sl;
           params_same = λ j ne. refl;
@@ -263,17 +263,17 @@ module _ {A : Type 0} where
   pub record Taken (p p' : Shelf ℤ) (q q' : Shelf ℕ) (notes : List (Note A)) (k : ℕ) (w : Was A) : Type 0 where
     pub last : Change A
     pub sound : IsStock notes p'.past q'.past
-    pub told_is : told (notes ++ record { node = k; was = w } ∷ []) p.past q.past ≡ told notes p'.past q'.past ++ last ∷ []
+    pub told_is : changes_told (notes ++ record { node = k; was = w } ∷ []) p.past q.past ≡ changes_told notes p'.past q'.past ++ last ∷ []
     pub params : p'.current ≡ p.current
     pub kids : q'.current ≡ q.current
-    pub looks : named w k q'.hand ≡ looked last
+    pub looks : nodes_named w k q'.hand ≡ looked last
     pub answer : old_answer last ≡ noted_answer w
     pub rooms : (p'.spare ≡ p.spare) × (q'.spare ≡ q.spare)
     pub param_places : p'.past_places ≡ p.past_places
     pub kid_places : q'.past_places ≡ q.past_places
 
   -- a note without a list
-  take_plain : (p p' : Shelf ℤ) (q q' : Shelf ℕ) (notes : List (Note A)) (k : ℕ) (w : Was A) (b : Before A) → param_lists w ≡ 0 → kid_lists w ≡ 0 → ((p : List (List ℤ)) (q : List (List ℕ)) → length p ≡ param_count notes → length q ≡ kid_count notes → told (notes ++ record { node = k; was = w } ∷ []) p q ≡ told notes p q ++ record { node = k; before = b } ∷ []) → named w k q'.hand ≡ looked (record { node = k; before = b }) → old_answer (record { node = k; before = b }) ≡ noted_answer w → IsStock (notes ++ record { node = k; was = w } ∷ []) p.past q.past → p' ≡ p → q' ≡ q → Taken p p' q q' notes k w
+  take_plain : (p p' : Shelf ℤ) (q q' : Shelf ℕ) (notes : List (Note A)) (k : ℕ) (w : Was A) (b : Previous A) → param_lists w ≡ 0 → kid_lists w ≡ 0 → ((p : List (List ℤ)) (q : List (List ℕ)) → length p ≡ param_count notes → length q ≡ kid_count notes → changes_told (notes ++ record { node = k; was = w } ∷ []) p q ≡ changes_told notes p q ++ record { node = k; before = b } ∷ []) → nodes_named w k q'.hand ≡ looked (record { node = k; before = b }) → old_answer (record { node = k; before = b }) ≡ noted_answer w → IsStock (notes ++ record { node = k; was = w } ∷ []) p.past q.past → p' ≡ p → q' ≡ q → Taken p p' q q' notes k w
   take_plain p p' q q' notes k w b p0 q0 plain looks answer is pu qu =
       let n : Note A = record { node = k; was = w } in
       let pl : length p.past ≡ param_count notes = omega (arith, is.past_params_long, param_count_push notes n, p0) in
@@ -283,7 +283,7 @@ module _ {A : Type 0} where
       record {
         last = record { node = k; before = b };
         sound = IsStock-pop notes n p.past p'.past q.past q'.past (let e = ap length pp in omega (arith, e, p0)) (let e = ap length qp in omega (arith, e, q0)) is;
-        told_is = plain p.past q.past pl ql ∙ ap (λ (x : List (List ℤ)). told notes x q.past ++ record { node = k; before = b } ∷ []) (sym pp) ∙ ap (λ (x : List (List ℕ)). told notes p'.past x ++ record { node = k; before = b } ∷ []) (sym qp);
+        told_is = plain p.past q.past pl ql ∙ ap (λ (x : List (List ℤ)). changes_told notes x q.past ++ record { node = k; before = b } ∷ []) (sym pp) ∙ ap (λ (x : List (List ℕ)). changes_told notes p'.past x ++ record { node = k; before = b } ∷ []) (sym qp);
         params = ap (λ (x : Shelf ℤ). x.current) pu;
         kids = ap (λ (x : Shelf ℕ). x.current) qu;
         looks = looks;
@@ -308,7 +308,7 @@ module _ {A : Type 0} where
       record {
         last = record { node = k; before = OldSeen (seen_as x end.1) };
         sound = IsStock-pop notes n p.past p'.past q.past q'.past (let e = ap length pp in omega (arith, e, pl, end.3)) (let e = ap length qp in omega (arith, e)) is;
-        told_is = ap (λ (y : List (List ℤ)). told (notes ++ n ∷ []) y q.past) end.2 ∙ told_param notes n end.0 end.1 q.past end.3 ql ∙ ap (λ (y : List (List ℤ)). told notes y q.past ++ record { node = k; before = OldSeen (seen_as x end.1) } ∷ []) (sym pp) ∙ ap (λ (y : List (List ℕ)). told notes p'.past y ++ record { node = k; before = OldSeen (seen_as x end.1) } ∷ []) (sym qp);
+        told_is = ap (λ (y : List (List ℤ)). changes_told (notes ++ n ∷ []) y q.past) end.2 ∙ told_param notes n end.0 end.1 q.past end.3 ql ∙ ap (λ (y : List (List ℤ)). changes_told notes y q.past ++ record { node = k; before = OldSeen (seen_as x end.1) } ∷ []) (sym pp) ∙ ap (λ (y : List (List ℕ)). changes_told notes p'.past y ++ record { node = k; before = OldSeen (seen_as x end.1) } ∷ []) (sym qp);
         params = ap (λ (x : Shelf ℤ). x.current) pr;
         kids = ap (λ (x : Shelf ℕ). x.current) qu;
         looks = refl;
@@ -328,7 +328,7 @@ module _ {A : Type 0} where
       record {
         last = record { node = k; before = OldKids end.1 };
         sound = IsStock-pop notes n p.past p'.past q.past q'.past (let e = ap length pp in omega (arith, e)) (let e = ap length qp in omega (arith, e, ql, end.3)) is;
-        told_is = ap (told (notes ++ n ∷ []) p.past) end.2 ∙ told_kid notes n p.past end.0 end.1 pl end.3 ∙ ap (λ (y : List (List ℤ)). told notes y end.0 ++ record { node = k; before = OldKids end.1 } ∷ []) (sym pp) ∙ ap (λ (y : List (List ℕ)). told notes p'.past y ++ record { node = k; before = OldKids end.1 } ∷ []) (sym qp);
+        told_is = ap (changes_told (notes ++ n ∷ []) p.past) end.2 ∙ told_kid notes n p.past end.0 end.1 pl end.3 ∙ ap (λ (y : List (List ℤ)). changes_told notes y end.0 ++ record { node = k; before = OldKids end.1 } ∷ []) (sym pp) ∙ ap (λ (y : List (List ℕ)). changes_told notes p'.past y ++ record { node = k; before = OldKids end.1 } ∷ []) (sym qp);
         params = ap (λ (x : Shelf ℤ). x.current) pu;
         kids = ap (λ (x : Shelf ℕ). x.current) qr;
         looks = ap (λ (x : Shelf ℕ). x.hand) qr;
@@ -342,7 +342,7 @@ module _ {A : Type 0} where
   pub record Last (slots : List (Option (Stored A))) (p : Shelf ℤ) (q : Shelf ℕ) (notes : List (Note A)) (k : ℕ) (w : Was A) : Type 0 where
     pub last : Change A
     pub earlier : List (Change A)
-    pub were : told (notes ++ record { node = k; was = w } ∷ []) p.past q.past ≡ earlier ++ last ∷ []
+    pub were : changes_told (notes ++ record { node = k; was = w } ∷ []) p.past q.past ≡ earlier ++ last ∷ []
     pub answer : dropped last (shown_nodes slots p.current q.current) ≡ dropped_slot w (slot_at slots k)
     pub noted : old_answer last ≡ noted_answer w
 
@@ -351,7 +351,7 @@ module _ {A : Type 0} where
       let n : Note A = record { node = k; was = was.Missing } in
       record {
         last = record { node = k; before = Missing };
-        earlier = told notes p.past q.past;
+        earlier = changes_told notes p.past q.past;
         were = told_plain notes n p.past q.past (omega (arith, is.past_params_long, param_count_push notes n)) (omega (arith, is.past_kids_long, kid_count_push notes n));
         answer = answer_same (row_at p.current k) (row_at q.current k) (slot_at slots k);
         noted = refl;
@@ -360,7 +360,7 @@ module _ {A : Type 0} where
       let n : Note A = record { node = k; was = was.Key x } in
       record {
         last = record { node = k; before = OldKey x };
-        earlier = told notes p.past q.past;
+        earlier = changes_told notes p.past q.past;
         were = told_plain notes n p.past q.past (omega (arith, is.past_params_long, param_count_push notes n)) (omega (arith, is.past_kids_long, kid_count_push notes n));
         answer = refl;
         noted = refl;
@@ -369,7 +369,7 @@ module _ {A : Type 0} where
       let n : Note A = record { node = k; was = was.Answer x } in
       record {
         last = record { node = k; before = OldAnswer x };
-        earlier = told notes p.past q.past;
+        earlier = changes_told notes p.past q.past;
         were = told_plain notes n p.past q.past (omega (arith, is.past_params_long, param_count_push notes n)) (omega (arith, is.past_kids_long, kid_count_push notes n));
         answer = dropped_same x (row_at p.current k) (row_at q.current k) k (shown_nodes slots p.current q.current) (slot_at slots k) refl;
         noted = refl;
@@ -379,8 +379,8 @@ module _ {A : Type 0} where
       let end = last_of p.past (param_count notes) (omega (arith, is.past_params_long, param_count_push notes n)) in
       record {
         last = record { node = k; before = OldSeen (seen_as x end.1) };
-        earlier = told notes end.0 q.past;
-        were = ap (λ (y : List (List ℤ)). told (notes ++ n ∷ []) y q.past) end.2 ∙ told_param notes n end.0 end.1 q.past end.3 (omega (arith, is.past_kids_long, kid_count_push notes n));
+        earlier = changes_told notes end.0 q.past;
+        were = ap (λ (y : List (List ℤ)). changes_told (notes ++ n ∷ []) y q.past) end.2 ∙ told_param notes n end.0 end.1 q.past end.3 (omega (arith, is.past_kids_long, kid_count_push notes n));
         answer = refl;
         noted = refl;
       }
@@ -389,8 +389,8 @@ module _ {A : Type 0} where
       let end = last_of q.past (kid_count notes) (omega (arith, is.past_kids_long, kid_count_push notes n)) in
       record {
         last = record { node = k; before = OldKids end.1 };
-        earlier = told notes p.past end.0;
-        were = ap (told (notes ++ n ∷ []) p.past) end.2 ∙ told_kid notes n p.past end.0 end.1 (omega (arith, is.past_params_long, param_count_push notes n)) end.3;
+        earlier = changes_told notes p.past end.0;
+        were = ap (changes_told (notes ++ n ∷ []) p.past) end.2 ∙ told_kid notes n p.past end.0 end.1 (omega (arith, is.past_params_long, param_count_push notes n)) end.3;
         answer = refl;
         noted = refl;
       }

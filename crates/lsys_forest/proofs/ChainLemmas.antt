@@ -3,13 +3,13 @@ use Rattle.std.proofs.Common.{◌≡◌, ◌≢◌, ◌⊎◌, ◌≤◌, ℕ, z
 use Rattle.std.proofs.lemmas.Bool.{cases_eq}
 use Rattle.std.proofs.lemmas.List.{append-nil}
 use Rattle.std.proofs.lemmas.Option.{none-some, same_Some}
+use Rattle.lsys_spec.specs.Rows.{In, AreApart, first_in, mirrored}
 use Rattle.lsys_forest.specs.declared.node.Footing.{Footing}
 use Rattle.lsys_forest.specs.declared.walk.Way.{Way}
 use Rattle.lsys_forest.specs.declared.walk.Way.TheVariants.{Left, Right}
 use Rattle.lsys_forest.specs.Slots.{link_in, link_at}
-use Rattle.lsys_forest.specs.Groves.{In, AreApart}
 use Rattle.lsys_forest.specs.Ranks.{AreChained, Joins, LinksRow}
-use Rattle.lsys_forest.specs.Rows.{first_in, mirrored, oriented}
+use Rattle.lsys_forest.specs.Rows.{oriented}
 use Rattle.lsys_forest.proofs.RowLemmas.{In_append, In_left, In_right, In_split, same_sides, apart_parts, oriented_apart, oriented_In_back}
 use Rattle.lsys_forest.proofs.WalkLemmas.{get_In, mirrored_push, mirrored_twice, first_split}
 

@@ -3,11 +3,12 @@ use Rattle.std.proofs.Common.{◌≡◌, ◌≢◌, ◌+◌, ◌≤◌, ℕ, zer
 use Rattle.std.specs.Prelude.{IsSome}
 use Rattle.std.proofs.lemmas.List.Sums.{sum_by-cons}
 use Rattle.std.proofs.lemmas.Option.{same_Some}
+use Rattle.lsys_spec.specs.Rows.{In, AreApart}
 use Rattle.lsys_forest.specs.declared.node.Stored.{Stored}
 use Rattle.lsys_forest.specs.Slots.{slot_at, live_slots}
 use Rattle.lsys_forest.specs.Nodes.{Node, Nodes}
 use Rattle.lsys_forest.specs.Changes.{Change}
-use Rattle.lsys_forest.specs.Groves.{In, AreApart, IsSound}
+use Rattle.lsys_forest.specs.Groves.{IsRooted}
 
 module _ {A : Type 0} where
   abbrev cleared : List (Option (Stored A)) → ℕ → List (Option (Stored A))
@@ -50,7 +51,7 @@ module _ {A : Type 0} where
     pub apart : AreApart line
     pub live : (k : ℕ) → In k line → (n : Node A) × (m k ≡ Some n) × (n.depth ≤ d)
 
-  line_of : (root : ℕ) (changes : List (Change A)) (m : Nodes A) → IsSound root changes m → (d x : ℕ) (n : Node A) → m x ≡ Some n → n.depth ≡ d → Line m d
+  line_of : (root : ℕ) (changes : List (Change A)) (m : Nodes A) → IsRooted root changes m → (d x : ℕ) (n : Node A) → m x ≡ Some n → n.depth ≡ d → Line m d
   line_of root changes m sound zero x n is depth = record {
     line = x ∷ [];
     long = refl;
@@ -78,7 +79,7 @@ module _ {A : Type 0} where
         ];
       }
 
-  pub depth_fits : (root : ℕ) (changes : List (Change A)) (m : Nodes A) (slots : List (Option (Stored A))) → IsSound root changes m → ((k : ℕ) (n : Node A) → m k ≡ Some n → IsSome (slot_at slots k)) → (x : ℕ) (n : Node A) → m x ≡ Some n → n.depth + 1 ≤ live_slots slots
+  pub depth_fits : (root : ℕ) (changes : List (Change A)) (m : Nodes A) (slots : List (Option (Stored A))) → IsRooted root changes m → ((k : ℕ) (n : Node A) → m k ≡ Some n → IsSome (slot_at slots k)) → (x : ℕ) (n : Node A) → m x ≡ Some n → n.depth + 1 ≤ live_slots slots
   depth_fits root changes m slots sound shown x n is =
       let line = line_of root changes m sound n.depth x n is refl in
       let most = fits line.line slots line.apart (λ k h. let l = line.live k h in shown k l.0 l.1) in

@@ -4,16 +4,17 @@ use Rattle.std.specs.Prelude.{IsSome}
 use Rattle.std.proofs.lemmas.Bool.{cases_eq}
 use Rattle.std.proofs.lemmas.List.{append-nil}
 use Rattle.std.proofs.lemmas.Option.{same_Some}
+use Rattle.lsys_spec.specs.Rows.{In, AreApart, first_in, mirrored, flat}
 use Rattle.lsys_forest.specs.declared.node.Footing.{Footing}
 use Rattle.lsys_forest.specs.declared.walk.Way.{Way}
 use Rattle.lsys_forest.specs.declared.walk.Way.TheVariants.{Left, Right}
 use Rattle.lsys_forest.specs.Slots.{footing_at, link_in, link_at, rank_at}
 use Rattle.lsys_forest.specs.Nodes.{Node, Nodes}
-use Rattle.lsys_forest.specs.Changes.{KeepsKids, Missing, Change, Before}
+use Rattle.lsys_forest.specs.Changes.{KeepsKids, Missing, Change, Previous}
 use Rattle.lsys_forest.specs.Stocks.{Stock, nodes_of, changes_of, Journals, Undoes, KeepsFootings}
-use Rattle.lsys_forest.specs.Groves.{In, AreApart, IsSound, AreSound}
+use Rattle.lsys_forest.specs.Groves.{IsRooted, AreSound}
 use Rattle.lsys_forest.specs.Ranks.{AreRanked, AreChained, LinksRow, AreLinked}
-use Rattle.lsys_forest.specs.Rows.{first_in, oriented, mirrored, flat, kids_in, kids_below, depth_in, level_nodes}
+use Rattle.lsys_forest.specs.Rows.{oriented, kids_in, kids_below, depth_in, level_nodes}
 use Rattle.lsys_forest.proofs.StockLemmas.{put_same, put_other}
 use Rattle.lsys_forest.proofs.SoundLemmas.{some_of, AreSound-now}
 use Rattle.lsys_forest.proofs.RowLemmas.{In_left, In_right, apart_parts, oriented_In_back, flat_append, level_apart, level_depth}
@@ -43,12 +44,12 @@ module _ {A : Type 0} where
       ∙ ap (kids_below m) (levels_same m m' root most top same t (omega (arith, less)))
 
   -- all, where each node that lives has the children that it had
-  pub levels_live : (root : ℕ) (changes : List (Change A)) (m m' : Nodes A) → IsSound root changes m' → ((k : ℕ) → IsSome (m' k) → kids_in (m' k) ≡ kids_in (m k)) → (t : ℕ) → level_nodes m' root t ≡ level_nodes m root t
+  pub levels_live : (root : ℕ) (changes : List (Change A)) (m m' : Nodes A) → IsRooted root changes m' → ((k : ℕ) → IsSome (m' k) → kids_in (m' k) ≡ kids_in (m k)) → (t : ℕ) → level_nodes m' root t ≡ level_nodes m root t
   levels_live root changes m m' sound same t =
       levels_same m m' root (suc t) (λ some. same root (subst IsSome (sym sound.root_lives.1) refl)) (λ u k less h. same k (level_live root changes m' sound u k h)) t (omega arith)
 
   -- those above a node that got other children
-  pub levels_above : (root : ℕ) (changes : List (Change A)) (m m' : Nodes A) (node : ℕ) → IsSound root changes m' → ((k : ℕ) → k ≢ node → kids_in (m' k) ≡ kids_in (m k)) → (t : ℕ) → t < depth_in (m' node) → level_nodes m' root t ≡ level_nodes m root t
+  pub levels_above : (root : ℕ) (changes : List (Change A)) (m m' : Nodes A) (node : ℕ) → IsRooted root changes m' → ((k : ℕ) → k ≢ node → kids_in (m' k) ≡ kids_in (m k)) → (t : ℕ) → t < depth_in (m' node) → level_nodes m' root t ≡ level_nodes m root t
   levels_above root changes m m' node sound same = levels_same m m' root (depth_in (m' node)) top below
     where
       deep : (k d : ℕ) (n : Node A) → m' k ≡ Some n → n.depth ≡ d → d ≢ depth_in (m' node) → k ≢ node
@@ -62,14 +63,14 @@ module _ {A : Type 0} where
 
   -- 2. links that stay
 
-  pub linked_on : (root : ℕ) (changes : List (Change A)) (m m' : Nodes A) (footings footings' : List Footing) (linked linked' : ℕ) → IsSound root changes m' → linked' ≤ linked → ((t : ℕ) → t < linked' → level_nodes m' root t ≡ level_nodes m root t) → ((way : Way) (k : ℕ) → IsSome (m' k) → link_at way footings' k ≡ link_at way footings k) → AreLinked m root footings linked → AreLinked m' root footings' linked'
+  pub linked_on : (root : ℕ) (changes : List (Change A)) (m m' : Nodes A) (footings footings' : List Footing) (linked linked' : ℕ) → IsRooted root changes m' → linked' ≤ linked → ((t : ℕ) → t < linked' → level_nodes m' root t ≡ level_nodes m root t) → ((way : Way) (k : ℕ) → IsSome (m' k) → link_at way footings' k ≡ link_at way footings k) → AreLinked m root footings linked → AreLinked m' root footings' linked'
   linked_on root changes m m' footings footings' linked linked' sound fewer same stay are = λ t k way before after less whole.
       let among : In k (level_nodes m' root t) = oriented_In_back way k (level_nodes m' root t) (subst (In k) (sym whole) (In_right k before (k ∷ after) (inl refl))) in
       stay way k (level_live root changes m' sound t k among)
       ∙ are t k way before after (omega (arith, less, fewer)) (ap (oriented way) (sym (same t less)) ∙ whole)
 
   -- one node became this one, with the children that it had
-  pub set_linked : (root : ℕ) (changes : List (Change A)) (old new : Stock A) (node linked : ℕ) (was now : Node A) (before : Before A) (params kids : ℕ) → IsSound root changes (nodes_of new) → nodes_of old node ≡ Some was → now.kids ≡ was.kids → Journals old new node (Some now) before 0 params kids → AreLinked (nodes_of old) root old.footings linked → AreLinked (nodes_of new) root new.footings linked
+  pub set_linked : (root : ℕ) (changes : List (Change A)) (old new : Stock A) (node linked : ℕ) (was now : Node A) (before : Previous A) (params kids : ℕ) → IsRooted root changes (nodes_of new) → nodes_of old node ≡ Some was → now.kids ≡ was.kids → Journals old new node (Some now) before 0 params kids → AreLinked (nodes_of old) root old.footings linked → AreLinked (nodes_of new) root new.footings linked
   set_linked root changes old new node linked was now before params kids sound is same j are =
       linked_on root changes (nodes_of old) (nodes_of new) old.footings new.footings linked linked sound (omega arith) (λ t less. levels_live root changes (nodes_of old) (nodes_of new) sound (λ k lives. kept k) t) (λ way k lives. ap (link_in way) (j.footings k (lived k lives))) are
     where
@@ -86,7 +87,7 @@ module _ {A : Type 0} where
       ]
 
   -- a node was added: it has no children, and is no child yet
-  pub add_linked : (root : ℕ) (old new : Stock A) (node linked : ℕ) (now : Node A) (params kids : ℕ) → IsSound root (changes_of old) (nodes_of old) → nodes_of old node ≡ None → now.kids ≡ [] → Journals old new node (Some now) Missing 1 params kids → AreLinked (nodes_of old) root old.footings linked → AreLinked (nodes_of new) root new.footings linked
+  pub add_linked : (root : ℕ) (old new : Stock A) (node linked : ℕ) (now : Node A) (params kids : ℕ) → IsRooted root (changes_of old) (nodes_of old) → nodes_of old node ≡ None → now.kids ≡ [] → Journals old new node (Some now) Missing 1 params kids → AreLinked (nodes_of old) root old.footings linked → AreLinked (nodes_of new) root new.footings linked
   add_linked root old new node linked now params kids sound vacant none j are = λ t k way before after less whole.
       let same : level_nodes (nodes_of new) root t ≡ level_nodes (nodes_of old) root t = sym (levels_live root (changes_of old) (nodes_of new) (nodes_of old) sound (λ i lives. sym (kept i)) t) in
       let there : oriented way (level_nodes (nodes_of old) root t) ≡ before ++ k ∷ after = ap (oriented way) (sym same) ∙ whole in
@@ -100,7 +101,7 @@ module _ {A : Type 0} where
       ]
 
   -- the children of a node were set, and their ranks then
-  pub kids_linked : (root : ℕ) (changes : List (Change A)) (old new : Stock A) (footings : List Footing) (node linked linked' : ℕ) (was now : Node A) (before : Before A) (params kids : ℕ) → IsSound root changes (nodes_of new) → nodes_of old node ≡ Some was → Journals old new node (Some now) before 0 params kids → ((way : Way) (k : ℕ) → link_at way footings k ≡ link_at way new.footings k) → linked' ≤ linked → linked' ≤ depth_in (nodes_of new node) → AreLinked (nodes_of old) root old.footings linked → AreLinked (nodes_of new) root footings linked'
+  pub kids_linked : (root : ℕ) (changes : List (Change A)) (old new : Stock A) (footings : List Footing) (node linked linked' : ℕ) (was now : Node A) (before : Previous A) (params kids : ℕ) → IsRooted root changes (nodes_of new) → nodes_of old node ≡ Some was → Journals old new node (Some now) before 0 params kids → ((way : Way) (k : ℕ) → link_at way footings k ≡ link_at way new.footings k) → linked' ≤ linked → linked' ≤ depth_in (nodes_of new node) → AreLinked (nodes_of old) root old.footings linked → AreLinked (nodes_of new) root footings linked'
   kids_linked root changes old new footings node linked linked' was now before params kids sound is j links fewer high are =
       linked_on root changes (nodes_of old) (nodes_of new) old.footings footings linked linked' sound fewer (λ t less. levels_above root changes (nodes_of old) (nodes_of new) node sound kept t (omega (arith, less, high))) (λ way k lives. links way k ∙ ap (link_in way) (j.footings k (lived k lives))) are
     where
@@ -135,7 +136,7 @@ module _ {A : Type 0} where
       same k ne = ap kids_in (ap (λ (f : Nodes A). f k) undoes.nodes ∙ undo_other c (nodes_of old) k (λ e. ne (e ∙ here)))
 
   -- the nodes that are not reached were removed
-  pub swept_linked : (root : ℕ) (m m' : Nodes A) (footings footings' : List Footing) (linked : ℕ) → IsSound root [] m' → ((k : ℕ) (n : Node A) → m' k ≡ Some n → m k ≡ Some n) → ((k : ℕ) → IsSome (m' k) → footing_at footings' k ≡ footing_at footings k) → AreLinked m root footings linked → AreLinked m' root footings' linked
+  pub swept_linked : (root : ℕ) (m m' : Nodes A) (footings footings' : List Footing) (linked : ℕ) → IsRooted root [] m' → ((k : ℕ) (n : Node A) → m' k ≡ Some n → m k ≡ Some n) → ((k : ℕ) → IsSome (m' k) → footing_at footings' k ≡ footing_at footings k) → AreLinked m root footings linked → AreLinked m' root footings' linked
   swept_linked root m m' footings footings' linked sound stood kept are =
       linked_on root [] m m' footings footings' linked linked sound (omega arith) (λ t less. levels_live root [] m m' sound same t) (λ way k lives. ap (link_in way) (kept k lives)) are
     where
@@ -182,7 +183,7 @@ module _ {A : Type 0} where
     pub apart : AreApart (kids_below m passed ++ kids_in (m above))
     pub inside : (k : ℕ) → In k (kids_below m passed ++ kids_in (m above)) → In k (level_nodes m root (suc t))
 
-  pub linking_next : (root : ℕ) (changes : List (Change A)) (m : Nodes A) (t : ℕ) (footings : List Footing) (before at : Option ℕ) (above : ℕ) → IsSound root changes m → IsLinking m root t footings before at → at ≡ Some above → IsNext m root t footings before above
+  pub linking_next : (root : ℕ) (changes : List (Change A)) (m : Nodes A) (t : ℕ) (footings : List Footing) (before at : Option ℕ) (above : ℕ) → IsRooted root changes m → IsLinking m root t footings before at → at ≡ Some above → IsNext m root t footings before above
   linking_next root changes m t footings before at above sound is e =
       let s = first_split is.ahead above (sym is.at_is ∙ e) in
       let whole = is.whole ∙ ap (λ (l : List ℕ). is.passed ++ l) s.1 in
@@ -200,7 +201,7 @@ module _ {A : Type 0} where
       }
 
   -- the last node before them lives, and is none of them
-  pub linking_before : (root : ℕ) (changes : List (Change A)) (m : Nodes A) (t : ℕ) (footings : List Footing) (before : Option ℕ) (above : ℕ) → IsSound root changes m → (is : IsNext m root t footings before above) → (k : ℕ) → before ≡ Some k → IsSome (m k) × (In k (kids_in (m above)) → ⊥)
+  pub linking_before : (root : ℕ) (changes : List (Change A)) (m : Nodes A) (t : ℕ) (footings : List Footing) (before : Option ℕ) (above : ℕ) → IsRooted root changes m → (is : IsNext m root t footings before above) → (k : ℕ) → before ≡ Some k → IsSome (m k) × (In k (kids_in (m above)) → ⊥)
   linking_before root changes m t footings before above sound is k e =
       let among = last_among (kids_below m is.passed) k (sym is.before_is ∙ e) in (
         level_live root changes m sound (suc t) k (is.inside k (In_left k (kids_below m is.passed) (kids_in (m above)) among)),
@@ -208,7 +209,7 @@ module _ {A : Type 0} where
       )
 
   -- the levels that are linked stay so
-  pub linking_above : (root : ℕ) (changes : List (Change A)) (m : Nodes A) (t linked : ℕ) (footings footings' : List Footing) (before last : Option ℕ) (above : ℕ) → IsSound root changes m → linked ≡ t + 1 → (is : IsNext m root t footings before above) → LinksRow footings footings' before (kids_in (m above)) last → AreLinked m root footings linked → AreLinked m root footings' linked
+  pub linking_above : (root : ℕ) (changes : List (Change A)) (m : Nodes A) (t linked : ℕ) (footings footings' : List Footing) (before last : Option ℕ) (above : ℕ) → IsRooted root changes m → linked ≡ t + 1 → (is : IsNext m root t footings before above) → LinksRow footings footings' before (kids_in (m above)) last → AreLinked m root footings linked → AreLinked m root footings' linked
   linking_above root changes m t linked footings footings' before last above sound more is e are = λ u k way b a less whole.
       let there : In k (level_nodes m root u) = oriented_In_back way k (level_nodes m root u) (subst (In k) (sym whole) (In_right k b (k ∷ a) (inl refl))) in
       let d = level_depth root changes m sound u k there in
@@ -242,6 +243,6 @@ module _ {A : Type 0} where
       subst (λ (l : List ℕ). AreChained l footings) (sym (ap (level_nodes m root) more ∙ ap (kids_below m) all)) is.chained
 
   -- the first level is linked
-  pub linking_first : (root : ℕ) (changes : List (Change A)) (m : Nodes A) (footings footings' : List Footing) (last : Option ℕ) (linked : ℕ) → IsSound root changes m → linked ≡ 1 → LinksRow footings footings' None (kids_in (m root)) last → AreLinked m root footings' linked
+  pub linking_first : (root : ℕ) (changes : List (Change A)) (m : Nodes A) (footings footings' : List Footing) (last : Option ℕ) (linked : ℕ) → IsRooted root changes m → linked ≡ 1 → LinksRow footings footings' None (kids_in (m root)) last → AreLinked m root footings' linked
   linking_first root changes m footings footings' last linked sound one e =
       linking_more m root 0 linked footings' one (e.chained [] refl (level_apart root changes m sound 0) (none_chained footings)) (λ u k way b a less whole. absurd (omega (arith, less)))

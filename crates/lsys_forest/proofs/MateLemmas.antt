@@ -3,6 +3,7 @@ use Rattle.std.proofs.Common.{ℤ, ◌≡◌, ◌+◌, ◌<◌, ◌≤◌, ℕ, 
 use Rattle.std.specs.Prelude.{IsSome, option_map}
 use Rattle.std.proofs.lemmas.List.{append-nil, length_push}
 use Rattle.std.proofs.lemmas.Option.{none-some, same_Some}
+use Rattle.lsys_spec.specs.Rows.{In, AreApart, first_in, mirrored}
 use Rattle.lsys_spec.specs.Levels.{close_of, AreMates, level_balanced}
 use Rattle.lsys_spec.specs.Levels as L
 use Rattle.lsys_level.specs.Spots.{Seen, Push, Pop, with_lineage, named}
@@ -11,8 +12,7 @@ use Rattle.lsys_forest.specs.declared.node.Kind.TheVariants as kinds
 use Rattle.lsys_forest.specs.declared.walk.Way.{Way}
 use Rattle.lsys_forest.specs.declared.walk.Way.TheVariants.{Left, Right}
 use Rattle.lsys_forest.specs.Nodes.{Node, Nodes, seen_as}
-use Rattle.lsys_forest.specs.Groves.{In, AreApart}
-use Rattle.lsys_forest.specs.Rows.{first_in, index_in, mirrored, oriented, spot_in}
+use Rattle.lsys_forest.specs.Rows.{index_in, oriented, spot_in}
 use Rattle.lsys_forest.specs.Mates.{nested, IsBracketThat, seen_level, IsMateThat}
 use Rattle.lsys_forest.proofs.RowLemmas.{In_right, oriented_In_back, index_of}
 use Rattle.lsys_forest.proofs.WalkLemmas.{mirrored_around, mirrored_twice, mirrored_push}
@@ -20,7 +20,7 @@ use Rattle.lsys_forest.proofs.WalkLemmas.{mirrored_around, mirrored_twice, mirro
 -- 1. closing brackets and balance, whatever the lineages are
 
 -- a bracket closes what is open
-closes : (x : List L.Symbol) (n j : ℕ) → level_balanced n x ≡ true → j < n → IsSome (close_of j x)
+closes : (x : List L.LevelSymbol) (n j : ℕ) → level_balanced n x ≡ true → j < n → IsSome (close_of j x)
 closes [] n j b less = absurd (no n b less)
   where
     no : (n : ℕ) → level_balanced n [] ≡ true → j < n → ⊥
@@ -45,7 +45,7 @@ closes (L.Pop l ∷ x) (suc n) (suc j) b less = some_map (close_of j x) (closes 
     some_map (Some q) h = refl
 
 -- nothing closes what is not open
-none_closes : (x : List L.Symbol) (n j : ℕ) → level_balanced n x ≡ true → n ≤ j → close_of j x ≡ None
+none_closes : (x : List L.LevelSymbol) (n j : ℕ) → level_balanced n x ≡ true → n ≤ j → close_of j x ≡ None
 none_closes [] n j b le = refl
 none_closes (L.Module l m ∷ x) n j b le = ap (option_map (λ q. q + 1)) (none_closes x n j b le)
 none_closes (L.Push l ∷ x) n j b le = ap (option_map (λ q. q + 1)) (none_closes x (suc n) (suc j) b (omega (arith, le)))
@@ -54,7 +54,7 @@ none_closes (L.Pop l ∷ x) (suc n) zero b le = absurd (omega (arith, le))
 none_closes (L.Pop l ∷ x) (suc n) (suc j) b le = ap (option_map (λ q. q + 1)) (none_closes x n j b (omega (arith, le)))
 
 -- a balanced level is balanced behind each front, where some branches are open
-behind_front : (x y : List L.Symbol) (n : ℕ) → level_balanced n (x ++ y) ≡ true → (k : ℕ) × (level_balanced k y ≡ true)
+behind_front : (x y : List L.LevelSymbol) (n : ℕ) → level_balanced n (x ++ y) ≡ true → (k : ℕ) × (level_balanced k y ≡ true)
 behind_front [] y n b = (n, b)
 behind_front (L.Module l m ∷ x) y n b = behind_front x y n b
 behind_front (L.Push l ∷ x) y n b = behind_front x y (suc n) b
@@ -110,11 +110,11 @@ still_few Left kinds.Push (suc inside) still e = let f = same_Some inside still 
 still_few Left kinds.Pop inside still e = let f = same_Some (suc inside) still e in omega (arith, f)
 still_few Left (kinds.Module name) inside still e = let f = same_Some inside still e in omega (arith, f)
 
-drop_front : (x : List L.Symbol) (s : L.Symbol) (y : List L.Symbol) → drop (length x + 1) (x ++ s ∷ y) ≡ y
+drop_front : (x : List L.LevelSymbol) (s : L.LevelSymbol) (y : List L.LevelSymbol) → drop (length x + 1) (x ++ s ∷ y) ≡ y
 drop_front [] s y = refl
 drop_front (z ∷ x) s y = let e : length (z ∷ x) + 1 ≡ suc (length x + 1) = omega arith in ap (λ k. drop k (z ∷ x ++ s ∷ y)) e ∙ drop_front x s y
 
-get_front : (x : List L.Symbol) (s : L.Symbol) (y : List L.Symbol) → slice_get (x ++ s ∷ y) (length x) ≡ Some s
+get_front : (x : List L.LevelSymbol) (s : L.LevelSymbol) (y : List L.LevelSymbol) → slice_get (x ++ s ∷ y) (length x) ≡ Some s
 get_front [] s y = refl
 get_front (z ∷ x) s y = get_front x s y
 
@@ -131,7 +131,7 @@ way_size Left xs = mirror_size xs
 module _ {A : Type 0} where
   seen_append : (naming : ℕ → List ℕ) (m : Nodes A) (xs ys : List ℕ) → seen_level naming m (xs ++ ys) ≡ seen_level naming m xs ++ seen_level naming m ys
   seen_append naming m [] ys = refl
-  seen_append naming m (x ∷ xs) ys = ap (λ (l : List L.Symbol). named naming (spot_in x (m x)) ∷ l) (seen_append naming m xs ys)
+  seen_append naming m (x ∷ xs) ys = ap (λ (l : List L.LevelSymbol). named naming (spot_in x (m x)) ∷ l) (seen_append naming m xs ys)
 
   seen_size : (naming : ℕ → List ℕ) (m : Nodes A) (xs : List ℕ) → length (seen_level naming m xs) ≡ length xs
   seen_size naming m [] = refl
@@ -164,7 +164,7 @@ module _ {A : Type 0} where
     where
       go : (o : Option (Node A)) → m node ≡ o → IsBracketThat Left o → (naming : ℕ → List ℕ) → close_of 0 (seen_level naming m (node ∷ after)) ≡ Some 0
       go None e b naming = absurd b
-      go (Some n) e b naming = ap (λ (s : L.Symbol). close_of 0 (s ∷ seen_level naming m after)) (head_is naming m node n Pop e b)
+      go (Some n) e b naming = ap (λ (s : L.LevelSymbol). close_of 0 (s ∷ seen_level naming m after)) (head_is naming m node n Pop e b)
 
   -- the node to which the walk came
   pub record IsMet (way : Way) (m : Nodes A) (level : List ℕ) (node inside q : ℕ) : Type 0 where
@@ -199,7 +199,7 @@ module _ {A : Type 0} where
   counted Right m after node inside still between q ahead n kinds.Push params is seen e count = λ naming.
       let long : length between + 1 ≡ length (between ++ q ∷ []) = sym (length_push between q) in
       count naming
-      ∙ ap (λ (s : L.Symbol). option_map (λ i. length between + i) (close_of inside (s ∷ seen_level naming m ahead))) (head_is naming m q n Push is seen)
+      ∙ ap (λ (s : L.LevelSymbol). option_map (λ i. length between + i) (close_of inside (s ∷ seen_level naming m ahead))) (head_is naming m q n Push is seen)
       ∙ one_on (length between) (close_of (suc inside) (seen_level naming m ahead))
       ∙ ap (λ k. option_map (λ i. length between + 1 + i) (close_of k (seen_level naming m ahead))) (same_Some (suc inside) still e)
       ∙ ap (λ k. option_map (λ i. k + i) (close_of still (seen_level naming m ahead))) long
@@ -207,21 +207,21 @@ module _ {A : Type 0} where
   counted Right m after node (suc inside) still between q ahead n kinds.Pop params is seen e count = λ naming.
       let long : length between + 1 ≡ length (between ++ q ∷ []) = sym (length_push between q) in
       count naming
-      ∙ ap (λ (s : L.Symbol). option_map (λ i. length between + i) (close_of (suc inside) (s ∷ seen_level naming m ahead))) (head_is naming m q n Pop is seen)
+      ∙ ap (λ (s : L.LevelSymbol). option_map (λ i. length between + i) (close_of (suc inside) (s ∷ seen_level naming m ahead))) (head_is naming m q n Pop is seen)
       ∙ one_on (length between) (close_of inside (seen_level naming m ahead))
       ∙ ap (λ k. option_map (λ i. length between + 1 + i) (close_of k (seen_level naming m ahead))) (same_Some inside still e)
       ∙ ap (λ k. option_map (λ i. k + i) (close_of still (seen_level naming m ahead))) long
   counted Right m after node inside still between q ahead n (kinds.Module name) params is seen e count = λ naming.
       let long : length between + 1 ≡ length (between ++ q ∷ []) = sym (length_push between q) in
       count naming
-      ∙ ap (λ (s : L.Symbol). option_map (λ i. length between + i) (close_of inside (s ∷ seen_level naming m ahead))) (head_is naming m q n (seen_as (kinds.Module name) params) is seen)
+      ∙ ap (λ (s : L.LevelSymbol). option_map (λ i. length between + i) (close_of inside (s ∷ seen_level naming m ahead))) (head_is naming m q n (seen_as (kinds.Module name) params) is seen)
       ∙ one_on (length between) (close_of inside (seen_level naming m ahead))
       ∙ ap (λ k. option_map (λ i. length between + 1 + i) (close_of k (seen_level naming m ahead))) (same_Some inside still e)
       ∙ ap (λ k. option_map (λ i. k + i) (close_of still (seen_level naming m ahead))) long
   counted Left m after node inside still between q ahead n kinds.Pop params is seen e count = λ naming.
       let long : length between + 1 ≡ length (between ++ q ∷ []) = sym (length_push between q) in
       ap (λ (l : List ℕ). close_of still (seen_level naming m (l ++ node ∷ after))) (mirrored_push between q)
-      ∙ ap (λ (s : L.Symbol). close_of still (s ∷ seen_level naming m (mirrored between ++ node ∷ after))) (head_is naming m q n Pop is seen)
+      ∙ ap (λ (s : L.LevelSymbol). close_of still (s ∷ seen_level naming m (mirrored between ++ node ∷ after))) (head_is naming m q n Pop is seen)
       ∙ ap (λ k. close_of k (L.Pop (naming q) ∷ seen_level naming m (mirrored between ++ node ∷ after))) (sym (same_Some (suc inside) still e))
       ∙ ap (option_map (λ i. i + 1)) (count naming)
       ∙ ap Some long
@@ -229,14 +229,14 @@ module _ {A : Type 0} where
   counted Left m after node (suc inside) still between q ahead n kinds.Push params is seen e count = λ naming.
       let long : length between + 1 ≡ length (between ++ q ∷ []) = sym (length_push between q) in
       ap (λ (l : List ℕ). close_of still (seen_level naming m (l ++ node ∷ after))) (mirrored_push between q)
-      ∙ ap (λ (s : L.Symbol). close_of still (s ∷ seen_level naming m (mirrored between ++ node ∷ after))) (head_is naming m q n Push is seen)
+      ∙ ap (λ (s : L.LevelSymbol). close_of still (s ∷ seen_level naming m (mirrored between ++ node ∷ after))) (head_is naming m q n Push is seen)
       ∙ ap (λ k. close_of k (L.Push (naming q) ∷ seen_level naming m (mirrored between ++ node ∷ after))) (sym (same_Some inside still e))
       ∙ ap (option_map (λ i. i + 1)) (count naming)
       ∙ ap Some long
   counted Left m after node inside still between q ahead n (kinds.Module name) params is seen e count = λ naming.
       let long : length between + 1 ≡ length (between ++ q ∷ []) = sym (length_push between q) in
       ap (λ (l : List ℕ). close_of still (seen_level naming m (l ++ node ∷ after))) (mirrored_push between q)
-      ∙ ap (λ (s : L.Symbol). close_of still (s ∷ seen_level naming m (mirrored between ++ node ∷ after))) (head_is naming m q n (seen_as (kinds.Module name) params) is seen)
+      ∙ ap (λ (s : L.LevelSymbol). close_of still (s ∷ seen_level naming m (mirrored between ++ node ∷ after))) (head_is naming m q n (seen_as (kinds.Module name) params) is seen)
       ∙ ap (λ k. close_of k (with_lineage (naming q) (seen_as (kinds.Module name) params) ∷ seen_level naming m (mirrored between ++ node ∷ after))) (sym (same_Some inside still e))
       ∙ ap (option_map (λ i. i + 1)) (count naming)
       ∙ ap Some long
@@ -258,12 +258,12 @@ module _ {A : Type 0} where
   mates_by : (naming : ℕ → List ℕ) (m : Nodes A) (level before after : List ℕ) (o : ℕ) (n : Node A) (gap : ℕ) (p q : ℕ) → level ≡ before ++ o ∷ after → m o ≡ Some n → n.seen ≡ Push → close_of 0 (seen_level naming m after) ≡ Some gap → p ≡ length before → q ≡ p + 1 + gap → AreMates (seen_level naming m level) p q
   mates_by naming m level before after o n gap p q whole is push closed pe qe =
       let x : seen_level naming m level ≡ seen_level naming m before ++ L.Push (naming o) ∷ seen_level naming m after =
-      ap (seen_level naming m) whole ∙ seen_append naming m before (o ∷ after) ∙ ap (λ (s : L.Symbol). seen_level naming m before ++ s ∷ seen_level naming m after) (head_is naming m o n Push is push) in
+      ap (seen_level naming m) whole ∙ seen_append naming m before (o ∷ after) ∙ ap (λ (s : L.LevelSymbol). seen_level naming m before ++ s ∷ seen_level naming m after) (head_is naming m o n Push is push) in
       let at : p ≡ length (seen_level naming m before) = pe ∙ sym (seen_size naming m before) in
       record {
-        opens = (naming o, ap (λ (l : List L.Symbol). slice_get l p) x ∙ ap (slice_get (seen_level naming m before ++ L.Push (naming o) ∷ seen_level naming m after)) at ∙ get_front (seen_level naming m before) (L.Push (naming o)) (seen_level naming m after));
+        opens = (naming o, ap (λ (l : List L.LevelSymbol). slice_get l p) x ∙ ap (slice_get (seen_level naming m before ++ L.Push (naming o) ∷ seen_level naming m after)) at ∙ get_front (seen_level naming m before) (L.Push (naming o)) (seen_level naming m after));
         closes =
-            ap (λ (l : List L.Symbol). option_map (λ i. p + 1 + i) (close_of 0 l)) (ap (drop (p + 1)) x ∙ ap (λ k. drop (k + 1) (seen_level naming m before ++ L.Push (naming o) ∷ seen_level naming m after)) at ∙ drop_front (seen_level naming m before) (L.Push (naming o)) (seen_level naming m after))
+            ap (λ (l : List L.LevelSymbol). option_map (λ i. p + 1 + i) (close_of 0 l)) (ap (drop (p + 1)) x ∙ ap (λ k. drop (k + 1) (seen_level naming m before ++ L.Push (naming o) ∷ seen_level naming m after)) at ∙ drop_front (seen_level naming m before) (L.Push (naming o)) (seen_level naming m after))
             ∙ ap (option_map (λ i. p + 1 + i)) closed ∙ ap Some (sym qe);
       }
 
@@ -279,7 +279,7 @@ module _ {A : Type 0} where
         before = w.before ++ node ∷ w.between;
         after = w.ahead;
         whole = again;
-        ends = λ same. (omega (arith, p, r, around_size w.before node w.between), λ naming. mates_by naming m level w.before w.after node top (length w.between + 0) (index_in node level) (index_in q level) w.whole top_is bracket (w.count naming ∙ ap (λ (s : L.Symbol). option_map (λ i. length w.between + i) (close_of 0 (s ∷ seen_level naming m w.ahead))) (head_is naming m q n Pop is seen)) p (omega (arith, p, r, around_size w.before node w.between)));
+        ends = λ same. (omega (arith, p, r, around_size w.before node w.between), λ naming. mates_by naming m level w.before w.after node top (length w.between + 0) (index_in node level) (index_in q level) w.whole top_is bracket (w.count naming ∙ ap (λ (s : L.LevelSymbol). option_map (λ i. length w.between + i) (close_of 0 (s ∷ seen_level naming m w.ahead))) (head_is naming m q n Pop is seen)) p (omega (arith, p, r, around_size w.before node w.between)));
         begins = λ same. absurd (left_right (sym same));
       }
   walk_found Left m level node inside q top n kinds.Pop params apart top_is bracket is seen e w = absurd (none-some (suc inside) (sym e))
@@ -304,7 +304,7 @@ module _ {A : Type 0} where
   walk_ends Right m level node inside top balanced is bracket w =
       let none = none_first w.ahead (sym w.at_is) in
       let x : seen_level (λ tag. []) m level ≡ seen_level (λ tag. []) m w.before ++ L.Push [] ∷ seen_level (λ tag. []) m w.after =
-      ap (seen_level (λ tag. []) m) w.whole ∙ seen_append (λ tag. []) m w.before (node ∷ w.after) ∙ ap (λ (s : L.Symbol). seen_level (λ tag. []) m w.before ++ s ∷ seen_level (λ tag. []) m w.after) (head_is (λ tag. []) m node top Push is bracket) in
+      ap (seen_level (λ tag. []) m) w.whole ∙ seen_append (λ tag. []) m w.before (node ∷ w.after) ∙ ap (λ (s : L.LevelSymbol). seen_level (λ tag. []) m w.before ++ s ∷ seen_level (λ tag. []) m w.after) (head_is (λ tag. []) m node top Push is bracket) in
       let b = behind_front (seen_level (λ tag. []) m w.before) (L.Push [] ∷ seen_level (λ tag. []) m w.after) 0 (sym (ap (level_balanced 0) x) ∙ balanced) in
       let some = closes (seen_level (λ tag. []) m w.after) (suc b.0) 0 b.1 (omega arith) in
       some_none (close_of 0 (seen_level (λ tag. []) m w.after)) some (w.count (λ tag. []) ∙ ap (λ (l : List ℕ). option_map (λ i. length w.between + i) (close_of inside (seen_level (λ tag. []) m l))) none)

@@ -3,13 +3,14 @@ use Rattle.std.specs.Prelude.{◌↔◌}
 use Rattle.std.proofs.Common.{◌≡◌, ◌≢◌, ◌+◌, ◌<◌, ℕ, zero, suc, List, ◌∷◌, ◌++◌, length, slice_get, Some, sym, ap, ◌∙◌, arith, inl, inr, subst, append_assoc}
 use Rattle.std.proofs.lemmas.List.{length-append}
 use Rattle.std.proofs.lemmas.Option.{slice_get_within}
+use Rattle.lsys_spec.specs.Rows.{In, AreApart, flat}
 use Rattle.lsys_forest.specs.Nodes.{Nodes}
 use Rattle.lsys_forest.specs.Changes.{Change}
-use Rattle.lsys_forest.specs.Groves.{In, AreApart, IsSound}
+use Rattle.lsys_forest.specs.Groves.{IsRooted}
 use Rattle.lsys_forest.specs.declared.node.Footing.{Footing}
 use Rattle.lsys_forest.specs.Slots.{rank_at}
 use Rattle.lsys_forest.specs.Ranks.{AreRanked, parent_in}
-use Rattle.lsys_forest.specs.Rows.{index_in, flat, kids_in, level_nodes}
+use Rattle.lsys_forest.specs.Rows.{index_in, kids_in, level_nodes}
 use Rattle.lsys_forest.proofs.RowLemmas.{get_split, In_append, In_split, index_of, flat_append, flat_around, kids_apart, level_apart, level_depth, parent_level, parent_root}
 use Rattle.lsys_forest.proofs.WalkLemmas.{In_at, level_parent, ranked_at}
 
@@ -60,7 +61,7 @@ across f xs p q i j k l apart flats h g ne e d =
     ]
 
 module _ {A : Type 0} where
-  module _ (root : ℕ) (changes : List (Change A)) (m : Nodes A) (sound : IsSound root changes m) where
+  module _ (root : ℕ) (changes : List (Change A)) (m : Nodes A) (sound : IsRooted root changes m) where
     -- a node of a level is among the children of its parent
     among : (t k : ℕ) → In k (level_nodes m root t) → In k (kids_in (m (parent_in (m k))))
     among t k h =

@@ -3,12 +3,13 @@ use Rattle.std.specs.Prelude.{IsSome, option_map}
 use Rattle.std.proofs.Common.{◌≡◌, ◌≢◌, ℕ, zero, suc, List, [], ◌∷◌, slice_get, Option, Some, None, refl, sym, ap, ◌∙◌, inl, inr, subst}
 use Rattle.std.proofs.lemmas.Bool.{cases_eq}
 use Rattle.std.proofs.lemmas.Option.{none-some, same_Some}
+use Rattle.lsys_spec.specs.Rows.{In, AreApart}
 use Rattle.lsys_forest.specs.Slots.{footing_at, rank_at}
 use Rattle.lsys_forest.specs.declared.node.Footing.{Footing}
-use Rattle.lsys_forest.specs.Nodes.{Node, Nodes, put, root_node, with_seen, with_key, with_kids, with_answer}
-use Rattle.lsys_forest.specs.Changes.{KeepsKids, Missing, OldSeen, OldKey, OldKids, OldAnswer, Change, Before, undo, undo_before}
+use Rattle.lsys_forest.specs.Nodes.{Node, Nodes, with_node, root_node, with_seen, with_key, with_kids, with_answer}
+use Rattle.lsys_forest.specs.Changes.{KeepsKids, Missing, OldSeen, OldKey, OldKids, OldAnswer, Change, Previous, undo, undo_before}
 use Rattle.lsys_forest.specs.Stocks.{Stock, nodes_of, changes_of, Undoes, KeepsFootings, Journals}
-use Rattle.lsys_forest.specs.Groves.{In, AreApart, IsSound, AreSound}
+use Rattle.lsys_forest.specs.Groves.{IsRooted, AreSound}
 use Rattle.lsys_forest.specs.Rows.{kids_in}
 use Rattle.lsys_forest.specs.Ranks.{AreRanked}
 use Rattle.lsys_forest.proofs.StockLemmas.{put_same, put_other}
@@ -30,12 +31,12 @@ module _ {A : Type 0} where
   -- 2. the children of one node have got their ranks
 
   -- where the nodes hang together, only the ranks of those that live count
-  pub agree_ranked : (root : ℕ) (changes : List (Change A)) (m : Nodes A) (footings footings' : List Footing) → IsSound root changes m → ((j : ℕ) → IsSome (m j) → footing_at footings' j ≡ footing_at footings j) → AreRanked m footings → AreRanked m footings'
+  pub agree_ranked : (root : ℕ) (changes : List (Change A)) (m : Nodes A) (footings footings' : List Footing) → IsRooted root changes m → ((j : ℕ) → IsSome (m j) → footing_at footings' j ≡ footing_at footings j) → AreRanked m footings → AreRanked m footings'
   agree_ranked root changes m footings footings' sound same ranked = λ p n i k is here.
       let u = (sound.own p n is).under k (get_In n.kids i k here) in
       ap (λ (f : Footing). f.rank) (same k (subst IsSome (sym u.is) refl)) ∙ ranked p n i k is here
 
-  pub reranked : (root : ℕ) (changes : List (Change A)) (before m : Nodes A) (node : ℕ) (at at' : List Footing) → IsSound root changes m → ((j : ℕ) → j ≢ node → m j ≡ before j) → ((i k : ℕ) → slice_get (kids_in (m node)) i ≡ Some k → rank_at at' k ≡ i) → ((k : ℕ) → (In k (kids_in (m node)) → ⊥) → rank_at at' k ≡ rank_at at k) → AreRanked before at → AreRanked m at'
+  pub reranked : (root : ℕ) (changes : List (Change A)) (before m : Nodes A) (node : ℕ) (at at' : List Footing) → IsRooted root changes m → ((j : ℕ) → j ≢ node → m j ≡ before j) → ((i k : ℕ) → slice_get (kids_in (m node)) i ≡ Some k → rank_at at' k ≡ i) → ((k : ℕ) → (In k (kids_in (m node)) → ⊥) → rank_at at' k ≡ rank_at at k) → AreRanked before at → AreRanked m at'
   reranked root changes before m node at at' sound other stands others ranked = λ p n i k is here. elim (cases_eq p node) [
     | inl e ↦ stands i k (ap (λ (o : Option (Node A)). slice_get (kids_in o) i) (sym (ap m e) ∙ is) ∙ here)
     | inr ne ↦
@@ -53,7 +54,7 @@ module _ {A : Type 0} where
   pub undo_other : (c : Change A) (m : Nodes A) (j : ℕ) → j ≢ c.node → undo c m j ≡ m j
   undo_other c m j ne = go c.before
     where
-      go : (b : Before A) → undo_before b c.node m j ≡ m j
+      go : (b : Previous A) → undo_before b c.node m j ≡ m j
       go Missing = put_other m c.node j None ne
       go (OldSeen x) = put_other m c.node j (option_map (with_seen x) (m c.node)) ne
       go (OldKey x) = put_other m c.node j (option_map (with_key x) (m c.node)) ne
@@ -74,7 +75,7 @@ module _ {A : Type 0} where
           go None here is = absurd (none-some n is)
           go (Some o) here is = (o, ap m e ∙ here, ap (λ (x : Node A). x.kids) (sym (same_Some (f o) n is)) ∙ same o)
 
-      was : (b : Before A) → KeepsKids b → p ≡ c.node → undo_before b c.node m p ≡ Some n → (o : Node A) × (m p ≡ Some o) × (n.kids ≡ o.kids)
+      was : (b : Previous A) → KeepsKids b → p ≡ c.node → undo_before b c.node m p ≡ Some n → (o : Node A) × (m p ≡ Some o) × (n.kids ≡ o.kids)
       was Missing keeps e found = absurd (none-some n (sym (put_same m c.node p None e) ∙ found))
       was (OldSeen x) keeps e found = mapped (with_seen x) (λ o. refl) e (sym (put_same m c.node p (option_map (with_seen x) (m c.node)) e) ∙ found)
       was (OldKey x) keeps e found = mapped (with_key x) (λ o. refl) e (sym (put_same m c.node p (option_map (with_key x) (m c.node)) e) ∙ found)
@@ -102,7 +103,7 @@ module _ {A : Type 0} where
   pub reset_ranked : (root : ℕ) (old new : Stock A) (footings : List Footing) (node : ℕ) (c : Change A) → Undoes old new c → c.node ≡ node → KeepsFootings (nodes_of new) old new → AreSound root (changes_of old) (nodes_of old) → AreRanked (nodes_of old) old.footings → ((before : Nodes A) → ((j : ℕ) → j ≢ node → nodes_of new j ≡ before j) → AreRanked before new.footings → AreRanked (nodes_of new) footings) → AreRanked (nodes_of new) footings
   reset_ranked root old new footings node c undoes here kept sound ranked sets =
       let now = AreSound-now root (changes_of new) (nodes_of new) (undone_sound root old new c undoes sound) in
-      sets (put (nodes_of new) node None) (λ j ne. sym (put_other (nodes_of new) node j None ne)) (λ p n i k found there. elim (cases_eq p node) [
+      sets (with_node (nodes_of new) node None) (λ j ne. sym (put_other (nodes_of new) node j None ne)) (λ p n i k found there. elim (cases_eq p node) [
         | inl e ↦ absurd (none-some n (sym (put_same (nodes_of new) node p None e) ∙ found))
         | inr ne ↦
             let is = sym (put_other (nodes_of new) node p None ne) ∙ found in
@@ -113,7 +114,7 @@ module _ {A : Type 0} where
 
   -- 4. the ranks of a forest
 
-  pub ranked_root : (m : Nodes A) (footings : List Footing) → m ≡ put (λ k. None) 0 (Some (root_node 0)) → AreRanked m footings
+  pub ranked_root : (m : Nodes A) (footings : List Footing) → m ≡ with_node (λ k. None) 0 (Some (root_node 0)) → AreRanked m footings
   ranked_root m footings is = λ p n i k found here. elim (cases_eq p 0) [
     | inl e ↦
         let same = same_Some (root_node 0) n (sym (ap (λ (f : Nodes A). f p) is ∙ put_same (λ j. None) 0 p (Some (root_node 0)) e) ∙ found) in
@@ -122,7 +123,7 @@ module _ {A : Type 0} where
   ]
 
   -- one node became this one, with the children that it had
-  pub set_ranked : (root : ℕ) (old new : Stock A) (node : ℕ) (was now : Node A) (before : Before A) (params kids : ℕ) → IsSound root (changes_of old) (nodes_of old) → nodes_of old node ≡ Some was → now.kids ≡ was.kids → Journals old new node (Some now) before 0 params kids → AreRanked (nodes_of old) old.footings → AreRanked (nodes_of new) new.footings
+  pub set_ranked : (root : ℕ) (old new : Stock A) (node : ℕ) (was now : Node A) (before : Previous A) (params kids : ℕ) → IsRooted root (changes_of old) (nodes_of old) → nodes_of old node ≡ Some was → now.kids ≡ was.kids → Journals old new node (Some now) before 0 params kids → AreRanked (nodes_of old) old.footings → AreRanked (nodes_of new) new.footings
   set_ranked root old new node was now before params kids sound is same j ranked = λ p n i k found here.
       let there = sym (ap (λ (f : Nodes A). f p) j.nodes) ∙ found in
       elim (cases_eq p node) [
@@ -136,7 +137,7 @@ module _ {A : Type 0} where
       kept = agree_ranked root (changes_of old) (nodes_of old) old.footings new.footings sound j.footings ranked
 
   -- a node was added
-  pub add_ranked : (root : ℕ) (old new : Stock A) (node : ℕ) (now : Node A) (params kids : ℕ) → IsSound root (changes_of old) (nodes_of old) → now.kids ≡ [] → Journals old new node (Some now) Missing 1 params kids → AreRanked (nodes_of old) old.footings → AreRanked (nodes_of new) new.footings
+  pub add_ranked : (root : ℕ) (old new : Stock A) (node : ℕ) (now : Node A) (params kids : ℕ) → IsRooted root (changes_of old) (nodes_of old) → now.kids ≡ [] → Journals old new node (Some now) Missing 1 params kids → AreRanked (nodes_of old) old.footings → AreRanked (nodes_of new) new.footings
   add_ranked root old new node now params kids sound none j ranked = λ p n i k found here.
       let there = sym (ap (λ (f : Nodes A). f p) j.nodes) ∙ found in
       elim (cases_eq p node) [
@@ -147,6 +148,6 @@ module _ {A : Type 0} where
       ]
 
   -- the children of a node were set, and their ranks then
-  pub kids_ranked : (root : ℕ) (old new : Stock A) (footings : List Footing) (node : ℕ) (now : Node A) (before : Before A) (params kids : ℕ) → IsSound root (changes_of old) (nodes_of old) → Journals old new node (Some now) before 0 params kids → AreRanked (nodes_of old) old.footings → ((before : Nodes A) → ((j : ℕ) → j ≢ node → nodes_of new j ≡ before j) → AreRanked before new.footings → AreRanked (nodes_of new) footings) → AreRanked (nodes_of new) footings
+  pub kids_ranked : (root : ℕ) (old new : Stock A) (footings : List Footing) (node : ℕ) (now : Node A) (before : Previous A) (params kids : ℕ) → IsRooted root (changes_of old) (nodes_of old) → Journals old new node (Some now) before 0 params kids → AreRanked (nodes_of old) old.footings → ((before : Nodes A) → ((j : ℕ) → j ≢ node → nodes_of new j ≡ before j) → AreRanked before new.footings → AreRanked (nodes_of new) footings) → AreRanked (nodes_of new) footings
   kids_ranked root old new footings node now before params kids sound j ranked sets =
       sets (nodes_of old) (λ k ne. ap (λ (f : Nodes A). f k) j.nodes ∙ put_other (nodes_of old) node k (Some now) ne) (agree_ranked root (changes_of old) (nodes_of old) old.footings new.footings sound j.footings ranked)

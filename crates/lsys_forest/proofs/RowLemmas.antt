@@ -8,12 +8,13 @@ use Rattle.lsys_forest.specs.declared.walk.Way.{Way}
 use Rattle.lsys_forest.specs.declared.walk.Way.TheVariants.{Left, Right}
 use Rattle.lsys_forest.specs.Nodes.{Node, Nodes}
 use Rattle.lsys_forest.specs.Changes.{Change}
-use Rattle.lsys_forest.specs.Groves.{In, AreApart, IsSound}
+use Rattle.lsys_forest.specs.Groves.{IsRooted}
 use Rattle.std.specs.Prelude.{IsSome}
+use Rattle.lsys_spec.specs.Rows.{In, AreApart, mirrored, flat}
 use Rattle.lsys_forest.specs.declared.node.Stored.{Stored}
 use Rattle.lsys_forest.specs.Slots.{slot_at, live_slots}
 use Rattle.lsys_forest.proofs.DepthLemmas.{fits}
-use Rattle.lsys_forest.specs.Rows.{index_in, oriented, mirrored, flat, kids_in, level_nodes}
+use Rattle.lsys_forest.specs.Rows.{index_in, oriented, kids_in, level_nodes}
 
 -- 1. lists
 
@@ -166,7 +167,7 @@ flat_In f (x ∷ xs) k h = elim (In_append (f x) (flat f xs) k h) [
 -- 2. levels
 
 module _ {A : Type 0} where
-  pub kids_apart : (root : ℕ) (changes : List (Change A)) (m : Nodes A) → IsSound root changes m → (p : ℕ) → AreApart (kids_in (m p))
+  pub kids_apart : (root : ℕ) (changes : List (Change A)) (m : Nodes A) → IsRooted root changes m → (p : ℕ) → AreApart (kids_in (m p))
   kids_apart root changes m sound p = go (m p) refl
     where
       go : (o : Option (Node A)) → m p ≡ o → AreApart (kids_in o)
@@ -183,7 +184,7 @@ module _ {A : Type 0} where
     pub among : In k above.kids
     pub depth : node.depth ≡ above.depth + 1
 
-  pub child : (root : ℕ) (changes : List (Change A)) (m : Nodes A) → IsSound root changes m → (p k : ℕ) → In k (kids_in (m p)) → IsChild m p k
+  pub child : (root : ℕ) (changes : List (Change A)) (m : Nodes A) → IsRooted root changes m → (p k : ℕ) → In k (kids_in (m p)) → IsChild m p k
   child root changes m sound p k h = go (m p) refl h
     where
       go : (o : Option (Node A)) → m p ≡ o → In k (kids_in o) → IsChild m p k
@@ -195,7 +196,7 @@ module _ {A : Type 0} where
           record { above = n; above_is = e; node = u.node; is = u.is; parent_is = u.parent_is; among = i; depth = held.depth ∙ ap (λ (o : Node A). o.depth + 1) same }
 
   -- a node of level t lives, t + 1 steps below the root
-  pub level_depth : (root : ℕ) (changes : List (Change A)) (m : Nodes A) → IsSound root changes m → (t k : ℕ) → In k (level_nodes m root t) → (n : Node A) × (m k ≡ Some n) × (n.depth ≡ t + 1)
+  pub level_depth : (root : ℕ) (changes : List (Change A)) (m : Nodes A) → IsRooted root changes m → (t k : ℕ) → In k (level_nodes m root t) → (n : Node A) × (m k ≡ Some n) × (n.depth ≡ t + 1)
   level_depth root changes m sound zero k h =
       let c = child root changes m sound root k h in
       let top = ap (λ (o : Node A). o.depth) (same_Some sound.root_lives.0 c.above (sym sound.root_lives.1 ∙ c.above_is)) in
@@ -207,7 +208,7 @@ module _ {A : Type 0} where
       let same = ap (λ (o : Node A). o.depth) (same_Some up.0 c.above (sym up.1 ∙ c.above_is)) in
       (c.node, c.is, omega (arith, c.depth, same, up.2))
 
-  flat_apart : (root : ℕ) (changes : List (Change A)) (m : Nodes A) → IsSound root changes m → (xs : List ℕ) → AreApart xs → AreApart (flat (λ k. kids_in (m k)) xs)
+  flat_apart : (root : ℕ) (changes : List (Change A)) (m : Nodes A) → IsRooted root changes m → (xs : List ℕ) → AreApart xs → AreApart (flat (λ k. kids_in (m k)) xs)
   flat_apart root changes m sound [] a = tt
   flat_apart root changes m sound (x ∷ xs) a =
       apart_append (kids_in (m x)) (flat (λ k. kids_in (m k)) xs) (kids_apart root changes m sound x) (flat_apart root changes m sound xs a.1) (λ k h i. (
@@ -219,23 +220,23 @@ module _ {A : Type 0} where
       ))
 
   -- no node stands twice on a level
-  pub level_apart : (root : ℕ) (changes : List (Change A)) (m : Nodes A) → IsSound root changes m → (t : ℕ) → AreApart (level_nodes m root t)
+  pub level_apart : (root : ℕ) (changes : List (Change A)) (m : Nodes A) → IsRooted root changes m → (t : ℕ) → AreApart (level_nodes m root t)
   level_apart root changes m sound zero = kids_apart root changes m sound root
   level_apart root changes m sound (suc t) = flat_apart root changes m sound (level_nodes m root t) (level_apart root changes m sound t)
 
   -- the parent of a node of a further level is on the level before it
-  pub parent_level : (root : ℕ) (changes : List (Change A)) (m : Nodes A) → IsSound root changes m → (t k : ℕ) (n : Node A) → In k (level_nodes m root (suc t)) → m k ≡ Some n → In n.parent (level_nodes m root t) × In k (kids_in (m n.parent))
+  pub parent_level : (root : ℕ) (changes : List (Change A)) (m : Nodes A) → IsRooted root changes m → (t k : ℕ) (n : Node A) → In k (level_nodes m root (suc t)) → m k ≡ Some n → In n.parent (level_nodes m root t) × In k (kids_in (m n.parent))
   parent_level root changes m sound t k n h is =
       let from = flat_In (λ i. kids_in (m i)) (level_nodes m root t) k h in
       let c = child root changes m sound from.0 k from.2 in
       let same : n.parent ≡ from.0 = ap (λ (o : Node A). o.parent) (same_Some n c.node (sym is ∙ c.is)) ∙ c.parent_is in
       (subst (λ j. In j (level_nodes m root t)) (sym same) from.1, subst (λ j. In k (kids_in (m j))) (sym same) from.2)
 
-  pub parent_root : (root : ℕ) (changes : List (Change A)) (m : Nodes A) → IsSound root changes m → (k : ℕ) (n : Node A) → In k (level_nodes m root 0) → m k ≡ Some n → n.parent ≡ root
+  pub parent_root : (root : ℕ) (changes : List (Change A)) (m : Nodes A) → IsRooted root changes m → (k : ℕ) (n : Node A) → In k (level_nodes m root 0) → m k ≡ Some n → n.parent ≡ root
   parent_root root changes m sound k n h is =
       let c = child root changes m sound root k h in
       ap (λ (o : Node A). o.parent) (same_Some n c.node (sym is ∙ c.is)) ∙ c.parent_is
 
   -- a level has no more nodes than live
-  pub level_fits : (root : ℕ) (changes : List (Change A)) (m : Nodes A) (slots : List (Option (Stored A))) → IsSound root changes m → ((k : ℕ) (n : Node A) → m k ≡ Some n → IsSome (slot_at slots k)) → (t : ℕ) → length (level_nodes m root t) ≤ live_slots slots
+  pub level_fits : (root : ℕ) (changes : List (Change A)) (m : Nodes A) (slots : List (Option (Stored A))) → IsRooted root changes m → ((k : ℕ) (n : Node A) → m k ≡ Some n → IsSome (slot_at slots k)) → (t : ℕ) → length (level_nodes m root t) ≤ live_slots slots
   level_fits root changes m slots sound shown t = fits (level_nodes m root t) slots (level_apart root changes m sound t) (λ k h. let n = level_depth root changes m sound t k h in shown k n.0 n.1)

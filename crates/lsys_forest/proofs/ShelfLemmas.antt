@@ -6,11 +6,11 @@ use Rattle.std.proofs.lemmas.Bool.{cases_eq}
 use Rattle.std.proofs.lemmas.List.{map_push, same_from_push}
 use Rattle.std.proofs.lemmas.Option.{none-some, same_Some}
 use Rattle.lsys_region.specs.Rooms.{room_of, list_room}
-use Rattle.lsys_region.specs.Pool.{Pool, Slot, list_of, list_at, IsLive, IsFresh, OthersStay, empty_pool}
+use Rattle.lsys_region.specs.Pool.{Pool, Slot, list_of, list_at, IsLiveRun, IsFresh, OthersStay, empty_pool}
 use Rattle.lsys_region.proofs.ListLemmas.{slice_get-push_new, slice_get-push_other}
-use Rattle.lsys_forest.specs.Shelves.{Hoard, Holder, Caller, Hand, Number, Past, run_at, held, shown, shelf_of, AreOwned, IsOwner, IsPlaced, IsFreed}
+use Rattle.lsys_forest.specs.Shelves.{Hoard, Holder, Caller, Hand, Number, Past, run_at, held, run_list, shelf_of, AreOwned, IsOwner, IsListPlaced, IsFreed}
 use Rattle.lsys_forest.specs.Slots.{change_run, run_before, run_after}
-use Rattle.lsys_forest.specs.Stocks.{row_at, where_some, ComesTo, Clears, Restores, Adds, DropsLast, TakesLastUp, PutsDown, Swaps}
+use Rattle.lsys_forest.specs.Stocks.{row_at, where_some, ComesTo, Clears, Restores, Inserts, DropsLast, TakesLastUp, PutsDown, Swaps}
 use Rattle.lsys_forest.proofs.TableLemmas.{part_at, get_set_other, get_cleared}
 
 -- 1. holders
@@ -54,9 +54,9 @@ Runs = Holder → Option (Option ℕ)
 
 -- the same runs are owned, by whoever is told
 record Owns {T : Type 0} (pool : Pool T) (holds : Runs) : Type 0 where
-  pub live : (h : Holder) (run : Option ℕ) → holds h ≡ Some run → IsLive pool run
+  pub live : (h : Holder) (run : Option ℕ) → holds h ≡ Some run → IsLiveRun pool run
   pub once : (h i : Holder) (n : ℕ) → holds h ≡ Some (Some n) → holds i ≡ Some (Some n) → h ≡ i
-  pub all : (n : ℕ) → IsLive pool (Some n) → (h : Holder) × (holds h ≡ Some (Some n))
+  pub all : (n : ℕ) → IsLiveRun pool (Some n) → (h : Holder) × (holds h ≡ Some (Some n))
 
 -- two holders swap what they hold
 record Trades (holds new : Runs) (a b : Holder) : Type 0 where
@@ -134,9 +134,9 @@ module _ {T : Type 0} where
         (w.0, sym w.2 ∙ h.1);
   }
 
-  fresh_live : (pool : Pool T) (run : Option ℕ) (n : ℕ) (list : List T) → IsFresh pool run list → run ≡ Some n → IsLive pool (Some n) → ⊥
+  fresh_live : (pool : Pool T) (run : Option ℕ) (n : ℕ) (list : List T) → IsFresh pool run list → run ≡ Some n → IsLiveRun pool (Some n) → ⊥
   fresh_live pool None n list fresh e live = none-some n e
-  fresh_live pool (Some m) n list fresh e live = no_list (list_at pool m) fresh.1 (subst (IsLive pool) (sym e) live)
+  fresh_live pool (Some m) n list fresh e live = no_list (list_at pool m) fresh.1 (subst (IsLiveRun pool) (sym e) live)
 
   -- what was held keeps its list
   record Keeps (old new : Pool T) (holds : Runs) : Type 0 where
@@ -153,7 +153,7 @@ module _ {T : Type 0} where
   placed : (old new : Pool T) (holds after : Runs) (run : Option ℕ) (list : List T) → holds Caller ≡ None → after Caller ≡ Some run → ((h : Holder) → h ≢ Caller → after h ≡ holds h) → IsFresh old run list → list_of new run ≡ Some list → OthersStay old new run → Owns old holds → Owns new after
   placed old new holds after run list empty now rest fresh is stay owns = record {
     live = λ h r e. elim (same_holder h Caller) [
-      | inl f ↦ subst (IsLive new) (same_Some run r (sym now ∙ ap after (sym f) ∙ e)) (subst IsSome (sym is) refl)
+      | inl f ↦ subst (IsLiveRun new) (same_Some run r (sym now ∙ ap after (sym f) ∙ e)) (subst IsSome (sym is) refl)
       | inr ne ↦ let f = sym (rest h ne) ∙ e in subst IsSome (sym (keeps.same h r f)) (owns.live h r f)
     ];
     once = λ h i n e f. elim (same_holder h Caller) [
@@ -182,7 +182,7 @@ module _ {T : Type 0} where
       is_run None n = inr (none-some n)
       is_run (Some m) n = elim (cases_eq m n) [ inl e ↦ inl (ap Some e) | inr ne ↦ inr (λ e. ne (same_Some m n e)) ]
 
-      found : (n : ℕ) → IsLive new (Some n) → (h : Holder) × (after h ≡ Some (Some n))
+      found : (n : ℕ) → IsLiveRun new (Some n) → (h : Holder) × (after h ≡ Some (Some n))
       found n live = elim (is_run run n) [
         | inl e ↦ (Caller, now ∙ ap Some e)
         | inr ne ↦
@@ -228,15 +228,15 @@ module _ {T : Type 0} where
 
   -- each list that is held shows as it did
   pub record Shows (old new : Pool T) (now past : List (Option ℕ)) (hand : Option ℕ) : Type 0 where
-    pub rows : (k : ℕ) → shown new (run_at now k) ≡ shown old (run_at now k)
-    pub behind : map (shown new) past ≡ map (shown old) past
-    pub here : shown new hand ≡ shown old hand
+    pub rows : (k : ℕ) → run_list new (run_at now k) ≡ run_list old (run_at now k)
+    pub behind : map (run_list new) past ≡ map (run_list old) past
+    pub here : run_list new hand ≡ run_list old hand
 
-  map_same : (old new : Pool T) (runs : List (Option ℕ)) → ((k : ℕ) (run : Option ℕ) → slice_get runs k ≡ Some run → list_of new run ≡ list_of old run) → map (shown new) runs ≡ map (shown old) runs
+  map_same : (old new : Pool T) (runs : List (Option ℕ)) → ((k : ℕ) (run : Option ℕ) → slice_get runs k ≡ Some run → list_of new run ≡ list_of old run) → map (run_list new) runs ≡ map (run_list old) runs
   map_same old new [] same = refl
   map_same old new (r ∷ runs) same =
-      ap (λ (o : Option (List T)). unwrap_or o [] ∷ map (shown new) runs) (same 0 r refl)
-      ∙ ap (λ (ls : List (List T)). shown old r ∷ ls) (map_same old new runs (λ k run e. same (suc k) run e))
+      ap (λ (o : Option (List T)). unwrap_or o [] ∷ map (run_list new) runs) (same 0 r refl)
+      ∙ ap (λ (ls : List (List T)). run_list old r ∷ ls) (map_same old new runs (λ k run e. same (suc k) run e))
 
   shows : (old new : Pool T) (now past : List (Option ℕ)) (hand : Option ℕ) (caller : Option (Option ℕ)) → Keeps old new (held now past hand caller) → Shows old new now past hand
   shows old new now past hand caller keeps = record {
@@ -285,7 +285,7 @@ module _ {T : Type 0} where
   pub holds_none : (pool : Pool T) (now past : List (Option ℕ)) (hand : Option ℕ) → AreOwned pool now past hand None → AreOwned pool now past hand (Some None)
   holds_none pool now past hand owned = record {
     live = λ h run e. elim (same_holder h Caller) [
-      | inl c ↦ subst (IsLive pool) (same_Some None run (ap (held now past hand (Some None)) (sym c) ∙ e)) refl
+      | inl c ↦ subst (IsLiveRun pool) (same_Some None run (ap (held now past hand (Some None)) (sym c) ∙ e)) refl
       | inr ne ↦ owned.live h run (same_but_caller now past hand (Some None) None h ne ∙ e)
     ];
     once = λ h i n e f. owned.once h i n (other h n e) (other i n f);
@@ -373,10 +373,10 @@ module _ {T : Type 0} where
     all = λ n live. absurd (no_list (list_at pool n) (stay (Some n) (λ e. none-some n (sym e))) live);
   }
     where
-      go : (h : Holder) (r : Option ℕ) → held [] [] None None h ≡ Some r → IsLive pool r
+      go : (h : Holder) (r : Option ℕ) → held [] [] None None h ≡ Some r → IsLiveRun pool r
       go Caller r e = absurd (none-some r e)
-      go Hand r e = subst (IsLive pool) (same_Some None r e) refl
-      go (Number k) r e = subst (IsLive pool) (same_Some None r e) refl
+      go Hand r e = subst (IsLiveRun pool) (same_Some None r e) refl
+      go (Number k) r e = subst (IsLiveRun pool) (same_Some None r e) refl
       go (Past k) r e = absurd (none-some r e)
 
       only : (h : Holder) (n : ℕ) → held [] [] None None h ≡ Some (Some n) → ⊥
@@ -388,12 +388,12 @@ module _ {T : Type 0} where
 
   -- 3. what the calls do
 
-  pub shows_placed : (pool : Pool T) (run : Option ℕ) (list : List T) → list_of pool run ≡ Some list → shown pool run ≡ list
+  pub shows_placed : (pool : Pool T) (run : Option ℕ) (list : List T) → list_of pool run ≡ Some list → run_list pool run ≡ list
   shows_placed pool run list is = ap (λ (o : Option (List T)). unwrap_or o []) is
 
   -- the list at a number
-  pub row_is : (pool : Pool T) (now : List (Option ℕ)) (k : ℕ) → row_at (map (shown pool) now) k ≡ shown pool (run_at now k)
-  row_is pool now k = part_at (shown pool) now k None
+  pub row_is : (pool : Pool T) (now : List (Option ℕ)) (k : ℕ) → row_at (map (run_list pool) now) k ≡ run_list pool (run_at now k)
+  row_is pool now k = part_at (run_list pool) now k None
 
   -- a run was given to a number, if a node is there, and the one before came back
   pub AreOwned-swapped : {X : Type 0} (there : Option X) (pool : Pool T) (now now' past : List (Option ℕ)) (hand run before : Option ℕ) (k : ℕ) → before ≡ run_before there (run_at now k) run → run_at now' k ≡ run_after there run → now' ≡ change_run there now k run → AreOwned pool now past hand (Some run) → AreOwned pool now' past hand (Some before)
@@ -410,31 +410,31 @@ module _ {T : Type 0} where
   AreOwned-put pool now now' past hand run k was is rest owned = none_held pool now' past hand (AreOwned-number pool now now' past hand run None k was is rest owned)
 
   -- the last of the past lists is this one
-  pub last_shown : (pool : Pool T) (past : List (Option ℕ)) (run : Option ℕ) (behind : List (List T)) (list : List T) → map (shown pool) (past ++ run ∷ []) ≡ behind ++ list ∷ [] → (map (shown pool) past ≡ behind) × (shown pool run ≡ list)
-  last_shown pool past run behind list is = same_from_push (map (shown pool) past) behind (shown pool run) list (sym (map_push (shown pool) past run) ∙ is)
+  pub last_shown : (pool : Pool T) (past : List (Option ℕ)) (run : Option ℕ) (behind : List (List T)) (list : List T) → map (run_list pool) (past ++ run ∷ []) ≡ behind ++ list ∷ [] → (map (run_list pool) past ≡ behind) × (run_list pool run ≡ list)
+  last_shown pool past run behind list is = same_from_push (map (run_list pool) past) behind (run_list pool run) list (sym (map_push (run_list pool) past run) ∙ is)
 
   -- 4. the same for hoards
 
   module _ (h0 h1 : Hoard T) where
     -- the lists of a hoard are as they were
-    pub shelf_same : (now now' : List (Option ℕ)) (behind : List (List T)) (here : List T) (spare places : ℕ) → map (shown h1.pool) h1.past ≡ behind → shown h1.pool h1.hand ≡ here → h1.pool.spare ≡ spare → h1.past_places ≡ places → shelf_of h1 now' ≡ record { current = map (shown h1.pool) now'; past = behind; hand = here; spare = spare; past_places = places }
+    pub shelf_same : (now now' : List (Option ℕ)) (behind : List (List T)) (here : List T) (spare places : ℕ) → map (run_list h1.pool) h1.past ≡ behind → run_list h1.pool h1.hand ≡ here → h1.pool.spare ≡ spare → h1.past_places ≡ places → shelf_of h1 now' ≡ record { current = map (run_list h1.pool) now'; past = behind; hand = here; spare = spare; past_places = places }
     shelf_same now now' behind here spare places b h s p =
-        ap₂ (λ (x : List (List T)) (y : List T). record { current = map (shown h1.pool) now'; past = x; hand = y; spare = h1.pool.spare; past_places = h1.past_places }) b h
-        ∙ ap₂ (λ x y. record { current = map (shown h1.pool) now'; past = behind; hand = here; spare = x; past_places = y }) s p
+        ap₂ (λ (x : List (List T)) (y : List T). record { current = map (run_list h1.pool) now'; past = x; hand = y; spare = h1.pool.spare; past_places = h1.past_places }) b h
+        ∙ ap₂ (λ x y. record { current = map (run_list h1.pool) now'; past = behind; hand = here; spare = x; past_places = y }) s p
 
     -- the row that was set, and the others
-    pub comes_to : (now now' : List (Option ℕ)) (k : ℕ) (list : List T) → shown h1.pool (run_at now' k) ≡ list → ((j : ℕ) → j ≢ k → run_at now' j ≡ run_at now j) → ((j : ℕ) → shown h1.pool (run_at now j) ≡ shown h0.pool (run_at now j)) → ComesTo k list (shelf_of h0 now).current (shelf_of h1 now').current
+    pub comes_to : (now now' : List (Option ℕ)) (k : ℕ) (list : List T) → run_list h1.pool (run_at now' k) ≡ list → ((j : ℕ) → j ≢ k → run_at now' j ≡ run_at now j) → ((j : ℕ) → run_list h1.pool (run_at now j) ≡ run_list h0.pool (run_at now j)) → ComesTo k list (shelf_of h0 now).current (shelf_of h1 now').current
     comes_to now now' k list here rest same = record {
       here = row_is h1.pool now' k ∙ here;
-      others = λ j ne. row_is h1.pool now' j ∙ ap (shown h1.pool) (rest j ne) ∙ same j ∙ sym (row_is h0.pool now j);
+      others = λ j ne. row_is h1.pool now' j ∙ ap (run_list h1.pool) (rest j ne) ∙ same j ∙ sym (row_is h0.pool now j);
     }
 
     -- where each number's list shows as it did, so do all
-    all_rows : (now : List (Option ℕ)) → ((k : ℕ) → shown h1.pool (run_at now k) ≡ shown h0.pool (run_at now k)) → map (shown h1.pool) now ≡ map (shown h0.pool) now
+    all_rows : (now : List (Option ℕ)) → ((k : ℕ) → run_list h1.pool (run_at now k) ≡ run_list h0.pool (run_at now k)) → map (run_list h1.pool) now ≡ map (run_list h0.pool) now
     all_rows [] same = refl
     all_rows (r ∷ now) same = ap₂ (λ (x : List T) (xs : List (List T)). x ∷ xs) (same 0) (all_rows now (λ k. same (suc k)))
 
-    pub popped_live : (now past : List (Option ℕ)) (run : Option ℕ) → h0.past ≡ past ++ run ∷ [] → IsOwner h0 now → IsLive h0.pool run
+    pub popped_live : (now past : List (Option ℕ)) (run : Option ℕ) → h0.past ≡ past ++ run ∷ [] → IsOwner h0 now → IsLiveRun h0.pool run
     popped_live now past run e owned = owned.live (Past (length past)) run (ap (λ p. slice_get p (length past)) e ∙ slice_get-push_new past run)
 
     popped : (now : List (Option ℕ)) (run : Option ℕ) → h0.past ≡ h1.past ++ run ∷ [] → IsOwner h0 now → AreOwned h0.pool now h1.past h0.hand (Some run)
@@ -447,9 +447,9 @@ module _ {T : Type 0} where
         let shows = Shows-freed h0.pool h1.pool now h1.past h0.hand run free.others first in (
           subst (λ x. AreOwned h1.pool now h1.past x None) (sym hand) (AreOwned-freed h0.pool h1.pool now h1.past h0.hand run free.gone free.others first),
           λ before list last. (
-              let lists = last_shown h0.pool h1.past run before list (ap (map (shown h0.pool)) (sym e) ∙ last) in
-              shelf_same now now before (shown h0.pool h0.hand) h0.pool.spare h0.past_places (shows.behind ∙ lists.0) (ap (shown h1.pool) hand ∙ shows.here) spare places
-              ∙ ap (λ (x : List (List T)). record { current = x; past = before; hand = shown h0.pool h0.hand; spare = h0.pool.spare; past_places = h0.past_places }) (all_rows now shows.rows)
+              let lists = last_shown h0.pool h1.past run before list (ap (map (run_list h0.pool)) (sym e) ∙ last) in
+              shelf_same now now before (run_list h0.pool h0.hand) h0.pool.spare h0.past_places (shows.behind ∙ lists.0) (ap (run_list h1.pool) hand ∙ shows.here) spare places
+              ∙ ap (λ (x : List (List T)). record { current = x; past = before; hand = run_list h0.pool h0.hand; spare = h0.pool.spare; past_places = h0.past_places }) (all_rows now shows.rows)
               ),
         )
 
@@ -460,18 +460,18 @@ module _ {T : Type 0} where
         let shows = Shows-freed h0.pool h1.pool now h1.past run h0.hand free.others first in (
           subst (λ x. AreOwned h1.pool now h1.past x None) (sym hand) (AreOwned-freed h0.pool h1.pool now h1.past run h0.hand free.gone free.others first),
           λ before list last. (
-              let lists = last_shown h0.pool h1.past run before list (ap (map (shown h0.pool)) (sym e) ∙ last) in
-              shelf_same now now before list h0.pool.spare h0.past_places (shows.behind ∙ lists.0) (ap (shown h1.pool) hand ∙ shows.here ∙ lists.1) spare places
+              let lists = last_shown h0.pool h1.past run before list (ap (map (run_list h0.pool)) (sym e) ∙ last) in
+              shelf_same now now before list h0.pool.spare h0.past_places (shows.behind ∙ lists.0) (ap (run_list h1.pool) hand ∙ shows.here ∙ lists.1) spare places
               ∙ ap (λ (x : List (List T)). record { current = x; past = before; hand = list; spare = h0.pool.spare; past_places = h0.past_places }) (all_rows now shows.rows)
               ),
         )
 
     -- the list in hand was freed
-    pub put_down_live : (pool : Pool T) (now : List (Option ℕ)) (run : Option ℕ) → IsPlaced h0.pool pool run [] → IsOwner h0 now → IsLive pool h0.hand
+    pub put_down_live : (pool : Pool T) (now : List (Option ℕ)) (run : Option ℕ) → IsListPlaced h0.pool pool run [] → IsOwner h0 now → IsLiveRun pool h0.hand
     put_down_live pool now run put owned =
         (AreOwned-placed h0.pool pool now h0.past h0.hand run [] put.fresh put.placed put.others owned).live Hand h0.hand refl
 
-    pub put_down_done : (pool : Pool T) (now : List (Option ℕ)) (run : Option ℕ) → IsPlaced h0.pool pool run [] → IsFreed pool h1.pool h0.hand → h1.past ≡ h0.past → h1.hand ≡ run → h0.pool.spare ≤ h1.pool.spare → h1.past_places ≡ h0.past_places → IsOwner h0 now → IsOwner h1 now × PutsDown (shelf_of h0 now) (shelf_of h1 now)
+    pub put_down_done : (pool : Pool T) (now : List (Option ℕ)) (run : Option ℕ) → IsListPlaced h0.pool pool run [] → IsFreed pool h1.pool h0.hand → h1.past ≡ h0.past → h1.hand ≡ run → h0.pool.spare ≤ h1.pool.spare → h1.past_places ≡ h0.past_places → IsOwner h0 now → IsOwner h1 now × PutsDown (shelf_of h0 now) (shelf_of h1 now)
     put_down_done pool now run put free past hand spare places owned =
         let first = AreOwned-placed h0.pool pool now h0.past h0.hand run [] put.fresh put.placed put.others owned in
         let same = Shows-placed h0.pool pool now h0.past h0.hand run [] put.fresh put.others owned in
@@ -479,14 +479,14 @@ module _ {T : Type 0} where
         let after = Shows-freed pool h1.pool now h0.past run h0.hand free.others second in (
           subst (λ x. AreOwned h1.pool now x h1.hand None) (sym past) (subst (λ x. AreOwned h1.pool now h0.past x None) (sym hand) (AreOwned-freed pool h1.pool now h0.past run h0.hand free.gone free.others second)),
           (
-            shelf_same now now (map (shown h0.pool) h0.past) [] h1.pool.spare h0.past_places (ap (map (shown h1.pool)) past ∙ after.behind ∙ same.behind) (ap (shown h1.pool) hand ∙ after.here ∙ shows_placed pool run [] put.placed) refl places
-                ∙ ap (λ (x : List (List T)). record { current = x; past = map (shown h0.pool) h0.past; hand = []; spare = h1.pool.spare; past_places = h0.past_places }) (all_rows now (λ k. after.rows k ∙ same.rows k)),
+            shelf_same now now (map (run_list h0.pool) h0.past) [] h1.pool.spare h0.past_places (ap (map (run_list h1.pool)) past ∙ after.behind ∙ same.behind) (ap (run_list h1.pool) hand ∙ after.here ∙ shows_placed pool run [] put.placed) refl places
+                ∙ ap (λ (x : List (List T)). record { current = x; past = map (run_list h0.pool) h0.past; hand = []; spare = h1.pool.spare; past_places = h0.past_places }) (all_rows now (λ k. after.rows k ∙ same.rows k)),
             spare,
           ),
         )
 
     -- the last of the past lists went back to a number, if a node is there
-    pub restore_live : {X : Type 0} (there : Option X) (now now' : List (Option ℕ)) (run before : Option ℕ) (k : ℕ) → before ≡ run_before there (run_at now k) run → run_at now' k ≡ run_after there run → now' ≡ change_run there now k run → h0.past ≡ h1.past ++ run ∷ [] → IsOwner h0 now → IsLive h0.pool before
+    pub restore_live : {X : Type 0} (there : Option X) (now now' : List (Option ℕ)) (run before : Option ℕ) (k : ℕ) → before ≡ run_before there (run_at now k) run → run_at now' k ≡ run_after there run → now' ≡ change_run there now k run → h0.past ≡ h1.past ++ run ∷ [] → IsOwner h0 now → IsLiveRun h0.pool before
     restore_live there now now' run before k was is changed e owned =
         (AreOwned-swapped there h0.pool now now' h1.past h0.hand run before k was is changed (popped now run e owned)).live Caller before refl
 
@@ -496,56 +496,56 @@ module _ {T : Type 0} where
         let shows = Shows-freed h0.pool h1.pool now' h1.past h0.hand before free.others second in (
           subst (λ x. AreOwned h1.pool now' h1.past x None) (sym hand) (AreOwned-freed h0.pool h1.pool now' h1.past h0.hand before free.gone free.others second),
           λ old list last. (
-              let lists = last_shown h0.pool h1.past run old list (ap (map (shown h0.pool)) (sym e) ∙ last) in (
+              let lists = last_shown h0.pool h1.past run old list (ap (map (run_list h0.pool)) (sym e) ∙ last) in (
                 record {
-                  here = row_is h1.pool now' k ∙ shows.rows k ∙ ap (shown h0.pool) is ∙ there_shown there run list lists.1;
-                  others = λ j ne. row_is h1.pool now' j ∙ shows.rows j ∙ ap (shown h0.pool) (others_swapped there now now' run k j changed ne) ∙ sym (row_is h0.pool now j);
+                  here = row_is h1.pool now' k ∙ shows.rows k ∙ ap (run_list h0.pool) is ∙ there_shown there run list lists.1;
+                  others = λ j ne. row_is h1.pool now' j ∙ shows.rows j ∙ ap (run_list h0.pool) (others_swapped there now now' run k j changed ne) ∙ sym (row_is h0.pool now j);
                 },
-                shelf_same now now' old (shown h0.pool h0.hand) h0.pool.spare h0.past_places (shows.behind ∙ lists.0) (ap (shown h1.pool) hand ∙ shows.here) spare places,
+                shelf_same now now' old (run_list h0.pool h0.hand) h0.pool.spare h0.past_places (shows.behind ∙ lists.0) (ap (run_list h1.pool) hand ∙ shows.here) spare places,
               )
               ),
         )
       where
-        there_shown : {X : Type 0} (there : Option X) (run : Option ℕ) (list : List T) → shown h0.pool run ≡ list → shown h0.pool (run_after there run) ≡ where_some there list
+        there_shown : {X : Type 0} (there : Option X) (run : Option ℕ) (list : List T) → run_list h0.pool run ≡ list → run_list h0.pool (run_after there run) ≡ where_some there list
         there_shown None run list is = refl
         there_shown (Some x) run list is = is
 
     -- a list came to a number of a node that lives, and the one that stood there behind the past ones
-    pub swap_done : {X : Type 0} (there : Option X) (now now' : List (Option ℕ)) (run before : Option ℕ) (list : List T) (k : ℕ) → IsSome there → IsPlaced h0.pool h1.pool run list → before ≡ run_before there (run_at now k) run → run_at now' k ≡ run_after there run → now' ≡ change_run there now k run → h1.past ≡ h0.past ++ before ∷ [] → h1.hand ≡ h0.hand → h0.pool.spare ≤ h1.pool.spare + list_room list → h0.past_places ≤ h1.past_places → IsOwner h0 now → IsOwner h1 now' × Swaps k list (shelf_of h0 now) (shelf_of h1 now')
+    pub swap_done : {X : Type 0} (there : Option X) (now now' : List (Option ℕ)) (run before : Option ℕ) (list : List T) (k : ℕ) → IsSome there → IsListPlaced h0.pool h1.pool run list → before ≡ run_before there (run_at now k) run → run_at now' k ≡ run_after there run → now' ≡ change_run there now k run → h1.past ≡ h0.past ++ before ∷ [] → h1.hand ≡ h0.hand → h0.pool.spare ≤ h1.pool.spare + list_room list → h0.past_places ≤ h1.past_places → IsOwner h0 now → IsOwner h1 now' × Swaps k list (shelf_of h0 now) (shelf_of h1 now')
     swap_done None now now' run before list k lives put was is changed e hand spare places owned = absurd (grind (arith, lives))
     swap_done (Some x) now now' run before list k lives put was is changed e hand spare places owned =
         let first = AreOwned-placed h0.pool h1.pool now h0.past h0.hand run list put.fresh put.placed put.others owned in
         let same = Shows-placed h0.pool h1.pool now h0.past h0.hand run list put.fresh put.others owned in
         let second = AreOwned-swapped (Some x) h1.pool now now' h0.past h0.hand run before k was is changed first in
         let third = AreOwned-push h1.pool now' h0.past h0.hand before second in
-        let stood : shown h1.pool before ≡ row_at (map (shown h0.pool) now) k = ap (shown h1.pool) was ∙ same.rows k ∙ sym (row_is h0.pool now k) in (
+        let stood : run_list h1.pool before ≡ row_at (map (run_list h0.pool) now) k = ap (run_list h1.pool) was ∙ same.rows k ∙ sym (row_is h0.pool now k) in (
           subst (λ y. AreOwned h1.pool now' y h1.hand None) (sym e) (subst (λ y. AreOwned h1.pool now' (h0.past ++ before ∷ []) y None) (sym hand) third),
           record {
-            comes = comes_to now now' k list (ap (shown h1.pool) is ∙ shows_placed h1.pool run list put.placed) (λ j ne. others_swapped (Some x) now now' run k j changed ne) same.rows;
+            comes = comes_to now now' k list (ap (run_list h1.pool) is ∙ shows_placed h1.pool run list put.placed) (λ j ne. others_swapped (Some x) now now' run k j changed ne) same.rows;
             swapped =
-                shelf_same now now' (map (shown h0.pool) h0.past ++ row_at (map (shown h0.pool) now) k ∷ []) (shown h0.pool h0.hand) h1.pool.spare h1.past_places
-                (ap (map (shown h1.pool)) e ∙ map_push (shown h1.pool) h0.past before ∙ ap₂ (λ (xs : List (List T)) (y : List T). xs ++ y ∷ []) same.behind stood) (ap (shown h1.pool) hand ∙ same.here) refl refl;
+                shelf_same now now' (map (run_list h0.pool) h0.past ++ row_at (map (run_list h0.pool) now) k ∷ []) (run_list h0.pool h0.hand) h1.pool.spare h1.past_places
+                (ap (map (run_list h1.pool)) e ∙ map_push (run_list h1.pool) h0.past before ∙ ap₂ (λ (xs : List (List T)) (y : List T). xs ++ y ∷ []) same.behind stood) (ap (run_list h1.pool) hand ∙ same.here) refl refl;
             spare = spare;
             places = places;
           },
         )
 
     -- a list came to a number where no node was
-    pub add_done : (now now' : List (Option ℕ)) (run : Option ℕ) (list : List T) (k : ℕ) → run_at now k ≡ None → run_at now' k ≡ run → ((j : ℕ) → j ≢ k → run_at now' j ≡ run_at now j) → IsPlaced h0.pool h1.pool run list → h1.past ≡ h0.past → h1.hand ≡ h0.hand → h0.pool.spare ≤ h1.pool.spare + list_room list → h1.past_places ≡ h0.past_places → IsOwner h0 now → IsOwner h1 now' × Adds k list (shelf_of h0 now) (shelf_of h1 now')
+    pub add_done : (now now' : List (Option ℕ)) (run : Option ℕ) (list : List T) (k : ℕ) → run_at now k ≡ None → run_at now' k ≡ run → ((j : ℕ) → j ≢ k → run_at now' j ≡ run_at now j) → IsListPlaced h0.pool h1.pool run list → h1.past ≡ h0.past → h1.hand ≡ h0.hand → h0.pool.spare ≤ h1.pool.spare + list_room list → h1.past_places ≡ h0.past_places → IsOwner h0 now → IsOwner h1 now' × Inserts k list (shelf_of h0 now) (shelf_of h1 now')
     add_done now now' run list k none is rest put e hand spare places owned =
         let first = AreOwned-placed h0.pool h1.pool now h0.past h0.hand run list put.fresh put.placed put.others owned in
         let same = Shows-placed h0.pool h1.pool now h0.past h0.hand run list put.fresh put.others owned in
         let second = AreOwned-put h1.pool now now' h0.past h0.hand run k none is rest first in (
           subst (λ y. AreOwned h1.pool now' y h1.hand None) (sym e) (subst (λ y. AreOwned h1.pool now' h0.past y None) (sym hand) second),
           record {
-            comes = comes_to now now' k list (ap (shown h1.pool) is ∙ shows_placed h1.pool run list put.placed) rest same.rows;
-            rest = shelf_same now now' (map (shown h0.pool) h0.past) (shown h0.pool h0.hand) h1.pool.spare h0.past_places (ap (map (shown h1.pool)) e ∙ same.behind) (ap (shown h1.pool) hand ∙ same.here) refl places;
+            comes = comes_to now now' k list (ap (run_list h1.pool) is ∙ shows_placed h1.pool run list put.placed) rest same.rows;
+            rest = shelf_same now now' (map (run_list h0.pool) h0.past) (run_list h0.pool h0.hand) h1.pool.spare h0.past_places (ap (map (run_list h1.pool)) e ∙ same.behind) (ap (run_list h1.pool) hand ∙ same.here) refl places;
             spare = spare;
           },
         )
 
     -- the list at a number was freed
-    pub clear_live : (now : List (Option ℕ)) (run : Option ℕ) (k : ℕ) → run ≡ run_at now k → IsOwner h0 now → IsLive h0.pool run
+    pub clear_live : (now : List (Option ℕ)) (run : Option ℕ) (k : ℕ) → run ≡ run_at now k → IsOwner h0 now → IsLiveRun h0.pool run
     clear_live now run k was owned = owned.live (Number k) run (ap Some (sym was))
 
     pub clear_done : (now now' : List (Option ℕ)) (run : Option ℕ) (k : ℕ) → run ≡ run_at now k → now' ≡ set now k None → IsFreed h0.pool h1.pool run → h1.past ≡ h0.past → h1.hand ≡ h0.hand → h1.pool.spare ≡ h0.pool.spare → h1.past_places ≡ h0.past_places → IsOwner h0 now → IsOwner h1 now' × Clears k (shelf_of h0 now) (shelf_of h1 now')
@@ -556,10 +556,10 @@ module _ {T : Type 0} where
           subst (λ y. AreOwned h1.pool now' y h1.hand None) (sym e) (subst (λ y. AreOwned h1.pool now' h0.past y None) (sym hand) second),
           record {
             comes = record {
-              here = row_is h1.pool now' k ∙ ap (shown h1.pool) (ap (λ n. run_at n k) changed ∙ get_cleared now k None);
-              others = λ j ne. row_is h1.pool now' j ∙ shows.rows j ∙ ap (shown h0.pool) (ap (λ n. run_at n j) changed ∙ get_set_other now k j None None ne) ∙ sym (row_is h0.pool now j);
+              here = row_is h1.pool now' k ∙ ap (run_list h1.pool) (ap (λ n. run_at n k) changed ∙ get_cleared now k None);
+              others = λ j ne. row_is h1.pool now' j ∙ shows.rows j ∙ ap (run_list h0.pool) (ap (λ n. run_at n j) changed ∙ get_set_other now k j None None ne) ∙ sym (row_is h0.pool now j);
             };
-            cleared = shelf_same now now' (map (shown h0.pool) h0.past) (shown h0.pool h0.hand) h0.pool.spare h0.past_places (ap (map (shown h1.pool)) e ∙ shows.behind) (ap (shown h1.pool) hand ∙ shows.here) spare places;
+            cleared = shelf_same now now' (map (run_list h0.pool) h0.past) (run_list h0.pool h0.hand) h0.pool.spare h0.past_places (ap (map (run_list h1.pool)) e ∙ shows.behind) (ap (run_list h1.pool) hand ∙ shows.here) spare places;
           },
         )
 
@@ -570,13 +570,13 @@ module _ {T : Type 0} where
           subst (λ x. AreOwned x now' h1.past h1.hand None) (sym pool) (subst (λ y. AreOwned h0.pool now' y h1.hand None) (sym e) (subst (λ y. AreOwned h0.pool now' (h0.past ++ run ∷ []) y None) (sym hand) first)),
           record {
             comes = record {
-              here = row_is h1.pool now' k ∙ ap (shown h1.pool) (ap (λ n. run_at n k) changed ∙ get_cleared now k None);
-              others = λ j ne. row_is h1.pool now' j ∙ ap (λ (x : Pool T). shown x (run_at now' j)) pool ∙ ap (shown h0.pool) (ap (λ n. run_at n j) changed ∙ get_set_other now k j None None ne) ∙ sym (row_is h0.pool now j);
+              here = row_is h1.pool now' k ∙ ap (run_list h1.pool) (ap (λ n. run_at n k) changed ∙ get_cleared now k None);
+              others = λ j ne. row_is h1.pool now' j ∙ ap (λ (x : Pool T). run_list x (run_at now' j)) pool ∙ ap (run_list h0.pool) (ap (λ n. run_at n j) changed ∙ get_set_other now k j None None ne) ∙ sym (row_is h0.pool now j);
             };
             swapped =
-                shelf_same now now' (map (shown h0.pool) h0.past ++ row_at (map (shown h0.pool) now) k ∷ []) (shown h0.pool h0.hand) h1.pool.spare h1.past_places
-                (ap₂ (λ (x : Pool T) y. map (shown x) y) pool e ∙ map_push (shown h0.pool) h0.past run ∙ ap (λ (y : List T). map (shown h0.pool) h0.past ++ y ∷ []) (ap (shown h0.pool) was ∙ sym (row_is h0.pool now k)))
-                (ap₂ (λ (x : Pool T) y. shown x y) pool hand) refl refl;
+                shelf_same now now' (map (run_list h0.pool) h0.past ++ row_at (map (run_list h0.pool) now) k ∷ []) (run_list h0.pool h0.hand) h1.pool.spare h1.past_places
+                (ap₂ (λ (x : Pool T) y. map (run_list x) y) pool e ∙ map_push (run_list h0.pool) h0.past run ∙ ap (λ (y : List T). map (run_list h0.pool) h0.past ++ y ∷ []) (ap (run_list h0.pool) was ∙ sym (row_is h0.pool now k)))
+                (ap₂ (λ (x : Pool T) y. run_list x y) pool hand) refl refl;
             spare = let same = ap (λ (x : Pool T). x.spare) pool in omega (arith, same);
             places = places;
           },
@@ -585,9 +585,9 @@ module _ {T : Type 0} where
   -- more room was made
   pub record Stays (h0 h1 : Hoard T) (now : List (Option ℕ)) : Type 0 where
     pub owned : IsOwner h1 now
-    pub current : map (shown h1.pool) now ≡ map (shown h0.pool) now
-    pub behind : map (shown h1.pool) h1.past ≡ map (shown h0.pool) h0.past
-    pub here : shown h1.pool h1.hand ≡ shown h0.pool h0.hand
+    pub current : map (run_list h1.pool) now ≡ map (run_list h0.pool) now
+    pub behind : map (run_list h1.pool) h1.past ≡ map (run_list h0.pool) h0.past
+    pub here : run_list h1.pool h1.hand ≡ run_list h0.pool h0.hand
 
   pub reserve_done : (h0 h1 : Hoard T) (now : List (Option ℕ)) → h1 ≡ record h0 { pool = h1.pool; past_places = h1.past_places } → h1.pool ≡ record h0.pool { spare = h1.pool.spare } → IsOwner h0 now → Stays h0 h1 now
   reserve_done h0 h1 now kept pool owned =
@@ -598,16 +598,16 @@ module _ {T : Type 0} where
       record {
         owned = subst (λ x. AreOwned h1.pool now x h1.hand None) (sym past) (subst (λ x. AreOwned h1.pool now h0.past x None) (sym hand) (AreOwned-slots h0.pool h1.pool now h0.past h0.hand slots owned));
         current = all_rows h0 h1 now shows.rows;
-        behind = ap (map (shown h1.pool)) past ∙ shows.behind;
-        here = ap (shown h1.pool) hand ∙ shows.here;
+        behind = ap (map (run_list h1.pool)) past ∙ shows.behind;
+        here = ap (run_list h1.pool) hand ∙ shows.here;
       }
 
   -- the list of a node that lives
-  pub run_live : {X : Type 0} (h : Hoard T) (now : List (Option ℕ)) (o : Option X) (k : ℕ) (run : Option ℕ) → Some run ≡ option_map (λ s. run_at now k) o → IsOwner h now → IsLive h.pool run
+  pub run_live : {X : Type 0} (h : Hoard T) (now : List (Option ℕ)) (o : Option X) (k : ℕ) (run : Option ℕ) → Some run ≡ option_map (λ s. run_at now k) o → IsOwner h now → IsLiveRun h.pool run
   run_live h now o k run e owned = owned.live (Number k) run (ap Some (sym (run_is o (run_at now k) run e)))
 
-  pub run_read : {X : Type 0} (h : Hoard T) (now : List (Option ℕ)) (o : Option X) (k : ℕ) (run : Option ℕ) (list : List T) → Some run ≡ option_map (λ s. run_at now k) o → list_of h.pool run ≡ Some list → list ≡ row_at (map (shown h.pool) now) k
-  run_read h now o k run list e is = sym (row_is h.pool now k ∙ ap (shown h.pool) (sym (run_is o (run_at now k) run e)) ∙ shows_placed h.pool run list is)
+  pub run_read : {X : Type 0} (h : Hoard T) (now : List (Option ℕ)) (o : Option X) (k : ℕ) (run : Option ℕ) (list : List T) → Some run ≡ option_map (λ s. run_at now k) o → list_of h.pool run ≡ Some list → list ≡ row_at (map (run_list h.pool) now) k
+  run_read h now o k run list e is = sym (row_is h.pool now k ∙ ap (run_list h.pool) (sym (run_is o (run_at now k) run e)) ∙ shows_placed h.pool run list is)
 
   -- nothing stood at a number that was cleared
   pub clear_none : (h : Hoard T) (now now' : List (Option ℕ)) (k : ℕ) → None ≡ run_at now k → now' ≡ set now k None → IsOwner h now → IsOwner h now' × Clears k (shelf_of h now) (shelf_of h now')
@@ -615,8 +615,8 @@ module _ {T : Type 0} where
     none_held h.pool now' h.past h.hand (AreOwned-taken h.pool now now' h.past h.hand None k was changed owned),
     record {
       comes = record {
-        here = row_is h.pool now' k ∙ ap (shown h.pool) (ap (λ n. run_at n k) changed ∙ get_cleared now k None);
-        others = λ j ne. row_is h.pool now' j ∙ ap (shown h.pool) (ap (λ n. run_at n j) changed ∙ get_set_other now k j None None ne) ∙ sym (row_is h.pool now j);
+        here = row_is h.pool now' k ∙ ap (run_list h.pool) (ap (λ n. run_at n k) changed ∙ get_cleared now k None);
+        others = λ j ne. row_is h.pool now' j ∙ ap (run_list h.pool) (ap (λ n. run_at n j) changed ∙ get_set_other now k j None None ne) ∙ sym (row_is h.pool now j);
       };
       cleared = refl;
     },

@@ -5,11 +5,12 @@ use Rattle.std.proofs.Math.Path.{fun_ext}
 use Rattle.std.proofs.lemmas.Bool.{cases_eq}
 use Rattle.std.proofs.lemmas.List.{append-nil}
 use Rattle.std.proofs.lemmas.Option.{none-some, same_Some}
+use Rattle.lsys_spec.specs.Rows.{In}
 use Rattle.lsys_level.specs.Spots.{Seen}
-use Rattle.lsys_forest.specs.Nodes.{Node, Nodes, put, change, with_seen, with_key, with_kids, with_answer}
+use Rattle.lsys_forest.specs.Nodes.{Node, Nodes, with_node, change, with_seen, with_key, with_kids, with_answer}
 use Rattle.lsys_forest.specs.Changes.{OldSeen, OldKey, OldKids, OldAnswer, Change, undo, undone}
 use Rattle.lsys_forest.specs.Stocks.{looked}
-use Rattle.lsys_forest.specs.Groves.{In, HasFew, IsUnder, AreKids, Named, IsHeld, IsSound, AreSound}
+use Rattle.lsys_forest.specs.Groves.{HasFew, IsUnder, AreKids, Named, HangsOnParent, IsRooted, AreSound}
 use Rattle.lsys_forest.proofs.StockLemmas.{put_same, put_other}
 
 pub some_of : {X : Type 0} (o : Option X) → IsSome o → (x : X) × (o ≡ Some x)
@@ -46,15 +47,15 @@ module _ {A : Type 0} where
   -- 1. the last rest
 
   -- a second write at the same node of what stood there undoes the first
-  pub put_back : (m : Nodes A) (k : ℕ) (v w : Option (Node A)) → m k ≡ v → put (put m k w) k v ≡ m
+  pub put_back : (m : Nodes A) (k : ℕ) (v w : Option (Node A)) → m k ≡ v → with_node (with_node m k w) k v ≡ m
   put_back m k v w was = fun_ext (λ j. elim (cases_eq j k) [
-    | inl e ↦ put_same (put m k w) k j v e ∙ sym was ∙ ap m (sym e)
-    | inr ne ↦ put_other (put m k w) k j v ne ∙ put_other m k j w ne
+    | inl e ↦ put_same (with_node m k w) k j v e ∙ sym was ∙ ap m (sym e)
+    | inr ne ↦ put_other (with_node m k w) k j v ne ∙ put_other m k j w ne
   ])
 
-  pub change_back : (g : Node A → Node A) (m : Nodes A) (k : ℕ) (n n' : Node A) → m k ≡ Some n → g n' ≡ n → change g (put m k (Some n')) k ≡ m
+  pub change_back : (g : Node A → Node A) (m : Nodes A) (k : ℕ) (n n' : Node A) → m k ≡ Some n → g n' ≡ n → change g (with_node m k (Some n')) k ≡ m
   change_back g m k n n' is back =
-      ap (λ (v : Option (Node A)). put (put m k (Some n')) k (option_map g v)) (put_same m k k (Some n') refl)
+      ap (λ (v : Option (Node A)). with_node (with_node m k (Some n')) k (option_map g v)) (put_same m k k (Some n') refl)
       ∙ put_back m k (Some (g n')) (Some n') (is ∙ ap Some (sym back))
 
   pub undone_last : (changes : List (Change A)) (c : Change A) (m : Nodes A) → undone (changes ++ c ∷ []) m ≡ undone changes (undo c m)
@@ -95,24 +96,24 @@ module _ {A : Type 0} where
   itself : (c : Change A) (n : Node A) → Replaces c n n
   itself c n = record { parent = refl; depth = refl; kids = λ x h. inl h }
 
-  before : (m : Nodes A) (c : Change A) (k : ℕ) (old new : Node A) → m k ≡ Some old → Replaces c old new → (x : ℕ) (n : Node A) → put m k (Some new) x ≡ Some n → Then m c x n
+  before : (m : Nodes A) (c : Change A) (k : ℕ) (old new : Node A) → m k ≡ Some old → Replaces c old new → (x : ℕ) (n : Node A) → with_node m k (Some new) x ≡ Some n → Then m c x n
   before m c k old new is replaces x n found = elim (cases_eq x k) [
     | inl e ↦ record { node = old; is = ap m e ∙ is; replaces = subst (Replaces c old) (same_Some new n (sym (put_same m k x (Some new) e) ∙ found)) replaces }
     | inr ne ↦ record { node = n; is = sym (put_other m k x (Some new) ne) ∙ found; replaces = itself c n }
   ]
 
-  after : (m : Nodes A) (c : Change A) (k : ℕ) (old new : Node A) → m k ≡ Some old → Replaces c old new → (x : ℕ) (n : Node A) → m x ≡ Some n → After (put m k (Some new)) c x n
+  after : (m : Nodes A) (c : Change A) (k : ℕ) (old new : Node A) → m k ≡ Some old → Replaces c old new → (x : ℕ) (n : Node A) → m x ≡ Some n → After (with_node m k (Some new)) c x n
   after m c k old new is replaces x n found = elim (cases_eq x k) [
     | inl e ↦ record { node = new; is = put_same m k x (Some new) e; replaces = subst (λ o. Replaces c o new) (same_Some old n (sym is ∙ sym (ap m e) ∙ found)) replaces }
     | inr ne ↦ record { node = n; is = put_other m k x (Some new) ne ∙ found; replaces = itself c n }
   ]
 
-  under_after : (m : Nodes A) (root : ℕ) (c : Change A) (k : ℕ) (old new : Node A) → m k ≡ Some old → Replaces c old new → (p x : ℕ) → IsUnder m root p x → IsUnder (put m k (Some new)) root p x
+  under_after : (m : Nodes A) (root : ℕ) (c : Change A) (k : ℕ) (old new : Node A) → m k ≡ Some old → Replaces c old new → (p x : ℕ) → IsUnder m root p x → IsUnder (with_node m k (Some new)) root p x
   under_after m root c k old new is replaces p x under =
       let a = after m c k old new is replaces x under.node under.is in
       record { node = a.node; is = a.is; parent_is = a.replaces.parent ∙ under.parent_is; other = under.other }
 
-  kids_after : (m : Nodes A) (root : ℕ) (c : Change A) (k : ℕ) (old new : Node A) → m k ≡ Some old → Replaces c old new → (p : ℕ) (kids : List ℕ) → AreKids m root p kids → AreKids (put m k (Some new)) root p kids
+  kids_after : (m : Nodes A) (root : ℕ) (c : Change A) (k : ℕ) (old new : Node A) → m k ≡ Some old → Replaces c old new → (p : ℕ) (kids : List ℕ) → AreKids m root p kids → AreKids (with_node m k (Some new)) root p kids
   kids_after m root c k old new is replaces p kids are = record {
     under = λ x h. under_after m root c k old new is replaces p x (are.under x h);
     apart = are.apart;
@@ -122,7 +123,7 @@ module _ {A : Type 0} where
   linked_after changes c old new x replaces (inl kid) = elim (replaces.kids x kid) [ inl h ↦ inl h | inr h ↦ inr (Named_last changes c x h) ]
   linked_after changes c old new x replaces (inr named) = inr (Named_more changes c x named)
 
-  pub IsSound-put : (root : ℕ) (changes : List (Change A)) (c : Change A) (m : Nodes A) (k : ℕ) (old new : Node A) → m k ≡ Some old → Replaces c old new → AreKids m root k new.kids → HasFew new.seen → IsSound root changes m → IsSound root (changes ++ c ∷ []) (put m k (Some new))
+  pub IsSound-put : (root : ℕ) (changes : List (Change A)) (c : Change A) (m : Nodes A) (k : ℕ) (old new : Node A) → m k ≡ Some old → Replaces c old new → AreKids m root k new.kids → HasFew new.seen → IsRooted root changes m → IsRooted root (changes ++ c ∷ []) (with_node m k (Some new))
   IsSound-put root changes c m k old new is replaces kids few sound = record {
     few = λ x n found. elim (cases_eq x k) [
       | inl e ↦ subst (λ (o : Node A). HasFew o.seen) (same_Some new n (sym (put_same m k x (Some new) e) ∙ found)) few
@@ -137,7 +138,7 @@ module _ {A : Type 0} where
         let a = after m c k old new is replaces b.node.parent h.parent h.is in
         record {
           parent = a.node;
-          is = ap (put m k (Some new)) b.replaces.parent ∙ a.is;
+          is = ap (with_node m k (Some new)) b.replaces.parent ∙ a.is;
           depth = b.replaces.depth ∙ h.depth ∙ ap (λ d. d + 1) (sym a.replaces.depth);
           linked = linked_after changes c h.parent a.node x a.replaces h.linked;
         };
@@ -148,7 +149,7 @@ module _ {A : Type 0} where
   }
 
   -- a new node, which the commit looks at
-  pub IsSound-add : (root : ℕ) (changes : List (Change A)) (c : Change A) (m : Nodes A) (k : ℕ) (new parent : Node A) → m k ≡ None → m new.parent ≡ Some parent → new.depth ≡ parent.depth + 1 → new.kids ≡ [] → HasFew new.seen → In k (looked c) → IsSound root changes m → IsSound root (changes ++ c ∷ []) (put m k (Some new))
+  pub IsSound-add : (root : ℕ) (changes : List (Change A)) (c : Change A) (m : Nodes A) (k : ℕ) (new parent : Node A) → m k ≡ None → m new.parent ≡ Some parent → new.depth ≡ parent.depth + 1 → new.kids ≡ [] → HasFew new.seen → In k (looked c) → IsRooted root changes m → IsRooted root (changes ++ c ∷ []) (with_node m k (Some new))
   IsSound-add root changes c m k new parent vacant is depth none few named sound = record {
     few = λ x n found. elim (cases_eq x k) [
       | inl e ↦ subst (λ (o : Node A). HasFew o.seen) (same_Some new n (sym (put_same m k x (Some new) e) ∙ found)) few
@@ -158,7 +159,7 @@ module _ {A : Type 0} where
     held = λ x n found other. elim (cases_eq x k) [
       | inl e ↦
           let same = same_Some new n (sym (put_same m k x (Some new) e) ∙ found) in
-          subst (IsHeld (put m k (Some new)) (changes ++ c ∷ []) x) same (record {
+          subst (HangsOnParent (with_node m k (Some new)) (changes ++ c ∷ []) x) same (record {
             parent = parent;
             is = kept new.parent parent is;
             depth = depth;
@@ -174,7 +175,7 @@ module _ {A : Type 0} where
           }
     ];
     own = λ p n found. elim (cases_eq p k) [
-      | inl e ↦ subst (AreKids (put m k (Some new)) root p) (sym (ap (λ (o : Node A). o.kids) (sym (same_Some new n (sym (put_same m k p (Some new) e) ∙ found))) ∙ none)) (record { under = λ x h. absurd h; apart = tt })
+      | inl e ↦ subst (AreKids (with_node m k (Some new)) root p) (sym (ap (λ (o : Node A). o.kids) (sym (same_Some new n (sym (put_same m k p (Some new) e) ∙ found))) ∙ none)) (record { under = λ x h. absurd h; apart = tt })
       | inr ne ↦
           let are = sound.own p n (sym (put_other m k p (Some new) ne) ∙ found) in
           record {
@@ -187,62 +188,62 @@ module _ {A : Type 0} where
       differ : (x : ℕ) (n : Node A) → m x ≡ Some n → x ≢ k
       differ x n lives e = none-some n (sym (ap m e ∙ vacant) ∙ lives)
 
-      kept : (x : ℕ) (n : Node A) → m x ≡ Some n → put m k (Some new) x ≡ Some n
+      kept : (x : ℕ) (n : Node A) → m x ≡ Some n → with_node m k (Some new) x ≡ Some n
       kept x n found = put_other m k x (Some new) (differ x n found) ∙ found
 
   -- 3. the calls
 
   -- the change says what the node was
   unfoldable pub IsSet : (root : ℕ) (changes : List (Change A)) (c : Change A) (m : Nodes A) (k : ℕ) (old new : Node A) → Type 0
-  IsSet root changes c m k old new = (m k ≡ Some old) × Replaces c old new × AreKids m root k new.kids × (undo c (put m k (Some new)) ≡ m) × HasFew new.seen
+  IsSet root changes c m k old new = (m k ≡ Some old) × Replaces c old new × AreKids m root k new.kids × (undo c (with_node m k (Some new)) ≡ m) × HasFew new.seen
 
-  pub set_seen : (root : ℕ) (changes : List (Change A)) (m : Nodes A) (k : ℕ) (old : Node A) (x : Seen) → HasFew x → IsSound root changes m → m k ≡ Some old → IsSet root changes (record { node = k; before = OldSeen old.seen }) m k old (with_seen x old)
+  pub set_seen : (root : ℕ) (changes : List (Change A)) (m : Nodes A) (k : ℕ) (old : Node A) (x : Seen) → HasFew x → IsRooted root changes m → m k ≡ Some old → IsSet root changes (record { node = k; before = OldSeen old.seen }) m k old (with_seen x old)
   unfolding IsSet
   set_seen root changes m k old x few sound is = (is, record { parent = refl; depth = refl; kids = λ y h. inl h }, sound.own k old is, change_back (with_seen old.seen) m k old (with_seen x old) is refl, few)
 
-  pub set_key : (root : ℕ) (changes : List (Change A)) (m : Nodes A) (k : ℕ) (old : Node A) (x : ℕ) → IsSound root changes m → m k ≡ Some old → IsSet root changes (record { node = k; before = OldKey old.key }) m k old (with_key x old)
+  pub set_key : (root : ℕ) (changes : List (Change A)) (m : Nodes A) (k : ℕ) (old : Node A) (x : ℕ) → IsRooted root changes m → m k ≡ Some old → IsSet root changes (record { node = k; before = OldKey old.key }) m k old (with_key x old)
   unfolding IsSet
   set_key root changes m k old x sound is = (is, record { parent = refl; depth = refl; kids = λ y h. inl h }, sound.own k old is, change_back (with_key old.key) m k old (with_key x old) is refl, sound.few k old is)
 
-  pub set_answer : (root : ℕ) (changes : List (Change A)) (m : Nodes A) (k : ℕ) (old : Node A) (x : Option A) → IsSound root changes m → m k ≡ Some old → IsSet root changes (record { node = k; before = OldAnswer old.answer }) m k old (with_answer x old)
+  pub set_answer : (root : ℕ) (changes : List (Change A)) (m : Nodes A) (k : ℕ) (old : Node A) (x : Option A) → IsRooted root changes m → m k ≡ Some old → IsSet root changes (record { node = k; before = OldAnswer old.answer }) m k old (with_answer x old)
   unfolding IsSet
   set_answer root changes m k old x sound is = (is, record { parent = refl; depth = refl; kids = λ y h. inl h }, sound.own k old is, change_back (with_answer old.answer) m k old (with_answer x old) is refl, sound.few k old is)
 
-  pub set_kids : (root : ℕ) (changes : List (Change A)) (m : Nodes A) (k : ℕ) (old : Node A) (x : List ℕ) → AreKids m root k x → IsSound root changes m → m k ≡ Some old → IsSet root changes (record { node = k; before = OldKids old.kids }) m k old (with_kids x old)
+  pub set_kids : (root : ℕ) (changes : List (Change A)) (m : Nodes A) (k : ℕ) (old : Node A) (x : List ℕ) → AreKids m root k x → IsRooted root changes m → m k ≡ Some old → IsSet root changes (record { node = k; before = OldKids old.kids }) m k old (with_kids x old)
   unfolding IsSet
   set_kids root changes m k old x kids sound is = (is, record { parent = refl; depth = refl; kids = λ y h. inr h }, kids, change_back (with_kids old.kids) m k old (with_kids x old) is refl, sound.few k old is)
 
-  pub set_sound : (root : ℕ) (changes : List (Change A)) (c : Change A) (m : Nodes A) (k : ℕ) (old new : Node A) → IsSet root changes c m k old new → IsSound root changes m → IsSound root (changes ++ c ∷ []) (put m k (Some new))
+  pub set_sound : (root : ℕ) (changes : List (Change A)) (c : Change A) (m : Nodes A) (k : ℕ) (old new : Node A) → IsSet root changes c m k old new → IsRooted root changes m → IsRooted root (changes ++ c ∷ []) (with_node m k (Some new))
   unfolding IsSet
   set_sound root changes c m k old new set sound = IsSound-put root changes c m k old new set.0 set.1 set.2 set.4 sound
 
-  pub set_rest : (root : ℕ) (changes later : List (Change A)) (c : Change A) (m : Nodes A) (k : ℕ) (old new : Node A) → IsSet root changes c m k old new → later ≡ changes ++ c ∷ [] → undone later (put m k (Some new)) ≡ undone changes m
+  pub set_rest : (root : ℕ) (changes later : List (Change A)) (c : Change A) (m : Nodes A) (k : ℕ) (old new : Node A) → IsSet root changes c m k old new → later ≡ changes ++ c ∷ [] → undone later (with_node m k (Some new)) ≡ undone changes m
   unfolding IsSet
-  set_rest root changes later c m k old new set pushed = rest_kept changes later c m (put m k (Some new)) pushed set.3
+  set_rest root changes later c m k old new set pushed = rest_kept changes later c m (with_node m k (Some new)) pushed set.3
 
-  pub set_back : (root : ℕ) (changes : List (Change A)) (c : Change A) (m : Nodes A) (k : ℕ) (old new : Node A) → IsSet root changes c m k old new → undo c (put m k (Some new)) ≡ m
+  pub set_back : (root : ℕ) (changes : List (Change A)) (c : Change A) (m : Nodes A) (k : ℕ) (old new : Node A) → IsSet root changes c m k old new → undo c (with_node m k (Some new)) ≡ m
   unfolding IsSet
   set_back root changes c m k old new set = set.3
 
   -- 4. before each of the changes
 
-  pub AreSound-push : (root : ℕ) (changes later : List (Change A)) (c : Change A) (old new : Nodes A) → later ≡ changes ++ c ∷ [] → undo c new ≡ old → IsSound root later new → AreSound root changes old → AreSound root later new
+  pub AreSound-push : (root : ℕ) (changes later : List (Change A)) (c : Change A) (old new : Nodes A) → later ≡ changes ++ c ∷ [] → undo c new ≡ old → IsRooted root later new → AreSound root changes old → AreSound root later new
   AreSound-push root changes later c old new pushed back sound were = λ earlier rest whole. elim (split_push earlier rest changes c (sym pushed ∙ whole)) [
-    | inl r ↦ subst (λ cs. IsSound root earlier (undone cs new)) (sym r.0) (subst (λ cs. IsSound root cs new) (pushed ∙ sym r.1) sound)
-    | inr r ↦ subst (IsSound root earlier) (sym (ap (λ cs. undone cs new) r.1 ∙ undone_last r.0 c new ∙ ap (undone r.0) back)) (were earlier r.0 r.2)
+    | inl r ↦ subst (λ cs. IsRooted root earlier (undone cs new)) (sym r.0) (subst (λ cs. IsRooted root cs new) (pushed ∙ sym r.1) sound)
+    | inr r ↦ subst (IsRooted root earlier) (sym (ap (λ cs. undone cs new) r.1 ∙ undone_last r.0 c new ∙ ap (undone r.0) back)) (were earlier r.0 r.2)
   ]
 
   pub AreSound-pop : (root : ℕ) (earlier : List (Change A)) (c : Change A) (m : Nodes A) → AreSound root (earlier ++ c ∷ []) m → AreSound root earlier (undo c m)
   AreSound-pop root earlier c m sound = λ first rest whole.
-      subst (IsSound root first) (undone_last rest c m) (sound first (rest ++ c ∷ []) (ap (λ cs. cs ++ c ∷ []) whole ∙ append_assoc first rest (c ∷ [])))
+      subst (IsRooted root first) (undone_last rest c m) (sound first (rest ++ c ∷ []) (ap (λ cs. cs ++ c ∷ []) whole ∙ append_assoc first rest (c ∷ [])))
 
-  pub AreSound-rest : (root : ℕ) (m : Nodes A) → IsSound root [] m → AreSound root [] m
+  pub AreSound-rest : (root : ℕ) (m : Nodes A) → IsRooted root [] m → AreSound root [] m
   AreSound-rest root m sound = λ earlier later whole.
       let none = both_empty earlier later whole in
-      subst (λ cs. IsSound root cs (undone later m)) (sym none.0) (subst (λ cs. IsSound root [] (undone cs m)) (sym none.1) sound)
+      subst (λ cs. IsRooted root cs (undone later m)) (sym none.0) (subst (λ cs. IsRooted root [] (undone cs m)) (sym none.1) sound)
 
-  pub AreSound-now : (root : ℕ) (changes : List (Change A)) (m : Nodes A) → AreSound root changes m → IsSound root changes m
+  pub AreSound-now : (root : ℕ) (changes : List (Change A)) (m : Nodes A) → AreSound root changes m → IsRooted root changes m
   AreSound-now root changes m sound = sound changes [] (sym (append-nil changes))
 
-  pub AreSound-then : (root : ℕ) (changes : List (Change A)) (m : Nodes A) → AreSound root changes m → IsSound root [] (undone changes m)
+  pub AreSound-then : (root : ℕ) (changes : List (Change A)) (m : Nodes A) → AreSound root changes m → IsRooted root [] (undone changes m)
   AreSound-then root changes m sound = sound [] changes refl

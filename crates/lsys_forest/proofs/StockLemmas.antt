@@ -12,9 +12,9 @@ use Rattle.lsys_forest.specs.declared.note.Note.{Note}
 use Rattle.lsys_forest.specs.declared.note.Was.{Was}
 use Rattle.lsys_forest.specs.declared.note.Was.TheVariants as was
 use Rattle.lsys_forest.specs.Slots.{slot_at, change_slot, answer_before, kind_set}
-use Rattle.lsys_forest.specs.Nodes.{Node, Nodes, put, seen_as, with_kids, with_seen}
+use Rattle.lsys_forest.specs.Nodes.{Node, Nodes, with_node, seen_as, with_kids, with_seen}
 use Rattle.lsys_forest.specs.Changes.{Missing, OldSeen, OldKey, OldKids, OldAnswer, Change}
-use Rattle.lsys_forest.specs.Stocks.{row_at, first_of, node_of, before_of, params_left, kids_left, told, param_lists, kid_lists, param_count, kid_count, ComesTo, IsStock}
+use Rattle.lsys_forest.specs.Stocks.{row_at, first_of, node_of, before_of, params_left, kids_left, changes_told, param_lists, kid_lists, param_count, kid_count, ComesTo, IsStock}
 use Rattle.lsys_forest.proofs.TableLemmas.{get_set_other}
 
 module _ {A : Type 0} where
@@ -30,13 +30,13 @@ module _ {A : Type 0} where
     pub params_same : (j : ℕ) → j ≢ k → row_at params' j ≡ row_at params j
     pub kids_same : (j : ℕ) → j ≢ k → row_at kids' j ≡ row_at kids j
 
-  pub put_same : (m : Nodes A) (k j : ℕ) (v : Option (Node A)) → j ≡ k → put m k v j ≡ v
+  pub put_same : (m : Nodes A) (k j : ℕ) (v : Option (Node A)) → j ≡ k → with_node m k v j ≡ v
   put_same m k j v e = grind (arith, common_steps)
 
-  pub put_other : (m : Nodes A) (k j : ℕ) (v : Option (Node A)) → j ≢ k → put m k v j ≡ m j
+  pub put_other : (m : Nodes A) (k j : ℕ) (v : Option (Node A)) → j ≢ k → with_node m k v j ≡ m j
   put_other m k j v ne = grind (arith, common_steps)
 
-  pub nodes_put : (k : ℕ) (slots slots' : List (Option (Stored A))) (params params' : List (List ℤ)) (kids kids' : List (List ℕ)) (v : Option (Node A)) → AgreeBut k slots slots' params params' kids kids' → shown_nodes slots' params' kids' k ≡ v → shown_nodes slots' params' kids' ≡ put (shown_nodes slots params kids) k v
+  pub nodes_put : (k : ℕ) (slots slots' : List (Option (Stored A))) (params params' : List (List ℤ)) (kids kids' : List (List ℕ)) (v : Option (Node A)) → AgreeBut k slots slots' params params' kids kids' → shown_nodes slots' params' kids' k ≡ v → shown_nodes slots' params' kids' ≡ with_node (shown_nodes slots params kids) k v
   nodes_put k slots slots' params params' kids kids' v agree here = fun_ext (λ j. elim (cases_eq j k) [
     | inl e ↦ ap (shown_nodes slots' params' kids') e ∙ here ∙ sym (put_same (shown_nodes slots params kids) k j v e)
     | inr ne ↦
@@ -90,7 +90,7 @@ module _ {A : Type 0} where
   kid_count_push [] n = omega arith
   kid_count_push (x ∷ notes) n = omega (arith, kid_count_push notes n)
 
-  told_step : (k : ℕ) (n : Note A) (notes : List (Note A)) (w : Was A) (params more : List (List ℤ)) (kids more' : List (List ℕ)) → ((ps : List (List ℤ)) (ks : List (List ℕ)) → length ps ≡ param_count notes → length ks ≡ kid_count notes → told (notes ++ n ∷ []) (ps ++ more) (ks ++ more') ≡ told notes ps ks ++ told (n ∷ []) more more') → length params ≡ param_lists w + param_count notes → length kids ≡ kid_lists w + kid_count notes → ◌≡◌ {A = List (Change A)} (record { node = k; before = before_of w (first_of (params ++ more)) (first_of (kids ++ more')) } ∷ told (notes ++ n ∷ []) (params_left w (params ++ more)) (kids_left w (kids ++ more'))) (record { node = k; before = before_of w (first_of params) (first_of kids) } ∷ told notes (params_left w params) (kids_left w kids) ++ told (n ∷ []) more more')
+  told_step : (k : ℕ) (n : Note A) (notes : List (Note A)) (w : Was A) (params more : List (List ℤ)) (kids more' : List (List ℕ)) → ((ps : List (List ℤ)) (ks : List (List ℕ)) → length ps ≡ param_count notes → length ks ≡ kid_count notes → changes_told (notes ++ n ∷ []) (ps ++ more) (ks ++ more') ≡ changes_told notes ps ks ++ changes_told (n ∷ []) more more') → length params ≡ param_lists w + param_count notes → length kids ≡ kid_lists w + kid_count notes → ◌≡◌ {A = List (Change A)} (record { node = k; before = before_of w (first_of (params ++ more)) (first_of (kids ++ more')) } ∷ changes_told (notes ++ n ∷ []) (params_left w (params ++ more)) (kids_left w (kids ++ more'))) (record { node = k; before = before_of w (first_of params) (first_of kids) } ∷ changes_told notes (params_left w params) (kids_left w kids) ++ changes_told (n ∷ []) more more')
   told_step k n notes was.Missing params more kids more' rec p q = ap (λ (l : List (Change A)). record { node = k; before = Missing } ∷ l) (rec params kids (omega (arith, p)) (omega (arith, q)))
   told_step k n notes (was.Key x) params more kids more' rec p q = ap (λ (l : List (Change A)). record { node = k; before = OldKey x } ∷ l) (rec params kids (omega (arith, p)) (omega (arith, q)))
   told_step k n notes (was.Answer x) params more kids more' rec p q = ap (λ (l : List (Change A)). record { node = k; before = OldAnswer x } ∷ l) (rec params kids (omega (arith, p)) (omega (arith, q)))
@@ -100,27 +100,27 @@ module _ {A : Type 0} where
   told_step k n notes was.Kids params more (y ∷ kids) more' rec p q = ap (λ (l : List (Change A)). record { node = k; before = OldKids y } ∷ l) (rec params kids (omega (arith, p)) (omega (arith, q)))
 
   -- the lists of one note more stand behind those of the others
-  pub told_more : (notes : List (Note A)) (n : Note A) (params more : List (List ℤ)) (kids more' : List (List ℕ)) → length params ≡ param_count notes → length kids ≡ kid_count notes → told (notes ++ n ∷ []) (params ++ more) (kids ++ more') ≡ told notes params kids ++ told (n ∷ []) more more'
+  pub told_more : (notes : List (Note A)) (n : Note A) (params more : List (List ℤ)) (kids more' : List (List ℕ)) → length params ≡ param_count notes → length kids ≡ kid_count notes → changes_told (notes ++ n ∷ []) (params ++ more) (kids ++ more') ≡ changes_told notes params kids ++ changes_told (n ∷ []) more more'
   told_more [] n [] more [] more' p q = refl
   told_more [] n (x ∷ params) more kids more' p q = absurd (omega (arith, p))
   told_more [] n [] more (x ∷ kids) more' p q = absurd (omega (arith, q))
   told_more (m ∷ notes) n params more kids more' p q = told_step m.node n notes m.was params more kids more' (λ ps ks. told_more notes n ps more ks more') p q
 
   -- a note that takes no list
-  pub told_plain : (notes : List (Note A)) (n : Note A) (params : List (List ℤ)) (kids : List (List ℕ)) → length params ≡ param_count notes → length kids ≡ kid_count notes → told (notes ++ n ∷ []) params kids ≡ told notes params kids ++ record { node = n.node; before = before_of n.was [] [] } ∷ []
+  pub told_plain : (notes : List (Note A)) (n : Note A) (params : List (List ℤ)) (kids : List (List ℕ)) → length params ≡ param_count notes → length kids ≡ kid_count notes → changes_told (notes ++ n ∷ []) params kids ≡ changes_told notes params kids ++ record { node = n.node; before = before_of n.was [] [] } ∷ []
   told_plain notes n params kids p q =
-      ap (λ (ps : List (List ℤ)). told (notes ++ n ∷ []) ps kids) (sym (append-nil params))
-      ∙ ap (told (notes ++ n ∷ []) (params ++ [])) (sym (append-nil kids))
+      ap (λ (ps : List (List ℤ)). changes_told (notes ++ n ∷ []) ps kids) (sym (append-nil params))
+      ∙ ap (changes_told (notes ++ n ∷ []) (params ++ [])) (sym (append-nil kids))
       ∙ told_more notes n params [] kids [] p q
 
-  pub told_param : (notes : List (Note A)) (n : Note A) (params : List (List ℤ)) (x : List ℤ) (kids : List (List ℕ)) → length params ≡ param_count notes → length kids ≡ kid_count notes → told (notes ++ n ∷ []) (params ++ x ∷ []) kids ≡ told notes params kids ++ record { node = n.node; before = before_of n.was x [] } ∷ []
+  pub told_param : (notes : List (Note A)) (n : Note A) (params : List (List ℤ)) (x : List ℤ) (kids : List (List ℕ)) → length params ≡ param_count notes → length kids ≡ kid_count notes → changes_told (notes ++ n ∷ []) (params ++ x ∷ []) kids ≡ changes_told notes params kids ++ record { node = n.node; before = before_of n.was x [] } ∷ []
   told_param notes n params x kids p q =
-      ap (told (notes ++ n ∷ []) (params ++ x ∷ [])) (sym (append-nil kids))
+      ap (changes_told (notes ++ n ∷ []) (params ++ x ∷ [])) (sym (append-nil kids))
       ∙ told_more notes n params (x ∷ []) kids [] p q
 
-  pub told_kid : (notes : List (Note A)) (n : Note A) (params : List (List ℤ)) (kids : List (List ℕ)) (x : List ℕ) → length params ≡ param_count notes → length kids ≡ kid_count notes → told (notes ++ n ∷ []) params (kids ++ x ∷ []) ≡ told notes params kids ++ record { node = n.node; before = before_of n.was [] x } ∷ []
+  pub told_kid : (notes : List (Note A)) (n : Note A) (params : List (List ℤ)) (kids : List (List ℕ)) (x : List ℕ) → length params ≡ param_count notes → length kids ≡ kid_count notes → changes_told (notes ++ n ∷ []) params (kids ++ x ∷ []) ≡ changes_told notes params kids ++ record { node = n.node; before = before_of n.was [] x } ∷ []
   told_kid notes n params kids x p q =
-      ap (λ (ps : List (List ℤ)). told (notes ++ n ∷ []) ps (kids ++ x ∷ [])) (sym (append-nil params))
+      ap (λ (ps : List (List ℤ)). changes_told (notes ++ n ∷ []) ps (kids ++ x ∷ [])) (sym (append-nil params))
       ∙ told_more notes n params [] kids (x ∷ []) p q
 
   -- a note more
@@ -132,7 +132,7 @@ module _ {A : Type 0} where
       })
 
   -- one node changed in its slot
-  pub nodes_changed : (f : Stored A → Stored A) (g : Node A → Node A) → ((p : List ℤ) (q : List ℕ) (s : Stored A) → node_of p q (f s) ≡ g (node_of p q s)) → (slots slots' : List (Option (Stored A))) (params : List (List ℤ)) (kids : List (List ℕ)) (k : ℕ) (n : Node A) → shown_nodes slots params kids k ≡ Some n → slots' ≡ change_slot f slots k → shown_nodes slots' params kids ≡ put (shown_nodes slots params kids) k (Some (g n))
+  pub nodes_changed : (f : Stored A → Stored A) (g : Node A → Node A) → ((p : List ℤ) (q : List ℕ) (s : Stored A) → node_of p q (f s) ≡ g (node_of p q s)) → (slots slots' : List (Option (Stored A))) (params : List (List ℤ)) (kids : List (List ℕ)) (k : ℕ) (n : Node A) → shown_nodes slots params kids k ≡ Some n → slots' ≡ change_slot f slots k → shown_nodes slots' params kids ≡ with_node (shown_nodes slots params kids) k (Some (g n))
   nodes_changed f g fits slots slots' params kids k n is changed =
       let s = stored_of slots params kids k n is in
       nodes_put k slots slots' params params kids kids (Some (g n)) (record {
@@ -177,7 +177,7 @@ module _ {A : Type 0} where
   param_count_le (n ∷ notes) = omega (arith, param_lists_le n.was, param_count_le notes)
 
   -- the children of one node changed
-  pub kids_changed : (slots : List (Option (Stored A))) (params : List (List ℤ)) (kids kids' : List (List ℕ)) (k : ℕ) (l : List ℕ) (n : Node A) → shown_nodes slots params kids k ≡ Some n → ComesTo k l kids kids' → shown_nodes slots params kids' ≡ put (shown_nodes slots params kids) k (Some (with_kids l n))
+  pub kids_changed : (slots : List (Option (Stored A))) (params : List (List ℤ)) (kids kids' : List (List ℕ)) (k : ℕ) (l : List ℕ) (n : Node A) → shown_nodes slots params kids k ≡ Some n → ComesTo k l kids kids' → shown_nodes slots params kids' ≡ with_node (shown_nodes slots params kids) k (Some (with_kids l n))
   kids_changed slots params kids kids' k l n is comes =
       let s = stored_of slots params kids k n is in
       nodes_put k slots slots params params kids kids' (Some (with_kids l n)) (record {
@@ -197,7 +197,7 @@ module _ {A : Type 0} where
       ap (λ y. seen_as y (row_at params k)) (same_Some x s.0.kind (was ∙ ap (option_map (λ (t : Stored A). t.kind)) s.1)) ∙ ap (λ (m : Node A). m.seen) s.2
 
   -- the symbol of one node changed
-  pub seen_changed : (slots slots' : List (Option (Stored A))) (params params' : List (List ℤ)) (kids : List (List ℕ)) (k : ℕ) (x : Kind) (l : List ℤ) (n : Node A) → shown_nodes slots params kids k ≡ Some n → slots' ≡ change_slot (kind_set x) slots k → ComesTo k l params params' → shown_nodes slots' params' kids ≡ put (shown_nodes slots params kids) k (Some (with_seen (seen_as x l) n))
+  pub seen_changed : (slots slots' : List (Option (Stored A))) (params params' : List (List ℤ)) (kids : List (List ℕ)) (k : ℕ) (x : Kind) (l : List ℤ) (n : Node A) → shown_nodes slots params kids k ≡ Some n → slots' ≡ change_slot (kind_set x) slots k → ComesTo k l params params' → shown_nodes slots' params' kids ≡ with_node (shown_nodes slots params kids) k (Some (with_seen (seen_as x l) n))
   seen_changed slots slots' params params' kids k x l n is changed comes =
       let s = stored_of slots params kids k n is in
       nodes_put k slots slots' params params' kids kids (Some (with_seen (seen_as x l) n)) (record {
@@ -209,12 +209,12 @@ module _ {A : Type 0} where
       ∙ ap (λ (m : Node A). Some (with_seen (seen_as x l) m)) s.2)
 
   -- a node was put where none was
-  pub node_put : (slots slots' : List (Option (Stored A))) (params params' : List (List ℤ)) (kids kids' : List (List ℕ)) (k : ℕ) (s : Stored A) (l : List ℤ) (q : List ℕ) → slot_at slots' k ≡ Some s → ((j : ℕ) → j ≢ k → slot_at slots' j ≡ slot_at slots j) → ComesTo k l params params' → ComesTo k q kids kids' → shown_nodes slots' params' kids' ≡ put (shown_nodes slots params kids) k (Some (node_of l q s))
+  pub node_put : (slots slots' : List (Option (Stored A))) (params params' : List (List ℤ)) (kids kids' : List (List ℕ)) (k : ℕ) (s : Stored A) (l : List ℤ) (q : List ℕ) → slot_at slots' k ≡ Some s → ((j : ℕ) → j ≢ k → slot_at slots' j ≡ slot_at slots j) → ComesTo k l params params' → ComesTo k q kids kids' → shown_nodes slots' params' kids' ≡ with_node (shown_nodes slots params kids) k (Some (node_of l q s))
   node_put slots slots' params params' kids kids' k s l q is others ps qs =
       nodes_put k slots slots' params params' kids kids' (Some (node_of l q s)) (record { slots_same = others; params_same = ps.others; kids_same = qs.others })
       (node_there slots' params' kids' k s l q is ps.here qs.here)
 
   -- where no change is told there is no note
-  pub told_none : (notes : List (Note A)) (params : List (List ℤ)) (kids : List (List ℕ)) → told notes params kids ≡ [] → length notes ≡ 0
+  pub told_none : (notes : List (Note A)) (params : List (List ℤ)) (kids : List (List ℕ)) → changes_told notes params kids ≡ [] → length notes ≡ 0
   told_none [] params kids e = refl
   told_none (n ∷ notes) params kids e = let l = ap length e in absurd (omega (arith, l))

@@ -6,10 +6,11 @@ use Rattle.lsys_forest.specs.Slots.{footing_at}
 use Rattle.lsys_forest.proofs.WalkLemmas.{get_In}
 use Rattle.std.proofs.lemmas.Bool.{cases_eq}
 use Rattle.std.proofs.lemmas.Option.{none-some, same_Some}
-use Rattle.lsys_forest.specs.Nodes.{Node, Nodes, put}
+use Rattle.lsys_spec.specs.Rows.{In}
+use Rattle.lsys_forest.specs.Nodes.{Node, Nodes, with_node}
 use Rattle.lsys_forest.specs.Changes.{OldKids, Change}
 use Rattle.lsys_forest.specs.Stocks.{looked}
-use Rattle.lsys_forest.specs.Groves.{In, ReachedIn, Reached, Named, IsSound}
+use Rattle.lsys_forest.specs.Groves.{ReachedIn, Reached, Named, IsRooted}
 use Rattle.lsys_forest.specs.Sweeps.{IsFast, IsSwept}
 use Rattle.lsys_forest.proofs.StockLemmas.{put_same, put_other}
 use Rattle.lsys_forest.proofs.SoundLemmas.{Named_more, Named_last}
@@ -37,7 +38,7 @@ module _ {A : Type 0} where
   ]
 
   -- a node that is not fast is not reached
-  unreached : (first : Nodes A) (root : ℕ) (before : List (Change A)) → IsSound root before first → (m : Nodes A) (changes : List (Change A)) (left : List ℕ) → IsSwept first root m changes left → (k : ℕ) (n : Node A) → k ≢ root → m k ≡ Some n → (IsFast m k n → ⊥) → Reached first root k → ⊥
+  unreached : (first : Nodes A) (root : ℕ) (before : List (Change A)) → IsRooted root before first → (m : Nodes A) (changes : List (Change A)) (left : List ℕ) → IsSwept first root m changes left → (k : ℕ) (n : Node A) → k ≢ root → m k ≡ Some n → (IsFast m k n → ⊥) → Reached first root k → ⊥
   unreached first root before sound m changes left swept k n other is apart r = by r.0 r.1
     where
       by : (d : ℕ) → ReachedIn first root d k → ⊥
@@ -54,10 +55,10 @@ module _ {A : Type 0} where
           })
 
   -- a loose node was removed, and its children noted
-  pub IsSwept-removes : (first : Nodes A) (root : ℕ) (before : List (Change A)) → IsSound root before first → (m m' : Nodes A) (changes changes' : List (Change A)) (k : ℕ) (n : Node A) (left : List ℕ) → k ≢ root → m k ≡ Some n → (IsFast m k n → ⊥) → m' ≡ put m k None → changes' ≡ changes ++ record { node = k; before = OldKids n.kids } ∷ [] → IsSwept first root m changes (k ∷ left) → IsSwept first root m' changes' left
+  pub IsSwept-removes : (first : Nodes A) (root : ℕ) (before : List (Change A)) → IsRooted root before first → (m m' : Nodes A) (changes changes' : List (Change A)) (k : ℕ) (n : Node A) (left : List ℕ) → k ≢ root → m k ≡ Some n → (IsFast m k n → ⊥) → m' ≡ with_node m k None → changes' ≡ changes ++ record { node = k; before = OldKids n.kids } ∷ [] → IsSwept first root m changes (k ∷ left) → IsSwept first root m' changes' left
   IsSwept-removes first root before sound m m' changes changes' k n left other is apart removed noted swept =
       let c : Change A = record { node = k; before = OldKids n.kids } in
-      let after = put m k None in
+      let after = with_node m k None in
       let done : IsSwept first root after (changes ++ c ∷ []) left = record {
         same = λ y. elim (cases_eq y k) [
           | inl e ↦ inr (put_same m k y None e, subst (λ (x : ℕ). Reached first root x → ⊥) (sym e) (unreached first root before sound m changes (k ∷ left) swept k n other is apart))
@@ -113,7 +114,7 @@ module _ {A : Type 0} where
   }
 
   -- at the start
-  pub IsSwept-start : (first : Nodes A) (root : ℕ) (changes : List (Change A)) → IsSound root changes first → IsSwept first root first changes []
+  pub IsSwept-start : (first : Nodes A) (root : ℕ) (changes : List (Change A)) → IsRooted root changes first → IsSwept first root first changes []
   IsSwept-start first root changes sound = record {
     same = λ k. inl refl;
     cover = λ k n is other. let h = sound.held k n is other in elim h.linked [
@@ -144,7 +145,7 @@ module _ {A : Type 0} where
   }
 
   -- a loose node was removed: it is no child of a node that is left
-  pub removed_ranked : (first : Nodes A) (root : ℕ) (before : List (Change A)) → IsSound root before first → (m m' : Nodes A) (changes : List (Change A)) (footings footings' : List Footing) (k : ℕ) (n : Node A) (left : List ℕ) → m k ≡ Some n → (IsFast m k n → ⊥) → m' ≡ put m k None → ((j : ℕ) → j ≢ k → footing_at footings' j ≡ footing_at footings j) → IsSwept first root m changes left → AreRanked m footings → AreRanked m' footings'
+  pub removed_ranked : (first : Nodes A) (root : ℕ) (before : List (Change A)) → IsRooted root before first → (m m' : Nodes A) (changes : List (Change A)) (footings footings' : List Footing) (k : ℕ) (n : Node A) (left : List ℕ) → m k ≡ Some n → (IsFast m k n → ⊥) → m' ≡ with_node m k None → ((j : ℕ) → j ≢ k → footing_at footings' j ≡ footing_at footings j) → IsSwept first root m changes left → AreRanked m footings → AreRanked m' footings'
   removed_ranked first root before sound m m' changes footings footings' k n left is apart removed same swept ranked = λ p o i y there here.
       let found = sym (ap (λ (f : Nodes A). f p) removed) ∙ there in
       elim (cases_eq p k) [
@@ -175,7 +176,7 @@ module _ {A : Type 0} where
     pub among : In k parent.kids
     pub depth : n.depth ≡ parent.depth + 1
 
-  below : (first : Nodes A) (root : ℕ) (changes : List (Change A)) → IsSound root changes first → (m : Nodes A) → IsSwept first root m [] [] → (k : ℕ) (n : Node A) → m k ≡ Some n → k ≢ root → IsBelow m k n
+  below : (first : Nodes A) (root : ℕ) (changes : List (Change A)) → IsRooted root changes first → (m : Nodes A) → IsSwept first root m [] [] → (k : ℕ) (n : Node A) → m k ≡ Some n → k ≢ root → IsBelow m k n
   below first root changes sound m swept k n is other =
       let linked = linked_at_end first root m swept k n is other in
       let h = sound.held k n (kept first root m [] [] swept k n is) other in
@@ -191,7 +192,7 @@ module _ {A : Type 0} where
   up first root m swept k n b r = (suc r.0, (n.parent, b.parent, r.1, kept first root m [] [] swept n.parent b.parent b.is, b.among))
 
   -- each node that is left at the end is reached
-  pub all_reached : (first : Nodes A) (root : ℕ) (changes : List (Change A)) → IsSound root changes first → (m : Nodes A) → IsSwept first root m [] [] → (d k : ℕ) (n : Node A) → m k ≡ Some n → n.depth ≡ d → Reached first root k
+  pub all_reached : (first : Nodes A) (root : ℕ) (changes : List (Change A)) → IsRooted root changes first → (m : Nodes A) → IsSwept first root m [] [] → (d k : ℕ) (n : Node A) → m k ≡ Some n → n.depth ≡ d → Reached first root k
   all_reached first root changes sound m swept zero k n is depth = elim (cases_eq k root) [
     | inl e ↦ (0, e)
     | inr ne ↦ let b = below first root changes sound m swept k n is ne in absurd (omega (arith, depth, b.depth))
@@ -210,7 +211,7 @@ module _ {A : Type 0} where
   left_stood first root m swept = kept first root m [] [] swept
 
   -- a forest is sound after a commit
-  pub IsSound-swept : (first : Nodes A) (root : ℕ) (changes : List (Change A)) → IsSound root changes first → (m : Nodes A) → IsSwept first root m [] [] → IsSound root [] m
+  pub IsSound-swept : (first : Nodes A) (root : ℕ) (changes : List (Change A)) → IsRooted root changes first → (m : Nodes A) → IsSwept first root m [] [] → IsRooted root [] m
   IsSound-swept first root changes sound m swept = record {
     few = λ k n is. sound.few k n (kept first root m [] [] swept k n is);
     root_lives = (sound.root_lives.0, stays first root m [] [] swept root (0, refl) ∙ sound.root_lives.1, sound.root_lives.2);

@@ -7,7 +7,7 @@ use Rattle.slab.specs.Slab.{Slab, get, Updates}
 use Rattle.lsys_forest.specs.declared.node.Stored.{Stored}
 use Rattle.lsys_forest.specs.declared.node.Footing.{Footing}
 use Rattle.lsys_forest.specs.declared.node.Entry.{Entry}
-use Rattle.lsys_forest.specs.Slots.{slot_at, live_slots, change_slot, change_run, no_footing, footing_at, change_footing, change_entry, run_before, run_after, node_in, param_run_in, kid_run_in, footing_in, node_set, params_set, kids_set, footing_set, table_of, Puts}
+use Rattle.lsys_forest.specs.Slots.{slot_at, live_slots, change_slot, change_run, no_footing, footing_at, change_footing, change_entry, run_before, run_after, node_in, param_run_in, kid_run_in, footing_in, node_set, params_set, kids_set, footing_set, table_of, PutsEntry}
 
 -- a part of what stands at a place
 pub part_at : {X Y : Type 0} (part : X → Y) (xs : List X) (k : ℕ) (d : X) → get_or (map part xs) k (part d) ≡ part (get_or xs k d)
@@ -162,7 +162,7 @@ module _ {A : Type 0} where
   live_is (Some e ∷ entries) = omega (arith, some_more e.node (map node_in entries), some_more e entries, live_is entries)
 
   -- an entry was put at a number
-  pub put_done : (s t : Slab (Entry A)) (k : ℕ) (e : Entry A) → Updates s t k (Some e) → Puts (table_of s) (table_of t) k e
+  pub put_done : (s t : Slab (Entry A)) (k : ℕ) (e : Entry A) → Updates s t k (Some e) → PutsEntry (table_of s) (table_of t) k e
   put_done s t k e up = record {
     slot = slot_is t k ∙ ap node_in up.changed;
     params = part_at param_run_in t.slots k None ∙ ap param_run_in up.changed;

@@ -6,17 +6,18 @@ use Rattle.std.proofs.lemmas.Option.{none-some, same_Some, slice_get-map, slice_
 use Rattle.lsys_spec.specs.Levels.{level_balanced, AreMates}
 use Rattle.lsys_spec.specs.Levels as L
 use Rattle.std.proofs.Common.{ℤ}
+use Rattle.lsys_spec.specs.Rows.{In, AreApart, first_in, mirrored}
 use Rattle.lsys_forest.specs.declared.node.Kind.{Kind}
 use Rattle.lsys_forest.specs.declared.node.Kind.TheVariants as kinds
 use Rattle.lsys_forest.specs.declared.walk.Way.{Way}
 use Rattle.lsys_forest.specs.Mates.{IsBracketThat, IsMateThat, seen_level, mate_way}
-use Rattle.lsys_level.specs.Spots.{Seen, Push, Pop, Spotted, IsBracket, IsBracketAt, IsMate, level_at, spotted_at, level_by, IsSpot}
+use Rattle.lsys_level.specs.Spots.{Seen, Push, Pop, Spotted, IsBracket, IsBracketAt, IsMate, spots_at, spotted_at, level_by, IsSpot}
 use Rattle.lsys_level.specs.Tags.{HasOwnTags}
 use Rattle.lsys_forest.specs.declared.walk.Way.TheVariants.{Left, Right}
 use Rattle.lsys_forest.specs.Nodes.{Nodes, Node, seen_as}
 use Rattle.lsys_forest.specs.Changes.{Change}
-use Rattle.lsys_forest.specs.Groves.{Grove, In, AreApart, now_of, changes_in, IsSound}
-use Rattle.lsys_forest.specs.Rows.{first_in, index_in, mirrored, oriented, complete_from, depth_in, spot_in, level_nodes, level_spots, complete_levels, level_of_node, place_of_node, AreBalancedTo, IsSpotAt}
+use Rattle.lsys_forest.specs.Groves.{Grove, now_of, changes_in, IsRooted}
+use Rattle.lsys_forest.specs.Rows.{index_in, oriented, complete_from, depth_in, spot_in, level_nodes, level_spots, complete_levels, level_of_node, place_of_node, AreBalancedTo, IsSpotAt}
 use Rattle.lsys_forest.proofs.RowLemmas.{get_split, In_right, In_split, index_of, index_within, level_depth, level_apart}
 use Rattle.lsys_forest.proofs.WalkLemmas.{long_around, mirrored_around, mirrored_push}
 
@@ -27,27 +28,27 @@ pub record IsTold (levels : ℕ → List Spotted) (t : ℕ) (told : List Spotted
   pub is : told ≡ levels t
   pub balanced : level_balanced 0 (level_by (λ tag. []) (levels t)) ≡ true
 
-complete_at : (levels : ℕ → List Spotted) (most n t : ℕ) → t < length (complete_from levels most n) → IsTold levels (n + t) (level_at (complete_from levels most n) t)
+complete_at : (levels : ℕ → List Spotted) (most n t : ℕ) → t < length (complete_from levels most n) → IsTold levels (n + t) (spots_at (complete_from levels most n) t)
 complete_at levels zero n t h = absurd (omega (arith, h))
 complete_at levels (suc most) n t h = go (level_balanced 0 (level_by (λ tag. []) (levels n))) refl t h (λ u l. complete_at levels most (suc n) u l)
   where
     list : Bool → List (List Spotted)
     list b = cond b (levels n ∷ complete_from levels most (suc n)) []
 
-    go : (b : Bool) → level_balanced 0 (level_by (λ tag. []) (levels n)) ≡ b → (t : ℕ) → t < length (list (level_balanced 0 (level_by (λ tag. []) (levels n)))) → ((u : ℕ) → u < length (complete_from levels most (suc n)) → IsTold levels (suc n + u) (level_at (complete_from levels most (suc n)) u)) → IsTold levels (n + t) (level_at (list (level_balanced 0 (level_by (λ tag. []) (levels n)))) t)
+    go : (b : Bool) → level_balanced 0 (level_by (λ tag. []) (levels n)) ≡ b → (t : ℕ) → t < length (list (level_balanced 0 (level_by (λ tag. []) (levels n)))) → ((u : ℕ) → u < length (complete_from levels most (suc n)) → IsTold levels (suc n + u) (spots_at (complete_from levels most (suc n)) u)) → IsTold levels (n + t) (spots_at (list (level_balanced 0 (level_by (λ tag. []) (levels n)))) t)
     go true e zero h rec =
         let same : n + 0 ≡ n = omega arith in
-        subst (λ b. IsTold levels (n + 0) (level_at (list b) 0)) (sym e) (subst (λ i. IsTold levels i (levels n)) (sym same) (record { is = refl; balanced = e }))
+        subst (λ b. IsTold levels (n + 0) (spots_at (list b) 0)) (sym e) (subst (λ i. IsTold levels i (levels n)) (sym same) (record { is = refl; balanced = e }))
     go true e (suc t) h rec =
         let within : t < length (complete_from levels most (suc n)) = let l = ap (λ b. length (list b)) e in omega (arith, h, l) in
         let same : n + suc t ≡ suc n + t = omega arith in
-        subst (λ b. IsTold levels (n + suc t) (level_at (list b) (suc t))) (sym e) (subst (λ i. IsTold levels i (level_at (complete_from levels most (suc n)) t)) (sym same) (rec t within))
+        subst (λ b. IsTold levels (n + suc t) (spots_at (list b) (suc t))) (sym e) (subst (λ i. IsTold levels i (spots_at (complete_from levels most (suc n)) t)) (sym same) (rec t within))
     go false e t h rec = let l = ap (λ b. length (list b)) e in absurd (omega (arith, h, l))
 
-told_by : (levels : ℕ → List Spotted) (most t : ℕ) → t < length (complete_from levels most 0) → IsTold levels t (level_at (complete_from levels most 0) t)
+told_by : (levels : ℕ → List Spotted) (most t : ℕ) → t < length (complete_from levels most 0) → IsTold levels t (spots_at (complete_from levels most 0) t)
 told_by levels most t h =
     let same : 0 + t ≡ t = omega arith in
-    subst (λ u. IsTold levels u (level_at (complete_from levels most 0) t)) same (complete_at levels most 0 t h)
+    subst (λ u. IsTold levels u (spots_at (complete_from levels most 0) t)) same (complete_at levels most 0 t h)
 
 balanced_told : (levels : ℕ → List Spotted) (most n t : ℕ) → ((u : ℕ) → u ≤ t → level_balanced 0 (level_by (λ tag. []) (levels (n + u))) ≡ true) → t < most → t < length (complete_from levels most n)
 balanced_told levels zero n t all h = absurd (omega (arith, h))
@@ -64,7 +65,7 @@ balanced_told levels (suc most) n (suc t) all h =
     )) (omega (arith, h)) in
     subst (λ b. suc t < length (cond b (levels n ∷ complete_from levels most (suc n)) [])) (sym e) (omega (arith, r))
 
-level_past : (levels : List (List Spotted)) (t : ℕ) → length levels ≤ t → level_at levels t ≡ []
+level_past : (levels : List (List Spotted)) (t : ℕ) → length levels ≤ t → spots_at levels t ≡ []
 level_past [] t h = refl
 level_past (x ∷ levels) zero h = absurd (omega (arith, h))
 level_past (x ∷ levels) (suc t) h = level_past levels t (omega (arith, h))
@@ -93,7 +94,7 @@ push_pop : Push ≡ Pop → ⊥
 push_pop e = cc
 
 module _ {A : Type 0} where
-  pub told : (f : Grove A) (t : ℕ) → t < length (complete_levels f) → IsTold (level_spots (now_of f) f.root) t (level_at (complete_levels f) t)
+  pub told : (f : Grove A) (t : ℕ) → t < length (complete_levels f) → IsTold (level_spots (now_of f) f.root) t (spots_at (complete_levels f) t)
   unfolding complete_levels
   told f t h = told_by (level_spots (now_of f) f.root) (2 ^ 32) t h
 
@@ -106,15 +107,15 @@ module _ {A : Type 0} where
     pub node : Node A
     pub is : now_of f k ≡ Some node
     pub depth : node.depth ≡ level_of_node f k + 1
-    pub told_is : IsTold (level_spots (now_of f) f.root) (level_of_node f k) (level_at (complete_levels f) (level_of_node f k))
+    pub told_is : IsTold (level_spots (now_of f) f.root) (level_of_node f k) (spots_at (complete_levels f) (level_of_node f k))
 
-  pub node_at : (f : Grove A) (changes : List (Change A)) (k : ℕ) → IsSound f.root changes (now_of f) → IsSpot (complete_levels f) (level_of_node f k) (place_of_node f k) → IsNodeAt f k
+  pub node_at : (f : Grove A) (changes : List (Change A)) (k : ℕ) → IsRooted f.root changes (now_of f) → IsSpot (complete_levels f) (level_of_node f k) (place_of_node f k) → IsNodeAt f k
   node_at f changes k sound spot =
       let t = level_of_node f k in
       let within = spot_told (complete_levels f) t (place_of_node f k) spot in
       let tells = told f t within in
       let L = level_nodes (now_of f) f.root t in
-      let long : length (level_at (complete_levels f) t) ≡ length L = ap length tells.is ∙ length-map L (λ i. spot_in i (now_of f i)) in
+      let long : length (spots_at (complete_levels f) t) ≡ length L = ap length tells.is ∙ length-map L (λ i. spot_in i (now_of f i)) in
       let among = index_within k L (subst (λ n. place_of_node f k < n) long spot) in
       let s = In_split k L among in
       let d = level_depth f.root changes (now_of f) sound t k among in
@@ -134,7 +135,7 @@ module _ {A : Type 0} where
     pub level : level_of_node f k ≡ t
     pub place : place_of_node f k ≡ length before
 
-  pub spot_of : (f : Grove A) (changes : List (Change A)) → IsSound f.root changes (now_of f) → (t k : ℕ) (before after : List ℕ) → level_nodes (now_of f) f.root t ≡ before ++ k ∷ after → IsSpotOf f t k before
+  pub spot_of : (f : Grove A) (changes : List (Change A)) → IsRooted f.root changes (now_of f) → (t k : ℕ) (before after : List ℕ) → level_nodes (now_of f) f.root t ≡ before ++ k ∷ after → IsSpotOf f t k before
   spot_of f changes sound t k before after whole =
       let d = level_depth f.root changes (now_of f) sound t k (subst (In k) (sym whole) (In_right k before (k ∷ after) (inl refl))) in
       let depth : depth_in (now_of f k) ≡ t + 1 = ap depth_in d.1 ∙ d.2 in
@@ -144,7 +145,7 @@ module _ {A : Type 0} where
         place = ap (λ u. index_in k (level_nodes (now_of f) f.root u)) level ∙ ap (index_in k) whole ∙ index_of k before after (subst AreApart whole (level_apart f.root changes (now_of f) sound t));
       }
 
-  long_level : (f : Grove A) (t : ℕ) → IsTold (level_spots (now_of f) f.root) t (level_at (complete_levels f) t) → length (level_at (complete_levels f) t) ≡ length (level_nodes (now_of f) f.root t)
+  long_level : (f : Grove A) (t : ℕ) → IsTold (level_spots (now_of f) f.root) t (spots_at (complete_levels f) t) → length (spots_at (complete_levels f) t) ≡ length (level_nodes (now_of f) f.root t)
   long_level f t tells = ap length tells.is ∙ length-map (level_nodes (now_of f) f.root t) (λ i. spot_in i (now_of f i))
 
   -- the levels are those of the nodes and the root
@@ -154,14 +155,14 @@ module _ {A : Type 0} where
 
   -- 2. the law of spots
 
-  pub told_is : (f : Grove A) (t : ℕ) → t < length (complete_levels f) → level_at (complete_levels f) t ≡ level_spots (now_of f) f.root t
+  pub told_is : (f : Grove A) (t : ℕ) → t < length (complete_levels f) → spots_at (complete_levels f) t ≡ level_spots (now_of f) f.root t
   told_is f t h = (told f t h).is
 
   pub are_told : (f : Grove A) (t : ℕ) → t < 2 ^ 32 → AreBalancedTo f t → t < length (complete_levels f)
   unfolding complete_levels
   are_told f t within all = balanced_told (level_spots (now_of f) f.root) (2 ^ 32) 0 t (λ u h. (let same : 0 + u ≡ u = omega arith in ap (λ i. level_balanced 0 (level_by (λ tag. []) (level_spots (now_of f) f.root i))) same ∙ all u h)) within
 
-  pub is_spot : (f : Grove A) (t k : ℕ) (before after : List ℕ) → IsSound f.root (changes_in f) (now_of f) → t < length (complete_levels f) → level_nodes (now_of f) f.root t ≡ before ++ k ∷ after → IsSpotAt f t (length before) k
+  pub is_spot : (f : Grove A) (t k : ℕ) (before after : List ℕ) → IsRooted f.root (changes_in f) (now_of f) → t < length (complete_levels f) → level_nodes (now_of f) f.root t ≡ before ++ k ∷ after → IsSpotAt f t (length before) k
   is_spot f t k before after sound h whole =
       let s = spot_of f (changes_in f) sound t k before after whole in
       let size = ap length whole in
@@ -169,14 +170,14 @@ module _ {A : Type 0} where
 
   -- 3. the calls
 
-  pub right_match : (f : Grove A) (changes : List (Change A)) (k : ℕ) (result : Option ℕ) → IsSound f.root changes (now_of f) → (at : IsNodeAt f k) → result ≡ first_in at.after → MatchOption result (place_of_node f k + 1 ≡ length (level_at (complete_levels f) (level_of_node f k))) (λ s. (level_of_node f s ≡ level_of_node f k) × (place_of_node f s ≡ place_of_node f k + 1) × (place_of_node f s < length (level_at (complete_levels f) (level_of_node f k))))
+  pub right_match : (f : Grove A) (changes : List (Change A)) (k : ℕ) (result : Option ℕ) → IsRooted f.root changes (now_of f) → (at : IsNodeAt f k) → result ≡ first_in at.after → MatchOption result (place_of_node f k + 1 ≡ length (spots_at (complete_levels f) (level_of_node f k))) (λ s. (level_of_node f s ≡ level_of_node f k) × (place_of_node f s ≡ place_of_node f k + 1) × (place_of_node f s < length (spots_at (complete_levels f) (level_of_node f k))))
   right_match f changes k result sound at is = go at.after at.level is
     where
       t : ℕ
       t = level_of_node f k
 
       Goal : Option ℕ → Type 0
-      Goal o = MatchOption o (place_of_node f k + 1 ≡ length (level_at (complete_levels f) t)) (λ s. (level_of_node f s ≡ t) × (place_of_node f s ≡ place_of_node f k + 1) × (place_of_node f s < length (level_at (complete_levels f) t)))
+      Goal o = MatchOption o (place_of_node f k + 1 ≡ length (spots_at (complete_levels f) t)) (λ s. (level_of_node f s ≡ t) × (place_of_node f s ≡ place_of_node f k + 1) × (place_of_node f s < length (spots_at (complete_levels f) t)))
 
       go : (after : List ℕ) → level_nodes (now_of f) f.root t ≡ at.before ++ k ∷ after → result ≡ first_in after → Goal result
       go [] whole e =
@@ -188,7 +189,7 @@ module _ {A : Type 0} where
           let size = ap length again in
           subst Goal (sym e) (s.level, omega (arith, s.place, at.place, length_push at.before k), omega (arith, s.place, long_level f t at.told_is, size, long_around (at.before ++ k ∷ []) y after))
 
-  pub left_match : (f : Grove A) (changes : List (Change A)) (k : ℕ) (result : Option ℕ) → IsSound f.root changes (now_of f) → (at : IsNodeAt f k) → result ≡ first_in (mirrored at.before) → MatchOption result (place_of_node f k ≡ 0) (λ s. (level_of_node f s ≡ level_of_node f k) × (place_of_node f s + 1 ≡ place_of_node f k))
+  pub left_match : (f : Grove A) (changes : List (Change A)) (k : ℕ) (result : Option ℕ) → IsRooted f.root changes (now_of f) → (at : IsNodeAt f k) → result ≡ first_in (mirrored at.before) → MatchOption result (place_of_node f k ≡ 0) (λ s. (level_of_node f s ≡ level_of_node f k) × (place_of_node f s + 1 ≡ place_of_node f k))
   left_match f changes k result sound at is = elim (last_split at.before) [
     | inl none ↦ (
         let gone : result ≡ None = is ∙ ap (λ (l : List ℕ). first_in (mirrored l)) none in
@@ -210,13 +211,13 @@ module _ {A : Type 0} where
       Goal : Option ℕ → Type 0
       Goal o = MatchOption o (place_of_node f k ≡ 0) (λ s. (level_of_node f s ≡ t) × (place_of_node f s + 1 ≡ place_of_node f k))
 
-  pub first_match : (f : Grove A) (changes : List (Change A)) (t : ℕ) (result : Option ℕ) → IsSound f.root changes (now_of f) → t < length (complete_levels f) → result ≡ first_in (level_nodes (now_of f) f.root t) → MatchOption result (length (level_at (complete_levels f) t) ≡ 0) (λ s. (level_of_node f s ≡ t) × (place_of_node f s ≡ 0) × (0 < length (level_at (complete_levels f) t)))
+  pub first_match : (f : Grove A) (changes : List (Change A)) (t : ℕ) (result : Option ℕ) → IsRooted f.root changes (now_of f) → t < length (complete_levels f) → result ≡ first_in (level_nodes (now_of f) f.root t) → MatchOption result (length (spots_at (complete_levels f) t) ≡ 0) (λ s. (level_of_node f s ≡ t) × (place_of_node f s ≡ 0) × (0 < length (spots_at (complete_levels f) t)))
   first_match f changes t result sound within is = go (level_nodes (now_of f) f.root t) refl is
     where
       Goal : Option ℕ → Type 0
-      Goal o = MatchOption o (length (level_at (complete_levels f) t) ≡ 0) (λ s. (level_of_node f s ≡ t) × (place_of_node f s ≡ 0) × (0 < length (level_at (complete_levels f) t)))
+      Goal o = MatchOption o (length (spots_at (complete_levels f) t) ≡ 0) (λ s. (level_of_node f s ≡ t) × (place_of_node f s ≡ 0) × (0 < length (spots_at (complete_levels f) t)))
 
-      long : length (level_at (complete_levels f) t) ≡ length (level_nodes (now_of f) f.root t)
+      long : length (spots_at (complete_levels f) t) ≡ length (level_nodes (now_of f) f.root t)
       long = long_level f t (told f t within)
 
       go : (L : List ℕ) → level_nodes (now_of f) f.root t ≡ L → result ≡ first_in L → Goal result
@@ -236,7 +237,7 @@ module _ {A : Type 0} where
       ∙ ap (λ (o : Option (Node A)). Some (spot_in k o)) at.is
 
   -- no tag stands twice
-  pub own_tags : (f : Grove A) (changes : List (Change A)) → IsSound f.root changes (now_of f) → HasOwnTags (complete_levels f)
+  pub own_tags : (f : Grove A) (changes : List (Change A)) → IsRooted f.root changes (now_of f) → HasOwnTags (complete_levels f)
   own_tags f changes sound = record {
     apart = λ t u p q a b here there same.
         let x = seen_at t p a here in
@@ -253,7 +254,7 @@ module _ {A : Type 0} where
 
       seen_at : (t p : ℕ) (a : Spotted) → spotted_at (complete_levels f) t p ≡ Some a → (k : ℕ) × (before : List ℕ) × (after : List ℕ) × ((level_nodes (now_of f) f.root t ≡ before ++ k ∷ after) × (p ≡ length before)) × (a.tag ≡ k)
       seen_at t p a e =
-          let tells = told f t (spot_told (complete_levels f) t p (slice_get_within (level_at (complete_levels f) t) p a e)) in
+          let tells = told f t (spot_told (complete_levels f) t p (slice_get_within (spots_at (complete_levels f) t) p a e)) in
           let L = level_nodes (now_of f) f.root t in
           go (slice_get L p) refl (sym (slice_get-map (λ i. spot_in i (now_of f i)) L p) ∙ ap (λ (x : List Spotted). slice_get x p) (sym tells.is) ∙ e)
         where
@@ -264,20 +265,20 @@ module _ {A : Type 0} where
               (k, s.before, s.after, (s.whole, sym s.long), ap (λ (x : Spotted). x.tag) (sym (same_Some (spot_in k (now_of f k)) a g)) ∙ tag_is k (now_of f k))
 
   -- the way of a bracket's mate
-  pub bracket_way : (f : Grove A) (k : ℕ) → (at : IsNodeAt f k) → (kind : Kind) (params : List ℤ) → at.node.seen ≡ seen_as kind params → IsBracketAt (level_at (complete_levels f) (level_of_node f k)) (place_of_node f k) → IsBracketThat (mate_way kind) (Some at.node)
+  pub bracket_way : (f : Grove A) (k : ℕ) → (at : IsNodeAt f k) → (kind : Kind) (params : List ℤ) → at.node.seen ≡ seen_as kind params → IsBracketAt (spots_at (complete_levels f) (level_of_node f k)) (place_of_node f k) → IsBracketThat (mate_way kind) (Some at.node)
   bracket_way f k at kinds.Push params seen b = seen
   bracket_way f k at kinds.Pop params seen b = seen
   bracket_way f k at (kinds.Module name) params seen b =
       let same : b.bracket ≡ spot_in k (Some at.node) = same_Some b.bracket (spot_in k (Some at.node)) (sym b.is ∙ spotted_is f k at) in
       absurd (subst IsBracket (ap (λ (s : Spotted). s.seen) same ∙ seen) b.kind)
 
-  pub mate_level : (f : Grove A) (changes : List (Change A)) (way : Way) (k mate : ℕ) → IsSound f.root changes (now_of f) → IsMateThat way (now_of f) (level_nodes (now_of f) f.root (level_of_node f k)) k mate → level_of_node f mate ≡ level_of_node f k
+  pub mate_level : (f : Grove A) (changes : List (Change A)) (way : Way) (k mate : ℕ) → IsRooted f.root changes (now_of f) → IsMateThat way (now_of f) (level_nodes (now_of f) f.root (level_of_node f k)) k mate → level_of_node f mate ≡ level_of_node f k
   mate_level f changes way k mate sound mates = (spot_of f changes sound (level_of_node f k) mate mates.before mates.after mates.whole).level
 
-  seen_there : (f : Grove A) (k : ℕ) → (at : IsNodeAt f k) → (seen : Seen) → option_map (λ (s : Spotted). s.seen) (slice_get (level_at (complete_levels f) (level_of_node f k)) (place_of_node f k)) ≡ Some seen → at.node.seen ≡ seen
+  seen_there : (f : Grove A) (k : ℕ) → (at : IsNodeAt f k) → (seen : Seen) → option_map (λ (s : Spotted). s.seen) (slice_get (spots_at (complete_levels f) (level_of_node f k)) (place_of_node f k)) ≡ Some seen → at.node.seen ≡ seen
   seen_there f k at seen e = same_Some at.node.seen seen (sym (ap (option_map (λ (s : Spotted). s.seen)) (spotted_is f k at)) ∙ e)
 
-  pub mate_told : (f : Grove A) (changes : List (Change A)) (way : Way) (k mate : ℕ) → IsSound f.root changes (now_of f) → (at : IsNodeAt f k) → IsBracketThat way (Some at.node) → IsMateThat way (now_of f) (level_nodes (now_of f) f.root (level_of_node f k)) k mate → IsMate (level_at (complete_levels f) (level_of_node f k)) (place_of_node f k) (place_of_node f mate)
+  pub mate_told : (f : Grove A) (changes : List (Change A)) (way : Way) (k mate : ℕ) → IsRooted f.root changes (now_of f) → (at : IsNodeAt f k) → IsBracketThat way (Some at.node) → IsMateThat way (now_of f) (level_nodes (now_of f) f.root (level_of_node f k)) k mate → IsMate (spots_at (complete_levels f) (level_of_node f k)) (place_of_node f k) (place_of_node f mate)
   mate_told f changes way k mate sound at bracket mates =
       let s = spot_of f changes sound t mate mates.before mates.after mates.whole in
       let size = ap length mates.whole in
@@ -296,17 +297,17 @@ module _ {A : Type 0} where
       place : place_of_node f mate ≡ index_in mate level
       place = ap (λ u. index_in mate (level_nodes (now_of f) f.root u)) (mate_level f changes way k mate sound mates)
 
-      told_as : (naming : ℕ → List ℕ) → level_by naming (level_at (complete_levels f) t) ≡ seen_level naming (now_of f) level
+      told_as : (naming : ℕ → List ℕ) → level_by naming (spots_at (complete_levels f) t) ≡ seen_level naming (now_of f) level
       told_as naming = ap (level_by naming) at.told_is.is
 
-      ends : (w : Way) → (w ≡ Right → (index_in k level < index_in mate level) × ((naming : ℕ → List ℕ) → AreMates (seen_level naming (now_of f) level) (index_in k level) (index_in mate level))) → IsBracketThat w (Some at.node) → at.node.seen ≡ Push → (place_of_node f k < place_of_node f mate) × ((naming : ℕ → List ℕ) → AreMates (level_by naming (level_at (complete_levels f) t)) (place_of_node f k) (place_of_node f mate))
+      ends : (w : Way) → (w ≡ Right → (index_in k level < index_in mate level) × ((naming : ℕ → List ℕ) → AreMates (seen_level naming (now_of f) level) (index_in k level) (index_in mate level))) → IsBracketThat w (Some at.node) → at.node.seen ≡ Push → (place_of_node f k < place_of_node f mate) × ((naming : ℕ → List ℕ) → AreMates (level_by naming (spots_at (complete_levels f) t)) (place_of_node f k) (place_of_node f mate))
       ends Left m b e = absurd (push_pop (sym e ∙ b))
       ends Right m b e =
           let r = m refl in
-          (subst (λ q. place_of_node f k < q) (sym place) r.0, λ naming. subst (λ q. AreMates (level_by naming (level_at (complete_levels f) t)) (place_of_node f k) q) (sym place) (subst (λ (x : List L.Symbol). AreMates x (place_of_node f k) (index_in mate level)) (sym (told_as naming)) (r.1 naming)))
+          (subst (λ q. place_of_node f k < q) (sym place) r.0, λ naming. subst (λ q. AreMates (level_by naming (spots_at (complete_levels f) t)) (place_of_node f k) q) (sym place) (subst (λ (x : List L.LevelSymbol). AreMates x (place_of_node f k) (index_in mate level)) (sym (told_as naming)) (r.1 naming)))
 
-      begins : (w : Way) → (w ≡ Left → (index_in mate level < index_in k level) × ((naming : ℕ → List ℕ) → AreMates (seen_level naming (now_of f) level) (index_in mate level) (index_in k level))) → IsBracketThat w (Some at.node) → at.node.seen ≡ Pop → (place_of_node f mate < place_of_node f k) × ((naming : ℕ → List ℕ) → AreMates (level_by naming (level_at (complete_levels f) t)) (place_of_node f mate) (place_of_node f k))
+      begins : (w : Way) → (w ≡ Left → (index_in mate level < index_in k level) × ((naming : ℕ → List ℕ) → AreMates (seen_level naming (now_of f) level) (index_in mate level) (index_in k level))) → IsBracketThat w (Some at.node) → at.node.seen ≡ Pop → (place_of_node f mate < place_of_node f k) × ((naming : ℕ → List ℕ) → AreMates (level_by naming (spots_at (complete_levels f) t)) (place_of_node f mate) (place_of_node f k))
       begins Right m b e = absurd (push_pop (sym b ∙ e))
       begins Left m b e =
           let r = m refl in
-          (subst (λ q. q < place_of_node f k) (sym place) r.0, λ naming. subst (λ q. AreMates (level_by naming (level_at (complete_levels f) t)) q (place_of_node f k)) (sym place) (subst (λ (x : List L.Symbol). AreMates x (index_in mate level) (place_of_node f k)) (sym (told_as naming)) (r.1 naming)))
+          (subst (λ q. q < place_of_node f k) (sym place) r.0, λ naming. subst (λ q. AreMates (level_by naming (spots_at (complete_levels f) t)) q (place_of_node f k)) (sym place) (subst (λ (x : List L.LevelSymbol). AreMates x (index_in mate level) (place_of_node f k)) (sym (told_as naming)) (r.1 naming)))

@@ -6,14 +6,15 @@ use Rattle.lsys_forest.specs.declared.walk.Way.{Way}
 use Rattle.lsys_forest.specs.declared.walk.Way.TheVariants as ways
 use Rattle.lsys_forest.specs.Nodes.{Node, Nodes}
 use Rattle.lsys_forest.specs.Changes.{Change}
-use Rattle.lsys_forest.specs.Groves.{In, AreApart, IsSound}
+use Rattle.lsys_forest.specs.Groves.{IsRooted}
 use Rattle.lsys_forest.specs.declared.node.Footing.{Footing}
 use Rattle.lsys_forest.specs.Slots.{rank_at}
 use Rattle.lsys_forest.specs.Ranks.{AreRanked}
-use Rattle.lsys_forest.specs.Rows.{first_in, last_in, index_in, oriented, mirrored, flat, kids_in, kids_that_way, kids_below, level_nodes}
+use Rattle.lsys_forest.specs.Rows.{index_in, oriented, kids_in, kids_that_way, kids_below, level_nodes}
 use Rattle.lsys_forest.proofs.RowLemmas.{In_right, In_split, same_sides, index_of, oriented_In, oriented_In_back, oriented_apart, oriented_flat, flat_around, child, level_apart, level_depth, parent_level, parent_root}
 use Rattle.std.specs.Prelude.{IsSome, IfSome, option_map}
 use Rattle.std.proofs.Common.{ℤ}
+use Rattle.lsys_spec.specs.Rows.{In, AreApart, first_in, last_in, mirrored, flat}
 use Rattle.lsys_forest.specs.declared.node.Stored.{Stored}
 use Rattle.lsys_forest.specs.Stocks.{row_at, node_of}
 use Rattle.lsys_forest.proofs.StockLemmas.{shown_nodes, lives_stored}
@@ -183,7 +184,7 @@ module _ {A : Type 0} where
     pub kids : kids_that_way way m p ≡ left ++ node ∷ right
     pub behind : (b a : List ℕ) → oriented way (level_nodes m root (suc t)) ≡ b ++ node ∷ a → a ≡ right ++ flat (kids_that_way way m) after
 
-  pub amid : (way : Way) (root : ℕ) (changes : List (Change A)) (m : Nodes A) → IsSound root changes m → (t k : ℕ) (n : Node A) → In k (level_nodes m root (suc t)) → m k ≡ Some n → IsAmid way m root t n.parent k
+  pub amid : (way : Way) (root : ℕ) (changes : List (Change A)) (m : Nodes A) → IsRooted root changes m → (t k : ℕ) (n : Node A) → In k (level_nodes m root (suc t)) → m k ≡ Some n → IsAmid way m root t n.parent k
   amid way root changes m sound t k n h is =
       let up = parent_level root changes m sound t k n h is in
       let s = In_split n.parent (oriented way (level_nodes m root t)) (oriented_In way n.parent (level_nodes m root t) up.0) in
@@ -217,7 +218,7 @@ module _ {A : Type 0} where
     rest = λ b a whole. am.behind b a whole ∙ ap (λ (l : List ℕ). l ++ flat (kids_that_way way m) am.after) (no_first am.right none);
   }
 
-  pub below_start : (way : Way) (root : ℕ) (changes : List (Change A)) (m : Nodes A) → IsSound root changes m → (t : ℕ) (start : Option ℕ) → IfSome start (λ k. In k (level_nodes m root t)) → IsAlong (Below way m root t start) way m root t start
+  pub below_start : (way : Way) (root : ℕ) (changes : List (Change A)) (m : Nodes A) → IsRooted root changes m → (t : ℕ) (start : Option ℕ) → IfSome start (λ k. In k (level_nodes m root t)) → IsAlong (Below way m root t start) way m root t start
   below_start way root changes m sound t None among = record {
     passed = oriented way (level_nodes m root t);
     ahead = [];
@@ -277,19 +278,19 @@ module _ {A : Type 0} where
     pub found : (q kid : ℕ) → (at : IsThere Left way m root t q) → Some kid ≡ first_in (kids_that_way way m q) → Some kid ≡ first_in (kids_that_way way m q ++ flat (kids_that_way way m) at.ahead)
     found q kid at e = sym (first_append (kids_that_way way m q) (flat (kids_that_way way m) at.ahead) kid (sym e))
 
-    pub walk_less : (changes : List (Change A)) → IsSound root changes m → (q : ℕ) (next : Option ℕ) → (at : IsThere Left way m root t q) → next ≡ first_in at.ahead → left_from (oriented way (level_nodes m root t)) next < left_from (oriented way (level_nodes m root t)) (Some q)
+    pub walk_less : (changes : List (Change A)) → IsRooted root changes m → (q : ℕ) (next : Option ℕ) → (at : IsThere Left way m root t q) → next ≡ first_in at.ahead → left_from (oriented way (level_nodes m root t)) next < left_from (oriented way (level_nodes m root t)) (Some q)
     walk_less changes sound q next at is = left_on (oriented way (level_nodes m root t)) (oriented_apart way (level_nodes m root t) (level_apart root changes m sound t)) at.passed q at.ahead next at.whole is
 
   -- a node of a level is among the children of its parent
-  pub level_parent : (root : ℕ) (changes : List (Change A)) (m : Nodes A) → IsSound root changes m → (t k : ℕ) (n : Node A) → In k (level_nodes m root t) → m k ≡ Some n → In k (kids_in (m n.parent))
+  pub level_parent : (root : ℕ) (changes : List (Change A)) (m : Nodes A) → IsRooted root changes m → (t k : ℕ) (n : Node A) → In k (level_nodes m root t) → m k ≡ Some n → In k (kids_in (m n.parent))
   level_parent root changes m sound zero k n h is = subst (λ j. In k (kids_in (m j))) (sym (parent_root root changes m sound k n h is)) h
   level_parent root changes m sound (suc t) k n h is = (parent_level root changes m sound t k n h is).1
 
   -- a node that has children lives
-  pub kids_live : (root : ℕ) (changes : List (Change A)) (m : Nodes A) → IsSound root changes m → (p k : ℕ) → In k (kids_in (m p)) → IsSome (m p)
+  pub kids_live : (root : ℕ) (changes : List (Change A)) (m : Nodes A) → IsRooted root changes m → (p k : ℕ) → In k (kids_in (m p)) → IsSome (m p)
   kids_live root changes m sound p k h = let c = child root changes m sound p k h in subst IsSome (sym c.above_is) refl
 
-  pub level_live : (root : ℕ) (changes : List (Change A)) (m : Nodes A) → IsSound root changes m → (t k : ℕ) → In k (level_nodes m root t) → IsSome (m k)
+  pub level_live : (root : ℕ) (changes : List (Change A)) (m : Nodes A) → IsRooted root changes m → (t k : ℕ) → In k (level_nodes m root t) → IsSome (m k)
   level_live root changes m sound t k h = let n = level_depth root changes m sound t k h in subst IsSome (sym n.1) refl
 
   pub rows_are : (slots : List (Option (Stored A))) (params : List (List ℤ)) (kids : List (List ℕ)) (k : ℕ) → IsSome (shown_nodes slots params kids k) → row_at kids k ≡ kids_in (shown_nodes slots params kids k)
@@ -298,7 +299,7 @@ module _ {A : Type 0} where
       sym (ap (λ (o : Option (Stored A)). kids_in (option_map (node_of (row_at params k) (row_at kids k)) o)) s.1)
 
   -- the next child of the same parent comes next on the level
-  pub next_on : (way : Way) (root : ℕ) (changes : List (Change A)) (m : Nodes A) → IsSound root changes m → (t k : ℕ) (n : Node A) (next : ℕ) → In k (level_nodes m root t) → m k ≡ Some n → ((b a : List ℕ) → oriented way (kids_in (m n.parent)) ≡ b ++ k ∷ a → Some next ≡ first_in a) → (b a : List ℕ) → oriented way (level_nodes m root t) ≡ b ++ k ∷ a → Some next ≡ first_in a
+  pub next_on : (way : Way) (root : ℕ) (changes : List (Change A)) (m : Nodes A) → IsRooted root changes m → (t k : ℕ) (n : Node A) (next : ℕ) → In k (level_nodes m root t) → m k ≡ Some n → ((b a : List ℕ) → oriented way (kids_in (m n.parent)) ≡ b ++ k ∷ a → Some next ≡ first_in a) → (b a : List ℕ) → oriented way (level_nodes m root t) ≡ b ++ k ∷ a → Some next ≡ first_in a
   next_on way root changes m sound zero k n next h is e b a whole = e b a (ap (λ j. oriented way (kids_in (m j))) (parent_root root changes m sound k n h is) ∙ whole)
   next_on way root changes m sound (suc t) k n next h is e b a whole =
       let am = amid way root changes m sound t k n h is in

@@ -1,24 +1,24 @@
 -- The changes of nodes since the last rest.
 use Rattle.std.specs.Prelude.{ℕ, List, [], ◌∷◌, Option, None}
 use Rattle.lsys_level.specs.Spots.{Seen}
-use Rattle.lsys_forest.specs.Nodes.{Nodes, put, change, with_seen, with_key, with_kids, with_answer}
+use Rattle.lsys_forest.specs.Nodes.{Nodes, with_node, change, with_seen, with_key, with_kids, with_answer}
 
 -- what stood at a node before a change
-pub data Before (A : Type 0) : Type 0 where
-  Missing : Before A
-  OldSeen : Seen → Before A
-  OldKey : ℕ → Before A
-  OldKids : List ℕ → Before A
-  OldAnswer : Option A → Before A
+pub data Previous (A : Type 0) : Type 0 where
+  Missing : Previous A
+  OldSeen : Seen → Previous A
+  OldKey : ℕ → Previous A
+  OldKids : List ℕ → Previous A
+  OldAnswer : Option A → Previous A
 
 -- a change of one node
 pub record Change (A : Type 0) : Type 0 where
   pub node : ℕ
-  pub before : Before A
+  pub before : Previous A
 
 module _ {A : Type 0} where
-  abbrev pub undo_before : Before A → ℕ → Nodes A → Nodes A
-  undo_before Missing k m = put m k None
+  abbrev pub undo_before : Previous A → ℕ → Nodes A → Nodes A
+  undo_before Missing k m = with_node m k None
   undo_before (OldSeen x) k m = change (with_seen x) m k
   undo_before (OldKey x) k m = change (with_key x) m k
   undo_before (OldKids x) k m = change (with_kids x) m k
@@ -33,6 +33,6 @@ module _ {A : Type 0} where
   undone (c ∷ changes) m = undo c (undone changes m)
 
   -- the change was not one of children
-  abbrev pub KeepsKids : Before A → Type 0
+  abbrev pub KeepsKids : Previous A → Type 0
   KeepsKids (OldKids x) = ⊥
   KeepsKids b = Unit {0}

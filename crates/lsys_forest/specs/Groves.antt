@@ -1,10 +1,11 @@
 -- What a contract sees of a forest.
 use Rattle.std.specs.Prelude.{◌≡◌, ◌≢◌, ◌⊎◌, ◌+◌, ◌<◌, ◌≤◌, ◌^◌, ℕ, zero, suc, List, [], ◌∷◌, ◌++◌, length, Option, Some, IsSome}
+use Rattle.lsys_spec.specs.Rows.{In, AreApart}
 use Rattle.lsys_level.specs.Spots.{Seen, Push, Pop, Module}
 use Rattle.lsys_forest.specs.Slots.{live_slots}
-use Rattle.lsys_forest.specs.Nodes.{Node, Nodes, put, new_node}
+use Rattle.lsys_forest.specs.Nodes.{Node, Nodes, with_node, new_node}
 use Rattle.lsys_forest.specs.Changes.{Change, OldAnswer, undone}
-use Rattle.lsys_forest.specs.Answers.{Keeper, answers, kept_by, FreesAllBut}
+use Rattle.lsys_forest.specs.Answers.{AnswerKeeper, answers, kept_by, FreesAllBut}
 use Rattle.lsys_forest.specs.Stocks.{Stock, nodes_of, changes_of, looked}
 
 -- A forest: its nodes, and what they were before each change since the last rest; its root; and how many nodes and changes
@@ -14,16 +15,6 @@ pub record Grove (A : Type 0) : Type 0 where
   pub root : ℕ
   pub spare_nodes : ℕ
   pub spare_notes : ℕ
-
--- the number is among these
-abbrev pub In : ℕ → List ℕ → Type 0
-In k [] = ⊥
-In k (x ∷ xs) = (k ≡ x) ⊎ In k xs
-
--- no number stands twice
-abbrev pub AreApart : List ℕ → Type 0
-AreApart [] = Unit {0}
-AreApart (x ∷ xs) = (In x xs → ⊥) × AreApart xs
 
 -- a module has at most eight parameters
 abbrev pub HasFew : Seen → Type 0
@@ -65,7 +56,7 @@ module _ {A : Type 0} where
   spare_kids f = f.stock.kid_room
 
   -- the answers that nodes keep, or kept at any time since the last rest
-  abbrev pub kept_in : Grove A → Keeper → Option A
+  abbrev pub kept_in : Grove A → AnswerKeeper → Option A
   kept_in f = answers (now_of f) (changes_in f)
 
   -- a live node with this parent, which is not the root
@@ -95,21 +86,21 @@ module _ {A : Type 0} where
   Named (c ∷ changes) x = In x (looked c) ⊎ Named changes x
 
   -- the parent lives, one level above; and the node is among its children, or a commit looks at it
-  pub record IsHeld (m : Nodes A) (changes : List (Change A)) (x : ℕ) (node : Node A) : Type 0 where
+  pub record HangsOnParent (m : Nodes A) (changes : List (Change A)) (x : ℕ) (node : Node A) : Type 0 where
     pub parent : Node A
     pub is : m node.parent ≡ Some parent
     pub depth : node.depth ≡ parent.depth + 1
     pub linked : In x parent.kids ⊎ Named changes x
 
-  pub record IsSound (root : ℕ) (changes : List (Change A)) (m : Nodes A) : Type 0 where
+  pub record IsRooted (root : ℕ) (changes : List (Change A)) (m : Nodes A) : Type 0 where
     pub root_lives : (r : Node A) × (m root ≡ Some r) × (r.depth ≡ 0)
-    pub held : (x : ℕ) (n : Node A) → m x ≡ Some n → x ≢ root → IsHeld m changes x n
+    pub held : (x : ℕ) (n : Node A) → m x ≡ Some n → x ≢ root → HangsOnParent m changes x n
     pub own : (p : ℕ) (n : Node A) → m p ≡ Some n → AreKids m root p n.kids
     pub few : (k : ℕ) (n : Node A) → m k ≡ Some n → HasFew n.seen
 
   -- the nodes hang together, as they are and as they were before each of the changes
   abbrev pub AreSound : ℕ → List (Change A) → Nodes A → Type 0
-  AreSound root changes m = (earlier later : List (Change A)) → changes ≡ earlier ++ later → IsSound root earlier (undone later m)
+  AreSound root changes m = (earlier later : List (Change A)) → changes ≡ earlier ++ later → IsRooted root earlier (undone later m)
 
   -- the nodes hang together, as they are and as they were, and there is room, with numbers for the nodes
   pub record IsGrove (stock : Stock A) (root spare_nodes spare_notes : ℕ) : Type 0 where
@@ -121,7 +112,7 @@ module _ {A : Type 0} where
 
   -- one node became this one, and nothing else changed; the last rest stays
   pub record Sets (old new : Grove A) (k : ℕ) (node : Node A) : Type 0 where
-    pub now : now_of new ≡ put (now_of old) k (Some node)
+    pub now : now_of new ≡ with_node (now_of old) k (Some node)
     pub rest : rest_of new ≡ rest_of old
     pub root : new.root ≡ old.root
 

@@ -4,13 +4,13 @@ use Rattle.lsys_module.specs.declared.symbol.Symbol.{Symbol}
 use Rattle.lsys_level.specs.Places.{seen_in, params_in}
 use Rattle.lsys_region.specs.Rooms.{list_room}
 use Rattle.lsys_forest.specs.Nodes.{Node, new_node, with_seen, with_key, with_kids, with_answer}
-use Rattle.lsys_forest.specs.Changes.{Before, Missing, OldSeen, OldKey, OldKids, OldAnswer}
+use Rattle.lsys_forest.specs.Changes.{Previous, Missing, OldSeen, OldKey, OldKids, OldAnswer}
 use Rattle.lsys_forest.specs.Stocks.{Stock, nodes_of, Journals}
 
 module _ {A : Type 0} where
   -- The node that lives at a number became what this makes of it, and a note tells what it was.
   -- The rooms for lists fell by no more than this.
-  abbrev pub JournalsChange : Stock A → Stock A → ℕ → (Node A → Node A) → (Node A → Before A)
+  abbrev pub JournalsChange : Stock A → Stock A → ℕ → (Node A → Node A) → (Node A → Previous A)
       → ℕ → ℕ → Type 0
   JournalsChange old new k become before params kids =
       (n : Node A) → nodes_of old k ≡ Some n

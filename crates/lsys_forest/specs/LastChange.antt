@@ -3,12 +3,12 @@ use Rattle.std.specs.Prelude.{◌≡◌, ℕ, List, [], ◌∷◌, ◌++◌, Opt
 use Rattle.lsys_forest.specs.declared.note.Look.{Look}
 use Rattle.lsys_forest.specs.Nodes.{Node}
 use Rattle.lsys_forest.specs.Changes.{Change}
-use Rattle.lsys_forest.specs.Answers.{Keeper, old_answer, answers, IsMade, Releases, Follows}
+use Rattle.lsys_forest.specs.Answers.{AnswerKeeper, old_answer, answers, Lives, Releases, FreesUnheld}
 use Rattle.lsys_forest.specs.Stocks.{Stock, nodes_of, changes_of, dropped, Undoes, TakesUp, Removes}
 
 module _ {A : Type 0} where
   -- the answers that the nodes of a stock keep, and those that they kept before a change
-  abbrev pub answers_in : Stock A → Keeper → Option A
+  abbrev pub answers_in : Stock A → AnswerKeeper → Option A
   answers_in t = answers (nodes_of t) (changes_of t)
 
   -- this holds of the last change, if there is one
@@ -25,7 +25,7 @@ module _ {A : Type 0} where
     -- the answer that is kept no more once the last change is undone was made with this store
     abbrev pub UndoDropsMade : Stock A → Store → Type 0
     UndoDropsMade t store =
-        ForLastChange t (λ c. IsMade run_at holds store (dropped c (nodes_of t)))
+        ForLastChange t (λ c. Lives run_at holds store (dropped c (nodes_of t)))
 
     -- a change was undone, and the answer that is kept no more was released
     abbrev pub GoesBack : Stock A → Stock A → Store → Store → Type 0
@@ -47,4 +47,4 @@ module _ {A : Type 0} where
     -- of the runs that the answers of a stock hold, a store lost those that are held no more
     abbrev pub StoreFollows : Stock A → Store → Stock A → Store → Type 0
     StoreFollows old before new after =
-        Follows run_at holds (answers_in old) before (answers_in new) after
+        FreesUnheld run_at holds (answers_in old) before (answers_in new) after

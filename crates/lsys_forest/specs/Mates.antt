@@ -38,7 +38,7 @@ module _ {A : Type 0} where
   IsBracketThat Left (Some n) = n.seen ≡ Pop
 
   -- these nodes as a level, whatever the lineages are
-  abbrev pub seen_level : (ℕ → List ℕ) → Nodes A → List ℕ → List L.Symbol
+  abbrev pub seen_level : (ℕ → List ℕ) → Nodes A → List ℕ → List L.LevelSymbol
   seen_level naming m xs = level_by naming (map (λ k. spot_in k (m k)) xs)
 
   -- the second node is the mate of the first, that way

@@ -1,12 +1,13 @@
 -- What comes next on a level of nodes, and what comes first below it.
 use Rattle.std.specs.Prelude.{◌≡◌, ◌-◌, ◌<◌, ℕ, true, List, [], ◌∷◌, ◌++◌, Option, Some, slice_get}
+use Rattle.lsys_spec.specs.Rows.{first_in, last_in, flat}
 use Rattle.lsys_spec.specs.Levels.{level_balanced}
 use Rattle.lsys_level.specs.Spots.{level_by}
 use Rattle.lsys_forest.specs.declared.walk.Way.{Way}
 use Rattle.lsys_forest.specs.Nodes.{Nodes}
 use Rattle.lsys_forest.specs.Stocks.{Stock, nodes_of}
 use Rattle.lsys_forest.specs.Groves.{Grove, now_of}
-use Rattle.lsys_forest.specs.Rows.{first_in, last_in, index_in, oriented, flat, kids_in, kids_that_way, kids_below, level_nodes, level_spots, level_with}
+use Rattle.lsys_forest.specs.Rows.{index_in, oriented, kids_in, kids_that_way, kids_below, level_nodes, level_spots, level_with}
 
 -- this comes next to a number in a row, if something does
 abbrev pub IsNextIn : List ℕ → ℕ → Option ℕ → Type 0

@@ -33,12 +33,12 @@ Nodes A = ℕ → Option (Node A)
 
 module _ {A : Type 0} where
   -- something else stands at a number
-  abbrev pub put : Nodes A → ℕ → Option (Node A) → Nodes A
-  put m k v = λ j. cond (nat_eq j k) v (m j)
+  abbrev pub with_node : Nodes A → ℕ → Option (Node A) → Nodes A
+  with_node m k v = λ j. cond (nat_eq j k) v (m j)
 
   -- the node at a number is another one, if it lives
   abbrev pub change : (Node A → Node A) → Nodes A → ℕ → Nodes A
-  change f m k = put m k (option_map f (m k))
+  change f m k = with_node m k (option_map f (m k))
 
   abbrev pub with_seen : Seen → Node A → Node A
   with_seen x n = record n { seen = x }

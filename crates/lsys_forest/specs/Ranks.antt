@@ -1,12 +1,12 @@
 -- Where nodes stand among the children of their parents, and on their levels.
 use Rattle.std.specs.Prelude.{◌≡◌, ◌≢◌, ◌⊎◌, ◌<◌, ℕ, List, ◌∷◌, ◌++◌, Option, Some, None, IsSome, slice_get}
+use Rattle.lsys_spec.specs.Rows.{first_in, mirrored, In, AreApart}
 use Rattle.lsys_forest.specs.declared.node.Footing.{Footing}
 use Rattle.lsys_forest.specs.declared.walk.Way.{Way}
 use Rattle.lsys_forest.specs.declared.walk.Way.TheVariants.{Left, Right}
 use Rattle.lsys_forest.specs.Slots.{footing_at, rank_at, link_at}
 use Rattle.lsys_forest.specs.Nodes.{Node, Nodes}
-use Rattle.lsys_forest.specs.Rows.{first_in, mirrored, oriented, level_nodes}
-use Rattle.lsys_forest.specs.Groves.{In, AreApart}
+use Rattle.lsys_forest.specs.Rows.{oriented, level_nodes}
 use Rattle.lsys_forest.specs.Stocks.{Stock, nodes_of}
 
 -- each node of a row is linked to its neighbours there

@@ -1,5 +1,6 @@
 -- The levels of a forest.
-use Rattle.std.specs.Prelude.{◌≡◌, ◌≤◌, ℕ, zero, suc, ◌-◌, ◌^◌, true, cond, nat_eq, List, [], ◌∷◌, ◌++◌, map, Option, Some, None}
+use Rattle.std.specs.Prelude.{◌≡◌, ◌≤◌, ℕ, zero, suc, ◌-◌, ◌^◌, true, cond, nat_eq, List, [], ◌∷◌, map, Option, Some, None}
+use Rattle.lsys_spec.specs.Rows.{mirrored, flat}
 use Rattle.lsys_spec.specs.Levels.{level_balanced}
 use Rattle.lsys_level.specs.Spots.{Push, Spotted, IsSpot, level_by}
 use Rattle.lsys_forest.specs.declared.walk.Way.{Way}
@@ -7,36 +8,15 @@ use Rattle.lsys_forest.specs.declared.walk.Way.TheVariants.{Left, Right}
 use Rattle.lsys_forest.specs.Nodes.{Node, Nodes}
 use Rattle.lsys_forest.specs.Groves.{Grove, now_of}
 
--- the first of these, if there is one
-abbrev pub first_in : List ℕ → Option ℕ
-first_in [] = None
-first_in (x ∷ xs) = Some x
-
--- the last of these, if there is one
-abbrev pub last_in : List ℕ → Option ℕ
-last_in [] = None
-last_in (x ∷ []) = Some x
-last_in (x ∷ y ∷ xs) = last_in (y ∷ xs)
-
 -- at which place the number stands first; how many there are, where it is not among them
 abbrev pub index_in : ℕ → List ℕ → ℕ
 index_in k [] = 0
 index_in k (x ∷ xs) = cond (nat_eq k x) 0 (suc (index_in k xs))
 
--- these from the last to the first
-abbrev pub mirrored : List ℕ → List ℕ
-mirrored [] = []
-mirrored (x ∷ xs) = mirrored xs ++ x ∷ []
-
 -- these, as they come from the left or from the right
 abbrev pub oriented : Way → List ℕ → List ℕ
 oriented Right xs = xs
 oriented Left xs = mirrored xs
-
--- the lists of these, one behind the other
-abbrev pub flat : (ℕ → List ℕ) → List ℕ → List ℕ
-flat f [] = []
-flat f (x ∷ xs) = f x ++ flat f xs
 
 -- Of lists of symbols, one for each number: those from number t on, so many at most, up to the first that is not balanced.
 abbrev pub complete_from : (ℕ → List Spotted) → ℕ → ℕ → List (List Spotted)

@@ -133,7 +133,7 @@ module _ {A : Type 0} where
   footing_set f e = record e { footing = f e.footing }
 
   -- an entry was put at a number, and all others stay
-  pub record Puts (old new : SlotTable A) (k : ℕ) (e : Entry A) : Type 0 where
+  pub record PutsEntry (old new : SlotTable A) (k : ℕ) (e : Entry A) : Type 0 where
     pub slot : slot_at new.slots k ≡ Some e.node
     pub params : run_at new.param_runs k ≡ e.params
     pub kids : run_at new.kid_runs k ≡ e.kids
@@ -143,7 +143,7 @@ module _ {A : Type 0} where
     pub other_footings : (j : ℕ) → j ≢ k → footing_at new.footings j ≡ footing_at old.footings j
 
   -- this entry stands at a number, if there is one
-  pub record StandsAt (t : SlotTable A) (k : ℕ) (e : Option (Entry A)) : Type 0 where
+  pub record HasEntryAt (t : SlotTable A) (k : ℕ) (e : Option (Entry A)) : Type 0 where
     pub slot : node_in e ≡ slot_at t.slots k
     pub params : param_run_in e ≡ run_at t.param_runs k
     pub kids : kid_run_in e ≡ run_at t.kid_runs k

@@ -6,14 +6,14 @@ use Rattle.lsys_forest.specs.declared.node.Footing.{Footing}
 use Rattle.lsys_forest.specs.declared.note.Note.{Note}
 use Rattle.lsys_forest.specs.declared.note.Was.{Was}
 use Rattle.lsys_forest.specs.declared.note.Was.TheVariants as was
-use Rattle.lsys_forest.specs.Shelves.{Shelf, Hoard, shown, IsOwner}
+use Rattle.lsys_forest.specs.Shelves.{Shelf, Hoard, run_list, IsOwner}
 use Rattle.lsys_forest.specs.declared.note.Look.{Look}
 use Rattle.lsys_forest.specs.declared.note.Look.TheVariants as look
 use Rattle.lsys_forest.specs.Slots.{SlotTable, slot_at, no_footing, footing_at, live_slots, change_slot, kind_set, key_set, answer_set, answer_before}
-use Rattle.lsys_forest.specs.Nodes.{Node, Nodes, put, seen_as}
+use Rattle.lsys_forest.specs.Nodes.{Node, Nodes, with_node, seen_as}
 use Rattle.lsys_forest.specs.Answers.{answer_of}
 use Rattle.std.specs.Option.{option_and_then}
-use Rattle.lsys_forest.specs.Changes.{Before, Missing, OldSeen, OldKey, OldKids, OldAnswer, Change, undo}
+use Rattle.lsys_forest.specs.Changes.{Previous, Missing, OldSeen, OldKey, OldKids, OldAnswer, Change, undo}
 
 -- Nodes without parameters and children, these beside them by number, and where they stand; notes without lists, these in turn; the
 -- list in hand; and how much room there is for nodes, for notes, and for lists.
@@ -62,7 +62,7 @@ abbrev pub Restores : {X T : Type 0} → Option X → ℕ → Shelf T → Shelf 
 Restores {T = T} there k old new = (before : List (List T)) (list : List T) → old.past ≡ before ++ list ∷ [] → ComesTo k (where_some there list) old.current new.current × (new ≡ record old { current = new.current; past = before })
 
 -- this list came to a number where none was
-pub record Adds {T : Type 0} (k : ℕ) (list : List T) (old new : Shelf T) : Type 0 where
+pub record Inserts {T : Type 0} (k : ℕ) (list : List T) (old new : Shelf T) : Type 0 where
   pub comes : ComesTo k list old.current new.current
   pub rest : new ≡ record old { current = new.current; spare = new.spare }
   pub spare : old.spare ≤ new.spare + list_room list
@@ -99,7 +99,7 @@ module _ {A : Type 0} where
   abbrev pub nodes_of : Stock A → Nodes A
   nodes_of t = λ k. option_map (node_of (row_at t.params k) (row_at t.kids k)) (slot_at t.slots k)
 
-  abbrev pub before_of : Was A → List ℤ → List ℕ → Before A
+  abbrev pub before_of : Was A → List ℤ → List ℕ → Previous A
   before_of was.Missing params kids = Missing
   before_of (was.Kind x) params kids = OldSeen (seen_as x params)
   before_of (was.Key x) params kids = OldKey x
@@ -116,13 +116,13 @@ module _ {A : Type 0} where
   kids_left w kids = kids
 
   -- the changes that the notes tell, which take the lists in turn
-  abbrev pub told : List (Note A) → List (List ℤ) → List (List ℕ) → List (Change A)
-  told [] params kids = []
-  told (n ∷ notes) params kids = record { node = n.node; before = before_of n.was (first_of params) (first_of kids) } ∷ told notes (params_left n.was params) (kids_left n.was kids)
+  abbrev pub changes_told : List (Note A) → List (List ℤ) → List (List ℕ) → List (Change A)
+  changes_told [] params kids = []
+  changes_told (n ∷ notes) params kids = record { node = n.node; before = before_of n.was (first_of params) (first_of kids) } ∷ changes_told notes (params_left n.was params) (kids_left n.was kids)
 
   -- the changes
   abbrev pub changes_of : Stock A → List (Change A)
-  changes_of t = told t.notes t.past_params t.past_kids
+  changes_of t = changes_told t.notes t.past_params t.past_kids
 
   abbrev pub param_lists : Was A → ℕ
   param_lists (was.Kind x) = 1
@@ -150,13 +150,13 @@ module _ {A : Type 0} where
   abbrev pub stock_of : SlotTable A → Hoard ℤ → Hoard ℕ → List (Note A) → ℕ → Stock A
   stock_of t p q notes places = record {
     slots = t.slots;
-    params = map (shown p.pool) t.param_runs;
-    kids = map (shown q.pool) t.kid_runs;
+    params = map (run_list p.pool) t.param_runs;
+    kids = map (run_list q.pool) t.kid_runs;
     footings = t.footings;
     notes = notes;
-    past_params = map (shown p.pool) p.past;
-    past_kids = map (shown q.pool) q.past;
-    hand = shown q.pool q.hand;
+    past_params = map (run_list p.pool) p.past;
+    past_kids = map (run_list q.pool) q.past;
+    hand = run_list q.pool q.hand;
     capacity = t.capacity;
     places = min places (min p.past_places q.past_places);
     param_room = p.pool.spare;
@@ -164,10 +164,10 @@ module _ {A : Type 0} where
   }
 
   -- each list of a node and each past one stands in a run of its own, and each note has its list
-  pub record AreParts (t : SlotTable A) (p : Hoard ℤ) (q : Hoard ℕ) (notes : List (Note A)) : Type 0 where
+  pub record AreStockParts (t : SlotTable A) (p : Hoard ℤ) (q : Hoard ℕ) (notes : List (Note A)) : Type 0 where
     pub params : IsOwner p t.param_runs
     pub kids : IsOwner q t.kid_runs
-    pub stock : IsStock notes (map (shown p.pool) p.past) (map (shown q.pool) q.past)
+    pub stock : IsStock notes (map (run_list p.pool) p.past) (map (run_list q.pool) q.past)
 
   -- each of these nodes stands among others as it stood
   abbrev pub KeepsFootings : Nodes A → Stock A → Stock A → Type 0
@@ -175,8 +175,8 @@ module _ {A : Type 0} where
 
   -- The node at a number became this one, or is no more, and a note tells what it was before; so many nodes more live, and
   -- the rooms for lists fell by no more than this.
-  pub record Journals (old new : Stock A) (k : ℕ) (v : Option (Node A)) (before : Before A) (born params kids : ℕ) : Type 0 where
-    pub nodes : nodes_of new ≡ put (nodes_of old) k v
+  pub record Journals (old new : Stock A) (k : ℕ) (v : Option (Node A)) (before : Previous A) (born params kids : ℕ) : Type 0 where
+    pub nodes : nodes_of new ≡ with_node (nodes_of old) k v
     pub noted : changes_of new ≡ changes_of old ++ record { node = k; before = before } ∷ []
     pub notes : length new.notes ≡ length old.notes + 1
     pub live : live_slots new.slots ≡ live_slots old.slots + born
@@ -195,7 +195,7 @@ module _ {A : Type 0} where
     pub kid_room : old.kid_room ≤ new.kid_room
 
   -- the answer that is kept no more when the change is undone
-  abbrev pub dropped_before : Before A → Option (Node A) → Option A
+  abbrev pub dropped_before : Previous A → Option (Node A) → Option A
   dropped_before Missing n = option_and_then answer_of n
   dropped_before (OldSeen x) n = None
   dropped_before (OldKey x) n = None
@@ -207,7 +207,7 @@ module _ {A : Type 0} where
   dropped c m = dropped_before c.before (m c.node)
 
   -- the children that a commit has to look at, since they may be reached no more
-  abbrev pub looked_before : Before A → ℕ → List ℕ
+  abbrev pub looked_before : Previous A → ℕ → List ℕ
   looked_before Missing k = k ∷ []
   looked_before (OldSeen x) k = []
   looked_before (OldKey x) k = []
@@ -273,10 +273,10 @@ module _ {A : Type 0} where
   noted_answer w = None
 
   -- the nodes that a note names, where these are in hand
-  abbrev pub named : Was A → ℕ → List ℕ → List ℕ
-  named was.Missing k hand = k ∷ []
-  named was.Kids k hand = hand
-  named w k hand = []
+  abbrev pub nodes_named : Was A → ℕ → List ℕ → List ℕ
+  nodes_named was.Missing k hand = k ∷ []
+  nodes_named was.Kids k hand = hand
+  nodes_named w k hand = []
 
   -- after the last change was undone
   pub record Undoes (old new : Stock A) (last : Change A) : Type 0 where
@@ -294,7 +294,7 @@ module _ {A : Type 0} where
 
   -- after a node was removed, whose children a commit has to look at
   pub record Removes (old new : Stock A) (k : ℕ) (n : Node A) : Type 0 where
-    pub nodes : nodes_of new ≡ put (nodes_of old) k None
+    pub nodes : nodes_of new ≡ with_node (nodes_of old) k None
     pub noted : changes_of new ≡ changes_of old ++ record { node = k; before = OldKids n.kids } ∷ []
     pub notes : length new.notes ≡ length old.notes + 1
     pub live : live_slots new.slots + 1 ≡ live_slots old.slots

@@ -1,12 +1,13 @@
 -- How the nodes that are reached no more are removed.
 use Rattle.std.specs.Prelude.{◌≡◌, ◌≢◌, ◌⊎◌, ◌+◌, ◌≤◌, ℕ, Bool, false, IsTrue, List, [], ◌∷◌, length, Some, None, IsSome}
+use Rattle.lsys_spec.specs.Rows.{In}
 use Rattle.lsys_forest.specs.declared.node.Footing.{Footing}
 use Rattle.lsys_forest.specs.Slots.{footing_at, live_slots}
 use Rattle.lsys_forest.specs.Nodes.{Node, Nodes}
 use Rattle.lsys_forest.specs.Changes.{Change}
 use Rattle.lsys_forest.specs.Stocks.{Stock, nodes_of, changes_of, KeepsRoom}
 use Rattle.lsys_forest.specs.Ranks.{AreRanked}
-use Rattle.lsys_forest.specs.Groves.{In, Reached, Named, IsSound}
+use Rattle.lsys_forest.specs.Groves.{Reached, Named, IsRooted}
 
 module _ {A : Type 0} where
   -- the node is fast: its parent lives, and has it among its children
@@ -30,13 +31,13 @@ module _ {A : Type 0} where
 
   -- the nodes in `left` were looked at, whatever the forest was first
   abbrev pub SweepsLeft : ℕ → Stock A → Stock A → List ℕ → Type 0
-  SweepsLeft root old new left = (first : Nodes A) (before : List (Change A)) (stood : List Footing) → IsSound root before first → IsSweptOf first stood root old left → IsSweptOf first stood root new []
+  SweepsLeft root old new left = (first : Nodes A) (before : List (Change A)) (stood : List Footing) → IsRooted root before first → IsSweptOf first stood root old left → IsSweptOf first stood root new []
 
   -- one node was looked at, whatever the forest was first
   abbrev pub SweepsOne : ℕ → Stock A → Stock A → ℕ → Type 0
   SweepsOne root old new k =
       (left : List ℕ) (first : Nodes A) (before : List (Change A)) (stood : List Footing)
-      → IsSound root before first
+      → IsRooted root before first
       → IsSweptOf first stood root old (k ∷ left) → IsSweptOf first stood root new left
 
   -- the node is not fast, if the answer is yes

@@ -8,11 +8,11 @@ ghost use Rattle.lsys_forest.specs.Nodes.{Node, root_node, with_seen, with_key, 
 ghost use Rattle.lsys_forest.specs.Slots.{live_slots};
 ghost use Rattle.lsys_forest.specs.Changes.{undone};
 ghost use Rattle.lsys_forest.specs.Stocks.{nodes_of, changes_of, KeepsRoom};
-ghost use Rattle.lsys_forest.specs.Answers.{AreMade};
+ghost use Rattle.lsys_forest.specs.Answers.{LiveApart};
 ghost use Rattle.lsys_forest.specs.Rows.{oriented, complete_levels, level_of_node, place_of_node, IsAtSpot, level_with};
 ghost use Rattle.lsys_forest.specs.Mates.{mate_way};
 ghost use Rattle.lsys_forest.specs.Ranks.{AreRanked, AreLinked};
-ghost use Rattle.lsys_forest.specs.Groves.{now_of, rest_of, IsAtRest, IsLive, live_nodes, numbers_in, spare_params, spare_kids, kept_in, changes_in, IsSound, AreSound, Reached, AreKids, Spends, KeepsSpares, Alters, AddsNode, NotesAnswer, KeepsReached, FreesAllBesides};
+ghost use Rattle.lsys_forest.specs.Groves.{now_of, rest_of, IsAtRest, IsLive, live_nodes, numbers_in, spare_params, spare_kids, kept_in, changes_in, IsRooted, AreSound, Reached, AreKids, Spends, KeepsSpares, Alters, AddsNode, NotesAnswer, KeepsReached, FreesAllBesides};
 ghost use Rattle.lsys_forest.specs.LastChange.{answers_in, StaysUnchanged, UndoDropsMade, GoesBack, StoreFollows};
 ghost use Rattle.lsys_forest.specs.Neighbours.{IsNextIn, IsChildFrom, IsFirstBelow, IsLastBelow};
 
@@ -222,7 +222,7 @@ impl<A: Kept> Forest<A> {
     /// The root. A forest is sound: its nodes hang together under the root, and did so at any time since the last rest.
     pub fn root(&self) -> NodeId
         ensures root { result ≡ self.now.root }
-        ensures sound { IsSound self.now.root (changes_in self.now) (now_of self.now) }
+        ensures sound { IsRooted self.now.root (changes_in self.now) (now_of self.now) }
         ensures always { AreSound self.now.root (changes_in self.now) (now_of self.now) }
     {
         self.root
@@ -261,7 +261,7 @@ impl<A: Kept> Forest<A> {
         requires { IsLive self.now node }
         ensures kids { (n : Node A) → now_of self.now node ≡ Some n → result.now ≡ n.kids }
         ensures under { AreKids (now_of self.now) self.now.root node result.now }
-        ensures sound { IsSound self.now.root (changes_in self.now) (now_of self.now) }
+        ensures sound { IsRooted self.now.root (changes_in self.now) (now_of self.now) }
     {
         self.parts.kids(node)
     }
@@ -307,13 +307,13 @@ impl<A: Kept> Forest<A> {
     /// Gives back the forest of the last rest, node for node, and gives back the runs of the answers that were set since.
     /// It takes no memory.
     pub fn rollback(&mut self, store: &mut A::Store)
-        requires made { AreMade A.run_at A.Holds store.old (kept_in self.old) }
+        requires made { LiveApart A.run_at A.Holds store.old (kept_in self.old) }
         ensures now { now_of self.new ≡ rest_of self.old }
         ensures rest { IsAtRest self.new }
         ensures root { self.new.root ≡ self.old.root }
         ensures spares { Spends self.old self.new 0 0 0 0 }
         ensures store { FreesAllBesides A.run_at A.Holds self.old (rest_of self.old) store.old store.new }
-        ensures still { AreMade A.run_at A.Holds store.new (kept_in self.new) }
+        ensures still { LiveApart A.run_at A.Holds store.new (kept_in self.new) }
     {
         undo_all(&mut self.parts, self.root, &mut self.linked, store);
     }
@@ -321,14 +321,14 @@ impl<A: Kept> Forest<A> {
     /// Keeps the forest as it is, as a rest: the nodes that are reached from the root stay node for node, and all others
     /// are given back, with the runs of all answers that are kept no more. It takes no memory.
     pub fn commit(&mut self, store: &mut A::Store)
-        requires made { AreMade A.run_at A.Holds store.old (kept_in self.old) }
+        requires made { LiveApart A.run_at A.Holds store.old (kept_in self.old) }
         ensures stay { KeepsReached self.old self.new }
         ensures only { (k : ℕ) → IsLive self.new k → Reached (now_of self.old) self.old.root k }
         ensures rest { IsAtRest self.new }
         ensures root { self.new.root ≡ self.old.root }
         ensures spares { Spends self.old self.new 0 0 0 0 }
         ensures store { FreesAllBesides A.run_at A.Holds self.old (now_of self.new) store.old store.new }
-        ensures still { AreMade A.run_at A.Holds store.new (kept_in self.new) }
+        ensures still { LiveApart A.run_at A.Holds store.new (kept_in self.new) }
     {
         sweep_all(&mut self.parts, self.root, store);
     }
@@ -365,7 +365,7 @@ impl<A: Kept> Forest<A> {
     fn beside(&self, spot: NodeId, way: Way) -> Option<NodeId>
         requires { IsAtSpot self.now spot }
         ensures beside { IsNextIn (oriented way (level_with self.now spot)) spot result }
-        ensures sound { IsSound self.now.root (changes_in self.now) (now_of self.now) }
+        ensures sound { IsRooted self.now.root (changes_in self.now) (now_of self.now) }
     {
         beside(
             &self.parts,
@@ -491,7 +491,7 @@ fn undo_all<A: Kept>(parts: &mut Parts<A>, root: NodeId, linked: &mut u32, store
     requires sound { AreSound root (changes_of parts.old) (nodes_of parts.old) }
     requires ranked { AreRanked (nodes_of parts.old) parts.old.footings }
     requires linked { AreLinked (nodes_of parts.old) root parts.old.footings linked.old }
-    requires made { AreMade A.run_at A.Holds store.old (answers_in parts.old) }
+    requires made { LiveApart A.run_at A.Holds store.old (answers_in parts.old) }
     ensures nodes { nodes_of parts.new ≡ undone (changes_of parts.old) (nodes_of parts.old) }
     ensures empty { changes_of parts.new ≡ [] }
     ensures short { length parts.new.notes ≡ 0 }
@@ -499,7 +499,7 @@ fn undo_all<A: Kept>(parts: &mut Parts<A>, root: NodeId, linked: &mut u32, store
     ensures room { KeepsRoom parts.old parts.new }
     ensures ranked { AreRanked (nodes_of parts.new) parts.new.footings }
     ensures linked { AreLinked (nodes_of parts.new) root parts.new.footings linked.new }
-    ensures made { AreMade A.run_at A.Holds store.new (answers_in parts.new) }
+    ensures made { LiveApart A.run_at A.Holds store.new (answers_in parts.new) }
     ensures freed { StoreFollows A.run_at A.Holds parts.old store.old parts.new store.new }
 {
     while undo_one(parts, root, linked, store) {}

@@ -1,6 +1,6 @@
 //! What a forest keeps at its nodes.
 ghost use Rattle.std.specs.Prelude.{◌≡◌, Option, IsSome, None};
-ghost use Rattle.lsys_forest.specs.Answers.{IsMade, Releases};
+ghost use Rattle.lsys_forest.specs.Answers.{Lives, Releases};
 
 /// An answer that a node keeps. It holds runs of a store, and gives them back when it is kept no more.
 pub trait Kept: Drop {
@@ -27,7 +27,7 @@ pub trait Kept: Drop {
 
 /// Releases an answer, if there is one.
 pub(crate) fn release_one<A: Kept>(answer: Option<A>, store: &mut A::Store)
-    requires { IsMade A.run_at A.Holds store.old answer }
+    requires { Lives A.run_at A.Holds store.old answer }
     ensures { Releases A.run_at A.Holds answer store.old store.new }
 {
     if let Some(kept) = answer {

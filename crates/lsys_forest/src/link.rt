@@ -1,9 +1,10 @@
 //! Links of the nodes of a level.
 ghost use Rattle.std.specs.Prelude.{◌≡◌, ◌+◌, ◌-◌, ◌<◌, Some};
+ghost use Rattle.lsys_spec.specs.Rows.{first_in};
 ghost use Rattle.lsys_forest.specs.Stocks.{nodes_of, changes_of};
-ghost use Rattle.lsys_forest.specs.Groves.{IsSound};
+ghost use Rattle.lsys_forest.specs.Groves.{IsRooted};
 ghost use Rattle.lsys_forest.specs.Ranks.{AreRanked, AreLinked};
-ghost use Rattle.lsys_forest.specs.Rows.{first_in, level_nodes};
+ghost use Rattle.lsys_forest.specs.Rows.{level_nodes};
 
 use crate::kept::Kept;
 use crate::node::NodeId;
@@ -18,7 +19,7 @@ pub(crate) fn link_levels<A: Kept>(
     linked: u32,
     levels: u32,
 ) -> u32
-    requires sound { IsSound root (changes_of parts.old) (nodes_of parts.old) }
+    requires sound { IsRooted root (changes_of parts.old) (nodes_of parts.old) }
     requires ranked { AreRanked (nodes_of parts.old) parts.old.footings }
     requires linked { AreLinked (nodes_of parts.old) root parts.old.footings linked }
     ensures same { parts.new ≡ record parts.old { footings = parts.new.footings } }
@@ -39,7 +40,7 @@ pub(crate) fn link_levels<A: Kept>(
 
 /// Links the first level, where none is linked yet, and answers how many are linked then.
 fn link_first<A: Kept>(parts: &mut Parts<A>, root: NodeId, linked: u32) -> u32
-    requires sound { IsSound root (changes_of parts.old) (nodes_of parts.old) }
+    requires sound { IsRooted root (changes_of parts.old) (nodes_of parts.old) }
     requires ranked { AreRanked (nodes_of parts.old) parts.old.footings }
     requires linked { AreLinked (nodes_of parts.old) root parts.old.footings linked }
     ensures same { parts.new ≡ record parts.old { footings = parts.new.footings } }
@@ -62,7 +63,7 @@ fn link_level<A: Kept>(
     first: NodeId,
     level: u32,
 ) -> Option<NodeId>
-    requires sound { IsSound root (changes_of parts.old) (nodes_of parts.old) }
+    requires sound { IsRooted root (changes_of parts.old) (nodes_of parts.old) }
     requires ranked { AreRanked (nodes_of parts.old) parts.old.footings }
     requires linked { AreLinked (nodes_of parts.old) root parts.old.footings level }
     requires below { 0 < level }

@@ -1,8 +1,8 @@
 //! Lists in one region, whose runs are held here and at nodes.
 ghost use Rattle.std.specs.Prelude.{◌≡◌, ◌+◌, ◌<◌, ◌≤◌, ◌++◌, ◌∷◌, [], ℕ, length, List, Some, IfSome, IfNone, Option, OnOk};
-ghost use Rattle.lsys_region.specs.Pool.{list_of, IsLive};
+ghost use Rattle.lsys_region.specs.Pool.{list_of, IsLiveRun};
 ghost use Rattle.lsys_region.specs.Rooms.{list_room};
-ghost use Rattle.lsys_forest.specs.Shelves.{shown, IsOwner, IsPlaced, IsFreed, OnShelf, KeepsPastAndHand, PutsBehindPast};
+ghost use Rattle.lsys_forest.specs.Shelves.{run_list, IsOwner, IsListPlaced, IsFreed, OnShelf, KeepsPastAndHand, PutsBehindPast};
 ghost use Rattle.lsys_forest.specs.Stocks.{DropsLast, TakesLastUp, PutsDown};
 
 use lsys_region::{Region, Run};
@@ -68,7 +68,7 @@ impl<T: Copy> Lists<T> {
 
     /// The list of a live run.
     pub(crate) fn read(&self, run: &Run) -> &[T]
-        requires { IsLive self.now.pool run.now }
+        requires { IsLiveRun self.now.pool run.now }
         ensures { list_of self.now.pool run.now ≡ Some result.now }
     {
         self.region.read(run)
@@ -76,8 +76,8 @@ impl<T: Copy> Lists<T> {
 
     /// The list in hand.
     pub(crate) fn in_hand(&self) -> &[T]
-        requires { IsLive self.now.pool self.now.hand }
-        ensures { result.now ≡ shown self.now.pool self.now.hand }
+        requires { IsLiveRun self.now.pool self.now.hand }
+        ensures { result.now ≡ run_list self.now.pool self.now.hand }
     {
         self.region.read(&self.hand)
     }
@@ -85,7 +85,7 @@ impl<T: Copy> Lists<T> {
     /// Places a list in a new run. It takes no memory.
     pub(crate) fn place(&mut self, list: &[T]) -> Run
         requires { list_room list.now ≤ self.old.pool.spare }
-        ensures placed { IsPlaced self.old.pool self.new.pool result list.now }
+        ensures placed { IsListPlaced self.old.pool self.new.pool result list.now }
         ensures kept { self.new ≡ record self.old { pool = self.new.pool } }
         ensures spare { self.old.pool.spare ≤ self.new.pool.spare + list_room list.now }
     {
@@ -94,7 +94,7 @@ impl<T: Copy> Lists<T> {
 
     /// Frees a live run. It takes no memory.
     pub(crate) fn free(&mut self, run: Run)
-        requires { IsLive self.old.pool run }
+        requires { IsLiveRun self.old.pool run }
         ensures freed { IsFreed self.old.pool self.new.pool run }
         ensures kept { self.new ≡ record self.old { pool = self.new.pool } }
         ensures spare { self.new.pool.spare ≡ self.old.pool.spare }

@@ -1,11 +1,11 @@
 //! The lists that nodes have: their runs stand at the nodes.
 ghost use Rattle.std.specs.Prelude.{◌≡◌, ◌≢◌, ◌+◌, ◌<◌, ◌≤◌, ◌^◌, ℕ, [], length, IsSome, None, Some, slice_get, slice_set};
+ghost use Rattle.lsys_spec.specs.Rows.{In, AreApart};
 ghost use Rattle.lsys_region.specs.Rooms.{list_room};
 ghost use Rattle.lsys_forest.specs.Shelves.{IsOwner};
 ghost use Rattle.lsys_forest.specs.Slots.{slot_at, rank_at, no_footing, live_slots};
-ghost use Rattle.lsys_forest.specs.Answers.{IsMade, Releases};
-ghost use Rattle.lsys_forest.specs.Stocks.{Adds, Swaps, Clears};
-ghost use Rattle.lsys_forest.specs.Groves.{In, AreApart};
+ghost use Rattle.lsys_forest.specs.Answers.{Lives, Releases};
+ghost use Rattle.lsys_forest.specs.Stocks.{Inserts, Swaps, Clears};
 ghost use Rattle.lsys_forest.specs.Ranks.{Joins, LinksRow, KeepsOtherRanks, KeepsLinks, IsApartFrom};
 ghost use Rattle.lsys_forest.specs.NodeLists.{OnParams, OnKids, RestoresAt, kept_answer};
 ghost use Rattle.lsys_forest.specs.SlotChanges.{KeepsOtherFootings};
@@ -103,8 +103,8 @@ pub(crate) fn insert<A: Drop>(
     ensures capacity { table.new.capacity ≡ table.old.capacity }
     ensures params { IsOwner params.new table.new.param_runs }
     ensures kids { IsOwner kids.new table.new.kid_runs }
-    ensures has_params { OnParams (Adds result list.now) params.old table.old params.new table.new }
-    ensures no_kids { OnKids (Adds result []) kids.old table.old kids.new table.new }
+    ensures has_params { OnParams (Inserts result list.now) params.old table.old params.new table.new }
+    ensures no_kids { OnKids (Inserts result []) kids.old table.old kids.new table.new }
 {
     let entry = Entry {
         node,
@@ -157,7 +157,7 @@ pub(crate) fn clear<A: Kept>(
 )
     requires params { IsOwner params.old table.old.param_runs }
     requires kids { IsOwner kids.old table.old.kid_runs }
-    requires made { IsMade A.run_at A.Holds store.old (kept_answer table.old node) }
+    requires made { Lives A.run_at A.Holds store.old (kept_answer table.old node) }
     ensures slots { table.new.slots ≡ slice_set table.old.slots node None }
     ensures footings { table.new.footings ≡ slice_set table.old.footings node no_footing }
     ensures capacity { table.new.capacity ≡ table.old.capacity }

@@ -9,11 +9,11 @@ ghost use Rattle.lsys_forest.specs.declared.node.Stored.{Stored};
 ghost use Rattle.lsys_forest.specs.declared.walk.Way.{Way};
 ghost use Rattle.lsys_forest.specs.Shelves.{IsOwner, OnShelf};
 ghost use Rattle.lsys_forest.specs.Slots.{slot_at, rank_at, link_at, live_slots};
-ghost use Rattle.lsys_forest.specs.Answers.{old_answer, IsMade, Releases};
-ghost use Rattle.lsys_forest.specs.Groves.{HasFew, IsSound};
-ghost use Rattle.lsys_forest.specs.Nodes.{Node, root_node, put, ForNode};
+ghost use Rattle.lsys_forest.specs.Answers.{old_answer, Lives, Releases};
+ghost use Rattle.lsys_forest.specs.Groves.{HasFew, IsRooted};
+ghost use Rattle.lsys_forest.specs.Nodes.{Node, root_node, with_node, ForNode};
 ghost use Rattle.lsys_forest.specs.Changes.{KeepsKids, Missing};
-ghost use Rattle.lsys_forest.specs.Stocks.{nodes_of, changes_of, row_at, KeepsRoom, KeepsFootings, undone_slots, undone_footings, DropsParams, TakesKids, noted_answer, named, named_by, kid_lists};
+ghost use Rattle.lsys_forest.specs.Stocks.{nodes_of, changes_of, row_at, KeepsRoom, KeepsFootings, undone_slots, undone_footings, DropsParams, TakesKids, noted_answer, nodes_named, named_by, kid_lists};
 ghost use Rattle.lsys_forest.specs.Ranks.{LinksRow, KeepsLinks, IsApartFrom, RanksKidsOf};
 ghost use Rattle.lsys_forest.specs.Rows.{depth_in};
 ghost use Rattle.lsys_forest.specs.LastChange.{ForLastChange, StaysUnchanged, UndoDropsMade, GoesBack, TakesOneUp, RemovesNode};
@@ -47,13 +47,13 @@ pub(crate) struct Parts<A> {
 
 impl<A> Model for Parts<A> {
     ghost use Rattle.std.specs.Prelude.{vec_capacity};
-    ghost use Rattle.lsys_forest.specs.Stocks.{Stock, stock_of, AreParts};
+    ghost use Rattle.lsys_forest.specs.Stocks.{Stock, stock_of, AreStockParts};
 
     ghost Value = { Stock A };
 
     ghost view = { λ a. stock_of a.table a.params a.kids a.notes.items (vec_capacity a.notes) };
 
-    ghost invariant = { λ a. AreParts a.table a.params a.kids a.notes.items };
+    ghost invariant = { λ a. AreStockParts a.table a.params a.kids a.notes.items };
 }
 
 impl<A: Drop> Parts<A> {
@@ -63,7 +63,7 @@ impl<A: Drop> Parts<A> {
     ///
     /// Want of memory.
     pub(crate) fn of_root(alloc: Global) -> Result<Parts<A>, AllocError>
-        ensures nodes { IfOk result (λ p. nodes_of p ≡ put (λ k. None) 0 (Some (root_node 0))) }
+        ensures nodes { IfOk result (λ p. nodes_of p ≡ with_node (λ k. None) 0 (Some (root_node 0))) }
         ensures changes { IfOk result (λ p. changes_of p ≡ []) }
         ensures notes { IfOk result (λ p. length p.notes ≡ 0) }
         ensures live { IfOk result (λ p. live_slots p.slots ≡ 1) }
@@ -377,7 +377,7 @@ impl<A: Drop> Parts<A> {
 
     /// Gives the children of a node their ranks, if it lives.
     pub(crate) fn rerank(&mut self, node: NodeId)
-        requires { (root : ℕ) × IsSound root (changes_of self.old) (nodes_of self.old) }
+        requires { (root : ℕ) × IsRooted root (changes_of self.old) (nodes_of self.old) }
         ensures same { self.new ≡ record self.old { footings = self.new.footings } }
         ensures ranked { RanksKidsOf node self.old self.new }
         ensures links { KeepsLinks self.old.footings self.new.footings }
@@ -390,7 +390,7 @@ impl<A: Drop> Parts<A> {
 
     /// Links the children of a node to one another, the first of them behind `before`, and answers the last.
     pub(crate) fn link_kids(&mut self, node: NodeId, before: Option<NodeId>) -> Option<NodeId>
-        requires sound { (root : ℕ) × IsSound root (changes_of self.old) (nodes_of self.old) }
+        requires sound { (root : ℕ) × IsRooted root (changes_of self.old) (nodes_of self.old) }
         requires before { IsApartFrom (nodes_of self.old) (kids_kept self.old node) before }
         ensures same { self.new ≡ record self.old { footings = self.new.footings } }
         ensures row { LinksRow self.old.footings self.new.footings before (kids_kept self.old node) result }
@@ -432,7 +432,7 @@ impl<A: Kept> Parts<A> {
     /// Takes up the last change, if there is one, and answers which nodes it names. An answer that it kept is released.
     /// It takes no memory.
     pub(crate) fn take_last(&mut self, store: &mut A::Store) -> Option<Look>
-        requires made { ForLastChange self.old (λ c. IsMade A.run_at A.Holds store.old (old_answer c)) }
+        requires made { ForLastChange self.old (λ c. Lives A.run_at A.Holds store.old (old_answer c)) }
         ensures taken { IfSome result (TakesOneUp A.run_at A.Holds self.old self.new store.old store.new) }
         ensures none { IfNone result (StaysUnchanged self.old self.new store.old store.new) }
     {
@@ -446,7 +446,7 @@ impl<A: Kept> Parts<A> {
     pub(crate) fn remove(&mut self, node: NodeId, store: &mut A::Store)
         requires lives { IsSome (nodes_of self.old node) }
         requires place { length self.old.notes < self.old.places }
-        requires made { ForNode (nodes_of self.old) node (λ n. IsMade A.run_at A.Holds store.old n.answer) }
+        requires made { ForNode (nodes_of self.old) node (λ n. Lives A.run_at A.Holds store.old n.answer) }
         ensures { RemovesNode A.run_at A.Holds self.old self.new node store.old store.new }
     {
         let removed = take_out(&mut self.table, &mut self.params, &mut self.kids, node);
@@ -494,7 +494,7 @@ fn undo_note<A: Kept>(
 )
     requires params { IsOwner params.old table.old.param_runs }
     requires kids { IsOwner kids.old table.old.kid_runs }
-    requires made { IsMade A.run_at A.Holds store.old (dropped_by_note table.old note) }
+    requires made { Lives A.run_at A.Holds store.old (dropped_by_note table.old note) }
     ensures slots { table.new.slots ≡ undone_slots note.was note.node table.old.slots }
     ensures footings { table.new.footings ≡ undone_footings note.was note.node table.old.footings }
     ensures capacity { table.new.capacity ≡ table.old.capacity }
@@ -528,13 +528,13 @@ fn take_note<A: Kept>(
 ) -> Look
     requires params { (now : List (Option ℕ)) × IsOwner params.old now }
     requires kids { (now : List (Option ℕ)) × IsOwner kids.old now }
-    requires made { IsMade A.run_at A.Holds store.old (noted_answer note.was) }
+    requires made { Lives A.run_at A.Holds store.old (noted_answer note.was) }
     ensures params { (now : List (Option ℕ)) → IsOwner params.old now → IsOwner params.new now }
     ensures kids { (now : List (Option ℕ)) → IsOwner kids.old now → IsOwner kids.new now }
     ensures old_params { OnShelf (DropsParams note.was) params.old params.new }
     ensures old_kids { OnShelf (TakesKids note.was) kids.old kids.new }
     ensures released { Releases A.run_at A.Holds (noted_answer note.was) store.old store.new }
-    ensures named { (hand : List ℕ) → named_by result hand ≡ named note.was note.node hand }
+    ensures named { (hand : List ℕ) → named_by result hand ≡ nodes_named note.was note.node hand }
 {
     let Note { node, was } = note;
     match was {

@@ -1,10 +1,11 @@
 //! The removal of nodes that are reached no more.
 ghost use Rattle.std.specs.Prelude.{◌≡◌, ◌↔◌, slice_get, ◌+◌, ◌≤◌, [], length, false, Some, IsSome, IsTrue};
+ghost use Rattle.lsys_spec.specs.Rows.{In};
 ghost use Rattle.lsys_forest.specs.Slots.{live_slots};
 ghost use Rattle.lsys_forest.specs.Nodes.{Node};
-ghost use Rattle.lsys_forest.specs.Answers.{AreMade};
+ghost use Rattle.lsys_forest.specs.Answers.{LiveApart};
 ghost use Rattle.lsys_forest.specs.Stocks.{nodes_of, changes_of, named_by, KeepsRoom, KeepsFootings};
-ghost use Rattle.lsys_forest.specs.Groves.{In, IsSound};
+ghost use Rattle.lsys_forest.specs.Groves.{IsRooted};
 ghost use Rattle.lsys_forest.specs.Ranks.{AreRanked};
 ghost use Rattle.lsys_forest.specs.Sweeps.{IsSwept, SweepsLeft, KeepsPlaces, SweepsOne, IsLooseIf, IsFastUnless, LacksKidUnless};
 ghost use Rattle.lsys_forest.specs.LastChange.{answers_in, StoreFollows};
@@ -51,10 +52,10 @@ fn stands_at(kids: &[NodeId], node: NodeId, place: usize) -> bool
 /// Removes the node if it is loose, and notes its children.
 fn sweep<A: Kept>(parts: &mut Parts<A>, root: NodeId, node: NodeId, store: &mut A::Store)
     requires places { length parts.old.notes + live_slots parts.old.slots ≤ parts.old.places }
-    requires made { AreMade A.run_at A.Holds store.old (answers_in parts.old) }
+    requires made { LiveApart A.run_at A.Holds store.old (answers_in parts.old) }
     ensures swept { SweepsOne root parts.old parts.new node }
     ensures keeps { KeepsPlaces parts.old parts.new }
-    ensures made { AreMade A.run_at A.Holds store.new (answers_in parts.new) }
+    ensures made { LiveApart A.run_at A.Holds store.new (answers_in parts.new) }
     ensures freed { StoreFollows A.run_at A.Holds parts.old store.old parts.new store.new }
 {
     if node != root && is_loose(parts, node) {
@@ -65,10 +66,10 @@ fn sweep<A: Kept>(parts: &mut Parts<A>, root: NodeId, node: NodeId, store: &mut 
 /// Sweeps the children in hand.
 fn sweep_hand<A: Kept>(parts: &mut Parts<A>, root: NodeId, store: &mut A::Store)
     requires places { length parts.old.notes + live_slots parts.old.slots ≤ parts.old.places }
-    requires made { AreMade A.run_at A.Holds store.old (answers_in parts.old) }
+    requires made { LiveApart A.run_at A.Holds store.old (answers_in parts.old) }
     ensures swept { SweepsLeft root parts.old parts.new parts.old.hand }
     ensures keeps { KeepsPlaces parts.old parts.new }
-    ensures made { AreMade A.run_at A.Holds store.new (answers_in parts.new) }
+    ensures made { LiveApart A.run_at A.Holds store.new (answers_in parts.new) }
     ensures freed { StoreFollows A.run_at A.Holds parts.old store.old parts.new store.new }
 {
     for place in 0..parts.in_hand().len() {
@@ -80,10 +81,10 @@ fn sweep_hand<A: Kept>(parts: &mut Parts<A>, root: NodeId, store: &mut A::Store)
 /// Sweeps the nodes that a change names.
 fn sweep_looked<A: Kept>(parts: &mut Parts<A>, root: NodeId, look: Look, store: &mut A::Store)
     requires places { length parts.old.notes + live_slots parts.old.slots ≤ parts.old.places }
-    requires made { AreMade A.run_at A.Holds store.old (answers_in parts.old) }
+    requires made { LiveApart A.run_at A.Holds store.old (answers_in parts.old) }
     ensures swept { SweepsLeft root parts.old parts.new (named_by look parts.old.hand) }
     ensures keeps { KeepsPlaces parts.old parts.new }
-    ensures made { AreMade A.run_at A.Holds store.new (answers_in parts.new) }
+    ensures made { LiveApart A.run_at A.Holds store.new (answers_in parts.new) }
     ensures freed { StoreFollows A.run_at A.Holds parts.old store.old parts.new store.new }
 {
     match look {
@@ -96,9 +97,9 @@ fn sweep_looked<A: Kept>(parts: &mut Parts<A>, root: NodeId, look: Look, store: 
 /// Removes each node that is not reached from the root.
 pub(crate) fn sweep_all<A: Kept>(parts: &mut Parts<A>, root: NodeId, store: &mut A::Store)
     requires places { length parts.old.notes + live_slots parts.old.slots ≤ parts.old.places }
-    requires sound { IsSound root (changes_of parts.old) (nodes_of parts.old) }
+    requires sound { IsRooted root (changes_of parts.old) (nodes_of parts.old) }
     requires ranked { AreRanked (nodes_of parts.old) parts.old.footings }
-    requires made { AreMade A.run_at A.Holds store.old (answers_in parts.old) }
+    requires made { LiveApart A.run_at A.Holds store.old (answers_in parts.old) }
     ensures swept { IsSwept (nodes_of parts.old) root (nodes_of parts.new) [] [] }
     ensures footings { KeepsFootings (nodes_of parts.new) parts.old parts.new }
     ensures ranked { AreRanked (nodes_of parts.new) parts.new.footings }
@@ -106,7 +107,7 @@ pub(crate) fn sweep_all<A: Kept>(parts: &mut Parts<A>, root: NodeId, store: &mut
     ensures short { length parts.new.notes ≡ 0 }
     ensures live { live_slots parts.new.slots ≤ live_slots parts.old.slots }
     ensures room { KeepsRoom parts.old parts.new }
-    ensures made { AreMade A.run_at A.Holds store.new (answers_in parts.new) }
+    ensures made { LiveApart A.run_at A.Holds store.new (answers_in parts.new) }
     ensures freed { StoreFollows A.run_at A.Holds parts.old store.old parts.new store.new }
 {
     while let Some(look) = parts.take_last(store) {

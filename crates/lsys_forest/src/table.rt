@@ -3,7 +3,7 @@ ghost use Rattle.std.specs.Prelude.{◌≡◌, ◌↔◌, IsTrue, ◌+◌, ◌<�
 ghost use Rattle.slab.specs.Slab.{Slab, get};
 ghost use Rattle.lsys_forest.specs.Shelves.{run_at};
 ghost use Rattle.lsys_forest.specs.declared.node.Entry.{Entry};
-ghost use Rattle.lsys_forest.specs.Slots.{slot_at, rank_at, link_at, live_slots, run_after, kind_set, key_set, answer_set, answer_before, node_in, node_set, params_set, kids_set, footing_set, rank_set, right_set, links_set, Puts, StandsAt};
+ghost use Rattle.lsys_forest.specs.Slots.{slot_at, rank_at, link_at, live_slots, run_after, kind_set, key_set, answer_set, answer_before, node_in, node_set, params_set, kids_set, footing_set, rank_set, right_set, links_set, PutsEntry, HasEntryAt};
 ghost use Rattle.lsys_forest.specs.SlotChanges.{KeepsOtherFootings, empty_table, param_run_at, kid_run_at, param_run_or, kid_run_or, entry_params_or, entry_kids_or, Vacates, ChangesSlot, ChangesParamRun, ChangesKidRun, ChangesFooting, FootingBecomes, ChangesEntry};
 
 use crate::node::{Entry, Kind, NodeId, Stored};
@@ -68,7 +68,7 @@ impl<A: Drop> Table<A> {
         ensures vacant { slot_at self.old.slots result ≡ None }
         ensures none { run_at self.old.param_runs result ≡ None }
         ensures no_kids { run_at self.old.kid_runs result ≡ None }
-        ensures put { Puts self.old self.new result entry }
+        ensures put { PutsEntry self.old self.new result entry }
         ensures live { live_slots self.new.slots ≡ live_slots self.old.slots + 1 }
         ensures capacity { self.new.capacity ≡ self.old.capacity }
     {
@@ -150,7 +150,7 @@ impl<A: Drop> Table<A> {
 
     /// Removes a node, and answers it if it lived. It takes no memory.
     pub(crate) fn remove(&mut self, number: NodeId) -> Option<Entry<A>>
-        ensures was { StandsAt self.old number result }
+        ensures was { HasEntryAt self.old number result }
         ensures gone { Vacates number self.old self.new }
     {
         self.nodes.try_remove(number.0 as usize)

@@ -1,11 +1,12 @@
 //! Walks along a level.
 ghost use Rattle.std.specs.Prelude.{◌≡◌, ◌↔◌, IsTrue, ◌+◌, ◌-◌, ◌<◌, ◌^◌, length, Some, None, IfSome, slice_get};
+ghost use Rattle.lsys_spec.specs.Rows.{In, AreApart, first_in};
 ghost use Rattle.lsys_forest.specs.Stocks.{nodes_of, changes_of};
-ghost use Rattle.lsys_forest.specs.Groves.{In, AreApart, IsSound};
+ghost use Rattle.lsys_forest.specs.Groves.{IsRooted};
 ghost use Rattle.lsys_forest.specs.Slots.{live_slots};
 ghost use Rattle.lsys_forest.specs.Ranks.{AreRanked, AreLinked, parent_in};
 ghost use Rattle.lsys_forest.specs.Mates.{nested, IsBracketThat, IsMateThat};
-ghost use Rattle.lsys_forest.specs.Rows.{first_in, oriented, level_nodes};
+ghost use Rattle.lsys_forest.specs.Rows.{oriented, level_nodes};
 ghost use Rattle.lsys_forest.specs.Neighbours.{IsNextIn, IsNextToPlace, ComesBefore, nodes_at_depth, IsBalancedLevel, IsFirstKidFrom};
 
 use crate::kept::Kept;
@@ -63,7 +64,7 @@ pub(crate) fn beside<A: Kept>(
     linked: u32,
     way: Way,
 ) -> Option<NodeId>
-    requires sound { IsSound root (changes_of parts.now) (nodes_of parts.now) }
+    requires sound { IsRooted root (changes_of parts.now) (nodes_of parts.now) }
     requires ranked { AreRanked (nodes_of parts.now) parts.now.footings }
     requires linked { AreLinked (nodes_of parts.now) root parts.now.footings linked }
     requires below { 0 < depth }
@@ -102,7 +103,7 @@ pub(crate) fn first_child<A: Kept>(
     linked: u32,
     way: Way,
 ) -> Option<NodeId>
-    requires sound { IsSound root (changes_of parts.now) (nodes_of parts.now) }
+    requires sound { IsRooted root (changes_of parts.now) (nodes_of parts.now) }
     requires ranked { AreRanked (nodes_of parts.now) parts.now.footings }
     requires linked { AreLinked (nodes_of parts.now) root parts.now.footings linked }
     requires below { 0 < depth }
@@ -126,7 +127,7 @@ pub(crate) fn first_at<A: Kept>(
     level: u32,
     linked: u32,
 ) -> Option<NodeId>
-    requires sound { IsSound root (changes_of parts.now) (nodes_of parts.now) }
+    requires sound { IsRooted root (changes_of parts.now) (nodes_of parts.now) }
     requires ranked { AreRanked (nodes_of parts.now) parts.now.footings }
     requires linked { AreLinked (nodes_of parts.now) root parts.now.footings linked }
     ensures { result ≡ first_in (level_nodes (nodes_of parts.now) root level) }
@@ -159,7 +160,7 @@ pub(crate) fn mate_of<A: Kept>(
     linked: u32,
     way: Way,
 ) -> NodeId
-    requires sound { IsSound root (changes_of parts.now) (nodes_of parts.now) }
+    requires sound { IsRooted root (changes_of parts.now) (nodes_of parts.now) }
     requires ranked { AreRanked (nodes_of parts.now) parts.now.footings }
     requires linked { AreLinked (nodes_of parts.now) root parts.now.footings linked }
     requires numbers { live_slots parts.now.slots < 2 ^ 32 }
@@ -199,7 +200,7 @@ pub(crate) fn is_before<A: Kept>(
     two: NodeId,
     depth: u32,
 ) -> bool
-    requires sound { IsSound root (changes_of parts.now) (nodes_of parts.now) }
+    requires sound { IsRooted root (changes_of parts.now) (nodes_of parts.now) }
     requires ranked { AreRanked (nodes_of parts.now) parts.now.footings }
     requires below { 0 < depth }
     requires one { In one (level_nodes (nodes_of parts.now) root (depth - 1)) }

@@ -1,8 +1,9 @@
 -- Nodes below a level that were not looked at have the neighbours and the mates that they had.
 use Rattle.std.proofs.Common.{◌≡◌, ◌⊎◌, ℕ, true, List, [], ◌∷◌, ◌++◌, append-nil, slice_get, Some, refl, sym, ap, ◌∙◌, subst, arith, inl, inr}
 use Rattle.std.proofs.lemmas.Option.{same_Some}
+use Rattle.lsys_spec.specs.Rows.{In, first_in, last_in, flat, AreApart}
 use Rattle.lsys_level.specs.Spots.{Seen, Push, Pop, Module, IsBracket, with_lineage}
-use Rattle.lsys_change.specs.Kinds.{BracketKind, Opens, Closes, Neither, kind_of}
+use Rattle.lsys_change.specs.Kinds.{BracketKind, Opens, Closes, Neither, kind_of_symbol}
 use Rattle.lsys_change.specs.Seams as S
 use Rattle.lsys_change.specs.Seams.{right_of, left_of, node_before, AreTurned}
 use Rattle.lsys_change.specs.Mates.{balancing, AgreeOn, AreBalanced, AreOwn, AreMatesAmong, Generation, AreMatesOn, IsGeneration}
@@ -10,13 +11,12 @@ use Rattle.lsys_change.proofs.Joints as J
 use Rattle.lsys_change.proofs.Mirrors.{right_neighbour, left_neighbour}
 use Rattle.lsys_forest.specs.Nodes.{Nodes}
 use Rattle.lsys_forest.specs.Groves as G
-use Rattle.lsys_forest.specs.Groves.{Grove, In, now_of}
-use Rattle.lsys_forest.specs.Rows.{first_in, last_in, index_in, spot_in, kids_in, kids_below, level_nodes, level_with}
+use Rattle.lsys_forest.specs.Groves.{Grove, now_of}
+use Rattle.lsys_forest.specs.Rows.{index_in, spot_in, kids_in, kids_below, level_nodes, level_with}
 use Rattle.lsys_forest.proofs.RowLemmas.{flat_append}
 use Rattle.lsys_kept.specs.Neighbours.{neighbours_on, neighbours_in, mate_on}
 use Rattle.lsys_kept.specs.Branches.{IsSameParent, AreLookedMates}
-use Rattle.lsys_kept.specs.Looks.{LooksAround, LooksBeyond, AreLooked, AreLookedSeats, level_below, kind_in}
-use Rattle.lsys_kept.proofs.LookLemmas.{in_same, in_back, apart_same}
+use Rattle.lsys_kept.specs.Looks.{LooksAround, LooksBeyond, AreLooked, AreLookedSeats, kids_of_level, kind_in}
 use Rattle.lsys_kept.proofs.LevelLemmas.{place_in, get_index, index_less, named_by_number}
 use Rattle.lsys_kept.proofs.BranchLemmas.{ended, opener_there, closer_there}
 use Rattle.lsys_kept.proofs.LookedLemmas.{opener_has, open_mate, close_mate, closer_has, seat_looked}
@@ -55,33 +55,33 @@ same_kind kind kind' ks Closes Closes w v h p = refl
 same_kind kind kind' ks Opens Closes w v h p =
     let one : w.0 ∷ [] ≡ v.0 ∷ [] = sym w.1 ∙ v.1 in
     let same : w.0 ≡ v.0 = cc in
-    let f : Closes ≡ Opens = sym v.2 ∙ ap kind' (sym same) ∙ h w.0 (subst (S.In w.0) (sym w.1) (inl refl)) ∙ w.2 in
+    let f : Closes ≡ Opens = sym v.2 ∙ ap kind' (sym same) ∙ h w.0 (subst (In w.0) (sym w.1) (inl refl)) ∙ w.2 in
     cc
 same_kind kind kind' ks Closes Opens w v h p =
     let one : w.0 ∷ [] ≡ v.0 ∷ [] = sym w.1 ∙ v.1 in
     let same : w.0 ≡ v.0 = cc in
-    let f : Opens ≡ Closes = sym v.2 ∙ ap kind' (sym same) ∙ h w.0 (subst (S.In w.0) (sym w.1) (inl refl)) ∙ w.2 in
+    let f : Opens ≡ Closes = sym v.2 ∙ ap kind' (sym same) ∙ h w.0 (subst (In w.0) (sym w.1) (inl refl)) ∙ w.2 in
     cc
 same_kind kind kind' ks Neither Opens w v h p =
-    let o : kind v.0 ≡ Opens = sym (h v.0 (subst (S.In v.0) (sym v.1) (inl refl))) ∙ v.2 in
+    let o : kind v.0 ≡ Opens = sym (h v.0 (subst (In v.0) (sym v.1) (inl refl))) ∙ v.2 in
     let b : AreBalanced kind 0 (v.0 ∷ []) = subst (AreBalanced kind 0) v.1 w in
     let z : 1 ≡ 0 = subst (λ k. balancing k 0 (λ m. AreBalanced kind m [])) o b in
     absurd (omega (arith, z))
 same_kind kind kind' ks Neither Closes w v h p =
-    let o : kind v.0 ≡ Closes = sym (h v.0 (subst (S.In v.0) (sym v.1) (inl refl))) ∙ v.2 in
+    let o : kind v.0 ≡ Closes = sym (h v.0 (subst (In v.0) (sym v.1) (inl refl))) ∙ v.2 in
     let b : AreBalanced kind 0 (v.0 ∷ []) = subst (AreBalanced kind 0) v.1 w in
     absurd (subst (λ k. balancing k 0 (λ m. AreBalanced kind m [])) o b)
 same_kind kind kind' ks Opens Neither w v h p =
-    let o : kind' w.0 ≡ Opens = h w.0 (subst (S.In w.0) (sym w.1) (inl refl)) ∙ w.2 in
+    let o : kind' w.0 ≡ Opens = h w.0 (subst (In w.0) (sym w.1) (inl refl)) ∙ w.2 in
     let b : AreBalanced kind' 0 (w.0 ∷ []) = subst (AreBalanced kind' 0) w.1 v in
     let z : 1 ≡ 0 = subst (λ k. balancing k 0 (λ m. AreBalanced kind' m [])) o b in
     absurd (omega (arith, z))
 same_kind kind kind' ks Closes Neither w v h p =
-    let o : kind' w.0 ≡ Closes = h w.0 (subst (S.In w.0) (sym w.1) (inl refl)) ∙ w.2 in
+    let o : kind' w.0 ≡ Closes = h w.0 (subst (In w.0) (sym w.1) (inl refl)) ∙ w.2 in
     let b : AreBalanced kind' 0 (w.0 ∷ []) = subst (AreBalanced kind' 0) w.1 v in
     absurd (subst (λ k. balancing k 0 (λ m. AreBalanced kind' m [])) o b)
 
-bracket_seen : (l : List ℕ) (e : Seen) → (kind_of (with_lineage l e) ≡ Neither → ⊥) → IsBracket e
+bracket_seen : (l : List ℕ) (e : Seen) → (kind_of_symbol (with_lineage l e) ≡ Neither → ⊥) → IsBracket e
 bracket_seen l Push h = tt
 bracket_seen l Pop h = tt
 bracket_seen l (Module v) h = absurd (h refl)
@@ -108,12 +108,12 @@ module _ {A : Type 0} (o : Nodes A) (f : Grove A) (t : ℕ) (touched turned look
   new_generation : IsGeneration new
   new_generation = is_generation (kind_in n) (kids_at n) is l.are.left
 
-  on_level : (q : ℕ) → S.In q new.nodes → S.In q is × (is_parent (kids_at n q) ≡ true)
+  on_level : (q : ℕ) → In q new.nodes → In q is × (is_parent (kids_at n q) ≡ true)
   on_level q i = (nodes_are (kids_at n) is q).0 i
 
   -- 3. who was touched was looked around
 
-  beyond_touched : (q : ℕ) → S.In q touched → LooksBeyond f q looked
+  beyond_touched : (q : ℕ) → In q touched → LooksBeyond f q looked
   beyond_touched q h = record { up_to = up_to; from = from }
     where
       a : LooksAround f q looked
@@ -122,8 +122,8 @@ module _ {A : Type 0} (o : Nodes A) (f : Grove A) (t : ℕ) (touched turned look
       level : level_with f q ≡ is
       level = ap (λ u. level_nodes (now_of f) f.root u) (l.touched_level q h)
 
-      apart : G.AreApart (level_with f q)
-      apart = subst G.AreApart (sym level) (apart_same is l.are.left.apart)
+      apart : AreApart (level_with f q)
+      apart = subst AreApart (sym level) l.are.left.apart
 
       up_to : (k : ℕ) (left right : List ℕ) → level_with f q ≡ left ++ q ∷ right → last_in (kids_below (now_of f) (left ++ q ∷ [])) ≡ Some k → In k looked
       up_to k left right e last =
@@ -139,17 +139,17 @@ module _ {A : Type 0} (o : Nodes A) (f : Grove A) (t : ℕ) (touched turned look
         | inr e' ↦ a.behind k left right apart e e'
       ]
 
-  both : (q : ℕ) → S.In q (turned ++ touched) → S.In q turned ⊎ S.In q touched
+  both : (q : ℕ) → In q (turned ++ touched) → In q turned ⊎ In q touched
   both q h = J.in_either q turned touched h
 
-  is_turned : (q : ℕ) → S.In q turned → S.In q (turned ++ touched)
+  is_turned : (q : ℕ) → In q turned → In q (turned ++ touched)
   is_turned q h = J.in_front q turned touched h
 
-  is_touched : (q : ℕ) → S.In q touched → S.In q (turned ++ touched)
+  is_touched : (q : ℕ) → In q touched → In q (turned ++ touched)
   is_touched q h = J.in_back q turned touched h
 
-  kids_looked : (q k : ℕ) → S.In q touched → S.In k (kids_at n q) → S.In k looked
-  kids_looked q k h i = in_back k looked ((l.around q h).children k (in_same k (kids_at n q) i))
+  kids_looked : (q k : ℕ) → In q touched → In k (kids_at n q) → In k looked
+  kids_looked q k h i = (l.around q h).children k i
 
   -- 4. seats of the level
 
@@ -160,12 +160,12 @@ module _ {A : Type 0} (o : Nodes A) (f : Grove A) (t : ℕ) (touched turned look
     pub is_there : slice_get is place ≡ Some q
     pub same : neighbours_on n is place ≡ neighbours_on o was before
 
-  placed : (q : ℕ) → S.In q is → S.In q turned ⊎ IsPlaced q
+  placed : (q : ℕ) → In q is → In q turned ⊎ IsPlaced q
   placed q i = elim (l.old q i) [
     | inl h ↦ inl h
     | inr j ↦
-        let p = place_in q was (in_same q was j) in
-        let r = place_in q is (in_same q is i) in
+        let p = place_in q was j in
+        let r = place_in q is i in
         elim (l.seats p.0 r.0 q p.1 r.1) [
           | inl h ↦ inl h
           | inr e ↦ inr (record { before = p.0; place = r.0; was_there = p.1; is_there = r.1; same = e })
@@ -186,11 +186,11 @@ module _ {A : Type 0} (o : Nodes A) (f : Grove A) (t : ℕ) (touched turned look
 
   -- 5. families
 
-  same_parent : (q : ℕ) → S.In q new.nodes → KeepsFamily o n f.root t q → IsSameParent old new q
+  same_parent : (q : ℕ) → In q new.nodes → KeepsFamily o n f.root t q → IsSameParent old new q
   same_parent q i k =
       let p = on_level q i in
       let was_parent : is_parent (kids_at o q) ≡ true = ap is_parent (sym k.list) ∙ p.1 in
-      let there : S.In q old.nodes = (nodes_are (kids_at o) was q).1 (k.there, was_parent) in
+      let there : In q old.nodes = (nodes_are (kids_at o) was q).1 (k.there, was_parent) in
       record {
         there = there;
         kind = same_kind (kind_in o) (kind_in n) (kids_at o q) (kind_in o q) (kind_in n q) (was_generation.own_kinds q there) (subst (AreOwn (kind_in n) (kind_in n q)) k.list (new_generation.own_kinds q i)) k.kinds was_parent;
@@ -198,7 +198,7 @@ module _ {A : Type 0} (o : Nodes A) (f : Grove A) (t : ℕ) (touched turned look
         kinds = k.kinds;
       }
 
-  changed : (q : ℕ) → S.In q new.nodes → S.In q touched ⊎ IsSameParent old new q
+  changed : (q : ℕ) → In q new.nodes → In q touched ⊎ IsSameParent old new q
   changed q i = elim (l.families q (on_level q i).0) [
     | inl h ↦ inl h
     | inr k ↦ inr (same_parent q i k)
@@ -215,14 +215,14 @@ module _ {A : Type 0} (o : Nodes A) (f : Grove A) (t : ℕ) (touched turned look
   as_new : (q r : ℕ) → AreMatesAmong (kind_in n) is q r → is_parent (kids_at n q) ≡ true → AreMatesOn new q r
   as_new q r m p = (mates_are (kind_in n) (kids_at n) is l.are.left q r).1 (m, p)
 
-  opens_by : (q r : ℕ) → AreMatesOn old q r → S.In q new.nodes → IsSameParent old new q → IsPlaced q → AreMatesOn new q r
+  opens_by : (q r : ℕ) → AreMatesOn old q r → In q new.nodes → IsSameParent old new q → IsPlaced q → AreMatesOn new q r
   opens_by q r m i same p =
       let j = opener_has (kind_in n) is q l.are.left.balanced (on_level q i).0 (same.kind ∙ m.opens) in
       let e : j.0 ≡ r =
       same_Some j.0 r (sym (open_mate n is q j.0 p.place l.are.level j.1 p.is_there) ∙ ap (λ x. x.mate) p.same ∙ open_mate o was q r p.before l.were.level (mate_was q r m) p.was_there) in
       as_new q r (subst (AreMatesAmong (kind_in n) is q) e j.1) (on_level q i).1
 
-  opens : (q r : ℕ) → AreMatesOn old q r → S.In q new.nodes → S.In q (turned ++ touched) ⊎ AreMatesOn new q r
+  opens : (q r : ℕ) → AreMatesOn old q r → In q new.nodes → In q (turned ++ touched) ⊎ AreMatesOn new q r
   opens q r m i = elim (changed q i) [
     | inl h ↦ inl (is_touched q h)
     | inr same ↦ elim (placed q (on_level q i).0) [
@@ -231,7 +231,7 @@ module _ {A : Type 0} (o : Nodes A) (f : Grove A) (t : ℕ) (touched turned look
     ]
   ]
 
-  closes_by : (q r : ℕ) → AreMatesOn old q r → S.In r new.nodes → IsSameParent old new r → IsPlaced r → AreMatesOn new q r
+  closes_by : (q r : ℕ) → AreMatesOn old q r → In r new.nodes → IsSameParent old new r → IsPlaced r → AreMatesOn new q r
   closes_by q r m i same p =
       let closes = (ended old.kind 0 m.after r m.closes).1 in
       let j = closer_has n is r p.place l.are.level l.are.left.balanced p.is_there (same.kind ∙ closes) in
@@ -240,7 +240,7 @@ module _ {A : Type 0} (o : Nodes A) (f : Grove A) (t : ℕ) (touched turned look
       let among : AreMatesAmong (kind_in n) is q r = subst (λ q. AreMatesAmong (kind_in n) is q r) e j.1 in
       as_new q r among (opener_has_child (kind_in n) (kids_at n) is l.are.left q r among (on_level r i).1)
 
-  closes : (q r : ℕ) → AreMatesOn old q r → S.In r new.nodes → S.In r (turned ++ touched) ⊎ AreMatesOn new q r
+  closes : (q r : ℕ) → AreMatesOn old q r → In r new.nodes → In r (turned ++ touched) ⊎ AreMatesOn new q r
   closes q r m i = elim (changed r i) [
     | inl h ↦ inl (is_touched r h)
     | inr same ↦ elim (placed r (on_level r i).0) [
@@ -250,26 +250,26 @@ module _ {A : Type 0} (o : Nodes A) (f : Grove A) (t : ℕ) (touched turned look
   ]
 
   -- the mate that a node tells on its level
-  told_mate : (q r : ℕ) → S.In q touched → S.In q is → ((p : ℕ) → slice_get is p ≡ Some q → mate_on n is p ≡ Some r) → (neighbours_in f q).mate ≡ Some r
+  told_mate : (q r : ℕ) → In q touched → In q is → ((p : ℕ) → slice_get is p ≡ Some q → mate_on n is p ≡ Some r) → (neighbours_in f q).mate ≡ Some r
   told_mate q r h i m =
-      let p = place_in q is (in_same q is i) in
+      let p = place_in q is i in
       let here = get_index q is (index_less q is p.0 p.1) in
       ap (λ u. mate_on n (level_nodes (now_of f) f.root u) (index_in q (level_nodes (now_of f) f.root u))) (l.touched_level q h) ∙ m (index_in q is) here
 
-  mates_looked : (q r k : ℕ) → AreMatesOn new q r → S.In r touched → S.In k (kids_at n q) → S.In k looked
+  mates_looked : (q r k : ℕ) → AreMatesOn new q r → In r touched → In k (kids_at n q) → In k looked
   mates_looked q r k m h i =
       let a = mate_is q r m in
-      in_back k looked ((l.mates r h).mates q k (told_mate r q h (closer_there (kind_in n) is q r a) (λ p here. close_mate n is q r p l.are.level a here)) (in_same k (kids_at n q) i))
+      ((l.mates r h).mates q k (told_mate r q h (closer_there (kind_in n) is q r a) (λ p here. close_mate n is q r p l.are.level a here)) i)
 
-  mates_behind_looked : (q r k : ℕ) → AreMatesOn new q r → S.In q touched → S.In k (kids_at n r) → S.In k looked
+  mates_behind_looked : (q r k : ℕ) → AreMatesOn new q r → In q touched → In k (kids_at n r) → In k looked
   mates_behind_looked q r k m h i =
       let a = mate_is q r m in
-      in_back k looked ((l.mates q h).mates r k (told_mate q r h (opener_there (kind_in n) is q r a) (λ p here. open_mate n is q r p l.are.level a here)) (in_same k (kids_at n r) i))
+      ((l.mates q h).mates r k (told_mate q r h (opener_there (kind_in n) is q r a) (λ p here. open_mate n is q r p l.are.level a here)) i)
 
-  branch_looked : (q k : ℕ) → S.In q (turned ++ touched) → S.In q new.nodes → (kind_in n q ≡ Neither → ⊥) → S.In k (kids_at n q) → S.In k looked
+  branch_looked : (q k : ℕ) → In q (turned ++ touched) → In q new.nodes → (kind_in n q ≡ Neither → ⊥) → In k (kids_at n q) → In k looked
   branch_looked q k h i other j = elim (both q h) [
     | inl h ↦
-        in_back k looked ((l.branches q h).branch k (bracket_seen (q ∷ []) (spot_in q (n q)).seen (λ e. other (ap kind_of (named_by_number (λ k. k ∷ []) q (n q)) ∙ e))) (in_same k (kids_at n q) j))
+        ((l.branches q h).branch k (bracket_seen (q ∷ []) (spot_in q (n q)).seen (λ e. other (ap kind_of_symbol (named_by_number (λ k. k ∷ []) q (n q)) ∙ e))) j)
     | inr h ↦ kids_looked q k h j
   ]
 
@@ -277,7 +277,7 @@ module _ {A : Type 0} (o : Nodes A) (f : Grove A) (t : ℕ) (touched turned look
   looked_mates = record {
     was = was_generation;
     is = new_generation;
-    all_stay = λ q k i j. subst (S.In k) (sym (next_is (kind_in n) (kids_at n) is)) (in_flat (kids_at n) is q k (on_level q i).0 j);
+    all_stay = λ q k i j. subst (In k) (sym (next_is (kind_in n) (kids_at n) is)) (in_flat (kids_at n) is q k (on_level q i).0 j);
     changed = changed;
     opens = opens;
     closes = closes;
@@ -325,8 +325,8 @@ pub looked_seats : {A : Type 0} (o : Nodes A) (f : Grove A) (t : ℕ) (touched t
 looked_seats o f t touched turned looked l = looked_seats_of o f t touched turned looked l
 
 pub stays : {A : Type 0} (o : Nodes A) (f : Grove A) (t : ℕ) (touched turned looked : List ℕ) → AreLookedBelow o f t touched turned looked
-    → (p i k : ℕ) → slice_get (S.flat (kids_at o) (level_nodes o f.root t)) p ≡ Some k → slice_get (level_below f t) i ≡ Some k
-    → In k looked ⊎ (neighbours_on (now_of f) (level_below f t) i ≡ neighbours_on o (S.flat (kids_at o) (level_nodes o f.root t)) p)
+    → (p i k : ℕ) → slice_get (flat (kids_at o) (level_nodes o f.root t)) p ≡ Some k → slice_get (kids_of_level f t) i ≡ Some k
+    → In k looked ⊎ (neighbours_on (now_of f) (kids_of_level f t) i ≡ neighbours_on o (flat (kids_at o) (level_nodes o f.root t)) p)
 stays o f t touched turned looked l =
     seat_looked o f t (kids_at o) (level_nodes o f.root t) (left_generation (kind_in o) (kids_at o) (level_nodes o f.root t))
     (left_generation (kind_in (now_of f)) (kids_at (now_of f)) (level_nodes (now_of f) f.root t)) touched (turned ++ touched) looked (looked_seats_of o f t touched turned looked l)

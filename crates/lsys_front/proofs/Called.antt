@@ -1,7 +1,8 @@
 -- Those that may have to be asked, each once, and those of them that are.
 use Rattle.std.proofs.Common.{◌≡◌, ◌↔◌, ℕ, false, List, [], ◌∷◌, ◌++◌, sym, subst, inl, inr, arith}
+use Rattle.lsys_spec.specs.Rows.{In, AreApart}
 use Rattle.lsys_spec.specs.Systems.{System}
-use Rattle.lsys_forest.specs.Groves.{Grove, In, AreApart, now_of}
+use Rattle.lsys_forest.specs.Groves.{Grove, now_of}
 use Rattle.lsys_kept.specs.declared.seat.Seat.{Seat}
 use Rattle.lsys_kept.specs.Seats.{is_marked}
 use Rattle.lsys_candidates.specs.Asks.{AddsOf, AreOnOneLevel, ArePlaced}

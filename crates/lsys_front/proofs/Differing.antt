@@ -1,15 +1,16 @@
 -- What is told of the children that were made tells how the next level differs.
 use Rattle.std.proofs.Common.{◌≡◌, ◌⊎◌, ◌+◌, ℕ, suc, List, [], ◌∷◌, ◌++◌, Some, map, refl, sym, ap, ◌∙◌, subst, arith, inl, inr, add-one}
 use Rattle.std.specs.Prelude.{◌↔◌, ℤ}
+use Rattle.lsys_spec.specs.Rows.{In, AreApart, flat}
 use Rattle.lsys_syntax.specs.Commands.{Numbering}
 use Rattle.lsys_syntax.specs.Strings as S
 use Rattle.lsys_forest.specs.Nodes.{Node, Nodes}
-use Rattle.lsys_forest.specs.Groves.{Grove, In, AreApart, IsSound, now_of, changes_in}
-use Rattle.lsys_forest.specs.Rows.{flat, kids_in, kids_below, level_nodes}
+use Rattle.lsys_forest.specs.Groves.{Grove, IsRooted, now_of, changes_in}
+use Rattle.lsys_forest.specs.Rows.{kids_in, kids_below, level_nodes}
 use Rattle.lsys_forest.proofs.RowLemmas as rows
 use Rattle.lsys_forest.proofs.SoundLemmas.{AreSound-now}
 use Rattle.lsys_brood.specs.Matches.{nodes_without}
-use Rattle.lsys_brood.specs.Children.{Told, KeepsChildren}
+use Rattle.lsys_brood.specs.Children.{ToldNodes, KeepsChildren}
 use Rattle.lsys_match.specs.Kept.{Kept}
 use Rattle.lsys_kept.specs.declared.seat.Seat.{Seat}
 use Rattle.lsys_kept.specs.Standings.{seen_at}
@@ -21,11 +22,11 @@ use Rattle.lsys_repair.proofs.Renewing.{keeps_upper}
 use Rattle.lsys_repair.specs.declared.parent.Parent.{Parent}
 use Rattle.lsys_repair.specs.Parents.{nodes_in, AreToldBy}
 use Rattle.lsys_repair.specs.Needs.{number_told, wanted_symbols}
-use Rattle.lsys_repair.specs.Made.{IsBelow, gone_of}
+use Rattle.lsys_repair.specs.Made.{IsChildOfAny, gone_of}
 use Rattle.lsys_candidates.specs.Repairs.{Repair, SteppingSpots, now, rest, root, were, are}
 use Rattle.lsys_candidates.specs.Found.{LevelChanges, Differs}
 use Rattle.lsys_candidates.proofs.Spots.{sound_old, sound_new}
-use Rattle.lsys_front.specs.Fronts.{Differences, IsFront, IsNext, IsTold, IsFirst, IsToldFirst, next_of}
+use Rattle.lsys_front.specs.Fronts.{Differences, IsLevelFront, MakesNext, IsToldNext, IsFirst, IsToldFirst, next_of}
 use Rattle.lsys_front.proofs.Rows.{in_flat}
 use Rattle.lsys_front.proofs.Steps.{IsStep, lost_at, came_forth, came_back, changed_forth, changed_back, lost_forth, left_forth, gone_back, lost_apart, gone_apart, families_kept}
 
@@ -33,14 +34,14 @@ use Rattle.lsys_front.proofs.Steps.{IsStep, lost_at, came_forth, came_back, chan
 
 module _ {A : Type 0} where
   -- the nodes of a further level are the children of the nodes of the one before it
-  next_is : (m : Nodes A) (root t k : ℕ) → In k (level_nodes m root (t + 1)) ↔ IsBelow m (level_nodes m root t) k
+  next_is : (m : Nodes A) (root t k : ℕ) → In k (level_nodes m root (t + 1)) ↔ IsChildOfAny m (level_nodes m root t) k
   next_is m root t k = (
     λ i. rows.flat_In (λ p. kids_in (m p)) (level_nodes m root t) k (subst (λ u. In k (level_nodes m root u)) (add-one t) i),
     λ b. subst (λ u. In k (level_nodes m root u)) (sym (add-one t)) (in_flat (λ p. kids_in (m p)) (level_nodes m root t) b.0 k b.1 b.2),
   )
 
   -- those of the first level are the children of the root
-  first_is : (m : Nodes A) (root k : ℕ) → In k (level_nodes m root 0) ↔ IsBelow m (root ∷ []) k
+  first_is : (m : Nodes A) (root k : ℕ) → In k (level_nodes m root 0) ↔ IsChildOfAny m (root ∷ []) k
   first_is m root k = (λ i. (root, inl refl, i), λ b. back b.0 b.1 b.2)
     where
       back : (p : ℕ) → In p (root ∷ []) → In k (kids_in (m p)) → In k (kids_in (m root))
@@ -57,15 +58,15 @@ gone_is g m by (p ∷ ps) told =
 
 -- 3. the next level
 
-module _ (r : Repair) (seats : List Seat) (d : Differences) (h : Grove Kept) (by : Successors) (ps : List Parent) (told : Told)
-    (s : SteppingSpots r) (deeper : KeepsDeeper (rest r) (now r) (r.level + 1)) (f : IsFront r seats d) (x : IsNext r h by ps told) where
+module _ (r : Repair) (seats : List Seat) (d : Differences) (h : Grove Kept) (by : Successors) (ps : List Parent) (told : ToldNodes)
+    (s : SteppingSpots r) (deeper : KeepsDeeper (rest r) (now r) (r.level + 1)) (f : IsLevelFront r seats d) (x : MakesNext r h by ps told) where
   step : IsStep r.new.numbering r.new.seed (rest r) (now r) (now_of h) (root r) (r.level + 1) by (nodes_in ps) (were r) (are r)
   step = record {
     before = changes_in r.forest;
     after = changes_in h;
     rested = sound_old r s;
     sound = sound_new r s;
-    sound_now = subst (λ u. IsSound u (changes_in h) (now_of h)) x.root (AreSound-now h.root (changes_in h) (now_of h) x.sound);
+    sound_now = subst (λ u. IsRooted u (changes_in h) (now_of h)) x.root (AreSound-now h.root (changes_in h) (now_of h) x.sound);
     stay = s.stay;
     deeper = deeper;
     renewals = x.renewals;
@@ -81,12 +82,12 @@ module _ (r : Repair) (seats : List Seat) (d : Differences) (h : Grove Kept) (by
       ∙ upper_nodes (root r) (changes_in r.forest) (now r) (now_of h) (sound_new r s) r.level (keeps_upper r.new.numbering r.new.seed (now r) (now_of h) (root r) (r.level + 1) by (nodes_in ps) x.renewals) r.level (omega arith)
 
   -- who is on the next level, and who was
-  now_is : (k : ℕ) → In k (are (next_of r h)) ↔ IsBelow (now_of h) (are r) k
+  now_is : (k : ℕ) → In k (are (next_of r h)) ↔ IsChildOfAny (now_of h) (are r) k
   now_is k =
       let e = next_is (now_of h) h.root r.level k in
-      (λ i. subst (λ vs. IsBelow (now_of h) vs k) same_level (e.0 i), λ b. e.1 (subst (λ vs. IsBelow (now_of h) vs k) (sym same_level) b))
+      (λ i. subst (λ vs. IsChildOfAny (now_of h) vs k) same_level (e.0 i), λ b. e.1 (subst (λ vs. IsChildOfAny (now_of h) vs k) (sym same_level) b))
 
-  was_is : (k : ℕ) → In k (were (next_of r h)) ↔ IsBelow (rest r) (were r) k
+  was_is : (k : ℕ) → In k (were (next_of r h)) ↔ IsChildOfAny (rest r) (were r) k
   was_is k =
       let e = next_is (rest r) (root r) r.level k in
       let same : were (next_of r h) ≡ level_nodes (rest r) (root r) (r.level + 1) = λ i. level_nodes (x.rest i) (x.root i) (r.level + 1) in
@@ -97,7 +98,7 @@ module _ (r : Repair) (seats : List Seat) (d : Differences) (h : Grove Kept) (by
       families_kept step told.touched d.changes.came
       (λ k t. (x.tells.touched k).1 (inr t)) (λ k j out. (f.differs.came k).1 (j, out)) q (subst (In q) same_level i)
 
-  module _ (c : LevelChanges) (t : IsTold h d told c) where
+  module _ (c : LevelChanges) (t : IsToldNext h d told c) where
     gone_told : c.gone ≡ flat (lost_at r.new.numbering (now r) by) (nodes_in ps) ++ kids_below (now_of h) d.changes.gone
     gone_told = t.gone ∙ ap (λ (l : List ℕ). l ++ kids_below (now_of h) d.changes.gone) (x.gone ∙ gone_is r.new.numbering (now r) by ps x.wants)
 
@@ -153,7 +154,7 @@ module _ (r : Repair) (seats : List Seat) (d : Differences) (h : Grove Kept) (by
         lefts : List ℕ
         lefts = kids_below (now_of h) d.changes.gone
 
-        away : IsBelow (rest r) (were r) k × (IsBelow (now_of h) (are r) k → ⊥) → In k (were (next_of r h)) × (In k (are (next_of r h)) → ⊥)
+        away : IsChildOfAny (rest r) (were r) k × (IsChildOfAny (now_of h) (are r) k → ⊥) → In k (were (next_of r h)) × (In k (are (next_of r h)) → ⊥)
         away v = ((was_is k).1 v.0, λ w. v.1 ((now_is k).0 w))
 
         forth : In k (flat (lost_at r.new.numbering (now r) by) (nodes_in ps)) ⊎ In k (kids_below (now_of h) d.changes.gone) → In k (were (next_of r h)) × (In k (are (next_of r h)) → ⊥)
@@ -177,7 +178,7 @@ module _ (r : Repair) (seats : List Seat) (d : Differences) (h : Grove Kept) (by
 
 -- 4. the first level
 
-module _ (r : Repair) (by : Successors) (told : Told) (c : LevelChanges) (s : SteppingSpots r) (x : IsFirst r by told) (t : IsToldFirst told c) where
+module _ (r : Repair) (by : Successors) (told : ToldNodes) (c : LevelChanges) (s : SteppingSpots r) (x : IsFirst r by told) (t : IsToldFirst told c) where
   -- the only node above it
   abbrev top : List ℕ
   top = root r ∷ []
@@ -202,11 +203,11 @@ module _ (r : Repair) (by : Successors) (told : Told) (c : LevelChanges) (s : St
     among = λ p i. i;
   }
 
-  first_now : (k : ℕ) → In k (are r) ↔ IsBelow (now r) top k
-  first_now k = subst (λ u. In k (level_nodes (now r) (root r) u) ↔ IsBelow (now r) top k) (sym x.level) (first_is (now r) (root r) k)
+  first_now : (k : ℕ) → In k (are r) ↔ IsChildOfAny (now r) top k
+  first_now k = subst (λ u. In k (level_nodes (now r) (root r) u) ↔ IsChildOfAny (now r) top k) (sym x.level) (first_is (now r) (root r) k)
 
-  first_was : (k : ℕ) → In k (were r) ↔ IsBelow (rest r) top k
-  first_was k = subst (λ u. In k (level_nodes (rest r) (root r) u) ↔ IsBelow (rest r) top k) (sym x.level) (first_is (rest r) (root r) k)
+  first_was : (k : ℕ) → In k (were r) ↔ IsChildOfAny (rest r) top k
+  first_was k = subst (λ u. In k (level_nodes (rest r) (root r) u) ↔ IsChildOfAny (rest r) top k) (sym x.level) (first_is (rest r) (root r) k)
 
   first_gone : c.gone ≡ lost_at r.new.numbering (rest r) by (root r)
   first_gone =

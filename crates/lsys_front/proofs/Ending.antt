@@ -3,14 +3,15 @@ use Rattle.std.proofs.Common.{◌≡◌, ◌⊎◌, ◌+◌, ◌-◌, ◌<◌, �
 use Rattle.std.specs.Prelude.{◌==◌, Bool, true, IsSome, option_map}
 use Rattle.std.proofs.lemmas.Bool.{eqb-true}
 use Rattle.std.proofs.lemmas.List.Elements.{filter-append}
-use Rattle.lsys_forest.specs.Nodes.{Node, Nodes, put, with_kids, with_answer}
-use Rattle.lsys_forest.specs.Groves.{Grove, In, AreKids, now_of, IsLive}
+use Rattle.lsys_spec.specs.Rows.{In}
+use Rattle.lsys_forest.specs.Nodes.{Node, Nodes, with_node, with_kids, with_answer}
+use Rattle.lsys_forest.specs.Groves.{Grove, AreKids, now_of, IsLive}
 use Rattle.lsys_forest.specs.Rows.{kids_in, kids_below}
 use Rattle.lsys_forest.proofs.SoundLemmas.{some_of}
 use Rattle.lsys_forest.proofs.StockLemmas.{put_same, put_other}
 use Rattle.lsys_forest.proofs.ChainLemmas.{take_more}
 use Rattle.lsys_forest.proofs.RowLemmas.{In_append, In_left, In_right, flat_append}
-use Rattle.lsys_front.specs.Ends.{ended, AreEnded, is_answered, answered_in, rows_from}
+use Rattle.lsys_front.specs.Ends.{ended_node, AreEnded, is_answered, answered_in, rows_from}
 
 pub take_next : (xs : List ℕ) (i k : ℕ) → slice_get xs i ≡ Some k → take (i + 1) xs ≡ take i xs ++ k ∷ []
 take_next xs i k e = let n : i + 1 ≡ suc i = omega arith in ap (λ j. take j xs) n ∙ take_more xs i k e
@@ -27,34 +28,34 @@ module _ {A : Type 0} where
   pub ended_none : (m : Nodes A) → AreEnded m m []
   ended_none m = record { here = λ k i. absurd i; others = λ k no. refl }
 
-  pub ended_one : (m1 m2 m3 : Nodes A) (node : ℕ) (n : Node A) → m1 node ≡ Some n → m2 ≡ put m1 node (Some (with_answer None n))
-      → ((p : Node A) → m2 node ≡ Some p → m3 ≡ put m2 node (Some (with_kids [] p))) → AreEnded m1 m3 (node ∷ [])
+  pub ended_one : (m1 m2 m3 : Nodes A) (node : ℕ) (n : Node A) → m1 node ≡ Some n → m2 ≡ with_node m1 node (Some (with_answer None n))
+      → ((p : Node A) → m2 node ≡ Some p → m3 ≡ with_node m2 node (Some (with_kids [] p))) → AreEnded m1 m3 (node ∷ [])
   ended_one m1 m2 m3 node n is e f = record {
     here = λ k i. elim i [
-      | inl q ↦ ap (λ (m : Nodes A). m k) last ∙ put_same m2 node k (Some (ended n)) q ∙ sym (ap (option_map ended) (ap m1 q ∙ is))
+      | inl q ↦ ap (λ (m : Nodes A). m k) last ∙ put_same m2 node k (Some (ended_node n)) q ∙ sym (ap (option_map ended_node) (ap m1 q ∙ is))
       | inr none ↦ absurd none
     ];
-    others = λ k no. ap (λ (m : Nodes A). m k) last ∙ put_other m2 node k (Some (ended n)) (λ q. no (inl q)) ∙ ap (λ (m : Nodes A). m k) e ∙ put_other m1 node k (Some (with_answer None n)) (λ q. no (inl q));
+    others = λ k no. ap (λ (m : Nodes A). m k) last ∙ put_other m2 node k (Some (ended_node n)) (λ q. no (inl q)) ∙ ap (λ (m : Nodes A). m k) e ∙ put_other m1 node k (Some (with_answer None n)) (λ q. no (inl q));
   }
     where
       mid : m2 node ≡ Some (with_answer None n)
       mid = ap (λ (m : Nodes A). m node) e ∙ put_same m1 node node (Some (with_answer None n)) refl
 
-      last : m3 ≡ put m2 node (Some (ended n))
+      last : m3 ≡ with_node m2 node (Some (ended_node n))
       last = f (with_answer None n) mid
 
   -- an answer that is taken leaves the children
-  pub kids_stay : (m1 m2 : Nodes A) (node : ℕ) (n : Node A) → m1 node ≡ Some n → m2 ≡ put m1 node (Some (with_answer None n)) → kids_in (m2 node) ≡ kids_in (m1 node)
+  pub kids_stay : (m1 m2 : Nodes A) (node : ℕ) (n : Node A) → m1 node ≡ Some n → m2 ≡ with_node m1 node (Some (with_answer None n)) → kids_in (m2 node) ≡ kids_in (m1 node)
   kids_stay m1 m2 node n is e = ap (λ (m : Nodes A). kids_in (m node)) e ∙ ap (λ x. kids_in x) (put_same m1 node node (Some (with_answer None n)) refl) ∙ sym (ap (λ x. kids_in x) is)
 
-  pub lives_still : (m1 m2 : Nodes A) (node : ℕ) (n : Node A) → m1 node ≡ Some n → m2 ≡ put m1 node (Some (with_answer None n)) → IsSome (m2 node)
+  pub lives_still : (m1 m2 : Nodes A) (node : ℕ) (n : Node A) → m1 node ≡ Some n → m2 ≡ with_node m1 node (Some (with_answer None n)) → IsSome (m2 node)
   lives_still m1 m2 node n is e = subst IsSome (sym (ap (λ (m : Nodes A). m node) e ∙ put_same m1 node node (Some (with_answer None n)) refl)) refl
 
   pub ended_more : (m1 m2 m3 : Nodes A) (ks : List ℕ) (k : ℕ) → (In k ks → ⊥) → AreEnded m1 m2 ks → AreEnded m2 m3 (k ∷ []) → AreEnded m1 m3 (ks ++ k ∷ [])
   ended_more m1 m2 m3 ks k new one two = record {
     here = λ j i. elim (In_append ks (k ∷ []) j i) [
       | inl a ↦ two.others j (λ h. elim h [ inl e ↦ new (subst (λ x. In x ks) e a) | inr none ↦ none ]) ∙ one.here j a
-      | inr b ↦ two.here j b ∙ ap (option_map ended) (one.others j (λ a. elim b [ inl e ↦ new (subst (λ x. In x ks) e a) | inr none ↦ none ]))
+      | inr b ↦ two.here j b ∙ ap (option_map ended_node) (one.others j (λ a. elim b [ inl e ↦ new (subst (λ x. In x ks) e a) | inr none ↦ none ]))
     ];
     others = λ j no. two.others j (λ h. no (In_right j ks (k ∷ []) h)) ∙ one.others j (λ h. no (In_left j ks (k ∷ []) h));
   }

@@ -1,21 +1,20 @@
 -- The front of a level of which the nodes were found.
 use Rattle.std.proofs.Common.{◌≡◌, ◌⊎◌, ◌++◌, ℕ, List, [], sym, ◌∙◌, inl, inr}
 use Rattle.std.proofs.lemmas.Option.{none-some}
+use Rattle.lsys_spec.specs.Rows.{In, AreApart}
 use Rattle.lsys_reads.specs.Relations.{Relations}
-use Rattle.lsys_forest.specs.Groves.{In, AreApart}
 use Rattle.lsys_forest.proofs.RowLemmas.{In_left, In_right}
 use Rattle.lsys_kept.specs.Levels.{answer_at}
 use Rattle.lsys_kept.specs.declared.seat.Seat.{Seat}
 use Rattle.lsys_kept.specs.Neighbours.{neighbours_in}
 use Rattle.lsys_kept.specs.Seats.{neighbours_at}
 use Rattle.lsys_kept.specs.Standings.{AreSeated}
-use Rattle.lsys_kept.proofs.LookLemmas.{in_same, in_back}
 use Rattle.lsys_candidates.specs.Repairs.{Repair, SteppingSpots, now, rest, were, are}
 use Rattle.lsys_candidates.specs.Found.{LevelChanges, Differs, IsFound}
 use Rattle.lsys_candidates.proofs.Spots.{is_in, sound_new}
 use Rattle.lsys_candidates.proofs.FoundNodes.{same_neighbours}
 use Rattle.lsys_front.specs.Turned.{AreTurnedBy}
-use Rattle.lsys_front.specs.Fronts.{IsFront}
+use Rattle.lsys_front.specs.Fronts.{IsLevelFront}
 
 module _ (r : Repair) (seats : List Seat) (reads : Relations) (c : LevelChanges) (turned beside readers : List ℕ)
     (s : SteppingSpots r) (d : Differs r c) (seated : AreSeated (rest r) (were r) seats)
@@ -38,8 +37,8 @@ module _ (r : Repair) (seats : List Seat) (reads : Relations) (c : LevelChanges)
   turned_by = record {
     sound = sound_new r s;
     seated = seated;
-    there = λ k i away. in_back k (were r) (stayed k (in_same k (are r) i) (λ g. away (in_back k (c.came ++ turned) (In_left k c.came turned g))));
-    same = λ k i away. not_turned k (in_same k (are r) i) (λ g. away (in_back k (c.came ++ turned) (In_left k c.came turned g))) (λ g. away (in_back k (c.came ++ turned) (In_right k c.came turned g)));
+    there = λ k i away. stayed k i (λ g. away (In_left k c.came turned g));
+    same = λ k i away. not_turned k i (λ g. away (In_left k c.came turned g)) (λ g. away (In_right k c.came turned g));
   }
 
 pub found_front : (r : Repair) (seats : List Seat) (reads : Relations) (c : LevelChanges) (turned beside readers : List ℕ)
@@ -48,7 +47,7 @@ pub found_front : (r : Repair) (seats : List Seat) (reads : Relations) (c : Leve
     → ((k : ℕ) → In k c.looked → In k (are r))
     → ((k : ℕ) → In k (are r) → answer_at (now r) k ≡ answer_at (rest r) k)
     → IsFound r.forest seats reads c turned beside readers
-    → IsFront r seats (record { changes = c; turned = turned; bare = [] })
+    → IsLevelFront r seats (record { changes = c; turned = turned; bare = [] })
 found_front r seats reads c turned beside readers s d once seated looks looked_are same f = record {
   differs = d;
   gone_once = once;

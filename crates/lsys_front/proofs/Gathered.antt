@@ -1,6 +1,6 @@
 -- Nodes whose children may be others, each once.
 use Rattle.std.proofs.Common.{◌≡◌, ◌↔◌, ℕ, false, List, [], sym, subst, inl, inr}
-use Rattle.lsys_forest.specs.Groves.{In}
+use Rattle.lsys_spec.specs.Rows.{In}
 use Rattle.lsys_kept.specs.declared.seat.Seat.{Seat}
 use Rattle.lsys_kept.specs.Seats.{is_marked}
 use Rattle.lsys_candidates.specs.Finds.{Gathers, AllMarked}

@@ -1,11 +1,12 @@
 -- The last level of a repair.
 use Rattle.std.proofs.Common.{◌≡◌, ◌+◌, ◌-◌, ℕ, List, [], length, refl, ap, ◌∙◌, arith, inl, inr}
 use Rattle.std.specs.Option.{option_and_then}
+use Rattle.lsys_spec.specs.Rows.{In}
 use Rattle.lsys_change.proofs.UpTo.{level_count}
 use Rattle.lsys_forest.specs.Nodes.{Nodes}
 use Rattle.lsys_forest.specs.Changes.{Change}
 use Rattle.lsys_forest.specs.Answers.{answer_of}
-use Rattle.lsys_forest.specs.Groves.{In, IsSound, changes_in}
+use Rattle.lsys_forest.specs.Groves.{IsRooted, changes_in}
 use Rattle.lsys_forest.proofs.SoundLemmas.{AreSound-now, AreSound-then}
 use Rattle.lsys_match.specs.Kept.{Kept}
 use Rattle.lsys_kept.specs.Meant.{meant_to}
@@ -13,18 +14,18 @@ use Rattle.lsys_repair.proofs.Above.{upper_levels}
 use Rattle.lsys_candidates.specs.Repairs.{Repair, SteppingSpots, now, rest, root, are}
 use Rattle.lsys_candidates.specs.Found.{LevelChanges}
 use Rattle.lsys_front.specs.Ends.{AreEnded, answered_in, rows_from}
-use Rattle.lsys_front.specs.LastLevels.{IsEnded, IsBehindAll, IsLastLevel, all_below, HadAnswerBehind, HasAllBehind}
+use Rattle.lsys_front.specs.LastLevels.{IsLevelEnded, IsBehindAll, IsLastLevel, all_below, HadAnswerBehind, HasAllBehind}
 use Rattle.lsys_front.proofs.Lasts.{ended_upper, ended_kins, ended_stay, ended_nodes, ended_spots, ended_behind, ended_answers, ended_small, rows_below, answers_once, below_lives, not_reached, gone_kids, HadOne, had_one, had_it, bare_behind, bare_answers}
 
-sound_now : (r : Repair) → SteppingSpots r → IsSound (root r) (changes_in r.forest) (now r)
+sound_now : (r : Repair) → SteppingSpots r → IsRooted (root r) (changes_in r.forest) (now r)
 sound_now r s = AreSound-now (root r) (changes_in r.forest) (now r) s.sound
 
-sound_rest : (r : Repair) → SteppingSpots r → IsSound (root r) [] (rest r)
+sound_rest : (r : Repair) → SteppingSpots r → IsRooted (root r) [] (rest r)
 sound_rest r s = AreSound-then (root r) (changes_in r.forest) (now r) s.sound
 
 -- 1. the level ends
 
-pub is_ended : (r : Repair) (m : Nodes Kept) → SteppingSpots r → AreEnded (now r) m (are r) → IsEnded r m
+pub is_ended : (r : Repair) (m : Nodes Kept) → SteppingSpots r → AreEnded (now r) m (are r) → IsLevelEnded r m
 is_ended r m s e =
     let cs = changes_in r.forest in
     let sound = sound_now r s in
@@ -42,7 +43,7 @@ is_ended r m s e =
       small = ended_small (root r) cs (now r) m sound r.level e;
     }
 
-pub is_bare : (r : Repair) → SteppingSpots r → IsBehindAll r → IsEnded r (now r)
+pub is_bare : (r : Repair) → SteppingSpots r → IsBehindAll r → IsLevelEnded r (now r)
 is_bare r s b =
     let cs = changes_in r.forest in
     record {
@@ -75,10 +76,10 @@ has_behind r c m l e = record {
     cs : List (Change Kept)
     cs = changes_in r.forest
 
-    quiet : IsSound (root r) [] (rest r)
+    quiet : IsRooted (root r) [] (rest r)
     quiet = sound_rest r l.spots
 
-    sound : IsSound (root r) cs (now r)
+    sound : IsRooted (root r) cs (now r)
     sound = sound_now r l.spots
 
     had : (k : ℕ) → HadOne (rest r) (root r) r.level (r.old.depth - r.level) k → HadAnswerBehind r k

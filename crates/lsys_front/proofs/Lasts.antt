@@ -4,13 +4,14 @@ use Rattle.std.specs.Prelude.{IsSome, option_map}
 use Rattle.std.specs.Option.{option_and_then}
 use Rattle.std.proofs.lemmas.Bool.{cases_lt}
 use Rattle.std.proofs.lemmas.Option.{none-some, same_Some}
+use Rattle.lsys_spec.specs.Rows.{In, AreApart, flat}
 use Rattle.lsys_spec.specs.Draws.{number_base}
 use Rattle.lsys_change.specs.Nodes.{Kin, Extends}
 use Rattle.lsys_forest.specs.Nodes.{Node, Nodes}
 use Rattle.lsys_forest.specs.Changes.{Change}
 use Rattle.lsys_forest.specs.Answers.{answer_of}
-use Rattle.lsys_forest.specs.Groves.{In, AreApart, IsSound, ReachedIn, Reached}
-use Rattle.lsys_forest.specs.Rows.{flat, kids_in, kids_below, spot_in, level_nodes, level_spots}
+use Rattle.lsys_forest.specs.Groves.{IsRooted, ReachedIn, Reached}
+use Rattle.lsys_forest.specs.Rows.{kids_in, kids_below, spot_in, level_nodes, level_spots}
 use Rattle.lsys_forest.proofs.LinkLemmas.{flat_same}
 use Rattle.lsys_forest.proofs.RowLemmas as rows
 use Rattle.lsys_kept.specs.Lineages.{kin_of, kins}
@@ -18,7 +19,7 @@ use Rattle.lsys_repair.specs.Renewals.{AreSmall, KeepsUpper, KeepsDeeper}
 use Rattle.lsys_repair.proofs.Above.{upper_nodes, upper_spots}
 use Rattle.lsys_repair.proofs.Depths.{on_level}
 use Rattle.lsys_repair.proofs.Renewing.{in_cases}
-use Rattle.lsys_front.specs.Ends.{ended, AreEnded, is_answered, answered_in, row_below, rows_from, AreDeep}
+use Rattle.lsys_front.specs.Ends.{ended_node, AreEnded, is_answered, answered_in, row_below, rows_from, AreDeep}
 use Rattle.lsys_front.proofs.Rows.{in_flat}
 use Rattle.lsys_front.proofs.RowsBelow.{filter_in, in_filter, filter_apart, SameIn, row_level, rows_row, row_rows, below_apart, deep_rows, rows_apart, AgreeFrom, row_same, rows_same, answered, is_answered_by}
 
@@ -32,19 +33,19 @@ flat_none f (x ∷ xs) h = ap (λ (l : List ℕ). l ++ flat f xs) (h x (inl refl
 module _ {A : Type 0} where
   -- 1. nodes without children and answers
 
-  spot_stays : (k : ℕ) (o : Option (Node A)) → spot_in k (option_map ended o) ≡ spot_in k o
+  spot_stays : (k : ℕ) (o : Option (Node A)) → spot_in k (option_map ended_node o) ≡ spot_in k o
   spot_stays k None = refl
   spot_stays k (Some n) = refl
 
-  kin_stays : (o : Option (Node A)) → option_map (λ (n : Node A). kin_of n) (option_map ended o) ≡ option_map (λ (n : Node A). kin_of n) o
+  kin_stays : (o : Option (Node A)) → option_map (λ (n : Node A). kin_of n) (option_map ended_node o) ≡ option_map (λ (n : Node A). kin_of n) o
   kin_stays None = refl
   kin_stays (Some n) = refl
 
-  no_kids : (o : Option (Node A)) → kids_in (option_map ended o) ≡ []
+  no_kids : (o : Option (Node A)) → kids_in (option_map ended_node o) ≡ []
   no_kids None = refl
   no_kids (Some n) = refl
 
-  no_answer : (o : Option (Node A)) → option_and_then answer_of (option_map ended o) ≡ None
+  no_answer : (o : Option (Node A)) → option_and_then answer_of (option_map ended_node o) ≡ None
   no_answer None = refl
   no_answer (Some n) = refl
 
@@ -66,7 +67,7 @@ module _ {A : Type 0} where
   reached_level m root zero k h = subst (λ x. In k (kids_in x)) (sym h.3 ∙ ap m h.2) h.4
   reached_level m root (suc d) k h = in_flat (λ q. kids_in (m q)) (level_nodes m root d) h.0 k (reached_level m root d h.0 h.2) (subst (λ x. In k (kids_in x)) (sym h.3) h.4)
 
-  module _ (root : ℕ) (changes : List (Change A)) (old new : Nodes A) (sound : IsSound root changes old) (u : ℕ) (e : AreEnded old new (level_nodes old root u)) where
+  module _ (root : ℕ) (changes : List (Change A)) (old new : Nodes A) (sound : IsRooted root changes old) (u : ℕ) (e : AreEnded old new (level_nodes old root u)) where
     -- a node that is less deep is not of the level
     less_deep : (k : ℕ) (n : Node A) → old k ≡ Some n → n.depth < u + 1 → In k (level_nodes old root u) → ⊥
     less_deep k n is l i =
@@ -111,10 +112,10 @@ module _ {A : Type 0} where
     pub ended_answers : (k : ℕ) → In k (level_nodes old root u) → option_and_then answer_of (new k) ≡ None
     ended_answers k i = ap (option_and_then answer_of) (e.here k i) ∙ no_answer (old k)
 
-    small_ended : (o : Option (Node A)) → ((n : Node A) → o ≡ Some n → n.count < number_base) → (n : Node A) → option_map ended o ≡ Some n → n.count < number_base
+    small_ended : (o : Option (Node A)) → ((n : Node A) → o ≡ Some n → n.count < number_base) → (n : Node A) → option_map ended_node o ≡ Some n → n.count < number_base
     small_ended None h n is = absurd (none-some n is)
     small_ended (Some p) h n is =
-        let c : p.count ≡ n.count = ap (λ (y : Node A). y.count) (same_Some (ended p) n is) in
+        let c : p.count ≡ n.count = ap (λ (y : Node A). y.count) (same_Some (ended_node p) n is) in
         let l = h p refl in
         omega (arith, c, l)
 
@@ -135,7 +136,7 @@ module _ {A : Type 0} where
     pub answer : A
     pub kept : option_and_then answer_of (o k) ≡ Some answer
 
-  module _ (root : ℕ) (changes : List (Change A)) (o m : Nodes A) (quiet : IsSound root [] o) (sound : IsSound root changes m)
+  module _ (root : ℕ) (changes : List (Change A)) (o m : Nodes A) (quiet : IsRooted root [] o) (sound : IsRooted root changes m)
       (stay : Extends (kins o) (kins m)) (u : ℕ) (deep : KeepsDeeper o m (u + 1)) where
     same_kin : (k : ℕ) (p n : Node A) → o k ≡ Some p → m k ≡ Some n → kin_of n ≡ kin_of p
     same_kin k p n was is = same_Some (kin_of n) (kin_of p) (sym (ap (option_map (λ (y : Node A). kin_of y)) is) ∙ stay k (kin_of p) (ap (option_map (λ (y : Node A). kin_of y)) was))

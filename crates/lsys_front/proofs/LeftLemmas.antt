@@ -1,8 +1,8 @@
 -- What cuts left of a level is a generation, with the mates of the level.
 use Rattle.std.proofs.Common.{◌≡◌, inl, inr, ℕ, zero, suc, Bool, true, false, cond, List, [], ◌∷◌, ◌++◌, append_assoc, Option, Some, None, refl, ap, sym, ◌∙◌, subst, arith}
 use Rattle.std.specs.Prelude.{◌↔◌, ◌+◌}
+use Rattle.lsys_spec.specs.Rows.{In, AreApart, flat}
 use Rattle.lsys_change.specs.Kinds.{BracketKind, Opens, Closes, Neither, stays, reached}
-use Rattle.lsys_change.specs.Seams.{In, AreApart, flat}
 use Rattle.lsys_change.specs.Mates.{closing, closer, balancing, AreBalanced, AreOwn, below, AreMatesAmong, next_nodes, AreMatesOn, IsGeneration}
 use Rattle.lsys_change.proofs.Joints.{in_front, in_back}
 use Rattle.lsys_front.specs.Generations.{IsLeft, AreLeft, is_parent, parents, IsLeftLevel, left_generation}

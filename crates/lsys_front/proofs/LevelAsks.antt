@@ -2,19 +2,19 @@
 use Rattle.std.proofs.Common.{◌≡◌, ◌⊎◌, ◌↔◌, ℕ, Some, None, List, [], ◌∷◌, length, refl, ap, sym, ◌∙◌, subst, inl, inr}
 use Rattle.std.specs.Prelude.{slice_get}
 use Rattle.std.proofs.lemmas.Option.{same_Some}
+use Rattle.lsys_spec.specs.Rows.{In}
 use Rattle.lsys_spec.specs.Bodies.{Body, group}
 use Rattle.lsys_spec.specs.Levels.{ModuleValue}
 use Rattle.lsys_spec.specs.Questions.{questions, is_needed}
 use Rattle.lsys_change.specs.Passes.{module_question}
 use Rattle.lsys_level.specs.Spots.{Seen, Push, Pop, Module, Spotted}
-use Rattle.lsys_forest.specs.Groves.{In}
 use Rattle.lsys_forest.specs.Rows.{spot_in, level_spots}
-use Rattle.lsys_kept.specs.Levels.{IsAnswered, AnsweredAt, level_of, answer_at}
+use Rattle.lsys_kept.specs.Levels.{IsAnsweredRight, AnsweredAt, level_of, answer_at}
 use Rattle.lsys_kept.specs.Meant.{IsNeeded}
 use Rattle.lsys_kept.specs.Standings.{seen_at}
 use Rattle.lsys_kept.proofs.LevelLemmas.{got_in}
 use Rattle.lsys_candidates.specs.Repairs.{Repair, now, root, rest, are, SteppingSpots}
-use Rattle.lsys_candidates.specs.Candidates.{HasQuestion, IsCandidateNode}
+use Rattle.lsys_candidates.specs.Candidates.{AsksNow, IsCandidateNode}
 use Rattle.lsys_candidates.proofs.Gathering.{not_both}
 use Rattle.lsys_candidates.proofs.Nodes.{is_candidate, tag_is, seen_there}
 use Rattle.lsys_candidates.proofs.Spots.{is_in, xs, is_level}
@@ -36,15 +36,15 @@ module _ (r : Repair) (s : SteppingSpots r) (p k : ℕ) (there : slice_get (are 
       (ap (λ l. is_needed (questions r.old (xs r s)) (module_question r.new r.level (is_level r s) p l n.own)) t.0 ∙ unneeded r s p k there n.own t.1 n.rules not_one)
 
   abbrev IsSaid : Seen → Type 0
-  IsSaid x = IsAnswered r.new r.level row r.store p k x (answer_at (now r) k)
+  IsSaid x = IsAnsweredRight r.new r.level row r.store p k x (answer_at (now r) k)
 
   said : IsSaid (seen_at (now r) k) → AnsweredAt r.new r.level (now r) (root r) r.store p k
   said h x e =
       let same : spot_in k (now r k) ≡ x = same_Some (spot_in k (now r k)) x (sym (spot_now r s p k there) ∙ e) in
-      subst (λ (a : Spotted). IsAnswered r.new r.level row r.store p a.tag a.seen (answer_at (now r) k)) same
-      (subst (λ j. IsAnswered r.new r.level row r.store p j (seen_at (now r) k) (answer_at (now r) k)) (sym (tag_is k (now r k))) h)
+      subst (λ (a : Spotted). IsAnsweredRight r.new r.level row r.store p a.tag a.seen (answer_at (now r) k)) same
+      (subst (λ j. IsAnsweredRight r.new r.level row r.store p j (seen_at (now r) k) (answer_at (now r) k)) (sym (tag_is k (now r k))) h)
 
-  answered : (HasQuestion r k → answer_at (now r) k ≡ answer_at (rest r) k) → ((HasQuestion r k → ⊥) → answer_at (now r) k ≡ None) → (IsCandidateNode r k → ⊥) → IsSaid (seen_at (now r) k)
+  answered : (AsksNow r k → answer_at (now r) k ≡ answer_at (rest r) k) → ((AsksNow r k → ⊥) → answer_at (now r) k ≡ None) → (IsCandidateNode r k → ⊥) → IsSaid (seen_at (now r) k)
   answered kept bare not_one = by (seen_at (now r) k) refl
     where
       by : (x : Seen) → seen_at (now r) k ≡ x → IsSaid x
@@ -61,8 +61,8 @@ module _ (r : Repair) (s : SteppingSpots r) (p k : ℕ) (there : slice_get (are 
               keeps_right r s p k there v e rules not_one (answer_at (now r) k) (kept (record { own = v; is = e; rules = rules }))
 
 pub asks_level : (r : Repair) (pending : List ℕ) → SteppingSpots r
-    → ((k : ℕ) → In k (are r) → HasQuestion r k → answer_at (now r) k ≡ answer_at (rest r) k)
-    → ((k : ℕ) → In k (are r) → (HasQuestion r k → ⊥) → answer_at (now r) k ≡ None)
+    → ((k : ℕ) → In k (are r) → AsksNow r k → answer_at (now r) k ≡ answer_at (rest r) k)
+    → ((k : ℕ) → In k (are r) → (AsksNow r k → ⊥) → answer_at (now r) k ≡ None)
     → ((k : ℕ) → In k pending ↔ (In k (are r) × IsCandidateNode r k))
     → (p k : ℕ) → slice_get (are r) p ≡ Some k → IsToAsk r pending p k ⊎ IsUnasked r pending p k
 asks_level r pending s kept bare is p k there = elim (is_in k pending) [

@@ -2,6 +2,7 @@
 use Rattle.std.proofs.Common.{◌≡◌, ◌+◌, ◌<◌, ℕ, zero, suc, Bool, true, false, cond, List, [], ◌∷◌, ◌++◌, map, append-nil, slice_get, Option, Some, None, Ok, refl, sym, ap, ◌∙◌, subst, arith, inl, inr}
 use Rattle.std.specs.Prelude.{ℤ}
 use Rattle.std.proofs.lemmas.Bool.{eqb-true}
+use Rattle.lsys_spec.specs.Rows.{In, flat, AreApart}
 use Rattle.lsys_syntax.specs.Commands.{Numbering}
 use Rattle.lsys_syntax.specs.Strings as T
 use Rattle.lsys_spec.specs.Systems.{System, WellSpelled}
@@ -9,19 +10,18 @@ use Rattle.lsys_spec.specs.Levels as L
 use Rattle.lsys_spec.specs.Levels.{lineage, level_balanced, IsLevel}
 use Rattle.lsys_spec.specs.Cuts.{raw_balanced, cut}
 use Rattle.lsys_spec.specs.Numbers.{number_at}
-use Rattle.lsys_spec.specs.Meaning.{children}
+use Rattle.lsys_spec.specs.Meaning.{children, replacement}
 use Rattle.lsys_spec.proofs.Cutting.{cut_balanced}
 use Rattle.lsys_spec.proofs.Balanced.{is_level}
 use Rattle.lsys_spec.proofs.Offspring.{has_balance, successor_balanced, successor_short, offspring_balanced}
-use Rattle.lsys_change.specs.Kinds.{BracketKind, kind_of, stays, reached}
+use Rattle.lsys_change.specs.Kinds.{BracketKind, kind_of_symbol, stays, reached}
 use Rattle.lsys_change.specs.Seams as S
 use Rattle.lsys_change.specs.Mates.{balancing, AreBalanced, AreOwn}
-use Rattle.lsys_change.specs.Children.{is_open, replacement}
+use Rattle.lsys_change.specs.Children.{is_open}
 use Rattle.lsys_change.proofs.UpTo.{level_count}
 use Rattle.lsys_level.specs.Spots.{Seen, Push, Pop, Module, with_lineage, level_by}
 use Rattle.lsys_forest.specs.Nodes.{Nodes}
 use Rattle.lsys_forest.specs.Groves as G
-use Rattle.lsys_forest.specs.Groves.{In}
 use Rattle.lsys_forest.specs.Rows.{index_in, spot_in, kids_in, level_nodes}
 use Rattle.lsys_forest.proofs.RowLemmas.{get_split, index_of, level_apart}
 use Rattle.lsys_match.specs.Kept.{Kept}
@@ -34,17 +34,12 @@ use Rattle.lsys_repair.proofs.Nexts.{kind_with, balance_by}
 use Rattle.lsys_repair.proofs.Families.{level_families}
 use Rattle.lsys_kept.specs.Neighbours.{numbered_level}
 use Rattle.lsys_kept.specs.Looks.{kind_in}
-use Rattle.lsys_kept.proofs.LookLemmas.{flat_same, in_same}
 use Rattle.lsys_kept.proofs.LevelLemmas.{place_in, lineage_at}
 use Rattle.lsys_kept.proofs.LookedLemmas.{node_at}
 use Rattle.lsys_front.specs.Generations.{IsLeft, AreLeft}
 use Rattle.lsys_front.specs.Below.{kids_at, AreLeftLevels}
 
 -- 1. rows
-
-pub apart_back : (xs : List ℕ) → G.AreApart xs → S.AreApart xs
-apart_back [] h = tt
-apart_back (x ∷ xs) h = (λ i. h.0 (in_same x xs i), apart_back xs h.1)
 
 no_symbols : {X : Type 0} (f : ℕ → X) (ks : List ℕ) → map f ks ≡ [] → ks ≡ []
 no_symbols f [] e = refl
@@ -56,18 +51,18 @@ one_symbol f (k ∷ []) a e = let g : f k ≡ a = cc in (k, refl, g)
 one_symbol f (k ∷ j ∷ ks) a e = cc
 
 -- where a number stands that stands once
-pub one_place : (xs : List ℕ) → G.AreApart xs → (p k : ℕ) → slice_get xs p ≡ Some k → index_in k xs ≡ p
+pub one_place : (xs : List ℕ) → AreApart xs → (p k : ℕ) → slice_get xs p ≡ Some k → index_in k xs ≡ p
 one_place xs h p k e =
     let s = get_split xs p k e in
-    ap (index_in k) s.whole ∙ index_of k s.before s.after (subst G.AreApart s.whole h) ∙ s.long
+    ap (index_in k) s.whole ∙ index_of k s.before s.after (subst AreApart s.whole h) ∙ s.long
 
 -- 2. balance
 
-balanced_kinds : (kind : ℕ → BracketKind) (f : ℕ → L.Symbol) → ((k : ℕ) → kind k ≡ kind_of (f k)) → (n : ℕ) (ks : List ℕ) → level_balanced n (map f ks) ≡ true → AreBalanced kind n ks
+balanced_kinds : (kind : ℕ → BracketKind) (f : ℕ → L.LevelSymbol) → ((k : ℕ) → kind k ≡ kind_of_symbol (f k)) → (n : ℕ) (ks : List ℕ) → level_balanced n (map f ks) ≡ true → AreBalanced kind n ks
 balanced_kinds kind f same n [] h = eqb-true n 0 h
 balanced_kinds kind f same n (k ∷ ks) h = by (f k) (same k) n h (λ n e. balanced_kinds kind f same n ks e)
   where
-    by : (a : L.Symbol) → kind k ≡ kind_of a → (n : ℕ) → level_balanced n (a ∷ map f ks) ≡ true → ((n : ℕ) → level_balanced n (map f ks) ≡ true → AreBalanced kind n ks)
+    by : (a : L.LevelSymbol) → kind k ≡ kind_of_symbol a → (n : ℕ) → level_balanced n (a ∷ map f ks) ≡ true → ((n : ℕ) → level_balanced n (map f ks) ≡ true → AreBalanced kind n ks)
         → balancing (kind k) n (λ m. AreBalanced kind m ks)
     by (L.Push l) e n h rest = subst (λ k. balancing k n (λ m. AreBalanced kind m ks)) (sym e) (rest (suc n) h)
     by (L.Module l v) e n h rest = subst (λ k. balancing k n (λ m. AreBalanced kind m ks)) (sym e) (rest n h)
@@ -78,21 +73,21 @@ module _ {A : Type 0} (m : Nodes A) where
   pub kind_is : (k : ℕ) → kind_in m k ≡ node_kind m k
   kind_is k = kind_with ((spot_in k (m k)).tag ∷ []) (spot_in k (m k)).seen
 
-  kind_named : (k : ℕ) → kind_in m k ≡ kind_of (node_symbol m k)
+  kind_named : (k : ℕ) → kind_in m k ≡ kind_of_symbol (node_symbol m k)
   kind_named k = kind_is k ∙ sym (kind_with (names m (spot_in k (m k)).tag) (spot_in k (m k)).seen)
 
   symbols : (f : ℕ → List ℕ) (ks : List ℕ) → level_by f (map (λ k. spot_in k (m k)) ks) ≡ map (λ k. with_lineage (f (spot_in k (m k)).tag) (spot_in k (m k)).seen) ks
   symbols f [] = refl
-  symbols f (k ∷ ks) = ap (λ (x : List L.Symbol). with_lineage (f (spot_in k (m k)).tag) (spot_in k (m k)).seen ∷ x) (symbols f ks)
+  symbols f (k ∷ ks) = ap (λ (x : List L.LevelSymbol). with_lineage (f (spot_in k (m k)).tag) (spot_in k (m k)).seen ∷ x) (symbols f ks)
 
   balanced_row : (ks : List ℕ) → level_balanced 0 (level_by (λ tag. []) (map (λ k. spot_in k (m k)) ks)) ≡ true → AreBalanced (kind_in m) 0 ks
   balanced_row ks h =
       balanced_kinds (kind_in m) (λ k. with_lineage [] (spot_in k (m k)).seen) (λ k. kind_is k ∙ sym (kind_with [] (spot_in k (m k)).seen)) 0 ks (ap (level_balanced 0) (sym (symbols (λ tag. []) ks)) ∙ h)
 
-  numbered_is_level : (ks : List ℕ) → G.AreApart ks → level_balanced 0 (level_by (λ tag. []) (map (λ k. spot_in k (m k)) ks)) ≡ true → IsLevel (numbered_level m ks)
+  numbered_is_level : (ks : List ℕ) → AreApart ks → level_balanced 0 (level_by (λ tag. []) (map (λ k. spot_in k (m k)) ks)) ≡ true → IsLevel (numbered_level m ks)
   numbered_is_level ks a h = is_level (numbered_level m ks) (balance_by (λ k. k ∷ []) (λ tag. []) 0 (map (λ k. spot_in k (m k)) ks) ∙ h) apart
     where
-      apart : (p q : ℕ) (s t : L.Symbol) → slice_get (numbered_level m ks) p ≡ Some s → slice_get (numbered_level m ks) q ≡ Some t → lineage s ≡ lineage t → p ≡ q
+      apart : (p q : ℕ) (s t : L.LevelSymbol) → slice_get (numbered_level m ks) p ≡ Some s → slice_get (numbered_level m ks) q ≡ Some t → lineage s ≡ lineage t → p ≡ q
       apart p q s t hp hq e =
           let i = node_at m ks p s hp in
           let j = node_at m ks q t hq in
@@ -107,16 +102,16 @@ module _ {A : Type 0} (m : Nodes A) where
       let z : 0 + 0 ≡ 0 = omega arith in
       balanced_kinds (kind_in m) (node_symbol m) kind_named 0 ks (ap (level_balanced 0) e ∙ cut_balanced (children g l zs) None 0 0 z b)
 
-  own_by : (s : System) → WellSpelled s → (t p : ℕ) (x : List L.Symbol) (l l' : List ℕ) (zs : List (T.Symbol ℤ)) (ks : List ℕ) (e : Seen) → replacement s t x p (with_lineage l e) ≡ Ok zs
+  own_by : (s : System) → WellSpelled s → (t p : ℕ) (x : List L.LevelSymbol) (l l' : List ℕ) (zs : List (T.Symbol ℤ)) (ks : List ℕ) (e : Seen) → replacement s t x p (with_lineage l e) ≡ Ok zs
       → map (node_symbol m) ks ≡ cut (children s.numbering l' zs) → AreOwn (kind_in m) (bracket_kind e) ks
   own_by s w t p x l l' zs ks Push r c =
       let f : T.Push ∷ [] ≡ zs = cc in
       let o = one_symbol (node_symbol m) ks (L.Push (l' ++ number_at s.numbering 0 [] 91 ∷ [])) (c ∙ ap (λ zs. cut (children s.numbering l' zs)) (sym f)) in
-      (o.0, o.1, kind_named o.0 ∙ ap kind_of o.2)
+      (o.0, o.1, kind_named o.0 ∙ ap kind_of_symbol o.2)
   own_by s w t p x l l' zs ks Pop r c =
       let f : T.Pop ∷ [] ≡ zs = cc in
       let o = one_symbol (node_symbol m) ks (L.Pop (l' ++ number_at s.numbering 0 [] 93 ∷ [])) (c ∙ ap (λ zs. cut (children s.numbering l' zs)) (sym f)) in
-      (o.0, o.1, kind_named o.0 ∙ ap kind_of o.2)
+      (o.0, o.1, kind_named o.0 ∙ ap kind_of_symbol o.2)
   own_by s w t p x l l' zs ks (Module v) r c =
       let b = successor_balanced s (has_balance s w) t x p l v zs r in
       let few = successor_short s (has_balance s w) t x p l v zs r in
@@ -125,12 +120,12 @@ module _ {A : Type 0} (m : Nodes A) where
       balanced_children s.numbering l' zs raw ks c
 
   -- what cuts left of one family
-  left_by : (s : System) → WellSpelled s → (t p : ℕ) (x : List L.Symbol) (k : ℕ) (zs : List (T.Symbol ℤ)) → replacement s t x p (node_symbol m k) ≡ Ok zs
+  left_by : (s : System) → WellSpelled s → (t p : ℕ) (x : List L.LevelSymbol) (k : ℕ) (zs : List (T.Symbol ℤ)) → replacement s t x p (node_symbol m k) ≡ Ok zs
       → (b : Bool) → map (node_symbol m) (kids_in (m k)) ≡ cut (children s.numbering (names m k) (cond b zs [])) → IsLeft (kind_in m) b (node_kind m k) (kids_at m k)
   left_by s w t p x k zs r true e = own_by s w t p x (names m (spot_in k (m k)).tag) (names m k) zs (kids_in (m k)) (spot_in k (m k)).seen r e
   left_by s w t p x k zs r false e = no_symbols (node_symbol m) (kids_in (m k)) e
 
-  left_from : (s : System) → WellSpelled s → (t seed : ℕ) (x : List L.Symbol) (by : Successors) (o : Option ℕ) (ks : List ℕ)
+  left_from : (s : System) → WellSpelled s → (t seed : ℕ) (x : List L.LevelSymbol) (by : Successors) (o : Option ℕ) (ks : List ℕ)
       → ((k : ℕ) → In k ks → (p : ℕ) × (replacement s t x p (node_symbol m k) ≡ Ok (by k))) → HaveWanted s.numbering seed m by o ks → AreLeft (kind_in m) (kids_at m) o ks
   left_from s w t seed x by o [] r h = tt
   left_from s w t seed x by o (k ∷ ks) r h =
@@ -153,13 +148,13 @@ left_levels s limit n t m root by a l replaced =
     let apart = level_apart root a.changes m a.sound t in
     let next_apart = level_apart root a.changes m a.sound (suc t) in
     let wanted = level_families s limit n m root a.changes a.spelled a.is a.levels a.sound a.once t by l replaced in
-    let row : level_nodes m root (suc t) ≡ S.flat (kids_at m) (level_nodes m root t) = flat_same (λ k. kids_in (m k)) (level_nodes m root t) in
+    let row : level_nodes m root (suc t) ≡ flat (kids_at m) (level_nodes m root t) = refl in
     record {
       left = record {
         balanced = balanced_row m (level_nodes m root t) here;
         left = left_from m s a.spelled t s.seed (level_of m root t) by None (level_nodes m root t) (λ k i. let p = place_in k (level_nodes m root t) i in (p.0, replaced p.0 k p.1)) wanted;
-        apart = apart_back (level_nodes m root t) apart;
-        kids_apart = subst S.AreApart row (apart_back (level_nodes m root (suc t)) next_apart);
+        apart = apart;
+        kids_apart = subst AreApart row next_apart;
       };
       level = numbered_is_level m (level_nodes m root t) apart here;
       next = subst (λ ks. IsLevel (numbered_level m ks)) row (numbered_is_level m (level_nodes m root (suc t)) next_apart next);

@@ -2,13 +2,14 @@
 use Rattle.std.proofs.Common.{◌≡◌, ◌⊎◌, ◌+◌, ◌<◌, ℕ, false, List, [], ◌∷◌, Option, Some, refl, sym, ap, ◌∙◌, subst, arith, inl, inr}
 use Rattle.std.specs.Prelude.{slice_get, option_map}
 use Rattle.std.proofs.lemmas.Option.{slice_get-map}
+use Rattle.lsys_spec.specs.Rows.{In, AreApart}
 use Rattle.lsys_syntax.specs.Commands.{Numbering}
 use Rattle.lsys_spec.specs.Draws.{key_of}
 use Rattle.lsys_change.specs.Children.{is_open}
 use Rattle.lsys_level.specs.Spots.{Spotted}
 use Rattle.lsys_match.specs.Kept.{Kept}
 use Rattle.lsys_forest.specs.Nodes.{Node}
-use Rattle.lsys_forest.specs.Groves.{In, AreApart, changes_in}
+use Rattle.lsys_forest.specs.Groves.{changes_in}
 use Rattle.lsys_forest.specs.Rows.{spot_in, level_spots}
 use Rattle.lsys_forest.proofs.RowLemmas.{level_depth}
 use Rattle.lsys_kept.specs.Standings.{seen_at}

@@ -1,6 +1,7 @@
 -- Who is looked at, call by call.
 use Rattle.std.proofs.Common.{◌≡◌, ◌++◌, ℕ, List, inl, inr, subst}
-use Rattle.lsys_forest.specs.Groves.{Grove, In}
+use Rattle.lsys_spec.specs.Rows.{In}
+use Rattle.lsys_forest.specs.Groves.{Grove}
 use Rattle.lsys_forest.proofs.RowLemmas.{In_append}
 use Rattle.lsys_kept.specs.Looks.{LooksAround, LooksBeyond, LooksAtMate, LooksInto, IsOnLevelOf, AddsBelow}
 use Rattle.lsys_kept.proofs.SeamLemmas.{around_keep, beyond_keep}

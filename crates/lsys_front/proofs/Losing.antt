@@ -6,9 +6,9 @@ use Rattle.std.proofs.lemmas.Bool.{cases_eq}
 use Rattle.std.proofs.lemmas.Grind.{common_steps}
 use Rattle.std.proofs.lemmas.Option.{none-some}
 use Rattle.lsys_region.proofs.ListLemmas.{slice_get-push_old, slice_get-push_new, slice_get-push_cases}
-use Rattle.lsys_forest.specs.Nodes.{Node, Nodes, put, with_answer}
+use Rattle.lsys_forest.specs.Nodes.{Node, Nodes, with_node, with_answer}
 use Rattle.lsys_forest.specs.Changes.{Change, OldAnswer}
-use Rattle.lsys_forest.specs.Answers.{Keeper, AtNode, AtChange, answer_of, old_answer, answers}
+use Rattle.lsys_forest.specs.Answers.{AnswerKeeper, AtNode, AtChange, answer_of, old_answer, answers}
 use Rattle.lsys_forest.specs.Groves.{Grove, Sets, now_of, rest_of, changes_in, kept_in, live_nodes}
 use Rattle.lsys_forest.proofs.StockLemmas.{put_same, put_other}
 use Rattle.lsys_front.specs.Losses.{KeepsOld, LosesOnly}
@@ -16,7 +16,7 @@ use Rattle.lsys_front.specs.Losses.{KeepsOld, LosesOnly}
 -- 1. keepers
 
 -- who kept an answer before the change with this place, by which that of a node was taken
-abbrev source : ℕ → ℕ → Keeper → Keeper
+abbrev source : ℕ → ℕ → AnswerKeeper → AnswerKeeper
 source node last (AtNode k) = AtNode k
 source node last (AtChange i) = cond (nat_eq i last) (AtNode node) (AtChange i)
 
@@ -32,7 +32,7 @@ node_change i j e = cc
 node_node : (i j : ℕ) → AtNode i ≡ AtNode j → i ≡ j
 node_node i j e = cc
 
-source_once : (node last : ℕ) (h i : Keeper) → h ≢ AtNode node → i ≢ AtNode node → source node last h ≡ source node last i → h ≡ i
+source_once : (node last : ℕ) (h i : AnswerKeeper) → h ≢ AtNode node → i ≢ AtNode node → source node last h ≡ source node last i → h ≡ i
 source_once node last (AtNode k) (AtNode j) a b e = e
 source_once node last (AtNode k) (AtChange j) a b e = elim (source_cases node last j) [
   | inl s ↦ absurd (a (e ∙ s.1))
@@ -54,10 +54,10 @@ source_once node last (AtChange i) (AtChange j) a b e = elim (source_cases node 
 ]
 
 module _ {A : Type 0} where
-  pub keeps_same : (kept : Keeper → Option A) → KeepsOld kept kept
+  pub keeps_same : (kept : AnswerKeeper → Option A) → KeepsOld kept kept
   keeps_same kept = record { from = λ h. h; came = λ h a e. e; apart = λ h i a b e f same. same; still = λ h a e. (h, e) }
 
-  pub keeps_on : (old mid new : Keeper → Option A) → KeepsOld old mid → KeepsOld mid new → KeepsOld old new
+  pub keeps_on : (old mid new : AnswerKeeper → Option A) → KeepsOld old mid → KeepsOld mid new → KeepsOld old new
   keeps_on old mid new one two = record {
     from = λ h. one.from (two.from h);
     came = λ h a e. one.came (two.from h) a (two.came h a e);
@@ -71,12 +71,12 @@ module _ {A : Type 0} where
   abbrev pub note_of : ℕ → Node A → Change A
   note_of node n = record { node = node; before = OldAnswer n.answer }
 
-  record IsOther (m : Nodes A) (changes : List (Change A)) (node : ℕ) (h : Keeper) (a : A) : Type 0 where
+  record IsOther (m : Nodes A) (changes : List (Change A)) (node : ℕ) (h : AnswerKeeper) (a : A) : Type 0 where
     other : h ≢ AtNode node
     was : answers m changes (source node (length changes) h) ≡ Some a
 
-  is_other : (m : Nodes A) (changes : List (Change A)) (node : ℕ) (n : Node A) → m node ≡ Some n → (h : Keeper) (a : A)
-      → answers (put m node (Some (with_answer None n))) (changes ++ note_of node n ∷ []) h ≡ Some a → IsOther m changes node h a
+  is_other : (m : Nodes A) (changes : List (Change A)) (node : ℕ) (n : Node A) → m node ≡ Some n → (h : AnswerKeeper) (a : A)
+      → answers (with_node m node (Some (with_answer None n))) (changes ++ note_of node n ∷ []) h ≡ Some a → IsOther m changes node h a
   is_other m changes node n is (AtNode k) a e = elim (cases_eq k node) [
     | inl s ↦ absurd (none-some a (sym (ap (option_and_then answer_of) (put_same m node k (Some (with_answer None n)) s)) ∙ e))
     | inr ne ↦ record {
@@ -103,8 +103,8 @@ module _ {A : Type 0} where
       ]
 
   -- each answer that was kept is kept still
-  kept_still : (m : Nodes A) (changes : List (Change A)) (node : ℕ) (n : Node A) → m node ≡ Some n → (h : Keeper) (a : A) → answers m changes h ≡ Some a
-      → (i : Keeper) × (answers (put m node (Some (with_answer None n))) (changes ++ note_of node n ∷ []) i ≡ Some a)
+  kept_still : (m : Nodes A) (changes : List (Change A)) (node : ℕ) (n : Node A) → m node ≡ Some n → (h : AnswerKeeper) (a : A) → answers m changes h ≡ Some a
+      → (i : AnswerKeeper) × (answers (with_node m node (Some (with_answer None n))) (changes ++ note_of node n ∷ []) i ≡ Some a)
   kept_still m changes node n is (AtNode k) a e = elim (cases_eq k node) [
     | inl s ↦ (
       AtChange (length changes),
@@ -115,12 +115,12 @@ module _ {A : Type 0} where
   kept_still m changes node n is (AtChange i) a e = go (slice_get changes i) refl e
     where
       go : (o : Option (Change A)) → slice_get changes i ≡ o → option_and_then old_answer o ≡ Some a
-          → (j : Keeper) × (answers (put m node (Some (with_answer None n))) (changes ++ note_of node n ∷ []) j ≡ Some a)
+          → (j : AnswerKeeper) × (answers (with_node m node (Some (with_answer None n))) (changes ++ note_of node n ∷ []) j ≡ Some a)
       go None f g = absurd (none-some a g)
       go (Some x) f g = (AtChange i, ap (option_and_then old_answer) (slice_get-push_old changes i x (note_of node n) f) ∙ g)
 
   pub keeps_others : (m : Nodes A) (changes : List (Change A)) (node : ℕ) (n : Node A) → m node ≡ Some n
-      → KeepsOld (answers m changes) (answers (put m node (Some (with_answer None n))) (changes ++ note_of node n ∷ []))
+      → KeepsOld (answers m changes) (answers (with_node m node (Some (with_answer None n))) (changes ++ note_of node n ∷ []))
   keeps_others m changes node n is = record {
     from = source node (length changes);
     came = λ h a e. (is_other m changes node n is h a e).was;
@@ -147,7 +147,7 @@ module _ {A : Type 0} where
   loses_answer f h node n is sets noted live = record {
     kept =
         subst (λ (m : Nodes A). KeepsOld (kept_in f) (answers m (changes_in h))) (sym sets.now)
-        (subst (λ (cs : List (Change A)). KeepsOld (kept_in f) (answers (put (now_of f) node (Some (with_answer None n))) cs)) (sym noted) (keeps_others (now_of f) (changes_in f) node n is));
+        (subst (λ (cs : List (Change A)). KeepsOld (kept_in f) (answers (with_node (now_of f) node (Some (with_answer None n))) cs)) (sym noted) (keeps_others (now_of f) (changes_in f) node n is));
     rest = sets.rest;
     root = sets.root;
     live = live;

@@ -3,10 +3,11 @@ use Rattle.std.proofs.Common.{◌≡◌, ◌↔◌, ◌⊎◌, ◌+◌, ℕ, Opt
 use Rattle.std.specs.Prelude.{IsSome, slice_get, option_map}
 use Rattle.std.specs.Option.{option_and_then}
 use Rattle.std.proofs.lemmas.List.{append-nil}
+use Rattle.lsys_spec.specs.Rows.{In}
 use Rattle.lsys_spec.specs.Systems.{System}
-use Rattle.lsys_forest.specs.Nodes.{Node, Nodes, put, with_answer}
+use Rattle.lsys_forest.specs.Nodes.{Node, Nodes, with_node, with_answer}
 use Rattle.lsys_forest.specs.Answers.{answer_of, answers}
-use Rattle.lsys_forest.specs.Groves.{Grove, In, now_of, rest_of, changes_in, live_nodes}
+use Rattle.lsys_forest.specs.Groves.{Grove, now_of, rest_of, changes_in, live_nodes}
 use Rattle.lsys_forest.specs.Rows.{spot_in}
 use Rattle.lsys_forest.proofs.RowLemmas.{In_append, In_left, In_right, apart_append}
 use Rattle.lsys_forest.proofs.StockLemmas.{put_same, put_other}
@@ -49,7 +50,7 @@ module _ {A : Type 0} (s : System) (t : ℕ) where
   }
 
   pub loses_one : (m m' : Nodes A) (node : ℕ) (n : Node A) (bare bare' dropped dropped' : List ℕ) → IsIdle s t m node → m node ≡ Some n
-      → m' ≡ put m node (Some (with_answer None n)) → bare' ≡ bare ++ node ∷ [] → dropped' ≡ dropped ++ node ∷ []
+      → m' ≡ with_node m node (Some (with_answer None n)) → bare' ≡ bare ++ node ∷ [] → dropped' ≡ dropped ++ node ∷ []
       → Loses s t m m' (node ∷ []) bare bare' dropped dropped'
   loses_one m m' node n bare bare' dropped dropped' idle is set b d = record {
     lost = node ∷ [];

@@ -1,12 +1,13 @@
 -- What was looked at below the level that was made last.
 use Rattle.std.proofs.Common.{◌≡◌, ◌<◌, ◌⊎◌, ◌+◌, ◌++◌, ℕ, List, [], Ok, Some, slice_get, sym, ap, ◌∙◌, subst, arith, inl, inr}
 use Rattle.std.proofs.lemmas.List.{append-nil}
-use Rattle.lsys_change.specs.Children.{replacement}
+use Rattle.lsys_spec.specs.Rows.{In}
+use Rattle.lsys_spec.specs.Meaning.{replacement}
 use Rattle.lsys_match.specs.Kept.{Kept}
-use Rattle.lsys_forest.specs.Groves.{Grove, In, IsSound, changes_in, now_of}
+use Rattle.lsys_forest.specs.Groves.{Grove, IsRooted, changes_in, now_of}
 use Rattle.lsys_forest.specs.Rows.{level_nodes, level_spots, level_of_node}
 use Rattle.lsys_forest.proofs.RowLemmas.{In_append}
-use Rattle.lsys_brood.specs.Children.{Told, KeepsChildren}
+use Rattle.lsys_brood.specs.Children.{ToldNodes, KeepsChildren}
 use Rattle.lsys_kept.specs.Levels.{level_of}
 use Rattle.lsys_repair.specs.Nexts.{Successors, AreLevels, node_symbol}
 use Rattle.lsys_repair.specs.Renewals.{KeepsUpper}
@@ -18,17 +19,16 @@ use Rattle.lsys_kept.specs.declared.seat.Seat.{Seat}
 use Rattle.lsys_kept.specs.Neighbours.{neighbours_in}
 use Rattle.lsys_kept.specs.Seats.{neighbours_at}
 use Rattle.lsys_kept.specs.Standings.{AreSeated}
-use Rattle.lsys_kept.proofs.LookLemmas.{in_same, in_back}
 use Rattle.lsys_candidates.specs.Repairs.{Repair, SteppingSpots, now, rest, root, were, are}
 use Rattle.lsys_candidates.proofs.Spots.{sound_new}
 use Rattle.lsys_front.specs.Turned.{IsSameLevel}
 use Rattle.lsys_front.specs.Remade.{IsNextMade}
 use Rattle.lsys_front.proofs.RepairedLemmas.{remade_looked}
-use Rattle.lsys_front.specs.Fronts.{Differences, IsFront, next_of, IsNext, LooksBelow}
+use Rattle.lsys_front.specs.Fronts.{Differences, IsLevelFront, next_of, MakesNext, LooksBelow}
 use Rattle.lsys_front.proofs.Standing.{at_level}
 
-module _ (r : Repair) (h : Grove Kept) (by : Successors) (ps : List Parent) (told : Told) (s : SteppingSpots r) (next : IsNext r h by ps told) where
-  pub next_sound : IsSound h.root (changes_in h) (now_of h)
+module _ (r : Repair) (h : Grove Kept) (by : Successors) (ps : List Parent) (told : ToldNodes) (s : SteppingSpots r) (next : MakesNext r h by ps told) where
+  pub next_sound : IsRooted h.root (changes_in h) (now_of h)
   next_sound = next.sound (changes_in h) [] (sym (append-nil (changes_in h)))
 
   next_upper : KeepsUpper (now r) (now_of h) (r.level + 1)
@@ -52,8 +52,8 @@ module _ (r : Repair) (h : Grove Kept) (by : Successors) (ps : List Parent) (tol
   pub touched_are : (q : ℕ) → In q told.touched → In q (are r)
   touched_are q i = elim ((next.tells.touched q).0 i) [ inl none ↦ absurd none | inr p ↦ next.parents q p.0 ]
 
-pub next_looks : (r : Repair) (seats : List Seat) (d : Differences) (h : Grove Kept) (by succ : Successors) (ps : List Parent) (told : Told) (looked : List ℕ)
-    → SteppingSpots r → r.level < r.old.depth → IsFront r seats d → IsNext r h by ps told
+pub next_looks : (r : Repair) (seats : List Seat) (d : Differences) (h : Grove Kept) (by succ : Successors) (ps : List Parent) (told : ToldNodes) (looked : List ℕ)
+    → SteppingSpots r → r.level < r.old.depth → IsLevelFront r seats d → MakesNext r h by ps told
     → AreLevels r.new r.limit (r.level + 1) (now_of h) h.root
     → ((p k : ℕ) → slice_get (level_nodes (now_of h) h.root r.level) p ≡ Some k → replacement r.new r.level (level_of (now_of h) h.root r.level) p (node_symbol (now_of h) k) ≡ Ok (succ k))
     → ((q : ℕ) → In q (level_nodes (now_of h) h.root r.level) → In q (told.touched ++ d.changes.came) ⊎ (In q (were r) × KeepsChildren (rest r) (now_of h) q))
@@ -82,11 +82,11 @@ next_looks r seats d h by succ ps told looked s below front next levels replaced
       sound = next_sound r h by ps told s next;
       levels = levels;
       replaced = replaced;
-      touched_level = λ q i. elim (In_append told.touched d.changes.came q (in_same q touched i)) [ inl a ↦ here q (touched_are r h by ps told s next q a) | inr b ↦ came_here q b ];
-      turned_level = λ q i. elim (In_append d.changes.came d.turned q (in_same q turned i)) [ inl a ↦ came_here q a | inr b ↦ here q (front.turned_are q b) ];
-      families = λ q i. elim (families q (in_same q (level_nodes (now_of h) h.root r.level) i)) [ inl a ↦ inl (in_back q touched a) | inr b ↦ inr (in_back q (were r) b.0, b.1) ];
-      around = λ q i. looks.around q (in_same q touched i);
-      mates = λ q i. looks.mates q (in_same q touched i);
-      beyond = λ q i. looks.beyond q (in_same q turned i);
-      branches = λ q i. looks.branches q (in_same q turned i);
+      touched_level = λ q i. elim (In_append told.touched d.changes.came q i) [ inl a ↦ here q (touched_are r h by ps told s next q a) | inr b ↦ came_here q b ];
+      turned_level = λ q i. elim (In_append d.changes.came d.turned q i) [ inl a ↦ came_here q a | inr b ↦ here q (front.turned_are q b) ];
+      families = λ q i. elim (families q i) [ inl a ↦ inl a | inr b ↦ inr (b.0, b.1) ];
+      around = λ q i. looks.around q i;
+      mates = λ q i. looks.mates q i;
+      beyond = λ q i. looks.beyond q i;
+      branches = λ q i. looks.branches q i;
     }

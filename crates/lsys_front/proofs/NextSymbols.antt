@@ -3,11 +3,12 @@ use Rattle.std.proofs.Common.{◌≡◌, ◌⊎◌, ◌+◌, ℕ, suc, List, [],
 use Rattle.std.specs.Prelude.{option_map}
 use Rattle.std.proofs.lemmas.List.Sums.{sum_by-append, sum_by-cons}
 use Rattle.std.proofs.lemmas.Option.{same_Some}
+use Rattle.lsys_spec.specs.Rows.{In, AreApart}
 use Rattle.lsys_syntax.specs.Commands.{Numbering}
 use Rattle.lsys_change.specs.Nodes.{Kin}
 use Rattle.lsys_match.specs.Kept.{Kept}
 use Rattle.lsys_forest.specs.Nodes.{Node, Nodes}
-use Rattle.lsys_forest.specs.Groves.{In, AreApart, changes_in}
+use Rattle.lsys_forest.specs.Groves.{changes_in}
 use Rattle.lsys_forest.specs.Rows.{kids_in, level_nodes}
 use Rattle.lsys_forest.proofs.RowLemmas.{In_append, In_left, In_right, apart_append, level_apart, level_depth}
 use Rattle.lsys_kept.specs.Lineages.{kin_of}
@@ -20,7 +21,7 @@ use Rattle.lsys_repair.specs.Answers.{kept_successors}
 use Rattle.lsys_repair.proofs.Depths.{on_level}
 use Rattle.lsys_repair.proofs.Lengths.{kids_count, below_count, alone_count, other_sums}
 use Rattle.lsys_repair.specs.declared.parent.Parent.{Parent}
-use Rattle.lsys_repair.specs.Parents.{nodes_in, walked, AreToldBy}
+use Rattle.lsys_repair.specs.Parents.{nodes_in, cut_parents, AreToldBy}
 use Rattle.lsys_repair.specs.Needs.{had_by, had_by_all, wanted_of, wanted_of_all}
 use Rattle.lsys_repair.proofs.Walked.{walked_nodes, walked_told}
 
@@ -114,10 +115,10 @@ by_parents r ps s once among closed told others =
     (λ k i. elim (others k i) [ inl j ↦ inl j | inr w ↦ inr (sym (kids_count g r.new.seed (now r) k (by k) w)) ]) in
     omega (arith, sums, alone_count g (now r) by (are r) closed, had_sum (now r) ps, wanted_sum g (now r) by ps told, behind (now r) (root r) r.level)
 
-pub by_walk : (r : Repair) (ps : List Parent) → ps ≡ walked (now r) None (are r) → AreApart (are r)
+pub by_walk : (r : Repair) (ps : List Parent) → ps ≡ cut_parents (now r) None (are r) → AreApart (are r)
     → count_wanted r.new.numbering (now r) (kept_successors (now r)) (are r) ≡ wanted_of_all r.new.numbering (now r) ps
 by_walk r ps is apart =
     let g = r.new.numbering in
     let m = now r in
     let by : Successors = wanted_in m (kept_successors m) None (are r) in
-    ap (sum_by (λ k. wanted_count g (by k))) (sym (walked_nodes m None (are r))) ∙ sym (wanted_sum g m by (walked m None (are r)) (walked_told m (are r) apart)) ∙ ap (wanted_of_all g m) (sym is)
+    ap (sum_by (λ k. wanted_count g (by k))) (sym (walked_nodes m None (are r))) ∙ sym (wanted_sum g m by (cut_parents m None (are r)) (walked_told m (are r) apart)) ∙ ap (wanted_of_all g m) (sym is)

@@ -1,15 +1,16 @@
 -- The nodes that are pending are the candidates of a level, and in order they are some of it.
 use Rattle.std.proofs.Common.{◌≡◌, ◌⊎◌, ◌↔◌, ◌<◌, ◌≤◌, ℕ, suc, List, [], ◌∷◌, refl, sym, ap, ◌∙◌, subst, inl, inr, arith}
 use Rattle.std.specs.Prelude.{◌-◌}
+use Rattle.lsys_spec.specs.Rows.{In}
 use Rattle.lsys_reads.specs.Relations.{Relations}
 use Rattle.lsys_match.specs.Kept.{Kept}
-use Rattle.lsys_forest.specs.Groves.{Grove, In, IsSound, now_of, changes_in}
+use Rattle.lsys_forest.specs.Groves.{Grove, IsRooted, now_of, changes_in}
 use Rattle.lsys_forest.specs.Rows.{depth_in, index_in, level_nodes, level_of_node, place_of_node}
 use Rattle.lsys_forest.proofs.RowLemmas.{level_depth}
 use Rattle.lsys_kept.specs.declared.seat.Seat.{Seat}
 use Rattle.lsys_kept.proofs.LevelLemmas.{index_cases}
 use Rattle.lsys_candidates.specs.Repairs.{Repair, are}
-use Rattle.lsys_candidates.specs.Candidates.{was_last, HasQuestion, IsCandidateNode}
+use Rattle.lsys_candidates.specs.Candidates.{was_last, AsksNow, IsCandidateNode}
 use Rattle.lsys_candidates.specs.Found.{LevelChanges, SteppingNodes, IsFound, IsAmong}
 use Rattle.lsys_candidates.specs.Asks.{ArePlaced, AreInOrder, AreSome}
 use Rattle.lsys_candidates.proofs.FoundNodes.{found_asked, found_there}
@@ -18,7 +19,7 @@ use Rattle.lsys_candidates.proofs.FoundNodes.{found_asked, found_there}
 
 pub pending_found : (r : Repair) (seats : List Seat) (reads : Relations) (c : LevelChanges) (others turned beside readers pending : List ℕ)
     → SteppingNodes r seats reads c others → IsFound r.forest seats reads c turned beside readers
-    → ((k : ℕ) → In k pending ↔ (HasQuestion r k × (In k others ⊎ IsAmong c turned beside readers k)))
+    → ((k : ℕ) → In k pending ↔ (AsksNow r k × (In k others ⊎ IsAmong c turned beside readers k)))
     → (k : ℕ) → In k pending ↔ (In k (are r) × IsCandidateNode r k)
 pending_found r seats reads c others turned beside readers pending s f is k = (
   λ i. (let a = (is k).0 i in
@@ -30,7 +31,7 @@ pending_found r seats reads c others turned beside readers pending s f is k = (
   λ a. (is k).1 ((found_asked r seats reads c others turned beside readers s f k a.0).0 a.1),
 )
 
-pub pending_all : (r : Repair) (pending : List ℕ) → r.old.depth ≤ r.level → ((k : ℕ) → In k pending ↔ (In k (are r) × HasQuestion r k))
+pub pending_all : (r : Repair) (pending : List ℕ) → r.old.depth ≤ r.level → ((k : ℕ) → In k pending ↔ (In k (are r) × AsksNow r k))
     → (k : ℕ) → In k pending ↔ (In k (are r) × IsCandidateNode r k)
 pending_all r pending last is k = (
   λ i. (let a = (is k).0 i in (a.0, record { asks = a.1; differs = was_last last })),
@@ -78,7 +79,7 @@ some_placed (k ∷ ks) (j ∷ js) h p = elim (index_cases j k ks) [
       inr (some_placed ks (j ∷ js) (λ i m. (back i m).within) (placed_less k ks (j ∷ js) (λ i m. (back i m).next) p)))
 ]
 
-pub pending_some : (f : Grove Kept) (t : ℕ) (nodes : List ℕ) → IsSound f.root (changes_in f) (now_of f) → AreInOrder f nodes
+pub pending_some : (f : Grove Kept) (t : ℕ) (nodes : List ℕ) → IsRooted f.root (changes_in f) (now_of f) → AreInOrder f nodes
     → ((k : ℕ) → In k nodes → In k (level_nodes (now_of f) f.root t)) → AreSome nodes (level_nodes (now_of f) f.root t)
 pending_some f t nodes sound order within =
     some_placed ks nodes within (placed_as (place_of_node f) (λ k. index_in k ks) nodes (λ k i. sym (place_is k i)) order)

@@ -4,7 +4,7 @@ use Rattle.std.specs.Prelude.{fold, drop, reverse, nat_lt}
 use Rattle.std.proofs.lemmas.List.{take-map, drop-map, length-map, map-append}
 use Rattle.lsys_syntax.specs.Strings.{ModuleName}
 use Rattle.lsys_spec.specs.Bodies.{Body, Pattern, Patterns, Done, OneOf, BranchOf}
-use Rattle.lsys_spec.specs.Levels.{ModuleValue, Symbol, Push, Pop, Module, lineage, Step, Passed, Around, OutOf, Reading, read, restored, way, Items, Nothing, One, Branch, Nest, at_root, in_branch, items_here, items_of, items_from, with_module, with_whole_branch, with_open_bracket}
+use Rattle.lsys_spec.specs.Levels.{ModuleValue, LevelSymbol, Push, Pop, Module, lineage, Step, Passed, Around, OutOf, Reading, read, restored, way, Items, Nothing, One, Branch, Nest, at_root, in_branch, items_here, items_of, items_from, with_module, with_whole_branch, with_open_bracket}
 use Rattle.lsys_spec.specs.Walks.{Mark, deeper, Entry, Compared, Ignored, Out, Branched, Told, Found, before, followed, fits, behind, ahead, joined, or_passed, left_walk, right_walk}
 use Rattle.lsys_spec.specs.Choice.{Fault, TooFar, Outcome, No, Yes, Fails, Choice, Asking, Tried, none_tried, after_rule, right_after, next_contexts, fitting, outcome, decided, first_applying, Applying, found_with, all_applying, pick_among, choice}
 use Rattle.lsys_spec.proofs.Meetings.{met}
@@ -12,7 +12,7 @@ use Rattle.lsys_spec.proofs.Meetings.{met}
 module _ (f : List ℕ → List ℕ) where
   -- 1. symbols with other lineages
 
-  abbrev pub symbol_as : Symbol → Symbol
+  abbrev pub symbol_as : LevelSymbol → LevelSymbol
   symbol_as (Push l) = Push (f l)
   symbol_as (Pop l) = Pop (f l)
   symbol_as (Module l m) = Module (f l) m
@@ -36,33 +36,33 @@ module _ (f : List ℕ → List ℕ) where
   abbrev pub told_as : {A : Type 0} → Told A → Told A
   told_as t = record { entries = map entry_as t.entries; answer = t.answer }
 
-  lineage_as : (s : Symbol) → lineage (symbol_as s) ≡ f (lineage s)
+  lineage_as : (s : LevelSymbol) → lineage (symbol_as s) ≡ f (lineage s)
   lineage_as (Push l) = refl
   lineage_as (Pop l) = refl
   lineage_as (Module l m) = refl
 
   -- 2. what stands around a symbol
 
-  abbrev saved_as : Symbol × List Step → Symbol × List Step
+  abbrev saved_as : LevelSymbol × List Step → LevelSymbol × List Step
   saved_as s = (symbol_as s.0, map step_as s.1)
 
   abbrev reading_as : Reading → Reading
   reading_as r = record { way = map step_as r.way; saved = map saved_as r.saved }
 
-  restored_as : (c : Symbol) (saved : List (Symbol × List Step)) → restored (symbol_as c) (map saved_as saved) ≡ reading_as (restored c saved)
+  restored_as : (c : LevelSymbol) (saved : List (LevelSymbol × List Step)) → restored (symbol_as c) (map saved_as saved) ≡ reading_as (restored c saved)
   restored_as c [] = refl
   restored_as c (s ∷ saved) = refl
 
-  read_as : (r : Reading) (s : Symbol) → read (reading_as r) (symbol_as s) ≡ reading_as (read r s)
+  read_as : (r : Reading) (s : LevelSymbol) → read (reading_as r) (symbol_as s) ≡ reading_as (read r s)
   read_as r (Module l m) = refl
   read_as r (Push l) = refl
   read_as r (Pop l) = restored_as (Pop l) r.saved
 
-  all_read_as : (r : Reading) (x : List Symbol) → fold read (reading_as r) (map symbol_as x) ≡ reading_as (fold read r x)
+  all_read_as : (r : Reading) (x : List LevelSymbol) → fold read (reading_as r) (map symbol_as x) ≡ reading_as (fold read r x)
   all_read_as r [] = refl
   all_read_as r (s ∷ x) = ap (λ r. fold read r (map symbol_as x)) (read_as r s) ∙ all_read_as (read r s) x
 
-  way_as : (x : List Symbol) (p : ℕ) → way (map symbol_as x) p ≡ map step_as (way x p)
+  way_as : (x : List LevelSymbol) (p : ℕ) → way (map symbol_as x) p ≡ map step_as (way x p)
   way_as x p =
       let none : Reading = record { way = []; saved = [] } in
       ap (λ x. (fold read none x).way) (take-map symbol_as p x) ∙ ap (λ (r : Reading). r.way) (all_read_as none (take p x))
@@ -71,19 +71,19 @@ module _ (f : List ℕ → List ℕ) where
   nest_as (at_root r) = at_root (items_as r)
   nest_as (in_branch r c n) = in_branch (items_as r) (symbol_as c) (nest_as n)
 
-  module_as : (s : Symbol) (n : Nest) → with_module (symbol_as s) (nest_as n) ≡ nest_as (with_module s n)
+  module_as : (s : LevelSymbol) (n : Nest) → with_module (symbol_as s) (nest_as n) ≡ nest_as (with_module s n)
   module_as s (at_root r) = refl
   module_as s (in_branch r c n) = refl
 
-  whole_as : (o c : Symbol) (i : Items) (n : Nest) → with_whole_branch (symbol_as o) (symbol_as c) (items_as i) (nest_as n) ≡ nest_as (with_whole_branch o c i n)
+  whole_as : (o c : LevelSymbol) (i : Items) (n : Nest) → with_whole_branch (symbol_as o) (symbol_as c) (items_as i) (nest_as n) ≡ nest_as (with_whole_branch o c i n)
   whole_as o c i (at_root r) = refl
   whole_as o c i (in_branch r d n) = refl
 
-  open_as : (o : Symbol) (n : Nest) → with_open_bracket (symbol_as o) (nest_as n) ≡ nest_as (with_open_bracket o n)
+  open_as : (o : LevelSymbol) (n : Nest) → with_open_bracket (symbol_as o) (nest_as n) ≡ nest_as (with_open_bracket o n)
   open_as o (at_root i) = refl
   open_as o (in_branch i c n) = whole_as o c i n
 
-  nests_as : (x : List Symbol) → items_of (map symbol_as x) ≡ nest_as (items_of x)
+  nests_as : (x : List LevelSymbol) → items_of (map symbol_as x) ≡ nest_as (items_of x)
   nests_as [] = refl
   nests_as (Module l m ∷ x) = ap (with_module (Module (f l) m)) (nests_as x) ∙ module_as (Module l m) (items_of x)
   nests_as (Push l ∷ x) = ap (with_open_bracket (Push (f l))) (nests_as x) ∙ open_as (Push l) (items_of x)
@@ -93,7 +93,7 @@ module _ (f : List ℕ → List ℕ) where
   here_as (at_root r) = refl
   here_as (in_branch r c n) = refl
 
-  rest_as : (x : List Symbol) (p : ℕ) → items_from (map symbol_as x) p ≡ items_as (items_from x p)
+  rest_as : (x : List LevelSymbol) (p : ℕ) → items_from (map symbol_as x) p ≡ items_as (items_from x p)
   rest_as x p =
       ap (λ x. items_here (items_of x)) (drop-map symbol_as p x) ∙ ap items_here (nests_as (drop p x)) ∙ here_as (items_of (drop p x))
 
@@ -102,10 +102,10 @@ module _ (f : List ℕ → List ℕ) where
   followed_as : {A B : Type 0} (t : Told A) (n : Told B) → followed (told_as t) (told_as n) ≡ told_as (followed t n)
   followed_as {A} {B} t n = ap (λ es. record { entries = es; answer = n.answer }) (sym (map-append entry_as t.entries n.entries))
 
-  branch_as : (d : Mark) (o c : Symbol) → Branched d (lineage (symbol_as o)) (lineage (symbol_as c)) ≡ Branched d (f (lineage o)) (f (lineage c))
+  branch_as : (d : Mark) (o c : LevelSymbol) → Branched d (lineage (symbol_as o)) (lineage (symbol_as c)) ≡ Branched d (f (lineage o)) (f (lineage c))
   branch_as d o c = ap (λ l. Branched d l (lineage (symbol_as c))) (lineage_as o) ∙ ap (Branched d (f (lineage o))) (lineage_as c)
 
-  met_as : (b e : Bool) (d : Mark) (s : Symbol) (on on' next next' : Told Found) → on' ≡ told_as on → next' ≡ told_as next
+  met_as : (b e : Bool) (d : Mark) (s : LevelSymbol) (on on' next next' : Told Found) → on' ≡ told_as on → next' ≡ told_as next
       → met b e d (symbol_as s) on' next' ≡ told_as (met b e d s on next)
   met_as true e d s on on' next next' h g = ap (before (Ignored d (symbol_as s))) h
   met_as false true d s on on' next next' h g = ap (before (Compared d (symbol_as s))) g
@@ -123,7 +123,7 @@ module _ (f : List ℕ → List ℕ) where
   left_as ignored d (q ∷ qs) (Passed (Push l) ∷ w) = refl
   left_as ignored d (q ∷ qs) (Passed (Pop l) ∷ w) = refl
   left_as ignored d (q ∷ qs) (Passed (Module l m) ∷ w) =
-      let s : Symbol = Module l m in
+      let s : LevelSymbol = Module l m in
       met_as (ignored m.name) (fits q s) d s (left_walk ignored d (q ∷ qs) w) (left_walk ignored d (q ∷ qs) (map step_as w))
       (behind s (left_walk ignored d qs w)) (behind (symbol_as s) (left_walk ignored d qs (map step_as w)))
       (left_as ignored d (q ∷ qs) w) (ap (behind (symbol_as s)) (left_as ignored d qs w))
@@ -141,7 +141,7 @@ module _ (f : List ℕ → List ℕ) where
   right_as ignored d (OneOf q p) (One (Push l) r) = refl
   right_as ignored d (OneOf q p) (One (Pop l) r) = refl
   right_as ignored d (OneOf q p) (One (Module l m) r) =
-      let s : Symbol = Module l m in
+      let s : LevelSymbol = Module l m in
       met_as (ignored m.name) (fits q s) d s (right_walk ignored d (OneOf q p) r) (right_walk ignored d (OneOf q p) (items_as r))
       (ahead s (right_walk ignored d p r)) (ahead (symbol_as s) (right_walk ignored d p (items_as r)))
       (right_as ignored d (OneOf q p) r) (ap (ahead (symbol_as s)) (right_as ignored d p r))
@@ -149,7 +149,7 @@ module _ (f : List ℕ → List ℕ) where
   right_as ignored d (BranchOf qs p) (One (Push l) r) = refl
   right_as ignored d (BranchOf qs p) (One (Pop l) r) = refl
   right_as ignored d (BranchOf qs p) (One (Module l m) r) =
-      let s : Symbol = Module l m in
+      let s : LevelSymbol = Module l m in
       met_as (ignored m.name) false d s (right_walk ignored d (BranchOf qs p) r) (right_walk ignored d (BranchOf qs p) (items_as r))
       (right_walk ignored d p r) (right_walk ignored d p (items_as r))
       (right_as ignored d (BranchOf qs p) r) (right_as ignored d p r)
@@ -220,7 +220,7 @@ module _ (f : List ℕ → List ℕ) where
   choice_as a (Some key) w r bs = ap (pick_among key) (all_as a w r none_tried (Ok []) bs)
 
   -- at a place of a level
-  pub asked_as : (a : Asking) (key : Option ℕ) (x : List Symbol) (p : ℕ) (bs : List Body)
+  pub asked_as : (a : Asking) (key : Option ℕ) (x : List LevelSymbol) (p : ℕ) (bs : List Body)
       → choice a key (way (map symbol_as x) p) (items_from (map symbol_as x) (p + 1)) bs ≡ told_as (choice a key (way x p) (items_from x (p + 1)) bs)
   asked_as a key x p bs =
       ap (λ w. choice a key w (items_from (map symbol_as x) (p + 1)) bs) (way_as x p)

@@ -1,21 +1,21 @@
 -- Levels of a forest that is being repaired.
 use Rattle.std.proofs.Common.{◌≡◌, ◌<◌, ◌⊎◌, ◌+◌, ℕ, List, [], sym, subst, arith, inl, inr}
+use Rattle.lsys_spec.specs.Rows.{In}
 use Rattle.lsys_change.specs.Seams as S
 use Rattle.lsys_change.proofs.UpTo.{level_count}
 use Rattle.lsys_reads.specs.Relations.{Relations}
-use Rattle.lsys_kept.specs.Meant.{meant}
+use Rattle.lsys_kept.specs.Meant.{levels_meant}
 use Rattle.lsys_repair.specs.Nexts.{AreLevels}
 use Rattle.lsys_repair.specs.Answers.{kept_successors}
 use Rattle.lsys_repair.proofs.Replaced.{replaced}
 use Rattle.lsys_kept.specs.declared.seat.Seat.{Seat}
-use Rattle.lsys_kept.proofs.LookLemmas.{in_same, in_back}
 use Rattle.lsys_candidates.specs.Found.{LevelChanges}
 use Rattle.lsys_candidates.specs.Repairs.{Repair, SteppingSpots, rest, root, were, are}
 use Rattle.lsys_candidates.specs.Found.{IsFound, SteppingNodes}
 use Rattle.lsys_candidates.proofs.Spots.{is_in, sound_old, sound_new}
 use Rattle.lsys_candidates.proofs.FoundNodes.{found_seated}
 use Rattle.lsys_match.specs.Kept.{Kept}
-use Rattle.lsys_forest.specs.Groves.{Grove, In, now_of}
+use Rattle.lsys_forest.specs.Groves.{Grove, now_of}
 use Rattle.lsys_forest.specs.Rows.{level_nodes}
 use Rattle.lsys_brood.specs.Children.{KeepsChildren}
 use Rattle.lsys_repair.specs.Nexts.{Successors}
@@ -29,15 +29,15 @@ use Rattle.lsys_front.specs.Turned.{AreTurnedBy}
 use Rattle.lsys_front.proofs.LevelLemmas.{left_levels}
 
 pub found_turned : (r : Repair) (seats : List Seat) (reads : Relations) (c : LevelChanges) (others turned beside readers all : List ℕ) → SteppingNodes r seats reads c others
-    → IsFound r.forest seats reads c turned beside readers → ((k : ℕ) → In k c.came ⊎ In k turned → S.In k all) → AreTurnedBy (rest r) r.forest r.level seats all
+    → IsFound r.forest seats reads c turned beside readers → ((k : ℕ) → In k c.came ⊎ In k turned → In k all) → AreTurnedBy (rest r) r.forest r.level seats all
 found_turned r seats reads c others turned beside readers all s f among = record {
   sound = sound_new r s.spots;
   seated = s.seated;
-  there = λ k i away. in_back k (were r) (there k (in_same k (are r) i) away);
-  same = λ k i away. found_seated r seats reads c others turned beside readers s f k (in_same k (are r) i) (λ h. away (among k (inl h))) (λ h. away (among k (inr h)));
+  there = λ k i away. there k i away;
+  same = λ k i away. found_seated r seats reads c others turned beside readers s f k i (λ h. away (among k (inl h))) (λ h. away (among k (inr h)));
 }
   where
-    there : (k : ℕ) → In k (are r) → (S.In k all → ⊥) → In k (were r)
+    there : (k : ℕ) → In k (are r) → (In k all → ⊥) → In k (were r)
     there k i away = elim (is_in k (were r)) [
       | inl h ↦ h
       | inr none ↦ absurd (away (among k (inl ((s.differs.came k).1 (i, none)))))
@@ -45,7 +45,7 @@ found_turned r seats reads c others turned beside readers all s f among = record
 
 pub rested_levels : (r : Repair) → SteppingSpots r → r.level < r.old.depth → AreLeftLevels (rest r) (root r) r.level
 rested_levels r s below =
-    let long = level_count r.old r.limit r.old.depth (meant r.old r.limit) s.old_spelled s.old_is in
+    let long = level_count r.old r.limit r.old.depth (levels_meant r.old r.limit) s.old_spelled s.old_is in
     let levels : AreLevels r.old r.limit r.old.depth (rest r) (root r) =
     record { spelled = s.old_spelled; is = s.old_is; levels = s.old_levels; once = s.once; changes = []; sound = sound_old r s } in
     left_levels r.old r.limit r.old.depth r.level (rest r) (root r) (kept_successors (rest r)) levels below
@@ -57,7 +57,7 @@ pub remade_below : (r : Repair) (h : Grove Kept) (by : Successors) (touched turn
     → IsNextMade r h by touched turned looked → AreLookedBelow (rest r) h r.level touched turned looked
 remade_below r h by touched turned looked seats s below told made =
     let here : AreTurnedBy (rest r) h r.level seats turned = same_turned (rest r) r.forest h r.level seats turned made.sound made.same told in
-    let family : (q : ℕ) → S.In q (were r) → KeepsChildren (rest r) (now_of h) q → KeepsFamily (rest r) (now_of h) h.root r.level q =
+    let family : (q : ℕ) → In q (were r) → KeepsChildren (rest r) (now_of h) q → KeepsFamily (rest r) (now_of h) h.root r.level q =
     λ q i keeps. subst (λ u. KeepsFamily (rest r) (now_of h) u r.level q) (sym made.same.root) (family_kept (root r) [] (rest r) (now_of h) r.level q (sound_old r s) i keeps) in
     record {
       were = subst (λ u. AreLeftLevels (rest r) u r.level) (sym made.same.root) (rested_levels r s below);

@@ -6,7 +6,7 @@ use Rattle.std.proofs.lemmas.Option.{none-some, same_Some, slice_get-map}
 use Rattle.lsys_spec.specs.Draws.{key_of}
 use Rattle.lsys_spec.specs.Systems.{System, Each}
 use Rattle.lsys_spec.specs.Bodies.{Body, group}
-use Rattle.lsys_spec.specs.Levels.{ModuleValue, Symbol, lineage, Step, Items, way, items_from}
+use Rattle.lsys_spec.specs.Levels.{ModuleValue, LevelSymbol, lineage, Step, Items, way, items_from}
 use Rattle.lsys_spec.specs.Levels as L
 use Rattle.lsys_spec.specs.LevelLaws.{StandsIn}
 use Rattle.lsys_spec.specs.Walks.{Mark, Entry, Told, lineages_named}
@@ -47,8 +47,8 @@ with_as naming k (Module m) = refl
 level_as : (naming : ℕ → List ℕ) (row : List Spotted) → level_by naming row ≡ map (symbol_as (by_first naming)) (level_by alone row)
 level_as naming [] = refl
 level_as naming (s ∷ row) =
-    ap (λ (a : Symbol). a ∷ level_by naming row) (with_as naming s.tag s.seen)
-    ∙ ap (λ (x : List Symbol). symbol_as (by_first naming) (named alone s) ∷ x) (level_as naming row)
+    ap (λ (a : LevelSymbol). a ∷ level_by naming row) (with_as naming s.tag s.seen)
+    ∙ ap (λ (x : List LevelSymbol). symbol_as (by_first naming) (named alone s) ∷ x) (level_as naming row)
 
 -- what is read of it, whatever the key is
 abbrev read_of : System → ℕ → List Body → List Spotted → ℕ → ModuleValue → Option ℕ → Told Choice

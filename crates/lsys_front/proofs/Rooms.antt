@@ -3,13 +3,14 @@ use Rattle.std.proofs.Common.{◌≡◌, ◌<◌, ◌+◌, ◌^◌, ◌↔◌, �
 use Rattle.std.specs.Prelude.{IsSome, option_map}
 use Rattle.std.specs.Option.{option_and_then}
 use Rattle.std.proofs.lemmas.Option.{none-some}
+use Rattle.lsys_spec.specs.Rows.{In}
 use Rattle.lsys_change.specs.Nodes.{Kin}
 use Rattle.lsys_change.specs.Seams.{node_before}
 use Rattle.lsys_reads.specs.Relations.{Relations, is_settled}
 use Rattle.lsys_match.specs.Kept.{Kept}
 use Rattle.lsys_forest.specs.Nodes.{Node}
 use Rattle.lsys_forest.specs.Answers.{answer_of}
-use Rattle.lsys_forest.specs.Groves.{In, IsLive}
+use Rattle.lsys_forest.specs.Groves.{IsLive}
 use Rattle.lsys_forest.specs.Rows.{complete_levels, level_of_node, place_of_node}
 use Rattle.lsys_forest.proofs.RowLemmas.{level_depth}
 use Rattle.lsys_forest.proofs.SoundLemmas.{some_of}
@@ -22,7 +23,7 @@ use Rattle.lsys_kept.specs.Seats.{HasSeat}
 use Rattle.lsys_kept.proofs.LevelLemmas.{got_in}
 use Rattle.lsys_candidates.specs.Repairs.{Repair, SteppingSpots, now, rest, root, were, are}
 use Rattle.lsys_candidates.specs.Finds.{IsBeside}
-use Rattle.lsys_candidates.specs.Found.{LevelChanges, Differs, AreOnLevels, HasRoom}
+use Rattle.lsys_candidates.specs.Found.{LevelChanges, Differs, AreOnLevels, HasSeatsForFound}
 use Rattle.lsys_candidates.proofs.Spots.{sound_old, sound_new, new_long}
 use Rattle.lsys_front.proofs.Standing.{live_at, spot_at}
 
@@ -68,7 +69,7 @@ module _ (r : Repair) (s : SteppingSpots r) where
 pub seat_room : (r : Repair) (seats : List Seat) (reads : Relations) (c : LevelChanges)
     → SteppingSpots r → Differs r c → ((k : ℕ) → In k c.looked → In k (are r))
     → ((reader seen : ℕ) → (is_settled reads reader seen ≡ true) ↔ HasRead (rest r) r.store reader seen)
-    → ((k : ℕ) → IsLive r.forest k → HasSeat seats k) → HasRoom r.forest reads c seats
+    → ((k : ℕ) → IsLive r.forest k → HasSeat seats k) → HasSeatsForFound r.forest reads c seats
 seat_room r seats reads c s d looked_are read has = record {
   others = λ k o. elim o [ inl g ↦ has k (was_live r s k ((d.gone k).0 g).0) | inr g ↦ has k (is_live r s k ((d.came k).0 g).0) ];
   looked = λ k i. has k (is_live r s k (looked_are k i));

@@ -3,10 +3,11 @@ use Rattle.std.proofs.Common.{◌≡◌, ◌+◌, ◌<◌, ◌≤◌, ℕ, zero,
 use Rattle.std.specs.Prelude.{is_some, filter}
 use Rattle.std.specs.Option.{option_and_then}
 use Rattle.std.proofs.lemmas.Option.{same_Some}
+use Rattle.lsys_spec.specs.Rows.{In, AreApart}
 use Rattle.lsys_forest.specs.Nodes.{Node, Nodes}
 use Rattle.lsys_forest.specs.Changes.{Change}
 use Rattle.lsys_forest.specs.Answers.{answer_of}
-use Rattle.lsys_forest.specs.Groves.{In, AreApart, IsSound}
+use Rattle.lsys_forest.specs.Groves.{IsRooted}
 use Rattle.lsys_forest.specs.Rows.{kids_in, kids_below, level_nodes}
 use Rattle.lsys_forest.specs.Ranks.{parent_in}
 use Rattle.lsys_forest.proofs.LinkLemmas.{flat_same}
@@ -74,7 +75,7 @@ module _ {A : Type 0} where
 
   -- 3. nodes of one depth
 
-  module _ (root : ℕ) (changes : List (Change A)) (m : Nodes A) (sound : IsSound root changes m) where
+  module _ (root : ℕ) (changes : List (Change A)) (m : Nodes A) (sound : IsRooted root changes m) where
     pub deep_below : (d : ℕ) (xs : List ℕ) → AreDeep m d xs → AreDeep m (d + 1) (kids_below m xs)
     deep_below d xs deep k h =
         let s = rows.flat_In (λ p. kids_in (m p)) xs k h in
@@ -117,7 +118,7 @@ module _ {A : Type 0} where
   abbrev pub AgreeFrom : Nodes A → Nodes A → ℕ → Type 0
   AgreeFrom o m d = (k : ℕ) (n : Node A) → o k ≡ Some n → d ≤ n.depth → m k ≡ o k
 
-  module _ (root : ℕ) (changes : List (Change A)) (o m : Nodes A) (sound : IsSound root changes o) (low : ℕ) (agree : AgreeFrom o m low) where
+  module _ (root : ℕ) (changes : List (Change A)) (o m : Nodes A) (sound : IsRooted root changes o) (low : ℕ) (agree : AgreeFrom o m low) where
     same_kids_below : (d : ℕ) (xs : List ℕ) → low ≤ d → AreDeep o d xs → kids_below m xs ≡ kids_below o xs
     same_kids_below d xs l deep =
         flat_same (λ k. kids_in (m k)) (λ k. kids_in (o k)) xs
@@ -154,5 +155,5 @@ module _ {A : Type 0} where
   pub rows_are : (m : Nodes A) (n : ℕ) (nodes : List ℕ) (k : ℕ) → In k (rows_from m n nodes) ↔ ((i : ℕ) × (i < n) × In k (row_below m i nodes))
   rows_are m n nodes k = (rows_row m n nodes k, λ h. row_rows m n nodes k h.0 h.1 h.2)
 
-  pub deep_apart : (root : ℕ) (changes : List (Change A)) (m : Nodes A) (n depth : ℕ) (nodes : List ℕ) → IsSound root changes m → AreDeep m depth nodes → AreApart nodes → AreApart (rows_from m n nodes)
+  pub deep_apart : (root : ℕ) (changes : List (Change A)) (m : Nodes A) (n depth : ℕ) (nodes : List ℕ) → IsRooted root changes m → AreDeep m depth nodes → AreApart nodes → AreApart (rows_from m n nodes)
   deep_apart root changes m n depth nodes sound deep a = rows_apart root changes m sound n depth nodes deep a

@@ -1,8 +1,9 @@
 -- Nodes that stand on a complete level of a forest.
 use Rattle.std.proofs.Common.{◌≡◌, ◌-◌, ◌<◌, ◌++◌, ℕ, List, length, refl, sym, ap, ◌∙◌, subst, arith}
 use Rattle.std.specs.Prelude.{IsSome}
+use Rattle.lsys_spec.specs.Rows.{In}
 use Rattle.lsys_level.specs.Spots.{IsSpot}
-use Rattle.lsys_forest.specs.Groves.{Grove, In, IsLive, IsSound, changes_in, now_of}
+use Rattle.lsys_forest.specs.Groves.{Grove, IsLive, IsRooted, changes_in, now_of}
 use Rattle.lsys_forest.specs.Rows.{depth_in, level_nodes, complete_levels, level_of_node, place_of_node, IsAtSpot}
 use Rattle.lsys_forest.proofs.RowLemmas.{In_left, In_right, In_split, level_depth}
 use Rattle.lsys_forest.proofs.ViewLemmas.{is_spot}
@@ -11,15 +12,15 @@ use Rattle.lsys_front.specs.Fronts.{StandOn}
 
 module _ {A : Type 0} where
   -- a node of level t stands on it, and lives
-  pub at_level : (f : Grove A) (t k : ℕ) → IsSound f.root (changes_in f) (now_of f) → In k (level_nodes (now_of f) f.root t) → level_of_node f k ≡ t
+  pub at_level : (f : Grove A) (t k : ℕ) → IsRooted f.root (changes_in f) (now_of f) → In k (level_nodes (now_of f) f.root t) → level_of_node f k ≡ t
   at_level f t k sound among =
       let d = level_depth f.root (changes_in f) (now_of f) sound t k among in
       ap (λ o. depth_in o - 1) d.1 ∙ omega (arith, d.2)
 
-  pub live_at : (f : Grove A) (t k : ℕ) → IsSound f.root (changes_in f) (now_of f) → In k (level_nodes (now_of f) f.root t) → IsLive f k
+  pub live_at : (f : Grove A) (t k : ℕ) → IsRooted f.root (changes_in f) (now_of f) → In k (level_nodes (now_of f) f.root t) → IsLive f k
   live_at f t k sound among = let d = level_depth f.root (changes_in f) (now_of f) sound t k among in subst IsSome (sym d.1) refl
 
-  pub spot_at : (f : Grove A) (t k : ℕ) → IsSound f.root (changes_in f) (now_of f) → t < length (complete_levels f) → In k (level_nodes (now_of f) f.root t) → IsAtSpot f k
+  pub spot_at : (f : Grove A) (t k : ℕ) → IsRooted f.root (changes_in f) (now_of f) → t < length (complete_levels f) → In k (level_nodes (now_of f) f.root t) → IsAtSpot f k
   spot_at f t k sound complete among =
       let s = In_split k (level_nodes (now_of f) f.root t) among in
       let at = is_spot f t k s.0 s.1 sound complete s.2 in

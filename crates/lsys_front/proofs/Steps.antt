@@ -2,27 +2,28 @@
 use Rattle.std.proofs.Common.{◌≡◌, ◌⊎◌, ◌+◌, ◌<◌, ℕ, Bool, true, false, not, List, [], ◌∷◌, ◌++◌, Option, Some, None, map, refl, sym, ap, ◌∙◌, subst, arith, inl, inr}
 use Rattle.std.specs.Prelude.{option_map}
 use Rattle.std.proofs.lemmas.Option.{none-some, same_Some}
+use Rattle.lsys_spec.specs.Rows.{In, AreApart, flat}
 use Rattle.lsys_syntax.specs.Commands.{Numbering}
 use Rattle.lsys_spec.specs.Draws.{number_base}
 use Rattle.lsys_spec.specs.Levels as L
-use Rattle.lsys_change.specs.Nodes.{Kin, Extends, parent_in}
+use Rattle.lsys_change.specs.Nodes.{Kin, Extends, kin_parent}
 use Rattle.lsys_change.proofs.Lineages.{apart, child}
 use Rattle.lsys_forest.specs.Nodes.{Node, Nodes, with_kids}
 use Rattle.lsys_forest.specs.Changes.{Change}
-use Rattle.lsys_forest.specs.Groves.{In, AreApart, IsSound}
-use Rattle.lsys_forest.specs.Rows.{flat, kids_in, kids_below, spot_in}
+use Rattle.lsys_forest.specs.Groves.{IsRooted}
+use Rattle.lsys_forest.specs.Rows.{kids_in, kids_below, spot_in}
 use Rattle.lsys_forest.proofs.RowLemmas as rows
 use Rattle.lsys_brood.specs.declared.number.Number.{Number}
 use Rattle.lsys_brood.specs.declared.child.Child.{Child}
-use Rattle.lsys_brood.specs.Matches.{has_number, number_in, number_of, nodes_without}
-use Rattle.lsys_brood.specs.Children.{born, renewed, seen_in_node, kind_in_node, IsNew, HasTurned, KeepsChildren}
+use Rattle.lsys_brood.specs.Matches.{has_number, node_number, number_of, nodes_without}
+use Rattle.lsys_brood.specs.Children.{born, renewed, seen_in_node, kind_in_node, IsNewNode, HasTurned, KeepsChildren}
 use Rattle.lsys_kept.specs.Lineages.{kin_of, kins, names}
 use Rattle.lsys_kept.specs.Standings.{seen_at}
 use Rattle.lsys_repair.specs.Nexts.{Successors, node_symbol}
 use Rattle.lsys_repair.specs.Renewals.{Renewal, stayed, relisted, turned, came, AreRenewals, KeepsDeeper}
 use Rattle.lsys_repair.proofs.Nexts.{lineage_at}
 use Rattle.lsys_repair.proofs.Renewing.{in_cases, parent_stays}
-use Rattle.lsys_repair.specs.Made.{IsBelow}
+use Rattle.lsys_repair.specs.Made.{IsChildOfAny}
 use Rattle.lsys_repair.specs.Needs.{number_told, wanted_symbols}
 use Rattle.lsys_front.proofs.Numbers.{own_number, told_below, lineages_told, has_told, told_has}
 use Rattle.lsys_front.proofs.Rows.{flat_owned, where_in, in_where, where_apart, not_other_list, not_other_kind}
@@ -31,15 +32,15 @@ use Rattle.lsys_front.proofs.Rows.{flat_owned, where_in, in_where, where_apart, 
 pub record IsStep {A : Type 0} (g : Numbering) (seed : ℕ) (o m n : Nodes A) (root depth : ℕ) (by : Successors) (ps us vs : List ℕ) : Type 0 where
   pub before : List (Change A)
   pub after : List (Change A)
-  pub rested : IsSound root [] o
-  pub sound : IsSound root before m
-  pub sound_now : IsSound root after n
+  pub rested : IsRooted root [] o
+  pub sound : IsRooted root before m
+  pub sound_now : IsRooted root after n
   pub stay : Extends (kins o) (kins m)
   pub deeper : KeepsDeeper o m depth
   pub renewals : AreRenewals g seed m n root depth by ps
   pub were : (p : ℕ) → In p us → (x : Node A) × (o p ≡ Some x) × (x.depth ≡ depth)
   pub are : (p : ℕ) → In p vs → (x : Node A) × (m p ≡ Some x) × (x.depth ≡ depth)
-  pub all : (k : ℕ) (x : Node A) → o k ≡ Some x → x.depth ≡ depth + 1 → IsBelow o us k
+  pub all : (k : ℕ) (x : Node A) → o k ≡ Some x → x.depth ≡ depth + 1 → IsChildOfAny o us k
   pub among : (p : ℕ) → In p ps → In p vs
 
 -- the children of a parent that are wanted no more
@@ -63,7 +64,7 @@ module _ {A : Type 0} {g : Numbering} {seed : ℕ} {o m n : Nodes A} {root depth
     parent_is : node.parent ≡ p
     deep : node.depth ≡ depth + 1
 
-  below : (changes : List (Change A)) (q : Nodes A) (p k : ℕ) (x : Node A) → IsSound root changes q → q p ≡ Some x → x.depth ≡ depth → In k (kids_in (q p)) → Below q p k
+  below : (changes : List (Change A)) (q : Nodes A) (p k : ℕ) (x : Node A) → IsRooted root changes q → q p ≡ Some x → x.depth ≡ depth → In k (kids_in (q p)) → Below q p k
   below changes q p k x sound e d i =
       let c = rows.child root changes q sound p k i in
       let above = ap (λ (y : Node A). y.depth) (same_Some x c.above (sym e ∙ c.above_is)) in
@@ -106,7 +107,7 @@ module _ {A : Type 0} {g : Numbering} {seed : ℕ} {o m n : Nodes A} {root depth
           let deep : y.depth ≡ x.depth = ap (λ (z : Kin). z.depth) a.2 ∙ ap (λ (z : Node A). z.depth) (same_Some a.0 x (sym a.1 ∙ e)) in
           f ∙ (sym (h.deeper.deeper k y f (omega (arith, deep, d))) ∙ e)
 
-  was_below : (k : ℕ) (x : Node A) → m k ≡ Some x → x.depth ≡ depth + 1 → IsBelow o us k
+  was_below : (k : ℕ) (x : Node A) → m k ≡ Some x → x.depth ≡ depth + 1 → IsChildOfAny o us k
   was_below k x e d = h.all k x (as_rested k x e d) d
 
   -- 2. a node of the level
@@ -148,16 +149,16 @@ module _ {A : Type 0} {g : Numbering} {seed : ℕ} {o m n : Nodes A} {root depth
 
   -- 4. those that came
 
-  pub came_forth : (k : ℕ) → IsBelow n ps k × IsNew m k → IsBelow n vs k × (IsBelow o us k → ⊥)
+  pub came_forth : (k : ℕ) → IsChildOfAny n ps k × IsNewNode m k → IsChildOfAny n vs k × (IsChildOfAny o us k → ⊥)
   came_forth k c = ((c.0.0, h.among c.0.0 c.0.1, c.0.2), λ u. (let b = to_mid u.0 k (below_rest u.0 k u.1 u.2) in none-some b.node (sym c.1 ∙ b.is)))
 
-  pub came_back : (k : ℕ) → IsBelow n vs k × (IsBelow o us k → ⊥) → IsBelow n ps k × IsNew m k
+  pub came_back : (k : ℕ) → IsChildOfAny n vs k × (IsChildOfAny o us k → ⊥) → IsChildOfAny n ps k × IsNewNode m k
   came_back k c = go (fate c.0.0 k b)
     where
       b : Below n c.0.0 k
       b = below_now c.0.0 k c.0.1 c.0.2
 
-      go : Fate c.0.0 k → IsBelow n ps k × IsNew m k
+      go : Fate c.0.0 k → IsChildOfAny n ps k × IsNewNode m k
       go (same e) = absurd (c.1 (was_below k b.node (sym e ∙ b.is) b.deep))
       go (other x w j e d f) = absurd (c.1 (was_below k x e d))
       go (fresh j e) = ((c.0.0, j, c.0.2), e)
@@ -167,7 +168,7 @@ module _ {A : Type 0} {g : Numbering} {seed : ℕ} {o m n : Nodes A} {root depth
   seen_of : (q : Nodes A) (k : ℕ) (x : Node A) → q k ≡ Some x → seen_at q k ≡ x.seen
   seen_of q k x e = ap (λ (z : Option (Node A)). (spot_in k z).seen) e
 
-  pub changed_forth : (k : ℕ) → IsBelow n ps k × HasTurned m n k → IsBelow n vs k × IsBelow o us k × (seen_at n k ≡ seen_at o k → ⊥)
+  pub changed_forth : (k : ℕ) → IsChildOfAny n ps k × HasTurned m n k → IsChildOfAny n vs k × IsChildOfAny o us k × (seen_at n k ≡ seen_at o k → ⊥)
   changed_forth k c = ((c.0.0, h.among c.0.0 c.0.1, c.0.2), was_below k t.node t.was deep, λ e. t.other (told e))
     where
       t : HasTurned m n k
@@ -184,7 +185,7 @@ module _ {A : Type 0} {g : Numbering} {seed : ℕ} {o m n : Nodes A} {root depth
       told : seen_at n k ≡ seen_at o k → option_map seen_in_node (n k) ≡ Some t.node.seen
       told e = ap (option_map seen_in_node) b.is ∙ ap Some (sym (seen_of n k b.node b.is) ∙ e ∙ seen_of o k t.node (as_rested k t.node t.was deep))
 
-  pub changed_back : (k : ℕ) → IsBelow n vs k × IsBelow o us k × (seen_at n k ≡ seen_at o k → ⊥) → IsBelow n ps k × HasTurned m n k
+  pub changed_back : (k : ℕ) → IsChildOfAny n vs k × IsChildOfAny o us k × (seen_at n k ≡ seen_at o k → ⊥) → IsChildOfAny n ps k × HasTurned m n k
   changed_back k c = go (fate c.0.0 k b)
     where
       b : Below n c.0.0 k
@@ -193,7 +194,7 @@ module _ {A : Type 0} {g : Numbering} {seed : ℕ} {o m n : Nodes A} {root depth
       u : Below o c.1.0 k
       u = below_rest c.1.0 k c.1.1 c.1.2
 
-      go : Fate c.0.0 k → IsBelow n ps k × HasTurned m n k
+      go : Fate c.0.0 k → IsChildOfAny n ps k × HasTurned m n k
       go (same e) = absurd (c.2 (ap (λ (z : Option (Node A)). (spot_in k z).seen) (e ∙ there_mid c.1.0 k u ∙ sym u.is)))
       go (other x w j e d f) = (
         (c.0.0, j, c.0.2),
@@ -239,7 +240,7 @@ module _ {A : Type 0} {g : Numbering} {seed : ℕ} {o m n : Nodes A} {root depth
   name_mid : (p k : ℕ) → Below m p k → names n k ≡ names n p ++ own_number (number_of m k) ∷ []
   name_mid p k b =
       let v = to_now p k b in
-      let own : own_number (number_of m k) ≡ (kin_of b.node).number = ap (λ (q : Option (Node A)). own_number (number_in q)) b.is in
+      let own : own_number (number_of m k) ≡ (kin_of b.node).number = ap (λ (q : Option (Node A)). own_number (node_number q)) b.is in
       let kin : kin_of v.node ≡ kin_of b.node =
       same_Some (kin_of v.node) (kin_of b.node) (sym (ap (option_map (λ (z : Node A). kin_of z)) v.is) ∙ h.renewals.stay k (kin_of b.node) (ap (option_map (λ (z : Node A). kin_of z)) b.is)) in
       name_below p k v ∙ ap (λ j. names n p ++ j ∷ []) (ap (λ (z : Kin). z.number) kin ∙ sym own)
@@ -259,13 +260,13 @@ module _ {A : Type 0} {g : Numbering} {seed : ℕ} {o m n : Nodes A} {root depth
   child_wanted p k i b l = has_told (names n) (names n p) (kids_in (n p)) (wanted_symbols g (by p)) k (number_of m k) (wanted_names p i) l (name_mid p k b) small
     where
       small : (number_of m k).count < number_base
-      small = let same = ap (λ (q : Option (Node A)). (number_in q).count) b.is in let f = few k b.node b.is in omega (arith, same, f)
+      small = let same = ap (λ (q : Option (Node A)). (node_number q).count) b.is in let f = few k b.node b.is in omega (arith, same, f)
 
   -- no child of the parent is wanted with this number
   abbrev is_lost : ℕ → Number → Bool
   is_lost p q = not (has_number (map number_told (wanted_symbols g (by p))) q)
 
-  pub lost_forth : (p k : ℕ) → In p ps → In k (lost_at g m by p) → IsBelow o us k × (IsBelow n vs k → ⊥)
+  pub lost_forth : (p k : ℕ) → In p ps → In k (lost_at g m by p) → IsChildOfAny o us k × (IsChildOfAny n vs k → ⊥)
   lost_forth p k i l = (was_below k b.node b.is b.deep, away)
     where
       w : In k (kids_in (m p)) × (is_lost p (number_of m k) ≡ true)
@@ -274,22 +275,22 @@ module _ {A : Type 0} {g : Numbering} {seed : ℕ} {o m n : Nodes A} {root depth
       b : Below m p k
       b = below_mid p k (h.among p i) w.0
 
-      away : IsBelow n vs k → ⊥
+      away : IsChildOfAny n vs k → ⊥
       away v =
           let same : v.0 ≡ p = one_parent n v.0 p k (below_now v.0 k v.1 v.2) (to_now p k b) in
           let has = child_wanted p k i b (subst (λ j. In k (kids_in (n j))) same v.2) in
           let f : false ≡ true = sym (ap not has) ∙ w.1 in cc
 
-  pub left_forth : (p k : ℕ) → In p us → (In p vs → ⊥) → In k (kids_in (n p)) → IsBelow o us k × (IsBelow n vs k → ⊥)
+  pub left_forth : (p k : ℕ) → In p us → (In p vs → ⊥) → In k (kids_in (n p)) → IsChildOfAny o us k × (IsChildOfAny n vs k → ⊥)
   left_forth p k i out l = ((p, i, there), λ v. out (subst (λ j. In j vs) (same v) v.1))
     where
       there : In k (kids_in (o p))
       there = subst (In k) (kids_gone p i out) l
 
-      same : (v : IsBelow n vs k) → v.0 ≡ p
+      same : (v : IsChildOfAny n vs k) → v.0 ≡ p
       same v = one_parent n v.0 p k (below_now v.0 k v.1 v.2) (to_now p k (to_mid p k (below_rest p k i there)))
 
-  pub gone_back : (k : ℕ) → IsBelow o us k × (IsBelow n vs k → ⊥)
+  pub gone_back : (k : ℕ) → IsChildOfAny o us k × (IsChildOfAny n vs k → ⊥)
       → ((p : ℕ) × In p ps × In k (lost_at g m by p)) ⊎ ((p : ℕ) × (In p us × (In p vs → ⊥)) × In k (kids_in (n p)))
   gone_back k c = elim (in_cases p vs) [
     | inr out ↦ inr (p, (i, out), subst (In k) (sym (kids_gone p i out)) c.0.2)
@@ -318,18 +319,18 @@ module _ {A : Type 0} {g : Numbering} {seed : ℕ} {o m n : Nodes A} {root depth
   -- 7. each once
 
   abbrev parent_now : ℕ → ℕ
-  parent_now k = parent_in (kins n k)
+  parent_now k = kin_parent (kins n k)
 
   owner_mid : (p k : ℕ) → In k (kids_in (m p)) → parent_now k ≡ p
   owner_mid p k l =
       let c = rows.child root h.before m h.sound p k l in
       let y = alive m n k c.node h.renewals.stay c.is in
-      ap (λ (q : Option (Node A)). parent_in (option_map (λ (z : Node A). kin_of z) q)) y.1 ∙ sym (ap (λ (z : Kin). z.parent) y.2) ∙ c.parent_is
+      ap (λ (q : Option (Node A)). kin_parent (option_map (λ (z : Node A). kin_of z) q)) y.1 ∙ sym (ap (λ (z : Kin). z.parent) y.2) ∙ c.parent_is
 
   owner_now : (p k : ℕ) → In k (kids_in (n p)) → parent_now k ≡ p
   owner_now p k l =
       let c = rows.child root h.after n h.sound_now p k l in
-      ap (λ (q : Option (Node A)). parent_in (option_map (λ (z : Node A). kin_of z) q)) c.is ∙ c.parent_is
+      ap (λ (q : Option (Node A)). kin_parent (option_map (λ (z : Node A). kin_of z) q)) c.is ∙ c.parent_is
 
   pub lost_apart : (p : ℕ) → AreApart (lost_at g m by p)
   lost_apart p = where_apart (is_lost p) m (kids_in (m p)) (rows.kids_apart root h.before m h.sound p)

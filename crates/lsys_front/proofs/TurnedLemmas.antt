@@ -8,12 +8,13 @@ use Rattle.lsys_level.specs.Spots.{level_by}
 use Rattle.lsys_change.specs.Seams.{node_before}
 use Rattle.std.proofs.lemmas.Bool.{cases_eq}
 use Rattle.std.proofs.lemmas.Option.{same_Some}
+use Rattle.lsys_spec.specs.Rows.{In, first_in, flat}
 use Rattle.lsys_change.specs.Kinds.{BracketKind}
 use Rattle.lsys_change.specs.Seams as S
 use Rattle.lsys_forest.specs.Nodes.{Node, Nodes}
 use Rattle.lsys_forest.specs.Changes.{Change}
-use Rattle.lsys_forest.specs.Groves.{Grove, In, IsSound, changes_in, now_of}
-use Rattle.lsys_forest.specs.Rows.{first_in, index_in, spot_in, depth_in, kids_in, level_nodes, level_of_node}
+use Rattle.lsys_forest.specs.Groves.{Grove, IsRooted, changes_in, now_of}
+use Rattle.lsys_forest.specs.Rows.{index_in, spot_in, depth_in, kids_in, level_nodes, level_of_node}
 use Rattle.lsys_forest.proofs.RowLemmas.{child, level_depth, level_apart}
 use Rattle.lsys_brood.specs.Children.{bracket_kind, kind_in_node, kind_at, KeepsChildren}
 use Rattle.lsys_repair.specs.Nexts.{node_kind}
@@ -21,8 +22,7 @@ use Rattle.lsys_kept.specs.declared.seat.Seat.{Seat}
 use Rattle.lsys_kept.specs.Neighbours.{neighbours_in, neighbours_on, mate_on}
 use Rattle.lsys_kept.specs.Seats.{neighbours_at}
 use Rattle.lsys_kept.specs.Standings.{AreSeated}
-use Rattle.lsys_kept.specs.Looks.{level_below}
-use Rattle.lsys_kept.proofs.LookLemmas.{flat_same, in_same, in_back}
+use Rattle.lsys_kept.specs.Looks.{kids_of_level}
 use Rattle.lsys_kept.proofs.LevelLemmas.{place_in, got_in}
 use Rattle.lsys_front.specs.Below.{kids_at, KeepsFamily, AreLookedBelow}
 use Rattle.lsys_front.specs.Turned.{AreTurnedBy, IsSameLevel}
@@ -31,7 +31,7 @@ use Rattle.lsys_front.proofs.LevelLemmas.{one_place, kind_is}
 
 -- 1. a number is in a row, or not
 
-pub in_or_not : (k : ℕ) (xs : List ℕ) → S.In k xs ⊎ (S.In k xs → ⊥)
+pub in_or_not : (k : ℕ) (xs : List ℕ) → In k xs ⊎ (In k xs → ⊥)
 in_or_not k [] = inr (λ i. i)
 in_or_not k (x ∷ xs) = elim (cases_eq k x) [
   | inl e ↦ inl (inl e)
@@ -41,7 +41,7 @@ in_or_not k (x ∷ xs) = elim (cases_eq k x) [
   ]
 ]
   where
-    neither : (k ≢ x) → (S.In k xs → ⊥) → S.In k (x ∷ xs) → ⊥
+    neither : (k ≢ x) → (In k xs → ⊥) → In k (x ∷ xs) → ⊥
     neither ne away (inl e) = ne e
     neither ne away (inr i) = away i
 
@@ -55,12 +55,12 @@ module _ {A : Type 0} where
       by None e = cc
       by (Some n) e = same_Some (bracket_kind n.seen) c e
 
-  pub family_kept : (root : ℕ) (changes : List (Change A)) (o m : Nodes A) (t q : ℕ) → IsSound root changes o → S.In q (level_nodes o root t) → KeepsChildren o m q → KeepsFamily o m root t q
+  pub family_kept : (root : ℕ) (changes : List (Change A)) (o m : Nodes A) (t q : ℕ) → IsRooted root changes o → In q (level_nodes o root t) → KeepsChildren o m q → KeepsFamily o m root t q
   family_kept root changes o m t q sound there keeps = record {
     there = there;
     list = keeps.list;
     kinds = λ k i. (
-        let j : In k (kids_in (o q)) = in_same k (kids_in (o q)) i in
+        let j : In k (kids_in (o q)) = i in
         let c = child root changes o sound q k j in
         let now : node_kind m k ≡ bracket_kind c.node.seen = kind_there m k (bracket_kind c.node.seen) (keeps.kinds k j c.node c.is) in
         let was : node_kind o k ≡ bracket_kind c.node.seen = ap (λ x. bracket_kind (spot_in k x).seen) c.is in
@@ -71,7 +71,7 @@ module _ {A : Type 0} where
   -- 3. seats
 
   -- the neighbours that a node has are those of its place
-  pub told_in : (f : Grove A) → IsSound f.root (changes_in f) (now_of f) → (t i k : ℕ) → slice_get (level_nodes (now_of f) f.root t) i ≡ Some k
+  pub told_in : (f : Grove A) → IsRooted f.root (changes_in f) (now_of f) → (t i k : ℕ) → slice_get (level_nodes (now_of f) f.root t) i ≡ Some k
       → neighbours_in f k ≡ neighbours_on (now_of f) (level_nodes (now_of f) f.root t) i
   told_in f sound t i k there =
       let d = level_depth f.root (changes_in f) (now_of f) sound t k (got_in (level_nodes (now_of f) f.root t) i k there) in
@@ -81,8 +81,8 @@ module _ {A : Type 0} where
       ap (λ u. neighbours_on (now_of f) (level_nodes (now_of f) f.root u) (index_in k (level_nodes (now_of f) f.root u))) level
       ∙ ap (neighbours_on (now_of f) (level_nodes (now_of f) f.root t)) place
 
-  pub old_there : (o : Nodes A) (f : Grove A) (t : ℕ) (seats : List Seat) (turned : List ℕ) → AreTurnedBy o f t seats turned → (q : ℕ) → S.In q (level_nodes (now_of f) f.root t)
-      → S.In q turned ⊎ S.In q (level_nodes o f.root t)
+  pub old_there : (o : Nodes A) (f : Grove A) (t : ℕ) (seats : List Seat) (turned : List ℕ) → AreTurnedBy o f t seats turned → (q : ℕ) → In q (level_nodes (now_of f) f.root t)
+      → In q turned ⊎ In q (level_nodes o f.root t)
   old_there o f t seats turned h q i = elim (in_or_not q turned) [
     | inl j ↦ inl j
     | inr away ↦ inr (h.there q i away)
@@ -90,21 +90,21 @@ module _ {A : Type 0} where
 
   pub seats_told : (o : Nodes A) (f : Grove A) (t : ℕ) (seats : List Seat) (turned : List ℕ) → AreTurnedBy o f t seats turned
       → (p i q : ℕ) → slice_get (level_nodes o f.root t) p ≡ Some q → slice_get (level_nodes (now_of f) f.root t) i ≡ Some q
-      → S.In q turned ⊎ (neighbours_on (now_of f) (level_nodes (now_of f) f.root t) i ≡ neighbours_on o (level_nodes o f.root t) p)
+      → In q turned ⊎ (neighbours_on (now_of f) (level_nodes (now_of f) f.root t) i ≡ neighbours_on o (level_nodes o f.root t) p)
   seats_told o f t seats turned h p i q hp hi = elim (in_or_not q turned) [
     | inl j ↦ inl j
     | inr away ↦
-        let among = in_back q (level_nodes (now_of f) f.root t) (got_in (level_nodes (now_of f) f.root t) i q hi) in
+        let among = got_in (level_nodes (now_of f) f.root t) i q hi in
         inr (sym (told_in f h.sound t i q hi) ∙ h.same q among away ∙ h.seated p q hp)
   ]
 
-  pub looked_below : (o : Nodes A) (f : Grove A) (t : ℕ) (touched turned looked : List ℕ) (seats : List Seat) → AreLookedBelow o f t touched turned looked → IsSound f.root (changes_in f) (now_of f)
+  pub looked_below : (o : Nodes A) (f : Grove A) (t : ℕ) (touched turned looked : List ℕ) (seats : List Seat) → AreLookedBelow o f t touched turned looked → IsRooted f.root (changes_in f) (now_of f)
       → AreSeated o (level_nodes o f.root (t + 1)) seats → (k : ℕ) → In k (level_nodes (now_of f) f.root (t + 1)) → In k (level_nodes o f.root (t + 1))
       → In k looked ⊎ (neighbours_in f k ≡ neighbours_at seats k)
   looked_below o f t touched turned looked seats l sound seated k now then =
-      let was : List ℕ = S.flat (kids_at o) (level_nodes o f.root t) in
-      let old : level_nodes o f.root (t + 1) ≡ was = ap (level_nodes o f.root) (add-one t) ∙ flat_same (λ k. kids_in (o k)) (level_nodes o f.root t) in
-      let new : level_nodes (now_of f) f.root (t + 1) ≡ level_below f t = ap (level_nodes (now_of f) f.root) (add-one t) ∙ flat_same (λ k. kids_in (now_of f k)) (level_nodes (now_of f) f.root t) in
+      let was : List ℕ = flat (kids_at o) (level_nodes o f.root t) in
+      let old : level_nodes o f.root (t + 1) ≡ was = ap (level_nodes o f.root) (add-one t) in
+      let new : level_nodes (now_of f) f.root (t + 1) ≡ kids_of_level f t = ap (level_nodes (now_of f) f.root) (add-one t) in
       let p = place_in k (level_nodes o f.root (t + 1)) then in
       let i = place_in k (level_nodes (now_of f) f.root (t + 1)) now in
       elim (stays o f t touched turned looked l p.0 i.0 k (ap (λ ks. slice_get ks p.0) (sym old) ∙ p.1) (ap (λ ks. slice_get ks i.0) (sym new) ∙ i.1)) [
@@ -122,21 +122,21 @@ module _ {A : Type 0} where
       let mate : mate_on (now_of h) (level_nodes (now_of h) h.root t) i ≡ mate_on (now_of f) (level_nodes (now_of f) f.root t) i = ap (λ x. mate_by (level_by (λ k. k ∷ []) x) i) e.spots in
       λ j. record { left = ap (λ ks. node_before ks i) e.nodes j; right = ap (λ ks. slice_get ks (i + 1)) e.nodes j; mate = mate j }
     where
-      mate_by : List L.Symbol → ℕ → Option ℕ
+      mate_by : List L.LevelSymbol → ℕ → Option ℕ
       mate_by y p = option_and_then first_in (mate_at y p (slice_get y p))
 
-  pub same_neighbours : (f h : Grove A) (t : ℕ) → IsSound f.root (changes_in f) (now_of f) → IsSound h.root (changes_in h) (now_of h) → IsSameLevel f h t
+  pub same_neighbours : (f h : Grove A) (t : ℕ) → IsRooted f.root (changes_in f) (now_of f) → IsRooted h.root (changes_in h) (now_of h) → IsSameLevel f h t
       → (k : ℕ) → In k (level_nodes (now_of f) f.root t) → neighbours_in h k ≡ neighbours_in f k
   same_neighbours f h t sf sh e k i =
       let p = place_in k (level_nodes (now_of f) f.root t) i in
       told_in h sh t p.0 k (ap (λ ks. slice_get ks p.0) e.nodes ∙ p.1) ∙ same_on f h t p.0 e ∙ sym (told_in f sf t p.0 k p.1)
 
-  pub same_turned : (o : Nodes A) (f h : Grove A) (t : ℕ) (seats : List Seat) (turned : List ℕ) → IsSound h.root (changes_in h) (now_of h) → IsSameLevel f h t → AreTurnedBy o f t seats turned → AreTurnedBy o h t seats turned
+  pub same_turned : (o : Nodes A) (f h : Grove A) (t : ℕ) (seats : List Seat) (turned : List ℕ) → IsRooted h.root (changes_in h) (now_of h) → IsSameLevel f h t → AreTurnedBy o f t seats turned → AreTurnedBy o h t seats turned
   same_turned o f h t seats turned sh e a = record {
     sound = sh;
     seated = subst (λ r. AreSeated o (level_nodes o r t) seats) (sym e.root) a.seated;
-    there = λ k i away. subst (λ r. S.In k (level_nodes o r t)) (sym e.root) (a.there k (subst (S.In k) e.nodes i) away);
+    there = λ k i away. subst (λ r. In k (level_nodes o r t)) (sym e.root) (a.there k (subst (In k) e.nodes i) away);
     same = λ k i away. (
-        let j = subst (S.In k) e.nodes i in same_neighbours f h t a.sound sh e k (in_same k (level_nodes (now_of f) f.root t) j) ∙ a.same k j away
+        let j = subst (In k) e.nodes i in same_neighbours f h t a.sound sh e k j ∙ a.same k j away
         );
   }

@@ -2,9 +2,10 @@
 use Rattle.std.proofs.Common.{◌≡◌, ◌<◌, ℕ, false, Option, Some, None, List, [], ◌∷◌, length, map, refl, ap, sym, ◌∙◌, subst, inl, inr, arith}
 use Rattle.std.specs.Prelude.{get_or, slice_get, option_map}
 use Rattle.std.proofs.lemmas.Option.{none-some, same_Some, slice_get-map, get_or_from_slice_get}
+use Rattle.lsys_spec.specs.Rows.{In}
 use Rattle.lsys_spec.specs.Draws.{key_of}
 use Rattle.lsys_spec.specs.Bodies.{Body, group}
-use Rattle.lsys_spec.specs.Levels.{ModuleValue, Symbol, lineage}
+use Rattle.lsys_spec.specs.Levels.{ModuleValue, LevelSymbol, lineage}
 use Rattle.lsys_spec.specs.Levels as L
 use Rattle.lsys_spec.specs.Questions.{Question, question, questions, question_at, is_needed}
 use Rattle.lsys_spec.specs.Standings.{is_candidate}
@@ -20,7 +21,6 @@ use Rattle.lsys_change.specs.Passes.{module_question, is_candidate_at}
 use Rattle.lsys_change.proofs.Asked.{IsOld, not_needed}
 use Rattle.lsys_change.proofs.Faultless.{level_below}
 use Rattle.lsys_forest.specs.Nodes.{Nodes}
-use Rattle.lsys_forest.specs.Groves.{In}
 use Rattle.lsys_forest.specs.Rows.{spot_in, level_spots}
 use Rattle.lsys_kept.specs.Lineages.{names}
 use Rattle.lsys_kept.specs.Levels.{IsRight, IsKeptFor, answer_at}
@@ -82,7 +82,7 @@ module _ (r : Repair) (s : SteppingSpots r) where
 
   module _ (p k : ℕ) (there : slice_get (are r) p ≡ Some k) (v : ModuleValue) (seen : seen_at (now r) k ≡ Module v)
       (rules : group r.new r.level v.name (length v.params) ≡ [] → ⊥) (not_one : IsCandidateNode r k → ⊥) where
-    abbrev y : List Symbol
+    abbrev y : List LevelSymbol
     y = is_level r s
 
     abbrev q : Question
@@ -126,7 +126,7 @@ module _ (r : Repair) (s : SteppingSpots r) where
     stood : StoodAt r k v was.place
     stood = by (slice_get (were r) was.place) refl
       where
-        x : List Symbol
+        x : List LevelSymbol
         x = was_level r s
 
         stands : slice_get (was_level r s) was.place ≡ Some (L.Module was.parents was.value)

@@ -1,8 +1,9 @@
 -- Nodes that keep an answer, and the rows below nodes.
 use Rattle.std.specs.Prelude.{◌≡◌, ◌↔◌, ◌<◌, ℕ, true, List}
+use Rattle.lsys_spec.specs.Rows.{In, AreApart}
 use Rattle.lsys_forest.specs.Nodes.{Nodes}
 use Rattle.lsys_forest.specs.Changes.{Change}
-use Rattle.lsys_forest.specs.Groves.{IsSound, In, AreApart}
+use Rattle.lsys_forest.specs.Groves.{IsRooted}
 use Rattle.lsys_front.specs.Ends.{is_answered, answered_in, row_below, rows_from, AreDeep}
 
 -- Those of some nodes that keep an answer are among them.
@@ -28,5 +29,5 @@ abbrev pub RowsOfADepthAreApart : Type 0 → Type 0
 RowsOfADepthAreApart A =
     (root : ℕ) (changes : List (Change A)) (m : Nodes A) (n depth : ℕ)
     (nodes : List ℕ)
-    → IsSound root changes m → AreDeep m depth nodes → AreApart nodes
+    → IsRooted root changes m → AreDeep m depth nodes → AreApart nodes
     → AreApart (rows_from m n nodes)

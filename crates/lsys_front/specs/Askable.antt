@@ -1,9 +1,10 @@
 -- Which nodes of a level may have to be asked, by those that were found, and which of them are.
 use Rattle.std.specs.Prelude.{◌↔◌, ℕ, List, Vec}
 use Rattle.std.specs.declared.alloc.Global.{Global}
+use Rattle.lsys_spec.specs.Rows.{In}
 use Rattle.lsys_spec.specs.Systems.{System}
 use Rattle.lsys_reads.specs.Relations.{Relations}
-use Rattle.lsys_forest.specs.Groves.{Grove, In, now_of}
+use Rattle.lsys_forest.specs.Groves.{Grove, now_of}
 use Rattle.lsys_kept.specs.declared.seat.Seat.{Seat}
 use Rattle.lsys_candidates.specs.Candidates.{AsksOn}
 use Rattle.lsys_candidates.specs.Finds.{Gathers}

@@ -1,10 +1,11 @@
 -- Which nodes of a level that was made are asked, and which lost their answers.
 use Rattle.std.specs.Prelude.{◌≡◌, ◌⊎◌, ◌↔◌, ◌++◌, ℕ, List, None, IsSome, option_map}
 use Rattle.std.specs.Option.{option_and_then}
+use Rattle.lsys_spec.specs.Rows.{In, AreApart}
 use Rattle.lsys_spec.specs.Systems.{System}
 use Rattle.lsys_forest.specs.Nodes.{Nodes, with_answer}
 use Rattle.lsys_forest.specs.Answers.{answer_of}
-use Rattle.lsys_forest.specs.Groves.{Grove, In, AreApart, IsLive}
+use Rattle.lsys_forest.specs.Groves.{Grove, IsLive}
 use Rattle.lsys_forest.specs.Rows.{level_of_node, IsAtSpot}
 use Rattle.lsys_kept.specs.Levels.{AnsweredAt, answer_at, level_of}
 use Rattle.lsys_kept.specs.Meant.{IsCandidate, IsNeeded}

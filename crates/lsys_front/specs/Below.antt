@@ -1,7 +1,7 @@
 -- A level that is being repaired, and what was looked at below it.
 use Rattle.std.specs.Prelude.{◌≡◌, ◌⊎◌, ℕ, List, Some, slice_get}
+use Rattle.lsys_spec.specs.Rows.{In, flat}
 use Rattle.lsys_spec.specs.Levels.{IsLevel}
-use Rattle.lsys_change.specs.Seams.{In, flat}
 use Rattle.lsys_change.specs.Mates.{AgreeOn, AreBalanced}
 use Rattle.lsys_forest.specs.Nodes.{Nodes}
 use Rattle.lsys_forest.specs.Groves.{Grove, now_of}

@@ -1,8 +1,9 @@
 -- Answers and children that nodes lose, and the lists behind which they come.
 use Rattle.std.specs.Prelude.{◌≡◌, ℕ, List, [], ◌++◌, Vec, None, Some}
 use Rattle.std.specs.declared.alloc.Global.{Global}
-use Rattle.lsys_forest.specs.Nodes.{Node, put, with_kids, with_answer}
-use Rattle.lsys_forest.specs.Groves.{Grove, In, IsLive, now_of}
+use Rattle.lsys_spec.specs.Rows.{In}
+use Rattle.lsys_forest.specs.Nodes.{Node, with_node, with_kids, with_answer}
+use Rattle.lsys_forest.specs.Groves.{Grove, IsLive, now_of}
 use Rattle.lsys_forest.specs.Rows.{kids_below}
 use Rattle.lsys_front.specs.Ends.{answered_in, rows_from}
 
@@ -24,13 +25,13 @@ module _ {A : Type 0} where
   abbrev pub LosesAnswer : Grove A → Grove A → ℕ → Type 0
   LosesAnswer old new k =
       (n : Node A) → now_of old k ≡ Some n
-      → now_of new ≡ put (now_of old) k (Some (with_answer None n))
+      → now_of new ≡ with_node (now_of old) k (Some (with_answer None n))
 
   -- the node has no children any more, and no other one changed
   abbrev pub LosesChildren : Grove A → Grove A → ℕ → Type 0
   LosesChildren old new k =
       (n : Node A) → now_of old k ≡ Some n
-      → now_of new ≡ put (now_of old) k (Some (with_kids [] n))
+      → now_of new ≡ with_node (now_of old) k (Some (with_kids [] n))
 
   -- the children of these nodes live
   abbrev pub KidsLive : Grove A → List ℕ → Type 0

@@ -1,19 +1,19 @@
 -- The nodes of a last level, and those that were below them.
 use Rattle.std.specs.Prelude.{◌≡◌, ◌++◌, ℕ, zero, suc, Bool, List, [], Some, None, is_some, option_map, filter}
 use Rattle.std.specs.Option.{option_and_then}
+use Rattle.lsys_spec.specs.Rows.{In}
 use Rattle.lsys_forest.specs.Nodes.{Node, Nodes, with_kids, with_answer}
 use Rattle.lsys_forest.specs.Answers.{answer_of}
-use Rattle.lsys_forest.specs.Groves.{In}
 use Rattle.lsys_forest.specs.Rows.{kids_below}
 
 module _ {A : Type 0} where
   -- a node without its answer and its children
-  abbrev pub ended : Node A → Node A
-  ended n = with_kids [] (with_answer None n)
+  abbrev pub ended_node : Node A → Node A
+  ended_node n = with_kids [] (with_answer None n)
 
   -- These nodes keep no answers and have no children any more, and no other node changed.
   pub record AreEnded (old new : Nodes A) (nodes : List ℕ) : Type 0 where
-    pub here : (k : ℕ) → In k nodes → new k ≡ option_map ended (old k)
+    pub here : (k : ℕ) → In k nodes → new k ≡ option_map ended_node (old k)
     pub others : (k : ℕ) → (In k nodes → ⊥) → new k ≡ old k
 
   -- the node keeps an answer

@@ -1,9 +1,10 @@
 -- What differs on the level of a repair that was made last, and what becomes of it on the next.
 use Rattle.std.specs.Prelude.{◌≡◌, ◌⊎◌, ◌+◌, ◌<◌, ◌++◌, ◌∷◌, ℕ, List, [], length, map, Some, None}
+use Rattle.lsys_spec.specs.Rows.{In, AreApart}
 use Rattle.lsys_match.specs.Kept.{Kept}
-use Rattle.lsys_forest.specs.Groves.{Grove, In, AreApart, AreSound, IsSound, now_of, rest_of, changes_in}
+use Rattle.lsys_forest.specs.Groves.{Grove, AreSound, IsRooted, now_of, rest_of, changes_in}
 use Rattle.lsys_forest.specs.Rows.{kids_in, kids_below, level_nodes, complete_levels}
-use Rattle.lsys_brood.specs.Children.{Told}
+use Rattle.lsys_brood.specs.Children.{ToldNodes}
 use Rattle.lsys_brood.specs.Matches.{nodes_without}
 use Rattle.lsys_kept.specs.Levels.{answer_at}
 use Rattle.lsys_repair.specs.Nexts.{Successors}
@@ -36,7 +37,7 @@ no_differences = record {
 }
 
 -- what is known of the level that was made last
-pub record IsFront (r : Repair) (seats : List Seat) (d : Differences) : Type 0 where
+pub record IsLevelFront (r : Repair) (seats : List Seat) (d : Differences) : Type 0 where
   pub differs : Differs r d.changes
   pub gone_once : AreApart d.changes.gone
   pub turned : AreTurnedBy (rest r) r.forest r.level seats (d.changes.came ++ d.turned)
@@ -53,7 +54,7 @@ MayHaveOthers d renewed k =
 -- 2. the next level
 
 -- nothing is told
-abbrev pub nothing : Told
+abbrev pub nothing : ToldNodes
 nothing = record { touched = []; changed = []; added = []; gone = []; room = 0 }
 
 -- the next level of a repair, in this forest
@@ -62,8 +63,8 @@ next_of r h = record r { forest = h; level = r.level + 1 }
 
 -- The forest of a repair became this one: the children of these parents, of its level, were made, by what is wanted of each, and it
 -- was told what differs.
-pub record IsNext (r : Repair) (h : Grove Kept) (by : Successors) (ps : List Parent)
-    (told : Told) : Type 0 where
+pub record MakesNext (r : Repair) (h : Grove Kept) (by : Successors) (ps : List Parent)
+    (told : ToldNodes) : Type 0 where
   pub root : h.root ≡ r.forest.root
   pub rest : rest_of h ≡ rest r
   pub sound : AreSound h.root (changes_in h) (now_of h)
@@ -76,13 +77,13 @@ pub record IsNext (r : Repair) (h : Grove Kept) (by : Successors) (ps : List Par
   pub gone : told.gone ≡ gone_of r.new.numbering (now r) ps
 
 -- What was told of the next level, as its changes: also the children of those that are gone are gone.
-pub record IsTold (h : Grove Kept) (d : Differences) (told : Told) (c : LevelChanges) : Type 0 where
+pub record IsToldNext (h : Grove Kept) (d : Differences) (told : ToldNodes) (c : LevelChanges) : Type 0 where
   pub came : c.came ≡ told.added
   pub changed : c.changed ≡ told.changed
   pub gone : c.gone ≡ told.gone ++ kids_below (now_of h) d.changes.gone
 
 -- The first level, in the forest of the repair: the children of the root were made those of the axiom, and it was told what differs.
-pub record IsFirst (r : Repair) (by : Successors) (told : Told) : Type 0 where
+pub record IsFirst (r : Repair) (by : Successors) (told : ToldNodes) : Type 0 where
   pub level : r.level ≡ 0
   pub «axiom» : by (root r) ≡ r.new.axiom_string
   pub renewals : AreRenewals r.new.numbering r.new.seed (rest r) (now r) (root r) 0
@@ -92,7 +93,7 @@ pub record IsFirst (r : Repair) (by : Successors) (told : Told) : Type 0 where
       (map number_told (wanted_symbols r.new.numbering r.new.axiom_string))
       (kids_in (rest r (root r)))
 
-pub record IsToldFirst (told : Told) (c : LevelChanges) : Type 0 where
+pub record IsToldFirst (told : ToldNodes) (c : LevelChanges) : Type 0 where
   pub came : c.came ≡ told.added
   pub changed : c.changed ≡ told.changed
   pub gone : c.gone ≡ told.gone
@@ -101,7 +102,7 @@ pub record IsToldFirst (told : Told) (c : LevelChanges) : Type 0 where
 
 -- these nodes stand on level t of a forest that hangs together, and the level is complete
 pub record StandOn {A : Type 0} (f : Grove A) (t : ℕ) (nodes : List ℕ) : Type 0 where
-  pub sound : IsSound f.root (changes_in f) (now_of f)
+  pub sound : IsRooted f.root (changes_in f) (now_of f)
   pub complete : t < length (complete_levels f)
   pub among : (q : ℕ) → In q nodes → In q (level_nodes (now_of f) f.root t)
 

@@ -1,7 +1,7 @@
 -- What cuts left of the children of a level, and which of its nodes have any.
 use Rattle.std.specs.Prelude.{◌≡◌, ℕ, Bool, true, false, List, [], ◌∷◌, ◌++◌, Option, None, if◌then◌else◌}
+use Rattle.lsys_spec.specs.Rows.{AreApart, flat}
 use Rattle.lsys_change.specs.Kinds.{BracketKind, stays, reached}
-use Rattle.lsys_change.specs.Seams.{AreApart, flat}
 use Rattle.lsys_change.specs.Mates.{AreBalanced, AreOwn, Generation}
 
 -- the children of a node where they stay, and where they are cut off

@@ -1,7 +1,8 @@
 -- The last level that a repair makes, and what was on it and behind it at the last rest.
 use Rattle.std.specs.Prelude.{◌≡◌, ◌↔◌, ◌⊎◌, ◌+◌, ◌-◌, ◌<◌, ◌≤◌, ◌++◌, ℕ, List, [], Some, None, IsSome}
+use Rattle.lsys_spec.specs.Rows.{In, AreApart}
 use Rattle.lsys_forest.specs.Nodes.{Nodes}
-use Rattle.lsys_forest.specs.Groves.{In, AreApart, Reached}
+use Rattle.lsys_forest.specs.Groves.{Reached}
 use Rattle.lsys_forest.specs.Rows.{kids_below, level_nodes, level_spots}
 use Rattle.lsys_match.specs.Kept.{Kept}
 use Rattle.lsys_kept.specs.Lineages.{kins}
@@ -16,7 +17,7 @@ use Rattle.lsys_front.specs.Ends.{answered_in, row_below, rows_from}
 
 -- The nodes m are those of the repair, with its level as the last one: nothing is below it, and its nodes keep no answers. The
 -- levels stay, and so do the lineages, and the answers of all other nodes.
-pub record IsEnded (r : Repair) (m : Nodes Kept) : Type 0 where
+pub record IsLevelEnded (r : Repair) (m : Nodes Kept) : Type 0 where
   pub none_below : level_nodes m (root r) (r.level + 1) ≡ []
   pub no_answers : (k : ℕ) → In k (are r) → answer_at m k ≡ None
   pub answers : (k : ℕ) → (In k (are r) → ⊥) → answer_at m k ≡ answer_at (now r) k

@@ -1,7 +1,7 @@
 -- The nodes of a level to which cuts left children, as a generation.
 use Rattle.std.specs.Prelude.{◌≡◌, ◌↔◌, ℕ, true, List}
+use Rattle.lsys_spec.specs.Rows.{flat, In}
 use Rattle.lsys_change.specs.Kinds.{BracketKind}
-use Rattle.lsys_change.specs.Seams.{flat, In}
 use Rattle.lsys_change.specs.Mates.{AreMatesAmong, next_nodes, IsGeneration, AreMatesOn}
 use Rattle.lsys_front.specs.Generations.{is_parent, parents, IsLeftLevel, left_generation}
 

@@ -1,7 +1,7 @@
 -- Levels whose nodes have the children that cuts left them.
 use Rattle.std.specs.Prelude.{◌≡◌, ◌<◌, ℕ, slice_get, Some, Ok}
+use Rattle.lsys_spec.specs.Meaning.{replacement}
 use Rattle.lsys_spec.specs.Systems.{System}
-use Rattle.lsys_change.specs.Children.{replacement}
 use Rattle.lsys_match.specs.Kept.{Kept}
 use Rattle.lsys_forest.specs.Nodes.{Nodes}
 use Rattle.lsys_forest.specs.Rows.{level_nodes}

@@ -1,11 +1,11 @@
 -- What was looked at below a level tells which neighbours stay.
 use Rattle.std.specs.Prelude.{◌≡◌, ◌⊎◌, ℕ, List, ◌++◌, slice_get, Some}
-use Rattle.lsys_change.specs.Seams.{flat}
+use Rattle.lsys_spec.specs.Rows.{flat, In}
 use Rattle.lsys_forest.specs.Nodes.{Nodes}
-use Rattle.lsys_forest.specs.Groves.{now_of, Grove, In}
+use Rattle.lsys_forest.specs.Groves.{now_of, Grove}
 use Rattle.lsys_forest.specs.Rows.{level_nodes}
 use Rattle.lsys_kept.specs.Neighbours.{neighbours_on}
-use Rattle.lsys_kept.specs.Looks.{AreLookedSeats, level_below, kind_in}
+use Rattle.lsys_kept.specs.Looks.{AreLookedSeats, kids_of_level, kind_in}
 use Rattle.lsys_front.specs.Generations.{left_generation}
 use Rattle.lsys_front.specs.Below.{kids_at, AreLookedBelow}
 
@@ -26,6 +26,6 @@ UnlookedBelowKeepNeighbours A =
     (o : Nodes A) (f : Grove A) (t : ℕ) (touched turned looked : List ℕ)
     → AreLookedBelow o f t touched turned looked
     → (p i k : ℕ) → slice_get (flat (kids_at o) (level_nodes o f.root t)) p ≡ Some k
-    → slice_get (level_below f t) i ≡ Some k
-    → In k looked ⊎ (neighbours_on (now_of f) (level_below f t) i
+    → slice_get (kids_of_level f t) i ≡ Some k
+    → In k looked ⊎ (neighbours_on (now_of f) (kids_of_level f t) i
     ≡ neighbours_on o (flat (kids_at o) (level_nodes o f.root t)) p)

@@ -3,7 +3,7 @@ use Rattle.std.specs.Prelude.{ℕ, List, [], ◌++◌, Vec}
 use Rattle.std.specs.declared.alloc.Global.{Global}
 use Rattle.lsys_forest.specs.Groves.{Grove, now_of}
 use Rattle.lsys_forest.specs.Rows.{level_nodes}
-use Rattle.lsys_brood.specs.Children.{Told}
+use Rattle.lsys_brood.specs.Children.{ToldNodes}
 use Rattle.lsys_kept.specs.Looks.{AddsBelow}
 use Rattle.lsys_candidates.specs.Found.{LevelChanges}
 use Rattle.lsys_front.specs.Fronts.{Differences, StandOn, LooksBelow}
@@ -27,6 +27,6 @@ module _ {A : Type 0} where
       (t : ℕ) → StandOn f t (touched ++ moved_in d) → AddsBelow f t old.items new.items
 
   -- it was looked at nodes of the next level alone
-  abbrev pub LooksOnlyBelow : Grove A → Differences → Told → LevelChanges → Type 0
+  abbrev pub LooksOnlyBelow : Grove A → Differences → ToldNodes → LevelChanges → Type 0
   LooksOnlyBelow f d told next =
       (t : ℕ) → StandOn f t (told.touched ++ moved_in d) → AddsBelow f t [] next.looked

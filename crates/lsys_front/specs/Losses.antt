@@ -1,18 +1,18 @@
 -- Answers that are kept no more.
 use Rattle.std.specs.Prelude.{◌≡◌, ◌≤◌, ◌+◌, Option, Some, Vec, vec_len, vec_capacity}
 use Rattle.std.specs.declared.alloc.Global.{Global}
-use Rattle.lsys_forest.specs.Answers.{Keeper}
+use Rattle.lsys_forest.specs.Answers.{AnswerKeeper}
 use Rattle.lsys_forest.specs.Groves.{Grove, rest_of, kept_in, live_nodes}
 
 module _ {A : Type 0} where
   -- Each answer that is kept was kept before, by the same keeper or by another one, and no two keepers have one of those;
   -- and none is lost.
-  pub record KeepsOld (old new : Keeper → Option A) : Type 0 where
-    pub from : Keeper → Keeper
-    pub came : (h : Keeper) (a : A) → new h ≡ Some a → old (from h) ≡ Some a
-    pub apart : (h i : Keeper) (a b : A) → new h ≡ Some a → new i ≡ Some b
+  pub record KeepsOld (old new : AnswerKeeper → Option A) : Type 0 where
+    pub from : AnswerKeeper → AnswerKeeper
+    pub came : (h : AnswerKeeper) (a : A) → new h ≡ Some a → old (from h) ≡ Some a
+    pub apart : (h i : AnswerKeeper) (a b : A) → new h ≡ Some a → new i ≡ Some b
         → from h ≡ from i → h ≡ i
-    pub still : (h : Keeper) (a : A) → old h ≡ Some a → (i : Keeper) × (new i ≡ Some a)
+    pub still : (h : AnswerKeeper) (a : A) → old h ≡ Some a → (i : AnswerKeeper) × (new i ≡ Some a)
 
   -- No answer is new and no node came, and the last rest stays.
   pub record LosesOnly (old new : Grove A) : Type 0 where

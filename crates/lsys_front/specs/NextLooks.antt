@@ -1,9 +1,10 @@
 -- Who is looked at on the next level, and the front that is found there.
 use Rattle.std.specs.Prelude.{◌≡◌, ◌↔◌, ◌⊎◌, ◌+◌, ◌^◌, ◌<◌, ℕ, true, List, [], ◌++◌, slice_get, Some, Ok}
-use Rattle.lsys_change.specs.Children.{replacement}
+use Rattle.lsys_spec.specs.Rows.{In, AreApart}
+use Rattle.lsys_spec.specs.Meaning.{replacement}
 use Rattle.lsys_match.specs.Kept.{Kept}
 use Rattle.lsys_reads.specs.Relations.{Relations, is_settled}
-use Rattle.lsys_forest.specs.Groves.{now_of, IsLive, Grove, In, AreApart}
+use Rattle.lsys_forest.specs.Groves.{now_of, IsLive, Grove}
 use Rattle.lsys_forest.specs.Rows.{level_nodes}
 use Rattle.lsys_kept.specs.Levels.{answer_at, HasRead, level_of}
 use Rattle.lsys_kept.specs.declared.seat.Seat.{Seat}
@@ -11,18 +12,18 @@ use Rattle.lsys_kept.specs.Neighbours.{neighbours_in}
 use Rattle.lsys_kept.specs.Seats.{neighbours_at, HasSeat}
 use Rattle.lsys_kept.specs.Standings.{AreSeated}
 use Rattle.lsys_candidates.specs.Repairs.{Repair, now, rest, were, are, SteppingSpots}
-use Rattle.lsys_candidates.specs.Found.{IsFound, AreOnLevels, HasRoom, LevelChanges, Differs}
-use Rattle.lsys_brood.specs.Children.{Told, KeepsChildren}
+use Rattle.lsys_candidates.specs.Found.{IsFound, AreOnLevels, HasSeatsForFound, LevelChanges, Differs}
+use Rattle.lsys_brood.specs.Children.{ToldNodes, KeepsChildren}
 use Rattle.lsys_repair.specs.Nexts.{Successors, node_symbol, AreLevels}
 use Rattle.lsys_repair.specs.declared.parent.Parent.{Parent}
-use Rattle.lsys_front.specs.Fronts.{Differences, IsFront, IsNext, next_of, LooksBelow}
+use Rattle.lsys_front.specs.Fronts.{Differences, IsLevelFront, MakesNext, next_of, LooksBelow}
 
 -- A node of the next level that was there was looked at below, or has what its seat tells.
 abbrev pub LooksBelowAreEnough : Type 0
 LooksBelowAreEnough =
     (r : Repair) (seats : List Seat) (d : Differences) (h : Grove Kept)
-    (by succ : Successors) (ps : List Parent) (told : Told) (looked : List ℕ)
-    → SteppingSpots r → r.level < r.old.depth → IsFront r seats d → IsNext r h by ps told
+    (by succ : Successors) (ps : List Parent) (told : ToldNodes) (looked : List ℕ)
+    → SteppingSpots r → r.level < r.old.depth → IsLevelFront r seats d → MakesNext r h by ps told
     → AreLevels r.new r.limit (r.level + 1) (now_of h) h.root
     → ((p k : ℕ) → slice_get (level_nodes (now_of h) h.root r.level) p ≡ Some k
     → replacement r.new r.level (level_of (now_of h) h.root r.level) p
@@ -46,7 +47,7 @@ FoundNodesAreTheFront =
     → ((k : ℕ) → In k c.looked → In k (are r))
     → ((k : ℕ) → In k (are r) → answer_at (now r) k ≡ answer_at (rest r) k)
     → IsFound r.forest seats reads c turned beside readers
-    → IsFront r seats (record { changes = c; turned = turned; bare = [] })
+    → IsLevelFront r seats (record { changes = c; turned = turned; bare = [] })
 
 -- Where each node that lives has a seat, there are seats for all nodes that may be found.
 abbrev pub SeatsForAllAreRoom : Type 0
@@ -56,7 +57,7 @@ SeatsForAllAreRoom =
     → ((reader seen : ℕ)
     → (is_settled reads reader seen ≡ true) ↔ HasRead (rest r) r.store reader seen)
     → ((k : ℕ) → IsLive r.forest k → HasSeat seats k)
-    → HasRoom r.forest reads c seats
+    → HasSeatsForFound r.forest reads c seats
 
 -- Those that changed or were looked at stand on complete levels.
 abbrev pub ChangedNodesAreOnLevels : Type 0

@@ -1,7 +1,7 @@
 -- The nodes of a level as parents of the next one.
 use Rattle.std.specs.Prelude.{◌≡◌, ◌⊎◌, ◌+◌, ◌<◌, ℕ, false, List, slice_get, Some}
+use Rattle.lsys_spec.specs.Rows.{In, AreApart}
 use Rattle.lsys_change.specs.Children.{is_open}
-use Rattle.lsys_forest.specs.Groves.{In, AreApart}
 use Rattle.lsys_kept.specs.Levels.{answer_at, AnsweredAt}
 use Rattle.lsys_kept.specs.Standings.{seen_at}
 use Rattle.lsys_candidates.specs.Repairs.{Repair, now, rest, root, were, are, SteppingSpots}

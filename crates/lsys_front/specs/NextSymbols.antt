@@ -1,6 +1,6 @@
 -- How long the next level will be.
 use Rattle.std.specs.Prelude.{◌≡◌, ◌⊎◌, ◌+◌, ℕ, List, length, sum_by, None}
-use Rattle.lsys_forest.specs.Groves.{In, AreApart}
+use Rattle.lsys_spec.specs.Rows.{In, AreApart}
 use Rattle.lsys_forest.specs.Rows.{level_nodes, kids_in}
 use Rattle.lsys_candidates.specs.Repairs.{Repair, now, rest, root, are, SteppingSpots}
 use Rattle.lsys_candidates.specs.Found.{LevelChanges, Differs}
@@ -8,7 +8,7 @@ use Rattle.lsys_repair.specs.Nexts.{HasWanted, AreClosed, count_wanted}
 use Rattle.lsys_repair.specs.Renewals.{KeepsDeeper}
 use Rattle.lsys_repair.specs.Answers.{kept_successors}
 use Rattle.lsys_repair.specs.declared.parent.Parent.{Parent}
-use Rattle.lsys_repair.specs.Parents.{nodes_in, AreToldBy, walked}
+use Rattle.lsys_repair.specs.Parents.{nodes_in, AreToldBy, cut_parents}
 use Rattle.lsys_repair.specs.Needs.{had_by_all, wanted_of_all}
 
 -- Before the next level is made, it is as long as at the last rest, without children of those gone.
@@ -39,6 +39,6 @@ LengthByTheParents =
 abbrev pub LengthByTheWalk : Type 0
 LengthByTheWalk =
     (r : Repair) (ps : List Parent)
-    → ps ≡ walked (now r) None (are r) → AreApart (are r)
+    → ps ≡ cut_parents (now r) None (are r) → AreApart (are r)
     → count_wanted r.new.numbering (now r) (kept_successors (now r)) (are r)
     ≡ wanted_of_all r.new.numbering (now r) ps

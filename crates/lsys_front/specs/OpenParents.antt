@@ -1,10 +1,10 @@
 -- Nodes of a level as parents: which there are, and whether a cut reaches further than one's own children.
 use Rattle.std.specs.Prelude.{◌≡◌, ℕ, true, false, List, Vec}
 use Rattle.std.specs.declared.alloc.Global.{Global}
+use Rattle.lsys_spec.specs.Rows.{In}
 use Rattle.lsys_change.specs.Children.{is_open}
 use Rattle.lsys_match.specs.Kept.{Kept}
 use Rattle.lsys_forest.specs.Nodes.{Nodes}
-use Rattle.lsys_forest.specs.Groves.{In}
 use Rattle.lsys_kept.specs.declared.seat.Seat.{Seat}
 use Rattle.lsys_repair.specs.Answers.{kept_successors}
 use Rattle.lsys_candidates.specs.Finds.{Gathers}

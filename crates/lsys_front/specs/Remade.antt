@@ -1,9 +1,9 @@
 -- A level of a repair whose next level was made.
 use Rattle.std.specs.Prelude.{◌≡◌, ◌⊎◌, ◌+◌, ℕ, List, Ok, Some, slice_get}
-use Rattle.lsys_change.specs.Seams.{In}
-use Rattle.lsys_change.specs.Children.{replacement}
+use Rattle.lsys_spec.specs.Meaning.{replacement}
+use Rattle.lsys_spec.specs.Rows.{In}
 use Rattle.lsys_match.specs.Kept.{Kept}
-use Rattle.lsys_forest.specs.Groves.{Grove, IsSound, changes_in, now_of}
+use Rattle.lsys_forest.specs.Groves.{Grove, IsRooted, changes_in, now_of}
 use Rattle.lsys_forest.specs.Rows.{level_nodes, level_of_node}
 use Rattle.lsys_brood.specs.Children.{KeepsChildren}
 use Rattle.lsys_kept.specs.Levels.{level_of}
@@ -17,7 +17,7 @@ use Rattle.lsys_front.specs.Turned.{IsSameLevel}
 pub record IsNextMade (r : Repair) (h : Grove Kept) (by : Successors)
     (touched turned looked : List ℕ) : Type 0 where
   pub same : IsSameLevel r.forest h r.level
-  pub sound : IsSound h.root (changes_in h) (now_of h)
+  pub sound : IsRooted h.root (changes_in h) (now_of h)
   pub levels : AreLevels r.new r.limit (r.level + 1) (now_of h) h.root
   pub replaced : (p k : ℕ) → slice_get (level_nodes (now_of h) h.root r.level) p ≡ Some k
       → replacement r.new r.level (level_of (now_of h) h.root r.level) p (node_symbol (now_of h) k)

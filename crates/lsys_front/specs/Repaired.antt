@@ -1,9 +1,10 @@
 -- A level of a repair, and the next one that was made of it.
 use Rattle.std.specs.Prelude.{◌≡◌, ◌⊎◌, ◌+◌, ◌<◌, ℕ, List}
+use Rattle.lsys_spec.specs.Rows.{In}
 use Rattle.lsys_change.specs.Seams as seams
 use Rattle.lsys_match.specs.Kept.{Kept}
 use Rattle.lsys_reads.specs.Relations.{Relations}
-use Rattle.lsys_forest.specs.Groves.{now_of, Grove, In}
+use Rattle.lsys_forest.specs.Groves.{now_of, Grove}
 use Rattle.lsys_forest.specs.Rows.{level_nodes}
 use Rattle.lsys_kept.specs.declared.seat.Seat.{Seat}
 use Rattle.lsys_kept.specs.Neighbours.{neighbours_in}
@@ -23,7 +24,7 @@ FoundNodesAreTheTurned =
     (others turned beside readers all : List ℕ)
     → SteppingNodes r seats reads c others
     → IsFound r.forest seats reads c turned beside readers
-    → ((k : ℕ) → In k c.came ⊎ In k turned → seams.In k all)
+    → ((k : ℕ) → In k c.came ⊎ In k turned → In k all)
     → AreTurnedBy (rest r) r.forest r.level seats all
 
 -- Where the next level was made, what was looked at is what the law of looks below asks for.

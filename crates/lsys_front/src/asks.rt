@@ -1,6 +1,6 @@
 //! Which nodes of a level that was made are asked.
 ghost use Rattle.std.specs.Prelude.{◌≡◌, ℕ, IfOk, OnOk, false};
-ghost use Rattle.lsys_forest.specs.Groves.{AreApart};
+ghost use Rattle.lsys_spec.specs.Rows.{AreApart};
 ghost use Rattle.lsys_kept.specs.Seats.{is_marked, HasSeat, SameSeats, KeepsSeats};
 ghost use Rattle.lsys_candidates.specs.Finds.{AllMarked};
 ghost use Rattle.lsys_candidates.specs.Asks.{AreInOrder};

@@ -1,11 +1,12 @@
 //! The last level of a system.
 ghost use Rattle.std.specs.Prelude.{◌≡◌, ◌≤◌, ◌<◌, ◌+◌, ◌^◌, ◌++◌, ◌∷◌, ℕ, [], OnOk};
-ghost use Rattle.lsys_forest.specs.Groves.{In, AreApart, now_of, live_nodes, IsLive};
+ghost use Rattle.lsys_spec.specs.Rows.{In, AreApart};
+ghost use Rattle.lsys_forest.specs.Groves.{now_of, live_nodes, IsLive};
 ghost use Rattle.lsys_kept.specs.Looks.{kids_of};
 ghost use Rattle.lsys_candidates.specs.Repairs.{Repair, SteppingSpots, now};
 ghost use Rattle.lsys_front.specs.Losses.{LosesOnly};
 ghost use Rattle.lsys_front.specs.Ends.{AreEnded, is_answered};
-ghost use Rattle.lsys_front.specs.LastLevels.{IsEnded, IsBehindAll};
+ghost use Rattle.lsys_front.specs.LastLevels.{IsLevelEnded, IsBehindAll};
 ghost use Rattle.lsys_front.specs.AnsweredRows.{AnsweredAreThoseThatKeep, AnsweredAreApart, NodesBelowAreInRows, RowsOfADepthAreApart};
 ghost use Rattle.lsys_front.specs.EndedLevels.{EndedLevelIsTheLast, EndedLevelHasAllBehind};
 ghost use Rattle.lsys_front.specs.Dropped.{AddsKids, DropsOf, LosesAnswer, LosesChildren, DropsRows, KidsLive};
@@ -193,6 +194,6 @@ pub fn law_of_answered_rows<A>()
 /// it: so [`drop_below`] finds what kept an answer there, each node once.
 pub fn law_of_last_levels()
     ensures ended { EndedLevelIsTheLast }
-    ensures bare { (r : Repair) → SteppingSpots r → IsBehindAll r → IsEnded r (now r) }
+    ensures bare { (r : Repair) → SteppingSpots r → IsBehindAll r → IsLevelEnded r (now r) }
     ensures behind { EndedLevelHasAllBehind }
 {}

@@ -1,6 +1,6 @@
 //! Who is looked at on the next level, and the front that is found there.
 ghost use Rattle.std.specs.Prelude.{◌++◌, ℕ, OnOk};
-ghost use Rattle.lsys_forest.specs.Groves.{In};
+ghost use Rattle.lsys_spec.specs.Rows.{In};
 ghost use Rattle.lsys_front.specs.Fronts.{StandOn};
 ghost use Rattle.lsys_front.specs.NextLooks.{LooksBelowAreEnough, FoundNodesAreTheFront, SeatsForAllAreRoom, ChangedNodesAreOnLevels};
 ghost use Rattle.lsys_front.specs.LooksFrom.{moved_in, LooksFrom, AddsBelowThem};

@@ -1,6 +1,7 @@
 //! Answers that are lost with their questions.
 ghost use Rattle.std.specs.Prelude.{◌≡◌, ◌↔◌, ◌<◌, ◌≤◌, ◌+◌, ◌^◌, ◌++◌, ◌∷◌, ℕ, [], IsTrue, OnOk, OnErr, vec_len, vec_capacity};
-ghost use Rattle.lsys_forest.specs.Groves.{In, AreSound, now_of, changes_in, live_nodes, IsLive};
+ghost use Rattle.lsys_spec.specs.Rows.{In};
+ghost use Rattle.lsys_forest.specs.Groves.{AreSound, now_of, changes_in, live_nodes, IsLive};
 ghost use Rattle.lsys_front.specs.Losses.{LosesOnly, TakesOnePlace};
 ghost use Rattle.lsys_front.specs.Asks.{IsIdle};
 ghost use Rattle.lsys_front.specs.LostAnswers.{LosesIn, LosesBoth};

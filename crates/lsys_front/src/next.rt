@@ -1,7 +1,8 @@
 //! The front of the next level.
 ghost use Rattle.std.specs.Prelude.{◌≡◌, ◌++◌, ℕ, [], IfOk};
-ghost use Rattle.lsys_forest.specs.Groves.{In, IsLive};
-ghost use Rattle.lsys_front.specs.Fronts.{IsTold, StandOn};
+ghost use Rattle.lsys_spec.specs.Rows.{In};
+ghost use Rattle.lsys_forest.specs.Groves.{IsLive};
+ghost use Rattle.lsys_front.specs.Fronts.{IsToldNext, StandOn};
 ghost use Rattle.lsys_front.specs.LooksFrom.{moved_in, LooksFrom, LooksOnlyBelow};
 
 use crate::ends::add_children;
@@ -30,7 +31,7 @@ impl Front {
     ) -> Result<Front, AllocError>
         requires lives { (k : ℕ) → In k self.now.changes.gone → IsLive forest.now k }
         requires level { (t : ℕ) × StandOn forest.now t (told.now.touched ++ moved_in self.now) }
-        ensures told { IfOk result (λ next. IsTold forest.now self.now told.now next.changes) }
+        ensures told { IfOk result (λ next. IsToldNext forest.now self.now told.now next.changes) }
         ensures looks { IfOk result (λ n. LooksFrom forest.now self.now told.now.touched n.changes.looked) }
         ensures below { IfOk result (λ next. LooksOnlyBelow forest.now self.now told.now next.changes) }
         ensures turned { IfOk result (λ next. next.turned ≡ []) }

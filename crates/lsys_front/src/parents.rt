@@ -1,6 +1,7 @@
 //! The parents of the next level.
 ghost use Rattle.std.specs.Prelude.{◌≡◌, ◌↔◌, ◌≤◌, ◌^◌, ℕ, true, false, length, sum_by, IfOk, OnOk};
-ghost use Rattle.lsys_forest.specs.Groves.{In, AreApart, IsLive, now_of};
+ghost use Rattle.lsys_spec.specs.Rows.{In, AreApart};
+ghost use Rattle.lsys_forest.specs.Groves.{IsLive, now_of};
 ghost use Rattle.lsys_forest.specs.Rows.{kids_in};
 ghost use Rattle.lsys_kept.specs.Seats.{is_marked, HasSeat, SameSeats, KeepsSeats};
 ghost use Rattle.lsys_candidates.specs.Finds.{AllMarked};

@@ -1,7 +1,7 @@
 //! Which nodes of a level turned.
 ghost use Rattle.std.specs.Prelude.{◌≡◌, ℕ, false, IfOk};
 ghost use Rattle.lsys_kept.specs.Seats.{is_marked, SameSeats, KeepsSeats};
-ghost use Rattle.lsys_candidates.specs.Found.{AreOnLevels, HasRoom};
+ghost use Rattle.lsys_candidates.specs.Found.{AreOnLevels, HasSeatsForFound};
 ghost use Rattle.lsys_front.specs.Askable.{FindsTurned};
 
 use crate::asks::Found;
@@ -30,7 +30,7 @@ impl Front {
         reads: &Reads,
     ) -> Result<Found, AllocError>
         requires levels { AreOnLevels forest.now self.old.changes }
-        requires room { HasRoom forest.now reads.now self.old.changes seats.old }
+        requires room { HasSeatsForFound forest.now reads.now self.old.changes seats.old }
         requires clear { (k : ℕ) → is_marked seats.old k ≡ false }
         ensures found { IfOk result (FindsTurned forest.now seats.old reads.now self.old self.new) }
         ensures changes { self.new.changes ≡ self.old.changes }

@@ -14,21 +14,21 @@ use Rattle.lsys_module.specs.Views.{module_name}
 use Rattle.lsys_bodies.specs.declared.rule.Rule.{Rule}
 use Rattle.lsys_bodies.specs.declared.body.Body.{Body}
 use Rattle.lsys_bodies.specs.declared.body.Template.{Template}
-use Rattle.lsys_bodies.specs.Views.{production_of, rule_of, template_symbol}
+use Rattle.lsys_bodies.specs.Views.{as_production, rule_of, template_symbol}
 use Rattle.lsys_matrix.specs.Capped.{cap, capped, value_of}
 use Rattle.lsys_matrix.specs.Matrices.{place, IsRow, IsMatrix, Square}
 use Rattle.lsys_matrix.specs.Growth.{letter_count}
-use Rattle.lsys_matrix.specs.Counts.{branch_count, count_at, bare, given, given_in, given_at, step_matrix}
-use Rattle.lsys_growth.specs.Counting.{count_of_what, AddsCounts, alone, given_for}
+use Rattle.lsys_matrix.specs.Counts.{branch_count, count_at, without_params, given, given_in, given_at, step_matrix}
+use Rattle.lsys_growth.specs.Counting.{count_of_what, AddsCounts, letter_alone, given_for}
 
-bare_letters : {P : Type 0} (n : ModuleName) (xs : List (S.Symbol P)) → letter_count n (bare {Q = ℤ} xs) ≡ letter_count n xs
+bare_letters : {P : Type 0} (n : ModuleName) (xs : List (S.Symbol P)) → letter_count n (without_params {Q = ℤ} xs) ≡ letter_count n xs
 bare_letters n [] = refl
 bare_letters n (S.Module m ps ∷ xs) = let e = bare_letters n xs in omega (arith, e)
 bare_letters n (S.Push ∷ xs) = bare_letters n xs
 bare_letters n (S.Pop ∷ xs) = bare_letters n xs
 bare_letters n (S.Cut ∷ xs) = bare_letters n xs
 
-bare_branches : {P : Type 0} (xs : List (S.Symbol P)) → branch_count (bare {Q = ℤ} xs) ≡ branch_count xs
+bare_branches : {P : Type 0} (xs : List (S.Symbol P)) → branch_count (without_params {Q = ℤ} xs) ≡ branch_count xs
 bare_branches [] = refl
 bare_branches (S.Module m ps ∷ xs) = bare_branches xs
 bare_branches (S.Push ∷ xs) = let e = bare_branches xs in omega (arith, e)
@@ -36,7 +36,7 @@ bare_branches (S.Pop ∷ xs) = bare_branches xs
 bare_branches (S.Cut ∷ xs) = bare_branches xs
 
 -- parameters count nowhere
-pub bare_at : {P : Type 0} (ns : List ModuleName) (j : ℕ) (xs : List (S.Symbol P)) → count_at ns j (bare {Q = ℤ} xs) ≡ count_at ns j xs
+pub bare_at : {P : Type 0} (ns : List ModuleName) (j : ℕ) (xs : List (S.Symbol P)) → count_at ns j (without_params {Q = ℤ} xs) ≡ count_at ns j xs
 bare_at [] j xs = bare_branches xs
 bare_at (n ∷ ns) zero xs = bare_letters n xs
 bare_at (n ∷ ns) (suc j) xs = bare_at ns j xs
@@ -98,7 +98,7 @@ whole_entries s t ns k m es e f r = r.len ∙ ap (λ (x : ℕ). x * suc (length 
 
 -- the counts alone are a row
 -- the counts of a successor are those of what it gives
-pub bare_added : {P : Type 0} (ns : List ModuleName) (xs : List (S.Symbol P)) (old new : List (Option ℕ)) → AddsCounts ns xs old new → AddsCounts ns (bare {Q = ℤ} xs) old new
+pub bare_added : {P : Type 0} (ns : List ModuleName) (xs : List (S.Symbol P)) (old new : List (Option ℕ)) → AddsCounts ns xs old new → AddsCounts ns (without_params {Q = ℤ} xs) old new
 bare_added ns xs old new a = record { len = a.len; before = a.before; cells = λ j u. a.cells j u ∙ ap capped (sym (bare_at ns j xs)) }
 
 pub first_row : (ns : List ModuleName) (xs : List (S.Symbol ℤ)) (r : List (Option ℕ)) → AddsCounts ns xs [] r → IsRow (suc (length ns)) (λ j. count_at ns j xs) r
@@ -139,38 +139,38 @@ next_count ns xs k times what old now small e f c = record {
 
 abbrev from_head : ModuleName → List Production → List (S.Symbol ℤ)
 from_head n [] = S.Module n [] ∷ []
-from_head n (p ∷ ps) = bare p.rule.successor
+from_head n (p ∷ ps) = without_params p.rule.successor
 
 head_given : (table : List ℕ) (n : ModuleName) (ps : List Production) → given_in table n ps ≡ from_head n (filter (is_for table n 0) ps)
 head_given table n [] = refl
 head_given table n (p ∷ ps) = by (is_for table n 0 p) (head_given table n ps)
   where
-    by : (b : Bool) → given_in table n ps ≡ from_head n (filter (is_for table n 0) ps) → (if b then bare p.rule.successor else given_in table n ps) ≡ from_head n (if b then p ∷ filter (is_for table n 0) ps else filter (is_for table n 0) ps)
+    by : (b : Bool) → given_in table n ps ≡ from_head n (filter (is_for table n 0) ps) → (if b then without_params p.rule.successor else given_in table n ps) ≡ from_head n (if b then p ∷ filter (is_for table n 0) ps else filter (is_for table n 0) ps)
     by true h = refl
     by false h = h
 
-first_head : (n : ModuleName) (rs : List Rule) (r : Rule) → Some r ≡ slice_get rs 0 → from_head n (map production_of rs) ≡ bare (rule_of r).successor
+first_head : (n : ModuleName) (rs : List Rule) (r : Rule) → Some r ≡ slice_get rs 0 → from_head n (map as_production rs) ≡ without_params (rule_of r).successor
 first_head n [] r h = cc
-first_head n (q ∷ rs) r h = let e : q ≡ r = cc in ap (λ (x : Rule). bare (rule_of x).successor) e
+first_head n (q ∷ rs) r h = let e : q ≡ r = cc in ap (λ (x : Rule). without_params (rule_of x).successor) e
 
-no_head : (n : ModuleName) (rs : List Rule) → None ≡ slice_get rs 0 → from_head n (map production_of rs) ≡ S.Module n [] ∷ []
+no_head : (n : ModuleName) (rs : List Rule) → None ≡ slice_get rs 0 → from_head n (map as_production rs) ≡ S.Module n [] ∷ []
 no_head n [] h = refl
 no_head n (q ∷ rs) h = cc
 
 -- the first rule of the group is there
 pub given_added : (s : System) (t : ℕ) (ns : List ModuleName) (name : List ℕ) (letter : Option (List ℕ)) (rs : List Rule) (r : Rule) (body : Body) (ts : List Template) (old new : List (Option ℕ))
-    → letter ≡ Some name → map production_of rs ≡ filter (is_for (table_at s.schedule t) (module_name name) 0) s.rules → Some r ≡ slice_get rs 0 → body ≡ r.body → ts ≡ body.successor.items
+    → letter ≡ Some name → map as_production rs ≡ filter (is_for (table_at s.schedule t) (module_name name) 0) s.rules → Some r ≡ slice_get rs 0 → body ≡ r.body → ts ≡ body.successor.items
     → AddsCounts ns (map template_symbol ts) old new → AddsCounts ns (given_for s t (option_map module_name letter)) old new
 given_added s t ns name letter rs r body ts old new e f g h k a =
-    let is : given s t (module_name name) ≡ bare (rule_of r).successor = head_given (table_at s.schedule t) (module_name name) s.rules ∙ ap (from_head (module_name name)) (sym f) ∙ first_head (module_name name) rs r g in
+    let is : given s t (module_name name) ≡ without_params (rule_of r).successor = head_given (table_at s.schedule t) (module_name name) s.rules ∙ ap (from_head (module_name name)) (sym f) ∙ first_head (module_name name) rs r g in
     let same : map template_symbol ts ≡ (rule_of r).successor = ap (map template_symbol) (k ∙ ap (λ (x : Body). x.successor.items) h) in
-    let whole : given_for s t (option_map module_name letter) ≡ bare (map template_symbol ts) = ap (λ o. given_for s t (option_map module_name o)) e ∙ is ∙ ap (λ l. bare l) (sym same) in
+    let whole : given_for s t (option_map module_name letter) ≡ without_params (map template_symbol ts) = ap (λ o. given_for s t (option_map module_name o)) e ∙ is ∙ ap (λ l. without_params l) (sym same) in
     subst (λ (xs : List (S.Symbol ℤ)). AddsCounts ns xs old new) (sym whole) (bare_added ns (map template_symbol ts) old new a)
 
 -- there is none
 pub alone_added : (s : System) (t : ℕ) (ns : List ModuleName) (name : List ℕ) (letter : Option (List ℕ)) (rs : List Rule) (old new : List (Option ℕ))
-    → letter ≡ Some name → map production_of rs ≡ filter (is_for (table_at s.schedule t) (module_name name) 0) s.rules → None ≡ slice_get rs 0
-    → AddsCounts ns (alone (option_map module_name (Some name))) old new → AddsCounts ns (given_for s t (option_map module_name letter)) old new
+    → letter ≡ Some name → map as_production rs ≡ filter (is_for (table_at s.schedule t) (module_name name) 0) s.rules → None ≡ slice_get rs 0
+    → AddsCounts ns (letter_alone (option_map module_name (Some name))) old new → AddsCounts ns (given_for s t (option_map module_name letter)) old new
 alone_added s t ns name letter rs old new e f g a =
     let is : given s t (module_name name) ≡ S.Module (module_name name) [] ∷ [] = head_given (table_at s.schedule t) (module_name name) s.rules ∙ ap (from_head (module_name name)) (sym f) ∙ no_head (module_name name) rs g in
     let whole : given_for s t (option_map module_name letter) ≡ S.Module (module_name name) [] ∷ [] = ap (λ o. given_for s t (option_map module_name o)) e ∙ is in

@@ -4,7 +4,7 @@ use Rattle.std.proofs.Math.Nat.{div-add-mod}
 use Rattle.lsys_syntax.specs.Strings.{ModuleName}
 use Rattle.lsys_spec.specs.Systems.{System}
 use Rattle.lsys_matrix.specs.Capped.{capped}
-use Rattle.lsys_matrix.specs.Sums.{run, repeated, steps_product}
+use Rattle.lsys_matrix.specs.Sums.{row_after, repeated, steps_product}
 use Rattle.lsys_matrix.specs.Matrices.{Square, IsRow, IsMatrix, IsRowTimes, IsProduct}
 use Rattle.lsys_matrix.proofs.Powers.{StandsFor, steps_stand, run_whole}
 use Rattle.lsys_matrix.proofs.Squaring.{times_row, times_matrix}
@@ -22,12 +22,12 @@ next_product k a (suc l) turn step m h t s p =
     (times_matrix k (steps_product k a l) (a (suc l)) turn step m (subst (λ (n : ℕ). IsMatrix k (steps_product k a n) turn) e t) s p)
 
 -- one more single step
-pub next_run : (k : ℕ) (a : ℕ → ℕ → ℕ → ℕ) (l : ℕ) (v : ℕ → ℕ) (row r : List (Option ℕ)) (step : Square) → IsRow k (run k a 0 l v) row → IsMatrix k (a l) step → IsRowTimes row step r → IsRow k (run k a 0 (l + 1) v) r
+pub next_run : (k : ℕ) (a : ℕ → ℕ → ℕ → ℕ) (l : ℕ) (v : ℕ → ℕ) (row r : List (Option ℕ)) (step : Square) → IsRow k (row_after k a 0 l v) row → IsMatrix k (a l) step → IsRowTimes row step r → IsRow k (row_after k a 0 (l + 1) v) r
 next_run k a l v row r step h s p =
     let e : l + 1 ≡ suc l = omega arith in
     let f : l ≡ 0 + l = omega arith in
-    subst (λ (n : ℕ). IsRow k (run k a 0 n v) r) (sym e)
-    (times_row k (run k a 0 l v) (a (0 + l)) row r step h (subst (λ (n : ℕ). IsMatrix k (a n) step) f s) p)
+    subst (λ (n : ℕ). IsRow k (row_after k a 0 n v) r) (sym e)
+    (times_row k (row_after k a 0 l v) (a (0 + l)) row r step h (subst (λ (n : ℕ). IsMatrix k (a n) step) f s) p)
 
 -- the row of a level: after whole turns, and then after the steps that are left
 pub level_row : (s : System) (ns : List ModuleName) (level : ℕ) (first row r : List (Option ℕ)) → 0 < length s.schedule
@@ -43,11 +43,11 @@ level_row s ns level first row r some f g h =
     let whole : n * q + m ≡ level = div-add-mod level n in
     let one : suc (n - 1) ≡ n = omega (arith, some) in
     let turn : StandsFor k (step_matrix s ns) 0 n (turn_matrix s ns) = subst (λ (x : ℕ). StandsFor k (step_matrix s ns) 0 x (turn_matrix s ns)) one (steps_stand k (step_matrix s ns) (n - 1)) in
-    let left : IsRow k (run k (step_matrix s ns) 0 m (repeated k (turn_matrix s ns) q (first_counts s ns))) r = h (repeated k (turn_matrix s ns) q (first_counts s ns)) (g (first_counts s ns) f) in
+    let left : IsRow k (row_after k (step_matrix s ns) 0 m (repeated k (turn_matrix s ns) q (first_counts s ns))) r = h (repeated k (turn_matrix s ns) q (first_counts s ns)) (g (first_counts s ns) f) in
     record {
       len = left.len;
       places = λ i u.
           left.places i u
           ∙ ap capped (sym (run_whole k (step_matrix s ns) n (turn_matrix s ns) (steps_again s ns) turn q m (first_counts s ns) i u)
-          ∙ ap (λ (x : ℕ). run k (step_matrix s ns) 0 x (first_counts s ns) i) whole);
+          ∙ ap (λ (x : ℕ). row_after k (step_matrix s ns) 0 x (first_counts s ns) i) whole);
     }

@@ -13,19 +13,19 @@ use Rattle.lsys_matrix.specs.Capped.{cap, capped}
 use Rattle.lsys_matrix.specs.Sums.{sum_to}
 use Rattle.lsys_matrix.specs.Matrices.{place, IsRow}
 use Rattle.lsys_matrix.proofs.Stopping.{capped_plus, capped_twice, sum_capped}
-use Rattle.lsys_matrix.specs.Growth.{in_class, letters, most_letters, LetterCount, Census, stands, counted, outside_class, over_letters, over_numbers, growth_at, level_counted, level_on}
+use Rattle.lsys_matrix.specs.Growth.{in_class, letters, most_letters, LetterCount, Census, stands, census_within, outside_class, over_letters, over_numbers, growth_at, level_counted, level_on}
 use Rattle.lsys_matrix.specs.Counts.{told_length, paired, told_census, counts_after}
 use Rattle.lsys_matrix.proofs.Told.{HasBrackets, level_told}
 use Rattle.lsys_growth.specs.Steps.{IsLevelRow}
 
-pub counted_short : (c : Census) → c.symbols < cap → counted c ≡ Ok c
+pub counted_short : (c : Census) → c.symbols < cap → census_within c ≡ Ok c
 counted_short c h = by (nat_lt c.symbols cap) refl
   where
     by : (b : Bool) → nat_lt c.symbols cap ≡ b → (if b then Ok c else Err over_numbers) ≡ Ok c
     by true e = refl
     by false e = let f = ltb-false c.symbols cap e in absurd (omega (arith, h, f))
 
-pub counted_long : (c : Census) → cap ≤ c.symbols → counted c ≡ Err over_numbers
+pub counted_long : (c : Census) → cap ≤ c.symbols → census_within c ≡ Err over_numbers
 counted_long c h = by (nat_lt c.symbols cap) refl
   where
     by : (b : Bool) → nat_lt c.symbols cap ≡ b → (if b then Ok c else Err over_numbers) ≡ Err over_numbers
@@ -71,7 +71,7 @@ pairs_same (n ∷ ns) c d h =
     ∙ ap (λ l. record { letter = n; times = d 0 } ∷ l) (pairs_same ns (λ i. c (suc i)) (λ i. d (suc i)) (λ i b. h (suc i) (omega (arith, b))))
 
 -- a row that tells counts, as far as it goes, tells the same census
-pub counted_row : (ns : List ModuleName) (c : ℕ → ℕ) (row : List (Option ℕ)) → IsRow (suc (length ns)) c row → counted (told_census ns (place row)) ≡ counted (told_census ns c)
+pub counted_row : (ns : List ModuleName) (c : ℕ → ℕ) (row : List (Option ℕ)) → IsRow (suc (length ns)) c row → census_within (told_census ns (place row)) ≡ census_within (told_census ns c)
 counted_row ns c row r = by (nat_lt (told_length k c) cap) refl
   where
     k : ℕ
@@ -87,11 +87,11 @@ counted_row ns c row r = by (nat_lt (told_length k c) cap) refl
         (sum_capped k c (place row) (λ i b. sym (once (place row i) (c i) (r.places i (omega (arith, b))))))
         (capped_plus (c k) (c k) (place row k) (place row k) last last)
 
-    by : (b : Bool) → nat_lt (told_length k c) cap ≡ b → counted (told_census ns (place row)) ≡ counted (told_census ns c)
+    by : (b : Bool) → nat_lt (told_length k c) cap ≡ b → census_within (told_census ns (place row)) ≡ census_within (told_census ns c)
     by true e =
         let l = ltb-true (told_length k c) cap e in
         let t : told_length k (place row) ≡ told_length k c = small cap (told_length k c) (told_length k (place row)) same l in
-        ap counted (ap (λ (n : ℕ). record { symbols = n; counts = filter stands (paired ns (place row)) }) t
+        ap census_within (ap (λ (n : ℕ). record { symbols = n; counts = filter stands (paired ns (place row)) }) t
         ∙ ap (λ (l : List LetterCount). record { symbols = told_length k c; counts = filter stands l })
         (pairs_same ns (place row) c (λ i b. within cap (c i) (place row i) (r.places i (omega (arith, b))) (let m = count_within k c i b in omega (arith, m, l)))))
     by false e =
@@ -114,11 +114,11 @@ brackets : (s : System) → IsWell s → HasBrackets s
 brackets s w = record { in_axiom = w.1.axiom_balanced; in_successors = each_more (λ p. IsProduction p) (λ p. balanced 0 p.rule.successor ≡ true) s.rules (λ p h. h.rule.successor_balanced) w.1.rules }
 
 pub told_row : (s : System) (t : ℕ) (ns : List ModuleName) (row : List (Option ℕ)) → IsWell s → in_class s ≡ true → ns ≡ letters s → length ns ≤ most_letters
-    → IsRow (suc (length ns)) (counts_after s ns t) row → growth_at s t ≡ counted (told_census ns (place row))
+    → IsRow (suc (length ns)) (counts_after s ns t) row → growth_at s t ≡ census_within (told_census ns (place row))
 told_row s t ns row w h e f r =
     rw h (by (nat_lt most_letters (length (letters s))) refl)
     ∙ level_told s t h (brackets s w)
-    ∙ ap (λ ms. counted (told_census ms (counts_after s ms t))) (sym e)
+    ∙ ap (λ ms. census_within (told_census ms (counts_after s ms t))) (sym e)
     ∙ sym (counted_row ns (counts_after s ns t) row r)
   where
     by : (b : Bool) → nat_lt most_letters (length (letters s)) ≡ b → (if b then Err over_letters else level_counted (letters s) (level_on s t)) ≡ level_counted (letters s) (level_on s t)
@@ -129,5 +129,5 @@ told_row s t ns row w h e f r =
     by false g = refl
 
 pub told_some : (s : System) (t : ℕ) (ls : List (List ℕ)) (row : List (Option ℕ)) → IsWell s → in_class s ≡ true → map module_name ls ≡ letters s → length ls ≤ most_letters
-    → IsLevelRow s (map module_name ls) t row → growth_at s t ≡ counted (told_census (map module_name ls) (place row))
+    → IsLevelRow s (map module_name ls) t row → growth_at s t ≡ census_within (told_census (map module_name ls) (place row))
 told_some s t ls row w h e f r = let l = length-map ls module_name in told_row s t (map module_name ls) row w h e (omega (arith, f, l)) r

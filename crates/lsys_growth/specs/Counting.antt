@@ -25,9 +25,9 @@ is_counted None m = false
 is_counted (Some n) m = same_name n m
 
 -- a letter, or `[` for none
-abbrev pub alone : Option ModuleName → List (S.Symbol ℤ)
-alone None = S.Push ∷ []
-alone (Some n) = S.Module n [] ∷ []
+abbrev pub letter_alone : Option ModuleName → List (S.Symbol ℤ)
+letter_alone None = S.Push ∷ []
+letter_alone (Some n) = S.Module n [] ∷ []
 
 -- how often a name of the code stands in the templates of a successor, and in a string of one name
 abbrev pub count_in_templates : Option (List ℕ) → List Template → ℕ
@@ -36,7 +36,7 @@ count_in_templates letter templates =
 
 abbrev pub count_alone : Option (List ℕ) → Option (List ℕ) → ℕ
 count_alone letter symbol =
-    count_of_what (option_map module_name letter) (alone (option_map module_name symbol))
+    count_of_what (option_map module_name letter) (letter_alone (option_map module_name symbol))
 
 -- the productions of a level's table for a letter
 abbrev pub letter_rules : System → ℕ → List ℕ → List Production
@@ -68,7 +68,7 @@ AddsTemplates letters templates old new =
 abbrev pub AddsAlone : List (List ℕ) → Option (List ℕ) → Vec (Option ℕ) Global
     → Vec (Option ℕ) Global → Type 0
 AddsAlone letters symbol old new =
-    AddsCounts (map module_name letters) (alone (option_map module_name symbol)) old.items new.items
+    AddsCounts (map module_name letters) (letter_alone (option_map module_name symbol)) old.items new.items
 
 abbrev pub AddsGiven : List (List ℕ) → System → ℕ → Option (List ℕ) → Vec (Option ℕ) Global
     → Vec (Option ℕ) Global → Type 0

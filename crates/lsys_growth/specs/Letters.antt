@@ -6,8 +6,8 @@ use Rattle.lsys_spec.specs.Systems.{System, comes_before, module_name_text}
 use Rattle.lsys_module.specs.Views.{module_name}
 use Rattle.lsys_bodies.specs.declared.body.Template.{Template}
 use Rattle.lsys_bodies.specs.declared.rule.Rule.{Rule}
-use Rattle.lsys_bodies.specs.Views.{production_of, template_symbol}
-use Rattle.lsys_matrix.specs.Growth.{all_rule_names, letters, most_letters, names, put_letters}
+use Rattle.lsys_bodies.specs.Views.{as_production, template_symbol}
+use Rattle.lsys_matrix.specs.Growth.{all_rule_names, letters, most_letters, module_names, put_letters}
 
 abbrev pub letters_in : Vec (List ℕ) Global → List ModuleName
 letters_in v = map module_name v.items
@@ -17,9 +17,9 @@ abbrev pub letter_before : ModuleName → ModuleName → Bool
 letter_before n m = comes_before (module_name_text n) (module_name_text m)
 
 -- how many names stand before the first that comes behind a name
-abbrev pub place_in : ModuleName → List ModuleName → ℕ
-place_in n [] = 0
-place_in n (m ∷ ms) = if letter_before n m then 0 else suc (place_in n ms)
+abbrev pub letter_place : ModuleName → List ModuleName → ℕ
+letter_place n [] = 0
+letter_place n (m ∷ ms) = if letter_before n m then 0 else suc (letter_place n ms)
 
 -- the names stand among the letters, or there would be too many
 abbrev pub HasPut : List ModuleName → List ModuleName → List ModuleName → Bool → Type 0
@@ -32,10 +32,10 @@ PutsNames old ns new done = HasPut (letters_in old) ns (letters_in new) done
 
 -- the names in the code's rules, and in the templates of a successor
 abbrev pub names_in_rules : List Rule → List ModuleName
-names_in_rules rules = all_rule_names (map production_of rules)
+names_in_rules rules = all_rule_names (map as_production rules)
 
 abbrev pub names_in_templates : List Template → List ModuleName
-names_in_templates templates = names (map template_symbol templates)
+names_in_templates templates = module_names (map template_symbol templates)
 
 -- all letters of a system, or none where there are too many
 abbrev pub AreLettersOf : System → Option (Vec (List ℕ) Global) → Type 0

@@ -4,7 +4,7 @@ use Rattle.std.specs.declared.alloc.Global.{Global}
 use Rattle.lsys_syntax.specs.Strings.{ModuleName}
 use Rattle.lsys_spec.specs.Systems.{System}
 use Rattle.lsys_module.specs.Views.{module_name}
-use Rattle.lsys_matrix.specs.Sums.{run, repeated, steps_product}
+use Rattle.lsys_matrix.specs.Sums.{row_after, repeated, steps_product}
 use Rattle.lsys_matrix.specs.Matrices.{Square, IsRow, IsMatrix}
 use Rattle.lsys_matrix.specs.Counts.{first_counts, counts_after, step_matrix}
 
@@ -21,8 +21,8 @@ abbrev pub IsLevelRow : System → List ModuleName → ℕ → List (Option ℕ)
 IsLevelRow s ns t r = IsRow (width ns) (counts_after s ns t) r
 
 -- the matrix of the step from a level
-abbrev pub IsStep : System → List ModuleName → ℕ → Square → Type 0
-IsStep s ns t m = IsMatrix (width ns) (step_matrix s ns t) m
+abbrev pub IsStepMatrix : System → List ModuleName → ℕ → Square → Type 0
+IsStepMatrix s ns t m = IsMatrix (width ns) (step_matrix s ns t) m
 
 abbrev pub turn_matrix : System → List ModuleName → ℕ → ℕ → ℕ
 turn_matrix s ns i j = steps_product (width ns) (step_matrix s ns) (length s.schedule - 1) i j
@@ -37,7 +37,7 @@ AfterTurns s ns turns first r = (v : ℕ → ℕ) → IsRow (width ns) v first �
 
 -- the same, of single steps from level 0 on
 abbrev pub AfterSteps : System → List ModuleName → ℕ → List (Option ℕ) → List (Option ℕ) → Type 0
-AfterSteps s ns steps first r = (v : ℕ → ℕ) → IsRow (width ns) v first → IsRow (width ns) (run (width ns) (step_matrix s ns) 0 steps v) r
+AfterSteps s ns steps first r = (v : ℕ → ℕ) → IsRow (width ns) v first → IsRow (width ns) (row_after (width ns) (step_matrix s ns) 0 steps v) r
 
 -- so it is with rows of the code, whose letters are these names
 abbrev pub AfterTurnsOf : System → List (List ℕ) → ℕ → Vec (Option ℕ) Global

@@ -13,9 +13,9 @@ abbrev pub census_of : ℕ → List Count → Census
 census_of n counts = record { symbols = n; counts = map count_of counts }
 
 -- the answer is that of the definitions, or want of memory
-abbrev pub IsAnswer : Result Census GrowthRefusal → Result Census GrowthFault → Type 0
-IsAnswer (Ok c) r = r ≡ Ok c
-IsAnswer (Err Class) r = r ≡ Err outside_class
-IsAnswer (Err Letters) r = r ≡ Err over_letters
-IsAnswer (Err Overflow) r = r ≡ Err over_numbers
-IsAnswer (Err Memory) r = Unit {0}
+abbrev pub IsGrowthAnswer : Result Census GrowthRefusal → Result Census GrowthFault → Type 0
+IsGrowthAnswer (Ok c) r = r ≡ Ok c
+IsGrowthAnswer (Err Class) r = r ≡ Err outside_class
+IsGrowthAnswer (Err Letters) r = r ≡ Err over_letters
+IsGrowthAnswer (Err Overflow) r = r ≡ Err over_numbers
+IsGrowthAnswer (Err Memory) r = Unit {0}

@@ -2,7 +2,7 @@
 ghost use Rattle.std.specs.Prelude.{◌≡◌, map};
 ghost use Rattle.lsys_laws.specs.Sessions.{IsWell};
 ghost use Rattle.lsys_module.specs.Views.{string_of};
-ghost use Rattle.lsys_bodies.specs.Views.{production_of, rule_of, template_symbol};
+ghost use Rattle.lsys_bodies.specs.Views.{as_production, rule_of, template_symbol};
 ghost use Rattle.lsys_matrix.specs.Growth.{all_plain, in_class, is_bare, is_plain_rule};
 
 use lsys_bodies::{Rule, Template};
@@ -19,7 +19,7 @@ pub(crate) fn is_in_class(system: &System) -> bool
 }
 
 fn are_plain(rules: &[Rule]) -> bool
-    ensures { result ≡ all_plain (map production_of rules.now) }
+    ensures { result ≡ all_plain (map as_production rules.now) }
 {
     for rule in rules {
         if !is_plain(rule) {

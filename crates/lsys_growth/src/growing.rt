@@ -5,7 +5,7 @@ ghost use Rattle.lsys_matrix.specs.Capped.{cap, capped, value_of};
 ghost use Rattle.lsys_matrix.specs.Matrices.{place};
 ghost use Rattle.lsys_matrix.specs.Growth.{growth_at};
 ghost use Rattle.lsys_matrix.specs.Counts.{told_length};
-ghost use Rattle.lsys_growth.specs.Views.{IsAnswer};
+ghost use Rattle.lsys_growth.specs.Views.{IsGrowthAnswer};
 ghost use Rattle.lsys_growth.specs.Census.{AddsCount, IsCensus};
 ghost use Rattle.lsys_growth.specs.Steps.{FewProductsForGrowth};
 
@@ -33,7 +33,7 @@ pub fn growth<P: Ledger>(
     level: u64,
     products: &mut Steps<P>,
 ) -> Result<Growth, GrowthRefusal>
-    ensures answer { IsAnswer result (growth_at system.now level) }
+    ensures answer { IsGrowthAnswer result (growth_at system.now level) }
     ensures count { FewProductsForGrowth system.now level products.old products.new }
 {
     if !is_in_class(system) {

@@ -3,8 +3,8 @@ ghost use Rattle.std.specs.Prelude.{◌≡◌, ◌≤◌, ◌∷◌, [], IfOk, l
 ghost use Rattle.lsys_spec.specs.Systems.{comes_before, same_name};
 ghost use Rattle.lsys_module.specs.Views.{module_name, string_of};
 ghost use Rattle.lsys_bodies.specs.Views.{rule_of};
-ghost use Rattle.lsys_matrix.specs.Growth.{among, letters, most_letters, names, rule_names};
-ghost use Rattle.lsys_growth.specs.Letters.{AreLettersOf, place_in, PutsNames, letter_before, names_in_rules, names_in_templates};
+ghost use Rattle.lsys_matrix.specs.Growth.{among, letters, most_letters, module_names, rule_names};
+ghost use Rattle.lsys_growth.specs.Letters.{AreLettersOf, letter_place, PutsNames, letter_before, names_in_rules, names_in_templates};
 
 use lsys_bodies::{Rule, Template};
 use lsys_module::Symbol;
@@ -55,7 +55,7 @@ fn put_rule(letters: &mut Vec<Name>, rule: &Rule) -> Result<bool, AllocError>
 
 fn put_axiom(letters: &mut Vec<Name>, symbols: &[Symbol]) -> Result<bool, AllocError>
     requires { length letters.old.items ≤ most_letters }
-    ensures { IfOk result (PutsNames letters.old (names (string_of symbols.now)) letters.new) }
+    ensures { IfOk result (PutsNames letters.old (module_names (string_of symbols.now)) letters.new) }
 {
     for symbol in symbols {
         if let Symbol::Module(module) = symbol {
@@ -111,7 +111,7 @@ pub(crate) fn same_name(one: Name, other: Name) -> bool
 
 // How many letters stand before the first that comes behind a name.
 fn place_of(letters: &[Name], name: Name) -> usize
-    ensures place { result ≡ place_in (module_name name) (map module_name letters.now) }
+    ensures place { result ≡ letter_place (module_name name) (map module_name letters.now) }
     ensures within { result ≤ length letters.now }
 {
     letters

@@ -1,10 +1,10 @@
 //! The matrices of steps.
 ghost use Rattle.std.specs.Prelude.{◌≡◌, ◌≤◌, ◌<◌, true, IfOk, OnOk, length, map};
 ghost use Rattle.lsys_module.specs.Views.{module_name};
-ghost use Rattle.lsys_bodies.specs.Views.{production_of};
+ghost use Rattle.lsys_bodies.specs.Views.{as_production};
 ghost use Rattle.lsys_matrix.specs.Growth.{in_class, letters, most_letters};
 ghost use Rattle.lsys_growth.specs.Counting.{AddsGiven, letter_rules};
-ghost use Rattle.lsys_growth.specs.Steps.{IsStep};
+ghost use Rattle.lsys_growth.specs.Steps.{IsStepMatrix};
 
 use crate::counting::{letter_at, push_alone, push_successor};
 use crate::letters::letters;
@@ -34,7 +34,7 @@ impl OfTable for Matrix {
         requires class { in_class system.now ≡ true }
         requires letters { length (letters system.now) ≤ most_letters }
         requires place { schedule_place < length system.now.schedule }
-        ensures { IfOk result (IsStep system.now (letters system.now) schedule_place) }
+        ensures { IfOk result (IsStepMatrix system.now (letters system.now) schedule_place) }
     {
         let words = system.schedule();
         prove!(schedule_place < words.len());
@@ -52,7 +52,7 @@ pub(crate) fn step(
     letters: &[Name],
     level: u32,
 ) -> Result<Matrix, AllocError>
-    ensures { IfOk result (IsStep system.now (map module_name letters.now) level) }
+    ensures { IfOk result (IsStepMatrix system.now (map module_name letters.now) level) }
 {
     let size = letters.len() + 1;
     let mut entries = Vec::new(alloc);
@@ -90,7 +90,7 @@ fn push_given(
 
 // The rules of a level's table for a letter without parameters, in the order in which they are tried.
 fn rules_for<'a>(system: &'a System, level: u32, name: Name) -> &'a [Rule]
-    ensures { map production_of result.now ≡ letter_rules system.now level name }
+    ensures { map as_production result.now ≡ letter_rules system.now level name }
 {
     match system.group(level, name, 0) {
         Some(group) => group.rules(),

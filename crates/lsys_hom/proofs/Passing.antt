@@ -2,9 +2,9 @@
 use Rattle.std.proofs.Common.{◌≡◌, ℕ, zero, suc, ◌+◌, ◌<◌, Option, Some, None, List, [], ◌∷◌, length, drop, slice_get, refl, ap, ap₂, sym, ◌∙◌, add-one, arith}
 use Rattle.std.specs.Prelude.{option_map, MatchOption}
 use Rattle.lsys_spec.specs.Systems.{Homomorphism}
-use Rattle.lsys_level.specs.Spots.{Seen, Spotted, level_at, with_lineage}
-use Rattle.lsys_hom.specs.Coming.{Coming, coming_from, modules_behind, symbol_image, told}
-use Rattle.lsys_hom.specs.Ways.{at, bare, rest_from}
+use Rattle.lsys_level.specs.Spots.{Seen, Spotted, spots_at, with_lineage}
+use Rattle.lsys_hom.specs.Coming.{Coming, coming_from, modules_behind, symbol_image, coming_with}
+use Rattle.lsys_hom.specs.Ways.{at, bare_level, rest_from}
 
 -- what stands at a place, and what stands behind it
 pub record Stands (x : List Spotted) (p : ℕ) (v : Seen) : Type 0 where
@@ -18,15 +18,15 @@ stands (s ∷ x) zero v e = record { spotted = s; is = refl; seen = cc }
 stands (s ∷ x) (suc p) v e = let h = stands x p v e in record { spotted = h.spotted; is = h.is; seen = h.seen }
 
 abbrev pub behind : List Homomorphism → ℕ → ℕ → Seen → List Spotted → ℕ → Coming
-behind hs n k v rest j = coming_from hs (modules_behind n (with_lineage [] v)) (k + j) (bare rest)
+behind hs n k v rest j = coming_from hs (modules_behind n (with_lineage [] v)) (k + j) (bare_level rest)
 
 pub coming_passed : (hs : List Homomorphism) (n k : ℕ) (x : List Spotted) (p : ℕ) (v : Seen) → option_map (λ s. s.seen) (slice_get x p) ≡ Some v
-    → coming_from hs n k (bare (drop p x)) ≡ told (symbol_image hs n k (with_lineage [] v)) (behind hs n k v (drop (p + 1) x))
+    → coming_from hs n k (bare_level (drop p x)) ≡ coming_with (symbol_image hs n k (with_lineage [] v)) (behind hs n k v (drop (p + 1) x))
 coming_passed hs n k x p v e =
     let h = stands x p v e in
-    ap (λ r. coming_from hs n k (bare r)) h.is
-    ∙ ap (λ w. told (symbol_image hs n k (with_lineage [] w)) (behind hs n k w (drop (suc p) x))) h.seen
-    ∙ ap (λ q. told (symbol_image hs n k (with_lineage [] v)) (behind hs n k v (drop q x))) (sym (add-one p))
+    ap (λ r. coming_from hs n k (bare_level r)) h.is
+    ∙ ap (λ w. coming_with (symbol_image hs n k (with_lineage [] w)) (behind hs n k w (drop (suc p) x))) h.seen
+    ∙ ap (λ q. coming_with (symbol_image hs n k (with_lineage [] v)) (behind hs n k v (drop q x))) (sym (add-one p))
 
 -- fewer symbols are left
 pub left_passed : (x : List Spotted) (p : ℕ) (v : Seen) → option_map (λ s. s.seen) (slice_get x p) ≡ Some v → length (drop (p + 1) x) < length (drop p x)
@@ -43,7 +43,7 @@ none_behind (s ∷ x) (suc p) e = none_behind x p (omega (arith, e))
 
 -- the spot to the right stands before what is left
 pub right_rest : {S : Type 0} (level_of place_of : S → ℕ) (levels : List (List Spotted)) (t p : ℕ) (spot : Option S)
-    → MatchOption spot (p + 1 ≡ length (level_at levels t)) (λ s. (level_of s ≡ t) × (place_of s ≡ p + 1) × (place_of s < length (level_at levels t)))
-    → rest_from levels (at level_of place_of spot) ≡ drop (p + 1) (level_at levels t)
-right_rest level_of place_of levels t p None e = none_behind (level_at levels t) (p + 1) e
-right_rest level_of place_of levels t p (Some s) h = ap₂ (λ u q. drop q (level_at levels u)) h.0 h.1
+    → MatchOption spot (p + 1 ≡ length (spots_at levels t)) (λ s. (level_of s ≡ t) × (place_of s ≡ p + 1) × (place_of s < length (spots_at levels t)))
+    → rest_from levels (at level_of place_of spot) ≡ drop (p + 1) (spots_at levels t)
+right_rest level_of place_of levels t p None e = none_behind (spots_at levels t) (p + 1) e
+right_rest level_of place_of levels t p (Some s) h = ap₂ (λ u q. drop q (spots_at levels u)) h.0 h.1

@@ -7,7 +7,7 @@ use Rattle.lsys_spec.specs.Bodies.{body_of}
 use Rattle.lsys_spec.specs.Levels.{ModuleValue}
 use Rattle.lsys_spec.specs.Meaning.{filled}
 use Rattle.lsys_spec.specs.Images.{for_module, image_of}
-use Rattle.lsys_expr.specs.Answers.{answer_of}
+use Rattle.lsys_expr.specs.Answers.{as_meant}
 use Rattle.lsys_expr.specs.declared.arith.Arith as code
 use Rattle.lsys_rewrite.proofs.Behind.{drop_item}
 use Rattle.lsys_bodies.specs.Views.{homomorphism_of}
@@ -29,7 +29,7 @@ rule_tried h hs m r e = tried (for_module m h) (judged (body_of h.rule).conditio
 
 -- the same of the rule at a place
 pub rule_at : (rules : List HomRule) (i : ℕ) (rule : HomRule) (m : ModuleValue) (r : Result Bool code.Arith) → i < length rules → rule ≡ get_or rules i rule
-    → answer_of r ≡ applies m (homomorphism_of rule)
-    → image_of (map homomorphism_of (drop i rules)) m ≡ by_rule (homomorphism_of rule) (map homomorphism_of (drop (i + 1) rules)) m (answer_of r)
+    → as_meant r ≡ applies m (homomorphism_of rule)
+    → image_of (map homomorphism_of (drop i rules)) m ≡ by_rule (homomorphism_of rule) (map homomorphism_of (drop (i + 1) rules)) m (as_meant r)
 rule_at rules i rule m r h e told =
-    ap (λ rs. image_of (map homomorphism_of rs) m) (drop_item rules i rule h e) ∙ rule_tried (homomorphism_of rule) (map homomorphism_of (drop (i + 1) rules)) m (answer_of r) told
+    ap (λ rs. image_of (map homomorphism_of rs) m) (drop_item rules i rule h e) ∙ rule_tried (homomorphism_of rule) (map homomorphism_of (drop (i + 1) rules)) m (as_meant r) told

@@ -11,8 +11,8 @@ use Rattle.lsys_expr.specs.declared.arith.Arith.{Arith}
 use Rattle.lsys_expr.specs.declared.arith.Arith.TheVariants as ariths
 use Rattle.lsys_module.specs.Views.{string_of, symbol_of}
 use Rattle.lsys_module.specs.declared.symbol.Symbol.{Symbol}
-use Rattle.lsys_hom.specs.Calls.{AreNext, IsLast, IsNext}
-use Rattle.lsys_hom.specs.Coming.{Coming, IsFrontOf, coming, ended, whole}
+use Rattle.lsys_hom.specs.Calls.{AreNext, IsEndOrRefusal, IsNext}
+use Rattle.lsys_hom.specs.Coming.{Coming, IsImageOfFront, coming, nothing_coming, image_ended}
 use Rattle.lsys_hom.specs.Refusals.{refusal_of}
 use Rattle.lsys_hom.specs.declared.refusal.ImageRefusal.{ImageRefusal}
 use Rattle.lsys_hom.specs.declared.refusal.ImageRefusal.TheVariants as refusals
@@ -27,10 +27,10 @@ run : (o : Option meaning.ImageRefusal) (last : Answer) → ((c d : Coming) → 
 run o last ends [] c d h = ends c d h
 run o last ends (y ∷ ys) c d h = h.1 ∙ ap (λ b. record { symbols = symbol_of y ∷ b.symbols; refusal = b.refusal }) (run o last ends ys h.0 d h.2)
 
-pub law_whole : (s : System) (x : List L.Symbol) → whole (coming s x).symbols (coming s x).refusal ≡ image s x
+pub law_whole : (s : System) (x : List L.LevelSymbol) → image_ended (coming s x).symbols (coming s x).refusal ≡ image s x
 law_whole s x = whole_from s.homomorphisms 0 0 x
 
-pub law_front : (s : System) (x : List L.Symbol) (r : meaning.ImageRefusal) → (coming s x).refusal ≡ Some r → IsFrontOf s x (coming s x).symbols r
+pub law_front : (s : System) (x : List L.LevelSymbol) (r : meaning.ImageRefusal) → (coming s x).refusal ≡ Some r → IsImageOfFront s x (coming s x).symbols r
 law_front s x r e =
     let f = front_from s.homomorphisms 0 0 x r e in record {
       place = f.place;
@@ -39,13 +39,13 @@ law_front s x r e =
       refused = ap (λ p. image_from s.homomorphisms 0 0 (take p x)) (add-one f.place) ∙ f.refused;
     }
 
-pub law_symbols : (s : System) (x : List L.Symbol) (symbols : List Symbol) (left : Coming) → AreNext (coming s x) (map (λ y. Ok (Some y)) symbols ++ Ok None ∷ []) left
+pub law_symbols : (s : System) (x : List L.LevelSymbol) (symbols : List Symbol) (left : Coming) → AreNext (coming s x) (map (λ y. Ok (Some y)) symbols ++ Ok None ∷ []) left
     → image s x ≡ Ok (string_of symbols)
-law_symbols s x symbols left h = sym (law_whole s x) ∙ ap (λ c. whole c.symbols c.refusal) (run None (Ok None) (λ c d n. n.1.0) symbols (coming s x) left h)
+law_symbols s x symbols left h = sym (law_whole s x) ∙ ap (λ c. image_ended c.symbols c.refusal) (run None (Ok None) (λ c d n. n.1.0) symbols (coming s x) left h)
 
-pub law_refused : (s : System) (x : List L.Symbol) (symbols : List Symbol) (r : ImageRefusal) (left : Coming) → AreNext (coming s x) (map (λ y. Ok (Some y)) symbols ++ Err r ∷ []) left
+pub law_refused : (s : System) (x : List L.LevelSymbol) (symbols : List Symbol) (r : ImageRefusal) (left : Coming) → AreNext (coming s x) (map (λ y. Ok (Some y)) symbols ++ Err r ∷ []) left
     → image s x ≡ Err (refusal_of r)
-law_refused s x symbols r left h = sym (law_whole s x) ∙ ap (λ c. whole c.symbols c.refusal) (run (Some (refusal_of r)) (Err r) (λ c d n. n.1.0) symbols (coming s x) left h)
+law_refused s x symbols r left h = sym (law_whole s x) ∙ ap (λ c. image_ended c.symbols c.refusal) (run (Some (refusal_of r)) (Err r) (λ c d n. n.1.0) symbols (coming s x) left h)
 
 -- what a call answers tells what was to come
 same_arith : (a b : Arith) → arith_of a ≡ arith_of b → a ≡ b
@@ -81,7 +81,7 @@ some_same : (q r : meaning.ImageRefusal) → Some q ≡ Some r → q ≡ r
 some_same q r e = cc
 
 -- at the end, and at a refusal, a call answers it
-again_end : (c d : Coming) (a : Answer) → c ≡ ended → IsNext c d a → (a ≡ Ok None) × (d ≡ c)
+again_end : (c d : Coming) (a : Answer) → c ≡ nothing_coming → IsNext c d a → (a ≡ Ok None) × (d ≡ c)
 again_end c d (Ok (Some s)) e m = absurd (nil_cons (symbol_of s) d.symbols (ap (λ b. b.symbols) (sym e ∙ m)))
 again_end c d (Ok None) e m = (refl, m.1)
 again_end c d (Err r) e m = absurd (none_some (refusal_of r) (ap (λ b. b.refusal) (sym e ∙ m.0)))
@@ -96,7 +96,7 @@ all_last : (c : Coming) (last : Answer) → ((d : Coming) (a : Answer) → IsNex
 all_last c last f [] b left e h = tt
 all_last c last f (a ∷ later) b left e h = let g = f h.0 a (subst (λ d. IsNext d h.0 a) e h.1) in (g.0, all_last c last f later h.0 left g.1 h.2)
 
-pub law_stays : (c left : Coming) (last : Answer) (later : List Answer) → IsLast last → AreNext c (last ∷ later) left → Each (λ a. a ≡ last) later
+pub law_stays : (c left : Coming) (last : Answer) (later : List Answer) → IsEndOrRefusal last → AreNext c (last ∷ later) left → Each (λ a. a ≡ last) later
 law_stays c left (Ok None) later l h = all_last c (Ok None) (λ d a. again_end c d a h.1.0) later h.0 left h.1.1 h.2
 law_stays c left (Ok (Some s)) later l h = absurd l
 law_stays c left (Err r) later l h = all_last c (Err r) (λ d a. again_refused c d r a h.1.0) later h.0 left h.1.1 h.2

@@ -15,7 +15,7 @@ use Rattle.lsys_expr.specs.declared.arith.Arith as code
 use Rattle.lsys_module.specs.Views.{module_name, symbol_of}
 use Rattle.lsys_module.specs.declared.symbol.Symbol.{Symbol}
 use Rattle.lsys_syntax.specs.Smalls.{HaveFewParams}
-use Rattle.lsys_bodies.specs.Views.{homomorphism_of, template_of, template_symbol, written}
+use Rattle.lsys_bodies.specs.Views.{homomorphism_of, template_of, template_symbol, as_rule}
 use Rattle.lsys_bodies.specs.declared.body.Body.{Body}
 use Rattle.lsys_bodies.specs.declared.rule.HomRule.{HomRule}
 use Rattle.lsys_level.specs.Spots.{Seen, with_lineage}
@@ -37,7 +37,7 @@ applies m h = if for_module m h then judged (body_of h.rule).condition m.params 
 -- what the module becomes by the rule that was found for it, or without one
 abbrev pub image_by : ModuleValue → Result (Option (Bor Body)) code.Arith → Result (List (S.Symbol ℤ)) Arith
 image_by m (Ok None) = Ok (S.Module m.name m.params ∷ [])
-image_by m (Ok (Some b)) = filled (body_of (written b.now)).successor m.params
+image_by m (Ok (Some b)) = filled (body_of (as_rule b.now)).successor m.params
 image_by m (Err e) = Err (arith_of e)
 
 -- this is the rule that is found for a module, or none, or the fault
@@ -45,9 +45,9 @@ abbrev pub IsRuleFor : List HomRule → ModuleValue → Result (Option (Bor Body
 IsRuleFor rules m r = image_of (map homomorphism_of rules) m ≡ image_by m r
 
 -- the fault alone
-abbrev pub fault_in : {A : Type 0} → Result A Arith → Result (Unit {0}) Arith
-fault_in (Ok a) = Ok tt
-fault_in (Err e) = Err e
+abbrev pub fault_alone : {A : Type 0} → Result A Arith → Result (Unit {0}) Arith
+fault_alone (Ok a) = Ok tt
+fault_alone (Err e) = Err e
 
 -- 2. what is left of the image of one symbol
 
@@ -64,28 +64,28 @@ symbols_of (Successor templates params) = or_none (filled (map template_of templ
 pub record AreFilled (templates : List (S.Symbol V.Tree)) (params : List ℤ) : Type 0 where
   pub is : filled templates params ≡ Ok (or_none (filled templates params))
 
-abbrev pub IsSound : Part → Type 0
-IsSound Nothing = Unit {0}
-IsSound (Single s) = Unit {0}
-IsSound (Successor templates params) = AreFilled (map template_of templates.now) params.now × HaveFewParams (map template_symbol templates.now)
+abbrev pub IsSoundPart : Part → Type 0
+IsSoundPart Nothing = Unit {0}
+IsSoundPart (Single s) = Unit {0}
+IsSoundPart (Successor templates params) = AreFilled (map template_of templates.now) params.now × HaveFewParams (map template_symbol templates.now)
 
 -- the image of a module, kept
 abbrev pub IsImage : Result (List (S.Symbol ℤ)) Arith → Result Part code.Arith → Type 0
-IsImage r (Ok part) = (r ≡ Ok (symbols_of part)) × IsSound part
+IsImage r (Ok part) = (r ≡ Ok (symbols_of part)) × IsSoundPart part
 IsImage r (Err e) = r ≡ Err (arith_of e)
 
 -- the image of a symbol, kept
-abbrev pub IsPart : Result (List (S.Symbol ℤ)) meaning.ImageRefusal → Result Part ImageRefusal → Type 0
-IsPart r (Ok part) = (r ≡ Ok (symbols_of part)) × IsSound part
-IsPart r (Err e) = r ≡ Err (refusal_of e)
+abbrev pub IsSymbolImage : Result (List (S.Symbol ℤ)) meaning.ImageRefusal → Result Part ImageRefusal → Type 0
+IsSymbolImage r (Ok part) = (r ≡ Ok (symbols_of part)) × IsSoundPart part
+IsSymbolImage r (Err e) = r ≡ Err (refusal_of e)
 
 -- the first of the symbols is taken, where there is one
-abbrev pub IsTaken : List (S.Symbol ℤ) → List (S.Symbol ℤ) → Option Symbol → Type 0
-IsTaken old new (Some s) = old ≡ symbol_of s ∷ new
-IsTaken old new None = (old ≡ []) × (new ≡ [])
+abbrev pub IsFirstTaken : List (S.Symbol ℤ) → List (S.Symbol ℤ) → Option Symbol → Type 0
+IsFirstTaken old new (Some s) = old ≡ symbol_of s ∷ new
+IsFirstTaken old new None = (old ≡ []) × (new ≡ [])
 
 -- the image of what is seen, kept, where n modules of the level and k symbols of the image stand
 -- before
 abbrev pub IsPartOf : List HomRule → ℕ → ℕ → Seen → Result Part ImageRefusal → Type 0
 IsPartOf rules n k x r =
-    IsPart (symbol_image (map homomorphism_of rules) n k (with_lineage [] x)) r
+    IsSymbolImage (symbol_image (map homomorphism_of rules) n k (with_lineage [] x)) r

@@ -3,22 +3,22 @@ use Rattle.std.specs.Prelude.{◌≡◌, ◌==◌, Bool, false, ℕ, ◌+◌, �
 use Rattle.lsys_syntax.specs.Limits.{most_image_symbols}
 use Rattle.lsys_spec.specs.Systems.{Homomorphism, System}
 use Rattle.lsys_spec.specs.Levels as L
-use Rattle.lsys_level.specs.Spots.{Spotted, IsSpot, level_at, level_by}
+use Rattle.lsys_level.specs.Spots.{Spotted, IsSpot, spots_at, level_by}
 use Rattle.lsys_bodies.specs.Views.{homomorphism_of}
 use Rattle.lsys_bodies.specs.declared.rule.HomRule.{HomRule}
-use Rattle.lsys_hom.specs.Coming.{Coming, coming, coming_from, ended}
-use Rattle.lsys_hom.specs.Parts.{IsSound, symbols_of}
+use Rattle.lsys_hom.specs.Coming.{Coming, coming, coming_from, nothing_coming}
+use Rattle.lsys_hom.specs.Parts.{IsSoundPart, symbols_of}
 use Rattle.lsys_hom.specs.Refusals.{refusal_of}
 use Rattle.lsys_hom.specs.declared.part.Part.{Part}
 use Rattle.lsys_hom.specs.declared.refusal.ImageRefusal.{ImageRefusal}
 
 -- the symbols, all without lineages
-abbrev pub bare : List Spotted → List L.Symbol
-bare x = level_by (λ tag. []) x
+abbrev pub bare_level : List Spotted → List L.LevelSymbol
+bare_level x = level_by (λ tag. []) x
 
 -- what comes of the image of a level by these rules
 abbrev pub coming_by : List HomRule → List Spotted → Coming
-coming_by rules x = coming_from (map homomorphism_of rules) 0 0 (bare x)
+coming_by rules x = coming_from (map homomorphism_of rules) 0 0 (bare_level x)
 
 -- it comes, whatever the lineages of the symbols are
 abbrev pub ComesFrom : System → List Spotted → Coming → Type 0
@@ -31,22 +31,22 @@ at level_of place_of spot = option_map (λ s. (level_of s, place_of s)) spot
 -- the symbols from a place on; without one the level is at its end
 abbrev pub rest_from : List (List Spotted) → Option (ℕ × ℕ) → List Spotted
 rest_from levels None = []
-rest_from levels (Some (t, p)) = drop p (level_at levels t)
+rest_from levels (Some (t, p)) = drop p (spots_at levels t)
 
-pub record Way : Type 0 where
+pub record LevelWay : Type 0 where
   pub coming : Coming
   pub left : ℕ
 
-abbrev pub way_from : List Homomorphism → ℕ → ℕ → List (List Spotted) → Option (ℕ × ℕ) → Way
+abbrev pub way_from : List Homomorphism → ℕ → ℕ → List (List Spotted) → Option (ℕ × ℕ) → LevelWay
 way_from hs n k levels place =
-    let rest = rest_from levels place in record { coming = coming_from hs n k (bare rest); left = length rest }
+    let rest = rest_from levels place in record { coming = coming_from hs n k (bare_level rest); left = length rest }
 
 abbrev pub IsPlace : List (List Spotted) → Option (ℕ × ℕ) → Type 0
 IsPlace levels None = Unit {0}
 IsPlace levels (Some (t, p)) = IsSpot levels t p
 
 -- the counts of modules and symbols so far can go on to the level's end
-pub record IsWithin (n k : ℕ) (levels : List (List Spotted)) (spot : Option (ℕ × ℕ)) : Type 0 where
+pub record CanCountOn (n k : ℕ) (levels : List (List Spotted)) (spot : Option (ℕ × ℕ)) : Type 0 where
   pub place : IsPlace levels spot
   pub modules : n + length (rest_from levels spot) < 2 ^ 32
   pub symbols : k ≤ most_image_symbols
@@ -56,25 +56,25 @@ abbrev pub with_part : Part → Coming → Coming
 with_part part c = record { symbols = symbols_of part ++ c.symbols; refusal = c.refusal }
 
 -- nothing but this refusal comes
-abbrev pub refused : ImageRefusal → Coming
-refused r = record { symbols = []; refusal = Some (refusal_of r) }
+abbrev pub coming_refused : ImageRefusal → Coming
+coming_refused r = record { symbols = []; refusal = Some (refusal_of r) }
 
 -- one symbol of the level is passed; a refusal passes nothing
-abbrev pub IsPassed : Way → Way → Result (Option Part) ImageRefusal → Type 0
-IsPassed old new (Ok (Some part)) = (old.coming ≡ with_part part new.coming) × (new.left < old.left) × IsSound part
-IsPassed old new (Ok None) = (old.coming ≡ ended) × (new ≡ old)
-IsPassed old new (Err r) = (old.coming ≡ refused r) × (new ≡ old)
+abbrev pub IsPassed : LevelWay → LevelWay → Result (Option Part) ImageRefusal → Type 0
+IsPassed old new (Ok (Some part)) = (old.coming ≡ with_part part new.coming) × (new.left < old.left) × IsSoundPart part
+IsPassed old new (Ok None) = (old.coming ≡ nothing_coming) × (new ≡ old)
+IsPassed old new (Err r) = (old.coming ≡ coming_refused r) × (new ≡ old)
 
 -- symbols of the level are passed up to one whose image isn't empty
-abbrev pub IsFound : Coming → Coming → Result (Option Part) ImageRefusal → Type 0
-IsFound old new (Ok (Some part)) = (old ≡ with_part part new) × (0 < length (symbols_of part)) × IsSound part
-IsFound old new (Ok None) = (old ≡ ended) × (new ≡ old)
-IsFound old new (Err r) = (old ≡ refused r) × (new ≡ old)
+abbrev pub IsNextPart : Coming → Coming → Result (Option Part) ImageRefusal → Type 0
+IsNextPart old new (Ok (Some part)) = (old ≡ with_part part new) × (0 < length (symbols_of part)) × IsSoundPart part
+IsNextPart old new (Ok None) = (old ≡ nothing_coming) × (new ≡ old)
+IsNextPart old new (Err r) = (old ≡ coming_refused r) × (new ≡ old)
 
-abbrev pub AreSound : Result (Option Part) ImageRefusal → Type 0
-AreSound (Ok (Some part)) = IsSound part
-AreSound r = Unit {0}
+abbrev pub IsSoundPartIfAny : Result (Option Part) ImageRefusal → Type 0
+IsSoundPartIfAny (Ok (Some part)) = IsSoundPart part
+IsSoundPartIfAny r = Unit {0}
 
-abbrev pub is_empty : Result (Option Part) ImageRefusal → Bool
-is_empty (Ok (Some part)) = length (symbols_of part) == 0
-is_empty r = false
+abbrev pub is_empty_part : Result (Option Part) ImageRefusal → Bool
+is_empty_part (Ok (Some part)) = length (symbols_of part) == 0
+is_empty_part r = false

@@ -1,7 +1,7 @@
 //! Which rule a module's image is made by.
 ghost use Rattle.std.specs.Prelude.{◌≡◌};
 ghost use Rattle.lsys_spec.specs.Systems.{same_name};
-ghost use Rattle.lsys_expr.specs.Answers.{answer_of};
+ghost use Rattle.lsys_expr.specs.Answers.{as_meant};
 ghost use Rattle.lsys_module.specs.Views.{module_name};
 ghost use Rattle.lsys_bodies.specs.Views.{homomorphism_of};
 ghost use Rattle.lsys_hom.specs.Parts.{applies, module_with, IsRuleFor};
@@ -28,7 +28,7 @@ pub(crate) fn body_for<'a>(
 
 /// Whether the rule is for the module and its condition holds.
 fn applies(rule: &HomRule, name: Name, params: &[i64]) -> Result<bool, Arith>
-    ensures { answer_of result ≡ applies (module_with name params.now) (homomorphism_of rule.now) }
+    ensures { as_meant result ≡ applies (module_with name params.now) (homomorphism_of rule.now) }
 {
     let predecessor = rule.body.predecessor();
     if !is_named(predecessor.name, name) || predecessor.arity() != params.len() {

@@ -1,6 +1,6 @@
 //! The image of a level.
 ghost use Rattle.std.specs.Prelude.{◌<◌, ◌≤◌, length};
-ghost use Rattle.lsys_level.specs.Spots.{level_at};
+ghost use Rattle.lsys_level.specs.Spots.{spots_at};
 ghost use Rattle.lsys_hom.specs.Calls.{IsNext};
 ghost use Rattle.lsys_hom.specs.Ways.{ComesFrom};
 
@@ -23,22 +23,22 @@ pub struct Image<'a, W: LevelView> {
 
 impl<'a, W: LevelView> Model for Image<'a, W> {
     ghost use Rattle.lsys_hom.specs.Coming.{Coming};
-    ghost use Rattle.lsys_hom.specs.Parts.{IsSound};
+    ghost use Rattle.lsys_hom.specs.Parts.{IsSoundPart};
     ghost use Rattle.lsys_hom.specs.Ways.{with_part};
 
     ghost Value = { Coming };
 
     ghost view = { λ a. with_part a.part a.walk.coming };
 
-    ghost invariant = { λ a. IsSound a.part };
+    ghost invariant = { λ a. IsSoundPart a.part };
 }
 
 impl<'a, W: LevelView> Image<'a, W> {
     /// The image of a level at its start. A level has at most `u32::MAX` symbols, as each level within a limit has.
     pub fn new(view: &'a W, system: &'a System, level: u32) -> Image<'a, W>
         requires level { level < length (W.levels view.now) }
-        requires few { length (level_at (W.levels view.now) level) ≤ u32.MAX }
-        ensures { ComesFrom system.now (level_at (W.levels view.now) level) result }
+        requires few { length (spots_at (W.levels view.now) level) ≤ u32.MAX }
+        ensures { ComesFrom system.now (spots_at (W.levels view.now) level) result }
     {
         Image {
             walk: Walk::new(view, system.hom_rules(), level),

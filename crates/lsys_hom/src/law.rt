@@ -1,5 +1,4 @@
 //! The law of images.
-ghost use Rattle.lsys_hom.specs.Coming.{whole};
 ghost use Rattle.lsys_hom.specs.CallsInTurn.{ComesUpToRefusal, ComesWhole, StaysAtEnd, TellsImage, TellsRefusal};
 
 /// A law of images: what comes is the image, or in place of it its refusal, behind the image of the longest front of the

@@ -3,11 +3,11 @@ ghost use Rattle.std.specs.Prelude.{◌≡◌, ◌≤◌, ◌∷◌, [], ℤ, Li
 ghost use Rattle.lsys_syntax.specs.Strings as S;
 ghost use Rattle.lsys_spec.specs.Images.{image_of};
 ghost use Rattle.lsys_spec.specs.Meaning.{filled};
-ghost use Rattle.lsys_expr.specs.Answers.{answer_of};
+ghost use Rattle.lsys_expr.specs.Answers.{as_meant};
 ghost use Rattle.lsys_module.specs.Views.{symbol_of};
 ghost use Rattle.lsys_syntax.specs.Smalls.{HaveFewParams};
 ghost use Rattle.lsys_bodies.specs.Views.{homomorphism_of, template_of, template_symbol};
-ghost use Rattle.lsys_hom.specs.Parts.{IsImage, IsSound, IsTaken, fault_in, module_with, symbols_of};
+ghost use Rattle.lsys_hom.specs.Parts.{IsImage, IsSoundPart, IsFirstTaken, fault_alone, module_with, symbols_of};
 
 use crate::choice::body_for;
 use lsys_bodies::{HomRule, Template};
@@ -50,7 +50,7 @@ impl<'a> Part<'a> {
 
     /// How many symbols there are.
     pub fn len(&self) -> usize
-        requires { IsSound self.now }
+        requires { IsSoundPart self.now }
         ensures { result ≡ length (symbols_of self.now) }
     {
         match self {
@@ -62,9 +62,9 @@ impl<'a> Part<'a> {
 
     /// Takes the first symbol.
     pub fn next(&mut self) -> Option<Symbol>
-        requires { IsSound self.old }
-        ensures taken { IsTaken (symbols_of self.old) (symbols_of self.new) result }
-        ensures sound { IsSound self.new }
+        requires { IsSoundPart self.old }
+        ensures taken { IsFirstTaken (symbols_of self.old) (symbols_of self.new) result }
+        ensures sound { IsSoundPart self.new }
     {
         match *self {
             Part::Nothing => None,
@@ -94,7 +94,7 @@ impl<'a> Part<'a> {
 /// The first fault, from left to right.
 fn check_templates(templates: &[Template], params: &[i64]) -> Result<(), Arith>
     requires { HaveFewParams (map template_symbol templates.now) }
-    ensures { answer_of result ≡ fault_in (filled (map template_of templates.now) params.now) }
+    ensures { as_meant result ≡ fault_alone (filled (map template_of templates.now) params.now) }
 {
     for template in templates {
         fill_template(template, params)?;

@@ -3,10 +3,10 @@ ghost use Rattle.std.specs.Prelude.{◌≡◌, ◌<◌, ◌≤◌, ◌+◌, [], 
 ghost use Rattle.lsys_syntax.specs.Limits.{most_image_symbols};
 ghost use Rattle.lsys_bodies.specs.Views.{homomorphism_of};
 ghost use Rattle.lsys_level.specs.Views.{HasFewParams, seen_of};
-ghost use Rattle.lsys_level.specs.Spots.{level_at, with_lineage};
+ghost use Rattle.lsys_level.specs.Spots.{spots_at, with_lineage};
 ghost use Rattle.lsys_hom.specs.Coming.{modules_behind};
 ghost use Rattle.lsys_hom.specs.Parts.{IsPartOf};
-ghost use Rattle.lsys_hom.specs.Ways.{AreSound, IsFound, IsPassed, is_empty, coming_by};
+ghost use Rattle.lsys_hom.specs.Ways.{IsSoundPartIfAny, IsNextPart, IsPassed, is_empty_part, coming_by};
 
 use crate::part::Part;
 use crate::refusal::ImageRefusal;
@@ -35,14 +35,14 @@ pub struct Walk<'a, W: LevelView> {
 impl<'a, W: LevelView> Model for Walk<'a, W> {
     ghost use Rattle.std.specs.Prelude.{map};
     ghost use Rattle.lsys_bodies.specs.Views.{homomorphism_of};
-    ghost use Rattle.lsys_hom.specs.Ways.{Way, IsWithin, at, way_from};
+    ghost use Rattle.lsys_hom.specs.Ways.{LevelWay, CanCountOn, at, way_from};
 
-    ghost Value = { Way };
+    ghost Value = { LevelWay };
 
     ghost view = { λ a. way_from (map homomorphism_of a.rules.now) a.modules a.symbols (W.levels a.view.now)
         (at (W.level_of a.view.now) (W.place_of a.view.now) a.spot) };
 
-    ghost invariant = { λ a. IsWithin a.modules a.symbols (W.levels a.view.now)
+    ghost invariant = { λ a. CanCountOn a.modules a.symbols (W.levels a.view.now)
         (at (W.level_of a.view.now) (W.place_of a.view.now) a.spot) };
 }
 
@@ -50,8 +50,8 @@ impl<'a, W: LevelView> Walk<'a, W> {
     /// At the left end of a level. A level has at most `u32::MAX` symbols, as each level within a limit has.
     pub fn new(view: &'a W, rules: &'a [HomRule], level: u32) -> Walk<'a, W>
         requires level { level < length (W.levels view.now) }
-        requires few { length (level_at (W.levels view.now) level) ≤ u32.MAX }
-        ensures { result.coming ≡ coming_by rules.now (level_at (W.levels view.now) level) }
+        requires few { length (spots_at (W.levels view.now) level) ≤ u32.MAX }
+        ensures { result.coming ≡ coming_by rules.now (spots_at (W.levels view.now) level) }
     {
         Walk {
             view,
@@ -68,7 +68,7 @@ impl<'a, W: LevelView> Walk<'a, W> {
     ///
     /// The refusal of the symbol that is next. It isn't passed.
     pub(crate) fn next_part(&mut self) -> Result<Option<Part<'a>>, ImageRefusal>
-        ensures { IsFound self.old.coming self.new.coming result }
+        ensures { IsNextPart self.old.coming self.new.coming result }
     {
         loop {
             let passed = self.pass();
@@ -106,8 +106,8 @@ impl<'a, W: LevelView> Walk<'a, W> {
 
 /// A symbol of the level was passed whose image is empty.
 fn is_empty(passed: &Result<Option<Part<'_>>, ImageRefusal>) -> bool
-    requires { AreSound passed.now }
-    ensures { result ≡ is_empty passed.now }
+    requires { IsSoundPartIfAny passed.now }
+    ensures { result ≡ is_empty_part passed.now }
 {
     match passed {
         Ok(Some(part)) => part.len() == 0,

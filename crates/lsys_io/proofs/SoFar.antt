@@ -7,7 +7,7 @@ use Rattle.lsys_io.specs.declared.gathering.Gathered.{Gathered}
 use Rattle.lsys_io.specs.declared.lines.LineRefusal.TheVariants.{ReadFault, TooLong}
 use Rattle.lsys_io.specs.Feeds.{has_lf}
 use Rattle.lsys_syntax.specs.Limits.{most_line_bytes}
-use Rattle.lsys_io.specs.Gathering.{Absorbs, Gathers, Stops, feed}
+use Rattle.lsys_io.specs.Gathering.{Absorbs, GathersLine, Stops, feed}
 use Rattle.lsys_io.proofs.Feeds.{has_lf-append}
 
 pub record SoFar (old now : List ℕ) (left_old left_now : Option (List ℕ)) (told : List ℕ) (count room : ℕ) : Type 0 where
@@ -70,7 +70,7 @@ so_far_more old now after left_old left_now told told_next count room g s a e =
 -- the LF was found
 pub so_far_whole : (old now after : List ℕ) (left_old left_now : Option (List ℕ)) (told told_next : List ℕ) (count room : ℕ) (g : Gathered)
     → (s : SoFar old now left_old left_now told count room) → Absorbs now after told told_next count room g
-    → Gathers (old ++ s.given) after told_next room g
+    → GathersLine (old ++ s.given) after told_next room g
 so_far_whole old now after left_old left_now told told_next count room g s a = record {
   line = s.gathered ++ a.part;
   splits = record {
@@ -85,7 +85,7 @@ so_far_whole old now after left_old left_now told told_next count room g s a = r
 
 -- the source ended
 pub so_far_ended : (old : List ℕ) (left_old left_now : Option (List ℕ)) (told : List ℕ) (count room : ℕ) (s : SoFar old [] left_old left_now told count room)
-    → Gathers (old ++ s.given) [] told room (record { count = count; whole = false })
+    → GathersLine (old ++ s.given) [] told room (record { count = count; whole = false })
 so_far_ended old left_old left_now told count room s = record {
   line = s.gathered;
   splits = record { no_lf = s.no_lf; split = s.split; rest = λ e. refl };

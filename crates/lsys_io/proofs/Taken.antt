@@ -8,15 +8,15 @@ use Rattle.lsys_io.specs.declared.lines.LineRead.{LineRead}
 use Rattle.lsys_io.specs.declared.lines.LineRead.TheVariants.{Line, Long, End}
 use Rattle.lsys_io.specs.Feeds.{has_lf}
 use Rattle.lsys_syntax.specs.Limits.{most_line_bytes}
-use Rattle.lsys_io.specs.Reading.{Reading, TakesLine, HasFirstLine}
+use Rattle.lsys_io.specs.Reading.{LineReading, TakesLine, HasFirstLine}
 use Rattle.lsys_io.specs.LineAnswers.{OnLine, OnLong}
-use Rattle.lsys_io.specs.Gathering.{Gathers, Finishes, feed}
+use Rattle.lsys_io.specs.Gathering.{GathersLine, FinishesLine, feed}
 use Rattle.lsys_io.proofs.Feeds.{first_line, last_line}
 
-abbrev reading : List ℕ → ℕ → List ℕ → Reading
+abbrev reading : List ℕ → ℕ → List ℕ → LineReading
 reading held taken line = record { held = held; taken = taken; line = line; stage = Going }
 
-abbrev at_end : ℕ → List ℕ → List ℕ → Reading
+abbrev at_end : ℕ → List ℕ → List ℕ → LineReading
 at_end taken held line = record { held = held; taken = taken; line = line; stage = Ended }
 
 -- with what the source has left behind it
@@ -43,7 +43,7 @@ abbrev pub Took : (List ℕ → Type 0) → ℕ → List ℕ → Type 0
 Took P count kept = (line : List ℕ) × P line × (count ≡ length line) × (count ≤ most_line_bytes → kept ≡ line)
 
 pub took_whole : (held after given : List ℕ) (taken : ℕ) (before told kept : List ℕ) (a b : Option (List ℕ)) (room : ℕ) (g : Gathered)
-    → Consumes a b given → Gathers (held ++ given) after kept room g → g.whole ≡ true
+    → Consumes a b given → GathersLine (held ++ given) after kept room g → g.whole ≡ true
     → Took (TakesLine (reading held taken before) (reading after (taken + (g.count + 1)) told) a b) g.count kept
 took_whole held after given taken before told kept a b room g h k e =
     let split : held ++ given ≡ k.line ++ 10 ∷ after = k.splits.split ∙ ap (λ w. k.line ++ (feed w ++ after)) e in (
@@ -74,7 +74,7 @@ last_first held given line (Some xs) (Some ys) split some no_lf h end =
     ap lines_of (ap (λ t. held ++ t) (h ∙ ap (λ t. given ++ t) end ∙ append-nil given) ∙ split) ∙ last_line line some no_lf
 
 pub took_last : (held after given : List ℕ) (taken : ℕ) (before told kept : List ℕ) (a b : Option (List ℕ)) (room : ℕ) (g : Gathered)
-    → Consumes a b given → Gathers (held ++ given) after kept room g → g.whole ≡ false → 0 < g.count → IsAtEnd b
+    → Consumes a b given → GathersLine (held ++ given) after kept room g → g.whole ≡ false → 0 < g.count → IsAtEnd b
     → Took (TakesLine (reading held taken before) (at_end (taken + g.count) after told) a b) g.count kept
 took_last held after given taken before told kept a b room g h k e some end =
     let split : held ++ given ≡ k.line =
@@ -91,13 +91,13 @@ took_last held after given taken before told kept a b room g h k e some end =
       k.kept,
     )
 
-pub line_told : (read : LineRead) (count : ℕ) (kept told : List ℕ) (P : List ℕ → Type 0) → Finishes read count kept told → Took P count kept
+pub line_told : (read : LineRead) (count : ℕ) (kept told : List ℕ) (P : List ℕ → Type 0) → FinishesLine read count kept told → Took P count kept
     → OnLine (Ok read) ((line : List ℕ) × P line × (length line ≤ most_line_bytes) × (told ≡ without_cr line))
 line_told Line count kept told P f t = (t.0, t.1, omega (arith, f.0, t.2), f.1 ∙ ap without_cr (t.3 f.0))
 line_told Long count kept told P f t = tt
 line_told End count kept told P f t = tt
 
-pub long_told : (read : LineRead) (count : ℕ) (kept told : List ℕ) (P : List ℕ → Type 0) → Finishes read count kept told → Took P count kept
+pub long_told : (read : LineRead) (count : ℕ) (kept told : List ℕ) (P : List ℕ → Type 0) → FinishesLine read count kept told → Took P count kept
     → OnLong (Ok read) ((line : List ℕ) × P line × (most_line_bytes < length line))
 long_told Line count kept told P f t = tt
 long_told Long count kept told P f t = (t.0, t.1, omega (arith, f.0, t.2))

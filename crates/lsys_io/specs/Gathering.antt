@@ -33,7 +33,7 @@ pub record Absorbs (piece after kept_old kept_new : List ℕ) (count room : ℕ)
   pub kept : gathered.count ≤ most_line_bytes → kept_new ≡ kept_old ++ part
 
 -- The line at the front of the bytes was gathered.
-pub record Gathers (bytes after told : List ℕ) (room : ℕ) (gathered : Gathered) : Type 0 where
+pub record GathersLine (bytes after told : List ℕ) (room : ℕ) (gathered : Gathered) : Type 0 where
   pub line : List ℕ
   pub splits : Splits bytes line after gathered.whole
   pub counted : gathered.count ≡ length line
@@ -51,10 +51,10 @@ IfFault ReadFault P Q = P
 IfFault TooLong P Q = Q
 
 -- What is told of a line of `count` bytes, which were kept where they are not too many.
-abbrev pub Finishes : LineRead → ℕ → List ℕ → List ℕ → Type 0
-Finishes Line count kept told = (count ≤ most_line_bytes) × (told ≡ without_cr kept)
-Finishes Long count kept told = (most_line_bytes < count) × (told ≡ [])
-Finishes End count kept told = ⊥
+abbrev pub FinishesLine : LineRead → ℕ → List ℕ → List ℕ → Type 0
+FinishesLine Line count kept told = (count ≤ most_line_bytes) × (told ≡ without_cr kept)
+FinishesLine Long count kept told = (most_line_bytes < count) × (told ≡ [])
+FinishesLine End count kept told = ⊥
 
 -- Bytes were kept behind the line, unless it is too long with them.
 abbrev pub KeepsPart : ℕ → List ℕ → List ℕ → List ℕ → Type 0
@@ -93,7 +93,7 @@ abbrev pub GathersGiven : {S : Type 0} → (S → Option (List ℕ)) → Lent S 
 GathersGiven left source pieces told room gathered =
     (given : List ℕ)
     × Consumes (left source.entry.now) (left source.exit.now) given
-    × Gathers (pieces.entry.now ++ given) pieces.exit.now told room gathered
+    × GathersLine (pieces.entry.now ++ given) pieces.exit.now told room gathered
 
 -- no line ends among the bytes held and given
 abbrev pub StopsGiven : {S : Type 0} → (S → Option (List ℕ)) → Lent S → Lent (List ℕ) → ℕ → LineRefusal → Type 0

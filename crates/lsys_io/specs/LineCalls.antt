@@ -6,19 +6,19 @@ use Rattle.lsys_syntax.specs.Lines.{without_cr}
 use Rattle.lsys_syntax.specs.Calls.{Lent}
 use Rattle.lsys_io.specs.Causes.{Rose}
 use Rattle.lsys_io.specs.LineAnswers.{last_answer, OnReadFault, OnTooLong}
-use Rattle.lsys_io.specs.Reading.{LeavesNoLine, PassesLimit, Reading, TakesLine, remaining}
+use Rattle.lsys_io.specs.Reading.{LeavesNoLine, PassesLimit, LineReading, TakesLine, remaining}
 use Rattle.lsys_io.specs.declared.lines.LineRead.{LineRead}
 use Rattle.lsys_io.specs.declared.lines.LineRefusal.{LineRefusal}
 use Rattle.lsys_io.specs.declared.lines.Stage.TheVariants.{Going}
 
 -- a reader at the start of a script
-abbrev pub script_start : Reading
+abbrev pub script_start : LineReading
 script_start = record { held = []; taken = 0; line = []; stage = Going }
 
 -- 1. lines
 
 -- a line was taken that is not too long, and it is told without its CR
-abbrev pub TellsLine : {S : Type 0} → (S → Option (List ℕ)) → Lent Reading → Lent S → Type 0
+abbrev pub TellsLine : {S : Type 0} → (S → Option (List ℕ)) → Lent LineReading → Lent S → Type 0
 TellsLine left reader source =
     (line : List ℕ)
     × TakesLine reader.entry.now reader.exit.now (left source.entry.now) (left source.exit.now) line
@@ -26,7 +26,7 @@ TellsLine left reader source =
     × (reader.exit.now.line ≡ without_cr line)
 
 -- a line was taken that is too long
-abbrev pub DropsLine : {S : Type 0} → (S → Option (List ℕ)) → Lent Reading → Lent S → Type 0
+abbrev pub DropsLine : {S : Type 0} → (S → Option (List ℕ)) → Lent LineReading → Lent S → Type 0
 DropsLine left reader source =
     (line : List ℕ)
     × TakesLine reader.entry.now reader.exit.now (left source.entry.now) (left source.exit.now) line
@@ -35,7 +35,7 @@ DropsLine left reader source =
 -- 2. refusals
 
 -- A reader that went on refuses the script as too long only where what remains passes the limit.
-abbrev pub TooLongPastLimit : {S : Type 0} → (S → Option (List ℕ)) → Lent Reading → Lent S
+abbrev pub TooLongPastLimit : {S : Type 0} → (S → Option (List ℕ)) → Lent LineReading → Lent S
     → Result LineRead LineRefusal → Type 0
 TooLongPastLimit left reader source result =
     reader.entry.now.stage ≡ Going
@@ -43,7 +43,7 @@ TooLongPastLimit left reader source result =
     (IfSome (remaining reader.entry.now (left source.entry.now)) (PassesLimit reader.entry.now.taken))
 
 -- A reader that went on leaves no line at a read fault.
-abbrev pub FaultLeavesNoLine : {S : Type 0} → (S → Option (List ℕ)) → Lent Reading → Lent S
+abbrev pub FaultLeavesNoLine : {S : Type 0} → (S → Option (List ℕ)) → Lent LineReading → Lent S
     → Result LineRead LineRefusal → Type 0
 FaultLeavesNoLine left reader source result =
     reader.entry.now.stage ≡ Going
@@ -51,14 +51,14 @@ FaultLeavesNoLine left reader source result =
     (LeavesNoLine reader.entry.now (left source.entry.now) (left source.exit.now))
 
 -- A reader that went on answers a read fault only where the source's count of faults rose.
-abbrev pub FaultWhereRose : {S : Type 0} → (S → ℕ) → Lent Reading → Lent S
+abbrev pub FaultWhereRose : {S : Type 0} → (S → ℕ) → Lent LineReading → Lent S
     → Result LineRead LineRefusal → Type 0
 FaultWhereRose faults reader source result =
     reader.entry.now.stage ≡ Going
     → OnReadFault result (Rose (faults source.entry.now) (faults source.exit.now))
 
 -- A reader that gave its last answer gives it again, and reads nothing.
-abbrev pub LastAnswerStays : {S : Type 0} → Lent Reading → Lent S → Result LineRead LineRefusal
+abbrev pub LastAnswerStays : {S : Type 0} → Lent LineReading → Lent S → Result LineRead LineRefusal
     → Type 0
 LastAnswerStays reader source result =
     IfSome (last_answer reader.entry.now.stage) (λ answer.

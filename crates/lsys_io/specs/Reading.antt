@@ -9,14 +9,14 @@ use Rattle.lsys_io.specs.declared.lines.Stage.TheVariants.{Going, Ended, Refused
 use Rattle.lsys_io.specs.Feeds.{has_lf}
 
 -- the bytes that were read and are in no line yet, how many bytes the lines took, the line last told, and where the reader stands
-pub record Reading : Type 0 where
+pub record LineReading : Type 0 where
   pub held : List ℕ
   pub taken : ℕ
   pub line : List ℕ
   pub stage : Stage
 
 -- The bytes of the lines to come, where the source tells what it has left. After the end was seen there are none.
-abbrev pub remaining : Reading → Option (List ℕ) → Option (List ℕ)
+abbrev pub remaining : LineReading → Option (List ℕ) → Option (List ℕ)
 remaining reader left = elim reader.stage [ Going ↦ prepend_known reader.held left | Ended ↦ Some [] | Refused refusal ↦ prepend_known reader.held left ]
 
 -- a line with its LF; only the line that the end of the input ends has none
@@ -38,7 +38,7 @@ HasFirstLine (Some bytes) None line = ⊥
 HasFirstLine (Some bytes) (Some after) line = lines_of bytes ≡ line ∷ lines_of after
 
 -- A call took this line, which has no LF inside, and its end off the front of what remained.
-pub record TakesLine (old new : Reading) (left_old left_new : Option (List ℕ)) (line : List ℕ) : Type 0 where
+pub record TakesLine (old new : LineReading) (left_old left_new : Option (List ℕ)) (line : List ℕ) : Type 0 where
   pub no_lf : has_lf line ≡ false
   pub bytes : Consumes (remaining old left_old) (remaining new left_new) (with_end new.stage line)
   pub first : HasFirstLine (remaining old left_old) (remaining new left_new) line
@@ -51,7 +51,7 @@ pub record PassesLimit (taken : ℕ) (bytes : List ℕ) : Type 0 where
   pub no_end : has_lf (take (most_script_bytes - taken) bytes) ≡ false
 
 -- The bytes held before and those that the source gave in this call make no whole line, and stay within the limit.
-pub record LeavesNoLine (old : Reading) (left_old left_new : Option (List ℕ)) : Type 0 where
+pub record LeavesNoLine (old : LineReading) (left_old left_new : Option (List ℕ)) : Type 0 where
   pub given : List ℕ
   pub taken : Consumes left_old left_new given
   pub no_lf : has_lf (old.held ++ given) ≡ false

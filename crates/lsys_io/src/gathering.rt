@@ -4,7 +4,7 @@ ghost use Rattle.std.specs.Io.KnownBytes.{IsAtEnd};
 ghost use Rattle.lsys_syntax.specs.Lines.{without_cr};
 ghost use Rattle.lsys_io.specs.Feeds.{has_lf};
 ghost use Rattle.lsys_syntax.specs.Limits.{most_line_bytes};
-ghost use Rattle.lsys_io.specs.Gathering.{Finishes, AbsorbsFrom, CountsFault, GathersGiven, KeepsPart, PassesRoom, StopsGiven};
+ghost use Rattle.lsys_io.specs.Gathering.{FinishesLine, AbsorbsFrom, CountsFault, GathersGiven, KeepsPart, PassesRoom, StopsGiven};
 
 use super::{Failed, Source};
 use crate::lines::{LineRead, LineRefusal};
@@ -136,7 +136,7 @@ fn drop_cr(line: &mut Vec<u8>)
 /// Ends a line of `count` bytes: drops its CR, or the line where it is too long.
 pub(crate) fn finish(line: &mut Vec<u8>, count: usize) -> LineRead
     requires { most_line_bytes ≤ vec_capacity line.old }
-    ensures finishes { Finishes result count line.old.items line.new.items }
+    ensures finishes { FinishesLine result count line.old.items line.new.items }
     ensures capacity { most_line_bytes ≤ vec_capacity line.new }
 {
     if count > LINE_LIMIT {

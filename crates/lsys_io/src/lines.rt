@@ -63,9 +63,9 @@ pub struct LineReader {
 impl Model for LineReader {
     ghost use Rattle.std.specs.Prelude.{◌≤◌, vec_capacity};
     ghost use Rattle.lsys_syntax.specs.Limits.{most_line_bytes, most_script_bytes};
-    ghost use Rattle.lsys_io.specs.Reading.{Reading};
+    ghost use Rattle.lsys_io.specs.Reading.{LineReading};
 
-    ghost Value = { Reading };
+    ghost Value = { LineReading };
 
     ghost view = { λ r. record { held = r.pieces; taken = r.taken; line = r.line.items; stage = r.stage } };
 

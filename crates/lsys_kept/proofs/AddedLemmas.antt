@@ -1,9 +1,10 @@
 -- Who is added to those that were looked at: nodes of the level below.
 use Rattle.std.proofs.Common.{◌≡◌, ◌+◌, ℕ, suc, List, [], ◌∷◌, ◌++◌, Some, refl, sym, ◌∙◌, arith, inl, inr, subst}
 use Rattle.std.proofs.lemmas.Option.{none-some, same_Some}
-use Rattle.lsys_level.specs.Spots.{level_at, IsMate}
-use Rattle.lsys_forest.specs.Groves.{Grove, In, now_of}
-use Rattle.lsys_forest.specs.Rows.{first_in, last_in, flat, kids_in, kids_below, level_nodes, level_with, complete_levels, level_of_node, place_of_node, IsAtSpot}
+use Rattle.lsys_spec.specs.Rows.{In, first_in, last_in, flat}
+use Rattle.lsys_level.specs.Spots.{spots_at, IsMate}
+use Rattle.lsys_forest.specs.Groves.{Grove, now_of}
+use Rattle.lsys_forest.specs.Rows.{kids_in, kids_below, level_nodes, level_with, complete_levels, level_of_node, place_of_node, IsAtSpot}
 use Rattle.lsys_forest.proofs.RowLemmas.{IsSplit, get_split, flat_In}
 use Rattle.lsys_kept.specs.Neighbours.{IsOnLevel, level_around}
 use Rattle.lsys_kept.specs.Looks.{IsOnLevelOf}
@@ -71,7 +72,7 @@ module _ {A : Type 0} where
       by xs ys level whole h = subst (In j) (sym whole) (into xs ys h)
 
   -- the mate of a node stands on its level
-  pub mate_on_level : (f : Grove A) (t k r : ℕ) → IsOnLevel f k → level_of_node f r ≡ level_of_node f k → IsMate (level_at (complete_levels f) (level_of_node f k)) (place_of_node f k) (place_of_node f r) → IsOnLevelOf f t k → IsOnLevelOf f t r
+  pub mate_on_level : (f : Grove A) (t k r : ℕ) → IsOnLevel f k → level_of_node f r ≡ level_of_node f k → IsMate (spots_at (complete_levels f) (level_of_node f k)) (place_of_node f k) (place_of_node f r) → IsOnLevelOf f t k → IsOnLevelOf f t r
   mate_on_level f t k r h level mate on = record {
     level_is = level ∙ on.level_is;
     among = subst (λ u. In r (level_nodes (now_of f) f.root u)) on.level_is (got_in (level_around f k) (place_of_node f r) r (there_is f k r h level mate.within));

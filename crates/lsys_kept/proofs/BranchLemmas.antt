@@ -1,7 +1,7 @@
 -- Brackets that were not looked at have the mates that they had.
 use Rattle.std.proofs.Common.{◌≡◌, ◌⊎◌, ℕ, zero, suc, Bool, true, false, cond, List, [], ◌∷◌, ◌++◌, Option, Some, None, refl, sym, ap, ◌∙◌, subst, inl, inr}
+use Rattle.lsys_spec.specs.Rows.{In}
 use Rattle.lsys_change.specs.Kinds.{BracketKind, Opens, Closes, Neither, stays, reached}
-use Rattle.lsys_change.specs.Seams.{In}
 use Rattle.lsys_change.specs.Mates.{closing, closer, below, AreMatesAmong, Generation, next_nodes, AreMatesOn, AreMatesBelow, AreMatesFrom, of_module, of_mates}
 use Rattle.lsys_change.proofs.Joints.{in_back, in_middle, in_either}
 use Rattle.lsys_change.proofs.Families.{mates_from, same_in_module, same_of_mates}

@@ -2,12 +2,12 @@
 use Rattle.std.proofs.Common.{◌≡◌, ℕ, inl, inr, false, List, [], ◌∷◌, map, slice_get, Some, refl, sym, ap, ◌∙◌, subst}
 use Rattle.std.specs.Prelude.{◌↔◌, get_or}
 use Rattle.std.proofs.lemmas.Option.{get_or_from_slice_get}
+use Rattle.lsys_spec.specs.Rows.{In}
 use Rattle.lsys_spec.specs.Systems.{System}
-use Rattle.lsys_spec.specs.Levels.{Symbol, AreMates, IsLevel}
+use Rattle.lsys_spec.specs.Levels.{LevelSymbol, AreMates, IsLevel}
 use Rattle.lsys_spec.specs.Standings.{is_disturbed}
 use Rattle.lsys_level.specs.Spots.{Seen, Push, Pop, Module, with_lineage, named, seen_by}
 use Rattle.lsys_level.proofs.Naming.{mates_named}
-use Rattle.lsys_change.specs.Seams.{In}
 use Rattle.lsys_change.specs.Seats as C
 use Rattle.lsys_change.specs.Seats.{seated, IsSeating, AreSeatings, IsSameSeat, StandsStill}
 use Rattle.lsys_change.proofs.Placed.{got_in, seat_told}
@@ -26,7 +26,7 @@ seen_with l Push = refl
 seen_with l Pop = refl
 seen_with l (Module m) = refl
 
-pub among : (k : ℕ) (xs : List ℕ) → In k xs → F.In k xs
+pub among : (k : ℕ) (xs : List ℕ) → In k xs → In k xs
 among k [] h = h
 among k (x ∷ xs) (inl e) = inl e
 among k (x ∷ xs) (inr h) = inr (among k xs h)
@@ -37,7 +37,7 @@ module _ {A : Type 0} where
     where
       maps : (ys : List ℕ) → map (λ k. named naming (spot_in k (m k))) ys ≡ map (named naming) (map (λ k. spot_in k (m k)) ys)
       maps [] = refl
-      maps (y ∷ ys) = ap (λ (l : List Symbol). named naming (spot_in y (m y)) ∷ l) (maps ys)
+      maps (y ∷ ys) = ap (λ (l : List LevelSymbol). named naming (spot_in y (m y)) ∷ l) (maps ys)
 
   one_index : (naming : ℕ → List ℕ) (m : Nodes A) (xs : List ℕ) → IsLevel (seen_level naming m xs) → (p k : ℕ) → slice_get xs p ≡ Some k → index_in k xs ≡ p
   one_index naming m xs h p k here =
@@ -112,8 +112,8 @@ module _ {A : Type 0} where
       from s = e.1 (record { old_place = p; new_place = q; was_there = hp; is_there = hq; same = s })
 
   -- the levels as seatings
-  pub level_seats : (old new : System) (xs ys : List (List Symbol)) (t : ℕ) (naming : ℕ → List ℕ) (m n : Nodes A) (was are : List ℕ)
-      → AreOldAndNew old new xs ys t naming m n was are → C.AreSeated old new xs ys t naming (seating_of naming m was) (seating_of naming n are)
+  pub level_seats : (old new : System) (xs ys : List (List LevelSymbol)) (t : ℕ) (naming : ℕ → List ℕ) (m n : Nodes A) (was are : List ℕ)
+      → AreOldAndNew old new xs ys t naming m n was are → C.AreLevelSeatings old new xs ys t naming (seating_of naming m was) (seating_of naming n are)
   level_seats old new xs ys t naming m n was are h = record {
     meant = h.meant;
     seatings = record {
@@ -125,7 +125,7 @@ module _ {A : Type 0} where
     new_level = h.new_level ∙ ap Some (sym (seated_is naming n are));
   }
 
-  pub still_tell : (old new : System) (xs ys : List (List Symbol)) (t : ℕ) (naming : ℕ → List ℕ) (m n : Nodes A) (was are : List ℕ)
+  pub still_tell : (old new : System) (xs ys : List (List LevelSymbol)) (t : ℕ) (naming : ℕ → List ℕ) (m n : Nodes A) (was are : List ℕ)
       → AreOldAndNew old new xs ys t naming m n was are → (k : ℕ) → In k was
       → (is_disturbed (get_or xs t []) (get_or ys t []) (naming k) ≡ false) ↔ StandsStill (seating_of naming m was) (seating_of naming n are) k
   still_tell old new xs ys t naming m n was are h k i =
@@ -136,7 +136,7 @@ module _ {A : Type 0} where
       (seat_told old new xs ys t naming (seating_of naming m was) (seating_of naming n are) s k i) in
       subst (λ y. (is_disturbed (get_or xs t []) y (naming k) ≡ false) ↔ StandsStill (seating_of naming m was) (seating_of naming n are) k) (sym y) e
 
-  pub levels_tell : (old new : System) (xs ys : List (List Symbol)) (t : ℕ) (naming : ℕ → List ℕ) (m n : Nodes A) (was are : List ℕ)
+  pub levels_tell : (old new : System) (xs ys : List (List LevelSymbol)) (t : ℕ) (naming : ℕ → List ℕ) (m n : Nodes A) (was are : List ℕ)
       → AreOldAndNew old new xs ys t naming m n was are → (p q k : ℕ) → slice_get was p ≡ Some k → slice_get are q ≡ Some k
       → (is_disturbed (get_or xs t []) (get_or ys t []) (naming k) ≡ false) ↔ StandsAsBefore m n (neighbours_on m was p) (neighbours_on n are q) k
   levels_tell old new xs ys t naming m n was are h p q k hp hq =
@@ -145,7 +145,7 @@ module _ {A : Type 0} where
       let r = same_seat naming m n was are h.old_is h.new_is p q k hp hq in
       (λ g. r.0 (d.0 g), λ g. d.1 (r.1 g))
 
-  pub seats_tell : (old new : System) (xs ys : List (List Symbol)) (t : ℕ) (naming : ℕ → List ℕ) (m n : Nodes A) (was are : List ℕ) (seats : List Seat)
+  pub seats_tell : (old new : System) (xs ys : List (List LevelSymbol)) (t : ℕ) (naming : ℕ → List ℕ) (m n : Nodes A) (was are : List ℕ) (seats : List Seat)
       → AreOldAndNew old new xs ys t naming m n was are → AreSeated m was seats → (p q k : ℕ) → slice_get was p ≡ Some k → slice_get are q ≡ Some k
       → (is_disturbed (get_or xs t []) (get_or ys t []) (naming k) ≡ false) ↔ StandsAsBefore m n (neighbours_at seats k) (neighbours_on n are q) k
   seats_tell old new xs ys t naming m n was are seats h seated p q k hp hq =

@@ -6,19 +6,20 @@ use Rattle.std.proofs.lemmas.Bool.{cases_eq}
 use Rattle.std.proofs.lemmas.Grind.{common_steps}
 use Rattle.std.proofs.lemmas.List.{length-map}
 use Rattle.std.proofs.lemmas.Option.{slice_get-map, slice_get_past, none-some}
+use Rattle.lsys_spec.specs.Rows.{In, first_in}
 use Rattle.lsys_spec.specs.Levels as L
 use Rattle.lsys_spec.specs.Levels.{AreMates, lineage}
 use Rattle.lsys_spec.specs.Standings.{mate_at, mate_ahead, mate_behind}
 use Rattle.lsys_spec.proofs.Around.{ends_at, items_push, way_pop}
-use Rattle.lsys_level.specs.Spots.{Seen, Push, Pop, Module, Spotted, with_lineage, named, level_at, level_by, spotted_at, IsSpot, IsMate}
+use Rattle.lsys_level.specs.Spots.{Seen, Push, Pop, Module, Spotted, with_lineage, named, spots_at, level_by, spotted_at, IsSpot, IsMate}
 use Rattle.lsys_change.specs.Seams.{node_before}
 use Rattle.lsys_forest.specs.Nodes.{Node, Nodes}
-use Rattle.lsys_forest.specs.Groves.{Grove, In, now_of}
-use Rattle.lsys_forest.specs.Rows.{first_in, index_in, spot_in, level_nodes, level_spots, complete_levels, level_of_node, place_of_node}
+use Rattle.lsys_forest.specs.Groves.{Grove, now_of}
+use Rattle.lsys_forest.specs.Rows.{index_in, spot_in, level_nodes, level_spots, complete_levels, level_of_node, place_of_node}
 use Rattle.lsys_forest.specs.Mates.{seen_level}
 use Rattle.lsys_forest.proofs.ViewLemmas.{told_is}
 use Rattle.lsys_kept.specs.Neighbours.{numbered_level, mate_on, level_around, IsOnLevel}
-use Rattle.lsys_kept.specs.Seats.{told}
+use Rattle.lsys_kept.specs.Seats.{neighbour_told}
 use Rattle.lsys_kept.proofs.SeatLemmas.{told_own, told_other}
 
 -- 1. places
@@ -84,7 +85,7 @@ module _ {A : Type 0} where
       slice_get-map (named naming) (map (λ k. spot_in k (m k)) xs) q
       ∙ ap (option_map (named naming)) (slice_get-map (λ k. spot_in k (m k)) xs q ∙ ap (option_map (λ k. spot_in k (m k))) h)
 
-  pub lineage_at : (naming : ℕ → List ℕ) (m : Nodes A) (xs : List ℕ) (q j : ℕ) (s : L.Symbol) → slice_get xs q ≡ Some j → slice_get (seen_level naming m xs) q ≡ Some s → lineage s ≡ naming j
+  pub lineage_at : (naming : ℕ → List ℕ) (m : Nodes A) (xs : List ℕ) (q j : ℕ) (s : L.LevelSymbol) → slice_get xs q ≡ Some j → slice_get (seen_level naming m xs) q ≡ Some s → lineage s ≡ naming j
   lineage_at naming m xs q j s h e =
       let f : Some s ≡ Some (named naming (spot_in j (m j))) = sym e ∙ symbol_at naming m xs q j h in
       let g : s ≡ named naming (spot_in j (m j)) = cc in ap lineage g ∙ lineage_named naming j (m j)
@@ -119,17 +120,17 @@ module _ {A : Type 0} where
 
   -- 4. the calls
 
-  level_is : (f : Grove A) (k : ℕ) → IsOnLevel f k → level_at (complete_levels f) (level_of_node f k) ≡ level_spots (now_of f) f.root (level_of_node f k)
+  level_is : (f : Grove A) (k : ℕ) → IsOnLevel f k → spots_at (complete_levels f) (level_of_node f k) ≡ level_spots (now_of f) f.root (level_of_node f k)
   level_is f k h = told_is f (level_of_node f k) (spot_within (complete_levels f) (level_of_node f k) (place_of_node f k) h)
 
-  pub level_long : (f : Grove A) (k : ℕ) → IsOnLevel f k → length (level_at (complete_levels f) (level_of_node f k)) ≡ length (level_around f k)
+  pub level_long : (f : Grove A) (k : ℕ) → IsOnLevel f k → length (spots_at (complete_levels f) (level_of_node f k)) ≡ length (level_around f k)
   level_long f k h = ap length (level_is f k h) ∙ length-map (level_around f k) (λ i. spot_in i (now_of f i))
 
   -- where another node of the level stands
   other_place : (f : Grove A) (k s : ℕ) → level_of_node f s ≡ level_of_node f k → place_of_node f s ≡ index_in s (level_around f k)
   other_place f k s e = ap (λ t. index_in s (level_nodes (now_of f) f.root t)) e
 
-  pub there_is : (f : Grove A) (k s : ℕ) → IsOnLevel f k → level_of_node f s ≡ level_of_node f k → place_of_node f s < length (level_at (complete_levels f) (level_of_node f k))
+  pub there_is : (f : Grove A) (k s : ℕ) → IsOnLevel f k → level_of_node f s ≡ level_of_node f k → place_of_node f s < length (spots_at (complete_levels f) (level_of_node f k))
       → slice_get (level_around f k) (place_of_node f s) ≡ Some s
   there_is f k s h e w =
       let o = other_place f k s e in
@@ -138,50 +139,50 @@ module _ {A : Type 0} where
   other : (f : Grove A) (k s : ℕ) → (place_of_node f s ≢ place_of_node f k) → s ≢ k
   other f k s ne e = ne (ap (place_of_node f) e)
 
-  pub left_is : (f : Grove A) (k s : ℕ) → IsOnLevel f k → (level_of_node f s ≡ level_of_node f k) × (place_of_node f s + 1 ≡ place_of_node f k) → told k s ≡ node_before (level_around f k) (place_of_node f k)
+  pub left_is : (f : Grove A) (k s : ℕ) → IsOnLevel f k → (level_of_node f s ≡ level_of_node f k) × (place_of_node f s + 1 ≡ place_of_node f k) → neighbour_told k s ≡ node_before (level_around f k) (place_of_node f k)
   left_is f k s h r =
       let next : suc (place_of_node f s) ≡ place_of_node f k = omega (arith, r.1) in
-      let w : place_of_node f s < length (level_at (complete_levels f) (level_of_node f k)) = omega (arith, r.1, h) in
+      let w : place_of_node f s < length (spots_at (complete_levels f) (level_of_node f k)) = omega (arith, r.1, h) in
       told_other k s (other f k s (λ e. omega (arith, e, r.1)))
       ∙ sym (there_is f k s h r.0 w) ∙ ap (node_before (level_around f k)) next
 
-  pub left_none : (f : Grove A) (k : ℕ) → place_of_node f k ≡ 0 → told k k ≡ node_before (level_around f k) (place_of_node f k)
+  pub left_none : (f : Grove A) (k : ℕ) → place_of_node f k ≡ 0 → neighbour_told k k ≡ node_before (level_around f k) (place_of_node f k)
   left_none f k e = told_own k ∙ ap (node_before (level_around f k)) (sym e)
 
   pub right_is : (f : Grove A) (k s : ℕ) → IsOnLevel f k
-      → (level_of_node f s ≡ level_of_node f k) × (place_of_node f s ≡ place_of_node f k + 1) × (place_of_node f s < length (level_at (complete_levels f) (level_of_node f k)))
-      → told k s ≡ slice_get (level_around f k) (place_of_node f k + 1)
+      → (level_of_node f s ≡ level_of_node f k) × (place_of_node f s ≡ place_of_node f k + 1) × (place_of_node f s < length (spots_at (complete_levels f) (level_of_node f k)))
+      → neighbour_told k s ≡ slice_get (level_around f k) (place_of_node f k + 1)
   right_is f k s h r =
       told_other k s (other f k s (λ e. omega (arith, e, r.1)))
       ∙ sym (there_is f k s h r.0 r.2) ∙ ap (slice_get (level_around f k)) r.1
 
-  pub right_none : (f : Grove A) (k : ℕ) → IsOnLevel f k → place_of_node f k + 1 ≡ length (level_at (complete_levels f) (level_of_node f k)) → told k k ≡ slice_get (level_around f k) (place_of_node f k + 1)
+  pub right_none : (f : Grove A) (k : ℕ) → IsOnLevel f k → place_of_node f k + 1 ≡ length (spots_at (complete_levels f) (level_of_node f k)) → neighbour_told k k ≡ slice_get (level_around f k) (place_of_node f k + 1)
   right_none f k h e = told_own k ∙ sym (slice_get_past (level_around f k) (place_of_node f k + 1) (omega (arith, e, level_long f k h)))
 
-  as_numbered : (f : Grove A) (k p q : ℕ) → IsOnLevel f k → ((naming : ℕ → List ℕ) → AreMates (level_by naming (level_at (complete_levels f) (level_of_node f k))) p q) → AreMates (numbered_level (now_of f) (level_around f k)) p q
+  as_numbered : (f : Grove A) (k p q : ℕ) → IsOnLevel f k → ((naming : ℕ → List ℕ) → AreMates (level_by naming (spots_at (complete_levels f) (level_of_node f k))) p q) → AreMates (numbered_level (now_of f) (level_around f k)) p q
   as_numbered f k p q h a = subst (λ x. AreMates (level_by (λ k. k ∷ []) x) p q) (level_is f k h) (a (λ k. k ∷ []))
 
   pub push_mate : (f : Grove A) (k r : ℕ) → IsOnLevel f k → option_map (λ (s : Spotted). s.seen) (spotted_at (complete_levels f) (level_of_node f k) (place_of_node f k)) ≡ Some Push
-      → level_of_node f r ≡ level_of_node f k → IsMate (level_at (complete_levels f) (level_of_node f k)) (place_of_node f k) (place_of_node f r)
-      → told k r ≡ mate_on (now_of f) (level_around f k) (place_of_node f k)
+      → level_of_node f r ≡ level_of_node f k → IsMate (spots_at (complete_levels f) (level_of_node f k)) (place_of_node f k) (place_of_node f r)
+      → neighbour_told k r ≡ mate_on (now_of f) (level_around f k) (place_of_node f k)
   push_mate f k r h seen level mate =
       let o = mate.opens seen in
       told_other k r (other f k r (λ e. omega (arith, e, o.0)))
       ∙ sym (mates_ahead (now_of f) (level_around f k) (place_of_node f k) (place_of_node f r) r (as_numbered f k (place_of_node f k) (place_of_node f r) h o.1) (there_is f k r h level mate.within))
 
   pub pop_mate : (f : Grove A) (k r : ℕ) → IsOnLevel f k → option_map (λ (s : Spotted). s.seen) (spotted_at (complete_levels f) (level_of_node f k) (place_of_node f k)) ≡ Some Pop
-      → level_of_node f r ≡ level_of_node f k → IsMate (level_at (complete_levels f) (level_of_node f k)) (place_of_node f k) (place_of_node f r)
-      → told k r ≡ mate_on (now_of f) (level_around f k) (place_of_node f k)
+      → level_of_node f r ≡ level_of_node f k → IsMate (spots_at (complete_levels f) (level_of_node f k)) (place_of_node f k) (place_of_node f r)
+      → neighbour_told k r ≡ mate_on (now_of f) (level_around f k) (place_of_node f k)
   pop_mate f k r h seen level mate =
       let o = mate.closes seen in
       told_other k r (other f k r (λ e. omega (arith, e, o.0)))
       ∙ sym (mates_behind (now_of f) (level_around f k) (place_of_node f k) (place_of_node f r) r (as_numbered f k (place_of_node f r) (place_of_node f k) h o.1) (there_is f k r h level mate.within))
 
   pub no_mate : (f : Grove A) (k : ℕ) (v : L.ModuleValue) → IsOnLevel f k → option_map (λ (s : Spotted). s.seen) (spotted_at (complete_levels f) (level_of_node f k) (place_of_node f k)) ≡ Some (Module v)
-      → told k k ≡ mate_on (now_of f) (level_around f k) (place_of_node f k)
+      → neighbour_told k k ≡ mate_on (now_of f) (level_around f k) (place_of_node f k)
   no_mate f k v h seen =
       let here = there_is f k k h refl h in
-      let same : option_map (λ (s : Spotted). s.seen) (slice_get (level_at (complete_levels f) (level_of_node f k)) (place_of_node f k)) ≡ Some (spot_in k (now_of f k)).seen =
+      let same : option_map (λ (s : Spotted). s.seen) (slice_get (spots_at (complete_levels f) (level_of_node f k)) (place_of_node f k)) ≡ Some (spot_in k (now_of f k)).seen =
       ap (λ x. option_map (λ (s : Spotted). s.seen) (slice_get x (place_of_node f k))) (level_is f k h)
       ∙ ap (option_map (λ (s : Spotted). s.seen)) (slice_get-map (λ i. spot_in i (now_of f i)) (level_around f k) (place_of_node f k) ∙ ap (option_map (λ i. spot_in i (now_of f i))) here) in
       let e : Some (spot_in k (now_of f k)).seen ≡ Some (Module v) = sym same ∙ seen in

@@ -3,10 +3,11 @@ use Rattle.std.proofs.Common.{◌≡◌, ◌⊎◌, ◌+◌, ℕ, List, [], ◌�
 use Rattle.std.specs.Prelude.{option_map}
 use Rattle.std.proofs.lemmas.List.{append-nil}
 use Rattle.std.proofs.lemmas.Option.{none-some, same_Some, slice_get-map}
-use Rattle.lsys_spec.specs.Levels.{ModuleValue, Symbol, Push, Pop, Module, AreMates, IsLevel}
+use Rattle.lsys_spec.specs.Rows.{In, flat}
+use Rattle.lsys_spec.specs.Levels.{ModuleValue, LevelSymbol, Push, Pop, Module, AreMates, IsLevel}
 use Rattle.lsys_level.specs.Spots as V
 use Rattle.lsys_level.specs.Spots.{Seen, with_lineage, named}
-use Rattle.lsys_change.specs.Kinds.{BracketKind, Opens, Closes, Neither, kind_of}
+use Rattle.lsys_change.specs.Kinds.{BracketKind, Opens, Closes, Neither, kind_of_symbol}
 use Rattle.lsys_change.specs.Seams as S
 use Rattle.lsys_change.specs.Seams.{right_of, left_of, node_before}
 use Rattle.lsys_change.specs.Mates.{closer, AreBalanced, AreMatesAmong, Generation, next_nodes, AreMatesBelow}
@@ -15,23 +16,23 @@ use Rattle.lsys_change.proofs.Joints.{split}
 use Rattle.lsys_change.proofs.Placed.{got_in}
 use Rattle.lsys_change.proofs.Mirrors.{right_neighbour, left_neighbour}
 use Rattle.lsys_forest.specs.Nodes.{Nodes}
-use Rattle.lsys_forest.specs.Groves.{Grove, In, now_of}
+use Rattle.lsys_forest.specs.Groves.{Grove, now_of}
 use Rattle.lsys_forest.specs.Rows.{spot_in}
 use Rattle.lsys_kept.specs.Neighbours.{neighbours_on, numbered_level, mate_on}
-use Rattle.lsys_kept.specs.Looks.{AreLookedSeats, level_below, numbered_symbol, kind_in}
+use Rattle.lsys_kept.specs.Looks.{AreLookedSeats, kids_of_level, numbered_symbol, kind_in}
 use Rattle.lsys_kept.proofs.LevelLemmas.{symbol_at, named_by_number, mates_ahead, mates_behind, mates_none}
 use Rattle.lsys_kept.proofs.LawLemmas.{among}
 use Rattle.lsys_kept.proofs.LookLemmas.{right_looked, left_looked}
 use Rattle.lsys_kept.proofs.BranchLemmas.{opener_looked, closer_looked, kind_looked}
 
 -- what is seen of a symbol of this kind
-seen_kind : (l : List ℕ) (e : Seen) → kind_of (with_lineage l e) ≡ Neither → (v : ModuleValue) × (e ≡ V.Module v)
+seen_kind : (l : List ℕ) (e : Seen) → kind_of_symbol (with_lineage l e) ≡ Neither → (v : ModuleValue) × (e ≡ V.Module v)
 seen_kind l V.Push h = absurd (let g : Opens ≡ Neither = h in cc)
 seen_kind l V.Pop h = absurd (let g : Closes ≡ Neither = h in cc)
 seen_kind l (V.Module v) h = (v, refl)
 
 -- the mate of an opening bracket of a balanced level
-pub opener_has : (kind : ℕ → BracketKind) (ks : List ℕ) (k : ℕ) → AreBalanced kind 0 ks → S.In k ks → kind k ≡ Opens → (j : ℕ) × AreMatesAmong kind ks k j
+pub opener_has : (kind : ℕ → BracketKind) (ks : List ℕ) (k : ℕ) → AreBalanced kind 0 ks → In k ks → kind k ≡ Opens → (j : ℕ) × AreMatesAmong kind ks k j
 opener_has kind ks k b i e =
     let s = split k ks i in
     let j = inside kind s.before k s.after e (subst (AreBalanced kind 0) s.whole b) in
@@ -40,7 +41,7 @@ opener_has kind ks k b i e =
 module _ {A : Type 0} where
   symbols : (m : Nodes A) (ks : List ℕ) → map (numbered_symbol m) ks ≡ numbered_level m ks
   symbols m [] = refl
-  symbols m (k ∷ ks) = ap (λ (l : List Symbol). numbered_symbol m k ∷ l) (symbols m ks)
+  symbols m (k ∷ ks) = ap (λ (l : List LevelSymbol). numbered_symbol m k ∷ l) (symbols m ks)
 
   one_place : (m : Nodes A) (ks : List ℕ) → IsLevel (numbered_level m ks) → (p q k : ℕ) → slice_get ks p ≡ Some k → slice_get ks q ≡ Some k → p ≡ q
   one_place m ks h p q k i j = h.apart p q (numbered_symbol m k) (numbered_symbol m k) (symbol_at (λ k. k ∷ []) m ks p k i) (symbol_at (λ k. k ∷ []) m ks q k j) refl
@@ -60,13 +61,13 @@ module _ {A : Type 0} where
 
   no_mates : (m : Nodes A) (ks : List ℕ) (k p : ℕ) → kind_in m k ≡ Neither → slice_get ks p ≡ Some k → mate_on m ks p ≡ None
   no_mates m ks k p e here =
-      let v = seen_kind (k ∷ []) (spot_in k (m k)).seen (ap kind_of (sym (named_by_number (λ k. k ∷ []) k (m k))) ∙ e) in
+      let v = seen_kind (k ∷ []) (spot_in k (m k)).seen (ap kind_of_symbol (sym (named_by_number (λ k. k ∷ []) k (m k))) ∙ e) in
       mates_none m ks p k v.0 here v.1
 
-  symbol_kind : (m : Nodes A) (ks : List ℕ) (p k : ℕ) (s : Symbol) → slice_get ks p ≡ Some k → slice_get (numbered_level m ks) p ≡ Some s → kind_in m k ≡ kind_of s
-  symbol_kind m ks p k s here is = ap kind_of (same_Some (numbered_symbol m k) s (sym (symbol_at (λ k. k ∷ []) m ks p k here) ∙ is))
+  symbol_kind : (m : Nodes A) (ks : List ℕ) (p k : ℕ) (s : LevelSymbol) → slice_get ks p ≡ Some k → slice_get (numbered_level m ks) p ≡ Some s → kind_in m k ≡ kind_of_symbol s
+  symbol_kind m ks p k s here is = ap kind_of_symbol (same_Some (numbered_symbol m k) s (sym (symbol_at (λ k. k ∷ []) m ks p k here) ∙ is))
 
-  pub node_at : (m : Nodes A) (ks : List ℕ) (p : ℕ) (s : Symbol) → slice_get (numbered_level m ks) p ≡ Some s → (k : ℕ) × (slice_get ks p ≡ Some k)
+  pub node_at : (m : Nodes A) (ks : List ℕ) (p : ℕ) (s : LevelSymbol) → slice_get (numbered_level m ks) p ≡ Some s → (k : ℕ) × (slice_get ks p ≡ Some k)
   node_at m ks p s is = by (slice_get ks p) refl
     where
       by : (o : Option ℕ) → slice_get ks p ≡ o → (k : ℕ) × (slice_get ks p ≡ Some k)
@@ -77,9 +78,9 @@ module _ {A : Type 0} where
   pub closer_has : (m : Nodes A) (ks : List ℕ) (k p : ℕ) → IsLevel (numbered_level m ks) → AreBalanced (kind_in m) 0 ks → slice_get ks p ≡ Some k → kind_in m k ≡ Closes → (i : ℕ) × AreMatesAmong (kind_in m) ks i k
   closer_has m ks k p h b here e = by (numbered_symbol m k) refl
     where
-      by : (s : Symbol) → numbered_symbol m k ≡ s → (i : ℕ) × AreMatesAmong (kind_in m) ks i k
-      by (Push l) is = absurd (let g : Opens ≡ Closes = ap kind_of (sym is) ∙ e in cc)
-      by (Module l v) is = absurd (let g : Neither ≡ Closes = ap kind_of (sym is) ∙ e in cc)
+      by : (s : LevelSymbol) → numbered_symbol m k ≡ s → (i : ℕ) × AreMatesAmong (kind_in m) ks i k
+      by (Push l) is = absurd (let g : Opens ≡ Closes = ap kind_of_symbol (sym is) ∙ e in cc)
+      by (Module l v) is = absurd (let g : Neither ≡ Closes = ap kind_of_symbol (sym is) ∙ e in cc)
       by (Pop l) is =
           let q = h.closes p l (symbol_at (λ k. k ∷ []) m ks p k here ∙ ap Some is) in
           let o = q.2.opens in
@@ -90,10 +91,10 @@ module _ {A : Type 0} where
 
 module _ {A : Type 0} (o : Nodes A) (f : Grove A) (t : ℕ) (own : ℕ → List ℕ) (xs : List ℕ) (old new : Generation) (touched turned looked : List ℕ) (l : AreLookedSeats o f t own xs old new touched turned looked) where
   abbrev was : List ℕ
-  was = S.flat own xs
+  was = flat own xs
 
   abbrev is : List ℕ
-  is = level_below f t
+  is = kids_of_level f t
 
   old_mates : (k j : ℕ) → AreMatesAmong (kind_in o) was k j → AreMatesBelow old k j
   old_mates k j m = subst (λ kind. AreMatesAmong kind (next_nodes old) k j) (sym l.old_kinds) (subst (λ ks. AreMatesAmong (kind_in o) ks k j) (sym l.old_next) m)
@@ -104,8 +105,8 @@ module _ {A : Type 0} (o : Nodes A) (f : Grove A) (t : ℕ) (own : ℕ → List 
   balanced : AreBalanced (kind_in o) 0 was
   balanced = subst (λ ks. AreBalanced (kind_in o) 0 ks) l.old_next (subst (λ kind. AreBalanced kind 0 (next_nodes old)) l.old_kinds l.old_balanced)
 
-  there_now : (q k : ℕ) → slice_get is q ≡ Some k → S.In k (next_nodes new)
-  there_now q k h = subst (S.In k) (sym l.new_next) (got_in is q k h)
+  there_now : (q k : ℕ) → slice_get is q ≡ Some k → In k (next_nodes new)
+  there_now q k h = subst (In k) (sym l.new_next) (got_in is q k h)
 
   same_kind : (k : ℕ) → new.kind k ≡ old.kind k → kind_in (now_of f) k ≡ kind_in o k
   same_kind k e = ap (λ kind. kind k) (sym l.new_kinds) ∙ e ∙ ap (λ kind. kind k) l.old_kinds
@@ -132,11 +133,11 @@ module _ {A : Type 0} (o : Nodes A) (f : Grove A) (t : ℕ) (own : ℕ → List 
   ]
 
 pub seat_looked : {A : Type 0} (o : Nodes A) (f : Grove A) (t : ℕ) (own : ℕ → List ℕ) (xs : List ℕ) (old new : Generation) (touched turned looked : List ℕ) → AreLookedSeats o f t own xs old new touched turned looked
-    → (p q k : ℕ) → slice_get (S.flat own xs) p ≡ Some k → slice_get (level_below f t) q ≡ Some k
-    → In k looked ⊎ (neighbours_on (now_of f) (level_below f t) q ≡ neighbours_on o (S.flat own xs) p)
+    → (p q k : ℕ) → slice_get (flat own xs) p ≡ Some k → slice_get (kids_of_level f t) q ≡ Some k
+    → In k looked ⊎ (neighbours_on (now_of f) (kids_of_level f t) q ≡ neighbours_on o (flat own xs) p)
 seat_looked o f t own xs old new touched turned looked l p q k hp hq =
-    let is = level_below f t in
-    let was = S.flat own xs in
+    let is = kids_of_level f t in
+    let was = flat own xs in
     let i = got_in is q k hq in
     let c = l.nodes.changed in
     elim (right_looked f t own xs touched turned looked l.nodes l.right k i) [

@@ -1,7 +1,7 @@
 -- Runs of answers by their names.
 use Rattle.std.proofs.Common.{◌≡◌, ℕ, Option, Some, None, refl, ap, sym, ◌∙◌}
 use Rattle.std.specs.Prelude.{IsSome, IfSome, option_map}
-use Rattle.lsys_region.specs.Pool.{Pool, list_at, IsLive}
+use Rattle.lsys_region.specs.Pool.{Pool, list_at, IsLiveRun}
 use Rattle.lsys_walks.specs.Stores.{Store, AreLive, AreGone, OtherTracesStay}
 use Rattle.lsys_match.specs.Kept.{Kept}
 use Rattle.lsys_match.specs.Stored.{runs_of}
@@ -11,7 +11,7 @@ some_mapped : {A B : Type 0} (f : A → B) (o : Option A) → IsSome (option_map
 some_mapped f None h = h
 some_mapped f (Some a) h = refl
 
-live_one : {T : Type 0} (pool : Pool T) (run : Option ℕ) → ((n : ℕ) → run ≡ Some n → IsSome (list_at pool n)) → IsLive pool run
+live_one : {T : Type 0} (pool : Pool T) (run : Option ℕ) → ((n : ℕ) → run ≡ Some n → IsSome (list_at pool n)) → IsLiveRun pool run
 live_one pool None h = refl
 live_one pool (Some n) h = h n refl
 

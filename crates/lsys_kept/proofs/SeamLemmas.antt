@@ -2,9 +2,10 @@
 use Rattle.std.proofs.Common.{◌≡◌, ◌⊎◌, ◌+◌, ◌<◌, ◌≤◌, ℕ, zero, suc, take, List, [], ◌∷◌, ◌++◌, length, slice_get, Option, Some, None, refl, sym, ap, ◌∙◌, arith, inl, inr, subst}
 use Rattle.std.proofs.lemmas.List.{append_assoc}
 use Rattle.std.proofs.lemmas.Option.{none-some, same_Some}
-use Rattle.lsys_level.specs.Spots.{level_at}
-use Rattle.lsys_forest.specs.Groves.{Grove, In, AreApart, now_of}
-use Rattle.lsys_forest.specs.Rows.{first_in, last_in, index_in, kids_below, level_nodes, level_with, complete_levels, level_of_node, place_of_node, IsAtSpot}
+use Rattle.lsys_spec.specs.Rows.{In, AreApart, first_in, last_in}
+use Rattle.lsys_level.specs.Spots.{spots_at}
+use Rattle.lsys_forest.specs.Groves.{Grove, now_of}
+use Rattle.lsys_forest.specs.Rows.{index_in, kids_below, level_nodes, level_with, complete_levels, level_of_node, place_of_node, IsAtSpot}
 use Rattle.lsys_kept.specs.Looks.{LooksAround, LooksBeyond}
 use Rattle.lsys_kept.proofs.LevelLemmas.{index_cases, there_is, level_long}
 
@@ -94,7 +95,7 @@ module _ {A : Type 0} where
   level_same f q s e = ap (λ t. level_nodes (now_of f) f.root t) e
 
   pub left_spot : (f : Grove A) (q l : ℕ) → IsAtSpot f q → (level_of_node f l ≡ level_of_node f q) × (place_of_node f l + 1 ≡ place_of_node f q) → IsAtSpot f l
-  left_spot f q l spot at = subst (λ t. place_of_node f l < length (level_at (complete_levels f) t)) (sym at.0) (omega (arith, spot, at.1))
+  left_spot f q l spot at = subst (λ t. place_of_node f l < length (spots_at (complete_levels f) t)) (sym at.0) (omega (arith, spot, at.1))
 
   pub before_some : (f : Grove A) (q l : ℕ) (result : Option ℕ) → IsAtSpot f q → (level_of_node f l ≡ level_of_node f q) × (place_of_node f l + 1 ≡ place_of_node f q)
       → ((left right : List ℕ) → level_with f l ≡ left ++ l ∷ right → result ≡ last_in (kids_below (now_of f) (left ++ l ∷ [])))
@@ -110,10 +111,10 @@ module _ {A : Type 0} where
       let place : place_of_node f q ≡ length left = ap (index_in q) whole ∙ index_at left right q (subst AreApart whole apart) in
       ap (λ ks. last_in (kids_below (now_of f) ks)) (sym (none_long left (omega (arith, place, at))))
 
-  pub right_spot : (f : Grove A) (q r : ℕ) → (level_of_node f r ≡ level_of_node f q) × (place_of_node f r ≡ place_of_node f q + 1) × (place_of_node f r < length (level_at (complete_levels f) (level_of_node f q))) → IsAtSpot f r
-  right_spot f q r at = subst (λ t. place_of_node f r < length (level_at (complete_levels f) t)) (sym at.0) at.2
+  pub right_spot : (f : Grove A) (q r : ℕ) → (level_of_node f r ≡ level_of_node f q) × (place_of_node f r ≡ place_of_node f q + 1) × (place_of_node f r < length (spots_at (complete_levels f) (level_of_node f q))) → IsAtSpot f r
+  right_spot f q r at = subst (λ t. place_of_node f r < length (spots_at (complete_levels f) t)) (sym at.0) at.2
 
-  pub behind_some : (f : Grove A) (q r : ℕ) (result : Option ℕ) → IsAtSpot f q → (level_of_node f r ≡ level_of_node f q) × (place_of_node f r ≡ place_of_node f q + 1) × (place_of_node f r < length (level_at (complete_levels f) (level_of_node f q)))
+  pub behind_some : (f : Grove A) (q r : ℕ) (result : Option ℕ) → IsAtSpot f q → (level_of_node f r ≡ level_of_node f q) × (place_of_node f r ≡ place_of_node f q + 1) × (place_of_node f r < length (spots_at (complete_levels f) (level_of_node f q)))
       → ((left right : List ℕ) → level_with f r ≡ left ++ r ∷ right → result ≡ first_in (kids_below (now_of f) (r ∷ right)))
       → (left right : List ℕ) → AreApart (level_with f q) → level_with f q ≡ left ++ q ∷ right → result ≡ first_in (kids_below (now_of f) right)
   behind_some f q r result spot at told left right apart whole =
@@ -122,7 +123,7 @@ module _ {A : Type 0} where
       let x = right_at left right q r (place_of_node f r) (omega (arith, at.1, place)) (subst (λ ks. slice_get ks (place_of_node f r) ≡ Some r) whole there) in
       told (left ++ q ∷ []) x.0 (level_same f q r at.0 ∙ whole ∙ ap (λ ks. left ++ q ∷ ks) x.1 ∙ sym (append_assoc left (q ∷ []) (r ∷ x.0))) ∙ ap (λ ks. first_in (kids_below (now_of f) ks)) (sym x.1)
 
-  pub behind_none : (f : Grove A) (q : ℕ) → IsAtSpot f q → place_of_node f q + 1 ≡ length (level_at (complete_levels f) (level_of_node f q)) → (left right : List ℕ) → AreApart (level_with f q) → level_with f q ≡ left ++ q ∷ right → None ≡ first_in (kids_below (now_of f) right)
+  pub behind_none : (f : Grove A) (q : ℕ) → IsAtSpot f q → place_of_node f q + 1 ≡ length (spots_at (complete_levels f) (level_of_node f q)) → (left right : List ℕ) → AreApart (level_with f q) → level_with f q ≡ left ++ q ∷ right → None ≡ first_in (kids_below (now_of f) right)
   behind_none f q spot at left right apart whole =
       let place : place_of_node f q ≡ length left = ap (index_in q) whole ∙ index_at left right q (subst AreApart whole apart) in
       ap (λ ks. first_in (kids_below (now_of f) ks)) (sym (none_long right (omega (arith, place, at, level_long f q spot, ap length whole, long_around left right q))))

@@ -1,7 +1,7 @@
 -- Who is looked at on the next level since its mate may be another: the nodes of a level and their children, before and now.
 use Rattle.std.specs.Prelude.{◌≡◌, ◌⊎◌, ℕ, List}
+use Rattle.lsys_spec.specs.Rows.{In}
 use Rattle.lsys_change.specs.Kinds.{Neither}
-use Rattle.lsys_change.specs.Seams.{In}
 use Rattle.lsys_change.specs.Mates.{AgreeOn, Generation, IsGeneration, next_nodes, AreMatesOn}
 
 -- the node was there, of its kind, with its children, which were of their kinds

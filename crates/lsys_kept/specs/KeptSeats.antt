@@ -1,7 +1,7 @@
 -- Which nodes of a level stand as they stood.
 use Rattle.std.specs.Prelude.{◌≡◌, ◌↔◌, ℕ, false, List, [], slice_get, Some, get_or}
 use Rattle.lsys_spec.specs.Systems.{System}
-use Rattle.lsys_spec.specs.Levels.{Symbol}
+use Rattle.lsys_spec.specs.Levels.{LevelSymbol}
 use Rattle.lsys_spec.specs.Standings.{is_disturbed}
 use Rattle.lsys_forest.specs.Nodes.{Nodes}
 use Rattle.lsys_kept.specs.declared.seat.Seat.{Seat}
@@ -12,7 +12,7 @@ use Rattle.lsys_kept.specs.Standings.{AreOldAndNew, AreSeated, StandsAsBefore}
 -- An old node is not disturbed exactly where its symbol, neighbours, mate and their symbols stay.
 abbrev pub UndisturbedStandAsBefore : Type 0 → Type 0
 UndisturbedStandAsBefore A =
-    (old new : System) (xs ys : List (List Symbol)) (t : ℕ)
+    (old new : System) (xs ys : List (List LevelSymbol)) (t : ℕ)
     (naming : ℕ → List ℕ) (m n : Nodes A) (was are : List ℕ)
     → AreOldAndNew old new xs ys t naming m n was are
     → (p q k : ℕ) → slice_get was p ≡ Some k → slice_get are q ≡ Some k
@@ -22,7 +22,7 @@ UndisturbedStandAsBefore A =
 -- Where the seats tell the neighbours of the old level, they tell which node is not disturbed.
 abbrev pub UndisturbedStandAsSeated : Type 0 → Type 0
 UndisturbedStandAsSeated A =
-    (old new : System) (xs ys : List (List Symbol)) (t : ℕ)
+    (old new : System) (xs ys : List (List LevelSymbol)) (t : ℕ)
     (naming : ℕ → List ℕ) (m n : Nodes A) (was are : List ℕ) (seats : List Seat)
     → AreOldAndNew old new xs ys t naming m n was are → AreSeated m was seats
     → (p q k : ℕ) → slice_get was p ≡ Some k → slice_get are q ≡ Some k

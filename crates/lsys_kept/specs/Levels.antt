@@ -1,6 +1,7 @@
 -- The levels of a forest's nodes as those of a system, with what is kept of their questions.
 use Rattle.std.specs.Prelude.{◌≡◌, ◌<◌, ℕ, true, List, [], ◌∷◌, length, Option, Some, None, flat_map, get_or, slice_get}
 use Rattle.std.specs.Option.{option_and_then}
+use Rattle.lsys_spec.specs.Rows.{In}
 use Rattle.lsys_spec.specs.Draws.{key_of}
 use Rattle.lsys_spec.specs.Systems.{System}
 use Rattle.lsys_spec.specs.Bodies.{Body, group}
@@ -15,16 +16,15 @@ use Rattle.lsys_match.specs.Asks.{IsMade}
 use Rattle.lsys_match.specs.Recalled.{IsAnswerThere}
 use Rattle.lsys_forest.specs.Nodes.{Nodes}
 use Rattle.lsys_forest.specs.Answers.{answer_of}
-use Rattle.lsys_forest.specs.Groves.{In}
 use Rattle.lsys_forest.specs.Rows.{level_spots}
 use Rattle.lsys_kept.specs.Lineages.{names}
 
 -- level t of the nodes, by the lineages that they have
-abbrev pub level_of : Nodes Kept → ℕ → ℕ → List L.Symbol
+abbrev pub level_of : Nodes Kept → ℕ → ℕ → List L.LevelSymbol
 level_of m root t = level_by (names m) (level_spots m root t)
 
 -- they have these levels, with the keys of their lineages by the seed, and their brackets are balanced
-pub record HaveLevels (m : Nodes Kept) (root seed : ℕ) (xs : List (List L.Symbol)) : Type 0 where
+pub record HaveLevels (m : Nodes Kept) (root seed : ℕ) (xs : List (List L.LevelSymbol)) : Type 0 where
   pub each : (t : ℕ) → t < length xs → level_of m root t ≡ get_or xs t []
   pub keys : (t p : ℕ) (a : Spotted) → t < length xs → slice_get (level_spots m root t) p ≡ Some a
       → a.key ≡ key_of seed (names m a.tag)
@@ -47,16 +47,16 @@ abbrev pub IsKeptFor : List Body → (Kept → Type 0) → Option Kept → Type 
 IsKeptFor [] right o = o ≡ None
 IsKeptFor (b ∷ bs) right o = (a : Kept) × (o ≡ Some a) × right a
 
-abbrev pub IsAnswered : System → ℕ → List Spotted → Store → ℕ → ℕ → Seen → Option Kept → Type 0
-IsAnswered s t row store p tag Push o = o ≡ None
-IsAnswered s t row store p tag Pop o = o ≡ None
-IsAnswered s t row store p tag (Module v) o =
+abbrev pub IsAnsweredRight : System → ℕ → List Spotted → Store → ℕ → ℕ → Seen → Option Kept → Type 0
+IsAnsweredRight s t row store p tag Push o = o ≡ None
+IsAnsweredRight s t row store p tag Pop o = o ≡ None
+IsAnsweredRight s t row store p tag (Module v) o =
     IsKeptFor (group s t v.name (length v.params)) (IsRight s t row store p tag v) o
 
 -- so it is with the answer at place p of the row
 abbrev pub AnsweredIn : System → ℕ → List Spotted → Store → ℕ → Option Kept → Type 0
 AnsweredIn s t row store p o =
-    (x : Spotted) → slice_get row p ≡ Some x → IsAnswered s t row store p x.tag x.seen o
+    (x : Spotted) → slice_get row p ≡ Some x → IsAnsweredRight s t row store p x.tag x.seen o
 
 -- and at node k, which stands at place p of level t
 abbrev pub AnsweredAt : System → ℕ → Nodes Kept → ℕ → Store → ℕ → ℕ → Type 0

@@ -1,12 +1,13 @@
 -- Who is looked at on the next level: the nodes whose neighbours may be others.
 use Rattle.std.specs.Prelude.{◌≡◌, ◌⊎◌, ◌+◌, ◌++◌, ◌∷◌, [], ℕ, List, Some}
+use Rattle.lsys_spec.specs.Rows.{In, AreApart, first_in, last_in, flat}
 use Rattle.lsys_change.specs.Seams.{AreTouched, AreTurned, right_of, left_of}
 use Rattle.lsys_change.specs.Seams as seams
-use Rattle.lsys_forest.specs.Groves.{Grove, In, AreApart, now_of}
-use Rattle.lsys_forest.specs.Rows.{first_in, last_in, kids_in, kids_below, spot_in, level_nodes, level_of_node, level_with}
-use Rattle.lsys_spec.specs.Levels.{Symbol, IsLevel}
+use Rattle.lsys_forest.specs.Groves.{Grove, now_of}
+use Rattle.lsys_forest.specs.Rows.{kids_in, kids_below, spot_in, level_nodes, level_of_node, level_with}
+use Rattle.lsys_spec.specs.Levels.{LevelSymbol, IsLevel}
 use Rattle.lsys_level.specs.Spots.{IsBracket, named}
-use Rattle.lsys_change.specs.Kinds.{BracketKind, kind_of}
+use Rattle.lsys_change.specs.Kinds.{BracketKind, kind_of_symbol}
 use Rattle.lsys_change.specs.Mates.{AreBalanced, Generation, next_nodes}
 use Rattle.lsys_forest.specs.Nodes.{Nodes}
 use Rattle.lsys_kept.specs.Branches.{AreLookedMates}
@@ -49,22 +50,22 @@ module _ {A : Type 0} where
   -- What was looked at below level t of a forest, where the nodes of that level were xs before, with the children `own`. Of
   -- those that are there now, these are new or have other children; and the turned ones have another neighbour.
   pub record AreLooked (f : Grove A) (t : ℕ) (own : ℕ → List ℕ) (xs touched turned looked : List ℕ) : Type 0 where
-    pub touched_level : (q : ℕ) → seams.In q touched → level_of_node f q ≡ t
-    pub turned_level : (q : ℕ) → seams.In q turned → level_of_node f q ≡ t
+    pub touched_level : (q : ℕ) → In q touched → level_of_node f q ≡ t
+    pub turned_level : (q : ℕ) → In q turned → level_of_node f q ≡ t
     pub changed : AreTouched touched own (kids_of f) xs (level_nodes (now_of f) f.root t)
-    pub around : (q : ℕ) → seams.In q touched → LooksAround f q looked
-    pub beyond : (q : ℕ) → seams.In q turned → LooksBeyond f q looked
+    pub around : (q : ℕ) → In q touched → LooksAround f q looked
+    pub beyond : (q : ℕ) → In q turned → LooksBeyond f q looked
 
   -- the level below
-  abbrev pub level_below : Grove A → ℕ → List ℕ
-  level_below f t = seams.flat (kids_of f) (level_nodes (now_of f) f.root t)
+  abbrev pub kids_of_level : Grove A → ℕ → List ℕ
+  kids_of_level f t = flat (kids_of f) (level_nodes (now_of f) f.root t)
 
   -- the symbol of a node, whose lineage is its number alone, and its kind
-  abbrev pub numbered_symbol : Nodes A → ℕ → Symbol
+  abbrev pub numbered_symbol : Nodes A → ℕ → LevelSymbol
   numbered_symbol m k = named (λ k. k ∷ []) (spot_in k (m k))
 
   abbrev pub kind_in : Nodes A → ℕ → BracketKind
-  kind_in m k = kind_of (numbered_symbol m k)
+  kind_in m k = kind_of_symbol (numbered_symbol m k)
 
   -- The level below level t of a forest, where it was `own` of the nodes xs before: the nodes and their mates were looked at as told,
   -- by generations whose next levels these are.
@@ -73,10 +74,10 @@ module _ {A : Type 0} where
     pub right : AreTurned right_of turned xs (level_nodes (now_of f) f.root t)
     pub left : AreTurned left_of turned xs (level_nodes (now_of f) f.root t)
     pub mates : AreLookedMates old new touched turned looked
-    pub old_next : next_nodes old ≡ seams.flat own xs
-    pub new_next : next_nodes new ≡ level_below f t
+    pub old_next : next_nodes old ≡ flat own xs
+    pub new_next : next_nodes new ≡ kids_of_level f t
     pub old_kinds : old.kind ≡ kind_in o
     pub new_kinds : new.kind ≡ kind_in (now_of f)
-    pub old_level : IsLevel (numbered_level o (seams.flat own xs))
-    pub new_level : IsLevel (numbered_level (now_of f) (level_below f t))
+    pub old_level : IsLevel (numbered_level o (flat own xs))
+    pub new_level : IsLevel (numbered_level (now_of f) (kids_of_level f t))
     pub old_balanced : AreBalanced old.kind 0 (next_nodes old)

@@ -1,7 +1,8 @@
 -- By some nodes of a level it was looked at nodes of the next one, and at no others.
 use Rattle.std.specs.Prelude.{◌≡◌, ◌⊎◌, ℕ, List, ◌∷◌, ◌++◌, Option, Some}
-use Rattle.lsys_forest.specs.Groves.{Grove, In, AreApart, now_of}
-use Rattle.lsys_forest.specs.Rows.{first_in, last_in, kids_below, level_with}
+use Rattle.lsys_spec.specs.Rows.{In, AreApart, first_in, last_in}
+use Rattle.lsys_forest.specs.Groves.{Grove, now_of}
+use Rattle.lsys_forest.specs.Rows.{kids_below, level_with}
 use Rattle.lsys_kept.specs.Looks.{LooksAround, LooksBeyond, LooksAtMate, LooksInto, IsOnLevelOf, AddsBelow}
 
 module _ {A : Type 0} where

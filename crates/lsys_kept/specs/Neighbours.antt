@@ -1,13 +1,14 @@
 -- Who stands beside a node of a forest's level, and which bracket is its mate.
 use Rattle.std.specs.Prelude.{ℕ, ◌+◌, List, ◌∷◌, [], Option, slice_get}
 use Rattle.std.specs.Option.{option_and_then}
+use Rattle.lsys_spec.specs.Rows.{first_in}
 use Rattle.lsys_spec.specs.Levels as L
 use Rattle.lsys_spec.specs.Standings.{mate_at}
 use Rattle.lsys_level.specs.Spots.{IsSpot}
 use Rattle.lsys_change.specs.Seams.{node_before}
 use Rattle.lsys_forest.specs.Nodes.{Nodes}
 use Rattle.lsys_forest.specs.Groves.{Grove, now_of}
-use Rattle.lsys_forest.specs.Rows.{first_in, level_nodes, complete_levels, level_of_node, place_of_node}
+use Rattle.lsys_forest.specs.Rows.{level_nodes, complete_levels, level_of_node, place_of_node}
 use Rattle.lsys_forest.specs.Mates.{seen_level}
 
 -- of a node, by their numbers: its left and its right neighbour, and its mate, where it has one
@@ -18,7 +19,7 @@ pub record Neighbours : Type 0 where
 
 module _ {A : Type 0} where
   -- these nodes as a level in which the lineage of each is its number alone
-  abbrev pub numbered_level : Nodes A → List ℕ → List L.Symbol
+  abbrev pub numbered_level : Nodes A → List ℕ → List L.LevelSymbol
   numbered_level m xs = seen_level (λ k. k ∷ []) m xs
 
   -- the mate of the node at a place of a level: that of its symbol, by the definitions

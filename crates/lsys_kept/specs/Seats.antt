@@ -4,15 +4,15 @@ use Rattle.lsys_kept.specs.declared.seat.Seat.{Seat}
 use Rattle.lsys_kept.specs.Neighbours.{Neighbours}
 
 -- who is told by a number at the seat of node k: nobody by its own
-abbrev pub told : ℕ → ℕ → Option ℕ
-told k x = cond (nat_eq x k) None (Some x)
+abbrev pub neighbour_told : ℕ → ℕ → Option ℕ
+neighbour_told k x = cond (nat_eq x k) None (Some x)
 
 abbrev pub seat_told : ℕ → Option Seat → Neighbours
 seat_told k None = record { left = None; right = None; mate = None }
 seat_told k (Some s) = record {
-  left = told k s.left;
-  right = told k s.right;
-  mate = told k s.mate;
+  left = neighbour_told k s.left;
+  right = neighbour_told k s.right;
+  mate = neighbour_told k s.mate;
 }
 
 -- two seats of one node tell the same

@@ -1,10 +1,10 @@
 -- Levels of nodes as levels by the definitions, and which of their nodes stand as before.
 use Rattle.std.specs.Prelude.{◌≡◌, ℕ, List, Some, slice_get}
+use Rattle.lsys_spec.specs.Rows.{In}
 use Rattle.lsys_spec.specs.Systems.{System}
-use Rattle.lsys_spec.specs.Levels.{Symbol, IsLevel}
+use Rattle.lsys_spec.specs.Levels.{LevelSymbol, IsLevel}
 use Rattle.lsys_level.specs.Spots.{Seen, named}
 use Rattle.lsys_change.specs.Passes.{AreMeantTo}
-use Rattle.lsys_change.specs.Seams.{In}
 use Rattle.lsys_change.specs.Seats.{Seating}
 use Rattle.lsys_forest.specs.Nodes.{Nodes}
 use Rattle.lsys_forest.specs.Rows.{index_in, spot_in}
@@ -41,7 +41,7 @@ module _ {A : Type 0} where
 
   -- Level t of the old levels xs, and of the new ones ys up to t: these nodes, of lineages that a naming tells. Nodes of both
   -- that have one lineage are one node.
-  pub record AreOldAndNew (old new : System) (xs ys : List (List Symbol)) (t : ℕ)
+  pub record AreOldAndNew (old new : System) (xs ys : List (List LevelSymbol)) (t : ℕ)
       (naming : ℕ → List ℕ) (m n : Nodes A) (was are : List ℕ) : Type 0 where
     pub meant : AreMeantTo old new xs ys t
     pub old_level : slice_get xs t ≡ Some (seen_level naming m was)

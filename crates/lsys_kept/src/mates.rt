@@ -1,6 +1,7 @@
 //! Brackets whose mates may be others.
 ghost use Rattle.std.specs.Prelude.{ℕ, OnOk};
-ghost use Rattle.lsys_forest.specs.Groves.{In, IsLive, IsSound, changes_in, now_of};
+ghost use Rattle.lsys_spec.specs.Rows.{In};
+ghost use Rattle.lsys_forest.specs.Groves.{IsLive, IsRooted, changes_in, now_of};
 ghost use Rattle.lsys_kept.specs.Neighbours.{IsOnLevel};
 ghost use Rattle.lsys_kept.specs.Looks.{LooksAtMate, LooksInto, kids_of};
 ghost use Rattle.lsys_kept.specs.LooksOfAll.{LooksAtMates, AddsUnder, LooksIntoBranches, AddsUnderNode};
@@ -20,7 +21,7 @@ pub fn look_at_mates<A: Kept>(
     looked: &mut Vec<NodeId>,
 ) -> Result<(), AllocError>
     requires levels { (q : ℕ) → In q touched.now → IsOnLevel forest.now q }
-    requires sound { IsSound forest.now.root (changes_in forest.now) (now_of forest.now) }
+    requires sound { IsRooted forest.now.root (changes_in forest.now) (now_of forest.now) }
     ensures looks { OnOk result (LooksAtMates forest.now touched.now looked.new.items) }
     ensures keeps { OnOk result ((k : ℕ) → In k looked.old.items → In k looked.new.items) }
     ensures below { OnOk result (AddsUnder forest.now touched.now looked.old.items looked.new.items) }
@@ -60,7 +61,7 @@ fn at_mate<A: Kept>(
     looked: &mut Vec<NodeId>,
 ) -> Result<(), AllocError>
     requires level { IsOnLevel forest.now node }
-    requires sound { IsSound forest.now.root (changes_in forest.now) (now_of forest.now) }
+    requires sound { IsRooted forest.now.root (changes_in forest.now) (now_of forest.now) }
     ensures looks { OnOk result (LooksAtMate forest.now node looked.new.items) }
     ensures keeps { OnOk result ((k : ℕ) → In k looked.old.items → In k looked.new.items) }
     ensures below { OnOk result (AddsUnderNode forest.now node looked.old.items looked.new.items) }

@@ -1,6 +1,7 @@
 //! Nodes at a seam.
 ghost use Rattle.std.specs.Prelude.{◌≡◌, ℕ, OnOk, Some};
-ghost use Rattle.lsys_forest.specs.Groves.{In, IsLive};
+ghost use Rattle.lsys_spec.specs.Rows.{In};
+ghost use Rattle.lsys_forest.specs.Groves.{IsLive};
 ghost use Rattle.lsys_forest.specs.Rows.{IsAtSpot};
 ghost use Rattle.lsys_kept.specs.Looks.{LooksAround, LooksBeyond};
 ghost use Rattle.lsys_kept.specs.LooksOfAll.{IsLastBefore, IsFirstBehind, LooksAroundAll, AddsUnder, LooksBeyondAll, AddsUnderNode, AddsAtMost};

@@ -1,7 +1,7 @@
 //! A seat.
 ghost use Rattle.std.specs.Prelude.{◌≡◌, ◌↔◌, IsTrue, Some, false};
 ghost use Rattle.lsys_kept.specs.Neighbours.{neighbours_in, IsOnLevel};
-ghost use Rattle.lsys_kept.specs.Seats.{told, seat_told, TellTheSame};
+ghost use Rattle.lsys_kept.specs.Seats.{neighbour_told, seat_told, TellTheSame};
 
 use lsys_forest::{Forest, Kept, NodeId};
 use lsys_level::{LevelView, Sight};
@@ -47,7 +47,7 @@ pub(crate) fn seat_in<A: Kept>(forest: &Forest<A>, node: NodeId, marked: bool) -
 /// The left neighbour of a node, or the node itself at the left end.
 fn left_or_own<A: Kept>(forest: &Forest<A>, node: NodeId) -> NodeId
     requires { IsOnLevel forest.now node }
-    ensures { told node result ≡ (neighbours_in forest.now node).left }
+    ensures { neighbour_told node result ≡ (neighbours_in forest.now node).left }
 {
     match forest.left(node) {
         Some(left) => left,
@@ -58,7 +58,7 @@ fn left_or_own<A: Kept>(forest: &Forest<A>, node: NodeId) -> NodeId
 /// The right neighbour of a node, or the node itself at the right end.
 fn right_or_own<A: Kept>(forest: &Forest<A>, node: NodeId) -> NodeId
     requires { IsOnLevel forest.now node }
-    ensures { told node result ≡ (neighbours_in forest.now node).right }
+    ensures { neighbour_told node result ≡ (neighbours_in forest.now node).right }
 {
     match forest.right(node) {
         Some(right) => right,
@@ -69,7 +69,7 @@ fn right_or_own<A: Kept>(forest: &Forest<A>, node: NodeId) -> NodeId
 /// The mate of a bracket; a module has none, and is answered itself.
 fn mate_or_own<A: Kept>(forest: &Forest<A>, node: NodeId) -> NodeId
     requires { IsOnLevel forest.now node }
-    ensures { told node result ≡ (neighbours_in forest.now node).mate }
+    ensures { neighbour_told node result ≡ (neighbours_in forest.now node).mate }
 {
     match forest.sight(node) {
         Sight::Push | Sight::Pop => forest.mate(node),

@@ -1,6 +1,6 @@
 //! The seats of nodes.
 ghost use Rattle.std.specs.Prelude.{◌≡◌, ◌≢◌, ◌↔◌, ℕ, IsTrue, OnOk, true, false};
-ghost use Rattle.lsys_forest.specs.Groves.{In};
+ghost use Rattle.lsys_spec.specs.Rows.{In};
 ghost use Rattle.lsys_kept.specs.Neighbours.{neighbours_in, IsOnLevel};
 ghost use Rattle.lsys_kept.specs.Seats.{neighbours_at, is_marked, HasSeat, SameSeats, SameMarks, KeepsSeats, TellsAt};
 

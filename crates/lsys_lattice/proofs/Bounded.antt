@@ -14,7 +14,7 @@ use Rattle.lsys_spec.specs.Systems.{Each}
 use Rattle.lsys_spec.specs.Lattices.{Lattice, square, hexagonal, cubic, Vector, frames}
 use Rattle.lsys_spec.specs.Pictures.{is_far, modules_to}
 use Rattle.lsys_lattice.specs.Extents.{Extents, least, greatest, extents}
-use Rattle.lsys_lattice.specs.Effects.{Stand, Walker, walker, walked, stepped, place_reached, place_from, reach, reached}
+use Rattle.lsys_lattice.specs.Effects.{Stand, Walker, walker, walked, stepped, place_reached, place_from, reach, places_reached}
 use Rattle.lsys_lattice.specs.Free.{first_far, goes_far}
 use Rattle.lsys_lattice.proofs.Freely.{reached_near}
 use Rattle.lsys_lattice.proofs.Moving.{told_anywhere, reached_from}
@@ -155,11 +155,11 @@ near_all cubic (v ∷ vs) h =
 pub none_far : (l : Lattice) (from : Stand) (below : List Stand) (n : ℕ) (xs : List (S.Symbol ℤ)) (seen : Option Extents) → Contains (frames l) from.frame → IsInPlane l from.place → balanced 0 xs ≡ true
     → AreSeen l from (motion l xs).reached seen → (first_far l n (walker from below) xs ≡ None) ↔ (stays_near l seen ≡ true)
 none_far l from below n xs seen k p b h =
-    let there : reached l xs (walker from []) ≡ map (place_from l from) (reach l xs) = told_anywhere place_reached reached_from l from [] xs k b in
-    let also : reached l xs (walker from below) ≡ map (place_from l from) (reach l xs) = told_anywhere place_reached reached_from l from below xs k b in
-    let same : stays_near l seen ≡ list_all (λ v. not (is_far v)) (reached l xs (walker from below)) =
+    let there : places_reached l xs (walker from []) ≡ map (place_from l from) (reach l xs) = told_anywhere place_reached reached_from l from [] xs k b in
+    let also : places_reached l xs (walker from below) ≡ map (place_from l from) (reach l xs) = told_anywhere place_reached reached_from l from below xs k b in
+    let same : stays_near l seen ≡ list_all (λ v. not (is_far v)) (places_reached l xs (walker from below)) =
     ap (stays_near l) (seen_there l from (reach l xs) seen h ∙ ap (extents_or_none l) (sym there))
-    ∙ near_all l (reached l xs (walker from [])) (all_reached_in_plane l xs from [] (k, p) tt)
+    ∙ near_all l (places_reached l xs (walker from [])) (all_reached_in_plane l xs from [] (k, p) tt)
     ∙ ap (list_all (λ v. not (is_far v))) (there ∙ sym also) in
     subst (λ (a : Bool). (first_far l n (walker from below) xs ≡ None) ↔ (a ≡ true)) (sym same) (reached_near l n (walker from below) xs)
 

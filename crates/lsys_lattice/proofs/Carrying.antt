@@ -4,7 +4,7 @@ use Rattle.std.specs.Prelude.{ℤ, pos, negsuc, ◌+ℤ◌, ◌*ℤ◌, neg_ℤ}
 use Rattle.std.proofs.lemmas.Int.{ints}
 use Rattle.lsys_spec.specs.Lattices.{Lattice, square, hexagonal, cubic, Vector, opposite, Frame, first_frame}
 use Rattle.lsys_spec.proofs.Turns.{same_vector, same_frame}
-use Rattle.lsys_lattice.specs.Rotations.{plus, scaled, combined, carried, followed}
+use Rattle.lsys_lattice.specs.Rotations.{plus, scaled, combined, carried, frame_within}
 use Rattle.lsys_lattice.proofs.Ring.{times_sum, sum_times, neg_times, times_neg, times_times}
 
 -- 1. sums, multiples and opposites of what is combined
@@ -94,7 +94,7 @@ carried-up square f = combined-up f
 carried-up hexagonal f = combined-up f
 carried-up cubic f = combined-up f
 
-pub followed-start : (l : Lattice) (f : Frame) → followed l f (first_frame l) ≡ f
+pub followed-start : (l : Lattice) (f : Frame) → frame_within l f (first_frame l) ≡ f
 followed-start l f = same_frame _ _ _ _ _ _ (carried-heading l f) (carried-left l f) (carried-up l f)
 
 first_x : (x y z : ℤ) → at y (neg_ℤ x) z (pos 0) (negsuc 0) (pos 0) ≡ x
@@ -122,7 +122,7 @@ carried-start cubic v = same_vector _ _ _ _ _ _ (first_x v.x v.y v.z) (first_y v
 
 -- 4. one after the other
 
-carried-combined : (l : Lattice) (f g : Frame) (a b c : ℤ) → carried l f (combined g a b c) ≡ combined (followed l f g) a b c
+carried-combined : (l : Lattice) (f g : Frame) (a b c : ℤ) → carried l f (combined g a b c) ≡ combined (frame_within l f g) a b c
 carried-combined l f g a b c =
     carried-plus l f (plus (scaled a g.heading) (scaled b g.left)) (scaled c g.up)
     ∙ ap (λ (v : Vector). plus v (carried l f (scaled c g.up))) (carried-plus l f (scaled a g.heading) (scaled b g.left))
@@ -130,10 +130,10 @@ carried-combined l f g a b c =
     ∙ ap (λ (v : Vector). plus (plus (scaled a (carried l f g.heading)) v) (carried l f (scaled c g.up))) (carried-scaled l f b g.left)
     ∙ ap (λ (v : Vector). plus (plus (scaled a (carried l f g.heading)) (scaled b (carried l f g.left))) v) (carried-scaled l f c g.up)
 
-pub carried-followed : (l : Lattice) (f g : Frame) (v : Vector) → carried l (followed l f g) v ≡ carried l f (carried l g v)
+pub carried-followed : (l : Lattice) (f g : Frame) (v : Vector) → carried l (frame_within l f g) v ≡ carried l f (carried l g v)
 carried-followed square f g v = sym (carried-combined square f g v.y (neg_ℤ v.x) v.z)
 carried-followed hexagonal f g v = sym (carried-combined hexagonal f g v.x v.y v.z)
 carried-followed cubic f g v = sym (carried-combined cubic f g v.y (neg_ℤ v.x) v.z)
 
-pub followed-followed : (l : Lattice) (f g h : Frame) → followed l (followed l f g) h ≡ followed l f (followed l g h)
+pub followed-followed : (l : Lattice) (f g h : Frame) → frame_within l (frame_within l f g) h ≡ frame_within l f (frame_within l g h)
 followed-followed l f g h = same_frame _ _ _ _ _ _ (carried-followed l f g h.heading) (carried-followed l f g h.left) (carried-followed l f g h.up)

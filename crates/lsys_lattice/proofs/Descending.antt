@@ -3,7 +3,7 @@ use Rattle.std.proofs.Common.{◌≡◌, ℕ, zero, suc, true, List, ◌++◌, a
 use Rattle.std.specs.Prelude.{Ok}
 use Rattle.lsys_spec.specs.Systems.{System}
 use Rattle.lsys_spec.specs.LevelLaws.{HasBalance}
-use Rattle.lsys_spec.specs.Levels.{Symbol, level_balanced}
+use Rattle.lsys_spec.specs.Levels.{LevelSymbol, level_balanced}
 use Rattle.lsys_spec.specs.Cuts.{cut_on}
 use Rattle.lsys_spec.specs.Meaning.{next_level}
 use Rattle.lsys_spec.proofs.LevelInduction.{ok_parts}
@@ -11,7 +11,7 @@ use Rattle.lsys_lattice.specs.Nodes.{HasPartBelow}
 use Rattle.lsys_lattice.proofs.Nodes.{part_below}
 use Rattle.lsys_lattice.specs.Images.{level_below, HasDescendants}
 
-pub descendants : (s : System) (n t : ℕ) (before part behind y : List Symbol) → HasBalance s → level_balanced 0 part ≡ true → level_below s t n (before ++ (part ++ behind)) ≡ Ok y
+pub descendants : (s : System) (n t : ℕ) (before part behind y : List LevelSymbol) → HasBalance s → level_balanced 0 part ≡ true → level_below s t n (before ++ (part ++ behind)) ≡ Ok y
     → HasDescendants s t n before part behind y
 descendants s zero t before part behind y b h e = let f : before ++ (part ++ behind) ≡ y = cc in (h, sym f)
 descendants s (suc n) t before part behind y b h e =

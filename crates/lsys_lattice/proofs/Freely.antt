@@ -5,7 +5,7 @@ use Rattle.std.specs.List.{list_all}
 use Rattle.lsys_syntax.specs.Strings as S
 use Rattle.lsys_spec.specs.Lattices.{Lattice, Vector}
 use Rattle.lsys_spec.specs.Pictures.{Act, draws, moves, turns, widens, rests, act, Turtle, Segment, Stepped, is_far, unless_far, acted, turtle_step, modules_to, with_segment, and_on, segments_from}
-use Rattle.lsys_lattice.specs.Effects.{Stand, Walker, walker, walked, done, stepped, drawn_ends, place_reached, symbol_places, ends, reached}
+use Rattle.lsys_lattice.specs.Effects.{Stand, Walker, walker, walked, done, stepped, drawn_ends, place_reached, symbol_places, ends, places_reached}
 use Rattle.lsys_lattice.specs.Bounds.{gone_on, turtle_after}
 use Rattle.lsys_lattice.specs.Free.{pose_of, turtle_of, leads_far, goes_far, first_far, ends_of}
 
@@ -130,11 +130,11 @@ symbol_near l S.Pop w vs = refl
 symbol_near l S.Cut w vs = refl
 symbol_near l (S.Module n ps) w vs = act_near (act n ps) w.here l vs
 
-pub reached_near : (l : Lattice) (n : ℕ) (w : Walker) (xs : List (S.Symbol ℤ)) → (first_far l n w xs ≡ None) ↔ (all_near (reached l xs w) ≡ true)
+pub reached_near : (l : Lattice) (n : ℕ) (w : Walker) (xs : List (S.Symbol ℤ)) → (first_far l n w xs ≡ None) ↔ (all_near (places_reached l xs w) ≡ true)
 reached_near l n w [] = ((λ e. refl), (λ e. refl))
 reached_near l n w (x ∷ xs) =
-    subst (λ b. (first_far l n w (x ∷ xs) ≡ None) ↔ (b ≡ true)) (sym (symbol_near l x w (reached l xs (stepped l x w))))
-    (one_near (goes_far l x w) (all_near (reached l xs (stepped l x w))) (modules_to n x) (first_far l (modules_to n x) (stepped l x w) xs) (reached_near l (modules_to n x) (stepped l x w) xs))
+    subst (λ b. (first_far l n w (x ∷ xs) ≡ None) ↔ (b ≡ true)) (sym (symbol_near l x w (places_reached l xs (stepped l x w))))
+    (one_near (goes_far l x w) (all_near (places_reached l xs (stepped l x w))) (modules_to n x) (first_far l (modules_to n x) (stepped l x w) xs) (reached_near l (modules_to n x) (stepped l x w) xs))
 
 -- 5. the turtle behind some symbols
 

@@ -13,7 +13,7 @@ use Rattle.lsys_spec.proofs.Frames.{among}
 use Rattle.std.proofs.lemmas.Int.{ints}
 use Rattle.lsys_lattice.specs.Rotations.{plus}
 use Rattle.lsys_lattice.proofs.Carrying.{carried-start}
-use Rattle.lsys_lattice.specs.Effects.{width_after, place_from, Stand, Walker, walker, done, stepped, walked, at_start, stand_from, walker_from, effect}
+use Rattle.lsys_lattice.specs.Effects.{width_after, place_from, Stand, Walker, walker, done, stepped, walked, first_walker, stand_from, walker_from, effect}
 use Rattle.lsys_lattice.proofs.Moving.{walked_from, walked_known, none_saved, law_of_effects}
 use Rattle.lsys_lattice.specs.Courses.{course, onward, inward}
 
@@ -22,7 +22,7 @@ first_known square = among (frames square) (first_frame square) refl
 first_known hexagonal = among (frames hexagonal) (first_frame hexagonal) refl
 first_known cubic = among (frames cubic) (first_frame cubic) refl
 
-from_start : (l : Lattice) (from : Stand) (below : List Stand) → Contains (frames l) from.frame → walker_from l from below (at_start l) ≡ walker from below
+from_start : (l : Lattice) (from : Stand) (below : List Stand) → Contains (frames l) from.frame → walker_from l from below (first_walker l) ≡ walker from below
 from_start l from below k = sym (law_of_effects l from below [] k refl)
 
 done_there : (l : Lattice) (from : Stand) (below : List Stand) (here : Stand) (m : S.ModuleName) (ps : List ℤ) → Contains (frames l) from.frame
@@ -45,31 +45,31 @@ front_from l from below (suc n) (S.Module m ps ∷ xs) here saved k b =
 pub course_anywhere : (l : Lattice) (from : Stand) (below : List Stand) (n : ℕ) (xs : List (S.Symbol ℤ)) → Contains (frames l) from.frame → balanced 0 xs ≡ true
     → walked l (take n xs) (walker from below) ≡ walker_from l from below (course l n xs)
 course_anywhere l from below n xs k b =
-    ap (walked l (take n xs)) (sym (from_start l from below k)) ∙ front_from l from below n xs (at_start l).here [] k b
+    ap (walked l (take n xs)) (sym (from_start l from below k)) ∙ front_from l from below n xs (first_walker l).here [] k b
 
 pub walked-append : (l : Lattice) (xs ys : List (S.Symbol ℤ)) (w : Walker) → walked l (xs ++ ys) w ≡ walked l ys (walked l xs w)
 walked-append l [] ys w = refl
 walked-append l (x ∷ xs) ys w = walked-append l xs ys (stepped l x w)
 
 pub effect_known : (l : Lattice) (xs : List (S.Symbol ℤ)) → Contains (frames l) (effect l xs).frame
-effect_known l xs = walked_known l xs (at_start l).here [] (first_known l) tt
+effect_known l xs = walked_known l xs (first_walker l).here [] (first_known l) tt
 
-walked_whole : (l : Lattice) (xs : List (S.Symbol ℤ)) → balanced 0 xs ≡ true → walked l xs (at_start l) ≡ walker (effect l xs) []
-walked_whole l xs b = ap (walker (effect l xs)) (none_saved l xs (at_start l).here [] b)
+walked_whole : (l : Lattice) (xs : List (S.Symbol ℤ)) → balanced 0 xs ≡ true → walked l xs (first_walker l) ≡ walker (effect l xs) []
+walked_whole l xs b = ap (walker (effect l xs)) (none_saved l xs (first_walker l).here [] b)
 
 pub course_first : (l : Lattice) (n : ℕ) (xs ys : List (S.Symbol ℤ)) → n ≤ length xs → course l n (xs ++ ys) ≡ course l n xs
-course_first l n xs ys h = ap (λ zs. walked l zs (at_start l)) (take-append-le n xs ys h)
+course_first l n xs ys h = ap (λ zs. walked l zs (first_walker l)) (take-append-le n xs ys h)
 
 pub course_second : (l : Lattice) (n : ℕ) (xs ys : List (S.Symbol ℤ)) → balanced 0 xs ≡ true → balanced 0 ys ≡ true → course l (length xs + n) (xs ++ ys) ≡ onward l xs (course l n ys)
 course_second l n xs ys b c =
-    ap (λ zs. walked l zs (at_start l)) (take-append-add xs ys n)
-    ∙ walked-append l xs (take n ys) (at_start l)
+    ap (λ zs. walked l zs (first_walker l)) (take-append-add xs ys n)
+    ∙ walked-append l xs (take n ys) (first_walker l)
     ∙ ap (walked l (take n ys)) (walked_whole l xs b)
     ∙ course_anywhere l (effect l xs) [] n ys (effect_known l xs) c
 
 -- from the start everything is where it is
 
-pub place_there : (l : Lattice) (v : Vector) → place_from l (at_start l).here v ≡ v
+pub place_there : (l : Lattice) (v : Vector) → place_from l (first_walker l).here v ≡ v
 place_there l v = ap (plus origin) (carried-start l v) ∙ origin_plus v
   where
     origin_plus : (v : Vector) → plus origin v ≡ v
@@ -85,22 +85,22 @@ width_there : (w : Option ℕ) → width_after None w ≡ w
 width_there None = refl
 width_there (Some w) = refl
 
-pub stand_there : (l : Lattice) (h : Stand) → stand_from l (at_start l).here h ≡ h
+pub stand_there : (l : Lattice) (h : Stand) → stand_from l (first_walker l).here h ≡ h
 stand_there l h =
     same_stand _ _ _ _ _ _ _ _ _ _ (place_there l h.place) (carried-start l h.frame.heading) (carried-start l h.frame.left) (carried-start l h.frame.up) (width_there h.width)
 
-stands_there : (l : Lattice) (hs : List Stand) → map (stand_from l (at_start l).here) hs ≡ hs
+stands_there : (l : Lattice) (hs : List Stand) → map (stand_from l (first_walker l).here) hs ≡ hs
 stands_there l [] = refl
-stands_there l (h ∷ hs) = ap (λ (k : Stand). k ∷ map (stand_from l (at_start l).here) hs) (stand_there l h) ∙ ap (λ ks. h ∷ ks) (stands_there l hs)
+stands_there l (h ∷ hs) = ap (λ (k : Stand). k ∷ map (stand_from l (first_walker l).here) hs) (stand_there l h) ∙ ap (λ ks. h ∷ ks) (stands_there l hs)
 
-walker_there : (l : Lattice) (below : List Stand) (w : Walker) → walker_from l (at_start l).here below w ≡ record w { saved = w.saved ++ below }
+walker_there : (l : Lattice) (below : List Stand) (w : Walker) → walker_from l (first_walker l).here below w ≡ record w { saved = w.saved ++ below }
 walker_there l below w =
-    ap (λ (h : Stand). walker h (map (stand_from l (at_start l).here) w.saved ++ below)) (stand_there l w.here)
+    ap (λ (h : Stand). walker h (map (stand_from l (first_walker l).here) w.saved ++ below)) (stand_there l w.here)
     ∙ ap (λ hs. walker w.here (hs ++ below)) (stands_there l w.saved)
 
 pub course_branch : (l : Lattice) (n : ℕ) (xs : List (S.Symbol ℤ)) → balanced 0 xs ≡ true → n ≤ length xs → course l (suc n) (S.Push ∷ xs ++ S.Pop ∷ []) ≡ inward l (course l n xs)
 course_branch l n xs b h =
-    let start : Stand = (at_start l).here in
+    let start : Stand = (first_walker l).here in
     ap (λ zs. walked l zs (walker start (start ∷ []))) (take-append-le n xs (S.Pop ∷ []) h)
     ∙ course_anywhere l start (start ∷ []) n xs (first_known l) b
     ∙ walker_there l (start ∷ []) (course l n xs)
@@ -110,10 +110,10 @@ all_taken n [] h = grind (arith, common_steps)
 all_taken zero (x ∷ xs) h = absurd (omega arith)
 all_taken (suc n) (x ∷ xs) h = ap (λ ys. x ∷ ys) (all_taken n xs (omega arith))
 
-pub course_behind : (l : Lattice) (n : ℕ) (xs : List (S.Symbol ℤ)) → balanced 0 xs ≡ true → length xs + 2 ≤ n → course l n (S.Push ∷ xs ++ S.Pop ∷ []) ≡ at_start l
+pub course_behind : (l : Lattice) (n : ℕ) (xs : List (S.Symbol ℤ)) → balanced 0 xs ≡ true → length xs + 2 ≤ n → course l n (S.Push ∷ xs ++ S.Pop ∷ []) ≡ first_walker l
 course_behind l n xs b h =
-    let start : Stand = (at_start l).here in
+    let start : Stand = (first_walker l).here in
     let size : length xs + 1 ≡ length (xs ++ S.Pop ∷ []) = sym (length-append xs (S.Pop ∷ [])) in
-    ap (λ zs. walked l zs (at_start l)) (all_taken n (S.Push ∷ xs ++ S.Pop ∷ []) (omega (arith, size, h)))
+    ap (λ zs. walked l zs (first_walker l)) (all_taken n (S.Push ∷ xs ++ S.Pop ∷ []) (omega (arith, size, h)))
     ∙ walked-append l xs (S.Pop ∷ []) (walker start (start ∷ []))
     ∙ ap (walked l (S.Pop ∷ [])) (law_of_effects l start (start ∷ []) xs (first_known l) b)

@@ -8,7 +8,7 @@ use Rattle.lsys_syntax.specs.Strings as S
 use Rattle.lsys_spec.specs.Systems.{System, Homomorphism, Each}
 use Rattle.lsys_spec.specs.Values.{Arith, judged, ◌and_then◌}
 use Rattle.lsys_spec.specs.Bodies.{body_of}
-use Rattle.lsys_spec.specs.Levels.{ModuleValue, Symbol, Push, Pop, Module, level_balanced}
+use Rattle.lsys_spec.specs.Levels.{ModuleValue, LevelSymbol, Push, Pop, Module, level_balanced}
 use Rattle.lsys_spec.specs.Meaning.{filled}
 use Rattle.lsys_spec.specs.Images.{ImageRefusal, ImageLimit, for_module, image_of, image_fault, within_image, image_from, image}
 use Rattle.lsys_spec.proofs.LevelInduction.{ok_parts}
@@ -60,7 +60,7 @@ from_module : (o : Answer) (k : ℕ) (whole f g : ℕ → Answer) → ((j : ℕ)
 from_module (Ok zs) k whole f g h = under (within_image k zs) k whole (λ j. and_behind (f j) j g) h ∙ all_behind (within_image k zs) k f g
 from_module (Err e) k whole f g h = refl
 
-pub image-append : (hs : List Homomorphism) (n k : ℕ) (x y : List Symbol) → image_from hs n k (x ++ y) ≡ and_behind (image_from hs n k x) k (λ j. image_from hs (modules_in n x) j y)
+pub image-append : (hs : List Homomorphism) (n k : ℕ) (x y : List LevelSymbol) → image_from hs n k (x ++ y) ≡ and_behind (image_from hs n k x) k (λ j. image_from hs (modules_in n x) j y)
 image-append hs n k [] y = let e : k + 0 ≡ k = omega arith in none_behind (image_from hs n k y) ∙ ap (λ (j : ℕ). image_from hs n j y and_then λ more. Ok more) (sym e)
 image-append hs n k (Push l ∷ x) y =
     let r : Answer = within_image k (S.Push ∷ []) in
@@ -97,7 +97,7 @@ behind_ok : (r r' : Answer) (f f' : List (S.Symbol ℤ) → Answer) (ys : List (
     → (r and_then f) ≡ Ok ys → (r' and_then f') ≡ Ok ys
 behind_ok r r' f f' ys g h e = let a = ok_parts r f ys e in ap (λ (q : Answer). q and_then f') (g a.0 a.1) ∙ h a.0 ys a.2
 
-pub image_anywhere : (hs : List Homomorphism) (x : List Symbol) (n k : ℕ) (ys : List (S.Symbol ℤ)) → image_from hs n k x ≡ Ok ys → (m j : ℕ) → j ≤ k → image_from hs m j x ≡ Ok ys
+pub image_anywhere : (hs : List Homomorphism) (x : List LevelSymbol) (n k : ℕ) (ys : List (S.Symbol ℤ)) → image_from hs n k x ≡ Ok ys → (m j : ℕ) → j ≤ k → image_from hs m j x ≡ Ok ys
 image_anywhere hs [] n k ys h m j o = h
 image_anywhere hs (Push l ∷ x) n k ys h m j o =
     behind_ok (within_image k (S.Push ∷ [])) (within_image j (S.Push ∷ [])) _ _ ys (λ zs e. within_ok k (S.Push ∷ []) zs e j o)
@@ -121,7 +121,7 @@ two_parts a k f ys h =
     let e : one.0 ++ two.0 ≡ ys = let i = two.2 in cc in
     (one.0, two.0, one.1, two.1, sym e)
 
-pub part_image : (s : System) (before part behind : List Symbol) (ys : List (S.Symbol ℤ)) → image s (before ++ (part ++ behind)) ≡ Ok ys → HasPartImage s before part behind ys
+pub part_image : (s : System) (before part behind : List LevelSymbol) (ys : List (S.Symbol ℤ)) → image s (before ++ (part ++ behind)) ≡ Ok ys → HasPartImage s before part behind ys
 part_image s before part behind ys h =
     let hs : List Homomorphism = s.homomorphisms in
     let n : ℕ = modules_in 0 before in
@@ -175,7 +175,7 @@ fault_is : (n : ℕ) (r : Result (List (S.Symbol ℤ)) Arith) (zs : List (S.Symb
 fault_is n (Ok a) zs h = let e : a ≡ zs = cc in ap Ok e
 fault_is n (Err e) zs h = cc
 
-pub image_balanced : (hs : List Homomorphism) → Each (λ h. balanced 0 h.rule.successor ≡ true) hs → (x : List Symbol) (n k q : ℕ) (ys : List (S.Symbol ℤ)) → level_balanced q x ≡ true → image_from hs n k x ≡ Ok ys → balanced q ys ≡ true
+pub image_balanced : (hs : List Homomorphism) → Each (λ h. balanced 0 h.rule.successor ≡ true) hs → (x : List LevelSymbol) (n k q : ℕ) (ys : List (S.Symbol ℤ)) → level_balanced q x ≡ true → image_from hs n k x ≡ Ok ys → balanced q ys ≡ true
 image_balanced hs b [] n k q ys h e = let f : [] ≡ ys = cc in subst (λ zs. balanced q zs ≡ true) f h
 image_balanced hs b (Push l ∷ x) n k q ys h e =
     let one = ok_parts (within_image k (S.Push ∷ [])) _ ys e in

@@ -13,7 +13,7 @@ use Rattle.lsys_spec.specs.Pictures.{Act, act}
 use Rattle.lsys_spec.proofs.Turns.{same_vector}
 use Rattle.lsys_lattice.specs.Rotations.{plus, carried, measures}
 use Rattle.lsys_lattice.specs.Extents.{Extents, extents}
-use Rattle.lsys_lattice.specs.Effects.{Stand, Walker, walker, stepped, drawn_ends, place_reached, symbol_places, places, at_start, place_from, effect, drawn, reach}
+use Rattle.lsys_lattice.specs.Effects.{Stand, Walker, walker, stepped, drawn_ends, place_reached, symbol_places, places, first_walker, place_from, effect, drawn, reach}
 use Rattle.lsys_lattice.proofs.Moving.{effect-append, effect-branch, told-append, told_anywhere, drawn_from, reached_from}
 use Rattle.lsys_lattice.proofs.Fronts.{first_known, place_there}
 use Rattle.lsys_lattice.specs.Motions.{Motion, extents_or_none, motion, branched, motion_of_act, both, united, shifted_by, AreSeen, AreUnited, IsJoined}
@@ -152,9 +152,9 @@ balanced-append k (S.Cut ∷ xs) ys b c = balanced-append k xs ys b c
 
 -- 5. a branch
 
-from_there : (l : Lattice) (vs : List Vector) → map (place_from l (at_start l).here) vs ≡ vs
+from_there : (l : Lattice) (vs : List Vector) → map (place_from l (first_walker l).here) vs ≡ vs
 from_there l [] = refl
-from_there l (v ∷ vs) = ap (λ (u : Vector). u ∷ map (place_from l (at_start l).here) vs) (place_there l v) ∙ ap (λ us. v ∷ us) (from_there l vs)
+from_there l (v ∷ vs) = ap (λ (u : Vector). u ∷ map (place_from l (first_walker l).here) vs) (place_there l v) ∙ ap (λ us. v ∷ us) (from_there l vs)
 
 closed : (told : Act → Stand → List Vector) (l : Lattice) (xs : List (S.Symbol ℤ)) (w : Walker) → places told l (xs ++ S.Pop ∷ []) w ≡ places told l xs w
 closed told l [] w = refl
@@ -165,7 +165,7 @@ two_more n = omega arith
 
 pub motion_branched : (l : Lattice) (xs : List (S.Symbol ℤ)) → balanced 0 xs ≡ true → motion l (S.Push ∷ xs ++ S.Pop ∷ []) ≡ branched l (motion l xs)
 motion_branched l xs b =
-    let start : Stand = (at_start l).here in
+    let start : Stand = (first_walker l).here in
     let ends : drawn l (S.Push ∷ xs ++ S.Pop ∷ []) ≡ drawn l xs =
     closed drawn_ends l xs (walker start (start ∷ [])) ∙ told_anywhere drawn_ends drawn_from l start (start ∷ []) xs (first_known l) b ∙ from_there l (drawn l xs) in
     let all : reach l (S.Push ∷ xs ++ S.Pop ∷ []) ≡ reach l xs =
@@ -174,7 +174,7 @@ motion_branched l xs b =
 
 pub motion_module : (l : Lattice) (name : S.ModuleName) (ps : List ℤ) → motion l (S.Module name ps ∷ []) ≡ motion_of_act l (act name ps)
 motion_module l name ps =
-    let start : Stand = (at_start l).here in
+    let start : Stand = (first_walker l).here in
     same_motion (motion l (S.Module name ps ∷ [])) (motion_of_act l (act name ps)) refl refl
     (ap (extents_or_none l) (append-nil (drawn_ends (act name ps) start)))
     (ap (extents_or_none l) (append-nil (place_reached (act name ps) start)))

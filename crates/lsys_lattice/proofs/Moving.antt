@@ -8,8 +8,8 @@ use Rattle.lsys_syntax.specs.Strings as S
 use Rattle.lsys_spec.specs.Lattices.{Lattice, square, hexagonal, cubic, Vector, Frame, frames, first_frame, Turn, turned, times, turn_count}
 use Rattle.lsys_spec.specs.Pictures.{Act, draws, moves, turns, widens, rests, act, origin}
 use Rattle.lsys_spec.proofs.Turns.{same_vector}
-use Rattle.lsys_lattice.specs.Rotations.{plus, scaled, carried, followed}
-use Rattle.lsys_lattice.specs.Effects.{Stand, Walker, walker, ahead, done, stepped, walked, drawn_ends, place_reached, symbol_places, places, at_start, width_after, place_from, stand_from, walker_from, effect}
+use Rattle.lsys_lattice.specs.Rotations.{plus, scaled, carried, frame_within}
+use Rattle.lsys_lattice.specs.Effects.{Stand, Walker, walker, steps_ahead, done, stepped, walked, drawn_ends, place_reached, symbol_places, places, first_walker, width_after, place_from, stand_from, walker_from, effect}
 use Rattle.lsys_lattice.proofs.Carrying.{carried-plus, carried-scaled, followed-start}
 use Rattle.lsys_spec.specs.Systems.{Each}
 use Rattle.lsys_spec.proofs.Frames.{turned_among, among}
@@ -28,20 +28,20 @@ same_stand : (p q : Vector) (f g : Frame) (w : Option ℕ) → p ≡ q → f ≡
 same_stand p q f g w a b = cc
 
 -- a move
-ahead_from : (l : Lattice) (from h : Stand) (n : ℤ) → ahead n (stand_from l from h) ≡ place_from l from (ahead n h)
+ahead_from : (l : Lattice) (from h : Stand) (n : ℤ) → steps_ahead n (stand_from l from h) ≡ place_from l from (steps_ahead n h)
 ahead_from l from h n =
     plus-plus from.place (carried l from.frame h.place) (scaled n (carried l from.frame h.frame.heading))
     ∙ ap (plus from.place) (ap (plus (carried l from.frame h.place)) (sym (carried-scaled l from.frame n h.frame.heading)) ∙ sym (carried-plus l from.frame h.place (scaled n h.frame.heading)))
 
 -- turns
-times_from : (l : Lattice) (turn : Turn) (m : ℕ) (f g : Frame) → Contains (frames l) f → times m (turned l turn) (followed l f g) ≡ followed l f (times m (turned l turn) g)
+times_from : (l : Lattice) (turn : Turn) (m : ℕ) (f g : Frame) → Contains (frames l) f → times m (turned l turn) (frame_within l f g) ≡ frame_within l f (times m (turned l turn) g)
 times_from l turn zero f g h = refl
 times_from l turn (suc m) f g h = ap (turned l turn) (times_from l turn m f g h) ∙ turned-followed l turn f (times m (turned l turn) g) h
 
 -- what a module does
 done_from : (l : Lattice) (from h : Stand) (a : Act) → Contains (frames l) from.frame → done l a (stand_from l from h) ≡ stand_from l from (done l a h)
-done_from l from h (draws n) k = ap (λ (p : Vector). stand p (followed l from.frame h.frame) (width_after from.width h.width)) (ahead_from l from h n)
-done_from l from h (moves n) k = ap (λ (p : Vector). stand p (followed l from.frame h.frame) (width_after from.width h.width)) (ahead_from l from h n)
+done_from l from h (draws n) k = ap (λ (p : Vector). stand p (frame_within l from.frame h.frame) (width_after from.width h.width)) (ahead_from l from h n)
+done_from l from h (moves n) k = ap (λ (p : Vector). stand p (frame_within l from.frame h.frame) (width_after from.width h.width)) (ahead_from l from h n)
 done_from l from h (turns turn n) k =
     ap (λ (f : Frame). stand (place_from l from h.place) f (width_after from.width h.width)) (times_from l turn (turn_count l n) from.frame h.frame k)
 done_from l from h (widens w) k = refl
@@ -90,10 +90,10 @@ none_saved l (S.Cut ∷ xs) here saved b = none_saved l xs here saved b
 none_saved l (S.Module n ps ∷ xs) here saved b = none_saved l xs (done l (act n ps) here) saved b
 
 -- any turtle is the start, carried to where it is
-from_start : (l : Lattice) (from : Stand) (below : List Stand) → walker_from l from below (at_start l) ≡ walker from below
+from_start : (l : Lattice) (from : Stand) (below : List Stand) → walker_from l from below (first_walker l) ≡ walker from below
 from_start l from below = ap (λ (h : Stand). walker h below) (start_there l from)
   where
-    start_there : (l : Lattice) (from : Stand) → stand_from l from (at_start l).here ≡ from
+    start_there : (l : Lattice) (from : Stand) → stand_from l from (first_walker l).here ≡ from
     start_there l from = same_stand _ from.place _ from.frame from.width (ap (plus from.place) (carried_origin l from.frame) ∙ plus-origin from.place) (followed-start l from.frame)
       where
         nothing : (h k n : ℤ) → pos 0 *ℤ h +ℤ pos 0 *ℤ k +ℤ pos 0 *ℤ n ≡ pos 0
@@ -109,8 +109,8 @@ pub law_of_effects : (l : Lattice) (from : Stand) (below : List Stand) (xs : Lis
     → walked l xs (walker from below) ≡ walker (stand_from l from (effect l xs)) below
 law_of_effects l from below xs k b =
     ap (walked l xs) (sym (from_start l from below))
-    ∙ walked_from l from below xs (at_start l).here [] k b
-    ∙ ap (λ (hs : List Stand). walker (stand_from l from (effect l xs)) (map (stand_from l from) hs ++ below)) (none_saved l xs (at_start l).here [] b)
+    ∙ walked_from l from below xs (first_walker l).here [] k b
+    ∙ ap (λ (hs : List Stand). walker (stand_from l from (effect l xs)) (map (stand_from l from) hs ++ below)) (none_saved l xs (first_walker l).here [] b)
 
 walked-append : (l : Lattice) (xs ys : List (S.Symbol ℤ)) (w : Walker) → walked l (xs ++ ys) w ≡ walked l ys (walked l xs w)
 walked-append l [] ys w = refl
@@ -147,15 +147,15 @@ walked_known l (S.Module n ps ∷ xs) here saved k e = walked_known l xs (done l
 
 pub effect-append : (l : Lattice) (xs ys : List (S.Symbol ℤ)) → balanced 0 xs ≡ true → balanced 0 ys ≡ true → effect l (xs ++ ys) ≡ stand_from l (effect l xs) (effect l ys)
 effect-append l xs ys b c =
-    let e : walked l xs (at_start l) ≡ walker (effect l xs) [] = ap (walker (effect l xs)) (none_saved l xs (at_start l).here [] b) in
+    let e : walked l xs (first_walker l) ≡ walker (effect l xs) [] = ap (walker (effect l xs)) (none_saved l xs (first_walker l).here [] b) in
     ap (λ (w : Walker). w.here)
-    (walked-append l xs ys (at_start l) ∙ ap (walked l ys) e
-    ∙ law_of_effects l (effect l xs) [] ys (walked_known l xs (at_start l).here [] (first_known l) tt) c)
+    (walked-append l xs ys (first_walker l) ∙ ap (walked l ys) e
+    ∙ law_of_effects l (effect l xs) [] ys (walked_known l xs (first_walker l).here [] (first_known l) tt) c)
 
 -- a branch has no effect
-pub effect-branch : (l : Lattice) (xs : List (S.Symbol ℤ)) → balanced 0 xs ≡ true → effect l (S.Push ∷ xs ++ S.Pop ∷ []) ≡ (at_start l).here
+pub effect-branch : (l : Lattice) (xs : List (S.Symbol ℤ)) → balanced 0 xs ≡ true → effect l (S.Push ∷ xs ++ S.Pop ∷ []) ≡ (first_walker l).here
 effect-branch l xs b =
-    let start = (at_start l).here in
+    let start = (first_walker l).here in
     ap (λ (w : Walker). w.here)
     (walked-append l xs (S.Pop ∷ []) (walker start (start ∷ []))
     ∙ ap (walked l (S.Pop ∷ [])) (law_of_effects l start (start ∷ []) xs (first_known l) b))
@@ -202,13 +202,13 @@ module _ (told : Act → Stand → List Vector) (told_from : (l : Lattice) (from
       ∙ sym (append_assoc (symbol_places told x w.here) (places told l xs (stepped l x w)) (places told l ys (walked l xs (stepped l x w))))
 
   pub told-append : (l : Lattice) (xs ys : List (S.Symbol ℤ)) → balanced 0 xs ≡ true → balanced 0 ys ≡ true
-      → places told l (xs ++ ys) (at_start l) ≡ places told l xs (at_start l) ++ map (place_from l (effect l xs)) (places told l ys (at_start l))
+      → places told l (xs ++ ys) (first_walker l) ≡ places told l xs (first_walker l) ++ map (place_from l (effect l xs)) (places told l ys (first_walker l))
   told-append l xs ys b c =
-      let e : walked l xs (at_start l) ≡ walker (effect l xs) [] = ap (walker (effect l xs)) (none_saved l xs (at_start l).here [] b) in
-      places-append l xs ys (at_start l)
-      ∙ ap (λ (w : Walker). places told l xs (at_start l) ++ places told l ys w) (e ∙ sym (from_start l (effect l xs) []))
-      ∙ ap (λ (es : List Vector). places told l xs (at_start l) ++ es) (places_from l (effect l xs) [] ys (at_start l).here [] (walked_known l xs (at_start l).here [] (first_known l) tt) c)
+      let e : walked l xs (first_walker l) ≡ walker (effect l xs) [] = ap (walker (effect l xs)) (none_saved l xs (first_walker l).here [] b) in
+      places-append l xs ys (first_walker l)
+      ∙ ap (λ (w : Walker). places told l xs (first_walker l) ++ places told l ys w) (e ∙ sym (from_start l (effect l xs) []))
+      ∙ ap (λ (es : List Vector). places told l xs (first_walker l) ++ es) (places_from l (effect l xs) [] ys (first_walker l).here [] (walked_known l xs (first_walker l).here [] (first_known l) tt) c)
 
   pub told_anywhere : (l : Lattice) (from : Stand) (below : List Stand) (xs : List (S.Symbol ℤ)) → Contains (frames l) from.frame → balanced 0 xs ≡ true
-      → places told l xs (walker from below) ≡ map (place_from l from) (places told l xs (at_start l))
-  told_anywhere l from below xs k b = ap (places told l xs) (sym (from_start l from below)) ∙ places_from l from below xs (at_start l).here [] k b
+      → places told l xs (walker from below) ≡ map (place_from l from) (places told l xs (first_walker l))
+  told_anywhere l from below xs k b = ap (places told l xs) (sym (from_start l from below)) ∙ places_from l from below xs (first_walker l).here [] k b

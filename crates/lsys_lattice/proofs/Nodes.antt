@@ -4,18 +4,18 @@ use Rattle.std.specs.Prelude.{ℤ, Option, Some, None, Result, Ok, Err}
 use Rattle.lsys_syntax.specs.Strings as S
 use Rattle.lsys_spec.specs.Systems.{System}
 use Rattle.lsys_spec.specs.Values.{◌and_then◌}
-use Rattle.lsys_spec.specs.Levels.{Symbol, Push, Pop, Module, level_balanced}
+use Rattle.lsys_spec.specs.Levels.{LevelSymbol, Push, Pop, Module, level_balanced}
 use Rattle.lsys_spec.specs.Cuts.{Raw, Plain, Cut, raw_balanced, cut, cut_on}
 use Rattle.lsys_syntax.specs.Commands.{Numbering}
 use Rattle.lsys_spec.specs.LevelLaws.{HasBalance}
 use Rattle.lsys_spec.specs.Meaning.{LevelRefusal, children, successor, fault_at, children_from, next_level}
 use Rattle.lsys_spec.proofs.Cutting.{cut_balanced}
 use Rattle.lsys_spec.proofs.Offspring.{offspring, offspring_balanced}
-use Rattle.lsys_lattice.specs.Nodes.{cutting_after, modules_in, HasPartBelow}
+use Rattle.lsys_lattice.specs.Nodes.{cutting_behind_part, modules_in, HasPartBelow}
 
 -- 1. the cut of a part
 
-pub cut-append : (c : Option ℕ) (x y : List Raw) → cut_on c (x ++ y) ≡ cut_on c x ++ cut_on (cutting_after c x) y
+pub cut-append : (c : Option ℕ) (x y : List Raw) → cut_on c (x ++ y) ≡ cut_on c x ++ cut_on (cutting_behind_part c x) y
 cut-append None [] y = refl
 cut-append (Some n) [] y = refl
 cut-append None (Cut l ∷ x) y = cut-append (Some 0) x y
@@ -44,8 +44,8 @@ part_balanced (Some n) x h = let e = all_cut x 0 n n (omega arith) h in rw e ref
 pub middle_part : (a x b : List Raw) → raw_balanced 0 x ≡ true
     → (c : Option ℕ) × (d : Option ℕ) × (cut_on None (a ++ (x ++ b)) ≡ cut_on None a ++ (cut_on c x ++ cut_on d b)) × (level_balanced 0 (cut_on c x) ≡ true)
 middle_part a x b h =
-    let c = cutting_after None a in
-    (c, cutting_after c x, cut-append None a (x ++ b) ∙ ap (λ ss. cut_on None a ++ ss) (cut-append c x b), part_balanced c x h)
+    let c = cutting_behind_part None a in
+    (c, cutting_behind_part c x, cut-append None a (x ++ b) ∙ ap (λ ss. cut_on None a ++ ss) (cut-append c x b), part_balanced c x h)
 
 -- 2. the children of a part
 
@@ -69,7 +69,7 @@ none_then (Err e) = refl
 further : (p n : ℕ) → p + 1 + n ≡ p + suc n
 further p n = omega arith
 
-pub children-append : (s : System) (t : ℕ) (x : List Symbol) (p n : ℕ) (u v : List Symbol)
+pub children-append : (s : System) (t : ℕ) (x : List LevelSymbol) (p n : ℕ) (u v : List LevelSymbol)
     → children_from s t x p n (u ++ v) ≡ joined (children_from s t x p n u) (children_from s t x (p + length u) (modules_in n u) v)
 children-append s t x p n [] v = let e : p + 0 ≡ p = omega arith in rw e (none_then (children_from s t x p n v))
 children-append s t x p n (Push l ∷ u) v =
@@ -92,14 +92,14 @@ both_ok (Ok u) (Ok v) z h = let e : u ++ v ≡ z = cc in (u, v, refl, refl, sym 
 both_ok (Ok u) (Err e) z h = cc
 both_ok (Err e) b z h = cc
 
-cut_ok : (r : Result (List Raw) LevelRefusal) (y : List Symbol) → (r and_then λ raws. Ok (cut raws)) ≡ Ok y → (raws : List Raw) × (r ≡ Ok raws) × (cut raws ≡ y)
+cut_ok : (r : Result (List Raw) LevelRefusal) (y : List LevelSymbol) → (r and_then λ raws. Ok (cut raws)) ≡ Ok y → (raws : List Raw) × (r ≡ Ok raws) × (cut raws ≡ y)
 cut_ok (Ok raws) y h = let e : cut raws ≡ y = cc in (raws, refl, e)
 cut_ok (Err e) y h = cc
 
-pub part_below : (s : System) → HasBalance s → (t : ℕ) (before part behind y : List Symbol) → level_balanced 0 part ≡ true → next_level s t (before ++ (part ++ behind)) ≡ Ok y
+pub part_below : (s : System) → HasBalance s → (t : ℕ) (before part behind y : List LevelSymbol) → level_balanced 0 part ≡ true → next_level s t (before ++ (part ++ behind)) ≡ Ok y
     → HasPartBelow s t before part behind y
 part_below s b t before part behind y balance h =
-    let x : List Symbol = before ++ (part ++ behind) in
+    let x : List LevelSymbol = before ++ (part ++ behind) in
     let k : ℕ = length before in
     let n : ℕ = modules_in 0 before in
     let from_none : k ≡ 0 + k = omega arith in

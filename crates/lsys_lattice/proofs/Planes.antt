@@ -8,7 +8,7 @@ use Rattle.lsys_syntax.specs.Strings as S
 use Rattle.lsys_spec.specs.Systems.{Each}
 use Rattle.lsys_spec.specs.Lattices.{Lattice, square, hexagonal, cubic, Vector, Frame, frames}
 use Rattle.lsys_spec.specs.Pictures.{Act, draws, moves, turns, widens, rests, act, origin}
-use Rattle.lsys_lattice.specs.Effects.{Stand, Walker, walker, ahead, done, walked, place_reached, reached, stand_from, effect}
+use Rattle.lsys_lattice.specs.Effects.{Stand, Walker, walker, steps_ahead, done, walked, place_reached, places_reached, stand_from, effect}
 use Rattle.lsys_lattice.proofs.Moving.{walked_known, law_of_effects}
 use Rattle.lsys_lattice.proofs.Rows.{equal, of_frame}
 use Rattle.lsys_lattice.specs.Far.{IsInPlane}
@@ -28,7 +28,7 @@ no_multiple n = omega (arith, ints)
 stays_flat : (n p h : ℤ) → p ≡ pos 0 → h ≡ pos 0 → p +ℤ n *ℤ h ≡ pos 0
 stays_flat n p h a b = ap (λ (q : ℤ). q +ℤ n *ℤ h) a ∙ ap (λ (q : ℤ). pos 0 +ℤ n *ℤ q) b ∙ ap (λ (q : ℤ). pos 0 +ℤ q) (no_multiple n)
 
-ahead_in_plane : (l : Lattice) (n : ℤ) (h : Stand) → Contains (frames l) h.frame → IsInPlane l h.place → IsInPlane l (ahead n h)
+ahead_in_plane : (l : Lattice) (n : ℤ) (h : Stand) → Contains (frames l) h.frame → IsInPlane l h.place → IsInPlane l (steps_ahead n h)
 ahead_in_plane square n h k p = tt
 ahead_in_plane hexagonal n h k p = stays_flat n h.place.z h.frame.heading.z p (no_height h.frame k)
 ahead_in_plane cubic n h k p = tt
@@ -54,14 +54,14 @@ reached_in_plane l (turns turn n) h vs s e = e
 reached_in_plane l (widens w) h vs s e = e
 reached_in_plane l rests h vs s e = e
 
-pub all_reached_in_plane : (l : Lattice) (xs : List (S.Symbol ℤ)) (here : Stand) (saved : List Stand) → Stays l here → Each (Stays l) saved → Each (IsInPlane l) (reached l xs (walker here saved))
+pub all_reached_in_plane : (l : Lattice) (xs : List (S.Symbol ℤ)) (here : Stand) (saved : List Stand) → Stays l here → Each (Stays l) saved → Each (IsInPlane l) (places_reached l xs (walker here saved))
 all_reached_in_plane l [] here saved s e = tt
 all_reached_in_plane l (S.Push ∷ xs) here saved s e = all_reached_in_plane l xs here (here ∷ saved) s (s, e)
 all_reached_in_plane l (S.Pop ∷ xs) here [] s e = all_reached_in_plane l xs here [] s tt
 all_reached_in_plane l (S.Pop ∷ xs) here (h ∷ hs) s e = all_reached_in_plane l xs h hs e.0 e.1
 all_reached_in_plane l (S.Cut ∷ xs) here saved s e = all_reached_in_plane l xs here saved s e
 all_reached_in_plane l (S.Module m ps ∷ xs) here saved s e =
-    reached_in_plane l (act m ps) here (reached l xs (walker (done l (act m ps) here) saved)) s
+    reached_in_plane l (act m ps) here (places_reached l xs (walker (done l (act m ps) here) saved)) s
     (all_reached_in_plane l xs (done l (act m ps) here) saved (done_known l m ps here s.0, done_in_plane l (act m ps) here s) e)
 
 walked_in_plane : (l : Lattice) (xs : List (S.Symbol ℤ)) (here : Stand) (saved : List Stand) → Stays l here → Each (Stays l) saved → IsInPlane l (walked l xs (walker here saved)).here.place

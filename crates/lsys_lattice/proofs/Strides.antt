@@ -9,7 +9,7 @@ use Rattle.std.proofs.lemmas.Bool.Decides.{nat_tests}
 use Rattle.lsys_syntax.specs.Strings.{balanced}
 use Rattle.lsys_syntax.specs.Strings as S
 use Rattle.lsys_spec.specs.Lattices.{Lattice, frames}
-use Rattle.lsys_lattice.specs.Effects.{Stand, Walker, walker, walked, at_start, stand_from, walker_from, effect}
+use Rattle.lsys_lattice.specs.Effects.{Stand, Walker, walker, walked, first_walker, stand_from, walker_from, effect}
 use Rattle.lsys_lattice.proofs.Moving.{law_of_effects}
 use Rattle.lsys_lattice.proofs.Turning.{followed-known}
 use Rattle.lsys_lattice.specs.Courses.{course, onward, inward, strung, AreAllBalanced, led_through, Grouping, Run, Row, Branch, nested_string, HasBalancedRuns, descent}
@@ -30,11 +30,11 @@ led_from l from (xs ∷ parts) k h =
     ∙ ap (walked l (strung parts)) (law_of_effects l from [] xs k h.0)
     ∙ led_from l (stand_from l from (effect l xs)) parts (followed-known l from.frame (effect l xs).frame k (effect_known l xs)) h.1
 
-pub led_there : (l : Lattice) (parts : List (List (S.Symbol ℤ))) → AreAllBalanced parts → effect l (strung parts) ≡ led_through l (at_start l).here parts
-led_there l parts h = ap (λ (w : Walker). w.here) (led_from l (at_start l).here parts (first_known l) h)
+pub led_there : (l : Lattice) (parts : List (List (S.Symbol ℤ))) → AreAllBalanced parts → effect l (strung parts) ≡ led_through l (first_walker l).here parts
+led_there l parts h = ap (λ (w : Walker). w.here) (led_from l (first_walker l).here parts (first_known l) h)
 
 pub course_inside : (l : Lattice) (n : ℕ) (before : List (List (S.Symbol ℤ))) (part behind : List (S.Symbol ℤ)) → AreAllBalanced before → balanced 0 part ≡ true → n ≤ length part
-    → course l (length (strung before) + n) (strung before ++ (part ++ behind)) ≡ walker_from l (led_through l (at_start l).here before) [] (course l n part)
+    → course l (length (strung before) + n) (strung before ++ (part ++ behind)) ≡ walker_from l (led_through l (first_walker l).here before) [] (course l n part)
 course_inside l n before part behind b c h =
     let k : ℕ = length (strung before) in
     let size : length (strung before ++ part) ≡ k + length part = length-append (strung before) part in
@@ -100,5 +100,5 @@ turtle_told l n parts gs b h few =
     let ys : List (S.Symbol ℤ) = nested_string parts in
     let there : nat_lt (length ys) n ≡ false = grind (arith, nat_tests) in
     present (nat_lt (length ys) n) _ there
-    ∙ turtle_there l 0 (at_start l) ys (none_too_far l 0 (at_start l) ys gs h) n
+    ∙ turtle_there l 0 (first_walker l) ys (none_too_far l 0 (first_walker l) ys gs h) n
     ∙ ap (λ (w : Walker). Some (turtle_of w)) (sym (descent_there l n parts b few))

@@ -11,7 +11,7 @@ use Rattle.lsys_spec.specs.Lattices.{Lattice, square, hexagonal, cubic, Vector, 
 use Rattle.lsys_spec.proofs.Turns.{same_vector, same_frame}
 use Rattle.lsys_spec.proofs.Frames.{vector_eq, vector_decides, is_among, among}
 use Rattle.lsys_spec.proofs.Tests.{both}
-use Rattle.lsys_lattice.specs.Rotations.{carried, followed}
+use Rattle.lsys_lattice.specs.Rotations.{carried, frame_within}
 use Rattle.lsys_lattice.proofs.Ring.{times_sum, sum_times, neg_times, times_neg}
 use Rattle.lsys_lattice.proofs.Carrying.{carried-opposite}
 
@@ -103,7 +103,7 @@ turned_each : (turn carry : Vector → Vector) → ((v : Vector) → turn (carry
     → all_turned turn (frame (carry g.heading) (carry g.left) (carry g.up)) ≡ frame (carry (turn g.heading)) (carry (turn g.left)) (carry (turn g.up))
 turned_each turn carry h g = same_frame _ _ _ _ _ _ (h g.heading) (h g.left) (h g.up)
 
-pub turned-followed : (l : Lattice) (k : Turn) (f g : Frame) → Contains (frames l) f → turned l k (followed l f g) ≡ followed l f (turned l k g)
+pub turned-followed : (l : Lattice) (k : Turn) (f g : Frame) → Contains (frames l) f → turned l k (frame_within l f g) ≡ frame_within l f (turned l k g)
 turned-followed square turn_left f g h = turned_each quarter_left (carried square f) (square_left f h) g
 turned-followed square turn_right f g h = turned_each quarter_right (carried square f) (turned_back quarter_left quarter_right (carried square f) square_back square_forth (square_left f h)) g
 turned-followed square turn_round f g h =
@@ -131,12 +131,12 @@ turned-followed cubic turn_round f g h = same_frame _ _ _ _ _ _ (sym (carried-op
 
 -- 4. what follows a frame in a frame is a frame
 
-all_followed : (l : Lattice) → list_all (λ f. list_all (λ g. is_among (frames l) (followed l f g)) (frames l)) (frames l) ≡ true
+all_followed : (l : Lattice) → list_all (λ f. list_all (λ g. is_among (frames l) (frame_within l f g)) (frames l)) (frames l) ≡ true
 all_followed square = refl
 all_followed hexagonal = refl
 all_followed cubic = refl
 
-pub followed-known : (l : Lattice) (f g : Frame) → Contains (frames l) f → Contains (frames l) g → Contains (frames l) (followed l f g)
+pub followed-known : (l : Lattice) (f g : Frame) → Contains (frames l) f → Contains (frames l) g → Contains (frames l) (frame_within l f g)
 followed-known l f g h k =
-    among (frames l) (followed l f g)
-    (tells (λ g. is_among (frames l) (followed l f g)) (frames l) g (tells (λ f. list_all (λ g. is_among (frames l) (followed l f g)) (frames l)) (frames l) f (all_followed l) h) k)
+    among (frames l) (frame_within l f g)
+    (tells (λ g. is_among (frames l) (frame_within l f g)) (frames l) g (tells (λ f. list_all (λ g. is_among (frames l) (frame_within l f g)) (frames l)) (frames l) f (all_followed l) h) k)

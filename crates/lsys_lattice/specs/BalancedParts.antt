@@ -1,6 +1,6 @@
 -- What stays of balanced parts.
 use Rattle.std.specs.Prelude.{◌≡◌, ℕ, true, None, Option, List, ◌++◌, Ok}
-use Rattle.lsys_spec.specs.Levels.{level_balanced, Symbol}
+use Rattle.lsys_spec.specs.Levels.{level_balanced, LevelSymbol}
 use Rattle.lsys_spec.specs.Cuts.{Raw, raw_balanced, cut_on}
 use Rattle.lsys_spec.specs.Systems.{System}
 use Rattle.lsys_spec.specs.LevelLaws.{HasBalance}
@@ -19,6 +19,6 @@ CutsLeaveBalancedParts =
 -- the children of a balanced part of a level stand side by side in the next level, and are balanced
 abbrev pub ChildrenOfPartsStandSideBySide : Type 0
 ChildrenOfPartsStandSideBySide =
-    (s : System) (t : ℕ) (before part behind y : List Symbol) → HasBalance s
+    (s : System) (t : ℕ) (before part behind y : List LevelSymbol) → HasBalance s
     → level_balanced 0 part ≡ true
     → next_level s t (before ++ (part ++ behind)) ≡ Ok y → HasPartBelow s t before part behind y

@@ -40,15 +40,15 @@ pose_text p = codes "at " ++ (place_text p.place ++ 32 ∷ (place_text p.frame.h
 -- 3. of a level: both are refused as its picture is
 
 -- the image with the segments of the turtle's way over it
-abbrev pub travelled : System → List L.Symbol → Result (List (S.Symbol ℤ) × List Segment) PictureRefusal
+abbrev pub travelled : System → List L.LevelSymbol → Result (List (S.Symbol ℤ) × List Segment) PictureRefusal
 travelled s x = or_no_image (image s x) and_then λ ys. or_far (segments_of s.lattice ys) and_then λ gs. Ok (ys, gs)
 
-abbrev pub bounds : System → List L.Symbol → Result Extents PictureRefusal
+abbrev pub bounds : System → List L.LevelSymbol → Result Extents PictureRefusal
 bounds s x = travelled s x and_then λ way. Ok (bounds_of s.lattice way.1)
 
 -- behind the first n symbols of a string; None where it has fewer
 abbrev pub turtle_at : Lattice → ℕ → List (S.Symbol ℤ) → Option Turtle
 turtle_at l n ys = if nat_lt (length ys) n then None else turtle_after l (at_start l) (take n ys)
 
-abbrev pub turtle_behind : System → List L.Symbol → ℕ → Result (Option Turtle) PictureRefusal
+abbrev pub turtle_behind : System → List L.LevelSymbol → ℕ → Result (Option Turtle) PictureRefusal
 turtle_behind s x n = travelled s x and_then λ way. Ok (turtle_at s.lattice n way.0)

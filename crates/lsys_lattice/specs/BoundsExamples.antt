@@ -2,7 +2,7 @@
 use Rattle.std.specs.Prelude.{◌≡◌, ℕ, Option, Some, None, Result, Ok, Err, List, [], codes, refl}
 use Rattle.std.specs.Fmt.{digits}
 use Rattle.lsys_spec.specs.Systems.{System}
-use Rattle.lsys_spec.specs.Levels.{Symbol}
+use Rattle.lsys_spec.specs.Levels.{LevelSymbol}
 use Rattle.lsys_spec.specs.Pictures.{Turtle, PictureRefusal}
 use Rattle.lsys_spec.specs.Meaning.{LevelRefusal, meaning, last_level}
 use Rattle.lsys_spec.specs.Replies.{reply}
@@ -13,7 +13,7 @@ use Rattle.lsys_lattice.specs.Bounds.{bounds, bounds_text, turtle_behind, pose_t
 abbrev behind : List ℕ → System
 behind script = last_system (out (reply 100000) script none)
 
-abbrev last_of : Result (List (List Symbol)) LevelRefusal → List Symbol
+abbrev last_of : Result (List (List LevelSymbol)) LevelRefusal → List LevelSymbol
 last_of (Ok levels) = last_level levels
 last_of (Err e) = []
 

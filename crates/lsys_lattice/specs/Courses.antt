@@ -2,11 +2,11 @@
 use Rattle.std.specs.Prelude.{◌≡◌, ℕ, zero, suc, ◌-◌, ℤ, true, List, [], ◌∷◌, ◌++◌, length, take, nat_lt, if◌then◌else◌}
 use Rattle.lsys_syntax.specs.Strings as S
 use Rattle.lsys_spec.specs.Lattices.{Lattice}
-use Rattle.lsys_lattice.specs.Effects.{Stand, Walker, walked, at_start, stand_from, walker_from, effect}
+use Rattle.lsys_lattice.specs.Effects.{Stand, Walker, walked, first_walker, stand_from, walker_from, effect}
 
 -- the way from the start over the first n symbols
 abbrev pub course : Lattice → ℕ → List (S.Symbol ℤ) → Walker
-course l n xs = walked l (take n xs) (at_start l)
+course l n xs = walked l (take n xs) (first_walker l)
 
 -- a way that goes on behind a string
 abbrev pub onward : Lattice → List (S.Symbol ℤ) → Walker → Walker
@@ -14,7 +14,7 @@ onward l xs w = walker_from l (effect l xs) [] w
 
 -- a way in a branch that opens at the start: behind its `]` the turtle is at the start again
 abbrev pub inward : Lattice → Walker → Walker
-inward l w = record w { saved = w.saved ++ (at_start l).here ∷ [] }
+inward l w = record w { saved = w.saved ++ (first_walker l).here ∷ [] }
 
 -- 1. parts side by side
 
@@ -53,5 +53,5 @@ abbrev pub descent : Lattice → ℕ → Grouping → Walker
 descent l n (Run xs) = course l n xs
 descent l n (Row a b) =
     if nat_lt (length (nested_string a)) n then onward l (nested_string a) (descent l (n - length (nested_string a)) b) else descent l n a
-descent l zero (Branch a) = at_start l
-descent l (suc n) (Branch a) = if nat_lt (length (nested_string a)) n then at_start l else inward l (descent l n a)
+descent l zero (Branch a) = first_walker l
+descent l (suc n) (Branch a) = if nat_lt (length (nested_string a)) n then first_walker l else inward l (descent l n a)

@@ -4,7 +4,7 @@ use Rattle.lsys_syntax.specs.Strings.{balanced}
 use Rattle.lsys_syntax.specs.Strings as S
 use Rattle.lsys_spec.specs.Lattices.{Lattice, frames}
 use Rattle.lsys_spec.specs.Pictures.{Segment, segments_of}
-use Rattle.lsys_lattice.specs.Effects.{Stand, walker, walked, walker_from, at_start, effect}
+use Rattle.lsys_lattice.specs.Effects.{Stand, walker, walked, walker_from, first_walker, effect}
 use Rattle.lsys_lattice.specs.Free.{turtle_of}
 use Rattle.lsys_lattice.specs.Bounds.{turtle_at}
 use Rattle.lsys_lattice.specs.Courses.{course, onward, inward, strung, AreAllBalanced, led_through, Grouping, nested_string, HasBalancedRuns, descent}
@@ -42,13 +42,13 @@ abbrev pub BranchesAreLeftAtTheStart : Type 0
 BranchesAreLeftAtTheStart =
     (l : Lattice) (n : ℕ) (xs : List (S.Symbol ℤ)) → balanced 0 xs ≡ true
     → length xs + 2 ≤ n
-    → course l n (S.Push ∷ xs ++ S.Pop ∷ []) ≡ at_start l
+    → course l n (S.Push ∷ xs ++ S.Pop ∷ []) ≡ first_walker l
 
 -- parts side by side lead where each of them leads from where the one before it led
 abbrev pub PartsLeadOneAfterTheOther : Type 0
 PartsLeadOneAfterTheOther =
     (l : Lattice) (parts : List (List (S.Symbol ℤ))) → AreAllBalanced parts
-    → effect l (strung parts) ≡ led_through l (at_start l).here parts
+    → effect l (strung parts) ≡ led_through l (first_walker l).here parts
 
 -- inside a part the turtle goes the way of that from where
 -- those before it led, whatever stands behind it
@@ -57,7 +57,7 @@ PartsAreGoneFromWhereOthersLed =
     (l : Lattice) (n : ℕ) (before : List (List (S.Symbol ℤ))) (part behind : List (S.Symbol ℤ))
     → AreAllBalanced before → balanced 0 part ≡ true → n ≤ length part
     → course l (length (strung before) + n) (strung before ++ (part ++ behind))
-    ≡ walker_from l (led_through l (at_start l).here before) [] (course l n part)
+    ≡ walker_from l (led_through l (first_walker l).here before) [] (course l n part)
 
 -- a string of balanced runs is balanced
 abbrev pub StringsOfBalancedRunsAreBalanced : Type 0

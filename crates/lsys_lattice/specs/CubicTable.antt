@@ -21,33 +21,33 @@ each_at p t South = grind (arith, nat_tests)
 each_at p t Up = grind (arith, nat_tests)
 each_at p t Down = grind (arith, nat_tests)
 
-abbrev pub framed : Direction → Direction → Direction → Frame
-framed heading left up = frame (along heading) (along left) (along up)
+abbrev pub frame_along : Direction → Direction → Direction → Frame
+frame_along heading left up = frame (along heading) (along left) (along up)
 
 -- a frame that is upright is one of the 24
 abbrev is_known : Frame → Bool
 is_known f = not (upright f) || is_among (frames cubic) f
 
-all_known : each (λ heading. each (λ left. each (λ up. is_known (framed heading left up)))) ≡ true
+all_known : each (λ heading. each (λ left. each (λ up. is_known (frame_along heading left up)))) ≡ true
 all_known = refl
 
-known : (heading left up : Direction) → is_known (framed heading left up) ≡ true
+known : (heading left up : Direction) → is_known (frame_along heading left up) ≡ true
 known heading left up =
-    each_at (λ u. is_known (framed heading left u))
-    (each_at (λ l. each (λ u. is_known (framed heading l u)))
-    (each_at (λ h. each (λ l. each (λ u. is_known (framed h l u)))) all_known heading) left) up
+    each_at (λ u. is_known (frame_along heading left u))
+    (each_at (λ l. each (λ u. is_known (frame_along heading l u)))
+    (each_at (λ h. each (λ l. each (λ u. is_known (frame_along h l u)))) all_known heading) left) up
 
 either : (a b : Bool) → (not a || b) ≡ true → a ≡ true → b ≡ true
 either true b t e = t
 either false b t e = cc
 
-pub upright_known : (heading left up : Direction) → IsUpright (framed heading left up) → Contains (frames cubic) (framed heading left up)
+pub upright_known : (heading left up : Direction) → IsUpright (frame_along heading left up) → Contains (frames cubic) (frame_along heading left up)
 upright_known heading left up h =
-    let f = framed heading left up in
+    let f = frame_along heading left up in
     let test : upright f ≡ true = (vector_decides (cross f.heading f.left) f.up).1 h in
     among (frames cubic) f (either (upright f) (is_among (frames cubic) f) (known heading left up) test)
 
-pub turned_upright : (heading left up : Direction) (turn : Turn) → IsUpright (framed heading left up) → IsUpright (turned cubic turn (framed heading left up))
+pub turned_upright : (heading left up : Direction) (turn : Turn) → IsUpright (frame_along heading left up) → IsUpright (turned cubic turn (frame_along heading left up))
 turned_upright heading left up turn h =
-    let f = framed heading left up in
+    let f = frame_along heading left up in
     upright_among cubic (turned cubic turn f) (turned_among cubic turn f (upright_known heading left up h))

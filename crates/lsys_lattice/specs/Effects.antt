@@ -3,7 +3,7 @@ use Rattle.std.specs.Prelude.{ℕ, ℤ, Option, Some, None, List, [], ◌∷◌,
 use Rattle.lsys_syntax.specs.Strings as S
 use Rattle.lsys_spec.specs.Lattices.{Lattice, Vector, Frame, first_frame, turn_by}
 use Rattle.lsys_spec.specs.Pictures.{Act, draws, moves, turns, widens, rests, act, origin}
-use Rattle.lsys_lattice.specs.Rotations.{plus, scaled, carried, followed}
+use Rattle.lsys_lattice.specs.Rotations.{plus, scaled, carried, frame_within}
 
 -- where a turtle is, and its width where one was set
 pub record Stand : Type 0 where
@@ -15,12 +15,12 @@ pub record Walker : Type 0 where
   pub here : Stand
   pub saved : List Stand  -- one for each open branch, the innermost first
 
-abbrev pub ahead : ℤ → Stand → Vector
-ahead n h = plus h.place (scaled n h.frame.heading)
+abbrev pub steps_ahead : ℤ → Stand → Vector
+steps_ahead n h = plus h.place (scaled n h.frame.heading)
 
 abbrev pub done : Lattice → Act → Stand → Stand
-done l (draws n) h = record h { place = ahead n h }
-done l (moves n) h = record h { place = ahead n h }
+done l (draws n) h = record h { place = steps_ahead n h }
+done l (moves n) h = record h { place = steps_ahead n h }
 done l (turns turn n) h = record h { frame = turn_by l turn n h.frame }
 done l (widens w) h = record h { width = Some w }
 done l rests h = h
@@ -42,15 +42,15 @@ walked l [] w = w
 walked l (x ∷ xs) w = walked l xs (stepped l x w)
 
 abbrev pub drawn_ends : Act → Stand → List Vector
-drawn_ends (draws n) h = h.place ∷ ahead n h ∷ []
+drawn_ends (draws n) h = h.place ∷ steps_ahead n h ∷ []
 drawn_ends (moves n) h = []
 drawn_ends (turns turn n) h = []
 drawn_ends (widens w) h = []
 drawn_ends rests h = []
 
 abbrev pub place_reached : Act → Stand → List Vector
-place_reached (draws n) h = ahead n h ∷ []
-place_reached (moves n) h = ahead n h ∷ []
+place_reached (draws n) h = steps_ahead n h ∷ []
+place_reached (moves n) h = steps_ahead n h ∷ []
 place_reached (turns turn n) h = []
 place_reached (widens w) h = []
 place_reached rests h = []
@@ -70,11 +70,11 @@ places told l (x ∷ xs) w = symbol_places told x w.here ++ places told l xs (st
 abbrev pub ends : Lattice → List (S.Symbol ℤ) → Walker → List Vector
 ends l xs w = places drawn_ends l xs w
 
-abbrev pub reached : Lattice → List (S.Symbol ℤ) → Walker → List Vector
-reached l xs w = places place_reached l xs w
+abbrev pub places_reached : Lattice → List (S.Symbol ℤ) → Walker → List Vector
+places_reached l xs w = places place_reached l xs w
 
-abbrev pub at_start : Lattice → Walker
-at_start l = record { here = record { place = origin; frame = first_frame l; width = None }; saved = [] }
+abbrev pub first_walker : Lattice → Walker
+first_walker l = record { here = record { place = origin; frame = first_frame l; width = None }; saved = [] }
 
 -- 1. a stand, seen from another one
 
@@ -86,7 +86,7 @@ abbrev pub place_from : Lattice → Stand → Vector → Vector
 place_from l from v = plus from.place (carried l from.frame v)
 
 abbrev pub stand_from : Lattice → Stand → Stand → Stand
-stand_from l from h = record { place = place_from l from h.place; frame = followed l from.frame h.frame; width = width_after from.width h.width }
+stand_from l from h = record { place = place_from l from h.place; frame = frame_within l from.frame h.frame; width = width_after from.width h.width }
 
 abbrev pub walker_from : Lattice → Stand → List Stand → Walker → Walker
 walker_from l from below w = record { here = stand_from l from w.here; saved = map (stand_from l from) w.saved ++ below }
@@ -94,13 +94,13 @@ walker_from l from below w = record { here = stand_from l from w.here; saved = m
 -- 2. the effect of a string: where it leads from the start, which ends it draws, and which places it reaches
 
 abbrev pub effect : Lattice → List (S.Symbol ℤ) → Stand
-effect l xs = (walked l xs (at_start l)).here
+effect l xs = (walked l xs (first_walker l)).here
 
 abbrev pub drawn : Lattice → List (S.Symbol ℤ) → List Vector
-drawn l xs = ends l xs (at_start l)
+drawn l xs = ends l xs (first_walker l)
 
 abbrev pub reach : Lattice → List (S.Symbol ℤ) → List Vector
-reach l xs = reached l xs (at_start l)
+reach l xs = places_reached l xs (first_walker l)
 
 abbrev pub walker : Stand → List Stand → Walker
 walker h hs = record { here = h; saved = hs }

@@ -11,14 +11,14 @@ use Rattle.lsys_lattice.specs.declared.hexagonal.HexagonalFrame.{HexagonalFrame}
 use Rattle.lsys_lattice.specs.declared.hexagonal.HexagonalFrame.TheVariants as hexagonal
 
 -- a frame of a flat lattice, by its heading and by the next heading to the left
-abbrev pub flat : Vector → Vector → Frame
-flat heading left = frame heading left (vector (pos 0) (pos 0) (pos 1))
+abbrev pub flat_frame : Vector → Vector → Frame
+flat_frame heading left = frame heading left (vector (pos 0) (pos 0) (pos 1))
 
 abbrev pub square_frame : SquareFrame → Frame
-square_frame square.North = flat (vector (pos 0) (pos 1) (pos 0)) (vector (negsuc 0) (pos 0) (pos 0))
-square_frame square.West = flat (vector (negsuc 0) (pos 0) (pos 0)) (vector (pos 0) (negsuc 0) (pos 0))
-square_frame square.South = flat (vector (pos 0) (negsuc 0) (pos 0)) (vector (pos 1) (pos 0) (pos 0))
-square_frame square.East = flat (vector (pos 1) (pos 0) (pos 0)) (vector (pos 0) (pos 1) (pos 0))
+square_frame square.North = flat_frame (vector (pos 0) (pos 1) (pos 0)) (vector (negsuc 0) (pos 0) (pos 0))
+square_frame square.West = flat_frame (vector (negsuc 0) (pos 0) (pos 0)) (vector (pos 0) (negsuc 0) (pos 0))
+square_frame square.South = flat_frame (vector (pos 0) (negsuc 0) (pos 0)) (vector (pos 1) (pos 0) (pos 0))
+square_frame square.East = flat_frame (vector (pos 1) (pos 0) (pos 0)) (vector (pos 0) (pos 1) (pos 0))
 
 pub square_upright : (f : SquareFrame) → IsUpright (square_frame f)
 square_upright square.North = refl
@@ -46,12 +46,12 @@ pub square_faithful : (f g : SquareFrame) → square_frame f ≡ square_frame g 
 square_faithful f g e = sym (square_read f) ∙ ap (λ h. square_at h.heading.x h.heading.y) e ∙ square_read g
 
 abbrev pub hexagonal_frame : HexagonalFrame → Frame
-hexagonal_frame hexagonal.East = flat (vector (pos 1) (pos 0) (pos 0)) (vector (pos 0) (pos 1) (pos 0))
-hexagonal_frame hexagonal.NorthEast = flat (vector (pos 0) (pos 1) (pos 0)) (vector (negsuc 0) (pos 1) (pos 0))
-hexagonal_frame hexagonal.NorthWest = flat (vector (negsuc 0) (pos 1) (pos 0)) (vector (negsuc 0) (pos 0) (pos 0))
-hexagonal_frame hexagonal.West = flat (vector (negsuc 0) (pos 0) (pos 0)) (vector (pos 0) (negsuc 0) (pos 0))
-hexagonal_frame hexagonal.SouthWest = flat (vector (pos 0) (negsuc 0) (pos 0)) (vector (pos 1) (negsuc 0) (pos 0))
-hexagonal_frame hexagonal.SouthEast = flat (vector (pos 1) (negsuc 0) (pos 0)) (vector (pos 1) (pos 0) (pos 0))
+hexagonal_frame hexagonal.East = flat_frame (vector (pos 1) (pos 0) (pos 0)) (vector (pos 0) (pos 1) (pos 0))
+hexagonal_frame hexagonal.NorthEast = flat_frame (vector (pos 0) (pos 1) (pos 0)) (vector (negsuc 0) (pos 1) (pos 0))
+hexagonal_frame hexagonal.NorthWest = flat_frame (vector (negsuc 0) (pos 1) (pos 0)) (vector (negsuc 0) (pos 0) (pos 0))
+hexagonal_frame hexagonal.West = flat_frame (vector (negsuc 0) (pos 0) (pos 0)) (vector (pos 0) (negsuc 0) (pos 0))
+hexagonal_frame hexagonal.SouthWest = flat_frame (vector (pos 0) (negsuc 0) (pos 0)) (vector (pos 1) (negsuc 0) (pos 0))
+hexagonal_frame hexagonal.SouthEast = flat_frame (vector (pos 1) (negsuc 0) (pos 0)) (vector (pos 1) (pos 0) (pos 0))
 
 pub hexagonal_upright : (f : HexagonalFrame) → IsUpright (hexagonal_frame f)
 hexagonal_upright hexagonal.East = refl

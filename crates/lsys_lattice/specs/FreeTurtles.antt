@@ -5,7 +5,7 @@ use Rattle.lsys_syntax.specs.Strings as S
 use Rattle.lsys_spec.specs.Lattices.{Lattice}
 use Rattle.lsys_spec.specs.Pictures.{Stepped, turtle_step, Segment, segments_from, is_far, origin, segments_of}
 use Rattle.lsys_lattice.specs.Free.{turtle_of, ends_of, first_far}
-use Rattle.lsys_lattice.specs.Effects.{Walker, stepped, ends, reached, drawn, walked, at_start}
+use Rattle.lsys_lattice.specs.Effects.{Walker, stepped, ends, places_reached, drawn, walked, first_walker}
 use Rattle.lsys_lattice.specs.Bounds.{bounds_of, turtle_at}
 use Rattle.lsys_lattice.specs.Extents.{extents}
 
@@ -38,7 +38,7 @@ TurtlesDrawWhereNothingIsFar =
 abbrev pub NothingIsFarWhereAllPlacesAreNear : Type 0
 NothingIsFarWhereAllPlacesAreNear =
     (l : Lattice) (n : ℕ) (w : Walker) (xs : List (S.Symbol ℤ))
-    → (first_far l n w xs ≡ None) ↔ (list_all (λ v. not (is_far v)) (reached l xs w) ≡ true)
+    → (first_far l n w xs ≡ None) ↔ (list_all (λ v. not (is_far v)) (places_reached l xs w) ≡ true)
 
 -- how far a picture reaches is told by the ends that the effect of its image draws
 abbrev pub BoundsAreToldByDrawnEnds : Type 0
@@ -51,4 +51,4 @@ abbrev pub TurtlesStandOnTheFreeWay : Type 0
 TurtlesStandOnTheFreeWay =
     (l : Lattice) (n : ℕ) (ys : List (S.Symbol ℤ)) (gs : List Segment)
     → segments_of l ys ≡ Ok gs → n ≤ length ys
-    → turtle_at l n ys ≡ Some (turtle_of (walked l (take n ys) (at_start l)))
+    → turtle_at l n ys ≡ Some (turtle_of (walked l (take n ys) (first_walker l)))

@@ -3,7 +3,7 @@ use Rattle.std.specs.Prelude.{◌≡◌, ℕ, zero, suc, ◌+◌, ℤ, true, Res
 use Rattle.lsys_syntax.specs.Strings as S
 use Rattle.lsys_spec.specs.Systems.{System, Each}
 use Rattle.lsys_spec.specs.Values.{◌and_then◌}
-use Rattle.lsys_spec.specs.Levels.{Symbol, level_balanced}
+use Rattle.lsys_spec.specs.Levels.{LevelSymbol, level_balanced}
 use Rattle.lsys_spec.specs.Cuts.{cut_on}
 use Rattle.lsys_spec.specs.Meaning.{LevelRefusal, next_level}
 use Rattle.lsys_spec.specs.Images.{ImageRefusal, image}
@@ -19,7 +19,7 @@ abbrev pub HasBalancedImages : System → Type 0
 HasBalancedImages s = Each (λ h. S.balanced 0 h.rule.successor ≡ true) s.homomorphisms
 
 -- The image of a level has in its middle the image of the part alone.
-pub record HasPartImage (s : System) (before part behind : List Symbol) (ys : List (S.Symbol ℤ)) : Type 0 where
+pub record HasPartImage (s : System) (before part behind : List LevelSymbol) (ys : List (S.Symbol ℤ)) : Type 0 where
   pub left : List (S.Symbol ℤ)
   pub own : List (S.Symbol ℤ)
   pub right : List (S.Symbol ℤ)
@@ -31,12 +31,12 @@ pub record HasPartImage (s : System) (before part behind : List Symbol) (ys : Li
 -- 2. the levels below
 
 -- the level n levels below a level t
-abbrev pub level_below : System → ℕ → ℕ → List Symbol → Result (List Symbol) LevelRefusal
+abbrev pub level_below : System → ℕ → ℕ → List LevelSymbol → Result (List LevelSymbol) LevelRefusal
 level_below s t zero x = Ok x
 level_below s t (suc n) x = next_level s t x and_then λ y. level_below s (suc t) n y
 
 -- Level t is `before ++ (part ++ behind)`: in the level y, n levels below, the descendants of the part stand side by side, and are balanced.
-abbrev pub HasDescendants : System → ℕ → ℕ → List Symbol → List Symbol → List Symbol → List Symbol → Type 0
+abbrev pub HasDescendants : System → ℕ → ℕ → List LevelSymbol → List LevelSymbol → List LevelSymbol → List LevelSymbol → Type 0
 HasDescendants s t zero before part behind y = (level_balanced 0 part ≡ true) × (y ≡ before ++ (part ++ behind))
 HasDescendants s t (suc n) before part behind y =
-    (z : List Symbol) × (below : HasPartBelow s t before part behind z) × HasDescendants s (suc t) n below.left (cut_on below.cutting below.raw) below.right y
+    (z : List LevelSymbol) × (below : HasPartBelow s t before part behind z) × HasDescendants s (suc t) n below.left (cut_on below.cutting below.raw) below.right y

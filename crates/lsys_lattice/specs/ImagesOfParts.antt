@@ -3,7 +3,7 @@ use Rattle.std.specs.Prelude.{◌≡◌, ℕ, List, ◌++◌, ℤ, Ok, true, [],
 use Rattle.lsys_syntax.specs.Strings as S
 use Rattle.lsys_syntax.specs.Strings.{balanced}
 use Rattle.lsys_spec.specs.Systems.{Homomorphism, System}
-use Rattle.lsys_spec.specs.Levels.{Symbol, level_balanced, ModuleValue, Module}
+use Rattle.lsys_spec.specs.Levels.{LevelSymbol, level_balanced, ModuleValue, Module}
 use Rattle.lsys_spec.specs.Images.{image_from, image}
 use Rattle.lsys_spec.specs.LevelLaws.{HasBalance}
 use Rattle.lsys_lattice.specs.Nodes.{modules_in}
@@ -13,33 +13,33 @@ use Rattle.lsys_lattice.specs.Images.{and_behind, HasPartImage, HasBalancedImage
 -- the first refusal is the whole's
 abbrev pub ImagesStandSideBySide : Type 0
 ImagesStandSideBySide =
-    (hs : List Homomorphism) (n k : ℕ) (x y : List Symbol)
+    (hs : List Homomorphism) (n k : ℕ) (x y : List LevelSymbol)
     → image_from hs n k (x ++ y)
     ≡ and_behind (image_from hs n k x) k (λ j. image_from hs (modules_in n x) j y)
 
 -- of a whole image each part is the image of that part alone
 abbrev pub PartsHaveTheirImages : Type 0
 PartsHaveTheirImages =
-    (s : System) (before part behind : List Symbol) (ys : List (S.Symbol ℤ))
+    (s : System) (before part behind : List LevelSymbol) (ys : List (S.Symbol ℤ))
     → image s (before ++ (part ++ behind)) ≡ Ok ys → HasPartImage s before part behind ys
 
 -- balanced parts have balanced images
 abbrev pub BalancedPartsHaveBalancedImages : Type 0
 BalancedPartsHaveBalancedImages =
-    (s : System) (x : List Symbol) (ys : List (S.Symbol ℤ)) → HasBalancedImages s
+    (s : System) (x : List LevelSymbol) (ys : List (S.Symbol ℤ)) → HasBalancedImages s
     → level_balanced 0 x ≡ true → image s x ≡ Ok ys → balanced 0 ys ≡ true
 
 -- the descendants of a balanced part stand side by side in each level below, and are balanced there
 abbrev pub PartsHaveTheirDescendants : Type 0
 PartsHaveTheirDescendants =
-    (s : System) (t n : ℕ) (before part behind y : List Symbol) → HasBalance s
+    (s : System) (t n : ℕ) (before part behind y : List LevelSymbol) → HasBalance s
     → level_balanced 0 part ≡ true → level_below s t n (before ++ (part ++ behind)) ≡ Ok y
     → HasDescendants s t n before part behind y
 
 -- so do those of a module, which is such a part
 abbrev pub ModulesHaveTheirDescendants : Type 0
 ModulesHaveTheirDescendants =
-    (s : System) (t n : ℕ) (before behind y : List Symbol) (line : List ℕ) (m : ModuleValue)
+    (s : System) (t n : ℕ) (before behind y : List LevelSymbol) (line : List ℕ) (m : ModuleValue)
     → HasBalance s
     → level_below s t n (before ++ (Module line m ∷ behind)) ≡ Ok y
     → HasDescendants s t n before (Module line m ∷ []) behind y

@@ -7,7 +7,7 @@ use Rattle.lsys_spec.specs.Pictures.{act, Segment, origin, segments_of}
 use Rattle.lsys_lattice.specs.Extents.{Extents, AreCarried, extents}
 use Rattle.lsys_lattice.specs.Effects.{Stand}
 use Rattle.lsys_lattice.specs.Bounds.{bounds_of}
-use Rattle.lsys_lattice.specs.Motions.{carried_extents, AreSeen, seen_from, motion, joined, Motion, IsJoined, at_rest, branched, motion_of_act, united}
+use Rattle.lsys_lattice.specs.Motions.{carried_extents, AreSeen, seen_from, motion, joined_motions, Motion, IsJoined, at_rest, branched, motion_of_act, united}
 
 -- what a frame makes of the extents of places is told by the extents alone
 abbrev pub FramesCarryExtents : Type 0
@@ -27,7 +27,7 @@ abbrev pub MotionsAreJoined : Type 0
 MotionsAreJoined =
     (l : Lattice) (xs ys : List (S.Symbol ℤ)) → balanced 0 xs ≡ true
     → balanced 0 ys ≡ true
-    → motion l (xs ++ ys) ≡ joined l (motion l xs) (motion l ys)
+    → motion l (xs ++ ys) ≡ joined_motions l (motion l xs) (motion l ys)
 
 -- whatever is joined of the two motions is that motion
 abbrev pub WhatIsJoinedIsTheMotion : Type 0
@@ -35,27 +35,27 @@ WhatIsJoinedIsTheMotion =
     (l : Lattice) (xs ys : List (S.Symbol ℤ)) (whole : Motion)
     → balanced 0 xs ≡ true → balanced 0 ys ≡ true
     → IsJoined l (motion l xs) (motion l ys) whole
-    → whole ≡ joined l (motion l xs) (motion l ys)
+    → whole ≡ joined_motions l (motion l xs) (motion l ys)
 
 -- it doesn't matter which motions are joined first
 abbrev pub JoiningIsAssociative : Type 0
 JoiningIsAssociative =
     (l : Lattice) (xs ys zs : List (S.Symbol ℤ))
     → balanced 0 xs ≡ true → balanced 0 ys ≡ true → balanced 0 zs ≡ true
-    → joined l (joined l (motion l xs) (motion l ys)) (motion l zs)
-    ≡ joined l (motion l xs) (joined l (motion l ys) (motion l zs))
+    → joined_motions l (joined_motions l (motion l xs) (motion l ys)) (motion l zs)
+    ≡ joined_motions l (motion l xs) (joined_motions l (motion l ys) (motion l zs))
 
 -- rest before a motion adds nothing
 abbrev pub RestBeforeAddsNothing : Type 0
 RestBeforeAddsNothing =
     (l : Lattice) (xs : List (S.Symbol ℤ)) → balanced 0 xs ≡ true
-    → joined l (at_rest l 0) (motion l xs) ≡ motion l xs
+    → joined_motions l (at_rest l 0) (motion l xs) ≡ motion l xs
 
 -- nor does rest behind one
 abbrev pub RestBehindAddsNothing : Type 0
 RestBehindAddsNothing =
     (l : Lattice) (xs : List (S.Symbol ℤ)) → balanced 0 xs ≡ true
-    → joined l (motion l xs) (at_rest l 0) ≡ motion l xs
+    → joined_motions l (motion l xs) (at_rest l 0) ≡ motion l xs
 
 -- a branch leads nowhere, and draws and reaches what is in it
 abbrev pub BranchesLeadNowhere : Type 0

@@ -7,7 +7,7 @@ use Rattle.lsys_spec.specs.Lattices.{Lattice, square, hexagonal, cubic, Vector, 
 use Rattle.lsys_spec.specs.Pictures.{Act}
 use Rattle.lsys_lattice.specs.Rotations.{plus, carried, measures}
 use Rattle.lsys_lattice.specs.Extents.{Extents, extents, AreCarried}
-use Rattle.lsys_lattice.specs.Effects.{Stand, done, drawn_ends, place_reached, at_start, stand_from, effect, drawn, reach}
+use Rattle.lsys_lattice.specs.Effects.{Stand, done, drawn_ends, place_reached, first_walker, stand_from, effect, drawn, reach}
 
 pub record Motion : Type 0 where
   pub symbols : ℕ
@@ -26,15 +26,15 @@ motion l xs = record { symbols = length xs; effect = effect l xs; drawn = extent
 -- 1. of no symbol, of one, and of a branch
 
 abbrev pub at_rest : Lattice → ℕ → Motion
-at_rest l n = record { symbols = n; effect = (at_start l).here; drawn = None; reached = None }
+at_rest l n = record { symbols = n; effect = (first_walker l).here; drawn = None; reached = None }
 
 abbrev pub motion_of_act : Lattice → Act → Motion
 motion_of_act l a =
-    let start = (at_start l).here in
+    let start = (first_walker l).here in
     record { symbols = 1; effect = done l a start; drawn = extents_or_none l (drawn_ends a start); reached = extents_or_none l (place_reached a start) }
 
 abbrev pub branched : Lattice → Motion → Motion
-branched l m = record { symbols = m.symbols + 2; effect = (at_start l).here; drawn = m.drawn; reached = m.reached }
+branched l m = record { symbols = m.symbols + 2; effect = (first_walker l).here; drawn = m.drawn; reached = m.reached }
 
 -- 2. of two strings one behind the other
 
@@ -91,8 +91,8 @@ abbrev pub seen_from : Lattice → Stand → Option Extents → Option Extents
 seen_from l from None = None
 seen_from l from (Some e) = Some (shifted_by l from.place (carried_extents l from.frame e))
 
-abbrev pub joined : Lattice → Motion → Motion → Motion
-joined l m n = record {
+abbrev pub joined_motions : Lattice → Motion → Motion → Motion
+joined_motions l m n = record {
   symbols = m.symbols + n.symbols;
   effect = stand_from l m.effect n.effect;
   drawn = united m.drawn (seen_from l m.effect n.drawn);

@@ -4,7 +4,7 @@ use Rattle.std.specs.Prelude.{◌≡◌, ℤ, true, List, Contains, ◌++◌, []
 use Rattle.lsys_syntax.specs.Strings.{balanced}
 use Rattle.lsys_syntax.specs.Strings as S
 use Rattle.lsys_spec.specs.Lattices.{Lattice, frames}
-use Rattle.lsys_lattice.specs.Effects.{Stand, walker, walked, stand_from, effect, at_start, place_from, drawn, reach, reached}
+use Rattle.lsys_lattice.specs.Effects.{Stand, walker, walked, stand_from, effect, first_walker, place_from, drawn, reach, places_reached}
 
 -- from any turtle the way over a balanced string ends where its
 -- effect does, carried there, and what was saved stays
@@ -24,7 +24,7 @@ EffectsAreMultiplied =
 abbrev pub BranchesHaveNoEffect : Type 0
 BranchesHaveNoEffect =
     (l : Lattice) (xs : List (S.Symbol ℤ)) → balanced 0 xs ≡ true
-    → effect l (S.Push ∷ xs ++ S.Pop ∷ []) ≡ (at_start l).here
+    → effect l (S.Push ∷ xs ++ S.Pop ∷ []) ≡ (first_walker l).here
 
 -- the ends that the second string draws are carried behind the effect of the first
 abbrev pub DrawnEndsAreCarriedOn : Type 0
@@ -43,4 +43,4 @@ abbrev pub ReachedPlacesAreTheSameAnywhere : Type 0
 ReachedPlacesAreTheSameAnywhere =
     (l : Lattice) (from : Stand) (below : List Stand) (xs : List (S.Symbol ℤ))
     → Contains (frames l) from.frame → balanced 0 xs ≡ true
-    → reached l xs (walker from below) ≡ map (place_from l from) (reach l xs)
+    → places_reached l xs (walker from below) ≡ map (place_from l from) (reach l xs)

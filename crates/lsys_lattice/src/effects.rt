@@ -4,8 +4,8 @@ ghost use Rattle.std.specs.Prelude.{◌≡◌};
 ghost use Rattle.lsys_spec.specs.Lattices.{Lattice, Vector, Frame, first_frame};
 ghost use Rattle.lsys_spec.specs.Pictures as pictures;
 ghost use Rattle.lsys_lattice.specs.Free.{turtle_of};
-ghost use Rattle.lsys_lattice.specs.Rotations.{carried, followed};
-ghost use Rattle.lsys_lattice.specs.Effects.{at_start};
+ghost use Rattle.lsys_lattice.specs.Rotations.{carried, frame_within};
+ghost use Rattle.lsys_lattice.specs.Effects.{first_walker};
 ghost use Rattle.lsys_lattice.specs.CarriedFrames.{FramesCarrySumsToSums, FramesCarryMultiplesToMultiples, FollowedFramesCarryInTurn, FollowingIsAssociative, TurnsPassThroughFollowing, FollowingStaysAmongFrames};
 ghost use Rattle.lsys_lattice.specs.MultipliedEffects.{EffectsAreTheSameAnywhere, EffectsAreMultiplied, BranchesHaveNoEffect, DrawnEndsAreCarriedOn, ReachedPlacesAreCarriedOn, ReachedPlacesAreTheSameAnywhere};
 ghost use Rattle.lsys_lattice.specs.BalancedParts.{CutsLeaveBalancedParts, ChildrenOfPartsStandSideBySide};
@@ -25,7 +25,7 @@ pub fn law_of_carrying()
 pub fn law_of_following()
     ensures carries { FollowedFramesCarryInTurn }
     ensures associative { FollowingIsAssociative }
-    ensures start { (l : Lattice) (f : Frame) → followed l f (first_frame l) ≡ f }
+    ensures start { (l : Lattice) (f : Frame) → frame_within l f (first_frame l) ≡ f }
     ensures turns { TurnsPassThroughFollowing }
     ensures known { FollowingStaysAmongFrames }
 {}
@@ -56,7 +56,7 @@ pub fn law_of_nodes()
 /// The turtle of a picture begins as the free way does, and goes as it, as far as no module leads too far: it stops exactly
 /// at the first module that does, and draws the same ends. No module does exactly where no place that is reached is too far.
 pub fn law_of_free_turtles()
-    ensures start { (l : Lattice) → turtle_of (at_start l) ≡ pictures.at_start l }
+    ensures start { (l : Lattice) → turtle_of (first_walker l) ≡ pictures.at_start l }
     ensures step { TurtlesStepAsTheFreeWay }
     ensures ends { TurtlesDrawTheEndsOfTheFreeWay }
     ensures far { TurtlesStopAtTheFirstFarModule }

@@ -10,7 +10,7 @@ ghost use Rattle.lsys_spec.specs.Lattices.{Frame, frames, IsUpright, first_frame
 ghost use Rattle.lsys_spec.specs.Lattices.{Lattice as Kind};
 ghost use Rattle.lsys_spec.specs.Lattices.{Turn as SpecTurn};
 ghost use Rattle.lsys_lattice.specs.Extents.{AreCarried};
-ghost use Rattle.lsys_lattice.specs.Rotations.{carried, followed, measures};
+ghost use Rattle.lsys_lattice.specs.Rotations.{carried, frame_within, measures};
 ghost use Rattle.lsys_lattice.specs.Views.{turn_of, vector_of};
 ghost use Rattle.lsys_lattice.specs.Wide.{AreBelow, IsBelow, extents_of, wide_of};
 
@@ -124,7 +124,7 @@ pub trait Lattice {
     /// The frame that lies in this one as `inner` does in the first one: it is reached from here by the turns that lead from the
     /// first frame to `inner`.
     fn follow(frame: Self::Frame, inner: Self::Frame) -> Self::Frame
-        ensures { frame_of result ≡ followed shape (frame_of frame) (frame_of inner) };
+        ensures { frame_of result ≡ frame_within shape (frame_of frame) (frame_of inner) };
 
     /// What is measured of a place: x, y and z on the square and the cubic lattice, and q, r and q + r on the hexagonal one.
     ///

@@ -20,7 +20,7 @@ use Rattle.lsys_spec.specs.Output.{out, replies_from, reply_or_memory, memory_or
 abbrev pub Keeps : ℕ → (System → Type 0) → Type 0
 Keeps limit P =
     (s : System) (c : Command) → P s → IsCommand c → nesting c ≤ nesting_bound → refusal s c ≡ None
-    → (levels : List (List L.Symbol)) → levels_of limit (changed s c) ≡ Ok levels → P (changed s c)
+    → (levels : List (List L.LevelSymbol)) → levels_of limit (changed s c) ≡ Ok levels → P (changed s c)
 
 abbrev chosen : Bool → Reply → Reply → Reply
 chosen b r q = elim b [ true ↦ r | false ↦ q ]
@@ -30,7 +30,7 @@ module _ (limit : ℕ) (P : System → Type 0) (keeps : Keeps limit P) where
   shown_keeps s text (Ok a) w = w
   shown_keeps s text (Err why) w = w
 
-  edited_keeps : (s next : System) (a : Result (List (List L.Symbol)) (List ℕ)) → P s → ((levels : List (List L.Symbol)) → a ≡ Ok levels → P next) → P (edited limit s next a).next
+  edited_keeps : (s next : System) (a : Result (List (List L.LevelSymbol)) (List ℕ)) → P s → ((levels : List (List L.LevelSymbol)) → a ≡ Ok levels → P next) → P (edited limit s next a).next
   edited_keeps s next (Ok levels) w k = k levels refl
   edited_keeps s next (Err why) w k = w
 

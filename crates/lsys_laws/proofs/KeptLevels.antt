@@ -17,7 +17,7 @@ none_over m = grind (arith, nat_tests)
 pub opening_levels : (limit : ℕ) → HasLevels limit opening
 opening_levels limit = ([] ∷ [], rw (none_over limit) refl)
 
-by_meaning : (limit : ℕ) (s : System) (r : Result (List (List L.Symbol)) LevelRefusal) → meaning s limit ≡ r → (levels : List (List L.Symbol)) → or_text derivation_text r ≡ Ok levels → HasLevels limit s
+by_meaning : (limit : ℕ) (s : System) (r : Result (List (List L.LevelSymbol)) LevelRefusal) → meaning s limit ≡ r → (levels : List (List L.LevelSymbol)) → or_text derivation_text r ≡ Ok levels → HasLevels limit s
 by_meaning limit s (Ok xs) e levels h = (xs, e)
 by_meaning limit s (Err r) e levels h = cc
 

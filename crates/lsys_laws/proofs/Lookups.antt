@@ -4,7 +4,7 @@ use Rattle.std.specs.Prelude.{option_map}
 use Rattle.std.proofs.lemmas.Bool.{eqb-true}
 use Rattle.lsys_spec.specs.Systems.{System, Each}
 use Rattle.lsys_spec.specs.Bodies.{Body, group}
-use Rattle.lsys_spec.specs.Levels.{Symbol, Push, Pop, Module, lineage}
+use Rattle.lsys_spec.specs.Levels.{LevelSymbol, Push, Pop, Module, lineage}
 use Rattle.lsys_spec.specs.Equalities.{same_lineage}
 use Rattle.lsys_spec.specs.Questions.{Question, question, where_any, questions_from, questions_at, questions_below, question_at}
 use Rattle.lsys_spec.specs.Standings.{first_or, place_of}
@@ -48,11 +48,11 @@ elsewhere [] q qs t l f = refl
 elsewhere (b ∷ bs) q qs t l f = ap (λ c. cond c (Some q) (question_at t l qs)) (false_and (q.level == t) (same_lineage l (lineage q.own)) (not_same q.level t f))
 
 -- a lineage that stands first stands nowhere else
-gone : (u : Symbol) (x : List Symbol) (l : List ℕ) → Distinct (u ∷ x) → same_lineage l (lineage u) ≡ true → place_of l x ≡ None
+gone : (u : LevelSymbol) (x : List LevelSymbol) (l : List ℕ) → Distinct (u ∷ x) → same_lineage l (lineage u) ≡ true → place_of l x ≡ None
 gone u x l h e = ap (λ l. place_of l x) (same_lineage_true l (lineage u) e) ∙ place_behind u x h
 
 -- a symbol without a question, and with one
-past : (u : Symbol) (rest : List Symbol) (l : List ℕ) (os : List (Option Question)) (r : Option Question) → Distinct (u ∷ rest) → r ≡ kept_at os (place_of l rest)
+past : (u : LevelSymbol) (rest : List LevelSymbol) (l : List ℕ) (os : List (Option Question)) (r : Option Question) → Distinct (u ∷ rest) → r ≡ kept_at os (place_of l rest)
     → r ≡ kept_at (None ∷ os) (place_of l (u ∷ rest))
 past u rest l os r h e = by (same_lineage l (lineage u)) refl
   where
@@ -60,7 +60,7 @@ past u rest l os r h e = by (same_lineage l (lineage u)) refl
     by true k = rw k (e ∙ ap (kept_at os) (gone u rest l h k))
     by false k = rw k (e ∙ sym (later None os (place_of l rest)))
 
-here : (u : Symbol) (rest : List Symbol) (t : ℕ) (l : List ℕ) (os : List (Option Question)) (bs : List Body) (q : Question) (qs : List Question) → Distinct (u ∷ rest) → q.level ≡ t → lineage q.own ≡ lineage u
+here : (u : LevelSymbol) (rest : List LevelSymbol) (t : ℕ) (l : List ℕ) (os : List (Option Question)) (bs : List Body) (q : Question) (qs : List Question) → Distinct (u ∷ rest) → q.level ≡ t → lineage q.own ≡ lineage u
     → question_at t l qs ≡ kept_at os (place_of l rest) → question_at t l (where_any bs q qs) ≡ kept_at (where_grouped bs q ∷ os) (place_of l (u ∷ rest))
 here u rest t l os bs q qs h f o e = by (same_lineage l (lineage u)) refl
   where
@@ -68,7 +68,7 @@ here u rest t l os bs q qs h f o e = by (same_lineage l (lineage u)) refl
     by true k = rw k (hit bs q qs t l f (ap (same_lineage l) o ∙ k) (e ∙ ap (kept_at os) (gone u rest l h k)))
     by false k = rw k (miss bs q qs t l (ap (same_lineage l) o ∙ k) ∙ e ∙ sym (later (where_grouped bs q) os (place_of l rest)))
 
-looked_up : (s : System) (t : ℕ) (x : List Symbol) (p : ℕ) (rest : List Symbol) → Distinct rest → (l : List ℕ) → question_at t l (questions_from s t x p rest) ≡ kept_at (questions_by_place s t x p rest) (place_of l rest)
+looked_up : (s : System) (t : ℕ) (x : List LevelSymbol) (p : ℕ) (rest : List LevelSymbol) → Distinct rest → (l : List ℕ) → question_at t l (questions_from s t x p rest) ≡ kept_at (questions_by_place s t x p rest) (place_of l rest)
 looked_up s t x p [] h l = refl
 looked_up s t x p (Push k ∷ rest) h l = past (Push k) rest l (questions_by_place s t x (p + 1) rest) (question_at t l (questions_from s t x (p + 1) rest)) h (looked_up s t x (p + 1) rest h.1 l)
 looked_up s t x p (Pop k ∷ rest) h l = past (Pop k) rest l (questions_by_place s t x (p + 1) rest) (question_at t l (questions_from s t x (p + 1) rest)) h (looked_up s t x (p + 1) rest h.1 l)
@@ -82,7 +82,7 @@ one_present : (bs : List Body) (q : Question) (qs : List Question) (os : List (O
 one_present [] q qs os e = e
 one_present (b ∷ bs) q qs os e = ap (λ qs. q ∷ qs) e
 
-pub all_present : (s : System) (t : ℕ) (x : List Symbol) (p : ℕ) (rest : List Symbol) → questions_from s t x p rest ≡ present (questions_by_place s t x p rest)
+pub all_present : (s : System) (t : ℕ) (x : List LevelSymbol) (p : ℕ) (rest : List LevelSymbol) → questions_from s t x p rest ≡ present (questions_by_place s t x p rest)
 all_present s t x p [] = refl
 all_present s t x p (Push k ∷ rest) = all_present s t x (p + 1) rest
 all_present s t x p (Pop k ∷ rest) = all_present s t x (p + 1) rest
@@ -92,7 +92,7 @@ all_present s t x p (Module k m ∷ rest) =
 
 -- 2. in another level
 
-other_level : (s : System) (n t : ℕ) (x : List Symbol) (p : ℕ) (rest : List Symbol) (l : List ℕ) → (n ≡ t → ⊥) → question_at t l (questions_from s n x p rest) ≡ None
+other_level : (s : System) (n t : ℕ) (x : List LevelSymbol) (p : ℕ) (rest : List LevelSymbol) (l : List ℕ) → (n ≡ t → ⊥) → question_at t l (questions_from s n x p rest) ≡ None
 other_level s n t x p [] l f = refl
 other_level s n t x p (Push k ∷ rest) l f = other_level s n t x (p + 1) rest l f
 other_level s n t x p (Pop k ∷ rest) l f = other_level s n t x (p + 1) rest l f
@@ -129,7 +129,7 @@ nothing_kept : (m : Option ℕ) → kept_at [] m ≡ None
 nothing_kept None = refl
 nothing_kept (Some p) = refl
 
-past_levels : (s : System) (n t : ℕ) (levels : List (List Symbol)) (l : List ℕ) → t < n → question_at t l (questions_below s n levels) ≡ None
+past_levels : (s : System) (n t : ℕ) (levels : List (List LevelSymbol)) (l : List ℕ) → t < n → question_at t l (questions_below s n levels) ≡ None
 past_levels s n t [] l h = refl
 past_levels s n t (x ∷ []) l h = refl
 past_levels s n t (x ∷ y ∷ levels) l h =
@@ -137,7 +137,7 @@ past_levels s n t (x ∷ y ∷ levels) l h =
     ∙ none_then _ _ (other_level s n t x 0 x l (λ e. omega (arith, h, e))) ∙ past_levels s (n + 1) t (y ∷ levels) l (omega (arith, h))
 
 -- what is kept of the level i places behind level n
-pub kept_there : (s : System) (n t : ℕ) (levels : List (List Symbol)) (i : ℕ) (l : List ℕ) → n + i ≡ t → Each Distinct levels
+pub kept_there : (s : System) (n t : ℕ) (levels : List (List LevelSymbol)) (i : ℕ) (l : List ℕ) → n + i ≡ t → Each Distinct levels
     → question_at t l (questions_below s n levels) ≡ kept_at (kept_from s n levels i) (place_of l (get_or levels i []))
 kept_there s n t [] i l e h = sym (nothing_kept (place_of l (get_or [] i [])))
 kept_there s n t (x ∷ []) i l e h = sym (nothing_kept (place_of l (get_or (x ∷ []) i [])))

@@ -3,7 +3,7 @@ use Rattle.std.proofs.Common.{◌≡◌, ℕ, zero, suc, Bool, true, false, ◌&
 use Rattle.std.specs.Prelude.{slice_get, ◌↔◌}
 use Rattle.lsys_spec.specs.Systems.{System, WellSpelled}
 use Rattle.lsys_spec.specs.Bodies.{group}
-use Rattle.lsys_spec.specs.Levels.{ModuleValue, Symbol, Module, lineage}
+use Rattle.lsys_spec.specs.Levels.{ModuleValue, LevelSymbol, Module, lineage}
 use Rattle.lsys_spec.specs.Equalities.{same_lineage}
 use Rattle.lsys_spec.specs.Questions.{Question, question, questions, question_at, is_needed}
 use Rattle.lsys_spec.specs.Meaning.{meaning}
@@ -19,16 +19,16 @@ module_same : (l l' : List ℕ) (m m' : ModuleValue) → Module l m ≡ Module l
 module_same l l' m m' e = cc
 
 -- the parts by which a question was asked
-record Parts (s : System) (t : ℕ) (x : List Symbol) (p : ℕ) (l : List ℕ) (m : ModuleValue) (q : Question) : Type 0 where
+record Parts (s : System) (t : ℕ) (x : List LevelSymbol) (p : ℕ) (l : List ℕ) (m : ModuleValue) (q : Question) : Type 0 where
   is : q ≡ question s t (group s t m.name (length m.params)) x p l m
 
-moved : (s : System) (t t' : ℕ) (x x' : List Symbol) (p p' : ℕ) (l l' : List ℕ) (m m' : ModuleValue)
+moved : (s : System) (t t' : ℕ) (x x' : List LevelSymbol) (p p' : ℕ) (l l' : List ℕ) (m m' : ModuleValue)
     → t ≡ t' → x ≡ x' → p ≡ p' → l ≡ l' → m ≡ m'
     → question s t (group s t m.name (length m.params)) x p l m ≡ question s t' (group s t' m'.name (length m'.params)) x' p' l' m'
 moved s t t' x x' p p' l l' m m' a b c d e = λ i. question s (a i) (group s (a i) (e i).name (length (e i).params)) (b i) (c i) (d i) (e i)
 
 -- two questions of a system at one level and lineage are one
-same_asked : (s : System) (xs : List (List Symbol)) (q r : Question) → Derived s xs → IsAsked s xs q → IsAsked s xs r
+same_asked : (s : System) (xs : List (List LevelSymbol)) (q r : Question) → Derived s xs → IsAsked s xs q → IsAsked s xs r
     → q.level ≡ r.level → lineage q.own ≡ lineage r.own → q ≡ r
 same_asked s xs q r d a b t e =
     let level : a.level ≡ b.level = some_same a.level b.level (sym a.there ∙ ap (slice_get xs) t ∙ b.there) in
@@ -62,7 +62,7 @@ found_among t l (r ∷ qs) q h = by_test (eqb r.level t && same_lineage l (linea
     by_test true f k = (0, k)
     by_test false f k = let e = f k in (suc e.0, e.1)
 
-pub among : (old new : System) (limit limit' : ℕ) (xs ys : List (List Symbol)) → WellSpelled old → WellSpelled new → meaning old limit ≡ Ok xs → meaning new limit' ≡ Ok ys
+pub among : (old new : System) (limit limit' : ℕ) (xs ys : List (List LevelSymbol)) → WellSpelled old → WellSpelled new → meaning old limit ≡ Ok xs → meaning new limit' ≡ Ok ys
     → (i : ℕ) (q : Question) → slice_get (questions new ys) i ≡ Some q
     → (is_needed (questions old xs) q ≡ false) ↔ ((k : ℕ) × (slice_get (questions old xs) k ≡ Some q))
 among old new limit limit' xs ys w w' h h' i q g =

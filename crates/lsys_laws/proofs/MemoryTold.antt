@@ -7,7 +7,7 @@ use Rattle.lsys_syntax.specs.Lines.{lines_of}
 use Rattle.lsys_spec.specs.Systems.{System, WellSpelled, opening}
 use Rattle.lsys_spec.specs.Refusals.{Reply, refused_memory, line_feed}
 use Rattle.lsys_spec.specs.Replies.{reply}
-use Rattle.lsys_spec.specs.Output.{out, replies_from, followed, memory_or, may_lack_memory, output_text, IsFront}
+use Rattle.lsys_spec.specs.Output.{out, replies_from, reply_followed, memory_or, may_lack_memory, output_text, IsFront}
 use Rattle.lsys_laws.specs.Sessions.{IsWell}
 use Rattle.lsys_laws.proofs.KeptPlain.{opening_well}
 use Rattle.lsys_laws.proofs.KeptWhole.{reply_kept}
@@ -87,14 +87,14 @@ by_end true r xs ys f h = refl
 by_end false r xs ys f h = ap (λ l. r ∷ l) (f (append_cancel_left r.text (output_text xs) (output_text ys) h))
 
 same_reply : (r : Reply) (f g : System → List Reply) → (output_text (f r.next) ≡ output_text (g r.next) → f r.next ≡ g r.next)
-    → output_text (followed r f) ≡ output_text (followed r g) → followed r f ≡ followed r g
+    → output_text (reply_followed r f) ≡ output_text (reply_followed r g) → reply_followed r f ≡ reply_followed r g
 same_reply r f g k h = by_end r.ends r (f r.next) (g r.next) k (sym (split r (behind r.ends (f r.next))) ∙ h ∙ split r (behind r.ends (g r.next)))
 
 none_behind : (ends : Bool) (rs : List Reply) → ends ≡ true → output_text (behind ends rs) ≡ []
 none_behind true rs h = refl
 none_behind false rs h = cc
 
-other_reply : (s : System) (r : Reply) (f g : System → List Reply) → Told true r → output_text (followed (refused_memory s) f) ≡ output_text (followed r g) → ⊥
+other_reply : (s : System) (r : Reply) (f g : System → List Reply) → Told true r → output_text (reply_followed (refused_memory s) f) ≡ output_text (reply_followed r g) → ⊥
 other_reply s r f g (silent m n e) h = true≢false m
 other_reply s r f g (tells t) h =
     differ s r (output_text (f s)) (output_text (behind r.ends (g r.next))) t (none_behind r.ends (g r.next))
@@ -102,8 +102,8 @@ other_reply s r f g (tells t) h =
 
 one_step : (may m k : Bool) (s : System) (r : Reply) (f g : System → List Reply) → Told may r → IsWell s → IsWell r.next
     → ((t : System) → IsWell t → output_text (f t) ≡ output_text (g t) → f t ≡ g t)
-    → output_text (followed (memory_or (m && may) s r) f) ≡ output_text (followed (memory_or (k && may) s r) g)
-    → followed (memory_or (m && may) s r) f ≡ followed (memory_or (k && may) s r) g
+    → output_text (reply_followed (memory_or (m && may) s r) f) ≡ output_text (reply_followed (memory_or (k && may) s r) g)
+    → reply_followed (memory_or (m && may) s r) f ≡ reply_followed (memory_or (k && may) s r) g
 one_step may false false s r f g t w v ih h = same_reply r f g (ih r.next v) h
 one_step false true false s r f g t w v ih h = same_reply r f g (ih r.next v) h
 one_step false false true s r f g t w v ih h = same_reply r f g (ih r.next v) h

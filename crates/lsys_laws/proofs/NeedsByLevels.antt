@@ -6,7 +6,7 @@ use Rattle.std.proofs.lemmas.List.Elements.{filter-append}
 use Rattle.std.proofs.lemmas.List.Sums.{sum_by-cons}
 use Rattle.lsys_spec.specs.Systems.{System, Each}
 use Rattle.lsys_spec.specs.Bodies.{Body, group}
-use Rattle.lsys_spec.specs.Levels.{Symbol, Push, Pop, Module, lineage}
+use Rattle.lsys_spec.specs.Levels.{LevelSymbol, Push, Pop, Module, lineage}
 use Rattle.lsys_spec.specs.Questions.{Question, question, where_any, questions_from, questions_at, questions_below, questions, question_at, differs, is_needed, least_visits}
 use Rattle.lsys_spec.specs.Standings.{place_of}
 use Rattle.lsys_spec.specs.Cuts.{Distinct}
@@ -21,8 +21,8 @@ one olds (b ∷ bs) q qs o os ns e h =
     ap (λ o. cond (differs q o) (q ∷ filter (is_needed olds) qs) (filter (is_needed olds) qs)) e ∙ ap (λ ns. cond (differs q o) (q ∷ ns) ns) h
 
 -- one level, where the old questions of that level are found by the places of an old level x
-of_level : (olds : List Question) (kept : List (Option Question)) (x : List Symbol) (s : System) (t : ℕ) → ((l : List ℕ) → question_at t l olds ≡ kept_at kept (place_of l x))
-    → (y : List Symbol) (p : ℕ) (rest : List Symbol)
+of_level : (olds : List Question) (kept : List (Option Question)) (x : List LevelSymbol) (s : System) (t : ℕ) → ((l : List ℕ) → question_at t l olds ≡ kept_at kept (place_of l x))
+    → (y : List LevelSymbol) (p : ℕ) (rest : List LevelSymbol)
     → filter (is_needed olds) (questions_from s t y p rest) ≡ unanswered (map (kept_at kept) (places_in x rest)) (questions_by_place s t y p rest)
 of_level olds kept x s t f y p [] = refl
 of_level olds kept x s t f y p (Push l ∷ rest) = of_level olds kept x s t f y (p + 1) rest
@@ -32,7 +32,7 @@ of_level olds kept x s t f y p (Module l m ∷ rest) =
     one olds bs (question s t bs y p l m) (questions_from s t y (p + 1) rest) (kept_at kept (place_of l x)) (map (kept_at kept) (places_in x rest)) (questions_by_place s t y (p + 1) rest) (f l)
     (of_level olds kept x s t f y (p + 1) rest)
 
-pub of_levels : (old new : System) (xs : List (List Symbol)) → Each Distinct xs → (t : ℕ) (ys : List (List Symbol)) → filter (is_needed (questions old xs)) (questions_below new t ys) ≡ needs_from old new xs t ys
+pub of_levels : (old new : System) (xs : List (List LevelSymbol)) → Each Distinct xs → (t : ℕ) (ys : List (List LevelSymbol)) → filter (is_needed (questions old xs)) (questions_below new t ys) ≡ needs_from old new xs t ys
 of_levels old new xs h t [] = refl
 of_levels old new xs h t (y ∷ []) = refl
 of_levels old new xs h t (y ∷ z ∷ ys) =

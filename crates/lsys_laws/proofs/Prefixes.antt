@@ -6,7 +6,7 @@ use Rattle.lsys_syntax.specs.Pieces.{Every}
 use Rattle.lsys_syntax.specs.Strings.{ModuleName, named, plus, minus, ampersand, caret, backslash, slash, bar, bang, IsModuleName}
 use Rattle.lsys_syntax.proofs.Bytes.{differs}
 use Rattle.lsys_spec.specs.Systems.{Each}
-use Rattle.lsys_spec.specs.Levels.{Symbol, Push, Pop, Module}
+use Rattle.lsys_spec.specs.Levels.{LevelSymbol, Push, Pop, Module}
 use Rattle.lsys_spec.specs.Output.{IsFront}
 use Rattle.lsys_spec.specs.Shown.{level_text}
 use Rattle.lsys_spec.proofs.Names.{NamedSymbol}
@@ -54,10 +54,10 @@ one_letter : (ls : List ℕ) → Every is_letter ls → (c : ℕ) (more : List �
 one_letter [] h c more k f = first_false (32 == c) (begins [] more) (no_blank c k)
 one_letter (d ∷ ls) h c more k f = second_false (d == c) (begins (ls ++ 32 ∷ []) more) (f ls h.1)
 
-abbrev line_of : List Symbol → List ℕ → List ℕ
+abbrev line_of : List LevelSymbol → List ℕ → List ℕ
 line_of x rest = level_text x ++ 10 ∷ rest
 
-module_first : (n : ModuleName) (ps : List ℤ) (l : List ℕ) (x : List Symbol) (rest : List ℕ) → IsModuleName n
+module_first : (n : ModuleName) (ps : List ℤ) (l : List ℕ) (x : List LevelSymbol) (rest : List ℕ) → IsModuleName n
     → ((ls : List ℕ) → Every is_letter ls → begins (ls ++ 32 ∷ []) (line_of x rest) ≡ false)
     → (ls : List ℕ) → Every is_letter ls → begins (ls ++ 32 ∷ []) (line_of (Module l (record { name = n; params = ps }) ∷ x) rest) ≡ false
 module_first (named (short c)) [] l x rest g f ls h = one_letter ls h c (line_of x rest) g f
@@ -73,7 +73,7 @@ module_first bar ps l x rest g f ls h = other_byte ls h 124 _ refl refl
 module_first bang ps l x rest g f ls h = other_byte ls h 33 _ refl refl
 
 -- a printed level never begins with letters and a blank
-pub no_word : (x : List Symbol) → Each NamedSymbol x → (rest : List ℕ) (ls : List ℕ) → Every is_letter ls → begins (ls ++ 32 ∷ []) (level_text x ++ 10 ∷ rest) ≡ false
+pub no_word : (x : List LevelSymbol) → Each NamedSymbol x → (rest : List ℕ) (ls : List ℕ) → Every is_letter ls → begins (ls ++ 32 ∷ []) (level_text x ++ 10 ∷ rest) ≡ false
 no_word [] g rest ls h = other_byte ls h 10 rest refl refl
 no_word (Push l ∷ x) g rest ls h = other_byte ls h 91 _ refl refl
 no_word (Pop l ∷ x) g rest ls h = other_byte ls h 93 _ refl refl

@@ -24,7 +24,7 @@ use Rattle.lsys_spec.specs.Shown.{as_put, as_put_homomorphism, as_set_own, numbe
 use Rattle.lsys_syntax.specs.Strings.{Symbol, Module, Push, Pop, Cut}
 use Rattle.lsys_spec.specs.Numbers.{code_of}
 use Rattle.lsys_spec.specs.Cuts.{cut_on, cut}
-use Rattle.lsys_spec.specs.Output.{out, replies_from, followed, any_refusal, last_system, none}
+use Rattle.lsys_spec.specs.Output.{out, replies_from, reply_followed, any_refusal, last_system, none}
 use Rattle.lsys_spec.proofs.Applied.{apply_all, commands-applied, written-back}
 use Rattle.lsys_spec.proofs.ShownBack.{shown-plain}
 use Rattle.lsys_spec.proofs.Eachs.{each_append}
@@ -77,7 +77,7 @@ query_no_edit limit s quit h = absurd (true≢false h)
 
 -- the system has its levels under the limit
 abbrev IsLeveled : ℕ → System → Type 0
-IsLeveled limit s = (levels : List (List L.Symbol)) × (levels_of limit s ≡ Ok levels)
+IsLeveled limit s = (levels : List (List L.LevelSymbol)) × (levels_of limit s ≡ Ok levels)
 
 -- it is an edit that leaves t
 abbrev Leads : ℕ → System → System → List ℕ → Type 0
@@ -106,17 +106,17 @@ not_over m n h = grind (arith, nat_tests)
 under : (m n : ℕ) → nat_lt m n ≡ false → n ≤ m
 under m n h = grind (arith, nat_tests)
 
-one_length : (x : List L.Symbol) → sum_by length (x ∷ []) ≡ length x
+one_length : (x : List L.LevelSymbol) → sum_by length (x ∷ []) ≡ length x
 one_length x = sum_by-cons length x [] ∙ omega arith
 
-one_level : (limit t : ℕ) (x : List L.Symbol) → length x ≤ limit → within_limit limit t (x ∷ []) ≡ Ok (x ∷ [])
+one_level : (limit t : ℕ) (x : List L.LevelSymbol) → length x ≤ limit → within_limit limit t (x ∷ []) ≡ Ok (x ∷ [])
 one_level limit t x h = rw (one_length x) (rw (not_over limit (length x) h))
 
 light_levels : (limit : ℕ) (s : System) → IsLight limit s → IsLeveled limit s
 light_levels limit s h = (first_level s ∷ [], rw h.depth (rw (one_level limit 0 (first_level s) h.small) refl))
 
 -- a level is there only where the first one is
-first_under : (limit t : ℕ) (s : System) (levels : List (List L.Symbol)) → meaning_to s limit t ≡ Ok levels → length (first_level s) ≤ limit
+first_under : (limit t : ℕ) (s : System) (levels : List (List L.LevelSymbol)) → meaning_to s limit t ≡ Ok levels → length (first_level s) ≤ limit
 first_under limit zero s levels h = subst (λ n. n ≤ limit) (one_length (first_level s)) (by_test (nat_lt limit (sum_by length (first_level s ∷ []))) refl h)
   where
     by_test : (b : Bool) → nat_lt limit (sum_by length (first_level s ∷ [])) ≡ b → within_limit limit 0 (first_level s ∷ []) ≡ Ok levels → sum_by length (first_level s ∷ []) ≤ limit
@@ -124,8 +124,8 @@ first_under limit zero s levels h = subst (λ n. n ≤ limit) (one_length (first
     by_test true e k = cc
 first_under limit (suc t) s levels h = by_meaning (meaning_to s limit t) refl (λ ls e. first_under limit t s ls e) h
   where
-    by_meaning : (r : Result (List (List L.Symbol)) LevelRefusal) → meaning_to s limit t ≡ r
-        → ((ls : List (List L.Symbol)) → meaning_to s limit t ≡ Ok ls → length (first_level s) ≤ limit)
+    by_meaning : (r : Result (List (List L.LevelSymbol)) LevelRefusal) → meaning_to s limit t ≡ r
+        → ((ls : List (List L.LevelSymbol)) → meaning_to s limit t ≡ Ok ls → length (first_level s) ≤ limit)
         → (r and_then λ ls. next_level s t (last_level ls) and_then λ x. within_limit limit (suc t) (ls ++ x ∷ [])) ≡ Ok levels → length (first_level s) ≤ limit
     by_meaning (Ok ls) e f k = f ls e
     by_meaning (Err r) e f k = cc
@@ -251,12 +251,12 @@ step_on : (limit n : ℕ) (s t u : System) (c : Command) (cs : List Command) →
     → Ends (replies_from (reply limit) none (n + 1) t (map line_text cs)) u → Ends (replies_from (reply limit) none n s (map line_text (c ∷ cs))) u
 step_on limit n s t u c cs k e =
     let rest : System → List Reply = λ next. replies_from (reply limit) none (n + 1) next (map line_text cs) in
-    subst (λ rs. Ends rs u) (sym (ap (λ r. followed r rest) k.1)) (ends_later (said t k.0) (rest t) u refl e)
+    subst (λ rs. Ends rs u) (sym (ap (λ r. reply_followed r rest) k.1)) (ends_later (said t k.0) (rest t) u refl e)
 
 last_on : (limit n : ℕ) (s t : System) (c : Command) → Leads limit s t (line_text c) → Ends (replies_from (reply limit) none n s (map line_text (c ∷ []))) t
 last_on limit n s t c k =
     let rest : System → List Reply = λ next. replies_from (reply limit) none (n + 1) next [] in
-    subst (λ rs. Ends rs t) (sym (ap (λ r. followed r rest) k.1)) (record { first = said t k.0; more = []; is = refl; calm = refl; last = refl })
+    subst (λ rs. Ends rs t) (sym (ap (λ r. reply_followed r rest) k.1)) (record { first = said t k.0; more = []; is = refl; calm = refl; last = refl })
 
 -- what accepts all of them accepts the first
 goes_on : (r : Result System Refusal) (s : System) (cs : List Command) (d : Command) → apply_all r (cs ++ d ∷ []) ≡ Ok s → (t : System) × (r ≡ Ok t)
@@ -282,10 +282,10 @@ lines_are (x ∷ xs) a b c = ((a.0, b.0, c.0), lines_are xs a.1 b.1 c.1)
 opening_light : (limit : ℕ) → IsLight limit opening
 opening_light limit = record { depth = refl; small = omega arith }
 
-levels_text : (limit : ℕ) (s : System) (levels : List (List L.Symbol)) → meaning s limit ≡ Ok levels → levels_of limit s ≡ Ok levels
+levels_text : (limit : ℕ) (s : System) (levels : List (List L.LevelSymbol)) → meaning s limit ≡ Ok levels → levels_of limit s ≡ Ok levels
 levels_text limit s levels h = rw h refl
 
-pub shown_replies : (limit : ℕ) (s : System) (levels : List (List L.Symbol)) → WellFormed s → WellSpelled s → meaning s limit ≡ Ok levels
+pub shown_replies : (limit : ℕ) (s : System) (levels : List (List L.LevelSymbol)) → WellFormed s → WellSpelled s → meaning s limit ≡ Ok levels
     → Each IsShortLine (lines_of (show_text s)) → Ends (out (reply limit) (show_text s) none) s
 shown_replies limit s levels w v m h =
     let cut : lines_of (show_text s) ≡ map line_text (show_commands s) = lines_script (show_commands s) (shown_lines s w v) in

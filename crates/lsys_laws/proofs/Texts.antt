@@ -54,7 +54,7 @@ picture_tells (NoImage (ImageFault e n)) rest = refl
 picture_tells (NoImage ImageLimit) rest = refl
 picture_tells (Far n) rest = refl
 
-levels_why : (r : Result (List (List L.Symbol)) M.LevelRefusal) → Why_of (or_text derivation_text r)
+levels_why : (r : Result (List (List L.LevelSymbol)) M.LevelRefusal) → Why_of (or_text derivation_text r)
 levels_why (Ok xs) = tt
 levels_why (Err r) = derivation_tells r
 
@@ -62,7 +62,7 @@ drawn_why : (r : Result (List Segment) PictureRefusal) → Why_of (or_text pictu
 drawn_why (Ok gs) = tt
 drawn_why (Err r) = picture_tells r
 
-picture_why : (s : System) (r : Result (List (List L.Symbol)) (List ℕ)) → Why_of r → Why_of (picture_of s r)
+picture_why : (s : System) (r : Result (List (List L.LevelSymbol)) (List ℕ)) → Why_of r → Why_of (picture_of s r)
 picture_why s (Ok xs) h = drawn_why (picture s (M.last_level xs))
 picture_why s (Err why) h = h
 
@@ -70,31 +70,31 @@ shown_tells : {A : Type 0} (s : System) (text : A → List ℕ) (a : Result A (L
 shown_tells s text (Ok a) h f = answers refl (f a refl)
 shown_tells s text (Err why) h f = refused_tells s why h
 
-edited_tells : (limit : ℕ) (s next : System) (a : Result (List (List L.Symbol)) (List ℕ)) → Why_of a → Telling (edited limit s next a)
+edited_tells : (limit : ℕ) (s next : System) (a : Result (List (List L.LevelSymbol)) (List ℕ)) → Why_of a → Telling (edited limit s next a)
 edited_tells limit s next (Ok levels) h = answers refl (λ rest. refl)
 edited_tells limit s next (Err why) h = refused_tells s why h
 
 -- the printed level
 
-last_named : (levels : List (List L.Symbol)) → ((t : ℕ) (x : List L.Symbol) → slice_get levels t ≡ Some x → NamedLevel x) → NamedLevel (M.last_level levels)
+last_named : (levels : List (List L.LevelSymbol)) → ((t : ℕ) (x : List L.LevelSymbol) → slice_get levels t ≡ Some x → NamedLevel x) → NamedLevel (M.last_level levels)
 last_named [] f = tt
 last_named (x ∷ []) f = f 0 x refl
 last_named (x ∷ y ∷ xs) f = last_named (y ∷ xs) (λ t z e. f (suc t) z e)
 
-or_empty_named : (o : Option (List L.Symbol)) → ((x : List L.Symbol) → o ≡ Some x → NamedLevel x) → NamedLevel (or_empty o)
+or_empty_named : (o : Option (List L.LevelSymbol)) → ((x : List L.LevelSymbol) → o ≡ Some x → NamedLevel x) → NamedLevel (or_empty o)
 or_empty_named None f = tt
 or_empty_named (Some x) f = f x refl
 
-at_named : (t : Option ℕ) (levels : List (List L.Symbol)) → ((t : ℕ) (x : List L.Symbol) → slice_get levels t ≡ Some x → NamedLevel x) → NamedLevel (level_at t levels)
+at_named : (t : Option ℕ) (levels : List (List L.LevelSymbol)) → ((t : ℕ) (x : List L.LevelSymbol) → slice_get levels t ≡ Some x → NamedLevel x) → NamedLevel (level_at t levels)
 at_named None levels f = last_named levels f
 at_named (Some t) levels f = or_empty_named (slice_get levels t) (f t)
 
-string_tells : (t : Option ℕ) (levels : List (List L.Symbol)) → ((t : ℕ) (x : List L.Symbol) → slice_get levels t ≡ Some x → NamedLevel x) → (rest : List ℕ) → begins (codes "refused ") (string_line t levels ++ rest) ≡ false
+string_tells : (t : Option ℕ) (levels : List (List L.LevelSymbol)) → ((t : ℕ) (x : List L.LevelSymbol) → slice_get levels t ≡ Some x → NamedLevel x) → (rest : List ℕ) → begins (codes "refused ") (string_line t levels ++ rest) ≡ false
 string_tells t levels f rest =
     let x = level_at t levels in
     rw append_assoc (no_word x (at_named t levels f) rest (codes "refused") (refl, (refl, (refl, (refl, (refl, (refl, (refl, tt))))))))
 
-ok_levels : (r : Result (List (List L.Symbol)) M.LevelRefusal) (levels : List (List L.Symbol)) → or_text derivation_text r ≡ Ok levels → r ≡ Ok levels
+ok_levels : (r : Result (List (List L.LevelSymbol)) M.LevelRefusal) (levels : List (List L.LevelSymbol)) → or_text derivation_text r ≡ Ok levels → r ≡ Ok levels
 ok_levels (Ok xs) levels h = cc
 ok_levels (Err r) levels h = cc
 

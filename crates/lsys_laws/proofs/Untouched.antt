@@ -4,8 +4,8 @@ use Rattle.std.specs.Prelude.{slice_get, ◌↔◌, not}
 use Rattle.std.proofs.lemmas.Option.{get_or_from_slice_get}
 use Rattle.lsys_spec.specs.Systems.{System, Each, WellSpelled}
 use Rattle.lsys_spec.specs.Bodies.{filter}
-use Rattle.lsys_spec.specs.Levels.{Symbol, lineage}
-use Rattle.lsys_spec.specs.Walks.{Entry, lineages_named, any}
+use Rattle.lsys_spec.specs.Levels.{LevelSymbol, lineage}
+use Rattle.lsys_spec.specs.Walks.{Entry, lineages_named, any_holds}
 use Rattle.lsys_spec.specs.Meaning.{meaning}
 use Rattle.lsys_spec.specs.Equalities.{same_number, same_option, same_all, same_symbol, same_body, same_entry}
 use Rattle.lsys_spec.specs.Questions.{Question, questions, question_at}
@@ -21,8 +21,8 @@ use Rattle.lsys_laws.specs.Candidates.{IsUntouched}
 
 -- 1. what is read
 
-module _ (x y : List Symbol) (u : NamedLevel x) (v : NamedLevel y) where
-  settled_all : (ls : List (List ℕ)) → any (is_disturbed x y) ls ≡ false → Each (Settled x y) ls
+module _ (x y : List LevelSymbol) (u : NamedLevel x) (v : NamedLevel y) where
+  settled_all : (ls : List (List ℕ)) → any_holds (is_disturbed x y) ls ≡ false → Each (Settled x y) ls
   settled_all [] h = tt
   settled_all (l ∷ ls) h = let n = none_of (is_disturbed x y) l ls h in ((disturbed x y l u v).0 n.0, settled_all ls n.1)
 
@@ -34,14 +34,14 @@ module _ (x y : List Symbol) (u : NamedLevel x) (v : NamedLevel y) where
   none_either true b h k = h
   none_either false b h k = k
 
-  none_all : (ls : List (List ℕ)) → Each (Settled x y) ls → any (is_disturbed x y) ls ≡ false
+  none_all : (ls : List (List ℕ)) → Each (Settled x y) ls → any_holds (is_disturbed x y) ls ≡ false
   none_all [] h = refl
-  none_all (l ∷ ls) h = any_is (is_disturbed x y) l ls ∙ none_either (is_disturbed x y l) (any (is_disturbed x y) ls) ((disturbed x y l u v).1 h.0) (none_all ls h.1)
+  none_all (l ∷ ls) h = any_is (is_disturbed x y) l ls ∙ none_either (is_disturbed x y l) (any_holds (is_disturbed x y) ls) ((disturbed x y l u v).1 h.0) (none_all ls h.1)
 
   none_read : (es : List Entry) → NoneDisturbed x y es → any_disturbed x y es ≡ false
   none_read [] h = refl
   none_read (e ∷ es) h =
-      any_is (reads_disturbed x y) e es ∙ none_either (reads_disturbed x y e) (any (reads_disturbed x y) es) (none_all (lineages_named e) h.0) (none_read es h.1)
+      any_is (reads_disturbed x y) e es ∙ none_either (reads_disturbed x y e) (any_holds (reads_disturbed x y) es) (none_all (lineages_named e) h.0) (none_read es h.1)
 
 -- 2. one question
 
@@ -68,7 +68,7 @@ same_parts q =
     let d = both (same_option same_number q.key q.key) (same_all same_entry q.trace q.trace) c.1 in
     record { own = b.0; bodies = c.0; key = d.0 }
 
-touched_false : (old new : System) (x y : List Symbol) (asked : List Question) (q : Question) → NamedLevel x → NamedLevel y → (f : IsUntouched old new x y asked q) → is_touched old new x y f.was q ≡ false
+touched_false : (old new : System) (x y : List LevelSymbol) (asked : List Question) (q : Question) → NamedLevel x → NamedLevel y → (f : IsUntouched old new x y asked q) → is_touched old new x y f.was q ≡ false
 touched_false old new x y asked q u v f =
     let was : Question = f.was in
     let s : Same q = same_parts q in
@@ -78,7 +78,7 @@ touched_false old new x y asked q u v f =
     none_of_four (not (same_symbol was.own q.own && (same_all same_body was.bodies q.bodies && same_option same_number was.key q.key))) (is_disturbed x y (lineage q.own)) (any_disturbed x y was.trace) (not (free q.bodies || same_filter (filter old q.level) (filter new q.level)))
     (not_true _ (all_true _ _ _ own bodies key)) ((disturbed x y (lineage q.own) u v).1 f.settled) (none_read x y u v was.trace f.read) (not_true _ f.ignored)
 
-untouched : (old new : System) (x y : List Symbol) (asked : List Question) (was q : Question) → NamedLevel x → NamedLevel y
+untouched : (old new : System) (x y : List LevelSymbol) (asked : List Question) (was q : Question) → NamedLevel x → NamedLevel y
     → (is_touched old new x y was q ≡ false → (was.own ≡ q.own) × (was.bodies ≡ q.bodies) × (was.key ≡ q.key))
     → question_at q.level (lineage q.own) asked ≡ Some was → is_touched old new x y was q ≡ false → IsUntouched old new x y asked q
 untouched old new x y asked was q u v parts e h =
@@ -99,7 +99,7 @@ untouched old new x y asked was q u v parts e h =
 
 -- 3. in systems
 
-same_parts_true : (old new : System) (xs ys : List (List Symbol)) → Derived old xs → Derived new ys → (was q : Question) → IsAsked old xs was → IsAsked new ys q → (x y : List Symbol)
+same_parts_true : (old new : System) (xs ys : List (List LevelSymbol)) → Derived old xs → Derived new ys → (was q : Question) → IsAsked old xs was → IsAsked new ys q → (x y : List LevelSymbol)
     → is_touched old new x y was q ≡ false → (was.own ≡ q.own) × (was.bodies ≡ q.bodies) × (was.key ≡ q.key)
 same_parts_true old new xs ys dx dy was q a b x y h =
     let n = neither (not (same_symbol was.own q.own && (same_all same_body was.bodies q.bodies && same_option same_number was.key q.key))) _ h in
@@ -110,11 +110,11 @@ same_parts_true old new xs ys dx dy was q a b x y h =
       same_plain_option same_number same_number_true was.key q.key more.1,
     )
 
-named_there : (s : System) (xs : List (List Symbol)) (q : Question) → Derived s xs → IsAsked s xs q → (t : ℕ) → q.level ≡ t → NamedLevel (get_or xs t [])
+named_there : (s : System) (xs : List (List LevelSymbol)) (q : Question) → Derived s xs → IsAsked s xs q → (t : ℕ) → q.level ≡ t → NamedLevel (get_or xs t [])
 named_there s xs q d a t e =
     subst (λ t. NamedLevel (get_or xs t [])) e (subst NamedLevel (sym (get_or_from_slice_get xs q.level a.level [] a.there)) (d.names q.level a.level a.there))
 
-pub exact : (old new : System) (limit limit' : ℕ) (xs ys : List (List Symbol)) → WellSpelled old → WellSpelled new → meaning old limit ≡ Ok xs → meaning new limit' ≡ Ok ys
+pub exact : (old new : System) (limit limit' : ℕ) (xs ys : List (List LevelSymbol)) → WellSpelled old → WellSpelled new → meaning old limit ≡ Ok xs → meaning new limit' ≡ Ok ys
     → (i : ℕ) (q : Question) → slice_get (questions new ys) i ≡ Some q
     → (may_differ old new xs ys q ≡ false) ↔ IsUntouched old new (get_or xs q.level []) (get_or ys q.level []) (questions old xs) q
 exact old new limit limit' xs ys w w' h h' i q g = (forth (question_at q.level (lineage q.own) (questions old xs)) refl, back)

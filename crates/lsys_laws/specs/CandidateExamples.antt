@@ -1,7 +1,7 @@
 -- Examples of the definitions of lsys_spec, which the checker computes: questions that an edit touches, and one that it doesn't.
 use Rattle.std.specs.Prelude.{◌≡◌, ℕ, Bool, true, false, Ok, Err, List, [], ◌∷◌, ◌++◌, map, length, codes, refl}
 use Rattle.lsys_spec.specs.Systems.{System}
-use Rattle.lsys_spec.specs.Levels.{Symbol}
+use Rattle.lsys_spec.specs.Levels.{LevelSymbol}
 use Rattle.lsys_spec.specs.Meaning.{meaning}
 use Rattle.lsys_spec.specs.Questions.{Question, questions, is_needed, least_visits}
 use Rattle.lsys_spec.specs.LevelLaws.{may_differ, candidate_visits}
@@ -12,7 +12,7 @@ use Rattle.lsys_spec.specs.Output.{out, none, last_system}
 abbrev after : List ℕ → System
 after script = last_system (out (reply 100000) script none)
 
-abbrev levels_after : List ℕ → List (List Symbol)
+abbrev levels_after : List ℕ → List (List LevelSymbol)
 levels_after script = elim (meaning (after script) 100000) [ Ok levels ↦ levels | Err r ↦ [] ]
 
 abbrev questions_after : List ℕ → List Question

@@ -5,7 +5,7 @@ use Rattle.lsys_syntax.specs.Tokens.{short}
 use Rattle.lsys_syntax.specs.Strings.{named}
 use Rattle.lsys_syntax.specs.Strings as S
 use Rattle.lsys_spec.specs.Systems.{same_name}
-use Rattle.lsys_spec.specs.Levels.{Symbol, ModuleValue, Push, Pop, Module, lineage, items_from}
+use Rattle.lsys_spec.specs.Levels.{LevelSymbol, ModuleValue, Push, Pop, Module, lineage, items_from}
 use Rattle.lsys_spec.specs.Bodies.{Pattern, Done, OneOf, BranchOf}
 use Rattle.lsys_spec.specs.Images.{ImageLimit, image_from}
 use Rattle.lsys_spec.specs.Meaning.{first_level}
@@ -19,7 +19,7 @@ use Rattle.lsys_spec.specs.Output.{out, none, last_system}
 pub limits_of_runs : most_script_bytes ∷ usual_module_limit ∷ greatest_module_limit ∷ [] ≡ 16777216 ∷ 100000 ∷ 1000000 ∷ []
 limits_of_runs = refl
 
-abbrev letter : ℕ → List ℕ → Symbol
+abbrev letter : ℕ → List ℕ → LevelSymbol
 letter c l = Module l (record { name = named (short c); params = [] })
 
 -- each symbol counts, brackets too, and what stands before
@@ -35,7 +35,7 @@ no_room_for_a_bracket = refl
 pub text_of_image_limit : image_text ImageLimit ≡ codes "image"
 text_of_image_limit = refl
 
-abbrev first_after : List ℕ → List Symbol
+abbrev first_after : List ℕ → List LevelSymbol
 first_after script = first_level (last_system (out (reply 100000) script none))
 
 -- what is cut off has its places too
@@ -62,7 +62,7 @@ is_e n = same_name n (named (short 69))
 abbrev pattern : ℕ → Pattern
 pattern c = record { name = named (short c); arity = 0 }
 
-abbrev line : List Symbol
+abbrev line : List LevelSymbol
 line = first_after (codes "axiom AE[B[C]D]G[A][BF]EC")
 
 pub paths : map (path is_e line) (0 ∷ 1 ∷ 3 ∷ 7 ∷ 9 ∷ []) ≡ [] ∷ values (codes "A") ∷ values (codes "A") ∷ values (codes "AB") ∷ values (codes "A") ∷ []

@@ -12,7 +12,7 @@ use Rattle.lsys_spec.specs.Morphisms.{rewritten, raw_plain}
 use Rattle.lsys_syntax.specs.Nesting.{expr_nesting}
 use Rattle.lsys_spec.specs.Draws.{unsplit}
 use Rattle.lsys_spec.specs.Lattices.{turn_left, turn_right, pitch_down, pitch_up, roll_left, roll_right, turn_round, inverse, vector, cross}
-use Rattle.lsys_spec.specs.Levels.{Symbol, Push, Pop, Module, close_of, level_balanced}
+use Rattle.lsys_spec.specs.Levels.{LevelSymbol, Push, Pop, Module, close_of, level_balanced}
 use Rattle.lsys_spec.specs.Cuts.{Raw, Plain, Cut, raw_balanced, is_cut_off, kept}
 use Rattle.lsys_spec.specs.Walks.{Mark, Compared, Ignored, Out, Branched}
 use Rattle.lsys_spec.specs.Equalities.{same_entry}
@@ -23,7 +23,7 @@ use Rattle.lsys_spec.specs.Output.{out, none, any_refusal, any_memory, last_syst
 pub unsplit_places : map (unsplit 1) (None ∷ Some 0 ∷ Some 1 ∷ Some 2 ∷ Some 3 ∷ []) ≡ None ∷ Some 0 ∷ Some 1 ∷ Some 1 ∷ Some 2 ∷ []
 unsplit_places = refl
 
-abbrev a_module : ℕ → Symbol
+abbrev a_module : ℕ → LevelSymbol
 a_module c = Module [] (record { name = named (short c); params = [] })
 
 abbrev open_bracket : Raw

@@ -2,7 +2,7 @@
 use Rattle.std.specs.Prelude.{◌≡◌, ℕ, false, Ok, List}
 use Rattle.lsys_syntax.specs.Lines.{lines_of}
 use Rattle.lsys_spec.specs.Systems.{System, Each, WellFormed, WellSpelled}
-use Rattle.lsys_spec.specs.Levels.{Symbol}
+use Rattle.lsys_spec.specs.Levels.{LevelSymbol}
 use Rattle.lsys_spec.specs.Meaning.{meaning}
 use Rattle.lsys_spec.specs.Refusals.{is_long}
 use Rattle.lsys_spec.specs.Replies.{reply}
@@ -15,7 +15,7 @@ IsWell s = WellFormed s × WellSpelled s
 
 -- it has its levels under the limit
 abbrev pub HasLevels : ℕ → System → Type 0
-HasLevels limit s = (levels : List (List Symbol)) × (meaning s limit ≡ Ok levels)
+HasLevels limit s = (levels : List (List LevelSymbol)) × (meaning s limit ≡ Ok levels)
 
 -- no line of its printed script is too long
 abbrev pub HasShortLines : System → Type 0

@@ -6,7 +6,7 @@ use Rattle.std.proofs.lemmas.List.{take_more, take_all, length_push}
 use Rattle.lsys_spec.specs.Levels.{plain}
 use Rattle.lsys_module.specs.Views.{string_of, symbol_of}
 use Rattle.lsys_module.specs.declared.symbol.Symbol.{Symbol}
-use Rattle.lsys_level.specs.Spots.{Seen, Push, Pop, Module, Spotted, named, level_at, level_by, with_lineage, spotted_at}
+use Rattle.lsys_level.specs.Spots.{Seen, Push, Pop, Module, Spotted, named, spots_at, level_by, with_lineage, spotted_at}
 use Rattle.lsys_level.specs.Views.{IsCopy}
 use Rattle.lsys_region.proofs.ListLemmas.{from_option_map}
 
@@ -46,25 +46,25 @@ copied x symbols s e front seen same naming =
     string_push symbols s ∙ ap (λ r. r ++ symbol_of s ∷ []) (front naming) ∙ ap (λ y. map plain (level_by naming (take (length symbols) x)) ++ y ∷ []) told
     ∙ sym (level_push naming (take (length symbols) x) a.0) ∙ ap (λ x. map plain (level_by naming x)) (sym upto)
 
-next_on : {S : Type 0} (level_of place_of : S → ℕ) (levels : List (List Spotted)) (level : ℕ) (spot : S) (symbols : List Symbol) (s : Symbol) (o : Option S) → IsNext level_of place_of (level_at levels level) level (Some spot) symbols
-    → MatchOption o (place_of spot + 1 ≡ length (level_at levels (level_of spot))) (λ n. (level_of n ≡ level_of spot) × (place_of n ≡ place_of spot + 1) × (place_of n < length (level_at levels (level_of spot))))
-    → IsNext level_of place_of (level_at levels level) level o (symbols ++ s ∷ [])
+next_on : {S : Type 0} (level_of place_of : S → ℕ) (levels : List (List Spotted)) (level : ℕ) (spot : S) (symbols : List Symbol) (s : Symbol) (o : Option S) → IsNext level_of place_of (spots_at levels level) level (Some spot) symbols
+    → MatchOption o (place_of spot + 1 ≡ length (spots_at levels (level_of spot))) (λ n. (level_of n ≡ level_of spot) × (place_of n ≡ place_of spot + 1) × (place_of n < length (spots_at levels (level_of spot))))
+    → IsNext level_of place_of (spots_at levels level) level o (symbols ++ s ∷ [])
 next_on level_of place_of levels level spot symbols s None here n =
     let more : length (symbols ++ s ∷ []) ≡ length symbols + 1 = length_push symbols s in
-    more ∙ ap (λ k. k + 1) (sym here.1) ∙ n ∙ ap (λ t. length (level_at levels t)) here.0
+    more ∙ ap (λ k. k + 1) (sym here.1) ∙ n ∙ ap (λ t. length (spots_at levels t)) here.0
 next_on level_of place_of levels level spot symbols s (Some next) here n =
     let more : length (symbols ++ s ∷ []) ≡ length symbols + 1 = length_push symbols s in
-    (n.0 ∙ here.0, n.1 ∙ ap (λ k. k + 1) here.1 ∙ sym more, subst (λ t. place_of next < length (level_at levels t)) here.0 n.2)
+    (n.0 ∙ here.0, n.1 ∙ ap (λ k. k + 1) here.1 ∙ sym more, subst (λ t. place_of next < length (spots_at levels t)) here.0 n.2)
 
 -- One symbol more is copied.
 pub copied_on : {S : Type 0} (level_of place_of : S → ℕ) (levels : List (List Spotted)) (level : ℕ) (spot : S) (symbols : List Symbol) (s : Symbol) (e : Seen) (o : Option S)
-    → Copying level_of place_of (level_at levels level) level (Some spot) symbols → option_map (λ a. a.seen) (spotted_at levels (level_of spot) (place_of spot)) ≡ Some e → symbol_of s ≡ plain (with_lineage [] e)
-    → MatchOption o (place_of spot + 1 ≡ length (level_at levels (level_of spot))) (λ n. (level_of n ≡ level_of spot) × (place_of n ≡ place_of spot + 1) × (place_of n < length (level_at levels (level_of spot))))
-    → Copying level_of place_of (level_at levels level) level o (symbols ++ s ∷ [])
+    → Copying level_of place_of (spots_at levels level) level (Some spot) symbols → option_map (λ a. a.seen) (spotted_at levels (level_of spot) (place_of spot)) ≡ Some e → symbol_of s ≡ plain (with_lineage [] e)
+    → MatchOption o (place_of spot + 1 ≡ length (spots_at levels (level_of spot))) (λ n. (level_of n ≡ level_of spot) × (place_of n ≡ place_of spot + 1) × (place_of n < length (spots_at levels (level_of spot))))
+    → Copying level_of place_of (spots_at levels level) level o (symbols ++ s ∷ [])
 copied_on level_of place_of levels level spot symbols s e o here seen same n =
-    let at : option_map (λ a. a.seen) (slice_get (level_at levels level) (length symbols)) ≡ Some e = ap (λ t. option_map (λ (a : Spotted). a.seen) (spotted_at levels t (length symbols))) (sym here.next.0) ∙ ap (λ p. option_map (λ (a : Spotted). a.seen) (spotted_at levels (level_of spot) p)) (sym here.next.1) ∙ seen in
+    let at : option_map (λ a. a.seen) (slice_get (spots_at levels level) (length symbols)) ≡ Some e = ap (λ t. option_map (λ (a : Spotted). a.seen) (spotted_at levels t (length symbols))) (sym here.next.0) ∙ ap (λ p. option_map (λ (a : Spotted). a.seen) (spotted_at levels (level_of spot) p)) (sym here.next.1) ∙ seen in
     record {
-      front = subst (λ k. IsCopy (take k (level_at levels level)) (symbols ++ s ∷ [])) (sym (length_push symbols s)) (copied (level_at levels level) symbols s e here.front at same);
+      front = subst (λ k. IsCopy (take k (spots_at levels level)) (symbols ++ s ∷ [])) (sym (length_push symbols s)) (copied (spots_at levels level) symbols s e here.front at same);
       next = next_on level_of place_of levels level spot symbols s o here.next n;
     }
 

@@ -9,7 +9,7 @@ use Rattle.lsys_module.specs.Views.{string_of, symbol_of}
 use Rattle.lsys_module.specs.declared.symbol.Symbol.{Symbol}
 use Rattle.lsys_module.specs.declared.symbol.Symbol.TheVariants.{Push, Pop, Cut, Module}
 use Rattle.lsys_level.specs.Spots as S
-use Rattle.lsys_level.specs.Spots.{Spotted, Seen, with_lineage, named, level_by, level_at, spotted_at}
+use Rattle.lsys_level.specs.Spots.{Spotted, Seen, with_lineage, named, level_by, spots_at, spotted_at}
 use Rattle.lsys_level.specs.Tags.{HasOwnTags, NamesLevels, TagsTell, ShowsLevels, IsNamed}
 use Rattle.lsys_level.specs.Places.{spots_of, has_cut}
 use Rattle.lsys_region.proofs.ListLemmas.{from_option_map}
@@ -59,7 +59,7 @@ behind_named (t ∷ ts) more (l ∷ ls) rest us n apart =
 
 -- 2. one naming for all levels
 
-one_named : (e : Seen) (y : L.Symbol) (l : List ℕ) → plain (with_lineage [] e) ≡ plain y → l ≡ lineage y → with_lineage l e ≡ y
+one_named : (e : Seen) (y : L.LevelSymbol) (l : List ℕ) → plain (with_lineage [] e) ≡ plain y → l ≡ lineage y → with_lineage l e ≡ y
 one_named S.Push (L.Push k) l e h = ap L.Push h
 one_named S.Push (L.Pop k) l e h = cc
 one_named S.Push (L.Module k m) l e h = cc
@@ -73,7 +73,7 @@ one_named (S.Module a) (L.Module k m) l e h =
     let v : a.params ≡ m.params = cc in
     ap (λ l. L.Module l a) h ∙ ap (λ n. L.Module k (record { name = n; params = a.params })) n ∙ ap (λ v. L.Module k (record { name = m.name; params = v })) v
 
-level_named : (naming : ℕ → List ℕ) (spots : List Spotted) (x : List L.Symbol) → map plain (level_by (λ tag. []) spots) ≡ map plain x → map naming (map (λ (s : Spotted). s.tag) spots) ≡ map lineage x → level_by naming spots ≡ x
+level_named : (naming : ℕ → List ℕ) (spots : List Spotted) (x : List L.LevelSymbol) → map plain (level_by (λ tag. []) spots) ≡ map plain x → map naming (map (λ (s : Spotted). s.tag) spots) ≡ map lineage x → level_by naming spots ≡ x
 level_named naming [] [] e h = refl
 level_named naming [] (y ∷ x) e h = cc
 level_named naming (s ∷ spots) [] e h = cc
@@ -95,25 +95,25 @@ tags_in : List (List Spotted) → List ℕ
 tags_in [] = []
 tags_in (spots ∷ levels) = map (λ (s : Spotted). s.tag) spots ++ tags_in levels
 
-lineages_in : List (List L.Symbol) → List (List ℕ)
+lineages_in : List (List L.LevelSymbol) → List (List ℕ)
 lineages_in [] = []
 lineages_in (x ∷ xs) = map lineage x ++ lineages_in xs
 
-no_level : (t : ℕ) → level_at [] t ≡ []
+no_level : (t : ℕ) → spots_at [] t ≡ []
 no_level zero = refl
 no_level (suc t) = refl
 
-no_symbols : (t : ℕ) (xs : List (List L.Symbol)) → xs ≡ [] → slice_index_or xs t [] ≡ []
+no_symbols : (t : ℕ) (xs : List (List L.LevelSymbol)) → xs ≡ [] → slice_index_or xs t [] ≡ []
 no_symbols zero [] e = refl
 no_symbols (suc t) [] e = refl
 no_symbols t (x ∷ xs) e = cc
 
-none_seen : (spots : List Spotted) (x : List L.Symbol) → map plain (level_by (λ tag. []) spots) ≡ map plain x → x ≡ [] → spots ≡ []
+none_seen : (spots : List Spotted) (x : List L.LevelSymbol) → map plain (level_by (λ tag. []) spots) ≡ map plain x → x ≡ [] → spots ≡ []
 none_seen [] x e h = refl
 none_seen (s ∷ spots) [] e h = cc
 none_seen (s ∷ spots) (y ∷ x) e h = cc
 
-none_named : (naming : ℕ → List ℕ) (spots : List Spotted) (x : List L.Symbol) → map plain (level_by (λ tag. []) spots) ≡ map plain x → spots ≡ [] → level_by naming spots ≡ x
+none_named : (naming : ℕ → List ℕ) (spots : List Spotted) (x : List L.LevelSymbol) → map plain (level_by (λ tag. []) spots) ≡ map plain x → spots ≡ [] → level_by naming spots ≡ x
 none_named naming [] [] e h = refl
 none_named naming [] (y ∷ x) e h = cc
 none_named naming (s ∷ spots) x e h = cc
@@ -129,33 +129,33 @@ own_apart spots levels own = record {
       (own.apart 0 0 p q a.0 b.0 a.1 b.1 (a.2 ∙ sym b.2)).1;
 }
 
-own_behind : (spots : List Spotted) (levels : List (List Spotted)) → HasOwnTags (spots ∷ levels) → (u p q t : ℕ) → slice_get (map (λ (s : Spotted). s.tag) spots) p ≡ Some t → slice_get (map (λ (s : Spotted). s.tag) (level_at levels u)) q ≡ Some t → ⊥
+own_behind : (spots : List Spotted) (levels : List (List Spotted)) → HasOwnTags (spots ∷ levels) → (u p q t : ℕ) → slice_get (map (λ (s : Spotted). s.tag) spots) p ≡ Some t → slice_get (map (λ (s : Spotted). s.tag) (spots_at levels u)) q ≡ Some t → ⊥
 own_behind spots levels own u p q t h k =
     let a = read_tag spots p t h in
-    let b = read_tag (level_at levels u) q t k in
+    let b = read_tag (spots_at levels u) q t k in
     let e : 0 ≡ suc u = (own.apart 0 (suc u) p q a.0 b.0 a.1 b.1 (a.2 ∙ sym b.2)).0 in
     absurd (omega (arith, e))
 
-as_long : (spots : List Spotted) (x : List L.Symbol) → map plain (level_by (λ tag. []) spots) ≡ map plain x → length (map lineage x) ≡ length (map (λ (s : Spotted). s.tag) spots)
+as_long : (spots : List Spotted) (x : List L.LevelSymbol) → map plain (level_by (λ tag. []) spots) ≡ map plain x → length (map lineage x) ≡ length (map (λ (s : Spotted). s.tag) spots)
 as_long [] [] e = refl
 as_long [] (y ∷ x) e = cc
 as_long (s ∷ spots) [] e = cc
 as_long (s ∷ spots) (y ∷ x) e = let d : map plain (level_by (λ tag. []) spots) ≡ map plain x = cc in ap suc (as_long spots x d)
 
-all_named : (levels : List (List Spotted)) (xs : List (List L.Symbol)) → HasOwnTags levels → ((t : ℕ) → map plain (level_by (λ tag. []) (level_at levels t)) ≡ map plain (slice_index_or xs t [])) → (t : ℕ)
-    → level_by (naming_of (tags_in levels) (lineages_in xs)) (level_at levels t) ≡ slice_index_or xs t []
+all_named : (levels : List (List Spotted)) (xs : List (List L.LevelSymbol)) → HasOwnTags levels → ((t : ℕ) → map plain (level_by (λ tag. []) (spots_at levels t)) ≡ map plain (slice_index_or xs t [])) → (t : ℕ)
+    → level_by (naming_of (tags_in levels) (lineages_in xs)) (spots_at levels t) ≡ slice_index_or xs t []
 unfolding tags_in lineages_in
-all_named [] xs own shows t = none_named (naming_of [] (lineages_in xs)) (level_at [] t) (slice_index_or xs t []) (shows t) (no_level t)
-all_named (spots ∷ levels) [] own shows t = none_named (naming_of (tags_in (spots ∷ levels)) []) (level_at (spots ∷ levels) t) (slice_index_or [] t []) (shows t) (none_seen (level_at (spots ∷ levels) t) (slice_index_or [] t []) (shows t) (no_symbols t [] refl))
+all_named [] xs own shows t = none_named (naming_of [] (lineages_in xs)) (spots_at [] t) (slice_index_or xs t []) (shows t) (no_level t)
+all_named (spots ∷ levels) [] own shows t = none_named (naming_of (tags_in (spots ∷ levels)) []) (spots_at (spots ∷ levels) t) (slice_index_or [] t []) (shows t) (none_seen (spots_at (spots ∷ levels) t) (slice_index_or [] t []) (shows t) (no_symbols t [] refl))
 all_named (spots ∷ levels) (x ∷ xs) own shows zero =
     level_named (naming_of (tags_in (spots ∷ levels)) (lineages_in (x ∷ xs))) spots x (shows 0)
     (front_named (map (λ (s : Spotted). s.tag) spots) (tags_in levels) (map lineage x) (lineages_in xs) (own_apart spots levels own) (as_long spots x (shows 0)))
 all_named (spots ∷ levels) (x ∷ xs) own shows (suc t) =
-    same_named (naming_of (tags_in (spots ∷ levels)) (lineages_in (x ∷ xs))) (naming_of (tags_in levels) (lineages_in xs)) (level_at levels t)
-    (behind_named (map (λ (s : Spotted). s.tag) spots) (tags_in levels) (map lineage x) (lineages_in xs) (map (λ (s : Spotted). s.tag) (level_at levels t)) (as_long spots x (shows 0)) (own_behind spots levels own t))
+    same_named (naming_of (tags_in (spots ∷ levels)) (lineages_in (x ∷ xs))) (naming_of (tags_in levels) (lineages_in xs)) (spots_at levels t)
+    (behind_named (map (λ (s : Spotted). s.tag) spots) (tags_in levels) (map lineage x) (lineages_in xs) (map (λ (s : Spotted). s.tag) (spots_at levels t)) (as_long spots x (shows 0)) (own_behind spots levels own t))
     ∙ all_named levels xs (record { apart = λ t u p q a b here there e. let k = own.apart (suc t) (suc u) p q a b here there e in (omega (arith, k.0), k.1) }) (λ t. shows (suc t)) t
 
-pub is_named : (xs : List (List L.Symbol)) (levels : List (List Spotted)) → HasOwnTags levels → ShowsLevels xs levels → IsNamed xs levels
+pub is_named : (xs : List (List L.LevelSymbol)) (levels : List (List Spotted)) → HasOwnTags levels → ShowsLevels xs levels → IsNamed xs levels
 is_named xs levels own shows = record { naming = naming_of (tags_in levels) (lineages_in xs); level = all_named levels xs own shows.string }
 
 pub strings : (naming : ℕ → List ℕ) (ss : List Symbol) (ts ks : List ℕ) → has_cut ss ≡ false → length ts ≡ length ss → length ks ≡ length ss → map plain (level_by naming (spots_of ss ts ks)) ≡ string_of ss
@@ -181,7 +181,7 @@ pub tags_tell : (naming : ℕ → List ℕ) (levels : List (List Spotted)) → H
 tags_tell naming levels own names = record {
   of_tags = λ t u p q a b here there e. ((own.apart t u p q a b here there e).0, ap naming e);
   of_lineages = λ t p q a b here there e.
-      let x = level_at levels t in
+      let x = spots_at levels t in
       let at : slice_get (level_by naming x) p ≡ Some (named naming a) = slice_get-map (named naming) x p ∙ ap (option_map (named naming)) here in
       let other : slice_get (level_by naming x) q ≡ Some (named naming b) = slice_get-map (named naming) x q ∙ ap (option_map (named naming)) there in
       let same : p ≡ q = (names.level t).apart p q (named naming a) (named naming b) at other (lineage_of naming a ∙ e ∙ sym (lineage_of naming b)) in

@@ -5,12 +5,12 @@ use Rattle.std.proofs.lemmas.Option.{same_Some, slice_get_within}
 use Rattle.lsys_level.specs.Spots.{Spotted, spotted_at}
 use Rattle.lsys_module.specs.declared.symbol.Symbol.{Symbol}
 use Rattle.lsys_level.specs.Places.{spots_of}
-use Rattle.lsys_level.specs.Tags.{HasOwnTags, AreBelow}
+use Rattle.lsys_level.specs.Tags.{HasOwnTags, HasTagsBelow}
 
 pub own_none : HasOwnTags []
 own_none = record { apart = λ t u p q a b here there e. cc }
 
-pub below_none : (bound : ℕ) → AreBelow bound []
+pub below_none : (bound : ℕ) → HasTagsBelow bound []
 below_none bound = record { below = λ t p a here. cc }
 
 -- what stands on a level stood there before, or on the level that was pushed
@@ -27,7 +27,7 @@ pushed_at (y ∷ levels) x (suc t) p a h = elim (pushed_at levels x t p a h) [
 pub record AreRunning (first : ℕ) (x : List Spotted) : Type 0 where
   pub each : (p : ℕ) (a : Spotted) → slice_get x p ≡ Some a → a.tag ≡ first + p
 
-pub own_running : (levels : List (List Spotted)) (x : List Spotted) (first : ℕ) → HasOwnTags levels → AreBelow first levels → AreRunning first x → HasOwnTags (levels ++ x ∷ [])
+pub own_running : (levels : List (List Spotted)) (x : List Spotted) (first : ℕ) → HasOwnTags levels → HasTagsBelow first levels → AreRunning first x → HasOwnTags (levels ++ x ∷ [])
 own_running levels x first own below run = record {
   apart = λ t u p q a b here there e. elim (pushed_at levels x t p a here) [
     | inl old ↦ (elim (pushed_at levels x u q b there) [
@@ -41,7 +41,7 @@ own_running levels x first own below run = record {
   ];
 }
 
-pub below_running : (levels : List (List Spotted)) (x : List Spotted) (first n : ℕ) → AreBelow first levels → AreRunning first x → length x ≤ n → AreBelow (first + n) (levels ++ x ∷ [])
+pub below_running : (levels : List (List Spotted)) (x : List Spotted) (first n : ℕ) → HasTagsBelow first levels → AreRunning first x → length x ≤ n → HasTagsBelow (first + n) (levels ++ x ∷ [])
 below_running levels x first n below run few = record {
   below = λ t p a here. elim (pushed_at levels x t p a here) [
     | inl old ↦ (let k = below.below t p a old.1 in omega (arith, k))

@@ -12,7 +12,7 @@ use Rattle.lsys_level.specs.declared.place.Kind.{Kind}
 use Rattle.lsys_level.specs.declared.place.Kind.TheVariants as kinds
 use Rattle.lsys_level.specs.declared.place.Place.{Place}
 use Rattle.lsys_level.specs.Spots.{Seen, Push, Pop, Module, Spotted, with_lineage, named, level_by, IsMate, IsBracket}
-use Rattle.lsys_level.specs.Places.{seen_in, seen_as, spotted, spots_of, bare, params_in, place_of, Mates, has_cut, IsWithin, Fits, AllFit, IsRow}
+use Rattle.lsys_level.specs.Places.{seen_in, seen_by_kind, spotted, spots_of, bare_symbol, params_in, kept_place, Mates, has_cut, HasParamsWithin, Fits, AllFit, IsSoundRow}
 use Rattle.lsys_region.proofs.ListLemmas.{slice_get-push_cases}
 use Rattle.lsys_level.proofs.Naming.{mates_named}
 
@@ -32,13 +32,13 @@ drop_behind : (values params : List ℤ) → drop (length values) (values ++ par
 drop_behind [] params = refl
 drop_behind (v ∷ values) params = drop_behind values params
 
-seen_on : (values more : List ℤ) (k : Kind) (name : List ℕ) (n arity : ℕ) → IsWithin k (n + arity) (length values)
-    → seen_as k name (take arity (drop n (values ++ more))) ≡ seen_as k name (take arity (drop n values))
+seen_on : (values more : List ℤ) (k : Kind) (name : List ℕ) (n arity : ℕ) → HasParamsWithin k (n + arity) (length values)
+    → seen_by_kind k name (take arity (drop n (values ++ more))) ≡ seen_by_kind k name (take arity (drop n values))
 seen_on values more kinds.Push name n arity h = refl
 seen_on values more kinds.Pop name n arity h = refl
 seen_on values more kinds.Module name n arity h = ap (λ ps. Module (record { name = module_name name; params = ps })) (take_drop_on values more n arity h)
 
-within_on : (values more : List ℤ) (k : Kind) (end : ℕ) → IsWithin k end (length values) → IsWithin k end (length (values ++ more))
+within_on : (values more : List ℤ) (k : Kind) (end : ℕ) → HasParamsWithin k end (length values) → HasParamsWithin k end (length (values ++ more))
 within_on values more kinds.Push end h = tt
 within_on values more kinds.Pop end h = tt
 within_on values more kinds.Module end h = omega (arith, h, longer values more)
@@ -59,7 +59,7 @@ fit_on values more (b ∷ places) a h f = (record { few = h.0.few; within = with
 
 -- 2. one more symbol
 
-told_new : (values : List ℤ) (s : Symbol) (m t k : ℕ) → spotted (values ++ params_in s) (place_of s m (length values) t k) ≡ record { seen = seen_in s; tag = t; key = k }
+told_new : (values : List ℤ) (s : Symbol) (m t k : ℕ) → spotted (values ++ params_in s) (kept_place s m (length values) t k) ≡ record { seen = seen_in s; tag = t; key = k }
 told_new values symbols.Push m t k = refl
 told_new values symbols.Pop m t k = refl
 told_new values symbols.Cut m t k = refl
@@ -67,7 +67,7 @@ told_new values (symbols.Module a) m t k =
     ap (λ ps. record { seen = Module (record { name = module_name a.name; params = ps }); tag = t; key = k })
     (ap (take (length a.params)) (drop_behind values a.params) ∙ take_own a.params)
 
-fits_new : (values : List ℤ) (s : Symbol) (m t k : ℕ) → length (params_in s) ≤ 8 → Fits (values ++ params_in s) (place_of s m (length values) t k)
+fits_new : (values : List ℤ) (s : Symbol) (m t k : ℕ) → length (params_in s) ≤ 8 → Fits (values ++ params_in s) (kept_place s m (length values) t k)
 fits_new values symbols.Push m t k h = record { few = omega arith; within = tt }
 fits_new values symbols.Pop m t k h = record { few = omega arith; within = tt }
 fits_new values symbols.Cut m t k h = record { few = omega arith; within = at_end values [] }
@@ -96,13 +96,13 @@ spot_at (s' ∷ ss) (t' ∷ ts) (k' ∷ ks) zero s t k a b c =
     ∙ ap (λ k. Some (record { seen = seen_in s; tag = t; key = k })) (same_Some _ _ c)
 spot_at (s' ∷ ss) (t' ∷ ts) (k' ∷ ks) (suc i) s t k a b c = spot_at ss ts ks i s t k a b c
 
-link_in : (s : Symbol) (m start t k : ℕ) (values : List ℤ) → IsBracket (spotted values (place_of s m start t k)).seen → (place_of s m start t k).link ≡ m
+link_in : (s : Symbol) (m start t k : ℕ) (values : List ℤ) → IsBracket (spotted values (kept_place s m start t k)).seen → (kept_place s m start t k).link ≡ m
 link_in symbols.Push m start t k values h = refl
 link_in symbols.Pop m start t k values h = refl
 link_in symbols.Cut m start t k values h = absurd h
 link_in (symbols.Module a) m start t k values h = absurd h
 
-bracket_any : (k : Kind) (name : List ℕ) (xs ys : List ℤ) → IsBracket (seen_as k name xs) → IsBracket (seen_as k name ys)
+bracket_any : (k : Kind) (name : List ℕ) (xs ys : List ℤ) → IsBracket (seen_by_kind k name xs) → IsBracket (seen_by_kind k name ys)
 bracket_any kinds.Push name xs ys h = tt
 bracket_any kinds.Pop name xs ys h = tt
 bracket_any kinds.Module name xs ys h = h
@@ -118,9 +118,9 @@ none_filled ss ts ks ms = record { told = refl; fit = tt; links = λ p a h b. cc
 
 pub filled_on : (ss : List Symbol) (ts ks ms : List ℕ) (i : ℕ) (places : List Place) (values : List ℤ) (s : Symbol) (t k m : ℕ) → Filled ss ts ks ms i places values → length places ≡ i
     → slice_get ss i ≡ Some s → slice_get ts i ≡ Some t → slice_get ks i ≡ Some k → slice_get ms i ≡ Some m → length (params_in s) ≤ 8
-    → Filled ss ts ks ms (i + 1) (places ++ place_of s m (length values) t k ∷ []) (values ++ params_in s)
+    → Filled ss ts ks ms (i + 1) (places ++ kept_place s m (length values) t k ∷ []) (values ++ params_in s)
 filled_on ss ts ks ms i places values s t k m f n a b c d e =
-    let one : Place = place_of s m (length values) t k in
+    let one : Place = kept_place s m (length values) t k in
     let spot : Spotted = record { seen = seen_in s; tag = t; key = k } in
     let at = spot_at ss ts ks i s t k a b c in
     let upto : take (i + 1) (spots_of ss ts ks) ≡ take i (spots_of ss ts ks) ++ spot ∷ [] = take_more (spots_of ss ts ks) i spot (slice_get_within (spots_of ss ts ks) i spot at) ∙ ap (λ x. take i (spots_of ss ts ks) ++ x ∷ []) (get_or_from_slice_get (spots_of ss ts ks) i spot spot at) in
@@ -137,11 +137,11 @@ filled_on ss ts ks ms i places values s t k m f n a b c d e =
 
 -- 3. the whole
 
-bare_named : (ss : List Symbol) (ts ks : List ℕ) → length ts ≡ length ss → length ks ≡ length ss → level_by (λ t. []) (spots_of ss ts ks) ≡ map bare ss
+bare_named : (ss : List Symbol) (ts ks : List ℕ) → length ts ≡ length ss → length ks ≡ length ss → level_by (λ t. []) (spots_of ss ts ks) ≡ map bare_symbol ss
 bare_named [] ts ks a b = refl
 bare_named (s ∷ ss) [] ks a b = absurd (omega (arith, a))
 bare_named (s ∷ ss) (t ∷ ts) [] a b = absurd (omega (arith, b))
-bare_named (s ∷ ss) (t ∷ ts) (k ∷ ks) a b = ap (λ r. bare s ∷ r) (bare_named ss ts ks (omega (arith, a)) (omega (arith, b)))
+bare_named (s ∷ ss) (t ∷ ts) (k ∷ ks) a b = ap (λ r. bare_symbol s ∷ r) (bare_named ss ts ks (omega (arith, a)) (omega (arith, b)))
 
 long : (ss : List Symbol) (ts ks : List ℕ) → length ts ≡ length ss → length ks ≡ length ss → length (spots_of ss ts ks) ≡ length ss
 long [] ts ks a b = refl
@@ -150,7 +150,7 @@ long (s ∷ ss) (t ∷ ts) [] a b = absurd (omega (arith, b))
 long (s ∷ ss) (t ∷ ts) (k ∷ ks) a b = ap suc (long ss ts ks (omega (arith, a)) (omega (arith, b)))
 
 -- a bracket's mate, as it is told for the symbols, is its mate by any naming
-mate_told : (x : List Spotted) (ys : List L.Symbol) (ms : List ℕ) (p q : ℕ) (s : Spotted) → level_by (λ t. []) x ≡ ys → Mates ys ms → slice_get x p ≡ Some s → slice_get ms p ≡ Some q → IsBracket s.seen → IsMate x p q
+mate_told : (x : List Spotted) (ys : List L.LevelSymbol) (ms : List ℕ) (p q : ℕ) (s : Spotted) → level_by (λ t. []) x ≡ ys → Mates ys ms → slice_get x p ≡ Some s → slice_get ms p ≡ Some q → IsBracket s.seen → IsMate x p q
 mate_told x ys ms p q s same m here told b = by s.seen b (ap (option_map (λ s. s.seen)) here) there
   where
     there : slice_get ys p ≡ Some (with_lineage [] s.seen)
@@ -176,11 +176,11 @@ pub told_all : (ss : List Symbol) (ts ks ms : List ℕ) (i : ℕ) (places : List
     → map (spotted values) places ≡ spots_of ss ts ks
 told_all ss ts ks ms i places values f a b e = f.told ∙ take_all i (spots_of ss ts ks) (omega (arith, e, long ss ts ks a b))
 
-pub is_row : (ss : List Symbol) (ts ks ms : List ℕ) (i : ℕ) (places : List Place) (values : List ℤ) → Filled ss ts ks ms i places values → length ts ≡ length ss → length ks ≡ length ss → length ss ≤ i → Mates (map bare ss) ms
-    → IsRow places values
+pub is_row : (ss : List Symbol) (ts ks ms : List ℕ) (i : ℕ) (places : List Place) (values : List ℤ) → Filled ss ts ks ms i places values → length ts ≡ length ss → length ks ≡ length ss → length ss ≤ i → Mates (map bare_symbol ss) ms
+    → IsSoundRow places values
 is_row ss ts ks ms i places values f a b e m = record {
   fit = f.fit;
-  mates = λ p x h g. mate_told (map (spotted values) places) (map bare ss) ms p x.link (spotted values x) (ap (level_by (λ t. [])) (told_all ss ts ks ms i places values f a b e) ∙ bare_named ss ts ks a b) m
+  mates = λ p x h g. mate_told (map (spotted values) places) (map bare_symbol ss) ms p x.link (spotted values x) (ap (level_by (λ t. [])) (told_all ss ts ks ms i places values f a b e) ∙ bare_named ss ts ks a b) m
       (slice_get-map (spotted values) places p ∙ ap (option_map (spotted values)) h) (f.links p x h g) g;
 }
 

@@ -1,11 +1,11 @@
 -- A walk over a level.
 use Rattle.std.proofs.Common.{◌≡◌, ℕ, List, ◌+◌, ◌-◌, ◌<◌, length, Option, Some, None}
-use Rattle.lsys_level.specs.Spots.{Spotted, level_at}
+use Rattle.lsys_level.specs.Spots.{Spotted, spots_at}
 
 -- the spot is one of this level, if there is one
 abbrev pub IsAt : {S : Type 0} → List (List Spotted) → (S → ℕ) → (S → ℕ) → ℕ → Option S → Type 0
 IsAt levels level_of place_of t None = Unit {0}
-IsAt levels level_of place_of t (Some s) = (level_of s ≡ t) × (place_of s < length (level_at levels t))
+IsAt levels level_of place_of t (Some s) = (level_of s ≡ t) × (place_of s < length (spots_at levels t))
 
 -- how many spots are still to be read on the way to the right
 abbrev pub to_right : {S : Type 0} → (S → ℕ) → ℕ → Option S → ℕ

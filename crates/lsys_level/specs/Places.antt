@@ -31,20 +31,20 @@ has_cut (symbols.Cut ∷ ss) = true
 has_cut (s ∷ ss) = has_cut ss
 
 -- the symbols as those of a level in which all lineages are empty
-abbrev pub bare : Symbol → L.Symbol
-bare s = with_lineage [] (seen_in s)
+abbrev pub bare_symbol : Symbol → L.LevelSymbol
+bare_symbol s = with_lineage [] (seen_in s)
 
 -- each bracket's mate is told
-pub record Mates (x : List L.Symbol) (mates : List ℕ) : Type 0 where
+pub record Mates (x : List L.LevelSymbol) (mates : List ℕ) : Type 0 where
   pub same : length mates ≡ length x
   pub opens : (p m : ℕ) (l : List ℕ) → slice_get mates p ≡ Some m → slice_get x p ≡ Some (L.Push l) → (p < m) × (m < length x) × AreMates x p m
   pub closes : (p m : ℕ) (l : List ℕ) → slice_get mates p ≡ Some m → slice_get x p ≡ Some (L.Pop l) → (m < p) × AreMates x m p
 
 -- what is seen of a kept symbol, by its kind, its name and its parameters
-abbrev pub seen_as : Kind → List ℕ → List ℤ → Seen
-seen_as kinds.Push name params = Push
-seen_as kinds.Pop name params = Pop
-seen_as kinds.Module name params = Module (record { name = module_name name; params = params })
+abbrev pub seen_by_kind : Kind → List ℕ → List ℤ → Seen
+seen_by_kind kinds.Push name params = Push
+seen_by_kind kinds.Pop name params = Pop
+seen_by_kind kinds.Module name params = Module (record { name = module_name name; params = params })
 
 -- the parameters of a symbol
 abbrev pub params_in : Symbol → List ℤ
@@ -52,31 +52,31 @@ params_in (symbols.Module m) = m.params
 params_in s = []
 
 -- a symbol as it is kept, with its mate's place if it is a bracket, and where its parameters begin if it is a module
-abbrev pub place_of : Symbol → ℕ → ℕ → ℕ → ℕ → Place
-place_of symbols.Push mate start t k = record { key = k; name = 43 ∷ []; link = mate; tag = t; arity = 0; kind = kinds.Push }
-place_of symbols.Pop mate start t k = record { key = k; name = 43 ∷ []; link = mate; tag = t; arity = 0; kind = kinds.Pop }
-place_of symbols.Cut mate start t k = record { key = k; name = 43 ∷ []; link = start; tag = t; arity = 0; kind = kinds.Module }
-place_of (symbols.Module m) mate start t k = record { key = k; name = m.name; link = start; tag = t; arity = length m.params; kind = kinds.Module }
+abbrev pub kept_place : Symbol → ℕ → ℕ → ℕ → ℕ → Place
+kept_place symbols.Push mate start t k = record { key = k; name = 43 ∷ []; link = mate; tag = t; arity = 0; kind = kinds.Push }
+kept_place symbols.Pop mate start t k = record { key = k; name = 43 ∷ []; link = mate; tag = t; arity = 0; kind = kinds.Pop }
+kept_place symbols.Cut mate start t k = record { key = k; name = 43 ∷ []; link = start; tag = t; arity = 0; kind = kinds.Module }
+kept_place (symbols.Module m) mate start t k = record { key = k; name = m.name; link = start; tag = t; arity = length m.params; kind = kinds.Module }
 
 -- a kept symbol, whose parameters stand in this list
 abbrev pub spotted : List ℤ → Place → Spotted
-spotted values a = record { seen = seen_as a.kind a.name (take a.arity (drop a.link values)); tag = a.tag; key = a.key }
+spotted values a = record { seen = seen_by_kind a.kind a.name (take a.arity (drop a.link values)); tag = a.tag; key = a.key }
 
 -- the parameters of a module stand in the list
-abbrev pub IsWithin : Kind → ℕ → ℕ → Type 0
-IsWithin kinds.Module end room = end ≤ room
-IsWithin k end room = Unit {0}
+abbrev pub HasParamsWithin : Kind → ℕ → ℕ → Type 0
+HasParamsWithin kinds.Module end room = end ≤ room
+HasParamsWithin k end room = Unit {0}
 
 pub record Fits (values : List ℤ) (a : Place) : Type 0 where
   pub few : a.arity ≤ 8
-  pub within : IsWithin a.kind (a.link + a.arity) (length values)
+  pub within : HasParamsWithin a.kind (a.link + a.arity) (length values)
 
 abbrev pub AllFit : List ℤ → List Place → Type 0
 AllFit values [] = Unit {0}
 AllFit values (a ∷ more) = Fits values a × AllFit values more
 
 -- each module's parameters are there, and each bracket's mate is told
-pub record IsRow (places : List Place) (values : List ℤ) : Type 0 where
+pub record IsSoundRow (places : List Place) (values : List ℤ) : Type 0 where
   pub fit : AllFit values places
   pub mates : (p : ℕ) (a : Place) → slice_get places p ≡ Some a → IsBracket (spotted values a).seen → IsMate (map (spotted values) places) p a.link
 

@@ -15,36 +15,36 @@ pub record Spotted : Type 0 where
   pub key : ℕ
 
 -- the symbol with this lineage
-abbrev pub with_lineage : List ℕ → Seen → L.Symbol
+abbrev pub with_lineage : List ℕ → Seen → L.LevelSymbol
 with_lineage l Push = L.Push l
 with_lineage l Pop = L.Pop l
 with_lineage l (Module m) = L.Module l m
 
 -- what is seen of a symbol
-abbrev pub seen_by : L.Symbol → Seen
+abbrev pub seen_by : L.LevelSymbol → Seen
 seen_by (L.Push l) = Push
 seen_by (L.Pop l) = Pop
 seen_by (L.Module l m) = Module m
 
 -- the symbol, where a naming tells the lineage of each tag
-abbrev pub named : (ℕ → List ℕ) → Spotted → L.Symbol
+abbrev pub named : (ℕ → List ℕ) → Spotted → L.LevelSymbol
 named naming s = with_lineage (naming s.tag) s.seen
 
 -- the level that the symbols are, where a naming tells the lineage of each tag
-abbrev pub level_by : (ℕ → List ℕ) → List Spotted → List L.Symbol
+abbrev pub level_by : (ℕ → List ℕ) → List Spotted → List L.LevelSymbol
 level_by naming x = map (named naming) x
 
 -- the symbols of a level, none past the last
-abbrev pub level_at : List (List Spotted) → ℕ → List Spotted
-level_at levels t = slice_index_or levels t []
+abbrev pub spots_at : List (List Spotted) → ℕ → List Spotted
+spots_at levels t = slice_index_or levels t []
 
 -- the symbol at place p of level t
 abbrev pub spotted_at : List (List Spotted) → ℕ → ℕ → Option Spotted
-spotted_at levels t p = slice_get (level_at levels t) p
+spotted_at levels t p = slice_get (spots_at levels t) p
 
 -- level t has a place p
 abbrev pub IsSpot : List (List Spotted) → ℕ → ℕ → Type 0
-IsSpot levels t p = p < length (level_at levels t)
+IsSpot levels t p = p < length (spots_at levels t)
 
 abbrev pub IsBracket : Seen → Type 0
 IsBracket Push = Unit {0}

@@ -1,14 +1,14 @@
 -- What a view answers of its spots, each of which stands for a level and a place in it.
 use Rattle.std.specs.Prelude.{◌≡◌, ℕ, ◌+◌, ◌<◌, List, length, Option, Some, option_map, MatchOption}
 use Rattle.lsys_level.specs.declared.sight.Sight.{Sight}
-use Rattle.lsys_level.specs.Spots.{Spotted, level_at, spotted_at, IsBracketAt, IsMate}
+use Rattle.lsys_level.specs.Spots.{Spotted, spots_at, spotted_at, IsBracketAt, IsMate}
 use Rattle.lsys_level.specs.Views.{seen_of}
 
 -- this is the leftmost spot of a level; none where it is empty
 abbrev pub IsFirstSpot : {S : Type 0} → List (List Spotted) → (S → ℕ) → (S → ℕ)
     → ℕ → Option S → Type 0
 IsFirstSpot levels level_of place_of level found =
-    let x = level_at levels level in MatchOption found (length x ≡ 0)
+    let x = spots_at levels level in MatchOption found (length x ≡ 0)
     (λ s. (level_of s ≡ level) × (place_of s ≡ 0) × (0 < length x))
 
 -- this is the spot to the left of another; none at the left end
@@ -22,17 +22,17 @@ abbrev pub IsRightOf : {S : Type 0} → List (List Spotted) → (S → ℕ) → 
     → S → Option S → Type 0
 IsRightOf levels level_of place_of spot found =
     let t = level_of spot in let p = place_of spot in
-    let x = level_at levels t in MatchOption found (p + 1 ≡ length x)
+    let x = spots_at levels t in MatchOption found (p + 1 ≡ length x)
     (λ s. (level_of s ≡ t) × (place_of s ≡ p + 1) × (place_of s < length x))
 
 -- a bracket stands at place p of level t
 abbrev pub HasBracket : List (List Spotted) → ℕ → ℕ → Type 0
-HasBracket levels t p = IsBracketAt (level_at levels t) p
+HasBracket levels t p = IsBracketAt (spots_at levels t) p
 
 -- the second spot is that of the mate of the bracket at the first one
 abbrev pub IsMateOf : {S : Type 0} → List (List Spotted) → (S → ℕ) → (S → ℕ) → S → S → Type 0
 IsMateOf levels level_of place_of spot mate =
-    IsMate (level_at levels (level_of spot)) (place_of spot) (place_of mate)
+    IsMate (spots_at levels (level_of spot)) (place_of spot) (place_of mate)
 
 -- the symbol at place p of level t looks so
 abbrev pub ShowsAt : List (List Spotted) → ℕ → ℕ → Sight → Type 0

@@ -2,7 +2,7 @@
 ghost use Rattle.std.specs.Prelude.{◌≡◌, ◌<◌, [], length, IfOk};
 ghost use Rattle.lsys_spec.specs.Levels.{plain};
 ghost use Rattle.lsys_module.specs.Views.{symbol_of};
-ghost use Rattle.lsys_level.specs.Spots.{level_at, with_lineage};
+ghost use Rattle.lsys_level.specs.Spots.{spots_at, with_lineage};
 ghost use Rattle.lsys_level.specs.Views.{seen_of, HasFewParams, IsCopy};
 
 use crate::sight::Sight;
@@ -21,7 +21,7 @@ pub fn copy_level<W: LevelView>(
     level: u32,
 ) -> Result<SymbolList, AllocError>
     requires { level < length (W.levels view.now) }
-    ensures { IfOk result (λ symbols. IsCopy (level_at (W.levels view.now) level) symbols) }
+    ensures { IfOk result (λ symbols. IsCopy (spots_at (W.levels view.now) level) symbols) }
 {
     let mut symbols = SymbolList::new(alloc);
     let mut at = view.first(level);

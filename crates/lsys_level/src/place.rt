@@ -1,7 +1,7 @@
 //! A symbol as it is kept.
 ghost use Rattle.std.specs.Prelude.{◌≡◌, ◌≢◌, ◌≤◌, [], length};
 ghost use Rattle.lsys_module.specs.declared.symbol.Symbol.TheVariants.{Cut};
-ghost use Rattle.lsys_level.specs.Places.{params_in, place_of, bracket_place};
+ghost use Rattle.lsys_level.specs.Places.{params_in, kept_place, bracket_place};
 
 use crate::tag::Tag;
 use lsys_module::Symbol;
@@ -39,7 +39,7 @@ impl Place {
     /// is a module.
     pub(crate) fn of(symbol: &Symbol, mate: usize, start: usize, tag: Tag, key: u64) -> Place
         requires { symbol.now ≢ Cut }
-        ensures { result ≡ place_of symbol.now mate start tag key }
+        ensures { result ≡ kept_place symbol.now mate start tag key }
     {
         match symbol {
             Symbol::Push => Place::bracket(Kind::Push, mate, tag, key),

@@ -24,13 +24,13 @@ pub(crate) struct Row {
 impl Model for Row {
     ghost use Rattle.std.specs.Prelude.{List, map};
     ghost use Rattle.lsys_level.specs.Spots.{Spotted};
-    ghost use Rattle.lsys_level.specs.Places.{spotted, IsRow};
+    ghost use Rattle.lsys_level.specs.Places.{spotted, IsSoundRow};
 
     ghost Value = { List Spotted };
 
     ghost view = { λ a. map (spotted a.values.items) a.places.items };
 
-    ghost invariant = { λ a. IsRow a.places.items a.values.items };
+    ghost invariant = { λ a. IsSoundRow a.places.items a.values.items };
 }
 
 impl Row {

@@ -30,14 +30,14 @@ use Rattle.lsys_match.specs.declared.posed.Posed.{Posed as CodePosed}
 use Rattle.lsys_match.specs.declared.refusal.AskRefusal.{AskRefusal}
 use Rattle.lsys_match.specs.declared.refusal.AskRefusal.TheVariants.{Memory, Fault}
 use Rattle.lsys_match.specs.declared.told.Reply.{Reply}
-use Rattle.lsys_match.specs.Answered.{Counts, IsAnswerTo, IsSound, place_chosen, trace_told}
+use Rattle.lsys_match.specs.Answered.{CountsEntries, IsAnswerTo, IsSoundAnswer, place_chosen, trace_told}
 use Rattle.lsys_match.specs.Asking.{IsPosedAt, posed_by, site_at, site_of, told_for}
 use Rattle.lsys_match.specs.Asks.{ByDefinition, IsAnswer, IsAnswered, IsKept, IsMadeIfAny, IsNamedAt, IsNew, IsTraceFor, by_definition}
 use Rattle.lsys_match.specs.Kept.{Kept}
 use Rattle.lsys_match.specs.Sites.{asking_at}
 use Rattle.lsys_match.specs.Stored.{answer_in, posed_in, question_in}
 use Rattle.lsys_match.specs.TagQuestions.{IsSamePosed, Posed, TagAnswer, TagQuestion, posed_of}
-use Rattle.lsys_match.specs.Telling.{IsTelling, answer_of}
+use Rattle.lsys_match.specs.Telling.{IsTelling, reply_answer}
 use Rattle.lsys_match.specs.Tries.{entries_by}
 
 -- 1. the same is posed
@@ -110,7 +110,7 @@ module _ (s : System) (t : ℕ) (row : List Spotted) (p : ℕ) (d : Posed) (h : 
 -- 3. an old answer to the same question
 
 pub answer_again : (s : System) (t : ℕ) (row : List Spotted) (p : ℕ) (d : Posed) (trace : List Noted) (a : TagAnswer)
-    → IsSound a → a.question.posed ≡ d → a.question.trace ≡ trace → ((naming : ℕ → List ℕ) → entries_by naming trace ≡ trace_told (told_for naming (site_at s t row p d.own) d))
+    → IsSoundAnswer a → a.question.posed ≡ d → a.question.trace ≡ trace → ((naming : ℕ → List ℕ) → entries_by naming trace ≡ trace_told (told_for naming (site_at s t row p d.own) d))
     → IsAnswerTo (λ naming. told_for naming (site_at s t row p d.own) d) a
 answer_again s t row p d trace a h e i r =
     subst (λ (d : Posed). IsAnswerTo (λ naming. told_for naming (site_at s t row p d.own) d) a) e (record {
@@ -139,19 +139,19 @@ answer_again s t row p d trace a h e i r =
 
 -- 4. what asking answers
 
-pub counts_ok : (T : Type 0) (n old new : ℕ) (x : Result T AskRefusal) (a : T) → x ≡ Ok a → Counts n old new x → new ≡ old + n
-counts_ok T n old new x a e h = subst (Counts n old new) e h
+pub counts_ok : (T : Type 0) (n old new : ℕ) (x : Result T AskRefusal) (a : T) → x ≡ Ok a → CountsEntries n old new x → new ≡ old + n
+counts_ok T n old new x a e h = subst (CountsEntries n old new) e h
 
-pub counts_err : (T U : Type 0) (n old new : ℕ) (x : Result T AskRefusal) (y : Result U AskRefusal) (r : AskRefusal) → x ≡ Err r → y ≡ Err r → Counts n old new x → Counts n old new y
-counts_err T U n old new x y r e i h = subst (Counts n old new) (sym i) (by r (subst (Counts n old new) e h))
+pub counts_err : (T U : Type 0) (n old new : ℕ) (x : Result T AskRefusal) (y : Result U AskRefusal) (r : AskRefusal) → x ≡ Err r → y ≡ Err r → CountsEntries n old new x → CountsEntries n old new y
+counts_err T U n old new x y r e i h = subst (CountsEntries n old new) (sym i) (by r (subst (CountsEntries n old new) e h))
   where
-    by : (r : AskRefusal) → Counts {T = T} n old new (Err r) → Counts {T = U} n old new (Err r)
+    by : (r : AskRefusal) → CountsEntries {T = T} n old new (Err r) → CountsEntries {T = U} n old new (Err r)
     by Memory h = h
     by (Fault k) h = h
 
 -- memory is wanting after all was read
-pub counts_late : (T U : Type 0) (n old new : ℕ) (x : Result T AskRefusal) (y : Result U AskRefusal) (a : T) → x ≡ Ok a → y ≡ Err Memory → Counts n old new x → Counts n old new y
-counts_late T U n old new x y a e i h = let k = counts_ok T n old new x a e h in subst (Counts n old new) (sym i) (omega (arith, k), omega (arith, k))
+pub counts_late : (T U : Type 0) (n old new : ℕ) (x : Result T AskRefusal) (y : Result U AskRefusal) (a : T) → x ≡ Ok a → y ≡ Err Memory → CountsEntries n old new x → CountsEntries n old new y
+counts_late T U n old new x y a e i h = let k = counts_ok T n old new x a e h in subst (CountsEntries n old new) (sym i) (omega (arith, k), omega (arith, k))
 
 module _ (q : CodePosed) (s : System) (t : ℕ) (row row' : List Spotted) (p : ℕ) (e : row' ≡ row) (sys : filter_of q.filter ≡ filter s t) (posed : IsPosedAt s t row' p (posed_by q)) where
   abbrev d : Posed
@@ -166,7 +166,7 @@ module _ (q : CodePosed) (s : System) (t : ℕ) (row row' : List Spotted) (p : �
   heard_is : (naming : ℕ → List ℕ) → heard naming ≡ told_for naming (site_at s t row p d.own) d
   heard_is naming = λ i. told_for naming (record { row = e i; place = p; own = d.own; filter = sys i }) d
 
-  pub few_read : (r : Reply) → IsAnswerTo heard (answer_of d r) → length r.trace ≤ most_entries + 1
+  pub few_read : (r : Reply) → IsAnswerTo heard (reply_answer d r) → length r.trace ≤ most_entries + 1
   few_read r h =
       let naming : ℕ → List ℕ = (λ t. []) in
       let n = length-take (most_entries + 1) (heard naming).entries in
@@ -184,8 +184,8 @@ module _ (q : CodePosed) (s : System) (t : ℕ) (row row' : List Spotted) (p : �
     abbrev meaning : ByDefinition
     meaning = by_definition s t (level_by naming row) p (naming tag) m
 
-    pub counted : (T : Type 0) (old before new : ℕ) (r : Result T AskRefusal) → old ≡ before → Counts (length (trace_told (heard naming))) old new r → Counts (length meaning.question.trace) before new r
-    counted T old before new r i h = subst (λ old. Counts (length meaning.question.trace) old new r) i (subst (λ n. Counts n old new r) (ap (λ (u : Told Choice). length (trace_told u)) (heard_is naming) ∙ count_here s t row p d posed_here naming tag m w) h)
+    pub counted : (T : Type 0) (old before new : ℕ) (r : Result T AskRefusal) → old ≡ before → CountsEntries (length (trace_told (heard naming))) old new r → CountsEntries (length meaning.question.trace) before new r
+    counted T old before new r i h = subst (λ old. CountsEntries (length meaning.question.trace) old new r) i (subst (λ n. CountsEntries n old new r) (ap (λ (u : Told Choice). length (trace_told u)) (heard_is naming) ∙ count_here s t row p d posed_here naming tag m w) h)
 
     failed_by : (L : Type 0) (store : Store) (old : Option Kept) (was : Option (List Noted)) (r : AskRefusal) → IsTelling heard d was (Err r) → IsAnswered {L = L} naming meaning store old (Err r)
     failed_by L store old was Memory h = tt
@@ -200,8 +200,8 @@ module _ (q : CodePosed) (s : System) (t : ℕ) (row row' : List Spotted) (p : �
         IsAnswerTo (λ naming. told_for naming (site_at s t row p d.own) d) b → IsAnswer naming meaning b) in
         subst G (sym e) (answer_here s t row p d posed_here naming tag m w a.question.trace a.chosen a.successor)
 
-    pub new_answer : (r : Reply) (before after : Store) (a : Kept) → IsAnswerTo heard (answer_of d r) → IsKept before after (answer_of d r) a → IsAnswer naming meaning (answer_in after a)
-    new_answer r before after a h k = subst (IsAnswer naming meaning) (sym k.answer) (answered (answer_of d r) refl (answers (answer_of d r) h))
+    pub new_answer : (r : Reply) (before after : Store) (a : Kept) → IsAnswerTo heard (reply_answer d r) → IsKept before after (reply_answer d r) a → IsAnswer naming meaning (answer_in after a)
+    new_answer r before after a h k = subst (IsAnswer naming meaning) (sym k.answer) (answered (reply_answer d r) refl (answers (reply_answer d r) h))
 
     pub old_answer : (store : Store) (old : Option Kept) (was : Option (List Noted)) → WellSpelled s → IsMadeIfAny store old → IsTraceFor store old d was → (read : List Noted) → was ≡ Some read → ((naming : ℕ → List ℕ) → entries_by naming read ≡ trace_told (heard naming))
         → IsSomeAnd old (λ a. IsAnswer naming meaning (answer_in store a))
@@ -213,19 +213,19 @@ module _ (q : CodePosed) (s : System) (t : ℕ) (row row' : List Spotted) (p : �
         let f : b.question.posed ≡ d = posed_same b.question.posed d (posed_named made.sound.system made.sound.level made.sound.row made.sound.place b.question.posed made.sound.spelled made.sound.answer.posed) (posed_named s t row p d v posed_here) k.1 in
         answered b f (answer_again s t row p d read b made.sound f (k.0 ∙ same_Some was read i) (λ naming. h naming ∙ ap trace_told (heard_is naming)))
 
-  pub new_one : (v : WellSpelled s) (r : Reply) (before after : Store) (old : Option Kept) (was : Option (List Noted)) (a : Kept) → IsTraceFor before old d was → (was ≡ Some r.trace → ⊥) → IsAnswerTo heard (answer_of d r) → IsKept before after (answer_of d r) a
+  pub new_one : (v : WellSpelled s) (r : Reply) (before after : Store) (old : Option Kept) (was : Option (List Noted)) (a : Kept) → IsTraceFor before old d was → (was ≡ Some r.trace → ⊥) → IsAnswerTo heard (reply_answer d r) → IsKept before after (reply_answer d r) a
       → IsNew before after old a
   new_one v r before after old was a f n h k = record {
     made = record {
       live = k.live;
       params = k.params;
-      sound = subst IsSound (sym k.answer) (record { system = s; spelled = v; level = t; row = row; place = p; answer = record { posed = posed_here; told = answers (answer_of d r) h } });
+      sound = subst IsSoundAnswer (sym k.answer) (record { system = s; spelled = v; level = t; row = row; place = p; answer = record { posed = posed_here; told = answers (reply_answer d r) h } });
     };
     other = λ o i j. differs o was (subst (λ o. IsTraceFor before o d was) i f) n (j ∙ ap (λ (a : TagAnswer). a.question) k.answer);
     fresh = k.fresh;
     others = k.others;
   }
     where
-      differs : (o : Kept) (was : Option (List Noted)) → IsTraceFor before (Some o) d was → (was ≡ Some r.trace → ⊥) → question_in before o ≡ (answer_of d r).question → ⊥
+      differs : (o : Kept) (was : Option (List Noted)) → IsTraceFor before (Some o) d was → (was ≡ Some r.trace → ⊥) → question_in before o ≡ (reply_answer d r).question → ⊥
       differs o None f n j = f (same_posed (posed_in before o) d (ap (λ (q : TagQuestion). q.posed) j))
       differs o (Some was) f n j = n (ap (λ x. Some x) (sym f.0 ∙ ap (λ (q : TagQuestion). q.trace) j))

@@ -2,11 +2,11 @@
 use Rattle.std.proofs.Common.{◌≡◌, ℕ, ℤ, ◌+◌, List, length, map, take, drop, Option, Some, None, refl, sym, subst}
 use Rattle.std.specs.Prelude.{IsSome}
 use Rattle.lsys_module.specs.Views.{string_of}
-use Rattle.lsys_region.specs.Pool.{Pool, list_at, list_of, IsFresh, IsLive, OthersStay}
+use Rattle.lsys_region.specs.Pool.{Pool, list_at, list_of, IsFresh, IsLiveRun, OthersStay}
 use Rattle.lsys_walks.specs.declared.entry.Entry.{Entry}
 use Rattle.lsys_walks.specs.Stores.{Store, OtherTracesStay}
-use Rattle.lsys_walks.specs.Views.{arities, decoded, module_of}
-use Rattle.lsys_match.specs.Answered.{IsSound}
+use Rattle.lsys_walks.specs.Views.{arities, decoded, module_named}
+use Rattle.lsys_match.specs.Answered.{IsSoundAnswer}
 use Rattle.lsys_match.specs.Asks.{IsMade, IsNew, StaysAsKept}
 use Rattle.lsys_match.specs.Groups.{meant}
 use Rattle.lsys_match.specs.Kept.{Kept}
@@ -18,7 +18,7 @@ use Rattle.lsys_match.specs.TagQuestions.{TagAnswer}
 abbrev answer_with : Kept → Option (List Entry) → Option (List ℤ) → TagAnswer
 answer_with a es vs = record {
   question = record {
-    posed = record { tag = a.tag; own = module_of a.name (take a.arity (listed vs)); bodies = map meant a.bodies; key = a.key };
+    posed = record { tag = a.tag; own = module_named a.name (take a.arity (listed vs)); bodies = map meant a.bodies; key = a.key };
     trace = decoded (listed es) (drop a.arity (listed vs));
   };
   chosen = a.chosen;
@@ -26,7 +26,7 @@ answer_with a es vs = record {
 }
 
 abbrev MadeWith : Kept → Option (List Entry) → Option (List ℤ) → Type 0
-MadeWith a es vs = IsSome es × IsSome vs × (a.arity + arities (listed es) ≡ length (listed vs)) × IsSound (answer_with a es vs)
+MadeWith a es vs = IsSome es × IsSome vs × (a.arity + arities (listed es) ≡ length (listed vs)) × IsSoundAnswer (answer_with a es vs)
 
 pub stays_made : (before after : Store) (a : Kept) → list_of after.traces a.entries ≡ list_of before.traces a.entries → list_of after.values a.values ≡ list_of before.values a.values → IsMade before a → StaysMade before after a
 stays_made before after a e v h =
@@ -48,7 +48,7 @@ module _ {T : Type 0} (old new : Pool T) where
   other_list run None h apart = refl
   other_list run (Some n) h apart = h (Some n) (λ e. apart n (sym e) refl)
 
-pub fresh_apart : {T : Type 0} (pool : Pool T) (run other : Option ℕ) (list : List T) → IsFresh pool run list → IsLive pool other → (n : ℕ) → run ≡ Some n → other ≡ Some n → ⊥
+pub fresh_apart : {T : Type 0} (pool : Pool T) (run other : Option ℕ) (list : List T) → IsFresh pool run list → IsLiveRun pool other → (n : ℕ) → run ≡ Some n → other ≡ Some n → ⊥
 fresh_apart {T} pool None other list f l n e i = cc e
 fresh_apart {T} pool (Some m) None list f l n e i = cc i
 fresh_apart {T} pool (Some m) (Some k) list f l n e i =

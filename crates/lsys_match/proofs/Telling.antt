@@ -23,7 +23,7 @@ use Rattle.lsys_match.specs.declared.told.Reply.{Reply}
 use Rattle.lsys_match.specs.TagQuestions.{Posed}
 use Rattle.lsys_match.specs.Refusals.{refusal_by, fill_refusal_by}
 use Rattle.lsys_match.specs.Tries.{entries_by}
-use Rattle.lsys_match.specs.Answered.{Counts, place_chosen, trace_told}
+use Rattle.lsys_match.specs.Answered.{CountsEntries, place_chosen, trace_told}
 use Rattle.lsys_match.specs.Telling.{IsSuccessor, IsTelling, choice_at}
 
 -- 1. successors
@@ -60,7 +60,7 @@ read_front t naming read f l =
     let k : length (trace_told t) ≡ min (most_entries + 1) (length t.entries) = length-take (most_entries + 1) t.entries in
     omega (arith, e, k, l, length-map read (entry_by naming))
 
-pub counts_some : (T : Type 0) (n old new k : ℕ) → new ≡ old + k → k ≤ n → Counts {T = T} n old new (Err Memory)
+pub counts_some : (T : Type 0) (n old new k : ℕ) → new ≡ old + k → k ≤ n → CountsEntries {T = T} n old new (Err Memory)
 counts_some T n old new k e l = (omega (arith, e), omega (arith, e, l))
 
 -- 3. errors that are passed on

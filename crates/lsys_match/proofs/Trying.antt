@@ -9,7 +9,7 @@ use Rattle.lsys_spec.specs.Values.{judged}
 use Rattle.lsys_spec.specs.Meaning.{most_entries}
 use Rattle.lsys_walks.specs.declared.walked.Walked.{Walked}
 use Rattle.lsys_walks.specs.declared.walked.Walked.TheVariants as walked
-use Rattle.lsys_walks.specs.Walked.{Walks, AreKept}
+use Rattle.lsys_walks.specs.Walked.{Walks, KeptAlone}
 use Rattle.lsys_spec.specs.Levels.{way, items_from}
 use Rattle.lsys_spec.specs.Choice.{contexts}
 use Rattle.lsys_spec.specs.Meaning.{ignored_by}
@@ -17,7 +17,7 @@ use Rattle.lsys_bodies.specs.declared.filter.Filter.{Filter}
 use Rattle.lsys_bodies.specs.Filters.{filter_of}
 use Rattle.lsys_level.specs.Spots.{Spotted, level_by}
 use Rattle.lsys_walks.specs.Noted.{Noted, entry_by}
-use Rattle.lsys_walks.specs.Views.{module_of}
+use Rattle.lsys_walks.specs.Views.{module_named}
 use Rattle.lsys_walks.specs.Walked.{ReadsFront}
 use Rattle.lsys_match.specs.Sites.{Site, rule_told}
 use Rattle.lsys_match.specs.declared.outcome.Outcome.{Outcome as CodeOutcome}
@@ -36,7 +36,7 @@ module _ (t : Told Found) (d : Tried) (b : Body) (old new : List Entry) (bound :
   whole : new ≡ old ++ t.entries → length new ≤ most_entries → new ≡ take (most_entries + 1) (old ++ t.entries)
   whole h l = h ∙ sym (take_all (most_entries + 1) (old ++ t.entries) (let e : length new ≡ length (old ++ t.entries) = ap length h in omega (arith, e, l)))
 
-  pub tried : (w : Walked) → Walks most_entries t old new (AreKept bound) w → IsTried t d b old new (decided_by w b bound)
+  pub tried : (w : Walked) → Walks most_entries t old new (KeptAlone bound) w → IsTried t d b old new (decided_by w b bound)
   tried walked.Found h = record {
     answer = ap (λ c. if c then Fails TooFar else fitting b t.answer) (few h.0 h.1) ∙ ap (fitting b) h.3 ∙ ap (λ vs. outcome_of (judged b.condition vs) vs) (sym h.4);
     read = whole h.0 h.1;
@@ -59,11 +59,11 @@ yes_few t d b old new values o e h = (subst (λ o. MayGoOn (outcome_by o values)
 
 -- at a site with these parts
 module _ (s : Site) (row : List Spotted) (p : ℕ) (name : List ℕ) (params : List ℤ) (filter : Filter) (place : ℕ) (b : Body) (old new : List Noted) (naming : ℕ → List ℕ)
-    (e : s ≡ record { row = row; place = p; own = module_of name params; filter = filter_of filter }) where
+    (e : s ≡ record { row = row; place = p; own = module_named name params; filter = filter_of filter }) where
   abbrev pub told_there : Told Found
-  told_there = contexts (ignored_by (filter_of filter)) (record { rule = place; depth = 0 }) b (module_of name params) (way (level_by naming row) p) (items_from (level_by naming row) (p + 1))
+  told_there = contexts (ignored_by (filter_of filter)) (record { rule = place; depth = 0 }) b (module_named name params) (way (level_by naming row) p) (items_from (level_by naming row) (p + 1))
 
-  pub tried_there : (bound : List ℤ) (w : Walked) (o : Outcome) → o ≡ decided_by w b bound → Walks most_entries told_there (entries_by naming old) (entries_by naming new) (AreKept bound) w
+  pub tried_there : (bound : List ℤ) (w : Walked) (o : Outcome) → o ≡ decided_by w b bound → Walks most_entries told_there (entries_by naming old) (entries_by naming new) (KeptAlone bound) w
       → IsTried (rule_told naming s (tried_so_far place old) b) (tried_so_far place old) b (entries_by naming old) (entries_by naming new) o
   tried_there bound w o i h =
       let d : Tried = tried_so_far place old in

@@ -33,7 +33,7 @@ pub record IsAnswerAt (s : System) (t : ℕ) (row : List Spotted) (p : ℕ) (a :
   pub told : IsAnswerTo (λ naming. told_for naming (site_at s t row p a.question.posed.own) a.question.posed) a
 
 -- some well-spelled system answers so to the question of a module of some level
-pub record IsSound (a : TagAnswer) : Type 0 where
+pub record IsSoundAnswer (a : TagAnswer) : Type 0 where
   pub system : System
   pub spelled : WellSpelled system
   pub level : ℕ
@@ -42,7 +42,7 @@ pub record IsSound (a : TagAnswer) : Type 0 where
   pub answer : IsAnswerAt system level row place a
 
 -- so many entries were read: no more for want of memory, and else exactly so many
-abbrev pub Counts : {T : Type 0} → ℕ → ℕ → ℕ → Result T AskRefusal → Type 0
-Counts n old new (Ok a) = new ≡ old + n
-Counts n old new (Err (Fault k)) = new ≡ old + n
-Counts n old new (Err Memory) = (old ≤ new) × (new ≤ old + n)
+abbrev pub CountsEntries : {T : Type 0} → ℕ → ℕ → ℕ → Result T AskRefusal → Type 0
+CountsEntries n old new (Ok a) = new ≡ old + n
+CountsEntries n old new (Err (Fault k)) = new ≡ old + n
+CountsEntries n old new (Err Memory) = (old ≤ new) × (new ≤ old + n)

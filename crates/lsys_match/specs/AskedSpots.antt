@@ -4,7 +4,7 @@ use Rattle.std.specs.Borrow.{Bor}
 use Rattle.lsys_spec.specs.Systems.{System}
 use Rattle.lsys_spec.specs.Levels.{ModuleValue}
 use Rattle.lsys_level.specs.declared.view.LevelView.{Ghosts as LevelViewOf}
-use Rattle.lsys_level.specs.Spots.{level_at, level_by, spotted_at}
+use Rattle.lsys_level.specs.Spots.{spots_at, level_by, spotted_at}
 use Rattle.lsys_walks.specs.Stores.{Store}
 use Rattle.lsys_match.specs.declared.asked.Asked.{Asked}
 use Rattle.lsys_match.specs.declared.posed.Posed.{Posed as CodePosed}
@@ -15,7 +15,7 @@ use Rattle.lsys_match.specs.Kept.{Kept}
 use Rattle.lsys_match.specs.TagQuestions.{Posed}
 use Rattle.lsys_match.specs.Asking.{AskedLevel, HasQuestion, IsPosedAt, site_of}
 use Rattle.lsys_match.specs.Sites.{Site}
-use Rattle.lsys_match.specs.Answered.{Counts}
+use Rattle.lsys_match.specs.Answered.{CountsEntries}
 use Rattle.lsys_match.specs.Asks.{IsAnswered, IsNamedAt, KeepsStore, asked_if_any, by_definition, kept_lent, news}
 use Rattle.lsys_match.specs.Telling.{IsTellingOf, CountsTold}
 
@@ -24,18 +24,18 @@ use Rattle.lsys_match.specs.Telling.{IsTellingOf, CountsTold}
 -- the module at a spot has a question, on the level that is asked about
 abbrev pub IsAskedAt : {V P : Type 0} → AskedLevel → LevelViewOf V P → V → P → Type 0
 IsAskedAt q W view spot =
-    HasQuestion q.system q.level (level_at (W.levels view) q.level) (W.place_of view spot)
+    HasQuestion q.system q.level (spots_at (W.levels view) q.level) (W.place_of view spot)
 
 -- it has one, on the level of the spot
 abbrev pub HasQuestionAt : {V P : Type 0} → AskedLevel → LevelViewOf V P → V → P → Type 0
 HasQuestionAt q W view spot =
-    let x = level_at (W.levels view) (W.level_of view spot) in
+    let x = spots_at (W.levels view) (W.level_of view spot) in
     HasQuestion q.system q.level x (W.place_of view spot)
 
 -- this is posed of the module at a spot
 abbrev pub IsPosedOf : {V P : Type 0} → AskedLevel → LevelViewOf V P → V → P → Posed → Type 0
 IsPosedOf q W view spot d =
-    let x = level_at (W.levels view) (W.level_of view spot) in
+    let x = spots_at (W.levels view) (W.level_of view spot) in
     IsPosedAt q.system q.level x (W.place_of view spot) d
 
 -- the key of the symbol at a spot
@@ -49,7 +49,7 @@ key_at W view spot =
 -- what is posed, at a spot of its level
 abbrev pub site_seen : {V P : Type 0} → CodePosed → LevelViewOf V P → V → P → Site
 site_seen q W view spot =
-    let x = level_at (W.levels view) (W.level_of view spot) in
+    let x = spots_at (W.levels view) (W.level_of view spot) in
     site_of q x (W.place_of view spot)
 
 -- what is told of what is posed, at a spot
@@ -68,7 +68,7 @@ CountsToldAt q W view spot before after r = CountsTold q (site_seen q W view spo
 abbrev pub AnswersAt : {V P L : Type 0} → System → ℕ → LevelViewOf V P → V → P → Store
     → Option (Bor Kept) → Result (Asked L) AskRefusal → Type 0
 AnswersAt s t W view spot store old r =
-    let x = level_at (W.levels view) t in let p = W.place_of view spot in
+    let x = spots_at (W.levels view) t in let p = W.place_of view spot in
     (naming : ℕ → List ℕ) (tag : ℕ) (m : ModuleValue)
     → IsNamedAt naming s.seed x p tag m
     → IsAnswered naming (by_definition s t (level_by naming x) p (naming tag) m) store
@@ -82,7 +82,7 @@ AnswersTo q W view spot store old r = AnswersAt q.system q.level W view spot sto
 abbrev pub MayAnswer : {V P L : Type 0} → AskedLevel → LevelViewOf V P → V → P → Store
     → Option (Bor Kept) → Result (Option (Asked L)) AskRefusal → Type 0
 MayAnswer q W view spot store old r =
-    let x = level_at (W.levels view) q.level in let p = W.place_of view spot in
+    let x = spots_at (W.levels view) q.level in let p = W.place_of view spot in
     (naming : ℕ → List ℕ) (tag : ℕ) (m : ModuleValue)
     → IsNamedAt naming q.system.seed x p tag m
     → IfSome (asked_if_any r)
@@ -94,10 +94,10 @@ MayAnswer q W view spot store old r =
 abbrev pub Scans : {V P L : Type 0} → System → ℕ → LevelViewOf V P → V → P → ℕ → ℕ
     → Result (Asked L) AskRefusal → Type 0
 Scans s t W view spot before after r =
-    let x = level_at (W.levels view) t in let p = W.place_of view spot in
+    let x = spots_at (W.levels view) t in let p = W.place_of view spot in
     (naming : ℕ → List ℕ) (tag : ℕ) (m : ModuleValue)
     → IsNamedAt naming s.seed x p tag m
-    → Counts (length (by_definition s t (level_by naming x) p (naming tag) m).question.trace)
+    → CountsEntries (length (by_definition s t (level_by naming x) p (naming tag) m).question.trace)
     before after r
 
 abbrev pub ScansFor : {V P L : Type 0} → AskedLevel → LevelViewOf V P → V → P → ℕ → ℕ
@@ -108,11 +108,11 @@ ScansFor q W view spot before after r = Scans q.system q.level W view spot befor
 abbrev pub MayScan : {V P L : Type 0} → AskedLevel → LevelViewOf V P → V → P → ℕ → ℕ
     → Result (Option (Asked L)) AskRefusal → Type 0
 MayScan q W view spot before after r =
-    let x = level_at (W.levels view) q.level in let p = W.place_of view spot in
+    let x = spots_at (W.levels view) q.level in let p = W.place_of view spot in
     (naming : ℕ → List ℕ) (tag : ℕ) (m : ModuleValue)
     → IsNamedAt naming q.system.seed x p tag m
     → IfSome (asked_if_any r)
-    (Counts (length (by_definition q.system q.level (level_by naming x) p (naming tag)
+    (CountsEntries (length (by_definition q.system q.level (level_by naming x) p (naming tag)
     m).question.trace) before after)
 
 -- 4. where nothing may be answered

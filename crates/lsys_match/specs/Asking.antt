@@ -9,7 +9,7 @@ use Rattle.lsys_spec.specs.Equalities.{same_all, same_body}
 use Rattle.lsys_module.specs.Views.{module_name}
 use Rattle.lsys_bodies.specs.Filters.{filter_of}
 use Rattle.lsys_level.specs.Spots.{Spotted, Module}
-use Rattle.lsys_walks.specs.Views.{module_of}
+use Rattle.lsys_walks.specs.Views.{module_named}
 use Rattle.lsys_match.specs.declared.posed.Posed.{Posed as CodePosed}
 use Rattle.lsys_match.specs.Groups.{rules_of}
 use Rattle.lsys_match.specs.Sites.{Site, choice_told}
@@ -33,7 +33,7 @@ same_group other q name arity =
     same_all same_body (group_at other name arity) (group_at q name arity)
 
 -- a module stands at place p
-pub record IsModuleAt (row : List Spotted) (p : ℕ) : Type 0 where
+pub record HasModuleAt (row : List Spotted) (p : ℕ) : Type 0 where
   pub tag : ℕ
   pub key : ℕ
   pub own : ModuleValue
@@ -41,7 +41,7 @@ pub record IsModuleAt (row : List Spotted) (p : ℕ) : Type 0 where
 
 -- a module stands there, and level t has rules for it
 pub record HasQuestion (s : System) (t : ℕ) (row : List Spotted) (p : ℕ) : Type 0 where
-  pub here : IsModuleAt row p
+  pub here : HasModuleAt row p
   pub rules : group s t here.own.name (length here.own.params) ≡ [] → ⊥
 
 -- this is posed of the module at place p of level t
@@ -55,7 +55,7 @@ abbrev pub key_if : Bool → Option ℕ → Option ℕ
 key_if weighted key = if weighted then key else None
 
 abbrev pub posed_by : CodePosed → Posed
-posed_by q = record { tag = q.tag; own = module_of q.name q.params.now; bodies = rules_of q.group; key = q.key }
+posed_by q = record { tag = q.tag; own = module_named q.name q.params.now; bodies = rules_of q.group; key = q.key }
 
 -- of the module m at place p of level t
 abbrev pub site_at : System → ℕ → List Spotted → ℕ → ModuleValue → Site

@@ -13,7 +13,7 @@ use Rattle.lsys_spec.specs.Meaning.{asked, successor}
 use Rattle.lsys_spec.specs.Questions.{Question, question}
 use Rattle.lsys_level.specs.Spots.{Spotted, Module}
 use Rattle.lsys_rewrite.specs.Faults.{fault_of}
-use Rattle.lsys_walks.specs.Stores.{Store, StaysWithRoom, AreFresh, AreLive, Holds, OtherTracesStay}
+use Rattle.lsys_walks.specs.Stores.{Store, StaysWithRoom, AreFresh, AreLive, HoldsTrace, OtherTracesStay}
 use Rattle.lsys_walks.specs.Noted.{Noted}
 use Rattle.lsys_walks.specs.declared.entry.Entry.{Entry}
 use Rattle.lsys_walks.specs.declared.store.TraceRuns.{TraceRuns}
@@ -24,7 +24,7 @@ use Rattle.lsys_match.specs.declared.refusal.AskRefusal.TheVariants as refusals
 use Rattle.lsys_match.specs.Kept.{Kept}
 use Rattle.lsys_match.specs.TagQuestions.{IsSamePosed, Posed, TagAnswer, question_by}
 use Rattle.lsys_match.specs.Stored.{runs_of, entries_in, values_in, posed_in, trace_in, question_in, answer_in, HasParams}
-use Rattle.lsys_match.specs.Answered.{IsSound, place_chosen}
+use Rattle.lsys_match.specs.Answered.{IsSoundAnswer, place_chosen}
 
 -- 1. by the definitions
 
@@ -35,7 +35,7 @@ pub record ByDefinition : Type 0 where
   pub successor : Result (List (S.Symbol ℤ)) Fault
 
 -- of the module m with lineage l at place p of the level x, which is level t
-abbrev pub by_definition : System → ℕ → List L.Symbol → ℕ → List ℕ → ModuleValue → ByDefinition
+abbrev pub by_definition : System → ℕ → List L.LevelSymbol → ℕ → List ℕ → ModuleValue → ByDefinition
 by_definition s t x p l m =
     let bs = group s t m.name (length m.params) in
     record { question = question s t bs x p l m; choice = (asked s t bs x p l m).answer; successor = successor s t x p l m }
@@ -69,7 +69,7 @@ asked_if_any (Err e) = Some (Err e)
 pub record IsMade (s : Store) (a : Kept) : Type 0 where
   pub live : AreLive s (runs_of a)
   pub params : HasParams s a
-  pub sound : IsSound (answer_in s a)
+  pub sound : IsSoundAnswer (answer_in s a)
 
 abbrev pub IsMadeIfAny : Store → Option Kept → Type 0
 IsMadeIfAny s None = Unit {0}
@@ -94,8 +94,8 @@ pub record IsNew (before after : Store) (old : Option Kept) (a : Kept) : Type 0 
   pub others : OtherTracesStay before after (runs_of a)
 
 -- This trace is kept with these parameters: its runs have them, and weren't live before, and all other runs stay.
-pub record IsPlaced (before after : Store) (runs : TraceRuns) (entries : List Entry) (values : List ℤ) : Type 0 where
-  pub placed : Holds after runs entries values
+pub record IsTracePlaced (before after : Store) (runs : TraceRuns) (entries : List Entry) (values : List ℤ) : Type 0 where
+  pub placed : HoldsTrace after runs entries values
   pub fresh : AreFresh before runs entries values
   pub others : OtherTracesStay before after runs
 
@@ -103,7 +103,7 @@ pub record IsPlaced (before after : Store) (runs : TraceRuns) (entries : List En
 abbrev pub KeepsTrace : {E : Type 0} → Store → Store → List Entry → List ℤ → Result TraceRuns E
     → Type 0
 KeepsTrace before after entries values r =
-    IfOk r (λ runs. IsPlaced before after runs entries values)
+    IfOk r (λ runs. IsTracePlaced before after runs entries values)
 
 -- This answer is kept: its runs are live, and weren't before, and all other runs stay.
 pub record IsKept (before after : Store) (meant : TagAnswer) (a : Kept) : Type 0 where

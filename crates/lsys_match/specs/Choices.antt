@@ -44,9 +44,9 @@ abbrev pub applying_of : CodeApplying → choice.Applying
 applying_of a = record { place = a.place; values = a.values.items; weight = a.weight }
 
 -- what was found, or the fault
-abbrev pub found_or : List choice.Applying → Option FaultKind → Result (List choice.Applying) choice.Fault
-found_or found None = Ok found
-found_or found (Some k) = Err (fault_of k)
+abbrev pub found_or_fault : List choice.Applying → Option FaultKind → Result (List choice.Applying) choice.Fault
+found_or_fault found None = Ok found
+found_or_fault found (Some k) = Err (fault_of k)
 
 -- a weight, or the fault
 abbrev pub weight_by : Result ℕ FaultKind → Result ℕ choice.Fault
@@ -54,7 +54,7 @@ weight_by (Ok n) = Ok n
 weight_by (Err k) = Err (fault_of k)
 
 abbrev pub Finds : {E : Type 0} → ((ℕ → List ℕ) → Told (Result (List choice.Applying) choice.Fault)) → List Noted → List choice.Applying → Result (Option FaultKind) E → Type 0
-Finds told read found r = (naming : ℕ → List ℕ) → IfOk r (λ k. IsTold (told naming) (entries_by naming read) (found_or found k))
+Finds told read found r = (naming : ℕ → List ℕ) → IfOk r (λ k. IsTold (told naming) (entries_by naming read) (found_or_fault found k))
 
 abbrev pub FindsFront : {E : Type 0} → ((ℕ → List ℕ) → Told (Result (List choice.Applying) choice.Fault)) → List Noted → Result (Option FaultKind) E → Type 0
 FindsFront told read r = (naming : ℕ → List ℕ) → OnErr r (IsFrontOf (told naming).entries (entries_by naming read))
@@ -66,12 +66,12 @@ applying place values weight = record { place = place; values = values; weight =
 abbrev pub ConsidersRule : {E : Type 0} → List choice.Applying → ℕ → CodeBody → Outcome → List ℤ
     → List choice.Applying → Result (Option FaultKind) E → Type 0
 ConsidersRule old place b outcome values new r =
-    IfOk r (λ k. found_with old place (meant b) (outcome_by outcome values) ≡ found_or new k)
+    IfOk r (λ k. found_with old place (meant b) (outcome_by outcome values) ≡ found_or_fault new k)
 
 -- one more was found, where the weights don't sum to too much then
 abbrev pub AddsWithinTotal : {E : Type 0} → List choice.Applying → choice.Applying
     → List choice.Applying → Result (Option FaultKind) E → Type 0
-AddsWithinTotal old a new r = IfOk r (λ k. within_total (old ++ a ∷ []) ≡ found_or new k)
+AddsWithinTotal old a new r = IfOk r (λ k. within_total (old ++ a ∷ []) ≡ found_or_fault new k)
 
 -- the first rule of a group that applies is chosen
 abbrev pub ChoosesFirst : {E : Type 0} → Site → List CodeBody → List Noted → List ℤ

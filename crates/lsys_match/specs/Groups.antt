@@ -3,11 +3,11 @@ use Rattle.std.specs.Prelude.{List, [], map, Option, Some, None}
 use Rattle.lsys_spec.specs.Bodies.{Body, body_of}
 use Rattle.lsys_bodies.specs.declared.body.Body.{Body as CodeBody}
 use Rattle.lsys_bodies.specs.declared.rule.Rule.{Rule}
-use Rattle.lsys_bodies.specs.Views.{written}
+use Rattle.lsys_bodies.specs.Views.{as_rule}
 
 -- what a body means
 abbrev pub meant : CodeBody → Body
-meant b = body_of (written b)
+meant b = body_of (as_rule b)
 
 -- what the bodies of a group mean
 abbrev pub rules_of : List CodeBody → List Body

@@ -1,7 +1,7 @@
 -- Answers told by tags, as those of the definitions.
 use Rattle.std.specs.Prelude.{◌≡◌, ◌↔◌, ℕ, List}
 use Rattle.lsys_spec.specs.Systems.{System}
-use Rattle.lsys_spec.specs.Levels.{ModuleValue, Symbol}
+use Rattle.lsys_spec.specs.Levels.{ModuleValue, LevelSymbol}
 use Rattle.lsys_spec.specs.Questions.{Question}
 use Rattle.lsys_level.specs.Spots.{Spotted, level_by}
 use Rattle.lsys_level.specs.Tags.{NamesTell}
@@ -16,7 +16,7 @@ pub record IsAnswerThere (s : System) (t : ℕ) (row : List Spotted) (p tag : �
   pub told : (naming : ℕ → List ℕ) → IsNamedAt naming s.seed row p tag m → IsAnswer naming (by_definition s t (level_by naming row) p (naming tag) m) a
 
 -- what the definitions ask of the module m with lineage l at place p of the level x
-abbrev pub asked_there : System → ℕ → List Symbol → ℕ → List ℕ → ModuleValue → Question
+abbrev pub asked_there : System → ℕ → List LevelSymbol → ℕ → List ℕ → ModuleValue → Question
 asked_there s t x p l m = (by_definition s t x p l m).question
 
 -- answers are to the same question by tags exactly where they are by lineages

@@ -7,7 +7,7 @@ use Rattle.lsys_walks.specs.declared.entry.Entry.{Entry}
 use Rattle.lsys_walks.specs.declared.store.TraceRuns.{TraceRuns}
 use Rattle.lsys_walks.specs.Noted.{Noted}
 use Rattle.lsys_walks.specs.Stores.{Store}
-use Rattle.lsys_walks.specs.Views.{arities, decoded, module_of}
+use Rattle.lsys_walks.specs.Views.{arities, decoded, module_named}
 use Rattle.lsys_match.specs.Groups.{meant}
 use Rattle.lsys_match.specs.Kept.{Kept}
 use Rattle.lsys_match.specs.TagQuestions.{Posed, TagQuestion, TagAnswer}
@@ -32,15 +32,15 @@ values_in s a = listed (list_of s.values a.values)
 abbrev pub HasParams : Store → Kept → Type 0
 HasParams s a = a.arity + arities (entries_in s a) ≡ length (values_in s a)
 
-abbrev pub own_in : Store → Kept → ModuleValue
-own_in s a = module_of a.name (take a.arity (values_in s a))
+abbrev pub own_module_in : Store → Kept → ModuleValue
+own_module_in s a = module_named a.name (take a.arity (values_in s a))
 
 abbrev pub trace_in : Store → Kept → List Noted
 trace_in s a = decoded (entries_in s a) (drop a.arity (values_in s a))
 
 -- the question that it answers but for the trace
 abbrev pub posed_in : Store → Kept → Posed
-posed_in s a = record { tag = a.tag; own = own_in s a; bodies = map meant a.bodies; key = a.key }
+posed_in s a = record { tag = a.tag; own = own_module_in s a; bodies = map meant a.bodies; key = a.key }
 
 -- the question that it answers
 abbrev pub question_in : Store → Kept → TagQuestion

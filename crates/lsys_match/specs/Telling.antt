@@ -10,7 +10,7 @@ use Rattle.lsys_module.specs.declared.symbol.Symbol.{Symbol}
 use Rattle.lsys_rewrite.specs.Faults.{fault_of}
 use Rattle.lsys_rewrite.specs.declared.refusal.FaultKind.{FaultKind}
 use Rattle.lsys_walks.specs.Noted.{Noted}
-use Rattle.lsys_walks.specs.Views.{arities, decoded, module_of}
+use Rattle.lsys_walks.specs.Views.{arities, decoded, module_named}
 use Rattle.lsys_match.specs.declared.choice.Choice.{Choice}
 use Rattle.lsys_match.specs.declared.refusal.AskRefusal.{AskRefusal}
 use Rattle.lsys_match.specs.declared.refusal.AskRefusal.TheVariants.{Fault, Memory}
@@ -25,7 +25,7 @@ use Rattle.lsys_match.specs.Asking.{posed_by, told_for}
 use Rattle.lsys_match.specs.Choices.{choice_by}
 use Rattle.lsys_match.specs.Tries.{entries_by}
 use Rattle.lsys_match.specs.TagQuestions.{Posed, TagAnswer}
-use Rattle.lsys_match.specs.Answered.{Counts, IsAnswerTo, trace_told}
+use Rattle.lsys_match.specs.Answered.{CountsEntries, IsAnswerTo, trace_told}
 
 -- the choice, where these are the values of the chosen rule's formals
 abbrev pub choice_at : Option ℕ → List ℤ → choice.Choice
@@ -37,8 +37,8 @@ choice_or (Ok g) values = choice_at g values
 choice_or (Err k) values = choice.Failed (fault_of k)
 
 -- the place, or the fault, of a choice
-abbrev pub IsPlaceOf : Choice → Result (Option ℕ) FaultKind → Type 0
-IsPlaceOf c r = (values : List ℤ) → choice_by c values ≡ choice_or r values
+abbrev pub IsChosenPlace : Choice → Result (Option ℕ) FaultKind → Type 0
+IsChosenPlace c r = (values : List ℤ) → choice_by c values ≡ choice_or r values
 
 -- the successor where this is chosen, or its fault; want of memory says nothing
 abbrev pub IsSuccessor : List Body → ModuleValue → Option ℕ → List ℤ → Result (List Symbol) AskRefusal → Type 0
@@ -49,7 +49,7 @@ IsSuccessor bs m chosen values (Err Memory) = Unit {0}
 -- the successor of what is posed, where this is chosen
 abbrev pub IsSuccessorOf : CodePosed → Option ℕ → List ℤ → Result (List Symbol) AskRefusal → Type 0
 IsSuccessorOf q chosen values r =
-    let own = module_of q.name q.params.now in IsSuccessor (rules_of q.group) own chosen values r
+    let own = module_named q.name q.params.now in IsSuccessor (rules_of q.group) own chosen values r
 
 -- these symbols, or the refusal
 abbrev pub replaced_by : List Symbol → Result Unit AskRefusal → Result (List Symbol) AskRefusal
@@ -64,22 +64,22 @@ abbrev pub old_trace : Option OldTrace → Option (List Noted)
 old_trace o = option_map (λ t. noted_by t) o
 
 -- it is the old trace, where there is one
-abbrev pub IsBeside : Option (List Noted) → List Noted → Type 0
-IsBeside None now = Unit {0}
-IsBeside (Some was) now = now ≡ was
+abbrev pub IsOldTrace : Option (List Noted) → List Noted → Type 0
+IsOldTrace None now = Unit {0}
+IsOldTrace (Some was) now = now ≡ was
 
 -- its parameters are as many as its entries have
 abbrev pub HasFittingParams : Option OldTrace → Type 0
 HasFittingParams None = Unit {0}
 HasFittingParams (Some t) = arities t.entries.now ≡ length t.values.now
 
-abbrev pub answer_of : Posed → Reply → TagAnswer
-answer_of d r = record { question = record { posed = d; trace = r.trace }; chosen = r.chosen; successor = string_of r.successor }
+abbrev pub reply_answer : Posed → Reply → TagAnswer
+reply_answer d r = record { question = record { posed = d; trace = r.trace }; chosen = r.chosen; successor = string_of r.successor }
 
 -- the old trace was read; or another one, and this is the answer; or the fault
 abbrev pub IsTelling : ((ℕ → List ℕ) → Told choice.Choice) → Posed → Option (List Noted) → Result CodeTold AskRefusal → Type 0
 IsTelling told d old (Ok Same) = (was : List Noted) × (old ≡ Some was) × ((naming : ℕ → List ℕ) → entries_by naming was ≡ trace_told (told naming))
-IsTelling told d old (Ok (Other r)) = (old ≡ Some r.trace → ⊥) × IsAnswerTo told (answer_of d r)
+IsTelling told d old (Ok (Other r)) = (old ≡ Some r.trace → ⊥) × IsAnswerTo told (reply_answer d r)
 IsTelling told d old (Err (Fault k)) = (naming : ℕ → List ℕ) → successor_by d.bodies d.own (told naming).answer ≡ Err (fault_of k)
 IsTelling told d old (Err Memory) = Unit {0}
 
@@ -93,4 +93,4 @@ IsTellingOf q site old r =
 abbrev pub CountsTold : CodePosed → Site → ℕ → ℕ → Result CodeTold AskRefusal → Type 0
 CountsTold q site before after r =
     (naming : ℕ → List ℕ)
-    → Counts (length (trace_told (told_for naming site (posed_by q)))) before after r
+    → CountsEntries (length (trace_told (told_for naming site (posed_by q)))) before after r

@@ -25,8 +25,8 @@ outcome_by code.Yes values = choice.Yes values
 outcome_by (code.Fails k) values = choice.Fails (fault_of k)
 
 -- what was told is read behind what was read before, up to the first entry that is too many
-abbrev pub IsRead : {A : Type 0} → Told A → List Entry → List Entry → Type 0
-IsRead t old new = new ≡ take (most_entries + 1) (old ++ t.entries)
+abbrev pub ReadsTold : {A : Type 0} → Told A → List Entry → List Entry → Type 0
+ReadsTold t old new = new ≡ take (most_entries + 1) (old ++ t.entries)
 
 -- after a fault no rule is tried; else all of it was read
 abbrev pub MayGoOn : choice.Outcome → Told Found → List Entry → List Entry → Type 0
@@ -36,7 +36,7 @@ MayGoOn o t old new = (new ≡ old ++ t.entries) × (length new ≤ most_entries
 -- this is the outcome of the rule, behind the entries that were read for others
 pub record IsTried (t : Told Found) (d : Tried) (b : Body) (old new : List Entry) (o : choice.Outcome) : Type 0 where
   pub answer : outcome most_entries d b t ≡ o
-  pub read : IsRead t old new
+  pub read : ReadsTold t old new
   pub all : MayGoOn o t old new
 
 abbrev pub entries_by : (ℕ → List ℕ) → List Noted → List Entry

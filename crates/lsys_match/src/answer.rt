@@ -2,7 +2,7 @@
 ghost use Rattle.std.specs.Prelude.{◌≡◌, ◌↔◌, IsTrue, IfSome, Some, drop};
 ghost use Rattle.lsys_region.specs.Pool.{list_of};
 ghost use Rattle.lsys_walks.specs.Stores.{AreLive, AreGone, OtherTracesStay};
-ghost use Rattle.lsys_walks.specs.Views.{module_of};
+ghost use Rattle.lsys_walks.specs.Views.{module_named};
 ghost use Rattle.lsys_match.specs.Asking.{posed_by};
 ghost use Rattle.lsys_match.specs.Stored.{runs_of, values_in, posed_in, trace_in, HasParams};
 ghost use Rattle.lsys_match.specs.TagQuestions.{IsThereIfSame};
@@ -130,7 +130,7 @@ impl<L: Ledger> Answer<L> {
 
 // The two modules are the same.
 fn is_alike(name: Name, params: &[i64], other: Name, others: &[i64]) -> bool
-    ensures { IsTrue result ↔ (module_of name params.now ≡ module_of other others.now) }
+    ensures { IsTrue result ↔ (module_named name params.now ≡ module_named other others.now) }
 {
     name == other && params == others
 }

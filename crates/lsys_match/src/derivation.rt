@@ -1,5 +1,6 @@
 //! What each representation of a derivation meets.
 ghost use Rattle.std.specs.Prelude.{◌≡◌, ◌+◌, ◌*◌, ◌≤◌, ℕ, List, IfOk, OnErr, length, sum_by};
+ghost use Rattle.lsys_syntax.specs.Limits.{greatest_module_limit};
 ghost use Rattle.lsys_spec.specs.Levels as levels;
 ghost use Rattle.lsys_spec.specs.Systems as spec;
 ghost use Rattle.lsys_match.specs.Derivations.{IsDerived, IsOutcome, Rises, most_read, CountsMeant, KeepsMeantTags, ReadsMeant};
@@ -19,7 +20,7 @@ pub trait Derivation<L: Ledger>: LevelView + Sized {
     ghost limit_of: { Self → ℕ };
 
     // how many entries an edit reads at most, from an old system with its levels to a new one with its own
-    ghost visits: { spec.System → spec.System → List (List levels.Symbol) → List (List levels.Symbol) → ℕ };
+    ghost visits: { spec.System → spec.System → List (List levels.LevelSymbol) → List (List levels.LevelSymbol) → ℕ };
 
     /// The levels of the opening system, under a limit of at most 1,000,000 symbols.
     ///
@@ -27,7 +28,7 @@ pub trait Derivation<L: Ledger>: LevelView + Sized {
     ///
     /// Want of memory.
     fn start(alloc: Global, limit: u32) -> Result<Self, AllocError>
-        requires { limit ≤ 1000000 }
+        requires { limit ≤ greatest_module_limit }
         ensures system { IfOk result (λ d. system_of d ≡ spec.opening) }
         ensures limit { IfOk result (λ d. limit_of d ≡ limit) };
 

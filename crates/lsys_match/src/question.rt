@@ -7,7 +7,7 @@ ghost use Rattle.lsys_bodies.specs.Filters.{filter_of};
 ghost use Rattle.lsys_level.specs.Spots.{IsSpot};
 ghost use Rattle.lsys_match.specs.Asking.{asked_level, posed_by};
 ghost use Rattle.lsys_match.specs.Asks.{IsKept, IsMadeIfAny, IsTraceFor, KeepsStore, StaysAsKept, asked_if_any, news, KeepsTrace, kept_lent};
-ghost use Rattle.lsys_match.specs.Telling.{HasFittingParams, answer_of, old_trace};
+ghost use Rattle.lsys_match.specs.Telling.{HasFittingParams, reply_answer, old_trace};
 ghost use Rattle.lsys_match.specs.AskedSpots.{AnswersAt, Scans, AnswersTo, CountsNews, IsAskedAt, IsPosedOf, KeepsStoreIfAny, MayAnswer, MayScan, ScansFor};
 
 use crate::answer::Answer;
@@ -170,7 +170,7 @@ fn keep<L: Ledger>(
 ) -> Result<Answer<L>, AllocError>
     requires few { length posed.now.params.now ≤ 8 }
     requires entries { length reply.trace ≤ most_entries + 1 }
-    ensures kept { IfOk result (IsKept store.old store.new (answer_of (posed_by posed.now) reply)) }
+    ensures kept { IfOk result (IsKept store.old store.new (reply_answer (posed_by posed.now) reply)) }
     ensures refused { OnErr result (StaysAsKept store.old store.new) }
 {
     let group = posed.group.share()?;

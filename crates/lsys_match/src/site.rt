@@ -1,8 +1,8 @@
 //! A module, with what stands around it.
 ghost use Rattle.std.specs.Prelude.{◌≡◌, ◌+◌, ◌≤◌, [], length, Some, None, Ok, IfOk, OnErr};
 ghost use Rattle.lsys_bodies.specs.Filters.{filter_of};
-ghost use Rattle.lsys_level.specs.Spots.{IsSpot, level_at};
-ghost use Rattle.lsys_walks.specs.Views.{module_of};
+ghost use Rattle.lsys_level.specs.Spots.{IsSpot, spots_at};
+ghost use Rattle.lsys_walks.specs.Views.{module_named};
 ghost use Rattle.lsys_spec.specs.Meaning.{most_entries};
 ghost use Rattle.lsys_bodies.specs.Views.{body_value};
 ghost use Rattle.lsys_match.specs.Groups.{meant};
@@ -33,17 +33,17 @@ pub struct Site<'a, W: LevelView> {
 }
 
 impl<'a, W: LevelView> Model for Site<'a, W> {
-    ghost use Rattle.lsys_level.specs.Spots.{IsSpot, level_at};
+    ghost use Rattle.lsys_level.specs.Spots.{IsSpot, spots_at};
     ghost use Rattle.lsys_bodies.specs.Filters.{filter_of};
-    ghost use Rattle.lsys_walks.specs.Views.{module_of};
+    ghost use Rattle.lsys_walks.specs.Views.{module_named};
     ghost use Rattle.lsys_match.specs.Sites.{Site};
 
     ghost Value = { Site };
 
     ghost view = { λ a. record {
-      row = level_at (W.levels a.view.now) (W.level_of a.view.now a.spot);
+      row = spots_at (W.levels a.view.now) (W.level_of a.view.now a.spot);
       place = W.place_of a.view.now a.spot;
-      own = module_of a.name a.params.now;
+      own = module_named a.name a.params.now;
       filter = filter_of a.filter;
     } };
 
@@ -60,9 +60,9 @@ impl<'a, W: LevelView> Site<'a, W> {
         filter: Filter<'a>,
     ) -> Site<'a, W>
         requires { IsSpot (W.levels view.now) (W.level_of view.now spot) (W.place_of view.now spot) }
-        ensures row { result.row ≡ level_at (W.levels view.now) (W.level_of view.now spot) }
+        ensures row { result.row ≡ spots_at (W.levels view.now) (W.level_of view.now spot) }
         ensures place { result.place ≡ W.place_of view.now spot }
-        ensures own { result.own ≡ module_of name params.now }
+        ensures own { result.own ≡ module_named name params.now }
         ensures filter { result.filter ≡ filter_of filter.entry }
     {
         Site {

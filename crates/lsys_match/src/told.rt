@@ -2,7 +2,7 @@
 ghost use Rattle.std.specs.Prelude.{◌≡◌, ◌↔◌, ◌≤◌, [], length, IsTrue, Some};
 ghost use Rattle.lsys_level.specs.Spots.{IsSpot};
 ghost use Rattle.lsys_match.specs.Asking.{posed_by};
-ghost use Rattle.lsys_match.specs.Telling.{HasFittingParams, IsBeside, IsPlaceOf, old_trace, CountsTold, IsTellingOf};
+ghost use Rattle.lsys_match.specs.Telling.{HasFittingParams, IsOldTrace, IsChosenPlace, old_trace, CountsTold, IsTellingOf};
 ghost use Rattle.lsys_match.specs.AskedSpots.{CountsToldAt, IsTellingAt};
 
 use crate::choice::Choice;
@@ -102,7 +102,7 @@ impl<'a> Posed<'a> {
 // Nothing was read as yet beside the old trace.
 fn beside<'a>(old: Option<OldTrace<'a>>, alloc: Global) -> Reading<'a>
     requires { HasFittingParams old }
-    ensures old { IsBeside (old_trace old.entry) result.old }
+    ensures old { IsOldTrace (old_trace old.entry) result.old }
     ensures none { result.read ≡ [] }
 {
     match old {
@@ -113,7 +113,7 @@ fn beside<'a>(old: Option<OldTrace<'a>>, alloc: Global) -> Reading<'a>
 
 // The old trace is there and was read.
 fn is_read(old: Option<OldTrace<'_>>, trace: &Reading<'_>) -> bool
-    requires { IsBeside (old_trace old) trace.now.old }
+    requires { IsOldTrace (old_trace old) trace.now.old }
     ensures { IsTrue result ↔ (old_trace old.entry ≡ Some trace.now.read) }
 {
     old.is_some() && trace.is_same()
@@ -121,7 +121,7 @@ fn is_read(old: Option<OldTrace<'_>>, trace: &Reading<'_>) -> bool
 
 // The place of the rule that is chosen.
 fn place_of(choice: Choice) -> Result<Option<u8>, FaultKind>
-    ensures { IsPlaceOf choice result }
+    ensures { IsChosenPlace choice result }
 {
     match choice {
         Choice::NoRule => Ok(None),

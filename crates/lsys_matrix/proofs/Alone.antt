@@ -14,7 +14,7 @@ use Rattle.lsys_spec.specs.Standings.{free}
 use Rattle.lsys_spec.specs.Morphisms.{IsContextFree, IsUnweighted, given_alone}
 use Rattle.lsys_spec.proofs.Tests.{both}
 use Rattle.lsys_matrix.specs.Growth.{is_nil, is_none, is_bare, is_plain_rule, all_plain, in_class}
-use Rattle.lsys_matrix.specs.Counts.{bare, given_in, given}
+use Rattle.lsys_matrix.specs.Counts.{without_params, given_in, given}
 
 nil_is : {A : Type 0} (xs : List A) → is_nil xs ≡ true → xs ≡ []
 nil_is [] h = refl
@@ -43,7 +43,7 @@ plain_rule r h =
     record { left = nil_is r.left a.0; right = nil_is r.right b.0; formals = nil_is r.formals c.0; condition = none_is r.condition d.0; weight = none_is r.weight e.0; successor = e.1 }
 
 -- a bare successor is filled without a value
-filled_bare : (xs : List (S.Symbol Expr)) → is_bare xs ≡ true → filled (templates [] xs) [] ≡ Ok (bare xs)
+filled_bare : (xs : List (S.Symbol Expr)) → is_bare xs ≡ true → filled (templates [] xs) [] ≡ Ok (without_params xs)
 filled_bare [] h = refl
 filled_bare (S.Module n (e ∷ es) ∷ xs) h = cc
 filled_bare (S.Module n [] ∷ xs) h = rw (filled_bare xs h) refl
@@ -85,7 +85,7 @@ letter n = record { name = n; params = [] }
 
 -- the first rule of a group decides
 first_decides : (s : System) (t : ℕ) (n : ModuleName) (r : Rule) (bs : List Body) → IsPlain r
-    → successor_by (body_of r ∷ bs) (letter n) (choice (asking s t (letter n)) None (way (Module [] (letter n) ∷ []) 0) (items_from (Module [] (letter n) ∷ []) 1) (body_of r ∷ bs)).answer ≡ Ok (bare r.successor)
+    → successor_by (body_of r ∷ bs) (letter n) (choice (asking s t (letter n)) None (way (Module [] (letter n) ∷ []) 0) (items_from (Module [] (letter n) ∷ []) 1) (body_of r ∷ bs)).answer ≡ Ok (without_params r.successor)
 first_decides s t n r bs q = rw (q.left, q.right, q.formals, q.condition, filled_bare r.successor q.successor) refl
 
 alone_in : (s : System) (t : ℕ) (table : List ℕ) (n : ModuleName) (ps : List Production) → all_plain ps ≡ true
@@ -96,13 +96,13 @@ alone_in s t table n (p ∷ ps) h =
     by (is_for table n 0 p) (first_decides s t n p.rule (group_in table n 0 ps) (plain_rule p.rule e.0)) (alone_in s t table n ps e.1)
   where
     given_by : Bool → List (S.Symbol ℤ)
-    given_by b = if b then bare p.rule.successor else given_in table n ps
+    given_by b = if b then without_params p.rule.successor else given_in table n ps
 
     chosen : List Body → Result (List (S.Symbol ℤ)) Fault
     chosen bs = successor_by bs (letter n) (choice (asking s t (letter n)) None (way (Module [] (letter n) ∷ []) 0) (items_from (Module [] (letter n) ∷ []) 1) bs).answer
 
-    by : (b : Bool) → chosen (body_of p.rule ∷ group_in table n 0 ps) ≡ Ok (bare p.rule.successor) → chosen (group_in table n 0 ps) ≡ Ok (given_in table n ps)
-        → chosen (if b then body_of p.rule ∷ group_in table n 0 ps else group_in table n 0 ps) ≡ Ok (if b then bare p.rule.successor else given_in table n ps)
+    by : (b : Bool) → chosen (body_of p.rule ∷ group_in table n 0 ps) ≡ Ok (without_params p.rule.successor) → chosen (group_in table n 0 ps) ≡ Ok (given_in table n ps)
+        → chosen (if b then body_of p.rule ∷ group_in table n 0 ps else group_in table n 0 ps) ≡ Ok (if b then without_params p.rule.successor else given_in table n ps)
     by true f g = f
     by false f g = g
 

@@ -9,7 +9,7 @@ use Rattle.lsys_spec.proofs.Tests.{and_true, any_is, none_of}
 use Rattle.lsys_spec.proofs.Eachs.{each_front, each_back}
 use Rattle.lsys_spec.proofs.Equal.{same_name_refl}
 use Rattle.lsys_laws.proofs.Aparts.{bytes_eq_sym}
-use Rattle.lsys_matrix.specs.Growth.{among, names, all_rule_names, put_before, put_letter, put_letters, letters}
+use Rattle.lsys_matrix.specs.Growth.{among, module_names, all_rule_names, put_before, put_letter, put_letters, letters}
 use Rattle.lsys_matrix.specs.Counts.{all_among, all_successors_among, AreLetters}
 
 -- 1. where a name is put, the others stay
@@ -110,7 +110,7 @@ apart_letters ms (n ∷ ns) a = apart_letters (put_letter ms n) ns (apart_letter
 
 -- 3. those of a system
 
-among_names : {P : Type 0} (ns : List ModuleName) (xs : List (S.Symbol P)) → Each (λ n. among ns n ≡ true) (names xs) → all_among ns xs ≡ true
+among_names : {P : Type 0} (ns : List ModuleName) (xs : List (S.Symbol P)) → Each (λ n. among ns n ≡ true) (module_names xs) → all_among ns xs ≡ true
 among_names ns [] h = refl
 among_names ns (S.Module n ps ∷ xs) h = and_true (among ns n) (all_among ns xs) h.0 (among_names ns xs h.1)
 among_names ns (S.Push ∷ xs) h = among_names ns xs h
@@ -120,18 +120,18 @@ among_names ns (S.Cut ∷ xs) h = among_names ns xs h
 among_rules : (ns : List ModuleName) (ps : List Production) → Each (λ n. among ns n ≡ true) (all_rule_names ps) → all_successors_among ns ps ≡ true
 among_rules ns [] h = refl
 among_rules ns (p ∷ ps) h =
-    let front = each_front (λ n. among ns n ≡ true) (p.rule.name ∷ names p.rule.successor) (all_rule_names ps) h in
+    let front = each_front (λ n. among ns n ≡ true) (p.rule.name ∷ module_names p.rule.successor) (all_rule_names ps) h in
     and_true (all_among ns p.rule.successor) (all_successors_among ns ps) (among_names ns p.rule.successor front.1)
-    (among_rules ns ps (each_back (λ n. among ns n ≡ true) (p.rule.name ∷ names p.rule.successor) (all_rule_names ps) h))
+    (among_rules ns ps (each_back (λ n. among ns n ≡ true) (p.rule.name ∷ module_names p.rule.successor) (all_rule_names ps) h))
 
 pub are_letters : (s : System) → AreLetters s (letters s)
 are_letters s =
-    let all = all_put [] (names s.axiom_string ++ all_rule_names s.rules) in
+    let all = all_put [] (module_names s.axiom_string ++ all_rule_names s.rules) in
     let in_letters : ModuleName → Type 0 = λ n. among (letters s) n ≡ true in
     record {
-      apart = apart_letters [] (names s.axiom_string ++ all_rule_names s.rules) tt;
-      in_axiom = among_names (letters s) s.axiom_string (each_front in_letters (names s.axiom_string) (all_rule_names s.rules) all);
-      in_successors = among_rules (letters s) s.rules (each_back in_letters (names s.axiom_string) (all_rule_names s.rules) all);
+      apart = apart_letters [] (module_names s.axiom_string ++ all_rule_names s.rules) tt;
+      in_axiom = among_names (letters s) s.axiom_string (each_front in_letters (module_names s.axiom_string) (all_rule_names s.rules) all);
+      in_successors = among_rules (letters s) s.rules (each_back in_letters (module_names s.axiom_string) (all_rule_names s.rules) all);
     }
 
 -- 4. no fewer by more names

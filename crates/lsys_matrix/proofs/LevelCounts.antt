@@ -10,7 +10,7 @@ use Rattle.lsys_syntax.specs.Commands.{Numbering}
 use Rattle.lsys_spec.specs.Systems.{System, same_name, module_name_text, Each, Apart}
 use Rattle.lsys_spec.specs.Values.{◌and_then◌}
 use Rattle.lsys_spec.specs.Bodies.{is_for, table_at}
-use Rattle.lsys_spec.specs.Levels.{Symbol, Push, Pop, Module, plain}
+use Rattle.lsys_spec.specs.Levels.{LevelSymbol, Push, Pop, Module, plain}
 use Rattle.lsys_spec.specs.Cuts.{Raw, Plain, Cut, cut_on, cut}
 use Rattle.lsys_spec.specs.Meaning.{LevelRefusal, OverLimit, FaultAt, numbered, children_from, next_level}
 use Rattle.lsys_spec.specs.Morphisms.{given_alone, rewritten, raw_plain, AreMade}
@@ -19,7 +19,7 @@ use Rattle.lsys_spec.proofs.Equal.{same_name_text, text_same_name}
 use Rattle.lsys_spec.proofs.ContextFree.{children_made}
 use Rattle.lsys_matrix.specs.Sums.{sum_to, row_by}
 use Rattle.lsys_matrix.specs.Growth.{level_on, is_bare, is_plain_rule, all_plain, in_class, one_if, letter_count, among}
-use Rattle.lsys_matrix.specs.Counts.{branch_count, count_at, bare, given_in, given, given_at, step_matrix, all_among, all_successors_among, replaced, AreLetters, counts_after, HasCounts}
+use Rattle.lsys_matrix.specs.Counts.{branch_count, count_at, without_params, given_in, given, given_at, step_matrix, all_among, all_successors_among, replaced, AreLetters, counts_after, HasCounts}
 use Rattle.lsys_matrix.proofs.Sums.{sum_same, sum_zero, sum_plus}
 use Rattle.lsys_matrix.proofs.Alone.{class_free, class_unweighted, given_is, plain_rule}
 
@@ -33,7 +33,7 @@ bare-append (S.Push ∷ xs) ys h k = bare-append xs ys h k
 bare-append (S.Pop ∷ xs) ys h k = bare-append xs ys h k
 bare-append (S.Cut ∷ xs) ys h k = cc
 
-bare-bare : (xs : List (S.Symbol Expr)) → is_bare xs ≡ true → is_bare (bare {Q = ℤ} xs) ≡ true
+bare-bare : (xs : List (S.Symbol Expr)) → is_bare xs ≡ true → is_bare (without_params {Q = ℤ} xs) ≡ true
 bare-bare [] h = refl
 bare-bare (S.Module n [] ∷ xs) h = bare-bare xs h
 bare-bare (S.Module n (p ∷ ps) ∷ xs) h = cc
@@ -47,7 +47,7 @@ given_bare table n (p ∷ ps) h =
     let e = both (is_plain_rule p.rule) (all_plain ps) h in
     by (is_for table n 0 p) (bare-bare p.rule.successor (plain_rule p.rule e.0).successor) (given_bare table n ps e.1)
   where
-    by : (b : Bool) → is_bare (bare {Q = ℤ} p.rule.successor) ≡ true → is_bare (given_in table n ps) ≡ true → is_bare (if b then bare p.rule.successor else given_in table n ps) ≡ true
+    by : (b : Bool) → is_bare (without_params {Q = ℤ} p.rule.successor) ≡ true → is_bare (given_in table n ps) ≡ true → is_bare (if b then without_params p.rule.successor else given_in table n ps) ≡ true
     by true f g = f
     by false f g = g
 
@@ -78,7 +78,7 @@ uncut (Plain (Push l) ∷ raw) h = ap (λ ys. S.Push ∷ ys) (uncut raw h)
 uncut (Plain (Pop l) ∷ raw) h = ap (λ ys. S.Pop ∷ ys) (uncut raw h)
 
 -- a level whose symbols are these
-abbrev pub IsMade : Result (List Symbol) LevelRefusal → List (S.Symbol ℤ) → Type 0
+abbrev pub IsMade : Result (List LevelSymbol) LevelRefusal → List (S.Symbol ℤ) → Type 0
 IsMade (Ok x) ys = map plain x ≡ ys
 IsMade (Err r) ys = ⊥
 
@@ -87,7 +87,7 @@ cut_made (Ok raw) ys e h = let k : is_bare (map raw_plain raw) ≡ true = rw e h
 cut_made (Err (FaultAt k t n)) ys e h = absurd e
 cut_made (Err (OverLimit t)) ys e h = absurd e
 
-pub next_made : (s : System) (t : ℕ) → in_class s ≡ true → (x : List Symbol) → is_bare (map plain x) ≡ true → IsMade (next_level s t x) (replaced s t (map plain x))
+pub next_made : (s : System) (t : ℕ) → in_class s ≡ true → (x : List LevelSymbol) → is_bare (map plain x) ≡ true → IsMade (next_level s t x) (replaced s t (map plain x))
 next_made s t h x k =
     let e : AreMade (children_from s t x 0 0 x) (rewritten (given_alone s t) (map plain x)) = children_made s t (class_free s h t) (class_unweighted s h t) x 0 0 x in
     let f : AreMade (children_from s t x 0 0 x) (Ok (replaced s t (map plain x))) = rw (rewritten_is s t h (map plain x) k) at e in
@@ -148,7 +148,7 @@ given_same ns j table m n (p ∷ ps) h =
     rw e (by (is_for table n 0 p) (given_same ns j table m n ps h))
   where
     by : (b : Bool) → count_at ns j (given_in table m ps) ≡ count_at ns j (given_in table n ps)
-        → count_at ns j (if b then bare p.rule.successor else given_in table m ps) ≡ count_at ns j (if b then bare p.rule.successor else given_in table n ps)
+        → count_at ns j (if b then without_params p.rule.successor else given_in table m ps) ≡ count_at ns j (if b then without_params p.rule.successor else given_in table n ps)
     by true g = refl
     by false g = g
 
@@ -278,7 +278,7 @@ among-append ns (S.Push ∷ xs) ys h k = among-append ns xs ys h k
 among-append ns (S.Pop ∷ xs) ys h k = among-append ns xs ys h k
 among-append ns (S.Cut ∷ xs) ys h k = among-append ns xs ys h k
 
-among-bare : (ns : List ModuleName) (xs : List (S.Symbol Expr)) → all_among ns xs ≡ true → all_among ns (bare {Q = ℤ} xs) ≡ true
+among-bare : (ns : List ModuleName) (xs : List (S.Symbol Expr)) → all_among ns xs ≡ true → all_among ns (without_params {Q = ℤ} xs) ≡ true
 among-bare ns [] h = refl
 among-bare ns (S.Module n ps ∷ xs) h = let m = both (among ns n) (all_among ns xs) h in and_true _ _ m.0 (among-bare ns xs m.1)
 among-bare ns (S.Push ∷ xs) h = among-bare ns xs h
@@ -291,7 +291,7 @@ given_among ns table n (p ∷ ps) h k =
     let m = both (all_among ns p.rule.successor) (all_successors_among ns ps) h in
     by (is_for table n 0 p) (among-bare ns p.rule.successor m.0) (given_among ns table n ps m.1 k)
   where
-    by : (b : Bool) → all_among ns (bare {Q = ℤ} p.rule.successor) ≡ true → all_among ns (given_in table n ps) ≡ true → all_among ns (if b then bare p.rule.successor else given_in table n ps) ≡ true
+    by : (b : Bool) → all_among ns (without_params {Q = ℤ} p.rule.successor) ≡ true → all_among ns (given_in table n ps) ≡ true → all_among ns (if b then without_params p.rule.successor else given_in table n ps) ≡ true
     by true f g = f
     by false f g = g
 
@@ -312,7 +312,7 @@ pub record IsCounted (ns : List ModuleName) (c : ℕ → ℕ) (xs : List (S.Symb
   pub is_among : all_among ns xs ≡ true
   pub counts : (j : ℕ) → count_at ns j xs ≡ c j
 
-abbrev pub LevelCounted : Result (List Symbol) LevelRefusal → List ModuleName → (ℕ → ℕ) → Type 0
+abbrev pub LevelCounted : Result (List LevelSymbol) LevelRefusal → List ModuleName → (ℕ → ℕ) → Type 0
 LevelCounted (Ok x) ns c = IsCounted ns c (map plain x)
 LevelCounted (Err r) ns c = ⊥
 
@@ -322,7 +322,7 @@ first_counted s ns h l =
     let e = first_uncut s.numbering 0 [] [] s.axiom_string b in
     rw e (record { is_bare = b; is_among = l.in_axiom; counts = λ j. refl })
 
-next_counted : (s : System) (ns : List ModuleName) (t : ℕ) → in_class s ≡ true → AreLetters s ns → (r : Result (List Symbol) LevelRefusal)
+next_counted : (s : System) (ns : List ModuleName) (t : ℕ) → in_class s ≡ true → AreLetters s ns → (r : Result (List LevelSymbol) LevelRefusal)
     → LevelCounted r ns (counts_after s ns t) → LevelCounted (r and_then next_level s t) ns (counts_after s ns (suc t))
 next_counted s ns t h l (Ok x) c = by (next_level s t x) (next_made s t h x c.is_bare)
   where
@@ -332,7 +332,7 @@ next_counted s ns t h l (Ok x) c = by (next_level s t x) (next_made s t h x c.is
         both_same : (i : ℕ) → count_at ns i (map plain x) * step_matrix s ns t i j ≡ counts_after s ns t i * step_matrix s ns (0 + t) i j
         both_same i = let e : 0 + t ≡ t = omega arith in rw (e, c.counts i) refl
 
-    by : (r : Result (List Symbol) LevelRefusal) → IsMade r (replaced s t (map plain x)) → LevelCounted r ns (counts_after s ns (suc t))
+    by : (r : Result (List LevelSymbol) LevelRefusal) → IsMade r (replaced s t (map plain x)) → LevelCounted r ns (counts_after s ns (suc t))
     by (Ok y) e =
         rw e (record {
           is_bare = replaced_bare s t h (map plain x) c.is_bare;
@@ -350,6 +350,6 @@ counted s ns (suc t) h l = next_counted s ns t h l (level_on s t) (counted s ns 
 pub level_counts : (s : System) (ns : List ModuleName) (N : ℕ) → in_class s ≡ true → AreLetters s ns → HasCounts (level_on s N) ns (counts_after s ns N)
 level_counts s ns N h l = by (level_on s N) (counted s ns N h l)
   where
-    by : (r : Result (List Symbol) LevelRefusal) → LevelCounted r ns (counts_after s ns N) → HasCounts r ns (counts_after s ns N)
+    by : (r : Result (List LevelSymbol) LevelRefusal) → LevelCounted r ns (counts_after s ns N) → HasCounts r ns (counts_after s ns N)
     by (Ok x) c = λ j b. c.counts j
     by (Err r) c = c

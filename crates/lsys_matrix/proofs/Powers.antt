@@ -1,6 +1,6 @@
 -- Laws of runs: they are put together, and where the matrices come round again, whole turns are powers.
 use Rattle.std.proofs.Common.{◌≡◌, ℕ, zero, suc, ◌+◌, ◌*◌, ◌<◌, refl, ap, sym, subst, ◌∙◌, arith}
-use Rattle.lsys_matrix.specs.Sums.{row_by, product, run, repeated, steps_product}
+use Rattle.lsys_matrix.specs.Sums.{row_by, product, row_after, repeated, steps_product}
 use Rattle.lsys_matrix.proofs.Sums.{sum_same, row_by_product}
 
 row_same : (k : ℕ) (v w : ℕ → ℕ) (a b : ℕ → ℕ → ℕ) (j : ℕ) → ((i : ℕ) → i < k → v i ≡ w i) → ((i : ℕ) → i < k → a i j ≡ b i j) → row_by k v a j ≡ row_by k w b j
@@ -8,23 +8,23 @@ row_same k v w a b j h g = sum_same k (λ i. v i * a i j) (λ i. w i * b i j) (�
 
 -- the same row, and the same matrices
 pub run_same : (k : ℕ) (a b : ℕ → ℕ → ℕ → ℕ) (t u m : ℕ) (v w : ℕ → ℕ) → ((i : ℕ) → i < k → v i ≡ w i) → ((l i j : ℕ) → l < m → a (t + l) i j ≡ b (u + l) i j)
-    → (j : ℕ) → j < k → run k a t m v j ≡ run k b u m w j
+    → (j : ℕ) → j < k → row_after k a t m v j ≡ row_after k b u m w j
 run_same k a b t u zero v w h g j l = h j l
 run_same k a b t u (suc m) v w h g j l =
-    row_same k (run k a t m v) (run k b u m w) (a (t + m)) (b (u + m)) j
+    row_same k (row_after k a t m v) (row_after k b u m w) (a (t + m)) (b (u + m)) j
     (λ i n. run_same k a b t u m v w h (λ p x y q. g p x y (omega arith)) i n)
     (λ i n. g m i j (omega arith))
 
-pub run_more : (k : ℕ) (a : ℕ → ℕ → ℕ → ℕ) (t m p : ℕ) (v : ℕ → ℕ) (j : ℕ) → run k a t (m + p) v j ≡ run k a (t + m) p (run k a t m v) j
+pub run_more : (k : ℕ) (a : ℕ → ℕ → ℕ → ℕ) (t m p : ℕ) (v : ℕ → ℕ) (j : ℕ) → row_after k a t (m + p) v j ≡ row_after k a (t + m) p (row_after k a t m v) j
 run_more k a t m zero v j = let e : m + 0 ≡ m = omega arith in rw e refl
 run_more k a t m (suc p) v j =
     let e : m + suc p ≡ suc (m + p) = omega arith in
     let f : t + (m + p) ≡ t + m + p = omega arith in
-    rw (e, f) (row_same k (run k a t (m + p) v) (run k a (t + m) p (run k a t m v)) (a (t + m + p)) (a (t + m + p)) j (λ i n. run_more k a t m p v i) (λ i n. refl))
+    rw (e, f) (row_same k (row_after k a t (m + p) v) (row_after k a (t + m) p (row_after k a t m v)) (a (t + m + p)) (a (t + m + p)) j (λ i n. run_more k a t m p v i) (λ i n. refl))
 
 -- the matrix of a run: the same for each row
 pub record StandsFor (k : ℕ) (a : ℕ → ℕ → ℕ → ℕ) (t m : ℕ) (b : ℕ → ℕ → ℕ) : Type 0 where
-  pub is : (v : ℕ → ℕ) (j : ℕ) → row_by k v b j ≡ run k a t m v j
+  pub is : (v : ℕ → ℕ) (j : ℕ) → row_by k v b j ≡ row_after k a t m v j
 
 pub stands_one : (k : ℕ) (a : ℕ → ℕ → ℕ → ℕ) (t : ℕ) → StandsFor k a t 1 (a t)
 stands_one k a t = record { is = λ v j. let e : t + 0 ≡ t = omega arith in rw e refl }
@@ -33,7 +33,7 @@ pub stands_product : (k : ℕ) (a : ℕ → ℕ → ℕ → ℕ) (t m p : ℕ) (
 stands_product k a t m p b c f g = record {
   is = λ v j.
       sym (row_by_product k v b c j) ∙ g.is (row_by k v b) j
-      ∙ ap (λ (w : ℕ → ℕ). run k a (t + m) p w j) (λ i l. f.is v l i)
+      ∙ ap (λ (w : ℕ → ℕ). row_after k a (t + m) p w j) (λ i l. f.is v l i)
       ∙ sym (run_more k a t m p v j);
 }
 
@@ -54,20 +54,20 @@ comes_round a n h (suc q) p x y =
     rw e (h (0 + n * q + p) x y ∙ comes_round a n h q p x y)
 
 pub run_turns : (k : ℕ) (a : ℕ → ℕ → ℕ → ℕ) (n : ℕ) (b : ℕ → ℕ → ℕ) → ((t i j : ℕ) → a (t + n) i j ≡ a t i j) → StandsFor k a 0 n b
-    → (q : ℕ) (v : ℕ → ℕ) (j : ℕ) → j < k → run k a 0 (n * q) v j ≡ repeated k b q v j
+    → (q : ℕ) (v : ℕ → ℕ) (j : ℕ) → j < k → row_after k a 0 (n * q) v j ≡ repeated k b q v j
 run_turns k a n b h f zero v j l = let e : n * 0 ≡ 0 = omega arith in rw e refl
 run_turns k a n b h f (suc q) v j l =
     let e : n * suc q ≡ n * q + n = omega arith in
     rw e (run_more k a 0 (n * q) n v j
-    ∙ run_same k a a (0 + n * q) 0 n (run k a 0 (n * q) v) (repeated k b q v) (λ i m. run_turns k a n b h f q v i m) (λ p x y m. comes_round a n h q p x y) j l
+    ∙ run_same k a a (0 + n * q) 0 n (row_after k a 0 (n * q) v) (repeated k b q v) (λ i m. run_turns k a n b h f q v i m) (λ p x y m. comes_round a n h q p x y) j l
     ∙ sym (f.is (repeated k b q v) j))
 
 -- the row after whole turns, and then after the steps that are left
 pub run_whole : (k : ℕ) (a : ℕ → ℕ → ℕ → ℕ) (n : ℕ) (b : ℕ → ℕ → ℕ) → ((t i j : ℕ) → a (t + n) i j ≡ a t i j) → StandsFor k a 0 n b
-    → (q r : ℕ) (v : ℕ → ℕ) (j : ℕ) → j < k → run k a 0 (n * q + r) v j ≡ run k a 0 r (repeated k b q v) j
+    → (q r : ℕ) (v : ℕ → ℕ) (j : ℕ) → j < k → row_after k a 0 (n * q + r) v j ≡ row_after k a 0 r (repeated k b q v) j
 run_whole k a n b h f q r v j l =
     run_more k a 0 (n * q) r v j
-    ∙ run_same k a a (0 + n * q) 0 r (run k a 0 (n * q) v) (repeated k b q v) (λ i m. run_turns k a n b h f q v i m) (λ p x y m. comes_round a n h q p x y) j l
+    ∙ run_same k a a (0 + n * q) 0 r (row_after k a 0 (n * q) v) (repeated k b q v) (λ i m. run_turns k a n b h f q v i m) (λ p x y m. comes_round a n h q p x y) j l
 
 -- squaring
 pub repeated_double : (k : ℕ) (b : ℕ → ℕ → ℕ) (m : ℕ) (v : ℕ → ℕ) (j : ℕ) → repeated k b (m + m) v j ≡ repeated k (product k b b) m v j

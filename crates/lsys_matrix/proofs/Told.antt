@@ -10,14 +10,14 @@ use Rattle.lsys_syntax.specs.Rules.{Production}
 use Rattle.lsys_spec.specs.Systems.{System, same_name, Each, Apart}
 use Rattle.lsys_spec.specs.Values.{◌and_then◌}
 use Rattle.lsys_spec.specs.Bodies.{is_for, table_at, word_at}
-use Rattle.lsys_spec.specs.Levels.{Symbol, plain}
+use Rattle.lsys_spec.specs.Levels.{LevelSymbol, plain}
 use Rattle.lsys_spec.specs.Meaning.{LevelRefusal, next_level, meaning}
 use Rattle.lsys_spec.proofs.Tests.{both}
 use Rattle.lsys_spec.proofs.LevelInduction.{at_each_level}
 use Rattle.lsys_matrix.specs.Sums.{sum_to}
 use Rattle.lsys_matrix.proofs.Sums.{sum_same}
-use Rattle.lsys_matrix.specs.Growth.{in_class, is_bare, all_plain, level_on, letters, LetterCount, stands, count_in, census, counted, level_counted}
-use Rattle.lsys_matrix.specs.Counts.{branch_count, count_at, bare, given_in, given, given_at, step_matrix, replaced, told_length, paired, told_census, counts_after}
+use Rattle.lsys_matrix.specs.Growth.{in_class, is_bare, all_plain, level_on, letters, LetterCount, stands, count_in, census, census_within, level_counted}
+use Rattle.lsys_matrix.specs.Counts.{branch_count, count_at, without_params, given_in, given, given_at, step_matrix, replaced, told_length, paired, told_census, counts_after}
 use Rattle.lsys_matrix.proofs.LevelCounts as levels
 use Rattle.lsys_matrix.proofs.LevelCounts.{IsMade, next_made, first_uncut, IsCounted, LevelCounted}
 use Rattle.lsys_matrix.proofs.Lengths.{length_counts}
@@ -37,7 +37,7 @@ balanced-append zero n (S.Pop ∷ xs) ys h g = cc
 balanced-append (suc k) n (S.Pop ∷ xs) ys h g = let e : suc (k + n) ≡ suc k + n = omega arith in subst (λ m. balanced m (S.Pop ∷ xs ++ ys) ≡ true) e (balanced-append k n xs ys h g)
 balanced-append k n (S.Cut ∷ xs) ys h g = balanced-append k n xs ys h g
 
-bare_balanced : (n : ℕ) (xs : List (S.Symbol Expr)) → balanced n xs ≡ true → balanced n (bare {Q = ℤ} xs) ≡ true
+bare_balanced : (n : ℕ) (xs : List (S.Symbol Expr)) → balanced n xs ≡ true → balanced n (without_params {Q = ℤ} xs) ≡ true
 bare_balanced n [] h = h
 bare_balanced n (S.Module m ps ∷ xs) h = bare_balanced n xs h
 bare_balanced n (S.Push ∷ xs) h = bare_balanced (suc n) xs h
@@ -49,7 +49,7 @@ given_balanced : (table : List ℕ) (n : ModuleName) (ps : List Production) → 
 given_balanced table n [] h = refl
 given_balanced table n (p ∷ ps) h = by (is_for table n 0 p) (given_balanced table n ps h.1)
   where
-    by : (b : Bool) → balanced 0 (given_in table n ps) ≡ true → balanced 0 (if b then bare p.rule.successor else given_in table n ps) ≡ true
+    by : (b : Bool) → balanced 0 (given_in table n ps) ≡ true → balanced 0 (if b then without_params p.rule.successor else given_in table n ps) ≡ true
     by true g = bare_balanced 0 p.rule.successor h.0
     by false g = g
 
@@ -65,29 +65,29 @@ replaced_balanced s t b (suc n) (S.Pop ∷ xs) h = replaced_balanced s t b n xs 
 replaced_balanced s t b n (S.Cut ∷ xs) h = replaced_balanced s t b n xs h
 
 -- a level whose brackets are balanced, and what else is told of its symbols
-abbrev LevelBalanced : Result (List Symbol) LevelRefusal → Type 0
+abbrev LevelBalanced : Result (List LevelSymbol) LevelRefusal → Type 0
 LevelBalanced (Ok x) = (is_bare (map plain x) ≡ true) × (balanced 0 (map plain x) ≡ true)
 LevelBalanced (Err r) = ⊥
 
-both_told : (r : Result (List Symbol) LevelRefusal) (ns : List ModuleName) (c : ℕ → ℕ) → LevelCounted r ns c → LevelBalanced r → (x : List Symbol) × (r ≡ Ok x) × IsCounted ns c (map plain x) × (balanced 0 (map plain x) ≡ true)
+both_told : (r : Result (List LevelSymbol) LevelRefusal) (ns : List ModuleName) (c : ℕ → ℕ) → LevelCounted r ns c → LevelBalanced r → (x : List LevelSymbol) × (r ≡ Ok x) × IsCounted ns c (map plain x) × (balanced 0 (map plain x) ≡ true)
 both_told (Ok x) ns c h b = (x, refl, h, b.1)
 both_told (Err r) ns c h b = absurd h
 
-next_balanced : (s : System) (t : ℕ) → in_class s ≡ true → HasBrackets s → (r : Result (List Symbol) LevelRefusal) → ((x : List Symbol) → r and_then next_level s t ≡ Ok x → is_bare (map plain x) ≡ true)
-    → LevelBalanced r → ((x : List Symbol) × (r and_then next_level s t ≡ Ok x)) → LevelBalanced (r and_then next_level s t)
+next_balanced : (s : System) (t : ℕ) → in_class s ≡ true → HasBrackets s → (r : Result (List LevelSymbol) LevelRefusal) → ((x : List LevelSymbol) → r and_then next_level s t ≡ Ok x → is_bare (map plain x) ≡ true)
+    → LevelBalanced r → ((x : List LevelSymbol) × (r and_then next_level s t ≡ Ok x)) → LevelBalanced (r and_then next_level s t)
 next_balanced s t h b (Ok x) f k o = by (next_level s t x) refl (next_made s t h x k.0)
   where
-    by : (r : Result (List Symbol) LevelRefusal) → next_level s t x ≡ r → IsMade r (replaced s t (map plain x)) → LevelBalanced r
+    by : (r : Result (List LevelSymbol) LevelRefusal) → next_level s t x ≡ r → IsMade r (replaced s t (map plain x)) → LevelBalanced r
     by (Ok y) e m = (f y e, rw m (replaced_balanced s t b 0 (map plain x) k.1))
     by (Err r) e m = absurd m
 next_balanced s t h b (Err r) f k o = absurd k
 
 -- the levels with their counts, as they are there
-level_there : (r : Result (List Symbol) LevelRefusal) (ns : List ModuleName) (c : ℕ → ℕ) → LevelCounted r ns c → (x : List Symbol) × (r ≡ Ok x) × IsCounted ns c (map plain x)
+level_there : (r : Result (List LevelSymbol) LevelRefusal) (ns : List ModuleName) (c : ℕ → ℕ) → LevelCounted r ns c → (x : List LevelSymbol) × (r ≡ Ok x) × IsCounted ns c (map plain x)
 level_there (Ok x) ns c h = (x, refl, h)
 level_there (Err r) ns c h = absurd h
 
-bare_there : (r : Result (List Symbol) LevelRefusal) (ns : List ModuleName) (c : ℕ → ℕ) → LevelCounted r ns c → (x : List Symbol) → r ≡ Ok x → is_bare (map plain x) ≡ true
+bare_there : (r : Result (List LevelSymbol) LevelRefusal) (ns : List ModuleName) (c : ℕ → ℕ) → LevelCounted r ns c → (x : List LevelSymbol) → r ≡ Ok x → is_bare (map plain x) ≡ true
 bare_there (Ok y) ns c h x e = let q : y ≡ x = cc in subst (λ z. is_bare (map plain z) ≡ true) q h.is_bare
 bare_there (Err r) ns c h x e = absurd h
 
@@ -122,10 +122,10 @@ census_told ns xs c a h b =
     ∙ ap (λ (l : List LetterCount). record { symbols = told_length (length ns) c; counts = filter stands l }) (pairs_same ns xs c h.counts)
 
 -- the level's letters, counted, are those that the matrices of the steps tell
-pub level_told : (s : System) (t : ℕ) → in_class s ≡ true → HasBrackets s → level_counted (letters s) (level_on s t) ≡ counted (told_census (letters s) (counts_after s (letters s) t))
+pub level_told : (s : System) (t : ℕ) → in_class s ≡ true → HasBrackets s → level_counted (letters s) (level_on s t) ≡ census_within (told_census (letters s) (counts_after s (letters s) t))
 level_told s t h b =
     let o = both_told (level_on s t) (letters s) (counts_after s (letters s) t) (levels.counted s (letters s) t h (are_letters s)) (all_balanced s h b t) in
-    ap (level_counted (letters s)) o.1 ∙ ap counted (census_told (letters s) (map plain o.0) (counts_after s (letters s) t) (are_letters s).apart o.2 o.3)
+    ap (level_counted (letters s)) o.1 ∙ ap census_within (census_told (letters s) (map plain o.0) (counts_after s (letters s) t) (are_letters s).apart o.2 o.3)
 
 -- 3. the tables come round again
 
@@ -139,5 +139,5 @@ steps_again s ns t i j = ap (count_at ns j) (given_again ns i)
 
 -- 4. within the depth
 
-pub within_depth : (s : System) (limit : ℕ) (xs : List (List Symbol)) → meaning s limit ≡ Ok xs → (t : ℕ) (x : List Symbol) → slice_get xs t ≡ Some x → level_on s t ≡ Ok x
+pub within_depth : (s : System) (limit : ℕ) (xs : List (List LevelSymbol)) → meaning s limit ≡ Ok xs → (t : ℕ) (x : List LevelSymbol) → slice_get xs t ≡ Some x → level_on s t ≡ Ok x
 within_depth s limit xs h t x g = at_each_level s (λ t x. level_on s t ≡ Ok x) refl (λ t x y e f. ap (λ r. r and_then next_level s t) e ∙ f) limit xs h t x g

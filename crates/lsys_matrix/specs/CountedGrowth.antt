@@ -3,7 +3,7 @@ use Rattle.std.specs.Prelude.{◌≡◌, ℕ, true, List, Some, Ok, slice_get, �
 use Rattle.lsys_syntax.specs.Strings.{ModuleName, balanced}
 use Rattle.lsys_syntax.specs.Strings as S
 use Rattle.lsys_spec.specs.Systems.{System, Apart, same_name}
-use Rattle.lsys_spec.specs.Levels.{Symbol}
+use Rattle.lsys_spec.specs.Levels.{LevelSymbol}
 use Rattle.lsys_spec.specs.Meaning.{meaning}
 use Rattle.lsys_matrix.specs.Growth.{in_class, level_on, is_bare}
 use Rattle.lsys_matrix.specs.Counts.{AreLetters, HasCounts, counts_after, all_among, branch_count, letters_total}
@@ -18,7 +18,7 @@ CountsGrowByTheMatricesOfTheSteps =
 -- within the depth the levels that go on past it are those of the meaning
 abbrev pub LevelsOfTheDepthAreTheMeaning : Type 0
 LevelsOfTheDepthAreTheMeaning =
-    (s : System) (limit t : ℕ) (levels : List (List Symbol)) (x : List Symbol)
+    (s : System) (limit t : ℕ) (levels : List (List LevelSymbol)) (x : List LevelSymbol)
     → meaning s limit ≡ Ok levels → slice_get levels t ≡ Some x → level_on s t ≡ Ok x
 
 -- the length of a balanced string is the sum of its letters' counts and twice that of its branches

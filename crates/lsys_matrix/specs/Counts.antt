@@ -5,9 +5,9 @@ use Rattle.lsys_syntax.specs.Strings as S
 use Rattle.lsys_syntax.specs.Rules.{Production}
 use Rattle.lsys_spec.specs.Systems.{System, same_name, Apart}
 use Rattle.lsys_spec.specs.Bodies.{is_for, table_at}
-use Rattle.lsys_spec.specs.Levels.{Symbol, plain}
+use Rattle.lsys_spec.specs.Levels.{LevelSymbol, plain}
 use Rattle.lsys_spec.specs.Meaning.{LevelRefusal}
-use Rattle.lsys_matrix.specs.Sums.{sum_to, run}
+use Rattle.lsys_matrix.specs.Sums.{sum_to, row_after}
 use Rattle.lsys_matrix.specs.Growth.{letter_count, among, LetterCount, Census, stands}
 
 -- 1. what is counted
@@ -28,17 +28,17 @@ count_at (n ∷ ns) (suc j) xs = count_at ns j xs
 
 -- 2. one step
 
-abbrev pub bare : {P Q : Type 0} → List (S.Symbol P) → List (S.Symbol Q)
-bare [] = []
-bare (S.Module n ps ∷ xs) = S.Module n [] ∷ bare xs
-bare (S.Push ∷ xs) = S.Push ∷ bare xs
-bare (S.Pop ∷ xs) = S.Pop ∷ bare xs
-bare (S.Cut ∷ xs) = S.Cut ∷ bare xs
+abbrev pub without_params : {P Q : Type 0} → List (S.Symbol P) → List (S.Symbol Q)
+without_params [] = []
+without_params (S.Module n ps ∷ xs) = S.Module n [] ∷ without_params xs
+without_params (S.Push ∷ xs) = S.Push ∷ without_params xs
+without_params (S.Pop ∷ xs) = S.Pop ∷ without_params xs
+without_params (S.Cut ∷ xs) = S.Cut ∷ without_params xs
 
 -- the successor of a letter: of the first rule of the table for it, or the letter itself
 abbrev pub given_in : List ℕ → ModuleName → List Production → List (S.Symbol ℤ)
 given_in table n [] = S.Module n [] ∷ []
-given_in table n (p ∷ ps) = if is_for table n 0 p then bare p.rule.successor else given_in table n ps
+given_in table n (p ∷ ps) = if is_for table n 0 p then without_params p.rule.successor else given_in table n ps
 
 abbrev pub given : System → ℕ → ModuleName → List (S.Symbol ℤ)
 given s t n = given_in (table_at s.schedule t) n s.rules
@@ -88,10 +88,10 @@ first_counts s ns i = count_at ns i s.axiom_string
 
 -- the counts of a level by the matrices of the steps before it
 abbrev pub counts_after : System → List ModuleName → ℕ → ℕ → ℕ
-counts_after s ns t j = run (suc (length ns)) (step_matrix s ns) 0 t (first_counts s ns) j
+counts_after s ns t j = row_after (suc (length ns)) (step_matrix s ns) 0 t (first_counts s ns) j
 
 -- the level is there, and these are its counts
-abbrev pub HasCounts : Result (List Symbol) LevelRefusal → List ModuleName → (ℕ → ℕ) → Type 0
+abbrev pub HasCounts : Result (List LevelSymbol) LevelRefusal → List ModuleName → (ℕ → ℕ) → Type 0
 HasCounts (Ok x) ns c = (j : ℕ) → j < suc (length ns) → count_at ns j (map plain x) ≡ c j
 HasCounts (Err r) ns c = ⊥
 

@@ -5,14 +5,14 @@ use Rattle.lsys_syntax.specs.Strings as S
 use Rattle.lsys_syntax.specs.Rules.{Rule, Production}
 use Rattle.lsys_spec.specs.Systems.{System, same_name, module_name_text, comes_before}
 use Rattle.lsys_spec.specs.Values.{◌and_then◌}
-use Rattle.lsys_spec.specs.Levels.{Symbol, plain}
-use Rattle.lsys_spec.specs.Walks.{any}
+use Rattle.lsys_spec.specs.Levels.{LevelSymbol, plain}
+use Rattle.lsys_spec.specs.Walks.{any_holds}
 use Rattle.lsys_spec.specs.Meaning.{LevelRefusal, first_level, next_level}
 use Rattle.lsys_spec.specs.Refusals.{line_feed}
 
 -- 1. levels, on past the depth
 
-abbrev pub level_on : System → ℕ → Result (List Symbol) LevelRefusal
+abbrev pub level_on : System → ℕ → Result (List LevelSymbol) LevelRefusal
 level_on s zero = Ok (first_level s)
 level_on s (suc t) = level_on s t and_then next_level s t
 
@@ -47,23 +47,23 @@ in_class s = is_bare s.axiom_string && all_plain s.rules
 
 -- 3. letters
 
-abbrev pub names : {P : Type 0} → List (S.Symbol P) → List ModuleName
-names [] = []
-names (S.Module n ps ∷ xs) = n ∷ names xs
-names (S.Push ∷ xs) = names xs
-names (S.Pop ∷ xs) = names xs
-names (S.Cut ∷ xs) = names xs
+abbrev pub module_names : {P : Type 0} → List (S.Symbol P) → List ModuleName
+module_names [] = []
+module_names (S.Module n ps ∷ xs) = n ∷ module_names xs
+module_names (S.Push ∷ xs) = module_names xs
+module_names (S.Pop ∷ xs) = module_names xs
+module_names (S.Cut ∷ xs) = module_names xs
 
 -- the names of the predecessor and of the successor
 abbrev pub rule_names : Rule → List ModuleName
-rule_names r = r.name ∷ names r.successor
+rule_names r = r.name ∷ module_names r.successor
 
 abbrev pub all_rule_names : List Production → List ModuleName
 all_rule_names [] = []
 all_rule_names (p ∷ ps) = rule_names p.rule ++ all_rule_names ps
 
 abbrev pub among : List ModuleName → ModuleName → Bool
-among ns n = any (λ m. same_name m n) ns
+among ns n = any_holds (λ m. same_name m n) ns
 
 -- a name before the first that comes behind it in the order of their bytes
 abbrev pub put_before : ModuleName → List ModuleName → List ModuleName
@@ -80,7 +80,7 @@ put_letters ms (n ∷ ns) = put_letters (put_letter ms n) ns
 
 -- the letters of a system, each once, in the order of their bytes
 abbrev pub letters : System → List ModuleName
-letters s = put_letters [] (names s.axiom_string ++ all_rule_names s.rules)
+letters s = put_letters [] (module_names s.axiom_string ++ all_rule_names s.rules)
 
 -- 4. counts
 
@@ -127,12 +127,12 @@ most_letters = 63
 abbrev pub length_bound : ℕ
 length_bound = 2 ^ 128
 
-abbrev pub counted : Census → Result Census GrowthFault
-counted c = if nat_lt c.symbols length_bound then Ok c else Err over_numbers
+abbrev pub census_within : Census → Result Census GrowthFault
+census_within c = if nat_lt c.symbols length_bound then Ok c else Err over_numbers
 
 -- (In the class each level is there.)
-abbrev pub level_counted : List ModuleName → Result (List Symbol) LevelRefusal → Result Census GrowthFault
-level_counted ns (Ok x) = counted (census ns (map plain x))
+abbrev pub level_counted : List ModuleName → Result (List LevelSymbol) LevelRefusal → Result Census GrowthFault
+level_counted ns (Ok x) = census_within (census ns (map plain x))
 level_counted ns (Err r) = Err outside_class
 
 -- the letters of a level, counted, or why they aren't: what is tried first is the refusal
@@ -143,11 +143,11 @@ growth_at s t =
 
 -- 6. as texts
 
-abbrev pub count_line : LetterCount → List ℕ
-count_line c = module_name_text c.letter ++ 32 ∷ (decimal c.times ++ line_feed)
+abbrev pub letter_line : LetterCount → List ℕ
+letter_line c = module_name_text c.letter ++ 32 ∷ (decimal c.times ++ line_feed)
 
 abbrev pub growth_text : Census → List ℕ
-growth_text c = codes "growth " ++ (decimal c.symbols ++ (line_feed ++ flat_map count_line c.counts))
+growth_text c = codes "growth " ++ (decimal c.symbols ++ (line_feed ++ flat_map letter_line c.counts))
 
 abbrev pub growth_fault_text : GrowthFault → List ℕ
 growth_fault_text outside_class = codes "growth"

@@ -15,13 +15,13 @@ abbrev pub product : ℕ → (ℕ → ℕ → ℕ) → (ℕ → ℕ → ℕ) →
 product k a b i j = row_by k (a i) b j
 
 -- the row after m steps from step t on, where each step has its matrix
-abbrev pub run : ℕ → (ℕ → ℕ → ℕ → ℕ) → ℕ → ℕ → (ℕ → ℕ) → ℕ → ℕ
-run k a t zero v = v
-run k a t (suc m) v = row_by k (run k a t m v) (a (t + m))
+abbrev pub row_after : ℕ → (ℕ → ℕ → ℕ → ℕ) → ℕ → ℕ → (ℕ → ℕ) → ℕ → ℕ
+row_after k a t zero v = v
+row_after k a t (suc m) v = row_by k (row_after k a t m v) (a (t + m))
 
 -- the row after m times the same matrix
 abbrev pub repeated : ℕ → (ℕ → ℕ → ℕ) → ℕ → (ℕ → ℕ) → ℕ → ℕ
-repeated k a m v = run k (λ t. a) 0 m v
+repeated k a m v = row_after k (λ t. a) 0 m v
 
 -- the product of the matrices of the steps 0 to m
 abbrev pub steps_product : ℕ → (ℕ → ℕ → ℕ → ℕ) → ℕ → ℕ → ℕ → ℕ

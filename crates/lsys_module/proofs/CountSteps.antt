@@ -8,8 +8,8 @@ use Rattle.lsys_module.specs.declared.glyph.Glyph.TheVariants as glyphs
 use Rattle.lsys_module.specs.declared.limits.Counter.{Counter}
 use Rattle.lsys_module.specs.declared.limits.Spot.{Spot}
 use Rattle.lsys_module.specs.declared.limits.Spot.TheVariants.{Outside, BehindName, ParamDue, InParam}
-use Rattle.lsys_module.specs.Building.{Draft, whole, named, number_due, minus_read, number_read, draft_step, draft_limit, due_step, minus_step, read_step}
-use Rattle.lsys_module.specs.Counting.{Counts, counter_step, with_symbol, with_param, spot_behind, spot_counted}
+use Rattle.lsys_module.specs.Building.{Draft, whole, named, number_due, minus_read, number_read, draft_step, draft_limit, before_number_step, after_minus_step, after_number_step}
+use Rattle.lsys_module.specs.Counting.{CountsDraft, counter_step, with_symbol, with_param, spot_behind, spot_counted}
 
 full : (s : Spot) (c : Counter) (n : ℕ) → c.symbols ≡ n → nat_lt most_axiom_symbols (n + 1) ≡ true → with_symbol s c ≡ None
 full s c n e h =
@@ -52,7 +52,7 @@ no-paren c (glyphs.Number k) h = refl
 no-paren c glyphs.Other h = refl
 
 -- the token is one too many exactly where the counter says so
-pub limit-counted : (d : Draft) (c : Counter) (g : Glyph) → Counts d c → draft_limit d g ≡ true → counter_step c g ≡ None
+pub limit-counted : (d : Draft) (c : Counter) (g : Glyph) → CountsDraft d c → draft_limit d g ≡ true → counter_step c g ≡ None
 limit-counted (whole ys) c g h e = ap (λ s. spot_counted s c g) h.0 ∙ full (spot_behind g) c (length ys) h.1 e
 limit-counted (named ys n) c glyphs.Name h e = ap (λ s. spot_counted s c glyphs.Name) h.0 ∙ full (spot_behind glyphs.Name) c (length (ys ++ Module n [] ∷ [])) (h.1 ∙ sym (longer ys (Module n []))) e
 limit-counted (named ys n) c glyphs.Minus h e = ap (λ s. spot_counted s c glyphs.Minus) h.0 ∙ full (spot_behind glyphs.Minus) c (length (ys ++ Module n [] ∷ [])) (h.1 ∙ sym (longer ys (Module n []))) e
@@ -70,7 +70,7 @@ limit-counted (number_read ys n zs) c g h e = cc
 
 -- the counter goes on with the token, and counts what is read then
 abbrev Goes : Counter → Glyph → Draft → Type 0
-Goes c g e = (b : Counter) × (counter_step c g ≡ Some b) × Counts e b
+Goes c g e = (b : Counter) × (counter_step c g ≡ Some b) × CountsDraft e b
 
 at_some : (P : Draft → Type 0) (x e : Draft) → Some x ≡ Some e → P x → P e
 at_some P x e h p = let same : x ≡ e = cc in subst P same p
@@ -89,7 +89,7 @@ either_some false x e h = cc
 due : (c : Counter) (g : Glyph) (n : ℕ) → c.spot ≡ ParamDue → c.params ≡ n → nat_lt most_params (n + 1) ≡ false → counter_step c g ≡ Some (record { spot = InParam; symbols = c.symbols; params = c.params + 1 })
 due c g n s count free = ap (λ t. spot_counted t c g) s ∙ room_params c n count free
 
-due-counted : (ys : List (Symbol ℤ)) (n : ModuleName) (zs : List ℤ) (e : Draft) (c : Counter) (g : Glyph) → Counts (number_due ys n zs) c → nat_lt most_params (length zs + 1) ≡ false → due_step ys n zs g ≡ Some e → Goes c g e
+due-counted : (ys : List (Symbol ℤ)) (n : ModuleName) (zs : List ℤ) (e : Draft) (c : Counter) (g : Glyph) → CountsDraft (number_due ys n zs) c → nat_lt most_params (length zs + 1) ≡ false → before_number_step ys n zs g ≡ Some e → Goes c g e
 due-counted ys n zs e c glyphs.Name h free step = cc
 due-counted ys n zs e c glyphs.Minus h free step = at_some (Goes c glyphs.Minus) (minus_read ys n zs) e step (_, due c glyphs.Minus (length zs) h.0 h.2 free, (refl, h.1, omega (arith, h.2)))
 due-counted ys n zs e c glyphs.Push h free step = cc
@@ -103,7 +103,7 @@ due-counted ys n zs e c (glyphs.Number k) h free step =
     at_some (Goes c (glyphs.Number k)) read e (ap Some (either_some (nat_lt k value_bound) read e step)) (_, due c (glyphs.Number k) (length zs) h.0 h.2 free, (refl, h.1, omega (arith, h.2, length-append zs (pos k ∷ []))))
 due-counted ys n zs e c glyphs.Other h free step = cc
 
-minus-counted : (ys : List (Symbol ℤ)) (n : ModuleName) (zs : List ℤ) (e : Draft) (c : Counter) (g : Glyph) → Counts (minus_read ys n zs) c → minus_step ys n zs g ≡ Some e → Goes c g e
+minus-counted : (ys : List (Symbol ℤ)) (n : ModuleName) (zs : List ℤ) (e : Draft) (c : Counter) (g : Glyph) → CountsDraft (minus_read ys n zs) c → after_minus_step ys n zs g ≡ Some e → Goes c g e
 minus-counted ys n zs e c glyphs.Name h step = cc
 minus-counted ys n zs e c glyphs.Minus h step = cc
 minus-counted ys n zs e c glyphs.Push h step = cc
@@ -117,7 +117,7 @@ minus-counted ys n zs e c (glyphs.Number k) h step =
     at_some (Goes c (glyphs.Number k)) read e (ap Some (either_some (nat_lt (length zs) most_params && nat_le k value_bound) read e step)) (c, ap (λ t. spot_counted t c (glyphs.Number k)) h.0, (h.0, h.1, omega (arith, h.2, length-append zs (negative k ∷ []))))
 minus-counted ys n zs e c glyphs.Other h step = cc
 
-read-counted : (ys : List (Symbol ℤ)) (n : ModuleName) (zs : List ℤ) (e : Draft) (c : Counter) (g : Glyph) → Counts (number_read ys n zs) c → read_step ys n zs g ≡ Some e → Goes c g e
+read-counted : (ys : List (Symbol ℤ)) (n : ModuleName) (zs : List ℤ) (e : Draft) (c : Counter) (g : Glyph) → CountsDraft (number_read ys n zs) c → after_number_step ys n zs g ≡ Some e → Goes c g e
 read-counted ys n zs e c glyphs.Name h step = cc
 read-counted ys n zs e c glyphs.Minus h step = cc
 read-counted ys n zs e c glyphs.Push h step = cc
@@ -130,7 +130,7 @@ read-counted ys n zs e c (glyphs.Number k) h step = cc
 read-counted ys n zs e c glyphs.Other h step = cc
 
 -- what was counted goes on with the token, where it is not one too many
-pub step-counted : (d e : Draft) (c : Counter) (g : Glyph) (m : ModuleName) → Counts d c → draft_limit d g ≡ false → draft_step d g m ≡ Some e → Goes c g e
+pub step-counted : (d e : Draft) (c : Counter) (g : Glyph) (m : ModuleName) → CountsDraft d c → draft_limit d g ≡ false → draft_step d g m ≡ Some e → Goes c g e
 step-counted (whole ys) e c glyphs.Name m h free step = at_some (Goes c glyphs.Name) (named ys m) e step (_, outside c glyphs.Name ys h.0 h.1 free, (refl, omega (arith, h.1), refl))
 step-counted (whole ys) e c glyphs.Minus m h free step = at_some (Goes c glyphs.Minus) (named ys m) e step (_, outside c glyphs.Minus ys h.0 h.1 free, (refl, omega (arith, h.1), refl))
 step-counted (whole ys) e c glyphs.Push m h free step = at_some (Goes c glyphs.Push) (whole (ys ++ Push ∷ [])) e step (_, outside c glyphs.Push ys h.0 h.1 free, (refl, omega (arith, h.1, longer ys Push)))

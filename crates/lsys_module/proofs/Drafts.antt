@@ -16,7 +16,7 @@ use Rattle.lsys_module.specs.declared.glyph.Glyph.{Glyph}
 use Rattle.lsys_module.specs.declared.glyph.Glyph.TheVariants.{Open}
 use Rattle.lsys_module.specs.Views.{module_name, symbol_of, string_of}
 use Rattle.lsys_module.specs.Scanning.{glyph_of}
-use Rattle.lsys_module.specs.Building.{Draft, whole, named, draft_step, draft_limit, kind_name, part_of, CanTake, IsTaken}
+use Rattle.lsys_module.specs.Building.{Draft, whole, named, draft_step, draft_limit, kind_name, draft_by_part, CanTake, IsTaken}
 
 -- a symbol at the end
 pub string_of-append : (xs : List Code) (x : Code) → string_of (xs ++ x ∷ []) ≡ string_of xs ++ symbol_of x ∷ []
@@ -65,8 +65,8 @@ named-taken old new end ys n t r h other is =
 
 -- the symbol of a name was added
 pub are_named : (part part' : Part) (symbols symbols' : List Code) (name : List ℕ) (last : Module') → part ≡ parts.Named name → part' ≡ parts.Whole → symbols' ≡ symbols ++ modules.Module last ∷ [] → last.name ≡ name → last.params ≡ []
-    → AreNamed (part_of part (string_of symbols)) (part_of part' (string_of symbols')) (string_of symbols) (module_name name)
+    → AreNamed (draft_by_part part (string_of symbols)) (draft_by_part part' (string_of symbols')) (string_of symbols) (module_name name)
 are_named part part' symbols symbols' name last p q s n z = record {
-  name = ap (λ x. part_of x (string_of symbols)) p;
-  symbol = ap (λ x. part_of x (string_of symbols')) q ∙ ap whole (ap string_of s ∙ string_of-append symbols (modules.Module last) ∙ ap (λ x. string_of symbols ++ Module (module_name x) last.params ∷ []) n ∙ ap (λ x. string_of symbols ++ Module (module_name name) x ∷ []) z);
+  name = ap (λ x. draft_by_part x (string_of symbols)) p;
+  symbol = ap (λ x. draft_by_part x (string_of symbols')) q ∙ ap whole (ap string_of s ∙ string_of-append symbols (modules.Module last) ∙ ap (λ x. string_of symbols ++ Module (module_name x) last.params ∷ []) n ∙ ap (λ x. string_of symbols ++ Module (module_name name) x ∷ []) z);
 }

@@ -79,19 +79,22 @@ module-behind print runs_on name params = sym (append_assoc (gap_text runs_on (i
 pub one-more : {P : Type 0} (print : P → List Piece) (runs_on : Bool) (xs : List (Symbol P)) (y : Symbol P) → symbols_behind print runs_on (xs ++ y ∷ []) ≡ symbols_behind print runs_on xs ++ symbol_behind print (last_runs_on runs_on xs) y
 one-more print runs_on xs y = symbols_behind-append print runs_on xs (y ∷ []) ∙ ap (λ t. symbols_behind print runs_on xs ++ t) (append-nil (symbol_behind print (last_runs_on runs_on xs) y))
 
--- the parameters up to a place, and the one there
-pub more_text-step : {P : Type 0} (print : P → List Piece) (xs : List P) (i : ℕ) (d : P) → i < length xs → more_text print (take (i + 1) xs) ≡ more_text print (take i xs) ++ 44 ∷ text_of (print (get_or xs i d))
-more_text-step print xs i d h =
-    ap (more_text print) (take_more xs i d h) ∙ more_text-append print (take i xs) (get_or xs i d ∷ [])
-    ∙ ap (λ t. more_text print (take i xs) ++ 44 ∷ t) (append-nil (text_of (print (get_or xs i d))))
-
--- the parameters up to a place, and those behind it
-pub more_text-rest : {P : Type 0} (print : P → List Piece) (xs : List P) (i : ℕ) → more_text print xs ≡ more_text print (take i xs) ++ more_text print (drop i xs)
-more_text-rest print xs i = ap (more_text print) (sym (take-append-drop i xs)) ∙ more_text-append print (take i xs) (drop i xs)
-
 -- one more item, as the symbol that it stands for
 pub map-more : {X S : Type 0} (f : X → S) (items : List X) (i : ℕ) (d : X) → i < length items → d ≡ get_or items i d → map f (take (i + 1) items) ≡ map f (take i items) ++ f d ∷ []
 map-more f items i d h e = ap (map f) (take_more items i d h ∙ ap (λ x. take i items ++ x ∷ []) (sym e)) ∙ map-append f (take i items) (d ∷ [])
+
+-- the parameters up to a place, and the one there
+pub more_text-step : {X P : Type 0} (print : P → List Piece) (f : X → P) (xs : List X) (i : ℕ) (d : X) → i < length xs → d ≡ get_or xs i d
+    → more_text print (map f (take (i + 1) xs)) ≡ more_text print (map f (take i xs)) ++ 44 ∷ text_of (print (f d))
+more_text-step print f xs i d h e =
+    ap (more_text print) (map-more f xs i d h e) ∙ more_text-append print (map f (take i xs)) (f d ∷ [])
+    ∙ ap (λ t. more_text print (map f (take i xs)) ++ 44 ∷ t) (append-nil (text_of (print (f d))))
+
+-- the parameters up to a place, and those behind it
+pub more_text-rest : {X P : Type 0} (print : P → List Piece) (f : X → P) (xs : List X) (i : ℕ) → more_text print (map f xs) ≡ more_text print (map f (take i xs)) ++ more_text print (map f (drop i xs))
+more_text-rest print f xs i =
+    ap (λ ys. more_text print (map f ys)) (sym (take-append-drop i xs)) ∙ ap (more_text print) (map-append f (take i xs) (drop i xs))
+    ∙ more_text-append print (map f (take i xs)) (map f (drop i xs))
 
 -- the items up to a place and the one there, put as symbols
 pub symbols-step : {X P : Type 0} (print : P → List Piece) (f : X → Symbol P) (runs_on : Bool) (items : List X) (i : ℕ) (d : X) → i < length items → d ≡ get_or items i d

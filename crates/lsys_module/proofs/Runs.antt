@@ -157,10 +157,10 @@ closing-pieces (z ∷ zs) rest =
     ∙ append_assoc (signed_pieces z) (more_pieces signed_pieces zs ++ last) rest
     ∙ ap (λ ps. signed_pieces z ++ ps) (closing-pieces zs rest))
 
-small_plain : (b : Bool) (ys : List (Symbol ℤ)) (n : ModuleName) (us : List ℤ) (m : ℕ) → nat_lt m (2 ^ 63) ≡ true → B.due_step ys n us (glyphs.Number m) ≡ Some (number_read ys n (us ++ pos m ∷ []))
+small_plain : (b : Bool) (ys : List (Symbol ℤ)) (n : ModuleName) (us : List ℤ) (m : ℕ) → nat_lt m (2 ^ 63) ≡ true → B.before_number_step ys n us (glyphs.Number m) ≡ Some (number_read ys n (us ++ pos m ∷ []))
 small_plain b ys n us m h = rw h refl
 
-small_minus : (ys : List (Symbol ℤ)) (n : ModuleName) (us : List ℤ) (m : ℕ) → nat_lt (length us) most_params ≡ true → nat_le m (2 ^ 63) ≡ true → B.minus_step ys n us (glyphs.Number m) ≡ Some (number_read ys n (us ++ negative m ∷ []))
+small_minus : (ys : List (Symbol ℤ)) (n : ModuleName) (us : List ℤ) (m : ℕ) → nat_lt (length us) most_params ≡ true → nat_le m (2 ^ 63) ≡ true → B.after_minus_step ys n us (glyphs.Number m) ≡ Some (number_read ys n (us ++ negative m ∷ []))
 small_minus ys n us m h k = rw (h, k) refl
 
 -- a parameter that is due

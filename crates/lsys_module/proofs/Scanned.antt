@@ -4,12 +4,12 @@ use Rattle.lsys_syntax.specs.Tokens as syntax
 use Rattle.lsys_syntax.specs.Strings.{ModuleName, named, plus, minus, ampersand, caret, backslash, slash, bar, bang, Symbol, Module, Push, Pop, Cut, Signed, unsigned, minus_sign}
 use Rattle.lsys_syntax.specs.RuleMachine.{reversed, reversed_onto, open_in, where_closed}
 use Rattle.lsys_syntax.specs.Commands.{set_axiom}
-use Rattle.lsys_syntax.specs.LineMachine.{AxiomState, Symbols, NumberDue, MinusRead, NumberRead, State, InAxiom, Stop, popped, if_small, axiom_step, symbols_step, number_due_step, minus_step, number_read_step, Verdict, stops, ended, is_stop, depth, nesting_bound, verdict_from}
+use Rattle.lsys_syntax.specs.LineMachine.{AxiomState, Symbols, NumberDue, MinusRead, NumberRead, State, InAxiom, Stop, axiom_popped, if_small, axiom_step, axiom_symbols_step, number_due_step, minus_step, number_read_step, Verdict, stops, sentence_or_stop, is_stop, line_depth, nesting_bound, verdict_from}
 use Rattle.lsys_syntax.proofs.LineSound.{after_tests, verdict-tests}
 use Rattle.lsys_module.specs.declared.scan.Spot.{Spot}
 use Rattle.lsys_module.specs.declared.scan.Spot.TheVariants as spots
 use Rattle.lsys_module.specs.declared.scan.Progress.{Progress}
-use Rattle.lsys_module.specs.Scanning.{IsString, glyph_of, closed, opened, between_step, param_step, progress_step, may_end, refused_from}
+use Rattle.lsys_module.specs.Scanning.{TellsString, glyph_of, branch_closed, params_opened, between_step, param_step, progress_step, may_end, refused_from}
 
 -- the last symbol is a module without parameters
 abbrev pub is_bare : List (Symbol Signed) → Bool
@@ -33,7 +33,7 @@ abbrev pub StepsTo : Option Progress → State → Type 0
 StepsTo None s = s ≡ Stop
 StepsTo (Some q) s = (a : AxiomState) × (s ≡ InAxiom a) × (progress_of a ≡ q) × IsReached a
 
-symbols-opened : (r : List (Symbol Signed)) → StepsTo (opened (is_bare r) (open_in r)) (symbols_step syntax.LeftParen r)
+symbols-opened : (r : List (Symbol Signed)) → StepsTo (params_opened (is_bare r) (open_in r)) (axiom_symbols_step syntax.LeftParen r)
 symbols-opened [] = refl
 symbols-opened (Module n [] ∷ r) = (NumberDue r n [], refl, refl, tt)
 symbols-opened (Module n (z ∷ zs) ∷ r) = refl
@@ -41,13 +41,13 @@ symbols-opened (Push ∷ r) = refl
 symbols-opened (Pop ∷ r) = refl
 symbols-opened (Cut ∷ r) = refl
 
-symbols-closed : (r : List (Symbol Signed)) (n : ℕ) → open_in r ≡ n → StepsTo (closed n) (popped n (InAxiom (Symbols (Pop ∷ r))))
+symbols-closed : (r : List (Symbol Signed)) (n : ℕ) → open_in r ≡ n → StepsTo (branch_closed n) (axiom_popped n (InAxiom (Symbols (Pop ∷ r))))
 symbols-closed r zero e = refl
 symbols-closed r (suc n) e =
     let less : open_in r - 1 ≡ n = omega (arith, e) in
     (Symbols (Pop ∷ r), refl, ap (λ m. record { spot = spots.Between false; branches = m }) less, tt)
 
-symbols-step : (r : List (Symbol Signed)) (k : syntax.Kind) → StepsTo (between_step (glyph_of k) (is_bare r) (open_in r)) (symbols_step k r)
+symbols-step : (r : List (Symbol Signed)) (k : syntax.Kind) → StepsTo (between_step (glyph_of k) (is_bare r) (open_in r)) (axiom_symbols_step k r)
 symbols-step r (syntax.Name n) = (Symbols (Module (named n) [] ∷ r), refl, refl, tt)
 symbols-step r syntax.Plus = (Symbols (Module plus [] ∷ r), refl, refl, tt)
 symbols-step r syntax.Minus = (Symbols (Module minus [] ∷ r), refl, refl, tt)
@@ -104,10 +104,10 @@ axiom-step (NumberRead r n (z ∷ zs)) h k = along (param_step spots.NumberRead 
 
 -- no place is refused, and the verdict is that of a string; or it is the place
 abbrev pub IsVerdict : Option ℕ → Verdict → Type 0
-IsVerdict None v = IsString v
+IsVerdict None v = TellsString v
 IsVerdict (Some place) v = v ≡ stops place
 
-closed-end : (n : ℕ) (b : Bool) (m : ℕ) (xs : List (Symbol Signed)) → IsVerdict (if may_end (spots.Between b) m then None else Some n) (ended n (where_closed m (Some (set_axiom xs))))
+closed-end : (n : ℕ) (b : Bool) (m : ℕ) (xs : List (Symbol Signed)) → IsVerdict (if may_end (spots.Between b) m then None else Some n) (sentence_or_stop n (where_closed m (Some (set_axiom xs))))
 closed-end n b zero xs = (xs, refl)
 closed-end n b (suc m) xs = refl
 
@@ -122,7 +122,7 @@ after_step n ks None = Some n
 after_step n ks (Some q) = refused_from (n + 1) q ks
 
 stepped : (n : ℕ) (ks : List syntax.Kind) → ((n : ℕ) (a : AxiomState) → IsReached a → IsVerdict (refused_from n (progress_of a) ks) (verdict_from n (InAxiom a) ks)) → (o : Option Progress) (s : State) → StepsTo o s
-    → IsVerdict (after_step n ks o) (after_tests (is_stop s) (nat_lt nesting_bound (depth s)) n (verdict_from (n + 1) s ks))
+    → IsVerdict (after_step n ks o) (after_tests (is_stop s) (nat_lt nesting_bound (line_depth s)) n (verdict_from (n + 1) s ks))
 stepped n ks rest None s h = rw h refl
 stepped n ks rest (Some q) s h = rw (h.1, ← h.2) (rest (n + 1) h.0 h.3)
 

@@ -4,13 +4,13 @@ use Rattle.lsys_syntax.specs.Tokens.{Kind, Word}
 use Rattle.lsys_syntax.specs.Pieces.{kinds_of}
 use Rattle.lsys_syntax.specs.Strings.{Symbol, Signed, string_pieces, signed_pieces, EachOf, IsSymbol, IsSigned}
 use Rattle.lsys_syntax.specs.Commands.{Command, set_axiom, string_behind}
-use Rattle.lsys_syntax.specs.LineMachine.{State, InAxiom, Symbols, step, is_stop, depth, nesting_bound, Verdict, sentence, stops, too_deep, ended, finish, verdict_from}
+use Rattle.lsys_syntax.specs.LineMachine.{State, InAxiom, Symbols, line_step, is_stop, line_depth, nesting_bound, Verdict, sentence, stops, too_deep, sentence_or_stop, finish, verdict_from}
 use Rattle.lsys_syntax.specs.LineMachine as L
 use Rattle.std.specs.Prelude.{Option, Some, None}
 use Rattle.lsys_syntax.specs.Sentences.{IsToken, AreTokens, IsSpelled}
 use Rattle.lsys_syntax.proofs.LineSound.{after_tests, verdict-tests, sentence-spelled}
 
-ended-anywhere : (m n : ℕ) (o : Option Command) (c : Command) → ended m o ≡ sentence c → ended n o ≡ sentence c
+ended-anywhere : (m n : ℕ) (o : Option Command) (c : Command) → sentence_or_stop m o ≡ sentence c → sentence_or_stop n o ≡ sentence c
 ended-anywhere m n None c e = cc
 ended-anywhere m n (Some d) c e = e
 
@@ -24,8 +24,8 @@ pub sentence-anywhere : (ks : List Kind) (m n : ℕ) (s : State) (c : Command) �
 sentence-anywhere [] m n s c e = ended-anywhere m n (finish s) c e
 sentence-anywhere (k ∷ ks) m n s c e =
     verdict-tests n s k ks
-    ∙ tests-anywhere (is_stop (step s k)) (nat_lt nesting_bound (depth (step s k))) m n (verdict_from (m + 1) (step s k) ks) (verdict_from (n + 1) (step s k) ks) c
-    (sentence-anywhere ks (m + 1) (n + 1) (step s k) c) (sym (verdict-tests m s k ks) ∙ e)
+    ∙ tests-anywhere (is_stop (line_step s k)) (nat_lt nesting_bound (line_depth (line_step s k))) m n (verdict_from (m + 1) (line_step s k) ks) (verdict_from (n + 1) (line_step s k) ks) c
+    (sentence-anywhere ks (m + 1) (n + 1) (line_step s k) c) (sym (verdict-tests m s k ks) ∙ e)
 
 -- the tokens of a string behind a blank
 pub behind-string : (xs : List (Symbol Signed)) → kinds_of (string_behind xs) ≡ kinds_of (string_pieces signed_pieces xs)

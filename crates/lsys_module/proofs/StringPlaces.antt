@@ -4,11 +4,11 @@ use Rattle.std.proofs.lemmas.List.{length-map}
 use Rattle.lsys_syntax.specs.Tokens.{Kind}
 use Rattle.lsys_syntax.specs.Strings.{Symbol, Signed}
 use Rattle.lsys_syntax.specs.Commands.{Command, set_axiom}
-use Rattle.lsys_syntax.specs.LineMachine.{State, InAxiom, Symbols, step, is_stop, depth, nesting_bound, Verdict, sentence, stops, too_deep, ended, finish, verdict_from}
+use Rattle.lsys_syntax.specs.LineMachine.{State, InAxiom, Symbols, line_step, is_stop, line_depth, nesting_bound, Verdict, sentence, stops, too_deep, sentence_or_stop, finish, verdict_from}
 use Rattle.lsys_syntax.specs.Sentences.{AreTokens}
 use Rattle.lsys_syntax.proofs.LineSound.{after_tests, verdict-tests}
 use Rattle.lsys_text.specs.declared.token_kind.Token.{Token}
-use Rattle.lsys_text.specs.Tokens.{kinds_of, kind_of}
+use Rattle.lsys_text.specs.Tokens.{kind_row, kind_of}
 use Rattle.lsys_laws.specs.StringPlaces.{IsString, BeginsString, axiom_verdict}
 use Rattle.lsys_laws.proofs.StringsTold.{string_read, string_told, string_before, string_at}
 use Rattle.lsys_module.specs.Places.{kinds_from, kinds_between}
@@ -21,7 +21,7 @@ moved d (sentence c) = sentence c
 moved d (stops place) = stops (place + d)
 moved d (too_deep place) = too_deep (place + d)
 
-ended-moved : (n d : ℕ) (o : Option Command) → ended (n + d) o ≡ moved d (ended n o)
+ended-moved : (n d : ℕ) (o : Option Command) → sentence_or_stop (n + d) o ≡ moved d (sentence_or_stop n o)
 ended-moved n d None = refl
 ended-moved n d (Some c) = refl
 
@@ -34,10 +34,10 @@ verdict-moved : (ks : List Kind) (n d : ℕ) (s : State) → verdict_from (n + d
 verdict-moved [] n d s = ended-moved n d (finish s)
 verdict-moved (k ∷ ks) n d s =
     let next : n + d + 1 ≡ n + 1 + d = omega arith in
-    let rest : verdict_from (n + d + 1) (step s k) ks ≡ moved d (verdict_from (n + 1) (step s k) ks) =
-    ap (λ m. verdict_from m (step s k) ks) next ∙ verdict-moved ks (n + 1) d (step s k) in
+    let rest : verdict_from (n + d + 1) (line_step s k) ks ≡ moved d (verdict_from (n + 1) (line_step s k) ks) =
+    ap (λ m. verdict_from m (line_step s k) ks) next ∙ verdict-moved ks (n + 1) d (line_step s k) in
     verdict-tests (n + d) s k ks
-    ∙ tests-moved (is_stop (step s k)) (nat_lt nesting_bound (depth (step s k))) n d (verdict_from (n + 1) (step s k) ks) (verdict_from (n + d + 1) (step s k) ks) rest
+    ∙ tests-moved (is_stop (line_step s k)) (nat_lt nesting_bound (line_depth (line_step s k))) n d (verdict_from (n + 1) (line_step s k) ks) (verdict_from (n + d + 1) (line_step s k) ks) rest
     ∙ ap (moved d) (sym (verdict-tests n s k ks))
 
 -- the place, counted from the first of the tokens
@@ -59,11 +59,11 @@ stands (too_deep i) x y from place e f h = absurd (not_deep (i + from) place (sy
     not_deep i place e = cc
 
 module _ (tokens : List Token) (from : ℕ) where
-  pub read_as_string : AreTokens (kinds_of tokens) → (xs : List (Symbol Signed)) → string_verdict from tokens ≡ sentence (set_axiom xs) → IsString (kinds_from from tokens)
+  pub read_as_string : AreTokens (kind_row tokens) → (xs : List (Symbol Signed)) → string_verdict from tokens ≡ sentence (set_axiom xs) → IsString (kinds_from from tokens)
   read_as_string forms xs e =
       let ks = kinds_from from tokens in
       let read : axiom_verdict ks ≡ sentence (set_axiom xs) = sentence-anywhere ks from 1 (InAxiom (Symbols [])) (set_axiom xs) e in
-      let told = string_told ks (set_axiom xs) (tokens-behind from (kinds_of tokens) forms) read in
+      let told = string_told ks (set_axiom xs) (tokens-behind from (kind_row tokens) forms) read in
       (told.0, told.2)
 
   placed : (place : ℕ) → string_verdict from tokens ≡ stops place → Stands from place (axiom_verdict (kinds_from from tokens))
@@ -77,7 +77,7 @@ module _ (tokens : List Token) (from : ℕ) where
 pub record Refused (tokens : List Token) (from place : ℕ) : Type 0 where
   pub no_string : IsString (kinds_from from tokens) → ⊥
   pub behind : from ≤ place
-  pub before : AreTokens (kinds_of tokens) → BeginsString (kinds_between from place tokens)
+  pub before : AreTokens (kind_row tokens) → BeginsString (kinds_between from place tokens)
   pub none_goes_on : place < length tokens → BeginsString (kinds_between from (place + 1) tokens) → ⊥
 
 no_sentence : (v : Verdict) (c : Command) (place : ℕ) → v ≡ sentence c → v ≡ stops place → ⊥
@@ -89,10 +89,10 @@ refused tokens from place e =
     let p = placed tokens from place e in
     let behind : place - from ≡ p.0 = omega (arith, p.1) in
     let over : place + 1 - from ≡ suc p.0 = omega (arith, p.1) in
-    let size : length ks ≡ length tokens - from = length-drop from (kinds_of tokens) ∙ ap (λ n. n - from) (length-map tokens (λ (t : Token). kind_of t.kind)) in
+    let size : length ks ≡ length tokens - from = length-drop from (kind_row tokens) ∙ ap (λ n. n - from) (length-map tokens (λ (t : Token). kind_of t.kind)) in
     record {
       no_string = λ s. no_sentence (axiom_verdict ks) (set_axiom s.0) (suc p.0) (string_read ks s.0 s.1) p.2;
       behind = omega (arith, p.1);
-      before = λ forms. subst (λ n. BeginsString (take n ks)) (sym behind) (string_before ks p.0 (tokens-behind from (kinds_of tokens) forms) p.2);
+      before = λ forms. subst (λ n. BeginsString (take n ks)) (sym behind) (string_before ks p.0 (tokens-behind from (kind_row tokens) forms) p.2);
       none_goes_on = λ l b. string_at ks p.0 p.2 (omega (arith, p.1, size, l)) (subst (λ n. BeginsString (take n ks)) over b);
     }

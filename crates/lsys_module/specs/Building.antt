@@ -9,7 +9,7 @@ use Rattle.lsys_syntax.specs.LineMachine.{Verdict, sentence}
 use Rattle.lsys_syntax.specs.Checks.{axiom_many}
 use Rattle.lsys_spec.specs.Edits.{values_of}
 use Rattle.lsys_text.specs.declared.token_kind.Token.{Token}
-use Rattle.lsys_text.specs.Tokens.{IsWithin, kind_of}
+use Rattle.lsys_text.specs.Tokens.{LiesInLine, kind_of}
 use Rattle.lsys_module.specs.declared.symbol.Module.{Module as CodeModule}
 use Rattle.lsys_module.specs.declared.symbol.Symbol.{Symbol as CodeSymbol}
 use Rattle.lsys_module.specs.declared.refusal.StringRefusal.{StringRefusal}
@@ -24,22 +24,22 @@ use Rattle.lsys_module.specs.Scanning.{glyph_of}
 
 -- each token is some bytes of one line
 abbrev pub AreOfLine : List Token → Type 0
-AreOfLine tokens = (n : ℕ) × All (IsWithin n) tokens
+AreOfLine tokens = (n : ℕ) × All (LiesInLine n) tokens
 
 -- the column, from 1, of the token at a place
-abbrev pub column_at : List Token → ℕ → Option ℕ
-column_at tokens place = option_map (λ t. t.start + 1) (slice_get tokens place)
+abbrev pub token_column : List Token → ℕ → Option ℕ
+token_column tokens place = option_map (λ t. t.start + 1) (slice_get tokens place)
 
 -- the values of a string that passes no limit, or the column of the token at which it passes one; want of memory says nothing
 abbrev pub IsBuiltOf : ℕ → List Token → List (Symbol Signed) → Result (List CodeSymbol) StringRefusal → Type 0
 IsBuiltOf from tokens xs (Ok symbols) = (string_of symbols ≡ values_of xs) × (axiom_many from xs ≡ None)
-IsBuiltOf from tokens xs (Err (TooMany column)) = (place : ℕ) × (axiom_many from xs ≡ Some place) × (column_at tokens place ≡ Some column)
+IsBuiltOf from tokens xs (Err (TooMany column)) = (place : ℕ) × (axiom_many from xs ≡ Some place) × (token_column tokens place ≡ Some column)
 IsBuiltOf from tokens xs (Err Memory) = Unit {0}
 
 -- the same of the string that a verdict tells
-abbrev pub IsBuilt : ℕ → List Token → Verdict → Result (List CodeSymbol) StringRefusal → Type 0
-IsBuilt from tokens (sentence (set_axiom xs)) result = IsBuiltOf from tokens xs result
-IsBuilt from tokens v result = ⊥
+abbrev pub IsBuiltBy : ℕ → List Token → Verdict → Result (List CodeSymbol) StringRefusal → Type 0
+IsBuiltBy from tokens (sentence (set_axiom xs)) result = IsBuiltOf from tokens xs result
+IsBuiltBy from tokens v result = ⊥
 
 -- What was read: symbols, and then, where they are not all, a name, behind which a `(` may follow, or some of a module's parameters.
 pub data Draft : Type 0 where
@@ -64,39 +64,39 @@ is_name glyphs.Minus = true
 is_name g = false
 
 -- another symbol begins; a name is that of the token
-abbrev pub symbol_step : List (Symbol ℤ) → Glyph → ModuleName → Option Draft
-symbol_step ys glyphs.Name m = Some (named ys m)
-symbol_step ys glyphs.Minus m = Some (named ys m)
-symbol_step ys glyphs.Push m = Some (whole (ys ++ Push ∷ []))
-symbol_step ys glyphs.Pop m = Some (whole (ys ++ Pop ∷ []))
-symbol_step ys glyphs.Cut m = Some (whole (ys ++ Cut ∷ []))
-symbol_step ys g m = None
+abbrev pub next_symbol_step : List (Symbol ℤ) → Glyph → ModuleName → Option Draft
+next_symbol_step ys glyphs.Name m = Some (named ys m)
+next_symbol_step ys glyphs.Minus m = Some (named ys m)
+next_symbol_step ys glyphs.Push m = Some (whole (ys ++ Push ∷ []))
+next_symbol_step ys glyphs.Pop m = Some (whole (ys ++ Pop ∷ []))
+next_symbol_step ys glyphs.Cut m = Some (whole (ys ++ Cut ∷ []))
+next_symbol_step ys g m = None
 
 abbrev pub named_step : List (Symbol ℤ) → ModuleName → Glyph → ModuleName → Option Draft
 named_step ys n glyphs.Open m = Some (number_due ys n [])
-named_step ys n g m = symbol_step (ys ++ Module n [] ∷ []) g m
+named_step ys n g m = next_symbol_step (ys ++ Module n [] ∷ []) g m
 
-abbrev pub due_step : List (Symbol ℤ) → ModuleName → List ℤ → Glyph → Option Draft
-due_step ys n zs (glyphs.Number m) = if nat_lt m value_bound then Some (number_read ys n (zs ++ pos m ∷ [])) else None
-due_step ys n zs glyphs.Minus = Some (minus_read ys n zs)
-due_step ys n zs g = None
+abbrev pub before_number_step : List (Symbol ℤ) → ModuleName → List ℤ → Glyph → Option Draft
+before_number_step ys n zs (glyphs.Number m) = if nat_lt m value_bound then Some (number_read ys n (zs ++ pos m ∷ [])) else None
+before_number_step ys n zs glyphs.Minus = Some (minus_read ys n zs)
+before_number_step ys n zs g = None
 
-abbrev pub minus_step : List (Symbol ℤ) → ModuleName → List ℤ → Glyph → Option Draft
-minus_step ys n zs (glyphs.Number m) = if nat_lt (length zs) most_params && nat_le m value_bound then Some (number_read ys n (zs ++ negative m ∷ [])) else None
-minus_step ys n zs g = None
+abbrev pub after_minus_step : List (Symbol ℤ) → ModuleName → List ℤ → Glyph → Option Draft
+after_minus_step ys n zs (glyphs.Number m) = if nat_lt (length zs) most_params && nat_le m value_bound then Some (number_read ys n (zs ++ negative m ∷ [])) else None
+after_minus_step ys n zs g = None
 
-abbrev pub read_step : List (Symbol ℤ) → ModuleName → List ℤ → Glyph → Option Draft
-read_step ys n zs glyphs.Comma = Some (number_due ys n zs)
-read_step ys n zs glyphs.Close = Some (whole (ys ++ Module n zs ∷ []))
-read_step ys n zs g = None
+abbrev pub after_number_step : List (Symbol ℤ) → ModuleName → List ℤ → Glyph → Option Draft
+after_number_step ys n zs glyphs.Comma = Some (number_due ys n zs)
+after_number_step ys n zs glyphs.Close = Some (whole (ys ++ Module n zs ∷ []))
+after_number_step ys n zs g = None
 
 -- one more token, where a string goes on with it
 abbrev pub draft_step : Draft → Glyph → ModuleName → Option Draft
-draft_step (whole ys) g m = symbol_step ys g m
+draft_step (whole ys) g m = next_symbol_step ys g m
 draft_step (named ys n) g m = named_step ys n g m
-draft_step (number_due ys n zs) g m = due_step ys n zs g
-draft_step (minus_read ys n zs) g m = minus_step ys n zs g
-draft_step (number_read ys n zs) g m = read_step ys n zs g
+draft_step (number_due ys n zs) g m = before_number_step ys n zs g
+draft_step (minus_read ys n zs) g m = after_minus_step ys n zs g
+draft_step (number_read ys n zs) g m = after_number_step ys n zs g
 
 abbrev pub named_limit : List (Symbol ℤ) → ModuleName → Glyph → Bool
 named_limit ys n glyphs.Open = false
@@ -115,26 +115,26 @@ draft_end (whole ys) = Some ys
 draft_end (named ys n) = Some (ys ++ Module n [] ∷ [])
 draft_end d = None
 
-abbrev pub part_of : Part → List (Symbol ℤ) → Draft
-part_of parts.Whole ys = whole ys
-part_of (parts.Named name) ys = named ys (module_name name)
-part_of (parts.NumberDue m) ys = number_due ys (module_name m.name) m.params
-part_of (parts.MinusRead m) ys = minus_read ys (module_name m.name) m.params
-part_of (parts.NumberRead m) ys = number_read ys (module_name m.name) m.params
+abbrev pub draft_by_part : Part → List (Symbol ℤ) → Draft
+draft_by_part parts.Whole ys = whole ys
+draft_by_part (parts.Named name) ys = named ys (module_name name)
+draft_by_part (parts.NumberDue m) ys = number_due ys (module_name m.name) m.params
+draft_by_part (parts.MinusRead m) ys = minus_read ys (module_name m.name) m.params
+draft_by_part (parts.NumberRead m) ys = number_read ys (module_name m.name) m.params
 
 -- the last module goes on so with a token, where a number or a sign was due
 abbrev pub IsPartBehindDue : CodeModule → Glyph → Part → Type 0
 IsPartBehindDue m g part =
-    (ys : List (Symbol ℤ)) → due_step ys (module_name m.name) m.params g ≡ Some (part_of part ys)
+    (ys : List (Symbol ℤ)) → before_number_step ys (module_name m.name) m.params g ≡ Some (draft_by_part part ys)
 
 -- the last module goes on so with a token behind a sign
 abbrev pub IsPartBehindMinus : CodeModule → Glyph → Part → Type 0
 IsPartBehindMinus m g part =
-    (ys : List (Symbol ℤ)) → minus_step ys (module_name m.name) m.params g ≡ Some (part_of part ys)
+    (ys : List (Symbol ℤ)) → after_minus_step ys (module_name m.name) m.params g ≡ Some (draft_by_part part ys)
 
 -- what was read, as the code keeps it
 abbrev pub draft_of : Builder → Draft
-draft_of b = part_of b.part (string_of b.symbols)
+draft_of b = draft_by_part b.part (string_of b.symbols)
 
 -- a string goes on with the token, or the token is one too many
 abbrev pub CanTake : Draft → Kind → Type 0

@@ -12,9 +12,9 @@ use Rattle.lsys_module.specs.declared.limits.Spot.TheVariants.{Outside, BehindNa
 use Rattle.lsys_module.specs.Building.{Draft, whole, named, number_due, minus_read, number_read}
 
 -- the token at which the string that a verdict tells passes a limit
-abbrev pub IsPlaced : ℕ → Verdict → Option ℕ → Type 0
-IsPlaced from (sentence (set_axiom xs)) place = place ≡ axiom_many from xs
-IsPlaced from v place = ⊥
+abbrev pub IsLimitPlace : ℕ → Verdict → Option ℕ → Type 0
+IsLimitPlace from (sentence (set_axiom xs)) place = place ≡ axiom_many from xs
+IsLimitPlace from v place = ⊥
 
 abbrev pub with_spot : Spot → Counter → Counter
 with_spot spot c = record c { spot = spot }
@@ -45,9 +45,9 @@ abbrev pub counter_step : Counter → Glyph → Option Counter
 counter_step c g = spot_counted c.spot c g
 
 -- the count of what was read
-abbrev pub Counts : Draft → Counter → Type 0
-Counts (whole ys) c = (c.spot ≡ Outside) × (c.symbols ≡ length ys)
-Counts (named ys n) c = (c.spot ≡ BehindName) × (c.symbols ≡ length ys + 1) × (c.params ≡ 0)
-Counts (number_due ys n zs) c = (c.spot ≡ ParamDue) × (c.symbols ≡ length ys + 1) × (c.params ≡ length zs)
-Counts (minus_read ys n zs) c = (c.spot ≡ InParam) × (c.symbols ≡ length ys + 1) × (c.params ≡ length zs + 1)
-Counts (number_read ys n zs) c = (c.spot ≡ InParam) × (c.symbols ≡ length ys + 1) × (c.params ≡ length zs)
+abbrev pub CountsDraft : Draft → Counter → Type 0
+CountsDraft (whole ys) c = (c.spot ≡ Outside) × (c.symbols ≡ length ys)
+CountsDraft (named ys n) c = (c.spot ≡ BehindName) × (c.symbols ≡ length ys + 1) × (c.params ≡ 0)
+CountsDraft (number_due ys n zs) c = (c.spot ≡ ParamDue) × (c.symbols ≡ length ys + 1) × (c.params ≡ length zs)
+CountsDraft (minus_read ys n zs) c = (c.spot ≡ InParam) × (c.symbols ≡ length ys + 1) × (c.params ≡ length zs + 1)
+CountsDraft (number_read ys n zs) c = (c.spot ≡ InParam) × (c.symbols ≡ length ys + 1) × (c.params ≡ length zs)

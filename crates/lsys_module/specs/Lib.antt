@@ -6,4 +6,4 @@ pub mod Building
 pub mod ReadBack
 pub mod Places
 pub mod Counting
-pub mod PrintedValues
+pub mod Shapes

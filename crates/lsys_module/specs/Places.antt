@@ -4,7 +4,7 @@ use Rattle.lsys_syntax.specs.Tokens.{Kind}
 use Rattle.lsys_text.specs.declared.token_kind.Token.{Token}
 use Rattle.lsys_text.specs.declared.refusals.PlaceRefusal.{PlaceRefusal}
 use Rattle.lsys_text.specs.declared.refusals.PlaceRefusal.TheVariants as refusals
-use Rattle.lsys_text.specs.Tokens.{kinds_of}
+use Rattle.lsys_text.specs.Tokens.{kind_row}
 use Rattle.lsys_laws.specs.StringPlaces.{BeginsString, IsString}
 
 -- the place of the token that is refused
@@ -14,7 +14,7 @@ refused_place (refusals.Deep place) = place
 
 -- the tokens from a place on
 abbrev pub kinds_from : ℕ → List Token → List Kind
-kinds_from from tokens = drop from (kinds_of tokens)
+kinds_from from tokens = drop from (kind_row tokens)
 
 -- those are a string
 abbrev pub IsStringFrom : ℕ → List Token → Type 0

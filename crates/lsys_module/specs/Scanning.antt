@@ -8,7 +8,7 @@ use Rattle.lsys_syntax.specs.LineMachine.{InAxiom, Symbols, Verdict, sentence, s
 use Rattle.lsys_text.specs.declared.token_kind.Token.{Token}
 use Rattle.lsys_text.specs.declared.refusals.PlaceRefusal.{PlaceRefusal}
 use Rattle.lsys_text.specs.declared.refusals.PlaceRefusal.TheVariants as refusals
-use Rattle.lsys_text.specs.Tokens.{kinds_of}
+use Rattle.lsys_text.specs.Tokens.{kind_row}
 use Rattle.lsys_module.specs.declared.glyph.Glyph.{Glyph}
 use Rattle.lsys_module.specs.declared.glyph.Glyph.TheVariants.{Name, Minus, Push, Pop, Cut, Open, Close, Comma, Number, Other}
 use Rattle.lsys_module.specs.declared.scan.Spot.{Spot}
@@ -17,15 +17,15 @@ use Rattle.lsys_module.specs.declared.scan.Progress.{Progress}
 
 -- the verdict on the tokens from a place on, read as a string
 abbrev pub string_verdict : ℕ → List Token → Verdict
-string_verdict from tokens = verdict_from from (InAxiom (Symbols [])) (drop from (kinds_of tokens))
+string_verdict from tokens = verdict_from from (InAxiom (Symbols [])) (drop from (kind_row tokens))
 
 -- the tokens are a string
-abbrev pub IsString : Verdict → Type 0
-IsString v = (xs : List (Symbol Signed)) × (v ≡ sentence (set_axiom xs))
+abbrev pub TellsString : Verdict → Type 0
+TellsString v = (xs : List (Symbol Signed)) × (v ≡ sentence (set_axiom xs))
 
 -- a string, or the first token with which no string goes on
 abbrev pub IsScanned : Verdict → Result (Unit {0}) PlaceRefusal → Type 0
-IsScanned v (Ok done) = IsString v
+IsScanned v (Ok done) = TellsString v
 IsScanned v (Err (refusals.Token place)) = v ≡ stops place
 IsScanned v (Err (refusals.Deep place)) = ⊥
 
@@ -50,22 +50,22 @@ glyph_of (syntax.Number n) = Number n
 glyph_of k = Other
 
 -- behind a `]`, where a branch is open
-abbrev pub closed : ℕ → Option Progress
-closed zero = None
-closed (suc n) = Some (record { spot = Between false; branches = n })
+abbrev pub branch_closed : ℕ → Option Progress
+branch_closed zero = None
+branch_closed (suc n) = Some (record { spot = Between false; branches = n })
 
-abbrev pub opened : Bool → ℕ → Option Progress
-opened true branches = Some (record { spot = NumberDue; branches = branches })
-opened false branches = None
+abbrev pub params_opened : Bool → ℕ → Option Progress
+params_opened true branches = Some (record { spot = NumberDue; branches = branches })
+params_opened false branches = None
 
 -- between symbols, of which the last one is a module without parameters or not
 abbrev pub between_step : Glyph → Bool → ℕ → Option Progress
 between_step Name bare branches = Some (record { spot = Between true; branches = branches })
 between_step Minus bare branches = Some (record { spot = Between true; branches = branches })
 between_step Push bare branches = Some (record { spot = Between false; branches = branches + 1 })
-between_step Pop bare branches = closed branches
+between_step Pop bare branches = branch_closed branches
 between_step Cut bare branches = Some (record { spot = Between false; branches = branches })
-between_step Open bare branches = opened bare branches
+between_step Open bare branches = params_opened bare branches
 between_step g bare branches = None
 
 -- in parentheses

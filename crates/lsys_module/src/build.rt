@@ -2,10 +2,10 @@
 ghost use Rattle.std.specs.Prelude.{◌≡◌, ◌<◌, ◌≤◌, ◌+◌, ◌^◌, [], ◌∷◌, ◌++◌, length, IsSome, IsTrue, OnOk, IfOk};
 ghost use Rattle.lsys_syntax.specs.Strings.{negative};
 ghost use Rattle.lsys_syntax.specs.Sentences.{IsToken, AreTokens};
-ghost use Rattle.lsys_text.specs.Tokens.{kind_of, kinds_of};
+ghost use Rattle.lsys_text.specs.Tokens.{kind_of, kind_row};
 ghost use Rattle.lsys_module.specs.Views.{module_name, string_of};
-ghost use Rattle.lsys_module.specs.Scanning.{string_verdict, IsString, glyph_of};
-ghost use Rattle.lsys_module.specs.Building.{AreOfLine, IsBuilt, CanTake, IsTaken, draft_of, draft_end, due_step, minus_step, is_name, kind_name, IsPartBehindDue, IsPartBehindMinus};
+ghost use Rattle.lsys_module.specs.Scanning.{string_verdict, TellsString, glyph_of};
+ghost use Rattle.lsys_module.specs.Building.{AreOfLine, IsBuiltBy, CanTake, IsTaken, draft_of, draft_end, before_number_step, after_minus_step, is_name, kind_name, IsPartBehindDue, IsPartBehindMinus};
 
 use crate::glyph::Glyph;
 use crate::params::Params;
@@ -33,10 +33,10 @@ pub fn build_string(
     from: usize,
 ) -> Result<SymbolList, StringRefusal>
     requires place { from ≤ length tokens.now }
-    requires forms { AreTokens (kinds_of tokens.now) }
+    requires forms { AreTokens (kind_row tokens.now) }
     requires line { AreOfLine tokens.now }
-    requires scanned { IsString (string_verdict from tokens.now) }
-    ensures { IsBuilt from tokens.now (string_verdict from tokens.now) result }
+    requires scanned { TellsString (string_verdict from tokens.now) }
+    ensures { IsBuiltBy from tokens.now (string_verdict from tokens.now) result }
 {
     let mut builder = Builder {
         symbols: SymbolList::new(alloc),
@@ -194,7 +194,7 @@ fn bare(name: Name) -> Module
 // Behind a number or a sign that was due.
 fn behind_due(last: Module, glyph: Glyph) -> Part
     requires few { length last.params < 8 }
-    requires goes_on { IsSome (due_step [] (module_name last.name) last.params glyph) }
+    requires goes_on { IsSome (before_number_step [] (module_name last.name) last.params glyph) }
     ensures { IsPartBehindDue last glyph result }
 {
     match glyph {
@@ -209,7 +209,7 @@ fn behind_due(last: Module, glyph: Glyph) -> Part
 
 // Behind a number that follows a sign.
 fn behind_minus(last: Module, glyph: Glyph) -> Part
-    requires { IsSome (minus_step [] (module_name last.name) last.params glyph) }
+    requires { IsSome (after_minus_step [] (module_name last.name) last.params glyph) }
     ensures { IsPartBehindMinus last glyph result }
 {
     match glyph {

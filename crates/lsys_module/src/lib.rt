@@ -10,6 +10,7 @@ ghost use Rattle.lsys_module.specs.ReadBack.{PrintedStringsAreRead};
 mod build;
 mod glyph;
 mod limits;
+mod notation;
 mod params;
 mod print;
 mod refusal;
@@ -19,8 +20,9 @@ mod symbol_list;
 
 pub use build::build_string;
 pub use limits::first_many;
+pub use notation::{Notation, Shape};
 pub use params::Params;
-pub use print::{print_string, put_name};
+pub use print::{print_string, put_name, put_symbol, put_symbols};
 pub use refusal::StringRefusal;
 pub use scan::scan_string;
 pub use symbol::{Module, Symbol};

@@ -1,9 +1,9 @@
 //! At which token a string passes a limit.
 ghost use Rattle.std.specs.Prelude.{◌≡◌, ◌≤◌, length};
 ghost use Rattle.lsys_syntax.specs.Sentences.{AreTokens};
-ghost use Rattle.lsys_text.specs.Tokens.{kinds_of};
-ghost use Rattle.lsys_module.specs.Scanning.{string_verdict, IsString};
-ghost use Rattle.lsys_module.specs.Counting.{IsPlaced, counter_step, with_spot, with_symbol, with_param, spot_behind};
+ghost use Rattle.lsys_text.specs.Tokens.{kind_row};
+ghost use Rattle.lsys_module.specs.Scanning.{string_verdict, TellsString};
+ghost use Rattle.lsys_module.specs.Counting.{IsLimitPlace, counter_step, with_spot, with_symbol, with_param, spot_behind};
 
 use crate::build::{MOST_PARAMS, MOST_SYMBOLS};
 use crate::glyph::Glyph;
@@ -14,9 +14,9 @@ use lsys_text::Token;
 /// no memory.
 pub fn first_many(tokens: &[Token], from: usize) -> Option<usize>
     requires place { from ≤ length tokens.now }
-    requires forms { AreTokens (kinds_of tokens.now) }
-    requires scanned { IsString (string_verdict from tokens.now) }
-    ensures { IsPlaced from (string_verdict from tokens.now) result }
+    requires forms { AreTokens (kind_row tokens.now) }
+    requires scanned { TellsString (string_verdict from tokens.now) }
+    ensures { IsLimitPlace from (string_verdict from tokens.now) result }
 {
     let mut counter = Counter {
         spot: Spot::Outside,

@@ -1,13 +1,13 @@
 //! Strings as they are printed.
-ghost use Rattle.std.specs.Prelude.{◌≡◌, ◌∷◌, false, IfOk};
-ghost use Rattle.lsys_syntax.specs.Pieces.{text_of};
-ghost use Rattle.lsys_syntax.specs.Strings.{AreSymbols, string_text, ends_in_name, value_pieces};
+ghost use Rattle.std.specs.Prelude.{◌≡◌, IfOk, false, map};
+ghost use Rattle.lsys_syntax.specs.Strings.{AreSymbols, ends_in_name, string_text, value_pieces};
 ghost use Rattle.lsys_io.specs.Putting.{Puts};
-ghost use Rattle.lsys_module.specs.Views.{module_name, module_of, symbol_of, string_of};
-ghost use Rattle.lsys_module.specs.Printing.{gap_text, name_behind, params_text, more_text, runs_on_after};
-ghost use Rattle.lsys_module.specs.PrintedValues.{module_behind, value_behind};
+ghost use Rattle.lsys_module.specs.Views.{module_name, string_of, symbol_of};
+ghost use Rattle.lsys_module.specs.Printing.{gap_text, more_text, name_behind, params_text, runs_on_after};
+ghost use Rattle.lsys_module.specs.Shapes.{behind_in, text_in};
 
-use crate::symbol::{Module, Symbol};
+use crate::notation::{Notation, Shape};
+use crate::symbol::Symbol;
 use crate::symbol_list::SymbolList;
 use lsys_io::{Buffered, Failed, Sink};
 use lsys_text::Name;
@@ -29,29 +29,76 @@ pub fn print_string<K: Sink>(
     ensures put { Puts K.Sink sink out (string_text (string_of symbols.now)) result }
     ensures forms { AreSymbols (string_of symbols.now) }
 {
+    put_symbols::<K, Symbol, i64, Strings>(out, sink, symbols.symbols())
+}
+
+// The symbols of a string, whose parameters are numbers.
+struct Strings;
+
+impl Notation<Symbol, i64> for Strings {
+    ghost use Rattle.std.specs.Prelude.{ℤ};
+
+    ghost Written = { ℤ };
+
+    ghost way = { record { symbol = symbol_of; param = λ z. z; print = value_pieces } };
+
+    fn shape(of: &Symbol) -> Shape<'_, i64> {
+        match of {
+            Symbol::Push => Shape::Push,
+            Symbol::Pop => Shape::Pop,
+            Symbol::Cut => Shape::Cut,
+            Symbol::Module(module) => Shape::Module(module.name, module.params.values()),
+        }
+    }
+
+    fn put_param<K: Sink>(out: &mut Buffered, sink: &mut K, of: &i64) -> Result<(), Failed> {
+        out.put_number(sink, i128::from(*of))
+    }
+}
+
+/// Puts symbols one behind the other, and a blank where the one before would be read on.
+///
+/// # Errors
+///
+/// The sink failed; a front of what was held and of the symbols was written then.
+pub fn put_symbols<K: Sink, S, P, N: Notation<S, P>>(
+    out: &mut Buffered,
+    sink: &mut K,
+    symbols: &[S],
+) -> Result<(), Failed>
+    ensures { Puts K.Sink sink out (text_in N.way symbols.now) result }
+{
     let mut runs_on = false;
-    for symbol in symbols.symbols() {
-        runs_on = put_symbol(out, sink, symbol, runs_on)?;
+    for symbol in symbols {
+        runs_on = put_symbol::<K, S, P, N>(out, sink, symbol, runs_on)?;
     }
     Ok(())
 }
 
-// Puts a symbol, behind a blank where the one before runs on and this one begins with a letter. Answers whether this
-// one runs on.
-fn put_symbol<K: Sink>(
+/// Puts a symbol, behind a blank where the one before runs on and this one begins with a letter. Answers whether a
+/// letter directly behind it would be read as part of it.
+///
+/// # Errors
+///
+/// The sink failed; a front of what was held and of the symbol was written then.
+pub fn put_symbol<K: Sink, S, P, N: Notation<S, P>>(
     out: &mut Buffered,
     sink: &mut K,
-    symbol: &Symbol,
+    symbol: &S,
     runs_on: bool,
 ) -> Result<bool, Failed>
-    ensures put { Puts K.Sink sink out (value_behind runs_on symbol.now) result }
-    ensures runs_on { IfOk result (λ more. more ≡ ends_in_name (symbol_of symbol.now)) }
+    ensures put { Puts K.Sink sink out (behind_in N.way runs_on symbol.now) result }
+    ensures runs_on { IfOk result (λ more. more ≡ ends_in_name (N.way.symbol symbol.now)) }
 {
-    match symbol {
-        Symbol::Push => put_mark(out, sink, b"["),
-        Symbol::Pop => put_mark(out, sink, b"]"),
-        Symbol::Cut => put_mark(out, sink, b"%"),
-        Symbol::Module(module) => put_module(out, sink, module, runs_on),
+    match N::shape(symbol) {
+        Shape::Push => put_mark(out, sink, b"["),
+        Shape::Pop => put_mark(out, sink, b"]"),
+        Shape::Cut => put_mark(out, sink, b"%"),
+        Shape::Module(name, params) => {
+            let long = put_name(out, sink, name, runs_on)?;
+            put_params::<K, S, P, N>(out, sink, params)?;
+            Ok(long && params.is_empty())
+        }
     }
 }
 
@@ -62,22 +109,6 @@ fn put_mark<K: Sink>(out: &mut Buffered, sink: &mut K, mark: &[u8]) -> Result<bo
 {
     out.put(sink, mark)?;
     Ok(false)
-}
-
-// Puts a module. Answers whether it runs on.
-fn put_module<K: Sink>(
-    out: &mut Buffered,
-    sink: &mut K,
-    whole: &Module,
-    runs_on: bool,
-) -> Result<bool, Failed>
-    ensures put { Puts K.Sink sink out (module_behind runs_on whole.now) result }
-    ensures runs_on { IfOk result (λ more. more ≡ ends_in_name (module_of whole.now)) }
-{
-    let long = put_name(out, sink, whole.name, runs_on)?;
-    let values = whole.params.values();
-    put_params(out, sink, values)?;
-    Ok(long && values.is_empty())
 }
 
 /// Puts a name, behind a blank where it begins with a letter and the one before runs on. Answers whether a letter
@@ -120,40 +151,33 @@ fn put_gap<K: Sink>(
 
 // Puts parameters, in parentheses where there are any.
 #[tactic(auto, using(lsys_io::proofs::Puts::puts_then, lsys_io::proofs::Puts::puts_failed, lsys_io::proofs::Puts::puts_nothing))]
-fn put_params<K: Sink>(out: &mut Buffered, sink: &mut K, values: &[i64]) -> Result<(), Failed>
-    ensures { Puts K.Sink sink out (params_text value_pieces values.now) result }
+fn put_params<K: Sink, S, P, N: Notation<S, P>>(
+    out: &mut Buffered,
+    sink: &mut K,
+    params: &[P],
+) -> Result<(), Failed>
+    ensures { Puts K.Sink sink out (params_text N.way.print (map N.way.param params.now)) result }
 {
-    let Some((first, others)) = values.split_first() else {
+    let Some((first, others)) = params.split_first() else {
         return Ok(());
     };
     out.put(sink, b"(")?;
-    put_value(out, sink, first)?;
-    put_more(out, sink, others)?;
+    N::put_param(out, sink, first)?;
+    put_more::<K, S, P, N>(out, sink, others)?;
     out.put(sink, b")")
 }
 
 // Puts parameters, each behind a comma.
-fn put_more<K: Sink>(out: &mut Buffered, sink: &mut K, values: &[i64]) -> Result<(), Failed>
-    ensures { Puts K.Sink sink out (more_text value_pieces values.now) result }
+fn put_more<K: Sink, S, P, N: Notation<S, P>>(
+    out: &mut Buffered,
+    sink: &mut K,
+    params: &[P],
+) -> Result<(), Failed>
+    ensures { Puts K.Sink sink out (more_text N.way.print (map N.way.param params.now)) result }
 {
-    for value in values {
-        put_next(out, sink, value)?;
+    for param in params {
+        out.put(sink, b",")?;
+        N::put_param(out, sink, param)?;
     }
     Ok(())
-}
-
-// Puts a parameter behind a comma.
-#[tactic(auto, using(lsys_io::proofs::Puts::puts_then, lsys_io::proofs::Puts::puts_failed))]
-fn put_next<K: Sink>(out: &mut Buffered, sink: &mut K, value: &i64) -> Result<(), Failed>
-    ensures { Puts K.Sink sink out (44 ∷ text_of (value_pieces value.now)) result }
-{
-    out.put(sink, b",")?;
-    put_value(out, sink, value)
-}
-
-// Puts a parameter.
-fn put_value<K: Sink>(out: &mut Buffered, sink: &mut K, value: &i64) -> Result<(), Failed>
-    ensures { Puts K.Sink sink out (text_of (value_pieces value.now)) result }
-{
-    out.put_number(sink, i128::from(*value))
 }

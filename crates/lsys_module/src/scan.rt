@@ -1,7 +1,7 @@
 //! Whether tokens are a string.
 ghost use Rattle.std.specs.Prelude.{◌≡◌, ◌<◌, ◌≤◌, ◌+◌, length, IfErr, IfSome, OnErr, OnOk};
 ghost use Rattle.lsys_syntax.specs.Sentences.{AreTokens};
-ghost use Rattle.lsys_text.specs.Tokens.{kinds_of};
+ghost use Rattle.lsys_text.specs.Tokens.{kind_row};
 ghost use Rattle.lsys_module.specs.Places.{BeginsBefore, NoneGoesOn, refused_place, IsStringFrom};
 ghost use Rattle.lsys_module.specs.Scanning.{string_verdict, IsScanned, between_step, param_step, progress_step, may_end};
 
@@ -38,11 +38,11 @@ pub(crate) struct Progress {
 pub fn scan_string(tokens: &[Token], from: usize) -> Result<(), PlaceRefusal>
     requires { from ≤ length tokens.now }
     ensures verdict { IsScanned (string_verdict from tokens.now) result }
-    ensures string { AreTokens (kinds_of tokens.now) → OnOk result (IsStringFrom from tokens.now) }
+    ensures string { AreTokens (kind_row tokens.now) → OnOk result (IsStringFrom from tokens.now) }
     ensures no_string { OnErr result (IsStringFrom from tokens.now → ⊥) }
     ensures behind { IfErr result (λ refusal. from ≤ refused_place refusal) }
     ensures within { IfErr result (λ refusal. refused_place refusal ≤ length tokens.now) }
-    ensures before { AreTokens (kinds_of tokens.now) → IfErr result (BeginsBefore from tokens.now) }
+    ensures before { AreTokens (kind_row tokens.now) → IfErr result (BeginsBefore from tokens.now) }
     ensures none_goes_on { IfErr result (NoneGoesOn from tokens.now) }
 {
     let mut progress = Progress {

@@ -3,10 +3,10 @@ use Rattle.std.proofs.Common.{◌≡◌, ◌≤◌, ◌<◌, ◌+◌, ◌-◌, �
 use Rattle.std.proofs.lemmas.Bool.Decides.{nat_tests}
 use Rattle.std.proofs.lemmas.List.{append-nil, length-map}
 use Rattle.lsys_spec.specs.Lattices.{Lattice}
-use Rattle.lsys_lattice.specs.Effects.{Stand, at_start, stand_from}
+use Rattle.lsys_lattice.specs.Effects.{Stand, first_walker, stand_from}
 use Rattle.lsys_lattice.specs.Free.{pose_of}
 use Rattle.lsys_lattice.proofs.Fronts.{stand_there}
-use Rattle.lsys_motion.specs.Pieces.{Piece, found, pose_at, poses_before, IsNear, IsNearTo}
+use Rattle.lsys_motion.specs.Pieces.{ImagePiece, found, pose_at, poses_before, IsNear, IsNearTo}
 use Rattle.lsys_motion.specs.Trees.{Trees, none, symbol, tree, stands_of, pieces_of, AreNear}
 use Rattle.lsys_motion.proofs.Seeing.{seen_twice}
 
@@ -51,11 +51,11 @@ some_pieces l none n h = absurd (omega arith)
 some_pieces l (symbol g rest) n h = omega arith
 some_pieces l (tree g inner rest) n h = omega arith
 
-found_past : (l : Lattice) (ps qs : List Piece) (n : ℕ) (h : Stand) → found l (length ps) (ps ++ qs) n h ≡ found l 0 qs n h
+found_past : (l : Lattice) (ps qs : List ImagePiece) (n : ℕ) (h : Stand) → found l (length ps) (ps ++ qs) n h ≡ found l 0 qs n h
 found_past l [] qs n h = refl
 found_past l (p ∷ ps) qs n h = found_past l ps qs n h
 
-near_past : (l : Lattice) (ps qs : List Piece) (n : ℕ) (h : Stand) → IsNearTo l 0 qs n h → IsNearTo l (length ps) (ps ++ qs) n h
+near_past : (l : Lattice) (ps qs : List ImagePiece) (n : ℕ) (h : Stand) → IsNearTo l 0 qs n h → IsNearTo l (length ps) (ps ++ qs) n h
 near_past l [] qs n h k = k
 near_past l (p ∷ ps) qs n h k = near_past l ps qs n h k
 
@@ -63,12 +63,12 @@ abbrev inner_size : Lattice → Trees → ℕ
 inner_size l inner = suc (length (pieces_of l inner))
 
 -- in the first piece
-in_first : (l : Lattice) (g h : Stand) (inner : Trees) (qs : List Piece) (n : ℕ) → nat_lt n (length (stands_of l inner)) ≡ true → (inner_size l inner == 1) ≡ false
+in_first : (l : Lattice) (g h : Stand) (inner : Trees) (qs : List ImagePiece) (n : ℕ) → nat_lt n (length (stands_of l inner)) ≡ true → (inner_size l inner == 1) ≡ false
     → found l 0 (record { symbols = length (stands_of l inner); pieces = inner_size l inner; start = g } ∷ qs) n h ≡ found l 0 qs n (stand_from l h g)
 in_first l g h inner qs n a b = rw (a, b) refl
 
 -- behind it
-past_first : (l : Lattice) (g h : Stand) (inner : Trees) (qs : List Piece) (n : ℕ) → nat_lt n (length (stands_of l inner)) ≡ false
+past_first : (l : Lattice) (g h : Stand) (inner : Trees) (qs : List ImagePiece) (n : ℕ) → nat_lt n (length (stands_of l inner)) ≡ false
     → found l 0 (record { symbols = length (stands_of l inner); pieces = inner_size l inner; start = g } ∷ (pieces_of l inner ++ qs)) n h ≡ found l 0 qs (n - length (stands_of l inner)) h
 past_first l g h inner qs n a =
     let e : inner_size l inner - 1 ≡ length (pieces_of l inner) = omega arith in
@@ -78,7 +78,7 @@ not_one : (n : ℕ) → 0 < n → (suc n == 1) ≡ false
 not_one n h = grind (arith, nat_tests)
 
 -- what is found among the pieces that are in the first one, and among those behind it, is found among all
-found_in : (l : Lattice) (g : Stand) (inner rest : Trees) (more : List Piece) (n : ℕ) (h s : Stand)
+found_in : (l : Lattice) (g : Stand) (inner rest : Trees) (more : List ImagePiece) (n : ℕ) (h s : Stand)
     → ((f : Stand) → slice_get (stands_of l inner) n ≡ Some f → found l 0 (pieces_of l inner ++ (pieces_of l rest ++ more)) n (stand_from l h g) ≡ stand_from l (stand_from l h g) f)
     → ((m : ℕ) → slice_get (stands_of l rest) m ≡ Some s → found l 0 (pieces_of l rest ++ more) m h ≡ stand_from l h s)
     → slice_get (map (stand_from l g) (stands_of l inner) ++ stands_of l rest) n ≡ Some s → (b : Bool) → nat_lt n (length (stands_of l inner)) ≡ b
@@ -99,12 +99,12 @@ found_in l g inner rest more n h s first second e false a =
     past_first l g h inner (pieces_of l rest ++ more) n a
     ∙ second (n - length (stands_of l inner)) (subst (λ j. slice_get (stands_of l rest) (n - j) ≡ Some s) size f)
 
-regrouped : (l : Lattice) (g : Stand) (inner rest : Trees) (more : List Piece)
+regrouped : (l : Lattice) (g : Stand) (inner rest : Trees) (more : List ImagePiece)
     → pieces_of l (tree g inner rest) ++ more ≡ record { symbols = length (stands_of l inner); pieces = inner_size l inner; start = g } ∷ (pieces_of l inner ++ (pieces_of l rest ++ more))
 regrouped l g inner rest more =
     ap (λ ps. record { symbols = length (stands_of l inner); pieces = inner_size l inner; start = g } ∷ ps) (append_assoc (pieces_of l inner) (pieces_of l rest) more)
 
-pub found_there : (l : Lattice) (t : Trees) (more : List Piece) (n : ℕ) (h s : Stand) → slice_get (stands_of l t) n ≡ Some s → found l 0 (pieces_of l t ++ more) n h ≡ stand_from l h s
+pub found_there : (l : Lattice) (t : Trees) (more : List ImagePiece) (n : ℕ) (h s : Stand) → slice_get (stands_of l t) n ≡ Some s → found l 0 (pieces_of l t ++ more) n h ≡ stand_from l h s
 found_there l none more n h s e = cc
 found_there l (symbol g rest) more zero h s e = let f : g ≡ s = cc in ap (stand_from l h) f
 found_there l (symbol g rest) more (suc m) h s e =
@@ -118,18 +118,18 @@ found_there l (tree g inner rest) more n h s e =
 
 -- 3. and all on the way down to it are within reach
 
-near_first : (l : Lattice) (g h : Stand) (inner : Trees) (qs : List Piece) (n : ℕ) → nat_lt n (length (stands_of l inner)) ≡ true → (inner_size l inner == 1) ≡ false
+near_first : (l : Lattice) (g h : Stand) (inner : Trees) (qs : List ImagePiece) (n : ℕ) → nat_lt n (length (stands_of l inner)) ≡ true → (inner_size l inner == 1) ≡ false
     → IsNear (stand_from l h g) → IsNearTo l 0 qs n (stand_from l h g) → IsNearTo l 0 (record { symbols = length (stands_of l inner); pieces = inner_size l inner; start = g } ∷ qs) n h
 near_first l g h inner qs n a b c d = rw (a, b) (c, d)
 
-near_behind : (l : Lattice) (g h : Stand) (inner : Trees) (qs : List Piece) (n : ℕ) → nat_lt n (length (stands_of l inner)) ≡ false
+near_behind : (l : Lattice) (g h : Stand) (inner : Trees) (qs : List ImagePiece) (n : ℕ) → nat_lt n (length (stands_of l inner)) ≡ false
     → IsNearTo l 0 qs (n - length (stands_of l inner)) h
     → IsNearTo l 0 (record { symbols = length (stands_of l inner); pieces = inner_size l inner; start = g } ∷ (pieces_of l inner ++ qs)) n h
 near_behind l g h inner qs n a c =
     let e : inner_size l inner - 1 ≡ length (pieces_of l inner) = omega arith in
     rw (a, e) (near_past l (pieces_of l inner) qs (n - length (stands_of l inner)) h c)
 
-near_in : (l : Lattice) (g : Stand) (inner rest : Trees) (more : List Piece) (n : ℕ) (h : Stand) → IsNear (stand_from l h g)
+near_in : (l : Lattice) (g : Stand) (inner rest : Trees) (more : List ImagePiece) (n : ℕ) (h : Stand) → IsNear (stand_from l h g)
     → (n < length (stands_of l inner) → IsNearTo l 0 (pieces_of l inner ++ (pieces_of l rest ++ more)) n (stand_from l h g))
     → ((m : ℕ) → m < length (stands_of l rest) → IsNearTo l 0 (pieces_of l rest ++ more) m h)
     → n < length (map (stand_from l g) (stands_of l inner) ++ stands_of l rest) → (b : Bool) → nat_lt n (length (stands_of l inner)) ≡ b
@@ -143,7 +143,7 @@ near_in l g inner rest more n h near first second less false a =
     length-append (map (stand_from l g) (stands_of l inner)) (stands_of l rest) ∙ ap (λ j. j + length (stands_of l rest)) (length-map (stands_of l inner) (stand_from l g)) in
     near_behind l g h inner (pieces_of l rest ++ more) n a (second (n - length (stands_of l inner)) (omega (arith, size, less, many)))
 
-pub near_there : (l : Lattice) (t : Trees) (more : List Piece) (n : ℕ) (h : Stand) (seen : Stand → Stand) → ((g : Stand) → seen g ≡ stand_from l h g) → AreNear l seen t → n < length (stands_of l t)
+pub near_there : (l : Lattice) (t : Trees) (more : List ImagePiece) (n : ℕ) (h : Stand) (seen : Stand → Stand) → ((g : Stand) → seen g ≡ stand_from l h g) → AreNear l seen t → n < length (stands_of l t)
     → IsNearTo l 0 (pieces_of l t ++ more) n h
 near_there l none more n h seen is k less = absurd (omega arith)
 near_there l (symbol g rest) more zero h seen is k less = (subst IsNear (is g) k.0, tt)
@@ -166,7 +166,7 @@ at_seam (x ∷ xs) y ys = at_seam xs y ys
 pose_there : (l : Lattice) (t : Trees) (n : ℕ) (s : Stand) → slice_get (stands_of l t) n ≡ Some s → pose_at l (pieces_of l t) n ≡ pose_of s
 pose_there l t n s e =
     ap (λ ps. pose_at l ps n) (sym (append-nil (pieces_of l t)))
-    ∙ ap pose_of (found_there l t [] n (at_start l).here s e ∙ stand_there l s)
+    ∙ ap pose_of (found_there l t [] n (first_walker l).here s e ∙ stand_there l s)
 
 pub poses_there : (l : Lattice) (t : Trees) (before after : List Stand) → stands_of l t ≡ before ++ after → poses_before l (pieces_of l t) (length before) (length after) ≡ map pose_of after
 poses_there l t before [] e = refl
@@ -179,17 +179,17 @@ poses_there l t before (s ∷ after) e =
 
 -- 5. passed all at once
 
-pub found_behind : (l : Lattice) (k : ℕ) (ps : List Piece) (n : ℕ) (h : Stand) → found l k ps n h ≡ found l 0 (drop k ps) n h
+pub found_behind : (l : Lattice) (k : ℕ) (ps : List ImagePiece) (n : ℕ) (h : Stand) → found l k ps n h ≡ found l 0 (drop k ps) n h
 found_behind l zero ps n h = refl
 found_behind l (suc k) [] n h = refl
 found_behind l (suc k) (p ∷ ps) n h = found_behind l k ps n h
 
-pub near_to_behind : (l : Lattice) (k : ℕ) (ps : List Piece) (n : ℕ) (h : Stand) → IsNearTo l k ps n h → IsNearTo l 0 (drop k ps) n h
+pub near_to_behind : (l : Lattice) (k : ℕ) (ps : List ImagePiece) (n : ℕ) (h : Stand) → IsNearTo l k ps n h → IsNearTo l 0 (drop k ps) n h
 near_to_behind l zero ps n h near = near
 near_to_behind l (suc k) [] n h near = tt
 near_to_behind l (suc k) (p ∷ ps) n h near = near_to_behind l k ps n h near
 
-pub found_skips : (l : Lattice) (ps : List Piece) (p : Piece) (qs rest : List Piece) (n : ℕ) (h : Stand) → ps ≡ p ∷ qs → p.symbols ≤ n → rest ≡ drop (p.pieces - 1) qs
+pub found_skips : (l : Lattice) (ps : List ImagePiece) (p : ImagePiece) (qs rest : List ImagePiece) (n : ℕ) (h : Stand) → ps ≡ p ∷ qs → p.symbols ≤ n → rest ≡ drop (p.pieces - 1) qs
     → found l 0 rest (n - p.symbols) h ≡ found l 0 ps n h
 found_skips l ps p qs rest n h e less is =
     let past : nat_lt n p.symbols ≡ false = grind (arith, nat_tests) in
@@ -198,15 +198,15 @@ found_skips l ps p qs rest n h e less is =
     ∙ sym (skipped l p qs n h past)
     ∙ sym (ap (λ rs. found l 0 rs n h) e)
   where
-    skipped : (l : Lattice) (p : Piece) (qs : List Piece) (n : ℕ) (h : Stand) → nat_lt n p.symbols ≡ false → found l 0 (p ∷ qs) n h ≡ found l (p.pieces - 1) qs (n - p.symbols) h
+    skipped : (l : Lattice) (p : ImagePiece) (qs : List ImagePiece) (n : ℕ) (h : Stand) → nat_lt n p.symbols ≡ false → found l 0 (p ∷ qs) n h ≡ found l (p.pieces - 1) qs (n - p.symbols) h
     skipped l p qs n h past = rw past refl
 
-pub near_skips : (l : Lattice) (ps : List Piece) (p : Piece) (qs rest : List Piece) (n : ℕ) (h : Stand) → ps ≡ p ∷ qs → p.symbols ≤ n → rest ≡ drop (p.pieces - 1) qs
+pub near_skips : (l : Lattice) (ps : List ImagePiece) (p : ImagePiece) (qs rest : List ImagePiece) (n : ℕ) (h : Stand) → ps ≡ p ∷ qs → p.symbols ≤ n → rest ≡ drop (p.pieces - 1) qs
     → IsNearTo l 0 ps n h → IsNearTo l 0 rest (n - p.symbols) h
 near_skips l ps p qs rest n h e less is near =
     let past : nat_lt n p.symbols ≡ false = grind (arith, nat_tests) in
     subst (λ rs. IsNearTo l 0 rs (n - p.symbols) h) (sym is)
     (near_to_behind l (p.pieces - 1) qs (n - p.symbols) h (skipped l p qs n h past (subst (λ rs. IsNearTo l 0 rs n h) e near)))
   where
-    skipped : (l : Lattice) (p : Piece) (qs : List Piece) (n : ℕ) (h : Stand) → nat_lt n p.symbols ≡ false → IsNearTo l 0 (p ∷ qs) n h → IsNearTo l (p.pieces - 1) qs (n - p.symbols) h
+    skipped : (l : Lattice) (p : ImagePiece) (qs : List ImagePiece) (n : ℕ) (h : Stand) → nat_lt n p.symbols ≡ false → IsNearTo l 0 (p ∷ qs) n h → IsNearTo l (p.pieces - 1) qs (n - p.symbols) h
     skipped l p qs n h past k = rw past at k

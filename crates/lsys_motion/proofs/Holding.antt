@@ -3,10 +3,10 @@ use Rattle.std.proofs.Common.{◌≡◌, ◌≤◌, ◌<◌, ◌+◌, ◌-◌, �
 use Rattle.std.proofs.lemmas.List.{append-nil, length-map, map-append, map-id}
 use Rattle.std.proofs.Math.Seq.{set-append_seam}
 use Rattle.lsys_spec.specs.Lattices.{Lattice}
-use Rattle.lsys_lattice.specs.Effects.{Stand, at_start, stand_from}
-use Rattle.lsys_motion.specs.Pieces.{Piece, IsNear}
+use Rattle.lsys_lattice.specs.Effects.{Stand, first_walker, stand_from}
+use Rattle.lsys_motion.specs.Pieces.{ImagePiece, IsNear}
 use Rattle.lsys_motion.specs.Trees.{Trees, none, symbol, tree, stands_of, pieces_of, beside, AreNear}
-use Rattle.lsys_motion.specs.Keepers.{Mark, through, up, unended, HoldsIn, Holds}
+use Rattle.lsys_motion.specs.Keepers.{OpenMark, through, up, unended, HoldsIn, Holds}
 use Rattle.lsys_motion.proofs.Seeing.{seen_start}
 
 -- 1. trees beside trees
@@ -39,8 +39,8 @@ map-map f g (x ∷ xs) = ap (λ ys. f (g x) ∷ ys) (map-map f g xs)
 behind : {A : Type 0} (all before more xs : List A) → all ≡ before ++ more → all ++ xs ≡ before ++ (more ++ xs)
 behind all before more xs e = ap (λ ys. ys ++ xs) e ∙ append_assoc before more xs
 
-more_in : (l : Lattice) (p : Option ℕ) (m : Mark) (seen : Stand → Stand) (below : List Piece → List Stand → Type 0) (ps : List Piece) (hs : List Stand) (t : Trees)
-    → ((qs : List Piece) (gs : List Stand) → AreNear l seen t → below qs gs → below (qs ++ pieces_of l t) (gs ++ map seen (stands_of l t)))
+more_in : (l : Lattice) (p : Option ℕ) (m : OpenMark) (seen : Stand → Stand) (below : List ImagePiece → List Stand → Type 0) (ps : List ImagePiece) (hs : List Stand) (t : Trees)
+    → ((qs : List ImagePiece) (gs : List Stand) → AreNear l seen t → below qs gs → below (qs ++ pieces_of l t) (gs ++ map seen (stands_of l t)))
     → AreNear l (λ h. seen (through l p m.stand h)) t → HoldsIn l p m seen below ps hs
     → HoldsIn l p m seen below (ps ++ pieces_of l t) (hs ++ map (λ h. seen (through l p m.stand h)) (stands_of l t))
 more_in l None m seen below ps hs t more near h = more ps hs near h
@@ -63,7 +63,7 @@ more_in l (Some i) m seen below ps hs t more near h =
       h.1,
     )
 
-pub held_more : (l : Lattice) (ms : List Mark) (ps : List Piece) (hs : List Stand) (t : Trees) → AreNear l (λ h. up l ms h) t → Holds l ms ps hs
+pub held_more : (l : Lattice) (ms : List OpenMark) (ps : List ImagePiece) (hs : List Stand) (t : Trees) → AreNear l (λ h. up l ms h) t → Holds l ms ps hs
     → Holds l ms (ps ++ pieces_of l t) (hs ++ map (λ h. up l ms h) (stands_of l t))
 held_more l [] ps hs t near w = record {
   trees = beside w.trees t;
@@ -76,34 +76,34 @@ held_more l (m ∷ ms) ps hs t near h =
 
 -- 3. where the last piece that is open began
 
-origin_near : (l : Lattice) → IsNear (at_start l).here
+origin_near : (l : Lattice) → IsNear (first_walker l).here
 origin_near l = record { x = omega arith; y = omega arith; z = omega arith }
 
-base_in : (l : Lattice) (p : Option ℕ) (m : Mark) (seen : Stand → Stand) (below : List Piece → List Stand → Type 0) (ps : List Piece) (hs : List Stand)
-    → ((qs : List Piece) (gs : List Stand) → below qs gs → IsNear (seen (at_start l).here)) → HoldsIn l p m seen below ps hs → IsNear (seen (through l p m.stand (at_start l).here))
+base_in : (l : Lattice) (p : Option ℕ) (m : OpenMark) (seen : Stand → Stand) (below : List ImagePiece → List Stand → Type 0) (ps : List ImagePiece) (hs : List Stand)
+    → ((qs : List ImagePiece) (gs : List Stand) → below qs gs → IsNear (seen (first_walker l).here)) → HoldsIn l p m seen below ps hs → IsNear (seen (through l p m.stand (first_walker l).here))
 base_in l None m seen below ps hs near h = near ps hs h
 base_in l (Some i) m seen below ps hs near h = subst (λ g. IsNear (seen g)) (sym (seen_start l m.stand)) h.0.near_start
 
-pub base_near : (l : Lattice) (ms : List Mark) (ps : List Piece) (hs : List Stand) → Holds l ms ps hs → IsNear (up l ms (at_start l).here)
+pub base_near : (l : Lattice) (ms : List OpenMark) (ps : List ImagePiece) (hs : List Stand) → Holds l ms ps hs → IsNear (up l ms (first_walker l).here)
 base_near l [] ps hs w = origin_near l
 base_near l (m ∷ ms) ps hs h = base_in l m.piece m (λ g. up l ms g) (λ qs gs. Holds l ms qs gs) ps hs (λ qs gs k. base_near l ms qs gs k) h
 
 -- 4. a piece begins, and ends
 
-pub held_begun : (l : Lattice) (ms : List Mark) (ps : List Piece) (hs : List Stand) (here : Stand) → Holds l ms ps hs → IsNear (up l ms here)
+pub held_begun : (l : Lattice) (ms : List OpenMark) (ps : List ImagePiece) (hs : List Stand) (here : Stand) → Holds l ms ps hs → IsNear (up l ms here)
     → Holds l (record { piece = Some (length ps); before = length hs; stand = here } ∷ ms) (ps ++ unended here ∷ []) hs
 held_begun l ms ps hs here h near = (
   record { trees = none; before = ps; stands = hs; pieces_are = refl; stands_are = sym (append-nil hs); number = refl; count = refl; near_start = near; near = tt },
   h,
 )
 
-abbrev ended_piece : Stand → ℕ → ℕ → Piece
+abbrev ended_piece : Stand → ℕ → ℕ → ImagePiece
 ended_piece h symbols pieces = record { symbols = symbols; pieces = pieces; start = h }
 
 same_piece : (h : Stand) (a b c d : ℕ) → a ≡ c → b ≡ d → ended_piece h a b ≡ ended_piece h c d
 same_piece h a b c d e f = cc
 
-ended_in : (l : Lattice) (i : ℕ) (m : Mark) (ms : List Mark) (ps : List Piece) (hs : List Stand) → HoldsIn l (Some i) m (λ g. up l ms g) (λ qs gs. Holds l ms qs gs) ps hs
+ended_in : (l : Lattice) (i : ℕ) (m : OpenMark) (ms : List OpenMark) (ps : List ImagePiece) (hs : List Stand) → HoldsIn l (Some i) m (λ g. up l ms g) (λ qs gs. Holds l ms qs gs) ps hs
     → Holds l ms (slice_set ps i (ended_piece m.stand (length hs - m.before) (length ps - i))) hs
 ended_in l i m ms ps hs h =
     let o = h.0 in
@@ -111,7 +111,7 @@ ended_in l i m ms ps hs h =
     let all : length ps ≡ length o.before + suc (length (pieces_of l o.trees)) = ap length o.pieces_are ∙ length-append o.before (unended m.stand ∷ pieces_of l o.trees) in
     let count : length hs ≡ length o.stands + length (stands_of l o.trees) =
     ap length o.stands_are ∙ length-append o.stands (map (λ g. up l ms (stand_from l m.stand g)) (stands_of l o.trees)) ∙ ap (λ n. length o.stands + n) (length-map (stands_of l o.trees) (λ g. up l ms (stand_from l m.stand g))) in
-    let piece : Piece = ended_piece m.stand (length hs - m.before) (length ps - i) in
+    let piece : ImagePiece = ended_piece m.stand (length hs - m.before) (length ps - i) in
     let is = same_piece m.stand (length hs - m.before) (length ps - i) (length (stands_of l o.trees)) (suc (length (pieces_of l o.trees))) (omega (arith, count, o.count)) (omega (arith, all, o.number)) in
     let pieces : slice_set ps i piece ≡ o.before ++ pieces_of l t =
     ap (λ j. slice_set ps j piece) (sym o.number)
@@ -126,16 +126,16 @@ ended_in l i m ms ps hs h =
     subst (λ qs. Holds l ms qs hs) (sym pieces)
     (subst (λ gs. Holds l ms (o.before ++ pieces_of l t) gs) stands (held_more l ms o.before o.stands t (o.near_start, o.near, tt) h.1))
 
-pub held_ended : (l : Lattice) (i : ℕ) (m : Mark) (ms : List Mark) (ps : List Piece) (hs : List Stand) → m.piece ≡ Some i → Holds l (m ∷ ms) ps hs
+pub held_ended : (l : Lattice) (i : ℕ) (m : OpenMark) (ms : List OpenMark) (ps : List ImagePiece) (hs : List Stand) → m.piece ≡ Some i → Holds l (m ∷ ms) ps hs
     → Holds l ms (slice_set ps i (ended_piece m.stand (length hs - m.before) (length ps - i))) hs
 held_ended l i m ms ps hs is h = ended_in l i m ms ps hs (subst (λ p. HoldsIn l p m (λ g. up l ms g) (λ qs gs. Holds l ms qs gs) ps hs) is h)
 
 -- it has its number, and so many symbols stand before it
-pub record IsNumbered (i : ℕ) (m : Mark) (ps : List Piece) (hs : List Stand) : Type 0 where
+pub record IsNumbered (i : ℕ) (m : OpenMark) (ps : List ImagePiece) (hs : List Stand) : Type 0 where
   pub number : i < length ps
   pub before : m.before ≤ length hs
 
-numbered_in : (l : Lattice) (i : ℕ) (m : Mark) (ms : List Mark) (ps : List Piece) (hs : List Stand) → HoldsIn l (Some i) m (λ g. up l ms g) (λ qs gs. Holds l ms qs gs) ps hs → IsNumbered i m ps hs
+numbered_in : (l : Lattice) (i : ℕ) (m : OpenMark) (ms : List OpenMark) (ps : List ImagePiece) (hs : List Stand) → HoldsIn l (Some i) m (λ g. up l ms g) (λ qs gs. Holds l ms qs gs) ps hs → IsNumbered i m ps hs
 numbered_in l i m ms ps hs h =
     let o = h.0 in
     let all : length ps ≡ length o.before + suc (length (pieces_of l o.trees)) = ap length o.pieces_are ∙ length-append o.before (unended m.stand ∷ pieces_of l o.trees) in
@@ -143,8 +143,8 @@ numbered_in l i m ms ps hs h =
     ap length o.stands_are ∙ length-append o.stands (map (λ g. up l ms (stand_from l m.stand g)) (stands_of l o.trees)) in
     record { number = omega (arith, all, o.number); before = omega (arith, count, o.count) }
 
-pub held_numbered : (l : Lattice) (i : ℕ) (m : Mark) (ms : List Mark) (ps : List Piece) (hs : List Stand) → m.piece ≡ Some i → Holds l (m ∷ ms) ps hs → IsNumbered i m ps hs
+pub held_numbered : (l : Lattice) (i : ℕ) (m : OpenMark) (ms : List OpenMark) (ps : List ImagePiece) (hs : List Stand) → m.piece ≡ Some i → Holds l (m ∷ ms) ps hs → IsNumbered i m ps hs
 held_numbered l i m ms ps hs is h = numbered_in l i m ms ps hs (subst (λ p. HoldsIn l p m (λ g. up l ms g) (λ qs gs. Holds l ms qs gs) ps hs) is h)
 
-pub held_below : (l : Lattice) (m : Mark) (ms : List Mark) (ps : List Piece) (hs : List Stand) → m.piece ≡ None → Holds l (m ∷ ms) ps hs → Holds l ms ps hs
+pub held_below : (l : Lattice) (m : OpenMark) (ms : List OpenMark) (ps : List ImagePiece) (hs : List Stand) → m.piece ≡ None → Holds l (m ∷ ms) ps hs → Holds l ms ps hs
 held_below l m ms ps hs is h = subst (λ p. HoldsIn l p m (λ g. up l ms g) (λ qs gs. Holds l ms qs gs) ps hs) is h

@@ -8,7 +8,7 @@ use Rattle.lsys_forest.specs.Groves.{AreKids}
 use Rattle.lsys_forest.proofs.WalkLemmas.{get_In}
 use Rattle.lsys_hom.specs.Coming.{Coming}
 use Rattle.lsys_hom.specs.Parts.{symbols_of}
-use Rattle.lsys_hom.specs.Ways.{with_part, refused}
+use Rattle.lsys_hom.specs.Ways.{with_part, coming_refused}
 use Rattle.lsys_hom.specs.declared.part.Part.{Part}
 use Rattle.lsys_hom.specs.declared.refusal.ImageRefusal.{ImageRefusal}
 use Rattle.lsys_motion.specs.Keepers.{Keeper, IsBusy, IsUnderway, Keeps}
@@ -31,8 +31,8 @@ end_goes l old new k h e = record {
   refusal = ap (λ (c : Coming). c.refusal) e ∙ h.refusal;
 }
 
-pub never_refused : (l : Lattice) (old : Coming) (k : Keeper) (r : ImageRefusal) → IsGoing l old k → old ≡ refused r → ⊥
-never_refused l old k r h e = let f : (refused r).refusal ≡ None = sym (ap (λ (c : Coming). c.refusal) e) ∙ h.refusal in cc
+pub never_refused : (l : Lattice) (old : Coming) (k : Keeper) (r : ImageRefusal) → IsGoing l old k → old ≡ coming_refused r → ⊥
+never_refused l old k r h e = let f : (coming_refused r).refusal ≡ None = sym (ap (λ (c : Coming). c.refusal) e) ∙ h.refusal in cc
 
 pub goes_nowhere : (l : Lattice) (c : Coming) (k : Keeper) → IsGoing l c k → GoesOn l c k c k
 goes_nowhere l c k h = record { keeps = λ total u. u; refusal = h.refusal }

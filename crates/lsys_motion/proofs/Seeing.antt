@@ -8,11 +8,11 @@ use Rattle.lsys_spec.specs.Lattices.{Lattice, Vector, Frame, frames}
 use Rattle.lsys_spec.specs.Pictures.{act, origin}
 use Rattle.lsys_spec.proofs.Turns.{same_vector}
 use Rattle.lsys_lattice.specs.Rotations.{plus, scaled, carried}
-use Rattle.lsys_lattice.specs.Effects.{Stand, Walker, walker, done, stepped, at_start, width_after, stand_from, walker_from}
+use Rattle.lsys_lattice.specs.Effects.{Stand, Walker, walker, done, stepped, first_walker, width_after, stand_from, walker_from}
 use Rattle.lsys_lattice.proofs.Carrying.{carried-plus, carried-scaled, carried-followed, followed-followed, followed-start}
 use Rattle.lsys_lattice.proofs.Turning.{followed-known}
 use Rattle.lsys_lattice.proofs.Moving.{walked_from}
-use Rattle.lsys_motion.specs.Keepers.{Mark, through, up, out_of, outward}
+use Rattle.lsys_motion.specs.Keepers.{OpenMark, through, up, out_of, outward}
 
 -- 1. one stand
 
@@ -46,20 +46,20 @@ seen_twice l a b c =
 carried_origin : (l : Lattice) (f : Frame) → carried l f origin ≡ origin
 carried_origin l f = carried-scaled l f (pos 0) origin ∙ never_scaled (carried l f origin)
 
-pub seen_start : (l : Lattice) (from : Stand) → stand_from l from (at_start l).here ≡ from
+pub seen_start : (l : Lattice) (from : Stand) → stand_from l from (first_walker l).here ≡ from
 seen_start l from =
     same_stand _ from.place _ from.frame _ from.width (ap (plus from.place) (carried_origin l from.frame) ∙ plus-origin from.place) (followed-start l from.frame) refl
 
 -- 2. seen through all that is open
 
-abbrev pub AreKnown : Lattice → List Mark → Type 0
+abbrev pub AreKnown : Lattice → List OpenMark → Type 0
 AreKnown l ms = Each (λ m. Contains (frames l) m.stand.frame) ms
 
 through_seen : (l : Lattice) (p : Option ℕ) (s a h : Stand) → through l p s (stand_from l a h) ≡ stand_from l (through l p s a) h
 through_seen l None s a h = refl
 through_seen l (Some i) s a h = sym (seen_twice l s a h)
 
-pub up_seen : (l : Lattice) (ms : List Mark) (a h : Stand) → up l ms (stand_from l a h) ≡ stand_from l (up l ms a) h
+pub up_seen : (l : Lattice) (ms : List OpenMark) (a h : Stand) → up l ms (stand_from l a h) ≡ stand_from l (up l ms a) h
 up_seen l [] a h = refl
 up_seen l (m ∷ ms) a h = ap (up l ms) (through_seen l m.piece m.stand a h) ∙ up_seen l ms (through l m.piece m.stand a) h
 
@@ -67,7 +67,7 @@ through_known : (l : Lattice) (p : Option ℕ) (s a : Stand) → Contains (frame
 through_known l None s a h k = k
 through_known l (Some i) s a h k = followed-known l s.frame a.frame h k
 
-pub up_known : (l : Lattice) (ms : List Mark) (a : Stand) → AreKnown l ms → Contains (frames l) a.frame → Contains (frames l) (up l ms a).frame
+pub up_known : (l : Lattice) (ms : List OpenMark) (a : Stand) → AreKnown l ms → Contains (frames l) a.frame → Contains (frames l) (up l ms a).frame
 up_known l [] a h k = k
 up_known l (m ∷ ms) a h k = up_known l ms (through l m.piece m.stand a) h.1 (through_known l m.piece m.stand a h.0 k)
 
@@ -75,7 +75,7 @@ out_here : (l : Lattice) (p : Option ℕ) (s : Stand) (w : Walker) → (out_of l
 out_here l None s w = refl
 out_here l (Some i) s w = refl
 
-pub outward_here : (l : Lattice) (ms : List Mark) (w : Walker) → (outward l ms w).here ≡ up l ms w.here
+pub outward_here : (l : Lattice) (ms : List OpenMark) (w : Walker) → (outward l ms w).here ≡ up l ms w.here
 outward_here l [] w = refl
 outward_here l (m ∷ ms) w = outward_here l ms (out_of l m.piece m.stand w) ∙ ap (up l ms) (out_here l m.piece m.stand w)
 
@@ -130,7 +130,7 @@ saved_out : (l : Lattice) (p : Option ℕ) (s : Stand) (x : S.Symbol ℤ) (w : W
 saved_out l None s x w h = still_beside x w.saved (s ∷ []) h
 saved_out l (Some i) s x w h = still_saved x (stand_from l s) w.saved [] h
 
-pub step_outward : (l : Lattice) (ms : List Mark) (x : S.Symbol ℤ) (w : Walker) → AreKnown l ms → HasSaved x w.saved → outward l ms (stepped l x w) ≡ stepped l x (outward l ms w)
+pub step_outward : (l : Lattice) (ms : List OpenMark) (x : S.Symbol ℤ) (w : Walker) → AreKnown l ms → HasSaved x w.saved → outward l ms (stepped l x w) ≡ stepped l x (outward l ms w)
 step_outward l [] x w k h = refl
 step_outward l (m ∷ ms) x w k h =
     ap (outward l ms) (step_out l m.piece m.stand x w k.0 h) ∙ step_outward l ms x (out_of l m.piece m.stand w) k.1 (saved_out l m.piece m.stand x w h)

@@ -9,13 +9,13 @@ use Rattle.lsys_syntax.specs.Limits.{greatest_coordinate}
 use Rattle.lsys_spec.specs.Lattices.{Lattice, square, hexagonal, cubic, Vector, Frame, frames, first_frame, IsWithin}
 use Rattle.lsys_spec.proofs.Frames.{frame_eq, frame_decides}
 use Rattle.lsys_spec.proofs.Tests.{both}
-use Rattle.lsys_lattice.specs.Rotations.{carried, followed}
+use Rattle.lsys_lattice.specs.Rotations.{carried, frame_within}
 use Rattle.lsys_lattice.specs.Effects.{Stand, stand_from}
 use Rattle.lsys_lattice.proofs.Carrying.{carried-start, carried-followed}
 use Rattle.lsys_lattice.proofs.Ring.{times_neg}
 use Rattle.lsys_lattice.proofs.Rows.{of_frame}
 use Rattle.lsys_motion.specs.Pieces.{IsNear}
-use Rattle.lsys_motion.specs.Keepers.{IsSmall}
+use Rattle.lsys_motion.specs.Keepers.{HasSmallPlace}
 
 -- 1. a frame makes no coordinate more than three times as large
 
@@ -97,7 +97,7 @@ carried_small cubic f v m u h =
 -- 2. each frame is turned back by some frame
 
 abbrev turns_back : Lattice → Frame → Frame → Bool
-turns_back l f g = unit_frame g && frame_eq (followed l g f) (first_frame l)
+turns_back l f g = unit_frame g && frame_eq (frame_within l g f) (first_frame l)
 
 all_back : (l : Lattice) → list_all (λ f. list_any (turns_back l f) (frames l)) (frames l) ≡ true
 all_back square = refl
@@ -107,13 +107,13 @@ all_back cubic = refl
 record IsTurnedBack (l : Lattice) (f : Frame) : Type 0 where
   by : Frame
   units : AreUnits by
-  back : followed l by f ≡ first_frame l
+  back : frame_within l by f ≡ first_frame l
 
 turned_back : (l : Lattice) (f : Frame) → Contains (frames l) f → IsTurnedBack l f
 turned_back l f k =
     let found = Any-from_list_any (turns_back l f) (frames l) (of_frame (λ f. list_any (turns_back l f) (frames l)) (frames l) f (all_back l) k) in
     let told = both (unit_frame found.1) _ found.4 in
-    record { by = found.1; units = are_units found.1 told.0; back = (frame_decides (followed l found.1 f) (first_frame l)).0 told.1 }
+    record { by = found.1; units = are_units found.1 told.0; back = (frame_decides (frame_within l found.1 f) (first_frame l)).0 told.1 }
 
 carried_back : (l : Lattice) (f : Frame) (v : Vector) (m : ℕ) → Contains (frames l) f → IsWithin m (carried l f v) → IsWithin (m + m + m) v
 carried_back l f v m k h =
@@ -129,7 +129,7 @@ difference a b h k = omega (arith, ints)
 at_most : (v : Vector) → IsWithin (2000000000 + 2000000000 + 2000000000) v → IsWithin (2 ^ 40) v
 at_most v h = let x = h.x in let y = h.y in let z = h.z in record { x = omega (arith, x); y = omega (arith, y); z = omega (arith, z) }
 
-pub small_there : (l : Lattice) (from h : Stand) → Contains (frames l) from.frame → IsNear from → IsNear (stand_from l from h) → IsSmall h
+pub small_there : (l : Lattice) (from h : Stand) → Contains (frames l) from.frame → IsNear from → IsNear (stand_from l from h) → HasSmallPlace h
 small_there l from h k a b =
     let c = carried l from.frame h.place in
     at_most h.place (carried_back l from.frame h.place 2000000000 k (record {

@@ -7,22 +7,22 @@ use Rattle.lsys_spec.specs.Lattices.{Lattice}
 use Rattle.lsys_lattice.specs.Extents.{Extents}
 use Rattle.lsys_lattice.specs.Effects.{Stand}
 use Rattle.lsys_spec.specs.Pictures.{Pose}
-use Rattle.lsys_level.specs.Spots.{Spotted, level_at}
+use Rattle.lsys_level.specs.Spots.{Spotted, spots_at}
 use Rattle.lsys_hom.specs.Coming.{Coming, coming_from}
-use Rattle.lsys_hom.specs.Ways.{bare}
+use Rattle.lsys_hom.specs.Ways.{bare_level}
 use Rattle.lsys_out.specs.Drawings.{last_drawing, last_image}
-use Rattle.lsys_motion.specs.Told.{Told, poses_of}
-use Rattle.lsys_motion.specs.Pieces.{Piece, IsInReach, all_poses}
+use Rattle.lsys_motion.specs.Told.{Track, poses_of}
+use Rattle.lsys_motion.specs.Pieces.{ImagePiece, IsInReach, all_poses}
 use Rattle.lsys_motion.specs.Keepers.{Keeper, empty, HasTaken, IsUnderway}
 use Rattle.lsys_motion.specs.Going.{IsGoing, GoesOn}
 use Rattle.lsys_motion.proofs.Keeping.{start_underway, ended_whole}
 use Rattle.lsys_motion.proofs.Telling.{is_drawn, stays_near, few_symbols}
 use Rattle.lsys_motion.proofs.Ending.{kept_poses, kept_near}
 
-pub walk_begun : (s : System) (levels : List (List Spotted)) (c : Coming) (hs : List Homomorphism) (d : ℕ) → c ≡ coming_from hs 0 0 (bare (level_at levels d)) → hs ≡ s.homomorphisms → d ≡ s.depth
+pub walk_begun : (s : System) (levels : List (List Spotted)) (c : Coming) (hs : List Homomorphism) (d : ℕ) → c ≡ coming_from hs 0 0 (bare_level (spots_at levels d)) → hs ≡ s.homomorphisms → d ≡ s.depth
     → c ≡ last_image s levels
 walk_begun s levels c hs d e f g =
-    e ∙ ap (λ hs. coming_from hs 0 0 (bare (level_at levels d))) f ∙ ap (λ d. coming_from s.homomorphisms 0 0 (bare (level_at levels d))) g
+    e ∙ ap (λ hs. coming_from hs 0 0 (bare_level (spots_at levels d))) f ∙ ap (λ d. coming_from s.homomorphisms 0 0 (bare_level (spots_at levels d))) g
 
 module _ (l : Lattice) (s : System) (levels : List (List Spotted)) (drawn : (last_drawing l s levels).refusal ≡ None) where
   abbrev total : List (S.Symbol ℤ)
@@ -49,14 +49,14 @@ module _ (l : Lattice) (s : System) (levels : List (List Spotted)) (drawn : (las
   pub told_near : (k : Keeper) → HasTaken l (last_image s levels).symbols (last_image s levels).symbols k → k.marks ≡ [] → IsInReach l k.pieces k.symbols k.here
   told_near k t none = kept_near l total k t none
 
-same_told : (a b : Extents) (p q : List Pose) → a ≡ b → p ≡ q → (let t : Told = record { bounds = a; poses = p } in t) ≡ record { bounds = b; poses = q }
+same_told : (a b : Extents) (p q : List Pose) → a ≡ b → p ≡ q → (let t : Track = record { bounds = a; poses = p } in t) ≡ record { bounds = b; poses = q }
 same_told a b p q e f = cc
 
 -- the same by its parts
-pub by_parts : (l : Lattice) (ps qs : List Piece) (n m : ℕ) (h j : Stand) (a b : Extents) (poses : List Pose) → ps ≡ qs → n ≡ m → h ≡ j → a ≡ b → all_poses l qs m j ≡ poses
-    → (let t : Told = record { bounds = a; poses = all_poses l ps n h } in t) ≡ record { bounds = b; poses = poses }
+pub by_parts : (l : Lattice) (ps qs : List ImagePiece) (n m : ℕ) (h j : Stand) (a b : Extents) (poses : List Pose) → ps ≡ qs → n ≡ m → h ≡ j → a ≡ b → all_poses l qs m j ≡ poses
+    → (let t : Track = record { bounds = a; poses = all_poses l ps n h } in t) ≡ record { bounds = b; poses = poses }
 by_parts l ps qs n m h j a b poses e f g same is = same_told a b (all_poses l ps n h) poses same (ap (λ rs. all_poses l rs n h) e ∙ ap (λ i. all_poses l qs i h) f ∙ ap (λ k. all_poses l qs m k) g ∙ is)
 
-pub near_by_parts : (l : Lattice) (ps qs : List Piece) (n m : ℕ) (h j : Stand) → ps ≡ qs → n ≡ m → h ≡ j → IsInReach l qs m j → IsInReach l ps n h
+pub near_by_parts : (l : Lattice) (ps qs : List ImagePiece) (n m : ℕ) (h j : Stand) → ps ≡ qs → n ≡ m → h ≡ j → IsInReach l qs m j → IsInReach l ps n h
 near_by_parts l ps qs n m h j e f g r =
     subst (λ rs. IsInReach l rs n h) (sym e) (subst (λ i. IsInReach l qs i h) (sym f) (subst (λ k. IsInReach l qs m k) (sym g) r))

@@ -10,53 +10,53 @@ use Rattle.lsys_lattice.specs.Free.{ends_of}
 use Rattle.lsys_lattice.specs.Bounds.{bounds_of}
 use Rattle.lsys_lattice.specs.Wide.{extents_of}
 use Rattle.lsys_lattice.specs.declared.wide.Extents.{Extents as WideExtents}
-use Rattle.lsys_out.specs.Drawings.{Drawing, IsStopped, finished, with_first}
+use Rattle.lsys_out.specs.Drawings.{Drawing, IsStopped, empty_drawing, with_first}
 use Rattle.lsys_out.specs.declared.refusal.PictureRefusal.{PictureRefusal}
-use Rattle.lsys_motion.specs.Surveys.{IsSurveyed, extended, extended_by}
+use Rattle.lsys_motion.specs.Surveys.{AreBoundsOf, with_place, with_ends}
 
 -- one place after another
 
 abbrev reach : ℤ → ℤ → ℤ → ℤ → ℤ → ℤ → Extents
 reach a b c d e f = record { low = vector a b c; high = vector d e f }
 
-along : (l : Lattice) (a b c d e f : ℤ) (vs : List Vector) → fold (extended l) (reach a b c d e f) vs
+along : (l : Lattice) (a b c d e f : ℤ) (vs : List Vector) → fold (with_place l) (reach a b c d e f) vs
     ≡ reach (fold int_min a (map (λ w. (measures l w).x) vs)) (fold int_min b (map (λ w. (measures l w).y) vs)) (fold int_min c (map (λ w. (measures l w).z) vs))
     (fold int_max d (map (λ w. (measures l w).x) vs)) (fold int_max e (map (λ w. (measures l w).y) vs)) (fold int_max f (map (λ w. (measures l w).z) vs))
 along l a b c d e f [] = refl
 along l a b c d e f (v ∷ vs) =
     let m = measures l v in along l (int_min a m.x) (int_min b m.y) (int_min c m.z) (int_max d m.x) (int_max e m.y) (int_max f m.z) vs
 
-by_segments : (l : Lattice) (e : Extents) (gs : List Segment) → fold (extended_by l) e gs ≡ fold (extended l) e (ends_of gs)
+by_segments : (l : Lattice) (e : Extents) (gs : List Segment) → fold (with_ends l) e gs ≡ fold (with_place l) e (ends_of gs)
 by_segments l e [] = refl
-by_segments l e (g ∷ gs) = by_segments l (extended_by l e g) gs
+by_segments l e (g ∷ gs) = by_segments l (with_ends l e g) gs
 
-pub bounds_along : (l : Lattice) (gs : List Segment) → fold (extended_by l) (extents l origin []) gs ≡ bounds_of l gs
+pub bounds_along : (l : Lattice) (gs : List Segment) → fold (with_ends l) (extents l origin []) gs ≡ bounds_of l gs
 bounds_along l gs =
     let m = measures l origin in by_segments l (extents l origin []) gs ∙ along l m.x m.y m.z m.x m.y m.z (ends_of gs)
 
 -- what is surveyed, and what is still to come, are the whole picture
 pub record Surveying (l : Lattice) (whole rest : Drawing) (e : WideExtents) : Type 0 where
-  pub bounds : fold (extended_by l) (extents_of e) rest.segments ≡ bounds_of l whole.segments
+  pub bounds : fold (with_ends l) (extents_of e) rest.segments ≡ bounds_of l whole.segments
   pub refusal : rest.refusal ≡ whole.refusal
 
 pub surveying_none : (l : Lattice) (whole rest : Drawing) (e : WideExtents) → rest ≡ whole → extents_of e ≡ extents l origin [] → Surveying l whole rest e
 surveying_none l whole rest e same start = record {
-  bounds = ap (λ (d : Drawing). fold (extended_by l) (extents_of e) d.segments) same ∙ ap (λ (x : Extents). fold (extended_by l) x whole.segments) start ∙ bounds_along l whole.segments;
+  bounds = ap (λ (d : Drawing). fold (with_ends l) (extents_of e) d.segments) same ∙ ap (λ (x : Extents). fold (with_ends l) x whole.segments) start ∙ bounds_along l whole.segments;
   refusal = ap (λ (d : Drawing). d.refusal) same;
 }
 
-pub surveying_more : (l : Lattice) (whole rest next : Drawing) (e e' : WideExtents) (g : Segment) → Surveying l whole rest e → rest ≡ with_first g next → extents_of e' ≡ extended_by l (extents_of e) g
+pub surveying_more : (l : Lattice) (whole rest next : Drawing) (e e' : WideExtents) (g : Segment) → Surveying l whole rest e → rest ≡ with_first g next → extents_of e' ≡ with_ends l (extents_of e) g
     → Surveying l whole next e'
 surveying_more l whole rest next e e' g h same more = record {
-  bounds = ap (λ (x : Extents). fold (extended_by l) x next.segments) more ∙ ap (λ (d : Drawing). fold (extended_by l) (extents_of e) d.segments) (sym same) ∙ h.bounds;
+  bounds = ap (λ (x : Extents). fold (with_ends l) x next.segments) more ∙ ap (λ (d : Drawing). fold (with_ends l) (extents_of e) d.segments) (sym same) ∙ h.bounds;
   refusal = ap (λ (d : Drawing). d.refusal) (sym same) ∙ h.refusal;
 }
 
-pub surveying_all : (l : Lattice) (whole rest : Drawing) (e : WideExtents) → Surveying l whole rest e → rest ≡ finished → IsSurveyed l whole (Ok e)
+pub surveying_all : (l : Lattice) (whole rest : Drawing) (e : WideExtents) → Surveying l whole rest e → rest ≡ empty_drawing → AreBoundsOf l whole (Ok e)
 surveying_all l whole rest e h same = (
   sym h.refusal ∙ ap (λ (d : Drawing). d.refusal) same,
-  ap (λ (d : Drawing). fold (extended_by l) (extents_of e) d.segments) (sym same) ∙ h.bounds,
+  ap (λ (d : Drawing). fold (with_ends l) (extents_of e) d.segments) (sym same) ∙ h.bounds,
 )
 
-pub surveying_stopped : (l : Lattice) (whole rest : Drawing) (e : WideExtents) (r : PictureRefusal) → Surveying l whole rest e → IsStopped rest r → IsSurveyed l whole (Err r)
+pub surveying_stopped : (l : Lattice) (whole rest : Drawing) (e : WideExtents) (r : PictureRefusal) → Surveying l whole rest e → IsStopped rest r → AreBoundsOf l whole (Err r)
 surveying_stopped l whole rest e r h s = (s.0, s.1, sym h.refusal ∙ ap (λ (d : Drawing). d.refusal) s.2)

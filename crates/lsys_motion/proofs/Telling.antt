@@ -9,19 +9,19 @@ use Rattle.lsys_spec.specs.Values.{◌and_then◌}
 use Rattle.lsys_spec.specs.Lattices.{Lattice, Vector, IsWithin}
 use Rattle.lsys_spec.specs.Images.{ImageRefusal}
 use Rattle.lsys_spec.specs.Pictures.{Act, draws, moves, turns, widens, rests, act, Pose, Turtle, Stepped, Segment, PictureRefusal, is_far, modules_to, or_far, or_no_image, picture, segments_of, turtle_step}
-use Rattle.lsys_lattice.specs.Effects.{Stand, Walker, walker, done, stepped, walked, at_start}
+use Rattle.lsys_lattice.specs.Effects.{Stand, Walker, walker, done, stepped, walked, first_walker}
 use Rattle.lsys_lattice.specs.Free.{pose_of, turtle_of, leads_far, goes_far, first_far}
 use Rattle.lsys_lattice.specs.Bounds.{bounds_of, gone_on}
 use Rattle.lsys_lattice.proofs.Freely.{turtle_there, none_too_far}
-use Rattle.lsys_level.specs.Spots.{Spotted, level_at}
-use Rattle.lsys_hom.specs.Coming.{Coming, coming, whole}
+use Rattle.lsys_level.specs.Spots.{Spotted, spots_at}
+use Rattle.lsys_hom.specs.Coming.{Coming, coming, image_ended}
 use Rattle.lsys_hom.proofs.Named.{coming_named}
 use Rattle.lsys_hom.proofs.Runs.{law_whole}
-use Rattle.lsys_out.specs.Drawings.{last_drawing, last_image, last_level}
+use Rattle.lsys_out.specs.Drawings.{last_drawing, last_image, last_symbols}
 use Rattle.lsys_out.specs.Shown.{on_lattice}
 use Rattle.lsys_out.proofs.Whole.{picture_drawn, picture_refused}
 use Rattle.lsys_out.proofs.Going.{few_begin}
-use Rattle.lsys_motion.specs.Told.{Told, poses_after, poses_from, poses_of, told}
+use Rattle.lsys_motion.specs.Told.{Track, poses_after, poses_from, poses_of, told}
 use Rattle.lsys_motion.specs.Pieces.{IsNear}
 use Rattle.lsys_motion.specs.Keepers.{heres, StaysNear}
 
@@ -74,14 +74,14 @@ near_way l k w (x ∷ xs) h near (suc n) =
     let one = not_first (goes_far l x w) (modules_to k x) (first_far l (modules_to k x) (stepped l x w) xs) h in
     near_way l (modules_to k x) (stepped l x w) xs one.1 (step_near l x w.here w.saved near one.0) n
 
-start_near : (l : Lattice) → AreNear (at_start l)
+start_near : (l : Lattice) → AreNear (first_walker l)
 start_near l = record { here = record { x = omega arith; y = omega arith; z = omega arith }; saved = tt }
 
 pub stays_near : (l : Lattice) (xs : List (S.Symbol ℤ)) (gs : List Segment) → segments_of l xs ≡ Ok gs → StaysNear l xs
-stays_near l xs gs h n = near_way l 0 (at_start l) xs (none_too_far l 0 (at_start l) xs gs h) (start_near l) n
+stays_near l xs gs h n = near_way l 0 (first_walker l) xs (none_too_far l 0 (first_walker l) xs gs h) (start_near l) n
 
-pub all_told : (l : Lattice) (xs : List (S.Symbol ℤ)) (gs : List Segment) → segments_of l xs ≡ Ok gs → map pose_of (heres l xs (at_start l)) ++ pose_of (walked l xs (at_start l)).here ∷ [] ≡ poses_of l xs
-all_told l xs gs h = poses_on_way l 0 (at_start l) xs (none_too_far l 0 (at_start l) xs gs h)
+pub all_told : (l : Lattice) (xs : List (S.Symbol ℤ)) (gs : List Segment) → segments_of l xs ≡ Ok gs → map pose_of (heres l xs (first_walker l)) ++ pose_of (walked l xs (first_walker l)).here ∷ [] ≡ poses_of l xs
+all_told l xs gs h = poses_on_way l 0 (first_walker l) xs (none_too_far l 0 (first_walker l) xs gs h)
 
 -- 3. the picture of the last level
 
@@ -89,7 +89,7 @@ all_told l xs gs h = poses_on_way l 0 (at_start l) xs (none_too_far l 0 (at_star
 pub record IsDrawn (naming : ℕ → List ℕ) (l : Lattice) (s : System) (levels : List (List Spotted)) : Type 0 where
   pub refusal : (last_image s levels).refusal ≡ None
   pub segments : segments_of l (last_image s levels).symbols ≡ Ok (last_drawing l s levels).segments
-  pub told_is : told (on_lattice l s) (last_level naming s levels) ≡ Ok (record { bounds = bounds_of l (last_drawing l s levels).segments; poses = poses_of l (last_image s levels).symbols })
+  pub told_is : told (on_lattice l s) (last_symbols naming s levels) ≡ Ok (record { bounds = bounds_of l (last_drawing l s levels).segments; poses = poses_of l (last_image s levels).symbols })
 
 abbrev drawn_as : Lattice → Result (List (S.Symbol ℤ)) ImageRefusal → Result (List Segment) PictureRefusal
 drawn_as l i = or_no_image i and_then λ ys. or_far (segments_of l ys)
@@ -104,22 +104,22 @@ way_on ys r = or_far r and_then λ gs. Ok (ys, gs)
 abbrev way_over : Lattice → Result (List (S.Symbol ℤ)) ImageRefusal → Result Way PictureRefusal
 way_over l i = or_no_image i and_then λ ys. way_on ys (segments_of l ys)
 
-abbrev told_on : Lattice → Result Way PictureRefusal → Result Told PictureRefusal
+abbrev told_on : Lattice → Result Way PictureRefusal → Result Track PictureRefusal
 told_on l r = r and_then λ way. Ok (record { bounds = bounds_of l way.1; poses = poses_of l way.0 })
 
-abbrev told_as : Lattice → Result (List (S.Symbol ℤ)) ImageRefusal → Result Told PictureRefusal
+abbrev told_as : Lattice → Result (List (S.Symbol ℤ)) ImageRefusal → Result Track PictureRefusal
 told_as l i = told_on l (way_over l i)
 
 record HasImage (l : Lattice) (c : Coming) (gs : List Segment) : Type 0 where
   refusal : c.refusal ≡ None
   segments : segments_of l c.symbols ≡ Ok gs
-  told_is : told_as l (whole c.symbols c.refusal) ≡ Ok (record { bounds = bounds_of l gs; poses = poses_of l c.symbols })
+  told_is : told_as l (image_ended c.symbols c.refusal) ≡ Ok (record { bounds = bounds_of l gs; poses = poses_of l c.symbols })
 
 far_ok : (r : Result (List Segment) ℕ) (gs : List Segment) → or_far r ≡ Ok gs → r ≡ Ok gs
 far_ok (Ok hs) gs h = let e : hs ≡ gs = cc in ap Ok e
 far_ok (Err n) gs h = cc
 
-has_image : (l : Lattice) (symbols : List (S.Symbol ℤ)) (refusal : Option ImageRefusal) (gs : List Segment) → drawn_as l (whole symbols refusal) ≡ Ok gs
+has_image : (l : Lattice) (symbols : List (S.Symbol ℤ)) (refusal : Option ImageRefusal) (gs : List Segment) → drawn_as l (image_ended symbols refusal) ≡ Ok gs
     → HasImage l (record { symbols = symbols; refusal = refusal }) gs
 has_image l symbols (Some r) gs h = cc
 has_image l symbols None gs h =
@@ -131,14 +131,14 @@ has_image l symbols None gs h =
     }
 
 told_named : (naming : ℕ → List ℕ) (l : Lattice) (s : System) (levels : List (List Spotted))
-    → told (on_lattice l s) (last_level naming s levels) ≡ told_as l (whole (last_image s levels).symbols (last_image s levels).refusal)
+    → told (on_lattice l s) (last_symbols naming s levels) ≡ told_as l (image_ended (last_image s levels).symbols (last_image s levels).refusal)
 told_named naming l s levels =
-    ap (told_as l) (sym (law_whole s (last_level naming s levels)))
-    ∙ ap (λ (c : Coming). told_as l (whole c.symbols c.refusal)) (sym (coming_named s.homomorphisms 0 0 (λ tag. []) naming (level_at levels s.depth)))
+    ap (told_as l) (sym (law_whole s (last_symbols naming s levels)))
+    ∙ ap (λ (c : Coming). told_as l (image_ended c.symbols c.refusal)) (sym (coming_named s.homomorphisms 0 0 (λ tag. []) naming (spots_at levels s.depth)))
 
 drawn_named : (l : Lattice) (s : System) (levels : List (List Spotted))
-    → picture (on_lattice l s) (last_level (λ tag. []) s levels) ≡ drawn_as l (whole (last_image s levels).symbols (last_image s levels).refusal)
-drawn_named l s levels = ap (drawn_as l) (sym (law_whole s (last_level (λ tag. []) s levels)))
+    → picture (on_lattice l s) (last_symbols (λ tag. []) s levels) ≡ drawn_as l (image_ended (last_image s levels).symbols (last_image s levels).refusal)
+drawn_named l s levels = ap (drawn_as l) (sym (law_whole s (last_symbols (λ tag. []) s levels)))
 
 pub is_drawn : (naming : ℕ → List ℕ) (l : Lattice) (s : System) (levels : List (List Spotted)) → (last_drawing l s levels).refusal ≡ None → IsDrawn naming l s levels
 is_drawn naming l s levels h =
@@ -157,11 +157,11 @@ refused_as l (Ok ys) r h = by (segments_of l ys) h
     by (Err n) e = cc
 
 pub is_refused : (naming : ℕ → List ℕ) (l : Lattice) (s : System) (levels : List (List Spotted)) (r : PictureRefusal) → (last_drawing l s levels).refusal ≡ Some r
-    → told (on_lattice l s) (last_level naming s levels) ≡ Err r
+    → told (on_lattice l s) (last_symbols naming s levels) ≡ Err r
 is_refused naming l s levels r h =
-    ap (told_as l) (sym (law_whole s (last_level naming s levels)))
-    ∙ refused_as l (whole (coming s (last_level naming s levels)).symbols (coming s (last_level naming s levels)).refusal) r
-    (ap (drawn_as l) (law_whole s (last_level naming s levels)) ∙ picture_refused naming l s levels r h)
+    ap (told_as l) (sym (law_whole s (last_symbols naming s levels)))
+    ∙ refused_as l (image_ended (coming s (last_symbols naming s levels)).symbols (coming s (last_symbols naming s levels)).refusal) r
+    (ap (drawn_as l) (law_whole s (last_symbols naming s levels)) ∙ picture_refused naming l s levels r h)
 
 -- 4. an image has few symbols
 pub few_symbols : (s : System) (levels : List (List Spotted)) → length (last_image s levels).symbols < 2 ^ 32

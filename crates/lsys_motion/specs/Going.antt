@@ -2,7 +2,7 @@
 use Rattle.std.specs.Prelude.{◌≡◌, None}
 use Rattle.lsys_spec.specs.Lattices.{Lattice}
 use Rattle.lsys_hom.specs.Coming.{Coming}
-use Rattle.lsys_hom.specs.Ways.{Way}
+use Rattle.lsys_hom.specs.Ways.{LevelWay}
 use Rattle.lsys_motion.specs.Keepers.{Keeper, IsBusy, Keeps}
 
 -- what comes isn't refused, and is what is left to be taken
@@ -15,5 +15,5 @@ pub record GoesOn (l : Lattice) (old : Coming) (k : Keeper) (new : Coming) (k' :
   pub refusal : new.refusal ≡ None
 
 -- it goes on along a level
-abbrev pub GoesOnAlong : Lattice → Way → Keeper → Way → Keeper → Type 0
+abbrev pub GoesOnAlong : Lattice → LevelWay → Keeper → LevelWay → Keeper → Type 0
 GoesOnAlong l old k new k' = GoesOn l old.coming k new.coming k'

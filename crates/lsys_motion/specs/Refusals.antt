@@ -6,8 +6,8 @@ use Rattle.lsys_motion.specs.declared.refusal.MotionRefusal.{MotionRefusal}
 use Rattle.lsys_motion.specs.declared.refusal.MotionRefusal.TheVariants.{Image, Far, Memory}
 
 -- the same is told, or refused, or there was no memory for it
-abbrev pub IsAnswer : {A : Type 0} → Result A P.PictureRefusal → Result A MotionRefusal → Type 0
-IsAnswer told (Ok a) = told ≡ Ok a
-IsAnswer told (Err (Image e)) = told ≡ Err (P.NoImage (refusal_of e))
-IsAnswer told (Err (Far n)) = told ≡ Err (P.Far n)
-IsAnswer told (Err Memory) = Unit {0}
+abbrev pub IsAsTold : {A : Type 0} → Result A P.PictureRefusal → Result A MotionRefusal → Type 0
+IsAsTold told (Ok a) = told ≡ Ok a
+IsAsTold told (Err (Image e)) = told ≡ Err (P.NoImage (refusal_of e))
+IsAsTold told (Err (Far n)) = told ≡ Err (P.Far n)
+IsAsTold told (Err Memory) = Unit {0}

@@ -14,14 +14,14 @@ use Rattle.lsys_out.specs.Drawings.{Drawing, IsRefusal}
 use Rattle.lsys_out.specs.declared.refusal.PictureRefusal.{PictureRefusal}
 
 -- with one place more
-abbrev pub extended : Lattice → Extents → Vector → Extents
-extended l e v = record { low = each_of int_min e.low (measures l v); high = each_of int_max e.high (measures l v) }
+abbrev pub with_place : Lattice → Extents → Vector → Extents
+with_place l e v = record { low = each_of int_min e.low (measures l v); high = each_of int_max e.high (measures l v) }
 
 -- with both ends of a segment
-abbrev pub extended_by : Lattice → Extents → Segment → Extents
-extended_by l e g = extended l (extended l e g.from) g.to
+abbrev pub with_ends : Lattice → Extents → Segment → Extents
+with_ends l e g = with_place l (with_place l e g.from) g.to
 
 -- these are the bounds of a picture; or the picture is refused
-abbrev pub IsSurveyed : Lattice → Drawing → Result WideExtents PictureRefusal → Type 0
-IsSurveyed l d (Ok e) = (d.refusal ≡ None) × (extents_of e ≡ bounds_of l d.segments)
-IsSurveyed l d (Err e) = (r : P.PictureRefusal) × IsRefusal r e × (d.refusal ≡ Some r)
+abbrev pub AreBoundsOf : Lattice → Drawing → Result WideExtents PictureRefusal → Type 0
+AreBoundsOf l d (Ok e) = (d.refusal ≡ None) × (extents_of e ≡ bounds_of l d.segments)
+AreBoundsOf l d (Err e) = (r : P.PictureRefusal) × IsRefusal r e × (d.refusal ≡ Some r)

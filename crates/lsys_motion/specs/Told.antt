@@ -9,7 +9,7 @@ use Rattle.lsys_spec.specs.Pictures.{Pose, Turtle, Stepped, PictureRefusal, at_s
 use Rattle.lsys_lattice.specs.Extents.{Extents}
 use Rattle.lsys_lattice.specs.Bounds.{bounds, bounds_of, travelled, turtle_behind}
 
-pub record Told : Type 0 where
+pub record Track : Type 0 where
   pub bounds : Extents  -- of the origin and both ends of each segment
   pub poses : List Pose  -- of the turtle behind no symbol of the image, behind one, and so on to all of them
 
@@ -26,23 +26,23 @@ abbrev pub poses_of : Lattice → List (S.Symbol ℤ) → List Pose
 poses_of l ys = poses_from l (at_start l) ys
 
 -- of a level's picture; refused as the picture is
-abbrev pub told : System → List L.Symbol → Result Told PictureRefusal
+abbrev pub told : System → List L.LevelSymbol → Result Track PictureRefusal
 told s x = travelled s x and_then λ way. Ok (record { bounds = bounds_of s.lattice way.1; poses = poses_of s.lattice way.0 })
 
 -- what is told of a picture: its bounds
 abbrev pub TellsBounds : Type 0
 TellsBounds =
-    (s : System) (x : List L.Symbol) (t : Told) → told s x ≡ Ok t → bounds s x ≡ Ok t.bounds
+    (s : System) (x : List L.LevelSymbol) (t : Track) → told s x ≡ Ok t → bounds s x ≡ Ok t.bounds
 
 -- the pose of its turtle behind any number of symbols
 abbrev pub TellsTurtles : Type 0
 TellsTurtles =
-    (s : System) (x : List L.Symbol) (t : Told) (n : ℕ) → told s x ≡ Ok t
+    (s : System) (x : List L.LevelSymbol) (t : Track) (n : ℕ) → told s x ≡ Ok t
     → (turtle_behind s x n and_then λ o. Ok (option_map (λ u. u.pose) o))
     ≡ Ok (slice_get t.poses n)
 
 -- and it is refused as the picture is
 abbrev pub IsRefusedAsPicture : Type 0
 IsRefusedAsPicture =
-    (s : System) (x : List L.Symbol) (r : PictureRefusal)
+    (s : System) (x : List L.LevelSymbol) (r : PictureRefusal)
     → told s x ≡ Err r → picture s x ≡ Err r

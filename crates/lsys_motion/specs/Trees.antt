@@ -2,7 +2,7 @@
 use Rattle.std.specs.Prelude.{suc, List, [], ◌∷◌, ◌++◌, length, map}
 use Rattle.lsys_spec.specs.Lattices.{Lattice}
 use Rattle.lsys_lattice.specs.Effects.{Stand, stand_from}
-use Rattle.lsys_motion.specs.Pieces.{Piece, single, IsNear}
+use Rattle.lsys_motion.specs.Pieces.{ImagePiece, single, IsNear}
 
 -- side by side
 pub data Trees : Type 0 where
@@ -16,7 +16,7 @@ stands_of l none = []
 stands_of l (symbol h rest) = h ∷ stands_of l rest
 stands_of l (tree h inner rest) = map (stand_from l h) (stands_of l inner) ++ stands_of l rest
 
-abbrev pub pieces_of : Lattice → Trees → List Piece
+abbrev pub pieces_of : Lattice → Trees → List ImagePiece
 pieces_of l none = []
 pieces_of l (symbol h rest) = single h ∷ pieces_of l rest
 pieces_of l (tree h inner rest) =

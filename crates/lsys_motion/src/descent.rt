@@ -1,6 +1,6 @@
 //! The way down to a symbol.
 ghost use Rattle.std.specs.Prelude.{◌≡◌, drop};
-ghost use Rattle.lsys_lattice.specs.Effects.{at_start};
+ghost use Rattle.lsys_lattice.specs.Effects.{first_walker};
 ghost use Rattle.lsys_motion.specs.Pieces.{IsNear, IsNearTo, found};
 
 use crate::piece::Piece;
@@ -9,8 +9,8 @@ use lsys_lattice::Lattice;
 
 /// The stand before a symbol, counted from 0.
 pub(crate) fn stand_before<T: Lattice>(pieces: &[Piece<T>], symbol: u32) -> Stand<T>
-    requires { IsNearTo T.shape 0 pieces.now symbol (at_start T.shape).here }
-    ensures found { result ≡ found T.shape 0 pieces.now symbol (at_start T.shape).here }
+    requires { IsNearTo T.shape 0 pieces.now symbol (first_walker T.shape).here }
+    ensures found { result ≡ found T.shape 0 pieces.now symbol (first_walker T.shape).here }
     ensures near { IsNear result }
 {
     let mut here = Stand::start();

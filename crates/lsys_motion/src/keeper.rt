@@ -2,8 +2,8 @@
 ghost use Rattle.std.specs.Prelude.{◌≡◌, ◌<◌, ◌∷◌, [], IfOk, IsTrue, false, length, Contains};
 ghost use Rattle.lsys_spec.specs.Lattices.{frames};
 ghost use Rattle.lsys_module.specs.Views.{module_name, symbol_of};
-ghost use Rattle.lsys_hom.specs.Parts.{IsSound, symbols_of};
-ghost use Rattle.lsys_motion.specs.Keepers.{CanEnd, Ends, HasNext, HasSome, IsClear, StaysSmall, KeepsTaken, Takes, acted, begun, branched, empty, has_piece, noted, restored};
+ghost use Rattle.lsys_hom.specs.Parts.{IsSoundPart, symbols_of};
+ghost use Rattle.lsys_motion.specs.Keepers.{CanEndPiece, EndsPiece, HasNext, HasSome, IsClear, StaysSmall, KeepsTaken, Takes, module_done, begun, branch_begun, empty, has_piece, noted, branch_ended};
 
 use crate::mark::Mark;
 use crate::piece::Piece;
@@ -89,7 +89,7 @@ impl<T: Lattice> Keeper<T> {
 
     /// A branch begins here.
     fn branch(&mut self) -> Result<(), AllocError>
-        ensures branched { IfOk result (λ _. self.new ≡ branched self.old) }
+        ensures branched { IfOk result (λ _. self.new ≡ branch_begun self.old) }
         ensures known { Contains (frames T.shape) self.old.here.frame }
     {
         let mark = Mark {
@@ -105,7 +105,7 @@ impl<T: Lattice> Keeper<T> {
     fn act(&mut self, symbol: &Module)
         requires { StaysSmall T.shape symbol.now self.old }
         ensures { self.new
-            ≡ acted T.shape (module_name symbol.now.name) symbol.now.params self.old }
+            ≡ module_done T.shape (module_name symbol.now.name) symbol.now.params self.old }
     {
         self.here = self.here.done(Act::of(symbol));
     }
@@ -113,7 +113,7 @@ impl<T: Lattice> Keeper<T> {
     /// Behind a branch, if one is open; no piece is open last.
     fn restore(&mut self)
         requires { has_piece 0 self.old.marks ≡ false }
-        ensures { self.new ≡ restored self.old.marks self.old }
+        ensures { self.new ≡ branch_ended self.old.marks self.old }
     {
         if let Some(mark) = self.marks.pop() {
             self.here = mark.stand;
@@ -137,8 +137,8 @@ impl<T: Lattice> Keeper<T> {
 
     /// The piece that is open last ends.
     fn end(&mut self)
-        requires { CanEnd T.shape self.old }
-        ensures { Ends T.shape self.old self.new }
+        requires { CanEndPiece T.shape self.old }
+        ensures { EndsPiece T.shape self.old self.new }
     {
         let Some(mark) = self.marks.pop() else {
             unreachable!()
@@ -205,7 +205,7 @@ impl<T: Lattice> Keeper<T> {
 
     /// Takes all symbols of a part of the image.
     fn take_all(&mut self, part: &mut Part<'_>) -> Result<(), AllocError>
-        requires sound { IsSound part.old }
+        requires sound { IsSoundPart part.old }
         requires busy { HasNext T.shape (symbols_of part.old) self.old }
         ensures { IfOk result (λ _. Takes T.shape (symbols_of part.old) self.old self.new) }
     {
@@ -234,7 +234,7 @@ impl<T: Lattice> Keeper<T> {
 
     /// Takes the image of one symbol of the level: a piece, if it isn't one symbol.
     pub(crate) fn take_part(&mut self, part: &mut Part<'_>) -> Result<(), AllocError>
-        requires sound { IsSound part.old }
+        requires sound { IsSoundPart part.old }
         requires busy { HasNext T.shape (symbols_of part.old) self.old }
         ensures { IfOk result (λ _. Takes T.shape (symbols_of part.old) self.old self.new) }
     {

@@ -18,7 +18,7 @@ pub(crate) struct Mark<T: Lattice> {
 impl<T: Lattice> Model for Mark<T> {
     ghost use Rattle.lsys_motion.specs.Keepers as keepers;
 
-    ghost Value = { keepers.Mark };
+    ghost Value = { keepers.OpenMark };
 
     ghost view = { λ m. record { piece = m.piece; before = m.before; stand = m.stand } };
 }

@@ -5,8 +5,8 @@ ghost use Rattle.lsys_lattice.specs.Wide.{extents_of};
 ghost use Rattle.lsys_forest.specs.Rows.{complete_levels};
 ghost use Rattle.lsys_out.specs.Drawings.{IsRefusal, last_drawing};
 ghost use Rattle.lsys_out.specs.Nesting.{HasLast};
-ghost use Rattle.lsys_motion.specs.Told.{Told};
-ghost use Rattle.lsys_motion.specs.Refusals.{IsAnswer};
+ghost use Rattle.lsys_motion.specs.Told.{Track};
+ghost use Rattle.lsys_motion.specs.Refusals.{IsAsTold};
 ghost use Rattle.lsys_motion.specs.LastLevels.{HasTakenLast, TellsLast, last_bounds, last_told};
 
 use crate::descent::stand_before;
@@ -38,10 +38,10 @@ pub struct Motions<T: Lattice> {
 
 impl<T: Lattice> Model for Motions<T> {
     ghost use Rattle.lsys_lattice.specs.Wide.{extents_of};
-    ghost use Rattle.lsys_motion.specs.Told.{Told};
+    ghost use Rattle.lsys_motion.specs.Told.{Track};
     ghost use Rattle.lsys_motion.specs.Pieces.{IsInReach, all_poses};
 
-    ghost Value = { Told };
+    ghost Value = { Track };
 
     ghost view = { λ m. record {
       bounds = extents_of m.bounds;
@@ -114,7 +114,7 @@ impl<T: Lattice> Motions<T> {
 fn refused(refusal: PictureRefusal) -> MotionRefusal
     requires { (r : P.PictureRefusal) × IsRefusal r refusal }
     ensures { (r : P.PictureRefusal) → IsRefusal r refusal
-        → IsAnswer {A = Told} (Err r) (Err result) }
+        → IsAsTold {A = Track} (Err r) (Err result) }
 {
     match refusal {
         PictureRefusal::Image(refusal) => MotionRefusal::Image(refusal),

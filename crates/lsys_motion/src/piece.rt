@@ -18,7 +18,7 @@ pub(crate) struct Piece<T: Lattice> {
 impl<T: Lattice> Model for Piece<T> {
     ghost use Rattle.lsys_motion.specs.Pieces as shapes;
 
-    ghost Value = { shapes.Piece };
+    ghost Value = { shapes.ImagePiece };
 
     ghost view = { λ p. record { symbols = p.symbols; pieces = p.pieces; start = p.start } };
 }

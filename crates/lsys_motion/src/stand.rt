@@ -2,13 +2,13 @@
 ghost use Rattle.std.specs.Prelude.{◌≡◌, ◌≤◌, ◌^◌, ℤ, ◌+ℤ◌, ◌*ℤ◌, unsigned_abs, Contains};
 ghost use Rattle.lsys_spec.specs.Lattices.{IsWithin, frames};
 ghost use Rattle.lsys_lattice.specs.Rotations.{plus};
-ghost use Rattle.lsys_lattice.specs.Effects.{ahead, at_start, done, stand_from};
+ghost use Rattle.lsys_lattice.specs.Effects.{steps_ahead, first_walker, done, stand_from};
 ghost use Rattle.lsys_lattice.specs.Free.{pose_of};
 ghost use Rattle.lsys_turtle.specs.Ways.{act_of};
 ghost use Rattle.lsys_lattice.specs.Views.{vector_of};
 ghost use Rattle.lsys_lattice.specs.Wide.{wide_of};
 ghost use Rattle.lsys_motion.specs.Pieces.{IsNear};
-ghost use Rattle.lsys_motion.specs.Keepers.{IsSmall};
+ghost use Rattle.lsys_motion.specs.Keepers.{HasSmallPlace};
 
 use crate::pose::Pose;
 use lsys_lattice::{Lattice, Place, Vector, turn_by};
@@ -44,7 +44,7 @@ impl<T: Lattice> Model for Stand<T> {
 impl<T: Lattice> Stand<T> {
     /// Where it is seen from.
     pub(crate) fn start() -> Stand<T>
-        ensures { result ≡ (at_start T.shape).here }
+        ensures { result ≡ (first_walker T.shape).here }
     {
         Stand {
             place: Place { x: 0, y: 0, z: 0 },
@@ -57,7 +57,7 @@ impl<T: Lattice> Stand<T> {
     pub(crate) fn again(&self) -> Stand<T>
         ensures same { result ≡ self.now }
         ensures known { Contains (frames T.shape) self.now.frame }
-        ensures small { IsSmall self.now }
+        ensures small { HasSmallPlace self.now }
     {
         Stand {
             place: self.place,
@@ -80,7 +80,7 @@ impl<T: Lattice> Stand<T> {
 
     /// Behind a module that has a turtle do this.
     pub(crate) fn done(&self, act: Act) -> Stand<T>
-        requires { IsSmall (done T.shape (act_of act) self.now) }
+        requires { HasSmallPlace (done T.shape (act_of act) self.now) }
         ensures { result ≡ done T.shape (act_of act) self.now }
     {
         match act {
@@ -102,8 +102,8 @@ impl<T: Lattice> Stand<T> {
 
     /// So many steps ahead.
     fn ahead(&self, steps: i64) -> Stand<T>
-        requires { IsSmall (record self.now { place = ahead steps self.now }) }
-        ensures { result ≡ record self.now { place = ahead steps self.now } }
+        requires { HasSmallPlace (record self.now { place = steps_ahead steps self.now }) }
+        ensures { result ≡ record self.now { place = steps_ahead steps self.now } }
     {
         let heading = T::heading(self.frame);
         Stand {
@@ -119,7 +119,7 @@ impl<T: Lattice> Stand<T> {
 
     /// What is seen from here so, as it is seen from where this is seen from.
     pub(crate) fn beyond(&self, inner: &Stand<T>) -> Stand<T>
-        requires { IsSmall (stand_from T.shape self.now inner.now) }
+        requires { HasSmallPlace (stand_from T.shape self.now inner.now) }
         ensures { result ≡ stand_from T.shape self.now inner.now }
     {
         let carried = T::carry(self.frame, wide(&inner.place));

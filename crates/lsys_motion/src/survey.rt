@@ -12,7 +12,7 @@ ghost use Rattle.lsys_lattice.specs.Wide.{extents_of, wide_of};
 ghost use Rattle.lsys_turtle.specs.Ways.{IsReached, segment_of};
 ghost use Rattle.lsys_out.specs.Drawings.{last_drawing};
 ghost use Rattle.lsys_out.specs.Nesting.{HasLast, image_nesting};
-ghost use Rattle.lsys_motion.specs.Surveys.{IsSurveyed, extended, extended_by};
+ghost use Rattle.lsys_motion.specs.Surveys.{AreBoundsOf, with_place, with_ends};
 
 use lsys_lattice::{Extents, Lattice, Place, Vector};
 use lsys_level::LevelView;
@@ -46,7 +46,7 @@ fn of_origin<T: Lattice>() -> Extents
 /// With one place more.
 pub(crate) fn with_place<T: Lattice>(extents: Extents, place: Place) -> Extents
     requires { IsWithin greatest_coordinate (vector_of place) }
-    ensures { extents_of result ≡ extended T.shape (extents_of extents) (vector_of place) }
+    ensures { extents_of result ≡ with_place T.shape (extents_of extents) (vector_of place) }
 {
     let measures = measured::<T>(place);
     Extents {
@@ -93,7 +93,7 @@ fn greater(one: &i128, other: &i128) -> i128
 fn with_segment<T: Lattice>(extents: Extents, segment: &Segment) -> Extents
     requires { IsReached segment.now }
     ensures { extents_of result
-        ≡ extended_by T.shape (extents_of extents) (segment_of segment.now) }
+        ≡ with_ends T.shape (extents_of extents) (segment_of segment.now) }
 {
     with_place::<T>(with_place::<T>(extents, segment.from), segment.to)
 }
@@ -110,7 +110,7 @@ pub(crate) fn survey_picture<T: Lattice, W: LevelView>(
 ) -> Result<Extents, PictureRefusal>
     requires last { HasLast system.now (W.levels view.now) }
     requires room { image_nesting system.now (W.levels view.now) ≤ turtle.old.room }
-    ensures { IsSurveyed T.shape (last_drawing T.shape system.now (W.levels view.now)) result }
+    ensures { AreBoundsOf T.shape (last_drawing T.shape system.now (W.levels view.now)) result }
 {
     let mut way = Way::new(view, system, turtle);
     let mut extents = of_origin::<T>();

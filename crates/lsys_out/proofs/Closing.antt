@@ -12,11 +12,11 @@ use Rattle.lsys_syntax.specs.Commands.{IsHomomorphism}
 use Rattle.lsys_spec.specs.Systems.{System, Homomorphism, Each, WellSpelled}
 use Rattle.lsys_spec.specs.Values.{Arith, expr_tree, judged, ◌and_then◌}
 use Rattle.lsys_spec.specs.Bodies.{body_of, templates}
-use Rattle.lsys_spec.specs.Levels.{ModuleValue, Symbol, Push, Pop, Module, level_balanced}
+use Rattle.lsys_spec.specs.Levels.{ModuleValue, LevelSymbol, Push, Pop, Module, level_balanced}
 use Rattle.lsys_spec.specs.Meaning.{filled, filled_params}
 use Rattle.lsys_spec.specs.Images.{ImageRefusal, ImageLimit, for_module, image_of, image_fault, within_image}
 use Rattle.lsys_spec.proofs.LevelInduction.{ok_parts}
-use Rattle.lsys_hom.specs.Coming.{Coming, coming_from, symbol_image, told}
+use Rattle.lsys_hom.specs.Coming.{Coming, coming_from, symbol_image, coming_with}
 use Rattle.lsys_turtle.specs.Ways.{saved_after}
 use Rattle.lsys_out.specs.Nesting.{CanEnd, Closes}
 
@@ -91,19 +91,19 @@ closes_none : (n : ℕ) → Closes n []
 closes_none n = tt
 
 told_module : (n : ℕ) (r : Result (List (S.Symbol ℤ)) ImageRefusal) (f : ℕ → Coming) → ((ys : List (S.Symbol ℤ)) → r ≡ Ok ys → S.balanced 0 ys ≡ true) → ((j : ℕ) → Closes n (f j).symbols)
-    → Closes n (told r f).symbols
+    → Closes n (coming_with r f).symbols
 told_module n (Ok ys) f b c = let e : 0 + n ≡ n = omega arith in subst (λ m. Closes m (ys ++ (f (length ys)).symbols)) e (closes_along 0 n ys (f (length ys)).symbols (b ys refl) (c (length ys)))
 told_module n (Err r) f b c = tt
 
 -- a bracket that can end its branch, alone
-told_bracket : (x : S.Symbol ℤ) (n k : ℕ) (f : ℕ → Coming) → CanEnd x n → ((j : ℕ) → Closes (saved_after x n) (f j).symbols) → Closes n (told (within_image k (x ∷ [])) f).symbols
+told_bracket : (x : S.Symbol ℤ) (n k : ℕ) (f : ℕ → Coming) → CanEnd x n → ((j : ℕ) → Closes (saved_after x n) (f j).symbols) → Closes n (coming_with (within_image k (x ∷ [])) f).symbols
 told_bracket x n k f e c = by (nat_lt most_image_symbols (k + 1))
   where
-    by : (over : Bool) → Closes n (told (if over then Err ImageLimit else Ok (x ∷ [])) f).symbols
+    by : (over : Bool) → Closes n (coming_with (if over then Err ImageLimit else Ok (x ∷ [])) f).symbols
     by true = tt
     by false = (e, c 1)
 
-pub image_closes : (hs : List Homomorphism) (i k n : ℕ) (x : List Symbol) → HaveBalance hs → level_balanced n x ≡ true → Closes n (coming_from hs i k x).symbols
+pub image_closes : (hs : List Homomorphism) (i k n : ℕ) (x : List LevelSymbol) → HaveBalance hs → level_balanced n x ≡ true → Closes n (coming_from hs i k x).symbols
 image_closes hs i k n [] b l = tt
 image_closes hs i k n (Push g ∷ x) b l = let e : suc n ≡ n + 1 = omega arith in told_bracket S.Push n k _ tt (λ j. subst (λ m. Closes m (coming_from hs i (k + j) x).symbols) e (image_closes hs i (k + j) (suc n) x b l))
 image_closes hs i k zero (Pop g ∷ x) b l = cc
@@ -113,5 +113,5 @@ image_closes hs i k (suc n) (Pop g ∷ x) b l =
 image_closes hs i k n (Module g m ∷ x) b l =
     told_module n (symbol_image hs i k (Module g m)) _ (λ ys h. module_balanced hs i k m ys b (image_of hs m) refl h) (λ j. image_closes hs (i + 1) (k + j) n x b l)
 
-pub last_closes : (s : System) (x : List Symbol) → WellSpelled s → level_balanced 0 x ≡ true → Closes 0 (coming_from s.homomorphisms 0 0 x).symbols
+pub last_closes : (s : System) (x : List LevelSymbol) → WellSpelled s → level_balanced 0 x ≡ true → Closes 0 (coming_from s.homomorphisms 0 0 x).symbols
 last_closes s x w l = image_closes s.homomorphisms 0 0 0 x (spelled_balance s w) l

@@ -4,7 +4,7 @@ use Rattle.lsys_spec.specs.Lattices.{Lattice, projected}
 use Rattle.lsys_spec.specs.Pictures.{Segment, origin}
 use Rattle.lsys_spec.specs.Pictures as P
 use Rattle.lsys_out.specs.Boxes.{IsSurveyed, box_of, extended_by, extent_at, extent_of, surveyed_with}
-use Rattle.lsys_out.specs.Drawings.{Drawing, IsStopped, finished, with_first}
+use Rattle.lsys_out.specs.Drawings.{Drawing, IsStopped, empty_drawing, with_first}
 use Rattle.lsys_out.specs.declared.refusal.PictureRefusal.{PictureRefusal}
 use Rattle.lsys_out.specs.declared.survey.Survey.{Survey}
 use Rattle.lsys_out.proofs.Extents.{box_along}
@@ -29,7 +29,7 @@ surveying_more l whole rest next s g h e = record {
   refusal = ap (λ (d : Drawing). d.refusal) (sym e) ∙ h.refusal;
 }
 
-pub surveying_all : (l : Lattice) (whole rest : Drawing) (s : Survey) → Surveying l whole rest s → rest ≡ finished → IsSurveyed l whole (Ok s)
+pub surveying_all : (l : Lattice) (whole rest : Drawing) (s : Survey) → Surveying l whole rest s → rest ≡ empty_drawing → IsSurveyed l whole (Ok s)
 surveying_all l whole rest s h e = (
   sym h.refusal ∙ ap (λ (d : Drawing). d.refusal) e,
   omega (arith, h.count, ap (λ (d : Drawing). length d.segments) e),

@@ -6,9 +6,9 @@ use Rattle.lsys_spec.specs.Lattices.{Lattice}
 use Rattle.lsys_spec.specs.Pictures.{Segment, Box, box}
 use Rattle.lsys_spec.specs.PictureTexts.{segment_line, segments_text, svg_head, svg_line, svg_text}
 use Rattle.lsys_out.specs.Drawings.{Drawing, with_first}
-use Rattle.lsys_out.specs.Lines.{count_line, drawn_line, head_line}
+use Rattle.lsys_out.specs.Lines.{segments_line, drawn_line, head_line}
 
-pub segments-text : (gs : List Segment) (n : ℕ) → n ≡ length gs → segments_text gs ≡ count_line n ++ flat_map segment_line gs
+pub segments-text : (gs : List Segment) (n : ℕ) → n ≡ length gs → segments_text gs ≡ segments_line n ++ flat_map segment_line gs
 segments-text gs n e =
     ap (λ k. codes "segments " ++ (decimal k ++ 10 ∷ flat_map segment_line gs)) (sym e)
     ∙ ap (λ t. codes "segments " ++ t) (sym (append_assoc (decimal n) (10 ∷ []) (flat_map segment_line gs)))

@@ -7,11 +7,11 @@ use Rattle.lsys_spec.specs.Lattices.{Lattice}
 use Rattle.lsys_spec.specs.Levels as L
 use Rattle.lsys_spec.specs.Images.{ImageRefusal}
 use Rattle.lsys_spec.specs.Pictures.{Turtle, Stepped, Segment, PictureRefusal, NoImage, and_on, at_start, modules_to, or_far, or_no_image, picture, segments_from, segments_of, turtle_step, with_segment}
-use Rattle.lsys_level.specs.Spots.{Spotted, level_at}
-use Rattle.lsys_hom.specs.Coming.{coming, whole}
+use Rattle.lsys_level.specs.Spots.{Spotted, spots_at}
+use Rattle.lsys_hom.specs.Coming.{coming, image_ended}
 use Rattle.lsys_hom.proofs.Named.{coming_named}
 use Rattle.lsys_hom.proofs.Runs.{law_whole}
-use Rattle.lsys_out.specs.Drawings.{Drawing, drawing_from, drawn_on, last_drawing, last_level, with_drawn}
+use Rattle.lsys_out.specs.Drawings.{Drawing, drawing_from, drawn_on, last_drawing, last_symbols, with_drawn}
 use Rattle.lsys_out.specs.Shown.{on_lattice}
 
 -- segments up to an end or a refusal, as a picture
@@ -61,25 +61,25 @@ refused_drawing l n t (x ∷ xs) r =
 -- 3. the picture of the last level
 
 over_image : (l : Lattice) (xs : List (S.Symbol ℤ)) (o : Option ImageRefusal)
-    → all_of (drawing_from l 0 (at_start l) xs o) ≡ (or_no_image (whole xs o) and_then λ ys. or_far (segments_of l ys))
+    → all_of (drawing_from l 0 (at_start l) xs o) ≡ (or_no_image (image_ended xs o) and_then λ ys. or_far (segments_of l ys))
 over_image l xs None = whole_drawing l 0 (at_start l) xs
 over_image l xs (Some r) = ap (ended (drawing_from l 0 (at_start l) xs (Some r)).segments) (refused_drawing l 0 (at_start l) xs r)
 
-of_level : (l : Lattice) (s : System) (x : List L.Symbol)
+of_level : (l : Lattice) (s : System) (x : List L.LevelSymbol)
     → all_of (drawing_from l 0 (at_start l) (coming s x).symbols (coming s x).refusal) ≡ picture (on_lattice l s) x
 of_level l s x =
     over_image l (coming s x).symbols (coming s x).refusal
     ∙ ap (λ i. or_no_image i and_then λ ys. or_far (segments_of l ys)) (law_whole s x)
 
-of_last : (naming : ℕ → List ℕ) (l : Lattice) (s : System) (levels : List (List Spotted)) → all_of (last_drawing l s levels) ≡ picture (on_lattice l s) (last_level naming s levels)
+of_last : (naming : ℕ → List ℕ) (l : Lattice) (s : System) (levels : List (List Spotted)) → all_of (last_drawing l s levels) ≡ picture (on_lattice l s) (last_symbols naming s levels)
 of_last naming l s levels =
-    ap (λ c. all_of (drawing_from l 0 (at_start l) c.symbols c.refusal)) (coming_named s.homomorphisms 0 0 (λ tag. []) naming (level_at levels s.depth))
-    ∙ of_level l s (last_level naming s levels)
+    ap (λ c. all_of (drawing_from l 0 (at_start l) c.symbols c.refusal)) (coming_named s.homomorphisms 0 0 (λ tag. []) naming (spots_at levels s.depth))
+    ∙ of_level l s (last_symbols naming s levels)
 
 pub picture_drawn : (naming : ℕ → List ℕ) (l : Lattice) (s : System) (levels : List (List Spotted)) → (last_drawing l s levels).refusal ≡ None
-    → picture (on_lattice l s) (last_level naming s levels) ≡ Ok (last_drawing l s levels).segments
+    → picture (on_lattice l s) (last_symbols naming s levels) ≡ Ok (last_drawing l s levels).segments
 picture_drawn naming l s levels h = sym (of_last naming l s levels) ∙ ap (ended (last_drawing l s levels).segments) h
 
 pub picture_refused : (naming : ℕ → List ℕ) (l : Lattice) (s : System) (levels : List (List Spotted)) (r : PictureRefusal) → (last_drawing l s levels).refusal ≡ Some r
-    → picture (on_lattice l s) (last_level naming s levels) ≡ Err r
+    → picture (on_lattice l s) (last_symbols naming s levels) ≡ Err r
 picture_refused naming l s levels r h = sym (of_last naming l s levels) ∙ ap (ended (last_drawing l s levels).segments) h

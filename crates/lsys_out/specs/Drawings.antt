@@ -7,10 +7,10 @@ use Rattle.lsys_spec.specs.Images as I
 use Rattle.lsys_spec.specs.Levels as L
 use Rattle.lsys_spec.specs.Pictures.{Turtle, Stepped, Segment, PictureRefusal, NoImage, Far, at_start, modules_to, turtle_step}
 use Rattle.lsys_syntax.specs.Calls.{Lent}
-use Rattle.lsys_level.specs.Spots.{Spotted, level_at, level_by}
+use Rattle.lsys_level.specs.Spots.{Spotted, spots_at, level_by}
 use Rattle.lsys_hom.specs.Coming.{Coming, coming}
 use Rattle.lsys_hom.specs.Refusals.{refusal_of}
-use Rattle.lsys_turtle.specs.Ways.{IsReached, Walker, segment_of}
+use Rattle.lsys_turtle.specs.Ways.{IsReached, RoomyTurtle, segment_of}
 use Rattle.lsys_turtle.specs.declared.segment.Segment.{Segment as CodeSegment}
 use Rattle.lsys_out.specs.declared.refusal.PictureRefusal.{PictureRefusal as Refusal}
 use Rattle.lsys_out.specs.declared.refusal.PictureRefusal.TheVariants as refusals
@@ -22,8 +22,8 @@ pub record Drawing : Type 0 where
   pub refusal : Option PictureRefusal
 
 -- Nothing is to come.
-abbrev pub finished : Drawing
-finished = record { segments = []; refusal = None }
+abbrev pub empty_drawing : Drawing
+empty_drawing = record { segments = []; refusal = None }
 
 -- nothing but a refusal comes
 abbrev pub stopped : PictureRefusal → Drawing
@@ -61,12 +61,12 @@ abbrev pub drawing : Lattice → Way → Turtle → Drawing
 drawing l w t = drawing_from l w.modules t w.image.symbols w.image.refusal
 
 -- the last level's symbols, where a naming tells the lineage of each tag
-abbrev pub last_level : (ℕ → List ℕ) → System → List (List Spotted) → List L.Symbol
-last_level naming s levels = level_by naming (level_at levels s.depth)
+abbrev pub last_symbols : (ℕ → List ℕ) → System → List (List Spotted) → List L.LevelSymbol
+last_symbols naming s levels = level_by naming (spots_at levels s.depth)
 
 -- what comes of the image of the last level
 abbrev pub last_image : System → List (List Spotted) → Coming
-last_image s levels = coming s (last_level (λ tag. []) s levels)
+last_image s levels = coming s (last_symbols (λ tag. []) s levels)
 
 -- what comes of its picture on a lattice
 abbrev pub last_drawing : Lattice → System → List (List Spotted) → Drawing
@@ -90,24 +90,24 @@ IsStopped d e = (r : PictureRefusal) × IsRefusal r e × (d ≡ stopped r)
 abbrev pub IsStepped : Drawing → Drawing → Result Step Refusal → Type 0
 IsStepped old new (Ok steps.Quiet) = old ≡ new
 IsStepped old new (Ok (steps.Drawn g)) = old ≡ with_first (segment_of g) new
-IsStepped old new (Ok steps.End) = old ≡ finished
+IsStepped old new (Ok steps.End) = old ≡ empty_drawing
 IsStepped old new (Err e) = IsStopped old e
 
 -- the same of a call that is lent the way and the turtle
-abbrev pub Steps : Lattice → Lent Way → Lent Walker → Result Step Refusal → Type 0
+abbrev pub Steps : Lattice → Lent Way → Lent RoomyTurtle → Result Step Refusal → Type 0
 Steps l way turtle result =
     IsStepped (drawing l way.entry.now turtle.entry.now.turtle) (drawing l way.exit.now turtle.exit.now.turtle) result
 
 -- symbols are passed up to one that gives a segment
-abbrev pub IsNext : Drawing → Drawing → Result (Option CodeSegment) Refusal → Type 0
-IsNext old new (Ok (Some g)) = old ≡ with_first (segment_of g) new
-IsNext old new (Ok None) = old ≡ finished
-IsNext old new (Err e) = IsStopped old e
+abbrev pub IsNextSegment : Drawing → Drawing → Result (Option CodeSegment) Refusal → Type 0
+IsNextSegment old new (Ok (Some g)) = old ≡ with_first (segment_of g) new
+IsNextSegment old new (Ok None) = old ≡ empty_drawing
+IsNextSegment old new (Err e) = IsStopped old e
 
 -- the same of a call that is lent the way and the turtle
-abbrev pub GoesToNext : Lattice → Lent Way → Lent Walker → Result (Option CodeSegment) Refusal → Type 0
+abbrev pub GoesToNext : Lattice → Lent Way → Lent RoomyTurtle → Result (Option CodeSegment) Refusal → Type 0
 GoesToNext l way turtle result =
-    IsNext (drawing l way.entry.now turtle.entry.now.turtle) (drawing l way.exit.now turtle.exit.now.turtle) result
+    IsNextSegment (drawing l way.entry.now turtle.entry.now.turtle) (drawing l way.exit.now turtle.exit.now.turtle) result
 
 -- what holds where the way goes on
 abbrev pub OnStep : Result Step Refusal → Type 0 → Type 0

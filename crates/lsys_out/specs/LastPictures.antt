@@ -9,7 +9,7 @@ use Rattle.lsys_io.specs.Putting.{Puts}
 use Rattle.lsys_io.specs.declared.Failed.{Failed}
 use Rattle.lsys_io.specs.declared.Sink.{Ghosts as SinkOf}
 use Rattle.lsys_level.specs.Spots.{Spotted}
-use Rattle.lsys_out.specs.Drawings.{last_drawing, last_level}
+use Rattle.lsys_out.specs.Drawings.{last_drawing, last_symbols}
 use Rattle.lsys_out.specs.Shown.{Shows, on_lattice}
 use Rattle.lsys_out.specs.declared.refusal.PictureRefusal.{PictureRefusal}
 
@@ -22,7 +22,7 @@ abbrev pub Draws : {K : Type 0} → SinkOf K → Lent K → Lent (List ℕ)
 Draws K sink out text l s levels result =
     (naming : ℕ → List ℕ)
     → Shows K.written K.faults sink.entry.now sink.exit.now out.entry.now out.exit.now
-    (picture (on_lattice l s) (last_level naming s levels)) text result
+    (picture (on_lattice l s) (last_symbols naming s levels)) text result
 
 -- the same of its text as SVG
 abbrev pub DrawsSvg : {K : Type 0} → SinkOf K → Lent K → Lent (List ℕ)

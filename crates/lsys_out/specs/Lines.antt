@@ -5,8 +5,8 @@ use Rattle.lsys_spec.specs.Lattices.{Lattice, projected}
 use Rattle.lsys_spec.specs.Pictures.{Box, Segment}
 
 -- the first line of a list of segments
-abbrev pub count_line : ℕ → List ℕ
-count_line n = codes "segments " ++ (decimal n ++ 10 ∷ [])
+abbrev pub segments_line : ℕ → List ℕ
+segments_line n = codes "segments " ++ (decimal n ++ 10 ∷ [])
 
 -- the first line of a picture as SVG
 abbrev pub head_line : Box → List ℕ

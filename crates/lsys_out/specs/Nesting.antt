@@ -3,9 +3,9 @@ use Rattle.std.specs.Prelude.{◌≡◌, ℕ, ℤ, ◌<◌, ◌≤◌, ◌^◌, 
 use Rattle.lsys_syntax.specs.Strings as S
 use Rattle.lsys_spec.specs.Systems.{System, WellSpelled}
 use Rattle.lsys_spec.specs.Levels.{level_balanced}
-use Rattle.lsys_level.specs.Spots.{Spotted, level_at}
-use Rattle.lsys_turtle.specs.Ways.{Walker, saved_after}
-use Rattle.lsys_out.specs.Drawings.{last_image, last_level}
+use Rattle.lsys_level.specs.Spots.{Spotted, spots_at}
+use Rattle.lsys_turtle.specs.Ways.{RoomyTurtle, saved_after}
+use Rattle.lsys_out.specs.Drawings.{last_image, last_symbols}
 
 -- the most branches that are open at once, where n are open before
 abbrev pub nesting_from : ℕ → List (S.Symbol ℤ) → ℕ
@@ -27,7 +27,7 @@ Closes n [] = Unit {0}
 Closes n (x ∷ xs) = CanEnd x n × Closes (saved_after x n) xs
 
 -- a turtle can go over all these symbols
-pub record CanGo (xs : List (S.Symbol ℤ)) (w : Walker) : Type 0 where
+pub record CanGo (xs : List (S.Symbol ℤ)) (w : RoomyTurtle) : Type 0 where
   pub closes : Closes (length w.turtle.saved) xs
   pub room : nesting_from (length w.turtle.saved) xs ≤ w.room
 
@@ -35,5 +35,5 @@ pub record CanGo (xs : List (S.Symbol ℤ)) (w : Walker) : Type 0 where
 pub record HasLast (s : System) (levels : List (List Spotted)) : Type 0 where
   pub spelled : WellSpelled s
   pub level : s.depth < length levels
-  pub few : length (level_at levels s.depth) < 2 ^ 32
-  pub balance : level_balanced 0 (last_level (λ tag. []) s levels) ≡ true
+  pub few : length (spots_at levels s.depth) < 2 ^ 32
+  pub balance : level_balanced 0 (last_symbols (λ tag. []) s levels) ≡ true

@@ -5,7 +5,7 @@ ghost use Rattle.lsys_io.specs.Putting.{Puts};
 ghost use Rattle.lsys_lattice.specs.Views.{vector_of};
 ghost use Rattle.lsys_turtle.specs.Ways.{segment_of};
 ghost use Rattle.lsys_out.specs.Drawings.{last_drawing};
-ghost use Rattle.lsys_out.specs.Lines.{count_line};
+ghost use Rattle.lsys_out.specs.Lines.{segments_line};
 ghost use Rattle.lsys_out.specs.Nesting.{HasLast, image_nesting};
 ghost use Rattle.lsys_out.specs.LastPictures.{PutsList, WritesList};
 
@@ -76,7 +76,7 @@ fn put_segments<T: Lattice, W: LevelView, K: Sink>(
 
 // Puts the first line.
 fn put_count<K: Sink>(out: &mut Buffered, sink: &mut K, count: u32) -> Result<(), Failed>
-    ensures { Puts K.Sink sink out (count_line count) result }
+    ensures { Puts K.Sink sink out (segments_line count) result }
 {
     out.put(sink, b"segments ")?;
     put_unsigned(out, sink, count)?;

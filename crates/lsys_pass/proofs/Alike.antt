@@ -5,6 +5,7 @@ use Rattle.std.specs.Option.{option_and_then}
 use Rattle.std.proofs.Math.Path.{fun_ext}
 use Rattle.std.proofs.lemmas.Bool.{cases_eq}
 use Rattle.std.proofs.lemmas.Option.{same_Some}
+use Rattle.lsys_spec.specs.Rows.{first_in, flat}
 use Rattle.lsys_spec.specs.Draws.{key_of}
 use Rattle.lsys_spec.specs.Levels.{level_balanced}
 use Rattle.lsys_spec.specs.Levels as L
@@ -13,9 +14,9 @@ use Rattle.lsys_level.specs.Spots.{Spotted, named, level_by}
 use Rattle.lsys_change.specs.Nodes.{Kins, naming}
 use Rattle.lsys_change.specs.Seams.{node_before}
 use Rattle.lsys_match.specs.Kept.{Kept}
-use Rattle.lsys_forest.specs.Nodes.{Node, Nodes, put, with_answer}
+use Rattle.lsys_forest.specs.Nodes.{Node, Nodes, with_node, with_answer}
 use Rattle.lsys_forest.specs.Answers.{answer_of}
-use Rattle.lsys_forest.specs.Rows.{first_in, flat, kids_in, spot_in, level_nodes, level_spots}
+use Rattle.lsys_forest.specs.Rows.{kids_in, spot_in, level_nodes, level_spots}
 use Rattle.lsys_forest.proofs.StockLemmas.{put_same, put_other}
 use Rattle.lsys_kept.specs.Lineages.{kin_of, kins, names}
 use Rattle.lsys_kept.specs.Levels.{level_of, HaveLevels, answer_at}
@@ -53,7 +54,7 @@ neighbours_by xs p f = record {
 pub neighbours_alike : (m m' : Nodes Kept) → AreAlike m m' → (xs : List ℕ) (p : ℕ) → neighbours_on m' xs p ≡ neighbours_on m xs p
 neighbours_alike m m' h xs p = ap (neighbours_by xs p) h.spots
 
-pub have_alike : (m m' : Nodes Kept) (root seed : ℕ) (xs : List (List L.Symbol)) → AreAlike m m' → HaveLevels m root seed xs → HaveLevels m' root seed xs
+pub have_alike : (m m' : Nodes Kept) (root seed : ℕ) (xs : List (List L.LevelSymbol)) → AreAlike m m' → HaveLevels m root seed xs → HaveLevels m' root seed xs
 have_alike m m' root seed xs a h = record {
   each = λ t l. level_alike m m' root a t ∙ h.each t l;
   keys = λ t p x l e.
@@ -64,7 +65,7 @@ have_alike m m' root seed xs a h = record {
 
 -- one node keeps something else
 
-pub alike_put : (m : Nodes Kept) (k : ℕ) (n : Node Kept) (o : Option Kept) → m k ≡ Some n → AreAlike m (put m k (Some (with_answer o n)))
+pub alike_put : (m : Nodes Kept) (k : ℕ) (n : Node Kept) (o : Option Kept) → m k ≡ Some n → AreAlike m (with_node m k (Some (with_answer o n)))
 alike_put m k n o is = record {
   kids = fun_ext (λ j. elim (cases_eq j k) [
     | inl e ↦ ap kids_in (put_same m k j (Some (with_answer o n)) e) ∙ sym (ap kids_in (ap m e ∙ is))
@@ -80,13 +81,13 @@ alike_put m k n o is = record {
   ]);
 }
 
-pub answer_put : (m : Nodes Kept) (k j : ℕ) (n : Node Kept) (o : Option Kept) → j ≡ k → answer_at (put m k (Some (with_answer o n))) j ≡ o
+pub answer_put : (m : Nodes Kept) (k j : ℕ) (n : Node Kept) (o : Option Kept) → j ≡ k → answer_at (with_node m k (Some (with_answer o n))) j ≡ o
 answer_put m k j n o e = ap (option_and_then answer_of) (put_same m k j (Some (with_answer o n)) e)
 
-pub answer_other : (m : Nodes Kept) (k j : ℕ) (n : Node Kept) (o : Option Kept) → j ≢ k → answer_at (put m k (Some (with_answer o n))) j ≡ answer_at m j
+pub answer_other : (m : Nodes Kept) (k j : ℕ) (n : Node Kept) (o : Option Kept) → j ≢ k → answer_at (with_node m k (Some (with_answer o n))) j ≡ answer_at m j
 answer_other m k j n o ne = ap (option_and_then answer_of) (put_other m k j (Some (with_answer o n)) ne)
 
-pub put_again : (m : Nodes Kept) (k : ℕ) (n : Node Kept) → m k ≡ Some n → put m k (Some (with_answer n.answer n)) ≡ m
+pub put_again : (m : Nodes Kept) (k : ℕ) (n : Node Kept) → m k ≡ Some n → with_node m k (Some (with_answer n.answer n)) ≡ m
 put_again m k n is = fun_ext (λ j. elim (cases_eq j k) [
   | inl e ↦ put_same m k j (Some (with_answer n.answer n)) e ∙ sym (ap m e ∙ is)
   | inr ne ↦ put_other m k j (Some (with_answer n.answer n)) ne
@@ -100,7 +101,7 @@ pub record IsFrom (m : Nodes Kept) (j : ℕ) (n : Node Kept) : Type 0 where
   pub depth : n.depth ≡ node.depth
   pub count : n.count ≡ node.count
 
-pub put_from : (m : Nodes Kept) (k : ℕ) (n : Node Kept) (o : Option Kept) → m k ≡ Some n → (j : ℕ) (x : Node Kept) → put m k (Some (with_answer o n)) j ≡ Some x → IsFrom m j x
+pub put_from : (m : Nodes Kept) (k : ℕ) (n : Node Kept) (o : Option Kept) → m k ≡ Some n → (j : ℕ) (x : Node Kept) → with_node m k (Some (with_answer o n)) j ≡ Some x → IsFrom m j x
 put_from m k n o is j x there = elim (cases_eq j k) [
   | inl e ↦
       let same : with_answer o n ≡ x = same_Some (with_answer o n) x (sym (put_same m k j (Some (with_answer o n)) e) ∙ there) in

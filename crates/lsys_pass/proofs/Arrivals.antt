@@ -1,14 +1,15 @@
 -- A pass that comes to a level, or to its end.
 use Rattle.std.proofs.Common.{◌≡◌, ◌+◌, ◌<◌, ◌≤◌, ◌^◌, ℕ, zero, suc, Bool, false, List, [], ◌∷◌, length, refl, sym, ap, ◌∙◌, subst, inl, inr, arith}
 use Rattle.std.proofs.lemmas.Bool.{cases_lt}
+use Rattle.lsys_spec.specs.Rows.{In}
 use Rattle.lsys_spec.specs.Systems.{System}
 use Rattle.lsys_spec.specs.Questions.{questions}
 use Rattle.lsys_match.specs.Kept.{Kept}
 use Rattle.lsys_forest.specs.Nodes.{Nodes}
-use Rattle.lsys_forest.specs.Groves.{In, IsSound, changes_in, live_nodes}
+use Rattle.lsys_forest.specs.Groves.{IsRooted, changes_in, live_nodes}
 use Rattle.lsys_forest.specs.Rows.{level_nodes}
 use Rattle.lsys_forest.proofs.SoundLemmas.{AreSound-now}
-use Rattle.lsys_kept.specs.Meant.{meant}
+use Rattle.lsys_kept.specs.Meant.{levels_meant}
 use Rattle.lsys_kept.specs.Seats.{is_marked}
 use Rattle.lsys_repair.specs.Nexts.{AreClosed}
 use Rattle.lsys_repair.specs.Answers.{kept_successors}
@@ -16,8 +17,8 @@ use Rattle.lsys_pass.specs.declared.sizes.Size.{Size}
 use Rattle.lsys_pass.specs.declared.state.PassState.TheVariants.{Level, Done, Failed}
 use Rattle.lsys_pass.specs.Sizes.{symbols_at, opens_at, with_open, with_level, HaveSizes, HaveSizesTo, SizesAt}
 use Rattle.lsys_pass.specs.Stages.{IsStored}
-use Rattle.lsys_pass.specs.Passes.{PassView, stage_of, now, was, HoldsAt, AllHaveSeats, IsStill, HasFront, FrontAt, IsPass}
-use Rattle.lsys_pass.specs.Advances.{IsAskedTo, KeepsRest, Makes, Begins, Advances, Ends}
+use Rattle.lsys_pass.specs.Passes.{PassView, stage_of, now_in, rest_in, HoldsAt, AllHaveSeats, IsStill, HasFront, FrontAt, IsPass}
+use Rattle.lsys_pass.specs.Advances.{IsAskedTo, KeepsRest, Makes, BeginsAnew, Advances, HasLastLevel}
 use Rattle.lsys_pass.proofs.Backing.{rests_at}
 use Rattle.lsys_pass.proofs.Sized.{closed_same}
 use Rattle.lsys_pass.proofs.Finishing.{starts, ends, starts_first, starts_done}
@@ -106,50 +107,50 @@ made_more m m' root sizes t b h nodes same closed = record {
 
 -- what holds of the parts of a pass wherever it stands
 pub record IsKept (v v' : PassView) : Type 0 where
-  pub stored : IsStored (now v') (changes_in v'.forest) v'.forest.root v'.store
+  pub stored : IsStored (now_in v') (changes_in v'.forest) v'.forest.root v'.store
   pub few : live_nodes v'.forest < 2 ^ 32
   pub unmarked : (k : ℕ) → is_marked v'.seats k ≡ false
   pub answers : v'.answers ≡ v.answers
   pub sizes : v'.sizes ≡ v.sizes
   pub run : KeepsRest (stage_of v) (stage_of v')
-  pub room : AllHaveSeats (was v') v'.seats
+  pub room : AllHaveSeats (rest_in v') v'.seats
 
 module _ (v v' : PassView) (h : IsPass v) (k : IsKept v v') where
-  sound : IsSound v.forest.root (changes_in v.forest) (now v)
-  sound = AreSound-now v.forest.root (changes_in v.forest) (now v) h.stored.sound
+  sound : IsRooted v.forest.root (changes_in v.forest) (now_in v)
+  sound = AreSound-now v.forest.root (changes_in v.forest) (now_in v) h.stored.sound
 
-  sound' : IsSound v'.forest.root (changes_in v'.forest) (now v')
-  sound' = AreSound-now v'.forest.root (changes_in v'.forest) (now v') k.stored.sound
+  sound' : IsRooted v'.forest.root (changes_in v'.forest) (now_in v')
+  sound' = AreSound-now v'.forest.root (changes_in v'.forest) (now_in v') k.stored.sound
 
-  counted : v'.answers ≡ length (questions v'.system (meant v'.system v'.limit))
-  counted = k.answers ∙ h.counted ∙ ap (λ (s : System). length (questions s (meant s v.limit))) (sym k.run.system) ∙ ap (λ l. length (questions v'.system (meant v'.system l))) (sym k.run.limit)
+  counted : v'.answers ≡ length (questions v'.system (levels_meant v'.system v'.limit))
+  counted = k.answers ∙ h.counted ∙ ap (λ (s : System). length (questions s (levels_meant s v.limit))) (sym k.run.system) ∙ ap (λ l. length (questions v'.system (levels_meant v'.system l))) (sym k.run.limit)
 
-  sized : HaveSizes (was v') v'.forest.root v'.sizes
+  sized : HaveSizes (rest_in v') v'.forest.root v'.sizes
   sized =
-      subst (HaveSizes (was v') v'.forest.root) (sym k.sizes)
-      (subst (λ r. HaveSizes (was v') r v.sizes) (sym k.run.root) (subst (λ (m : Nodes Kept). HaveSizes m v.forest.root v.sizes) (sym k.run.was) h.sized))
+      subst (HaveSizes (rest_in v') v'.forest.root) (sym k.sizes)
+      (subst (λ r. HaveSizes (rest_in v') r v.sizes) (sym k.run.root) (subst (λ (m : Nodes Kept). HaveSizes m v.forest.root v.sizes) (sym k.run.was) h.sized))
 
-  pub come : HoldsAt (stage_of v') v'.state → SizesAt (now v') v'.forest.root v'.next.depth v'.made v'.state → FrontAt v' v'.state → IsPass v'
+  pub come : HoldsAt (stage_of v') v'.state → SizesAt (now_in v') v'.forest.root v'.next.depth v'.made v'.state → FrontAt v' v'.state → IsPass v'
   come holds made front = record { stored = k.stored; few = k.few; unmarked = k.unmarked; counted = counted; sized = sized; made_sized = made; holds = holds; front = front; room = k.room }
 
   -- it comes to the next level, or that is the last one
-  module _ (t : ℕ) (asked : IsAskedTo (stage_of v) t) (x : Makes (stage_of v) (stage_of v') (suc t)) (made : HaveSizesTo (now v') v'.forest.root v'.made (suc t)) where
+  module _ (t : ℕ) (asked : IsAskedTo (stage_of v) t) (x : Makes (stage_of v) (stage_of v') (suc t)) (made : HaveSizesTo (now_in v') v'.forest.root v'.made (suc t)) where
     pub next_pass : v'.state ≡ Level (suc t) → Advances (stage_of v') (suc t) → HasFront v' (suc t) → IsPass v'
     next_pass state a f =
-        come (subst (HoldsAt (stage_of v')) (sym state) (starts (stage_of v) (stage_of v') t asked sound sound' x a)) (subst (SizesAt (now v') v'.forest.root v'.next.depth v'.made) (sym state) made) (subst (FrontAt v') (sym state) f)
+        come (subst (HoldsAt (stage_of v')) (sym state) (starts (stage_of v) (stage_of v') t asked sound sound' x a)) (subst (SizesAt (now_in v') v'.forest.root v'.next.depth v'.made) (sym state) made) (subst (FrontAt v') (sym state) f)
 
-    pub done_pass : v'.state ≡ Done → Ends (stage_of v') (suc t) → AllHaveSeats (now v') v'.seats → IsPass v'
+    pub done_pass : v'.state ≡ Done → HasLastLevel (stage_of v') (suc t) → AllHaveSeats (now_in v') v'.seats → IsPass v'
     done_pass state e room =
         come (subst (HoldsAt (stage_of v')) (sym state) (ends (stage_of v) (stage_of v') t asked sound sound' x e))
-        (subst (SizesAt (now v') v'.forest.root v'.next.depth v'.made) (sym state) (subst (HaveSizesTo (now v') v'.forest.root v'.made) (sym e.depth) made)) (subst (FrontAt v') (sym state) room)
+        (subst (SizesAt (now_in v') v'.forest.root v'.next.depth v'.made) (sym state) (subst (HaveSizesTo (now_in v') v'.forest.root v'.made) (sym e.depth) made)) (subst (FrontAt v') (sym state) room)
 
   -- it comes from the last rest to level 0
-  module _ (still : IsStill (stage_of v)) (x : Begins (stage_of v) (stage_of v')) (made : HaveSizesTo (now v') v'.forest.root v'.made 0) where
+  module _ (still : IsStill (stage_of v)) (x : BeginsAnew (stage_of v) (stage_of v')) (made : HaveSizesTo (now_in v') v'.forest.root v'.made 0) where
     pub first_pass : v'.state ≡ Level 0 → Advances (stage_of v') 0 → HasFront v' 0 → IsPass v'
     first_pass state a f =
-        come (subst (HoldsAt (stage_of v')) (sym state) (starts_first (stage_of v) (stage_of v') still x a)) (subst (SizesAt (now v') v'.forest.root v'.next.depth v'.made) (sym state) made) (subst (FrontAt v') (sym state) f)
+        come (subst (HoldsAt (stage_of v')) (sym state) (starts_first (stage_of v) (stage_of v') still x a)) (subst (SizesAt (now_in v') v'.forest.root v'.next.depth v'.made) (sym state) made) (subst (FrontAt v') (sym state) f)
 
-    pub first_done : v'.state ≡ Done → Ends (stage_of v') 0 → AllHaveSeats (now v') v'.seats → IsPass v'
+    pub first_done : v'.state ≡ Done → HasLastLevel (stage_of v') 0 → AllHaveSeats (now_in v') v'.seats → IsPass v'
     first_done state e room =
         come (subst (HoldsAt (stage_of v')) (sym state) (starts_done (stage_of v) (stage_of v') still x e))
-        (subst (SizesAt (now v') v'.forest.root v'.next.depth v'.made) (sym state) (subst (HaveSizesTo (now v') v'.forest.root v'.made) (sym e.depth) made)) (subst (FrontAt v') (sym state) room)
+        (subst (SizesAt (now_in v') v'.forest.root v'.next.depth v'.made) (sym state) (subst (HaveSizesTo (now_in v') v'.forest.root v'.made) (sym e.depth) made)) (subst (FrontAt v') (sym state) room)

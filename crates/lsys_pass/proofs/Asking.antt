@@ -3,17 +3,18 @@ use Rattle.std.proofs.Common.{◌≡◌, ◌≢◌, ◌<◌, ◌^◌, ℕ, zero,
 use Rattle.std.specs.Prelude.{IsSome, is_some, is_none, not, option_map}
 use Rattle.std.specs.List.{remove}
 use Rattle.std.proofs.lemmas.Option.{none-some, same_Some}
+use Rattle.lsys_spec.specs.Rows.{In, AreApart}
 use Rattle.lsys_spec.specs.Systems.{System}
 use Rattle.lsys_spec.specs.Levels.{level_balanced}
 use Rattle.lsys_change.proofs.UpTo.{level_count}
-use Rattle.lsys_level.specs.Spots.{Spotted, IsSpot, level_at, level_by}
+use Rattle.lsys_level.specs.Spots.{Spotted, IsSpot, spots_at, level_by}
 use Rattle.lsys_match.specs.Kept.{Kept}
 use Rattle.lsys_match.specs.Asking.{HasQuestion}
 use Rattle.lsys_match.specs.Asks.{IsMadeIfAny}
 use Rattle.lsys_forest.specs.Nodes.{Node, Nodes}
 use Rattle.lsys_forest.specs.Changes.{Change}
 use Rattle.lsys_forest.specs.Answers.{AtNode}
-use Rattle.lsys_forest.specs.Groves.{Grove, In, AreApart, IsLive, IsSound, now_of, changes_in}
+use Rattle.lsys_forest.specs.Groves.{Grove, IsLive, IsRooted, now_of, changes_in}
 use Rattle.lsys_forest.specs.Rows.{index_in, level_nodes, level_spots, complete_levels, level_of_node, place_of_node, IsAtSpot, AreBalancedTo}
 use Rattle.lsys_forest.proofs.RowLemmas.{In_split, get_split, same_sides, level_depth, level_apart}
 use Rattle.lsys_forest.proofs.SoundLemmas.{AreSound-now, AreSound-then}
@@ -24,9 +25,9 @@ use Rattle.lsys_kept.specs.Levels.{answer_at}
 use Rattle.lsys_kept.specs.Meant.{meant_to}
 use Rattle.lsys_candidates.specs.Asks.{AreSome}
 use Rattle.lsys_pass.specs.declared.state.PassState.TheVariants.{Level}
-use Rattle.lsys_pass.specs.Places.{AreInOrder}
+use Rattle.lsys_pass.specs.Places.{AreInOrderOnLevel}
 use Rattle.lsys_pass.specs.Stages.{IsAtLevel}
-use Rattle.lsys_pass.specs.Passes.{PassView, stage_of, now, HoldsAt, IsPass}
+use Rattle.lsys_pass.specs.Passes.{PassView, stage_of, now_in, HoldsAt, IsPass}
 use Rattle.lsys_pass.proofs.Stores.{AllMade}
 use Rattle.lsys_pass.proofs.Stepping.{IsNext, some_in}
 use Rattle.lsys_pass.proofs.Needed.{IsHere, here}
@@ -75,7 +76,7 @@ pub record Stands (f : Grove Kept) (t k : ℕ) : Type 0 where
   pub level_is : level_of_node f k ≡ t
   pub place_is : place_of_node f k ≡ length before
   pub at_spot : IsAtSpot f k
-  pub told : level_at (complete_levels f) t ≡ level_spots (now_of f) f.root t
+  pub told : spots_at (complete_levels f) t ≡ level_spots (now_of f) f.root t
 
 pub get_around : (before : List ℕ) (k : ℕ) (after : List ℕ) → slice_get (before ++ k ∷ after) (length before) ≡ Some k
 get_around [] k after = refl
@@ -84,7 +85,7 @@ get_around (x ∷ before) k after = get_around before k after
 pub there_at : (f : Grove Kept) (t k : ℕ) → (h : Stands f t k) → slice_get (level_nodes (now_of f) f.root t) (place_of_node f k) ≡ Some k
 there_at f t k h = ap (slice_get (level_nodes (now_of f) f.root t)) h.place_is ∙ ap (λ (l : List ℕ). slice_get l (length h.before)) h.whole ∙ get_around h.before k h.after
 
-pub stands : (f : Grove Kept) (t k : ℕ) → IsSound f.root (changes_in f) (now_of f) → t < 2 ^ 32 → AreBalancedTo f t → In k (level_nodes (now_of f) f.root t) → Stands f t k
+pub stands : (f : Grove Kept) (t k : ℕ) → IsRooted f.root (changes_in f) (now_of f) → t < 2 ^ 32 → AreBalancedTo f t → In k (level_nodes (now_of f) f.root t) → Stands f t k
 stands f t k sound small balanced among =
     let s = In_split k (level_nodes (now_of f) f.root t) among in
     let complete = are_told f t small balanced in
@@ -131,10 +132,10 @@ pub record IsSameForest (f g : Grove Kept) : Type 0 where
   pub root : g.root ≡ f.root
 
 module _ (f g : Grove Kept) (h : IsSameForest f g) where
-  pub same_sound : IsSound f.root (changes_in f) (now_of f) → IsSound g.root (changes_in g) (now_of g)
+  pub same_sound : IsRooted f.root (changes_in f) (now_of f) → IsRooted g.root (changes_in g) (now_of g)
   same_sound sound =
-      subst (λ r. IsSound r (changes_in g) (now_of g)) (sym h.root)
-      (subst (λ (cs : List (Change Kept)). IsSound f.root cs (now_of g)) (sym h.changes) (subst (λ (m : Nodes Kept). IsSound f.root (changes_in f) m) (sym h.now) sound))
+      subst (λ r. IsRooted r (changes_in g) (now_of g)) (sym h.root)
+      (subst (λ (cs : List (Change Kept)). IsRooted f.root cs (now_of g)) (sym h.changes) (subst (λ (m : Nodes Kept). IsRooted f.root (changes_in f) m) (sym h.now) sound))
 
   pub same_nodes : (u : ℕ) → level_nodes (now_of g) g.root u ≡ level_nodes (now_of f) f.root u
   same_nodes u = ap (λ (m : Nodes Kept). level_nodes m g.root u) h.now ∙ ap (λ r. level_nodes (now_of f) r u) h.root
@@ -148,13 +149,13 @@ module _ (v : PassView) (t : ℕ) (h : IsPass v) (state : v.state ≡ Level t) w
   pub at : IsAtLevel (stage_of v) t
   at = subst (HoldsAt (stage_of v)) state h.holds
 
-  pub sound_now : IsSound v.forest.root (changes_in v.forest) (now v)
-  sound_now = AreSound-now v.forest.root (changes_in v.forest) (now v) h.stored.sound
+  pub sound_now : IsRooted v.forest.root (changes_in v.forest) (now_in v)
+  sound_now = AreSound-now v.forest.root (changes_in v.forest) (now_in v) h.stored.sound
 
   pub balanced_now : AreBalancedTo v.forest t
   balanced_now u l = at.tree.levels.balanced u (let c = level_count v.next v.limit t (meant_to v.next v.limit t) at.tree.spelled at.tree.is in omega (arith, c, l))
 
-  pub made_now : AllMade (now v) v.store
+  pub made_now : AllMade (now_in v) v.store
   made_now k a e = h.stored.made (AtNode k) a e
 
   -- a pending node, with those that are pending before and behind it
@@ -167,15 +168,15 @@ module _ (v : PassView) (t : ℕ) (h : IsPass v) (state : v.state ≡ Level t) w
   pub asked : (node : ℕ) → In node v.pending → IsAsked node
   asked node pending =
       let s = In_split node v.pending pending in
-      let on = some_in v.pending (level_nodes (now v) v.forest.root t) at.answers.in_order node pending in
-      let d = level_depth v.forest.root (changes_in v.forest) (now v) sound_now t node on in
+      let on = some_in v.pending (level_nodes (now_in v) v.forest.root t) at.answers.in_order node pending in
+      let d = level_depth v.forest.root (changes_in v.forest) (now_in v) sound_now t node on in
       record {
         n = d.0;
         front = s.0;
         back = s.1;
         next = record {
           sound = sound_now;
-          was_sound = AreSound-then v.forest.root (changes_in v.forest) (now v) h.stored.sound;
+          was_sound = AreSound-then v.forest.root (changes_in v.forest) (now_in v) h.stored.sound;
           at = at;
           is = d.1;
           whole = s.2;
@@ -191,13 +192,13 @@ module _ (v : PassView) (t : ℕ) (h : IsPass v) (state : v.state ≡ Level t) w
     stands_now k pending =
         stands g t k (same_sound v.forest g same sound_now) at.tree.small
         (λ u l. ap (λ (r : List Spotted). level_balanced 0 (level_by (λ tag. []) r)) (same_spots v.forest g same u) ∙ balanced_now u l)
-        (subst (In k) (sym (same_nodes v.forest g same t)) (some_in v.pending (level_nodes (now v) v.forest.root t) at.answers.in_order k pending))
+        (subst (In k) (sym (same_nodes v.forest g same t)) (some_in v.pending (level_nodes (now_in v) v.forest.root t) at.answers.in_order k pending))
 
     -- where a node is among those of its level
     place_index : (k : ℕ) → In k v.pending → place_of_node g k ≡ index_in k (level_nodes (now_of g) g.root t)
     place_index k pending = ap (λ u. index_in k (level_nodes (now_of g) g.root u)) (stands_now k pending).level_is
 
-    pub in_order : AreInOrder g v.pending
+    pub in_order : AreInOrderOnLevel g v.pending
     in_order = record {
       spots = λ k i. (stands_now k i).at_spot;
       level = λ j k i l. (stands_now j i).level_is ∙ sym (stands_now k l).level_is;
@@ -218,16 +219,16 @@ module _ (v : PassView) (t : ℕ) (h : IsPass v) (state : v.state ≡ Level t) w
         subst IsSome (sym (ap (λ (m : Nodes Kept). m node) same.now ∙ n.next.is)) refl
 
     -- its place, by the forest of now
-    pub there_now : (node : ℕ) → In node v.pending → slice_get (level_nodes (now v) v.forest.root t) (place_of_node g node) ≡ Some node
+    pub there_now : (node : ℕ) → In node v.pending → slice_get (level_nodes (now_in v) v.forest.root t) (place_of_node g node) ≡ Some node
     there_now node pending = ap (λ (l : List ℕ). slice_get l (place_of_node g node)) (sym (same_nodes v.forest g same t)) ∙ there_at g t node (stands_now node pending)
 
-    pub row_is : (node : ℕ) → In node v.pending → level_at (complete_levels g) t ≡ level_spots (now v) v.forest.root t
+    pub row_is : (node : ℕ) → In node v.pending → spots_at (complete_levels g) t ≡ level_spots (now_in v) v.forest.root t
     row_is node pending = (stands_now node pending).told ∙ same_spots v.forest g same t
 
     pub here_now : (node : ℕ) → In node v.pending → IsHere (stage_of v) t node (place_of_node g node)
     here_now node pending = let n = asked node pending in here (stage_of v) t node n.n n.front n.back n.next (place_of_node g node) (there_now node pending)
 
-    pub has_question : (node : ℕ) → In node v.pending → HasQuestion v.next t (level_at (complete_levels g) t) (place_of_node g node)
+    pub has_question : (node : ℕ) → In node v.pending → HasQuestion v.next t (spots_at (complete_levels g) t) (place_of_node g node)
     has_question node pending =
         let i = here_now node pending in
         record {
@@ -235,8 +236,8 @@ module _ (v : PassView) (t : ℕ) (h : IsPass v) (state : v.state ≡ Level t) w
           rules = i.rules;
         }
 
-    pub has_question_by : (sys : System) → sys ≡ v.next → (node : ℕ) → In node v.pending → HasQuestion sys t (level_at (complete_levels g) t) (place_of_node g node)
-    has_question_by sys e node pending = subst (λ (z : System). HasQuestion z t (level_at (complete_levels g) t) (place_of_node g node)) (sym e) (has_question node pending)
+    pub has_question_by : (sys : System) → sys ≡ v.next → (node : ℕ) → In node v.pending → HasQuestion sys t (spots_at (complete_levels g) t) (place_of_node g node)
+    has_question_by sys e node pending = subst (λ (z : System). HasQuestion z t (spots_at (complete_levels g) t) (place_of_node g node)) (sym e) (has_question node pending)
 
     pub made_if_any : (node : ℕ) (o : Option Kept) → o ≡ answer_at (now_of g) node → IsMadeIfAny v.store o
     made_if_any node None e = tt

@@ -3,6 +3,7 @@ use Rattle.std.proofs.Common.{◌≡◌, ◌<◌, ◌≤◌, ◌+◌, ◌^◌, �
 use Rattle.std.specs.Prelude.{option_map, slice_get}
 use Rattle.std.proofs.lemmas.Bool.{cases_lt}
 use Rattle.std.proofs.lemmas.Option.{same_Some}
+use Rattle.lsys_spec.specs.Rows.{In}
 use Rattle.lsys_spec.specs.Bodies.{Body, group}
 use Rattle.lsys_spec.specs.Levels.{ModuleValue}
 use Rattle.lsys_spec.specs.Equalities.{same_all, same_body}
@@ -12,7 +13,7 @@ use Rattle.lsys_change.specs.Nodes.{Kin}
 use Rattle.lsys_change.specs.Groups.{has_same_rules}
 use Rattle.lsys_match.specs.Kept.{Kept}
 use Rattle.lsys_forest.specs.Nodes.{Node}
-use Rattle.lsys_forest.specs.Groves.{In, IsLive, IsSound, changes_in}
+use Rattle.lsys_forest.specs.Groves.{IsLive, IsRooted, changes_in}
 use Rattle.lsys_forest.specs.Rows.{complete_levels, level_nodes, place_of_node}
 use Rattle.lsys_forest.proofs.RowLemmas.{In_append, In_left, In_right, level_depth}
 use Rattle.lsys_forest.proofs.SoundLemmas.{AreSound-now, AreSound-then}
@@ -41,7 +42,7 @@ use Rattle.lsys_pass.specs.Stages.{Rests}
 use Rattle.lsys_pass.specs.Passes.{PassView, stage_of, repair_of, IsPass}
 use Rattle.lsys_pass.specs.Passes as P
 use Rattle.lsys_pass.specs.Fresh.{row_of, HasFound}
-use Rattle.lsys_pass.specs.Others.{rules_of, IsOthers}
+use Rattle.lsys_pass.specs.Others.{rules_on_level, IsOthers}
 use Rattle.lsys_pass.proofs.Backing.{rests_at}
 use Rattle.lsys_pass.proofs.Before.{answer_lives, placed, is_below}
 
@@ -49,12 +50,12 @@ use Rattle.lsys_pass.proofs.Before.{answer_lives, placed, is_below}
 
 -- all nodes of a level of a pass live
 pub row_lives : (v : PassView) (t : ℕ) → IsPass v → (k : ℕ) → In k (row_of v t) → IsLive v.forest k
-row_lives v t h k i = live_at v.forest t k (AreSound-now v.forest.root (changes_in v.forest) (P.now v) h.stored.sound) i
+row_lives v t h k i = live_at v.forest t k (AreSound-now v.forest.root (changes_in v.forest) (P.now_in v) h.stored.sound) i
 
 pub others_all : (v : PassView) (t : ℕ) (others : List ℕ) → v.system.depth ≤ t → others ≡ row_of v t → IsOthers v t others
 others_all v t others l e = record { all = λ m. e; unlike = λ m. absurd (omega (arith, l, m)) }
 
-pub others_none : (v : PassView) (t : ℕ) (rules : RulesOf) (others : List ℕ) → t < v.system.depth → rules ≡ rules_of v t → AreAllAlike rules → others ≡ [] → IsOthers v t others
+pub others_none : (v : PassView) (t : ℕ) (rules : RulesOf) (others : List ℕ) → t < v.system.depth → rules ≡ rules_on_level v t → AreAllAlike rules → others ≡ [] → IsOthers v t others
 others_none v t rules others l same alike e = record {
   all = λ m. absurd (omega (arith, l, m));
   unlike = λ m k. (
@@ -63,13 +64,13 @@ others_none v t rules others l same alike e = record {
   );
 }
 
-pub others_some : (v : PassView) (t : ℕ) (rules : RulesOf) (nodes old new others : List ℕ) → t < v.system.depth → rules ≡ rules_of v t → nodes ≡ row_of v t → old ≡ [] → others ≡ new
-    → AddsOf (IsOtherwise rules (P.now v)) nodes old new → IsOthers v t others
+pub others_some : (v : PassView) (t : ℕ) (rules : RulesOf) (nodes old new others : List ℕ) → t < v.system.depth → rules ≡ rules_on_level v t → nodes ≡ row_of v t → old ≡ [] → others ≡ new
+    → AddsOf (IsOtherwise rules (P.now_in v)) nodes old new → IsOthers v t others
 others_some v t rules nodes old new others l same row none is a = record {
   all = λ m. absurd (omega (arith, l, m));
   unlike = λ m k. (
-    λ i. (let u = (a.are k).0 (subst (In k) whole i) in (subst (In k) row u.0, subst (λ (r : RulesOf). IsOtherwise r (P.now v) k) same u.1)),
-    λ u. subst (In k) (sym whole) ((a.are k).1 (subst (In k) (sym row) u.0, subst (λ (r : RulesOf). IsOtherwise r (P.now v) k) (sym same) u.1)),
+    λ i. (let u = (a.are k).0 (subst (In k) whole i) in (subst (In k) row u.0, subst (λ (r : RulesOf). IsOtherwise r (P.now_in v) k) same u.1)),
+    λ u. subst (In k) (sym whole) ((a.are k).1 (subst (In k) (sym row) u.0, subst (λ (r : RulesOf). IsOtherwise r (P.now_in v) k) (sym same) u.1)),
   );
 }
   where
@@ -88,29 +89,29 @@ module _ (v : PassView) (t : ℕ) (h : IsPass v) (beside readers : List ℕ) (f 
   rests : Rests (stage_of v)
   rests = rests_at (stage_of v) v.state h.holds
 
-  pub sound_now : IsSound v.forest.root (changes_in v.forest) (P.now v)
-  sound_now = AreSound-now v.forest.root (changes_in v.forest) (P.now v) h.stored.sound
+  pub sound_now : IsRooted v.forest.root (changes_in v.forest) (P.now_in v)
+  sound_now = AreSound-now v.forest.root (changes_in v.forest) (P.now_in v) h.stored.sound
 
-  pub sound_was : IsSound v.forest.root [] (P.was v)
-  sound_was = AreSound-then v.forest.root (changes_in v.forest) (P.now v) h.stored.sound
+  pub sound_was : IsRooted v.forest.root [] (P.rest_in v)
+  sound_was = AreSound-then v.forest.root (changes_in v.forest) (P.now_in v) h.stored.sound
 
   pub is_complete : t < 2 ^ 32 → t < length (complete_levels v.forest)
   is_complete small = complete_now (repair_of v t) f.made.spots small
 
   pub row_seats : (k : ℕ) → In k (row_of v t) → HasSeat v.seats k
-  row_seats k i = let d = level_depth v.forest.root (changes_in v.forest) (P.now v) sound_now t k i in f.made.room k d.0 d.1
+  row_seats k i = let d = level_depth v.forest.root (changes_in v.forest) (P.now_in v) sound_now t k i in f.made.room k d.0 d.1
 
   pub answers_right : AreAnswersRight (repair_of v t)
   answers_right = record {
     sound = h.stored.sound;
     kept = λ k a e. (
-        let n = answer_lives (P.was v) k a e in
-        let p = placed v.system v.limit (P.was v) v.forest.root v.store v.reads v.seats rests k n.0 a n.1 e in
+        let n = answer_lives (P.rest_in v) k a e in
+        let p = placed v.system v.limit (P.rest_in v) v.forest.root v.store v.reads v.seats rests k n.0 a n.1 e in
         record {
           level = p.level;
           place = p.place;
           there = p.there;
-          answered = rests.answered p.level p.place k (is_below v.system v.limit (P.was v) v.forest.root v.store v.reads v.seats rests p.level k a p.on e) p.there;
+          answered = rests.answered p.level p.place k (is_below v.system v.limit (P.rest_in v) v.forest.root v.store v.reads v.seats rests p.level k a p.on e) p.there;
         }
         );
   }
@@ -120,17 +121,17 @@ module _ (v : PassView) (t : ℕ) (h : IsPass v) (beside readers : List ℕ) (f 
     pub on : In k (were (repair_of v t))
     pub below : t < v.system.depth
 
-  pub answer_was_on : (k : ℕ) (a : Kept) → In k (row_of v t) → answer_at (P.was v) k ≡ Some a → WasOn k
+  pub answer_was_on : (k : ℕ) (a : Kept) → In k (row_of v t) → answer_at (P.rest_in v) k ≡ Some a → WasOn k
   answer_was_on k a i e =
-      let n = answer_lives (P.was v) k a e in
-      let d = level_depth v.forest.root (changes_in v.forest) (P.now v) sound_now t k i in
+      let n = answer_lives (P.rest_in v) k a e in
+      let d = level_depth v.forest.root (changes_in v.forest) (P.now_in v) sound_now t k i in
       let deep : n.0.depth ≡ d.0.depth = ap (λ (z : Kin). z.depth) (same_Some (kin_of n.0) (kin_of d.0) (sym (f.made.spots.stay k (kin_of n.0) (ap (option_map (λ (y : Node Kept). kin_of y)) n.1)) ∙ ap (option_map (λ (y : Node Kept). kin_of y)) d.1)) in
-      let on : In k (were (repair_of v t)) = on_level v.forest.root (P.was v) sound_was t k n.0 n.1 (deep ∙ d.2) in
-      record { on = on; below = is_below v.system v.limit (P.was v) v.forest.root v.store v.reads v.seats rests t k a on e }
+      let on : In k (were (repair_of v t)) = on_level v.forest.root (P.rest_in v) sound_was t k n.0 n.1 (deep ∙ d.2) in
+      record { on = on; below = is_below v.system v.limit (P.rest_in v) v.forest.root v.store v.reads v.seats rests t k a on e }
 
   -- those beside a node that changed
   around_row : (j k : ℕ) → In j (row_of v t) → In k (level_around v.forest j) → In k (row_of v t)
-  around_row j k i around = subst (λ u. In k (level_nodes (P.now v) v.forest.root u)) (at_level v.forest t j sound_now i) around
+  around_row j k i around = subst (λ u. In k (level_nodes (P.now_in v) v.forest.root u)) (at_level v.forest t j sound_now i) around
 
   beside_row : (k : ℕ) → IsBeside v.forest v.front.changes.changed k → In k (row_of v t)
   beside_row k b =
@@ -185,8 +186,8 @@ module _ (v : PassView) (t : ℕ) (h : IsPass v) (beside readers : List ℕ) (f 
 
     -- where there were questions, it is known who may be a candidate
     module _ (below : t < v.system.depth) where
-      same_test : (k : ℕ) (m : ModuleValue) → has_same_rules v.system v.next t (names (P.now v) k) m ≡ are_alike v.system v.next t m.name (length m.params)
-      same_test k m = alike_is v.system v.next t (names (P.now v) k) m f.made.spots.old_spelled.small_seed f.made.spots.new_spelled.small_seed
+      same_test : (k : ℕ) (m : ModuleValue) → has_same_rules v.system v.next t (names (P.now_in v) k) m ≡ are_alike v.system v.next t m.name (length m.params)
+      same_test k m = alike_is v.system v.next t (names (P.now_in v) k) m f.made.spots.old_spelled.small_seed f.made.spots.new_spelled.small_seed
 
       pub stepping_nodes : SteppingNodes (repair_of v t) v.seats v.reads v.front.changes others
       stepping_nodes = record {
@@ -206,13 +207,13 @@ module _ (v : PassView) (t : ℕ) (h : IsPass v) (beside readers : List ℕ) (f 
       }
 
     -- a node of the level that keeps an answer without a question changed, or has other rules
-    pub must_lose : (k : ℕ) (a : Kept) → In k (row_of v t) → (AsksOn v.next t (P.now v) k → ⊥) → answer_at (P.now v) k ≡ Some a → In k (v.front.changes.changed ++ others)
+    pub must_lose : (k : ℕ) (a : Kept) → In k (row_of v t) → (AsksOn v.next t (P.now_in v) k → ⊥) → answer_at (P.now_in v) k ≡ Some a → In k (v.front.changes.changed ++ others)
     must_lose k a i none e = elim (is_in k (v.front.changes.changed ++ others)) [
       | inl there ↦ there
       | inr out ↦ absurd (out (In_left k v.front.changes.changed others ((f.front.differs.changed k).1 (i, w.on, λ same. out (In_right k v.front.changes.changed others ((o.unlike w.below k).1 (i, other same)))))))
     ]
       where
-        was : answer_at (P.was v) k ≡ Some a
+        was : answer_at (P.rest_in v) k ≡ Some a
         was = sym (f.made.answers k i) ∙ e
 
         w : WasOn k
@@ -221,10 +222,10 @@ module _ (v : PassView) (t : ℕ) (h : IsPass v) (beside readers : List ℕ) (f 
         p : (p : ℕ) × (slice_get (were (repair_of v t)) p ≡ Some k)
         p = place_in k (were (repair_of v t)) w.on
 
-        q : (m : ModuleValue) × (seen_at (P.was v) k ≡ Module m) × (group v.system t m.name (length m.params) ≡ [] → ⊥)
+        q : (m : ModuleValue) × (seen_at (P.rest_in v) k ≡ Module m) × (group v.system t m.name (length m.params) ≡ [] → ⊥)
         q = has_asked (repair_of v t) f.made.spots w.below p.0 k a p.1 was
 
-        other : seen_at (P.now v) k ≡ seen_at (P.was v) k → IsOtherwise (rules_of v t) (P.now v) k
+        other : seen_at (P.now_in v) k ≡ seen_at (P.rest_in v) k → IsOtherwise (rules_on_level v t) (P.now_in v) k
         other same = record {
           own = q.0;
           is = same ∙ q.1;

@@ -7,10 +7,10 @@ use Rattle.lsys_walks.specs.Stores.{Store}
 use Rattle.lsys_match.specs.Kept.{Kept}
 use Rattle.lsys_reads.specs.Relations.{Relations, SettledStay}
 use Rattle.lsys_forest.specs.Changes.{undone}
-use Rattle.lsys_forest.specs.Answers.{answers, kept_by, AreMade, FreesAllBut}
+use Rattle.lsys_forest.specs.Answers.{answers, kept_by, LiveApart, FreesAllBut}
 use Rattle.lsys_forest.specs.Groves.{Grove, now_of, rest_of, changes_in, live_nodes, kept_in}
 use Rattle.lsys_kept.specs.Names.{RunName, run_in, holds}
-use Rattle.lsys_kept.specs.Meant.{meant}
+use Rattle.lsys_kept.specs.Meant.{levels_meant}
 use Rattle.lsys_kept.specs.declared.seat.Seat.{Seat}
 use Rattle.lsys_kept.specs.Seats.{is_marked, HasSeat}
 use Rattle.lsys_pass.specs.declared.work.Work.{Work}
@@ -20,7 +20,7 @@ use Rattle.lsys_pass.specs.declared.state.PassState.{PassState}
 use Rattle.lsys_pass.specs.declared.state.PassState.TheVariants.{Rest, Level, Done, Failed}
 use Rattle.lsys_pass.specs.Rests.{IsResting}
 use Rattle.lsys_pass.specs.Stages.{Stage, IsStored, Rests}
-use Rattle.lsys_pass.specs.Passes.{PassView, stage_of, now, was, HoldsAt, AllHaveSeats, IsPass}
+use Rattle.lsys_pass.specs.Passes.{PassView, stage_of, now_in, rest_in, HoldsAt, AllHaveSeats, IsPass}
 use Rattle.lsys_pass.specs.Sizes.{HaveSizes}
 use Rattle.lsys_pass.proofs.Stores.{AllStay, rest_stays}
 use Rattle.lsys_pass.proofs.Sized.{none_sized}
@@ -34,8 +34,8 @@ rests_at s Done h = h.rest
 rests_at s Failed h = h
 
 -- the forest's answers were made with the store
-pub held : (v : PassView) → IsPass v → AreMade run_in holds v.store (kept_in v.forest)
-held v h = are_made (now v) (changes_in v.forest) v.forest.root v.store h.stored
+pub held : (v : PassView) → IsPass v → LiveApart run_in holds v.store (kept_in v.forest)
+held v h = are_made (now_in v) (changes_in v.forest) v.forest.root v.store h.stored
 
 -- at rest, with these parts
 abbrev pub resting : Grove Kept → Store → Relations → List Seat → Sizes → System → ℕ → Work → ℕ → PassView
@@ -66,7 +66,7 @@ abbrev pub AreUnmarked : List Seat → Type 0
 AreUnmarked seats = (k : ℕ) → is_marked seats k ≡ false
 
 pub is_resting : (f : Grove Kept) (st : Store) (reads : Relations) (seats : List Seat) (z : Sizes) (system : System) (limit : ℕ) (w : Work) (answers : ℕ)
-    → IsStored (now_of f) (changes_in f) f.root st → live_nodes f < 2 ^ 32 → AreUnmarked seats → answers ≡ length (questions system (meant system limit))
+    → IsStored (now_of f) (changes_in f) f.root st → live_nodes f < 2 ^ 32 → AreUnmarked seats → answers ≡ length (questions system (levels_meant system limit))
     → IsResting system limit (rest_of f) f.root st reads seats → changes_in f ≡ [] → reads.pending ≡ [] → IsCleared w
     → HaveSizes (rest_of f) f.root z.rest.items → z.made.items ≡ [] → AllHaveSeats (rest_of f) seats → IsPass (resting f st reads seats z system limit w answers)
 is_resting f st reads seats z system limit w answers stored few unmarked counted rest still quiet clear sized none room = record {
@@ -106,32 +106,32 @@ none_next f st rd seats z nx sys limit state w answers e r h =
 
 pub back_pass : (v : PassView) (f : Grove Kept) (st : Store) (reads : Relations) (z : Sizes) (w : Work) → IsPass v
     → now_of f ≡ rest_of v.forest → changes_in f ≡ [] → f.root ≡ v.forest.root → live_nodes f ≤ live_nodes v.forest
-    → FreesAllBut run_in holds (kept_in v.forest) (kept_by (rest_of v.forest)) v.store st → AreMade run_in holds st (kept_in f)
+    → FreesAllBut run_in holds (kept_in v.forest) (kept_by (rest_of v.forest)) v.store st → LiveApart run_in holds st (kept_in f)
     → SettledStay v.reads reads → reads.pending ≡ [] → IsCleared w → z.rest.items ≡ v.sizes → z.made.items ≡ [] → IsPass (resting f st reads v.seats z v.system v.limit w v.answers)
 back_pass v f st reads z w h is still root live frees are settled quiet clear same none =
     is_resting f st reads v.seats z v.system v.limit w v.answers stored (let b = h.few in omega (arith, live, b)) h.unmarked h.counted rests still quiet clear
     (subst (HaveSizes (rest_of f) f.root) (sym same) (subst (λ k. HaveSizes (rest_of f) k v.sizes) (sym root) (subst (λ m. HaveSizes m v.forest.root v.sizes) (sym rest_is) h.sized))) none
     (subst (λ m. AllHaveSeats m v.seats) (sym rest_is) h.room)
   where
-    rest : IsResting v.system v.limit (was v) v.forest.root v.store v.reads v.seats
+    rest : IsResting v.system v.limit (rest_in v) v.forest.root v.store v.reads v.seats
     rest = rests_at (stage_of v) v.state h.holds
 
-    stays : AllStay (was v) v.store st
-    stays = stay_kept (was v) (kept_in v.forest) v.store st rest.made frees
+    stays : AllStay (rest_in v) v.store st
+    stays = stay_kept (rest_in v) (kept_in v.forest) v.store st rest.made frees
 
-    made : AreMade run_in holds st (answers (was v) [])
-    made = subst (λ m. AreMade run_in holds st (answers m [])) is (subst (λ cs. AreMade run_in holds st (answers (now_of f) cs)) still are)
+    made : LiveApart run_in holds st (answers (rest_in v) [])
+    made = subst (λ m. LiveApart run_in holds st (answers m [])) is (subst (λ cs. LiveApart run_in holds st (answers (now_of f) cs)) still are)
 
-    was_stored : IsStored (was v) [] v.forest.root st
-    was_stored = stored_rest (now v) (changes_in v.forest) v.forest.root v.store st h.stored rest.made stays made frees
+    was_stored : IsStored (rest_in v) [] v.forest.root st
+    was_stored = stored_rest (now_in v) (changes_in v.forest) v.forest.root v.store st h.stored rest.made stays made frees
 
     stored : IsStored (now_of f) (changes_in f) f.root st
     stored = subst (λ k. IsStored (now_of f) (changes_in f) k st) (sym root) (subst (λ cs. IsStored (now_of f) cs v.forest.root st) (sym still) (subst (λ m. IsStored m [] v.forest.root st) (sym is) was_stored))
 
-    was_rests : IsResting v.system v.limit (was v) v.forest.root st reads v.seats
-    was_rests = rest_stays v.system v.limit (was v) v.forest.root v.store st v.reads reads v.seats stays settled rest
+    was_rests : IsResting v.system v.limit (rest_in v) v.forest.root st reads v.seats
+    was_rests = rest_stays v.system v.limit (rest_in v) v.forest.root v.store st v.reads reads v.seats stays settled rest
 
-    rest_is : rest_of f ≡ was v
+    rest_is : rest_of f ≡ rest_in v
     rest_is = ap (λ cs. undone cs (now_of f)) still ∙ is
 
     rests : IsResting v.system v.limit (rest_of f) f.root st reads v.seats
@@ -143,7 +143,7 @@ pub new_pass : (f : Grove Kept) (st : Store) (reads : Relations) (seats : List S
 new_pass f st reads seats z system limit w alone bare still live opens none quiet unmarked seated clear sizes made =
     is_resting f st reads seats z system limit w 0
     (subst (λ cs. IsStored (now_of f) cs f.root st) (sym still) (alone_stored (now_of f) f.root st alone bare)) (omega (arith, live)) unmarked
-    (sym (ap (λ s. length (questions s (meant s limit))) opens ∙ ap length (opening_questions limit)))
+    (sym (ap (λ s. length (questions s (levels_meant s limit))) opens ∙ ap length (opening_questions limit)))
     (subst (λ s. IsResting s limit (rest_of f) f.root st reads seats) (sym opens)
     (subst (λ m. IsResting opening limit m f.root st reads seats) (sym (ap (λ cs. undone cs (now_of f)) still)) (alone_rests (now_of f) f.root limit st reads seats alone none)))
     still quiet clear

@@ -4,9 +4,10 @@ use Rattle.std.specs.Prelude.{◌-◌, not, option_map}
 use Rattle.std.specs.Option.{option_and_then}
 use Rattle.std.proofs.lemmas.Bool.{cases_lt}
 use Rattle.std.proofs.lemmas.Option.{none-some, same_Some, slice_get-map, get_or_from_slice_get}
+use Rattle.lsys_spec.specs.Rows.{In, flat}
 use Rattle.lsys_spec.specs.Systems.{System, Each, WellSpelled}
 use Rattle.lsys_spec.specs.Bodies.{Body, group}
-use Rattle.lsys_spec.specs.Levels.{ModuleValue, Symbol, Module, lineage}
+use Rattle.lsys_spec.specs.Levels.{ModuleValue, LevelSymbol, Module, lineage}
 use Rattle.lsys_spec.specs.Cuts.{Distinct}
 use Rattle.lsys_spec.specs.Meaning.{meaning}
 use Rattle.lsys_spec.specs.Questions.{Question, questions, question_at, differs, is_needed}
@@ -25,12 +26,12 @@ use Rattle.lsys_level.specs.Spots.{Seen, Spotted}
 use Rattle.lsys_level.specs.Spots as S
 use Rattle.lsys_forest.specs.Nodes.{Node, Nodes}
 use Rattle.lsys_forest.specs.Answers.{answer_of}
-use Rattle.lsys_forest.specs.Groves.{In, ReachedIn}
-use Rattle.lsys_forest.specs.Rows.{flat, kids_in, kids_below, spot_in, level_nodes, level_spots}
+use Rattle.lsys_forest.specs.Groves.{ReachedIn}
+use Rattle.lsys_forest.specs.Rows.{kids_in, kids_below, spot_in, level_nodes, level_spots}
 use Rattle.lsys_forest.proofs.RowLemmas.{In_left, In_right}
 use Rattle.lsys_forest.proofs.WalkLemmas.{In_at}
-use Rattle.lsys_kept.specs.Levels.{IsKeptFor, IsRight, IsAnswered, answer_at}
-use Rattle.lsys_kept.specs.Meant.{meant}
+use Rattle.lsys_kept.specs.Levels.{IsKeptFor, IsRight, IsAnsweredRight, answer_at}
+use Rattle.lsys_kept.specs.Meant.{levels_meant}
 use Rattle.lsys_kept.specs.declared.seat.Seat.{Seat}
 use Rattle.lsys_reads.specs.Relations.{Relations}
 use Rattle.lsys_pass.specs.Rests.{IsResting}
@@ -42,7 +43,7 @@ grouped : (bs : List Body) (q : Question) → (bs ≡ [] → ⊥) → where_grou
 grouped [] q h = absurd (h refl)
 grouped (b ∷ bs) q h = refl
 
-by_place : (s : System) (t : ℕ) (x : List Symbol) (p : ℕ) (rest : List Symbol) (i : ℕ) (a : Symbol) → slice_get rest i ≡ Some a → get_or (questions_by_place s t x p rest) i None ≡ question_here s t x (p + i) a
+by_place : (s : System) (t : ℕ) (x : List LevelSymbol) (p : ℕ) (rest : List LevelSymbol) (i : ℕ) (a : LevelSymbol) → slice_get rest i ≡ Some a → get_or (questions_by_place s t x p rest) i None ≡ question_here s t x (p + i) a
 by_place s t x p [] i a h = absurd (none-some a h)
 by_place s t x p (b ∷ rest) zero a h =
     let e : b ≡ a = cc in
@@ -52,13 +53,13 @@ by_place s t x p (b ∷ rest) (suc i) a h =
     let f : (p + 1) + i ≡ p + suc i = omega arith in
     by_place s t x (p + 1) rest i a h ∙ ap (λ q. question_here s t x q a) f
 
-kept_level : (s : System) (n t : ℕ) (xs : List (List Symbol)) (i : ℕ) → n + i ≡ t → i + 1 < length xs → kept_from s n xs i ≡ level_questions s t (get_or xs i [])
+kept_level : (s : System) (n t : ℕ) (xs : List (List LevelSymbol)) (i : ℕ) → n + i ≡ t → i + 1 < length xs → kept_from s n xs i ≡ level_questions s t (get_or xs i [])
 kept_level s n t [] i e h = absurd (omega (arith, h))
 kept_level s n t (x ∷ []) i e h = absurd (omega (arith, h))
 kept_level s n t (x ∷ y ∷ xs) zero e h = let f : n ≡ t = omega (arith, e) in ap (λ u. level_questions s u x) f
 kept_level s n t (x ∷ y ∷ xs) (suc i) e h = kept_level s (n + 1) t (y ∷ xs) i (omega (arith, e)) (omega (arith, h))
 
-distinct_all : (xs : List (List Symbol)) → ((t : ℕ) (x : List Symbol) → slice_get xs t ≡ Some x → Distinct x) → Each Distinct xs
+distinct_all : (xs : List (List LevelSymbol)) → ((t : ℕ) (x : List LevelSymbol) → slice_get xs t ≡ Some x → Distinct x) → Each Distinct xs
 distinct_all [] h = tt
 distinct_all (x ∷ xs) h = (h 0 x refl, distinct_all xs (λ t y e. h (suc t) y e))
 
@@ -66,12 +67,12 @@ pub zero_plus : (p : ℕ) → 0 + p ≡ p
 zero_plus p = omega arith
 
 -- a level below the last one has the questions of its modules
-pub asked_there : (s : System) (limit : ℕ) (xs : List (List Symbol)) → WellSpelled s → meaning s limit ≡ Ok xs → (t : ℕ) (x : List Symbol) → slice_get xs t ≡ Some x → t < s.depth
+pub asked_there : (s : System) (limit : ℕ) (xs : List (List LevelSymbol)) → WellSpelled s → meaning s limit ≡ Ok xs → (t : ℕ) (x : List LevelSymbol) → slice_get xs t ≡ Some x → t < s.depth
     → (p : ℕ) (l : List ℕ) (m : ModuleValue) → slice_get x p ≡ Some (Module l m) → (group s t m.name (length m.params) ≡ [] → ⊥) → question_at t l (questions s xs) ≡ Some (module_question s t x p l m)
 asked_there s limit xs w e t x there below p l m stands rules =
     kept_there s 0 t xs t l (omega arith) (distinct_all xs (λ u y h. (grown_to s limit s.depth xs w e u y h).distinct))
     ∙ ap (λ (os : List (Option Question)). kept_at os (place_of l (get_or xs t []))) (kept_level s 0 t xs t (omega arith) (let c = level_count s limit s.depth xs w e in omega (arith, c, below)))
-    ∙ ap (λ (y : List Symbol). kept_at (level_questions s t y) (place_of l y)) (get_or_from_slice_get xs t x [] there)
+    ∙ ap (λ (y : List LevelSymbol). kept_at (level_questions s t y) (place_of l y)) (get_or_from_slice_get xs t x [] there)
     ∙ ap (kept_at (level_questions s t x)) (place_is x p (Module l m) (grown_to s limit s.depth xs w e t x there).level stands)
     ∙ by_place s t x 0 x p (Module l m) stands
     ∙ ap (λ q. question_here s t x q (Module l m)) (zero_plus p)
@@ -130,8 +131,8 @@ kept_rules (b ∷ bs) right o a e h =
     (λ f. cc, subst right same h.2)
 
 module _ (s : System) (limit : ℕ) (m : Nodes Kept) (root : ℕ) (store : Store) (reads : Relations) (seats : List Seat) (r : IsResting s limit m root store reads seats) where
-  pub count_is : length (meant s limit) ≡ s.depth + 1
-  count_is = level_count s limit s.depth (meant s limit) r.spelled r.is
+  pub count_is : length (levels_meant s limit) ≡ s.depth + 1
+  count_is = level_count s limit s.depth (levels_meant s limit) r.spelled r.is
 
   -- none is kept past the levels that have questions
   pub is_below : (t k : ℕ) (a : Kept) → In k (level_nodes m root t) → answer_at m k ≡ Some a → t < s.depth
@@ -139,8 +140,8 @@ module _ (s : System) (limit : ℕ) (m : Nodes Kept) (root : ℕ) (store : Store
     | inl l ↦ l
     | inr ge ↦ elim (cases_lt s.depth t) [
       | inl far ↦
-          let past = no_more m root (length (meant s limit)) (t - length (meant s limit)) r.ends in
-          let same : length (meant s limit) + (t - length (meant s limit)) ≡ t = (let c = count_is in omega (arith, c, far)) in
+          let past = no_more m root (length (levels_meant s limit)) (t - length (levels_meant s limit)) r.ends in
+          let same : length (levels_meant s limit) + (t - length (levels_meant s limit)) ≡ t = (let c = count_is in omega (arith, c, far)) in
           absurd (subst (In k) (sym (ap (level_nodes m root) same) ∙ past) on)
       | inr near ↦
           let same : t ≡ s.depth = omega (arith, ge, near) in
@@ -158,11 +159,11 @@ module _ (s : System) (limit : ℕ) (m : Nodes Kept) (root : ℕ) (store : Store
       spot : slice_get (level_spots m root t) p ≡ Some (record { seen = n.seen; tag = k; key = n.key })
       spot = spot_at m root t p k n there is
 
-      by : (x : Seen) → n.seen ≡ x → IsAnswered s t (level_spots m root t) store p k n.seen (answer_at m k) → WasAnswered s t m root store k a
-      by S.Push f h = absurd (none-some a (sym (subst (λ y. IsAnswered s t (level_spots m root t) store p k y (answer_at m k)) f h) ∙ e))
-      by S.Pop f h = absurd (none-some a (sym (subst (λ y. IsAnswered s t (level_spots m root t) store p k y (answer_at m k)) f h) ∙ e))
+      by : (x : Seen) → n.seen ≡ x → IsAnsweredRight s t (level_spots m root t) store p k n.seen (answer_at m k) → WasAnswered s t m root store k a
+      by S.Push f h = absurd (none-some a (sym (subst (λ y. IsAnsweredRight s t (level_spots m root t) store p k y (answer_at m k)) f h) ∙ e))
+      by S.Pop f h = absurd (none-some a (sym (subst (λ y. IsAnsweredRight s t (level_spots m root t) store p k y (answer_at m k)) f h) ∙ e))
       by (S.Module v) f h =
-          let kept = kept_rules (group s t v.name (length v.params)) (IsRight s t (level_spots m root t) store p k v) (answer_at m k) a e (subst (λ y. IsAnswered s t (level_spots m root t) store p k y (answer_at m k)) f h) in
+          let kept = kept_rules (group s t v.name (length v.params)) (IsRight s t (level_spots m root t) store p k v) (answer_at m k) a e (subst (λ y. IsAnsweredRight s t (level_spots m root t) store p k y (answer_at m k)) f h) in
           record {
             place = p;
             there = there;

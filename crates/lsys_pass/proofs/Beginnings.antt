@@ -2,6 +2,7 @@
 use Rattle.std.proofs.Common.{◌≡◌, ◌+◌, ◌<◌, ◌≤◌, ◌^◌, ◌++◌, ◌∷◌, [], ℕ, ℤ, List, Option, Some, Ok, map, length, refl, sym, ap, ◌∙◌, subst, inl, inr, arith}
 use Rattle.std.specs.Prelude.{IsSome}
 use Rattle.std.proofs.lemmas.List.{length-map}
+use Rattle.lsys_spec.specs.Rows.{In, AreApart}
 use Rattle.lsys_syntax.specs.Commands.{Numbering}
 use Rattle.lsys_syntax.specs.Strings as S
 use Rattle.lsys_spec.specs.Systems.{System, WellSpelled}
@@ -11,9 +12,9 @@ use Rattle.lsys_change.specs.Nodes.{AreOnce}
 use Rattle.lsys_match.specs.Kept.{Kept}
 use Rattle.lsys_forest.specs.Nodes.{Nodes}
 use Rattle.lsys_forest.specs.Changes.{Change, undone}
-use Rattle.lsys_forest.specs.Answers.{Keeper, IsHeld}
+use Rattle.lsys_forest.specs.Answers.{AnswerKeeper, IsHeld}
 use Rattle.lsys_kept.specs.Names.{run_in, holds}
-use Rattle.lsys_forest.specs.Groves.{Grove, In, AreApart, AreSound, IsSound, IsLive, now_of, rest_of, changes_in, live_nodes, kept_in}
+use Rattle.lsys_forest.specs.Groves.{Grove, AreSound, IsRooted, IsLive, now_of, rest_of, changes_in, live_nodes, kept_in}
 use Rattle.lsys_forest.specs.Rows.{kids_in, level_nodes}
 use Rattle.lsys_forest.proofs.SoundLemmas.{AreSound-now}
 use Rattle.lsys_kept.specs.Lineages.{kins}
@@ -24,7 +25,7 @@ use Rattle.lsys_kept.specs.Seats.{HasSeat, SameSeats, SameMarks, KeepsSeats}
 use Rattle.lsys_candidates.specs.Repairs.{SteppingSpots}
 use Rattle.lsys_brood.specs.Matches.{nodes_without}
 use Rattle.lsys_brood.specs.declared.need.Need.{Need}
-use Rattle.lsys_brood.specs.Children.{Told, HasRoomFor, SpendsNeed}
+use Rattle.lsys_brood.specs.Children.{ToldNodes, HasRoomFor, SpendsNeed}
 use Rattle.lsys_repair.specs.Nexts.{Successors, HasWanted, node_symbol, wanted_count}
 use Rattle.lsys_repair.specs.Renewals.{AreSmall, AreAllUnder, AreRenewals, KeepsDeeper}
 use Rattle.lsys_repair.proofs.Finishing.{answers_stay}
@@ -37,9 +38,9 @@ use Rattle.lsys_pass.specs.declared.sizes.Size.{Size}
 use Rattle.lsys_pass.specs.declared.state.PassState.TheVariants.{Rest, Failed}
 use Rattle.lsys_pass.specs.Rests.{IsResting}
 use Rattle.lsys_pass.specs.Advances.{KeepsRest}
-use Rattle.lsys_pass.specs.Passes.{PassView, stage_of, now, HoldsAt, IsStill, repair_of, IsPass}
+use Rattle.lsys_pass.specs.Passes.{PassView, stage_of, now_in, HoldsAt, IsStill, repair_of, IsPass}
 use Rattle.lsys_pass.specs.Passes as P
-use Rattle.lsys_pass.specs.Fresh.{Goes, HasListsBefore, IsMadeTo, IsFresh, Origin, at_first}
+use Rattle.lsys_pass.specs.Fresh.{Goes, HasListsBefore, IsMadeTo, WasJustMade, Origin, at_first}
 use Rattle.lsys_pass.specs.Beginnings.{MakesFirst, WasStill}
 use Rattle.lsys_pass.proofs.Failing.{still_failed}
 use Rattle.lsys_pass.proofs.Making.{first_is, first_have, first_deeper}
@@ -55,7 +56,7 @@ pub record Source : Type 0 where
   pub root : ℕ
 
 -- room for what they take, as other nodes tell it that are the same
-pub room_same : (g : Numbering) (zs : List (S.Symbol ℤ)) (m m' : Nodes Kept) (root root' : ℕ) (f : Grove Kept) (told : Told) (need : Need) → m' ≡ m → root' ≡ root → need ≡ need_for g m (kids_in (m root)) zs
+pub room_same : (g : Numbering) (zs : List (S.Symbol ℤ)) (m m' : Nodes Kept) (root root' : ℕ) (f : Grove Kept) (told : ToldNodes) (need : Need) → m' ≡ m → root' ≡ root → need ≡ need_for g m (kids_in (m root)) zs
     → HasRoomFor f told need → HasRoomFor f told (need_for g m' (kids_in (m' root')) zs)
 room_same g zs m m' root root' f told need same top is h =
     subst (λ (n : Need). HasRoomFor f told n) (is ∙ (λ i. need_for g (sym same i) (kids_in (sym same i (sym top i))) zs)) h
@@ -69,7 +70,7 @@ few_live g zs m m' root root' old new need same top is h few =
     omega (arith, nodes, live, few)
 
 -- they were made, and it was told what differs, behind what was told before
-pub record IsMadeOf (x : Source) (limit : ℕ) (m : Nodes Kept) (before told : Told) : Type 0 where
+pub record IsMadeOf (x : Source) (limit : ℕ) (m : Nodes Kept) (before told : ToldNodes) : Type 0 where
   pub children : AreRenewals x.numbering x.seed x.old m x.root 0 (λ k. x.wanted) (x.root ∷ [])
   pub tells : TellsAllOf x.old m (x.root ∷ []) before told
   pub gone : told.gone ≡ before.gone ++ nodes_without x.old (map number_told (wanted_symbols x.numbering x.wanted)) (kids_in (x.old x.root))
@@ -79,16 +80,16 @@ pub record IsMadeOf (x : Source) (limit : ℕ) (m : Nodes Kept) (before told : T
 abbrev pub axiom_of : System → Nodes Kept → ℕ → Source
 axiom_of s o root = record { numbering = s.numbering; seed = s.seed; wanted = s.axiom_string; old = o; root = root }
 
-pub makes_first : (s : System) (limit : ℕ) (o m : Nodes Kept) (root : ℕ) (x : Source) (before told : Told) (room : ℕ) → x ≡ axiom_of s o root → before ≡ record nothing { room = room } → IsMadeOf x limit m before told → WellSpelled s
+pub makes_first : (s : System) (limit : ℕ) (o m : Nodes Kept) (root : ℕ) (x : Source) (before told : ToldNodes) (room : ℕ) → x ≡ axiom_of s o root → before ≡ record nothing { room = room } → IsMadeOf x limit m before told → WellSpelled s
     → MakesFirst s limit o m root told
 makes_first s limit o m root x before told room e f h spelled =
     let y = subst (λ (z : Source). IsMadeOf z limit m before told) e h in
-    let t = subst (λ (b : Told). TellsAllOf o m (root ∷ []) b told) f y.tells in
+    let t = subst (λ (b : ToldNodes). TellsAllOf o m (root ∷ []) b told) f y.tells in
     record {
       spelled = spelled;
       children = y.children;
       tells = record { touched = t.touched; changed = t.changed; added = t.added };
-      gone = y.gone ∙ ap (λ (b : Told). b.gone ++ nodes_without o (map number_told (wanted_symbols s.numbering s.axiom_string)) (kids_in (o root))) f;
+      gone = y.gone ∙ ap (λ (b : ToldNodes). b.gone ++ nodes_without o (map number_told (wanted_symbols s.numbering s.axiom_string)) (kids_in (o root))) f;
       within = y.within;
     }
 
@@ -98,25 +99,25 @@ module _ (v : PassView) (h : WasStill v) where
   pub still : IsStill (record (stage_of v) { next = v.system })
   still = h.holds
 
-  pub was_now : P.was v ≡ now v
-  was_now = ap (λ (cs : List (Change Kept)). undone cs (now v)) still.changes
+  pub was_now : P.rest_in v ≡ now_in v
+  was_now = ap (λ (cs : List (Change Kept)). undone cs (now_in v)) still.changes
 
-  rests_now : IsResting v.system v.limit (now v) v.forest.root v.store v.reads v.seats
+  rests_now : IsResting v.system v.limit (now_in v) v.forest.root v.store v.reads v.seats
   rests_now = subst (λ (m : Nodes Kept). IsResting v.system v.limit m v.forest.root v.store v.reads v.seats) was_now still.rest
 
-  sound_rest : IsSound v.forest.root [] (now v)
-  sound_rest = subst (λ (cs : List (Change Kept)). IsSound v.forest.root cs (now v)) still.changes (AreSound-now v.forest.root (changes_in v.forest) (now v) h.stored.sound)
+  sound_rest : IsRooted v.forest.root [] (now_in v)
+  sound_rest = subst (λ (cs : List (Change Kept)). IsRooted v.forest.root cs (now_in v)) still.changes (AreSound-now v.forest.root (changes_in v.forest) (now_in v) h.stored.sound)
 
-  pub was_once : AreOnce (kins (now v)) v.forest.root
+  pub was_once : AreOnce (kins (now_in v)) v.forest.root
   was_once = rests_now.once
 
-  pub was_small : AreSmall (now v)
+  pub was_small : AreSmall (now_in v)
   was_small = rests_now.counts
 
-  pub was_under : AreAllUnder (now v) v.forest.root v.forest.root
+  pub was_under : AreAllUnder (now_in v) v.forest.root v.forest.root
   was_under k n e other under =
       let b = sound_rest.held k n e other in
-      let same : now v v.forest.root ≡ Some b.parent = ap (now v) (sym under) ∙ b.is in
+      let same : now_in v v.forest.root ≡ Some b.parent = ap (now_in v) (sym under) ∙ b.is in
       subst (λ o. In k (kids_in o)) (sym same) (elim b.linked [ inl i ↦ i | inr never ↦ absurd never ])
 
 -- 3. the pass that failed
@@ -160,9 +161,9 @@ module _ (v : PassView) (f : Grove Kept) (seats : List Seat) (sizes made : List 
     failed = state;
     stored = record {
       sound = b.sound;
-      made = λ k a e. h.stored.made k a (ap (λ (q : Keeper → Option Kept). q k) (sym b.kept) ∙ e);
-      once = λ i j a c r e g held other. h.stored.once i j a c r (ap (λ (q : Keeper → Option Kept). q i) (sym b.kept) ∙ e) (ap (λ (q : Keeper → Option Kept). q j) (sym b.kept) ∙ g) held other;
-      freed = λ r not. h.stored.freed r (subst (λ (q : Keeper → Option Kept). IsHeld run_in holds q r → ⊥) b.kept not);
+      made = λ k a e. h.stored.made k a (ap (λ (q : AnswerKeeper → Option Kept). q k) (sym b.kept) ∙ e);
+      once = λ i j a c r e g held other. h.stored.once i j a c r (ap (λ (q : AnswerKeeper → Option Kept). q i) (sym b.kept) ∙ e) (ap (λ (q : AnswerKeeper → Option Kept). q j) (sym b.kept) ∙ g) held other;
+      freed = λ r not. h.stored.freed r (subst (λ (q : AnswerKeeper → Option Kept). IsHeld run_in holds q r → ⊥) b.kept not);
     };
     few = b.few;
     unmarked = λ k. s.marks k ∙ h.unmarked k;
@@ -174,9 +175,9 @@ module _ (v : PassView) (f : Grove Kept) (seats : List Seat) (sizes made : List 
 
   -- 4. the first level
 
-  module _ (told : Told) (x : MakesFirst v.next v.limit (now v) (now v') v.forest.root told) where
-    same_now : (k : ℕ) → answer_at (now v') k ≡ answer_at (now v) k
-    same_now k = answers_stay v.next.numbering v.next.seed (now v) (now v') v.forest.root 0 (λ i. v.next.axiom_string) (v.forest.root ∷ []) x.children k
+  module _ (told : ToldNodes) (x : MakesFirst v.next v.limit (now_in v) (now_in v') v.forest.root told) where
+    same_now : (k : ℕ) → answer_at (now_in v') k ≡ answer_at (now_in v) k
+    same_now k = answers_stay v.next.numbering v.next.seed (now_in v) (now_in v') v.forest.root 0 (λ i. v.next.axiom_string) (v.forest.root ∷ []) x.children k
 
     goes : Goes (stage_of v) (stage_of v') 0
     goes = record {
@@ -197,48 +198,48 @@ module _ (v : PassView) (f : Grove Kept) (seats : List Seat) (sizes made : List 
     pub first_goes : (w : PassView) → v ≡ w → Goes (stage_of w) (stage_of v') 0
     first_goes w e = subst (λ (z : PassView). Goes (stage_of z) (stage_of v') 0) e goes
 
-  module _ (h : WasStill v) (told : Told) (x : MakesFirst v.next v.limit (now v) (now v') v.forest.root told) (seated : (k : ℕ) → IsLive f k → HasSeat seats k)
-      (changes : IsToldFirst told d.changes) (looked : d.changes.looked ≡ level_nodes (now v') f.root 0) (bare : d.bare ≡ []) where
+  module _ (h : WasStill v) (told : ToldNodes) (x : MakesFirst v.next v.limit (now_in v) (now_in v') v.forest.root told) (seated : (k : ℕ) → IsLive f k → HasSeat seats k)
+      (changes : IsToldFirst told d.changes) (looked : d.changes.looked ≡ level_nodes (now_in v') f.root 0) (bare : d.bare ≡ []) where
     abbrev o : Nodes Kept
-    o = P.was v'
+    o = P.rest_in v'
 
     -- what replaces the root
     abbrev by : Successors
     by = λ k. v.next.axiom_string
 
     -- the same, as the new forest tells the last rest
-    y : MakesFirst v.next v.limit o (now v') f.root told
+    y : MakesFirst v.next v.limit o (now_in v') f.root told
     y =
-        subst (λ (m : Nodes Kept). MakesFirst v.next v.limit m (now v') f.root told) (sym (b.rest ∙ was_now v h))
-        (subst (λ r. MakesFirst v.next v.limit (now v) (now v') r told) (sym b.root) x)
+        subst (λ (m : Nodes Kept). MakesFirst v.next v.limit m (now_in v') f.root told) (sym (b.rest ∙ was_now v h))
+        (subst (λ r. MakesFirst v.next v.limit (now_in v) (now_in v') r told) (sym b.root) x)
 
     rests : IsResting v.system v.limit o f.root v.store v.reads v.seats
     rests =
         subst (λ r. IsResting v.system v.limit o r v.store v.reads v.seats) (sym b.root)
         (subst (λ (m : Nodes Kept). IsResting v.system v.limit m v.forest.root v.store v.reads v.seats) (sym b.rest) (still v h).rest)
 
-    wanted : HasWanted v.next.numbering v.next.seed (now v') f.root v.next.axiom_string
+    wanted : HasWanted v.next.numbering v.next.seed (now_in v') f.root v.next.axiom_string
     wanted = y.children.wanted f.root (inl refl)
 
-    long : length (level_nodes (now v') f.root 0) ≡ wanted_count v.next.numbering v.next.axiom_string
+    long : length (level_nodes (now_in v') f.root 0) ≡ wanted_count v.next.numbering v.next.axiom_string
     long =
-        sym (length-map (level_nodes (now v') f.root 0) (node_symbol (now v'))) ∙ ap length wanted.symbols
-        ∙ ap (λ l. length (cut (children v.next.numbering l v.next.axiom_string))) (name_root (now v') f.root y.children.once)
+        sym (length-map (level_nodes (now_in v') f.root 0) (node_symbol (now_in v'))) ∙ ap length wanted.symbols
+        ∙ ap (λ l. length (cut (children v.next.numbering l v.next.axiom_string))) (name_root (now_in v') f.root y.children.once)
 
-    within : length (level_nodes (now v') f.root 0) ≤ v.limit
+    within : length (level_nodes (now_in v') f.root 0) ≤ v.limit
     within = let e = long in let w = y.within in omega (arith, e, w)
 
     new_is : meaning_to v.next v.limit 0 ≡ Ok (meant_to v.next v.limit 0)
-    new_is = first_is o (now v') f.root v.next v.limit by y.spelled y.children wanted within
+    new_is = first_is o (now_in v') f.root v.next v.limit by y.spelled y.children wanted within
 
-    new_levels : HaveLevels (now v') f.root v.next.seed (meant_to v.next v.limit 0)
-    new_levels = first_have o (now v') f.root v.next v.limit by y.spelled y.children wanted within
+    new_levels : HaveLevels (now_in v') f.root v.next.seed (meant_to v.next v.limit 0)
+    new_levels = first_have o (now_in v') f.root v.next v.limit by y.spelled y.children wanted within
 
-    deeper : KeepsDeeper o (now v') (0 + 1)
-    deeper = first_deeper o (now v') f.root v.next v.limit by y.spelled y.children wanted within
+    deeper : KeepsDeeper o (now_in v') (0 + 1)
+    deeper = first_deeper o (now_in v') f.root v.next v.limit by y.spelled y.children wanted within
 
-    answers_same : (k : ℕ) → answer_at (now v') k ≡ answer_at o k
-    answers_same k = answers_stay v.next.numbering v.next.seed o (now v') f.root 0 by (f.root ∷ []) y.children k
+    answers_same : (k : ℕ) → answer_at (now_in v') k ≡ answer_at o k
+    answers_same k = answers_stay v.next.numbering v.next.seed o (now_in v') f.root 0 by (f.root ∷ []) y.children k
 
     spots : SteppingSpots (repair_of v' 0)
     spots = record {
@@ -292,7 +293,7 @@ module _ (v : PassView) (f : Grove Kept) (seats : List Seat) (sizes made : List 
       room = λ k i. absurd (none_moved k i);
     }
 
-    pub first_fresh : IsFresh v' 0
+    pub first_fresh : WasJustMade v' 0
     first_fresh = record {
       made = made_first;
       lists = none_before;

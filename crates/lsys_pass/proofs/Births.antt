@@ -1,23 +1,23 @@
 -- The children of parents, made where room was made for them.
 use Rattle.std.proofs.Common.{◌≡◌, ◌+◌, ◌<◌, ◌≤◌, ◌^◌, ℕ, List, [], sym, ap, ◌∙◌, subst, inl, inr, arith}
 use Rattle.std.specs.Prelude.{◌++◌}
+use Rattle.lsys_spec.specs.Rows.{In, mirrored}
 use Rattle.lsys_syntax.specs.Commands.{Numbering}
 use Rattle.lsys_match.specs.Kept.{Kept}
 use Rattle.lsys_forest.specs.Nodes.{Nodes}
 use Rattle.lsys_forest.specs.Changes.{Change, undone}
 use Rattle.lsys_forest.specs.Answers.{answers}
-use Rattle.lsys_forest.specs.Groves.{Grove, In, IsSound, AreSound, now_of, rest_of, changes_in, kept_in, live_nodes}
-use Rattle.lsys_forest.specs.Rows.{mirrored}
+use Rattle.lsys_forest.specs.Groves.{Grove, IsRooted, AreSound, now_of, rest_of, changes_in, kept_in, live_nodes}
 use Rattle.lsys_forest.proofs.RowLemmas.{mirrored_In}
 use Rattle.lsys_forest.proofs.SoundLemmas.{AreSound-now}
 use Rattle.lsys_brood.specs.declared.need.Need.{Need}
-use Rattle.lsys_brood.specs.Children.{Told, HasRoomFor}
+use Rattle.lsys_brood.specs.Children.{ToldNodes, HasRoomFor}
 use Rattle.lsys_repair.specs.Nexts.{Successors}
 use Rattle.lsys_repair.specs.Renewals.{Renewal, stayed, relisted, turned, came, AreRenewals}
 use Rattle.lsys_repair.specs.declared.parent.Parent.{Parent}
 use Rattle.lsys_repair.specs.Parents.{nodes_in, AreParents, HasParents, AreToldBy}
 use Rattle.lsys_repair.specs.Needs.{needs}
-use Rattle.lsys_repair.specs.Made.{IsBelow, TellsAllOf, gone_of}
+use Rattle.lsys_repair.specs.Made.{IsChildOfAny, TellsAllOf, gone_of}
 use Rattle.lsys_repair.proofs.Among.{unmirrored}
 use Rattle.lsys_front.specs.Fronts.{nothing}
 use Rattle.lsys_pass.specs.Beginnings.{KeepsNodes}
@@ -43,7 +43,7 @@ module _ (ks js : List ℕ) (to : (k : ℕ) → In k ks → In k js) (from : (k 
     wanted = λ k i. h.wanted k (from k i);
   }
 
-  below_of : (m : Nodes Kept) (k : ℕ) → IsBelow m ks k → IsBelow m js k
+  below_of : (m : Nodes Kept) (k : ℕ) → IsChildOfAny m ks k → IsChildOfAny m js k
   below_of m k b = (b.0, to b.0 b.1, b.2)
 
 module _ (ks : List ℕ) where
@@ -54,7 +54,7 @@ module _ (ks : List ℕ) where
   mirror k i = mirrored_In k ks i
 
   -- nothing was told before
-  told_of : (m m' : Nodes Kept) (before after : Told) → before.touched ≡ [] → before.changed ≡ [] → before.added ≡ [] → TellsAllOf m m' (mirrored ks) before after → TellsAllOf m m' ks nothing after
+  told_of : (m m' : Nodes Kept) (before after : ToldNodes) → before.touched ≡ [] → before.changed ≡ [] → before.added ≡ [] → TellsAllOf m m' (mirrored ks) before after → TellsAllOf m m' ks nothing after
   told_of m m' before after t c a h = record {
     touched = λ k. (
       λ i. elim ((h.touched k).0 i) [ inl j ↦ inl (subst (In k) t j) | inr p ↦ inr (straight k p.0, p.1) ],
@@ -78,7 +78,7 @@ module _ (f f' : Grove Kept) (same : KeepsNodes f f') where
       subst (λ r. AreSound r (changes_in f') (now_of f')) (sym same.root)
       (subst (λ (cs : List (Change Kept)). AreSound f.root cs (now_of f')) (sym same.changes) (subst (λ (m : Nodes Kept). AreSound f.root (changes_in f) m) (sym same.now) h))
 
-  pub roomy_is_sound : AreSound f.root (changes_in f) (now_of f) → IsSound f'.root (changes_in f') (now_of f')
+  pub roomy_is_sound : AreSound f.root (changes_in f) (now_of f) → IsRooted f'.root (changes_in f') (now_of f')
   roomy_is_sound h = AreSound-now f'.root (changes_in f') (now_of f') (roomy_sound h)
 
   pub roomy_parents : (ks : List ℕ) → HasParents (now_of f) f.root ks → HasParents (now_of f') f'.root ks
@@ -87,7 +87,7 @@ module _ (f f' : Grove Kept) (same : KeepsNodes f f') where
   same_needs : (g g' : Numbering) (ps : List Parent) → g ≡ g' → needs g (now_of f') ps ≡ needs g' (now_of f) ps
   same_needs g g' ps e = ap (λ (m : Nodes Kept). needs g m ps) same.now ∙ ap (λ (n : Numbering). needs n (now_of f) ps) e
 
-  pub room_for : (g g' : Numbering) (need : Need) (ps : List Parent) (t : Told) → g ≡ g' → need ≡ needs g' (now_of f) ps → HasRoomFor f' t need → HasRoomFor f' t (needs g (now_of f') ps)
+  pub room_for : (g g' : Numbering) (need : Need) (ps : List Parent) (t : ToldNodes) → g ≡ g' → need ≡ needs g' (now_of f) ps → HasRoomFor f' t need → HasRoomFor f' t (needs g (now_of f') ps)
   room_for g g' need ps t e is h = subst (HasRoomFor f' t) (is ∙ sym (same_needs g g' ps e)) h
 
   rest_same : rest_of f' ≡ rest_of f
@@ -118,7 +118,7 @@ module _ (f f' : Grove Kept) (same : KeepsNodes f f') where
     few = (let n = ap (λ (n : Need). n.nodes) (is ∙ sym (same_needs g g' ps e)) in omega (arith, n, few, live));
   }
 
-  pub makes_below : (h : Grove Kept) (g g' : Numbering) (ps : List Parent) (before after : Told) → g ≡ g' → before.touched ≡ [] → before.changed ≡ [] → before.added ≡ [] → before.gone ≡ []
+  pub makes_below : (h : Grove Kept) (g g' : Numbering) (ps : List Parent) (before after : ToldNodes) → g ≡ g' → before.touched ≡ [] → before.changed ≡ [] → before.added ≡ [] → before.gone ≡ []
       → ((seed depth : ℕ) (by : Successors) → AreParents seed depth (now_of f') f'.root (nodes_in ps) → AreToldBy by (now_of f') ps → AreRenewals g seed (now_of f') (now_of h) f'.root depth by (mirrored (nodes_in ps)))
       → TellsAllOf (now_of f') (now_of h) (mirrored (nodes_in ps)) before after → after.gone ≡ before.gone ++ gone_of g (now_of f') ps → MakesBelow g' f h ps after
   makes_below h g g' ps before after e t c a none renewals tells gone = record {
@@ -146,7 +146,7 @@ module _ (f g h : Grove Kept) (same : KeepsNodes g h) where
         few = l.few;
       }
 
-  pub linked_made : (n : Numbering) (ps : List Parent) (told : Told) → MakesBelow n f g ps told → MakesBelow n f h ps told
+  pub linked_made : (n : Numbering) (ps : List Parent) (told : ToldNodes) → MakesBelow n f g ps told → MakesBelow n f h ps told
   linked_made n ps told m = record {
     renewals = λ seed depth by are says.
         subst (λ (k : Nodes Kept). AreRenewals n seed (now_of f) k f.root depth by (nodes_in ps)) (sym same.now) (m.renewals seed depth by are says);

@@ -4,6 +4,7 @@ use Rattle.std.specs.Prelude.{◌-◌, IsSome, not}
 use Rattle.lsys_pass.proofs.Before.{answer_lives}
 use Rattle.lsys_forest.proofs.RowLemmas.{level_apart}
 use Rattle.std.specs.Option.{option_and_then}
+use Rattle.lsys_spec.specs.Rows.{In}
 use Rattle.lsys_spec.specs.Systems.{System}
 use Rattle.lsys_spec.specs.Levels.{level_balanced}
 use Rattle.lsys_spec.specs.Questions.{questions, need}
@@ -17,8 +18,8 @@ use Rattle.lsys_reads.specs.Rows.{has}
 use Rattle.lsys_reads.specs.Relations.{Relations, is_settled, is_pending}
 use Rattle.lsys_forest.specs.Nodes.{Nodes}
 use Rattle.lsys_forest.specs.Changes.{Change, undone}
-use Rattle.lsys_forest.specs.Answers.{answer_of, answers, kept_by, AreMade, FreesAllBut}
-use Rattle.lsys_forest.specs.Groves.{Grove, In, IsLive, IsSound, Reached, now_of, rest_of, changes_in, live_nodes, kept_in}
+use Rattle.lsys_forest.specs.Answers.{answer_of, answers, kept_by, LiveApart, FreesAllBut}
+use Rattle.lsys_forest.specs.Groves.{Grove, IsLive, IsRooted, Reached, now_of, rest_of, changes_in, live_nodes, kept_in}
 use Rattle.lsys_forest.specs.Rows.{level_nodes, level_spots, place_of_node}
 use Rattle.lsys_forest.proofs.DepthLemmas.{fits}
 use Rattle.lsys_forest.proofs.SoundLemmas.{AreSound-now, AreSound-rest, AreSound-then}
@@ -29,7 +30,7 @@ use Rattle.lsys_kept.specs.Neighbours.{neighbours_in, neighbours_on, IsOnLevel}
 use Rattle.lsys_kept.specs.Seats.{neighbours_at, SameMarks, KeepsSeats}
 use Rattle.lsys_kept.specs.Names.{run_in, holds}
 use Rattle.lsys_kept.specs.Levels.{answer_at}
-use Rattle.lsys_kept.specs.Meant.{meant}
+use Rattle.lsys_kept.specs.Meant.{levels_meant}
 use Rattle.lsys_pass.specs.declared.state.PassState.TheVariants.{Done}
 use Rattle.lsys_pass.specs.declared.work.Work.{Work}
 use Rattle.lsys_pass.specs.declared.sizes.Sizes.{Sizes}
@@ -38,7 +39,7 @@ use Rattle.lsys_pass.proofs.Sized.{sized_stays, all_sized}
 use Rattle.lsys_pass.specs.Rests.{IsResting}
 use Rattle.lsys_pass.specs.Stages.{IsStored, IsDone}
 use Rattle.lsys_pass.specs.Passes as P
-use Rattle.lsys_pass.specs.Passes.{PassView, stage_of, now, HoldsAt, AllHaveSeats, FrontAt, IsPass}
+use Rattle.lsys_pass.specs.Passes.{PassView, stage_of, now_in, HoldsAt, AllHaveSeats, FrontAt, IsPass}
 use Rattle.lsys_pass.proofs.Keepers.{stay_kept, freed_all, only_node, all_made}
 use Rattle.lsys_pass.specs.Works.{IsCleared}
 use Rattle.lsys_pass.proofs.Backing.{resting, is_resting}
@@ -56,32 +57,32 @@ pub record Commits (f f' : Grove Kept) (st st' : Store) : Type 0 where
   pub root : f'.root ≡ f.root
   pub live : live_nodes f' ≤ live_nodes f + 0
   pub store : FreesAllBut run_in holds (kept_in f) (kept_by (now_of f')) st st'
-  pub still : AreMade run_in holds st' (kept_in f')
+  pub still : LiveApart run_in holds st' (kept_in f')
 
 module _ (v : PassView) (h : IsPass v) (state : v.state ≡ Done) where
   pub done : IsDone (stage_of v)
   done = subst (HoldsAt (stage_of v)) state h.holds
 
-  sound : IsSound v.forest.root (changes_in v.forest) (now v)
-  sound = AreSound-now v.forest.root (changes_in v.forest) (now v) h.stored.sound
+  sound : IsRooted v.forest.root (changes_in v.forest) (now_in v)
+  sound = AreSound-now v.forest.root (changes_in v.forest) (now_in v) h.stored.sound
 
-  was_sound : IsSound v.forest.root [] (P.was v)
-  was_sound = AreSound-then v.forest.root (changes_in v.forest) (now v) h.stored.sound
+  was_sound : IsRooted v.forest.root [] (P.rest_in v)
+  was_sound = AreSound-then v.forest.root (changes_in v.forest) (now_in v) h.stored.sound
 
   -- how many answers there are
-  pub total : length (questions v.next (meant v.next v.limit)) + length v.dropped ≡ v.answers + v.born
+  pub total : length (questions v.next (levels_meant v.next v.limit)) + length v.dropped ≡ v.answers + v.born
   total = let a = answers_count (stage_of v) done (changes_in v.forest) sound was_sound in let c = h.counted in omega (arith, a, c)
 
   pub few_dropped : length v.dropped ≤ v.answers
   few_dropped = let a = dropped_few (stage_of v) done (changes_in v.forest) sound was_sound in let c = h.counted in omega (arith, a, c)
 
-  pub few_questions : length (questions v.next (meant v.next v.limit)) < 2 ^ 32
+  pub few_questions : length (questions v.next (levels_meant v.next v.limit)) < 2 ^ 32
   few_questions =
       let most = fits (new_nodes (stage_of v) done (changes_in v.forest) sound was_sound all) v.forest.stock.slots
-      (passing_apart v.next v.limit (now v) v.forest.root v.store (changes_in v.forest) sound done.spelled done.is done.levels done.answered all)
+      (passing_apart v.next v.limit (now_in v) v.forest.root v.store (changes_in v.forest) sound done.spelled done.is done.levels done.answered all)
       (λ k i. (
-      let a = has_answer v.next v.limit (now v) v.forest.root v.store (changes_in v.forest) sound done.spelled done.is done.levels done.answered k i in
-      let n = answer_lives (now v) k a.0 a.1 in
+      let a = has_answer v.next v.limit (now_in v) v.forest.root v.store (changes_in v.forest) sound done.spelled done.is done.levels done.answered k i in
+      let n = answer_lives (now_in v) k a.0 a.1 in
       let s = stored_of v.forest.stock.slots v.forest.stock.params v.forest.stock.kids k n.0 n.1 in
       subst IsSome (sym s.1) refl
       )) in
@@ -89,29 +90,29 @@ module _ (v : PassView) (h : IsPass v) (state : v.state ≡ Done) where
       let f = h.few in
       omega (arith, most, c, f)
 
-  pub asked_count : length v.renewed ≡ need (questions v.system (meant v.system v.limit)) (questions v.next (meant v.next v.limit))
+  pub asked_count : length v.renewed ≡ need (questions v.system (levels_meant v.system v.limit)) (questions v.next (levels_meant v.next v.limit))
   asked_count = renewed_needed (stage_of v) done (changes_in v.forest) sound was_sound
 
   module _ (f' : Grove Kept) (st' : Store) (c : Commits v.forest f' v.store st') where
     abbrev m' : Nodes Kept
     m' = now_of f'
 
-    sound' : IsSound v.forest.root [] m'
-    sound' = closed_sound (now v) m' v.forest.root (changes_in v.forest) sound c.stay c.only
+    sound' : IsRooted v.forest.root [] m'
+    sound' = closed_sound (now_in v) m' v.forest.root (changes_in v.forest) sound c.stay c.only
 
-    sound_there : IsSound f'.root (changes_in f') m'
-    sound_there = subst (λ r. IsSound r (changes_in f') m') (sym c.root) (subst (λ (cs : List (Change Kept)). IsSound v.forest.root cs m') (sym c.rest) sound')
+    sound_there : IsRooted f'.root (changes_in f') m'
+    sound_there = subst (λ r. IsRooted r (changes_in f') m') (sym c.root) (subst (λ (cs : List (Change Kept)). IsRooted v.forest.root cs m') (sym c.rest) sound')
 
-    nodes_there : (u : ℕ) → level_nodes m' f'.root u ≡ level_nodes (now v) v.forest.root u
-    nodes_there u = ap (λ r. level_nodes m' r u) c.root ∙ closed_nodes (now v) m' v.forest.root (changes_in v.forest) sound c.stay c.only u
+    nodes_there : (u : ℕ) → level_nodes m' f'.root u ≡ level_nodes (now_in v) v.forest.root u
+    nodes_there u = ap (λ r. level_nodes m' r u) c.root ∙ closed_nodes (now_in v) m' v.forest.root (changes_in v.forest) sound c.stay c.only u
 
-    spots_there : (u : ℕ) → level_spots m' f'.root u ≡ level_spots (now v) v.forest.root u
-    spots_there u = ap (λ r. level_spots m' r u) c.root ∙ closed_spots (now v) m' v.forest.root (changes_in v.forest) sound c.stay c.only u
+    spots_there : (u : ℕ) → level_spots m' f'.root u ≡ level_spots (now_in v) v.forest.root u
+    spots_there u = ap (λ r. level_spots m' r u) c.root ∙ closed_spots (now_in v) m' v.forest.root (changes_in v.forest) sound c.stay c.only u
 
-    stands_there : (u k : ℕ) → u ≤ v.next.depth → In k (level_nodes (now v) v.forest.root u) → Stands f' u k
+    stands_there : (u k : ℕ) → u ≤ v.next.depth → In k (level_nodes (now_in v) v.forest.root u) → Stands f' u k
     stands_there u k l on =
         stands f' u k sound_there (let s = done.small in omega (arith, l, s))
-        (λ w le. ap (λ (r : List Spotted). level_balanced 0 (level_by (λ tag. []) r)) (spots_there w) ∙ done.levels.balanced w (let n = level_count v.next v.limit v.next.depth (meant v.next v.limit) done.spelled done.is in omega (arith, n, l, le)))
+        (λ w le. ap (λ (r : List Spotted). level_balanced 0 (level_by (λ tag. []) r)) (spots_there w) ∙ done.levels.balanced w (let n = level_count v.next v.limit v.next.depth (levels_meant v.next v.limit) done.spelled done.is in omega (arith, n, l, le)))
         (subst (In k) (sym (nodes_there u)) on)
 
     pub moved_levels : (k : ℕ) → In k v.moved → IsOnLevel f' k
@@ -122,7 +123,7 @@ module _ (v : PassView) (h : IsPass v) (state : v.state ≡ Done) where
         stay_kept m' (kept_in v.forest) v.store st'
         (λ j b w. (
         let n = answer_lives m' j b w in
-        all_made (now v) (changes_in v.forest) v.forest.root v.store h.stored j b (sym (ap (option_and_then answer_of) (c.stay j (c.only j (subst IsSome (sym n.1) refl)))) ∙ w)
+        all_made (now_in v) (changes_in v.forest) v.forest.root v.store h.stored j b (sym (ap (option_and_then answer_of) (c.stay j (c.only j (subst IsSome (sym n.1) refl)))) ∙ w)
         )) c.store k a e
 
     stored : IsStored m' (changes_in f') f'.root st'
@@ -133,20 +134,20 @@ module _ (v : PassView) (h : IsPass v) (state : v.state ≡ Done) where
       freed = freed_all (kept_in v.forest) (kept_by m') v.store st' c.store h.stored.freed;
     }))
       where
-        still : AreMade run_in holds st' (answers m' [])
-        still = subst (λ (cs : List (Change Kept)). AreMade run_in holds st' (answers m' cs)) c.rest c.still
+        still : LiveApart run_in holds st' (answers m' [])
+        still = subst (λ (cs : List (Change Kept)). LiveApart run_in holds st' (answers m' cs)) c.rest c.still
 
     -- a node that moved is seated as it stands
-    neighbours_there : (u p k : ℕ) → u ≤ v.next.depth → slice_get (level_nodes (now v) v.forest.root u) p ≡ Some k → neighbours_in f' k ≡ neighbours_on (now v) (level_nodes (now v) v.forest.root u) p
+    neighbours_there : (u p k : ℕ) → u ≤ v.next.depth → slice_get (level_nodes (now_in v) v.forest.root u) p ≡ Some k → neighbours_in f' k ≡ neighbours_on (now_in v) (level_nodes (now_in v) v.forest.root u) p
     neighbours_there u p k l e =
-        let on = get_In (level_nodes (now v) v.forest.root u) p k e in
+        let on = get_In (level_nodes (now_in v) v.forest.root u) p k e in
         let at = stands_there u k l on in
         let mine = there_at f' u k at in
         let here : slice_get (level_nodes m' f'.root u) p ≡ Some k = ap (λ (xs : List ℕ). slice_get xs p) (nodes_there u) ∙ e in
         let same = one_place (level_nodes m' f'.root u) (place_of_node f' k) p k (level_apart f'.root (changes_in f') m' sound_there u) mine here in
         ap (λ w. neighbours_on m' (level_nodes m' f'.root w) (place_of_node f' k)) at.level_is
         ∙ ap (neighbours_on m' (level_nodes m' f'.root u)) same ∙ ap (λ r. neighbours_on m' (level_nodes m' r u) p) c.root
-        ∙ closed_neighbours (now v) m' v.forest.root (changes_in v.forest) sound c.stay c.only u p
+        ∙ closed_neighbours (now_in v) m' v.forest.root (changes_in v.forest) sound c.stay c.only u p
 
     pub closed_pass : (rd' : Relations) (seats' : List Seat) (z : Sizes) (sys : System) (w : Work) (answers' : ℕ) → sys ≡ v.next
         → ((reader seen : ℕ) → is_settled rd' reader seen ≡ ((not (has v.renewed reader) && (not (has v.dropped reader) && is_settled v.reads reader seen)) || is_pending v.reads reader seen)) → rd'.pending ≡ []
@@ -154,7 +155,7 @@ module _ (v : PassView) (h : IsPass v) (state : v.state ≡ Done) where
         → answers' ≡ v.answers - length v.dropped + v.born → IsCleared w → z.rest.items ≡ v.made → z.made.items ≡ [] → IsPass (resting f' st' rd' seats' z sys v.limit w answers')
     closed_pass rd' seats' z sys w answers' e settled quiet seated others marks keeps count clear sizes none =
         is_resting f' st' rd' seats' z sys v.limit w answers' stored (let f = h.few in let l = c.live in omega (arith, f, l)) (λ k. marks k ∙ h.unmarked k)
-        (count ∙ counts ∙ ap (λ (z : System). length (questions z (meant z v.limit))) (sym e))
+        (count ∙ counts ∙ ap (λ (z : System). length (questions z (levels_meant z v.limit))) (sym e))
         (subst (λ (z : System). IsResting z v.limit (rest_of f') f'.root st' rd' seats') (sym e)
         (subst (λ r. IsResting v.next v.limit (rest_of f') r st' rd' seats') (sym c.root)
         (subst (λ (m : Nodes Kept). IsResting v.next v.limit m v.forest.root st' rd' seats') (sym (ap (λ (cs : List (Change Kept)). undone cs m') c.rest)) rests)))
@@ -162,25 +163,25 @@ module _ (v : PassView) (h : IsPass v) (state : v.state ≡ Done) where
         (subst (HaveSizes (rest_of f') f'.root) (sym sizes) (subst (λ r. HaveSizes (rest_of f') r v.made) (sym c.root) (subst (λ (m : Nodes Kept). HaveSizes m v.forest.root v.made) (sym (ap (λ (cs : List (Change Kept)). undone cs m') c.rest)) sized_all))) none
         (subst (λ (m : Nodes Kept). AllHaveSeats m seats') (sym (ap (λ (cs : List (Change Kept)). undone cs m') c.rest)) have_seats)
       where
-        room_at : AllHaveSeats (now v) v.seats
+        room_at : AllHaveSeats (now_in v) v.seats
         room_at = subst (FrontAt v) state h.front
 
         have_seats : AllHaveSeats m' seats'
-        have_seats k n e = keeps k (room_at k n (lived (now v) m' v.forest.root (changes_in v.forest) sound c.stay c.only k n e))
+        have_seats k n e = keeps k (room_at k n (lived (now_in v) m' v.forest.root (changes_in v.forest) sound c.stay c.only k n e))
 
-        made_at : HaveSizesTo (now v) v.forest.root v.made v.next.depth
-        made_at = subst (SizesAt (now v) v.forest.root v.next.depth v.made) state h.made_sized
+        made_at : HaveSizesTo (now_in v) v.forest.root v.made v.next.depth
+        made_at = subst (SizesAt (now_in v) v.forest.root v.next.depth v.made) state h.made_sized
 
-        level_long : length (meant v.next v.limit) ≡ v.next.depth + 1
-        level_long = level_count v.next v.limit v.next.depth (meant v.next v.limit) done.spelled done.is
+        level_long : length (levels_meant v.next v.limit) ≡ v.next.depth + 1
+        level_long = level_count v.next v.limit v.next.depth (levels_meant v.next v.limit) done.spelled done.is
 
         sized_all : HaveSizes m' v.forest.root v.made
         sized_all =
-            sized_stays (now v) m' v.forest.root v.made (closed_nodes (now v) m' v.forest.root (changes_in v.forest) sound c.stay c.only)
-            (λ t k i. c.stay k (on_reached (now v) v.forest.root t k i))
-            (all_sized (now v) v.forest.root v.made v.next.depth made_at (ap (level_nodes (now v) v.forest.root) (sym level_long) ∙ done.ends) done.last)
+            sized_stays (now_in v) m' v.forest.root v.made (closed_nodes (now_in v) m' v.forest.root (changes_in v.forest) sound c.stay c.only)
+            (λ t k i. c.stay k (on_reached (now_in v) v.forest.root t k i))
+            (all_sized (now_in v) v.forest.root v.made v.next.depth made_at (ap (level_nodes (now_in v) v.forest.root) (sym level_long) ∙ done.ends) done.last)
 
-        counts : v.answers - length v.dropped + v.born ≡ length (questions v.next (meant v.next v.limit))
+        counts : v.answers - length v.dropped + v.born ≡ length (questions v.next (levels_meant v.next v.limit))
         counts = let a = total in let b = few_dropped in omega (arith, a, b)
 
         rests : IsResting v.next v.limit m' v.forest.root st' rd' seats'
@@ -191,9 +192,9 @@ module _ (v : PassView) (h : IsPass v) (state : v.state ≡ Done) where
 
   -- what is counted, as the other view of the pass tells it
   pub closed_counts : (w : PassView) (asked count : ℕ) → v ≡ w → asked ≡ length v.renewed → count ≡ v.answers - length v.dropped + v.born
-      → IsCount (questions w.system (meant w.system w.limit)) (questions w.next (meant w.next w.limit)) (record { asked = asked; questions = count })
+      → IsCount (questions w.system (levels_meant w.system w.limit)) (questions w.next (levels_meant w.next w.limit)) (record { asked = asked; questions = count })
   closed_counts w asked count e a q =
-      subst (λ (z : PassView). IsCount (questions z.system (meant z.system z.limit)) (questions z.next (meant z.next z.limit)) (record { asked = asked; questions = count })) e (record {
+      subst (λ (z : PassView). IsCount (questions z.system (levels_meant z.system z.limit)) (questions z.next (levels_meant z.next z.limit)) (record { asked = asked; questions = count })) e (record {
         asked = a ∙ asked_count;
         questions = q ∙ (let b = total in let f = few_dropped in omega (arith, b, f));
       })

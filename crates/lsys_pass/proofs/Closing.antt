@@ -4,6 +4,7 @@ use Rattle.std.specs.Prelude.{◌-◌, IsSome, not, option_map}
 use Rattle.std.specs.Option.{option_and_then}
 use Rattle.std.proofs.lemmas.Bool.{cases_lt}
 use Rattle.std.proofs.lemmas.Option.{none-some, same_Some}
+use Rattle.lsys_spec.specs.Rows.{In, first_in, flat}
 use Rattle.lsys_spec.specs.Draws.{key_of}
 use Rattle.lsys_spec.specs.Levels.{level_balanced}
 use Rattle.lsys_spec.specs.Levels as L
@@ -21,13 +22,13 @@ use Rattle.lsys_reads.specs.Relations.{Relations, is_settled, is_pending}
 use Rattle.lsys_forest.specs.Nodes.{Node, Nodes}
 use Rattle.lsys_forest.specs.Changes.{Change}
 use Rattle.lsys_forest.specs.Answers.{answer_of}
-use Rattle.lsys_forest.specs.Groves.{In, IsSound, ReachedIn, Reached}
-use Rattle.lsys_forest.specs.Rows.{first_in, flat, kids_in, spot_in, level_nodes, level_spots}
+use Rattle.lsys_forest.specs.Groves.{IsRooted, ReachedIn, Reached}
+use Rattle.lsys_forest.specs.Rows.{kids_in, spot_in, level_nodes, level_spots}
 use Rattle.lsys_forest.proofs.RowLemmas.{flat_In, level_depth}
 use Rattle.lsys_forest.proofs.WalkLemmas.{get_In}
 use Rattle.lsys_kept.specs.Lineages.{kin_of, kins, names}
 use Rattle.lsys_kept.specs.Levels.{HaveLevels, AnsweredAt, AnsweredIn, level_of, answer_at, tags_read, HasRead}
-use Rattle.lsys_kept.specs.Meant.{meant}
+use Rattle.lsys_kept.specs.Meant.{levels_meant}
 use Rattle.lsys_kept.specs.declared.seat.Seat.{Seat}
 use Rattle.lsys_kept.specs.Neighbours.{Neighbours, neighbours_on}
 use Rattle.lsys_kept.specs.Seats.{neighbours_at}
@@ -71,7 +72,7 @@ on_reached m root t k h = (suc t, level_reached m root t k h)
 
 -- 2. the nodes that are reached
 
-module _ (m m' : Nodes Kept) (root : ℕ) (changes : List (Change Kept)) (sound : IsSound root changes m) (stay : (k : ℕ) → Reached m root k → m' k ≡ m k) (only : (k : ℕ) → IsSome (m' k) → Reached m root k) where
+module _ (m m' : Nodes Kept) (root : ℕ) (changes : List (Change Kept)) (sound : IsRooted root changes m) (stay : (k : ℕ) → Reached m root k → m' k ≡ m k) (only : (k : ℕ) → IsSome (m' k) → Reached m root k) where
   -- what lives now lived
   pub lived : (k : ℕ) (n : Node Kept) → m' k ≡ Some n → m k ≡ Some n
   lived k n e = sym (stay k (only k (subst IsSome (sym e) refl))) ∙ e
@@ -86,7 +87,7 @@ module _ (m m' : Nodes Kept) (root : ℕ) (changes : List (Change Kept)) (sound 
       let above : held.parent ≡ h.1 = same_Some held.parent h.1 (sym held.is ∙ ap m parent_is ∙ h.3) in
       (h.1, ap m' parent_is ∙ stay h.0 (d, h.2) ∙ h.3, h.4, held.depth ∙ ap (λ (q : Node Kept). q.depth + 1) above)
 
-  pub closed_sound : IsSound root [] m'
+  pub closed_sound : IsRooted root [] m'
   closed_sound = record {
     root_lives = (sound.root_lives.0, stay root (0, refl) ∙ sound.root_lives.1, sound.root_lives.2);
     held = λ k n e other.
@@ -161,7 +162,7 @@ module _ (m m' : Nodes Kept) (root : ℕ) (changes : List (Change Kept)) (sound 
         by (k ∷ ks) h =
             let one : named (names m') (spot_in k (m k)) ≡ named (names m) (spot_in k (m k)) = ap (λ l. with_lineage l (spot_in k (m k)).seen) (ap (names m') (tag_is k (m k)) ∙ h k (inl refl) ∙ ap (names m) (sym (tag_is k (m k)))) in
             ap (λ a. a ∷ level_by (names m') (map (λ k. spot_in k (m k)) ks)) one
-            ∙ ap (λ (l : List L.Symbol). named (names m) (spot_in k (m k)) ∷ l) (by ks (λ j i. h j (inr i)))
+            ∙ ap (λ (l : List L.LevelSymbol). named (names m) (spot_in k (m k)) ∷ l) (by ks (λ j i. h j (inr i)))
 
     pub closed_level : (t : ℕ) → level_of m' root t ≡ level_of m root t
     closed_level t = ap (level_by (names m')) (closed_spots t) ∙ closed_named t
@@ -171,7 +172,7 @@ module _ (m m' : Nodes Kept) (root : ℕ) (changes : List (Change Kept)) (sound 
     tag_in (i ∷ ks) zero a h = let f : spot_in i (m i) ≡ a = same_Some (spot_in i (m i)) a h in inl (ap (λ (b : Spotted). b.tag) (sym f) ∙ tag_is i (m i))
     tag_in (i ∷ ks) (suc p) a h = inr (tag_in ks p a h)
 
-    pub closed_levels : (seed : ℕ) (xs : List (List L.Symbol)) → HaveLevels m root seed xs → HaveLevels m' root seed xs
+    pub closed_levels : (seed : ℕ) (xs : List (List L.LevelSymbol)) → HaveLevels m root seed xs → HaveLevels m' root seed xs
     closed_levels seed xs h = record {
       each = λ t l. closed_level t ∙ h.each t l;
       keys = λ t p a l e.
@@ -271,7 +272,7 @@ module _ (s : Stage) (d : IsDone s) (m' : Nodes Kept) (st : Store) (rd : Relatio
 
 -- 4. at rest
 
-module _ (s : Stage) (d : IsDone s) (changes : List (Change Kept)) (sound : IsSound s.root changes s.now) where
+module _ (s : Stage) (d : IsDone s) (changes : List (Change Kept)) (sound : IsRooted s.root changes s.now) where
   -- the root keeps no answer
   pub root_none : answer_at s.now s.root ≡ None
   root_none = by (answer_at s.now s.root) refl
@@ -287,7 +288,7 @@ module _ (s : Stage) (d : IsDone s) (changes : List (Change Kept)) (sound : IsSo
         | inr w ↦ absurd (none-some a (sym (d.rest.others s.root (inl refl)) ∙ w))
       ]
 
-module _ (s : Stage) (d : IsDone s) (m' : Nodes Kept) (st : Store) (rd : Relations) (seats : List Seat) (changes : List (Change Kept)) (sound : IsSound s.root changes s.now)
+module _ (s : Stage) (d : IsDone s) (m' : Nodes Kept) (st : Store) (rd : Relations) (seats : List Seat) (changes : List (Change Kept)) (sound : IsRooted s.root changes s.now)
     (stay : (k : ℕ) → Reached s.now s.root k → m' k ≡ s.now k) (only : (k : ℕ) → IsSome (m' k) → Reached s.now s.root k)
     (same : (k : ℕ) (a : Kept) → answer_at m' k ≡ Some a → StaysMade s.store st a)
     (read : (reader seen : ℕ) → (is_settled rd reader seen ≡ true) ↔ HasRead m' st reader seen)
@@ -308,9 +309,9 @@ module _ (s : Stage) (d : IsDone s) (m' : Nodes Kept) (st : Store) (rd : Relatio
   seat_of : (t p k : ℕ) → slice_get (level_nodes s.now s.root t) p ≡ Some k → neighbours_at seats k ≡ neighbours_on s.now (level_nodes s.now s.root t) p
   seat_of t p k e = elim (cases_lt s.next.depth t) [
     | inl far ↦
-        let c = level_count s.next s.limit s.next.depth (meant s.next s.limit) d.spelled d.is in
-        let back : length (meant s.next s.limit) + (t - length (meant s.next s.limit)) ≡ t = omega (arith, c, far) in
-        let none : level_nodes s.now s.root t ≡ [] = sym (ap (level_nodes s.now s.root) back) ∙ no_more s.now s.root (length (meant s.next s.limit)) (t - length (meant s.next s.limit)) d.ends in
+        let c = level_count s.next s.limit s.next.depth (levels_meant s.next s.limit) d.spelled d.is in
+        let back : length (levels_meant s.next s.limit) + (t - length (levels_meant s.next s.limit)) ≡ t = omega (arith, c, far) in
+        let none : level_nodes s.now s.root t ≡ [] = sym (ap (level_nodes s.now s.root) back) ∙ no_more s.now s.root (length (levels_meant s.next s.limit)) (t - length (levels_meant s.next s.limit)) d.ends in
         absurd (none-some k (ap (λ (l : List ℕ). slice_get l p) (sym none) ∙ e))
     | inr near ↦ elim (In_cases s.moved k) [
       | inl i ↦ seated t p k near e i
@@ -322,8 +323,8 @@ module _ (s : Stage) (d : IsDone s) (m' : Nodes Kept) (st : Store) (rd : Relatio
   closed_rests = record {
     spelled = d.spelled;
     is = d.is;
-    levels = closed_levels s.now m' s.root changes sound stay only d.once s.next.seed (meant s.next s.limit) d.levels;
-    ends = closed_nodes s.now m' s.root changes sound stay only (length (meant s.next s.limit)) ∙ d.ends;
+    levels = closed_levels s.now m' s.root changes sound stay only d.once s.next.seed (levels_meant s.next s.limit) d.levels;
+    ends = closed_nodes s.now m' s.root changes sound stay only (length (levels_meant s.next s.limit)) ∙ d.ends;
     counts = λ k n e. d.counts k n (lived s.now m' s.root changes sound stay only k n e);
     once = closed_once s.now m' s.root changes sound stay only d.once;
     reached = λ k n e. let r = only k (subst IsSome (sym e) refl) in (r.0, closed_reached s.now m' s.root changes sound stay only r.0 k r.1);

@@ -4,12 +4,12 @@ use Rattle.std.specs.Prelude.{count_by}
 use Rattle.std.proofs.lemmas.List.{length-append}
 use Rattle.std.proofs.lemmas.List.Sums.{sum_by-append, sum_by-cons}
 use Rattle.std.proofs.lemmas.Option.{none-some, same_Some}
+use Rattle.lsys_spec.specs.Rows.{In, AreApart}
 use Rattle.lsys_spec.specs.Systems.{System}
 use Rattle.lsys_spec.specs.Bodies.{Body, group}
-use Rattle.lsys_spec.specs.Levels.{Symbol, Push, Pop, Module}
+use Rattle.lsys_spec.specs.Levels.{LevelSymbol, Push, Pop, Module}
 use Rattle.lsys_spec.specs.Questions.{Question, question, where_any, questions_from, questions_at, questions_below}
 use Rattle.lsys_laws.specs.KeptQuestions.{where_grouped, question_here}
-use Rattle.lsys_forest.specs.Groves.{In, AreApart}
 use Rattle.lsys_forest.proofs.RowLemmas.{In_append, In_left, In_right, In_split, apart_parts, apart_append}
 use Rattle.lsys_forest.proofs.WalkLemmas.{get_In}
 
@@ -51,7 +51,7 @@ abbrev pick : Option Question → (Question → Bool) → ℕ → List ℕ → L
 pick None test k ks = ks
 pick (Some q) test k ks = cond (test q) (k ∷ ks) ks
 
-abbrev pub picked : (Question → Bool) → System → ℕ → List Symbol → ℕ → List Symbol → List ℕ → List ℕ
+abbrev pub picked : (Question → Bool) → System → ℕ → List LevelSymbol → ℕ → List LevelSymbol → List ℕ → List ℕ
 picked test s t x p [] ks = []
 picked test s t x p (a ∷ rest) [] = []
 picked test s t x p (a ∷ rest) (k ∷ ks) = pick (question_here s t x p a) test k (picked test s t x (p + 1) rest ks)
@@ -64,7 +64,7 @@ one_more test (b ∷ bs) q k ks qs e = by (test q) ∙ sym (sum_by-cons (λ r. c
     by true = omega (arith, e)
     by false = omega (arith, e)
 
-pub picked_count : (test : Question → Bool) (s : System) (t : ℕ) (x : List Symbol) (p : ℕ) (rest : List Symbol) (ks : List ℕ) → length rest ≡ length ks → length (picked test s t x p rest ks) ≡ count_by test (questions_from s t x p rest)
+pub picked_count : (test : Question → Bool) (s : System) (t : ℕ) (x : List LevelSymbol) (p : ℕ) (rest : List LevelSymbol) (ks : List ℕ) → length rest ≡ length ks → length (picked test s t x p rest ks) ≡ count_by test (questions_from s t x p rest)
 picked_count test s t x p [] ks h = refl
 picked_count test s t x p (a ∷ rest) [] h = absurd (omega (arith, h))
 picked_count test s t x p (Push l ∷ rest) (k ∷ ks) h = picked_count test s t x (p + 1) rest ks (omega (arith, h))
@@ -74,10 +74,10 @@ picked_count test s t x p (Module l m ∷ rest) (k ∷ ks) h =
     one_more test bs (question s t bs x p l m) k (picked test s t x (p + 1) rest ks) (questions_from s t x (p + 1) rest) (picked_count test s t x (p + 1) rest ks (omega (arith, h)))
 
 -- a node stands at this place, and its question passes
-pub record Passes (test : Question → Bool) (s : System) (t : ℕ) (x : List Symbol) (p : ℕ) (rest : List Symbol) (ks : List ℕ) (k : ℕ) : Type 0 where
+pub record Passes (test : Question → Bool) (s : System) (t : ℕ) (x : List LevelSymbol) (p : ℕ) (rest : List LevelSymbol) (ks : List ℕ) (k : ℕ) : Type 0 where
   pub place : ℕ
   pub node : slice_get ks place ≡ Some k
-  pub symbol : Symbol
+  pub symbol : LevelSymbol
   pub stands : slice_get rest place ≡ Some symbol
   pub question : Question
   pub is : question_here s t x (p + place) symbol ≡ Some question
@@ -109,7 +109,7 @@ plus_zero p = omega arith
 plus_one : (p i : ℕ) → (p + 1) + i ≡ p + suc i
 plus_one p i = omega arith
 
-pub picked_in : (test : Question → Bool) (s : System) (t : ℕ) (x : List Symbol) (p : ℕ) (rest : List Symbol) (ks : List ℕ) (k : ℕ) → In k (picked test s t x p rest ks) → Passes test s t x p rest ks k
+pub picked_in : (test : Question → Bool) (s : System) (t : ℕ) (x : List LevelSymbol) (p : ℕ) (rest : List LevelSymbol) (ks : List ℕ) (k : ℕ) → In k (picked test s t x p rest ks) → Passes test s t x p rest ks k
 picked_in test s t x p [] ks k h = absurd h
 picked_in test s t x p (a ∷ rest) [] k h = absurd h
 picked_in test s t x p (a ∷ rest) (j ∷ ks) k h = elim (pick_cases (question_here s t x p a) test j k (picked test s t x (p + 1) rest ks) h) [
@@ -119,7 +119,7 @@ picked_in test s t x p (a ∷ rest) (j ∷ ks) k h = elim (pick_cases (question_
   | inr e ↦ record { place = 0; node = ap Some (sym e.0); symbol = a; stands = refl; question = e.1; is = ap (λ q. question_here s t x q a) (sym (plus_zero p)) ∙ e.2; passes = e.3 }
 ]
 
-pub in_picked : (test : Question → Bool) (s : System) (t : ℕ) (x : List Symbol) (p : ℕ) (rest : List Symbol) (ks : List ℕ) (i k : ℕ) (a : Symbol) (q : Question) → slice_get ks i ≡ Some k → slice_get rest i ≡ Some a
+pub in_picked : (test : Question → Bool) (s : System) (t : ℕ) (x : List LevelSymbol) (p : ℕ) (rest : List LevelSymbol) (ks : List ℕ) (i k : ℕ) (a : LevelSymbol) (q : Question) → slice_get ks i ≡ Some k → slice_get rest i ≡ Some a
     → question_here s t x (p + i) a ≡ Some q → test q ≡ true → In k (picked test s t x p rest ks)
 in_picked test s t x p [] ks i k a q n h e f = absurd (none-some a h)
 in_picked test s t x p (b ∷ rest) [] i k a q n h e f = absurd (none-some k n)
@@ -139,10 +139,10 @@ pick_apart (Some q) test k ks h none = by (test q)
     by true = (none, h)
     by false = h
 
-picked_among : (test : Question → Bool) (s : System) (t : ℕ) (x : List Symbol) (p : ℕ) (rest : List Symbol) (ks : List ℕ) (k : ℕ) → In k (picked test s t x p rest ks) → In k ks
+picked_among : (test : Question → Bool) (s : System) (t : ℕ) (x : List LevelSymbol) (p : ℕ) (rest : List LevelSymbol) (ks : List ℕ) (k : ℕ) → In k (picked test s t x p rest ks) → In k ks
 picked_among test s t x p rest ks k h = let r = picked_in test s t x p rest ks k h in get_In ks r.place k r.node
 
-pub picked_apart : (test : Question → Bool) (s : System) (t : ℕ) (x : List Symbol) (p : ℕ) (rest : List Symbol) (ks : List ℕ) → AreApart ks → AreApart (picked test s t x p rest ks)
+pub picked_apart : (test : Question → Bool) (s : System) (t : ℕ) (x : List LevelSymbol) (p : ℕ) (rest : List LevelSymbol) (ks : List ℕ) → AreApart ks → AreApart (picked test s t x p rest ks)
 picked_apart test s t x p [] ks h = tt
 picked_apart test s t x p (a ∷ rest) [] h = tt
 picked_apart test s t x p (a ∷ rest) (k ∷ ks) h =
@@ -150,12 +150,12 @@ picked_apart test s t x p (a ∷ rest) (k ∷ ks) h =
 
 -- 3. level by level
 
-abbrev pub picked_below : (Question → Bool) → System → (ℕ → List ℕ) → ℕ → List (List Symbol) → List ℕ
+abbrev pub picked_below : (Question → Bool) → System → (ℕ → List ℕ) → ℕ → List (List LevelSymbol) → List ℕ
 picked_below test s nodes t [] = []
 picked_below test s nodes t (x ∷ []) = []
 picked_below test s nodes t (x ∷ y ∷ levels) = picked test s t x 0 x (nodes t) ++ picked_below test s nodes (t + 1) (y ∷ levels)
 
-pub below_count : (test : Question → Bool) (s : System) (nodes : ℕ → List ℕ) (t : ℕ) (xs : List (List Symbol)) → ((i : ℕ) (x : List Symbol) → slice_get xs i ≡ Some x → length x ≡ length (nodes (t + i)))
+pub below_count : (test : Question → Bool) (s : System) (nodes : ℕ → List ℕ) (t : ℕ) (xs : List (List LevelSymbol)) → ((i : ℕ) (x : List LevelSymbol) → slice_get xs i ≡ Some x → length x ≡ length (nodes (t + i)))
     → length (picked_below test s nodes t xs) ≡ count_by test (questions_below s t xs)
 below_count test s nodes t [] h = refl
 below_count test s nodes t (x ∷ []) h = refl
@@ -168,14 +168,14 @@ below_count test s nodes t (x ∷ y ∷ levels) h =
     omega (arith, one, rest, both, sum)
 
 -- a node of a level below the last
-pub record PassesBelow (test : Question → Bool) (s : System) (nodes : ℕ → List ℕ) (t : ℕ) (xs : List (List Symbol)) (k : ℕ) : Type 0 where
+pub record PassesBelow (test : Question → Bool) (s : System) (nodes : ℕ → List ℕ) (t : ℕ) (xs : List (List LevelSymbol)) (k : ℕ) : Type 0 where
   pub level : ℕ
-  pub symbols : List Symbol
+  pub symbols : List LevelSymbol
   pub there : slice_get xs level ≡ Some symbols
   pub below : level + 1 < length xs
   pub at : Passes test s (t + level) symbols 0 symbols (nodes (t + level)) k
 
-pub below_in : (test : Question → Bool) (s : System) (nodes : ℕ → List ℕ) (t : ℕ) (xs : List (List Symbol)) (k : ℕ) → In k (picked_below test s nodes t xs) → PassesBelow test s nodes t xs k
+pub below_in : (test : Question → Bool) (s : System) (nodes : ℕ → List ℕ) (t : ℕ) (xs : List (List LevelSymbol)) (k : ℕ) → In k (picked_below test s nodes t xs) → PassesBelow test s nodes t xs k
 below_in test s nodes t [] k h = absurd h
 below_in test s nodes t (x ∷ []) k h = absurd h
 below_in test s nodes t (x ∷ y ∷ levels) k h = elim (In_append (picked test s t x 0 x (nodes t)) (picked_below test s nodes (t + 1) (y ∷ levels)) k h) [
@@ -186,7 +186,7 @@ below_in test s nodes t (x ∷ y ∷ levels) k h = elim (In_append (picked test 
       record { level = suc r.level; symbols = r.symbols; there = r.there; below = omega (arith, less); at = subst (λ q. Passes test s q r.symbols 0 r.symbols (nodes q) k) (plus_one t r.level) r.at }
 ]
 
-pub in_below : (test : Question → Bool) (s : System) (nodes : ℕ → List ℕ) (t : ℕ) (xs : List (List Symbol)) (u : ℕ) (x : List Symbol) (i k : ℕ) (a : Symbol) (q : Question) → slice_get xs u ≡ Some x → u + 1 < length xs
+pub in_below : (test : Question → Bool) (s : System) (nodes : ℕ → List ℕ) (t : ℕ) (xs : List (List LevelSymbol)) (u : ℕ) (x : List LevelSymbol) (i k : ℕ) (a : LevelSymbol) (q : Question) → slice_get xs u ≡ Some x → u + 1 < length xs
     → slice_get (nodes (t + u)) i ≡ Some k → slice_get x i ≡ Some a → question_here s (t + u) x (0 + i) a ≡ Some q → test q ≡ true → In k (picked_below test s nodes t xs)
 in_below test s nodes t [] u x i k a q e l n h g f = absurd (none-some x e)
 in_below test s nodes t (y ∷ []) u x i k a q e l n h g f = absurd (omega (arith, l))
@@ -199,7 +199,7 @@ in_below test s nodes t (y ∷ z ∷ levels) (suc u) x i k a q e l n h g f =
     In_right k (picked test s t y 0 y (nodes t)) (picked_below test s nodes (t + 1) (z ∷ levels))
     (in_below test s nodes (t + 1) (z ∷ levels) u x i k a q e (omega (arith, l)) (ap (λ w. slice_get (nodes w) i) (plus_one t u) ∙ n) h (ap (λ w. question_here s w x (0 + i) a) (plus_one t u) ∙ g) f)
 
-pub below_apart : (test : Question → Bool) (s : System) (nodes : ℕ → List ℕ) → ((t : ℕ) → AreApart (nodes t)) → ((t u k : ℕ) → In k (nodes t) → In k (nodes u) → t ≡ u) → (t : ℕ) (xs : List (List Symbol)) → AreApart (picked_below test s nodes t xs)
+pub below_apart : (test : Question → Bool) (s : System) (nodes : ℕ → List ℕ) → ((t : ℕ) → AreApart (nodes t)) → ((t u k : ℕ) → In k (nodes t) → In k (nodes u) → t ≡ u) → (t : ℕ) (xs : List (List LevelSymbol)) → AreApart (picked_below test s nodes t xs)
 below_apart test s nodes apart one t [] = tt
 below_apart test s nodes apart one t (x ∷ []) = tt
 below_apart test s nodes apart one t (x ∷ y ∷ levels) =

@@ -7,9 +7,9 @@ use Rattle.std.proofs.lemmas.List.Sums.{sum_by-cons}
 use Rattle.std.proofs.lemmas.Option.{slice_get_within}
 use Rattle.lsys_spec.specs.Draws.{key_of}
 use Rattle.lsys_spec.specs.Systems.{System}
-use Rattle.lsys_spec.specs.Levels.{Symbol, lineage, plain}
+use Rattle.lsys_spec.specs.Levels.{LevelSymbol, lineage, plain}
 use Rattle.lsys_change.proofs.UpTo.{level_count}
-use Rattle.lsys_level.specs.Spots.{Seen, Push, Pop, Module, Spotted, with_lineage, named, level_by, level_at, spotted_at}
+use Rattle.lsys_level.specs.Spots.{Seen, Push, Pop, Module, Spotted, with_lineage, named, level_by, spots_at, spotted_at}
 use Rattle.lsys_match.specs.Kept.{Kept}
 use Rattle.lsys_match.specs.Derivations.{StandsFor, IsDerived, symbol_at}
 use Rattle.lsys_walks.specs.Stores.{Store}
@@ -21,13 +21,13 @@ use Rattle.lsys_forest.proofs.ViewLemmas.{are_told, told_is}
 use Rattle.lsys_kept.specs.declared.seat.Seat.{Seat}
 use Rattle.lsys_kept.proofs.LevelLemmas.{lineage_at}
 use Rattle.lsys_kept.specs.Lineages.{names}
-use Rattle.lsys_kept.specs.Meant.{meant}
+use Rattle.lsys_kept.specs.Meant.{levels_meant}
 use Rattle.lsys_pass.specs.declared.sizes.Size.{Size}
 use Rattle.lsys_pass.specs.declared.state.PassState.TheVariants.{Rest}
 use Rattle.lsys_pass.specs.Rests.{IsResting}
 use Rattle.lsys_pass.specs.Sizes.{symbols_at, total_of, HaveSizes}
-use Rattle.lsys_pass.specs.Passes.{PassView, stage_of, now, was, IsStill, HoldsAt, IsPass}
-use Rattle.lsys_pass.specs.Views.{levels_of, view_of, IsQuiet}
+use Rattle.lsys_pass.specs.Passes.{PassView, stage_of, now_in, rest_in, IsStill, HoldsAt, IsPass}
+use Rattle.lsys_pass.specs.Views.{pass_levels, view_of, IsQuiet}
 use Rattle.lsys_pass.proofs.Backing.{rests_at}
 use Rattle.lsys_pass.proofs.Before.{no_more}
 use Rattle.lsys_pass.proofs.Limits.{within}
@@ -71,32 +71,32 @@ same_sums {A = A} (z ∷ zs) (x ∷ xs) h =
 -- 2. the last rest
 
 module _ (s : System) (limit : ℕ) (m : Nodes Kept) (root : ℕ) (store : Store) (reads : Relations) (seats : List Seat) (r : IsResting s limit m root store reads seats) where
-  many : length (meant s limit) ≡ s.depth + 1
-  many = level_count s limit s.depth (meant s limit) r.spelled r.is
+  many : length (levels_meant s limit) ≡ s.depth + 1
+  many = level_count s limit s.depth (levels_meant s limit) r.spelled r.is
 
-  pub none_past : (t : ℕ) → length (meant s limit) ≤ t → level_nodes m root t ≡ []
+  pub none_past : (t : ℕ) → length (levels_meant s limit) ≤ t → level_nodes m root t ≡ []
   none_past t l =
-      let e : length (meant s limit) + (t - length (meant s limit)) ≡ t = omega (arith, l) in
-      ap (level_nodes m root) (sym e) ∙ no_more m root (length (meant s limit)) (t - length (meant s limit)) r.ends
+      let e : length (levels_meant s limit) + (t - length (levels_meant s limit)) ≡ t = omega (arith, l) in
+      ap (level_nodes m root) (sym e) ∙ no_more m root (length (levels_meant s limit)) (t - length (levels_meant s limit)) r.ends
 
   -- a level has as many nodes as symbols
-  pub nodes_long : (t : ℕ) → length (level_nodes m root t) ≡ length (get_or (meant s limit) t [])
-  nodes_long t = elim (cases_lt t (length (meant s limit))) [
+  pub nodes_long : (t : ℕ) → length (level_nodes m root t) ≡ length (get_or (levels_meant s limit) t [])
+  nodes_long t = elim (cases_lt t (length (levels_meant s limit))) [
     | inl l ↦
         sym (length-map (level_nodes m root t) (λ k. spot_in k (m k)))
         ∙ sym (length-map (level_spots m root t) (named (names m)))
-        ∙ ap (length {A = Symbol}) (r.levels.each t l)
-    | inr g ↦ ap (length {A = ℕ}) (none_past t g) ∙ sym (ap (length {A = Symbol}) (get_or_past (meant s limit) t [] g))
+        ∙ ap (length {A = LevelSymbol}) (r.levels.each t l)
+    | inr g ↦ ap (length {A = ℕ}) (none_past t g) ∙ sym (ap (length {A = LevelSymbol}) (get_or_past (levels_meant s limit) t [] g))
   ]
 
   pub rest_total : (sizes : List Size) → HaveSizes m root sizes → total_of sizes ≤ limit
   rest_total sizes h =
-      let same = same_sums sizes (meant s limit) (λ t. h.symbols t ∙ nodes_long t) in
-      let most = within s limit s.depth (meant s limit) r.is in
+      let same = same_sums sizes (levels_meant s limit) (λ t. h.symbols t ∙ nodes_long t) in
+      let most = within s limit s.depth (levels_meant s limit) r.is in
       omega (arith, same, most)
 
 pub under_limit : (v : PassView) → IsPass v → total_of v.sizes ≤ v.limit
-under_limit v h = rest_total v.system v.limit (was v) v.forest.root v.store v.reads v.seats (rests_at (stage_of v) v.state h.holds) v.sizes h.sized
+under_limit v h = rest_total v.system v.limit (rest_in v) v.forest.root v.store v.reads v.seats (rests_at (stage_of v) v.state h.holds) v.sizes h.sized
 
 -- 3. at rest
 
@@ -105,24 +105,24 @@ module _ (v : PassView) (h : IsPass v) (q : v.state ≡ Rest) where
   still = subst (HoldsAt (stage_of v)) q h.holds
 
   -- the nodes are those of the last rest
-  pub was_now : was v ≡ now v
-  was_now = ap (λ (cs : List (Change Kept)). undone cs (now v)) still.changes
+  pub was_now : rest_in v ≡ now_in v
+  was_now = ap (λ (cs : List (Change Kept)). undone cs (now_in v)) still.changes
 
-  pub rest_now : IsResting v.system v.limit (now v) v.forest.root v.store v.reads v.seats
+  pub rest_now : IsResting v.system v.limit (now_in v) v.forest.root v.store v.reads v.seats
   rest_now = subst (λ (m : Nodes Kept). IsResting v.system v.limit m v.forest.root v.store v.reads v.seats) was_now still.rest
 
 module _ (v : PassView) (h : IsPass v) (q : IsQuiet v) where
-  abbrev r : IsResting v.system v.limit (now v) v.forest.root v.store v.reads v.seats
+  abbrev r : IsResting v.system v.limit (now_in v) v.forest.root v.store v.reads v.seats
   r = rest_now v h q.state
 
-  abbrev xs : List (List Symbol)
-  xs = meant v.system v.limit
+  abbrev xs : List (List LevelSymbol)
+  xs = levels_meant v.system v.limit
 
-  sight : Shows v.forest (v.system.depth + 1) (levels_of v)
+  sight : Shows v.forest (v.system.depth + 1) (pass_levels v)
   sight = shows v (view_of v) v.forest h refl refl
 
   levels_many : length xs ≡ v.system.depth + 1
-  levels_many = many v.system v.limit (now v) v.forest.root v.store v.reads v.seats r
+  levels_many = many v.system v.limit (now_in v) v.forest.root v.store v.reads v.seats r
 
   balanced_all : AreBalancedTo v.forest v.system.depth
   balanced_all u l = let c = levels_many in r.levels.balanced u (omega (arith, l, c))
@@ -130,23 +130,23 @@ module _ (v : PassView) (h : IsPass v) (q : IsQuiet v) where
   complete : v.system.depth < length (complete_levels v.forest)
   complete = are_told v.forest v.system.depth q.small balanced_all
 
-  pub count : length (levels_of v) ≡ v.system.depth + 1
+  pub count : length (pass_levels v) ≡ v.system.depth + 1
   count = let c = complete in length-take-le (v.system.depth + 1) (complete_levels v.forest) (omega (arith, c))
 
   -- each level is that of the nodes
-  told_at : (t : ℕ) → t < v.system.depth + 1 → level_at (levels_of v) t ≡ level_spots (now v) v.forest.root t
+  told_at : (t : ℕ) → t < v.system.depth + 1 → spots_at (pass_levels v) t ≡ level_spots (now_in v) v.forest.root t
   told_at t l =
-      row_is v.forest (v.system.depth + 1) (levels_of v) sight t l
+      row_is v.forest (v.system.depth + 1) (pass_levels v) sight t l
       ∙ told_is v.forest t (let c = complete in omega (arith, c, l))
 
-  none_at : (t : ℕ) → v.system.depth + 1 ≤ t → level_at (levels_of v) t ≡ []
-  none_at t g = let c = count in get_or_past (levels_of v) t [] (omega (arith, c, g))
+  none_at : (t : ℕ) → v.system.depth + 1 ≤ t → spots_at (pass_levels v) t ≡ []
+  none_at t g = let c = count in get_or_past (pass_levels v) t [] (omega (arith, c, g))
 
-  pub strings_are : (t : ℕ) → map plain (level_by (λ tag. []) (level_at (levels_of v) t)) ≡ map plain (get_or xs t [])
+  pub strings_are : (t : ℕ) → map plain (level_by (λ tag. []) (spots_at (pass_levels v) t)) ≡ map plain (get_or xs t [])
   strings_are t = elim (cases_lt t (v.system.depth + 1)) [
     | inl l ↦
         ap (λ (x : List Spotted). map plain (level_by (λ tag. []) x)) (told_at t l)
-        ∙ plain_level (λ tag. []) (names (now v)) (level_spots (now v) v.forest.root t)
+        ∙ plain_level (λ tag. []) (names (now_in v)) (level_spots (now_in v) v.forest.root t)
         ∙ ap (map plain) (r.levels.each t (let c = levels_many in omega (arith, c, l)))
     | inr g ↦
         ap (λ (x : List Spotted). map plain (level_by (λ tag. []) x)) (none_at t g)
@@ -158,23 +158,23 @@ module _ (v : PassView) (h : IsPass v) (q : IsQuiet v) where
   -- it is a node of this level, by its lineage
   pub record IsNodeOf (t p : ℕ) (a : Spotted) : Type 0 where
     pub within : t < v.system.depth + 1
-    pub there : slice_get (level_nodes (now v) v.forest.root t) p ≡ Some a.tag
+    pub there : slice_get (level_nodes (now_in v) v.forest.root t) p ≡ Some a.tag
 
-  pub node_of : (t p : ℕ) (a : Spotted) → spotted_at (levels_of v) t p ≡ Some a → IsNodeOf t p a
+  pub node_of : (t p : ℕ) (a : Spotted) → spotted_at (pass_levels v) t p ≡ Some a → IsNodeOf t p a
   node_of t p a e =
-      let b = below v.forest (v.system.depth + 1) (levels_of v) sight t (spot_told (levels_of v) t p (slice_get_within (level_at (levels_of v) t) p a e)) in
+      let b = below v.forest (v.system.depth + 1) (pass_levels v) sight t (spot_told (pass_levels v) t p (slice_get_within (spots_at (pass_levels v) t) p a e)) in
       record {
         within = b.0;
-        there = node_there v.forest (v.system.depth + 1) (levels_of v) sight t p a b.1 (there v.forest (v.system.depth + 1) (levels_of v) sight t p a e);
+        there = node_there v.forest (v.system.depth + 1) (pass_levels v) sight t p a b.1 (there v.forest (v.system.depth + 1) (pass_levels v) sight t p a e);
       }
 
-  pub lineage_is : (t p : ℕ) (a : Spotted) (s : Symbol) → spotted_at (levels_of v) t p ≡ Some a → symbol_at xs t p ≡ Some s → lineage s ≡ names (now v) a.tag
+  pub lineage_is : (t p : ℕ) (a : Spotted) (s : LevelSymbol) → spotted_at (pass_levels v) t p ≡ Some a → symbol_at xs t p ≡ Some s → lineage s ≡ names (now_in v) a.tag
   lineage_is t p a s e f =
       let n = node_of t p a e in
-      lineage_at (names (now v)) (now v) (level_nodes (now v) v.forest.root t) p a.tag s n.there
-      (ap (λ (y : List Symbol). slice_get y p) (r.levels.each t (let c = levels_many in let l = n.within in omega (arith, c, l))) ∙ f)
+      lineage_at (names (now_in v)) (now_in v) (level_nodes (now_in v) v.forest.root t) p a.tag s n.there
+      (ap (λ (y : List LevelSymbol). slice_get y p) (r.levels.each t (let c = levels_many in let l = n.within in omega (arith, c, l))) ∙ f)
 
-  pub keys_are : (t p : ℕ) (a : Spotted) (s : Symbol) → spotted_at (levels_of v) t p ≡ Some a → symbol_at xs t p ≡ Some s → a.key ≡ key_of v.system.seed (lineage s)
+  pub keys_are : (t p : ℕ) (a : Spotted) (s : LevelSymbol) → spotted_at (pass_levels v) t p ≡ Some a → symbol_at xs t p ≡ Some s → a.key ≡ key_of v.system.seed (lineage s)
   keys_are t p a s e f =
       let n = node_of t p a e in
       r.levels.keys t p a (let c = levels_many in let l = n.within in omega (arith, c, l)) (ap (λ (x : List Spotted). slice_get x p) (sym (told_at t n.within)) ∙ e)
@@ -182,29 +182,29 @@ module _ (v : PassView) (h : IsPass v) (q : IsQuiet v) where
 
   -- 5. the derivation
 
-  pub stands_for : StandsFor v.system.seed xs (levels_of v)
+  pub stands_for : StandsFor v.system.seed xs (pass_levels v)
   stands_for = record {
     depth = count ∙ sym levels_many;
     strings = record { string = strings_are };
-    tags = own v.forest (v.system.depth + 1) (levels_of v) sight;
+    tags = own v.forest (v.system.depth + 1) (pass_levels v) sight;
     keys = keys_are;
   }
 
-  pub derived : IsDerived v.system v.limit (levels_of v)
+  pub derived : IsDerived v.system v.limit (pass_levels v)
   derived = record { meant = xs; is = r.is; view = stands_for }
 
   -- behind the last level there are no nodes
-  pub none_behind : (t : ℕ) → v.system.depth + 1 ≤ t → level_nodes (now v) v.forest.root t ≡ []
-  none_behind t g = none_past v.system v.limit (now v) v.forest.root v.store v.reads v.seats r t (let c = levels_many in omega (arith, c, g))
+  pub none_behind : (t : ℕ) → v.system.depth + 1 ≤ t → level_nodes (now_in v) v.forest.root t ≡ []
+  none_behind t g = none_past v.system v.limit (now_in v) v.forest.root v.store v.reads v.seats r t (let c = levels_many in omega (arith, c, g))
 
-  pub nodes_at : (t : ℕ) → t < v.system.depth + 1 → length (level_nodes (now v) v.forest.root t) ≡ length (level_at (levels_of v) t)
-  nodes_at t l = sym (length-map (level_nodes (now v) v.forest.root t) (λ k. spot_in k (now v k))) ∙ sym (ap (length {A = Spotted}) (told_at t l))
+  pub nodes_at : (t : ℕ) → t < v.system.depth + 1 → length (level_nodes (now_in v) v.forest.root t) ≡ length (spots_at (pass_levels v) t)
+  nodes_at t l = sym (length-map (level_nodes (now_in v) v.forest.root t) (λ k. spot_in k (now_in v k))) ∙ sym (ap (length {A = Spotted}) (told_at t l))
 
   -- its sizes tell how many symbols there are
-  pub total_is : total_of v.sizes ≡ sum_by length (levels_of v)
-  total_is = same_sums v.sizes (levels_of v) (λ t. h.sized.symbols t ∙ ap (λ (m : Nodes Kept). length (level_nodes m v.forest.root t)) (was_now v h q.state) ∙ long t)
+  pub total_is : total_of v.sizes ≡ sum_by length (pass_levels v)
+  total_is = same_sums v.sizes (pass_levels v) (λ t. h.sized.symbols t ∙ ap (λ (m : Nodes Kept). length (level_nodes m v.forest.root t)) (was_now v h q.state) ∙ long t)
     where
-      long : (t : ℕ) → length (level_nodes (now v) v.forest.root t) ≡ length (level_at (levels_of v) t)
+      long : (t : ℕ) → length (level_nodes (now_in v) v.forest.root t) ≡ length (spots_at (pass_levels v) t)
       long t = elim (cases_lt t (v.system.depth + 1)) [
         | inl l ↦ nodes_at t l
         | inr g ↦ ap (length {A = ℕ}) (none_behind t g) ∙ sym (ap (length {A = Spotted}) (none_at t g))

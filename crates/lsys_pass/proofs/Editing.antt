@@ -2,6 +2,7 @@
 use Rattle.std.proofs.Common.{◌≡◌, ◌≢◌, ℕ, zero, suc, ◌+◌, ◌*◌, ◌-◌, ◌≤◌, ◌<◌, ◌^◌, List, [], ◌∷◌, ◌++◌, length, Option, Some, None, Result, Ok, Err, refl, ap, sym, ◌∙◌, subst, arith, OnErr}
 use Rattle.std.specs.Prelude.{IsSome}
 use Rattle.std.proofs.lemmas.List.{length-append}
+use Rattle.lsys_spec.specs.Rows.{In}
 use Rattle.lsys_spec.specs.Systems.{System, WellSpelled}
 use Rattle.lsys_spec.specs.Levels as L
 use Rattle.lsys_spec.specs.Questions.{questions, least_visits}
@@ -13,15 +14,15 @@ use Rattle.lsys_match.specs.Derivations.{AreMeant, IsCount, Rises, most_read}
 use Rattle.lsys_change.specs.Nodes.{AreOnce, Extends}
 use Rattle.lsys_forest.specs.Nodes.{Node, Nodes}
 use Rattle.lsys_forest.specs.Changes.{undone}
-use Rattle.lsys_forest.specs.Groves.{In, ReachedIn, Reached, changes_in}
+use Rattle.lsys_forest.specs.Groves.{ReachedIn, Reached, changes_in}
 use Rattle.lsys_forest.proofs.SoundLemmas.{AreSound-now}
 use Rattle.lsys_kept.specs.Lineages.{kins}
-use Rattle.lsys_kept.specs.Meant.{levels_or_none, meant}
+use Rattle.lsys_kept.specs.Meant.{levels_or_none, levels_meant}
 use Rattle.lsys_pass.specs.declared.state.PassState.{PassState}
 use Rattle.lsys_pass.specs.declared.state.PassState.TheVariants.{Rest, Level, Done, Failed}
 use Rattle.lsys_pass.specs.Stages.{IsDone}
-use Rattle.lsys_pass.specs.Passes.{PassView, stage_of, now, was, HoldsAt, IsPass}
-use Rattle.lsys_pass.specs.Moves.{AtLevel, SameRun, IsBack, StepsOver, MovesOnce, Finishes, Follows, IsNext, Closes}
+use Rattle.lsys_pass.specs.Passes.{PassView, stage_of, now_in, rest_in, HoldsAt, IsPass}
+use Rattle.lsys_pass.specs.Moves.{AtLevel, SameRun, IsBack, StepsOver, MovesOnce, Finishes, Follows, ArrivesAt, ComesToRest}
 use Rattle.lsys_pass.specs.Beginnings.{Begun}
 use Rattle.lsys_pass.specs.Spent.{visits_in, spent_visits, AllPending}
 use Rattle.lsys_pass.specs.Edits.{IsEdited}
@@ -64,7 +65,7 @@ IsUnderWay Done = Unit {0}
 IsUnderWay Rest = ⊥
 IsUnderWay Failed = ⊥
 
-under : (s : System) (t : ℕ) (n : PassState) → IsNext s t n → IsUnderWay n
+under : (s : System) (t : ℕ) (n : PassState) → ArrivesAt s t n → IsUnderWay n
 under s t (Level u) h = tt
 under s t Done h = tt
 under s t Rest h = h
@@ -92,7 +93,7 @@ left_of s Rest = 0
 left_of s Done = 0
 left_of s Failed = 0
 
-next_less : (s : System) (t : ℕ) (n : PassState) → t < s.depth → IsNext s (t + 1) n → left_of s n < s.depth - t
+next_less : (s : System) (t : ℕ) (n : PassState) → t < s.depth → ArrivesAt s (t + 1) n → left_of s n < s.depth - t
 next_less s t (Level u) d h = omega (arith, d, h.0, h.1)
 next_less s t Done d h = omega (arith, d)
 next_less s t Rest d h = absurd h
@@ -103,7 +104,7 @@ level_less u v w h a r s f =
     let l = level_in u.state a in
     let x = at u l.0 h l.1 in
     let next : w.next ≡ u.next = f.run.next ∙ r.next in
-    let follows = subst (λ (z : System). IsNext z (l.0 + 1) w.state) r.next (subst (λ z. Follows v.next z w.state) (s ∙ l.1) f.state) in
+    let follows = subst (λ (z : System). ArrivesAt z (l.0 + 1) w.state) r.next (subst (λ z. Follows v.next z w.state) (s ∙ l.1) f.state) in
     let less = next_less u.next l.0 w.state x.tree.below follows in
     let old : left_of u.next u.state ≡ u.next.depth - l.0 = ap (left_of u.next) l.1 in
     let new : left_of w.next w.state ≡ left_of u.next w.state = ap (λ (z : System). left_of z w.state) next in
@@ -174,7 +175,7 @@ pub record Makes (start v : PassView) (a0 a r0 r : ℕ) : Type 0 where
   pub visits : IsPass v → r ≡ r0 + spent_visits v
   pub from_visits : r0 ≤ r
 
-pub makes_first : (v : PassView) (a r : ℕ) → IsNext v.next 0 v.state → AllPending v v.state → v.renewed ≡ [] → Makes v v a a r r
+pub makes_first : (v : PassView) (a r : ℕ) → ArrivesAt v.next 0 v.state → AllPending v v.state → v.renewed ≡ [] → Makes v v a a r r
 makes_first v a r first all none = record {
   run = same_run v;
   way = under v.next 0 v.state first;
@@ -235,13 +236,13 @@ reads_ended start u v a0 a r0 r q m h level run state k visits =
 done_of : (v : PassView) → IsPass v → v.state ≡ Done → IsDone (stage_of v)
 done_of v h e = subst (HoldsAt (stage_of v)) e h.holds
 
-record SameSystems (v0 v2 : PassView) (s : System) (x y : List (List L.Symbol)) : Type 0 where
+record SameSystems (v0 v2 : PassView) (s : System) (x y : List (List L.LevelSymbol)) : Type 0 where
   system : v2.system ≡ v0.system
   next : v2.next ≡ s
-  levels : meant v2.system v2.limit ≡ x
-  new_levels : meant v2.next v2.limit ≡ y
+  levels : levels_meant v2.system v2.limit ≡ x
+  new_levels : levels_meant v2.next v2.limit ≡ y
 
-same_systems : (v0 v1 v2 : PassView) (s : System) (x y : List (List L.Symbol)) → Begun v0 v1 s → SameRun v1 v2 → AreMeant v0.system s v0.limit x y → SameSystems v0 v2 s x y
+same_systems : (v0 v1 v2 : PassView) (s : System) (x y : List (List L.LevelSymbol)) → Begun v0 v1 s → SameRun v1 v2 → AreMeant v0.system s v0.limit x y → SameSystems v0 v2 s x y
 same_systems v0 v1 v2 s x y b r m =
     let sys : v2.system ≡ v0.system = r.system ∙ b.system in
     let nxt : v2.next ≡ s = r.next ∙ b.next in
@@ -249,25 +250,25 @@ same_systems v0 v1 v2 s x y b r m =
     record {
       system = sys;
       next = nxt;
-      levels = ap (λ s. meant s v2.limit) sys ∙ ap (meant v0.system) lim ∙ ap levels_or_none m.before;
-      new_levels = ap (λ s. meant s v2.limit) nxt ∙ ap (meant s) lim ∙ ap levels_or_none m.after;
+      levels = ap (λ s. levels_meant s v2.limit) sys ∙ ap (levels_meant v0.system) lim ∙ ap levels_or_none m.before;
+      new_levels = ap (λ s. levels_meant s v2.limit) nxt ∙ ap (levels_meant s) lim ∙ ap levels_or_none m.after;
     }
 
-pub counted : (v0 v1 v2 : PassView) (s : System) (x y : List (List L.Symbol)) (n : EditCount) → Begun v0 v1 s → SameRun v1 v2 → AreMeant v0.system s v0.limit x y
-    → IsCount (questions v2.system (meant v2.system v2.limit)) (questions v2.next (meant v2.next v2.limit)) n → IsCount (questions v0.system x) (questions s y) n
+pub counted : (v0 v1 v2 : PassView) (s : System) (x y : List (List L.LevelSymbol)) (n : EditCount) → Begun v0 v1 s → SameRun v1 v2 → AreMeant v0.system s v0.limit x y
+    → IsCount (questions v2.system (levels_meant v2.system v2.limit)) (questions v2.next (levels_meant v2.next v2.limit)) n → IsCount (questions v0.system x) (questions s y) n
 counted v0 v1 v2 s x y n b r m c =
     let k = same_systems v0 v1 v2 s x y b r m in
-    let olds = ap (λ z. questions z (meant v2.system v2.limit)) k.system ∙ ap (questions v0.system) k.levels in
-    let news = ap (λ z. questions z (meant v2.next v2.limit)) k.next ∙ ap (questions s) k.new_levels in
-    subst (λ qs. IsCount (questions v0.system x) qs n) news (subst (λ qs. IsCount qs (questions v2.next (meant v2.next v2.limit)) n) olds c)
+    let olds = ap (λ z. questions z (levels_meant v2.system v2.limit)) k.system ∙ ap (questions v0.system) k.levels in
+    let news = ap (λ z. questions z (levels_meant v2.next v2.limit)) k.next ∙ ap (questions s) k.new_levels in
+    subst (λ qs. IsCount (questions v0.system x) qs n) news (subst (λ qs. IsCount qs (questions v2.next (levels_meant v2.next v2.limit)) n) olds c)
 
-visits_are : (v0 v2 : PassView) (s : System) (x y : List (List L.Symbol)) → SameSystems v0 v2 s x y → v2.state ≡ Done → spent_visits v2 ≡ candidate_visits v0.system s x y
+visits_are : (v0 v2 : PassView) (s : System) (x y : List (List L.LevelSymbol)) → SameSystems v0 v2 s x y → v2.state ≡ Done → spent_visits v2 ≡ candidate_visits v0.system s x y
 visits_are v0 v2 s x y k e =
-    ap (visits_in v2) e ∙ ap (λ z. candidate_visits z v2.next (meant v2.system v2.limit) (meant v2.next v2.limit)) k.system
-    ∙ ap (λ z. candidate_visits v0.system z (meant v2.system v2.limit) (meant v2.next v2.limit)) k.next
-    ∙ ap (λ z. candidate_visits v0.system s z (meant v2.next v2.limit)) k.levels ∙ ap (candidate_visits v0.system s x) k.new_levels
+    ap (visits_in v2) e ∙ ap (λ z. candidate_visits z v2.next (levels_meant v2.system v2.limit) (levels_meant v2.next v2.limit)) k.system
+    ∙ ap (λ z. candidate_visits v0.system z (levels_meant v2.system v2.limit) (levels_meant v2.next v2.limit)) k.next
+    ∙ ap (λ z. candidate_visits v0.system s z (levels_meant v2.next v2.limit)) k.levels ∙ ap (candidate_visits v0.system s x) k.new_levels
 
-pub read_between : (v0 v1 v2 : PassView) (s : System) (x y : List (List L.Symbol)) (r0 q : ℕ) → Begun v0 v1 s → SameRun v1 v2 → IsPass v2 → v2.state ≡ Done → AreMeant v0.system s v0.limit x y
+pub read_between : (v0 v1 v2 : PassView) (s : System) (x y : List (List L.LevelSymbol)) (r0 q : ℕ) → Begun v0 v1 s → SameRun v1 v2 → IsPass v2 → v2.state ≡ Done → AreMeant v0.system s v0.limit x y
     → q ≡ r0 + spent_visits v2 → Rises (least_visits (questions v0.system x) (questions s y)) (candidate_visits v0.system s x y) r0 q
 read_between v0 v1 v2 s x y r0 q b r h e m i =
     let k = same_systems v0 v1 v2 s x y b r m in
@@ -279,7 +280,7 @@ read_between v0 v1 v2 s x y r0 q b r h e m i =
     let are = visits_are v0 v2 s x y k e in
     record { from = omega (arith, i, are, least); to = omega (arith, i, are) }
 
-pub back : (v0 v1 v2 v3 : PassView) (s : System) → Begun v0 v1 s → SameRun v1 v2 → IsBack v2 v3 → was v0 ≡ now v0 → IsBack v0 v3
+pub back : (v0 v1 v2 v3 : PassView) (s : System) → Begun v0 v1 s → SameRun v1 v2 → IsBack v2 v3 → rest_in v0 ≡ now_in v0 → IsBack v0 v3
 back v0 v1 v2 v3 s b r k same = record {
   state = k.state;
   system = k.system ∙ r.system ∙ b.system;
@@ -304,27 +305,27 @@ lives m k h = by (m k) refl h
     by None e i = cc
     by (Some n) e i = (n, e)
 
-pub edited : (v0 v1 v2 v3 : PassView) (s : System) → Begun v0 v1 s → SameRun v1 v2 → IsPass v2 → v2.state ≡ Done → Closes v2 v3 → IsPass v3 → IsEdited v0 v3 s
+pub edited : (v0 v1 v2 v3 : PassView) (s : System) → Begun v0 v1 s → SameRun v1 v2 → IsPass v2 → v2.state ≡ Done → ComesToRest v2 v3 → IsPass v3 → IsEdited v0 v3 s
 edited v0 v1 v2 v3 s b r h e c h3 =
     let d = done_of v2 h e in
     let still = subst (HoldsAt (stage_of v3)) c.state h3.holds in
     let root : v2.forest.root ≡ v0.forest.root = r.root ∙ b.root in
-    let sound = AreSound-now v2.forest.root (changes_in v2.forest) (now v2) h.stored.sound in
-    let resting : now v3 ≡ was v3 = ap (λ changes. undone changes (now v3)) (sym still.changes) in
-    let only : (k : ℕ) → IsSome (now v3 k) → Reached (now v2) v2.forest.root k = λ k i. (
-    let n = lives (now v3) k i in
+    let sound = AreSound-now v2.forest.root (changes_in v2.forest) (now_in v2) h.stored.sound in
+    let resting : now_in v3 ≡ rest_in v3 = ap (λ changes. undone changes (now_in v3)) (sym still.changes) in
+    let only : (k : ℕ) → IsSome (now_in v3 k) → Reached (now_in v2) v2.forest.root k = λ k i. (
+    let n = lives (now_in v3) k i in
     let there = still.rest.reached k n.0 (ap (λ (m : Nodes Kept). m k) (sym resting) ∙ n.1) in
-    let here = subst (λ z. Reached (now v3) z k) c.root (subst (λ (m : Nodes Kept). Reached m v3.forest.root k) (sym resting) there) in
-    (here.0, reached_back (now v2) (now v3) v2.forest.root c.nodes here.0 k here.1)
+    let here = subst (λ z. Reached (now_in v3) z k) c.root (subst (λ (m : Nodes Kept). Reached m v3.forest.root k) (sym resting) there) in
+    (here.0, reached_back (now_in v2) (now_in v3) v2.forest.root c.nodes here.0 k here.1)
     ) in
     record {
       system = c.system ∙ r.next ∙ b.next;
       small = subst (λ (z : System). z.depth < 2 ^ 32) (sym c.system) d.small;
       root = c.root ∙ root;
       family = record {
-        all = kins (now v2);
-        once = subst (AreOnce (kins (now v2))) root d.once;
-        old_in = subst (λ (m : Nodes Kept). Extends (kins m) (kins (now v2))) (r.was ∙ b.was) d.stay;
-        new_in = extends (now v2) (now v3) v2.forest.root (changes_in v2.forest) sound c.nodes only;
+        all = kins (now_in v2);
+        once = subst (AreOnce (kins (now_in v2))) root d.once;
+        old_in = subst (λ (m : Nodes Kept). Extends (kins m) (kins (now_in v2))) (r.was ∙ b.was) d.stay;
+        new_in = extends (now_in v2) (now_in v3) v2.forest.root (changes_in v2.forest) sound c.nodes only;
       };
     }

@@ -1,16 +1,17 @@
 -- The nodes of a level that ends, and those below them, live.
 use Rattle.std.proofs.Common.{◌≡◌, ◌++◌, ℕ, List, Option, Some, None, refl, sym, subst, inl, inr}
 use Rattle.std.specs.Prelude.{IsSome, option_map}
+use Rattle.lsys_spec.specs.Rows.{In}
 use Rattle.lsys_forest.specs.Nodes.{Node, Nodes}
 use Rattle.lsys_forest.specs.Changes.{Change}
-use Rattle.lsys_forest.specs.Groves.{In, IsSound}
+use Rattle.lsys_forest.specs.Groves.{IsRooted}
 use Rattle.lsys_forest.specs.Rows.{kids_in, kids_below, level_nodes}
 use Rattle.lsys_forest.proofs.RowLemmas.{In_append, flat_In, child, level_depth}
 use Rattle.lsys_repair.proofs.Renewing.{in_cases}
-use Rattle.lsys_front.specs.Ends.{ended, AreEnded}
+use Rattle.lsys_front.specs.Ends.{ended_node, AreEnded}
 
 module _ {A : Type 0} where
-  some_ended : (o : Option (Node A)) → IsSome o → IsSome (option_map ended o)
+  some_ended : (o : Option (Node A)) → IsSome o → IsSome (option_map ended_node o)
   some_ended None h = h
   some_ended (Some n) h = refl
 
@@ -20,7 +21,7 @@ module _ {A : Type 0} where
     | inr out ↦ subst IsSome (sym (e.others k out)) h
   ]
 
-  module _ (root : ℕ) (changes : List (Change A)) (m : Nodes A) (sound : IsSound root changes m) where
+  module _ (root : ℕ) (changes : List (Change A)) (m : Nodes A) (sound : IsRooted root changes m) where
     pub level_lives : (t k : ℕ) → In k (level_nodes m root t) → IsSome (m k)
     level_lives t k i = subst IsSome (sym (level_depth root changes m sound t k i).1) refl
 

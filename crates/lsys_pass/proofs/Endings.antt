@@ -5,6 +5,7 @@ use Rattle.std.specs.Option.{option_and_then}
 use Rattle.std.proofs.Math.Path.{fun_ext}
 use Rattle.std.proofs.lemmas.Bool.{cases_lt}
 use Rattle.std.proofs.lemmas.Option.{none-some, same_Some}
+use Rattle.lsys_spec.specs.Rows.{In, AreApart, first_in}
 use Rattle.lsys_spec.specs.Meaning.{meaning, meaning_to}
 use Rattle.lsys_spec.specs.Standings.{mate_at}
 use Rattle.lsys_change.specs.Nodes.{Kin, Kins, AreOnce}
@@ -13,30 +14,30 @@ use Rattle.lsys_change.proofs.UpTo.{level_count}
 use Rattle.lsys_level.specs.Spots.{Spotted, named}
 use Rattle.lsys_match.specs.Kept.{Kept}
 use Rattle.lsys_forest.specs.Nodes.{Node, Nodes}
-use Rattle.lsys_forest.specs.Groves.{Grove, In, AreApart, AreSound, IsSound, IsLive, ReachedIn, Reached, now_of, rest_of, changes_in}
-use Rattle.lsys_forest.specs.Rows.{first_in, kids_below, level_nodes, level_spots, complete_levels}
+use Rattle.lsys_forest.specs.Groves.{Grove, AreSound, IsRooted, IsLive, ReachedIn, Reached, now_of, rest_of, changes_in}
+use Rattle.lsys_forest.specs.Rows.{kids_below, level_nodes, level_spots, complete_levels}
 use Rattle.lsys_forest.proofs.RowLemmas.{In_append, In_left, In_right, apart_append, level_depth, level_apart}
 use Rattle.lsys_forest.proofs.SoundLemmas.{AreSound-now, AreSound-then}
 use Rattle.lsys_forest.proofs.ViewLemmas.{are_told}
 use Rattle.lsys_kept.specs.Lineages.{kin_of, kins}
 use Rattle.lsys_kept.specs.Levels.{HaveLevels, answer_at}
-use Rattle.lsys_kept.specs.Meant.{meant, meant_to}
+use Rattle.lsys_kept.specs.Meant.{levels_meant, meant_to}
 use Rattle.lsys_kept.specs.Neighbours.{Neighbours, neighbours_on}
 use Rattle.lsys_kept.specs.Seats.{neighbours_at}
 use Rattle.lsys_repair.proofs.Renewing.{in_cases}
 use Rattle.lsys_candidates.specs.Repairs.{Repair, are}
 use Rattle.lsys_candidates.specs.Repairs as R
 use Rattle.lsys_candidates.specs.Found.{LevelChanges}
-use Rattle.lsys_front.specs.Ends.{ended, AreEnded, is_answered, answered_in, rows_from}
-use Rattle.lsys_front.specs.LastLevels.{IsEnded, IsBehindAll, IsLastLevel, HadAnswerBehind, HasAllBehind, all_below}
+use Rattle.lsys_front.specs.Ends.{ended_node, AreEnded, is_answered, answered_in, rows_from}
+use Rattle.lsys_front.specs.LastLevels.{IsLevelEnded, IsBehindAll, IsLastLevel, HadAnswerBehind, HasAllBehind, all_below}
 use Rattle.lsys_front.proofs.RowsBelow.{filter_in, in_filter, filter_apart, answered, is_answered_by}
 use Rattle.lsys_front.proofs.LastLevels.{is_ended, is_bare, has_behind}
 use Rattle.lsys_front.specs.Losses.{LosesOnly}
 use Rattle.lsys_pass.specs.declared.state.PassState.TheVariants.{Failed}
 use Rattle.lsys_pass.specs.Lasts.{dropped_at_end}
 use Rattle.lsys_pass.specs.Stages.{Stage, Rests}
-use Rattle.lsys_pass.specs.Advances.{KeepsRest, Ends}
-use Rattle.lsys_pass.specs.Passes.{PassView, stage_of, now, was, repair_of, IsPass}
+use Rattle.lsys_pass.specs.Advances.{KeepsRest, HasLastLevel}
+use Rattle.lsys_pass.specs.Passes.{PassView, stage_of, now_in, rest_in, repair_of, IsPass}
 use Rattle.lsys_pass.specs.Fresh.{row_of, Goes, HasListsBefore, HasFound, IsLast}
 use Rattle.lsys_pass.proofs.Backing.{rests_at}
 use Rattle.lsys_pass.proofs.Before.{reached_on, no_more, count_is, is_below, placed, answer_lives}
@@ -48,7 +49,7 @@ use Rattle.lsys_pass.proofs.Failing.{still_failed, stored_less}
 -- By this forest the level of the repair is the last one, and these are the nodes that it drops: those of the level that kept an
 -- answer, and those behind it that had one.
 pub record EndsBy (r : Repair) (f : Grove Kept) (more : List ℕ) : Type 0 where
-  pub ended : IsEnded r (now_of f)
+  pub ended : IsLevelEnded r (now_of f)
   pub root : f.root ≡ r.forest.root
   pub rest : rest_of f ≡ R.rest r
   pub lived : (k : ℕ) (n : Node Kept) → now_of f k ≡ Some n → (p : Node Kept) × (R.now r k ≡ Some p)
@@ -59,7 +60,7 @@ pub record EndsBy (r : Repair) (f : Grove Kept) (more : List ℕ) : Type 0 where
   pub here : (k : ℕ) (a : Kept) → In k (are r) → answer_at (R.now r) k ≡ Some a → In k more
   pub behind : (k : ℕ) → HadAnswerBehind r k → In k more
 
-was_some : (o : Option (Node Kept)) (n : Node Kept) → option_map ended o ≡ Some n → (p : Node Kept) × (o ≡ Some p)
+was_some : (o : Option (Node Kept)) (n : Node Kept) → option_map ended_node o ≡ Some n → (p : Node Kept) × (o ≡ Some p)
 was_some None n e = absurd (none-some n e)
 was_some (Some p) n e = (p, refl)
 
@@ -68,10 +69,10 @@ module _ (r : Repair) (c : LevelChanges) (f : Grove Kept) (l : IsLastLevel r c) 
   abbrev m : Nodes Kept
   m = now_of f
 
-  sound : IsSound (R.root r) (changes_in r.forest) (R.now r)
+  sound : IsRooted (R.root r) (changes_in r.forest) (R.now r)
   sound = AreSound-now (R.root r) (changes_in r.forest) (R.now r) l.spots.sound
 
-  ends : IsEnded r m
+  ends : IsLevelEnded r m
   ends = is_ended r m l.spots e
 
   all : HasAllBehind r c m
@@ -113,7 +114,7 @@ module _ (r : Repair) (c : LevelChanges) (f : Grove Kept) (l : IsLastLevel r c) 
 -- or they had nothing
 pub ends_bare : (r : Repair) → (s : R.SteppingSpots r) → IsBehindAll r → EndsBy r r.forest []
 ends_bare r s b =
-    let e : IsEnded r (R.now r) = is_bare r s b in
+    let e : IsLevelEnded r (R.now r) = is_bare r s b in
     record {
       ended = e;
       root = refl;
@@ -139,11 +140,11 @@ module _ (v : PassView) (t : ℕ) (beside readers : List ℕ) (h : IsPass v) (fo
   rests : Rests (stage_of v)
   rests = rests_at (stage_of v) v.state h.holds
 
-  sound_now : IsSound v.forest.root (changes_in v.forest) (now v)
-  sound_now = AreSound-now v.forest.root (changes_in v.forest) (now v) found.made.spots.sound
+  sound_now : IsRooted v.forest.root (changes_in v.forest) (now_in v)
+  sound_now = AreSound-now v.forest.root (changes_in v.forest) (now_in v) found.made.spots.sound
 
-  sound_was : IsSound v.forest.root [] (was v)
-  sound_was = AreSound-then v.forest.root (changes_in v.forest) (now v) found.made.spots.sound
+  sound_was : IsRooted v.forest.root [] (rest_in v)
+  sound_was = AreSound-then v.forest.root (changes_in v.forest) (now_in v) found.made.spots.sound
 
   pub is_last_level : IsLastLevel (repair_of v t) v.front.changes
   is_last_level = record { spots = found.made.spots; deeper = found.made.deeper; differs = found.front.differs; gone_once = found.front.gone_once }
@@ -153,7 +154,7 @@ module _ (v : PassView) (t : ℕ) (beside readers : List ℕ) (h : IsPass v) (fo
   is_behind l = record {
     deeper = found.made.deeper;
     depth = l;
-    ends = ap (level_nodes (was v) v.forest.root) (sym (count_is v.system v.limit (was v) v.forest.root v.store v.reads v.seats rests)) ∙ rests.ends;
+    ends = ap (level_nodes (rest_in v) v.forest.root) (sym (count_is v.system v.limit (rest_in v) v.forest.root v.store v.reads v.seats rests)) ∙ rests.ends;
     last = λ k i. rests.others k (inr i);
     same = λ k i. inr (found.made.answers k i);
   }
@@ -161,17 +162,17 @@ module _ (v : PassView) (t : ℕ) (beside readers : List ℕ) (h : IsPass v) (fo
   -- no node is on two levels
   one_now : (u w k : ℕ) → In k (row_of v u) → In k (row_of v w) → u ≡ w
   one_now u w k i j =
-      let p = level_depth v.forest.root (changes_in v.forest) (now v) sound_now u k i in
-      let q = level_depth v.forest.root (changes_in v.forest) (now v) sound_now w k j in
+      let p = level_depth v.forest.root (changes_in v.forest) (now_in v) sound_now u k i in
+      let q = level_depth v.forest.root (changes_in v.forest) (now_in v) sound_now w k j in
       let same : p.0.depth ≡ q.0.depth = ap (λ (n : Node Kept). n.depth) (same_Some p.0 q.0 (sym p.1 ∙ q.1)) in
       let d = p.2 in
       let e = q.2 in
       omega (arith, same, d, e)
 
-  one_was : (u w k : ℕ) → In k (level_nodes (was v) v.forest.root u) → In k (level_nodes (was v) v.forest.root w) → u ≡ w
+  one_was : (u w k : ℕ) → In k (level_nodes (rest_in v) v.forest.root u) → In k (level_nodes (rest_in v) v.forest.root w) → u ≡ w
   one_was u w k i j =
-      let p = level_depth v.forest.root [] (was v) sound_was u k i in
-      let q = level_depth v.forest.root [] (was v) sound_was w k j in
+      let p = level_depth v.forest.root [] (rest_in v) sound_was u k i in
+      let q = level_depth v.forest.root [] (rest_in v) sound_was w k j in
       let same : p.0.depth ≡ q.0.depth = ap (λ (n : Node Kept). n.depth) (same_Some p.0 q.0 (sym p.1 ∙ q.1)) in
       let d = p.2 in
       let e = q.2 in
@@ -187,17 +188,17 @@ module _ (v : PassView) (t : ℕ) (beside readers : List ℕ) (h : IsPass v) (fo
     level_is : (u : ℕ) → u ≤ t → row_of v' u ≡ row_of v u
     level_is u l = ap (λ r. level_nodes (now_of f) r u) x.root ∙ x.ended.nodes u l
 
-    spots_are : (u : ℕ) → u ≤ t → level_spots (now_of f) f.root u ≡ level_spots (now v) v.forest.root u
+    spots_are : (u : ℕ) → u ≤ t → level_spots (now_of f) f.root u ≡ level_spots (now_in v) v.forest.root u
     spots_are u l = ap (λ r. level_spots (now_of f) r u) x.root ∙ x.ended.spots u l
 
-    was_level : (u : ℕ) → level_nodes (rest_of f) f.root u ≡ level_nodes (was v) v.forest.root u
+    was_level : (u : ℕ) → level_nodes (rest_of f) f.root u ≡ level_nodes (rest_in v) v.forest.root u
     was_level u = ap (λ r. level_nodes (rest_of f) r u) x.root ∙ ap (λ (o : Nodes Kept). level_nodes o v.forest.root u) x.rest
 
-    was_same : (k : ℕ) → answer_at (rest_of f) k ≡ answer_at (was v) k
+    was_same : (k : ℕ) → answer_at (rest_of f) k ≡ answer_at (rest_in v) k
     was_same k = ap (λ (o : Nodes Kept). answer_at o k) x.rest
 
     -- an answer that is still kept is none of the level
-    still : (k : ℕ) (a : Kept) → answer_at (now_of f) k ≡ Some a → (In k (row_of v t) → ⊥) × (answer_at (now v) k ≡ Some a)
+    still : (k : ℕ) (a : Kept) → answer_at (now_of f) k ≡ Some a → (In k (row_of v t) → ⊥) × (answer_at (now_in v) k ≡ Some a)
     still k a e = elim (in_cases k (row_of v t)) [
       | inl i ↦ absurd (none-some a (sym (x.ended.no_answers k i) ∙ e))
       | inr out ↦ (out, sym (x.ended.answers k out) ∙ e)
@@ -260,7 +261,7 @@ module _ (v : PassView) (t : ℕ) (beside readers : List ℕ) (h : IsPass v) (fo
       | inr j ↦ inr (subst (In k) (sym (level_is u (omega (arith, l)))) j)
     ]
 
-    beside_same : (u p : ℕ) → u ≤ t → neighbours_on (now_of f) (row_of v' u) p ≡ neighbours_on (now v) (row_of v u) p
+    beside_same : (u p : ℕ) → u ≤ t → neighbours_on (now_of f) (row_of v' u) p ≡ neighbours_on (now_in v) (row_of v u) p
     beside_same u p l = ap (λ (xs : List ℕ). neighbours_by xs (level_spots (now_of f) f.root u) p) (level_is u l) ∙ ap (λ (row : List Spotted). neighbours_by (row_of v u) row p) (spots_are u l)
 
     seated : (u p k : ℕ) → u < t + 1 → slice_get (row_of v' u) p ≡ Some k → In k v.moved ⊎ (neighbours_at v.seats k ≡ neighbours_on (now_of f) (row_of v' u) p)
@@ -325,18 +326,18 @@ module _ (v : PassView) (t : ℕ) (beside readers : List ℕ) (h : IsPass v) (fo
     reached k a e = elim (found.lists.fresh k a (still k a e).1) [
       | inl i ↦ (let w = found.made.renewed_are k i in inl (reached_on_level w.0 k (let l = w.1 in omega (arith, l)) w.2))
       | inr g ↦ (
-          let n = answer_lives (was v) k a g in
-          let p = placed v.system v.limit (was v) v.forest.root v.store v.reads v.seats rests k n.0 a n.1 g in
+          let n = answer_lives (rest_in v) k a g in
+          let p = placed v.system v.limit (rest_in v) v.forest.root v.store v.reads v.seats rests k n.0 a n.1 g in
           by g p.level p.on
           )
     ]
       where
-        by : answer_at (was v) k ≡ Some a → (w : ℕ) → In k (level_nodes (was v) v.forest.root w) → Reached (now_of f) f.root k ⊎ In k ds
+        by : answer_at (rest_in v) k ≡ Some a → (w : ℕ) → In k (level_nodes (rest_in v) v.forest.root w) → Reached (now_of f) f.root k ⊎ In k ds
         by g w on = elim (cases_lt t w) [
           | inl far ↦ inr (more_in k (x.behind k (record {
             level = w;
             behind = far;
-            within = let l = is_below v.system v.limit (was v) v.forest.root v.store v.reads v.seats rests w k a on g in omega (arith, l);
+            within = let l = is_below v.system v.limit (rest_in v) v.forest.root v.store v.reads v.seats rests w k a on g in omega (arith, l);
             there = on;
             answer = a;
             kept = g;
@@ -348,13 +349,13 @@ module _ (v : PassView) (t : ℕ) (beside readers : List ℕ) (h : IsPass v) (fo
         ]
 
     module _ (depth : v.next.depth ≡ t) (small : t < 2 ^ 32) where
-      is_meant : meaning v.next v.limit ≡ Ok (meant v.next v.limit)
+      is_meant : meaning v.next v.limit ≡ Ok (levels_meant v.next v.limit)
       is_meant = subst (λ d. meaning_to v.next v.limit d ≡ Ok (meant_to v.next v.limit d)) (sym depth) found.made.spots.new_is
 
-      count : length (meant v.next v.limit) ≡ t + 1
-      count = let c = level_count v.next v.limit v.next.depth (meant v.next v.limit) found.made.spots.new_spelled is_meant in omega (arith, c, depth)
+      count : length (levels_meant v.next v.limit) ≡ t + 1
+      count = let c = level_count v.next v.limit v.next.depth (levels_meant v.next v.limit) found.made.spots.new_spelled is_meant in omega (arith, c, depth)
 
-      none_below : level_nodes (now_of f) f.root (length (meant v.next v.limit)) ≡ []
+      none_below : level_nodes (now_of f) f.root (length (levels_meant v.next v.limit)) ≡ []
       none_below = ap (level_nodes (now_of f) f.root) count ∙ ap (λ r. level_nodes (now_of f) r (t + 1)) x.root ∙ x.ended.none_below
 
       -- a node that is reached is the root, or on a level that there is
@@ -364,20 +365,20 @@ module _ (v : PassView) (t : ℕ) (beside readers : List ℕ) (h : IsPass v) (fo
           let on : In k (row_of v' d) = reached_on (now_of f) f.root d k at in
           elim (cases_lt t d) [
             | inl far ↦ (
-                let past = no_more (now_of f) f.root (length (meant v.next v.limit)) (d - length (meant v.next v.limit)) none_below in
-                let same : length (meant v.next v.limit) + (d - length (meant v.next v.limit)) ≡ d = (let c = count in omega (arith, c, far)) in
+                let past = no_more (now_of f) f.root (length (levels_meant v.next v.limit)) (d - length (levels_meant v.next v.limit)) none_below in
+                let same : length (levels_meant v.next v.limit) + (d - length (levels_meant v.next v.limit)) ≡ d = (let c = count in omega (arith, c, far)) in
                 absurd (subst (In k) (sym (ap (level_nodes (now_of f) f.root) same) ∙ past) on)
                 )
             | inr near ↦ dropped_none k d i (omega (arith, near)) on
           ]
 
-      ends_at : Ends s' t
+      ends_at : HasLastLevel s' t
       ends_at = record {
         depth = depth;
         spelled = found.made.spots.new_spelled;
         is = is_meant;
         levels =
-            subst (λ r. HaveLevels (now_of f) r v.next.seed (meant v.next v.limit)) (sym x.root)
+            subst (λ r. HaveLevels (now_of f) r v.next.seed (levels_meant v.next v.limit)) (sym x.root)
             (subst (λ d. HaveLevels (now_of f) v.forest.root v.next.seed (meant_to v.next v.limit d)) (sym depth) x.ended.levels);
         small = omega (arith, depth, small);
         counts = x.ended.small found.made.counts;
@@ -430,8 +431,8 @@ module _ (w v : PassView) (same : w ≡ v) (h : IsPass w) (t : ℕ) (small : t <
   pub gone_live : (gone : List ℕ) → gone ≡ w.front.changes.gone → (k : ℕ) → In k gone → IsLive w.forest k
   gone_live gone is k i =
       let on = ((found_by.front.differs.gone k).0 (subst (In k) is i)).0 in
-      let p = level_depth w.forest.root [] (was w) (sound_was w t need.0 need.1 h found_by) t k on in
-      some_kin (now w k) (kin_of p.0) (found_by.made.spots.stay k (kin_of p.0) (ap (option_map (λ (n : Node Kept). kin_of n)) p.1))
+      let p = level_depth w.forest.root [] (rest_in w) (sound_was w t need.0 need.1 h found_by) t k on in
+      some_kin (now_in w k) (kin_of p.0) (found_by.made.spots.stay k (kin_of p.0) (ap (option_map (λ (n : Node Kept). kin_of n)) p.1))
 
   pub bare_last : w.system.depth ≤ t → v.next.depth ≡ t → IsLast v t
   bare_last l depth =
@@ -451,8 +452,8 @@ module _ (w v : PassView) (same : w ≡ v) (h : IsPass w) (t : ℕ) (small : t <
       seats = λ k has. has;
     })
 
-    pub comes_to_end : (gone : List ℕ) (levels : ℕ) → gone ≡ w.front.changes.gone → levels ≡ w.system.depth - t → v.next.depth ≡ t → AreEnded (now w) (now_of f) (row_of w t)
-        → ds ≡ w.dropped ++ dropped_at_end (now w) (now_of f) (row_of w t) gone levels → ComesToEnd v (record w { forest = f; dropped = ds }) t
+    pub comes_to_end : (gone : List ℕ) (levels : ℕ) → gone ≡ w.front.changes.gone → levels ≡ w.system.depth - t → v.next.depth ≡ t → AreEnded (now_in w) (now_of f) (row_of w t)
+        → ds ≡ w.dropped ++ dropped_at_end (now_in w) (now_of f) (row_of w t) gone levels → ComesToEnd v (record w { forest = f; dropped = ds }) t
     comes_to_end gone levels is behind depth e lists =
         subst (λ z. ComesToEnd z (record w { forest = f; dropped = ds }) t) same (record {
           last = is_last w t need.0 need.1 h found_by f more ds x more_are (depth_by depth) small;
@@ -464,12 +465,12 @@ module _ (w v : PassView) (same : w ≡ v) (h : IsPass w) (t : ℕ) (small : t <
         l = is_last_level w t need.0 need.1 h found_by
 
         more : List ℕ
-        more = dropped_at_end (now w) (now_of f) (row_of w t) gone levels
+        more = dropped_at_end (now_in w) (now_of f) (row_of w t) gone levels
 
         x : EndsBy (repair_of w t) f more
         x =
             subst (EndsBy (repair_of w t) f)
-            (sym (ap (λ (ks : List ℕ). dropped_at_end (now w) (now_of f) (row_of w t) ks levels) is ∙ dropped_are (repair_of w t) w.front.changes f l e levels behind)) (ends_by (repair_of w t) w.front.changes f l e loses.root loses.rest)
+            (sym (ap (λ (ks : List ℕ). dropped_at_end (now_in w) (now_of f) (row_of w t) ks levels) is ∙ dropped_are (repair_of w t) w.front.changes f l e levels behind)) (ends_by (repair_of w t) w.front.changes f l e loses.root loses.rest)
 
         more_are : ds ≡ w.dropped ++ more
         more_are = lists

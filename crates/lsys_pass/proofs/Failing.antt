@@ -6,21 +6,21 @@ use Rattle.lsys_walks.specs.Stores.{Store}
 use Rattle.lsys_match.specs.Kept.{Kept}
 use Rattle.lsys_forest.specs.Nodes.{Nodes}
 use Rattle.lsys_forest.specs.Groves.{Grove, AreSound, now_of, changes_in, live_nodes}
-use Rattle.lsys_kept.specs.Meant.{meant}
+use Rattle.lsys_kept.specs.Meant.{levels_meant}
 use Rattle.lsys_kept.specs.Seats.{is_marked, KeepsSeats}
 use Rattle.lsys_front.specs.Losses.{LosesOnly}
 use Rattle.lsys_pass.specs.declared.state.PassState.TheVariants.{Failed}
 use Rattle.lsys_pass.specs.Sizes.{HaveSizes, SizesAt}
 use Rattle.lsys_pass.specs.Stages.{IsStored}
 use Rattle.lsys_pass.specs.Advances.{KeepsRest}
-use Rattle.lsys_pass.specs.Passes.{PassView, stage_of, now, was, HoldsAt, FrontAt, IsPass}
+use Rattle.lsys_pass.specs.Passes.{PassView, stage_of, now_in, rest_in, HoldsAt, FrontAt, IsPass}
 use Rattle.lsys_pass.proofs.Backing.{rests_at}
 use Rattle.lsys_pass.proofs.Finishing.{rest_made}
 
 -- what is kept of it, whatever becomes of the nodes
 pub record KeepsFailed (v v' : PassView) : Type 0 where
   pub failed : v'.state ≡ Failed
-  pub stored : IsStored (now v') (changes_in v'.forest) v'.forest.root v'.store
+  pub stored : IsStored (now_in v') (changes_in v'.forest) v'.forest.root v'.store
   pub few : live_nodes v'.forest < 2 ^ 32
   pub unmarked : (k : ℕ) → is_marked v'.seats k ≡ false
   pub answers : v'.answers ≡ v.answers
@@ -34,12 +34,12 @@ still_failed v v' h k = record {
   few = k.few;
   unmarked = k.unmarked;
   counted =
-      k.answers ∙ h.counted ∙ ap (λ (s : System). length (questions s (meant s v.limit))) (sym k.run.system)
-      ∙ ap (λ l. length (questions v'.system (meant v'.system l))) (sym k.run.limit);
+      k.answers ∙ h.counted ∙ ap (λ (s : System). length (questions s (levels_meant s v.limit))) (sym k.run.system)
+      ∙ ap (λ l. length (questions v'.system (levels_meant v'.system l))) (sym k.run.limit);
   sized =
-      subst (HaveSizes (was v') v'.forest.root) (sym k.sizes)
-      (subst (λ r. HaveSizes (was v') r v.sizes) (sym k.run.root) (subst (λ (m : Nodes Kept). HaveSizes m v.forest.root v.sizes) (sym k.run.was) h.sized));
-  made_sized = subst (SizesAt (now v') v'.forest.root v'.next.depth v'.made) (sym k.failed) tt;
+      subst (HaveSizes (rest_in v') v'.forest.root) (sym k.sizes)
+      (subst (λ r. HaveSizes (rest_in v') r v.sizes) (sym k.run.root) (subst (λ (m : Nodes Kept). HaveSizes m v.forest.root v.sizes) (sym k.run.was) h.sized));
+  made_sized = subst (SizesAt (now_in v') v'.forest.root v'.next.depth v'.made) (sym k.failed) tt;
   holds = subst (HoldsAt (stage_of v')) (sym k.failed) (rest_made (stage_of v) (stage_of v') k.run (rests_at (stage_of v) v.state h.holds));
   front = subst (FrontAt v') (sym k.failed) tt;
   room = λ j n e. k.seats j (h.room j n (ap (λ (m : Nodes Kept). m j) (sym k.run.was) ∙ e));

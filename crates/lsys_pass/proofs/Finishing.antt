@@ -3,6 +3,7 @@ use Rattle.std.proofs.Common.{◌≡◌, ◌⊎◌, ◌↔◌, ◌<◌, ◌≤�
 use Rattle.std.specs.Prelude.{count_by, is_none, option_map}
 use Rattle.std.proofs.lemmas.Bool.{cases_lt}
 use Rattle.std.proofs.lemmas.Option.{none-some, same_Some}
+use Rattle.lsys_spec.specs.Rows.{In, AreApart}
 use Rattle.lsys_spec.specs.Systems.{System}
 use Rattle.lsys_spec.specs.Levels as L
 use Rattle.lsys_rewrite.specs.declared.refusal.FaultKind.{FaultKind}
@@ -14,7 +15,7 @@ use Rattle.lsys_match.specs.Kept.{Kept}
 use Rattle.lsys_reads.specs.Relations.{Relations, is_pending, pairs_have}
 use Rattle.lsys_forest.specs.Nodes.{Node, Nodes}
 use Rattle.lsys_forest.specs.Changes.{Change, undone}
-use Rattle.lsys_forest.specs.Groves.{In, AreApart, IsSound, Reached}
+use Rattle.lsys_forest.specs.Groves.{IsRooted, Reached}
 use Rattle.lsys_forest.specs.Rows.{level_nodes, level_spots, spot_in}
 use Rattle.lsys_forest.proofs.RowLemmas.{level_depth}
 use Rattle.lsys_forest.proofs.WalkLemmas.{get_In}
@@ -25,7 +26,7 @@ use Rattle.lsys_kept.specs.Levels.{AnsweredAt, AnsweredIn, level_of, answer_at, 
 use Rattle.lsys_kept.specs.Meant.{level_to, IsNeeded}
 use Rattle.lsys_pass.specs.Rests.{IsResting}
 use Rattle.lsys_pass.specs.Stages.{Stage, was, Rests, fault_in, AreNoted, HasFault, OutcomeBy, IsNeededAt, HasSeats, IsAtLevel, IsDone}
-use Rattle.lsys_pass.specs.Advances.{IsAskedTo, KeepsRest, Makes, Begins, Advances, Ends}
+use Rattle.lsys_pass.specs.Advances.{IsAskedTo, KeepsRest, Makes, BeginsAnew, Advances, HasLastLevel}
 use Rattle.lsys_pass.specs.Passes.{IsStill}
 use Rattle.lsys_pass.proofs.Stepping.{some_in}
 
@@ -35,7 +36,7 @@ no_outcome : (o : Option FaultKind) (A : Type 0) (F : FaultKind → Type 0) → 
 no_outcome None A F e h = h
 no_outcome (Some k) A F e h = absurd (none-some k (sym e))
 
-none_noted : (fs : List Faulted) (ks : List ℕ) (y : List L.Symbol) → fs ≡ [] → AreNoted fs ks y
+none_noted : (fs : List Faulted) (ks : List ℕ) (y : List L.LevelSymbol) → fs ≡ [] → AreNoted fs ks y
 none_noted fs ks y e i f h = absurd (none-some f (ap (λ (l : List Faulted). slice_get l i) (sym e) ∙ h))
 
 no_fault : (s : Stage) (k : ℕ) → s.faults ≡ [] → fault_in k s.faults ≡ None
@@ -105,9 +106,9 @@ renamed : (m : Nodes Kept) (f g : ℕ → List ℕ) (ks : List ℕ) → ((k : �
 renamed m f g [] h = refl
 renamed m f g (k ∷ ks) h =
     let one : named f (spot_in k (m k)) ≡ named g (spot_in k (m k)) = ap (λ l. with_lineage l (spot_in k (m k)).seen) (ap f (tag_is k (m k)) ∙ h k (inl refl) ∙ ap g (sym (tag_is k (m k)))) in
-    ap (λ a. a ∷ level_by f (map (λ k. spot_in k (m k)) ks)) one ∙ ap (λ (l : List L.Symbol). named g (spot_in k (m k)) ∷ l) (renamed m f g ks (λ j i. h j (inr i)))
+    ap (λ a. a ∷ level_by f (map (λ k. spot_in k (m k)) ks)) one ∙ ap (λ (l : List L.LevelSymbol). named g (spot_in k (m k)) ∷ l) (renamed m f g ks (λ j i. h j (inr i)))
 
-module _ (s s' : Stage) (t : ℕ) (h : IsAskedTo s t) (sound : IsSound s.root s.changes s.now) (sound' : IsSound s'.root s'.changes s'.now) (x : Makes s s' (suc t)) where
+module _ (s s' : Stage) (t : ℕ) (h : IsAskedTo s t) (sound : IsRooted s.root s.changes s.now) (sound' : IsRooted s'.root s'.changes s'.now) (x : Makes s s' (suc t)) where
   within : (u : ℕ) → u ≤ t → u < suc t
   within u l = omega (arith, l)
 
@@ -158,14 +159,14 @@ module _ (s s' : Stage) (t : ℕ) (h : IsAskedTo s t) (sound : IsSound s.root s.
 
   needed_as : (u p : ℕ) → u ≤ t → IsNeededAt s u p → IsNeededAt s' u p
   needed_as u p l n =
-      subst (λ (y : List L.Symbol). IsNeeded s'.system s'.next s'.limit u y p) (sym (level_kept u l))
+      subst (λ (y : List L.LevelSymbol). IsNeeded s'.system s'.next s'.limit u y p) (sym (level_kept u l))
       (subst (λ m. IsNeeded s'.system s'.next m u (level_of s.now s.root u) p) (sym x.run.limit)
       (subst (λ (y : System). IsNeeded s'.system y s.limit u (level_of s.now s.root u) p) (sym x.next) (subst (λ (y : System). IsNeeded y s.next s.limit u (level_of s.now s.root u) p) (sym x.run.system) n)))
 
   needed_was : (u p : ℕ) → u ≤ t → IsNeededAt s' u p → IsNeededAt s u p
   needed_was u p l n =
       subst (λ (y : System). IsNeeded y s.next s.limit u (level_of s.now s.root u) p) x.run.system (subst (λ (y : System). IsNeeded s'.system y s.limit u (level_of s.now s.root u) p) x.next
-      (subst (λ m. IsNeeded s'.system s'.next m u (level_of s.now s.root u) p) x.run.limit (subst (λ (y : List L.Symbol). IsNeeded s'.system s'.next s'.limit u y p) (level_kept u l) n)))
+      (subst (λ m. IsNeeded s'.system s'.next m u (level_of s.now s.root u) p) x.run.limit (subst (λ (y : List L.LevelSymbol). IsNeeded s'.system s'.next s'.limit u y p) (level_kept u l) n)))
 
   -- a reader that was renewed reads what it read
   same_answer : (k : ℕ) → In k s'.renewed → answer_at s'.now k ≡ answer_at s.now k
@@ -260,13 +261,13 @@ module _ (s s' : Stage) (t : ℕ) (h : IsAskedTo s t) (sound : IsSound s.root s.
     seats = x.seats;
   }
 
-  done_kept : Ends s' (suc t) → (k : ℕ) (b : Kept) → In k s'.renewed ⊎ In k s'.dropped ⊎ (answer_at s'.now k ≡ Some b) → In k s'.renewed ⊎ In k s'.dropped ⊎ (Reached s'.now s'.root k × (answer_at s'.now k ≡ Some b))
+  done_kept : HasLastLevel s' (suc t) → (k : ℕ) (b : Kept) → In k s'.renewed ⊎ In k s'.dropped ⊎ (answer_at s'.now k ≡ Some b) → In k s'.renewed ⊎ In k s'.dropped ⊎ (Reached s'.now s'.root k × (answer_at s'.now k ≡ Some b))
   done_kept d k b (inl i) = inl i
   done_kept d k b (inr (inl i)) = inr (inl i)
   done_kept d k b (inr (inr e)) = elim (d.reached k b e) [ inl r ↦ inr (inr (r, e)) | inr i ↦ inr (inl i) ]
 
   -- all levels are there
-  pub ends : Ends s' (suc t) → IsDone s'
+  pub ends : HasLastLevel s' (suc t) → IsDone s'
   ends d = record {
     rest = rest;
     spelled = d.spelled;
@@ -298,7 +299,7 @@ module _ (s s' : Stage) (t : ℕ) (h : IsAskedTo s t) (sound : IsSound s.root s.
 
 -- 3. the first level
 
-module _ (s s' : Stage) (h : IsStill s) (x : Begins s s') where
+module _ (s s' : Stage) (h : IsStill s) (x : BeginsAnew s s') where
   none_renewed : (k : ℕ) → In k s'.renewed → ⊥
   none_renewed k i = subst (In k) (x.run.renewed ∙ h.renewed) i
 
@@ -378,7 +379,7 @@ module _ (s s' : Stage) (h : IsStill s) (x : Begins s s') where
   }
 
   -- or it is the only one
-  pub starts_done : Ends s' 0 → IsDone s'
+  pub starts_done : HasLastLevel s' 0 → IsDone s'
   starts_done d = record {
     rest = first_rest;
     spelled = d.spelled;

@@ -2,10 +2,11 @@
 use Rattle.std.proofs.Common.{◌≡◌, ◌<◌, ◌≤◌, ℕ, List, [], ◌∷◌, ◌++◌, length, Some, None, sym, ap, ◌∙◌, subst, inl, inr, arith}
 use Rattle.std.specs.Prelude.{take, drop}
 use Rattle.std.proofs.lemmas.List.{length-append, take-append-le, drop-append-le}
+use Rattle.lsys_spec.specs.Rows.{In}
 use Rattle.lsys_walks.specs.Stores.{Store}
 use Rattle.lsys_match.specs.Kept.{Kept}
 use Rattle.lsys_forest.specs.Nodes.{Nodes}
-use Rattle.lsys_forest.specs.Groves.{Grove, In, IsSound, now_of, rest_of, changes_in}
+use Rattle.lsys_forest.specs.Groves.{Grove, IsRooted, now_of, rest_of, changes_in}
 use Rattle.lsys_forest.specs.Rows.{level_nodes, level_spots}
 use Rattle.lsys_forest.proofs.RowLemmas.{In_append}
 use Rattle.lsys_kept.specs.Levels.{answer_at}
@@ -14,13 +15,13 @@ use Rattle.lsys_kept.specs.Standings.{seen_at}
 use Rattle.lsys_candidates.specs.Repairs.{Repair, now, rest, were, are}
 use Rattle.lsys_front.specs.Turned.{AreTurnedBy}
 use Rattle.lsys_front.proofs.TurnedLemmas.{same_turned}
-use Rattle.lsys_front.specs.Fronts.{Differences, IsFront}
+use Rattle.lsys_front.specs.Fronts.{Differences, IsLevelFront}
 
 -- 1. what differs
 
 -- In this forest the level of a repair has the same nodes, with the same symbols.
 pub record KeepsNodes (r : Repair) (h : Grove Kept) : Type 0 where
-  pub sound : IsSound h.root (changes_in h) (now_of h)
+  pub sound : IsRooted h.root (changes_in h) (now_of h)
   pub root : h.root ≡ r.forest.root
   pub rest : rest_of h ≡ rest r
   pub nodes : level_nodes (now_of h) h.root r.level ≡ are r
@@ -29,7 +30,7 @@ pub record KeepsNodes (r : Repair) (h : Grove Kept) : Type 0 where
 
 -- and none lost its answer
 pub record KeepsLevel (r : Repair) (h : Grove Kept) : Type 0 where
-  pub sound : IsSound h.root (changes_in h) (now_of h)
+  pub sound : IsRooted h.root (changes_in h) (now_of h)
   pub root : h.root ≡ r.forest.root
   pub rest : rest_of h ≡ rest r
   pub nodes : level_nodes (now_of h) h.root r.level ≡ are r
@@ -63,9 +64,9 @@ module _ (r : Repair) (h : Grove Kept) (st : Store) (x : KeepsNodes r h) where
   rest_answer k = ap (λ (m : Nodes Kept). answer_at m k) x.rest
 
   -- of some it is told that they lost their answers
-  pub front_loses : (seats : List Seat) (d : Differences) (bare : List ℕ) → IsFront r seats d → ((k : ℕ) → In k bare → In k (are r))
+  pub front_loses : (seats : List Seat) (d : Differences) (bare : List ℕ) → IsLevelFront r seats d → ((k : ℕ) → In k bare → In k (are r))
       → ((k : ℕ) (a : Kept) → In k (are r) → answer_at (rest r) k ≡ Some a → answer_at (now_of h) k ≡ None → In k bare)
-      → IsFront (record r { forest = h; store = st }) seats (record d { bare = bare })
+      → IsLevelFront (record r { forest = h; store = st }) seats (record d { bare = bare })
   front_loses seats d bare f within all = record {
     differs = record {
       came = λ k. (
@@ -90,7 +91,7 @@ module _ (r : Repair) (h : Grove Kept) (st : Store) (x : KeepsNodes r h) where
     bare = λ k a i e n. all k a (are_back k i) (sym (rest_answer k) ∙ e) n;
   }
 
-pub front_stays : (r : Repair) (h : Grove Kept) (st : Store) → KeepsLevel r h → (seats : List Seat) (d : Differences) → IsFront r seats d → IsFront (record r { forest = h; store = st }) seats d
+pub front_stays : (r : Repair) (h : Grove Kept) (st : Store) → KeepsLevel r h → (seats : List Seat) (d : Differences) → IsLevelFront r seats d → IsLevelFront (record r { forest = h; store = st }) seats d
 front_stays r h st x seats d f =
     front_loses r h st (record { sound = x.sound; root = x.root; rest = x.rest; nodes = x.nodes; spots = x.spots; seen = x.seen }) seats d d.bare f f.bare_are (λ k a i e n. f.bare k a i e (x.bare k n))
 

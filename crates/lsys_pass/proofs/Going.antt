@@ -1,9 +1,9 @@
 -- From one step of making a level to the next, and the level as it is made then.
 use Rattle.std.proofs.Common.{◌+◌, ℕ, sym, ◌∙◌, subst, inl, inr, arith}
+use Rattle.lsys_spec.specs.Rows.{In}
 use Rattle.lsys_spec.specs.Systems.{System}
-use Rattle.lsys_forest.specs.Groves.{In}
 use Rattle.lsys_pass.specs.Stages.{Stage, HasSeats}
-use Rattle.lsys_pass.specs.Advances.{KeepsRest, StaysAbove, Drops, Makes, Begins}
+use Rattle.lsys_pass.specs.Advances.{KeepsRest, StaysAbove, Drops, Makes, BeginsAnew}
 use Rattle.lsys_pass.specs.Fresh.{Goes, HasListsBefore}
 
 -- two steps after each other
@@ -61,7 +61,7 @@ module _ (s' : Stage) (t : ℕ) (l : HasListsBefore s' (t + 1)) where
   makes s g = record { next = g.next; run = g.run; above = g.above; drops = drops_of s g.more; seats = seats_of }
 
 -- the first level, of another system
-pub begins : (s s' : Stage) (n : System) → Goes (record s { next = n }) s' 0 → HasListsBefore s' (0 + 1) → Begins s s'
+pub begins : (s s' : Stage) (n : System) → Goes (record s { next = n }) s' 0 → HasListsBefore s' (0 + 1) → BeginsAnew s s'
 begins s s' n g l = record {
   run = record {
     system = g.run.system;

@@ -5,19 +5,20 @@ use Rattle.std.proofs.lemmas.Bool.{cases_lt}
 use Rattle.std.proofs.lemmas.List.{length-append, take_all}
 use Rattle.std.proofs.lemmas.List.Sums.{sum_by-cons, sum_by_more}
 use Rattle.std.proofs.lemmas.Option.{none-some, same_Some}
+use Rattle.lsys_spec.specs.Rows.{In, AreApart}
 use Rattle.lsys_level.specs.Spots.{Spotted}
 use Rattle.lsys_match.specs.Kept.{Kept}
 use Rattle.lsys_forest.specs.Nodes.{Node, Nodes}
 use Rattle.lsys_forest.specs.Changes.{Change}
 use Rattle.lsys_forest.specs.Slots.{slot_at}
 use Rattle.lsys_forest.specs.Stocks.{row_at, node_of}
-use Rattle.lsys_forest.specs.Groves.{In, AreApart, IsSound, ReachedIn, changes_in, live_nodes}
+use Rattle.lsys_forest.specs.Groves.{IsRooted, ReachedIn, changes_in, live_nodes}
 use Rattle.lsys_forest.specs.Rows.{level_nodes}
 use Rattle.lsys_forest.proofs.RowLemmas.{In_append, In_left, In_right, apart_append, level_depth, level_apart}
 use Rattle.lsys_forest.proofs.SoundLemmas.{AreSound-now}
 use Rattle.lsys_forest.proofs.StockLemmas.{stored_of}
-use Rattle.lsys_pass.specs.Passes.{PassView, now, IsPass}
-use Rattle.lsys_pass.specs.Views.{levels_of, IsQuiet}
+use Rattle.lsys_pass.specs.Passes.{PassView, now_in, IsPass}
+use Rattle.lsys_pass.specs.Views.{pass_levels, IsQuiet}
 use Rattle.lsys_pass.proofs.Before.{reached_on}
 use Rattle.lsys_pass.proofs.Counting.{same_length}
 use Rattle.lsys_pass.proofs.Deriving.{rest_now, count, nodes_at, none_behind}
@@ -79,7 +80,7 @@ abbrev nodes_to : Nodes Kept → ℕ → ℕ → List ℕ
 nodes_to m root zero = []
 nodes_to m root (suc t) = nodes_to m root t ++ level_nodes m root t
 
-module _ (m : Nodes Kept) (root : ℕ) (changes : List (Change Kept)) (sound : IsSound root changes m) where
+module _ (m : Nodes Kept) (root : ℕ) (changes : List (Change Kept)) (sound : IsRooted root changes m) where
   level_among : (t k : ℕ) → In k (nodes_to m root t) → (u : ℕ) × (u < t) × In k (level_nodes m root u)
   level_among zero k i = absurd i
   level_among (suc t) k i = elim (In_append (nodes_to m root t) (level_nodes m root t) k i) [
@@ -130,22 +131,22 @@ module _ (v : PassView) (h : IsPass v) (q : IsQuiet v) where
   levels = v.system.depth + 1
 
   abbrev all_nodes : List ℕ
-  all_nodes = nodes_to (now v) v.forest.root levels
+  all_nodes = nodes_to (now_in v) v.forest.root levels
 
-  sound : IsSound v.forest.root (changes_in v.forest) (now v)
-  sound = AreSound-now v.forest.root (changes_in v.forest) (now v) h.stored.sound
+  sound : IsRooted v.forest.root (changes_in v.forest) (now_in v)
+  sound = AreSound-now v.forest.root (changes_in v.forest) (now_in v) h.stored.sound
 
-  lives_slot : (k : ℕ) (n : Node Kept) → now v k ≡ Some n → In k (numbers_from 0 v.forest.stock.slots)
+  lives_slot : (k : ℕ) (n : Node Kept) → now_in v k ≡ Some n → In k (numbers_from 0 v.forest.stock.slots)
   lives_slot k n e =
       let s = stored_of v.forest.stock.slots v.forest.stock.params v.forest.stock.kids k n e in
       let same : 0 + k ≡ k = omega arith in
       subst (λ j. In j (numbers_from 0 v.forest.stock.slots)) same (number_among 0 v.forest.stock.slots k s.0 s.1)
 
   node_slot : (k : ℕ) → In k (v.forest.root ∷ all_nodes) → In k (numbers_from 0 v.forest.stock.slots)
-  node_slot k (inl e) = let z = sound.root_lives in lives_slot k z.0 (ap (now v) e ∙ z.1)
+  node_slot k (inl e) = let z = sound.root_lives in lives_slot k z.0 (ap (now_in v) e ∙ z.1)
   node_slot k (inr i) =
-      let r = level_among (now v) v.forest.root (changes_in v.forest) sound levels k i in
-      let a = level_depth v.forest.root (changes_in v.forest) (now v) sound r.0 k r.2 in
+      let r = level_among (now_in v) v.forest.root (changes_in v.forest) sound levels k i in
+      let a = level_depth v.forest.root (changes_in v.forest) (now_in v) sound r.0 k r.2 in
       lives_slot k a.0 a.1
 
   slot_node : (k : ℕ) → In k (numbers_from 0 v.forest.stock.slots) → In k (v.forest.root ∷ all_nodes)
@@ -155,33 +156,33 @@ module _ (v : PassView) (h : IsPass v) (q : IsQuiet v) where
       let same : r.place ≡ k = omega (arith, e) in
       let lives = ap (option_map (node_of (row_at v.forest.stock.params k) (row_at v.forest.stock.kids k))) (ap (slot_at v.forest.stock.slots) (sym same) ∙ r.there) in
       let reached = (rest_now v h q.state).reached k (node_of (row_at v.forest.stock.params k) (row_at v.forest.stock.kids k) r.item) lives in
-      elim (reached_at (now v) v.forest.root (changes_in v.forest) sound reached.0 k reached.1) [
+      elim (reached_at (now_in v) v.forest.root (changes_in v.forest) sound reached.0 k reached.1) [
         | inl e ↦ inl e
         | inr on ↦ inr (elim (cases_lt on.0 levels) [
-          | inl l ↦ among_level (now v) v.forest.root (changes_in v.forest) sound levels on.0 k l on.1
+          | inl l ↦ among_level (now_in v) v.forest.root (changes_in v.forest) sound levels on.0 k l on.1
           | inr g ↦ absurd (subst (In k) (none_behind v h q on.0 g) on.1)
         ])
       ]
 
-  sums : (t : ℕ) → t ≤ levels → length (nodes_to (now v) v.forest.root t) ≡ sum_by length (take t (levels_of v))
+  sums : (t : ℕ) → t ≤ levels → length (nodes_to (now_in v) v.forest.root t) ≡ sum_by length (take t (pass_levels v))
   sums zero l = refl
   sums (suc t) l =
       let r = sums t (omega (arith, l)) in
       let c = count v h q in
-      let more = sum_by_more (length {A = Spotted}) (levels_of v) t [] (omega (arith, l, c)) in
+      let more = sum_by_more (length {A = Spotted}) (pass_levels v) t [] (omega (arith, l, c)) in
       let here = nodes_at v h q t (omega (arith, l)) in
-      let whole = length-append (nodes_to (now v) v.forest.root t) (level_nodes (now v) v.forest.root t) in
+      let whole = length-append (nodes_to (now_in v) v.forest.root t) (level_nodes (now_in v) v.forest.root t) in
       let step : t + 1 ≡ suc t = omega arith in
-      let sum = ap (λ i. sum_by length (take i (levels_of v))) step in
+      let sum = ap (λ i. sum_by length (take i (pass_levels v))) step in
       omega (arith, r, more, here, whole, sum)
 
-  pub live_is : live_nodes v.forest ≡ sum_by length (levels_of v) + 1
+  pub live_is : live_nodes v.forest ≡ sum_by length (pass_levels v) + 1
   live_is =
       let same =
       same_length (v.forest.root ∷ all_nodes) (numbers_from 0 v.forest.stock.slots)
-      (root_out (now v) v.forest.root (changes_in v.forest) sound levels, nodes_apart (now v) v.forest.root (changes_in v.forest) sound levels)
+      (root_out (now_in v) v.forest.root (changes_in v.forest) sound levels, nodes_apart (now_in v) v.forest.root (changes_in v.forest) sound levels)
       (numbers_apart 0 v.forest.stock.slots) node_slot slot_node in
       let many = numbers_long 0 v.forest.stock.slots in
       let sum = sums levels (omega arith) in
-      let whole = ap (sum_by (length {A = Spotted})) (take_all levels (levels_of v) (let c = count v h q in omega (arith, c))) in
+      let whole = ap (sum_by (length {A = Spotted})) (take_all levels (pass_levels v) (let c = count v h q in omega (arith, c))) in
       omega (arith, same, many, sum, whole)

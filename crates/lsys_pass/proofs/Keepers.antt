@@ -5,7 +5,7 @@ use Rattle.std.specs.Option.{option_and_then}
 use Rattle.std.proofs.lemmas.Bool.{cases_eq}
 use Rattle.std.proofs.lemmas.Grind.{common_steps}
 use Rattle.std.proofs.lemmas.Option.{none-some, same_Some}
-use Rattle.lsys_region.specs.Pool.{Pool, list_at, list_of, IsLive}
+use Rattle.lsys_region.specs.Pool.{Pool, list_at, list_of, IsLiveRun}
 use Rattle.lsys_region.proofs.ListLemmas.{slice_get-push_old, slice_get-push_new, slice_get-push_cases}
 use Rattle.lsys_walks.specs.declared.entry.Entry.{Entry}
 use Rattle.lsys_walks.specs.Stores.{Store, AreGone, OtherTracesStay}
@@ -14,9 +14,9 @@ use Rattle.lsys_match.specs.Stored.{runs_of}
 use Rattle.lsys_match.specs.Asks.{IsMade, IsNew, StaysAsKept}
 use Rattle.lsys_match.specs.KeptAnswers.{HoldOwnRuns, StaysMade}
 use Rattle.lsys_match.proofs.Staying.{stays_made, own_runs, stays_new}
-use Rattle.lsys_forest.specs.Nodes.{Node, Nodes, put, with_answer}
+use Rattle.lsys_forest.specs.Nodes.{Node, Nodes, with_node, with_answer}
 use Rattle.lsys_forest.specs.Changes.{Change, OldAnswer, undone}
-use Rattle.lsys_forest.specs.Answers.{Keeper, AtNode, AtChange, answer_of, old_answer, answers, kept_by, IsHeld, AreMade, FreesAllBut}
+use Rattle.lsys_forest.specs.Answers.{AnswerKeeper, AtNode, AtChange, answer_of, old_answer, answers, kept_by, IsHeld, LiveApart, FreesAllBut}
 use Rattle.lsys_forest.proofs.StockLemmas.{put_same, put_other}
 use Rattle.lsys_forest.proofs.SoundLemmas.{IsSet, set_answer, set_sound, set_back, AreSound-push, AreSound-rest, AreSound-now, AreSound-then}
 use Rattle.lsys_kept.specs.Names.{RunName, RunList, InTraces, InValues, Entries, Values, run_in, holds}
@@ -31,7 +31,7 @@ abbrev pub note_of : ℕ → Node Kept → Change Kept
 note_of node n = record { node = node; before = OldAnswer n.answer }
 
 -- who kept an answer before the change with this place
-abbrev source : ℕ → ℕ → Keeper → Keeper
+abbrev source : ℕ → ℕ → AnswerKeeper → AnswerKeeper
 source node last (AtNode k) = AtNode k
 source node last (AtChange i) = cond (nat_eq i last) (AtNode node) (AtChange i)
 
@@ -50,7 +50,7 @@ node_node i j e = cc
 change_change : (i j : ℕ) → AtChange i ≡ AtChange j → i ≡ j
 change_change i j e = cc
 
-source_once : (node last : ℕ) (h i : Keeper) → h ≢ AtNode node → i ≢ AtNode node → source node last h ≡ source node last i → h ≡ i
+source_once : (node last : ℕ) (h i : AnswerKeeper) → h ≢ AtNode node → i ≢ AtNode node → source node last h ≡ source node last i → h ≡ i
 source_once node last (AtNode k) (AtNode j) a b e = e
 source_once node last (AtNode k) (AtChange j) a b e = elim (source_cases node last j) [
   | inl s ↦ absurd (a (e ∙ s.1))
@@ -72,12 +72,12 @@ source_once node last (AtChange i) (AtChange j) a b e = elim (source_cases node 
 ]
 
 -- an answer that is kept is the new one, or was kept before
-data Came (m : Nodes Kept) (changes : List (Change Kept)) (node : ℕ) (a : Kept) (h : Keeper) (b : Kept) : Type 0 where
+data Came (m : Nodes Kept) (changes : List (Change Kept)) (node : ℕ) (a : Kept) (h : AnswerKeeper) (b : Kept) : Type 0 where
   is_new : h ≡ AtNode node → a ≡ b → Came m changes node a h b
   is_old : h ≢ AtNode node → answers m changes (source node (length changes) h) ≡ Some b → Came m changes node a h b
 
-came : (m : Nodes Kept) (changes : List (Change Kept)) (node : ℕ) (n : Node Kept) (a : Kept) → m node ≡ Some n → (h : Keeper) (b : Kept)
-    → answers (put m node (Some (with_answer (Some a) n))) (changes ++ note_of node n ∷ []) h ≡ Some b → Came m changes node a h b
+came : (m : Nodes Kept) (changes : List (Change Kept)) (node : ℕ) (n : Node Kept) (a : Kept) → m node ≡ Some n → (h : AnswerKeeper) (b : Kept)
+    → answers (with_node m node (Some (with_answer (Some a) n))) (changes ++ note_of node n ∷ []) h ≡ Some b → Came m changes node a h b
 came m changes node n a is (AtNode k) b e = elim (cases_eq k node) [
   | inl s ↦ is_new (ap AtNode s) (same_Some a b (sym (ap (option_and_then answer_of) (put_same m node k (Some (with_answer (Some a) n)) s)) ∙ e))
   | inr ne ↦ is_old (λ q. ne (node_node k node q)) (sym (ap (option_and_then answer_of) (put_other m node k (Some (with_answer (Some a) n)) ne)) ∙ e)
@@ -101,8 +101,8 @@ came m changes node n a is (AtChange i) b e = go (slice_get (changes ++ note_of 
     ]
 
 -- each answer that was kept is kept still
-kept_still : (m : Nodes Kept) (changes : List (Change Kept)) (node : ℕ) (n : Node Kept) (a : Kept) → m node ≡ Some n → (h : Keeper) (b : Kept)
-    → answers m changes h ≡ Some b → (i : Keeper) × (answers (put m node (Some (with_answer (Some a) n))) (changes ++ note_of node n ∷ []) i ≡ Some b)
+kept_still : (m : Nodes Kept) (changes : List (Change Kept)) (node : ℕ) (n : Node Kept) (a : Kept) → m node ≡ Some n → (h : AnswerKeeper) (b : Kept)
+    → answers m changes h ≡ Some b → (i : AnswerKeeper) × (answers (with_node m node (Some (with_answer (Some a) n))) (changes ++ note_of node n ∷ []) i ≡ Some b)
 kept_still m changes node n a is (AtNode k) b e = elim (cases_eq k node) [
   | inl s ↦ (
     AtChange (length changes),
@@ -113,7 +113,7 @@ kept_still m changes node n a is (AtNode k) b e = elim (cases_eq k node) [
 kept_still m changes node n a is (AtChange i) b e = go (slice_get changes i) refl e
   where
     go : (o : Option (Change Kept)) → slice_get changes i ≡ o → option_and_then old_answer o ≡ Some b
-        → (j : Keeper) × (answers (put m node (Some (with_answer (Some a) n))) (changes ++ note_of node n ∷ []) j ≡ Some b)
+        → (j : AnswerKeeper) × (answers (with_node m node (Some (with_answer (Some a) n))) (changes ++ note_of node n ∷ []) j ≡ Some b)
     go None f g = absurd (none-some b g)
     go (Some x) f g = (AtChange i, ap (option_and_then old_answer) (slice_get-push_old changes i x (note_of node n) f) ∙ g)
 
@@ -128,10 +128,10 @@ no_run a b own (InValues n) h i = own.values n h i
 
 pub stored_set : (m : Nodes Kept) (changes : List (Change Kept)) (root node : ℕ) (n : Node Kept) (old new : Store) (asked : Option Kept) (a : Kept)
     → m node ≡ Some n → IsNew old new asked a → IsStored m changes root old
-    → IsStored (put m node (Some (with_answer (Some a) n))) (changes ++ note_of node n ∷ []) root new
+    → IsStored (with_node m node (Some (with_answer (Some a) n))) (changes ++ note_of node n ∷ []) root new
 stored_set m changes root node n old new asked a is news h = record {
   sound =
-      AreSound-push root changes (changes ++ note_of node n ∷ []) (note_of node n) m (put m node (Some (with_answer (Some a) n))) refl
+      AreSound-push root changes (changes ++ note_of node n ∷ []) (note_of node n) m (with_node m node (Some (with_answer (Some a) n))) refl
       (set_back root changes (note_of node n) m node n (with_answer (Some a) n) set)
       (set_sound root changes (note_of node n) m node n (with_answer (Some a) n) set (AreSound-now root changes m h.sound)) h.sound;
   made = λ k b e. made_by k b (came m changes node n a is k b e);
@@ -144,11 +144,11 @@ stored_set m changes root node n old new asked a is news h = record {
     set : IsSet root changes (note_of node n) m node n (with_answer (Some a) n)
     set = set_answer root changes m node n (Some a) (AreSound-now root changes m h.sound) is
 
-    made_by : (k : Keeper) (b : Kept) → Came m changes node a k b → IsMade new b
+    made_by : (k : AnswerKeeper) (b : Kept) → Came m changes node a k b → IsMade new b
     made_by k b (is_new e f) = subst (IsMade new) f news.made
     made_by k b (is_old e f) = (stays_new old new asked b a news (h.made (source node (length changes) k) b f)).made
 
-    once_by : (k i : Keeper) (b c : Kept) (r : RunName) → Came m changes node a k b → Came m changes node a i c → holds b r → holds c r → k ≡ i
+    once_by : (k i : AnswerKeeper) (b c : Kept) (r : RunName) → Came m changes node a k b → Came m changes node a i c → holds b r → holds c r → k ≡ i
     once_by k i b c r (is_new e f) (is_new e' f') hb hc = e ∙ sym e'
     once_by k i b c r (is_new e f) (is_old e' f') hb hc =
         absurd (no_run a c (own_runs old new asked c a news (h.made (source node (length changes) i) c f')) r (subst (λ x. holds x r) (sym f) hb) hc)
@@ -214,15 +214,15 @@ some_run : {A B : Type 0} (f : A → B) (o : Option A) → IsSome o → IsSome (
 some_run f None h = h
 some_run f (Some a) h = refl
 
-live_at : {T : Type 0} (pool : Pool T) (run : Option ℕ) (n : ℕ) → run ≡ Some n → IsLive pool run → IsSome (list_at pool n)
-live_at pool run n e h = subst (λ r. IsLive pool r) e h
+live_at : {T : Type 0} (pool : Pool T) (run : Option ℕ) (n : ℕ) → run ≡ Some n → IsLiveRun pool run → IsSome (list_at pool n)
+live_at pool run n e h = subst (λ r. IsLiveRun pool r) e h
 
 pub live_run : (s : Store) (a : Kept) → IsMade s a → (r : RunName) → holds a r → IsSome (run_in s r)
 live_run s a h (InTraces n) e = some_run (λ xs. Entries xs) (list_at s.traces n) (live_at s.traces a.entries n e h.live.0)
 live_run s a h (InValues n) e = some_run (λ xs. Values xs) (list_at s.values n) (live_at s.values a.values n e h.live.1)
 
 pub are_made : (m : Nodes Kept) (changes : List (Change Kept)) (root : ℕ) (store : Store) → IsStored m changes root store
-    → AreMade run_in holds store (answers m changes)
+    → LiveApart run_in holds store (answers m changes)
 are_made m changes root store h = record {
   made = λ k a r e held. live_run store a (h.made k a e) r held;
   once = λ k i a b r e f ha hb. h.once k i a b r e f ha hb;
@@ -257,13 +257,13 @@ same_values old new a h = by a.values refl
     by (Some n) e = values_same (list_at new.values n) (list_at old.values n) (h (InValues n) e)
 
 -- the answers of these nodes stay, where all others' runs are given back
-pub stay_kept : (m : Nodes Kept) (held : Keeper → Option Kept) (old new : Store) → AllMade m old → FreesAllBut run_in holds held (kept_by m) old new → AllStay m old new
+pub stay_kept : (m : Nodes Kept) (held : AnswerKeeper → Option Kept) (old new : Store) → AllMade m old → FreesAllBut run_in holds held (kept_by m) old new → AllStay m old new
 stay_kept m held old new made frees k a e =
     let same : (r : RunName) → holds a r → run_in new r ≡ run_in old r = λ r h. frees.kept_runs r (AtNode k, a, e, h) in
     stays_made old new a (same_entries old new a same) (same_values old new a same) (made k a e)
 
 -- where all runs but these were given back, a run that is none of these isn't live
-pub freed_all : (held kept : Keeper → Option Kept) (old new : Store) → FreesAllBut run_in holds held kept old new
+pub freed_all : (held kept : AnswerKeeper → Option Kept) (old new : Store) → FreesAllBut run_in holds held kept old new
     → ((r : RunName) → (IsHeld run_in holds held r → ⊥) → run_in old r ≡ None)
     → (r : RunName) → (IsHeld run_in holds kept r → ⊥) → run_in new r ≡ None
 freed_all held kept old new frees all r not = by (run_in new r) refl
@@ -274,12 +274,12 @@ freed_all held kept old new frees all r not = by (run_in new r) refl
         let none : IsHeld run_in holds held r → ⊥ = λ is. none-some x (sym (frees.freed r is not) ∙ e) in
         absurd (none-some x (sym (frees.others r none ∙ all r none) ∙ e))
 
-pub only_node : (m : Nodes Kept) (h : Keeper) (a : Kept) → answers m [] h ≡ Some a → (k : ℕ) × (answer_at m k ≡ Some a)
+pub only_node : (m : Nodes Kept) (h : AnswerKeeper) (a : Kept) → answers m [] h ≡ Some a → (k : ℕ) × (answer_at m k ≡ Some a)
 only_node m (AtNode k) a e = (k, e)
 only_node m (AtChange i) a e = absurd (none-some a e)
 
 pub stored_rest : (m : Nodes Kept) (changes : List (Change Kept)) (root : ℕ) (old new : Store) → IsStored m changes root old
-    → AllMade (undone changes m) old → AllStay (undone changes m) old new → AreMade run_in holds new (answers (undone changes m) [])
+    → AllMade (undone changes m) old → AllStay (undone changes m) old new → LiveApart run_in holds new (answers (undone changes m) [])
     → FreesAllBut run_in holds (answers m changes) (kept_by (undone changes m)) old new → IsStored (undone changes m) [] root new
 stored_rest m changes root old new h made stays are frees = record {
   sound = AreSound-rest root (undone changes m) (AreSound-then root changes m h.sound);

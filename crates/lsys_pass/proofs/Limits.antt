@@ -4,7 +4,7 @@ use Rattle.std.specs.Prelude.{nat_lt, get_or, sum_by}
 use Rattle.std.proofs.lemmas.Bool.Decides.{nat_tests}
 use Rattle.std.proofs.lemmas.List.Sums.{sum_by-cons}
 use Rattle.lsys_spec.specs.Systems.{System}
-use Rattle.lsys_spec.specs.Levels.{Symbol}
+use Rattle.lsys_spec.specs.Levels.{LevelSymbol}
 use Rattle.lsys_spec.specs.Meaning.{OverLimit, first_level, next_level, last_level, within_limit, meaning_to, meaning}
 use Rattle.lsys_spec.proofs.LevelInduction.{ok_parts}
 use Rattle.lsys_change.proofs.UpTo.{level_count}
@@ -21,7 +21,7 @@ use Rattle.lsys_pass.specs.declared.sizes.Size.{Size}
 use Rattle.lsys_pass.specs.declared.state.PassState.TheVariants.{Level}
 use Rattle.lsys_pass.specs.Sizes.{symbols_at, total_of, HaveSizesTo, SizesAt}
 use Rattle.lsys_pass.specs.Stages.{Stage}
-use Rattle.lsys_pass.specs.Passes.{PassView, stage_of, now, IsPass}
+use Rattle.lsys_pass.specs.Passes.{PassView, stage_of, now_in, IsPass}
 use Rattle.lsys_pass.specs.Advances.{IsAskedTo, symbols_wanted}
 use Rattle.lsys_pass.specs.Fresh.{WasAsked}
 use Rattle.lsys_pass.proofs.Asking.{sound_now}
@@ -29,14 +29,14 @@ use Rattle.lsys_pass.proofs.Finishing.{all_answered}
 
 -- 1. the symbols of levels under a limit are no more than it
 
-under : (limit t : ℕ) (xs ys : List (List Symbol)) → within_limit limit t xs ≡ Ok ys → sum_by length ys ≤ limit
+under : (limit t : ℕ) (xs ys : List (List LevelSymbol)) → within_limit limit t xs ≡ Ok ys → sum_by length ys ≤ limit
 under limit t xs ys h = by (nat_lt limit (sum_by length xs)) refl h
   where
     by : (b : Bool) → nat_lt limit (sum_by length xs) ≡ b → cond b (Err (OverLimit t)) (Ok xs) ≡ Ok ys → sum_by length ys ≤ limit
     by true e k = cc
-    by false e k = let same : xs ≡ ys = cc in subst (λ (ys : List (List Symbol)). sum_by length ys ≤ limit) same (grind (arith, nat_tests))
+    by false e k = let same : xs ≡ ys = cc in subst (λ (ys : List (List LevelSymbol)). sum_by length ys ≤ limit) same (grind (arith, nat_tests))
 
-pub within : (s : System) (limit t : ℕ) (ys : List (List Symbol)) → meaning_to s limit t ≡ Ok ys → sum_by length ys ≤ limit
+pub within : (s : System) (limit t : ℕ) (ys : List (List LevelSymbol)) → meaning_to s limit t ≡ Ok ys → sum_by length ys ≤ limit
 within s limit zero ys h = under limit 0 (first_level s ∷ []) ys h
 within s limit (suc t) ys h =
     let before = ok_parts (meaning_to s limit t) _ ys h in
@@ -49,7 +49,7 @@ length_map : {A B : Type 0} (f : A → B) (xs : List A) → length (map f xs) �
 length_map f [] = refl
 length_map f (x ∷ xs) = ap suc (length_map f xs)
 
-same_totals : (zs : List Size) (xs : List (List Symbol)) → length zs ≡ length xs → ((u : ℕ) → u < length xs → symbols_at zs u ≡ length (get_or xs u [])) → total_of zs ≡ sum_by length xs
+same_totals : (zs : List Size) (xs : List (List LevelSymbol)) → length zs ≡ length xs → ((u : ℕ) → u < length xs → symbols_at zs u ≡ length (get_or xs u [])) → total_of zs ≡ sum_by length xs
 same_totals [] [] e h = refl
 same_totals [] (x ∷ xs) e h = absurd (omega (arith, e))
 same_totals (z ∷ zs) [] e h = absurd (omega (arith, e))
@@ -57,7 +57,7 @@ same_totals (z ∷ zs) (x ∷ xs) e h =
     let one = h 0 (omega arith) in
     let rest = same_totals zs xs (omega (arith, e)) (λ u l. h (suc u) (omega (arith, l))) in
     let a = sum_by-cons (λ (y : Size). y.symbols) z zs in
-    let b = sum_by-cons (length {A = Symbol}) x xs in
+    let b = sum_by-cons (length {A = LevelSymbol}) x xs in
     omega (arith, one, rest, a, b)
 
 module _ (v : PassView) (t : ℕ) (h : IsPass v) (state : v.state ≡ Level t) (a : IsAskedTo (stage_of v) t) where
@@ -67,15 +67,15 @@ module _ (v : PassView) (t : ℕ) (h : IsPass v) (state : v.state ≡ Level t) (
   count : length (meant_to v.next v.limit t) ≡ t + 1
   count = level_count v.next v.limit t (meant_to v.next v.limit t) a.at.tree.spelled a.at.tree.is
 
-  made : HaveSizesTo (now v) v.forest.root v.made t
-  made = subst (SizesAt (now v) v.forest.root v.next.depth v.made) state h.made_sized
+  made : HaveSizesTo (now_in v) v.forest.root v.made t
+  made = subst (SizesAt (now_in v) v.forest.root v.next.depth v.made) state h.made_sized
 
   long : (u : ℕ) → u < length (meant_to v.next v.limit t) → symbols_at v.made u ≡ length (get_or (meant_to v.next v.limit t) u [])
   long u l =
       made.symbols u (let c = count in omega (arith, c, l))
-      ∙ sym (length_map (λ k. spot_in k (now v k)) (level_nodes (now v) v.forest.root u))
-      ∙ sym (length_map (named (names (now v))) (level_spots (now v) v.forest.root u))
-      ∙ ap (length {A = Symbol}) (a.at.tree.levels.each u l)
+      ∙ sym (length_map (λ k. spot_in k (now_in v k)) (level_nodes (now_in v) v.forest.root u))
+      ∙ sym (length_map (named (names (now_in v))) (level_spots (now_in v) v.forest.root u))
+      ∙ ap (length {A = LevelSymbol}) (a.at.tree.levels.each u l)
 
   pub total_is : total_of v.made ≡ sum_by length (meant_to v.next v.limit t)
   total_is = same_totals v.made (meant_to v.next v.limit t) (made.count ∙ sym count) long
@@ -84,7 +84,7 @@ module _ (v : PassView) (t : ℕ) (h : IsPass v) (state : v.state ≡ Level t) (
   total_within = let e = total_is in let w = within v.next v.limit t (meant_to v.next v.limit t) a.at.tree.is in omega (arith, e, w)
 
   -- all questions of level t are answered
-  pub are_answered : AreAnswered v.next v.limit t (now v) v.forest.root v.store
+  pub are_answered : AreAnswered v.next v.limit t (now_in v) v.forest.root v.store
   are_answered = record {
     levels = record {
       spelled = a.at.tree.spelled;
@@ -101,8 +101,8 @@ module _ (v : PassView) (t : ℕ) (h : IsPass v) (state : v.state ≡ Level t) (
   pub over_next : (n : ℕ) → n ≡ symbols_wanted s t → v.limit < total_of v.made + n → meaning v.next v.limit ≡ Err (OverLimit (t + 1))
   over_next n e l =
       let total = total_is in
-      over_count v.next v.limit t (now v) v.forest.root (kept_successors (now v)) (answered_level v.next v.limit t (now v) v.forest.root v.store are_answered)
-      (level_apart v.forest.root (changes_in v.forest) (now v) (sound_now v t h state) t) (omega (arith, e, l, total)) a.at.tree.below
+      over_count v.next v.limit t (now_in v) v.forest.root (kept_successors (now_in v)) (answered_level v.next v.limit t (now_in v) v.forest.root v.store are_answered)
+      (level_apart v.forest.root (changes_in v.forest) (now_in v) (sound_now v t h state) t) (omega (arith, e, l, total)) a.at.tree.below
 
 -- 3. the same, as another view of the pass tells it
 

@@ -4,7 +4,7 @@ use Rattle.lsys_match.specs.Kept.{Kept}
 use Rattle.lsys_kept.specs.declared.seat.Seat.{Seat}
 use Rattle.lsys_kept.specs.Seats.{is_marked, SameSeats, KeepsSeats}
 use Rattle.lsys_candidates.specs.Repairs.{Repair, rest}
-use Rattle.lsys_front.specs.Fronts.{Differences, IsFront}
+use Rattle.lsys_front.specs.Fronts.{Differences, IsLevelFront}
 use Rattle.lsys_front.specs.Turned.{AreTurnedBy}
 use Rattle.lsys_forest.specs.Groves.{Grove}
 use Rattle.lsys_forest.specs.Nodes.{Nodes}
@@ -13,7 +13,7 @@ use Rattle.lsys_pass.specs.declared.state.PassState.TheVariants.{Failed}
 use Rattle.lsys_pass.specs.Sizes.{symbols_at, opens_at, with_open, HaveSizesTo}
 use Rattle.lsys_pass.specs.Stages.{IsAtLevel}
 use Rattle.lsys_pass.specs.Advances.{KeepsRest}
-use Rattle.lsys_pass.specs.Passes.{PassView, stage_of, now, repair_of, IsPass}
+use Rattle.lsys_pass.specs.Passes.{PassView, stage_of, now_in, repair_of, IsPass}
 use Rattle.lsys_pass.specs.Fresh.{WasAsked}
 use Rattle.lsys_pass.proofs.Finishing.{rest_made}
 use Rattle.lsys_pass.proofs.Failing.{still_failed}
@@ -28,7 +28,7 @@ turned_same o f t seats seats' turned same h = record {
   same = λ k i n. h.same k i n ∙ sym (same k);
 }
 
-front_same : (r : Repair) (seats seats' : List Seat) (d : Differences) → SameSeats seats seats' → IsFront r seats d → IsFront r seats' d
+front_same : (r : Repair) (seats seats' : List Seat) (d : Differences) → SameSeats seats seats' → IsLevelFront r seats d → IsLevelFront r seats' d
 front_same r seats seats' d same h = record {
   differs = h.differs;
   gone_once = h.gone_once;
@@ -164,7 +164,7 @@ was_told v b t a = record {
     unmarked = a.pass.unmarked;
     counted = a.pass.counted;
     sized = a.pass.sized;
-    made_sized = open_sizes (now v) v.forest.root v.made b t a.pass.made_sized;
+    made_sized = open_sizes (now_in v) v.forest.root v.made b t a.pass.made_sized;
     holds = a.pass.holds;
     front = record { front = a.pass.front.front; within = a.pass.front.within; before = a.pass.front.before; here = a.pass.front.here; room = a.pass.front.room };
     room = a.pass.room;

@@ -2,9 +2,10 @@
 use Rattle.std.proofs.Common.{◌≡◌, ◌<◌, ℕ, zero, suc, Bool, true, false, List, [], ◌∷◌, length, map, Option, Some, None, refl, sym, ap, ◌∙◌, subst, inl, inr, arith, slice_get}
 use Rattle.std.specs.Prelude.{option_map}
 use Rattle.std.proofs.lemmas.Option.{none-some, same_Some, slice_get-map, slice_get-get_or}
+use Rattle.lsys_spec.specs.Rows.{In}
 use Rattle.lsys_spec.specs.Draws.{key_of}
 use Rattle.lsys_spec.specs.Bodies.{Body, group}
-use Rattle.lsys_spec.specs.Levels.{ModuleValue, Symbol, Module, lineage}
+use Rattle.lsys_spec.specs.Levels.{ModuleValue, LevelSymbol, Module, lineage}
 use Rattle.lsys_spec.specs.Questions.{Question, questions, question_at, is_needed}
 use Rattle.lsys_spec.proofs.Needs.{Derived, derived, IsAsked, all_asked, IsFound, found_asked}
 use Rattle.lsys_change.specs.Nodes.{Kin}
@@ -23,13 +24,12 @@ use Rattle.lsys_match.specs.Asks.{IsAnswer, IsNamedAt, by_definition}
 use Rattle.lsys_match.specs.Recalled.{IsAnswerThere, asked_there}
 use Rattle.lsys_match.proofs.Same.{same_answers}
 use Rattle.lsys_forest.specs.Nodes.{Node, Nodes}
-use Rattle.lsys_forest.specs.Groves.{In}
 use Rattle.lsys_forest.specs.Rows.{spot_in, level_nodes, level_spots}
 use Rattle.lsys_forest.proofs.RowLemmas.{level_depth}
 use Rattle.lsys_forest.proofs.WalkLemmas.{get_In}
 use Rattle.lsys_kept.specs.Lineages.{kin_of, kins, names}
-use Rattle.lsys_kept.specs.Levels.{IsKeptFor, IsRight, IsAnswered, level_of, answer_at}
-use Rattle.lsys_kept.specs.Meant.{meant, meant_to, level_to}
+use Rattle.lsys_kept.specs.Levels.{IsKeptFor, IsRight, IsAnsweredRight, level_of, answer_at}
+use Rattle.lsys_kept.specs.Meant.{levels_meant, meant_to, level_to}
 use Rattle.lsys_pass.specs.Stages.{Stage, was, HasTree}
 use Rattle.lsys_pass.proofs.Before as before
 use Rattle.lsys_pass.proofs.Before.{WasAnswered, was_answered, IsPlaced, placed, answer_lives, spot_at, found_same}
@@ -74,7 +74,7 @@ module _ (s : Stage) (t node : ℕ) (n : Node Kept) (front back : List ℕ) (x :
       let c = (is_open s t node n front back x p there).candidate in
       let at = spot_at s.now s.root t p node n there x.is in
       let is : slice_get (level_of s.now s.root t) p ≡ Some (with_lineage (names s.now node) n.seen) = slice_get-map (named (names s.now)) (level_spots s.now s.root t) p ∙ ap (option_map (named (names s.now))) at in
-      let same : with_lineage (names s.now node) n.seen ≡ Module c.line c.own = same_Some _ _ (sym is ∙ ap (λ (y : List Symbol). slice_get y p) level_meant ∙ c.stands) in
+      let same : with_lineage (names s.now node) n.seen ≡ Module c.line c.own = same_Some _ _ (sym is ∙ ap (λ (y : List LevelSymbol). slice_get y p) level_meant ∙ c.stands) in
       let m = is_module (names s.now node) c.line n.seen c.own same in
       let key : n.key ≡ key_of s.next.seed (names s.now node) = x.at.tree.levels.keys t p (record { seen = n.seen; tag = node; key = n.key }) (let d = level_count s.next s.limit t (meant_to s.next s.limit t) x.at.tree.spelled x.at.tree.is in omega (arith, d)) at in
       record {
@@ -90,8 +90,8 @@ module _ (s : Stage) (t node : ℕ) (n : Node Kept) (front back : List ℕ) (x :
 
   -- 2. the old level
 
-  abbrev olds : List (List Symbol)
-  olds = meant s.system s.limit
+  abbrev olds : List (List LevelSymbol)
+  olds = levels_meant s.system s.limit
 
   -- a node of the old level has the lineage that it had
   old_names : (k : ℕ) → In k (level_nodes (was s) s.root t) → names s.now k ≡ names (was s) k
@@ -106,7 +106,7 @@ module _ (s : Stage) (t node : ℕ) (n : Node Kept) (front back : List ℕ) (x :
       let tag : (spot_in k (was s k)).tag ≡ k = by (was s k) in
       let one : named (names s.now) (spot_in k (was s k)) ≡ named (names (was s)) (spot_in k (was s k)) = ap (λ l. with_lineage l (spot_in k (was s k)).seen) (ap (names s.now) tag ∙ h k (inl refl) ∙ ap (names (was s)) (sym tag)) in
       ap (λ a. a ∷ level_by (names s.now) (map (λ k. spot_in k (was s k)) ks)) one
-      ∙ ap (λ (l : List Symbol). named (names (was s)) (spot_in k (was s k)) ∷ l) (same_named ks (λ j i. h j (inr i)))
+      ∙ ap (λ (l : List LevelSymbol). named (names (was s)) (spot_in k (was s k)) ∷ l) (same_named ks (λ j i. h j (inr i)))
     where
       by : (o : Option (Node Kept)) → (spot_in k o).tag ≡ k
       by None = refl
@@ -150,7 +150,7 @@ module _ (s : Stage) (t node : ℕ) (n : Node Kept) (front back : List ℕ) (x :
 
   old_stands : (a : Kept) → (w : WasAnswered s.system t (was s) s.root s.store node a) → slice_get (level_of (was s) s.root t) w.place ≡ Some (Module (names s.now node) w.own)
   old_stands a w =
-      ap (λ (y : List Symbol). slice_get y w.place) (sym old_level) ∙ slice_get-map (named (names s.now)) (level_spots (was s) s.root t) w.place ∙ ap (option_map (named (names s.now))) w.spot
+      ap (λ (y : List LevelSymbol). slice_get y w.place) (sym old_level) ∙ slice_get-map (named (names s.now)) (level_spots (was s) s.root t) w.place ∙ ap (option_map (named (names s.now))) w.spot
 
   old_found : (a : Kept) → (w : WasAnswered s.system t (was s) s.root s.store node a) → question_at t (names s.now node) (questions s.system olds) ≡ Some (old_question a w)
   old_found a w =
@@ -227,7 +227,7 @@ module _ (s : Stage) (t node : ℕ) (n : Node Kept) (front back : List ℕ) (x :
           let c = level_count s.system s.limit s.system.depth olds x.at.rest.spelled x.at.rest.is in omega (arith, l, c)
           ) in
           let level : b.level ≡ level_by (names s.now) (level_spots (was s) s.root t) = same_Some b.level (level_by (names s.now) (level_spots (was s) s.root t)) (sym b.there ∙ old_there below ∙ ap (λ y. Some y) (sym old_level)) in
-          let stood : slice_get (level_by (names s.now) (level_spots (was s) s.root t)) b.place ≡ Some (Module b.parents b.value) = ap (λ (y : List Symbol). slice_get y b.place) (sym level) ∙ b.stands in
+          let stood : slice_get (level_by (names s.now) (level_spots (was s) s.root t)) b.place ≡ Some (Module b.parents b.value) = ap (λ (y : List LevelSymbol). slice_get y b.place) (sym level) ∙ b.stands in
           let one = map_back (named (names s.now)) (level_spots (was s) s.root t) b.place (Module b.parents b.value) stood in
           let two = map_back (λ i. spot_in i (was s i)) (level_nodes (was s) s.root t) b.place one.0 one.1 in
           let d = level_depth s.root [] (was s) x.was_sound t two.0 (get_In (level_nodes (was s) s.root t) b.place two.0 two.1) in
@@ -238,8 +238,8 @@ module _ (s : Stage) (t node : ℕ) (n : Node Kept) (front back : List ℕ) (x :
           let same : two.0 ≡ node = apart (kins s.now) s.root two.0 node (kin_of d.0) (kin_of n) x.at.tree.once now_is (ap (option_map kin_of) x.is) (let e = depth_is s t node n front back x in omega (arith, e, d.2)) line in
           let there_was : slice_get (level_nodes (was s) s.root t) b.place ≡ Some node = two.1 ∙ ap (λ k. Some k) same in
           let at = spot_at (was s) s.root t b.place node d.0 there_was (ap (was s) (sym same) ∙ d.1) in
-          let kept : IsAnswered s.system t (level_spots (was s) s.root t) s.store b.place node (S.Module b.value) (answer_at (was s) node) =
-          subst (λ y. IsAnswered s.system t (level_spots (was s) s.root t) s.store b.place node y (answer_at (was s) node)) module_there.seen
+          let kept : IsAnsweredRight s.system t (level_spots (was s) s.root t) s.store b.place node (S.Module b.value) (answer_at (was s) node) =
+          subst (λ y. IsAnsweredRight s.system t (level_spots (was s) s.root t) s.store b.place node y (answer_at (was s) node)) module_there.seen
           (x.at.rest.answered t b.place node below there_was (record { seen = d.0.seen; tag = node; key = d.0.key }) at) in
           let some = kept_some (group s.system t b.value.name (length b.value.params)) (IsRight s.system t (level_spots (was s) s.root t) s.store b.place node b.value) (answer_at (was s) node) kept (rules_were b) in
           let now_kept : answer_at s.now node ≡ Some some.0 = (is_open s t node n front back x p there).same ∙ some.1 in
@@ -256,5 +256,5 @@ module _ (s : Stage) (t node : ℕ) (n : Node Kept) (front back : List ℕ) (x :
       by false e =
           let h = has_old p m stands there rules e in
           let same = same_answers s.system s.next t (level_spots (was s) s.root t) (level_spots s.now s.root t) h.2.place p node node h.2.own m (answer_in s.store h.0) (answer_in st b) (names s.now) h.2.answer answer names_tell (old_named h.0 h.2) named_now in
-          let was_asked : asked_there s.system t (level_by (names s.now) (level_spots (was s) s.root t)) h.2.place (names s.now node) h.2.own ≡ old_question h.0 h.2 = ap (λ (y : List Symbol). module_question s.system t y h.2.place (names s.now node) h.2.own) old_level in
+          let was_asked : asked_there s.system t (level_by (names s.now) (level_spots (was s) s.root t)) h.2.place (names s.now node) h.2.own ≡ old_question h.0 h.2 = ap (λ (y : List LevelSymbol). module_question s.system t y h.2.place (names s.now node) h.2.own) old_level in
           absurd (other h.0 h.1 (same.1 (was_asked ∙ h.3)))

@@ -3,9 +3,10 @@ use Rattle.std.proofs.Common.{◌≡◌, ◌+◌, ◌<◌, ◌≤◌, ◌^◌, �
 use Rattle.std.specs.Prelude.{IsSome, option_map, Bool, Option}
 use Rattle.std.proofs.lemmas.List.Sums.{sum_by-cons}
 use Rattle.std.proofs.lemmas.Option.{none-some}
+use Rattle.lsys_spec.specs.Rows.{In, AreApart}
 use Rattle.lsys_match.specs.Kept.{Kept}
 use Rattle.lsys_forest.specs.Nodes.{Node, Nodes}
-use Rattle.lsys_forest.specs.Groves.{In, AreApart, IsLive, changes_in}
+use Rattle.lsys_forest.specs.Groves.{IsLive, changes_in}
 use Rattle.lsys_forest.specs.Rows.{kids_in, level_nodes}
 use Rattle.lsys_forest.proofs.RowLemmas.{level_depth, level_apart}
 use Rattle.lsys_forest.proofs.DepthLemmas.{fits}
@@ -17,7 +18,7 @@ use Rattle.lsys_repair.specs.Nexts.{HasWanted, AreClosed}
 use Rattle.lsys_repair.specs.Answers.{kept_successors}
 use Rattle.lsys_repair.proofs.Lengths.{below_count, other_sums}
 use Rattle.lsys_repair.specs.declared.parent.Parent.{Parent}
-use Rattle.lsys_repair.specs.Parents.{nodes_in, AreToldBy, walked, whole}
+use Rattle.lsys_repair.specs.Parents.{nodes_in, AreToldBy, cut_parents, uncut}
 use Rattle.lsys_repair.specs.Needs.{had_by_all, wanted_of_all}
 use Rattle.lsys_repair.proofs.Walked.{whole_told}
 use Rattle.lsys_candidates.specs.Repairs.{Repair}
@@ -61,12 +62,12 @@ module _ (v : PassView) (t : ℕ) (a : WasAsked v t) where
   r = repair_of v t
 
   apart_at : (u : ℕ) → AreApart (row_of v u)
-  apart_at u = level_apart v.forest.root (changes_in v.forest) (P.now v) (sound v t a) u
+  apart_at u = level_apart v.forest.root (changes_in v.forest) (P.now_in v) (sound v t a) u
 
   live_all : (ks : List ℕ) → AreApart ks → ((k : ℕ) → In k ks → IsLive v.forest k) → length ks < 2 ^ 32
   live_all ks apart lives =
       let most = fits ks v.forest.stock.slots apart (λ k i.
-      let n = some_node (P.now v k) (lives k i) in
+      let n = some_node (P.now_in v k) (lives k i) in
       let s = stored_of v.forest.stock.slots v.forest.stock.params v.forest.stock.kids k n.0 n.1 in
       subst IsSome (sym s.1) refl) in
       let live = a.pass.few in
@@ -77,16 +78,16 @@ module _ (v : PassView) (t : ℕ) (a : WasAsked v t) where
       some_node (Some n) h = (n, refl)
 
   row_lives : (u k : ℕ) → In k (row_of v u) → IsLive v.forest k
-  row_lives u k i = let d = level_depth v.forest.root (changes_in v.forest) (P.now v) (sound v t a) u k i in subst IsSome (sym d.1) refl
+  row_lives u k i = let d = level_depth v.forest.root (changes_in v.forest) (P.now_in v) (sound v t a) u k i in subst IsSome (sym d.1) refl
 
   few_next : length (row_of v (t + 1)) < 2 ^ 32
   few_next = live_all (row_of v (t + 1)) (apart_at (t + 1)) (row_lives (t + 1))
 
   -- one that lived at the last rest lives
-  was_lives : (u k : ℕ) → In k (level_nodes (P.was v) v.forest.root u) → IsLive v.forest k
+  was_lives : (u k : ℕ) → In k (level_nodes (P.rest_in v) v.forest.root u) → IsLive v.forest k
   was_lives u k i =
-      let d = level_depth v.forest.root [] (P.was v) (sound_old r (spots v t a)) u k i in
-      kin_lives (P.now v k) (kin_of d.0) (a.asked.at.tree.stay k (kin_of d.0) (ap (option_map kin_of) d.1))
+      let d = level_depth v.forest.root [] (P.rest_in v) (sound_old r (spots v t a)) u k i in
+      kin_lives (P.now_in v k) (kin_of d.0) (a.asked.at.tree.stay k (kin_of d.0) (ap (option_map kin_of) d.1))
     where
       kin_lives : (o : Option (Node Kept)) (x : Kin) → option_map kin_of o ≡ Some x → IsSome o
       kin_lives None x e = absurd (none-some x e)
@@ -96,16 +97,16 @@ module _ (v : PassView) (t : ℕ) (a : WasAsked v t) where
   gone_lives k i = was_lives t k ((a.pass.front.front.differs.gone k).0 i).0
 
   -- what is left of the next level of the last rest
-  pub left_of : length (row_of v (t + 1)) + sum_by (kids_at (P.now v)) v.front.changes.gone ≡ symbols_at v.sizes (t + 1)
+  pub left_of : length (row_of v (t + 1)) + sum_by (kids_at (P.now_in v)) v.front.changes.gone ≡ symbols_at v.sizes (t + 1)
   left_of = left r (spots v t a) (deeper v t a) v.front.changes a.pass.front.front.differs a.pass.front.front.gone_once ∙ sym (a.pass.sized.symbols (t + 1))
 
   pub few_was : symbols_at v.sizes (t + 1) < 2 ^ 32
   few_was =
-      let n = live_all (level_nodes (P.was v) v.forest.root (t + 1)) (level_apart v.forest.root [] (P.was v) (sound_old r (spots v t a)) (t + 1)) (was_lives (t + 1)) in
+      let n = live_all (level_nodes (P.rest_in v) v.forest.root (t + 1)) (level_apart v.forest.root [] (P.rest_in v) (sound_old r (spots v t a)) (t + 1)) (was_lives (t + 1)) in
       let e = a.pass.sized.symbols (t + 1) in
       omega (arith, n, e)
 
-  pub gone_few : sum_by (kids_at (P.now v)) v.front.changes.gone ≤ 2 ^ 32
+  pub gone_few : sum_by (kids_at (P.now_in v)) v.front.changes.gone ≤ 2 ^ 32
   gone_few = let l = left_of in let f = few_was in omega (arith, l, f)
 
   module _ (ps : List Parent) (n : AreNextParents v t ps) where
@@ -119,39 +120,39 @@ module _ (v : PassView) (t : ℕ) (a : WasAsked v t) where
         let e = length_nodes ps in
         omega (arith, l, e)
 
-    pub had_few : had_by_all (P.now v) ps ≤ length (row_of v (t + 1))
+    pub had_few : had_by_all (P.now_in v) ps ≤ length (row_of v (t + 1))
     had_few =
-        let some = some_sum (kids_at (P.now v)) (row_of v t) (nodes_in ps) (apart_at t) n.parents.apart n.there in
-        let had = had_sum (P.now v) ps in
+        let some = some_sum (kids_at (P.now_in v)) (row_of v t) (nodes_in ps) (apart_at t) n.parents.apart n.there in
+        let had = had_sum (P.now_in v) ps in
         let next : t + 1 ≡ suc t = omega arith in
-        let all : length (row_of v (t + 1)) ≡ sum_by (kids_at (P.now v)) (row_of v t) = ap (λ u. length (row_of v u)) next ∙ below_count (P.now v) (row_of v t) in
+        let all : length (row_of v (t + 1)) ≡ sum_by (kids_at (P.now_in v)) (row_of v t) = ap (λ u. length (row_of v u)) next ∙ below_count (P.now_in v) (row_of v t) in
         omega (arith, some, had, all)
 
-    pub had_small : had_by_all (P.now v) ps ≤ 2 ^ 32
+    pub had_small : had_by_all (P.now_in v) ps ≤ 2 ^ 32
     had_small = let h = had_few in let f = few_next in omega (arith, h, f)
 
-    pub walked_symbols : ps ≡ walked (P.now v) None (row_of v t) → wanted_of_all v.next.numbering (P.now v) ps ≡ symbols_wanted (stage_of v) t
+    pub walked_symbols : ps ≡ cut_parents (P.now_in v) None (row_of v t) → wanted_of_all v.next.numbering (P.now_in v) ps ≡ symbols_wanted (stage_of v) t
     walked_symbols e = sym (by_walk r ps e (apart_at t))
 
-    alone_told : AreClosed (kept_successors (P.now v)) (row_of v t) → ps ≡ map whole (nodes_in ps) → AreToldBy (kept_successors (P.now v)) (P.now v) ps
-    alone_told closed e = subst (λ (qs : List Parent). AreToldBy (kept_successors (P.now v)) (P.now v) qs) (sym e) (whole_told (P.now v) (nodes_in ps))
+    alone_told : AreClosed (kept_successors (P.now_in v)) (row_of v t) → ps ≡ map uncut (nodes_in ps) → AreToldBy (kept_successors (P.now_in v)) (P.now_in v) ps
+    alone_told closed e = subst (λ (qs : List Parent). AreToldBy (kept_successors (P.now_in v)) (P.now_in v) qs) (sym e) (whole_told (P.now_in v) (nodes_in ps))
 
-    pub alone_symbols : AreClosed (kept_successors (P.now v)) (row_of v t) → ps ≡ map whole (nodes_in ps)
-        → symbols_wanted (stage_of v) t + had_by_all (P.now v) ps + sum_by (kids_at (P.now v)) v.front.changes.gone ≡ symbols_at v.sizes (t + 1) + wanted_of_all v.next.numbering (P.now v) ps
+    pub alone_symbols : AreClosed (kept_successors (P.now_in v)) (row_of v t) → ps ≡ map uncut (nodes_in ps)
+        → symbols_wanted (stage_of v) t + had_by_all (P.now_in v) ps + sum_by (kids_at (P.now_in v)) v.front.changes.gone ≡ symbols_at v.sizes (t + 1) + wanted_of_all v.next.numbering (P.now_in v) ps
     alone_symbols closed e =
         let sums = by_parents r ps (spots v t a) n.parents.apart n.there closed (alone_told closed e)
         (λ k i. elim (n.others k i) [
           | inl j ↦ inl j
-          | inr w ↦ inr (subst (HasWanted v.next.numbering v.next.seed (P.now v) k) (wanted_alone (P.now v) (kept_successors (P.now v)) (row_of v t) closed k i) w)
+          | inr w ↦ inr (subst (HasWanted v.next.numbering v.next.seed (P.now_in v) k) (wanted_alone (P.now_in v) (kept_successors (P.now_in v)) (row_of v t) closed k i) w)
         ]) in
         let l = left_of in
         omega (arith, sums, l)
 
 -- which of both it is
-pub is_walked : (v : PassView) (t : ℕ) (b : Bool) (ps : List Parent) → b ≡ true → AreWalkedOrAlone v t b ps → ps ≡ walked (P.now v) None (row_of v t)
+pub is_walked : (v : PassView) (t : ℕ) (b : Bool) (ps : List Parent) → b ≡ true → AreWalkedOrAlone v t b ps → ps ≡ cut_parents (P.now_in v) None (row_of v t)
 is_walked v t true ps e h = h
 is_walked v t false ps e h = absurd (let f : false ≡ true = e in cc)
 
-pub is_alone : (v : PassView) (t : ℕ) (b : Bool) (ps : List Parent) → b ≡ false → AreWalkedOrAlone v t b ps → AreClosed (kept_successors (P.now v)) (row_of v t) × (ps ≡ map whole (nodes_in ps))
+pub is_alone : (v : PassView) (t : ℕ) (b : Bool) (ps : List Parent) → b ≡ false → AreWalkedOrAlone v t b ps → AreClosed (kept_successors (P.now_in v)) (row_of v t) × (ps ≡ map uncut (nodes_in ps))
 is_alone v t true ps e h = absurd (let f : true ≡ false = e in cc)
 is_alone v t false ps e h = h

@@ -3,10 +3,11 @@ use Rattle.std.proofs.Common.{◌≡◌, ◌⊎◌, ◌+◌, ℕ, suc, List, [],
 use Rattle.std.specs.Prelude.{option_map}
 use Rattle.std.proofs.lemmas.List.Sums.{sum_by-append, sum_by-cons}
 use Rattle.std.proofs.lemmas.Option.{same_Some}
+use Rattle.lsys_spec.specs.Rows.{In, AreApart}
 use Rattle.lsys_change.specs.Nodes.{Kin}
 use Rattle.lsys_match.specs.Kept.{Kept}
 use Rattle.lsys_forest.specs.Nodes.{Node, Nodes}
-use Rattle.lsys_forest.specs.Groves.{In, AreApart, IsSound, changes_in}
+use Rattle.lsys_forest.specs.Groves.{IsRooted, changes_in}
 use Rattle.lsys_forest.specs.Rows.{kids_in, level_nodes}
 use Rattle.lsys_forest.proofs.RowLemmas.{In_append, In_left, In_right, In_split, apart_append, level_apart, level_depth}
 use Rattle.lsys_forest.proofs.SoundLemmas.{AreSound-then}
@@ -17,7 +18,7 @@ use Rattle.lsys_repair.proofs.Lengths.{kids_count, below_count, other_sums}
 use Rattle.lsys_repair.proofs.Depths.{on_level}
 use Rattle.lsys_pass.specs.declared.state.PassState.TheVariants.{Level}
 use Rattle.lsys_pass.specs.Sizes.{symbols_at}
-use Rattle.lsys_pass.specs.Passes.{PassView, stage_of, now, was, IsPass}
+use Rattle.lsys_pass.specs.Passes.{PassView, stage_of, now_in, rest_in, IsPass}
 use Rattle.lsys_pass.specs.Advances.{IsAskedTo, symbols_wanted}
 use Rattle.lsys_pass.proofs.Asking.{sound_now}
 use Rattle.lsys_pass.proofs.Stepping.{in_less, in_more, apart_less, not_left}
@@ -79,52 +80,52 @@ kids_at m k = length (kids_in (m k))
 
 module _ (v : PassView) (t : ℕ) (h : IsPass v) (state : v.state ≡ Level t) (a : IsAskedTo (stage_of v) t) where
   abbrev row : List ℕ
-  row = level_nodes (now v) v.forest.root t
+  row = level_nodes (now_in v) v.forest.root t
 
   abbrev old_row : List ℕ
-  old_row = level_nodes (was v) v.forest.root t
+  old_row = level_nodes (rest_in v) v.forest.root t
 
-  sound_was : IsSound v.forest.root [] (was v)
-  sound_was = AreSound-then v.forest.root (changes_in v.forest) (now v) h.stored.sound
+  sound_was : IsRooted v.forest.root [] (rest_in v)
+  sound_was = AreSound-then v.forest.root (changes_in v.forest) (now_in v) h.stored.sound
 
   -- a node of the level has as many children as it had, or none, if it is new; and one that lived was on the level
-  kids_as : (k : ℕ) → In k row → (kids_at (now v) k ≡ kids_at (was v) k) × (In k old_row ⊎ (kids_at (was v) k ≡ 0))
-  kids_as k i = by (was v k) refl
+  kids_as : (k : ℕ) → In k row → (kids_at (now_in v) k ≡ kids_at (rest_in v) k) × (In k old_row ⊎ (kids_at (rest_in v) k ≡ 0))
+  kids_as k i = by (rest_in v k) refl
     where
-      d : (n : Node Kept) × (now v k ≡ Some n) × (n.depth ≡ t + 1)
-      d = level_depth v.forest.root (changes_in v.forest) (now v) (sound_now v t h state) t k i
+      d : (n : Node Kept) × (now_in v k ≡ Some n) × (n.depth ≡ t + 1)
+      d = level_depth v.forest.root (changes_in v.forest) (now_in v) (sound_now v t h state) t k i
 
-      by : (o : Option (Node Kept)) → was v k ≡ o → (kids_at (now v) k ≡ kids_at (was v) k) × (In k old_row ⊎ (kids_at (was v) k ≡ 0))
+      by : (o : Option (Node Kept)) → rest_in v k ≡ o → (kids_at (now_in v) k ≡ kids_at (rest_in v) k) × (In k old_row ⊎ (kids_at (rest_in v) k ≡ 0))
       by None e =
-          let none : kids_at (was v) k ≡ 0 = ap (λ (o : Option (Node Kept)). length (kids_in o)) e in
-          let new : kids_at (now v) k ≡ 0 = ap (λ (o : Option (Node Kept)). length (kids_in o)) d.1 ∙ ap (length {A = ℕ}) (a.at.tree.new_kids k d.0 d.1 e d.2) in
+          let none : kids_at (rest_in v) k ≡ 0 = ap (λ (o : Option (Node Kept)). length (kids_in o)) e in
+          let new : kids_at (now_in v) k ≡ 0 = ap (λ (o : Option (Node Kept)). length (kids_in o)) d.1 ∙ ap (length {A = ℕ}) (a.at.tree.new_kids k d.0 d.1 e d.2) in
           (new ∙ sym none, inr none)
       by (Some p) e =
           let deep : p.depth ≡ d.0.depth = ap (λ (z : Kin). z.depth) (same_Some (kin_of p) (kin_of d.0) (sym (a.at.tree.stay k (kin_of p) (ap (option_map (λ (y : Node Kept). kin_of y)) e)) ∙ ap (option_map (λ (y : Node Kept). kin_of y)) d.1)) in (
             ap (λ (o : Option (Node Kept)). length (kids_in o)) d.1 ∙ ap (length {A = ℕ}) (a.at.tree.kids k d.0 p d.1 e d.2) ∙ sym (ap (λ (o : Option (Node Kept)). length (kids_in o)) e),
-            inl (on_level v.forest.root (was v) sound_was t k p e (deep ∙ d.2)),
+            inl (on_level v.forest.root (rest_in v) sound_was t k p e (deep ∙ d.2)),
           )
 
   -- what the successor of a node wants of it
   abbrev wants : ℕ → ℕ
-  wants k = wanted_count v.next.numbering (wanted_in (now v) (kept_successors (now v)) None row k)
+  wants k = wanted_count v.next.numbering (wanted_in (now_in v) (kept_successors (now_in v)) None row k)
 
   -- The nodes that are gone from the level are those, and these are the ones that may want other children.
   pub next_length : (gone ps : List ℕ) → AreApart gone → ((k : ℕ) → In k gone → In k old_row) → ((k : ℕ) → In k gone → In k row → ⊥) → ((k : ℕ) → In k old_row → In k row ⊎ In k gone)
       → AreApart ps → ((k : ℕ) → In k ps → In k row)
-      → ((k : ℕ) → In k row → In k ps ⊎ HasWanted v.next.numbering v.next.seed (now v) k (wanted_in (now v) (kept_successors (now v)) None row k))
-      → symbols_wanted (stage_of v) t + (sum_by (kids_at (now v)) ps + sum_by (kids_at (was v)) gone) ≡ symbols_at v.sizes (t + 1) + sum_by wants ps
+      → ((k : ℕ) → In k row → In k ps ⊎ HasWanted v.next.numbering v.next.seed (now_in v) k (wanted_in (now_in v) (kept_successors (now_in v)) None row k))
+      → symbols_wanted (stage_of v) t + (sum_by (kids_at (now_in v)) ps + sum_by (kids_at (rest_in v)) gone) ≡ symbols_at v.sizes (t + 1) + sum_by wants ps
   next_length gone ps apart_gone on off all apart_ps among others =
-      let apart = level_apart v.forest.root (changes_in v.forest) (now v) (sound_now v t h state) t in
-      let sums = other_sums (kids_at (now v)) wants row ps apart apart_ps among
-      (λ k i. elim (others k i) [ inl j ↦ inl j | inr w ↦ inr (sym (kids_count v.next.numbering v.next.seed (now v) k (wanted_in (now v) (kept_successors (now v)) None row k) w)) ]) in
-      let same = same_sum (kids_at (now v)) (kids_at (was v)) row (λ k i. (kids_as k i).0) in
-      let both = sum_by-append (kids_at (was v)) row gone in
-      let shared = sum_shared (kids_at (was v)) (row ++ gone) old_row (apart_append row gone apart apart_gone (λ k i j. off k j i)) (level_apart v.forest.root [] (was v) sound_was t)
+      let apart = level_apart v.forest.root (changes_in v.forest) (now_in v) (sound_now v t h state) t in
+      let sums = other_sums (kids_at (now_in v)) wants row ps apart apart_ps among
+      (λ k i. elim (others k i) [ inl j ↦ inl j | inr w ↦ inr (sym (kids_count v.next.numbering v.next.seed (now_in v) k (wanted_in (now_in v) (kept_successors (now_in v)) None row k) w)) ]) in
+      let same = same_sum (kids_at (now_in v)) (kids_at (rest_in v)) row (λ k i. (kids_as k i).0) in
+      let both = sum_by-append (kids_at (rest_in v)) row gone in
+      let shared = sum_shared (kids_at (rest_in v)) (row ++ gone) old_row (apart_append row gone apart apart_gone (λ k i j. off k j i)) (level_apart v.forest.root [] (rest_in v) sound_was t)
       (λ k i. elim (In_append row gone k i) [ inl j ↦ (kids_as k j).1 | inr j ↦ inl (on k j) ])
       (λ k i. elim (all k i) [ inl j ↦ inl (In_left k row gone j) | inr j ↦ inl (In_right k row gone j) ]) in
-      let below = below_count (was v) old_row in
+      let below = below_count (rest_in v) old_row in
       let had = h.sized.symbols (t + 1) in
       let step : t + 1 ≡ suc t = omega arith in
-      let long = ap (λ u. length (level_nodes (was v) v.forest.root u)) step in
+      let long = ap (λ u. length (level_nodes (rest_in v) v.forest.root u)) step in
       omega (arith, sums, same, both, shared, below, had, long)

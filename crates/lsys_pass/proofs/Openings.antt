@@ -10,7 +10,7 @@ use Rattle.lsys_spec.specs.Systems.{opening}
 use Rattle.lsys_spec.specs.Meaning.{meaning}
 use Rattle.lsys_spec.specs.Questions.{questions}
 use Rattle.lsys_laws.proofs.KeptPlain.{opening_well}
-use Rattle.lsys_spec.specs.Levels.{Symbol, level_balanced}
+use Rattle.lsys_spec.specs.Levels.{LevelSymbol, level_balanced}
 use Rattle.lsys_level.specs.Spots.{level_by}
 use Rattle.lsys_reads.specs.Rows.{has}
 use Rattle.lsys_region.specs.Pool.{Pool, empty_pool, list_at}
@@ -20,15 +20,15 @@ use Rattle.lsys_match.specs.Kept.{Kept}
 use Rattle.lsys_reads.specs.Relations.{Relations, is_settled}
 use Rattle.lsys_change.specs.Nodes.{Kin}
 use Rattle.lsys_forest.specs.Nodes.{Node, Nodes, root_node}
-use Rattle.lsys_forest.specs.Answers.{Keeper, AtNode, AtChange, answer_of, answers}
-use Rattle.lsys_forest.specs.Groves.{AreKids, HasFew, IsSound}
+use Rattle.lsys_forest.specs.Answers.{AnswerKeeper, AtNode, AtChange, answer_of, answers}
+use Rattle.lsys_forest.specs.Groves.{AreKids, HasFew, IsRooted}
 use Rattle.lsys_forest.specs.Rows.{kids_in, kids_below, spot_in, level_nodes, level_spots}
 use Rattle.lsys_forest.proofs.SoundLemmas.{AreSound-rest}
 use Rattle.lsys_kept.specs.declared.seat.Seat.{Seat}
 use Rattle.lsys_kept.specs.Names.{RunName, InTraces, InValues, Entries, Values, run_in}
 use Rattle.lsys_kept.specs.Lineages.{kin_of, kins, names}
 use Rattle.lsys_kept.specs.Levels.{answer_at}
-use Rattle.lsys_kept.specs.Meant.{meant}
+use Rattle.lsys_kept.specs.Meant.{levels_meant}
 use Rattle.lsys_pass.specs.Rests.{IsResting}
 use Rattle.lsys_pass.specs.Stages.{IsStored}
 
@@ -53,7 +53,7 @@ no_answer m root k h = by (m k) refl
     by None e = refl
     by (Some n) e = ap (λ (n : Node Kept). n.answer) (only_root m root k n h e).1
 
-pub alone_sound : (m : Nodes Kept) (root : ℕ) → IsAlone m root → IsSound root [] m
+pub alone_sound : (m : Nodes Kept) (root : ℕ) → IsAlone m root → IsRooted root [] m
 alone_sound m root h = record {
   root_lives = (root_node root, h.alone, refl);
   held = λ x n e other. absurd (other (only_root m root x n h e).0);
@@ -77,7 +77,7 @@ alone_rests m root limit store reads seats h none = record {
     keys = λ t p a l e. absurd (nothing p (level_spots m root t) a (spots t) e);
     balanced = λ t l. ap (λ xs. level_balanced 0 (level_by (λ tag. []) xs)) (spots t);
   };
-  ends = no_levels m root (length (meant opening limit)) h;
+  ends = no_levels m root (length (levels_meant opening limit)) h;
   counts = λ k n e. (let z = ap (λ (q : Node Kept). q.count) (only_root m root k n h e).1 in let b : number_base ≡ 4096 = refl in omega (arith, z, b));
   once = record {
     root_lives = (kin_of {A = Kept} (root_node root), ap (option_map (kin_of {A = Kept})) h.alone, refl);
@@ -95,19 +95,19 @@ alone_rests m root limit store reads seats h none = record {
   seated = λ t p k e. absurd (nothing p (level_nodes m root t) k (no_levels m root t h) e);
 }
   where
-    is : meaning opening limit ≡ Ok (meant opening limit)
+    is : meaning opening limit ≡ Ok (levels_meant opening limit)
     is = rw (none_over limit) refl
 
     spots : (t : ℕ) → level_spots m root t ≡ []
     spots t = ap (map (λ k. spot_in k (m k))) (no_levels m root t h)
 
-    meant_is : meant opening limit ≡ [] ∷ []
+    meant_is : levels_meant opening limit ≡ [] ∷ []
     meant_is = rw (none_over limit) refl
 
-    level : (t : ℕ) → t < length (meant opening limit) → get_or (meant opening limit) t [] ≡ []
+    level : (t : ℕ) → t < length (levels_meant opening limit) → get_or (levels_meant opening limit) t [] ≡ []
     level t l = ap (λ xs. get_or xs t []) meant_is ∙ by t
       where
-        by : (u : ℕ) → get_or {A = List Symbol} ([] ∷ []) u [] ≡ []
+        by : (u : ℕ) → get_or {A = List LevelSymbol} ([] ∷ []) u [] ≡ []
         by zero = refl
         by (suc u) = refl
 
@@ -138,13 +138,13 @@ alone_stored m root store h bare = record {
   freed = λ r not. bare r;
 }
   where
-    none : (k : Keeper) (a : Kept) → answers m [] k ≡ Some a → ⊥
+    none : (k : AnswerKeeper) (a : Kept) → answers m [] k ≡ Some a → ⊥
     none (AtNode k) a e = none-some a (sym (no_answer m root k h) ∙ e)
     none (AtChange i) a e = none-some a e
 
 -- the opening system has one level, and so no questions
-pub opening_questions : (limit : ℕ) → questions opening (meant opening limit) ≡ []
+pub opening_questions : (limit : ℕ) → questions opening (levels_meant opening limit) ≡ []
 opening_questions limit = ap (questions opening) meant_is
   where
-    meant_is : meant opening limit ≡ [] ∷ []
+    meant_is : levels_meant opening limit ≡ [] ∷ []
     meant_is = rw (none_over limit) refl

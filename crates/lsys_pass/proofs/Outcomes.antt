@@ -5,9 +5,10 @@ use Rattle.std.specs.Option.{option_and_then, IsSomeAnd}
 use Rattle.std.proofs.lemmas.Grind.{common_steps}
 use Rattle.std.proofs.lemmas.List.Sums.{sum_by-append, sum_by-cons}
 use Rattle.std.proofs.lemmas.Option.{none-some, same_Some}
+use Rattle.lsys_spec.specs.Rows.{In, AreApart}
 use Rattle.lsys_spec.specs.Draws.{key_of}
 use Rattle.lsys_spec.specs.Bodies.{Body, group}
-use Rattle.lsys_spec.specs.Levels.{ModuleValue, Symbol, Module}
+use Rattle.lsys_spec.specs.Levels.{ModuleValue, LevelSymbol, Module}
 use Rattle.lsys_spec.specs.Meaning.{successor}
 use Rattle.lsys_spec.specs.Questions.{questions, is_needed}
 use Rattle.lsys_rewrite.specs.Faults.{fault_of}
@@ -27,16 +28,15 @@ use Rattle.lsys_match.specs.Asks.{IsMade, IsAnswer, IsAnswered, IsNamedAt, Keeps
 use Rattle.lsys_match.proofs.Staying.{stays_new, stays_kept}
 use Rattle.lsys_match.specs.Recalled.{IsAnswerThere}
 use Rattle.lsys_reads.specs.Relations.{Relations, is_pending, pairs_have, SettledStay}
-use Rattle.lsys_forest.specs.Nodes.{Node, Nodes, put, with_answer}
+use Rattle.lsys_forest.specs.Nodes.{Node, Nodes, with_node, with_answer}
 use Rattle.lsys_forest.specs.Changes.{Change, undone}
 use Rattle.lsys_forest.specs.Answers.{answer_of}
-use Rattle.lsys_forest.specs.Groves.{In, AreApart}
 use Rattle.lsys_forest.specs.Rows.{level_nodes, level_spots}
 use Rattle.lsys_forest.proofs.RowLemmas.{In_append, In_left, In_right, get_split, same_sides, apart_append, level_apart}
 use Rattle.lsys_kept.specs.Lineages.{names}
 use Rattle.lsys_kept.specs.Levels as kept
 use Rattle.lsys_kept.specs.Levels.{IsRight, IsKeptFor, AnsweredIn, level_of, answer_at, tags_read, HasRead}
-use Rattle.lsys_kept.specs.Meant.{meant, level_to}
+use Rattle.lsys_kept.specs.Meant.{levels_meant, level_to}
 use Rattle.lsys_pass.specs.declared.fault.Faulted.{Faulted}
 use Rattle.lsys_pass.specs.Read.{pairs_of}
 use Rattle.lsys_pass.specs.Stages.{Stage, was, fault_in, IsNoted, AreNoted, HasFault, OutcomeBy, IsNeededAt, IsAtLevel}
@@ -96,7 +96,7 @@ last_or (x ∷ fs) f zero g h = inl h
 last_or (x ∷ fs) f (suc i) g h = last_or fs f i g h
 
 -- one more is noted, of a node that had none
-noted_more : (fs : List Faulted) (f : Faulted) (ks : List ℕ) (y : List Symbol) → AreNoted fs ks y → IsNoted (fs ++ f ∷ []) ks y f → AreNoted (fs ++ f ∷ []) ks y
+noted_more : (fs : List Faulted) (f : Faulted) (ks : List ℕ) (y : List LevelSymbol) → AreNoted fs ks y → IsNoted (fs ++ f ∷ []) ks y f → AreNoted (fs ++ f ∷ []) ks y
 noted_more fs f ks y all own i g h = elim (last_or fs f i g h) [
   | inl old ↦
       let n = all i g old in
@@ -141,7 +141,7 @@ module _ (s : Stage) (t node : ℕ) (n : Node Kept) (front back : List ℕ) (x :
   right_here : (h : IsHere s t node p) (st : Store) (a : Kept) (o : Option Kept) → o ≡ Some a → IsMade st a → IsAnswerThere s.next t row p node h.own (answer_in st a) → AnsweredIn s.next t row st p o
   right_here h st a o e m right y there =
       let same : record { seen = S.Module h.own; tag = node; key = key_of s.next.seed (names s.now node) } ≡ y = same_Some _ y (sym h.spot ∙ there) in
-      subst (λ (z : Spotted). kept.IsAnswered s.next t row st p z.tag z.seen o) same
+      subst (λ (z : Spotted). kept.IsAnsweredRight s.next t row st p z.tag z.seen o) same
       (kept_for (group s.next t h.own.name (length h.own.params)) (IsRight s.next t row st p node h.own) o a h.rules e (record { made = m; answer = right }))
 
   -- the outcome of a node that has no fault
@@ -155,12 +155,12 @@ module _ (s : Stage) (t node : ℕ) (n : Node Kept) (front back : List ℕ) (x :
   faultless there = (is_open s t node n front back x p there).faultless
 
   -- whether the question is needed, as it stands there
-  needed_of : (h : IsHere s t node p) → is_needed (questions s.system (meant s.system s.limit)) (module_question s.next t (level_of s.now s.root t) p (names s.now node) h.own) ≡ false → IsNeededAt s t p → ⊥
+  needed_of : (h : IsHere s t node p) → is_needed (questions s.system (levels_meant s.system s.limit)) (module_question s.next t (level_of s.now s.root t) p (names s.now node) h.own) ≡ false → IsNeededAt s t p → ⊥
   needed_of h unneeded i =
       let m = same_module (names s.now node) i.line h.own i.own (same_Some _ _ (sym h.stands ∙ i.stands)) in
       let same : module_question s.next t (level_of s.now s.root t) p (names s.now node) h.own ≡ module_question s.next t (level_of s.now s.root t) p i.line i.own =
       ap (λ l. module_question s.next t (level_of s.now s.root t) p l h.own) m.line ∙ ap (λ w. module_question s.next t (level_of s.now s.root t) p i.line w) m.own in
-      let f : false ≡ true = sym unneeded ∙ ap (is_needed (questions s.system (meant s.system s.limit))) same ∙ i.is in cc
+      let f : false ≡ true = sym unneeded ∙ ap (is_needed (questions s.system (levels_meant s.system s.limit))) same ∙ i.is in cc
 
   -- nothing is renewed
   renews_none : (o : Option Kept) (st : Store) (rd : Relations) (fs : List Faulted) → o ≡ n.answer → rd ≡ s.reads → AllStay s.now s.store st
@@ -184,8 +184,8 @@ module _ (s : Stage) (t node : ℕ) (n : Node Kept) (front back : List ℕ) (x :
     born = x.at.news.born;
   }
     where
-      again : put s.now node (Some (with_answer o n)) ≡ s.now
-      again = ap (λ y. put s.now node (Some (with_answer y n))) e ∙ put_again s.now node n x.is
+      again : with_node s.now node (Some (with_answer o n)) ≡ s.now
+      again = ap (λ y. with_node s.now node (Some (with_answer y n))) e ∙ put_again s.now node n x.is
 
   -- 4. the same answer
 
@@ -213,7 +213,7 @@ module _ (s : Stage) (t node : ℕ) (n : Node Kept) (front back : List ℕ) (x :
     told_same = same_told r.here st old.0 old.1 r.answered
 
     -- the definitions ask what the old system asked
-    pub unneeded : is_needed (questions s.system (meant s.system s.limit)) (module_question s.next t (level_of s.now s.root t) p (names s.now node) r.here.own) ≡ false
+    pub unneeded : is_needed (questions s.system (levels_meant s.system s.limit)) (module_question s.next t (level_of s.now s.root t) p (names s.now node) r.here.own) ≡ false
     unneeded =
         same_unneeded s t node n front back x old.0 old.1 p r.there r.here.own
         (subst (IsAnswer (names s.now) (by_definition s.next t (level_of s.now s.root t) p (names s.now node) r.here.own)) (stay_same old.0 (made node old.0 old.1)).answer (told_same (names s.now) (named_here r.here)))
@@ -222,8 +222,8 @@ module _ (s : Stage) (t node : ℕ) (n : Node Kept) (front back : List ℕ) (x :
     pub successor_same : (zs : Kept) × (by_definition s.next t (level_of s.now s.root t) p (names s.now node) r.here.own).successor ≡ Ok (answer_in st zs).successor
     successor_same = (old.0, sym (told_same (names s.now) (named_here r.here)).successor)
 
-    pub level_same : (cs : List (Change Kept)) → undone cs (put s.now node (Some (with_answer n.answer n))) ≡ was s
-        → IsAtLevel (stepped s (put s.now node (Some (with_answer n.answer n))) cs st s.reads (front ++ back) s.faults s.renewed s.born) t
+    pub level_same : (cs : List (Change Kept)) → undone cs (with_node s.now node (Some (with_answer n.answer n))) ≡ was s
+        → IsAtLevel (stepped s (with_node s.now node (Some (with_answer n.answer n))) cs st s.reads (front ++ back) s.faults s.renewed s.born) t
     level_same cs undo =
         at_level s t node n front back x n.answer cs st s.reads s.faults s.renewed s.born undo
         (record {
@@ -249,16 +249,16 @@ module _ (s : Stage) (t node : ℕ) (n : Node Kept) (front back : List ℕ) (x :
     has_fault : HasFault s.next t (level_to s.next s.limit t) p kind
     has_fault l m stands =
         let meant_is = level_is_meant s t x.at.tree in
-        let same = same_module (names s.now node) l r.here.own m (same_Some _ _ (sym r.here.stands ∙ ap (λ (y : List Symbol). slice_get y p) meant_is ∙ stands)) in
-        ap (λ (y : List Symbol). successor s.next t y p l m) (sym meant_is)
+        let same = same_module (names s.now node) l r.here.own m (same_Some _ _ (sym r.here.stands ∙ ap (λ (y : List LevelSymbol). slice_get y p) meant_is ∙ stands)) in
+        ap (λ (y : List LevelSymbol). successor s.next t y p l m) (sym meant_is)
         ∙ ap (λ k. successor s.next t (level_of s.now s.root t) p k m) (sym same.line)
         ∙ ap (λ w. successor s.next t (level_of s.now s.root t) p (names s.now node) w) (sym same.own) ∙ sym successor_fault
 
     noted_is : fault_in node (s.faults ++ record { node = node; kind = kind } ∷ []) ≡ Some kind
     noted_is = fault_last node s.faults kind (faultless r.there)
 
-    pub level_fault : (cs : List (Change Kept)) → undone cs (put s.now node (Some (with_answer n.answer n))) ≡ was s
-        → IsAtLevel (stepped s (put s.now node (Some (with_answer n.answer n))) cs st s.reads (front ++ back) (s.faults ++ record { node = node; kind = kind } ∷ []) s.renewed s.born) t
+    pub level_fault : (cs : List (Change Kept)) → undone cs (with_node s.now node (Some (with_answer n.answer n))) ≡ was s
+        → IsAtLevel (stepped s (with_node s.now node (Some (with_answer n.answer n))) cs st s.reads (front ++ back) (s.faults ++ record { node = node; kind = kind } ∷ []) s.renewed s.born) t
     level_fault cs undo =
         at_level s t node n front back x n.answer cs st s.reads (s.faults ++ record { node = node; kind = kind } ∷ []) s.renewed s.born undo
         (record {
@@ -282,16 +282,16 @@ module _ (s : Stage) (t node : ℕ) (n : Node Kept) (front back : List ℕ) (x :
     there_new : IsAnswerThere s.next t row p node r.here.own (answer_in st a)
     there_new = there_is r.here st a r.answered
 
-    pub needed : is_needed (questions s.system (meant s.system s.limit)) (module_question s.next t (level_of s.now s.root t) p (names s.now node) r.here.own) ≡ true
+    pub needed : is_needed (questions s.system (levels_meant s.system s.limit)) (module_question s.next t (level_of s.now s.root t) p (names s.now node) r.here.own) ≡ true
     needed = new_needed s t node n front back x p r.here.own st a r.here.stands r.there r.here.rules (named_here r.here) there_new (λ b e q. r.store.other b e q)
 
     pub successor_new : (by_definition s.next t (level_of s.now s.root t) p (names s.now node) r.here.own).successor ≡ Ok (answer_in st a).successor
     successor_new = sym (r.answered (names s.now) (named_here r.here)).successor
 
-    read_new : (rd : Relations) → rd.pending ≡ s.reads.pending ++ pairs_of node (tags_read st a) → (reader seen : ℕ) → (is_pending rd reader seen ≡ true) ↔ (In reader (s.renewed ++ node ∷ []) × HasRead (put s.now node (Some (with_answer (Some a) n))) st reader seen)
+    read_new : (rd : Relations) → rd.pending ≡ s.reads.pending ++ pairs_of node (tags_read st a) → (reader seen : ℕ) → (is_pending rd reader seen ≡ true) ↔ (In reader (s.renewed ++ node ∷ []) × HasRead (with_node s.now node (Some (with_answer (Some a) n))) st reader seen)
     read_new rd e reader seen = (to, from)
       where
-        to : is_pending rd reader seen ≡ true → In reader (s.renewed ++ node ∷ []) × HasRead (put s.now node (Some (with_answer (Some a) n))) st reader seen
+        to : is_pending rd reader seen ≡ true → In reader (s.renewed ++ node ∷ []) × HasRead (with_node s.now node (Some (with_answer (Some a) n))) st reader seen
         to h = elim (have_cases s.reads.pending (pairs_of node (tags_read st a)) reader seen (ap (λ ps. pairs_have ps reader seen) (sym e) ∙ h)) [
           | inl old ↦
               let w = (x.at.lists.read reader seen).0 old in
@@ -303,7 +303,7 @@ module _ (s : Stage) (t node : ℕ) (n : Node Kept) (front back : List ℕ) (x :
               (In_right reader s.renewed (node ∷ []) (inl w.0), record { answer = a; kept = answer_put s.now node reader n (Some a) w.0; among = w.1 })
         ]
 
-        from : In reader (s.renewed ++ node ∷ []) × HasRead (put s.now node (Some (with_answer (Some a) n))) st reader seen → is_pending rd reader seen ≡ true
+        from : In reader (s.renewed ++ node ∷ []) × HasRead (with_node s.now node (Some (with_answer (Some a) n))) st reader seen → is_pending rd reader seen ≡ true
         from q = ap (λ ps. pairs_have ps reader seen) e ∙ elim (In_append s.renewed (node ∷ []) reader q.0) [
           | inl i ↦
               let ne : reader ≢ node = λ f. unrenewed s t node n front back x (subst (λ k. In k s.renewed) f i) in
@@ -319,9 +319,9 @@ module _ (s : Stage) (t node : ℕ) (n : Node Kept) (front back : List ℕ) (x :
           ]
         ]
 
-    pub level_new : (cs : List (Change Kept)) (rd : Relations) (b : ℕ) (is_born : Bool) → undone cs (put s.now node (Some (with_answer (Some a) n))) ≡ was s
+    pub level_new : (cs : List (Change Kept)) (rd : Relations) (b : ℕ) (is_born : Bool) → undone cs (with_node s.now node (Some (with_answer (Some a) n))) ≡ was s
         → rd.pending ≡ s.reads.pending ++ pairs_of node (tags_read st a) → SettledStay s.reads rd → is_born ≡ is_none (answer_at s.now node) → b ≡ s.born + cond is_born 1 0
-        → IsAtLevel (stepped s (put s.now node (Some (with_answer (Some a) n))) cs st rd (front ++ back) s.faults (s.renewed ++ node ∷ []) b) t
+        → IsAtLevel (stepped s (with_node s.now node (Some (with_answer (Some a) n))) cs st rd (front ++ back) s.faults (s.renewed ++ node ∷ []) b) t
     level_new cs rd b is_born undo read settled born count =
         at_level s t node n front back x (Some a) cs st rd s.faults (s.renewed ++ node ∷ []) b undo
         (record {

@@ -2,9 +2,10 @@
 use Rattle.std.proofs.Common.{◌≡◌, ◌⊎◌, ◌↔◌, ◌<◌, ◌^◌, ◌++◌, ℕ, List, length, Some, refl, sym, ap, ◌∙◌, subst, inl, inr, arith}
 use Rattle.std.specs.Prelude.{slice_get}
 use Rattle.std.proofs.lemmas.Bool.{cases_lt}
+use Rattle.lsys_spec.specs.Rows.{In, AreApart}
 use Rattle.lsys_spec.specs.Systems.{System}
 use Rattle.lsys_match.specs.Kept.{Kept}
-use Rattle.lsys_forest.specs.Groves.{Grove, In, AreApart, AreSound, IsLive, IsSound, now_of, changes_in}
+use Rattle.lsys_forest.specs.Groves.{Grove, AreSound, IsLive, IsRooted, now_of, changes_in}
 use Rattle.lsys_forest.specs.Rows.{complete_levels}
 use Rattle.lsys_forest.proofs.WalkLemmas.{get_In}
 use Rattle.lsys_kept.specs.Meant.{IsCandidate}
@@ -12,7 +13,7 @@ use Rattle.lsys_kept.specs.declared.seat.Seat.{Seat}
 use Rattle.lsys_kept.specs.Seats.{HasSeat, SameSeats, KeepsSeats}
 use Rattle.lsys_kept.proofs.LevelLemmas.{place_in}
 use Rattle.lsys_candidates.specs.Repairs.{Repair, are}
-use Rattle.lsys_candidates.specs.Candidates.{AsksOn, HasQuestion, IsCandidateNode}
+use Rattle.lsys_candidates.specs.Candidates.{AsksOn, AsksNow, IsCandidateNode}
 use Rattle.lsys_candidates.specs.Asks.{AreInOrder}
 use Rattle.lsys_candidates.proofs.Nodes.{candidates_are}
 use Rattle.lsys_front.specs.Fronts.{Differences}
@@ -26,7 +27,7 @@ use Rattle.lsys_front.proofs.Standing.{at_level, live_at, spot_at}
 use Rattle.lsys_pass.specs.Advances.{AreToAsk}
 use Rattle.lsys_pass.specs.Passes.{PassView, stage_of, repair_of, IsPass}
 use Rattle.lsys_pass.specs.Passes as P
-use Rattle.lsys_pass.specs.Fresh.{row_of, Goes, HasFound, IsToAsk}
+use Rattle.lsys_pass.specs.Fresh.{row_of, Goes, HasFound, IsReadyToAsk}
 use Rattle.lsys_pass.specs.Others.{IsOthers}
 use Rattle.lsys_pass.proofs.Askings.{row_lives, is_complete, may_row, lost_row, row_seats, stepping_nodes}
 use Rattle.lsys_pass.proofs.Unanswered.{after, LosesAt, nodes_same, spots_now, sound_after, asks_back, asks_on, asked_kept, unasked_bare, tree, in_dropped, dropped_before, dropped_at, stage, lists, goes, told}
@@ -55,7 +56,7 @@ module _ (v : PassView) (t : ℕ) (h : IsPass v) (beside readers : List ℕ) (f 
     levels = λ k m. at_level g t k sound (on k m);
   }
     where
-      sound : IsSound g.root (changes_in g) (now_of g)
+      sound : IsRooted g.root (changes_in g) (now_of g)
       sound = sound_after v t h beside readers f others o g bare dropped l
 
       complete : t < length (complete_levels g)
@@ -70,7 +71,7 @@ module _ (v : PassView) (t : ℕ) (h : IsPass v) (beside readers : List ℕ) (f 
   -- 2. the candidates are pending
 
   module _ (pending : List ℕ) (these : (k : ℕ) → In k pending ↔ (AsksOn v.next t (now_of g) k × MayBeAsked v.front beside readers others k)) where
-    by_questions : (k : ℕ) → In k pending ↔ (HasQuestion r k × MayBeAsked v.front beside readers others k)
+    by_questions : (k : ℕ) → In k pending ↔ (AsksNow r k × MayBeAsked v.front beside readers others k)
     by_questions k = (
       λ i. (let u = (these k).0 i in (asks_back v t h beside readers f others o g bare dropped l k u.0, u.1)),
       λ u. (these k).1 (asks_on v t h beside readers f others o g bare dropped l k u.0, u.1),
@@ -129,7 +130,7 @@ module _ (v : PassView) (t : ℕ) (h : IsPass v) (beside readers : List ℕ) (f 
         undropped = undropped;
       }
 
-      pub is_to_ask : t < v.next.depth → t < 2 ^ 32 → IsToAsk (after v g (record v.front { bare = bare }) dropped seats pending) t
+      pub is_to_ask : t < v.next.depth → t < 2 ^ 32 → IsReadyToAsk (after v g (record v.front { bare = bare }) dropped seats pending) t
       is_to_ask below small = record {
         lists = lists v t h beside readers f others o g bare dropped l seats same keeps pending;
         advances = record {
@@ -150,7 +151,7 @@ pub record IsLost (v w : PassView) (t : ℕ) (beside readers others : List ℕ) 
   pub others_are : IsOthers w t others
   pub nodes_are : nodes ≡ others
   pub system : s ≡ v.next
-  pub loses : Loses s t (P.now v) (now_of g) (v.front.changes.changed ++ nodes) v.front.bare d.bare v.dropped dropped
+  pub loses : Loses s t (P.now_in v) (now_of g) (v.front.changes.changed ++ nodes) v.front.bare d.bare v.dropped dropped
   pub only : LosesOnly v.forest g
   pub sound : AreSound g.root (changes_in g) (now_of g)
   pub changes : d.changes ≡ v.front.changes
@@ -181,8 +182,8 @@ module _ (v w : PassView) (t : ℕ) (h : IsPass v) (beside readers others : List
   l : LosesAt v t others g d.bare dropped
   l = record {
     loses =
-        subst (λ (y : System). Loses y t (P.now v) (now_of g) (v.front.changes.changed ++ others) v.front.bare d.bare v.dropped dropped) x.system
-        (subst (λ (ns : List ℕ). Loses s t (P.now v) (now_of g) (v.front.changes.changed ++ ns) v.front.bare d.bare v.dropped dropped) x.nodes_are x.loses);
+        subst (λ (y : System). Loses y t (P.now_in v) (now_of g) (v.front.changes.changed ++ others) v.front.bare d.bare v.dropped dropped) x.system
+        (subst (λ (ns : List ℕ). Loses s t (P.now_in v) (now_of g) (v.front.changes.changed ++ ns) v.front.bare d.bare v.dropped dropped) x.nodes_are x.loses);
     only = x.only;
     sound = x.sound;
   }
@@ -214,10 +215,10 @@ module _ (v w : PassView) (t : ℕ) (h : IsPass v) (beside readers others : List
       goes_at = subst (λ (z : PassView). Goes (stage_of z) (stage_of (after v g d dropped seats pending)) t) x.is (goes v t h beside readers f others o g d.bare dropped l seats same keeps pending)
 
       pub asked_at : (asked : List ℕ) → pending ≡ asked → ((k : ℕ) → In k asked ↔ (AsksOn s t (now_of g) k × MayBeAsked d beside readers these k)) → AreApart asked → AreInOrder g asked
-          → t < w.next.depth → t < 2 ^ 32 → IsToAsk (after v g d dropped seats pending) t
+          → t < w.next.depth → t < 2 ^ 32 → IsReadyToAsk (after v g d dropped seats pending) t
       asked_at asked filled are once order below small =
-          subst (λ (ps : List ℕ). IsToAsk (after v g d dropped seats ps) t) (sym filled)
-          (subst (λ (y : Differences). IsToAsk (after v g y dropped seats asked) t) (sym but_bare)
+          subst (λ (ps : List ℕ). IsReadyToAsk (after v g d dropped seats ps) t) (sym filled)
+          (subst (λ (y : Differences). IsReadyToAsk (after v g y dropped seats asked) t) (sym but_bare)
           (is_to_ask v t h beside readers f others o g d.bare dropped l asked these_are once order seats same keeps (subst (λ (z : PassView). t < z.next.depth) (sym x.is) below) small))
         where
           these_are : (k : ℕ) → In k asked ↔ (AsksOn v.next t (now_of g) k × MayBeAsked v.front beside readers others k)

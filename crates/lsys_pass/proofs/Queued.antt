@@ -8,7 +8,7 @@ use Rattle.std.proofs.lemmas.List.Edits.{remove-append_left, remove-append_right
 use Rattle.std.proofs.lemmas.List.Elements.{filter_map-append}
 use Rattle.std.proofs.lemmas.Option.{none-some, same_Some, slice_get_read, slice_get-get_or, slice_get_within}
 use Rattle.lsys_pass.specs.declared.queue.Slot.{Slot}
-use Rattle.lsys_pass.specs.Queues.{those_left, slot_of, AreCounted, InHalves}
+use Rattle.lsys_pass.specs.Queues.{those_left, fresh_slot, AreCounted, InHalves}
 
 -- 1. lists
 
@@ -258,22 +258,22 @@ taken_behind_none part s place fresh h is node above size counted left =
 
 -- 5. a queue that is filled
 
-those_fresh : (nodes : List ℕ) → those_left (map slot_of nodes) ≡ nodes
+those_fresh : (nodes : List ℕ) → those_left (map fresh_slot nodes) ≡ nodes
 those_fresh [] = refl
 those_fresh (k ∷ nodes) = ap (λ (ks : List ℕ). k ∷ ks) (those_fresh nodes)
 
-none_gone_yet : (nodes : List ℕ) (i : ℕ) (s : Slot) → slice_get (map slot_of nodes) i ≡ Some s → s.gone ≡ 0
+none_gone_yet : (nodes : List ℕ) (i : ℕ) (s : Slot) → slice_get (map fresh_slot nodes) i ≡ Some s → s.gone ≡ 0
 none_gone_yet [] i s h = absurd (none-some s h)
 none_gone_yet (k ∷ nodes) zero s h = ap (λ (x : Slot). x.gone) (sym (same_Some _ _ h))
 none_gone_yet (k ∷ nodes) (suc i) s h = none_gone_yet nodes i s h
 
-fresh_counted : (n : ℕ) (nodes : List ℕ) → length nodes < n → AreCounted (map slot_of nodes)
+fresh_counted : (n : ℕ) (nodes : List ℕ) → length nodes < n → AreCounted (map fresh_slot nodes)
 fresh_counted zero nodes h = absurd (omega (arith, h))
 fresh_counted (suc n) nodes h =
-    let part = map slot_of nodes in
-    let size = length-map nodes slot_of in
-    let first = take-map slot_of (length part / 2) nodes in
-    let rest = drop-map slot_of (length part / 2 + 1) nodes in
+    let part = map fresh_slot nodes in
+    let size = length-map nodes fresh_slot in
+    let first = take-map fresh_slot (length part / 2) nodes in
+    let rest = drop-map fresh_slot (length part / 2 + 1) nodes in
     InHalves
     {part = part}
     (λ (s : Slot) (at : slice_get part (length part / 2) ≡ Some s).
@@ -289,5 +289,5 @@ pub record IsFilled (slots : List Slot) (nodes : List ℕ) : Type 0 where
   pub counted : AreCounted slots
   pub left : those_left slots ≡ nodes
 
-pub filled : (slots : List Slot) (nodes : List ℕ) → slots ≡ map slot_of nodes → IsFilled slots nodes
+pub filled : (slots : List Slot) (nodes : List ℕ) → slots ≡ map fresh_slot nodes → IsFilled slots nodes
 filled slots nodes is = record { counted = subst AreCounted (sym is) (fresh_counted (suc (length nodes)) nodes (omega arith)); left = ap those_left is ∙ those_fresh nodes }

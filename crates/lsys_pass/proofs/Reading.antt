@@ -5,18 +5,18 @@ use Rattle.std.proofs.lemmas.Bool.{eqb-true}
 use Rattle.std.proofs.lemmas.List.{append_assoc, append-nil, map-append, take_more}
 use Rattle.std.proofs.lemmas.List.Concat.{flat_map-append}
 use Rattle.std.proofs.lemmas.Option.{get_or_from_slice_get, slice_get_within}
+use Rattle.lsys_spec.specs.Rows.{In}
 use Rattle.lsys_reads.specs.declared.Pair.{Pair}
 use Rattle.lsys_reads.specs.Relations.{pairs_have}
 use Rattle.lsys_walks.specs.declared.entry.Entry.{Entry}
 use Rattle.lsys_walks.specs.declared.entry.EntryKind.{EntryKind}
 use Rattle.lsys_walks.specs.declared.entry.EntryKind.TheVariants as kinds
-use Rattle.lsys_walks.specs.Views.{noted_of, by_kind, module_of, decoded}
+use Rattle.lsys_walks.specs.Views.{noted_of, noted_by_kind, module_named, decoded}
 use Rattle.lsys_region.specs.Pool.{list_of}
 use Rattle.lsys_walks.specs.Stores.{Store}
 use Rattle.lsys_match.specs.Kept.{Kept}
 use Rattle.lsys_match.specs.Stored.{listed, entries_in, values_in}
 use Rattle.lsys_kept.specs.Levels.{tags_named, tags_read}
-use Rattle.lsys_forest.specs.Groves.{In}
 use Rattle.lsys_pass.specs.Read.{entry_tags, entries_tags, pair_of, pairs_of, ComesBehind}
 
 -- 1. entries, one by one
@@ -40,7 +40,7 @@ comes_further old mid new more is h = record { more = more ++ h.more; is = h.is 
 entry_same : (e : Entry) (values : List ℤ) → tags_named (noted_of e values) ≡ entry_tags e
 entry_same e values = by e.kind
   where
-    by : (k : EntryKind) → tags_named (by_kind k (record { rule = e.rule; depth = e.depth }) e.tag e.mate (module_of e.name values)) ≡ tags_named (by_kind k (record { rule = e.rule; depth = e.depth }) e.tag e.mate (module_of e.name []))
+    by : (k : EntryKind) → tags_named (noted_by_kind k (record { rule = e.rule; depth = e.depth }) e.tag e.mate (module_named e.name values)) ≡ tags_named (noted_by_kind k (record { rule = e.rule; depth = e.depth }) e.tag e.mate (module_named e.name []))
     by kinds.Compared = refl
     by kinds.Ignored = refl
     by kinds.Out = refl

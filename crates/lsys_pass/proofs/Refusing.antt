@@ -3,18 +3,19 @@ use Rattle.std.proofs.Common.{◌≡◌, ◌+◌, ◌<◌, ◌^◌, ℕ, zero, s
 use Rattle.std.specs.Prelude.{IsSome, nat_eq, option_map, MatchOption}
 use Rattle.std.proofs.lemmas.Bool.Decides.{nat_tests}
 use Rattle.std.proofs.lemmas.Option.{none-some, same_Some, slice_get-map, slice_get_within}
-use Rattle.lsys_spec.specs.Levels.{Symbol, Module}
-use Rattle.lsys_spec.specs.Meaning.{FaultAt, meaning, successor}
+use Rattle.lsys_match.specs.Derivations.{IsLevelRefusal}
+use Rattle.lsys_spec.specs.Rows.{In}
+use Rattle.lsys_spec.specs.Levels.{LevelSymbol, Module}
+use Rattle.lsys_spec.specs.Meaning.{FaultAt, meaning, successor, replacement}
 use Rattle.lsys_rewrite.specs.Faults.{fault_of}
 use Rattle.lsys_rewrite.specs.declared.refusal.FaultKind.{FaultKind}
 use Rattle.lsys_rewrite.specs.declared.refusal.DeriveRefusal.{DeriveRefusal}
 use Rattle.lsys_rewrite.specs.declared.refusal.DeriveRefusal.TheVariants.{Fault, Limit, Memory}
-use Rattle.lsys_change.specs.Children.{replacement}
 use Rattle.lsys_change.proofs.UpTo.{level_count}
-use Rattle.lsys_level.specs.Spots.{Seen, Spotted, level_at, level_by, named}
+use Rattle.lsys_level.specs.Spots.{Seen, Spotted, spots_at, level_by, named}
 use Rattle.lsys_level.specs.Spots as S
 use Rattle.lsys_forest.specs.Nodes.{Nodes}
-use Rattle.lsys_forest.specs.Groves.{In, changes_in}
+use Rattle.lsys_forest.specs.Groves.{changes_in}
 use Rattle.lsys_forest.specs.Rows.{spot_in, level_nodes, level_spots, complete_levels, place_of_node}
 use Rattle.lsys_forest.proofs.RowLemmas.{level_apart, level_depth}
 use Rattle.lsys_forest.proofs.DepthLemmas.{fits}
@@ -31,10 +32,9 @@ use Rattle.lsys_repair.proofs.Replaced.{replaced}
 use Rattle.lsys_repair.proofs.Refused.{fault_next}
 use Rattle.lsys_pass.specs.declared.fault.Faulted.{Faulted}
 use Rattle.lsys_pass.specs.declared.state.PassState.TheVariants.{Level}
-use Rattle.lsys_pass.specs.Leftmost.{AreOnLevel, IsFirstAt, IsFirstFault, is_one, modules_before}
+use Rattle.lsys_pass.specs.Leftmost.{AreOnLevel, IsFirstAt, IsLeftmostFault, is_one, modules_before}
 use Rattle.lsys_pass.specs.Stages.{Stage, fault_in, IsNoted, HasFault, OutcomeBy, IsAtLevel}
-use Rattle.lsys_pass.specs.Passes.{PassView, stage_of, now, IsPass}
-use Rattle.lsys_pass.specs.Moves.{IsRefusal}
+use Rattle.lsys_pass.specs.Passes.{PassView, stage_of, now_in, IsPass}
 use Rattle.lsys_pass.proofs.Needed.{level_is_meant}
 use Rattle.lsys_pass.proofs.Asking.{Stands, stands, there_at, at, sound_now, balanced_now}
 use Rattle.lsys_pass.proofs.Outcomes.{one_place}
@@ -79,7 +79,7 @@ module _ (v : PassView) (t : ℕ) (h : IsPass v) (state : v.state ≡ Level t) w
   s = stage_of v
 
   abbrev row : List ℕ
-  row = level_nodes (now v) v.forest.root t
+  row = level_nodes (now_in v) v.forest.root t
 
   a : IsAtLevel s t
   a = at v t h state
@@ -97,52 +97,52 @@ module _ (v : PassView) (t : ℕ) (h : IsPass v) (state : v.state ≡ Level t) w
   }
 
   -- the level, as the forest tells it, has no more symbols than nodes live
-  pub few_symbols : length (level_at (complete_levels v.forest) t) < 2 ^ 32
+  pub few_symbols : length (spots_at (complete_levels v.forest) t) < 2 ^ 32
   few_symbols =
       let told = ap (length {A = Spotted}) (told_is v.forest t (are_told v.forest t a.tree.small (balanced_now v t h state))) in
-      let long = length_map (λ k. spot_in k (now v k)) row in
-      let most = fits row v.forest.stock.slots (level_apart v.forest.root (changes_in v.forest) (now v) (sound_now v t h state) t)
+      let long = length_map (λ k. spot_in k (now_in v k)) row in
+      let most = fits row v.forest.stock.slots (level_apart v.forest.root (changes_in v.forest) (now_in v) (sound_now v t h state) t)
       (λ k i.
-      let n = level_depth v.forest.root (changes_in v.forest) (now v) (sound_now v t h state) t k i in
+      let n = level_depth v.forest.root (changes_in v.forest) (now_in v) (sound_now v t h state) t k i in
       let s = stored_of v.forest.stock.slots v.forest.stock.params v.forest.stock.kids k n.0 n.1 in
       subst IsSome (sym s.1) refl) in
       let few = h.few in
       omega (arith, told, long, most, few)
 
   place_is : (k p : ℕ) → Stands v.forest t k → slice_get row p ≡ Some k → place_of_node v.forest k ≡ p
-  place_is k p st e = one_place row (place_of_node v.forest k) p k (level_apart v.forest.root (changes_in v.forest) (now v) (sound_now v t h state) t) (there_at v.forest t k st) e
+  place_is k p st e = one_place row (place_of_node v.forest k) p k (level_apart v.forest.root (changes_in v.forest) (now_in v) (sound_now v t h state) t) (there_at v.forest t k st) e
 
   count_is : t < length (meant_to v.next v.limit t)
   count_is = let c = level_count v.next v.limit t (meant_to v.next v.limit t) a.tree.spelled a.tree.is in omega (arith, c)
 
   -- where nothing is pending, a node that has no fault is replaced by its answer
   module _ (none : v.pending ≡ []) where
-    outcome_at : (p k : ℕ) → slice_get row p ≡ Some k → OutcomeBy (fault_in k v.faults) (AnsweredAt v.next t (now v) v.forest.root v.store p k) (HasFault v.next t (level_to v.next v.limit t) p)
+    outcome_at : (p k : ℕ) → slice_get row p ≡ Some k → OutcomeBy (fault_in k v.faults) (AnsweredAt v.next t (now_in v) v.forest.root v.store p k) (HasFault v.next t (level_to v.next v.limit t) p)
     outcome_at p k e = elim (a.answers.here p k e) [
       | inl o ↦ absurd (subst (In k) none o.pending)
       | inr d ↦ d.outcome
     ]
 
-    replaced_at : (p k : ℕ) → slice_get row p ≡ Some k → fault_in k v.faults ≡ None → replacement v.next t (level_of (now v) v.forest.root t) p (node_symbol (now v) k) ≡ Ok (kept_successors (now v) k)
+    replaced_at : (p k : ℕ) → slice_get row p ≡ Some k → fault_in k v.faults ≡ None → replacement v.next t (level_of (now_in v) v.forest.root t) p (node_symbol (now_in v) k) ≡ Ok (kept_successors (now_in v) k)
     replaced_at p k e f =
-        replaced v.next t (now v) v.forest.root v.store p k (λ x g. a.tree.levels.keys t p x count_is g)
-        (subst (λ o. OutcomeBy o (AnsweredAt v.next t (now v) v.forest.root v.store p k) (HasFault v.next t (level_to v.next v.limit t) p)) f (outcome_at p k e)) e
+        replaced v.next t (now_in v) v.forest.root v.store p k (λ x g. a.tree.levels.keys t p x count_is g)
+        (subst (λ o. OutcomeBy o (AnsweredAt v.next t (now_in v) v.forest.root v.store p k) (HasFault v.next t (level_to v.next v.limit t) p)) f (outcome_at p k e)) e
 
-    faulty_at : (p k : ℕ) (kind : FaultKind) (n : IsNoted v.faults row (level_of (now v) v.forest.root t) (record { node = k; kind = kind })) → n.place ≡ p
-        → replacement v.next t (level_of (now v) v.forest.root t) p (node_symbol (now v) k) ≡ Err (fault_of kind)
+    faulty_at : (p k : ℕ) (kind : FaultKind) (n : IsNoted v.faults row (level_of (now_in v) v.forest.root t) (record { node = k; kind = kind })) → n.place ≡ p
+        → replacement v.next t (level_of (now_in v) v.forest.root t) p (node_symbol (now_in v) k) ≡ Err (fault_of kind)
     faulty_at p k kind n e =
         let there : slice_get row p ≡ Some k = ap (slice_get row) (sym e) ∙ n.there in
-        let own : slice_get (level_of (now v) v.forest.root t) p ≡ Some (Module n.line n.own) = ap (slice_get (level_of (now v) v.forest.root t)) (sym e) ∙ n.stands in
-        let symbols : slice_get (level_of (now v) v.forest.root t) p ≡ Some (node_symbol (now v) k) = ap (λ (y : List Symbol). slice_get y p) (level_symbols (now v) row) ∙ slice_get-map (node_symbol (now v)) row p ∙ ap (option_map (node_symbol (now v))) there in
-        let is : node_symbol (now v) k ≡ Module n.line n.own = same_Some _ _ (sym symbols ∙ own) in
+        let own : slice_get (level_of (now_in v) v.forest.root t) p ≡ Some (Module n.line n.own) = ap (slice_get (level_of (now_in v) v.forest.root t)) (sym e) ∙ n.stands in
+        let symbols : slice_get (level_of (now_in v) v.forest.root t) p ≡ Some (node_symbol (now_in v) k) = ap (λ (y : List LevelSymbol). slice_get y p) (level_symbols (now_in v) row) ∙ slice_get-map (node_symbol (now_in v)) row p ∙ ap (option_map (node_symbol (now_in v))) there in
+        let is : node_symbol (now_in v) k ≡ Module n.line n.own = same_Some _ _ (sym symbols ∙ own) in
         let meant_is = level_is_meant s t a.tree in
-        let out : HasFault v.next t (level_to v.next v.limit t) p kind = subst (λ o. OutcomeBy o (AnsweredAt v.next t (now v) v.forest.root v.store p k) (HasFault v.next t (level_to v.next v.limit t) p)) n.is (outcome_at p k there) in
-        ap (replacement v.next t (level_of (now v) v.forest.root t) p) is
-        ∙ ap (λ (y : List Symbol). successor v.next t y p n.line n.own) meant_is
-        ∙ out n.line n.own (ap (λ (y : List Symbol). slice_get y p) (sym meant_is) ∙ own)
+        let out : HasFault v.next t (level_to v.next v.limit t) p kind = subst (λ o. OutcomeBy o (AnsweredAt v.next t (now_in v) v.forest.root v.store p k) (HasFault v.next t (level_to v.next v.limit t) p)) n.is (outcome_at p k there) in
+        ap (replacement v.next t (level_of (now_in v) v.forest.root t) p) is
+        ∙ ap (λ (y : List LevelSymbol). successor v.next t y p n.line n.own) meant_is
+        ∙ out n.line n.own (ap (λ (y : List LevelSymbol). slice_get y p) (sym meant_is) ∙ own)
 
     module _ (kind : FaultKind) (u n : ℕ) (f : IsFirstAt v.forest t v.faults kind u n) where
-      noted : IsNoted v.faults row (level_of (now v) v.forest.root t) f.first
+      noted : IsNoted v.faults row (level_of (now_in v) v.forest.root t) f.first
       noted = a.answers.noted f.is.place f.first f.is.among
 
       st : Stands v.forest t f.first.node
@@ -163,7 +163,7 @@ module _ (v : PassView) (t : ℕ) (h : IsPass v) (state : v.state ≡ Level t) w
           let own = st.place_is in
           absurd (omega (arith, later, place, less, own))
 
-      first_fault : HasFirstFault v.next v.limit t (now v) v.forest.root (kept_successors (now v)) st.before f.first.node st.after (fault_of f.first.kind)
+      first_fault : HasFirstFault v.next v.limit t (now_in v) v.forest.root (kept_successors (now_in v)) st.before f.first.node st.after (fault_of f.first.kind)
       first_fault = record {
         spelled = a.tree.spelled;
         is = a.tree.is;
@@ -174,26 +174,26 @@ module _ (v : PassView) (t : ℕ) (h : IsPass v) (state : v.state ≡ Level t) w
         faulty = faulty_at (length st.before) f.first.node f.first.kind noted first_place;
       }
 
-      number_is : n ≡ module_nodes (now v) st.before + 1
+      number_is : n ≡ module_nodes (now_in v) st.before + 1
       number_is =
           f.number
           ∙ ap (λ (x : List Spotted). modules_before x (place_of_node v.forest f.first.node) + 1) st.told
-          ∙ ap (λ p. modules_before (level_spots (now v) v.forest.root t) p + 1) st.place_is
-          ∙ ap (λ (l : List ℕ). modules_before (map (λ j. spot_in j (now v j)) l) (length st.before) + 1) st.whole
-          ∙ ap (λ i. i + 1) (before_are (now v) st.before f.first.node st.after)
+          ∙ ap (λ p. modules_before (level_spots (now_in v) v.forest.root t) p + 1) st.place_is
+          ∙ ap (λ (l : List ℕ). modules_before (map (λ j. spot_in j (now_in v j)) l) (length st.before) + 1) st.whole
+          ∙ ap (λ i. i + 1) (before_are (now_in v) st.before f.first.node st.after)
 
       pub refuses : meaning v.next v.limit ≡ Err (FaultAt (fault_of kind) u n)
       refuses =
-          fault_next v.next v.limit t (now v) v.forest.root (kept_successors (now v)) st.before f.first.node st.after (fault_of f.first.kind) first_fault a.tree.below
+          fault_next v.next v.limit t (now_in v) v.forest.root (kept_successors (now_in v)) st.before f.first.node st.after (fault_of f.first.kind) first_fault a.tree.below
           ∙ ap (λ i. Err (FaultAt (fault_of f.first.kind) t i)) (sym number_is)
           ∙ ap (λ k. Err (FaultAt (fault_of k) t n)) (sym f.kind_is)
           ∙ ap (λ w. Err (FaultAt (fault_of kind) w n)) (sym f.level)
 
-    pub refuses_by : (r : DeriveRefusal) → IsFirstFault v.forest t v.faults r → IsRefusal v.next v.limit r
+    pub refuses_by : (r : DeriveRefusal) → IsLeftmostFault v.forest t v.faults r → IsLevelRefusal v.next v.limit r
     refuses_by (Fault kind u n) f = refuses kind u n f
     refuses_by (Limit u) f = absurd f
     refuses_by Memory f = tt
 
-    pub refuses_if : (o : Option DeriveRefusal) → MatchOption o (v.faults ≡ []) (IsFirstFault v.forest t v.faults) → MatchOption o (v.faults ≡ []) (IsRefusal v.next v.limit)
+    pub refuses_if : (o : Option DeriveRefusal) → MatchOption o (v.faults ≡ []) (IsLeftmostFault v.forest t v.faults) → MatchOption o (v.faults ≡ []) (IsLevelRefusal v.next v.limit)
     refuses_if None e = e
     refuses_if (Some r) f = refuses_by r f

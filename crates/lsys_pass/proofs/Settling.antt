@@ -4,10 +4,10 @@ use Rattle.std.specs.Prelude.{not, sum_by, nat_lt, IsPermutation}
 use Rattle.std.proofs.lemmas.Bool.{cases_Bool, eqb-true}
 use Rattle.std.proofs.lemmas.List.Sums.{sum_by-cons}
 use Rattle.std.proofs.lemmas.List.Sorted.{sum_by-IsPermutation}
+use Rattle.lsys_spec.specs.Rows.{In}
 use Rattle.lsys_reads.proofs.RowLemmas.{either}
 use Rattle.lsys_reads.specs.Rows.{has}
 use Rattle.lsys_reads.specs.Relations.{Relations, is_settled, is_pending, pairs_have}
-use Rattle.lsys_forest.specs.Groves.{In}
 
 -- 1. a list in another order
 

@@ -1,11 +1,11 @@
 -- Sizes of levels.
 use Rattle.std.proofs.Common.{◌≡◌, ◌+◌, ◌<◌, ◌≤◌, ◌-◌, ℕ, zero, suc, false, List, [], ◌∷◌, length, Option, None, refl, sym, ap, ◌∙◌, subst, inl, inr, arith}
 use Rattle.std.proofs.lemmas.Bool.{cases_lt}
+use Rattle.lsys_spec.specs.Rows.{In}
 use Rattle.lsys_change.specs.Children.{is_open}
 use Rattle.lsys_level.specs.Spots.{Seen, Push, Pop, Module}
 use Rattle.lsys_match.specs.Kept.{Kept}
 use Rattle.lsys_forest.specs.Nodes.{Nodes}
-use Rattle.lsys_forest.specs.Groves.{In}
 use Rattle.lsys_forest.specs.Rows.{spot_in, level_nodes}
 use Rattle.lsys_kept.specs.Levels.{answer_at}
 use Rattle.lsys_repair.specs.Nexts.{Successors, AreClosed}

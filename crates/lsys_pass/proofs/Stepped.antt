@@ -3,6 +3,7 @@ use Rattle.std.proofs.Common.{◌≡◌, ◌≢◌, ◌+◌, ◌≤◌, ℕ, Boo
 use Rattle.std.specs.Prelude.{is_none}
 use Rattle.std.proofs.lemmas.Bool.{cases_eq}
 use Rattle.std.proofs.lemmas.Option.{none-some}
+use Rattle.lsys_spec.specs.Rows.{In}
 use Rattle.lsys_level.specs.Spots.{Spotted}
 use Rattle.lsys_walks.specs.Stores.{Store}
 use Rattle.lsys_match.specs.declared.asked.Asked.{Asked}
@@ -14,9 +15,9 @@ use Rattle.lsys_match.specs.KeptAnswers.{StaysMade}
 use Rattle.lsys_match.specs.Asks.{IsMade, KeepsStore}
 use Rattle.lsys_match.proofs.Staying.{stays_kept}
 use Rattle.lsys_reads.specs.Relations.{Relations, SettledStay}
-use Rattle.lsys_forest.specs.Nodes.{Nodes, put, with_answer}
+use Rattle.lsys_forest.specs.Nodes.{Nodes, with_node, with_answer}
 use Rattle.lsys_forest.specs.Changes.{Change, undone}
-use Rattle.lsys_forest.specs.Groves.{Grove, In, IsSound, now_of, rest_of, changes_in, live_nodes}
+use Rattle.lsys_forest.specs.Groves.{Grove, IsRooted, now_of, rest_of, changes_in, live_nodes}
 use Rattle.lsys_forest.proofs.SoundLemmas.{AreSound-now}
 use Rattle.lsys_forest.proofs.StockLemmas.{put_other}
 use Rattle.lsys_kept.specs.Levels.{level_of, answer_at}
@@ -25,8 +26,8 @@ use Rattle.lsys_pass.specs.declared.state.PassState.TheVariants.{Level}
 use Rattle.lsys_pass.specs.declared.work.Work.{Work}
 use Rattle.lsys_pass.specs.Stages.{Stage, fault_in, IsStored, IsAtLevel}
 use Rattle.lsys_pass.specs.Passes as P
-use Rattle.lsys_pass.specs.Passes.{PassView, stage_of, now, HoldsAt, repair_of, AllHaveSeats, HasFront, FrontAt, IsPass}
-use Rattle.lsys_pass.specs.Steps.{KeepsAnswers, KeepsOutcome, KeepsNothing}
+use Rattle.lsys_pass.specs.Passes.{PassView, stage_of, now_in, HoldsAt, repair_of, AllHaveSeats, HasFront, FrontAt, IsPass}
+use Rattle.lsys_pass.specs.Steps.{AddsNoAnswer, KeepsOutcome, KeepsNothing}
 use Rattle.lsys_pass.specs.Moves.{StepsOver}
 use Rattle.lsys_pass.proofs.Keepers.{note_of, NoneComes, none_kept, stored_set, stored_in}
 use Rattle.lsys_pass.proofs.Alike.{AreAlike, alike_put, nodes_alike, spots_alike, level_alike, put_again, put_from, answer_put, answer_other}
@@ -36,7 +37,7 @@ use Rattle.lsys_pass.proofs.Sized.{made_stays}
 use Rattle.lsys_pass.specs.Sizes.{HaveSizes, HaveSizesTo, SizesAt}
 use Rattle.lsys_kept.proofs.LevelLemmas.{place_in}
 use Rattle.lsys_kept.specs.Standings.{seen_at}
-use Rattle.lsys_front.specs.Fronts.{IsFront}
+use Rattle.lsys_front.specs.Fronts.{IsLevelFront}
 use Rattle.lsys_forest.specs.Rows.{level_nodes, level_spots}
 use Rattle.lsys_pass.proofs.Asking.{IsSameForest, IsAsked, asked, at, made_now, same_sound, same_nodes, same_spots, sound_now}
 use Rattle.lsys_pass.proofs.Waiting.{stays_refused, none_refused, level_waits}
@@ -91,7 +92,7 @@ pub record IsStepped (v v' : PassView) (node : ℕ) : Type 0 where
   pub steps : StepsOver v v' node
 
 module _ (v : PassView) (t : ℕ) (h : IsPass v) (state : v.state ≡ Level t) (node : ℕ) (pending : In node v.pending) (g : Grove Kept) (same : IsSameForest v.forest g) (live : live_nodes g ≡ live_nodes v.forest)
-    (st : Store) (g' : Grove Kept) (st' : Store) (rd' : Relations) (w w' : Work) (work : HasWork v w w') (is_born : Bool) (born_is : is_born ≡ is_none (answer_at (now v) node)) (ps : List ℕ) where
+    (st : Store) (g' : Grove Kept) (st' : Store) (rd' : Relations) (w w' : Work) (work : HasWork v w w') (is_born : Bool) (born_is : is_born ≡ is_none (answer_at (now_in v) node)) (ps : List ℕ) where
   abbrev a : IsAsked v t h state node
   a = asked v t h state node pending
 
@@ -101,49 +102,49 @@ module _ (v : PassView) (t : ℕ) (h : IsPass v) (state : v.state ≡ Level t) (
   abbrev v' : PassView
   v' = after v g' st' rd' ps w'
 
-  rest_same : rest_of g ≡ P.was v
+  rest_same : rest_of g ≡ P.rest_in v
   rest_same = ap (λ (cs : List (Change Kept)). undone cs (now_of g)) same.changes ∙ ap (undone (changes_in v.forest)) same.now
 
   abbrev set : Option Kept → Nodes Kept
-  set o = put (now v) node (Some (with_answer o a.n))
+  set o = with_node (now_in v) node (Some (with_answer o a.n))
 
-  again : set a.n.answer ≡ now v
-  again = put_again (now v) node a.n a.next.is
+  again : set a.n.answer ≡ now_in v
+  again = put_again (now_in v) node a.n a.next.is
 
   -- the sizes of the levels stay
-  made_set : (o : Option Kept) → HaveSizesTo (now v) v.forest.root v.made t → HaveSizesTo (set o) v.forest.root v.made t
+  made_set : (o : Option Kept) → HaveSizesTo (now_in v) v.forest.root v.made t → HaveSizesTo (set o) v.forest.root v.made t
   made_set o made =
-      made_stays (now v) (set o) v.forest.root v.made t (nodes_alike (now v) (set o) v.forest.root (alike_put (now v) node a.n o a.next.is))
+      made_stays (now_in v) (set o) v.forest.root v.made t (nodes_alike (now_in v) (set o) v.forest.root (alike_put (now_in v) node a.n o a.next.is))
       (λ u k l i. (
-      let p = place_in k (level_nodes (now v) v.forest.root u) i in
-      put_other (now v) node k (Some (with_answer o a.n)) (other_level s t node a.n a.front a.back a.next u p.0 k l p.1)
+      let p = place_in k (level_nodes (now_in v) v.forest.root u) i in
+      put_other (now_in v) node k (Some (with_answer o a.n)) (other_level s t node a.n a.front a.back a.next u p.0 k l p.1)
       )) made
 
   -- what is told of the level stays
   told : HasFront v t
   told = subst (FrontAt v) state h.front
 
-  by_level : AreByLevel (level_nodes (now v) v.forest.root) t v.first_renewed v.renewed
+  by_level : AreByLevel (level_nodes (now_in v) v.forest.root) t v.first_renewed v.renewed
   by_level = record { within = told.within; before = told.before; here = told.here }
 
-  front_set : (o : Option Kept) (rn : List ℕ) → IsSound g'.root (changes_in g') (now_of g') → now_of g' ≡ set o → rest_of g' ≡ P.was v → g'.root ≡ v.forest.root → w'.renewed.items ≡ rn
-      → ((k : ℕ) → answer_at (set o) k ≡ None → answer_at (now v) k ≡ None) → AreByLevel (level_nodes (now v) v.forest.root) t v.first_renewed rn → HasFront v' t
+  front_set : (o : Option Kept) (rn : List ℕ) → IsRooted g'.root (changes_in g') (now_of g') → now_of g' ≡ set o → rest_of g' ≡ P.rest_in v → g'.root ≡ v.forest.root → w'.renewed.items ≡ rn
+      → ((k : ℕ) → answer_at (set o) k ≡ None → answer_at (now_in v) k ≡ None) → AreByLevel (level_nodes (now_in v) v.forest.root) t v.first_renewed rn → HasFront v' t
   front_set o rn sound nodes rest root renewed bare levels = record {
-    front = subst (IsFront (repair_of v' t) v.seats) (sym work.front) (front_stays (repair_of v t) g' st' keeps v.seats v.front told.front);
+    front = subst (IsLevelFront (repair_of v' t) v.seats) (sym work.front) (front_stays (repair_of v t) g' st' keeps v.seats v.front told.front);
     within = by.within;
     before = by.before;
     here = by.here;
-    room = subst (λ (m : Nodes Kept). AllHaveSeats m v.seats) (sym nodes) (λ k x e. let f = put_from (now v) node a.n o a.next.is k x e in told.room k f.node f.is);
+    room = subst (λ (m : Nodes Kept). AllHaveSeats m v.seats) (sym nodes) (λ k x e. let f = put_from (now_in v) node a.n o a.next.is k x e in told.room k f.node f.is);
   }
     where
-      alike : AreAlike (now v) (set o)
-      alike = alike_put (now v) node a.n o a.next.is
+      alike : AreAlike (now_in v) (set o)
+      alike = alike_put (now_in v) node a.n o a.next.is
 
-      level : (u : ℕ) → level_nodes (now_of g') g'.root u ≡ level_nodes (now v) v.forest.root u
-      level u = ap (λ (m : Nodes Kept). level_nodes m g'.root u) nodes ∙ ap (λ r. level_nodes (set o) r u) root ∙ nodes_alike (now v) (set o) v.forest.root alike u
+      level : (u : ℕ) → level_nodes (now_of g') g'.root u ≡ level_nodes (now_in v) v.forest.root u
+      level u = ap (λ (m : Nodes Kept). level_nodes m g'.root u) nodes ∙ ap (λ r. level_nodes (set o) r u) root ∙ nodes_alike (now_in v) (set o) v.forest.root alike u
 
       by : AreByLevel (level_nodes (now_of g') g'.root) t w'.first_renewed w'.renewed.items
-      by = by_same (level_nodes (now v) v.forest.root) (level_nodes (now_of g') g'.root) t v.first_renewed w'.first_renewed rn w'.renewed.items level work.first_renewed renewed levels
+      by = by_same (level_nodes (now_in v) v.forest.root) (level_nodes (now_of g') g'.root) t v.first_renewed w'.first_renewed rn w'.renewed.items level work.first_renewed renewed levels
 
       keeps : KeepsLevel (repair_of v t) g'
       keeps = record {
@@ -151,18 +152,18 @@ module _ (v : PassView) (t : ℕ) (h : IsPass v) (state : v.state ≡ Level t) (
         root = root;
         rest = rest;
         nodes = level t;
-        spots = ap (λ (m : Nodes Kept). level_spots m g'.root t) nodes ∙ ap (λ r. level_spots (set o) r t) root ∙ spots_alike (now v) (set o) v.forest.root alike t;
+        spots = ap (λ (m : Nodes Kept). level_spots m g'.root t) nodes ∙ ap (λ r. level_spots (set o) r t) root ∙ spots_alike (now_in v) (set o) v.forest.root alike t;
         seen = λ k. ap (λ (m : Nodes Kept). seen_at m k) nodes ∙ ap (λ (f : ℕ → Spotted). (f k).seen) alike.spots;
         bare = λ k e. bare k (sym (ap (λ (m : Nodes Kept). answer_at m k) nodes) ∙ e);
       }
 
   -- from what the parts become to the pass
   over : (o : Option Kept) (fs : List Faulted) (rn : List ℕ) (b : ℕ) (rd : Relations) → ps ≡ a.front ++ a.back
-      → now_of g' ≡ set o → rest_of g' ≡ P.was v → g'.root ≡ v.forest.root → st' ≡ st → rd' ≡ rd → w'.faults.items ≡ fs → w'.renewed.items ≡ rn → w'.born ≡ b
+      → now_of g' ≡ set o → rest_of g' ≡ P.rest_in v → g'.root ≡ v.forest.root → st' ≡ st → rd' ≡ rd → w'.faults.items ≡ fs → w'.renewed.items ≡ rn → w'.born ≡ b
       → live_nodes g' ≤ live_nodes v.forest → IsStored (now_of g') (changes_in g') g'.root st'
       → ((k : ℕ) → k ≢ node → fault_in k fs ≡ fault_in k v.faults)
-      → ((k : ℕ) → answer_at (set o) k ≡ None → answer_at (now v) k ≡ None) → AreByLevel (level_nodes (now v) v.forest.root) t v.first_renewed rn
-      → (undone (changes_in g') (set o) ≡ P.was v → IsAtLevel (stepped s (set o) (changes_in g') st rd (a.front ++ a.back) fs rn b) t)
+      → ((k : ℕ) → answer_at (set o) k ≡ None → answer_at (now_in v) k ≡ None) → AreByLevel (level_nodes (now_in v) v.forest.root) t v.first_renewed rn
+      → (undone (changes_in g') (set o) ≡ P.rest_in v → IsAtLevel (stepped s (set o) (changes_in g') st rd (a.front ++ a.back) fs rn b) t)
       → IsStepped v v' node
   over o fs rn b rd less nodes rest root store reads faults renewed born few stored others bare levels level = record {
     pass = record {
@@ -170,9 +171,9 @@ module _ (v : PassView) (t : ℕ) (h : IsPass v) (state : v.state ≡ Level t) (
       few = (let f = h.few in omega (arith, few, f));
       unmarked = h.unmarked;
       counted = h.counted;
-      sized = subst (λ (w : Nodes Kept). HaveSizes w g'.root v.sizes) (sym rest) (subst (λ r. HaveSizes (P.was v) r v.sizes) (sym root) h.sized);
+      sized = subst (λ (w : Nodes Kept). HaveSizes w g'.root v.sizes) (sym rest) (subst (λ r. HaveSizes (P.rest_in v) r v.sizes) (sym root) h.sized);
       made_sized = subst (SizesAt (now_of g') g'.root v.next.depth v.made) (sym state) (subst (λ (m : Nodes Kept). HaveSizesTo m g'.root v.made t) (sym nodes) (subst (λ r. HaveSizesTo (set o) r v.made t) (sym root)
-          (made_set o (subst (SizesAt (now v) v.forest.root v.next.depth v.made) state h.made_sized))));
+          (made_set o (subst (SizesAt (now_in v) v.forest.root v.next.depth v.made) state h.made_sized))));
       holds = subst (HoldsAt (stage_of v')) (sym state) (subst (λ (z : Stage). IsAtLevel z t) (sym whole) (level (ap (undone (changes_in g')) (sym nodes) ∙ rest)));
       front = subst (FrontAt v') (sym state) (front_set o rn (AreSound-now g'.root (changes_in g') (now_of g') stored.sound) nodes rest root renewed bare levels);
       room = subst (λ (m : Nodes Kept). AllHaveSeats m v.seats) (sym rest) h.room;
@@ -184,10 +185,10 @@ module _ (v : PassView) (t : ℕ) (h : IsPass v) (state : v.state ≡ Level t) (
       after = a.back;
       pending_old = a.next.whole;
       pending = less;
-      nodes = λ k ne. ap (λ (m : Nodes Kept). m k) nodes ∙ put_other (now v) node k (Some (with_answer o a.n)) ne;
+      nodes = λ k ne. ap (λ (m : Nodes Kept). m k) nodes ∙ put_other (now_in v) node k (Some (with_answer o a.n)) ne;
       levels = λ u.
           ap (λ (m : Nodes Kept). level_of m g'.root u) nodes ∙ ap (λ r. level_of (set o) r u) root
-          ∙ level_alike (now v) (set o) v.forest.root (alike_put (now v) node a.n o a.next.is) u;
+          ∙ level_alike (now_in v) (set o) v.forest.root (alike_put (now_in v) node a.n o a.next.is) u;
       faults = λ k ne. ap (fault_in k) faults ∙ others k ne;
     };
   }
@@ -197,15 +198,15 @@ module _ (v : PassView) (t : ℕ) (h : IsPass v) (state : v.state ≡ Level t) (
           nodes root store reads less faults renewed born work.dropped work.moved
 
   -- no answer is new
-  still : (fs : List Faulted) → ps ≡ a.front ++ a.back → KeepsAnswers (record { forest = g; store = st; reads = v.reads; work = w }) (record { forest = g'; store = st'; reads = rd'; work = w' }) → w'.faults.items ≡ fs
+  still : (fs : List Faulted) → ps ≡ a.front ++ a.back → AddsNoAnswer (record { forest = g; store = st; reads = v.reads; work = w }) (record { forest = g'; store = st'; reads = rd'; work = w' }) → w'.faults.items ≡ fs
       → ((b : Kept) → IsMade v.store b → StaysMade v.store st b) → NoneComes v.store st → ((k : ℕ) → k ≢ node → fault_in k fs ≡ fault_in k v.faults)
-      → (undone (changes_in g') (set a.n.answer) ≡ P.was v → IsAtLevel (stepped s (set a.n.answer) (changes_in g') st v.reads (a.front ++ a.back) fs v.renewed v.born) t) → IsStepped v v' node
+      → (undone (changes_in g') (set a.n.answer) ≡ P.rest_in v → IsAtLevel (stepped s (set a.n.answer) (changes_in g') st v.reads (a.front ++ a.back) fs v.renewed v.born) t) → IsStepped v v' node
   still fs less k faults stays none others level =
       over a.n.answer fs v.renewed v.born v.reads less
       (ap now_of k.forest ∙ same.now ∙ sym again) (ap rest_of k.forest ∙ rest_same) (ap (λ (f : Grove Kept). f.root) k.forest ∙ same.root) k.store k.reads faults (k.renewed ∙ work.renewed) (k.born ∙ work.born)
       (let l = ap live_nodes k.forest in omega (arith, l, live))
-      (stored_same (now v) (now_of g') (changes_in v.forest) (changes_in g') v.forest.root g'.root st st' (ap now_of k.forest ∙ same.now) (ap changes_in k.forest ∙ same.changes) (ap (λ (f : Grove Kept). f.root) k.forest ∙ same.root) k.store
-      (stored_in (now v) (changes_in v.forest) v.forest.root v.store st stays none h.stored))
+      (stored_same (now_in v) (now_of g') (changes_in v.forest) (changes_in g') v.forest.root g'.root st st' (ap now_of k.forest ∙ same.now) (ap changes_in k.forest ∙ same.changes) (ap (λ (f : Grove Kept). f.root) k.forest ∙ same.root) k.store
+      (stored_in (now_in v) (changes_in v.forest) v.forest.root v.store st stays none h.stored))
       others (λ j e. sym (ap (λ (m : Nodes Kept). answer_at m j) again) ∙ e) by_level level
 
   module _ {L : Type 0} (p : ℕ) where
@@ -221,20 +222,20 @@ module _ (v : PassView) (t : ℕ) (h : IsPass v) (state : v.state ≡ Level t) (
     over_all (Err refusals.Memory) r less k = absurd k
     over_all (Ok (New b)) r less k =
         let t' = k.kept a.n (ap (λ (m : Nodes Kept). m node) same.now ∙ a.next.is) in
-        let nodes : now_of g' ≡ set (Some b) = t'.sets.now ∙ ap (λ (m : Nodes Kept). put m node (Some (with_answer (Some b) a.n))) same.now in
+        let nodes : now_of g' ≡ set (Some b) = t'.sets.now ∙ ap (λ (m : Nodes Kept). with_node m node (Some (with_answer (Some b) a.n))) same.now in
         let root : g'.root ≡ v.forest.root = t'.sets.root ∙ same.root in
         let changes : changes_in g' ≡ changes_in v.forest ++ note_of node a.n ∷ [] = t'.noted ∙ ap (λ (cs : List (Change Kept)). cs ++ note_of node a.n ∷ []) same.changes in
         over (Some b) v.faults (v.renewed ++ node ∷ []) w'.born rd' less nodes (t'.sets.rest ∙ rest_same) root k.store refl (k.faults ∙ work.faults)
         (k.renewed ∙ ap (λ (l : List ℕ). l ++ node ∷ []) work.renewed) refl
         (let l = t'.live in omega (arith, l, live))
         (stored_same (set (Some b)) (now_of g') (changes_in v.forest ++ note_of node a.n ∷ []) (changes_in g') v.forest.root g'.root st st' nodes changes root k.store
-        (stored_set (now v) (changes_in v.forest) v.forest.root node a.n v.store st (answer_at (now v) node) b a.next.is r.store h.stored))
+        (stored_set (now_in v) (changes_in v.forest) v.forest.root node a.n v.store st (answer_at (now_in v) node) b a.next.is r.store h.stored))
         (λ j ne. refl)
         (λ j e. elim (cases_eq j node) [
-          | inl q ↦ absurd (none-some b (sym e ∙ answer_put (now v) node j a.n (Some b) q))
-          | inr ne ↦ sym (answer_other (now v) node j a.n (Some b) ne) ∙ e
+          | inl q ↦ absurd (none-some b (sym e ∙ answer_put (now_in v) node j a.n (Some b) q))
+          | inr ne ↦ sym (answer_other (now_in v) node j a.n (Some b) ne) ∙ e
         ])
-        (one_here (level_nodes (now v) v.forest.root) t v.first_renewed v.renewed node (on_level s t node a.n a.front a.back a.next) by_level)
+        (one_here (level_nodes (now_in v) v.forest.root) t v.first_renewed v.renewed node (on_level s t node a.n a.front a.back a.next) by_level)
         (λ undo. level_new s t node a.n a.front a.back a.next (made_now v t h state) p st b r (changes_in g') rd' w'.born is_born undo k.read k.settled born_is (k.born ∙ ap (λ c. c + cond is_born 1 0) work.born))
 
 -- 3. nothing was kept
@@ -244,17 +245,17 @@ module _ (v : PassView) (t : ℕ) (h : IsPass v) (state : v.state ≡ Level t) w
   kept_pass : (g : Grove Kept) (st : Store) (rd : Relations) (w : Work) (ps : List ℕ) → IsSameForest v.forest g → live_nodes g ≡ live_nodes v.forest
       → ((a : Kept) → IsMade v.store a → StaysMade v.store st a) → NoneComes v.store st → SettledStay v.reads rd → rd.pending ≡ v.reads.pending → HasWork v w w → ps ≡ v.pending → IsPass (after v g st rd ps w)
   kept_pass g st rd w ps same live stays none settled quiet work less = record {
-    stored = stored_same (now v) (now_of g) (changes_in v.forest) (changes_in g) v.forest.root g.root st st same.now same.changes same.root refl (stored_in (now v) (changes_in v.forest) v.forest.root v.store st stays none h.stored);
+    stored = stored_same (now_in v) (now_of g) (changes_in v.forest) (changes_in g) v.forest.root g.root st st same.now same.changes same.root refl (stored_in (now_in v) (changes_in v.forest) v.forest.root v.store st stays none h.stored);
     few = (let f = h.few in omega (arith, f, live));
     unmarked = h.unmarked;
     counted = h.counted;
-    sized = subst (λ (m : Nodes Kept). HaveSizes m g.root v.sizes) (sym rest) (subst (λ r. HaveSizes (P.was v) r v.sizes) (sym same.root) h.sized);
-    made_sized = subst (SizesAt (now_of g) g.root v.next.depth v.made) (sym state) (subst (λ (m : Nodes Kept). HaveSizesTo m g.root v.made t) (sym same.now) (subst (λ r. HaveSizesTo (now v) r v.made t) (sym same.root)
-        (subst (SizesAt (now v) v.forest.root v.next.depth v.made) state h.made_sized)));
+    sized = subst (λ (m : Nodes Kept). HaveSizes m g.root v.sizes) (sym rest) (subst (λ r. HaveSizes (P.rest_in v) r v.sizes) (sym same.root) h.sized);
+    made_sized = subst (SizesAt (now_of g) g.root v.next.depth v.made) (sym state) (subst (λ (m : Nodes Kept). HaveSizesTo m g.root v.made t) (sym same.now) (subst (λ r. HaveSizesTo (now_in v) r v.made t) (sym same.root)
+        (subst (SizesAt (now_in v) v.forest.root v.next.depth v.made) state h.made_sized)));
     holds = subst (HoldsAt (stage_of (after v g st rd ps w))) (sym state)
         (subst (λ (z : Stage). IsAtLevel z t) (sym whole) (level_waits (stage_of v) t st rd (made_now v t h state) stays settled quiet (at v t h state)));
     front = subst (FrontAt (after v g st rd ps w)) (sym state) (record {
-      front = subst (IsFront (repair_of (after v g st rd ps w) t) v.seats) (sym work.front) (front_stays (repair_of v t) g st same_level v.seats v.front told.front);
+      front = subst (IsLevelFront (repair_of (after v g st rd ps w) t) v.seats) (sym work.front) (front_stays (repair_of v t) g st same_level v.seats v.front told.front);
       within = by.within;
       before = by.before;
       here = by.here;
@@ -263,7 +264,7 @@ module _ (v : PassView) (t : ℕ) (h : IsPass v) (state : v.state ≡ Level t) w
     room = subst (λ (m : Nodes Kept). AllHaveSeats m v.seats) (sym rest) h.room;
   }
     where
-      rest : rest_of g ≡ P.was v
+      rest : rest_of g ≡ P.rest_in v
       rest = ap (λ (cs : List (Change Kept)). undone cs (now_of g)) same.changes ∙ ap (undone (changes_in v.forest)) same.now
 
       whole : ◌≡◌ {A = Stage} (stage_of (after v g st rd ps w)) (record (stage_of v) { store = st; reads = rd })
@@ -286,7 +287,7 @@ module _ (v : PassView) (t : ℕ) (h : IsPass v) (state : v.state ≡ Level t) w
 
       by : AreByLevel (level_nodes (now_of g) g.root) t w.first_renewed w.renewed.items
       by =
-          by_same (level_nodes (now v) v.forest.root) (level_nodes (now_of g) g.root) t v.first_renewed w.first_renewed v.renewed w.renewed.items (same_nodes v.forest g same) work.first_renewed work.renewed
+          by_same (level_nodes (now_in v) v.forest.root) (level_nodes (now_of g) g.root) t v.first_renewed w.first_renewed v.renewed w.renewed.items (same_nodes v.forest g same) work.first_renewed work.renewed
           (record { within = told.within; before = told.before; here = told.here })
 
       same_level : KeepsLevel (repair_of v t) g

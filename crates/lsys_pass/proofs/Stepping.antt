@@ -4,6 +4,7 @@ use Rattle.std.specs.Prelude.{count_by, is_none}
 use Rattle.std.specs.Option.{option_and_then}
 use Rattle.std.proofs.lemmas.Bool.{cases_eq}
 use Rattle.std.proofs.lemmas.Option.{same_Some}
+use Rattle.lsys_spec.specs.Rows.{In, AreApart}
 use Rattle.lsys_spec.specs.Draws.{number_base}
 use Rattle.lsys_spec.specs.Systems.{System}
 use Rattle.lsys_spec.specs.Levels as L
@@ -15,10 +16,10 @@ use Rattle.lsys_match.specs.KeptAnswers.{StaysMade}
 use Rattle.lsys_match.specs.Asks.{IsMade}
 use Rattle.lsys_reads.specs.Relations.{Relations, is_pending, SettledStay}
 use Rattle.lsys_change.specs.Nodes.{Kins, AreOnce, Extends}
-use Rattle.lsys_forest.specs.Nodes.{Node, Nodes, put, with_answer}
+use Rattle.lsys_forest.specs.Nodes.{Node, Nodes, with_node, with_answer}
 use Rattle.lsys_forest.specs.Changes.{Change, undone}
 use Rattle.lsys_forest.specs.Answers.{answer_of}
-use Rattle.lsys_forest.specs.Groves.{In, AreApart, IsSound}
+use Rattle.lsys_forest.specs.Groves.{IsRooted}
 use Rattle.lsys_forest.specs.Rows.{level_nodes, level_spots}
 use Rattle.lsys_forest.proofs.RowLemmas.{In_append, In_left, In_right, apart_parts, apart_append, level_depth}
 use Rattle.lsys_forest.proofs.StockLemmas.{put_other}
@@ -30,7 +31,7 @@ use Rattle.lsys_candidates.specs.Asks.{AreSome}
 use Rattle.lsys_kept.specs.Neighbours.{neighbours_on}
 use Rattle.lsys_pass.specs.declared.fault.Faulted.{Faulted}
 use Rattle.lsys_pass.specs.Rests.{AreCountedLow, IsResting}
-use Rattle.lsys_pass.specs.Stages.{Stage, was, Rests, fault_in, AreNoted, HasFault, OutcomeBy, IsOutcome, IsOpen, IsSettled, IsNeededAt, HasTree, HasAnswers, HasLists, HasNews, HasSeats, IsAtLevel}
+use Rattle.lsys_pass.specs.Stages.{Stage, was, Rests, fault_in, AreNoted, HasFault, OutcomeBy, IsNodeOutcome, IsPending, IsSettled, IsNeededAt, HasTree, HasAnswers, HasLists, HasNews, HasSeats, IsAtLevel}
 use Rattle.lsys_pass.proofs.Stores.{AllMade, AllStay, answered_stays, rest_stays}
 use Rattle.lsys_pass.proofs.Alike.{AreAlike, nodes_alike, spots_alike, level_alike, neighbours_alike, have_alike, alike_put, answer_put, answer_other, put_from}
 
@@ -80,8 +81,8 @@ apart_less b j a h = let p = apart_parts b (j ∷ a) h in apart_append b a p.0 p
 
 -- node n, of level t, is pending
 pub record IsNext (s : Stage) (t node : ℕ) (n : Node Kept) (before after : List ℕ) : Type 0 where
-  pub sound : IsSound s.root s.changes s.now
-  pub was_sound : IsSound s.root [] (was s)
+  pub sound : IsRooted s.root s.changes s.now
+  pub was_sound : IsRooted s.root [] (was s)
   pub at : IsAtLevel s t
   pub is : s.now node ≡ Some n
   pub whole : s.pending ≡ before ++ node ∷ after
@@ -105,7 +106,7 @@ pub record Renews (s : Stage) (t node : ℕ) (n : Node Kept) (o : Option Kept) (
   pub old_in : (k : ℕ) → In k s.renewed → In k rn
   pub new_in : (k : ℕ) → In k rn → In k s.renewed ⊎ (k ≡ node)
   pub kept : (o ≡ n.answer) ⊎ In node rn
-  pub read : (reader seen : ℕ) → (is_pending rd reader seen ≡ true) ↔ (In reader rn × HasRead (put s.now node (Some (with_answer o n))) st reader seen)
+  pub read : (reader seen : ℕ) → (is_pending rd reader seen ≡ true) ↔ (In reader rn × HasRead (with_node s.now node (Some (with_answer o n))) st reader seen)
   pub apart : AreApart rn
   pub needed : In node rn → (p : ℕ) → slice_get (level_nodes s.now s.root t) p ≡ Some node → IsNeededAt s t p
   pub all : (p : ℕ) → slice_get (level_nodes s.now s.root t) p ≡ Some node → IsNeededAt s t p → In node rn ⊎ (fault_in node fs ≡ None → ⊥)
@@ -135,7 +136,7 @@ module _ (s : Stage) (t node : ℕ) (n : Node Kept) (before after : List ℕ) (x
       let same : u ≡ t = level_is u p (h ∙ ap Some e) in
       omega (arith, same, less)
 
-  pub is_open : (p : ℕ) → slice_get (level_nodes s.now s.root t) p ≡ Some node → IsOpen s t p node
+  pub is_open : (p : ℕ) → slice_get (level_nodes s.now s.root t) p ≡ Some node → IsPending s t p node
   is_open p h = elim (x.at.answers.here p node h) [ inl o ↦ o | inr d ↦ absurd (d.done among) ]
 
   apart_all : AreApart (before ++ node ∷ after)
@@ -154,9 +155,9 @@ module _ (s : Stage) (t node : ℕ) (n : Node Kept) (before after : List ℕ) (x
   unrenewed h = x.at.lists.renewed_done node h among
 
   module _ (o : Option Kept) (cs : List (Change Kept)) (st : Store) (rd : Relations) (fs : List Faulted) (rn : List ℕ) (b : ℕ)
-      (back : undone cs (put s.now node (Some (with_answer o n))) ≡ was s) (h : Steps s t node n o st rd fs) (r : Renews s t node n o st rd fs rn b) where
+      (back : undone cs (with_node s.now node (Some (with_answer o n))) ≡ was s) (h : Steps s t node n o st rd fs) (r : Renews s t node n o st rd fs rn b) where
     abbrev m : Nodes Kept
-    m = put s.now node (Some (with_answer o n))
+    m = with_node s.now node (Some (with_answer o n))
 
     abbrev s' : Stage
     s' = stepped s m cs st rd (before ++ after) fs rn b
@@ -246,7 +247,7 @@ module _ (s : Stage) (t node : ℕ) (n : Node Kept) (before after : List ℕ) (x
         (subst (λ (q : Option Kept). AnsweredIn v u (level_spots s.now s.root u) st p q) (sym (at_other k ne))
         (answered_stays s.store st v u (level_spots s.now s.root u) p (answer_at s.now k) (stay_now k) a))
 
-    outcome_here : (p : ℕ) → slice_get (level_nodes s.now s.root t) p ≡ Some node → IsOutcome s' t p node
+    outcome_here : (p : ℕ) → slice_get (level_nodes s.now s.root t) p ≡ Some node → IsNodeOutcome s' t p node
     outcome_here p e =
         subst (λ (row : List Spotted). OutcomeBy (fault_in node fs) (AnsweredIn s.next t row st p (answer_at m node)) (HasFault s.next t (level_to s.next s.limit t) p)) (sym (spots_alike s.now m s.root alike t))
         (subst (λ (q : Option Kept). OutcomeBy (fault_in node fs) (AnsweredIn s.next t (level_spots s.now s.root t) st p q) (HasFault s.next t (level_to s.next s.limit t) p)) (sym (at_node node refl)) (h.outcome p e))
@@ -255,12 +256,12 @@ module _ (s : Stage) (t node : ℕ) (n : Node Kept) (before after : List ℕ) (x
     outcome_by None A A' F f a = f a
     outcome_by (Some k) A A' F f a = a
 
-    outcome_other : (p k : ℕ) → k ≢ node → IsOutcome s t p k → IsOutcome s' t p k
+    outcome_other : (p k : ℕ) → k ≢ node → IsNodeOutcome s t p k → IsNodeOutcome s' t p k
     outcome_other p k ne a =
         subst (λ q. OutcomeBy q (AnsweredAt s.next t m s.root st p k) (HasFault s.next t (level_to s.next s.limit t) p)) (sym (h.faults k ne))
         (outcome_by (fault_in k s.faults) (AnsweredAt s.next t s.now s.root s.store p k) (AnsweredAt s.next t m s.root st p k) (HasFault s.next t (level_to s.next s.limit t) p) (right_other s.next t p k ne) a)
 
-    here_at : (p k : ℕ) → slice_get (level_nodes s.now s.root t) p ≡ Some k → IsOpen s' t p k ⊎ IsSettled s' t p k
+    here_at : (p k : ℕ) → slice_get (level_nodes s.now s.root t) p ≡ Some k → IsPending s' t p k ⊎ IsSettled s' t p k
     here_at p k e = elim (cases_eq k node) [
       | inl q ↦ inr (subst (λ i. IsSettled s' t p i) (sym q) (record { done = done_now; outcome = outcome_here p (e ∙ ap Some q) }))
       | inr ne ↦ elim (x.at.answers.here p k e) [
@@ -273,7 +274,7 @@ module _ (s : Stage) (t node : ℕ) (n : Node Kept) (before after : List ℕ) (x
     answers = record {
       above = λ u p k less e. right_other s.next u p k (other_level u p k less (there u p k e)) (x.at.answers.above u p k less (there u p k e));
       here = λ p k e. here_at p k (there t p k e);
-      noted = subst (λ ks. AreNoted fs ks (level_of m s.root t)) (sym (level t)) (subst (λ (y : List L.Symbol). AreNoted fs (level_nodes s.now s.root t) y) (sym (level_alike s.now m s.root alike t)) h.noted);
+      noted = subst (λ ks. AreNoted fs ks (level_of m s.root t)) (sym (level t)) (subst (λ (y : List L.LevelSymbol). AreNoted fs (level_nodes s.now s.root t) y) (sym (level_alike s.now m s.root alike t)) h.noted);
       in_order = subst (AreSome (before ++ after)) (sym (level t)) (some_less before node after (level_nodes s.now s.root t) (subst (λ l. AreSome l (level_nodes s.now s.root t)) x.whole x.at.answers.in_order));
       apart = apart_less before node after apart_all;
     }
@@ -328,10 +329,10 @@ module _ (s : Stage) (t node : ℕ) (n : Node Kept) (before after : List ℕ) (x
     }
 
     needed_on : (u p : ℕ) → IsNeededAt s u p → IsNeededAt s' u p
-    needed_on u p = subst (λ (y : List L.Symbol). IsNeeded s.system s.next s.limit u y p) (sym (level_alike s.now m s.root alike u))
+    needed_on u p = subst (λ (y : List L.LevelSymbol). IsNeeded s.system s.next s.limit u y p) (sym (level_alike s.now m s.root alike u))
 
     needed_back : (u p : ℕ) → IsNeededAt s' u p → IsNeededAt s u p
-    needed_back u p = subst (λ (y : List L.Symbol). IsNeeded s.system s.next s.limit u y p) (level_alike s.now m s.root alike u)
+    needed_back u p = subst (λ (y : List L.LevelSymbol). IsNeeded s.system s.next s.limit u y p) (level_alike s.now m s.root alike u)
 
     -- of the node itself
     needed_node : (u p : ℕ) → slice_get (level_nodes s.now s.root u) p ≡ Some node → In node rn → IsNeededAt s u p
@@ -378,5 +379,5 @@ module _ (s : Stage) (t node : ℕ) (n : Node Kept) (before after : List ℕ) (x
       room = x.at.seats.room;
     }
 
-    pub at_level : IsAtLevel (stepped s (put s.now node (Some (with_answer o n))) cs st rd (before ++ after) fs rn b) t
+    pub at_level : IsAtLevel (stepped s (with_node s.now node (Some (with_answer o n))) cs st rd (before ++ after) fs rn b) t
     at_level = record { rest = rest; tree = tree; answers = answers; lists = lists; news = news; seats = seats }

@@ -1,6 +1,7 @@
 -- Answers stay what they are while others come into their store.
 use Rattle.std.proofs.Common.{◌≡◌, ℕ, List, [], ◌∷◌, length, Option, Some, sym, ap, ◌∙◌, subst}
 use Rattle.std.specs.Prelude.{flat_map}
+use Rattle.lsys_spec.specs.Rows.{In}
 use Rattle.lsys_spec.specs.Systems.{System}
 use Rattle.lsys_spec.specs.Bodies.{Body, group}
 use Rattle.lsys_spec.specs.Levels.{ModuleValue}
@@ -13,10 +14,9 @@ use Rattle.lsys_match.specs.Asks.{IsMade}
 use Rattle.lsys_match.specs.Recalled.{IsAnswerThere}
 use Rattle.lsys_reads.specs.Relations.{Relations, SettledStay}
 use Rattle.lsys_forest.specs.Nodes.{Nodes}
-use Rattle.lsys_forest.specs.Groves.{In}
 use Rattle.lsys_forest.specs.Rows.{level_spots}
 use Rattle.lsys_kept.specs.declared.seat.Seat.{Seat}
-use Rattle.lsys_kept.specs.Levels.{IsRight, IsKeptFor, IsAnswered, AnsweredIn, answer_at, tags_named, tags_read, HasRead}
+use Rattle.lsys_kept.specs.Levels.{IsRight, IsKeptFor, IsAnsweredRight, AnsweredIn, answer_at, tags_named, tags_read, HasRead}
 use Rattle.lsys_pass.specs.Rests.{IsResting}
 
 -- each answer that nodes keep was made with the store
@@ -37,7 +37,7 @@ kept_stays [] f g o h k = k
 kept_stays (b ∷ bs) f g o h k = (k.0, k.1, h k.0 k.1 k.2)
 
 answered_by : (old new : Store) (s : System) (t : ℕ) (row : List Spotted) (p tag : ℕ) (x : Seen) (o : Option Kept)
-    → ((b : Kept) → o ≡ Some b → StaysMade old new b) → IsAnswered s t row old p tag x o → IsAnswered s t row new p tag x o
+    → ((b : Kept) → o ≡ Some b → StaysMade old new b) → IsAnsweredRight s t row old p tag x o → IsAnsweredRight s t row new p tag x o
 answered_by old new s t row p tag Push o stays h = h
 answered_by old new s t row p tag Pop o stays h = h
 answered_by old new s t row p tag (Module v) o stays h =

@@ -6,9 +6,10 @@ use Rattle.std.proofs.lemmas.Bool.{cases_lt}
 use Rattle.std.proofs.lemmas.List.{length-append, length-map}
 use Rattle.std.proofs.lemmas.List.Sums.{length-filter, sum_by-cons}
 use Rattle.std.proofs.lemmas.Option.{none-some, same_Some, get_or_from_slice_get, slice_get-get_or, slice_get_within, slice_get-map}
+use Rattle.lsys_spec.specs.Rows.{In, AreApart}
 use Rattle.lsys_spec.specs.Systems.{System, WellSpelled}
 use Rattle.lsys_spec.specs.Bodies.{Body, group}
-use Rattle.lsys_spec.specs.Levels.{ModuleValue, Symbol, Push, Pop, Module}
+use Rattle.lsys_spec.specs.Levels.{ModuleValue, LevelSymbol, Push, Pop, Module}
 use Rattle.lsys_spec.specs.Meaning.{meaning}
 use Rattle.lsys_spec.specs.Questions.{Question, questions, is_needed, need}
 use Rattle.lsys_laws.specs.KeptQuestions.{where_grouped, question_here}
@@ -20,13 +21,13 @@ use Rattle.lsys_walks.specs.Stores.{Store}
 use Rattle.lsys_match.specs.Kept.{Kept}
 use Rattle.lsys_forest.specs.Nodes.{Node, Nodes}
 use Rattle.lsys_forest.specs.Changes.{Change}
-use Rattle.lsys_forest.specs.Groves.{In, AreApart, IsSound, ReachedIn, Reached}
+use Rattle.lsys_forest.specs.Groves.{IsRooted, ReachedIn, Reached}
 use Rattle.lsys_forest.specs.Rows.{level_nodes, level_spots, spot_in}
 use Rattle.lsys_forest.proofs.RowLemmas.{In_append, In_left, In_right, In_split, apart_append, level_depth, level_apart}
 use Rattle.lsys_forest.proofs.WalkLemmas.{get_In, In_at}
 use Rattle.lsys_kept.specs.Lineages.{names}
-use Rattle.lsys_kept.specs.Levels.{HaveLevels, AnsweredAt, IsAnswered, IsKeptFor, IsRight, level_of, answer_at}
-use Rattle.lsys_kept.specs.Meant.{meant}
+use Rattle.lsys_kept.specs.Levels.{HaveLevels, AnsweredAt, IsAnsweredRight, IsKeptFor, IsRight, level_of, answer_at}
+use Rattle.lsys_kept.specs.Meant.{levels_meant}
 use Rattle.lsys_pass.specs.Stages.{Stage, was, IsDone}
 use Rattle.lsys_pass.proofs.Before.{spot_at, kept_rules, placed, is_below, answer_lives, zero_plus, reached_on, no_more}
 use Rattle.lsys_pass.proofs.Needed.{is_module}
@@ -35,7 +36,7 @@ use Rattle.lsys_pass.proofs.Counting.{same_length, Passes, picked_below, below_c
 
 -- 1. the question of a symbol
 
-record IsAskedHere (s : System) (t : ℕ) (x : List Symbol) (p : ℕ) (a : Symbol) (q : Question) : Type 0 where
+record IsAskedHere (s : System) (t : ℕ) (x : List LevelSymbol) (p : ℕ) (a : LevelSymbol) (q : Question) : Type 0 where
   line : List ℕ
   own : ModuleValue
   is : a ≡ Module line own
@@ -46,7 +47,7 @@ grouped_is : (bs : List Body) (q r : Question) → where_grouped bs q ≡ Some r
 grouped_is [] q r e = absurd (none-some r e)
 grouped_is (b ∷ bs) q r e = (λ f. cc, same_Some q r e)
 
-asked_here : (s : System) (t : ℕ) (x : List Symbol) (p : ℕ) (a : Symbol) (q : Question) → question_here s t x p a ≡ Some q → IsAskedHere s t x p a q
+asked_here : (s : System) (t : ℕ) (x : List LevelSymbol) (p : ℕ) (a : LevelSymbol) (q : Question) → question_here s t x p a ≡ Some q → IsAskedHere s t x p a q
 asked_here s t x p (Push l) q e = absurd (none-some q e)
 asked_here s t x p (Pop l) q e = absurd (none-some q e)
 asked_here s t x p (Module l m) q e = let g = grouped_is (group s t m.name (length m.params)) (module_question s t x p l m) q e in record { line = l; own = m; is = refl; rules = g.0; same = g.1 }
@@ -60,29 +61,29 @@ grouped_there (b ∷ bs) q h = refl
 abbrev pub all : Question → Bool
 all q = true
 
-module _ (s : System) (limit : ℕ) (m : Nodes Kept) (root : ℕ) (store : Store) (changes : List (Change Kept)) (sound : IsSound root changes m) (spelled : WellSpelled s) (is : meaning s limit ≡ Ok (meant s limit))
-    (levels : HaveLevels m root s.seed (meant s limit)) (answered : (t p k : ℕ) → t < s.depth → slice_get (level_nodes m root t) p ≡ Some k → AnsweredAt s t m root store p k) where
-  many : length (meant s limit) ≡ s.depth + 1
-  many = level_count s limit s.depth (meant s limit) spelled is
+module _ (s : System) (limit : ℕ) (m : Nodes Kept) (root : ℕ) (store : Store) (changes : List (Change Kept)) (sound : IsRooted root changes m) (spelled : WellSpelled s) (is : meaning s limit ≡ Ok (levels_meant s limit))
+    (levels : HaveLevels m root s.seed (levels_meant s limit)) (answered : (t p k : ℕ) → t < s.depth → slice_get (level_nodes m root t) p ≡ Some k → AnsweredAt s t m root store p k) where
+  many : length (levels_meant s limit) ≡ s.depth + 1
+  many = level_count s limit s.depth (levels_meant s limit) spelled is
 
   -- the nodes whose questions pass
   abbrev passing : (Question → Bool) → List ℕ
-  passing test = picked_below test s (λ t. level_nodes m root t) 0 (meant s limit)
+  passing test = picked_below test s (λ t. level_nodes m root t) 0 (levels_meant s limit)
 
-  level_is : (t : ℕ) (x : List Symbol) → slice_get (meant s limit) t ≡ Some x → x ≡ level_of m root t
-  level_is t x e = sym (get_or_from_slice_get (meant s limit) t x [] e) ∙ sym (levels.each t (slice_get_within (meant s limit) t x e))
+  level_is : (t : ℕ) (x : List LevelSymbol) → slice_get (levels_meant s limit) t ≡ Some x → x ≡ level_of m root t
+  level_is t x e = sym (get_or_from_slice_get (levels_meant s limit) t x [] e) ∙ sym (levels.each t (slice_get_within (levels_meant s limit) t x e))
 
-  level_there : (t : ℕ) → t < s.depth → slice_get (meant s limit) t ≡ Some (level_of m root t)
+  level_there : (t : ℕ) → t < s.depth → slice_get (levels_meant s limit) t ≡ Some (level_of m root t)
   level_there t l =
       let c = many in
-      let w : t < length (meant s limit) = omega (arith, c, l) in
-      slice_get-get_or (meant s limit) t [] w ∙ ap (λ y. Some y) (sym (levels.each t w))
+      let w : t < length (levels_meant s limit) = omega (arith, c, l) in
+      slice_get-get_or (levels_meant s limit) t [] w ∙ ap (λ y. Some y) (sym (levels.each t w))
 
   long : (t : ℕ) → length (level_of m root t) ≡ length (level_nodes m root t)
   long t = length-map (level_spots m root t) (named (names m)) ∙ length-map (level_nodes m root t) (λ k. spot_in k (m k))
 
-  pub passing_count : (test : Question → Bool) → length (passing test) ≡ count_by test (questions s (meant s limit))
-  passing_count test = below_count test s (λ t. level_nodes m root t) 0 (meant s limit) (λ i x e. ap length (level_is i x e) ∙ long i ∙ ap (λ t. length (level_nodes m root t)) (sym (zero_plus i)))
+  pub passing_count : (test : Question → Bool) → length (passing test) ≡ count_by test (questions s (levels_meant s limit))
+  passing_count test = below_count test s (λ t. level_nodes m root t) 0 (levels_meant s limit) (λ i x e. ap length (level_is i x e) ∙ long i ∙ ap (λ t. length (level_nodes m root t)) (sym (zero_plus i)))
 
   one_level : (t u k : ℕ) → In k (level_nodes m root t) → In k (level_nodes m root u) → t ≡ u
   one_level t u k i j =
@@ -92,7 +93,7 @@ module _ (s : System) (limit : ℕ) (m : Nodes Kept) (root : ℕ) (store : Store
       omega (arith, e, a.2, b.2)
 
   pub passing_apart : (test : Question → Bool) → AreApart (passing test)
-  passing_apart test = below_apart test s (λ t. level_nodes m root t) (level_apart root changes m sound) one_level 0 (meant s limit)
+  passing_apart test = below_apart test s (λ t. level_nodes m root t) (level_apart root changes m sound) one_level 0 (levels_meant s limit)
 
   -- a node among them, with its question
   pub record IsPassing (test : Question → Bool) (k : ℕ) : Type 0 where
@@ -108,7 +109,7 @@ module _ (s : System) (limit : ℕ) (m : Nodes Kept) (root : ℕ) (store : Store
 
   pub is_passing : (test : Question → Bool) (k : ℕ) → In k (passing test) → IsPassing test k
   is_passing test k i =
-      let r = below_in test s (λ t. level_nodes m root t) 0 (meant s limit) k i in
+      let r = below_in test s (λ t. level_nodes m root t) 0 (levels_meant s limit) k i in
       let c = many in
       let l = r.below in
       let at = subst (λ u. Passes test s u r.symbols 0 r.symbols (level_nodes m root u) k) (zero_plus r.level) r.at in
@@ -121,16 +122,16 @@ module _ (s : System) (limit : ℕ) (m : Nodes Kept) (root : ℕ) (store : Store
         there = at.node;
         line = a.line;
         own = a.own;
-        stands = ap (λ (y : List Symbol). slice_get y at.place) (sym same) ∙ at.stands ∙ ap (λ y. Some y) a.is;
+        stands = ap (λ (y : List LevelSymbol). slice_get y at.place) (sym same) ∙ at.stands ∙ ap (λ y. Some y) a.is;
         rules = a.rules;
-        passes = ap test (ap (λ (y : List Symbol). module_question s r.level y at.place a.line a.own) (sym same) ∙ ap (λ p. module_question s r.level r.symbols p a.line a.own) (sym (zero_plus at.place)) ∙ a.same) ∙ at.passes;
+        passes = ap test (ap (λ (y : List LevelSymbol). module_question s r.level y at.place a.line a.own) (sym same) ∙ ap (λ p. module_question s r.level r.symbols p a.line a.own) (sym (zero_plus at.place)) ∙ a.same) ∙ at.passes;
       }
 
   pub in_passing : (test : Question → Bool) (t p k : ℕ) (l : List ℕ) (v : ModuleValue) → t < s.depth → slice_get (level_nodes m root t) p ≡ Some k → slice_get (level_of m root t) p ≡ Some (Module l v)
       → (group s t v.name (length v.params) ≡ [] → ⊥) → test (module_question s t (level_of m root t) p l v) ≡ true → In k (passing test)
   in_passing test t p k l v below there stands rules passes =
       let c = many in
-      in_below test s (λ t. level_nodes m root t) 0 (meant s limit) t (level_of m root t) p k (Module l v) (module_question s t (level_of m root t) p l v) (level_there t below) (omega (arith, c, below))
+      in_below test s (λ t. level_nodes m root t) 0 (levels_meant s limit) t (level_of m root t) p k (Module l v) (module_question s t (level_of m root t) p l v) (level_there t below) (omega (arith, c, below))
       (ap (λ u. slice_get (level_nodes m root u) p) (zero_plus t) ∙ there) stands
       (ap (λ u. question_here s u (level_of m root t) (0 + p) (Module l v)) (zero_plus t) ∙ ap (λ q. question_here s t (level_of m root t) q (Module l v)) (zero_plus p)
       ∙ grouped_there (group s t v.name (length v.params)) (module_question s t (level_of m root t) p l v) rules) passes
@@ -150,7 +151,7 @@ module _ (s : System) (limit : ℕ) (m : Nodes Kept) (root : ℕ) (store : Store
       let d = level_depth root changes m sound r.level k (get_In (level_nodes m root r.level) r.place k r.there) in
       let same : with_lineage (names m k) d.0.seen ≡ Module r.line r.own = same_Some _ _ (sym (spot r.level r.place k d.0 r.there d.1) ∙ r.stands) in
       let seen = is_module (names m k) r.line d.0.seen r.own same in
-      let kept = subst (λ y. IsAnswered s r.level (level_spots m root r.level) store r.place k y (answer_at m k)) seen.seen
+      let kept = subst (λ y. IsAnsweredRight s r.level (level_spots m root r.level) store r.place k y (answer_at m k)) seen.seen
       (answered r.level r.place k r.below r.there (record { seen = d.0.seen; tag = k; key = d.0.key }) (spot_at m root r.level r.place k d.0 r.there d.1)) in
       some_kept (group s r.level r.own.name (length r.own.params)) (IsRight s r.level (level_spots m root r.level) store r.place k r.own) (answer_at m k) r.rules kept
 
@@ -163,11 +164,11 @@ module _ (s : System) (limit : ℕ) (m : Nodes Kept) (root : ℕ) (store : Store
       d : (n : Node Kept) × (m k ≡ Some n) × (n.depth ≡ t + 1)
       d = level_depth root changes m sound t k on
 
-      by : (x : Seen) → d.0.seen ≡ x → IsAnswered s t (level_spots m root t) store p.0 k d.0.seen (answer_at m k) → In k (passing all)
-      by S.Push f h = absurd (none-some a (sym (subst (λ y. IsAnswered s t (level_spots m root t) store p.0 k y (answer_at m k)) f h) ∙ e))
-      by S.Pop f h = absurd (none-some a (sym (subst (λ y. IsAnswered s t (level_spots m root t) store p.0 k y (answer_at m k)) f h) ∙ e))
+      by : (x : Seen) → d.0.seen ≡ x → IsAnsweredRight s t (level_spots m root t) store p.0 k d.0.seen (answer_at m k) → In k (passing all)
+      by S.Push f h = absurd (none-some a (sym (subst (λ y. IsAnsweredRight s t (level_spots m root t) store p.0 k y (answer_at m k)) f h) ∙ e))
+      by S.Pop f h = absurd (none-some a (sym (subst (λ y. IsAnsweredRight s t (level_spots m root t) store p.0 k y (answer_at m k)) f h) ∙ e))
       by (S.Module v) f h =
-          let kept = kept_rules (group s t v.name (length v.params)) (IsRight s t (level_spots m root t) store p.0 k v) (answer_at m k) a e (subst (λ y. IsAnswered s t (level_spots m root t) store p.0 k y (answer_at m k)) f h) in
+          let kept = kept_rules (group s t v.name (length v.params)) (IsRight s t (level_spots m root t) store p.0 k v) (answer_at m k) a e (subst (λ y. IsAnsweredRight s t (level_spots m root t) store p.0 k y (answer_at m k)) f h) in
           in_passing all t p.0 k (names m k) v below p.1 (spot t p.0 k d.0 p.1 d.1 ∙ ap (λ y. Some (with_lineage (names m k) y)) f) kept.0 refl
 
 -- some of a list, none twice, are no more
@@ -226,9 +227,9 @@ none_is : (o : Option Kept) → is_none o ≡ true → o ≡ None
 none_is None h = refl
 none_is (Some a) h = cc
 
-module _ (s : Stage) (d : IsDone s) (changes : List (Change Kept)) (sound : IsSound s.root changes s.now) (was_sound : IsSound s.root [] (was s)) where
-  abbrev olds : List (List Symbol)
-  olds = meant s.system s.limit
+module _ (s : Stage) (d : IsDone s) (changes : List (Change Kept)) (sound : IsRooted s.root changes s.now) (was_sound : IsRooted s.root [] (was s)) where
+  abbrev olds : List (List LevelSymbol)
+  olds = levels_meant s.system s.limit
 
   abbrev pub new_nodes : (Question → Bool) → List ℕ
   new_nodes test = passing s.next s.limit s.now s.root s.store changes sound d.spelled d.is d.levels d.answered test
@@ -237,7 +238,7 @@ module _ (s : Stage) (d : IsDone s) (changes : List (Change Kept)) (sound : IsSo
   old_nodes = passing s.system s.limit (was s) s.root s.store [] was_sound d.rest.spelled d.rest.is d.rest.levels d.rest.answered all
 
   -- as many are new as were renewed
-  pub renewed_needed : length s.renewed ≡ need (questions s.system olds) (questions s.next (meant s.next s.limit))
+  pub renewed_needed : length s.renewed ≡ need (questions s.system olds) (questions s.next (levels_meant s.next s.limit))
   renewed_needed =
       same_length s.renewed (new_nodes (is_needed (questions s.system olds))) d.renewed_apart
       (passing_apart s.next s.limit s.now s.root s.store changes sound d.spelled d.is d.levels d.answered (is_needed (questions s.system olds)))
@@ -281,9 +282,9 @@ module _ (s : Stage) (d : IsDone s) (changes : List (Change Kept)) (sound : IsSo
         | inl l ↦ l
         | inr ge ↦ elim (cases_lt s.next.depth u) [
           | inl far ↦
-              let c = level_count s.next s.limit s.next.depth (meant s.next s.limit) d.spelled d.is in
-              let back : length (meant s.next s.limit) + (u - length (meant s.next s.limit)) ≡ u = omega (arith, c, far) in
-              let past = no_more s.now s.root (length (meant s.next s.limit)) (u - length (meant s.next s.limit)) d.ends in
+              let c = level_count s.next s.limit s.next.depth (levels_meant s.next s.limit) d.spelled d.is in
+              let back : length (levels_meant s.next s.limit) + (u - length (levels_meant s.next s.limit)) ≡ u = omega (arith, c, far) in
+              let past = no_more s.now s.root (length (levels_meant s.next s.limit)) (u - length (levels_meant s.next s.limit)) d.ends in
               absurd (subst (In k) (sym (ap (level_nodes s.now s.root) back) ∙ past) on)
           | inr near ↦
               let same : u ≡ s.next.depth = omega (arith, ge, near) in
@@ -347,11 +348,11 @@ module _ (s : Stage) (d : IsDone s) (changes : List (Change Kept)) (sound : IsSo
   old_count : length old_nodes ≡ length (questions s.system olds)
   old_count = passing_count s.system s.limit (was s) s.root s.store [] was_sound d.rest.spelled d.rest.is d.rest.levels d.rest.answered all ∙ count_all (questions s.system olds)
 
-  pub new_count : length (new_nodes all) ≡ length (questions s.next (meant s.next s.limit))
-  new_count = passing_count s.next s.limit s.now s.root s.store changes sound d.spelled d.is d.levels d.answered all ∙ count_all (questions s.next (meant s.next s.limit))
+  pub new_count : length (new_nodes all) ≡ length (questions s.next (levels_meant s.next s.limit))
+  new_count = passing_count s.next s.limit s.now s.root s.store changes sound d.spelled d.is d.levels d.answered all ∙ count_all (questions s.next (levels_meant s.next s.limit))
 
   -- what came and what went
-  pub answers_count : length (questions s.next (meant s.next s.limit)) + length s.dropped ≡ length (questions s.system olds) + s.born
+  pub answers_count : length (questions s.next (levels_meant s.next s.limit)) + length s.dropped ≡ length (questions s.system olds) + s.born
   answers_count =
       let one = same_length are were
       (apart_append (new_nodes all) s.dropped (passing_apart s.next s.limit s.now s.root s.store changes sound d.spelled d.is d.levels d.answered all) d.dropped_apart gone_apart)

@@ -3,10 +3,11 @@ use Rattle.std.proofs.Common.{◌≡◌, ◌⊎◌, ◌+◌, ◌<◌, ◌≤◌,
 use Rattle.std.specs.Prelude.{Result, IfOk, OnOk, is_some, option_map}
 use Rattle.std.proofs.lemmas.Bool.{cases_lt}
 use Rattle.std.proofs.lemmas.Option.{same_Some}
+use Rattle.lsys_spec.specs.Rows.{In, AreApart}
 use Rattle.lsys_change.specs.Nodes.{Kin}
 use Rattle.lsys_match.specs.Kept.{Kept}
 use Rattle.lsys_forest.specs.Nodes.{Nodes}
-use Rattle.lsys_forest.specs.Groves.{In, AreApart, IsLive, changes_in}
+use Rattle.lsys_forest.specs.Groves.{IsLive, changes_in}
 use Rattle.lsys_forest.specs.Rows.{level_nodes}
 use Rattle.lsys_forest.proofs.RowLemmas.{In_append, In_left, In_right, apart_append, level_depth}
 use Rattle.lsys_forest.proofs.SoundLemmas.{some_of}
@@ -16,12 +17,11 @@ use Rattle.lsys_kept.specs.declared.seat.Seat.{Seat}
 use Rattle.lsys_kept.specs.Neighbours.{neighbours_on}
 use Rattle.lsys_kept.specs.Seats.{neighbours_at, HasSeat, SameSeats, KeepsSeats}
 use Rattle.lsys_kept.proofs.LevelLemmas.{got_in}
-use Rattle.lsys_kept.proofs.LookLemmas.{in_same, in_back}
 use Rattle.lsys_front.proofs.TurnedLemmas.{told_in}
 use Rattle.lsys_candidates.specs.Repairs.{are}
-use Rattle.lsys_candidates.specs.Found.{AreOnLevels, HasRoom, IsFound}
+use Rattle.lsys_candidates.specs.Found.{AreOnLevels, HasSeatsForFound, IsFound}
 use Rattle.lsys_candidates.proofs.Spots.{is_in, sound_old, sound_new}
-use Rattle.lsys_front.specs.Fronts.{Differences, IsFront}
+use Rattle.lsys_front.specs.Fronts.{Differences, IsLevelFront}
 use Rattle.lsys_front.specs.Ends.{answered_in}
 use Rattle.lsys_front.proofs.Rooms.{was_live, is_live, seat_room, on_levels}
 use Rattle.lsys_front.proofs.RowsBelow.{answered_are, answered_apart}
@@ -29,8 +29,8 @@ use Rattle.lsys_front.proofs.FoundFronts.{found_front}
 use Rattle.lsys_pass.specs.declared.state.PassState.TheVariants.{Failed}
 use Rattle.lsys_pass.specs.declared.work.Work.{Work}
 use Rattle.lsys_pass.specs.Stages.{Rests}
-use Rattle.lsys_pass.specs.Passes.{PassView, stage_of, repair_of, now, was, HoldsAt, IsPass}
-use Rattle.lsys_pass.specs.Fresh.{Goes, HasListsBefore, AreDroppedBefore, IsMadeTo, WasLookedAt, IsFresh, HasFound}
+use Rattle.lsys_pass.specs.Passes.{PassView, stage_of, repair_of, now_in, rest_in, HoldsAt, IsPass}
+use Rattle.lsys_pass.specs.Fresh.{Goes, HasListsBefore, AreDroppedBefore, IsMadeTo, WasLookedAt, WasJustMade, HasFound}
 
 -- 1. depths
 
@@ -45,16 +45,16 @@ one_depth m k u w a b =
     let two = b.2 in
     omega (arith, same, one, two)
 
-module _ (v : PassView) (t : ℕ) (h : IsPass v) (failed : v.state ≡ Failed) (x : IsFresh v t) where
+module _ (v : PassView) (t : ℕ) (h : IsPass v) (failed : v.state ≡ Failed) (x : WasJustMade v t) where
   rests : Rests (stage_of v)
   rests = subst (HoldsAt (stage_of v)) failed h.holds
 
   -- 2. what is asked for to find nodes
 
   has_seat : (k : ℕ) → IsLive v.forest k → HasSeat v.seats k
-  has_seat k live = let n = some_of (now v k) live in x.made.room k n.0 n.1
+  has_seat k live = let n = some_of (now_in v k) live in x.made.room k n.0 n.1
 
-  pub room_there : HasRoom v.forest v.reads v.front.changes v.seats
+  pub room_there : HasSeatsForFound v.forest v.reads v.front.changes v.seats
   room_there = seat_room (repair_of v t) v.seats v.reads v.front.changes x.made.spots x.differs x.looks.looked_are rests.read has_seat
 
   pub levels_there : t < 2 ^ 32 → AreOnLevels v.forest v.front.changes
@@ -65,55 +65,55 @@ module _ (v : PassView) (t : ℕ) (h : IsPass v) (failed : v.state ≡ Failed) (
 
   -- 3. nodes that were dropped
 
-  deep_now : (k u : ℕ) → In k (level_nodes (now v) v.forest.root u) → IsDeep (now v) k u
+  deep_now : (k u : ℕ) → In k (level_nodes (now_in v) v.forest.root u) → IsDeep (now_in v) k u
   deep_now k u i =
-      let d = level_depth v.forest.root (changes_in v.forest) (now v) (sound_new (repair_of v t) x.made.spots) u k i in
+      let d = level_depth v.forest.root (changes_in v.forest) (now_in v) (sound_new (repair_of v t) x.made.spots) u k i in
       (kin_of d.0, ap (option_map kin_of) d.1, d.2)
 
-  deep_was : (k u : ℕ) → In k (level_nodes (was v) v.forest.root u) → IsDeep (now v) k u
+  deep_was : (k u : ℕ) → In k (level_nodes (rest_in v) v.forest.root u) → IsDeep (now_in v) k u
   deep_was k u i =
-      let d = level_depth v.forest.root [] (was v) (sound_old (repair_of v t) x.made.spots) u k i in
+      let d = level_depth v.forest.root [] (rest_in v) (sound_old (repair_of v t) x.made.spots) u k i in
       (kin_of d.0, x.made.spots.stay k (kin_of d.0) (ap (option_map kin_of) d.1), d.2)
 
   -- those that are gone and keep an answer
   abbrev more : List ℕ
-  more = answered_in (now v) v.front.changes.gone
+  more = answered_in (now_in v) v.front.changes.gone
 
-  gone_deep : (k : ℕ) → In k v.front.changes.gone → IsDeep (now v) k t
+  gone_deep : (k : ℕ) → In k v.front.changes.gone → IsDeep (now_in v) k t
   gone_deep k i = deep_was k t ((x.differs.gone k).0 i).0
 
   more_gone : (k : ℕ) → In k more → In k v.front.changes.gone
-  more_gone k i = ((answered_are (now v) v.front.changes.gone k).0 i).0
+  more_gone k i = ((answered_are (now_in v) v.front.changes.gone k).0 i).0
 
-  more_had : (k : ℕ) → In k more → answer_at (was v) k ≡ None → ⊥
+  more_had : (k : ℕ) → In k more → answer_at (rest_in v) k ≡ None → ⊥
   more_had k i none =
-      let kept : is_some (answer_at (now v) k) ≡ true = ((answered_are (now v) v.front.changes.gone k).0 i).1 in
-      let lost : is_some (answer_at (now v) k) ≡ false = ap (λ (o : Option Kept). is_some o) (x.gone_keep k (more_gone k i) ∙ none) in
+      let kept : is_some (answer_at (now_in v) k) ≡ true = ((answered_are (now_in v) v.front.changes.gone k).0 i).1 in
+      let lost : is_some (answer_at (now_in v) k) ≡ false = ap (λ (o : Option Kept). is_some o) (x.gone_keep k (more_gone k i) ∙ none) in
       cc
 
-  more_lost : (k : ℕ) (a : Kept) → In k v.front.changes.gone → answer_at (was v) k ≡ Some a → In k more
-  more_lost k a i e = (answered_are (now v) v.front.changes.gone k).1 (i, ap (λ (o : Option Kept). is_some o) (x.gone_keep k i ∙ e))
+  more_lost : (k : ℕ) (a : Kept) → In k v.front.changes.gone → answer_at (rest_in v) k ≡ Some a → In k more
+  more_lost k a i e = (answered_are (now_in v) v.front.changes.gone k).1 (i, ap (λ (o : Option Kept). is_some o) (x.gone_keep k i ∙ e))
 
   -- one that was dropped before stood higher up
-  not_dropped : (k u : ℕ) → t ≤ u → In k v.dropped → IsDeep (now v) k u → ⊥
+  not_dropped : (k u : ℕ) → t ≤ u → In k v.dropped → IsDeep (now_in v) k u → ⊥
   not_dropped k u l i d =
       let w = x.dropped k i in
       let less = w.1 in
-      let same = one_depth (now v) k w.0 u (deep_was k w.0 w.2) d in
+      let same = one_depth (now_in v) k w.0 u (deep_was k w.0 w.2) d in
       omega (arith, l, less, same)
 
   dropped_apart : AreApart (v.dropped ++ more)
   dropped_apart =
-      apart_append v.dropped more x.lists.dropped_apart (answered_apart (now v) v.front.changes.gone x.gone_once)
+      apart_append v.dropped more x.lists.dropped_apart (answered_apart (now_in v) v.front.changes.gone x.gone_once)
       (λ k i j. not_dropped k t (omega arith) i (gone_deep k (more_gone k j)))
 
-  dropped_had : (k : ℕ) → In k (v.dropped ++ more) → answer_at (was v) k ≡ None → ⊥
+  dropped_had : (k : ℕ) → In k (v.dropped ++ more) → answer_at (rest_in v) k ≡ None → ⊥
   dropped_had k i none = elim (In_append v.dropped more k i) [
     | inl old ↦ x.lists.dropped_had k old none
     | inr new ↦ more_had k new none
   ]
 
-  dropped_none : (k u : ℕ) → In k (v.dropped ++ more) → u < t + 1 → In k (level_nodes (now v) v.forest.root u) → answer_at (now v) k ≡ None
+  dropped_none : (k u : ℕ) → In k (v.dropped ++ more) → u < t + 1 → In k (level_nodes (now_in v) v.forest.root u) → answer_at (now_in v) k ≡ None
   dropped_none k u i l on = elim (In_append v.dropped more k i) [
     | inl old ↦ elim (cases_lt u t) [
       | inl less ↦ x.lists.dropped_none k u old less on
@@ -121,22 +121,22 @@ module _ (v : PassView) (t : ℕ) (h : IsPass v) (failed : v.state ≡ Failed) (
     ]
     | inr new ↦
         let g = more_gone k new in
-        let same : u ≡ t = one_depth (now v) k u t (deep_now k u on) (gone_deep k g) in
-        absurd (((x.differs.gone k).0 g).1 (subst (λ w. In k (level_nodes (now v) v.forest.root w)) same on))
+        let same : u ≡ t = one_depth (now_in v) k u t (deep_now k u on) (gone_deep k g) in
+        absurd (((x.differs.gone k).0 g).1 (subst (λ w. In k (level_nodes (now_in v) v.forest.root w)) same on))
   ]
 
-  lost_here : (k : ℕ) (a : Kept) → answer_at (was v) k ≡ Some a → In k (level_nodes (was v) v.forest.root t) → In k (v.dropped ++ more) ⊎ In k (level_nodes (now v) v.forest.root t)
-  lost_here k a e on = elim (is_in k (level_nodes (now v) v.forest.root t)) [
+  lost_here : (k : ℕ) (a : Kept) → answer_at (rest_in v) k ≡ Some a → In k (level_nodes (rest_in v) v.forest.root t) → In k (v.dropped ++ more) ⊎ In k (level_nodes (now_in v) v.forest.root t)
+  lost_here k a e on = elim (is_in k (level_nodes (now_in v) v.forest.root t)) [
     | inl i ↦ inr i
     | inr away ↦ inl (In_right k v.dropped more (more_lost k a ((x.differs.gone k).1 (on, away)) e))
   ]
 
-  lost : (k u : ℕ) (a : Kept) → u < t + 1 → answer_at (was v) k ≡ Some a → In k (level_nodes (was v) v.forest.root u) → In k (v.dropped ++ more) ⊎ In k (level_nodes (now v) v.forest.root u)
+  lost : (k u : ℕ) (a : Kept) → u < t + 1 → answer_at (rest_in v) k ≡ Some a → In k (level_nodes (rest_in v) v.forest.root u) → In k (v.dropped ++ more) ⊎ In k (level_nodes (now_in v) v.forest.root u)
   lost k u a l e on = elim (cases_lt u t) [
     | inl less ↦ elim (x.lists.lost k u a less e on) [ inl i ↦ inl (In_left k v.dropped more i) | inr i ↦ inr i ]
     | inr ge ↦
         let same : u ≡ t = omega (arith, l, ge) in
-        subst (λ w. In k (v.dropped ++ more) ⊎ In k (level_nodes (now v) v.forest.root w)) (sym same) (lost_here k a e (subst (λ w. In k (level_nodes (was v) v.forest.root w)) same on))
+        subst (λ w. In k (v.dropped ++ more) ⊎ In k (level_nodes (now_in v) v.forest.root w)) (sym same) (lost_here k a e (subst (λ w. In k (level_nodes (rest_in v) v.forest.root w)) same on))
   ]
 
   -- 4. nodes that moved
@@ -165,37 +165,37 @@ module _ (v : PassView) (t : ℕ) (h : IsPass v) (failed : v.state ≡ Failed) (
     abbrev differs : Differences
     differs = record { changes = v.front.changes; turned = turned; bare = v.front.bare }
 
-    bare_front : IsFront (repair_of v t) seats' (record { changes = v.front.changes; turned = turned; bare = [] })
+    bare_front : IsLevelFront (repair_of v t) seats' (record { changes = v.front.changes; turned = turned; bare = [] })
     bare_front =
         found_front (repair_of v t) seats' v.reads v.front.changes turned beside readers x.made.spots x.differs x.gone_once
         (λ p k e. same k ∙ rests.seated t p k e) looks.looked x.looks.looked_are x.made.answers found
 
-    front : IsFront (repair_of v t) seats' differs
-    front = subst (λ (b : List ℕ). IsFront (repair_of v t) seats' (record { changes = v.front.changes; turned = turned; bare = b })) (sym x.bare) bare_front
+    front : IsLevelFront (repair_of v t) seats' differs
+    front = subst (λ (b : List ℕ). IsLevelFront (repair_of v t) seats' (record { changes = v.front.changes; turned = turned; bare = b })) (sym x.bare) bare_front
 
     abbrev moves : List ℕ
     moves = v.front.changes.came ++ turned
 
-    seated_here : (p k : ℕ) → slice_get (level_nodes (now v) v.forest.root t) p ≡ Some k
-        → In k moves ⊎ (neighbours_at seats' k ≡ neighbours_on (now v) (level_nodes (now v) v.forest.root t) p)
+    seated_here : (p k : ℕ) → slice_get (level_nodes (now_in v) v.forest.root t) p ≡ Some k
+        → In k moves ⊎ (neighbours_at seats' k ≡ neighbours_on (now_in v) (level_nodes (now_in v) v.forest.root t) p)
     seated_here p k e = elim (is_in k moves) [
       | inl i ↦ inl i
       | inr away ↦
-          let on = in_back k (level_nodes (now v) v.forest.root t) (got_in (level_nodes (now v) v.forest.root t) p k e) in
-          let there = front.turned.same k on (λ i. away (in_same k moves i)) in
+          let on = got_in (level_nodes (now_in v) v.forest.root t) p k e in
+          let there = front.turned.same k on away in
           inr (sym there ∙ told_in v.forest (sound_new (repair_of v t) x.made.spots) t p k e)
     ]
 
-    seated : (u p k : ℕ) → u < t + 1 → slice_get (level_nodes (now v) v.forest.root u) p ≡ Some k
-        → In k (v.moved ++ moves) ⊎ (neighbours_at seats' k ≡ neighbours_on (now v) (level_nodes (now v) v.forest.root u) p)
+    seated : (u p k : ℕ) → u < t + 1 → slice_get (level_nodes (now_in v) v.forest.root u) p ≡ Some k
+        → In k (v.moved ++ moves) ⊎ (neighbours_at seats' k ≡ neighbours_on (now_in v) (level_nodes (now_in v) v.forest.root u) p)
     seated u p k l e = elim (cases_lt u t) [
       | inl less ↦ elim (x.lists.seated u p k less e) [ inl i ↦ inl (In_left k v.moved moves i) | inr n ↦ inr (same k ∙ n) ]
       | inr ge ↦
           let is : u ≡ t = omega (arith, l, ge) in
-          let here = seated_here p k (ap (λ w. slice_get (level_nodes (now v) v.forest.root w) p) (sym is) ∙ e) in
+          let here = seated_here p k (ap (λ w. slice_get (level_nodes (now_in v) v.forest.root w) p) (sym is) ∙ e) in
           elim here [
             | inl i ↦ inl (In_right k v.moved moves i)
-            | inr n ↦ inr (n ∙ ap (λ w. neighbours_on (now v) (level_nodes (now v) v.forest.root w) p) (sym is))
+            | inr n ↦ inr (n ∙ ap (λ w. neighbours_on (now_in v) (level_nodes (now_in v) v.forest.root w) p) (sym is))
           ]
     ]
 
@@ -205,7 +205,7 @@ module _ (v : PassView) (t : ℕ) (h : IsPass v) (failed : v.state ≡ Failed) (
       | inr c ↦ front.turned_are k c
     ]
 
-    moved_are : (k : ℕ) → In k (v.moved ++ moves) → (u : ℕ) × (u < t + 1) × In k (level_nodes (now v) v.forest.root u)
+    moved_are : (k : ℕ) → In k (v.moved ++ moves) → (u : ℕ) × (u < t + 1) × In k (level_nodes (now_in v) v.forest.root u)
     moved_are k i = elim (In_append v.moved moves k i) [
       | inl old ↦ let w = x.lists.moved_are k old in (w.0, (let l = w.1 in omega (arith, l)), w.2)
       | inr new ↦ (t, omega arith, moves_are k new)
@@ -291,7 +291,7 @@ pub record KeepsLists (v : PassView) (work : Work) : Type 0 where
 
 -- and what becomes of the others
 pub record Turns (v : PassView) (work : Work) : Type 0 where
-  pub dropped : work.dropped.items ≡ v.dropped ++ answered_in (now v) v.front.changes.gone
+  pub dropped : work.dropped.items ≡ v.dropped ++ answered_in (now_in v) v.front.changes.gone
   pub moved : work.moved.items ≡ v.moved ++ (v.front.changes.came ++ work.front.turned)
   pub first : work.first_renewed ≡ length v.renewed
 
@@ -299,7 +299,7 @@ module _ (v w : PassView) (seats : List Seat) (work : Work) (view : v ≡ w) (l 
   -- after all nodes were found
   told : record v {
     seats = seats;
-    dropped = v.dropped ++ answered_in (now v) v.front.changes.gone;
+    dropped = v.dropped ++ answered_in (now_in v) v.front.changes.gone;
     moved = v.moved ++ (v.front.changes.came ++ work.front.turned);
     front = record { changes = v.front.changes; turned = work.front.turned; bare = v.front.bare };
     first_renewed = length v.renewed;
@@ -318,9 +318,9 @@ module _ (v w : PassView) (seats : List Seat) (work : Work) (view : v ≡ w) (l 
 
   pub turned_found : (beside readers : List ℕ) → IsPass v → v.state ≡ Failed → KeepsSeats v.seats seats
       → IsFound v.forest v.seats v.reads v.front.changes work.front.turned beside readers
-      → (t : ℕ) → IsFresh w t → HasFound (with_work v seats work) t beside readers
+      → (t : ℕ) → WasJustMade w t → HasFound (with_work v seats work) t beside readers
   turned_found beside readers h failed keeps f t fresh =
-      let x : IsFresh v t = subst (λ (z : PassView). IsFresh z t) (sym view) fresh in
+      let x : WasJustMade v t = subst (λ (z : PassView). WasJustMade z t) (sym view) fresh in
       subst (λ (z : PassView). HasFound z t beside readers) told (has_found v t h failed x seats work.front.turned beside readers same keeps f)
 
   -- only seats and lists change
@@ -347,7 +347,7 @@ module _ (v w : PassView) (seats : List Seat) (work : Work) (view : v ≡ w) (l 
           same = λ k a s. s;
           gone = λ k a s. inr s;
         };
-        more = λ k i. subst (In k) (sym e.dropped) (In_left k v.dropped (answered_in (now v) v.front.changes.gone) i);
+        more = λ k i. subst (In k) (sym e.dropped) (In_left k v.dropped (answered_in (now_in v) v.front.changes.gone) i);
       })
 
 -- all that is said of a value that came

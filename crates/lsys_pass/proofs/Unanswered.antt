@@ -5,19 +5,20 @@ use Rattle.std.specs.Option.{option_and_then}
 use Rattle.std.proofs.Math.Path.{fun_ext}
 use Rattle.std.proofs.lemmas.List.{take_all, drop_all}
 use Rattle.std.proofs.lemmas.Option.{none-some, same_Some}
+use Rattle.lsys_spec.specs.Rows.{In, AreApart}
 use Rattle.lsys_spec.specs.Draws.{number_base}
 use Rattle.lsys_level.specs.Spots.{Spotted}
 use Rattle.lsys_change.specs.Nodes.{Kins, AreOnce, Extends}
 use Rattle.lsys_match.specs.Kept.{Kept}
 use Rattle.lsys_forest.specs.Nodes.{Node, Nodes, with_answer}
 use Rattle.lsys_forest.specs.Answers.{answer_of}
-use Rattle.lsys_forest.specs.Groves.{Grove, In, AreApart, AreSound, IsSound, now_of, rest_of, changes_in}
+use Rattle.lsys_forest.specs.Groves.{Grove, AreSound, IsRooted, now_of, rest_of, changes_in}
 use Rattle.lsys_forest.specs.Rows.{kids_in, spot_in, level_nodes, level_spots}
 use Rattle.lsys_forest.proofs.RowLemmas.{In_append, In_left, In_right, apart_append, level_depth}
 use Rattle.lsys_forest.proofs.SoundLemmas.{AreSound-now}
 use Rattle.lsys_kept.specs.Lineages.{kin_of, kins}
 use Rattle.lsys_kept.specs.Levels.{AnsweredAt, HaveLevels, answer_at}
-use Rattle.lsys_kept.specs.Meant.{meant, meant_to}
+use Rattle.lsys_kept.specs.Meant.{levels_meant, meant_to}
 use Rattle.lsys_kept.specs.declared.seat.Seat.{Seat}
 use Rattle.lsys_kept.specs.Neighbours.{neighbours_on}
 use Rattle.lsys_kept.specs.Seats.{is_marked, SameSeats, KeepsSeats}
@@ -25,7 +26,7 @@ use Rattle.lsys_kept.specs.Standings.{seen_at}
 use Rattle.lsys_candidates.specs.Repairs.{SteppingSpots, were}
 use Rattle.lsys_candidates.specs.Candidates.{AsksOn}
 use Rattle.lsys_candidates.proofs.Spots.{is_in}
-use Rattle.lsys_front.specs.Fronts.{Differences, IsFront}
+use Rattle.lsys_front.specs.Fronts.{Differences, IsLevelFront}
 use Rattle.lsys_front.specs.Losses.{LosesOnly}
 use Rattle.lsys_front.specs.Asks.{Loses}
 use Rattle.lsys_pass.specs.declared.state.PassState.TheVariants.{Failed}
@@ -104,7 +105,7 @@ after_failed v g d dropped seats pending h state sound only clear same keeps = s
 
 -- what became of the forest, and of two lists
 pub record LosesAt (v : PassView) (t : ℕ) (others : List ℕ) (g : Grove Kept) (bare dropped : List ℕ) : Type 0 where
-  pub loses : Loses v.next t (P.now v) (now_of g) (v.front.changes.changed ++ others) v.front.bare bare v.dropped dropped
+  pub loses : Loses v.next t (P.now_in v) (now_of g) (v.front.changes.changed ++ others) v.front.bare bare v.dropped dropped
   pub only : LosesOnly v.forest g
   pub sound : AreSound g.root (changes_in g) (now_of g)
 
@@ -116,55 +117,55 @@ module _ (v : PassView) (t : ℕ) (h : IsPass v) (beside readers : List ℕ) (f 
   pub lost_on : (k : ℕ) → In k lost → In k (row_of v t)
   lost_on k i = lost_row v t h beside readers f others o k ((l.loses.are k).0 i).0
 
-  lost_had : (k : ℕ) → In k lost → answer_at (P.now v) k ≡ None → ⊥
-  lost_had k i e = none_kept (answer_at (P.now v) k) e ((l.loses.are k).0 i).1.keeps
+  lost_had : (k : ℕ) → In k lost → answer_at (P.now_in v) k ≡ None → ⊥
+  lost_had k i e = none_kept (answer_at (P.now_in v) k) e ((l.loses.are k).0 i).1.keeps
 
   pub answer_lost : (k : ℕ) → In k lost → answer_at (now_of g) k ≡ None
-  answer_lost k i = ap (option_and_then answer_of) (l.loses.here k i) ∙ bare_answer (P.now v k)
+  answer_lost k i = ap (option_and_then answer_of) (l.loses.here k i) ∙ bare_answer (P.now_in v k)
 
-  pub answer_kept : (k : ℕ) → (In k lost → ⊥) → answer_at (now_of g) k ≡ answer_at (P.now v) k
+  pub answer_kept : (k : ℕ) → (In k lost → ⊥) → answer_at (now_of g) k ≡ answer_at (P.now_in v) k
   answer_kept k n = ap (option_and_then answer_of) (l.loses.others k n)
 
-  pub answer_back : (k : ℕ) (a : Kept) → answer_at (now_of g) k ≡ Some a → answer_at (P.now v) k ≡ Some a
+  pub answer_back : (k : ℕ) (a : Kept) → answer_at (now_of g) k ≡ Some a → answer_at (P.now_in v) k ≡ Some a
   answer_back k a e = elim (is_in k lost) [
     | inl i ↦ absurd (none-some a (sym (answer_lost k i) ∙ e))
     | inr n ↦ sym (answer_kept k n) ∙ e
   ]
 
-  pub alike : AreAlike (P.now v) (now_of g)
+  pub alike : AreAlike (P.now_in v) (now_of g)
   alike = record {
-    kids = fun_ext (λ k. elim (is_in k lost) [ inl i ↦ ap kids_in (l.loses.here k i) ∙ kids_bare (P.now v k) | inr n ↦ ap kids_in (l.loses.others k n) ]);
-    spots = fun_ext (λ k. elim (is_in k lost) [ inl i ↦ ap (spot_in k) (l.loses.here k i) ∙ spot_bare k (P.now v k) | inr n ↦ ap (spot_in k) (l.loses.others k n) ]);
-    kins = fun_ext (λ k. elim (is_in k lost) [ inl i ↦ ap (option_map kin_of) (l.loses.here k i) ∙ kin_bare (P.now v k) | inr n ↦ ap (option_map kin_of) (l.loses.others k n) ]);
+    kids = fun_ext (λ k. elim (is_in k lost) [ inl i ↦ ap kids_in (l.loses.here k i) ∙ kids_bare (P.now_in v k) | inr n ↦ ap kids_in (l.loses.others k n) ]);
+    spots = fun_ext (λ k. elim (is_in k lost) [ inl i ↦ ap (spot_in k) (l.loses.here k i) ∙ spot_bare k (P.now_in v k) | inr n ↦ ap (spot_in k) (l.loses.others k n) ]);
+    kins = fun_ext (λ k. elim (is_in k lost) [ inl i ↦ ap (option_map kin_of) (l.loses.here k i) ∙ kin_bare (P.now_in v k) | inr n ↦ ap (option_map kin_of) (l.loses.others k n) ]);
   }
 
-  node_from : (k : ℕ) (n : Node Kept) → now_of g k ≡ Some n → IsFrom (P.now v) k n
+  node_from : (k : ℕ) (n : Node Kept) → now_of g k ≡ Some n → IsFrom (P.now_in v) k n
   node_from k n e = elim (is_in k lost) [
-    | inl i ↦ before_bare (P.now v) k n (sym (l.loses.here k i) ∙ e)
+    | inl i ↦ before_bare (P.now_in v) k n (sym (l.loses.here k i) ∙ e)
     | inr out ↦ record { node = n; is = sym (l.loses.others k out) ∙ e; kids = refl; depth = refl; count = refl }
   ]
 
   pub nodes_same : (u : ℕ) → level_nodes (now_of g) g.root u ≡ row_of v u
-  nodes_same u = ap (λ r. level_nodes (now_of g) r u) l.only.root ∙ nodes_alike (P.now v) (now_of g) v.forest.root alike u
+  nodes_same u = ap (λ r. level_nodes (now_of g) r u) l.only.root ∙ nodes_alike (P.now_in v) (now_of g) v.forest.root alike u
 
-  spots_same : (u : ℕ) → level_spots (now_of g) g.root u ≡ level_spots (P.now v) v.forest.root u
-  spots_same u = ap (λ r. level_spots (now_of g) r u) l.only.root ∙ spots_alike (P.now v) (now_of g) v.forest.root alike u
+  spots_same : (u : ℕ) → level_spots (now_of g) g.root u ≡ level_spots (P.now_in v) v.forest.root u
+  spots_same u = ap (λ r. level_spots (now_of g) r u) l.only.root ∙ spots_alike (P.now_in v) (now_of g) v.forest.root alike u
 
-  pub sound_after : IsSound g.root (changes_in g) (now_of g)
+  pub sound_after : IsRooted g.root (changes_in g) (now_of g)
   sound_after = AreSound-now g.root (changes_in g) (now_of g) l.sound
 
-  pub seen_same : (k : ℕ) → seen_at (now_of g) k ≡ seen_at (P.now v) k
+  pub seen_same : (k : ℕ) → seen_at (now_of g) k ≡ seen_at (P.now_in v) k
   seen_same k = ap (λ (x : ℕ → Spotted). (x k).seen) alike.spots
 
-  were_same : (u : ℕ) → level_nodes (rest_of g) g.root u ≡ level_nodes (P.was v) v.forest.root u
-  were_same u = ap (λ (m : Nodes Kept). level_nodes m g.root u) l.only.rest ∙ ap (λ r. level_nodes (P.was v) r u) l.only.root
+  were_same : (u : ℕ) → level_nodes (rest_of g) g.root u ≡ level_nodes (P.rest_in v) v.forest.root u
+  were_same u = ap (λ (m : Nodes Kept). level_nodes m g.root u) l.only.rest ∙ ap (λ r. level_nodes (P.rest_in v) r u) l.only.root
 
-  was_same : (k : ℕ) → answer_at (rest_of g) k ≡ answer_at (P.was v) k
+  was_same : (k : ℕ) → answer_at (rest_of g) k ≡ answer_at (P.rest_in v) k
   was_same k = ap (λ (m : Nodes Kept). answer_at m k) l.only.rest
 
   -- what holds of the last rest
-  at_rest : (Q : Nodes Kept → ℕ → Type 0) → Q (P.was v) v.forest.root → Q (rest_of g) g.root
-  at_rest Q x = subst (λ (m : Nodes Kept). Q m g.root) (sym l.only.rest) (subst (Q (P.was v)) (sym l.only.root) x)
+  at_rest : (Q : Nodes Kept → ℕ → Type 0) → Q (P.rest_in v) v.forest.root → Q (rest_of g) g.root
+  at_rest Q x = subst (λ (m : Nodes Kept). Q m g.root) (sym l.only.rest) (subst (Q (P.rest_in v)) (sym l.only.root) x)
 
   pub spots_now : SteppingSpots (record (repair_of v t) { forest = g })
   spots_now = record {
@@ -173,22 +174,22 @@ module _ (v : PassView) (t : ℕ) (h : IsPass v) (beside readers : List ℕ) (f 
     new_spelled = f.made.spots.new_spelled;
     old_is = f.made.spots.old_is;
     new_is = f.made.spots.new_is;
-    old_levels = at_rest (λ m r. HaveLevels m r v.system.seed (meant v.system v.limit)) f.made.spots.old_levels;
+    old_levels = at_rest (λ m r. HaveLevels m r v.system.seed (levels_meant v.system v.limit)) f.made.spots.old_levels;
     new_levels =
-        have_alike (P.now v) (now_of g) g.root v.next.seed (meant_to v.next v.limit t) alike
-        (subst (λ r. HaveLevels (P.now v) r v.next.seed (meant_to v.next v.limit t)) (sym l.only.root) f.made.spots.new_levels);
+        have_alike (P.now_in v) (now_of g) g.root v.next.seed (meant_to v.next v.limit t) alike
+        (subst (λ r. HaveLevels (P.now_in v) r v.next.seed (meant_to v.next v.limit t)) (sym l.only.root) f.made.spots.new_levels);
     once = at_rest (λ m r. AreOnce (kins m) r) f.made.spots.once;
-    once_now = subst (λ (x : Kins). AreOnce x g.root) (sym alike.kins) (subst (AreOnce (kins (P.now v))) (sym l.only.root) f.made.spots.once_now);
-    stay = subst (λ (x : Kins). Extends (kins (rest_of g)) x) (sym alike.kins) (at_rest (λ m r. Extends (kins m) (kins (P.now v))) f.made.spots.stay);
+    once_now = subst (λ (x : Kins). AreOnce x g.root) (sym alike.kins) (subst (AreOnce (kins (P.now_in v))) (sym l.only.root) f.made.spots.once_now);
+    stay = subst (λ (x : Kins). Extends (kins (rest_of g)) x) (sym alike.kins) (at_rest (λ m r. Extends (kins m) (kins (P.now_in v))) f.made.spots.stay);
     answered = λ p k less e. at_rest (λ m r. AnsweredAt v.system t m r v.store p k) (f.made.spots.answered p k less (ap (λ (xs : List ℕ). slice_get xs p) (sym (were_same t)) ∙ e));
   }
 
   -- 3. questions and answers on the level
 
-  pub asks_back : (k : ℕ) → AsksOn v.next t (now_of g) k → AsksOn v.next t (P.now v) k
+  pub asks_back : (k : ℕ) → AsksOn v.next t (now_of g) k → AsksOn v.next t (P.now_in v) k
   asks_back k a = record { own = a.own; is = sym (seen_same k) ∙ a.is; rules = a.rules }
 
-  pub asks_on : (k : ℕ) → AsksOn v.next t (P.now v) k → AsksOn v.next t (now_of g) k
+  pub asks_on : (k : ℕ) → AsksOn v.next t (P.now_in v) k → AsksOn v.next t (now_of g) k
   asks_on k a = record { own = a.own; is = seen_same k ∙ a.is; rules = a.rules }
 
   -- one with a question keeps the answer that it had
@@ -200,12 +201,12 @@ module _ (v : PassView) (t : ℕ) (h : IsPass v) (beside readers : List ℕ) (f 
 
   -- and one without a question none
   pub unasked_bare : (k : ℕ) → In k (row_of v t) → (AsksOn v.next t (now_of g) k → ⊥) → answer_at (now_of g) k ≡ None
-  unasked_bare k on none = by (answer_at (P.now v) k) refl
+  unasked_bare k on none = by (answer_at (P.now_in v) k) refl
     where
-      by : (x : Option Kept) → answer_at (P.now v) k ≡ x → answer_at (now_of g) k ≡ None
+      by : (x : Option Kept) → answer_at (P.now_in v) k ≡ x → answer_at (now_of g) k ≡ None
       by None e = elim (is_in k lost) [ inl i ↦ answer_lost k i | inr n ↦ answer_kept k n ∙ e ]
       by (Some a) e =
-          let free : AsksOn v.next t (P.now v) k → ⊥ = λ q. none (asks_on k q) in
+          let free : AsksOn v.next t (P.now_in v) k → ⊥ = λ q. none (asks_on k q) in
           answer_lost k ((l.loses.are k).1 (must_lose v t h beside readers f others o k a on free e, record { keeps = subst IsSome (sym e) refl; unasked = free }))
 
   -- 4. the tree
@@ -226,12 +227,12 @@ module _ (v : PassView) (t : ℕ) (h : IsPass v) (beside readers : List ℕ) (f 
     none_deeper = λ k n e w. (let x = node_from k n e in let d = f.made.deeper.none_deeper k x.node x.is (sym (was_node k) ∙ w) in let s = x.depth in omega (arith, d, s));
   }
     where
-      was_node : (k : ℕ) → rest_of g k ≡ P.was v k
+      was_node : (k : ℕ) → rest_of g k ≡ P.rest_in v k
       was_node k = ap (λ (m : Nodes Kept). m k) l.only.rest
 
-      not_deeper : (k : ℕ) (n : Node Kept) → P.now v k ≡ Some n → t + 1 < n.depth → In k lost → ⊥
+      not_deeper : (k : ℕ) (n : Node Kept) → P.now_in v k ≡ Some n → t + 1 < n.depth → In k lost → ⊥
       not_deeper k n e less i =
-          let d = level_depth v.forest.root (changes_in v.forest) (P.now v) (sound_now v t h beside readers f) t k (lost_on k i) in
+          let d = level_depth v.forest.root (changes_in v.forest) (P.now_in v) (sound_now v t h beside readers f) t k (lost_on k i) in
           let same = ap (λ (x : Node Kept). x.depth) (same_Some d.0 n (sym d.1 ∙ e)) in
           let deep = d.2 in
           omega (arith, same, deep, less)
@@ -241,8 +242,8 @@ module _ (v : PassView) (t : ℕ) (h : IsPass v) (beside readers : List ℕ) (f 
   -- no node that lost its answer here is of a level above
   not_above : (k u : ℕ) → u < t → In k (row_of v u) → In k lost → ⊥
   not_above k u less on i =
-      let a = level_depth v.forest.root (changes_in v.forest) (P.now v) (sound_now v t h beside readers f) u k on in
-      let b = level_depth v.forest.root (changes_in v.forest) (P.now v) (sound_now v t h beside readers f) t k (lost_on k i) in
+      let a = level_depth v.forest.root (changes_in v.forest) (P.now_in v) (sound_now v t h beside readers f) u k on in
+      let b = level_depth v.forest.root (changes_in v.forest) (P.now_in v) (sound_now v t h beside readers f) t k (lost_on k i) in
       let same = ap (λ (x : Node Kept). x.depth) (same_Some a.0 b.0 (sym a.1 ∙ b.1)) in
       let one = a.2 in
       let two = b.2 in
@@ -261,7 +262,7 @@ module _ (v : PassView) (t : ℕ) (h : IsPass v) (beside readers : List ℕ) (f 
   in_bare k i = In_append v.front.bare lost k (subst (In k) l.loses.bare_is i)
 
   -- what is dropped and on the level had no answer before
-  pub dropped_before : (k u : ℕ) → In k v.dropped → u < t + 1 → In k (row_of v u) → answer_at (P.now v) k ≡ None
+  pub dropped_before : (k u : ℕ) → In k v.dropped → u < t + 1 → In k (row_of v u) → answer_at (P.now_in v) k ≡ None
   dropped_before k u i less on = f.lists.dropped_none k u i less on
 
   -- those that are dropped stood on the level or above it
@@ -272,9 +273,9 @@ module _ (v : PassView) (t : ℕ) (h : IsPass v) (beside readers : List ℕ) (f 
   ]
     where
       lost_was : (k : ℕ) → In k lost → In k (were (repair_of v t))
-      lost_was k j = by (answer_at (P.now v) k) refl
+      lost_was k j = by (answer_at (P.now_in v) k) refl
         where
-          by : (x : Option Kept) → answer_at (P.now v) k ≡ x → In k (were (repair_of v t))
+          by : (x : Option Kept) → answer_at (P.now_in v) k ≡ x → In k (were (repair_of v t))
           by None e = absurd (lost_had k j e)
           by (Some a) e = (answer_was_on v t h beside readers f k a (lost_on k j) (sym (f.made.answers k (lost_on k j)) ∙ e)).on
 
@@ -305,7 +306,7 @@ module _ (v : PassView) (t : ℕ) (h : IsPass v) (beside readers : List ℕ) (f 
       ];
       seated = λ u p k less e. elim (f.lists.seated u p k less (ap (λ (xs : List ℕ). slice_get xs p) (sym (nodes_same u)) ∙ e)) [
         | inl m ↦ inl m
-        | inr s ↦ inr (same k ∙ s ∙ sym (ap (λ (xs : List ℕ). neighbours_on (now_of g) xs p) (nodes_same u) ∙ neighbours_alike (P.now v) (now_of g) alike (row_of v u) p))
+        | inr s ↦ inr (same k ∙ s ∙ sym (ap (λ (xs : List ℕ). neighbours_on (now_of g) xs p) (nodes_same u) ∙ neighbours_alike (P.now_in v) (now_of g) alike (row_of v u) p))
       ];
       moved_are = λ k i. (let w = f.lists.moved_are k i in (w.0, w.1, subst (In k) (sym (nodes_same w.0)) w.2));
       room = λ k i. keeps k (f.lists.room k i);
@@ -339,7 +340,7 @@ module _ (v : PassView) (t : ℕ) (h : IsPass v) (beside readers : List ℕ) (f 
 
   -- 6. what is told of the level
 
-  front_now : IsFront (record (repair_of v t) { forest = g }) v.seats (record v.front { bare = bare })
+  front_now : IsLevelFront (record (repair_of v t) { forest = g }) v.seats (record v.front { bare = bare })
   front_now = front_loses (repair_of v t) g v.store keeps_nodes v.seats v.front bare f.front bare_within bare_all
     where
       keeps_nodes : KeepsNodes (repair_of v t) g
@@ -355,7 +356,7 @@ module _ (v : PassView) (t : ℕ) (h : IsPass v) (beside readers : List ℕ) (f 
       bare_within : (k : ℕ) → In k bare → In k (row_of v t)
       bare_within k i = elim (in_bare k i) [ inl b ↦ f.front.bare_are k b | inr j ↦ lost_on k j ]
 
-      bare_all : (k : ℕ) (a : Kept) → In k (row_of v t) → answer_at (P.was v) k ≡ Some a → answer_at (now_of g) k ≡ None → In k bare
+      bare_all : (k : ℕ) (a : Kept) → In k (row_of v t) → answer_at (P.rest_in v) k ≡ Some a → answer_at (now_of g) k ≡ None → In k bare
       bare_all k a on was none = subst (In k) (sym l.loses.bare_is) (elim (is_in k lost) [
         | inl i ↦ In_right k v.front.bare lost i
         | inr n ↦ In_left k v.front.bare lost (f.front.bare k a on was (sym (answer_kept k n) ∙ none))

@@ -4,31 +4,31 @@ use Rattle.std.specs.Prelude.{nat_lt, option_map, MatchOption}
 use Rattle.std.proofs.lemmas.Bool.Decides.{nat_tests}
 use Rattle.std.proofs.lemmas.List.{length-map, get_or-take}
 use Rattle.std.proofs.lemmas.Option.{none-some, same_Some, slice_get-map, slice_get_within}
-use Rattle.lsys_level.specs.Spots.{Spotted, IsSpot, IsBracketAt, IsMate, level_at, spotted_at}
+use Rattle.lsys_level.specs.Spots.{Spotted, IsSpot, IsBracketAt, IsMate, spots_at, spotted_at}
 use Rattle.lsys_level.specs.Tags.{HasOwnTags}
 use Rattle.lsys_match.specs.Kept.{Kept}
 use Rattle.lsys_forest.specs.Nodes.{Node}
-use Rattle.lsys_forest.specs.Groves.{Grove, IsSound, now_of, changes_in}
+use Rattle.lsys_forest.specs.Groves.{Grove, IsRooted, now_of, changes_in}
 use Rattle.lsys_forest.specs.Rows.{spot_in, level_nodes, complete_levels, level_of_node, place_of_node, IsAtSpot}
 use Rattle.lsys_forest.proofs.RowLemmas.{get_split}
 use Rattle.lsys_forest.proofs.SoundLemmas.{AreSound-now}
 use Rattle.lsys_forest.proofs.ViewLemmas.{node_at, spot_of, told_is, spotted_is, own_tags}
 use Rattle.lsys_kept.proofs.LevelLemmas.{get_index, index_less}
-use Rattle.lsys_pass.specs.Passes.{PassView, now, IsPass}
-use Rattle.lsys_pass.specs.Views.{ForestView, tags_on, place_in, level_in, place_among, view_of}
+use Rattle.lsys_pass.specs.Passes.{PassView, now_in, IsPass}
+use Rattle.lsys_pass.specs.Views.{ForestView, tags_on, tag_place, level_in, place_among, view_of}
 
 -- 1. a tag, and where it stands
 
-found : (tag : ℕ) (xs : List Spotted) → place_in tag xs < length xs → (a : Spotted) × (slice_get xs (place_in tag xs) ≡ Some a) × (a.tag ≡ tag)
+found : (tag : ℕ) (xs : List Spotted) → tag_place tag xs < length xs → (a : Spotted) × (slice_get xs (tag_place tag xs) ≡ Some a) × (a.tag ≡ tag)
 found tag xs h =
     let long = length-map xs (λ (x : Spotted). x.tag) in
-    by (slice_get xs (place_in tag xs)) refl (sym (slice_get-map (λ (x : Spotted). x.tag) xs (place_in tag xs)) ∙ get_index tag (tags_on xs) (omega (arith, h, long)))
+    by (slice_get xs (tag_place tag xs)) refl (sym (slice_get-map (λ (x : Spotted). x.tag) xs (tag_place tag xs)) ∙ get_index tag (tags_on xs) (omega (arith, h, long)))
   where
-    by : (o : Option Spotted) → slice_get xs (place_in tag xs) ≡ o → option_map (λ (x : Spotted). x.tag) o ≡ Some tag → (a : Spotted) × (slice_get xs (place_in tag xs) ≡ Some a) × (a.tag ≡ tag)
+    by : (o : Option Spotted) → slice_get xs (tag_place tag xs) ≡ o → option_map (λ (x : Spotted). x.tag) o ≡ Some tag → (a : Spotted) × (slice_get xs (tag_place tag xs) ≡ Some a) × (a.tag ≡ tag)
     by None e g = absurd (none-some tag g)
     by (Some a) e g = (a, e, same_Some a.tag tag g)
 
-stands_in : (xs : List Spotted) (p : ℕ) (a : Spotted) → slice_get xs p ≡ Some a → place_in a.tag xs < length xs
+stands_in : (xs : List Spotted) (p : ℕ) (a : Spotted) → slice_get xs p ≡ Some a → tag_place a.tag xs < length xs
 stands_in xs p a e =
     let long = length-map xs (λ (x : Spotted). x.tag) in
     let less = index_less a.tag (tags_on xs) p (slice_get-map (λ (x : Spotted). x.tag) xs p ∙ ap (option_map (λ (x : Spotted). x.tag)) e) in
@@ -36,29 +36,29 @@ stands_in xs p a e =
 
 stands_among : (levels : List (List Spotted)) (t p : ℕ) (a : Spotted) → spotted_at levels t p ≡ Some a → IsSpot levels (level_in a.tag levels) (place_among a.tag levels)
 stands_among [] t p a e = absurd (none-some a e)
-stands_among (x ∷ levels) t p a e = by (λ u g. stands_among levels u p a g) (nat_lt (place_in a.tag x) (length x)) refl
+stands_among (x ∷ levels) t p a e = by (λ u g. stands_among levels u p a g) (nat_lt (tag_place a.tag x) (length x)) refl
   where
     at : Bool → ℕ
     at b = cond b 0 (suc (level_in a.tag levels))
 
     Goal : ℕ → Type 0
-    Goal u = place_in a.tag (level_at (x ∷ levels) u) < length (level_at (x ∷ levels) u)
+    Goal u = tag_place a.tag (spots_at (x ∷ levels) u) < length (spots_at (x ∷ levels) u)
 
     Behind : Type 0
     Behind = IsSpot levels (level_in a.tag levels) (place_among a.tag levels)
 
-    later : ((u : ℕ) → spotted_at levels u p ≡ Some a → Behind) → (u : ℕ) → nat_lt (place_in a.tag x) (length x) ≡ false → spotted_at (x ∷ levels) u p ≡ Some a → Behind
+    later : ((u : ℕ) → spotted_at levels u p ≡ Some a → Behind) → (u : ℕ) → nat_lt (tag_place a.tag x) (length x) ≡ false → spotted_at (x ∷ levels) u p ≡ Some a → Behind
     later rec zero f g = absurd (let l = stands_in x p a g in grind (arith, nat_tests, f, l))
     later rec (suc u) f g = rec u g
 
-    by : ((u : ℕ) → spotted_at levels u p ≡ Some a → Behind) → (b : Bool) → nat_lt (place_in a.tag x) (length x) ≡ b → Goal (at (nat_lt (place_in a.tag x) (length x)))
+    by : ((u : ℕ) → spotted_at levels u p ≡ Some a → Behind) → (b : Bool) → nat_lt (tag_place a.tag x) (length x) ≡ b → Goal (at (nat_lt (tag_place a.tag x) (length x)))
     by rec true f = subst (λ b. Goal (at b)) (sym f) (grind (arith, nat_tests, f))
     by rec false f = subst (λ b. Goal (at b)) (sym f) (later rec t f e)
 
 -- where no tag stands twice, each stands where it is found
 found_at : (levels : List (List Spotted)) (t p : ℕ) (a : Spotted) → HasOwnTags levels → spotted_at levels t p ≡ Some a → (level_in a.tag levels ≡ t) × (place_among a.tag levels ≡ p)
 found_at levels t p a own e =
-    let f = found a.tag (level_at levels (level_in a.tag levels)) (stands_among levels t p a e) in
+    let f = found a.tag (spots_at levels (level_in a.tag levels)) (stands_among levels t p a e) in
     own.apart (level_in a.tag levels) t (place_among a.tag levels) p f.0 a f.1 e f.2
 
 pub spot_told : (levels : List (List Spotted)) (t p : ℕ) → IsSpot levels t p → t < length levels
@@ -76,12 +76,12 @@ taken (suc n) (x ∷ xs) (suc t) h = let r = taken n xs t (omega (arith, h)) in 
 
 -- these are so many levels of it, and its nodes hang together
 pub record Shows (f : Grove Kept) (n : ℕ) (levels : List (List Spotted)) : Type 0 where
-  pub sound : IsSound f.root (changes_in f) (now_of f)
+  pub sound : IsRooted f.root (changes_in f) (now_of f)
   pub are : levels ≡ take n (complete_levels f)
 
 pub shows : (v : PassView) (w : ForestView) (f : Grove Kept) → IsPass v → view_of v ≡ w → f ≡ v.forest → Shows f (v.system.depth + 1) w.levels
 shows v w f h e same = record {
-  sound = subst (λ (g : Grove Kept). IsSound g.root (changes_in g) (now_of g)) (sym same) (AreSound-now v.forest.root (changes_in v.forest) (now v) h.stored.sound);
+  sound = subst (λ (g : Grove Kept). IsRooted g.root (changes_in g) (now_of g)) (sym same) (AreSound-now v.forest.root (changes_in v.forest) (now_in v) h.stored.sound);
   are = ap (λ (w : ForestView). w.levels) (sym e) ∙ ap (λ (g : Grove Kept). take (v.system.depth + 1) (complete_levels g)) (sym same);
 }
 
@@ -92,11 +92,11 @@ module _ (f : Grove Kept) (n : ℕ) (levels : List (List Spotted)) (h : Shows f 
   pub below : (t : ℕ) → t < length levels → (t < n) × (t < length all)
   below t l = let e = ap (length {A = List Spotted}) h.are in taken n all t (omega (arith, l, e))
 
-  pub row_is : (t : ℕ) → t < n → level_at levels t ≡ level_at all t
-  row_is t l = ap (λ (xs : List (List Spotted)). level_at xs t) h.are ∙ get_or-take n all t [] l
+  pub row_is : (t : ℕ) → t < n → spots_at levels t ≡ spots_at all t
+  row_is t l = ap (λ (xs : List (List Spotted)). spots_at xs t) h.are ∙ get_or-take n all t [] l
 
   pub there : (t p : ℕ) (a : Spotted) → spotted_at levels t p ≡ Some a → spotted_at all t p ≡ Some a
-  there t p a e = ap (λ (xs : List Spotted). slice_get xs p) (sym (row_is t (below t (spot_told levels t p (slice_get_within (level_at levels t) p a e))).0)) ∙ e
+  there t p a e = ap (λ (xs : List Spotted). slice_get xs p) (sym (row_is t (below t (spot_told levels t p (slice_get_within (spots_at levels t) p a e))).0)) ∙ e
 
   pub own : HasOwnTags levels
   own = let o = own_tags f (changes_in f) h.sound in record { apart = λ t u p q a b i j same. o.apart t u p q a b (there t p a i) (there u q b j) same }
@@ -128,7 +128,7 @@ module _ (f : Grove Kept) (n : ℕ) (levels : List (List Spotted)) (h : Shows f 
       let t = level_in k levels in
       let p = place_among k levels in
       let b = below t (spot_told levels t p spot) in
-      let a = found k (level_at levels t) spot in
+      let a = found k (spots_at levels t) spot in
       let mine = node_there t p a.0 b.1 (there t p a.0 a.1) ∙ ap Some a.2 in
       let s = get_split (level_nodes (now_of f) f.root t) p k mine in
       let o = spot_of f (changes_in f) h.sound t k s.before s.after s.whole in
@@ -149,15 +149,15 @@ module _ (f : Grove Kept) (n : ℕ) (levels : List (List Spotted)) (h : Shows f 
   -- 3. the calls
 
   pub first_told : (t : ℕ) (r : Option ℕ) → t < length levels
-      → MatchOption r (length (level_at all t) ≡ 0) (λ s. (level_of_node f s ≡ t) × (place_of_node f s ≡ 0) × (0 < length (level_at all t)))
-      → MatchOption r (length (level_at levels t) ≡ 0) (λ s. (level_in s levels ≡ t) × (place_among s levels ≡ 0) × (0 < length (level_at levels t)))
+      → MatchOption r (length (spots_at all t) ≡ 0) (λ s. (level_of_node f s ≡ t) × (place_of_node f s ≡ 0) × (0 < length (spots_at all t)))
+      → MatchOption r (length (spots_at levels t) ≡ 0) (λ s. (level_in s levels ≡ t) × (place_among s levels ≡ 0) × (0 < length (spots_at levels t)))
   first_told t r l e = by r e
     where
-      row : level_at levels t ≡ level_at all t
+      row : spots_at levels t ≡ spots_at all t
       row = row_is t (below t l).0
 
-      by : (r : Option ℕ) → MatchOption r (length (level_at all t) ≡ 0) (λ s. (level_of_node f s ≡ t) × (place_of_node f s ≡ 0) × (0 < length (level_at all t)))
-          → MatchOption r (length (level_at levels t) ≡ 0) (λ s. (level_in s levels ≡ t) × (place_among s levels ≡ 0) × (0 < length (level_at levels t)))
+      by : (r : Option ℕ) → MatchOption r (length (spots_at all t) ≡ 0) (λ s. (level_of_node f s ≡ t) × (place_of_node f s ≡ 0) × (0 < length (spots_at all t)))
+          → MatchOption r (length (spots_at levels t) ≡ 0) (λ s. (level_in s levels ≡ t) × (place_among s levels ≡ 0) × (0 < length (spots_at levels t)))
       by None e = ap length row ∙ e
       by (Some s) e =
           let spot : IsAtSpot f s = subst (λ u. IsSpot all u (place_of_node f s)) (sym e.0) (subst (IsSpot all t) (sym e.1) e.2) in
@@ -168,14 +168,14 @@ module _ (f : Grove Kept) (n : ℕ) (levels : List (List Spotted)) (h : Shows f 
     at : IsHere k
     at = here k spot
 
-    row_here : level_at levels (level_in k levels) ≡ level_at all (level_of_node f k)
-    row_here = ap (level_at levels) (sym at.level) ∙ row_is (level_of_node f k) at.within
+    row_here : spots_at levels (level_in k levels) ≡ spots_at all (level_of_node f k)
+    row_here = ap (spots_at levels) (sym at.level) ∙ row_is (level_of_node f k) at.within
 
     pub spotted_here : spotted_at all (level_of_node f k) (place_of_node f k) ≡ spotted_at levels (level_in k levels) (place_among k levels)
-    spotted_here = ap (λ (x : List Spotted). slice_get x (place_of_node f k)) (sym row_here) ∙ ap (slice_get (level_at levels (level_in k levels))) at.place
+    spotted_here = ap (λ (x : List Spotted). slice_get x (place_of_node f k)) (sym row_here) ∙ ap (slice_get (spots_at levels (level_in k levels))) at.place
 
     -- another node of its level
-    beside : (s : ℕ) → level_of_node f s ≡ level_of_node f k → place_of_node f s < length (level_at all (level_of_node f k)) → (level_in s levels ≡ level_in k levels) × (place_among s levels ≡ place_of_node f s)
+    beside : (s : ℕ) → level_of_node f s ≡ level_of_node f k → place_of_node f s < length (spots_at all (level_of_node f k)) → (level_in s levels ≡ level_in k levels) × (place_among s levels ≡ place_of_node f s)
     beside s e l =
         let g = found_here s (subst (λ u. IsSpot all u (place_of_node f s)) (sym e) l) (subst (λ u. u < n) (sym e) at.within) in
         (g.0 ∙ e ∙ at.level, g.1)
@@ -189,22 +189,22 @@ module _ (f : Grove Kept) (n : ℕ) (levels : List (List Spotted)) (h : Shows f 
         let g = beside s e.0 (omega (arith, b, c)) in
         (g.0, ap (λ p. p + 1) g.1 ∙ e.1 ∙ at.place)
 
-    pub right_told : (r : Option ℕ) → MatchOption r (place_of_node f k + 1 ≡ length (level_at all (level_of_node f k))) (λ s. (level_of_node f s ≡ level_of_node f k) × (place_of_node f s ≡ place_of_node f k + 1) × (place_of_node f s < length (level_at all (level_of_node f k))))
-        → MatchOption r (place_among k levels + 1 ≡ length (level_at levels (level_in k levels))) (λ s. (level_in s levels ≡ level_in k levels) × (place_among s levels ≡ place_among k levels + 1) × (place_among s levels < length (level_at levels (level_in k levels))))
+    pub right_told : (r : Option ℕ) → MatchOption r (place_of_node f k + 1 ≡ length (spots_at all (level_of_node f k))) (λ s. (level_of_node f s ≡ level_of_node f k) × (place_of_node f s ≡ place_of_node f k + 1) × (place_of_node f s < length (spots_at all (level_of_node f k))))
+        → MatchOption r (place_among k levels + 1 ≡ length (spots_at levels (level_in k levels))) (λ s. (level_in s levels ≡ level_in k levels) × (place_among s levels ≡ place_among k levels + 1) × (place_among s levels < length (spots_at levels (level_in k levels))))
     right_told None e = ap (λ p. p + 1) (sym at.place) ∙ e ∙ ap length (sym row_here)
     right_told (Some s) e =
         let g = beside s e.0 e.2 in
-        (g.0, g.1 ∙ e.1 ∙ ap (λ p. p + 1) at.place, subst (λ p. p < length (level_at levels (level_in k levels))) (sym g.1) (subst (λ (x : List Spotted). place_of_node f s < length x) (sym row_here) e.2))
+        (g.0, g.1 ∙ e.1 ∙ ap (λ p. p + 1) at.place, subst (λ p. p < length (spots_at levels (level_in k levels))) (sym g.1) (subst (λ (x : List Spotted). place_of_node f s < length x) (sym row_here) e.2))
 
-    pub bracket_there : IsBracketAt (level_at levels (level_in k levels)) (place_among k levels) → IsBracketAt (level_at all (level_of_node f k)) (place_of_node f k)
-    bracket_there b = subst (IsBracketAt (level_at all (level_of_node f k))) (sym at.place) (subst (λ (x : List Spotted). IsBracketAt x (place_among k levels)) row_here b)
+    pub bracket_there : IsBracketAt (spots_at levels (level_in k levels)) (place_among k levels) → IsBracketAt (spots_at all (level_of_node f k)) (place_of_node f k)
+    bracket_there b = subst (IsBracketAt (spots_at all (level_of_node f k))) (sym at.place) (subst (λ (x : List Spotted). IsBracketAt x (place_among k levels)) row_here b)
 
-    module _ (s : ℕ) (level : level_of_node f s ≡ level_of_node f k) (mate : IsMate (level_at all (level_of_node f k)) (place_of_node f k) (place_of_node f s)) where
+    module _ (s : ℕ) (level : level_of_node f s ≡ level_of_node f k) (mate : IsMate (spots_at all (level_of_node f k)) (place_of_node f k) (place_of_node f s)) where
       pub mate_level : level_in s levels ≡ level_in k levels
       mate_level = (beside s level mate.within).0
 
-      pub mate_told : IsMate (level_at levels (level_in k levels)) (place_among k levels) (place_among s levels)
+      pub mate_told : IsMate (spots_at levels (level_in k levels)) (place_among k levels) (place_among s levels)
       mate_told =
-          subst (IsMate (level_at levels (level_in k levels)) (place_among k levels)) (sym (beside s level mate.within).1)
-          (subst (λ p. IsMate (level_at levels (level_in k levels)) p (place_of_node f s)) at.place
+          subst (IsMate (spots_at levels (level_in k levels)) (place_among k levels)) (sym (beside s level mate.within).1)
+          (subst (λ p. IsMate (spots_at levels (level_in k levels)) p (place_of_node f s)) at.place
           (subst (λ (x : List Spotted). IsMate x (place_of_node f k) (place_of_node f s)) (sym row_here) mate))

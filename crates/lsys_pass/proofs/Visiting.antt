@@ -5,8 +5,9 @@ use Rattle.std.proofs.lemmas.Bool.{false_from_ne_true}
 use Rattle.std.proofs.lemmas.List.{length-append, length-map}
 use Rattle.std.proofs.lemmas.List.Sums.{sum_by-cons}
 use Rattle.std.proofs.lemmas.Nat.{mul-le}
+use Rattle.lsys_spec.specs.Rows.{In, AreApart}
 use Rattle.lsys_spec.specs.Systems.{System, WellSpelled}
-use Rattle.lsys_spec.specs.Levels.{Symbol, Module}
+use Rattle.lsys_spec.specs.Levels.{LevelSymbol, Module}
 use Rattle.lsys_spec.specs.Meaning.{first_level, last_level, next_level, meaning_to}
 use Rattle.lsys_spec.specs.LevelLaws.{may_differ, candidate_visits}
 use Rattle.lsys_spec.proofs.LevelInduction.{ok_parts, ok_within}
@@ -18,21 +19,21 @@ use Rattle.lsys_change.specs.LevelCounts.{visits_at}
 use Rattle.lsys_change.proofs.Sums.{more_visits}
 use Rattle.lsys_change.proofs.UpTo.{level_count}
 use Rattle.lsys_match.specs.Derivations.{most_read}
-use Rattle.lsys_forest.specs.Groves.{In, AreApart, IsSound, changes_in}
+use Rattle.lsys_forest.specs.Groves.{IsRooted, changes_in}
 use Rattle.lsys_forest.specs.Rows.{depth_in, kids_in, spot_in, level_nodes, level_spots}
 use Rattle.lsys_forest.proofs.LinkLemmas.{levels_above}
 use Rattle.lsys_forest.proofs.RowLemmas.{In_left, In_right, level_apart, level_depth}
 use Rattle.lsys_forest.proofs.WalkLemmas.{In_at}
 use Rattle.lsys_kept.specs.Lineages.{names}
 use Rattle.lsys_kept.specs.Levels.{level_of}
-use Rattle.lsys_kept.specs.Meant.{levels_or_none, meant, meant_to, level_to, IsCandidate}
+use Rattle.lsys_kept.specs.Meant.{levels_or_none, levels_meant, meant_to, level_to, IsCandidate}
 use Rattle.lsys_pass.specs.declared.state.PassState.{PassState}
 use Rattle.lsys_pass.specs.declared.state.PassState.TheVariants.{Rest, Level, Done, Failed}
 use Rattle.lsys_pass.specs.Stages.{IsAtLevel}
-use Rattle.lsys_pass.specs.Passes.{PassView, stage_of, now, HoldsAt, IsPass}
-use Rattle.lsys_pass.specs.Moves.{IsNext, Follows, StepsOver, Moves, MovesOnce, Finishes}
+use Rattle.lsys_pass.specs.Passes.{PassView, stage_of, now_in, HoldsAt, IsPass}
+use Rattle.lsys_pass.specs.Moves.{ArrivesAt, Follows, StepsOver, Moves, MovesOnce, Finishes}
 use Rattle.lsys_pass.specs.Beginnings.{Begun}
-use Rattle.lsys_pass.specs.Fresh.{IsToAsk}
+use Rattle.lsys_pass.specs.Fresh.{IsReadyToAsk}
 use Rattle.lsys_pass.specs.Spent.{read_at, read_without, visits_here, visits_in, spent_visits, AllPending}
 use Rattle.lsys_pass.proofs.Before.{zero_plus}
 use Rattle.lsys_pass.proofs.Settling.{has_in, in_has}
@@ -49,27 +50,27 @@ times_less : (c a b : ℕ) → a ≤ b → c * a ≤ c * b
 times_less c a b h = mul-le c a c b (omega arith) h
 
 -- the nodes of levels, one level after the other
-abbrev along : (ℕ → List ℕ) → ℕ → List (List Symbol) → List ℕ
+abbrev along : (ℕ → List ℕ) → ℕ → List (List LevelSymbol) → List ℕ
 along nodes t [] = []
 along nodes t (x ∷ xs) = nodes t ++ along nodes (t + 1) xs
 
-along_length : (nodes : ℕ → List ℕ) (t : ℕ) (xs : List (List Symbol)) → ((i : ℕ) → i < length xs → length (nodes (t + i)) ≡ length (get_or xs i [])) → length (along nodes t xs) ≡ sum_by length xs
+along_length : (nodes : ℕ → List ℕ) (t : ℕ) (xs : List (List LevelSymbol)) → ((i : ℕ) → i < length xs → length (nodes (t + i)) ≡ length (get_or xs i [])) → length (along nodes t xs) ≡ sum_by length xs
 along_length nodes t [] h = refl
 along_length nodes t (x ∷ xs) h =
     let one : length (nodes t) ≡ length x = ap (λ u. length (nodes u)) (omega arith) ∙ h 0 (omega arith) in
     let r = along_length nodes (t + 1) xs (λ i l. ap (λ u. length (nodes u)) (omega arith) ∙ h (suc i) (omega (arith, l))) in
     let both = length-append (nodes t) (along nodes (t + 1) xs) in
-    let all = sum_by-cons (length {A = Symbol}) x xs in
+    let all = sum_by-cons (length {A = LevelSymbol}) x xs in
     omega (arith, one, r, both, all)
 
-in_along : (nodes : ℕ → List ℕ) (t : ℕ) (xs : List (List Symbol)) (i k : ℕ) → i < length xs → In k (nodes (t + i)) → In k (along nodes t xs)
+in_along : (nodes : ℕ → List ℕ) (t : ℕ) (xs : List (List LevelSymbol)) (i k : ℕ) → i < length xs → In k (nodes (t + i)) → In k (along nodes t xs)
 in_along nodes t [] i k l h = absurd (omega (arith, l))
 in_along nodes t (x ∷ xs) zero k l h = In_left k (nodes t) (along nodes (t + 1) xs) (subst (λ u. In k (nodes u)) (omega arith) h)
 in_along nodes t (x ∷ xs) (suc i) k l h = In_right k (nodes t) (along nodes (t + 1) xs) (in_along nodes (t + 1) xs i k (omega (arith, l)) (subst (λ u. In k (nodes u)) (omega arith) h))
 
 -- 2. one level more
 
-grows : (old new : System) (xs : List (List Symbol)) (limit t : ℕ) → WellSpelled new → meaning_to new limit (suc t) ≡ Ok (meant_to new limit (suc t))
+grows : (old new : System) (xs : List (List LevelSymbol)) (limit t : ℕ) → WellSpelled new → meaning_to new limit (suc t) ≡ Ok (meant_to new limit (suc t))
     → candidate_visits old new xs (meant_to new limit (suc t)) ≡ candidate_visits old new xs (meant_to new limit t) + visits_at old new xs t (level_to new limit t)
 grows old new xs limit t spelled h =
     let before = ok_parts (meaning_to new limit t) _ (meant_to new limit (suc t)) h in
@@ -80,15 +81,15 @@ grows old new xs limit t spelled h =
     ap (candidate_visits old new xs) (sym whole) ∙ more_visits (λ q. length q.trace) old new xs before.0 here.0 t count
     ∙ ap (λ ys. candidate_visits old new xs ys + visits_at old new xs t (get_or ys t [])) (sym same)
 
-none_first : (old new : System) (xs : List (List Symbol)) (limit : ℕ) → meaning_to new limit 0 ≡ Ok (meant_to new limit 0) → candidate_visits old new xs (meant_to new limit 0) ≡ 0
+none_first : (old new : System) (xs : List (List LevelSymbol)) (limit : ℕ) → meaning_to new limit 0 ≡ Ok (meant_to new limit 0) → candidate_visits old new xs (meant_to new limit 0) ≡ 0
 none_first old new xs limit h = ap (candidate_visits old new xs) (sym (ok_within limit 0 (first_level new ∷ []) (meant_to new limit 0) h))
 
 -- 3. what was read, by the systems, the level, and its nodes
 
 abbrev visits_by : System → System → ℕ → ℕ → List ℕ → List ℕ → ℕ
 visits_by old new limit t pending ks =
-    candidate_visits old new (meant old limit) (meant_to new limit t)
-    + read_without (read_at old new (meant old limit) t (level_to new limit t)) pending 0 (level_to new limit t) ks
+    candidate_visits old new (levels_meant old limit) (meant_to new limit t)
+    + read_without (read_at old new (levels_meant old limit) t (level_to new limit t)) pending 0 (level_to new limit t) ks
 
 -- 4. a level
 
@@ -97,22 +98,22 @@ module _ (v : PassView) (t : ℕ) (h : IsPass v) (state : v.state ≡ Level t) w
   here = at v t h state
 
   abbrev rows : ℕ → List ℕ
-  rows u = level_nodes (now v) v.forest.root u
+  rows u = level_nodes (now_in v) v.forest.root u
 
-  abbrev level : List Symbol
+  abbrev level : List LevelSymbol
   level = level_to v.next v.limit t
 
-  abbrev olds : List (List Symbol)
-  olds = meant v.system v.limit
+  abbrev olds : List (List LevelSymbol)
+  olds = levels_meant v.system v.limit
 
-  abbrev ys : List (List Symbol)
+  abbrev ys : List (List LevelSymbol)
   ys = meant_to v.next v.limit t
 
   count : length ys ≡ t + 1
   count = level_count v.next v.limit t ys here.tree.spelled here.tree.is
 
-  long : (u : ℕ) → length (level_of (now v) v.forest.root u) ≡ length (rows u)
-  long u = length-map (level_spots (now v) v.forest.root u) (named (names (now v))) ∙ length-map (rows u) (λ k. spot_in k (now v k))
+  long : (u : ℕ) → length (level_of (now_in v) v.forest.root u) ≡ length (rows u)
+  long u = length-map (level_spots (now_in v) v.forest.root u) (named (names (now_in v))) ∙ length-map (rows u) (λ k. spot_in k (now_in v k))
 
   long_here : length level ≡ length (rows t)
   long_here = ap length (sym (level_is_meant (stage_of v) t here.tree)) ∙ long t
@@ -190,16 +191,16 @@ module _ (v : PassView) (t : ℕ) (h : IsPass v) (state : v.state ≡ Level t) w
   -- 6. a node was asked
 
   module _ (w : PassView) (node : ℕ) (steps : StepsOver v w node) (pending : In node v.pending) where
-    sound : IsSound v.forest.root (changes_in v.forest) (now v)
+    sound : IsRooted v.forest.root (changes_in v.forest) (now_in v)
     sound = sound_now v t h state
 
     -- only a node of the level itself changed
-    rows_stay : level_nodes (now w) w.forest.root t ≡ rows t
+    rows_stay : level_nodes (now_in w) w.forest.root t ≡ rows t
     rows_stay =
-        let d = level_depth v.forest.root (changes_in v.forest) (now v) sound t node (among node pending) in
-        let deep : depth_in (now v node) ≡ t + 1 = ap depth_in d.1 ∙ d.2 in
-        ap (λ r. level_nodes (now w) r t) steps.run.root
-        ∙ sym (levels_above v.forest.root (changes_in v.forest) (now w) (now v) node sound (λ k ne. ap kids_in (sym (steps.nodes k ne))) t (omega (arith, deep)))
+        let d = level_depth v.forest.root (changes_in v.forest) (now_in v) sound t node (among node pending) in
+        let deep : depth_in (now_in v node) ≡ t + 1 = ap depth_in d.1 ∙ d.2 in
+        ap (λ r. level_nodes (now_in w) r t) steps.run.root
+        ∙ sym (levels_above v.forest.root (changes_in v.forest) (now_in w) (now_in v) node sound (λ k ne. ap kids_in (sym (steps.nodes k ne))) t (omega (arith, deep)))
 
     apart_all : AreApart (steps.before ++ node ∷ steps.after)
     apart_all = subst AreApart steps.pending_old here.answers.apart
@@ -218,9 +219,9 @@ module _ (v : PassView) (t : ℕ) (h : IsPass v) (state : v.state ≡ Level t) w
     same_visits : visits_in w w.state ≡ visits_by v.system v.next v.limit t w.pending (rows t)
     same_visits =
         ap (visits_in w) (steps.state ∙ state)
-        ∙ ap (λ s. visits_by s w.next w.limit t w.pending (level_nodes (now w) w.forest.root t)) steps.run.system
-        ∙ ap (λ s. visits_by v.system s w.limit t w.pending (level_nodes (now w) w.forest.root t)) steps.run.next
-        ∙ ap (λ n. visits_by v.system v.next n t w.pending (level_nodes (now w) w.forest.root t)) steps.run.limit
+        ∙ ap (λ s. visits_by s w.next w.limit t w.pending (level_nodes (now_in w) w.forest.root t)) steps.run.system
+        ∙ ap (λ s. visits_by v.system s w.limit t w.pending (level_nodes (now_in w) w.forest.root t)) steps.run.next
+        ∙ ap (λ n. visits_by v.system v.next n t w.pending (level_nodes (now_in w) w.forest.root t)) steps.run.limit
         ∙ ap (visits_by v.system v.next v.limit t w.pending) rows_stay
 
     pub stepped_visits : (has_asked will_ask r q : ℕ) → MovesOnce v node (λ asks reads. (will_ask ≡ has_asked + asks) × (q ≡ r + reads)) → q + spent_visits v ≡ r + spent_visits w
@@ -229,7 +230,7 @@ module _ (v : PassView) (t : ℕ) (h : IsPass v) (state : v.state ≡ Level t) w
         let c = candidate p.0 p.1 in
         let moved = (subst (λ s. Moves v s node (λ asks reads. (will_ask ≡ has_asked + asks) × (q ≡ r + reads))) state moves) p.0 c.line c.own p.1 c.stands in
         let more = one_less (read_at v.system v.next olds t level) v.pending w.pending 0 level (rows t) p.0 node (Module c.line c.own)
-        (level_apart v.forest.root (changes_in v.forest) (now v) sound t) p.1 c.stands (in_has v.pending node pending) left_out others_left in
+        (level_apart v.forest.root (changes_in v.forest) (now_in v) sound t) p.1 c.stands (in_has v.pending node pending) left_out others_left in
         let own = ap (λ z. read_at v.system v.next olds t level z (Module c.line c.own)) (zero_plus p.0) ∙ read_module v.system v.next olds t level p.0 c.line c.own c.rules c.is in
         let was : spent_visits v ≡ visits_in v (Level t) = ap (visits_in v) state in
         let is = same_visits in
@@ -238,55 +239,55 @@ module _ (v : PassView) (t : ℕ) (h : IsPass v) (state : v.state ≡ Level t) w
 
 -- 7. the first level, and the next one
 
-at_level : (v : PassView) (t : ℕ) → IsPass v → v.state ≡ Level t → AllPending v v.state → spent_visits v ≡ candidate_visits v.system v.next (meant v.system v.limit) (meant_to v.next v.limit t)
+at_level : (v : PassView) (t : ℕ) → IsPass v → v.state ≡ Level t → AllPending v v.state → spent_visits v ≡ candidate_visits v.system v.next (levels_meant v.system v.limit) (meant_to v.next v.limit t)
 at_level v t h e all = ap (visits_in v) e ∙ none_read v t h e (subst (AllPending v) e all)
 
-pub visits_first : (v : PassView) (s : PassState) → IsPass v → v.state ≡ s → IsNext v.next 0 s → AllPending v v.state → spent_visits v ≡ 0
+pub visits_first : (v : PassView) (s : PassState) → IsPass v → v.state ≡ s → ArrivesAt v.next 0 s → AllPending v v.state → spent_visits v ≡ 0
 visits_first v (Level u) h e next all =
     let first = subst (λ n. meaning_to v.next v.limit n ≡ Ok (meant_to v.next v.limit n)) next.0 (at v u h e).tree.is in
-    at_level v u h e all ∙ ap (λ n. candidate_visits v.system v.next (meant v.system v.limit) (meant_to v.next v.limit n)) next.0
-    ∙ none_first v.system v.next (meant v.system v.limit) v.limit first
+    at_level v u h e all ∙ ap (λ n. candidate_visits v.system v.next (levels_meant v.system v.limit) (meant_to v.next v.limit n)) next.0
+    ∙ none_first v.system v.next (levels_meant v.system v.limit) v.limit first
 visits_first v Done h e next all =
     let done = subst (HoldsAt (stage_of v)) e h.holds in
     let first = subst (λ n. meaning_to v.next v.limit n ≡ Ok (meant_to v.next v.limit n)) next done.is in
-    ap (visits_in v) e ∙ ap (λ n. candidate_visits v.system v.next (meant v.system v.limit) (meant_to v.next v.limit n)) next
-    ∙ none_first v.system v.next (meant v.system v.limit) v.limit first
+    ap (visits_in v) e ∙ ap (λ n. candidate_visits v.system v.next (levels_meant v.system v.limit) (meant_to v.next v.limit n)) next
+    ∙ none_first v.system v.next (levels_meant v.system v.limit) v.limit first
 visits_first v Rest h e next all = absurd next
 visits_first v Failed h e next all = absurd next
 
 pub begun_visits : (v w : PassView) (s : System) → Begun v w s → IsPass w → AllPending w w.state → spent_visits w ≡ 0
-begun_visits v w s b h all = visits_first w w.state h refl (subst (λ (z : System). IsNext z 0 w.state) (sym b.next) b.state) all
+begun_visits v w s b h all = visits_first w w.state h refl (subst (λ (z : System). ArrivesAt z 0 w.state) (sym b.next) b.state) all
 
 -- what the pass w has read, that stands behind level t
-visits_next : (w : PassView) (s : PassState) (t : ℕ) → IsPass w → w.state ≡ s → IsNext w.next (t + 1) s → AllPending w w.state
-    → spent_visits w ≡ candidate_visits w.system w.next (meant w.system w.limit) (meant_to w.next w.limit t) + visits_at w.system w.next (meant w.system w.limit) t (level_to w.next w.limit t)
+visits_next : (w : PassView) (s : PassState) (t : ℕ) → IsPass w → w.state ≡ s → ArrivesAt w.next (t + 1) s → AllPending w w.state
+    → spent_visits w ≡ candidate_visits w.system w.next (levels_meant w.system w.limit) (meant_to w.next w.limit t) + visits_at w.system w.next (levels_meant w.system w.limit) t (level_to w.next w.limit t)
 visits_next w (Level u) t h e next all =
     let x = at w u h e in
     let same : u ≡ suc t = omega (arith, next.0) in
-    at_level w u h e all ∙ ap (λ n. candidate_visits w.system w.next (meant w.system w.limit) (meant_to w.next w.limit n)) same
-    ∙ grows w.system w.next (meant w.system w.limit) w.limit t x.tree.spelled (subst (λ n. meaning_to w.next w.limit n ≡ Ok (meant_to w.next w.limit n)) same x.tree.is)
+    at_level w u h e all ∙ ap (λ n. candidate_visits w.system w.next (levels_meant w.system w.limit) (meant_to w.next w.limit n)) same
+    ∙ grows w.system w.next (levels_meant w.system w.limit) w.limit t x.tree.spelled (subst (λ n. meaning_to w.next w.limit n ≡ Ok (meant_to w.next w.limit n)) same x.tree.is)
 visits_next w Done t h e next all =
     let done = subst (HoldsAt (stage_of w)) e h.holds in
     let same : w.next.depth ≡ suc t = omega (arith, next) in
-    ap (visits_in w) e ∙ ap (λ n. candidate_visits w.system w.next (meant w.system w.limit) (meant_to w.next w.limit n)) same
-    ∙ grows w.system w.next (meant w.system w.limit) w.limit t done.spelled (subst (λ n. meaning_to w.next w.limit n ≡ Ok (meant_to w.next w.limit n)) same done.is)
+    ap (visits_in w) e ∙ ap (λ n. candidate_visits w.system w.next (levels_meant w.system w.limit) (meant_to w.next w.limit n)) same
+    ∙ grows w.system w.next (levels_meant w.system w.limit) w.limit t done.spelled (subst (λ n. meaning_to w.next w.limit n ≡ Ok (meant_to w.next w.limit n)) same done.is)
 visits_next w Rest t h e next all = absurd next
 visits_next w Failed t h e next all = absurd next
 
 pub finished_visits : (v w : PassView) (t : ℕ) → IsPass v → v.state ≡ Level t → v.pending ≡ [] → Finishes v w → IsPass w → AllPending w w.state → spent_visits w ≡ spent_visits v
 finished_visits v w t h e none f g all =
-    let next = subst (λ (z : System). IsNext z (t + 1) w.state) (sym f.run.next) (subst (λ s. Follows v.next s w.state) e f.state) in
+    let next = subst (λ (z : System). ArrivesAt z (t + 1) w.state) (sym f.run.next) (subst (λ s. Follows v.next s w.state) e f.state) in
     visits_next w w.state t g refl next all
     ∙ ap (λ s. by s w.next w.limit) f.run.system ∙ ap (λ s. by v.system s w.limit) f.run.next ∙ ap (by v.system v.next) f.run.limit
     ∙ sym (ap (visits_in v) e ∙ all_read v t h e none)
   where
     by : System → System → ℕ → ℕ
-    by old new limit = candidate_visits old new (meant old limit) (meant_to new limit t) + visits_at old new (meant old limit) t (level_to new limit t)
+    by old new limit = candidate_visits old new (levels_meant old limit) (meant_to new limit t) + visits_at old new (levels_meant old limit) t (level_to new limit t)
 
 -- 8. a level that was just made, as calls tell it
 
-pub all_to_ask : (u x w : PassView) (t : ℕ) → u ≡ x → IsToAsk x t → w ≡ record u { state = Level t } → AllPending w w.state
-all_to_ask u x w t e i f = subst (λ (z : PassView). AllPending z z.state) (sym f) (subst (λ (y : PassView). IsToAsk y t) (sym e) i).advances.ask.all
+pub all_to_ask : (u x w : PassView) (t : ℕ) → u ≡ x → IsReadyToAsk x t → w ≡ record u { state = Level t } → AllPending w w.state
+all_to_ask u x w t e i f = subst (λ (z : PassView). AllPending z z.state) (sym f) (subst (λ (y : PassView). IsReadyToAsk y t) (sym e) i).advances.ask.all
 
 pub none_to_ask : (w : PassView) (s : PassState) → w.state ≡ s → s ≡ Done → AllPending w w.state
 none_to_ask w s e f = subst (AllPending w) (sym (e ∙ f)) tt

@@ -14,7 +14,7 @@ use Rattle.lsys_reads.specs.Relations.{Relations, pairs_have, SettledStay}
 use Rattle.lsys_forest.specs.Rows.{level_spots}
 use Rattle.lsys_kept.specs.Levels.{AnsweredAt, answer_at}
 use Rattle.lsys_kept.specs.Meant.{level_to}
-use Rattle.lsys_pass.specs.Stages.{Stage, was, fault_in, HasFault, OutcomeBy, IsOpen, IsSettled, IsAtLevel}
+use Rattle.lsys_pass.specs.Stages.{Stage, was, fault_in, HasFault, OutcomeBy, IsPending, IsSettled, IsAtLevel}
 use Rattle.lsys_pass.specs.Steps.{ReleasesNew}
 use Rattle.lsys_pass.proofs.Keepers.{NoneComes, none_kept, none_back}
 use Rattle.lsys_pass.proofs.Stores.{AllMade, AllStay, answered_stays, rest_stays, read_on, read_back}
@@ -48,7 +48,7 @@ module _ (s : Stage) (t : ℕ) (st : Store) (rd : Relations) (made : AllMade s.n
   right : (v : System) (u p k : ℕ) → AnsweredAt v u s.now s.root s.store p k → AnsweredAt v u s.now s.root st p k
   right v u p k = answered_stays s.store st v u (level_spots s.now s.root u) p (answer_at s.now k) (stay_now k)
 
-  here_at : (p k : ℕ) → IsOpen s t p k ⊎ IsSettled s t p k → IsOpen s' t p k ⊎ IsSettled s' t p k
+  here_at : (p k : ℕ) → IsPending s t p k ⊎ IsSettled s t p k → IsPending s' t p k ⊎ IsSettled s' t p k
   here_at p k (inl a) = inl (record { pending = a.pending; candidate = a.candidate; same = a.same; faultless = a.faultless })
   here_at p k (inr a) = inr (record {
     done = a.done;

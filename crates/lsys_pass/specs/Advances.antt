@@ -1,14 +1,15 @@
 -- What making the next level does to a stage, of which all that was pending is asked.
 use Rattle.std.specs.Prelude.{◌≡◌, ◌<◌, ◌≤◌, ◌⊎◌, ◌^◌, ℕ, [], length, Ok, Some, None, slice_get}
+use Rattle.lsys_spec.specs.Rows.{In, AreApart}
 use Rattle.lsys_spec.specs.Systems.{WellSpelled}
 use Rattle.lsys_spec.specs.Meaning.{meaning}
 use Rattle.lsys_match.specs.Kept.{Kept}
 use Rattle.lsys_change.specs.Nodes.{AreOnce, Extends}
-use Rattle.lsys_forest.specs.Groves.{In, AreApart, Reached}
+use Rattle.lsys_forest.specs.Groves.{Reached}
 use Rattle.lsys_forest.specs.Rows.{level_nodes, level_spots}
 use Rattle.lsys_kept.specs.Lineages.{kins}
 use Rattle.lsys_kept.specs.Levels.{HaveLevels, AnsweredAt, answer_at}
-use Rattle.lsys_kept.specs.Meant.{meant, IsCandidate}
+use Rattle.lsys_kept.specs.Meant.{levels_meant, IsCandidate}
 use Rattle.lsys_kept.specs.Seats.{SameSeats}
 use Rattle.lsys_candidates.specs.Asks.{AreSome}
 use Rattle.lsys_repair.specs.Nexts.{count_wanted}
@@ -84,7 +85,7 @@ pub record Makes (old new : Stage) (t : ℕ) : Type 0 where
   pub seats : HasSeats new t
 
 -- level 0 of another system is made, from the last rest
-pub record Begins (old new : Stage) : Type 0 where
+pub record BeginsAnew (old new : Stage) : Type 0 where
   pub run : KeepsRest old new
   pub same : (k : ℕ) (a : Kept) → answer_at new.now k ≡ Some a → answer_at old.now k ≡ Some a
   pub gone : (k : ℕ) (a : Kept) → answer_at old.now k ≡ Some a
@@ -100,14 +101,14 @@ pub record Advances (s : Stage) (t : ℕ) : Type 0 where
       → (u : ℕ) × (u ≤ t) × In k (level_nodes (was s) s.root u)
 
 -- or it is the last one: its nodes have no answers and no children, and an answer that is still kept is reached or was dropped
-pub record Ends (s : Stage) (t : ℕ) : Type 0 where
+pub record HasLastLevel (s : Stage) (t : ℕ) : Type 0 where
   pub depth : s.next.depth ≡ t
   pub spelled : WellSpelled s.next
-  pub is : meaning s.next s.limit ≡ Ok (meant s.next s.limit)
-  pub levels : HaveLevels s.now s.root s.next.seed (meant s.next s.limit)
+  pub is : meaning s.next s.limit ≡ Ok (levels_meant s.next s.limit)
+  pub levels : HaveLevels s.now s.root s.next.seed (levels_meant s.next s.limit)
   pub small : s.next.depth < 2 ^ 32
   pub counts : AreCountedLow s.now
-  pub none_below : level_nodes s.now s.root (length (meant s.next s.limit)) ≡ []
+  pub none_below : level_nodes s.now s.root (length (levels_meant s.next s.limit)) ≡ []
   pub once : AreOnce (kins s.now) s.root
   pub stay : Extends (kins (was s)) (kins s.now)
   pub last : (k : ℕ) → In k (level_nodes s.now s.root t) → answer_at s.now k ≡ None

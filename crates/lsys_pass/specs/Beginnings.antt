@@ -1,5 +1,6 @@
 -- The first level of another system, made from a pass at rest.
 use Rattle.std.specs.Prelude.{◌≡◌, ◌≤◌, ◌∷◌, [], ℕ, map, Option, MatchOption}
+use Rattle.lsys_match.specs.Derivations.{IsLevelRefusal}
 use Rattle.lsys_spec.specs.Systems.{System, WellSpelled}
 use Rattle.lsys_rewrite.specs.declared.refusal.DeriveRefusal.{DeriveRefusal}
 use Rattle.lsys_match.specs.Kept.{Kept}
@@ -7,15 +8,15 @@ use Rattle.lsys_forest.specs.Nodes.{Nodes}
 use Rattle.lsys_forest.specs.Groves.{Grove, now_of, changes_in, live_nodes}
 use Rattle.lsys_forest.specs.Rows.{kids_in}
 use Rattle.lsys_brood.specs.Matches.{nodes_without}
-use Rattle.lsys_brood.specs.Children.{Told}
+use Rattle.lsys_brood.specs.Children.{ToldNodes}
 use Rattle.lsys_repair.specs.Nexts.{wanted_count}
 use Rattle.lsys_repair.specs.Renewals.{AreRenewals}
 use Rattle.lsys_repair.specs.Needs.{number_told, wanted_symbols}
 use Rattle.lsys_repair.specs.Made.{TellsAllOf}
 use Rattle.lsys_front.specs.Fronts.{nothing}
 use Rattle.lsys_pass.specs.declared.state.PassState.TheVariants.{Rest}
-use Rattle.lsys_pass.specs.Passes.{PassView, now, was, IsPass}
-use Rattle.lsys_pass.specs.Moves.{IsNext, IsRefusal}
+use Rattle.lsys_pass.specs.Passes.{PassView, now_in, rest_in, IsPass}
+use Rattle.lsys_pass.specs.Moves.{ArrivesAt}
 
 -- 1. the forest
 
@@ -28,7 +29,7 @@ pub record KeepsNodes {A : Type 0} (old new : Grove A) : Type 0 where
 
 -- The children of the root were made those of the axiom of a system, which are no more than the limit, and it was told what differs.
 pub record MakesFirst (s : System) (limit : ℕ) (old new : Nodes Kept) (root : ℕ)
-    (told : Told) : Type 0 where
+    (told : ToldNodes) : Type 0 where
   pub spelled : WellSpelled s
   pub children : AreRenewals s.numbering s.seed old new root 0 (λ k. s.axiom_string) (root ∷ [])
   pub tells : TellsAllOf old new (root ∷ []) nothing told
@@ -36,14 +37,14 @@ pub record MakesFirst (s : System) (limit : ℕ) (old new : Nodes Kept) (root : 
       (map number_told (wanted_symbols s.numbering s.axiom_string)) (kids_in (old root))
   pub within : wanted_count s.numbering s.axiom_string ≤ limit
 
-abbrev pub MakesFirstIn : System → ℕ → Grove Kept → Grove Kept → Told → Type 0
+abbrev pub MakesFirstIn : System → ℕ → Grove Kept → Grove Kept → ToldNodes → Type 0
 MakesFirstIn s limit old new told = MakesFirst s limit (now_of old) (now_of new) old.root told
 
 -- so many symbols are within the limit; or a system is refused that has so many on its first level
 abbrev pub RefusesLongAxiom : ℕ → ℕ → Option DeriveRefusal → Type 0
 RefusesLongAxiom limit symbols r =
     (s : System) → symbols ≡ wanted_count s.numbering s.axiom_string
-    → MatchOption r (symbols ≤ limit) (IsRefusal s limit)
+    → MatchOption r (symbols ≤ limit) (IsLevelRefusal s limit)
 
 -- 2. the pass
 
@@ -57,6 +58,6 @@ pub record Begun (old new : PassView) (s : System) : Type 0 where
   pub system : new.system ≡ old.system
   pub limit : new.limit ≡ old.limit
   pub root : new.forest.root ≡ old.forest.root
-  pub was : was new ≡ now old
-  pub state : IsNext s 0 new.state
+  pub was : rest_in new ≡ now_in old
+  pub state : ArrivesAt s 0 new.state
   pub renewed : new.renewed ≡ []

@@ -1,7 +1,7 @@
 -- A level that was just made, and what becomes of it step by step until it is known who is asked on it.
 use Rattle.std.specs.Prelude.{◌≡◌, ◌<◌, ◌≤◌, ◌+◌, ◌⊎◌, ℕ, suc, Bool, true, false, map, drop, List, [], length, Some, None, slice_get}
+use Rattle.lsys_spec.specs.Rows.{In, AreApart}
 use Rattle.lsys_match.specs.Kept.{Kept}
-use Rattle.lsys_forest.specs.Groves.{In, AreApart}
 use Rattle.lsys_forest.specs.Rows.{level_nodes}
 use Rattle.lsys_kept.specs.Levels.{answer_at}
 use Rattle.lsys_kept.specs.Neighbours.{neighbours_on, neighbours_in}
@@ -10,15 +10,15 @@ use Rattle.lsys_repair.specs.Nexts.{Successors, AreClosed, HasWanted, wanted_in}
 use Rattle.lsys_repair.specs.Answers.{kept_successors}
 use Rattle.lsys_repair.specs.Renewals.{KeepsDeeper}
 use Rattle.lsys_repair.specs.declared.parent.Parent.{Parent}
-use Rattle.lsys_repair.specs.Parents.{nodes_in, AreParents, AreToldBy, walked, whole}
+use Rattle.lsys_repair.specs.Parents.{nodes_in, AreParents, AreToldBy, cut_parents, uncut}
 use Rattle.lsys_candidates.specs.Repairs.{SteppingSpots}
 use Rattle.lsys_candidates.specs.Found.{Differs, IsFound}
-use Rattle.lsys_front.specs.Fronts.{IsFront, MayHaveOthers}
+use Rattle.lsys_front.specs.Fronts.{IsLevelFront, MayHaveOthers}
 use Rattle.lsys_pass.specs.declared.state.PassState.TheVariants.{Level}
 use Rattle.lsys_pass.specs.Sizes.{opens_at, with_level}
 use Rattle.lsys_pass.specs.Rests.{AreCountedLow}
 use Rattle.lsys_pass.specs.Stages.{Stage, was}
-use Rattle.lsys_pass.specs.Advances.{IsAskedTo, KeepsRest, StaysAbove, Advances, Ends}
+use Rattle.lsys_pass.specs.Advances.{IsAskedTo, KeepsRest, StaysAbove, Advances, HasLastLevel}
 use Rattle.lsys_pass.specs.Passes.{PassView, stage_of, repair_of, AllHaveSeats, IsStill, HasFront, IsPass}
 use Rattle.lsys_pass.specs.Passes as P
 
@@ -31,18 +31,18 @@ pub record WasAsked (v : PassView) (t : ℕ) : Type 0 where
 
 -- the nodes of level t
 abbrev pub row_of : PassView → ℕ → List ℕ
-row_of v t = level_nodes (P.now v) v.forest.root t
+row_of v t = level_nodes (P.now_in v) v.forest.root t
 
 -- what is wanted of each of them
-abbrev pub wanted_of : PassView → ℕ → Successors
-wanted_of v t = wanted_in (P.now v) (kept_successors (P.now v)) None (row_of v t)
+abbrev pub wanted_on_level : PassView → ℕ → Successors
+wanted_on_level v t = wanted_in (P.now_in v) (kept_successors (P.now_in v)) None (row_of v t)
 
 -- a node of the level may have other children than at the last rest
 abbrev pub IsChanged : PassView → ℕ → Type 0
 IsChanged v k = MayHaveOthers v.front (drop v.first_renewed v.renewed) k
 
 -- The level was not the last one, keys and lineages are the same, and no cut on it reached what stood behind it.
-pub record IsSameLevel (v : PassView) (t : ℕ) : Type 0 where
+pub record IsMadeAlike (v : PassView) (t : ℕ) : Type 0 where
   pub below : t < v.system.depth
   pub seed : v.next.seed ≡ v.system.seed
   pub numbering : v.next.numbering ≡ v.system.numbering
@@ -51,22 +51,22 @@ pub record IsSameLevel (v : PassView) (t : ℕ) : Type 0 where
 -- These are parents of level t, and it is told what is wanted of each; all other nodes of the level have the children that are
 -- wanted of them.
 pub record AreNextParents (v : PassView) (t : ℕ) (ps : List Parent) : Type 0 where
-  pub parents : AreParents v.next.seed (t + 1) (P.now v) v.forest.root (nodes_in ps)
+  pub parents : AreParents v.next.seed (t + 1) (P.now_in v) v.forest.root (nodes_in ps)
   pub there : (k : ℕ) → In k (nodes_in ps) → In k (row_of v t)
-  pub wants : AreToldBy (wanted_of v t) (P.now v) ps
+  pub wants : AreToldBy (wanted_on_level v t) (P.now_in v) ps
   pub others : (k : ℕ) → In k (row_of v t) → In k (nodes_in ps)
-      ⊎ HasWanted v.next.numbering v.next.seed (P.now v) k (wanted_of v t k)
+      ⊎ HasWanted v.next.numbering v.next.seed (P.now_in v) k (wanted_on_level v t k)
 
 -- They are all nodes of the level, as a walk tells them; or some of them, none of them cut off, where no cut reaches what stands
 -- behind one of the level.
 abbrev pub AreWalkedOrAlone : PassView → ℕ → Bool → List Parent → Type 0
-AreWalkedOrAlone v t true ps = ps ≡ walked (P.now v) None (row_of v t)
+AreWalkedOrAlone v t true ps = ps ≡ cut_parents (P.now_in v) None (row_of v t)
 AreWalkedOrAlone v t false ps =
-    AreClosed (kept_successors (P.now v)) (row_of v t) × (ps ≡ map whole (nodes_in ps))
+    AreClosed (kept_successors (P.now_in v)) (row_of v t) × (ps ≡ map uncut (nodes_in ps))
 
 -- no cut on the level reaches what stands behind it, unless the level is open
 abbrev pub IsClosedUnless : PassView → ℕ → Bool → Type 0
-IsClosedUnless v t is_open = is_open ≡ false → AreClosed (kept_successors (P.now v)) (row_of v t)
+IsClosedUnless v t is_open = is_open ≡ false → AreClosed (kept_successors (P.now_in v)) (row_of v t)
 
 -- 2. the next level
 
@@ -105,29 +105,29 @@ AreDroppedBefore s t =
 pub record IsMadeTo (v : PassView) (t : ℕ) : Type 0 where
   pub spots : SteppingSpots (repair_of v t)
   pub within : t ≤ v.next.depth
-  pub deeper : KeepsDeeper (P.was v) (P.now v) (t + 1)
-  pub counts : AreCountedLow (P.now v)
-  pub answers : (k : ℕ) → In k (row_of v t) → answer_at (P.now v) k ≡ answer_at (P.was v) k
+  pub deeper : KeepsDeeper (P.rest_in v) (P.now_in v) (t + 1)
+  pub counts : AreCountedLow (P.now_in v)
+  pub answers : (k : ℕ) → In k (row_of v t) → answer_at (P.now_in v) k ≡ answer_at (P.rest_in v) k
   pub renewed_are : (k : ℕ) → In k v.renewed → (u : ℕ) × (u < t) × In k (row_of v u)
   pub faults : v.faults ≡ []
   pub pending : v.pending ≡ []
-  pub room : AllHaveSeats (P.now v) v.seats
+  pub room : AllHaveSeats (P.now_in v) v.seats
 
 -- Who has other neighbours on level t than its seat tells, or another mate, is among those that were looked at.
 pub record WasLookedAt (v : PassView) (t : ℕ) : Type 0 where
-  pub looked : (k : ℕ) → In k (row_of v t) → In k (level_nodes (P.was v) v.forest.root t)
+  pub looked : (k : ℕ) → In k (row_of v t) → In k (level_nodes (P.rest_in v) v.forest.root t)
       → In k v.front.changes.looked ⊎ (neighbours_in v.forest k ≡ neighbours_at v.seats k)
   pub looked_are : (k : ℕ) → In k v.front.changes.looked → In k (row_of v t)
 
 -- It is known what differs on level t from the last rest. Those that are gone from it keep the answers that they had.
-pub record IsFresh (v : PassView) (t : ℕ) : Type 0 where
+pub record WasJustMade (v : PassView) (t : ℕ) : Type 0 where
   pub made : IsMadeTo v t
   pub lists : HasListsBefore (stage_of v) t
   pub dropped : AreDroppedBefore (stage_of v) t
   pub differs : Differs (repair_of v t) v.front.changes
   pub gone_once : AreApart v.front.changes.gone
   pub gone_keep : (k : ℕ) → In k v.front.changes.gone
-      → answer_at (P.now v) k ≡ answer_at (P.was v) k
+      → answer_at (P.now_in v) k ≡ answer_at (P.rest_in v) k
   pub bare : v.front.bare ≡ []
   pub looks : WasLookedAt v t
 
@@ -137,7 +137,7 @@ pub record HasFound (v : PassView) (t : ℕ) (beside readers : List ℕ) : Type 
   pub lists : HasListsBefore (stage_of v) (t + 1)
   pub dropped : AreDroppedBefore (stage_of v) (t + 1)
   pub looks : WasLookedAt v t
-  pub front : IsFront (repair_of v t) v.seats v.front
+  pub front : IsLevelFront (repair_of v t) v.seats v.front
   pub found : IsFound v.forest v.seats v.reads v.front.changes v.front.turned beside readers
   pub first : v.first_renewed ≡ length v.renewed
 
@@ -146,8 +146,8 @@ abbrev pub SizesLevel : PassView → PassView → ℕ → Type 0
 SizesLevel old new t = new.made ≡ with_level old.made (length (row_of new t))
 
 -- where a level was just made, it is found who turned, and who else may have another question
-abbrev pub FindsTurned : PassView → PassView → List ℕ → List ℕ → Type 0
-FindsTurned old new beside readers = (t : ℕ) → IsFresh old t → HasFound new t beside readers
+abbrev pub KnowsTurned : PassView → PassView → List ℕ → List ℕ → Type 0
+KnowsTurned old new beside readers = (t : ℕ) → WasJustMade old t → HasFound new t beside readers
 
 -- only seats changed, what is dropped, what moved, and what differs on the level
 abbrev pub TurnsOnly : PassView → PassView → Type 0
@@ -160,7 +160,7 @@ TurnsOnly old new = new ≡ record old {
 }
 
 -- it is known who is asked
-pub record IsToAsk (v : PassView) (t : ℕ) : Type 0 where
+pub record IsReadyToAsk (v : PassView) (t : ℕ) : Type 0 where
   pub lists : HasListsBefore (stage_of v) (t + 1)
   pub advances : Advances (stage_of v) t
   pub front : HasFront v t
@@ -168,8 +168,8 @@ pub record IsToAsk (v : PassView) (t : ℕ) : Type 0 where
 -- or it is the last level
 pub record IsLast (v : PassView) (t : ℕ) : Type 0 where
   pub lists : HasListsBefore (stage_of v) (t + 1)
-  pub ends : Ends (stage_of v) t
-  pub room : AllHaveSeats (P.now v) v.seats
+  pub ends : HasLastLevel (stage_of v) t
+  pub room : AllHaveSeats (P.now_in v) v.seats
 
 -- 3. where a pass came from that made level t: the level before it, of which all was asked; or the last rest, for the first one
 pub data Origin (v : PassView) (t : ℕ) : Type 0 where

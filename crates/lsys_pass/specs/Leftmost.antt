@@ -1,6 +1,6 @@
 -- The leftmost of some nodes, and the number of a module on its level.
 use Rattle.std.specs.Prelude.{◌≡◌, ◌+◌, ◌≤◌, ℕ, zero, suc, List, [], ◌∷◌, slice_get, Some}
-use Rattle.lsys_level.specs.Spots.{Seen, Push, Pop, Module, Spotted, level_at}
+use Rattle.lsys_level.specs.Spots.{Seen, Push, Pop, Module, Spotted, spots_at}
 use Rattle.lsys_level.specs.declared.view.LevelView.{Ghosts as LevelViewOf}
 use Rattle.lsys_forest.specs.Groves.{Grove}
 use Rattle.lsys_forest.specs.Rows.{complete_levels, level_of_node, place_of_node, IsAtSpot}
@@ -24,7 +24,7 @@ modules_before (x ∷ xs) (suc p) = is_one x.seen + modules_before xs p
 -- how many stand before a spot of a view, on its level
 abbrev pub modules_at : {V P : Type 0} → LevelViewOf V P → V → P → ℕ
 modules_at W view spot =
-    modules_before (level_at (W.levels view) (W.level_of view spot)) (W.place_of view spot)
+    modules_before (spots_at (W.levels view) (W.level_of view spot)) (W.place_of view spot)
 
 module _ {A : Type 0} where
   -- the nodes that have a fault stand on one complete level
@@ -45,9 +45,9 @@ module _ {A : Type 0} where
     pub is : IsLeftmost f faults first
     pub kind_is : kind ≡ first.kind
     pub level : u ≡ t
-    pub number : n ≡ modules_before (level_at (complete_levels f) t) (place_of_node f first.node) + 1
+    pub number : n ≡ modules_before (spots_at (complete_levels f) t) (place_of_node f first.node) + 1
 
-  abbrev pub IsFirstFault : Grove A → ℕ → List Faulted → DeriveRefusal → Type 0
-  IsFirstFault f t faults (Fault kind u n) = IsFirstAt f t faults kind u n
-  IsFirstFault f t faults (Limit u) = ⊥
-  IsFirstFault f t faults Memory = ⊥
+  abbrev pub IsLeftmostFault : Grove A → ℕ → List Faulted → DeriveRefusal → Type 0
+  IsLeftmostFault f t faults (Fault kind u n) = IsFirstAt f t faults kind u n
+  IsLeftmostFault f t faults (Limit u) = ⊥
+  IsLeftmostFault f t faults Memory = ⊥

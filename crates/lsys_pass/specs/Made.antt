@@ -3,7 +3,7 @@ use Rattle.std.specs.Prelude.{◌≡◌, ◌<◌, ◌^◌, ℕ, List}
 use Rattle.lsys_syntax.specs.Commands.{Numbering}
 use Rattle.lsys_match.specs.Kept.{Kept}
 use Rattle.lsys_forest.specs.Groves.{Grove, AreSound, now_of, rest_of, changes_in, kept_in, live_nodes}
-use Rattle.lsys_brood.specs.Children.{Told}
+use Rattle.lsys_brood.specs.Children.{ToldNodes}
 use Rattle.lsys_repair.specs.Nexts.{Successors}
 use Rattle.lsys_repair.specs.Renewals.{AreRenewals}
 use Rattle.lsys_repair.specs.declared.parent.Parent.{Parent}
@@ -21,7 +21,7 @@ pub record KeepsAnswers (old new : Grove Kept) : Type 0 where
 
 -- The children of these parents were made those that are wanted of them, and it was told what differs.
 pub record MakesBelow (g : Numbering) (old new : Grove Kept) (ps : List Parent)
-    (told : Told) : Type 0 where
+    (told : ToldNodes) : Type 0 where
   pub renewals : (seed depth : ℕ) (by : Successors)
       → AreParents seed depth (now_of old) old.root (nodes_in ps) → AreToldBy by (now_of old) ps
       → AreRenewals g seed (now_of old) (now_of new) old.root depth by (nodes_in ps)

@@ -2,11 +2,7 @@
 use Rattle.std.specs.Prelude.{◌≡◌, ◌≢◌, ◌<◌, ◌+◌, ℕ, List, ◌++◌, ◌∷◌, length, Result, Ok, Err, Some, slice_get, if◌then◌else◌}
 use Rattle.lsys_spec.specs.Systems.{System}
 use Rattle.lsys_spec.specs.Levels.{ModuleValue, Module}
-use Rattle.lsys_spec.specs.Meaning.{meaning, FaultAt, OverLimit}
 use Rattle.lsys_spec.specs.Questions.{Question, questions, is_needed}
-use Rattle.lsys_rewrite.specs.Faults.{fault_of}
-use Rattle.lsys_rewrite.specs.declared.refusal.DeriveRefusal.{DeriveRefusal}
-use Rattle.lsys_rewrite.specs.declared.refusal.DeriveRefusal.TheVariants.{Fault, Limit, Memory}
 use Rattle.lsys_rewrite.specs.declared.count.EditCount.{EditCount}
 use Rattle.lsys_match.specs.Derivations.{IsCount}
 use Rattle.lsys_match.specs.Asks.{ByDefinition, by_definition}
@@ -14,11 +10,11 @@ use Rattle.lsys_reads.specs.Relations.{SettledStay}
 use Rattle.lsys_forest.specs.Groves.{Reached}
 use Rattle.lsys_forest.specs.Rows.{level_nodes}
 use Rattle.lsys_kept.specs.Levels.{level_of}
-use Rattle.lsys_kept.specs.Meant.{meant, level_to}
+use Rattle.lsys_kept.specs.Meant.{levels_meant, level_to}
 use Rattle.lsys_pass.specs.declared.state.PassState.{PassState}
 use Rattle.lsys_pass.specs.declared.state.PassState.TheVariants.{Rest, Level, Done, Failed}
 use Rattle.lsys_pass.specs.Stages.{fault_in}
-use Rattle.lsys_pass.specs.Passes.{PassView, now, was}
+use Rattle.lsys_pass.specs.Passes.{PassView, now_in, rest_in}
 
 -- it stands at some level
 abbrev pub AtLevel : PassState → Type 0
@@ -33,7 +29,7 @@ pub record SameRun (old new : PassView) : Type 0 where
   pub next : new.next ≡ old.next
   pub limit : new.limit ≡ old.limit
   pub root : new.forest.root ≡ old.forest.root
-  pub was : was new ≡ was old
+  pub was : rest_in new ≡ rest_in old
 
 -- it is at rest, with the nodes of the last rest
 pub record IsBack (old new : PassView) : Type 0 where
@@ -41,7 +37,7 @@ pub record IsBack (old new : PassView) : Type 0 where
   pub system : new.system ≡ old.system
   pub limit : new.limit ≡ old.limit
   pub root : new.forest.root ≡ old.forest.root
-  pub now : now new ≡ was old
+  pub now : now_in new ≡ rest_in old
 
 -- 1. one question
 
@@ -53,8 +49,8 @@ pub record StepsOver (old new : PassView) (node : ℕ) : Type 0 where
   pub after : List ℕ
   pub pending_old : old.pending ≡ before ++ node ∷ after
   pub pending : new.pending ≡ before ++ after
-  pub nodes : (k : ℕ) → k ≢ node → now new k ≡ now old k
-  pub levels : (t : ℕ) → level_of (now new) new.forest.root t ≡ level_of (now old) old.forest.root t
+  pub nodes : (k : ℕ) → k ≢ node → now_in new k ≡ now_in old k
+  pub levels : (t : ℕ) → level_of (now_in new) new.forest.root t ≡ level_of (now_in old) old.forest.root t
   pub faults : (k : ℕ) → k ≢ node → fault_in k new.faults ≡ fault_in k old.faults
 
 -- for want of memory nothing was kept
@@ -62,7 +58,7 @@ pub record Waits (old new : PassView) : Type 0 where
   pub run : SameRun old new
   pub state : new.state ≡ old.state
   pub pending : new.pending ≡ old.pending
-  pub nodes : now new ≡ now old
+  pub nodes : now_in new ≡ now_in old
   pub faults : new.faults ≡ old.faults
   pub renewed : new.renewed ≡ old.renewed
   pub reads : new.reads.pending ≡ old.reads.pending
@@ -82,10 +78,10 @@ one_if_new olds d = if_fine d.successor (if is_needed olds d.question then 1 els
 abbrev pub Moves : PassView → PassState → ℕ → (ℕ → ℕ → Type 0) → Type 0
 Moves v (Level t) node by =
     (p : ℕ) (l : List ℕ) (m : ModuleValue)
-    → slice_get (level_nodes (now v) v.forest.root t) p ≡ Some node
+    → slice_get (level_nodes (now_in v) v.forest.root t) p ≡ Some node
     → slice_get (level_to v.next v.limit t) p ≡ Some (Module l m)
     → let d = by_definition v.next t (level_to v.next v.limit t) p l m in
-    by (one_if_new (questions v.system (meant v.system v.limit)) d) (length d.question.trace)
+    by (one_if_new (questions v.system (levels_meant v.system v.limit)) d) (length d.question.trace)
 Moves v Rest node by = Unit {0}
 Moves v Done node by = Unit {0}
 Moves v Failed node by = Unit {0}
@@ -100,24 +96,18 @@ MovesBoth v node asked asked' visited visited' =
 
 -- 2. why a system has no levels
 
--- the fault or the limit that the definitions tell; want of memory says nothing
-abbrev pub IsRefusal : System → ℕ → DeriveRefusal → Type 0
-IsRefusal s limit (Fault kind t n) = meaning s limit ≡ Err (FaultAt (fault_of kind) t n)
-IsRefusal s limit (Limit t) = meaning s limit ≡ Err (OverLimit t)
-IsRefusal s limit Memory = Unit {0}
-
 -- 3. the levels
 
 -- it stands at this level, or it is done where this is the last one
-abbrev pub IsNext : System → ℕ → PassState → Type 0
-IsNext s t (Level u) = (u ≡ t) × (t < s.depth)
-IsNext s t Done = s.depth ≡ t
-IsNext s t Rest = ⊥
-IsNext s t Failed = ⊥
+abbrev pub ArrivesAt : System → ℕ → PassState → Type 0
+ArrivesAt s t (Level u) = (u ≡ t) × (t < s.depth)
+ArrivesAt s t Done = s.depth ≡ t
+ArrivesAt s t Rest = ⊥
+ArrivesAt s t Failed = ⊥
 
 -- at the next one, where it stood at some level
 abbrev pub Follows : System → PassState → PassState → Type 0
-Follows s (Level t) next = IsNext s (t + 1) next
+Follows s (Level t) next = ArrivesAt s (t + 1) next
 Follows s Rest next = ⊥
 Follows s Done next = ⊥
 Follows s Failed next = ⊥
@@ -136,15 +126,15 @@ pub record Fails (old new : PassView) : Type 0 where
 -- 4. the end
 
 -- it is at rest with the new system, and the nodes that are reached are what they were
-pub record Closes (old new : PassView) : Type 0 where
+pub record ComesToRest (old new : PassView) : Type 0 where
   pub state : new.state ≡ Rest
   pub system : new.system ≡ old.next
   pub limit : new.limit ≡ old.limit
   pub root : new.forest.root ≡ old.forest.root
-  pub nodes : (k : ℕ) → Reached (now old) old.forest.root k → now new k ≡ now old k
+  pub nodes : (k : ℕ) → Reached (now_in old) old.forest.root k → now_in new k ≡ now_in old k
 
 -- it counts the questions of the new system, and those that the old one didn't answer
 abbrev pub CountsBoth : PassView → EditCount → Type 0
 CountsBoth v count =
-    IsCount (questions v.system (meant v.system v.limit)) (questions v.next (meant v.next v.limit))
+    IsCount (questions v.system (levels_meant v.system v.limit)) (questions v.next (levels_meant v.next v.limit))
     count

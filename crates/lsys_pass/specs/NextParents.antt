@@ -2,21 +2,21 @@
 use Rattle.std.specs.Prelude.{ℕ, length}
 use Rattle.lsys_repair.specs.declared.count.Count.{Count}
 use Rattle.lsys_brood.specs.declared.need.Need.{Need}
-use Rattle.lsys_repair.specs.Needs.{IsSmall, count_of, had_by_all, needs}
+use Rattle.lsys_repair.specs.Needs.{IsBoundedCount, count_of_all, had_by_all, needs}
 use Rattle.lsys_pass.specs.declared.parents.Parents.{Parents}
 use Rattle.lsys_pass.specs.Fresh.{AreWalkedOrAlone}
-use Rattle.lsys_pass.specs.Passes.{PassView, now}
+use Rattle.lsys_pass.specs.Passes.{PassView, now_in}
 
 -- what the steps for the parents take
-abbrev pub needs_of : PassView → Parents → Need
-needs_of v ps = needs v.next.numbering (now v) ps.list.items
+abbrev pub needs_for : PassView → Parents → Need
+needs_for v ps = needs v.next.numbering (now_in v) ps.list.items
 
 -- what is counted of their children
 abbrev pub count_for : PassView → Parents → Count
-count_for v ps = count_of v.next.numbering (now v) ps.list.items
+count_for v ps = count_of_all v.next.numbering (now_in v) ps.list.items
 
 abbrev pub IsSmallCount : PassView → Parents → Count → Type 0
-IsSmallCount v ps c = IsSmall (length ps.list.items) (had_by_all (now v) ps.list.items) c
+IsSmallCount v ps c = IsBoundedCount (length ps.list.items) (had_by_all (now_in v) ps.list.items) c
 
 -- they are all nodes of the level, or some of them
 abbrev pub AreWholeOrAlone : PassView → ℕ → Parents → Type 0

@@ -1,20 +1,21 @@
 -- What a contract sees of a pass, and what holds of it between calls.
 use Rattle.std.specs.Prelude.{◌≡◌, Some, None, IsSome, ◌<◌, ◌≤◌, ◌^◌, ℕ, false, List, [], length, take, drop}
+use Rattle.lsys_spec.specs.Rows.{In}
 use Rattle.lsys_spec.specs.Systems.{System}
 use Rattle.lsys_spec.specs.Questions.{questions}
 use Rattle.lsys_walks.specs.Stores.{Store}
 use Rattle.lsys_match.specs.Kept.{Kept}
 use Rattle.lsys_reads.specs.Relations.{Relations}
 use Rattle.lsys_forest.specs.Nodes.{Node, Nodes}
-use Rattle.lsys_forest.specs.Groves.{Grove, In, now_of, rest_of, changes_in, live_nodes}
+use Rattle.lsys_forest.specs.Groves.{Grove, now_of, rest_of, changes_in, live_nodes}
 use Rattle.lsys_forest.specs.Rows.{level_nodes}
 use Rattle.lsys_kept.specs.Names.{RunName, run_in, holds}
 use Rattle.lsys_kept.specs.Levels.{answer_at}
-use Rattle.lsys_kept.specs.Meant.{meant}
+use Rattle.lsys_kept.specs.Meant.{levels_meant}
 use Rattle.lsys_kept.specs.declared.seat.Seat.{Seat}
 use Rattle.lsys_kept.specs.Seats.{is_marked, HasSeat}
 use Rattle.lsys_candidates.specs.Repairs.{Repair}
-use Rattle.lsys_front.specs.Fronts.{Differences, IsFront}
+use Rattle.lsys_front.specs.Fronts.{Differences, IsLevelFront}
 use Rattle.lsys_pass.specs.declared.state.PassState.{PassState}
 use Rattle.lsys_pass.specs.declared.state.PassState.TheVariants.{Rest, Level, Done, Failed}
 use Rattle.lsys_pass.specs.declared.fault.Faulted.{Faulted}
@@ -68,11 +69,15 @@ stage_of v = record {
 }
 
 -- the nodes as they are, and those of the last rest
-abbrev pub now : PassView → Nodes Kept
-now v = now_of v.forest
+abbrev pub now_in : PassView → Nodes Kept
+now_in v = now_of v.forest
 
-abbrev pub was : PassView → Nodes Kept
-was v = rest_of v.forest
+-- each node keeps the answer that it has, or keeps none
+abbrev pub AnswersStay : PassView → PassView → Type 0
+AnswersStay old new = (k : ℕ) → answer_at (now_in new) k ≡ answer_at (now_in old) k
+
+abbrev pub rest_in : PassView → Nodes Kept
+rest_in v = rest_of v.forest
 
 -- nothing has changed since the last rest, and nothing is kept of an edit
 pub record IsStill (s : Stage) : Type 0 where
@@ -112,36 +117,36 @@ AllHaveSeats m seats = (k : ℕ) (n : Node Kept) → m k ≡ Some n → HasSeat 
 -- It is told what differs on level t, which was made last. Of the nodes with another answer those of the levels above it come first,
 -- and then its own.
 pub record HasFront (v : PassView) (t : ℕ) : Type 0 where
-  pub front : IsFront (repair_of v t) v.seats v.front
+  pub front : IsLevelFront (repair_of v t) v.seats v.front
   pub within : v.first_renewed ≤ length v.renewed
   pub before : (k : ℕ) → In k (take v.first_renewed v.renewed)
-      → (u : ℕ) × (u < t) × In k (level_nodes (now v) v.forest.root u)
+      → (u : ℕ) × (u < t) × In k (level_nodes (now_in v) v.forest.root u)
   pub here : (k : ℕ) → In k (drop v.first_renewed v.renewed)
-      → In k (level_nodes (now v) v.forest.root t)
-  pub room : AllHaveSeats (now v) v.seats
+      → In k (level_nodes (now_in v) v.forest.root t)
+  pub room : AllHaveSeats (now_in v) v.seats
 
 -- what is told where it stands
 abbrev pub FrontAt : PassView → PassState → Type 0
 FrontAt v Rest = Unit {0}
 FrontAt v (Level t) = HasFront v t
-FrontAt v Done = AllHaveSeats (now v) v.seats
+FrontAt v Done = AllHaveSeats (now_in v) v.seats
 FrontAt v Failed = Unit {0}
 
 -- the runs of the store that are live are those that answers of nodes hold
 pub record HasOwnRuns (v : PassView) : Type 0 where
-  pub live : (k : ℕ) (a : Kept) (r : RunName) → answer_at (now v) k ≡ Some a → holds a r
+  pub live : (k : ℕ) (a : Kept) (r : RunName) → answer_at (now_in v) k ≡ Some a → holds a r
       → IsSome (run_in v.store r)
-  pub only : (r : RunName) → ((k : ℕ) (a : Kept) → answer_at (now v) k ≡ Some a → holds a r → ⊥)
+  pub only : (r : RunName) → ((k : ℕ) (a : Kept) → answer_at (now_in v) k ≡ Some a → holds a r → ⊥)
       → run_in v.store r ≡ None
 
 -- what holds between calls; no node is marked then
 pub record IsPass (v : PassView) : Type 0 where
-  pub stored : IsStored (now v) (changes_in v.forest) v.forest.root v.store
+  pub stored : IsStored (now_in v) (changes_in v.forest) v.forest.root v.store
   pub few : live_nodes v.forest < 2 ^ 32
   pub unmarked : (k : ℕ) → is_marked v.seats k ≡ false
-  pub counted : v.answers ≡ length (questions v.system (meant v.system v.limit))
-  pub sized : HaveSizes (was v) v.forest.root v.sizes
-  pub made_sized : SizesAt (now v) v.forest.root v.next.depth v.made v.state
+  pub counted : v.answers ≡ length (questions v.system (levels_meant v.system v.limit))
+  pub sized : HaveSizes (rest_in v) v.forest.root v.sizes
+  pub made_sized : SizesAt (now_in v) v.forest.root v.next.depth v.made v.state
   pub holds : HoldsAt (stage_of v) v.state
   pub front : FrontAt v v.state
-  pub room : AllHaveSeats (was v) v.seats
+  pub room : AllHaveSeats (rest_in v) v.seats

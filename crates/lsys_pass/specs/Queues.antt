@@ -8,8 +8,8 @@ abbrev pub those_left : List Slot → List ℕ
 those_left slots = filter_map (λ (s : Slot). s.node) slots
 
 -- the slot of a node, before which none is gone
-abbrev pub slot_of : ℕ → Slot
-slot_of node = record { node = Some node; gone = 0 }
+abbrev pub fresh_slot : ℕ → Slot
+fresh_slot node = record { node = Some node; gone = 0 }
 
 -- the slot in the middle of a part knows how many before it are gone
 abbrev pub KnowsGone : List Slot → Type 0

@@ -1,5 +1,6 @@
 -- What is kept at rest.
 use Rattle.std.specs.Prelude.{◌≡◌, ◌<◌, ◌⊎◌, ◌↔◌, ℕ, true, List, [], length, Ok, Some, None, slice_get}
+use Rattle.lsys_spec.specs.Rows.{In}
 use Rattle.lsys_spec.specs.Draws.{number_base}
 use Rattle.lsys_spec.specs.Systems.{System, WellSpelled}
 use Rattle.lsys_spec.specs.Meaning.{meaning}
@@ -9,11 +10,11 @@ use Rattle.lsys_match.specs.Asks.{IsMade}
 use Rattle.lsys_reads.specs.Relations.{Relations, is_settled}
 use Rattle.lsys_change.specs.Nodes.{AreOnce}
 use Rattle.lsys_forest.specs.Nodes.{Node, Nodes}
-use Rattle.lsys_forest.specs.Groves.{In, Reached}
+use Rattle.lsys_forest.specs.Groves.{Reached}
 use Rattle.lsys_forest.specs.Rows.{level_nodes}
 use Rattle.lsys_kept.specs.Lineages.{kins}
 use Rattle.lsys_kept.specs.Levels.{HaveLevels, AnsweredAt, answer_at, HasRead}
-use Rattle.lsys_kept.specs.Meant.{meant}
+use Rattle.lsys_kept.specs.Meant.{levels_meant}
 use Rattle.lsys_kept.specs.declared.seat.Seat.{Seat}
 use Rattle.lsys_kept.specs.Standings.{AreSeated}
 
@@ -26,9 +27,9 @@ AreCountedLow m = (k : ℕ) (n : Node Kept) → m k ≡ Some n → n.count < num
 pub record IsResting (s : System) (limit : ℕ) (m : Nodes Kept) (root : ℕ) (store : Store) (reads : Relations)
     (seats : List Seat) : Type 0 where
   pub spelled : WellSpelled s
-  pub is : meaning s limit ≡ Ok (meant s limit)
-  pub levels : HaveLevels m root s.seed (meant s limit)
-  pub ends : level_nodes m root (length (meant s limit)) ≡ []
+  pub is : meaning s limit ≡ Ok (levels_meant s limit)
+  pub levels : HaveLevels m root s.seed (levels_meant s limit)
+  pub ends : level_nodes m root (length (levels_meant s limit)) ≡ []
   pub counts : AreCountedLow m
   pub once : AreOnce (kins m) root
   pub reached : (k : ℕ) (n : Node Kept) → m k ≡ Some n → Reached m root k

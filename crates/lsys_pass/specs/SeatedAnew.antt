@@ -1,6 +1,6 @@
 -- Seats that some nodes took anew.
 use Rattle.std.specs.Prelude.{◌≡◌, ℕ, List}
-use Rattle.lsys_forest.specs.Groves.{In}
+use Rattle.lsys_spec.specs.Rows.{In}
 use Rattle.lsys_kept.specs.declared.seat.Seat.{Seat}
 use Rattle.lsys_kept.specs.Seats.{neighbours_at}
 

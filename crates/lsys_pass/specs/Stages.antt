@@ -1,5 +1,6 @@
 -- What a pass keeps true while it makes the levels of another system.
 use Rattle.std.specs.Prelude.{◌≡◌, ◌<◌, ◌≤◌, ◌+◌, ◌^◌, ◌⊎◌, ◌↔◌, ℕ, true, List, [], ◌∷◌, length, count_by, is_none, Ok, Err, Option, Some, None, cond, nat_eq, slice_get}
+use Rattle.lsys_spec.specs.Rows.{In, AreApart}
 use Rattle.lsys_spec.specs.Systems.{System, WellSpelled}
 use Rattle.lsys_spec.specs.Levels.{ModuleValue, Module}
 use Rattle.lsys_spec.specs.Levels as L
@@ -13,13 +14,13 @@ use Rattle.lsys_reads.specs.Relations.{Relations, is_pending}
 use Rattle.lsys_change.specs.Nodes.{AreOnce, Extends}
 use Rattle.lsys_forest.specs.Nodes.{Node, Nodes}
 use Rattle.lsys_forest.specs.Changes.{Change, undone}
-use Rattle.lsys_forest.specs.Answers.{Keeper, answers, IsHeld}
-use Rattle.lsys_forest.specs.Groves.{In, AreApart, AreSound, Reached}
+use Rattle.lsys_forest.specs.Answers.{AnswerKeeper, answers, IsHeld}
+use Rattle.lsys_forest.specs.Groves.{AreSound, Reached}
 use Rattle.lsys_forest.specs.Rows.{level_nodes}
 use Rattle.lsys_kept.specs.Names.{RunName, run_in, holds}
 use Rattle.lsys_kept.specs.Lineages.{kins}
 use Rattle.lsys_kept.specs.Levels.{HaveLevels, AnsweredAt, level_of, answer_at, HasRead}
-use Rattle.lsys_kept.specs.Meant.{meant, meant_to, level_to, IsCandidate, IsNeeded}
+use Rattle.lsys_kept.specs.Meant.{levels_meant, meant_to, level_to, IsCandidate, IsNeeded}
 use Rattle.lsys_kept.specs.declared.seat.Seat.{Seat}
 use Rattle.lsys_kept.specs.Neighbours.{neighbours_on}
 use Rattle.lsys_kept.specs.Seats.{neighbours_at, HasSeat}
@@ -59,8 +60,8 @@ was s = undone s.changes s.now
 -- made with the store, no two hold one run, and a run that none of them holds isn't live.
 pub record IsStored (m : Nodes Kept) (changes : List (Change Kept)) (root : ℕ) (store : Store) : Type 0 where
   pub sound : AreSound root changes m
-  pub made : (h : Keeper) (a : Kept) → answers m changes h ≡ Some a → IsMade store a
-  pub once : (h i : Keeper) (a b : Kept) (r : RunName) → answers m changes h ≡ Some a → answers m changes i ≡ Some b
+  pub made : (h : AnswerKeeper) (a : Kept) → answers m changes h ≡ Some a → IsMade store a
+  pub once : (h i : AnswerKeeper) (a b : Kept) (r : RunName) → answers m changes h ≡ Some a → answers m changes i ≡ Some b
       → holds a r → holds b r → h ≡ i
   pub freed : (r : RunName) → (IsHeld run_in holds (answers m changes) r → ⊥) → run_in store r ≡ None
 
@@ -76,7 +77,7 @@ fault_in k [] = None
 fault_in k (f ∷ fs) = cond (nat_eq k f.node) (Some f.kind) (fault_in k fs)
 
 -- the module at place p of level t has this fault
-abbrev pub HasFault : System → ℕ → List L.Symbol → ℕ → FaultKind → Type 0
+abbrev pub HasFault : System → ℕ → List L.LevelSymbol → ℕ → FaultKind → Type 0
 HasFault s t y p kind =
     (l : List ℕ) (m : ModuleValue) → slice_get y p ≡ Some (Module l m)
     → successor s t y p l m ≡ Err (fault_of kind)
@@ -86,13 +87,13 @@ OutcomeBy None answered faulted = answered
 OutcomeBy (Some kind) answered faulted = faulted kind
 
 -- What is kept of node k at place p of level t, if it isn't pending: the fault of its module, or the answer to its question.
-abbrev pub IsOutcome : Stage → ℕ → ℕ → ℕ → Type 0
-IsOutcome s t p k =
+abbrev pub IsNodeOutcome : Stage → ℕ → ℕ → ℕ → Type 0
+IsNodeOutcome s t p k =
     OutcomeBy (fault_in k s.faults) (AnsweredAt s.next t s.now s.root s.store p k)
     (HasFault s.next t (level_to s.next s.limit t) p)
 
 -- A fault that was noted is the one of its node, which is one of these; and it stands as a module on the level y, which they are.
-pub record IsNoted (faults : List Faulted) (ks : List ℕ) (y : List L.Symbol) (f : Faulted) : Type 0 where
+pub record IsNoted (faults : List Faulted) (ks : List ℕ) (y : List L.LevelSymbol) (f : Faulted) : Type 0 where
   pub place : ℕ
   pub line : List ℕ
   pub own : ModuleValue
@@ -100,11 +101,11 @@ pub record IsNoted (faults : List Faulted) (ks : List ℕ) (y : List L.Symbol) (
   pub stands : slice_get y place ≡ Some (Module line own)
   pub is : fault_in f.node faults ≡ Some f.kind
 
-abbrev pub AreNoted : List Faulted → List ℕ → List L.Symbol → Type 0
+abbrev pub AreNoted : List Faulted → List ℕ → List L.LevelSymbol → Type 0
 AreNoted faults ks y = (i : ℕ) (f : Faulted) → slice_get faults i ≡ Some f → IsNoted faults ks y f
 
 -- node k at place p of level t is still to be asked: a candidate, with the answer that it had, and no fault
-pub record IsOpen (s : Stage) (t p k : ℕ) : Type 0 where
+pub record IsPending (s : Stage) (t p k : ℕ) : Type 0 where
   pub pending : In k s.pending
   pub candidate : IsCandidate s.system s.next s.limit t p
   pub same : answer_at s.now k ≡ answer_at (was s) k
@@ -113,7 +114,7 @@ pub record IsOpen (s : Stage) (t p k : ℕ) : Type 0 where
 -- or it is not, and its outcome is kept
 pub record IsSettled (s : Stage) (t p k : ℕ) : Type 0 where
   pub done : In k s.pending → ⊥
-  pub outcome : IsOutcome s t p k
+  pub outcome : IsNodeOutcome s t p k
 
 -- the node at place p of level t has a question that the old system didn't answer
 abbrev pub IsNeededAt : Stage → ℕ → ℕ → Type 0
@@ -141,7 +142,7 @@ pub record HasAnswers (s : Stage) (t : ℕ) : Type 0 where
   pub above : (u p k : ℕ) → u < t → slice_get (level_nodes s.now s.root u) p ≡ Some k
       → AnsweredAt s.next u s.now s.root s.store p k
   pub here : (p k : ℕ) → slice_get (level_nodes s.now s.root t) p ≡ Some k
-      → IsOpen s t p k ⊎ IsSettled s t p k
+      → IsPending s t p k ⊎ IsSettled s t p k
   pub noted : AreNoted s.faults (level_nodes s.now s.root t) (level_of s.now s.root t)
   pub in_order : AreSome s.pending (level_nodes s.now s.root t)
   pub apart : AreApart s.pending
@@ -201,11 +202,11 @@ pub record IsAtLevel (s : Stage) (t : ℕ) : Type 0 where
 pub record IsDone (s : Stage) : Type 0 where
   pub rest : Rests s
   pub spelled : WellSpelled s.next
-  pub is : meaning s.next s.limit ≡ Ok (meant s.next s.limit)
-  pub levels : HaveLevels s.now s.root s.next.seed (meant s.next s.limit)
+  pub is : meaning s.next s.limit ≡ Ok (levels_meant s.next s.limit)
+  pub levels : HaveLevels s.now s.root s.next.seed (levels_meant s.next s.limit)
   pub small : s.next.depth < 2 ^ 32
   pub counts : AreCountedLow s.now
-  pub ends : level_nodes s.now s.root (length (meant s.next s.limit)) ≡ []
+  pub ends : level_nodes s.now s.root (length (levels_meant s.next s.limit)) ≡ []
   pub once : AreOnce (kins s.now) s.root
   pub stay : Extends (kins (was s)) (kins s.now)
   pub answered : (t p k : ℕ) → t < s.next.depth → slice_get (level_nodes s.now s.root t) p ≡ Some k

@@ -28,17 +28,17 @@ TakesAnswerAt old new k a =
     (n : Node Kept) → now_of old k ≡ Some n → TakesAnswer old new k n a
 
 -- what a step works on
-pub record Parts : Type 0 where
+pub record StepParts : Type 0 where
   pub forest : Grove Kept
   pub store : Store
   pub reads : Relations
   pub work : Work
 
-abbrev pub parts_of : Grove Kept → Store → Relations → Work → Parts
+abbrev pub parts_of : Grove Kept → Store → Relations → Work → StepParts
 parts_of f s r w = record { forest = f; store = s; reads = r; work = w }
 
 -- The node keeps a new answer. What it read is pending, and it is among those that were renewed.
-pub record KeepsNew (node : ℕ) (is_born : Bool) (old new : Parts) (a : Kept) : Type 0 where
+pub record KeepsNew (node : ℕ) (is_born : Bool) (old new : StepParts) (a : Kept) : Type 0 where
   pub kept : TakesAnswerAt old.forest new.forest node a
   pub store : new.store ≡ old.store
   pub read : new.reads.pending ≡ old.reads.pending ++ pairs_of node (tags_read old.store a)
@@ -48,7 +48,7 @@ pub record KeepsNew (node : ℕ) (is_born : Bool) (old new : Parts) (a : Kept) :
   pub faults : new.work.faults.items ≡ old.work.faults.items
 
 -- no answer is new
-pub record KeepsAnswers (old new : Parts) : Type 0 where
+pub record AddsNoAnswer (old new : StepParts) : Type 0 where
   pub forest : new.forest ≡ old.forest
   pub store : new.store ≡ old.store
   pub reads : new.reads ≡ old.reads
@@ -61,12 +61,12 @@ module _ {L : Type 0} where
   IsLiveIfNew s (Ok (New a)) = AreLive s (runs_of a)
   IsLiveIfNew s (Err e) = Unit {0}
 
-  abbrev pub KeepsOutcome : ℕ → Bool → Parts → Parts → Result (Asked L) AskRefusal → Type 0
+  abbrev pub KeepsOutcome : ℕ → Bool → StepParts → StepParts → Result (Asked L) AskRefusal → Type 0
   KeepsOutcome node is_born old new (Ok Same) =
-      KeepsAnswers old new × (new.work.faults.items ≡ old.work.faults.items)
+      AddsNoAnswer old new × (new.work.faults.items ≡ old.work.faults.items)
   KeepsOutcome node is_born old new (Ok (New a)) = KeepsNew node is_born old new a
   KeepsOutcome node is_born old new (Err (refusals.Fault k)) =
-      KeepsAnswers old new
+      AddsNoAnswer old new
       × (new.work.faults.items ≡ old.work.faults.items ++ record { node = node; kind = k } ∷ [])
   KeepsOutcome node is_born old new (Err refusals.Memory) = ⊥
 
@@ -76,7 +76,7 @@ module _ {L : Type 0} where
   ReleasesNew old new (Ok Same) = new ≡ old
   ReleasesNew old new (Err e) = new ≡ old
 
-  pub record KeepsNothing (old new : Parts) (r : Result (Asked L) AskRefusal) : Type 0 where
+  pub record KeepsNothing (old new : StepParts) (r : Result (Asked L) AskRefusal) : Type 0 where
     pub forest : new.forest ≡ old.forest
     pub store : ReleasesNew old.store new.store r
     pub read : new.reads.pending ≡ old.reads.pending

@@ -1,15 +1,15 @@
 -- What a contract sees of a derivation whose levels stand in a forest.
 use Rattle.std.specs.Prelude.{◌≡◌, ◌<◌, ◌+◌, ◌^◌, ℕ, zero, suc, List, [], ◌∷◌, ◌++◌, Option, length, map, take, cond, nat_lt, Ok}
 use Rattle.lsys_spec.specs.Systems.{System}
-use Rattle.lsys_spec.specs.Levels.{Symbol}
+use Rattle.lsys_spec.specs.Levels.{LevelSymbol}
 use Rattle.lsys_spec.specs.Meaning.{meaning}
 use Rattle.lsys_spec.specs.Questions.{questions}
-use Rattle.lsys_level.specs.Spots.{Spotted, level_at}
+use Rattle.lsys_level.specs.Spots.{Spotted, spots_at}
 use Rattle.lsys_match.specs.Kept.{Kept}
 use Rattle.lsys_forest.specs.Nodes.{Node, Nodes}
 use Rattle.lsys_forest.specs.Rows.{index_in, level_nodes, complete_levels}
 use Rattle.lsys_pass.specs.declared.state.PassState.TheVariants.{Rest}
-use Rattle.lsys_pass.specs.Passes.{PassView, now}
+use Rattle.lsys_pass.specs.Passes.{PassView, now_in}
 
 -- 1. where a symbol stands, by its tag
 
@@ -19,17 +19,17 @@ tags_on xs = map (λ (x : Spotted). x.tag) xs
 
 -- at which place of a level the tag stands first; how many symbols there are, where it is not
 -- among theirs
-abbrev pub place_in : ℕ → List Spotted → ℕ
-place_in tag xs = index_in tag (tags_on xs)
+abbrev pub tag_place : ℕ → List Spotted → ℕ
+tag_place tag xs = index_in tag (tags_on xs)
 
 -- on which level it stands first; how many levels there are, where it is on none
 abbrev pub level_in : ℕ → List (List Spotted) → ℕ
 level_in tag [] = 0
-level_in tag (x ∷ xs) = cond (nat_lt (place_in tag x) (length x)) 0 (suc (level_in tag xs))
+level_in tag (x ∷ xs) = cond (nat_lt (tag_place tag x) (length x)) 0 (suc (level_in tag xs))
 
 -- at which place of that level
 abbrev pub place_among : ℕ → List (List Spotted) → ℕ
-place_among tag levels = place_in tag (level_at levels (level_in tag levels))
+place_among tag levels = tag_place tag (spots_at levels (level_in tag levels))
 
 -- 2. a derivation
 
@@ -47,16 +47,16 @@ nodes_of_levels m root zero = []
 nodes_of_levels m root (suc t) = nodes_of_levels m root t ++ map m (level_nodes m root t) ∷ []
 
 -- the levels of a pass: those of its forest, up to the depth of its system
-abbrev pub levels_of : PassView → List (List Spotted)
-levels_of v = take (v.system.depth + 1) (complete_levels v.forest)
+abbrev pub pass_levels : PassView → List (List Spotted)
+pass_levels v = take (v.system.depth + 1) (complete_levels v.forest)
 
 -- what a derivation is seen as that keeps this pass
 abbrev pub view_of : PassView → ForestView
 view_of v = record {
   system = v.system;
   limit = v.limit;
-  levels = levels_of v;
-  nodes = nodes_of_levels (now v) v.forest.root (v.system.depth + 1);
+  levels = pass_levels v;
+  nodes = nodes_of_levels (now_in v) v.forest.root (v.system.depth + 1);
 }
 
 -- the pass is at rest, and its forest has a level for each of its system's
@@ -67,4 +67,4 @@ pub record IsQuiet (v : PassView) : Type 0 where
 -- so many questions the levels have that the system means
 abbrev pub CountsAnswered : ForestView → ℕ → Type 0
 CountsAnswered v n =
-    (x : List (List Symbol)) → meaning v.system v.limit ≡ Ok x → n ≡ length (questions v.system x)
+    (x : List (List LevelSymbol)) → meaning v.system v.limit ≡ Ok x → n ≡ length (questions v.system x)

@@ -17,7 +17,7 @@ pub record HasRoom (w : Work) : Type 0 where
   pub renewed : vec_len w.renewed < vec_capacity w.renewed
 
 -- the other lists stay, and what differs on the level
-pub record OthersStay (old new : Work) : Type 0 where
+pub record OtherListsStay (old new : Work) : Type 0 where
   pub pending : new.pending ≡ old.pending
   pub first_renewed : new.first_renewed ≡ old.first_renewed
   pub dropped : new.dropped ≡ old.dropped

@@ -1,17 +1,18 @@
 //! Who is asked on a level that was made.
 ghost use Rattle.std.specs.Prelude.{◌≡◌, ◌<◌, ◌≤◌, ◌^◌, ℕ, length, IfOk, OnOk};
-ghost use Rattle.lsys_forest.specs.Groves.{In};
-ghost use Rattle.lsys_forest.specs.Rows.{complete_levels};
+ghost use Rattle.lsys_spec.specs.Rows.{In};
+ghost use Rattle.lsys_forest.specs.Groves.{now_of};
+ghost use Rattle.lsys_forest.specs.Rows.{complete_levels, level_nodes};
 ghost use Rattle.lsys_pass.specs.declared.state.PassState.TheVariants.{Failed};
 ghost use Rattle.lsys_pass.specs.Passes.{stage_of};
 ghost use Rattle.lsys_pass.specs.Moves.{SameRun};
-ghost use Rattle.lsys_pass.specs.Fresh.{row_of, HasFound, Goes, IsToAsk};
-ghost use Rattle.lsys_pass.specs.Others.{IsOthers};
+ghost use Rattle.lsys_pass.specs.Fresh.{row_of, HasFound, Goes, IsReadyToAsk};
+ghost use Rattle.lsys_pass.specs.Others.{AllLive, IsOthers, ListsOthers};
 
 use crate::keep::target;
 use crate::pass::Pass;
 use lsys_candidates::{LevelRules, add_others};
-use lsys_forest::NodeId;
+use lsys_forest::{Forest, Kept, NodeId};
 use lsys_front::Found;
 use lsys_repair::list_level;
 use std::alloc::{AllocError, Global};
@@ -37,7 +38,7 @@ impl<L: Ledger> Pass<L> {
         requires found { HasFound self.old level found.now.beside.items found.now.readers.items }
         requires below { level < self.old.next.depth }
         requires few { level < 2 ^ 32 }
-        ensures asked { OnOk result (IsToAsk self.new level) }
+        ensures asked { OnOk result (IsReadyToAsk self.new level) }
         ensures goes { OnOk result (Goes (stage_of self.old) (stage_of self.new) level) }
         ensures rows { OnOk result
             ((u : ℕ) → u ≤ level → row_of self.new u ≡ row_of self.old u) }
@@ -80,18 +81,53 @@ impl<L: Ledger> Pass<L> {
         requires complete { level < length (complete_levels self.now.forest) }
         ensures others { IfOk result (λ others. IsOthers self.now level others.items) }
     {
-        let mut others = Vec::new(alloc);
         if level >= self.system.depth() {
-            list_level(&self.forest, level, &mut others)?;
-            return Ok(others);
+            return nodes_on(alloc, &self.forest, level);
         }
         let system = target(&self.next, &self.system);
         let mut rules = LevelRules::new(alloc, &self.system, system, level)?;
-        if !rules.are_all_alike()? {
-            let mut nodes = Vec::new(alloc);
-            list_level(&self.forest, level, &mut nodes)?;
-            add_others(&mut rules, &self.forest, &nodes, &mut others)?;
+        if rules.are_all_alike()? {
+            return Ok(Vec::new(alloc));
         }
-        Ok(others)
+        others_on(alloc, &mut rules, &self.forest, level)
     }
+}
+
+/// The nodes of a level.
+///
+/// # Errors
+///
+/// Want of memory.
+fn nodes_on<A: Kept>(
+    alloc: Global,
+    forest: &Forest<A>,
+    level: u32,
+) -> Result<Vec<NodeId>, AllocError>
+    requires { level < length (complete_levels forest.now) }
+    ensures { IfOk result (λ row. row.items ≡ level_nodes (now_of forest.now) forest.now.root level) }
+{
+    let mut nodes = Vec::new(alloc);
+    list_level(forest, level, &mut nodes)?;
+    Ok(nodes)
+}
+
+/// The nodes of a level that are modules with other rules.
+///
+/// # Errors
+///
+/// Want of memory.
+fn others_on<A: Kept>(
+    alloc: Global,
+    rules: &mut LevelRules<'_>,
+    forest: &Forest<A>,
+    level: u32,
+) -> Result<Vec<NodeId>, AllocError>
+    requires level { level < length (complete_levels forest.now) }
+    requires live { AllLive forest.now (level_nodes (now_of forest.now) forest.now.root level) }
+    ensures { IfOk result (λ others. ListsOthers rules.old forest.now level others.items) }
+{
+    let nodes = nodes_on(alloc, forest, level)?;
+    let mut others = Vec::new(alloc);
+    add_others(rules, forest, &nodes, &mut others)?;
+    Ok(others)
 }

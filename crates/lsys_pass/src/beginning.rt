@@ -1,5 +1,6 @@
 //! The first level of another system.
 ghost use Rattle.std.specs.Prelude.{◌≡◌, ◌<◌, ◌^◌, [], length, IfOk, IfErr, OnOk, OnErr};
+ghost use Rattle.lsys_match.specs.Derivations.{IsLevelRefusal};
 ghost use Rattle.lsys_change.specs.Nodes.{AreOnce};
 ghost use Rattle.lsys_forest.specs.Groves.{now_of, rest_of, kept_in, live_nodes};
 ghost use Rattle.lsys_kept.specs.Lineages.{kins};
@@ -7,8 +8,8 @@ ghost use Rattle.lsys_repair.specs.Renewals.{AreSmall, AreAllUnder};
 ghost use Rattle.lsys_pass.specs.declared.state.PassState.TheVariants.{Rest, Failed};
 ghost use Rattle.lsys_pass.specs.Sizes.{with_level};
 ghost use Rattle.lsys_pass.specs.Passes.{stage_of};
-ghost use Rattle.lsys_pass.specs.Moves.{IsRefusal, SameRun, IsNext, IsBack};
-ghost use Rattle.lsys_pass.specs.Fresh.{row_of, Goes, IsFresh};
+ghost use Rattle.lsys_pass.specs.Moves.{SameRun, ArrivesAt, IsBack};
+ghost use Rattle.lsys_pass.specs.Fresh.{row_of, Goes, WasJustMade};
 ghost use Rattle.lsys_pass.specs.Beginnings.{Begun, KeepsNodes, WasStill, MakesFirstIn};
 ghost use Rattle.lsys_pass.specs.Spent.{AllPending};
 
@@ -41,7 +42,7 @@ impl<L: Ledger> Pass<L> {
         ensures begins { OnOk result (Begun self.old self.new system) }
         ensures all { OnOk result (AllPending self.new self.new.state) }
         ensures back { OnErr result (IsBack self.old self.new) }
-        ensures refusal { IfErr result (IsRefusal system self.old.limit) }
+        ensures refusal { IfErr result (IsLevelRefusal system self.old.limit) }
     {
         self.next = Some(system);
         self.state = PassState::Failed;
@@ -60,11 +61,11 @@ impl<L: Ledger> Pass<L> {
     fn come_to_first(&mut self, alloc: Global) -> Result<(), DeriveRefusal>
         requires failed { self.old.state ≡ Failed }
         requires still { WasStill self.old }
-        ensures comes { OnOk result (IsNext self.old.next 0 self.new.state) }
+        ensures comes { OnOk result (ArrivesAt self.old.next 0 self.new.state) }
         ensures all { OnOk result (AllPending self.new self.new.state) }
         ensures renewed { OnOk result (self.new.renewed ≡ []) }
         ensures fails { OnErr result (self.new.state ≡ Failed) }
-        ensures refusal { IfErr result (IsRefusal self.old.next self.old.limit) }
+        ensures refusal { IfErr result (IsLevelRefusal self.old.next self.old.limit) }
         ensures run { SameRun self.old self.new }
     {
         let depth = self.depth();
@@ -81,11 +82,11 @@ impl<L: Ledger> Pass<L> {
     fn make_first_level(&mut self, alloc: Global) -> Result<(), DeriveRefusal>
         requires failed { self.old.state ≡ Failed }
         requires still { WasStill self.old }
-        ensures fresh { OnOk result (IsFresh self.new 0) }
+        ensures fresh { OnOk result (WasJustMade self.new 0) }
         ensures goes { OnOk result (Goes (stage_of self.old) (stage_of self.new) 0) }
         ensures made { OnOk result
             (self.new.made ≡ with_level [] (length (row_of self.new 0))) }
-        ensures refusal { IfErr result (IsRefusal self.old.next self.old.limit) }
+        ensures refusal { IfErr result (IsLevelRefusal self.old.next self.old.limit) }
         ensures run { SameRun self.old self.new }
         ensures state { self.new.state ≡ Failed }
     {
@@ -124,7 +125,7 @@ fn make_first_nodes<L: Ledger>(
     requires under { AreAllUnder (now_of forest.old) forest.old.root forest.old.root }
     requires few { live_nodes forest.old < 2 ^ 32 }
     ensures made { IfOk result (MakesFirstIn system.now limit forest.old forest.new) }
-    ensures refusal { IfErr result (IsRefusal system.now limit) }
+    ensures refusal { IfErr result (IsLevelRefusal system.now limit) }
     ensures stays { OnErr result (KeepsNodes forest.old forest.new) }
     ensures few { live_nodes forest.new < 2 ^ 32 }
     ensures rest { rest_of forest.new ≡ rest_of forest.old }

@@ -1,10 +1,10 @@
 //! An edit: a pass makes the levels of another system, one after the other.
 ghost use Rattle.std.specs.Prelude.{◌≡◌, ◌≢◌, ◌+◌, ◌*◌, ◌≤◌, [], length, IfOk, OnOk, OnErr, IfErr, IfSome, IfNone};
-ghost use Rattle.lsys_match.specs.Derivations.{Rises, most_read};
-ghost use Rattle.lsys_forest.specs.Groves.{In};
+ghost use Rattle.lsys_spec.specs.Rows.{In};
+ghost use Rattle.lsys_match.specs.Derivations.{Rises, most_read, IsLevelRefusal};
 ghost use Rattle.lsys_pass.specs.declared.state.PassState.TheVariants.{Rest, Done};
 ghost use Rattle.lsys_pass.specs.Passes.{IsPass};
-ghost use Rattle.lsys_pass.specs.Moves.{AtLevel, SameRun, IsBack, IsNext, IsRefusal};
+ghost use Rattle.lsys_pass.specs.Moves.{AtLevel, SameRun, IsBack, ArrivesAt};
 ghost use Rattle.lsys_pass.specs.Spent.{AllPending, spent_visits, AsksRenewed, AsksWithin, VisitsSpent, VisitsWithin};
 ghost use Rattle.lsys_pass.specs.Edits.{IsEdited, CountsEdited, ReadsEdited};
 
@@ -37,7 +37,7 @@ impl<L: Ledger> Pass<L> {
         ensures rest { self.new.state ≡ Rest }
         ensures limit { self.new.limit ≡ self.old.limit }
         ensures edited { OnOk result (IsEdited self.old self.new system) }
-        ensures refusal { IfErr result (IsRefusal system self.old.limit) }
+        ensures refusal { IfErr result (IsLevelRefusal system self.old.limit) }
         ensures counted { CountsEdited self.old.system system self.old.limit result }
         ensures asked { IfOk result (λ count. asked.new ≡ asked.old + count.asked) }
         ensures read { ReadsEdited self.old.system system self.old.limit visited.old visited.new result }
@@ -73,7 +73,7 @@ impl<L: Ledger> Pass<L> {
         asked: &mut Steps<L>,
         visited: &mut Steps<V>,
     ) -> Result<(), DeriveRefusal>
-        requires first { IsNext self.old.next 0 self.old.state }
+        requires first { ArrivesAt self.old.next 0 self.old.state }
         requires pending { AllPending self.old self.old.state }
         requires renewed { self.old.renewed ≡ [] }
         ensures run { SameRun self.old self.new }
@@ -81,7 +81,7 @@ impl<L: Ledger> Pass<L> {
         ensures done { OnOk result (self.new.state ≡ Done) }
         ensures asks { OnOk result (asked.new ≡ asked.old + length self.new.renewed) }
         ensures visits { OnOk result (visited.new ≡ visited.old + spent_visits self.new) }
-        ensures refusal { IfErr result (IsRefusal self.old.next self.old.limit) }
+        ensures refusal { IfErr result (IsLevelRefusal self.old.next self.old.limit) }
         ensures other { OnErr result (self.new.state ≢ Rest) }
         ensures few_asked { OnErr result (Rises 0 self.old.limit asked.old asked.new) }
         ensures few_read { OnErr result

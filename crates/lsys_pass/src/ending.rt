@@ -1,6 +1,7 @@
 //! The last level of a system.
 ghost use Rattle.std.specs.Prelude.{◌≡◌, ◌≤◌, ◌<◌, ◌^◌, ℕ, List, length, OnOk};
-ghost use Rattle.lsys_forest.specs.Groves.{In, IsSound, now_of, changes_in, live_nodes, IsLive};
+ghost use Rattle.lsys_spec.specs.Rows.{In};
+ghost use Rattle.lsys_forest.specs.Groves.{IsRooted, now_of, changes_in, live_nodes, IsLive};
 ghost use Rattle.lsys_forest.specs.Rows.{complete_levels};
 ghost use Rattle.lsys_front.specs.Losses.{LosesOnly};
 ghost use Rattle.lsys_pass.specs.declared.state.PassState.TheVariants.{Failed};
@@ -70,7 +71,7 @@ fn end_forest<A: Kept>(
     gone: &[NodeId],
     dropped: &mut Vec<Tag>,
 ) -> Result<(), AllocError>
-    requires sound { IsSound forest.old.root (changes_in forest.old) (now_of forest.old) }
+    requires sound { IsRooted forest.old.root (changes_in forest.old) (now_of forest.old) }
     requires few { live_nodes forest.old < 2 ^ 32 }
     requires level { level < length (complete_levels forest.old) }
     requires lives { (k : ℕ) → In k gone.now → IsLive forest.old k }

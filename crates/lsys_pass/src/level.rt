@@ -1,17 +1,16 @@
 //! The next level is made.
 ghost use Rattle.std.specs.Prelude.{◌≡◌, ◌≤◌, ◌<◌, ◌+◌, ◌^◌, ℕ, IfOk, OnOk};
 ghost use Rattle.lsys_forest.specs.Groves.{AreSound, now_of, changes_in, live_nodes};
-ghost use Rattle.lsys_kept.specs.Levels.{answer_at};
 ghost use Rattle.lsys_repair.specs.Parents.{nodes_in, HasParents};
 ghost use Rattle.lsys_repair.specs.Needs.{needs};
 ghost use Rattle.lsys_pass.specs.declared.state.PassState.TheVariants.{Failed};
 ghost use Rattle.lsys_pass.specs.Sizes.{total_of};
 ghost use Rattle.lsys_pass.specs.Advances.{symbols_wanted};
-ghost use Rattle.lsys_pass.specs.Passes.{stage_of, now};
+ghost use Rattle.lsys_pass.specs.Passes.{stage_of, now_in, AnswersStay};
 ghost use Rattle.lsys_pass.specs.Moves.{SameRun};
 ghost use Rattle.lsys_pass.specs.Beginnings.{KeepsNodes};
 ghost use Rattle.lsys_pass.specs.Made.{KeepsAnswers, MakesBelow};
-ghost use Rattle.lsys_pass.specs.Fresh.{WasAsked, AreNextParents, IsFresh, Goes, SizesLevel};
+ghost use Rattle.lsys_pass.specs.Fresh.{WasAsked, AreNextParents, WasJustMade, Goes, SizesLevel};
 
 use crate::keep::target;
 use crate::pass::Pass;
@@ -52,15 +51,14 @@ impl<L: Ledger> Pass<L> {
         requires failed { self.old.state ≡ Failed }
         requires asked { WasAsked self.old level }
         requires found { AreNextParents self.old level parents.now }
-        requires need { need.now ≡ needs self.old.next.numbering (now self.old) parents.now }
+        requires need { need.now ≡ needs self.old.next.numbering (now_in self.old) parents.now }
         requires symbols { symbols ≡ symbols_wanted (stage_of self.old) level }
         requires within { total_of self.old.made + symbols ≤ self.old.limit }
         requires below { level < self.old.next.depth }
-        ensures fresh { OnOk result (IsFresh self.new (level + 1)) }
+        ensures fresh { OnOk result (WasJustMade self.new (level + 1)) }
         ensures goes { OnOk result (Goes (stage_of self.old) (stage_of self.new) (level + 1)) }
         ensures made { OnOk result (SizesLevel self.old self.new (level + 1)) }
-        ensures answers { OnOk result
-            ((k : ℕ) → answer_at (now self.new) k ≡ answer_at (now self.old) k) }
+        ensures answers { OnOk result (AnswersStay self.old self.new) }
         ensures run { SameRun self.old self.new }
         ensures state { self.new.state ≡ Failed }
     {

@@ -1,10 +1,11 @@
 //! A level is finished, and the next one is made.
 ghost use Rattle.std.specs.Prelude.{◌≡◌, ◌+◌, [], OnOk, OnErr, IfErr};
+ghost use Rattle.lsys_match.specs.Derivations.{IsLevelRefusal};
 ghost use Rattle.lsys_pass.specs.declared.state.PassState.TheVariants.{Failed};
-ghost use Rattle.lsys_pass.specs.Moves.{AtLevel, SameRun, IsNext, Finishes, Fails, IsRefusal};
-ghost use Rattle.lsys_pass.specs.Passes.{now};
+ghost use Rattle.lsys_pass.specs.Moves.{AtLevel, SameRun, ArrivesAt, Finishes, Fails};
+ghost use Rattle.lsys_pass.specs.Passes.{now_in};
 ghost use Rattle.lsys_pass.specs.Sizes.{HaveSizesTo};
-ghost use Rattle.lsys_pass.specs.Fresh.{IsFresh, Origin};
+ghost use Rattle.lsys_pass.specs.Fresh.{WasJustMade, Origin};
 ghost use Rattle.lsys_pass.specs.Spent.{AllPending};
 
 use crate::keep::target;
@@ -30,7 +31,7 @@ impl<L: Ledger> Pass<L> {
         ensures finishes { OnOk result (Finishes self.old self.new) }
         ensures all { OnOk result (AllPending self.new self.new.state) }
         ensures fails { OnErr result (Fails self.old self.new) }
-        ensures refusal { IfErr result (IsRefusal self.old.next self.old.limit) }
+        ensures refusal { IfErr result (IsLevelRefusal self.old.next self.old.limit) }
     {
         let level = match self.state {
             PassState::Level(level) => level,
@@ -69,13 +70,13 @@ impl<L: Ledger> Pass<L> {
         depth: u32,
     ) -> Result<(), AllocError>
         requires failed { self.old.state ≡ Failed }
-        requires fresh { IsFresh self.old level }
+        requires fresh { WasJustMade self.old level }
         requires origin { Origin self.old level }
         requires depth { depth ≡ self.old.next.depth }
-        requires sizes { HaveSizesTo (now self.old) self.old.forest.root self.old.made level }
+        requires sizes { HaveSizesTo (now_in self.old) self.old.forest.root self.old.made level }
         ensures run { SameRun self.old self.new }
         ensures renewed { OnOk result (self.new.renewed ≡ self.old.renewed) }
-        ensures comes { OnOk result (IsNext self.old.next level self.new.state) }
+        ensures comes { OnOk result (ArrivesAt self.old.next level self.new.state) }
         ensures all { OnOk result (AllPending self.new self.new.state) }
         ensures fails { OnErr result (self.new.state ≡ Failed) }
     {

@@ -1,7 +1,7 @@
 //! What is kept when a node was asked.
 ghost use Rattle.std.specs.Prelude.{◌<◌, ◌≤◌, length, OnOk, OnErr};
 ghost use Rattle.lsys_forest.specs.Groves.{IsLive};
-ghost use Rattle.lsys_pass.specs.Works.{HasRoom, OthersStay};
+ghost use Rattle.lsys_pass.specs.Works.{HasRoom, OtherListsStay};
 ghost use Rattle.lsys_pass.specs.Steps.{IsLiveIfNew, KeepsOutcomeIn, KeepsNothingIn};
 
 use crate::keep::keep;
@@ -34,7 +34,7 @@ pub(crate) fn keep_outcome<L: Ledger>(
     requires few { work.old.born ≤ length work.old.renewed.items }
     ensures kept { OnOk result (KeepsOutcomeIn node is_born forest store reads work outcome) }
     ensures refused { OnErr result (KeepsNothingIn forest store reads work outcome) }
-    ensures others { OthersStay work.old work.new }
+    ensures others { OtherListsStay work.old work.new }
 {
     match outcome {
         Ok(Asked::Same) => Ok(()),

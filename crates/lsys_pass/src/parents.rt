@@ -1,11 +1,11 @@
 //! The parents whose children are made.
 ghost use Rattle.std.specs.Prelude.{◌≡◌, ◌↔◌, ◌<◌, ℕ, true, false, map, None, IfOk, IfSome};
-ghost use Rattle.lsys_forest.specs.Groves.{In, AreApart};
-ghost use Rattle.lsys_repair.specs.Parents.{whole};
+ghost use Rattle.lsys_spec.specs.Rows.{In, AreApart};
+ghost use Rattle.lsys_repair.specs.Parents.{uncut};
 ghost use Rattle.lsys_kept.specs.Seats.{SameSeats, KeepsSeats};
 ghost use Rattle.lsys_pass.specs.declared.state.PassState.TheVariants.{Failed};
 ghost use Rattle.lsys_pass.specs.Sizes.{with_open};
-ghost use Rattle.lsys_pass.specs.Fresh.{WasAsked, IsChanged, IsSameLevel, AreNextParents, AreWalkedOrAlone, IsClosedUnless};
+ghost use Rattle.lsys_pass.specs.Fresh.{WasAsked, IsChanged, IsMadeAlike, AreNextParents, AreWalkedOrAlone, IsClosedUnless};
 ghost use Rattle.lsys_pass.specs.NextParents.{AreWholeOrAlone};
 
 use crate::keep::target;
@@ -98,7 +98,7 @@ impl<L: Ledger> Pass<L> {
         requires asked { WasAsked self.now level }
         requires are { (k : ℕ) → In k nodes.now ↔ IsChanged self.now k }
         requires once { AreApart nodes.now }
-        requires same { IsSameLevel self.now level }
+        requires same { IsMadeAlike self.now level }
         ensures found { IfOk result (λ o. IfSome o (λ ps. AreNextParents self.now level ps.list.items)) }
         ensures either { IfOk result (λ o. IfSome o (AreWholeOrAlone self.now level)) }
         ensures closed { IfOk result (λ o. IfSome o (λ ps. IsClosedUnless self.now level ps.is_open)) }
@@ -134,7 +134,7 @@ impl<L: Ledger> Pass<L> {
     /// Whether any child below the level may be another: it was the last level, keys or lineages are others, or a cut on it
     /// reached what stood behind it.
     fn is_other_level(&self, level: u32) -> bool
-        ensures { result ≡ false → IsSameLevel self.now level }
+        ensures { result ≡ false → IsMadeAlike self.now level }
     {
         let next = target(&self.next, &self.system);
         level >= self.system.depth()
@@ -156,7 +156,7 @@ fn is_same_numbering(one: Numbering, two: Numbering) -> bool
 
 /// These nodes as parents of which none is cut off.
 fn whole_parents(alloc: Global, nodes: &[NodeId]) -> Result<Vec<Parent>, AllocError>
-    ensures { IfOk result (λ parents. parents.items ≡ map whole nodes.now) }
+    ensures { IfOk result (λ parents. parents.items ≡ map uncut nodes.now) }
 {
     let mut parents = Vec::new(alloc);
     for node in nodes {

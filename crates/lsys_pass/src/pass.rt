@@ -1,13 +1,13 @@
 //! The pass.
 ghost use Rattle.std.specs.Prelude.{◌≡◌, ◌+◌, ◌-◌, ◌<◌, ◌≢◌, [], length, slice_get, Some, MatchOption, IfOk, OnOk, OnErr};
+ghost use Rattle.lsys_spec.specs.Rows.{In};
 ghost use Rattle.lsys_spec.specs.Systems.{opening};
 ghost use Rattle.lsys_spec.specs.Questions.{questions};
-ghost use Rattle.lsys_match.specs.Derivations.{Rises, most_read};
-ghost use Rattle.lsys_forest.specs.Groves.{In};
+ghost use Rattle.lsys_match.specs.Derivations.{Rises, most_read, IsLevelRefusal};
 ghost use Rattle.lsys_pass.specs.declared.state.PassState.TheVariants.{Rest, Level, Done, Failed};
 ghost use Rattle.lsys_pass.specs.Passes.{HasOwnRuns, IsPass};
 ghost use Rattle.lsys_pass.specs.Works.{IsCleared};
-ghost use Rattle.lsys_pass.specs.Moves.{AtLevel, Fails, IsBack, IsRefusal, StepsOver, Waits, Closes, CountsBoth, MovesBoth};
+ghost use Rattle.lsys_pass.specs.Moves.{AtLevel, Fails, IsBack, StepsOver, Waits, ComesToRest, CountsBoth, MovesBoth};
 ghost use Rattle.lsys_pass.specs.Spent.{AsksRenewed};
 
 use crate::keep::{answer_of, take_over, target};
@@ -149,7 +149,7 @@ impl<L: Ledger> Pass<L> {
         requires state { self.now.state ≡ Level level }
         requires pending { self.now.pending ≡ [] }
         ensures { MatchOption result (self.now.faults ≡ [])
-            (IsRefusal self.now.next self.now.limit) }
+            (IsLevelRefusal self.now.next self.now.limit) }
     {
         first_fault(&self.forest, level, &self.work.faults)
     }
@@ -233,7 +233,7 @@ impl<L: Ledger> Pass<L> {
     /// answer of a node holds is given back. It takes no memory.
     pub fn close(&mut self) -> EditCount
         requires { self.old.state ≡ Done }
-        ensures closes { Closes self.old self.new }
+        ensures closes { ComesToRest self.old self.new }
         ensures counts { CountsBoth self.old result }
         ensures asked { result.asked ≡ length self.old.renewed }
         ensures runs { HasOwnRuns self.new }

@@ -1,9 +1,9 @@
 //! Nodes that are still to be asked.
 ghost use Rattle.std.specs.Prelude.{◌≡◌, ◌<◌, ℕ, List, [], Some, IfOk, OnOk, OnErr, length, map, slice_get};
 ghost use Rattle.std.specs.List.{remove};
-ghost use Rattle.lsys_forest.specs.Groves.{In};
-ghost use Rattle.lsys_pass.specs.Places.{AreInOrder};
-ghost use Rattle.lsys_pass.specs.Queues.{AreCounted, those_left, slot_of};
+ghost use Rattle.lsys_spec.specs.Rows.{In};
+ghost use Rattle.lsys_pass.specs.Places.{AreInOrderOnLevel};
+ghost use Rattle.lsys_pass.specs.Queues.{AreCounted, those_left, fresh_slot};
 
 use lsys_forest::{Forest, Kept, NodeId};
 use std::alloc::{AllocError, Global};
@@ -92,7 +92,7 @@ impl Queue {
     /// At which place a node stands, where the nodes are in order on one complete level. The last one is looked at first; else
     /// it is found by halves: as many nodes as a logarithm are looked up and compared.
     pub(crate) fn place_of<A: Kept>(&self, forest: &Forest<A>, node: NodeId) -> usize
-        requires order { AreInOrder forest.now self.now }
+        requires order { AreInOrderOnLevel forest.now self.now }
         requires among { In node self.now }
         ensures { slice_get self.now result ≡ Some node }
     {
@@ -124,7 +124,7 @@ impl Queue {
 
 /// Slots of these nodes, of which none is gone.
 fn slots_of(alloc: Global, nodes: &[NodeId]) -> Result<Vec<Slot>, AllocError>
-    ensures { IfOk result (λ slots. slots.items ≡ map slot_of nodes.now) }
+    ensures { IfOk result (λ slots. slots.items ≡ map fresh_slot nodes.now) }
 {
     nodes
         .iter()

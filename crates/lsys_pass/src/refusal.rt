@@ -1,9 +1,9 @@
 //! Why a level has no next one: the leftmost of its faults.
 ghost use Rattle.std.specs.Prelude.{◌≡◌, ◌⊎◌, ◌+◌, ◌<◌, ◌≤◌, ◌^◌, [], length, MatchOption};
 ghost use Rattle.lsys_forest.specs.Rows.{IsAtSpot, complete_levels, level_of_node, place_of_node};
-ghost use Rattle.lsys_level.specs.Spots.{IsSpot, level_at};
+ghost use Rattle.lsys_level.specs.Spots.{IsSpot, spots_at};
 ghost use Rattle.lsys_level.specs.Views.{seen_of};
-ghost use Rattle.lsys_pass.specs.Leftmost.{AreOnLevel, IsLeftmost, IsFirstFault, is_one, modules_at};
+ghost use Rattle.lsys_pass.specs.Leftmost.{AreOnLevel, IsLeftmost, IsLeftmostFault, is_one, modules_at};
 ghost use Rattle.lsys_pass.specs.Beginnings.{RefusesLongAxiom};
 
 use crate::fault::Faulted;
@@ -19,8 +19,8 @@ pub(crate) fn first_fault<A: Kept>(
     faults: &[Faulted],
 ) -> Option<DeriveRefusal>
     requires on_level { AreOnLevel forest.now level faults.now }
-    requires few { length (level_at (complete_levels forest.now) level) < 2 ^ 32 }
-    ensures { MatchOption result (faults.now ≡ []) (IsFirstFault forest.now level faults.now) }
+    requires few { length (spots_at (complete_levels forest.now) level) < 2 ^ 32 }
+    ensures { MatchOption result (faults.now ≡ []) (IsLeftmostFault forest.now level faults.now) }
 {
     let first = leftmost(forest, level, faults)?;
     Some(DeriveRefusal::Fault {

@@ -1,6 +1,7 @@
 //! Seats of many nodes.
 ghost use Rattle.std.specs.Prelude.{◌≡◌, ℕ, OnOk};
-ghost use Rattle.lsys_forest.specs.Groves.{In, IsLive};
+ghost use Rattle.lsys_spec.specs.Rows.{In};
+ghost use Rattle.lsys_forest.specs.Groves.{IsLive};
 ghost use Rattle.lsys_kept.specs.Neighbours.{neighbours_in, IsOnLevel};
 ghost use Rattle.lsys_kept.specs.Seats.{neighbours_at, HasSeat, SameSeats, SameMarks, KeepsSeats};
 ghost use Rattle.lsys_pass.specs.SeatedAnew.{KeepsOtherSeats};

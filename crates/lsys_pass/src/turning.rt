@@ -1,11 +1,12 @@
 //! Which nodes of a level turned, and who else on it may have another question.
 ghost use Rattle.std.specs.Prelude.{◌≡◌, ◌<◌, ◌^◌, ℕ, false, length, IfOk, OnOk};
-ghost use Rattle.lsys_forest.specs.Groves.{In, IsLive};
+ghost use Rattle.lsys_spec.specs.Rows.{In};
+ghost use Rattle.lsys_forest.specs.Groves.{IsLive};
 ghost use Rattle.lsys_kept.specs.Seats.{is_marked, SameSeats, KeepsSeats};
-ghost use Rattle.lsys_candidates.specs.Found.{AreOnLevels, HasRoom};
+ghost use Rattle.lsys_candidates.specs.Found.{AreOnLevels, HasSeatsForFound};
 ghost use Rattle.lsys_pass.specs.declared.state.PassState.TheVariants.{Failed};
 ghost use Rattle.lsys_pass.specs.Passes.{stage_of};
-ghost use Rattle.lsys_pass.specs.Fresh.{Goes, IsFresh, FindsTurned, TurnsOnly};
+ghost use Rattle.lsys_pass.specs.Fresh.{Goes, WasJustMade, KnowsTurned, TurnsOnly};
 ghost use Rattle.lsys_pass.specs.Works.{DropsGone, IsFoundBy, MovesTurned};
 
 use crate::pass::Pass;
@@ -29,8 +30,8 @@ impl<L: Ledger> Pass<L> {
     /// Want of memory. The last rest stays.
     pub(crate) fn find_turned(&mut self, alloc: Global) -> Result<Found, AllocError>
         requires failed { self.old.state ≡ Failed }
-        requires fresh { (t : ℕ) × (t < 2 ^ 32) × IsFresh self.old t }
-        ensures found { IfOk result (λ f. FindsTurned self.old self.new f.beside.items f.readers.items) }
+        requires fresh { (t : ℕ) × (t < 2 ^ 32) × WasJustMade self.old t }
+        ensures found { IfOk result (λ f. KnowsTurned self.old self.new f.beside.items f.readers.items) }
         ensures goes { OnOk result ((t : ℕ) → Goes (stage_of self.old) (stage_of self.new) t) }
         ensures same { TurnsOnly self.old self.new }
         ensures seats { SameSeats self.old.seats self.new.seats }
@@ -57,7 +58,7 @@ impl Work {
     ) -> Result<Found, AllocError>
         requires lives { (k : ℕ) → In k self.old.front.changes.gone → IsLive forest.now k }
         requires levels { AreOnLevels forest.now self.old.front.changes }
-        requires room { HasRoom forest.now reads.now self.old.front.changes seats.old }
+        requires room { HasSeatsForFound forest.now reads.now self.old.front.changes seats.old }
         requires clear { (k : ℕ) → is_marked seats.old k ≡ false }
         ensures found { IfOk result (IsFoundBy forest.now seats.old reads.now self.old self.new) }
         ensures dropped { OnOk result (DropsGone forest.now self.old self.new) }

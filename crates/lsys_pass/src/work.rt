@@ -1,6 +1,6 @@
 //! What a pass works on.
 ghost use Rattle.std.specs.Prelude.{◌≡◌, ◌≤◌, ◌+◌, ◌++◌, ◌∷◌, [], length, if◌then◌else◌, OnOk};
-ghost use Rattle.lsys_pass.specs.Works.{HasRoom, OthersStay, IsCleared, faulted};
+ghost use Rattle.lsys_pass.specs.Works.{HasRoom, OtherListsStay, IsCleared, faulted};
 
 use crate::fault::Faulted;
 use crate::keep::push_in_room;
@@ -51,7 +51,7 @@ impl Work {
     pub(crate) fn reserve(&mut self) -> Result<(), AllocError>
         ensures faults { self.new.faults.items ≡ self.old.faults.items }
         ensures renewed { self.new.renewed.items ≡ self.old.renewed.items }
-        ensures others { OthersStay self.old self.new }
+        ensures others { OtherListsStay self.old self.new }
         ensures born { self.new.born ≡ self.old.born }
         ensures room { OnOk result (HasRoom self.new) }
     {
@@ -66,7 +66,7 @@ impl Work {
         ensures renewed { self.new.renewed.items ≡ self.old.renewed.items ++ node ∷ [] }
         ensures born { self.new.born ≡ self.old.born + (if is_born then 1 else 0) }
         ensures faults { self.new.faults.items ≡ self.old.faults.items }
-        ensures others { OthersStay self.old self.new }
+        ensures others { OtherListsStay self.old self.new }
     {
         push_in_room(&mut self.renewed, Tag(node.0));
         self.born += usize::from(is_born);
@@ -78,7 +78,7 @@ impl Work {
         ensures faults { self.new.faults.items ≡ self.old.faults.items ++ faulted node kind ∷ [] }
         ensures renewed { self.new.renewed.items ≡ self.old.renewed.items }
         ensures born { self.new.born ≡ self.old.born }
-        ensures others { OthersStay self.old self.new }
+        ensures others { OtherListsStay self.old self.new }
     {
         push_in_room(&mut self.faults, Faulted { node, kind });
     }

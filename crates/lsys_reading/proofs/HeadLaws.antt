@@ -3,7 +3,7 @@ use Rattle.std.proofs.Common.{◌≡◌, ◌⊎◌, inl, inr, arith, ◌<◌, �
 use Rattle.lsys_syntax.specs.Tokens.{NameText, Kind, Less, Greater, Colon, At, Arrow}
 use Rattle.lsys_syntax.specs.Strings.{ModuleName, named, plus, minus, ampersand, caret, backslash, slash, bar, bang, name_kind, Symbol, Module, Push, Pop, Cut}
 use Rattle.lsys_syntax.specs.RuleMachine as machine
-use Rattle.lsys_syntax.specs.RuleMachine.{production, homomorphism, Part, at_first, at_predecessor, at_right, Head, State, Formals, Stop, reversed, reversed_onto, open_in, where_closed, only_production, left_ends, predecessor_ends, start}
+use Rattle.lsys_syntax.specs.RuleMachine.{production, homomorphism, Part, at_first, at_predecessor, at_right, Head, RuleState, Formals, Stop, reversed, reversed_onto, open_in, where_closed, only_production, left_ends, predecessor_ends, start}
 use Rattle.lsys_module.specs.Views.{module_name}
 use Rattle.lsys_reading.specs.declared.glyph.Glyph.{Glyph}
 use Rattle.lsys_reading.specs.declared.glyph.Glyph.TheVariants as glyphs
@@ -14,7 +14,7 @@ use Rattle.lsys_reading.specs.declared.patterns.Pattern.{Pattern}
 use Rattle.lsys_reading.specs.declared.patterns.Pattern.TheVariants as patterns
 use Rattle.lsys_syntax.specs.RulePoints.{at_state, after_symbols, after_predecessor, after_head, head_with, symbols_step, predecessor_step, stops, taken, rule_from, point_from, verdict_at, Leads}
 use Rattle.lsys_reading.specs.Glyphs.{IsGlyph, IsPeeked}
-use Rattle.lsys_reading.specs.Patterns.{module_of, pattern_of, so_far, is_empty}
+use Rattle.lsys_reading.specs.Patterns.{module_read, symbol_read, so_far, is_empty}
 use Rattle.lsys_reading.specs.Heads.{form_in, takes_left, takes_right, only_of, patterns_of}
 use Rattle.lsys_syntax.proofs.RulePoints.{leads-token}
 use Rattle.lsys_reading.proofs.PatternLoops.{first-is}
@@ -27,9 +27,9 @@ abbrev pub NoLess : machine.Form → List Kind → ℕ → Part → List (Symbol
 NoLess m ks at p r = (rest : List Kind) → drop at ks ≡ Less ∷ rest → only_production m (left_ends p r) ≡ Stop
 
 abbrev pub NoGreater : machine.Form → List Kind → ℕ → Type 0
-NoGreater m ks at = (rest : List Kind) (s : State) → drop at ks ≡ Greater ∷ rest → only_production m s ≡ Stop
+NoGreater m ks at = (rest : List Kind) (s : RuleState) → drop at ks ≡ Greater ∷ rest → only_production m s ≡ Stop
 
-no-stop : (m : machine.Form) (s : State) → s ≡ Stop → only_production m s ≡ Stop
+no-stop : (m : machine.Form) (s : RuleState) → s ≡ Stop → only_production m s ≡ Stop
 no-stop production s h = h
 no-stop homomorphism s h = refl
 
@@ -41,7 +41,7 @@ module _ (m : machine.Form) (ks : List Kind) (at : ℕ) (p : Part) (r : List (Sy
   pub symbols-stop : machine.head_of p r ≡ None → predecessor_ends p r ≡ Stop → NoLess m ks at p r → verdict_at m ks at (after_symbols p r) ≡ stops at
   symbols-stop h g n = by (drop at ks) refl
     where
-      goes : (s : State) (v : List Kind) → s ≡ Stop → taken at s (rule_from m (at + 1) s v) ≡ stops at
+      goes : (s : RuleState) (v : List Kind) → s ≡ Stop → taken at s (rule_from m (at + 1) s v) ≡ stops at
       goes s v e = ap (λ t. taken at t (rule_from m (at + 1) t v)) e
 
       by : (rest : List Kind) → drop at ks ≡ rest → point_from m at (after_symbols p r) rest ≡ stops at
@@ -57,7 +57,7 @@ module _ (m : machine.Form) (ks : List Kind) (at : ℕ) (p : Part) (r : List (Sy
   pub symbols-head : (x : Head) → machine.head_of p r ≡ Some x → predecessor_ends p r ≡ Stop → NoLess m ks at p r → verdict_at m ks at (after_symbols p r) ≡ verdict_at m ks at (after_head x)
   symbols-head x h g n = by (drop at ks) refl
     where
-      goes : (s t : State) (v : List Kind) → s ≡ t → taken at s (rule_from m (at + 1) s v) ≡ taken at t (rule_from m (at + 1) t v)
+      goes : (s t : RuleState) (v : List Kind) → s ≡ t → taken at s (rule_from m (at + 1) s v) ≡ taken at t (rule_from m (at + 1) t v)
       goes s t v e = ap (λ t. taken at t (rule_from m (at + 1) t v)) e
 
       by : (rest : List Kind) → drop at ks ≡ rest → point_from m at (after_symbols p r) rest ≡ point_from m at (after_head x) rest
@@ -96,23 +96,23 @@ abbrev is_one : List (Symbol NameText) → Bool
 is_one (Module n fs ∷ []) = true
 is_one r = false
 
-many-not : (xs : List Pattern) (a b : Symbol NameText) (r : List (Symbol NameText)) → is_one (reversed_onto (map pattern_of xs) (a ∷ b ∷ r)) ≡ false
+many-not : (xs : List Pattern) (a b : Symbol NameText) (r : List (Symbol NameText)) → is_one (reversed_onto (map symbol_read xs) (a ∷ b ∷ r)) ≡ false
 many-not [] (Module n fs) b r = refl
 many-not [] Push b r = refl
 many-not [] Pop b r = refl
 many-not [] Cut b r = refl
-many-not (x ∷ xs) a b r = many-not xs (pattern_of x) a (b ∷ r)
+many-not (x ∷ xs) a b r = many-not xs (symbol_read x) a (b ∷ r)
 
 pub only-none : (xs : List Pattern) → only_of xs ≡ None → is_one (so_far xs) ≡ false
 only-none [] h = refl
 only-none (patterns.Module x ∷ []) h = cc
 only-none (patterns.Push ∷ []) h = refl
 only-none (patterns.Pop ∷ []) h = refl
-only-none (x ∷ y ∷ xs) h = many-not xs (pattern_of y) (pattern_of x) []
+only-none (x ∷ y ∷ xs) h = many-not xs (symbol_read y) (symbol_read x) []
 
-pub only-some : (xs : List Pattern) (x : PatternModule) → only_of xs ≡ Some x → so_far xs ≡ module_of x ∷ []
+pub only-some : (xs : List Pattern) (x : PatternModule) → only_of xs ≡ Some x → so_far xs ≡ module_read x ∷ []
 only-some [] x h = cc
-only-some (patterns.Module y ∷ []) x h = let same : y ≡ x = cc in ap (λ z. module_of z ∷ []) same
+only-some (patterns.Module y ∷ []) x h = let same : y ≡ x = cc in ap (λ z. module_read z ∷ []) same
 only-some (patterns.Push ∷ []) x h = cc
 only-some (patterns.Pop ∷ []) x h = cc
 only-some (patterns.Module y ∷ z ∷ xs) x h = cc
@@ -175,13 +175,13 @@ greater-taken (glyphs.Sign x) h t = no-mark Greater refl x h
 greater-taken glyphs.End h t = h
 greater-taken g h t = cc
 
-first-cons : (xs : List Pattern) (y : Symbol NameText) (r : List (Symbol NameText)) → left_ends at_first (reversed_onto (map pattern_of xs) (y ∷ r)) ≡ Formals (at_predecessor (reversed (reversed_onto (map pattern_of xs) (y ∷ r)))) []
+first-cons : (xs : List Pattern) (y : Symbol NameText) (r : List (Symbol NameText)) → left_ends at_first (reversed_onto (map symbol_read xs) (y ∷ r)) ≡ Formals (at_predecessor (reversed (reversed_onto (map symbol_read xs) (y ∷ r)))) []
 first-cons [] y r = refl
-first-cons (x ∷ xs) y r = first-cons xs (pattern_of x) (y ∷ r)
+first-cons (x ∷ xs) y r = first-cons xs (symbol_read x) (y ∷ r)
 
 left-is : (xs : List Pattern) → is_empty xs ≡ false → left_ends at_first (so_far xs) ≡ Formals (at_predecessor (patterns_of xs)) []
 left-is [] h = cc
-left-is (x ∷ xs) h = first-cons xs (pattern_of x) [] ∙ ap (λ l. Formals (at_predecessor l) []) (reversed-twice (patterns_of (x ∷ xs)) ∙ nil-append (patterns_of (x ∷ xs)))
+left-is (x ∷ xs) h = first-cons xs (symbol_read x) [] ∙ ap (λ l. Formals (at_predecessor l) []) (reversed-twice (patterns_of (x ∷ xs)) ∙ nil-append (patterns_of (x ∷ xs)))
 
 pub left-goes : (f : Form) (ks : List Kind) (at : ℕ) (xs : List Pattern) (b : Bool) (g : Glyph) → IsPeeked ks at g → b ≡ is_empty xs → takes_left f b g ≡ true
     → (form_in f ≡ production) × Leads (form_in f) ks at (after_symbols at_first (so_far xs)) (at + 1) (at_state (Formals (at_predecessor (patterns_of xs)) []))

@@ -17,7 +17,7 @@ use Rattle.lsys_reading.specs.declared.head.PredecessorRead.{PredecessorRead}
 use Rattle.lsys_reading.specs.declared.head.RightRead.{RightRead}
 use Rattle.lsys_syntax.specs.RulePoints.{at_state, after_symbols, after_predecessor, after_head, head_with, stops, verdict_at, Leads}
 use Rattle.lsys_reading.specs.Glyphs.{IsPeeked}
-use Rattle.lsys_reading.specs.Patterns.{module_of, so_far, IsSection, is_empty, ArePatternsRead}
+use Rattle.lsys_reading.specs.Patterns.{module_read, so_far, IsSection, is_empty, ArePatternsRead}
 use Rattle.lsys_reading.specs.Heads.{form_in, takes_left, takes_right, IsSingle, IsContext, patterns_of, formals_of, IsPredecessorRead, IsRightRead, IsHeadRead}
 use Rattle.lsys_syntax.proofs.RulePoints.{leads-on, leads-stay}
 use Rattle.lsys_reading.proofs.ReadLaws.{refuses-on}
@@ -31,8 +31,8 @@ module _ (f : Form) (ks : List Kind) (at : ℕ) (p : Part) (left xs : List Patte
   single-read (Ok x) h =
       let n = module_name x.predecessor.name in
       let fs = formals_of x.predecessor in
-      let one : so_far xs ≡ module_of x.predecessor ∷ [] = only-some xs x.predecessor h.2 in
-      let less : NoLess (form_in f) ks end p (module_of x.predecessor ∷ []) = subst (λ r. NoLess (form_in f) ks end p r) one none in
+      let one : so_far xs ≡ module_read x.predecessor ∷ [] = only-some xs x.predecessor h.2 in
+      let less : NoLess (form_in f) ks end p (module_read x.predecessor ∷ []) = subst (λ r. NoLess (form_in f) ks end p r) one none in
       let is : verdict_at (form_in f) ks end (after_symbols p (so_far xs)) ≡ verdict_at (form_in f) ks end (after_predecessor (patterns_of left) n fs) =
       ap (λ r. verdict_at (form_in f) ks end (after_symbols p r)) one ∙ predecessor-is (form_in f) ks end p (patterns_of left) n fs before less in
       let leads : Leads (form_in f) ks at (at_state start) end (after_predecessor (patterns_of left) n fs) =

@@ -4,7 +4,7 @@ use Rattle.lsys_syntax.specs.Tokens.{Kind, LeftParen}
 use Rattle.lsys_syntax.specs.Strings.{ModuleName, Symbol, Module}
 use Rattle.lsys_syntax.specs.Expressions.{Expr}
 use Rattle.lsys_syntax.specs.RuleMachine as machine
-use Rattle.lsys_syntax.specs.RuleMachine.{production, homomorphism, Body, State, InExpr, as_param, Successor, Stop, expr_start, done_step, reversed, open_in, popped, where_closed, rule_with, successor_open, successor_step, only_production}
+use Rattle.lsys_syntax.specs.RuleMachine.{production, homomorphism, Premise, RuleState, InExpr, as_param, Successor, Stop, expr_start, done_step, reversed, open_in, popped, where_closed, rule_with, successor_open, successor_step, only_production}
 use Rattle.lsys_module.specs.Views.{module_name}
 use Rattle.lsys_reading.specs.declared.refusal.PartRefusal.{PartRefusal}
 use Rattle.lsys_reading.specs.declared.glyph.Glyph.{Glyph}
@@ -14,7 +14,7 @@ use Rattle.lsys_reading.specs.declared.span.Span.{Span}
 use Rattle.lsys_reading.specs.declared.images.ParamRead.{ParamRead}
 use Rattle.lsys_reading.specs.declared.images.ParamsRead.{ParamsRead}
 use Rattle.lsys_syntax.specs.RulePoints.{at_state, after_image, taken, rule_from, point_from, verdict_at, Leads}
-use Rattle.lsys_reading.specs.Glyphs.{IsPeeked, is_open}
+use Rattle.lsys_reading.specs.Glyphs.{IsPeeked, is_opening}
 use Rattle.lsys_reading.specs.Spans.{expr_at, IsSpan, AreSpans, IsExpressionRead}
 use Rattle.lsys_reading.specs.Images.{params_at, param_due, after_param, IsParamRead, AreParamsRead, IsImageModuleRead}
 use Rattle.lsys_syntax.proofs.RulePoints.{leads-on, leads-stay, leads-token}
@@ -30,14 +30,14 @@ pub record ParamsSoFar (ks : List Kind) (at end : ℕ) (ss : List Span) : Type 0
   pub after : at ≤ end
   pub within : end ≤ length ks
   pub spans : AreSpans ks ss
-  pub read : (m : machine.Form) (b : Body) (r : List (Symbol Expr)) (n : ModuleName) → Leads m ks at (at_state (param_due b r n [])) end (at_state (param_due b r n (reversed (params_at ks ss))))
+  pub read : (m : machine.Form) (b : Premise) (r : List (Symbol Expr)) (n : ModuleName) → Leads m ks at (at_state (param_due b r n [])) end (at_state (param_due b r n (reversed (params_at ks ss))))
 
 pub spans-push : (ks : List Kind) (ss : List Span) (s : Span) → AreSpans ks ss → IsSpan ks s → AreSpans ks (ss ++ s ∷ [])
 spans-push ks [] s h i = (i, tt)
 spans-push ks (t ∷ ss) s h i = (h.0, spans-push ks ss s h.1 i)
 
 module _ (ks : List Kind) (at end : ℕ) (ss : List Span) (x : ParamRead) (so : ParamsSoFar ks at end ss) (one : IsParamRead ks end (Ok x)) where
-  further : (m : machine.Form) (b : Body) (r : List (Symbol Expr)) (n : ModuleName)
+  further : (m : machine.Form) (b : Premise) (r : List (Symbol Expr)) (n : ModuleName)
       → Leads m ks at (at_state (param_due b r n [])) (x.span.to + 1) (at_state (after_param x.separator b r n (expr_at ks x.span ∷ reversed (params_at ks ss))))
   further m b r n =
       leads-on m ks at end (x.span.to + 1) (at_state (param_due b r n [])) (at_state (param_due b r n (reversed (params_at ks ss)))) (at_state (after_param x.separator b r n (expr_at ks x.span ∷ reversed (params_at ks ss))))
@@ -65,7 +65,7 @@ params-refused ks at end ss q so one = λ m b r n.
 
 -- 3. a module behind its name
 
-pub image-shut : (m : machine.Form) (ks : List Kind) (at : ℕ) (b : Body) (r : List (Symbol Expr)) → successor_open b r ≡ Stop → verdict_at m ks at (at_state (Successor b r)) ≡ verdict_at m ks at (after_image b r)
+pub image-shut : (m : machine.Form) (ks : List Kind) (at : ℕ) (b : Premise) (r : List (Symbol Expr)) → successor_open b r ≡ Stop → verdict_at m ks at (at_state (Successor b r)) ≡ verdict_at m ks at (after_image b r)
 image-shut m ks at b r e = by (drop at ks)
   where
     by : (rest : List Kind) → point_from m at (at_state (Successor b r)) rest ≡ point_from m at (after_image b r) rest
@@ -73,17 +73,17 @@ image-shut m ks at b r e = by (drop at ks)
     by (LeftParen ∷ rest) = ap (λ s. taken at s (rule_from m (at + 1) s rest)) e
     by (k ∷ rest) = refl
 
-image-opens : (m : machine.Form) (ks : List Kind) (at : ℕ) (b : Body) (r : List (Symbol Expr)) (n : ModuleName) (g : Glyph) → IsPeeked ks at g → is_open g ≡ true
+image-opens : (m : machine.Form) (ks : List Kind) (at : ℕ) (b : Premise) (r : List (Symbol Expr)) (n : ModuleName) (g : Glyph) → IsPeeked ks at g → is_opening g ≡ true
     → Leads m ks at (at_state (Successor b (Module n [] ∷ r))) (at + 1) (at_state (param_due b r n []))
 image-opens m ks at b r n glyphs.Open h e = leads-token m ks at h.0 (at_state (Successor b (Module n [] ∷ r))) h.1 (param_due b r n []) (ap (λ k. successor_step m k b (Module n [] ∷ r)) h.2) (λ i v. refl)
 image-opens m ks at b r n g h e = cc
 
-with-params : (ks : List Kind) (b : Body) (n : ModuleName) (ss : List Span) (r : List (Symbol Expr)) → 0 < length ss → successor_open b (Module n (params_at ks ss) ∷ r) ≡ Stop
+with-params : (ks : List Kind) (b : Premise) (n : ModuleName) (ss : List Span) (r : List (Symbol Expr)) → 0 < length ss → successor_open b (Module n (params_at ks ss) ∷ r) ≡ Stop
 with-params ks b n [] r h = absurd (omega arith)
 with-params ks b n (s ∷ ss) r h = refl
 
 module _ (x : List ℕ) (ks : List Kind) (at : ℕ) (g : Glyph) (h : IsPeeked ks at g) where
-  module _ (o : is_open g ≡ true) where
+  module _ (o : is_opening g ≡ true) where
     pub image-module-ok : (y : ParamsRead) → AreParamsRead ks (at + 1) (Ok y) → 0 < length y.params.items → IsImageModuleRead x ks at (Ok (record { image = record { name = x; params = y.params }; end = y.end }))
     image-module-ok y i some = λ m b r.
         let n = module_name x in

@@ -6,7 +6,7 @@ use Rattle.lsys_syntax.specs.Tokens.{Kind, Word, LongWord, Number, BigNumber, Eq
 use Rattle.lsys_syntax.specs.Strings.{ModuleName, named, plus, minus, ampersand, caret, backslash, slash, bar, bang, name_kind, Symbol, Module, Pop, Cut}
 use Rattle.lsys_syntax.specs.Expressions.{Expr}
 use Rattle.lsys_syntax.specs.RuleMachine as machine
-use Rattle.lsys_syntax.specs.RuleMachine.{production, homomorphism, Body, State, Successor, Stop, reversed, open_in, popped, where_closed, rule_with}
+use Rattle.lsys_syntax.specs.RuleMachine.{production, homomorphism, Premise, RuleState, Successor, Stop, reversed, open_in, popped, where_closed, rule_with}
 use Rattle.lsys_module.specs.Views.{module_name}
 use Rattle.lsys_reading.specs.declared.refusal.PartRefusal.{PartRefusal}
 use Rattle.lsys_reading.specs.declared.refusal.PartRefusal.TheVariants.{Token}
@@ -24,14 +24,14 @@ use Rattle.lsys_syntax.specs.RulePoints.{at_state, after_image, image_step, stop
 use Rattle.lsys_reading.specs.Glyphs.{is_other, IsPeeked}
 use Rattle.lsys_reading.specs.Reads.{Refuses}
 use Rattle.lsys_reading.specs.Heads.{form_in}
-use Rattle.lsys_reading.specs.Images.{module_at, image_at, images_at, ImageIsAt, ImagesAreAt, image_branches, where_true, has_cuts, image_opening_of, IsImageModuleRead, IsImageRead}
+use Rattle.lsys_reading.specs.Images.{module_at, image_at, images_at, ImageIsAt, ImagesAreAt, image_branches, opening_if, has_cuts, image_opening_of, IsImageModuleRead, IsImageRead}
 use Rattle.lsys_syntax.proofs.RulePoints.{leads-on, leads-token, stops-token}
 use Rattle.lsys_reading.proofs.ReadLaws.{refuses-on}
 use Rattle.lsys_reading.proofs.Reversals.{mapped-push}
 
 -- 1. the token that a symbol begins with
 
-name-step : (m : machine.Form) (x : ModuleName) (b : Body) (r : List (Symbol Expr)) → image_step m (name_kind x) b r ≡ Successor b (Module x [] ∷ r)
+name-step : (m : machine.Form) (x : ModuleName) (b : Premise) (r : List (Symbol Expr)) → image_step m (name_kind x) b r ≡ Successor b (Module x [] ∷ r)
 name-step m plus b r = refl
 name-step m minus b r = refl
 name-step m ampersand b r = refl
@@ -42,7 +42,7 @@ name-step m bar b r = refl
 name-step m bang b r = refl
 name-step m (named x) b r = refl
 
-other-stops : (m : machine.Form) (k : Kind) (b : Body) (r : List (Symbol Expr)) → is_other k ≡ true → image_step m k b r ≡ Stop
+other-stops : (m : machine.Form) (k : Kind) (b : Premise) (r : List (Symbol Expr)) → is_other k ≡ true → image_step m k b r ≡ Stop
 other-stops m (Word w) b r h = refl
 other-stops m LongWord b r h = refl
 other-stops m (Number n) b r h = refl
@@ -55,31 +55,31 @@ other-stops m Times b r h = refl
 other-stops m Assign b r h = refl
 other-stops m k b r h = cc
 
-none-where : (t : Bool) (o : ImageOpening) → None ≡ where_true t o → t ≡ false
+none-where : (t : Bool) (o : ImageOpening) → None ≡ opening_if t o → t ≡ false
 none-where true o h = cc
 none-where false o h = refl
 
-some-where : (t : Bool) (o q : ImageOpening) → Some q ≡ where_true t o → (t ≡ true) × (q ≡ o)
+some-where : (t : Bool) (o q : ImageOpening) → Some q ≡ opening_if t o → (t ≡ true) × (q ≡ o)
 some-where true o q h = (refl, cc)
 some-where false o q h = cc
 
-not-popped : (n i : ℕ) (s : State) → n ≡ i → nat_lt 0 n ≡ false → popped i s ≡ Stop
+not-popped : (n i : ℕ) (s : RuleState) → n ≡ i → nat_lt 0 n ≡ false → popped i s ≡ Stop
 not-popped n zero s e h = refl
 not-popped n (suc i) s e h = absurd (grind (arith, nat_tests))
 
-popped-is : (n i : ℕ) (s : State) → n ≡ i → nat_lt 0 n ≡ true → popped i s ≡ s
+popped-is : (n i : ℕ) (s : RuleState) → n ≡ i → nat_lt 0 n ≡ true → popped i s ≡ s
 popped-is n zero s e h = absurd (grind (arith, nat_tests))
 popped-is n (suc i) s e h = refl
 
-no-cut : (f : Form) (s : State) → has_cuts f ≡ false → machine.only_production (form_in f) s ≡ Stop
+no-cut : (f : Form) (s : RuleState) → has_cuts f ≡ false → machine.only_production (form_in f) s ≡ Stop
 no-cut Production s h = cc
 no-cut Homomorphism s h = refl
 
-cut-is : (f : Form) (s : State) → has_cuts f ≡ true → machine.only_production (form_in f) s ≡ s
+cut-is : (f : Form) (s : RuleState) → has_cuts f ≡ true → machine.only_production (form_in f) s ≡ s
 cut-is Production s h = refl
 cut-is Homomorphism s h = cc
 
-module _ (f : Form) (n : ℕ) (ks : List Kind) (at : ℕ) (b : Body) (r : List (Symbol Expr)) (counted : n ≡ open_in r) where
+module _ (f : Form) (n : ℕ) (ks : List Kind) (at : ℕ) (b : Premise) (r : List (Symbol Expr)) (counted : n ≡ open_in r) where
   -- no symbol begins there
   pub image-none : (g : Glyph) → IsPeeked ks at g → at < length ks → None ≡ image_opening_of f n g → verdict_at (form_in f) ks at (after_image b r) ≡ stops at
   image-none glyphs.End h w e = absurd (omega (arith, w, length-drop at ks, ap length h))
@@ -130,7 +130,7 @@ pub record ImagesSoFar (f : Form) (ks : List Kind) (at end : ℕ) (xs : List Ima
   pub few : branches ≤ end
   pub counted : branches ≡ open_in (images_so_far ks xs)
   pub spans : ImagesAreAt ks xs
-  pub read : (b : Body) → Leads (form_in f) ks at (at_state (Successor b [])) end (after_image b (images_so_far ks xs))
+  pub read : (b : Premise) → Leads (form_in f) ks at (at_state (Successor b [])) end (after_image b (images_so_far ks xs))
 
 images-push : (ks : List Kind) (xs : List Image) (x : Image) → ImagesAreAt ks xs → ImageIsAt ks x → ImagesAreAt ks (xs ++ x ∷ [])
 images-push ks [] x h i = (i, tt)
@@ -162,5 +162,5 @@ module _ (f : Form) (ks : List Kind) (at end : ℕ) (xs : List Image) (branches 
             (leads-on (form_in f) ks at end x.end (at_state (Successor b [])) (after_image b (images_so_far ks xs)) (after_image b (image_at ks x.symbol ∷ images_so_far ks xs)) (so.read b) (i b (images_so_far ks xs) so.counted));
       }
 
-  pub images-refused : (q : PartRefusal) → IsImageRead f branches ks end (Err q) → (b : Body) → Refuses (form_in f) ks at (at_state (Successor b [])) q
+  pub images-refused : (q : PartRefusal) → IsImageRead f branches ks end (Err q) → (b : Premise) → Refuses (form_in f) ks at (at_state (Successor b [])) q
   images-refused q i b = refuses-on (form_in f) ks at end (at_state (Successor b [])) (after_image b (images_so_far ks xs)) q (so.read b) (i b (images_so_far ks xs) so.counted)

@@ -5,7 +5,7 @@ use Rattle.lsys_syntax.specs.Tokens.{Kind, Word}
 use Rattle.lsys_syntax.specs.Strings.{ModuleName}
 use Rattle.lsys_syntax.specs.Commands.{set_schedule, print_string}
 use Rattle.lsys_syntax.specs.RuleMachine.{Sign, a_name, sign_of, reversed}
-use Rattle.lsys_syntax.specs.LineMachine.{State, Listed, InNames, listing, ScheduleDue, InSchedule, StringRead, Stop, Verdict, sentence, stops, too_deep, verdict_from, step, is_stop, depth, nesting_bound, word_step, with_name}
+use Rattle.lsys_syntax.specs.LineMachine.{State, Listed, InNames, listing, ScheduleDue, InSchedule, StringRead, Stop, Verdict, sentence, stops, too_deep, verdict_from, line_step, is_stop, line_depth, nesting_bound, word_step, with_name}
 use Rattle.lsys_module.specs.Views.{module_name}
 use Rattle.lsys_syntax.specs.RulePoints.{Here}
 use Rattle.lsys_reading.specs.Lines.{line_at, IsRefused, word_in, name_of_sign, name_in, at_front, IsWord, IsName, LastNumberDue}
@@ -17,24 +17,24 @@ use Rattle.lsys_reading.proofs.Reversals.{reversed-push, reversed-twice, nil-app
 
 -- behind a token that leads to the state t, where the rest is ks
 abbrev tested : ℕ → List Kind → State → Verdict
-tested n ks t = elim (is_stop t) [ true ↦ stops n | false ↦ elim (nat_lt nesting_bound (depth t)) [ true ↦ too_deep n | false ↦ verdict_from (n + 1) t ks ] ]
+tested n ks t = elim (is_stop t) [ true ↦ stops n | false ↦ elim (nat_lt nesting_bound (line_depth t)) [ true ↦ too_deep n | false ↦ verdict_from (n + 1) t ks ] ]
 
 -- a state that is no refusal and no part of an expression
 pub record IsFlat (s : State) : Type 0 where
   pub goes : is_stop s ≡ false
-  pub flat : depth s ≡ 0
+  pub flat : line_depth s ≡ 0
 
 tested-goes : (n : ℕ) (ks : List Kind) (t : State) → IsFlat t → tested n ks t ≡ verdict_from (n + 1) t ks
 tested-goes n ks t h =
-    ap (λ b. elim b [ true ↦ stops n | false ↦ elim (nat_lt nesting_bound (depth t)) [ true ↦ too_deep n | false ↦ verdict_from (n + 1) t ks ] ]) h.goes
+    ap (λ b. elim b [ true ↦ stops n | false ↦ elim (nat_lt nesting_bound (line_depth t)) [ true ↦ too_deep n | false ↦ verdict_from (n + 1) t ks ] ]) h.goes
     ∙ ap (λ d. elim (nat_lt nesting_bound d) [ true ↦ too_deep n | false ↦ verdict_from (n + 1) t ks ]) h.flat
 
 module _ (ks : List Kind) (at : ℕ) (s : State) where
-  token-goes : (k : Kind) (t : State) → Here ks at k → step s k ≡ t → IsFlat t → line_at ks at s ≡ line_at ks (at + 1) t
+  token-goes : (k : Kind) (t : State) → Here ks at k → line_step s k ≡ t → IsFlat t → line_at ks at s ≡ line_at ks (at + 1) t
   token-goes k t h e f = ap (verdict_from at s) h.1 ∙ ap (tested at (drop (at + 1) ks)) e ∙ tested-goes at (drop (at + 1) ks) t f
 
   -- no token of this sort stands there, where the line goes on
-  none-stops : {A : Type 0} (f : Kind → Option A) → at < length ks → ((k : Kind) → f k ≡ None → step s k ≡ Stop) → at_front f (drop at ks) ≡ None → line_at ks at s ≡ stops at
+  none-stops : {A : Type 0} (f : Kind → Option A) → at < length ks → ((k : Kind) → f k ≡ None → line_step s k ≡ Stop) → at_front f (drop at ks) ≡ None → line_at ks at s ≡ stops at
   none-stops f w g h = by (drop at ks) refl h
     where
       none-left : (n : ℕ) (xs : List Kind) → drop n xs ≡ [] → length xs ≤ n

@@ -3,7 +3,7 @@ use Rattle.std.proofs.Common.{◌≡◌, ◌+◌, ◌&&◌, ℕ, zero, suc, Bool
 use Rattle.std.proofs.lemmas.Bool.Decides.{nat_tests}
 use Rattle.lsys_syntax.specs.Tokens.{NameText, Kind, Word, LongWord, Number, BigNumber, Equal, Unequal, AtMost, AtLeast, Times, Assign, LeftParen}
 use Rattle.lsys_syntax.specs.Strings.{ModuleName, named, plus, minus, ampersand, caret, backslash, slash, bar, bang, name_kind, Symbol, Module, Push, Pop}
-use Rattle.lsys_syntax.specs.RuleMachine.{Form, production, homomorphism, Part, at_first, at_predecessor, at_right, State, Formals, FormalDue, Stop, open_in, popped, only_right, one_more, formals_open, formals_step}
+use Rattle.lsys_syntax.specs.RuleMachine.{Form, production, homomorphism, Part, at_first, at_predecessor, at_right, RuleState, Formals, FormalDue, Stop, open_in, popped, only_right, one_more, formals_open, formals_step}
 use Rattle.lsys_module.specs.Views.{module_name}
 use Rattle.lsys_reading.specs.declared.glyph.Glyph.{Glyph}
 use Rattle.lsys_reading.specs.declared.glyph.Glyph.TheVariants as glyphs
@@ -13,7 +13,7 @@ use Rattle.lsys_reading.specs.declared.patterns.Standing.{Standing}
 use Rattle.lsys_reading.specs.declared.patterns.Opening.{Opening}
 use Rattle.lsys_reading.specs.declared.patterns.Opening.TheVariants as openings
 use Rattle.lsys_syntax.specs.RulePoints.{at_state, after_symbol, after_symbols, symbol_step, symbols_step, taken, rule_from, point_from, verdict_at, Leads}
-use Rattle.lsys_reading.specs.Glyphs.{is_other, IsGlyph, IsPeeked, is_open}
+use Rattle.lsys_reading.specs.Glyphs.{is_other, IsGlyph, IsPeeked, is_opening}
 use Rattle.lsys_reading.specs.Patterns.{is_right, takes_name, opening_where, opening_of, IsSection, is_empty, IsStanding}
 use Rattle.lsys_syntax.proofs.RulePoints.{leads-token, same-token, same-end}
 
@@ -38,7 +38,7 @@ other-no-paren : (k : Kind) → is_other k ≡ true → is_paren k ≡ false
 other-no-paren LeftParen h = cc
 other-no-paren k h = refl
 
-pub no-paren : (g : Glyph) (k : Kind) → IsGlyph g k → is_open g ≡ false → is_paren k ≡ false
+pub no-paren : (g : Glyph) (k : Kind) → IsGlyph g k → is_opening g ≡ false → is_paren k ≡ false
 no-paren glyphs.Open k h e = cc
 no-paren (glyphs.Letters x) k h e = ap is_paren h.0
 no-paren (glyphs.Sign x) k h e = ap is_paren h.0 ∙ name-no-paren (module_name x)
@@ -60,7 +60,7 @@ shut m ks at p r e = by (drop at ks)
     by (k ∷ rest) = refl
 
 -- a parenthesis behind a name
-pub opens : (m : Form) (ks : List Kind) (at : ℕ) (p : Part) (r : List (Symbol NameText)) (n : ModuleName) (g : Glyph) → IsPeeked ks at g → is_open g ≡ true
+pub opens : (m : Form) (ks : List Kind) (at : ℕ) (p : Part) (r : List (Symbol NameText)) (n : ModuleName) (g : Glyph) → IsPeeked ks at g → is_opening g ≡ true
     → Leads m ks at (at_state (Formals p (Module n [] ∷ r))) (at + 1) (at_state (FormalDue p r n []))
 opens m ks at p r n glyphs.Open h e = leads-token m ks at h.0 (at_state (Formals p (Module n [] ∷ r))) h.1 (FormalDue p r n []) (ap (λ k. formals_step m k p (Module n [] ∷ r)) h.2) (λ i v. refl)
 opens m ks at p r n g h e = cc
@@ -103,7 +103,7 @@ other-ends m Assign p r h = refl
 other-ends m k p r h = cc
 
 -- one symbol too many
-too-many : (s : Section) (f : Bool) (m : Form) (p : Part) (r : List (Symbol NameText)) (t : State) → IsSection s m p → f ≡ is_empty r → takes_name s f ≡ false → one_more m p r t ≡ Stop
+too-many : (s : Section) (f : Bool) (m : Form) (p : Part) (r : List (Symbol NameText)) (t : RuleState) → IsSection s m p → f ≡ is_empty r → takes_name s f ≡ false → one_more m p r t ≡ Stop
 too-many Alone f production (at_predecessor l) [] t h e n = cc
 too-many Alone f production (at_predecessor l) (x ∷ r) t h e n = refl
 too-many Alone f homomorphism at_first [] t h e n = cc
@@ -113,7 +113,7 @@ too-many Right f production (at_right l y fs) r t h e n = cc
 too-many s f m p r t h e n = elim h [ ]
 
 -- one that may stand there
-may-stand : (s : Section) (f : Bool) (m : Form) (p : Part) (r : List (Symbol NameText)) (t : State) → IsSection s m p → f ≡ is_empty r → takes_name s f ≡ true → one_more m p r t ≡ t
+may-stand : (s : Section) (f : Bool) (m : Form) (p : Part) (r : List (Symbol NameText)) (t : RuleState) → IsSection s m p → f ≡ is_empty r → takes_name s f ≡ true → one_more m p r t ≡ t
 may-stand Alone f production (at_predecessor l) [] t h e n = refl
 may-stand Alone f production (at_predecessor l) (x ∷ r) t h e n = cc
 may-stand Alone f homomorphism at_first [] t h e n = refl
@@ -124,14 +124,14 @@ may-stand Right f production (at_right l y fs) [] t h e n = refl
 may-stand Right f production (at_right l y fs) (x ∷ r) t h e n = refl
 may-stand s f m p r t h e n = elim h [ ]
 
-not-right : (s : Section) (m : Form) (p : Part) (t : State) → IsSection s m p → is_right s ≡ false → only_right p t ≡ Stop
+not-right : (s : Section) (m : Form) (p : Part) (t : RuleState) → IsSection s m p → is_right s ≡ false → only_right p t ≡ Stop
 not-right Alone production (at_predecessor l) t h e = refl
 not-right Alone homomorphism at_first t h e = refl
 not-right First production at_first t h e = refl
 not-right Right production (at_right l y fs) t h e = cc
 not-right s m p t h e = elim h [ ]
 
-right-is : (s : Section) (m : Form) (p : Part) (t : State) → IsSection s m p → is_right s ≡ true → only_right p t ≡ t
+right-is : (s : Section) (m : Form) (p : Part) (t : RuleState) → IsSection s m p → is_right s ≡ true → only_right p t ≡ t
 right-is Right production (at_right l y fs) t h e = refl
 right-is Alone production (at_predecessor l) t h e = cc
 right-is Alone homomorphism at_first t h e = cc
@@ -146,7 +146,7 @@ some-where : (b : Bool) (o q : Opening) → Some q ≡ opening_where b o → (b 
 some-where true o q h = (refl, cc)
 some-where false o q h = cc
 
-not-popped : (s : Section) (b i : ℕ) (m : Form) (p : Part) (t : State) → IsSection s m p → b ≡ i → (is_right s && nat_lt 0 b) ≡ false → only_right p (popped i t) ≡ Stop
+not-popped : (s : Section) (b i : ℕ) (m : Form) (p : Part) (t : RuleState) → IsSection s m p → b ≡ i → (is_right s && nat_lt 0 b) ≡ false → only_right p (popped i t) ≡ Stop
 not-popped Right b zero production (at_right l y fs) t h e n = refl
 not-popped Right b (suc i) production (at_right l y fs) t h e n = absurd (grind (arith, nat_tests))
 not-popped Alone b i production (at_predecessor l) t h e n = refl
@@ -154,7 +154,7 @@ not-popped Alone b i homomorphism at_first t h e n = refl
 not-popped First b i production at_first t h e n = refl
 not-popped s b i m p t h e n = elim h [ ]
 
-popped-is : (s : Section) (b i : ℕ) (m : Form) (p : Part) (t : State) → IsSection s m p → b ≡ i → (is_right s && nat_lt 0 b) ≡ true → only_right p (popped i t) ≡ t
+popped-is : (s : Section) (b i : ℕ) (m : Form) (p : Part) (t : RuleState) → IsSection s m p → b ≡ i → (is_right s && nat_lt 0 b) ≡ true → only_right p (popped i t) ≡ t
 popped-is Right b (suc i) production (at_right l y fs) t h e n = refl
 popped-is Right b zero production (at_right l y fs) t h e n = absurd (grind (arith, nat_tests))
 popped-is Alone b i production (at_predecessor l) t h e n = cc

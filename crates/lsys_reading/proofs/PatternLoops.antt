@@ -18,9 +18,9 @@ use Rattle.lsys_reading.specs.declared.patterns.Opening.TheVariants as openings
 use Rattle.lsys_reading.specs.declared.patterns.ModuleRead.{ModuleRead}
 use Rattle.lsys_reading.specs.declared.patterns.SymbolRead.{SymbolRead}
 use Rattle.lsys_syntax.specs.RulePoints.{at_state, after_symbol, after_symbols, Leads}
-use Rattle.lsys_reading.specs.Glyphs.{IsPeeked, is_open}
+use Rattle.lsys_reading.specs.Glyphs.{IsPeeked, is_opening}
 use Rattle.lsys_reading.specs.Reads.{AreFormalsRead}
-use Rattle.lsys_reading.specs.Patterns.{module_of, pattern_of, so_far, branches_behind, opening_of, IsSection, is_empty, IsStanding, IsModuleRead, IsSymbolRead, ArePatternsRead}
+use Rattle.lsys_reading.specs.Patterns.{module_read, symbol_read, so_far, branches_behind, opening_of, IsSection, is_empty, IsStanding, IsModuleRead, IsSymbolRead, ArePatternsRead}
 use Rattle.lsys_syntax.proofs.RulePoints.{leads-on, leads-stay}
 use Rattle.lsys_reading.proofs.ReadLaws.{refuses-on}
 use Rattle.lsys_reading.proofs.Reversals.{mapped-push}
@@ -32,7 +32,7 @@ with-formals p n (f ∷ fs) r h = refl
 
 -- 1. a module with formals
 
-module _ (x : List ℕ) (ks : List Kind) (at : ℕ) (g : Glyph) (h : IsPeeked ks at g) (o : is_open g ≡ true) where
+module _ (x : List ℕ) (ks : List Kind) (at : ℕ) (g : Glyph) (h : IsPeeked ks at g) (o : is_opening g ≡ true) where
   pub module-ok : (f : FormalsRead) → AreFormalsRead ks (at + 1) (Ok f) → 0 < length f.formals.items → IsModuleRead x ks at (Ok (record { pattern = record { name = x; formals = f.formals }; end = f.end }))
   module-ok f i some = λ m p r.
       let n = module_name x in
@@ -54,7 +54,7 @@ module _ (st : Standing) (ks : List Kind) (at : ℕ) (g : Glyph) (h : IsPeeked k
 
   pub symbol-ok : (x : List ℕ) (y : ModuleRead) → Some (openings.Name x) ≡ opening_of st g → IsModuleRead x ks (at + 1) (Ok y) → IsSymbolRead st ks at (Ok (Some (record { symbol = patterns.Module y.pattern; end = y.end })))
   symbol-ok x y e i = λ m p r s.
-      leads-on m ks at (at + 1) y.end (after_symbol p r) (at_state (Formals p (Module (module_name x) [] ∷ r))) (after_symbol p (module_of y.pattern ∷ r)) (opening-name m ks at p r st s g x h e) (i m p r)
+      leads-on m ks at (at + 1) y.end (after_symbol p r) (at_state (Formals p (Module (module_name x) [] ∷ r))) (after_symbol p (module_read y.pattern ∷ r)) (opening-name m ks at p r st s g x h e) (i m p r)
 
   pub symbol-err : (x : List ℕ) (q : PartRefusal) → Some (openings.Name x) ≡ opening_of st g → IsModuleRead x ks (at + 1) (Err q) → IsSymbolRead st ks at (Err q)
   symbol-err x q e i = λ m p r s.
@@ -69,13 +69,13 @@ pub record PatternsSoFar (s : Section) (ks : List Kind) (at end : ℕ) (xs : Lis
   pub counted : branches ≡ open_in (so_far xs)
   pub read : (m : Form) (p : Part) → IsSection s m p → Leads m ks at (at_state (Formals p [])) end (after_symbol p (so_far xs))
 
-full-behind : (xs : List Pattern) (y : Symbol NameText) (r : List (Symbol NameText)) → is_empty (reversed_onto (map pattern_of xs) (y ∷ r)) ≡ false
+full-behind : (xs : List Pattern) (y : Symbol NameText) (r : List (Symbol NameText)) → is_empty (reversed_onto (map symbol_read xs) (y ∷ r)) ≡ false
 full-behind [] y r = refl
-full-behind (x ∷ xs) y r = full-behind xs (pattern_of x) (y ∷ r)
+full-behind (x ∷ xs) y r = full-behind xs (symbol_read x) (y ∷ r)
 
 pub first-is : (xs : List Pattern) → is_empty xs ≡ is_empty (so_far xs)
 first-is [] = refl
-first-is (x ∷ xs) = sym (full-behind xs (pattern_of x) [])
+first-is (x ∷ xs) = sym (full-behind xs (symbol_read x) [])
 
 open-behind : (x : Symbol NameText) (r : List (Symbol NameText)) → branches_behind x (open_in r) ≡ open_in (x ∷ r)
 open-behind (Module n fs) r = refl
@@ -94,17 +94,17 @@ module _ (s : Section) (ks : List Kind) (at end : ℕ) (xs : List Pattern) (bran
   stands m p i = (i, is ∙ first-is xs, so.counted)
 
   pub patterns-more : (x : SymbolRead) → IsSymbolRead (record { section = s; is_first = first; branches = branches }) ks end (Ok (Some x)) → end < x.end → x.end ≤ length ks
-      → PatternsSoFar s ks at x.end (xs ++ x.symbol ∷ []) (branches_behind (pattern_of x.symbol) branches)
+      → PatternsSoFar s ks at x.end (xs ++ x.symbol ∷ []) (branches_behind (symbol_read x.symbol) branches)
   patterns-more x i f w =
-      let last : so_far (xs ++ x.symbol ∷ []) ≡ pattern_of x.symbol ∷ so_far xs = mapped-push pattern_of xs x.symbol in
+      let last : so_far (xs ++ x.symbol ∷ []) ≡ symbol_read x.symbol ∷ so_far xs = mapped-push symbol_read xs x.symbol in
       record {
         after = omega (arith, so.after, f);
         within = w;
-        few = few-behind (pattern_of x.symbol) branches end x.end so.few f;
-        counted = ap (branches_behind (pattern_of x.symbol)) so.counted ∙ open-behind (pattern_of x.symbol) (so_far xs) ∙ ap open_in (sym last);
+        few = few-behind (symbol_read x.symbol) branches end x.end so.few f;
+        counted = ap (branches_behind (symbol_read x.symbol)) so.counted ∙ open-behind (symbol_read x.symbol) (so_far xs) ∙ ap open_in (sym last);
         read = λ m p j.
             subst (λ r. Leads m ks at (at_state (Formals p [])) x.end (after_symbol p r)) (sym last)
-            (leads-on m ks at end x.end (at_state (Formals p [])) (after_symbol p (so_far xs)) (after_symbol p (pattern_of x.symbol ∷ so_far xs)) (so.read m p j) (i m p (so_far xs) (stands m p j)));
+            (leads-on m ks at end x.end (at_state (Formals p [])) (after_symbol p (so_far xs)) (after_symbol p (symbol_read x.symbol ∷ so_far xs)) (so.read m p j) (i m p (so_far xs) (stands m p j)));
       }
 
   pub patterns-refused : (e : PartRefusal) → IsSymbolRead (record { section = s; is_first = first; branches = branches }) ks end (Err e) → ArePatternsRead s ks at (Err e)

@@ -13,7 +13,7 @@ use Rattle.lsys_reading.specs.declared.span.OptionRead.{OptionRead}
 use Rattle.lsys_reading.specs.declared.rule.RuleLine.{RuleLine}
 use Rattle.lsys_syntax.specs.RulePoints.{RuleVerdict, whole, stops, too_deep, rule_from, Line, form_of, line_state, line_verdict, at_state, after_head, after_condition, after_weight, body_with, verdict_at, Leads}
 use Rattle.lsys_reading.specs.Reads.{Refuses}
-use Rattle.lsys_reading.specs.Heads.{form_in, head_of, IsHeadRead}
+use Rattle.lsys_reading.specs.Heads.{form_in, head_read, IsHeadRead}
 use Rattle.lsys_reading.specs.Spans.{option_at, IsConditionRead, IsWeightRead, IsArrowRead}
 use Rattle.lsys_reading.specs.Images.{IsSuccessorRead}
 use Rattle.lsys_reading.specs.RuleLines.{rule_at, IsRuleRead, IsLineRead}
@@ -24,21 +24,21 @@ use Rattle.lsys_reading.proofs.ReadLaws.{refuses-on}
 
 module _ (f : Form) (ks : List Kind) (at : ℕ) (h : HeadRead) (i : IsHeadRead f ks at (Ok h)) where
   pub refused-condition : (q : PartRefusal) → IsConditionRead ks h.end (Err q) → Refuses (form_in f) ks at (at_state start) q
-  refused-condition q j = refuses-on (form_in f) ks at h.end (at_state start) (after_head (head_of h)) q i (j (form_in f) (head_of h))
+  refused-condition q j = refuses-on (form_in f) ks at h.end (at_state start) (after_head (head_read h)) q i (j (form_in f) (head_read h))
 
   module _ (c : OptionRead) (j : IsConditionRead ks h.end (Ok c)) where
-    to-weight : Leads (form_in f) ks at (at_state start) c.end (after_condition (head_of h) (option_at ks c.span))
-    to-weight = leads-on (form_in f) ks at h.end c.end (at_state start) (after_head (head_of h)) (after_condition (head_of h) (option_at ks c.span)) i (j (form_in f) (head_of h))
+    to-weight : Leads (form_in f) ks at (at_state start) c.end (after_condition (head_read h) (option_at ks c.span))
+    to-weight = leads-on (form_in f) ks at h.end c.end (at_state start) (after_head (head_read h)) (after_condition (head_read h) (option_at ks c.span)) i (j (form_in f) (head_read h))
 
     pub refused-weight : (q : PartRefusal) → IsWeightRead f ks c.end (Err q) → Refuses (form_in f) ks at (at_state start) q
-    refused-weight q k = refuses-on (form_in f) ks at c.end (at_state start) (after_condition (head_of h) (option_at ks c.span)) q to-weight (k (head_of h) (option_at ks c.span))
+    refused-weight q k = refuses-on (form_in f) ks at c.end (at_state start) (after_condition (head_read h) (option_at ks c.span)) q to-weight (k (head_read h) (option_at ks c.span))
 
     module _ (w : OptionRead) (k : IsWeightRead f ks c.end (Ok w)) where
-      abbrev body : machine.Body
-      body = body_with (head_of h) (option_at ks c.span) (option_at ks w.span)
+      abbrev body : machine.Premise
+      body = body_with (head_read h) (option_at ks c.span) (option_at ks w.span)
 
       to-arrow : Leads (form_in f) ks at (at_state start) w.end (after_weight body)
-      to-arrow = leads-on (form_in f) ks at c.end w.end (at_state start) (after_condition (head_of h) (option_at ks c.span)) (after_weight body) to-weight (k (head_of h) (option_at ks c.span))
+      to-arrow = leads-on (form_in f) ks at c.end w.end (at_state start) (after_condition (head_read h) (option_at ks c.span)) (after_weight body) to-weight (k (head_read h) (option_at ks c.span))
 
       pub refused-arrow : (q : PartRefusal) → IsArrowRead ks w.end (Err q) → Refuses (form_in f) ks at (at_state start) q
       refused-arrow q l = refuses-on (form_in f) ks at w.end (at_state start) (after_weight body) q to-arrow (l (form_in f) body)

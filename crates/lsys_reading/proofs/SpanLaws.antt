@@ -9,7 +9,7 @@ use Rattle.lsys_syntax.specs.ExpressionPlaces.{Extent, extent, read_expr}
 use Rattle.lsys_syntax.specs.Nesting.{expr_nesting}
 use Rattle.lsys_syntax.specs.Sentences.{AreTokens}
 use Rattle.lsys_syntax.specs.RuleMachine as machine
-use Rattle.lsys_syntax.specs.RuleMachine.{production, homomorphism, Head, Body, Spot, as_condition, as_weight, InExpr, Successor, Stop, expr_start, only_production}
+use Rattle.lsys_syntax.specs.RuleMachine.{production, homomorphism, Head, Premise, Spot, as_condition, as_weight, InExpr, Successor, Stop, expr_start, only_production}
 use Rattle.lsys_syntax.proofs.Extents.{ends-whole, ends-read}
 use Rattle.lsys_expr.specs.Codes.{any_expr}
 use Rattle.lsys_expr.specs.Scanned.{IsExtent}

@@ -6,43 +6,43 @@ use Rattle.std.specs.Prelude.{IfSome, MatchOption}
 use Rattle.std.specs.List.{HoldsAt}
 use Rattle.std.proofs.lemmas.List.{drop_all, length-drop, take_all}
 use Rattle.lsys_spec.specs.Refusals.{column_at}
-use Rattle.lsys_text.specs.Tokens.{kind_of, kinds_of, token_of}
+use Rattle.lsys_text.specs.Tokens.{kind_of, kind_row, token_of}
 use Rattle.lsys_text.specs.declared.token_kind.Token.{Token}
 use Rattle.lsys_syntax.specs.Tokens.{Kind}
 use Rattle.lsys_syntax.specs.Sentences.{AreTokens, IsToken}
 use Rattle.lsys_syntax.specs.RulePoints.{Here}
 use Rattle.lsys_reading.specs.Glyphs.{IsGlyph, IsPeeked}
 
-drop-kind : (ts : List Token) (at : ℕ) (t : Token) → at < length ts → t ≡ get_or ts at t → drop at (kinds_of ts) ≡ kind_of t.kind ∷ drop (suc at) (kinds_of ts)
+drop-kind : (ts : List Token) (at : ℕ) (t : Token) → at < length ts → t ≡ get_or ts at t → drop at (kind_row ts) ≡ kind_of t.kind ∷ drop (suc at) (kind_row ts)
 drop-kind [] at t h e = absurd (omega arith)
-drop-kind (x ∷ ts) zero t h e = ap (λ (y : Token). kind_of y.kind ∷ kinds_of ts) (sym e)
+drop-kind (x ∷ ts) zero t h e = ap (λ (y : Token). kind_of y.kind ∷ kind_row ts) (sym e)
 drop-kind (x ∷ ts) (suc at) t h e = drop-kind ts at t (omega arith) e
 
-pub length-kinds : (ts : List Token) → length (kinds_of ts) ≡ length ts
+pub length-kinds : (ts : List Token) → length (kind_row ts) ≡ length ts
 length-kinds [] = refl
 length-kinds (t ∷ ts) = ap (λ n. suc n) (length-kinds ts)
 
-pub token-here : (ts : List Token) (at : ℕ) (t : Token) → at < length ts → t ≡ get_or ts at t → Here (kinds_of ts) at (kind_of t.kind)
+pub token-here : (ts : List Token) (at : ℕ) (t : Token) → at < length ts → t ≡ get_or ts at t → Here (kind_row ts) at (kind_of t.kind)
 token-here ts at t h e = (omega (arith, length-kinds ts), rw add-one (drop-kind ts at t h e))
 
-none-here : (ts : List Token) (at : ℕ) → length ts ≤ at → drop at (kinds_of ts) ≡ []
-none-here ts at h = drop_all at (kinds_of ts) (omega (arith, length-kinds ts))
+none-here : (ts : List Token) (at : ℕ) → length ts ≤ at → drop at (kind_row ts) ≡ []
+none-here ts at h = drop_all at (kind_row ts) (omega (arith, length-kinds ts))
 
 -- what a look at a place finds
 pub found : (ts : List Token) (at : ℕ) (o : Option (Bor Token)) → IfSome o (λ x. x.now ≡ get_or ts at x.now) → MatchOption o (length ts ≤ at) (λ x. (at < length ts) × HoldsAt (λ y. x.now ≡ y) ts at)
-    → MatchOption o (drop at (kinds_of ts) ≡ []) (λ t. Here (kinds_of ts) at (kind_of t.now.kind))
+    → MatchOption o (drop at (kind_row ts) ≡ []) (λ t. Here (kind_row ts) at (kind_of t.now.kind))
 found ts at None e h = none-here ts at h
 found ts at (Some x) e h = token-here ts at x.now h.0 e
 
 -- the tokens behind some
-pub drop-kinds : (n : ℕ) (ts : List Token) → kinds_of (drop n ts) ≡ drop n (kinds_of ts)
+pub drop-kinds : (n : ℕ) (ts : List Token) → kind_row (drop n ts) ≡ drop n (kind_row ts)
 drop-kinds zero ts = refl
 drop-kinds (suc n) [] = refl
 drop-kinds (suc n) (t ∷ ts) = drop-kinds n ts
 
 -- a part that reaches to the end
-pub rest-kinds : (n : ℕ) (ts : List Token) → kinds_of (take (length ts - n) (drop n ts)) ≡ drop n (kinds_of ts)
-rest-kinds n ts = ap kinds_of (take_all (length ts - n) (drop n ts) (omega (arith, length-drop n ts))) ∙ drop-kinds n ts
+pub rest-kinds : (n : ℕ) (ts : List Token) → kind_row (take (length ts - n) (drop n ts)) ≡ drop n (kind_row ts)
+rest-kinds n ts = ap kind_row (take_all (length ts - n) (drop n ts) (omega (arith, length-drop n ts))) ∙ drop-kinds n ts
 
 -- a token of a line
 form-at : (ks : List Kind) (at : ℕ) (k : Kind) (rest : List Kind) → drop at ks ≡ k ∷ rest → AreTokens ks → IsToken k

@@ -36,12 +36,12 @@ string_in (sentence (spec.set_axiom xs)) = xs
 string_in v = []
 
 -- how an axiom's tokens behind the first read
-abbrev pub axiom_verdict : List Kind → Verdict
-axiom_verdict ks = line_at ks 1 (InAxiom (Symbols []))
+abbrev pub axiom_reading : List Kind → Verdict
+axiom_reading ks = line_at ks 1 (InAxiom (Symbols []))
 
 -- the command that has these parts
 abbrev pub parts_command : List Kind → Parts → spec.Command
-parts_command ks Axiom = spec.set_axiom (string_in (axiom_verdict ks))
+parts_command ks Axiom = spec.set_axiom (string_in (axiom_reading ks))
 parts_command ks (Production p) = spec.put_production p.table p.label (rule_at ks p.rule)
 parts_command ks (Drop l) = spec.drop_rule l
 parts_command ks (Ignore xs) = spec.set_ignored (map module_name xs.items)
@@ -70,7 +70,7 @@ IsCommandEnd ks parts result = IsCommandRest ks (Whole (parts_command ks parts))
 
 -- An axiom's string is one, and every expression of a rule stands at its span.
 abbrev pub AreParts : List Kind → Parts → Type 0
-AreParts ks Axiom = axiom_verdict ks ≡ sentence (spec.set_axiom (string_in (axiom_verdict ks)))
+AreParts ks Axiom = axiom_reading ks ≡ sentence (spec.set_axiom (string_in (axiom_reading ks)))
 AreParts ks (Production p) = IsRuleLine ks p.rule
 AreParts ks (Homomorphism p) = IsRuleLine ks p.rule
 AreParts ks p = Unit {0}

@@ -50,9 +50,9 @@ abbrev pub IsPeeked : List Kind → ℕ → Glyph → Type 0
 IsPeeked ks at glyphs.End = drop at ks ≡ []
 IsPeeked ks at g = (k : Kind) × Here ks at k × IsGlyph g k
 
-abbrev pub formal_of : Glyph → Option (List ℕ)
-formal_of (glyphs.Letters x) = Some x
-formal_of g = None
+abbrev pub glyph_formal : Glyph → Option (List ℕ)
+glyph_formal (glyphs.Letters x) = Some x
+glyph_formal g = None
 
 abbrev pub glyph_name : Glyph → Option (List ℕ)
 glyph_name (glyphs.Letters x) = Some x
@@ -64,9 +64,9 @@ separator_of glyphs.Comma = Some separators.Comma
 separator_of glyphs.Close = Some separators.Close
 separator_of g = None
 
-abbrev pub is_open : Glyph → Bool
-is_open glyphs.Open = true
-is_open g = false
+abbrev pub is_opening : Glyph → Bool
+is_opening glyphs.Open = true
+is_opening g = false
 
 abbrev pub is_colon : Glyph → Bool
 is_colon glyphs.Colon = true

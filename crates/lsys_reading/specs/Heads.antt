@@ -7,7 +7,7 @@ use Rattle.lsys_text.specs.Tokens.{name_of}
 use Rattle.lsys_module.specs.Views.{module_name}
 use Rattle.lsys_syntax.specs.RulePoints.{at_state, after_predecessor, after_head, head_with}
 use Rattle.lsys_reading.specs.Reads.{IsRead}
-use Rattle.lsys_reading.specs.Patterns.{pattern_of, is_empty}
+use Rattle.lsys_reading.specs.Patterns.{symbol_read, is_empty}
 use Rattle.lsys_reading.specs.declared.refusal.PartRefusal.{PartRefusal}
 use Rattle.lsys_reading.specs.declared.refusal.PartRefusal.TheVariants.{Token}
 use Rattle.lsys_reading.specs.declared.glyph.Glyph.{Glyph}
@@ -54,7 +54,7 @@ IsContext true xs branches = (is_empty xs ≡ false) × (branches ≡ 0)
 IsContext false xs branches = (is_empty xs ≡ true) ⊎ (0 < branches)
 
 abbrev pub patterns_of : List Pattern → List (S.Symbol NameText)
-patterns_of xs = map pattern_of xs
+patterns_of xs = map symbol_read xs
 
 abbrev pub formals_of : PatternModule → List NameText
 formals_of x = map name_of x.formals.items
@@ -67,8 +67,8 @@ abbrev pub IsRightRead : Form → List Kind → ℕ → Result RightRead PartRef
 IsRightRead f ks at result = (l : List (S.Symbol NameText)) (n : S.ModuleName) (fs : List NameText)
     → IsRead (form_in f) ks at (after_predecessor l n fs) (λ x. x.end) (λ x. after_head (head_with l n fs (patterns_of x.right.items))) result
 
-abbrev pub head_of : HeadRead → machine.Head
-head_of x = head_with (patterns_of x.left.items) (module_name x.predecessor.name) (formals_of x.predecessor) (patterns_of x.right.items)
+abbrev pub head_read : HeadRead → machine.Head
+head_read x = head_with (patterns_of x.left.items) (module_name x.predecessor.name) (formals_of x.predecessor) (patterns_of x.right.items)
 
 abbrev pub IsHeadRead : Form → List Kind → ℕ → Result HeadRead PartRefusal → Type 0
-IsHeadRead f ks at result = IsRead (form_in f) ks at (at_state machine.start) (λ x. x.end) (λ x. after_head (head_of x)) result
+IsHeadRead f ks at result = IsRead (form_in f) ks at (at_state machine.start) (λ x. x.end) (λ x. after_head (head_read x)) result

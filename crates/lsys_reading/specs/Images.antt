@@ -5,7 +5,7 @@ use Rattle.lsys_syntax.specs.Tokens.{Kind}
 use Rattle.lsys_syntax.specs.Strings as S
 use Rattle.lsys_syntax.specs.Expressions.{Expr}
 use Rattle.lsys_syntax.specs.RuleMachine as machine
-use Rattle.lsys_syntax.specs.RuleMachine.{Body, State, InExpr, as_param, Successor, expr_start, reversed, open_in, rule_with}
+use Rattle.lsys_syntax.specs.RuleMachine.{Premise, RuleState, InExpr, as_param, Successor, expr_start, reversed, open_in, rule_with}
 use Rattle.lsys_module.specs.Views.{module_name}
 use Rattle.lsys_syntax.specs.RulePoints.{whole, at_state, after_image, verdict_at}
 use Rattle.lsys_reading.specs.Reads.{Refuses, IsRead}
@@ -60,9 +60,9 @@ image_branches x b = b
 
 -- 1. which symbols may stand at a place
 
-abbrev pub where_true : Bool → ImageOpening → Option ImageOpening
-where_true true o = Some o
-where_true false o = None
+abbrev pub opening_if : Bool → ImageOpening → Option ImageOpening
+opening_if true o = Some o
+opening_if false o = None
 
 abbrev pub has_cuts : Form → Bool
 has_cuts Production = true
@@ -72,36 +72,36 @@ abbrev pub image_opening_of : Form → ℕ → Glyph → Option ImageOpening
 image_opening_of f b (glyphs.Letters x) = Some (openings.Name x)
 image_opening_of f b (glyphs.Sign x) = Some (openings.Name x)
 image_opening_of f b glyphs.Push = Some openings.Push
-image_opening_of f b glyphs.Pop = where_true (nat_lt 0 b) openings.Pop
-image_opening_of f b glyphs.Cut = where_true (has_cuts f) openings.Cut
+image_opening_of f b glyphs.Pop = opening_if (nat_lt 0 b) openings.Pop
+image_opening_of f b glyphs.Cut = opening_if (has_cuts f) openings.Cut
 image_opening_of f b g = None
 
 -- 2. what is read
 
-abbrev pub param_due : Body → List (S.Symbol Expr) → S.ModuleName → List Expr → State
+abbrev pub param_due : Premise → List (S.Symbol Expr) → S.ModuleName → List Expr → RuleState
 param_due b r n es = InExpr (as_param b r n es) expr_start
 
-abbrev pub after_param : Separator → Body → List (S.Symbol Expr) → S.ModuleName → List Expr → State
+abbrev pub after_param : Separator → Premise → List (S.Symbol Expr) → S.ModuleName → List Expr → RuleState
 after_param separators.Comma b r n es = param_due b r n es
 after_param separators.Close b r n es = Successor b (S.Module n (reversed es) ∷ r)
 
 abbrev pub IsParamRead : List Kind → ℕ → Result ParamRead PartRefusal → Type 0
-IsParamRead ks at result = (m : machine.Form) (b : Body) (r : List (S.Symbol Expr)) (n : S.ModuleName) (es : List Expr)
+IsParamRead ks at result = (m : machine.Form) (b : Premise) (r : List (S.Symbol Expr)) (n : S.ModuleName) (es : List Expr)
     → IsRead m ks at (at_state (param_due b r n es)) (λ x. x.span.to + 1) (λ x. at_state (after_param x.separator b r n (expr_at ks x.span ∷ es))) result
 
 abbrev pub AreParamsRead : List Kind → ℕ → Result ParamsRead PartRefusal → Type 0
-AreParamsRead ks at result = (m : machine.Form) (b : Body) (r : List (S.Symbol Expr)) (n : S.ModuleName)
+AreParamsRead ks at result = (m : machine.Form) (b : Premise) (r : List (S.Symbol Expr)) (n : S.ModuleName)
     → IsRead m ks at (at_state (param_due b r n [])) (λ x. x.end) (λ x. at_state (Successor b (S.Module n (params_at ks x.params.items) ∷ r))) result
 
 abbrev pub IsImageModuleRead : List ℕ → List Kind → ℕ → Result ImageModuleRead PartRefusal → Type 0
-IsImageModuleRead x ks at result = (m : machine.Form) (b : Body) (r : List (S.Symbol Expr))
+IsImageModuleRead x ks at result = (m : machine.Form) (b : Premise) (r : List (S.Symbol Expr))
     → IsRead m ks at (at_state (Successor b (S.Module (module_name x) [] ∷ r))) (λ y. y.end) (λ y. after_image b (module_at ks y.image ∷ r)) result
 
 abbrev pub IsImageRead : Form → ℕ → List Kind → ℕ → Result ImageRead PartRefusal → Type 0
-IsImageRead f branches ks at result = (b : Body) (r : List (S.Symbol Expr)) → branches ≡ open_in r
+IsImageRead f branches ks at result = (b : Premise) (r : List (S.Symbol Expr)) → branches ≡ open_in r
     → IsRead (form_in f) ks at (after_image b r) (λ x. x.end) (λ x. after_image b (image_at ks x.symbol ∷ r)) result
 
 -- the rule is whole behind the symbols, which reach to the line's end; or it is refused
 abbrev pub IsSuccessorRead : Form → List Kind → ℕ → Result (Vec Image Global) PartRefusal → Type 0
-IsSuccessorRead f ks at (Ok xs) = (b : Body) → verdict_at (form_in f) ks at (at_state (Successor b [])) ≡ whole (rule_with b (images_at ks xs.items))
-IsSuccessorRead f ks at (Err e) = (b : Body) → Refuses (form_in f) ks at (at_state (Successor b [])) e
+IsSuccessorRead f ks at (Ok xs) = (b : Premise) → verdict_at (form_in f) ks at (at_state (Successor b [])) ≡ whole (rule_with b (images_at ks xs.items))
+IsSuccessorRead f ks at (Err e) = (b : Premise) → Refuses (form_in f) ks at (at_state (Successor b [])) e

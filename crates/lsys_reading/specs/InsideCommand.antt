@@ -9,5 +9,5 @@ abbrev pub command_tokens : Inside → List Token
 command_tokens a = a.line.tokens.items
 
 -- the tokens spell the command that has the parts
-abbrev pub IsKept : Inside → Type 0
-IsKept a = IsParted (kinds_in a.line) a.parts
+abbrev pub SpellsParts : Inside → Type 0
+SpellsParts a = IsParted (kinds_in a.line) a.parts

@@ -5,7 +5,7 @@ use Rattle.lsys_syntax.specs.Tokens.{Kind, Word, Number}
 use Rattle.lsys_syntax.specs.Strings.{ModuleName}
 use Rattle.lsys_syntax.specs.Commands.{Command}
 use Rattle.lsys_syntax.specs.RuleMachine as rules
-use Rattle.lsys_syntax.specs.LineMachine.{State, Listed, InNames, listing, Whole, Verdict, sentence, stops, too_deep, verdict_from, finish, step, word_step, number_step}
+use Rattle.lsys_syntax.specs.LineMachine.{State, Listed, InNames, listing, Whole, Verdict, sentence, stops, too_deep, verdict_from, finish, line_step, word_step, number_step}
 use Rattle.lsys_module.specs.Views.{module_name}
 use Rattle.lsys_syntax.specs.RulePoints.{Here}
 use Rattle.lsys_reading.specs.declared.refusal.PartRefusal.{PartRefusal}
@@ -37,9 +37,9 @@ abbrev pub word_in : Kind → Option (List ℕ)
 word_in (Word w) = Some w
 word_in k = None
 
-abbrev pub number_in : Kind → Option ℕ
-number_in (Number n) = Some n
-number_in k = None
+abbrev pub numeral_in : Kind → Option ℕ
+numeral_in (Number n) = Some n
+numeral_in k = None
 
 abbrev pub name_of_sign : rules.Sign → Option ModuleName
 name_of_sign (rules.a_name n) = Some n
@@ -61,7 +61,7 @@ IsWord ks at (Err e) = ⊥
 
 abbrev pub IsNumber : List Kind → ℕ → Result ℕ PartRefusal → Type 0
 IsNumber ks at (Ok n) = Here ks at (Number n)
-IsNumber ks at (Err (Token place)) = (place ≡ at) × (at_front number_in (drop at ks) ≡ None)
+IsNumber ks at (Err (Token place)) = (place ≡ at) × (at_front numeral_in (drop at ks) ≡ None)
 IsNumber ks at (Err e) = ⊥
 
 -- the token there is the name of a module
@@ -80,16 +80,16 @@ IsEnd ks at (Err e) = ⊥
 
 -- a word is due, which leads to another state
 pub record WordDue (s : State) (f : List ℕ → State) : Type 0 where
-  pub step : (k : Kind) → step s k ≡ word_step f k
+  pub step : (k : Kind) → line_step s k ≡ word_step f k
   pub none : finish s ≡ None
 
 -- the last token of a command is due
 pub record LastWordDue (s : State) (f : List ℕ → Command) : Type 0 where
-  pub step : (k : Kind) → step s k ≡ word_step (λ w. Whole (f w)) k
+  pub step : (k : Kind) → line_step s k ≡ word_step (λ w. Whole (f w)) k
   pub none : finish s ≡ None
 
 pub record LastNumberDue (ks : List Kind) (s : State) (f : ℕ → Command) : Type 0 where
-  pub step : (k : Kind) → step s k ≡ number_step (λ n. Whole (f n)) k
+  pub step : (k : Kind) → line_step s k ≡ number_step (λ n. Whole (f n)) k
   pub none : drop 1 ks ≡ [] → finish s ≡ None
 
 abbrev pub IsLastWord : List Kind → Result (List ℕ) PartRefusal → Type 0

@@ -3,7 +3,7 @@ use Rattle.std.specs.Prelude.{◌≡◌, ℕ, Result, Ok, Err, List, map}
 use Rattle.lsys_syntax.specs.Commands as spec
 use Rattle.lsys_syntax.specs.LineMachine.{sentence, stops, too_deep, verdict}
 use Rattle.lsys_spec.specs.Refusals.{column_at}
-use Rattle.lsys_text.specs.Tokens.{kinds_of, token_of}
+use Rattle.lsys_text.specs.Tokens.{kind_row, token_of}
 use Rattle.lsys_text.specs.declared.token_kind.Token.{Token}
 use Rattle.lsys_reading.specs.declared.command.Command.{Command}
 use Rattle.lsys_reading.specs.declared.command.CommandKind.{CommandKind}
@@ -26,7 +26,7 @@ column_of bytes ts place = column_at bytes place (map token_of ts)
 
 -- The command that the tokens spell, or the column of the first token with which none goes on; want of memory says nothing.
 abbrev pub IsParsed : List Token → ℕ → Result Command Refusal → Type 0
-IsParsed ts bytes (Ok c) = (c ≡ ts) × (verdict (kinds_of ts) ≡ sentence (command_of ts))
-IsParsed ts bytes (Err (refusals.Token column)) = (place : ℕ) × (verdict (kinds_of ts) ≡ stops place) × (column ≡ column_of bytes ts place)
-IsParsed ts bytes (Err (refusals.Deep column)) = (place : ℕ) × (verdict (kinds_of ts) ≡ too_deep place) × (column ≡ column_of bytes ts place)
+IsParsed ts bytes (Ok c) = (c ≡ ts) × (verdict (kind_row ts) ≡ sentence (command_of ts))
+IsParsed ts bytes (Err (refusals.Token column)) = (place : ℕ) × (verdict (kind_row ts) ≡ stops place) × (column ≡ column_of bytes ts place)
+IsParsed ts bytes (Err (refusals.Deep column)) = (place : ℕ) × (verdict (kind_row ts) ≡ too_deep place) × (column ≡ column_of bytes ts place)
 IsParsed ts bytes (Err refusals.Memory) = Unit {0}

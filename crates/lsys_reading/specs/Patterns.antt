@@ -22,17 +22,17 @@ use Rattle.lsys_reading.specs.declared.patterns.ModuleRead.{ModuleRead}
 use Rattle.lsys_reading.specs.declared.patterns.SymbolRead.{SymbolRead}
 use Rattle.lsys_reading.specs.declared.patterns.PatternsRead.{PatternsRead}
 
-abbrev pub module_of : PatternModule → S.Symbol NameText
-module_of x = S.Module (module_name x.name) (map name_of x.formals.items)
+abbrev pub module_read : PatternModule → S.Symbol NameText
+module_read x = S.Module (module_name x.name) (map name_of x.formals.items)
 
-abbrev pub pattern_of : Pattern → S.Symbol NameText
-pattern_of (patterns.Module x) = module_of x
-pattern_of patterns.Push = S.Push
-pattern_of patterns.Pop = S.Pop
+abbrev pub symbol_read : Pattern → S.Symbol NameText
+symbol_read (patterns.Module x) = module_read x
+symbol_read patterns.Push = S.Push
+symbol_read patterns.Pop = S.Pop
 
 -- the symbols that were read, the last one first
 abbrev pub so_far : List Pattern → List (S.Symbol NameText)
-so_far xs = reversed (map pattern_of xs)
+so_far xs = reversed (map symbol_read xs)
 
 abbrev pub branches_behind : S.Symbol NameText → ℕ → ℕ
 branches_behind (S.Module n fs) b = b
@@ -81,7 +81,7 @@ IsStanding st m p r = IsSection st.section m p × (st.is_first ≡ is_empty r) �
 
 abbrev pub IsModuleRead : List ℕ → List Kind → ℕ → Result ModuleRead PartRefusal → Type 0
 IsModuleRead x ks at result = (m : Form) (p : Part) (r : List (S.Symbol NameText))
-    → IsRead m ks at (at_state (Formals p (S.Module (module_name x) [] ∷ r))) (λ y. y.end) (λ y. after_symbol p (module_of y.pattern ∷ r)) result
+    → IsRead m ks at (at_state (Formals p (S.Module (module_name x) [] ∷ r))) (λ y. y.end) (λ y. after_symbol p (module_read y.pattern ∷ r)) result
 
 abbrev pub end_of : ℕ → Option SymbolRead → ℕ
 end_of at None = at
@@ -89,7 +89,7 @@ end_of at (Some x) = x.end
 
 abbrev pub point_behind : Part → List (S.Symbol NameText) → Option SymbolRead → Point
 point_behind p r None = after_symbols p r
-point_behind p r (Some x) = after_symbol p (pattern_of x.symbol ∷ r)
+point_behind p r (Some x) = after_symbol p (symbol_read x.symbol ∷ r)
 
 abbrev pub IsSymbolRead : Standing → List Kind → ℕ → Result (Option SymbolRead) PartRefusal → Type 0
 IsSymbolRead st ks at result = (m : Form) (p : Part) (r : List (S.Symbol NameText)) → IsStanding st m p r
@@ -101,4 +101,4 @@ ArePatternsRead s ks at result = (m : Form) (p : Part) → IsSection s m p
 
 -- so many branches are told as are open behind the symbols that were read
 abbrev pub CountsBranches : PatternsRead → Type 0
-CountsBranches x = x.branches ≡ open_in (reversed (map pattern_of x.symbols.items))
+CountsBranches x = x.branches ≡ open_in (reversed (map symbol_read x.symbols.items))

@@ -2,7 +2,7 @@
 use Rattle.std.specs.Prelude.{◌≡◌, ◌+◌, ℕ, Result, Ok, Err, List, [], ◌∷◌, map}
 use Rattle.lsys_syntax.specs.Tokens.{NameText, Kind}
 use Rattle.lsys_syntax.specs.Strings.{ModuleName, Symbol, Module}
-use Rattle.lsys_syntax.specs.RuleMachine.{Form, Part, State, Formals, FormalDue, reversed}
+use Rattle.lsys_syntax.specs.RuleMachine.{Form, Part, RuleState, Formals, FormalDue, reversed}
 use Rattle.lsys_text.specs.Tokens.{name_of}
 use Rattle.lsys_syntax.specs.RulePoints.{stops, too_deep, Point, at_state, verdict_at, Leads}
 use Rattle.lsys_reading.specs.declared.refusal.PartRefusal.{PartRefusal}
@@ -25,7 +25,7 @@ IsRead m ks at p end q (Err e) = Refuses m ks at p e
 
 -- 1. formals
 
-abbrev pub after_formal : Separator → Part → List (Symbol NameText) → ModuleName → List NameText → State
+abbrev pub after_formal : Separator → Part → List (Symbol NameText) → ModuleName → List NameText → RuleState
 after_formal separators.Comma p r n fs = FormalDue p r n fs
 after_formal separators.Close p r n fs = Formals p (Module n (reversed fs) ∷ r)
 

@@ -4,7 +4,7 @@ use Rattle.lsys_syntax.specs.Tokens.{Kind}
 use Rattle.lsys_syntax.specs.Expressions.{Expr, expr_kinds}
 use Rattle.lsys_syntax.specs.ExpressionPlaces.{read_expr}
 use Rattle.lsys_syntax.specs.RuleMachine as machine
-use Rattle.lsys_syntax.specs.RuleMachine.{Head, Body, Spot, InExpr, Successor, expr_start}
+use Rattle.lsys_syntax.specs.RuleMachine.{Head, Premise, Spot, InExpr, Successor, expr_start}
 use Rattle.lsys_expr.specs.Codes.{any_expr}
 use Rattle.lsys_syntax.specs.RulePoints.{at_state, after_head, after_condition, after_weight, after_expr, body_with}
 use Rattle.lsys_reading.specs.Reads.{IsRead}
@@ -53,5 +53,5 @@ IsWeightRead f ks at result = (h : Head) (c : Option Expr)
     → IsRead (form_in f) ks at (after_condition h c) (λ x. x.end) (λ x. after_weight (body_with h c (option_at ks x.span))) result
 
 abbrev pub IsArrowRead : List Kind → ℕ → Result ℕ PartRefusal → Type 0
-IsArrowRead ks at result = (m : machine.Form) (b : Body)
+IsArrowRead ks at result = (m : machine.Form) (b : Premise)
     → IsRead m ks at (after_weight b) (λ end. end) (λ end. at_state (Successor b [])) result

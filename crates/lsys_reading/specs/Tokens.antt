@@ -4,11 +4,11 @@ use Rattle.lsys_syntax.specs.Tokens.{Kind}
 use Rattle.lsys_spec.specs.Refusals.{column_at}
 use Rattle.lsys_syntax.specs.RulePoints.{Here}
 use Rattle.lsys_text.specs.declared.token_kind.TokenKind.{TokenKind}
-use Rattle.lsys_text.specs.Tokens.{kind_of, kinds_of, token_of}
+use Rattle.lsys_text.specs.Tokens.{kind_of, kind_row, token_of}
 use Rattle.lsys_reading.specs.declared.line_tokens.LineTokens.{LineTokens}
 
 abbrev pub kinds_in : LineTokens → List Kind
-kinds_in line = kinds_of line.tokens.items
+kinds_in line = kind_row line.tokens.items
 
 abbrev pub size : LineTokens → ℕ
 size line = length line.tokens.items

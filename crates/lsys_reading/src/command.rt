@@ -1,7 +1,7 @@
 //! Commands.
 ghost use Rattle.std.specs.Prelude.{◌≡◌};
 ghost use Rattle.lsys_syntax.specs.Sentences.{AreTokens};
-ghost use Rattle.lsys_text.specs.Tokens.{kinds_of};
+ghost use Rattle.lsys_text.specs.Tokens.{kind_row};
 ghost use Rattle.lsys_module.specs.Building.{AreOfLine};
 ghost use Rattle.lsys_reading.specs.Parted.{command_of, IsParted};
 ghost use Rattle.lsys_reading.specs.Parsing.{kind_of_command};
@@ -24,11 +24,11 @@ impl Model for Command {
 
     ghost Value = { List Token };
 
-    ghost use Rattle.lsys_reading.specs.InsideCommand.{command_tokens, IsKept};
+    ghost use Rattle.lsys_reading.specs.InsideCommand.{command_tokens, SpellsParts};
 
     ghost view = { command_tokens };
 
-    ghost invariant = { IsKept };
+    ghost invariant = { SpellsParts };
 }
 
 /// What a command is for.
@@ -66,7 +66,7 @@ impl Command {
     /// The tokens of its line.
     pub fn tokens(&self) -> &[Token]
         ensures tokens { result.now ≡ self.now }
-        ensures forms { AreTokens (kinds_of self.now) }
+        ensures forms { AreTokens (kind_row self.now) }
         ensures line { AreOfLine self.now }
     {
         &self.line.tokens
@@ -74,7 +74,7 @@ impl Command {
 
     /// What the tokens are the parts of.
     pub fn parts(&self) -> &Parts
-        ensures { IsParted (kinds_of self.now) result.now }
+        ensures { IsParted (kind_row self.now) result.now }
     {
         &self.parts
     }

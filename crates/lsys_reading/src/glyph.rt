@@ -3,7 +3,7 @@ ghost use Rattle.std.specs.Prelude.{◌≡◌};
 ghost use Rattle.lsys_syntax.specs.Sentences.{IsToken};
 ghost use Rattle.lsys_text.specs.Tokens.{kind_of, mark_kind};
 ghost use Rattle.lsys_reading.specs.Tokens.{kinds_in};
-ghost use Rattle.lsys_reading.specs.Glyphs.{IsGlyph, IsPeeked, formal_of, glyph_name, separator_of, is_open, is_colon, is_arrow};
+ghost use Rattle.lsys_reading.specs.Glyphs.{IsGlyph, IsPeeked, glyph_formal, glyph_name, separator_of, is_opening, is_colon, is_arrow};
 
 use crate::line_tokens::LineTokens;
 use lsys_text::{Name, TokenKind};
@@ -96,7 +96,7 @@ impl Glyph {
 
     // The formal that it names.
     pub(crate) fn formal(self) -> Option<Name>
-        ensures { result ≡ formal_of self }
+        ensures { result ≡ glyph_formal self }
     {
         match self {
             Glyph::Letters(name) => Some(name),
@@ -125,7 +125,7 @@ impl Glyph {
     }
 
     pub(crate) fn is_open(self) -> bool
-        ensures { result ≡ is_open self }
+        ensures { result ≡ is_opening self }
     {
         matches!(self, Glyph::Open)
     }

@@ -2,7 +2,7 @@
 ghost use Rattle.std.specs.Prelude.{◌≤◌, All};
 ghost use Rattle.lsys_syntax.specs.Limits.{most_line_bytes};
 ghost use Rattle.lsys_syntax.specs.Sentences.{AreTokens};
-ghost use Rattle.lsys_text.specs.Tokens.{kinds_of, IsWithin};
+ghost use Rattle.lsys_text.specs.Tokens.{kind_row, LiesInLine};
 ghost use Rattle.lsys_reading.specs.Parsing.{IsParsed};
 
 use crate::command::Command;
@@ -21,8 +21,8 @@ use std::alloc::Global;
 /// end, and `Memory` is want of memory.
 pub fn parse_command(alloc: Global, tokens: &[Token], line_length: u32) -> Result<Command, Refusal>
     requires short { line_length ≤ most_line_bytes }
-    requires forms { AreTokens (kinds_of tokens.now) }
-    requires line { All (IsWithin line_length) tokens.now }
+    requires forms { AreTokens (kind_row tokens.now) }
+    requires line { All (LiesInLine line_length) tokens.now }
     ensures { IsParsed tokens.now line_length result }
 {
     let line = LineTokens {

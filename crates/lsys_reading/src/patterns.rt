@@ -1,7 +1,7 @@
 //! Symbols with formals: the contexts of a rule, and its predecessor.
 ghost use Rattle.std.specs.Prelude.{◌≡◌, ◌≤◌, ◌<◌, IfOk, IfSome};
 ghost use Rattle.lsys_reading.specs.Tokens.{kinds_in, size};
-ghost use Rattle.lsys_reading.specs.Patterns.{pattern_of, takes_name, opening_of, branches_behind, IsModuleRead, IsSymbolRead, ArePatternsRead, CountsBranches};
+ghost use Rattle.lsys_reading.specs.Patterns.{symbol_read, takes_name, opening_of, branches_behind, IsModuleRead, IsSymbolRead, ArePatternsRead, CountsBranches};
 
 use crate::formals::{FormalsRead, formals};
 use crate::glyph::{Glyph, peek};
@@ -162,7 +162,7 @@ fn symbol(
 // How many branches are open behind a symbol.
 fn branches_behind(symbol: &Pattern, branches: usize) -> usize
     requires { branches < usize.MAX }
-    ensures { result ≡ branches_behind (pattern_of symbol.now) branches }
+    ensures { result ≡ branches_behind (symbol_read symbol.now) branches }
 {
     match symbol {
         Pattern::Module(_) => branches,

@@ -2,7 +2,7 @@
 ghost use Rattle.std.specs.Prelude.{◌≡◌};
 ghost use Rattle.lsys_text.specs.Tokens.{kind_of};
 ghost use Rattle.lsys_reading.specs.Tokens.{kinds_in};
-ghost use Rattle.lsys_reading.specs.Lines.{word_in, number_in, IsWord, IsNumber, IsName, IsEnd, IsLastWord, IsLastNumber};
+ghost use Rattle.lsys_reading.specs.Lines.{word_in, numeral_in, IsWord, IsNumber, IsName, IsEnd, IsLastWord, IsLastNumber};
 
 use crate::glyph::peek;
 use crate::line_tokens::LineTokens;
@@ -19,7 +19,7 @@ fn word_of(kind: TokenKind) -> Option<Word>
 }
 
 fn number_of(kind: TokenKind) -> Option<u64>
-    ensures { result ≡ number_in (kind_of kind) }
+    ensures { result ≡ numeral_in (kind_of kind) }
 {
     match kind {
         TokenKind::Number(number) => Some(number),

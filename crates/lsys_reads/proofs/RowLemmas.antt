@@ -10,7 +10,7 @@ use Rattle.std.proofs.lemmas.List.Sums.{sum_by-cons}
 use Rattle.std.proofs.lemmas.Map.Keys.{IsStrictlyIncreasing-dedup}
 use Rattle.std.proofs.lemmas.Bool.Decides.{eqb_tells}
 use Rattle.std.proofs.lemmas.Bool.{eq-eqb, ne_eqb, cases_lt}
-use Rattle.lsys_reads.specs.Rows.{IsBelowAll, IsRising, has, Row, empty_row, row_at, Sweeps}
+use Rattle.lsys_reads.specs.Rows.{IsBelowAll, IsRising, has, Row, empty_row, tag_row, Sweeps}
 
 or_swap : (a b c : Bool) → (a || (b || c)) ≡ (b || (a || c))
 or_swap true true c = refl
@@ -134,7 +134,7 @@ lacks_split xs i x low high = lacks_all xs x (λ k within same. elim (cases_lt k
   | inr most ↦ (let above = high k most within in omega (arith, above, same))
 ])
 
-pub row_at_push : (rows : List Row) (q : ℕ) → row_at (rows ++ empty_row ∷ []) q ≡ row_at rows q
+pub row_at_push : (rows : List Row) (q : ℕ) → tag_row (rows ++ empty_row ∷ []) q ≡ tag_row rows q
 row_at_push [] zero = refl
 row_at_push [] (suc q) = refl
 row_at_push (r ∷ rows) zero = refl

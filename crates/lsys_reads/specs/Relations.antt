@@ -2,7 +2,7 @@
 use Rattle.std.specs.Prelude.{◌≡◌, ◌≢◌, ℕ, ◌+◌, List, [], ◌∷◌, ◌++◌, map, slice_index_or, Bool, ◌||◌, ◌&&◌, not, ◌==◌, cond, true, false, refl}
 use Rattle.std.specs.Coded.{Coded, code_by, coded×, coded_ℕ, coded_list}
 use Rattle.lsys_reads.specs.declared.Pair.{Pair}
-use Rattle.lsys_reads.specs.Rows.{Row, row_at, has, AreRising, OtherRowsStay}
+use Rattle.lsys_reads.specs.Rows.{Row, tag_row, has, AreRising, OtherRowsStay}
 
 -- the settled readers of each tag, and the pending pairs
 pub record Relations : Type 0 where
@@ -31,40 +31,40 @@ is_pending relations reader seen = pairs_have relations.pending reader seen
 abbrev pub SettledStay : Relations → Relations → Type 0
 SettledStay old new = (reader seen : ℕ) → is_settled new reader seen ≡ is_settled old reader seen
 
-abbrev pub tags_of : Row → List ℕ
-tags_of row = row.tags
+abbrev pub row_tags : Row → List ℕ
+row_tags row = row.tags
 
-abbrev pub view_of : List Row → List Pair → Relations
-view_of by_seen pending = record { settled = map tags_of by_seen; pending = pending }
+abbrev pub relations_of : List Row → List Pair → Relations
+relations_of by_seen pending = record { settled = map row_tags by_seen; pending = pending }
 
 -- how often a tag is among these
-abbrev pub times : List ℕ → ℕ → ℕ
-times [] tag = 0
-times (x ∷ tags) tag = cond (x == tag) 1 0 + times tags tag
+abbrev pub occurrences : List ℕ → ℕ → ℕ
+occurrences [] tag = 0
+occurrences (x ∷ tags) tag = cond (x == tag) 1 0 + occurrences tags tag
 
-abbrev pub seen_of : Pair → ℕ
-seen_of p = p.seen
+abbrev pub seen_tag : Pair → ℕ
+seen_tag p = p.seen
 
 abbrev pub reader_of : Pair → ℕ
 reader_of p = p.reader
 
 -- both directions say the same, and each row keeps room for what is pending there
-pub record IsSound (by_seen by_reader : List Row) (pending : List Pair) : Type 0 where
-  pub agree : (reader seen : ℕ) → has (row_at by_seen seen).tags reader ≡ has (row_at by_reader reader).tags seen
-  pub owed_seen : (tag : ℕ) → (row_at by_seen tag).owed ≡ times (map seen_of pending) tag
-  pub owed_reader : (tag : ℕ) → (row_at by_reader tag).owed ≡ times (map reader_of pending) tag
+pub record AgreeBothWays (by_seen by_reader : List Row) (pending : List Pair) : Type 0 where
+  pub agree : (reader seen : ℕ) → has (tag_row by_seen seen).tags reader ≡ has (tag_row by_reader reader).tags seen
+  pub owed_seen : (tag : ℕ) → (tag_row by_seen tag).owed ≡ occurrences (map seen_tag pending) tag
+  pub owed_reader : (tag : ℕ) → (tag_row by_reader tag).owed ≡ occurrences (map reader_of pending) tag
 
 -- what the first table has the second has
 abbrev pub Covers : List Row → List Row → Type 0
-Covers by_seen by_reader = (reader seen : ℕ) → has (row_at by_seen seen).tags reader ≡ true → has (row_at by_reader reader).tags seen ≡ true
+Covers by_seen by_reader = (reader seen : ℕ) → has (tag_row by_seen seen).tags reader ≡ true → has (tag_row by_reader reader).tags seen ≡ true
 
 -- pairs of the reader and, among the rows of readers, of some in `gone` are taken out: s and r were the two tables, and s' and r' are now
 pub record Forgets (s r s' r' : List Row) (reader : ℕ) (gone : List ℕ) : Type 0 where
   pub covers : Covers s' r'
-  pub kept : (other seen : ℕ) → other ≢ reader → has gone other ≡ false → has (row_at s' seen).tags other ≡ has (row_at s seen).tags other
+  pub kept : (other seen : ℕ) → other ≢ reader → has gone other ≡ false → has (tag_row s' seen).tags other ≡ has (tag_row s seen).tags other
   pub others : OtherRowsStay r r' reader
-  pub owed_seen : (tag : ℕ) → (row_at s' tag).owed ≡ (row_at s tag).owed
-  pub owed_reader : (tag : ℕ) → (row_at r' tag).owed ≡ (row_at r tag).owed
+  pub owed_seen : (tag : ℕ) → (tag_row s' tag).owed ≡ (tag_row s tag).owed
+  pub owed_reader : (tag : ℕ) → (tag_row r' tag).owed ≡ (tag_row r tag).owed
   pub rising_seen : AreRising s'
   pub rising_reader : AreRising r'
 

@@ -9,7 +9,7 @@ mod row;
 mod table;
 
 ghost use Rattle.std.specs.Prelude.{◌≡◌, ℕ, ◌++◌, ◌∷◌, [], length, take, OnOk, OnErr, IfNone, IfSome};
-ghost use Rattle.lsys_reads.specs.Rows.{has, IsRising, AreRising, row_at};
+ghost use Rattle.lsys_reads.specs.Rows.{has, IsRising, AreRising, tag_row};
 ghost use Rattle.lsys_reads.specs.Relations.{is_settled, SettledStay, Covers, Forgets, AddsPending, SettlesGone, ForgetsGone, SettlesPending, PendingStay};
 
 use lsys_level::Tag;
@@ -35,15 +35,15 @@ pub struct Reads {
 
 impl Model for Reads {
     ghost use Rattle.lsys_reads.specs.Rows.{AreRising};
-    ghost use Rattle.lsys_reads.specs.Relations.{Relations, relations_code, view_of, IsSound};
+    ghost use Rattle.lsys_reads.specs.Relations.{Relations, relations_code, relations_of, AgreeBothWays};
 
     ghost Value = { Relations };
 
     ghost coded = { relations_code };
 
-    ghost view = { λ r. view_of r.by_seen r.pending.items };
+    ghost view = { λ r. relations_of r.by_seen r.pending.items };
 
-    ghost invariant = { λ r. IsSound r.by_seen r.by_reader r.pending.items × AreRising r.by_seen × AreRising r.by_reader };
+    ghost invariant = { λ r. AgreeBothWays r.by_seen r.by_reader r.pending.items × AreRising r.by_seen × AreRising r.by_reader };
 }
 
 impl Reads {
@@ -189,7 +189,7 @@ fn forget_one(by_seen: &mut Table, by_reader: &mut Table, reader: Tag, gone: &[T
     requires rising_seen { AreRising by_seen.old }
     requires rising_reader { AreRising by_reader.old }
     ensures forgets { Forgets by_seen.old by_reader.old by_seen.new by_reader.new reader gone.now }
-    ensures none { (row_at by_reader.new reader).tags ≡ [] }
+    ensures none { (tag_row by_reader.new reader).tags ≡ [] }
 {
     while let Some(seen) = by_reader.pop(reader) {
         by_seen.sweep(seen, reader, gone);

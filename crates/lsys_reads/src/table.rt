@@ -1,6 +1,6 @@
 //! The rows by their tags.
 ghost use Rattle.std.specs.Prelude.{◌≡◌, ◌<◌, List, [], length, OnOk, OnErr, IfNone, IfSome, true};
-ghost use Rattle.lsys_reads.specs.Rows.{Row, row_at, has, IsRising, SameRows, Cuts, SweepsRow, Puts, Reserves, RowShrinks};
+ghost use Rattle.lsys_reads.specs.Rows.{Row, tag_row, has, IsRising, SameRows, Cuts, SweepsRow, PutsTag, Reserves, RowShrinks};
 
 use crate::row::Row;
 use lsys_level::Tag;
@@ -60,7 +60,7 @@ impl Table {
 
     /// Gives back the room for one tag in the row of this tag.
     pub(crate) fn release(&mut self, tag: Tag)
-        requires { 0 < (row_at self.old tag).owed }
+        requires { 0 < (tag_row self.old tag).owed }
         ensures { Reserves self.new self.old tag }
     {
         let row = &mut self.rows[tag.0 as usize];
@@ -70,16 +70,16 @@ impl Table {
 
     /// Puts `other` into the row of this tag. With the last that is owed the row rises. It takes no memory.
     pub(crate) fn put(&mut self, tag: Tag, other: Tag)
-        requires { 0 < (row_at self.old tag).owed }
-        ensures puts { Puts self.old self.new tag other }
-        ensures rising { (row_at self.new tag).owed ≡ 0 → IsRising (row_at self.new tag).tags }
+        requires { 0 < (tag_row self.old tag).owed }
+        ensures puts { PutsTag self.old self.new tag other }
+        ensures rising { (tag_row self.new tag).owed ≡ 0 → IsRising (tag_row self.new tag).tags }
     {
         self.rows[tag.0 as usize].put(other);
     }
 
     /// Takes `other` out of the row of this tag, if it is there, and maybe others of `gone`.
     pub(crate) fn sweep(&mut self, tag: Tag, other: Tag, gone: &[Tag])
-        requires rising { IsRising (row_at self.old tag).tags }
+        requires rising { IsRising (tag_row self.old tag).tags }
         ensures { SweepsRow self.old self.new tag other gone.now }
     {
         if (tag.0 as usize) < self.rows.len() {
@@ -91,13 +91,13 @@ impl Table {
 
     /// Takes the last tag out of the row of this tag.
     pub(crate) fn pop(&mut self, tag: Tag) -> Option<Tag>
-        requires rising { IsRising (row_at self.old tag).tags }
-        ensures none { IfNone result ((row_at self.old tag).tags ≡ []) }
+        requires rising { IsRising (tag_row self.old tag).tags }
+        ensures none { IfNone result ((tag_row self.old tag).tags ≡ []) }
         ensures same { IfNone result (self.new ≡ self.old) }
-        ensures some { IfSome result (λ other. has (row_at self.old tag).tags other ≡ true) }
+        ensures some { IfSome result (λ other. has (tag_row self.old tag).tags other ≡ true) }
         ensures tags { IfSome result (λ other. Cuts self.old self.new tag other) }
         ensures shorter { IfSome result (λ other. RowShrinks tag self.old self.new) }
-        ensures rising { IsRising (row_at self.new tag).tags }
+        ensures rising { IsRising (tag_row self.new tag).tags }
     {
         if self.rows.len() <= tag.0 as usize {
             return None;
@@ -110,7 +110,7 @@ impl Table {
 
     /// The row of this tag.
     pub(crate) fn tags(&self, tag: Tag) -> &[Tag]
-        ensures { result.now ≡ (row_at self.now tag).tags }
+        ensures { result.now ≡ (tag_row self.now tag).tags }
     {
         match self.rows.get(tag.0 as usize) {
             Some(row) => row.tags(),

@@ -6,8 +6,8 @@ use Rattle.std.proofs.lemmas.Bool.{cases_eq}
 use Rattle.lsys_region.specs.declared.table.Entry.{Entry}
 use Rattle.lsys_region.specs.declared.table.State.{State}
 use Rattle.lsys_region.specs.declared.table.State.TheVariants.{Taken, Free}
-use Rattle.lsys_region.specs.Parts.{Part, AllTaken}
-use Rattle.lsys_region.specs.Entries.{part_of, IsFreeEntry, IsMember, Chain, HasAllFree, IsLinked, AreLinked}
+use Rattle.lsys_region.specs.Parts.{SizedPart, AllTaken}
+use Rattle.lsys_region.specs.Entries.{part_of, IsFreeEntry, IsMember, Chain, HasAllFree, IsLinked, AreLinkedByClass}
 use Rattle.lsys_region.proofs.ListLemmas.{slice_get-set_other, slice_get-set_same, slice_get-set_cases, slice_get-push_old, slice_get-push_cases, from_option_map}
 
 abbrev entry_at : ℕ → ℕ → State → Entry
@@ -92,7 +92,7 @@ head_taken entries class head (m ∷ numbers) i start own length next at here ch
       },
     )
 
-classes_kept : (entries : List Entry) (heads : List (Option ℕ)) (i : ℕ) (was entry : Entry) → AreLinked entries heads → slice_get entries i ≡ Some was → entry.class ≡ was.class → (n : ℕ) (e : Entry) → slice_get (set entries i entry) n ≡ Some e → e.class < 64
+classes_kept : (entries : List Entry) (heads : List (Option ℕ)) (i : ℕ) (was entry : Entry) → AreLinkedByClass entries heads → slice_get entries i ≡ Some was → entry.class ≡ was.class → (n : ℕ) (e : Entry) → slice_get (set entries i entry) n ≡ Some e → e.class < 64
 classes_kept entries heads i was entry linked here same n e read =
     elim (slice_get-set_cases entries i n was entry e here read) [
       | inl written ↦ (let old = linked.classes i was here in let is = ap (λ (x : Entry). x.class) written.1 in omega arith)
@@ -100,7 +100,7 @@ classes_kept entries heads i was entry linked here same n e read =
     ]
 
 -- the first free part of a class is taken
-pub AreLinked-take : (entries : List Entry) (heads : List (Option ℕ)) (class i start own len : ℕ) (next : Option ℕ) → class < 64 → AreLinked entries heads → get_or heads class None ≡ Some i → slice_get entries i ≡ Some (entry_at start own (Free next)) → (class ≡ own) × AreLinked (set entries i (entry_at start own (Taken len))) (set heads class next)
+pub AreLinked-take : (entries : List Entry) (heads : List (Option ℕ)) (class i start own len : ℕ) (next : Option ℕ) → class < 64 → AreLinkedByClass entries heads → get_or heads class None ≡ Some i → slice_get entries i ≡ Some (entry_at start own (Free next)) → (class ≡ own) × AreLinkedByClass (set entries i (entry_at start own (Taken len))) (set heads class next)
 AreLinked-take entries heads class i start own len next small linked at here =
     let old = linked.linked class small in
     let done = head_taken entries class (get_or heads class None) old.numbers i start own len next at here old.chain old.complete in (
@@ -130,7 +130,7 @@ free_after entries i class n start own head next was found free =
     ]
 
 -- a part that was taken is freed
-pub AreLinked-release : (entries : List Entry) (heads : List (Option ℕ)) (i start own len : ℕ) → AreLinked entries heads → slice_get entries i ≡ Some (entry_at start own (Taken len)) → AreLinked (set entries i (entry_at start own (Free (get_or heads own None)))) (set heads own (Some i))
+pub AreLinked-release : (entries : List Entry) (heads : List (Option ℕ)) (i start own len : ℕ) → AreLinkedByClass entries heads → slice_get entries i ≡ Some (entry_at start own (Taken len)) → AreLinkedByClass (set entries i (entry_at start own (Free (get_or heads own None)))) (set heads own (Some i))
 AreLinked-release entries heads i start own len linked here =
     let small = linked.classes i _ here in
     let head = get_or heads own None in
@@ -165,7 +165,7 @@ AreLinked-release entries heads i start own len linked here =
     }
 
 -- a part is added, taken
-pub AreLinked-push : (entries : List Entry) (heads : List (Option ℕ)) (start own len : ℕ) → own < 64 → AreLinked entries heads → AreLinked (entries ++ entry_at start own (Taken len) ∷ []) heads
+pub AreLinked-push : (entries : List Entry) (heads : List (Option ℕ)) (start own len : ℕ) → own < 64 → AreLinkedByClass entries heads → AreLinkedByClass (entries ++ entry_at start own (Taken len) ∷ []) heads
 AreLinked-push entries heads start own len small linked = record {
   many = linked.many;
   classes = λ n e read. elim (slice_get-push_cases entries n (entry_at start own (Taken len)) e read) [
@@ -194,12 +194,12 @@ taken_state start class n entries (Taken len) here none = refl
 taken_state start class n entries (Free next) here none = absurd (none next (start, here))
 
 -- a class with no head has no free part
-pub AllTaken-none : (entries : List Entry) (heads : List (Option ℕ)) (class : ℕ) → class < 64 → AreLinked entries heads → get_or heads class None ≡ None → AllTaken (map part_of entries) class
+pub AllTaken-none : (entries : List Entry) (heads : List (Option ℕ)) (class : ℕ) → class < 64 → AreLinkedByClass entries heads → get_or heads class None ≡ None → AllTaken (map part_of entries) class
 AllTaken-none entries heads class small linked none n part read same =
     let old = linked.linked class small in
     let found = from_option_map part_of (slice_get entries n) part (sym (slice_get-map part_of entries n) ∙ read) in
     let entry = found.0 in
-    let own : entry.class ≡ class = ap (λ (p : Part). p.class) found.2 ∙ same in
+    let own : entry.class ≡ class = ap (λ (p : SizedPart). p.class) found.2 ∙ same in
     let free : (next : Option ℕ) → IsFreeEntry entries entry.class n next → ⊥ =
     λ next is. none_linked entries class _ old.numbers none old.chain old.complete n next (subst (λ k. IsFreeEntry entries k n next) own is) in
-    subst (λ (p : Part). IsSome p.filled) found.2 (taken_state entry.start entry.class n entries entry.state found.1 free)
+    subst (λ (p : SizedPart). IsSome p.filled) found.2 (taken_state entry.start entry.class n entries entry.state found.1 free)

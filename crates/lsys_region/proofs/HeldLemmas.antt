@@ -5,7 +5,7 @@ use Rattle.std.specs.Option.{option_and_then, is_some}
 use Rattle.std.proofs.lemmas.List.{map-append, take-map, drop-map}
 use Rattle.std.proofs.lemmas.Option.{none-some}
 use Rattle.std.proofs.lemmas.Bool.{false≢true}
-use Rattle.lsys_region.specs.Pool.{Slot, Pool, list_of, IsLive, is_free_of, free_runs, free_for, Reuses, GivesBack, IsFresh, OthersStay}
+use Rattle.lsys_region.specs.Pool.{Slot, Pool, list_of, IsLiveRun, is_free_of, free_runs, free_for, Reuses, GivesBack, IsFresh, OthersStay}
 use Rattle.lsys_region.specs.Rooms.{room_of, list_room, HaveOneRoom}
 use Rattle.lsys_region.specs.Held.{AreHeld}
 use Rattle.lsys_region.proofs.ListLemmas.{slice_get-push_cases}
@@ -102,7 +102,7 @@ module _ {T : Type 0} where
         once = λ j k n one two first second. after-injective i j k (are.once (after i j) (after i k) n one two (sym (slice_get-remove held i j) ∙ first) (sym (slice_get-remove held i k) ∙ second));
       }
 
-  pub AreHeld-live : (pool : Pool T) (held : List (Option ℕ × List T)) (k : ℕ) (run : Option ℕ) (list : List T) → AreHeld pool held → slice_get held k ≡ Some (run, list) → IsLive pool run
+  pub AreHeld-live : (pool : Pool T) (held : List (Option ℕ × List T)) (k : ℕ) (run : Option ℕ) (list : List T) → AreHeld pool held → slice_get held k ≡ Some (run, list) → IsLiveRun pool run
   AreHeld-live pool held k run list are here = ap (λ (o : Option (List T)). is_some o) (are.live k run list here)
 
   filled_from_room : (list : List T) → 0 < list_room list → list ≢ []
@@ -115,7 +115,7 @@ module _ {T : Type 0} where
   live_list (Some list) live = (list, refl)
 
   -- a list that is placed after one of the same room was freed does not make the vector longer
-  pub size-replaced : (old freed ready new : Pool T) (run : Option ℕ) (list : List T) → IsLive old run → ((was : List T) → list_of old run ≡ Some was → HaveOneRoom was list) → ((was : List T) → list_of old run ≡ Some was → GivesBack old freed was) → freed.size ≡ old.size → ready.slots ≡ freed.slots → ready.size ≡ freed.size → (0 < free_for ready list → Reuses ready new list) → new.size ≡ old.size
+  pub size-replaced : (old freed ready new : Pool T) (run : Option ℕ) (list : List T) → IsLiveRun old run → ((was : List T) → list_of old run ≡ Some was → HaveOneRoom was list) → ((was : List T) → list_of old run ≡ Some was → GivesBack old freed was) → freed.size ≡ old.size → ready.slots ≡ freed.slots → ready.size ≡ freed.size → (0 < free_for ready list → Reuses ready new list) → new.size ≡ old.size
   size-replaced old freed ready new run list live room back size slots kept reuses =
       let was = live_list (list_of old run) live in
       let rooms = room was.0 was.1 in

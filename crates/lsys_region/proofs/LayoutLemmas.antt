@@ -6,23 +6,23 @@ use Rattle.std.proofs.lemmas.Slice.{between_is, between-put_mid, take-put_mid_be
 use borrow.Rule.Slice.PartMut.{put_mid}
 use Rattle.std.proofs.lemmas.Option.{same_Some, slice_get-map}
 use Rattle.std.proofs.lemmas.Bool.{cases_order}
-use Rattle.lsys_region.specs.Parts.{Part}
+use Rattle.lsys_region.specs.Parts.{SizedPart}
 use Rattle.lsys_region.specs.Pool.{Slot, Pool, list_at}
 use Rattle.lsys_region.specs.Rooms.{room_of}
-use Rattle.lsys_region.specs.Layout.{slot_of, IsWritten, AreApart}
+use Rattle.lsys_region.specs.Layout.{slot_of, IsWritten, LieApart}
 use Rattle.lsys_region.proofs.ListLemmas.{slice_get-set_cases, slice_get-push_cases}
 use Rattle.lsys_region.proofs.RoomLemmas.{room_fits}
 
-abbrev pub part_at : ℕ → ℕ → Option ℕ → Part
+abbrev pub part_at : ℕ → ℕ → Option ℕ → SizedPart
 part_at start class filled = record { start = start; class = class; filled = filled }
 
 -- a list ends within its part
-ends_within : (part : Part) (len : ℕ) → room_of len ≡ 2 ^ part.class → part.start + len ≤ part.start + 2 ^ part.class
+ends_within : (part : SizedPart) (len : ℕ) → room_of len ≡ 2 ^ part.class → part.start + len ≤ part.start + 2 ^ part.class
 ends_within part len roomy = omega (arith, room_fits len)
 
 module _ {T : Type 0} where
   -- the pool that is seen of these parts of this vector
-  abbrev pub pool_of : List Part → List T → ℕ → Pool T
+  abbrev pub pool_of : List SizedPart → List T → ℕ → Pool T
   pool_of parts cells spare = record { slots = map (slot_of cells) parts; size = length cells; spare = spare }
 
   -- what stands before the end of an unchanged front
@@ -44,11 +44,11 @@ module _ {T : Type 0} where
   same_list old new start None same = refl
   same_list old new start (Some len) same = ap Some (same len refl)
 
-  same_slot : (old new : List T) (part : Part) → ((len : ℕ) → part.filled ≡ Some len → slice_range new part.start (part.start + len) ≡ slice_range old part.start (part.start + len)) → slot_of new part ≡ slot_of old part
+  same_slot : (old new : List T) (part : SizedPart) → ((len : ℕ) → part.filled ≡ Some len → slice_range new part.start (part.start + len) ≡ slice_range old part.start (part.start + len)) → slot_of new part ≡ slot_of old part
   same_slot old new part same = ap (λ list. record { room = 2 ^ part.class; list = list }) (same_list old new part.start part.filled same)
 
   -- a write of one part leaves what stands in another
-  pub slot_of-written : (parts : List Part) (old new : List T) (n k start class : ℕ) (filled : Option ℕ) (list : List T) (part : Part) → AreApart parts (length old) → slice_get parts n ≡ Some (part_at start class filled) → length list ≤ 2 ^ class → IsWritten old new start list → k ≢ n → slice_get parts k ≡ Some part → slot_of new part ≡ slot_of old part
+  pub slot_of-written : (parts : List SizedPart) (old new : List T) (n k start class : ℕ) (filled : Option ℕ) (list : List T) (part : SizedPart) → LieApart parts (length old) → slice_get parts n ≡ Some (part_at start class filled) → length list ≤ 2 ^ class → IsWritten old new start list → k ≢ n → slice_get parts k ≡ Some part → slot_of new part ≡ slot_of old part
   slot_of-written parts old new n k start class filled list part lie here fits written other there =
       same_slot old new part (λ len is.
       let within = ends_within part len (lie.roomy k part len there is) in
@@ -61,7 +61,7 @@ module _ {T : Type 0} where
       ])
 
   -- a vector that grows keeps what stands in its parts
-  pub slot_of-grown : (parts : List Part) (old tail : List T) (k : ℕ) (part : Part) → AreApart parts (length old) → slice_get parts k ≡ Some part → slot_of (old ++ tail) part ≡ slot_of old part
+  pub slot_of-grown : (parts : List SizedPart) (old tail : List T) (k : ℕ) (part : SizedPart) → LieApart parts (length old) → slice_get parts k ≡ Some part → slot_of (old ++ tail) part ≡ slot_of old part
   slot_of-grown parts old tail k part lie there =
       same_slot old (old ++ tail) part (λ len is.
       let within = ends_within part len (lie.roomy k part len there is) in
@@ -83,39 +83,39 @@ module _ {T : Type 0} where
         after = drop-put_mid start k base ys (start + length list) (omega arith) begin parts ∙ ap (drop (start + length list)) whole;
       })
 
-  list_of_slot : (cells : List T) (o : Option Part) → option_and_then (λ slot. slot.list) (option_map (slot_of cells) o) ≡ option_and_then (λ part. (slot_of cells part).list) o
+  list_of_slot : (cells : List T) (o : Option SizedPart) → option_and_then (λ slot. slot.list) (option_map (slot_of cells) o) ≡ option_and_then (λ part. (slot_of cells part).list) o
   list_of_slot cells None = refl
   list_of_slot cells (Some part) = refl
 
   -- the list of a number, by its part
-  pub list_at-pool_of : (parts : List Part) (cells : List T) (spare n : ℕ) → list_at (pool_of parts cells spare) n ≡ option_and_then (λ part. (slot_of cells part).list) (slice_get parts n)
+  pub list_at-pool_of : (parts : List SizedPart) (cells : List T) (spare n : ℕ) → list_at (pool_of parts cells spare) n ≡ option_and_then (λ part. (slot_of cells part).list) (slice_get parts n)
   list_at-pool_of parts cells spare n =
       ap (option_and_then (λ (slot : Slot T). slot.list)) (slice_get-map (slot_of cells) parts n) ∙ list_of_slot cells (slice_get parts n)
 
-  pub list_at-here : (parts : List Part) (cells : List T) (spare n : ℕ) (part : Part) → slice_get parts n ≡ Some part → list_at (pool_of parts cells spare) n ≡ (slot_of cells part).list
+  pub list_at-here : (parts : List SizedPart) (cells : List T) (spare n : ℕ) (part : SizedPart) → slice_get parts n ≡ Some part → list_at (pool_of parts cells spare) n ≡ (slot_of cells part).list
   list_at-here parts cells spare n part here =
-      list_at-pool_of parts cells spare n ∙ ap (option_and_then (λ (p : Part). (slot_of cells p).list)) here
+      list_at-pool_of parts cells spare n ∙ ap (option_and_then (λ (p : SizedPart). (slot_of cells p).list)) here
 
-  list_same : (old new : List T) (o : Option Part) → ((part : Part) → o ≡ Some part → slot_of new part ≡ slot_of old part) → option_and_then (λ part. (slot_of new part).list) o ≡ option_and_then (λ part. (slot_of old part).list) o
+  list_same : (old new : List T) (o : Option SizedPart) → ((part : SizedPart) → o ≡ Some part → slot_of new part ≡ slot_of old part) → option_and_then (λ part. (slot_of new part).list) o ≡ option_and_then (λ part. (slot_of old part).list) o
   list_same old new None same = refl
   list_same old new (Some part) same = ap (λ (slot : Slot T). slot.list) (same part refl)
 
   -- a number whose part stays, with what stands in it, keeps its list
-  pub list_at-kept : (before after : List Part) (old new : List T) (spare spare' k : ℕ) → slice_get after k ≡ slice_get before k → ((part : Part) → slice_get before k ≡ Some part → slot_of new part ≡ slot_of old part) → list_at (pool_of after new spare') k ≡ list_at (pool_of before old spare) k
+  pub list_at-kept : (before after : List SizedPart) (old new : List T) (spare spare' k : ℕ) → slice_get after k ≡ slice_get before k → ((part : SizedPart) → slice_get before k ≡ Some part → slot_of new part ≡ slot_of old part) → list_at (pool_of after new spare') k ≡ list_at (pool_of before old spare) k
   list_at-kept before after old new spare spare' k kept same =
       list_at-pool_of after new spare' k
-      ∙ ap (option_and_then (λ (part : Part). (slot_of new part).list)) kept
+      ∙ ap (option_and_then (λ (part : SizedPart). (slot_of new part).list)) kept
       ∙ list_same old new (slice_get before k) same
       ∙ sym (list_at-pool_of before old spare k)
 
 -- a part is filled or freed in its place
-pub AreApart-set : (parts : List Part) (size n start class : ℕ) (was now : Option ℕ) → slice_get parts n ≡ Some (part_at start class was) → ((len : ℕ) → now ≡ Some len → room_of len ≡ 2 ^ class) → AreApart parts size → AreApart (set parts n (part_at start class now)) size
+pub AreApart-set : (parts : List SizedPart) (size n start class : ℕ) (was now : Option ℕ) → slice_get parts n ≡ Some (part_at start class was) → ((len : ℕ) → now ≡ Some len → room_of len ≡ 2 ^ class) → LieApart parts size → LieApart (set parts n (part_at start class now)) size
 AreApart-set parts size n start class was now here roomy lie =
-    let read : (k : ℕ) (part : Part) → slice_get (set parts n (part_at start class now)) k ≡ Some part → ((k ≡ n) × (part_at start class now ≡ part)) ⊎ ((k ≢ n) × (slice_get parts k ≡ Some part)) =
+    let read : (k : ℕ) (part : SizedPart) → slice_get (set parts n (part_at start class now)) k ≡ Some part → ((k ≡ n) × (part_at start class now ≡ part)) ⊎ ((k ≢ n) × (slice_get parts k ≡ Some part)) =
     λ k part there. slice_get-set_cases parts n k (part_at start class was) (part_at start class now) part here there in
-    let stood : (k : ℕ) (part : Part) → slice_get (set parts n (part_at start class now)) k ≡ Some part → (filled : Option ℕ) × (slice_get parts k ≡ Some (part_at part.start part.class filled)) =
+    let stood : (k : ℕ) (part : SizedPart) → slice_get (set parts n (part_at start class now)) k ≡ Some part → (filled : Option ℕ) × (slice_get parts k ≡ Some (part_at part.start part.class filled)) =
     λ k part there. elim (read k part there) [
-      | inl same ↦ (was, ap (slice_get parts) same.0 ∙ here ∙ ap (λ (p : Part). Some (part_at p.start p.class was)) same.1)
+      | inl same ↦ (was, ap (slice_get parts) same.0 ∙ here ∙ ap (λ (p : SizedPart). Some (part_at p.start p.class was)) same.1)
       | inr other ↦ (part.filled, other.1)
     ] in
     record {
@@ -126,31 +126,31 @@ AreApart-set parts size n start class was now here roomy lie =
           lie.apart m k (part_at first.start first.class a.0) (part_at second.start second.class b.0) below a.1 b.1
           );
       roomy = λ k part len there is. elim (read k part there) [
-        | inl same ↦ roomy len (ap (λ (p : Part). p.filled) same.1 ∙ is) ∙ ap (λ (p : Part). 2 ^ p.class) same.1
+        | inl same ↦ roomy len (ap (λ (p : SizedPart). p.filled) same.1 ∙ is) ∙ ap (λ (p : SizedPart). 2 ^ p.class) same.1
         | inr other ↦ lie.roomy k part len other.1 is
       ];
     }
 
 -- a part is added at the end of the vector
-pub AreApart-push : (parts : List Part) (size class len : ℕ) → room_of len ≡ 2 ^ class → AreApart parts size → AreApart (parts ++ part_at size class (Some len) ∷ []) (size + 2 ^ class)
+pub AreApart-push : (parts : List SizedPart) (size class len : ℕ) → room_of len ≡ 2 ^ class → LieApart parts size → LieApart (parts ++ part_at size class (Some len) ∷ []) (size + 2 ^ class)
 AreApart-push parts size class len roomy lie =
     let new = part_at size class (Some len) in
     record {
       inside = λ k part there. elim (slice_get-push_cases parts k new part there) [
-        | inl added ↦ subst (λ (p : Part). p.start + 2 ^ p.class ≤ size + 2 ^ class) added.1 (omega arith)
+        | inl added ↦ subst (λ (p : SizedPart). p.start + 2 ^ p.class ≤ size + 2 ^ class) added.1 (omega arith)
         | inr old ↦ omega (arith, lie.inside k part old.1)
       ];
       apart = λ m k first second below one two. elim (slice_get-push_cases parts m new first one) [
         | inl added ↦ absurd (elim (slice_get-push_cases parts k new second two) [ inl also ↦ omega arith | inr old ↦ omega arith ])
         | inr front ↦ elim (slice_get-push_cases parts k new second two) [
-          | inl last ↦ subst (λ (p : Part). first.start + 2 ^ first.class ≤ p.start) last.1 (lie.inside m first front.1)
+          | inl last ↦ subst (λ (p : SizedPart). first.start + 2 ^ first.class ≤ p.start) last.1 (lie.inside m first front.1)
           | inr old ↦ lie.apart m k first second below front.1 old.1
         ]
       ];
       roomy = λ k part own there is. elim (slice_get-push_cases parts k new part there) [
         | inl added ↦ (
-            let same : len ≡ own = same_Some len own (ap (λ (p : Part). p.filled) added.1 ∙ is) in
-            ap room_of (sym same) ∙ roomy ∙ ap (λ (p : Part). 2 ^ p.class) added.1
+            let same : len ≡ own = same_Some len own (ap (λ (p : SizedPart). p.filled) added.1 ∙ is) in
+            ap room_of (sym same) ∙ roomy ∙ ap (λ (p : SizedPart). 2 ^ p.class) added.1
             )
         | inr old ↦ lie.roomy k part own old.1 is
       ];

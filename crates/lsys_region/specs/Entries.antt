@@ -3,13 +3,13 @@ use Rattle.std.specs.Prelude.{◌≡◌, ◌<◌, ℕ, List, [], ◌∷◌, leng
 use Rattle.lsys_region.specs.declared.table.Entry.{Entry}
 use Rattle.lsys_region.specs.declared.table.State.{State}
 use Rattle.lsys_region.specs.declared.table.State.TheVariants.{Taken, Free}
-use Rattle.lsys_region.specs.Parts.{Part}
+use Rattle.lsys_region.specs.Parts.{SizedPart}
 
 abbrev pub filled_of : State → Option ℕ
 filled_of (Taken length) = Some length
 filled_of (Free next) = None
 
-abbrev pub part_of : Entry → Part
+abbrev pub part_of : Entry → SizedPart
 part_of entry = record { start = entry.start; class = entry.class; filled = filled_of entry.state }
 
 -- the entry with this number is free, of this class, and names the next free one
@@ -22,7 +22,7 @@ IsMember n [] = ⊥
 IsMember n (m ∷ ms) = (n ≡ m) ⊎ IsMember n ms
 
 -- the head is the entry with this number, which is free, of this class and not among the later ones
-pub record IsFirst (entries : List Entry) (class : ℕ) (head : Option ℕ) (number : ℕ) (next : Option ℕ) (later : List ℕ) : Type 0 where
+pub record HeadsChain (entries : List Entry) (class : ℕ) (head : Option ℕ) (number : ℕ) (next : Option ℕ) (later : List ℕ) : Type 0 where
   pub at_head : head ≡ Some number
   pub free : IsFreeEntry entries class number next
   pub once : IsMember number later → ⊥
@@ -31,7 +31,7 @@ pub record IsFirst (entries : List Entry) (class : ℕ) (head : Option ℕ) (num
 abbrev pub Chain : List Entry → ℕ → Option ℕ → List ℕ → Type 0
 Chain entries class head [] = head ≡ None
 Chain entries class head (number ∷ later) =
-    (next : Option ℕ) × IsFirst entries class head number next later × Chain entries class next later
+    (next : Option ℕ) × HeadsChain entries class head number next later × Chain entries class next later
 
 -- every free entry of this class is among these
 abbrev pub HasAllFree : List Entry → ℕ → List ℕ → Type 0
@@ -44,7 +44,7 @@ pub record IsLinked (entries : List Entry) (class : ℕ) (head : Option ℕ) : T
   pub complete : HasAllFree entries class numbers
 
 -- each entry is of one of the 64 classes, and the free entries of each class are linked from its head
-pub record AreLinked (entries : List Entry) (heads : List (Option ℕ)) : Type 0 where
+pub record AreLinkedByClass (entries : List Entry) (heads : List (Option ℕ)) : Type 0 where
   pub many : length heads ≡ 64
   pub classes : (number : ℕ) (entry : Entry) → slice_get entries number ≡ Some entry → entry.class < 64
   pub linked : (class : ℕ) → class < 64 → IsLinked entries class (slice_index_or heads class None)

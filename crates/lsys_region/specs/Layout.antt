@@ -1,11 +1,11 @@
 -- How the slots of a region lie in its vector.
 use Rattle.std.specs.Prelude.{◌≡◌, ◌<◌, ◌≤◌, ◌+◌, ◌^◌, ℕ, List, length, Some, slice_get, slice_range, take, drop, option_map, ◌++◌}
-use Rattle.lsys_region.specs.Parts.{Part}
+use Rattle.lsys_region.specs.Parts.{SizedPart}
 use Rattle.lsys_region.specs.Pool.{Slot}
 use Rattle.lsys_region.specs.Rooms.{room_of}
 
 -- what stands in a part of the vector
-abbrev pub slot_of : {T : Type 0} → List T → Part → Slot T
+abbrev pub slot_of : {T : Type 0} → List T → SizedPart → Slot T
 slot_of cells part = record {
   room = 2 ^ part.class;
   list = option_map (λ len. slice_range cells part.start (part.start + len)) part.filled;
@@ -25,13 +25,13 @@ pub record IsAppended {T : Type 0} (old new list : List T) (room : ℕ) : Type 0
   pub filled : length list + length filling ≡ room
 
 -- the parts lie within so many places, in order and apart, and each list has the room of its part
-pub record AreApart (parts : List Part) (size : ℕ) : Type 0 where
-  pub inside : (n : ℕ) (part : Part) → slice_get parts n ≡ Some part → part.start + 2 ^ part.class ≤ size
-  pub apart : (m n : ℕ) (first second : Part) → m < n → slice_get parts m ≡ Some first → slice_get parts n ≡ Some second → first.start + 2 ^ first.class ≤ second.start
-  pub roomy : (n : ℕ) (part : Part) (len : ℕ) → slice_get parts n ≡ Some part → part.filled ≡ Some len → room_of len ≡ 2 ^ part.class
+pub record LieApart (parts : List SizedPart) (size : ℕ) : Type 0 where
+  pub inside : (n : ℕ) (part : SizedPart) → slice_get parts n ≡ Some part → part.start + 2 ^ part.class ≤ size
+  pub apart : (m n : ℕ) (first second : SizedPart) → m < n → slice_get parts m ≡ Some first → slice_get parts n ≡ Some second → first.start + 2 ^ first.class ≤ second.start
+  pub roomy : (n : ℕ) (part : SizedPart) (len : ℕ) → slice_get parts n ≡ Some part → part.filled ≡ Some len → room_of len ≡ 2 ^ part.class
 
 -- the slots are apart, and there is capacity for the spare
-pub record IsSound (parts : List Part) (size spare places numbers : ℕ) : Type 0 where
-  pub lie : AreApart parts size
+pub record IsSoundLayout (parts : List SizedPart) (size spare places numbers : ℕ) : Type 0 where
+  pub lie : LieApart parts size
   pub places_left : size + spare ≤ places
   pub numbers_left : length parts + spare ≤ numbers

@@ -28,8 +28,8 @@ module _ {T : Type 0} where
   list_of pool None = Some []
   list_of pool (Some number) = list_at pool number
 
-  abbrev pub IsLive : Pool T → Option ℕ → Type 0
-  IsLive pool run = IsSome (list_of pool run)
+  abbrev pub IsLiveRun : Pool T → Option ℕ → Type 0
+  IsLiveRun pool run = IsSome (list_of pool run)
 
   -- the run is the empty list's, or one that was not live
   abbrev pub IsFresh : Pool T → Option ℕ → List T → Type 0

@@ -13,7 +13,7 @@ mod class;
 mod table;
 
 ghost use Rattle.std.specs.Prelude.{◌≡◌, ℕ, ◌+◌, ◌<◌, ◌≤◌, length, max, Some, None, IfSome, IsOk, OnOk, OnErr, vec_capacity};
-ghost use Rattle.lsys_region.specs.Pool.{empty_pool, list_at, list_of, IsLive, IsFresh, OthersStay, OtherRoomsStay, free_for, Reuses, Grows, GivesBackRun};
+ghost use Rattle.lsys_region.specs.Pool.{empty_pool, list_at, list_of, IsLiveRun, IsFresh, OthersStay, OtherRoomsStay, free_for, Reuses, Grows, GivesBackRun};
 ghost use Rattle.lsys_region.specs.Layout.{IsAppended, IsWritten};
 ghost use Rattle.lsys_region.specs.Rooms.{list_room};
 
@@ -55,7 +55,7 @@ impl<T: Copy> Model for Region<T> {
 
     ghost coded = { pool_code T.code };
 
-    ghost use Rattle.lsys_region.specs.Layout.{slot_of, IsSound};
+    ghost use Rattle.lsys_region.specs.Layout.{slot_of, IsSoundLayout};
 
     ghost view = { λ a. record {
       slots = map (slot_of a.cells.items) a.table.parts;
@@ -63,7 +63,7 @@ impl<T: Copy> Model for Region<T> {
       spare = a.spare;
     } };
 
-    ghost invariant = { λ a. IsSound a.table.parts (length a.cells.items) a.spare (vec_capacity a.cells) a.table.capacity };
+    ghost invariant = { λ a. IsSoundLayout a.table.parts (length a.cells.items) a.spare (vec_capacity a.cells) a.table.capacity };
 }
 
 impl<T: Copy> Region<T> {
@@ -132,7 +132,7 @@ impl<T: Copy> Region<T> {
 
     /// The list of a live run.
     pub fn read(&self, run: &Run) -> &[T]
-        requires { IsLive self.now run.now }
+        requires { IsLiveRun self.now run.now }
         ensures { list_of self.now run.now ≡ Some result.now }
     {
         match run.number {
@@ -146,7 +146,7 @@ impl<T: Copy> Region<T> {
 
     /// Frees a live run: its room is kept for the next list with the same room. It takes no memory.
     pub fn free(&mut self, run: Run)
-        requires { IsLive self.old run }
+        requires { IsLiveRun self.old run }
         ensures gone { IfSome run (λ number. list_at self.new number ≡ None) }
         ensures others { OthersStay self.old self.new run }
         ensures size { self.new.size ≡ self.old.size }

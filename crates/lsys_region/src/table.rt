@@ -1,6 +1,6 @@
 //! The table of the parts of a region's vector. The free parts of each size class are linked, the last freed first.
 ghost use Rattle.std.specs.Prelude.{◌≡◌, ℕ, ◌+◌, ◌<◌, ◌≤◌, [], ◌∷◌, ◌++◌, length, Some, None, IfNone, IfSome, OnOk, OnErr, slice_get, slice_set};
-ghost use Rattle.lsys_region.specs.Parts.{AllTaken, IsTaken, IsSpan, AddsPart, TakesPart, FreesPart};
+ghost use Rattle.lsys_region.specs.Parts.{AllTaken, IsTakenPart, IsPartSpan, AddsPart, TakesPart, FreesPart};
 
 use crate::class::CLASSES;
 use std::alloc::{AllocError, Global};
@@ -43,11 +43,11 @@ impl Model for Table {
 
     ghost Value = { Parts };
 
-    ghost use Rattle.lsys_region.specs.Entries.{part_of, AreLinked};
+    ghost use Rattle.lsys_region.specs.Entries.{part_of, AreLinkedByClass};
 
     ghost view = { λ a. record { parts = map part_of a.entries.items; capacity = vec_capacity a.entries } };
 
-    ghost invariant = { λ a. AreLinked a.entries.items a.heads };
+    ghost invariant = { λ a. AreLinkedByClass a.entries.items a.heads };
 }
 
 impl Table {
@@ -112,7 +112,7 @@ impl Table {
 
     /// Frees a part that holds a list. It takes no memory.
     pub(crate) fn release(&mut self, number: usize)
-        requires { IsTaken self.old.parts number }
+        requires { IsTakenPart self.old.parts number }
         ensures freed { FreesPart self.old.parts self.new.parts number }
         ensures capacity { self.old.capacity ≤ self.new.capacity }
     {
@@ -124,8 +124,8 @@ impl Table {
 
     /// Where the list stands that this part holds.
     pub(crate) fn span(&self, number: usize) -> Span
-        requires { IsTaken self.now.parts number }
-        ensures { IsSpan self.now.parts number result.start result.len }
+        requires { IsTakenPart self.now.parts number }
+        ensures { IsPartSpan self.now.parts number result.start result.len }
     {
         let entry = &self.entries[number];
         match entry.state {

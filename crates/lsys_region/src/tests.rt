@@ -1,6 +1,6 @@
 //! The worked calls of a region, and a mixed run against a plain list of lists.
 ghost use Rattle.std.specs.Prelude.{◌≡◌, ◌+◌, ◌<◌, ◌≤◌, List, ℕ, length, vec_len, IfOk, OnOk};
-ghost use Rattle.lsys_region.specs.Pool.{list_of, IsLive};
+ghost use Rattle.lsys_region.specs.Pool.{list_of, IsLiveRun};
 ghost use Rattle.lsys_region.specs.Rooms.{HaveOneRoom};
 
 use crate::{Region, Run, room};
@@ -31,7 +31,7 @@ fn freed_room_is_placed_again(rt: HostRuntime) -> Result<(), Fail> {
 
 /// Frees a run, makes room anew, and places a list with the same room: the vector does not grow.
 fn replaced(region: &mut Region<u8>, run: Run, list: &[u8]) -> Result<Run, AllocError>
-    requires live { IsLive region.old run }
+    requires live { IsLiveRun region.old run }
     requires room { (was : List ℕ) → list_of region.old run ≡ Some was → HaveOneRoom was list.now }
     requires bound { length list.now ≤ 1000 }
     ensures placed { IfOk result (λ made. list_of region.new made ≡ Some list.now) }

@@ -1,6 +1,7 @@
 -- The levels above those that change stay.
 use Rattle.std.proofs.Common.{◌≡◌, ◌+◌, ◌≤◌, ℕ, zero, suc, map, Some, List, [], ◌∷◌, ◌++◌, length, refl, sym, ap, ◌∙◌, subst, arith, inl, inr}
 use Rattle.std.specs.Prelude.{slice_get, option_map}
+use Rattle.lsys_spec.specs.Rows.{In, flat}
 use Rattle.lsys_spec.specs.Draws.{key_of}
 use Rattle.lsys_spec.specs.Systems.{System}
 use Rattle.lsys_spec.specs.Levels as L
@@ -10,8 +11,8 @@ use Rattle.lsys_change.proofs.Lineages.{stays}
 use Rattle.lsys_level.specs.Spots.{Spotted, with_lineage, level_by}
 use Rattle.lsys_forest.specs.Nodes.{Node, Nodes}
 use Rattle.lsys_forest.specs.Changes.{Change}
-use Rattle.lsys_forest.specs.Groves.{In, IsSound}
-use Rattle.lsys_forest.specs.Rows.{flat, kids_in, spot_in, level_nodes, level_spots}
+use Rattle.lsys_forest.specs.Groves.{IsRooted}
+use Rattle.lsys_forest.specs.Rows.{kids_in, spot_in, level_nodes, level_spots}
 use Rattle.lsys_forest.proofs.RowLemmas.{level_depth}
 use Rattle.lsys_walks.specs.Stores.{Store}
 use Rattle.lsys_match.specs.Kept.{Kept}
@@ -32,7 +33,7 @@ module _ {A : Type 0} where
   pub name_stays : (old new : Nodes A) (root k : ℕ) (n : Node A) → AreOnce (kins old) root → Extends (kins old) (kins new) → old k ≡ Some n → names new k ≡ names old k
   name_stays old new root k n once stay is = stays (kins old) (kins new) root k (kin_of n) once stay (ap (option_map (λ (n : Node A). kin_of n)) is)
 
-  module _ (root : ℕ) (changes : List (Change A)) (old new : Nodes A) (sound : IsSound root changes old) (t : ℕ) (h : KeepsUpper old new (t + 1)) where
+  module _ (root : ℕ) (changes : List (Change A)) (old new : Nodes A) (sound : IsRooted root changes old) (t : ℕ) (h : KeepsUpper old new (t + 1)) where
     pub upper_nodes : (u : ℕ) → u ≤ t → level_nodes new root u ≡ level_nodes old root u
     upper_nodes zero l = h.lists root sound.root_lives.0 sound.root_lives.1 (let d = sound.root_lives.2 in omega (arith, d))
     upper_nodes (suc u) l =
@@ -68,16 +69,16 @@ module _ {A : Type 0} where
           let tag : a.tag ≡ k.0 = ap (λ (a : Spotted). a.tag) (sym k.2) ∙ tag_of k.0 (old k.0) in
           f p a there ∙ ap (key_of seed) (ap (names old) tag ∙ sym (name_there u k.0 k.1) ∙ ap (names new) (sym tag))
 
-module _ (root : ℕ) (changes : List (Change Kept)) (old new : Nodes Kept) (sound : IsSound root changes old) (t : ℕ) (h : KeepsUpper old new (t + 1))
+module _ (root : ℕ) (changes : List (Change Kept)) (old new : Nodes Kept) (sound : IsRooted root changes old) (t : ℕ) (h : KeepsUpper old new (t + 1))
     (once : AreOnce (kins old) root) (stay : Extends (kins old) (kins new)) where
-  pub upper_levels : (seed : ℕ) (xs : List (List L.Symbol)) → length xs ≤ t + 1 → HaveLevels old root seed xs → HaveLevels new root seed xs
+  pub upper_levels : (seed : ℕ) (xs : List (List L.LevelSymbol)) → length xs ≤ t + 1 → HaveLevels old root seed xs → HaveLevels new root seed xs
   upper_levels seed xs short was = record {
     each = λ u l. upper_levels_by root changes old new sound t h once stay u (omega (arith, l, short)) ∙ was.each u l;
     keys = λ u p a l g. upper_keys root changes old new sound t h once stay seed u (omega (arith, l, short)) (λ p a f. was.keys u p a l f) p a g;
     balanced = λ u l. ap (λ (x : List Spotted). level_balanced 0 (level_by (λ tag. []) x)) (upper_spots root changes old new sound t h u (omega (arith, l, short))) ∙ was.balanced u l;
   }
 
-pub upper_answers : (root : ℕ) (changes : List (Change Kept)) (old new : Nodes Kept) → IsSound root changes old → (t : ℕ) → KeepsUpper old new (t + 1)
+pub upper_answers : (root : ℕ) (changes : List (Change Kept)) (old new : Nodes Kept) → IsRooted root changes old → (t : ℕ) → KeepsUpper old new (t + 1)
     → (s : System) (store : Store) (u p k : ℕ) → u ≤ t → answer_at new k ≡ answer_at old k → AnsweredAt s u old root store p k → AnsweredAt s u new root store p k
 upper_answers root changes old new sound t h s store u p k l e was =
     subst (λ (row : List Spotted). AnsweredIn s u row store p (answer_at new k)) (sym (upper_spots root changes old new sound t h u l)) (subst (AnsweredIn s u (level_spots old root u) store p) (sym e) was)

@@ -3,10 +3,9 @@ use Rattle.std.proofs.Common.{◌≡◌, ◌+◌, ◌≤◌, ℕ, zero, suc, Lis
 use Rattle.std.specs.Prelude.{IsSome, nat_eq}
 use Rattle.std.proofs.lemmas.List.Sums.{sum_by-cons}
 use Rattle.std.proofs.lemmas.Option.{none-some, same_Some}
+use Rattle.lsys_spec.specs.Rows.{In, AreApart, mirrored}
 use Rattle.lsys_spec.specs.Draws.{number_base}
 use Rattle.lsys_forest.specs.Nodes.{Nodes}
-use Rattle.lsys_forest.specs.Groves.{In, AreApart}
-use Rattle.lsys_forest.specs.Rows.{mirrored}
 use Rattle.lsys_forest.proofs.RowLemmas as rows
 use Rattle.lsys_match.specs.Kept.{Kept}
 use Rattle.lsys_repair.specs.Nexts.{Successors}

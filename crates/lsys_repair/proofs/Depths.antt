@@ -3,11 +3,12 @@ use Rattle.std.proofs.Common.{◌≡◌, ◌+◌, ◌<◌, ℕ, zero, suc, Optio
 use Rattle.std.specs.Prelude.{option_map}
 use Rattle.std.proofs.lemmas.Bool.{cases_eq}
 use Rattle.std.proofs.lemmas.Option.{none-some, same_Some}
+use Rattle.lsys_spec.specs.Rows.{In, flat}
 use Rattle.lsys_change.specs.Nodes.{Kin, Extends}
 use Rattle.lsys_forest.specs.Nodes.{Node, Nodes}
 use Rattle.lsys_forest.specs.Changes.{Change}
-use Rattle.lsys_forest.specs.Groves.{In, IsSound}
-use Rattle.lsys_forest.specs.Rows.{flat, kids_in, spot_in, level_nodes}
+use Rattle.lsys_forest.specs.Groves.{IsRooted}
+use Rattle.lsys_forest.specs.Rows.{kids_in, spot_in, level_nodes}
 use Rattle.lsys_forest.proofs.RowLemmas as rows
 use Rattle.lsys_kept.specs.Lineages.{kin_of, kins}
 use Rattle.lsys_repair.specs.Nexts.{AreSameChildren}
@@ -27,7 +28,7 @@ module _ {A : Type 0} where
     none_deeper = λ k n e f. absurd (none-some n (sym f ∙ e));
   }
 
-  pub same_kids : (root : ℕ) (changes : List (Change A)) (o m : Nodes A) (depth k : ℕ) (n p : Node A) → IsSound root changes o → Extends (kins o) (kins m) → KeepsDeeper o m depth
+  pub same_kids : (root : ℕ) (changes : List (Change A)) (o m : Nodes A) (depth k : ℕ) (n p : Node A) → IsRooted root changes o → Extends (kins o) (kins m) → KeepsDeeper o m depth
       → m k ≡ Some n → o k ≡ Some p → n.depth ≡ depth → AreSameChildren o m k
   same_kids root changes o m depth k n p sound stay h e f d = record {
     list = ap (λ x. kids_in x) e ∙ h.kids k n p e f d ∙ sym (ap (λ x. kids_in x) f);
@@ -43,7 +44,7 @@ module _ {A : Type 0} where
           let kin = stay k (kin_of p) (ap (option_map (λ (y : Node A). kin_of y)) f) in
           ap (λ (z : Kin). z.depth) (same_Some (kin_of n) (kin_of p) (sym (ap (option_map (λ (y : Node A). kin_of y)) e) ∙ kin))
 
-  pub all_under : (root : ℕ) (changes : List (Change A)) (o m : Nodes A) (depth p : ℕ) (n : Node A) → IsSound root [] o → IsSound root changes m → Extends (kins o) (kins m) → KeepsDeeper o m depth
+  pub all_under : (root : ℕ) (changes : List (Change A)) (o m : Nodes A) (depth p : ℕ) (n : Node A) → IsRooted root [] o → IsRooted root changes m → Extends (kins o) (kins m) → KeepsDeeper o m depth
       → m p ≡ Some n → n.depth ≡ depth → AreAllUnder m root p
   all_under root changes o m depth p n rest sound stay h is d k x e ne q = go (o k) refl
     where
@@ -74,19 +75,19 @@ module _ {A : Type 0} where
     depth : n.depth ≡ parent.depth + 1
     among : In k parent.kids
 
-  held : (root : ℕ) (o : Nodes A) → IsSound root [] o → (k : ℕ) (n : Node A) → o k ≡ Some n → 0 < n.depth → HasParent o k n
+  held : (root : ℕ) (o : Nodes A) → IsRooted root [] o → (k : ℕ) (n : Node A) → o k ≡ Some n → 0 < n.depth → HasParent o k n
   held root o rest k n e d =
       let b = rest.held k n e (λ f. (let top = ap (λ (y : Node A). y.depth) (same_Some n rest.root_lives.0 (sym e ∙ ap o f ∙ rest.root_lives.1)) in omega (arith, top, rest.root_lives.2, d))) in
       record { parent = b.parent; is = b.is; depth = b.depth; among = elim b.linked [ inl i ↦ i | inr never ↦ absurd never ] }
 
-  at_root : (root : ℕ) (o : Nodes A) → IsSound root [] o → (k : ℕ) (n : Node A) → o k ≡ Some n → n.depth ≡ 0 → k ≡ root
+  at_root : (root : ℕ) (o : Nodes A) → IsRooted root [] o → (k : ℕ) (n : Node A) → o k ≡ Some n → n.depth ≡ 0 → k ≡ root
   at_root root o rest k n e d = elim (cases_eq k root) [
     | inl f ↦ f
     | inr ne ↦ absurd (let b = rest.held k n e ne in omega (arith, b.depth, d))
   ]
 
   -- at rest each node stands on the level of its depth
-  pub on_level : (root : ℕ) (o : Nodes A) → IsSound root [] o → (t k : ℕ) (n : Node A) → o k ≡ Some n → n.depth ≡ t + 1 → In k (level_nodes o root t)
+  pub on_level : (root : ℕ) (o : Nodes A) → IsRooted root [] o → (t k : ℕ) (n : Node A) → o k ≡ Some n → n.depth ≡ t + 1 → In k (level_nodes o root t)
   on_level root o rest zero k n e d =
       let b = held root o rest k n e (omega (arith, d)) in
       let top : n.parent ≡ root = at_root root o rest n.parent b.parent b.is (omega (arith, b.depth, d)) in

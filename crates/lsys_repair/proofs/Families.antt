@@ -6,6 +6,7 @@ use Rattle.std.proofs.lemmas.List.{map-append, length_push}
 use Rattle.std.proofs.lemmas.Option.{slice_get-map}
 use Rattle.std.proofs.Math.ListN.{get_or-append}
 use Rattle.std.proofs.Math.Seq.{get_or-append_seam}
+use Rattle.lsys_spec.specs.Rows.{In, AreApart}
 use Rattle.lsys_syntax.specs.Commands.{Numbering}
 use Rattle.lsys_syntax.specs.Strings as S
 use Rattle.lsys_spec.specs.Draws.{key_of}
@@ -14,19 +15,19 @@ use Rattle.lsys_spec.specs.Levels as L
 use Rattle.lsys_spec.specs.Levels.{lineage}
 use Rattle.lsys_spec.specs.Cuts.{Raw, Plain, Cut, raw_lineage, cut_on, cut}
 use Rattle.lsys_spec.specs.Numbers.{code_of, number_at}
-use Rattle.lsys_spec.specs.Meaning.{numbered, children, first_level, next_level, last_level, meaning_to}
+use Rattle.lsys_spec.specs.Meaning.{numbered, children, first_level, next_level, last_level, meaning_to, replacement}
 use Rattle.lsys_spec.proofs.LevelInduction.{ok_parts, ok_within}
 use Rattle.lsys_spec.proofs.Rising.{born_lineage}
 use Rattle.lsys_spec.proofs.Eachs.{each_append}
 use Rattle.lsys_change.specs.Kinds.{BracketKind, stays, reached}
 use Rattle.lsys_change.specs.Kinds as kinds
-use Rattle.lsys_change.specs.Children.{own_children, is_open, replacement, AreReplaced, row}
+use Rattle.lsys_change.specs.Children.{own_children, is_open, AreReplaced, row}
 use Rattle.lsys_change.specs.Nodes.{AreOnce}
 use Rattle.lsys_change.proofs.Lineages.{child, apart}
 use Rattle.lsys_change.proofs.Rows.{kept_level}
 use Rattle.lsys_forest.specs.Nodes.{Node, Nodes}
 use Rattle.lsys_forest.specs.Changes.{Change}
-use Rattle.lsys_forest.specs.Groves.{In, AreApart, IsSound}
+use Rattle.lsys_forest.specs.Groves.{IsRooted}
 use Rattle.lsys_forest.specs.Rows.{kids_in, kids_below, spot_in, level_nodes, level_spots}
 use Rattle.lsys_forest.proofs.RowLemmas as rows
 use Rattle.lsys_match.specs.Kept.{Kept}
@@ -39,15 +40,15 @@ use Rattle.lsys_repair.proofs.Firsts.{name_root}
 
 -- 1. each level of a system is the one behind the level before it
 
-record IsStep (s : System) (n : ℕ) (xs : List (List L.Symbol)) : Type 0 where
+record IsStep (s : System) (n : ℕ) (xs : List (List L.LevelSymbol)) : Type 0 where
   long : length xs ≡ suc n
   first : get_or xs 0 [] ≡ first_level s
   each : (t : ℕ) → t < n → next_level s t (get_or xs t []) ≡ Ok (get_or xs (t + 1) [])
 
-steps : (s : System) (limit n : ℕ) (xs : List (List L.Symbol)) → meaning_to s limit n ≡ Ok xs → IsStep s n xs
+steps : (s : System) (limit n : ℕ) (xs : List (List L.LevelSymbol)) → meaning_to s limit n ≡ Ok xs → IsStep s n xs
 steps s limit zero xs h =
     let e : first_level s ∷ [] ≡ xs = ok_within limit 0 (first_level s ∷ []) xs h in
-    record { long = ap (length {A = List L.Symbol}) (sym e); first = ap (λ xs. get_or xs 0 []) (sym e); each = λ t l. absurd (omega (arith, l)) }
+    record { long = ap (length {A = List L.LevelSymbol}) (sym e); first = ap (λ xs. get_or xs 0 []) (sym e); each = λ t l. absurd (omega (arith, l)) }
 steps s limit (suc n) xs h =
     let before = ok_parts (meaning_to s limit n) _ xs h in
     let here = ok_parts (next_level s n (last_level before.0)) _ xs before.2 in
@@ -55,7 +56,7 @@ steps s limit (suc n) xs h =
     let r : IsStep s n before.0 = steps s limit n before.0 before.1 in
     subst (IsStep s (suc n)) e (more s n before.0 here.0 r here.1)
   where
-    more : (s : System) (n : ℕ) (xs : List (List L.Symbol)) (x : List L.Symbol) → IsStep s n xs → next_level s n (last_level xs) ≡ Ok x → IsStep s (suc n) (xs ++ x ∷ [])
+    more : (s : System) (n : ℕ) (xs : List (List L.LevelSymbol)) (x : List L.LevelSymbol) → IsStep s n xs → next_level s n (last_level xs) ≡ Ok x → IsStep s (suc n) (xs ++ x ∷ [])
     more s n xs x r h = record {
       long = let l = r.long in length_push xs x ∙ omega (arith, l);
       first = front 0 (let l = r.long in omega (arith, l)) ∙ r.first;
@@ -107,7 +108,7 @@ place_in k (x ∷ xs) (inr h) = let r = place_in k xs h in (suc r.0, r.1)
 
 -- 3. who is whose child
 
-abbrev IsChildOf : List ℕ → L.Symbol → Type 0
+abbrev IsChildOf : List ℕ → L.LevelSymbol → Type 0
 IsChildOf l a = (n : ℕ) × (lineage a ≡ l ++ n ∷ [])
 
 abbrev RawChildOf : List ℕ → Raw → Type 0
@@ -128,7 +129,7 @@ all_cut l (Some n) (Plain (L.Push c) ∷ x) h = all_cut l (Some (suc n)) x h.1
 all_cut l (Some zero) (Plain (L.Pop c) ∷ x) h = (h.0, all_cut l None x h.1)
 all_cut l (Some (suc n)) (Plain (L.Pop c) ∷ x) h = all_cut l (Some n) x h.1
 
-all_own : (g : Numbering) (a : L.Symbol) (zs : List (S.Symbol ℤ)) → Each (IsChildOf (lineage a)) (own_children g a zs)
+all_own : (g : Numbering) (a : L.LevelSymbol) (zs : List (S.Symbol ℤ)) → Each (IsChildOf (lineage a)) (own_children g a zs)
 all_own g a zs = all_cut (lineage a) None (children g (lineage a) zs) (all_raw g 0 [] (lineage a) zs)
 
 each_cond : {X : Type 0} (P : X → Type 0) (b : Bool) (xs : List X) → Each P xs → Each P (cond b xs [])
@@ -145,20 +146,20 @@ each_map P f (x ∷ xs) h = (h x (inl refl), each_map P f xs (λ k i. h k (inr i
 
 module _ {A : Type 0} (m : Nodes A) (root : ℕ) where
   -- a child of one of these nodes
-  IsBelowOne : List ℕ → L.Symbol → Type 0
+  IsBelowOne : List ℕ → L.LevelSymbol → Type 0
   IsBelowOne ks a = (k : ℕ) × In k ks × IsChildOf (names m k) a
 
   row_below : (g : Numbering) (by : Successors) (o : Option ℕ) (ks : List ℕ) → Each (IsBelowOne ks) (row g o (map (node_symbol m) ks) (map by ks))
   unfolding IsBelowOne
   row_below g by o [] = tt
   row_below g by o (k ∷ ks) =
-      let a : L.Symbol = node_symbol m k in
-      each_append (IsBelowOne (k ∷ ks)) (cond (stays o (kinds.kind_of a)) (own_children g a (by k)) []) (row g (reached o (kinds.kind_of a) (is_open (by k))) (map (node_symbol m) ks) (map by ks))
-      (each_cond (IsBelowOne (k ∷ ks)) (stays o (kinds.kind_of a)) (own_children g a (by k))
+      let a : L.LevelSymbol = node_symbol m k in
+      each_append (IsBelowOne (k ∷ ks)) (cond (stays o (kinds.kind_of_symbol a)) (own_children g a (by k)) []) (row g (reached o (kinds.kind_of_symbol a) (is_open (by k))) (map (node_symbol m) ks) (map by ks))
+      (each_cond (IsBelowOne (k ∷ ks)) (stays o (kinds.kind_of_symbol a)) (own_children g a (by k))
       (each_weaker (IsChildOf (lineage a)) (IsBelowOne (k ∷ ks)) (own_children g a (by k)) (λ b c. (k, inl refl, subst (λ l. IsChildOf l b) (lineage_at m k) c)) (all_own g a (by k))))
-      (each_weaker (IsBelowOne ks) (IsBelowOne (k ∷ ks)) _ (λ b c. (c.0, inr c.1, c.2)) (row_below g by (reached o (kinds.kind_of a) (is_open (by k))) ks))
+      (each_weaker (IsBelowOne ks) (IsBelowOne (k ∷ ks)) _ (λ b c. (c.0, inr c.1, c.2)) (row_below g by (reached o (kinds.kind_of_symbol a) (is_open (by k))) ks))
 
-  module _ (changes : List (Change A)) (sound : IsSound root changes m) (once : AreOnce (kins m) root) where
+  module _ (changes : List (Change A)) (sound : IsRooted root changes m) (once : AreOnce (kins m) root) where
     kid_of : (k j : ℕ) → In j (kids_in (m k)) → IsChildOf (names m k) (node_symbol m j)
     kid_of k j i =
         let u = rows.child root changes m sound k j i in
@@ -180,12 +181,12 @@ module _ {A : Type 0} (m : Nodes A) (root : ℕ) where
       unfolding IsBelowOne
       families o [] a d keys e = tt
       families o (k ∷ ks) a d keys e =
-          let x : L.Symbol = node_symbol m k in
-          let kind : kinds.kind_of x ≡ node_kind m k = kind_with (names m (spot_in k (m k)).tag) (spot_in k (m k)).seen in
-          let next : Option ℕ = reached o (kinds.kind_of x) (is_open (by k)) in
-          let parts = split (IsChildOf (names m k)) (IsBelowOne ks) (map (node_symbol m) (kids_in (m k))) (map (node_symbol m) (kids_below m ks)) (cond (stays o (kinds.kind_of x)) (own_children g x (by k)) [])
+          let x : L.LevelSymbol = node_symbol m k in
+          let kind : kinds.kind_of_symbol x ≡ node_kind m k = kind_with (names m (spot_in k (m k)).tag) (spot_in k (m k)).seen in
+          let next : Option ℕ = reached o (kinds.kind_of_symbol x) (is_open (by k)) in
+          let parts = split (IsChildOf (names m k)) (IsBelowOne ks) (map (node_symbol m) (kids_in (m k))) (map (node_symbol m) (kids_below m ks)) (cond (stays o (kinds.kind_of_symbol x)) (own_children g x (by k)) [])
           (row g next (map (node_symbol m) ks) (map by ks)) (λ b p q. mine b p q) (kids_are k) (all_below ks)
-          (each_cond (IsChildOf (names m k)) (stays o (kinds.kind_of x)) (own_children g x (by k)) (each_weaker (IsChildOf (lineage x)) (IsChildOf (names m k)) (own_children g x (by k)) (λ b c. subst (λ l. IsChildOf l b) (lineage_at m k) c) (all_own g x (by k))))
+          (each_cond (IsChildOf (names m k)) (stays o (kinds.kind_of_symbol x)) (own_children g x (by k)) (each_weaker (IsChildOf (lineage x)) (IsChildOf (names m k)) (own_children g x (by k)) (λ b c. subst (λ l. IsChildOf l b) (lineage_at m k) c) (all_own g x (by k))))
           (row_below g by next ks) (sym (map-append (node_symbol m) (kids_in (m k)) (kids_below m ks)) ∙ e) in (
             record {
               symbols = parts.0 ∙ ap (λ b. cond (stays o b) (own_children g x (by k)) []) kind ∙ own (stays o (node_kind m k));
@@ -199,7 +200,7 @@ module _ {A : Type 0} (m : Nodes A) (root : ℕ) where
           own true = ap (λ l. cut (children g l (by k))) (lineage_at m k)
           own false = refl
 
-          mine : (b : L.Symbol) → IsChildOf (names m k) b → ((j : ℕ) × In j ks × IsChildOf (names m j) b) → ⊥
+          mine : (b : L.LevelSymbol) → IsChildOf (names m k) b → ((j : ℕ) × In j ks × IsChildOf (names m j) b) → ⊥
           mine b p q =
               let same : names m k ≡ names m q.0 = push_parts (names m k) (names m q.0) p.0 q.2.0 (sym p.1 ∙ q.2.1) in
               let u = d k (inl refl) in
@@ -210,7 +211,7 @@ module _ {A : Type 0} (m : Nodes A) (root : ℕ) where
 -- 4. levels of a system
 
 module _ (s : System) (limit n : ℕ) (m : Nodes Kept) (root : ℕ) (changes : List (Change Kept)) (spelled : WellSpelled s) (is : meaning_to s limit n ≡ Ok (meant_to s limit n)) (levels : HaveLevels m root s.seed (meant_to s limit n))
-    (sound : IsSound root changes m) (once : AreOnce (kins m) root) where
+    (sound : IsRooted root changes m) (once : AreOnce (kins m) root) where
   step : IsStep s n (meant_to s limit n)
   step = steps s limit n (meant_to s limit n) is
 
@@ -234,7 +235,7 @@ module _ (s : System) (limit n : ℕ) (m : Nodes Kept) (root : ℕ) (changes : L
   level_families t by l replaced =
       let nodes : List ℕ = level_nodes m root t in
       let long = step.long in
-      let x : List L.Symbol = map (node_symbol m) nodes in
+      let x : List L.LevelSymbol = map (node_symbol m) nodes in
       let here : level_of m root t ≡ x = level_symbols m nodes in
       let all : AreReplaced s t x 0 x (map by nodes) = subst (λ y. AreReplaced s t y 0 x (map by nodes)) here (all_replaced s t (level_of m root t) m by nodes replaced) in
       let next : next_level s t x ≡ Ok (get_or (meant_to s limit n) (t + 1) []) = ap (next_level s t) (sym here ∙ levels.each t (omega (arith, long, l))) ∙ step.each t l in

@@ -4,18 +4,17 @@ use Rattle.std.specs.Prelude.{slice_get, option_map}
 use Rattle.std.specs.Option.{option_and_then}
 use Rattle.lsys_forest.specs.Answers.{answer_of}
 use Rattle.std.proofs.lemmas.Option.{none-some, same_Some}
+use Rattle.lsys_spec.specs.Rows.{In}
 use Rattle.lsys_syntax.specs.Commands.{Numbering}
 use Rattle.lsys_spec.specs.Systems.{System}
 use Rattle.lsys_spec.specs.Levels as L
-use Rattle.lsys_spec.specs.Meaning.{meaning_to}
+use Rattle.lsys_spec.specs.Meaning.{meaning_to, replacement}
 use Rattle.lsys_change.specs.Nodes.{Kin, Extends}
-use Rattle.lsys_change.specs.Children.{replacement}
 use Rattle.lsys_change.proofs.UpTo.{level_count}
 use Rattle.lsys_level.specs.Spots.{with_lineage, named}
 use Rattle.lsys_walks.specs.Stores.{Store}
 use Rattle.lsys_match.specs.Kept.{Kept}
 use Rattle.lsys_forest.specs.Nodes.{Node, Nodes, with_kids}
-use Rattle.lsys_forest.specs.Groves.{In}
 use Rattle.lsys_forest.specs.Rows.{spot_in, level_nodes}
 use Rattle.lsys_forest.proofs.RowLemmas as rows
 use Rattle.lsys_brood.specs.Children.{born, renewed}
@@ -121,7 +120,7 @@ module _ (s : System) (limit t : ℕ) (old new : Nodes Kept) (root : ℕ) (store
           levels = upper_levels root l.changes old new l.sound t keeps l.once h.stay s.seed (meant_to s limit t) (omega (arith, count)) l.levels;
           replaced = λ p k e. (
               let there : slice_get (level_nodes old root t) p ≡ Some k = ap (λ (ks : List ℕ). slice_get ks p) (sym (upper_nodes root l.changes old new l.sound t keeps t (omega arith))) ∙ e in
-              ap (λ (x : List L.Symbol). replacement s t x p (node_symbol new k)) level ∙ ap (replacement s t (level_of old root t) p) (same k (got_in (level_nodes old root t) p k there)) ∙ was.replaced p k there
+              ap (λ (x : List L.LevelSymbol). replacement s t x p (node_symbol new k)) level ∙ ap (replacement s t (level_of old root t) p) (same k (got_in (level_nodes old root t) p k there)) ∙ was.replaced p k there
               );
         };
         children = wanted;

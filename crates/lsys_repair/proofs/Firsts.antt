@@ -10,12 +10,12 @@ use Rattle.lsys_spec.specs.Levels as L
 use Rattle.lsys_spec.specs.Levels.{level_balanced}
 use Rattle.lsys_spec.specs.Cuts.{cut}
 use Rattle.lsys_spec.specs.Meaning.{children, first_level, within_limit, meaning_to}
-use Rattle.lsys_change.specs.Nodes.{AreOnce, depth_in, lineage_in}
+use Rattle.lsys_change.specs.Nodes.{AreOnce, kin_depth, lineage_in}
 use Rattle.lsys_change.proofs.UpTo.{grown_to}
 use Rattle.lsys_level.specs.Spots.{Spotted, level_by}
 use Rattle.lsys_forest.specs.Nodes.{Node, Nodes}
 use Rattle.lsys_forest.specs.Changes.{Change}
-use Rattle.lsys_forest.specs.Groves.{IsSound}
+use Rattle.lsys_forest.specs.Groves.{IsRooted}
 use Rattle.lsys_brood.specs.declared.child.Child.{Child}
 use Rattle.lsys_brood.specs.Children.{AreRenewed}
 use Rattle.lsys_wanted.specs.Wishes.{AreWanted}
@@ -30,12 +30,12 @@ use Rattle.lsys_repair.proofs.Wants.{renewed_wanted}
 
 module _ {A : Type 0} where
   pub name_root : (m : Nodes A) (root : ℕ) → AreOnce (kins m) root → names m root ≡ []
-  name_root m root once = let r = once.root_lives in ap (λ d. lineage_in (kins m) d root) (ap depth_in r.1 ∙ r.2)
+  name_root m root once = let r = once.root_lives in ap (λ d. lineage_in (kins m) d root) (ap kin_depth r.1 ∙ r.2)
 
-within : (limit t : ℕ) (xs : List (List L.Symbol)) → sum_by length xs ≤ limit → within_limit limit t xs ≡ Ok xs
+within : (limit t : ℕ) (xs : List (List L.LevelSymbol)) → sum_by length xs ≤ limit → within_limit limit t xs ≡ Ok xs
 within limit t xs h = grind (arith, nat_tests)
 
-pub root_wanted : (s : System) (root : ℕ) (changes : List (Change Kept)) (old new : Nodes Kept) (n : Node Kept) (ws : List Child) → IsSound root changes old → AreOnce (kins new) root → old root ≡ Some n
+pub root_wanted : (s : System) (root : ℕ) (changes : List (Change Kept)) (old new : Nodes Kept) (n : Node Kept) (ws : List Child) → IsRooted root changes old → AreOnce (kins new) root → old root ≡ Some n
     → AreRenewed old new root n ws (kids_in (new root)) → AreWanted s.numbering s.seed s.axiom_string ws → HasWanted s.numbering s.seed new root s.axiom_string
 root_wanted s root changes old new n ws sound once is r a =
     renewed_wanted root changes old new sound root n is once s.numbering s.seed s.axiom_string ws r
@@ -52,7 +52,7 @@ module _ (s : System) (limit : ℕ) (m : Nodes Kept) (root : ℕ) (once : AreOnc
   long = ap length (sym is ∙ level_symbols m (kids_in (m root))) ∙ length-map (kids_in (m root)) (node_symbol m)
 
   meant_first : length (level_nodes m root 0) ≤ limit → meaning_to s limit 0 ≡ Ok (first_level s ∷ [])
-  meant_first l = within limit 0 (first_level s ∷ []) (omega (arith, sum_by-cons (length {A = L.Symbol}) (first_level s) [], long, l))
+  meant_first l = within limit 0 (first_level s ∷ []) (omega (arith, sum_by-cons (length {A = L.LevelSymbol}) (first_level s) [], long, l))
 
   is_first : length (level_nodes m root 0) ≤ limit → meant_to s limit 0 ≡ first_level s ∷ []
   is_first l = ap levels_or_none (meant_first l)

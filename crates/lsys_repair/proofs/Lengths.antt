@@ -4,6 +4,7 @@ use Rattle.std.specs.Prelude.{ℤ, nat_eq}
 use Rattle.std.proofs.lemmas.Bool.{cases_eq}
 use Rattle.std.proofs.lemmas.List.{length-map}
 use Rattle.std.proofs.lemmas.List.Sums.{sum_by-cons}
+use Rattle.lsys_spec.specs.Rows.{In, AreApart}
 use Rattle.lsys_syntax.specs.Commands.{Numbering}
 use Rattle.lsys_syntax.specs.Strings as S
 use Rattle.lsys_spec.specs.Systems.{System}
@@ -18,7 +19,6 @@ use Rattle.lsys_change.specs.Children.{own_children, is_open, AreReplaced, row}
 use Rattle.lsys_change.proofs.Rows.{kept_level}
 use Rattle.lsys_change.proofs.UpTo.{level_count}
 use Rattle.lsys_forest.specs.Nodes.{Nodes}
-use Rattle.lsys_forest.specs.Groves.{In, AreApart}
 use Rattle.lsys_forest.specs.Rows.{kids_in, kids_below, spot_in, level_nodes}
 use Rattle.lsys_forest.proofs.RowLemmas as rows
 use Rattle.lsys_brood.specs.declared.child.Child.{Child}
@@ -126,8 +126,8 @@ module _ {A : Type 0} where
   row_count : (g : Numbering) (m : Nodes A) (by : Successors) (o : Option ℕ) (ks : List ℕ) → AreApart ks → length (row g o (map (node_symbol m) ks) (map by ks)) ≡ sum_by (λ k. wanted_count g (wanted_in m by o ks k)) ks
   row_count g m by o [] apart = refl
   row_count g m by o (k ∷ ks) apart =
-      let a : L.Symbol = node_symbol m k in
-      let kind : kinds.kind_of a ≡ node_kind m k = kind_with (names m (spot_in k (m k)).tag) (spot_in k (m k)).seen in
+      let a : L.LevelSymbol = node_symbol m k in
+      let kind : kinds.kind_of_symbol a ≡ node_kind m k = kind_with (names m (spot_in k (m k)).tag) (spot_in k (m k)).seen in
       let next : Option ℕ = reached o (node_kind m k) (is_open (by k)) in
       let front : length (cond (stays o (node_kind m k)) (own_children g a (by k)) []) ≡ wanted_count g (wanted_behind o (node_kind m k) (by k)) = own (stays o (node_kind m k)) in
       let first : wanted_in m by o (k ∷ ks) k ≡ wanted_behind o (node_kind m k) (by k) = ap (λ b. cond b (wanted_behind o (node_kind m k) (by k)) (wanted_in m by next ks k)) (same_yes k) in
@@ -151,7 +151,7 @@ pub over_count : (s : System) (limit t : ℕ) (m : Nodes Kept) (root : ℕ) (by 
     → limit < sum_by length (meant_to s limit t) + count_wanted s.numbering m by (level_nodes m root t) → t < s.depth → meaning s limit ≡ Err (OverLimit (t + 1))
 over_count s limit t m root by h apart l d =
     let nodes : List ℕ = level_nodes m root t in
-    let x : List L.Symbol = map (node_symbol m) nodes in
+    let x : List L.LevelSymbol = map (node_symbol m) nodes in
     let count : length (meant_to s limit t) ≡ t + 1 = level_count s limit t (meant_to s limit t) h.spelled h.is in
     let here : level_of m root t ≡ x = level_symbols m nodes in
     let last : last_level (meant_to s limit t) ≡ x = last_there (meant_to s limit t) t count ∙ sym (h.levels.each t (omega (arith, count))) ∙ here in

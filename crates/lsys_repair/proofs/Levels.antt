@@ -1,8 +1,9 @@
 -- A level that was made is the system's next one.
 use Rattle.std.proofs.Common.{◌≡◌, ◌+◌, ◌≤◌, ℕ, List, ◌∷◌, Option, Some, None, Ok, length, refl, sym, ap, ◌∙◌, subst, arith, inl, sum_by, slice_get}
 use Rattle.std.specs.Option.{option_and_then}
+use Rattle.lsys_spec.specs.Rows.{In}
+use Rattle.lsys_spec.specs.Meaning.{replacement}
 use Rattle.lsys_spec.specs.Systems.{System}
-use Rattle.lsys_change.specs.Children.{replacement}
 use Rattle.lsys_change.proofs.UpTo.{level_count}
 use Rattle.lsys_level.specs.Spots.{Seen, Spotted}
 use Rattle.lsys_walks.specs.Stores.{Store}
@@ -10,7 +11,7 @@ use Rattle.lsys_match.specs.Kept.{Kept}
 use Rattle.lsys_forest.specs.Nodes.{Node, Nodes}
 use Rattle.lsys_forest.specs.Changes.{Change}
 use Rattle.lsys_forest.specs.Answers.{answer_of}
-use Rattle.lsys_forest.specs.Groves.{In, IsSound}
+use Rattle.lsys_forest.specs.Groves.{IsRooted}
 use Rattle.lsys_forest.specs.Rows.{spot_in, level_nodes}
 use Rattle.lsys_forest.proofs.RowLemmas as rows
 use Rattle.lsys_kept.specs.Levels.{level_of, HaveLevels, answer_at}
@@ -38,7 +39,7 @@ in_place : (ks : List ℕ) (p k : ℕ) → slice_get ks p ≡ Some k → In k ks
 in_place ks p k e = let s = rows.get_split ks p k e in subst (In k) (sym s.whole) (rows.In_right k s.before (k ∷ s.after) (inl refl))
 
 module _ (s : System) (limit t root : ℕ) (changes : List (Change Kept)) (old new : Nodes Kept) (store : Store) (by : Successors) (done : List ℕ)
-    (sound : IsSound root changes old) (a : AreAnsweredTo s limit t old root store) (made : IsLevelMade s old new root t by done) where
+    (sound : IsRooted root changes old) (a : AreAnsweredTo s limit t old root store) (made : IsLevelMade s old new root t by done) where
   upper : KeepsUpper old new (t + 1)
   upper = keeps_upper s.numbering s.seed old new root (t + 1) by done made.renewals
 

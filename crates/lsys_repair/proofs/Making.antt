@@ -4,17 +4,18 @@ use Rattle.std.specs.Prelude.{ℤ, cond, not, if◌then◌else◌}
 use Rattle.std.specs.Option.{option_and_then}
 use Rattle.std.proofs.lemmas.Option.{same_Some}
 use Rattle.std.proofs.lemmas.List.Sums.{sum_by-cons, sum_by_push}
+use Rattle.lsys_spec.specs.Rows.{In, mirrored}
 use Rattle.lsys_syntax.specs.Commands.{Numbering}
 use Rattle.lsys_syntax.specs.Strings as S
 use Rattle.lsys_spec.specs.Draws.{number_base, key_of}
 use Rattle.lsys_forest.specs.Nodes.{Node, Nodes}
 use Rattle.lsys_forest.specs.Answers.{answer_of}
-use Rattle.lsys_forest.specs.Groves.{Grove, In, now_of, changes_in, IsSound}
-use Rattle.lsys_forest.specs.Rows.{kids_in, spot_in, mirrored}
+use Rattle.lsys_forest.specs.Groves.{Grove, now_of, changes_in, IsRooted}
+use Rattle.lsys_forest.specs.Rows.{kids_in, spot_in}
 use Rattle.lsys_brood.specs.declared.number.Number.{Number}
 use Rattle.lsys_brood.specs.declared.need.Need.{Need}
-use Rattle.lsys_brood.specs.Matches.{same_number, has_number, number_in, node_numbered, nodes_without, some_or}
-use Rattle.lsys_brood.specs.Children.{Told, numbers_of, births, notes_for, HasRoomFor, SpendsNeed}
+use Rattle.lsys_brood.specs.Matches.{same_child_number, has_number, node_number, node_numbered, nodes_without, some_or}
+use Rattle.lsys_brood.specs.Children.{ToldNodes, numbers_of, births, notes_for, HasRoomFor, SpendsNeed}
 use Rattle.lsys_brood.proofs.MatchLemmas.{take_next}
 use Rattle.lsys_brood.proofs.PlacedLemmas.{spends_none, spends_then}
 use Rattle.lsys_match.specs.Kept.{Kept}
@@ -36,7 +37,7 @@ use Rattle.lsys_repair.proofs.Telling.{where_same, none_told, told_more}
 use Rattle.lsys_repair.proofs.Among.{among, drop_at, not_done, done_push, told_at, look, look_told}
 
 -- The children of the first so many were made, and there is room for those of the others.
-pub record AreMadeSoFar (g : Numbering) (old now : Grove Kept) (before told : Told) (ps : List Parent) (i : ℕ) : Type 0 where
+pub record AreMadeSoFar (g : Numbering) (old now : Grove Kept) (before told : ToldNodes) (ps : List Parent) (i : ℕ) : Type 0 where
   pub renewals : (seed depth : ℕ) (by : Successors) → AreParents seed depth (now_of old) old.root (nodes_in ps) → AreToldBy by (now_of old) ps
       → AreRenewals g seed (now_of old) (now_of now) old.root depth by (mirrored (nodes_in (take i ps)))
   pub room : HasRoomFor now told (needs g (now_of old) (drop i ps))
@@ -44,7 +45,7 @@ pub record AreMadeSoFar (g : Numbering) (old now : Grove Kept) (before told : To
   pub tells : TellsAllOf (now_of old) (now_of now) (mirrored (nodes_in (take i ps))) before told
   pub gone : told.gone ≡ before.gone ++ gone_of g (now_of old) (take i ps)
 
-pub none_made : (g : Numbering) (old : Grove Kept) (told : Told) (ps : List Parent) → HasRoomFor old told (needs g (now_of old) ps) → AreMadeSoFar g old old told told ps 0
+pub none_made : (g : Numbering) (old : Grove Kept) (told : ToldNodes) (ps : List Parent) → HasRoomFor old told (needs g (now_of old) ps) → AreMadeSoFar g old old told told ps 0
 none_made g old told ps room = record {
   renewals = λ seed depth by a t. begins g seed (now_of old) old.root depth by a.once a.small;
   room = room;
@@ -59,14 +60,14 @@ gone_push g m (q ∷ ps) p = ap (λ (l : List ℕ). gone_at g m q ++ l) (gone_pu
 
 numbered_same : (old now : Nodes Kept) (ks : List ℕ) (q : Number) → ((k : ℕ) → In k ks → now k ≡ old k) → node_numbered now ks q ≡ node_numbered old ks q
 numbered_same old now [] q h = refl
-numbered_same old now (k ∷ ks) q h = λ i. some_or (numbered_same old now ks q (λ j l. h j (inr l)) i) (cond (same_number (number_in (h k (inl refl) i)) q) (Some k) None)
+numbered_same old now (k ∷ ks) q h = λ i. some_or (numbered_same old now ks q (λ j l. h j (inr l)) i) (cond (same_child_number (node_number (h k (inl refl) i)) q) (Some k) None)
 
 wants_same : (old now : Nodes Kept) (p : Parent) → now p.node ≡ old p.node → wants now p ≡ wants old p
 wants_same old now p e = ap (λ (o : Option (Node Kept)). if p.is_cut then [] else kept_successor (spot_in p.node o).seen (option_and_then answer_of o)) e
 
-module _ (g : Numbering) (old now : Grove Kept) (before told : Told) (ps : List Parent) (i : ℕ) (p : Parent)
+module _ (g : Numbering) (old now : Grove Kept) (before told : ToldNodes) (ps : List Parent) (i : ℕ) (p : Parent)
     (here : slice_get ps i ≡ Some p) (has : HasParents (now_of old) old.root (nodes_in ps))
-    (sound : IsSound old.root (changes_in old) (now_of old)) (h : AreMadeSoFar g old now before told ps i) where
+    (sound : IsRooted old.root (changes_in old) (now_of old)) (h : AreMadeSoFar g old now before told ps i) where
   abbrev pub m : Nodes Kept
   m = now_of old
 
@@ -132,7 +133,7 @@ module _ (g : Numbering) (old now : Grove Kept) (before told : Told) (ps : List 
     told = omega (arith, h.room.told, rest_parts (λ q. (need_at_parent g m q).told));
   })
 
-  module _ (new : Grove Kept) (after : Told) (r : IsRenewed g now new p node told after) (sound_now : IsSound now.root (changes_in now) (now_of now)) (root : now.root ≡ old.root) where
+  module _ (new : Grove Kept) (after : ToldNodes) (r : IsRenewed g now new p node told after) (sound_now : IsRooted now.root (changes_in now) (now_of now)) (root : now.root ≡ old.root) where
     spent : SpendsNeed now new (need_at_parent g m p)
     spent = subst (λ (n : Need). SpendsNeed now new n) need_same r.spends
 
@@ -156,11 +157,11 @@ module _ (g : Numbering) (old now : Grove Kept) (before told : Told) (ps : List 
         let key : node.key ≡ key_of seed (names m p.node) = ap (λ (n : Node Kept). n.key) own ∙ one.key in
         let wanted = subst (λ k. AreWanted g k (wants (now_of now) p) r.children) key r.wanted in
         let wanted' = subst (λ (zs : List (S.Symbol ℤ)). AreWanted g (key_of seed (names m p.node)) zs r.children) (wants_same m (now_of now) p same_node ∙ sym (told_at by m ps i p t here)) wanted in
-        goes_on g seed m (now_of now) (now_of new) old.root depth by done (changes_in now) p.node node r.children (h.renewals seed depth by a t) (subst (λ k. IsSound k (changes_in now) (now_of now)) root sound_now) was
+        goes_on g seed m (now_of now) (now_of new) old.root depth by done (changes_in now) p.node node r.children (h.renewals seed depth by a t) (subst (λ k. IsRooted k (changes_in now) (now_of now)) root sound_now) was
         (ap (λ (n : Node Kept). n.depth) own ∙ one.deep) fresh one.all r.renewed wanted'
 
-    sound_mid : IsSound old.root (changes_in now) (now_of now)
-    sound_mid = subst (λ k. IsSound k (changes_in now) (now_of now)) root sound_now
+    sound_mid : IsRooted old.root (changes_in now) (now_of now)
+    sound_mid = subst (λ k. IsRooted k (changes_in now) (now_of now)) root sound_now
 
     -- a child that was made is new, or was the parent's
     made_from : (k : ℕ) → In k (kids_in (now_of new p.node)) → (now_of now k ≡ None) ⊎ In k node.kids

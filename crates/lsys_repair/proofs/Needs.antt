@@ -26,7 +26,7 @@ use Rattle.lsys_repair.proofs.Lengths.{made_count}
 use Rattle.lsys_repair.specs.declared.parent.Parent.{Parent}
 use Rattle.lsys_repair.specs.declared.count.Count.{Count}
 use Rattle.lsys_repair.specs.Parents.{wants}
-use Rattle.lsys_repair.specs.Needs.{IsSmall, number_from, number_told, params_told, room_told, wanted_symbols, need_for, need_at_parent, wanted_of, had_by, count_of, count_at, with_count}
+use Rattle.lsys_repair.specs.Needs.{IsBoundedCount, number_from, number_told, params_told, room_told, wanted_symbols, need_for, need_at_parent, wanted_of, had_by, count_of_all, count_at_parent, with_count}
 
 -- 1. one parent
 
@@ -89,7 +89,7 @@ need_is g key zs ws m kids a = λ i. record {
 
 -- 2. one parent more
 
-pub count_push : (g : Numbering) (m : Nodes Kept) (ps : List Parent) (p : Parent) → count_of g m (ps ++ p ∷ []) ≡ with_count (count_of g m ps) (count_at g m p)
+pub count_push : (g : Numbering) (m : Nodes Kept) (ps : List Parent) (p : Parent) → count_of_all g m (ps ++ p ∷ []) ≡ with_count (count_of_all g m ps) (count_at_parent g m p)
 count_push g m ps p = λ i. record {
   need = record {
     nodes = sum_by_push (λ q. (need_at_parent g m q).nodes) ps p i;
@@ -111,7 +111,7 @@ need_there g m p n key ws is a = need_is g key (wants m p) ws m n.kids a ∙ ap 
     kids = ap (λ (o : Option (Node Kept)). kids_in o) (sym is)
 
 pub counted : (g : Numbering) (m : Nodes Kept) (p : Parent) (n : Node Kept) (key : ℕ) (ws : List Child) (need : Need) (had : ℕ) → m p.node ≡ Some n → AreWanted g key (wants m p) ws → need ≡ need_at m n.kids ws → had ≡ length n.kids
-    → record { need = need; wanted = length ws; had = had } ≡ count_at g m p
+    → record { need = need; wanted = length ws; had = had } ≡ count_at_parent g m p
 counted g m p n key ws need had is a e f = λ i. record { need = there i; wanted = made_count g key (wants m p) ws a i; had = long i }
   where
     there : need ≡ need_at_parent g m p
@@ -128,7 +128,7 @@ pub wants_short : (m : Nodes Kept) (p : Parent) → length (kept_successors m p.
 wants_short m p e = short_if p.is_cut (kept_successors m p.node) e
 
 pub few_counted : (m : Nodes Kept) (n : Node Kept) (ws : List Child) (need : Need) (had : ℕ) → need ≡ need_at m n.kids ws → had ≡ length n.kids → length ws ≤ number_base → IsFew need
-    → IsSmall 1 had (record { need = need; wanted = length ws; had = had })
+    → IsBoundedCount 1 had (record { need = need; wanted = length ws; had = had })
 few_counted m n ws need had e f l few = record {
   nodes = omega (arith, few.nodes);
   params = omega (arith, few.params);
@@ -142,8 +142,8 @@ few_counted m n ws need had e f l few = record {
     told : need.told ≡ length ws + length n.kids + 1
     told = ap (λ (x : Need). x.told) e
 
-pub small_push : (n h h' : ℕ) (a b c : Count) → IsSmall n h a → IsSmall 1 b.had b → c ≡ with_count a b → h' ≡ h + b.had → IsSmall (n + 1) h' c
-small_push n h h' a b c s t e f = subst (λ (x : Count). IsSmall (n + 1) h' x) (sym e) (record {
+pub small_push : (n h h' : ℕ) (a b c : Count) → IsBoundedCount n h a → IsBoundedCount 1 b.had b → c ≡ with_count a b → h' ≡ h + b.had → IsBoundedCount (n + 1) h' c
+small_push n h h' a b c s t e f = subst (λ (x : Count). IsBoundedCount (n + 1) h' x) (sym e) (record {
   nodes = omega (arith, s.nodes, t.nodes);
   params = omega (arith, s.params, t.params);
   kids = omega (arith, s.kids, t.kids);

@@ -8,6 +8,7 @@ use Rattle.std.proofs.lemmas.List.Sums.{sum_by_push}
 use Rattle.std.proofs.lemmas.Option.{same_Some, slice_get-get_or}
 use Rattle.std.proofs.Math.ListN.{get_or-append}
 use Rattle.std.proofs.Math.Seq.{get_or-append_seam}
+use Rattle.lsys_spec.specs.Rows.{In}
 use Rattle.lsys_syntax.specs.Commands.{Numbering}
 use Rattle.lsys_spec.specs.Draws.{key_of}
 use Rattle.lsys_spec.specs.Systems.{System}
@@ -15,15 +16,14 @@ use Rattle.lsys_spec.specs.Values.{◌and_then◌}
 use Rattle.lsys_spec.specs.Levels as L
 use Rattle.lsys_spec.specs.Levels.{lineage, level_balanced}
 use Rattle.lsys_spec.specs.Cuts.{cut}
-use Rattle.lsys_spec.specs.Meaning.{LevelRefusal, children, next_level, last_level, within_limit, meaning_to}
+use Rattle.lsys_spec.specs.Meaning.{LevelRefusal, children, next_level, last_level, within_limit, meaning_to, replacement}
 use Rattle.lsys_change.specs.Kinds.{BracketKind, stays, reached}
 use Rattle.lsys_change.specs.Kinds as kinds
-use Rattle.lsys_change.specs.Children.{own_children, is_open, replacement, AreReplaced, row}
+use Rattle.lsys_change.specs.Children.{own_children, is_open, AreReplaced, row}
 use Rattle.lsys_change.proofs.Rows.{kept_level}
 use Rattle.lsys_change.proofs.UpTo.{level_count, grown_to}
 use Rattle.lsys_level.specs.Spots.{Seen, Push, Pop, Module, Spotted, with_lineage, named, level_by}
 use Rattle.lsys_forest.specs.Nodes.{Node, Nodes}
-use Rattle.lsys_forest.specs.Groves.{In}
 use Rattle.lsys_forest.specs.Rows.{kids_in, kids_below, spot_in, level_nodes, level_spots}
 use Rattle.lsys_forest.proofs.RowLemmas.{In_append}
 use Rattle.lsys_brood.specs.Children.{bracket_kind}
@@ -44,7 +44,7 @@ lineage_with l Push = refl
 lineage_with l Pop = refl
 lineage_with l (Module v) = refl
 
-pub kind_with : (l : List ℕ) (x : Seen) → kinds.kind_of (with_lineage l x) ≡ bracket_kind x
+pub kind_with : (l : List ℕ) (x : Seen) → kinds.kind_of_symbol (with_lineage l x) ≡ bracket_kind x
 kind_with l Push = refl
 kind_with l Pop = refl
 kind_with l (Module v) = refl
@@ -72,11 +72,11 @@ module _ {A : Type 0} where
       → map (node_symbol m) (kids_below m ks) ≡ row g o (map (node_symbol m) ks) (map by ks)
   below_row g seed m by o [] h = refl
   below_row g seed m by o (k ∷ ks) h =
-      let a : L.Symbol = node_symbol m k in
-      let kind : kinds.kind_of a ≡ node_kind m k = kind_with (names m (spot_in k (m k)).tag) (spot_in k (m k)).seen in
+      let a : L.LevelSymbol = node_symbol m k in
+      let kind : kinds.kind_of_symbol a ≡ node_kind m k = kind_with (names m (spot_in k (m k)).tag) (spot_in k (m k)).seen in
       map-append (node_symbol m) (kids_in (m k)) (kids_below m ks)
       ∙ ap (λ y. y ++ map (node_symbol m) (kids_below m ks)) (h.0.symbols ∙ own (stays o (node_kind m k)) ∙ ap (λ b. cond (stays o b) (own_children g a (by k)) []) (sym kind))
-      ∙ ap (λ y. cond (stays o (kinds.kind_of a)) (own_children g a (by k)) [] ++ y)
+      ∙ ap (λ y. cond (stays o (kinds.kind_of_symbol a)) (own_children g a (by k)) [] ++ y)
       (below_row g seed m by (reached o (node_kind m k) (is_open (by k))) ks h.1 ∙ ap (λ b. row g (reached o b (is_open (by k))) (map (node_symbol m) ks) (map by ks)) (sym kind))
     where
       own : (b : Bool) → cut (children g (names m k) (cond b (by k) [])) ≡ cond b (own_children g (node_symbol m k) (by k)) []
@@ -93,7 +93,7 @@ module _ {A : Type 0} where
 
   -- 3. what replaces the nodes replaces the level
 
-  replaced_from : (s : System) (t : ℕ) (x : List L.Symbol) (m : Nodes A) (by : Successors) (p : ℕ) (ks : List ℕ)
+  replaced_from : (s : System) (t : ℕ) (x : List L.LevelSymbol) (m : Nodes A) (by : Successors) (p : ℕ) (ks : List ℕ)
       → ((i k : ℕ) → slice_get ks i ≡ Some k → replacement s t x (p + i) (node_symbol m k) ≡ Ok (by k)) → AreReplaced s t x p (map (node_symbol m) ks) (map by ks)
   replaced_from s t x m by p [] h = refl
   replaced_from s t x m by p (k ∷ ks) h =
@@ -102,13 +102,13 @@ module _ {A : Type 0} where
         replaced_from s t x m by (p + 1) ks (λ i j g. (let f : p + 1 + i ≡ p + suc i = omega arith in ap (λ p. replacement s t x p (node_symbol m j)) f ∙ h (suc i) j g)),
       )
 
-  pub all_replaced : (s : System) (t : ℕ) (x : List L.Symbol) (m : Nodes A) (by : Successors) (ks : List ℕ)
+  pub all_replaced : (s : System) (t : ℕ) (x : List L.LevelSymbol) (m : Nodes A) (by : Successors) (ks : List ℕ)
       → ((p k : ℕ) → slice_get ks p ≡ Some k → replacement s t x p (node_symbol m k) ≡ Ok (by k)) → AreReplaced s t x 0 (map (node_symbol m) ks) (map by ks)
   all_replaced s t x m by ks h = replaced_from s t x m by 0 ks (λ i k g. (let f : 0 + i ≡ i = omega arith in ap (λ p. replacement s t x p (node_symbol m k)) f ∙ h i k g))
 
 -- 4. levels of a system
 
-pub last_there : (xs : List (List L.Symbol)) (t : ℕ) → length xs ≡ t + 1 → last_level xs ≡ get_or xs t []
+pub last_there : (xs : List (List L.LevelSymbol)) (t : ℕ) → length xs ≡ t + 1 → last_level xs ≡ get_or xs t []
 last_there [] t h = absurd (omega (arith, h))
 last_there (x ∷ []) zero h = refl
 last_there (x ∷ []) (suc t) h = absurd (omega (arith, h))
@@ -127,7 +127,7 @@ balance_by f h n (x ∷ xs) = by x.seen n (λ n. balance_by f h n xs)
     by Pop (suc n) rest = rest n
     by (Module v) n rest = rest n
 
-within : (limit t : ℕ) (xs : List (List L.Symbol)) → sum_by length xs ≤ limit → within_limit limit t xs ≡ Ok xs
+within : (limit t : ℕ) (xs : List (List L.LevelSymbol)) → sum_by length xs ≤ limit → within_limit limit t xs ≡ Ok xs
 within limit t xs h = grind (arith, nat_tests)
 
 module _ (s : System) (limit t : ℕ) (m : Nodes Kept) (root : ℕ) (by : Successors) (h : HaveNext s limit t m root by) where
@@ -148,18 +148,18 @@ module _ (s : System) (limit t : ℕ) (m : Nodes Kept) (root : ℕ) (by : Succes
 
   pub next : next_level s t (last_level (meant_to s limit t)) ≡ Ok (level_of m root (t + 1))
   next =
-      let x : List L.Symbol = map (node_symbol m) nodes in
+      let x : List L.LevelSymbol = map (node_symbol m) nodes in
       let same : level_of m root t ≡ x = level_symbols m nodes in
       ap (next_level s t) (here ∙ same)
       ∙ kept_level s t x (map by nodes) h.level.spelled (subst (λ y. AreReplaced s t y 0 x (map by nodes)) same replaced)
       ∙ ap Ok (sym row_is) ∙ ap (λ u. Ok (level_of m root u)) (sym (add-one t))
 
   -- the levels with the next one
-  abbrev pub more : List (List L.Symbol)
+  abbrev pub more : List (List L.LevelSymbol)
   more = meant_to s limit t ++ level_of m root (t + 1) ∷ []
 
   fits : sum_by length (meant_to s limit t) + length (level_nodes m root (t + 1)) ≤ limit → sum_by length more ≤ limit
-  fits l = omega (arith, sum_by_push (length {A = L.Symbol}) (meant_to s limit t) (level_of m root (t + 1)), long, l)
+  fits l = omega (arith, sum_by_push (length {A = L.LevelSymbol}) (meant_to s limit t) (level_of m root (t + 1)), long, l)
     where
       long : length (level_of m root (t + 1)) ≡ length (level_nodes m root (t + 1))
       long = ap length (level_symbols m (level_nodes m root (t + 1))) ∙ length-map (level_nodes m root (t + 1)) (node_symbol m)
@@ -167,8 +167,8 @@ module _ (s : System) (limit t : ℕ) (m : Nodes Kept) (root : ℕ) (by : Succes
   pub meant_more : sum_by length (meant_to s limit t) + length (level_nodes m root (t + 1)) ≤ limit → meaning_to s limit (t + 1) ≡ Ok more
   meant_more l =
       ap (meaning_to s limit) (add-one t)
-      ∙ ap (λ (r : Result (List (List L.Symbol)) LevelRefusal). r and_then λ levels. next_level s t (last_level levels) and_then λ x. within_limit limit (suc t) (levels ++ x ∷ [])) h.level.is
-      ∙ ap (λ (r : Result (List L.Symbol) LevelRefusal). r and_then λ x. within_limit limit (suc t) (meant_to s limit t ++ x ∷ [])) next
+      ∙ ap (λ (r : Result (List (List L.LevelSymbol)) LevelRefusal). r and_then λ levels. next_level s t (last_level levels) and_then λ x. within_limit limit (suc t) (levels ++ x ∷ [])) h.level.is
+      ∙ ap (λ (r : Result (List L.LevelSymbol) LevelRefusal). r and_then λ x. within_limit limit (suc t) (meant_to s limit t ++ x ∷ [])) next
       ∙ within limit (suc t) more (fits l)
 
   pub levels_more : meaning_to s limit (t + 1) ≡ Ok more → HaveLevels m root s.seed more

@@ -3,17 +3,18 @@ use Rattle.std.proofs.Common.{◌≡◌, ◌≢◌, ◌⊎◌, ◌+◌, ◌*◌,
 use Rattle.std.specs.Prelude.{option_map, is_some}
 use Rattle.std.proofs.lemmas.Bool.{cases_eq}
 use Rattle.std.proofs.lemmas.Option.{none-some, same_Some}
+use Rattle.lsys_spec.specs.Rows.{In}
 use Rattle.lsys_syntax.specs.Commands.{Numbering}
 use Rattle.lsys_spec.specs.Draws.{number_base, key_of}
 use Rattle.lsys_change.specs.Nodes.{Kin, AreOnce, Extends}
 use Rattle.lsys_forest.specs.Nodes.{Node, Nodes, with_kids}
 use Rattle.lsys_forest.specs.Changes.{Change}
-use Rattle.lsys_forest.specs.Groves.{In, IsSound}
+use Rattle.lsys_forest.specs.Groves.{IsRooted}
 use Rattle.lsys_forest.specs.Rows.{kids_in, spot_in}
 use Rattle.lsys_forest.proofs.RowLemmas as rows
 use Rattle.lsys_brood.specs.declared.number.Number.{Number}
 use Rattle.lsys_brood.specs.declared.child.Child.{Child}
-use Rattle.lsys_brood.specs.Matches.{same_number, has_number, AreApart, number_of, node_numbered}
+use Rattle.lsys_brood.specs.Matches.{same_child_number, has_number, AreDifferent, number_of, node_numbered}
 use Rattle.lsys_brood.specs.Children.{numbers_of, born, renewed, IsBorn, AreRenewed}
 use Rattle.lsys_brood.proofs.MatchLemmas.{numbered_some, same_self}
 use Rattle.lsys_wanted.specs.Wishes.{AreWanted}
@@ -39,21 +40,21 @@ numbered_in f (x ∷ ks) (q ∷ qs) k e (inl g) =
     ap (λ (q : Number). has_number (q ∷ qs) (f k)) same ∙ first (f k) qs
   where
     first : (a : Number) (qs : List Number) → has_number (a ∷ qs) a ≡ true
-    first a qs = by (same_number a a) (has_number qs a) (same_self a)
+    first a qs = by (same_child_number a a) (has_number qs a) (same_self a)
       where
         by : (b c : Bool) → b ≡ true → (b || c) ≡ true
         by true c h = refl
         by false c h = cc
 numbered_in f (x ∷ ks) (q ∷ qs) k e (inr i) =
     let more : map f ks ≡ qs = cc in
-    by (same_number q (f k)) (has_number qs (f k)) (numbered_in f ks qs k more i)
+    by (same_child_number q (f k)) (has_number qs (f k)) (numbered_in f ks qs k more i)
   where
     by : (b c : Bool) → c ≡ true → (b || c) ≡ true
     by true c h = refl
     by false c h = h
 
 -- no two of them have one number
-apart_same : (f : ℕ → Number) (ks : List ℕ) (qs : List Number) (j k : ℕ) → map f ks ≡ qs → AreApart qs → In j ks → In k ks → f j ≡ f k → j ≡ k
+apart_same : (f : ℕ → Number) (ks : List ℕ) (qs : List Number) (j k : ℕ) → map f ks ≡ qs → AreDifferent qs → In j ks → In k ks → f j ≡ f k → j ≡ k
 apart_same f [] qs j k e a i l s = absurd i
 apart_same f (x ∷ ks) [] j k e a i l s = cc
 apart_same f (x ∷ ks) (q ∷ qs) j k e a (inl i) (inl l) s = i ∙ sym l
@@ -91,7 +92,7 @@ module _ {A : Type 0} where
       from (came q w i o e) = absurd (none-some n (sym o ∙ is))
 
   module _ (g : Numbering) (seed : ℕ) (old mid new : Nodes A) (root depth : ℕ) (by : Successors) (done : List ℕ) (changes : List (Change A)) (p : ℕ) (n : Node A) (ws : List Child)
-      (h : AreRenewals g seed old mid root depth by done) (sound : IsSound root changes mid) (is : old p ≡ Some n) (deep : n.depth ≡ depth) (fresh : In p done → ⊥) (under : AreAllUnder old root p)
+      (h : AreRenewals g seed old mid root depth by done) (sound : IsRooted root changes mid) (is : old p ≡ Some n) (deep : n.depth ≡ depth) (fresh : In p done → ⊥) (under : AreAllUnder old root p)
       (r : AreRenewed mid new p n ws (kids_in (new p))) (a : AreWanted g (key_of seed (names old p)) (by p) ws) where
     abbrev ks : List ℕ
     ks = kids_in (new p)

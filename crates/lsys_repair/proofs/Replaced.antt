@@ -9,22 +9,21 @@ use Rattle.lsys_spec.proofs.Offspring.{has_balance, successor_short}
 use Rattle.lsys_spec.specs.Bodies.{Body, group}
 use Rattle.lsys_spec.specs.Levels.{ModuleValue}
 use Rattle.lsys_spec.specs.Levels as L
-use Rattle.lsys_spec.specs.Meaning.{successor, successor_by, asked}
-use Rattle.lsys_change.specs.Children.{replacement}
+use Rattle.lsys_spec.specs.Meaning.{successor, successor_by, asked, replacement}
 use Rattle.lsys_level.specs.Spots.{Seen, Push, Pop, Module, Spotted, with_lineage}
 use Rattle.lsys_walks.specs.Stores.{Store}
 use Rattle.lsys_match.specs.Kept.{Kept}
 use Rattle.lsys_forest.specs.Nodes.{Nodes}
 use Rattle.lsys_forest.specs.Rows.{spot_in, level_nodes, level_spots}
 use Rattle.lsys_kept.specs.Lineages.{names}
-use Rattle.lsys_kept.specs.Levels.{level_of, answer_at, IsRight, IsKeptFor, IsAnswered, AnsweredAt}
+use Rattle.lsys_kept.specs.Levels.{level_of, answer_at, IsRight, IsKeptFor, IsAnsweredRight, AnsweredAt}
 use Rattle.lsys_repair.specs.Nexts.{node_symbol}
 use Rattle.lsys_repair.specs.Answers.{kept_successor, kept_successors}
 
 one_symbol : (y : S.Symbol ℤ) (ys : List (S.Symbol ℤ)) → y ∷ [] ≡ ys → length ys ≤ number_base
 one_symbol y ys e = let one : length (y ∷ []) ≡ length ys = ap length e in omega (arith, one)
 
-pub replacement_short : (s : System) (t : ℕ) (x : List L.Symbol) (p : ℕ) (a : L.Symbol) (zs : List (S.Symbol ℤ)) → WellSpelled s → replacement s t x p a ≡ Ok zs → length zs ≤ number_base
+pub replacement_short : (s : System) (t : ℕ) (x : List L.LevelSymbol) (p : ℕ) (a : L.LevelSymbol) (zs : List (S.Symbol ℤ)) → WellSpelled s → replacement s t x p a ≡ Ok zs → length zs ≤ number_base
 replacement_short s t x p (L.Push l) zs w h = one_symbol S.Push zs cc
 replacement_short s t x p (L.Pop l) zs w h = one_symbol S.Pop zs cc
 replacement_short s t x p (L.Module l v) zs w h = successor_short s (has_balance s w) t x p l v zs h
@@ -32,7 +31,7 @@ replacement_short s t x p (L.Module l v) zs w h = successor_short s (has_balance
 pub axiom_short : (s : System) → WellSpelled s → length s.axiom_string ≤ number_base
 axiom_short s w = (has_balance s w).short_axiom
 
-no_rules : (s : System) (t : ℕ) (x : List L.Symbol) (p : ℕ) (l : List ℕ) (v : ModuleValue) → group s t v.name (length v.params) ≡ [] → successor s t x p l v ≡ Ok (S.Module v.name v.params ∷ [])
+no_rules : (s : System) (t : ℕ) (x : List L.LevelSymbol) (p : ℕ) (l : List ℕ) (v : ModuleValue) → group s t v.name (length v.params) ≡ [] → successor s t x p l v ≡ Ok (S.Module v.name v.params ∷ [])
 no_rules s t x p l v e = ap (λ (bs : List Body). successor_by bs v (asked s t bs x p l v).answer) e
 
 module _ (s : System) (t : ℕ) (m : Nodes Kept) (root : ℕ) (store : Store) (p : ℕ) where
@@ -44,7 +43,7 @@ module _ (s : System) (t : ℕ) (m : Nodes Kept) (root : ℕ) (store : Store) (p
       here : slice_get (level_spots m root t) p ≡ Some (spot_in k (m k))
       here = slice_get-map (λ k. spot_in k (m k)) (level_nodes m root t) p ∙ ap (λ o. option_map (λ k. spot_in k (m k)) o) there
 
-      by : (x : Seen) (o : Option Kept) → (spot_in k (m k)).seen ≡ x → IsAnswered s t (level_spots m root t) store p (spot_in k (m k)).tag x o
+      by : (x : Seen) (o : Option Kept) → (spot_in k (m k)).seen ≡ x → IsAnsweredRight s t (level_spots m root t) store p (spot_in k (m k)).tag x o
           → replacement s t (level_of m root t) p (with_lineage (names m (spot_in k (m k)).tag) x) ≡ Ok (kept_successor x o)
       by Push o e h = refl
       by Pop o e h = refl

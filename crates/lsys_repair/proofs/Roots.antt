@@ -1,19 +1,20 @@
 -- The first level, counted and made.
 use Rattle.std.proofs.Common.{◌≡◌, ◌⊎◌, ◌+◌, ◌<◌, ℕ, List, [], ◌∷◌, Option, Some, None, map, length, refl, sym, ap, ◌∙◌, subst, inl, inr}
 use Rattle.std.specs.Prelude.{ℤ}
+use Rattle.lsys_spec.specs.Rows.{In}
 use Rattle.lsys_syntax.specs.Commands.{Numbering}
 use Rattle.lsys_syntax.specs.Strings as S
 use Rattle.lsys_spec.specs.Draws.{number_base, key_of}
 use Rattle.lsys_change.specs.Nodes.{AreOnce}
 use Rattle.lsys_forest.specs.Nodes.{Node, Nodes}
 use Rattle.lsys_forest.specs.Changes.{Change}
-use Rattle.lsys_forest.specs.Groves.{In, IsSound}
+use Rattle.lsys_forest.specs.Groves.{IsRooted}
 use Rattle.lsys_forest.specs.Rows.{kids_in}
 use Rattle.lsys_brood.specs.declared.number.Number.{Number}
 use Rattle.lsys_brood.specs.declared.need.Need.{Need}
 use Rattle.lsys_brood.specs.declared.child.Child.{Child}
 use Rattle.lsys_brood.specs.Matches.{nodes_without}
-use Rattle.lsys_brood.specs.Children.{Told, numbers_of, need_at, AreRenewed, TellsOf}
+use Rattle.lsys_brood.specs.Children.{ToldNodes, numbers_of, need_at, AreRenewed, TellsOf}
 use Rattle.lsys_wanted.specs.Wishes.{AreWanted}
 use Rattle.lsys_kept.specs.Lineages.{kins}
 use Rattle.lsys_repair.specs.Renewals.{AreSmall, AreAllUnder, AreRenewals}
@@ -46,7 +47,7 @@ module _ {A : Type 0} where
       ap (λ (qs : List Number). nodes_without m qs n.kids) (numbers_wanted g key zs ws a) ∙ ap (λ (o : Option (Node A)). nodes_without m (map number_told (wanted_symbols g zs)) (kids_in o)) (sym is)
 
   module _ (g : Numbering) (seed : ℕ) (old new : Nodes A) (root : ℕ) (changes : List (Change A)) (zs : List (S.Symbol ℤ)) (ws : List Child) (n : Node A)
-      (sound : IsSound root changes old) (once : AreOnce (kins old) root) (small : AreSmall old) (under : AreAllUnder old root root)
+      (sound : IsRooted root changes old) (once : AreOnce (kins old) root) (small : AreSmall old) (under : AreAllUnder old root root)
       (is : old root ≡ Some n) (deep : n.depth ≡ 0) (r : AreRenewed old new root n ws (kids_in (new root))) (a : AreWanted g seed zs ws) where
     start : AreRenewals g seed old old root 0 (λ k. zs) []
     start = begins g seed old root 0 (λ k. zs) once small
@@ -61,5 +62,5 @@ module _ {A : Type 0} where
         let w = all_made (λ w. w.number.count < number_base) old new root (n.depth + 1) n.kids ws (kids_in (new root)) r.made r.named a.small k l in
         elim w.1.from [ inl b ↦ inl b.0.vacant | inr x ↦ inr x.1 ]
 
-    pub first_told : (t after : Told) → TellsOf old new root n ws (kids_in (new root)) t after → TellsAllOf old new (root ∷ []) t after
+    pub first_told : (t after : ToldNodes) → TellsOf old new root n ws (kids_in (new root)) t after → TellsAllOf old new (root ∷ []) t after
     first_told t after told = told_more g seed old old new root 0 (λ k. zs) [] changes changes root n ws start sound sound is is deep (λ i. i) (λ k i. refl) r made_from t t after (none_told old t) told

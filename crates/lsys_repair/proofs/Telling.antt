@@ -2,26 +2,27 @@
 use Rattle.std.proofs.Common.{◌≡◌, ◌≢◌, ◌⊎◌, ◌↔◌, ◌+◌, ℕ, Bool, List, [], ◌∷◌, Option, Some, None, refl, sym, ap, ◌∙◌, subst, arith, inl, inr, cond}
 use Rattle.std.specs.Prelude.{IsSome, option_map}
 use Rattle.std.proofs.lemmas.Option.{none-some, same_Some}
+use Rattle.lsys_spec.specs.Rows.{In}
 use Rattle.lsys_syntax.specs.Commands.{Numbering}
 use Rattle.lsys_change.specs.Nodes.{Kin}
 use Rattle.lsys_forest.specs.Nodes.{Node, Nodes}
 use Rattle.lsys_forest.specs.Changes.{Change}
-use Rattle.lsys_forest.specs.Groves.{In, IsSound}
+use Rattle.lsys_forest.specs.Groves.{IsRooted}
 use Rattle.lsys_forest.specs.Rows.{kids_in}
 use Rattle.lsys_forest.proofs.RowLemmas as rows
 use Rattle.lsys_brood.specs.declared.number.Number.{Number}
 use Rattle.lsys_brood.specs.declared.child.Child.{Child}
-use Rattle.lsys_brood.specs.Matches.{number_in, nodes_where}
-use Rattle.lsys_brood.specs.Children.{Told, Tells, TellsAll, IsNew, HasTurned, KeepsSymbol, KeepsChildren, AreRenewed, TellsOf, seen_in_node, kind_in_node}
+use Rattle.lsys_brood.specs.Matches.{node_number, nodes_where}
+use Rattle.lsys_brood.specs.Children.{ToldNodes, TellsIf, TellsAll, IsNewNode, HasTurned, KeepsSymbol, KeepsChildren, AreRenewed, TellsOf, seen_in_node, kind_in_node}
 use Rattle.lsys_kept.specs.Lineages.{kin_of}
 use Rattle.lsys_repair.specs.Nexts.{Successors}
 use Rattle.lsys_repair.specs.Renewals.{AreRenewals}
 use Rattle.lsys_repair.proofs.Renewing.{in_cases}
-use Rattle.lsys_repair.specs.Made.{IsBelow, TellsAllOf}
+use Rattle.lsys_repair.specs.Made.{IsChildOfAny, TellsAllOf}
 
 -- 1. lists
 
-one_told : (P Q : ℕ → Type 0) → ((k : ℕ) → P k → Q k → ⊥) → (j : ℕ) (ks before between after : List ℕ) → Tells P Q j before between → (k : ℕ) → In k after ↔ (In k between ⊎ (In k ks × P k))
+one_told : (P Q : ℕ → Type 0) → ((k : ℕ) → P k → Q k → ⊥) → (j : ℕ) (ks before between after : List ℕ) → TellsIf P Q j before between → (k : ℕ) → In k after ↔ (In k between ⊎ (In k ks × P k))
     → In k after ↔ (In k before ⊎ (In k (j ∷ ks) × P k))
 one_told P Q apart j ks before between after t k more = (forth, back)
   where
@@ -60,7 +61,7 @@ tells_in P Q apart (j ∷ ks) before after t k = one_told P Q apart j ks before 
 pub where_same : {A : Type 0} (test : Number → Bool) (old new : Nodes A) (ks : List ℕ) → ((k : ℕ) → In k ks → new k ≡ old k) → nodes_where test new ks ≡ nodes_where test old ks
 where_same test old new [] h = refl
 where_same test old new (k ∷ ks) h =
-    λ i. cond (test (number_in (h k (inl refl) i))) (k ∷ where_same test old new ks (λ j l. h j (inr l)) i) (where_same test old new ks (λ j l. h j (inr l)) i)
+    λ i. cond (test (node_number (h k (inl refl) i))) (k ∷ where_same test old new ks (λ j l. h j (inr l)) i) (where_same test old new ks (λ j l. h j (inr l)) i)
 
 module _ {A : Type 0} where
   kin_from : (o : Option (Node A)) (a : Kin) → option_map (λ (n : Node A). kin_of n) o ≡ Some a → (x : Node A) × (o ≡ Some x) × (a ≡ kin_of x)
@@ -77,7 +78,7 @@ module _ {A : Type 0} where
   turned_second : (o n n' : Nodes A) (k : ℕ) → n k ≡ n' k → HasTurned o n k → HasTurned o n' k
   turned_second o n n' k e h = record { node = h.node; was = h.was; other = λ x. h.other (ap (λ (y : Option (Node A)). option_map seen_in_node y) e ∙ x) }
 
-  pub none_told : (m : Nodes A) (t : Told) → TellsAllOf m m [] t t
+  pub none_told : (m : Nodes A) (t : ToldNodes) → TellsAllOf m m [] t t
   none_told m t = record {
     touched = λ k. (λ i. inl i, λ s. elim s [ inl i ↦ i | inr n ↦ absurd n.0 ]);
     changed = λ k. (λ i. inl i, λ s. elim s [ inl i ↦ i | inr n ↦ absurd n.0.1 ]);
@@ -87,7 +88,7 @@ module _ {A : Type 0} where
   -- 2. a step
 
   module _ (g : Numbering) (seed : ℕ) (old mid new : Nodes A) (root depth : ℕ) (by : Successors) (done : List ℕ) (changes changes' : List (Change A)) (p : ℕ) (n : Node A) (ws : List Child)
-      (h : AreRenewals g seed old mid root depth by done) (sound : IsSound root changes old) (sound_mid : IsSound root changes' mid)
+      (h : AreRenewals g seed old mid root depth by done) (sound : IsRooted root changes old) (sound_mid : IsRooted root changes' mid)
       (was : old p ≡ Some n) (is : mid p ≡ Some n) (deep : n.depth ≡ depth) (fresh : In p done → ⊥)
       (kids_same : (k : ℕ) → In k n.kids → mid k ≡ old k)
       (r : AreRenewed mid new p n ws (kids_in (new p))) (small : (k : ℕ) → In k (kids_in (new p)) → (mid k ≡ None) ⊎ In k n.kids) where
@@ -182,7 +183,7 @@ module _ {A : Type 0} where
       kinds = λ k l x e. ap (λ (o : Option (Node A)). option_map kind_in_node o) (sym (had_stays q k i l)) ∙ c.kinds k l x e;
     }
 
-    module _ (before t after : Told) (so_far : TellsAllOf old mid done before t) (told : TellsOf mid new p n ws ks t after) where
+    module _ (before t after : ToldNodes) (so_far : TellsAllOf old mid done before t) (told : TellsOf mid new p n ws ks t after) where
       touched_kept : (k : ℕ) → In k t.touched → In k after.touched
       touched_kept k i = elim told.touched [
         | inl one ↦ subst (In k) (sym one.1) (rows.In_left k t.touched (p ∷ []) i)
@@ -215,10 +216,10 @@ module _ {A : Type 0} where
       ]
 
       below : (P R S : ℕ → Type 0) → ((k : ℕ) → In k ks → R k ↔ S k) → ((q k : ℕ) → In q done → In k (kids_in (mid q)) → P k ↔ S k) → (b m a : List ℕ)
-          → ((k : ℕ) → In k m ↔ (In k b ⊎ (IsBelow mid done k × P k))) → ((k : ℕ) → In k a ↔ (In k m ⊎ (In k ks × R k))) → (k : ℕ) → In k a ↔ (In k b ⊎ (IsBelow new (p ∷ done) k × S k))
+          → ((k : ℕ) → In k m ↔ (In k b ⊎ (IsChildOfAny mid done k × P k))) → ((k : ℕ) → In k a ↔ (In k m ⊎ (In k ks × R k))) → (k : ℕ) → In k a ↔ (In k b ⊎ (IsChildOfAny new (p ∷ done) k × S k))
       below P R S one rest b m a first step k = (forth, back)
         where
-          forth : In k a → In k b ⊎ (IsBelow new (p ∷ done) k × S k)
+          forth : In k a → In k b ⊎ (IsChildOfAny new (p ∷ done) k × S k)
           forth i = elim ((step k).0 i) [
             | inl l ↦ elim ((first k).0 l) [
               | inl u ↦ inl u
@@ -233,7 +234,7 @@ module _ {A : Type 0} where
           there : (q : ℕ) → In q done → In k (kids_in (new q)) → S k → In k a
           there q i l s = let l' = subst (λ (o : Option (Node A)). In k (kids_in o)) (self_stays q i) l in (step k).1 (inl ((first k).1 (inr ((q, i, l'), (rest q k i l').1 s))))
 
-          back : In k b ⊎ (IsBelow new (p ∷ done) k × S k) → In k a
+          back : In k b ⊎ (IsChildOfAny new (p ∷ done) k × S k) → In k a
           back (inl u) = (step k).1 (inl ((first k).1 (inl u)))
           back (inr u) = elim u.0.1 [ inl e ↦ here u.0.0 e u.0.2 u.1 | inr i ↦ there u.0.0 i u.0.2 u.1 ]
 
@@ -245,8 +246,8 @@ module _ {A : Type 0} where
             (λ q k i l. (turned_second old mid new k (sym (has_stays q k i l)), turned_second old new mid k (has_stays q k i l))) before.changed t.changed after.changed so_far.changed
             (tells_in (HasTurned mid new) (KeepsSymbol mid new) (λ k u v. u.other (v u.node u.was)) ks t.changed after.changed told.changed);
         added =
-            below (IsNew old) (IsNew mid) (IsNew old) (λ k i. (λ e. sym (made_same k i) ∙ e, λ e. made_same k i ∙ e)) (λ q k i l. (λ e. e, λ e. e)) before.added t.added after.added so_far.added
-            (tells_in (IsNew mid) (λ k. IsSome (mid k)) (λ k u v. none_lives (mid k) u v) ks t.added after.added told.added);
+            below (IsNewNode old) (IsNewNode mid) (IsNewNode old) (λ k i. (λ e. sym (made_same k i) ∙ e, λ e. made_same k i ∙ e)) (λ q k i l. (λ e. e, λ e. e)) before.added t.added after.added so_far.added
+            (tells_in (IsNewNode mid) (λ k. IsSome (mid k)) (λ k u v. none_lives (mid k) u v) ks t.added after.added told.added);
       }
         where
           none_lives : (o : Option (Node A)) → o ≡ None → IsSome o → ⊥

@@ -13,7 +13,7 @@ use Rattle.lsys_match.specs.Kept.{Kept}
 use Rattle.lsys_repair.specs.Nexts.{AreClosed, node_kind}
 use Rattle.lsys_repair.specs.Answers.{kept_successors}
 use Rattle.lsys_repair.specs.declared.parent.Parent.{Parent}
-use Rattle.lsys_repair.specs.Parents.{walked}
+use Rattle.lsys_repair.specs.Parents.{cut_parents}
 
 -- what is being cut off behind these nodes
 abbrev pub cut_behind : Nodes Kept → Option ℕ → List ℕ → Option ℕ
@@ -26,7 +26,7 @@ behind_push m o [] k = refl
 behind_push m o (j ∷ ks) k = behind_push m (reached o (node_kind m j) (is_open (kept_successors m j))) ks k
 
 walked_push : (m : Nodes Kept) (o : Option ℕ) (ks : List ℕ) (k : ℕ)
-    → walked m o (ks ++ k ∷ []) ≡ walked m o ks ++ record { node = k; is_cut = not (stays (cut_behind m o ks) (node_kind m k)) } ∷ []
+    → cut_parents m o (ks ++ k ∷ []) ≡ cut_parents m o ks ++ record { node = k; is_cut = not (stays (cut_behind m o ks) (node_kind m k)) } ∷ []
 walked_push m o [] k = refl
 walked_push m o (j ∷ ks) k = ap (λ (l : List Parent). record { node = j; is_cut = not (stays o (node_kind m j)) } ∷ l) (walked_push m (reached o (node_kind m j) (is_open (kept_successors m j))) ks k)
 
@@ -37,14 +37,14 @@ closed_push m (j ∷ ks) k a h = (a.0, closed_push m ks k a.1 h)
 
 -- So many nodes of a level were walked.
 pub record IsWalked (m : Nodes Kept) (ks : List ℕ) (i : ℕ) (before after : List Parent) (cutting : Option ℕ) (opens : Bool) : Type 0 where
-  pub parents : after ≡ before ++ walked m None (take i ks)
+  pub parents : after ≡ before ++ cut_parents m None (take i ks)
   pub cut : cutting ≡ cut_behind m None (take i ks)
   pub few : IfSome cutting (λ branches. branches ≤ i)
   pub closed : opens ≡ false → AreClosed (kept_successors m) (take i ks)
 
 pub walk_begins : (m : Nodes Kept) (ks : List ℕ) (before : List Parent) → IsWalked m ks 0 before before None false
 walk_begins m ks before = record {
-  parents = sym (append-nil before) ∙ ap (λ (xs : List ℕ). before ++ walked m None xs) (sym (take_none ks));
+  parents = sym (append-nil before) ∙ ap (λ (xs : List ℕ). before ++ cut_parents m None xs) (sym (take_none ks));
   cut = ap (cut_behind m None) (sym (take_none ks));
   few = tt;
   closed = λ e. subst (AreClosed (kept_successors m)) (sym (take_none ks)) tt;
@@ -83,10 +83,10 @@ pub walk_goes_on : (m : Nodes Kept) (ks : List ℕ) (i k : ℕ) (before after : 
 walk_goes_on m ks i k before after cutting next opens one both p w here e f g few h = record {
   parents =
       ap (λ (l : List Parent). l ++ p ∷ []) w.parents
-      ∙ append_assoc before (walked m None (take i ks)) (p ∷ [])
-      ∙ ap (λ (q : Parent). before ++ (walked m None (take i ks) ++ q ∷ [])) (f ∙ ap (λ o. record { node = k; is_cut = not (stays o (node_kind m k)) }) w.cut)
+      ∙ append_assoc before (cut_parents m None (take i ks)) (p ∷ [])
+      ∙ ap (λ (q : Parent). before ++ (cut_parents m None (take i ks) ++ q ∷ [])) (f ∙ ap (λ o. record { node = k; is_cut = not (stays o (node_kind m k)) }) w.cut)
       ∙ ap (λ (l : List Parent). before ++ l) (sym (walked_push m None (take i ks) k))
-      ∙ ap (λ (xs : List ℕ). before ++ walked m None xs) (sym more);
+      ∙ ap (λ (xs : List ℕ). before ++ cut_parents m None xs) (sym more);
   cut = g ∙ ap (λ o. reached o (node_kind m k) one) w.cut ∙ ap (reached (cut_behind m None (take i ks)) (node_kind m k)) e ∙ sym (behind_push m None (take i ks) k) ∙ ap (cut_behind m None) (sym more);
   few = few;
   closed = λ none.
@@ -99,7 +99,7 @@ walk_goes_on m ks i k before after cutting next opens one both p w here e f g fe
 
 pub walk_ends : (m : Nodes Kept) (ks : List ℕ) (i : ℕ) (before after : List Parent) (cutting : Option ℕ) (opens : Bool)
     → length ks ≤ i → IsWalked m ks i before after cutting opens
-    → (after ≡ before ++ walked m None ks) × (opens ≡ false → AreClosed (kept_successors m) ks)
+    → (after ≡ before ++ cut_parents m None ks) × (opens ≡ false → AreClosed (kept_successors m) ks)
 walk_ends m ks i before after cutting opens h w =
     let all : take i ks ≡ ks = take_all i ks h in
-    (w.parents ∙ ap (λ (xs : List ℕ). before ++ walked m None xs) all, λ e. subst (AreClosed (kept_successors m)) all (w.closed e))
+    (w.parents ∙ ap (λ (xs : List ℕ). before ++ cut_parents m None xs) all, λ e. subst (AreClosed (kept_successors m)) all (w.closed e))

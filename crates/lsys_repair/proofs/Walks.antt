@@ -3,6 +3,7 @@ use Rattle.std.proofs.Common.{◌≡◌, ◌≢◌, ◌⊎◌, ◌+◌, ℕ, Boo
 use Rattle.std.specs.Prelude.{ℤ, nat_eq}
 use Rattle.std.proofs.lemmas.Grind.{common_steps}
 use Rattle.std.proofs.lemmas.Option.{none-some, same_Some}
+use Rattle.lsys_spec.specs.Rows.{In, AreApart}
 use Rattle.lsys_syntax.specs.Commands.{Numbering}
 use Rattle.lsys_syntax.specs.Strings as S
 use Rattle.lsys_change.specs.Kinds.{BracketKind, Opens, Closes, Neither, reached}
@@ -10,12 +11,12 @@ use Rattle.lsys_change.specs.Children.{is_open}
 use Rattle.lsys_level.specs.Spots.{Spotted}
 use Rattle.lsys_forest.specs.Nodes.{Node, Nodes}
 use Rattle.lsys_forest.specs.Changes.{Change}
-use Rattle.lsys_forest.specs.Groves.{In, AreApart, IsSound}
+use Rattle.lsys_forest.specs.Groves.{IsRooted}
 use Rattle.lsys_forest.specs.Rows.{kids_in, spot_in, level_nodes}
 use Rattle.lsys_forest.proofs.RowLemmas as rows
 use Rattle.lsys_brood.specs.declared.number.Number.{Number}
 use Rattle.lsys_brood.specs.declared.child.Child.{Child}
-use Rattle.lsys_brood.specs.Matches.{same_number, number_in, node_numbered, some_or}
+use Rattle.lsys_brood.specs.Matches.{same_child_number, node_number, node_numbered, some_or}
 use Rattle.lsys_brood.specs.Children.{bracket_kind, numbers_of, need_of, need_at}
 use Rattle.lsys_repair.specs.Nexts.{Successors, node_kind, wanted_behind, HasWanted, HaveWanted, AreClosed, wanted_in}
 use Rattle.lsys_repair.specs.Renewals.{Renewal, stayed, relisted, turned, came, AreRenewals}
@@ -74,7 +75,7 @@ module _ {A : Type 0} where
       ∙ ap (λ zs. cond (nat_eq k j) (wanted_behind o (node_kind old j) (by j)) zs) (wanted_same old new by (reached o (node_kind old j) (is_open (by j))) js k (λ i l. h i (inr l)))
 
   -- the children of a parent whose turn has not come stay
-  pub kids_stay : (root : ℕ) (changes : List (Change A)) (g : Numbering) (seed : ℕ) (old new : Nodes A) (depth : ℕ) (by : Successors) (done : List ℕ) (k : ℕ) (n : Node A) → IsSound root changes old
+  pub kids_stay : (root : ℕ) (changes : List (Change A)) (g : Numbering) (seed : ℕ) (old new : Nodes A) (depth : ℕ) (by : Successors) (done : List ℕ) (k : ℕ) (n : Node A) → IsRooted root changes old
       → AreRenewals g seed old new root depth by done → (In k done → ⊥) → old k ≡ Some n → n.depth ≡ depth → (j : ℕ) → In j n.kids → new j ≡ old j
   kids_stay root changes g seed old new depth by done k n sound h out is deep j i = go (h.each j)
     where
@@ -92,10 +93,10 @@ module _ {A : Type 0} where
   numbered_stay : (old new : Nodes A) (ks : List ℕ) (q : Number) → ((k : ℕ) → In k ks → new k ≡ old k) → node_numbered new ks q ≡ node_numbered old ks q
   numbered_stay old new [] q h = refl
   numbered_stay old new (k ∷ ks) q h =
-      λ i. some_or (numbered_stay old new ks q (λ j l. h j (inr l)) i) (cond (same_number (number_in (h k (inl refl) i)) q) (Some k) None)
+      λ i. some_or (numbered_stay old new ks q (λ j l. h j (inr l)) i) (cond (same_child_number (node_number (h k (inl refl) i)) q) (Some k) None)
 
   -- so its step takes what it took at the start
-  pub need_stays : (root : ℕ) (changes : List (Change A)) (g : Numbering) (seed : ℕ) (old new : Nodes A) (depth : ℕ) (by : Successors) (done : List ℕ) (k : ℕ) (n : Node A) (ws : List Child) → IsSound root changes old
+  pub need_stays : (root : ℕ) (changes : List (Change A)) (g : Numbering) (seed : ℕ) (old new : Nodes A) (depth : ℕ) (by : Successors) (done : List ℕ) (k : ℕ) (n : Node A) (ws : List Child) → IsRooted root changes old
       → AreRenewals g seed old new root depth by done → (In k done → ⊥) → old k ≡ Some n → n.depth ≡ depth → need_at new n.kids ws ≡ need_at old n.kids ws
   need_stays root changes g seed old new depth by done k n ws sound h out is deep = ap (need_of ws (length n.kids)) (all (numbers_of ws))
     where
@@ -104,7 +105,7 @@ module _ {A : Type 0} where
       all (q ∷ qs) = λ i. numbered_stay old new n.kids q (kids_stay root changes g seed old new depth by done k n sound h out is deep) i ∷ all qs i
 
   -- a parent whose children were not renewed
-  unlisted : (root : ℕ) (changes : List (Change A)) (g : Numbering) (seed : ℕ) (old new : Nodes A) (depth : ℕ) (by : Successors) (done : List ℕ) (k : ℕ) (n : Node A) (zs : List (S.Symbol ℤ)) → IsSound root changes old
+  unlisted : (root : ℕ) (changes : List (Change A)) (g : Numbering) (seed : ℕ) (old new : Nodes A) (depth : ℕ) (by : Successors) (done : List ℕ) (k : ℕ) (n : Node A) (zs : List (S.Symbol ℤ)) → IsRooted root changes old
       → AreRenewals g seed old new root depth by done → (In k done → ⊥) → old k ≡ Some n → n.depth ≡ depth → HasWanted g seed old k zs → HasWanted g seed new k zs
   unlisted root changes g seed old new depth by done k n zs sound h out is deep w =
       wanted_stays g seed old new k zs (list (h.each k)) (name_stays old new root k n h.was_once h.stay is) (λ j i. ap (spot_in j) (kids_stay root changes g seed old new depth by done k n sound h out is deep j (subst (λ o. In j (kids_in o)) is i)))
@@ -116,7 +117,7 @@ module _ {A : Type 0} where
       list (turned x v i o d f) = let same = ap (λ (y : Node A). y.depth) (same_Some n x (sym is ∙ o)) in absurd (omega (arith, same, d, deep))
       list (came q v i o f) = absurd (none-some n (sym o ∙ is))
 
-  module _ (root : ℕ) (changes : List (Change A)) (g : Numbering) (seed : ℕ) (old new : Nodes A) (t : ℕ) (by : Successors) (done : List ℕ) (sound : IsSound root changes old)
+  module _ (root : ℕ) (changes : List (Change A)) (g : Numbering) (seed : ℕ) (old new : Nodes A) (t : ℕ) (by : Successors) (done : List ℕ) (sound : IsRooted root changes old)
       (h : AreRenewals g seed old new root (t + 1) by done) (each : (k : ℕ) → In k (level_nodes old root t) → In k done ⊎ HasWanted g seed old k (by k)) where
     all_wanted : (k : ℕ) → In k (level_nodes old root t) → HasWanted g seed new k (by k)
     all_wanted k i = elim (in_cases k done) [

@@ -2,6 +2,7 @@
 use Rattle.std.proofs.Common.{◌≡◌, ◌≢◌, ◌⊎◌, ◌+◌, ◌*◌, ℕ, map, Option, Some, None, List, [], ◌∷◌, ◌++◌, refl, sym, ap, ◌∙◌, subst, inl, inr, fold}
 use Rattle.std.specs.Prelude.{ℤ, option_map}
 use Rattle.std.proofs.lemmas.Option.{none-some, same_Some}
+use Rattle.lsys_spec.specs.Rows.{In}
 use Rattle.lsys_syntax.specs.Commands.{Numbering}
 use Rattle.lsys_syntax.specs.Strings as S
 use Rattle.lsys_spec.specs.Systems.{Each}
@@ -14,13 +15,13 @@ use Rattle.lsys_level.specs.Spots.{Spotted, with_lineage, named}
 use Rattle.lsys_level.specs.Places.{seen_in}
 use Rattle.lsys_forest.specs.Nodes.{Node, Nodes}
 use Rattle.lsys_forest.specs.Changes.{Change}
-use Rattle.lsys_forest.specs.Groves.{In, IsSound}
+use Rattle.lsys_forest.specs.Groves.{IsRooted}
 use Rattle.lsys_forest.specs.Rows.{kids_in, spot_in}
 use Rattle.lsys_forest.proofs.RowLemmas as rows
 use Rattle.lsys_brood.specs.declared.number.Number.{Number}
 use Rattle.lsys_brood.specs.declared.child.Child.{Child}
 use Rattle.lsys_brood.specs.Matches.{number_of, node_numbered}
-use Rattle.lsys_brood.specs.Children.{numbers_of, born, renewed, IsBorn, IsMade, AreMade, AreRenewed}
+use Rattle.lsys_brood.specs.Children.{numbers_of, born, renewed, IsBorn, IsFoundOrBorn, AreFoundOrBorn, AreRenewed}
 use Rattle.lsys_brood.proofs.FoundLemmas.{numbered_is}
 use Rattle.lsys_wanted.specs.Wishes.{child_number, child_symbol, AreWanted}
 use Rattle.lsys_kept.specs.Lineages.{kin_of, kins, names}
@@ -49,14 +50,14 @@ module _ {A : Type 0} where
     pub key : node.key ≡ w.key
     pub from : (IsBorn old new parent depth w k × (node_numbered old kids w.number ≡ None)) ⊎ ((was : Node A) × In k kids × (old k ≡ Some was) × (node ≡ renewed w was))
 
-  made_for : (old new : Nodes A) (parent depth : ℕ) (kids : List ℕ) (w : Child) (k : ℕ) (o : Option ℕ) → node_numbered old kids w.number ≡ o → IsMade old new parent depth w o k → IsMadeFor old new parent depth kids w k
+  made_for : (old new : Nodes A) (parent depth : ℕ) (kids : List ℕ) (w : Child) (k : ℕ) (o : Option ℕ) → node_numbered old kids w.number ≡ o → IsFoundOrBorn old new parent depth w o k → IsMadeFor old new parent depth kids w k
   made_for old new parent depth kids w k None e h = record { node = born parent depth w; is = h.is; seen = refl; key = refl; from = inl (h, e) }
   made_for old new parent depth kids w k (Some found) e h =
       let same : found ≡ k = sym h.same in
       record { node = renewed w h.node; is = h.is; seen = refl; key = refl; from = inr (h.node, subst (λ j. In j kids) same (numbered_is old kids w.number found e).0, h.was, refl) }
 
   -- each of them, with the child for which it was made
-  pub all_made : (P : Child → Type 0) (old new : Nodes A) (parent depth : ℕ) (kids : List ℕ) (ws : List Child) (ks : List ℕ) → AreMade old new parent depth ws (map (node_numbered old kids) (numbers_of ws)) ks
+  pub all_made : (P : Child → Type 0) (old new : Nodes A) (parent depth : ℕ) (kids : List ℕ) (ws : List Child) (ks : List ℕ) → AreFoundOrBorn old new parent depth ws (map (node_numbered old kids) (numbers_of ws)) ks
       → map (number_of new) ks ≡ numbers_of ws → Each P ws → (k : ℕ) → In k ks → (w : Child) × IsMadeFor old new parent depth kids w k × (number_of new k ≡ w.number) × P w
   all_made P old new parent depth kids [] [] h e p k i = absurd i
   all_made P old new parent depth kids [] (j ∷ ks) h e p k i = absurd h
@@ -67,7 +68,7 @@ module _ {A : Type 0} where
   all_made P old new parent depth kids (w ∷ ws) (j ∷ ks) h e p k (inr i) =
       let more : map (number_of new) ks ≡ numbers_of ws = cc in all_made P old new parent depth kids ws ks h.1 more p.1 k i
 
-  made_map : {X : Type 0} (f : ℕ → X) (d : Child → X) (old new : Nodes A) (parent depth : ℕ) (kids : List ℕ) (ws : List Child) (ks : List ℕ) → AreMade old new parent depth ws (map (node_numbered old kids) (numbers_of ws)) ks
+  made_map : {X : Type 0} (f : ℕ → X) (d : Child → X) (old new : Nodes A) (parent depth : ℕ) (kids : List ℕ) (ws : List Child) (ks : List ℕ) → AreFoundOrBorn old new parent depth ws (map (node_numbered old kids) (numbers_of ws)) ks
       → map (number_of new) ks ≡ numbers_of ws → ((k : ℕ) (w : Child) → IsMadeFor old new parent depth kids w k → number_of new k ≡ w.number → f k ≡ d w) → map f ks ≡ map d ws
   made_map f d old new parent depth kids [] [] h e p = refl
   made_map f d old new parent depth kids [] (j ∷ ks) h e p = absurd h
@@ -79,7 +80,7 @@ module _ {A : Type 0} where
 
   -- 3. the children of one parent
 
-  module _ (root : ℕ) (changes : List (Change A)) (old new : Nodes A) (sound : IsSound root changes old) (p : ℕ) (n : Node A) (was : old p ≡ Some n) where
+  module _ (root : ℕ) (changes : List (Change A)) (old new : Nodes A) (sound : IsRooted root changes old) (p : ℕ) (n : Node A) (was : old p ≡ Some n) where
     -- its parent, and that it is not the root
     pub record IsBelow (k : ℕ) (node : Node A) : Type 0 where
       pub parent_is : node.parent ≡ p
@@ -138,7 +139,7 @@ module _ {A : Type 0} where
       same : (j : ℕ) → In j (kids_in (old k)) → node_symbol new j ≡ node_symbol old j
       same j i = ap (named (names new)) (spots j i) ∙ ap (λ l. with_lineage l (spot_in j (old j)).seen) (subst (λ q. names new q ≡ names old q) (sym (tag_of j (old j))) (kids j i))
 
-  pub same_children : (root : ℕ) (changes : List (Change A)) (old new : Nodes A) (k : ℕ) (n : Node A) (g : Numbering) (seed : ℕ) (zs : List (S.Symbol ℤ)) → IsSound root changes old → AreOnce (kins old) root → Extends (kins old) (kins new)
+  pub same_children : (root : ℕ) (changes : List (Change A)) (old new : Nodes A) (k : ℕ) (n : Node A) (g : Numbering) (seed : ℕ) (zs : List (S.Symbol ℤ)) → IsRooted root changes old → AreOnce (kins old) root → Extends (kins old) (kins new)
       → old k ≡ Some n → AreSameChildren old new k → HasWanted g seed old k zs → HasWanted g seed new k zs
   same_children root changes old new k n g seed zs sound once stay is c w =
       wanted_stays g seed old new k zs c.list (name_stays old new root k n once stay is) c.spots (λ j i. (let u = rows.child root changes old sound k j i in name_stays old new root j u.node once stay u.is)) w

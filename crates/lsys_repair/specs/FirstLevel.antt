@@ -6,7 +6,7 @@ use Rattle.lsys_change.specs.Nodes.{AreOnce}
 use Rattle.lsys_match.specs.Kept.{Kept}
 use Rattle.lsys_forest.specs.Nodes.{Node, Nodes}
 use Rattle.lsys_forest.specs.Changes.{Change}
-use Rattle.lsys_forest.specs.Groves.{IsSound}
+use Rattle.lsys_forest.specs.Groves.{IsRooted}
 use Rattle.lsys_forest.specs.Rows.{level_nodes, kids_in}
 use Rattle.lsys_kept.specs.Lineages.{kins}
 use Rattle.lsys_kept.specs.Levels.{HaveLevels, level_of}
@@ -21,7 +21,7 @@ abbrev pub RenewedRootHasTheAxiom : Type 0
 RenewedRootHasTheAxiom =
     (s : System) (root : ℕ) (changes : List (Change Kept)) (old new : Nodes Kept)
     (n : Node Kept) (ws : List Child)
-    → IsSound root changes old → AreOnce (kins new) root → old root ≡ Some n
+    → IsRooted root changes old → AreOnce (kins new) root → old root ≡ Some n
     → AreRenewed old new root n ws (kids_in (new root))
     → AreWanted s.numbering s.seed s.axiom_string ws
     → HasWanted s.numbering s.seed new root s.axiom_string

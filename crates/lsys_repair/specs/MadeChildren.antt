@@ -1,13 +1,13 @@
 -- The children of some parents are made those that are wanted of them.
 use Rattle.std.specs.Prelude.{◌≡◌, ◌+◌, ◌≤◌, ℕ, List, ◌++◌, Some, Result, OnOk}
+use Rattle.lsys_spec.specs.Rows.{mirrored}
 use Rattle.lsys_reading.specs.declared.parts.Numbering.{Numbering}
 use Rattle.lsys_reading.specs.Commands.{numbering_of}
 use Rattle.lsys_match.specs.Kept.{Kept}
 use Rattle.lsys_forest.specs.Nodes.{Node}
 use Rattle.lsys_forest.specs.Groves.{Grove, now_of, live_nodes}
-use Rattle.lsys_forest.specs.Rows.{mirrored}
 use Rattle.lsys_brood.specs.declared.need.Need.{Need}
-use Rattle.lsys_brood.specs.Children.{Told, SpendsNeed}
+use Rattle.lsys_brood.specs.Children.{ToldNodes, SpendsNeed}
 use Rattle.lsys_repair.specs.Nexts.{Successors}
 use Rattle.lsys_repair.specs.Renewals.{AreRenewals}
 use Rattle.lsys_repair.specs.declared.parent.Parent.{Parent}
@@ -41,18 +41,18 @@ AreAllRenewed g old new ps =
     (mirrored (nodes_in ps))
 
 -- it was told what differs
-abbrev pub TellsOfThem : Grove Kept → Grove Kept → List Parent → Told → Told → Type 0
+abbrev pub TellsOfThem : Grove Kept → Grove Kept → List Parent → ToldNodes → ToldNodes → Type 0
 TellsOfThem old new ps before after =
     TellsAllOf (now_of old) (now_of new) (mirrored (nodes_in ps)) before after
 
 -- and which children are gone
-abbrev pub GoneFromThem : Numbering → Grove Kept → List Parent → Told → Told → Type 0
+abbrev pub GoneFromThem : Numbering → Grove Kept → List Parent → ToldNodes → ToldNodes → Type 0
 GoneFromThem g f ps before after =
     after.gone ≡ before.gone ++ gone_of (numbering_of g) (now_of f) ps
 
 -- where there was memory, the children of one parent are those that are wanted of it, and it was told what differs
 abbrev pub RenewsIfOk : {X E : Type 0} → Result X E → Numbering → Grove Kept → Grove Kept
-    → Parent → Told → Told → Type 0
+    → Parent → ToldNodes → ToldNodes → Type 0
 RenewsIfOk result g old new p before after =
     OnOk result ((n : Node Kept) → now_of old p.node ≡ Some n
     → IsRenewed (numbering_of g) old new p n before after)

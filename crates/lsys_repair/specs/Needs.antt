@@ -26,20 +26,20 @@ abbrev pub number_from : List ℕ → Number
 number_from [] = record { code = 0; count = 0 }
 number_from (n ∷ l) = record { code = n / number_base; count = n % number_base }
 
-abbrev pub number_told : L.Symbol → Number
+abbrev pub number_told : L.LevelSymbol → Number
 number_told s = number_from (L.lineage s)
 
 -- a symbol's parameters, and the room that they take
-abbrev pub params_told : L.Symbol → List ℤ
+abbrev pub params_told : L.LevelSymbol → List ℤ
 params_told (L.Push l) = []
 params_told (L.Pop l) = []
 params_told (L.Module l v) = v.params
 
-abbrev pub room_told : L.Symbol → ℕ
+abbrev pub room_told : L.LevelSymbol → ℕ
 room_told s = list_room (params_told s)
 
 -- the children that a successor wants, under a parent with the empty lineage
-abbrev pub wanted_symbols : Numbering → List (S.Symbol ℤ) → List L.Symbol
+abbrev pub wanted_symbols : Numbering → List (S.Symbol ℤ) → List L.LevelSymbol
 wanted_symbols g zs = cut (children g [] zs)
 
 module _ {A : Type 0} where
@@ -92,8 +92,8 @@ wanted_of_all g m ps = sum_by (wanted_of g m) ps
 abbrev pub had_by_all : Nodes Kept → List Parent → ℕ
 had_by_all m ps = sum_by (had_by m) ps
 
-abbrev pub count_of : Numbering → Nodes Kept → List Parent → Count
-count_of g m ps = record { need = needs g m ps; wanted = wanted_of_all g m ps; had = had_by_all m ps }
+abbrev pub count_of_all : Numbering → Nodes Kept → List Parent → Count
+count_of_all g m ps = record { need = needs g m ps; wanted = wanted_of_all g m ps; had = had_by_all m ps }
 
 -- so it is with the root, of which the axiom wants its own
 abbrev pub count_below : {A : Type 0} → Numbering → Nodes A → ℕ → List (S.Symbol ℤ) → Count
@@ -104,14 +104,14 @@ count_below g m root zs = record {
 }
 
 -- and with one parent
-abbrev pub count_at : Numbering → Nodes Kept → Parent → Count
-count_at g m p = record { need = need_at_parent g m p; wanted = wanted_of g m p; had = had_by m p }
+abbrev pub count_at_parent : Numbering → Nodes Kept → Parent → Count
+count_at_parent g m p = record { need = need_at_parent g m p; wanted = wanted_of g m p; had = had_by m p }
 
 abbrev pub with_count : Count → Count → Count
 with_count a b = record { need = with_need a.need b.need; wanted = a.wanted + b.wanted; had = a.had + b.had }
 
 -- a count is no more than n parents with h children can have
-pub record IsSmall (n h : ℕ) (c : Count) : Type 0 where
+pub record IsBoundedCount (n h : ℕ) (c : Count) : Type 0 where
   pub nodes : c.need.nodes ≤ n * 2 ^ 12
   pub params : c.need.params ≤ n * 2 ^ 16
   pub kids : c.need.kids ≤ n * 2 ^ 16

@@ -1,9 +1,9 @@
 -- How long the next level is, before it is made.
 use Rattle.std.specs.Prelude.{◌≡◌, ◌⊎◌, ◌+◌, ℕ, ℤ, List, length, sum_by}
+use Rattle.lsys_spec.specs.Rows.{In, AreApart}
 use Rattle.lsys_syntax.specs.Strings as S
 use Rattle.lsys_syntax.specs.Commands.{Numbering}
 use Rattle.lsys_forest.specs.Nodes.{Nodes}
-use Rattle.lsys_forest.specs.Groves.{In, AreApart}
 use Rattle.lsys_forest.specs.Rows.{kids_below, kids_in}
 use Rattle.lsys_brood.specs.declared.child.Child.{Child}
 use Rattle.lsys_wanted.specs.Wishes.{AreWanted}

@@ -4,8 +4,7 @@ use Rattle.lsys_syntax.specs.Strings as S
 use Rattle.lsys_spec.specs.Draws.{number_base, key_of}
 use Rattle.lsys_spec.specs.Systems.{System, WellSpelled}
 use Rattle.lsys_spec.specs.Levels as L
-use Rattle.lsys_spec.specs.Meaning.{next_level, meaning_to, last_level}
-use Rattle.lsys_change.specs.Children.{replacement}
+use Rattle.lsys_spec.specs.Meaning.{next_level, meaning_to, last_level, replacement}
 use Rattle.lsys_level.specs.Spots.{Spotted}
 use Rattle.lsys_walks.specs.Stores.{Store}
 use Rattle.lsys_match.specs.Kept.{Kept}
@@ -52,7 +51,7 @@ RightAnswerReplacesItsNode =
 -- What replaces a symbol has no more symbols than there are numbers for one code.
 abbrev pub SuccessorsAreShort : Type 0
 SuccessorsAreShort =
-    (s : System) (t : ℕ) (x : List L.Symbol) (p : ℕ) (a : L.Symbol)
+    (s : System) (t : ℕ) (x : List L.LevelSymbol) (p : ℕ) (a : L.LevelSymbol)
     (zs : List (S.Symbol ℤ))
     → WellSpelled s → replacement s t x p a ≡ Ok zs → length zs ≤ number_base
 

@@ -1,5 +1,6 @@
 -- Nodes whose children are the wanted ones.
 use Rattle.std.specs.Prelude.{◌≡◌, ◌+◌, ℕ, ℤ, false, Option, Some, None, Ok, Err, List, [], ◌∷◌, ◌++◌, length, map, nat_eq, slice_get, sum_by, if◌then◌else◌}
+use Rattle.lsys_spec.specs.Rows.{In}
 use Rattle.lsys_syntax.specs.Commands.{Numbering}
 use Rattle.lsys_syntax.specs.Strings as S
 use Rattle.lsys_spec.specs.Draws.{key_of}
@@ -7,14 +8,14 @@ use Rattle.lsys_spec.specs.Systems.{System, WellSpelled}
 use Rattle.lsys_spec.specs.Levels as L
 use Rattle.lsys_spec.specs.Choice.{Fault}
 use Rattle.lsys_spec.specs.Cuts.{cut}
-use Rattle.lsys_spec.specs.Meaning.{children, meaning_to}
+use Rattle.lsys_spec.specs.Meaning.{children, meaning_to, replacement}
 use Rattle.lsys_change.specs.Kinds.{BracketKind, Opens, Closes, Neither, stays, reached}
-use Rattle.lsys_change.specs.Children.{is_open, replacement}
+use Rattle.lsys_change.specs.Children.{is_open}
 use Rattle.lsys_change.specs.Nodes.{AreOnce}
 use Rattle.lsys_level.specs.Spots.{named}
 use Rattle.lsys_forest.specs.Nodes.{Nodes}
 use Rattle.lsys_forest.specs.Changes.{Change}
-use Rattle.lsys_forest.specs.Groves.{In, IsSound}
+use Rattle.lsys_forest.specs.Groves.{IsRooted}
 use Rattle.lsys_forest.specs.Rows.{kids_in, spot_in, level_nodes}
 use Rattle.lsys_brood.specs.Children.{bracket_kind}
 use Rattle.lsys_kept.specs.Lineages.{kins, names}
@@ -47,7 +48,7 @@ count_kind Closes n = n
 
 module _ {A : Type 0} where
   -- a node as a symbol of its level, and its kind
-  abbrev pub node_symbol : Nodes A → ℕ → L.Symbol
+  abbrev pub node_symbol : Nodes A → ℕ → L.LevelSymbol
   node_symbol m k = named (names m) (spot_in k (m k))
 
   abbrev pub node_kind : Nodes A → ℕ → BracketKind
@@ -97,7 +98,7 @@ pub record AreLevels (s : System) (limit n : ℕ) (m : Nodes Kept) (root : ℕ) 
   pub levels : HaveLevels m root s.seed (meant_to s limit n)
   pub once : AreOnce (kins m) root
   pub changes : List (Change Kept)
-  pub sound : IsSound root changes m
+  pub sound : IsRooted root changes m
 
 -- The nodes up to level t are the system's levels, with their keys, and it is told what replaces each node of level t.
 pub record HaveSuccessors (s : System) (limit t : ℕ) (m : Nodes Kept) (root : ℕ)

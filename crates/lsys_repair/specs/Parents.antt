@@ -1,12 +1,12 @@
 -- Parents whose children are made, and what is wanted of them.
 use Rattle.std.specs.Prelude.{◌≡◌, ◌≤◌, ℕ, ℤ, false, not, if◌then◌else◌, List, [], ◌∷◌, length, Option, Some, map}
+use Rattle.lsys_spec.specs.Rows.{In, AreApart}
 use Rattle.lsys_syntax.specs.Strings as S
 use Rattle.lsys_spec.specs.Draws.{number_base, key_of}
 use Rattle.lsys_change.specs.Kinds.{stays, reached}
 use Rattle.lsys_change.specs.Children.{is_open}
 use Rattle.lsys_change.specs.Nodes.{AreOnce}
 use Rattle.lsys_forest.specs.Nodes.{Node, Nodes}
-use Rattle.lsys_forest.specs.Groves.{In, AreApart}
 use Rattle.lsys_kept.specs.Lineages.{kins, names}
 use Rattle.lsys_match.specs.Kept.{Kept}
 use Rattle.lsys_repair.specs.Nexts.{Successors, node_kind}
@@ -14,12 +14,12 @@ use Rattle.lsys_repair.specs.Renewals.{AreSmall, AreAllUnder}
 use Rattle.lsys_repair.specs.Answers.{kept_successors}
 use Rattle.lsys_repair.specs.declared.parent.Parent.{Parent}
 
-abbrev pub node_in : Parent → ℕ
-node_in p = p.node
+abbrev pub parent_node : Parent → ℕ
+parent_node p = p.node
 
 -- their nodes, in order
 abbrev pub nodes_in : List Parent → List ℕ
-nodes_in ps = map node_in ps
+nodes_in ps = map parent_node ps
 
 -- what is wanted of a parent: what replaces it, and nothing where its children are cut off
 abbrev pub wants : Nodes Kept → Parent → List (S.Symbol ℤ)
@@ -31,13 +31,13 @@ AreToldBy by m [] = Unit {0}
 AreToldBy by m (p ∷ ps) = (by p.node ≡ wants m p) × AreToldBy by m ps
 
 -- nodes of a level as parents: which of them a walk from the left finds to be cut off, behind what is being cut off
-abbrev pub walked : Nodes Kept → Option ℕ → List ℕ → List Parent
-walked m o [] = []
-walked m o (k ∷ ks) = record { node = k; is_cut = not (stays o (node_kind m k)) } ∷ walked m (reached o (node_kind m k) (is_open (kept_successors m k))) ks
+abbrev pub cut_parents : Nodes Kept → Option ℕ → List ℕ → List Parent
+cut_parents m o [] = []
+cut_parents m o (k ∷ ks) = record { node = k; is_cut = not (stays o (node_kind m k)) } ∷ cut_parents m (reached o (node_kind m k) (is_open (kept_successors m k))) ks
 
 -- nodes as parents of which none is cut off
-abbrev pub whole : ℕ → Parent
-whole k = record { node = k; is_cut = false }
+abbrev pub uncut : ℕ → Parent
+uncut k = record { node = k; is_cut = false }
 
 -- A node of this depth has the key that its lineage gives it by the seed, and all nodes of this parent are its children; what
 -- replaces it has no more symbols than there are numbers for a code.

@@ -1,11 +1,11 @@
 -- Why a system has no levels.
 use Rattle.std.specs.Prelude.{◌≡◌, ◌+◌, ◌<◌, ℕ, List, length, sum_by, Err}
+use Rattle.lsys_spec.specs.Rows.{AreApart}
 use Rattle.lsys_spec.specs.Systems.{System}
 use Rattle.lsys_spec.specs.Choice.{Fault}
 use Rattle.lsys_spec.specs.Meaning.{OverLimit, FaultAt, meaning}
 use Rattle.lsys_match.specs.Kept.{Kept}
 use Rattle.lsys_forest.specs.Nodes.{Nodes}
-use Rattle.lsys_forest.specs.Groves.{AreApart}
 use Rattle.lsys_forest.specs.Rows.{level_nodes}
 use Rattle.lsys_kept.specs.Meant.{meant_to}
 use Rattle.lsys_repair.specs.Nexts.{Successors, wanted_count, count_wanted, HaveSuccessors, module_nodes, HasFirstFault}

@@ -1,11 +1,12 @@
 -- Parents of one depth whose children are renewed one after the other.
 use Rattle.std.specs.Prelude.{◌≡◌, ◌⊎◌, ◌+◌, ℕ, List, [], ◌∷◌, None, Some}
+use Rattle.lsys_spec.specs.Rows.{In}
 use Rattle.lsys_syntax.specs.Commands.{Numbering}
 use Rattle.lsys_spec.specs.Draws.{key_of}
 use Rattle.lsys_change.specs.Nodes.{AreOnce}
 use Rattle.lsys_forest.specs.Nodes.{Node, Nodes}
 use Rattle.lsys_forest.specs.Changes.{Change}
-use Rattle.lsys_forest.specs.Groves.{IsSound, In}
+use Rattle.lsys_forest.specs.Groves.{IsRooted}
 use Rattle.lsys_forest.specs.Rows.{level_nodes, kids_in}
 use Rattle.lsys_kept.specs.Lineages.{kins, names}
 use Rattle.lsys_brood.specs.declared.child.Child.{Child}
@@ -26,7 +27,7 @@ OneMoreParentIsRenewed A =
     (g : Numbering) (seed : ℕ) (old mid new : Nodes A) (root depth : ℕ)
     (by : Successors) (done : List ℕ) (changes : List (Change A))
     (p : ℕ) (n : Node A) (ws : List Child)
-    → AreRenewals g seed old mid root depth by done → IsSound root changes mid
+    → AreRenewals g seed old mid root depth by done → IsRooted root changes mid
     → old p ≡ Some n → n.depth ≡ depth → (In p done → ⊥) → AreAllUnder old root p
     → AreRenewed mid new p n ws (kids_in (new p))
     → AreWanted g (key_of seed (names old p)) (by p) ws
@@ -45,7 +46,7 @@ abbrev pub ChildrenStayTillTheirTurn : Type 0 → Type 0
 ChildrenStayTillTheirTurn A =
     (g : Numbering) (seed : ℕ) (old mid : Nodes A) (root depth : ℕ)
     (by : Successors) (done : List ℕ) (changes : List (Change A)) (p : ℕ) (n : Node A)
-    → AreRenewals g seed old mid root depth by done → IsSound root changes old
+    → AreRenewals g seed old mid root depth by done → IsRooted root changes old
     → old p ≡ Some n → n.depth ≡ depth → (In p done → ⊥)
     → (k : ℕ) → In k n.kids → mid k ≡ old k
 
@@ -55,7 +56,7 @@ StepNeedsWhatItNeededAtFirst A =
     (g : Numbering) (seed : ℕ) (old mid : Nodes A) (root depth : ℕ)
     (by : Successors) (done : List ℕ) (changes : List (Change A))
     (p : ℕ) (n : Node A) (ws : List Child)
-    → AreRenewals g seed old mid root depth by done → IsSound root changes old
+    → AreRenewals g seed old mid root depth by done → IsRooted root changes old
     → old p ≡ Some n → n.depth ≡ depth → (In p done → ⊥)
     → need_at mid n.kids ws ≡ need_at old n.kids ws
 
@@ -71,7 +72,7 @@ abbrev pub RenewedLevelWantsAlone : Type 0 → Type 0
 RenewedLevelWantsAlone A =
     (g : Numbering) (seed : ℕ) (old new : Nodes A) (root t : ℕ) (by : Successors)
     (done : List ℕ) (changes : List (Change A))
-    → IsSound root changes old → AreRenewals g seed old new root (t + 1) by done
+    → IsRooted root changes old → AreRenewals g seed old new root (t + 1) by done
     → ((k : ℕ) → In k (level_nodes old root t) → In k done ⊎ HasWanted g seed old k (by k))
     → AreClosed by (level_nodes old root t)
     → HaveWanted g seed new by None (level_nodes new root t)
@@ -81,7 +82,7 @@ abbrev pub RenewedLevelIsAsWalked : Type 0 → Type 0
 RenewedLevelIsAsWalked A =
     (g : Numbering) (seed : ℕ) (old new : Nodes A) (root t : ℕ)
     (by succ : Successors) (done : List ℕ) (changes : List (Change A))
-    → IsSound root changes old → AreRenewals g seed old new root (t + 1) by done
+    → IsRooted root changes old → AreRenewals g seed old new root (t + 1) by done
     → ((k : ℕ) → In k (level_nodes old root t) → In k done ⊎ HasWanted g seed old k (by k))
     → ((k : ℕ) → by k ≡ wanted_in old succ None (level_nodes old root t) k)
     → HaveWanted g seed new succ None (level_nodes new root t)

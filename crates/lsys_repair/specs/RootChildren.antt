@@ -8,7 +8,7 @@ use Rattle.lsys_forest.specs.Groves.{Grove, now_of}
 use Rattle.lsys_forest.specs.Rows.{kids_in}
 use Rattle.lsys_brood.specs.declared.need.Need.{Need}
 use Rattle.lsys_brood.specs.Matches.{nodes_without}
-use Rattle.lsys_brood.specs.Children.{Told, SpendsNeed}
+use Rattle.lsys_brood.specs.Children.{ToldNodes, SpendsNeed}
 use Rattle.lsys_repair.specs.Renewals.{AreRenewals}
 use Rattle.lsys_repair.specs.declared.count.Count.{Count}
 use Rattle.lsys_repair.specs.Needs.{need_for, number_told, wanted_symbols, count_below}
@@ -36,12 +36,12 @@ module _ {A : Type 0} where
       (λ k. string_of symbols) (old.root ∷ [])
 
   -- it was told what differs
-  abbrev pub TellsOfRoot : Grove A → Grove A → Told → Told → Type 0
+  abbrev pub TellsOfRoot : Grove A → Grove A → ToldNodes → ToldNodes → Type 0
   TellsOfRoot old new before after =
       TellsAllOf (now_of old) (now_of new) (old.root ∷ []) before after
 
   -- and which children are gone
-  abbrev pub GoneFromRoot : Numbering → Grove A → List Symbol → Told → Told → Type 0
+  abbrev pub GoneFromRoot : Numbering → Grove A → List Symbol → ToldNodes → ToldNodes → Type 0
   GoneFromRoot g f symbols before after =
       after.gone
       ≡ before.gone ++ nodes_without (now_of f)

@@ -1,14 +1,15 @@
 -- The nodes of a level as parents, by what replaces them.
 use Rattle.std.specs.Prelude.{◌≡◌, ◌≤◌, ℕ, List, ◌++◌, length, None, Vec}
 use Rattle.std.specs.declared.alloc.Global.{Global}
+use Rattle.lsys_spec.specs.Rows.{In}
 use Rattle.lsys_spec.specs.Draws.{number_base}
 use Rattle.lsys_match.specs.Kept.{Kept}
 use Rattle.lsys_forest.specs.Nodes.{Nodes}
-use Rattle.lsys_forest.specs.Groves.{Grove, In, now_of}
+use Rattle.lsys_forest.specs.Groves.{Grove, now_of}
 use Rattle.lsys_repair.specs.Nexts.{AreClosed}
 use Rattle.lsys_repair.specs.Answers.{kept_successors}
 use Rattle.lsys_repair.specs.declared.parent.Parent.{Parent}
-use Rattle.lsys_repair.specs.Parents.{walked}
+use Rattle.lsys_repair.specs.Parents.{cut_parents}
 
 -- what replaces each of these nodes has no more symbols than there are numbers for a code
 abbrev pub HaveShortSuccessors : Nodes Kept → List ℕ → Type 0
@@ -20,4 +21,4 @@ NoneReaches m nodes = AreClosed (kept_successors m) nodes
 
 -- the nodes came behind some parents, as a walk from the left finds which of them are cut off
 abbrev pub AreWalked : Grove Kept → List ℕ → Vec Parent Global → Vec Parent Global → Type 0
-AreWalked f nodes old new = new.items ≡ old.items ++ walked (now_of f) None nodes
+AreWalked f nodes old new = new.items ≡ old.items ++ cut_parents (now_of f) None nodes

@@ -1,12 +1,13 @@
 -- What is wanted of one parent, and of the nodes of a level together.
 use Rattle.std.specs.Prelude.{◌≡◌, ◌↔◌, ℕ, ℤ, List, None, Some}
+use Rattle.lsys_spec.specs.Rows.{In, AreApart}
 use Rattle.lsys_syntax.specs.Strings as S
 use Rattle.lsys_syntax.specs.Commands.{Numbering}
 use Rattle.lsys_spec.specs.Draws.{key_of}
 use Rattle.lsys_change.specs.Nodes.{AreOnce, Extends}
 use Rattle.lsys_forest.specs.Nodes.{Node, Nodes}
 use Rattle.lsys_forest.specs.Changes.{Change}
-use Rattle.lsys_forest.specs.Groves.{IsSound, In, AreApart}
+use Rattle.lsys_forest.specs.Groves.{IsRooted}
 use Rattle.lsys_forest.specs.Rows.{kids_in}
 use Rattle.lsys_kept.specs.Lineages.{kins, names}
 use Rattle.lsys_brood.specs.declared.child.Child.{Child}
@@ -19,7 +20,7 @@ abbrev pub RenewedParentHasItsWanted : Type 0 → Type 0
 RenewedParentHasItsWanted A =
     (root : ℕ) (changes : List (Change A)) (old new : Nodes A)
     (p : ℕ) (n : Node A) (g : Numbering) (seed : ℕ) (zs : List (S.Symbol ℤ)) (ws : List Child)
-    → IsSound root changes old → AreOnce (kins new) root → old p ≡ Some n
+    → IsRooted root changes old → AreOnce (kins new) root → old p ≡ Some n
     → AreRenewed old new p n ws (kids_in (new p))
     → AreWanted g (key_of seed (names new p)) zs ws
     → HasWanted g seed new p zs
@@ -29,7 +30,7 @@ abbrev pub SameChildrenAreStillWanted : Type 0 → Type 0
 SameChildrenAreStillWanted A =
     (root : ℕ) (changes : List (Change A)) (old new : Nodes A) (k : ℕ) (n : Node A)
     (g : Numbering) (seed : ℕ) (zs : List (S.Symbol ℤ))
-    → IsSound root changes old → AreOnce (kins old) root → Extends (kins old) (kins new)
+    → IsRooted root changes old → AreOnce (kins old) root → Extends (kins old) (kins new)
     → old k ≡ Some n → AreSameChildren old new k
     → HasWanted g seed old k zs → HasWanted g seed new k zs
 

@@ -5,7 +5,7 @@ ghost use Rattle.lsys_forest.specs.Groves.{now_of, IsLive};
 ghost use Rattle.lsys_reading.specs.Commands.{numbering_of};
 ghost use Rattle.lsys_repair.specs.Answers.{kept_successors};
 ghost use Rattle.lsys_repair.specs.Parents.{nodes_in, HasParents};
-ghost use Rattle.lsys_repair.specs.Needs.{IsSmall, with_count, had_by_all};
+ghost use Rattle.lsys_repair.specs.Needs.{IsBoundedCount, with_count, had_by_all};
 ghost use Rattle.lsys_repair.specs.Counts.{CountsAll, IsSmallFor, CountsOne, AreAddable};
 
 use crate::parent::{Parent, fill_for};
@@ -63,7 +63,7 @@ fn count_one<L: Ledger>(
     requires lives { IsLive forest.now parent.node }
     requires short { length (kept_successors (now_of forest.now) parent.node) ≤ number_base }
     ensures count { IfOk result (CountsOne (numbering_of numbering) (now_of forest.now) parent) }
-    ensures few { IfOk result (λ count. IsSmall 1 count.had count) }
+    ensures few { IfOk result (λ count. IsBoundedCount 1 count.had count) }
 {
     let node = parent.node;
     fill_for(wanted, forest, numbering, parent)?;

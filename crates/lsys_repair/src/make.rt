@@ -1,7 +1,7 @@
 //! The children of some parents are made.
 ghost use Rattle.std.specs.Prelude.{◌≡◌, ◌≤◌, OnOk, OnErr, length};
 ghost use Rattle.lsys_spec.specs.Draws.{number_base};
-ghost use Rattle.lsys_forest.specs.Groves.{now_of, rest_of, changes_in, kept_in, IsLive, IsSound};
+ghost use Rattle.lsys_forest.specs.Groves.{now_of, rest_of, changes_in, kept_in, IsLive, IsRooted};
 ghost use Rattle.lsys_brood.specs.Children.{HasRoomFor};
 ghost use Rattle.lsys_repair.specs.Answers.{kept_successors};
 ghost use Rattle.lsys_repair.specs.Parents.{nodes_in, HasParents};
@@ -30,7 +30,7 @@ pub fn make_children<L: Ledger>(
     brood: &mut Brood,
     changes: &mut Changes,
 ) -> Result<(), AllocError>
-    requires sound { IsSound forest.old.root (changes_in forest.old) (now_of forest.old) }
+    requires sound { IsRooted forest.old.root (changes_in forest.old) (now_of forest.old) }
     requires parents { HasParents (now_of forest.old) forest.old.root (nodes_in parents.now) }
     requires room { HasRoomFor forest.old changes.old (needs_of numbering forest.old parents.now) }
     ensures children { OnOk result (AreAllRenewed numbering forest.old forest.new parents.now) }
@@ -66,7 +66,7 @@ fn make_one<L: Ledger>(
     requires room { HasRoomFor forest.old changes.old (need_of_one numbering forest.old parent) }
     ensures renewed { RenewsIfOk result numbering forest.old forest.new parent changes.old changes.new }
     ensures sound { OnOk result
-        (IsSound forest.old.root (changes_in forest.old) (now_of forest.old)) }
+        (IsRooted forest.old.root (changes_in forest.old) (now_of forest.old)) }
     ensures rest { rest_of forest.new ≡ rest_of forest.old }
     ensures root { forest.new.root ≡ forest.old.root }
     ensures kept { kept_in forest.new ≡ kept_in forest.old }

@@ -1,8 +1,9 @@
 //! The nodes of a level as parents, from the left.
 ghost use Rattle.std.specs.Prelude.{◌≡◌, ◌≤◌, ◌<◌, ◌+◌, ◌^◌, ℕ, true, false, if◌then◌else◌, None, IfOk, IfSome, OnOk, length};
+ghost use Rattle.lsys_spec.specs.Rows.{In};
 ghost use Rattle.lsys_change.specs.Kinds.{stays, reached};
 ghost use Rattle.lsys_level.specs.Views.{seen_of};
-ghost use Rattle.lsys_forest.specs.Groves.{In, now_of, IsLive};
+ghost use Rattle.lsys_forest.specs.Groves.{now_of, IsLive};
 ghost use Rattle.lsys_brood.specs.Children.{bracket_kind};
 ghost use Rattle.lsys_repair.specs.WalkedParents.{HaveShortSuccessors, AreWalked, NoneReaches};
 

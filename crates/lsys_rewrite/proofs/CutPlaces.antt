@@ -2,13 +2,14 @@
 use Rattle.std.proofs.Common.{◌≡◌, ◌≤◌, ◌<◌, ℕ, zero, suc, ◌+◌, ℤ, Bool, true, false, not, ◌||◌, Option, Some, None, List, [], ◌∷◌, ◌++◌, length, map, take, drop, set, get_or, refl, ap, ap₂, sym, ◌∙◌, subst, add-one, arith}
 use Rattle.std.specs.Prelude.{slice_index_or, IfSome}
 use Rattle.std.proofs.lemmas.List.{length-map, length-set, append_assoc, append-nil, take_all, drop_all, drop-set-lt, take_more_set, length-take-le}
+use Rattle.lsys_spec.specs.Morphisms.{raw_plain}
 use Rattle.lsys_syntax.specs.Strings as S
 use Rattle.lsys_spec.specs.Levels.{Push, Pop, Module, plain}
 use Rattle.lsys_spec.specs.Cuts.{Raw, Plain, Cut, cut_on, never_closes, is_cut_off}
 use Rattle.lsys_module.specs.declared.symbol.Symbol.{Symbol as Code}
 use Rattle.lsys_module.specs.Views.{symbol_of, string_of}
 use Rattle.lsys_rewrite.proofs.Behind.{drop_item}
-use Rattle.lsys_rewrite.specs.Cutting.{AreOf, raw_plain, marked, stays, cutting_behind, marks_from}
+use Rattle.lsys_rewrite.specs.Cutting.{AreOf, marked, symbol_stays, cutting_behind, marks_from}
 
 -- 1. by places
 
@@ -36,7 +37,7 @@ either_way false false c h = refl
 either_way false true c h = let e : false ≡ true = h refl in cc
 
 -- whether the first symbol stays
-first_stays : (o : Option ℕ) (r : Raw) (x : List Raw) → stays o (raw_plain r) ≡ not (off o (r ∷ x) 0)
+first_stays : (o : Option ℕ) (r : Raw) (x : List Raw) → symbol_stays o (raw_plain r) ≡ not (off o (r ∷ x) 0)
 first_stays None (Cut l) x = refl
 first_stays None (Plain (Module l m)) x = refl
 first_stays None (Plain (Push l)) x = refl
@@ -166,7 +167,7 @@ module _ (old symbols : List Code) (kept : List Bool) (i len : ℕ) (o : Option 
   read : (drop (i + 1) old ≡ drop (i + 1) symbols) × (take (i + 1) old ≡ take i old ++ s ∷ [])
   read = next_rest old i s (drop (i + 1) symbols) here
 
-  marks_more : (b : Bool) → b ≡ stays o (symbol_of s) → marks_from None (string_of old) ≡ take (i + 1) (set kept i b) ++ marks_from (cutting_behind o (symbol_of s)) (string_of (drop (i + 1) old))
+  marks_more : (b : Bool) → b ≡ symbol_stays o (symbol_of s) → marks_from None (string_of old) ≡ take (i + 1) (set kept i b) ++ marks_from (cutting_behind o (symbol_of s)) (string_of (drop (i + 1) old))
   marks_more b is =
       let rest = marks_from (cutting_behind o (symbol_of s)) (string_of (drop (i + 1) old)) in
       let more : take (i + 1) (set kept i b) ≡ take i kept ++ b ∷ [] = take_more_set kept i b (omega (arith, l, c.places)) in
@@ -180,7 +181,7 @@ module _ (old symbols : List Code) (kept : List Bool) (i len : ℕ) (o : Option 
   same_size : length (take i kept) ≡ length (take i old)
   same_size = length-take-le i kept (omega (arith, l, c.places)) ∙ sym (length-take-le i old (omega (arith, l)))
 
-  stays_on : true ≡ stays o (symbol_of s) → Cutting old (set symbols len s) (set kept i true) (i + 1) (len + 1) (cutting_behind o (symbol_of s))
+  stays_on : true ≡ symbol_stays o (symbol_of s) → Cutting old (set symbols len s) (set kept i true) (i + 1) (len + 1) (cutting_behind o (symbol_of s))
   stays_on is = record {
     marks = marks_more true is;
     front =
@@ -195,7 +196,7 @@ module _ (old symbols : List Code) (kept : List Bool) (i len : ℕ) (o : Option 
     depth = depth_behind o (symbol_of s) i c.depth;
   }
 
-  passes : false ≡ stays o (symbol_of s) → Cutting old symbols (set kept i false) (i + 1) len (cutting_behind o (symbol_of s))
+  passes : false ≡ symbol_stays o (symbol_of s) → Cutting old symbols (set kept i false) (i + 1) len (cutting_behind o (symbol_of s))
   passes is = record {
     marks = marks_more false is;
     front =
@@ -210,7 +211,7 @@ module _ (old symbols : List Code) (kept : List Bool) (i len : ℕ) (o : Option 
   }
 
   -- The next symbol stays, or it doesn't.
-  module _ (b : Bool) (next : List Code) (size : ℕ) (behind : Option ℕ) (is : b ≡ stays o (symbol_of s)) (goes_on : behind ≡ cutting_behind o (symbol_of s)) where
+  module _ (b : Bool) (next : List Code) (size : ℕ) (behind : Option ℕ) (is : b ≡ symbol_stays o (symbol_of s)) (goes_on : behind ≡ cutting_behind o (symbol_of s)) where
     pub stayed : b ≡ true → next ≡ set symbols len s → size ≡ len + 1 → Cutting old next (set kept i b) (i + 1) size behind
     stayed t f g = rw (goes_on, f, g, t) (stays_on (sym t ∙ is))
 

@@ -1,15 +1,11 @@
 -- Cuts of strings whose symbols have no lineages.
 use Rattle.std.specs.Prelude.{◌≡◌, ℕ, zero, suc, ℤ, Bool, true, false, Option, Some, None, List, [], ◌∷◌, map, not, length, ◌<◌, slice_index_or}
+use Rattle.lsys_spec.specs.Morphisms.{raw_plain}
 use Rattle.lsys_syntax.specs.Strings as S
 use Rattle.lsys_spec.specs.Levels.{plain}
-use Rattle.lsys_spec.specs.Cuts.{Raw, Plain, Cut, cut, is_cut_off}
+use Rattle.lsys_spec.specs.Cuts.{Raw, Cut, cut, is_cut_off}
 use Rattle.lsys_module.specs.declared.symbol.Symbol.{Symbol}
 use Rattle.lsys_module.specs.Views.{string_of}
-
--- a symbol, without its lineage
-abbrev pub raw_plain : Raw → S.Symbol ℤ
-raw_plain (Plain s) = plain s
-raw_plain (Cut l) = S.Cut
 
 -- symbols with lineages are these symbols
 abbrev pub AreOf : List Raw → List Symbol → Type 0
@@ -25,11 +21,11 @@ marked (b ∷ bs) [] = []
 -- Symbol by symbol: where a branch is being cut off, the number of branches that are open in what is cut off.
 
 -- whether the next symbol stays
-abbrev pub stays : Option ℕ → S.Symbol ℤ → Bool
-stays None S.Cut = false
-stays None s = true
-stays (Some zero) S.Pop = true
-stays (Some n) s = false
+abbrev pub symbol_stays : Option ℕ → S.Symbol ℤ → Bool
+symbol_stays None S.Cut = false
+symbol_stays None s = true
+symbol_stays (Some zero) S.Pop = true
+symbol_stays (Some n) s = false
 
 -- behind it
 abbrev pub cutting_behind : Option ℕ → S.Symbol ℤ → Option ℕ
@@ -43,7 +39,7 @@ cutting_behind (Some n) s = Some n
 -- the marks of the symbols that stay
 abbrev pub marks_from : Option ℕ → List (S.Symbol ℤ) → List Bool
 marks_from cutting [] = []
-marks_from cutting (s ∷ xs) = stays cutting s ∷ marks_from (cutting_behind cutting s) xs
+marks_from cutting (s ∷ xs) = symbol_stays cutting s ∷ marks_from (cutting_behind cutting s) xs
 
 -- whatever lineages the symbols have: those are marked that aren't cut off
 abbrev pub MarksKept : List Symbol → List Bool → Type 0

@@ -10,7 +10,7 @@ use Rattle.lsys_module.specs.Views.{symbol_of, string_of}
 use Rattle.lsys_module.specs.declared.symbol.Symbol.{Symbol}
 use Rattle.lsys_bodies.specs.declared.body.Body.{Body}
 use Rattle.lsys_bodies.specs.declared.body.Template.{Template}
-use Rattle.lsys_bodies.specs.Views.{template_of, written}
+use Rattle.lsys_bodies.specs.Views.{template_of, as_rule}
 use Rattle.lsys_rewrite.specs.declared.refusal.FillRefusal.{FillRefusal}
 use Rattle.lsys_rewrite.specs.declared.refusal.FillRefusal.TheVariants.{Arith, Memory}
 
@@ -33,13 +33,13 @@ IsAddedFront r old new (Err (Arith e)) = (take (length old) new ≡ old) × (r �
 IsAddedFront r old new (Err Memory) = take (length old) new ≡ old
 
 -- the string of one symbol, or its fault
-abbrev pub IsSymbol : Result (List (S.Symbol ℤ)) meaning.Arith → Result Symbol code.Arith → Type 0
-IsSymbol r (Ok s) = r ≡ Ok (symbol_of s ∷ [])
-IsSymbol r (Err e) = r ≡ Err (arith_of e)
+abbrev pub IsFilledSymbol : Result (List (S.Symbol ℤ)) meaning.Arith → Result Symbol code.Arith → Type 0
+IsFilledSymbol r (Ok s) = r ≡ Ok (symbol_of s ∷ [])
+IsFilledSymbol r (Err e) = r ≡ Err (arith_of e)
 
 -- what the definitions make of the successor of a body, and of templates
 abbrev pub successor_filled : Body → List ℤ → Result (List (S.Symbol ℤ)) meaning.Arith
-successor_filled b bound = filled (body_of (written b)).successor bound
+successor_filled b bound = filled (body_of (as_rule b)).successor bound
 
 abbrev pub templates_filled : List Template → List ℤ → Result (List (S.Symbol ℤ)) meaning.Arith
 templates_filled templates bound = filled (map template_of templates) bound

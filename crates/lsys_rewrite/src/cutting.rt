@@ -1,7 +1,7 @@
 //! Cuts.
 ghost use Rattle.std.specs.Prelude.{◌≡◌, ◌<◌, false, length, IfSome};
 ghost use Rattle.lsys_module.specs.Views.{symbol_of};
-ghost use Rattle.lsys_rewrite.specs.Cutting.{cutting_behind, marked, stays, IsCutOf, MarksKept};
+ghost use Rattle.lsys_rewrite.specs.Cutting.{cutting_behind, marked, symbol_stays, IsCutOf, MarksKept};
 
 use lsys_module::{Symbol, SymbolList};
 
@@ -33,7 +33,7 @@ pub fn cut(symbols: &mut SymbolList, kept: &mut [bool])
 
 /// Whether the next symbol stays, where a branch is being cut off in which so many others are open, or none is.
 pub fn stays(cutting: Option<usize>, symbol: &Symbol) -> bool
-    ensures { result ≡ stays cutting (symbol_of symbol.now) }
+    ensures { result ≡ symbol_stays cutting (symbol_of symbol.now) }
 {
     match (cutting, symbol) {
         (None, symbol) => !matches!(symbol, Symbol::Cut),

@@ -2,10 +2,10 @@
 ghost use Rattle.std.specs.Prelude.{◌≡◌, ◌≤◌, ◌∷◌, [], length, map};
 ghost use Rattle.lsys_spec.specs.Bodies.{body_of};
 ghost use Rattle.lsys_spec.specs.Meaning.{filled, filled_params};
-ghost use Rattle.lsys_expr.specs.Answers.{answer_of};
+ghost use Rattle.lsys_expr.specs.Answers.{as_meant};
 ghost use Rattle.lsys_syntax.specs.Smalls.{HaveFewParams};
-ghost use Rattle.lsys_bodies.specs.Views.{rule_of, template_of, template_symbol, tree_of};
-ghost use Rattle.lsys_rewrite.specs.Filled.{IsAdded, IsAddedFront, IsFilled, IsSymbol, successor_filled, templates_filled};
+ghost use Rattle.lsys_bodies.specs.Views.{rule_of, template_of, template_symbol, tree_in};
+ghost use Rattle.lsys_rewrite.specs.Filled.{IsAdded, IsAddedFront, IsFilled, IsFilledSymbol, successor_filled, templates_filled};
 
 use crate::refusal::FillRefusal;
 use lsys_bodies::{Rule, SharedBody, Template};
@@ -69,7 +69,7 @@ fn add_front(
 /// The first fault of a parameter, from left to right.
 pub fn fill_template(template: &Template, bound: &[i64]) -> Result<Symbol, Arith>
     requires { HaveFewParams (template_symbol template.now ∷ []) }
-    ensures { IsSymbol (filled (template_of template.now ∷ []) bound.now) result }
+    ensures { IsFilledSymbol (filled (template_of template.now ∷ []) bound.now) result }
 {
     Ok(match template {
         Template::Push => Symbol::Push,
@@ -85,7 +85,7 @@ pub fn fill_template(template: &Template, bound: &[i64]) -> Result<Symbol, Arith
 // The values of parameters, of which there are at most eight.
 fn fill_params(params: &[Expr], bound: &[i64]) -> Result<Params, Arith>
     requires { length params.now ≤ 8 }
-    ensures { answer_of result ≡ filled_params (map tree_of params.now) bound.now }
+    ensures { as_meant result ≡ filled_params (map tree_in params.now) bound.now }
 {
     let mut values = [0; 8];
     for (place, expr) in params.iter().enumerate() {

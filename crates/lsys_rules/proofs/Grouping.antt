@@ -23,8 +23,8 @@ use Rattle.lsys_text.proofs.Kept.{name-kept}
 use Rattle.lsys_module.specs.Views.{module_name}
 use Rattle.lsys_module.proofs.Names.{same_name-module_name}
 use Rattle.lsys_bodies.specs.declared.rule.Rule.{Rule}
-use Rattle.lsys_bodies.specs.Views.{production_of, rule_of}
-use Rattle.lsys_rules.specs.Groups.{same_key, key_of, rules_of, rules_at, with_rule, HasRule, AreGroups}
+use Rattle.lsys_bodies.specs.Views.{as_production, rule_of}
+use Rattle.lsys_rules.specs.Groups.{same_key, group_key, rules_or_none, rules_at, with_rule, HasRule, AreGroups}
 use Rattle.lsys_rules.specs.declared.groups.GroupKey.{GroupKey}
 use Rattle.lsys_rules.specs.declared.shared_group.SharedGroup.{SharedGroup}
 
@@ -53,7 +53,7 @@ map_more f (y ∷ xs) x = ap (λ t. f y ∷ t) (map_more f xs x)
 
 -- a rule is of the group of its key
 own_group : (r : Rule) (key : GroupKey) (table name : List ℕ) (arity : ℕ) → key.table ≡ r.table → key.name ≡ packed r.body.predecessor.name → key.arity ≡ length r.body.predecessor.formals.items
-    → IsNameBytes r.body.predecessor.name → IsNameBytes name → same_key key (key_of table name arity) ≡ is_for table (module_name name) arity (production_of r)
+    → IsNameBytes r.body.predecessor.name → IsNameBytes name → same_key key (group_key table name arity) ≡ is_for table (module_name name) arity (as_production r)
 own_group r key table name arity e f g h k =
     let names : (key.name == packed name) ≡ same_name (module_name r.body.predecessor.name) (module_name name) =
     ap (λ n. n == packed name) f ∙ same_number r.body.predecessor.name name h k ∙ sym (same_name-module_name r.body.predecessor.name name h k) in
@@ -73,8 +73,8 @@ pub group_step : {S : Type 0} (old new : HashMap GroupKey SharedGroup S) (rs : L
     → key.table ≡ r.table → key.name ≡ packed r.body.predecessor.name → key.arity ≡ length r.body.predecessor.formals.items → IsNameBytes r.body.predecessor.name
     → AreGroups old (take i rs) → HasRule old new key r → AreGroups new (take (i + 1) rs)
 group_step old new rs i r key h e t n a form all put table name arity k =
-    let p : Rule → Bool = λ q. is_for table (module_name name) arity (production_of q) in
-    put (key_of table name arity)
+    let p : Rule → Bool = λ q. is_for table (module_name name) arity (as_production q) in
+    put (group_key table name arity)
     ∙ ap₂ (λ b xs. with_rule b xs r) (own_group r key table name arity t n a form k) (all table name arity k)
     ∙ sym (filter_more p (take i rs) r)
     ∙ ap (filter p) (sym (take_here rs i r h e))
@@ -98,17 +98,17 @@ same_keys a b h =
 -- a rule more in one group
 pub grown : {S : Type 0} (old mid new : HashMap GroupKey SharedGroup S) (key q : GroupKey) (rule : Rule) (group : List Rule)
     → get same_key mid q ≡ cond (same_key key q) None (get same_key old q) → get same_key new q ≡ cond (same_key key q) (Some group) (get same_key mid q)
-    → group ≡ rules_of (get same_key old key) ++ rule ∷ [] → rules_at new q ≡ with_rule (same_key key q) (rules_at old q) rule
+    → group ≡ rules_or_none (get same_key old key) ++ rule ∷ [] → rules_at new q ≡ with_rule (same_key key q) (rules_at old q) rule
 grown old mid new key q rule group removed put is = by (same_key key q) refl removed put
   where
     by : (b : Bool) → same_key key q ≡ b → get same_key mid q ≡ cond b None (get same_key old q) → get same_key new q ≡ cond b (Some group) (get same_key mid q)
         → rules_at new q ≡ with_rule b (rules_at old q) rule
-    by true h removed put = ap rules_of put ∙ is ∙ ap (λ k. rules_at old k ++ rule ∷ []) (same_keys key q h)
-    by false h removed put = ap rules_of (put ∙ removed)
+    by true h removed put = ap rules_or_none put ∙ is ∙ ap (λ k. rules_at old k ++ rule ∷ []) (same_keys key q h)
+    by false h removed put = ap rules_or_none (put ∙ removed)
 
 -- without rules
 pub no_groups : {S : Type 0} (groups : HashMap GroupKey SharedGroup S) → groups.entries ≡ [] → AreGroups groups []
-no_groups groups e table name arity form = ap (λ es. rules_of (lookup (same_key (key_of table name arity)) es)) e
+no_groups groups e table name arity form = ap (λ es. rules_or_none (lookup (same_key (group_key table name arity)) es)) e
 
 filtered_map : {A B : Type 0} (f : A → B) (p : B → Bool) (xs : List A) → map f (filter (λ x. p (f x)) xs) ≡ filter p (map f xs)
 filtered_map f p [] = refl
@@ -122,11 +122,11 @@ filtered_map f p (x ∷ xs) = by (p (f x)) (filtered_map f p xs)
 -- what stands under a group's key
 pub group_found : {S : Type 0} (groups : HashMap GroupKey SharedGroup S) (rs : List Rule) (key : GroupKey) (table name : List ℕ) (arity : ℕ)
     → AreGroups groups rs → key.table ≡ table → key.name ≡ packed name → key.arity ≡ arity → IsNameBytes name
-    → map production_of (rules_at groups key) ≡ filter (is_for table (module_name name) arity) (map production_of rs)
+    → map as_production (rules_at groups key) ≡ filter (is_for table (module_name name) arity) (map as_production rs)
 group_found groups rs key table name arity all t n a form =
-    let same : key ≡ key_of table name arity = λ i. record { table = t i; name = n i; arity = a i } in
-    ap (λ k. map production_of (rules_at groups k)) same ∙ ap (map production_of) (all table name arity form)
-    ∙ filtered_map production_of (is_for table (module_name name) arity) rs
+    let same : key ≡ group_key table name arity = λ i. record { table = t i; name = n i; arity = a i } in
+    ap (λ k. map as_production (rules_at groups k)) same ∙ ap (map as_production) (all table name arity form)
+    ∙ filtered_map as_production (is_for table (module_name name) arity) rs
 
 -- the bodies of a group are those of its productions
 pub group_bodies : (table : List ℕ) (n : ModuleName) (arity : ℕ) (ps : List Production) → group_in table n arity ps ≡ map (λ p. body_of p.rule) (filter (is_for table n arity) ps)
@@ -139,21 +139,21 @@ group_bodies table n arity (p ∷ ps) = by (is_for table n arity p) (group_bodie
     by false h = h
 
 -- a group has no more rules than the system
-pub group_few : (table : List ℕ) (n : ModuleName) (arity : ℕ) (ps : List Production) (rs : List Rule) → map production_of rs ≡ filter (is_for table n arity) ps → length rs ≤ length ps
+pub group_few : (table : List ℕ) (n : ModuleName) (arity : ℕ) (ps : List Production) (rs : List Rule) → map as_production rs ≡ filter (is_for table n arity) ps → length rs ≤ length ps
 group_few table n arity ps rs h =
-    let e : length rs ≡ length (filter (is_for table n arity) ps) = sym (length-map rs production_of) ∙ ap length h in
+    let e : length rs ≡ length (filter (is_for table n arity) ps) = sym (length-map rs as_production) ∙ ap length h in
     omega (arith, e, length-filter_both (is_for table n arity) (λ p. not (is_for table n arity p)) (λ p. refl) ps)
 
 -- there are no more than that, where any were found
-pub few_found : {R : Type 0} (f : R → List Rule) (found : Option R) (n : ℕ) → length (rules_of (option_map f found)) ≤ n → IfSome found (λ g. length (f g) ≤ n)
+pub few_found : {R : Type 0} (f : R → List Rule) (found : Option R) (n : ℕ) → length (rules_or_none (option_map f found)) ≤ n → IfSome found (λ g. length (f g) ≤ n)
 few_found f None n h = tt
 few_found f (Some g) n h = h
 
 -- the bodies of a group's rules
-pub group_meant : (table : List ℕ) (n : ModuleName) (arity : ℕ) (ps : List Production) (rs : List Rule) → map production_of rs ≡ filter (is_for table n arity) ps
+pub group_meant : (table : List ℕ) (n : ModuleName) (arity : ℕ) (ps : List Production) (rs : List Rule) → map as_production rs ≡ filter (is_for table n arity) ps
     → map (λ r. body_of (rule_of r)) rs ≡ group_in table n arity ps
 group_meant table n arity ps rs h =
-    sym (map-map (λ p. body_of p.rule) production_of rs) ∙ ap (map (λ p. body_of p.rule)) h ∙ sym (group_bodies table n arity ps)
+    sym (map-map (λ p. body_of p.rule) as_production rs) ∙ ap (map (λ p. body_of p.rule)) h ∙ sym (group_bodies table n arity ps)
 
 -- a word of a schedule
 pub word_there : (ws : List (List ℕ)) (i : ℕ) (w : List ℕ) → i < length ws → w ≡ get_or ws i w → w ≡ word_at ws i

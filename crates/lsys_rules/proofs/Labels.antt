@@ -7,8 +7,8 @@ use Rattle.lsys_laws.proofs.Aparts.{bytes_eq_sym}
 use Rattle.lsys_spec.specs.Edits.{put, put_hom, without_rule, without_hom}
 use Rattle.lsys_bodies.specs.declared.rule.Rule.{Rule}
 use Rattle.lsys_bodies.specs.declared.rule.HomRule.{HomRule}
-use Rattle.lsys_bodies.specs.Views.{production_of, homomorphism_of}
-use Rattle.lsys_rules.specs.InsideRules.{Own}
+use Rattle.lsys_bodies.specs.Views.{as_production, homomorphism_of}
+use Rattle.lsys_rules.specs.InsideRules.{HaveOwnLabels}
 
 abbrev pub values_of : {R : Type 0} → List (List ℕ × R) → List R
 values_of es = map (λ e. e.1) es
@@ -25,24 +25,24 @@ module _ {R : Type 0} (label : R → List ℕ) where
   swapped : (l : List ℕ) (e : List ℕ × R) → label e.1 ≡ e.0 → bytes_eq l e.0 ≡ bytes_eq (label e.1) l
   swapped l e own = bytes_eq_sym l e.0 ∙ ap (λ k. bytes_eq k l) (sym own)
 
-  pub own_put : (es : List (List ℕ × R)) (r : R) → Own label es → Own label (insert_entry bytes_eq es (label r) r)
+  pub own_put : (es : List (List ℕ × R)) (r : R) → HaveOwnLabels label es → HaveOwnLabels label (insert_entry bytes_eq es (label r) r)
   own_put [] r own = (refl, tt)
   own_put (e ∷ es) r own = by (bytes_eq (label r) e.0) refl (own_put es r own.1)
     where
-      by : (b : Bool) → bytes_eq (label r) e.0 ≡ b → Own label (insert_entry bytes_eq es (label r) r)
-          → Own label (if b then (e.0, r) ∷ es else e ∷ insert_entry bytes_eq es (label r) r)
+      by : (b : Bool) → bytes_eq (label r) e.0 ≡ b → HaveOwnLabels label (insert_entry bytes_eq es (label r) r)
+          → HaveOwnLabels label (if b then (e.0, r) ∷ es else e ∷ insert_entry bytes_eq es (label r) r)
       by true h rest = ((bytes_eq-Decides (label r) e.0).0 h, own.1)
       by false h rest = (own.0, rest)
 
-  pub own_removed : (es : List (List ℕ × R)) (l : List ℕ) → Own label es → Own label (remove_entry (bytes_eq l) es)
+  pub own_removed : (es : List (List ℕ × R)) (l : List ℕ) → HaveOwnLabels label es → HaveOwnLabels label (remove_entry (bytes_eq l) es)
   own_removed [] l own = tt
   own_removed (e ∷ es) l own = by (bytes_eq l e.0) (own_removed es l own.1)
     where
-      by : (b : Bool) → Own label (remove_entry (bytes_eq l) es) → Own label (cond b es (e ∷ remove_entry (bytes_eq l) es))
+      by : (b : Bool) → HaveOwnLabels label (remove_entry (bytes_eq l) es) → HaveOwnLabels label (cond b es (e ∷ remove_entry (bytes_eq l) es))
       by true rest = own.1
       by false rest = (own.0, rest)
 
-  values_put : (es : List (List ℕ × R)) (r : R) → Own label es → values_of (insert_entry bytes_eq es (label r) r) ≡ put_at r (values_of es)
+  values_put : (es : List (List ℕ × R)) (r : R) → HaveOwnLabels label es → values_of (insert_entry bytes_eq es (label r) r) ≡ put_at r (values_of es)
   values_put [] r own = refl
   values_put (e ∷ es) r own = by (bytes_eq (label r) e.0) (bytes_eq (label e.1) (label r)) (swapped (label r) e own.0) (values_put es r own.1)
     where
@@ -53,7 +53,7 @@ module _ {R : Type 0} (label : R → List ℕ) where
       by true false h rest = cc
       by false true h rest = cc
 
-  pub values_removed : (es : List (List ℕ × R)) (l : List ℕ) → Own label es → values_of (remove_entry (bytes_eq l) es) ≡ without_at l (values_of es)
+  pub values_removed : (es : List (List ℕ × R)) (l : List ℕ) → HaveOwnLabels label es → values_of (remove_entry (bytes_eq l) es) ≡ without_at l (values_of es)
   values_removed [] l own = refl
   values_removed (e ∷ es) l own = by (bytes_eq l e.0) (bytes_eq (label e.1) l) (swapped l e own.0) (values_removed es l own.1)
     where
@@ -66,30 +66,30 @@ module _ {R : Type 0} (label : R → List ℕ) where
 
 -- productions
 
-rules_put : (r : Rule) (qs : List Rule) → map production_of (put_at (λ q. q.label) r qs) ≡ put (production_of r) (map production_of qs)
+rules_put : (r : Rule) (qs : List Rule) → map as_production (put_at (λ q. q.label) r qs) ≡ put (as_production r) (map as_production qs)
 rules_put r [] = refl
 rules_put r (q ∷ qs) = by (bytes_eq q.label r.label) (rules_put r qs)
   where
-    by : (b : Bool) → map production_of (put_at (λ q. q.label) r qs) ≡ put (production_of r) (map production_of qs) → map production_of (if b then r ∷ qs else q ∷ put_at (λ q. q.label) r qs)
-        ≡ (if b then production_of r ∷ map production_of qs else production_of q ∷ put (production_of r) (map production_of qs))
+    by : (b : Bool) → map as_production (put_at (λ q. q.label) r qs) ≡ put (as_production r) (map as_production qs) → map as_production (if b then r ∷ qs else q ∷ put_at (λ q. q.label) r qs)
+        ≡ (if b then as_production r ∷ map as_production qs else as_production q ∷ put (as_production r) (map as_production qs))
     by true rest = refl
-    by false rest = ap (λ t. production_of q ∷ t) rest
+    by false rest = ap (λ t. as_production q ∷ t) rest
 
-pub productions_put : (es : List (List ℕ × Rule)) (r : Rule) → Own (λ q. q.label) es
-    → map production_of (map (λ e. e.1) (insert_entry bytes_eq es r.label r)) ≡ put (production_of r) (map production_of (map (λ e. e.1) es))
-productions_put es r own = ap (map production_of) (values_put (λ q. q.label) es r own) ∙ rules_put r (values_of es)
+pub productions_put : (es : List (List ℕ × Rule)) (r : Rule) → HaveOwnLabels (λ q. q.label) es
+    → map as_production (map (λ e. e.1) (insert_entry bytes_eq es r.label r)) ≡ put (as_production r) (map as_production (map (λ e. e.1) es))
+productions_put es r own = ap (map as_production) (values_put (λ q. q.label) es r own) ∙ rules_put r (values_of es)
 
-rules_without : (l : List ℕ) (qs : List Rule) → map production_of (without_at (λ q. q.label) l qs) ≡ without_rule l (map production_of qs)
+rules_without : (l : List ℕ) (qs : List Rule) → map as_production (without_at (λ q. q.label) l qs) ≡ without_rule l (map as_production qs)
 rules_without l [] = refl
 rules_without l (q ∷ qs) = by (bytes_eq q.label l) (rules_without l qs)
   where
-    by : (b : Bool) → map production_of (without_at (λ q. q.label) l qs) ≡ without_rule l (map production_of qs) → map production_of (if b then qs else q ∷ without_at (λ q. q.label) l qs) ≡ (if b then map production_of qs else production_of q ∷ without_rule l (map production_of qs))
+    by : (b : Bool) → map as_production (without_at (λ q. q.label) l qs) ≡ without_rule l (map as_production qs) → map as_production (if b then qs else q ∷ without_at (λ q. q.label) l qs) ≡ (if b then map as_production qs else as_production q ∷ without_rule l (map as_production qs))
     by true rest = refl
-    by false rest = ap (λ t. production_of q ∷ t) rest
+    by false rest = ap (λ t. as_production q ∷ t) rest
 
-pub productions_without : (es : List (List ℕ × Rule)) (l : List ℕ) → Own (λ q. q.label) es
-    → map production_of (map (λ e. e.1) (remove_entry (bytes_eq l) es)) ≡ without_rule l (map production_of (map (λ e. e.1) es))
-productions_without es l own = ap (map production_of) (values_removed (λ q. q.label) es l own) ∙ rules_without l (values_of es)
+pub productions_without : (es : List (List ℕ × Rule)) (l : List ℕ) → HaveOwnLabels (λ q. q.label) es
+    → map as_production (map (λ e. e.1) (remove_entry (bytes_eq l) es)) ≡ without_rule l (map as_production (map (λ e. e.1) es))
+productions_without es l own = ap (map as_production) (values_removed (λ q. q.label) es l own) ∙ rules_without l (values_of es)
 
 -- rules of a homomorphism
 
@@ -102,7 +102,7 @@ homs_put r (q ∷ qs) = by (bytes_eq q.label r.label) (homs_put r qs)
     by true rest = refl
     by false rest = ap (λ t. homomorphism_of q ∷ t) rest
 
-pub homomorphisms_put : (es : List (List ℕ × HomRule)) (r : HomRule) → Own (λ q. q.label) es
+pub homomorphisms_put : (es : List (List ℕ × HomRule)) (r : HomRule) → HaveOwnLabels (λ q. q.label) es
     → map homomorphism_of (map (λ e. e.1) (insert_entry bytes_eq es r.label r)) ≡ put_hom (homomorphism_of r) (map homomorphism_of (map (λ e. e.1) es))
 homomorphisms_put es r own = ap (map homomorphism_of) (values_put (λ q. q.label) es r own) ∙ homs_put r (values_of es)
 
@@ -114,6 +114,6 @@ homs_without l (q ∷ qs) = by (bytes_eq q.label l) (homs_without l qs)
     by true rest = refl
     by false rest = ap (λ t. homomorphism_of q ∷ t) rest
 
-pub homomorphisms_without : (es : List (List ℕ × HomRule)) (l : List ℕ) → Own (λ q. q.label) es
+pub homomorphisms_without : (es : List (List ℕ × HomRule)) (l : List ℕ) → HaveOwnLabels (λ q. q.label) es
     → map homomorphism_of (map (λ e. e.1) (remove_entry (bytes_eq l) es)) ≡ without_hom l (map homomorphism_of (map (λ e. e.1) es))
 homomorphisms_without es l own = ap (map homomorphism_of) (values_removed (λ q. q.label) es l own) ∙ homs_without l (values_of es)

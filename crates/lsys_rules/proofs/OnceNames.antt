@@ -10,7 +10,7 @@ use Rattle.lsys_module.specs.Views.{module_name}
 use Rattle.lsys_bodies.proofs.Loops.{drop-here}
 use Rattle.lsys_rules.proofs.Tables.{any_same, ignores_same}
 use Rattle.lsys_rules.proofs.Grouping.{take_here, map_more}
-use Rattle.lsys_rules.specs.Changes.{with_name}
+use Rattle.lsys_rules.specs.Changes.{with_name_unless}
 
 abbrev among : ModuleName → List ModuleName → Bool
 among n xs = any (λ y. same_name y n) xs
@@ -43,17 +43,17 @@ pub record OnceSoFar (read kept rest all : List ModuleName) : Type 0 where
   pub whole : kept ++ once read rest ≡ all
 
 module _ (read kept rest all : List ModuleName) (x : ModuleName) (so_far : OnceSoFar read kept (x ∷ rest) all) where
-  step_whole : (b : Bool) → among x read ≡ b → with_name b kept x ++ once (read ++ x ∷ []) rest ≡ all
+  step_whole : (b : Bool) → among x read ≡ b → with_name_unless b kept x ++ once (read ++ x ∷ []) rest ≡ all
   step_whole true e = ap (λ b. kept ++ unless_seen b x (once (read ++ x ∷ []) rest)) (sym e) ∙ so_far.whole
   step_whole false e = append_assoc kept (x ∷ []) (once (read ++ x ∷ []) rest) ∙ ap (λ b. kept ++ unless_seen b x (once (read ++ x ∷ []) rest)) (sym e) ∙ so_far.whole
 
-  step_same : (b : Bool) → among x kept ≡ b → (n : ModuleName) → among n (read ++ x ∷ []) ≡ among n (with_name b kept x)
+  step_same : (b : Bool) → among x kept ≡ b → (n : ModuleName) → among n (read ++ x ∷ []) ≡ among n (with_name_unless b kept x)
   step_same true e n =
       among_more n read x ∙ ap (λ b. b || same_name x n) (so_far.same n)
       ∙ absorbed (among n kept) (same_name x n) (λ h. sym (among_too n x kept h) ∙ e)
   step_same false e n = among_more n read x ∙ ap (λ b. b || same_name x n) (so_far.same n) ∙ sym (among_more n kept x)
 
-  pub once_step : (b : Bool) → ignores kept x ≡ b → OnceSoFar (read ++ x ∷ []) (with_name b kept x) rest all
+  pub once_step : (b : Bool) → ignores kept x ≡ b → OnceSoFar (read ++ x ∷ []) (with_name_unless b kept x) rest all
   once_step b e =
       let stands : among x kept ≡ b = any_same (λ y. same_name y x) kept ∙ ignores_same kept x ∙ e in
       record { same = step_same b stands; whole = step_whole b (so_far.same x ∙ stands) }
@@ -61,7 +61,7 @@ module _ (read kept rest all : List ModuleName) (x : ModuleName) (so_far : OnceS
 -- at a place of the names that are read
 pub once_next : (names kept new : List (List ℕ)) (i : ℕ) (x : List ℕ) → i < length names → x ≡ get_or names i x
     → OnceSoFar (map module_name (take i names)) (map module_name kept) (map module_name (drop i names)) (once [] (map module_name names))
-    → map module_name new ≡ with_name (ignores (map module_name kept) (module_name x)) (map module_name kept) (module_name x)
+    → map module_name new ≡ with_name_unless (ignores (map module_name kept) (module_name x)) (map module_name kept) (module_name x)
     → OnceSoFar (map module_name (take (i + 1) names)) (map module_name new) (map module_name (drop (i + 1) names)) (once [] (map module_name names))
 once_next names kept new i x h e so_far added =
     let read : map module_name (take (i + 1) names) ≡ map module_name (take i names) ++ module_name x ∷ [] = ap (map module_name) (take_here names i x h e) ∙ map_more module_name (take i names) x in

@@ -20,7 +20,7 @@ use Rattle.lsys_spec.specs.Bodies.{Filter, filter_in}
 use Rattle.lsys_spec.specs.Edits.{put_own, without_own}
 use Rattle.lsys_laws.proofs.Aparts.{apart_dropped, bytes_eq_true, bytes_eq_sym}
 use Rattle.lsys_laws.proofs.Orders.{Unordered, ordered_put_own, own_dropped}
-use Rattle.lsys_rules.specs.InsideRules.{Own}
+use Rattle.lsys_rules.specs.InsideRules.{HaveOwnLabels}
 use Rattle.lsys_rules.specs.OwnPlaces.{place_in}
 use Rattle.lsys_rules.proofs.Labels.{own_removed, values_of, values_removed, without_at}
 
@@ -111,13 +111,13 @@ module _ (o : spec.Own) (t : List ℕ) where
           let round : comes_before t t ≡ true = ap (comes_before t) (sym same) ∙ before_all t u k h (truth (comes_before u k) g) in
           absurd (true≢false (sym round ∙ never t))
 
-  late_entry : (u : List ℕ) (es : List Entry) → comes_before t u ≡ true → Own (λ q. q.table) es → Each (λ q. not (comes_before u q.table) ≡ false) (values_of es) → insert_entry bytes_eq es t o ≡ es ++ (t, o) ∷ []
+  late_entry : (u : List ℕ) (es : List Entry) → comes_before t u ≡ true → HaveOwnLabels (λ q. q.table) es → Each (λ q. not (comes_before u q.table) ≡ false) (values_of es) → insert_entry bytes_eq es t o ≡ es ++ (t, o) ∷ []
   late_entry u [] h own g = refl
   late_entry u (e ∷ es) h own g =
       let other : bytes_eq t e.0 ≡ false = ap (bytes_eq t) (sym own.0) ∙ apart u e.1.table h g.0 in
       ap (λ b. if b then (e.0, o) ∷ es else e ∷ insert_entry bytes_eq es t o) other ∙ ap (λ l. e ∷ l) (late_entry u es h own.1 g.1)
 
-  late_spot : (u : List ℕ) (es : List Entry) → comes_before t u ≡ true → Own (λ q. q.table) es → Each (λ q. not (comes_before u q.table) ≡ false) (values_of es) → spot es ≡ length es
+  late_spot : (u : List ℕ) (es : List Entry) → comes_before t u ≡ true → HaveOwnLabels (λ q. q.table) es → Each (λ q. not (comes_before u q.table) ≡ false) (values_of es) → spot es ≡ length es
   late_spot u [] h own g = refl
   late_spot u (e ∷ es) h own g =
       let other : bytes_eq t e.0 ≡ false = ap (bytes_eq t) (sym own.0) ∙ apart u e.1.table h g.0 in
@@ -152,7 +152,7 @@ module _ (o : spec.Own) (t : List ℕ) where
       first true = refl
       first false = refl
 
-  pub moved_put : (es : List Entry) → Own (λ q. q.table) es → Apart Unordered (values_of es) → moved es ≡ put_entry es
+  pub moved_put : (es : List Entry) → HaveOwnLabels (λ q. q.table) es → Apart Unordered (values_of es) → moved es ≡ put_entry es
   moved_put [] own h = refl
   moved_put (e ∷ es) own h = by (bytes_eq t e.0) (comes_before e.1.table t) refl refl (moved_put es own.1 h.1)
     where
@@ -172,16 +172,16 @@ module _ (o : spec.Own) (t : List ℕ) where
           ap (λ n. move_index (e ∷ insert_entry bytes_eq es t o) (1 + n) (index_before (1 + n) 0)) last
           ∙ ap (λ l. move_index (e ∷ l) (1 + length es) (index_before (1 + length es) 0)) entries ∙ move_first e es
 
-  pub own_put_entry : (es : List Entry) → o.table ≡ t → Own (λ q. q.table) es → Own (λ q. q.table) (put_entry es)
+  pub own_put_entry : (es : List Entry) → o.table ≡ t → HaveOwnLabels (λ q. q.table) es → HaveOwnLabels (λ q. q.table) (put_entry es)
   own_put_entry [] is own = (is, tt)
   own_put_entry (e ∷ es) is own = by (bytes_eq t e.0) (comes_before e.1.table t) refl (own_put_entry es is own.1)
     where
-      by : (b c : Bool) → bytes_eq t e.0 ≡ b → Own (λ q. q.table) (put_entry es) → Own (λ q. q.table) (if b then (e.0, o) ∷ es else if c then e ∷ put_entry es else (t, o) ∷ e ∷ es)
+      by : (b c : Bool) → bytes_eq t e.0 ≡ b → HaveOwnLabels (λ q. q.table) (put_entry es) → HaveOwnLabels (λ q. q.table) (if b then (e.0, o) ∷ es else if c then e ∷ put_entry es else (t, o) ∷ e ∷ es)
       by true c k rest = (is ∙ bytes_eq_true t e.0 k, own.1)
       by false true k rest = (own.0, rest)
       by false false k rest = (is, own)
 
-  pub values_put_entry : (es : List Entry) → o.table ≡ t → Own (λ q. q.table) es → values_of (put_entry es) ≡ put_own o (values_of es)
+  pub values_put_entry : (es : List Entry) → o.table ≡ t → HaveOwnLabels (λ q. q.table) es → values_of (put_entry es) ≡ put_own o (values_of es)
   values_put_entry [] is own = refl
   values_put_entry (e ∷ es) is own =
       let same : bytes_eq e.1.table o.table ≡ bytes_eq t e.0 = ap (λ u. bytes_eq u o.table) own.0 ∙ ap (bytes_eq e.0) is ∙ bytes_eq_sym e.0 t in
@@ -198,7 +198,7 @@ module _ (o : spec.Own) (t : List ℕ) where
 
 -- what is kept of the entries with one list more
 module _ (o : spec.Own) (t : List ℕ) (place to : ℕ) (es old new : List Entry) (is : o.table ≡ t) (copied : old ≡ es) (at : to ≡ index_before (spot o t old) place) (found : place ≡ place_in (values_of es) t)
-    (made : new ≡ move_index (insert_entry bytes_eq old t o) (spot o t old) to) (own : Own (λ q. q.table) es) (ordered : Apart Unordered (values_of es)) where
+    (made : new ≡ move_index (insert_entry bytes_eq old t o) (spot o t old) to) (own : HaveOwnLabels (λ q. q.table) es) (ordered : Apart Unordered (values_of es)) where
   put_made : new ≡ put_entry o t es
   put_made =
       made ∙ ap (move_index (insert_entry bytes_eq old t o) (spot o t old)) (at ∙ ap (index_before (spot o t old)) found)
@@ -207,8 +207,8 @@ module _ (o : spec.Own) (t : List ℕ) (place to : ℕ) (es old new : List Entry
   pub put_values : values_of new ≡ put_own o (values_of es)
   put_values = ap values_of put_made ∙ values_put_entry o t es is own
 
-  pub put_kept : Own (λ q. q.table) new × Apart Unordered (values_of new)
-  put_kept = (subst (Own (λ q. q.table)) (sym put_made) (own_put_entry o t es is own), subst (Apart Unordered) (sym put_values) (ordered_put_own o (values_of es) ordered))
+  pub put_kept : HaveOwnLabels (λ q. q.table) new × Apart Unordered (values_of new)
+  put_kept = (subst (HaveOwnLabels (λ q. q.table)) (sym put_made) (own_put_entry o t es is own), subst (Apart Unordered) (sym put_values) (ordered_put_own o (values_of es) ordered))
 
 -- how many lists stand before a table's, as a search finds it
 
@@ -246,19 +246,19 @@ lists_without : (t : List ℕ) (os : List spec.Own) → without_at (λ q. q.tabl
 lists_without t [] = refl
 lists_without t (q ∷ os) = ap (λ l. if bytes_eq q.table t then os else q ∷ l) (lists_without t os)
 
-pub lists_removed : (es : List Entry) (t : List ℕ) → Own (λ q. q.table) es → values_of (remove_entry (bytes_eq t) es) ≡ without_own t (values_of es)
+pub lists_removed : (es : List Entry) (t : List ℕ) → HaveOwnLabels (λ q. q.table) es → values_of (remove_entry (bytes_eq t) es) ≡ without_own t (values_of es)
 lists_removed es t own = values_removed (λ q. q.table) es t own ∙ lists_without t (values_of es)
 
-pub removed_kept : (es new : List Entry) (t : List ℕ) → new ≡ remove_entry (bytes_eq t) es → Own (λ q. q.table) es → Apart Unordered (values_of es) → Own (λ q. q.table) new × Apart Unordered (values_of new)
+pub removed_kept : (es new : List Entry) (t : List ℕ) → new ≡ remove_entry (bytes_eq t) es → HaveOwnLabels (λ q. q.table) es → Apart Unordered (values_of es) → HaveOwnLabels (λ q. q.table) new × Apart Unordered (values_of new)
 removed_kept es new t made own ordered =
     let values = ap values_of made ∙ lists_removed es t own in (
-      subst (Own (λ q. q.table)) (sym made) (own_removed (λ q. q.table) es t own),
+      subst (HaveOwnLabels (λ q. q.table)) (sym made) (own_removed (λ q. q.table) es t own),
       subst (Apart Unordered) (sym values) (apart_dropped Unordered (values_of es) (without_own t (values_of es)) (own_dropped t (values_of es)) ordered),
     )
 
 -- 4. what is found
 
-pub keys_tables : (es : List Entry) → Own (λ q. q.table) es → keys_of es ≡ map (λ q. q.table) (values_of es)
+pub keys_tables : (es : List Entry) → HaveOwnLabels (λ q. q.table) es → keys_of es ≡ map (λ q. q.table) (values_of es)
 keys_tables [] own = refl
 keys_tables (e ∷ es) own = ap (λ k. k ∷ keys_of es) (sym own.0) ∙ ap (λ l. e.1.table ∷ l) (keys_tables es own.1)
 
@@ -267,7 +267,7 @@ abbrev pub filter_by : Option spec.Own → List ModuleName → Filter
 filter_by None ignored = record { kind = to_ignore; names = ignored }
 filter_by (Some o) ignored = record { kind = o.kind; names = o.names }
 
-pub filter_found : (es : List Entry) (t : List ℕ) (ignored : List ModuleName) → Own (λ q. q.table) es → filter_by (lookup (bytes_eq t) es) ignored ≡ filter_in t (values_of es) ignored
+pub filter_found : (es : List Entry) (t : List ℕ) (ignored : List ModuleName) → HaveOwnLabels (λ q. q.table) es → filter_by (lookup (bytes_eq t) es) ignored ≡ filter_in t (values_of es) ignored
 filter_found [] t ignored own = refl
 filter_found (e ∷ es) t ignored own = by (bytes_eq t e.0) (bytes_eq e.1.table t) (bytes_eq_sym t e.0 ∙ ap (λ u. bytes_eq u t) (sym own.0)) (filter_found es t ignored own.1)
   where

@@ -11,7 +11,7 @@ use Rattle.lsys_syntax.specs.LineMachine.{sentence, verdict}
 use Rattle.lsys_syntax.specs.Sentences.{AreTokens}
 use Rattle.lsys_syntax.proofs.LineSound.{sentence-spelled}
 use Rattle.lsys_spec.specs.Edits.{label_place}
-use Rattle.lsys_text.specs.Tokens.{kind_of, kinds_of, name_of}
+use Rattle.lsys_text.specs.Tokens.{kind_of, kind_row, name_of}
 use Rattle.lsys_text.specs.declared.token_kind.Token.{Token}
 use Rattle.lsys_reading.specs.declared.rule.RuleLine.{RuleLine}
 use Rattle.lsys_reading.specs.declared.parts.LabeledRule.{LabeledRule}
@@ -130,20 +130,20 @@ production_count (Some t) l r = omega arith
 homomorphism_count : (l : List ℕ) (r : Rule) → length (kinds_in (spec.command_pieces (spec.put_homomorphism l r))) ≡ 3 + length (kinds_in (rule_pieces r))
 homomorphism_count l r = omega arith
 
-line_count : (ts : List Token) (c : spec.Command) → AreTokens (kinds_of ts) → verdict (kinds_of ts) ≡ sentence c → length (kinds_in (spec.command_pieces c)) ≡ length ts
-line_count ts c g e = ap length (sentence-spelled (kinds_of ts) c g e).0 ∙ length-map ts (λ t. kind_of t.kind)
+line_count : (ts : List Token) (c : spec.Command) → AreTokens (kind_row ts) → verdict (kind_row ts) ≡ sentence c → length (kinds_in (spec.command_pieces c)) ≡ length ts
+line_count ts c g e = ap length (sentence-spelled (kind_row ts) c g e).0 ∙ length-map ts (λ t. kind_of t.kind)
 
-pub production_tokens : (ts : List Token) (p : Parts) (l : LabeledRule) → AreTokens (kinds_of ts) → p ≡ Production l → IsParted (kinds_of ts) p
-    → label_place l.table + 2 + length (kinds_in (rule_pieces (rule_at (kinds_of ts) l.rule))) ≡ length ts
+pub production_tokens : (ts : List Token) (p : Parts) (l : LabeledRule) → AreTokens (kind_row ts) → p ≡ Production l → IsParted (kind_row ts) p
+    → label_place l.table + 2 + length (kinds_in (rule_pieces (rule_at (kind_row ts) l.rule))) ≡ length ts
 production_tokens ts p l g is h =
-    sym (production_count l.table l.label (rule_at (kinds_of ts) l.rule))
-    ∙ line_count ts (parts_command (kinds_of ts) (Production l)) g (h.spelled ∙ ap (λ q. sentence (parts_command (kinds_of ts) q)) is)
+    sym (production_count l.table l.label (rule_at (kind_row ts) l.rule))
+    ∙ line_count ts (parts_command (kind_row ts) (Production l)) g (h.spelled ∙ ap (λ q. sentence (parts_command (kind_row ts) q)) is)
 
-pub homomorphism_tokens : (ts : List Token) (p : Parts) (l : LabeledRule) → AreTokens (kinds_of ts) → p ≡ Homomorphism l → IsParted (kinds_of ts) p
-    → 3 + length (kinds_in (rule_pieces (rule_at (kinds_of ts) l.rule))) ≡ length ts
+pub homomorphism_tokens : (ts : List Token) (p : Parts) (l : LabeledRule) → AreTokens (kind_row ts) → p ≡ Homomorphism l → IsParted (kind_row ts) p
+    → 3 + length (kinds_in (rule_pieces (rule_at (kind_row ts) l.rule))) ≡ length ts
 homomorphism_tokens ts p l g is h =
-    sym (homomorphism_count l.label (rule_at (kinds_of ts) l.rule))
-    ∙ line_count ts (parts_command (kinds_of ts) (Homomorphism l)) g (h.spelled ∙ ap (λ q. sentence (parts_command (kinds_of ts) q)) is)
+    sym (homomorphism_count l.label (rule_at (kind_row ts) l.rule))
+    ∙ line_count ts (parts_command (kind_row ts) (Homomorphism l)) g (h.spelled ∙ ap (λ q. sentence (parts_command (kind_row ts) q)) is)
 
 pub head_room : (ks : List Kind) (r : RuleLine) → length (kinds_in (head_pieces r)) ≤ length (kinds_in (rule_pieces (rule_at ks r)))
 head_room ks r = omega (arith, ap (λ ps. length (kinds_in ps)) (head-rest ks r), count-append (head_pieces r) (rest_pieces ks r))

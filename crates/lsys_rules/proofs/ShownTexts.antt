@@ -16,7 +16,7 @@ use Rattle.lsys_text.specs.Tokens.{kind_of, is_mark, mark_kind, IsMarkByte}
 use Rattle.lsys_module.specs.Views.{module_name}
 use Rattle.lsys_module.specs.Printing.{gap_text, name_behind, symbol_behind, more_text, runs_on_after}
 use Rattle.lsys_module.proofs.PrintedTexts.{text_of-append, more_text-append}
-use Rattle.lsys_rules.specs.Showing.{line_of, listed_text, names_text, kinds_text, expr_behind, version_lines}
+use Rattle.lsys_rules.specs.Showing.{script_line, listed_text, names_text, kinds_text, expr_behind, version_lines}
 
 -- a text of items, one behind another
 pub record Gathers {X : Type 0} (whole : List X → List ℕ) (each : X → List ℕ) : Type 0 where
@@ -33,13 +33,6 @@ gathered-step whole each g xs i d h e =
 pub gathered-rest : {X : Type 0} (whole : List X → List ℕ) (each : X → List ℕ) → Gathers whole each → (xs : List X) (i : ℕ) → whole xs ≡ whole (take i xs) ++ whole (drop i xs)
 gathered-rest whole each g xs i = ap whole (sym (take-append-drop i xs)) ∙ g.more (take i xs) (drop i xs)
 
-pub more_gathers : {X P : Type 0} (print : P → List Piece) (f : X → P) → Gathers (λ xs. more_text print (map f xs)) (λ x. 44 ∷ text_of (print (f x)))
-more_gathers print f = record {
-  none = refl;
-  more = λ xs ys. ap (more_text print) (map-append f xs ys) ∙ more_text-append print (map f xs) (map f ys);
-  one = λ x. ap (λ t. 44 ∷ t) (append-nil (text_of (print (f x))));
-}
-
 words-append : (xs ys : List (List ℕ)) → text_of (words_pieces (xs ++ ys)) ≡ text_of (words_pieces xs) ++ text_of (words_pieces ys)
 words-append [] ys = refl
 words-append (w ∷ ws) ys = ap (λ t. 32 ∷ w ++ t) (words-append ws ys) ∙ ap (λ t. 32 ∷ t) (sym (append_assoc w (text_of (words_pieces ws)) (text_of (words_pieces ys))))
@@ -52,7 +45,7 @@ script-append [] ys = refl
 script-append (c ∷ cs) ys =
     ap (λ t. text_of (command_pieces c) ++ 10 ∷ t) (script-append cs ys) ∙ sym (append_assoc (text_of (command_pieces c)) (10 ∷ script_of cs) (script_of ys))
 
-pub script_gathers : {X Y : Type 0} (f : Y → Command) (g : X → Y) → Gathers (λ xs. script_of (map f (map g xs))) (λ x. line_of (f (g x)))
+pub script_gathers : {X Y : Type 0} (f : Y → Command) (g : X → Y) → Gathers (λ xs. script_of (map f (map g xs))) (λ x. script_line (f (g x)))
 script_gathers f g = record {
   none = refl;
   more = λ xs ys. ap (λ zs. script_of (map f zs)) (map-append g xs ys) ∙ ap script_of (map-append f (map g xs) (map g ys)) ∙ script-append (map f (map g xs)) (map f (map g ys));
@@ -71,7 +64,7 @@ kinds_gather f = record {
 }
 
 -- a line, and the lines behind it
-pub line-behind : (c : Command) (cs : List Command) → script_of (c ∷ cs) ≡ line_of c ++ script_of cs
+pub line-behind : (c : Command) (cs : List Command) → script_of (c ∷ cs) ≡ script_line c ++ script_of cs
 line-behind c cs = sym (append_assoc (text_of (command_pieces c)) (10 ∷ []) (script_of cs))
 
 pub script-behind : (xs ys : List Command) → script_of (xs ++ ys) ≡ script_of xs ++ script_of ys
@@ -114,7 +107,7 @@ string-written (Pop ∷ xs) = ap (λ ps. note a_symbol ∷ token RightBracket �
 string-written (Cut ∷ xs) = ap (λ ps. note a_symbol ∷ token Percent ∷ ps) (string-written xs)
 
 -- the line of an axiom that has some symbol
-pub axiom-line : (xs : List (Symbol ℤ)) → (xs ≡ [] → ⊥) → line_of (set_axiom (written xs)) ≡ codes "axiom " ++ (string_text xs ++ 10 ∷ [])
+pub axiom-line : (xs : List (Symbol ℤ)) → (xs ≡ [] → ⊥) → script_line (set_axiom (written xs)) ≡ codes "axiom " ++ (string_text xs ++ 10 ∷ [])
 axiom-line [] h = absurd (h refl)
 axiom-line (Module n zs ∷ xs) h = ap (λ ps. codes "axiom " ++ (text_of ps ++ 10 ∷ [])) (sym (string-written (Module n zs ∷ xs)))
 axiom-line (Push ∷ xs) h = ap (λ ps. codes "axiom " ++ (text_of ps ++ 10 ∷ [])) (sym (string-written (Push ∷ xs)))
@@ -122,7 +115,7 @@ axiom-line (Pop ∷ xs) h = ap (λ ps. codes "axiom " ++ (text_of ps ++ 10 ∷ [
 axiom-line (Cut ∷ xs) h = ap (λ ps. codes "axiom " ++ (text_of ps ++ 10 ∷ [])) (sym (string-written (Cut ∷ xs)))
 
 -- the line of names that are some
-pub ignored-line : (ns : List ModuleName) → (ns ≡ [] → ⊥) → line_of (set_ignored ns) ≡ codes "ignore " ++ (names_text ns ++ 10 ∷ [])
+pub ignored-line : (ns : List ModuleName) → (ns ≡ [] → ⊥) → script_line (set_ignored ns) ≡ codes "ignore " ++ (names_text ns ++ 10 ∷ [])
 ignored-line [] h = absurd (h refl)
 ignored-line (n ∷ ns) h = refl
 
@@ -134,14 +127,7 @@ some_symbols f (x ∷ xs) h e = cc
 pub no_items : {X : Type 0} (b : Bool) (xs : List X) → b ≡ (length xs == 0) → b ≡ false → xs ≡ [] → ⊥
 no_items b xs h e is = let none : (length xs == 0) ≡ true = ap (λ ys. length ys == 0) is in let both : false ≡ true = sym e ∙ h ∙ none in cc
 
--- a module without parameters is its name
-pub bare-behind : (runs_on : Bool) (n : ModuleName) → symbol_behind signed_pieces runs_on (as_symbol n) ≡ name_behind runs_on n
-bare-behind runs_on n = ap (λ t. gap_text runs_on (is_letters n) ++ t) (append-nil (module_name_text n))
-
-pub bare-runs_on : (n : ModuleName) → runs_on_after n ≡ ends_in_name (as_symbol n)
-bare-runs_on (named (long c more)) = refl
-bare-runs_on n = refl
-
+-- names, as modules without parameters
 pub bare-names : (ns : List (List ℕ)) → names_text (map module_name ns) ≡ text_of (string_pieces signed_pieces (map (λ n. as_symbol (module_name n)) ns))
 bare-names ns = ap (λ xs. text_of (string_pieces signed_pieces xs)) (map-map ns)
   where
@@ -188,25 +174,25 @@ rule-text r =
 pub labelled-text : (label : List ℕ) (rest : List ℕ) → (label ++ (58 ∷ 32 ∷ rest)) ++ 10 ∷ [] ≡ label ++ (58 ∷ 32 ∷ (rest ++ 10 ∷ []))
 labelled-text label rest = append_assoc label (58 ∷ 32 ∷ rest) (10 ∷ [])
 
-pub production-line : (p : Production) → line_of (as_put p) ≡ codes "production " ++ (p.table ++ (codes " " ++ (p.label ++ (58 ∷ 32 ∷ (text_of (rule_pieces p.rule) ++ 10 ∷ [])))))
+pub production-line : (p : Production) → script_line (as_put p) ≡ codes "production " ++ (p.table ++ (codes " " ++ (p.label ++ (58 ∷ 32 ∷ (text_of (rule_pieces p.rule) ++ 10 ∷ [])))))
 production-line p =
     ap (λ t. codes "production " ++ t)
     (append_assoc p.table (32 ∷ (p.label ++ (58 ∷ 32 ∷ text_of (rule_pieces p.rule)))) (10 ∷ []) ∙ ap (λ t. p.table ++ 32 ∷ t) (labelled-text p.label (text_of (rule_pieces p.rule))))
 
-pub homomorphism-line : (h : Homomorphism) → line_of (as_put_homomorphism h) ≡ codes "hom " ++ (h.label ++ (58 ∷ 32 ∷ (text_of (rule_pieces h.rule) ++ 10 ∷ [])))
+pub homomorphism-line : (h : Homomorphism) → script_line (as_put_homomorphism h) ≡ codes "hom " ++ (h.label ++ (58 ∷ 32 ∷ (text_of (rule_pieces h.rule) ++ 10 ∷ [])))
 homomorphism-line h = ap (λ t. codes "hom " ++ t) (labelled-text h.label (text_of (rule_pieces h.rule)))
 
 -- the line of a number
-pub seed-line : (n : ℕ) → line_of (set_seed n) ≡ codes "seed " ++ (decimal n ++ 10 ∷ [])
+pub seed-line : (n : ℕ) → script_line (set_seed n) ≡ codes "seed " ++ (decimal n ++ 10 ∷ [])
 seed-line n = ap (λ t. codes "seed " ++ (t ++ 10 ∷ [])) (append-nil (decimal n))
 
-pub depth-line : (n : ℕ) → line_of (set_depth n) ≡ codes "depth " ++ (decimal n ++ 10 ∷ [])
+pub depth-line : (n : ℕ) → script_line (set_depth n) ≡ codes "depth " ++ (decimal n ++ 10 ∷ [])
 depth-line n = ap (λ t. codes "depth " ++ (t ++ 10 ∷ [])) (append-nil (decimal n))
 
 -- the first lines of a system that isn't of version 1
 pub later-lines : (n : ℕ) (g : Numbering) → (n ≡ 1 → ⊥) → version_lines n g ≡ (codes "version " ++ (decimal n ++ 10 ∷ [])) ++ script_of (numbering_commands g)
 later-lines n g h =
-    ap (λ b. if b then [] else line_of (set_version n) ++ script_of (numbering_commands g)) (other (n == 1) refl)
+    ap (λ b. if b then [] else script_line (set_version n) ++ script_of (numbering_commands g)) (other (n == 1) refl)
     ∙ ap (λ t. (codes "version " ++ (t ++ 10 ∷ [])) ++ script_of (numbering_commands g)) (append-nil (decimal n))
   where
     other : (b : Bool) → (n == 1) ≡ b → b ≡ false
@@ -214,14 +200,14 @@ later-lines n g h =
     other false e = refl
 
 -- the lines of own lists
-pub lists_gather : Gathers (λ os. script_of (map as_set_own os)) (λ o. line_of (as_set_own o))
+pub lists_gather : Gathers (λ os. script_of (map as_set_own os)) (λ o. script_line (as_set_own o))
 lists_gather = record {
   none = refl;
   more = λ os qs. ap script_of (map-append as_set_own os qs) ∙ script-append (map as_set_own os) (map as_set_own qs);
   one = λ o. refl;
 }
 
-pub own-line : (o : Own) → line_of (as_set_own o) ≡ list_word o.kind ++ ((32 ∷ o.table) ++ listed_text o.names)
+pub own-line : (o : Own) → script_line (as_set_own o) ≡ list_word o.kind ++ ((32 ∷ o.table) ++ listed_text o.names)
 own-line o =
     let names = text_of (string_behind (map as_symbol o.names)) in
     append_assoc (list_word o.kind) (32 ∷ (o.table ++ 58 ∷ names)) (10 ∷ []) ∙ ap (λ t. list_word o.kind ++ 32 ∷ t) (append_assoc o.table (58 ∷ names) (10 ∷ []))
@@ -235,13 +221,13 @@ listed-text (n ∷ ns) h = refl
 version-text : (s : System) → script_of (version_commands s) ≡ version_lines s.version s.numbering
 version-text s = by (s.version == 1)
   where
-    by : (b : Bool) → script_of (if b then [] else set_version s.version ∷ numbering_commands s.numbering) ≡ (if b then [] else line_of (set_version s.version) ++ script_of (numbering_commands s.numbering))
+    by : (b : Bool) → script_of (if b then [] else set_version s.version ∷ numbering_commands s.numbering) ≡ (if b then [] else script_line (set_version s.version) ++ script_of (numbering_commands s.numbering))
     by true = refl
     by false = line-behind (set_version s.version) (numbering_commands s.numbering)
 
 -- all lines of a system
 pub show-text : (s : System) → show_text s
-    ≡ version_lines s.version s.numbering ++ (line_of (set_lattice s.lattice) ++ (line_of (set_seed s.seed) ++ (line_of (set_axiom (written s.axiom_string)) ++ (line_of (set_ignored s.ignored) ++ (script_of (map as_put s.rules) ++ (script_of (map as_put_homomorphism s.homomorphisms) ++ (script_of (map as_set_own s.own) ++ (line_of (set_schedule s.schedule) ++ line_of (set_depth s.depth)))))))))
+    ≡ version_lines s.version s.numbering ++ (script_line (set_lattice s.lattice) ++ (script_line (set_seed s.seed) ++ (script_line (set_axiom (written s.axiom_string)) ++ (script_line (set_ignored s.ignored) ++ (script_of (map as_put s.rules) ++ (script_of (map as_put_homomorphism s.homomorphisms) ++ (script_of (map as_set_own s.own) ++ (script_line (set_schedule s.schedule) ++ script_line (set_depth s.depth)))))))))
 show-text s =
     let last = set_schedule s.schedule ∷ set_depth s.depth ∷ [] in
     let lists = map as_set_own s.own ++ last in
@@ -253,13 +239,13 @@ show-text s =
     let second = set_lattice s.lattice ∷ third in
     script-append (version_commands s) second ∙ ap (λ t. t ++ script_of second) (version-text s)
     ∙ ap (λ t. version_lines s.version s.numbering ++ t) (line-behind (set_lattice s.lattice) third
-    ∙ ap (λ t. line_of (set_lattice s.lattice) ++ t) (line-behind (set_seed s.seed) fourth
-    ∙ ap (λ t. line_of (set_seed s.seed) ++ t) (line-behind (set_axiom (written s.axiom_string)) fifth
-    ∙ ap (λ t. line_of (set_axiom (written s.axiom_string)) ++ t) (line-behind (set_ignored s.ignored) rules
-    ∙ ap (λ t. line_of (set_ignored s.ignored) ++ t) (script-append (map as_put s.rules) homs
+    ∙ ap (λ t. script_line (set_lattice s.lattice) ++ t) (line-behind (set_seed s.seed) fourth
+    ∙ ap (λ t. script_line (set_seed s.seed) ++ t) (line-behind (set_axiom (written s.axiom_string)) fifth
+    ∙ ap (λ t. script_line (set_axiom (written s.axiom_string)) ++ t) (line-behind (set_ignored s.ignored) rules
+    ∙ ap (λ t. script_line (set_ignored s.ignored) ++ t) (script-append (map as_put s.rules) homs
     ∙ ap (λ t. script_of (map as_put s.rules) ++ t) (script-append (map as_put_homomorphism s.homomorphisms) lists
     ∙ ap (λ t. script_of (map as_put_homomorphism s.homomorphisms) ++ t) (script-append (map as_set_own s.own) last
-    ∙ ap (λ t. script_of (map as_set_own s.own) ++ t) (line-behind (set_schedule s.schedule) (set_depth s.depth ∷ []) ∙ ap (λ t. line_of (set_schedule s.schedule) ++ t) (line-behind (set_depth s.depth) [] ∙ append-nil (line_of (set_depth s.depth)))))))))))
+    ∙ ap (λ t. script_of (map as_set_own s.own) ++ t) (line-behind (set_schedule s.schedule) (set_depth s.depth ∷ []) ∙ ap (λ t. script_line (set_schedule s.schedule) ++ t) (line-behind (set_depth s.depth) [] ∙ append-nil (script_line (set_depth s.depth)))))))))))
 
 -- No mark of an expression is other than the 20 marks.
 

@@ -13,19 +13,19 @@ abbrev pub IsToldAt : CommandLine → edits.Why → ℕ → Option edits.Refusal
 IsToldAt line why column told = (place : ℕ) × (told ≡ Some (record { why = why; place = place })) × (column ≡ column_of line.bytes line.tokens place)
 
 -- the refusal that the definitions tell; for want of memory only where they tell none
-abbrev pub IsRefused : CommandLine → Option edits.Refusal → Refusal → Type 0
-IsRefused line told (Version column) = IsToldAt line edits.wrong_version column told
-IsRefused line told (Name column) = IsToldAt line edits.unknown_name column told
-IsRefused line told (Duplicate column) = IsToldAt line edits.duplicate column told
-IsRefused line told (Mixed column) = IsToldAt line edits.mixed column told
-IsRefused line told (Label column) = IsToldAt line edits.wrong_label column told
-IsRefused line told (Table column) = IsToldAt line edits.wrong_table column told
-IsRefused line told (Level column) = IsToldAt line edits.wrong_level column told
-IsRefused line told (TooMany column) = IsToldAt line edits.many column told
-IsRefused line told Memory = told ≡ None
-IsRefused line told e = ⊥
+abbrev pub IsEditRefusal : CommandLine → Option edits.Refusal → Refusal → Type 0
+IsEditRefusal line told (Version column) = IsToldAt line edits.wrong_version column told
+IsEditRefusal line told (Name column) = IsToldAt line edits.unknown_name column told
+IsEditRefusal line told (Duplicate column) = IsToldAt line edits.duplicate column told
+IsEditRefusal line told (Mixed column) = IsToldAt line edits.mixed column told
+IsEditRefusal line told (Label column) = IsToldAt line edits.wrong_label column told
+IsEditRefusal line told (Table column) = IsToldAt line edits.wrong_table column told
+IsEditRefusal line told (Level column) = IsToldAt line edits.wrong_level column told
+IsEditRefusal line told (TooMany column) = IsToldAt line edits.many column told
+IsEditRefusal line told Memory = told ≡ None
+IsEditRefusal line told e = ⊥
 
 -- the changed system where nothing refuses the command, or the first refusal
 abbrev pub IsApplied : spec.System → CommandLine → Result spec.System Refusal → Type 0
 IsApplied s line (Ok next) = (edits.refusal s (command_of line.tokens) ≡ None) × (next ≡ edits.changed s (command_of line.tokens))
-IsApplied s line (Err e) = IsRefused line (edits.refusal s (command_of line.tokens)) e
+IsApplied s line (Err e) = IsEditRefusal line (edits.refusal s (command_of line.tokens)) e

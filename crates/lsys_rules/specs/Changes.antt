@@ -23,11 +23,11 @@ IsPlainEdit (Common t) = ⊥
 IsPlainEdit p = Unit {0}
 
 -- a name more, unless it stands there
-abbrev pub with_name : Bool → List ModuleName → ModuleName → List ModuleName
-with_name b names n = if b then names else names ++ n ∷ []
+abbrev pub with_name_unless : Bool → List ModuleName → ModuleName → List ModuleName
+with_name_unless b names n = if b then names else names ++ n ∷ []
 
 abbrev pub with_name_once : List ModuleName → ModuleName → List ModuleName
-with_name_once names n = with_name (ignores names n) names n
+with_name_once names n = with_name_unless (ignores names n) names n
 
 -- the name was added, unless it stood there
 abbrev pub AddsNameOnce : List (List ℕ) → List (List ℕ) → List ℕ → Type 0

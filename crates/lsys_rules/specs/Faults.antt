@@ -19,12 +19,12 @@ why_of causes.Table = wrong_table
 why_of causes.Level = wrong_level
 why_of causes.TooMany = many
 
-abbrev pub refusal_of : Fault → Refusal
-refusal_of f = record { why = why_of f.cause; place = f.place }
+abbrev pub refusal_of_fault : Fault → Refusal
+refusal_of_fault f = record { why = why_of f.cause; place = f.place }
 
 -- The fault, or none, is what the definitions tell.
 abbrev pub Tells : Option Fault → Option Refusal → Type 0
-Tells fault told = option_map refusal_of fault ≡ told
+Tells fault told = option_map refusal_of_fault fault ≡ told
 
 -- a rule of the table under another label
 abbrev pub labelled_else : List ℕ → List ℕ → Production → Bool

@@ -1,7 +1,7 @@
 -- The formals that a command keeps of its rule.
 use Rattle.std.specs.Prelude.{◌+◌, Option, Some, None, List}
 use Rattle.lsys_spec.specs.Edits.{label_place}
-use Rattle.lsys_text.specs.Tokens.{kinds_of}
+use Rattle.lsys_text.specs.Tokens.{kind_row}
 use Rattle.lsys_text.specs.declared.token_kind.Token.{Token}
 use Rattle.lsys_reading.specs.Parted.{IsParted}
 use Rattle.lsys_reading.specs.declared.parts.Parts.{Parts}
@@ -19,4 +19,4 @@ HasFormals p o = Unit {0}
 
 -- those of the rule that the tokens spell, where they spell one
 abbrev pub HasFormalsOf : List Token → Option FormalNames → Type 0
-HasFormalsOf ts names = (p : Parts) → IsParted (kinds_of ts) p → HasFormals p names
+HasFormalsOf ts names = (p : Parts) → IsParted (kind_row ts) p → HasFormals p names

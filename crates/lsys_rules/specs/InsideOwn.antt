@@ -8,12 +8,12 @@ use Rattle.lsys_module.specs.Views.{module_name}
 use Rattle.lsys_reading.specs.Commands.{list_kind_of}
 use Rattle.lsys_rules.specs.declared.own_list.OwnList.TheInside as lists
 use Rattle.lsys_rules.specs.declared.own_list.OwnList.{OwnList}
-use Rattle.lsys_rules.specs.InsideRules.{Own}
+use Rattle.lsys_rules.specs.InsideRules.{HaveOwnLabels}
 
 abbrev pub own_in : lists.Inside → spec.Own
 own_in a = record { table = a.table; kind = list_kind_of a.kind; names = map module_name a.names.items }
 
 -- each list stands under its own table, before those of later words
-pub record AreKept {S : Type 0} (m : IndexMap Word OwnList S) : Type 0 where
-  pub tables : Own (λ o. o.table) m.entries
+pub record AreByTable {S : Type 0} (m : IndexMap Word OwnList S) : Type 0 where
+  pub tables : HaveOwnLabels (λ o. o.table) m.entries
   pub ordered : Apart (λ o q. not (in_order o q)) (values m)

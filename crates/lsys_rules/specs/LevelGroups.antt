@@ -6,7 +6,7 @@ use Rattle.lsys_spec.specs.Bodies.{Body, body_of, group, is_for, table_at}
 use Rattle.lsys_spec.specs.Systems.{System}
 use Rattle.lsys_module.specs.Views.{module_name}
 use Rattle.lsys_bodies.specs.declared.rule.Rule.{Rule}
-use Rattle.lsys_bodies.specs.Views.{production_of, rule_of}
+use Rattle.lsys_bodies.specs.Views.{as_production, rule_of}
 
 -- of these rules, those of a table that are for modules with this name and number of parameters, in order
 abbrev pub table_rules : List Production → List ℕ → List ℕ → ℕ → List Production
@@ -26,7 +26,7 @@ rule_body r = body_of (rule_of r)
 
 -- a rule that was looked for, where there is one
 abbrev pub found_production : Option (Bor Rule) → Option Production
-found_production o = option_map (λ r. production_of r.now) o
+found_production o = option_map (λ r. as_production r.now) o
 
 -- what that means
 abbrev pub found_body : Option (Bor Rule) → Option Body

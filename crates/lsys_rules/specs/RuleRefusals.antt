@@ -7,7 +7,7 @@ use Rattle.lsys_syntax.specs.Rules.{Production, rule_pieces}
 use Rattle.lsys_syntax.specs.Checks.{rule_many, rule_repeated, rule_unknown}
 use Rattle.lsys_spec.specs.Systems.{Homomorphism, System, any, is_table, tables, with_table}
 use Rattle.lsys_spec.specs.Edits.{Refusal, or_else, refused_at, refused_if, unknown_name, duplicate, mixed, wrong_label, many, label_place, production_refusal, homomorphism_refusal, put, put_hom, stands_elsewhere}
-use Rattle.lsys_text.specs.Tokens.{kinds_of}
+use Rattle.lsys_text.specs.Tokens.{kind_row}
 use Rattle.lsys_text.specs.declared.token_kind.Token.{Token}
 use Rattle.lsys_reading.specs.RuleLines.{rule_at, IsRuleLine}
 use Rattle.lsys_reading.specs.declared.parts.LabeledRule.{LabeledRule}
@@ -83,11 +83,11 @@ TellsNumber s label told p =
 
 -- what refuses the production that a line spells
 abbrev pub spelled_refusal : System → List Token → LabeledRule → Option Refusal
-spelled_refusal s ts l = production_refusal s (label_place l.table) (production_at (kinds_of ts) l)
+spelled_refusal s ts l = production_refusal s (label_place l.table) (production_at (kind_row ts) l)
 
 -- what refuses the rule of the homomorphism that a line spells
 abbrev pub spelled_hom_refusal : System → List Token → LabeledRule → Option Refusal
-spelled_hom_refusal s ts l = homomorphism_refusal s (homomorphism_at (kinds_of ts) l)
+spelled_hom_refusal s ts l = homomorphism_refusal s (homomorphism_at (kind_row ts) l)
 
 -- 4. names to ignore
 

@@ -8,8 +8,8 @@ use Rattle.lsys_syntax.specs.Commands.{Command, Numbering, set_version, as_symbo
 use Rattle.lsys_spec.specs.Shown.{numbering_commands, script_of}
 
 -- a command on a line of its own
-abbrev pub line_of : Command → List ℕ
-line_of c = text_of (command_pieces c) ++ 10 ∷ []
+abbrev pub script_line : Command → List ℕ
+script_line c = text_of (command_pieces c) ++ 10 ∷ []
 
 -- names as a string of modules without parameters
 abbrev pub names_text : List ModuleName → List ℕ
@@ -27,7 +27,7 @@ expr_behind mark (Some e) = mark ++ text_of (expr_pieces e)
 
 -- the first lines of a system of this version and numbering
 abbrev pub version_lines : ℕ → Numbering → List ℕ
-version_lines v g = if v == 1 then [] else line_of (set_version v) ++ script_of (numbering_commands g)
+version_lines v g = if v == 1 then [] else script_line (set_version v) ++ script_of (numbering_commands g)
 
 -- what stands behind the word of a table in the line of its own list
 abbrev pub listed_text : List ModuleName → List ℕ

@@ -5,10 +5,10 @@ use Rattle.lsys_syntax.specs.Rules as R
 use Rattle.lsys_syntax.specs.Commands.{Command, put_homomorphism, put_production, set_axiom, set_own}
 use Rattle.lsys_syntax.specs.LineMachine.{sentence}
 use Rattle.lsys_spec.specs.Edits.{label_place}
-use Rattle.lsys_text.specs.Tokens.{kinds_of}
+use Rattle.lsys_text.specs.Tokens.{kind_row}
 use Rattle.lsys_text.specs.declared.token_kind.Token.{Token}
 use Rattle.lsys_module.specs.Views.{module_name}
-use Rattle.lsys_reading.specs.Commands.{axiom_verdict, list_kind_of, string_in}
+use Rattle.lsys_reading.specs.Commands.{axiom_reading, list_kind_of, string_in}
 use Rattle.lsys_reading.specs.RuleLines.{rule_at}
 use Rattle.lsys_reading.specs.declared.parts.LabeledRule.{LabeledRule}
 use Rattle.lsys_reading.specs.declared.parts.OwnList.{OwnList}
@@ -16,15 +16,15 @@ use Rattle.lsys_reading.specs.declared.rule.RuleLine.{RuleLine}
 
 -- the string behind an axiom's word
 abbrev pub written_axiom : List Token → List (Symbol Signed)
-written_axiom ts = string_in (axiom_verdict (kinds_of ts))
+written_axiom ts = string_in (axiom_reading (kind_row ts))
 
 -- the tokens behind an axiom's word are a string
 abbrev pub SpellsAxiom : List Token → Type 0
-SpellsAxiom ts = axiom_verdict (kinds_of ts) ≡ sentence (set_axiom (written_axiom ts))
+SpellsAxiom ts = axiom_reading (kind_row ts) ≡ sentence (set_axiom (written_axiom ts))
 
 -- a rule, the expressions of which stand among the tokens
 abbrev pub written_rule : List Token → RuleLine → R.Rule
-written_rule ts r = rule_at (kinds_of ts) r
+written_rule ts r = rule_at (kind_row ts) r
 
 -- the first token of a production's rule
 abbrev pub rule_place : LabeledRule → ℕ

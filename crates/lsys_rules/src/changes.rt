@@ -6,7 +6,7 @@ ghost use Rattle.lsys_syntax.specs.Commands.{drop_rule, set_axiom, set_ignored, 
 ghost use Rattle.lsys_syntax.specs.Tokens.{Kind};
 ghost use Rattle.lsys_syntax.specs.Sentences.{AreTokens};
 ghost use Rattle.lsys_spec.specs.Edits.{once, refusal, values_of};
-ghost use Rattle.lsys_text.specs.Tokens.{kinds_of};
+ghost use Rattle.lsys_text.specs.Tokens.{kind_row};
 ghost use Rattle.lsys_module.specs.Building.{AreOfLine};
 ghost use Rattle.lsys_module.specs.Views.{module_name, string_of};
 ghost use Rattle.lsys_reading.specs.Commands.{parts_command};
@@ -33,9 +33,9 @@ pub(crate) fn changed(
     tokens: &[Token],
     edit: &Parts,
 ) -> Result<SystemParts, AllocError>
-    requires forms { AreTokens (kinds_of tokens.now) }
+    requires forms { AreTokens (kind_row tokens.now) }
     requires line { AreOfLine tokens.now }
-    requires parted { IsParted (kinds_of tokens.now) edit.now }
+    requires parted { IsParted (kind_row tokens.now) edit.now }
     requires accepted { refusal (system_of parts.now) (command_of tokens.now) ≡ None }
     ensures { Changes parts.now (command_of tokens.now) result }
 {
@@ -77,7 +77,7 @@ fn with_axiom(
     tokens: &[Token],
 ) -> Result<SystemParts, AllocError>
     requires place { 1 ≤ length tokens.now }
-    requires forms { AreTokens (kinds_of tokens.now) }
+    requires forms { AreTokens (kind_row tokens.now) }
     requires line { AreOfLine tokens.now }
     requires string { SpellsAxiom tokens.now }
     requires few { axiom_many 1 (written_axiom tokens.now) ≡ None }
@@ -92,7 +92,7 @@ fn with_axiom(
 // The string behind an axiom's word.
 fn built_string(alloc: Global, tokens: &[Token]) -> Result<SymbolList, AllocError>
     requires place { 1 ≤ length tokens.now }
-    requires forms { AreTokens (kinds_of tokens.now) }
+    requires forms { AreTokens (kind_row tokens.now) }
     requires line { AreOfLine tokens.now }
     requires string { SpellsAxiom tokens.now }
     requires few { axiom_many 1 (written_axiom tokens.now) ≡ None }
@@ -111,7 +111,7 @@ fn with_production(
     tokens: &[Token],
     labeled: &LabeledRule,
 ) -> Result<SystemParts, AllocError>
-    requires line { IsRuleLine (kinds_of tokens.now) labeled.now.rule }
+    requires line { IsRuleLine (kind_row tokens.now) labeled.now.rule }
     requires checked { CanBuild (written_rule tokens.now labeled.now.rule) }
     ensures { Changes parts.now (written_production tokens.now labeled.now) result }
 {
@@ -128,7 +128,7 @@ fn with_hom_rule(
     tokens: &[Token],
     labeled: &LabeledRule,
 ) -> Result<SystemParts, AllocError>
-    requires line { IsRuleLine (kinds_of tokens.now) labeled.now.rule }
+    requires line { IsRuleLine (kind_row tokens.now) labeled.now.rule }
     requires checked { CanBuild (written_rule tokens.now labeled.now.rule) }
     ensures { Changes parts.now (written_homomorphism tokens.now labeled.now) result }
 {

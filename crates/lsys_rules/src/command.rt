@@ -2,12 +2,12 @@
 ghost use Rattle.std.specs.Prelude.{◌≡◌, ◌≤◌, All, IfOk};
 ghost use Rattle.lsys_syntax.specs.Limits.{most_line_bytes};
 ghost use Rattle.lsys_syntax.specs.Sentences.{AreTokens};
-ghost use Rattle.lsys_text.specs.Tokens.{kinds_of, IsWithin};
+ghost use Rattle.lsys_text.specs.Tokens.{kind_row, LiesInLine};
 ghost use Rattle.lsys_module.specs.Building.{AreOfLine};
 ghost use Rattle.lsys_reading.specs.Parted.{command_of, IsParted};
 ghost use Rattle.lsys_reading.specs.Parsing.{column_of, kind_of_command};
 ghost use Rattle.lsys_rules.specs.Formals.{HasFormalsOf};
-ghost use Rattle.lsys_rules.specs.Parsing.{IsParsed};
+ghost use Rattle.lsys_rules.specs.Parsing.{IsParsedLine};
 ghost use Rattle.lsys_rules.specs.WrittenCommands.{rule_place};
 
 use crate::refusal::Refusal;
@@ -31,11 +31,11 @@ impl Model for Command {
 
     ghost Value = { CommandLine };
 
-    ghost use Rattle.lsys_rules.specs.InsideCommand.{line_in, IsKept};
+    ghost use Rattle.lsys_rules.specs.InsideCommand.{line_in, IsCommandLine};
 
     ghost view = { line_in };
 
-    ghost invariant = { IsKept };
+    ghost invariant = { IsCommandLine };
 }
 
 /// The command that a line's tokens spell. `length` is that of the line in bytes, without its LF and the CR before it.
@@ -46,9 +46,9 @@ impl Model for Command {
 /// and `Memory` is want of memory. No other refusal comes.
 pub fn parse_command(alloc: Global, tokens: &[Token], length: u32) -> Result<Command, Refusal>
     requires short { length ≤ most_line_bytes }
-    requires forms { AreTokens (kinds_of tokens.now) }
-    requires line { All (IsWithin length) tokens.now }
-    ensures { IsParsed tokens.now length result }
+    requires forms { AreTokens (kind_row tokens.now) }
+    requires line { All (LiesInLine length) tokens.now }
+    ensures { IsParsedLine tokens.now length result }
 {
     let line = lsys_reading::parse_command(alloc, tokens, length)?;
     let formals = formals(alloc, line.tokens(), line.parts())?;
@@ -65,8 +65,8 @@ fn formals(
     tokens: &[Token],
     parts: &Parts,
 ) -> Result<Option<FormalNames>, AllocError>
-    requires forms { AreTokens (kinds_of tokens.now) }
-    requires parts { IsParted (kinds_of tokens.now) parts.now }
+    requires forms { AreTokens (kind_row tokens.now) }
+    requires parts { IsParted (kind_row tokens.now) parts.now }
     ensures { IfOk result (HasFormalsOf tokens.now) }
 {
     match parts {
@@ -97,7 +97,7 @@ impl Command {
     /// The tokens of its line.
     pub fn tokens(&self) -> &[Token]
         ensures tokens { result.now ≡ self.now.tokens }
-        ensures forms { AreTokens (kinds_of self.now.tokens) }
+        ensures forms { AreTokens (kind_row self.now.tokens) }
         ensures line { AreOfLine self.now.tokens }
     {
         self.line.tokens()
@@ -105,7 +105,7 @@ impl Command {
 
     // What the tokens are the parts of.
     pub(crate) fn parts(&self) -> &Parts
-        ensures { IsParted (kinds_of self.now.tokens) result.now }
+        ensures { IsParted (kind_row self.now.tokens) result.now }
     {
         self.line.parts()
     }

@@ -3,7 +3,7 @@ ghost use Rattle.std.specs.Prelude.{◌≤◌, length};
 ghost use Rattle.lsys_syntax.specs.Checks.{axiom_many};
 ghost use Rattle.lsys_syntax.specs.Sentences.{AreTokens};
 ghost use Rattle.lsys_spec.specs.Edits.{many, refusal, refused_at};
-ghost use Rattle.lsys_text.specs.Tokens.{kinds_of};
+ghost use Rattle.lsys_text.specs.Tokens.{kind_row};
 ghost use Rattle.lsys_reading.specs.Commands.{parts_command};
 ghost use Rattle.lsys_reading.specs.Parted.{command_of, IsParted};
 ghost use Rattle.lsys_rules.specs.Faults.{Tells};
@@ -36,10 +36,10 @@ fn parts_fault(
     parts: &Parts,
     formals: &Option<FormalNames>,
 ) -> Option<Fault>
-    requires forms { AreTokens (kinds_of tokens.now) }
-    requires parted { IsParted (kinds_of tokens.now) parts.now }
+    requires forms { AreTokens (kind_row tokens.now) }
+    requires parted { IsParted (kind_row tokens.now) parts.now }
     requires formals { HasFormals parts.now formals.now }
-    ensures { Tells result (refusal system.now (parts_command (kinds_of tokens.now) parts.now)) }
+    ensures { Tells result (refusal system.now (parts_command (kind_row tokens.now) parts.now)) }
 {
     match (parts, formals) {
         (Parts::Axiom, _) => axiom_fault(tokens),
@@ -65,7 +65,7 @@ fn parts_fault(
 // The limit that an axiom passes.
 fn axiom_fault(tokens: &[Token]) -> Option<Fault>
     requires place { 1 ≤ length tokens.now }
-    requires forms { AreTokens (kinds_of tokens.now) }
+    requires forms { AreTokens (kind_row tokens.now) }
     requires string { SpellsAxiom tokens.now }
     ensures { Tells result (refused_at (axiom_many 1 (written_axiom tokens.now)) many) }
 {

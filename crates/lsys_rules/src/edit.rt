@@ -2,8 +2,8 @@
 ghost use Rattle.std.specs.Prelude.{◌≡◌, None, Some, IfOk};
 ghost use Rattle.lsys_spec.specs.Edits.{changed, refusal};
 ghost use Rattle.lsys_reading.specs.Parted.{command_of};
-ghost use Rattle.lsys_rules.specs.Applying.{IsApplied, IsRefused};
-ghost use Rattle.lsys_rules.specs.Faults.{refusal_of};
+ghost use Rattle.lsys_rules.specs.Applying.{IsApplied, IsEditRefusal};
+ghost use Rattle.lsys_rules.specs.Faults.{refusal_of_fault};
 
 use crate::changes::changed;
 use crate::command::Command;
@@ -40,7 +40,7 @@ fn accepted(alloc: Global, system: &System, command: &Command) -> Result<System,
 impl Command {
     // A fault by its column.
     fn refusal(&self, fault: Fault) -> Refusal
-        ensures { IsRefused self.now (Some (refusal_of fault)) result }
+        ensures { IsEditRefusal self.now (Some (refusal_of_fault fault)) result }
     {
         let column = self.column(fault.place);
         match fault.cause {

@@ -3,7 +3,7 @@ ghost use Rattle.std.specs.Prelude.{◌≡◌, not, length, map, nat_lt, bytes_e
 ghost use Rattle.lsys_spec.specs.Edits.{common_refusal, drop_refusal, first_place, later_refusal, level_refusal, loses_table, many, own_refusal, refused_if, schedule_refusal, version_refusal, without_rule, wrong_table, wrong_version};
 ghost use Rattle.lsys_spec.specs.Systems.{Apart, any, depth_bound, is_table};
 ghost use Rattle.lsys_module.specs.Views.{module_name};
-ghost use Rattle.lsys_bodies.specs.Views.{production_of};
+ghost use Rattle.lsys_bodies.specs.Views.{as_production};
 ghost use Rattle.lsys_rules.specs.Faults.{Tells, labelled_else, is_lost_without};
 ghost use Rattle.lsys_rules.specs.RuleRefusals.{ignored_refusal};
 
@@ -169,8 +169,8 @@ pub(crate) fn drop_fault(system: &System, label: Word) -> Option<Fault>
 
 // Whether some word names no table without the rule under this label.
 fn loses_table(rules: &[Rule], label: Word, words: &[Word]) -> bool
-    requires { Apart bytes_eq (map (λ p. p.label) (map production_of rules.now)) }
-    ensures { result ≡ loses_table (without_rule label (map production_of rules.now)) words.now }
+    requires { Apart bytes_eq (map (λ p. p.label) (map as_production rules.now)) }
+    ensures { result ≡ loses_table (without_rule label (map as_production rules.now)) words.now }
 {
     for word in words {
         if is_lost(rules, label, *word) {
@@ -182,14 +182,14 @@ fn loses_table(rules: &[Rule], label: Word, words: &[Word]) -> bool
 
 // Whether a word is neither `main` nor the table of a rule under another label.
 fn is_lost(rules: &[Rule], label: Word, word: Word) -> bool
-    ensures { result ≡ is_lost_without label (map production_of rules.now) word }
+    ensures { result ≡ is_lost_without label (map as_production rules.now) word }
 {
     !(word == Word::from_text(b"main") || has_other(rules, label, word))
 }
 
 // Whether a table has a rule under another label.
 fn has_other(rules: &[Rule], label: Word, table: Word) -> bool
-    ensures { result ≡ any (labelled_else label table) (map production_of rules.now) }
+    ensures { result ≡ any (labelled_else label table) (map as_production rules.now) }
 {
     rules
         .iter()

@@ -2,7 +2,7 @@
 ghost use Rattle.std.specs.Prelude.{◌≡◌, ◌++◌, ◌∷◌, [], IfOk, OnOk, length};
 ghost use Rattle.lsys_text.specs.Packed.{packed};
 ghost use Rattle.lsys_text.specs.Texts.{IsNameBytes};
-ghost use Rattle.lsys_rules.specs.Groups.{AreGroups, HasRule, rules_at, rules_of, found_rules};
+ghost use Rattle.lsys_rules.specs.Groups.{AreGroups, HasRule, rules_at, rules_or_none, found_rules};
 
 use crate::shared_group::SharedGroup;
 use lsys_bodies::Rule;
@@ -74,7 +74,7 @@ fn with_rule(
     group: Option<SharedGroup>,
     rule: Rule,
 ) -> Result<SharedGroup, AllocError>
-    ensures { IfOk result (λ g. g ≡ rules_of group ++ rule ∷ []) }
+    ensures { IfOk result (λ g. g ≡ rules_or_none group ++ rule ∷ []) }
 {
     match group {
         Some(group) => group.with(alloc, rule),

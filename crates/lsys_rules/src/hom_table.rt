@@ -2,7 +2,7 @@
 ghost use Rattle.std.specs.Prelude.{◌≡◌, [], IfOk, map};
 ghost use Rattle.lsys_spec.specs.Edits.{put_hom, without_hom};
 ghost use Rattle.lsys_bodies.specs.Views.{homomorphism_of};
-ghost use Rattle.lsys_rules.specs.InsideRules.{Own, homomorphisms_in};
+ghost use Rattle.lsys_rules.specs.InsideRules.{HaveOwnLabels, homomorphisms_in};
 
 use indexmap::IndexMap;
 use lsys_bodies::HomRule;
@@ -34,11 +34,11 @@ impl Model for HomTable {
 
     ghost coded = { Prim.hlevel (codes, expr_code) };
 
-    ghost use Rattle.lsys_rules.specs.InsideRules.{homomorphisms_in, Own};
+    ghost use Rattle.lsys_rules.specs.InsideRules.{homomorphisms_in, HaveOwnLabels};
 
     ghost view = { λ a. homomorphisms_in a.rules.value.by_label };
 
-    ghost invariant = { λ a. Own (λ r. r.label) a.rules.value.by_label.entries };
+    ghost invariant = { λ a. HaveOwnLabels (λ r. r.label) a.rules.value.by_label.entries };
 }
 
 impl HomTable {
@@ -55,7 +55,7 @@ impl HomTable {
 
     // These rules, each of which stands under its own label.
     fn of(alloc: Global, by_label: IndexMap<Word, HomRule>) -> Result<HomTable, AllocError>
-        requires { Own (λ r. r.label) by_label.entries }
+        requires { HaveOwnLabels (λ r. r.label) by_label.entries }
         ensures { IfOk result (λ t. t ≡ homomorphisms_in by_label) }
     {
         let rules = HomRules { by_label };

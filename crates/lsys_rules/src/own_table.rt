@@ -5,7 +5,7 @@ ghost use Rattle.lsys_spec.specs.Bodies.{filter_in};
 ghost use Rattle.lsys_spec.specs.Edits.{put_own, without_own};
 ghost use Rattle.lsys_module.specs.Views.{module_name};
 ghost use Rattle.lsys_bodies.specs.Filters.{filter_of};
-ghost use Rattle.lsys_rules.specs.InsideOwn.{AreKept};
+ghost use Rattle.lsys_rules.specs.InsideOwn.{AreByTable};
 ghost use Rattle.lsys_rules.specs.OwnPlaces.{place_in};
 
 use crate::names::comes_before;
@@ -38,11 +38,11 @@ impl Model for OwnTable {
 
     ghost Value = { List Own };
 
-    ghost use Rattle.lsys_rules.specs.InsideOwn.{AreKept};
+    ghost use Rattle.lsys_rules.specs.InsideOwn.{AreByTable};
 
     ghost view = { λ a. values a.lists.value.by_table };
 
-    ghost invariant = { λ a. AreKept a.lists.value.by_table };
+    ghost invariant = { λ a. AreByTable a.lists.value.by_table };
 }
 
 impl OwnTable {
@@ -59,7 +59,7 @@ impl OwnTable {
 
     // These lists, each of which stands under its own table, before those of later words.
     fn of(alloc: Global, by_table: IndexMap<Word, OwnList>) -> Result<OwnTable, AllocError>
-        requires { AreKept by_table }
+        requires { AreByTable by_table }
         ensures { IfOk result (λ t. t ≡ values by_table) }
     {
         let lists = OwnLists { by_table };

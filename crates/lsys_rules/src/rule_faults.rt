@@ -5,10 +5,10 @@ ghost use Rattle.lsys_syntax.specs.Tokens.{Kind};
 ghost use Rattle.lsys_syntax.specs.Rules.{Production};
 ghost use Rattle.lsys_spec.specs.Systems.{Homomorphism, any, tables};
 ghost use Rattle.lsys_spec.specs.Edits.{label_place};
-ghost use Rattle.lsys_text.specs.Tokens.{kinds_of};
+ghost use Rattle.lsys_text.specs.Tokens.{kind_row};
 ghost use Rattle.lsys_reading.specs.RuleLines.{IsRuleLine};
 ghost use Rattle.lsys_bodies.specs.Building.{production_at};
-ghost use Rattle.lsys_bodies.specs.Views.{production_of};
+ghost use Rattle.lsys_bodies.specs.Views.{as_production};
 ghost use Rattle.lsys_checks.specs.Formals.{AreFormalNames, rest_pieces};
 ghost use Rattle.lsys_checks.specs.Searching.{count};
 ghost use Rattle.lsys_rules.specs.Faults.{Tells, mixes, elsewhere, IsNewcomer, one_unless};
@@ -33,7 +33,7 @@ pub(crate) fn production_fault(
     labeled: &LabeledRule,
     names: &FormalNames,
 ) -> Option<Fault>
-    requires line { IsRuleLine (kinds_of tokens.now) labeled.now.rule }
+    requires line { IsRuleLine (kind_row tokens.now) labeled.now.rule }
     requires names { AreFormalNames (rule_place labeled.now) labeled.now.rule names.now }
     requires room { rule_place labeled.now + rule_size tokens.now labeled.now.rule ≤ usize.MAX }
     ensures { Tells result (spelled_refusal system.now tokens.now labeled.now) }
@@ -64,8 +64,8 @@ fn first_token(table: Option<Word>) -> usize
 
 // What refuses a rule wherever it is put: a name that is no formal, or a formal that stands twice.
 fn own_fault(tokens: &[Token], rule: &RuleLine, names: &FormalNames) -> Option<Fault>
-    requires line { IsRuleLine (kinds_of tokens.now) rule.now }
-    requires room { names.now.end + count (rest_pieces (kinds_of tokens.now) rule.now) ≤ usize.MAX }
+    requires line { IsRuleLine (kind_row tokens.now) rule.now }
+    requires room { names.now.end + count (rest_pieces (kind_row tokens.now) rule.now) ≤ usize.MAX }
     ensures { TellsNames tokens.now rule.now names.now result }
 {
     if let Some(place) = unknown_name(tokens, rule, names) {
@@ -118,7 +118,7 @@ impl Newcomer {
 
     // Whether the rule would be in a group with this one, and only one of both has a weight.
     fn clashes_with(&self, rule: &Rule) -> bool
-        ensures { AsNewcomer self.now (λ p. result ≡ mixes p (production_of rule.now)) }
+        ensures { AsNewcomer self.now (λ p. result ≡ mixes p (as_production rule.now)) }
     {
         let body = rule.body.get();
         rule.label != self.label
@@ -151,7 +151,7 @@ fn group_fault(system: &System, label: usize, newcomer: &Newcomer) -> Option<Fau
 }
 
 fn is_mixed(rules: &[Rule], newcomer: &Newcomer) -> bool
-    ensures { AsNewcomer newcomer.now (λ p. result ≡ any (mixes p) (map production_of rules.now)) }
+    ensures { AsNewcomer newcomer.now (λ p. result ≡ any (mixes p) (map as_production rules.now)) }
 {
     for rule in rules {
         if newcomer.clashes_with(rule) {
@@ -163,7 +163,7 @@ fn is_mixed(rules: &[Rule], newcomer: &Newcomer) -> bool
 
 // Whether some rule has the label, and another table.
 fn has_label_elsewhere(rules: &[Rule], newcomer: &Newcomer) -> bool
-    ensures { AsNewcomer newcomer.now (λ p. result ≡ any (elsewhere p) (map production_of rules.now)) }
+    ensures { AsNewcomer newcomer.now (λ p. result ≡ any (elsewhere p) (map as_production rules.now)) }
 {
     for rule in rules {
         if rule.label == newcomer.label && rule.table != newcomer.table {
@@ -232,7 +232,7 @@ pub(crate) fn homomorphism_fault(
     labeled: &LabeledRule,
     names: &FormalNames,
 ) -> Option<Fault>
-    requires line { IsRuleLine (kinds_of tokens.now) labeled.now.rule }
+    requires line { IsRuleLine (kind_row tokens.now) labeled.now.rule }
     requires names { AreFormalNames 3 labeled.now.rule names.now }
     requires room { 3 + rule_size tokens.now labeled.now.rule ≤ usize.MAX }
     ensures { Tells result (spelled_hom_refusal system.now tokens.now labeled.now) }

@@ -2,9 +2,9 @@
 ghost use Rattle.std.specs.Prelude.{◌≡◌, [], IfOk, OnOk, map};
 ghost use Rattle.lsys_spec.specs.Systems.{is_table, tables};
 ghost use Rattle.lsys_spec.specs.Edits.{put, without_rule};
-ghost use Rattle.lsys_bodies.specs.Views.{production_of};
+ghost use Rattle.lsys_bodies.specs.Views.{as_production};
 ghost use Rattle.lsys_rules.specs.Groups.{found_rules};
-ghost use Rattle.lsys_rules.specs.InsideRules.{Own, productions_in};
+ghost use Rattle.lsys_rules.specs.InsideRules.{HaveOwnLabels, productions_in};
 ghost use Rattle.lsys_rules.specs.RuleRefusals.{with_table_once};
 ghost use Rattle.lsys_rules.specs.LevelGroups.{table_rules};
 
@@ -42,11 +42,11 @@ impl Model for RuleTable {
 
     ghost coded = { Prim.hlevel (codes, expr_code) };
 
-    ghost use Rattle.lsys_rules.specs.InsideRules.{productions_in, IsKept};
+    ghost use Rattle.lsys_rules.specs.InsideRules.{productions_in, AreByLabel};
 
     ghost view = { λ a. productions_in a.rules.value.by_label };
 
-    ghost invariant = { λ a. IsKept a.rules.value };
+    ghost invariant = { λ a. AreByLabel a.rules.value };
 }
 
 impl RuleTable {
@@ -63,7 +63,7 @@ impl RuleTable {
 
     // These rules, each of which stands under its own label.
     fn of(alloc: Global, by_label: IndexMap<Word, Rule>) -> Result<RuleTable, AllocError>
-        requires { Own (λ r. r.label) by_label.entries }
+        requires { HaveOwnLabels (λ r. r.label) by_label.entries }
         ensures { IfOk result (λ t. t ≡ productions_in by_label) }
     {
         let groups = groups_of(alloc, by_label.values().as_slice())?;
@@ -84,7 +84,7 @@ impl RuleTable {
     ///
     /// Want of memory.
     pub fn with(&self, alloc: Global, rule: Rule) -> Result<RuleTable, AllocError>
-        ensures { IfOk result (λ t. t ≡ put (production_of rule) self.now) }
+        ensures { IfOk result (λ t. t ≡ put (as_production rule) self.now) }
     {
         let mut by_label = copy_of(&self.rules)?;
         by_label.insert(rule.label, rule)?;
@@ -106,7 +106,7 @@ impl RuleTable {
 
     /// The rules, in the order in which they are tried.
     pub fn rules(&self) -> &[Rule]
-        ensures { map production_of result.now ≡ self.now }
+        ensures { map as_production result.now ≡ self.now }
     {
         self.rules.by_label.values().as_slice()
     }
@@ -121,7 +121,7 @@ impl RuleTable {
     /// The group of a table for modules of this name and number of parameters; none where the table has no rule for them.
     /// A look-up costs the same however many rules there are.
     pub fn group(&self, table: Word, name: Name, arity: usize) -> Option<&SharedGroup>
-        ensures { map production_of (found_rules result) ≡ table_rules self.now table name arity }
+        ensures { map as_production (found_rules result) ≡ table_rules self.now table name arity }
     {
         rules_at(&self.rules.groups, GroupKey::new(table, name, arity))
     }
@@ -146,7 +146,7 @@ fn copy_of(rules: &Rules) -> Result<IndexMap<Word, Rule>, AllocError>
 
 // The tables of some rules, in order: `main`, and each where it first stands.
 fn tables_of(alloc: Global, rules: &[Rule]) -> Result<Vec<Word>, AllocError>
-    ensures { IfOk result (λ ts. ts.items ≡ tables (map production_of rules.now)) }
+    ensures { IfOk result (λ ts. ts.items ≡ tables (map as_production rules.now)) }
 {
     let mut tables = Vec::new(alloc);
     tables.push(Word::from_text(b"main"))?;

@@ -1,12 +1,13 @@
 //! A system as a script.
 ghost use Rattle.std.specs.Prelude.{◌++◌, ◌∷◌, [], map, decimal};
-ghost use Rattle.lsys_syntax.specs.Commands.{list_word, set_depth, set_lattice, set_schedule, set_seed, words_pieces};
+ghost use Rattle.lsys_syntax.specs.Strings.{Signed, signed_pieces, unsigned};
+ghost use Rattle.lsys_syntax.specs.Commands.{as_symbol, list_word, set_depth, set_lattice, set_schedule, set_seed, words_pieces};
 ghost use Rattle.lsys_syntax.specs.Pieces.{text_of};
 ghost use Rattle.lsys_spec.specs.Shown.{as_set_own, script_of, show_text};
 ghost use Rattle.lsys_io.specs.Putting.{Puts};
 ghost use Rattle.lsys_module.specs.Views.{module_name};
 ghost use Rattle.lsys_reading.specs.Commands.{lattice_of, list_kind_of, numbering_of};
-ghost use Rattle.lsys_rules.specs.Showing.{line_of, listed_text, names_text, version_lines};
+ghost use Rattle.lsys_rules.specs.Showing.{script_line, listed_text, names_text, version_lines};
 ghost use Rattle.lsys_rules.specs.ScriptLines.{axiom_line, homomorphism_lines, ignored_line, numbering_lines, production_lines};
 
 use crate::own_list::OwnList;
@@ -14,9 +15,10 @@ use crate::show_rules::{put_decimal, put_hom_rule, put_rule, put_word};
 use crate::system::System;
 use lsys_bodies::{HomRule, Rule};
 use lsys_io::{Buffered, Failed, Sink};
-use lsys_module::{SymbolList, print_string, put_name};
+use lsys_module::{Notation, Shape, SymbolList, print_string, put_symbols};
 use lsys_reading::{LatticeName, ListKind, Numbering};
 use lsys_text::{Name, Word};
+use std::convert::Infallible;
 
 /// Puts the system as the script of the commands that make it from the opening one, each on its line. It takes no memory.
 ///
@@ -73,7 +75,7 @@ fn put_lattice<K: Sink>(
     sink: &mut K,
     lattice: LatticeName,
 ) -> Result<(), Failed>
-    ensures { Puts K.Sink sink out (line_of (set_lattice (lattice_of lattice))) result }
+    ensures { Puts K.Sink sink out (script_line (set_lattice (lattice_of lattice))) result }
 {
     match lattice {
         LatticeName::Square => out.put(sink, b"lattice square\n"),
@@ -83,13 +85,13 @@ fn put_lattice<K: Sink>(
 }
 
 fn put_seed<K: Sink>(out: &mut Buffered, sink: &mut K, seed: u64) -> Result<(), Failed>
-    ensures { Puts K.Sink sink out (line_of (set_seed seed)) result }
+    ensures { Puts K.Sink sink out (script_line (set_seed seed)) result }
 {
     put_number_line(out, sink, b"seed ", seed)
 }
 
 fn put_depth<K: Sink>(out: &mut Buffered, sink: &mut K, depth: u32) -> Result<(), Failed>
-    ensures { Puts K.Sink sink out (line_of (set_depth depth)) result }
+    ensures { Puts K.Sink sink out (script_line (set_depth depth)) result }
 {
     put_number_line(out, sink, b"depth ", u64::from(depth))
 }
@@ -134,11 +136,24 @@ fn put_ignored<K: Sink>(out: &mut Buffered, sink: &mut K, names: &[Name]) -> Res
 fn put_names<K: Sink>(out: &mut Buffered, sink: &mut K, names: &[Name]) -> Result<(), Failed>
     ensures { Puts K.Sink sink out (names_text (map module_name names.now)) result }
 {
-    let mut runs_on = false;
-    for name in names {
-        runs_on = put_name(out, sink, *name, runs_on)?;
+    put_symbols::<K, Name, Infallible, Names>(out, sink, names)
+}
+
+// Names, as modules without parameters.
+struct Names;
+
+impl Notation<Name, Infallible> for Names {
+    ghost Written = { Signed };
+
+    ghost way = { record { symbol = λ name. as_symbol (module_name name); param = λ _. unsigned 0; print = signed_pieces } };
+
+    fn shape(of: &Name) -> Shape<'_, Infallible> {
+        Shape::Module(*of, &[])
     }
-    Ok(())
+
+    fn put_param<K: Sink>(_: &mut Buffered, _: &mut K, of: &Infallible) -> Result<(), Failed> {
+        match *of {}
+    }
 }
 
 fn put_rules<K: Sink>(out: &mut Buffered, sink: &mut K, rules: &[Rule]) -> Result<(), Failed>
@@ -169,7 +184,7 @@ fn put_own_lists<K: Sink>(out: &mut Buffered, sink: &mut K, lists: &[OwnList]) -
 }
 
 fn put_own_list<K: Sink>(out: &mut Buffered, sink: &mut K, list: &OwnList) -> Result<(), Failed>
-    ensures { Puts K.Sink sink out (line_of (as_set_own list.now)) result }
+    ensures { Puts K.Sink sink out (script_line (as_set_own list.now)) result }
 {
     let filter = list.filter();
     put_list_word(out, sink, filter.kind)?;
@@ -199,7 +214,7 @@ fn put_listed<K: Sink>(out: &mut Buffered, sink: &mut K, names: &[Name]) -> Resu
 }
 
 fn put_schedule<K: Sink>(out: &mut Buffered, sink: &mut K, words: &[Word]) -> Result<(), Failed>
-    ensures { Puts K.Sink sink out (line_of (set_schedule words.now)) result }
+    ensures { Puts K.Sink sink out (script_line (set_schedule words.now)) result }
 {
     out.put(sink, b"schedule")?;
     put_words(out, sink, words)?;

@@ -9,7 +9,7 @@ ghost use Rattle.lsys_laws.specs.Sessions.{IsWell};
 ghost use Rattle.lsys_module.specs.Views.{module_name, string_of};
 ghost use Rattle.lsys_reading.specs.Commands.{lattice_of, numbering_of};
 ghost use Rattle.lsys_bodies.specs.Filters.{filter_of};
-ghost use Rattle.lsys_bodies.specs.Views.{homomorphism_of, production_of};
+ghost use Rattle.lsys_bodies.specs.Views.{homomorphism_of, as_production};
 ghost use Rattle.lsys_rules.specs.Groups.{found_rules};
 ghost use Rattle.lsys_rules.specs.Systems.{system_of};
 ghost use Rattle.lsys_rules.specs.LevelGroups.{level_bodies, level_rules, rule_body, found_body, found_production};
@@ -107,7 +107,7 @@ impl System {
 
     /// The productions, in the order in which they are tried.
     pub fn rules(&self) -> &[Rule]
-        ensures rules { map production_of result.now ≡ self.now.rules }
+        ensures rules { map as_production result.now ≡ self.now.rules }
         ensures well { IsWell self.now }
     {
         self.parts.rules.rules()
@@ -216,7 +216,7 @@ impl System {
     /// such modules, in the order in which they are tried. None where the table has no rule for them. A look-up costs the
     /// same however many rules there are.
     pub fn group(&self, level: u32, name: Name, arity: usize) -> Option<&SharedGroup>
-        ensures rules { map production_of (found_rules result) ≡ level_rules self.now level name arity }
+        ensures rules { map as_production (found_rules result) ≡ level_rules self.now level name arity }
         ensures bodies { map rule_body (found_rules result) ≡ level_bodies self.now level name arity }
         ensures few { IfSome result (λ g. length g.now ≤ most_rules) }
         ensures well { IsWell self.now }

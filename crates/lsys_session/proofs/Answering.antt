@@ -16,8 +16,8 @@ use Rattle.lsys_rules.specs.declared.refusal.Refusal.{Refusal}
 use Rattle.lsys_rules.specs.declared.refusal.Refusal.TheVariants as refusals
 use Rattle.lsys_session.specs.Requests.{IsRequest, IsAskedBy, reply_to, refusal_line, refusal_text}
 use Rattle.lsys_session.specs.Sessions.{WasSaid, refusal_outcome}
-use Rattle.lsys_session.specs.Answers.{line_reply, may_lack, reply_or_memory, line_spelled, Became, WasAnswered}
-use Rattle.lsys_session.specs.Given.{is_something, given, done, unless_refused, WasGiven}
+use Rattle.lsys_session.specs.Answers.{line_reply, may_lack, line_reply_or_memory, line_spelled, BecameAsSpelled, WasAnswered}
+use Rattle.lsys_session.specs.Given.{is_something, given_reply, request_outcome, outcome_by_reply, WasGiven}
 use Rattle.lsys_session.specs.declared.outcome.Outcome.{Outcome}
 use Rattle.lsys_session.specs.declared.outcome.Outcome.TheVariants as outcomes
 use Rattle.lsys_session.specs.declared.request.Request.{Request}
@@ -26,19 +26,19 @@ use Rattle.lsys_session.specs.declared.request.Request.TheVariants.{Nothing, Edi
 -- 1. what became of it
 
 shown_became : {A : Type 0} (s : System) (text : A → List ℕ) (a : Result A (List ℕ)) (spelled : Option Command) (c : Command) → spelled ≡ Some c → is_query c ≡ true
-    → Became spelled (shown s text a) (unless_refused outcomes.Printed (shown s text a))
+    → BecameAsSpelled spelled (shown s text a) (outcome_by_reply outcomes.Printed (shown s text a))
 shown_became s text (Ok a) spelled c e q = record { refusal = refl; memory = refl; end = refl; spells = (c, e, q) }
 shown_became s text (Err why) spelled c e q = record { refusal = refl; memory = refl; end = refl; spells = tt }
 
-edited_became : (limit : ℕ) (s next : System) (a : Result (List (List L.Symbol)) (List ℕ)) (spelled : Option Command) (c : Command) → spelled ≡ Some c → is_query c ≡ false
-    → Became spelled (edited limit s next a) (unless_refused outcomes.Accepted (edited limit s next a))
+edited_became : (limit : ℕ) (s next : System) (a : Result (List (List L.LevelSymbol)) (List ℕ)) (spelled : Option Command) (c : Command) → spelled ≡ Some c → is_query c ≡ false
+    → BecameAsSpelled spelled (edited limit s next a) (outcome_by_reply outcomes.Accepted (edited limit s next a))
 edited_became limit s next (Ok levels) spelled c e q = record { refusal = refl; memory = refl; end = refl; spells = (c, e, q) }
 edited_became limit s next (Err why) spelled c e q = record { refusal = refl; memory = refl; end = refl; spells = tt }
 
-memory_became : (s : System) (spelled : Option Command) → Became spelled (refused_memory s) outcomes.Memory
+memory_became : (s : System) (spelled : Option Command) → BecameAsSpelled spelled (refused_memory s) outcomes.Memory
 memory_became s spelled = record { refusal = refl; memory = refl; end = refl; spells = tt }
 
-becomes : (limit : ℕ) (s : System) (r : Request) (lacks : Bool) (spelled : Option Command) → IsAskedBy s spelled r → Became spelled (given limit s r lacks) (unless_refused (done r) (given limit s r lacks))
+becomes : (limit : ℕ) (s : System) (r : Request) (lacks : Bool) (spelled : Option Command) → IsAskedBy s spelled r → BecameAsSpelled spelled (given_reply limit s r lacks) (outcome_by_reply (request_outcome r) (given_reply limit s r lacks))
 becomes limit s Nothing true spelled h = record { refusal = refl; memory = refl; end = refl; spells = h }
 becomes limit s Nothing false spelled h = record { refusal = refl; memory = refl; end = refl; spells = h }
 becomes limit s (Edit next) true spelled h = memory_became s spelled
@@ -54,8 +54,8 @@ becomes limit s Show false spelled h = record { refusal = refl; memory = refl; e
 becomes limit s Quit true spelled h = memory_became s spelled
 becomes limit s Quit false spelled h = record { refusal = refl; memory = refl; end = refl; spells = tt }
 
-became_so : {spelled : Option Command} {reply : Reply} {outcome : Outcome} (result : Result Outcome Failed) → IfOk result (λ o. o ≡ outcome) → Became spelled reply outcome → IfOk result (Became spelled reply)
-became_so {spelled = spelled} {reply = reply} (Ok o) e b = subst (Became spelled reply) (sym e) b
+became_so : {spelled : Option Command} {reply : Reply} {outcome : Outcome} (result : Result Outcome Failed) → IfOk result (λ o. o ≡ outcome) → BecameAsSpelled spelled reply outcome → IfOk result (BecameAsSpelled spelled reply)
+became_so {spelled = spelled} {reply = reply} (Ok o) e b = subst (BecameAsSpelled spelled reply) (sym e) b
 became_so (Err f) e b = tt
 
 if_ok : {P : Type 0} (result : Result Outcome Failed) → P → IfOk result (λ o. P)
@@ -91,17 +91,17 @@ may line e p = ap (λ b. not b && not (is_passed_over line)) e ∙ ap (λ b. not
 pub may_spelled : (line : List ℕ) (c : Command) → is_long line ≡ false → bare_spelled line ≡ Some c → may_lack line ≡ true
 may_spelled line c e h = may line e (passed_none (is_passed_over line) (spelled_by (tokens line)) c h)
 
-lacking : (limit : ℕ) (s : System) (line : List ℕ) → may_lack line ≡ true → refused_memory s ≡ reply_or_memory limit s line true
+lacking : (limit : ℕ) (s : System) (line : List ℕ) → may_lack line ≡ true → refused_memory s ≡ line_reply_or_memory limit s line true
 lacking limit s line e = sym (ap (λ b. memory_or b s (line_reply limit s line)) e)
 
 module _ (limit : ℕ) (s : System) (line : List ℕ) (short : is_long line ≡ false) where
-  plainly : (r : Request) → bare_reply limit s line ≡ reply_to limit s r → reply_to limit s r ≡ reply_or_memory limit s line false
+  plainly : (r : Request) → bare_reply limit s line ≡ reply_to limit s r → reply_to limit s r ≡ line_reply_or_memory limit s line false
   plainly r e = sym (not_long limit s line short ∙ e)
 
-  for_memory : (c : Command) → bare_spelled line ≡ Some c → refused_memory s ≡ reply_or_memory limit s line true
+  for_memory : (c : Command) → bare_spelled line ≡ Some c → refused_memory s ≡ line_reply_or_memory limit s line true
   for_memory c h = lacking limit s line (may_spelled line c short h)
 
-  given_is : (r : Request) (lacks : Bool) → bare_reply limit s line ≡ reply_to limit s r → IsAskedBy s (bare_spelled line) r → given limit s r lacks ≡ reply_or_memory limit s line (lacks && is_something r)
+  given_is : (r : Request) (lacks : Bool) → bare_reply limit s line ≡ reply_to limit s r → IsAskedBy s (bare_spelled line) r → given_reply limit s r lacks ≡ line_reply_or_memory limit s line (lacks && is_something r)
   given_is Nothing true e h = plainly Nothing e
   given_is Nothing false e h = plainly Nothing e
   given_is (Edit next) true e h = for_memory h.0 h.1
@@ -121,7 +121,7 @@ module _ {K : Type 0} (written : K → Option (List ℕ)) (faults : K → ℕ) (
   pub answered : (new : System) (r : Request) → is_long line ≡ false → IsRequest s line (Ok r) → WasGiven written faults a b held limit s new r result → WasAnswered written faults a b held limit s new line result
   answered new r short q g = record {
     lacks = g.lacks && is_something r;
-    reply = given limit s r g.lacks;
+    reply = given_reply limit s r g.lacks;
     is = given_is limit s line short r g.lacks (q.0 limit) q.2;
     put = g.says.put;
     empty = g.says.empty;

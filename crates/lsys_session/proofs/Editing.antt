@@ -17,7 +17,7 @@ use Rattle.lsys_match.specs.Derivations.{AreMeant, IsCount, IsDerived, IsOutcome
 use Rattle.lsys_session.specs.Requests.{reply_to, count_text, derivation_line}
 use Rattle.lsys_session.specs.Sessions.{WasSaid, derivation_outcome}
 use Rattle.lsys_session.specs.Answers.{Counters, Needed, Few, WasCounted}
-use Rattle.lsys_session.specs.Given.{given, done, unless_refused, WasGiven}
+use Rattle.lsys_session.specs.Given.{given_reply, request_outcome, outcome_by_reply, WasGiven}
 use Rattle.lsys_session.specs.declared.outcome.Outcome.{Outcome}
 use Rattle.lsys_session.specs.declared.outcome.Outcome.TheVariants as outcomes
 use Rattle.lsys_session.specs.declared.request.Request.{Request}
@@ -31,17 +31,17 @@ if_ok (Err f) p = tt
 
 -- the reply that was put is the one to be given
 pub gives_so : {K : Type 0} {written : K → Option (List ℕ)} {faults : K → ℕ} {a b : K} {held : List ℕ} {limit : ℕ} {old new : System} {r : Request} {result : Result Outcome Failed} (lacks : Bool) (reply : Reply)
-    → given limit old r lacks ≡ reply → WasSaid written faults a b held reply.text (unless_refused (done r) reply) result → new ≡ reply.next → WasGiven written faults a b held limit old new r result
+    → given_reply limit old r lacks ≡ reply → WasSaid written faults a b held reply.text (outcome_by_reply (request_outcome r) reply) result → new ≡ reply.next → WasGiven written faults a b held limit old new r result
 gives_so {written = written} {faults = faults} {a = a} {b = b} {held = held} {new = new} {r = r} {result = result} lacks reply e said n = record {
   lacks = lacks;
-  says = subst (λ (q : Reply). WasSaid written faults a b held q.text (unless_refused (done r) q) result) (sym e) said;
+  says = subst (λ (q : Reply). WasSaid written faults a b held q.text (outcome_by_reply (request_outcome r) q) result) (sym e) said;
   next = subst (λ (q : Reply). IfOk result (λ o. new ≡ q.next)) (sym e) (if_ok result n);
 }
 
-pub meant_levels : (limit : ℕ) (s : System) (xs : List (List L.Symbol)) → meaning s limit ≡ Ok xs → levels_of limit s ≡ Ok xs
+pub meant_levels : (limit : ℕ) (s : System) (xs : List (List L.LevelSymbol)) → meaning s limit ≡ Ok xs → levels_of limit s ≡ Ok xs
 meant_levels limit s xs h = ap (or_text derivation_text) h
 
-accepted_reply : (limit : ℕ) (s next : System) (xs ys : List (List L.Symbol)) → meaning s limit ≡ Ok xs → meaning next limit ≡ Ok ys
+accepted_reply : (limit : ℕ) (s next : System) (xs ys : List (List L.LevelSymbol)) → meaning s limit ≡ Ok xs → meaning next limit ≡ Ok ys
     → reply_to limit s (Edit next) ≡ said next (count_line (questions s xs) (questions next ys))
 accepted_reply limit s next xs ys h k =
     ap (edited limit s next) (meant_levels limit next ys k) ∙ ap (λ o. said next (count_line (questions_of s o) (questions next ys))) (meant_levels limit s xs h)
@@ -52,8 +52,8 @@ counted_line old new count c =
     ∙ ap (λ n. codes "ok " ++ (decimal (need old new) ++ 47 ∷ (decimal n ++ line_feed))) c.questions
 
 module _ {K : Type 0} (written : K → Option (List ℕ)) (faults : K → ℕ) (a b : K) (held : List ℕ) (limit : ℕ) (s new next : System) (result : Result Outcome Failed) where
-  pub edit_accepted : (xs : List (List L.Symbol)) (levels : List (List Spotted)) (count : EditCount) → meaning s limit ≡ Ok xs → IsDerived next limit levels
-      → ((x y : List (List L.Symbol)) → AreMeant s next limit x y → IsCount (questions s x) (questions next y) count) → new ≡ next
+  pub edit_accepted : (xs : List (List L.LevelSymbol)) (levels : List (List Spotted)) (count : EditCount) → meaning s limit ≡ Ok xs → IsDerived next limit levels
+      → ((x y : List (List L.LevelSymbol)) → AreMeant s next limit x y → IsCount (questions s x) (questions next y) count) → new ≡ next
       → WasSaid written faults a b held (count_text count) outcomes.Accepted result → WasGiven written faults a b held limit s new (Edit next) result
   edit_accepted xs levels count h d counts n says =
       let ys = d.meant in
@@ -81,11 +81,11 @@ derivation_refuses (Fault kind t n) = tt
 derivation_refuses (Limit t) = tt
 derivation_refuses Memory = tt
 
-module _ (visits : System → System → List (List L.Symbol) → List (List L.Symbol) → ℕ) (limit : ℕ) (s new next : System) (before after : Counters) where
-  pub edit_counted : (xs : List (List L.Symbol)) (levels : List (List Spotted)) (count : EditCount) (result : Result Outcome Failed) → meaning s limit ≡ Ok xs → IsDerived next limit levels
-      → ((x y : List (List L.Symbol)) → AreMeant s next limit x y → IsCount (questions s x) (questions next y) count)
+module _ (visits : System → System → List (List L.LevelSymbol) → List (List L.LevelSymbol) → ℕ) (limit : ℕ) (s new next : System) (before after : Counters) where
+  pub edit_counted : (xs : List (List L.LevelSymbol)) (levels : List (List Spotted)) (count : EditCount) (result : Result Outcome Failed) → meaning s limit ≡ Ok xs → IsDerived next limit levels
+      → ((x y : List (List L.LevelSymbol)) → AreMeant s next limit x y → IsCount (questions s x) (questions next y) count)
       → after.asked ≡ before.asked + count.asked
-      → ((x y : List (List L.Symbol)) → AreMeant s next limit x y → Rises (least_visits (questions s x) (questions next y)) (visits s next x y) before.visited after.visited)
+      → ((x y : List (List L.LevelSymbol)) → AreMeant s next limit x y → Rises (least_visits (questions s x) (questions next y)) (visits s next x y) before.visited after.visited)
       → new ≡ next → IfOk result (λ o. o ≡ outcomes.Accepted) → WasCounted visits limit true s new before after result
   edit_counted xs levels count (Err f) h d counts asked read n o = tt
   edit_counted xs levels count (Ok outcome) h d counts asked read n o =

@@ -23,14 +23,14 @@ use Rattle.lsys_level.specs.Views.{IsCopy}
 use Rattle.lsys_hom.specs.Refusals.{refusal_of}
 use Rattle.lsys_hom.specs.declared.refusal.ImageRefusal.{ImageRefusal}
 use Rattle.lsys_match.specs.Derivations.{IsDerived}
-use Rattle.lsys_out.specs.Drawings.{last_level, IsRefusal}
+use Rattle.lsys_out.specs.Drawings.{last_symbols, IsRefusal}
 use Rattle.lsys_out.specs.Nesting.{HasLast}
 use Rattle.lsys_out.specs.Shown.{on_lattice, Shows, RefusesPicture}
 use Rattle.lsys_out.specs.declared.refusal.PictureRefusal.{PictureRefusal as Refusal}
 use Rattle.lsys_out.specs.declared.refusal.PictureRefusal.TheVariants as refusals
 use Rattle.lsys_session.specs.Requests.{HasLevel, reply_to}
 use Rattle.lsys_session.specs.Sessions.{WasSaid}
-use Rattle.lsys_session.specs.Given.{IsKept, IsWithin, level_number, unless_refused, WasGiven, WasPrinted, picture_text, picture_reply, picture_line, picture_request}
+use Rattle.lsys_session.specs.Given.{IsWellUnder, IsLevelWithin, level_number, outcome_by_reply, WasGiven, WasPrinted, picture_text, picture_reply, picture_line, picture_request}
 use Rattle.lsys_session.specs.declared.outcome.Outcome.{Outcome}
 use Rattle.lsys_session.specs.declared.outcome.Outcome.TheVariants as outcomes
 use Rattle.lsys_session.specs.declared.pictures.Picture.{Picture}
@@ -46,11 +46,11 @@ shown_stays s text (Err why) = refl
 
 -- 1. levels
 
-pub within_by : (s : System) (t : Option ℕ) → HasLevel s (String t) → IsWithin s.depth t
+pub within_by : (s : System) (t : Option ℕ) → HasLevel s (String t) → IsLevelWithin s.depth t
 within_by s None h = tt
 within_by s (Some t) h = h
 
-pub number_within : (depth : ℕ) (t : Option ℕ) → IsWithin depth t → level_number depth t ≤ depth
+pub number_within : (depth : ℕ) (t : Option ℕ) → IsLevelWithin depth t → level_number depth t ≤ depth
 number_within depth None h = omega arith
 number_within depth (Some t) h = h
 
@@ -62,7 +62,7 @@ module _ (limit : ℕ) (s : System) (levels : List (List Spotted)) (d : IsDerive
   numbered_line None = levelled.last_level_is s limit d.meant d.is
   numbered_line (Some t) = levelled.level_is s limit d.meant t d.is
 
-  copied_line : (t : Option ℕ) (symbols : List Symbol) → IsCopy (spots.level_at levels (level_number s.depth t)) symbols → string_text (string_of symbols) ++ line_feed ≡ string_line t d.meant
+  copied_line : (t : Option ℕ) (symbols : List Symbol) → IsCopy (spots.spots_at levels (level_number s.depth t)) symbols → string_text (string_of symbols) ++ line_feed ≡ string_line t d.meant
   copied_line t symbols copy =
       ap (λ x. string_text x ++ line_feed) (copy (λ tag. []) ∙ d.view.strings.string (level_number s.depth t) ∙ ap (map plain) (sym (numbered_line t)))
 
@@ -70,7 +70,7 @@ module _ (limit : ℕ) (s : System) (levels : List (List Spotted)) (d : IsDerive
   string_reply t = ap (shown s (string_line t)) (meant_levels limit s d.meant d.is)
 
   pub level_given : {K : Type 0} (written : K → Option (List ℕ)) (faults : K → ℕ) (a b : K) (held : List ℕ) (t : Option ℕ) (symbols : List Symbol) (result : Result Outcome Failed)
-      → IsCopy (spots.level_at levels (level_number s.depth t)) symbols → WasSaid written faults a b held (string_text (string_of symbols) ++ line_feed) outcomes.Printed result
+      → IsCopy (spots.spots_at levels (level_number s.depth t)) symbols → WasSaid written faults a b held (string_text (string_of symbols) ++ line_feed) outcomes.Printed result
       → WasGiven written faults a b held limit s s (String t) result
   level_given written faults a b held t symbols result copy says =
       gives_so false (said s (string_line t d.meant)) (string_reply t) (subst (λ text. WasSaid written faults a b held text outcomes.Printed result) (copied_line t symbols copy) says) refl
@@ -81,7 +81,7 @@ module _ (limit : ℕ) (s : System) (levels : List (List Spotted)) (d : IsDerive
 
   -- 2. pictures
 
-  pub has_last : IsKept limit s → HasLast s levels
+  pub has_last : IsWellUnder limit s → HasLast s levels
   has_last k = record {
     spelled = k.well.1;
     level = level_there s.depth (omega arith);
@@ -92,12 +92,12 @@ module _ (limit : ℕ) (s : System) (levels : List (List Spotted)) (d : IsDerive
   abbrev naming : ℕ → List ℕ
   naming = (levelled.names s limit d.meant levels d.is d.view.depth d.view.tags d.view.strings).naming
 
-  last_named : last_level naming s levels ≡ M.last_level d.meant
+  last_named : last_symbols naming s levels ≡ M.last_level d.meant
   last_named =
       (levelled.names s limit d.meant levels d.is d.view.depth d.view.tags d.view.strings).level s.depth ∙ sym (levelled.last_level_is s limit d.meant d.is)
 
   -- what is true of the last level by every naming is true of the level that is meant
-  pub last_meant : (P : List L.Symbol → Type 0) → ((naming : ℕ → List ℕ) → P (last_level naming s levels)) → P (M.last_level d.meant)
+  pub last_meant : (P : List L.LevelSymbol → Type 0) → ((naming : ℕ → List ℕ) → P (last_symbols naming s levels)) → P (M.last_level d.meant)
   last_meant P h = subst P last_named (h naming)
 
   picture_asked : (kind : Picture) → reply_to limit s (picture_request kind) ≡ picture_reply kind s (picture s (M.last_level d.meant))
@@ -105,7 +105,7 @@ module _ (limit : ℕ) (s : System) (levels : List (List Spotted)) (d : IsDerive
   picture_asked pictures.Svg = ap (λ o. shown s (svg_text s.lattice) (picture_of s o)) (meant_levels limit s d.meant d.is)
 
   pub picture_given : {K : Type 0} (written : K → Option (List ℕ)) (faults : K → ℕ) (a b : K) (held : List ℕ) (kind : Picture) (result : Result Outcome Failed)
-      → ((naming : ℕ → List ℕ) → WasPrinted written faults a b held s (picture_reply kind s (picture s (last_level naming s levels))) result)
+      → ((naming : ℕ → List ℕ) → WasPrinted written faults a b held s (picture_reply kind s (picture s (last_symbols naming s levels))) result)
       → WasGiven written faults a b held limit s s (picture_request kind) result
   picture_given written faults a b held kind result prints =
       let p : WasPrinted written faults a b held s (picture_reply kind s (picture s (M.last_level d.meant))) result =
@@ -113,7 +113,7 @@ module _ (limit : ℕ) (s : System) (levels : List (List Spotted)) (d : IsDerive
       given_by kind result (picture_reply kind s (picture s (M.last_level d.meant))) (picture_asked kind) (shown_stays s (picture_text kind s.lattice) (or_text picture_refusal_text (picture s (M.last_level d.meant)))) p.lacks p.says
     where
       given_by : (kind : Picture) (result : Result Outcome Failed) (reply : Reply) → reply_to limit s (picture_request kind) ≡ reply → s ≡ reply.next → (lacks : Bool)
-          → WasSaid written faults a b held (memory_or lacks s reply).text (unless_refused outcomes.Printed (memory_or lacks s reply)) result
+          → WasSaid written faults a b held (memory_or lacks s reply).text (outcome_by_reply outcomes.Printed (memory_or lacks s reply)) result
           → WasGiven written faults a b held limit s s (picture_request kind) result
       given_by pictures.Segments result reply e n true says = gives_so true (refused_memory s) refl says refl
       given_by pictures.Segments result reply e n false says = gives_so false reply e says n
@@ -124,11 +124,11 @@ module _ (limit : ℕ) (s : System) (levels : List (List Spotted)) (d : IsDerive
 
 -- the reply that was put is the one to be printed
 prints_so : {K : Type 0} {written : K → Option (List ℕ)} {faults : K → ℕ} {a b : K} {held : List ℕ} {s : System} {asked : Reply} {result : Result Outcome Failed} (lacks : Bool) (reply : Reply)
-    → memory_or lacks s asked ≡ reply → WasSaid written faults a b held reply.text (unless_refused outcomes.Printed reply) result → WasPrinted written faults a b held s asked result
+    → memory_or lacks s asked ≡ reply → WasSaid written faults a b held reply.text (outcome_by_reply outcomes.Printed reply) result → WasPrinted written faults a b held s asked result
 prints_so {written = written} {faults = faults} {a = a} {b = b} {held = held} {result = result} lacks reply e says =
-    record { lacks = lacks; says = subst (λ (r : Reply). WasSaid written faults a b held r.text (unless_refused outcomes.Printed r) result) (sym e) says }
+    record { lacks = lacks; says = subst (λ (r : Reply). WasSaid written faults a b held r.text (outcome_by_reply outcomes.Printed r) result) (sym e) says }
 
-pub shows_own : {K : Type 0} (written : K → Option (List ℕ)) (faults : K → ℕ) (a b : K) (held_old held_new : List ℕ) (kind : Picture) (l : Lattice) (s : System) (x : List L.Symbol)
+pub shows_own : {K : Type 0} (written : K → Option (List ℕ)) (faults : K → ℕ) (a b : K) (held_old held_new : List ℕ) (kind : Picture) (l : Lattice) (s : System) (x : List L.LevelSymbol)
     (r : Result (Unit {0}) Refusal) → l ≡ s.lattice → Shows written faults a b held_old held_new (picture (on_lattice l s) x) (picture_text kind l) r
     → Shows written faults a b held_old held_new (picture s x) (picture_text kind s.lattice) r
 shows_own written faults a b held_old held_new kind l s x r e h =

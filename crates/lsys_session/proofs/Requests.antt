@@ -10,14 +10,14 @@ use Rattle.lsys_spec.specs.Systems as spec
 use Rattle.lsys_spec.specs.Edits as edits
 use Rattle.lsys_spec.specs.Refusals.{Reply, said, refused, is_passed_over, column_at, why_word, with_number}
 use Rattle.lsys_spec.specs.Replies.{accepted, edited, levels_of, command_reply, verdict_reply, tokens_reply, bare_reply, spelled_by, is_query}
-use Rattle.lsys_text.specs.Tokens.{kinds_of, token_of}
+use Rattle.lsys_text.specs.Tokens.{kind_row, token_of}
 use Rattle.lsys_text.specs.declared.token_kind.Token.{Token}
 use Rattle.lsys_reading.specs.Parted.{command_of}
 use Rattle.lsys_reading.specs.Parsing.{column_of, kind_of_command}
 use Rattle.lsys_reading.specs.declared.command.CommandKind.{CommandKind}
 use Rattle.lsys_reading.specs.declared.command.CommandKind.TheVariants as kinds
 use Rattle.lsys_rules.specs.Lines.{CommandLine}
-use Rattle.lsys_rules.specs.Parsing.{IsParsed}
+use Rattle.lsys_rules.specs.Parsing.{IsParsedLine}
 use Rattle.lsys_rules.specs.Applying.{IsToldAt}
 use Rattle.lsys_rules.specs.declared.refusal.Refusal.{Refusal}
 use Rattle.lsys_rules.specs.declared.refusal.Refusal.TheVariants as refusals
@@ -27,11 +27,11 @@ use Rattle.lsys_session.specs.declared.request.Request.TheVariants.{Nothing, Str
 
 -- 1. a line's tokens
 
-same_kinds : (ts : List Token) → map (λ (t : syntax.Token). t.kind) (map token_of ts) ≡ kinds_of ts
+same_kinds : (ts : List Token) → map (λ (t : syntax.Token). t.kind) (map token_of ts) ≡ kind_row ts
 same_kinds ts = map-map (λ (t : syntax.Token). t.kind) token_of ts
 
 -- of tokens with this verdict
-told_by : (limit : ℕ) (s : spec.System) (bare : List ℕ) (ts : List Token) (v : Verdict) → syntax.tokens bare ≡ Ok (map token_of ts) → verdict (kinds_of ts) ≡ v
+told_by : (limit : ℕ) (s : spec.System) (bare : List ℕ) (ts : List Token) (v : Verdict) → syntax.tokens bare ≡ Ok (map token_of ts) → verdict (kind_row ts) ≡ v
     → tokens_reply limit s (length bare) (syntax.tokens bare) ≡ verdict_reply limit s (λ n. column_at (length bare) n (map token_of ts)) v
 told_by limit s bare ts v e h =
     ap (tokens_reply limit s (length bare)) e
@@ -41,7 +41,7 @@ told_by limit s bare ts v e h =
 pub byte_refused : (bare : List ℕ) (n : ℕ) → syntax.tokens bare ≡ Err n → IsCommandIn bare (Err (refusals.Byte n))
 byte_refused bare n e = λ limit s. ap (tokens_reply limit s (length bare)) e
 
-pub parsed_line : (bare : List ℕ) (ts : List Token) → syntax.tokens bare ≡ Ok (map token_of ts) → (r : Result CommandLine Refusal) → IsParsed ts (length bare) r → IsCommandIn bare r
+pub parsed_line : (bare : List ℕ) (ts : List Token) → syntax.tokens bare ≡ Ok (map token_of ts) → (r : Result CommandLine Refusal) → IsParsedLine ts (length bare) r → IsCommandIn bare r
 parsed_line bare ts e (Ok c) p = subst (λ (l : CommandLine). IsCommandIn bare (Ok l)) (sym p.0) (e, p.1, refl)
 parsed_line bare ts e (Err (refusals.Token n)) p = λ limit s.
     told_by limit s bare ts (stops p.0) e p.1 ∙ ap (λ k. refused s (with_number (codes "syntax token") k)) (sym p.2)
@@ -147,7 +147,7 @@ some_spelled : (b : Bool) (o : Option Command) → b ≡ false → spelled_unles
 some_spelled true o e = cc
 some_spelled false o e = refl
 
-spelled_in : (ts : List Token) (c : Command) → verdict (kinds_of ts) ≡ sentence c → spelled_by (Ok (map token_of ts)) ≡ Some c
+spelled_in : (ts : List Token) (c : Command) → verdict (kind_row ts) ≡ sentence c → spelled_by (Ok (map token_of ts)) ≡ Some c
 spelled_in ts c v = ap parse_command (same_kinds ts) ∙ ap command_in v
 
 pub passed_over : (s : spec.System) (bare : List ℕ) → is_passed_over bare ≡ true → IsRequest s bare (Ok Nothing)

@@ -5,7 +5,7 @@ use Rattle.lsys_io.specs.declared.Failed.{Failed}
 use Rattle.lsys_syntax.specs.Commands.{Command}
 use Rattle.lsys_spec.specs.Systems.{System}
 use Rattle.lsys_spec.specs.Edits as edits
-use Rattle.lsys_spec.specs.Levels.{Symbol}
+use Rattle.lsys_spec.specs.Levels.{LevelSymbol}
 use Rattle.lsys_spec.specs.Questions.{questions, need, least_visits}
 use Rattle.lsys_spec.specs.Refusals.{Reply, refused, is_long, is_passed_over}
 use Rattle.lsys_spec.specs.Replies.{bare_reply, bare_spelled, is_query}
@@ -24,8 +24,8 @@ abbrev pub may_lack : List ℕ → Bool
 may_lack line = not (is_long line) && not (is_passed_over line)
 
 -- the reply, where memory may be wanting
-abbrev pub reply_or_memory : ℕ → System → List ℕ → Bool → Reply
-reply_or_memory limit s line lacks = memory_or (lacks && may_lack line) s (line_reply limit s line)
+abbrev pub line_reply_or_memory : ℕ → System → List ℕ → Bool → Reply
+line_reply_or_memory limit s line lacks = memory_or (lacks && may_lack line) s (line_reply limit s line)
 
 -- the command that a line spells; one that is too long or passed over spells none
 abbrev pub line_spelled : List ℕ → Option Command
@@ -47,18 +47,18 @@ ends_session outcomes.Quit = true
 ends_session o = false
 
 -- whether the line spells no command, an edit or a query, as far as the outcome tells
-abbrev pub IsSpelled : Option Command → Outcome → Type 0
-IsSpelled spelled outcomes.Skipped = spelled ≡ None
-IsSpelled spelled outcomes.Accepted = (c : Command) × (spelled ≡ Some c) × (is_query c ≡ false)
-IsSpelled spelled outcomes.Printed = (c : Command) × (spelled ≡ Some c) × (is_query c ≡ true)
-IsSpelled spelled o = Unit {0}
+abbrev pub FitsOutcome : Option Command → Outcome → Type 0
+FitsOutcome spelled outcomes.Skipped = spelled ≡ None
+FitsOutcome spelled outcomes.Accepted = (c : Command) × (spelled ≡ Some c) × (is_query c ≡ false)
+FitsOutcome spelled outcomes.Printed = (c : Command) × (spelled ≡ Some c) × (is_query c ≡ true)
+FitsOutcome spelled o = Unit {0}
 
 -- the outcome is that of this reply to a line that spells this
-pub record Became (spelled : Option Command) (reply : Reply) (o : Outcome) : Type 0 where
+pub record BecameAsSpelled (spelled : Option Command) (reply : Reply) (o : Outcome) : Type 0 where
   pub refusal : reply.is_refusal ≡ refuses o
   pub memory : reply.is_memory ≡ lacks_memory o
   pub end : reply.ends ≡ ends_session o
-  pub spells : IsSpelled spelled o
+  pub spells : FitsOutcome spelled o
 
 -- The definitions' reply to the line, or `refused memory`, was put whole, and the session goes on from its system; or the
 -- sink failed, and a front of the reply was written.
@@ -66,11 +66,11 @@ pub record WasAnswered {K : Type 0} (written : K → Option (List ℕ)) (faults 
     : Type 0 where
   pub lacks : Bool
   pub reply : Reply
-  pub is : reply ≡ reply_or_memory limit old line lacks
+  pub is : reply ≡ line_reply_or_memory limit old line lacks
   pub put : WasPut written faults sink_old sink_new [] held reply.text result
   pub empty : held ≡ []
   pub next : IfOk result (λ o. new ≡ reply.next)
-  pub became : IfOk result (Became (line_spelled line) reply)
+  pub became : IfOk result (BecameAsSpelled (line_spelled line) reply)
 
 -- 3. counters
 
@@ -80,9 +80,9 @@ pub record Counters : Type 0 where
   pub visited : ℕ
 
 -- the need of the two systems was asked, and at least the entries of the new questions' traces were read
-pub record Needed (visits : System → System → List (List Symbol) → List (List Symbol) → ℕ) (limit : ℕ) (old new : System) (before after : Counters) : Type 0 where
-  pub levels : List (List Symbol)
-  pub next_levels : List (List Symbol)
+pub record Needed (visits : System → System → List (List LevelSymbol) → List (List LevelSymbol) → ℕ) (limit : ℕ) (old new : System) (before after : Counters) : Type 0 where
+  pub levels : List (List LevelSymbol)
+  pub next_levels : List (List LevelSymbol)
   pub meant : AreMeant old new limit levels next_levels
   pub asked : after.asked ≡ before.asked + need (questions old levels) (questions new next_levels)
   pub visited : Rises (least_visits (questions old levels) (questions new next_levels)) (visits old new levels next_levels) before.visited after.visited
@@ -111,7 +111,7 @@ CountsRefused limit false before after = after ≡ before
 
 -- Counters rise by what an accepted edit needs, and somewhat where its levels are refused or memory is wanting; else they
 -- stay. `derived` tells whether a refusal is that of levels. Where the sink failed, nothing is said.
-abbrev pub WasCounted : (System → System → List (List Symbol) → List (List Symbol) → ℕ) → ℕ → Bool → System → System → Counters → Counters → Result Outcome Failed → Type 0
+abbrev pub WasCounted : (System → System → List (List LevelSymbol) → List (List LevelSymbol) → ℕ) → ℕ → Bool → System → System → Counters → Counters → Result Outcome Failed → Type 0
 WasCounted visits limit derived old new before after (Ok outcomes.Accepted) = Needed visits limit old new before after
 WasCounted visits limit derived old new before after (Ok outcomes.Memory) = Few limit before after
 WasCounted visits limit derived old new before after (Ok outcomes.Refused) = CountsRefused limit derived before after

@@ -9,7 +9,7 @@ use Rattle.lsys_spec.specs.Costs.{Visits}
 use Rattle.lsys_spec.specs.Pictures.{picture}
 use Rattle.lsys_spec.specs.Refusals.{Reply}
 use Rattle.lsys_level.specs.Spots.{Spotted}
-use Rattle.lsys_out.specs.Drawings.{last_level}
+use Rattle.lsys_out.specs.Drawings.{last_symbols}
 use Rattle.lsys_out.specs.LastPictures.{Draws}
 use Rattle.lsys_out.specs.declared.refusal.PictureRefusal.{PictureRefusal as Refusal}
 use Rattle.lsys_rewrite.specs.declared.refusal.DeriveRefusal.{DeriveRefusal}
@@ -33,7 +33,7 @@ Prints K sink out s reply result = WasPrinted K.written K.faults sink.entry.now 
 
 -- the picture of a system's last level, or why there is none, or `refused memory`, was put whole
 abbrev pub PrintsPicture : {K : Type 0} → Picture → SinkOf K → Lent K → Lent (List ℕ) → System → List (List Spotted) → Result Outcome Failed → Type 0
-PrintsPicture kind K sink out s levels result = (naming : ℕ → List ℕ) → Prints K sink out s (picture_reply kind s (picture s (last_level naming s levels))) result
+PrintsPicture kind K sink out s levels result = (naming : ℕ → List ℕ) → Prints K sink out s (picture_reply kind s (picture s (last_symbols naming s levels))) result
 
 -- the text of this kind of the last level's picture on a lattice was put; or it is refused, or the sink failed
 abbrev pub DrawsKind : {K : Type 0} → Picture → SinkOf K → Lent K → Lent (List ℕ) → Lattice → System → List (List Spotted) → Result (Unit {0}) Refusal → Type 0
@@ -64,8 +64,8 @@ Answers K sink out limit_of system_of session line result =
     WasAnswered K.written K.faults sink.entry.now sink.exit.now out.exit.now (limit_of session.entry.now) (system_of session.entry.now) (system_of session.exit.now) line result
 
 -- the reply of the edit that leads to a system, or `refused memory`
-abbrev pub Leads : {K D : Type 0} → SinkOf K → Lent K → Lent (List ℕ) → (D → ℕ) → (D → System) → Lent D → System → Result Outcome Failed → Type 0
-Leads K sink out limit_of system_of session to result =
+abbrev pub LeadsTo : {K D : Type 0} → SinkOf K → Lent K → Lent (List ℕ) → (D → ℕ) → (D → System) → Lent D → System → Result Outcome Failed → Type 0
+LeadsTo K sink out limit_of system_of session to result =
     WasLed K.written K.faults sink.entry.now sink.exit.now out.exit.now (limit_of session.entry.now) (system_of session.entry.now) to (system_of session.exit.now) result
 
 -- 3. counters: of the questions that are asked, and of the entries that are read
@@ -74,14 +74,14 @@ abbrev pub counters : ℕ → ℕ → Counters
 counters asked visited = record { asked = asked; visited = visited }
 
 -- The counters rise by what the session's step needs. `derived` tells whether a refusal is that of levels.
-abbrev pub Counts : {D : Type 0} → Visits → (D → ℕ) → (D → System) → Lent D → Lent ℕ → Lent ℕ → Bool → Result Outcome Failed → Type 0
-Counts visits limit_of system_of session asked visited derived result =
+abbrev pub CountsNeed : {D : Type 0} → Visits → (D → ℕ) → (D → System) → Lent D → Lent ℕ → Lent ℕ → Bool → Result Outcome Failed → Type 0
+CountsNeed visits limit_of system_of session asked visited derived result =
     WasCounted visits (limit_of session.entry.now) derived (system_of session.entry.now) (system_of session.exit.now)
     (counters asked.entry.now visited.entry.now) (counters asked.exit.now visited.exit.now) result
 
 abbrev pub CountsRequest : {D : Type 0} → Visits → (D → ℕ) → (D → System) → Lent D → Lent ℕ → Lent ℕ → Request → Result Outcome Failed → Type 0
-CountsRequest visits limit_of system_of session asked visited request result = Counts visits limit_of system_of session asked visited (is_edit request) result
+CountsRequest visits limit_of system_of session asked visited request result = CountsNeed visits limit_of system_of session asked visited (is_edit request) result
 
 abbrev pub CountsAtLine : {D : Type 0} → Visits → (D → ℕ) → (D → System) → Lent D → Lent ℕ → Lent ℕ → List ℕ → Result Outcome Failed → Type 0
 CountsAtLine visits limit_of system_of session asked visited line result =
-    Counts visits limit_of system_of session asked visited (is_derived (system_of session.entry.now) line) result
+    CountsNeed visits limit_of system_of session asked visited (is_derived (system_of session.entry.now) line) result

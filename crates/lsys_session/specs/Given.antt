@@ -1,5 +1,6 @@
 -- What a request is answered, where memory may be wanting.
 use Rattle.std.specs.Prelude.{◌≡◌, ◌≤◌, ℕ, Some, None, Bool, true, false, ◌&&◌, ◌++◌, Option, Result, IfOk, List, codes}
+use Rattle.lsys_syntax.specs.Limits.{greatest_module_limit}
 use Rattle.lsys_io.specs.declared.Failed.{Failed}
 use Rattle.lsys_laws.specs.Sessions.{IsWell, HasLevels}
 use Rattle.lsys_syntax.specs.Strings.{string_text}
@@ -26,8 +27,8 @@ use Rattle.lsys_session.specs.declared.request.Request.TheVariants.{Nothing, Edi
 -- 1. what a session keeps
 
 -- a well-formed and well-spelled system that has its levels under a limit of at most 1,000,000 symbols
-pub record IsKept (limit : ℕ) (s : System) : Type 0 where
-  pub limited : limit ≤ 1000000
+pub record IsWellUnder (limit : ℕ) (s : System) : Type 0 where
+  pub limited : limit ≤ greatest_module_limit
   pub well : IsWell s
   pub levels : HasLevels limit s
 
@@ -42,33 +43,33 @@ is_edit (Edit next) = true
 is_edit r = false
 
 -- the reply to a request; want of memory may stand in its place, but not where nothing is asked
-abbrev pub given : ℕ → System → Request → Bool → Reply
-given limit s r lacks = memory_or (lacks && is_something r) s (reply_to limit s r)
+abbrev pub given_reply : ℕ → System → Request → Bool → Reply
+given_reply limit s r lacks = memory_or (lacks && is_something r) s (reply_to limit s r)
 
 -- what becomes of a request that isn't refused
-abbrev pub done : Request → Outcome
-done Nothing = outcomes.Skipped
-done (Edit next) = outcomes.Accepted
-done Quit = outcomes.Quit
-done r = outcomes.Printed
+abbrev pub request_outcome : Request → Outcome
+request_outcome Nothing = outcomes.Skipped
+request_outcome (Edit next) = outcomes.Accepted
+request_outcome Quit = outcomes.Quit
+request_outcome r = outcomes.Printed
 
 -- what becomes of one that is answered so
-abbrev pub unless_refused : Outcome → Reply → Outcome
-unless_refused o r = elim r.is_memory [ true ↦ outcomes.Memory | false ↦ elim r.is_refusal [ true ↦ outcomes.Refused | false ↦ o ] ]
+abbrev pub outcome_by_reply : Outcome → Reply → Outcome
+outcome_by_reply o r = elim r.is_memory [ true ↦ outcomes.Memory | false ↦ elim r.is_refusal [ true ↦ outcomes.Refused | false ↦ o ] ]
 
 -- the reply to the request, or `refused memory`, was put whole, and the new system is the reply's
 pub record WasGiven {K : Type 0} (written : K → Option (List ℕ)) (faults : K → ℕ) (sink_old sink_new : K) (held : List ℕ) (limit : ℕ) (old new : System) (request : Request) (result : Result Outcome Failed)
     : Type 0 where
   pub lacks : Bool
-  pub says : WasSaid written faults sink_old sink_new held (given limit old request lacks).text (unless_refused (done request) (given limit old request lacks)) result
-  pub next : IfOk result (λ o. new ≡ (given limit old request lacks).next)
+  pub says : WasSaid written faults sink_old sink_new held (given_reply limit old request lacks).text (outcome_by_reply (request_outcome request) (given_reply limit old request lacks)) result
+  pub next : IfOk result (λ o. new ≡ (given_reply limit old request lacks).next)
 
 -- The reply of the edit that leads to this system, or `refused memory`, was put whole, and the session goes on from the reply's system; or the sink failed, and a front of the reply was written.
 pub record WasLed {K : Type 0} (written : K → Option (List ℕ)) (faults : K → ℕ) (sink_old sink_new : K) (held : List ℕ) (limit : ℕ) (old to new : System) (result : Result Outcome Failed) : Type 0 where
   pub lacks : Bool
   pub reply : Reply
   pub is : reply ≡ memory_or lacks old (edited limit old to (levels_of limit to))
-  pub says : WasSaid written faults sink_old sink_new held reply.text (unless_refused outcomes.Accepted reply) result
+  pub says : WasSaid written faults sink_old sink_new held reply.text (outcome_by_reply outcomes.Accepted reply) result
   pub next : IfOk result (λ o. new ≡ reply.next)
 
 -- 3. queries
@@ -76,7 +77,7 @@ pub record WasLed {K : Type 0} (written : K → Option (List ℕ)) (faults : K �
 -- this reply, or `refused memory`, was put whole
 pub record WasPrinted {K : Type 0} (written : K → Option (List ℕ)) (faults : K → ℕ) (sink_old sink_new : K) (held : List ℕ) (s : System) (reply : Reply) (result : Result Outcome Failed) : Type 0 where
   pub lacks : Bool
-  pub says : WasSaid written faults sink_old sink_new held (memory_or lacks s reply).text (unless_refused outcomes.Printed (memory_or lacks s reply)) result
+  pub says : WasSaid written faults sink_old sink_new held (memory_or lacks s reply).text (outcome_by_reply outcomes.Printed (memory_or lacks s reply)) result
 
 -- what asks for a picture
 abbrev pub picture_request : Picture → Request
@@ -88,9 +89,9 @@ abbrev pub level_number : ℕ → Option ℕ → ℕ
 level_number depth None = depth
 level_number depth (Some t) = t
 
-abbrev pub IsWithin : ℕ → Option ℕ → Type 0
-IsWithin depth None = Unit {0}
-IsWithin depth (Some t) = t ≤ depth
+abbrev pub IsLevelWithin : ℕ → Option ℕ → Type 0
+IsLevelWithin depth None = Unit {0}
+IsLevelWithin depth (Some t) = t ≤ depth
 
 -- the text of a picture's segments on a lattice
 abbrev pub picture_text : Picture → Lattice → List Segment → List ℕ

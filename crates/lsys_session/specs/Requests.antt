@@ -15,10 +15,10 @@ use Rattle.lsys_spec.specs.PictureTexts.{segments_text, svg_text}
 use Rattle.lsys_spec.specs.Shown.{show_text}
 use Rattle.lsys_syntax.specs.Commands.{Command}
 use Rattle.lsys_spec.specs.Replies.{shown, string_line, levels_of, picture_of, edited, accepted, tokens_reply, bare_reply, bare_spelled, is_query}
-use Rattle.lsys_text.specs.Tokens.{kinds_of, token_of}
+use Rattle.lsys_text.specs.Tokens.{kind_row, token_of}
 use Rattle.lsys_reading.specs.Parted.{command_of}
 use Rattle.lsys_rules.specs.Lines.{CommandLine}
-use Rattle.lsys_rules.specs.Applying.{IsRefused}
+use Rattle.lsys_rules.specs.Applying.{IsEditRefusal}
 use Rattle.lsys_rules.specs.declared.refusal.Refusal.{Refusal}
 use Rattle.lsys_rules.specs.declared.refusal.Refusal.TheVariants as refusals
 use Rattle.lsys_session.specs.declared.request.Request.{Request}
@@ -119,7 +119,7 @@ IsRequest s bare (Err e) = (limit : ℕ) → bare_reply limit s bare ≡ refused
 
 -- the command that the line's tokens spell, or why they spell none
 abbrev pub IsCommandIn : List ℕ → Result CommandLine Refusal → Type 0
-IsCommandIn bare (Ok c) = (tokens bare ≡ Ok (map token_of c.tokens)) × (verdict (kinds_of c.tokens) ≡ sentence (command_of c.tokens)) × (c.bytes ≡ length bare)
+IsCommandIn bare (Ok c) = (tokens bare ≡ Ok (map token_of c.tokens)) × (verdict (kind_row c.tokens) ≡ sentence (command_of c.tokens)) × (c.bytes ≡ length bare)
 IsCommandIn bare (Err refusals.Memory) = Unit {0}
 IsCommandIn bare (Err e) = (limit : ℕ) (s : spec.System) → tokens_reply limit s (length bare) (tokens bare) ≡ refused s (refusal_text e)
 
@@ -127,4 +127,4 @@ IsCommandIn bare (Err e) = (limit : ℕ) (s : spec.System) → tokens_reply limi
 abbrev pub IsRequested : spec.System → CommandLine → Result Request Refusal → Type 0
 IsRequested s c (Ok r) = (edits.refusal s (command_of c.tokens) ≡ None) × ((limit : ℕ) → accepted limit s (command_of c.tokens) ≡ reply_to limit s r) × HasLevel s r
     × IsAskedBy s (Some (command_of c.tokens)) r
-IsRequested s c (Err e) = IsRefused c (edits.refusal s (command_of c.tokens)) e
+IsRequested s c (Err e) = IsEditRefusal c (edits.refusal s (command_of c.tokens)) e

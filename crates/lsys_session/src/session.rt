@@ -1,10 +1,11 @@
 //! Sessions: one line after another.
 ghost use Rattle.std.specs.Prelude.{◌≡◌, ◌≤◌, [], false, true, IfOk};
+ghost use Rattle.lsys_syntax.specs.Limits.{greatest_module_limit};
 ghost use Rattle.lsys_spec.specs.Systems.{opening};
-ghost use Rattle.lsys_session.specs.Given.{IsKept, IsWithin, is_edit, level_number};
+ghost use Rattle.lsys_session.specs.Given.{IsWellUnder, IsLevelWithin, is_edit, level_number};
 ghost use Rattle.lsys_session.specs.Requests.{HasLevel};
 ghost use Rattle.lsys_session.specs.declared.request.Request.TheVariants.{Edit, String};
-ghost use Rattle.lsys_session.specs.Calls.{Quotes, Gives, Answers, Leads, Counts, CountsRequest, CountsAtLine, TellsPicture};
+ghost use Rattle.lsys_session.specs.Calls.{Quotes, Gives, Answers, LeadsTo, CountsNeed, CountsRequest, CountsAtLine, TellsPicture};
 
 use crate::outcome::Outcome;
 use crate::pictures::{Picture, print_picture};
@@ -30,13 +31,13 @@ pub struct Session<L: Ledger, D: Derivation<L>> {
 }
 
 impl<L: Ledger, D: Derivation<L>> Model for Session<L, D> {
-    ghost use Rattle.lsys_session.specs.Given.{IsKept};
+    ghost use Rattle.lsys_session.specs.Given.{IsWellUnder};
 
     ghost Value = { D };
 
     ghost view = { λ s. s.derivation };
 
-    ghost invariant = { λ s. IsKept (D.limit_of s.derivation) (D.system_of s.derivation) };
+    ghost invariant = { λ s. IsWellUnder (D.limit_of s.derivation) (D.system_of s.derivation) };
 }
 
 impl<L: Ledger, D: Derivation<L>> Session<L, D> {
@@ -46,7 +47,7 @@ impl<L: Ledger, D: Derivation<L>> Session<L, D> {
     ///
     /// Want of memory.
     pub fn start(alloc: Global, limit: u32) -> Result<Session<L, D>, AllocError>
-        requires { limit ≤ 1000000 }
+        requires { limit ≤ greatest_module_limit }
         ensures system { IfOk result (λ s. D.system_of s ≡ opening) }
         ensures limit { IfOk result (λ s. D.limit_of s ≡ limit) }
     {
@@ -90,7 +91,7 @@ impl<L: Ledger, D: Derivation<L>> Session<L, D> {
     /// The present system. It has its levels under the session's limit.
     pub fn system(&self) -> &System
         ensures system { result.now ≡ D.system_of self.now }
-        ensures kept { IsKept (D.limit_of self.now) (D.system_of self.now) }
+        ensures kept { IsWellUnder (D.limit_of self.now) (D.system_of self.now) }
     {
         self.derivation.system()
     }
@@ -98,7 +99,7 @@ impl<L: Ledger, D: Derivation<L>> Session<L, D> {
     /// The derivation that it keeps. Its system has its levels under the session's limit.
     pub fn derivation(&self) -> &D
         ensures same { result.now ≡ self.now }
-        ensures kept { IsKept (D.limit_of self.now) (D.system_of self.now) }
+        ensures kept { IsWellUnder (D.limit_of self.now) (D.system_of self.now) }
     {
         &self.derivation
     }
@@ -121,9 +122,9 @@ impl<L: Ledger, D: Derivation<L>> Session<L, D> {
         visited: &mut Steps<V>,
     ) -> Result<Outcome, Failed>
         requires { out.old ≡ [] }
-        ensures leads { Leads K.Sink sink out D.limit_of D.system_of self system result }
+        ensures leads { LeadsTo K.Sink sink out D.limit_of D.system_of self system result }
         ensures limit { D.limit_of self.new ≡ D.limit_of self.old }
-        ensures counts { Counts D.visits D.limit_of D.system_of self asked visited true result }
+        ensures counts { CountsNeed D.visits D.limit_of D.system_of self asked visited true result }
     {
         self.edit(alloc, system, out, sink, asked, visited)
     }
@@ -175,7 +176,7 @@ impl<L: Ledger, D: Derivation<L>> Session<L, D> {
         requires { out.old ≡ [] }
         ensures gives { Gives K.Sink sink out D.limit_of D.system_of self (Edit next) result }
         ensures limit { D.limit_of self.new ≡ D.limit_of self.old }
-        ensures counts { Counts D.visits D.limit_of D.system_of self asked visited true result }
+        ensures counts { CountsNeed D.visits D.limit_of D.system_of self asked visited true result }
     {
         match self.derivation.edit(alloc, next, asked, visited) {
             Ok(count) => accept(out, sink, count),
@@ -220,7 +221,7 @@ impl<L: Ledger, D: Derivation<L>> Session<L, D> {
 
 // The number of the level that is asked for.
 fn number_of(level: Option<u64>, depth: u32) -> u32
-    requires { IsWithin depth level }
+    requires { IsLevelWithin depth level }
     ensures { result ≡ level_number depth level }
 {
     match level {

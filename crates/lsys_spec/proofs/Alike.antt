@@ -4,7 +4,7 @@ use Rattle.std.specs.Prelude.{option_map}
 use Rattle.lsys_syntax.specs.Strings.{ModuleName}
 use Rattle.lsys_spec.specs.Systems.{Each}
 use Rattle.lsys_spec.specs.Bodies.{Pattern, Patterns, Done, OneOf, BranchOf}
-use Rattle.lsys_spec.specs.Levels.{Symbol, lineage, Step, Passed, Around, OutOf, Items, Nothing, One, Branch}
+use Rattle.lsys_spec.specs.Levels.{LevelSymbol, lineage, Step, Passed, Around, OutOf, Items, Nothing, One, Branch}
 use Rattle.lsys_spec.specs.Walks.{Mark, deeper, lineages_named, Entry, Compared, Ignored, Out, Branched, Told, Found, says, before, followed, modules, is_ignored, fits, left_walk, right_walk, behind, ahead, or_passed}
 use Rattle.lsys_spec.proofs.Meetings.{met}
 use Rattle.lsys_spec.proofs.Carries.{Carries, carries_self, carries_before, carries_followed, carries_answer}
@@ -26,10 +26,10 @@ AlikeItems S (One s r) (One s' r') = (s' ≡ s) × (S (lineage s) → AlikeItems
 AlikeItems S (Branch o c i r) (Branch o' c' i' r') = S (lineage o) → S (lineage c) → (o' ≡ o) × (c' ≡ c) × AlikeItems S i i' × AlikeItems S r r'
 AlikeItems S r r' = ⊥
 
-same_branch : (d : Mark) (o o' c c' : Symbol) → o' ≡ o → c' ≡ c → Branched d (lineage o') (lineage c') ≡ Branched d (lineage o) (lineage c)
+same_branch : (d : Mark) (o o' c c' : LevelSymbol) → o' ≡ o → c' ≡ c → Branched d (lineage o') (lineage c') ≡ Branched d (lineage o) (lineage c)
 same_branch d o o' c c' e g = ap (λ o. Branched d (lineage o) (lineage c')) e ∙ ap (λ c. Branched d (lineage o) (lineage c)) g
 
-carries_met : (S : List ℕ → Type 0) (b e : Bool) (d : Mark) (s : Symbol) (on on' next next' : Told Found)
+carries_met : (S : List ℕ → Type 0) (b e : Bool) (d : Mark) (s : LevelSymbol) (on on' next next' : Told Found)
     → (S (lineage s) → Carries (Settles S) on on') → (S (lineage s) → Carries (Settles S) next next') → Carries (Settles S) (met b e d s on next) (met b e d s on' next')
 carries_met S true e d s on on' next next' g h = carries_before (Settles S) (Ignored d s) (Ignored d s) on on' (λ k. (refl, g k.0))
 carries_met S false true d s on on' next next' g h = carries_before (Settles S) (Compared d s) (Compared d s) next next' (λ k. (refl, h k.0))

@@ -3,7 +3,7 @@ use Rattle.std.proofs.Common.{◌≡◌, ℕ, true, false, ◌&&◌, Option, Som
 use Rattle.std.specs.Prelude.{not, slice_get, ◌↔◌}
 use Rattle.lsys_spec.specs.Systems.{System, Each}
 use Rattle.lsys_spec.specs.Bodies.{Body, group}
-use Rattle.lsys_spec.specs.Levels.{ModuleValue, Symbol, lineage}
+use Rattle.lsys_spec.specs.Levels.{ModuleValue, LevelSymbol, lineage}
 use Rattle.lsys_spec.specs.Walks.{Mark, Entry, Compared, Ignored, Out, Branched, lineages_named}
 use Rattle.lsys_spec.specs.Equalities.{same_number, same_option, same_all, same_lineage, same_symbol, same_body, same_mark, same_entry}
 use Rattle.lsys_spec.specs.Questions.{Question, question, questions, same_question, question_at, differs, is_needed}
@@ -37,12 +37,12 @@ same_entry_true (Branched d o c) (Branched k p q) u v h =
     ap (λ d. Branched d o c) (same_mark_true d k e.0) ∙ ap (λ o. Branched k o c) (same_lineage_true o p f.0) ∙ ap (Branched k p) (same_lineage_true c q f.1)
 same_entry_true e f u v h = cc
 
-trace_named : (s : System) (xs : List (List Symbol)) (q : Question) → Derived s xs → IsAsked s xs q → Each (OfEntry NamedSymbol) q.trace
+trace_named : (s : System) (xs : List (List LevelSymbol)) (q : Question) → Derived s xs → IsAsked s xs q → Each (OfEntry NamedSymbol) q.trace
 trace_named s xs q d a =
     subst (λ (r : Question). Each (OfEntry NamedSymbol) r.trace) (sym a.is)
     (trace_of NamedSymbol s q.level (group s q.level a.value.name (length a.value.params)) a.level a.place a.parents a.value (d.names q.level a.level a.there))
 
-pub same_question_true : (old new : System) (xs ys : List (List Symbol)) → Derived old xs → Derived new ys → (was q : Question) → IsAsked old xs was → IsAsked new ys q → same_question was q ≡ true → was ≡ q
+pub same_question_true : (old new : System) (xs ys : List (List LevelSymbol)) → Derived old xs → Derived new ys → (was q : Question) → IsAsked old xs was → IsAsked new ys q → same_question was q ≡ true → was ≡ q
 same_question_true old new xs ys dx dy was q a b h =
     let e1 = both (same_number was.level q.level) _ h in
     let e2 = both (same_symbol was.own q.own) _ e1.1 in
@@ -55,7 +55,7 @@ same_question_true old new xs ys dx dy was q a b h =
     let p5 : was.trace ≡ q.trace = same_all_true same_entry (OfEntry NamedSymbol) same_entry_true was.trace q.trace (trace_named old xs was dx a) (trace_named new ys q dy b) e4.1 in
     λ i. record { level = p1 i; own = p2 i; bodies = p3 i; key = p4 i; trace = p5 i }
 
-pub answered : (old new : System) (xs ys : List (List Symbol)) → Derived old xs → Derived new ys → (i : ℕ) (q : Question) → slice_get (questions new ys) i ≡ Some q
+pub answered : (old new : System) (xs ys : List (List LevelSymbol)) → Derived old xs → Derived new ys → (i : ℕ) (q : Question) → slice_get (questions new ys) i ≡ Some q
     → (is_needed (questions old xs) q ≡ false) ↔ (question_at q.level (lineage q.own) (questions old xs) ≡ Some q)
 answered old new xs ys dx dy i q g = (found (question_at q.level (lineage q.own) (questions old xs)) refl, λ e. ap (differs q) e ∙ ap not (same_question_refl q))
   where
@@ -68,22 +68,22 @@ answered old new xs ys dx dy i q g = (found (question_at q.level (lineage q.own)
 
 -- what a trace names stands in its level
 
-later_in : (s : Symbol) (x : List Symbol) (a : Symbol) → StandsIn x (lineage a) → StandsIn (s ∷ x) (lineage a)
+later_in : (s : LevelSymbol) (x : List LevelSymbol) (a : LevelSymbol) → StandsIn x (lineage a) → StandsIn (s ∷ x) (lineage a)
 later_in s x a h = (suc h.0, h.1, h.2, h.3)
 
-all_in : (x : List Symbol) → Each (λ a. StandsIn x (lineage a)) x
+all_in : (x : List LevelSymbol) → Each (λ a. StandsIn x (lineage a)) x
 all_in [] = tt
 all_in (s ∷ x) = ((0, s, refl, refl), each_more (λ a. StandsIn x (lineage a)) (λ a. StandsIn (s ∷ x) (lineage a)) x (later_in s x) (all_in x))
 
-of_symbol : (x : List Symbol) (l : List ℕ) → Has (λ a. StandsIn x (lineage a)) l → StandsIn x l
+of_symbol : (x : List LevelSymbol) (l : List ℕ) → Has (λ a. StandsIn x (lineage a)) l → StandsIn x l
 of_symbol x l h = subst (StandsIn x) h.2 h.1
 
-entry_in : (x : List Symbol) (e : Entry) → OfEntry (λ a. StandsIn x (lineage a)) e → Each (StandsIn x) (lineages_named e)
+entry_in : (x : List LevelSymbol) (e : Entry) → OfEntry (λ a. StandsIn x (lineage a)) e → Each (StandsIn x) (lineages_named e)
 entry_in x (Compared d s) h = (h, tt)
 entry_in x (Ignored d s) h = (h, tt)
 entry_in x (Out d l) h = (of_symbol x l h, tt)
 entry_in x (Branched d o c) h = (of_symbol x o h.0, (of_symbol x c h.1, tt))
 
-pub trace_present : (s : System) (t : ℕ) (bs : List Body) (x : List Symbol) (p : ℕ) (l : List ℕ) (m : ModuleValue) → Each (λ e. Each (StandsIn x) (lineages_named e)) (question s t bs x p l m).trace
+pub trace_present : (s : System) (t : ℕ) (bs : List Body) (x : List LevelSymbol) (p : ℕ) (l : List ℕ) (m : ModuleValue) → Each (λ e. Each (StandsIn x) (lineages_named e)) (question s t bs x p l m).trace
 trace_present s t bs x p l m =
     each_more (OfEntry (λ a. StandsIn x (lineage a))) (λ e. Each (StandsIn x) (lineages_named e)) (question s t bs x p l m).trace (entry_in x) (trace_of (λ a. StandsIn x (lineage a)) s t bs x p l m (all_in x))

@@ -8,7 +8,7 @@ use Rattle.lsys_spec.specs.Values.{◌and_then◌}
 use Rattle.lsys_spec.specs.Bodies.{Body, Pattern, Patterns, Done, OneOf, BranchOf, group, filter}
 use Rattle.lsys_syntax.specs.Commands.{Numbering}
 use Rattle.lsys_spec.specs.Numbers.{code_of}
-use Rattle.lsys_spec.specs.Levels.{ModuleValue, Step, Items, Symbol, Push, Pop, Module, plain, way, items_from}
+use Rattle.lsys_spec.specs.Levels.{ModuleValue, Step, Items, LevelSymbol, Push, Pop, Module, plain, way, items_from}
 use Rattle.lsys_spec.specs.Choice.{Fault, choice}
 use Rattle.lsys_spec.specs.Cuts.{Raw}
 use Rattle.lsys_spec.specs.Meaning.{LevelRefusal, OverLimit, FaultAt, numbered, children, any_weight, key_for, ignored_by, asking, asked, successor_by, successor, fault_at, children_from}
@@ -42,13 +42,13 @@ all_find f own w v r q (b ∷ bs) h =
     let none = and_is (no_left b.left) (no_patterns b.right) both.0 in
     (finds_same f own w v r q b (no_left-is b.left none.0) (no_patterns-is b.right none.1), all_find f own w v r q bs both.1)
 
-asked_free : (s : System) (t : ℕ) (bs : List Body) (x y : List Symbol) (p q : ℕ) (l : List ℕ) (m : ModuleValue)
+asked_free : (s : System) (t : ℕ) (bs : List Body) (x y : List LevelSymbol) (p q : ℕ) (l : List ℕ) (m : ModuleValue)
     → free bs ≡ true → asked s t bs x p l m ≡ asked s t bs y q l m
 asked_free s t bs x y p q l m h =
     choice_same (asking s t m) (ignored_by (filter s t)) (way x p) (way y q) (items_from x (p + 1)) (items_from y (q + 1)) (key_for s l bs) bs (all_find _ m _ _ _ _ bs h)
 
 pub successor_free : (s : System) (t : ℕ) → IsContextFree s t
-    → (x y : List Symbol) (p q : ℕ) (l : List ℕ) (m : ModuleValue) → successor s t x p l m ≡ successor s t y q l m
+    → (x y : List LevelSymbol) (p q : ℕ) (l : List ℕ) (m : ModuleValue) → successor s t x p l m ≡ successor s t y q l m
 successor_free s t h x y p q l m =
     let bs = group s t m.name (length m.params) in
     ap (λ u. successor_by bs m u.answer) (asked_free s t bs x y p q l m (h m.name (length m.params)))
@@ -56,13 +56,13 @@ successor_free s t h x y p q l m =
 no_key : (s : System) (l : List ℕ) (bs : List Body) → any_weight bs ≡ false → key_for s l bs ≡ None
 no_key s l bs h = rw h refl
 
-asked_unweighted : (s : System) (t : ℕ) (bs : List Body) (x : List Symbol) (p : ℕ) (l k : List ℕ) (m : ModuleValue)
+asked_unweighted : (s : System) (t : ℕ) (bs : List Body) (x : List LevelSymbol) (p : ℕ) (l k : List ℕ) (m : ModuleValue)
     → any_weight bs ≡ false → asked s t bs x p l m ≡ asked s t bs x p k m
 asked_unweighted s t bs x p l k m h =
     ap (λ key. choice (asking s t m) key (way x p) (items_from x (p + 1)) bs) (no_key s l bs h ∙ sym (no_key s k bs h))
 
 successor_alone : (s : System) (t : ℕ) → IsContextFree s t → IsUnweighted s t
-    → (x : List Symbol) (p : ℕ) (l : List ℕ) (m : ModuleValue) → successor s t x p l m ≡ given_alone s t m
+    → (x : List LevelSymbol) (p : ℕ) (l : List ℕ) (m : ModuleValue) → successor s t x p l m ≡ given_alone s t m
 successor_alone s t h u x p l m =
     let bs = group s t m.name (length m.params) in
     ap (λ o. successor_by bs m o.answer) (asked_unweighted s t bs x p l [] m (u m.name (length m.params)))
@@ -98,7 +98,7 @@ with_module g t n l (Ok ys) c d h = with_children g l ys c d h
 with_module g t n l (Err k) c d h = refl
 
 pub children_made : (s : System) (t : ℕ) → IsContextFree s t → IsUnweighted s t
-    → (x : List Symbol) (p n : ℕ) (rest : List Symbol) → AreMade (children_from s t x p n rest) (rewritten (given_alone s t) (map plain rest))
+    → (x : List LevelSymbol) (p n : ℕ) (rest : List LevelSymbol) → AreMade (children_from s t x p n rest) (rewritten (given_alone s t) (map plain rest))
 children_made s t h u x p n [] = refl
 children_made s t h u x p n (Push l ∷ rest) = with_bracket _ _ _ (children_made s t h u x (p + 1) n rest)
 children_made s t h u x p n (Pop l ∷ rest) = with_bracket _ _ _ (children_made s t h u x (p + 1) n rest)

@@ -5,13 +5,13 @@ use Rattle.std.proofs.lemmas.List.{drop-append-le, drop_all, length_push, revers
 use Rattle.std.proofs.Math.Bool.{and_assoc, and-false, and-true}
 use Rattle.lsys_syntax.specs.Strings.{ModuleName}
 use Rattle.lsys_spec.specs.Bodies.{Body, Pattern, Patterns, Done, OneOf, BranchOf}
-use Rattle.lsys_spec.specs.Levels.{ModuleValue, Symbol, Push, Pop, Module, Step, Passed, Around, OutOf, Reading, restored, read, way, items_from, Items, Nothing, One, Branch}
+use Rattle.lsys_spec.specs.Levels.{ModuleValue, LevelSymbol, Push, Pop, Module, Step, Passed, Around, OutOf, Reading, restored, read, way, items_from, Items, Nothing, One, Branch}
 use Rattle.lsys_spec.specs.Walks.{Mark, deeper, Told, Found, modules, is_ignored, fits, says, behind, ahead, or_passed, left_walk, right_walk}
 use Rattle.lsys_spec.proofs.Meetings.{met}
 use Rattle.lsys_spec.specs.Choice.{right_after, contexts}
 use Rattle.lsys_spec.specs.Contexts.{Paths, given_back, unless_ignored, read_path, path, suits, all_suit, last, where_true, left, inner_or, right, around}
 
-met_answer : (b e : Bool) (d : Mark) (s : Symbol) (on next : Told Found) → (met b e d s on next).answer ≡ cond b on.answer (cond e next.answer None)
+met_answer : (b e : Bool) (d : Mark) (s : LevelSymbol) (on next : Told Found) → (met b e d s on next).answer ≡ cond b on.answer (cond e next.answer None)
 met_answer true e d s on next = refl
 met_answer false true d s on next = refl
 met_answer false false d s on next = refl
@@ -48,11 +48,11 @@ Passes (Passed (Pop l) ∷ w) = ⊥
 Passes (Around o c ∷ w) = Passes w
 Passes (OutOf o ∷ w) = Passes w
 
-abbrev SavedPass : List (Symbol × List Step) → Type 0
+abbrev SavedPass : List (LevelSymbol × List Step) → Type 0
 SavedPass [] = Unit {0}
 SavedPass (s ∷ saved) = Passes s.1 × SavedPass saved
 
-reads_modules : (x : List Symbol) (p : ℕ) (r : Reading) → Passes r.way → SavedPass r.saved → Passes (fold read r (take p x)).way
+reads_modules : (x : List LevelSymbol) (p : ℕ) (r : Reading) → Passes r.way → SavedPass r.saved → Passes (fold read r (take p x)).way
 reads_modules [] zero r h k = h
 reads_modules [] (suc p) r h k = h
 reads_modules (s ∷ x) zero r h k = h
@@ -60,7 +60,7 @@ reads_modules (Module l m ∷ x) (suc p) r h k = reads_modules x p (read r (Modu
 reads_modules (Push l ∷ x) (suc p) r h k = reads_modules x p (read r (Push l)) h (h, k)
 reads_modules (Pop l ∷ x) (suc p) r h k = back r.saved k (reads_modules x p)
   where
-    back : (saved : List (Symbol × List Step)) → SavedPass saved → ((r : Reading) → Passes r.way → SavedPass r.saved → Passes (fold read r (take p x)).way)
+    back : (saved : List (LevelSymbol × List Step)) → SavedPass saved → ((r : Reading) → Passes r.way → SavedPass r.saved → Passes (fold read r (take p x)).way)
         → Passes (fold read (restored (Pop l) saved) (take p x)).way
     back [] k go = go (restored (Pop l) []) tt tt
     back (s ∷ saved) k go = go (restored (Pop l) (s ∷ saved)) k.0 k.1
@@ -75,18 +75,18 @@ path_of f (Passed (Pop l) ∷ w) = path_of f w
 path_of f (OutOf o ∷ w) = path_of f w
 path_of f (Around o c ∷ w) = path_of f w
 
-abbrev saved_paths : (ModuleName → Bool) → List (Symbol × List Step) → List (List ModuleValue)
+abbrev saved_paths : (ModuleName → Bool) → List (LevelSymbol × List Step) → List (List ModuleValue)
 saved_paths f [] = []
 saved_paths f (s ∷ saved) = path_of f s.1 ∷ saved_paths f saved
 
 abbrev paths : (ModuleName → Bool) → Reading → Paths
 paths f r = record { path = path_of f r.way; saved = saved_paths f r.saved }
 
-given_back_is : (f : ModuleName → Bool) (c : Symbol) (saved : List (Symbol × List Step)) → given_back (saved_paths f saved) ≡ paths f (restored c saved)
+given_back_is : (f : ModuleName → Bool) (c : LevelSymbol) (saved : List (LevelSymbol × List Step)) → given_back (saved_paths f saved) ≡ paths f (restored c saved)
 given_back_is f c [] = refl
 given_back_is f c (s ∷ saved) = refl
 
-reads_on : (f : ModuleName → Bool) (x : List Symbol) (p : ℕ) (r : Reading) → fold (read_path f) (paths f r) (take p x) ≡ paths f (fold read r (take p x))
+reads_on : (f : ModuleName → Bool) (x : List LevelSymbol) (p : ℕ) (r : Reading) → fold (read_path f) (paths f r) (take p x) ≡ paths f (fold read r (take p x))
 reads_on f [] zero r = refl
 reads_on f [] (suc p) r = refl
 reads_on f (s ∷ x) zero r = refl
@@ -94,7 +94,7 @@ reads_on f (Module l m ∷ x) (suc p) r = reads_on f x p (read r (Module l m))
 reads_on f (Push l ∷ x) (suc p) r = reads_on f x p (read r (Push l))
 reads_on f (Pop l ∷ x) (suc p) r = ap (λ t. fold (read_path f) t (take p x)) (given_back_is f (Pop l) r.saved) ∙ reads_on f x p (read r (Pop l))
 
-path_is : (f : ModuleName → Bool) (x : List Symbol) (p : ℕ) → path f x p ≡ path_of f (way x p)
+path_is : (f : ModuleName → Bool) (x : List LevelSymbol) (p : ℕ) → path f x p ≡ path_of f (way x p)
 path_is f x p = ap (λ (r : Paths). r.path) (reads_on f x p (record { way = []; saved = [] }))
 
 -- a left context from its last pattern
@@ -162,7 +162,7 @@ left_of f d (q ∷ qs) (Passed (Module l m) ∷ w) h =
     ∙ ap (λ t. left t (unless_ignored (f m.name) m (path_of f w))) (sym (turned q qs))
 
 -- patterns in the order of the text
-pub left_is : (f : ModuleName → Bool) (d : Mark) (qs : List Pattern) (x : List Symbol) (p : ℕ) → (left_walk f d (reverse qs) (way x p)).answer ≡ left qs (path f x p)
+pub left_is : (f : ModuleName → Bool) (d : Mark) (qs : List Pattern) (x : List LevelSymbol) (p : ℕ) → (left_walk f d (reverse qs) (way x p)).answer ≡ left qs (path f x p)
 left_is f d qs x p =
     left_of f d (reverse qs) (way x p) (reads_modules x p (record { way = []; saved = [] }) tt tt)
     ∙ ap (λ t. left t (path_of f (way x p))) (reverse-reverse qs) ∙ ap (left qs) (sym (path_is f x p))
@@ -171,7 +171,7 @@ after_is : (f : ModuleName → Bool) (d : Mark) (b : Body) (own : ModuleValue) (
 after_is f d b own r None = refl
 after_is f d b own r (Some ms) = ap (option_map (λ more. (ms ++ own ∷ []) ++ more)) (right_is f d b.right r)
 
-pub contexts_are : (f : ModuleName → Bool) (d : Mark) (b : Body) (own : ModuleValue) (x : List Symbol) (p : ℕ)
+pub contexts_are : (f : ModuleName → Bool) (d : Mark) (b : Body) (own : ModuleValue) (x : List LevelSymbol) (p : ℕ)
     → (contexts f d b own (way x p) (items_from x (p + 1))).answer ≡ around (left b.left (path f x p)) own (right f b.right (items_from x (p + 1)))
 contexts_are f d b own x p =
     let r : Items = items_from x (p + 1) in

@@ -2,7 +2,7 @@
 use Rattle.std.proofs.Common.{◌≡◌, ◌≤◌, ℕ, zero, suc, ◌+◌, ◌-◌, Bool, true, false, ◌&&◌, ◌||◌, Option, Some, None, List, [], ◌∷◌, take, drop, refl, ap, sym, ◌∙◌, arith, eq-eqb}
 use Rattle.std.specs.Prelude.{map}
 use Rattle.std.proofs.lemmas.Bool.{eqb-true}
-use Rattle.lsys_spec.specs.Levels.{Symbol, Push, Pop, Module, level_balanced}
+use Rattle.lsys_spec.specs.Levels.{LevelSymbol, Push, Pop, Module, level_balanced}
 use Rattle.lsys_spec.specs.Cuts.{Raw, Plain, Cut, raw_balanced, cut_on, cut, never_closes, CutsOff, IsCutOff, is_percent, is_cut_off, kept}
 use Rattle.lsys_spec.proofs.Tests.{or_later}
 
@@ -28,7 +28,7 @@ cut_balanced (Plain (Pop l) ∷ x) (Some zero) (suc m) (suc b) e h = cut_balance
 cut_balanced (Plain (Pop l) ∷ x) (Some (suc n)) m (suc b) e h = cut_balanced x (Some n) m b (omega (arith, e)) h
 
 -- where nothing is cut off, nothing changes
-pub cut_plain : (y : List Symbol) → cut (map Plain y) ≡ y
+pub cut_plain : (y : List LevelSymbol) → cut (map Plain y) ≡ y
 cut_plain [] = refl
 cut_plain (s ∷ y) = ap (λ r. s ∷ r) (cut_plain y)
 

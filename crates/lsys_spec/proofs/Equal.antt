@@ -10,7 +10,7 @@ use Rattle.lsys_syntax.specs.Expressions.{TermOp, multiply, divide, remainder, S
 use Rattle.lsys_spec.specs.Systems.{same_name, module_name_text}
 use Rattle.lsys_spec.specs.Values.{Tree, Constant, Formal, Negation, Inversion, Binary, Both, Either, Operator, sum_of, product_of, power_of, comparison, is_zero, int_same}
 use Rattle.lsys_spec.specs.Bodies.{Body, Pattern, Patterns, Done, OneOf, BranchOf}
-use Rattle.lsys_spec.specs.Levels.{ModuleValue, Symbol, Push, Pop, Module}
+use Rattle.lsys_spec.specs.Levels.{ModuleValue, LevelSymbol, Push, Pop, Module}
 use Rattle.lsys_spec.specs.Walks.{Mark, Entry, Compared, Ignored, Out, Branched}
 use Rattle.lsys_spec.specs.Standings.{Standing, same_standing}
 use Rattle.lsys_spec.specs.Equalities.{same_number, same_option, same_all, same_lineage, same_module, same_symbol, same_term_op, same_sum_op, same_rel_op, same_operator, same_tree, same_pattern, same_patterns, same_template, same_body, same_mark, same_entry}
@@ -62,7 +62,7 @@ zero_difference x = let e : x -ℤ x ≡ pos 0 = omega (arith, ints) in ap is_ze
 same_module_refl : (m : ModuleValue) → same_module m m ≡ true
 same_module_refl m = and_true (same_name m.name m.name) (same_all int_same m.params m.params) (same_name_refl m.name) (same_all_refl int_same zero_difference m.params)
 
-pub same_symbol_refl : (s : Symbol) → same_symbol s s ≡ true
+pub same_symbol_refl : (s : LevelSymbol) → same_symbol s s ≡ true
 same_symbol_refl (Push l) = same_lineage_refl l
 same_symbol_refl (Pop l) = same_lineage_refl l
 same_symbol_refl (Module l m) = and_true (same_lineage l l) (same_module m m) (same_lineage_refl l) (same_module_refl m)

@@ -5,7 +5,7 @@ use Rattle.lsys_syntax.specs.Strings.{ModuleName}
 use Rattle.lsys_spec.specs.Systems.{System, Own, Each, same_name}
 use Rattle.lsys_spec.specs.Values.{◌and_then◌}
 use Rattle.lsys_spec.specs.Bodies.{Body, Pattern, Patterns, Done, OneOf, BranchOf, table_at, group, filter_in, filter}
-use Rattle.lsys_spec.specs.Levels.{ModuleValue, Symbol, Push, Pop, Module, Step, Passed, Around, OutOf, Reading, restored, read, way, Items, Nothing, One, Branch, Nest, at_root, in_branch, items_here, with_module, with_whole_branch, with_open_bracket, items_of, items_from}
+use Rattle.lsys_spec.specs.Levels.{ModuleValue, LevelSymbol, Push, Pop, Module, Step, Passed, Around, OutOf, Reading, restored, read, way, Items, Nothing, One, Branch, Nest, at_root, in_branch, items_here, with_module, with_whole_branch, with_open_bracket, items_of, items_from}
 use Rattle.lsys_spec.specs.Walks.{Mark, deeper, Told, Found, says, before, followed, is_ignored, fits, behind, left_walk, ahead, joined, or_passed, right_walk}
 use Rattle.lsys_spec.proofs.Meetings.{met}
 use Rattle.lsys_spec.specs.Choice.{right_after}
@@ -18,7 +18,7 @@ use Rattle.lsys_spec.specs.Morphisms.{IsAlike, AreAlike, ignoring, occurs}
 use Rattle.lsys_spec.proofs.SameGroups.{FindSame, choice_same}
 
 module _ (f g : ModuleName → Bool) where
-  ignored_same : (s : Symbol) → IsAlike f g s → is_ignored f s ≡ is_ignored g s
+  ignored_same : (s : LevelSymbol) → IsAlike f g s → is_ignored f s ≡ is_ignored g s
   ignored_same (Module l m) h = h
   ignored_same (Push l) h = refl
   ignored_same (Pop l) h = refl
@@ -33,7 +33,7 @@ module _ (f g : ModuleName → Bool) where
   ItemsAlike (One s r) = IsAlike f g s × ItemsAlike r
   ItemsAlike (Branch o c inner r) = ItemsAlike inner × ItemsAlike r
 
-  met_same : (i j b : Bool) (d : Mark) (s : Symbol) (on go next past : Told Found)
+  met_same : (i j b : Bool) (d : Mark) (s : LevelSymbol) (on go next past : Told Found)
       → i ≡ j → on ≡ go → next ≡ past → met i b d s on next ≡ met j b d s go past
   met_same i j b d s on go next past e h k = cc
 
@@ -83,55 +83,55 @@ module _ (f g : ModuleName → Bool) where
   all_same own w r (b ∷ bs) h k = (contexts_same own w r b h k, all_same own w r bs h k)
 
   -- the way and the rest hold symbols of the level alone
-  abbrev SavedAlike : Symbol × List Step → Type 0
+  abbrev SavedAlike : LevelSymbol × List Step → Type 0
   SavedAlike s = Each StepAlike s.1
 
   abbrev ReadingAlike : Reading → Type 0
   ReadingAlike r = Each StepAlike r.way × Each SavedAlike r.saved
 
-  restored_alike : (c : Symbol) (saved : List (Symbol × List Step)) → Each SavedAlike saved → ReadingAlike (restored c saved)
+  restored_alike : (c : LevelSymbol) (saved : List (LevelSymbol × List Step)) → Each SavedAlike saved → ReadingAlike (restored c saved)
   restored_alike c [] h = (tt, tt)
   restored_alike c (s ∷ saved) h = ((tt, h.0), h.1)
 
-  read_alike : (r : Reading) (s : Symbol) → ReadingAlike r → IsAlike f g s → ReadingAlike (read r s)
+  read_alike : (r : Reading) (s : LevelSymbol) → ReadingAlike r → IsAlike f g s → ReadingAlike (read r s)
   read_alike r (Module l m) h k = ((k, h.0), h.1)
   read_alike r (Push l) h k = ((tt, h.0), (h.0, h.1))
   read_alike r (Pop l) h k = restored_alike (Pop l) r.saved h.1
 
-  fold_alike : (x : List Symbol) (r : Reading) → ReadingAlike r → AreAlike f g x → ReadingAlike (fold read r x)
+  fold_alike : (x : List LevelSymbol) (r : Reading) → ReadingAlike r → AreAlike f g x → ReadingAlike (fold read r x)
   fold_alike [] r h k = h
   fold_alike (s ∷ x) r h k = fold_alike x (read r s) (read_alike r s h k.0) k.1
 
-  take_alike : (x : List Symbol) (p : ℕ) → AreAlike f g x → AreAlike f g (take p x)
+  take_alike : (x : List LevelSymbol) (p : ℕ) → AreAlike f g x → AreAlike f g (take p x)
   take_alike x zero h = tt
   take_alike [] (suc p) h = tt
   take_alike (s ∷ x) (suc p) h = (h.0, take_alike x p h.1)
 
-  drop_alike : (x : List Symbol) (p : ℕ) → AreAlike f g x → AreAlike f g (drop p x)
+  drop_alike : (x : List LevelSymbol) (p : ℕ) → AreAlike f g x → AreAlike f g (drop p x)
   drop_alike x zero h = h
   drop_alike [] (suc p) h = tt
   drop_alike (s ∷ x) (suc p) h = drop_alike x p h.1
 
-  way_alike : (x : List Symbol) (p : ℕ) → AreAlike f g x → Each StepAlike (way x p)
+  way_alike : (x : List LevelSymbol) (p : ℕ) → AreAlike f g x → Each StepAlike (way x p)
   way_alike x p h = (fold_alike (take p x) _ (tt, tt) (take_alike x p h)).0
 
   abbrev NestAlike : Nest → Type 0
   NestAlike (at_root r) = ItemsAlike r
   NestAlike (in_branch r c n) = ItemsAlike r × NestAlike n
 
-  module_alike : (s : Symbol) (n : Nest) → IsAlike f g s → NestAlike n → NestAlike (with_module s n)
+  module_alike : (s : LevelSymbol) (n : Nest) → IsAlike f g s → NestAlike n → NestAlike (with_module s n)
   module_alike s (at_root r) h k = (h, k)
   module_alike s (in_branch r c n) h k = ((h, k.0), k.1)
 
-  branch_alike : (o c : Symbol) (inner : Items) (n : Nest) → ItemsAlike inner → NestAlike n → NestAlike (with_whole_branch o c inner n)
+  branch_alike : (o c : LevelSymbol) (inner : Items) (n : Nest) → ItemsAlike inner → NestAlike n → NestAlike (with_whole_branch o c inner n)
   branch_alike o c inner (at_root r) h k = (h, k)
   branch_alike o c inner (in_branch r d n) h k = ((h, k.0), k.1)
 
-  opened_alike : (o : Symbol) (n : Nest) → NestAlike n → NestAlike (with_open_bracket o n)
+  opened_alike : (o : LevelSymbol) (n : Nest) → NestAlike n → NestAlike (with_open_bracket o n)
   opened_alike o (at_root inner) h = (h, tt)
   opened_alike o (in_branch inner c n) h = branch_alike o c inner n h.0 h.1
 
-  nest_alike : (x : List Symbol) → AreAlike f g x → NestAlike (items_of x)
+  nest_alike : (x : List LevelSymbol) → AreAlike f g x → NestAlike (items_of x)
   nest_alike [] h = tt
   nest_alike (Module l m ∷ x) h = module_alike (Module l m) (items_of x) h.0 (nest_alike x h.1)
   nest_alike (Push l ∷ x) h = opened_alike (Push l) (items_of x) (nest_alike x h.1)
@@ -141,23 +141,23 @@ module _ (f g : ModuleName → Bool) where
   innermost_alike (at_root r) h = h
   innermost_alike (in_branch r c n) h = h.0
 
-  items_alike : (x : List Symbol) (p : ℕ) → AreAlike f g x → ItemsAlike (items_from x p)
+  items_alike : (x : List LevelSymbol) (p : ℕ) → AreAlike f g x → ItemsAlike (items_from x p)
   items_alike x p h = innermost_alike (items_of (drop p x)) (nest_alike (drop p x) (drop_alike x p h))
 
 -- Where a table has no list of its own, the ignored names are told by.
-kind_same : (k : ListKind) (ns : List ModuleName) (x : List Symbol) → AreAlike (ignored_by (record { kind = k; names = ns })) (ignored_by (record { kind = k; names = ns })) x
+kind_same : (k : ListKind) (ns : List ModuleName) (x : List LevelSymbol) → AreAlike (ignored_by (record { kind = k; names = ns })) (ignored_by (record { kind = k; names = ns })) x
 kind_same k ns [] = tt
 kind_same k ns (Module l m ∷ x) = (refl, kind_same k ns x)
 kind_same k ns (Push l ∷ x) = (tt, kind_same k ns x)
 kind_same k ns (Pop l ∷ x) = (tt, kind_same k ns x)
 
-names_alike : (a b : List ModuleName) (x : List Symbol) → AreAlike (ignores a) (ignores b) x → AreAlike (ignored_by (record { kind = to_ignore; names = a })) (ignored_by (record { kind = to_ignore; names = b })) x
+names_alike : (a b : List ModuleName) (x : List LevelSymbol) → AreAlike (ignores a) (ignores b) x → AreAlike (ignored_by (record { kind = to_ignore; names = a })) (ignored_by (record { kind = to_ignore; names = b })) x
 names_alike a b [] h = tt
 names_alike a b (Module l m ∷ x) h = (h.0, names_alike a b x h.1)
 names_alike a b (Push l ∷ x) h = (tt, names_alike a b x h.1)
 names_alike a b (Pop l ∷ x) h = (tt, names_alike a b x h.1)
 
-lists_alike : (table : List ℕ) (own : List Own) (a b : List ModuleName) (x : List Symbol) → AreAlike (ignores a) (ignores b) x → AreAlike (ignored_by (filter_in table own a)) (ignored_by (filter_in table own b)) x
+lists_alike : (table : List ℕ) (own : List Own) (a b : List ModuleName) (x : List LevelSymbol) → AreAlike (ignores a) (ignores b) x → AreAlike (ignored_by (filter_in table own a)) (ignored_by (filter_in table own b)) x
 lists_alike table [] a b x h = names_alike a b x h
 lists_alike table (o ∷ os) a b x h = by (bytes_eq o.table table) (lists_alike table os a b x h)
   where
@@ -166,7 +166,7 @@ lists_alike table (o ∷ os) a b x h = by (bytes_eq o.table table) (lists_alike 
     by true g = kind_same o.kind o.names x
     by false g = g
 
-module _ (s : System) (names : List ModuleName) (x : List Symbol) (alike : AreAlike (ignores names) (ignores s.ignored) x) where
+module _ (s : System) (names : List ModuleName) (x : List LevelSymbol) (alike : AreAlike (ignores names) (ignores s.ignored) x) where
   filters_alike : (t : ℕ) → AreAlike (ignored_by (filter (ignoring names s) t)) (ignored_by (filter s t)) x
   filters_alike t = lists_alike (table_at s.schedule t) s.own names s.ignored x alike
 
@@ -179,7 +179,7 @@ module _ (s : System) (names : List ModuleName) (x : List Symbol) (alike : AreAl
   successor_same t p l m =
       let bs = group s t m.name (length m.params) in ap (λ o. successor_by bs m o.answer) (asked_same t bs p l m)
 
-  children_same : (t p n : ℕ) (rest : List Symbol) → children_from (ignoring names s) t x p n rest ≡ children_from s t x p n rest
+  children_same : (t p n : ℕ) (rest : List LevelSymbol) → children_from (ignoring names s) t x p n rest ≡ children_from s t x p n rest
   children_same t p n [] = refl
   children_same t p n (Push l ∷ rest) = ap (λ r. r and_then λ more. Ok (children s.numbering l (S.Push ∷ []) ++ more)) (children_same t (p + 1) n rest)
   children_same t p n (Pop l ∷ rest) = ap (λ r. r and_then λ more. Ok (children s.numbering l (S.Pop ∷ []) ++ more)) (children_same t (p + 1) n rest)
@@ -197,7 +197,7 @@ module _ (s : System) (names : List ModuleName) (x : List Symbol) (alike : AreAl
   any_same : (bs : List Body) (q r : Question) (qs rs : List Question) → q ≡ r → qs ≡ rs → where_any bs q qs ≡ where_any bs r rs
   any_same bs q r qs rs e k = cc
 
-  from_same : (t p : ℕ) (rest : List Symbol) → questions_from (ignoring names s) t x p rest ≡ questions_from s t x p rest
+  from_same : (t p : ℕ) (rest : List LevelSymbol) → questions_from (ignoring names s) t x p rest ≡ questions_from s t x p rest
   from_same t p [] = refl
   from_same t p (Push l ∷ rest) = from_same t (p + 1) rest
   from_same t p (Pop l ∷ rest) = from_same t (p + 1) rest
@@ -218,7 +218,7 @@ both_false : (b c : Bool) → elim b [ true ↦ true | false ↦ c ] ≡ false �
 both_false true c h = absurd (true≢false h)
 both_false false c h = (refl, h)
 
-pub absent_alike : (n : ModuleName) (names : List ModuleName) (x : List Symbol) → occurs n x ≡ false → AreAlike (ignores (n ∷ names)) (ignores names) x
+pub absent_alike : (n : ModuleName) (names : List ModuleName) (x : List LevelSymbol) → occurs n x ≡ false → AreAlike (ignores (n ∷ names)) (ignores names) x
 absent_alike n names [] h = tt
 absent_alike n names (Push l ∷ x) h = (tt, absent_alike n names x h)
 absent_alike n names (Pop l ∷ x) h = (tt, absent_alike n names x h)

@@ -2,16 +2,16 @@
 use Rattle.std.proofs.Common.{◌≡◌, ℕ, zero, suc, List, [], ◌∷◌, ◌+◌, ◌<◌, ◌≤◌, length, Option, Some, None, refl, ap, sym, ◌∙◌, subst, arith}
 use Rattle.std.specs.Prelude.{slice_get}
 use Rattle.std.proofs.lemmas.Option.{slice_get_past, slice_get_within}
-use Rattle.lsys_spec.specs.Levels.{Symbol, Push, Pop, Module, lineage, IsLevel, way, items_from, Branch, Around}
+use Rattle.lsys_spec.specs.Levels.{LevelSymbol, Push, Pop, Module, lineage, IsLevel, way, items_from, Branch, Around}
 use Rattle.lsys_spec.specs.Standings.{standing, Settled, before_place, mate_at, mate_ahead, mate_behind}
 use Rattle.lsys_spec.proofs.Alike.{AlikeItems, AlikeWays}
 use Rattle.lsys_spec.proofs.Around.{way_module, way_push, way_pop, items_none, items_pop, items_module, items_push, ends_at}
 use Rattle.lsys_spec.proofs.Standings.{stands}
 
-same_after : (x y : List Symbol) (p q : ℕ) → standing y q ≡ standing x p → slice_get x (p + 1) ≡ slice_get y (q + 1)
+same_after : (x y : List LevelSymbol) (p q : ℕ) → standing y q ≡ standing x p → slice_get x (p + 1) ≡ slice_get y (q + 1)
 same_after x y p q e = sym (ap (λ s. s.after) e)
 
-alike_items_step : (x y : List Symbol) → IsLevel x → IsLevel y → (p q : ℕ) (o : Option Symbol) → slice_get x p ≡ o → slice_get y q ≡ o
+alike_items_step : (x y : List LevelSymbol) → IsLevel x → IsLevel y → (p q : ℕ) (o : Option LevelSymbol) → slice_get x p ≡ o → slice_get y q ≡ o
     → ((p' q' : ℕ) → p < p' → slice_get x p' ≡ slice_get y q' → AlikeItems (Settled x y) (items_from x p') (items_from y q'))
     → AlikeItems (Settled x y) (items_from x p) (items_from y q)
 alike_items_step x y lx ly p q None h g ih = rw (items_none x p h, items_none y q g) tt
@@ -39,7 +39,7 @@ alike_items_step x y lx ly p q (Some (Push o)) h g ih =
       ih (m.0 + 1) (m'.0 + 1) (omega (arith, m.1)) (same_after x y m.0 m'.0 (stands x y m.0 m'.0 (Pop c.0) lx ly c.1 close sc)),
     ))
 
-alike_items_in : (x y : List Symbol) → IsLevel x → IsLevel y → (n p q : ℕ) → length x ≤ p + n → slice_get x p ≡ slice_get y q
+alike_items_in : (x y : List LevelSymbol) → IsLevel x → IsLevel y → (n p q : ℕ) → length x ≤ p + n → slice_get x p ≡ slice_get y q
     → AlikeItems (Settled x y) (items_from x p) (items_from y q)
 alike_items_in x y lx ly zero p q l e =
     let none : slice_get x p ≡ None = slice_get_past x p (omega (arith, l)) in
@@ -47,10 +47,10 @@ alike_items_in x y lx ly zero p q l e =
 alike_items_in x y lx ly (suc n) p q l e =
     alike_items_step x y lx ly p q (slice_get x p) refl (sym e) (λ p' q' i f. alike_items_in x y lx ly n p' q' (omega (arith, l, i)) f)
 
-pub alike_items : (x y : List Symbol) → IsLevel x → IsLevel y → (p q : ℕ) → slice_get x p ≡ slice_get y q → AlikeItems (Settled x y) (items_from x p) (items_from y q)
+pub alike_items : (x y : List LevelSymbol) → IsLevel x → IsLevel y → (p q : ℕ) → slice_get x p ≡ slice_get y q → AlikeItems (Settled x y) (items_from x p) (items_from y q)
 alike_items x y lx ly p q e = alike_items_in x y lx ly (length x) p q (omega arith) e
 
-alike_ways_step : (x y : List Symbol) → IsLevel x → IsLevel y → (p q : ℕ) (s : Symbol) → slice_get x p ≡ Some s → slice_get y q ≡ Some s
+alike_ways_step : (x y : List LevelSymbol) → IsLevel x → IsLevel y → (p q : ℕ) (s : LevelSymbol) → slice_get x p ≡ Some s → slice_get y q ≡ Some s
     → ((p' q' : ℕ) → p' ≤ p → p' ≤ length x → q' ≤ length y → before_place x p' ≡ before_place y q' → AlikeWays (Settled x y) (way x p') (way y q'))
     → AlikeWays (Settled x y) (way x (p + 1)) (way y (q + 1))
 alike_ways_step x y lx ly p q (Module l m) h g ih =
@@ -79,15 +79,15 @@ alike_ways_step x y lx ly p q (Pop c) h g ih =
           (sym (ap (λ s. s.before) (stands x y m.0 m'.0 (Push o.0) lx ly o.1 open' so))),
     ))
 
-at_place : (x : List Symbol) (p : ℕ) → p < length x → (s : Symbol) × (slice_get x p ≡ Some s)
+at_place : (x : List LevelSymbol) (p : ℕ) → p < length x → (s : LevelSymbol) × (slice_get x p ≡ Some s)
 at_place [] p h = absurd (omega (arith, h))
 at_place (s ∷ x) zero h = (s, refl)
 at_place (s ∷ x) (suc p) h = at_place x p (omega (arith, h))
 
-moved : (S : List ℕ → Type 0) (x y : List Symbol) (p q p' q' : ℕ) → p + 1 ≡ p' → q + 1 ≡ q' → AlikeWays S (way x (p + 1)) (way y (q + 1)) → AlikeWays S (way x p') (way y q')
+moved : (S : List ℕ → Type 0) (x y : List LevelSymbol) (p q p' q' : ℕ) → p + 1 ≡ p' → q + 1 ≡ q' → AlikeWays S (way x (p + 1)) (way y (q + 1)) → AlikeWays S (way x p') (way y q')
 moved S x y p q p' q' a b h = subst (λ n. AlikeWays S (way x n) (way y q')) a (subst (λ n. AlikeWays S (way x (p + 1)) (way y n)) b h)
 
-alike_ways_in : (x y : List Symbol) → IsLevel x → IsLevel y → (n p q : ℕ) → p ≤ n → p ≤ length x → q ≤ length y → before_place x p ≡ before_place y q
+alike_ways_in : (x y : List LevelSymbol) → IsLevel x → IsLevel y → (n p q : ℕ) → p ≤ n → p ≤ length x → q ≤ length y → before_place x p ≡ before_place y q
     → AlikeWays (Settled x y) (way x p) (way y q)
 alike_ways_in x y lx ly n zero zero i j k e = tt
 alike_ways_in x y lx ly n zero (suc q) i j k e = let s = at_place y q (omega (arith, k)) in let f : None ≡ Some s.0 = e ∙ s.1 in cc
@@ -98,11 +98,11 @@ alike_ways_in x y lx ly (suc n) (suc p) (suc q) i j k e =
     moved (Settled x y) x y p q (suc p) (suc q) (omega arith) (omega arith)
     (alike_ways_step x y lx ly p q s.0 s.1 (sym e ∙ s.1) (λ p' q' i' j' k' e'. alike_ways_in x y lx ly n p' q' (omega (arith, i, i')) j' k' e'))
 
-pub alike_ways : (x y : List Symbol) → IsLevel x → IsLevel y → (p q : ℕ) → p ≤ length x → q ≤ length y → before_place x p ≡ before_place y q → AlikeWays (Settled x y) (way x p) (way y q)
+pub alike_ways : (x y : List LevelSymbol) → IsLevel x → IsLevel y → (p q : ℕ) → p ≤ length x → q ≤ length y → before_place x p ≡ before_place y q → AlikeWays (Settled x y) (way x p) (way y q)
 alike_ways x y lx ly p q i j e = alike_ways_in x y lx ly p p q (omega arith) i j e
 
 -- what stands around a symbol that isn't disturbed is alike
-pub alike_around : (x y : List Symbol) → IsLevel x → IsLevel y → (p q : ℕ) (s : Symbol) → slice_get x p ≡ Some s → slice_get y q ≡ Some s → Settled x y (lineage s)
+pub alike_around : (x y : List LevelSymbol) → IsLevel x → IsLevel y → (p q : ℕ) (s : LevelSymbol) → slice_get x p ≡ Some s → slice_get y q ≡ Some s → Settled x y (lineage s)
     → AlikeWays (Settled x y) (way x p) (way y q) × AlikeItems (Settled x y) (items_from x (p + 1)) (items_from y (q + 1))
 alike_around x y lx ly p q s h g e =
     let st : standing y q ≡ standing x p = stands x y p q s lx ly h g e in (

@@ -10,7 +10,7 @@ use Rattle.lsys_syntax.specs.Expressions.{TermOp, multiply, divide, remainder, S
 use Rattle.lsys_spec.specs.Systems.{Each, same_name, module_name_text}
 use Rattle.lsys_spec.specs.Values.{Tree, Constant, Formal, Negation, Inversion, Binary, Both, Either, Operator, sum_of, product_of, power_of, comparison, is_zero, int_same}
 use Rattle.lsys_spec.specs.Bodies.{Body, Pattern, Patterns, Done, OneOf, BranchOf}
-use Rattle.lsys_spec.specs.Levels.{ModuleValue, Symbol, Push, Pop, Module}
+use Rattle.lsys_spec.specs.Levels.{ModuleValue, LevelSymbol, Push, Pop, Module}
 use Rattle.lsys_spec.specs.Equalities.{same_number, same_option, same_all, same_lineage, same_module, same_symbol, same_term_op, same_sum_op, same_rel_op, same_operator, same_tree, same_pattern, same_patterns, same_template, same_body}
 use Rattle.lsys_spec.specs.Standings.{Standing, same_standing}
 use Rattle.lsys_spec.proofs.Equal.{same_number_true, same_lineage_true, same_name_text}
@@ -46,7 +46,7 @@ same_name_true m n a b h = sym (name_again m a) ∙ ap name_at (same_name_text m
 
 -- 2. whose names are names of the language
 
-abbrev pub NamedSymbol : Symbol → Type 0
+abbrev pub NamedSymbol : LevelSymbol → Type 0
 NamedSymbol (Push l) = Unit {0}
 NamedSymbol (Pop l) = Unit {0}
 NamedSymbol (Module l m) = IsModuleName m.name
@@ -124,7 +124,7 @@ same_module_true m n u v h =
     let q : m.params ≡ n.params = same_plain_list int_same int_same_true m.params n.params e.1 in
     λ i. record { name = p i; params = q i }
 
-pub same_symbol_true : (s t : Symbol) → NamedSymbol s → NamedSymbol t → same_symbol s t ≡ true → s ≡ t
+pub same_symbol_true : (s t : LevelSymbol) → NamedSymbol s → NamedSymbol t → same_symbol s t ≡ true → s ≡ t
 same_symbol_true (Push l) (Push m) u v h = ap (λ l. Push l) (same_lineage_true l m h)
 same_symbol_true (Pop l) (Pop m) u v h = ap (λ l. Pop l) (same_lineage_true l m h)
 same_symbol_true (Module l a) (Module m b) u v h =

@@ -6,8 +6,8 @@ use Rattle.std.proofs.lemmas.List.Sums.{sum_by-cons}
 use Rattle.std.proofs.lemmas.Option.{get_or_from_slice_get}
 use Rattle.lsys_spec.specs.Systems.{System, Each, WellSpelled}
 use Rattle.lsys_spec.specs.Bodies.{Body, group, filter}
-use Rattle.lsys_spec.specs.Levels.{ModuleValue, Symbol, Push, Pop, Module, lineage, IsLevel}
-use Rattle.lsys_spec.specs.Walks.{Entry, lineages_named, any}
+use Rattle.lsys_spec.specs.Levels.{ModuleValue, LevelSymbol, Push, Pop, Module, lineage, IsLevel}
+use Rattle.lsys_spec.specs.Walks.{Entry, lineages_named, any_holds}
 use Rattle.lsys_spec.specs.Meaning.{key_for, meaning}
 use Rattle.lsys_spec.specs.Equalities.{same_number, same_option, same_all, same_lineage, same_symbol, same_body}
 use Rattle.lsys_spec.specs.Questions.{Question, question, where_any, questions_from, questions_at, questions_below, questions, same_question, question_at, differs, is_needed}
@@ -26,44 +26,44 @@ use Rattle.lsys_spec.proofs.Tests.{both, neither, not_false, none_of}
 
 -- 1. what isn't disturbed
 
-symbol_named : (x : List Symbol) (p : ℕ) → NamedLevel x → InOption NamedSymbol (slice_get x p)
+symbol_named : (x : List LevelSymbol) (p : ℕ) → NamedLevel x → InOption NamedSymbol (slice_get x p)
 symbol_named x p v = by (slice_get x p) refl
   where
-    by : (o : Option Symbol) → slice_get x p ≡ o → InOption NamedSymbol o
+    by : (o : Option LevelSymbol) → slice_get x p ≡ o → InOption NamedSymbol o
     by None e = tt
     by (Some s) e = each_at NamedSymbol x p s v e
 
-before_named : (x : List Symbol) (p : ℕ) → NamedLevel x → InOption NamedSymbol (before_place x p)
+before_named : (x : List LevelSymbol) (p : ℕ) → NamedLevel x → InOption NamedSymbol (before_place x p)
 before_named x zero v = tt
 before_named x (suc p) v = symbol_named x p v
 
-standing_named : (x : List Symbol) (o : Option ℕ) → NamedLevel x → InOption NamedStanding (option_map (standing x) o)
+standing_named : (x : List LevelSymbol) (o : Option ℕ) → NamedLevel x → InOption NamedStanding (option_map (standing x) o)
 standing_named x None v = tt
 standing_named x (Some p) v = record { symbol = symbol_named x p v; before = before_named x p v; after = symbol_named x (p + 1) v }
 
-settled_if : (x y : List Symbol) (l : List ℕ) → NamedLevel x → NamedLevel y → is_disturbed x y l ≡ false → Settled x y l
+settled_if : (x y : List LevelSymbol) (l : List ℕ) → NamedLevel x → NamedLevel y → is_disturbed x y l ≡ false → Settled x y l
 settled_if x y l u v h =
     same_option_true same_standing NamedStanding same_standing_true (standing_of y l) (standing_of x l) (standing_named y (place_of l y) v) (standing_named x (place_of l x) u) (not_false _ h)
 
-disturbed_unless : (x y : List Symbol) (l : List ℕ) → Settled x y l → is_disturbed x y l ≡ false
+disturbed_unless : (x y : List LevelSymbol) (l : List ℕ) → Settled x y l → is_disturbed x y l ≡ false
 disturbed_unless x y l e = ap (λ o. not (same_option same_standing o (standing_of x l))) e ∙ ap not (same_standings_refl (standing_of x l))
 
-pub disturbed : (x y : List Symbol) (l : List ℕ) → NamedLevel x → NamedLevel y → (is_disturbed x y l ≡ false) ↔ Settled x y l
+pub disturbed : (x y : List LevelSymbol) (l : List ℕ) → NamedLevel x → NamedLevel y → (is_disturbed x y l ≡ false) ↔ Settled x y l
 disturbed x y l u v = (settled_if x y l u v, disturbed_unless x y l)
 
-each_settled : (x y : List Symbol) (ls : List (List ℕ)) → NamedLevel x → NamedLevel y → any (is_disturbed x y) ls ≡ false → Each (Settled x y) ls
+each_settled : (x y : List LevelSymbol) (ls : List (List ℕ)) → NamedLevel x → NamedLevel y → any_holds (is_disturbed x y) ls ≡ false → Each (Settled x y) ls
 each_settled x y [] u v h = tt
 each_settled x y (l ∷ ls) u v h = let n = none_of (is_disturbed x y) l ls h in (settled_if x y l u v n.0, each_settled x y ls u v n.1)
 
-all_settled : (x y : List Symbol) (es : List Entry) → NamedLevel x → NamedLevel y → any_disturbed x y es ≡ false → Each (Settles (Settled x y)) es
+all_settled : (x y : List LevelSymbol) (es : List Entry) → NamedLevel x → NamedLevel y → any_disturbed x y es ≡ false → Each (Settles (Settled x y)) es
 all_settled x y [] u v h = tt
 all_settled x y (e ∷ es) u v h = let n = none_of (reads_disturbed x y) e es h in (each_settled x y (lineages_named e) u v n.0, all_settled x y es u v n.1)
 
 -- 2. the questions of a system
 
 -- q is asked at one of these levels
-pub record IsAsked (s : System) (xs : List (List Symbol)) (q : Question) : Type 0 where
-  pub level : List Symbol
+pub record IsAsked (s : System) (xs : List (List LevelSymbol)) (q : Question) : Type 0 where
+  pub level : List LevelSymbol
   pub there : slice_get xs q.level ≡ Some level
   pub place : ℕ
   pub parents : List ℕ
@@ -71,7 +71,7 @@ pub record IsAsked (s : System) (xs : List (List Symbol)) (q : Question) : Type 
   pub stands : slice_get level place ≡ Some (Module parents value)
   pub is : q ≡ question s q.level (group s q.level value.name (length value.params)) level place parents value
 
-abbrev AllAsked : System → List (List Symbol) → List Question → Type 0
+abbrev AllAsked : System → List (List LevelSymbol) → List Question → Type 0
 AllAsked s xs qs = Each (IsAsked s xs) qs
 
 front_of : {A : Type 0} (x : List A) (p : ℕ) (m : A) (ms : List A) → drop p x ≡ m ∷ ms → (slice_get x p ≡ Some m) × (drop (p + 1) x ≡ ms)
@@ -80,11 +80,11 @@ front_of [] (suc p) m ms h = cc
 front_of (s ∷ x) zero m ms h = let a : s ≡ m = cc in let b : x ≡ ms = cc in (ap (λ s. Some s) a, b)
 front_of (s ∷ x) (suc p) m ms h = let r = front_of x p m ms h in let e : suc p + 1 ≡ suc (p + 1) = omega arith in (r.0, ap (λ n. drop n (s ∷ x)) e ∙ r.1)
 
-any_asked : (s : System) (xs : List (List Symbol)) (bs : List Body) (q : Question) (qs : List Question) → IsAsked s xs q → AllAsked s xs qs → AllAsked s xs (where_any bs q qs)
+any_asked : (s : System) (xs : List (List LevelSymbol)) (bs : List Body) (q : Question) (qs : List Question) → IsAsked s xs q → AllAsked s xs qs → AllAsked s xs (where_any bs q qs)
 any_asked s xs [] q qs h k = k
 any_asked s xs (b ∷ bs) q qs h k = (h, k)
 
-asked_from : (s : System) (xs : List (List Symbol)) (t : ℕ) (x : List Symbol) → slice_get xs t ≡ Some x → (p : ℕ) (ms : List Symbol) → drop p x ≡ ms → AllAsked s xs (questions_from s t x p ms)
+asked_from : (s : System) (xs : List (List LevelSymbol)) (t : ℕ) (x : List LevelSymbol) → slice_get xs t ≡ Some x → (p : ℕ) (ms : List LevelSymbol) → drop p x ≡ ms → AllAsked s xs (questions_from s t x p ms)
 asked_from s xs t x g p [] h = tt
 asked_from s xs t x g p (Push l ∷ ms) h = asked_from s xs t x g (p + 1) ms (front_of x p (Push l) ms h).1
 asked_from s xs t x g p (Pop l ∷ ms) h = asked_from s xs t x g (p + 1) ms (front_of x p (Pop l) ms h).1
@@ -94,23 +94,23 @@ asked_from s xs t x g p (Module l m ∷ ms) h =
     any_asked s xs bs (question s t bs x p l m) (questions_from s t x (p + 1) ms)
     (record { level = x; there = g; place = p; parents = l; value = m; stands = f.0; is = refl }) (asked_from s xs t x g (p + 1) ms f.1)
 
-asked_below : (s : System) (xs : List (List Symbol)) (t : ℕ) (rest : List (List Symbol)) → drop t xs ≡ rest → AllAsked s xs (questions_below s t rest)
+asked_below : (s : System) (xs : List (List LevelSymbol)) (t : ℕ) (rest : List (List LevelSymbol)) → drop t xs ≡ rest → AllAsked s xs (questions_below s t rest)
 asked_below s xs t [] h = tt
 asked_below s xs t (x ∷ []) h = tt
 asked_below s xs t (x ∷ y ∷ rest) h =
     let f = front_of xs t x (y ∷ rest) h in
     each_append (IsAsked s xs) (questions_at s t x) (questions_below s (t + 1) (y ∷ rest)) (asked_from s xs t x f.0 0 x refl) (asked_below s xs (t + 1) (y ∷ rest) f.1)
 
-pub all_asked : (s : System) (xs : List (List Symbol)) → AllAsked s xs (questions s xs)
+pub all_asked : (s : System) (xs : List (List LevelSymbol)) → AllAsked s xs (questions s xs)
 all_asked s xs = asked_below s xs 0 xs refl
 
 -- what is found is at the level and the lineage
-pub record IsFound (s : System) (xs : List (List Symbol)) (t : ℕ) (l : List ℕ) (q : Question) : Type 0 where
+pub record IsFound (s : System) (xs : List (List LevelSymbol)) (t : ℕ) (l : List ℕ) (q : Question) : Type 0 where
   pub asked : IsAsked s xs q
   pub level : q.level ≡ t
   pub lineages : l ≡ lineage q.own
 
-pub found_asked : (s : System) (xs : List (List Symbol)) (t : ℕ) (l : List ℕ) (qs : List Question) (q : Question) → AllAsked s xs qs → question_at t l qs ≡ Some q → IsFound s xs t l q
+pub found_asked : (s : System) (xs : List (List LevelSymbol)) (t : ℕ) (l : List ℕ) (qs : List Question) (q : Question) → AllAsked s xs qs → question_at t l qs ≡ Some q → IsFound s xs t l q
 found_asked s xs t l [] q h e = cc
 found_asked s xs t l (r ∷ qs) q h e = at (eqb r.level t && same_lineage l (lineage r.own)) refl e (λ f. found_asked s xs t l qs q h.1 f)
   where
@@ -124,12 +124,12 @@ found_asked s xs t l (r ∷ qs) q h e = at (eqb r.level t && same_lineage l (lin
 -- 3. where nothing of a question is touched, it is the old one
 
 -- the levels of well-spelled systems
-pub record Derived (s : System) (xs : List (List Symbol)) : Type 0 where
+pub record Derived (s : System) (xs : List (List LevelSymbol)) : Type 0 where
   pub formed : WellSpelled s
-  pub levels : (t : ℕ) (x : List Symbol) → slice_get xs t ≡ Some x → IsLevel x
-  pub names : (t : ℕ) (x : List Symbol) → slice_get xs t ≡ Some x → NamedLevel x
+  pub levels : (t : ℕ) (x : List LevelSymbol) → slice_get xs t ≡ Some x → IsLevel x
+  pub names : (t : ℕ) (x : List LevelSymbol) → slice_get xs t ≡ Some x → NamedLevel x
 
-pub derived : (s : System) (limit : ℕ) (xs : List (List Symbol)) → WellSpelled s → meaning s limit ≡ Ok xs → Derived s xs
+pub derived : (s : System) (limit : ℕ) (xs : List (List LevelSymbol)) → WellSpelled s → meaning s limit ≡ Ok xs → Derived s xs
 derived s limit xs w h = record {
   formed = w;
   levels = λ t x g. let r : Grown s.numbering t x = grown s (has_balance s w) limit xs h t x g in is_level x r.is_balanced (distinct_apart x r.distinct);
@@ -139,20 +139,20 @@ derived s limit xs w h = record {
 own_parts : (l l' : List ℕ) (m m' : ModuleValue) → Module l m ≡ Module l' m' → (l' ≡ l) × (m' ≡ m)
 own_parts l l' m m' e = let a : l' ≡ l = cc in let b : m' ≡ m = cc in (a, b)
 
-pub bodies_named : (s : System) (xs : List (List Symbol)) (q : Question) → WellSpelled s → IsAsked s xs q → Each NamedBody q.bodies
+pub bodies_named : (s : System) (xs : List (List LevelSymbol)) (q : Question) → WellSpelled s → IsAsked s xs q → Each NamedBody q.bodies
 bodies_named s xs q w a = subst (λ (r : Question). Each NamedBody r.bodies) (sym a.is) (group_named s w q.level a.value.name (length a.value.params))
 
-pub own_named : (s : System) (xs : List (List Symbol)) (q : Question) → Derived s xs → IsAsked s xs q → NamedSymbol q.own
+pub own_named : (s : System) (xs : List (List LevelSymbol)) (q : Question) → Derived s xs → IsAsked s xs q → NamedSymbol q.own
 own_named s xs q d a = subst (λ (r : Question). NamedSymbol r.own) (sym a.is) (each_at NamedSymbol a.level a.place (Module a.parents a.value) (d.names q.level a.level a.there) a.stands)
 
-untouched : (old new : System) (xs ys : List (List Symbol)) → Derived old xs → Derived new ys → (was q : Question) (a : IsAsked old xs was) (b : IsAsked new ys q) → was.level ≡ q.level
+untouched : (old new : System) (xs ys : List (List LevelSymbol)) → Derived old xs → Derived new ys → (was q : Question) (a : IsAsked old xs was) (b : IsAsked new ys q) → was.level ≡ q.level
     → is_touched old new a.level b.level was q ≡ false → was ≡ q
 untouched old new xs ys dx dy was q a b level h =
     let t : ℕ = was.level in
     let bs : List Body = group old t a.value.name (length a.value.params) in
     let bs' : List Body = group new q.level b.value.name (length b.value.params) in
-    let x : List Symbol = a.level in
-    let y : List Symbol = b.level in
+    let x : List LevelSymbol = a.level in
+    let y : List LevelSymbol = b.level in
     let l : List ℕ = a.parents in
     let m : ModuleValue = a.value in
     let nx : NamedLevel x = dx.names t x a.there in
@@ -186,10 +186,10 @@ untouched old new xs ys dx dy was q a b level h =
 
 -- 4. a needed question is a candidate
 
-level_there : (s : System) (xs : List (List Symbol)) (q : Question) (a : IsAsked s xs q) (t : ℕ) → q.level ≡ t → get_or xs t [] ≡ a.level
+level_there : (s : System) (xs : List (List LevelSymbol)) (q : Question) (a : IsAsked s xs q) (t : ℕ) → q.level ≡ t → get_or xs t [] ≡ a.level
 level_there s xs q a t e = ap (λ t. get_or xs t []) (sym e) ∙ get_or_from_slice_get xs q.level a.level [] a.there
 
-pub within_one : (old new : System) (xs ys : List (List Symbol)) → Derived old xs → Derived new ys → (q : Question) → IsAsked new ys q → may_differ old new xs ys q ≡ false → is_needed (questions old xs) q ≡ false
+pub within_one : (old new : System) (xs ys : List (List LevelSymbol)) → Derived old xs → Derived new ys → (q : Question) → IsAsked new ys q → may_differ old new xs ys q ≡ false → is_needed (questions old xs) q ≡ false
 within_one old new xs ys dx dy q b h = at (question_at q.level (lineage q.own) (questions old xs)) refl h
   where
     at : (o : Option Question) → question_at q.level (lineage q.own) (questions old xs) ≡ o → touched_there old new (get_or xs q.level []) (get_or ys q.level []) q o ≡ false → is_needed (questions old xs) q ≡ false
@@ -208,7 +208,7 @@ within_one old new xs ys dx dy q b h = at (question_at q.level (lineage q.own) (
 abbrev pub over : (Question → ℕ) → (Question → Bool) → List Question → ℕ
 over weight test qs = sum_by (λ q. cond (test q) (weight q) 0) qs
 
-fewer : (w : Question → ℕ) (f g : Question → Bool) (s : System) (xs : List (List Symbol)) (qs : List Question) → AllAsked s xs qs → ((q : Question) → IsAsked s xs q → g q ≡ false → f q ≡ false) → over w f qs ≤ over w g qs
+fewer : (w : Question → ℕ) (f g : Question → Bool) (s : System) (xs : List (List LevelSymbol)) (qs : List Question) → AllAsked s xs qs → ((q : Question) → IsAsked s xs q → g q ≡ false → f q ≡ false) → over w f qs ≤ over w g qs
 fewer w f g s xs [] h k = omega arith
 fewer w f g s xs (q ∷ qs) h k =
     rw (sum_by-cons (λ q. cond (f q) (w q) 0) q qs, sum_by-cons (λ q. cond (g q) (w q) 0) q qs)
@@ -220,7 +220,7 @@ fewer w f g s xs (q ∷ qs) h k =
     one false true v m n i l = omega (arith, l)
     one false false v m n i l = omega (arith, l)
 
-pub need_within : (w : Question → ℕ) (old new : System) (xs ys : List (List Symbol)) → Derived old xs → Derived new ys
+pub need_within : (w : Question → ℕ) (old new : System) (xs ys : List (List LevelSymbol)) → Derived old xs → Derived new ys
     → over w (is_needed (questions old xs)) (questions new ys) ≤ over w (may_differ old new xs ys) (questions new ys)
 need_within w old new xs ys dx dy =
     fewer w (is_needed (questions old xs)) (may_differ old new xs ys) new ys (questions new ys) (all_asked new ys) (λ q b h. within_one old new xs ys dx dy q b h)

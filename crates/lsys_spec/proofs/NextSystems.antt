@@ -47,12 +47,12 @@ edit_leaves s c r q k a = record {
   edit_applies = λ d e p f. rw (← some_same c d e) (a f);
 }
 
-edited_keeps : (limit : ℕ) (s next : System) (a : Result (List (List L.Symbol)) (List ℕ))
+edited_keeps : (limit : ℕ) (s next : System) (a : Result (List (List L.LevelSymbol)) (List ℕ))
     → (edited limit s next a).is_refusal ≡ true → (edited limit s next a).next ≡ s
 edited_keeps limit s next (Ok levels) h = absurd (true≢false (sym h))
 edited_keeps limit s next (Err why) h = refl
 
-edited_next : (limit : ℕ) (s next : System) (a : Result (List (List L.Symbol)) (List ℕ))
+edited_next : (limit : ℕ) (s next : System) (a : Result (List (List L.LevelSymbol)) (List ℕ))
     → (edited limit s next a).is_refusal ≡ false → (edited limit s next a).next ≡ next
 edited_next limit s next (Ok levels) h = refl
 edited_next limit s next (Err why) h = absurd (true≢false h)

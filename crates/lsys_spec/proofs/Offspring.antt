@@ -12,7 +12,7 @@ use Rattle.lsys_syntax.specs.Checks.{rule_formals}
 use Rattle.lsys_spec.specs.Systems.{System, Each, WellSpelled}
 use Rattle.lsys_spec.specs.Values.{Tree}
 use Rattle.lsys_spec.specs.Bodies.{Body, body_of, templates, is_for, group_in, group, table_at}
-use Rattle.lsys_spec.specs.Levels.{ModuleValue, Symbol, Push, Pop, Module, lineage, level_balanced}
+use Rattle.lsys_spec.specs.Levels.{ModuleValue, LevelSymbol, Push, Pop, Module, lineage, level_balanced}
 use Rattle.lsys_spec.specs.Choice.{Choice, NoRule, Chosen, Failed}
 use Rattle.lsys_spec.specs.Cuts.{Raw, Plain, Cut, raw_lineage, raw_balanced, cut_on, cut, Before, WithAll, Rising, Distinct}
 use Rattle.lsys_syntax.specs.Limits.{most_successor_symbols}
@@ -95,7 +95,7 @@ choice_balanced bs m NoRule ys h k = let e : S.Module m.name m.params ∷ [] ≡
 choice_balanced bs m (Chosen g values) ys h k = chosen_balanced bs g values ys h k
 choice_balanced bs m (Failed f) ys h k = cc
 
-pub successor_balanced : (s : System) → HasBalance s → (t : ℕ) (x : List Symbol) (p : ℕ) (l : List ℕ) (m : ModuleValue) (ys : List (S.Symbol ℤ)) → successor s t x p l m ≡ Ok ys → S.balanced 0 ys ≡ true
+pub successor_balanced : (s : System) → HasBalance s → (t : ℕ) (x : List LevelSymbol) (p : ℕ) (l : List ℕ) (m : ModuleValue) (ys : List (S.Symbol ℤ)) → successor s t x p l m ≡ Ok ys → S.balanced 0 ys ≡ true
 successor_balanced s b t x p l m ys h =
     let bs : List Body = group s t m.name (length m.params) in
     choice_balanced bs m (asked s t bs x p l m).answer ys (group_balanced (table_at s.schedule t) m.name (length m.params) s.rules b.in_successors) h
@@ -151,20 +151,20 @@ choice_short bs m NoRule ys h k = let e : S.Module m.name m.params ∷ [] ≡ ys
 choice_short bs m (Chosen g values) ys h k = chosen_short bs g values ys h k
 choice_short bs m (Failed f) ys h k = cc
 
-pub successor_short : (s : System) → HasBalance s → (t : ℕ) (x : List Symbol) (p : ℕ) (l : List ℕ) (m : ModuleValue) (ys : List (S.Symbol ℤ)) → successor s t x p l m ≡ Ok ys → length ys ≤ number_base
+pub successor_short : (s : System) → HasBalance s → (t : ℕ) (x : List LevelSymbol) (p : ℕ) (l : List ℕ) (m : ModuleValue) (ys : List (S.Symbol ℤ)) → successor s t x p l m ≡ Ok ys → length ys ≤ number_base
 successor_short s b t x p l m ys h =
     let bs : List Body = group s t m.name (length m.params) in
     choice_short bs m (asked s t bs x p l m).answer ys (group_short (table_at s.schedule t) m.name (length m.params) s.rules b.short_successors) h
 
 -- 3. the children of a level: brackets give themselves, and modules balanced strings
 
-abbrev pub Offspring : Numbering → List Symbol → List Raw → Type 0
+abbrev pub Offspring : Numbering → List LevelSymbol → List Raw → Type 0
 Offspring g [] raw = raw ≡ []
 Offspring g (Push l ∷ x) raw = (more : List Raw) × (raw ≡ children g l (S.Push ∷ []) ++ more) × Offspring g x more
 Offspring g (Pop l ∷ x) raw = (more : List Raw) × (raw ≡ children g l (S.Pop ∷ []) ++ more) × Offspring g x more
 Offspring g (Module l m ∷ x) raw = (ys : List (S.Symbol ℤ)) × (more : List Raw) × (S.balanced 0 ys ≡ true) × (length ys ≤ number_base) × (raw ≡ children g l ys ++ more) × Offspring g x more
 
-pub offspring : (s : System) → HasBalance s → (t : ℕ) (x : List Symbol) (p n : ℕ) (rest : List Symbol) (raw : List Raw) → children_from s t x p n rest ≡ Ok raw → Offspring s.numbering rest raw
+pub offspring : (s : System) → HasBalance s → (t : ℕ) (x : List LevelSymbol) (p n : ℕ) (rest : List LevelSymbol) (raw : List Raw) → children_from s t x p n rest ≡ Ok raw → Offspring s.numbering rest raw
 offspring s b t x p n [] raw h = let e : [] ≡ raw = cc in sym e
 offspring s b t x p n (Push l ∷ rest) raw h =
     let r = ok_parts (children_from s t x (p + 1) n rest) _ raw h in
@@ -190,7 +190,7 @@ numbered_balanced g i before l (S.Pop ∷ s) y zero n b e h = cc
 numbered_balanced g i before l (S.Pop ∷ s) y (suc k) n zero e h = absurd (omega (arith, e))
 numbered_balanced g i before l (S.Pop ∷ s) y (suc k) n (suc b) e h = numbered_balanced g (i + 1) (93 ∷ before) l s y k n b (omega (arith, e)) h
 
-pub offspring_balanced : (g : Numbering) (x : List Symbol) (raw : List Raw) (n : ℕ) → Offspring g x raw → level_balanced n x ≡ true → raw_balanced n raw ≡ true
+pub offspring_balanced : (g : Numbering) (x : List LevelSymbol) (raw : List Raw) (n : ℕ) → Offspring g x raw → level_balanced n x ≡ true → raw_balanced n raw ≡ true
 offspring_balanced g [] raw n o h = ap (raw_balanced n) o ∙ h
 offspring_balanced g (Push l ∷ x) raw n o h = ap (raw_balanced n) o.1 ∙ offspring_balanced g x o.0 (suc n) o.2 h
 offspring_balanced g (Pop l ∷ x) raw zero o h = cc
@@ -204,7 +204,7 @@ offspring_balanced g (Module l m ∷ x) raw n o h =
 abbrev Inherits : (List ℕ → List ℕ → Type 0) → Type 0
 Inherits R = (a b : List ℕ) (i j : ℕ) → R a b → R (a ++ i ∷ []) (b ++ j ∷ [])
 
-offspring_with : (R : List ℕ → List ℕ → Type 0) → Inherits R → (g : Numbering) (a : List ℕ) (i : ℕ) (x : List Symbol) (raw : List Raw) → Offspring g x raw → WithAll R a x → RawsWith R (a ++ i ∷ []) raw
+offspring_with : (R : List ℕ → List ℕ → Type 0) → Inherits R → (g : Numbering) (a : List ℕ) (i : ℕ) (x : List LevelSymbol) (raw : List Raw) → Offspring g x raw → WithAll R a x → RawsWith R (a ++ i ∷ []) raw
 offspring_with R down g a i [] raw o h = subst (RawsWith R (a ++ i ∷ [])) (sym o) tt
 offspring_with R down g a i (Push l ∷ x) raw o h =
     subst (RawsWith R (a ++ i ∷ [])) (sym o.1) (with_append R (a ++ i ∷ []) (children g l (S.Push ∷ [])) o.0 (with_numbered R g (a ++ i ∷ []) l 0 [] (S.Push ∷ []) (λ k. down a l i k h.0)) (offspring_with R down g a i x o.0 o.2 h.1))
@@ -219,13 +219,13 @@ before_inherits a b i j h = before_children a b (i ∷ []) (j ∷ []) h
 unlike_inherits : Inherits Unlike
 unlike_inherits a b i j h = unlike_children a b i j h
 
-offspring_rising : (x : List Symbol) (raw : List Raw) → Offspring by_place x raw → Rising x → PairwiseRaws Before raw
+offspring_rising : (x : List LevelSymbol) (raw : List Raw) → Offspring by_place x raw → Rising x → PairwiseRaws Before raw
 offspring_rising [] raw o h = subst (PairwiseRaws Before) (sym o) tt
 offspring_rising (Push l ∷ x) raw o h = subst (PairwiseRaws Before) (sym o.1) (rising_numbered 0 [] l (S.Push ∷ []) o.0 (λ i. offspring_with Before before_inherits by_place l i x o.0 o.2 h.0) (offspring_rising x o.0 o.2 h.1))
 offspring_rising (Pop l ∷ x) raw o h = subst (PairwiseRaws Before) (sym o.1) (rising_numbered 0 [] l (S.Pop ∷ []) o.0 (λ i. offspring_with Before before_inherits by_place l i x o.0 o.2 h.0) (offspring_rising x o.0 o.2 h.1))
 offspring_rising (Module l m ∷ x) raw o h = subst (PairwiseRaws Before) (sym o.4) (rising_numbered 0 [] l o.0 o.1 (λ i. offspring_with Before before_inherits by_place l i x o.1 o.5 h.0) (offspring_rising x o.1 o.5 h.1))
 
-offspring_distinct : (g : Numbering) (x : List Symbol) (raw : List Raw) → Offspring g x raw → Distinct x → PairwiseRaws Unlike raw
+offspring_distinct : (g : Numbering) (x : List LevelSymbol) (raw : List Raw) → Offspring g x raw → Distinct x → PairwiseRaws Unlike raw
 offspring_distinct g [] raw o h = subst (PairwiseRaws Unlike) (sym o) tt
 offspring_distinct g (Push l ∷ x) raw o h =
     subst (PairwiseRaws Unlike) (sym o.1) (distinct_numbered g 0 [] l (S.Push ∷ []) o.0 (omega arith) (λ i. offspring_with Unlike unlike_inherits g l i x o.0 o.2 h.0) (offspring_distinct g x o.0 o.2 h.1))
@@ -236,7 +236,7 @@ offspring_distinct g (Module l m ∷ x) raw o h =
 
 -- generations
 
-abbrev Long : ℕ → List Symbol → Type 0
+abbrev Long : ℕ → List LevelSymbol → Type 0
 Long n x = Each (λ s. length (lineage s) ≡ n) x
 
 abbrev LongRaws : ℕ → List Raw → Type 0
@@ -248,7 +248,7 @@ numbered_long g i n before l (x ∷ xs) y e h =
     let k : ℕ = number_at g i before (code_of x) in
     (ap length (born_lineage (l ++ k ∷ []) x) ∙ length_push l k ∙ ap (λ n. n + 1) e, numbered_long g (i + 1) n (code_of x ∷ before) l xs y e h)
 
-offspring_long : (g : Numbering) (n : ℕ) (x : List Symbol) (raw : List Raw) → Offspring g x raw → Long n x → LongRaws (n + 1) raw
+offspring_long : (g : Numbering) (n : ℕ) (x : List LevelSymbol) (raw : List Raw) → Offspring g x raw → Long n x → LongRaws (n + 1) raw
 offspring_long g n [] raw o h = subst (LongRaws (n + 1)) (sym o) tt
 offspring_long g n (Push l ∷ x) raw o h = subst (LongRaws (n + 1)) (sym o.1) (numbered_long g 0 n [] l (S.Push ∷ []) o.0 h.0 (offspring_long g n x o.0 o.2 h.1))
 offspring_long g n (Pop l ∷ x) raw o h = subst (LongRaws (n + 1)) (sym o.1) (numbered_long g 0 n [] l (S.Pop ∷ []) o.0 h.0 (offspring_long g n x o.0 o.2 h.1))
@@ -267,7 +267,7 @@ cut_long n (Plain (Pop l) ∷ x) (Some (suc k)) h = cut_long n x (Some k) h.1
 
 -- 4. the levels
 
-pub record Grown (g : Numbering) (t : ℕ) (x : List Symbol) : Type 0 where
+pub record Grown (g : Numbering) (t : ℕ) (x : List LevelSymbol) : Type 0 where
   pub is_balanced : level_balanced 0 x ≡ true
   pub rises : g ≡ by_place → Rising x
   pub distinct : Distinct x
@@ -292,7 +292,7 @@ first_grown s b =
     (subst (PairwiseRaws Unlike) whole (distinct_numbered g 0 [] [] xs [] (let k = b.short_axiom in omega (arith, k)) (λ i. tt) tt))
     (subst (LongRaws 1) whole (numbered_long g 0 0 [] [] xs [] refl tt))
 
-pub next_grown : (s : System) → HasBalance s → (t : ℕ) (x y : List Symbol) → Grown s.numbering t x → next_level s t x ≡ Ok y → Grown s.numbering (suc t) y
+pub next_grown : (s : System) → HasBalance s → (t : ℕ) (x y : List LevelSymbol) → Grown s.numbering t x → next_level s t x ≡ Ok y → Grown s.numbering (suc t) y
 next_grown s b t x y g h =
     let r = ok_parts (children_from s t x 0 0 x) _ y h in
     let e : cut r.0 ≡ y = let i = r.2 in cc in
@@ -302,5 +302,5 @@ next_grown s b t x y g h =
     (of_raws s.numbering (suc t) r.0 (offspring_balanced s.numbering x r.0 0 o g.is_balanced) (λ e. offspring_rising x r.0 (subst (λ g. Offspring g x r.0) e o) (g.rises e))
     (offspring_distinct s.numbering x r.0 o g.distinct) (subst (λ n. LongRaws n r.0) n (offspring_long s.numbering (t + 1) x r.0 o g.generations)))
 
-pub grown : (s : System) → HasBalance s → (limit : ℕ) (xs : List (List Symbol)) → meaning_to s limit s.depth ≡ Ok xs → (t : ℕ) (x : List Symbol) → slice_get xs t ≡ Some x → Grown s.numbering t x
+pub grown : (s : System) → HasBalance s → (limit : ℕ) (xs : List (List LevelSymbol)) → meaning_to s limit s.depth ≡ Ok xs → (t : ℕ) (x : List LevelSymbol) → slice_get xs t ≡ Some x → Grown s.numbering t x
 grown s b = at_each_level s (Grown s.numbering) (first_grown s b) (next_grown s b)

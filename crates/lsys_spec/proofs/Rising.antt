@@ -4,7 +4,7 @@ use Rattle.std.specs.Prelude.{ℤ, slice_get, count_by}
 use Rattle.std.proofs.lemmas.List.Sums.{count_by-le-length, sum_by-cons}
 use Rattle.std.proofs.lemmas.Bool.{eq-eqb}
 use Rattle.lsys_syntax.specs.Strings as S
-use Rattle.lsys_spec.specs.Levels.{Symbol, Push, Pop, Module, lineage}
+use Rattle.lsys_spec.specs.Levels.{LevelSymbol, Push, Pop, Module, lineage}
 use Rattle.lsys_syntax.specs.Commands.{Numbering, by_place, by_name}
 use Rattle.lsys_spec.specs.Draws.{number_base}
 use Rattle.lsys_spec.specs.Numbers.{code_of, number_at}
@@ -43,28 +43,28 @@ not_before_itself (x ∷ a) (y ∷ b) e (inr h) = let i : a ≡ b = cc in not_be
 
 -- each lineage stands once
 
-with_at : (R : List ℕ → List ℕ → Type 0) (a : List ℕ) (x : List Symbol) (p : ℕ) (t : Symbol) → WithAll R a x → slice_get x p ≡ Some t → R a (lineage t)
+with_at : (R : List ℕ → List ℕ → Type 0) (a : List ℕ) (x : List LevelSymbol) (p : ℕ) (t : LevelSymbol) → WithAll R a x → slice_get x p ≡ Some t → R a (lineage t)
 with_at R a [] p t h g = cc
 with_at R a (s ∷ x) zero t h g = let e : s ≡ t = cc in subst (λ s. R a (lineage s)) e h.0
 with_at R a (s ∷ x) (suc p) t h g = with_at R a x p t h.1 g
 
-pub distinct_apart : (x : List Symbol) → Distinct x → (p q : ℕ) (s t : Symbol) → slice_get x p ≡ Some s → slice_get x q ≡ Some t → lineage s ≡ lineage t → p ≡ q
+pub distinct_apart : (x : List LevelSymbol) → Distinct x → (p q : ℕ) (s t : LevelSymbol) → slice_get x p ≡ Some s → slice_get x q ≡ Some t → lineage s ≡ lineage t → p ≡ q
 distinct_apart [] h p q s t g k e = cc
 distinct_apart (u ∷ x) h zero zero s t g k e = refl
 distinct_apart (u ∷ x) h zero (suc q) s t g k e = let i : u ≡ s = cc in absurd (with_at Unlike (lineage u) x q t h.0 k (ap lineage i ∙ e))
 distinct_apart (u ∷ x) h (suc p) zero s t g k e = let i : u ≡ t = cc in absurd (with_at Unlike (lineage u) x p s h.0 g (ap lineage i ∙ sym e))
 distinct_apart (u ∷ x) h (suc p) (suc q) s t g k e = ap (λ n. suc n) (distinct_apart x h.1 p q s t g k e)
 
-unlike_all : (a : List ℕ) (x : List Symbol) → BeforeAll a x → WithAll Unlike a x
+unlike_all : (a : List ℕ) (x : List LevelSymbol) → BeforeAll a x → WithAll Unlike a x
 unlike_all a [] h = tt
 unlike_all a (s ∷ x) h = (λ e. not_before_itself a (lineage s) e h.0, unlike_all a x h.1)
 
 -- lineages that rise are distinct
-pub rising_distinct : (x : List Symbol) → Rising x → Distinct x
+pub rising_distinct : (x : List LevelSymbol) → Rising x → Distinct x
 rising_distinct [] h = tt
 rising_distinct (s ∷ x) h = (unlike_all (lineage s) x h.0, rising_distinct x h.1)
 
-pub rising_apart : (x : List Symbol) → Rising x → (p q : ℕ) (s t : Symbol) → slice_get x p ≡ Some s → slice_get x q ≡ Some t → lineage s ≡ lineage t → p ≡ q
+pub rising_apart : (x : List LevelSymbol) → Rising x → (p q : ℕ) (s t : LevelSymbol) → slice_get x p ≡ Some s → slice_get x q ≡ Some t → lineage s ≡ lineage t → p ≡ q
 rising_apart x h = distinct_apart x (rising_distinct x h)
 
 -- what a cut leaves

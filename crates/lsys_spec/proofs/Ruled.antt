@@ -3,7 +3,7 @@ use Rattle.std.proofs.Common.{◌≡◌, ℕ, Bool, true, false, Some, None, Lis
 use Rattle.lsys_syntax.specs.Strings.{ModuleName}
 use Rattle.lsys_spec.specs.Systems.{Each}
 use Rattle.lsys_spec.specs.Bodies.{Pattern, Patterns, Done, OneOf, BranchOf}
-use Rattle.lsys_spec.specs.Levels.{Symbol, Step, Passed, Around, OutOf, Items, Nothing, One, Branch}
+use Rattle.lsys_spec.specs.Levels.{LevelSymbol, Step, Passed, Around, OutOf, Items, Nothing, One, Branch}
 use Rattle.lsys_spec.specs.Walks.{Mark, deeper, Entry, Told, Found, says, is_ignored, fits, left_walk, right_walk, behind, ahead, or_passed}
 use Rattle.lsys_spec.proofs.Meetings.{met}
 use Rattle.lsys_spec.proofs.Tells.{mark_of}
@@ -12,7 +12,7 @@ use Rattle.lsys_spec.proofs.Eachs.{each_append}
 abbrev pub Ruled : ℕ → Entry → Type 0
 Ruled g e = (mark_of e).rule ≡ g
 
-met_ruled : (b e : Bool) (d : Mark) (s : Symbol) (on next : Told Found) → Each (Ruled d.rule) on.entries → Each (Ruled d.rule) next.entries → Each (Ruled d.rule) (met b e d s on next).entries
+met_ruled : (b e : Bool) (d : Mark) (s : LevelSymbol) (on next : Told Found) → Each (Ruled d.rule) on.entries → Each (Ruled d.rule) next.entries → Each (Ruled d.rule) (met b e d s on next).entries
 met_ruled true e d s on next k l = (refl, k)
 met_ruled false true d s on next k l = (refl, l)
 met_ruled false false d s on next k l = (refl, tt)

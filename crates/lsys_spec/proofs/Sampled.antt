@@ -2,7 +2,7 @@
 use Rattle.std.proofs.Common.{arith, refl}
 use Rattle.lsys_syntax.specs.Rules.{IsRule}
 use Rattle.lsys_spec.specs.Systems.{IsSound, WellFormed, WellSpelled}
-use Rattle.lsys_spec.specs.ShownSample.{bare, rich, image, full_system}
+use Rattle.lsys_spec.specs.ShownSample.{bare, rich, image_rule, full_system}
 
 bare-rule : IsRule bare
 bare-rule = record {
@@ -34,7 +34,7 @@ rich-rule = record {
   successor_balanced = refl;
 }
 
-image-rule : IsRule image
+image-rule : IsRule image_rule
 image-rule = record {
   left = tt;
   patterns = tt;
@@ -55,7 +55,7 @@ bare-sound = record { known = refl; once = refl; nested = omega arith }
 rich-sound : IsSound rich
 rich-sound = record { known = refl; once = refl; nested = omega arith }
 
-image-sound : IsSound image
+image-sound : IsSound image_rule
 image-sound = record { known = refl; once = refl; nested = omega arith }
 
 pub sample-well_formed : WellFormed full_system

@@ -3,7 +3,7 @@ use Rattle.std.proofs.Common.{◌≡◌, ◌<◌, Bool, true, false, Some, None,
 use Rattle.std.specs.Prelude.{option_map}
 use Rattle.lsys_syntax.specs.Strings.{ModuleName}
 use Rattle.lsys_spec.specs.Bodies.{Pattern, Patterns, Done, OneOf, BranchOf}
-use Rattle.lsys_spec.specs.Levels.{ModuleValue, Symbol, lineage, Step, Passed, Around, OutOf, Items, Nothing, One, Branch}
+use Rattle.lsys_spec.specs.Levels.{ModuleValue, LevelSymbol, lineage, Step, Passed, Around, OutOf, Items, Nothing, One, Branch}
 use Rattle.lsys_spec.specs.Walks.{Mark, deeper, Entry, Compared, Ignored, Out, Branched, Told, Found, says, before, followed, modules, is_ignored, fits, left_walk, right_walk, behind, ahead, or_passed}
 use Rattle.lsys_spec.proofs.Meetings.{met}
 
@@ -56,28 +56,28 @@ tells_answer d f t t' g m m' h k e =
 
 -- a module that was met
 
-met_first : (b e : Bool) (d : Mark) (s : Symbol) (on next : Told Found) → (k : Entry) × (t : Told Found) × (met b e d s on next ≡ before k t) × (mark_of k ≡ d)
+met_first : (b e : Bool) (d : Mark) (s : LevelSymbol) (on next : Told Found) → (k : Entry) × (t : Told Found) × (met b e d s on next ≡ before k t) × (mark_of k ≡ d)
 met_first true e d s on next = (Ignored d s, on, refl, refl)
 met_first false true d s on next = (Compared d s, next, refl, refl)
 met_first false false d s on next = (Compared d s, says None, refl, refl)
 
-ended_met : (b e : Bool) (d : Mark) (s : Symbol) (on next : Told Found) → Tells d (says None) (met b e d s on next)
+ended_met : (b e : Bool) (d : Mark) (s : LevelSymbol) (on next : Told Found) → Tells d (says None) (met b e d s on next)
 ended_met b e d s on next = let k = met_first b e d s on next in subst (Tells d (says None)) (sym k.2) (ended_first d k.0 k.1 k.3)
 
-met_ended : (b e : Bool) (d : Mark) (s : Symbol) (on next : Told Found) → Tells d (met b e d s on next) (says None)
+met_ended : (b e : Bool) (d : Mark) (s : LevelSymbol) (on next : Told Found) → Tells d (met b e d s on next) (says None)
 met_ended b e d s on next = let k = met_first b e d s on next in subst (λ t. Tells d t (says None)) (sym k.2) (ended_last d k.0 k.1 k.3)
 
-met_apart : (b e : Bool) (d : Mark) (s : Symbol) (on next : Told Found) (k : Entry) (t : Told Found) → (k ≡ Ignored d s → ⊥) → (k ≡ Compared d s → ⊥) → Tells d (met b e d s on next) (before k t)
+met_apart : (b e : Bool) (d : Mark) (s : LevelSymbol) (on next : Told Found) (k : Entry) (t : Told Found) → (k ≡ Ignored d s → ⊥) → (k ≡ Compared d s → ⊥) → Tells d (met b e d s on next) (before k t)
 met_apart true e d s on next k t f g = tells_apart d (Ignored d s) k on t f
 met_apart false true d s on next k t f g = tells_apart d (Compared d s) k next t g
 met_apart false false d s on next k t f g = tells_apart d (Compared d s) k (says None) t g
 
-apart_met : (b e : Bool) (d : Mark) (s : Symbol) (on next : Told Found) (k : Entry) (t : Told Found) → (Ignored d s ≡ k → ⊥) → (Compared d s ≡ k → ⊥) → Tells d (before k t) (met b e d s on next)
+apart_met : (b e : Bool) (d : Mark) (s : LevelSymbol) (on next : Told Found) (k : Entry) (t : Told Found) → (Ignored d s ≡ k → ⊥) → (Compared d s ≡ k → ⊥) → Tells d (before k t) (met b e d s on next)
 apart_met true e d s on next k t f g = tells_apart d k (Ignored d s) t on f
 apart_met false true d s on next k t f g = tells_apart d k (Compared d s) t next g
 apart_met false false d s on next k t f g = tells_apart d k (Compared d s) t (says None) g
 
-tells_met : (b e b' e' : Bool) (d : Mark) (s s' : Symbol) (on on' next next' : Told Found) → (s' ≡ s → e' ≡ e) → Tells d on on' → (s' ≡ s → Tells d next next')
+tells_met : (b e b' e' : Bool) (d : Mark) (s s' : LevelSymbol) (on on' next next' : Told Found) → (s' ≡ s → e' ≡ e) → Tells d on on' → (s' ≡ s → Tells d next next')
     → Tells d (met b e d s on next) (met b' e' d s' on' next')
 tells_met true e true e' d s s' on on' next next' f g h = tells_before d (Ignored d s) (Ignored d s') on on' (λ i. g)
 tells_met true e false true d s s' on on' next next' f g h = tells_apart d (Ignored d s) (Compared d s') on next' (λ i. cc)
@@ -93,7 +93,7 @@ tells_met false false false true d s s' on on' next next' f g h =
 
 -- the left walk
 
-same_fit : (q : Pattern) (s s' : Symbol) → s' ≡ s → fits q s' ≡ fits q s
+same_fit : (q : Pattern) (s s' : LevelSymbol) → s' ≡ s → fits q s' ≡ fits q s
 same_fit q s s' e = ap (fits q) e
 
 pub left_tells : (f f' : ModuleName → Bool) (d : Mark) (qs : List Pattern) (w w' : List Step) → Tells d (left_walk f d qs w) (left_walk f' d qs w')

@@ -1,7 +1,7 @@
 -- What tests that are joined tell.
 use Rattle.std.proofs.Common.{◌≡◌, Bool, true, false, ◌&&◌, ◌||◌, List, ◌∷◌, refl, sym, ◌∙◌, ◌⊎◌, inl, inr}
 use Rattle.std.specs.Prelude.{not}
-use Rattle.lsys_spec.specs.Walks.{any}
+use Rattle.lsys_spec.specs.Walks.{any_holds}
 
 pub both : (a b : Bool) → a && b ≡ true → (a ≡ true) × (b ≡ true)
 both true true h = (refl, refl)
@@ -43,8 +43,8 @@ either_by true b = refl
 either_by false b = refl
 
 -- the first, or one behind it
-pub any_is : {A : Type 0} (p : A → Bool) (x : A) (xs : List A) → any p (x ∷ xs) ≡ p x || any p xs
-any_is p x xs = either_by (p x) (any p xs)
+pub any_is : {A : Type 0} (p : A → Bool) (x : A) (xs : List A) → any_holds p (x ∷ xs) ≡ p x || any_holds p xs
+any_is p x xs = either_by (p x) (any_holds p xs)
 
-pub none_of : {A : Type 0} (p : A → Bool) (x : A) (xs : List A) → any p (x ∷ xs) ≡ false → (p x ≡ false) × (any p xs ≡ false)
-none_of p x xs h = neither (p x) (any p xs) (sym (any_is p x xs) ∙ h)
+pub none_of : {A : Type 0} (p : A → Bool) (x : A) (xs : List A) → any_holds p (x ∷ xs) ≡ false → (p x ≡ false) × (any_holds p xs ≡ false)
+none_of p x xs h = neither (p x) (any_holds p xs) (sym (any_is p x xs) ∙ h)

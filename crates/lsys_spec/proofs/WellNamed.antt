@@ -10,7 +10,7 @@ use Rattle.lsys_syntax.specs.Checks.{rule_formals}
 use Rattle.lsys_spec.specs.Systems.{System, Each, WellSpelled}
 use Rattle.lsys_spec.specs.Values.{Tree}
 use Rattle.lsys_spec.specs.Bodies.{Body, body_of, Patterns, PatternNest, outermost, within, with_pattern, with_branch, opened, nest_of, innermost, left_patterns, pattern_of, templates, is_for, group_in, group, table_at}
-use Rattle.lsys_spec.specs.Levels.{ModuleValue, Symbol, Push, Pop, Module}
+use Rattle.lsys_spec.specs.Levels.{ModuleValue, LevelSymbol, Push, Pop, Module}
 use Rattle.lsys_spec.specs.Choice.{Choice, NoRule, Chosen, Failed}
 use Rattle.lsys_syntax.specs.Commands.{Numbering}
 use Rattle.lsys_spec.specs.Numbers.{code_of}
@@ -111,7 +111,7 @@ choice_named bs m (Failed f) ys v n h = cc
 
 -- 3. levels
 
-abbrev pub NamedLevel : List Symbol → Type 0
+abbrev pub NamedLevel : List LevelSymbol → Type 0
 NamedLevel x = Each NamedSymbol x
 
 abbrev NamedRaw : Raw → Type 0
@@ -128,7 +128,7 @@ numbered_named g i before l (S.Push ∷ xs) y v h = (tt, numbered_named g (i + 1
 numbered_named g i before l (S.Pop ∷ xs) y v h = (tt, numbered_named g (i + 1) (93 ∷ before) l xs y v.1 h)
 numbered_named g i before l (S.Cut ∷ xs) y v h = (tt, numbered_named g (i + 1) (37 ∷ before) l xs y v.1 h)
 
-children_named : (s : System) → WellSpelled s → (t : ℕ) (x : List Symbol) (p n : ℕ) (rest : List Symbol) (raw : List Raw) → children_from s t x p n rest ≡ Ok raw → NamedLevel rest → NamedRaws raw
+children_named : (s : System) → WellSpelled s → (t : ℕ) (x : List LevelSymbol) (p n : ℕ) (rest : List LevelSymbol) (raw : List Raw) → children_from s t x p n rest ≡ Ok raw → NamedLevel rest → NamedRaws raw
 children_named s w t x p n [] raw h v = let e : [] ≡ raw = cc in subst NamedRaws e tt
 children_named s w t x p n (Push l ∷ rest) raw h v =
     let r = ok_parts (children_from s t x (p + 1) n rest) _ raw h in
@@ -167,11 +167,11 @@ first_named s w =
     let xs : List (S.Symbol ℤ) = s.axiom_string in
     cut_named (children s.numbering [] xs) None (subst NamedRaws (append-nil (children s.numbering [] xs)) (numbered_named s.numbering 0 [] [] xs [] (string_named _ xs w.axiom_symbols) tt))
 
-pub next_named : (s : System) → WellSpelled s → (t : ℕ) (x y : List Symbol) → NamedLevel x → next_level s t x ≡ Ok y → NamedLevel y
+pub next_named : (s : System) → WellSpelled s → (t : ℕ) (x y : List LevelSymbol) → NamedLevel x → next_level s t x ≡ Ok y → NamedLevel y
 next_named s w t x y v h =
     let r = ok_parts (children_from s t x 0 0 x) _ y h in
     let e : cut r.0 ≡ y = let i = r.2 in cc in
     subst NamedLevel e (cut_named r.0 None (children_named s w t x 0 0 x r.0 r.1 v))
 
-pub level_named : (s : System) → WellSpelled s → (limit : ℕ) (xs : List (List Symbol)) → meaning_to s limit s.depth ≡ Ok xs → (t : ℕ) (x : List Symbol) → slice_get xs t ≡ Some x → NamedLevel x
+pub level_named : (s : System) → WellSpelled s → (limit : ℕ) (xs : List (List LevelSymbol)) → meaning_to s limit s.depth ≡ Ok xs → (t : ℕ) (x : List LevelSymbol) → slice_get xs t ≡ Some x → NamedLevel x
 level_named s w = at_each_level s (λ t x. NamedLevel x) (first_named s w) (λ t x y. next_named s w t x y)

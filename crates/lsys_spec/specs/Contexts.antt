@@ -3,7 +3,7 @@ use Rattle.std.specs.Prelude.{ℕ, Bool, true, false, Some, None, List, [], ◌�
 use Rattle.lsys_syntax.specs.Strings.{ModuleName}
 use Rattle.lsys_spec.specs.Systems.{same_name}
 use Rattle.lsys_spec.specs.Bodies.{Pattern, Patterns, Done, OneOf, BranchOf}
-use Rattle.lsys_spec.specs.Levels.{ModuleValue, Symbol, Push, Pop, Module, Items, Nothing, One, Branch}
+use Rattle.lsys_spec.specs.Levels.{ModuleValue, LevelSymbol, Push, Pop, Module, Items, Nothing, One, Branch}
 use Rattle.lsys_spec.specs.Walks.{modules, is_ignored, fits, Found}
 
 -- 1. The path to a place: reading forward, `[` saves the path and its `]` restores it; a module that isn't ignored is appended.
@@ -22,12 +22,12 @@ abbrev pub unless_ignored : Bool → ModuleValue → List ModuleValue → List M
 unless_ignored true m path = path
 unless_ignored false m path = path ++ m ∷ []
 
-abbrev pub read_path : (ModuleName → Bool) → Paths → Symbol → Paths
+abbrev pub read_path : (ModuleName → Bool) → Paths → LevelSymbol → Paths
 read_path ignored r (Module l m) = record r { path = unless_ignored (ignored m.name) m r.path }
 read_path ignored r (Push l) = record r { saved = r.path ∷ r.saved }
 read_path ignored r (Pop l) = given_back r.saved
 
-abbrev pub path : (ModuleName → Bool) → List Symbol → ℕ → List ModuleValue
+abbrev pub path : (ModuleName → Bool) → List LevelSymbol → ℕ → List ModuleValue
 path ignored x p = (fold (read_path ignored) (record { path = []; saved = [] }) (take p x)).path
 
 -- 2. A left context of k patterns, in the order of the text: the last k modules of the path, where they match the patterns in order.

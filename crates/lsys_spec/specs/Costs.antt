@@ -4,7 +4,7 @@ use Rattle.lsys_syntax.specs.Lines.{lines_of}
 use Rattle.lsys_syntax.specs.Commands.{Command}
 use Rattle.lsys_spec.specs.Systems.{System, opening}
 use Rattle.lsys_spec.specs.Edits.{Refusal, refusal, changed}
-use Rattle.lsys_spec.specs.Levels.{Symbol}
+use Rattle.lsys_spec.specs.Levels.{LevelSymbol}
 use Rattle.lsys_spec.specs.Meaning.{LevelRefusal, meaning, most_entries}
 use Rattle.lsys_spec.specs.Questions.{questions, need, least_visits}
 use Rattle.lsys_spec.specs.Refusals.{Reply}
@@ -37,21 +37,21 @@ a and b = record {
 -- The most entries that an edit reads, from a system with these levels to one with those. Each way to keep levels names
 -- its own.
 abbrev pub Visits : Type 0
-Visits = System → System → List (List Symbol) → List (List Symbol) → ℕ
+Visits = System → System → List (List LevelSymbol) → List (List LevelSymbol) → ℕ
 
 -- the levels of a system, or why it has none
 abbrev pub Meant : Type 0
-Meant = Result (List (List Symbol)) LevelRefusal
+Meant = Result (List (List LevelSymbol)) LevelRefusal
 
 -- 1. one line
 
-abbrev pub unless_refused : System → Command → Option Refusal → Option System
-unless_refused s c None = Some (changed s c)
-unless_refused s c (Some r) = None
+abbrev pub changed_unless_refused : System → Command → Option Refusal → Option System
+changed_unless_refused s c None = Some (changed s c)
+changed_unless_refused s c (Some r) = None
 
 abbrev pub edit_by : System → Option Command → Option System
 edit_by s None = None
-edit_by s (Some c) = elim (is_query c) [ true ↦ None | false ↦ unless_refused s c (refusal s c) ]
+edit_by s (Some c) = elim (is_query c) [ true ↦ None | false ↦ changed_unless_refused s c (refusal s c) ]
 
 -- the system whose levels a line asks for: what an edit makes of this one, where it isn't refused by itself
 abbrev pub edited_system : System → List ℕ → Option System

@@ -3,7 +3,7 @@ use Rattle.std.specs.Prelude.{◌≡◌, ℕ, List, map, ℤ, Result, Ok, ◌++�
 use Rattle.lsys_syntax.specs.Strings as S
 use Rattle.lsys_syntax.specs.Strings.{ModuleName}
 use Rattle.lsys_spec.specs.Systems.{System, Each}
-use Rattle.lsys_spec.specs.Levels.{ModuleValue, Symbol, plain}
+use Rattle.lsys_spec.specs.Levels.{ModuleValue, LevelSymbol, plain}
 use Rattle.lsys_spec.specs.Meaning.{successor, children_from, meaning, ignores, next_level}
 use Rattle.lsys_spec.specs.Morphisms.{IsContextFree, IsUnweighted, given_alone, rewritten, AreMade, AreAlike, ignoring, occurs}
 use Rattle.lsys_spec.specs.Values.{◌and_then◌}
@@ -14,7 +14,7 @@ use Rattle.lsys_spec.specs.Questions.{questions, questions_at}
 abbrev pub SuccessorsAreTheSameAnywhere : Type 0
 SuccessorsAreTheSameAnywhere =
     (s : System) (t : ℕ) → IsContextFree s t
-    → (x y : List Symbol) (p q : ℕ) (l : List ℕ) (m : ModuleValue)
+    → (x y : List LevelSymbol) (p q : ℕ) (l : List ℕ) (m : ModuleValue)
     → successor s t x p l m ≡ successor s t y q l m
 
 -- without contexts and weights the children of a level are its
@@ -22,7 +22,7 @@ SuccessorsAreTheSameAnywhere =
 abbrev pub LevelsAreMadeByAMorphism : Type 0
 LevelsAreMadeByAMorphism =
     (s : System) (t : ℕ) → IsContextFree s t → IsUnweighted s t
-    → (x : List Symbol)
+    → (x : List LevelSymbol)
     → AreMade (children_from s t x 0 0 x) (rewritten (given_alone s t) (map plain x))
 
 -- strings one behind the other are rewritten each by itself, and the first fault is the whole's
@@ -36,7 +36,7 @@ StringsAreRewrittenLetterByLetter =
 -- a system means the same and asks the same
 abbrev pub MeaningDependsOnWhatLevelsIgnore : Type 0
 MeaningDependsOnWhatLevelsIgnore =
-    (s : System) (names : List ModuleName) (limit : ℕ) (levels : List (List Symbol))
+    (s : System) (names : List ModuleName) (limit : ℕ) (levels : List (List LevelSymbol))
     → meaning s limit ≡ Ok levels → Each (AreAlike (ignores names) (ignores s.ignored)) levels
     → (meaning (ignoring names s) limit ≡ Ok levels)
     × (questions (ignoring names s) levels ≡ questions s levels)
@@ -44,19 +44,19 @@ MeaningDependsOnWhatLevelsIgnore =
 -- where other names ignore the same modules of a level, the next level is the same, or the refusal
 abbrev pub NextLevelsDependOnWhatIsIgnored : Type 0
 NextLevelsDependOnWhatIsIgnored =
-    (s : System) (names : List ModuleName) (x : List Symbol)
+    (s : System) (names : List ModuleName) (x : List LevelSymbol)
     → AreAlike (ignores names) (ignores s.ignored) x
     → (t : ℕ) → next_level (ignoring names s) t x ≡ next_level s t x
 
 -- and so are the level's questions
 abbrev pub LevelsAskByWhatIsIgnored : Type 0
 LevelsAskByWhatIsIgnored =
-    (s : System) (names : List ModuleName) (x : List Symbol)
+    (s : System) (names : List ModuleName) (x : List LevelSymbol)
     → AreAlike (ignores names) (ignores s.ignored) x
     → (t : ℕ) → questions_at (ignoring names s) t x ≡ questions_at s t x
 
 -- a letter that doesn't occur may be ignored or not
 abbrev pub AbsentLettersMayBeIgnored : Type 0
 AbsentLettersMayBeIgnored =
-    (n : ModuleName) (names : List ModuleName) (x : List Symbol)
+    (n : ModuleName) (names : List ModuleName) (x : List LevelSymbol)
     → occurs n x ≡ false → AreAlike (ignores (n ∷ names)) (ignores names) x

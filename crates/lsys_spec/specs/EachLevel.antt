@@ -5,7 +5,7 @@ use Rattle.lsys_syntax.specs.Strings.{IsModuleName}
 use Rattle.lsys_spec.specs.Systems.{System, WellSpelled}
 use Rattle.lsys_spec.specs.Cuts.{Rising}
 use Rattle.lsys_spec.specs.LevelLaws.{HasBalance, AtEachLevel}
-use Rattle.lsys_spec.specs.Levels.{Symbol, lineage, ModuleValue, Module}
+use Rattle.lsys_spec.specs.Levels.{LevelSymbol, lineage, ModuleValue, Module}
 
 -- where symbols are numbered by places the lineages of each level rise
 abbrev pub LineagesRiseByPlaces : Type 0
@@ -16,7 +16,7 @@ LineagesRiseByPlaces =
 abbrev pub LineagesAreAsLongAsTheirLevelIsDeep : Type 0
 LineagesAreAsLongAsTheirLevelIsDeep =
     (s : System) → HasBalance s
-    → AtEachLevel s (λ t x. (p : ℕ) (a : Symbol) → slice_get x p ≡ Some a
+    → AtEachLevel s (λ t x. (p : ℕ) (a : LevelSymbol) → slice_get x p ≡ Some a
     → length (lineage a) ≡ t + 1)
 
 -- in a well-spelled system each module has a name of the language

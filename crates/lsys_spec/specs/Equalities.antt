@@ -5,7 +5,7 @@ use Rattle.lsys_syntax.specs.Expressions.{TermOp, multiply, divide, remainder, S
 use Rattle.lsys_spec.specs.Systems.{same_name}
 use Rattle.lsys_spec.specs.Values.{Tree, Constant, Formal, Negation, Inversion, Binary, Both, Either, Operator, sum_of, product_of, power_of, comparison, int_same}
 use Rattle.lsys_spec.specs.Bodies.{Body, Pattern, Patterns, Done, OneOf, BranchOf}
-use Rattle.lsys_spec.specs.Levels.{ModuleValue, Symbol, Push, Pop, Module}
+use Rattle.lsys_spec.specs.Levels.{ModuleValue, LevelSymbol, Push, Pop, Module}
 use Rattle.lsys_spec.specs.Walks.{Mark, Entry, Compared, Ignored, Out, Branched}
 
 abbrev pub same_number : ℕ → ℕ → Bool
@@ -27,7 +27,7 @@ same_lineage a b = same_all same_number a b
 abbrev pub same_module : ModuleValue → ModuleValue → Bool
 same_module m n = same_name m.name n.name && same_all int_same m.params n.params
 
-abbrev pub same_symbol : Symbol → Symbol → Bool
+abbrev pub same_symbol : LevelSymbol → LevelSymbol → Bool
 same_symbol (Push l) (Push m) = same_lineage l m
 same_symbol (Pop l) (Pop m) = same_lineage l m
 same_symbol (Module l a) (Module m b) = same_lineage l m && same_module a b

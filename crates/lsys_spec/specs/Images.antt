@@ -6,7 +6,7 @@ use Rattle.lsys_syntax.specs.Strings as S
 use Rattle.lsys_spec.specs.Systems.{System, Homomorphism, same_name}
 use Rattle.lsys_spec.specs.Values.{Arith, judged, ◌and_then◌}
 use Rattle.lsys_spec.specs.Bodies.{body_of}
-use Rattle.lsys_spec.specs.Levels.{ModuleValue, Symbol, Push, Pop, Module}
+use Rattle.lsys_spec.specs.Levels.{ModuleValue, LevelSymbol, Push, Pop, Module}
 use Rattle.lsys_spec.specs.Meaning.{filled}
 
 pub data ImageRefusal : Type 0 where
@@ -32,12 +32,12 @@ abbrev pub within_image : ℕ → List (S.Symbol ℤ) → Result (List (S.Symbol
 within_image k ys = if nat_lt most_image_symbols (k + length ys) then Err ImageLimit else Ok ys
 
 -- from left to right: n modules of the level and k symbols of the image stand before
-abbrev pub image_from : List Homomorphism → ℕ → ℕ → List Symbol → Result (List (S.Symbol ℤ)) ImageRefusal
+abbrev pub image_from : List Homomorphism → ℕ → ℕ → List LevelSymbol → Result (List (S.Symbol ℤ)) ImageRefusal
 image_from hs n k [] = Ok []
 image_from hs n k (Push l ∷ rest) = within_image k (S.Push ∷ []) and_then λ ys. image_from hs n (k + 1) rest and_then λ more. Ok (ys ++ more)
 image_from hs n k (Pop l ∷ rest) = within_image k (S.Pop ∷ []) and_then λ ys. image_from hs n (k + 1) rest and_then λ more. Ok (ys ++ more)
 image_from hs n k (Module l m ∷ rest) =
     image_fault (n + 1) (image_of hs m) and_then λ zs. within_image k zs and_then λ ys. image_from hs (n + 1) (k + length ys) rest and_then λ more. Ok (ys ++ more)
 
-abbrev pub image : System → List Symbol → Result (List (S.Symbol ℤ)) ImageRefusal
+abbrev pub image : System → List LevelSymbol → Result (List (S.Symbol ℤ)) ImageRefusal
 image s x = image_from s.homomorphisms 0 0 x

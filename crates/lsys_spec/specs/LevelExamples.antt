@@ -5,7 +5,7 @@ use Rattle.lsys_syntax.specs.Strings.{named, plus}
 use Rattle.lsys_spec.specs.Systems.{System}
 use Rattle.lsys_spec.specs.Values.{DivideByZero, Overflow}
 use Rattle.lsys_spec.specs.Bodies.{table_at}
-use Rattle.lsys_spec.specs.Levels.{Symbol, Push, Pop, Module, lineage, close_of, level_balanced, Passed, Around, OutOf, way, Nothing, One, Branch, items_from}
+use Rattle.lsys_spec.specs.Levels.{LevelSymbol, Push, Pop, Module, lineage, close_of, level_balanced, Passed, Around, OutOf, way, Nothing, One, Branch, items_from}
 use Rattle.lsys_spec.specs.Walks.{Mark, Compared, Ignored, Out, Branched}
 use Rattle.lsys_spec.specs.Cuts.{Plain, Cut, cut}
 use Rattle.lsys_spec.specs.Choice.{Arithmetic}
@@ -20,23 +20,23 @@ use Rattle.lsys_spec.specs.Output.{out, none, last_system}
 abbrev after : List ℕ → System
 after script = last_system (out (reply 100000) script none)
 
-abbrev levels_after : List ℕ → List (List Symbol)
+abbrev levels_after : List ℕ → List (List LevelSymbol)
 levels_after script = elim (meaning (after script) 100000) [ Ok levels ↦ levels | Err r ↦ [] ]
 
-abbrev first_after : List ℕ → List Symbol
+abbrev first_after : List ℕ → List LevelSymbol
 first_after script = first_level (after script)
 
 abbrev questions_after : List ℕ → List Question
 questions_after script = questions (after script) (levels_after script)
 
-abbrev module_at : List ℕ → ℕ → Symbol
+abbrev module_at : List ℕ → ℕ → LevelSymbol
 module_at l letter = Module l (record { name = named (short letter); params = [] })
 
 abbrev in_rule : ℕ → ℕ → Mark
 in_rule rule depth = record { rule = rule; depth = depth }
 
 -- A[B]C: a lineage is a place in the axiom, brackets counted
-abbrev branched : List Symbol
+abbrev branched : List LevelSymbol
 branched = first_after (codes "axiom A[B]C")
 
 pub axiom_lineages : map lineage branched ≡ (0 ∷ []) ∷ (1 ∷ []) ∷ (2 ∷ []) ∷ (3 ∷ []) ∷ (4 ∷ []) ∷ []
@@ -142,10 +142,10 @@ pub visits_of_insertion :
 visits_of_insertion = refl
 
 -- without B its neighbours stand otherwise, but D stands as before
-abbrev four : List Symbol
+abbrev four : List LevelSymbol
 four = first_after (codes "axiom [ABC]D")
 
-abbrev three : List Symbol
+abbrev three : List LevelSymbol
 three = Push (0 ∷ []) ∷ module_at (1 ∷ []) 65 ∷ module_at (3 ∷ []) 67 ∷ Pop (4 ∷ []) ∷ module_at (5 ∷ []) 68 ∷ []
 
 pub disturbed_neighbours :

@@ -5,8 +5,8 @@ use Rattle.lsys_syntax.specs.Strings as S
 use Rattle.lsys_spec.specs.Systems.{System, Each, same_name}
 use Rattle.lsys_spec.specs.Values.{◌and_then◌}
 use Rattle.lsys_spec.specs.Bodies.{group}
-use Rattle.lsys_spec.specs.Levels.{ModuleValue, Symbol, Push, Pop, Module, plain}
-use Rattle.lsys_spec.specs.Walks.{any}
+use Rattle.lsys_spec.specs.Levels.{ModuleValue, LevelSymbol, Push, Pop, Module, plain}
+use Rattle.lsys_spec.specs.Walks.{any_holds}
 use Rattle.lsys_spec.specs.Choice.{Fault}
 use Rattle.lsys_spec.specs.Cuts.{Raw, Plain, Cut}
 use Rattle.lsys_spec.specs.Meaning.{LevelRefusal, OverLimit, FaultAt, any_weight, successor}
@@ -46,23 +46,23 @@ AreMade (Err (FaultAt k t n)) (Err j) = k ≡ j
 AreMade (Err (OverLimit t)) r = ⊥
 
 -- of a level's modules the same ones are ignored
-abbrev pub IsAlike : (ModuleName → Bool) → (ModuleName → Bool) → Symbol → Type 0
+abbrev pub IsAlike : (ModuleName → Bool) → (ModuleName → Bool) → LevelSymbol → Type 0
 IsAlike f g (Module l m) = f m.name ≡ g m.name
 IsAlike f g (Push l) = Unit {0}
 IsAlike f g (Pop l) = Unit {0}
 
-abbrev pub AreAlike : (ModuleName → Bool) → (ModuleName → Bool) → List Symbol → Type 0
+abbrev pub AreAlike : (ModuleName → Bool) → (ModuleName → Bool) → List LevelSymbol → Type 0
 AreAlike f g x = Each (IsAlike f g) x
 
 -- the system with other ignored names
 abbrev pub ignoring : List ModuleName → System → System
 ignoring names s = record s { ignored = names }
 
-abbrev pub is_named : ModuleName → Symbol → Bool
+abbrev pub is_named : ModuleName → LevelSymbol → Bool
 is_named n (Module l m) = same_name n m.name
 is_named n (Push l) = false
 is_named n (Pop l) = false
 
 -- a module of the level has this name
-abbrev pub occurs : ModuleName → List Symbol → Bool
-occurs n x = any (is_named n) x
+abbrev pub occurs : ModuleName → List LevelSymbol → Bool
+occurs n x = any_holds (is_named n) x

@@ -17,14 +17,14 @@ abbrev pub reply_or_memory : (System → List ℕ → Reply) → Bool → System
 reply_or_memory answer lacks s line = memory_or (lacks && may_lack_memory line) s (answer s line)
 
 -- a reply, and behind it what follows from its system, unless it ends the session
-abbrev pub followed : Reply → (System → List Reply) → List Reply
-followed r rest = r ∷ elim r.ends [ true ↦ [] | false ↦ rest r.next ]
+abbrev pub reply_followed : Reply → (System → List Reply) → List Reply
+reply_followed r rest = r ∷ elim r.ends [ true ↦ [] | false ↦ rest r.next ]
 
 -- the replies to lines that are numbered from n on; those whose numbers are in M are refused for want of memory
 abbrev pub replies_from : (System → List ℕ → Reply) → (ℕ → Bool) → ℕ → System → List (List ℕ) → List Reply
 replies_from answer M n s [] = []
 replies_from answer M n s (line ∷ lines) =
-    followed (reply_or_memory answer (M n) s line) (λ next. replies_from answer M (n + 1) next lines)
+    reply_followed (reply_or_memory answer (M n) s line) (λ next. replies_from answer M (n + 1) next lines)
 
 abbrev pub out : (System → List ℕ → Reply) → List ℕ → (ℕ → Bool) → List Reply
 out answer script M = replies_from answer M 1 opening (lines_of script)

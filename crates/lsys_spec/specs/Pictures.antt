@@ -158,7 +158,7 @@ or_far (Ok a) = Ok a
 or_far (Err n) = Err (Far n)
 
 -- the picture of a level: the whole image is made first
-abbrev pub picture : System → List L.Symbol → Result (List Segment) PictureRefusal
+abbrev pub picture : System → List L.LevelSymbol → Result (List Segment) PictureRefusal
 picture s x = or_no_image (image s x) and_then λ ys. or_far (segments_of s.lattice ys)
 
 -- both projected ends of every segment

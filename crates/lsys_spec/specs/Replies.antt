@@ -26,20 +26,20 @@ or_text text (Ok a) = Ok a
 or_text text (Err e) = Err (text e)
 
 -- the levels of a system, or the text of the refusal
-abbrev pub levels_of : ℕ → System → Result (List (List L.Symbol)) (List ℕ)
+abbrev pub levels_of : ℕ → System → Result (List (List L.LevelSymbol)) (List ℕ)
 levels_of limit s = or_text derivation_text (M.meaning s limit)
 
 -- A level that isn't there doesn't come: a number past the depth is refused, and there is one more level than the depth.
-abbrev pub or_empty : Option (List L.Symbol) → List L.Symbol
+abbrev pub or_empty : Option (List L.LevelSymbol) → List L.LevelSymbol
 or_empty (Some x) = x
 or_empty None = []
 
 -- the level of this number; without one, the last
-abbrev pub level_at : Option ℕ → List (List L.Symbol) → List L.Symbol
+abbrev pub level_at : Option ℕ → List (List L.LevelSymbol) → List L.LevelSymbol
 level_at None levels = M.last_level levels
 level_at (Some t) levels = or_empty (slice_get levels t)
 
-abbrev pub string_line : Option ℕ → List (List L.Symbol) → List ℕ
+abbrev pub string_line : Option ℕ → List (List L.LevelSymbol) → List ℕ
 string_line t levels = level_text (level_at t levels) ++ line_feed
 
 abbrev pub picture_refusal_text : PictureRefusal → List ℕ
@@ -47,13 +47,13 @@ picture_refusal_text (NoImage r) = image_text r
 picture_refusal_text (Far n) = with_number (codes "far") n
 
 -- the picture of the last level, or the text of the refusal
-abbrev pub picture_of : System → Result (List (List L.Symbol)) (List ℕ) → Result (List Segment) (List ℕ)
+abbrev pub picture_of : System → Result (List (List L.LevelSymbol)) (List ℕ) → Result (List Segment) (List ℕ)
 picture_of s (Err why) = Err why
 picture_of s (Ok levels) = or_text picture_refusal_text (picture s (M.last_level levels))
 
 -- The questions of a system; where it has no levels, none. That doesn't come in a session: the opening system has its
 -- level, and an edit whose system has none is refused.
-abbrev pub questions_of : System → Result (List (List L.Symbol)) (List ℕ) → List Question
+abbrev pub questions_of : System → Result (List (List L.LevelSymbol)) (List ℕ) → List Question
 questions_of s (Ok levels) = questions s levels
 questions_of s (Err why) = []
 
@@ -62,7 +62,7 @@ abbrev pub count_line : List Question → List Question → List ℕ
 count_line old new = codes "ok " ++ (decimal (need old new) ++ 47 ∷ (decimal (length new) ++ line_feed))
 
 -- an edit from which the system `next` comes, whose levels these are
-abbrev pub edited : ℕ → System → System → Result (List (List L.Symbol)) (List ℕ) → Reply
+abbrev pub edited : ℕ → System → System → Result (List (List L.LevelSymbol)) (List ℕ) → Reply
 edited limit s next (Ok levels) = said next (count_line (questions_of s (levels_of limit s)) (questions next levels))
 edited limit s next (Err why) = refused s why
 

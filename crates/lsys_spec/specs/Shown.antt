@@ -8,7 +8,7 @@ use Rattle.lsys_spec.specs.Systems.{System, Homomorphism, Own, written}
 use Rattle.lsys_spec.specs.Levels as L
 
 -- a level's string
-abbrev pub level_text : List L.Symbol → List ℕ
+abbrev pub level_text : List L.LevelSymbol → List ℕ
 level_text x = string_text (map L.plain x)
 
 abbrev pub as_put : Production → Command

@@ -52,8 +52,8 @@ rich = record {
 }
 
 -- B(x) : x>0 => [+]
-abbrev pub image : Rule
-image = record {
+abbrev pub image_rule : Rule
+image_rule = record {
   left = [];
   name = b;
   formals = letter_x ∷ [];
@@ -69,7 +69,7 @@ full_system = record {
   rules = record { table = main; label = codes "a"; rule = bare } ∷ record { table = codes "winter"; label = codes "w"; rule = rich } ∷ [];
   schedule = main ∷ codes "winter" ∷ [];
   ignored = plus ∷ f_a ∷ [];
-  homomorphisms = record { label = codes "h"; rule = image } ∷ [];
+  homomorphisms = record { label = codes "h"; rule = image_rule } ∷ [];
   seed = 7;
   depth = 2;
   lattice = hexagonal;

@@ -4,19 +4,19 @@ use Rattle.lsys_syntax.specs.Strings.{ModuleName}
 use Rattle.lsys_spec.specs.Systems.{System}
 use Rattle.lsys_spec.specs.Bodies.{Body, Pattern, Patterns, Done, OneOf, BranchOf, Filter, filter}
 use Rattle.lsys_syntax.specs.Commands.{ListKind, to_ignore, to_consider}
-use Rattle.lsys_spec.specs.Levels.{Symbol, Push, Pop, Module, lineage, Step, Passed, Around, OutOf, Items, Nothing, One, Branch, way, items_from}
-use Rattle.lsys_spec.specs.Walks.{Entry, lineages_named, any}
+use Rattle.lsys_spec.specs.Levels.{LevelSymbol, Push, Pop, Module, lineage, Step, Passed, Around, OutOf, Items, Nothing, One, Branch, way, items_from}
+use Rattle.lsys_spec.specs.Walks.{Entry, lineages_named, any_holds}
 use Rattle.lsys_spec.specs.Meaning.{ignores}
 use Rattle.lsys_spec.specs.Equalities.{same_option, same_symbol, same_lineage, same_all, same_body, same_number}
 use Rattle.lsys_spec.specs.Questions.{Question, question_at}
 
 pub record Standing : Type 0 where
-  pub symbol : Option Symbol
-  pub before : Option Symbol
-  pub after : Option Symbol
+  pub symbol : Option LevelSymbol
+  pub before : Option LevelSymbol
+  pub after : Option LevelSymbol
   pub mate : Option (List ℕ)
 
-abbrev pub before_place : List Symbol → ℕ → Option Symbol
+abbrev pub before_place : List LevelSymbol → ℕ → Option LevelSymbol
 before_place x zero = None
 before_place x (suc p) = slice_get x p
 
@@ -32,13 +32,13 @@ mate_behind (Passed s ∷ w) = None
 mate_behind (OutOf o ∷ w) = None
 mate_behind (Around o c ∷ w) = Some (lineage o)
 
-abbrev pub mate_at : List Symbol → ℕ → Option Symbol → Option (List ℕ)
+abbrev pub mate_at : List LevelSymbol → ℕ → Option LevelSymbol → Option (List ℕ)
 mate_at x p None = None
 mate_at x p (Some (Module l m)) = None
 mate_at x p (Some (Push l)) = mate_ahead (items_from x p)
 mate_at x p (Some (Pop l)) = mate_behind (way x (p + 1))
 
-abbrev pub standing : List Symbol → ℕ → Standing
+abbrev pub standing : List LevelSymbol → ℕ → Standing
 standing x p = record { symbol = slice_get x p; before = before_place x p; after = slice_get x (p + 1); mate = mate_at x p (slice_get x p) }
 
 abbrev pub first_or : Bool → Option ℕ → Option ℕ
@@ -46,30 +46,30 @@ first_or true later = Some 0
 first_or false later = option_map (λ p. p + 1) later
 
 -- the place at which a lineage stands
-abbrev pub place_of : List ℕ → List Symbol → Option ℕ
+abbrev pub place_of : List ℕ → List LevelSymbol → Option ℕ
 place_of l [] = None
 place_of l (s ∷ x) = first_or (same_lineage l (lineage s)) (place_of l x)
 
-abbrev pub standing_of : List Symbol → List ℕ → Option Standing
+abbrev pub standing_of : List LevelSymbol → List ℕ → Option Standing
 standing_of x l = option_map (standing x) (place_of l x)
 
 -- the symbol of this lineage stands in the new level as in the old: it isn't disturbed
-abbrev pub Settled : List Symbol → List Symbol → List ℕ → Type 0
+abbrev pub Settled : List LevelSymbol → List LevelSymbol → List ℕ → Type 0
 Settled old new l = standing_of new l ≡ standing_of old l
 
 abbrev pub same_standing : Standing → Standing → Bool
 same_standing s t = same_option same_symbol s.symbol t.symbol && (same_option same_symbol s.before t.before && (same_option same_symbol s.after t.after && same_option same_lineage s.mate t.mate))
 
 -- a symbol of the old level stands otherwise in the new one, or not at all
-abbrev pub is_disturbed : List Symbol → List Symbol → List ℕ → Bool
+abbrev pub is_disturbed : List LevelSymbol → List LevelSymbol → List ℕ → Bool
 is_disturbed x y l = not (same_option same_standing (standing_of y l) (standing_of x l))
 
 -- a symbol that an entry names is disturbed
-abbrev pub reads_disturbed : List Symbol → List Symbol → Entry → Bool
-reads_disturbed x y e = any (is_disturbed x y) (lineages_named e)
+abbrev pub reads_disturbed : List LevelSymbol → List LevelSymbol → Entry → Bool
+reads_disturbed x y e = any_holds (is_disturbed x y) (lineages_named e)
 
-abbrev pub any_disturbed : List Symbol → List Symbol → List Entry → Bool
-any_disturbed x y es = any (reads_disturbed x y) es
+abbrev pub any_disturbed : List LevelSymbol → List LevelSymbol → List Entry → Bool
+any_disturbed x y es = any_holds (reads_disturbed x y) es
 
 abbrev pub no_patterns : Patterns → Bool
 no_patterns Done = true
@@ -102,15 +102,15 @@ same_kind a b = false
 abbrev pub same_filter : Filter → Filter → Bool
 same_filter f g = same_kind f.kind g.kind && same_ignored f.names g.names
 
-abbrev pub is_touched : System → System → List Symbol → List Symbol → Question → Question → Bool
+abbrev pub is_touched : System → System → List LevelSymbol → List LevelSymbol → Question → Question → Bool
 is_touched old new x y was q =
     not (same_symbol was.own q.own && (same_all same_body was.bodies q.bodies && same_option same_number was.key q.key))
     || (is_disturbed x y (lineage q.own) || (any_disturbed x y was.trace || not (free q.bodies || same_filter (filter old q.level) (filter new q.level))))
 
-abbrev pub touched_there : System → System → List Symbol → List Symbol → Question → Option Question → Bool
+abbrev pub touched_there : System → System → List LevelSymbol → List LevelSymbol → Question → Option Question → Bool
 touched_there old new x y q None = true
 touched_there old new x y q (Some was) = is_touched old new x y was q
 
 -- a question of the new level y may be another one than at the old level x, of which these are the questions
-abbrev pub is_candidate : System → System → List Symbol → List Symbol → List Question → Question → Bool
+abbrev pub is_candidate : System → System → List LevelSymbol → List LevelSymbol → List Question → Question → Bool
 is_candidate old new x y asked q = touched_there old new x y q (question_at q.level (lineage q.own) asked)

@@ -3,7 +3,7 @@ use Rattle.std.specs.Prelude.{ℕ, Bool, true, false, Option, Some, None, List, 
 use Rattle.lsys_syntax.specs.Strings.{ModuleName}
 use Rattle.lsys_spec.specs.Systems.{same_name}
 use Rattle.lsys_spec.specs.Bodies.{Pattern, Patterns, Done, OneOf, BranchOf}
-use Rattle.lsys_spec.specs.Levels.{ModuleValue, Symbol, Push, Pop, Module, lineage, Step, Passed, Around, OutOf, Items, Nothing, One, Branch}
+use Rattle.lsys_spec.specs.Levels.{ModuleValue, LevelSymbol, Push, Pop, Module, lineage, Step, Passed, Around, OutOf, Items, Nothing, One, Branch}
 
 -- the place in the group of the rule for which an entry was read, and its depth: the number of branches that the right walk has entered and not left
 pub record Mark : Type 0 where
@@ -14,8 +14,8 @@ abbrev pub deeper : Mark → Mark
 deeper d = record d { depth = d.depth + 1 }
 
 pub data Entry : Type 0 where
-  Compared : Mark → Symbol → Entry  -- a module that isn't ignored was met
-  Ignored : Mark → Symbol → Entry  -- an ignored module was passed
+  Compared : Mark → LevelSymbol → Entry  -- a module that isn't ignored was met
+  Ignored : Mark → LevelSymbol → Entry  -- an ignored module was passed
   Out : Mark → List ℕ → Entry  -- the left walk left a branch, by its `[`
   Branched : Mark → List ℕ → List ℕ → Entry  -- a branch was passed or entered, by its two brackets
 
@@ -42,21 +42,21 @@ abbrev pub followed : {A B : Type 0} → Told A → Told B → Told B
 followed t next = record { entries = t.entries ++ next.entries; answer = next.answer }
 
 -- the module of a symbol (A walk meets modules alone, so what is said of a bracket here and below doesn't come.)
-abbrev pub modules : Symbol → List ModuleValue
+abbrev pub modules : LevelSymbol → List ModuleValue
 modules (Push l) = []
 modules (Pop l) = []
 modules (Module l m) = m ∷ []
 
-abbrev pub any : {A : Type 0} → (A → Bool) → List A → Bool
-any p [] = false
-any p (x ∷ xs) = elim (p x) [ true ↦ true | false ↦ any p xs ]
+abbrev pub any_holds : {A : Type 0} → (A → Bool) → List A → Bool
+any_holds p [] = false
+any_holds p (x ∷ xs) = elim (p x) [ true ↦ true | false ↦ any_holds p xs ]
 
-abbrev pub is_ignored : (ModuleName → Bool) → Symbol → Bool
+abbrev pub is_ignored : (ModuleName → Bool) → LevelSymbol → Bool
 is_ignored ignored (Module l m) = ignored m.name
 is_ignored ignored s = false
 
 -- the letter and the number of parameters are the pattern's
-abbrev pub fits : Pattern → Symbol → Bool
+abbrev pub fits : Pattern → LevelSymbol → Bool
 fits q (Module l m) = same_name q.name m.name && (q.arity == length m.params)
 fits q s = false
 
@@ -65,7 +65,7 @@ abbrev pub Found : Type 0
 Found = Option (List ModuleValue)
 
 -- the modules that were found, and behind them this one
-abbrev pub behind : Symbol → Told Found → Told Found
+abbrev pub behind : LevelSymbol → Told Found → Told Found
 behind s t = record t { answer = option_map (λ ms. ms ++ modules s) t.answer }
 
 -- Patterns, the nearest first: the modules that match, the nearest last. An ignored module is passed; any other is compared.
@@ -79,7 +79,7 @@ left_walk ignored d (q ∷ qs) (Passed s ∷ w) =
     else before (Compared d s) (if fits q s then behind s (left_walk ignored d qs w) else says None)
 
 -- this module, and then those that were found
-abbrev pub ahead : Symbol → Told Found → Told Found
+abbrev pub ahead : LevelSymbol → Told Found → Told Found
 ahead s t = record t { answer = option_map (λ ms. modules s ++ ms) t.answer }
 
 -- these modules, and then those that were found

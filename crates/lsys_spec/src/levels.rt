@@ -2,7 +2,7 @@
 
 ghost use Rattle.std.specs.Prelude.{◌≡◌, ℕ, true, List, map, ◌↔◌};
 ghost use Rattle.lsys_spec.specs.Systems.{System, WellSpelled};
-ghost use Rattle.lsys_spec.specs.Levels.{Symbol, level_balanced, IsLevel};
+ghost use Rattle.lsys_spec.specs.Levels.{LevelSymbol, level_balanced, IsLevel};
 ghost use Rattle.lsys_spec.specs.Cuts.{Raw, Plain, raw_balanced, cut, IsCutOff, is_cut_off, kept, Distinct};
 ghost use Rattle.lsys_spec.specs.LevelLaws.{HasBalance, AtEachLevel};
 ghost use Rattle.lsys_spec.specs.EachLevel.{LineagesRiseByPlaces, LineagesAreAsLongAsTheirLevelIsDeep, ModulesHaveNamesOfTheLanguage};
@@ -14,7 +14,7 @@ pub fn law_of_balanced_cuts()
 
 /// A string without cuts stays as it is, so cutting twice is cutting once.
 pub fn law_of_repeated_cuts()
-    ensures without_cuts { (y : List Symbol) → cut (map Plain y) ≡ y }
+    ensures without_cuts { (y : List LevelSymbol) → cut (map Plain y) ≡ y }
     ensures twice { (x : List Raw) → cut (map Plain (cut x)) ≡ cut x }
 {}
 
@@ -26,7 +26,7 @@ pub fn law_of_cut_places()
 
 /// In a balanced string of distinct lineages each bracket has its mate.
 pub fn law_of_mates()
-    ensures { (x : List Symbol) → level_balanced 0 x ≡ true → Distinct x → IsLevel x }
+    ensures { (x : List LevelSymbol) → level_balanced 0 x ≡ true → Distinct x → IsLevel x }
 {}
 
 /// Where the axiom and the successors are balanced and short, each level is balanced; each of its lineages stands there

@@ -2,62 +2,62 @@
 use Rattle.std.proofs.Common.{◌≡◌, List, [], ◌∷◌, ◌++◌, Some, refl, ap, ◌∙◌, sym, append_assoc, append-nil}
 use Rattle.lsys_syntax.specs.Tokens.{Kind, RightParen, Times, Slash, Percent, Ampersand, Bar, Caret}
 use Rattle.lsys_syntax.specs.Expressions.{TermOp, multiply, divide, remainder, SumOp, add, subtract, RelOp, equal, unequal, less, at_most, greater, at_least, Expr, only_and, or, And, only_rel, and, Rel, only_sum, compare, Sum, only_term, total, Term, only_unary, product, Unary, negated, inverted, only_atom, raised, Atom, number, name, parens, term_kind, sum_kind, rel_kind, expr_kinds, and_kinds, rel_kinds, sum_kinds, term_kinds, unary_kinds, atom_kinds}
-use Rattle.lsys_syntax.specs.ExpressionMachine.{InUnary, negating, inverting, raising, in_term, first_unary, next_unary, InSum, first_term, next_term, InRel, first_sum, second_sum, InAnd, first_rel, next_rel, InExpr, first_and, next_and, Around, no_parens, in_parens, State, Due, Have, HalfAnd, HalfOr, Done, AfterExpr, closing, other, AfterAnd, half_or, ends_expr, AfterRel, half_and, ends_and, AfterSum, comparing, ends_rel, AfterTerm, more_sum, ends_sum, AfterUnary, more_term, ends_term, AfterAtom, ends_unary, sum_step, rel_step, and_step, or_step, expr_step, what_follows, after_expr, after_and, after_rel, after_sum, after_term, after_operand, after_atom, start_expr, step, run, end_step, finished, parse_expr}
+use Rattle.lsys_syntax.specs.ExpressionMachine.{InUnary, negating, inverting, raising, in_term, first_unary, next_unary, InSum, first_term, next_term, InRel, first_sum, second_sum, InAnd, first_rel, next_rel, InExpr, first_and, next_and, Around, no_parens, in_parens, ExpressionState, Due, Have, HalfAnd, HalfOr, Done, AfterExpr, closing, other, AfterAnd, half_or, ends_expr, AfterRel, half_and, ends_and, AfterSum, comparing, ends_rel, AfterTerm, more_sum, ends_sum, AfterUnary, more_term, ends_term, AfterAtom, ends_unary, sum_step, rel_step, and_step, or_step, expr_step, what_follows, after_expr, after_and, after_rel, after_sum, after_term, after_operand, after_atom, start_expr, step, run, end_step, finished, parse_expr}
 
 -- where a part's last atom stands
-abbrev pub leave_unary : Unary → InUnary → State
+abbrev pub leave_unary : Unary → InUnary → ExpressionState
 leave_unary (negated u) k = leave_unary u (negating k)
 leave_unary (inverted u) k = leave_unary u (inverting k)
 leave_unary (only_atom a) k = Have a k
 leave_unary (raised a u) k = leave_unary u (raising a k)
 
-abbrev pub leave_term : Term → InSum → State
+abbrev pub leave_term : Term → InSum → ExpressionState
 leave_term (only_unary u) k = leave_unary u (in_term (first_unary k))
 leave_term (product t op u) k = leave_unary u (in_term (next_unary t op k))
 
-abbrev pub leave_sum : Sum → InRel → State
+abbrev pub leave_sum : Sum → InRel → ExpressionState
 leave_sum (only_term t) k = leave_term t (first_term k)
 leave_sum (total s op t) k = leave_term t (next_term s op k)
 
-abbrev pub leave_rel : Rel → InAnd → State
+abbrev pub leave_rel : Rel → InAnd → ExpressionState
 leave_rel (only_sum s) k = leave_sum s (first_sum k)
 leave_rel (compare l op r) k = leave_sum r (second_sum l op k)
 
-abbrev pub leave_and : And → InExpr → State
+abbrev pub leave_and : And → InExpr → ExpressionState
 leave_and (only_rel r) k = leave_rel r (first_rel k)
 leave_and (and a r) k = leave_rel r (next_rel a k)
 
-abbrev pub leave_expr : Expr → Around → State
+abbrev pub leave_expr : Expr → Around → ExpressionState
 leave_expr (only_and a) k = leave_and a (first_and k)
 leave_expr (or e a) k = leave_and a (next_and e k)
 
 -- A step that does so behind an atom does so behind each part.
-abbrev pub Does : (State → State) → AfterAtom → Type 0
+abbrev pub Does : (ExpressionState → ExpressionState) → AfterAtom → Type 0
 Does g f = (a : Atom) (k : InUnary) → g (Have a k) ≡ after_atom f a k
 
-unary_left : (g : State → State) (f : AfterUnary) → Does g (ends_unary f) → (u : Unary) (k : InUnary) → g (leave_unary u k) ≡ after_operand f u k
+unary_left : (g : ExpressionState → ExpressionState) (f : AfterUnary) → Does g (ends_unary f) → (u : Unary) (k : InUnary) → g (leave_unary u k) ≡ after_operand f u k
 unary_left g f d (negated u) k = unary_left g f d u (negating k)
 unary_left g f d (inverted u) k = unary_left g f d u (inverting k)
 unary_left g f d (only_atom a) k = d a k
 unary_left g f d (raised a u) k = unary_left g f d u (raising a k)
 
-term_left : (g : State → State) (f : AfterTerm) → Does g (sum_step f) → (t : Term) (k : InSum) → g (leave_term t k) ≡ after_term f t k
+term_left : (g : ExpressionState → ExpressionState) (f : AfterTerm) → Does g (sum_step f) → (t : Term) (k : InSum) → g (leave_term t k) ≡ after_term f t k
 term_left g f d (only_unary u) k = unary_left g (ends_term f) d u (in_term (first_unary k))
 term_left g f d (product t op u) k = unary_left g (ends_term f) d u (in_term (next_unary t op k))
 
-sum_left : (g : State → State) (f : AfterSum) → Does g (rel_step f) → (s : Sum) (k : InRel) → g (leave_sum s k) ≡ after_sum f s k
+sum_left : (g : ExpressionState → ExpressionState) (f : AfterSum) → Does g (rel_step f) → (s : Sum) (k : InRel) → g (leave_sum s k) ≡ after_sum f s k
 sum_left g f d (only_term t) k = term_left g (ends_sum f) d t (first_term k)
 sum_left g f d (total s op t) k = term_left g (ends_sum f) d t (next_term s op k)
 
-rel_left : (g : State → State) (f : AfterRel) → Does g (and_step f) → (r : Rel) (k : InAnd) → g (leave_rel r k) ≡ after_rel f r k
+rel_left : (g : ExpressionState → ExpressionState) (f : AfterRel) → Does g (and_step f) → (r : Rel) (k : InAnd) → g (leave_rel r k) ≡ after_rel f r k
 rel_left g f d (only_sum s) k = sum_left g (ends_rel f) d s (first_sum k)
 rel_left g f d (compare l op s) k = sum_left g (ends_rel f) d s (second_sum l op k)
 
-and_left : (g : State → State) (f : AfterAnd) → Does g (or_step f) → (a : And) (k : InExpr) → g (leave_and a k) ≡ after_and f a k
+and_left : (g : ExpressionState → ExpressionState) (f : AfterAnd) → Does g (or_step f) → (a : And) (k : InExpr) → g (leave_and a k) ≡ after_and f a k
 and_left g f d (only_rel r) k = rel_left g (ends_and f) d r (first_rel k)
 and_left g f d (and a r) k = rel_left g (ends_and f) d r (next_rel a k)
 
-pub expr_left : (g : State → State) (f : AfterExpr) → Does g (expr_step f) → (e : Expr) (k : Around) → g (leave_expr e k) ≡ after_expr f e k
+pub expr_left : (g : ExpressionState → ExpressionState) (f : AfterExpr) → Does g (expr_step f) → (e : Expr) (k : Around) → g (leave_expr e k) ≡ after_expr f e k
 expr_left g f d (only_and a) k = and_left g (ends_expr f) d a (first_and k)
 expr_left g f d (or e a) k = and_left g (ends_expr f) d a (next_and e k)
 

@@ -6,13 +6,13 @@ use Rattle.lsys_syntax.specs.Strings.{EachOf}
 use Rattle.lsys_syntax.specs.Expressions.{TermOp, multiply, divide, remainder, SumOp, add, subtract, RelOp, equal, unequal, less, at_most, greater, at_least, Expr, only_and, or, And, only_rel, and, Rel, only_sum, compare, Sum, only_term, total, Term, only_unary, product, Unary, negated, inverted, only_atom, raised, Atom, number, name, parens, term_kind, sum_kind, rel_kind, expr_kinds, and_kinds, rel_kinds, sum_kinds, term_kinds, unary_kinds, atom_kinds, expr_pieces, IsExpr, IsAnd, IsRel, IsSum, IsTerm, IsUnary, IsAtom}
 use Rattle.lsys_syntax.specs.ExpressionMachine as E
 use Rattle.lsys_syntax.specs.Nesting as N
-use Rattle.lsys_syntax.specs.RuleMachine.{Form, Spot, State, InExpr, small, step, within, expr_start}
+use Rattle.lsys_syntax.specs.RuleMachine.{Form, Spot, RuleState, InExpr, small, rule_step, within, expr_start}
 use Rattle.lsys_syntax.proofs.Complete.{leave_expr, leave_and, leave_rel, leave_sum, leave_term, leave_unary, read-expr}
 use Rattle.lsys_syntax.proofs.Depths.{expr-within}
 use Rattle.lsys_syntax.proofs.Leads.{Leads, leads-append}
 
 -- no deeper than b
-abbrev pub Shallow : ℕ → State → Type 0
+abbrev pub Shallow : ℕ → RuleState → Type 0
 Shallow b (InExpr spot s) = N.depth s ≤ b
 Shallow b s = Unit {0}
 
@@ -77,12 +77,12 @@ mutual
   atom-small (parens e) g = (refl, small-append (expr_kinds e) (RightParen ∷ []) (expr-small e g) (refl, tt))
 
 -- The state inside goes on as by itself, while it isn't done.
-abbrev pub IsLive : E.State → Type 0
+abbrev pub IsLive : E.ExpressionState → Type 0
 IsLive (E.Done e) = ⊥
 IsLive E.Stop = ⊥
 IsLive s = Unit {0}
 
-within-live : (m : Form) (spot : Spot) (t : Kind) (s : E.State) → IsLive s → within m spot t s ≡ InExpr spot s
+within-live : (m : Form) (spot : Spot) (t : Kind) (s : E.ExpressionState) → IsLive s → within m spot t s ≡ InExpr spot s
 within-live m spot t (E.Due k) h = refl
 within-live m spot t (E.Have a k) h = refl
 within-live m spot t (E.HalfAnd a k) h = refl
@@ -95,7 +95,7 @@ stopped [] = refl
 stopped (t ∷ ts) = stopped ts
 
 -- what is live in the end was live before
-live-before : (ts : List Kind) (s : E.State) → IsLive (E.run s ts) → IsLive s
+live-before : (ts : List Kind) (s : E.ExpressionState) → IsLive (E.run s ts) → IsLive s
 live-before [] s h = h
 live-before (t ∷ ts) (E.Due k) h = tt
 live-before (t ∷ ts) (E.Have a k) h = tt
@@ -132,17 +132,17 @@ live-expr (only_and a) k = live-and a (E.first_and k)
 live-expr (or e a) k = live-and a (E.next_and e k)
 
 module _ (m : Form) (b : ℕ) (spot : Spot) where
-  tokens-lead : (ts : List Kind) (s : E.State) → IsLive (E.run s ts) → N.StaysWithin b s ts → AreSmall ts → Leads (step m) (Shallow b) (InExpr spot s) (map token ts) (InExpr spot (E.run s ts))
+  tokens-lead : (ts : List Kind) (s : E.ExpressionState) → IsLive (E.run s ts) → N.StaysWithin b s ts → AreSmall ts → Leads (rule_step m) (Shallow b) (InExpr spot s) (map token ts) (InExpr spot (E.run s ts))
   tokens-lead [] s l w h = refl
   tokens-lead (t ∷ ts) s l w h =
       let same : within m spot t (E.step s (small t)) ≡ InExpr spot (E.step s t) =
       ap (λ k. within m spot t (E.step s k)) h.0 ∙ within-live m spot t (E.step s t) (live-before ts (E.step s t) l) in
-      subst (λ x. Shallow b x × Leads (step m) (Shallow b) x (map token ts) (InExpr spot (E.run s (t ∷ ts)))) (sym same) (w.0, tokens-lead ts (E.step s t) l w.1 h.1)
+      subst (λ x. Shallow b x × Leads (rule_step m) (Shallow b) x (map token ts) (InExpr spot (E.run s (t ∷ ts)))) (sym same) (w.0, tokens-lead ts (E.step s t) l w.1 h.1)
 
-  pub expr-leads : (e : Expr) → IsExpr e → N.expr_nesting e ≤ b → Leads (step m) (Shallow b) (InExpr spot expr_start) (expr_pieces e) (InExpr spot (leave_expr e E.no_parens))
+  pub expr-leads : (e : Expr) → IsExpr e → N.expr_nesting e ≤ b → Leads (rule_step m) (Shallow b) (InExpr spot expr_start) (expr_pieces e) (InExpr spot (leave_expr e E.no_parens))
   expr-leads e g n =
       let all : E.run expr_start (expr_kinds e) ≡ leave_expr e E.no_parens =
       ap (E.run expr_start) (sym (append-nil (expr_kinds e))) ∙ read-expr e E.no_parens [] in
-      leads-append (step m) (Shallow b) (map token (expr_kinds e)) (note expr_ends ∷ []) (InExpr spot expr_start) (InExpr spot (E.run expr_start (expr_kinds e))) (InExpr spot (leave_expr e E.no_parens))
+      leads-append (rule_step m) (Shallow b) (map token (expr_kinds e)) (note expr_ends ∷ []) (InExpr spot expr_start) (InExpr spot (E.run expr_start (expr_kinds e))) (InExpr spot (leave_expr e E.no_parens))
       (tokens-lead (expr_kinds e) expr_start (subst IsLive (sym all) (live-expr e E.no_parens)) (expr-within e b E.no_parens (omega (arith, n))) (expr-small e g))
       (ap (λ s. InExpr spot s) all)

@@ -4,7 +4,7 @@ use Rattle.std.proofs.lemmas.Bool.Decides.{nat_tests}
 use Rattle.lsys_syntax.specs.Tokens.{Kind, Name, Number, BigNumber, LeftParen, Minus, Ampersand, Bar, Caret, Bang}
 use Rattle.lsys_syntax.specs.Pieces.{IsNameText}
 use Rattle.lsys_syntax.specs.Expressions.{Expr, only_and, or, And, only_rel, and, Rel, only_sum, compare, Sum, only_term, total, Term, only_unary, product, Unary, negated, inverted, only_atom, raised, Atom, number, parens, term_kind, sum_kind, rel_kind, expr_kinds, and_kinds, rel_kinds, sum_kinds, term_kinds, unary_kinds, atom_kinds, IsExpr, IsAnd, IsRel, IsSum, IsTerm, IsUnary, IsAtom}
-use Rattle.lsys_syntax.specs.ExpressionMachine.{InUnary, negating, inverting, raising, in_term, InTerm, first_unary, next_unary, InSum, first_term, next_term, InRel, first_sum, second_sum, InAnd, first_rel, next_rel, InExpr, first_and, next_and, Around, no_parens, in_parens, State, Due, Have, HalfAnd, HalfOr, Done, Stop, AfterExpr, closing, other, AfterAnd, half_or, ends_expr, AfterRel, half_and, ends_and, AfterSum, comparing, ends_rel, AfterTerm, more_sum, ends_sum, AfterUnary, more_term, ends_term, AfterAtom, powering, ends_unary, what_follows, after_expr, after_and, after_rel, after_sum, after_term, after_unary, after_operand, after_atom, step}
+use Rattle.lsys_syntax.specs.ExpressionMachine.{InUnary, negating, inverting, raising, in_term, InTerm, first_unary, next_unary, InSum, first_term, next_term, InRel, first_sum, second_sum, InAnd, first_rel, next_rel, InExpr, first_and, next_and, Around, no_parens, in_parens, ExpressionState, Due, Have, HalfAnd, HalfOr, Done, Stop, AfterExpr, closing, other, AfterAnd, half_or, ends_expr, AfterRel, half_and, ends_and, AfterSum, comparing, ends_rel, AfterTerm, more_sum, ends_sum, AfterUnary, more_term, ends_term, AfterAtom, powering, ends_unary, what_follows, after_expr, after_and, after_rel, after_sum, after_term, after_unary, after_operand, after_atom, step}
 use Rattle.lsys_syntax.specs.Nesting.{expr_nesting, and_nesting, rel_nesting, sum_nesting, term_nesting, unary_nesting, atom_nesting, unary_depth, term_depth, sum_depth, rel_depth, and_depth, expr_depth, around_depth, depth}
 use Rattle.lsys_syntax.specs.Completions.{before_unary, before_term, before_sum, before_rel, before_and, before_expr, before, spelled, fill_unary, fill_term, fill_sum, fill_rel, fill_and, fill_expr, fill_around, completed}
 use Rattle.lsys_syntax.specs.RuleMachine.{small}
@@ -43,7 +43,7 @@ abbrev mutual
   GoodAround no_parens = Unit {0}
   GoodAround (in_parens k) = GoodUnary k
 
-abbrev pub Good : State → Type 0
+abbrev pub Good : ExpressionState → Type 0
 Good (Due k) = GoodUnary k
 Good (Have a k) = IsAtom a × GoodUnary k
 Good (HalfAnd a k) = IsAnd a × GoodExpr k
@@ -52,7 +52,7 @@ Good (Done e) = Unit {0}
 Good Stop = Unit {0}
 
 -- behind the tokens ts a state is good, and where it is done, its tree is one of them
-abbrev pub Ends : ℕ → State → List Kind → Type 0
+abbrev pub Ends : ℕ → ExpressionState → List Kind → Type 0
 Ends b (Done e) ts = (expr_kinds e ≡ ts) × IsExpr e × (expr_nesting e ≤ b)
 Ends b s ts = Good s
 
@@ -109,7 +109,7 @@ IsOperand (Number n) = n < 2 ^ 63
 IsOperand (Name n) = IsNameText n
 IsOperand k = Unit {0}
 
-step-ends : (b : ℕ) (s : State) (t : Kind) → IsOperand t → Fits b s → Good s → Ends b (step s t) (spelled s)
+step-ends : (b : ℕ) (s : ExpressionState) (t : Kind) → IsOperand t → Fits b s → Good s → Ends b (step s t) (spelled s)
 step-ends b (Due k) (Number n) o f g = (o, g)
 step-ends b (Due k) (Name n) o f g = (o, g)
 step-ends b (Due k) LeftParen o f g = g
@@ -125,12 +125,12 @@ step-ends b (Done e) t o f g = tt
 step-ends b Stop t o f g = tt
 
 -- What is known behind the tokens ts and the token t: where the state is done, t is left for what follows.
-abbrev pub After : ℕ → State → List Kind → Kind → Type 0
+abbrev pub After : ℕ → ExpressionState → List Kind → Kind → Type 0
 After b (Done e) ts t = (expr_kinds e ≡ ts) × IsExpr e × (expr_nesting e ≤ b)
 After b Stop ts t = Unit {0}
 After b s ts t = (spelled s ≡ ts ++ t ∷ []) × Good s × Fits b s
 
-after-all : (b : ℕ) (s : State) (ts : List Kind) (t : Kind) → Keeps s (ts ++ t ∷ []) → Fits b s → Ends b s ts → After b s ts t
+after-all : (b : ℕ) (s : ExpressionState) (ts : List Kind) (t : Kind) → Keeps s (ts ++ t ∷ []) → Fits b s → Ends b s ts → After b s ts t
 after-all b (Due k) ts t k' f e = (k', e, f)
 after-all b (Have a k) ts t k' f e = (k', e, f)
 after-all b (HalfAnd a k) ts t k' f e = (k', e, f)
@@ -138,11 +138,11 @@ after-all b (HalfOr a k) ts t k' f e = (k', e, f)
 after-all b (Done a) ts t k' f e = e
 after-all b Stop ts t k' f e = tt
 
-pub step-after : (b : ℕ) (s : State) (t : Kind) → IsOperand t → Fits b s → Good s → depth (step s t) ≤ b → After b (step s t) (spelled s) t
+pub step-after : (b : ℕ) (s : ExpressionState) (t : Kind) → IsOperand t → Fits b s → Good s → depth (step s t) ≤ b → After b (step s t) (spelled s) t
 step-after b s t o f g d = after-all b (step s t) (spelled s) t (step-keeps s t) (step-fits b s t f d) (step-ends b s t o f g)
 
 -- Numbers that are too great for an expression are no operands.
-over_going : (s : State) → IsOver s → IsGoing s → ⊥
+over_going : (s : ExpressionState) → IsOver s → IsGoing s → ⊥
 over_going (Due k) h g = h
 over_going (Have a k) h g = h
 over_going (HalfAnd a k) h g = h
@@ -150,7 +150,7 @@ over_going (HalfOr e k) h g = h
 over_going (Done e) h g = g
 over_going Stop h g = g
 
-big-ends : (s : State) → IsGoing (step s BigNumber) → ⊥
+big-ends : (s : ExpressionState) → IsGoing (step s BigNumber) → ⊥
 big-ends (Due k) g = g
 big-ends (Have a k) g = over_going _ (other-over (only_atom a) k) g
 big-ends (HalfAnd a k) g = g
@@ -158,12 +158,12 @@ big-ends (HalfOr e k) g = g
 big-ends (Done e) g = g
 big-ends Stop g = g
 
-number-taken : (s : State) (n : ℕ) (c : Bool) → IsGoing (step s (if c then Number n else BigNumber)) → (if c then Number n else BigNumber) ≡ Number n
+number-taken : (s : ExpressionState) (n : ℕ) (c : Bool) → IsGoing (step s (if c then Number n else BigNumber)) → (if c then Number n else BigNumber) ≡ Number n
 number-taken s n true g = refl
 number-taken s n false g = absurd (big-ends s g)
 
 -- a token that is taken stands in an expression as it is
-pub small-taken : (s : State) (t : Kind) → IsGoing (step s (small t)) → small t ≡ t
+pub small-taken : (s : ExpressionState) (t : Kind) → IsGoing (step s (small t)) → small t ≡ t
 small-taken s (Number n) g = number-taken s n (nat_lt n (2 ^ 63)) g
 small-taken s t g = refl
 
@@ -212,7 +212,7 @@ mutual
   fill_around-good e no_parens i j = i
   fill_around-good e (in_parens k) i j = fill_unary-good (only_atom (parens e)) k i j
 
-pub completed-good : (s : State) → IsGoing s → Good s → IsExpr (completed s)
+pub completed-good : (s : ExpressionState) → IsGoing s → Good s → IsExpr (completed s)
 completed-good (Due k) g j = fill_unary-good (only_atom (number 0)) k (omega arith) j
 completed-good (Have a k) g j = fill_unary-good (only_atom a) k j.0 j.1
 completed-good (HalfAnd a k) g j = fill_expr-good (and a (only_sum (only_term (only_unary (only_atom (number 0)))))) k (j.0, omega arith) j.1

@@ -3,8 +3,8 @@ use Rattle.std.proofs.Common.{◌≡◌, ◌⊎◌, inl, inr, ℕ, zero, suc, Bo
 use Rattle.lsys_syntax.specs.Tokens.{Kind, Number, Name, BigNumber, Arrow, LeftParen, Bang, Equal, Unequal, AtMost, AtLeast, RightParen, Plus, Minus, Times, Slash, Percent, Ampersand, Bar, Caret, Less, Greater}
 use Rattle.lsys_syntax.specs.Strings.{EachOf}
 use Rattle.lsys_syntax.specs.Expressions.{multiply, divide, remainder, add, subtract, RelOp, equal, unequal, less, at_most, greater, at_least, Expr, only_and, or, And, only_rel, and, Rel, only_sum, compare, Sum, only_term, total, Term, only_unary, product, Unary, negated, inverted, only_atom, raised, Atom, expr_kinds, IsExpr}
-use Rattle.lsys_syntax.specs.ExpressionMachine.{InUnary, negating, inverting, raising, in_term, InTerm, first_unary, next_unary, InSum, first_term, next_term, InRel, first_sum, second_sum, InAnd, first_rel, next_rel, InExpr, first_and, next_and, Around, no_parens, in_parens, State, Due, Have, HalfAnd, HalfOr, Done, Stop, closing, other, half_or, ends_expr, half_and, ends_and, comparing, rel_step, ends_rel, more_sum, ends_sum, AfterUnary, more_term, ends_term, expr_step, what_follows, compared, closed, ended, AfterAtom, powering, ends_unary, after_unary, after_operand, after_atom, due_step, half_and_step, half_or_step, start_expr, step, run, end_step, finished}
-use Rattle.lsys_syntax.specs.ExpressionPlaces.{BeginsExpression, IsAnyExpression, BeginsAnyExpression, CantGoOn, read_expr, Extent, ends, stops, too_deep, at_end, behind, extent_from, extent}
+use Rattle.lsys_syntax.specs.ExpressionMachine.{InUnary, negating, inverting, raising, in_term, InTerm, first_unary, next_unary, InSum, first_term, next_term, InRel, first_sum, second_sum, InAnd, first_rel, next_rel, InExpr, first_and, next_and, Around, no_parens, in_parens, ExpressionState, Due, Have, HalfAnd, HalfOr, Done, Stop, closing, other, half_or, ends_expr, half_and, ends_and, comparing, rel_step, ends_rel, more_sum, ends_sum, AfterUnary, more_term, ends_term, expr_step, what_follows, compared, closed, ended, AfterAtom, powering, ends_unary, after_unary, after_operand, after_atom, due_step, half_and_step, half_or_step, start_expr, step, run, end_step, finished}
+use Rattle.lsys_syntax.specs.ExpressionPlaces.{BeginsExpression, IsAnyExpression, BeginsAnyExpression, CantGoOn, read_expr, Extent, ends, stops, too_deep, at_end, extent_behind, extent_from, extent}
 use Rattle.lsys_syntax.specs.Completions.{spelled, completion, completed}
 use Rattle.lsys_syntax.specs.Nesting.{expr_nesting, depth, StaysWithin}
 use Rattle.lsys_syntax.specs.RuleMachine.{small}
@@ -19,7 +19,7 @@ use Rattle.lsys_syntax.proofs.LineSound.{not_deep}
 use Rattle.lsys_syntax.proofs.Places.{tokens-front, is_deep}
 
 -- the state behind some tokens
-abbrev runs : State → List Kind → State
+abbrev runs : ExpressionState → List Kind → ExpressionState
 runs s ks = run s (map small ks)
 
 run-stop : (ts : List Kind) → run Stop ts ≡ Stop
@@ -27,7 +27,7 @@ run-stop [] = refl
 run-stop (t ∷ ts) = run-stop ts
 
 -- what goes on in the end went on before
-goes-before : (ts : List Kind) (s : State) → IsGoing (run s ts) → IsGoing s
+goes-before : (ts : List Kind) (s : ExpressionState) → IsGoing (run s ts) → IsGoing s
 goes-before [] s h = h
 goes-before (t ∷ ts) (Due k) h = tt
 goes-before (t ∷ ts) (Have a k) h = tt
@@ -37,16 +37,16 @@ goes-before (t ∷ ts) (Done e) h = subst IsGoing (run-stop ts) h
 goes-before (t ∷ ts) Stop h = subst IsGoing (run-stop ts) h
 
 -- The tokens are taken, no deeper than b.
-abbrev Goes : ℕ → State → List Kind → Type 0
+abbrev Goes : ℕ → ExpressionState → List Kind → Type 0
 Goes b s ks = StaysWithin b s (map small ks) × IsGoing (runs s ks)
 
 -- With the first of these tokens, if there is one, the state doesn't go on.
-abbrev OverNext : State → List Kind → Type 0
+abbrev OverNext : ExpressionState → List Kind → Type 0
 OverNext r [] = Unit {0}
 OverNext r (k ∷ ks) = IsOver (step r (small k))
 
 -- What follows at a place: the end of the expression, or why it doesn't go on.
-abbrev Here : Extent → ℕ → State → List Kind → Type 0
+abbrev Here : Extent → ℕ → ExpressionState → List Kind → Type 0
 Here (ends d e) m r ks = (d ≡ m) × (end_step r ≡ Done e) × OverNext r ks
 Here (stops d) m r ks = (d ≡ m) × (end_step r ≡ Stop) × OverNext r ks
 Here (too_deep d) m r [] = ⊥
@@ -99,7 +99,7 @@ half_or-done : (t : Kind) (x : Expr) (k : Around) (e : Expr) → half_or_step t 
 half_or-done Bar x k e q = cc
 half_or-done t x k e q = cc
 
-pub step-done : (s : State) (t : Kind) (e : Expr) → step s t ≡ Done e → end_step s ≡ Done e
+pub step-done : (s : ExpressionState) (t : Kind) (e : Expr) → step s t ≡ Done e → end_step s ≡ Done e
 step-done (Due k) t e q = absurd (due-done t k e q)
 step-done (Have a k) t e q = atom-done (what_follows t) a k e q
 step-done (HalfAnd a k) t e q = absurd (half_and-done t a k e q)
@@ -108,28 +108,28 @@ step-done (Done x) t e q = cc
 step-done Stop t e q = cc
 
 -- The j tokens before place m are taken, of which n come before these.
-abbrev Reached : Extent → State → List Kind → ℕ → Type 0
+abbrev Reached : Extent → ExpressionState → List Kind → ℕ → Type 0
 Reached x s ks n = (j : ℕ) × (m : ℕ) × (m ≡ n + j) × (j ≤ length ks) × Goes 32 s (take j ks) × Here x m (runs s (take j ks)) (drop j ks)
 
 -- nothing goes on
-reached-end : (ks : List Kind) (n : ℕ) (s s' : State) → IsGoing s → IsOver s' → end_step s ≡ s' → OverNext s ks → Reached (at_end n s') s ks n
+reached-end : (ks : List Kind) (n : ℕ) (s s' : ExpressionState) → IsGoing s → IsOver s' → end_step s ≡ s' → OverNext s ks → Reached (at_end n s') s ks n
 reached-end ks n s (Done e) g h q o = (0, n, omega arith, omega arith, (tt, g), (refl, q, o))
 reached-end ks n s Stop g h q o = (0, n, omega arith, omega arith, (tt, g), (refl, q, o))
 reached-end ks n s s' g h q o = elim h [ ]
 
-end-over : (s : State) → IsOver (end_step s)
+end-over : (s : ExpressionState) → IsOver (end_step s)
 end-over (Have a k) = other-over (only_atom a) k
 end-over s = tt
 
-reached-later : (k : Kind) (ks : List Kind) (n : ℕ) (s : State) (x : Extent) → depth (step s (small k)) ≤ 32 → Reached x (step s (small k)) ks (n + 1) → Reached x s (k ∷ ks) n
+reached-later : (k : Kind) (ks : List Kind) (n : ℕ) (s : ExpressionState) (x : Extent) → depth (step s (small k)) ≤ 32 → Reached x (step s (small k)) ks (n + 1) → Reached x s (k ∷ ks) n
 reached-later k ks n s x d r = (suc r.0, r.1, omega (arith, r.2), omega (arith, r.3), ((d, r.4.0), r.4.1), r.5)
 
-reached-going : (k : Kind) (ks : List Kind) (n : ℕ) (s : State) (x : Extent) (c : Bool) → nat_lt 32 (depth (step s (small k))) ≡ c → IsGoing s → IsGoing (step s (small k))
+reached-going : (k : Kind) (ks : List Kind) (n : ℕ) (s : ExpressionState) (x : Extent) (c : Bool) → nat_lt 32 (depth (step s (small k))) ≡ c → IsGoing s → IsGoing (step s (small k))
     → (IsGoing (step s (small k)) → Reached x (step s (small k)) ks (n + 1)) → Reached (if c then too_deep n else x) s (k ∷ ks) n
 reached-going k ks n s x true e g h f = (0, n, omega arith, omega arith, (tt, g), (refl, h, is_deep 32 (depth (step s (small k))) e))
 reached-going k ks n s x false e g h f = reached-later k ks n s x (not_deep 32 (depth (step s (small k))) e) (f h)
 
-behind-going : (n : ℕ) (s t : State) (x : Extent) → IsGoing t → behind n s t x ≡ (if nat_lt 32 (depth t) then too_deep n else x)
+behind-going : (n : ℕ) (s t : ExpressionState) (x : Extent) → IsGoing t → extent_behind n s t x ≡ (if nat_lt 32 (depth t) then too_deep n else x)
 behind-going n s (Due k) x h = refl
 behind-going n s (Have a k) x h = refl
 behind-going n s (HalfAnd a k) x h = refl
@@ -138,10 +138,10 @@ behind-going n s (Done e) x h = elim h [ ]
 behind-going n s Stop x h = elim h [ ]
 
 -- how a state stands: done, stopped or going on
-abbrev Kinds : State → Type 0
+abbrev Kinds : ExpressionState → Type 0
 Kinds s = ((e : Expr) × (s ≡ Done e)) ⊎ ((s ≡ Stop) ⊎ IsGoing s)
 
-kinds : (s : State) → Kinds s
+kinds : (s : ExpressionState) → Kinds s
 kinds (Due k) = inr (inr tt)
 kinds (Have a k) = inr (inr tt)
 kinds (HalfAnd a k) = inr (inr tt)
@@ -149,16 +149,16 @@ kinds (HalfOr e k) = inr (inr tt)
 kinds (Done e) = inl (e, refl)
 kinds Stop = inr (inl refl)
 
-reached-next : (k : Kind) (ks : List Kind) (n : ℕ) (s : State) (x : Extent) → IsGoing s → Kinds (step s (small k))
-    → (IsGoing (step s (small k)) → Reached x (step s (small k)) ks (n + 1)) → Reached (behind n s (step s (small k)) x) s (k ∷ ks) n
-reached-next k ks n s x g (inl h) f = subst (λ y. Reached (behind n s y x) s (k ∷ ks) n) (sym h.1)
+reached-next : (k : Kind) (ks : List Kind) (n : ℕ) (s : ExpressionState) (x : Extent) → IsGoing s → Kinds (step s (small k))
+    → (IsGoing (step s (small k)) → Reached x (step s (small k)) ks (n + 1)) → Reached (extent_behind n s (step s (small k)) x) s (k ∷ ks) n
+reached-next k ks n s x g (inl h) f = subst (λ y. Reached (extent_behind n s y x) s (k ∷ ks) n) (sym h.1)
     (0, n, omega arith, omega arith, (tt, g), (refl, step-done s (small k) h.0 h.1, subst IsOver (sym h.1) tt))
-reached-next k ks n s x g (inr (inl h)) f = subst (λ y. Reached (behind n s y x) s (k ∷ ks) n) (sym h)
+reached-next k ks n s x g (inr (inl h)) f = subst (λ y. Reached (extent_behind n s y x) s (k ∷ ks) n) (sym h)
     (reached-end (k ∷ ks) n s (end_step s) g (end-over s) refl (subst IsOver (sym h) tt))
 reached-next k ks n s x g (inr (inr h)) f = subst (λ y. Reached y s (k ∷ ks) n) (sym (behind-going n s (step s (small k)) x h))
     (reached-going k ks n s x (nat_lt 32 (depth (step s (small k)))) refl g h f)
 
-reached-from : (ks : List Kind) (n : ℕ) (s : State) → IsGoing s → Reached (extent_from n s ks) s ks n
+reached-from : (ks : List Kind) (n : ℕ) (s : ExpressionState) → IsGoing s → Reached (extent_from n s ks) s ks n
 reached-from [] n s g = reached-end [] n s (end_step s) g (end-over s) refl tt
 reached-from (k ∷ ks) n s g = reached-next k ks n s (extent_from (n + 1) (step s (small k)) ks) g (kinds (step s (small k))) (λ h. reached-from ks (n + 1) (step s (small k)) h)
 
@@ -166,7 +166,7 @@ reached-from (k ∷ ks) n s g = reached-next k ks n s (extent_from (n + 1) (step
 abbrev At : Extent → List Kind → ℕ → Type 0
 At x ks d = (d ≤ length ks) × Goes 32 (start_expr no_parens) (take d ks) × Here x d (runs (start_expr no_parens) (take d ks)) (drop d ks)
 
-here-same : (x : Extent) (ks : List Kind) (m j : ℕ) (r : State) → m ≡ 0 + j → Here x m r ks → Here x j r ks
+here-same : (x : Extent) (ks : List Kind) (m j : ℕ) (r : ExpressionState) → m ≡ 0 + j → Here x m r ks → Here x j r ks
 here-same x ks m j r e h = let same : m ≡ j = omega (arith, e) in subst (λ i. Here x i r ks) same h
 
 found : (ks : List Kind) (x : Extent) → extent ks ≡ x → (j : ℕ) × At x ks j
@@ -175,10 +175,10 @@ found ks x e =
     (r.0, (r.3, r.4, here-same x (drop r.0 ks) r.1 r.0 (runs (start_expr no_parens) (take r.0 ks)) r.2 r.5))
 
 -- what the tokens have made of a state
-abbrev Taken : ℕ → State → List Kind → Type 0
+abbrev Taken : ℕ → ExpressionState → List Kind → Type 0
 Taken b r ts = (spelled r ≡ ts) × Good r × Fits b r
 
-after-going : (b : ℕ) (s : State) (ts : List Kind) (t : Kind) → IsGoing s → After b s ts t → (spelled s ≡ ts ++ t ∷ []) × Good s × Fits b s
+after-going : (b : ℕ) (s : ExpressionState) (ts : List Kind) (t : Kind) → IsGoing s → After b s ts t → (spelled s ≡ ts ++ t ∷ []) × Good s × Fits b s
 after-going b (Due k) ts t g h = h
 after-going b (Have a k) ts t g h = h
 after-going b (HalfAnd a k) ts t g h = h
@@ -190,7 +190,7 @@ token-named : (k : Kind) → IsToken k → IsNamed k
 token-named (Name n) h = h
 token-named k h = tt
 
-taken : (b : ℕ) (ks : List Kind) (s : State) (ts : List Kind) → Good s → Fits b s → spelled s ≡ ts → AreTokens ks → Goes b s ks → Taken b (runs s ks) (ts ++ ks)
+taken : (b : ℕ) (ks : List Kind) (s : ExpressionState) (ts : List Kind) → Good s → Fits b s → spelled s ≡ ts → AreTokens ks → Goes b s ks → Taken b (runs s ks) (ts ++ ks)
 taken b [] s ts i f e g h = (e ∙ sym (append-nil ts), i, f)
 taken b (k ∷ ks) s ts i f e g h =
     let goes : IsGoing (step s (small k)) = goes-before (map small ks) (step s (small k)) h.1 in
@@ -206,16 +206,16 @@ taken-all b ks g h = taken b ks (start_expr no_parens) [] tt (omega arith, tt) r
 -- Some expression begins with tokens that are taken.
 taken-begins : (b : ℕ) (ks : List Kind) → AreTokens ks → Goes b (start_expr no_parens) ks → BeginsExpression b ks
 taken-begins b ks g h =
-    let r : State = runs (start_expr no_parens) ks in
+    let r : ExpressionState = runs (start_expr no_parens) ks in
     let t : Taken b r ks = taken-all b ks g h in
     (completion r, (completed r, completes r h.1 ∙ ap (λ us. us ++ completion r) t.0, completed-good r h.1 t.1, completed-nesting b r h.1 t.2))
 
 -- the deepest of the states on the way
-abbrev deepest : State → List Kind → ℕ
+abbrev deepest : ExpressionState → List Kind → ℕ
 deepest s [] = 0
 deepest s (t ∷ ts) = max (depth (step s t)) (deepest (step s t) ts)
 
-deepest-within : (b : ℕ) (ts : List Kind) (s : State) → deepest s ts ≤ b → StaysWithin b s ts
+deepest-within : (b : ℕ) (ts : List Kind) (s : ExpressionState) → deepest s ts ≤ b → StaysWithin b s ts
 deepest-within b [] s h = tt
 deepest-within b (t ∷ ts) s h = (omega (arith, h), deepest-within b ts (step s t) (omega (arith, h)))
 
@@ -242,7 +242,7 @@ over-none ks h g =
     let e : Expr = g.1.1.0 in
     begins_not ks g.1.0 e (subst (λ ts. IsOver (run (start_expr no_parens) ts)) (front-small ks g.1.0 e g.1.1.2 g.1.1.1) h) g.1.1.1
 
-next-run : (ks : List Kind) (j : ℕ) (s : State) (k : Kind) (js : List Kind) → drop j ks ≡ k ∷ js → runs s (take (suc j) ks) ≡ step (runs s (take j ks)) (small k)
+next-run : (ks : List Kind) (j : ℕ) (s : ExpressionState) (k : Kind) (js : List Kind) → drop j ks ≡ k ∷ js → runs s (take (suc j) ks) ≡ step (runs s (take j ks)) (small k)
 next-run [] zero s k js e = cc
 next-run [] (suc j) s k js e = cc
 next-run (k' ∷ ks) zero s k js e = let same : k' ≡ k = cc in ap (λ t. step s (small t)) same
@@ -260,10 +260,10 @@ drop-long (k' ∷ ks) zero k js e = omega arith
 drop-long (k' ∷ ks) (suc j) k js e = let h : j < length ks = drop-long ks j k js e in omega (arith, h)
 
 -- The state before the place of an end, and a token that ends it.
-abbrev Ending : State → Expr → Type 0
+abbrev Ending : ExpressionState → Expr → Type 0
 Ending r e = (t : Kind) × IsOperand t × (step r t ≡ Done e)
 
-end-as-step : (s : State) → end_step s ≡ step s Arrow
+end-as-step : (s : ExpressionState) → end_step s ≡ step s Arrow
 end-as-step (Due k) = refl
 end-as-step (Have a k) = refl
 end-as-step (HalfAnd a k) = refl
@@ -271,7 +271,7 @@ end-as-step (HalfOr e k) = refl
 end-as-step (Done e) = refl
 end-as-step Stop = refl
 
-ending : (r : State) (e : Expr) → end_step r ≡ Done e → Ending r e
+ending : (r : ExpressionState) (e : Expr) → end_step r ≡ Done e → Ending r e
 ending r e h = (Arrow, tt, sym (end-as-step r) ∙ h)
 
 pub tokens-rest : (n : ℕ) (ks : List Kind) → AreTokens ks → AreTokens (drop n ks)
@@ -279,7 +279,7 @@ tokens-rest zero ks g = g
 tokens-rest (suc n) [] g = tt
 tokens-rest (suc n) (k ∷ ks) g = tokens-rest n ks g.1
 
-here-over : (x : Extent) (j : ℕ) (r : State) (k : Kind) (js : List Kind) → Here x j r (k ∷ js) → ((d : ℕ) → x ≡ too_deep d → ⊥) → IsOver (step r (small k))
+here-over : (x : Extent) (j : ℕ) (r : ExpressionState) (k : Kind) (js : List Kind) → Here x j r (k ∷ js) → ((d : ℕ) → x ≡ too_deep d → ⊥) → IsOver (step r (small k))
 here-over (ends d e) j r k js h never = h.2
 here-over (stops d) j r k js h never = h.2
 here-over (too_deep d) j r k js h never = absurd (never d refl)
@@ -290,7 +290,7 @@ here-place (ends d e) = d
 here-place (stops d) = d
 here-place (too_deep d) = d
 
-here-is : (x : Extent) (j : ℕ) (r : State) (ks : List Kind) → Here x j r ks → here-place x ≡ j
+here-is : (x : Extent) (j : ℕ) (r : ExpressionState) (ks : List Kind) → Here x j r ks → here-place x ≡ j
 here-is (ends d e) j r ks h = h.0
 here-is (stops d) j r ks h = h.0
 here-is (too_deep d) j r [] h = elim h [ ]
@@ -304,7 +304,7 @@ at ks x e =
 at-over : (ks : List Kind) (x : Extent) (d : ℕ) → At x ks d → ((i : ℕ) → x ≡ too_deep i → ⊥) → d < length ks → BeginsAnyExpression (take (suc d) ks) → ⊥
 at-over ks x d a never h g =
     let m : (k : Kind) × (js : List Kind) × (drop d ks ≡ k ∷ js) = drop-short ks d h in
-    let r : State = runs (start_expr no_parens) (take d ks) in
+    let r : ExpressionState = runs (start_expr no_parens) (take d ks) in
     let over : IsOver (step r (small m.0)) = here-over x d r m.0 m.1 (subst (Here x d r) m.2 a.2) never in
     over-none (take (suc d) ks) (subst IsOver (sym (next-run ks d (start_expr no_parens) m.0 m.1 m.2)) over) g
 
@@ -312,7 +312,7 @@ at-over ks x d a never h g =
 pub ends-whole : (ks : List Kind) (d : ℕ) (e : Expr) → AreTokens ks → extent ks ≡ ends d e → (d ≤ length ks) × (expr_kinds e ≡ take d ks) × IsExpr e × (expr_nesting e ≤ 32)
 ends-whole ks d e g q =
     let a : At (ends d e) ks d = at ks (ends d e) q in
-    let r : State = runs (start_expr no_parens) (take d ks) in
+    let r : ExpressionState = runs (start_expr no_parens) (take d ks) in
     let t : Taken 32 r (take d ks) = taken-all 32 (take d ks) (tokens-front d ks g) a.1 in
     let n : Ending r e = ending r e a.2.1 in
     let w : After 32 (Done e) (spelled r) n.0 = subst (λ s. After 32 s (spelled r) n.0) n.2 (step-after 32 r n.0 n.1 t.2 t.1 (subst (λ s. depth s ≤ 32) (sym n.2) (omega arith))) in
@@ -336,7 +336,7 @@ stop-last ks d q = at-over ks (stops d) d (at ks (stops d) q) (λ i p. none i p)
     none : (i : ℕ) → stops d ≡ too_deep i → ⊥
     none i p = cc
 
-deep-so : (rest : List Kind) (j d : ℕ) (r : State) → Here (too_deep d) j r rest → (k : Kind) × (js : List Kind) × (rest ≡ k ∷ js) × IsGoing (step r (small k)) × (32 < depth (step r (small k)))
+deep-so : (rest : List Kind) (j d : ℕ) (r : ExpressionState) → Here (too_deep d) j r rest → (k : Kind) × (js : List Kind) × (rest ≡ k ∷ js) × IsGoing (step r (small k)) × (32 < depth (step r (small k)))
 deep-so [] j d r h = elim h [ ]
 deep-so (k ∷ rest) j d r h = (k, rest, refl, h.1, h.2)
 
@@ -347,7 +347,7 @@ Deeper ks d = (d < length ks) × IsGoing (runs (start_expr no_parens) (take (suc
 deeper : (ks : List Kind) (d : ℕ) → extent ks ≡ too_deep d → Deeper ks d
 deeper ks d q =
     let a : At (too_deep d) ks d = at ks (too_deep d) q in
-    let r : State = runs (start_expr no_parens) (take d ks) in
+    let r : ExpressionState = runs (start_expr no_parens) (take d ks) in
     let m : (k : Kind) × (js : List Kind) × (drop d ks ≡ k ∷ js) × IsGoing (step r (small k)) × (32 < depth (step r (small k))) = deep-so (drop d ks) d d r a.2 in
     let same : runs (start_expr no_parens) (take (suc d) ks) ≡ step r (small m.0) = next-run ks d (start_expr no_parens) m.0 m.1 m.2 in
     (drop-long ks d m.0 m.1 m.2, subst IsGoing (sym same) m.3, subst (λ s. 32 < depth s) (sym same) m.4)
@@ -356,7 +356,7 @@ deeper ks d q =
 pub deep-begins : (ks : List Kind) (d : ℕ) → AreTokens ks → extent ks ≡ too_deep d → (d < length ks) × BeginsExpression 32 (take d ks)
 deep-begins ks d g q = ((deeper ks d q).0, taken-begins 32 (take d ks) (tokens-front d ks g) (at ks (too_deep d) q).1)
 
-within-last : (b : ℕ) (ts : List Kind) (s : State) → depth s ≤ b → StaysWithin b s ts → depth (run s ts) ≤ b
+within-last : (b : ℕ) (ts : List Kind) (s : ExpressionState) → depth s ≤ b → StaysWithin b s ts → depth (run s ts) ≤ b
 within-last b [] s d h = d
 within-last b (t ∷ ts) s d h = within-last b ts (step s t) h.0 h.1
 
@@ -379,7 +379,7 @@ pub ends-read : (ks : List Kind) (d : ℕ) (e : Expr) → extent ks ≡ ends d e
 ends-read ks d e q = ap finished (at ks (ends d e) q).2.1
 
 -- Behind a whole expression an operand was read.
-abbrev Has : State → Type 0
+abbrev Has : ExpressionState → Type 0
 Has s = (a : Atom) × (k : InUnary) × (s ≡ Have a k)
 
 has-unary : (u : Unary) (k : InUnary) → Has (leave_unary u k)
@@ -414,18 +414,18 @@ run-whole e = ap (run (start_expr no_parens)) (sym (append-nil (expr_kinds e))) 
 end-whole : (e : Expr) → end_step (leave_expr e no_parens) ≡ Done e
 end-whole e = expr_left end_step other (λ a j. refl) e no_parens
 
-pub within-rest : (n : ℕ) (x : Extent) (s t : State) → depth t ≤ 32 → IsGoing t → behind n s t x ≡ x
+pub within-rest : (n : ℕ) (x : Extent) (s t : ExpressionState) → depth t ≤ 32 → IsGoing t → extent_behind n s t x ≡ x
 within-rest n x s t d g = behind-going n s t x g ∙ ap (λ c. if c then too_deep n else x) (shallow (depth t) (nat_lt 32 (depth t)) refl d)
   where
     shallow : (m : ℕ) (c : Bool) → nat_lt 32 m ≡ c → m ≤ 32 → c ≡ false
     shallow m false q h = refl
     shallow m true q h = let more : 32 < m = is_deep 32 m q in absurd (omega (arith, more, h))
 
-pub behind-deep : (n : ℕ) (x : Extent) (s t : State) → 32 < depth t → IsGoing t → behind n s t x ≡ too_deep n
+pub behind-deep : (n : ℕ) (x : Extent) (s t : ExpressionState) → 32 < depth t → IsGoing t → extent_behind n s t x ≡ too_deep n
 behind-deep n x s t d g = behind-going n s t x g ∙ ap (λ c. if c then too_deep n else x) (lt-ltb 32 (depth t) d)
 
 -- Tokens that are taken are passed over.
-through : (ks rest : List Kind) (n m : ℕ) (s : State) → Goes 32 s ks → m ≡ n + length ks → extent_from n s (ks ++ rest) ≡ extent_from m (runs s ks) rest
+through : (ks rest : List Kind) (n m : ℕ) (s : ExpressionState) → Goes 32 s ks → m ≡ n + length ks → extent_from n s (ks ++ rest) ≡ extent_from m (runs s ks) rest
 through [] rest n m s g e = let same : n ≡ m = omega (arith, e) in ap (λ i. extent_from i s rest) same
 through (k ∷ ks) rest n m s g e =
     within-rest n (extent_from (n + 1) (step s (small k)) (ks ++ rest)) s (step s (small k)) g.0.0 (goes-before (map small ks) (step s (small k)) g.1)
@@ -439,8 +439,8 @@ small-follows : (k : Kind) → what_follows k ≡ expr_step other → what_follo
 small-follows (Number n) h = number-follows n (nat_lt n (2 ^ 63))
 small-follows k h = h
 
-ends-here : (n : ℕ) (e : Expr) (s : State) (k : Kind) (ks : List Kind) → step s (small k) ≡ Done e → extent_from n s (k ∷ ks) ≡ ends n e
-ends-here n e s k ks q = ap (λ t. behind n s t (extent_from (n + 1) (step s (small k)) ks)) q
+ends-here : (n : ℕ) (e : Expr) (s : ExpressionState) (k : Kind) (ks : List Kind) → step s (small k) ≡ Done e → extent_from n s (k ∷ ks) ≡ ends n e
+ends-here n e s k ks q = ap (λ t. extent_behind n s t (extent_from (n + 1) (step s (small k)) ks)) q
 
 whole-ends : (e : Expr) (n : ℕ) (rest : List Kind) → CantGoOn rest → extent_from n (leave_expr e no_parens) rest ≡ ends n e
 whole-ends e n [] h = ap (at_end n) (end-whole e)
@@ -485,7 +485,7 @@ operand-stops f u (inverting k) q = operand-stops f (inverted u) k q
 operand-stops f u (raising a k) q = operand-stops f (raised a u) k q
 operand-stops f u (in_term k) q = unary-stops f u k q
 
-done-or-stop : (s : State) (e : Expr) → s ≡ Done e → s ≡ Stop → ⊥
+done-or-stop : (s : ExpressionState) (e : Expr) → s ≡ Done e → s ≡ Stop → ⊥
 done-or-stop s e p q = cc
 
 -- The token is a comparison.
@@ -514,7 +514,7 @@ have-compares RightParen a u e q h = absurd (operand-stops (ends_term (ends_sum 
 have-compares k a u e q h = absurd (other-stops k a u e (small-follows k refl) q h)
 
 -- A token at which the machine stops behind a whole expression is a comparison.
-pub stop-compares : (s : State) (k : Kind) (e : Expr) → step s (small k) ≡ Stop → end_step s ≡ Done e → IsComparison k
+pub stop-compares : (s : ExpressionState) (k : Kind) (e : Expr) → step s (small k) ≡ Stop → end_step s ≡ Done e → IsComparison k
 stop-compares (Due u) k e q h = cc
 stop-compares (Have a u) k e q h = have-compares k a u e q h
 stop-compares (HalfAnd a u) k e q h = cc

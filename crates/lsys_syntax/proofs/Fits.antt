@@ -2,7 +2,7 @@
 use Rattle.std.proofs.Common.{ℕ, ◌+◌, ◌≤◌, List, [], ◌∷◌, arith}
 use Rattle.lsys_syntax.specs.Tokens.{Kind, Name, Number, LeftParen, Minus, Ampersand, Bar, Bang}
 use Rattle.lsys_syntax.specs.Expressions.{Expr, only_and, or, And, only_rel, and, Rel, only_sum, compare, Sum, only_term, total, Term, only_unary, product, Unary, negated, inverted, only_atom, raised, Atom, number, parens}
-use Rattle.lsys_syntax.specs.ExpressionMachine.{InUnary, negating, inverting, raising, in_term, InTerm, first_unary, next_unary, InSum, first_term, next_term, InRel, first_sum, second_sum, InAnd, first_rel, next_rel, InExpr, first_and, next_and, Around, no_parens, in_parens, State, Due, Have, HalfAnd, HalfOr, Done, Stop, AfterExpr, closing, other, AfterAnd, half_or, ends_expr, AfterRel, half_and, ends_and, AfterSum, comparing, ends_rel, AfterTerm, more_sum, ends_sum, AfterUnary, more_term, ends_term, AfterAtom, powering, ends_unary, what_follows, after_expr, after_and, after_rel, after_sum, after_term, after_unary, after_operand, after_atom, start_expr, step, run}
+use Rattle.lsys_syntax.specs.ExpressionMachine.{InUnary, negating, inverting, raising, in_term, InTerm, first_unary, next_unary, InSum, first_term, next_term, InRel, first_sum, second_sum, InAnd, first_rel, next_rel, InExpr, first_and, next_and, Around, no_parens, in_parens, ExpressionState, Due, Have, HalfAnd, HalfOr, Done, Stop, AfterExpr, closing, other, AfterAnd, half_or, ends_expr, AfterRel, half_and, ends_and, AfterSum, comparing, ends_rel, AfterTerm, more_sum, ends_sum, AfterUnary, more_term, ends_term, AfterAtom, powering, ends_unary, what_follows, after_expr, after_and, after_rel, after_sum, after_term, after_unary, after_operand, after_atom, start_expr, step, run}
 use Rattle.lsys_syntax.specs.Completions.{fill_unary, fill_term, fill_sum, fill_rel, fill_and, fill_expr, fill_around, completed}
 use Rattle.lsys_syntax.specs.Nesting.{expr_nesting, and_nesting, rel_nesting, sum_nesting, term_nesting, unary_nesting, atom_nesting, unary_depth, term_depth, sum_depth, rel_depth, and_depth, expr_depth, around_depth, depth, StaysWithin}
 use Rattle.lsys_syntax.proofs.Sound.{IsGoing}
@@ -39,7 +39,7 @@ abbrev mutual
   FitsAround b no_parens = Unit {0}
   FitsAround b (in_parens k) = FitsUnary b k
 
-abbrev pub Fits : ℕ → State → Type 0
+abbrev pub Fits : ℕ → ExpressionState → Type 0
 Fits b (Due k) = (unary_depth k ≤ b) × FitsUnary b k
 Fits b (Have a k) = (unary_depth k + atom_nesting a ≤ b) × FitsUnary b k
 Fits b (HalfAnd a k) = (expr_depth k + and_nesting a ≤ b) × FitsExpr b k
@@ -78,7 +78,7 @@ mutual
   fill_around-nesting b e no_parens h f = omega (arith, h)
   fill_around-nesting b e (in_parens k) h f = fill_unary-nesting b (only_atom (parens e)) k (omega (arith, h)) f
 
-pub completed-nesting : (b : ℕ) (s : State) → IsGoing s → Fits b s → expr_nesting (completed s) ≤ b
+pub completed-nesting : (b : ℕ) (s : ExpressionState) → IsGoing s → Fits b s → expr_nesting (completed s) ≤ b
 completed-nesting b (Due k) g f = fill_unary-nesting b (only_atom (number 0)) k (omega (arith, f.0)) f.1
 completed-nesting b (Have a k) g f = fill_unary-nesting b (only_atom a) k f.0 f.1
 completed-nesting b (HalfAnd a k) g f = fill_expr-nesting b (and a (only_sum (only_term (only_unary (only_atom (number 0)))))) k (omega (arith, f.0)) f.1
@@ -133,7 +133,7 @@ after_atom-fits : (b : ℕ) (f : AfterAtom) (a : Atom) (k : InUnary) → unary_d
 after_atom-fits b powering a k h g d = (d, (h, g))
 after_atom-fits b (ends_unary f) a k h g d = after_operand-fits b f (only_atom a) k h g
 
-pub step-fits : (b : ℕ) (s : State) (t : Kind) → Fits b s → depth (step s t) ≤ b → Fits b (step s t)
+pub step-fits : (b : ℕ) (s : ExpressionState) (t : Kind) → Fits b s → depth (step s t) ≤ b → Fits b (step s t)
 step-fits b (Due k) (Number n) f d = (omega (arith, f.0), f.1)
 step-fits b (Due k) (Name n) f d = (omega (arith, f.0), f.1)
 step-fits b (Due k) LeftParen f d = (d, f.1)
@@ -148,7 +148,7 @@ step-fits b (HalfOr e k) t f d = tt
 step-fits b (Done e) t f d = tt
 step-fits b Stop t f d = tt
 
-pub run-fits : (b : ℕ) (ts : List Kind) (s : State) → Fits b s → StaysWithin b s ts → Fits b (run s ts)
+pub run-fits : (b : ℕ) (ts : List Kind) (s : ExpressionState) → Fits b s → StaysWithin b s ts → Fits b (run s ts)
 run-fits b [] s f w = f
 run-fits b (t ∷ ts) s f w = run-fits b ts (step s t) (step-fits b s t f w.0) w.1
 

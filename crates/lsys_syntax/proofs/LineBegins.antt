@@ -41,7 +41,7 @@ module _ (b : ℕ) where
   begins-axiom (MinusRead r n zs) ts h = begins-before ts (Number 0 ∷ []) (begins-read r n (minus_sign 0 ∷ zs) (ts ++ Number 0 ∷ []) (minus-holds b r n zs ts (Number 0) h))
   begins-axiom (NumberRead r n zs) ts h = begins-read r n zs ts h
 
-  begins-production : (t : Option (List ℕ)) (l : List ℕ) (s : R.State) (ts : List Kind) → Holds b (InProduction t l s) ts → Begins b ts
+  begins-production : (t : Option (List ℕ)) (l : List ℕ) (s : R.RuleState) (ts : List Kind) → Holds b (InProduction t l s) ts → Begins b ts
   begins-production t l s ts h =
       let g : Begun production b h.0 = begun production b s h.0 h.5 h.2 in (
         put_production t l g.0,
@@ -49,7 +49,7 @@ module _ (b : ℕ) where
         production-command b t l (h.0 ++ g.1) (ts ++ g.1) (Some g.0) g.2 (sym (append_assoc (production_front t l) h.0 g.1) ∙ ap (λ ks. ks ++ g.1) h.1) h.3 h.4,
       )
 
-  begins-homomorphism : (l : List ℕ) (s : R.State) (ts : List Kind) → Holds b (InHomomorphism l s) ts → Begins b ts
+  begins-homomorphism : (l : List ℕ) (s : R.RuleState) (ts : List Kind) → Holds b (InHomomorphism l s) ts → Begins b ts
   begins-homomorphism l s ts h =
       let g : Begun homomorphism b h.0 = begun homomorphism b s h.0 h.4 h.2 in (
         put_homomorphism l g.0,

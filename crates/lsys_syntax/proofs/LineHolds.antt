@@ -8,7 +8,7 @@ use Rattle.lsys_syntax.specs.Strings.{ModuleName, Symbol, Module, Push, Pop, Cut
 use Rattle.lsys_syntax.specs.RuleMachine as R
 use Rattle.lsys_syntax.specs.RuleMachine.{production, homomorphism, reversed, open_in, Sign, a_name, a_push, a_pop, a_cut, no_sign, sign_of}
 use Rattle.lsys_syntax.specs.Commands.{list_word, drop_rule, set_seed, set_depth, print_string, set_version, drop_own, IsTable}
-use Rattle.lsys_syntax.specs.LineMachine.{AxiomState, Symbols, NumberDue, MinusRead, NumberRead, State, Fresh, InAxiom, ProductionDue, OneWord, TwoWords, InProduction, LabelDue, LabelRead, InHomomorphism, DropDue, Listed, of_ignored, of_own, InNames, ScheduleDue, InSchedule, SeedDue, DepthDue, LatticeDue, StringRead, VersionDue, TableDue, TableRead, CommonDue, NumberingDue, Whole, Stop, popped, axiom_sign, axiom_open, symbols_step, if_small, number_due_step, minus_step, number_read_step, axiom_step, first_word, lattice_named, numbering_named, unless_stop, with_name, word_step, number_step, one_word_step, colon_step, step}
+use Rattle.lsys_syntax.specs.LineMachine.{AxiomState, Symbols, NumberDue, MinusRead, NumberRead, State, Fresh, InAxiom, ProductionDue, OneWord, TwoWords, InProduction, LabelDue, LabelRead, InHomomorphism, DropDue, Listed, of_ignored, of_own, InNames, ScheduleDue, InSchedule, SeedDue, DepthDue, LatticeDue, StringRead, VersionDue, TableDue, TableRead, CommonDue, NumberingDue, Whole, Stop, axiom_popped, axiom_sign, axiom_open, axiom_symbols_step, if_small, number_due_step, minus_step, number_read_step, axiom_step, first_word, lattice_named, numbering_named, unless_stop, with_name, word_step, number_step, one_word_step, colon_step, line_step}
 use Rattle.lsys_syntax.specs.Sentences.{IsToken, IsSpelled}
 use Rattle.lsys_syntax.proofs.Leads.{Closes}
 use Rattle.lsys_syntax.proofs.ExprLeads.{Shallow}
@@ -142,7 +142,7 @@ module _ (b : ℕ) (r : List (Symbol Signed)) (ts : List Kind) (h : AxiomHolds (
   pub symbol-read : (x : Symbol Signed) → IsSymbol IsSigned x → Closes x (open_in r) → AxiomHolds (Symbols (x ∷ r)) (ts ++ spelled_symbol signed_pieces x)
   symbol-read x g c = (symbol-more signed_pieces axiom_front ts x r h.0, ((g, h.1.0), (c, h.1.1)))
 
-popped-holds : (b n : ℕ) (s : State) (ts : List Kind) → (0 < n → Holds b s ts) → Holds b (popped n s) ts
+popped-holds : (b n : ℕ) (s : State) (ts : List Kind) → (0 < n → Holds b s ts) → Holds b (axiom_popped n s) ts
 popped-holds b zero s ts h = tt
 popped-holds b (suc n) s ts h = h (omega arith)
 
@@ -150,7 +150,7 @@ sign-holds : (b : ℕ) (r : List (Symbol Signed)) (ts : List Kind) (k : Kind) (g
 sign-holds b r ts k (a_name n) i o h = subst (λ j. Holds b (InAxiom (Symbols (Module n [] ∷ r))) (ts ++ j ∷ [])) (sym i.0) (symbol-read b r ts h (Module n []) (i.1 o, tt) tt)
 sign-holds b r ts k a_push i o h = subst (λ j. Holds b (InAxiom (Symbols (Push ∷ r))) (ts ++ j ∷ [])) (sym i) (symbol-read b r ts h Push tt tt)
 sign-holds b r ts k a_pop i o h =
-    subst (λ j. Holds b (popped (open_in r) (InAxiom (Symbols (Pop ∷ r)))) (ts ++ j ∷ [])) (sym i)
+    subst (λ j. Holds b (axiom_popped (open_in r) (InAxiom (Symbols (Pop ∷ r)))) (ts ++ j ∷ [])) (sym i)
     (popped-holds b (open_in r) (InAxiom (Symbols (Pop ∷ r))) (ts ++ RightBracket ∷ []) (λ c. symbol-read b r ts h Pop tt c))
 sign-holds b r ts k a_cut i o h = subst (λ j. Holds b (InAxiom (Symbols (Cut ∷ r))) (ts ++ j ∷ [])) (sym i) (symbol-read b r ts h Cut tt tt)
 sign-holds b r ts k no_sign i o h = tt
@@ -163,7 +163,7 @@ open-holds b (Push ∷ r) ts h = tt
 open-holds b (Pop ∷ r) ts h = tt
 open-holds b (Cut ∷ r) ts h = tt
 
-symbols-holds : (b : ℕ) (r : List (Symbol Signed)) (ts : List Kind) (k : Kind) → G.IsNamed k → AxiomHolds (Symbols r) ts → Holds b (symbols_step k r) (ts ++ k ∷ [])
+symbols-holds : (b : ℕ) (r : List (Symbol Signed)) (ts : List Kind) (k : Kind) → G.IsNamed k → AxiomHolds (Symbols r) ts → Holds b (axiom_symbols_step k r) (ts ++ k ∷ [])
 symbols-holds b r ts LeftParen o h = open-holds b r ts h
 symbols-holds b r ts k o h = sign-holds b r ts k (sign_of k) (sign-is k) o h
 
@@ -213,7 +213,7 @@ axiom-holds b (NumberRead r n zs) ts k o h = number_read-holds b r n zs ts k h
 more-behind : (front us ts : List Kind) (k : Kind) → front ++ us ≡ ts → front ++ (us ++ k ∷ []) ≡ ts ++ k ∷ []
 more-behind front us ts k e = sym (append_assoc front us (k ∷ [])) ∙ behind (front ++ us) ts k e
 
-production-goes : (b : ℕ) (t : Option (List ℕ)) (l : List ℕ) (s : R.State) (us ts : List Kind) → (Shallow b s → H.Holds production b s us) → production_front t l ++ us ≡ ts → IsTable t → IsWordText l → Calm b (unless_stop (InProduction t l) s)
+production-goes : (b : ℕ) (t : Option (List ℕ)) (l : List ℕ) (s : R.RuleState) (us ts : List Kind) → (Shallow b s → H.Holds production b s us) → production_front t l ++ us ≡ ts → IsTable t → IsWordText l → Calm b (unless_stop (InProduction t l) s)
     → Holds b (unless_stop (InProduction t l) s) ts
 production-goes b t l (R.Formals p r) us ts h e g i c = (us, e, h c, g, i, tt)
 production-goes b t l (R.FormalDue p r n fs) us ts h e g i c = (us, e, h c, g, i, tt)
@@ -222,7 +222,7 @@ production-goes b t l (R.InExpr spot s) us ts h e g i c = (us, e, h c, g, i, tt)
 production-goes b t l (R.Successor d r) us ts h e g i c = (us, e, h c, g, i, tt)
 production-goes b t l R.Stop us ts h e g i c = tt
 
-homomorphism-goes : (b : ℕ) (l : List ℕ) (s : R.State) (us ts : List Kind) → (Shallow b s → H.Holds homomorphism b s us) → homomorphism_front l ++ us ≡ ts → IsWordText l → Calm b (unless_stop (InHomomorphism l) s)
+homomorphism-goes : (b : ℕ) (l : List ℕ) (s : R.RuleState) (us ts : List Kind) → (Shallow b s → H.Holds homomorphism b s us) → homomorphism_front l ++ us ≡ ts → IsWordText l → Calm b (unless_stop (InHomomorphism l) s)
     → Holds b (unless_stop (InHomomorphism l) s) ts
 homomorphism-goes b l (R.Formals p r) us ts h e i c = (us, e, h c, i, tt)
 homomorphism-goes b l (R.FormalDue p r n fs) us ts h e i c = (us, e, h c, i, tt)
@@ -281,7 +281,7 @@ schedule-holds b [] ts k o h = elim h [ ]
 schedule-holds b (v ∷ r) ts k o h = word-holds b (λ w. InSchedule (w ∷ v ∷ r)) ts k o (λ w g. (map-more word (word (codes "schedule")) w (v ∷ r) ts h.0, (g, h.1)))
 
 -- Each step takes its token.
-pub step-holds : (b : ℕ) (s : State) (ts : List Kind) (k : Kind) → IsToken k → Holds b s ts → Calm b (step s k) → Holds b (step s k) (ts ++ k ∷ [])
+pub step-holds : (b : ℕ) (s : State) (ts : List Kind) (k : Kind) → IsToken k → Holds b s ts → Calm b (line_step s k) → Holds b (line_step s k) (ts ++ k ∷ [])
 step-holds b Fresh ts k o h c = word-holds b first_word ts k o (λ w g. subst (λ us. Holds b (first_word w) (us ++ word w ∷ [])) h (first-holds b w))
 step-holds b (InAxiom a) ts k o h c = axiom-holds b a ts k (named-token k o) h
 step-holds b ProductionDue ts k o h c = word-holds b OneWord ts k o (λ w g. (behind (word (codes "production") ∷ []) ts (word w) h, g))
@@ -289,11 +289,11 @@ step-holds b (OneWord w) ts k o h c = one_word-holds b w ts k o h
 step-holds b (TwoWords t l) ts k o h c =
     colon-holds b (InProduction (Some t) l R.start) ts k ([], behind (word (codes "production") ∷ word t ∷ word l ∷ []) ts Colon h.0, rule-start production b, h.1, h.2, tt)
 step-holds b (InProduction t l s) ts k o h c =
-    production-goes b t l (R.step production s k) (h.0 ++ k ∷ []) (ts ++ k ∷ []) (S.step-holds production b s h.0 k (named-token k o) h.2) (more-behind (production_front t l) h.0 ts k h.1) h.3 h.4 c
+    production-goes b t l (R.rule_step production s k) (h.0 ++ k ∷ []) (ts ++ k ∷ []) (S.step-holds production b s h.0 k (named-token k o) h.2) (more-behind (production_front t l) h.0 ts k h.1) h.3 h.4 c
 step-holds b LabelDue ts k o h c = word-holds b LabelRead ts k o (λ w g. (behind (word (codes "hom") ∷ []) ts (word w) h, g))
 step-holds b (LabelRead l) ts k o h c = colon-holds b (InHomomorphism l R.start) ts k ([], behind (word (codes "hom") ∷ word l ∷ []) ts Colon h.0, rule-start homomorphism b, h.1, tt)
 step-holds b (InHomomorphism l s) ts k o h c =
-    homomorphism-goes b l (R.step homomorphism s k) (h.0 ++ k ∷ []) (ts ++ k ∷ []) (S.step-holds homomorphism b s h.0 k (named-token k o) h.2) (more-behind (homomorphism_front l) h.0 ts k h.1) h.3 c
+    homomorphism-goes b l (R.rule_step homomorphism s k) (h.0 ++ k ∷ []) (ts ++ k ∷ []) (S.step-holds homomorphism b s h.0 k (named-token k o) h.2) (more-behind (homomorphism_front l) h.0 ts k h.1) h.3 c
 step-holds b DropDue ts k o h c = word-holds b (λ l. Whole (drop_rule l)) ts k o (λ w g. (behind (word (codes "drop") ∷ []) ts (word w) h, g, omega arith))
 step-holds b (InNames g r) ts k o h c = names-holds b g r ts k (sign_of k) (sign-is k) (named-token k o) h
 step-holds b ScheduleDue ts k o h c = word-holds b (λ w. InSchedule (w ∷ [])) ts k o (λ w g. (behind (word (codes "schedule") ∷ []) ts (word w) h, (g, tt)))

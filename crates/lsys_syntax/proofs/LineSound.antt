@@ -9,7 +9,7 @@ use Rattle.lsys_syntax.specs.Rules.{Rule}
 use Rattle.lsys_syntax.specs.RuleMachine as R
 use Rattle.lsys_syntax.specs.RuleMachine.{Form, production, homomorphism, reversed, open_in, where_closed}
 use Rattle.lsys_syntax.specs.Commands.{list_word, Command, set_axiom, put_production, set_schedule, put_homomorphism, as_symbol, string_behind, words_pieces, HasNoCut, IsHomomorphism, IsTable}
-use Rattle.lsys_syntax.specs.LineMachine.{AxiomState, Symbols, NumberDue, MinusRead, NumberRead, State, Fresh, InAxiom, ProductionDue, OneWord, TwoWords, InProduction, LabelDue, LabelRead, InHomomorphism, DropDue, of_ignored, of_own, InNames, ScheduleDue, InSchedule, SeedDue, DepthDue, LatticeDue, StringRead, VersionDue, TableDue, TableRead, CommonDue, NumberingDue, Whole, Stop, step, finish, depth, Verdict, sentence, stops, too_deep, ended, is_stop, nesting_bound, verdict_from, verdict}
+use Rattle.lsys_syntax.specs.LineMachine.{AxiomState, Symbols, NumberDue, MinusRead, NumberRead, State, Fresh, InAxiom, ProductionDue, OneWord, TwoWords, InProduction, LabelDue, LabelRead, InHomomorphism, DropDue, of_ignored, of_own, InNames, ScheduleDue, InSchedule, SeedDue, DepthDue, LatticeDue, StringRead, VersionDue, TableDue, TableRead, CommonDue, NumberingDue, Whole, Stop, line_step, finish, line_depth, Verdict, sentence, stops, too_deep, sentence_or_stop, is_stop, nesting_bound, verdict_from, verdict}
 use Rattle.lsys_syntax.specs.Sentences.{IsToken, AreTokens, IsSpelled}
 use Rattle.lsys_syntax.proofs.ExprLeads.{Shallow}
 use Rattle.lsys_syntax.proofs.RuleComplete.{Absent, NoWeight, MayCut, OfForm}
@@ -131,10 +131,10 @@ after_tests true d n v = stops n
 after_tests false true n v = too_deep n
 after_tests false false n v = v
 
-pub verdict-tests : (n : ℕ) (s : State) (k : Kind) (ks : List Kind) → verdict_from n s (k ∷ ks) ≡ after_tests (is_stop (step s k)) (nat_lt nesting_bound (depth (step s k))) n (verdict_from (n + 1) (step s k) ks)
-verdict-tests n s k ks = tested (is_stop (step s k)) (nat_lt nesting_bound (depth (step s k)))
+pub verdict-tests : (n : ℕ) (s : State) (k : Kind) (ks : List Kind) → verdict_from n s (k ∷ ks) ≡ after_tests (is_stop (line_step s k)) (nat_lt nesting_bound (line_depth (line_step s k))) n (verdict_from (n + 1) (line_step s k) ks)
+verdict-tests n s k ks = tested (is_stop (line_step s k)) (nat_lt nesting_bound (line_depth (line_step s k)))
   where
-    tested : (a d : Bool) → elim a [ true ↦ stops n | false ↦ elim d [ true ↦ too_deep n | false ↦ verdict_from (n + 1) (step s k) ks ] ] ≡ after_tests a d n (verdict_from (n + 1) (step s k) ks)
+    tested : (a d : Bool) → elim a [ true ↦ stops n | false ↦ elim d [ true ↦ too_deep n | false ↦ verdict_from (n + 1) (line_step s k) ks ] ] ≡ after_tests a d n (verdict_from (n + 1) (line_step s k) ks)
     tested true d = refl
     tested false true = refl
     tested false false = refl
@@ -147,7 +147,7 @@ tests-sentence false false n v c e = (refl, e)
 pub not_deep : (m n : ℕ) → nat_lt m n ≡ false → n ≤ m
 not_deep m n h = grind (arith, nat_tests, h)
 
-rule-shallow : (b : ℕ) (s : R.State) → R.depth s ≤ b → Shallow b s
+rule-shallow : (b : ℕ) (s : R.RuleState) → R.rule_depth s ≤ b → Shallow b s
 rule-shallow b (R.Formals p r) h = tt
 rule-shallow b (R.FormalDue p r n fs) h = tt
 rule-shallow b (R.FormalRead p r n fs) h = tt
@@ -155,26 +155,26 @@ rule-shallow b (R.InExpr spot s) h = h
 rule-shallow b (R.Successor d r) h = tt
 rule-shallow b R.Stop h = tt
 
-pub depth-calm : (b : ℕ) (s : State) → depth s ≤ b → Calm b s
+pub depth-calm : (b : ℕ) (s : State) → line_depth s ≤ b → Calm b s
 depth-calm b (InProduction t l s) h = rule-shallow b s h
 depth-calm b (InHomomorphism l s) h = rule-shallow b s h
 depth-calm b s h = tt
 
-ended-spelled : (n : ℕ) (o : Option Command) (ts : List Kind) (c : Command) → OnCommand nesting_bound ts o → ended n o ≡ sentence c → IsSpelled nesting_bound ts c
+ended-spelled : (n : ℕ) (o : Option Command) (ts : List Kind) (c : Command) → OnCommand nesting_bound ts o → sentence_or_stop n o ≡ sentence c → IsSpelled nesting_bound ts c
 ended-spelled n None ts c h e = cc
 ended-spelled n (Some d) ts c h e = let same : d ≡ c = cc in subst (IsSpelled nesting_bound ts) same h
 
 -- the step takes its token where it isn't too deep
-pub step-taken : (s : State) (k : Kind) (ts : List Kind) → IsToken k → Holds nesting_bound s ts → nat_lt nesting_bound (depth (step s k)) ≡ false → Holds nesting_bound (step s k) (ts ++ k ∷ [])
-step-taken s k ts o h d = step-holds nesting_bound s ts k o h (depth-calm nesting_bound (step s k) (not_deep nesting_bound (depth (step s k)) d))
+pub step-taken : (s : State) (k : Kind) (ts : List Kind) → IsToken k → Holds nesting_bound s ts → nat_lt nesting_bound (line_depth (line_step s k)) ≡ false → Holds nesting_bound (line_step s k) (ts ++ k ∷ [])
+step-taken s k ts o h d = step-holds nesting_bound s ts k o h (depth-calm nesting_bound (line_step s k) (not_deep nesting_bound (line_depth (line_step s k)) d))
 
 sentence-from : (ks : List Kind) (n : ℕ) (s : State) (ts : List Kind) (c : Command) → AreTokens ks → Holds nesting_bound s ts → verdict_from n s ks ≡ sentence c → IsSpelled nesting_bound (ts ++ ks) c
 sentence-from [] n s ts c g h e = subst (λ us. IsSpelled nesting_bound us c) (sym (append-nil ts)) (ended-spelled n (finish s) ts c (finish-spelled nesting_bound s ts h) e)
 sentence-from (k ∷ ks) n s ts c g h e =
-    let t : (nat_lt nesting_bound (depth (step s k)) ≡ false) × (verdict_from (n + 1) (step s k) ks ≡ sentence c) =
-    tests-sentence (is_stop (step s k)) (nat_lt nesting_bound (depth (step s k))) n (verdict_from (n + 1) (step s k) ks) c (sym (verdict-tests n s k ks) ∙ e) in
+    let t : (nat_lt nesting_bound (line_depth (line_step s k)) ≡ false) × (verdict_from (n + 1) (line_step s k) ks ≡ sentence c) =
+    tests-sentence (is_stop (line_step s k)) (nat_lt nesting_bound (line_depth (line_step s k))) n (verdict_from (n + 1) (line_step s k) ks) c (sym (verdict-tests n s k ks) ∙ e) in
     subst (λ us. IsSpelled nesting_bound us c) (append_assoc ts (k ∷ []) ks)
-    (sentence-from ks (n + 1) (step s k) (ts ++ k ∷ []) c g.1 (step-taken s k ts g.0 h t.0) t.1)
+    (sentence-from ks (n + 1) (line_step s k) (ts ++ k ∷ []) c g.1 (step-taken s k ts g.0 h t.0) t.1)
 
 -- Each sentence spells its command.
 pub sentence-spelled : (ks : List Kind) (c : Command) → AreTokens ks → verdict ks ≡ sentence c → IsSpelled 32 ks c

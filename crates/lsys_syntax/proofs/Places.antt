@@ -4,7 +4,7 @@ use Rattle.std.proofs.lemmas.Bool.Decides.{nat_tests}
 use Rattle.lsys_syntax.specs.Tokens.{Kind}
 use Rattle.lsys_syntax.specs.Pieces.{Piece, blank, token, note, kinds_of}
 use Rattle.lsys_syntax.specs.Commands.{Command, command_pieces}
-use Rattle.lsys_syntax.specs.LineMachine.{State, Fresh, Stop, step, finish, depth, Verdict, stops, too_deep, ended, is_stop, nesting_bound, verdict_from, verdict}
+use Rattle.lsys_syntax.specs.LineMachine.{State, Fresh, Stop, line_step, finish, line_depth, Verdict, stops, too_deep, sentence_or_stop, is_stop, nesting_bound, verdict_from, verdict}
 use Rattle.lsys_syntax.specs.Sentences.{AreTokens, Begins, BeginsDeep, IsSpelling}
 use Rattle.lsys_syntax.proofs.Leads.{Leads}
 use Rattle.lsys_syntax.proofs.LineComplete.{Calm, Spells, run, calm-depth, command-leads, command-read}
@@ -15,11 +15,11 @@ use Rattle.lsys_syntax.proofs.LineBegins.{line-begins}
 -- no state on the way, the first not counted, is deeper than b
 abbrev AllNear : ℕ → State → List Kind → Type 0
 AllNear b s [] = Unit {0}
-AllNear b s (k ∷ ks) = (depth (step s k) ≤ b) × AllNear b (step s k) ks
+AllNear b s (k ∷ ks) = (line_depth (line_step s k) ≤ b) × AllNear b (line_step s k) ks
 
 run-append : (ks js : List Kind) (s : State) → run s (ks ++ js) ≡ run (run s ks) js
 run-append [] js s = refl
-run-append (k ∷ ks) js s = run-append ks js (step s k)
+run-append (k ∷ ks) js s = run-append ks js (line_step s k)
 
 run-stop : (ks : List Kind) → run Stop ks ≡ Stop
 run-stop [] = refl
@@ -33,8 +33,8 @@ stop_is s e = cc
 run-holds : (b : ℕ) (ks : List Kind) (s : State) (ts : List Kind) → AreTokens ks → Holds b s ts → AllNear b s ks → Holds b (run s ks) (ts ++ ks)
 run-holds b [] s ts g h n = subst (Holds b s) (sym (append-nil ts)) h
 run-holds b (k ∷ ks) s ts g h n =
-    subst (Holds b (run (step s k) ks)) (append_assoc ts (k ∷ []) ks)
-    (run-holds b ks (step s k) (ts ++ k ∷ []) g.1 (step-holds b s ts k g.0 h (depth-calm b (step s k) n.0)) n.1)
+    subst (Holds b (run (line_step s k) ks)) (append_assoc ts (k ∷ []) ks)
+    (run-holds b ks (line_step s k) (ts ++ k ∷ []) g.1 (step-holds b s ts k g.0 h (depth-calm b (line_step s k) n.0)) n.1)
 
 -- A sentence begins with tokens that are taken.
 taken-begins : (b : ℕ) (ks : List Kind) → AreTokens ks → AllNear b Fresh ks → is_stop (run Fresh ks) ≡ false → Begins b ks
@@ -43,11 +43,11 @@ taken-begins b ks g n e = line-begins b (run Fresh ks) ks e (run-holds b ks Fres
 -- the deepest of the states on the way
 abbrev deepest : State → List Kind → ℕ
 deepest s [] = 0
-deepest s (k ∷ ks) = max (depth (step s k)) (deepest (step s k) ks)
+deepest s (k ∷ ks) = max (line_depth (line_step s k)) (deepest (line_step s k) ks)
 
 deepest-near : (b : ℕ) (ks : List Kind) (s : State) → deepest s ks ≤ b → AllNear b s ks
 deepest-near b [] s h = tt
-deepest-near b (k ∷ ks) s h = (omega (arith, h), deepest-near b ks (step s k) (omega (arith, h)))
+deepest-near b (k ∷ ks) s h = (omega (arith, h), deepest-near b ks (line_step s k) (omega (arith, h)))
 
 taken-begins-deep : (ks : List Kind) → AreTokens ks → is_stop (run Fresh ks) ≡ false → BeginsDeep ks
 taken-begins-deep ks g e = (deepest Fresh ks, taken-begins (deepest Fresh ks) ks g (deepest-near (deepest Fresh ks) ks Fresh (omega arith)) e)
@@ -68,21 +68,21 @@ begins-taken b ks g =
     ap finish (sym (run-append ks g.1 Fresh) ∙ ap (run Fresh) (sym g.2.0)) ∙ command-read c g.2.1 in
     goes-before g.1 (run Fresh ks) (finish-goes (run (run Fresh ks) g.1) c last)
 
-leads-near : (b : ℕ) (ps : List Piece) (s t : State) → Leads step (Calm b) s ps t → AllNear b s (kinds_of ps)
+leads-near : (b : ℕ) (ps : List Piece) (s t : State) → Leads line_step (Calm b) s ps t → AllNear b s (kinds_of ps)
 leads-near b [] s t h = tt
 leads-near b (blank ∷ ps) s t h = leads-near b ps s t h
 leads-near b (note n ∷ ps) s t h = leads-near b ps s t h
-leads-near b (token k ∷ ps) s t h = (calm-depth b (step s k) h.0, leads-near b ps (step s k) t h.1)
+leads-near b (token k ∷ ps) s t h = (calm-depth b (line_step s k) h.0, leads-near b ps (line_step s k) t h.1)
 
 near-front : (b : ℕ) (ks js : List Kind) (s : State) → AllNear b s (ks ++ js) → AllNear b s ks
 near-front b [] js s h = tt
-near-front b (k ∷ ks) js s h = (h.0, near-front b ks js (step s k) h.1)
+near-front b (k ∷ ks) js s h = (h.0, near-front b ks js (line_step s k) h.1)
 
-near-last : (b : ℕ) (ks : List Kind) (s : State) → depth s ≤ b → AllNear b s ks → depth (run s ks) ≤ b
+near-last : (b : ℕ) (ks : List Kind) (s : State) → line_depth s ≤ b → AllNear b s ks → line_depth (run s ks) ≤ b
 near-last b [] s d h = d
-near-last b (k ∷ ks) s d h = near-last b ks (step s k) h.0 h.1
+near-last b (k ∷ ks) s d h = near-last b ks (line_step s k) h.0 h.1
 
-begins-near : (b : ℕ) (ks : List Kind) → Begins b ks → depth (run Fresh ks) ≤ b
+begins-near : (b : ℕ) (ks : List Kind) → Begins b ks → line_depth (run Fresh ks) ≤ b
 begins-near b ks g =
     let l : Spells b g.0 = command-leads b g.0 g.2.1 g.2.2 in
     near-last b ks Fresh (omega arith) (near-front b ks g.1 Fresh (subst (AllNear b Fresh) g.2.0 (leads-near b (command_pieces g.0) Fresh l.0 l.1)))
@@ -91,8 +91,8 @@ begins-near b ks g =
 abbrev Blocked : State → List Kind → ℕ → Type 0
 Blocked s [] zero = finish s ≡ None
 Blocked s [] (suc j) = ⊥
-Blocked s (k ∷ ks) zero = step s k ≡ Stop
-Blocked s (k ∷ ks) (suc j) = Blocked (step s k) ks j
+Blocked s (k ∷ ks) zero = line_step s k ≡ Stop
+Blocked s (k ∷ ks) (suc j) = Blocked (line_step s k) ks j
 
 -- the j tokens before a place are taken
 abbrev Before : State → List Kind → ℕ → Type 0
@@ -103,7 +103,7 @@ tests-stops true d n i v e = inl (refl, cc)
 tests-stops false true n i v e = cc
 tests-stops false false n i v e = inr (refl, refl, e)
 
-ended-stops : (n i : ℕ) (o : Option Command) → ended n o ≡ stops i → (o ≡ None) × (n ≡ i)
+ended-stops : (n i : ℕ) (o : Option Command) → sentence_or_stop n o ≡ stops i → (o ≡ None) × (n ≡ i)
 ended-stops n i None e = (refl, cc)
 ended-stops n i (Some c) e = cc
 
@@ -112,29 +112,29 @@ abbrev StopsAt : State → List Kind → ℕ → ℕ → Type 0
 StopsAt s ks n i = (j : ℕ) × (i ≡ n + j) × Before s ks j × Blocked s ks j
 
 stops-next : (s : State) (k : Kind) (ks : List Kind) (n i : ℕ) → is_stop s ≡ false
-    → ((is_stop (step s k) ≡ true) × (n ≡ i)) ⊎ ((is_stop (step s k) ≡ false) × (nat_lt nesting_bound (depth (step s k)) ≡ false) × (verdict_from (n + 1) (step s k) ks ≡ stops i))
-    → (is_stop (step s k) ≡ false → verdict_from (n + 1) (step s k) ks ≡ stops i → StopsAt (step s k) ks (n + 1) i) → StopsAt s (k ∷ ks) n i
-stops-next s k ks n i g (inl h) f = (0, omega (arith, h.1), (tt, g), stop_is (step s k) h.0)
+    → ((is_stop (line_step s k) ≡ true) × (n ≡ i)) ⊎ ((is_stop (line_step s k) ≡ false) × (nat_lt nesting_bound (line_depth (line_step s k)) ≡ false) × (verdict_from (n + 1) (line_step s k) ks ≡ stops i))
+    → (is_stop (line_step s k) ≡ false → verdict_from (n + 1) (line_step s k) ks ≡ stops i → StopsAt (line_step s k) ks (n + 1) i) → StopsAt s (k ∷ ks) n i
+stops-next s k ks n i g (inl h) f = (0, omega (arith, h.1), (tt, g), stop_is (line_step s k) h.0)
 stops-next s k ks n i g (inr h) f =
-    let r : StopsAt (step s k) ks (n + 1) i = f h.0 h.2 in
-    (suc r.0, omega (arith, r.1), ((not_deep nesting_bound (depth (step s k)) h.1, r.2.0), r.2.1), r.3)
+    let r : StopsAt (line_step s k) ks (n + 1) i = f h.0 h.2 in
+    (suc r.0, omega (arith, r.1), ((not_deep nesting_bound (line_depth (line_step s k)) h.1, r.2.0), r.2.1), r.3)
 
 stops-from : (ks : List Kind) (n i : ℕ) (s : State) → is_stop s ≡ false → verdict_from n s ks ≡ stops i → StopsAt s ks n i
 stops-from [] n i s g e = let t : (finish s ≡ None) × (n ≡ i) = ended-stops n i (finish s) e in (0, omega (arith, t.1), (tt, g), t.0)
 stops-from (k ∷ ks) n i s g e =
-    stops-next s k ks n i g (tests-stops (is_stop (step s k)) (nat_lt nesting_bound (depth (step s k))) n i (verdict_from (n + 1) (step s k) ks) (sym (verdict-tests n s k ks) ∙ e))
-    (λ h q. stops-from ks (n + 1) i (step s k) h q)
+    stops-next s k ks n i g (tests-stops (is_stop (line_step s k)) (nat_lt nesting_bound (line_depth (line_step s k))) n i (verdict_from (n + 1) (line_step s k) ks) (sym (verdict-tests n s k ks) ∙ e))
+    (λ h q. stops-from ks (n + 1) i (line_step s k) h q)
 
 -- Token number j from here is taken, but too deep.
 abbrev DeepAt : State → List Kind → ℕ → ℕ → Type 0
-DeepAt s ks n i = (j : ℕ) × (i ≡ n + j) × (j < length ks) × Before s ks j × (is_stop (run s (take (suc j) ks)) ≡ false) × (nesting_bound < depth (run s (take (suc j) ks)))
+DeepAt s ks n i = (j : ℕ) × (i ≡ n + j) × (j < length ks) × Before s ks j × (is_stop (run s (take (suc j) ks)) ≡ false) × (nesting_bound < line_depth (run s (take (suc j) ks)))
 
 tests-deep : (a d : Bool) (n i : ℕ) (v : Verdict) → after_tests a d n v ≡ too_deep i → (a ≡ false) × (((d ≡ true) × (n ≡ i)) ⊎ ((d ≡ false) × (v ≡ too_deep i)))
 tests-deep true d n i v e = cc
 tests-deep false true n i v e = (refl, inl (refl, cc))
 tests-deep false false n i v e = (refl, inr (refl, e))
 
-ended-deep : (n i : ℕ) (o : Option Command) → ended n o ≡ too_deep i → ⊥
+ended-deep : (n i : ℕ) (o : Option Command) → sentence_or_stop n o ≡ too_deep i → ⊥
 ended-deep n i None e = cc
 ended-deep n i (Some c) e = cc
 
@@ -145,23 +145,23 @@ take-none : (ks : List Kind) → take 0 ks ≡ []
 take-none [] = refl
 take-none (k ∷ ks) = refl
 
-deep-next : (s : State) (k : Kind) (ks : List Kind) (n i : ℕ) → is_stop s ≡ false → is_stop (step s k) ≡ false
-    → ((nat_lt nesting_bound (depth (step s k)) ≡ true) × (n ≡ i)) ⊎ ((nat_lt nesting_bound (depth (step s k)) ≡ false) × (verdict_from (n + 1) (step s k) ks ≡ too_deep i))
-    → (verdict_from (n + 1) (step s k) ks ≡ too_deep i → DeepAt (step s k) ks (n + 1) i) → DeepAt s (k ∷ ks) n i
+deep-next : (s : State) (k : Kind) (ks : List Kind) (n i : ℕ) → is_stop s ≡ false → is_stop (line_step s k) ≡ false
+    → ((nat_lt nesting_bound (line_depth (line_step s k)) ≡ true) × (n ≡ i)) ⊎ ((nat_lt nesting_bound (line_depth (line_step s k)) ≡ false) × (verdict_from (n + 1) (line_step s k) ks ≡ too_deep i))
+    → (verdict_from (n + 1) (line_step s k) ks ≡ too_deep i → DeepAt (line_step s k) ks (n + 1) i) → DeepAt s (k ∷ ks) n i
 deep-next s k ks n i g t (inl h) f =
-    let one : run s (take 1 (k ∷ ks)) ≡ step s k = ap (run (step s k)) (take-none ks) in
-    (0, omega (arith, h.1), omega arith, (tt, g), ap is_stop one ∙ t, subst (λ x. nesting_bound < depth x) (sym one) (is_deep nesting_bound (depth (step s k)) h.0))
+    let one : run s (take 1 (k ∷ ks)) ≡ line_step s k = ap (run (line_step s k)) (take-none ks) in
+    (0, omega (arith, h.1), omega arith, (tt, g), ap is_stop one ∙ t, subst (λ x. nesting_bound < line_depth x) (sym one) (is_deep nesting_bound (line_depth (line_step s k)) h.0))
 deep-next s k ks n i g t (inr h) f =
-    let r : DeepAt (step s k) ks (n + 1) i = f h.1 in
-    (suc r.0, omega (arith, r.1), omega (arith, r.2), ((not_deep nesting_bound (depth (step s k)) h.0, r.3.0), r.3.1), r.4, r.5)
+    let r : DeepAt (line_step s k) ks (n + 1) i = f h.1 in
+    (suc r.0, omega (arith, r.1), omega (arith, r.2), ((not_deep nesting_bound (line_depth (line_step s k)) h.0, r.3.0), r.3.1), r.4, r.5)
 
 deep-from : (ks : List Kind) (n i : ℕ) (s : State) → is_stop s ≡ false → verdict_from n s ks ≡ too_deep i → DeepAt s ks n i
 deep-from [] n i s g e = absurd (ended-deep n i (finish s) e)
 deep-from (k ∷ ks) n i s g e =
-    let v : Verdict = verdict_from (n + 1) (step s k) ks in
-    let t : (is_stop (step s k) ≡ false) × (((nat_lt nesting_bound (depth (step s k)) ≡ true) × (n ≡ i)) ⊎ ((nat_lt nesting_bound (depth (step s k)) ≡ false) × (v ≡ too_deep i))) =
-    tests-deep (is_stop (step s k)) (nat_lt nesting_bound (depth (step s k))) n i v (sym (verdict-tests n s k ks) ∙ e) in
-    deep-next s k ks n i g t.0 t.1 (λ q. deep-from ks (n + 1) i (step s k) t.0 q)
+    let v : Verdict = verdict_from (n + 1) (line_step s k) ks in
+    let t : (is_stop (line_step s k) ≡ false) × (((nat_lt nesting_bound (line_depth (line_step s k)) ≡ true) × (n ≡ i)) ⊎ ((nat_lt nesting_bound (line_depth (line_step s k)) ≡ false) × (v ≡ too_deep i))) =
+    tests-deep (is_stop (line_step s k)) (nat_lt nesting_bound (line_depth (line_step s k))) n i v (sym (verdict-tests n s k ks) ∙ e) in
+    deep-next s k ks n i g t.0 t.1 (λ q. deep-from ks (n + 1) i (line_step s k) t.0 q)
 
 pub tokens-front : (n : ℕ) (ks : List Kind) → AreTokens ks → AreTokens (take n ks)
 tokens-front zero ks g = subst AreTokens (sym (take-none ks)) tt
@@ -170,15 +170,15 @@ tokens-front (suc n) (k ∷ ks) g = (g.0, tokens-front n ks g.1)
 
 blocked-inside : (ks : List Kind) (j : ℕ) (s : State) → j < length ks → Blocked s ks j → run s (take (suc j) ks) ≡ Stop
 blocked-inside [] j s h b = absurd (omega arith)
-blocked-inside (k ∷ ks) zero s h b = ap (run (step s k)) (take-none ks) ∙ b
-blocked-inside (k ∷ ks) (suc j) s h b = blocked-inside ks j (step s k) (omega (arith, h)) b
+blocked-inside (k ∷ ks) zero s h b = ap (run (line_step s k)) (take-none ks) ∙ b
+blocked-inside (k ∷ ks) (suc j) s h b = blocked-inside ks j (line_step s k) (omega (arith, h)) b
 
 blocked-end : (ks : List Kind) (j : ℕ) (s : State) → length ks ≤ j → Blocked s ks j → (j ≡ length ks) × (finish (run s ks) ≡ None)
 blocked-end [] zero s h b = (refl, b)
 blocked-end [] (suc j) s h b = elim b [ ]
 blocked-end (k ∷ ks) zero s h b = absurd (omega (arith, h))
 blocked-end (k ∷ ks) (suc j) s h b =
-    let r : (j ≡ length ks) × (finish (run (step s k) ks) ≡ None) = blocked-end ks j (step s k) (omega (arith, h)) b in
+    let r : (j ≡ length ks) × (finish (run (line_step s k) ks) ≡ None) = blocked-end ks j (line_step s k) (omega (arith, h)) b in
     (omega (arith, r.0), r.1)
 
 before-begins : (ks : List Kind) (n j : ℕ) → AreTokens ks → n ≡ 0 + j → Before Fresh ks j → Begins nesting_bound (take n ks)
@@ -228,5 +228,5 @@ pub deep-none : (ks : List Kind) (n : ℕ) → verdict ks ≡ too_deep n → Beg
 deep-none ks n e g =
     let r : DeepAt Fresh ks 0 n = deep-from ks 0 n Fresh refl e in
     let same : r.0 ≡ n = omega (arith, r.1) in
-    let deep : nesting_bound < depth (run Fresh (take (suc n) ks)) = subst (λ j. nesting_bound < depth (run Fresh (take (suc j) ks))) same r.5 in
+    let deep : nesting_bound < line_depth (run Fresh (take (suc n) ks)) = subst (λ j. nesting_bound < line_depth (run Fresh (take (suc j) ks))) same r.5 in
     absurd (omega (arith, deep, begins-near nesting_bound (take (suc n) ks) g))

@@ -7,7 +7,7 @@ use Rattle.lsys_syntax.specs.ExpressionMachine as E
 use Rattle.lsys_syntax.specs.Completions as C
 use Rattle.lsys_syntax.specs.Nesting as N
 use Rattle.lsys_syntax.specs.Rules.{Rule}
-use Rattle.lsys_syntax.specs.RuleMachine.{Form, production, homomorphism, reversed, open_in, Part, at_first, at_predecessor, at_right, Head, Body, Spot, as_condition, as_weight, as_param, State, Formals, FormalDue, FormalRead, InExpr, Successor, Stop, where_closed, rule_with}
+use Rattle.lsys_syntax.specs.RuleMachine.{Form, production, homomorphism, reversed, open_in, Part, at_first, at_predecessor, at_right, Head, Premise, Spot, as_condition, as_weight, as_param, RuleState, Formals, FormalDue, FormalRead, InExpr, Successor, Stop, where_closed, rule_with}
 use Rattle.lsys_syntax.proofs.Sound.{completes}
 use Rattle.lsys_syntax.proofs.Fits.{completed-nesting}
 use Rattle.lsys_syntax.proofs.ExprSound.{completed-good}
@@ -25,18 +25,18 @@ module _ (m : Form) (b : ℕ) where
   begun-before ts ks g = (g.0, ks ++ g.1, subst (λ us. IsSpelled m b us g.0) (append_assoc ts ks g.1) g.2)
 
   -- open branches are closed
-  begun-successor : (d : Body) (n : ℕ) (r : List (Symbol Expr)) (ts : List Kind) → open_in r ≡ n → Holds m b (Successor d r) ts → Begun m b ts
+  begun-successor : (d : Premise) (n : ℕ) (r : List (Symbol Expr)) (ts : List Kind) → open_in r ≡ n → Holds m b (Successor d r) ts → Begun m b ts
   begun-successor d zero r ts e h = (rule_with d (reversed r), [], subst (λ us. IsSpelled m b us (rule_with d (reversed r))) (sym (append-nil ts)) (rule-spelled m b d r ts h e))
   begun-successor d (suc n) r ts e h =
       begun-before ts (RightBracket ∷ []) (begun-successor d n (Pop ∷ r) (ts ++ RightBracket ∷ []) (omega (arith, e)) (put-pop m b d r ts h (omega (arith, e))))
 
-  begun-body : (d : Body) (ts : List Kind) → Holds m b (Successor d []) ts → Begun m b ts
+  begun-body : (d : Premise) (ts : List Kind) → Holds m b (Successor d []) ts → Begun m b ts
   begun-body d ts h = begun-successor d 0 [] ts refl h
 
   -- a rule without its arrow gets it
   begun-head : (h : Head) (ts : List Kind) → OnHead m ts (Some h) → Begun m b ts
   begun-head h ts g =
-      let d : Body = record { head = h; condition = None; weight = None } in
+      let d : Premise = record { head = h; condition = None; weight = None } in
       begun-before ts (Arrow ∷ []) (begun-body d (ts ++ Arrow ∷ []) (arrow-holds m b d (ts ++ Arrow ∷ []) (ap (λ ks. ks ++ Arrow ∷ []) g.0) (bare-good m b h g.1)))
 
   begun-right : (l : List (Symbol NameText)) (n : ModuleName) (fs : List NameText) (k : ℕ) (x : Symbol NameText) (r : List (Symbol NameText)) (ts : List Kind) → open_in (x ∷ r) ≡ k → Holds m b (Formals (at_right l n fs) (x ∷ r)) ts → Begun m b ts
@@ -84,16 +84,16 @@ begun-due m b p r n fs ts h =
 -- an expression gets its stated completion
 begun-done : (m : Form) (b : ℕ) (spot : Spot) (e : Expr) (ts : List Kind) → IsExpr e → N.expr_nesting e ≤ b → spot_kinds spot ++ expr_kinds e ≡ ts → GoodSpot m b spot → Begun m b ts
 begun-done m b (as_condition h) e ts i n q g =
-    let d : Body = record { head = h; condition = Some e; weight = None } in
+    let d : Premise = record { head = h; condition = Some e; weight = None } in
     begun-before m b ts (Arrow ∷ []) (begun-body m b d (ts ++ Arrow ∷ []) (done-holds b e ts i n m Arrow (as_condition h) q g))
 begun-done m b (as_weight h c) e ts i n q g =
-    let d : Body = record { head = h; condition = c; weight = Some e } in
+    let d : Premise = record { head = h; condition = c; weight = Some e } in
     begun-before m b ts (Arrow ∷ []) (begun-body m b d (ts ++ Arrow ∷ []) (done-holds b e ts i n m Arrow (as_weight h c) q g))
 begun-done m b (as_param d r k es) e ts i n q g =
     let x : Symbol Expr = Module k (reversed (e ∷ es)) in
     begun-before m b ts (RightParen ∷ []) (begun-successor m b d (open_in r) (x ∷ r) (ts ++ RightParen ∷ []) refl (done-holds b e ts i n m RightParen (as_param d r k es) q g))
 
-begun-expr : (m : Form) (b : ℕ) (spot : Spot) (s : E.State) (ts : List Kind) → Holds m b (InExpr spot s) ts → Begun m b ts
+begun-expr : (m : Form) (b : ℕ) (spot : Spot) (s : E.ExpressionState) (ts : List Kind) → Holds m b (InExpr spot s) ts → Begun m b ts
 begun-expr m b spot s ts h =
     let q : spot_kinds spot ++ expr_kinds (C.completed s) ≡ ts ++ C.completion s =
     ap (λ ks. spot_kinds spot ++ ks) (completes s h.2) ∙ sym (append_assoc (spot_kinds spot) (C.spelled s) (C.completion s)) ∙ ap (λ ks. ks ++ C.completion s) h.0 in
@@ -101,7 +101,7 @@ begun-expr m b spot s ts h =
     (begun-done m b spot (C.completed s) (ts ++ C.completion s) (completed-good s h.2 h.3) (completed-nesting b s h.2 h.4) q h.1)
 
 -- Some rule begins with what a state has taken.
-pub begun : (m : Form) (b : ℕ) (s : State) (ts : List Kind) → GoesOn s → Holds m b s ts → Begun m b ts
+pub begun : (m : Form) (b : ℕ) (s : RuleState) (ts : List Kind) → GoesOn s → Holds m b s ts → Begun m b ts
 begun m b (Formals p r) ts g h = begun-formals m b p r ts h
 begun m b (FormalDue p r n fs) ts g h = begun-due m b p r n fs ts h
 begun m b (FormalRead p r n fs) ts g h = begun-read m b p r n fs ts h

@@ -6,7 +6,7 @@ use Rattle.lsys_syntax.specs.Strings.{Symbol, Module, name_kind, EachOf, IsModul
 use Rattle.lsys_syntax.specs.Expressions.{Expr, expr_pieces, IsExpr}
 use Rattle.lsys_syntax.specs.Completions as C
 use Rattle.lsys_syntax.specs.Rules.{formal_pieces, left_pieces, right_pieces, option_pieces, IsOption, IsPattern, IsItem, option_nesting, params_nesting, string_nesting}
-use Rattle.lsys_syntax.specs.RuleMachine.{Form, production, homomorphism, Part, at_first, at_predecessor, at_right, Head, Body, Spot, as_condition, as_weight, as_param, State, Formals, FormalDue, FormalRead, InExpr, Successor, Stop, Sign, a_name, a_push, a_pop, a_cut, no_sign, sign_of}
+use Rattle.lsys_syntax.specs.RuleMachine.{Form, production, homomorphism, Part, at_first, at_predecessor, at_right, Head, Premise, Spot, as_condition, as_weight, as_param, RuleState, Formals, FormalDue, FormalRead, InExpr, Successor, Stop, Sign, a_name, a_push, a_pop, a_cut, no_sign, sign_of}
 use Rattle.lsys_syntax.proofs.RuleComplete.{Absent, NoWeight, MayCut}
 use Rattle.lsys_syntax.proofs.Sound.{IsGoing}
 use Rattle.lsys_syntax.proofs.Fits.{Fits}
@@ -22,7 +22,7 @@ part_kinds (at_right l n fs) = kinds_of (left_pieces l) ++ (spelled_symbol forma
 abbrev pub head_kinds : Head → List Kind
 head_kinds h = kinds_of (left_pieces h.left) ++ (spelled_symbol formal_pieces (Module h.name h.formals) ++ kinds_of (right_pieces h.right))
 
-abbrev pub body_kinds : Body → List Kind
+abbrev pub body_kinds : Premise → List Kind
 body_kinds d = head_kinds d.head ++ (kinds_of (option_pieces Colon d.condition) ++ (kinds_of (option_pieces At d.weight) ++ Arrow ∷ []))
 
 abbrev pub spot_kinds : Spot → List Kind
@@ -71,7 +71,7 @@ pub record GoodHead (m : Form) (h : Head) : Type 0 where
   pub no_left : Absent m h.left
   pub no_right : Absent m h.right
 
-pub record GoodBody (m : Form) (b : ℕ) (d : Body) : Type 0 where
+pub record GoodBody (m : Form) (b : ℕ) (d : Premise) : Type 0 where
   pub head : GoodHead m d.head
   pub condition : IsOption d.condition
   pub near_condition : option_nesting d.condition ≤ b
@@ -88,7 +88,7 @@ GoodSpot m b (as_weight h c) = OnlyProduction m × GoodBody m b (record { head =
 GoodSpot m b (as_param d r n es) = GoodBody m b d × GoodSuccessor m b (Module n [] ∷ r) × EachOf IsExpr es × (params_nesting es ≤ b)
 
 -- The tokens ts are those of the state, and what it holds are parts of rules whose expressions are nested at most b deep.
-abbrev pub Holds : Form → ℕ → State → List Kind → Type 0
+abbrev pub Holds : Form → ℕ → RuleState → List Kind → Type 0
 Holds m b (Formals p r) ts = (part_kinds p ++ taken formal_pieces r ≡ ts) × GoodPart m p × GoodSymbols m p r
 Holds m b (FormalDue p r n fs) ts =
     (part_kinds p ++ (taken formal_pieces r ++ name_kind n ∷ params_before formal_pieces fs) ≡ ts) × GoodPart m p × GoodSymbols m p (Module n [] ∷ r) × EachOf IsNameText fs

@@ -5,7 +5,7 @@ use Rattle.lsys_syntax.specs.Pieces.{Piece, kinds_of, IsNameText}
 use Rattle.lsys_syntax.specs.Strings.{ModuleName, Symbol, Module, Push, Pop, Cut, name_kind, string_pieces, EachOf, IsModuleName, IsSymbol}
 use Rattle.lsys_syntax.specs.Expressions.{Expr}
 use Rattle.lsys_syntax.specs.Rules.{formal_pieces, left_pieces, right_pieces, IsPattern}
-use Rattle.lsys_syntax.specs.RuleMachine.{Form, production, homomorphism, reversed_onto, reversed, open_in, Part, at_first, at_predecessor, at_right, Head, Body, Spot, as_condition, as_weight, State, Formals, FormalDue, FormalRead, InExpr, Successor, Sign, a_name, a_push, a_pop, a_cut, no_sign, sign_of, popped, one_more, formals_sign, formals_open, left_ends, predecessor_ends, where_closed, head_of, expr_start, with_head, formals_step, due_step, read_step}
+use Rattle.lsys_syntax.specs.RuleMachine.{Form, production, homomorphism, reversed_onto, reversed, open_in, Part, at_first, at_predecessor, at_right, Head, Premise, Spot, as_condition, as_weight, RuleState, Formals, FormalDue, FormalRead, InExpr, Successor, Sign, a_name, a_push, a_pop, a_cut, no_sign, sign_of, popped, one_more, formals_sign, formals_open, left_ends, predecessor_ends, where_closed, head_of, expr_start, with_head, formals_step, formal_due_step, read_step}
 use Rattle.lsys_syntax.proofs.Leads.{Closes}
 use Rattle.lsys_syntax.proofs.RuleComplete.{Absent, NoWeight}
 use Rattle.lsys_syntax.proofs.ExprSound as G
@@ -104,7 +104,7 @@ name-holds production b (at_predecessor l) (x ∷ r) ts n h g = tt
 name-holds production b at_first (x ∷ r) ts n h g = module-read production b at_first (x ∷ r) ts h n g tt
 name-holds production b (at_right l k fs) (x ∷ r) ts n h g = module-read production b (at_right l k fs) (x ∷ r) ts h n g tt
 
-pub popped-holds : (m : Form) (b n : ℕ) (s : State) (ts : List Kind) → (0 < n → Holds m b s ts) → Holds m b (popped n s) ts
+pub popped-holds : (m : Form) (b n : ℕ) (s : RuleState) (ts : List Kind) → (0 < n → Holds m b s ts) → Holds m b (popped n s) ts
 popped-holds m b zero s ts h = tt
 popped-holds m b (suc n) s ts h = h (omega arith)
 
@@ -188,7 +188,7 @@ head-good m b (at_right l n fs) (x ∷ r) ts h =
     ))
 head-good m b p r ts h = tt
 
-with_head-holds : (m : Form) (b : ℕ) (f : Head → State) (o : Option Head) (ts us : List Kind) → OnHead m ts o → ((h : Head) → head_kinds h ≡ ts → GoodHead m h → Holds m b (f h) us) → Holds m b (with_head f o) us
+with_head-holds : (m : Form) (b : ℕ) (f : Head → RuleState) (o : Option Head) (ts us : List Kind) → OnHead m ts o → ((h : Head) → head_kinds h ≡ ts → GoodHead m h → Holds m b (f h) us) → Holds m b (with_head f o) us
 with_head-holds m b f None ts us g k = tt
 with_head-holds m b f (Some h) ts us g k = k h g.0 g.1
 
@@ -199,7 +199,7 @@ bare-good m b h g = record { head = g; condition = tt; near_condition = omega ar
 pub start-holds : (m : Form) (b : ℕ) (spot : Spot) (ts : List Kind) → spot_kinds spot ≡ ts → GoodSpot m b spot → Holds m b (InExpr spot expr_start) ts
 start-holds m b spot ts e g = (append-nil (spot_kinds spot) ∙ e, g, tt, tt, (omega arith, tt))
 
-pub arrow-holds : (m : Form) (b : ℕ) (d : Body) (ts : List Kind) → body_kinds d ≡ ts → GoodBody m b d → Holds m b (Successor d []) ts
+pub arrow-holds : (m : Form) (b : ℕ) (d : Premise) (ts : List Kind) → body_kinds d ≡ ts → GoodBody m b d → Holds m b (Successor d []) ts
 arrow-holds m b d ts e g = (append-nil (body_kinds d) ∙ e, g, (tt, tt, omega arith, tt))
 
 pub formals-holds : (m : Form) (b : ℕ) (p : Part) (r : List (Symbol NameText)) (ts : List Kind) (k : Kind) → G.IsNamed k → Holds m b (Formals p r) ts → Holds m b (formals_step m k p r) (ts ++ k ∷ [])
@@ -220,7 +220,7 @@ formals-holds m b p r ts Arrow o h =
     (λ j e g. arrow-holds m b (record { head = j; condition = None; weight = None }) (ts ++ Arrow ∷ []) (ap (λ ks. ks ++ Arrow ∷ []) e) (bare-good m b j g))
 formals-holds m b p r ts k o h = sign-holds m b p r ts k (sign_of k) (sign-is k) o h
 
-pub due-holds : (m : Form) (b : ℕ) (p : Part) (r : List (Symbol NameText)) (n : ModuleName) (fs : List NameText) (ts : List Kind) (k : Kind) → G.IsNamed k → Holds m b (FormalDue p r n fs) ts → Holds m b (due_step k p r n fs) (ts ++ k ∷ [])
+pub due-holds : (m : Form) (b : ℕ) (p : Part) (r : List (Symbol NameText)) (n : ModuleName) (fs : List NameText) (ts : List Kind) (k : Kind) → G.IsNamed k → Holds m b (FormalDue p r n fs) ts → Holds m b (formal_due_step k p r n fs) (ts ++ k ∷ [])
 due-holds m b p r n fs ts (Name f) o h = (simp append_assoc refl ∙ ap (λ ks. ks ++ Name f ∷ []) h.0, h.1, h.2, (o, h.3))
 due-holds m b p r n fs ts k o h = tt
 

@@ -8,7 +8,7 @@ use Rattle.lsys_syntax.specs.ExpressionMachine as E
 use Rattle.lsys_syntax.specs.Completions as C
 use Rattle.lsys_syntax.specs.Nesting as N
 use Rattle.lsys_syntax.specs.Rules.{Rule, left_pieces, predecessor_pieces, right_pieces, option_pieces, successor_pieces, rule_pieces, IsRule, params_nesting, string_nesting, rule_nesting}
-use Rattle.lsys_syntax.specs.RuleMachine.{Form, production, homomorphism, reversed_onto, reversed, open_in, Head, Body, Spot, as_condition, as_weight, as_param, State, Formals, FormalDue, FormalRead, InExpr, Successor, Stop, Sign, a_name, a_push, a_pop, a_cut, no_sign, sign_of, popped, where_closed, only_production, done_step, within, small, successor_open, successor_sign, successor_step, step, rule_with, whole}
+use Rattle.lsys_syntax.specs.RuleMachine.{Form, production, homomorphism, reversed_onto, reversed, open_in, Head, Premise, Spot, as_condition, as_weight, as_param, RuleState, Formals, FormalDue, FormalRead, InExpr, Successor, Stop, Sign, a_name, a_push, a_pop, a_cut, no_sign, sign_of, popped, where_closed, only_production, done_step, within, small, successor_open, successor_sign, successor_step, rule_step, rule_with, whole}
 use Rattle.lsys_syntax.proofs.ExprLeads.{Shallow}
 use Rattle.lsys_syntax.proofs.RuleComplete.{MayCut, OfForm}
 use Rattle.lsys_syntax.proofs.Sound.{IsGoing}
@@ -75,7 +75,7 @@ module _ (b : ℕ) (e : Expr) (ts : List Kind) (i : IsExpr e) (n : N.expr_nestin
   weight-arrow h c q =
       ap (λ ks. head_kinds h ++ (kinds_of (option_pieces Colon c) ++ (At ∷ ks ++ Arrow ∷ []))) (pieces-kinds e) ∙ behind-two (head_kinds h) (kinds_of (option_pieces Colon c)) (expr_kinds e) At Arrow ∙ ap (λ ks. ks ++ Arrow ∷ []) q
 
-  param-kinds : (d : Body) (r : List (Symbol Expr)) (k : ModuleName) (es : List Expr) → spot_kinds (as_param d r k es) ++ expr_kinds e ≡ ts
+  param-kinds : (d : Premise) (r : List (Symbol Expr)) (k : ModuleName) (es : List Expr) → spot_kinds (as_param d r k es) ++ expr_kinds e ≡ ts
       → body_kinds d ++ (taken expr_pieces r ++ name_kind k ∷ (params_before expr_pieces es ++ kinds_of (expr_pieces e))) ≡ ts
   param-kinds d r k es q = ap (λ ks. body_kinds d ++ (taken expr_pieces r ++ name_kind k ∷ (params_before expr_pieces es ++ ks))) (pieces-kinds e)
       ∙ behind-params (body_kinds d) (taken expr_pieces r) (params_before expr_pieces es) (expr_kinds e) (name_kind k) ∙ q
@@ -97,10 +97,10 @@ module _ (b : ℕ) (e : Expr) (ts : List Kind) (i : IsExpr e) (n : N.expr_nestin
 
 module _ (m : Form) (b : ℕ) (spot : Spot) (k : Kind) (us ts : List Kind) (q : spot_kinds spot ++ us ≡ ts) (g : GoodSpot m b spot) where
   -- the state goes on with the token
-  goes-on : (s : E.State) → C.spelled s ≡ us ++ small k ∷ [] → small k ≡ k → spot_kinds spot ++ C.spelled s ≡ ts ++ k ∷ []
+  goes-on : (s : E.ExpressionState) → C.spelled s ≡ us ++ small k ∷ [] → small k ≡ k → spot_kinds spot ++ C.spelled s ≡ ts ++ k ∷ []
   goes-on s e f = ap (λ ks. spot_kinds spot ++ ks) (e ∙ ap (λ j. us ++ j ∷ []) f) ∙ sym (append_assoc (spot_kinds spot) us (k ∷ [])) ∙ ap (λ ks. ks ++ k ∷ []) q
 
-  within-holds : (s : E.State) → G.After b s us (small k) → (IsGoing s → small k ≡ k) → Holds m b (within m spot k s) (ts ++ k ∷ [])
+  within-holds : (s : E.ExpressionState) → G.After b s us (small k) → (IsGoing s → small k ≡ k) → Holds m b (within m spot k s) (ts ++ k ∷ [])
   within-holds (E.Due j) a f = (goes-on (E.Due j) a.0 (f tt), g, tt, a.1, a.2)
   within-holds (E.Have x j) a f = (goes-on (E.Have x j) a.0 (f tt), g, tt, a.1, a.2)
   within-holds (E.HalfAnd x j) a f = (goes-on (E.HalfAnd x j) a.0 (f tt), g, tt, a.1, a.2)
@@ -108,7 +108,7 @@ module _ (m : Form) (b : ℕ) (spot : Spot) (k : Kind) (us ts : List Kind) (q : 
   within-holds (E.Done e) a f = done-holds b e ts a.1 a.2 m k spot (ap (λ ks. spot_kinds spot ++ ks) a.0 ∙ q) g
   within-holds E.Stop a f = tt
 
-within-depth : (m : Form) (b : ℕ) (spot : Spot) (k : Kind) (s : E.State) → Shallow b (within m spot k s) → N.depth s ≤ b
+within-depth : (m : Form) (b : ℕ) (spot : Spot) (k : Kind) (s : E.ExpressionState) → Shallow b (within m spot k s) → N.depth s ≤ b
 within-depth m b spot k (E.Due j) h = h
 within-depth m b spot k (E.Have x j) h = h
 within-depth m b spot k (E.HalfAnd x j) h = h
@@ -116,13 +116,13 @@ within-depth m b spot k (E.HalfOr x j) h = h
 within-depth m b spot k (E.Done e) h = omega arith
 within-depth m b spot k E.Stop h = omega arith
 
-expr-holds : (m : Form) (b : ℕ) (spot : Spot) (s : E.State) (ts : List Kind) (k : Kind) → G.IsNamed k → Holds m b (InExpr spot s) ts → Shallow b (step m (InExpr spot s) k) → Holds m b (step m (InExpr spot s) k) (ts ++ k ∷ [])
+expr-holds : (m : Form) (b : ℕ) (spot : Spot) (s : E.ExpressionState) (ts : List Kind) (k : Kind) → G.IsNamed k → Holds m b (InExpr spot s) ts → Shallow b (rule_step m (InExpr spot s) k) → Holds m b (rule_step m (InExpr spot s) k) (ts ++ k ∷ [])
 expr-holds m b spot s ts k o h d =
     within-holds m b spot k (C.spelled s) ts h.0 h.1 (E.step s (small k))
     (G.step-after b s (small k) (G.small-operand k o) h.4 h.3 (within-depth m b spot k (E.step s (small k)) d)) (G.small-taken s k)
 
 -- successors
-module _ (m : Form) (b : ℕ) (d : Body) (r : List (Symbol Expr)) (ts : List Kind) (h : Holds m b (Successor d r) ts) where
+module _ (m : Form) (b : ℕ) (d : Premise) (r : List (Symbol Expr)) (ts : List Kind) (h : Holds m b (Successor d r) ts) where
   put-name : (n : ModuleName) → IsModuleName n → Holds m b (Successor d (Module n [] ∷ r)) (ts ++ name_kind n ∷ [])
   put-name n g = (symbol-more expr_pieces (body_kinds d) ts (Module n []) r h.0, h.1, (((g, tt), h.2.0), (may-module m n [], h.2.1), omega (arith, h.2.2), (tt, h.2.3)))
 
@@ -132,11 +132,11 @@ module _ (m : Form) (b : ℕ) (d : Body) (r : List (Symbol Expr)) (ts : List Kin
   pub put-pop : 0 < open_in r → Holds m b (Successor d (Pop ∷ r)) (ts ++ RightBracket ∷ [])
   put-pop c = (symbol-more expr_pieces (body_kinds d) ts Pop r h.0, h.1, ((tt, h.2.0), (may-pop m, h.2.1), h.2.2, (c, h.2.3)))
 
-put-cut : (m : Form) (b : ℕ) (d : Body) (r : List (Symbol Expr)) (ts : List Kind) → Holds m b (Successor d r) ts → Holds m b (only_production m (Successor d (Cut ∷ r))) (ts ++ Percent ∷ [])
+put-cut : (m : Form) (b : ℕ) (d : Premise) (r : List (Symbol Expr)) (ts : List Kind) → Holds m b (Successor d r) ts → Holds m b (only_production m (Successor d (Cut ∷ r))) (ts ++ Percent ∷ [])
 put-cut production b d r ts h = (symbol-more expr_pieces (body_kinds d) ts Cut r h.0, h.1, ((tt, h.2.0), (tt, h.2.1), h.2.2, (tt, h.2.3)))
 put-cut homomorphism b d r ts h = tt
 
-put-sign : (m : Form) (b : ℕ) (d : Body) (r : List (Symbol Expr)) (ts : List Kind) (k : Kind) (g : Sign) → IsSignOf k g → G.IsNamed k → Holds m b (Successor d r) ts → Holds m b (successor_sign m g d r) (ts ++ k ∷ [])
+put-sign : (m : Form) (b : ℕ) (d : Premise) (r : List (Symbol Expr)) (ts : List Kind) (k : Kind) (g : Sign) → IsSignOf k g → G.IsNamed k → Holds m b (Successor d r) ts → Holds m b (successor_sign m g d r) (ts ++ k ∷ [])
 put-sign m b d r ts k (a_name n) i o h = subst (λ j. Holds m b (Successor d (Module n [] ∷ r)) (ts ++ j ∷ [])) (sym i.0) (put-name m b d r ts h n (i.1 o))
 put-sign m b d r ts k a_push i o h = subst (λ j. Holds m b (Successor d (Push ∷ r)) (ts ++ j ∷ [])) (sym i) (put-push m b d r ts h)
 put-sign m b d r ts k a_pop i o h =
@@ -144,7 +144,7 @@ put-sign m b d r ts k a_pop i o h =
 put-sign m b d r ts k a_cut i o h = subst (λ j. Holds m b (only_production m (Successor d (Cut ∷ r))) (ts ++ j ∷ [])) (sym i) (put-cut m b d r ts h)
 put-sign m b d r ts k no_sign i o h = tt
 
-put-open : (m : Form) (b : ℕ) (d : Body) (r : List (Symbol Expr)) (ts : List Kind) → Holds m b (Successor d r) ts → Holds m b (successor_open d r) (ts ++ LeftParen ∷ [])
+put-open : (m : Form) (b : ℕ) (d : Premise) (r : List (Symbol Expr)) (ts : List Kind) → Holds m b (Successor d r) ts → Holds m b (successor_open d r) (ts ++ LeftParen ∷ [])
 put-open m b d [] ts h = tt
 put-open m b d (Module n [] ∷ r) ts h = start-holds m b (as_param d r n []) (ts ++ LeftParen ∷ []) (paren-opens expr_pieces (body_kinds d) ts n r h.0) (h.1, h.2, tt, omega arith)
 put-open m b d (Module n (e ∷ es) ∷ r) ts h = tt
@@ -152,12 +152,12 @@ put-open m b d (Push ∷ r) ts h = tt
 put-open m b d (Pop ∷ r) ts h = tt
 put-open m b d (Cut ∷ r) ts h = tt
 
-successor-holds : (m : Form) (b : ℕ) (d : Body) (r : List (Symbol Expr)) (ts : List Kind) (k : Kind) → G.IsNamed k → Holds m b (Successor d r) ts → Holds m b (successor_step m k d r) (ts ++ k ∷ [])
+successor-holds : (m : Form) (b : ℕ) (d : Premise) (r : List (Symbol Expr)) (ts : List Kind) (k : Kind) → G.IsNamed k → Holds m b (Successor d r) ts → Holds m b (successor_step m k d r) (ts ++ k ∷ [])
 successor-holds m b d r ts LeftParen o h = put-open m b d r ts h
 successor-holds m b d r ts k o h = put-sign m b d r ts k (sign_of k) (sign-is k) o h
 
 -- Each step takes its token.
-pub step-holds : (m : Form) (b : ℕ) (s : State) (ts : List Kind) (k : Kind) → G.IsNamed k → Holds m b s ts → Shallow b (step m s k) → Holds m b (step m s k) (ts ++ k ∷ [])
+pub step-holds : (m : Form) (b : ℕ) (s : RuleState) (ts : List Kind) (k : Kind) → G.IsNamed k → Holds m b s ts → Shallow b (rule_step m s k) → Holds m b (rule_step m s k) (ts ++ k ∷ [])
 step-holds m b (Formals p r) ts k o h d = formals-holds m b p r ts k o h
 step-holds m b (FormalDue p r n fs) ts k o h d = due-holds m b p r n fs ts k o h
 step-holds m b (FormalRead p r n fs) ts k o h d = read-holds m b p r n fs ts k h
@@ -177,7 +177,7 @@ successor-kinds : (xs : List (Symbol Expr)) → kinds_of (successor_pieces xs) �
 successor-kinds [] = refl
 successor-kinds (x ∷ xs) = refl
 
-rule-kinds : (d : Body) (xs : List (Symbol Expr)) → kinds_of (rule_pieces (rule_with d xs)) ≡ body_kinds d ++ spelled_string expr_pieces xs
+rule-kinds : (d : Premise) (xs : List (Symbol Expr)) → kinds_of (rule_pieces (rule_with d xs)) ≡ body_kinds d ++ spelled_string expr_pieces xs
 rule-kinds d xs =
     let l : List Piece = left_pieces d.head.left in
     let f : List Piece = predecessor_pieces d.head.name d.head.formals in
@@ -197,7 +197,7 @@ closed-rule : (m : Form) (b : ℕ) (ts : List Kind) (n : ℕ) (r : Rule) → (n 
 closed-rule m b ts zero r f = f refl
 closed-rule m b ts (suc n) r f = tt
 
-pub rule-spelled : (m : Form) (b : ℕ) (d : Body) (r : List (Symbol Expr)) (ts : List Kind) → Holds m b (Successor d r) ts → open_in r ≡ 0 → IsSpelled m b ts (rule_with d (reversed r))
+pub rule-spelled : (m : Form) (b : ℕ) (d : Premise) (r : List (Symbol Expr)) (ts : List Kind) → Holds m b (Successor d r) ts → open_in r ≡ 0 → IsSpelled m b ts (rule_with d (reversed r))
 rule-spelled m b d r ts h e =
     let g : GoodHead m d.head = h.1.head in
     let near : string_nesting (reversed r) ≤ b = string-within b r [] h.2.2 (omega arith) in (
@@ -220,7 +220,7 @@ rule-spelled m b d r ts h e =
     )
 
 -- Where a rule may end, the tokens that were taken spell it.
-pub whole-spelled : (m : Form) (b : ℕ) (s : State) (ts : List Kind) → Holds m b s ts → OnRule m b ts (whole s)
+pub whole-spelled : (m : Form) (b : ℕ) (s : RuleState) (ts : List Kind) → Holds m b s ts → OnRule m b ts (whole s)
 whole-spelled m b (Formals p r) ts h = tt
 whole-spelled m b (FormalDue p r n fs) ts h = tt
 whole-spelled m b (FormalRead p r n fs) ts h = tt

@@ -2,7 +2,7 @@
 use Rattle.std.proofs.Common.{◌≡◌, List, [], ◌∷◌, ◌++◌, refl, ap, ◌∙◌, sym, subst, append_assoc, append-nil}
 use Rattle.lsys_syntax.specs.Tokens.{Kind, Name, Number, Equal, Unequal, AtMost, AtLeast, LeftParen, RightParen, Plus, Minus, Times, Slash, Percent, Ampersand, Bar, Caret, Bang, Less, Greater}
 use Rattle.lsys_syntax.specs.Expressions.{Expr, only_and, or, And, only_rel, and, Rel, only_sum, compare, Sum, only_term, total, Term, only_unary, product, Unary, negated, inverted, only_atom, raised, Atom, number, parens, term_kind, sum_kind, rel_kind, expr_kinds, and_kinds, rel_kinds, sum_kinds, term_kinds, unary_kinds, atom_kinds}
-use Rattle.lsys_syntax.specs.ExpressionMachine.{InUnary, negating, inverting, raising, in_term, InTerm, first_unary, next_unary, InSum, first_term, next_term, InRel, first_sum, second_sum, InAnd, first_rel, next_rel, InExpr, first_and, next_and, Around, no_parens, in_parens, State, Due, Have, HalfAnd, HalfOr, Done, Stop, AfterExpr, closing, other, AfterAnd, half_or, ends_expr, AfterRel, half_and, ends_and, AfterSum, comparing, ends_rel, AfterTerm, more_sum, ends_sum, AfterUnary, more_term, ends_term, AfterAtom, powering, ends_unary, what_follows, after_expr, after_and, after_rel, after_sum, after_term, after_unary, after_operand, after_atom, start_expr, step, run, ended}
+use Rattle.lsys_syntax.specs.ExpressionMachine.{InUnary, negating, inverting, raising, in_term, InTerm, first_unary, next_unary, InSum, first_term, next_term, InRel, first_sum, second_sum, InAnd, first_rel, next_rel, InExpr, first_and, next_and, Around, no_parens, in_parens, ExpressionState, Due, Have, HalfAnd, HalfOr, Done, Stop, AfterExpr, closing, other, AfterAnd, half_or, ends_expr, AfterRel, half_and, ends_and, AfterSum, comparing, ends_rel, AfterTerm, more_sum, ends_sum, AfterUnary, more_term, ends_term, AfterAtom, powering, ends_unary, what_follows, after_expr, after_and, after_rel, after_sum, after_term, after_unary, after_operand, after_atom, start_expr, step, run, ended}
 use Rattle.lsys_syntax.proofs.Complete.{leave_unary, leave_term, leave_sum, leave_rel, leave_and, leave_expr, read-expr}
 use Rattle.lsys_syntax.specs.Completions.{before_unary, before_term, before_sum, before_rel, before_and, before_expr, before, spelled, closing_unary, closing_term, closing_sum, closing_rel, closing_and, closing_expr, closing_around, completion, fill_unary, fill_term, fill_sum, fill_rel, fill_and, fill_expr, fill_around, completed}
 
@@ -55,12 +55,12 @@ mutual
       ∙ sym (append_assoc (before_unary k) (LeftParen ∷ []) (expr_kinds e ++ RightParen ∷ closing_unary k))
 
 -- Some expression begins with what a state has taken.
-abbrev pub IsGoing : State → Type 0
+abbrev pub IsGoing : ExpressionState → Type 0
 IsGoing (Done e) = ⊥
 IsGoing Stop = ⊥
 IsGoing s = Unit {0}
 
-pub completes : (s : State) → IsGoing s → expr_kinds (completed s) ≡ spelled s ++ completion s
+pub completes : (s : ExpressionState) → IsGoing s → expr_kinds (completed s) ≡ spelled s ++ completion s
 completes (Due k) g = fill_unary-kinds (only_atom (number 0)) k
 completes (Have a k) g = fill_unary-kinds (only_atom a) k ∙ sym (append_assoc (before_unary k) (atom_kinds a) (closing_unary k))
 completes (HalfAnd a k) g =
@@ -75,7 +75,7 @@ completes (Done e) g = elim g [ ]
 completes Stop g = elim g [ ]
 
 -- Each step that goes on takes its token.
-abbrev pub Keeps : State → List Kind → Type 0
+abbrev pub Keeps : ExpressionState → List Kind → Type 0
 Keeps (Done e) ts = Unit {0}
 Keeps Stop ts = Unit {0}
 Keeps s ts = spelled s ≡ ts
@@ -155,12 +155,12 @@ after_atom-keeps powering a k = sym (append_assoc (before_unary k) (atom_kinds a
 after_atom-keeps (ends_unary f) a k = subst (Keeps (after_operand f (only_atom a) k)) (sym (append_assoc (before_unary k) (atom_kinds a) (told_unary f))) (after_operand-keeps f (only_atom a) k)
 
 -- no other token goes on behind an operand
-abbrev pub IsOver : State → Type 0
+abbrev pub IsOver : ExpressionState → Type 0
 IsOver (Done e) = Unit {0}
 IsOver Stop = Unit {0}
 IsOver s = ⊥
 
-over-keeps : (s : State) (ts : List Kind) → IsOver s → Keeps s ts
+over-keeps : (s : ExpressionState) (ts : List Kind) → IsOver s → Keeps s ts
 over-keeps (Due k) ts h = elim h [ ]
 over-keeps (Have a k) ts h = elim h [ ]
 over-keeps (HalfAnd a k) ts h = elim h [ ]
@@ -178,7 +178,7 @@ other-over u (inverting k) = other-over (inverted u) k
 other-over u (raising a k) = other-over (raised a u) k
 other-over u (in_term k) = ended-over _ _
 
-pub step-keeps : (s : State) (t : Kind) → Keeps (step s t) (spelled s ++ t ∷ [])
+pub step-keeps : (s : ExpressionState) (t : Kind) → Keeps (step s t) (spelled s ++ t ∷ [])
 step-keeps (Due k) (Number n) = refl
 step-keeps (Due k) (Name n) = refl
 step-keeps (Due k) LeftParen = refl
@@ -209,7 +209,7 @@ step-keeps (Done e) t = tt
 step-keeps Stop t = tt
 
 -- what is over stays over
-over_run : (ts : List Kind) (s : State) → IsOver s → IsOver (run s ts)
+over_run : (ts : List Kind) (s : ExpressionState) → IsOver s → IsOver (run s ts)
 over_run [] s h = h
 over_run (t ∷ ts) (Done e) h = over_run ts Stop tt
 over_run (t ∷ ts) Stop h = over_run ts Stop tt
@@ -218,7 +218,7 @@ over_run (t ∷ ts) (Have a k) h = elim h [ ]
 over_run (t ∷ ts) (HalfAnd a k) h = elim h [ ]
 over_run (t ∷ ts) (HalfOr e k) h = elim h [ ]
 
-keeps-from : (s : State) (xs ys ts : List Kind) → Keeps s xs → ((zs : List Kind) → IsGoing s → zs ≡ spelled s → Keeps (run s ts) (zs ++ ts)) → xs ++ ts ≡ ys → Keeps (run s ts) ys
+keeps-from : (s : ExpressionState) (xs ys ts : List Kind) → Keeps s xs → ((zs : List Kind) → IsGoing s → zs ≡ spelled s → Keeps (run s ts) (zs ++ ts)) → xs ++ ts ≡ ys → Keeps (run s ts) ys
 keeps-from (Due k) xs ys ts h f e = subst (Keeps (run (Due k) ts)) e (f xs tt (sym h))
 keeps-from (Have a k) xs ys ts h f e = subst (Keeps (run (Have a k) ts)) e (f xs tt (sym h))
 keeps-from (HalfAnd a k) xs ys ts h f e = subst (Keeps (run (HalfAnd a k) ts)) e (f xs tt (sym h))
@@ -226,7 +226,7 @@ keeps-from (HalfOr a k) xs ys ts h f e = subst (Keeps (run (HalfOr a k) ts)) e (
 keeps-from (Done a) xs ys ts h f e = over-keeps (run (Done a) ts) ys (over_run ts (Done a) tt)
 keeps-from Stop xs ys ts h f e = over-keeps (run Stop ts) ys (over_run ts Stop tt)
 
-run-keeps : (ts : List Kind) (s : State) (zs : List Kind) → IsGoing s → zs ≡ spelled s → Keeps (run s ts) (zs ++ ts)
+run-keeps : (ts : List Kind) (s : ExpressionState) (zs : List Kind) → IsGoing s → zs ≡ spelled s → Keeps (run s ts) (zs ++ ts)
 run-keeps [] (Due k) zs g e = sym e ∙ sym (append-nil zs)
 run-keeps [] (Have a k) zs g e = sym e ∙ sym (append-nil zs)
 run-keeps [] (HalfAnd a k) zs g e = sym e ∙ sym (append-nil zs)
@@ -236,7 +236,7 @@ run-keeps [] Stop zs g e = tt
 run-keeps (t ∷ ts) s zs g e = keeps-from (step s t) (spelled s ++ t ∷ []) (zs ++ t ∷ ts) ts (step-keeps s t) (λ ys h d. run-keeps ts (step s t) ys h d)
     (append_assoc (spelled s) (t ∷ []) ts ∙ ap (λ x. x ++ t ∷ ts) (sym e))
 
-going_spelled : (s : State) (ts : List Kind) → IsGoing s → Keeps s ts → spelled s ≡ ts
+going_spelled : (s : ExpressionState) (ts : List Kind) → IsGoing s → Keeps s ts → spelled s ≡ ts
 going_spelled (Due k) ts g h = h
 going_spelled (Have a k) ts g h = h
 going_spelled (HalfAnd a k) ts g h = h
@@ -247,7 +247,7 @@ going_spelled Stop ts g h = elim g [ ]
 -- Where the reading goes on, some expression begins with the tokens: these and the stated completion.
 pub begins : (ts : List Kind) → IsGoing (run (start_expr no_parens) ts) → (e : Expr) × (expr_kinds e ≡ ts ++ completion (run (start_expr no_parens) ts))
 begins ts g =
-    let s : State = run (start_expr no_parens) ts in
+    let s : ExpressionState = run (start_expr no_parens) ts in
     let taken : spelled s ≡ ts = going_spelled s ts g (run-keeps ts (start_expr no_parens) [] tt refl) in
     (completed s, completes s g ∙ ap (λ x. x ++ completion s) taken)
 
@@ -277,7 +277,7 @@ going_expr : (e : Expr) (k : Around) → IsOver (leave_expr e k) → ⊥
 going_expr (only_and a) k h = going_and a (first_and k) h
 going_expr (or e a) k h = going_and a (next_and e k) h
 
-run-append : (ts us : List Kind) (s : State) → run s (ts ++ us) ≡ run (run s ts) us
+run-append : (ts us : List Kind) (s : ExpressionState) → run s (ts ++ us) ≡ run (run s ts) us
 run-append [] us s = refl
 run-append (t ∷ ts) us s = run-append ts us (step s t)
 

@@ -4,7 +4,7 @@ use Rattle.std.proofs.lemmas.Bool.Decides.{nat_tests}
 use Rattle.std.proofs.lemmas.Fmt.{decimal_is_IsNumeral}
 use Rattle.std.specs.Str.Parse.{IsNumeral, digits_value}
 use Rattle.lsys_syntax.specs.Tokens.{NameText, short, long, Kind, Word, LongWord, Name, Number, BigNumber, Arrow, Equal, Unequal, AtMost, AtLeast, LeftParen, RightParen, LeftBracket, RightBracket, Comma, Colon, At, Plus, Minus, Times, Slash, Backslash, Percent, Ampersand, Bar, Caret, Bang, Less, Greater, Assign, Mode, First, Words, UntilColon, Modules, is_blank, is_digit, is_letter, is_alphanumeric, is_word_byte, front, token_at, begins, letter_at, name_tail, name_with, word_kind}
-use Rattle.lsys_syntax.specs.Pieces.{token_text, Tail, anything, not_underscore, not_plain, not_digit, not_equals, Head, letter, digit, equals, mark, ending, beginning, may_follow, Stands, Every, IsNameText, IsWordText, HasWords}
+use Rattle.lsys_syntax.specs.Pieces.{token_text, Tail, anything, not_underscore, not_plain, not_digit, not_equals, FirstByte, letter, digit, equals, mark, ending, beginning, may_follow, Stands, Every, IsNameText, IsWordText, HasWords}
 use Rattle.lsys_syntax.proofs.Bytes.{differs, letter_no_digit, AllDigits-Every, Stops, front-append}
 
 abbrev pub continues : Tail → ℕ → Bool
@@ -14,13 +14,13 @@ continues not_plain c = is_word_byte c
 continues not_digit c = is_digit c
 continues not_equals c = c == 61
 
-abbrev pub IsHead : Head → ℕ → Type 0
+abbrev pub IsHead : FirstByte → ℕ → Type 0
 IsHead letter c = is_letter c ≡ true
 IsHead digit c = is_digit c ≡ true
 IsHead equals c = c ≡ 61
 IsHead mark c = (is_word_byte c ≡ false) × (is_digit c ≡ false) × ((c == 61) ≡ false) × ((c == 95) ≡ false)
 
-pub head-stops : (t : Tail) (h : Head) (c : ℕ) → may_follow t h ≡ true → IsHead h c → continues t c ≡ false
+pub head-stops : (t : Tail) (h : FirstByte) (c : ℕ) → may_follow t h ≡ true → IsHead h c → continues t c ≡ false
 head-stops anything h c f i = refl
 head-stops not_underscore letter c f i = differs is_letter c 95 i refl
 head-stops not_underscore digit c f i = differs is_digit c 95 i refl

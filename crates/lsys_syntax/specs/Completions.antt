@@ -2,7 +2,7 @@
 use Rattle.std.specs.Prelude.{List, [], ◌∷◌, ◌++◌}
 use Rattle.lsys_syntax.specs.Tokens.{Kind, Number, LeftParen, RightParen, Minus, Ampersand, Bar, Caret, Bang}
 use Rattle.lsys_syntax.specs.Expressions.{Expr, only_and, or, And, only_rel, and, Rel, only_sum, compare, Sum, only_term, total, Term, only_unary, product, Unary, negated, inverted, only_atom, raised, number, parens, term_kind, sum_kind, rel_kind, expr_kinds, and_kinds, sum_kinds, term_kinds, atom_kinds}
-use Rattle.lsys_syntax.specs.ExpressionMachine.{InUnary, negating, inverting, raising, in_term, InTerm, first_unary, next_unary, InSum, first_term, next_term, InRel, first_sum, second_sum, InAnd, first_rel, next_rel, InExpr, first_and, next_and, Around, no_parens, in_parens, State, Due, Have, HalfAnd, HalfOr, Done, Stop}
+use Rattle.lsys_syntax.specs.ExpressionMachine.{InUnary, negating, inverting, raising, in_term, InTerm, first_unary, next_unary, InSum, first_term, next_term, InRel, first_sum, second_sum, InAnd, first_rel, next_rel, InExpr, first_and, next_and, Around, no_parens, in_parens, ExpressionState, Due, Have, HalfAnd, HalfOr, Done, Stop}
 
 -- the tokens before an operand
 abbrev mutual
@@ -36,7 +36,7 @@ abbrev mutual
   before no_parens = []
   before (in_parens k) = before_unary k ++ LeftParen ∷ []
 
-abbrev pub spelled : State → List Kind
+abbrev pub spelled : ExpressionState → List Kind
 spelled (Due k) = before_unary k
 spelled (Have a k) = before_unary k ++ atom_kinds a
 spelled (HalfAnd a k) = before_expr k ++ (and_kinds a ++ Ampersand ∷ [])
@@ -77,7 +77,7 @@ abbrev mutual
   closing_around (in_parens k) = RightParen ∷ closing_unary k
 
 -- An operand that is due is 0, and half of && or || gets its other half.
-abbrev pub completion : State → List Kind
+abbrev pub completion : ExpressionState → List Kind
 completion (Due k) = Number 0 ∷ closing_unary k
 completion (Have a k) = closing_unary k
 completion (HalfAnd a k) = Ampersand ∷ Number 0 ∷ closing_expr k
@@ -117,7 +117,7 @@ abbrev mutual
   fill_around e no_parens = e
   fill_around e (in_parens k) = fill_unary (only_atom (parens e)) k
 
-abbrev pub completed : State → Expr
+abbrev pub completed : ExpressionState → Expr
 completed (Due k) = fill_unary (only_atom (number 0)) k
 completed (Have a k) = fill_unary (only_atom a) k
 completed (HalfAnd a k) = fill_expr (and a (only_sum (only_term (only_unary (only_atom (number 0)))))) k

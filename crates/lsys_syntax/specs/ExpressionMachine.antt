@@ -35,13 +35,13 @@ mutual
     no_parens : Around
     in_parens : InUnary → Around
 
-pub data State : Type 0 where
-  Due : InUnary → State
-  Have : Atom → InUnary → State
-  HalfAnd : And → InExpr → State
-  HalfOr : Expr → Around → State
-  Done : Expr → State
-  Stop : State
+pub data ExpressionState : Type 0 where
+  Due : InUnary → ExpressionState
+  Have : Atom → InUnary → ExpressionState
+  HalfAnd : And → InExpr → ExpressionState
+  HalfOr : Expr → Around → ExpressionState
+  Done : Expr → ExpressionState
+  Stop : ExpressionState
 
 -- what a token does behind an operand, by the rule that it goes on or ends
 pub data AfterExpr : Type 0 where
@@ -147,57 +147,57 @@ around_expr (first_and k) = k
 around_expr (next_and e k) = k
 
 -- The steps behind an operand of each rule. Outside of all parentheses an expression is done before a token that can't go on with it.
-abbrev pub closed : Expr → Around → State
+abbrev pub closed : Expr → Around → ExpressionState
 closed e no_parens = Done e
 closed e (in_parens k) = Have (parens e) k
 
-abbrev pub ended : Expr → Around → State
+abbrev pub ended : Expr → Around → ExpressionState
 ended e no_parens = Done e
 ended e (in_parens k) = Stop
 
-abbrev pub after_expr : AfterExpr → Expr → Around → State
+abbrev pub after_expr : AfterExpr → Expr → Around → ExpressionState
 after_expr closing e k = closed e k
 after_expr other e k = ended e k
 
-abbrev pub after_and : AfterAnd → And → InExpr → State
+abbrev pub after_and : AfterAnd → And → InExpr → ExpressionState
 after_and half_or a k = HalfOr (expr_with a k) (around_expr k)
 after_and (ends_expr f) a k = after_expr f (expr_with a k) (around_expr k)
 
-abbrev pub after_rel : AfterRel → Rel → InAnd → State
+abbrev pub after_rel : AfterRel → Rel → InAnd → ExpressionState
 after_rel half_and r k = HalfAnd (and_with r k) (around_and k)
 after_rel (ends_and f) r k = after_and f (and_with r k) (around_and k)
 
-abbrev pub compared : RelOp → Sum → InRel → State
+abbrev pub compared : RelOp → Sum → InRel → ExpressionState
 compared op s (first_sum k) = Due (in_term (first_unary (first_term (second_sum s op k))))
 compared op s (second_sum l o k) = Stop
 
-abbrev pub after_sum : AfterSum → Sum → InRel → State
+abbrev pub after_sum : AfterSum → Sum → InRel → ExpressionState
 after_sum (comparing op) s k = compared op s k
 after_sum (ends_rel f) s k = after_rel f (rel_with s k) (around_rel k)
 
-abbrev pub after_term : AfterTerm → Term → InSum → State
+abbrev pub after_term : AfterTerm → Term → InSum → ExpressionState
 after_term (more_sum op) t k = Due (in_term (first_unary (next_term (sum_with t k) op (around_sum k))))
 after_term (ends_sum f) t k = after_sum f (sum_with t k) (around_sum k)
 
-abbrev pub after_unary : AfterUnary → Unary → InTerm → State
+abbrev pub after_unary : AfterUnary → Unary → InTerm → ExpressionState
 after_unary (more_term op) u k = Due (in_term (next_unary (term_with u k) op (around_term k)))
 after_unary (ends_term f) u k = after_term f (term_with u k) (around_term k)
 
 -- prefixes and powers end with their operand
-abbrev pub after_operand : AfterUnary → Unary → InUnary → State
+abbrev pub after_operand : AfterUnary → Unary → InUnary → ExpressionState
 after_operand f u (negating k) = after_operand f (negated u) k
 after_operand f u (inverting k) = after_operand f (inverted u) k
 after_operand f u (raising a k) = after_operand f (raised a u) k
 after_operand f u (in_term k) = after_unary f u k
 
-abbrev pub after_atom : AfterAtom → Atom → InUnary → State
+abbrev pub after_atom : AfterAtom → Atom → InUnary → ExpressionState
 after_atom powering a k = Due (raising a k)
 after_atom (ends_unary f) a k = after_operand f (only_atom a) k
 
-abbrev pub start_expr : Around → State
+abbrev pub start_expr : Around → ExpressionState
 start_expr k = Due (in_term (first_unary (first_term (first_sum (first_rel (first_and k))))))
 
-abbrev pub due_step : Kind → InUnary → State
+abbrev pub due_step : Kind → InUnary → ExpressionState
 due_step (Number n) k = Have (number n) k
 due_step (Name n) k = Have (name n) k
 due_step LeftParen k = start_expr (in_parens k)
@@ -205,15 +205,15 @@ due_step Minus k = Due (negating k)
 due_step Bang k = Due (inverting k)
 due_step t k = Stop
 
-abbrev pub half_and_step : Kind → And → InExpr → State
+abbrev pub half_and_step : Kind → And → InExpr → ExpressionState
 half_and_step Ampersand a k = Due (in_term (first_unary (first_term (first_sum (next_rel a k)))))
 half_and_step t a k = Stop
 
-abbrev pub half_or_step : Kind → Expr → Around → State
+abbrev pub half_or_step : Kind → Expr → Around → ExpressionState
 half_or_step Bar e k = Due (in_term (first_unary (first_term (first_sum (first_rel (next_and e k))))))
 half_or_step t e k = Stop
 
-abbrev pub step : State → Kind → State
+abbrev pub step : ExpressionState → Kind → ExpressionState
 step (Due k) t = due_step t k
 step (Have a k) t = after_atom (what_follows t) a k
 step (HalfAnd a k) t = half_and_step t a k
@@ -221,16 +221,16 @@ step (HalfOr e k) t = half_or_step t e k
 step (Done e) t = Stop
 step Stop t = Stop
 
-abbrev pub run : State → List Kind → State
+abbrev pub run : ExpressionState → List Kind → ExpressionState
 run s [] = s
 run s (t ∷ ts) = run (step s t) ts
 
 -- the end of the tokens is one more step
-abbrev pub end_step : State → State
+abbrev pub end_step : ExpressionState → ExpressionState
 end_step (Have a k) = after_atom (expr_step other) a k
 end_step s = Stop
 
-abbrev pub finished : State → Option Expr
+abbrev pub finished : ExpressionState → Option Expr
 finished (Done e) = Some e
 finished s = None
 

@@ -3,7 +3,7 @@ use Rattle.std.specs.Prelude.{◌≡◌, ℕ, Option, List, [], ◌∷◌, ◌++
 use Rattle.lsys_syntax.specs.Limits.{nesting_bound}
 use Rattle.lsys_syntax.specs.Tokens.{Kind, RightParen}
 use Rattle.lsys_syntax.specs.Expressions.{Expr, expr_kinds, IsExpr}
-use Rattle.lsys_syntax.specs.ExpressionMachine.{State, Done, Stop, other, expr_step, what_follows, no_parens, start_expr, step, end_step, parse_expr}
+use Rattle.lsys_syntax.specs.ExpressionMachine.{ExpressionState, Done, Stop, other, expr_step, what_follows, no_parens, start_expr, step, end_step, parse_expr}
 use Rattle.lsys_syntax.specs.Nesting.{expr_nesting, depth}
 use Rattle.lsys_syntax.specs.RuleMachine.{small}
 
@@ -43,21 +43,21 @@ pub data Extent : Type 0 where
   too_deep : ℕ → Extent  -- none does but for the bound on nesting
 
 -- no token goes on: what the state is at an end
-abbrev pub at_end : ℕ → State → Extent
+abbrev pub at_end : ℕ → ExpressionState → Extent
 at_end n (Done e) = ends n e
 at_end n s = stops n
 
 -- Behind token number n, which makes t of the state s. An expression is done before a token that can't go on with it; a
 -- second comparison can't either, though the machine stops there.
-abbrev pub behind : ℕ → State → State → Extent → Extent
-behind n s (Done e) rest = ends n e
-behind n s Stop rest = at_end n (end_step s)
-behind n s t rest = if nat_lt nesting_bound (depth t) then too_deep n else rest
+abbrev pub extent_behind : ℕ → ExpressionState → ExpressionState → Extent → Extent
+extent_behind n s (Done e) rest = ends n e
+extent_behind n s Stop rest = at_end n (end_step s)
+extent_behind n s t rest = if nat_lt nesting_bound (depth t) then too_deep n else rest
 
 -- the tokens from number n on
-abbrev pub extent_from : ℕ → State → List Kind → Extent
+abbrev pub extent_from : ℕ → ExpressionState → List Kind → Extent
 extent_from n s [] = at_end n (end_step s)
-extent_from n s (k ∷ ks) = behind n s (step s (small k)) (extent_from (n + 1) (step s (small k)) ks)
+extent_from n s (k ∷ ks) = extent_behind n s (step s (small k)) (extent_from (n + 1) (step s (small k)) ks)
 
 -- how far the tokens, counted from 0, are an expression that is nested within the bound
 abbrev pub extent : List Kind → Extent

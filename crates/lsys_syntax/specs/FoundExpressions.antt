@@ -78,7 +78,7 @@ ExtentsAreReadAsTheirExpressions =
 -- the verdict on a line behind the colon of its label is that on its rule
 abbrev pub LinesGoOnAsTheirRules : Type 0
 LinesGoOnAsTheirRules =
-    (line : Line) (kinds : List Kind) (place : ℕ) (state : rules.State)
+    (line : Line) (kinds : List Kind) (place : ℕ) (state : rules.RuleState)
     → verdict_from place (line_state line state) kinds
     ≡ line_verdict line (rule_from (form_of line) place state kinds)
 

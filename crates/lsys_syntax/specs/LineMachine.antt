@@ -26,10 +26,10 @@ pub data State : Type 0 where
   ProductionDue : State
   OneWord : List ℕ → State
   TwoWords : List ℕ → List ℕ → State
-  InProduction : Option (List ℕ) → List ℕ → R.State → State
+  InProduction : Option (List ℕ) → List ℕ → R.RuleState → State
   LabelDue : State
   LabelRead : List ℕ → State
-  InHomomorphism : List ℕ → R.State → State
+  InHomomorphism : List ℕ → R.RuleState → State
   DropDue : State
   InNames : Listed → List ModuleName → State
   ScheduleDue : State
@@ -47,14 +47,14 @@ pub data State : Type 0 where
   Stop : State
 
 -- a `]` where a branch is open
-abbrev pub popped : ℕ → State → State
-popped zero s = Stop
-popped (suc n) s = s
+abbrev pub axiom_popped : ℕ → State → State
+axiom_popped zero s = Stop
+axiom_popped (suc n) s = s
 
 abbrev pub axiom_sign : Sign → List (Symbol Signed) → State
 axiom_sign (a_name n) r = InAxiom (Symbols (Module n [] ∷ r))
 axiom_sign a_push r = InAxiom (Symbols (Push ∷ r))
-axiom_sign a_pop r = popped (open_in r) (InAxiom (Symbols (Pop ∷ r)))
+axiom_sign a_pop r = axiom_popped (open_in r) (InAxiom (Symbols (Pop ∷ r)))
 axiom_sign a_cut r = InAxiom (Symbols (Cut ∷ r))
 axiom_sign no_sign r = Stop
 
@@ -62,9 +62,9 @@ abbrev pub axiom_open : List (Symbol Signed) → State
 axiom_open (Module n [] ∷ r) = InAxiom (NumberDue r n [])
 axiom_open r = Stop
 
-abbrev pub symbols_step : Kind → List (Symbol Signed) → State
-symbols_step LeftParen r = axiom_open r
-symbols_step k r = axiom_sign (sign_of k) r
+abbrev pub axiom_symbols_step : Kind → List (Symbol Signed) → State
+axiom_symbols_step LeftParen r = axiom_open r
+axiom_symbols_step k r = axiom_sign (sign_of k) r
 
 abbrev pub if_small : Bool → State → State
 if_small true s = s
@@ -85,7 +85,7 @@ number_read_step RightParen r n zs = InAxiom (Symbols (Module n (reversed zs) �
 number_read_step k r n zs = Stop
 
 abbrev pub axiom_step : AxiomState → Kind → State
-axiom_step (Symbols r) t = symbols_step t r
+axiom_step (Symbols r) t = axiom_symbols_step t r
 axiom_step (NumberDue r n zs) t = number_due_step t r n zs
 axiom_step (MinusRead r n zs) t = minus_step t r n zs
 axiom_step (NumberRead r n zs) t = number_read_step t r n zs
@@ -131,7 +131,7 @@ abbrev pub listing : Listed → List ModuleName → Command
 listing of_ignored ns = set_ignored ns
 listing (of_own k t) ns = set_own k t ns
 
-abbrev pub unless_stop : (R.State → State) → R.State → State
+abbrev pub unless_stop : (R.RuleState → State) → R.RuleState → State
 unless_stop f R.Stop = Stop
 unless_stop f s = f s
 
@@ -156,31 +156,31 @@ abbrev pub colon_step : State → Kind → State
 colon_step s Colon = s
 colon_step s k = Stop
 
-abbrev pub step : State → Kind → State
-step Fresh k = word_step first_word k
-step (InAxiom a) k = axiom_step a k
-step ProductionDue k = word_step OneWord k
-step (OneWord w) k = one_word_step w k
-step (TwoWords t l) k = colon_step (InProduction (Some t) l R.start) k
-step (InProduction t l s) k = unless_stop (InProduction t l) (R.step production s k)
-step LabelDue k = word_step LabelRead k
-step (LabelRead l) k = colon_step (InHomomorphism l R.start) k
-step (InHomomorphism l s) k = unless_stop (InHomomorphism l) (R.step homomorphism s k)
-step DropDue k = word_step (λ l. Whole (drop_rule l)) k
-step (InNames g r) k = with_name (λ n. InNames g (n ∷ r)) (sign_of k)
-step ScheduleDue k = word_step (λ w. InSchedule (w ∷ [])) k
-step (InSchedule r) k = word_step (λ w. InSchedule (w ∷ r)) k
-step SeedDue k = number_step (λ n. Whole (set_seed n)) k
-step DepthDue k = number_step (λ n. Whole (set_depth n)) k
-step LatticeDue k = word_step lattice_named k
-step StringRead k = number_step (λ n. Whole (print_string (Some n))) k
-step VersionDue k = number_step (λ n. Whole (set_version n)) k
-step (TableDue g) k = word_step (TableRead g) k
-step (TableRead g t) k = colon_step (InNames (of_own g t) []) k
-step CommonDue k = word_step (λ t. Whole (drop_own t)) k
-step NumberingDue k = word_step numbering_named k
-step (Whole c) k = Stop
-step Stop k = Stop
+abbrev pub line_step : State → Kind → State
+line_step Fresh k = word_step first_word k
+line_step (InAxiom a) k = axiom_step a k
+line_step ProductionDue k = word_step OneWord k
+line_step (OneWord w) k = one_word_step w k
+line_step (TwoWords t l) k = colon_step (InProduction (Some t) l R.start) k
+line_step (InProduction t l s) k = unless_stop (InProduction t l) (R.rule_step production s k)
+line_step LabelDue k = word_step LabelRead k
+line_step (LabelRead l) k = colon_step (InHomomorphism l R.start) k
+line_step (InHomomorphism l s) k = unless_stop (InHomomorphism l) (R.rule_step homomorphism s k)
+line_step DropDue k = word_step (λ l. Whole (drop_rule l)) k
+line_step (InNames g r) k = with_name (λ n. InNames g (n ∷ r)) (sign_of k)
+line_step ScheduleDue k = word_step (λ w. InSchedule (w ∷ [])) k
+line_step (InSchedule r) k = word_step (λ w. InSchedule (w ∷ r)) k
+line_step SeedDue k = number_step (λ n. Whole (set_seed n)) k
+line_step DepthDue k = number_step (λ n. Whole (set_depth n)) k
+line_step LatticeDue k = word_step lattice_named k
+line_step StringRead k = number_step (λ n. Whole (print_string (Some n))) k
+line_step VersionDue k = number_step (λ n. Whole (set_version n)) k
+line_step (TableDue g) k = word_step (TableRead g) k
+line_step (TableRead g t) k = colon_step (InNames (of_own g t) []) k
+line_step CommonDue k = word_step (λ t. Whole (drop_own t)) k
+line_step NumberingDue k = word_step numbering_named k
+line_step (Whole c) k = Stop
+line_step Stop k = Stop
 
 -- the command, where the line may end here
 abbrev pub finish : State → Option Command
@@ -194,10 +194,10 @@ finish (Whole c) = Some c
 finish s = None
 
 -- the nesting at the last token that was taken
-abbrev pub depth : State → ℕ
-depth (InProduction t l s) = R.depth s
-depth (InHomomorphism l s) = R.depth s
-depth s = 0
+abbrev pub line_depth : State → ℕ
+line_depth (InProduction t l s) = R.rule_depth s
+line_depth (InHomomorphism l s) = R.rule_depth s
+line_depth s = 0
 
 -- A line's tokens are a sentence, or there is a first token with which no sentence begins: at all (stops), or but for the bound on nesting (too_deep).
 pub data Verdict : Type 0 where
@@ -205,9 +205,9 @@ pub data Verdict : Type 0 where
   stops : ℕ → Verdict
   too_deep : ℕ → Verdict
 
-abbrev pub ended : ℕ → Option Command → Verdict
-ended n None = stops n
-ended n (Some c) = sentence c
+abbrev pub sentence_or_stop : ℕ → Option Command → Verdict
+sentence_or_stop n None = stops n
+sentence_or_stop n (Some c) = sentence c
 
 abbrev pub is_stop : State → Bool
 is_stop Stop = true
@@ -215,10 +215,10 @@ is_stop s = false
 
 -- the tokens from number n on
 abbrev pub verdict_from : ℕ → State → List Kind → Verdict
-verdict_from n s [] = ended n (finish s)
-verdict_from n s (k ∷ ks) = elim (is_stop (step s k)) [
+verdict_from n s [] = sentence_or_stop n (finish s)
+verdict_from n s (k ∷ ks) = elim (is_stop (line_step s k)) [
   | true ↦ stops n
-  | false ↦ elim (nat_lt nesting_bound (depth (step s k))) [ true ↦ too_deep n | false ↦ verdict_from (n + 1) (step s k) ks ]
+  | false ↦ elim (nat_lt nesting_bound (line_depth (line_step s k))) [ true ↦ too_deep n | false ↦ verdict_from (n + 1) (line_step s k) ks ]
 ]
 
 abbrev pub verdict : List Kind → Verdict

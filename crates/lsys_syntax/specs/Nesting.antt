@@ -2,7 +2,7 @@
 use Rattle.std.specs.Prelude.{ℕ, List, [], ◌∷◌, ◌+◌, ◌≤◌, max}
 use Rattle.lsys_syntax.specs.Tokens.{Kind}
 use Rattle.lsys_syntax.specs.Expressions.{Expr, only_and, or, And, only_rel, and, Rel, only_sum, compare, Sum, only_term, total, Term, only_unary, product, Unary, negated, inverted, only_atom, raised, Atom, number, name, parens}
-use Rattle.lsys_syntax.specs.ExpressionMachine.{InUnary, negating, inverting, raising, in_term, InTerm, first_unary, next_unary, InSum, first_term, next_term, InRel, first_sum, second_sum, InAnd, first_rel, next_rel, InExpr, first_and, next_and, Around, no_parens, in_parens, State, Due, Have, HalfAnd, HalfOr, Done, Stop, step}
+use Rattle.lsys_syntax.specs.ExpressionMachine.{InUnary, negating, inverting, raising, in_term, InTerm, first_unary, next_unary, InSum, first_term, next_term, InRel, first_sum, second_sum, InAnd, first_rel, next_rel, InExpr, first_and, next_and, Around, no_parens, in_parens, ExpressionState, Due, Have, HalfAnd, HalfOr, Done, Stop, step}
 
 abbrev mutual
   pub expr_nesting : Expr → ℕ
@@ -69,7 +69,7 @@ abbrev mutual
   around_depth (in_parens k) = unary_depth k + 1
 
 -- at the last token that was taken (a power's operand counts once its ^ was taken)
-abbrev pub depth : State → ℕ
+abbrev pub depth : ExpressionState → ℕ
 depth (Due k) = unary_depth k
 depth (Have a k) = unary_depth k
 depth (HalfAnd a k) = expr_depth k
@@ -78,6 +78,6 @@ depth (Done e) = 0
 depth Stop = 0
 
 -- no state on the way, the first not counted, is deeper
-abbrev pub StaysWithin : ℕ → State → List Kind → Type 0
+abbrev pub StaysWithin : ℕ → ExpressionState → List Kind → Type 0
 StaysWithin b s [] = Unit {0}
 StaysWithin b s (t ∷ ts) = (depth (step s t) ≤ b) × StaysWithin b (step s t) ts

@@ -84,11 +84,11 @@ pub data Tail : Type 0 where
   not_equals : Tail
 
 -- what a token begins with
-pub data Head : Type 0 where
-  letter : Head
-  digit : Head
-  equals : Head
-  mark : Head
+pub data FirstByte : Type 0 where
+  letter : FirstByte
+  digit : FirstByte
+  equals : FirstByte
+  mark : FirstByte
 
 abbrev pub name_ending : NameText → Tail
 name_ending (short c) = not_underscore
@@ -103,7 +103,7 @@ ending Less = not_equals
 ending Greater = not_equals
 ending k = anything
 
-abbrev pub beginning : Kind → Head
+abbrev pub beginning : Kind → FirstByte
 beginning (Word w) = letter
 beginning (Name n) = letter
 beginning (Number n) = digit
@@ -112,7 +112,7 @@ beginning Arrow = equals
 beginning Assign = equals
 beginning k = mark
 
-abbrev pub may_follow : Tail → Head → Bool
+abbrev pub may_follow : Tail → FirstByte → Bool
 may_follow not_plain letter = false
 may_follow not_plain digit = false
 may_follow not_digit digit = false

@@ -70,16 +70,28 @@ fn written_over<L: Ledger, V: Ledger, D: Derivation<L> + Drop>(
     let mut asked = Steps::<L>::open(asked);
     let mut visited = Steps::<V>::open(visited);
     let mut session = Session::<L, D>::start(alloc, limit)?;
+    written_by(alloc, &mut session, room, script, &mut asked, &mut visited)
+}
+
+/// What a session writes for a script, of which there is room for so many bytes.
+fn written_by<L: Ledger, V: Ledger, D: Derivation<L> + Drop>(
+    alloc: Global,
+    session: &mut Session<L, D>,
+    room: usize,
+    script: &[u8],
+    asked: &mut Steps<L>,
+    visited: &mut Steps<V>,
+) -> Result<Vec<u8>, AllocError> {
     let mut source = NeverSource::new(Vec::from_slice(alloc, script)?);
     let mut sink = MemorySink::new(alloc, room, 4096, Vec::new(alloc))?;
     answer_lines(
         alloc,
-        &mut session,
+        session,
         script.len(),
         &mut source,
         &mut sink,
-        &mut asked,
-        &mut visited,
+        asked,
+        visited,
     )?;
     Vec::from_slice(alloc, sink.bytes())
 }

@@ -4,17 +4,18 @@ use Rattle.std.specs.Prelude.{cond}
 use Rattle.std.proofs.lemmas.Bool.{cases_eq}
 use Rattle.std.proofs.lemmas.List.{append-nil}
 use Rattle.std.proofs.lemmas.Option.{none-some, same_Some}
+use Rattle.lsys_spec.specs.Rows.{In, AreApart, flat}
 use Rattle.lsys_syntax.specs.Strings.{balanced}
 use Rattle.lsys_spec.specs.Levels.{level_balanced}
 use Rattle.lsys_module.specs.Views.{string_of}
 use Rattle.lsys_module.specs.declared.symbol.Symbol.{Symbol}
 use Rattle.lsys_module.specs.declared.symbol.Symbol.TheVariants.{Push, Pop, Cut, Module}
 use Rattle.lsys_level.specs.Spots.{Spotted, level_by, named, with_lineage}
-use Rattle.lsys_level.specs.Places.{seen_in, bare, has_cut}
+use Rattle.lsys_level.specs.Places.{seen_in, bare_symbol, has_cut}
 use Rattle.lsys_level.proofs.Bare.{bare_balanced}
-use Rattle.lsys_forest.specs.Nodes.{Node, Nodes, put, with_kids}
-use Rattle.lsys_forest.specs.Groves.{In, AreApart, IsUnder, AreKids}
-use Rattle.lsys_forest.specs.Rows.{flat, kids_in, spot_in, level_spots, complete_from}
+use Rattle.lsys_forest.specs.Nodes.{Node, Nodes, with_node, with_kids}
+use Rattle.lsys_forest.specs.Groves.{IsUnder, AreKids}
+use Rattle.lsys_forest.specs.Rows.{kids_in, spot_in, level_spots, complete_from}
 use Rattle.lsys_forest.proofs.StockLemmas.{put_same, put_other}
 use Rattle.lsys_forest.proofs.LinkLemmas.{flat_same}
 use Rattle.lsys_forest.proofs.RowLemmas.{In_left, In_right, apart_append, apart_parts, flat_append}
@@ -134,7 +135,7 @@ module _ {A : Type 0} where
   grown_kids m root ks xs g apart = record { under = λ x h. (grown_under m root ks xs g x h).0; apart = apart }
 
   -- one symbol more
-  pub first_step : (m m' : Nodes A) (root : ℕ) (ks : List ℕ) (xs : List Symbol) (i k : ℕ) (x : Symbol) (top born : Node A) → AreGrown m root ks (take i xs) → AreApart ks → i < length xs → x ≡ get_or xs i x → m root ≡ Some top → m k ≡ None → born.parent ≡ root → born.seen ≡ seen_in x → born.kids ≡ [] → m' ≡ put m k (Some born) → AreGrown m' root (ks ++ k ∷ []) (take (i + 1) xs) × AreApart (ks ++ k ∷ []) × (m' root ≡ Some top)
+  pub first_step : (m m' : Nodes A) (root : ℕ) (ks : List ℕ) (xs : List Symbol) (i k : ℕ) (x : Symbol) (top born : Node A) → AreGrown m root ks (take i xs) → AreApart ks → i < length xs → x ≡ get_or xs i x → m root ≡ Some top → m k ≡ None → born.parent ≡ root → born.seen ≡ seen_in x → born.kids ≡ [] → m' ≡ with_node m k (Some born) → AreGrown m' root (ks ++ k ∷ []) (take (i + 1) xs) × AreApart (ks ++ k ∷ []) × (m' root ≡ Some top)
   first_step m m' root ks xs i k x top born grown apart within is there vacant parent seen kids e =
       let far : (j : ℕ) (n : Node A) → m j ≡ Some n → m' j ≡ Some n = λ j n live. ap (λ (f : Nodes A). f j) e ∙ put_other m k j (Some born) (λ same. none-some n (sym vacant ∙ sym (ap m same) ∙ live)) ∙ live in
       let other : k ≢ root = λ same. none-some top (sym vacant ∙ ap m same ∙ there) in
@@ -193,7 +194,7 @@ module _ {A : Type 0} where
     pub second : AreSeen m (flat (λ k. kids_in (m k)) done) (drop 1 (take at xs))
     pub none : (k : ℕ) → In k left → kids_in (m k) ≡ []
 
-  pub half_start : (m m' : Nodes A) (root : ℕ) (ks : List ℕ) (xs : List Symbol) (top : Node A) → AreGrown m root ks xs → AreApart ks → m' ≡ put m root (Some (with_kids ks top)) → 0 < length xs → IsHalf m' root ks xs 1
+  pub half_start : (m m' : Nodes A) (root : ℕ) (ks : List ℕ) (xs : List Symbol) (top : Node A) → AreGrown m root ks xs → AreApart ks → m' ≡ with_node m root (Some (with_kids ks top)) → 0 < length xs → IsHalf m' root ks xs 1
   half_start m m' root [] [] top g apart e some = absurd (omega (arith, some))
   half_start m m' root [] (x ∷ xs) top g apart e some = absurd g
   half_start m m' root (k ∷ ks) [] top g apart e some = absurd g
@@ -214,7 +215,7 @@ module _ {A : Type 0} where
         none = λ j h. (under j (inr h)).1;
       }
 
-  pub half_step : (m m1 m2 : Nodes A) (root : ℕ) (ks : List ℕ) (xs : List Symbol) (at k c : ℕ) (x : Symbol) (born n : Node A) → (h : IsHalf m root ks xs at) → (left : List ℕ) → h.left ≡ k ∷ left → 0 < at → take (at + 1) xs ≡ take at xs ++ x ∷ [] → length (take at xs) ≡ at → m c ≡ None → born.seen ≡ seen_in x → born.kids ≡ [] → m k ≡ Some n → m1 ≡ put m c (Some born) → m2 ≡ put m1 k (Some (with_kids (c ∷ []) n)) → IsHalf m2 root ks xs (at + 1)
+  pub half_step : (m m1 m2 : Nodes A) (root : ℕ) (ks : List ℕ) (xs : List Symbol) (at k c : ℕ) (x : Symbol) (born n : Node A) → (h : IsHalf m root ks xs at) → (left : List ℕ) → h.left ≡ k ∷ left → 0 < at → take (at + 1) xs ≡ take at xs ++ x ∷ [] → length (take at xs) ≡ at → m c ≡ None → born.seen ≡ seen_in x → born.kids ≡ [] → m k ≡ Some n → m1 ≡ with_node m c (Some born) → m2 ≡ with_node m1 k (Some (with_kids (c ∷ []) n)) → IsHalf m2 root ks xs (at + 1)
   half_step m m1 m2 root ks xs at k c x born n h left here some more long vacant seen bare_kids is e1 e2 =
       let whole : ks ≡ h.done ++ k ∷ left = h.whole ∙ ap (λ (l : List ℕ). h.done ++ l) here in
       let parts = apart_parts h.done (k ∷ left) (subst AreApart whole h.apart) in
@@ -300,7 +301,7 @@ module _ {A : Type 0} where
   root_lives m root ks xs at h some none = let e = ap length (sym (ap kids_in none) ∙ h.top) in omega (arith, e, some)
 
   -- a node that was added has its parent
-  pub lone_kid : (m m' : Nodes A) (root p k : ℕ) (born : Node A) → m k ≡ None → m root ≢ None → born.parent ≡ p → m' ≡ put m k (Some born) → AreKids m' root p (k ∷ [])
+  pub lone_kid : (m m' : Nodes A) (root p k : ℕ) (born : Node A) → m k ≡ None → m root ≢ None → born.parent ≡ p → m' ≡ with_node m k (Some born) → AreKids m' root p (k ∷ [])
   lone_kid m m' root p k born vacant lives parent e = record {
     under = λ x h. elim h [
       | inl same ↦ record { node = born; is = ap (λ (f : Nodes A). f x) e ∙ put_same m k x (Some born) same; parent_is = parent; other = λ f. lives (ap m (sym f ∙ same) ∙ vacant) }
@@ -311,14 +312,14 @@ module _ {A : Type 0} where
 
   -- 3. both are complete
 
-  seen_bare : (m : Nodes A) (ks : List ℕ) (xs : List Symbol) → AreSeen m ks xs → level_by (λ tag. []) (map (λ k. spot_in k (m k)) ks) ≡ map bare xs
+  seen_bare : (m : Nodes A) (ks : List ℕ) (xs : List Symbol) → AreSeen m ks xs → level_by (λ tag. []) (map (λ k. spot_in k (m k)) ks) ≡ map bare_symbol xs
   seen_bare m [] [] s = refl
   seen_bare m [] (x ∷ xs) s = absurd s
   seen_bare m (k ∷ ks) [] s = absurd s
   seen_bare m (k ∷ ks) (x ∷ xs) s =
       ap (λ (o : Option (Node A)). named (λ tag. []) (spot_in k o) ∷ level_by (λ tag. []) (map (λ j. spot_in j (m j)) ks)) s.0.is
       ∙ ap (λ y. with_lineage [] y ∷ level_by (λ tag. []) (map (λ j. spot_in j (m j)) ks)) s.0.seen
-      ∙ ap (λ l. bare x ∷ l) (seen_bare m ks xs s.1)
+      ∙ ap (λ l. bare_symbol x ∷ l) (seen_bare m ks xs s.1)
 
   seen_balanced : (m : Nodes A) (ks : List ℕ) (xs : List Symbol) → AreSeen m ks xs → balanced 0 (string_of xs) ≡ true → level_balanced 0 (level_by (λ tag. []) (map (λ k. spot_in k (m k)) ks)) ≡ true
   seen_balanced m ks xs s b = ap (level_balanced 0) (seen_bare m ks xs s) ∙ bare_balanced 0 xs b

@@ -16,7 +16,7 @@ use Rattle.lsys_spec.specs.Systems.{System, WellSpelled}
 use Rattle.lsys_out.specs.Nesting.{HasLast}
 use Rattle.lsys_tests_levels.specs.Levels.{IsOneLevel}
 
-plain-balanced : (n : ℕ) (x : List L.Symbol) → level_balanced n x ≡ balanced n (map plain x)
+plain-balanced : (n : ℕ) (x : List L.LevelSymbol) → level_balanced n x ≡ balanced n (map plain x)
 plain-balanced n [] = refl
 plain-balanced n (L.Module l m ∷ x) = plain-balanced n x
 plain-balanced n (L.Push l ∷ x) = plain-balanced (suc n) x

@@ -2,7 +2,7 @@
 use Rattle.std.proofs.Common.{inl, inr, ◌≡◌, ℕ, suc, Some, List, [], ◌∷◌, ◌++◌, length, refl, ap, arith}
 use Rattle.std.specs.Prelude.{slice_get}
 use Rattle.lsys_module.specs.declared.symbol.Symbol.{Symbol}
-use Rattle.lsys_level.specs.Spots.{Spotted, level_at}
+use Rattle.lsys_level.specs.Spots.{Spotted, spots_at}
 use Rattle.lsys_level.specs.Places.{spots_of}
 use Rattle.lsys_level.specs.Tags.{HasOwnTags}
 use Rattle.lsys_region.proofs.ListLemmas.{slice_get-push_cases}
@@ -26,5 +26,5 @@ long (s ∷ ss) (t ∷ ts) (k ∷ ks) a b = ap suc (long ss ts ks (omega (arith,
 
 -- the level has each symbol
 pub one_long : (symbols : List Symbol) (tags keys : List ℕ) (levels : List (List Spotted)) → levels ≡ [] ++ spots_of symbols tags keys ∷ []
-    → length tags ≡ length symbols → length keys ≡ length symbols → length (level_at levels 0) ≡ length symbols
+    → length tags ≡ length symbols → length keys ≡ length symbols → length (spots_at levels 0) ≡ length symbols
 one_long symbols tags keys levels is t k = rw is (long symbols tags keys t k)

@@ -1,1 +1,4 @@
+pub mod Forests
 pub mod Levels
+pub mod Turtles
+pub mod Walks

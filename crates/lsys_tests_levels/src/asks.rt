@@ -1,6 +1,7 @@
 //! What is answered, and when the same is asked again.
-ghost use Rattle.std.specs.Prelude.{◌≡◌, ◌<◌, option_map};
+ghost use Rattle.std.specs.Prelude.{◌≡◌, ◌<◌, IfOk, Ok, option_map};
 ghost use Rattle.lsys_match.specs.Asks.{IsMade, IsMadeIfAny, KeepsStore};
+ghost use Rattle.lsys_match.specs.declared.asked.Asked.TheVariants.{New};
 
 use crate::systems::{level_of, system_after};
 use lsys_io::{Buffered, MemorySink};
@@ -71,7 +72,7 @@ fn answered<L: Ledger, V: Ledger>(
     let mut asked = Steps::<L>::open(asked);
     let mut visited = Steps::<V>::open(visited);
     let mut store = AnswerStore::new(alloc);
-    match ask_at(
+    let found = ask_at(
         alloc,
         &mut store,
         system,
@@ -79,7 +80,16 @@ fn answered<L: Ledger, V: Ledger>(
         None,
         &mut asked,
         &mut visited,
-    ) {
+    );
+    printed_or_fault(alloc, found)
+}
+
+/// The printed successor of what was asked, or its fault.
+fn printed_or_fault<L: Ledger>(
+    alloc: Global,
+    found: Result<Asked<L>, AskRefusal>,
+) -> Result<Result<Vec<u8>, FaultKind>, AllocError> {
+    match found {
         Ok(Asked::Same) | Err(AskRefusal::Memory) => Err(AllocError),
         Ok(Asked::New(answer)) => Ok(Ok(printed(alloc, answer.successor())?)),
         Err(AskRefusal::Fault { kind }) => Ok(Err(kind)),
@@ -321,14 +331,36 @@ fn asked_twice<L: Ledger, V: Ledger>(
     let mut asked = Steps::<L>::open(asked);
     let mut visited = Steps::<V>::open(visited);
     let mut store = AnswerStore::new(alloc);
-    let Ok(Asked::New(old)) = ask_at(alloc, &mut store, first, 0, None, &mut asked, &mut visited)
-    else {
-        return Err(AllocError);
-    };
-    let same = is_same(alloc, &mut store, then, 0, &old, &mut asked, &mut visited)?;
-    let entries = old.trace(&store).len();
-    let values = old.values(&store).len();
-    old.release(&mut store);
+    let found = ask_at(alloc, &mut store, first, 0, None, &mut asked, &mut visited);
+    let old = newly(found)?;
+    asked_again(alloc, &mut store, then, old, &mut asked, &mut visited)
+}
+
+/// The new answer.
+fn newly<L: Ledger>(found: Result<Asked<L>, AskRefusal>) -> Result<Answer<L>, AllocError>
+    ensures { IfOk result (λ answer. found ≡ Ok (New answer)) }
+{
+    match found {
+        Ok(Asked::New(answer)) => Ok(answer),
+        Ok(Asked::Same) | Err(_) => Err(AllocError),
+    }
+}
+
+/// Asks at the same place of another system beside an answer, which is released then.
+fn asked_again<L: Ledger, V: Ledger>(
+    alloc: Global,
+    store: &mut AnswerStore,
+    then: &System,
+    old: Answer<L>,
+    asked: &mut Steps<L>,
+    visited: &mut Steps<V>,
+) -> Result<Again, AllocError>
+    requires { IsMade store.old old }
+{
+    let same = is_same(alloc, store, then, 0, &old, asked, visited)?;
+    let entries = old.trace(store).len();
+    let values = old.values(store).len();
+    old.release(store);
     Ok(Again {
         same,
         entries,

@@ -1,12 +1,12 @@
 //! A forest through its public calls.
-ghost use Rattle.std.specs.Prelude.{◌≡◌, ◌≢◌, ◌<◌, ◌≤◌, ◌+◌, ℕ, [], drop, length, Option, Some, None, true, false, IfOk, OnOk};
+ghost use Rattle.std.specs.Prelude.{◌≡◌, ◌≢◌, ◌<◌, ◌≤◌, ◌+◌, ℕ, drop, length, None, true, false, IfOk, OnOk};
 ghost use Rattle.lsys_syntax.specs.Strings.{balanced};
 ghost use Rattle.lsys_module.specs.Views.{string_of};
 ghost use Rattle.lsys_module.specs.declared.symbol.Symbol.TheVariants.{Cut};
 ghost use Rattle.lsys_level.specs.Places.{has_cut, seen_in};
-ghost use Rattle.lsys_forest.specs.Nodes.{Node, put, with_kids};
 ghost use Rattle.lsys_forest.specs.Groves.{now_of, live_nodes, IsLive, AreKids};
 ghost use Rattle.lsys_forest.specs.Rows.{complete_levels};
+ghost use Rattle.lsys_tests_levels.specs.Forests.{GivesKids, GrowsNode};
 
 use crate::forest_levels::{contexts_that_skip, walk};
 use lsys_forest::{Forest, Kept, NodeId};
@@ -46,17 +46,7 @@ fn grow(
     ensures root { OnOk result (forest.new.root ≡ forest.old.root) }
     ensures live { OnOk result (live_nodes forest.new ≤ live_nodes forest.old + 1) }
     ensures fresh { IfOk result (λ k. now_of forest.old k ≡ None) }
-    ensures added { IfOk result (λ k. (p : Node Mark) → now_of forest.old parent ≡ Some p
-        → now_of forest.new ≡ put (now_of forest.old) k (Some (record {
-          parent = parent;
-          code = 0;
-          count = count;
-          depth = p.depth + 1;
-          seen = seen_in symbol.now;
-          key = 0;
-          kids = [];
-          answer = None;
-        }))) }
+    ensures added { IfOk result (GrowsNode forest.old forest.new parent count (seen_in symbol.now)) }
 {
     let params = match symbol {
         Symbol::Module(module) => module.params.values().len(),
@@ -74,8 +64,7 @@ fn give(forest: &mut Forest<Mark>, node: NodeId, kids: &[NodeId]) -> Result<(), 
     requires short { length kids.now ≤ 4000 }
     ensures root { OnOk result (forest.new.root ≡ forest.old.root) }
     ensures live { OnOk result (live_nodes forest.new ≤ live_nodes forest.old) }
-    ensures set { OnOk result ((n : Node Mark) → now_of forest.old node ≡ Some n
-        → now_of forest.new ≡ put (now_of forest.old) node (Some (with_kids kids.now n))) }
+    ensures set { OnOk result (GivesKids forest.old forest.new node kids.now) }
 {
     forest.reserve(0, 0, room(kids.len()), 1)?;
     forest.set_children(node, kids);

@@ -4,7 +4,7 @@ ghost use Rattle.lsys_syntax.specs.Strings.{balanced};
 ghost use Rattle.lsys_text.specs.Texts.{IsNameBytes};
 ghost use Rattle.lsys_module.specs.Views.{string_of};
 ghost use Rattle.lsys_level.specs.Spots.{IsSpot};
-ghost use Rattle.lsys_level.specs.Tags.{HasOwnTags, AreBelow};
+ghost use Rattle.lsys_level.specs.Tags.{HasOwnTags, HasTagsBelow};
 ghost use Rattle.lsys_level.specs.Places.{has_cut};
 
 use lsys_level::{FlatLevels, LevelView, Sight, Tag, copy_level};
@@ -66,10 +66,10 @@ pub(crate) fn push(
     requires whole { has_cut symbols.now ≡ false }
     requires few { first + length symbols.now ≤ 2000 }
     requires own { HasOwnTags levels.old }
-    requires below { AreBelow first levels.old }
+    requires below { HasTagsBelow first levels.old }
     ensures one { OnOk result (length levels.new ≡ length levels.old + 1) }
     ensures own { OnOk result (HasOwnTags levels.new) }
-    ensures below { OnOk result (AreBelow (first + length symbols.now) levels.new) }
+    ensures below { OnOk result (HasTagsBelow (first + length symbols.now) levels.new) }
 {
     let mut tags = Vec::new(alloc);
     let mut keys = Vec::new(alloc);

@@ -1,8 +1,9 @@
 //! Pictures, segment by segment: a turtle on its way over the image of a level.
-ghost use Rattle.std.specs.Prelude.{◌≡◌, ◌≤◌, true, length};
+ghost use Rattle.std.specs.Prelude.{◌≡◌, ◌≤◌, true};
 ghost use Rattle.lsys_text.specs.Texts.{IsNameBytes};
 ghost use Rattle.lsys_module.specs.Views.{symbol_of};
-ghost use Rattle.lsys_turtle.specs.Ways.{CanStep, Walker, saved_after};
+ghost use Rattle.lsys_turtle.specs.Ways.{saved_after};
+ghost use Rattle.lsys_tests_levels.specs.Turtles.{TellsStep};
 
 use crate::systems::system_after;
 use crate::views::view_of;
@@ -61,7 +62,7 @@ impl Drawn {
 
 /// Whether a turtle with so many saved poses, and room for eight, can take the symbol.
 fn can_step(symbol: &Symbol, nest: usize) -> bool
-    ensures ready { (w : Walker) → result ≡ true → length w.turtle.saved ≡ nest → w.room ≡ 8 → CanStep (symbol_of symbol.now) w }
+    ensures ready { TellsStep (symbol_of symbol.now) nest result }
     ensures few { result ≡ true → nest ≤ 8 → saved_after (symbol_of symbol.now) nest ≤ 8 }
 {
     match symbol {

@@ -3,7 +3,7 @@ ghost use Rattle.std.specs.Prelude.{◌≡◌, length, true, false, IfOk};
 ghost use Rattle.lsys_syntax.specs.Strings.{balanced};
 ghost use Rattle.lsys_module.specs.Views.{string_of};
 ghost use Rattle.lsys_level.specs.Places.{has_cut};
-ghost use Rattle.lsys_level.specs.Spots.{level_at};
+ghost use Rattle.lsys_level.specs.Spots.{spots_at};
 
 use lsys_draw::axiom_key;
 use lsys_level::{FlatLevels, Tag};
@@ -29,10 +29,15 @@ fn command_of(alloc: Global, line: &str) -> Result<Command, Refusal> {
 pub(crate) fn system_after(alloc: Global, lines: &[&str]) -> Result<System, AllocError> {
     let mut system = System::opening(alloc)?;
     for line in lines {
-        let command = command_of(alloc, *line).map_err(|_| AllocError)?;
-        system = apply(alloc, &system, &command).map_err(|_| AllocError)?;
+        system = system_with(alloc, &system, *line)?;
     }
     Ok(system)
+}
+
+/// The system after one more line, which isn't refused.
+fn system_with(alloc: Global, system: &System, line: &str) -> Result<System, AllocError> {
+    let command = command_of(alloc, line).map_err(|_| AllocError)?;
+    apply(alloc, system, &command).map_err(|_| AllocError)
 }
 
 /// Whether the symbols are those of a level: balanced, and without a cut.
@@ -75,7 +80,7 @@ pub(crate) fn level_of(
     symbols: &[Symbol],
     seed: u64,
 ) -> Result<FlatLevels, AllocError>
-    ensures { IfOk result (λ levels. length (level_at levels 0) ≡ length symbols.now) }
+    ensures { IfOk result (λ levels. length (spots_at levels 0) ≡ length symbols.now) }
 {
     if symbols.len() > 4096 || !is_level(symbols) {
         return Err(AllocError);

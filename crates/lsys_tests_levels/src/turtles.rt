@@ -1,6 +1,7 @@
-ghost use Rattle.std.specs.Prelude.{◌≡◌, ◌≤◌, true, length};
+ghost use Rattle.std.specs.Prelude.{◌≡◌, ◌≤◌, true};
 ghost use Rattle.lsys_module.specs.Views.{symbol_of};
-ghost use Rattle.lsys_turtle.specs.Ways.{Walker, CanStep, saved_after};
+ghost use Rattle.lsys_turtle.specs.Ways.{saved_after};
+ghost use Rattle.lsys_tests_levels.specs.Turtles.{TellsStep};
 
 use lsys_lattice::{Cubic, Hexagonal, Lattice, Place, Square};
 use lsys_module::{Module, Params, Symbol};
@@ -28,7 +29,7 @@ fn symbol(letter: u8, value: Option<i64>) -> Symbol {
 
 /// Whether a turtle with so many saved poses, and room for eight, can take the symbol.
 fn can_step(symbol: &Symbol, nest: usize) -> bool
-    ensures ready { (w : Walker) → result ≡ true → length w.turtle.saved ≡ nest → w.room ≡ 8 → CanStep (symbol_of symbol.now) w }
+    ensures ready { TellsStep (symbol_of symbol.now) nest result }
     ensures few { result ≡ true → nest ≤ 8 → saved_after (symbol_of symbol.now) nest ≤ 8 }
 {
     match symbol {

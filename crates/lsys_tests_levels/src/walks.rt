@@ -3,8 +3,8 @@ ghost use Rattle.std.specs.Prelude.{◌≡◌, ◌<◌, ◌+◌, ◌≤◌, leng
 ghost use Rattle.lsys_syntax.specs.Strings.{balanced};
 ghost use Rattle.lsys_text.specs.Texts.{IsNameBytes, is_name_mark};
 ghost use Rattle.lsys_module.specs.Views.{string_of};
-ghost use Rattle.lsys_level.specs.Spots.{IsSpot};
 ghost use Rattle.lsys_level.specs.Places.{has_cut};
+ghost use Rattle.lsys_tests_levels.specs.Walks.{IsSpotIn};
 
 use crate::levels::{contexts_that_skip, letter, push};
 use lsys_bodies::{Filter, Item, Pattern};
@@ -126,7 +126,7 @@ fn far_apart(alloc: Global, between: usize) -> Result<Vec<Symbol>, AllocError>
 /// The spot at a place of the first level.
 fn spot_at<W: LevelView>(view: &W, place: usize) -> Option<W::Spot>
     requires { 0 < length (W.levels view.now) }
-    ensures { IfSome result (λ s. IsSpot (W.levels view.now) (W.level_of view.now s) (W.place_of view.now s)) }
+    ensures { IfSome result (IsSpotIn W.LevelView view.now) }
 {
     let mut at = view.first(0)?;
     for _step in 0..place {

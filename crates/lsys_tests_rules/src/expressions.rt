@@ -1,6 +1,6 @@
 ghost use Rattle.std.specs.Prelude.{IfOk};
 ghost use Rattle.lsys_syntax.specs.Sentences.{AreTokens};
-ghost use Rattle.lsys_text.specs.Tokens.{kinds_of};
+ghost use Rattle.lsys_text.specs.Tokens.{kind_row};
 
 use lsys_expr::{Arith, Expr, build_expr, check_names, eval, holds, scan_expr};
 use lsys_text::{Name, Token, tokens};
@@ -12,7 +12,7 @@ const BEGIN: usize = 12;
 
 /// The tokens of a line with this expression.
 fn line_tokens(alloc: Global, expression: &str) -> Result<Vec<Token>, AllocError>
-    ensures { IfOk result (λ found. AreTokens (kinds_of found.items)) }
+    ensures { IfOk result (λ found. AreTokens (kind_row found.items)) }
 {
     let line = format!(in alloc; "production p: A(x,y) => B({expression})")?;
     if line.len() > 65536 {

@@ -34,19 +34,23 @@ fn is_told(
     counts: &[(&str, u128)],
 ) -> Result<bool, AllocError> {
     let system = system_after(alloc, lines)?;
-    let told = match grown::<Brand>(alloc, &system, level, Blank::new(1)) {
-        Ok(told) => told,
-        Err(_) => return Ok(false),
-    };
+    match grown::<Brand>(alloc, &system, level, Blank::new(1)) {
+        Ok(told) => Ok(has(&told, length, counts)),
+        Err(_) => Ok(false),
+    }
+}
+
+/// Whether a growth has this length and these counts.
+fn has(told: &Growth, length: u128, counts: &[(&str, u128)]) -> bool {
     if told.length() != length || told.counts().len() != counts.len() {
-        return Ok(false);
+        return false;
     }
     for (count, (name, times)) in told.counts().iter().zip(counts) {
         if count.name.text().as_bytes() != name.as_bytes() || count.count != *times {
-            return Ok(false);
+            return false;
         }
     }
-    Ok(true)
+    true
 }
 
 /// Whether the growth of the level is refused so.

@@ -1,10 +1,8 @@
 ghost use Rattle.std.specs.Prelude.{List, IsTrue, ◌∷◌, []};
-ghost use Rattle.lsys_syntax.specs.Tokens.{Kind, NameText};
-ghost use Rattle.lsys_syntax.specs.Rules.{IsRule};
-ghost use Rattle.lsys_reading.specs.Images.{images_at};
-ghost use Rattle.lsys_reading.specs.RuleLines.{rule_at};
-ghost use Rattle.lsys_bodies.specs.Building.{CanBuild, StringIsKnown};
+ghost use Rattle.lsys_syntax.specs.Tokens.{Kind};
 ghost use Rattle.lsys_syntax.specs.Smalls.{HaveFewParams};
+ghost use Rattle.lsys_reading.specs.Images.{images_at};
+ghost use Rattle.lsys_tests_rules.specs.Successors.{TellsBuilding, TellsKnown};
 
 use crate::strings::printed;
 use lsys_bodies::{Rule, build_rule};
@@ -53,7 +51,7 @@ fn bare_rule(alloc: Global, line: &str) -> Result<Rule, AllocError> {
 
 /// The rule has neither contexts, condition, weight nor parameters.
 fn is_bare(rule: &RuleLine) -> bool
-    ensures { (ks : List Kind) → IsRule (rule_at ks rule.now) → IsTrue result → CanBuild (rule_at ks rule.now) }
+    ensures { TellsBuilding rule.now result }
 {
     if !rule.left.is_empty() {
         return false;
@@ -75,7 +73,7 @@ fn is_bare(rule: &RuleLine) -> bool
 
 /// No module of a successor has parameters.
 fn are_bare(images: &[Image]) -> bool
-    ensures known { (ks : List Kind) (fs : List NameText) → IsTrue result → StringIsKnown fs (images_at ks images.now) }
+    ensures known { TellsKnown images.now result }
     ensures few { (ks : List Kind) → IsTrue result → HaveFewParams (images_at ks images.now) }
 {
     for image in images {
@@ -87,7 +85,7 @@ fn are_bare(images: &[Image]) -> bool
 }
 
 fn is_bare_image(image: &Image) -> bool
-    ensures known { (ks : List Kind) (fs : List NameText) → IsTrue result → StringIsKnown fs (images_at ks (image.now ∷ [])) }
+    ensures known { TellsKnown (image.now ∷ []) result }
     ensures few { (ks : List Kind) → IsTrue result → HaveFewParams (images_at ks (image.now ∷ [])) }
 {
     match image {

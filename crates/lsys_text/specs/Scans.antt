@@ -23,8 +23,8 @@ abbrev pub lexeme_of : Lexeme → syntax.Kind × ℕ
 lexeme_of x = (kind_of x.kind, x.more)
 
 -- the token of a lexeme whose first byte stands at this place of a line
-abbrev pub placed : Lexeme → ℕ → Token
-placed x start = record { kind = x.kind; start = start; end = start + 1 + x.more }
+abbrev pub as_token : Lexeme → ℕ → Token
+as_token x start = record { kind = x.kind; start = start; end = start + 1 + x.more }
 
 -- a first byte that passes
 abbrev pub begins_with : (ℕ → Bool) → List ℕ → Bool
@@ -52,14 +52,14 @@ after ts (Ok us) = Ok (ts ++ us)
 after ts (Err column) = Err column
 
 -- the tokens found so far, and those of the rest of the line
-abbrev pub reading : List ℕ → List Token → Cursor → Result (List syntax.Token) ℕ
-reading line found c = after (map token_of found) (syntax.tokens_from (mode_of c.mode) zero c.place (drop c.place line))
+abbrev pub all_tokens : List ℕ → List Token → Cursor → Result (List syntax.Token) ℕ
+all_tokens line found c = after (map token_of found) (syntax.tokens_from (mode_of c.mode) zero c.place (drop c.place line))
 
 -- One step from a cursor on: nothing is left, or one more token is found, or no token begins at a byte.
 abbrev pub IsStep : List ℕ → List Token → Cursor → List Token → Result (Option Cursor) TextRefusal → Type 0
-IsStep line old c new (Ok None) = reading line old c ≡ Ok (map token_of new)
-IsStep line old c new (Ok (Some next)) = reading line old c ≡ reading line new next
-IsStep line old c new (Err (Byte column)) = reading line old c ≡ Err column
+IsStep line old c new (Ok None) = all_tokens line old c ≡ Ok (map token_of new)
+IsStep line old c new (Ok (Some next)) = all_tokens line old c ≡ all_tokens line new next
+IsStep line old c new (Err (Byte column)) = all_tokens line old c ≡ Err column
 IsStep line old c new (Err Memory) = Unit {0}
 
 -- the longest number at the front of a text that begins with a digit

@@ -44,8 +44,8 @@ abbrev pub token_of : Token → syntax.Token
 token_of t = record { kind = kind_of t.kind; start = t.start; stop = t.end }
 
 -- the kinds of some tokens
-abbrev pub kinds_of : List Token → List syntax.Kind
-kinds_of ts = map (λ t. kind_of t.kind) ts
+abbrev pub kind_row : List Token → List syntax.Kind
+kind_row ts = map (λ t. kind_of t.kind) ts
 
 -- the byte of a mark is that of one of the 20
 abbrev pub IsMarkByte : TokenKind → Type 0
@@ -57,11 +57,11 @@ abbrev pub HasMarkByte : Token → Type 0
 HasMarkByte t = IsMarkByte t.kind
 
 -- a token's text: some bytes of a line of this length
-abbrev pub IsWithin : ℕ → Token → Type 0
-IsWithin length t = (t.start < t.end) × (t.end ≤ length)
+abbrev pub LiesInLine : ℕ → Token → Type 0
+LiesInLine length t = (t.start < t.end) × (t.end ≤ length)
 
 -- the line's tokens, or the column of its first byte that is in none; want of memory says nothing
-abbrev pub AreTokens : List ℕ → Result (Vec Token Global) TextRefusal → Type 0
-AreTokens line (Ok found) = syntax.tokens line ≡ Ok (map token_of found.items)
-AreTokens line (Err (Byte column)) = syntax.tokens line ≡ Err column
-AreTokens line (Err Memory) = Unit {0}
+abbrev pub AreLineTokens : List ℕ → Result (Vec Token Global) TextRefusal → Type 0
+AreLineTokens line (Ok found) = syntax.tokens line ≡ Ok (map token_of found.items)
+AreLineTokens line (Err (Byte column)) = syntax.tokens line ≡ Err column
+AreLineTokens line (Err Memory) = Unit {0}

@@ -4,7 +4,7 @@
 ghost use Rattle.std.specs.Prelude.{◌≡◌, ◌≤◌, length, vec_len, IfOk, All};
 ghost use Rattle.lsys_syntax.specs.Limits.{most_line_bytes};
 ghost use Rattle.lsys_text.specs.Longest.{TakesLongest, TakesAny};
-ghost use Rattle.lsys_text.specs.Tokens.{AreTokens, HasMarkByte, IsWithin};
+ghost use Rattle.lsys_text.specs.Tokens.{AreLineTokens, HasMarkByte, LiesInLine};
 
 mod names;
 mod refusals;
@@ -29,9 +29,9 @@ pub use token_kind::{Token, TokenKind};
 /// `Byte` has the column of the first byte that is in no token, and `Memory` is want of memory.
 pub fn tokens(alloc: Global, line: &[u8]) -> Result<Vec<Token>, TextRefusal>
     requires { length line.now ≤ most_line_bytes }
-    ensures tokens { AreTokens line.now result }
+    ensures tokens { AreLineTokens line.now result }
     ensures marks { IfOk result (λ found. All HasMarkByte found.items) }
-    ensures places { IfOk result (λ found. All (IsWithin (length line.now)) found.items) }
+    ensures places { IfOk result (λ found. All (LiesInLine (length line.now)) found.items) }
     ensures few { IfOk result (λ found. vec_len found ≤ length line.now) }
 {
     let mut found = Vec::new(alloc);

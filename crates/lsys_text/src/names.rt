@@ -20,11 +20,11 @@ impl Model for Name {
 
     ghost Value = { List ℕ };
 
-    ghost use Rattle.lsys_text.specs.InsideName.{IsName, name_text, name_with_text, name_kept};
+    ghost use Rattle.lsys_text.specs.InsideName.{IsPackedName, kept_text, name_with_text, name_kept};
 
-    ghost view = { name_text };
+    ghost view = { kept_text };
 
-    ghost invariant = { IsName };
+    ghost invariant = { IsPackedName };
 
     ghost inverse = { name_with_text };
 
@@ -109,11 +109,11 @@ impl Model for Word {
 
     ghost Value = { List ℕ };
 
-    ghost use Rattle.lsys_text.specs.InsideWord.{IsWord, word_text, word_with_text, word_kept};
+    ghost use Rattle.lsys_text.specs.InsideWord.{IsPackedWord, word_text, word_with_text, word_kept};
 
     ghost view = { word_text };
 
-    ghost invariant = { IsWord };
+    ghost invariant = { IsPackedWord };
 
     ghost inverse = { word_with_text };
 

@@ -5,8 +5,8 @@ ghost use Rattle.std.specs.Str.Parse.{digits_value};
 ghost use Rattle.lsys_syntax.specs.Limits.{most_line_bytes};
 ghost use Rattle.lsys_syntax.specs.Tokens.{is_blank, is_digit, is_letter, is_alphanumeric, is_word_byte, after_word, next_mode, name_tail, name_with};
 ghost use Rattle.lsys_syntax.specs.Pieces.{Every};
-ghost use Rattle.lsys_text.specs.Tokens.{kind_of, IsMarkByte, HasMarkByte, is_mark, IsWithin};
-ghost use Rattle.lsys_text.specs.Scans.{mode_of, lexeme_of, begins_with, first_token, first_name, first_mark, placed, IsStep, front_number, front_word, IsFurther, IsModeBehind};
+ghost use Rattle.lsys_text.specs.Tokens.{kind_of, IsMarkByte, HasMarkByte, is_mark, LiesInLine};
+ghost use Rattle.lsys_text.specs.Scans.{mode_of, lexeme_of, begins_with, first_token, first_name, first_mark, as_token, IsStep, front_number, front_word, IsFurther, IsModeBehind};
 
 use crate::names::{Name, Word};
 use crate::refusals::TextRefusal;
@@ -61,11 +61,11 @@ pub fn push_token(
     requires line { length line.now ≤ most_line_bytes }
     requires place { cursor.place ≤ length line.now }
     requires marks { All HasMarkByte found.old.items }
-    requires places { All (IsWithin (length line.now)) found.old.items }
+    requires places { All (LiesInLine (length line.now)) found.old.items }
     ensures step { IsStep line.now found.old.items cursor found.new.items result }
     ensures within { IfOk result (IsFurther line.now cursor) }
     ensures marks { All HasMarkByte found.new.items }
-    ensures places { All (IsWithin (length line.now)) found.new.items }
+    ensures places { All (LiesInLine (length line.now)) found.new.items }
     ensures one { length found.new.items ≤ length found.old.items + 1 }
     ensures end { result ≡ Ok None → length found.new.items ≤ length found.old.items }
 {
@@ -89,7 +89,7 @@ fn push_lexeme(
     lexeme: Lexeme,
 ) -> Result<Cursor, AllocError>
     requires { start + lexeme.more < most_line_bytes }
-    ensures added { OnOk result (found.new.items ≡ found.old.items ++ placed lexeme start ∷ []) }
+    ensures added { OnOk result (found.new.items ≡ found.old.items ++ as_token lexeme start ∷ []) }
     ensures place { IfOk result (λ next. next.place ≡ start + 1 + lexeme.more) }
     ensures mode { IfOk result (IsModeBehind mode lexeme.kind) }
     ensures refused { OnErr result (found.new.items ≡ found.old.items) }

@@ -11,7 +11,7 @@ use Rattle.lsys_turtle.specs.declared.segment.Segment.{Segment}
 use Rattle.lsys_turtle.specs.declared.segment.Far.{Far}
 
 -- a turtle, and how many poses it has room for
-pub record Walker : Type 0 where
+pub record RoomyTurtle : Type 0 where
   pub turtle : P.Turtle
   pub room : ℕ
 
@@ -24,7 +24,7 @@ stepped_of (Ok g) t = Some (record { turtle = t; segment = option_map segment_of
 stepped_of (Err far) t = None
 
 -- the step is that of the definitions, from one turtle to the next
-abbrev pub IsStepOf : Lattice → S.Symbol ℤ → Walker → Walker → Result (Option Segment) Far → Type 0
+abbrev pub IsStepOf : Lattice → S.Symbol ℤ → RoomyTurtle → RoomyTurtle → Result (Option Segment) Far → Type 0
 IsStepOf l s old new r = P.turtle_step l s old.turtle ≡ stepped_of r new.turtle
 
 -- both ends of a segment can be projected
@@ -38,7 +38,7 @@ OnSegment (Ok (Some g)) P = P g
 OnSegment r P = Unit {0}
 
 -- a turtle has room for one more pose at `[`, and has one to restore at `]`
-abbrev pub CanStep : S.Symbol ℤ → Walker → Type 0
+abbrev pub CanStep : S.Symbol ℤ → RoomyTurtle → Type 0
 CanStep S.Push w = length w.turtle.saved < w.room
 CanStep S.Pop w = 0 < length w.turtle.saved
 CanStep s w = Unit {0}
@@ -50,7 +50,7 @@ saved_after S.Pop n = n - 1
 saved_after s n = n
 
 -- so many are saved
-abbrev pub SavesAsMany : S.Symbol ℤ → Walker → Walker → Type 0
+abbrev pub SavesAsMany : S.Symbol ℤ → RoomyTurtle → RoomyTurtle → Type 0
 SavesAsMany s old new = length new.turtle.saved ≡ saved_after s (length old.turtle.saved)
 
 abbrev pub act_of : Act → P.Act

@@ -22,9 +22,9 @@ pub struct Turtle<T: Lattice> {
 
 impl<T: Lattice> Model for Turtle<T> {
     ghost use Rattle.std.specs.Prelude.{◌≤◌, reverse, vec_capacity};
-    ghost use Rattle.lsys_turtle.specs.Ways.{Walker};
+    ghost use Rattle.lsys_turtle.specs.Ways.{RoomyTurtle};
 
-    ghost Value = { Walker };
+    ghost Value = { RoomyTurtle };
 
     ghost view = { λ t. record {
       turtle = record { pose = t.pose; saved = reverse t.saved.items };

@@ -1,10 +1,11 @@
 -- Fronts of an old trace.
 use Rattle.std.proofs.Common.{◌≡◌, ℕ, ℤ, Bool, true, false, IsTrue, ◌↔◌, nat_eq, eqb-true, eq-eqb, subst, zero, suc, List, [], ◌∷◌, ◌++◌, ◌+◌, ◌-◌, ◌<◌, ◌≤◌, length, take, drop, get_or, refl, ap, sym, ◌∙◌, arith, append_assoc, length-append, length-drop}
 use Rattle.std.proofs.lemmas.List.{drop_more}
+use Rattle.lsys_spec.specs.Output.{IsFront}
 use Rattle.lsys_walks.specs.declared.entry.Entry.{Entry}
 use Rattle.lsys_walks.specs.Noted.{Noted}
 use Rattle.lsys_walks.specs.Views.{noted_of, arities, decoded}
-use Rattle.lsys_walks.specs.Readings.{IsFront, Read, so_far}
+use Rattle.lsys_walks.specs.Readings.{Read, trace_so_far}
 use Rattle.lsys_walks.proofs.Decoding.{length_decoded, drop_front, take_front}
 
 take_drop : {A : Type 0} (n : ℕ) (xs : List A) → take n xs ++ drop n xs ≡ xs
@@ -140,12 +141,12 @@ module _ (es : List Entry) (vs : List ℤ) (p q : ℕ) (h : arities es ≡ lengt
       is_next f = next_is (decoded es vs) front (noted_of next values) n (decoded (drop (p + 1) es) (drop next.arity (drop q vs))) goes_on f
 
 -- while all agree
-module _ (es : List Entry) (vs : List ℤ) (p q : ℕ) (own : List Noted) (agrees : Bool) (s : Read) (v : record { old = decoded es vs; read = so_far agrees es vs p q own; agrees = agrees } ≡ s) (t : agrees ≡ true) where
+module _ (es : List Entry) (vs : List ℤ) (p q : ℕ) (own : List Noted) (agrees : Bool) (s : Read) (v : record { old = decoded es vs; read = trace_so_far agrees es vs p q own; agrees = agrees } ≡ s) (t : agrees ≡ true) where
   pub old_is : s.old ≡ decoded es vs
   old_is = ap (λ (r : Read). r.old) (sym v)
 
   pub now_is : s.read ≡ decoded (take p es) (take q vs)
-  now_is = ap (λ (r : Read). r.read) (sym v) ∙ ap (λ b. so_far b es vs p q own) t
+  now_is = ap (λ (r : Read). r.read) (sym v) ∙ ap (λ b. trace_so_far b es vs p q own) t
 
   pub agrees_is : s.agrees ≡ true
   agrees_is = ap (λ (r : Read). r.agrees) (sym v) ∙ t
@@ -158,12 +159,12 @@ pub front_of_more : (old now : List Noted) (n : Noted) → IsFront (now ++ n ∷
 front_of_more old now n f = (n ∷ f.0, f.1 ∙ append_assoc now (n ∷ []) f.0)
 
 module _ (es : List Entry) (vs : List ℤ) (p q : ℕ) (h : arities es ≡ length vs) (k : p ≤ length es) (l : q ≡ arities (take p es)) (own : List Noted) (agrees : Bool) (x : agrees ≡ false → IsFront own (decoded es vs) → ⊥)
-    (s : Read) (v : record { old = decoded es vs; read = so_far agrees es vs p q own; agrees = agrees } ≡ s) where
+    (s : Read) (v : record { old = decoded es vs; read = trace_so_far agrees es vs p q own; agrees = agrees } ≡ s) where
   -- all agree exactly where the old trace begins so
   pub agrees_exact : IsTrue agrees ↔ IsFront s.read s.old
   agrees_exact = subst (λ (s : Read). IsTrue agrees ↔ IsFront s.read s.old) v (by agrees x)
     where
-      by : (agrees : Bool) → (agrees ≡ false → IsFront own (decoded es vs) → ⊥) → IsTrue agrees ↔ IsFront (so_far agrees es vs p q own) (decoded es vs)
+      by : (agrees : Bool) → (agrees ≡ false → IsFront own (decoded es vs) → ⊥) → IsTrue agrees ↔ IsFront (trace_so_far agrees es vs p q own) (decoded es vs)
       by true x = (λ t. (decoded (drop p es) (drop q vs), splits es vs p q h k l), λ f. refl)
       by false x = (λ t. cc, λ f. absurd (x refl f))
 

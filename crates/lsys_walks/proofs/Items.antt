@@ -8,7 +8,7 @@ use Rattle.lsys_spec.specs.Bodies.{Patterns, PatternNest, outermost, within, wit
 use Rattle.lsys_bodies.specs.declared.body.Pattern as code
 use Rattle.lsys_bodies.specs.declared.body.Item.{Item}
 use Rattle.lsys_bodies.specs.declared.body.Item.TheVariants.{Push, Pop, Pattern}
-use Rattle.lsys_bodies.specs.Views.{pattern_of}
+use Rattle.lsys_bodies.specs.Views.{as_pattern}
 use Rattle.lsys_bodies.specs.Views.{nest}
 use Rattle.lsys_walks.specs.Items.{patterns_from}
 
@@ -46,8 +46,8 @@ module _ (items : List Item) where
   pub patterns_pop : (i : ℕ) → slice_get items i ≡ Some Pop → patterns_from items i ≡ Done
   patterns_pop i h = ap (λ t. innermost (nest t)) (from_item i Pop h)
 
-  pub patterns_one : (i : ℕ) (q : code.Pattern) → slice_get items i ≡ Some (Pattern q) → patterns_from items i ≡ OneOf (pattern_of q) (patterns_from items (i + 1))
-  patterns_one i q h = ap (λ t. innermost (nest t)) (from_item i (Pattern q) h) ∙ of_pattern (pattern_of q) (nest (drop (i + 1) items))
+  pub patterns_one : (i : ℕ) (q : code.Pattern) → slice_get items i ≡ Some (Pattern q) → patterns_from items i ≡ OneOf (as_pattern q) (patterns_from items (i + 1))
+  patterns_one i q h = ap (λ t. innermost (nest t)) (from_item i (Pattern q) h) ∙ of_pattern (as_pattern q) (nest (drop (i + 1) items))
 
   pub patterns_branch : (i : ℕ) → slice_get items i ≡ Some Push → (outer : Patterns) × (patterns_from items i ≡ BranchOf (patterns_from items (i + 1)) outer)
   patterns_branch i h = (innermost (around 1 (nest (drop (i + 1) items))), ap (λ t. innermost (nest t)) (from_item i Push h) ∙ of_opened (nest (drop (i + 1) items)))
@@ -57,7 +57,7 @@ module _ (items : List Item) where
   Inside at place inside = around 1 (nest (drop (at + 1) items)) ≡ around (suc inside) (nest (drop place items))
 
   pub inside_pattern : (at place inside : ℕ) (q : code.Pattern) → slice_get items place ≡ Some (Pattern q) → Inside at place inside → Inside at (place + 1) inside
-  inside_pattern at place inside q h e = e ∙ ap (λ t. around (suc inside) (nest t)) (from_item place (Pattern q) h) ∙ around_pattern inside (pattern_of q) (nest (drop (place + 1) items))
+  inside_pattern at place inside q h e = e ∙ ap (λ t. around (suc inside) (nest t)) (from_item place (Pattern q) h) ∙ around_pattern inside (as_pattern q) (nest (drop (place + 1) items))
 
   pub inside_push : (at place inside : ℕ) → slice_get items place ≡ Some Push → Inside at place inside → Inside at (place + 1) (inside + 1)
   inside_push at place inside h e =

@@ -1,9 +1,9 @@
 -- Two traces, up to a place.
 use Rattle.std.proofs.Common.{◌≡◌, ℕ, ℤ, List, [], ◌∷◌, ◌++◌, ◌+◌, ◌-◌, ◌<◌, ◌≤◌, length, take, drop, get_or, refl, ap, sym, ◌∙◌, arith, append_assoc, subst}
+use Rattle.lsys_spec.specs.Output.{IsFront}
 use Rattle.lsys_walks.specs.declared.entry.Entry.{Entry}
 use Rattle.lsys_walks.specs.Noted.{Noted}
 use Rattle.lsys_walks.specs.Views.{noted_of, arities, decoded}
-use Rattle.lsys_walks.specs.Readings.{IsFront}
 use Rattle.lsys_walks.proofs.Decoding.{length_decoded}
 use Rattle.lsys_walks.proofs.Fronts.{passed, is_front, next_is, front_all, more_arities}
 

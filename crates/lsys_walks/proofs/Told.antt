@@ -3,6 +3,7 @@ use Rattle.std.proofs.Common.{◌≡◌, ℕ, List, [], ◌∷◌, ◌++◌, ◌
 use Rattle.std.proofs.lemmas.List.{length_push, take_at, length-map, map-append}
 use Rattle.lsys_spec.specs.Levels.{ModuleValue}
 use Rattle.lsys_spec.specs.Walks.{Entry, Told, says, before}
+use Rattle.lsys_walks.specs.declared.walked.Walked.{Walked}
 use Rattle.lsys_walks.specs.declared.walked.Walked.TheVariants.{Found, Missed, TooFar}
 use Rattle.lsys_walks.specs.Noted.{Noted, entry_by}
 use Rattle.lsys_walks.specs.Walked.{Walks, ReadsFront}
@@ -11,6 +12,12 @@ use Rattle.lsys_walks.specs.Walked.{Walks, ReadsFront}
 pub on_err : {T E : Type 0} (r : Result T E) (P : Type 0) → P → OnErr r P
 on_err (Ok x) P h = tt
 on_err (Err e) P h = h
+
+-- where nothing matches, nothing is kept
+pub kept_as : (w : Walked) (most : ℕ) (t : Told (Option (List ModuleValue))) (old new : List Entry) (Kept Kept' : List ModuleValue → Type 0) → w ≡ Missed → Walks most t old new Kept w → Walks most t old new Kept' w
+kept_as Found most t old new Kept Kept' e h = cc
+kept_as Missed most t old new Kept Kept' e h = h
+kept_as TooFar most t old new Kept Kept' e h = h
 
 abbrev pub Answer : Type 0
 Answer = Option (List ModuleValue)
@@ -80,6 +87,10 @@ module _ (naming : ℕ → List ℕ) where
       → Kept (got []) → Walks most here (es_of old) (es_of now) Kept Found
   ends_found here most old now got Kept k h b =
       (k.added ∙ ap (λ es. es_of old ++ es) (sym (append-nil k.more) ∙ sym k.entries), omega (arith, h, length-map now (entry_by naming)), got [], k.found [] refl, b)
+
+  -- nothing was to be read, and nothing matches
+  pub reads_nothing : (t : Told Answer) (most : ℕ) (old : List Noted) (Kept : List ModuleValue → Type 0) → t ≡ says None → length old ≤ most → Walks most t (es_of old) (es_of old) Kept Missed
+  reads_nothing t most old Kept e h = subst (λ t. Walks most t (es_of old) (es_of old) Kept Missed) (sym e) (sym (append-nil (es_of old)), omega (arith, h, length-map old (entry_by naming)), refl)
 
   -- what was read so far is a front of all
   pub reads_front : (here t : Told Answer) (old now : List Noted) (got : List ModuleValue → List ModuleValue) → GoesOn here t (es_of old) (es_of now) got → ReadsFront here (es_of old) (es_of now)

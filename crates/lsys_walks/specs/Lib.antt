@@ -3,6 +3,7 @@ pub mod Patterns
 pub mod Views
 pub mod Walked
 pub mod Items
+pub mod Meetings
 pub mod Agreements
 pub mod Readings
 pub mod Stores

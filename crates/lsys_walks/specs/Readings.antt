@@ -1,5 +1,6 @@
 -- What is read beside an old trace.
 use Rattle.std.specs.Prelude.{◌≡◌, ◌≤◌, ℕ, ℤ, Bool, true, false, List, [], ◌∷◌, ◌++◌, length, take}
+use Rattle.lsys_spec.specs.Output.{IsFront}
 use Rattle.lsys_walks.specs.declared.entry.Entry.{Entry}
 use Rattle.lsys_walks.specs.Noted.{Noted}
 use Rattle.lsys_walks.specs.Views.{noted_of, decoded, arities}
@@ -10,14 +11,10 @@ pub record Read : Type 0 where
   pub read : List Noted
   pub agrees : Bool
 
--- an old trace begins with it
-abbrev pub IsFront : List Noted → List Noted → Type 0
-IsFront now old = (rest : List Noted) × (old ≡ now ++ rest)
-
 -- while all agree, the front of the old trace; later what was written
-abbrev pub so_far : Bool → List Entry → List ℤ → ℕ → ℕ → List Noted → List Noted
-so_far true es vs p q own = decoded (take p es) (take q vs)
-so_far false es vs p q own = own
+abbrev pub trace_so_far : Bool → List Entry → List ℤ → ℕ → ℕ → List Noted → List Noted
+trace_so_far true es vs p q own = decoded (take p es) (take q vs)
+trace_so_far false es vs p q own = own
 
 -- The parameters are those of the entries. So many entries of the old trace were passed, and their parameters. Where not all agree, the old trace doesn't begin with what was written.
 abbrev pub IsReading : List Entry → List ℤ → ℕ → ℕ → Bool → List Noted → Type 0

@@ -5,7 +5,7 @@ use Rattle.std.specs.declared.alloc.Global.{Global}
 use Rattle.lsys_syntax.specs.Calls.{Lent, Shared}
 use Rattle.lsys_spec.specs.Levels.{ModuleValue}
 use Rattle.lsys_level.specs.declared.view.LevelView.{Ghosts}
-use Rattle.lsys_level.specs.Spots.{Spotted, level_at}
+use Rattle.lsys_level.specs.Spots.{Spotted, spots_at}
 use Rattle.lsys_bodies.specs.declared.body.Pattern.{Pattern}
 use Rattle.lsys_bodies.specs.declared.body.Item.{Item}
 use Rattle.lsys_bodies.specs.declared.body.Body.{Body}
@@ -13,11 +13,11 @@ use Rattle.lsys_bodies.specs.declared.filter.Filter.{Filter}
 use Rattle.lsys_walks.specs.declared.mark.Mark.{Mark}
 use Rattle.lsys_walks.specs.declared.walked.Walked.{Walked}
 use Rattle.lsys_walks.specs.Readings.{Read}
-use Rattle.lsys_walks.specs.Walked.{left_told, right_told, rule_told, IsWalk, IsFrontOfWalk, KeptReversed, KeptInOrder, AreKept}
+use Rattle.lsys_walks.specs.Walked.{left_told, right_told, inner_told, contexts_told, IsWalk, IsFrontOfWalk, KeptReversed, KeptInOrder, KeptAlone}
 
 -- the level on which a spot stands, and its place there
 abbrev pub level_seen : {V S : Type 0} → Ghosts V S → Shared V → S → List Spotted
-level_seen W view spot = level_at (W.levels view.entry.now) (W.level_of view.entry.now spot)
+level_seen W view spot = spots_at (W.levels view.entry.now) (W.level_of view.entry.now spot)
 
 abbrev pub place_seen : {V S : Type 0} → Ghosts V S → Shared V → S → ℕ
 place_seen W view spot = W.place_of view.entry.now spot
@@ -45,15 +45,26 @@ module _ {V S E F : Type 0} (W : Ghosts V S) (view : Shared V) (spot : S) (filte
   BeginsRightWalk d items first trace r =
       IsFrontOfWalk (right_told filter.entry d items first (place_seen W view spot)) (level_seen W view spot) trace.entry.now.read trace.exit.now.read r
 
+  -- what an item wants was read in the branch that begins here, and the parameters of the modules that match were added in order
+  abbrev pub WalksInner : Mark → List Item → ℕ → Lent Read → Lent (Vec ℤ Global) → Result Walked E → Type 0
+  WalksInner d items next trace bound r =
+      IsWalk (inner_told filter.entry d items next (place_seen W view spot)) (level_seen W view spot) trace.entry.now.read trace.exit.now.read
+      (KeptInOrder bound.entry.now.items bound.exit.now.items) r
+
+  -- a front of it was read before memory was wanting
+  abbrev pub BeginsInnerWalk : Mark → List Item → ℕ → Lent Read → Result Walked E → Type 0
+  BeginsInnerWalk d items next trace r =
+      IsFrontOfWalk (inner_told filter.entry d items next (place_seen W view spot)) (level_seen W view spot) trace.entry.now.read trace.exit.now.read r
+
   -- both contexts of a rule were read at a module with these parameters, and all that match are kept
   abbrev pub WalksContexts : ℕ → Body → List ℤ → Lent Read → Lent (Vec ℤ Global) → Result Walked E → Type 0
   WalksContexts rule body own trace bound r =
       (m : ModuleValue) → m.params ≡ own
-      → IsWalk (rule_told filter.entry rule body m (place_seen W view spot)) (level_seen W view spot) trace.entry.now.read trace.exit.now.read
-      (AreKept bound.exit.now.items) r
+      → IsWalk (contexts_told filter.entry rule body m (place_seen W view spot)) (level_seen W view spot) trace.entry.now.read trace.exit.now.read
+      (KeptAlone bound.exit.now.items) r
 
   -- a front of what a rule asks for was read before memory was wanting
   abbrev pub BeginsContexts : ℕ → Body → List ℤ → Lent Read → Result Walked E → Type 0
   BeginsContexts rule body own trace r =
       (m : ModuleValue) → m.params ≡ own
-      → IsFrontOfWalk (rule_told filter.entry rule body m (place_seen W view spot)) (level_seen W view spot) trace.entry.now.read trace.exit.now.read r
+      → IsFrontOfWalk (contexts_told filter.entry rule body m (place_seen W view spot)) (level_seen W view spot) trace.entry.now.read trace.exit.now.read r

@@ -1,6 +1,6 @@
 -- What is kept of answers.
 use Rattle.std.specs.Prelude.{◌≡◌, ℤ, ◌≤◌, ◌<◌, ◌+◌, List, Some, None, IfSome}
-use Rattle.lsys_region.specs.Pool.{Pool, list_at, list_of, IsLive, IsFresh, OthersStay, OtherRoomsStay, free_for, Reuses, Grows, GivesBack}
+use Rattle.lsys_region.specs.Pool.{Pool, list_at, list_of, IsLiveRun, IsFresh, OthersStay, OtherRoomsStay, free_for, Reuses, Grows, GivesBack}
 use Rattle.lsys_region.specs.Rooms.{list_room}
 use Rattle.lsys_walks.specs.declared.entry.Entry.{Entry}
 use Rattle.lsys_walks.specs.declared.store.TraceRuns.{TraceRuns}
@@ -17,11 +17,11 @@ pub record StaysWithRoom {T : Type 0} (old new : Pool T) : Type 0 where
   pub room : old.spare ≤ new.spare
 
 -- both runs are live, and have these lists
-abbrev pub Holds : Store → TraceRuns → List Entry → List ℤ → Type 0
-Holds s r entries values = (list_of s.traces r.entries ≡ Some entries) × (list_of s.values r.values ≡ Some values)
+abbrev pub HoldsTrace : Store → TraceRuns → List Entry → List ℤ → Type 0
+HoldsTrace s r entries values = (list_of s.traces r.entries ≡ Some entries) × (list_of s.values r.values ≡ Some values)
 
 abbrev pub AreLive : Store → TraceRuns → Type 0
-AreLive s r = IsLive s.traces r.entries × IsLive s.values r.values
+AreLive s r = IsLiveRun s.traces r.entries × IsLiveRun s.values r.values
 
 -- neither was live, but for the run of an empty list, which is live in every store
 abbrev pub AreFresh : Store → TraceRuns → List Entry → List ℤ → Type 0

@@ -7,7 +7,7 @@ ghost use Rattle.lsys_walks.specs.SpotReads.{WalksLeft, BeginsLeftWalk};
 use crate::counter::Counter;
 use crate::entry::Entry;
 use crate::mark::Mark;
-use crate::pattern::fits;
+use crate::meeting::{Meeting, meet_module};
 use crate::reading::Reading;
 use crate::walked::Walked;
 use lsys_bodies::{Filter, Pattern};
@@ -71,19 +71,14 @@ pub fn left_reads<'a, W: LevelView, V: Ledger>(
                 at = mate;
             }
             Sight::Module { name, params } => {
-                if filter.ignores(name) {
-                    if trace.note(Entry::ignored(mark, tag, name, params), params, visited)? {
-                        return Ok(Walked::TooFar);
+                let pattern = Some(&patterns[due - 1]);
+                match meet_module(filter, pattern, mark, tag, name, params, trace, visited)? {
+                    Meeting::Ends(walked) => return Ok(walked),
+                    Meeting::Passed => {}
+                    Meeting::Matched => {
+                        push_reversed(bound, params)?;
+                        due -= 1;
                     }
-                } else {
-                    if trace.note(Entry::compared(mark, tag, name, params), params, visited)? {
-                        return Ok(Walked::TooFar);
-                    }
-                    if !fits(&patterns[due - 1], name, params) {
-                        return Ok(Walked::Missed);
-                    }
-                    push_reversed(bound, params)?;
-                    due -= 1;
                 }
                 at = next;
             }

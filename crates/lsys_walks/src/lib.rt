@@ -13,6 +13,7 @@ mod item;
 mod law;
 mod left;
 mod mark;
+mod meeting;
 mod pattern;
 mod reading;
 mod right;

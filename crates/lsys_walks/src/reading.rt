@@ -1,8 +1,9 @@
 //! A trace that is read beside an old one: nothing is written while they agree.
 ghost use Rattle.std.specs.Prelude.{◌≡◌, ◌↔◌, ◌+◌, ◌<◌, [], length, true, false, IsTrue, IfOk, IsOk, OnOk, OnErr};
+ghost use Rattle.lsys_spec.specs.Output.{IsFront};
 ghost use Rattle.lsys_spec.specs.Meaning.{most_entries};
 ghost use Rattle.lsys_walks.specs.Views.{decoded, arities};
-ghost use Rattle.lsys_walks.specs.Readings.{IsFront, read_with, AddsEntry};
+ghost use Rattle.lsys_walks.specs.Readings.{read_with, AddsEntry};
 
 use crate::alike::is_alike;
 use crate::counter::Counter;
@@ -29,13 +30,13 @@ pub struct Reading<'a> {
 
 impl<'a> Model for Reading<'a> {
     ghost use Rattle.lsys_walks.specs.Views.{decoded};
-    ghost use Rattle.lsys_walks.specs.Readings.{Read, IsReading, so_far};
+    ghost use Rattle.lsys_walks.specs.Readings.{Read, IsReading, trace_so_far};
 
     ghost Value = { Read };
 
     ghost view = { λ a. record {
       old = decoded a.entries.now a.values.now;
-      read = so_far a.agrees a.entries.now a.values.now a.place a.kept a.own;
+      read = trace_so_far a.agrees a.entries.now a.values.now a.place a.kept a.own;
       agrees = a.agrees;
     } };
 

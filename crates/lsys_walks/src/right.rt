@@ -2,13 +2,14 @@
 ghost use Rattle.std.specs.Prelude.{◌≡◌, ◌+◌, ◌-◌, ◌<◌, ◌≤◌, length, take, OnErr};
 ghost use Rattle.lsys_spec.specs.Meaning.{most_entries};
 ghost use Rattle.lsys_level.specs.Spots.{IsSpot};
-ghost use Rattle.lsys_walks.specs.SpotReads.{WalksRight, BeginsRightWalk};
+ghost use Rattle.lsys_walks.specs.SpotReads.{WalksRight, BeginsRightWalk, WalksInner, BeginsInnerWalk};
+ghost use Rattle.lsys_walks.specs.Walked.{FoundAtBranch, MissedAsItWas};
 
 use crate::counter::Counter;
 use crate::entry::Entry;
-use crate::item::behind;
+use crate::item::{behind, is_wanted, pattern_in};
 use crate::mark::Mark;
-use crate::pattern::fits;
+use crate::meeting::{Meeting, meet_module};
 use crate::reading::Reading;
 use crate::walked::Walked;
 use lsys_bodies::{Filter, Item};
@@ -26,13 +27,14 @@ use std::sync::ledger::Ledger;
 /// with the old one, and counted by `visited`. Where the items match, the parameters of the modules that they match stand
 /// behind those of `bound`, in order.
 ///
-/// It calls itself once for each branch pattern that is open, so at most eight deep, however deep the level is. With the
+/// It is called again once for each branch pattern that is open, so at most eight deep, however deep the level is. With the
 /// 1,025th entry of the trace it answers [`Walked::TooFar`].
 ///
 /// # Errors
 ///
 /// Want of memory, for an entry that differs from the old trace or for the parameters. What was read by then is kept: of
 /// the whole trace at most 1,024 entries.
+#[cycle(right_reads)]
 pub fn right_reads<'a, W: LevelView, V: Ledger>(
     view: &W,
     spot: W::Spot,
@@ -57,11 +59,7 @@ pub fn right_reads<'a, W: LevelView, V: Ledger>(
 {
     let mut at = view.right(spot);
     let mut next = first;
-    while next < items.len() {
-        let wanted = &items[next];
-        if let Item::Pop = wanted {
-            return Ok(Walked::Found);
-        }
+    while is_wanted(items, next) {
         let here = match at {
             None => return Ok(Walked::Missed),
             Some(here) => here,
@@ -71,56 +69,78 @@ pub fn right_reads<'a, W: LevelView, V: Ledger>(
             Sight::Pop => return Ok(Walked::Missed),
             Sight::Push => {
                 let mate = view.mate(here);
+                at = view.right(mate);
                 if trace.note(Entry::branch(mark, tag, view.tag(mate)), &[], visited)? {
                     return Ok(Walked::TooFar);
                 }
-                at = view.right(mate);
-                if let Item::Push = wanted {
-                    let kept = bound.len();
-                    let inside = Mark {
-                        rule: mark.rule,
-                        depth: mark.depth + 1,
-                    };
-                    match right_reads(
-                        view,
-                        here,
-                        filter,
-                        items,
-                        next + 1,
-                        inside,
-                        trace,
-                        bound,
-                        visited,
-                    )? {
-                        Walked::TooFar => return Ok(Walked::TooFar),
-                        Walked::Found => next = behind(items, next),
-                        Walked::Missed => bound.truncate(kept),
-                    }
+                match inner_reads(view, here, filter, items, next, mark, trace, bound, visited)? {
+                    Walked::TooFar => return Ok(Walked::TooFar),
+                    Walked::Found => next = behind(items, next),
+                    Walked::Missed => {}
                 }
             }
             Sight::Module { name, params } => {
                 at = view.right(here);
-                if filter.ignores(name) {
-                    if trace.note(Entry::ignored(mark, tag, name, params), params, visited)? {
-                        return Ok(Walked::TooFar);
+                let due = pattern_in(&items[next]);
+                match meet_module(filter, due, mark, tag, name, params, trace, visited)? {
+                    Meeting::Ends(walked) => return Ok(walked),
+                    Meeting::Passed => {}
+                    Meeting::Matched => {
+                        bound.extend_from_slice(params)?;
+                        next += 1;
                     }
-                } else {
-                    if trace.note(Entry::compared(mark, tag, name, params), params, visited)? {
-                        return Ok(Walked::TooFar);
-                    }
-                    match wanted {
-                        Item::Pattern(pattern) => {
-                            if !fits(pattern, name, params) {
-                                return Ok(Walked::Missed);
-                            }
-                        }
-                        _ => return Ok(Walked::Missed),
-                    }
-                    bound.extend_from_slice(params)?;
-                    next += 1;
                 }
             }
         }
     }
     Ok(Walked::Found)
+}
+
+/// Tries a branch pattern in the branch that begins at a spot. Where a module pattern is wanted, it reads nothing and
+/// answers [`Walked::Missed`]; where it answers that, `bound` is as it was.
+///
+/// # Errors
+///
+/// As of [`right_reads`].
+#[cycle(right_reads)]
+fn inner_reads<'a, W: LevelView, V: Ledger>(
+    view: &W,
+    spot: W::Spot,
+    filter: Filter<'_>,
+    items: &[Item],
+    next: usize,
+    mark: Mark,
+    trace: &mut Reading<'a>,
+    bound: &mut Vec<i64>,
+    visited: &mut Counter<V>,
+) -> Result<Walked, AllocError>
+    requires spot { IsSpot (W.levels view.now) (W.level_of view.now spot) (W.place_of view.now spot) }
+    requires within { next < length items.now }
+    requires depth { mark.depth + (length items.now - next) < 256 }
+    requires room { length trace.old.read ≤ most_entries }
+    ensures told { WalksInner W.LevelView view spot filter mark items.now next trace bound result }
+    ensures refused { BeginsInnerWalk W.LevelView view spot filter mark items.now next trace result }
+    ensures branch { FoundAtBranch items.now next result }
+    ensures missed { MissedAsItWas bound.old.items bound.new.items result }
+    ensures few { OnErr result (length trace.new.read ≤ most_entries) }
+    ensures front { take (length bound.old.items) bound.new.items ≡ bound.old.items }
+    ensures same { trace.new.old ≡ trace.old.old }
+    ensures counted { visited.new + length trace.old.read ≡ visited.old + length trace.new.read }
+{
+    let Item::Push = &items[next] else {
+        return Ok(Walked::Missed);
+    };
+    let kept = bound.len();
+    let inside = Mark {
+        rule: mark.rule,
+        depth: mark.depth + 1,
+    };
+    let first = next + 1;
+    let walked = right_reads(
+        view, spot, filter, items, first, inside, trace, bound, visited,
+    )?;
+    if let Walked::Missed = walked {
+        bound.truncate(kept);
+    }
+    Ok(walked)
 }

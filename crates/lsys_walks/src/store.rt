@@ -1,8 +1,8 @@
 //! Where answers are kept.
 ghost use Rattle.std.specs.Prelude.{◌≡◌, ◌≤◌, OnErr, OnOk, Some};
-ghost use Rattle.lsys_region.specs.Pool.{empty_pool, list_of, IsLive};
+ghost use Rattle.lsys_region.specs.Pool.{empty_pool, list_of, IsLiveRun};
 ghost use Rattle.lsys_region.specs.Rooms.{list_room};
-ghost use Rattle.lsys_walks.specs.Stores.{StaysWithRoom, Holds, AreLive, AreFresh, OtherTracesStay, TakesRoom, AreGone, StaysAsLarge, GivesBackRoom};
+ghost use Rattle.lsys_walks.specs.Stores.{StaysWithRoom, HoldsTrace, AreLive, AreFresh, OtherTracesStay, TakesRoom, AreGone, StaysAsLarge, GivesBackRoom};
 
 use crate::entry::Entry;
 use lsys_region::{Region, Run};
@@ -64,7 +64,7 @@ impl AnswerStore {
     pub fn place(&mut self, entries: &[Entry], values: &[i64]) -> TraceRuns
         requires entries { list_room entries.now ≤ self.old.traces.spare }
         requires params { list_room values.now ≤ self.old.values.spare }
-        ensures placed { Holds self.new result entries.now values.now }
+        ensures placed { HoldsTrace self.new result entries.now values.now }
         ensures fresh { AreFresh self.old result entries.now values.now }
         ensures others { OtherTracesStay self.old self.new result }
         ensures traces { TakesRoom self.old.traces self.new.traces entries.now }
@@ -78,7 +78,7 @@ impl AnswerStore {
 
     /// The entries of a trace that is kept.
     pub fn entries(&self, runs: &TraceRuns) -> &[Entry]
-        requires { IsLive self.now.traces runs.now.entries }
+        requires { IsLiveRun self.now.traces runs.now.entries }
         ensures { list_of self.now.traces runs.now.entries ≡ Some result.now }
     {
         self.traces.read(&runs.entries)
@@ -86,7 +86,7 @@ impl AnswerStore {
 
     /// The parameters of the modules of a trace that is kept, in order.
     pub fn values(&self, runs: &TraceRuns) -> &[i64]
-        requires { IsLive self.now.values runs.now.values }
+        requires { IsLiveRun self.now.values runs.now.values }
         ensures { list_of self.now.values runs.now.values ≡ Some result.now }
     {
         self.values.read(&runs.values)

@@ -9,7 +9,7 @@ use Rattle.lsys_syntax.specs.Commands.{Numbering}
 use Rattle.lsys_spec.specs.Draws.{number_base}
 use Rattle.lsys_spec.specs.Numbers.{code_of}
 use Rattle.lsys_change.specs.Children.{is_open}
-use Rattle.lsys_rewrite.specs.Cutting.{stays, cutting_behind}
+use Rattle.lsys_rewrite.specs.Cutting.{symbol_stays, cutting_behind}
 use Rattle.lsys_module.specs.Views.{symbol_of, string_of}
 use Rattle.lsys_module.specs.declared.symbol.Symbol.{Symbol}
 use Rattle.lsys_module.specs.declared.symbol.Symbol.TheVariants as code
@@ -36,7 +36,7 @@ none_filled g key ss numbers h = record { before = []; behind = h; told = refl; 
 pub one_filled : (g : Numbering) (key : ℕ) (ss : List Symbol) (i : ℕ) (numbers after : Numbers) (ws : List Child) (o : Option ℕ) (s : Symbol) (number : Number) → IsFilled g key ss i numbers ws o → slice_get ss i ≡ Some s
     → ((n : ℕ) (before : List ℕ) → IsBehind n before numbers → number ≡ numbered_at g n before (code_of (symbol_of s)))
     → ((n : ℕ) (before : List ℕ) → IsBehind n before numbers → IsBehind (n + 1) (code_of (symbol_of s) ∷ before) after)
-    → IsFilled g key ss (i + 1) after (ws ++ child_if (stays o (symbol_of s)) (child_of key number s)) (cutting_behind o (symbol_of s))
+    → IsFilled g key ss (i + 1) after (ws ++ child_if (symbol_stays o (symbol_of s)) (child_of key number s)) (cutting_behind o (symbol_of s))
 one_filled g key ss i numbers after ws o s number h there is behind =
     let c = code_of (symbol_of s) in
     let rest : List Symbol = drop (i + 1) ss in
@@ -45,8 +45,8 @@ one_filled g key ss i numbers after ws o s number h there is behind =
       before = c ∷ h.before;
       behind = behind i h.before h.behind;
       told =
-          append_assoc ws (child_if (stays o (symbol_of s)) (child_of key number s)) next
-          ∙ ap (λ (number : Number). ws ++ (child_if (stays o (symbol_of s)) (child_of key number s) ++ next)) (is i h.before h.behind)
+          append_assoc ws (child_if (symbol_stays o (symbol_of s)) (child_of key number s)) next
+          ∙ ap (λ (number : Number). ws ++ (child_if (symbol_stays o (symbol_of s)) (child_of key number s) ++ next)) (is i h.before h.behind)
           ∙ ap (λ rest. ws ++ wanted_from g key i h.before o rest) (sym (drop_there ss i s there)) ∙ h.told;
       past = ap (cutting_past o) (sym (drop_there ss i s there)) ∙ h.past;
     }

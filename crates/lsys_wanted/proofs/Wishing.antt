@@ -12,13 +12,13 @@ use Rattle.lsys_spec.specs.Cuts.{cut_on}
 use Rattle.lsys_spec.specs.Numbers.{code_of, number_at}
 use Rattle.lsys_spec.specs.Meaning.{numbered}
 use Rattle.lsys_change.specs.Children.{cutting_after, is_open}
-use Rattle.lsys_rewrite.specs.Cutting.{stays, cutting_behind}
+use Rattle.lsys_rewrite.specs.Cutting.{symbol_stays, cutting_behind}
 use Rattle.lsys_module.specs.Views.{symbol_of, string_of, module_name}
 use Rattle.lsys_module.specs.declared.symbol.Symbol.{Symbol}
 use Rattle.lsys_module.specs.declared.symbol.Symbol.TheVariants as code
 use Rattle.lsys_brood.specs.declared.number.Number.{Number}
 use Rattle.lsys_brood.specs.declared.child.Child.{Child}
-use Rattle.lsys_brood.specs.Matches.{AreApart, same_number, has_number}
+use Rattle.lsys_brood.specs.Matches.{AreDifferent, same_child_number, has_number}
 use Rattle.lsys_brood.specs.Children.{numbers_of, AreWhole}
 use Rattle.lsys_wanted.specs.Counts.{numbered_at, child_of, child_if}
 use Rattle.lsys_wanted.specs.Wishes.{child_number, child_symbol, AreWanted}
@@ -32,7 +32,7 @@ child_at g key n before s = child_of key (numbered_at g n before (code_of (symbo
 abbrev pub wanted_from : Numbering → ℕ → ℕ → List ℕ → Option ℕ → List Symbol → List Child
 wanted_from g key n before o [] = []
 wanted_from g key n before o (s ∷ ss) =
-    child_if (stays o (symbol_of s)) (child_at g key n before s) ++ wanted_from g key (n + 1) (code_of (symbol_of s) ∷ before) (cutting_behind o (symbol_of s)) ss
+    child_if (symbol_stays o (symbol_of s)) (child_at g key n before s) ++ wanted_from g key (n + 1) (code_of (symbol_of s) ∷ before) (cutting_behind o (symbol_of s)) ss
 
 abbrev pub cutting_past : Option ℕ → List Symbol → Option ℕ
 cutting_past o [] = o
@@ -94,7 +94,7 @@ each_if P false w ws h k = k
 keys_from : (g : Numbering) (key : ℕ) (ss : List Symbol) (n : ℕ) (before : List ℕ) (o : Option ℕ) → Each (λ w. w.key ≡ child_key_of key (child_number w)) (wanted_from g key n before o ss)
 keys_from g key [] n before o = tt
 keys_from g key (s ∷ ss) n before o =
-    each_if (λ w. w.key ≡ child_key_of key (child_number w)) (stays o (symbol_of s)) (child_at g key n before s) _ (λ e. refl) (keys_from g key ss (n + 1) (code_of (symbol_of s) ∷ before) (cutting_behind o (symbol_of s)))
+    each_if (λ w. w.key ≡ child_key_of key (child_number w)) (symbol_stays o (symbol_of s)) (child_at g key n before s) _ (λ e. refl) (keys_from g key ss (n + 1) (code_of (symbol_of s) ∷ before) (cutting_behind o (symbol_of s)))
 
 count_few : (g : Numbering) (n : ℕ) (before : List ℕ) (c : ℕ) → length before ≡ n → (numbered_at g n before c).count ≤ n
 count_few by_place n before c e = omega arith
@@ -106,10 +106,10 @@ small_at g n before c e l = omega (arith, count_few g n before c e, l)
 small_from : (g : Numbering) (key : ℕ) (ss : List Symbol) (n : ℕ) (before : List ℕ) (o : Option ℕ) → length before ≡ n → n + length ss ≤ number_base → Each (λ w. w.number.count < number_base) (wanted_from g key n before o ss)
 small_from g key [] n before o e l = tt
 small_from g key (s ∷ ss) n before o e l =
-    each_if (λ w. w.number.count < number_base) (stays o (symbol_of s)) (child_at g key n before s) _ (λ b. small_at g n before (code_of (symbol_of s)) e (omega (arith, l)))
+    each_if (λ w. w.number.count < number_base) (symbol_stays o (symbol_of s)) (child_at g key n before s) _ (λ b. small_at g n before (code_of (symbol_of s)) e (omega (arith, l)))
     (small_from g key ss (n + 1) (code_of (symbol_of s) ∷ before) (cutting_behind o (symbol_of s)) (omega (arith, e)) (omega (arith, l)))
 
-no_cut : (o : Option ℕ) (s : Symbol) → stays o (symbol_of s) ≡ true → s ≢ code.Cut
+no_cut : (o : Option ℕ) (s : Symbol) → symbol_stays o (symbol_of s) ≡ true → s ≢ code.Cut
 no_cut None code.Push h e = cc
 no_cut None code.Pop h e = cc
 no_cut None code.Cut h e = cc
@@ -129,7 +129,7 @@ whole_if false w ws h k = k
 
 whole_from : (g : Numbering) (key : ℕ) (ss : List Symbol) (n : ℕ) (before : List ℕ) (o : Option ℕ) → AreWhole (wanted_from g key n before o ss)
 whole_from g key [] n before o = tt
-whole_from g key (s ∷ ss) n before o = whole_if (stays o (symbol_of s)) (child_at g key n before s) _ (no_cut o s) (whole_from g key ss (n + 1) (code_of (symbol_of s) ∷ before) (cutting_behind o (symbol_of s)))
+whole_from g key (s ∷ ss) n before o = whole_if (symbol_stays o (symbol_of s)) (child_at g key n before s) _ (no_cut o s) (whole_from g key ss (n + 1) (code_of (symbol_of s) ∷ before) (cutting_behind o (symbol_of s)))
 
 few_if : (b : Bool) (w : Child) (ws : List Child) (k : ℕ) → length ws ≤ k → length (child_if b w ++ ws) ≤ suc k
 few_if true w ws k h = omega (arith, h)
@@ -138,7 +138,7 @@ few_if false w ws k h = omega (arith, h)
 few_from : (g : Numbering) (key : ℕ) (ss : List Symbol) (n : ℕ) (before : List ℕ) (o : Option ℕ) → length (wanted_from g key n before o ss) ≤ length (string_of ss)
 few_from g key [] n before o = omega arith
 few_from g key (s ∷ ss) n before o =
-    few_if (stays o (symbol_of s)) (child_at g key n before s) _ (length (string_of ss)) (few_from g key ss (n + 1) (code_of (symbol_of s) ∷ before) (cutting_behind o (symbol_of s)))
+    few_if (symbol_stays o (symbol_of s)) (child_at g key n before s) _ (length (string_of ss)) (few_from g key ss (n + 1) (code_of (symbol_of s) ∷ before) (cutting_behind o (symbol_of s)))
 
 -- 5. no number comes twice
 
@@ -162,14 +162,14 @@ all_come : (g : Numbering) (key : ℕ) (ss : List Symbol) (n : ℕ) (before : Li
 all_come g key [] n before o = tt
 all_come g key (s ∷ ss) n before o =
     let c = code_of (symbol_of s) in
-    each_if (λ w. MayCome g n before w.number) (stays o (symbol_of s)) (child_at g key n before s) _ (λ e. comes_now g n before c)
+    each_if (λ w. MayCome g n before w.number) (symbol_stays o (symbol_of s)) (child_at g key n before s) _ (λ e. comes_now g n before c)
     (all_weaker _ _ _ (λ w h. comes_later g n before c w.number h) (all_come g key ss (n + 1) (c ∷ before) (cutting_behind o (symbol_of s))))
   where
     all_weaker : (P Q : Child → Type 0) (ws : List Child) → ((w : Child) → P w → Q w) → Each P ws → Each Q ws
     all_weaker P Q [] f h = tt
     all_weaker P Q (w ∷ ws) f h = (f w h.0, all_weaker P Q ws f h.1)
 
-gone_by : (g : Numbering) (n : ℕ) (before : List ℕ) (c : ℕ) (q : Number) → MayCome g (n + 1) (c ∷ before) q → same_number q (numbered_at g n before c) ≡ false
+gone_by : (g : Numbering) (n : ℕ) (before : List ℕ) (c : ℕ) (q : Number) → MayCome g (n + 1) (c ∷ before) q → same_child_number q (numbered_at g n before c) ≡ false
 gone_by by_place n before c q h = by (nat_eq q.code 0) (nat_eq q.count n) refl
   where
     by : (a b : Bool) → nat_eq q.count n ≡ b → a && b ≡ false
@@ -193,15 +193,15 @@ not_later : (g : Numbering) (n : ℕ) (before : List ℕ) (c : ℕ) (ws : List C
 not_later g n before c [] h = refl
 not_later g n before c (w ∷ ws) h = (λ i. gone_by g n before c w.number h.0 i || not_later g n before c ws h.1 i)
 
-apart_if : (b : Bool) (w : Child) (ws : List Child) → has_number (numbers_of ws) w.number ≡ false → AreApart (numbers_of ws) → AreApart (numbers_of (child_if b w ++ ws))
+apart_if : (b : Bool) (w : Child) (ws : List Child) → has_number (numbers_of ws) w.number ≡ false → AreDifferent (numbers_of ws) → AreDifferent (numbers_of (child_if b w ++ ws))
 apart_if true w ws h k = (h, k)
 apart_if false w ws h k = k
 
-apart_from : (g : Numbering) (key : ℕ) (ss : List Symbol) (n : ℕ) (before : List ℕ) (o : Option ℕ) → AreApart (numbers_of (wanted_from g key n before o ss))
+apart_from : (g : Numbering) (key : ℕ) (ss : List Symbol) (n : ℕ) (before : List ℕ) (o : Option ℕ) → AreDifferent (numbers_of (wanted_from g key n before o ss))
 apart_from g key [] n before o = tt
 apart_from g key (s ∷ ss) n before o =
     let c = code_of (symbol_of s) in
-    apart_if (stays o (symbol_of s)) (child_at g key n before s) _ (not_later g n before c _ (all_come g key ss (n + 1) (c ∷ before) (cutting_behind o (symbol_of s))))
+    apart_if (symbol_stays o (symbol_of s)) (child_at g key n before s) _ (not_later g n before c _ (all_come g key ss (n + 1) (c ∷ before) (cutting_behind o (symbol_of s))))
     (apart_from g key ss (n + 1) (c ∷ before) (cutting_behind o (symbol_of s)))
 
 -- 6. all of them

@@ -7,7 +7,7 @@ use Rattle.lsys_syntax.specs.Commands.{Numbering, by_place, by_name}
 use Rattle.lsys_spec.specs.Draws.{number_base, child_key_of}
 use Rattle.lsys_reading.specs.declared.parts.Numbering.TheVariants as code
 use Rattle.lsys_reading.specs.Commands.{numbering_of}
-use Rattle.lsys_rewrite.specs.Cutting.{stays}
+use Rattle.lsys_rewrite.specs.Cutting.{symbol_stays}
 use Rattle.lsys_module.specs.Views.{symbol_of}
 use Rattle.lsys_module.specs.declared.symbol.Symbol.{Symbol}
 use Rattle.lsys_brood.specs.declared.number.Number.{Number}
@@ -35,7 +35,7 @@ child_if b w = cond b (w ∷ []) []
 abbrev pub PutsChildIfLeft : Vec Child Global → Vec Child Global → Option ℕ → ℕ → Number → Symbol
     → Type 0
 PutsChildIfLeft old new cutting key number s =
-    new.items ≡ old.items ++ child_if (stays cutting (symbol_of s)) (child_of key number s)
+    new.items ≡ old.items ++ child_if (symbol_stays cutting (symbol_of s)) (child_of key number s)
 
 -- n symbols were numbered, with these codes
 pub record IsBehind (n : ℕ) (before : List ℕ) (a : Numbers) : Type 0 where

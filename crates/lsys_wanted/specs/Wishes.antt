@@ -13,7 +13,7 @@ use Rattle.lsys_level.specs.Places.{seen_in}
 use Rattle.lsys_reading.specs.declared.parts.Numbering.{Numbering as CodeNumbering}
 use Rattle.lsys_reading.specs.Commands.{numbering_of}
 use Rattle.lsys_brood.specs.declared.child.Child.{Child}
-use Rattle.lsys_brood.specs.Matches.{AreApart}
+use Rattle.lsys_brood.specs.Matches.{AreDifferent}
 use Rattle.lsys_brood.specs.Children.{numbers_of, AreWhole}
 
 -- children, and whether a cut among what they come from reaches what stands behind them
@@ -26,7 +26,7 @@ abbrev pub child_number : Child → ℕ
 child_number w = number_base * w.number.code + w.number.count
 
 -- a child of a parent with this lineage, as a symbol of the next level
-abbrev pub child_symbol : List ℕ → Child → L.Symbol
+abbrev pub child_symbol : List ℕ → Child → L.LevelSymbol
 child_symbol l w = with_lineage (l ++ child_number w ∷ []) (seen_in w.symbol)
 
 -- The children are those that a successor wants of a parent with this key: what the cuts among the successor's symbols leave,
@@ -36,7 +36,7 @@ pub record AreWanted (g : Numbering) (key : ℕ) (zs : List (S.Symbol ℤ))
   pub symbols : (l : List ℕ) → map (child_symbol l) ws ≡ cut (children g l zs)
   pub keys : Each (λ w. w.key ≡ child_key_of key (child_number w)) ws
   pub whole : AreWhole ws
-  pub apart : AreApart (numbers_of ws)
+  pub apart : AreDifferent (numbers_of ws)
   pub small : Each (λ w. w.number.count < number_base) ws
   pub few : length ws ≤ length zs
 

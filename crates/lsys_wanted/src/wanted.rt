@@ -5,7 +5,7 @@ ghost use Rattle.lsys_change.specs.Children.{is_open};
 ghost use Rattle.lsys_level.specs.Views.{seen_of, HasFewParams};
 ghost use Rattle.lsys_module.specs.declared.symbol.Symbol.TheVariants.{Cut};
 ghost use Rattle.lsys_module.specs.Views.{symbol_of, string_of};
-ghost use Rattle.lsys_rewrite.specs.Cutting.{stays};
+ghost use Rattle.lsys_rewrite.specs.Cutting.{symbol_stays};
 ghost use Rattle.lsys_wanted.specs.Wishes.{itself, IsWishFor};
 ghost use Rattle.lsys_wanted.specs.Counts.{PutsChildIfLeft};
 

@@ -5,7 +5,7 @@ use Rattle.std.specs.Option.{IfSome}
 use Rattle.std.specs.Str.{bytes_eq}
 use Rattle.std.proofs.lemmas.Bool.Decides.{nat_tests}
 use Rattle.lsys_syntax.specs.Limits.{greatest_module_limit, usual_module_limit}
-use Rattle.lsys_words.specs.Words.{number_of, limit_of, setting_of, in_two, alone, together, spelled, options_by, HasLimit}
+use Rattle.lsys_words.specs.Words.{number_written, limit_of, setting_of, in_two, only_setting, together, options_spelled, options_by, HasLimit}
 use Rattle.lsys_words.specs.declared.setting.Setting.{Setting}
 use Rattle.lsys_words.specs.declared.setting.Setting.TheVariants.{Limit, Sample}
 
@@ -31,9 +31,9 @@ set_at false true (Some n) = tt
 set_at false false o = tt
 
 set : (name word : List ℕ) → IfSome (setting_of name word) IsBounded
-set name word = set_at (bytes_eq name (codes "--limit")) (bytes_eq name (codes "--sample")) (number_of word)
+set name word = set_at (bytes_eq name (codes "--limit")) (bytes_eq name (codes "--sample")) (number_written word)
 
-alone_at : (s : Setting) → IsBounded s → HasLimit (alone s)
+alone_at : (s : Setting) → IsBounded s → HasLimit (only_setting s)
 alone_at (Limit n) h = h
 alone_at (Sample n) h = usual
 
@@ -43,7 +43,7 @@ together_at (Limit n) (Sample k) h g = h
 together_at (Sample n) (Limit k) h g = g
 together_at (Sample n) (Sample k) h g = tt
 
-one : (o : Option Setting) → IfSome o IsBounded → IfSome (option_map alone o) HasLimit
+one : (o : Option Setting) → IfSome o IsBounded → IfSome (option_map only_setting o) HasLimit
 one None h = tt
 one (Some s) h = alone_at s h
 
@@ -52,7 +52,7 @@ two None p h g = tt
 two (Some s) None h g = tt
 two (Some s) (Some t) h g = together_at s t h g
 
-all : (words : List (List ℕ)) → IfSome (spelled words) HasLimit
+all : (words : List (List ℕ)) → IfSome (options_spelled words) HasLimit
 all [] = usual
 all (a ∷ []) = tt
 all (a ∷ n ∷ []) = one (setting_of a n) (set a n)

@@ -2,7 +2,7 @@
 use Rattle.std.proofs.Common.{◌≡◌, ℕ, Bool, true, false, Option, Some, None, List, [], ◌∷◌, ◌++◌, ◌==◌, codes, refl, ap, sym, ◌∙◌}
 use Rattle.std.specs.Prelude.{flat_map, option_map, option_and_then, if◌then◌else◌}
 use Rattle.std.specs.Str.{bytes_eq}
-use Rattle.lsys_words.specs.Words.{is_number, number_of, limit_of, setting_of, text_behind, name_and, in_two}
+use Rattle.lsys_words.specs.Words.{is_number, number_written, limit_of, setting_of, text_behind, name_and, in_two}
 use Rattle.lsys_words.specs.Fronts.{front_of}
 use Rattle.lsys_words.specs.declared.setting.Setting.{Setting}
 use Rattle.lsys_words.specs.declared.setting.Setting.TheVariants.{Sample}
@@ -19,13 +19,13 @@ unset_by true b o e = rw e refl
 unset_by false true o e = rw e refl
 unset_by false false o e = refl
 
-unset : (name word : List ℕ) → number_of word ≡ None → setting_of name word ≡ None
-unset name word e = unset_by (bytes_eq name (codes "--limit")) (bytes_eq name (codes "--sample")) (number_of word) e
+unset : (name word : List ℕ) → number_written word ≡ None → setting_of name word ≡ None
+unset name word e = unset_by (bytes_eq name (codes "--limit")) (bytes_eq name (codes "--sample")) (number_written word) e
 
-unfronted : (name word : List ℕ) (rest : List (List ℕ)) → number_of word ≡ None → front_of (name ∷ word ∷ rest) ≡ None
+unfronted : (name word : List ℕ) (rest : List (List ℕ)) → number_written word ≡ None → front_of (name ∷ word ∷ rest) ≡ None
 unfronted name word rest e = ap (λ o. option_map (λ s. (s, rest)) o) (unset name word e)
 
-no_front : (name word : List ℕ) (rest : List (List ℕ)) (limited sampled : Option (List ℕ)) → number_of word ≡ None
+no_front : (name word : List ℕ) (rest : List (List ℕ)) (limited sampled : Option (List ℕ)) → number_written word ≡ None
     → front_of (name ∷ (name_and (codes "--limit") limited (name_and (codes "--sample") sampled (word ∷ [])) ++ rest)) ≡ None
 no_front name word rest (Some n) sampled e = unfronted name (codes "--limit") (n ∷ rest) refl
 no_front name word rest None (Some n) e = unfronted name (codes "--sample") (n ∷ rest) refl
@@ -37,7 +37,7 @@ second name word rest = go (is_number word) refl
     go : (b : Bool) → is_number word ≡ b → front_of (name ∷ (in_two word ++ rest)) ≡ option_map (λ s. (s, rest)) (setting_of name word)
     go true e = ap (λ ws. front_of (name ∷ (ws ++ rest))) (whole word e)
     go false e =
-        let none : number_of word ≡ None = rw e refl in
+        let none : number_written word ≡ None = rw e refl in
         no_front name word rest (text_behind (codes "--limit=") word) (text_behind (codes "--sample=") word) none
         ∙ sym (ap (λ o. option_map (λ s. (s, rest)) o) (unset name word none))
 

@@ -6,7 +6,7 @@ use Rattle.std.specs.List.{list_all}
 use Rattle.std.specs.Str.Parse.{ParsesUnsigned, digits_value}
 use Rattle.std.proofs.lemmas.Str.Parse.{IsNumeralModel, numerals_by_value, parse_digits}
 use Rattle.std.proofs.lemmas.Bool.Decides.{nat_tests}
-use Rattle.lsys_words.specs.Words.{number_of, is_number, is_short_numeral}
+use Rattle.lsys_words.specs.Words.{number_written, is_number, is_short_numeral}
 
 own : IsNumeralModel (λ ds. list_all is_ascii_digit ds ≡ true) (digits_value 10)
 own = numerals_by_value _ (search rules)
@@ -15,7 +15,7 @@ numeral : (a b : Bool) → (a && b) ≡ true → a ≡ true
 numeral true b h = refl
 numeral false b h = cc
 
-pub unparsed : (word : List ℕ) → is_short_numeral word ≡ false → None ≡ number_of word
+pub unparsed : (word : List ℕ) → is_short_numeral word ≡ false → None ≡ number_written word
 unparsed word h = rw h refl
 
 both : (a b : Bool) → a ≡ true → b ≡ true → (a && b) ≡ true
@@ -26,7 +26,7 @@ not_both true true h = absurd (h (refl, refl))
 not_both true false h = refl
 not_both false b h = refl
 
-of : {E : Type 0} (word : List ℕ) (r : Result ℕ E) → is_short_numeral word ≡ true → OkIff r ((0 < length word) × (digits_value 10 word < 2 ^ 64)) (digits_value 10 word) → result_ok r ≡ number_of word
+of : {E : Type 0} (word : List ℕ) (r : Result ℕ E) → is_short_numeral word ≡ true → OkIff r ((0 < length word) × (digits_value 10 word < 2 ^ 64)) (digits_value 10 word) → result_ok r ≡ number_written word
 of word (Ok n) h (q, e) =
     let is : is_number word ≡ true = grind (arith, nat_tests) in
     rw (is, e) refl
@@ -34,7 +34,7 @@ of word (Err e) h k =
     let is : is_number word ≡ false = grind (arith, nat_tests) in
     rw is refl
 
-pub parsed : {E : Type 0} (word : List ℕ) (r : Result ℕ E) → ParsesUnsigned 64 10 word r → is_short_numeral word ≡ true → result_ok r ≡ number_of word
+pub parsed : {E : Type 0} (word : List ℕ) (r : Result ℕ E) → ParsesUnsigned 64 10 word r → is_short_numeral word ≡ true → result_ok r ≡ number_written word
 parsed word r h short = of word r short (parse_digits own 64 word r h (numeral (list_all is_ascii_digit word) _ short))
 
 each_passes : (xs : List ℕ) → ((k : ℕ) → k < length xs → is_ascii_digit (slice_index xs k) ≡ true) → list_all is_ascii_digit xs ≡ true

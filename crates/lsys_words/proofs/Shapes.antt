@@ -5,7 +5,7 @@ use Rattle.std.specs.Str.{bytes_eq}
 use Rattle.std.proofs.lemmas.Bool.Decides.{nat_tests}
 use Rattle.std.proofs.lemmas.Slice.Eq.{bytes_eq-Decides}
 use Rattle.lsys_syntax.specs.Limits.{usual_module_limit, greatest_module_limit}
-use Rattle.lsys_words.specs.Words.{is_number, number_of, limit_of, setting_of, text_behind, name_and, in_two, alone, together, spelled, options_by}
+use Rattle.lsys_words.specs.Words.{is_number, number_written, limit_of, setting_of, text_behind, name_and, in_two, only_setting, together, options_spelled, options_by}
 use Rattle.lsys_words.specs.Values.{within_limits, options_in}
 use Rattle.lsys_words.specs.Fronts.{front_of}
 use Rattle.lsys_words.specs.declared.Options.{Options}
@@ -26,12 +26,12 @@ of_next : {A B : Type 0} (f : A → Option B) (o : Option A) → is_some (option
 of_next f None h = h
 of_next f (Some a) h = refl
 
-numbered : (d : List ℕ) → is_some (number_of d) ≡ true → is_number d ≡ true
+numbered : (d : List ℕ) → is_some (number_written d) ≡ true → is_number d ≡ true
 numbered d h = go (is_number d) refl
   where
     go : (b : Bool) → is_number d ≡ b → is_number d ≡ true
     go true e = e
-    go false e = let none : number_of d ≡ None = rw e refl in apart (sym (ap is_some none) ∙ h)
+    go false e = let none : number_written d ≡ None = rw e refl in apart (sym (ap is_some none) ∙ h)
 
 cons_is : (b c : ℕ) (xs ys : List ℕ) → b ≡ c → xs ≡ ys → (b ∷ xs) ≡ (c ∷ ys)
 cons_is b c xs ys e f = ap₂ (λ x zs. x ∷ zs) e f
@@ -54,9 +54,9 @@ sets : (name word : List ℕ) → is_some (setting_of name word) ≡ true → Se
 sets name word h = go (bytes_eq name (codes "--limit")) (bytes_eq name (codes "--sample")) refl refl h
   where
     go : (a b : Bool) → bytes_eq name (codes "--limit") ≡ a → bytes_eq name (codes "--sample") ≡ b
-        → is_some (if a then option_and_then limit_of (number_of word) else if b then option_map Sample (number_of word) else None) ≡ true → Sets name word
-    go true b e f k = record { name_is = inl ((bytes_eq-Decides name (codes "--limit")).0 e); number = numbered word (of_next limit_of (number_of word) k) }
-    go false true e f k = record { name_is = inr ((bytes_eq-Decides name (codes "--sample")).0 f); number = numbered word (of_map Sample (number_of word) k) }
+        → is_some (if a then option_and_then limit_of (number_written word) else if b then option_map Sample (number_written word) else None) ≡ true → Sets name word
+    go true b e f k = record { name_is = inl ((bytes_eq-Decides name (codes "--limit")).0 e); number = numbered word (of_next limit_of (number_written word) k) }
+    go false true e f k = record { name_is = inr ((bytes_eq-Decides name (codes "--sample")).0 f); number = numbered word (of_map Sample (number_written word) k) }
     go false false e f k = apart k
 
 -- words begin with an option
@@ -99,9 +99,9 @@ of_after : (o : Option (Setting × List (List ℕ))) → is_some (after_first o)
 of_after None h = h
 of_after (Some p) h = refl
 
-first_fronted : (word : List ℕ) (words : List (List ℕ)) → is_some (spelled (flat_map in_two (word ∷ words))) ≡ true → is_some (front_of (flat_map in_two (word ∷ words))) ≡ true
+first_fronted : (word : List ℕ) (words : List (List ℕ)) → is_some (options_spelled (flat_map in_two (word ∷ words))) ≡ true → is_some (front_of (flat_map in_two (word ∷ words))) ≡ true
 first_fronted word words =
-    parts_by (λ ws. is_some (spelled ws) ≡ true → is_some (front_of ws) ≡ true) (λ x xs h. of_after (front_of (x ∷ xs)) (sym (ap is_some (by_fronts x xs)) ∙ h)) word words
+    parts_by (λ ws. is_some (options_spelled ws) ≡ true → is_some (front_of ws) ≡ true) (λ x xs h. of_after (front_of (x ∷ xs)) (sym (ap is_some (by_fronts x xs)) ∙ h)) word words
 
 map_some : {A B : Type 0} (f : A → B) (o : Option A) → is_some o ≡ true → is_some (option_map f o) ≡ true
 map_some f None h = h
@@ -111,16 +111,16 @@ of_both : {A B C : Type 0} (f : A → B → Option C) (o : Option A) (p : Option
 of_both f None p h = apart h
 of_both f (Some a) p h = of_next (f a) p h
 
-second_front : (a n x : List ℕ) (xs : List (List ℕ)) → is_some (spelled (a ∷ n ∷ x ∷ xs)) ≡ true → is_some (front_of (x ∷ xs)) ≡ true
+second_front : (a n x : List ℕ) (xs : List (List ℕ)) → is_some (options_spelled (a ∷ n ∷ x ∷ xs)) ≡ true → is_some (front_of (x ∷ xs)) ≡ true
 second_front a n x [] h = apart h
 second_front a n x (k ∷ []) h = map_some (λ s. (s, [])) (setting_of x k) (of_both together (setting_of a n) (setting_of x k) h)
 second_front a n x (k ∷ z ∷ zs) h = apart h
 
-second_fronted : (a n word : List ℕ) (words : List (List ℕ)) → is_some (spelled (a ∷ n ∷ flat_map in_two (word ∷ words))) ≡ true → is_some (front_of (flat_map in_two (word ∷ words))) ≡ true
-second_fronted a n word words = parts_by (λ ws. is_some (spelled (a ∷ n ∷ ws)) ≡ true → is_some (front_of ws) ≡ true) (second_front a n) word words
+second_fronted : (a n word : List ℕ) (words : List (List ℕ)) → is_some (options_spelled (a ∷ n ∷ flat_map in_two (word ∷ words))) ≡ true → is_some (front_of (flat_map in_two (word ∷ words))) ≡ true
+second_fronted a n word words = parts_by (λ ws. is_some (options_spelled (a ∷ n ∷ ws)) ≡ true → is_some (front_of ws) ≡ true) (second_front a n) word words
 
-no_third : (a n b k word : List ℕ) (words : List (List ℕ)) → is_some (spelled (a ∷ n ∷ b ∷ k ∷ flat_map in_two (word ∷ words))) ≡ true → ⊥
-no_third a n b k word words = parts_by (λ ws. is_some (spelled (a ∷ n ∷ b ∷ k ∷ ws)) ≡ true → ⊥) (λ x xs h. apart h) word words
+no_third : (a n b k word : List ℕ) (words : List (List ℕ)) → is_some (options_spelled (a ∷ n ∷ b ∷ k ∷ flat_map in_two (word ∷ words))) ≡ true → ⊥
+no_third a n b k word words = parts_by (λ ws. is_some (options_spelled (a ∷ n ∷ b ∷ k ∷ ws)) ≡ true → ⊥) (λ x xs h. apart h) word words
 
 limit_parts : (a : Bool) (d : List ℕ) (words : List (List ℕ)) → is_number d ≡ true → flat_map in_two (limit_words a d ++ words) ≡ codes "--limit" ∷ d ∷ flat_map in_two words
 limit_parts true d words h = refl
@@ -161,26 +161,26 @@ module _ (P : List (List ℕ) → Type 0) (none : P [])
   sample_alone false d n = sampled false d n
 
   limit_then_sample : (a b : Bool) (d e : List ℕ) (words : List (List ℕ)) → is_number d ≡ true → is_number e ≡ true
-      → is_some (spelled (codes "--limit" ∷ d ∷ codes "--sample" ∷ e ∷ flat_map in_two words)) ≡ true → P (limit_words a d ++ (sample_words b e ++ words))
+      → is_some (options_spelled (codes "--limit" ∷ d ∷ codes "--sample" ∷ e ∷ flat_map in_two words)) ≡ true → P (limit_words a d ++ (sample_words b e ++ words))
   limit_then_sample a true d e [] n k h = limit_first a true d e n k
   limit_then_sample a false d e [] n k h = limit_first a false d e n k
   limit_then_sample a b d e (word ∷ words) n k h = absurd (no_third (codes "--limit") d (codes "--sample") e word words h)
 
   sample_then_limit : (a b : Bool) (d e : List ℕ) (words : List (List ℕ)) → is_number d ≡ true → is_number e ≡ true
-      → is_some (spelled (codes "--sample" ∷ d ∷ codes "--limit" ∷ e ∷ flat_map in_two words)) ≡ true → P (sample_words a d ++ (limit_words b e ++ words))
+      → is_some (options_spelled (codes "--sample" ∷ d ∷ codes "--limit" ∷ e ∷ flat_map in_two words)) ≡ true → P (sample_words a d ++ (limit_words b e ++ words))
   sample_then_limit a true d e [] n k h = sample_first a true d e n k
   sample_then_limit a false d e [] n k h = sample_first a false d e n k
   sample_then_limit a b d e (word ∷ words) n k h = absurd (no_third (codes "--sample") d (codes "--limit") e word words h)
 
-  limit_then_limit : (d e : List ℕ) (words : List (List ℕ)) → is_some (spelled (codes "--limit" ∷ d ∷ codes "--limit" ∷ e ∷ flat_map in_two words)) ≡ true → ⊥
-  limit_then_limit d e [] h = no_two_limits (number_of d) (number_of e) h
+  limit_then_limit : (d e : List ℕ) (words : List (List ℕ)) → is_some (options_spelled (codes "--limit" ∷ d ∷ codes "--limit" ∷ e ∷ flat_map in_two words)) ≡ true → ⊥
+  limit_then_limit d e [] h = no_two_limits (number_written d) (number_written e) h
   limit_then_limit d e (word ∷ words) h = no_third (codes "--limit") d (codes "--limit") e word words h
 
-  sample_then_sample : (d e : List ℕ) (words : List (List ℕ)) → is_some (spelled (codes "--sample" ∷ d ∷ codes "--sample" ∷ e ∷ flat_map in_two words)) ≡ true → ⊥
-  sample_then_sample d e [] h = no_two_samples (number_of d) (number_of e) h
+  sample_then_sample : (d e : List ℕ) (words : List (List ℕ)) → is_some (options_spelled (codes "--sample" ∷ d ∷ codes "--sample" ∷ e ∷ flat_map in_two words)) ≡ true → ⊥
+  sample_then_sample d e [] h = no_two_samples (number_written d) (number_written e) h
   sample_then_sample d e (word ∷ words) h = no_third (codes "--sample") d (codes "--sample") e word words h
 
-  limit_then : (a : Bool) (d : List ℕ) (words : List (List ℕ)) → is_number d ≡ true → is_some (spelled (codes "--limit" ∷ d ∷ flat_map in_two words)) ≡ true → P (limit_words a d ++ words)
+  limit_then : (a : Bool) (d : List ℕ) (words : List (List ℕ)) → is_number d ≡ true → is_some (options_spelled (codes "--limit" ∷ d ∷ flat_map in_two words)) ≡ true → P (limit_words a d ++ words)
   limit_then a d [] n h = limit_alone a d n
   limit_then a d (word ∷ words) n h = go (fronted (word ∷ words) (second_fronted (codes "--limit") d word words h))
     where
@@ -188,13 +188,13 @@ module _ (P : List (List ℕ) → Type 0) (none : P [])
       go f = elim (f.4) [
         | inl is ↦
             let parts : flat_map in_two (word ∷ words) ≡ codes "--limit" ∷ f.1 ∷ flat_map in_two f.2 = ap (λ ws. flat_map in_two ws) is ∙ limit_parts f.0 f.1 f.2 f.3 in
-            absurd (limit_then_limit d f.1 f.2 (sym (ap (λ ws. is_some (spelled (codes "--limit" ∷ d ∷ ws))) parts) ∙ h))
+            absurd (limit_then_limit d f.1 f.2 (sym (ap (λ ws. is_some (options_spelled (codes "--limit" ∷ d ∷ ws))) parts) ∙ h))
         | inr is ↦
             let parts : flat_map in_two (word ∷ words) ≡ codes "--sample" ∷ f.1 ∷ flat_map in_two f.2 = ap (λ ws. flat_map in_two ws) is ∙ sample_parts f.0 f.1 f.2 f.3 in
-            subst (λ ws. P (limit_words a d ++ ws)) (sym is) (limit_then_sample a f.0 d f.1 f.2 n f.3 (sym (ap (λ ws. is_some (spelled (codes "--limit" ∷ d ∷ ws))) parts) ∙ h))
+            subst (λ ws. P (limit_words a d ++ ws)) (sym is) (limit_then_sample a f.0 d f.1 f.2 n f.3 (sym (ap (λ ws. is_some (options_spelled (codes "--limit" ∷ d ∷ ws))) parts) ∙ h))
       ]
 
-  sample_then : (a : Bool) (d : List ℕ) (words : List (List ℕ)) → is_number d ≡ true → is_some (spelled (codes "--sample" ∷ d ∷ flat_map in_two words)) ≡ true → P (sample_words a d ++ words)
+  sample_then : (a : Bool) (d : List ℕ) (words : List (List ℕ)) → is_number d ≡ true → is_some (options_spelled (codes "--sample" ∷ d ∷ flat_map in_two words)) ≡ true → P (sample_words a d ++ words)
   sample_then a d [] n h = sample_alone a d n
   sample_then a d (word ∷ words) n h = go (fronted (word ∷ words) (second_fronted (codes "--sample") d word words h))
     where
@@ -202,16 +202,16 @@ module _ (P : List (List ℕ) → Type 0) (none : P [])
       go f = elim (f.4) [
         | inl is ↦
             let parts : flat_map in_two (word ∷ words) ≡ codes "--limit" ∷ f.1 ∷ flat_map in_two f.2 = ap (λ ws. flat_map in_two ws) is ∙ limit_parts f.0 f.1 f.2 f.3 in
-            subst (λ ws. P (sample_words a d ++ ws)) (sym is) (sample_then_limit a f.0 d f.1 f.2 n f.3 (sym (ap (λ ws. is_some (spelled (codes "--sample" ∷ d ∷ ws))) parts) ∙ h))
+            subst (λ ws. P (sample_words a d ++ ws)) (sym is) (sample_then_limit a f.0 d f.1 f.2 n f.3 (sym (ap (λ ws. is_some (options_spelled (codes "--sample" ∷ d ∷ ws))) parts) ∙ h))
         | inr is ↦
             let parts : flat_map in_two (word ∷ words) ≡ codes "--sample" ∷ f.1 ∷ flat_map in_two f.2 = ap (λ ws. flat_map in_two ws) is ∙ sample_parts f.0 f.1 f.2 f.3 in
-            absurd (sample_then_sample d f.1 f.2 (sym (ap (λ ws. is_some (spelled (codes "--sample" ∷ d ∷ ws))) parts) ∙ h))
+            absurd (sample_then_sample d f.1 f.2 (sym (ap (λ ws. is_some (options_spelled (codes "--sample" ∷ d ∷ ws))) parts) ∙ h))
       ]
 
-  shaped_by : (words : List (List ℕ)) → is_some (spelled (flat_map in_two words)) ≡ true → IsFront words → P words
+  shaped_by : (words : List (List ℕ)) → is_some (options_spelled (flat_map in_two words)) ≡ true → IsFront words → P words
   shaped_by words h f = elim (f.4) [
-    | inl is ↦ subst P (sym is) (limit_then f.0 f.1 f.2 f.3 (sym (ap (λ ws. is_some (spelled ws)) (ap (λ ws. flat_map in_two ws) is ∙ limit_parts f.0 f.1 f.2 f.3)) ∙ h))
-    | inr is ↦ subst P (sym is) (sample_then f.0 f.1 f.2 f.3 (sym (ap (λ ws. is_some (spelled ws)) (ap (λ ws. flat_map in_two ws) is ∙ sample_parts f.0 f.1 f.2 f.3)) ∙ h))
+    | inl is ↦ subst P (sym is) (limit_then f.0 f.1 f.2 f.3 (sym (ap (λ ws. is_some (options_spelled ws)) (ap (λ ws. flat_map in_two ws) is ∙ limit_parts f.0 f.1 f.2 f.3)) ∙ h))
+    | inr is ↦ subst P (sym is) (sample_then f.0 f.1 f.2 f.3 (sym (ap (λ ws. is_some (options_spelled ws)) (ap (λ ws. flat_map in_two ws) is ∙ sample_parts f.0 f.1 f.2 f.3)) ∙ h))
   ]
 
   pub by_shapes : (words : List (List ℕ)) → is_some (options_by words) ≡ true → P words
@@ -219,15 +219,15 @@ module _ (P : List (List ℕ) → Type 0) (none : P [])
   by_shapes (word ∷ words) h = shaped_by (word ∷ words) h (fronted (word ∷ words) (first_fronted word words h))
 
 -- what they spell, by the words behind the names
-limit_spells_at : (n : ℕ) (b : Bool) → option_map alone (if b then Some (Limit n) else None) ≡ option_and_then (λ n. Some (record { limit = n; sample = None })) (if b then Some n else None)
+limit_spells_at : (n : ℕ) (b : Bool) → option_map only_setting (if b then Some (Limit n) else None) ≡ option_and_then (λ n. Some (record { limit = n; sample = None })) (if b then Some n else None)
 limit_spells_at n true = refl
 limit_spells_at n false = refl
 
-limit_spells_of : (o : Option ℕ) → option_map alone (option_and_then limit_of o) ≡ option_and_then (λ n. Some (record { limit = n; sample = None })) (option_and_then within_limits o)
+limit_spells_of : (o : Option ℕ) → option_map only_setting (option_and_then limit_of o) ≡ option_and_then (λ n. Some (record { limit = n; sample = None })) (option_and_then within_limits o)
 limit_spells_of None = refl
 limit_spells_of (Some n) = limit_spells_at n (nat_lt 0 n && nat_le n greatest_module_limit)
 
-sample_spells_of : (o : Option ℕ) → option_map alone (option_map Sample o) ≡ option_map (λ s. record { limit = usual_module_limit; sample = s }) (option_map Some o)
+sample_spells_of : (o : Option ℕ) → option_map only_setting (option_map Sample o) ≡ option_map (λ s. record { limit = usual_module_limit; sample = s }) (option_map Some o)
 sample_spells_of None = refl
 sample_spells_of (Some n) = refl
 
@@ -270,17 +270,17 @@ append_none' true d = refl
 append_none' false d = refl
 
 pub limit_spells : (a : Bool) (d : List ℕ) → is_number d ≡ true → options_by (limit_words a d) ≡ options_in (Some d) None
-limit_spells a d n = ap (λ ws. options_by ws) (append_none a d) ∙ ap (λ ws. spelled ws) (limit_parts a d [] n) ∙ limit_spells_of (number_of d)
+limit_spells a d n = ap (λ ws. options_by ws) (append_none a d) ∙ ap (λ ws. options_spelled ws) (limit_parts a d [] n) ∙ limit_spells_of (number_written d)
 
 pub sample_spells : (a : Bool) (d : List ℕ) → is_number d ≡ true → options_by (sample_words a d) ≡ options_in None (Some d)
-sample_spells a d n = ap (λ ws. options_by ws) (append_none' a d) ∙ ap (λ ws. spelled ws) (sample_parts a d [] n) ∙ sample_spells_of (number_of d)
+sample_spells a d n = ap (λ ws. options_by ws) (append_none' a d) ∙ ap (λ ws. options_spelled ws) (sample_parts a d [] n) ∙ sample_spells_of (number_written d)
 
 pub limit_first_spells : (a b : Bool) (d e : List ℕ) → is_number d ≡ true → is_number e ≡ true → options_by (limit_words a d ++ sample_words b e) ≡ options_in (Some d) (Some e)
 limit_first_spells a b d e n k =
-    ap (λ ws. options_by (limit_words a d ++ ws)) (append_none' b e) ∙ ap (λ ws. spelled ws) (limit_parts a d (sample_words b e ++ []) n)
-    ∙ ap (λ ws. spelled (codes "--limit" ∷ d ∷ ws)) (sample_parts b e [] k) ∙ limit_first_of (number_of d) (number_of e)
+    ap (λ ws. options_by (limit_words a d ++ ws)) (append_none' b e) ∙ ap (λ ws. options_spelled ws) (limit_parts a d (sample_words b e ++ []) n)
+    ∙ ap (λ ws. options_spelled (codes "--limit" ∷ d ∷ ws)) (sample_parts b e [] k) ∙ limit_first_of (number_written d) (number_written e)
 
 pub sample_first_spells : (a b : Bool) (d e : List ℕ) → is_number d ≡ true → is_number e ≡ true → options_by (sample_words a d ++ limit_words b e) ≡ options_in (Some e) (Some d)
 sample_first_spells a b d e n k =
-    ap (λ ws. options_by (sample_words a d ++ ws)) (append_none b e) ∙ ap (λ ws. spelled ws) (sample_parts a d (limit_words b e ++ []) n)
-    ∙ ap (λ ws. spelled (codes "--sample" ∷ d ∷ ws)) (limit_parts b e [] k) ∙ sample_first_of (number_of d) (number_of e)
+    ap (λ ws. options_by (sample_words a d ++ ws)) (append_none b e) ∙ ap (λ ws. options_spelled ws) (sample_parts a d (limit_words b e ++ []) n)
+    ∙ ap (λ ws. options_spelled (codes "--sample" ∷ d ∷ ws)) (limit_parts b e [] k) ∙ sample_first_of (number_written d) (number_written e)

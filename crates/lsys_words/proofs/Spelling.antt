@@ -3,7 +3,7 @@ use Rattle.std.proofs.Common.{rules, suc, ◌≡◌, ℕ, length, ◌==◌, true
 use Rattle.std.specs.Prelude.{flat_map, option_map, option_and_then}
 use Rattle.std.specs.String.{string_bytes}
 use Rattle.std.specs.declared.string.String.{String}
-use Rattle.lsys_words.specs.Words.{texts, setting_of, text_behind, name_and, in_two, alone, together, spelled, options_by}
+use Rattle.lsys_words.specs.Words.{texts, setting_of, text_behind, name_and, in_two, only_setting, together, options_spelled, options_by}
 use Rattle.lsys_words.specs.Fronts.{front_of}
 use Rattle.lsys_words.specs.declared.Options.{Options}
 use Rattle.lsys_words.specs.declared.setting.Setting.{Setting}
@@ -15,10 +15,10 @@ after_second first (Some (second, word ∷ words)) = None
 
 abbrev pub after_first : Option (Setting × List (List ℕ)) → Option Options
 after_first None = None
-after_first (Some (first, [])) = Some (alone first)
+after_first (Some (first, [])) = Some (only_setting first)
 after_first (Some (first, word ∷ words)) = after_second first (front_of (word ∷ words))
 
-one : (o : Option Setting) → option_map alone o ≡ after_first (option_map (λ s. (s, [])) o)
+one : (o : Option Setting) → option_map only_setting o ≡ after_first (option_map (λ s. (s, [])) o)
 one None = refl
 one (Some s) = refl
 
@@ -37,7 +37,7 @@ more b k z zs None p e = refl
 more b k z zs (Some s) None e = rw e refl
 more b k z zs (Some s) (Some t) e = rw e refl
 
-pub by_fronts : (x : List ℕ) (xs : List (List ℕ)) → spelled (x ∷ xs) ≡ after_first (front_of (x ∷ xs))
+pub by_fronts : (x : List ℕ) (xs : List (List ℕ)) → options_spelled (x ∷ xs) ≡ after_first (front_of (x ∷ xs))
 by_fronts a [] = refl
 by_fronts a (n ∷ []) = one (setting_of a n)
 by_fronts a (n ∷ b ∷ []) = three b (setting_of a n)
@@ -63,7 +63,7 @@ some P h (word ∷ words) e =
     by_cases P h (text_behind (codes "--limit=") (string_bytes word)) (text_behind (codes "--sample=") (string_bytes word)) (string_bytes word) (flat_map in_two (texts words))
 
 pub firstly : {A : Type 0} (words : List (String A)) → false ≡ (length words == 0) → after_first (front_of (flat_map in_two (texts words))) ≡ options_by (texts words)
-firstly words e = some (λ ws. after_first (front_of ws) ≡ spelled ws) (λ x xs. sym (by_fronts x xs)) words e
+firstly words e = some (λ ws. after_first (front_of ws) ≡ options_spelled ws) (λ x xs. sym (by_fronts x xs)) words e
 
 pub secondly : {A : Type 0} (first : Setting) (words : List (String A)) → false ≡ (length words == 0)
     → after_second first (front_of (flat_map in_two (texts words))) ≡ after_first (Some (first, flat_map in_two (texts words)))

@@ -18,5 +18,5 @@ abbrev pub parted : Option (Setting × List (List ℕ)) → Option (Setting × L
 parted found = option_map (λ p. (p.0, flat_map in_two p.1)) found
 
 -- the option at the front of a command line's words, and the words behind it
-abbrev pub IsFirst : List (List ℕ) → Option (Setting × List (List ℕ)) → Type 0
-IsFirst words found = front_of (flat_map in_two words) ≡ parted found
+abbrev pub IsFirstOption : List (List ℕ) → Option (Setting × List (List ℕ)) → Type 0
+IsFirstOption words found = front_of (flat_map in_two words) ≡ parted found

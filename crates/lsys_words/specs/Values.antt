@@ -6,7 +6,7 @@ use Rattle.clap.specs.declared.parser.matches.ArgMatches.{ArgMatches}
 use Rattle.clap.specs.declared.error.Error.{Error}
 use Rattle.clap.specs.declared.error.kind.ErrorKind.TheVariants.{OutOfMemory}
 use Rattle.clap.specs.Words.{found_of, first_value, kind_of}
-use Rattle.lsys_words.specs.Words.{number_of, options_by}
+use Rattle.lsys_words.specs.Words.{number_written, options_by}
 use Rattle.lsys_words.specs.declared.Options.{Options}
 
 abbrev pub within_limits : ℕ → Option ℕ
@@ -14,11 +14,11 @@ within_limits n = if nat_lt 0 n && nat_le n greatest_module_limit then Some n el
 
 abbrev pub limit_by : Option (List ℕ) → Option ℕ
 limit_by None = Some usual_module_limit
-limit_by (Some word) = option_and_then within_limits (number_of word)
+limit_by (Some word) = option_and_then within_limits (number_written word)
 
 abbrev pub sample_by : Option (List ℕ) → Option (Option ℕ)
 sample_by None = Some None
-sample_by (Some word) = option_map Some (number_of word)
+sample_by (Some word) = option_map Some (number_written word)
 
 abbrev pub options_in : Option (List ℕ) → Option (List ℕ) → Option Options
 options_in limit sample = option_and_then (λ n. option_map (λ s. record { limit = n; sample = s }) (sample_by sample)) (limit_by limit)

@@ -19,8 +19,8 @@ is_short_numeral word = list_all is_ascii_digit word && nat_le (length word) 20
 abbrev pub is_number : List ℕ → Bool
 is_number word = is_short_numeral word && (nat_lt 0 (length word) && nat_lt (digits_value 10 word) number_bound)
 
-abbrev pub number_of : List ℕ → Option ℕ
-number_of word = if is_number word then Some (digits_value 10 word) else None
+abbrev pub number_written : List ℕ → Option ℕ
+number_written word = if is_number word then Some (digits_value 10 word) else None
 
 -- from 1 to 1,000,000
 abbrev pub limit_of : ℕ → Option Setting
@@ -29,8 +29,8 @@ limit_of n = if nat_lt 0 n && nat_le n greatest_module_limit then Some (Limit n)
 -- what the option of this name sets, by the word that is its number
 abbrev pub setting_of : List ℕ → List ℕ → Option Setting
 setting_of name word =
-    if bytes_eq name (codes "--limit") then option_and_then limit_of (number_of word)
-    else if bytes_eq name (codes "--sample") then option_map Sample (number_of word) else None
+    if bytes_eq name (codes "--limit") then option_and_then limit_of (number_written word)
+    else if bytes_eq name (codes "--sample") then option_map Sample (number_written word) else None
 
 -- what stands behind a front in a text that begins with it
 abbrev pub text_behind : List ℕ → List ℕ → Option (List ℕ)
@@ -48,9 +48,9 @@ abbrev pub in_two : List ℕ → List (List ℕ)
 in_two word = name_and (codes "--limit") (text_behind (codes "--limit=") word) (name_and (codes "--sample") (text_behind (codes "--sample=") word) (word ∷ []))
 
 -- without a word the limit is the usual one, and there is no sample
-abbrev pub alone : Setting → Options
-alone (Limit n) = record { limit = n; sample = None }
-alone (Sample n) = record { limit = usual_module_limit; sample = Some n }
+abbrev pub only_setting : Setting → Options
+only_setting (Limit n) = record { limit = n; sample = None }
+only_setting (Sample n) = record { limit = usual_module_limit; sample = Some n }
 
 -- in either order, but each option once
 abbrev pub together : Setting → Setting → Option Options
@@ -59,15 +59,15 @@ together (Sample k) (Limit n) = Some (record { limit = n; sample = Some k })
 together first second = None
 
 -- what names and numbers in turn spell: nothing, one option or two
-abbrev pub spelled : List (List ℕ) → Option Options
-spelled [] = Some (record { limit = usual_module_limit; sample = None })
-spelled (a ∷ n ∷ []) = option_map alone (setting_of a n)
-spelled (a ∷ n ∷ b ∷ k ∷ []) = option_and_then (λ first. option_and_then (together first) (setting_of b k)) (setting_of a n)
-spelled words = None
+abbrev pub options_spelled : List (List ℕ) → Option Options
+options_spelled [] = Some (record { limit = usual_module_limit; sample = None })
+options_spelled (a ∷ n ∷ []) = option_map only_setting (setting_of a n)
+options_spelled (a ∷ n ∷ b ∷ k ∷ []) = option_and_then (λ first. option_and_then (together first) (setting_of b k)) (setting_of a n)
+options_spelled words = None
 
 -- The options that a list of words spells. A list that spells none is outside of the grammar.
 abbrev pub options_by : List (List ℕ) → Option Options
-options_by words = spelled (flat_map in_two words)
+options_by words = options_spelled (flat_map in_two words)
 
 abbrev pub texts : {A : Type 0} → List (String A) → List (List ℕ)
 texts words = map string_bytes words

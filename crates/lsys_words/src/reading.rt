@@ -5,7 +5,7 @@ ghost use Rattle.lsys_words.specs.Words.{options_by, texts};
 ghost use Rattle.lsys_words.specs.Values.{GivesOptions, IsWantOfMemory, limit_by, options_found, sample_by};
 
 use super::Options;
-use super::setting::number;
+use super::setting::{GREATEST_LIMIT, USUAL_LIMIT, number};
 use clap::error::ErrorKind;
 use clap::{Arg, ArgAction, ArgMatches, Command, Error};
 use std::alloc::Global;
@@ -35,13 +35,13 @@ fn limit_by(word: Option<&str>) -> Option<u32>
     match word {
         Some(word) => {
             let number = number(word)?;
-            if (1..=1_000_000).contains(&number) {
+            if (1..=GREATEST_LIMIT).contains(&number) {
                 Some(number as u32)
             } else {
                 None
             }
         }
-        None => Some(100_000),
+        None => Some(USUAL_LIMIT),
     }
 }
 

@@ -1,10 +1,16 @@
 // One option.
 ghost use Rattle.std.specs.Prelude.{◌≡◌, ◌↔◌, ◌∷◌, None, true, is_some, slice_index, EachIndex, IsTrue, MatchOption, option_map, option_and_then};
 ghost use Rattle.std.specs.Char.{is_ascii_digit};
-ghost use Rattle.lsys_words.specs.Words.{is_short_numeral, number_of, limit_of, setting_of, in_two, alone, together, texts, options_by};
-ghost use Rattle.lsys_words.specs.Fronts.{IsFirst, attached_words};
+ghost use Rattle.lsys_words.specs.Words.{is_short_numeral, number_written, limit_of, setting_of, in_two, only_setting, together, texts, options_by};
+ghost use Rattle.lsys_words.specs.Fronts.{IsFirstOption, attached_words};
 
 use super::Options;
+
+/// The greatest module limit that words may name.
+pub const GREATEST_LIMIT: u64 = 1_000_000;
+
+/// The module limit where no word names one.
+pub const USUAL_LIMIT: u32 = 100_000;
 
 /// What one option sets.
 #[derive(Clone, Copy)]
@@ -16,7 +22,7 @@ pub enum Setting {
 impl Setting {
     /// The options where this one alone is given.
     pub fn alone(self) -> Options
-        ensures { result ≡ alone self }
+        ensures { result ≡ only_setting self }
     {
         match self {
             Setting::Limit(limit) => Options {
@@ -24,7 +30,7 @@ impl Setting {
                 sample: None,
             },
             Setting::Sample(number) => Options {
-                limit: 100_000,
+                limit: USUAL_LIMIT,
                 sample: Some(number),
             },
         }
@@ -61,7 +67,7 @@ fn is_short_numeral(word: &str) -> bool
 
 /// The number that a word of one to twenty digits writes.
 pub fn number(word: &str) -> Option<u64>
-    ensures { result ≡ number_of word.now }
+    ensures { result ≡ number_written word.now }
 {
     if is_short_numeral(word) {
         word.parse().ok()
@@ -74,7 +80,7 @@ pub fn number(word: &str) -> Option<u64>
 fn limit(number: u64) -> Option<Setting>
     ensures { result ≡ limit_of number }
 {
-    if (1..=1_000_000).contains(&number) {
+    if (1..=GREATEST_LIMIT).contains(&number) {
         Some(Setting::Limit(number as u32))
     } else {
         None
@@ -110,7 +116,7 @@ fn in_two(word: &str) -> (&str, Option<&str>)
 
 /// The option at the front of some words, and the words behind it.
 fn first_setting(words: &[String]) -> Option<(Setting, &[String])>
-    ensures { IsFirst (texts words.now) (option_map (λ p. (p.0, texts p.1.now)) result) }
+    ensures { IsFirstOption (texts words.now) (option_map (λ p. (p.0, texts p.1.now)) result) }
 {
     let (word, words) = words.split_first()?;
     let (name, attached) = in_two(word.as_str());
@@ -127,7 +133,7 @@ fn spelled(words: &[String]) -> Option<Options>
 {
     if words.is_empty() {
         return Some(Options {
-            limit: 100_000,
+            limit: USUAL_LIMIT,
             sample: None,
         });
     }

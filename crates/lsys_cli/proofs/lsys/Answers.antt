@@ -1,6 +1,6 @@
 use Rattle.lsys_spec.specs.Output.{any_refusal, none}
 use Rattle.std.proofs.Common.{◌≡◌, false, Some, inl, inr, refl}
-use Rattle.lsys_cli.specs.Ends.{IsWithin, replies, seen}
+use Rattle.lsys_cli.specs.Ends.{IsScriptWithin, replies, seen}
 use Rattle.lsys_cli.specs.Programs.{IsComplete, Untouched, most_visits}
 use Rattle.lsys_cli.specs.declared.status.Status.TheVariants.{Memory}
 use Rattle.lsys_words.specs.Words.{options_by, texts}
@@ -26,5 +26,5 @@ returns-in-Ok-Some-clause-complete g c = λ read write.
 pub returns-in-Err-clause-complete : goal.returns-in-Err-clause-complete
 returns-in-Err-clause-complete g c = λ read write.
     on_script (options_by (texts c.args.words.now)) (g.S.Source.left c.args.source.now)
-    (λ limit script. IsWithin limit script none → any_refusal (replies limit script none) ≡ false → IsComplete Memory limit (g.K.Sink.written c.args.sink.now) (g.K.Sink.written c.args.sink.now) script)
+    (λ limit script. IsScriptWithin limit script none → any_refusal (replies limit script none) ≡ false → IsComplete Memory limit (g.K.Sink.written c.args.sink.now) (g.K.Sink.written c.args.sink.now) script)
     (λ limit script within unrefused. inr (inl refl))

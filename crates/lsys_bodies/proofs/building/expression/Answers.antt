@@ -1,7 +1,7 @@
 use Rattle.std.proofs.Common.{map}
-use Rattle.lsys_text.specs.Tokens.{kinds_of, name_of}
+use Rattle.lsys_text.specs.Tokens.{kind_row, name_of}
 use Rattle.lsys_bodies.proofs.Known.{none-unknown}
 use Rattle.lsys_bodies.proofs.building.expression.Goals as goal
 
 pub build_expr-requires-clause-known : goal.build_expr-requires-clause-known
-build_expr-requires-clause-known c = none-unknown (map name_of c.args.formals.now) (kinds_of c.args.tokens.now) c.args.span c.requires.span c.requires.known
+build_expr-requires-clause-known c = none-unknown (map name_of c.args.formals.now) (kind_row c.args.tokens.now) c.args.span c.requires.span c.requires.known

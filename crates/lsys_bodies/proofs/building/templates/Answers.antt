@@ -1,5 +1,5 @@
 use Rattle.std.proofs.Common.{◌≡◌, ◌++◌, ◌∷◌, [], map, rules}
-use Rattle.lsys_text.specs.Tokens.{kinds_of, name_of}
+use Rattle.lsys_text.specs.Tokens.{kind_row, name_of}
 use Rattle.lsys_reading.specs.Images.{image_at}
 use Rattle.lsys_bodies.specs.Views.{template_symbol, template_of}
 use Rattle.lsys_bodies.specs.Building.{image_tree}
@@ -8,14 +8,14 @@ use Rattle.lsys_bodies.proofs.Known.{image-item, known-item}
 use Rattle.lsys_bodies.proofs.building.templates.Goals as goal
 
 pub template-requires-clause-spans : goal.template-requires-clause-spans
-template-requires-clause-spans c = image-item (kinds_of c.args.tokens.now) c.args.images.now c.loop-image.image-index c.image-item.result c.requires.spans c.loop-image-test.true c.image-item.is
+template-requires-clause-spans c = image-item (kind_row c.args.tokens.now) c.args.images.now c.loop-image.image-index c.image-item.result c.requires.spans c.loop-image-test.true c.image-item.is
 
 pub template-requires-clause-known : goal.template-requires-clause-known
-template-requires-clause-known c = known-item (map name_of c.args.formals.now) (kinds_of c.args.tokens.now) c.args.images.now c.loop-image.image-index c.image-item.result c.requires.known c.loop-image-test.true c.image-item.is
+template-requires-clause-known c = known-item (map name_of c.args.formals.now) (kind_row c.args.tokens.now) c.args.images.now c.loop-image.image-index c.image-item.result c.requires.known c.loop-image-test.true c.image-item.is
 
 pub loop-image-preserved : goal.loop-image-preserved
 loop-image-preserved c =
-    let ks = kinds_of c.args.tokens.now in
+    let ks = kind_row c.args.tokens.now in
     let made = c.loop-image.templates.items in
     let pushed : c.push.new.self.items ≡ made ++ c.in_ok-template.field-0 ∷ [] = search rules in
     rw pushed (record {

@@ -2,7 +2,7 @@ use Rattle.std.proofs.Common.{◌≡◌, Some, length, slice_get, refl}
 use Rattle.std.specs.HashMap.{get}
 use Rattle.std.proofs.lemmas.Option.{slice_get_read}
 use Rattle.lsys_forest.specs.Groves.{now_of}
-use Rattle.lsys_brood.specs.Matches.{same_number}
+use Rattle.lsys_brood.specs.Matches.{same_child_number}
 use Rattle.lsys_brood.proofs.MatchLemmas.{got_in, entered_next}
 use Rattle.lsys_brood.proofs.brood.enter_all.Goals as goal
 
@@ -23,4 +23,4 @@ loop-kid-preserved g c = λ q.
     let kid = c.kid-item.result in
     let m = now_of c.args.forest.now in
     let here : slice_get kids at ≡ Some kid = slice_get_read kids (length kids) at kid refl c.loop-kid-test.true c.kid-item.is in
-    entered_next m kids at kid c.number.result q (get same_number c.loop-kid.nodes q) (get same_number c.enter.new.nodes q) here (c.in_ok-enter.ensures q) c.number.ensures (c.loop-kid.invariant q)
+    entered_next m kids at kid c.number.result q (get same_child_number c.loop-kid.nodes q) (get same_child_number c.enter.new.nodes q) here (c.in_ok-enter.ensures q) c.number.ensures (c.loop-kid.invariant q)

@@ -3,7 +3,7 @@ use Rattle.std.specs.Prelude.{is_some}
 use Rattle.std.specs.HashMap.{get}
 use Rattle.std.proofs.lemmas.Option.{slice_get_read}
 use Rattle.lsys_forest.specs.Groves.{now_of}
-use Rattle.lsys_brood.specs.Matches.{same_number}
+use Rattle.lsys_brood.specs.Matches.{same_child_number}
 use Rattle.lsys_brood.proofs.MatchLemmas.{got_in, left_next}
 use Rattle.lsys_brood.proofs.brood.find_left.Goals as goal
 
@@ -24,4 +24,4 @@ loop-kid-preserved g c =
     let kid = c.kid-item.result in
     let m = now_of c.args.forest.now in
     let here : slice_get kids at ≡ Some kid = slice_get_read kids (length kids) at kid refl c.loop-kid-test.true c.kid-item.is in
-    left_next (λ q. is_some (get same_number c.args.nodes.now q)) m kids at kid c.number.result c.loop-kid.gone.items c.put_left.new.gone.items here c.in_ok-put_left.ensures c.number.ensures c.loop-kid.invariant
+    left_next (λ q. is_some (get same_child_number c.args.nodes.now q)) m kids at kid c.number.result c.loop-kid.gone.items c.put_left.new.gone.items here c.in_ok-put_left.ensures c.number.ensures c.loop-kid.invariant

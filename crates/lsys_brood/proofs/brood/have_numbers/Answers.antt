@@ -3,7 +3,7 @@ use Rattle.lsys_brood.specs.declared.child.Child.{Child}
 use Rattle.std.proofs.lemmas.Option.{slice_get_read}
 use Rattle.lsys_brood.proofs.MatchLemmas.{got_in, same_next, not_false}
 use Rattle.lsys_brood.proofs.FoundLemmas.{number_there, same_is}
-use Rattle.lsys_brood.specs.Matches.{same_number, number_of}
+use Rattle.lsys_brood.specs.Matches.{same_child_number, number_of}
 use Rattle.lsys_brood.specs.Children.{numbers_of}
 use Rattle.lsys_forest.specs.Groves.{now_of}
 use Rattle.lsys_brood.proofs.brood.have_numbers.Goals as goal
@@ -28,5 +28,5 @@ loop-place-preserved g c =
     let here : slice_get kids at ≡ Some kid = slice_get_read kids (length kids) at kid refl c.loop-place-test.true c.index-kids-place.is in
     let within : at < length wanted = omega (arith, c.loop-place-test.true, c.if-kids-wanted.false) in
     let there : slice_get wanted at ≡ Some child = slice_get_read wanted (length wanted) at child refl within c.index-wanted-place.is in
-    let same : number_of (now_of c.args.forest.now) kid ≡ child.number = sym c.number.ensures ∙ same_is c.number.result child.number (not_false (same_number c.number.result child.number) (ap (λ (w : Child). not (same_number c.number.result w.number)) c.index-wanted-place.is ∙ sym c.ne.ensures ∙ c.if-ne.false)) in
+    let same : number_of (now_of c.args.forest.now) kid ≡ child.number = sym c.number.ensures ∙ same_is c.number.result child.number (not_false (same_child_number c.number.result child.number) (ap (λ (w : Child). not (same_child_number c.number.result w.number)) c.index-wanted-place.is ∙ sym c.ne.ensures ∙ c.if-ne.false)) in
     same_next (now_of c.args.forest.now) kids (numbers_of wanted) at kid child.number here (number_there wanted at child there) same c.loop-place.invariant

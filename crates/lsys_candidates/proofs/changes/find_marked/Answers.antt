@@ -1,5 +1,5 @@
 use Rattle.std.proofs.Common.{◌⊎◌, [], refl, ap, ◌∙◌, subst, inl, inr}
-use Rattle.lsys_forest.specs.Groves.{In}
+use Rattle.lsys_spec.specs.Rows.{In}
 use Rattle.lsys_candidates.specs.Finds.{IsTurned, IsBeside, IsReader}
 use Rattle.lsys_candidates.specs.Found.{LevelChanges, IsOther}
 use Rattle.lsys_candidates.proofs.Marking.{others_marked, reach, reach_on, regroup, regather, remark, readers_of_all, all_readers, found_all}

@@ -1,5 +1,5 @@
 use Rattle.std.proofs.Common.{◌⊎◌, ap, ◌∙◌}
-use Rattle.lsys_forest.specs.Groves.{In}
+use Rattle.lsys_spec.specs.Rows.{In}
 use Rattle.lsys_candidates.specs.Found.{LevelChanges}
 use Rattle.lsys_candidates.proofs.Marking.{cleared_of, none_marked, in_turn}
 use Rattle.lsys_candidates.proofs.changes.find_nodes.Goals as goal

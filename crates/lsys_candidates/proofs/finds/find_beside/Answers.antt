@@ -2,7 +2,7 @@ use Rattle.std.proofs.Common.{◌≡◌, Some, length, slice_get, refl, subst, i
 use Rattle.std.proofs.lemmas.Option.{slice_get_read}
 use Rattle.lsys_kept.proofs.LevelLemmas.{got_in}
 use Rattle.lsys_kept.proofs.SeamLemmas.{in_taken_next, in_all_taken, none_taken}
-use Rattle.lsys_candidates.specs.Finds.{IsBeside, IsNear}
+use Rattle.lsys_candidates.specs.Finds.{IsBeside, IsAtOrBeside}
 use Rattle.lsys_candidates.proofs.Gathering.{gathers_none, beside_next, still_marked}
 use Rattle.lsys_candidates.proofs.finds.find_beside.Goals as goal
 
@@ -40,8 +40,8 @@ loop-node-preserved g c =
     record {
       gathers = beside_next f c.args.seats.now c.loop-node.seats c.gather_near.new.seats c.args.beside.now.items c.loop-node.beside.items c.gather_near.new.beside.items xs i x here was.gathers e.gathers;
       all = λ q t k near. elim (in_taken_next xs i x q here t) [
-        | inl before ↦ still_marked (IsNear f x) c.loop-node.seats c.gather_near.new.seats c.loop-node.beside.items c.gather_near.new.beside.items e.gathers k (was.all q before k near)
-        | inr same ↦ e.all k (subst (λ q. IsNear f q k) same near)
+        | inl before ↦ still_marked (IsAtOrBeside f x) c.loop-node.seats c.gather_near.new.seats c.loop-node.beside.items c.gather_near.new.beside.items e.gathers k (was.all q before k near)
+        | inr same ↦ e.all k (subst (λ q. IsAtOrBeside f q k) same near)
       ];
     }
 

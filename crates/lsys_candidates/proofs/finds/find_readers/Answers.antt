@@ -1,6 +1,6 @@
 use Rattle.std.proofs.Common.{◌≡◌, true, Some, length, slice_get, refl, sym, ap, ◌∙◌, inl, inr, subst}
 use Rattle.std.proofs.lemmas.Option.{slice_get_read}
-use Rattle.lsys_forest.specs.Groves.{In}
+use Rattle.lsys_spec.specs.Rows.{In}
 use Rattle.lsys_reads.specs.Relations.{is_settled}
 use Rattle.lsys_kept.proofs.LevelLemmas.{got_in}
 use Rattle.lsys_kept.proofs.SeamLemmas.{in_taken_next, in_all_taken, none_taken}

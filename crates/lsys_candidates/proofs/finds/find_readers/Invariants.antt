@@ -1,5 +1,5 @@
 use Rattle.std.proofs.Common.{◌≡◌, ℕ, true, take}
-use Rattle.lsys_forest.specs.Groves.{In}
+use Rattle.lsys_spec.specs.Rows.{In}
 use Rattle.lsys_reads.specs.Relations.{is_settled}
 use Rattle.lsys_candidates.specs.Finds.{Gathers, AllMarked, IsReader}
 use Rattle.lsys_candidates.proofs.finds.find_readers.Given as goal

@@ -1,6 +1,6 @@
 use Rattle.std.proofs.Common.{◌≡◌, Some, refl, sym, ap, ◌∙◌, inl, inr}
 use Rattle.lsys_kept.specs.Seats.{is_marked}
-use Rattle.lsys_candidates.specs.Finds.{IsNear}
+use Rattle.lsys_candidates.specs.Finds.{IsAtOrBeside}
 use Rattle.lsys_candidates.proofs.Gathering.{gathers_kind, gathers_next, still_marked, all_near}
 use Rattle.lsys_candidates.proofs.finds.gather_near.Goals as goal
 
@@ -9,7 +9,7 @@ gather-requires g c = c.requires.room c.args.node (inl refl)
 
 pub returns-in_err-gather-clause-gathers : goal.returns-in_err-gather-clause-gathers
 returns-in_err-gather-clause-gathers g c =
-    gathers_kind (λ k. k ≡ c.args.node) (IsNear c.args.forest.now c.args.node) c.args.seats.now c.gather.new.seats c.args.beside.now.items c.gather.new.nodes.items (λ k e. inl e) c.gather.ensures.gathers
+    gathers_kind (λ k. k ≡ c.args.node) (IsAtOrBeside c.args.forest.now c.args.node) c.args.seats.now c.gather.new.seats c.args.beside.now.items c.gather.new.nodes.items (λ k e. inl e) c.gather.ensures.gathers
 
 pub gather_any-requires : goal.gather_any-requires
 gather_any-requires g c = λ k e. c.gather.ensures.gathers.keeps k (c.requires.room k (inr (inl (sym c.left_of.ensures ∙ e))))
@@ -18,8 +18,8 @@ pub returns-in_err-gather_any-clause-gathers : goal.returns-in_err-gather_any-cl
 returns-in_err-gather_any-clause-gathers g c =
     let f = c.args.forest.now in
     let node = c.args.node in
-    let first = gathers_kind (λ k. k ≡ node) (IsNear f node) c.args.seats.now c.gather.new.seats c.args.beside.now.items c.gather.new.nodes.items (λ k e. inl e) c.gather.ensures.gathers in
-    gathers_next (IsNear f node) (λ k. c.left_of.result ≡ Some k) c.args.seats.now c.gather.new.seats c.gather_any.new.seats c.args.beside.now.items c.gather.new.nodes.items c.gather_any.new.nodes.items
+    let first = gathers_kind (λ k. k ≡ node) (IsAtOrBeside f node) c.args.seats.now c.gather.new.seats c.args.beside.now.items c.gather.new.nodes.items (λ k e. inl e) c.gather.ensures.gathers in
+    gathers_next (IsAtOrBeside f node) (λ k. c.left_of.result ≡ Some k) c.args.seats.now c.gather.new.seats c.gather_any.new.seats c.args.beside.now.items c.gather.new.nodes.items c.gather_any.new.nodes.items
     (λ k e. inr (inl (sym c.left_of.ensures ∙ e))) first c.gather_any.ensures.gathers
 
 pub gather_any-requires-2 : goal.gather_any-requires-2

@@ -1,5 +1,5 @@
 use Rattle.std.proofs.Common.{◌≡◌, ◌↔◌, ◌⊎◌, ℕ, true, take}
-use Rattle.lsys_forest.specs.Groves.{In}
+use Rattle.lsys_spec.specs.Rows.{In}
 use Rattle.lsys_kept.specs.Seats.{is_marked, SameSeats, KeepsSeats}
 use Rattle.lsys_candidates.proofs.finds.mark_all.Given as goal
 

@@ -1,5 +1,5 @@
 use Rattle.std.proofs.Common.{take}
-use Rattle.lsys_forest.specs.Groves.{In}
+use Rattle.lsys_spec.specs.Rows.{In}
 use Rattle.lsys_candidates.specs.Finds.{Gathers, AllMarked}
 use Rattle.lsys_candidates.proofs.gather.gather_tags.Given as goal
 

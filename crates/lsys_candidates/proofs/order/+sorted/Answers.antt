@@ -1,5 +1,5 @@
 use Rattle.std.proofs.Common.{rules, ◌⊎◌, ◌↔◌, ◌/◌, ℕ, length, sym, subst}
-use Rattle.lsys_forest.specs.Groves.{In}
+use Rattle.lsys_spec.specs.Rows.{In}
 use Rattle.lsys_candidates.specs.Merges.{AreMergeable}
 use Rattle.lsys_candidates.proofs.Merging.{take_apart, rest_apart, front_level, rest_level, mergeable, parts_same}
 use Rattle.lsys_candidates.proofs.order.+sorted.Goals as goal

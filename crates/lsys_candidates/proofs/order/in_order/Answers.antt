@@ -1,6 +1,6 @@
 use Rattle.std.proofs.Common.{◌↔◌, refl, sym, subst}
 use Rattle.std.proofs.lemmas.Result.{IfOk-weaker}
-use Rattle.lsys_forest.specs.Groves.{In}
+use Rattle.lsys_spec.specs.Rows.{In}
 use Rattle.lsys_candidates.specs.Asks.{AreInOrder}
 use Rattle.lsys_candidates.proofs.order.in_order.Goals as goal
 

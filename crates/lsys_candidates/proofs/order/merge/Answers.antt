@@ -1,7 +1,7 @@
 use Rattle.std.proofs.Common.{◌≡◌, ◌⊎◌, ◌↔◌, ◌+◌, ◌++◌, ℕ, Some, length, slice_get, refl, sym, ap, ◌∙◌, subst}
 use Rattle.std.proofs.lemmas.Option.{slice_get_read}
+use Rattle.lsys_spec.specs.Rows.{In}
 use Rattle.lsys_forest.specs.Rows.{place_of_node}
-use Rattle.lsys_forest.specs.Groves.{In}
 use Rattle.lsys_candidates.specs.Asks.{ArePlaced}
 use Rattle.lsys_candidates.specs.Merges.{AreMerged}
 use Rattle.lsys_candidates.proofs.Merging.{add_left, merged_none, all_merged, rest_all}

@@ -1,6 +1,6 @@
 use Rattle.std.proofs.Common.{◌≡◌, ℕ, None, Result, Ok, Err, refl, ◌∙◌}
 use Rattle.std.specs.Result.{result_err}
-use Rattle.lsys_text.specs.Tokens.{kinds_of}
+use Rattle.lsys_text.specs.Tokens.{kind_row}
 use Rattle.lsys_checks.specs.Searching.{found_or}
 use Rattle.lsys_checks.proofs.WholeSearch.{whole-search}
 use Rattle.lsys_checks.proofs.unknown.unknown_name.Goals as goal
@@ -12,4 +12,4 @@ what-was_found (Err p) = refl
 pub returns : goal.returns
 returns c from names =
     c.err.ensures.value ∙ what-was_found c.search_rest.result
-    ∙ whole-search from (kinds_of c.args.tokens.now) c.args.rule.now c.args.formals.now c.search_rest.result names c.search_rest.ensures
+    ∙ whole-search from (kind_row c.args.tokens.now) c.args.rule.now c.args.formals.now c.search_rest.result names c.search_rest.ensures

@@ -2,7 +2,7 @@ use Rattle.std.proofs.Common.{◌+◌, drop, map}
 use Rattle.std.specs.Prelude.{flat_map}
 use Rattle.std.proofs.lemmas.List.{take_all}
 use Rattle.lsys_io.proofs.Puts.{puts_nothing, puts_then, puts_failed}
-use Rattle.lsys_matrix.specs.Growth.{count_line}
+use Rattle.lsys_matrix.specs.Growth.{letter_line}
 use Rattle.lsys_growth.specs.Views.{count_of}
 use Rattle.lsys_desk.proofs.CountTexts.{counts-step, counts-rest}
 use Rattle.lsys_desk.proofs.growth_reply.put_counts.Goals as goal
@@ -20,7 +20,7 @@ returns-in_err-put_count g c =
     let items = c.args.counts.now in
     let i = c.loop-count.count-index in
     rw (counts-rest items (i + 1), counts-step items i c.count-item.result c.loop-count-test.true c.count-item.is)
-    (puts_failed (flat_map count_line (map count_of (drop (i + 1) items))) c.from_residual.ensures.0 (puts_then c.loop-count.invariant.put c.in_err-put_count.ensures))
+    (puts_failed (flat_map letter_line (map count_of (drop (i + 1) items))) c.from_residual.ensures.0 (puts_then c.loop-count.invariant.put c.in_err-put_count.ensures))
 
 pub returns : goal.returns
 returns g c = rw (← take_all c.loop-count.count-index c.args.counts.now c.loop-count-test.false) c.loop-count.invariant.put

@@ -1,11 +1,11 @@
 use Rattle.std.proofs.Common.{◌≡◌, ◌-◌, ◌≤◌, length}
-use Rattle.lsys_flat.specs.Supplies.{given}
+use Rattle.lsys_flat.specs.Supplies.{tags_given}
 use Rattle.lsys_flat.proofs.tags.free_from.Given as goal
 
 abbrev pub invariant-loop-tag : goal.invariant-loop-tag
 invariant-loop-tag l = record {
   onward : l.next ≤ l.tag;
-  same : given l.used l.tag ≡ given l.used l.next;
+  same : tags_given l.used l.tag ≡ tags_given l.used l.next;
 }
 
 abbrev pub decreases-loop-tag : goal.decreases-loop-tag

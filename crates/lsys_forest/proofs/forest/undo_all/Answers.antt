@@ -2,7 +2,7 @@ use Rattle.std.proofs.Common.{◌++◌, ◌∷◌, [], List, refl, sym, ap, ◌�
 use Rattle.lsys_forest.specs.Nodes.{Nodes}
 use Rattle.lsys_forest.specs.Changes.{Change, undone, undo}
 use Rattle.lsys_forest.specs.Stocks.{Stock, nodes_of, changes_of, dropped}
-use Rattle.lsys_forest.specs.Answers.{answers, AreMade, Follows}
+use Rattle.lsys_forest.specs.Answers.{answers, LiveApart, FreesUnheld}
 use Rattle.lsys_forest.proofs.StockLemmas.{told_none}
 use Rattle.lsys_forest.proofs.SoundLemmas.{undone_last}
 use Rattle.lsys_forest.proofs.AnswerLemmas.{IsStep, undo_step, lost_made, step_made, step_follows, follows_on}
@@ -18,7 +18,7 @@ undo_one-requires g c = record {
       let m = nodes_of c.loop-root.parts in
       let step = undo_step m earlier x.node x.before in
       lost_made g.A.Kept.run_at g.A.Kept.Holds (answers m (earlier ++ x ∷ [])) (answers (undo x m) earlier) (dropped x m) c.loop-root.store step
-      (subst (λ cs. AreMade g.A.Kept.run_at g.A.Kept.Holds c.loop-root.store (answers m cs)) were c.loop-root.invariant.made);
+      (subst (λ cs. LiveApart g.A.Kept.run_at g.A.Kept.Holds c.loop-root.store (answers m cs)) were c.loop-root.invariant.made);
 }
 
 pub loop-root-preserved : goal.loop-root-preserved
@@ -29,7 +29,7 @@ loop-root-preserved g c =
     let m = nodes_of c.loop-root.parts in
     let m' = nodes_of c.undo_one.new.parts in
     let was = c.loop-root.invariant in
-    let made = subst (λ cs. AreMade g.A.Kept.run_at g.A.Kept.Holds c.loop-root.store (answers m cs)) takes.were was.made in
+    let made = subst (λ cs. LiveApart g.A.Kept.run_at g.A.Kept.Holds c.loop-root.store (answers m cs)) takes.were was.made in
     let step : IsStep (answers m (takes.earlier ++ x ∷ [])) (answers m' (changes_of c.undo_one.new.parts)) (dropped x m) =
     subst (λ (f : Nodes g.row.A.Denot). IsStep (answers m (takes.earlier ++ x ∷ [])) (answers f (changes_of c.undo_one.new.parts)) (dropped x m)) (sym done.1.nodes)
     (subst (λ (cs : List (Change g.row.A.Denot)). IsStep (answers m (takes.earlier ++ x ∷ [])) (answers (undo x m) cs) (dropped x m)) (sym takes.are) (undo_step m takes.earlier x.node x.before)) in
@@ -54,7 +54,7 @@ loop-root-preserved g c =
       };
       made = made';
       freed = follows_on g.A.Kept.run_at g.A.Kept.Holds (answers (nodes_of c.args.parts.now) (changes_of c.args.parts.now)) (answers m (changes_of c.loop-root.parts)) (answers m' (changes_of c.undo_one.new.parts)) c.args.store.now c.loop-root.store c.undo_one.new.store was.made was.freed
-          (subst (λ cs. Follows g.A.Kept.run_at g.A.Kept.Holds (answers m cs) c.loop-root.store (answers m' (changes_of c.undo_one.new.parts)) c.undo_one.new.store) (sym takes.were) follows);
+          (subst (λ cs. FreesUnheld g.A.Kept.run_at g.A.Kept.Holds (answers m cs) c.loop-root.store (answers m' (changes_of c.undo_one.new.parts)) c.undo_one.new.store) (sym takes.were) follows);
     }
 
 pub returns-clause-short : goal.returns-clause-short
@@ -65,5 +65,5 @@ returns-clause-short g c =
 pub returns-clause-made : goal.returns-clause-made
 returns-clause-made g c =
     let none = c.loop-root-test.ensures.none refl in
-    subst (λ s. AreMade g.A.Kept.run_at g.A.Kept.Holds s (answers (nodes_of c.undo_one.new.parts) (changes_of c.undo_one.new.parts))) (sym none.2)
-    (subst (λ (t : Stock g.row.A.Denot). AreMade g.A.Kept.run_at g.A.Kept.Holds c.loop-root.store (answers (nodes_of t) (changes_of t))) (sym none.1) c.loop-root.invariant.made)
+    subst (λ s. LiveApart g.A.Kept.run_at g.A.Kept.Holds s (answers (nodes_of c.undo_one.new.parts) (changes_of c.undo_one.new.parts))) (sym none.2)
+    (subst (λ (t : Stock g.row.A.Denot). LiveApart g.A.Kept.run_at g.A.Kept.Holds c.loop-root.store (answers (nodes_of t) (changes_of t))) (sym none.1) c.loop-root.invariant.made)

@@ -2,7 +2,7 @@ use Rattle.std.proofs.Common.{◌≡◌, ◌≤◌, length}
 use Rattle.lsys_forest.specs.Slots.{live_slots}
 use Rattle.lsys_forest.specs.Changes.{undone}
 use Rattle.lsys_forest.specs.Stocks.{nodes_of, changes_of, KeepsRoom}
-use Rattle.lsys_forest.specs.Answers.{answers, AreMade, Follows}
+use Rattle.lsys_forest.specs.Answers.{answers, LiveApart, FreesUnheld}
 use Rattle.lsys_forest.specs.Groves.{AreSound}
 use Rattle.lsys_forest.specs.Ranks.{AreRanked, AreLinked}
 use Rattle.lsys_forest.proofs.forest.undo_all.Given as goal
@@ -15,8 +15,8 @@ invariant-loop-root g l = record {
   told : undone (changes_of l.parts) (nodes_of l.parts) ≡ undone (changes_of l.fn.parts) (nodes_of l.fn.parts);
   live : live_slots l.parts.slots ≤ live_slots l.fn.parts.slots;
   room : KeepsRoom l.fn.parts l.parts;
-  made : AreMade g.A.Kept.run_at g.A.Kept.Holds l.store (answers (nodes_of l.parts) (changes_of l.parts));
-  freed : Follows g.A.Kept.run_at g.A.Kept.Holds (answers (nodes_of l.fn.parts) (changes_of l.fn.parts)) l.fn.store (answers (nodes_of l.parts) (changes_of l.parts)) l.store;
+  made : LiveApart g.A.Kept.run_at g.A.Kept.Holds l.store (answers (nodes_of l.parts) (changes_of l.parts));
+  freed : FreesUnheld g.A.Kept.run_at g.A.Kept.Holds (answers (nodes_of l.fn.parts) (changes_of l.fn.parts)) l.fn.store (answers (nodes_of l.parts) (changes_of l.parts)) l.store;
 }
 
 abbrev pub decreases-loop-root : goal.decreases-loop-root

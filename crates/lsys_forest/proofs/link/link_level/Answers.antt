@@ -1,9 +1,10 @@
 use Rattle.std.proofs.Common.{◌≡◌, ◌-◌, ◌+◌, ◌<◌, [], suc, refl, sym, ap, ◌∙◌, subst, arith}
+use Rattle.lsys_spec.specs.Rows.{first_in}
 use Rattle.lsys_forest.specs.declared.walk.Way.TheVariants.{Right}
 use Rattle.lsys_forest.specs.Stocks.{Stock, nodes_of, changes_of}
-use Rattle.lsys_forest.specs.Groves.{IsSound}
+use Rattle.lsys_forest.specs.Groves.{IsRooted}
 use Rattle.lsys_forest.specs.Ranks.{AreRanked, AreLinked}
-use Rattle.lsys_forest.specs.Rows.{first_in, level_nodes}
+use Rattle.lsys_forest.specs.Rows.{level_nodes}
 use Rattle.lsys_forest.proofs.RowLemmas.{level_apart}
 use Rattle.lsys_forest.proofs.WalkLemmas.{left_from, left_on}
 use Rattle.lsys_forest.proofs.LinkLemmas.{IsLinking, same_ranked, linking_start, linking_next, linking_before, linking_above, linking_on, linking_more, linking_end}
@@ -62,7 +63,7 @@ loop-at-preserved g c =
     let then : c.link-at.result ≡ first_in is.rest = c.link-at.ensures ∙ linked d above Right is.passed is.rest (omega (arith, c.requires.below)) is.whole in
     record {
       same = e.same ∙ ap (λ (s : Stock g.row.A.Denot). record s { footings = u.footings }) was.same;
-      sound = subst (λ (s : Stock g.row.A.Denot). IsSound root (changes_of s) (nodes_of s)) (sym e.same) was.sound;
+      sound = subst (λ (s : Stock g.row.A.Denot). IsRooted root (changes_of s) (nodes_of s)) (sym e.same) was.sound;
       ranked = subst (λ (s : Stock g.row.A.Denot). AreRanked (nodes_of s) u.footings) (sym e.same) (same_ranked m t.footings u.footings e.row.ranks was.ranked);
       linked = subst (λ (s : Stock g.row.A.Denot). AreLinked (nodes_of s) root u.footings c.args.level) (sym e.same) linked;
       linking = subst (λ (s : Stock g.row.A.Denot). IsLinking (nodes_of s) root d u.footings last c.link-at.result) (sym e.same) (linking_on m root d t.footings u.footings c.loop-at.before last c.link-at.result above is e.row then);

@@ -1,6 +1,6 @@
 use Rattle.std.proofs.Common.{◌≡◌, ◌-◌}
 use Rattle.lsys_forest.specs.Stocks.{nodes_of, changes_of}
-use Rattle.lsys_forest.specs.Groves.{IsSound}
+use Rattle.lsys_forest.specs.Groves.{IsRooted}
 use Rattle.lsys_forest.specs.Ranks.{AreRanked, AreLinked}
 use Rattle.lsys_forest.specs.Rows.{level_nodes}
 use Rattle.lsys_forest.proofs.WalkLemmas.{left_from}
@@ -10,7 +10,7 @@ use Rattle.lsys_forest.proofs.link.link_level.Given as goal
 abbrev pub invariant-loop-at : goal.invariant-loop-at
 invariant-loop-at g l = record {
   same : l.parts ≡ record l.fn.parts { footings = l.parts.footings };
-  sound : IsSound l.fn.root (changes_of l.parts) (nodes_of l.parts);
+  sound : IsRooted l.fn.root (changes_of l.parts) (nodes_of l.parts);
   ranked : AreRanked (nodes_of l.parts) l.parts.footings;
   linked : AreLinked (nodes_of l.parts) l.fn.root l.parts.footings l.level;
   linking : IsLinking (nodes_of l.parts) l.fn.root (l.level - 1) l.parts.footings l.before l.at;

@@ -1,14 +1,15 @@
 use Rattle.std.proofs.Common.{◌≡◌, ◌-◌, ◌<◌}
+use Rattle.lsys_spec.specs.Rows.{first_in}
 use Rattle.lsys_forest.specs.Stocks.{nodes_of, changes_of}
-use Rattle.lsys_forest.specs.Groves.{IsSound}
+use Rattle.lsys_forest.specs.Groves.{IsRooted}
 use Rattle.lsys_forest.specs.Ranks.{AreRanked, AreLinked}
-use Rattle.lsys_forest.specs.Rows.{first_in, level_nodes}
+use Rattle.lsys_forest.specs.Rows.{level_nodes}
 use Rattle.lsys_forest.proofs.link.link_levels.Given as goal
 
 abbrev pub invariant-loop-at : goal.invariant-loop-at
 invariant-loop-at g l = record {
   same : l.parts ≡ record l.fn.parts { footings = l.parts.footings };
-  sound : IsSound l.root (changes_of l.parts) (nodes_of l.parts);
+  sound : IsRooted l.root (changes_of l.parts) (nodes_of l.parts);
   ranked : AreRanked (nodes_of l.parts) l.parts.footings;
   linked : AreLinked (nodes_of l.parts) l.root l.parts.footings l.depth;
   first : l.at ≡ first_in (level_nodes (nodes_of l.parts) l.root (l.depth - 1));

@@ -1,6 +1,6 @@
 use Rattle.std.proofs.Common.{[], ℕ, ℤ, refl, sym, subst}
 use Rattle.lsys_forest.specs.Shelves.{Hoard, shelf_of, IsOwner}
-use Rattle.lsys_forest.specs.Stocks.{Adds}
+use Rattle.lsys_forest.specs.Stocks.{Inserts}
 use Rattle.lsys_forest.proofs.ShelfLemmas.{room_nil, add_done}
 use Rattle.lsys_forest.proofs.runs.insert.Goals as goal
 
@@ -32,7 +32,7 @@ returns-clause-has_params g c =
     let u = c.insert.new.self in
     let new : Hoard ℤ = record h { pool = c.place.new.self.pool } in
     let done = add_done h new t.param_runs u.param_runs c.place.result c.args.list.now c.insert.result c.insert.ensures.none c.insert.ensures.put.params c.insert.ensures.put.other_params c.place.ensures.placed refl refl c.place.ensures.spare refl c.requires.params in
-    subst (λ (x : Hoard ℤ). Adds c.insert.result c.args.list.now (shelf_of h t.param_runs) (shelf_of x u.param_runs)) (sym c.place.ensures.kept) done.1
+    subst (λ (x : Hoard ℤ). Inserts c.insert.result c.args.list.now (shelf_of h t.param_runs) (shelf_of x u.param_runs)) (sym c.place.ensures.kept) done.1
 
 pub returns-clause-no_kids : goal.returns-clause-no_kids
 returns-clause-no_kids g c =
@@ -41,4 +41,4 @@ returns-clause-no_kids g c =
     let u = c.insert.new.self in
     let new : Hoard ℕ = record h { pool = c.place-2.new.self.pool } in
     let done = add_done h new t.kid_runs u.kid_runs c.place-2.result [] c.insert.result c.insert.ensures.no_kids c.insert.ensures.put.kids c.insert.ensures.put.other_kids c.place-2.ensures.placed refl refl c.place-2.ensures.spare refl c.requires.kids in
-    subst (λ (x : Hoard ℕ). Adds c.insert.result [] (shelf_of h t.kid_runs) (shelf_of x u.kid_runs)) (sym c.place-2.ensures.kept) done.1
+    subst (λ (x : Hoard ℕ). Inserts c.insert.result [] (shelf_of h t.kid_runs) (shelf_of x u.kid_runs)) (sym c.place-2.ensures.kept) done.1

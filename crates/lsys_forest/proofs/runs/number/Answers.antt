@@ -2,7 +2,7 @@ use Rattle.std.proofs.Common.{◌≡◌, ◌≢◌, ◌<◌, ℕ, Some, length, 
 use Rattle.std.specs.Prelude.{IsSome}
 use Rattle.std.proofs.lemmas.Bool.{cases_eq}
 use Rattle.std.proofs.lemmas.Option.{slice_get_read, slice_get_within, same_Some}
-use Rattle.lsys_forest.specs.Groves.{In}
+use Rattle.lsys_spec.specs.Rows.{In}
 use Rattle.lsys_forest.specs.declared.node.Footing.{Footing}
 use Rattle.lsys_forest.specs.declared.walk.Way.{Way}
 use Rattle.lsys_forest.specs.declared.walk.Way.TheVariants.{Left, Right}

@@ -1,7 +1,7 @@
 use Rattle.std.proofs.Common.{◌≡◌, ◌<◌, ℕ, Some, length, slice_get}
+use Rattle.lsys_spec.specs.Rows.{In}
 use Rattle.lsys_forest.specs.declared.walk.Way.{Way}
 use Rattle.lsys_forest.specs.Slots.{rank_at, link_at}
-use Rattle.lsys_forest.specs.Groves.{In}
 use Rattle.lsys_forest.proofs.runs.number.Given as goal
 
 abbrev pub invariant-loop-place : goal.invariant-loop-place

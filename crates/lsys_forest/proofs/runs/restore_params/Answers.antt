@@ -1,5 +1,5 @@
 use Rattle.std.proofs.Common.{◌≡◌, ℤ, refl, sym, ap, ◌∙◌, subst}
-use Rattle.lsys_region.specs.Pool.{Pool, IsLive}
+use Rattle.lsys_region.specs.Pool.{Pool, IsLiveRun}
 use Rattle.lsys_forest.specs.Shelves.{Hoard, shelf_of, IsOwner, IsFreed}
 use Rattle.lsys_forest.specs.Slots.{SlotTable, slot_at}
 use Rattle.lsys_forest.specs.Stocks.{Restores}
@@ -16,7 +16,7 @@ free-requires g c =
     let before = c.swap_params-displaced.result in
     let changed = ap (λ (x : SlotTable g.row.A.Denot). x.param_runs) c.swap_params-displaced.ensures.changed in
     let pool = ap (λ (x : Hoard ℤ). x.pool) c.pop.ensures.popped in
-    subst (λ (x : Pool ℤ). IsLive x before) (sym pool) (restore_live h c.pop.new.self there t.param_runs u.param_runs run before c.args.node c.swap_params-displaced.ensures.before c.swap_params-displaced.ensures.here changed c.in-Some.ensures.some c.requires.owned)
+    subst (λ (x : Pool ℤ). IsLiveRun x before) (sym pool) (restore_live h c.pop.new.self there t.param_runs u.param_runs run before c.args.node c.swap_params-displaced.ensures.before c.swap_params-displaced.ensures.here changed c.in-Some.ensures.some c.requires.owned)
 
 pub returns-in-Some-clause-owned : goal.returns-in-Some-clause-owned
 returns-in-Some-clause-owned g c =

@@ -1,7 +1,7 @@
 use Rattle.std.proofs.Common.{◌≡◌, sym, ap, ◌∙◌, subst, arith}
 use Rattle.std.specs.Prelude.{Bool, false, IsTrue, option_map, slice_get}
+use Rattle.lsys_spec.specs.Rows.{In}
 use Rattle.lsys_forest.specs.Stocks.{row_at, node_of}
-use Rattle.lsys_forest.specs.Groves.{In}
 use Rattle.lsys_forest.proofs.StockLemmas.{kids_were}
 use Rattle.lsys_forest.proofs.WalkLemmas.{get_In, In_at}
 use Rattle.lsys_forest.proofs.sweep.has_kid.Goals as goal

@@ -4,7 +4,7 @@ use Rattle.std.proofs.lemmas.Bool.{cases_eq}
 use Rattle.std.proofs.lemmas.Option.{none-some}
 use Rattle.lsys_forest.proofs.StockLemmas.{put_same, put_other}
 use Rattle.std.specs.Option.{option_and_then}
-use Rattle.lsys_forest.specs.Nodes.{Nodes, put}
+use Rattle.lsys_forest.specs.Nodes.{Nodes, with_node}
 use Rattle.lsys_forest.specs.Changes.{Change}
 use Rattle.lsys_forest.specs.Answers.{AtNode, answer_of, answers}
 use Rattle.lsys_forest.specs.Stocks.{nodes_of, changes_of}
@@ -55,7 +55,7 @@ returns-then-is_loose-clause-made g c =
     let done = c.remove.ensures s.0 s.1 in
     let step : IsStep (answers (nodes_of t) (changes_of t)) (answers (nodes_of u) (changes_of u)) s.0.answer =
     subst (λ (f : Nodes g.row.A.Denot). IsStep (answers (nodes_of t) (changes_of t)) (answers f (changes_of u)) s.0.answer) (sym done.0.nodes)
-    (subst (λ (cs : List (Change g.row.A.Denot)). IsStep (answers (nodes_of t) (changes_of t)) (answers (put (nodes_of t) k None) cs) s.0.answer) (sym done.0.noted) (remove_step (nodes_of t) k s.0 (changes_of t) s.1)) in
+    (subst (λ (cs : List (Change g.row.A.Denot)). IsStep (answers (nodes_of t) (changes_of t)) (answers (with_node (nodes_of t) k None) cs) s.0.answer) (sym done.0.noted) (remove_step (nodes_of t) k s.0 (changes_of t) s.1)) in
     step_made g.A.Kept.run_at g.A.Kept.Holds (answers (nodes_of t) (changes_of t)) (answers (nodes_of u) (changes_of u)) s.0.answer c.args.store.now c.remove.new.store step c.requires.made done.1
 
 pub returns-then-is_loose-clause-freed : goal.returns-then-is_loose-clause-freed
@@ -67,5 +67,5 @@ returns-then-is_loose-clause-freed g c =
     let done = c.remove.ensures s.0 s.1 in
     let step : IsStep (answers (nodes_of t) (changes_of t)) (answers (nodes_of u) (changes_of u)) s.0.answer =
     subst (λ (f : Nodes g.row.A.Denot). IsStep (answers (nodes_of t) (changes_of t)) (answers f (changes_of u)) s.0.answer) (sym done.0.nodes)
-    (subst (λ (cs : List (Change g.row.A.Denot)). IsStep (answers (nodes_of t) (changes_of t)) (answers (put (nodes_of t) k None) cs) s.0.answer) (sym done.0.noted) (remove_step (nodes_of t) k s.0 (changes_of t) s.1)) in
+    (subst (λ (cs : List (Change g.row.A.Denot)). IsStep (answers (nodes_of t) (changes_of t)) (answers (with_node (nodes_of t) k None) cs) s.0.answer) (sym done.0.noted) (remove_step (nodes_of t) k s.0 (changes_of t) s.1)) in
     step_follows g.A.Kept.run_at g.A.Kept.Holds (answers (nodes_of t) (changes_of t)) (answers (nodes_of u) (changes_of u)) s.0.answer c.args.store.now c.remove.new.store step c.requires.made done.1

@@ -3,7 +3,7 @@ use Rattle.std.proofs.Common.{◌≡◌, ℕ, refl, ◌++◌, ◌∷◌, [], Lis
 use Rattle.lsys_forest.specs.Nodes.{Nodes}
 use Rattle.lsys_forest.specs.Changes.{Change}
 use Rattle.lsys_forest.specs.Stocks.{Stock, nodes_of, changes_of, looked}
-use Rattle.lsys_forest.specs.Answers.{answers, old_answer, AreMade, Follows}
+use Rattle.lsys_forest.specs.Answers.{answers, old_answer, LiveApart, FreesUnheld}
 use Rattle.lsys_forest.specs.Slots.{footing_at}
 use Rattle.lsys_forest.specs.Ranks.{AreRanked}
 use Rattle.lsys_forest.specs.Sweeps.{IsSwept}
@@ -29,7 +29,7 @@ take_last-requires g c = record {
   made = λ x earlier were.
       let m = nodes_of c.loop-look.parts in
       lost_made g.A.Kept.run_at g.A.Kept.Holds (answers m (earlier ++ x ∷ [])) (answers m earlier) (old_answer x) c.loop-look.store (take_step m earlier x)
-      (subst (λ cs. AreMade g.A.Kept.run_at g.A.Kept.Holds c.loop-look.store (answers m cs)) were c.loop-look.invariant.made);
+      (subst (λ cs. LiveApart g.A.Kept.run_at g.A.Kept.Holds c.loop-look.store (answers m cs)) were c.loop-look.invariant.made);
 }
 
 pub sweep_looked-requires-clause-made : goal.sweep_looked-requires-clause-made
@@ -39,7 +39,7 @@ sweep_looked-requires-clause-made g c =
     let takes = done.1.takes in
     let m = nodes_of c.loop-look.parts in
     let u = c.take_last.new.self in
-    let made = subst (λ cs. AreMade g.A.Kept.run_at g.A.Kept.Holds c.loop-look.store (answers m cs)) takes.were c.loop-look.invariant.made in
+    let made = subst (λ cs. LiveApart g.A.Kept.run_at g.A.Kept.Holds c.loop-look.store (answers m cs)) takes.were c.loop-look.invariant.made in
     let step : IsStep (answers m (takes.earlier ++ x ∷ [])) (answers (nodes_of u) (changes_of u)) (old_answer x) =
     subst (λ (f : Nodes g.row.A.Denot). IsStep (answers m (takes.earlier ++ x ∷ [])) (answers f (changes_of u)) (old_answer x)) (sym done.1.nodes)
     (subst (λ (cs : List (Change g.row.A.Denot)). IsStep (answers m (takes.earlier ++ x ∷ [])) (answers m cs) (old_answer x)) (sym takes.are) (take_step m takes.earlier x)) in
@@ -56,7 +56,7 @@ loop-look-preserved g c =
     let v = c.sweep_looked.new.parts in
     let e = c.sweep_looked.ensures in
     let was = c.loop-look.invariant in
-    let made = subst (λ cs. AreMade g.A.Kept.run_at g.A.Kept.Holds c.loop-look.store (answers m cs)) takes.were was.made in
+    let made = subst (λ cs. LiveApart g.A.Kept.run_at g.A.Kept.Holds c.loop-look.store (answers m cs)) takes.were was.made in
     let step : IsStep (answers m (takes.earlier ++ x ∷ [])) (answers (nodes_of u) (changes_of u)) (old_answer x) =
     subst (λ (f : Nodes g.row.A.Denot). IsStep (answers m (takes.earlier ++ x ∷ [])) (answers f (changes_of u)) (old_answer x)) (sym done.1.nodes)
     (subst (λ (cs : List (Change g.row.A.Denot)). IsStep (answers m (takes.earlier ++ x ∷ [])) (answers m cs) (old_answer x)) (sym takes.are) (take_step m takes.earlier x)) in
@@ -70,7 +70,7 @@ loop-look-preserved g c =
     let stands : (j : ℕ) → IsSome (nodes_of u j) → footing_at u.footings j ≡ footing_at c.args.parts.now.footings j =
     λ j lives. ap (λ r. footing_at r j) done.1.footings ∙ was.swept.stands j (subst (λ (f : Nodes g.row.A.Denot). IsSome (f j)) done.1.nodes lives) in
     let freed = follows_on g.A.Kept.run_at g.A.Kept.Holds (answers first (changes_of c.args.parts.now)) (answers m (changes_of c.loop-look.parts)) (answers (nodes_of u) (changes_of u)) c.args.store.now c.loop-look.store c.take_last.new.store was.made was.freed
-    (subst (λ cs. Follows g.A.Kept.run_at g.A.Kept.Holds (answers m cs) c.loop-look.store (answers (nodes_of u) (changes_of u)) c.take_last.new.store) (sym takes.were) follows) in
+    (subst (λ cs. FreesUnheld g.A.Kept.run_at g.A.Kept.Holds (answers m cs) c.loop-look.store (answers (nodes_of u) (changes_of u)) c.take_last.new.store) (sym takes.were) follows) in
     record {
       swept = e.swept first (changes_of c.args.parts.now) c.args.parts.now.footings c.requires.sound (record { swept = subst (IsSwept first c.args.root (nodes_of u) (changes_of u)) (sym done.1.looks) begun; ranked = ranked; stands = stands });
       places = omega (arith, e.keeps.places, e.keeps.room.places, takes.notes, takes.room.places, done.1.live, was.places);
@@ -95,18 +95,18 @@ pub returns-clause-made : goal.returns-clause-made
 returns-clause-made g c =
     let t = c.put_down.new.self in
     let none = c.in_default.ensures.none in
-    subst (λ s. AreMade g.A.Kept.run_at g.A.Kept.Holds s (answers (nodes_of t) (changes_of t))) (sym none.2)
-    (subst (λ (f : Nodes g.row.A.Denot). AreMade g.A.Kept.run_at g.A.Kept.Holds c.loop-look.store (answers f (changes_of t))) (sym (c.put_down.ensures.nodes ∙ ap nodes_of none.1))
-    (subst (λ cs. AreMade g.A.Kept.run_at g.A.Kept.Holds c.loop-look.store (answers (nodes_of c.loop-look.parts) cs)) (sym (c.put_down.ensures.changes ∙ ap changes_of none.1)) c.loop-look.invariant.made))
+    subst (λ s. LiveApart g.A.Kept.run_at g.A.Kept.Holds s (answers (nodes_of t) (changes_of t))) (sym none.2)
+    (subst (λ (f : Nodes g.row.A.Denot). LiveApart g.A.Kept.run_at g.A.Kept.Holds c.loop-look.store (answers f (changes_of t))) (sym (c.put_down.ensures.nodes ∙ ap nodes_of none.1))
+    (subst (λ cs. LiveApart g.A.Kept.run_at g.A.Kept.Holds c.loop-look.store (answers (nodes_of c.loop-look.parts) cs)) (sym (c.put_down.ensures.changes ∙ ap changes_of none.1)) c.loop-look.invariant.made))
 
 pub returns-clause-freed : goal.returns-clause-freed
 returns-clause-freed g c =
     let t = c.put_down.new.self in
     let first = answers (nodes_of c.args.parts.now) (changes_of c.args.parts.now) in
     let none = c.in_default.ensures.none in
-    subst (λ s. Follows g.A.Kept.run_at g.A.Kept.Holds first c.args.store.now (answers (nodes_of t) (changes_of t)) s) (sym none.2)
-    (subst (λ (f : Nodes g.row.A.Denot). Follows g.A.Kept.run_at g.A.Kept.Holds first c.args.store.now (answers f (changes_of t)) c.loop-look.store) (sym (c.put_down.ensures.nodes ∙ ap nodes_of none.1))
-    (subst (λ cs. Follows g.A.Kept.run_at g.A.Kept.Holds first c.args.store.now (answers (nodes_of c.loop-look.parts) cs) c.loop-look.store) (sym (c.put_down.ensures.changes ∙ ap changes_of none.1)) c.loop-look.invariant.freed))
+    subst (λ s. FreesUnheld g.A.Kept.run_at g.A.Kept.Holds first c.args.store.now (answers (nodes_of t) (changes_of t)) s) (sym none.2)
+    (subst (λ (f : Nodes g.row.A.Denot). FreesUnheld g.A.Kept.run_at g.A.Kept.Holds first c.args.store.now (answers f (changes_of t)) c.loop-look.store) (sym (c.put_down.ensures.nodes ∙ ap nodes_of none.1))
+    (subst (λ cs. FreesUnheld g.A.Kept.run_at g.A.Kept.Holds first c.args.store.now (answers (nodes_of c.loop-look.parts) cs) c.loop-look.store) (sym (c.put_down.ensures.changes ∙ ap changes_of none.1)) c.loop-look.invariant.freed))
 
 pub returns-clause-ranked : goal.returns-clause-ranked
 returns-clause-ranked g c =

@@ -1,7 +1,7 @@
 use Rattle.std.proofs.Common.{◌≤◌, ◌+◌, [], length}
 use Rattle.lsys_forest.specs.Slots.{live_slots}
 use Rattle.lsys_forest.specs.Stocks.{nodes_of, changes_of, KeepsRoom}
-use Rattle.lsys_forest.specs.Answers.{answers, AreMade, Follows}
+use Rattle.lsys_forest.specs.Answers.{answers, LiveApart, FreesUnheld}
 use Rattle.lsys_forest.specs.Sweeps.{IsSweptOf}
 use Rattle.lsys_forest.proofs.sweep.sweep_all.Given as goal
 
@@ -11,8 +11,8 @@ invariant-loop-look g l = record {
   places : length l.parts.notes + live_slots l.parts.slots ≤ l.parts.places;
   live : live_slots l.parts.slots ≤ live_slots l.fn.parts.slots;
   room : KeepsRoom l.fn.parts l.parts;
-  made : AreMade g.A.Kept.run_at g.A.Kept.Holds l.store (answers (nodes_of l.parts) (changes_of l.parts));
-  freed : Follows g.A.Kept.run_at g.A.Kept.Holds (answers (nodes_of l.fn.parts) (changes_of l.fn.parts)) l.fn.store (answers (nodes_of l.parts) (changes_of l.parts)) l.store;
+  made : LiveApart g.A.Kept.run_at g.A.Kept.Holds l.store (answers (nodes_of l.parts) (changes_of l.parts));
+  freed : FreesUnheld g.A.Kept.run_at g.A.Kept.Holds (answers (nodes_of l.fn.parts) (changes_of l.fn.parts)) l.fn.store (answers (nodes_of l.parts) (changes_of l.parts)) l.store;
 }
 
 abbrev pub decreases-loop-look : goal.decreases-loop-look

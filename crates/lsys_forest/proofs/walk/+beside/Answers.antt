@@ -2,9 +2,9 @@ use Rattle.std.proofs.Common.{◌≡◌, ◌++◌, ◌∷◌, ◌-◌, ◌<◌, 
 use Rattle.std.specs.Prelude.{option_map}
 use Rattle.std.specs.Prelude.{slice_get}
 use Rattle.std.proofs.lemmas.Option.{none-some, slice_get_within}
+use Rattle.lsys_spec.specs.Rows.{In, AreApart, first_in}
 use Rattle.lsys_forest.specs.Stocks.{nodes_of, changes_of, row_at, node_of}
-use Rattle.lsys_forest.specs.Groves.{In, AreApart}
-use Rattle.lsys_forest.specs.Rows.{first_in, oriented, level_nodes, kids_in}
+use Rattle.lsys_forest.specs.Rows.{oriented, level_nodes, kids_in}
 use Rattle.lsys_forest.proofs.StockLemmas.{stored_of}
 use Rattle.lsys_forest.proofs.RowLemmas.{level_depth, kids_apart, parent_level, parent_root}
 use Rattle.lsys_forest.proofs.WalkLemmas.{IsAlong, walk_end, Behind, amid, behind_start, there, found, walk_on, walk_less, rows_are, level_parent, level_live, kids_live, left_from, next_on}

@@ -1,7 +1,7 @@
 use Rattle.std.specs.Prelude.{◌↔◌, IsTrue}
 use Rattle.std.proofs.Common.{◌≡◌, ◌≢◌, ◌-◌, ◌<◌, suc, sym, ◌∙◌, subst, arith, rules}
+use Rattle.lsys_spec.specs.Rows.{In}
 use Rattle.lsys_forest.specs.Stocks.{nodes_of, changes_of}
-use Rattle.lsys_forest.specs.Groves.{In}
 use Rattle.lsys_forest.specs.Ranks.{parent_in}
 use Rattle.lsys_forest.specs.Rows.{index_in, level_nodes}
 use Rattle.lsys_forest.proofs.PlaceLemmas.{above, parents_deep, by_ranks, by_parents}

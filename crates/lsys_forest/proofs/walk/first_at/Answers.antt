@@ -1,6 +1,7 @@
 use Rattle.std.proofs.Common.{◌≡◌, ◌+◌, ◌-◌, [], suc, ap, ◌∙◌, arith}
+use Rattle.lsys_spec.specs.Rows.{first_in}
 use Rattle.lsys_forest.specs.Stocks.{nodes_of}
-use Rattle.lsys_forest.specs.Rows.{first_in, level_nodes}
+use Rattle.lsys_forest.specs.Rows.{level_nodes}
 use Rattle.lsys_forest.proofs.walk.first_at.Goals as goal
 
 pub loop-depth-preserved : goal.loop-depth-preserved

@@ -1,6 +1,7 @@
 use Rattle.std.proofs.Common.{◌≡◌, ◌-◌, ◌<◌, ℕ, List, sym, ap, ◌∙◌, subst}
+use Rattle.lsys_spec.specs.Rows.{first_in}
 use Rattle.lsys_forest.specs.Stocks.{nodes_of, changes_of}
-use Rattle.lsys_forest.specs.Rows.{first_in, oriented, level_nodes, kids_in}
+use Rattle.lsys_forest.specs.Rows.{oriented, level_nodes, kids_in}
 use Rattle.lsys_forest.proofs.WalkLemmas.{IsAlong, Below, below_start, there, found, walk_on, walk_end, walk_less, level_live, rows_are, left_from}
 use Rattle.lsys_forest.proofs.walk.first_child.Goals as goal
 

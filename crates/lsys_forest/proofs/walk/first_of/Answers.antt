@@ -1,5 +1,6 @@
 use Rattle.std.proofs.Common.{sym, ap, ◌∙◌}
-use Rattle.lsys_forest.specs.Rows.{first_in, oriented}
+use Rattle.lsys_spec.specs.Rows.{first_in}
+use Rattle.lsys_forest.specs.Rows.{oriented}
 use Rattle.lsys_forest.proofs.WalkLemmas.{last_first}
 use Rattle.lsys_forest.proofs.walk.first_of.Goals as goal
 

@@ -1,5 +1,6 @@
 use Rattle.std.proofs.Common.{◌≡◌, ◌++◌, ℕ, take}
-use Rattle.lsys_forest.specs.Groves.{In, now_of, IsLive}
+use Rattle.lsys_spec.specs.Rows.{In}
+use Rattle.lsys_forest.specs.Groves.{now_of, IsLive}
 use Rattle.lsys_forest.specs.Rows.{kids_below}
 use Rattle.lsys_front.proofs.ends.add_children.Given as goal
 

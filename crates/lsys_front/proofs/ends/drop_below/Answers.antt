@@ -1,6 +1,7 @@
 use Rattle.std.proofs.Common.{◌≡◌, rules, length, ap, ◌∙◌, subst, inl, inr}
 use Rattle.std.specs.Prelude.{◌==◌}
-use Rattle.lsys_forest.specs.Groves.{In, now_of}
+use Rattle.lsys_spec.specs.Rows.{In}
+use Rattle.lsys_forest.specs.Groves.{now_of}
 use Rattle.lsys_forest.specs.Rows.{kids_below}
 use Rattle.lsys_front.specs.Ends.{answered_in}
 use Rattle.lsys_front.proofs.Ending.{begun, empty_if, extended, rows_next, rows_end}

@@ -1,5 +1,6 @@
 use Rattle.std.proofs.Common.{◌≡◌, ◌-◌, ◌++◌, ℕ}
-use Rattle.lsys_forest.specs.Groves.{In, now_of, IsLive}
+use Rattle.lsys_spec.specs.Rows.{In}
+use Rattle.lsys_forest.specs.Groves.{now_of, IsLive}
 use Rattle.lsys_front.specs.Ends.{answered_in, rows_from}
 use Rattle.lsys_front.proofs.ends.drop_below.Given as goal
 

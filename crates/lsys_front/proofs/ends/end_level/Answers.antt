@@ -1,8 +1,9 @@
 use Rattle.std.proofs.Common.{◌≡◌, ◌++◌, [], ap, ◌∙◌, sym, subst, refl, arith, Some, length, slice_get, take, append-nil}
 use Rattle.std.specs.Prelude.{IsSome}
 use Rattle.std.proofs.lemmas.Option.{slice_get_read}
+use Rattle.lsys_spec.specs.Rows.{In}
 use Rattle.lsys_forest.specs.Nodes.{Nodes}
-use Rattle.lsys_forest.specs.Groves.{In, now_of, changes_in}
+use Rattle.lsys_forest.specs.Groves.{now_of, changes_in}
 use Rattle.lsys_forest.specs.Answers.{answers}
 use Rattle.lsys_forest.specs.Rows.{kids_below}
 use Rattle.lsys_forest.proofs.ChainLemmas.{taken_apart, take_whole}

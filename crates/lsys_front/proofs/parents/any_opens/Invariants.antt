@@ -1,6 +1,7 @@
 use Rattle.std.proofs.Common.{◌≡◌, ℕ, false, take}
+use Rattle.lsys_spec.specs.Rows.{In}
 use Rattle.lsys_change.specs.Children.{is_open}
-use Rattle.lsys_forest.specs.Groves.{In, now_of}
+use Rattle.lsys_forest.specs.Groves.{now_of}
 use Rattle.lsys_repair.specs.Answers.{kept_successors}
 use Rattle.lsys_front.proofs.parents.any_opens.Given as goal
 

@@ -2,7 +2,7 @@ use Rattle.std.proofs.Common.{◌≡◌, ◌<◌, ◌≤◌, false, length, map,
 use Rattle.std.proofs.lemmas.List.{length-map}
 use Rattle.lsys_module.specs.Views.{module_name}
 use Rattle.lsys_matrix.specs.Growth.{among, most_letters}
-use Rattle.lsys_growth.specs.Letters.{place_in, letters_in}
+use Rattle.lsys_growth.specs.Letters.{letter_place, letters_in}
 use Rattle.lsys_growth.proofs.LettersPut.{put_full, inserted}
 use Rattle.lsys_growth.proofs.letters.put_name.Goals as goal
 
@@ -31,4 +31,4 @@ returns c =
     let f : c.len.result ≡ 63 → ⊥ = c.if-len-eq-MOST_LETTERS.false in
     omega (arith, r, v, d, e, f)) in
     inserted c.args.letters.now.items c.insert.new.self.items c.args.name c.place_of-place.result unknown few
-    (c.place_of-place.ensures.place ∙ ap (λ l. place_in n (map module_name l)) c.deref-2.ensures.value) c.in_ok-insert.ensures.items
+    (c.place_of-place.ensures.place ∙ ap (λ l. letter_place n (map module_name l)) c.deref-2.ensures.value) c.in_ok-insert.ensures.items

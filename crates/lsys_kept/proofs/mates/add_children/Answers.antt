@@ -1,5 +1,6 @@
 use Rattle.std.proofs.Common.{sym, ap, ◌∙◌, inl, inr, subst}
-use Rattle.lsys_forest.specs.Groves.{In, now_of}
+use Rattle.lsys_spec.specs.Rows.{In}
+use Rattle.lsys_forest.specs.Groves.{now_of}
 use Rattle.lsys_forest.specs.Rows.{kids_in}
 use Rattle.lsys_forest.proofs.SoundLemmas.{some_of}
 use Rattle.lsys_forest.proofs.RowLemmas.{In_append}

@@ -1,6 +1,6 @@
 use Rattle.std.proofs.Common.{Some, ◌∷◌, [], sym, ap, ◌∙◌, subst, inl, inr}
 use Rattle.std.proofs.lemmas.Option.{same_Some}
-use Rattle.lsys_forest.specs.Groves.{In}
+use Rattle.lsys_spec.specs.Rows.{In}
 use Rattle.lsys_forest.proofs.RowLemmas.{In_append}
 use Rattle.lsys_kept.proofs.SeamLemmas.{in_left, in_right}
 use Rattle.lsys_kept.proofs.seams.add.Goals as goal

@@ -1,5 +1,5 @@
 use Rattle.std.proofs.Common.{ℕ, take}
-use Rattle.lsys_forest.specs.Groves.{In}
+use Rattle.lsys_spec.specs.Rows.{In}
 use Rattle.lsys_kept.specs.Looks.{LooksAround, IsOnLevelOf, AddsBelow}
 use Rattle.lsys_kept.proofs.seams.look_around.Given as goal
 

@@ -1,9 +1,9 @@
-use Rattle.lsys_level.specs.Spots.{level_at}
+use Rattle.lsys_level.specs.Spots.{spots_at}
 use Rattle.lsys_level.proofs.Copies.{Copying, left_over}
 use Rattle.lsys_level.proofs.copy.copy_level.Given as goal
 
 abbrev pub invariant-loop-at : goal.invariant-loop-at
-invariant-loop-at g l = Copying (g.W.LevelView.level_of l.view) (g.W.LevelView.place_of l.view) (level_at (g.W.LevelView.levels l.view) l.level) l.level l.at l.symbols
+invariant-loop-at g l = Copying (g.W.LevelView.level_of l.view) (g.W.LevelView.place_of l.view) (spots_at (g.W.LevelView.levels l.view) l.level) l.level l.at l.symbols
 
 abbrev pub decreases-loop-at : goal.decreases-loop-at
-decreases-loop-at g l = left_over (g.W.LevelView.place_of l.view) (level_at (g.W.LevelView.levels l.view) l.level) l.at
+decreases-loop-at g l = left_over (g.W.LevelView.place_of l.view) (spots_at (g.W.LevelView.levels l.view) l.level) l.at

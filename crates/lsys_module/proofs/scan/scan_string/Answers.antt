@@ -1,6 +1,6 @@
 use Rattle.std.proofs.Common.{◌≡◌, ◌∙◌, ◌≤◌, ap, sym, Some, None, length, arith, if◌then◌else◌}
 use Rattle.lsys_syntax.specs.LineMachine.{stops}
-use Rattle.lsys_module.specs.Scanning.{string_verdict, IsString}
+use Rattle.lsys_module.specs.Scanning.{string_verdict, TellsString}
 use Rattle.lsys_module.proofs.ScanSteps.{refused-turn, refused-end, found_string, found_place}
 use Rattle.lsys_module.proofs.StringPlaces.{Refused, refused, read_as_string}
 use Rattle.lsys_module.proofs.scan.scan_string.Goals as goal
@@ -57,7 +57,7 @@ returns c =
     let over : length tokens ≤ c.loop-place.place = omega arith in
     let ended = refused-end tokens c.loop-place.place c.loop-place.progress c.may_end.result over c.may_end.ensures in
     let same = c.loop-place.invariant.same ∙ ended ∙ ap (λ b. if b then None else Some c.loop-place.place) c.if-not-may_end.false in
-    let is : IsString (string_verdict c.args.from tokens) = found_string c.args.from tokens same in
+    let is : TellsString (string_verdict c.args.from tokens) = found_string c.args.from tokens same in
     record {
       verdict = is;
       string = λ forms. read_as_string tokens c.args.from forms is.0 is.1;

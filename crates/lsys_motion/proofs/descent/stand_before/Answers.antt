@@ -1,5 +1,5 @@
 use Rattle.std.proofs.Common.{◌≡◌, ◌∷◌, drop, ap, sym, ◌∙◌, rules}
-use Rattle.lsys_motion.specs.Pieces.{Piece}
+use Rattle.lsys_motion.specs.Pieces.{ImagePiece}
 use Rattle.lsys_motion.proofs.Finding.{found_skips, near_skips}
 use Rattle.lsys_motion.proofs.descent.stand_before.Goals as goal
 
@@ -7,10 +7,10 @@ pub down-preserved : goal.down-preserved
 down-preserved g c =
     let l = g.T.Lattice.shape in
     let inside = c.piece.inside in
-    let p : Piece = record { symbols = inside.symbols; pieces = inside.pieces; start = inside.start } in
+    let p : ImagePiece = record { symbols = inside.symbols; pieces = inside.pieces; start = inside.start } in
     let qs = c.in-Some.inner.now in
     let first : c.down.rest.now ≡ c.in-Some.piece.now ∷ c.in-Some.inner.now = search rules in
-    let is = first ∙ ap (λ (q : Piece). q ∷ c.in-Some.inner.now) (sym c.piece.view_is) in
+    let is = first ∙ ap (λ (q : ImagePiece). q ∷ c.in-Some.inner.now) (sym c.piece.view_is) in
     let rest = c.behind-rest.ensures ∙ ap (λ n. drop n c.in-Some.inner.now) c.saturating_sub.ensures in
     record {
       found = found_skips l c.down.rest.now p qs c.behind-rest.result.now c.down.left c.down.here is c.if-left-piece.false rest ∙ c.down.invariant.found;

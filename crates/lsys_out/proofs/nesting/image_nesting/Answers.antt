@@ -2,7 +2,7 @@ use Rattle.std.proofs.Common.{◌≡◌, [], ◌∷◌, ◌∙◌, ◌+◌, Ok, 
 use Rattle.std.proofs.Math.Nat.{zero-max}
 use Rattle.lsys_syntax.specs.Strings as S
 use Rattle.lsys_module.specs.Views.{symbol_of}
-use Rattle.lsys_level.specs.Spots.{level_at, level_by}
+use Rattle.lsys_level.specs.Spots.{spots_at, level_by}
 use Rattle.lsys_hom.specs.Calls.{IsNext}
 use Rattle.lsys_hom.specs.Coming.{Coming, coming}
 use Rattle.lsys_out.specs.Drawings.{last_image}
@@ -15,7 +15,7 @@ loop-symbol-init g c =
     let s = c.args.system.now in
     let levels = g.W.LevelView.levels c.args.view.now in
     let i = c.new-image.result in
-    let is : i ≡ last_image s levels = c.new-image.ensures (λ tag. []) ∙ ap (λ d. coming s (level_by (λ tag. []) (level_at levels d))) c.depth.ensures.depth in
+    let is : i ≡ last_image s levels = c.new-image.ensures (λ tag. []) ∙ ap (λ d. coming s (level_by (λ tag. []) (spots_at levels d))) c.depth.ensures.depth in
     record {
       most = zero-max (nesting_from 0 i.symbols) ∙ ap (λ (c : Coming). nesting_from 0 c.symbols) is;
       below = omega arith;

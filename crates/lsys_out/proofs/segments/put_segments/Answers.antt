@@ -2,7 +2,7 @@ use Rattle.std.proofs.Common.{◌≡◌, Ok, ap, subst, sym, ◌∙◌, rules}
 use Rattle.std.specs.Prelude.{flat_map}
 use Rattle.lsys_spec.specs.PictureTexts.{segment_line}
 use Rattle.lsys_turtle.specs.Ways.{segment_of}
-use Rattle.lsys_out.specs.Drawings.{Drawing, IsNext, drawing, finished, last_drawing, with_first}
+use Rattle.lsys_out.specs.Drawings.{Drawing, IsNextSegment, drawing, empty_drawing, last_drawing, with_first}
 use Rattle.lsys_out.proofs.Resting.{rests_failed, rests_none, rests_same, rests_then, rests_whole}
 use Rattle.lsys_out.proofs.Texts.{segments-text}
 use Rattle.lsys_out.proofs.segments.put_segments.Goals as goal
@@ -27,7 +27,7 @@ returns-in_err-put_segment-in-Ok-Some-clause-put g c =
     let l = g.T.Lattice.shape in
     let now = drawing l c.segments.way c.segments.turtle.turtle in
     let next = drawing l c.next.new.self c.next.new.turtle.turtle in
-    let first : now ≡ with_first (segment_of c.in-Ok-Some.segment) next = subst (λ o. IsNext now next (Ok o)) c.in-Ok-Some.field-0-is c.in-Ok-Some.ensures.next in
+    let first : now ≡ with_first (segment_of c.in-Ok-Some.segment) next = subst (λ o. IsNextSegment now next (Ok o)) c.in-Ok-Some.field-0-is c.in-Ok-Some.ensures.next in
     rests_failed (flat_map segment_line next.segments) c.from_residual-in_err-put_segment-in-Ok-Some.ensures.0
     (rests_same (ap (λ (d : Drawing). flat_map segment_line d.segments) first) c.segments.invariant.rests) c.in_err-put_segment-in-Ok-Some.ensures
 
@@ -36,7 +36,7 @@ segments-preserved g c =
     let l = g.T.Lattice.shape in
     let now = drawing l c.segments.way c.segments.turtle.turtle in
     let next = drawing l c.next.new.self c.next.new.turtle.turtle in
-    let first : now ≡ with_first (segment_of c.in-Ok-Some.segment) next = subst (λ o. IsNext now next (Ok o)) c.in-Ok-Some.field-0-is c.in-Ok-Some.ensures.next in
+    let first : now ≡ with_first (segment_of c.in-Ok-Some.segment) next = subst (λ o. IsNextSegment now next (Ok o)) c.in-Ok-Some.field-0-is c.in-Ok-Some.ensures.next in
     record {
       rests = rests_then (rests_same (ap (λ (d : Drawing). flat_map segment_line d.segments) first) c.segments.invariant.rests) c.in_ok-put_segment-in-Ok-Some.ensures;
       drawn = ap (λ (d : Drawing). d.refusal) (sym first) ∙ c.segments.invariant.drawn;
@@ -49,5 +49,5 @@ returns-in-Ok-None-clause-put g c =
     let l = g.T.Lattice.shape in
     let now = drawing l c.segments.way c.segments.turtle.turtle in
     let next = drawing l c.next.new.self c.next.new.turtle.turtle in
-    let none : now ≡ finished = subst (λ o. IsNext now next (Ok o)) c.in-Ok-None.field-0-is c.in-Ok-None.ensures.next in
+    let none : now ≡ empty_drawing = subst (λ o. IsNextSegment now next (Ok o)) c.in-Ok-None.field-0-is c.in-Ok-None.ensures.next in
     rests_none (rests_same (ap (λ (d : Drawing). flat_map segment_line d.segments) none) c.segments.invariant.rests)

@@ -1,7 +1,7 @@
 use Rattle.std.proofs.Common.{◌≡◌, Err, subst, sym, rules}
 use Rattle.lsys_spec.specs.Pictures.{picture}
 use Rattle.lsys_spec.specs.PictureTexts as texts
-use Rattle.lsys_out.specs.Drawings.{last_level}
+use Rattle.lsys_out.specs.Drawings.{last_symbols}
 use Rattle.lsys_out.specs.Shown.{Shows, on_lattice}
 use Rattle.lsys_out.proofs.Showing.{shows_refused}
 use Rattle.lsys_out.proofs.Whole.{picture_drawn, picture_refused}
@@ -12,7 +12,7 @@ returns-in_err-count-clause-shows g c naming =
     let l = g.T.Lattice.shape in
     let s = c.args.system.now in
     let levels = g.W.LevelView.levels c.args.view.now in
-    let drawn = picture (on_lattice l s) (last_level naming s levels) in
+    let drawn = picture (on_lattice l s) (last_symbols naming s levels) in
     let told = c.in_err-count.ensures.surveyed in
     let is : c.from_residual.result ≡ Err c.in_err-count.field-0.0 = search rules in
     subst (λ r. Shows g.K.Sink.written g.K.Sink.faults c.args.sink.now c.args.sink.now c.args.out.now c.args.out.now drawn texts.segments_text r) (sym is)

@@ -1,5 +1,5 @@
 use Rattle.std.proofs.Common.{Ok, subst}
-use Rattle.lsys_out.specs.Drawings.{IsNext, drawing, last_drawing}
+use Rattle.lsys_out.specs.Drawings.{IsNextSegment, drawing, last_drawing}
 use Rattle.lsys_out.proofs.Surveying.{surveying_all}
 use Rattle.lsys_out.proofs.survey.survey_picture.Goals as goal
 
@@ -9,4 +9,4 @@ returns-clause-surveyed g c =
     let now = drawing l c.loop-way.way c.loop-way.turtle.turtle in
     let next = drawing l c.next.new.self c.next.new.turtle.turtle in
     surveying_all l (last_drawing l c.args.system.now (g.W.LevelView.levels c.args.view.now)) now c.loop-way.survey c.loop-way.invariant.so_far
-    (subst (λ o. IsNext now next (Ok o)) c.in_default.is c.in_ok-segment.ensures.next)
+    (subst (λ o. IsNextSegment now next (Ok o)) c.in_default.is c.in_ok-segment.ensures.next)

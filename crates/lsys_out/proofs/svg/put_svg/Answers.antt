@@ -2,7 +2,7 @@ use Rattle.std.proofs.Common.{◌≡◌, ◌++◌, Ok, ap, codes, subst, sym, �
 use Rattle.std.specs.Prelude.{flat_map}
 use Rattle.lsys_turtle.specs.Ways.{segment_of}
 use Rattle.lsys_out.specs.Boxes.{box_of}
-use Rattle.lsys_out.specs.Drawings.{Drawing, IsNext, drawing, last_drawing, with_first}
+use Rattle.lsys_out.specs.Drawings.{Drawing, IsNextSegment, drawing, last_drawing, with_first}
 use Rattle.lsys_out.specs.Lines.{drawn_line}
 use Rattle.lsys_out.proofs.Resting.{rests_failed, rests_same, rests_then, rests_whole}
 use Rattle.lsys_out.proofs.Texts.{lines-behind, svg-text}
@@ -31,7 +31,7 @@ returns-in_err-put_line-in-Ok-Some-clause-put g c =
     let l = g.T.Lattice.shape in
     let now = drawing l c.segments.way c.segments.turtle.turtle in
     let next = drawing l c.next.new.self c.next.new.turtle.turtle in
-    let first : now ≡ with_first (segment_of c.in-Ok-Some.segment) next = subst (λ o. IsNext now next (Ok o)) c.in-Ok-Some.field-0-is c.in-Ok-Some.ensures.next in
+    let first : now ≡ with_first (segment_of c.in-Ok-Some.segment) next = subst (λ o. IsNextSegment now next (Ok o)) c.in-Ok-Some.field-0-is c.in-Ok-Some.ensures.next in
     rests_failed (flat_map (drawn_line l) next.segments ++ codes "</svg>\n") c.from_residual-in_err-put_line-in-Ok-Some.ensures.0
     (rests_same (lines-behind l now (segment_of c.in-Ok-Some.segment) next first) c.segments.invariant.rests) c.in_err-put_line-in-Ok-Some.ensures
 
@@ -40,7 +40,7 @@ segments-preserved g c =
     let l = g.T.Lattice.shape in
     let now = drawing l c.segments.way c.segments.turtle.turtle in
     let next = drawing l c.next.new.self c.next.new.turtle.turtle in
-    let first : now ≡ with_first (segment_of c.in-Ok-Some.segment) next = subst (λ o. IsNext now next (Ok o)) c.in-Ok-Some.field-0-is c.in-Ok-Some.ensures.next in
+    let first : now ≡ with_first (segment_of c.in-Ok-Some.segment) next = subst (λ o. IsNextSegment now next (Ok o)) c.in-Ok-Some.field-0-is c.in-Ok-Some.ensures.next in
     record {
       rests = rests_then (rests_same (lines-behind l now (segment_of c.in-Ok-Some.segment) next first) c.segments.invariant.rests) c.in_ok-put_line-in-Ok-Some.ensures;
       drawn = ap (λ (d : Drawing). d.refusal) (sym first) ∙ c.segments.invariant.drawn;

@@ -5,7 +5,7 @@ use Rattle.lsys_match.specs.Kept.{Kept}
 use Rattle.lsys_forest.specs.Nodes.{Nodes}
 use Rattle.lsys_forest.specs.Answers.{answers}
 use Rattle.lsys_forest.specs.Groves.{now_of}
-use Rattle.lsys_brood.specs.Children.{Told}
+use Rattle.lsys_brood.specs.Children.{ToldNodes}
 use Rattle.lsys_repair.specs.Nexts.{wanted_count}
 use Rattle.lsys_repair.specs.Renewals.{AreSmall, AreAllUnder}
 use Rattle.lsys_repair.specs.declared.count.Count.{Count}
@@ -48,7 +48,7 @@ returns-clause-made g c =
       old = e.now i;
       root = e.root i;
     })
-    (c.reserve_for.ensures.told ∙ ap (λ (t : Told). record t { room = c.reserve_for.new.told.room }) c.new-told.ensures)
+    (c.reserve_for.ensures.told ∙ ap (λ (t : ToldNodes). record t { room = c.reserve_for.new.told.room }) c.new-told.ensures)
     (record { children = c.in_ok-make_first.ensures.children; tells = c.in_ok-make_first.ensures.told; gone = c.in_ok-make_first.ensures.gone; within = within })
     c.axiom.ensures.well.1
   where

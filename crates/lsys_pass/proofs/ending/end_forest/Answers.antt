@@ -1,5 +1,6 @@
 use Rattle.std.proofs.Common.{sym, ◌∙◌, subst}
-use Rattle.lsys_forest.specs.Groves.{In, AreApart, now_of, changes_in}
+use Rattle.lsys_spec.specs.Rows.{In, AreApart}
+use Rattle.lsys_forest.specs.Groves.{now_of, changes_in}
 use Rattle.lsys_forest.proofs.RowLemmas.{level_apart}
 use Rattle.lsys_front.proofs.Losing.{loses_none}
 use Rattle.lsys_pass.proofs.Ended.{level_lives, all_live}

@@ -1,5 +1,5 @@
 use Rattle.std.proofs.Common.{ap, ◌∙◌}
-use Rattle.lsys_brood.specs.Children.{Told}
+use Rattle.lsys_brood.specs.Children.{ToldNodes}
 use Rattle.lsys_pass.proofs.Births.{roomy_is_sound, roomy_parents, room_for, keeps_roomy, keeps_made, makes_below}
 use Rattle.lsys_pass.proofs.level.make_below.Goals as goal
 
@@ -26,8 +26,8 @@ returns-clause-made g c =
     let e = c.reserve_for.ensures.told in
     let n = c.new-told.ensures in
     makes_below _ _ c.reserve_for.ensures.nodes _ _ _ c.args.parents.now c.reserve_for.new.told _ c.lineage.ensures
-    (ap (λ (t : Told). t.touched) e ∙ ap (λ (t : Told). t.touched) n) (ap (λ (t : Told). t.changed) e ∙ ap (λ (t : Told). t.changed) n)
-    (ap (λ (t : Told). t.added) e ∙ ap (λ (t : Told). t.added) n) (ap (λ (t : Told). t.gone) e ∙ ap (λ (t : Told). t.gone) n)
+    (ap (λ (t : ToldNodes). t.touched) e ∙ ap (λ (t : ToldNodes). t.touched) n) (ap (λ (t : ToldNodes). t.changed) e ∙ ap (λ (t : ToldNodes). t.changed) n)
+    (ap (λ (t : ToldNodes). t.added) e ∙ ap (λ (t : ToldNodes). t.added) n) (ap (λ (t : ToldNodes). t.gone) e ∙ ap (λ (t : ToldNodes). t.gone) n)
     made.children made.told made.gone
 
 pub returns-clause-keeps : goal.returns-clause-keeps

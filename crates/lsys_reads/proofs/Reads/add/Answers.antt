@@ -1,7 +1,7 @@
 use Rattle.std.proofs.Common.{List, [], ◌∷◌, ◌++◌, sym, ap, subst, ◌∙◌}
 use Rattle.lsys_reads.specs.declared.Pair.{Pair}
 use Rattle.lsys_reads.specs.Rows.{Row}
-use Rattle.lsys_reads.specs.Relations.{IsSound}
+use Rattle.lsys_reads.specs.Relations.{AgreeBothWays}
 use Rattle.lsys_reads.proofs.ReadsLemmas.{sound_add, settled_stay, reserves_tags, reserves_rise}
 use Rattle.lsys_reads.proofs.Reads.add.Goals as goal
 
@@ -19,7 +19,7 @@ returns-in-Err-clause-settled c =
 pub invariant_of-self-2 : goal.invariant_of-self-2
 invariant_of-self-2 c =
     let pushed = c.in-Ok-push.ensures.items ∙ ap (λ (l : List Pair). l ++ record { reader = c.args.reader; seen = c.args.seen } ∷ []) c.reserve.ensures.items in (
-      subst (IsSound c.reserve-2.new.self c.reserve-3.new.self) (sym pushed)
+      subst (AgreeBothWays c.reserve-2.new.self c.reserve-3.new.self) (sym pushed)
           (sound_add c.self.inside.by_seen c.reserve-2.new.self c.self.inside.by_reader c.reserve-3.new.self c.self.inside.pending.items (record { reader = c.args.reader; seen = c.args.seen })
           c.in_ok-reserve-2.ensures.ok c.in-Ok.ensures.ok c.self.invariant.0),
       reserves_rise c.self.inside.by_seen c.reserve-2.new.self c.args.seen c.in_ok-reserve-2.ensures.ok c.self.invariant.1,

@@ -1,5 +1,5 @@
 use Rattle.std.proofs.Common.{◌≡◌, ◌++◌, ◌∷◌, [], length, sym, ap, subst, ◌∙◌, rules}
-use Rattle.lsys_reads.specs.Relations.{Relations, IsSound}
+use Rattle.lsys_reads.specs.Relations.{Relations, AgreeBothWays}
 use Rattle.lsys_reads.proofs.ReadsLemmas.{ForgetsDownTo, forgets_last, sound_forgets, forgets_all}
 use Rattle.lsys_reads.proofs.RowLemmas.{none_left}
 use Rattle.lsys_reads.proofs.Reads.forget.Goals as goal
@@ -17,7 +17,7 @@ invariant_of-self c =
     let none : length c.loop-reader.rest.now ≡ 0 = search rules in
     let empty = none_left c.loop-reader.rest.now none in
     let all = subst (ForgetsDownTo c.self.inside.by_seen c.self.inside.by_reader c.loop-reader.self-inside.by_seen c.loop-reader.self-inside.by_reader c.args.gone.now) empty c.loop-reader.invariant.0 in (
-      subst (IsSound c.loop-reader.self-inside.by_seen c.loop-reader.self-inside.by_reader) (sym c.loop-reader.invariant.1)
+      subst (AgreeBothWays c.loop-reader.self-inside.by_seen c.loop-reader.self-inside.by_reader) (sym c.loop-reader.invariant.1)
           (sound_forgets c.self.inside.by_seen c.self.inside.by_reader c.loop-reader.self-inside.by_seen c.loop-reader.self-inside.by_reader c.self.inside.pending.items c.args.gone.now c.self.invariant.0 all),
       all.rising_seen,
       all.rising_reader,

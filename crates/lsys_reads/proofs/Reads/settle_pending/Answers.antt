@@ -1,17 +1,17 @@
 use Rattle.std.proofs.Common.{ℕ, ◌<◌, List, map, sym, ap, subst, ◌∙◌}
 use Rattle.lsys_reads.specs.declared.Pair.{Pair}
-use Rattle.lsys_reads.specs.Relations.{seen_of, reader_of, times}
+use Rattle.lsys_reads.specs.Relations.{seen_tag, reader_of, occurrences}
 use Rattle.lsys_reads.proofs.ReadsLemmas.{times_pushed, settles_one}
 use Rattle.lsys_reads.proofs.Reads.settle_pending.Goals as goal
 
 pub put-requires : goal.put-requires
 put-requires c =
-    let owed = c.loop-pair.invariant.sound.owed_seen c.in-Some.pair.seen ∙ ap (λ (l : List Pair). times (map seen_of l) c.in-Some.pair.seen) c.in-Some.ensures.items in
-    subst (λ (n : ℕ). 0 < n) (sym owed) (times_pushed seen_of c.pop.new.self.items c.in-Some.pair)
+    let owed = c.loop-pair.invariant.sound.owed_seen c.in-Some.pair.seen ∙ ap (λ (l : List Pair). occurrences (map seen_tag l) c.in-Some.pair.seen) c.in-Some.ensures.items in
+    subst (λ (n : ℕ). 0 < n) (sym owed) (times_pushed seen_tag c.pop.new.self.items c.in-Some.pair)
 
 pub put-requires-in-Some : goal.put-requires-in-Some
 put-requires-in-Some c =
-    let owed = c.loop-pair.invariant.sound.owed_reader c.in-Some.pair.reader ∙ ap (λ (l : List Pair). times (map reader_of l) c.in-Some.pair.reader) c.in-Some.ensures.items in
+    let owed = c.loop-pair.invariant.sound.owed_reader c.in-Some.pair.reader ∙ ap (λ (l : List Pair). occurrences (map reader_of l) c.in-Some.pair.reader) c.in-Some.ensures.items in
     subst (λ (n : ℕ). 0 < n) (sym owed) (times_pushed reader_of c.pop.new.self.items c.in-Some.pair)
 
 pub loop-pair-preserved : goal.loop-pair-preserved

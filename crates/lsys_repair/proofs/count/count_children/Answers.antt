@@ -6,7 +6,7 @@ use Rattle.lsys_reading.specs.Commands.{numbering_of}
 use Rattle.lsys_brood.proofs.MatchLemmas.{take_next, take_whole}
 use Rattle.lsys_repair.specs.declared.count.Count.{Count}
 use Rattle.lsys_repair.specs.declared.parent.Parent.{Parent}
-use Rattle.lsys_repair.specs.Needs.{IsSmall, had_by, had_by_all, count_of, with_count}
+use Rattle.lsys_repair.specs.Needs.{IsBoundedCount, had_by, had_by_all, count_of_all, with_count}
 use Rattle.lsys_repair.proofs.Needs.{count_push, small_push}
 use Rattle.lsys_repair.proofs.Among.{parent_lives, parent_short}
 use Rattle.lsys_repair.proofs.count.count_children.Goals as goal
@@ -53,13 +53,13 @@ loop-parent-preserved g c =
     let sum : had_by_all m (take (i + 1) ps) ≡ had_by_all m (take i ps) + had_by m p = ap (had_by_all m) next ∙ sum_by_push (had_by m) (take i ps) p in
     record {
       count =
-          c.both-count.ensures ∙ ap (λ (x : Count). with_count x c.in_ok-one.one) c.loop-parent.invariant.count ∙ ap (with_count (count_of numbering m (take i ps))) one
-          ∙ sym (count_push numbering m (take i ps) p) ∙ ap (count_of numbering m) (sym next);
+          c.both-count.ensures ∙ ap (λ (x : Count). with_count x c.in_ok-one.one) c.loop-parent.invariant.count ∙ ap (with_count (count_of_all numbering m (take i ps))) one
+          ∙ sym (count_push numbering m (take i ps) p) ∙ ap (count_of_all numbering m) (sym next);
       small = small_push i (had_by_all m (take i ps)) (had_by_all m (take (i + 1) ps)) c.loop-parent.count c.in_ok-one.one c.both-count.result c.loop-parent.invariant.small c.in_ok-one.ensures.few c.both-count.ensures (omega (arith, sum, had));
     }
 
 pub returns-clause-count : goal.returns-clause-count
-returns-clause-count g c = c.loop-parent.invariant.count ∙ ap (count_of (numbering_of c.args.numbering) (now_of c.args.forest.now)) (take_whole c.args.parents.now c.loop-parent.parent-index c.loop-parent-test.false)
+returns-clause-count g c = c.loop-parent.invariant.count ∙ ap (count_of_all (numbering_of c.args.numbering) (now_of c.args.forest.now)) (take_whole c.args.parents.now c.loop-parent.parent-index c.loop-parent-test.false)
 
 pub returns-clause-few : goal.returns-clause-few
 returns-clause-few g c =
@@ -69,4 +69,4 @@ returns-clause-few g c =
     let end = c.loop-parent-test.false in
     let last : i ≤ length ps = c.loop-parent.auto.parent-index-end in
     let all : i ≡ length ps = omega (arith, end, last) in
-    subst (λ n. IsSmall n (had_by_all m ps) c.loop-parent.count) all (subst (λ (qs : List Parent). IsSmall i (had_by_all m qs) c.loop-parent.count) (take_whole ps i end) c.loop-parent.invariant.small)
+    subst (λ n. IsBoundedCount n (had_by_all m ps) c.loop-parent.count) all (subst (λ (qs : List Parent). IsBoundedCount i (had_by_all m qs) c.loop-parent.count) (take_whole ps i end) c.loop-parent.invariant.small)

@@ -1,7 +1,7 @@
 use Rattle.std.proofs.Common.{◌≡◌, List, Some, length, refl, ap, ◌∙◌, ◌++◌, subst, slice_get, arith}
 use Rattle.std.proofs.lemmas.Option.{slice_get_read}
+use Rattle.lsys_spec.specs.Rows.{mirrored}
 use Rattle.lsys_forest.specs.Groves.{Grove, now_of, live_nodes}
-use Rattle.lsys_forest.specs.Rows.{mirrored}
 use Rattle.lsys_match.specs.Kept.{Kept}
 use Rattle.lsys_reading.specs.Commands.{numbering_of}
 use Rattle.lsys_brood.specs.Children.{SpendsNeed}

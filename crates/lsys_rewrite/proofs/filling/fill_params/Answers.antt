@@ -6,7 +6,7 @@ use Rattle.lsys_spec.specs.Values.{value}
 use Rattle.lsys_spec.specs.Meaning.{filled_params}
 use Rattle.lsys_rewrite.proofs.Behind.{behind, drop_item}
 use Rattle.lsys_rewrite.proofs.Successors.{params_more}
-use Rattle.lsys_bodies.specs.Views.{tree_of}
+use Rattle.lsys_bodies.specs.Views.{tree_in}
 use Rattle.lsys_rewrite.proofs.filling.fill_params.Goals as goal
 
 pub loop-place-preserved : goal.loop-place-preserved
@@ -20,7 +20,7 @@ loop-place-preserved c =
     let told : Ok z ≡ value e.tree c.args.bound.now = search rules in
     record {
       told =
-          rw (kept, front) (sym (params_more (take i c.loop-place.values) e.tree (map tree_of (drop (i + 1) c.args.params.now)) c.args.bound.now z told)
-          ∙ ap (λ es. behind (take i c.loop-place.values) (filled_params (map tree_of es) c.args.bound.now)) (sym rest) ∙ c.loop-place.invariant.told);
+          rw (kept, front) (sym (params_more (take i c.loop-place.values) e.tree (map tree_in (drop (i + 1) c.args.params.now)) c.args.bound.now z told)
+          ∙ ap (λ es. behind (take i c.loop-place.values) (filled_params (map tree_in es) c.args.bound.now)) (sym rest) ∙ c.loop-place.invariant.told);
       places = grind (arith, common_steps);
     }

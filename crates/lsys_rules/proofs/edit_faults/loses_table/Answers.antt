@@ -1,14 +1,14 @@
 use Rattle.std.proofs.Common.{◌≡◌, ◌∙◌, ◌||◌, ◌+◌, Bool, List, ℕ, not, true, false, ap, sym, drop, map}
 use Rattle.lsys_spec.specs.Systems.{any, is_table, tables}
 use Rattle.lsys_spec.specs.Edits.{without_rule}
-use Rattle.lsys_bodies.specs.Views.{production_of}
+use Rattle.lsys_bodies.specs.Views.{as_production}
 use Rattle.lsys_rules.proofs.Kept.{table_left}
 use Rattle.lsys_rules.proofs.Searches.{any_at}
 use Rattle.lsys_rules.proofs.edit_faults.loses_table.Goals as goal
 
 pub returns-then-is_lost : goal.returns-then-is_lost
 returns-then-is_lost c =
-    let rules = map production_of c.args.rules.now in
+    let rules = map as_production c.args.rules.now in
     let lost : List ℕ → Bool = λ w. not (is_table (tables (without_rule c.args.label rules)) w) in
     let word = c.word-item.result in
     let rest = any lost (drop (c.loop-word.word-index + 1) c.args.words.now) in
@@ -17,7 +17,7 @@ returns-then-is_lost c =
 
 pub loop-word-preserved : goal.loop-word-preserved
 loop-word-preserved c =
-    let rules = map production_of c.args.rules.now in
+    let rules = map as_production c.args.rules.now in
     let lost : List ℕ → Bool = λ w. not (is_table (tables (without_rule c.args.label rules)) w) in
     let word = c.word-item.result in
     let rest = any lost (drop (c.loop-word.word-index + 1) c.args.words.now) in

@@ -1,7 +1,7 @@
 use Rattle.std.proofs.Common.{◌≡◌, ◌∙◌, ◌+◌, ap, sym, refl, arith, length, bytes_eq, nat_lt, true, false}
 use Rattle.lsys_spec.specs.Systems.{any}
 use Rattle.lsys_spec.specs.Edits.{put_hom}
-use Rattle.lsys_text.specs.Tokens.{kinds_of}
+use Rattle.lsys_text.specs.Tokens.{kind_row}
 use Rattle.lsys_bodies.specs.Building.{homomorphism_at}
 use Rattle.lsys_checks.proofs.WholeSearch.{rest-room}
 use Rattle.lsys_rules.proofs.Chains.{five_pairs, told_first, told_none}
@@ -9,7 +9,7 @@ use Rattle.lsys_rules.proofs.rule_faults.homomorphism_fault.Goals as goal
 
 pub own_fault-requires-clause-room : goal.own_fault-requires-clause-room
 own_fault-requires-clause-room c =
-    let all = rest-room 3 (kinds_of c.args.tokens.now) c.args.labeled.now.rule c.args.names.now c.requires.names in
+    let all = rest-room 3 (kind_row c.args.tokens.now) c.args.labeled.now.rule c.args.names.now c.requires.names in
     omega (arith, all, c.requires.room)
 
 pub returns-in-Some : goal.returns-in-Some
@@ -25,7 +25,7 @@ returns-then-has_rule c =
 pub returns-then-makes_many_homs : goal.returns-then-makes_many_homs
 returns-then-makes_many_homs c =
     let s = c.args.system.now in
-    let h = homomorphism_at (kinds_of c.args.tokens.now) c.args.labeled.now in
+    let h = homomorphism_at (kind_row c.args.tokens.now) c.args.labeled.now in
     let has : false ≡ any (λ q. bytes_eq q.label h.label) s.rules =
     sym c.if-has_rule.false ∙ c.has_rule.ensures ∙ ap (any (λ q. bytes_eq q.label h.label)) c.rules.ensures.rules in
     let many : true ≡ nat_lt 256 (length s.rules + length (put_hom h s.homomorphisms)) = sym c.if-makes_many_homs.true ∙ c.makes_many_homs.ensures h refl in
@@ -34,7 +34,7 @@ returns-then-makes_many_homs c =
 pub returns : goal.returns
 returns c =
     let s = c.args.system.now in
-    let ks = kinds_of c.args.tokens.now in
+    let ks = kind_row c.args.tokens.now in
     let h = homomorphism_at ks c.args.labeled.now in
     let has : false ≡ any (λ q. bytes_eq q.label h.label) s.rules =
     sym c.if-has_rule.false ∙ c.has_rule.ensures ∙ ap (any (λ q. bytes_eq q.label h.label)) c.rules.ensures.rules in

@@ -3,8 +3,8 @@ use Rattle.std.proofs.lemmas.List.{take_all}
 use Rattle.lsys_io.proofs.Puts.{puts_nothing, puts_then, puts_failed}
 use Rattle.lsys_spec.specs.Shown.{as_put, script_of}
 use Rattle.lsys_bodies.specs.declared.rule.Rule.{Rule}
-use Rattle.lsys_bodies.specs.Views.{production_of}
-use Rattle.lsys_rules.specs.Showing.{line_of}
+use Rattle.lsys_bodies.specs.Views.{as_production}
+use Rattle.lsys_rules.specs.Showing.{script_line}
 use Rattle.lsys_rules.proofs.ShownTexts.{gathered-step, gathered-rest, script_gathers}
 use Rattle.lsys_rules.proofs.script.put_rules.Goals as goal
 
@@ -13,15 +13,15 @@ loop-rule-init g c = record { put = puts_nothing }
 
 pub loop-rule-preserved : goal.loop-rule-preserved
 loop-rule-preserved g c = record {
-  put = rw (gathered-step (λ (xs : List Rule). script_of (map as_put (map production_of xs))) (λ (r : Rule). line_of (as_put (production_of r))) (script_gathers as_put production_of) c.args.rules.now c.loop-rule.rule-index c.rule-item.result c.loop-rule-test.true c.rule-item.is) (puts_then c.loop-rule.invariant.put c.in_ok-put_rule.ensures);
+  put = rw (gathered-step (λ (xs : List Rule). script_of (map as_put (map as_production xs))) (λ (r : Rule). script_line (as_put (as_production r))) (script_gathers as_put as_production) c.args.rules.now c.loop-rule.rule-index c.rule-item.result c.loop-rule-test.true c.rule-item.is) (puts_then c.loop-rule.invariant.put c.in_ok-put_rule.ensures);
 }
 
 pub returns-in_err-put_rule : goal.returns-in_err-put_rule
 returns-in_err-put_rule g c =
     let items = c.args.rules.now in
     let i = c.loop-rule.rule-index in
-    rw (gathered-rest (λ (xs : List Rule). script_of (map as_put (map production_of xs))) (λ (r : Rule). line_of (as_put (production_of r))) (script_gathers as_put production_of) items (i + 1), gathered-step (λ (xs : List Rule). script_of (map as_put (map production_of xs))) (λ (r : Rule). line_of (as_put (production_of r))) (script_gathers as_put production_of) items i c.rule-item.result c.loop-rule-test.true c.rule-item.is)
-    (puts_failed ((λ (xs : List Rule). script_of (map as_put (map production_of xs))) (drop (i + 1) items)) c.from_residual.ensures.0 (puts_then c.loop-rule.invariant.put c.in_err-put_rule.ensures))
+    rw (gathered-rest (λ (xs : List Rule). script_of (map as_put (map as_production xs))) (λ (r : Rule). script_line (as_put (as_production r))) (script_gathers as_put as_production) items (i + 1), gathered-step (λ (xs : List Rule). script_of (map as_put (map as_production xs))) (λ (r : Rule). script_line (as_put (as_production r))) (script_gathers as_put as_production) items i c.rule-item.result c.loop-rule-test.true c.rule-item.is)
+    (puts_failed ((λ (xs : List Rule). script_of (map as_put (map as_production xs))) (drop (i + 1) items)) c.from_residual.ensures.0 (puts_then c.loop-rule.invariant.put c.in_err-put_rule.ensures))
 
 pub returns : goal.returns
 returns g c = rw (← take_all c.loop-rule.rule-index c.args.rules.now c.loop-rule-test.false) c.loop-rule.invariant.put

@@ -13,4 +13,4 @@ returns-in_err-put g c =
 
 pub returns : goal.returns
 returns g c =
-    rw (right-text (map item_symbol c.args.items.now) (some_symbols item_symbol c.args.items.now (no_items c.is_empty.result _ c.is_empty.ensures c.if-is_empty.false))) (puts_then c.in_ok-put.ensures (c.put_items.ensures))
+    rw (right-text (map item_symbol c.args.items.now) (some_symbols item_symbol c.args.items.now (no_items c.is_empty.result _ c.is_empty.ensures c.if-is_empty.false))) (puts_then c.in_ok-put.ensures (c.put_symbols.ensures))

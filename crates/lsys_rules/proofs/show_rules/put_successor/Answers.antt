@@ -13,4 +13,4 @@ returns-in_err-put g c =
 
 pub returns : goal.returns
 returns g c =
-    rw (successor-text (map template_symbol c.args.templates.now) (some_symbols template_symbol c.args.templates.now (no_items c.is_empty.result _ c.is_empty.ensures c.if-is_empty.false))) (puts_then c.in_ok-put.ensures (c.put_templates.ensures))
+    rw (successor-text (map template_symbol c.args.templates.now) (some_symbols template_symbol c.args.templates.now (no_items c.is_empty.result _ c.is_empty.ensures c.if-is_empty.false))) (puts_then c.in_ok-put.ensures (c.put_symbols.ensures))

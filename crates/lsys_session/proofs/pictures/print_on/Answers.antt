@@ -1,13 +1,13 @@
 use Rattle.std.proofs.Common.{Ok, Err, [], refl, ◌∙◌}
 use Rattle.lsys_spec.specs.Pictures.{picture}
-use Rattle.lsys_out.specs.Drawings.{last_level}
+use Rattle.lsys_out.specs.Drawings.{last_symbols}
 use Rattle.lsys_out.specs.declared.refusal.PictureRefusal.TheVariants as refusals
 use Rattle.lsys_session.proofs.Querying.{shows_own, picture_printed, picture_has_no_image, picture_goes_far, picture_failed}
 use Rattle.lsys_session.proofs.pictures.print_on.Goals as goal
 
 pub returns-in-Ok-put_picture : goal.returns-in-Ok-put_picture
 returns-in-Ok-put_picture g c = λ naming.
-    let x = last_level naming c.args.system.now (g.W.LevelView.levels c.args.view.now) in
+    let x = last_symbols naming c.args.system.now (g.W.LevelView.levels c.args.view.now) in
     picture_printed g.K.Sink.written g.K.Sink.faults c.args.sink.now c.end_print.new.sink c.end_print.new.out c.args.kind c.args.system.now (picture c.args.system.now x) c.end_print.result
     (shows_own g.K.Sink.written g.K.Sink.faults c.args.sink.now c.put_picture.new.sink [] c.put_picture.new.out c.args.kind g.T.Lattice.shape c.args.system.now x (Ok tt) c.requires.lattice (rw c.requires.empty at (c.in-Ok-put_picture.ensures naming)))
     c.end_print.ensures.put c.end_print.ensures.empty c.end_print.ensures.outcome
@@ -17,7 +17,7 @@ refuse_image-requires g c = (rw c.in-Err-Image.field-0-is at (c.in-Err-Image.ens
 
 pub returns-in-Err-Image : goal.returns-in-Err-Image
 returns-in-Err-Image g c = λ naming.
-    let x = last_level naming c.args.system.now (g.W.LevelView.levels c.args.view.now) in
+    let x = last_symbols naming c.args.system.now (g.W.LevelView.levels c.args.view.now) in
     picture_has_no_image g.K.Sink.written g.K.Sink.faults c.args.sink.now c.refuse_image.new.sink c.refuse_image.new.out c.args.kind c.args.system.now (picture c.args.system.now x) c.refuse_image.result c.in-Err-Image.refusal
     (shows_own g.K.Sink.written g.K.Sink.faults c.args.sink.now c.put_picture.new.sink [] c.put_picture.new.out c.args.kind g.T.Lattice.shape c.args.system.now x (Err (refusals.Image c.in-Err-Image.refusal)) c.requires.lattice (rw (c.in-Err-Image.field-0-is, c.requires.empty) at (c.in-Err-Image.ensures naming)))
     c.refuse_image.ensures
@@ -27,14 +27,14 @@ refuse_far-requires g c = (rw c.in-Err-Far.field-0-is at (c.in-Err-Far.ensures (
 
 pub returns-in-Err-Far : goal.returns-in-Err-Far
 returns-in-Err-Far g c = λ naming.
-    let x = last_level naming c.args.system.now (g.W.LevelView.levels c.args.view.now) in
+    let x = last_symbols naming c.args.system.now (g.W.LevelView.levels c.args.view.now) in
     picture_goes_far g.K.Sink.written g.K.Sink.faults c.args.sink.now c.refuse_far.new.sink c.refuse_far.new.out c.args.kind c.args.system.now (picture c.args.system.now x) c.refuse_far.result c.in-Err-Far.«module»
     (shows_own g.K.Sink.written g.K.Sink.faults c.args.sink.now c.put_picture.new.sink [] c.put_picture.new.out c.args.kind g.T.Lattice.shape c.args.system.now x (Err (refusals.Far c.in-Err-Far.«module»)) c.requires.lattice (rw (c.in-Err-Far.field-0-is, c.requires.empty) at (c.in-Err-Far.ensures naming)))
     c.refuse_far.ensures
 
 pub returns : goal.returns
 returns g c = λ naming.
-    let x = last_level naming c.args.system.now (g.W.LevelView.levels c.args.view.now) in
+    let x = last_symbols naming c.args.system.now (g.W.LevelView.levels c.args.view.now) in
     picture_failed g.K.Sink.written g.K.Sink.faults c.args.sink.now c.put_picture.new.sink c.put_picture.new.out c.args.kind c.args.system.now (picture c.args.system.now x) (Err (record {}))
     (shows_own g.K.Sink.written g.K.Sink.faults c.args.sink.now c.put_picture.new.sink [] c.put_picture.new.out c.args.kind g.T.Lattice.shape c.args.system.now x (Err refusals.Failed) c.requires.lattice (rw (c.in-Err-Failed.field-0-is, c.requires.empty) at (c.in-Err-Failed.ensures naming)))
     refl

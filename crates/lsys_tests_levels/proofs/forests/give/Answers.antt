@@ -1,6 +1,6 @@
 use Rattle.std.proofs.Common.{◌≡◌, Some, sym, ap, ◌∙◌, subst}
 use Rattle.std.specs.Prelude.{IsSome}
-use Rattle.lsys_forest.specs.Nodes.{Nodes, put, with_kids}
+use Rattle.lsys_forest.specs.Nodes.{Nodes, with_node, with_kids}
 use Rattle.lsys_forest.specs.Groves.{now_of}
 use Rattle.lsys_forest.proofs.SoundLemmas.{some_of}
 use Rattle.lsys_tests_levels.specs.declared.forests.Mark.{Mark}
@@ -17,4 +17,4 @@ returns-clause-root c =
 pub returns-clause-set : goal.returns-clause-set
 returns-clause-set c = λ n is.
     let e = (c.set_children.ensures.set n (ap (λ (m : Nodes Mark). m c.args.node) c.reserve.ensures.now ∙ is)).now in
-    subst (λ (m : Nodes Mark). now_of c.set_children.new.self ≡ put m c.args.node (Some (with_kids c.args.kids.now n))) c.reserve.ensures.now e
+    subst (λ (m : Nodes Mark). now_of c.set_children.new.self ≡ with_node m c.args.node (Some (with_kids c.args.kids.now n))) c.reserve.ensures.now e

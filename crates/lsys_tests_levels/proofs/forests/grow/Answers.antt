@@ -1,7 +1,7 @@
 use Rattle.std.proofs.Common.{◌≡◌, ◌+◌, [], Some, None, sym, ap, ◌∙◌, subst}
 use Rattle.std.specs.Prelude.{IsSome}
 use Rattle.lsys_level.specs.Places.{seen_in}
-use Rattle.lsys_forest.specs.Nodes.{Nodes, put}
+use Rattle.lsys_forest.specs.Nodes.{Nodes, with_node}
 use Rattle.lsys_forest.specs.Groves.{now_of}
 use Rattle.lsys_forest.proofs.SoundLemmas.{some_of}
 use Rattle.lsys_tests_levels.specs.declared.forests.Mark.{Mark}
@@ -21,7 +21,7 @@ returns-clause-fresh c = ap (λ (m : Nodes Mark). m c.add.result) (sym c.reserve
 pub returns-clause-added : goal.returns-clause-added
 returns-clause-added c = λ p is.
     let e = (c.add.ensures.added p (ap (λ (m : Nodes Mark). m c.args.parent) c.reserve.ensures.now ∙ is)).now in
-    subst (λ (m : Nodes Mark). now_of c.add.new.self ≡ put m c.add.result (Some (record {
+    subst (λ (m : Nodes Mark). now_of c.add.new.self ≡ with_node m c.add.result (Some (record {
       parent = c.args.parent;
       code = 0;
       count = c.args.count;

@@ -1,8 +1,9 @@
 use Rattle.std.proofs.Common.{◌≡◌, ◌+◌, ◌<◌, [], ◌∷◌, Some, length, take, refl, sym, ap, ◌∙◌, subst, arith}
 use Rattle.std.specs.Prelude.{IsSome}
 use Rattle.std.proofs.lemmas.Option.{none-some}
-use Rattle.lsys_forest.specs.Nodes.{Node, Nodes, put, with_kids, root_node}
-use Rattle.lsys_forest.specs.Groves.{AreApart, now_of, AreKids}
+use Rattle.lsys_spec.specs.Rows.{AreApart}
+use Rattle.lsys_forest.specs.Nodes.{Node, Nodes, with_node, with_kids, root_node}
+use Rattle.lsys_forest.specs.Groves.{now_of, AreKids}
 use Rattle.lsys_forest.specs.Rows.{complete_levels}
 use Rattle.lsys_forest.proofs.StockLemmas.{put_other}
 use Rattle.lsys_tests_levels.specs.declared.forests.Mark.{Mark}
@@ -55,7 +56,7 @@ loop-at-init c =
     let all = take_whole xs c.loop-place.place c.loop-place-test.false in
     let grown = subst (AreGrown m root c.loop-place.parents.items) all was.grown in
     let top : Node Mark = root_node root in
-    let set : m' ≡ put m root (Some (with_kids c.loop-place.parents.items top)) = subst (λ l. m' ≡ put m root (Some (with_kids l top))) c.deref.ensures.value (e.set top was.alone) in
+    let set : m' ≡ with_node m root (Some (with_kids c.loop-place.parents.items top)) = subst (λ l. m' ≡ with_node m root (Some (with_kids l top))) c.deref.ensures.value (e.set top was.alone) in
     record {
       half = subst (λ r. IsHalf m' r c.loop-place.parents.items xs 1) (sym (e.root ∙ was.root_is)) (half_start m m' root c.loop-place.parents.items xs top grown was.apart set c.requires.some);
       long = grown_long m root c.loop-place.parents.items xs grown;

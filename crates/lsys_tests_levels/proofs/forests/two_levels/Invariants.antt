@@ -1,6 +1,7 @@
 use Rattle.std.proofs.Common.{◌≡◌, ◌+◌, ◌<◌, ◌≤◌, Some, length, take}
+use Rattle.lsys_spec.specs.Rows.{AreApart}
 use Rattle.lsys_forest.specs.Nodes.{root_node}
-use Rattle.lsys_forest.specs.Groves.{AreApart, now_of, live_nodes}
+use Rattle.lsys_forest.specs.Groves.{now_of, live_nodes}
 use Rattle.lsys_tests_levels.proofs.Grown.{AreGrown, IsHalf}
 use Rattle.lsys_tests_levels.proofs.forests.two_levels.Given as goal
 

@@ -2,7 +2,7 @@ use Rattle.std.proofs.Common.{◌≡◌, sym, ap, ◌∙◌, subst}
 use Rattle.lsys_syntax.specs.Commands.{put_production}
 use Rattle.lsys_syntax.specs.LineMachine.{verdict, sentence}
 use Rattle.lsys_syntax.proofs.LineSound.{sentence-spelled}
-use Rattle.lsys_text.specs.Tokens.{kinds_of}
+use Rattle.lsys_text.specs.Tokens.{kind_row}
 use Rattle.lsys_text.proofs.LineTokens.{line-forms}
 use Rattle.lsys_reading.specs.Commands.{parts_command}
 use Rattle.lsys_reading.specs.RuleLines.{rule_at}
@@ -17,9 +17,9 @@ pub build_rule-requires-clause-checked : goal.build_rule-requires-clause-checked
 build_rule-requires-clause-checked c =
     let command = c.in-Ok-parse_command.command in
     let labeled = c.in-Production.labeled in
-    let ks = kinds_of command in
+    let ks = kind_row command in
     let spelled : verdict ks ≡ sentence (put_production labeled.table labeled.label (rule_at ks labeled.rule)) =
     c.parts.ensures.spelled ∙ ap (λ p. sentence (parts_command ks p)) c.in-Production.is in
     let is = sentence-spelled ks (put_production labeled.table labeled.label (rule_at ks labeled.rule)) c.tokens-2.ensures.forms spelled in
     let can : CanBuild (rule_at ks labeled.rule) = c.is_bare.ensures ks is.1.2 c.if-not-is_bare.false in
-    subst (λ ts. CanBuild (rule_at (kinds_of ts) labeled.rule)) (sym c.tokens-2.ensures.tokens) can
+    subst (λ ts. CanBuild (rule_at (kind_row ts) labeled.rule)) (sym c.tokens-2.ensures.tokens) can

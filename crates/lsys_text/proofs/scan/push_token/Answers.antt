@@ -6,7 +6,7 @@ use Rattle.std.proofs.lemmas.List.{map-append}
 use Rattle.std.proofs.Common.{ℕ, ◌+◌, length, length-drop, ◌≤◌}
 use Rattle.std.proofs.lemmas.List.Elements.{All-push}
 use Rattle.lsys_syntax.specs.Tokens.{is_blank}
-use Rattle.lsys_text.specs.Tokens.{token_of, kind_of, HasMarkByte, IsWithin}
+use Rattle.lsys_text.specs.Tokens.{token_of, kind_of, HasMarkByte, LiesInLine}
 use Rattle.lsys_text.specs.Scans.{mode_of, lexeme_of, first_token}
 use Rattle.lsys_text.proofs.Fronts.{part-from}
 use Rattle.lsys_text.proofs.Reading.{step-end, step-none, step-token, same-reading}
@@ -49,4 +49,4 @@ returns-in_ok-push_lexeme-in-Some-clause-places c =
     let start : ℕ = c.args.cursor.place + c.blanks_len.result in
     let end : start + 1 + c.in-Some.lexeme.more ≤ length c.args.line.now =
     omega (arith, lexeme.within, ap length (part-from start c.args.line.now), length-drop start c.args.line.now) in
-    subst (All (IsWithin (length c.args.line.now))) (sym told.added) (All-push (IsWithin (length c.args.line.now)) c.args.found.now.items _ c.requires.places (omega arith, end))
+    subst (All (LiesInLine (length c.args.line.now))) (sym told.added) (All-push (LiesInLine (length c.args.line.now)) c.args.found.now.items _ c.requires.places (omega arith, end))

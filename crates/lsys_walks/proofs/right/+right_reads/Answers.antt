@@ -1,260 +1,168 @@
-use Rattle.std.proofs.Common.{◌≡◌, ◌≢◌, ◌∷◌, [], ◌++◌, ◌+◌, ◌<◌, ◌≤◌, ℕ, List, length, map, take, true, false, Some, Ok, Err, IfOk, OnErr, refl, ap, sym, ◌∙◌, arith, rules, subst}
-use Rattle.std.specs.Prelude.{slice_get}
+use Rattle.std.proofs.Common.{◌≡◌, ◌∷◌, ◌++◌, ◌+◌, ◌≤◌, ℕ, List, [], length, take, Some, Ok, refl, ap, sym, ◌∙◌, arith, rules, subst}
 use Rattle.std.proofs.lemmas.List.{take_all, length-map}
-use Rattle.lsys_spec.specs.Levels as L
 use Rattle.lsys_spec.specs.Levels.{items_from}
-use Rattle.lsys_spec.specs.Bodies.{Done}
-use Rattle.lsys_spec.specs.Walks.{fits, right_walk}
 use Rattle.lsys_spec.specs.Meaning.{ignored_by, most_entries}
-use Rattle.lsys_module.specs.Views.{module_name}
-use Rattle.lsys_level.specs.Spots.{Push, Pop, Module, level_at, level_by}
-use Rattle.lsys_bodies.specs.declared.body.Item.TheVariants as items
+use Rattle.lsys_level.specs.Spots.{spots_at, level_by}
 use Rattle.lsys_walks.specs.declared.walked.Walked.TheVariants.{Found, Missed, TooFar}
-use Rattle.lsys_walks.specs.Noted.{Compared, Ignored, Branched, entry_by}
+use Rattle.lsys_walks.specs.Noted.{entry_by}
 use Rattle.lsys_bodies.specs.Filters.{filter_of}
-use Rattle.lsys_bodies.specs.Views.{pattern_of}
-use Rattle.lsys_walks.specs.Items.{patterns_from}
 use Rattle.lsys_walks.specs.Views.{mark_of}
-use Rattle.lsys_walks.specs.Walked.{Walks, ReadsFront, KeptInOrder}
-use Rattle.lsys_walks.proofs.Told.{es_of, on_err}
-use Rattle.lsys_walks.proofs.Items.{patterns_end, patterns_pop, patterns_branch}
-use Rattle.lsys_walks.proofs.Shown.{Shows, shows, Ended, ended, place_at, moved, stands, item_at}
-use Rattle.lsys_walks.proofs.Rights.{Walk, wants, one_wanted, branch_wanted, front_on, front_more, at_end, at_pop, at_push, at_ignored, at_compared, at_tried, at_unfit, at_push_one, walk_first, walk_on, walk_far, walk_misfit, walk_fit, walk_stops, walk_done, walk_found, walk_missed, walk_inner_far, walk_front, walk_front_on, walk_inner_front, right_on}
+use Rattle.lsys_walks.specs.Walked.{Walks, ReadsFront, inner_told, KeptInOrder}
+use Rattle.lsys_walks.proofs.Told.{es_of, on_err, kept_as, reads_nothing}
+use Rattle.lsys_walks.proofs.Meets.{few_passed, few_matched}
+use Rattle.lsys_walks.proofs.Shown.{Stands, seen_at, ended_at, stands_beside, place_at, moved_at, moved_to, stands_here, told_on, front_on_level, item_at}
+use Rattle.lsys_walks.proofs.Rights.{Walk, front_on, front_more, walk_first, walk_to, walk_passed, walk_matched, walk_ends, walk_met_front, walk_branch_far, walk_found, walk_missed, walk_inner_far, walk_inner_front, walk_out, walk_stops, walk_done, walk_front, inner_none, inner_push}
+use Rattle.lsys_walks.proofs.right.+right_reads.Given.{Over}
+use Rattle.lsys_walks.proofs.right.+right_reads.Goals.{right_reads-After-tag-tag}
 use Rattle.lsys_walks.proofs.right.+right_reads.Goals as goal
 
-pub loop-next-init : goal.loop-next-init
-loop-next-init g t c =
-    let m = moved (g.W.LevelView.levels c.args.view.now) (g.W.LevelView.level_of c.args.view.now) (g.W.LevelView.place_of c.args.view.now) (g.W.LevelView.level_of c.args.view.now c.args.spot) c.args.spot c.right-at.result refl c.right-at.ensures in
-    (m.0, omega arith, c.requires.first, c.requires.room, λ naming. walk_first (ignored_by (filter_of c.args.filter)) (mark_of c.args.mark) (level_at (g.W.LevelView.levels c.args.view.now) (g.W.LevelView.level_of c.args.view.now c.args.spot)) c.args.items.now naming c.args.first ((g.W.LevelView.place_of c.args.view.now c.args.spot) + 1) (place_at (g.W.LevelView.levels c.args.view.now) (g.W.LevelView.level_of c.args.view.now) (g.W.LevelView.place_of c.args.view.now) (g.W.LevelView.level_of c.args.view.now c.args.spot) c.right-at.result) c.args.trace.now.read c.args.bound.now.items m.1, take_all (length c.args.bound.now.items) c.args.bound.now.items (omega arith), refl, refl)
+-- the walk stands at this spot
+stands : (g : Over) (t : ℕ) (c : right_reads-After-tag-tag g t) → Stands (g.W.LevelView.levels c.args.view.now) (g.W.LevelView.level_of c.args.view.now) (g.W.LevelView.place_of c.args.view.now) (g.W.LevelView.level_of c.args.view.now c.args.spot) c.in-Some.here
+stands g t c = stands_here (g.W.LevelView.levels c.args.view.now) (g.W.LevelView.level_of c.args.view.now) (g.W.LevelView.place_of c.args.view.now) (g.W.LevelView.level_of c.args.view.now c.args.spot) c.loop-mark.at c.in-Some.here c.in-Some.is c.loop-mark.invariant.0
 
-pub returns-in-Pop-clause-told : goal.returns-in-Pop-clause-told
-returns-in-Pop-clause-told g t c =
-    let here : slice_get c.args.items.now c.loop-next.next ≡ Some c.index-items-next.result = item_at c.args.items.now c.loop-next.next c.index-items-next.result c.loop-next-test.true c.index-items-next.is in
-    λ naming. walk_done (ignored_by (filter_of c.args.filter)) (mark_of c.args.mark) (level_at (g.W.LevelView.levels c.args.view.now) (g.W.LevelView.level_of c.args.view.now c.args.spot)) c.args.items.now naming c.args.first ((g.W.LevelView.place_of c.args.view.now c.args.spot) + 1) c.loop-next.next (place_at (g.W.LevelView.levels c.args.view.now) (g.W.LevelView.level_of c.args.view.now) (g.W.LevelView.place_of c.args.view.now) (g.W.LevelView.level_of c.args.view.now c.args.spot) c.loop-next.at) most_entries c.args.trace.now.read c.loop-next.trace.read c.loop-next.trace.read c.args.bound.now.items c.loop-next.bound.items (c.loop-next.invariant.4 naming) c.loop-next.invariant.3 (patterns_pop c.args.items.now c.loop-next.next (here ∙ ap (λ i. Some i) c.in-Pop.is))
+walk_here : (g : Over) (t : ℕ) (c : right_reads-After-tag-tag g t) (naming : ℕ → List ℕ)
+    → Walk (ignored_by (filter_of c.args.filter)) (mark_of c.args.mark) (spots_at (g.W.LevelView.levels c.args.view.now) (g.W.LevelView.level_of c.args.view.now c.args.spot)) c.args.items.now naming c.args.first (g.W.LevelView.place_of c.args.view.now c.args.spot + 1)
+    c.loop-mark.next (g.W.LevelView.place_of c.args.view.now c.in-Some.here) c.args.trace.now.read c.loop-mark.trace.read c.args.bound.now.items c.loop-mark.bound.items
+walk_here g t c naming = walk_to _ _ _ _ naming (c.loop-mark.invariant.4 naming) (g.W.LevelView.place_of c.args.view.now c.in-Some.here) (sym (ap (place_at (g.W.LevelView.levels c.args.view.now) (g.W.LevelView.level_of c.args.view.now) (g.W.LevelView.place_of c.args.view.now) (g.W.LevelView.level_of c.args.view.now c.args.spot)) c.in-Some.is))
 
-pub returns-clause-told : goal.returns-clause-told
-returns-clause-told g t c =
-    λ naming. walk_done (ignored_by (filter_of c.args.filter)) (mark_of c.args.mark) (level_at (g.W.LevelView.levels c.args.view.now) (g.W.LevelView.level_of c.args.view.now c.args.spot)) c.args.items.now naming c.args.first ((g.W.LevelView.place_of c.args.view.now c.args.spot) + 1) c.loop-next.next (place_at (g.W.LevelView.levels c.args.view.now) (g.W.LevelView.level_of c.args.view.now) (g.W.LevelView.place_of c.args.view.now) (g.W.LevelView.level_of c.args.view.now c.args.spot) c.loop-next.at) most_entries c.args.trace.now.read c.loop-next.trace.read c.loop-next.trace.read c.args.bound.now.items c.loop-next.bound.items (c.loop-next.invariant.4 naming) c.loop-next.invariant.3 (patterns_end c.args.items.now c.loop-next.next c.loop-next-test.false)
+pub right_reads-loop-mark-init : goal.right_reads-loop-mark-init
+right_reads-loop-mark-init g t c =
+    let st : Stands (g.W.LevelView.levels c.args.view.now) (g.W.LevelView.level_of c.args.view.now) (g.W.LevelView.place_of c.args.view.now) (g.W.LevelView.level_of c.args.view.now c.args.spot) c.args.spot = record { on = refl; within = c.requires.spot } in (
+      moved_at st c.right-at.result c.right-at.ensures,
+      omega arith,
+      c.requires.first,
+      c.requires.room,
+      λ naming. walk_first _ _ _ _ naming c.args.first _ _ c.args.trace.now.read c.args.bound.now.items (moved_to st c.right-at.result c.right-at.ensures),
+      take_all (length c.args.bound.now.items) c.args.bound.now.items (omega arith),
+      refl,
+      refl,
+    )
 
-pub returns-in-None : goal.returns-in-None
-returns-in-None g t c =
-    let here : slice_get c.args.items.now c.loop-next.next ≡ Some c.index-items-next.result = item_at c.args.items.now c.loop-next.next c.index-items-next.result c.loop-next-test.true c.index-items-next.is in
-    let n : patterns_from c.args.items.now c.loop-next.next ≢ Done = wants (ignored_by (filter_of c.args.filter)) (mark_of c.args.mark) (level_at (g.W.LevelView.levels c.args.view.now) (g.W.LevelView.level_of c.args.view.now c.args.spot)) c.args.items.now c.loop-next.next c.index-items-next.result here c.in_default.not-Pop in
+pub right_reads-returns-clause-told : goal.right_reads-returns-clause-told
+right_reads-returns-clause-told g t c =
+    λ naming. walk_done _ _ _ _ naming (c.loop-mark.invariant.4 naming) c.loop-mark.invariant.3 (c.is_wanted.ensures.done c.loop-mark-test.false)
+
+pub right_reads-returns-in-None : goal.right_reads-returns-in-None
+right_reads-returns-in-None g t c =
     let e = ap (place_at (g.W.LevelView.levels c.args.view.now) (g.W.LevelView.level_of c.args.view.now) (g.W.LevelView.place_of c.args.view.now) (g.W.LevelView.level_of c.args.view.now c.args.spot)) c.in-None.is in
-    record { told = λ naming. walk_stops (ignored_by (filter_of c.args.filter)) (mark_of c.args.mark) (level_at (g.W.LevelView.levels c.args.view.now) (g.W.LevelView.level_of c.args.view.now c.args.spot)) c.args.items.now naming c.args.first ((g.W.LevelView.place_of c.args.view.now c.args.spot) + 1) c.loop-next.next (place_at (g.W.LevelView.levels c.args.view.now) (g.W.LevelView.level_of c.args.view.now) (g.W.LevelView.place_of c.args.view.now) (g.W.LevelView.level_of c.args.view.now c.args.spot) c.loop-next.at) most_entries c.args.trace.now.read c.loop-next.trace.read c.loop-next.trace.read c.args.bound.now.items c.loop-next.bound.items (KeptInOrder c.args.bound.now.items c.loop-next.bound.items) (c.loop-next.invariant.4 naming) c.loop-next.invariant.3 (at_end (ignored_by (filter_of c.args.filter)) (mark_of c.args.mark) (level_at (g.W.LevelView.levels c.args.view.now) (g.W.LevelView.level_of c.args.view.now c.args.spot)) c.args.items.now naming c.loop-next.next (place_at (g.W.LevelView.levels c.args.view.now) (g.W.LevelView.level_of c.args.view.now) (g.W.LevelView.place_of c.args.view.now) (g.W.LevelView.level_of c.args.view.now c.args.spot) c.loop-next.at) n (omega (arith, e))); refused = λ naming. tt; few = search rules; front = c.loop-next.invariant.5; counted = omega (arith, c.loop-next.invariant.6); same = search rules }
+    record { told = λ naming. walk_out _ _ _ _ naming (c.loop-mark.invariant.4 naming) c.loop-mark.invariant.3 (c.is_wanted.ensures.wanted c.loop-mark-test.true) (omega (arith, e)); refused = λ naming. tt; few = search rules; front = c.loop-mark.invariant.5; counted = omega (arith, c.loop-mark.invariant.6); same = search rules }
 
-pub returns-in-Pop-sight : goal.returns-in-Pop-sight
-returns-in-Pop-sight g t c =
-    let here : slice_get c.args.items.now c.loop-next.next ≡ Some c.index-items-next.result = item_at c.args.items.now c.loop-next.next c.index-items-next.result c.loop-next-test.true c.index-items-next.is in
-    let n : patterns_from c.args.items.now c.loop-next.next ≢ Done = wants (ignored_by (filter_of c.args.filter)) (mark_of c.args.mark) (level_at (g.W.LevelView.levels c.args.view.now) (g.W.LevelView.level_of c.args.view.now c.args.spot)) c.args.items.now c.loop-next.next c.index-items-next.result here c.in_default.not-Pop in
-    let st = stands (g.W.LevelView.levels c.args.view.now) (g.W.LevelView.level_of c.args.view.now) (g.W.LevelView.place_of c.args.view.now) (g.W.LevelView.level_of c.args.view.now c.args.spot) c.loop-next.at c.in-Some.here c.in-Some.is c.loop-next.invariant.0 in
-    let w : (naming : ℕ → List ℕ) → Walk (ignored_by (filter_of c.args.filter)) (mark_of c.args.mark) (level_at (g.W.LevelView.levels c.args.view.now) (g.W.LevelView.level_of c.args.view.now c.args.spot)) c.args.items.now naming c.args.first ((g.W.LevelView.place_of c.args.view.now c.args.spot) + 1) c.loop-next.next (g.W.LevelView.place_of c.args.view.now c.in-Some.here) c.args.trace.now.read c.loop-next.trace.read c.args.bound.now.items c.loop-next.bound.items = λ naming. subst (λ p. Walk (ignored_by (filter_of c.args.filter)) (mark_of c.args.mark) (level_at (g.W.LevelView.levels c.args.view.now) (g.W.LevelView.level_of c.args.view.now c.args.spot)) c.args.items.now naming c.args.first ((g.W.LevelView.place_of c.args.view.now c.args.spot) + 1) c.loop-next.next p c.args.trace.now.read c.loop-next.trace.read c.args.bound.now.items c.loop-next.bound.items) st.2 (c.loop-next.invariant.4 naming) in
-    let s : Shows (level_at (g.W.LevelView.levels c.args.view.now) (g.W.LevelView.level_of c.args.view.now c.args.spot)) (g.W.LevelView.place_of c.args.view.now c.in-Some.here) Pop c.tag-tag.result = shows (g.W.LevelView.levels c.args.view.now) (g.W.LevelView.level_of c.args.view.now c.in-Some.here) (g.W.LevelView.level_of c.args.view.now c.args.spot) (g.W.LevelView.place_of c.args.view.now c.in-Some.here) Pop c.tag-tag.result st.0 c.in-Pop-sight.ensures.seen c.tag-tag.ensures.tag in
-    record { told = λ naming. walk_stops (ignored_by (filter_of c.args.filter)) (mark_of c.args.mark) (level_at (g.W.LevelView.levels c.args.view.now) (g.W.LevelView.level_of c.args.view.now c.args.spot)) c.args.items.now naming c.args.first ((g.W.LevelView.place_of c.args.view.now c.args.spot) + 1) c.loop-next.next (g.W.LevelView.place_of c.args.view.now c.in-Some.here) most_entries c.args.trace.now.read c.loop-next.trace.read c.loop-next.trace.read c.args.bound.now.items c.loop-next.bound.items (KeptInOrder c.args.bound.now.items c.loop-next.bound.items) (w naming) c.loop-next.invariant.3 (at_pop (ignored_by (filter_of c.args.filter)) (mark_of c.args.mark) (level_at (g.W.LevelView.levels c.args.view.now) (g.W.LevelView.level_of c.args.view.now c.args.spot)) c.args.items.now naming c.loop-next.next (g.W.LevelView.place_of c.args.view.now c.in-Some.here) c.tag-tag.result n s); refused = λ naming. tt; few = search rules; front = c.loop-next.invariant.5; counted = omega (arith, c.loop-next.invariant.6); same = search rules }
+pub right_reads-returns-in-Pop : goal.right_reads-returns-in-Pop
+right_reads-returns-in-Pop g t c =
+    let st = stands g t (goal.at.right_reads-returns-in-Pop g t c).After-tag-tag in
+    let w = walk_here g t (goal.at.right_reads-returns-in-Pop g t c).After-tag-tag in
+    record { told = λ naming. walk_stops _ _ _ _ naming (w naming) _ c.loop-mark.invariant.3 (c.is_wanted.ensures.wanted c.loop-mark-test.true) (seen_at st c.in-Pop.ensures.seen c.tag-tag.ensures.tag); refused = λ naming. tt; few = search rules; front = c.loop-mark.invariant.5; counted = omega (arith, c.loop-mark.invariant.6); same = search rules }
 
-pub returns-then-branch : goal.returns-then-branch
-returns-then-branch g t c =
-    let here : slice_get c.args.items.now c.loop-next.next ≡ Some c.index-items-next.result = item_at c.args.items.now c.loop-next.next c.index-items-next.result c.loop-next-test.true c.index-items-next.is in
-    let n : patterns_from c.args.items.now c.loop-next.next ≢ Done = wants (ignored_by (filter_of c.args.filter)) (mark_of c.args.mark) (level_at (g.W.LevelView.levels c.args.view.now) (g.W.LevelView.level_of c.args.view.now c.args.spot)) c.args.items.now c.loop-next.next c.index-items-next.result here c.in_default.not-Pop in
-    let st = stands (g.W.LevelView.levels c.args.view.now) (g.W.LevelView.level_of c.args.view.now) (g.W.LevelView.place_of c.args.view.now) (g.W.LevelView.level_of c.args.view.now c.args.spot) c.loop-next.at c.in-Some.here c.in-Some.is c.loop-next.invariant.0 in
-    let w : (naming : ℕ → List ℕ) → Walk (ignored_by (filter_of c.args.filter)) (mark_of c.args.mark) (level_at (g.W.LevelView.levels c.args.view.now) (g.W.LevelView.level_of c.args.view.now c.args.spot)) c.args.items.now naming c.args.first ((g.W.LevelView.place_of c.args.view.now c.args.spot) + 1) c.loop-next.next (g.W.LevelView.place_of c.args.view.now c.in-Some.here) c.args.trace.now.read c.loop-next.trace.read c.args.bound.now.items c.loop-next.bound.items = λ naming. subst (λ p. Walk (ignored_by (filter_of c.args.filter)) (mark_of c.args.mark) (level_at (g.W.LevelView.levels c.args.view.now) (g.W.LevelView.level_of c.args.view.now c.args.spot)) c.args.items.now naming c.args.first ((g.W.LevelView.place_of c.args.view.now c.args.spot) + 1) c.loop-next.next p c.args.trace.now.read c.loop-next.trace.read c.args.bound.now.items c.loop-next.bound.items) st.2 (c.loop-next.invariant.4 naming) in
-    let s : Shows (level_at (g.W.LevelView.levels c.args.view.now) (g.W.LevelView.level_of c.args.view.now c.args.spot)) (g.W.LevelView.place_of c.args.view.now c.in-Some.here) Push c.tag-tag.result = shows (g.W.LevelView.levels c.args.view.now) (g.W.LevelView.level_of c.args.view.now c.in-Some.here) (g.W.LevelView.level_of c.args.view.now c.args.spot) (g.W.LevelView.place_of c.args.view.now c.in-Some.here) Push c.tag-tag.result st.0 c.in-Push.ensures.seen c.tag-tag.ensures.tag in
-    let m : Ended (level_at (g.W.LevelView.levels c.args.view.now) (g.W.LevelView.level_of c.args.view.now c.args.spot)) (g.W.LevelView.place_of c.args.view.now c.in-Some.here) (g.W.LevelView.place_of c.args.view.now c.mate-mate.result) c.tag.result = ended (g.W.LevelView.levels c.args.view.now) (g.W.LevelView.level_of c.args.view.now c.in-Some.here) (g.W.LevelView.level_of c.args.view.now c.mate-mate.result) (g.W.LevelView.level_of c.args.view.now c.args.spot) (g.W.LevelView.place_of c.args.view.now c.in-Some.here) (g.W.LevelView.place_of c.args.view.now c.mate-mate.result) c.tag.result st.0 c.mate-mate.ensures.level c.mate-mate.ensures.mate c.in-Push.ensures.seen c.tag.ensures.tag in
-    let a : c.note.new.self.read ≡ c.loop-next.trace.read ++ (Branched (mark_of c.args.mark) c.tag-tag.result c.tag.result) ∷ [] = c.in_ok-note-in-Push.ensures.added ∙ ap (λ n. c.loop-next.trace.read ++ n ∷ []) c.branch-mark.ensures.noted in
-    let l : most_entries < length c.note.new.self.read = search rules in
-    record { told = λ naming. walk_far (ignored_by (filter_of c.args.filter)) (mark_of c.args.mark) (level_at (g.W.LevelView.levels c.args.view.now) (g.W.LevelView.level_of c.args.view.now c.args.spot)) c.args.items.now naming c.args.first ((g.W.LevelView.place_of c.args.view.now c.args.spot) + 1) c.loop-next.next (g.W.LevelView.place_of c.args.view.now c.in-Some.here) most_entries c.args.trace.now.read c.loop-next.trace.read c.note.new.self.read c.args.bound.now.items c.loop-next.bound.items (KeptInOrder c.args.bound.now.items c.loop-next.bound.items) (Branched (mark_of c.args.mark) c.tag-tag.result c.tag.result) _ (w naming) a c.loop-next.invariant.3 l (at_push (ignored_by (filter_of c.args.filter)) (mark_of c.args.mark) (level_at (g.W.LevelView.levels c.args.view.now) (g.W.LevelView.level_of c.args.view.now c.args.spot)) c.args.items.now naming c.loop-next.next (g.W.LevelView.place_of c.args.view.now c.in-Some.here) (g.W.LevelView.place_of c.args.view.now c.mate-mate.result) c.tag-tag.result c.tag.result n s m); refused = λ naming. tt; few = search rules; front = c.loop-next.invariant.5; counted = omega (arith, c.note.ensures.counted, c.loop-next.invariant.6); same = search rules }
+pub right_reads-returns-then-branch : goal.right_reads-returns-then-branch
+right_reads-returns-then-branch g t c =
+    let st = stands g t (goal.at.right_reads-returns-then-branch g t c).After-tag-tag in
+    let w = walk_here g t (goal.at.right_reads-returns-then-branch g t c).After-tag-tag in
+    let m = ended_at st c.mate-mate.result c.mate-mate.ensures.level c.mate-mate.ensures.mate c.in-Push.ensures.seen c.tag.ensures.tag in
+    record { told = λ naming. walk_branch_far _ _ _ _ naming (w naming) (c.is_wanted.ensures.wanted c.loop-mark-test.true) (seen_at st c.in-Push.ensures.seen c.tag-tag.ensures.tag) m (c.in_ok-note-in-Push.ensures.added ∙ ap (λ n. c.loop-mark.trace.read ++ n ∷ []) c.branch-mark.ensures.noted) c.loop-mark.invariant.3 (search rules); refused = λ naming. tt; few = search rules; front = c.loop-mark.invariant.5; counted = omega (arith, c.note.ensures.counted, c.loop-mark.invariant.6); same = search rules }
 
-pub behind-next-requires : goal.behind-next-requires
-behind-next-requires g t c =
-    let here : slice_get c.args.items.now c.loop-next.next ≡ Some c.index-items-next.result = item_at c.args.items.now c.loop-next.next c.index-items-next.result c.loop-next-test.true c.index-items-next.is in
-    let push : slice_get c.args.items.now c.loop-next.next ≡ Some items.Push = here ∙ ap (λ i. Some i) c.in-Push-wanted.is in
-    push
+pub right_reads-returns-in-TooFar : goal.right_reads-returns-in-TooFar
+right_reads-returns-in-TooFar g t c =
+    let st = stands g t (goal.at.right_reads-returns-in-TooFar g t c).After-tag-tag in
+    let w = walk_here g t (goal.at.right_reads-returns-in-TooFar g t c).After-tag-tag in
+    let m = ended_at st c.mate-mate.result c.mate-mate.ensures.level c.mate-mate.ensures.mate c.in-Push.ensures.seen c.tag.ensures.tag in
+    let h = told_on st (inner_told c.args.filter c.args.mark c.args.items.now c.loop-mark.next (g.W.LevelView.place_of c.args.view.now c.in-Some.here)) c.note.new.self.read c.inner_reads.new.trace.read c.inner_reads.result (KeptInOrder c.loop-mark.bound.items c.inner_reads.new.bound.items) TooFar
+    (c.in_ok-inner_reads-in-Push.was ∙ ap (λ v. Ok v) c.in-TooFar.is) c.inner_reads.ensures.told in
+    record { told = λ naming. walk_inner_far _ _ _ _ naming (w naming) (c.is_wanted.ensures.wanted c.loop-mark-test.true) (seen_at st c.in-Push.ensures.seen c.tag-tag.ensures.tag) m (c.in_ok-note-in-Push.ensures.added ∙ ap (λ n. c.loop-mark.trace.read ++ n ∷ []) c.branch-mark.ensures.noted) c.inner_reads.new.trace.read (h naming); refused = λ naming. tt; few = search rules; front = front_on c.args.bound.now.items c.loop-mark.bound.items c.inner_reads.new.bound.items c.loop-mark.invariant.5 c.inner_reads.ensures.front; counted = omega (arith, c.note.ensures.counted, c.inner_reads.ensures.counted, c.loop-mark.invariant.6); same = search rules }
 
-pub returns-in-TooFar : goal.returns-in-TooFar
-returns-in-TooFar g t c =
-    let here : slice_get c.args.items.now c.loop-next.next ≡ Some c.index-items-next.result = item_at c.args.items.now c.loop-next.next c.index-items-next.result c.loop-next-test.true c.index-items-next.is in
-    let n : patterns_from c.args.items.now c.loop-next.next ≢ Done = wants (ignored_by (filter_of c.args.filter)) (mark_of c.args.mark) (level_at (g.W.LevelView.levels c.args.view.now) (g.W.LevelView.level_of c.args.view.now c.args.spot)) c.args.items.now c.loop-next.next c.index-items-next.result here c.in_default.not-Pop in
-    let st = stands (g.W.LevelView.levels c.args.view.now) (g.W.LevelView.level_of c.args.view.now) (g.W.LevelView.place_of c.args.view.now) (g.W.LevelView.level_of c.args.view.now c.args.spot) c.loop-next.at c.in-Some.here c.in-Some.is c.loop-next.invariant.0 in
-    let w : (naming : ℕ → List ℕ) → Walk (ignored_by (filter_of c.args.filter)) (mark_of c.args.mark) (level_at (g.W.LevelView.levels c.args.view.now) (g.W.LevelView.level_of c.args.view.now c.args.spot)) c.args.items.now naming c.args.first ((g.W.LevelView.place_of c.args.view.now c.args.spot) + 1) c.loop-next.next (g.W.LevelView.place_of c.args.view.now c.in-Some.here) c.args.trace.now.read c.loop-next.trace.read c.args.bound.now.items c.loop-next.bound.items = λ naming. subst (λ p. Walk (ignored_by (filter_of c.args.filter)) (mark_of c.args.mark) (level_at (g.W.LevelView.levels c.args.view.now) (g.W.LevelView.level_of c.args.view.now c.args.spot)) c.args.items.now naming c.args.first ((g.W.LevelView.place_of c.args.view.now c.args.spot) + 1) c.loop-next.next p c.args.trace.now.read c.loop-next.trace.read c.args.bound.now.items c.loop-next.bound.items) st.2 (c.loop-next.invariant.4 naming) in
-    let s : Shows (level_at (g.W.LevelView.levels c.args.view.now) (g.W.LevelView.level_of c.args.view.now c.args.spot)) (g.W.LevelView.place_of c.args.view.now c.in-Some.here) Push c.tag-tag.result = shows (g.W.LevelView.levels c.args.view.now) (g.W.LevelView.level_of c.args.view.now c.in-Some.here) (g.W.LevelView.level_of c.args.view.now c.args.spot) (g.W.LevelView.place_of c.args.view.now c.in-Some.here) Push c.tag-tag.result st.0 c.in-Push.ensures.seen c.tag-tag.ensures.tag in
-    let m : Ended (level_at (g.W.LevelView.levels c.args.view.now) (g.W.LevelView.level_of c.args.view.now c.args.spot)) (g.W.LevelView.place_of c.args.view.now c.in-Some.here) (g.W.LevelView.place_of c.args.view.now c.mate-mate.result) c.tag.result = ended (g.W.LevelView.levels c.args.view.now) (g.W.LevelView.level_of c.args.view.now c.in-Some.here) (g.W.LevelView.level_of c.args.view.now c.mate-mate.result) (g.W.LevelView.level_of c.args.view.now c.args.spot) (g.W.LevelView.place_of c.args.view.now c.in-Some.here) (g.W.LevelView.place_of c.args.view.now c.mate-mate.result) c.tag.result st.0 c.mate-mate.ensures.level c.mate-mate.ensures.mate c.in-Push.ensures.seen c.tag.ensures.tag in
-    let a : c.note.new.self.read ≡ c.loop-next.trace.read ++ (Branched (mark_of c.args.mark) c.tag-tag.result c.tag.result) ∷ [] = c.in_ok-note-in-Push.ensures.added ∙ ap (λ n. c.loop-next.trace.read ++ n ∷ []) c.branch-mark.ensures.noted in
-    let push : slice_get c.args.items.now c.loop-next.next ≡ Some items.Push = here ∙ ap (λ i. Some i) c.in-Push-wanted.is in
-    let ok : c.right_reads.result ≡ Ok TooFar = c.in_ok-right_reads-in-Push.was ∙ ap (λ v. Ok v) c.in-TooFar.is in
-    let h : (naming : ℕ → List ℕ) → Walks most_entries (right_walk (ignored_by (filter_of c.args.filter)) (mark_of (record { rule = c.args.mark.rule; depth = c.args.mark.depth + 1 })) (patterns_from c.args.items.now (c.loop-next.next + 1)) (items_from (level_by naming (level_at (g.W.LevelView.levels c.args.view.now) (g.W.LevelView.level_of c.args.view.now c.args.spot))) ((g.W.LevelView.place_of c.args.view.now c.in-Some.here) + 1))) (es_of naming c.note.new.self.read) (es_of naming c.right_reads.new.trace.read) (KeptInOrder c.loop-next.bound.items c.right_reads.new.bound.items) TooFar =
-    λ naming. subst (λ i. Walks most_entries (right_walk (ignored_by (filter_of c.args.filter)) (mark_of (record { rule = c.args.mark.rule; depth = c.args.mark.depth + 1 })) (patterns_from c.args.items.now (c.loop-next.next + 1)) (items_from (level_by naming (level_at (g.W.LevelView.levels c.args.view.now) i)) ((g.W.LevelView.place_of c.args.view.now c.in-Some.here) + 1))) (es_of naming c.note.new.self.read) (es_of naming c.right_reads.new.trace.read) (KeptInOrder c.loop-next.bound.items c.right_reads.new.bound.items) TooFar) st.0
-    (subst (λ r. IfOk r (λ v. Walks most_entries (right_walk (ignored_by (filter_of c.args.filter)) (mark_of (record { rule = c.args.mark.rule; depth = c.args.mark.depth + 1 })) (patterns_from c.args.items.now (c.loop-next.next + 1)) (items_from (level_by naming (level_at (g.W.LevelView.levels c.args.view.now) (g.W.LevelView.level_of c.args.view.now c.in-Some.here))) ((g.W.LevelView.place_of c.args.view.now c.in-Some.here) + 1))) (es_of naming c.note.new.self.read) (es_of naming c.right_reads.new.trace.read) (KeptInOrder c.loop-next.bound.items c.right_reads.new.bound.items) v)) ok (c.right_reads.ensures.told naming)) in
-    let b = patterns_branch c.args.items.now c.loop-next.next push in
-    record { told = λ naming. walk_inner_far (ignored_by (filter_of c.args.filter)) (mark_of c.args.mark) (level_at (g.W.LevelView.levels c.args.view.now) (g.W.LevelView.level_of c.args.view.now c.args.spot)) c.args.items.now naming c.args.first ((g.W.LevelView.place_of c.args.view.now c.args.spot) + 1) c.loop-next.next (g.W.LevelView.place_of c.args.view.now c.in-Some.here) (g.W.LevelView.place_of c.args.view.now c.mate-mate.result) c.tag-tag.result c.tag.result most_entries b.0 c.args.trace.now.read c.loop-next.trace.read c.note.new.self.read c.right_reads.new.trace.read c.args.bound.now.items c.loop-next.bound.items (w naming) a b.1 s m (KeptInOrder c.loop-next.bound.items c.right_reads.new.bound.items) (KeptInOrder c.args.bound.now.items c.right_reads.new.bound.items) (h naming); refused = λ naming. tt; few = search rules; front = (front_on c.args.bound.now.items c.loop-next.bound.items c.right_reads.new.bound.items c.loop-next.invariant.5 c.in_ok-right_reads-in-Push.ensures.front); counted = omega (arith, c.note.ensures.counted, c.in_ok-right_reads-in-Push.ensures.counted, c.loop-next.invariant.6); same = search rules }
+pub right_reads-behind-next-requires : goal.right_reads-behind-next-requires
+right_reads-behind-next-requires g t c =
+    c.in_ok-inner_reads-in-Push.ensures.branch c.in-Found.is
 
-pub loop-next-preserved-in-Found : goal.loop-next-preserved-in-Found
-loop-next-preserved-in-Found g t c =
-    let here : slice_get c.args.items.now c.loop-next.next ≡ Some c.index-items-next.result = item_at c.args.items.now c.loop-next.next c.index-items-next.result c.loop-next-test.true c.index-items-next.is in
-    let n : patterns_from c.args.items.now c.loop-next.next ≢ Done = wants (ignored_by (filter_of c.args.filter)) (mark_of c.args.mark) (level_at (g.W.LevelView.levels c.args.view.now) (g.W.LevelView.level_of c.args.view.now c.args.spot)) c.args.items.now c.loop-next.next c.index-items-next.result here c.in_default.not-Pop in
-    let st = stands (g.W.LevelView.levels c.args.view.now) (g.W.LevelView.level_of c.args.view.now) (g.W.LevelView.place_of c.args.view.now) (g.W.LevelView.level_of c.args.view.now c.args.spot) c.loop-next.at c.in-Some.here c.in-Some.is c.loop-next.invariant.0 in
-    let w : (naming : ℕ → List ℕ) → Walk (ignored_by (filter_of c.args.filter)) (mark_of c.args.mark) (level_at (g.W.LevelView.levels c.args.view.now) (g.W.LevelView.level_of c.args.view.now c.args.spot)) c.args.items.now naming c.args.first ((g.W.LevelView.place_of c.args.view.now c.args.spot) + 1) c.loop-next.next (g.W.LevelView.place_of c.args.view.now c.in-Some.here) c.args.trace.now.read c.loop-next.trace.read c.args.bound.now.items c.loop-next.bound.items = λ naming. subst (λ p. Walk (ignored_by (filter_of c.args.filter)) (mark_of c.args.mark) (level_at (g.W.LevelView.levels c.args.view.now) (g.W.LevelView.level_of c.args.view.now c.args.spot)) c.args.items.now naming c.args.first ((g.W.LevelView.place_of c.args.view.now c.args.spot) + 1) c.loop-next.next p c.args.trace.now.read c.loop-next.trace.read c.args.bound.now.items c.loop-next.bound.items) st.2 (c.loop-next.invariant.4 naming) in
-    let s : Shows (level_at (g.W.LevelView.levels c.args.view.now) (g.W.LevelView.level_of c.args.view.now c.args.spot)) (g.W.LevelView.place_of c.args.view.now c.in-Some.here) Push c.tag-tag.result = shows (g.W.LevelView.levels c.args.view.now) (g.W.LevelView.level_of c.args.view.now c.in-Some.here) (g.W.LevelView.level_of c.args.view.now c.args.spot) (g.W.LevelView.place_of c.args.view.now c.in-Some.here) Push c.tag-tag.result st.0 c.in-Push.ensures.seen c.tag-tag.ensures.tag in
-    let m : Ended (level_at (g.W.LevelView.levels c.args.view.now) (g.W.LevelView.level_of c.args.view.now c.args.spot)) (g.W.LevelView.place_of c.args.view.now c.in-Some.here) (g.W.LevelView.place_of c.args.view.now c.mate-mate.result) c.tag.result = ended (g.W.LevelView.levels c.args.view.now) (g.W.LevelView.level_of c.args.view.now c.in-Some.here) (g.W.LevelView.level_of c.args.view.now c.mate-mate.result) (g.W.LevelView.level_of c.args.view.now c.args.spot) (g.W.LevelView.place_of c.args.view.now c.in-Some.here) (g.W.LevelView.place_of c.args.view.now c.mate-mate.result) c.tag.result st.0 c.mate-mate.ensures.level c.mate-mate.ensures.mate c.in-Push.ensures.seen c.tag.ensures.tag in
-    let a : c.note.new.self.read ≡ c.loop-next.trace.read ++ (Branched (mark_of c.args.mark) c.tag-tag.result c.tag.result) ∷ [] = c.in_ok-note-in-Push.ensures.added ∙ ap (λ n. c.loop-next.trace.read ++ n ∷ []) c.branch-mark.ensures.noted in
-    let push : slice_get c.args.items.now c.loop-next.next ≡ Some items.Push = here ∙ ap (λ i. Some i) c.in-Push-wanted.is in
-    let ok : c.right_reads.result ≡ Ok Found = c.in_ok-right_reads-in-Push.was ∙ ap (λ v. Ok v) c.in-Found.is in
-    let h : (naming : ℕ → List ℕ) → Walks most_entries (right_walk (ignored_by (filter_of c.args.filter)) (mark_of (record { rule = c.args.mark.rule; depth = c.args.mark.depth + 1 })) (patterns_from c.args.items.now (c.loop-next.next + 1)) (items_from (level_by naming (level_at (g.W.LevelView.levels c.args.view.now) (g.W.LevelView.level_of c.args.view.now c.args.spot))) ((g.W.LevelView.place_of c.args.view.now c.in-Some.here) + 1))) (es_of naming c.note.new.self.read) (es_of naming c.right_reads.new.trace.read) (KeptInOrder c.loop-next.bound.items c.right_reads.new.bound.items) Found =
-    λ naming. subst (λ i. Walks most_entries (right_walk (ignored_by (filter_of c.args.filter)) (mark_of (record { rule = c.args.mark.rule; depth = c.args.mark.depth + 1 })) (patterns_from c.args.items.now (c.loop-next.next + 1)) (items_from (level_by naming (level_at (g.W.LevelView.levels c.args.view.now) i)) ((g.W.LevelView.place_of c.args.view.now c.in-Some.here) + 1))) (es_of naming c.note.new.self.read) (es_of naming c.right_reads.new.trace.read) (KeptInOrder c.loop-next.bound.items c.right_reads.new.bound.items) Found) st.0
-    (subst (λ r. IfOk r (λ v. Walks most_entries (right_walk (ignored_by (filter_of c.args.filter)) (mark_of (record { rule = c.args.mark.rule; depth = c.args.mark.depth + 1 })) (patterns_from c.args.items.now (c.loop-next.next + 1)) (items_from (level_by naming (level_at (g.W.LevelView.levels c.args.view.now) (g.W.LevelView.level_of c.args.view.now c.in-Some.here))) ((g.W.LevelView.place_of c.args.view.now c.in-Some.here) + 1))) (es_of naming c.note.new.self.read) (es_of naming c.right_reads.new.trace.read) (KeptInOrder c.loop-next.bound.items c.right_reads.new.bound.items) v)) ok (c.right_reads.ensures.told naming)) in
-    let mv = moved (g.W.LevelView.levels c.args.view.now) (g.W.LevelView.level_of c.args.view.now) (g.W.LevelView.place_of c.args.view.now) (g.W.LevelView.level_of c.args.view.now c.args.spot) c.mate-mate.result c.right-at-in-Push.result (c.mate-mate.ensures.level ∙ st.0) c.right-at-in-Push.ensures in
-    let r : length c.right_reads.new.trace.read ≤ most_entries = omega (arith, (h (λ t. [])).1, length-map c.right_reads.new.trace.read (entry_by (λ t. []))) in
-    (mv.0, omega (arith, c.loop-next.invariant.1, c.behind-next.ensures.later), c.behind-next.ensures.within, r, λ naming. subst (λ p. Walk (ignored_by (filter_of c.args.filter)) (mark_of c.args.mark) (level_at (g.W.LevelView.levels c.args.view.now) (g.W.LevelView.level_of c.args.view.now c.args.spot)) c.args.items.now naming c.args.first ((g.W.LevelView.place_of c.args.view.now c.args.spot) + 1) c.behind-next.result p c.args.trace.now.read c.right_reads.new.trace.read c.args.bound.now.items c.right_reads.new.bound.items) (sym mv.1) (walk_found (ignored_by (filter_of c.args.filter)) (mark_of c.args.mark) (level_at (g.W.LevelView.levels c.args.view.now) (g.W.LevelView.level_of c.args.view.now c.args.spot)) c.args.items.now naming c.args.first ((g.W.LevelView.place_of c.args.view.now c.args.spot) + 1) c.loop-next.next (g.W.LevelView.place_of c.args.view.now c.in-Some.here) (g.W.LevelView.place_of c.args.view.now c.mate-mate.result) c.tag-tag.result c.tag.result most_entries (patterns_from c.args.items.now c.behind-next.result) c.args.trace.now.read c.loop-next.trace.read c.note.new.self.read c.right_reads.new.trace.read c.args.bound.now.items c.loop-next.bound.items (w naming) a c.behind-next.ensures.branch s m c.behind-next.result c.right_reads.new.bound.items refl (h naming)), (front_on c.args.bound.now.items c.loop-next.bound.items c.right_reads.new.bound.items c.loop-next.invariant.5 c.in_ok-right_reads-in-Push.ensures.front), omega (arith, c.note.ensures.counted, c.in_ok-right_reads-in-Push.ensures.counted, c.loop-next.invariant.6), search rules)
+pub right_reads-loop-mark-preserved-in-Found : goal.right_reads-loop-mark-preserved-in-Found
+right_reads-loop-mark-preserved-in-Found g t c =
+    let st = stands g t (goal.at.right_reads-loop-mark-preserved-in-Found g t c).After-tag-tag in
+    let w = walk_here g t (goal.at.right_reads-loop-mark-preserved-in-Found g t c).After-tag-tag in
+    let m = ended_at st c.mate-mate.result c.mate-mate.ensures.level c.mate-mate.ensures.mate c.in-Push.ensures.seen c.tag.ensures.tag in
+    let h = told_on st (inner_told c.args.filter c.args.mark c.args.items.now c.loop-mark.next (g.W.LevelView.place_of c.args.view.now c.in-Some.here)) c.note.new.self.read c.inner_reads.new.trace.read c.inner_reads.result (KeptInOrder c.loop-mark.bound.items c.inner_reads.new.bound.items) Found
+    (c.in_ok-inner_reads-in-Push.was ∙ ap (λ v. Ok v) c.in-Found.is) c.inner_reads.ensures.told in
+    let on = stands_beside st c.mate-mate.result c.mate-mate.ensures.level m.within in
+    let r : length c.inner_reads.new.trace.read ≤ most_entries = omega (arith, (h (λ t. [])).1, length-map c.inner_reads.new.trace.read (entry_by (λ t. []))) in
+    (moved_at on c.right-at-in-Push.result c.right-at-in-Push.ensures, omega (arith, c.loop-mark.invariant.1, c.behind-next.ensures.later), c.behind-next.ensures.within, r, λ naming. walk_to _ _ _ _ naming (walk_found _ _ _ _ naming (w naming) (c.is_wanted.ensures.wanted c.loop-mark-test.true) (seen_at st c.in-Push.ensures.seen c.tag-tag.ensures.tag) m (c.in_ok-note-in-Push.ensures.added ∙ ap (λ n. c.loop-mark.trace.read ++ n ∷ []) c.branch-mark.ensures.noted) c.inner_reads.new.trace.read c.behind-next.result c.inner_reads.new.bound.items c.behind-next.ensures.branch (h naming)) _ (moved_to on c.right-at-in-Push.result c.right-at-in-Push.ensures), front_on c.args.bound.now.items c.loop-mark.bound.items c.inner_reads.new.bound.items c.loop-mark.invariant.5 c.inner_reads.ensures.front, omega (arith, c.note.ensures.counted, c.inner_reads.ensures.counted, c.loop-mark.invariant.6), search rules)
 
-pub loop-next-preserved-in-Missed : goal.loop-next-preserved-in-Missed
-loop-next-preserved-in-Missed g t c =
-    let here : slice_get c.args.items.now c.loop-next.next ≡ Some c.index-items-next.result = item_at c.args.items.now c.loop-next.next c.index-items-next.result c.loop-next-test.true c.index-items-next.is in
-    let n : patterns_from c.args.items.now c.loop-next.next ≢ Done = wants (ignored_by (filter_of c.args.filter)) (mark_of c.args.mark) (level_at (g.W.LevelView.levels c.args.view.now) (g.W.LevelView.level_of c.args.view.now c.args.spot)) c.args.items.now c.loop-next.next c.index-items-next.result here c.in_default.not-Pop in
-    let st = stands (g.W.LevelView.levels c.args.view.now) (g.W.LevelView.level_of c.args.view.now) (g.W.LevelView.place_of c.args.view.now) (g.W.LevelView.level_of c.args.view.now c.args.spot) c.loop-next.at c.in-Some.here c.in-Some.is c.loop-next.invariant.0 in
-    let w : (naming : ℕ → List ℕ) → Walk (ignored_by (filter_of c.args.filter)) (mark_of c.args.mark) (level_at (g.W.LevelView.levels c.args.view.now) (g.W.LevelView.level_of c.args.view.now c.args.spot)) c.args.items.now naming c.args.first ((g.W.LevelView.place_of c.args.view.now c.args.spot) + 1) c.loop-next.next (g.W.LevelView.place_of c.args.view.now c.in-Some.here) c.args.trace.now.read c.loop-next.trace.read c.args.bound.now.items c.loop-next.bound.items = λ naming. subst (λ p. Walk (ignored_by (filter_of c.args.filter)) (mark_of c.args.mark) (level_at (g.W.LevelView.levels c.args.view.now) (g.W.LevelView.level_of c.args.view.now c.args.spot)) c.args.items.now naming c.args.first ((g.W.LevelView.place_of c.args.view.now c.args.spot) + 1) c.loop-next.next p c.args.trace.now.read c.loop-next.trace.read c.args.bound.now.items c.loop-next.bound.items) st.2 (c.loop-next.invariant.4 naming) in
-    let s : Shows (level_at (g.W.LevelView.levels c.args.view.now) (g.W.LevelView.level_of c.args.view.now c.args.spot)) (g.W.LevelView.place_of c.args.view.now c.in-Some.here) Push c.tag-tag.result = shows (g.W.LevelView.levels c.args.view.now) (g.W.LevelView.level_of c.args.view.now c.in-Some.here) (g.W.LevelView.level_of c.args.view.now c.args.spot) (g.W.LevelView.place_of c.args.view.now c.in-Some.here) Push c.tag-tag.result st.0 c.in-Push.ensures.seen c.tag-tag.ensures.tag in
-    let m : Ended (level_at (g.W.LevelView.levels c.args.view.now) (g.W.LevelView.level_of c.args.view.now c.args.spot)) (g.W.LevelView.place_of c.args.view.now c.in-Some.here) (g.W.LevelView.place_of c.args.view.now c.mate-mate.result) c.tag.result = ended (g.W.LevelView.levels c.args.view.now) (g.W.LevelView.level_of c.args.view.now c.in-Some.here) (g.W.LevelView.level_of c.args.view.now c.mate-mate.result) (g.W.LevelView.level_of c.args.view.now c.args.spot) (g.W.LevelView.place_of c.args.view.now c.in-Some.here) (g.W.LevelView.place_of c.args.view.now c.mate-mate.result) c.tag.result st.0 c.mate-mate.ensures.level c.mate-mate.ensures.mate c.in-Push.ensures.seen c.tag.ensures.tag in
-    let a : c.note.new.self.read ≡ c.loop-next.trace.read ++ (Branched (mark_of c.args.mark) c.tag-tag.result c.tag.result) ∷ [] = c.in_ok-note-in-Push.ensures.added ∙ ap (λ n. c.loop-next.trace.read ++ n ∷ []) c.branch-mark.ensures.noted in
-    let push : slice_get c.args.items.now c.loop-next.next ≡ Some items.Push = here ∙ ap (λ i. Some i) c.in-Push-wanted.is in
-    let ok : c.right_reads.result ≡ Ok Missed = c.in_ok-right_reads-in-Push.was ∙ ap (λ v. Ok v) c.in-Missed.is in
-    let h : (naming : ℕ → List ℕ) → Walks most_entries (right_walk (ignored_by (filter_of c.args.filter)) (mark_of (record { rule = c.args.mark.rule; depth = c.args.mark.depth + 1 })) (patterns_from c.args.items.now (c.loop-next.next + 1)) (items_from (level_by naming (level_at (g.W.LevelView.levels c.args.view.now) (g.W.LevelView.level_of c.args.view.now c.args.spot))) ((g.W.LevelView.place_of c.args.view.now c.in-Some.here) + 1))) (es_of naming c.note.new.self.read) (es_of naming c.right_reads.new.trace.read) (KeptInOrder c.loop-next.bound.items c.right_reads.new.bound.items) Missed =
-    λ naming. subst (λ i. Walks most_entries (right_walk (ignored_by (filter_of c.args.filter)) (mark_of (record { rule = c.args.mark.rule; depth = c.args.mark.depth + 1 })) (patterns_from c.args.items.now (c.loop-next.next + 1)) (items_from (level_by naming (level_at (g.W.LevelView.levels c.args.view.now) i)) ((g.W.LevelView.place_of c.args.view.now c.in-Some.here) + 1))) (es_of naming c.note.new.self.read) (es_of naming c.right_reads.new.trace.read) (KeptInOrder c.loop-next.bound.items c.right_reads.new.bound.items) Missed) st.0
-    (subst (λ r. IfOk r (λ v. Walks most_entries (right_walk (ignored_by (filter_of c.args.filter)) (mark_of (record { rule = c.args.mark.rule; depth = c.args.mark.depth + 1 })) (patterns_from c.args.items.now (c.loop-next.next + 1)) (items_from (level_by naming (level_at (g.W.LevelView.levels c.args.view.now) (g.W.LevelView.level_of c.args.view.now c.in-Some.here))) ((g.W.LevelView.place_of c.args.view.now c.in-Some.here) + 1))) (es_of naming c.note.new.self.read) (es_of naming c.right_reads.new.trace.read) (KeptInOrder c.loop-next.bound.items c.right_reads.new.bound.items) v)) ok (c.right_reads.ensures.told naming)) in
-    let b = patterns_branch c.args.items.now c.loop-next.next push in
-    let mv = moved (g.W.LevelView.levels c.args.view.now) (g.W.LevelView.level_of c.args.view.now) (g.W.LevelView.place_of c.args.view.now) (g.W.LevelView.level_of c.args.view.now c.args.spot) c.mate-mate.result c.right-at-in-Push.result (c.mate-mate.ensures.level ∙ st.0) c.right-at-in-Push.ensures in
-    let r : length c.right_reads.new.trace.read ≤ most_entries = omega (arith, (h (λ t. [])).1, length-map c.right_reads.new.trace.read (entry_by (λ t. []))) in
-    let cut : c.truncate.new.self.items ≡ take (length c.loop-next.bound.items) c.right_reads.new.bound.items = search rules in
-    let k = cut ∙ c.in_ok-right_reads-in-Push.ensures.front in
-    (mv.0, c.loop-next.invariant.1, c.loop-next.invariant.2, r, λ naming. subst (λ p. Walk (ignored_by (filter_of c.args.filter)) (mark_of c.args.mark) (level_at (g.W.LevelView.levels c.args.view.now) (g.W.LevelView.level_of c.args.view.now c.args.spot)) c.args.items.now naming c.args.first ((g.W.LevelView.place_of c.args.view.now c.args.spot) + 1) c.loop-next.next p c.args.trace.now.read c.right_reads.new.trace.read c.args.bound.now.items c.truncate.new.self.items) (sym mv.1) (subst (λ vs. Walk (ignored_by (filter_of c.args.filter)) (mark_of c.args.mark) (level_at (g.W.LevelView.levels c.args.view.now) (g.W.LevelView.level_of c.args.view.now c.args.spot)) c.args.items.now naming c.args.first ((g.W.LevelView.place_of c.args.view.now c.args.spot) + 1) c.loop-next.next ((g.W.LevelView.place_of c.args.view.now c.mate-mate.result) + 1) c.args.trace.now.read c.right_reads.new.trace.read c.args.bound.now.items vs) (sym k) (walk_missed (ignored_by (filter_of c.args.filter)) (mark_of c.args.mark) (level_at (g.W.LevelView.levels c.args.view.now) (g.W.LevelView.level_of c.args.view.now c.args.spot)) c.args.items.now naming c.args.first ((g.W.LevelView.place_of c.args.view.now c.args.spot) + 1) c.loop-next.next (g.W.LevelView.place_of c.args.view.now c.in-Some.here) (g.W.LevelView.place_of c.args.view.now c.mate-mate.result) c.tag-tag.result c.tag.result most_entries b.0 c.args.trace.now.read c.loop-next.trace.read c.note.new.self.read c.right_reads.new.trace.read c.args.bound.now.items c.loop-next.bound.items (w naming) a b.1 s m (KeptInOrder c.loop-next.bound.items c.right_reads.new.bound.items) (h naming))), (ap (take (length c.args.bound.now.items)) k ∙ c.loop-next.invariant.5), omega (arith, c.note.ensures.counted, c.in_ok-right_reads-in-Push.ensures.counted, c.loop-next.invariant.6), search rules)
+pub right_reads-loop-mark-preserved-in-Missed : goal.right_reads-loop-mark-preserved-in-Missed
+right_reads-loop-mark-preserved-in-Missed g t c =
+    let st = stands g t (goal.at.right_reads-loop-mark-preserved-in-Missed g t c).After-tag-tag in
+    let w = walk_here g t (goal.at.right_reads-loop-mark-preserved-in-Missed g t c).After-tag-tag in
+    let m = ended_at st c.mate-mate.result c.mate-mate.ensures.level c.mate-mate.ensures.mate c.in-Push.ensures.seen c.tag.ensures.tag in
+    let h = told_on st (inner_told c.args.filter c.args.mark c.args.items.now c.loop-mark.next (g.W.LevelView.place_of c.args.view.now c.in-Some.here)) c.note.new.self.read c.inner_reads.new.trace.read c.inner_reads.result (KeptInOrder c.loop-mark.bound.items c.inner_reads.new.bound.items) Missed
+    (c.in_ok-inner_reads-in-Push.was ∙ ap (λ v. Ok v) c.in-Missed.is) c.inner_reads.ensures.told in
+    let on = stands_beside st c.mate-mate.result c.mate-mate.ensures.level m.within in
+    let r : length c.inner_reads.new.trace.read ≤ most_entries = omega (arith, (h (λ t. [])).1, length-map c.inner_reads.new.trace.read (entry_by (λ t. []))) in
+    let k = c.in_ok-inner_reads-in-Push.ensures.missed c.in-Missed.is in
+    (moved_at on c.right-at-in-Push.result c.right-at-in-Push.ensures, c.loop-mark.invariant.1, c.loop-mark.invariant.2, r, λ naming. walk_to _ _ _ _ naming (walk_missed _ _ _ _ naming (w naming) (c.is_wanted.ensures.wanted c.loop-mark-test.true) (seen_at st c.in-Push.ensures.seen c.tag-tag.ensures.tag) m (c.in_ok-note-in-Push.ensures.added ∙ ap (λ n. c.loop-mark.trace.read ++ n ∷ []) c.branch-mark.ensures.noted) c.inner_reads.new.trace.read c.inner_reads.new.bound.items k (h naming)) _ (moved_to on c.right-at-in-Push.result c.right-at-in-Push.ensures), front_on c.args.bound.now.items c.loop-mark.bound.items c.inner_reads.new.bound.items c.loop-mark.invariant.5 c.inner_reads.ensures.front, omega (arith, c.note.ensures.counted, c.inner_reads.ensures.counted, c.loop-mark.invariant.6), search rules)
 
-pub loop-next-preserved-in_default-wanted : goal.loop-next-preserved-in_default-wanted
-loop-next-preserved-in_default-wanted g t c =
-    let here : slice_get c.args.items.now c.loop-next.next ≡ Some c.index-items-next.result = item_at c.args.items.now c.loop-next.next c.index-items-next.result c.loop-next-test.true c.index-items-next.is in
-    let n : patterns_from c.args.items.now c.loop-next.next ≢ Done = wants (ignored_by (filter_of c.args.filter)) (mark_of c.args.mark) (level_at (g.W.LevelView.levels c.args.view.now) (g.W.LevelView.level_of c.args.view.now c.args.spot)) c.args.items.now c.loop-next.next c.index-items-next.result here c.in_default.not-Pop in
-    let st = stands (g.W.LevelView.levels c.args.view.now) (g.W.LevelView.level_of c.args.view.now) (g.W.LevelView.place_of c.args.view.now) (g.W.LevelView.level_of c.args.view.now c.args.spot) c.loop-next.at c.in-Some.here c.in-Some.is c.loop-next.invariant.0 in
-    let w : (naming : ℕ → List ℕ) → Walk (ignored_by (filter_of c.args.filter)) (mark_of c.args.mark) (level_at (g.W.LevelView.levels c.args.view.now) (g.W.LevelView.level_of c.args.view.now c.args.spot)) c.args.items.now naming c.args.first ((g.W.LevelView.place_of c.args.view.now c.args.spot) + 1) c.loop-next.next (g.W.LevelView.place_of c.args.view.now c.in-Some.here) c.args.trace.now.read c.loop-next.trace.read c.args.bound.now.items c.loop-next.bound.items = λ naming. subst (λ p. Walk (ignored_by (filter_of c.args.filter)) (mark_of c.args.mark) (level_at (g.W.LevelView.levels c.args.view.now) (g.W.LevelView.level_of c.args.view.now c.args.spot)) c.args.items.now naming c.args.first ((g.W.LevelView.place_of c.args.view.now c.args.spot) + 1) c.loop-next.next p c.args.trace.now.read c.loop-next.trace.read c.args.bound.now.items c.loop-next.bound.items) st.2 (c.loop-next.invariant.4 naming) in
-    let s : Shows (level_at (g.W.LevelView.levels c.args.view.now) (g.W.LevelView.level_of c.args.view.now c.args.spot)) (g.W.LevelView.place_of c.args.view.now c.in-Some.here) Push c.tag-tag.result = shows (g.W.LevelView.levels c.args.view.now) (g.W.LevelView.level_of c.args.view.now c.in-Some.here) (g.W.LevelView.level_of c.args.view.now c.args.spot) (g.W.LevelView.place_of c.args.view.now c.in-Some.here) Push c.tag-tag.result st.0 c.in-Push.ensures.seen c.tag-tag.ensures.tag in
-    let m : Ended (level_at (g.W.LevelView.levels c.args.view.now) (g.W.LevelView.level_of c.args.view.now c.args.spot)) (g.W.LevelView.place_of c.args.view.now c.in-Some.here) (g.W.LevelView.place_of c.args.view.now c.mate-mate.result) c.tag.result = ended (g.W.LevelView.levels c.args.view.now) (g.W.LevelView.level_of c.args.view.now c.in-Some.here) (g.W.LevelView.level_of c.args.view.now c.mate-mate.result) (g.W.LevelView.level_of c.args.view.now c.args.spot) (g.W.LevelView.place_of c.args.view.now c.in-Some.here) (g.W.LevelView.place_of c.args.view.now c.mate-mate.result) c.tag.result st.0 c.mate-mate.ensures.level c.mate-mate.ensures.mate c.in-Push.ensures.seen c.tag.ensures.tag in
-    let a : c.note.new.self.read ≡ c.loop-next.trace.read ++ (Branched (mark_of c.args.mark) c.tag-tag.result c.tag.result) ∷ [] = c.in_ok-note-in-Push.ensures.added ∙ ap (λ n. c.loop-next.trace.read ++ n ∷ []) c.branch-mark.ensures.noted in
-    let mv = moved (g.W.LevelView.levels c.args.view.now) (g.W.LevelView.level_of c.args.view.now) (g.W.LevelView.place_of c.args.view.now) (g.W.LevelView.level_of c.args.view.now c.args.spot) c.mate-mate.result c.right-at-in-Push.result (c.mate-mate.ensures.level ∙ st.0) c.right-at-in-Push.ensures in
-    let l : length c.note.new.self.read ≤ most_entries = search rules in
-    let q = one_wanted c.index-items-next.result c.in_default.not-Pop c.in_default-wanted.not-Push in
-    (mv.0, c.loop-next.invariant.1, c.loop-next.invariant.2, l, λ naming. subst (λ p. Walk (ignored_by (filter_of c.args.filter)) (mark_of c.args.mark) (level_at (g.W.LevelView.levels c.args.view.now) (g.W.LevelView.level_of c.args.view.now c.args.spot)) c.args.items.now naming c.args.first ((g.W.LevelView.place_of c.args.view.now c.args.spot) + 1) c.loop-next.next p c.args.trace.now.read c.note.new.self.read c.args.bound.now.items c.loop-next.bound.items) (sym mv.1) (walk_on (ignored_by (filter_of c.args.filter)) (mark_of c.args.mark) (level_at (g.W.LevelView.levels c.args.view.now) (g.W.LevelView.level_of c.args.view.now c.args.spot)) c.args.items.now naming c.args.first ((g.W.LevelView.place_of c.args.view.now c.args.spot) + 1) c.loop-next.next (g.W.LevelView.place_of c.args.view.now c.in-Some.here) most_entries c.args.trace.now.read c.loop-next.trace.read c.note.new.self.read c.args.bound.now.items c.loop-next.bound.items c.loop-next.next ((g.W.LevelView.place_of c.args.view.now c.mate-mate.result) + 1) (Branched (mark_of c.args.mark) c.tag-tag.result c.tag.result) (w naming) a (at_push_one (ignored_by (filter_of c.args.filter)) (mark_of c.args.mark) (level_at (g.W.LevelView.levels c.args.view.now) (g.W.LevelView.level_of c.args.view.now c.args.spot)) c.args.items.now naming c.loop-next.next (g.W.LevelView.place_of c.args.view.now c.in-Some.here) (g.W.LevelView.place_of c.args.view.now c.mate-mate.result) c.tag-tag.result c.tag.result q.0 (here ∙ ap (λ i. Some i) q.1) s m)), c.loop-next.invariant.5, omega (arith, c.note.ensures.counted, c.loop-next.invariant.6), search rules)
+pub right_reads-returns-in-Ends : goal.right_reads-returns-in-Ends
+right_reads-returns-in-Ends g t c =
+    let st = stands g t (goal.at.right_reads-returns-in-Ends g t c).After-tag-tag in
+    let w = walk_here g t (goal.at.right_reads-returns-in-Ends g t c).After-tag-tag in
+    let here = item_at c.args.items.now c.loop-mark.next c.index-items-next.result (c.is_wanted.ensures.within c.loop-mark-test.true) c.index-items-next.is in
+    record { told = λ naming. walk_ends _ _ _ _ naming (w naming) here c.pattern_in-due.ensures (c.is_wanted.ensures.wanted c.loop-mark-test.true) (seen_at st c.in-Module.ensures.seen c.tag-tag.ensures.tag) c.in_ok-walked-in-Module.ensures.noted c.in-Ends.walked _ c.loop-mark.invariant.3 c.in-Ends.is c.in_ok-walked-in-Module.ensures.decided; refused = λ naming. tt; few = search rules; front = c.loop-mark.invariant.5; counted = omega (arith, c.meet_module.ensures.counted, c.loop-mark.invariant.6); same = search rules }
 
-pub returns-then-branch-2 : goal.returns-then-branch-2
-returns-then-branch-2 g t c =
-    let here : slice_get c.args.items.now c.loop-next.next ≡ Some c.index-items-next.result = item_at c.args.items.now c.loop-next.next c.index-items-next.result c.loop-next-test.true c.index-items-next.is in
-    let n : patterns_from c.args.items.now c.loop-next.next ≢ Done = wants (ignored_by (filter_of c.args.filter)) (mark_of c.args.mark) (level_at (g.W.LevelView.levels c.args.view.now) (g.W.LevelView.level_of c.args.view.now c.args.spot)) c.args.items.now c.loop-next.next c.index-items-next.result here c.in_default.not-Pop in
-    let st = stands (g.W.LevelView.levels c.args.view.now) (g.W.LevelView.level_of c.args.view.now) (g.W.LevelView.place_of c.args.view.now) (g.W.LevelView.level_of c.args.view.now c.args.spot) c.loop-next.at c.in-Some.here c.in-Some.is c.loop-next.invariant.0 in
-    let w : (naming : ℕ → List ℕ) → Walk (ignored_by (filter_of c.args.filter)) (mark_of c.args.mark) (level_at (g.W.LevelView.levels c.args.view.now) (g.W.LevelView.level_of c.args.view.now c.args.spot)) c.args.items.now naming c.args.first ((g.W.LevelView.place_of c.args.view.now c.args.spot) + 1) c.loop-next.next (g.W.LevelView.place_of c.args.view.now c.in-Some.here) c.args.trace.now.read c.loop-next.trace.read c.args.bound.now.items c.loop-next.bound.items = λ naming. subst (λ p. Walk (ignored_by (filter_of c.args.filter)) (mark_of c.args.mark) (level_at (g.W.LevelView.levels c.args.view.now) (g.W.LevelView.level_of c.args.view.now c.args.spot)) c.args.items.now naming c.args.first ((g.W.LevelView.place_of c.args.view.now c.args.spot) + 1) c.loop-next.next p c.args.trace.now.read c.loop-next.trace.read c.args.bound.now.items c.loop-next.bound.items) st.2 (c.loop-next.invariant.4 naming) in
-    let s : Shows (level_at (g.W.LevelView.levels c.args.view.now) (g.W.LevelView.level_of c.args.view.now c.args.spot)) (g.W.LevelView.place_of c.args.view.now c.in-Some.here) (Module (record { name = module_name c.in-Module.name; params = c.in-Module.params.now })) c.tag-tag.result = shows (g.W.LevelView.levels c.args.view.now) (g.W.LevelView.level_of c.args.view.now c.in-Some.here) (g.W.LevelView.level_of c.args.view.now c.args.spot) (g.W.LevelView.place_of c.args.view.now c.in-Some.here) (Module (record { name = module_name c.in-Module.name; params = c.in-Module.params.now })) c.tag-tag.result st.0 c.in-Module.ensures.seen c.tag-tag.ensures.tag in
-    let i : ignored_by (filter_of c.args.filter) (module_name c.in-Module.name) ≡ true = sym c.ignores.ensures ∙ c.if-ignores.true in
-    let a : c.note-then-ignores.new.self.read ≡ c.loop-next.trace.read ++ (Ignored (mark_of c.args.mark) c.tag-tag.result (record { name = module_name c.in-Module.name; params = c.in-Module.params.now })) ∷ [] = c.in_ok-note-in-Module.ensures.added ∙ ap (λ n. c.loop-next.trace.read ++ n ∷ []) c.ignored.ensures.noted in
-    let l : most_entries < length c.note-then-ignores.new.self.read = search rules in
-    record { told = λ naming. walk_far (ignored_by (filter_of c.args.filter)) (mark_of c.args.mark) (level_at (g.W.LevelView.levels c.args.view.now) (g.W.LevelView.level_of c.args.view.now c.args.spot)) c.args.items.now naming c.args.first ((g.W.LevelView.place_of c.args.view.now c.args.spot) + 1) c.loop-next.next (g.W.LevelView.place_of c.args.view.now c.in-Some.here) most_entries c.args.trace.now.read c.loop-next.trace.read c.note-then-ignores.new.self.read c.args.bound.now.items c.loop-next.bound.items (KeptInOrder c.args.bound.now.items c.loop-next.bound.items) (Ignored (mark_of c.args.mark) c.tag-tag.result (record { name = module_name c.in-Module.name; params = c.in-Module.params.now })) _ (w naming) a c.loop-next.invariant.3 l (at_ignored (ignored_by (filter_of c.args.filter)) (mark_of c.args.mark) (level_at (g.W.LevelView.levels c.args.view.now) (g.W.LevelView.level_of c.args.view.now c.args.spot)) c.args.items.now naming c.loop-next.next (g.W.LevelView.place_of c.args.view.now c.in-Some.here) c.tag-tag.result (record { name = module_name c.in-Module.name; params = c.in-Module.params.now }) n s i); refused = λ naming. tt; few = search rules; front = c.loop-next.invariant.5; counted = omega (arith, c.note-then-ignores.ensures.counted, c.loop-next.invariant.6); same = search rules }
+pub right_reads-loop-mark-preserved-in-Passed : goal.right_reads-loop-mark-preserved-in-Passed
+right_reads-loop-mark-preserved-in-Passed g t c =
+    let st = stands g t (goal.at.right_reads-loop-mark-preserved-in-Passed g t c).After-tag-tag in
+    let w = walk_here g t (goal.at.right_reads-loop-mark-preserved-in-Passed g t c).After-tag-tag in
+    let here = item_at c.args.items.now c.loop-mark.next c.index-items-next.result (c.is_wanted.ensures.within c.loop-mark-test.true) c.index-items-next.is in
+    (moved_at st c.right-at-in-Module.result c.right-at-in-Module.ensures, c.loop-mark.invariant.1, c.loop-mark.invariant.2, few_passed _ _ _ _ c.in-Passed.is c.in_ok-walked-in-Module.ensures.decided, λ naming. walk_to _ _ _ _ naming (walk_passed _ _ _ _ naming (w naming) here c.pattern_in-due.ensures (c.is_wanted.ensures.wanted c.loop-mark-test.true) (seen_at st c.in-Module.ensures.seen c.tag-tag.ensures.tag) c.in_ok-walked-in-Module.ensures.noted _ c.in-Passed.is c.in_ok-walked-in-Module.ensures.decided) _ (moved_to st c.right-at-in-Module.result c.right-at-in-Module.ensures), c.loop-mark.invariant.5, omega (arith, c.meet_module.ensures.counted, c.loop-mark.invariant.6), search rules)
 
-pub loop-next-preserved-else-branch-2 : goal.loop-next-preserved-else-branch-2
-loop-next-preserved-else-branch-2 g t c =
-    let here : slice_get c.args.items.now c.loop-next.next ≡ Some c.index-items-next.result = item_at c.args.items.now c.loop-next.next c.index-items-next.result c.loop-next-test.true c.index-items-next.is in
-    let n : patterns_from c.args.items.now c.loop-next.next ≢ Done = wants (ignored_by (filter_of c.args.filter)) (mark_of c.args.mark) (level_at (g.W.LevelView.levels c.args.view.now) (g.W.LevelView.level_of c.args.view.now c.args.spot)) c.args.items.now c.loop-next.next c.index-items-next.result here c.in_default.not-Pop in
-    let st = stands (g.W.LevelView.levels c.args.view.now) (g.W.LevelView.level_of c.args.view.now) (g.W.LevelView.place_of c.args.view.now) (g.W.LevelView.level_of c.args.view.now c.args.spot) c.loop-next.at c.in-Some.here c.in-Some.is c.loop-next.invariant.0 in
-    let w : (naming : ℕ → List ℕ) → Walk (ignored_by (filter_of c.args.filter)) (mark_of c.args.mark) (level_at (g.W.LevelView.levels c.args.view.now) (g.W.LevelView.level_of c.args.view.now c.args.spot)) c.args.items.now naming c.args.first ((g.W.LevelView.place_of c.args.view.now c.args.spot) + 1) c.loop-next.next (g.W.LevelView.place_of c.args.view.now c.in-Some.here) c.args.trace.now.read c.loop-next.trace.read c.args.bound.now.items c.loop-next.bound.items = λ naming. subst (λ p. Walk (ignored_by (filter_of c.args.filter)) (mark_of c.args.mark) (level_at (g.W.LevelView.levels c.args.view.now) (g.W.LevelView.level_of c.args.view.now c.args.spot)) c.args.items.now naming c.args.first ((g.W.LevelView.place_of c.args.view.now c.args.spot) + 1) c.loop-next.next p c.args.trace.now.read c.loop-next.trace.read c.args.bound.now.items c.loop-next.bound.items) st.2 (c.loop-next.invariant.4 naming) in
-    let s : Shows (level_at (g.W.LevelView.levels c.args.view.now) (g.W.LevelView.level_of c.args.view.now c.args.spot)) (g.W.LevelView.place_of c.args.view.now c.in-Some.here) (Module (record { name = module_name c.in-Module.name; params = c.in-Module.params.now })) c.tag-tag.result = shows (g.W.LevelView.levels c.args.view.now) (g.W.LevelView.level_of c.args.view.now c.in-Some.here) (g.W.LevelView.level_of c.args.view.now c.args.spot) (g.W.LevelView.place_of c.args.view.now c.in-Some.here) (Module (record { name = module_name c.in-Module.name; params = c.in-Module.params.now })) c.tag-tag.result st.0 c.in-Module.ensures.seen c.tag-tag.ensures.tag in
-    let i : ignored_by (filter_of c.args.filter) (module_name c.in-Module.name) ≡ true = sym c.ignores.ensures ∙ c.if-ignores.true in
-    let a : c.note-then-ignores.new.self.read ≡ c.loop-next.trace.read ++ (Ignored (mark_of c.args.mark) c.tag-tag.result (record { name = module_name c.in-Module.name; params = c.in-Module.params.now })) ∷ [] = c.in_ok-note-in-Module.ensures.added ∙ ap (λ n. c.loop-next.trace.read ++ n ∷ []) c.ignored.ensures.noted in
-    let l : length c.note-then-ignores.new.self.read ≤ most_entries = search rules in
-    let mv = moved (g.W.LevelView.levels c.args.view.now) (g.W.LevelView.level_of c.args.view.now) (g.W.LevelView.place_of c.args.view.now) (g.W.LevelView.level_of c.args.view.now c.args.spot) c.in-Some.here c.right-at-in-Module.result st.0 c.right-at-in-Module.ensures in
-    (mv.0, c.loop-next.invariant.1, c.loop-next.invariant.2, l, λ naming. subst (λ p. Walk (ignored_by (filter_of c.args.filter)) (mark_of c.args.mark) (level_at (g.W.LevelView.levels c.args.view.now) (g.W.LevelView.level_of c.args.view.now c.args.spot)) c.args.items.now naming c.args.first ((g.W.LevelView.place_of c.args.view.now c.args.spot) + 1) c.loop-next.next p c.args.trace.now.read c.note-then-ignores.new.self.read c.args.bound.now.items c.loop-next.bound.items) (sym mv.1) (walk_on (ignored_by (filter_of c.args.filter)) (mark_of c.args.mark) (level_at (g.W.LevelView.levels c.args.view.now) (g.W.LevelView.level_of c.args.view.now c.args.spot)) c.args.items.now naming c.args.first ((g.W.LevelView.place_of c.args.view.now c.args.spot) + 1) c.loop-next.next (g.W.LevelView.place_of c.args.view.now c.in-Some.here) most_entries c.args.trace.now.read c.loop-next.trace.read c.note-then-ignores.new.self.read c.args.bound.now.items c.loop-next.bound.items c.loop-next.next ((g.W.LevelView.place_of c.args.view.now c.in-Some.here) + 1) (Ignored (mark_of c.args.mark) c.tag-tag.result (record { name = module_name c.in-Module.name; params = c.in-Module.params.now })) (w naming) a (at_ignored (ignored_by (filter_of c.args.filter)) (mark_of c.args.mark) (level_at (g.W.LevelView.levels c.args.view.now) (g.W.LevelView.level_of c.args.view.now c.args.spot)) c.args.items.now naming c.loop-next.next (g.W.LevelView.place_of c.args.view.now c.in-Some.here) c.tag-tag.result (record { name = module_name c.in-Module.name; params = c.in-Module.params.now }) n s i)), c.loop-next.invariant.5, omega (arith, c.note-then-ignores.ensures.counted, c.loop-next.invariant.6), search rules)
+pub right_reads-loop-mark-preserved : goal.right_reads-loop-mark-preserved
+right_reads-loop-mark-preserved g t c =
+    let st = stands g t (goal.at.right_reads-loop-mark-preserved g t c).After-tag-tag in
+    let w = walk_here g t (goal.at.right_reads-loop-mark-preserved g t c).After-tag-tag in
+    let here = item_at c.args.items.now c.loop-mark.next c.index-items-next.result (c.is_wanted.ensures.within c.loop-mark-test.true) c.index-items-next.is in
+    let b : c.extend_from_slice.new.self.items ≡ c.loop-mark.bound.items ++ c.in-Module.params.now = search rules in
+    (moved_at st c.right-at-in-Module.result c.right-at-in-Module.ensures, omega (arith, c.loop-mark.invariant.1), omega (arith, c.is_wanted.ensures.within c.loop-mark-test.true), few_matched _ _ _ _ c.in-Matched.is c.in_ok-walked-in-Module.ensures.decided, λ naming. walk_to _ _ _ _ naming (walk_matched _ _ _ _ naming (w naming) here c.pattern_in-due.ensures (c.is_wanted.ensures.wanted c.loop-mark-test.true) (seen_at st c.in-Module.ensures.seen c.tag-tag.ensures.tag) c.in_ok-walked-in-Module.ensures.noted c.extend_from_slice.new.self.items _ c.in-Matched.is c.in_ok-walked-in-Module.ensures.decided b) _ (moved_to st c.right-at-in-Module.result c.right-at-in-Module.ensures), front_more c.args.bound.now.items c.loop-mark.bound.items c.extend_from_slice.new.self.items c.in-Module.params.now c.loop-mark.invariant.5 b, omega (arith, c.meet_module.ensures.counted, c.loop-mark.invariant.6), search rules)
 
-pub returns-then-branch-3 : goal.returns-then-branch-3
-returns-then-branch-3 g t c =
-    let here : slice_get c.args.items.now c.loop-next.next ≡ Some c.index-items-next.result = item_at c.args.items.now c.loop-next.next c.index-items-next.result c.loop-next-test.true c.index-items-next.is in
-    let n : patterns_from c.args.items.now c.loop-next.next ≢ Done = wants (ignored_by (filter_of c.args.filter)) (mark_of c.args.mark) (level_at (g.W.LevelView.levels c.args.view.now) (g.W.LevelView.level_of c.args.view.now c.args.spot)) c.args.items.now c.loop-next.next c.index-items-next.result here c.in_default.not-Pop in
-    let st = stands (g.W.LevelView.levels c.args.view.now) (g.W.LevelView.level_of c.args.view.now) (g.W.LevelView.place_of c.args.view.now) (g.W.LevelView.level_of c.args.view.now c.args.spot) c.loop-next.at c.in-Some.here c.in-Some.is c.loop-next.invariant.0 in
-    let w : (naming : ℕ → List ℕ) → Walk (ignored_by (filter_of c.args.filter)) (mark_of c.args.mark) (level_at (g.W.LevelView.levels c.args.view.now) (g.W.LevelView.level_of c.args.view.now c.args.spot)) c.args.items.now naming c.args.first ((g.W.LevelView.place_of c.args.view.now c.args.spot) + 1) c.loop-next.next (g.W.LevelView.place_of c.args.view.now c.in-Some.here) c.args.trace.now.read c.loop-next.trace.read c.args.bound.now.items c.loop-next.bound.items = λ naming. subst (λ p. Walk (ignored_by (filter_of c.args.filter)) (mark_of c.args.mark) (level_at (g.W.LevelView.levels c.args.view.now) (g.W.LevelView.level_of c.args.view.now c.args.spot)) c.args.items.now naming c.args.first ((g.W.LevelView.place_of c.args.view.now c.args.spot) + 1) c.loop-next.next p c.args.trace.now.read c.loop-next.trace.read c.args.bound.now.items c.loop-next.bound.items) st.2 (c.loop-next.invariant.4 naming) in
-    let s : Shows (level_at (g.W.LevelView.levels c.args.view.now) (g.W.LevelView.level_of c.args.view.now c.args.spot)) (g.W.LevelView.place_of c.args.view.now c.in-Some.here) (Module (record { name = module_name c.in-Module.name; params = c.in-Module.params.now })) c.tag-tag.result = shows (g.W.LevelView.levels c.args.view.now) (g.W.LevelView.level_of c.args.view.now c.in-Some.here) (g.W.LevelView.level_of c.args.view.now c.args.spot) (g.W.LevelView.place_of c.args.view.now c.in-Some.here) (Module (record { name = module_name c.in-Module.name; params = c.in-Module.params.now })) c.tag-tag.result st.0 c.in-Module.ensures.seen c.tag-tag.ensures.tag in
-    let i : ignored_by (filter_of c.args.filter) (module_name c.in-Module.name) ≡ false = sym c.ignores.ensures ∙ c.if-ignores.false in
-    let a : c.note-else-ignores.new.self.read ≡ c.loop-next.trace.read ++ (Compared (mark_of c.args.mark) c.tag-tag.result (record { name = module_name c.in-Module.name; params = c.in-Module.params.now })) ∷ [] = c.in_ok-note-in-Module-2.ensures.added ∙ ap (λ n. c.loop-next.trace.read ++ n ∷ []) c.compared.ensures.noted in
-    let l : most_entries < length c.note-else-ignores.new.self.read = search rules in
-    record { told = λ naming. let u = at_compared (ignored_by (filter_of c.args.filter)) (mark_of c.args.mark) (level_at (g.W.LevelView.levels c.args.view.now) (g.W.LevelView.level_of c.args.view.now c.args.spot)) c.args.items.now naming c.loop-next.next (g.W.LevelView.place_of c.args.view.now c.in-Some.here) c.tag-tag.result (record { name = module_name c.in-Module.name; params = c.in-Module.params.now }) n s i in walk_far (ignored_by (filter_of c.args.filter)) (mark_of c.args.mark) (level_at (g.W.LevelView.levels c.args.view.now) (g.W.LevelView.level_of c.args.view.now c.args.spot)) c.args.items.now naming c.args.first ((g.W.LevelView.place_of c.args.view.now c.args.spot) + 1) c.loop-next.next (g.W.LevelView.place_of c.args.view.now c.in-Some.here) most_entries c.args.trace.now.read c.loop-next.trace.read c.note-else-ignores.new.self.read c.args.bound.now.items c.loop-next.bound.items (KeptInOrder c.args.bound.now.items c.loop-next.bound.items) (Compared (mark_of c.args.mark) c.tag-tag.result (record { name = module_name c.in-Module.name; params = c.in-Module.params.now })) u.0 (w naming) a c.loop-next.invariant.3 l u.1; refused = λ naming. tt; few = search rules; front = c.loop-next.invariant.5; counted = omega (arith, c.note-else-ignores.ensures.counted, c.loop-next.invariant.6); same = search rules }
+pub right_reads-returns-in_err-note-in-Push : goal.right_reads-returns-in_err-note-in-Push
+right_reads-returns-in_err-note-in-Push g t c =
+    record { told = search rules; refused = λ naming. on_err _ _ (walk_front _ _ _ _ naming (c.loop-mark.invariant.4 naming) _ c.in_err-note-in-Push.ensures.refused); few = search rules; front = c.loop-mark.invariant.5; counted = omega (arith, c.note.ensures.counted, c.loop-mark.invariant.6); same = search rules }
 
-pub returns-then-not-fits : goal.returns-then-not-fits
-returns-then-not-fits g t c =
-    let here : slice_get c.args.items.now c.loop-next.next ≡ Some c.index-items-next.result = item_at c.args.items.now c.loop-next.next c.index-items-next.result c.loop-next-test.true c.index-items-next.is in
-    let n : patterns_from c.args.items.now c.loop-next.next ≢ Done = wants (ignored_by (filter_of c.args.filter)) (mark_of c.args.mark) (level_at (g.W.LevelView.levels c.args.view.now) (g.W.LevelView.level_of c.args.view.now c.args.spot)) c.args.items.now c.loop-next.next c.index-items-next.result here c.in_default.not-Pop in
-    let st = stands (g.W.LevelView.levels c.args.view.now) (g.W.LevelView.level_of c.args.view.now) (g.W.LevelView.place_of c.args.view.now) (g.W.LevelView.level_of c.args.view.now c.args.spot) c.loop-next.at c.in-Some.here c.in-Some.is c.loop-next.invariant.0 in
-    let w : (naming : ℕ → List ℕ) → Walk (ignored_by (filter_of c.args.filter)) (mark_of c.args.mark) (level_at (g.W.LevelView.levels c.args.view.now) (g.W.LevelView.level_of c.args.view.now c.args.spot)) c.args.items.now naming c.args.first ((g.W.LevelView.place_of c.args.view.now c.args.spot) + 1) c.loop-next.next (g.W.LevelView.place_of c.args.view.now c.in-Some.here) c.args.trace.now.read c.loop-next.trace.read c.args.bound.now.items c.loop-next.bound.items = λ naming. subst (λ p. Walk (ignored_by (filter_of c.args.filter)) (mark_of c.args.mark) (level_at (g.W.LevelView.levels c.args.view.now) (g.W.LevelView.level_of c.args.view.now c.args.spot)) c.args.items.now naming c.args.first ((g.W.LevelView.place_of c.args.view.now c.args.spot) + 1) c.loop-next.next p c.args.trace.now.read c.loop-next.trace.read c.args.bound.now.items c.loop-next.bound.items) st.2 (c.loop-next.invariant.4 naming) in
-    let s : Shows (level_at (g.W.LevelView.levels c.args.view.now) (g.W.LevelView.level_of c.args.view.now c.args.spot)) (g.W.LevelView.place_of c.args.view.now c.in-Some.here) (Module (record { name = module_name c.in-Module.name; params = c.in-Module.params.now })) c.tag-tag.result = shows (g.W.LevelView.levels c.args.view.now) (g.W.LevelView.level_of c.args.view.now c.in-Some.here) (g.W.LevelView.level_of c.args.view.now c.args.spot) (g.W.LevelView.place_of c.args.view.now c.in-Some.here) (Module (record { name = module_name c.in-Module.name; params = c.in-Module.params.now })) c.tag-tag.result st.0 c.in-Module.ensures.seen c.tag-tag.ensures.tag in
-    let i : ignored_by (filter_of c.args.filter) (module_name c.in-Module.name) ≡ false = sym c.ignores.ensures ∙ c.if-ignores.false in
-    let a : c.note-else-ignores.new.self.read ≡ c.loop-next.trace.read ++ (Compared (mark_of c.args.mark) c.tag-tag.result (record { name = module_name c.in-Module.name; params = c.in-Module.params.now })) ∷ [] = c.in_ok-note-in-Module-2.ensures.added ∙ ap (λ n. c.loop-next.trace.read ++ n ∷ []) c.compared.ensures.noted in
-    let l : length c.note-else-ignores.new.self.read ≤ most_entries = search rules in
-    let one : slice_get c.args.items.now c.loop-next.next ≡ Some (items.Pattern c.in-Pattern.pattern) = here ∙ ap (λ i. Some i) c.in-Pattern.is in
-    let j : fits (pattern_of c.in-Pattern.pattern) (L.Module [] (record { name = module_name c.in-Module.name; params = c.in-Module.params.now })) ≡ false = search rules in
-    record { told = λ naming. walk_misfit (ignored_by (filter_of c.args.filter)) (mark_of c.args.mark) (level_at (g.W.LevelView.levels c.args.view.now) (g.W.LevelView.level_of c.args.view.now c.args.spot)) c.args.items.now naming c.args.first ((g.W.LevelView.place_of c.args.view.now c.args.spot) + 1) c.loop-next.next (g.W.LevelView.place_of c.args.view.now c.in-Some.here) most_entries c.args.trace.now.read c.loop-next.trace.read c.note-else-ignores.new.self.read c.args.bound.now.items c.loop-next.bound.items (KeptInOrder c.args.bound.now.items c.loop-next.bound.items) (Compared (mark_of c.args.mark) c.tag-tag.result (record { name = module_name c.in-Module.name; params = c.in-Module.params.now })) (w naming) a l (at_tried (ignored_by (filter_of c.args.filter)) (mark_of c.args.mark) (level_at (g.W.LevelView.levels c.args.view.now) (g.W.LevelView.level_of c.args.view.now c.args.spot)) c.args.items.now naming c.loop-next.next (g.W.LevelView.place_of c.args.view.now c.in-Some.here) c.tag-tag.result c.in-Pattern.pattern (record { name = module_name c.in-Module.name; params = c.in-Module.params.now }) false one s i j); refused = λ naming. tt; few = search rules; front = c.loop-next.invariant.5; counted = omega (arith, c.note-else-ignores.ensures.counted, c.loop-next.invariant.6); same = search rules }
+pub right_reads-returns-in_err-walked-in-Module : goal.right_reads-returns-in_err-walked-in-Module
+right_reads-returns-in_err-walked-in-Module g t c =
+    record { told = search rules; refused = λ naming. on_err _ _ (walk_front _ _ _ _ naming (c.loop-mark.invariant.4 naming) _ c.in_err-walked-in-Module.ensures.refused); few = search rules; front = c.loop-mark.invariant.5; counted = omega (arith, c.meet_module.ensures.counted, c.loop-mark.invariant.6); same = search rules }
 
-pub returns-in_default-wanted-2 : goal.returns-in_default-wanted-2
-returns-in_default-wanted-2 g t c =
-    let here : slice_get c.args.items.now c.loop-next.next ≡ Some c.index-items-next.result = item_at c.args.items.now c.loop-next.next c.index-items-next.result c.loop-next-test.true c.index-items-next.is in
-    let n : patterns_from c.args.items.now c.loop-next.next ≢ Done = wants (ignored_by (filter_of c.args.filter)) (mark_of c.args.mark) (level_at (g.W.LevelView.levels c.args.view.now) (g.W.LevelView.level_of c.args.view.now c.args.spot)) c.args.items.now c.loop-next.next c.index-items-next.result here c.in_default.not-Pop in
-    let st = stands (g.W.LevelView.levels c.args.view.now) (g.W.LevelView.level_of c.args.view.now) (g.W.LevelView.place_of c.args.view.now) (g.W.LevelView.level_of c.args.view.now c.args.spot) c.loop-next.at c.in-Some.here c.in-Some.is c.loop-next.invariant.0 in
-    let w : (naming : ℕ → List ℕ) → Walk (ignored_by (filter_of c.args.filter)) (mark_of c.args.mark) (level_at (g.W.LevelView.levels c.args.view.now) (g.W.LevelView.level_of c.args.view.now c.args.spot)) c.args.items.now naming c.args.first ((g.W.LevelView.place_of c.args.view.now c.args.spot) + 1) c.loop-next.next (g.W.LevelView.place_of c.args.view.now c.in-Some.here) c.args.trace.now.read c.loop-next.trace.read c.args.bound.now.items c.loop-next.bound.items = λ naming. subst (λ p. Walk (ignored_by (filter_of c.args.filter)) (mark_of c.args.mark) (level_at (g.W.LevelView.levels c.args.view.now) (g.W.LevelView.level_of c.args.view.now c.args.spot)) c.args.items.now naming c.args.first ((g.W.LevelView.place_of c.args.view.now c.args.spot) + 1) c.loop-next.next p c.args.trace.now.read c.loop-next.trace.read c.args.bound.now.items c.loop-next.bound.items) st.2 (c.loop-next.invariant.4 naming) in
-    let s : Shows (level_at (g.W.LevelView.levels c.args.view.now) (g.W.LevelView.level_of c.args.view.now c.args.spot)) (g.W.LevelView.place_of c.args.view.now c.in-Some.here) (Module (record { name = module_name c.in-Module.name; params = c.in-Module.params.now })) c.tag-tag.result = shows (g.W.LevelView.levels c.args.view.now) (g.W.LevelView.level_of c.args.view.now c.in-Some.here) (g.W.LevelView.level_of c.args.view.now c.args.spot) (g.W.LevelView.place_of c.args.view.now c.in-Some.here) (Module (record { name = module_name c.in-Module.name; params = c.in-Module.params.now })) c.tag-tag.result st.0 c.in-Module.ensures.seen c.tag-tag.ensures.tag in
-    let i : ignored_by (filter_of c.args.filter) (module_name c.in-Module.name) ≡ false = sym c.ignores.ensures ∙ c.if-ignores.false in
-    let a : c.note-else-ignores.new.self.read ≡ c.loop-next.trace.read ++ (Compared (mark_of c.args.mark) c.tag-tag.result (record { name = module_name c.in-Module.name; params = c.in-Module.params.now })) ∷ [] = c.in_ok-note-in-Module-2.ensures.added ∙ ap (λ n. c.loop-next.trace.read ++ n ∷ []) c.compared.ensures.noted in
-    let l : length c.note-else-ignores.new.self.read ≤ most_entries = search rules in
-    let push : slice_get c.args.items.now c.loop-next.next ≡ Some items.Push = here ∙ ap (λ i. Some i) (branch_wanted c.index-items-next.result c.in_default.not-Pop c.in_default-wanted-2.not-Pattern) in
-    record { told = λ naming. walk_misfit (ignored_by (filter_of c.args.filter)) (mark_of c.args.mark) (level_at (g.W.LevelView.levels c.args.view.now) (g.W.LevelView.level_of c.args.view.now c.args.spot)) c.args.items.now naming c.args.first ((g.W.LevelView.place_of c.args.view.now c.args.spot) + 1) c.loop-next.next (g.W.LevelView.place_of c.args.view.now c.in-Some.here) most_entries c.args.trace.now.read c.loop-next.trace.read c.note-else-ignores.new.self.read c.args.bound.now.items c.loop-next.bound.items (KeptInOrder c.args.bound.now.items c.loop-next.bound.items) (Compared (mark_of c.args.mark) c.tag-tag.result (record { name = module_name c.in-Module.name; params = c.in-Module.params.now })) (w naming) a l (at_unfit (ignored_by (filter_of c.args.filter)) (mark_of c.args.mark) (level_at (g.W.LevelView.levels c.args.view.now) (g.W.LevelView.level_of c.args.view.now c.args.spot)) c.args.items.now naming c.loop-next.next (g.W.LevelView.place_of c.args.view.now c.in-Some.here) c.tag-tag.result (record { name = module_name c.in-Module.name; params = c.in-Module.params.now }) push s i); refused = λ naming. tt; few = search rules; front = c.loop-next.invariant.5; counted = omega (arith, c.note-else-ignores.ensures.counted, c.loop-next.invariant.6); same = search rules }
+pub right_reads-returns-in_err-extend_from_slice-in-Matched : goal.right_reads-returns-in_err-extend_from_slice-in-Matched
+right_reads-returns-in_err-extend_from_slice-in-Matched g t c =
+    let st = stands g t (goal.at.right_reads-returns-in_err-extend_from_slice-in-Matched g t c).After-tag-tag in
+    let w = walk_here g t (goal.at.right_reads-returns-in_err-extend_from_slice-in-Matched g t c).After-tag-tag in
+    let here = item_at c.args.items.now c.loop-mark.next c.index-items-next.result (c.is_wanted.ensures.within c.loop-mark-test.true) c.index-items-next.is in
+    let b : c.extend_from_slice.new.self.items ≡ c.loop-mark.bound.items = search rules in
+    record { told = search rules; refused = λ naming. on_err _ _ (walk_met_front _ _ _ _ naming (w naming) here c.pattern_in-due.ensures (c.is_wanted.ensures.wanted c.loop-mark-test.true) (seen_at st c.in-Module.ensures.seen c.tag-tag.ensures.tag) c.in_ok-walked-in-Module.ensures.noted); few = search rules; front = ap (take (length c.args.bound.now.items)) b ∙ c.loop-mark.invariant.5; counted = omega (arith, c.meet_module.ensures.counted, c.loop-mark.invariant.6); same = search rules }
 
-pub loop-next-preserved : goal.loop-next-preserved
-loop-next-preserved g t c =
-    let here : slice_get c.args.items.now c.loop-next.next ≡ Some c.index-items-next.result = item_at c.args.items.now c.loop-next.next c.index-items-next.result c.loop-next-test.true c.index-items-next.is in
-    let n : patterns_from c.args.items.now c.loop-next.next ≢ Done = wants (ignored_by (filter_of c.args.filter)) (mark_of c.args.mark) (level_at (g.W.LevelView.levels c.args.view.now) (g.W.LevelView.level_of c.args.view.now c.args.spot)) c.args.items.now c.loop-next.next c.index-items-next.result here c.in_default.not-Pop in
-    let st = stands (g.W.LevelView.levels c.args.view.now) (g.W.LevelView.level_of c.args.view.now) (g.W.LevelView.place_of c.args.view.now) (g.W.LevelView.level_of c.args.view.now c.args.spot) c.loop-next.at c.in-Some.here c.in-Some.is c.loop-next.invariant.0 in
-    let w : (naming : ℕ → List ℕ) → Walk (ignored_by (filter_of c.args.filter)) (mark_of c.args.mark) (level_at (g.W.LevelView.levels c.args.view.now) (g.W.LevelView.level_of c.args.view.now c.args.spot)) c.args.items.now naming c.args.first ((g.W.LevelView.place_of c.args.view.now c.args.spot) + 1) c.loop-next.next (g.W.LevelView.place_of c.args.view.now c.in-Some.here) c.args.trace.now.read c.loop-next.trace.read c.args.bound.now.items c.loop-next.bound.items = λ naming. subst (λ p. Walk (ignored_by (filter_of c.args.filter)) (mark_of c.args.mark) (level_at (g.W.LevelView.levels c.args.view.now) (g.W.LevelView.level_of c.args.view.now c.args.spot)) c.args.items.now naming c.args.first ((g.W.LevelView.place_of c.args.view.now c.args.spot) + 1) c.loop-next.next p c.args.trace.now.read c.loop-next.trace.read c.args.bound.now.items c.loop-next.bound.items) st.2 (c.loop-next.invariant.4 naming) in
-    let s : Shows (level_at (g.W.LevelView.levels c.args.view.now) (g.W.LevelView.level_of c.args.view.now c.args.spot)) (g.W.LevelView.place_of c.args.view.now c.in-Some.here) (Module (record { name = module_name c.in-Module.name; params = c.in-Module.params.now })) c.tag-tag.result = shows (g.W.LevelView.levels c.args.view.now) (g.W.LevelView.level_of c.args.view.now c.in-Some.here) (g.W.LevelView.level_of c.args.view.now c.args.spot) (g.W.LevelView.place_of c.args.view.now c.in-Some.here) (Module (record { name = module_name c.in-Module.name; params = c.in-Module.params.now })) c.tag-tag.result st.0 c.in-Module.ensures.seen c.tag-tag.ensures.tag in
-    let i : ignored_by (filter_of c.args.filter) (module_name c.in-Module.name) ≡ false = sym c.ignores.ensures ∙ c.if-ignores.false in
-    let a : c.note-else-ignores.new.self.read ≡ c.loop-next.trace.read ++ (Compared (mark_of c.args.mark) c.tag-tag.result (record { name = module_name c.in-Module.name; params = c.in-Module.params.now })) ∷ [] = c.in_ok-note-in-Module-2.ensures.added ∙ ap (λ n. c.loop-next.trace.read ++ n ∷ []) c.compared.ensures.noted in
-    let l : length c.note-else-ignores.new.self.read ≤ most_entries = search rules in
-    let one : slice_get c.args.items.now c.loop-next.next ≡ Some (items.Pattern c.in-Pattern.pattern) = here ∙ ap (λ i. Some i) c.in-Pattern.is in
-    let j : fits (pattern_of c.in-Pattern.pattern) (L.Module [] (record { name = module_name c.in-Module.name; params = c.in-Module.params.now })) ≡ true = search rules in
-    let mv = moved (g.W.LevelView.levels c.args.view.now) (g.W.LevelView.level_of c.args.view.now) (g.W.LevelView.place_of c.args.view.now) (g.W.LevelView.level_of c.args.view.now c.args.spot) c.in-Some.here c.right-at-in-Module.result st.0 c.right-at-in-Module.ensures in
-    let b : c.extend_from_slice.new.self.items ≡ c.loop-next.bound.items ++ c.in-Module.params.now = search rules in
-    (mv.0, omega (arith, c.loop-next.invariant.1), omega (arith, c.loop-next-test.true), l, λ naming. subst (λ p. Walk (ignored_by (filter_of c.args.filter)) (mark_of c.args.mark) (level_at (g.W.LevelView.levels c.args.view.now) (g.W.LevelView.level_of c.args.view.now c.args.spot)) c.args.items.now naming c.args.first ((g.W.LevelView.place_of c.args.view.now c.args.spot) + 1) (c.loop-next.next + 1) p c.args.trace.now.read c.note-else-ignores.new.self.read c.args.bound.now.items c.extend_from_slice.new.self.items) (sym mv.1) (walk_fit (ignored_by (filter_of c.args.filter)) (mark_of c.args.mark) (level_at (g.W.LevelView.levels c.args.view.now) (g.W.LevelView.level_of c.args.view.now c.args.spot)) c.args.items.now naming c.args.first ((g.W.LevelView.place_of c.args.view.now c.args.spot) + 1) c.loop-next.next (g.W.LevelView.place_of c.args.view.now c.in-Some.here) most_entries c.args.trace.now.read c.loop-next.trace.read c.note-else-ignores.new.self.read c.args.bound.now.items c.loop-next.bound.items c.tag-tag.result (record { name = module_name c.in-Module.name; params = c.in-Module.params.now }) c.extend_from_slice.new.self.items ((g.W.LevelView.place_of c.args.view.now c.in-Some.here) + 1) (w naming) a b (at_tried (ignored_by (filter_of c.args.filter)) (mark_of c.args.mark) (level_at (g.W.LevelView.levels c.args.view.now) (g.W.LevelView.level_of c.args.view.now c.args.spot)) c.args.items.now naming c.loop-next.next (g.W.LevelView.place_of c.args.view.now c.in-Some.here) c.tag-tag.result c.in-Pattern.pattern (record { name = module_name c.in-Module.name; params = c.in-Module.params.now }) true one s i j)), front_more c.args.bound.now.items c.loop-next.bound.items c.extend_from_slice.new.self.items c.in-Module.params.now c.loop-next.invariant.5 b, omega (arith, c.note-else-ignores.ensures.counted, c.loop-next.invariant.6), search rules)
+pub right_reads-returns-in_err-inner_reads-in-Push : goal.right_reads-returns-in_err-inner_reads-in-Push
+right_reads-returns-in_err-inner_reads-in-Push g t c =
+    let st = stands g t (goal.at.right_reads-returns-in_err-inner_reads-in-Push g t c).After-tag-tag in
+    let w = walk_here g t (goal.at.right_reads-returns-in_err-inner_reads-in-Push g t c).After-tag-tag in
+    let m = ended_at st c.mate-mate.result c.mate-mate.ensures.level c.mate-mate.ensures.mate c.in-Push.ensures.seen c.tag.ensures.tag in
+    let h = front_on_level st (inner_told c.args.filter c.args.mark c.args.items.now c.loop-mark.next (g.W.LevelView.place_of c.args.view.now c.in-Some.here)) c.note.new.self.read c.inner_reads.new.trace.read c.inner_reads.result _ c.in_err-inner_reads-in-Push.was c.inner_reads.ensures.refused in
+    record { told = search rules; refused = λ naming. on_err _ _ (walk_inner_front _ _ _ _ naming (w naming) (c.is_wanted.ensures.wanted c.loop-mark-test.true) (seen_at st c.in-Push.ensures.seen c.tag-tag.ensures.tag) m (c.in_ok-note-in-Push.ensures.added ∙ ap (λ n. c.loop-mark.trace.read ++ n ∷ []) c.branch-mark.ensures.noted) c.inner_reads.new.trace.read (h naming)); few = search rules; front = front_on c.args.bound.now.items c.loop-mark.bound.items c.inner_reads.new.bound.items c.loop-mark.invariant.5 c.inner_reads.ensures.front; counted = omega (arith, c.note.ensures.counted, c.inner_reads.ensures.counted, c.loop-mark.invariant.6); same = search rules }
 
-pub returns-in_err-note-in-Push : goal.returns-in_err-note-in-Push
-returns-in_err-note-in-Push g t c =
-    record { told = search rules; refused = λ naming. on_err _ _ (subst (λ ns. ReadsFront (right_on (ignored_by (filter_of c.args.filter)) (mark_of c.args.mark) (level_at (g.W.LevelView.levels c.args.view.now) (g.W.LevelView.level_of c.args.view.now c.args.spot)) c.args.items.now naming c.args.first ((g.W.LevelView.place_of c.args.view.now c.args.spot) + 1)) (es_of naming c.args.trace.now.read) (es_of naming ns)) (sym c.in_err-note-in-Push.ensures.refused) (walk_front (ignored_by (filter_of c.args.filter)) (mark_of c.args.mark) (level_at (g.W.LevelView.levels c.args.view.now) (g.W.LevelView.level_of c.args.view.now c.args.spot)) c.args.items.now naming c.args.first ((g.W.LevelView.place_of c.args.view.now c.args.spot) + 1) c.loop-next.next (place_at (g.W.LevelView.levels c.args.view.now) (g.W.LevelView.level_of c.args.view.now) (g.W.LevelView.place_of c.args.view.now) (g.W.LevelView.level_of c.args.view.now c.args.spot) c.loop-next.at) most_entries c.args.trace.now.read c.loop-next.trace.read c.loop-next.trace.read c.args.bound.now.items c.loop-next.bound.items (c.loop-next.invariant.4 naming))); few = search rules; front = c.loop-next.invariant.5; counted = omega (arith, c.note.ensures.counted, c.loop-next.invariant.6); same = search rules }
+pub inner_reads-returns-in_default : goal.inner_reads-returns-in_default
+inner_reads-returns-in_default g t c =
+    let here = item_at c.args.items.now c.args.next c.index-items-next.result c.requires.within c.index-items-next.is in
+    record { told = λ naming. reads_nothing naming _ most_entries c.args.trace.now.read (KeptInOrder c.args.bound.now.items c.args.bound.now.items) (inner_none (ignored_by (filter_of c.args.filter)) (mark_of c.args.mark) (spots_at (g.W.LevelView.levels c.args.view.now) (g.W.LevelView.level_of c.args.view.now c.args.spot)) c.args.items.now c.args.next c.index-items-next.result (items_from (level_by naming (spots_at (g.W.LevelView.levels c.args.view.now) (g.W.LevelView.level_of c.args.view.now c.args.spot))) (g.W.LevelView.place_of c.args.view.now c.args.spot + 1)) here c.in_default.not-Push) c.requires.room; refused = λ naming. tt; branch = λ i. cc; missed = λ i. refl; few = search rules; front = take_all (length c.args.bound.now.items) c.args.bound.now.items (omega arith); counted = refl; same = refl }
 
-pub returns-in_err-note-in-Module : goal.returns-in_err-note-in-Module
-returns-in_err-note-in-Module g t c =
-    record { told = search rules; refused = λ naming. on_err _ _ (subst (λ ns. ReadsFront (right_on (ignored_by (filter_of c.args.filter)) (mark_of c.args.mark) (level_at (g.W.LevelView.levels c.args.view.now) (g.W.LevelView.level_of c.args.view.now c.args.spot)) c.args.items.now naming c.args.first ((g.W.LevelView.place_of c.args.view.now c.args.spot) + 1)) (es_of naming c.args.trace.now.read) (es_of naming ns)) (sym c.in_err-note-in-Module.ensures.refused) (walk_front (ignored_by (filter_of c.args.filter)) (mark_of c.args.mark) (level_at (g.W.LevelView.levels c.args.view.now) (g.W.LevelView.level_of c.args.view.now c.args.spot)) c.args.items.now naming c.args.first ((g.W.LevelView.place_of c.args.view.now c.args.spot) + 1) c.loop-next.next (place_at (g.W.LevelView.levels c.args.view.now) (g.W.LevelView.level_of c.args.view.now) (g.W.LevelView.place_of c.args.view.now) (g.W.LevelView.level_of c.args.view.now c.args.spot) c.loop-next.at) most_entries c.args.trace.now.read c.loop-next.trace.read c.loop-next.trace.read c.args.bound.now.items c.loop-next.bound.items (c.loop-next.invariant.4 naming))); few = search rules; front = c.loop-next.invariant.5; counted = omega (arith, c.note-then-ignores.ensures.counted, c.loop-next.invariant.6); same = search rules }
+pub inner_reads-returns-in-Missed : goal.inner_reads-returns-in-Missed
+inner_reads-returns-in-Missed g t c =
+    let here = item_at c.args.items.now c.args.next c.index-items-next.result c.requires.within c.index-items-next.is in
+    let push = here ∙ ap (λ i. Some i) c.in-Push.is in
+    let cut : c.truncate.new.self.items ≡ take (length c.args.bound.now.items) c.right_reads.new.bound.items = search rules in
+    let kept = cut ∙ c.right_reads.ensures.front in
+    record { told = λ naming. kept_as c.in_ok-walked.walked most_entries _ (es_of naming c.args.trace.now.read) (es_of naming c.right_reads.new.trace.read) (KeptInOrder c.args.bound.now.items c.right_reads.new.bound.items) (KeptInOrder c.args.bound.now.items c.truncate.new.self.items) c.in-Missed.is (subst (λ t. Walks most_entries t (es_of naming c.args.trace.now.read) (es_of naming c.right_reads.new.trace.read) (KeptInOrder c.args.bound.now.items c.right_reads.new.bound.items) c.in_ok-walked.walked) (sym (inner_push (ignored_by (filter_of c.args.filter)) (mark_of c.args.mark) (spots_at (g.W.LevelView.levels c.args.view.now) (g.W.LevelView.level_of c.args.view.now c.args.spot)) c.args.items.now c.args.next (items_from (level_by naming (spots_at (g.W.LevelView.levels c.args.view.now) (g.W.LevelView.level_of c.args.view.now c.args.spot))) (g.W.LevelView.place_of c.args.view.now c.args.spot + 1)) push)) (c.in_ok-walked.ensures.told naming)); refused = λ naming. tt; branch = λ i. push; missed = λ i. kept; few = search rules; front = ap (take (length c.args.bound.now.items)) kept ∙ take_all (length c.args.bound.now.items) c.args.bound.now.items (omega arith); counted = c.right_reads.ensures.counted; same = search rules }
 
-pub returns-in_err-note-in-Module-2 : goal.returns-in_err-note-in-Module-2
-returns-in_err-note-in-Module-2 g t c =
-    record { told = search rules; refused = λ naming. on_err _ _ (subst (λ ns. ReadsFront (right_on (ignored_by (filter_of c.args.filter)) (mark_of c.args.mark) (level_at (g.W.LevelView.levels c.args.view.now) (g.W.LevelView.level_of c.args.view.now c.args.spot)) c.args.items.now naming c.args.first ((g.W.LevelView.place_of c.args.view.now c.args.spot) + 1)) (es_of naming c.args.trace.now.read) (es_of naming ns)) (sym c.in_err-note-in-Module-2.ensures.refused) (walk_front (ignored_by (filter_of c.args.filter)) (mark_of c.args.mark) (level_at (g.W.LevelView.levels c.args.view.now) (g.W.LevelView.level_of c.args.view.now c.args.spot)) c.args.items.now naming c.args.first ((g.W.LevelView.place_of c.args.view.now c.args.spot) + 1) c.loop-next.next (place_at (g.W.LevelView.levels c.args.view.now) (g.W.LevelView.level_of c.args.view.now) (g.W.LevelView.place_of c.args.view.now) (g.W.LevelView.level_of c.args.view.now c.args.spot) c.loop-next.at) most_entries c.args.trace.now.read c.loop-next.trace.read c.loop-next.trace.read c.args.bound.now.items c.loop-next.bound.items (c.loop-next.invariant.4 naming))); few = search rules; front = c.loop-next.invariant.5; counted = omega (arith, c.note-else-ignores.ensures.counted, c.loop-next.invariant.6); same = search rules }
+pub inner_reads-returns-in_default-walked : goal.inner_reads-returns-in_default-walked
+inner_reads-returns-in_default-walked g t c =
+    let here = item_at c.args.items.now c.args.next c.index-items-next.result c.requires.within c.index-items-next.is in
+    let push = here ∙ ap (λ i. Some i) c.in-Push.is in
+    record { told = λ naming. subst (λ t. Walks most_entries t (es_of naming c.args.trace.now.read) (es_of naming c.right_reads.new.trace.read) (KeptInOrder c.args.bound.now.items c.right_reads.new.bound.items) c.in_ok-walked.walked) (sym (inner_push (ignored_by (filter_of c.args.filter)) (mark_of c.args.mark) (spots_at (g.W.LevelView.levels c.args.view.now) (g.W.LevelView.level_of c.args.view.now c.args.spot)) c.args.items.now c.args.next (items_from (level_by naming (spots_at (g.W.LevelView.levels c.args.view.now) (g.W.LevelView.level_of c.args.view.now c.args.spot))) (g.W.LevelView.place_of c.args.view.now c.args.spot + 1)) push)) (c.in_ok-walked.ensures.told naming); refused = λ naming. tt; branch = λ i. push; missed = λ i. absurd (c.in_default-walked.not-Missed i); few = search rules; front = c.right_reads.ensures.front; counted = c.right_reads.ensures.counted; same = search rules }
 
-pub returns-in_err-extend_from_slice-in-Module : goal.returns-in_err-extend_from_slice-in-Module
-returns-in_err-extend_from_slice-in-Module g t c =
-    let here : slice_get c.args.items.now c.loop-next.next ≡ Some c.index-items-next.result = item_at c.args.items.now c.loop-next.next c.index-items-next.result c.loop-next-test.true c.index-items-next.is in
-    let n : patterns_from c.args.items.now c.loop-next.next ≢ Done = wants (ignored_by (filter_of c.args.filter)) (mark_of c.args.mark) (level_at (g.W.LevelView.levels c.args.view.now) (g.W.LevelView.level_of c.args.view.now c.args.spot)) c.args.items.now c.loop-next.next c.index-items-next.result here c.in_default.not-Pop in
-    let st = stands (g.W.LevelView.levels c.args.view.now) (g.W.LevelView.level_of c.args.view.now) (g.W.LevelView.place_of c.args.view.now) (g.W.LevelView.level_of c.args.view.now c.args.spot) c.loop-next.at c.in-Some.here c.in-Some.is c.loop-next.invariant.0 in
-    let w : (naming : ℕ → List ℕ) → Walk (ignored_by (filter_of c.args.filter)) (mark_of c.args.mark) (level_at (g.W.LevelView.levels c.args.view.now) (g.W.LevelView.level_of c.args.view.now c.args.spot)) c.args.items.now naming c.args.first ((g.W.LevelView.place_of c.args.view.now c.args.spot) + 1) c.loop-next.next (g.W.LevelView.place_of c.args.view.now c.in-Some.here) c.args.trace.now.read c.loop-next.trace.read c.args.bound.now.items c.loop-next.bound.items = λ naming. subst (λ p. Walk (ignored_by (filter_of c.args.filter)) (mark_of c.args.mark) (level_at (g.W.LevelView.levels c.args.view.now) (g.W.LevelView.level_of c.args.view.now c.args.spot)) c.args.items.now naming c.args.first ((g.W.LevelView.place_of c.args.view.now c.args.spot) + 1) c.loop-next.next p c.args.trace.now.read c.loop-next.trace.read c.args.bound.now.items c.loop-next.bound.items) st.2 (c.loop-next.invariant.4 naming) in
-    let s : Shows (level_at (g.W.LevelView.levels c.args.view.now) (g.W.LevelView.level_of c.args.view.now c.args.spot)) (g.W.LevelView.place_of c.args.view.now c.in-Some.here) (Module (record { name = module_name c.in-Module.name; params = c.in-Module.params.now })) c.tag-tag.result = shows (g.W.LevelView.levels c.args.view.now) (g.W.LevelView.level_of c.args.view.now c.in-Some.here) (g.W.LevelView.level_of c.args.view.now c.args.spot) (g.W.LevelView.place_of c.args.view.now c.in-Some.here) (Module (record { name = module_name c.in-Module.name; params = c.in-Module.params.now })) c.tag-tag.result st.0 c.in-Module.ensures.seen c.tag-tag.ensures.tag in
-    let i : ignored_by (filter_of c.args.filter) (module_name c.in-Module.name) ≡ false = sym c.ignores.ensures ∙ c.if-ignores.false in
-    let a : c.note-else-ignores.new.self.read ≡ c.loop-next.trace.read ++ (Compared (mark_of c.args.mark) c.tag-tag.result (record { name = module_name c.in-Module.name; params = c.in-Module.params.now })) ∷ [] = c.in_ok-note-in-Module-2.ensures.added ∙ ap (λ n. c.loop-next.trace.read ++ n ∷ []) c.compared.ensures.noted in
-    let b : c.extend_from_slice.new.self.items ≡ c.loop-next.bound.items = search rules in
-    record { told = search rules; refused = λ naming. let u = at_compared (ignored_by (filter_of c.args.filter)) (mark_of c.args.mark) (level_at (g.W.LevelView.levels c.args.view.now) (g.W.LevelView.level_of c.args.view.now c.args.spot)) c.args.items.now naming c.loop-next.next (g.W.LevelView.place_of c.args.view.now c.in-Some.here) c.tag-tag.result (record { name = module_name c.in-Module.name; params = c.in-Module.params.now }) n s i in on_err _ _ (walk_front_on (ignored_by (filter_of c.args.filter)) (mark_of c.args.mark) (level_at (g.W.LevelView.levels c.args.view.now) (g.W.LevelView.level_of c.args.view.now c.args.spot)) c.args.items.now naming c.args.first ((g.W.LevelView.place_of c.args.view.now c.args.spot) + 1) c.loop-next.next (g.W.LevelView.place_of c.args.view.now c.in-Some.here) most_entries c.args.trace.now.read c.loop-next.trace.read c.note-else-ignores.new.self.read c.args.bound.now.items c.loop-next.bound.items (Compared (mark_of c.args.mark) c.tag-tag.result (record { name = module_name c.in-Module.name; params = c.in-Module.params.now })) u.0 (w naming) a u.1); few = search rules; front = (ap (take (length c.args.bound.now.items)) b ∙ c.loop-next.invariant.5); counted = omega (arith, c.note-else-ignores.ensures.counted, c.loop-next.invariant.6); same = search rules }
-
-pub returns-in_err-right_reads-in-Push : goal.returns-in_err-right_reads-in-Push
-returns-in_err-right_reads-in-Push g t c =
-    let here : slice_get c.args.items.now c.loop-next.next ≡ Some c.index-items-next.result = item_at c.args.items.now c.loop-next.next c.index-items-next.result c.loop-next-test.true c.index-items-next.is in
-    let n : patterns_from c.args.items.now c.loop-next.next ≢ Done = wants (ignored_by (filter_of c.args.filter)) (mark_of c.args.mark) (level_at (g.W.LevelView.levels c.args.view.now) (g.W.LevelView.level_of c.args.view.now c.args.spot)) c.args.items.now c.loop-next.next c.index-items-next.result here c.in_default.not-Pop in
-    let st = stands (g.W.LevelView.levels c.args.view.now) (g.W.LevelView.level_of c.args.view.now) (g.W.LevelView.place_of c.args.view.now) (g.W.LevelView.level_of c.args.view.now c.args.spot) c.loop-next.at c.in-Some.here c.in-Some.is c.loop-next.invariant.0 in
-    let w : (naming : ℕ → List ℕ) → Walk (ignored_by (filter_of c.args.filter)) (mark_of c.args.mark) (level_at (g.W.LevelView.levels c.args.view.now) (g.W.LevelView.level_of c.args.view.now c.args.spot)) c.args.items.now naming c.args.first ((g.W.LevelView.place_of c.args.view.now c.args.spot) + 1) c.loop-next.next (g.W.LevelView.place_of c.args.view.now c.in-Some.here) c.args.trace.now.read c.loop-next.trace.read c.args.bound.now.items c.loop-next.bound.items = λ naming. subst (λ p. Walk (ignored_by (filter_of c.args.filter)) (mark_of c.args.mark) (level_at (g.W.LevelView.levels c.args.view.now) (g.W.LevelView.level_of c.args.view.now c.args.spot)) c.args.items.now naming c.args.first ((g.W.LevelView.place_of c.args.view.now c.args.spot) + 1) c.loop-next.next p c.args.trace.now.read c.loop-next.trace.read c.args.bound.now.items c.loop-next.bound.items) st.2 (c.loop-next.invariant.4 naming) in
-    let s : Shows (level_at (g.W.LevelView.levels c.args.view.now) (g.W.LevelView.level_of c.args.view.now c.args.spot)) (g.W.LevelView.place_of c.args.view.now c.in-Some.here) Push c.tag-tag.result = shows (g.W.LevelView.levels c.args.view.now) (g.W.LevelView.level_of c.args.view.now c.in-Some.here) (g.W.LevelView.level_of c.args.view.now c.args.spot) (g.W.LevelView.place_of c.args.view.now c.in-Some.here) Push c.tag-tag.result st.0 c.in-Push.ensures.seen c.tag-tag.ensures.tag in
-    let m : Ended (level_at (g.W.LevelView.levels c.args.view.now) (g.W.LevelView.level_of c.args.view.now c.args.spot)) (g.W.LevelView.place_of c.args.view.now c.in-Some.here) (g.W.LevelView.place_of c.args.view.now c.mate-mate.result) c.tag.result = ended (g.W.LevelView.levels c.args.view.now) (g.W.LevelView.level_of c.args.view.now c.in-Some.here) (g.W.LevelView.level_of c.args.view.now c.mate-mate.result) (g.W.LevelView.level_of c.args.view.now c.args.spot) (g.W.LevelView.place_of c.args.view.now c.in-Some.here) (g.W.LevelView.place_of c.args.view.now c.mate-mate.result) c.tag.result st.0 c.mate-mate.ensures.level c.mate-mate.ensures.mate c.in-Push.ensures.seen c.tag.ensures.tag in
-    let a : c.note.new.self.read ≡ c.loop-next.trace.read ++ (Branched (mark_of c.args.mark) c.tag-tag.result c.tag.result) ∷ [] = c.in_ok-note-in-Push.ensures.added ∙ ap (λ n. c.loop-next.trace.read ++ n ∷ []) c.branch-mark.ensures.noted in
-    let push : slice_get c.args.items.now c.loop-next.next ≡ Some items.Push = here ∙ ap (λ i. Some i) c.in-Push-wanted.is in
-    let b = patterns_branch c.args.items.now c.loop-next.next push in
-    let bad : c.right_reads.result ≡ Err _ = c.in_err-right_reads-in-Push.was in
-    let h : (naming : ℕ → List ℕ) → ReadsFront (right_walk (ignored_by (filter_of c.args.filter)) (mark_of (record { rule = c.args.mark.rule; depth = c.args.mark.depth + 1 })) (patterns_from c.args.items.now (c.loop-next.next + 1)) (items_from (level_by naming (level_at (g.W.LevelView.levels c.args.view.now) (g.W.LevelView.level_of c.args.view.now c.args.spot))) ((g.W.LevelView.place_of c.args.view.now c.in-Some.here) + 1))) (es_of naming c.note.new.self.read) (es_of naming c.right_reads.new.trace.read) = λ naming. subst (λ i. ReadsFront (right_walk (ignored_by (filter_of c.args.filter)) (mark_of (record { rule = c.args.mark.rule; depth = c.args.mark.depth + 1 })) (patterns_from c.args.items.now (c.loop-next.next + 1)) (items_from (level_by naming (level_at (g.W.LevelView.levels c.args.view.now) i)) ((g.W.LevelView.place_of c.args.view.now c.in-Some.here) + 1))) (es_of naming c.note.new.self.read) (es_of naming c.right_reads.new.trace.read)) st.0 (subst (λ r. OnErr r (ReadsFront (right_walk (ignored_by (filter_of c.args.filter)) (mark_of (record { rule = c.args.mark.rule; depth = c.args.mark.depth + 1 })) (patterns_from c.args.items.now (c.loop-next.next + 1)) (items_from (level_by naming (level_at (g.W.LevelView.levels c.args.view.now) (g.W.LevelView.level_of c.args.view.now c.in-Some.here))) ((g.W.LevelView.place_of c.args.view.now c.in-Some.here) + 1))) (es_of naming c.note.new.self.read) (es_of naming c.right_reads.new.trace.read))) bad (c.right_reads.ensures.refused naming)) in
-    record { told = search rules; refused = λ naming. on_err _ _ (walk_inner_front (ignored_by (filter_of c.args.filter)) (mark_of c.args.mark) (level_at (g.W.LevelView.levels c.args.view.now) (g.W.LevelView.level_of c.args.view.now c.args.spot)) c.args.items.now naming c.args.first ((g.W.LevelView.place_of c.args.view.now c.args.spot) + 1) c.loop-next.next (g.W.LevelView.place_of c.args.view.now c.in-Some.here) (g.W.LevelView.place_of c.args.view.now c.mate-mate.result) c.tag-tag.result c.tag.result most_entries b.0 c.args.trace.now.read c.loop-next.trace.read c.note.new.self.read c.right_reads.new.trace.read c.args.bound.now.items c.loop-next.bound.items (w naming) a b.1 s m (h naming)); few = search rules; front = (front_on c.args.bound.now.items c.loop-next.bound.items c.right_reads.new.bound.items c.loop-next.invariant.5 c.right_reads.ensures.front); counted = omega (arith, c.note.ensures.counted, c.right_reads.ensures.counted, c.loop-next.invariant.6); same = search rules }
+pub inner_reads-returns-in_err-walked : goal.inner_reads-returns-in_err-walked
+inner_reads-returns-in_err-walked g t c =
+    let here = item_at c.args.items.now c.args.next c.index-items-next.result c.requires.within c.index-items-next.is in
+    let push = here ∙ ap (λ i. Some i) c.in-Push.is in
+    record { told = search rules; refused = λ naming. on_err _ _ (subst (λ t. ReadsFront t (es_of naming c.args.trace.now.read) (es_of naming c.right_reads.new.trace.read)) (sym (inner_push (ignored_by (filter_of c.args.filter)) (mark_of c.args.mark) (spots_at (g.W.LevelView.levels c.args.view.now) (g.W.LevelView.level_of c.args.view.now c.args.spot)) c.args.items.now c.args.next (items_from (level_by naming (spots_at (g.W.LevelView.levels c.args.view.now) (g.W.LevelView.level_of c.args.view.now c.args.spot))) (g.W.LevelView.place_of c.args.view.now c.args.spot + 1)) push)) (c.in_err-walked.ensures.refused naming)); branch = search rules; missed = search rules; few = search rules; front = c.right_reads.ensures.front; counted = c.right_reads.ensures.counted; same = search rules }

@@ -3,7 +3,7 @@ use Rattle.lsys_laws.specs.Sessions.{HasLevels}
 use Rattle.lsys_session.specs.Answers.{WasCounted}
 use Rattle.lsys_session.specs.declared.outcome.Outcome.TheVariants as outcomes
 use Rattle.lsys_desk.specs.Answers.{WasServedOrLacked, step_answer}
-use Rattle.lsys_desk.specs.Steps.{CanStep, steps_after, steps_by}
+use Rattle.lsys_desk.specs.Steps.{LeadsSomewhere, steps_after, steps_by}
 use Rattle.lsys_desk.specs.Views.{Bench, bench, desk_on}
 use Rattle.lsys_desk.proofs.Leading.{lacking, step_failed, step_taken}
 use Rattle.lsys_desk.proofs.Counting.{stay}
@@ -53,7 +53,7 @@ returns-in_err-outcome-clause-kept g c = rw c.in_err-outcome.ensures.limit c.sel
 -- 3. the outcome
 
 pub take_step-requires : goal.take_step-requires
-take_step-requires g c = subst (λ (b : Bench _). CanStep c.args.step b.steps) (sym c.self.view_is) c.requires.there
+take_step-requires g c = subst (λ (b : Bench _). LeadsSomewhere c.args.step b.steps) (sym c.self.view_is) c.requires.there
 
 pub invariant_of-self-2 : goal.invariant_of-self-2
 invariant_of-self-2 g c =

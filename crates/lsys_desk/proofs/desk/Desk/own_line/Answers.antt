@@ -2,7 +2,7 @@ use Rattle.std.proofs.Common.{None, ap, false, refl}
 use Rattle.lsys_spec.specs.Refusals.{Reply}
 use Rattle.lsys_spec.specs.Replies.{levels_of}
 use Rattle.lsys_spec.specs.Output.{memory_or}
-use Rattle.lsys_session.specs.Given.{unless_refused}
+use Rattle.lsys_session.specs.Given.{outcome_by_reply}
 use Rattle.lsys_session.specs.declared.outcome.Outcome.TheVariants as outcomes
 use Rattle.lsys_matrix.specs.Growth.{growth_at}
 use Rattle.lsys_desks.specs.Desks.{bounds_reply, growth_reply, place_reply}
@@ -27,7 +27,7 @@ pub returns-in-Growth-clause-counts : goal.returns-in-Growth-clause-counts
 returns-in-Growth-clause-counts g c =
     let reply : Reply = memory_or c.answer_growth.ensures.lacks c.system.result.now (growth_reply c.system.result.now (growth_at c.system.result.now c.in-Growth.level)) in
     stay g.D.Derivation.visits (g.D.Derivation.limit_of c.args.self.now.derivation) (g.D.Derivation.system_of c.args.self.now.derivation) (record { asked = c.args.asked.now; visited = c.args.visited.now })
-    false (unless_refused outcomes.Printed reply) c.answer_growth.result (printed_quiet reply) c.answer_growth.ensures.says.outcome
+    false (outcome_by_reply outcomes.Printed reply) c.answer_growth.result (printed_quiet reply) c.answer_growth.ensures.says.outcome
 
 pub returns-in-Growth-clause-leads : goal.returns-in-Growth-clause-leads
 returns-in-Growth-clause-leads g c =
@@ -49,7 +49,7 @@ returns-in-Bounds-clause-counts g c =
     let reply : Reply = memory_or c.tell_bounds.ensures.prints.lacks s (bounds_reply s (levels_of limit s)) in
     rw c.tell_bounds.ensures.stays
     (stay g.D.Derivation.visits limit s (record { asked = c.args.asked.now; visited = c.args.visited.now })
-    false (unless_refused outcomes.Printed reply) c.tell_bounds.result (printed_quiet reply) c.tell_bounds.ensures.prints.says.outcome)
+    false (outcome_by_reply outcomes.Printed reply) c.tell_bounds.result (printed_quiet reply) c.tell_bounds.ensures.prints.says.outcome)
 
 pub returns-in-Bounds-clause-leads : goal.returns-in-Bounds-clause-leads
 returns-in-Bounds-clause-leads g c =
@@ -73,7 +73,7 @@ returns-in-At-clause-counts g c =
     let reply : Reply = memory_or c.tell_place.ensures.prints.lacks s (place_reply s c.in-At.place c.in-At.column (levels_of limit s)) in
     rw c.tell_place.ensures.stays
     (stay g.D.Derivation.visits limit s (record { asked = c.args.asked.now; visited = c.args.visited.now })
-    false (unless_refused outcomes.Printed reply) c.tell_place.result (printed_quiet reply) c.tell_place.ensures.prints.says.outcome)
+    false (outcome_by_reply outcomes.Printed reply) c.tell_place.result (printed_quiet reply) c.tell_place.ensures.prints.says.outcome)
 
 pub returns-in-At-clause-leads : goal.returns-in-At-clause-leads
 returns-in-At-clause-leads g c =

@@ -10,7 +10,7 @@ use Rattle.lsys_desk.proofs.Answering.{by_edit, by_query, by_refusal, no_edit, s
 use Rattle.lsys_desk.proofs.Counting.{derived_so, refusal_quiet, stay}
 use Rattle.lsys_spec.specs.Costs.{edit_by}
 use Rattle.lsys_session.specs.Answers.{line_spelled}
-use Rattle.lsys_session.specs.Given.{done, given}
+use Rattle.lsys_session.specs.Given.{request_outcome, given_reply}
 use Rattle.lsys_desk.proofs.Answering.{refusal_refuses}
 use Rattle.lsys_desk.proofs.Telling.{done_unaccepted, edit_leads, query_leads, refusal_tells, tells_same, unrefused_tells}
 use Rattle.lsys_desk.proofs.desk.Desk.session_line.Goals as goal
@@ -104,4 +104,4 @@ returns-in_default-clause-leads g c =
     let no_edits = no_edit r c.in_default.not-Edit in
     let gives = c.answer.ensures.gives in
     rw (← c.self.view_is) (tells_same None (edit_by s (line_spelled c.args.line.now)) c.answer.result (query_leads s c.args.line.now r short asked no_edits)
-    (unrefused_tells None (done r) (given (g.D.Derivation.limit_of c.self.inside.session) s r gives.lacks) c.answer.result (done_unaccepted r no_edits) gives.says.outcome))
+    (unrefused_tells None (request_outcome r) (given_reply (g.D.Derivation.limit_of c.self.inside.session) s r gives.lacks) c.answer.result (done_unaccepted r no_edits) gives.says.outcome))

@@ -20,16 +20,18 @@ add_level-requires g c =
     c.in_ok-add_children.ensures.added c.in_ok-add_children.ensures.room c.finish.ensures)
 
 pub returns-clause-begun : goal.returns-clause-begun
-returns-clause-begun g c = λ limit old_lines xs kept begin before e olds.
-    begun c.args.system.now limit old_lines xs kept begin before c.args.self.now c.add_level.new.self c.finish.result c.add_level.result c.axiom.ensures.well e olds
+returns-clause-begun g c = λ limit o before e olds.
+    begun c.args.system.now limit o.lines o.levels o.kept o.store before c.args.self.now c.add_level.new.self c.finish.result c.add_level.result c.axiom.ensures.well e olds
     (axiom_made c.args.system.now c.args.self.now.room c.seed.result c.add_children.new.self c.new-axiom.result c.symbols.result.now c.finish.result (c.new-axiom.ensures ∙ ap (λ g. nothing_made g c.self.inside.room) c.lineage.ensures ∙ ap (λ (d : Drafted). nothing_made c.args.system.now.numbering d.room) c.self.view_is) c.seed.ensures (ap string_of c.symbols.ensures.symbols ∙ c.axiom.ensures.symbols)
     c.in_ok-add_children.ensures.added c.in_ok-add_children.ensures.room c.finish.ensures) c.add_level.ensures.added
 
 pub returns-clause-refused : goal.returns-clause-refused
-returns-clause-refused g c = λ limit old_lines e.
+returns-clause-refused g c = λ old_lines limit e.
     begun_refused c.args.system.now limit old_lines c.args.self.now c.add_level.new.self c.finish.result c.add_level.result e
     (axiom_made c.args.system.now c.args.self.now.room c.seed.result c.add_children.new.self c.new-axiom.result c.symbols.result.now c.finish.result (c.new-axiom.ensures ∙ ap (λ g. nothing_made g c.self.inside.room) c.lineage.ensures ∙ ap (λ (d : Drafted). nothing_made c.args.system.now.numbering d.room) c.self.view_is) c.seed.ensures (ap string_of c.symbols.ensures.symbols ∙ c.axiom.ensures.symbols)
     c.in_ok-add_children.ensures.added c.in_ok-add_children.ensures.room c.finish.ensures) c.add_level.ensures.added
 
 pub returns-clause-found : goal.returns-clause-found
-returns-clause-found g c = λ limit old_lines e. begun_found limit old_lines c.args.self.now c.add_level.new.self c.finish.result c.add_level.result e c.add_level.ensures.added
+returns-clause-found g c =
+    let q = c.requires in
+    begun_found q.limit q.old_lines c.args.self.now c.add_level.new.self c.finish.result c.add_level.result q.empty c.add_level.ensures.added

@@ -1,11 +1,21 @@
 use Rattle.std.proofs.Common.{rules, ◌≡◌, ◌*◌, Err, map, sym, subst, arith}
 use Rattle.lsys_flat.specs.Answers.{lists_of}
-use Rattle.lsys_match.specs.Derivations.{Rises, most_read}
+use Rattle.lsys_match.specs.Derivations.{Rises, most_read, IsLevelRefusal}
 use Rattle.lsys_flat.specs.Lines.{line_of}
-use Rattle.lsys_flat.specs.Drafts.{IsRefusal}
+use Rattle.lsys_flat.specs.Drafts.{olds_from}
 use Rattle.lsys_flat.proofs.DraftingNext.{few_before}
 use Rattle.lsys_flat.proofs.DraftingSteps.{olds_still, same_limit}
 use Rattle.lsys_flat.proofs.draft.Draft.complete.Goals as goal
+
+pub loop-level-init : goal.loop-level-init
+loop-level-init g c = record {
+  well = c.in_ok-begin.ensures.well;
+  found = c.in_ok-begin.ensures.found;
+  new = search rules;
+  asked = search rules;
+  drafts = λ limit xs e olds.
+      c.in_ok-begin.ensures.begun limit (olds_from xs (map line_of c.args.olds.now.ancestries.now) (lists_of c.args.olds.now.answers.now) c.args.store.now) c.args.visited.now e olds;
+}
 
 pub ask_level-requires : goal.ask_level-requires
 ask_level-requires g c =
@@ -30,7 +40,7 @@ returns-in_err-ask_level-clause-refused g c = λ limit e.
     let same : limit ≡ q.limit = same_limit q.limit limit lines lines c.args.self.now q.empty e in
     let no = c.in_err-ask_level.ensures.refused q.limit q.xs c.args.store.now c.args.visited.now (c.loop-level.invariant.drafts q.limit q.xs q.empty q.olds) in
     let goes : c.from_residual-in_err-ask_level.result ≡ Err c.in_err-ask_level.field-0.0 = search rules in
-    rw goes (subst (λ limit. IsRefusal c.args.system.now limit c.in_err-ask_level.field-0.0) (sym same) no.0)
+    rw goes (subst (λ limit. IsLevelRefusal c.args.system.now limit c.in_err-ask_level.field-0.0) (sym same) no.0)
 
 pub returns-in_err-ask_level-clause-few_asked : goal.returns-in_err-ask_level-clause-few_asked
 returns-in_err-ask_level-clause-few_asked g c = λ limit e.

@@ -51,15 +51,15 @@ returns-clause-outcome g c =
 
 pub returns-clause-tags : goal.returns-clause-tags
 returns-clause-tags g c =
-    subst (λ d. (x y : List (List L.Symbol)) → AreMeant d.system c.args.system d.limit x y → KeepsTags x y d.levels c.in_ok-plan.plan.view) c.self.view_is
+    subst (λ d. (x y : List (List L.LevelSymbol)) → AreMeant d.system c.args.system d.limit x y → KeepsTags x y d.levels c.in_ok-plan.plan.view) c.self.view_is
     (tags_after _ _ _ _ _ _ _ _ _ _ _ _ _ _ _ (edit_is g (goal.at.returns-clause-tags g c).After-as_slice-3))
 
 pub returns-clause-counted : goal.returns-clause-counted
 returns-clause-counted g c =
-    subst (λ d. (x y : List (List L.Symbol)) → AreMeant d.system c.args.system d.limit x y → IsCount (questions d.system x) (questions c.args.system y) c.in_ok-plan.plan.count) c.self.view_is
+    subst (λ d. (x y : List (List L.LevelSymbol)) → AreMeant d.system c.args.system d.limit x y → IsCount (questions d.system x) (questions c.args.system y) c.in_ok-plan.plan.count) c.self.view_is
     (count_after _ _ _ _ _ _ _ _ _ _ _ _ _ _ _ (edit_is g (goal.at.returns-clause-counted g c).After-as_slice-3))
 
 pub returns-clause-read : goal.returns-clause-read
 returns-clause-read g c =
-    subst (λ d. (x y : List (List L.Symbol)) → AreMeant d.system c.args.system d.limit x y → Rises (least_visits (questions d.system x) (questions c.args.system y)) (entries_of (questions c.args.system y)) c.args.visited.now c.planned.new.visited) c.self.view_is
+    subst (λ d. (x y : List (List L.LevelSymbol)) → AreMeant d.system c.args.system d.limit x y → Rises (least_visits (questions d.system x) (questions c.args.system y)) (entries_of (questions c.args.system y)) c.args.visited.now c.planned.new.visited) c.self.view_is
     (read_after _ _ _ _ _ _ _ _ _ _ _ _ _ _ _ (edit_is g (goal.at.returns-clause-read g c).After-as_slice-3))

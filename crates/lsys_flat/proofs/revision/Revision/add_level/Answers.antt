@@ -2,10 +2,10 @@ use Rattle.std.proofs.Common.{rules, ◌≡◌, ◌+◌, ◌++◌, ◌∷◌, �
 use Rattle.std.specs.Prelude.{slice_get}
 use Rattle.std.proofs.lemmas.List.{length-map, map-append}
 use Rattle.lsys_flat.specs.Origins.{AreChildren}
-use Rattle.lsys_flat.specs.Supplies.{taken, AreNamed}
+use Rattle.lsys_flat.specs.Supplies.{tags_held, AreNamed}
 use Rattle.lsys_level.specs.Tags.{HasOwnTags}
 use Rattle.lsys_level.specs.Places.{spots_of}
-use Rattle.lsys_flat.specs.Lines.{Line, line_of}
+use Rattle.lsys_flat.specs.Lines.{Descent, line_of}
 use Rattle.lsys_flat.specs.Revised.{IsRevised}
 use Rattle.lsys_flat.proofs.Adding.{old_few, old_tags, symbols_length, keys_length, have_parents, own_view, inside, same_line, mates_length, few_taken, string_is_balanced, string_is_whole, next_by, tags_length}
 use Rattle.lsys_flat.proofs.revision.Revision.add_level.Goals as goal
@@ -23,7 +23,7 @@ pair-requires-clause-few c =
     let n : c.len.result ≡ length (map line_of c.self.inside.ancestries.items) = search (rules, length-map c.self.inside.ancestries.items line_of) in
     let old = same_line q.seed q.xs q.ys _ (line_of c.line_at-old.result.now) c.len.result h c.line_at-old.ensures n in
     let few = old_few q.seed q.xs q.ys q.y c.args.level _ h q.next in
-    rw c.as_slice.ensures.value (subst (λ (l : Line). length l.origins < 2 ^ 32) (sym old) few)
+    rw c.as_slice.ensures.value (subst (λ (l : Descent). length l.origins < 2 ^ 32) (sym old) few)
 
 pub name_level-requires-clause-within : goal.name_level-requires-clause-within
 name_level-requires-clause-within c =
@@ -32,7 +32,7 @@ name_level-requires-clause-within c =
     let n : c.len.result ≡ length (map line_of c.self.inside.ancestries.items) = search (rules, length-map c.self.inside.ancestries.items line_of) in
     let old = same_line q.seed q.xs q.ys _ (line_of c.line_at-old.result.now) c.len.result h c.line_at-old.ensures n in
     let same : length (line_of c.line_at-old.result.now).tags ≡ length (line_of c.line_at-old.result.now).origins =
-    subst (λ (l : Line). length l.tags ≡ length l.origins) (sym old) (old_tags q.seed q.xs q.ys q.y c.args.level _ h q.next) in
+    subst (λ (l : Descent). length l.tags ≡ length l.origins) (sym old) (old_tags q.seed q.xs q.ys q.y c.args.level _ h q.next) in
     λ p j e.
     let l : j < length c.as_slice.result.now = c.in_ok-mates.ensures.within p j (ap (λ ms. slice_get ms p) (sym c.as_slice-4.ensures.value) ∙ e) in
     omega (arith, l, same, ap length c.as_slice.ensures.value, ap length c.as_slice-5.ensures.value)
@@ -74,7 +74,7 @@ push_level-requires-clause-own c =
     let named : AreNamed (line_of c.line_at-old.result.now).tags c.self.inside.supply.used c.in_ok-mates.mates.items c.self.inside.supply.next c.in_ok-tags.tags.items c.name_level.new.self.next =
     subst (λ ks. AreNamed ks c.self.inside.supply.used c.in_ok-mates.mates.items c.self.inside.supply.next c.in_ok-tags.tags.items c.name_level.new.self.next) c.as_slice-5.ensures.value
     (subst (λ ms. AreNamed c.as_slice-5.result.now c.self.inside.supply.used ms c.self.inside.supply.next c.in_ok-tags.tags.items c.name_level.new.self.next) c.as_slice-4.ensures.value c.in_ok-tags.ensures.named) in
-    let few : taken c.name_level.new.self ≤ taken c.self.inside.supply + length c.in_ok-mates.mates.items = omega (arith, c.in_ok-tags.ensures.taken, ap length c.as_slice-4.ensures.value) in
+    let few : tags_held c.name_level.new.self ≤ tags_held c.self.inside.supply + length c.in_ok-mates.mates.items = omega (arith, c.in_ok-tags.ensures.taken, ap length c.as_slice-4.ensures.value) in
     let copied : c.in_ok-copy_of.field-0.items ≡ c.in_ok-tags.tags.items = c.in_ok-copy_of.ensures ∙ c.as_slice-6.ensures.value in
     let all = next_by q.seed q.xs q.ys q.y c.args.level _ h q.next (line_of c.line_at-old.result.now) old c.in_ok-mates.mates.items c.in_ok-tags.tags.items c.name_level.new.self
     (λ a b x z da dx ca cb m.
@@ -90,7 +90,7 @@ returns-clause-added c seed xs ys y so_far next =
     let named : AreNamed (line_of c.line_at-old.result.now).tags c.self.inside.supply.used c.in_ok-mates.mates.items c.self.inside.supply.next c.in_ok-tags.tags.items c.name_level.new.self.next =
     subst (λ ks. AreNamed ks c.self.inside.supply.used c.in_ok-mates.mates.items c.self.inside.supply.next c.in_ok-tags.tags.items c.name_level.new.self.next) c.as_slice-5.ensures.value
     (subst (λ ms. AreNamed c.as_slice-5.result.now c.self.inside.supply.used ms c.self.inside.supply.next c.in_ok-tags.tags.items c.name_level.new.self.next) c.as_slice-4.ensures.value c.in_ok-tags.ensures.named) in
-    let few : taken c.name_level.new.self ≤ taken c.self.inside.supply + length c.in_ok-mates.mates.items = omega (arith, c.in_ok-tags.ensures.taken, ap length c.as_slice-4.ensures.value) in
+    let few : tags_held c.name_level.new.self ≤ tags_held c.self.inside.supply + length c.in_ok-mates.mates.items = omega (arith, c.in_ok-tags.ensures.taken, ap length c.as_slice-4.ensures.value) in
     let copied : c.in_ok-copy_of.field-0.items ≡ c.in_ok-tags.tags.items = c.in_ok-copy_of.ensures ∙ c.as_slice-6.ensures.value in
     let view : c.push_level.new.self ≡ c.self.inside.view ++ spots_of c.args.level.symbols c.in_ok-tags.tags.items c.args.level.keys.items ∷ [] =
     c.in_ok-push_level.ensures.added ∙ ap (λ ks. c.self.inside.view ++ spots_of c.args.level.symbols ks c.args.level.keys.items ∷ []) copied in

@@ -1,9 +1,9 @@
 use Rattle.std.proofs.Common.{rules, ◌≡◌, ◌+◌, ℕ, List, Ok, Err, OnErr, length, refl, sym, ap, ◌∙◌, subst, arith}
-use Rattle.lsys_flat.specs.Slots.{filled}
-use Rattle.lsys_level.specs.Spots.{level_at}
+use Rattle.lsys_flat.specs.Slots.{filled_slots}
+use Rattle.lsys_level.specs.Spots.{spots_at}
 use Rattle.lsys_rewrite.specs.declared.refusal.DeriveRefusal.{DeriveRefusal}
 use Rattle.lsys_rewrite.specs.declared.refusal.DeriveRefusal.TheVariants.{Memory}
-use Rattle.lsys_flat.specs.Rounds.{AreNew, AskedTo, IsAt, IsNoRound, IsRound, Rounded, nothing_asked, told}
+use Rattle.lsys_flat.specs.Rounds.{AreNew, AskedTo, IsAt, IsNoRound, IsRound, Rounded, nothing_asked, answers_told, inquiry}
 use Rattle.lsys_flat.proofs.Seen.{row_length}
 use Rattle.lsys_flat.proofs.News.{made_still}
 use Rattle.lsys_flat.proofs.Beginning.{none_at, none_asked, none_new}
@@ -11,10 +11,10 @@ use Rattle.lsys_flat.proofs.round.Round.ask_level.Goals as goal
 
 pub returns-in_err-reserve-clause-round : goal.returns-in_err-reserve-clause-round
 returns-in_err-reserve-clause-round g c = λ naming x is.
-    let row = level_at c.args.beside.now.view.now c.args.beside.now.level in
+    let row = spots_at c.args.beside.now.view.now c.args.beside.now.level in
     let goes : c.from_residual.result ≡ Err Memory = search rules in
     subst
-    (IsRound c.args.beside.now.system.now c.args.beside.now.level row x (told c.args.store.now c.args.beside.now.olds.now) c.args.beside.now.mates.now c.args.store.now c.reserve.new.self c.args.visited.now c.args.visited.now)
+    (IsRound (inquiry c.args.beside.now.system.now c.args.beside.now.level row x (answers_told c.args.store.now c.args.beside.now.olds.now) c.args.beside.now.mates.now) c.args.store.now c.reserve.new.self c.args.visited.now c.args.visited.now)
     (sym goes) (omega arith, omega arith)
 
 pub returns-in_err-reserve-clause-new : goal.returns-in_err-reserve-clause-new
@@ -28,7 +28,7 @@ returns-in_err-reserve-clause-each g c =
 
 pub returns-in_err-reserve-clause-asked : goal.returns-in_err-reserve-clause-asked
 returns-in_err-reserve-clause-asked g c =
-    let none : filled c.reserve.new.self.fresh ≡ 0 = ap (λ (r : Rounded). filled r.fresh) (c.reserve.ensures ∙ c.requires.new) in
+    let none : filled_slots c.reserve.new.self.fresh ≡ 0 = ap (λ (r : Rounded). filled_slots r.fresh) (c.reserve.ensures ∙ c.requires.new) in
     omega (arith, none)
 
 pub loop-place-init : goal.loop-place-init
@@ -41,11 +41,11 @@ loop-place-init g c =
       at = subst (IsAt 0) (sym none) (none_at numbering room);
       new = subst (λ (r : Rounded). AreNew c.args.store.now c.args.store.now r.fresh) (sym none) (none_new c.args.store.now);
       made = c.requires.made;
-      asked = let none : filled c.reserve.new.self.fresh ≡ 0 = ap (λ (r : Rounded). filled r.fresh) none in omega (arith, none);
+      asked = let none : filled_slots c.reserve.new.self.fresh ≡ 0 = ap (λ (r : Rounded). filled_slots r.fresh) none in omega (arith, none);
       room = ap (λ (r : Rounded). r.next.grown.room) c.reserve.ensures;
       going = λ naming x is.
-          subst (λ (r : Rounded). AskedTo c.args.beside.now.system.now c.args.beside.now.level (level_at c.args.beside.now.view.now c.args.beside.now.level) x (told c.args.store.now c.args.beside.now.olds.now) c.args.beside.now.mates.now c.args.store.now r c.args.visited.now c.args.visited.now 0)
-          (sym none) (none_asked c.args.beside.now.system.now c.args.beside.now.level (level_at c.args.beside.now.view.now c.args.beside.now.level) x (told c.args.store.now c.args.beside.now.olds.now) c.args.beside.now.mates.now c.args.store.now room c.args.visited.now);
+          subst (λ (r : Rounded). AskedTo (inquiry c.args.beside.now.system.now c.args.beside.now.level (spots_at c.args.beside.now.view.now c.args.beside.now.level) x (answers_told c.args.store.now c.args.beside.now.olds.now) c.args.beside.now.mates.now) c.args.store.now r c.args.visited.now c.args.visited.now 0)
+          (sym none) (none_asked c.args.beside.now.system.now c.args.beside.now.level (spots_at c.args.beside.now.view.now c.args.beside.now.level) x (answers_told c.args.store.now c.args.beside.now.olds.now) c.args.beside.now.mates.now c.args.store.now room c.args.visited.now);
     }
 
 pub returns-in_err-ask_next-clause-round : goal.returns-in_err-ask_next-clause-round
@@ -67,7 +67,7 @@ loop-place-preserved g c = record {
 
 pub returns-clause-round : goal.returns-clause-round
 returns-clause-round g c = λ naming x is.
-    let row = level_at c.args.beside.now.view.now c.args.beside.now.level in
+    let row = spots_at c.args.beside.now.view.now c.args.beside.now.level in
     let n : length x ≡ length row = row_length naming c.args.beside.now.system.now.seed row x is in
     let at : c.loop-place.place ≡ length x = omega (arith, n, c.requires.level.each, c.loop-place-test.false, c.loop-place.auto.place-end) in
-    subst (AskedTo c.args.beside.now.system.now c.args.beside.now.level row x (told c.args.store.now c.args.beside.now.olds.now) c.args.beside.now.mates.now c.loop-place.store c.loop-place.self c.args.visited.now c.loop-place.visited) at (c.loop-place.invariant.going naming x is)
+    subst (AskedTo (inquiry c.args.beside.now.system.now c.args.beside.now.level row x (answers_told c.args.store.now c.args.beside.now.olds.now) c.args.beside.now.mates.now) c.loop-place.store c.loop-place.self c.args.visited.now c.loop-place.visited) at (c.loop-place.invariant.going naming x is)

@@ -1,8 +1,9 @@
 use Rattle.std.proofs.Common.{inl, ◌≡◌, ◌++◌, ◌∷◌, ◌+◌, ◌-◌, ℕ, List, refl, sym, subst, arith}
+use Rattle.lsys_spec.specs.Rows.{In, first_in}
 use Rattle.lsys_level.specs.Spots.{IsSpot}
 use Rattle.lsys_forest.specs.Stocks.{nodes_of, changes_of}
-use Rattle.lsys_forest.specs.Groves.{Grove, In, now_of, changes_in, IsSound}
-use Rattle.lsys_forest.specs.Rows.{first_in, oriented, level_nodes, complete_levels, level_of_node, place_of_node}
+use Rattle.lsys_forest.specs.Groves.{Grove, now_of, changes_in, IsRooted}
+use Rattle.lsys_forest.specs.Rows.{oriented, level_nodes, complete_levels, level_of_node, place_of_node}
 use Rattle.lsys_forest.proofs.RowLemmas.{In_right}
 use Rattle.lsys_forest.proofs.ViewLemmas.{node_at}
 use Rattle.lsys_forest.proofs.GroveLemmas.{sound_now}
@@ -31,4 +32,4 @@ returns-clause-beside g c =
     (subst (λ d. (before after : List ℕ) → oriented c.args.way (level_nodes (nodes_of i.parts) i.root d) ≡ before ++ c.args.spot ∷ after → c.beside.result ≡ first_in after) t c.beside.ensures)
 
 pub returns-clause-sound : goal.returns-clause-sound
-returns-clause-sound g c = subst (λ (f : Grove g.row.A.Denot). IsSound f.root (changes_in f) (now_of f)) c.self.view_is (sound_now c.self.invariant.grove)
+returns-clause-sound g c = subst (λ (f : Grove g.row.A.Denot). IsRooted f.root (changes_in f) (now_of f)) c.self.view_is (sound_now c.self.invariant.grove)

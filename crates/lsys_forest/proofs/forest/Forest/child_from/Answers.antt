@@ -1,8 +1,9 @@
 use Rattle.std.proofs.Common.{inl, ◌≡◌, ◌++◌, ◌∷◌, ◌+◌, ◌-◌, ℕ, List, refl, sym, subst, arith}
+use Rattle.lsys_spec.specs.Rows.{In, first_in, flat}
 use Rattle.lsys_level.specs.Spots.{IsSpot}
 use Rattle.lsys_forest.specs.Stocks.{nodes_of, changes_of}
-use Rattle.lsys_forest.specs.Groves.{Grove, In, now_of}
-use Rattle.lsys_forest.specs.Rows.{first_in, oriented, flat, kids_that_way, level_nodes, complete_levels, level_of_node, place_of_node}
+use Rattle.lsys_forest.specs.Groves.{Grove, now_of}
+use Rattle.lsys_forest.specs.Rows.{oriented, kids_that_way, level_nodes, complete_levels, level_of_node, place_of_node}
 use Rattle.lsys_forest.proofs.RowLemmas.{In_right}
 use Rattle.lsys_forest.proofs.ViewLemmas.{node_at}
 use Rattle.lsys_forest.proofs.GroveLemmas.{sound_now}

@@ -1,7 +1,7 @@
 use Rattle.std.proofs.Common.{List, ℕ, sym, ap, ◌∙◌, subst}
 use Rattle.lsys_forest.specs.Nodes.{Node}
 use Rattle.lsys_forest.specs.Stocks.{nodes_of}
-use Rattle.lsys_forest.specs.Groves.{Grove, now_of, changes_in, AreKids, IsLive, IsSound}
+use Rattle.lsys_forest.specs.Groves.{Grove, now_of, changes_in, AreKids, IsLive, IsRooted}
 use Rattle.lsys_forest.proofs.StockLemmas.{stored_of}
 use Rattle.lsys_forest.proofs.SoundLemmas.{some_of}
 use Rattle.lsys_forest.proofs.GroveLemmas.{sound_now}
@@ -19,4 +19,4 @@ returns-clause-under g c =
     ((sound_now c.self.invariant.grove).own c.args.node n.0 n.1))
 
 pub returns-clause-sound : goal.returns-clause-sound
-returns-clause-sound g c = subst (λ (f : Grove g.row.A.Denot). IsSound f.root (changes_in f) (now_of f)) c.self.view_is (sound_now c.self.invariant.grove)
+returns-clause-sound g c = subst (λ (f : Grove g.row.A.Denot). IsRooted f.root (changes_in f) (now_of f)) c.self.view_is (sound_now c.self.invariant.grove)

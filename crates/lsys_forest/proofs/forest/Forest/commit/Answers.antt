@@ -1,7 +1,7 @@
 use Rattle.std.proofs.Common.{◌≡◌, ℕ, refl, sym, subst, arith}
 use Rattle.std.specs.Prelude.{IsSome}
 use Rattle.lsys_forest.specs.Stocks.{nodes_of, changes_of}
-use Rattle.lsys_forest.specs.Answers.{answers, kept_by, AreMade, FreesAllBut}
+use Rattle.lsys_forest.specs.Answers.{answers, kept_by, LiveApart, FreesAllBut}
 use Rattle.lsys_forest.specs.Groves.{Grove, now_of, kept_in, Reached, Spends}
 use Rattle.lsys_forest.proofs.SoundLemmas.{some_of}
 use Rattle.lsys_forest.proofs.SweepLemmas.{IsSound-swept, all_reached, reached_stays, left_stood}
@@ -11,7 +11,7 @@ use Rattle.lsys_forest.proofs.LinkLemmas.{swept_linked}
 use Rattle.lsys_forest.proofs.forest.Forest.commit.Goals as goal
 
 pub sweep_all-requires-clause-made : goal.sweep_all-requires-clause-made
-sweep_all-requires-clause-made g c = subst (λ (f : Grove g.row.A.Denot). AreMade g.A.Kept.run_at g.A.Kept.Holds c.args.store.now (kept_in f)) (sym c.self.view_is) c.requires.made
+sweep_all-requires-clause-made g c = subst (λ (f : Grove g.row.A.Denot). LiveApart g.A.Kept.run_at g.A.Kept.Holds c.args.store.now (kept_in f)) (sym c.self.view_is) c.requires.made
 
 pub sweep_all-requires-clause-sound : goal.sweep_all-requires-clause-sound
 sweep_all-requires-clause-sound g c = sound_now c.self.invariant.grove

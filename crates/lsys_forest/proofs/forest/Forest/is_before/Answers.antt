@@ -1,8 +1,9 @@
 use Rattle.std.specs.Prelude.{◌↔◌, IsTrue}
 use Rattle.std.proofs.Common.{inl, refl, ◌≡◌, ◌∷◌, ◌+◌, ◌-◌, ◌<◌, sym, ◌∙◌, subst, arith}
+use Rattle.lsys_spec.specs.Rows.{In}
 use Rattle.lsys_level.specs.Spots.{IsSpot}
 use Rattle.lsys_forest.specs.Stocks.{nodes_of, changes_of}
-use Rattle.lsys_forest.specs.Groves.{Grove, In}
+use Rattle.lsys_forest.specs.Groves.{Grove}
 use Rattle.lsys_forest.specs.Rows.{index_in, level_nodes, complete_levels, level_of_node, place_of_node}
 use Rattle.lsys_forest.proofs.RowLemmas.{In_right}
 use Rattle.lsys_forest.proofs.ViewLemmas.{node_at}

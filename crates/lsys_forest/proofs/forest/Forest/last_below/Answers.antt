@@ -1,6 +1,6 @@
 use Rattle.std.proofs.Common.{◌∙◌}
+use Rattle.lsys_spec.specs.Rows.{mirrored}
 use Rattle.lsys_forest.specs.Groves.{now_of}
-use Rattle.lsys_forest.specs.Rows.{mirrored}
 use Rattle.lsys_forest.proofs.WalkLemmas.{last_of}
 use Rattle.lsys_forest.proofs.ViewLemmas.{left_way}
 use Rattle.lsys_forest.proofs.forest.Forest.last_below.Goals as goal

@@ -1,8 +1,8 @@
 use Rattle.std.proofs.Common.{[], sym, subst, arith}
 use Rattle.lsys_forest.specs.Nodes.{Nodes}
 use Rattle.lsys_forest.specs.Stocks.{nodes_of, changes_of}
-use Rattle.lsys_forest.specs.Answers.{answers, kept_by, AreMade, FreesAllBut}
-use Rattle.lsys_forest.specs.Groves.{Grove, rest_of, kept_in, Spends, IsSound}
+use Rattle.lsys_forest.specs.Answers.{answers, kept_by, LiveApart, FreesAllBut}
+use Rattle.lsys_forest.specs.Groves.{Grove, rest_of, kept_in, Spends, IsRooted}
 use Rattle.lsys_forest.proofs.GroveLemmas.{sound_rest, IsGrove-rest}
 use Rattle.lsys_forest.proofs.AnswerLemmas.{frees_by}
 use Rattle.lsys_forest.proofs.forest.Forest.rollback.Goals as goal
@@ -12,7 +12,7 @@ undo_all-requires g c = record {
   sound = c.self.invariant.grove.sound;
   ranked = c.self.invariant.ranked;
   linked = c.self.invariant.linked;
-  made = subst (λ (f : Grove g.row.A.Denot). AreMade g.A.Kept.run_at g.A.Kept.Holds c.args.store.now (kept_in f)) (sym c.self.view_is) c.requires.made;
+  made = subst (λ (f : Grove g.row.A.Denot). LiveApart g.A.Kept.run_at g.A.Kept.Holds c.args.store.now (kept_in f)) (sym c.self.view_is) c.requires.made;
 }
 
 pub invariant_of-self : goal.invariant_of-self
@@ -20,7 +20,7 @@ invariant_of-self g c =
     let i = c.self.inside in
     let e = c.undo_all.ensures in
     record {
-      grove = IsGrove-rest i.parts c.undo_all.new.parts i.root i.spare_nodes i.spare_notes (subst (IsSound i.root []) (sym e.nodes) (sound_rest c.self.invariant.grove)) e.empty e.short e.live e.room c.self.invariant.grove;
+      grove = IsGrove-rest i.parts c.undo_all.new.parts i.root i.spare_nodes i.spare_notes (subst (IsRooted i.root []) (sym e.nodes) (sound_rest c.self.invariant.grove)) e.empty e.short e.live e.room c.self.invariant.grove;
       ranked = e.ranked;
       linked = e.linked;
     }

@@ -1,5 +1,5 @@
+use Rattle.lsys_spec.specs.Rows.{mirrored}
 use Rattle.lsys_forest.specs.Groves.{changes_in}
-use Rattle.lsys_forest.specs.Rows.{mirrored}
 use Rattle.lsys_forest.proofs.ViewLemmas.{node_at, left_match, left_way}
 use Rattle.lsys_forest.proofs.forest.ForestLevelView.left.Goals as goal
 

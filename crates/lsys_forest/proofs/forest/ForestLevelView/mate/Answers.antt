@@ -1,9 +1,10 @@
 use Rattle.std.proofs.Common.{inl, [], true, ◌≡◌, ◌∷◌, ◌+◌, ◌-◌, Some, refl, sym, ap, ◌∙◌, subst, arith}
 use Rattle.std.specs.Prelude.{IsSome}
-use Rattle.lsys_level.specs.Spots.{IsSpot, IsBracketAt, IsMate, level_at, level_by}
+use Rattle.lsys_spec.specs.Rows.{In}
+use Rattle.lsys_level.specs.Spots.{IsSpot, IsBracketAt, IsMate, spots_at, level_by}
 use Rattle.lsys_forest.specs.Nodes.{Node, seen_as}
 use Rattle.lsys_forest.specs.Stocks.{nodes_of, changes_of, row_at}
-use Rattle.lsys_forest.specs.Groves.{Grove, In}
+use Rattle.lsys_forest.specs.Groves.{Grove}
 use Rattle.lsys_spec.specs.Levels.{level_balanced}
 use Rattle.lsys_forest.specs.Mates.{IsBracketThat, IsMateThat, mate_way}
 use Rattle.lsys_forest.specs.Rows.{level_spots, level_nodes, complete_levels, level_of_node, place_of_node}
@@ -60,7 +61,7 @@ mate_of-requires-clause-bracket g c =
     let s = stored_of i.parts.slots i.parts.params i.parts.kids k at.node at.is in
     let kind = c.kind.ensures s.0 s.1 in
     let seen : at.node.seen ≡ seen_as c.kind.result (row_at i.parts.params k) = sym (ap (λ (x : Node g.row.A.Denot). x.seen) s.2) ∙ ap (λ y. seen_as y (row_at i.parts.params k)) (sym kind) in
-    let asked = subst (λ (f : Grove g.row.A.Denot). IsBracketAt (level_at (complete_levels f) (level_of_node f k)) (place_of_node f k)) (sym c.self.view_is) c.requires.bracket in
+    let asked = subst (λ (f : Grove g.row.A.Denot). IsBracketAt (spots_at (complete_levels f) (level_of_node f k)) (place_of_node f k)) (sym c.self.view_is) c.requires.bracket in
     subst (λ w. IsBracketThat w (nodes_of i.parts k)) (sym c.way_to_mate-way.ensures) (subst (IsBracketThat (mate_way c.kind.result)) (sym at.is) (bracket_way F k at c.kind.result (row_at i.parts.params k) seen asked))
 
 pub returns-clause-level : goal.returns-clause-level
@@ -88,6 +89,6 @@ returns-clause-mate g c =
     let s = stored_of i.parts.slots i.parts.params i.parts.kids k at.node at.is in
     let kind = c.kind.ensures s.0 s.1 in
     let seen : at.node.seen ≡ seen_as c.kind.result (row_at i.parts.params k) = sym (ap (λ (x : Node g.row.A.Denot). x.seen) s.2) ∙ ap (λ y. seen_as y (row_at i.parts.params k)) (sym kind) in
-    let asked = subst (λ (f : Grove g.row.A.Denot). IsBracketAt (level_at (complete_levels f) (level_of_node f k)) (place_of_node f k)) (sym c.self.view_is) c.requires.bracket in
+    let asked = subst (λ (f : Grove g.row.A.Denot). IsBracketAt (spots_at (complete_levels f) (level_of_node f k)) (place_of_node f k)) (sym c.self.view_is) c.requires.bracket in
     let bracket = subst (λ w. IsBracketThat w (Some at.node)) (sym c.way_to_mate-way.ensures) (bracket_way F k at c.kind.result (row_at i.parts.params k) seen asked) in
-    subst (λ (f : Grove g.row.A.Denot). IsMate (level_at (complete_levels f) (level_of_node f k)) (place_of_node f k) (place_of_node f c.mate_of.result)) c.self.view_is (mate_told F (changes_of i.parts) c.way_to_mate-way.result k c.mate_of.result (sound_now c.self.invariant.grove) at bracket mates)
+    subst (λ (f : Grove g.row.A.Denot). IsMate (spots_at (complete_levels f) (level_of_node f k)) (place_of_node f k) (place_of_node f c.mate_of.result)) c.self.view_is (mate_told F (changes_of i.parts) c.way_to_mate-way.result k c.mate_of.result (sound_now c.self.invariant.grove) at bracket mates)

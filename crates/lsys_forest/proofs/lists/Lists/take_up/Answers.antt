@@ -1,6 +1,6 @@
 use Rattle.std.proofs.Common.{refl, sym, subst}
 use Rattle.std.specs.Prelude.{vec_capacity}
-use Rattle.lsys_region.specs.Pool.{IsLive}
+use Rattle.lsys_region.specs.Pool.{IsLiveRun}
 use Rattle.lsys_forest.specs.Shelves.{Hoard, Hand, shelf_of, IsOwner, IsFreed}
 use Rattle.lsys_forest.specs.Stocks.{TakesLastUp}
 use Rattle.lsys_forest.proofs.ShelfLemmas.{take_up_done}
@@ -10,7 +10,7 @@ pub free-requires : goal.free-requires
 free-requires g c =
     let i = c.self.inside in
     let owned = subst (λ (x : Hoard g.row.T.Denot). IsOwner x c.requires.owned.0) (sym c.self.view_is) c.requires.owned.1 in
-    subst (IsLive i.region) (sym c.replace-before.ensures.value) (owned.live Hand i.hand refl)
+    subst (IsLiveRun i.region) (sym c.replace-before.ensures.value) (owned.live Hand i.hand refl)
 
 pub returns-in-Some-clause-owned : goal.returns-in-Some-clause-owned
 returns-in-Some-clause-owned g c = λ now is.

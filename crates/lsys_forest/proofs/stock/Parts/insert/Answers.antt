@@ -7,10 +7,10 @@ use Rattle.lsys_region.specs.Rooms.{list_room}
 use Rattle.lsys_forest.specs.Slots.{slot_at}
 use Rattle.lsys_forest.specs.declared.node.Stored.{Stored}
 use Rattle.lsys_forest.specs.declared.note.Was.TheVariants as was
-use Rattle.lsys_forest.specs.Shelves.{Shelf, shown}
-use Rattle.lsys_forest.specs.Nodes.{Node, put}
+use Rattle.lsys_forest.specs.Shelves.{Shelf, run_list}
+use Rattle.lsys_forest.specs.Nodes.{Node, with_node}
 use Rattle.lsys_forest.specs.Changes.{Missing}
-use Rattle.lsys_forest.specs.Stocks.{Stock, row_at, node_of, told, stock_of, Journals}
+use Rattle.lsys_forest.specs.Stocks.{Stock, row_at, node_of, changes_told, stock_of, Journals}
 use Rattle.lsys_forest.proofs.ShelfLemmas.{room_nil}
 use Rattle.lsys_forest.proofs.StockLemmas.{IsStock-note, shown_nodes, told_plain, node_put}
 use Rattle.lsys_forest.proofs.stock.Parts.insert.Goals as goal
@@ -23,14 +23,14 @@ invariant_of-self g c =
     let t' = c.insert-number.new.table in
     let p' = c.insert-number.new.params in
     let q' = c.insert-number.new.kids in
-    let past = map (shown i.params.pool) i.params.past in
-    let past_kids = map (shown i.kids.pool) i.kids.past in
+    let past = map (run_list i.params.pool) i.params.past in
+    let past_kids = map (run_list i.kids.pool) i.kids.past in
     let pp = ap (λ (s : Shelf ℤ). s.past) e.has_params.rest in
     let qp = ap (λ (s : Shelf ℕ). s.past) e.no_kids.rest in
     record {
       params = e.params;
       kids = e.kids;
-      stock = IsStock-note i.notes.items c.push_note.new.notes.items _ past (map (shown p'.pool) p'.past) past_kids (map (shown q'.pool) q'.past) c.push_note.ensures.pushed (let l = ap length pp in omega (arith, l)) (let l = ap length qp in omega (arith, l)) c.self.invariant.stock;
+      stock = IsStock-note i.notes.items c.push_note.new.notes.items _ past (map (run_list p'.pool) p'.past) past_kids (map (run_list q'.pool) q'.past) c.push_note.ensures.pushed (let l = ap length pp in omega (arith, l)) (let l = ap length qp in omega (arith, l)) c.self.invariant.stock;
     }
 
 pub returns-clause-added : goal.returns-clause-added
@@ -41,26 +41,26 @@ returns-clause-added g c =
     let t' = c.insert-number.new.table in
     let p' = c.insert-number.new.params in
     let q' = c.insert-number.new.kids in
-    let past = map (shown i.params.pool) i.params.past in
-    let past_kids = map (shown i.kids.pool) i.kids.past in
+    let past = map (run_list i.params.pool) i.params.past in
+    let past_kids = map (run_list i.kids.pool) i.kids.past in
     let pp = ap (λ (s : Shelf ℤ). s.past) e.has_params.rest in
     let qp = ap (λ (s : Shelf ℕ). s.past) e.no_kids.rest in
     let ns = c.push_note.new.notes in
-    let params = map (shown i.params.pool) i.table.param_runs in
-    let kids = map (shown i.kids.pool) i.table.kid_runs in
+    let params = map (run_list i.params.pool) i.table.param_runs in
+    let kids = map (run_list i.kids.pool) i.table.kid_runs in
     let l = params_in c.args.symbol.now in
     let s : Stored g.row.A.Denot = record { parent = c.args.parent; code = c.args.code; count = c.args.count; depth = c.args.depth; kind = c.kind_of.result; key = c.args.key; answer = None } in
     let n : Node g.row.A.Denot = record { parent = c.args.parent; code = c.args.code; count = c.args.count; depth = c.args.depth; seen = seen_in c.args.symbol.now; key = c.args.key; kids = []; answer = None } in
     subst (λ (t : Stock g.row.A.Denot). Journals t (stock_of t' p' q' ns.items (vec_capacity ns)) k (Some n) Missing 1 (list_room l) 0) c.self.view_is
     (record {
       nodes =
-          node_put i.table.slots t'.slots params (map (shown p'.pool) t'.param_runs) kids (map (shown q'.pool) t'.kid_runs) k s c.params_of.result.now [] e.here e.others e.has_params.comes e.no_kids.comes
-          ∙ ap (λ x. put (shown_nodes i.table.slots params kids) k (Some (node_of x [] s))) c.params_of.ensures.params
-          ∙ ap (λ y. put (shown_nodes i.table.slots params kids) k (Some (record n { seen = y }))) c.kind_of.ensures;
+          node_put i.table.slots t'.slots params (map (run_list p'.pool) t'.param_runs) kids (map (run_list q'.pool) t'.kid_runs) k s c.params_of.result.now [] e.here e.others e.has_params.comes e.no_kids.comes
+          ∙ ap (λ x. with_node (shown_nodes i.table.slots params kids) k (Some (node_of x [] s))) c.params_of.ensures.params
+          ∙ ap (λ y. with_node (shown_nodes i.table.slots params kids) k (Some (record n { seen = y }))) c.kind_of.ensures;
       noted =
-          ap (λ ns. told ns (map (shown p'.pool) p'.past) (map (shown q'.pool) q'.past)) c.push_note.ensures.pushed
-          ∙ ap (λ x. told (i.notes.items ++ record { node = k; was = was.Missing } ∷ []) x (map (shown q'.pool) q'.past)) pp
-          ∙ ap (told (i.notes.items ++ record { node = k; was = was.Missing } ∷ []) past) qp
+          ap (λ ns. changes_told ns (map (run_list p'.pool) p'.past) (map (run_list q'.pool) q'.past)) c.push_note.ensures.pushed
+          ∙ ap (λ x. changes_told (i.notes.items ++ record { node = k; was = was.Missing } ∷ []) x (map (run_list q'.pool) q'.past)) pp
+          ∙ ap (changes_told (i.notes.items ++ record { node = k; was = was.Missing } ∷ []) past) qp
           ∙ told_plain i.notes.items (record { node = k; was = was.Missing }) past past_kids c.self.invariant.stock.past_params_long c.self.invariant.stock.past_kids_long;
       notes = ap length c.push_note.ensures.pushed ∙ length_push i.notes.items _;
       live = e.live;

@@ -1,11 +1,12 @@
 use Rattle.std.proofs.Common.{◌≡◌, ℕ, map, Option, Some, None, refl, sym, ap, ◌∙◌, subst}
 use Rattle.std.specs.Prelude.{IsSome, option_map}
 use Rattle.std.proofs.lemmas.Option.{none-some}
-use Rattle.lsys_forest.specs.Shelves.{shown, run_at}
+use Rattle.lsys_spec.specs.Rows.{In, AreApart}
+use Rattle.lsys_forest.specs.Shelves.{run_list, run_at}
 use Rattle.lsys_forest.specs.Slots.{slot_at}
 use Rattle.lsys_forest.specs.Nodes.{Node}
 use Rattle.lsys_forest.specs.Stocks.{Stock, nodes_of, changes_of, row_at, node_of}
-use Rattle.lsys_forest.specs.Groves.{In, AreApart, IsSound}
+use Rattle.lsys_forest.specs.Groves.{IsRooted}
 use Rattle.lsys_forest.specs.Rows.{kids_in}
 use Rattle.lsys_forest.specs.Ranks.{LinksRow}
 use Rattle.lsys_forest.proofs.ShelfLemmas.{run_live, run_read}
@@ -32,10 +33,10 @@ pub link_row-requires-clause-apart : goal.link_row-requires-clause-apart
 link_row-requires-clause-apart g c =
     let i = c.self.inside in
     let k = c.args.node in
-    let params = map (shown i.params.pool) i.table.param_runs in
-    let kids = map (shown i.kids.pool) i.table.kid_runs in
+    let params = map (run_list i.params.pool) i.table.param_runs in
+    let kids = map (run_list i.kids.pool) i.table.kid_runs in
     let m = shown_nodes i.table.slots params kids in
-    let s = subst (λ (t : Stock g.row.A.Denot). (root : ℕ) × IsSound root (changes_of t) (nodes_of t)) (sym c.self.view_is) c.requires.sound in
+    let s = subst (λ (t : Stock g.row.A.Denot). (root : ℕ) × IsRooted root (changes_of t) (nodes_of t)) (sym c.self.view_is) c.requires.sound in
     let lives = mapped_some (slot_at i.table.slots k) (run_at i.table.kid_runs k) c.in-Some.run'.now c.in-Some.ensures (node_of (row_at params k) (row_at kids k)) in
     let list : c.read-kids.result.now ≡ kids_in (m k) = run_read i.kids i.table.kid_runs (slot_at i.table.slots k) k c.in-Some.run'.now c.read-kids.result.now c.in-Some.ensures c.read-kids.ensures ∙ rows_are i.table.slots params kids k lives in
     subst AreApart (sym list) (kids_apart s.0 _ m s.1 k)
@@ -44,10 +45,10 @@ pub link_row-requires-clause-live : goal.link_row-requires-clause-live
 link_row-requires-clause-live g c = λ j h.
     let i = c.self.inside in
     let k = c.args.node in
-    let params = map (shown i.params.pool) i.table.param_runs in
-    let kids = map (shown i.kids.pool) i.table.kid_runs in
+    let params = map (run_list i.params.pool) i.table.param_runs in
+    let kids = map (run_list i.kids.pool) i.table.kid_runs in
     let m = shown_nodes i.table.slots params kids in
-    let s = subst (λ (t : Stock g.row.A.Denot). (root : ℕ) × IsSound root (changes_of t) (nodes_of t)) (sym c.self.view_is) c.requires.sound in
+    let s = subst (λ (t : Stock g.row.A.Denot). (root : ℕ) × IsRooted root (changes_of t) (nodes_of t)) (sym c.self.view_is) c.requires.sound in
     let lives = mapped_some (slot_at i.table.slots k) (run_at i.table.kid_runs k) c.in-Some.run'.now c.in-Some.ensures (node_of (row_at params k) (row_at kids k)) in
     let list : c.read-kids.result.now ≡ kids_in (m k) = run_read i.kids i.table.kid_runs (slot_at i.table.slots k) k c.in-Some.run'.now c.read-kids.result.now c.in-Some.ensures c.read-kids.ensures ∙ rows_are i.table.slots params kids k lives in
     let under = child s.0 _ m s.1 k j (subst (In j) list h) in
@@ -58,8 +59,8 @@ pub link_row-requires-clause-before : goal.link_row-requires-clause-before
 link_row-requires-clause-before g c = λ j e.
     let i = c.self.inside in
     let k = c.args.node in
-    let params = map (shown i.params.pool) i.table.param_runs in
-    let kids = map (shown i.kids.pool) i.table.kid_runs in
+    let params = map (run_list i.params.pool) i.table.param_runs in
+    let kids = map (run_list i.kids.pool) i.table.kid_runs in
     let m = shown_nodes i.table.slots params kids in
     let lives = mapped_some (slot_at i.table.slots k) (run_at i.table.kid_runs k) c.in-Some.run'.now c.in-Some.ensures (node_of (row_at params k) (row_at kids k)) in
     let list : c.read-kids.result.now ≡ kids_in (m k) = run_read i.kids i.table.kid_runs (slot_at i.table.slots k) k c.in-Some.run'.now c.read-kids.result.now c.in-Some.ensures c.read-kids.ensures ∙ rows_are i.table.slots params kids k lives in
@@ -71,8 +72,8 @@ pub returns-in-Some-clause-row : goal.returns-in-Some-clause-row
 returns-in-Some-clause-row g c =
     let i = c.self.inside in
     let k = c.args.node in
-    let params = map (shown i.params.pool) i.table.param_runs in
-    let kids = map (shown i.kids.pool) i.table.kid_runs in
+    let params = map (run_list i.params.pool) i.table.param_runs in
+    let kids = map (run_list i.kids.pool) i.table.kid_runs in
     let m = shown_nodes i.table.slots params kids in
     let lives = mapped_some (slot_at i.table.slots k) (run_at i.table.kid_runs k) c.in-Some.run'.now c.in-Some.ensures (node_of (row_at params k) (row_at kids k)) in
     let list : c.read-kids.result.now ≡ kids_in (m k) = run_read i.kids i.table.kid_runs (slot_at i.table.slots k) k c.in-Some.run'.now c.read-kids.result.now c.in-Some.ensures c.read-kids.ensures ∙ rows_are i.table.slots params kids k lives in
@@ -83,8 +84,8 @@ pub returns-in-None-clause-row : goal.returns-in-None-clause-row
 returns-in-None-clause-row g c =
     let i = c.self.inside in
     let k = c.args.node in
-    let params = map (shown i.params.pool) i.table.param_runs in
-    let kids = map (shown i.kids.pool) i.table.kid_runs in
+    let params = map (run_list i.params.pool) i.table.param_runs in
+    let kids = map (run_list i.kids.pool) i.table.kid_runs in
     let m = shown_nodes i.table.slots params kids in
     let none : m k ≡ None = mapped_none (slot_at i.table.slots k) (run_at i.table.kid_runs k) c.in-None.ensures (node_of (row_at params k) (row_at kids k)) in
     subst (λ (t : Stock g.row.A.Denot). LinksRow t.footings t.footings c.args.before (kids_in (nodes_of t k)) c.args.before) c.self.view_is

@@ -1,5 +1,5 @@
 use Rattle.std.proofs.Common.{ℕ, map, ap, ◌∙◌}
-use Rattle.lsys_forest.specs.Shelves.{Shelf, shown}
+use Rattle.lsys_forest.specs.Shelves.{Shelf, run_list}
 use Rattle.lsys_forest.specs.Stocks.{nodes_of}
 use Rattle.lsys_forest.proofs.StockLemmas.{shown_nodes}
 use Rattle.lsys_forest.proofs.stock.Parts.put_down.Goals as goal
@@ -7,4 +7,4 @@ use Rattle.lsys_forest.proofs.stock.Parts.put_down.Goals as goal
 pub returns-clause-nodes : goal.returns-clause-nodes
 returns-clause-nodes g c =
     let i = c.self.inside in
-    ap (λ (s : Shelf ℕ). shown_nodes i.table.slots (map (shown i.params.pool) i.table.param_runs) s.current) (c.put_down.ensures.put i.table.kid_runs c.self.invariant.kids).0 ∙ ap nodes_of c.self.view_is
+    ap (λ (s : Shelf ℕ). shown_nodes i.table.slots (map (run_list i.params.pool) i.table.param_runs) s.current) (c.put_down.ensures.put i.table.kid_runs c.self.invariant.kids).0 ∙ ap nodes_of c.self.view_is

@@ -4,12 +4,12 @@ use Rattle.std.proofs.lemmas.List.{length_push, length-map}
 use Rattle.std.proofs.lemmas.Option.{same_Some}
 use Rattle.lsys_forest.specs.declared.note.Was.TheVariants as was
 use Rattle.lsys_forest.specs.declared.node.Stored.{Stored}
-use Rattle.lsys_forest.specs.Shelves.{Shelf, shown}
+use Rattle.lsys_forest.specs.Shelves.{Shelf, run_list}
 use Rattle.lsys_forest.specs.Slots.{slot_at, no_footing, footing_at, live_slots}
 use Rattle.lsys_forest.specs.Nodes.{Node}
 use Rattle.lsys_forest.specs.Changes.{OldKids}
-use Rattle.lsys_forest.specs.Answers.{IsMade, Releases}
-use Rattle.lsys_forest.specs.Stocks.{Stock, node_of, row_at, nodes_of, told, stock_of, Removes}
+use Rattle.lsys_forest.specs.Answers.{Lives, Releases}
+use Rattle.lsys_forest.specs.Stocks.{Stock, node_of, row_at, nodes_of, changes_told, stock_of, Removes}
 use Rattle.lsys_forest.proofs.ShelfLemmas.{room_nil}
 use Rattle.lsys_forest.proofs.SlotLemmas.{live_gone, slot_some}
 use Rattle.lsys_forest.proofs.TableLemmas.{get_set_other, get_cleared}
@@ -20,24 +20,24 @@ pub take_out-removed-requires-clause-lives : goal.take_out-removed-requires-clau
 take_out-removed-requires-clause-lives g c =
     let i = c.self.inside in
     let lives = subst (λ (t : Stock g.row.A.Denot). IsSome (nodes_of t c.args.node)) (sym c.self.view_is) c.requires.lives in
-    let s = lives_stored i.table.slots (map (shown i.params.pool) i.table.param_runs) (map (shown i.kids.pool) i.table.kid_runs) c.args.node lives in
+    let s = lives_stored i.table.slots (map (run_list i.params.pool) i.table.param_runs) (map (run_list i.kids.pool) i.table.kid_runs) c.args.node lives in
     subst IsSome (sym s.1) refl
 
 pub take_out-removed-requires-clause-place : goal.take_out-removed-requires-clause-place
 take_out-removed-requires-clause-place g c =
     let i = c.self.inside in
     let place = subst (λ (t : Stock g.row.A.Denot). length t.notes < t.places) (sym c.self.view_is) c.requires.place in
-    let same = length-map i.kids.past (shown i.kids.pool) in
+    let same = length-map i.kids.past (run_list i.kids.pool) in
     omega (arith, place, same, c.self.invariant.stock.past_kids_long, kid_count_le i.notes.items)
 
 pub release_one-requires : goal.release_one-requires
 release_one-requires g c =
     let i = c.self.inside in
-    let params = map (shown i.params.pool) i.table.param_runs in
-    let kids = map (shown i.kids.pool) i.table.kid_runs in
+    let params = map (run_list i.params.pool) i.table.param_runs in
+    let kids = map (run_list i.kids.pool) i.table.kid_runs in
     let s = c.take_out-removed.result in
     let n = node_of (row_at params c.args.node) (row_at kids c.args.node) s in
-    let made = subst (λ (t : Stock g.row.A.Denot). (n : Node g.row.A.Denot) → nodes_of t c.args.node ≡ Some n → IsMade g.A.Kept.run_at g.A.Kept.Holds c.args.store.now n.answer) (sym c.self.view_is) c.requires.made in
+    let made = subst (λ (t : Stock g.row.A.Denot). (n : Node g.row.A.Denot) → nodes_of t c.args.node ≡ Some n → Lives g.A.Kept.run_at g.A.Kept.Holds c.args.store.now n.answer) (sym c.self.view_is) c.requires.made in
     made n (ap (option_map (node_of (row_at params c.args.node) (row_at kids c.args.node))) c.take_out-removed.ensures.was)
 
 pub invariant_of-self : goal.invariant_of-self
@@ -51,7 +51,7 @@ invariant_of-self g c =
     record {
       params = e.params;
       kids = e.kids;
-      stock = IsStock-note i.notes.items c.push_note.new.notes.items _ (map (shown i.params.pool) i.params.past) (map (shown p'.pool) p'.past) (map (shown i.kids.pool) i.kids.past) (map (shown q'.pool) q'.past) c.push_note.ensures.pushed (let l = ap length pp in omega (arith, l)) (ap length qp ∙ length_push (map (shown i.kids.pool) i.kids.past) _) c.self.invariant.stock;
+      stock = IsStock-note i.notes.items c.push_note.new.notes.items _ (map (run_list i.params.pool) i.params.past) (map (run_list p'.pool) p'.past) (map (run_list i.kids.pool) i.kids.past) (map (run_list q'.pool) q'.past) c.push_note.ensures.pushed (let l = ap length pp in omega (arith, l)) (ap length qp ∙ length_push (map (run_list i.kids.pool) i.kids.past) _) c.self.invariant.stock;
     }
 
 pub returns : goal.returns
@@ -63,10 +63,10 @@ returns g c =
     let p' = c.take_out-removed.new.params in
     let q' = c.take_out-removed.new.kids in
     let ns = c.push_note.new.notes in
-    let params = map (shown i.params.pool) i.table.param_runs in
-    let kids = map (shown i.kids.pool) i.table.kid_runs in
-    let past = map (shown i.params.pool) i.params.past in
-    let past_kids = map (shown i.kids.pool) i.kids.past in
+    let params = map (run_list i.params.pool) i.table.param_runs in
+    let kids = map (run_list i.kids.pool) i.table.kid_runs in
+    let past = map (run_list i.params.pool) i.params.past in
+    let past_kids = map (run_list i.kids.pool) i.kids.past in
     let pp = ap (λ (s : Shelf ℤ). s.past) e.no_params.cleared in
     let qp = ap (λ (s : Shelf ℕ). s.past) e.no_kids.swapped in
     let new : Stock g.row.A.Denot = stock_of t' p' q' ns.items (vec_capacity ns) in
@@ -82,11 +82,11 @@ returns g c =
           kids_same = e.no_kids.comes.others;
         }) (ap (option_map (node_of (row_at new.params k) (row_at new.kids k))) cleared);
         noted =
-            ap (λ ns. told ns (map (shown p'.pool) p'.past) (map (shown q'.pool) q'.past)) c.push_note.ensures.pushed
-            ∙ ap (λ p. told (i.notes.items ++ record { node = k; was = was.Kids } ∷ []) p (map (shown q'.pool) q'.past)) pp
-            ∙ ap (told (i.notes.items ++ record { node = k; was = was.Kids } ∷ []) past) qp
+            ap (λ ns. changes_told ns (map (run_list p'.pool) p'.past) (map (run_list q'.pool) q'.past)) c.push_note.ensures.pushed
+            ∙ ap (λ p. changes_told (i.notes.items ++ record { node = k; was = was.Kids } ∷ []) p (map (run_list q'.pool) q'.past)) pp
+            ∙ ap (changes_told (i.notes.items ++ record { node = k; was = was.Kids } ∷ []) past) qp
             ∙ told_kid i.notes.items (record { node = k; was = was.Kids }) past past_kids (row_at kids k) c.self.invariant.stock.past_params_long c.self.invariant.stock.past_kids_long
-            ∙ ap (λ (m : Node g.row.A.Denot). told i.notes.items past past_kids ++ record { node = k; before = OldKids m.kids } ∷ []) s.2;
+            ∙ ap (λ (m : Node g.row.A.Denot). changes_told i.notes.items past past_kids ++ record { node = k; before = OldKids m.kids } ∷ []) s.2;
         notes = ap length c.push_note.ensures.pushed ∙ length_push i.notes.items _;
         live = let l = ap live_slots e.slots in let f = live_gone i.table.slots k s.0 (slot_some i.table.slots k s.0 s.1) in omega (arith, l, f);
         room = record {

@@ -1,12 +1,13 @@
 use Rattle.std.proofs.Common.{◌≡◌, ◌≢◌, ℕ, map, slice_get, Option, Some, None, refl, sym, ap, ◌∙◌, subst}
 use Rattle.std.specs.Prelude.{IsSome, option_map}
 use Rattle.std.proofs.lemmas.Option.{none-some}
-use Rattle.lsys_forest.specs.Shelves.{shown, run_at}
+use Rattle.lsys_spec.specs.Rows.{In, AreApart}
+use Rattle.lsys_forest.specs.Shelves.{run_list, run_at}
 use Rattle.lsys_forest.specs.declared.walk.Way.{Way}
 use Rattle.lsys_forest.specs.Slots.{slot_at, link_at}
 use Rattle.lsys_forest.specs.Nodes.{Node, Nodes}
 use Rattle.lsys_forest.specs.Stocks.{Stock, nodes_of, changes_of, row_at, node_of}
-use Rattle.lsys_forest.specs.Groves.{In, AreApart, IsSound}
+use Rattle.lsys_forest.specs.Groves.{IsRooted}
 use Rattle.lsys_forest.specs.Rows.{kids_in}
 use Rattle.lsys_forest.specs.Ranks.{AreRanked}
 use Rattle.lsys_forest.proofs.ShelfLemmas.{run_live, run_read}
@@ -33,10 +34,10 @@ pub number-requires-clause-apart : goal.number-requires-clause-apart
 number-requires-clause-apart g c =
     let i = c.self.inside in
     let k = c.args.node in
-    let params = map (shown i.params.pool) i.table.param_runs in
-    let kids = map (shown i.kids.pool) i.table.kid_runs in
+    let params = map (run_list i.params.pool) i.table.param_runs in
+    let kids = map (run_list i.kids.pool) i.table.kid_runs in
     let m = shown_nodes i.table.slots params kids in
-    let s = subst (λ (t : Stock g.row.A.Denot). (root : ℕ) × IsSound root (changes_of t) (nodes_of t)) (sym c.self.view_is) c.requires in
+    let s = subst (λ (t : Stock g.row.A.Denot). (root : ℕ) × IsRooted root (changes_of t) (nodes_of t)) (sym c.self.view_is) c.requires in
     let lives = mapped_some (slot_at i.table.slots k) (run_at i.table.kid_runs k) c.in-Some.run'.now c.in-Some.ensures (node_of (row_at params k) (row_at kids k)) in
     let list : c.read-kids.result.now ≡ kids_in (m k) = run_read i.kids i.table.kid_runs (slot_at i.table.slots k) k c.in-Some.run'.now c.read-kids.result.now c.in-Some.ensures c.read-kids.ensures ∙ rows_are i.table.slots params kids k lives in
     subst AreApart (sym list) (kids_apart s.0 _ m s.1 k)
@@ -45,10 +46,10 @@ pub number-requires-clause-live : goal.number-requires-clause-live
 number-requires-clause-live g c = λ j h.
     let i = c.self.inside in
     let k = c.args.node in
-    let params = map (shown i.params.pool) i.table.param_runs in
-    let kids = map (shown i.kids.pool) i.table.kid_runs in
+    let params = map (run_list i.params.pool) i.table.param_runs in
+    let kids = map (run_list i.kids.pool) i.table.kid_runs in
     let m = shown_nodes i.table.slots params kids in
-    let s = subst (λ (t : Stock g.row.A.Denot). (root : ℕ) × IsSound root (changes_of t) (nodes_of t)) (sym c.self.view_is) c.requires in
+    let s = subst (λ (t : Stock g.row.A.Denot). (root : ℕ) × IsRooted root (changes_of t) (nodes_of t)) (sym c.self.view_is) c.requires in
     let lives = mapped_some (slot_at i.table.slots k) (run_at i.table.kid_runs k) c.in-Some.run'.now c.in-Some.ensures (node_of (row_at params k) (row_at kids k)) in
     let list : c.read-kids.result.now ≡ kids_in (m k) = run_read i.kids i.table.kid_runs (slot_at i.table.slots k) k c.in-Some.run'.now c.read-kids.result.now c.in-Some.ensures c.read-kids.ensures ∙ rows_are i.table.slots params kids k lives in
     let under = child s.0 _ m s.1 k j (subst (In j) list h) in
@@ -59,10 +60,10 @@ pub returns-in-Some-clause-ranked : goal.returns-in-Some-clause-ranked
 returns-in-Some-clause-ranked g c =
     let i = c.self.inside in
     let k = c.args.node in
-    let params = map (shown i.params.pool) i.table.param_runs in
-    let kids = map (shown i.kids.pool) i.table.kid_runs in
+    let params = map (run_list i.params.pool) i.table.param_runs in
+    let kids = map (run_list i.kids.pool) i.table.kid_runs in
     let m = shown_nodes i.table.slots params kids in
-    let s = subst (λ (t : Stock g.row.A.Denot). (root : ℕ) × IsSound root (changes_of t) (nodes_of t)) (sym c.self.view_is) c.requires in
+    let s = subst (λ (t : Stock g.row.A.Denot). (root : ℕ) × IsRooted root (changes_of t) (nodes_of t)) (sym c.self.view_is) c.requires in
     let lives = mapped_some (slot_at i.table.slots k) (run_at i.table.kid_runs k) c.in-Some.run'.now c.in-Some.ensures (node_of (row_at params k) (row_at kids k)) in
     let list : c.read-kids.result.now ≡ kids_in (m k) = run_read i.kids i.table.kid_runs (slot_at i.table.slots k) k c.in-Some.run'.now c.read-kids.result.now c.in-Some.ensures c.read-kids.ensures ∙ rows_are i.table.slots params kids k lives in
     subst (λ (t : Stock g.row.A.Denot). (before : Nodes g.row.A.Denot) → ((j : ℕ) → j ≢ k → nodes_of t j ≡ before j) → AreRanked before t.footings → AreRanked (nodes_of t) c.number.new.table.footings) c.self.view_is
@@ -72,10 +73,10 @@ pub returns-in_default-clause-ranked : goal.returns-in_default-clause-ranked
 returns-in_default-clause-ranked g c =
     let i = c.self.inside in
     let k = c.args.node in
-    let params = map (shown i.params.pool) i.table.param_runs in
-    let kids = map (shown i.kids.pool) i.table.kid_runs in
+    let params = map (run_list i.params.pool) i.table.param_runs in
+    let kids = map (run_list i.kids.pool) i.table.kid_runs in
     let m = shown_nodes i.table.slots params kids in
-    let s = subst (λ (t : Stock g.row.A.Denot). (root : ℕ) × IsSound root (changes_of t) (nodes_of t)) (sym c.self.view_is) c.requires in
+    let s = subst (λ (t : Stock g.row.A.Denot). (root : ℕ) × IsRooted root (changes_of t) (nodes_of t)) (sym c.self.view_is) c.requires in
     let none : m k ≡ None = mapped_none (slot_at i.table.slots k) (run_at i.table.kid_runs k) c.in_default.ensures (node_of (row_at params k) (row_at kids k)) in
     subst (λ (t : Stock g.row.A.Denot). (before : Nodes g.row.A.Denot) → ((j : ℕ) → j ≢ k → nodes_of t j ≡ before j) → AreRanked before t.footings → AreRanked (nodes_of t) t.footings) c.self.view_is
     (λ before other ranked. reranked s.0 _ before m k i.table.footings i.table.footings s.1 other (λ x j here. absurd (none-some j (ap (λ (o : Option (Node g.row.A.Denot)). slice_get (kids_in o) x) (sym none) ∙ here))) (λ j no. refl) ranked)

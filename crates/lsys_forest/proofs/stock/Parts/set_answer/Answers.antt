@@ -4,7 +4,7 @@ use Rattle.lsys_forest.specs.declared.note.Was.TheVariants as was
 use Rattle.lsys_forest.specs.Slots.{SlotTable, answer_set}
 use Rattle.lsys_forest.specs.Nodes.{Node, with_answer}
 use Rattle.lsys_forest.specs.Changes.{OldAnswer}
-use Rattle.lsys_forest.specs.Stocks.{Stock, nodes_of, stock_of, AreParts, Journals}
+use Rattle.lsys_forest.specs.Stocks.{Stock, nodes_of, stock_of, AreStockParts, Journals}
 use Rattle.lsys_forest.proofs.StockLemmas.{answer_was}
 use Rattle.lsys_forest.proofs.PartLemmas.{rows_of, kids_of, parts_slot, journal_slot}
 use Rattle.lsys_forest.proofs.stock.Parts.set_answer.Goals as goal
@@ -12,7 +12,7 @@ use Rattle.lsys_forest.proofs.stock.Parts.set_answer.Goals as goal
 pub invariant_of-self : goal.invariant_of-self
 invariant_of-self g c =
     let i = c.self.inside in
-    subst (λ (x : SlotTable g.row.A.Denot). AreParts x i.params i.kids c.push_note.new.notes.items) (sym c.swap_answer-before.ensures.changed)
+    subst (λ (x : SlotTable g.row.A.Denot). AreStockParts x i.params i.kids c.push_note.new.notes.items) (sym c.swap_answer-before.ensures.changed)
     (parts_slot i.table i.params i.kids i.notes.items c.push_note.new.notes.items c.args.node (was.Answer c.swap_answer-before.result) (answer_set c.args.answer) refl refl c.push_note.ensures.pushed c.self.invariant)
 
 pub returns : goal.returns

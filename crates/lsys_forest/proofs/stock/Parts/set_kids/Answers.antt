@@ -3,11 +3,11 @@ use Rattle.std.specs.Prelude.{IsSome, vec_capacity}
 use Rattle.std.proofs.lemmas.List.{length_push, length-map}
 use Rattle.lsys_region.specs.Rooms.{list_room}
 use Rattle.lsys_forest.specs.declared.note.Was.TheVariants as was
-use Rattle.lsys_forest.specs.Shelves.{Shelf, shown, IsOwner}
+use Rattle.lsys_forest.specs.Shelves.{Shelf, run_list, IsOwner}
 use Rattle.lsys_forest.specs.Slots.{SlotTable, footing_at, live_slots}
 use Rattle.lsys_forest.specs.Nodes.{Node, with_kids}
 use Rattle.lsys_forest.specs.Changes.{OldKids}
-use Rattle.lsys_forest.specs.Stocks.{Stock, row_at, nodes_of, told, stock_of, Journals}
+use Rattle.lsys_forest.specs.Stocks.{Stock, row_at, nodes_of, changes_told, stock_of, Journals}
 use Rattle.lsys_forest.proofs.StockLemmas.{shown_nodes, IsStock-note, told_kid, kid_count_le, lives_stored, kids_changed, kids_were}
 use Rattle.lsys_forest.proofs.stock.Parts.set_kids.Goals as goal
 
@@ -15,14 +15,14 @@ pub swap_kids-requires-clause-lives : goal.swap_kids-requires-clause-lives
 swap_kids-requires-clause-lives g c =
     let i = c.self.inside in
     let lives = subst (λ (t : Stock g.row.A.Denot). IsSome (nodes_of t c.args.node)) (sym c.self.view_is) c.requires.lives in
-    let s = lives_stored i.table.slots (map (shown i.params.pool) i.table.param_runs) (map (shown i.kids.pool) i.table.kid_runs) c.args.node lives in
+    let s = lives_stored i.table.slots (map (run_list i.params.pool) i.table.param_runs) (map (run_list i.kids.pool) i.table.kid_runs) c.args.node lives in
     subst IsSome (sym s.1) refl
 
 pub swap_kids-requires-clause-place : goal.swap_kids-requires-clause-place
 swap_kids-requires-clause-place g c =
     let i = c.self.inside in
     let place = subst (λ (t : Stock g.row.A.Denot). length t.notes < t.places) (sym c.self.view_is) c.requires.place in
-    let same = length-map i.kids.past (shown i.kids.pool) in
+    let same = length-map i.kids.past (run_list i.kids.pool) in
     omega (arith, place, same, c.self.invariant.stock.past_kids_long, kid_count_le i.notes.items)
 
 pub invariant_of-self : goal.invariant_of-self
@@ -34,7 +34,7 @@ invariant_of-self g c =
     record {
       params = subst (λ r. IsOwner i.params r) (sym params) c.self.invariant.params;
       kids = e.owned;
-      stock = IsStock-note i.notes.items c.push_note.new.notes.items _ (map (shown i.params.pool) i.params.past) (map (shown i.params.pool) i.params.past) (map (shown i.kids.pool) i.kids.past) (map (shown c.swap_kids.new.lists.pool) c.swap_kids.new.lists.past) c.push_note.ensures.pushed (omega arith) (ap length behind ∙ length_push (map (shown i.kids.pool) i.kids.past) _) c.self.invariant.stock;
+      stock = IsStock-note i.notes.items c.push_note.new.notes.items _ (map (run_list i.params.pool) i.params.past) (map (run_list i.params.pool) i.params.past) (map (run_list i.kids.pool) i.kids.past) (map (run_list c.swap_kids.new.lists.pool) c.swap_kids.new.lists.past) c.push_note.ensures.pushed (omega arith) (ap length behind ∙ length_push (map (run_list i.kids.pool) i.kids.past) _) c.self.invariant.stock;
     }
 
 pub returns : goal.returns
@@ -45,21 +45,21 @@ returns g c =
     let q' = c.swap_kids.new.lists in
     let ns = c.push_note.new.notes in
     let k = c.args.node in
-    let params = map (shown i.params.pool) i.table.param_runs in
-    let kids = map (shown i.kids.pool) i.table.kid_runs in
-    let past = map (shown i.params.pool) i.params.past in
+    let params = map (run_list i.params.pool) i.table.param_runs in
+    let kids = map (run_list i.kids.pool) i.table.kid_runs in
+    let past = map (run_list i.params.pool) i.params.past in
     let behind = ap (λ (s : Shelf ℕ). s.past) e.swapped.swapped in
     subst (λ (t : Stock g.row.A.Denot). (n : Node g.row.A.Denot) → nodes_of t k ≡ Some n → Journals t (stock_of t' i.params q' ns.items (vec_capacity ns)) k (Some (with_kids c.args.kids.now n)) (OldKids n.kids) 0 0 (list_room c.args.kids.now)) c.self.view_is
     (λ n is. record {
       nodes =
-          ap (λ (x : SlotTable g.row.A.Denot). shown_nodes x.slots (map (shown i.params.pool) x.param_runs) (map (shown q'.pool) t'.kid_runs)) e.table
-          ∙ kids_changed i.table.slots params kids (map (shown q'.pool) t'.kid_runs) k c.args.kids.now n is e.swapped.comes;
+          ap (λ (x : SlotTable g.row.A.Denot). shown_nodes x.slots (map (run_list i.params.pool) x.param_runs) (map (run_list q'.pool) t'.kid_runs)) e.table
+          ∙ kids_changed i.table.slots params kids (map (run_list q'.pool) t'.kid_runs) k c.args.kids.now n is e.swapped.comes;
       noted =
           let same = kids_were i.table.slots params kids k n is in
-          ap (λ ns. told ns past (map (shown q'.pool) q'.past)) c.push_note.ensures.pushed
-          ∙ ap (told (i.notes.items ++ record { node = k; was = was.Kids } ∷ []) past) behind
-          ∙ told_kid i.notes.items (record { node = k; was = was.Kids }) past (map (shown i.kids.pool) i.kids.past) (row_at kids k) c.self.invariant.stock.past_params_long c.self.invariant.stock.past_kids_long
-          ∙ ap (λ x. told i.notes.items past (map (shown i.kids.pool) i.kids.past) ++ record { node = k; before = OldKids x } ∷ []) same;
+          ap (λ ns. changes_told ns past (map (run_list q'.pool) q'.past)) c.push_note.ensures.pushed
+          ∙ ap (changes_told (i.notes.items ++ record { node = k; was = was.Kids } ∷ []) past) behind
+          ∙ told_kid i.notes.items (record { node = k; was = was.Kids }) past (map (run_list i.kids.pool) i.kids.past) (row_at kids k) c.self.invariant.stock.past_params_long c.self.invariant.stock.past_kids_long
+          ∙ ap (λ x. changes_told i.notes.items past (map (run_list i.kids.pool) i.kids.past) ++ record { node = k; before = OldKids x } ∷ []) same;
       notes = ap length c.push_note.ensures.pushed ∙ length_push i.notes.items _;
       live = let same = ap (λ (x : SlotTable g.row.A.Denot). x.slots) e.table in let l = ap live_slots same in omega (arith, l);
       capacity = ap (λ (x : SlotTable g.row.A.Denot). x.capacity) e.table;

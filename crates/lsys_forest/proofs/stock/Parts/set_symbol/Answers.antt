@@ -5,10 +5,10 @@ use Rattle.lsys_level.specs.Places.{seen_in, params_in}
 use Rattle.lsys_region.specs.Rooms.{list_room}
 use Rattle.lsys_forest.specs.Slots.{SlotTable, slot_at, footing_at, live_slots, change_slot, kind_set}
 use Rattle.lsys_forest.specs.declared.note.Was.TheVariants as was
-use Rattle.lsys_forest.specs.Shelves.{Shelf, shown, shelf_of, IsOwner}
-use Rattle.lsys_forest.specs.Nodes.{Node, put, with_seen}
+use Rattle.lsys_forest.specs.Shelves.{Shelf, run_list, shelf_of, IsOwner}
+use Rattle.lsys_forest.specs.Nodes.{Node, with_node, with_seen}
 use Rattle.lsys_forest.specs.Changes.{OldSeen}
-use Rattle.lsys_forest.specs.Stocks.{Stock, row_at, nodes_of, told, ComesTo, Swaps, stock_of, Journals}
+use Rattle.lsys_forest.specs.Stocks.{Stock, row_at, nodes_of, changes_told, ComesTo, Swaps, stock_of, Journals}
 use Rattle.lsys_forest.proofs.SlotLemmas.{live_change}
 use Rattle.lsys_forest.proofs.StockLemmas.{shown_nodes, change_there, IsStock-note, told_param, param_count_le, lives_stored, seen_was, seen_changed}
 use Rattle.lsys_forest.proofs.stock.Parts.set_symbol.Goals as goal
@@ -22,7 +22,7 @@ pub swap_params-requires-clause-lives : goal.swap_params-requires-clause-lives
 swap_params-requires-clause-lives g c =
     let i = c.self.inside in
     let lives = subst (λ (t : Stock g.row.A.Denot). IsSome (nodes_of t c.args.node)) (sym c.self.view_is) c.requires.lives in
-    let s = lives_stored i.table.slots (map (shown i.params.pool) i.table.param_runs) (map (shown i.kids.pool) i.table.kid_runs) c.args.node lives in
+    let s = lives_stored i.table.slots (map (run_list i.params.pool) i.table.param_runs) (map (run_list i.kids.pool) i.table.kid_runs) c.args.node lives in
     let there = ap (λ (y : SlotTable g.row.A.Denot). slot_at y.slots c.args.node) c.swap_kind.ensures.changed ∙ change_there (kind_set c.kind_of.result) i.table.slots c.args.node ∙ ap (option_map (kind_set c.kind_of.result)) s.1 in
     subst IsSome (sym there) refl
 
@@ -30,7 +30,7 @@ pub swap_params-requires-clause-place : goal.swap_params-requires-clause-place
 swap_params-requires-clause-place g c =
     let i = c.self.inside in
     let place = subst (λ (t : Stock g.row.A.Denot). length t.notes < t.places) (sym c.self.view_is) c.requires.place in
-    let same = length-map i.params.past (shown i.params.pool) in
+    let same = length-map i.params.past (run_list i.params.pool) in
     omega (arith, place, same, c.self.invariant.stock.past_params_long, param_count_le i.notes.items)
 
 pub invariant_of-self : goal.invariant_of-self
@@ -50,7 +50,7 @@ invariant_of-self g c =
     record {
       params = e.owned;
       kids = subst (λ r. IsOwner i.kids r) (sym (ap (λ (y : SlotTable g.row.A.Denot). y.kid_runs) is_table)) c.self.invariant.kids;
-      stock = IsStock-note i.notes.items c.push_note.new.notes.items _ (map (shown i.params.pool) i.params.past) (map (shown p'.pool) p'.past) (map (shown i.kids.pool) i.kids.past) (map (shown i.kids.pool) i.kids.past) c.push_note.ensures.pushed (ap length behind ∙ length_push (map (shown i.params.pool) i.params.past) _) (omega arith) c.self.invariant.stock;
+      stock = IsStock-note i.notes.items c.push_note.new.notes.items _ (map (run_list i.params.pool) i.params.past) (map (run_list p'.pool) p'.past) (map (run_list i.kids.pool) i.kids.past) (map (run_list i.kids.pool) i.kids.past) c.push_note.ensures.pushed (ap length behind ∙ length_push (map (run_list i.params.pool) i.params.past) _) (omega arith) c.self.invariant.stock;
     }
 
 pub returns-clause-set : goal.returns-clause-set
@@ -68,24 +68,24 @@ returns-clause-set g c =
     let swapped : Swaps k c.params_of.result.now (shelf_of i.params i.table.param_runs) (shelf_of p' t'.param_runs) = subst (λ r. Swaps k c.params_of.result.now (shelf_of i.params r) (shelf_of p' t'.param_runs)) runs e.swapped in
     let ns = c.push_note.new.notes in
     let l = params_in c.args.symbol.now in
-    let params = map (shown i.params.pool) i.table.param_runs in
-    let kids = map (shown i.kids.pool) i.table.kid_runs in
-    let past = map (shown i.params.pool) i.params.past in
-    let past_kids = map (shown i.kids.pool) i.kids.past in
+    let params = map (run_list i.params.pool) i.table.param_runs in
+    let kids = map (run_list i.kids.pool) i.table.kid_runs in
+    let past = map (run_list i.params.pool) i.params.past in
+    let past_kids = map (run_list i.kids.pool) i.kids.past in
     let behind = ap (λ (s : Shelf ℤ). s.past) swapped.swapped in
-    let comes = subst (λ m. ComesTo k m params (map (shown p'.pool) t'.param_runs)) c.params_of.ensures.params swapped.comes in
+    let comes = subst (λ m. ComesTo k m params (map (run_list p'.pool) t'.param_runs)) c.params_of.ensures.params swapped.comes in
     subst (λ (t : Stock g.row.A.Denot). (n : Node g.row.A.Denot) → nodes_of t k ≡ Some n → Journals t (stock_of t' p' i.kids ns.items (vec_capacity ns)) k (Some (with_seen (seen_in c.args.symbol.now) n)) (OldSeen n.seen) 0 (list_room l) 0) c.self.view_is
     (λ n is. record {
       nodes =
-          ap (λ (y : SlotTable g.row.A.Denot). shown_nodes y.slots (map (shown p'.pool) t'.param_runs) (map (shown i.kids.pool) y.kid_runs)) is_table
-          ∙ seen_changed i.table.slots (change_slot (kind_set x) i.table.slots k) params (map (shown p'.pool) t'.param_runs) kids k x l n is refl comes
-          ∙ ap (λ y. put (shown_nodes i.table.slots params kids) k (Some (with_seen y n))) c.kind_of.ensures;
+          ap (λ (y : SlotTable g.row.A.Denot). shown_nodes y.slots (map (run_list p'.pool) t'.param_runs) (map (run_list i.kids.pool) y.kid_runs)) is_table
+          ∙ seen_changed i.table.slots (change_slot (kind_set x) i.table.slots k) params (map (run_list p'.pool) t'.param_runs) kids k x l n is refl comes
+          ∙ ap (λ y. with_node (shown_nodes i.table.slots params kids) k (Some (with_seen y n))) c.kind_of.ensures;
       noted =
           let same = seen_was i.table.slots params kids k n c.in-Some.kind is c.in-Some.ensures.before in
-          ap (λ ns. told ns (map (shown p'.pool) p'.past) past_kids) c.push_note.ensures.pushed
-          ∙ ap (λ ps. told (i.notes.items ++ record { node = k; was = was.Kind c.in-Some.kind } ∷ []) ps past_kids) behind
+          ap (λ ns. changes_told ns (map (run_list p'.pool) p'.past) past_kids) c.push_note.ensures.pushed
+          ∙ ap (λ ps. changes_told (i.notes.items ++ record { node = k; was = was.Kind c.in-Some.kind } ∷ []) ps past_kids) behind
           ∙ told_param i.notes.items (record { node = k; was = was.Kind c.in-Some.kind }) past (row_at params k) past_kids c.self.invariant.stock.past_params_long c.self.invariant.stock.past_kids_long
-          ∙ ap (λ y. told i.notes.items past past_kids ++ record { node = k; before = OldSeen y } ∷ []) same;
+          ∙ ap (λ y. changes_told i.notes.items past past_kids ++ record { node = k; before = OldSeen y } ∷ []) same;
       notes = ap length c.push_note.ensures.pushed ∙ length_push i.notes.items _;
       live = let same = ap (λ (y : SlotTable g.row.A.Denot). live_slots y.slots) is_table ∙ live_change (kind_set x) i.table.slots k in omega (arith, same);
       capacity = ap (λ (y : SlotTable g.row.A.Denot). y.capacity) is_table;

@@ -3,8 +3,8 @@ use Rattle.std.specs.Prelude.{vec_capacity}
 use Rattle.std.proofs.lemmas.List.{length_push}
 use Rattle.lsys_forest.specs.Shelves.{shelf_of}
 use Rattle.lsys_forest.specs.Changes.{Change}
-use Rattle.lsys_forest.specs.Answers.{IsMade, Releases, old_answer}
-use Rattle.lsys_forest.specs.Stocks.{Stock, changes_of, told, IsStock, stock_of, TakesUp}
+use Rattle.lsys_forest.specs.Answers.{Lives, Releases, old_answer}
+use Rattle.lsys_forest.specs.Stocks.{Stock, changes_of, changes_told, IsStock, stock_of, TakesUp}
 use Rattle.lsys_forest.proofs.StockLemmas.{shown_nodes}
 use Rattle.lsys_forest.proofs.BackLemmas.{last_undone, take_done}
 use Rattle.lsys_forest.proofs.stock.Parts.take_last.Goals as goal
@@ -18,11 +18,11 @@ take_note-requires g c =
     let Q = shelf_of i.kids i.table.kid_runs in
     let is : IsStock (c.pop.new.self.items ++ c.in-Some.note ∷ []) P.past Q.past = subst (λ ns. IsStock ns P.past Q.past) c.in-Some.ensures.items c.self.invariant.stock in
     let last = last_undone i.table.slots P Q c.pop.new.self.items k w is in
-    let made = subst (λ (t : Stock g.row.A.Denot). (x : Change g.row.A.Denot) (earlier : List (Change g.row.A.Denot)) → changes_of t ≡ earlier ++ x ∷ [] → IsMade g.A.Kept.run_at g.A.Kept.Holds c.args.store.now (old_answer x)) (sym c.self.view_is) c.requires.made in
+    let made = subst (λ (t : Stock g.row.A.Denot). (x : Change g.row.A.Denot) (earlier : List (Change g.row.A.Denot)) → changes_of t ≡ earlier ++ x ∷ [] → Lives g.A.Kept.run_at g.A.Kept.Holds c.args.store.now (old_answer x)) (sym c.self.view_is) c.requires.made in
     record {
       params = (i.table.param_runs, c.self.invariant.params);
       kids = (i.table.kid_runs, c.self.invariant.kids);
-      made = subst (IsMade g.A.Kept.run_at g.A.Kept.Holds c.args.store.now) last.noted (made last.last last.earlier (ap (λ ns. told ns P.past Q.past) c.in-Some.ensures.items ∙ last.were));
+      made = subst (Lives g.A.Kept.run_at g.A.Kept.Holds c.args.store.now) last.noted (made last.last last.earlier (ap (λ ns. changes_told ns P.past Q.past) c.in-Some.ensures.items ∙ last.were));
     }
 
 pub invariant_of-self : goal.invariant_of-self
@@ -57,7 +57,7 @@ returns-in-Some-clause-taken g c =
       record {
         takes = record {
           earlier = changes_of new;
-          were = ap (λ ns. told ns P.past Q.past) c.in-Some.ensures.items ∙ done.told_is;
+          were = ap (λ ns. changes_told ns P.past Q.past) c.in-Some.ensures.items ∙ done.told_is;
           are = refl;
           notes = let l = ap length c.in-Some.ensures.items in omega (arith, l, length_push c.pop.new.self.items c.in-Some.note);
           room = record {

@@ -3,8 +3,8 @@ use Rattle.std.specs.Prelude.{vec_capacity}
 use Rattle.std.proofs.lemmas.List.{length_push}
 use Rattle.lsys_forest.specs.Shelves.{shelf_of}
 use Rattle.lsys_forest.specs.Changes.{Change}
-use Rattle.lsys_forest.specs.Answers.{IsMade, Releases}
-use Rattle.lsys_forest.specs.Stocks.{Stock, nodes_of, changes_of, told, dropped, IsStock, stock_of, KeepsFootings, Undoes}
+use Rattle.lsys_forest.specs.Answers.{Lives, Releases}
+use Rattle.lsys_forest.specs.Stocks.{Stock, nodes_of, changes_of, changes_told, dropped, IsStock, stock_of, KeepsFootings, Undoes}
 use Rattle.lsys_forest.proofs.BackLemmas.{last_undone, undo_done, undone_kept}
 use Rattle.lsys_forest.proofs.stock.Parts.undo_last.Goals as goal
 
@@ -17,8 +17,8 @@ undo_note-requires-clause-made g c =
     let Q = shelf_of i.kids i.table.kid_runs in
     let is : IsStock (c.pop.new.self.items ++ c.in-Some.note ∷ []) P.past Q.past = subst (λ ns. IsStock ns P.past Q.past) c.in-Some.ensures.items c.self.invariant.stock in
     let last = last_undone i.table.slots P Q c.pop.new.self.items k w is in
-    let made = subst (λ (t : Stock g.row.A.Denot). (x : Change g.row.A.Denot) (earlier : List (Change g.row.A.Denot)) → changes_of t ≡ earlier ++ x ∷ [] → IsMade g.A.Kept.run_at g.A.Kept.Holds c.args.store.now (dropped x (nodes_of t))) (sym c.self.view_is) c.requires.made in
-    subst (IsMade g.A.Kept.run_at g.A.Kept.Holds c.args.store.now) last.answer (made last.last last.earlier (ap (λ ns. told ns P.past Q.past) c.in-Some.ensures.items ∙ last.were))
+    let made = subst (λ (t : Stock g.row.A.Denot). (x : Change g.row.A.Denot) (earlier : List (Change g.row.A.Denot)) → changes_of t ≡ earlier ++ x ∷ [] → Lives g.A.Kept.run_at g.A.Kept.Holds c.args.store.now (dropped x (nodes_of t))) (sym c.self.view_is) c.requires.made in
+    subst (Lives g.A.Kept.run_at g.A.Kept.Holds c.args.store.now) last.answer (made last.last last.earlier (ap (λ ns. changes_told ns P.past Q.past) c.in-Some.ensures.items ∙ last.were))
 
 pub invariant_of-self : goal.invariant_of-self
 invariant_of-self g c =
@@ -54,7 +54,7 @@ returns-in-Some-clause-undone g c = λ yes.
       record {
         takes = record {
           earlier = changes_of new;
-          were = ap (λ ns. told ns P.past Q.past) c.in-Some.ensures.items ∙ done.told_is;
+          were = ap (λ ns. changes_told ns P.past Q.past) c.in-Some.ensures.items ∙ done.told_is;
           are = refl;
           notes = let l = ap length c.in-Some.ensures.items in omega (arith, l, length_push c.pop.new.self.items c.in-Some.note);
           room = record {

@@ -1,10 +1,10 @@
 use Rattle.std.proofs.Common.{subst}
-use Rattle.lsys_forest.specs.Slots.{SlotTable, table_of, Puts}
+use Rattle.lsys_forest.specs.Slots.{SlotTable, table_of, PutsEntry}
 use Rattle.lsys_forest.proofs.TableLemmas.{put_done}
 use Rattle.lsys_forest.proofs.table.Table.insert.Goals as goal
 
 pub returns-clause-put : goal.returns-clause-put
 returns-clause-put g c =
     let i = c.self.inside in
-    subst (λ (t : SlotTable g.row.A.Denot). Puts t (table_of c.insert_reserved.new.self) c.insert_reserved.result c.args.entry) c.self.view_is
+    subst (λ (t : SlotTable g.row.A.Denot). PutsEntry t (table_of c.insert_reserved.new.self) c.insert_reserved.result c.args.entry) c.self.view_is
     (put_done i.nodes c.insert_reserved.new.self c.insert_reserved.result c.args.entry c.insert_reserved.ensures.updates)

@@ -1,6 +1,6 @@
 use Rattle.std.proofs.Common.{ℕ, sym, subst}
 use Rattle.std.proofs.lemmas.Result.{IfOk-weaker}
-use Rattle.lsys_forest.specs.Groves.{In}
+use Rattle.lsys_spec.specs.Rows.{In}
 use Rattle.lsys_forest.specs.Rows.{place_of_node}
 use Rattle.lsys_candidates.specs.Asks.{AreOnOneLevel}
 use Rattle.lsys_front.specs.Asks.{MayBeAsked}

@@ -1,5 +1,5 @@
 use Rattle.std.proofs.Common.{◌≡◌, ap, ◌∙◌, subst, inl, inr}
-use Rattle.lsys_forest.specs.Groves.{In}
+use Rattle.lsys_spec.specs.Rows.{In}
 use Rattle.lsys_front.specs.declared.front.Front.TheInside.{Inside}
 use Rattle.lsys_front.specs.Fronts.{Differences}
 use Rattle.lsys_front.proofs.Called.{with_others, with_came, with_turned, with_beside, with_readers, all_called}

@@ -1,6 +1,7 @@
 use Rattle.std.proofs.Common.{◌∙◌, ℕ, List, ap, subst}
 use Rattle.std.proofs.lemmas.Result.{on_ok_weaker}
-use Rattle.lsys_forest.specs.Groves.{In, now_of}
+use Rattle.lsys_spec.specs.Rows.{In}
+use Rattle.lsys_forest.specs.Groves.{now_of}
 use Rattle.lsys_forest.proofs.RowLemmas.{In_left, In_right}
 use Rattle.lsys_front.specs.declared.front.Front.TheInside.{Inside}
 use Rattle.lsys_front.specs.Fronts.{Differences}

@@ -1,5 +1,5 @@
 use Rattle.std.proofs.Common.{◌++◌, ◌∙◌, List, ℕ, inl, inr, sym, ap, subst}
-use Rattle.lsys_forest.specs.Groves.{In}
+use Rattle.lsys_spec.specs.Rows.{In}
 use Rattle.lsys_candidates.specs.Found.{LevelChanges}
 use Rattle.lsys_front.specs.Fronts.{Differences, StandOn}
 use Rattle.lsys_front.proofs.front.Front.next.Goals as goal

@@ -1,7 +1,7 @@
 use Rattle.std.proofs.Common.{◌≡◌, ◌≢◌, Some, length, slice_get, refl, sym, ap, ◌∙◌, subst, arith, inl, inr, false}
 use Rattle.std.proofs.lemmas.Bool.{cases_eq}
 use Rattle.std.proofs.lemmas.Option.{slice_get_read, slice_get_within, same_Some}
-use Rattle.lsys_forest.specs.Groves.{In}
+use Rattle.lsys_spec.specs.Rows.{In}
 use Rattle.lsys_kept.specs.Seats.{is_marked}
 use Rattle.lsys_kept.proofs.LevelLemmas.{place_in, got_in}
 use Rattle.lsys_kept.proofs.seats.Seats.clear.Goals as goal

@@ -1,5 +1,5 @@
 use Rattle.std.proofs.Common.{◌≡◌, ◌<◌, ℕ, false, Some, slice_get}
-use Rattle.lsys_forest.specs.Groves.{In}
+use Rattle.lsys_spec.specs.Rows.{In}
 use Rattle.lsys_kept.specs.Seats.{is_marked, SameSeats, KeepsSeats}
 use Rattle.lsys_kept.proofs.seats.Seats.clear.Given as goal
 

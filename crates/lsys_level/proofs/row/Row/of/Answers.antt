@@ -2,7 +2,7 @@ use Rattle.std.proofs.Common.{◌≡◌, ◌<◌, ◌≤◌, ◌+◌, ◌++◌, 
 use Rattle.std.specs.Prelude.{slice_get}
 use Rattle.std.proofs.lemmas.List.{length-map, length_push}
 use Rattle.std.proofs.lemmas.Option.{slice_get_read, slice_get-get_or, same_Some}
-use Rattle.lsys_level.specs.Places.{bare, params_in, place_of, Mates}
+use Rattle.lsys_level.specs.Places.{bare_symbol, params_in, kept_place, Mates}
 use Rattle.lsys_level.proofs.Rows.{filled_on, told_all, is_row, no_cut}
 use Rattle.lsys_level.proofs.row.Row.of.Goals as goal
 
@@ -15,8 +15,8 @@ loop-place-preserved c =
     let i = c.loop-place.place in
     let values = c.loop-place.values.items in
     let s = c.index-symbols-place.result in
-    let m : Mates (map bare ss) c.in_ok-mates.mates.items = search rules in
-    let l : length c.in_ok-mates.mates.items ≡ length ss = m.same ∙ length-map ss bare in
+    let m : Mates (map bare_symbol ss) c.in_ok-mates.mates.items = search rules in
+    let l : length c.in_ok-mates.mates.items ≡ length ss = m.same ∙ length-map ss bare_symbol in
     let inside : i < length ss = c.loop-place-test.true in
     let at : slice_get ss i ≡ Some s = slice_get_read ss (length ss) i s refl inside c.index-symbols-place.is in
     let s2 = c.index-symbols-place-in-loop-place.result in
@@ -27,7 +27,7 @@ loop-place-preserved c =
     let params : c.params_of.result.now ≡ params_in s = c.params_of.ensures.params ∙ ap params_in again in
     let few : length (params_in s) ≤ 8 = subst (λ (ps : List ℤ). length ps ≤ 8) params c.params_of.ensures.few in
     let start : c.len-start.result ≡ length values = search rules in
-    let kept : c.of-kept.result ≡ place_of s c.index.result.now (length values) c.index-tags-place.result (get_or c.args.keys.now i 0) = c.of-kept.ensures ∙ ap (λ n. place_of s c.index.result.now n c.index-tags-place.result (get_or c.args.keys.now i 0)) start in
+    let kept : c.of-kept.result ≡ kept_place s c.index.result.now (length values) c.index-tags-place.result (get_or c.args.keys.now i 0) = c.of-kept.ensures ∙ ap (λ n. kept_place s c.index.result.now n c.index-tags-place.result (get_or c.args.keys.now i 0)) start in
     let pushed : c.push.new.self.items ≡ c.loop-place.places.items ++ c.of-kept.result ∷ [] = c.in_ok-push.ensures.items in
     let more : c.extend_from_slice.new.self.items ≡ values ++ c.params_of.result.now = c.in_ok-extend_from_slice.ensures.items in
     record {
@@ -39,7 +39,7 @@ loop-place-preserved c =
 
 pub invariant_of-result : goal.invariant_of-result
 invariant_of-result c =
-    let m : Mates (map bare c.args.symbols.now) c.in_ok-mates.mates.items = search rules in
+    let m : Mates (map bare_symbol c.args.symbols.now) c.in_ok-mates.mates.items = search rules in
     is_row c.args.symbols.now c.args.tags.now c.args.keys.now c.in_ok-mates.mates.items c.loop-place.place c.loop-place.places.items c.loop-place.values.items c.loop-place.invariant.filled c.requires.tags c.requires.keys (omega arith) m
 
 pub returns : goal.returns

@@ -2,7 +2,7 @@ use Rattle.std.proofs.Common.{◌≤◌, ◌+◌, ℤ, List, length, take, drop,
 use Rattle.std.specs.Prelude.{option_map}
 use Rattle.lsys_module.specs.Views.{module_name}
 use Rattle.lsys_level.specs.Spots.{Module, Spotted}
-use Rattle.lsys_level.specs.Places.{seen_as, IsWithin}
+use Rattle.lsys_level.specs.Places.{seen_by_kind, HasParamsWithin}
 use Rattle.lsys_level.proofs.Rows.{place_read, spotted_read, fits_at, few_taken}
 use Rattle.lsys_level.proofs.row.Row.sight.Goals as goal
 
@@ -11,7 +11,7 @@ part-requires c =
     let kept = c.index-kept.result.now in
     let at = place_read c.args.self.now c.self.inside.values.items c.self.inside.places.items c.args.place kept c.self.view_is c.requires c.index-kept.ensures in
     let fits = fits_at c.self.inside.values.items c.self.inside.places.items c.args.place kept c.self.invariant.fit at in
-    let within : kept.link + kept.arity ≤ length c.self.inside.values.items = subst (λ k. IsWithin k (kept.link + kept.arity) (length c.self.inside.values.items)) c.in-Module.is fits.within in
+    let within : kept.link + kept.arity ≤ length c.self.inside.values.items = subst (λ k. HasParamsWithin k (kept.link + kept.arity) (length c.self.inside.values.items)) c.in-Module.is fits.within in
     subst (λ (xs : List ℤ). kept.link + kept.arity ≤ length xs) (sym c.as_slice.ensures.value) within
 
 pub returns-in-Module-clause-few : goal.returns-in-Module-clause-few
@@ -25,18 +25,18 @@ pub returns-in-Push-clause-seen : goal.returns-in-Push-clause-seen
 returns-in-Push-clause-seen c =
     let kept = c.index-kept.result.now in
     ap (option_map (λ (s : Spotted). s.seen)) (spotted_read c.args.self.now c.self.inside.values.items c.self.inside.places.items c.args.place kept c.self.view_is c.requires c.index-kept.ensures)
-    ∙ ap (λ k. Some (seen_as k kept.name (take kept.arity (drop kept.link c.self.inside.values.items)))) c.in-Push.is
+    ∙ ap (λ k. Some (seen_by_kind k kept.name (take kept.arity (drop kept.link c.self.inside.values.items)))) c.in-Push.is
 
 pub returns-in-Pop-clause-seen : goal.returns-in-Pop-clause-seen
 returns-in-Pop-clause-seen c =
     let kept = c.index-kept.result.now in
     ap (option_map (λ (s : Spotted). s.seen)) (spotted_read c.args.self.now c.self.inside.values.items c.self.inside.places.items c.args.place kept c.self.view_is c.requires c.index-kept.ensures)
-    ∙ ap (λ k. Some (seen_as k kept.name (take kept.arity (drop kept.link c.self.inside.values.items)))) c.in-Pop.is
+    ∙ ap (λ k. Some (seen_by_kind k kept.name (take kept.arity (drop kept.link c.self.inside.values.items)))) c.in-Pop.is
 
 pub returns-in-Module-clause-seen : goal.returns-in-Module-clause-seen
 returns-in-Module-clause-seen c =
     let kept = c.index-kept.result.now in
     ap (option_map (λ (s : Spotted). s.seen)) (spotted_read c.args.self.now c.self.inside.values.items c.self.inside.places.items c.args.place kept c.self.view_is c.requires c.index-kept.ensures)
-    ∙ ap (λ k. Some (seen_as k kept.name (take kept.arity (drop kept.link c.self.inside.values.items)))) c.in-Module.is
+    ∙ ap (λ k. Some (seen_by_kind k kept.name (take kept.arity (drop kept.link c.self.inside.values.items)))) c.in-Module.is
     ∙ ap (λ xs. Some (Module (record { name = module_name kept.name; params = take kept.arity (drop kept.link xs) }))) (sym c.as_slice.ensures.value)
     ∙ ap (λ ps. Some (Module (record { name = module_name kept.name; params = ps }))) (sym c.part.ensures)

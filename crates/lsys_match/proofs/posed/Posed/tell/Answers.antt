@@ -3,7 +3,7 @@ use Rattle.lsys_spec.specs.Walks.{Told}
 use Rattle.lsys_spec.specs.Choice as choice
 use Rattle.lsys_match.specs.declared.refusal.AskRefusal.TheVariants.{Memory}
 use Rattle.lsys_match.specs.declared.told.Told.{Told as CodeTold}
-use Rattle.lsys_match.specs.Answered.{Counts, trace_told}
+use Rattle.lsys_match.specs.Answered.{CountsEntries, trace_told}
 use Rattle.lsys_match.specs.Asking.{posed_by, told_for}
 use Rattle.lsys_match.specs.Telling.{IsSuccessor, IsTelling, choice_at, old_trace}
 use Rattle.lsys_match.proofs.Telling.{by_err, counts_some, read_all, read_front, telling_fails, telling_other}
@@ -14,8 +14,8 @@ returns-in_err-choice-clause-visited g c =
     λ naming. let t = told_for naming c.args.site.now (posed_by c.args.self.now) in
     let n = length (trace_told t) in
     let l = read_front t naming c.choose.new.trace.read (c.in_err-choice.ensures.refused naming) c.in_err-choice.ensures.few in
-    by_err c.from_residual.result (λ r. r ≡ Memory) (Counts {T = CodeTold} n c.args.visited.now c.choose.new.visited) c.from_residual.ensures
-    (λ r i. subst (λ r. Counts {T = CodeTold} n c.args.visited.now c.choose.new.visited (Err r)) (sym i) (counts_some CodeTold n c.args.visited.now c.choose.new.visited (length c.choose.new.trace.read) c.choose.ensures.counted l))
+    by_err c.from_residual.result (λ r. r ≡ Memory) (CountsEntries {T = CodeTold} n c.args.visited.now c.choose.new.visited) c.from_residual.ensures
+    (λ r i. subst (λ r. CountsEntries {T = CodeTold} n c.args.visited.now c.choose.new.visited (Err r)) (sym i) (counts_some CodeTold n c.args.visited.now c.choose.new.visited (length c.choose.new.trace.read) c.choose.ensures.counted l))
 
 pub returns-in_err-successor-clause-told : goal.returns-in_err-successor-clause-told
 returns-in_err-successor-clause-told g c =
@@ -32,8 +32,8 @@ returns-in_err-finish-clause-visited g c =
     λ naming. let t = told_for naming c.args.site.now (posed_by c.args.self.now) in
     let n = length (trace_told t) in
     let k : n ≡ length c.choose.new.trace.read = read_all t naming c.choose.new.trace.read _ (c.in_ok-choice.ensures.chosen naming) in
-    by_err c.from_residual-in_err-finish.result (λ r. r ≡ Memory) (Counts {T = CodeTold} n c.args.visited.now c.choose.new.visited) c.from_residual-in_err-finish.ensures
-    (λ r i. subst (λ r. Counts {T = CodeTold} n c.args.visited.now c.choose.new.visited (Err r)) (sym i) (counts_some CodeTold n c.args.visited.now c.choose.new.visited (length c.choose.new.trace.read) c.choose.ensures.counted (omega (arith, k))))
+    by_err c.from_residual-in_err-finish.result (λ r. r ≡ Memory) (CountsEntries {T = CodeTold} n c.args.visited.now c.choose.new.visited) c.from_residual-in_err-finish.ensures
+    (λ r i. subst (λ r. CountsEntries {T = CodeTold} n c.args.visited.now c.choose.new.visited (Err r)) (sym i) (counts_some CodeTold n c.args.visited.now c.choose.new.visited (length c.choose.new.trace.read) c.choose.ensures.counted (omega (arith, k))))
 
 pub returns-clause-told : goal.returns-clause-told
 returns-clause-told g c =

@@ -10,7 +10,7 @@ use Rattle.lsys_walks.proofs.Told.{on_err}
 use Rattle.lsys_match.specs.Groups.{meant, rules_of}
 use Rattle.lsys_match.specs.Sites.{all_told, rule_told}
 use Rattle.lsys_match.specs.Tries.{outcome_by, entries_by, tried_so_far}
-use Rattle.lsys_match.specs.Choices.{found_or}
+use Rattle.lsys_match.specs.Choices.{found_or_fault}
 use Rattle.lsys_match.proofs.Trying.{yes_few}
 use Rattle.lsys_match.proofs.Groups.{at_place, past_end}
 use Rattle.lsys_match.proofs.Choosing.{all_fails, all_few, all_on, all_read, all_front, all_none}
@@ -36,9 +36,9 @@ returns-in_err-kind-clause-refused g c =
 pub returns-in-Some-2-clause-found : goal.returns-in-Some-2-clause-found
 returns-in-Some-2-clause-found g c =
     let a = at_place (rules_of c.args.group.now) c.loop-body.place (meant c.in-Some.body.now) c.in-Some.ensures.body in
-    let e : found_with c.loop-body.found c.loop-body.place (meant c.in-Some.body.now) (outcome_by c.in_ok-outcome.outcome c.try_rule.new.bound.items) ≡ found_or c.consider.new.self c.in_ok-kind.field-0 =
-    subst (λ vs. found_with c.loop-body.found c.loop-body.place (meant c.in-Some.body.now) (outcome_by c.in_ok-outcome.outcome vs) ≡ found_or c.consider.new.self c.in_ok-kind.field-0) c.deref.ensures.value c.in_ok-kind.ensures.found in
-    let f : found_with c.loop-body.found c.loop-body.place (meant c.in-Some.body.now) (outcome_by c.in_ok-outcome.outcome c.try_rule.new.bound.items) ≡ Err (fault_of c.in-Some-2.kind) = e ∙ ap (found_or c.consider.new.self) c.in-Some-2.is in
+    let e : found_with c.loop-body.found c.loop-body.place (meant c.in-Some.body.now) (outcome_by c.in_ok-outcome.outcome c.try_rule.new.bound.items) ≡ found_or_fault c.consider.new.self c.in_ok-kind.field-0 =
+    subst (λ vs. found_with c.loop-body.found c.loop-body.place (meant c.in-Some.body.now) (outcome_by c.in_ok-outcome.outcome vs) ≡ found_or_fault c.consider.new.self c.in_ok-kind.field-0) c.deref.ensures.value c.in_ok-kind.ensures.found in
+    let f : found_with c.loop-body.found c.loop-body.place (meant c.in-Some.body.now) (outcome_by c.in_ok-outcome.outcome c.try_rule.new.bound.items) ≡ Err (fault_of c.in-Some-2.kind) = e ∙ ap (found_or_fault c.consider.new.self) c.in-Some-2.is in
     λ naming. all_fails naming c.args.self.now c.loop-body.place (meant c.in-Some.body.now) (rules_of c.args.group.now) _ c.loop-body.trace.read c.try_rule.new.trace.read a.1 c.loop-body.found (outcome_by c.in_ok-outcome.outcome c.try_rule.new.bound.items) (all_told naming c.args.self.now none_tried (Ok []) (rules_of c.args.group.now)) (c.loop-body.invariant.2 naming) (c.in_ok-outcome.ensures.tried naming) (fault_of c.in-Some-2.kind) f
 
 pub loop-body-smaller : goal.loop-body-smaller
@@ -47,10 +47,10 @@ loop-body-smaller g c = let a = at_place (rules_of c.args.group.now) c.loop-body
 pub loop-body-preserved : goal.loop-body-preserved
 loop-body-preserved g c =
     let a = at_place (rules_of c.args.group.now) c.loop-body.place (meant c.in-Some.body.now) c.in-Some.ensures.body in
-    let e : found_with c.loop-body.found c.loop-body.place (meant c.in-Some.body.now) (outcome_by c.in_ok-outcome.outcome c.try_rule.new.bound.items) ≡ found_or c.consider.new.self c.in_ok-kind.field-0 =
-    subst (λ vs. found_with c.loop-body.found c.loop-body.place (meant c.in-Some.body.now) (outcome_by c.in_ok-outcome.outcome vs) ≡ found_or c.consider.new.self c.in_ok-kind.field-0) c.deref.ensures.value c.in_ok-kind.ensures.found in
+    let e : found_with c.loop-body.found c.loop-body.place (meant c.in-Some.body.now) (outcome_by c.in_ok-outcome.outcome c.try_rule.new.bound.items) ≡ found_or_fault c.consider.new.self c.in_ok-kind.field-0 =
+    subst (λ vs. found_with c.loop-body.found c.loop-body.place (meant c.in-Some.body.now) (outcome_by c.in_ok-outcome.outcome vs) ≡ found_or_fault c.consider.new.self c.in_ok-kind.field-0) c.deref.ensures.value c.in_ok-kind.ensures.found in
     let none : c.in_ok-kind.field-0 ≡ None = search rules in
-    let f : found_with c.loop-body.found c.loop-body.place (meant c.in-Some.body.now) (outcome_by c.in_ok-outcome.outcome c.try_rule.new.bound.items) ≡ Ok c.consider.new.self = e ∙ ap (found_or c.consider.new.self) none in (
+    let f : found_with c.loop-body.found c.loop-body.place (meant c.in-Some.body.now) (outcome_by c.in_ok-outcome.outcome c.try_rule.new.bound.items) ≡ Ok c.consider.new.self = e ∙ ap (found_or_fault c.consider.new.self) none in (
       omega (arith, a.0),
       let naming : ℕ → List ℕ = (λ t. []) in all_few naming c.args.self.now c.loop-body.place (meant c.in-Some.body.now) (rules_of c.args.group.now) _ c.loop-body.trace.read c.try_rule.new.trace.read a.1 c.loop-body.found (outcome_by c.in_ok-outcome.outcome c.try_rule.new.bound.items) (all_told naming c.args.self.now none_tried (Ok []) (rules_of c.args.group.now)) (c.loop-body.invariant.2 naming) (c.in_ok-outcome.ensures.tried naming) c.consider.new.self f,
       λ naming. all_on naming c.args.self.now c.loop-body.place (meant c.in-Some.body.now) (rules_of c.args.group.now) _ c.loop-body.trace.read c.try_rule.new.trace.read a.1 c.loop-body.found (outcome_by c.in_ok-outcome.outcome c.try_rule.new.bound.items) (all_told naming c.args.self.now none_tried (Ok []) (rules_of c.args.group.now)) (c.loop-body.invariant.2 naming) (c.in_ok-outcome.ensures.tried naming) c.consider.new.self f,

@@ -3,7 +3,7 @@ use Rattle.lsys_syntax.specs.Strings as S
 use Rattle.lsys_spec.specs.Pictures.{act}
 use Rattle.lsys_lattice.specs.Effects.{done}
 use Rattle.lsys_module.specs.Views.{module_name, symbol_of}
-use Rattle.lsys_motion.specs.Keepers.{Keeper, acted, IsBusy, IsClear, IsSmall, Keeps, noted}
+use Rattle.lsys_motion.specs.Keepers.{Keeper, module_done, IsBusy, IsClear, HasSmallPlace, Keeps, noted}
 use Rattle.lsys_motion.proofs.Steps.{module_small}
 use Rattle.lsys_motion.proofs.Keeping.{push_keeps, pop_keeps, cut_keeps, module_keeps}
 use Rattle.lsys_motion.proofs.keeper.Keeper.take.Goals as goal
@@ -16,7 +16,7 @@ act-requires g c =
     let noted_is : c.note.new.self ≡ noted old = c.in_ok-note.ensures in
     let busy : IsBusy l (S.Module (module_name m.name) m.params ∷ c.requires.busy.0) old =
     subst (λ x. IsBusy l (symbol_of x ∷ c.requires.busy.0) old) c.in-Module.is c.requires.busy.1 in
-    subst (λ (k : Keeper). IsSmall (done l (act (module_name m.name) m.params) k.here)) (sym noted_is) (module_small l busy.total c.requires.busy.0 (module_name m.name) m.params old busy.is)
+    subst (λ (k : Keeper). HasSmallPlace (done l (act (module_name m.name) m.params) k.here)) (sym noted_is) (module_small l busy.total c.requires.busy.0 (module_name m.name) m.params old busy.is)
 
 pub returns-in_ok-branch-in-Push : goal.returns-in_ok-branch-in-Push
 returns-in_ok-branch-in-Push g c rest =
@@ -46,5 +46,5 @@ returns-in-Module g c rest =
     let m = c.in-Module.module in
     let old = c.args.self.now in
     let new = c.act.new.self in
-    let is : new ≡ acted l (module_name m.name) m.params (noted old) = c.act.ensures ∙ ap (acted l (module_name m.name) m.params) c.in_ok-note.ensures in
+    let is : new ≡ module_done l (module_name m.name) m.params (noted old) = c.act.ensures ∙ ap (module_done l (module_name m.name) m.params) c.in_ok-note.ensures in
     subst (λ x. Keeps l (symbol_of x ∷ rest) rest old new) (sym c.in-Module.is) (module_keeps l (module_name m.name) m.params old new is rest)

@@ -1,6 +1,6 @@
 use Rattle.std.proofs.Common.{◌≡◌, ◌+◌, List, Ok, length, ap, ◌∙◌, subst}
 use Rattle.std.specs.Prelude.{sum_by}
-use Rattle.lsys_spec.specs.Levels.{Symbol}
+use Rattle.lsys_spec.specs.Levels.{LevelSymbol}
 use Rattle.lsys_spec.specs.Meaning.{meaning}
 use Rattle.lsys_spec.specs.Questions.{questions}
 use Rattle.lsys_match.specs.Kept.{Kept}
@@ -17,5 +17,5 @@ returns-clause-nodes g c =
 
 pub returns-clause-answers : goal.returns-clause-answers
 returns-clause-answers g c =
-    subst (λ (d : ForestView). (x : List (List Symbol)) → meaning d.system d.limit ≡ Ok x → c.answers.result ≡ length (questions d.system x)) c.self.view_is
-    (λ x e. c.answers.ensures.answers ∙ c.answers.ensures.pass.counted ∙ ap (λ (y : List (List Symbol)). length (questions c.self.inside.pass.system y)) (ap levels_or_none e))
+    subst (λ (d : ForestView). (x : List (List LevelSymbol)) → meaning d.system d.limit ≡ Ok x → c.answers.result ≡ length (questions d.system x)) c.self.view_is
+    (λ x e. c.answers.ensures.answers ∙ c.answers.ensures.pass.counted ∙ ap (λ (y : List (List LevelSymbol)). length (questions c.self.inside.pass.system y)) (ap levels_or_none e))

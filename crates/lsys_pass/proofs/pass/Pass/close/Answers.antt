@@ -1,5 +1,5 @@
 use Rattle.std.proofs.Common.{◌≡◌, ◌+◌, ◌-◌, length, ap, sym, ◌∙◌, subst, arith}
-use Rattle.lsys_forest.specs.Groves.{In}
+use Rattle.lsys_spec.specs.Rows.{In}
 use Rattle.lsys_pass.specs.Passes.{PassView}
 use Rattle.lsys_pass.proofs.Backing.{held, none_next}
 use Rattle.lsys_pass.proofs.Closed.{done, few_dropped, fits_count, moved_levels, closed_pass, closed_counts}

@@ -1,8 +1,8 @@
 use Rattle.std.proofs.Common.{refl, sym, subst, ap}
 use Rattle.lsys_pass.specs.declared.state.PassState.TheVariants.{Done}
 use Rattle.lsys_pass.specs.Sizes.{HaveSizesTo}
-use Rattle.lsys_pass.specs.Passes.{PassView, stage_of, now}
-use Rattle.lsys_pass.specs.Fresh.{row_of, Goes, IsToAsk, IsLast}
+use Rattle.lsys_pass.specs.Passes.{PassView, stage_of, now_in}
+use Rattle.lsys_pass.specs.Fresh.{row_of, Goes, IsReadyToAsk, IsLast}
 use Rattle.lsys_pass.proofs.Going.{goes_on}
 use Rattle.lsys_pass.proofs.Visiting.{all_to_ask, none_to_ask}
 use Rattle.lsys_pass.proofs.Coming.{level_pass, done_pass, sizes_stay}
@@ -20,7 +20,7 @@ invariant_of-self g c =
     let sizes = sizes_stay w x c.args.level c.in_ok-ask_level.ensures.goes turned c.in_ok-ask_level.ensures.rows c.ask_level.ensures.made in
     let goes = goes_on (stage_of v) (stage_of w) (stage_of x) c.args.level found c.in_ok-ask_level.ensures.goes in
     level_pass v _ c.args.level c.self.invariant (subst (λ (y : PassView). Goes (stage_of v) (stage_of y) c.args.level) here goes) c.requires.origin
-    (subst (λ (y : PassView). HaveSizesTo (now y) y.forest.root y.made c.args.level) here sizes) (subst (λ (y : PassView). IsToAsk y c.args.level) here c.in_ok-ask_level.ensures.asked)
+    (subst (λ (y : PassView). HaveSizesTo (now_in y) y.forest.root y.made c.args.level) here sizes) (subst (λ (y : PassView). IsReadyToAsk y c.args.level) here c.in_ok-ask_level.ensures.asked)
 
 pub invariant_of-self-else-level-depth : goal.invariant_of-self-else-level-depth
 invariant_of-self-else-level-depth g c =
@@ -33,7 +33,7 @@ invariant_of-self-else-level-depth g c =
     let sizes = sizes_stay w x c.args.level c.in_ok-end_levels.ensures.goes turned c.in_ok-end_levels.ensures.rows c.end_levels.ensures.made in
     let goes = goes_on (stage_of v) (stage_of w) (stage_of x) c.args.level found c.in_ok-end_levels.ensures.goes in
     done_pass v _ c.args.level c.self-else-level-depth.invariant (subst (λ (y : PassView). Goes (stage_of v) (stage_of y) c.args.level) here goes) c.requires.origin
-    (subst (λ (y : PassView). HaveSizesTo (now y) y.forest.root y.made c.args.level) here sizes) (subst (λ (y : PassView). IsLast y c.args.level) here c.in_ok-end_levels.ensures.last)
+    (subst (λ (y : PassView). HaveSizesTo (now_in y) y.forest.root y.made c.args.level) here sizes) (subst (λ (y : PassView). IsLast y c.args.level) here c.in_ok-end_levels.ensures.last)
 
 pub returns-clause-all : goal.returns-clause-all
 returns-clause-all g c = elim c.if-level-depth.branch [

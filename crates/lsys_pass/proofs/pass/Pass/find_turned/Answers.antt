@@ -1,22 +1,22 @@
 use Rattle.std.proofs.Common.{rules, refl, sym, ap, ◌∙◌, subst}
 use Rattle.lsys_kept.specs.Seats.{HasSeat}
 use Rattle.lsys_pass.specs.Passes.{PassView}
-use Rattle.lsys_pass.specs.Fresh.{IsFresh}
+use Rattle.lsys_pass.specs.Fresh.{WasJustMade}
 use Rattle.lsys_pass.proofs.Failing.{still_failed}
 use Rattle.lsys_pass.proofs.Turnings.{room_there, levels_there, gone_lives, KeepsLists, turned_found, turned_goes, if_all, on_all}
 use Rattle.lsys_pass.proofs.pass.Pass.find_turned.Goals as goal
 
 pub note_turned-requires-clause-lives : goal.note_turned-requires-clause-lives
 note_turned-requires-clause-lives g c =
-    gone_lives _ c.requires.fresh.0 c.self.invariant (ap (λ (z : PassView). z.state) c.self.view_is ∙ c.requires.failed) (subst (λ (z : PassView). IsFresh z c.requires.fresh.0) (sym c.self.view_is) c.requires.fresh.2)
+    gone_lives _ c.requires.fresh.0 c.self.invariant (ap (λ (z : PassView). z.state) c.self.view_is ∙ c.requires.failed) (subst (λ (z : PassView). WasJustMade z c.requires.fresh.0) (sym c.self.view_is) c.requires.fresh.2)
 
 pub note_turned-requires-clause-levels : goal.note_turned-requires-clause-levels
 note_turned-requires-clause-levels g c =
-    levels_there _ c.requires.fresh.0 c.self.invariant (ap (λ (z : PassView). z.state) c.self.view_is ∙ c.requires.failed) (subst (λ (z : PassView). IsFresh z c.requires.fresh.0) (sym c.self.view_is) c.requires.fresh.2) c.requires.fresh.1
+    levels_there _ c.requires.fresh.0 c.self.invariant (ap (λ (z : PassView). z.state) c.self.view_is ∙ c.requires.failed) (subst (λ (z : PassView). WasJustMade z c.requires.fresh.0) (sym c.self.view_is) c.requires.fresh.2) c.requires.fresh.1
 
 pub note_turned-requires-clause-room : goal.note_turned-requires-clause-room
 note_turned-requires-clause-room g c =
-    room_there _ c.requires.fresh.0 c.self.invariant (ap (λ (z : PassView). z.state) c.self.view_is ∙ c.requires.failed) (subst (λ (z : PassView). IsFresh z c.requires.fresh.0) (sym c.self.view_is) c.requires.fresh.2)
+    room_there _ c.requires.fresh.0 c.self.invariant (ap (λ (z : PassView). z.state) c.self.view_is ∙ c.requires.failed) (subst (λ (z : PassView). WasJustMade z c.requires.fresh.0) (sym c.self.view_is) c.requires.fresh.2)
 
 pub invariant_of-self : goal.invariant_of-self
 invariant_of-self g c =

@@ -5,7 +5,7 @@ use Rattle.lsys_repair.specs.declared.parent.Parent.{Parent}
 use Rattle.lsys_repair.specs.Needs.{needs}
 use Rattle.lsys_pass.specs.declared.sizes.Size.{Size}
 use Rattle.lsys_pass.specs.Sizes.{with_level}
-use Rattle.lsys_pass.specs.Passes.{PassView, stage_of, now, IsPass}
+use Rattle.lsys_pass.specs.Passes.{PassView, stage_of, now_in, IsPass}
 use Rattle.lsys_pass.specs.Moves.{SameRun}
 use Rattle.lsys_pass.specs.Advances.{symbols_wanted}
 use Rattle.lsys_pass.specs.Fresh.{WasAsked, row_of}
@@ -30,7 +30,7 @@ within_limit-requires-clause-symbols g c =
 pub make_level-requires-clause-need : goal.make_level-requires-clause-need
 make_level-requires-clause-need g c =
     let x : PassView = c.count_next.new.self in
-    c.in_ok-count.ensures.need ∙ ap (λ (v : PassView). needs v.next.numbering (now v) c.in_ok-parents.parents.list.items) (sym c.count_next.ensures.same) ∙ ap (λ (ps : List Parent). needs x.next.numbering (now x) ps) (sym c.deref.ensures.value)
+    c.in_ok-count.ensures.need ∙ ap (λ (v : PassView). needs v.next.numbering (now_in v) c.in_ok-parents.parents.list.items) (sym c.count_next.ensures.same) ∙ ap (λ (ps : List Parent). needs x.next.numbering (now_in x) ps) (sym c.deref.ensures.value)
 
 pub make_level-requires-clause-symbols : goal.make_level-requires-clause-symbols
 make_level-requires-clause-symbols g c = c.in_ok-count.ensures.symbols ∙ ap (λ (v : PassView). symbols_wanted (stage_of v) c.in-Level.level) (sym c.count_next.ensures.same)
@@ -55,8 +55,8 @@ come_to-requires-clause-sizes g c =
     let x : PassView = c.make_level.new.self in
     let t = c.in-Level.level in
     let a : WasAsked v t = was_asked c.args.self.now v t (subst (λ (v : PassView). IsPass v) c.self.view_is c.self.invariant) (ap (λ (v : PassView). v.state) (sym c.self.view_is) ∙ c.in-Level.is) c.requires.pending c.in_default-fault_refusal.ensures c.fail-2.ensures.same in
-    let closed : c.in_ok-parents.parents.is_open ≡ false → AreClosed (kept_successors (now w)) (row_of w t) = λ e. subst (λ (y : PassView). AreClosed (kept_successors (now y)) (row_of y t)) (sym c.count_next.ensures.same) (c.in_ok-parents.ensures.closed e) in
-    sizes_made v w x t c.in_ok-parents.parents.is_open a (ap (λ (y : PassView). now y) c.count_next.ensures.same ∙ ap (λ (y : PassView). now y) c.find_parents.ensures.same)
+    let closed : c.in_ok-parents.parents.is_open ≡ false → AreClosed (kept_successors (now_in w)) (row_of w t) = λ e. subst (λ (y : PassView). AreClosed (kept_successors (now_in y)) (row_of y t)) (sym c.count_next.ensures.same) (c.in_ok-parents.ensures.closed e) in
+    sizes_made v w x t c.in_ok-parents.parents.is_open a (ap (λ (y : PassView). now_in y) c.count_next.ensures.same ∙ ap (λ (y : PassView). now_in y) c.find_parents.ensures.same)
     (ap (λ (y : PassView). y.forest.root) c.count_next.ensures.same ∙ ap (λ (y : PassView). y.forest.root) c.find_parents.ensures.same) c.in_ok-make_level.ensures.goes closed
     (c.in_ok-make_level.ensures.made ∙ ap (λ (xs : List Size). with_level xs (length (row_of x (t + 1)))) (ap (λ (y : PassView). y.made) c.count_next.ensures.same ∙ c.in_ok-parents.ensures.made))
 

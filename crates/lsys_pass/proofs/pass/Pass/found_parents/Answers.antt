@@ -1,11 +1,11 @@
 use Rattle.std.proofs.Common.{◌≡◌, ℕ, List, false, map, sym, subst, ap, ◌∙◌}
+use Rattle.lsys_spec.specs.Rows.{In}
 use Rattle.lsys_change.specs.Children.{is_open}
-use Rattle.lsys_forest.specs.Groves.{In}
 use Rattle.lsys_repair.specs.Answers.{kept_successors}
 use Rattle.lsys_repair.specs.declared.parent.Parent.{Parent}
-use Rattle.lsys_repair.specs.Parents.{nodes_in, whole}
+use Rattle.lsys_repair.specs.Parents.{nodes_in, uncut}
 use Rattle.lsys_repair.proofs.Walked.{whole_nodes}
-use Rattle.lsys_pass.specs.Passes.{PassView, now}
+use Rattle.lsys_pass.specs.Passes.{PassView, now_in}
 use Rattle.lsys_pass.specs.Fresh.{WasAsked, AreNextParents, IsChanged}
 use Rattle.lsys_pass.proofs.NextParents.{may_on, lives_at, short, found_are, closed}
 use Rattle.lsys_pass.proofs.pass.Pass.found_parents.Goals as goal
@@ -22,21 +22,21 @@ any_opens-requires-clause-short g c =
 
 pub returns-clause-found : goal.returns-clause-found
 returns-clause-found g c =
-    let none = subst (λ (v : PassView). (k : ℕ) → In k c.args.nodes.now → is_open (kept_successors (now v) k) ≡ false) c.self.view_is (c.any_opens.ensures.none c.if-any_opens.false) in
+    let none = subst (λ (v : PassView). (k : ℕ) → In k c.args.nodes.now → is_open (kept_successors (now_in v) k) ≡ false) c.self.view_is (c.any_opens.ensures.none c.if-any_opens.false) in
     let s = c.requires.same in
     subst (λ (ps : List Parent). AreNextParents c.args.self.now c.args.level ps) (sym c.in_ok-whole_parents.ensures)
     (found_are c.args.self.now c.args.level c.requires.asked c.args.nodes.now c.requires.once (λ k i. (c.requires.are k).0 i) (λ k m. (c.requires.are k).1 m) s.below s.seed s.numbering s.closed none)
 
 pub returns-clause-either : goal.returns-clause-either
 returns-clause-either g c =
-    let none = subst (λ (v : PassView). (k : ℕ) → In k c.args.nodes.now → is_open (kept_successors (now v) k) ≡ false) c.self.view_is (c.any_opens.ensures.none c.if-any_opens.false) in
+    let none = subst (λ (v : PassView). (k : ℕ) → In k c.args.nodes.now → is_open (kept_successors (now_in v) k) ≡ false) c.self.view_is (c.any_opens.ensures.none c.if-any_opens.false) in
     let s = c.requires.same in (
       closed c.args.self.now c.args.level c.requires.asked c.args.nodes.now c.requires.once (λ k i. (c.requires.are k).0 i) (λ k m. (c.requires.are k).1 m) s.below s.seed s.numbering s.closed none,
-      c.in_ok-whole_parents.ensures ∙ ap (λ (ks : List ℕ). map whole ks) (sym (whole_nodes (now c.args.self.now) c.args.nodes.now)) ∙ ap (λ (ps : List Parent). map whole (nodes_in ps)) (sym c.in_ok-whole_parents.ensures),
+      c.in_ok-whole_parents.ensures ∙ ap (λ (ks : List ℕ). map uncut ks) (sym (whole_nodes (now_in c.args.self.now) c.args.nodes.now)) ∙ ap (λ (ps : List Parent). map uncut (nodes_in ps)) (sym c.in_ok-whole_parents.ensures),
     )
 
 pub returns-clause-closed : goal.returns-clause-closed
 returns-clause-closed g c =
-    let none = subst (λ (v : PassView). (k : ℕ) → In k c.args.nodes.now → is_open (kept_successors (now v) k) ≡ false) c.self.view_is (c.any_opens.ensures.none c.if-any_opens.false) in
+    let none = subst (λ (v : PassView). (k : ℕ) → In k c.args.nodes.now → is_open (kept_successors (now_in v) k) ≡ false) c.self.view_is (c.any_opens.ensures.none c.if-any_opens.false) in
     let s = c.requires.same in
     λ e. closed c.args.self.now c.args.level c.requires.asked c.args.nodes.now c.requires.once (λ k i. (c.requires.are k).0 i) (λ k m. (c.requires.are k).1 m) s.below s.seed s.numbering s.closed none

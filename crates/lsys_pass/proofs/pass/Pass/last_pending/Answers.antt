@@ -1,5 +1,5 @@
 use Rattle.std.proofs.Common.{subst}
-use Rattle.lsys_forest.specs.Groves.{In}
+use Rattle.lsys_spec.specs.Rows.{In}
 use Rattle.lsys_forest.proofs.WalkLemmas.{get_In}
 use Rattle.lsys_pass.specs.Passes.{PassView}
 use Rattle.lsys_pass.proofs.pass.Pass.last_pending.Goals as goal

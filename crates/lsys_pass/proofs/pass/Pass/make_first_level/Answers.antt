@@ -2,16 +2,16 @@ use Rattle.std.proofs.Common.{refl, sym, ap, ◌∙◌, subst}
 use Rattle.lsys_spec.specs.Systems.{System}
 use Rattle.lsys_forest.specs.Groves.{now_of}
 use Rattle.lsys_repair.specs.Renewals.{AreSmall, AreAllUnder}
-use Rattle.lsys_pass.specs.Passes.{PassView, now}
+use Rattle.lsys_pass.specs.Passes.{PassView, now_in}
 use Rattle.lsys_pass.specs.Beginnings.{MakesFirst, WasStill}
 use Rattle.lsys_pass.proofs.Beginnings.{was_small, was_under, seats_stay, failed_still, first_fresh, first_goes}
 use Rattle.lsys_pass.proofs.pass.Pass.make_first_level.Goals as goal
 
 pub make_first_nodes-requires-clause-small : goal.make_first_nodes-requires-clause-small
-make_first_nodes-requires-clause-small g c = subst (λ (v : PassView). AreSmall (now v)) (sym c.self.view_is) (was_small c.args.self.now c.requires.still)
+make_first_nodes-requires-clause-small g c = subst (λ (v : PassView). AreSmall (now_in v)) (sym c.self.view_is) (was_small c.args.self.now c.requires.still)
 
 pub make_first_nodes-requires-clause-under : goal.make_first_nodes-requires-clause-under
-make_first_nodes-requires-clause-under g c = subst (λ (v : PassView). AreAllUnder (now v) v.forest.root v.forest.root) (sym c.self.view_is) (was_under c.args.self.now c.requires.still)
+make_first_nodes-requires-clause-under g c = subst (λ (v : PassView). AreAllUnder (now_in v) v.forest.root v.forest.root) (sym c.self.view_is) (was_under c.args.self.now c.requires.still)
 
 pub invariant_of-self-in_err-front : goal.invariant_of-self-in_err-front
 invariant_of-self-in_err-front g c =

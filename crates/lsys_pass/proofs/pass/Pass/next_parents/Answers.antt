@@ -1,5 +1,5 @@
 use Rattle.std.proofs.Common.{sym, subst}
-use Rattle.lsys_forest.specs.Groves.{In}
+use Rattle.lsys_spec.specs.Rows.{In}
 use Rattle.lsys_pass.proofs.pass.Pass.next_parents.Goals as goal
 
 pub found_parents-requires-clause-are : goal.found_parents-requires-clause-are

@@ -1,9 +1,10 @@
 use Rattle.std.proofs.Common.{◌≡◌, ◌+◌, ◌^◌, ◌≤◌, ℕ, List, sum_by, sym, subst, ap, ◌∙◌, arith}
-use Rattle.lsys_forest.specs.Groves.{In, now_of}
+use Rattle.lsys_spec.specs.Rows.{In}
+use Rattle.lsys_forest.specs.Groves.{now_of}
 use Rattle.lsys_repair.specs.declared.count.Count.{Count}
 use Rattle.lsys_repair.specs.Needs.{had_by_all, wanted_of_all}
 use Rattle.lsys_pass.specs.Sizes.{symbols_at}
-use Rattle.lsys_pass.specs.Passes.{PassView, now}
+use Rattle.lsys_pass.specs.Passes.{PassView, now_in}
 use Rattle.lsys_pass.specs.Fresh.{WasAsked}
 use Rattle.lsys_pass.proofs.NextCounts.{kids_at, gone_lives, gone_few, left_of, few_was, few_parents, walked_symbols, alone_symbols, is_walked, is_alone}
 use Rattle.lsys_pass.proofs.pass.Pass.next_symbols.Goals as goal
@@ -30,10 +31,10 @@ overflow_sub-result g c =
     let t = c.args.level in
     let ps = c.args.parents.now.list.items in
     let n = c.args.count.now in
-    let had : n.had ≡ had_by_all (now v) ps = ap (λ (x : Count). x.had) c.requires.count in
-    let wanted : n.wanted ≡ wanted_of_all v.next.numbering (now v) ps = ap (λ (x : Count). x.wanted) c.requires.count in
+    let had : n.had ≡ had_by_all (now_in v) ps = ap (λ (x : Count). x.had) c.requires.count in
+    let wanted : n.wanted ≡ wanted_of_all v.next.numbering (now_in v) ps = ap (λ (x : Count). x.wanted) c.requires.count in
     let was : c.symbols_of.result ≡ symbols_at v.sizes (t + 1) = c.symbols_of.ensures ∙ ap (λ (w : PassView). symbols_at w.sizes (t + 1)) c.self.view_is in
-    let gone : c.count_kids-gone.result ≡ sum_by (kids_at (now v)) v.front.changes.gone = c.count_kids-gone.ensures ∙ ap (λ (ks : List ℕ). sum_by (kids_at (now_of c.self.inside.forest)) ks) c.gone_nodes.ensures ∙ ap (λ (w : PassView). sum_by (kids_at (now w)) w.front.changes.gone) c.self.view_is in
+    let gone : c.count_kids-gone.result ≡ sum_by (kids_at (now_in v)) v.front.changes.gone = c.count_kids-gone.ensures ∙ ap (λ (ks : List ℕ). sum_by (kids_at (now_of c.self.inside.forest)) ks) c.gone_nodes.ensures ∙ ap (λ (w : PassView). sum_by (kids_at (now_in w)) w.front.changes.gone) c.self.view_is in
     let left = left_of v t c.requires.asked in
     omega (arith, was, gone, left)
 
@@ -43,10 +44,10 @@ overflow_add-result g c =
     let t = c.args.level in
     let ps = c.args.parents.now.list.items in
     let n = c.args.count.now in
-    let had : n.had ≡ had_by_all (now v) ps = ap (λ (x : Count). x.had) c.requires.count in
-    let wanted : n.wanted ≡ wanted_of_all v.next.numbering (now v) ps = ap (λ (x : Count). x.wanted) c.requires.count in
+    let had : n.had ≡ had_by_all (now_in v) ps = ap (λ (x : Count). x.had) c.requires.count in
+    let wanted : n.wanted ≡ wanted_of_all v.next.numbering (now_in v) ps = ap (λ (x : Count). x.wanted) c.requires.count in
     let was : c.symbols_of.result ≡ symbols_at v.sizes (t + 1) = c.symbols_of.ensures ∙ ap (λ (w : PassView). symbols_at w.sizes (t + 1)) c.self.view_is in
-    let gone : c.count_kids-gone.result ≡ sum_by (kids_at (now v)) v.front.changes.gone = c.count_kids-gone.ensures ∙ ap (λ (ks : List ℕ). sum_by (kids_at (now_of c.self.inside.forest)) ks) c.gone_nodes.ensures ∙ ap (λ (w : PassView). sum_by (kids_at (now w)) w.front.changes.gone) c.self.view_is in
+    let gone : c.count_kids-gone.result ≡ sum_by (kids_at (now_in v)) v.front.changes.gone = c.count_kids-gone.ensures ∙ ap (λ (ks : List ℕ). sum_by (kids_at (now_of c.self.inside.forest)) ks) c.gone_nodes.ensures ∙ ap (λ (w : PassView). sum_by (kids_at (now_in w)) w.front.changes.gone) c.self.view_is in
     let left = left_of v t c.requires.asked in
     let small = few_was v t c.requires.asked in
     let most = c.requires.few.wanted in
@@ -59,10 +60,10 @@ overflow_sub-result-2 g c =
     let t = c.args.level in
     let ps = c.args.parents.now.list.items in
     let n = c.args.count.now in
-    let had : n.had ≡ had_by_all (now v) ps = ap (λ (x : Count). x.had) c.requires.count in
-    let wanted : n.wanted ≡ wanted_of_all v.next.numbering (now v) ps = ap (λ (x : Count). x.wanted) c.requires.count in
+    let had : n.had ≡ had_by_all (now_in v) ps = ap (λ (x : Count). x.had) c.requires.count in
+    let wanted : n.wanted ≡ wanted_of_all v.next.numbering (now_in v) ps = ap (λ (x : Count). x.wanted) c.requires.count in
     let was : c.symbols_of.result ≡ symbols_at v.sizes (t + 1) = c.symbols_of.ensures ∙ ap (λ (w : PassView). symbols_at w.sizes (t + 1)) c.self.view_is in
-    let gone : c.count_kids-gone.result ≡ sum_by (kids_at (now v)) v.front.changes.gone = c.count_kids-gone.ensures ∙ ap (λ (ks : List ℕ). sum_by (kids_at (now_of c.self.inside.forest)) ks) c.gone_nodes.ensures ∙ ap (λ (w : PassView). sum_by (kids_at (now w)) w.front.changes.gone) c.self.view_is in
+    let gone : c.count_kids-gone.result ≡ sum_by (kids_at (now_in v)) v.front.changes.gone = c.count_kids-gone.ensures ∙ ap (λ (ks : List ℕ). sum_by (kids_at (now_of c.self.inside.forest)) ks) c.gone_nodes.ensures ∙ ap (λ (w : PassView). sum_by (kids_at (now_in w)) w.front.changes.gone) c.self.view_is in
     let left = left_of v t c.requires.asked in
     let alone = is_alone v t c.args.parents.now.is_whole ps c.if-parents.false c.requires.either in
     let sums = alone_symbols v t c.requires.asked ps c.requires.found alone.0 alone.1 in
@@ -74,10 +75,10 @@ returns g c =
     let t = c.args.level in
     let ps = c.args.parents.now.list.items in
     let n = c.args.count.now in
-    let had : n.had ≡ had_by_all (now v) ps = ap (λ (x : Count). x.had) c.requires.count in
-    let wanted : n.wanted ≡ wanted_of_all v.next.numbering (now v) ps = ap (λ (x : Count). x.wanted) c.requires.count in
+    let had : n.had ≡ had_by_all (now_in v) ps = ap (λ (x : Count). x.had) c.requires.count in
+    let wanted : n.wanted ≡ wanted_of_all v.next.numbering (now_in v) ps = ap (λ (x : Count). x.wanted) c.requires.count in
     let was : c.symbols_of.result ≡ symbols_at v.sizes (t + 1) = c.symbols_of.ensures ∙ ap (λ (w : PassView). symbols_at w.sizes (t + 1)) c.self.view_is in
-    let gone : c.count_kids-gone.result ≡ sum_by (kids_at (now v)) v.front.changes.gone = c.count_kids-gone.ensures ∙ ap (λ (ks : List ℕ). sum_by (kids_at (now_of c.self.inside.forest)) ks) c.gone_nodes.ensures ∙ ap (λ (w : PassView). sum_by (kids_at (now w)) w.front.changes.gone) c.self.view_is in
+    let gone : c.count_kids-gone.result ≡ sum_by (kids_at (now_in v)) v.front.changes.gone = c.count_kids-gone.ensures ∙ ap (λ (ks : List ℕ). sum_by (kids_at (now_of c.self.inside.forest)) ks) c.gone_nodes.ensures ∙ ap (λ (w : PassView). sum_by (kids_at (now_in w)) w.front.changes.gone) c.self.view_is in
     let left = left_of v t c.requires.asked in
     let alone = is_alone v t c.args.parents.now.is_whole ps c.if-parents.false c.requires.either in
     let sums = alone_symbols v t c.requires.asked ps c.requires.found alone.0 alone.1 in

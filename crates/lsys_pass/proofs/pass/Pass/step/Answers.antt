@@ -1,8 +1,8 @@
 use Rattle.std.proofs.Common.{◌<◌, length, refl, sym, ap, ◌∙◌, subst}
 use Rattle.std.specs.List.{remove}
 use Rattle.std.proofs.lemmas.Option.{slice_get_within}
-use Rattle.lsys_forest.specs.Groves.{In}
-use Rattle.lsys_pass.specs.Places.{AreInOrder}
+use Rattle.lsys_spec.specs.Rows.{In}
+use Rattle.lsys_pass.specs.Places.{AreInOrderOnLevel}
 use Rattle.lsys_pass.specs.Passes.{PassView}
 use Rattle.lsys_pass.proofs.Asking.{in_order, lives, stands_now, has_question_by, made_if_any, taken_off, here_among, born_is}
 use Rattle.lsys_pass.proofs.Moved.{replied, counted, few_read, moves_once, moves_at, asks_renewed}
@@ -11,7 +11,7 @@ use Rattle.lsys_pass.proofs.pass.Pass.step.Goals as goal
 
 pub place_of-place-requires-clause-order : goal.place_of-place-requires-clause-order
 place_of-place-requires-clause-order g c =
-    subst (AreInOrder c.reserve.new.self) (sym (c.reserve-2.ensures.others.pending))
+    subst (AreInOrderOnLevel c.reserve.new.self) (sym (c.reserve-2.ensures.others.pending))
     (in_order _ c.in-Level.level c.self.invariant c.in-Level.is c.reserve.new.self (record { now = c.reserve.ensures.now; changes = c.reserve.ensures.changes; root = c.reserve.ensures.root }))
 
 pub answer_of-old-requires : goal.answer_of-old-requires

@@ -1,5 +1,5 @@
 use Rattle.std.proofs.Common.{◌≡◌, ◌<◌, length, get_or, subst, sym, ap, ◌∙◌, arith}
-use Rattle.lsys_text.specs.Tokens.{IsWithin}
+use Rattle.lsys_text.specs.Tokens.{LiesInLine}
 use Rattle.lsys_reading.specs.Parsing.{column_of}
 use Rattle.lsys_reading.proofs.TokenPlaces.{column-here, column-end}
 use Rattle.lsys_rules.specs.Lines.{CommandLine}
@@ -11,7 +11,7 @@ overflow_add-result c =
     let there = c.in-Some.ensures.lookup in
     let short : c.args.place < length c.self.inside.line = subst (λ ts. c.args.place < length ts) c.tokens.ensures.tokens there.3.0 in
     let same : get_or c.self.inside.line c.args.place token ≡ token = ap (λ ts. get_or ts c.args.place token) (sym c.tokens.ensures.tokens) ∙ sym there.1 in
-    let placed : IsWithin c.self.inside.bytes token = subst (IsWithin c.self.inside.bytes) same (c.self.invariant.placed c.args.place token short) in
+    let placed : LiesInLine c.self.inside.bytes token = subst (LiesInLine c.self.inside.bytes) same (c.self.invariant.placed c.args.place token short) in
     omega (arith, placed.0, placed.1, c.self.invariant.short)
 
 pub returns-in-Some : goal.returns-in-Some

@@ -3,7 +3,7 @@ use Rattle.std.specs.Prelude.{IfOk}
 use Rattle.indexmap.specs.IndexMap.{insert_entry}
 use Rattle.lsys_spec.specs.Edits.{put_hom}
 use Rattle.lsys_bodies.specs.Views.{homomorphism_of}
-use Rattle.lsys_rules.specs.InsideRules.{Own}
+use Rattle.lsys_rules.specs.InsideRules.{HaveOwnLabels}
 use Rattle.lsys_rules.proofs.Labels.{own_put, homomorphisms_put}
 use Rattle.lsys_rules.proofs.hom_table.HomTable.with.Goals as goal
 
@@ -12,7 +12,7 @@ of-requires c =
     let old = c.self.inside.rules.value.by_label.entries in
     let copied = c.in_ok-by_label.ensures ∙ ap (λ v. v.by_label.entries) c.deref.ensures in
     let all = c.in_ok-insert.ensures.entries ∙ ap (λ es. insert_entry bytes_eq es c.args.rule.label c.args.rule) copied in
-    subst (Own (λ r. r.label)) (sym all) (own_put (λ r. r.label) old c.args.rule c.self.invariant)
+    subst (HaveOwnLabels (λ r. r.label)) (sym all) (own_put (λ r. r.label) old c.args.rule c.self.invariant)
 
 pub returns : goal.returns
 returns c =

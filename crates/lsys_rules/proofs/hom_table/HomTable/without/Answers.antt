@@ -3,7 +3,7 @@ use Rattle.std.specs.Prelude.{IfOk}
 use Rattle.std.specs.Map.{remove_entry}
 use Rattle.lsys_spec.specs.Edits.{without_hom}
 use Rattle.lsys_bodies.specs.Views.{homomorphism_of}
-use Rattle.lsys_rules.specs.InsideRules.{Own}
+use Rattle.lsys_rules.specs.InsideRules.{HaveOwnLabels}
 use Rattle.lsys_rules.proofs.Labels.{own_removed, homomorphisms_without}
 use Rattle.lsys_rules.proofs.hom_table.HomTable.without.Goals as goal
 
@@ -12,7 +12,7 @@ of-requires c =
     let old = c.self.inside.rules.value.by_label.entries in
     let copied = c.in_ok-by_label.ensures ∙ ap (λ v. v.by_label.entries) c.deref.ensures in
     let all = c.shift_remove.ensures.entries ∙ ap (remove_entry (bytes_eq c.args.label)) copied in
-    subst (Own (λ r. r.label)) (sym all) (own_removed (λ r. r.label) old c.args.label c.self.invariant)
+    subst (HaveOwnLabels (λ r. r.label)) (sym all) (own_removed (λ r. r.label) old c.args.label c.self.invariant)
 
 pub returns : goal.returns
 returns c =

@@ -2,8 +2,8 @@ use Rattle.std.proofs.Common.{◌≡◌, map, ap, subst, sym, ◌∙◌, bytes_e
 use Rattle.std.specs.Prelude.{IfOk}
 use Rattle.indexmap.specs.IndexMap.{insert_entry}
 use Rattle.lsys_spec.specs.Edits.{put}
-use Rattle.lsys_bodies.specs.Views.{production_of}
-use Rattle.lsys_rules.specs.InsideRules.{Own}
+use Rattle.lsys_bodies.specs.Views.{as_production}
+use Rattle.lsys_rules.specs.InsideRules.{HaveOwnLabels}
 use Rattle.lsys_rules.proofs.Labels.{own_put, productions_put}
 use Rattle.lsys_rules.proofs.rule_table.RuleTable.with.Goals as goal
 
@@ -12,12 +12,12 @@ of-requires c =
     let old = c.self.inside.rules.value.by_label.entries in
     let copied = c.in_ok-by_label.ensures ∙ ap (λ v. v.by_label.entries) c.deref.ensures in
     let all = c.in_ok-insert.ensures.entries ∙ ap (λ es. insert_entry bytes_eq es c.args.rule.label c.args.rule) copied in
-    subst (Own (λ r. r.label)) (sym all) (own_put (λ r. r.label) old c.args.rule c.self.invariant.labels)
+    subst (HaveOwnLabels (λ r. r.label)) (sym all) (own_put (λ r. r.label) old c.args.rule c.self.invariant.labels)
 
 pub returns : goal.returns
 returns c =
     let old = c.self.inside.rules.value.by_label.entries in
     let copied = c.in_ok-by_label.ensures ∙ ap (λ v. v.by_label.entries) c.deref.ensures in
     let all = c.in_ok-insert.ensures.entries ∙ ap (λ es. insert_entry bytes_eq es c.args.rule.label c.args.rule) copied in
-    let same = ap (λ es. map production_of (map (λ e. e.1) es)) all ∙ productions_put old c.args.rule c.self.invariant.labels ∙ ap (put (production_of c.args.rule)) c.self.view_is in
+    let same = ap (λ es. map as_production (map (λ e. e.1) es)) all ∙ productions_put old c.args.rule c.self.invariant.labels ∙ ap (put (as_production c.args.rule)) c.self.view_is in
     subst (λ v. IfOk c.of.result (λ t. t ≡ v)) same c.of.ensures

@@ -5,7 +5,7 @@ use Rattle.lsys_syntax.specs.Limits.{most_rules}
 use Rattle.lsys_spec.specs.Bodies.{is_for, table_at}
 use Rattle.lsys_module.specs.Views.{module_name}
 use Rattle.lsys_bodies.specs.declared.rule.Rule.{Rule}
-use Rattle.lsys_rules.specs.Groups.{rules_of}
+use Rattle.lsys_rules.specs.Groups.{rules_or_none}
 use Rattle.lsys_rules.proofs.Grouping.{few_found, group_few, group_meant}
 use Rattle.lsys_rules.proofs.system.System.group.Goals as goal
 
@@ -17,12 +17,12 @@ returns-clause-rules c =
 
 pub returns-clause-bodies : goal.returns-clause-bodies
 returns-clause-bodies c =
-    let rules : List Rule = rules_of (option_map (λ g. g.now) c.group.result) in
+    let rules : List Rule = rules_or_none (option_map (λ g. g.now) c.group.result) in
     group_meant (table_at c.args.self.now.schedule c.args.level) (module_name c.args.name) c.args.arity c.args.self.now.rules rules (returns-clause-rules c)
 
 pub returns-clause-few : goal.returns-clause-few
 returns-clause-few c =
-    let rules : List Rule = rules_of (option_map (λ g. g.now) c.group.result) in
+    let rules : List Rule = rules_or_none (option_map (λ g. g.now) c.group.result) in
     let few = group_few (table_at c.args.self.now.schedule c.args.level) (module_name c.args.name) c.args.arity c.args.self.now.rules rules (returns-clause-rules c) in
     let most = subst (λ s. length s.rules + length s.homomorphisms ≤ most_rules) c.self.view_is c.self.invariant.0.few_rules in
     few_found (λ g. g.now) c.group.result most_rules (omega (arith, few, most))

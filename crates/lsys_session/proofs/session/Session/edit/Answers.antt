@@ -1,6 +1,6 @@
 use Rattle.std.proofs.Common.{ap, subst, sym, rules}
 use Rattle.lsys_laws.specs.Sessions.{IsWell, HasLevels}
-use Rattle.lsys_session.specs.Given.{IsKept}
+use Rattle.lsys_session.specs.Given.{IsWellUnder}
 use Rattle.lsys_session.proofs.Editing.{edit_accepted, edit_refused, edit_counted, edit_few}
 use Rattle.lsys_session.proofs.session.Session.edit.Goals as goal
 use Rattle.lsys_session.proofs.session.Session.edit.Goals.{in-Ok, in-Err}
@@ -35,12 +35,12 @@ pub invariant_of-self : goal.invariant_of-self
 invariant_of-self g c =
     let limit = g.D.Derivation.limit_of c.self.inside.derivation in
     let new = g.D.Derivation.system_of c.edit.new.self in
-    let kept : IsKept limit new = elim c.match-edit.branch [
+    let kept : IsWellUnder limit new = elim c.match-edit.branch [
       | in-Ok w ↦ record {
         limited = c.self.invariant.limited;
         well = (let well : IsWell c.args.next = search rules in subst IsWell (sym w.in-Ok.ensures.system) well);
         levels = subst (HasLevels limit) (sym w.in-Ok.ensures.system) (w.in-Ok.ensures.outcome.meant, w.in-Ok.ensures.outcome.is);
       }
-      | in-Err w ↦ subst (IsKept limit) (sym (ap g.D.Derivation.system_of w.in-Err.ensures.refused)) (search rules)
+      | in-Err w ↦ subst (IsWellUnder limit) (sym (ap g.D.Derivation.system_of w.in-Err.ensures.refused)) (search rules)
     ] in
-    subst (λ n. IsKept n new) (sym c.edit.ensures.limit) kept
+    subst (λ n. IsWellUnder n new) (sym c.edit.ensures.limit) kept

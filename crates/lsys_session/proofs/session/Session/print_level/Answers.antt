@@ -1,6 +1,6 @@
 use Rattle.std.proofs.Common.{◌≡◌, ◌≤◌, ap, sym, ◌∙◌, subst}
 use Rattle.lsys_spec.specs.Systems.{System}
-use Rattle.lsys_level.specs.Spots.{level_at}
+use Rattle.lsys_level.specs.Spots.{spots_at}
 use Rattle.lsys_level.specs.Views.{IsCopy}
 use Rattle.lsys_session.specs.Requests.{HasLevel}
 use Rattle.lsys_session.specs.Given.{level_number}
@@ -23,5 +23,5 @@ returns-in-Ok g c =
     let s = g.D.Derivation.system_of c.self.inside.derivation in
     let levels = g.D.LevelView.levels c.self.inside.derivation in
     let number : c.number_of.result ≡ level_number s.depth c.args.level = c.number_of.ensures ∙ ap (λ n. level_number n c.args.level) (c.depth-depth.ensures.depth ∙ ap (λ (t : System). t.depth) c.system.ensures.system) in
-    let copy : IsCopy (level_at levels (level_number s.depth c.args.level)) c.in-Ok.symbols = subst (λ n. IsCopy (level_at levels n) c.in-Ok.symbols) number c.in-Ok.ensures in
+    let copy : IsCopy (spots_at levels (level_number s.depth c.args.level)) c.in-Ok.symbols = subst (λ n. IsCopy (spots_at levels n) c.in-Ok.symbols) number c.in-Ok.ensures in
     rw (← c.self.view_is) (level_given limit s levels c.system.ensures.levels g.K.Sink.written g.K.Sink.faults c.args.sink.now c.print_line.new.sink c.print_line.new.out c.args.level c.in-Ok.symbols c.print_line.result copy c.print_line.ensures)

@@ -1,7 +1,7 @@
 use Rattle.std.proofs.Common.{ℕ, List, subst}
 use Rattle.lsys_spec.specs.Systems.{System}
 use Rattle.lsys_spec.specs.Pictures.{picture}
-use Rattle.lsys_out.specs.Drawings.{last_level}
+use Rattle.lsys_out.specs.Drawings.{last_symbols}
 use Rattle.lsys_session.specs.Given.{WasPrinted, picture_reply}
 use Rattle.lsys_session.proofs.Querying.{has_last, picture_given}
 use Rattle.lsys_session.proofs.session.Session.print_picture.Goals as goal
@@ -19,6 +19,6 @@ returns g c =
     let prints =
     subst
     (λ (t : System). (naming : ℕ → List ℕ)
-    → WasPrinted g.K.Sink.written g.K.Sink.faults c.args.sink.now c.print_picture.new.sink c.print_picture.new.out t (picture_reply c.args.kind t (picture t (last_level naming t levels))) c.print_picture.result)
+    → WasPrinted g.K.Sink.written g.K.Sink.faults c.args.sink.now c.print_picture.new.sink c.print_picture.new.out t (picture_reply c.args.kind t (picture t (last_symbols naming t levels))) c.print_picture.result)
     c.system-system.ensures.system c.print_picture.ensures in
     rw (← c.self.view_is) (picture_given limit s levels c.system-system.ensures.levels g.K.Sink.written g.K.Sink.faults c.args.sink.now c.print_picture.new.sink c.print_picture.new.out c.args.kind c.print_picture.result prints)

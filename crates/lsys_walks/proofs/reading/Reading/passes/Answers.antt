@@ -1,6 +1,7 @@
 use Rattle.std.proofs.Common.{rules, ◌+◌, ◌++◌, ◌∷◌, [], true, IsTrue, get_or, ap, sym, ◌∙◌, subst}
+use Rattle.lsys_spec.specs.Output.{IsFront}
 use Rattle.lsys_walks.specs.Views.{noted_of, decoded}
-use Rattle.lsys_walks.specs.Readings.{IsFront, so_far}
+use Rattle.lsys_walks.specs.Readings.{trace_so_far}
 use Rattle.lsys_walks.proofs.Fronts.{front_within, more_within, more_arities, passed, is_front, is_next, old_is, now_is}
 use Rattle.lsys_walks.proofs.reading.Reading.passes.Goals as goal
 
@@ -27,7 +28,7 @@ invariant_of-self c = let t = c.if-not-self.false in (c.self.invariant.0, search
 pub returns-clause-passed : goal.returns-clause-passed
 returns-clause-passed c = λ yes.
     let e = c.is_alike.ensures.0 c.if-not-is_alike.false in (
-      ap (λ b. so_far b c.self.inside.entries.now c.self.inside.values.now (c.self.inside.place + 1) (c.self.inside.kept + (get_or c.self.inside.entries.now c.self.inside.place c.index-self-self.result).arity) c.self.inside.own) c.if-not-self.false ∙ passed c.self.inside.entries.now c.self.inside.values.now c.self.inside.place c.self.inside.kept c.self.invariant.0 c.self.invariant.1 c.self.invariant.2 c.index-self-self.result c.if-self.false (noted_of c.args.entry.now c.args.params.now) e
+      ap (λ b. trace_so_far b c.self.inside.entries.now c.self.inside.values.now (c.self.inside.place + 1) (c.self.inside.kept + (get_or c.self.inside.entries.now c.self.inside.place c.index-self-self.result).arity) c.self.inside.own) c.if-not-self.false ∙ passed c.self.inside.entries.now c.self.inside.values.now c.self.inside.place c.self.inside.kept c.self.invariant.0 c.self.invariant.1 c.self.invariant.2 c.index-self-self.result c.if-self.false (noted_of c.args.entry.now c.args.params.now) e
           ∙ ap (λ now. now ++ (noted_of c.args.entry.now c.args.params.now) ∷ []) (sym (now_is c.self.inside.entries.now c.self.inside.values.now c.self.inside.place c.self.inside.kept c.self.inside.own c.self.inside.agrees c.args.self.now c.self.view_is c.if-not-self.false)),
       c.if-not-self.false,
     )

@@ -1,5 +1,0 @@
-use Rattle.lsys_io.proofs.Puts.{puts_then}
-use Rattle.lsys_module.proofs.print.put_next.Goals as goal
-
-pub returns : goal.returns
-returns g c = puts_then c.in_ok-put.ensures c.put_value.ensures
