@@ -1,6 +1,6 @@
 //! A system as a script.
 ghost use Rattle.std.specs.Prelude.{◌++◌, ◌∷◌, [], map, decimal};
-ghost use Rattle.lsys_syntax.specs.Strings.{Signed, signed_pieces, unsigned};
+ghost use Rattle.lsys_syntax.specs.Strings.{Signed, signed_of, signed_pieces};
 ghost use Rattle.lsys_syntax.specs.Commands.{as_symbol, list_word, set_depth, set_lattice, set_schedule, set_seed, words_pieces};
 ghost use Rattle.lsys_syntax.specs.Pieces.{text_of};
 ghost use Rattle.lsys_spec.specs.Shown.{as_set_own, script_of, show_text};
@@ -18,7 +18,6 @@ use lsys_io::{Buffered, Failed, Sink};
 use lsys_module::{Notation, Shape, SymbolList, print_string, put_symbols};
 use lsys_reading::{LatticeName, ListKind, Numbering};
 use lsys_text::{Name, Word};
-use std::convert::Infallible;
 
 /// Puts the system as the script of the commands that make it from the opening one, each on its line. It takes no memory.
 ///
@@ -136,23 +135,23 @@ fn put_ignored<K: Sink>(out: &mut Buffered, sink: &mut K, names: &[Name]) -> Res
 fn put_names<K: Sink>(out: &mut Buffered, sink: &mut K, names: &[Name]) -> Result<(), Failed>
     ensures { Puts K.Sink sink out (names_text (map module_name names.now)) result }
 {
-    put_symbols::<K, Name, Infallible, Names>(out, sink, names)
+    put_symbols::<K, Name, i64, Names>(out, sink, names)
 }
 
 // Names, as modules without parameters.
 struct Names;
 
-impl Notation<Name, Infallible> for Names {
+impl Notation<Name, i64> for Names {
     ghost Written = { Signed };
 
-    ghost way = { record { symbol = λ name. as_symbol (module_name name); param = λ _. unsigned 0; print = signed_pieces } };
+    ghost way = { record { symbol = λ name. as_symbol (module_name name); param = signed_of; print = signed_pieces } };
 
-    fn shape(of: &Name) -> Shape<'_, Infallible> {
+    fn shape(of: &Name) -> Shape<'_, i64> {
         Shape::Module(*of, &[])
     }
 
-    fn put_param<K: Sink>(_: &mut Buffered, _: &mut K, of: &Infallible) -> Result<(), Failed> {
-        match *of {}
+    fn put_param<K: Sink>(out: &mut Buffered, sink: &mut K, of: &i64) -> Result<(), Failed> {
+        out.put_number(sink, i128::from(*of))
     }
 }
 
