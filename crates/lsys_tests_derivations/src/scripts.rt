@@ -182,6 +182,19 @@ fn are_answered<L: Ledger, V: Ledger>(
 }
 
 /// The reply of a new pass to each line of a script is the one beside it.
+fn on_a_new_pass<L: Ledger, V: Ledger>(
+    rt: &impl Abort,
+    alloc: Global,
+    script: &[(&str, &str)],
+    order: Order,
+    asked: &mut Steps<L>,
+    visited: &mut Steps<V>,
+) -> Result<(), Fail> {
+    let mut pass = Pass::<L>::new(alloc, 1000)?;
+    are_answered(rt, alloc, &mut pass, script, order, asked, visited)
+}
+
+/// The same, with these names for what is counted.
 fn is_played<L: Ledger, V: Ledger>(
     rt: &impl Abort,
     alloc: Global,
@@ -199,16 +212,7 @@ fn is_played<L: Ledger, V: Ledger>(
 {
     let mut asked = Steps::<L>::open(asked);
     let mut visited = Steps::<V>::open(visited);
-    let mut pass = Pass::<L>::new(alloc, 1000)?;
-    are_answered(
-        rt,
-        alloc,
-        &mut pass,
-        script,
-        order,
-        &mut asked,
-        &mut visited,
-    )
+    on_a_new_pass(rt, alloc, script, order, &mut asked, &mut visited)
 }
 
 /// Each line of a script has the reply beside it, in whatever order nodes are asked.

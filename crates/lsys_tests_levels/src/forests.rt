@@ -13,6 +13,7 @@ use lsys_forest::{Forest, Kept, NodeId};
 use lsys_module::Symbol;
 use lsys_region::room;
 use std::alloc::{AllocError, Global};
+use std::process::Abort;
 use std::test::Fail;
 
 /// An answer that holds no runs.
@@ -101,9 +102,15 @@ fn a_root_keeps_an_answer(rt: HostRuntime) -> Result<(), Fail> {
     let root = forest.root();
     forest.reserve(1, 0, 0, 2)?;
     forest.set_answer(root, Some(Mark(7)));
+    has_an_answer_and_no_child(&rt, &forest);
+    Ok(())
+}
+
+/// The root keeps an answer, and has no child.
+fn has_an_answer_and_no_child(rt: &impl Abort, forest: &Forest<Mark>) {
+    let root = forest.root();
     assert!(rt; forest.answer(root).is_some());
     assert_eq!(rt; forest.children(root).len(), 0);
-    Ok(())
 }
 
 /// Each symbol of the first level of a forest, by the numbers of the nodes, behind it its mate; and then all from the right to

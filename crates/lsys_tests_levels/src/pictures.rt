@@ -140,10 +140,15 @@ fn is_drawn<T: Lattice>(
     count: u32,
 ) -> Result<(), Fail> {
     let (drawn, end) = over_axiom::<T>(alloc, lines)?;
-    assert_eq!(rt; drawn.first.as_slice(), first);
     assert_eq!(rt; end, End::Whole);
-    assert_eq!(rt; drawn.count, count);
+    begins_with(rt, &drawn, first, count);
     Ok(())
+}
+
+/// These are the first segments, of so many.
+fn begins_with(rt: &impl Abort, drawn: &Drawn, first: &[Line], count: u32) {
+    assert_eq!(rt; drawn.first.as_slice(), first);
+    assert_eq!(rt; drawn.count, count);
 }
 
 /// The way over the axiom of the system that these lines make ends so, with this segment as the last.
@@ -213,9 +218,14 @@ const SIDE: &[Line] = &[
 fn is_closed(rt: &impl Abort, alloc: Global, lines: &[&str], count: u32) -> Result<(), Fail> {
     let (drawn, end) = over_axiom::<Square>(alloc, lines)?;
     assert_eq!(rt; end, End::Whole);
+    ends_at_the_origin(rt, &drawn, count);
+    Ok(())
+}
+
+/// So many segments are drawn, and the last ends where a turtle begins.
+fn ends_at_the_origin(rt: &impl Abort, drawn: &Drawn, count: u32) {
     assert_eq!(rt; drawn.count, count);
     assert_eq!(rt; drawn.last.map(|line| line.1), Some((0, 0, 0)));
-    Ok(())
 }
 
 /// The quadratic Koch island (ABOP 1.3): the image is its first level, and that level's image the second.

@@ -29,15 +29,16 @@ fn command_of(alloc: Global, line: &str) -> Result<Command, Refusal> {
 pub(crate) fn system_after(alloc: Global, lines: &[&str]) -> Result<System, AllocError> {
     let mut system = System::opening(alloc)?;
     for line in lines {
-        system = system_with(alloc, &system, *line)?;
+        obey(alloc, &mut system, *line)?;
     }
     Ok(system)
 }
 
-/// The system after one more line, which isn't refused.
-fn system_with(alloc: Global, system: &System, line: &str) -> Result<System, AllocError> {
+/// Makes a system that after one more line, which isn't refused.
+fn obey(alloc: Global, system: &mut System, line: &str) -> Result<(), AllocError> {
     let command = command_of(alloc, line).map_err(|_| AllocError)?;
-    apply(alloc, system, &command).map_err(|_| AllocError)
+    *system = apply(alloc, system, &command).map_err(|_| AllocError)?;
+    Ok(())
 }
 
 /// Whether the symbols are those of a level: balanced, and without a cut.

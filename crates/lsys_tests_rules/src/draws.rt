@@ -1,4 +1,5 @@
 use lsys_draw::{axiom_key, child_key, draw, pick};
+use std::process::Abort;
 
 // The words were computed by an independent program.
 #[test]
@@ -22,7 +23,27 @@ fn draws_are_first_words(rt: HostRuntime) {
 // The keys were computed by the same program: by places with the code 0, by names with the code of the name.
 #[test]
 fn keys_follow_lineages(rt: HostRuntime) {
-    for (seed, code, count, key) in [
+    for (seed, code, count, key) in rows_of_keys() {
+        is_the_key(&rt, *seed, *code, *count, *key);
+    }
+    let child = child_key(axiom_key(9, 0, 2), 0, 0);
+    assert_eq!(rt; child, 0x967dba0b719c2f41);
+    assert_eq!(rt; child_key(child, 0, 5), 0xa4cedb55731a246d);
+    assert_eq!(rt; child_key(child, 66, 1), 0x1761db0462a087b9);
+}
+
+/// The key of a symbol of the axiom is this.
+fn is_the_key(rt: &impl Abort, seed: u64, code: u64, count: u32, key: u64) {
+    assert!(rt; count < 4096);
+    assert_eq!(rt;
+        axiom_key(seed, code, count),
+        key,
+        "seed {seed}, code {code}, count {count}"
+    );
+}
+
+fn rows_of_keys() -> &'static [(u64, u64, u32, u64)] {
+    &[
         (0, 0, 0, 0x910a2dec89025cc1),
         (7, 0, 3, 0x50f5647d2380309d),
         (0xffffffffffffffff, 0, 0, 0xe220a8397b1dcdaf),
@@ -31,18 +52,7 @@ fn keys_follow_lineages(rt: HostRuntime) {
         (7, 65, 3, 0x39d9ff4166a7d9ad),
         (0xffffffffffffffff, 91, 4095, 0x4019beeabf9697cd),
         (5, 0x6665646362615f46, 0, 0x85c2dddb55ea0b1a),
-    ] {
-        assert!(rt; count < 4096);
-        assert_eq!(rt;
-            axiom_key(seed, code, count),
-            key,
-            "seed {seed}, code {code}, count {count}"
-        );
-    }
-    let child = child_key(axiom_key(9, 0, 2), 0, 0);
-    assert_eq!(rt; child, 0x967dba0b719c2f41);
-    assert_eq!(rt; child_key(child, 0, 5), 0xa4cedb55731a246d);
-    assert_eq!(rt; child_key(child, 66, 1), 0x1761db0462a087b9);
+    ]
 }
 
 #[test]

@@ -5,6 +5,7 @@ ghost use Rattle.lsys_text.specs.Tokens.{kind_row};
 use lsys_expr::{Arith, Expr, build_expr, check_names, eval, holds, scan_expr};
 use lsys_text::{Name, Token, tokens};
 use std::alloc::{AllocError, Global};
+use std::process::Abort;
 use std::test::Fail;
 
 /// Where the expression begins among the tokens of a line.
@@ -42,7 +43,22 @@ fn read(alloc: Global, expression: &str) -> Result<Expr, AllocError> {
 
 #[test]
 fn expressions_have_their_values(rt: HostRuntime) -> Result<(), Fail> {
-    let rows = [
+    for (text, want) in rows_of_values() {
+        has_value(&rt, rt.alloc(), *text, *want)?;
+    }
+    Ok(())
+}
+
+/// An expression has this value, and holds where it isn't 0.
+fn has_value(rt: &impl Abort, alloc: Global, text: &str, want: i64) -> Result<(), Fail> {
+    let expr = read(alloc, text)?;
+    assert_eq!(rt; eval(&expr, &[5, -3]), Ok(want), "{text}");
+    assert_eq!(rt; holds(&expr, &[5, -3]), Ok(want != 0), "{text}");
+    Ok(())
+}
+
+fn rows_of_values() -> &'static [(&'static str, i64)] {
+    &[
         ("-2^2", -4),
         ("2^3^2", 512),
         ("(2^3)^2", 64),
@@ -74,18 +90,26 @@ fn expressions_have_their_values(rt: HostRuntime) -> Result<(), Fail> {
         ("-x^2", -25),
         ("x-y*2", 11),
         ("(((((y)))))", -3),
-    ];
-    for (text, want) in rows {
-        let expr = read(rt.alloc(), text)?;
-        assert_eq!(rt; eval(&expr, &[5, -3]), Ok(want), "{text}");
-        assert_eq!(rt; holds(&expr, &[5, -3]), Ok(want != 0), "{text}");
-    }
-    Ok(())
+    ]
 }
 
 #[test]
 fn the_first_fault_is_told(rt: HostRuntime) -> Result<(), Fail> {
-    let rows = [
+    for (text, want) in rows_of_faults() {
+        has_fault(&rt, rt.alloc(), *text, *want)?;
+    }
+    Ok(())
+}
+
+/// The value of an expression is refused so.
+fn has_fault(rt: &impl Abort, alloc: Global, text: &str, want: Arith) -> Result<(), Fail> {
+    let expr = read(alloc, text)?;
+    assert_eq!(rt; eval(&expr, &[5, -3]), Err(want), "{text}");
+    Ok(())
+}
+
+fn rows_of_faults() -> &'static [(&'static str, Arith)] {
+    &[
         ("1&&1/0", Arith::DivideByZero),
         ("0||1/0", Arith::DivideByZero),
         ("1/0||1", Arith::DivideByZero),
@@ -98,25 +122,38 @@ fn the_first_fault_is_told(rt: HostRuntime) -> Result<(), Fail> {
         ("(0-9223372036854775807-1)%-1", Arith::Overflow),
         ("(0-9223372036854775807-1)/-1", Arith::Overflow),
         ("-(0-9223372036854775807-1)", Arith::Overflow),
-    ];
-    for (text, want) in rows {
-        let expr = read(rt.alloc(), text)?;
-        assert_eq!(rt; eval(&expr, &[5, -3]), Err(want), "{text}");
-    }
-    Ok(())
+    ]
 }
 
 #[test]
 fn names_and_kinds_keep_their_places(rt: HostRuntime) -> Result<(), Fail> {
     let found = line_tokens(rt.alloc(), "x+z*w")?;
+    names_keep_their_places(&rt, &found);
+    let expr = read(rt.alloc(), "(x+1)")?;
+    assert_eq!(rt; expr.kinds().len(), 5);
+    is_told(
+        &rt,
+        format!(in rt.alloc(); "{}", Arith::DivideByZero),
+        "divide by zero",
+    )
+}
+
+/// The first name that isn't one of two is found at its place.
+fn names_keep_their_places(rt: &impl Abort, found: &[Token]) {
     let formals = [Name::from_text(b"x"), Name::from_text(b"w")];
     let end = BEGIN + 5;
     assert!(rt; end <= found.len());
-    assert_eq!(rt; check_names(&found, BEGIN, end, &formals), Some(BEGIN + 2));
-    assert_eq!(rt; check_names(&found, BEGIN, BEGIN + 2, &formals), None);
-    let expr = read(rt.alloc(), "(x+1)")?;
-    assert_eq!(rt; expr.kinds().len(), 5);
-    let text = format!(in rt.alloc(); "{}", Arith::DivideByZero)?;
-    assert_eq!(rt; text.as_str(), "divide by zero");
+    assert_eq!(rt; check_names(found, BEGIN, end, &formals), Some(BEGIN + 2));
+    assert_eq!(rt; check_names(found, BEGIN, BEGIN + 2, &formals), None);
+}
+
+/// A text is this one.
+pub(crate) fn is_told(
+    rt: &impl Abort,
+    text: Result<String, AllocError>,
+    want: &str,
+) -> Result<(), Fail> {
+    let text = text?;
+    assert_eq!(rt; text.as_str(), want);
     Ok(())
 }

@@ -28,9 +28,22 @@ fn outline(rt: &impl Abort, alloc: Global, expression: &str) -> Result<String, F
     Ok(format!(in alloc; "{answer} {}", start + 1)?)
 }
 
+/// Each expression has the outline beside it.
+fn are_outlined(rt: &impl Abort, alloc: Global, rows: &[(&str, &str)]) -> Result<(), Fail> {
+    for (expression, want) in rows {
+        let text = outline(rt, alloc, *expression)?;
+        assert_eq!(rt; text.as_str(), *want);
+    }
+    Ok(())
+}
+
 #[test]
 fn expressions_end_before_what_cannot_go_on(rt: HostRuntime) -> Result<(), Fail> {
-    let rows: [(&str, &str); 18] = [
+    are_outlined(&rt, rt.alloc(), rows_that_end())
+}
+
+fn rows_that_end() -> &'static [(&'static str, &'static str)] {
+    &[
         ("x)", "ends 26"),
         ("-x^2*3+1<2&&!x||1)", "ends 42"),
         ("1<2&&1<2)", "ends 33"),
@@ -49,19 +62,18 @@ fn expressions_end_before_what_cannot_go_on(rt: HostRuntime) -> Result<(), Fail>
         ("x!)", "ends 26"),
         ("x(1))", "ends 26"),
         ("1 =>", "ends 27"),
-    ];
-    for (expression, want) in rows {
-        let text = outline(&rt, rt.alloc(), expression)?;
-        assert_eq!(rt; text.as_str(), want);
-    }
-    Ok(())
+    ]
 }
 
 #[test]
 fn expressions_stop_at_the_first_token_with_which_none_goes_on(
     rt: HostRuntime,
 ) -> Result<(), Fail> {
-    let rows: [(&str, &str); 21] = [
+    are_outlined(&rt, rt.alloc(), rows_that_stop())
+}
+
+fn rows_that_stop() -> &'static [(&'static str, &'static str)] {
+    &[
         ("(1<2<3))", "token 29"),
         ("(1<2", "token 29"),
         ("1&2)", "token 27"),
@@ -83,12 +95,7 @@ fn expressions_stop_at_the_first_token_with_which_none_goes_on(
         ("(1==2!=3)<1)", "token 30"),
         ("!)", "token 26"),
         ("1&&", "token 28"),
-    ];
-    for (expression, want) in rows {
-        let text = outline(&rt, rt.alloc(), expression)?;
-        assert_eq!(rt; text.as_str(), want);
-    }
-    Ok(())
+    ]
 }
 
 #[test]
@@ -122,7 +129,11 @@ fn expressions_nested_32_deep_are_whole(rt: HostRuntime) -> Result<(), Fail> {
 
 #[test]
 fn expressions_are_nested_at_most_32_deep(rt: HostRuntime) -> Result<(), Fail> {
-    let rows: [(&str, &str); 7] = [
+    are_outlined(&rt, rt.alloc(), rows_of_nests())
+}
+
+fn rows_of_nests() -> &'static [(&'static str, &'static str)] {
+    &[
         (
             "(((((((((((((((((((((((((((((((((x))))))))))))))))))))))))))))))))))",
             "deep 57",
@@ -142,10 +153,5 @@ fn expressions_are_nested_at_most_32_deep(rt: HostRuntime) -> Result<(), Fail> {
             "(x^(x^(x^(x^(x^(x^(x^(x^(x^(x^(x^(x^(x^(x^(x^(x^x^x",
             "deep 74",
         ),
-    ];
-    for (expression, want) in rows {
-        let text = outline(&rt, rt.alloc(), expression)?;
-        assert_eq!(rt; text.as_str(), want);
-    }
-    Ok(())
+    ]
 }

@@ -15,19 +15,33 @@ pub(crate) fn answers<S: Source>(
     let mut reader = LineReader::new(alloc)?;
     let mut text = Vec::new(alloc);
     for _ in 0..calls {
-        match reader.next_line(source) {
-            Ok(LineRead::Line) => {
-                text.push(b'<')?;
-                text.extend_from_slice(reader.line())?;
-                text.push(b'>')?;
-            }
-            Ok(LineRead::Long) => text.extend_from_slice(b"long ")?,
-            Ok(LineRead::End) => text.extend_from_slice(b"end ")?,
-            Err(LineRefusal::ReadFault) => text.extend_from_slice(b"fault ")?,
-            Err(LineRefusal::TooLong) => text.extend_from_slice(b"too-long ")?,
-        }
+        add_answer(&mut text, &mut reader, source)?;
     }
     Ok(text)
+}
+
+/// Adds what the next call of a reader answers.
+fn add_answer<S: Source>(
+    text: &mut Vec<u8>,
+    reader: &mut LineReader,
+    source: &mut S,
+) -> Result<(), AllocError> {
+    let word: &[u8] = match reader.next_line(source) {
+        Ok(LineRead::Line) => return add_line(text, reader.line()),
+        Ok(LineRead::Long) => b"long ",
+        Ok(LineRead::End) => b"end ",
+        Err(LineRefusal::ReadFault) => b"fault ",
+        Err(LineRefusal::TooLong) => b"too-long ",
+    };
+    text.extend_from_slice(word)
+}
+
+/// Adds a line.
+fn add_line(text: &mut Vec<u8>, line: &[u8]) -> Result<(), AllocError> {
+    text.push(b'<')?;
+    text.extend_from_slice(line)?;
+    text.push(b'>')?;
+    Ok(())
 }
 
 /// Three calls of a reader are answered so, where the bytes come in such pieces and the source fails at these calls.

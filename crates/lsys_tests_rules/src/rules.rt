@@ -1,6 +1,7 @@
 //! Commands, and what they make of a system: which lines are refused and at which column, and what stays.
 use lsys_rules::{
-    Command, CommandKind, LatticeKind, Refusal, SharedBody, System, Template, apply, parse_command,
+    Command, CommandKind, LatticeKind, Refusal, Rule, SharedBody, System, Template, apply,
+    parse_command,
 };
 use lsys_text::{Name, TextRefusal, tokens};
 use std::alloc::{AllocError, Global};
@@ -26,11 +27,17 @@ fn answer(alloc: Global, system: &System, line: &str) -> Result<System, Refusal>
     apply(alloc, system, &command)
 }
 
+/// Makes a system that after a line, which is not refused.
+fn obey(alloc: Global, system: &mut System, line: &str) -> Result<(), AllocError> {
+    *system = answer(alloc, system, line).map_err(|_| AllocError)?;
+    Ok(())
+}
+
 /// The system after lines, none of which is refused.
 pub(crate) fn system_after(alloc: Global, lines: &[&str]) -> Result<System, AllocError> {
     let mut system = System::opening(alloc)?;
     for line in lines {
-        system = answer(alloc, &system, *line).map_err(|_| AllocError)?;
+        obey(alloc, &mut system, *line)?;
     }
     Ok(system)
 }
@@ -285,15 +292,25 @@ fn lines_of_edits() -> &'static [&'static str] {
 #[test]
 fn edits_and_what_they_leave(rt: HostRuntime) -> Result<(), Fail> {
     let system = system_after(rt.alloc(), lines_of_edits())?;
+    has_its_numbers(&rt, &system);
+    passes_over_its_names(&rt, &system);
+    Ok(())
+}
+
+/// What the edits set.
+fn has_its_numbers(rt: &impl Abort, system: &System) {
     assert_eq!(rt; system.axiom().len(), 5);
     assert_eq!(rt; system.depth(), 3);
     assert_eq!(rt; system.seed(), 7);
     assert!(rt; system.lattice() == LatticeKind::Cubic);
+    assert_eq!(rt; system.hom_rules().len(), 1);
+}
+
+/// What contexts pass over then.
+fn passes_over_its_names(rt: &impl Abort, system: &System) {
     assert_eq!(rt; system.ignored().len(), 3);
     assert!(rt; system.ignores(0, Name::from_text(b"F_a")));
     assert!(rt; !system.ignores(0, Name::from_text(b"F")));
-    assert_eq!(rt; system.hom_rules().len(), 1);
-    Ok(())
 }
 
 /// A rule for `X(n, m)` has these parts.
@@ -320,12 +337,17 @@ fn lines_with_a_label_twice() -> &'static [&'static str] {
 #[test]
 fn a_rule_is_put_in_the_place_of_its_label(rt: HostRuntime) -> Result<(), Fail> {
     let system = system_after(rt.alloc(), lines_with_a_label_twice())?;
-    assert_eq!(rt; system.rules().len(), 2);
-    let Some(first) = system.rules().first() else {
+    begin_with_p(&rt, system.rules())
+}
+
+/// There are two rules, and the first is `p`, that of `x`.
+fn begin_with_p(rt: &impl Abort, rules: &[Rule]) -> Result<(), Fail> {
+    assert_eq!(rt; rules.len(), 2);
+    let Some(first) = rules.first() else {
         return Err(Fail::from(AllocError));
     };
     assert!(rt; first.label.text().as_bytes() == b"p".as_slice());
-    is_the_rule_of_x(&rt, &first.body)
+    is_the_rule_of_x(rt, &first.body)
 }
 
 /// A line with so many of a piece behind its front.
@@ -355,13 +377,23 @@ fn is_the_limit(
     back: &str,
     column: u32,
 ) -> Result<(), Fail> {
-    let system = System::opening(alloc)?;
     let count = u32::from(count);
     let line = repeated(alloc, front, piece, count, back)?;
-    is_refused(rt, alloc, &system, line.as_str(), None);
+    is_refused_at_first(rt, alloc, line.as_str(), None)?;
     let longer = repeated(alloc, front, piece, count + 1, back)?;
     let refusal = Some(Refusal::TooMany { column });
-    is_refused(rt, alloc, &system, longer.as_str(), refusal);
+    is_refused_at_first(rt, alloc, longer.as_str(), refusal)
+}
+
+/// Where a session begins, a line is refused so, or is taken.
+fn is_refused_at_first(
+    rt: &impl Abort,
+    alloc: Global,
+    line: &str,
+    refusal: Option<Refusal>,
+) -> Result<(), Fail> {
+    let system = System::opening(alloc)?;
+    is_refused(rt, alloc, &system, line, refusal);
     Ok(())
 }
 
@@ -403,16 +435,20 @@ fn a_rule_has_at_most_2048_tokens_behind_its_label(rt: HostRuntime) -> Result<()
     is_the_limit(&rt, rt.alloc(), image.as_str(), "B", 2, "", 2059)
 }
 
+/// The production of a number, in a table of its own or in `main`.
+fn numbered_rule(alloc: Global, number: u32, is_in_a_table: bool) -> Result<String, AllocError> {
+    if is_in_a_table {
+        return format!(in alloc; "production t{number} p{number}: A => B");
+    }
+    format!(in alloc; "production p{number}: A => B")
+}
+
 /// A system with so many productions, each in a table of its own or all in `main`.
 fn system_with_rules(alloc: Global, count: u32, are_in_tables: bool) -> Result<System, AllocError> {
     let mut system = System::opening(alloc)?;
     for number in 0..count {
-        let line = if are_in_tables {
-            format!(in alloc; "production t{number} p{number}: A => B")?
-        } else {
-            format!(in alloc; "production p{number}: A => B")?
-        };
-        system = answer(alloc, &system, line.as_str()).map_err(|_| AllocError)?;
+        let line = numbered_rule(alloc, number, are_in_tables)?;
+        obey(alloc, &mut system, line.as_str())?;
     }
     Ok(system)
 }
@@ -431,8 +467,8 @@ fn rows_of_a_full_system() -> &'static [(&'static str, Option<Refusal>)] {
 
 #[test]
 fn a_system_has_at_most_256_rules(rt: HostRuntime) -> Result<(), Fail> {
-    let most = system_with_rules(rt.alloc(), 255, false)?;
-    let system = answer(rt.alloc(), &most, "hom h: A => B").map_err(|_| AllocError)?;
+    let mut system = system_with_rules(rt.alloc(), 255, false)?;
+    obey(rt.alloc(), &mut system, "hom h: A => B")?;
     for (line, refusal) in rows_of_a_full_system() {
         is_refused(&rt, rt.alloc(), &system, *line, *refusal);
     }

@@ -24,11 +24,17 @@ fn text_of(alloc: Global, lines: &[&str]) -> Result<Vec<u8>, AllocError> {
     Ok(text)
 }
 
+/// How the system after these lines is shown.
+fn shown_after(alloc: Global, lines: &[&str]) -> Result<Vec<u8>, AllocError> {
+    let system = system_after(alloc, lines)?;
+    shown(alloc, &system)
+}
+
 /// A system whose lines are shown in this order, and that the shown lines give back.
 fn is_shown_so(alloc: Global, lines: &[&str], expected: &[&str]) -> Result<bool, AllocError> {
     let text = text_of(alloc, expected)?;
-    let first = shown(alloc, &system_after(alloc, lines)?)?;
-    let again = shown(alloc, &system_after(alloc, expected)?)?;
+    let first = shown_after(alloc, lines)?;
+    let again = shown_after(alloc, expected)?;
     Ok(first.as_slice() == text.as_slice() && again.as_slice() == text.as_slice())
 }
 

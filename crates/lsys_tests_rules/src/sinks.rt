@@ -75,12 +75,16 @@ fn buffered_bytes_come_in_order(rt: HostRuntime) -> Result<(), Fail> {
     for _ in 0..1000 {
         is_put(&rt, &mut out, &mut sink, &mut expected, b"lines")?;
     }
-    let long = vec![in rt.alloc(); b'x'; 5000]?;
-    is_put(&rt, &mut out, &mut sink, &mut expected, &long)?;
+    is_put(&rt, &mut out, &mut sink, &mut expected, &[b'x'; 5000])?;
     numbers_are_put(&rt, &mut out, &mut sink, &mut expected)?;
-    assert_eq!(rt; out.flush(&mut sink), Ok(()));
-    assert_eq!(rt; sink.bytes(), expected.as_slice());
+    is_flushed(&rt, &mut out, &mut sink, &expected);
     fails_at_its_flush(&rt, rt.alloc(), &mut out)
+}
+
+/// What was put is written at a flush.
+fn is_flushed(rt: &impl Abort, out: &mut Buffered, sink: &mut MemorySink, expected: &[u8]) {
+    assert_eq!(rt; out.flush(sink), Ok(()));
+    assert_eq!(rt; sink.bytes(), expected);
 }
 
 /// A sink that fails at its first call is told of where what is buffered is flushed.

@@ -180,9 +180,14 @@ fn lists_keep_their_symbols(rt: HostRuntime) -> Result<(), Fail> {
     symbols.push(Symbol::Module(Module { name, params }))?;
     symbols.push(Symbol::Cut)?;
     let copy = symbols.clone()?;
-    assert_eq!(rt; copy.len(), 2);
-    assert!(rt; copy.symbols()[1] == Symbol::Cut);
-    let text = printed(rt.alloc(), &copy)?;
+    is_turned_and_cut(&rt, rt.alloc(), &copy)
+}
+
+/// A list is a turn with three parameters, and a cut.
+fn is_turned_and_cut(rt: &impl Abort, alloc: Global, symbols: &SymbolList) -> Result<(), Fail> {
+    assert_eq!(rt; symbols.len(), 2);
+    assert!(rt; symbols.symbols()[1] == Symbol::Cut);
+    let text = printed(alloc, symbols)?;
     assert_eq!(rt; text.as_slice(), b"+(1,-2,3)%".as_slice());
     Ok(())
 }

@@ -114,10 +114,14 @@ fn a_cut_leaves(
     let mut symbols = string_of(alloc, line)?;
     let mut kept = vec![in alloc; false; symbols.len()]?;
     cut(&mut symbols, kept.as_mut_slice());
-    let text = printed(alloc, &symbols)?;
-    assert_eq!(rt; text.as_slice(), want.as_bytes(), "{line:?}");
-    let marks = shown(alloc, kept.as_slice())?;
-    assert_eq!(rt; marks.as_slice(), places.as_bytes(), "{line:?}");
+    is_text(rt, printed(alloc, &symbols), want)?;
+    is_text(rt, shown(alloc, kept.as_slice()), places)
+}
+
+/// A text is this one.
+fn is_text(rt: &impl Abort, text: Result<Vec<u8>, AllocError>, want: &str) -> Result<(), Fail> {
+    let text = text?;
+    assert_eq!(rt; text.as_slice(), want.as_bytes());
     Ok(())
 }
 
@@ -171,14 +175,29 @@ fn a_production_leaves(
     place: usize,
     want: &str,
 ) -> Result<(), Fail> {
-    let axiom = string_of(alloc, line)?;
-    let rule = bare_rule(alloc, production)?;
-    let mut level = level_after(alloc, &axiom, &rule, place)?;
-    let mut kept = vec![in alloc; false; level.len()]?;
-    cut(&mut level, kept.as_mut_slice());
-    let text = printed(alloc, &level)?;
+    let mut level = level_of_line(alloc, line, production, place)?;
+    let text = printed_when_cut(alloc, &mut level)?;
     assert_eq!(rt; text.as_slice(), want.as_bytes(), "{line:?}");
     Ok(())
+}
+
+/// A line's string, with the successor of a production at a place.
+fn level_of_line(
+    alloc: Global,
+    line: &str,
+    production: &str,
+    place: usize,
+) -> Result<SymbolList, AllocError> {
+    let axiom = string_of(alloc, line)?;
+    let rule = bare_rule(alloc, production)?;
+    level_after(alloc, &axiom, &rule, place)
+}
+
+/// A level behind its cut, in text.
+fn printed_when_cut(alloc: Global, level: &mut SymbolList) -> Result<Vec<u8>, AllocError> {
+    let mut kept = vec![in alloc; false; level.len()]?;
+    cut(level, kept.as_mut_slice());
+    printed(alloc, level)
 }
 
 #[test]

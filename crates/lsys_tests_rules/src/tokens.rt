@@ -1,4 +1,5 @@
-use lsys_text::{Name, PlaceRefusal, TextRefusal, TokenKind, Word, tokens};
+use crate::expressions::is_told;
+use lsys_text::{Name, PlaceRefusal, TextRefusal, Token, TokenKind, Word, tokens};
 use std::alloc::{AllocError, Global};
 use std::process::Abort;
 use std::test::Fail;
@@ -12,15 +13,25 @@ fn outline(rt: &impl Abort, alloc: Global, line: &[u8]) -> Result<String, AllocE
         Ok(found) => {
             let mut text = String::new(alloc);
             for token in found.as_slice() {
-                let start = token.start as usize;
-                let end = token.end as usize;
-                assert!(rt; start < end && end <= line.len());
-                let shown = shown_kind(rt, alloc, token.kind, &line[start..end])?;
-                text.push_str(format!(in alloc; "{shown} {start}-{end}, ")?.as_str())?;
+                text.push_str(shown_token(rt, alloc, line, *token)?.as_str())?;
             }
             Ok(text)
         }
     }
+}
+
+/// A token's kind and place.
+fn shown_token(
+    rt: &impl Abort,
+    alloc: Global,
+    line: &[u8],
+    token: Token,
+) -> Result<String, AllocError> {
+    let start = token.start as usize;
+    let end = token.end as usize;
+    assert!(rt; start < end && end <= line.len());
+    let shown = shown_kind(rt, alloc, token.kind, &line[start..end])?;
+    format!(in alloc; "{shown} {start}-{end}, ")
 }
 
 fn shown_kind(
@@ -29,27 +40,36 @@ fn shown_kind(
     kind: TokenKind,
     text: &[u8],
 ) -> Result<String, AllocError> {
+    has_its_text(rt, &kind, text);
     match kind {
-        TokenKind::Word(word) => {
-            assert_eq!(rt; word.text().as_bytes(), text);
-            format!(in alloc; "Word")
-        }
-        TokenKind::Name(name) => {
-            assert_eq!(rt; name.text().as_bytes(), text);
-            format!(in alloc; "Name")
-        }
-        TokenKind::Mark(byte) => {
-            assert_eq!(rt; [byte].as_slice(), text);
-            format!(in alloc; "Mark")
-        }
         TokenKind::Number(number) => format!(in alloc; "Number({number})"),
-        TokenKind::LongWord => format!(in alloc; "LongWord"),
-        TokenKind::BigNumber => format!(in alloc; "BigNumber"),
-        TokenKind::Arrow => format!(in alloc; "Arrow"),
-        TokenKind::Equal => format!(in alloc; "Equal"),
-        TokenKind::Unequal => format!(in alloc; "Unequal"),
-        TokenKind::AtMost => format!(in alloc; "AtMost"),
-        TokenKind::AtLeast => format!(in alloc; "AtLeast"),
+        _ => String::from_str(alloc, name_of(&kind)),
+    }
+}
+
+/// A word's, a name's and a mark's bytes are these.
+fn has_its_text(rt: &impl Abort, kind: &TokenKind, text: &[u8]) {
+    match kind {
+        TokenKind::Word(word) => assert_eq!(rt; word.text().as_bytes(), text),
+        TokenKind::Name(name) => assert_eq!(rt; name.text().as_bytes(), text),
+        TokenKind::Mark(byte) => assert_eq!(rt; [*byte].as_slice(), text),
+        _ => {}
+    }
+}
+
+fn name_of(kind: &TokenKind) -> &'static str {
+    match kind {
+        TokenKind::Word(_) => "Word",
+        TokenKind::Name(_) => "Name",
+        TokenKind::Mark(_) => "Mark",
+        TokenKind::Number(_) => "Number",
+        TokenKind::LongWord => "LongWord",
+        TokenKind::BigNumber => "BigNumber",
+        TokenKind::Arrow => "Arrow",
+        TokenKind::Equal => "Equal",
+        TokenKind::Unequal => "Unequal",
+        TokenKind::AtMost => "AtMost",
+        TokenKind::AtLeast => "AtLeast",
     }
 }
 
@@ -209,13 +229,17 @@ fn names_and_words_keep_their_texts(rt: HostRuntime) {
 
 #[test]
 fn refusals_are_told(rt: HostRuntime) -> Result<(), Fail> {
-    let byte = format!(in rt.alloc(); "{}", TextRefusal::Byte { column: 8 })?;
-    assert_eq!(rt; byte.as_str(), "column 8 is in no token");
-    let memory = format!(in rt.alloc(); "{}", TextRefusal::Memory)?;
-    assert_eq!(rt; memory.as_str(), "out of memory");
-    let token = format!(in rt.alloc(); "{}", PlaceRefusal::Token { place: 3 })?;
-    assert_eq!(rt; token.as_str(), "no sentence goes on with token 3");
-    let deep = format!(in rt.alloc(); "{}", PlaceRefusal::Deep { place: 40 })?;
-    assert_eq!(rt; deep.as_str(), "token 40 nests too deep");
-    Ok(())
+    let alloc = rt.alloc();
+    let byte = TextRefusal::Byte { column: 8 };
+    is_told(&rt, format!(in alloc; "{byte}"), "column 8 is in no token")?;
+    let memory = TextRefusal::Memory;
+    is_told(&rt, format!(in alloc; "{memory}"), "out of memory")?;
+    let token = PlaceRefusal::Token { place: 3 };
+    is_told(
+        &rt,
+        format!(in alloc; "{token}"),
+        "no sentence goes on with token 3",
+    )?;
+    let deep = PlaceRefusal::Deep { place: 40 };
+    is_told(&rt, format!(in alloc; "{deep}"), "token 40 nests too deep")
 }
